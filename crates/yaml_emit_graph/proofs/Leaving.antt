@@ -4,7 +4,7 @@ use Rattle.std.proofs.lemmas.List.{drop_all, drop_more}
 use Rattle.yaml_parse_document.specs.Documents.{Document}
 use Rattle.yaml_emit_layout.specs.Content.{Event, document_start, document_end}
 use Rattle.yaml_emit_graph.specs.declared.graph.Events.{Events}
-use Rattle.yaml_emit_graph.specs.declared.graph.Stage.TheVariants as at
+use Rattle.yaml_emit_graph.specs.declared.graph.DumpPhase.TheVariants as at
 use Rattle.yaml_emit_graph.specs.declared.walk.Turn.{Turn}
 use Rattle.yaml_emit_graph.specs.Graph.{graph_opening, turns, numbers, turn_event, dumped}
 use Rattle.yaml_emit_graph.specs.Events.{remaining_events, IsEvents}

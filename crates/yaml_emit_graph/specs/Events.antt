@@ -8,8 +8,8 @@ use Rattle.yaml_parse_model.specs.Nodes as model
 use Rattle.yaml_parse_document.specs.Documents.{Document}
 use Rattle.yaml_emit_layout.specs.Content.{Event, document_start, document_end, emitter_event}
 use Rattle.yaml_emit_graph.specs.declared.graph.Events.{Events}
-use Rattle.yaml_emit_graph.specs.declared.graph.Stage.{Stage}
-use Rattle.yaml_emit_graph.specs.declared.graph.Stage.TheVariants as at
+use Rattle.yaml_emit_graph.specs.declared.graph.DumpPhase.{DumpPhase}
+use Rattle.yaml_emit_graph.specs.declared.graph.DumpPhase.TheVariants as at
 use Rattle.yaml_emit_graph.specs.Graph.{graph_opening, turn_event}
 use Rattle.yaml_emit_graph.specs.declared.walk.Turn.{Turn}
 use Rattle.yaml_emit_graph.specs.declared.bracket.Bracket.{Bracket}
@@ -31,7 +31,7 @@ abbrev pub nodes_left : Document → Events → List Event
 nodes_left d e = map (turn_event e.numbers.items d.nodes) (drop e.given e.turns.items)
     ++ document_end d.end_implicit ∷ []
 
-abbrev pub remaining_at : Stage → Document → Events → List Event
+abbrev pub remaining_at : DumpPhase → Document → Events → List Event
 remaining_at at.Start d e = document_start (graph_opening d) ∷ nodes_left d e
 remaining_at at.Nodes d e = nodes_left d e
 remaining_at at.End d e = []

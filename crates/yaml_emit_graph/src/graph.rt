@@ -32,13 +32,13 @@ pub struct Events {
     // The turns of the walk, and how many were given.
     turns: Vec<Turn>,
     given: usize,
-    place: Stage,
+    place: DumpPhase,
     rooms: Rooms,
 }
 
 /// What comes next.
 #[derive(Clone, Copy)]
-pub enum Stage {
+pub enum DumpPhase {
     Start,
     Nodes,
     End,
@@ -394,7 +394,7 @@ impl Events {
     // Inlined: mostly a look at the node.
     #[inline(always)]
     fn text_ahead<'a>(&self, document: &'a yaml_document_t) -> Option<&'a [u8]>
-        requires { self.now.place ≡ Stage.Nodes }
+        requires { self.now.place ≡ DumpPhase.Nodes }
         ensures { IfSome result (λ v. IsAhead document.now self.now v.now) }
     {
         if self.given < self.turns.len() {
@@ -414,7 +414,7 @@ impl Events {
         ensures { IfSome result (λ v. IsAhead document.now self.now v.now) }
     {
         match self.place {
-            Stage::Nodes => self.text_ahead(document),
+            DumpPhase::Nodes => self.text_ahead(document),
             _ => None,
         }
     }
@@ -439,7 +439,7 @@ impl Events {
     // Inlined: mostly a look at the node.
     #[inline(always)]
     fn bracket_ahead(&self, document: &yaml_document_t) -> Option<Bracket>
-        requires { self.now.place ≡ Stage.Nodes }
+        requires { self.now.place ≡ DumpPhase.Nodes }
         ensures { IfSome result (λ b. IsBracketAhead document.now self.now b) }
     {
         if self.given < self.turns.len() {
@@ -459,7 +459,7 @@ impl Events {
         ensures { IfSome result (λ b. IsBracketAhead document.now self.now b) }
     {
         match self.place {
-            Stage::Nodes => self.bracket_ahead(document),
+            DumpPhase::Nodes => self.bracket_ahead(document),
             _ => None,
         }
     }
@@ -491,7 +491,7 @@ impl Events {
             numbers,
             turns,
             given: 0,
-            place: Stage::Start,
+            place: DumpPhase::Start,
             rooms: Rooms {
                 alloc,
                 tag: Vec::new(alloc),
@@ -521,11 +521,11 @@ impl Events {
         event: &mut yaml_event_body_t,
     ) -> Result<bool, AllocError>
         requires walk { IsEvents document.now self.old }
-        requires place { self.old.place ≡ Stage.Start }
+        requires place { self.old.place ≡ DumpPhase.Start }
         ensures { GivesGraphEvent document.now self.old result (body_of event.new) self.new }
     {
         self.put_start(document, event)?;
-        self.place = Stage::Nodes;
+        self.place = DumpPhase::Nodes;
         Ok(true)
     }
 
@@ -536,7 +536,7 @@ impl Events {
         event: &mut yaml_event_body_t,
     ) -> Result<bool, AllocError>
         requires walk { IsEvents document.now self.old }
-        requires place { self.old.place ≡ Stage.Nodes }
+        requires place { self.old.place ≡ DumpPhase.Nodes }
         ensures { GivesGraphEvent document.now self.old result (body_of event.new) self.new }
     {
         if self.given < self.turns.len() {
@@ -545,7 +545,7 @@ impl Events {
             put_turn_event(&self.numbers, &mut self.rooms, document, turn, event)?;
             Ok(true)
         } else {
-            self.place = Stage::End;
+            self.place = DumpPhase::End;
             *event = yaml_event_body_t::DocumentEnd {
                 implicit: document.end_implicit(),
             };
@@ -563,9 +563,9 @@ impl Events {
         ensures { GivesGraphEvent document.now self.old result (body_of event.new) self.new }
     {
         match self.place {
-            Stage::Start => self.begin(document, event),
-            Stage::Nodes => self.step(document, event),
-            Stage::End => Ok(false),
+            DumpPhase::Start => self.begin(document, event),
+            DumpPhase::Nodes => self.step(document, event),
+            DumpPhase::End => Ok(false),
         }
     }
 }

@@ -8,9 +8,9 @@ use Rattle.yaml_parse_model.specs.declared.yaml_event_body_t.{yaml_event_body_t}
 use Rattle.yaml_emit_held.specs.declared.held.Held.{Held}
 use Rattle.yaml_emit_held.specs.declared.held.Count.{Count}
 use Rattle.yaml_emit_held.specs.declared.held.Count.TheVariants.{Nothing}
-use Rattle.yaml_emit_held.specs.declared.held.Seat.{Seat}
-use Rattle.yaml_emit_held.specs.declared.held.Seat.TheVariants.{First, Second, Third}
-use Rattle.yaml_emit_held.specs.Held.{is_ready, needs, closes, ends_level, releases, passes, next, less, stands, seated, held_events, oldest_event}
+use Rattle.yaml_emit_held.specs.declared.held.Slot.{Slot}
+use Rattle.yaml_emit_held.specs.declared.held.Slot.TheVariants.{First, Second, Third}
+use Rattle.yaml_emit_held.specs.Held.{is_ready, needs, closes, ends_level, releases, passes, next, less, stands, filled, held_events, oldest_event}
 
 -- Whether an event opens an empty collection is told by what has come, once it is ready: what follows changes nothing.
 pub ready_empty : (e : Event) (es more : List Event) → is_ready (e ∷ es) ≡ true
@@ -131,27 +131,27 @@ pub passed_waits : (xs : List Event) (f : Event) → passes xs f ≡ true → is
 passed_waits [] f h = none_waits
 passed_waits (e ∷ es) f h = absurd (cc)
 
-in_seats : Count → Seat → yaml_event_body_t → yaml_event_body_t → yaml_event_body_t → Held
-in_seats k s a b c = record { count = k; oldest = s; first = a; second = b; third = c }
+in_slots : Count → Slot → yaml_event_body_t → yaml_event_body_t → yaml_event_body_t → Held
+in_slots k s a b c = record { count = k; oldest = s; first = a; second = b; third = c }
 
-front_left : (k : Count) (s : Seat) (a b c x : yaml_event_body_t) (f : Event)
-    → releases (held_events (in_seats k s a b c)) f ≡ true
-    → let m = seated s x (in_seats k s a b c) in
-    held_events (in_seats k s a b c) ≡ oldest_event (in_seats k s a b c) ∷ held_events (record m { oldest = next m.oldest; count = less m.count })
-unfolding in_seats
+front_left : (k : Count) (s : Slot) (a b c x : yaml_event_body_t) (f : Event)
+    → releases (held_events (in_slots k s a b c)) f ≡ true
+    → let m = filled s x (in_slots k s a b c) in
+    held_events (in_slots k s a b c) ≡ oldest_event (in_slots k s a b c) ∷ held_events (record m { oldest = next m.oldest; count = less m.count })
+unfolding in_slots
 front_left Nothing s a b c x f r = absurd (cc)
 front_left k First a b c x f r = refl
 front_left k Second a b c x f r = refl
 front_left k Third a b c x f r = refl
 
--- the oldest is gone, whatever stands in its seat
-pub left_behind : (old mid : Held) (k : Count) (s : Seat) (f : Event)
-    → mid ≡ seated old.oldest (stands old.oldest mid) old → s ≡ next mid.oldest → k ≡ less mid.count
+-- the oldest is gone, whatever stands in its slot
+pub left_behind : (old mid : Held) (k : Count) (s : Slot) (f : Event)
+    → mid ≡ filled old.oldest (stands old.oldest mid) old → s ≡ next mid.oldest → k ≡ less mid.count
     → releases (held_events old) f ≡ true
     → held_events old ≡ oldest_event old ∷ held_events (record mid { oldest = s; count = k })
-unfolding in_seats
+unfolding in_slots
 left_behind old mid k s f m e n r =
     let P : Held → Type 0 = λ z. held_events old ≡ oldest_event old ∷ held_events (record z { oldest = next z.oldest; count = less z.count }) in
-    let Q : Seat → Type 0 = λ z. held_events old ≡ oldest_event old ∷ held_events (record mid { oldest = z; count = less mid.count }) in
+    let Q : Slot → Type 0 = λ z. held_events old ≡ oldest_event old ∷ held_events (record mid { oldest = z; count = less mid.count }) in
     let R : Count → Type 0 = λ z. held_events old ≡ oldest_event old ∷ held_events (record mid { oldest = s; count = z }) in
     subst R (sym n) (subst Q (sym e) (subst P (sym m) (front_left old.count old.oldest old.first old.second old.third (stands old.oldest mid) f r)))

@@ -7,33 +7,33 @@ use Rattle.yaml_emit_layout.specs.Content.{Event, no_event, stream_start, stream
 use Rattle.yaml_emit_held.specs.declared.held.Held.{Held}
 use Rattle.yaml_emit_held.specs.declared.held.Count.{Count}
 use Rattle.yaml_emit_held.specs.declared.held.Count.TheVariants.{Nothing, One, Two, Three}
-use Rattle.yaml_emit_held.specs.declared.held.Seat.{Seat}
-use Rattle.yaml_emit_held.specs.declared.held.Seat.TheVariants.{First, Second, Third}
+use Rattle.yaml_emit_held.specs.declared.held.Slot.{Slot}
+use Rattle.yaml_emit_held.specs.declared.held.Slot.TheVariants.{First, Second, Third}
 
--- the seat behind it, in a circle
-abbrev pub next : Seat → Seat
+-- the slot behind it, in a circle
+abbrev pub next : Slot → Slot
 next First = Second
 next Second = Third
 next Third = First
 
--- the seat so many behind it
-abbrev pub behind : Seat → Count → Seat
+-- the slot so many behind it
+abbrev pub behind : Slot → Count → Slot
 behind s Nothing = s
 behind s One = next s
 behind s Two = next (next s)
 behind s Three = s
 
--- what stands in a seat
-abbrev pub stands : Seat → Held → yaml_event_body_t
+-- what stands in a slot
+abbrev pub stands : Slot → Held → yaml_event_body_t
 stands First h = h.first
 stands Second h = h.second
 stands Third h = h.third
 
--- the same, with that event in that seat
-abbrev pub seated : Seat → yaml_event_body_t → Held → Held
-seated First e h = record h { first = e }
-seated Second e h = record h { second = e }
-seated Third e h = record h { third = e }
+-- the same, with that event in that slot
+abbrev pub filled : Slot → yaml_event_body_t → Held → Held
+filled First e h = record h { first = e }
+filled Second e h = record h { second = e }
+filled Third e h = record h { third = e }
 
 -- the front of three
 abbrev pub front : Count → EventBody → EventBody → EventBody → List EventBody
@@ -43,7 +43,7 @@ front Two a b c = a ∷ b ∷ []
 front Three a b c = a ∷ b ∷ c ∷ []
 
 -- that event as contracts see it
-abbrev pub body_in : Seat → Held → EventBody
+abbrev pub body_in : Slot → Held → EventBody
 body_in s h = body_of (stands s h)
 
 -- the oldest first
@@ -54,7 +54,7 @@ held_bodies h = front h.count (body_in h.oldest h) (body_in (next h.oldest) h)
 abbrev pub held_events : Held → List Event
 held_events h = map emitter_event (held_bodies h)
 
--- the event in the oldest's seat
+-- the event in the oldest's slot
 abbrev pub oldest_event : Held → Event
 oldest_event h = emitter_event (body_in h.oldest h)
 

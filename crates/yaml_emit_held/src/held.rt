@@ -20,19 +20,19 @@ pub enum Count {
     Three,
 }
 
-/// A seat for an event. The three follow one another in a circle.
+/// A slot for an event. The three follow one another in a circle.
 #[derive(Clone, Copy)]
-pub enum Seat {
+pub enum Slot {
     First,
     Second,
     Third,
 }
 
-/// Events in their seats, from the oldest one's on; what stands in the seats behind doesn't count.
+/// Events in their slots, from the oldest one's on; what stands in the slots behind doesn't count.
 #[derive(Drop)]
 pub struct Held {
     count: Count,
-    oldest: Seat,
+    oldest: Slot,
     first: yaml_event_body_t,
     second: yaml_event_body_t,
     third: yaml_event_body_t,
@@ -66,22 +66,22 @@ impl Count {
     }
 }
 
-impl Seat {
+impl Slot {
     ghost use Rattle.yaml_emit_held.specs.Held.{next, behind};
 
-    // The seat behind it.
-    fn next(self) -> Seat
+    // The slot behind it.
+    fn next(self) -> Slot
         ensures { result ≡ next self }
     {
         match self {
-            Seat::First => Seat::Second,
-            Seat::Second => Seat::Third,
-            Seat::Third => Seat::First,
+            Slot::First => Slot::Second,
+            Slot::Second => Slot::Third,
+            Slot::Third => Slot::First,
         }
     }
 
-    // The seat so many behind it.
-    fn behind(self, count: Count) -> Seat
+    // The slot so many behind it.
+    fn behind(self, count: Count) -> Slot
         ensures { result ≡ behind self count }
     {
         match count {
@@ -94,7 +94,7 @@ impl Seat {
 }
 
 impl Held {
-    ghost use Rattle.yaml_emit_held.specs.Held.{held_bodies, held_events, oldest_event, later_events, HeldUtf8, stands, seated, releases, closes, needs, passes, opens_level, ends_level};
+    ghost use Rattle.yaml_emit_held.specs.Held.{held_bodies, held_events, oldest_event, later_events, HeldUtf8, stands, filled, releases, closes, needs, passes, opens_level, ends_level};
 
     /// No event.
     pub fn nothing() -> Held
@@ -103,7 +103,7 @@ impl Held {
     {
         Held {
             count: Count::Nothing,
-            oldest: Seat::First,
+            oldest: Slot::First,
             first: yaml_event_body_t::No,
             second: yaml_event_body_t::No,
             third: yaml_event_body_t::No,
@@ -214,39 +214,39 @@ impl Held {
         }
     }
 
-    // What stands in that seat.
-    fn at(&self, seat: Seat) -> &yaml_event_body_t
-        ensures { result.now ≡ stands seat self.now }
+    // What stands in that slot.
+    fn at(&self, slot: Slot) -> &yaml_event_body_t
+        ensures { result.now ≡ stands slot self.now }
     {
-        match seat {
-            Seat::First => &self.first,
-            Seat::Second => &self.second,
-            Seat::Third => &self.third,
+        match slot {
+            Slot::First => &self.first,
+            Slot::Second => &self.second,
+            Slot::Third => &self.third,
         }
     }
 
-    // The event takes that seat.
-    fn sit(&mut self, seat: Seat, event: &mut yaml_event_body_t)
-        ensures { self.new ≡ seated seat event.old self.old }
+    // The event takes that slot.
+    fn fill(&mut self, slot: Slot, event: &mut yaml_event_body_t)
+        ensures { self.new ≡ filled slot event.old self.old }
     {
-        match seat {
-            Seat::First => mem::swap(&mut self.first, event),
-            Seat::Second => mem::swap(&mut self.second, event),
-            Seat::Third => mem::swap(&mut self.third, event),
+        match slot {
+            Slot::First => mem::swap(&mut self.first, event),
+            Slot::Second => mem::swap(&mut self.second, event),
+            Slot::Third => mem::swap(&mut self.third, event),
         }
     }
 
-    // The event in that seat is laid out where it stands.
-    fn lay_out(&mut self, seat: Seat, core: &mut Core, empty: bool)
-        requires { HasUtf8 (body_of (stands seat self.old)) }
-        ensures laid { LaysOut core.old core.new (emitter_event (body_of (stands seat self.old)))
+    // The event in that slot is laid out where it stands.
+    fn lay_out(&mut self, slot: Slot, core: &mut Core, empty: bool)
+        requires { HasUtf8 (body_of (stands slot self.old)) }
+        ensures laid { LaysOut core.old core.new (emitter_event (body_of (stands slot self.old)))
             empty }
-        ensures others { self.new ≡ seated seat (stands seat self.new) self.old }
+        ensures others { self.new ≡ filled slot (stands slot self.new) self.old }
     {
-        match seat {
-            Seat::First => core.lay_out(&mut self.first, empty),
-            Seat::Second => core.lay_out(&mut self.second, empty),
-            Seat::Third => core.lay_out(&mut self.third, empty),
+        match slot {
+            Slot::First => core.lay_out(&mut self.first, empty),
+            Slot::Second => core.lay_out(&mut self.second, empty),
+            Slot::Third => core.lay_out(&mut self.third, empty),
         }
     }
 
@@ -258,7 +258,7 @@ impl Held {
             (body_of event.old) ∷ [] }
         ensures utf8 { HeldUtf8 self.new }
     {
-        self.sit(self.oldest.behind(self.count), event);
+        self.fill(self.oldest.behind(self.count), event);
         self.count = self.count.more();
     }
 

@@ -1,4 +1,4 @@
--- A block scalar and the line behind it, and both at a spot of a layout.
+-- A block scalar and the line behind it, and both at a position of a layout.
 use Rattle.std.proofs.Common.{◌≡◌, ℕ, zero, suc, ◌+◌, ◌-◌, ◌<◌, ◌≤◌, Bool, true, false, not, ◌&&◌, ◌||◌, ◌==◌, List, [], ◌∷◌, ◌++◌, length, replicate, get_or, Option, Some, None, refl, sym, ap, subst, ◌∙◌, arith, add-zero, append_assoc, encode_utf8_all}
 use Rattle.std.specs.Prelude.{if◌then◌else◌}
 use Rattle.std.specs.Str.{chars}
@@ -19,13 +19,13 @@ use Rattle.yaml_emit_laws_text.specs.emit_text.Scalars.{chomp, ends_in_break}
 use Rattle.yaml_emit_laws_text.specs.emit_text.Spelling.{in_front, break_text}
 use Rattle.yaml_emit_laws_text.specs.emit_layout.scan_model.declared.yaml_scalar_style_t.{yaml_scalar_style_t}
 use Rattle.yaml_emit_laws_text.specs.emit_layout.scan_model.declared.yaml_scalar_style_t.TheVariants as asked
-use Rattle.yaml_emit_laws_text.specs.emit_layout.declared.level.Spot.{Spot}
+use Rattle.yaml_emit_laws_text.specs.emit_layout.declared.level.NodePosition.{NodePosition}
 use Rattle.yaml_emit_laws_text.specs.emit_layout.Content.{Scalar}
 use Rattle.yaml_emit_laws_text.specs.emit_layout.Grammar.{has as is_some, scalar_tag}
 use Rattle.yaml_emit_laws_text.specs.emit_layout.Nodes.{Context, is_simple_part, deeper, style_of, page_at}
 use Rattle.yaml_emit_laws_text.proofs.Back.{front_append}
 use Rattle.yaml_emit_laws_block.specs.Lines.{closing, NoWhite}
-use Rattle.yaml_emit_laws_block.specs.Laws.{is_keep, BlockStands, BlockReads, BlockIsReadBack, BlockBeforeLine, margin_round, block_style, BlockIsChosen, BlockAtSpot}
+use Rattle.yaml_emit_laws_block.specs.Laws.{is_keep, BlockStands, BlockReads, BlockIsReadBack, BlockBeforeLine, margin_round, block_style, BlockIsChosen, BlockAtPosition}
 use Rattle.yaml_emit_laws_block.proofs.Layouts.{start_at, line_is, start_is}
 use Rattle.yaml_emit_laws_block.proofs.Reading.{spaces_encode, length_spaces}
 use Rattle.yaml_emit_laws_text.proofs.Single.{after_blanks}
@@ -175,7 +175,8 @@ pretty_block : (canonical : Bool) (s : Style) → IsBlock (if canonical then sty
 pretty_block true s h = absurd h
 pretty_block false s h = (refl, h)
 
-chosen : (p : Context) (at : Spot) (x : Scalar) → IsBlock (style_of p at x) → BlockIsChosen p at x
+chosen : (p : Context) (at : NodePosition) (x : Scalar) → IsBlock (style_of p at x)
+    → BlockIsChosen p at x
 unfolding style_of
 chosen p at x h =
     let (pretty, block) = pretty_block p.settings.canonical _ h in
@@ -187,7 +188,7 @@ column_round : (p : Context) (o : Option ℕ)
 column_round p None = omega arith
 column_round p (Some n) = omega arith
 
-pub block_at_spot : BlockIsReadBack → BlockAtSpot
-block_at_spot law p at x folded c m u some small same left =
+pub block_at_position : BlockIsReadBack → BlockAtPosition
+block_at_position law p at x folded c m u some small same left =
     let is = chosen p at x (subst (λ s. IsBlock s) (sym same) (block_is folded)) in
     (is, block_before_line law (page_at p.settings at) p.settings.indent folded (margin_round at.around) c x.value m u some small (column_round p at.around) is.allows left)

@@ -12,7 +12,7 @@ use Rattle.yaml_emit_laws_text.specs.emit_layout.Nodes.{page_at}
 use Rattle.yaml_emit_laws_text.specs.emit_text.declared.page.Page.{Page}
 use Rattle.yaml_emit_laws_text.specs.Walk.{Left, bytes}
 use Rattle.yaml_emit_laws_block.specs.Lines.{NoWhite}
-use Rattle.yaml_emit_laws_block.specs.Laws.{margin_round, BlockAndLineRead, BlockAtSpot}
+use Rattle.yaml_emit_laws_block.specs.Laws.{margin_round, BlockAndLineRead, BlockAtPosition}
 use Rattle.yaml_emit_laws_block.specs.Passed.{begins_white, behind_line, BlockPassed, BlockIsPassed}
 use Rattle.yaml_emit_laws_block.proofs.Behind.{has_at}
 use Rattle.yaml_emit_laws_text.proofs.Places.{left_rest}
@@ -68,7 +68,7 @@ passed page digit folded level c value m r rest white text q l =
       left = subst (λ x. Left text x cs) (sym same) more;
     }
 
-pub block_is_passed : BlockAtSpot → BlockIsPassed
+pub block_is_passed : BlockAtPosition → BlockIsPassed
 block_is_passed law p at x folded c m rest u some small same deep white text q l =
     let r = (law p at x folded c m u some small same deep).1 in
     let page = page_at p.settings at in

@@ -20,7 +20,7 @@ use Rattle.yaml_emit_laws_text.specs.emit_text.Layout.{Layout, Rest, ◌▹◌, 
 use Rattle.yaml_emit_laws_text.specs.emit_text.Scalars.{digit_mark, chomp_mark, chomp, block_body, ends_in_break, scalar_text}
 use Rattle.yaml_emit_laws_text.specs.emit_text.Style.{allowed}
 use Rattle.yaml_emit_laws_text.specs.emit_text.Spelling.{in_front}
-use Rattle.yaml_emit_laws_text.specs.emit_layout.declared.level.Spot.{Spot}
+use Rattle.yaml_emit_laws_text.specs.emit_layout.declared.level.NodePosition.{NodePosition}
 use Rattle.yaml_emit_laws_text.specs.emit_layout.Content.{Scalar}
 use Rattle.yaml_emit_laws_text.specs.emit_layout.Nodes.{Context, is_simple_part, deeper, style_of, page_at}
 use Rattle.yaml_emit_laws_block.specs.Lines.{closing, NoWhite, StandsLeft}
@@ -125,9 +125,9 @@ BlockBeforeLine = (page : Page) (digit : ℕ) (folded : Bool) (level : ℕ) (c :
     → (allowed page.unicode (chars value)).block ≡ true → m < page.indentation
     → BlockAndLineRead page digit folded level c value m
 
--- ---- at a spot of a layout
+-- ---- at a position of a layout
 
--- the margin of the level that surrounds a spot, 0 round a root
+-- the margin of the level that surrounds a position, 0 round a root
 abbrev pub margin_round : Option ℕ → ℕ
 margin_round None = 0
 margin_round (Some n) = n + 1
@@ -136,16 +136,17 @@ abbrev pub block_style : Bool → Style
 block_style folded = if folded then style.Folded else style.Literal
 
 -- A scalar for which a layout chooses literal or folded style stands neither in brackets nor as a simple key.
-pub record BlockIsChosen (p : Context) (at : Spot) (x : Scalar) : Type 0 where
+pub record BlockIsChosen (p : Context) (at : NodePosition) (x : Scalar) : Type 0 where
   pub outside : at.flow ≡ false
   pub whole : is_simple_part at.part ≡ false
   pub pretty : p.settings.canonical ≡ false
   pub allows : (allowed p.settings.unicode (chars x.value)).block ≡ true
 
 -- Where a layout with an indent of one digit chooses one of the two styles, the scalar and the next line's start, left of it, are
--- read back in the level that surrounds the spot.
-abbrev pub BlockAtSpot : Type 0
-BlockAtSpot = (p : Context) (at : Spot) (x : Scalar) (folded : Bool) (c : Cursor) (m : ℕ)
+-- read back in the level that surrounds the position.
+abbrev pub BlockAtPosition : Type 0
+BlockAtPosition = (p : Context) (at : NodePosition) (x : Scalar) (folded : Bool) (c : Cursor)
+    (m : ℕ)
     → IsUtf8 x.value → 0 < p.settings.indent → p.settings.indent < 10
     → style_of p at x ≡ block_style folded → m < deeper p.settings at.around
     → BlockIsChosen p at x × BlockAndLineRead (page_at p.settings at) p.settings.indent folded

@@ -5,7 +5,7 @@ use Rattle.yaml_scan_history.specs.scan_model.Marks.{break_of, is_blank}
 use Rattle.yaml_emit_laws_text.specs.emit_text.declared.Cursor.{Cursor}
 use Rattle.yaml_emit_laws_text.specs.emit_text.Layout.{Rest, ◌▹◌, line}
 use Rattle.yaml_emit_laws_text.specs.emit_text.Scalars.{chomp}
-use Rattle.yaml_emit_laws_text.specs.emit_layout.declared.level.Spot.{Spot}
+use Rattle.yaml_emit_laws_text.specs.emit_layout.declared.level.NodePosition.{NodePosition}
 use Rattle.yaml_emit_laws_text.specs.emit_layout.Content.{Scalar}
 use Rattle.yaml_emit_laws_text.specs.emit_layout.Nodes.{Context, deeper, style_of, page_at}
 use Rattle.yaml_emit_laws_text.specs.Walk.{Left, bytes}
@@ -32,11 +32,11 @@ pub record BlockPassed (folded : Bool) (level : ℕ) (text : List ℕ) (p : ℕ)
   pub stands : BlockStands folded level text p value end m
   pub left : Left text (end + m) bs
 
--- At each spot of a layout where literal or folded style is chosen: where a text goes on with the scalar, from its indicator on,
+-- At each position of a layout where literal or folded style is chosen: where a text goes on with the scalar, from its indicator on,
 -- then with a line left of it and then with `rest`, which doesn't begin with white space, there the scalar is read, in the level
--- that surrounds the spot, and the text goes on with `rest` where the scanner has come to.
+-- that surrounds the position, and the text goes on with `rest` where the scanner has come to.
 abbrev pub BlockIsPassed : Type 0
-BlockIsPassed = (p : Context) (at : Spot) (x : Scalar) (folded : Bool) (c : Cursor) (m : ℕ)
+BlockIsPassed = (p : Context) (at : NodePosition) (x : Scalar) (folded : Bool) (c : Cursor) (m : ℕ)
     (rest : Rest) → IsUtf8 x.value → 0 < p.settings.indent → p.settings.indent < 10
     → style_of p at x ≡ block_style folded → m < deeper p.settings at.around
     → begins_white (bytes (rest (behind_line m x.value))) ≡ false → (text : List ℕ) (q : ℕ)

@@ -1,6 +1,6 @@
 //! Each function's contract is a law.
 
-ghost use Rattle.yaml_emit_laws_block.specs.Laws.{BlockAtSpot, BlockBeforeLine, BlockIsLaidOut, BlockIsReadBack};
+ghost use Rattle.yaml_emit_laws_block.specs.Laws.{BlockAtPosition, BlockBeforeLine, BlockIsLaidOut, BlockIsReadBack};
 ghost use Rattle.yaml_emit_laws_block.specs.Lexemes.{BlockIsNext};
 ghost use Rattle.yaml_emit_laws_block.specs.Passed.{BlockIsPassed};
 
@@ -15,9 +15,9 @@ pub fn block_before_line()
     ensures { BlockBeforeLine }
 {}
 
-/// So it is at each spot of a layout where one of these styles is chosen.
-pub fn block_at_spot()
-    ensures { BlockAtSpot }
+/// So it is at each position of a layout where one of these styles is chosen.
+pub fn block_at_position()
+    ensures { BlockAtPosition }
 {}
 
 /// It is what the layout of a scalar in these styles writes behind the space in front.

@@ -4,6 +4,6 @@
 mod laws;
 
 pub use laws::{
-    block_at_spot, block_before_line, block_is_laid_out, block_is_next, block_is_passed,
+    block_at_position, block_before_line, block_is_laid_out, block_is_next, block_is_passed,
     block_is_read_back,
 };

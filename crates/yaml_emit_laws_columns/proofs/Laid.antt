@@ -20,10 +20,10 @@ use Rattle.yaml_emit_layout.specs.emit_text.Scalars.{value_break, cuts_at, cut, 
 use Rattle.yaml_emit_layout.specs.emit_text.Layout.{Layout, ◌▹◌, stay, when, char, new_line, gap, word, indicator, opener, line, keep, is_past, after_text, after_block, order_mark, nothing_more, start, written}
 use Rattle.yaml_emit_layout.specs.emit_text.Text.{letter}
 use Rattle.yaml_emit_layout.specs.declared.level.Part.TheVariants as part
-use Rattle.yaml_emit_layout.specs.declared.level.Spot.{Spot}
+use Rattle.yaml_emit_layout.specs.declared.level.NodePosition.{NodePosition}
 use Rattle.yaml_emit_layout.specs.Content.{Scalar, Start, Node, alias_node, scalar_node, sequence_node, mapping_node, Nodes, no_nodes, node, Pairs, no_pairs, pair, Document}
 use Rattle.yaml_emit_layout.specs.Grammar.{has, kept_if, scalar_tag, start_tag}
-use Rattle.yaml_emit_layout.specs.Nodes.{Context, context_of, root_spot, spot, deeper, checked, properties_text, is_plain, style_of, mark_text, page_at, scalar_layout, is_simple, is_flow, are_none, are_no_pairs, block_indent_in, indent_of, indented, is_of_mapping, comma, turned, before_item, question, before_key, before_value, closer, key_part, node_layout, items_layout, pairs_layout, start_layout, end_layout, stop_layout, documents_layout, stream_layout}
+use Rattle.yaml_emit_layout.specs.Nodes.{Context, context_of, root_position, position, deeper, checked, properties_text, is_plain, style_of, mark_text, page_at, scalar_layout, is_simple, is_flow, are_none, are_no_pairs, block_indent_in, indent_of, indented, is_of_mapping, comma, turned, before_item, question, before_key, before_value, closer, key_part, node_layout, items_layout, pairs_layout, start_layout, end_layout, stop_layout, documents_layout, stream_layout}
 use Rattle.yaml_emit_laws_columns.specs.Sizes.{unit, ascii, larger, properties_bytes, tag_bytes, most_of_quoted, most_of_char, most_of_value, most_of_line, most_of_node, most_of_items, most_of_pairs, directives_bytes, most_of_documents, most_bytes}
 use Rattle.yaml_emit_laws_columns.specs.Laws.{SizesAreByContent}
 use Rattle.yaml_emit_laws_columns.proofs.Counting.{size, AtMost, joined, widened, stay_most, when_most, choose_most, keep_most, put_most, char_most, break_most, unit_size, ascii_most, gap_most, ascii_word_most, opener_most, new_line_most, line_most, mark_most, checked_most}
@@ -123,7 +123,7 @@ first_of false b e = cc
 line_at_most : (s : Settings) (n : ℕ) → Takes s (ascii s (n + 2)) (line s.line_break n)
 line_at_most s n = line_most s.encoding s.line_break n
 
-cut_most : (s : Settings) (at : Spot) (x : ℕ)
+cut_most : (s : Settings) (at : NodePosition) (x : ℕ)
     → Takes s (ascii s (deeper (easy s) at.around + 4)) (cut (page_at (easy s) at) x)
 cut_most s at x =
     let n = deeper (easy s) at.around in
@@ -133,7 +133,7 @@ cut_most s at x =
 
 -- ---- plain, and in single quotes
 
-text_char_most : (s : Settings) (at : Spot) (quote cuts : Bool) (x : ℕ)
+text_char_most : (s : Settings) (at : NodePosition) (quote cuts : Bool) (x : ℕ)
     → Takes s (ascii s (deeper (easy s) at.around + 6))
     (text_char (page_at (easy s) at) quote cuts x)
 text_char_most s at quote true x =
@@ -156,7 +156,7 @@ due_most s n before =
       | inr e ↦ rw e (stay_most s.encoding 0)
     ]
 
-flow_most : (s : Settings) (at : Spot) (quote : Bool) (before : ℕ) (v : List ℕ)
+flow_most : (s : Settings) (at : NodePosition) (quote : Bool) (before : ℕ) (v : List ℕ)
     → Takes s (due s (deeper (easy s) at.around) before + ascii s (deeper (easy s) at.around + 6) *
     length v) (flow_body (page_at (easy s) at) quote before v)
 unfolding flow_body flow_char
@@ -187,13 +187,13 @@ abbrev bodied : Settings → ℕ → List ℕ → ℕ
 bodied s n v = ascii s (n + 6) * length v
 
 -- at the start no line is due
-first_most : (s : Settings) (at : Spot) (quote : Bool) (v : List ℕ)
+first_most : (s : Settings) (at : NodePosition) (quote : Bool) (v : List ℕ)
     → Takes s (bodied s (deeper (easy s) at.around) v) (flow_body (page_at (easy s) at) quote 32 v)
 first_most s at quote v =
     let n = deeper (easy s) at.around in
     widened s.encoding (due s n 32 + bodied s n v) (bodied s n v) (flow_body (page_at (easy s) at) quote 32 v) (flow_most s at quote 32 v) (omega arith)
 
-plain_most : (s : Settings) (at : Spot) (flow : Bool) (v : List ℕ)
+plain_most : (s : Settings) (at : NodePosition) (flow : Bool) (v : List ℕ)
     → Takes s (ascii s 1 + bodied s (deeper (easy s) at.around) v)
     (plain (page_at (easy s) at) flow v)
 plain_most s at flow v =
@@ -204,7 +204,7 @@ plain_most s at flow v =
     (when_most s.encoding (ascii s 1) (flow || not (is_empty v)) gap (widened s.encoding (unit s.encoding) (ascii s 1) gap (gap_most s.encoding) (omega arith)))
     (joined s.encoding k 0 k body after_text (first_most s at false v) (after_text_most s.encoding 0) (omega arith)) (le_refl _)
 
-single_most : (s : Settings) (at : Spot) (v : List ℕ)
+single_most : (s : Settings) (at : NodePosition) (v : List ℕ)
     → Takes s (ascii s 3 + bodied s (deeper (easy s) at.around) v)
     (single_quoted (page_at (easy s) at) v)
 single_most s at v =
@@ -225,7 +225,8 @@ not_cut true true false d = refl
 not_cut true true true d = refl
 
 -- a character behind a break has a line before it, and isn't cut
-spoken_most : (s : Settings) (at : Spot) (folded blank : Bool) (before x : ℕ) (rest : List ℕ)
+spoken_most : (s : Settings) (at : NodePosition) (folded blank : Bool) (before x : ℕ)
+    (rest : List ℕ)
     → Takes s (ascii s (deeper (easy s) at.around + 6))
     (when (is_break before) (line s.line_break (deeper (easy s) at.around)) ▹ block_text
     (page_at (easy s) at) (cuts_block folded blank before x rest) x)
@@ -243,7 +244,7 @@ spoken_most s at folded blank before x rest =
     text_most true = widened s.encoding (ascii s (deeper (easy s) at.around + 4)) (ascii s (deeper (easy s) at.around + 6)) (cut (page_at (easy s) at) x) (cut_most s at x) (omega arith)
     text_most false = widened s.encoding (ascii s 4) (ascii s (deeper (easy s) at.around + 6)) (char x) (raw_char s x) (omega arith)
 
-block_most : (s : Settings) (at : Spot) (folded blank : Bool) (before : ℕ) (v : List ℕ)
+block_most : (s : Settings) (at : NodePosition) (folded blank : Bool) (before : ℕ) (v : List ℕ)
     → Takes s (bodied s (deeper (easy s) at.around) v)
     (block_body (page_at (easy s) at) folded blank before v)
 unfolding block_body block_char
@@ -293,7 +294,7 @@ header_most s digit folded v =
     (joined x u (ascii s 1) (ascii s 2) (when test (char (digit_char digit))) (chomp_mark (chomp true true v)) (when_most x u test (char (digit_char digit)) (ascii_most x (digit_char digit) (digit_small digit)))
     (mark_most_of s (chomp true true v)) (omega arith)) (omega arith)) (omega arith)
 
-blocked_most : (s : Settings) (at : Spot) (digit : ℕ) (folded : Bool) (v : List ℕ)
+blocked_most : (s : Settings) (at : NodePosition) (digit : ℕ) (folded : Bool) (v : List ℕ)
     → Takes s (ascii s 6 + bodied s (deeper (easy s) at.around) v)
     (block (page_at (easy s) at) digit folded v)
 blocked_most s at digit folded v =
@@ -344,7 +345,7 @@ room_for_block s n v some =
     let b : ascii s 4 * 1 ≤ ascii s 4 * length v = mul-le-mul_left (ascii s 4) some in
     omega (arith, a, b)
 
-text_most : (s : Settings) (at : Spot) (digit : ℕ) (flow : Bool) (t : Style) (v : List ℕ)
+text_most : (s : Settings) (at : NodePosition) (digit : ℕ) (flow : Bool) (t : Style) (v : List ℕ)
     → HasText t v
     → Takes s (ascii s 3 + most_of_value (easy s) (deeper (easy s) at.around) v)
     (scalar_text (page_at (easy s) at) digit flow t v)
@@ -379,7 +380,7 @@ tag_less s ds true None = le_refl _
 tag_less s ds true (Some t) = omega arith
 tag_less s ds false tag = le_refl _
 
-scalar_most : (s : Settings) (ds : List TagDirective) (at : Spot) (x : Scalar)
+scalar_most : (s : Settings) (ds : List TagDirective) (at : NodePosition) (x : Scalar)
     → Takes s (most_of_node (at_easy s ds) (deeper (easy s) at.around) (scalar_node x))
     (scalar_layout (at_easy s ds) at x)
 unfolding scalar_layout style_of most_of_node
@@ -468,7 +469,7 @@ block_indent_most s None keeps = omega arith
 block_indent_most s (Some n) true = omega arith
 block_indent_most s (Some n) false = le_refl _
 
-indent_most : (s : Settings) (at : Spot) (sequence flow : Bool) (c : Cursor)
+indent_most : (s : Settings) (at : NodePosition) (sequence flow : Bool) (c : Cursor)
     → indent_of (easy s) at sequence flow c ≤ deeper (easy s) at.around
 indent_most s at sequence true c = le_refl _
 indent_most s at sequence false c = block_indent_most s at.around (sequence && (is_of_mapping at.part && not c.bare))
@@ -493,7 +494,7 @@ opened_most s ds q flow i k f held e h =
 mutual
   unfolding node_layout items_layout pairs_layout most_of_node most_of_items most_of_pairs
 
-  node_is : (s : Settings) (ds : List TagDirective) (at : Spot) (n : ℕ) (x : Node)
+  node_is : (s : Settings) (ds : List TagDirective) (at : NodePosition) (n : ℕ) (x : Node)
       → deeper (easy s) at.around ≤ n
       → Takes s (most_of_node (at_easy s ds) n x) (node_layout (at_easy s ds) at x)
   node_is s ds at n (alias_node name) w = alias_most s at name
@@ -516,13 +517,13 @@ mutual
   items_are s ds flow m n fresh no_nodes w = widened s.encoding (most_of_line s m) (most_of_line s n) (closer (easy s) flow m fresh 93) (closer_most s flow m fresh 93 refl) (line_grows s m n w)
   items_are s ds flow m n fresh (node x xs) w =
       let p = at_easy s ds in
-      let a = node_layout p (spot flow m part.Item) x in
+      let a = node_layout p (position flow m part.Item) x in
       let more = items_layout p flow m false xs in
       let i = most_of_node p (n + s.indent) x in
       let j = most_of_items p n xs in
       let l = most_of_line s n in
       joined s.encoding l (i + j) (l + i + j) (before_item (easy s) flow m fresh) (a ▹ more) (widened s.encoding (most_of_line s m) l (before_item (easy s) flow m fresh) (before_item_most s flow m fresh) (line_grows s m n w))
-      (joined s.encoding i j (i + j) a more (node_is s ds (spot flow m part.Item) (n + s.indent) x (omega (arith, w))) (items_are s ds flow m n false xs w) (le_refl _)) (omega arith)
+      (joined s.encoding i j (i + j) a more (node_is s ds (position flow m part.Item) (n + s.indent) x (omega (arith, w))) (items_are s ds flow m n false xs w) (le_refl _)) (omega arith)
 
   pairs_are : (s : Settings) (ds : List TagDirective) (flow : Bool) (m n : ℕ) (fresh : Bool)
       (ps : Pairs) → m ≤ n
@@ -531,8 +532,8 @@ mutual
   pairs_are s ds flow m n fresh (pair k v ps) w =
       let p = at_easy s ds in
       let simple = is_simple p k in
-      let key = node_layout p (spot flow m (key_part simple)) k in
-      let value = node_layout p (spot flow m part.Value) v in
+      let key = node_layout p (position flow m (key_part simple)) k in
+      let value = node_layout p (position flow m part.Value) v in
       let more = pairs_layout p flow m false ps in
       let colon = before_value (easy s) flow m simple in
       let i = most_of_node p (n + s.indent) k in
@@ -541,9 +542,9 @@ mutual
       let l = most_of_line s n in
       joined s.encoding l (i + (l + (j + q))) (l + i + l + j + q) (before_key (easy s) flow m fresh simple) (key ▹ (colon ▹ (value ▹ more)))
       (widened s.encoding (most_of_line s m) l (before_key (easy s) flow m fresh simple) (before_key_most s flow m fresh simple) (line_grows s m n w))
-      (joined s.encoding i (l + (j + q)) (i + (l + (j + q))) key (colon ▹ (value ▹ more)) (node_is s ds (spot flow m (key_part simple)) (n + s.indent) k (omega (arith, w)))
+      (joined s.encoding i (l + (j + q)) (i + (l + (j + q))) key (colon ▹ (value ▹ more)) (node_is s ds (position flow m (key_part simple)) (n + s.indent) k (omega (arith, w)))
       (joined s.encoding l (j + q) (l + (j + q)) colon (value ▹ more) (widened s.encoding (most_of_line s m) l colon (before_value_most s flow m simple) (line_grows s m n w))
-      (joined s.encoding j q (j + q) value more (node_is s ds (spot flow m part.Value) (n + s.indent) v (omega (arith, w))) (pairs_are s ds flow m n false ps w) (le_refl _)) (le_refl _)) (le_refl _))
+      (joined s.encoding j q (j + q) value more (node_is s ds (position flow m part.Value) (n + s.indent) v (omega (arith, w))) (pairs_are s ds flow m n false ps w) (le_refl _)) (le_refl _)) (le_refl _))
       (omega arith)
 
 -- ---- documents
@@ -558,12 +559,12 @@ documents_are s first unended (d ∷ ds) =
     let t = directives_bytes (easy s) d.opening.directives in
     let n = most_of_node (at_easy s d.opening.directives) s.indent d.root in
     let m = most_of_documents (easy s) ds in
-    let root = node_layout (at_easy s d.opening.directives) root_spot d.root in
+    let root = node_layout (at_easy s d.opening.directives) root_position d.root in
     let ended = end_layout (easy s) d.implicit_end in
     let left = documents_layout (easy s) false d.implicit_end ds in
     joined x (ascii s 26 + t) (n + (ascii s 8 + (ascii s 6 + m))) (ascii s 6 + (ascii s 34 + t + n + m)) (start_layout (easy s) first unended d.opening) (root ▹ (ended ▹ left))
     (start_most (easy s) first unended d.opening)
-    (joined x n (ascii s 8 + (ascii s 6 + m)) (n + (ascii s 8 + (ascii s 6 + m))) root (ended ▹ left) (node_is s d.opening.directives root_spot s.indent d.root (le_refl _))
+    (joined x n (ascii s 8 + (ascii s 6 + m)) (n + (ascii s 8 + (ascii s 6 + m))) root (ended ▹ left) (node_is s d.opening.directives root_position s.indent d.root (le_refl _))
     (joined x (ascii s 8) (ascii s 6 + m) (ascii s 8 + (ascii s 6 + m)) ended left (end_most (easy s) d.implicit_end) (documents_are s false d.implicit_end ds) (le_refl _)) (le_refl _))
     (omega arith)
 

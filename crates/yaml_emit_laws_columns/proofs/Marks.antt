@@ -12,10 +12,10 @@ use Rattle.yaml_emit_layout.specs.emit_text.Quoted.{double_quoted}
 use Rattle.yaml_emit_layout.specs.emit_text.Text.{is_deep}
 use Rattle.yaml_emit_layout.specs.emit_text.Layout.{Layout, ◌▹◌, stay, choose, when, char, word, opener, keep, order_mark, nothing_more, start, written}
 use Rattle.yaml_emit_layout.specs.declared.level.Part.TheVariants as part
-use Rattle.yaml_emit_layout.specs.declared.level.Spot.{Spot}
+use Rattle.yaml_emit_layout.specs.declared.level.NodePosition.{NodePosition}
 use Rattle.yaml_emit_layout.specs.Content.{Scalar, Node, alias_node, scalar_node, sequence_node, mapping_node, Nodes, no_nodes, node, Pairs, no_pairs, pair, Opening, Document}
 use Rattle.yaml_emit_layout.specs.Grammar.{has, scalar_tag, start_tag}
-use Rattle.yaml_emit_layout.specs.Nodes.{Context, context_of, root_spot, spot, is_simple_part, MOST, deeper, checked, line_at, anchor_text, tag_text, properties_text, mark_text, style_of, page_at, scalar_layout, alias_layout, comma, turned, before_item, question, before_key, before_value, closer, key_part, is_simple, node_layout, items_layout, pairs_layout, dots, version_word, version_text, directive_text, directives_text, is_directed, dashes, is_marked, start_layout, end_layout, is_kept, stop_layout, documents_layout, stream_layout}
+use Rattle.yaml_emit_layout.specs.Nodes.{Context, context_of, root_position, position, is_simple_part, MOST, deeper, checked, line_at, anchor_text, tag_text, properties_text, mark_text, style_of, page_at, scalar_layout, alias_layout, comma, turned, before_item, question, before_key, before_value, closer, key_part, is_simple, node_layout, items_layout, pairs_layout, dots, version_word, version_text, directive_text, directives_text, is_directed, dashes, is_marked, start_layout, end_layout, is_kept, stop_layout, documents_layout, stream_layout}
 use Rattle.yaml_emit_laws_columns.proofs.Calm.{Marks, Calm, both, calms, calm_then, then_calm, stay_calm, when_calm, choose_calm, char_calm, keep_calm, mark_calm, word_calm, opener_calm, line_calm, quoted_calm, checked_marks}
 
 -- ---- what is marked, by the indentation of a node
@@ -61,12 +61,12 @@ tag_calm p (Some t) = word_calm (tag_spelling p.directives t)
 properties_calm : (p : Context) (anchor tag : Option (List ℕ)) → Calm (properties_text p anchor tag)
 properties_calm p anchor tag = calms (anchor_text anchor) (tag_text p tag) (anchor_calm anchor) (tag_calm p tag)
 
-alias_calm : (at : Spot) (name : List ℕ) → Calm (alias_layout at name)
+alias_calm : (at : NodePosition) (name : List ℕ) → Calm (alias_layout at name)
 unfolding alias_layout
 alias_calm at name =
     calms (word (42 ∷ name)) (when (is_simple_part at.part) (char 32)) (word_calm (42 ∷ name)) (when_calm (is_simple_part at.part) (char 32) (char_calm 32))
 
-scalar_marks : (s : Settings) (ds : List TagDirective) (at : Spot) (x : Scalar)
+scalar_marks : (s : Settings) (ds : List TagDirective) (at : NodePosition) (x : Scalar)
     → Marks (nat_lt MOST (deeper (form s) at.around)) (scalar_layout (at_form s ds) at x)
 unfolding scalar_layout style_of scalar_text
 scalar_marks s ds at x =
@@ -124,7 +124,7 @@ opened_marks p anchor tag x m d held h =
 mutual
   unfolding node_layout items_layout pairs_layout node_marks items_marks pairs_marks
 
-  pub node_is : (s : Settings) (ds : List TagDirective) (at : Spot) (n : Node)
+  pub node_is : (s : Settings) (ds : List TagDirective) (at : NodePosition) (n : Node)
       → Marks (node_marks s.indent (deeper (form s) at.around) n) (node_layout (at_form s ds) at n)
   node_is s ds at (alias_node name) = alias_calm at name
   node_is s ds at (scalar_node x) = scalar_marks s ds at x
@@ -140,11 +140,11 @@ mutual
   items_are s ds n fresh no_nodes = closer_calm s n fresh 93
   items_are s ds n fresh (node x xs) =
       let p = at_form s ds in
-      let a = node_layout p (spot true n part.Item) x in
+      let a = node_layout p (position true n part.Item) x in
       let more = items_layout p true n false xs in
       let d = node_marks s.indent (n + s.indent) x in
       let e = items_marks s.indent (n + s.indent) xs in
-      calm_then (d || e) (before_item (form s) true n fresh) (a ▹ more) (before_item_calm s n fresh) (both d e a more (node_is s ds (spot true n part.Item) x) (items_are s ds n false xs))
+      calm_then (d || e) (before_item (form s) true n fresh) (a ▹ more) (before_item_calm s n fresh) (both d e a more (node_is s ds (position true n part.Item) x) (items_are s ds n false xs))
 
   pub pairs_are : (s : Settings) (ds : List TagDirective) (n : ℕ) (fresh : Bool) (ps : Pairs)
       → Marks (pairs_marks s.indent (n + s.indent) ps) (pairs_layout (at_form s ds) true n fresh ps)
@@ -152,16 +152,17 @@ mutual
   pairs_are s ds n fresh (pair k v ps) =
       let p = at_form s ds in
       let simple = is_simple p k in
-      let key = node_layout p (spot true n (key_part simple)) k in
-      let value = node_layout p (spot true n part.Value) v in
+      let key = node_layout p (position true n (key_part simple)) k in
+      let value = node_layout p (position true n part.Value) v in
       let more = pairs_layout p true n false ps in
       let colon = before_value (form s) true n simple in
       let d = node_marks s.indent (n + s.indent) k in
       let e = node_marks s.indent (n + s.indent) v in
       let f = pairs_marks s.indent (n + s.indent) ps in
       calm_then (d || (e || f)) (before_key (form s) true n fresh simple) (key ▹ (colon ▹ (value ▹ more))) (before_key_calm s n fresh simple)
-      (both d (e || f) key (colon ▹ (value ▹ more)) (node_is s ds (spot true n (key_part simple)) k)
-      (calm_then (e || f) colon (value ▹ more) (before_value_calm s n simple) (both e f value more (node_is s ds (spot true n part.Value) v) (pairs_are s ds n false ps))))
+      (both d (e || f) key (colon ▹ (value ▹ more))
+      (node_is s ds (position true n (key_part simple)) k)
+      (calm_then (e || f) colon (value ▹ more) (before_value_calm s n simple) (both e f value more (node_is s ds (position true n part.Value) v) (pairs_are s ds n false ps))))
 
 -- ---- documents
 
@@ -216,11 +217,11 @@ documents_are s first unended [] = stop_calm (form s) unended
 documents_are s first unended (d ∷ ds) =
     let m = node_marks s.indent s.indent d.root in
     let more = documents_marks s.indent ds in
-    let root = node_layout (at_form s d.opening.directives) root_spot d.root in
+    let root = node_layout (at_form s d.opening.directives) root_position d.root in
     let ended = end_layout (form s) d.implicit_end in
     let left = documents_layout (form s) false d.implicit_end ds in
     calm_then (m || more) (start_layout (form s) first unended d.opening) (root ▹ (ended ▹ left)) (start_calm (form s) first unended d.opening)
-    (both m more root (ended ▹ left) (node_is s d.opening.directives root_spot d.root) (calm_then more ended left (end_calm (form s) d.implicit_end) (documents_are s false d.implicit_end ds)))
+    (both m more root (ended ▹ left) (node_is s d.opening.directives root_position d.root) (calm_then more ended left (end_calm (form s) d.implicit_end) (documents_are s false d.implicit_end ds)))
 
 stream_marks : (s : Settings) (ds : List Document)
     → Marks (documents_marks s.indent ds) (stream_layout (form s) ds)

@@ -13,10 +13,10 @@ use Rattle.yaml_emit_layout.specs.emit_text.Quoted.{needs_escape, escape_text, f
 use Rattle.yaml_emit_layout.specs.emit_text.Text.{char_bytes, encode}
 use Rattle.yaml_emit_layout.specs.emit_text.Layout.{Layout, ◌▹◌, stay, choose, when, char, letters, blanks, new_line, gap, word, opener, keep, is_past, order_mark, nothing_more, start, written}
 use Rattle.yaml_emit_layout.specs.declared.level.Part.TheVariants as part
-use Rattle.yaml_emit_layout.specs.declared.level.Spot.{Spot}
+use Rattle.yaml_emit_layout.specs.declared.level.NodePosition.{NodePosition}
 use Rattle.yaml_emit_layout.specs.Content.{Scalar, Node, alias_node, scalar_node, sequence_node, mapping_node, Nodes, no_nodes, node, Pairs, no_pairs, pair, Opening, Document}
 use Rattle.yaml_emit_layout.specs.Grammar.{has, scalar_tag, start_tag}
-use Rattle.yaml_emit_layout.specs.Nodes.{Context, context_of, root_spot, spot, is_simple_part, deeper, checked, line_at, anchor_text, tag_text, properties_text, mark_text, style_of, page_at, scalar_layout, alias_layout, comma, turned, before_item, question, before_key, before_value, closer, key_part, is_simple, node_layout, items_layout, pairs_layout, dots, version_word, version_text, directive_text, directives_text, is_directed, dashes, is_marked, start_layout, end_layout, is_kept, stop_layout, documents_layout, stream_layout}
+use Rattle.yaml_emit_layout.specs.Nodes.{Context, context_of, root_position, position, is_simple_part, deeper, checked, line_at, anchor_text, tag_text, properties_text, mark_text, style_of, page_at, scalar_layout, alias_layout, comma, turned, before_item, question, before_key, before_value, closer, key_part, is_simple, node_layout, items_layout, pairs_layout, dots, version_word, version_text, directive_text, directives_text, is_directed, dashes, is_marked, start_layout, end_layout, is_kept, stop_layout, documents_layout, stream_layout}
 use Rattle.yaml_emit_laws_columns.specs.Sizes.{unit, ascii, text_bytes, anchor_bytes, tag_bytes, properties_bytes, most_of_quoted, most_of_char, most_of_value, most_of_line, most_of_node, most_of_items, most_of_pairs, directives_bytes, most_of_documents, most_bytes}
 use Rattle.yaml_emit_laws_columns.proofs.Counting.{size, AtMost, joined, widened, stay_most, when_most, choose_most, keep_most, char_most, letters_most, ascii_most, blanks_most, gap_most, word_most, ascii_word_most, opener_most, new_line_most, line_most, mark_most, checked_most}
 
@@ -72,7 +72,7 @@ star_most s name =
     joined s.encoding u (u + text_bytes s.encoding name) (ascii s 2 + text_bytes s.encoding name) gap (letters (42 ∷ name)) (gap_most s.encoding) (led_most s 42 name refl)
     (omega arith)
 
-pub alias_most : (s : Settings) (at : Spot) (name : List ℕ)
+pub alias_most : (s : Settings) (at : NodePosition) (name : List ℕ)
     → Takes s (ascii s 3 + text_bytes s.encoding name) (alias_layout at name)
 unfolding alias_layout
 alias_most s at name =
@@ -81,7 +81,7 @@ alias_most s at name =
 
 -- ---- values
 
-fold_most : (s : Settings) (at : Spot) (rest : List ℕ)
+fold_most : (s : Settings) (at : NodePosition) (rest : List ℕ)
     → Takes s (ascii s (deeper s at.around + 3)) (fold (page_at s at) rest)
 fold_most s at rest =
     let x = s.encoding in
@@ -99,7 +99,7 @@ space_escaped false = refl
 plain_space : (s : Settings) (n : ℕ) → Takes s (ascii s (n + 3)) (char 32)
 plain_space s n = widened s.encoding (unit s.encoding) (ascii s (n + 3)) (char 32) (ascii_most s.encoding 32 refl) (omega arith)
 
-space_most : (s : Settings) (at : Spot) (before : ℕ) (rest : List ℕ)
+space_most : (s : Settings) (at : NodePosition) (before : ℕ) (rest : List ℕ)
     → Takes s (ascii s (deeper s at.around + 3)) (quoted_char (page_at s at) before 32 rest)
 unfolding quoted_char
 space_most s at before rest =
@@ -113,7 +113,7 @@ never_folds : (a b c : Bool) → b ≡ false → (a && (b && c)) ≡ false
 never_folds true b c e = rw e refl
 never_folds false b c e = refl
 
-other_most : (s : Settings) (at : Spot) (before i : ℕ) (rest : List ℕ) → (i == 32) ≡ false
+other_most : (s : Settings) (at : NodePosition) (before i : ℕ) (rest : List ℕ) → (i == 32) ≡ false
     → Takes s (most_of_quoted s (deeper s at.around) i) (quoted_char (page_at s at) before i rest)
 unfolding quoted_char
 other_most s at before i rest e =
@@ -123,7 +123,7 @@ other_most s at before i rest e =
       | inr w ↦ rw w (char_most s.encoding i (length (char_bytes s.encoding i)) (le_refl _))
     ]))
 
-quoted_char_most : (s : Settings) (at : Spot) (before i : ℕ) (rest : List ℕ)
+quoted_char_most : (s : Settings) (at : NodePosition) (before i : ℕ) (rest : List ℕ)
     → Takes s (most_of_quoted s (deeper s at.around) i) (quoted_char (page_at s at) before i rest)
 quoted_char_most s at before i rest =
     elim (cases_Bool (i == 32)) [
@@ -132,7 +132,7 @@ quoted_char_most s at before i rest =
     ]
 
 -- under settings by which a character counts no less
-body_most : (s z : Settings) (at : Spot) (before : ℕ) (value : List ℕ)
+body_most : (s z : Settings) (at : NodePosition) (before : ℕ) (value : List ℕ)
     → ((c : ℕ) → most_of_quoted s (deeper s at.around) c ≤ most_of_char z (deeper s at.around) c)
     → Takes s (most_of_value z (deeper s at.around) value) (quoted_body (page_at s at) before value)
 unfolding quoted_body most_of_value
@@ -142,7 +142,7 @@ body_most s z at before (i ∷ is) f =
     joined s.encoding (most_of_quoted s n i) (most_of_value z n is) (most_of_char z n i + most_of_value z n is) (quoted_char (page_at s at) before i is) (quoted_body (page_at s at) i is)
     (quoted_char_most s at before i is) (body_most s z at i is f) (omega (arith, f i))
 
-pub quoted_most : (s z : Settings) (at : Spot) (value : List ℕ)
+pub quoted_most : (s z : Settings) (at : NodePosition) (value : List ℕ)
     → ((c : ℕ) → most_of_quoted s (deeper s at.around) c ≤ most_of_char z (deeper s at.around) c)
     → Takes s (ascii s 3 + most_of_value z (deeper s at.around) value)
     (double_quoted (page_at s at) value)
@@ -155,7 +155,7 @@ quoted_most s z at value f =
     (joined x u (k + u) (u + (k + u)) (char 34) (body ▹ char 34) (ascii_most x 34 refl) (joined x k u (k + u) body (char 34) (body_most s z at 32 value f) (ascii_most x 34 refl) (le_refl _)) (le_refl _))
     (omega arith)
 
-scalar_most : (s : Settings) (ds : List TagDirective) (at : Spot) (x : Scalar)
+scalar_most : (s : Settings) (ds : List TagDirective) (at : NodePosition) (x : Scalar)
     → Takes s (most_of_node (at_form s ds) (deeper s at.around) (scalar_node x))
     (scalar_layout (at_form s ds) at x)
 unfolding scalar_layout style_of scalar_text most_of_node
@@ -239,7 +239,7 @@ opened_most s ds anchor tag i n k held e h =
 mutual
   unfolding node_layout items_layout pairs_layout most_of_node most_of_items most_of_pairs
 
-  node_is : (s : Settings) (ds : List TagDirective) (at : Spot) (n : Node)
+  node_is : (s : Settings) (ds : List TagDirective) (at : NodePosition) (n : Node)
       → Takes s (most_of_node (at_form s ds) (deeper (form s) at.around) n)
       (node_layout (at_form s ds) at n)
   node_is s ds at (alias_node name) = alias_most s at name
@@ -256,13 +256,13 @@ mutual
   items_are s ds n fresh no_nodes = closer_most s n fresh 93 refl
   items_are s ds n fresh (node x xs) =
       let p = at_form s ds in
-      let a = node_layout p (spot true n part.Item) x in
+      let a = node_layout p (position true n part.Item) x in
       let more = items_layout p true n false xs in
       let i = most_of_node p (n + s.indent) x in
       let j = most_of_items p n xs in
       let l = most_of_line s n in
       joined s.encoding l (i + j) (l + i + j) (before_item (form s) true n fresh) (a ▹ more) (before_item_most s n fresh)
-      (joined s.encoding i j (i + j) a more (node_is s ds (spot true n part.Item) x) (items_are s ds n false xs) (le_refl _)) (omega arith)
+      (joined s.encoding i j (i + j) a more (node_is s ds (position true n part.Item) x) (items_are s ds n false xs) (le_refl _)) (omega arith)
 
   pairs_are : (s : Settings) (ds : List TagDirective) (n : ℕ) (fresh : Bool) (ps : Pairs)
       → Takes s (most_of_pairs (at_form s ds) n ps) (pairs_layout (at_form s ds) true n fresh ps)
@@ -270,8 +270,8 @@ mutual
   pairs_are s ds n fresh (pair k v ps) =
       let p = at_form s ds in
       let simple = is_simple p k in
-      let key = node_layout p (spot true n (key_part simple)) k in
-      let value = node_layout p (spot true n part.Value) v in
+      let key = node_layout p (position true n (key_part simple)) k in
+      let value = node_layout p (position true n part.Value) v in
       let more = pairs_layout p true n false ps in
       let colon = before_value (form s) true n simple in
       let i = most_of_node p (n + s.indent) k in
@@ -279,9 +279,9 @@ mutual
       let m = most_of_pairs p n ps in
       let l = most_of_line s n in
       joined s.encoding l (i + (l + (j + m))) (l + i + l + j + m) (before_key (form s) true n fresh simple) (key ▹ (colon ▹ (value ▹ more))) (before_key_most s n fresh simple)
-      (joined s.encoding i (l + (j + m)) (i + (l + (j + m))) key (colon ▹ (value ▹ more)) (node_is s ds (spot true n (key_part simple)) k)
+      (joined s.encoding i (l + (j + m)) (i + (l + (j + m))) key (colon ▹ (value ▹ more)) (node_is s ds (position true n (key_part simple)) k)
       (joined s.encoding l (j + m) (l + (j + m)) colon (value ▹ more) (before_value_most s n simple)
-      (joined s.encoding j m (j + m) value more (node_is s ds (spot true n part.Value) v) (pairs_are s ds n false ps) (le_refl _)) (le_refl _)) (le_refl _))
+      (joined s.encoding j m (j + m) value more (node_is s ds (position true n part.Value) v) (pairs_are s ds n false ps) (le_refl _)) (le_refl _)) (le_refl _))
       (omega arith)
 
 -- ---- documents
@@ -368,12 +368,12 @@ documents_are s first unended (d ∷ ds) =
     let t = directives_bytes (form s) d.opening.directives in
     let n = most_of_node (at_form s d.opening.directives) s.indent d.root in
     let m = most_of_documents (form s) ds in
-    let root = node_layout (at_form s d.opening.directives) root_spot d.root in
+    let root = node_layout (at_form s d.opening.directives) root_position d.root in
     let ended = end_layout (form s) d.implicit_end in
     let left = documents_layout (form s) false d.implicit_end ds in
     joined x (ascii s 26 + t) (n + (ascii s 8 + (ascii s 6 + m))) (ascii s 6 + (ascii s 34 + t + n + m)) (start_layout (form s) first unended d.opening) (root ▹ (ended ▹ left))
     (start_most (form s) first unended d.opening)
-    (joined x n (ascii s 8 + (ascii s 6 + m)) (n + (ascii s 8 + (ascii s 6 + m))) root (ended ▹ left) (node_is s d.opening.directives root_spot d.root)
+    (joined x n (ascii s 8 + (ascii s 6 + m)) (n + (ascii s 8 + (ascii s 6 + m))) root (ended ▹ left) (node_is s d.opening.directives root_position d.root)
     (joined x (ascii s 8) (ascii s 6 + m) (ascii s 8 + (ascii s 6 + m)) ended left (end_most (form s) d.implicit_end) (documents_are s false d.implicit_end ds) (le_refl _)) (le_refl _))
     (omega arith)
 

@@ -10,7 +10,7 @@ use Rattle.yaml_emit_layout.specs.declared.level.Part.TheVariants as part
 use Rattle.yaml_emit_layout.specs.emit_tags.Tags.{tag_spelling}
 use Rattle.yaml_emit_layout.specs.Content.{Start, Nodes, sequence_node}
 use Rattle.yaml_emit_layout.specs.Grammar.{start_tag}
-use Rattle.yaml_emit_layout.specs.Nodes.{Context, spot, is_flow, are_none, anchor_text, tag_text, properties_text, checked, block_indent_in, before_value, node_layout, items_layout}
+use Rattle.yaml_emit_layout.specs.Nodes.{Context, position, is_flow, are_none, anchor_text, tag_text, properties_text, checked, block_indent_in, before_value, node_layout, items_layout}
 use Rattle.yaml_emit_laws_columns.specs.Laws.{ValuesStandByKeys}
 
 -- from lines that are bare or not, to such
@@ -131,9 +131,9 @@ abbrev indent_at : Context → ℕ → Bool → Start → ℕ
 indent_at p n simple q = block_indent_in p.settings (Some n) (not (bare_at p simple q))
 
 value_stands : (p : Context) (n : ℕ) (simple : Bool) (q : Start) (items : Nodes)
-    → is_flow p.settings (spot false n part.Value) q (are_none items) ≡ false
+    → is_flow p.settings (position false n part.Value) q (are_none items) ≡ false
     → (c : Cursor) (rest : Rest)
-    → (before_value p.settings false n simple ▹ node_layout p (spot false n part.Value)
+    → (before_value p.settings false n simple ▹ node_layout p (position false n part.Value)
     (sequence_node q items)) c rest
     ≡ (before_value p.settings false n simple ▹ properties_text p q.anchor
     (start_tag p.settings.canonical q)

@@ -9,7 +9,7 @@ use Rattle.yaml_emit_layout.specs.emit_text.Layout.{Rest, ◌▹◌, written}
 use Rattle.yaml_emit_layout.specs.declared.level.Part.TheVariants as part
 use Rattle.yaml_emit_layout.specs.Content.{Start, Nodes, sequence_node, Document, stream_events}
 use Rattle.yaml_emit_layout.specs.Grammar.{start_tag}
-use Rattle.yaml_emit_layout.specs.Nodes.{Context, spot, is_flow, are_none, properties_text, checked, before_value, node_layout, items_layout, stream_layout}
+use Rattle.yaml_emit_layout.specs.Nodes.{Context, position, is_flow, are_none, properties_text, checked, before_value, node_layout, items_layout, stream_layout}
 use Rattle.yaml_emit_layout.specs.ToCome.{Frame, frames, layout}
 use Rattle.yaml_emit_laws_columns.specs.Depths.{IsTooDeep}
 use Rattle.yaml_emit_laws_columns.specs.Forgetting.{are_block, Forgets}
@@ -51,10 +51,10 @@ BlocksForgetColumns = (s : Settings) (directives : List TagDirective) (fs : List
 abbrev pub ValuesStandByKeys : Type 0
 ValuesStandByKeys = (p : Context) (n : ℕ) (simple : Bool) (q : Start) → (m : ℕ)
     × ((items : Nodes)
-    → is_flow p.settings (spot false n part.Value) q (are_none items) ≡ false
+    → is_flow p.settings (position false n part.Value) q (are_none items) ≡ false
     → (c : Cursor) (rest : Rest)
     → (before_value p.settings false n simple
-    ▹ node_layout p (spot false n part.Value) (sequence_node q items)) c rest
+    ▹ node_layout p (position false n part.Value) (sequence_node q items)) c rest
     ≡ (before_value p.settings false n simple
     ▹ properties_text p q.anchor (start_tag p.settings.canonical q) ▹ checked m
     ▹ items_layout p false m true items) c rest)

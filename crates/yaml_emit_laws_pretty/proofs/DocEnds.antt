@@ -7,7 +7,7 @@ use Rattle.yaml_emit_laws_text.specs.emit_layout.emit_text.Layout.{Rest, line, b
 use Rattle.yaml_emit_laws_text.specs.emit_layout.emit_text.Text.{encode}
 use Rattle.yaml_emit_laws_text.specs.emit_layout.declared.level.Part.TheVariants as part
 use Rattle.yaml_emit_laws_text.specs.emit_layout.Content.{Opening, Document, Node}
-use Rattle.yaml_emit_laws_text.specs.emit_layout.Nodes.{dots, dashes, context_of, root_spot, node_layout, directives_text, start_layout, end_layout, stop_layout, documents_layout}
+use Rattle.yaml_emit_laws_text.specs.emit_layout.Nodes.{dots, dashes, context_of, root_position, node_layout, directives_text, start_layout, end_layout, stop_layout, documents_layout}
 use Rattle.yaml_emit_laws_text.specs.Walk.{bytes}
 use Rattle.yaml_emit_laws_text.specs.Writable.{IsWritable, IsWritableOpening, AreWritable}
 use Rattle.yaml_emit_laws_text.proofs.Documents.{three, behind_three}
@@ -67,7 +67,7 @@ behind_root s implicit ds e = when (not implicit) (dots s) e (λ k. documents_la
 
 -- a root, and the line behind it
 abbrev pub from_root : Settings → Document → List Document → Rest
-from_root s d ds e = node_layout (context_of s d.opening.directives) root_spot d.root e (λ k. line s.line_break 0 k (behind_root s d.implicit_end ds))
+from_root s d ds e = node_layout (context_of s d.opening.directives) root_position d.root e (λ k. line s.line_break 0 k (behind_root s d.implicit_end ds))
 
 pub root_white : (s : Settings) → RootsWalk (pretty s) → (d : Document)
     → IsWritableOpening d.opening → IsWritable d.root → (ds : List Document)

@@ -17,7 +17,7 @@ use Rattle.yaml_emit_laws_text.proofs.Places.{left_first, left_more}
 use Rattle.yaml_emit_laws_text.proofs.Documents.{Thrice, thrice_dash, thrice_dot, three, behind_three, line_blank}
 use Rattle.yaml_scan_laws_order.proofs.MarksForward.{line_at-grows}
 use Rattle.yaml_scan_laws_levels.specs.Steps.{Comes}
-use Rattle.yaml_scan_laws_levels.specs.Walks.{Where, behind}
+use Rattle.yaml_scan_laws_levels.specs.Walks.{WalkState, behind}
 use Rattle.yaml_scan_laws_levels.proofs.Stepping.{words_leave}
 use Rattle.yaml_scan_laws_levels.proofs.Walking.{walk_outer}
 use Rattle.yaml_emit_laws_pretty.specs.Walk.{NodeStage, NoFeed}
@@ -48,7 +48,7 @@ threes text p x low kept rest l =
 
 -- Behind a document's mark.
 pub record Marked (x : yaml_encoding_t) (text : List ℕ) (rest : Rest) (kept : Bool) (T : List TokenBody → List TokenBody) : Type 0 where
-  pub place : Where
+  pub place : WalkState
   pub stage : NodeStage x text (behind_three kept) place [] [] T
   pub left : Left text place.at (bytes (rest (behind_three kept)))
 

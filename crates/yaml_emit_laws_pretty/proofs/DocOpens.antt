@@ -19,7 +19,7 @@ use Rattle.yaml_emit_laws_text.specs.Writable.{IsWritableOpening}
 use Rattle.yaml_emit_laws_text.proofs.Documents.{behind_three}
 use Rattle.yaml_emit_laws_text.proofs.Prettily.{pretty}
 use Rattle.yaml_scan_laws_texts.specs.WordsLaws.{VersionReads}
-use Rattle.yaml_scan_laws_levels.specs.Walks.{Where}
+use Rattle.yaml_scan_laws_levels.specs.Walks.{WalkState}
 use Rattle.yaml_emit_laws_scalars.specs.Stops.{begins_white}
 use Rattle.yaml_emit_laws_pretty.specs.Bodies.{opening_bodies}
 use Rattle.yaml_emit_laws_pretty.specs.Walk.{NodeStage, NoFeed}
@@ -33,7 +33,7 @@ use Rattle.yaml_emit_laws_pretty.proofs.DocEnds.{dashes_are}
 pub record Opens (x : yaml_encoding_t) (text : List ℕ) (rest : Rest) (T : List TokenBody → List TokenBody) : Type 0 where
   pub cursor : Cursor
   pub kept : cursor.kept ≡ false
-  pub place : Where
+  pub place : WalkState
   pub stage : NodeStage x text cursor place [] [] T
   pub left : Left text place.at (bytes (rest cursor))
 
@@ -100,7 +100,7 @@ plain_opens : (s : Settings) (fresh : Bool) (version : Option yaml_version_direc
     → is_marked (pretty s) fresh (record
     { version = version; directives = directives; implicit = implicit }) ≡ false
     → (x : yaml_encoding_t) (text : List ℕ) (rest : Rest) (kept : Bool)
-    (T : List TokenBody → List TokenBody) (place : Where)
+    (T : List TokenBody → List TokenBody) (place : WalkState)
     → NodeStage x text (line_start kept) place [] [] T
     → Left text place.at (bytes (start_layout (pretty s) fresh false
     (record { version = version; directives = directives; implicit = implicit }) (line_start kept)
@@ -136,7 +136,7 @@ unmarked_fresh s false o e = absurd (true≢false e)
 
 pub opening_walks : Directing → (s : Settings) (o : Opening) → IsWritableOpening o
     → (fresh unended : Bool) (x : yaml_encoding_t) (text : List ℕ) (rest : Rest) (kept : Bool)
-    (T : List TokenBody → List TokenBody) (place : Where) (more : List ℕ)
+    (T : List TokenBody → List TokenBody) (place : WalkState) (more : List ℕ)
     → (fresh ≡ true → Fresh more unended) → NodeStage x text (line_start kept) place [] more T
     → Left text place.at (bytes (start_layout (pretty s) fresh unended o (line_start kept) rest))
     → begins_white (bytes (rest (behind_three false))) ≡ true

@@ -12,7 +12,7 @@ use Rattle.yaml_emit_laws_text.specs.emit_layout.emit_text.Layout.{Rest, line, b
 use Rattle.yaml_emit_laws_text.specs.emit_layout.emit_text.Spelling.{break_text}
 use Rattle.yaml_emit_laws_text.specs.Walk.{Left, bytes, first}
 use Rattle.yaml_emit_laws_text.proofs.Steps.{letter_low}
-use Rattle.yaml_scan_laws_levels.specs.Walks.{Where, WalkReads}
+use Rattle.yaml_scan_laws_levels.specs.Walks.{WalkState, WalkReads}
 use Rattle.yaml_emit_laws_scalars.specs.Stops.{begins_white, begins_mark, stops_plain_at}
 use Rattle.yaml_emit_laws_block.specs.Passed.{begins_white as begins_blank}
 use Rattle.yaml_emit_laws_pretty.specs.Walk.{NodeStage, Lined, NoFeed, no_comment}
@@ -33,7 +33,7 @@ at_start e kept bare white column same =
 
 -- At the start of a line outside of all levels but those that are left to whoever closes them.
 pub record AtLine (x : yaml_encoding_t) (text : List ℕ) (after : Rest) (kept : Bool) (T : List TokenBody → List TokenBody) : Type 0 where
-  pub place : Where
+  pub place : WalkState
   pub more : List ℕ
   pub stage : NodeStage x text (line_start kept) place [] more T
   pub left : Left text place.at (bytes (after (line_start kept)))
@@ -52,7 +52,7 @@ from_lined x text after kept more T h =
 
 -- the same, whatever broke the line
 pub record OnLine (x : yaml_encoding_t) (text : List ℕ) (rest : Rest) (kept : Bool) (T : List TokenBody → List TokenBody) : Type 0 where
-  pub place : Where
+  pub place : WalkState
   pub more : List ℕ
   pub reads : WalkReads x text place [] [] more T
   pub flat : place.depth ≡ 0
@@ -182,7 +182,7 @@ root_ending b after ends = record {
 
 -- ---- the line behind text
 
-pub line_lands : (b : LineBreak) (x : yaml_encoding_t) (text : List ℕ) (c : Cursor) (o : Where)
+pub line_lands : (b : LineBreak) (x : yaml_encoding_t) (text : List ℕ) (c : Cursor) (o : WalkState)
     (more : List ℕ) (T : List TokenBody → List TokenBody) (rest : Rest) → NodeStage x text c o [] more T
     → NoFeed 0 rest
     → Left text o.at (bytes (line b 0 c rest)) → AtLine x text rest c.kept T

@@ -11,14 +11,14 @@ use Rattle.yaml_emit_laws_text.specs.emit_layout.emit_text.declared.Settings.{Se
 use Rattle.yaml_emit_laws_text.specs.emit_layout.emit_text.Layout.{Rest, nothing_more, start}
 use Rattle.yaml_emit_laws_text.specs.emit_layout.declared.level.Part.TheVariants as part
 use Rattle.yaml_emit_laws_text.specs.emit_layout.Content.{Document, Node, alias_node, scalar_node, sequence_node, mapping_node}
-use Rattle.yaml_emit_laws_text.specs.emit_layout.Nodes.{Context, is_directed, context_of, root_spot, node_layout, dashes, start_layout, end_layout, stop_layout, documents_layout}
+use Rattle.yaml_emit_laws_text.specs.emit_layout.Nodes.{Context, is_directed, context_of, root_position, node_layout, dashes, start_layout, end_layout, stop_layout, documents_layout}
 use Rattle.yaml_emit_laws_text.specs.Bodies.{end_bodies}
 use Rattle.yaml_emit_laws_text.specs.TextLaws.{text_of_documents, IsReadAs}
 use Rattle.yaml_emit_laws_text.specs.Walk.{Left, bytes, first}
 use Rattle.yaml_emit_laws_text.specs.Writable.{AreWritable}
 use Rattle.yaml_emit_laws_text.proofs.Documents.{end_zero, end_begins, has_all}
 use Rattle.yaml_emit_laws_text.proofs.Prettily.{pretty, same_settings}
-use Rattle.yaml_scan_laws_levels.specs.Walks.{Where, Done}
+use Rattle.yaml_scan_laws_levels.specs.Walks.{WalkState, Done}
 use Rattle.yaml_scan_laws_levels.proofs.Signing.{marks_come}
 use Rattle.yaml_scan_laws_levels.proofs.Walking.{walk_starts, walk_stops, walk_says}
 use Rattle.yaml_emit_laws_pretty.specs.Bodies.{node_bodies, node_kept, root_bodies, is_root_kept, opening_bodies, documents_bodies, stream_bodies}
@@ -33,7 +33,7 @@ use Rattle.yaml_emit_laws_pretty.proofs.DocDirectives.{next_calm, directives_nex
 
 -- ---- the end
 
-ended : (x : yaml_encoding_t) (text : List ℕ) (c : Cursor) (o : Where) (more : List ℕ)
+ended : (x : yaml_encoding_t) (text : List ℕ) (c : Cursor) (o : WalkState) (more : List ℕ)
     (T : List TokenBody → List TokenBody) → NodeStage x text c o [] more T → Left text o.at (bytes [])
     → Done x text (T (tokens.stream_end ∷ []))
 ended x text c o more T s l =
@@ -43,7 +43,8 @@ ended x text c o more T s l =
     let comes = marks_come.stops text p 0 [] (no_gap text p (end_begins text p zero_byte)) (ap (λ n. byte text n) z ∙ zero_byte) in
     walk_stops x text o more T [] _ _ s.reads s.flat comes
 
-stop_walks : (s : Settings) (unended kept : Bool) (x : yaml_encoding_t) (text : List ℕ) (o : Where)
+stop_walks : (s : Settings) (unended kept : Bool) (x : yaml_encoding_t) (text : List ℕ)
+    (o : WalkState)
     (more : List ℕ) (T : List TokenBody → List TokenBody)
     → NodeStage x text (line_start kept) o [] more T
     → Left text o.at (bytes (stop_layout s unended (line_start kept) nothing_more))
@@ -81,7 +82,7 @@ says_as x text after kept T U e a =
 -- its root and the line behind it
 root_walks : (s : Settings) → RootsWalk (pretty s) → (d : Document) (ds : List Document)
     → AreWritable (d ∷ ds)
-    → (x : yaml_encoding_t) (text : List ℕ) (c : Cursor) (o : Where)
+    → (x : yaml_encoding_t) (text : List ℕ) (c : Cursor) (o : WalkState)
     (T : List TokenBody → List TokenBody) → c.kept ≡ false → NodeStage x text c o [] [] T
     → Left text o.at (bytes (from_root (pretty s) d ds c))
     → AtLine x text (behind_root (pretty s) d.implicit_end ds) (is_root_kept (pretty s) d)
@@ -106,7 +107,7 @@ explicit_calm s [] kept = outer_calm (bytes []) nothing_outer
 explicit_calm s (d ∷ ds) kept =
     let z = pretty s in
     let o = d.opening in
-    let rest : Rest = λ e. node_layout (context_of z o.directives) root_spot d.root e (λ k. end_layout z d.implicit_end k (λ h. documents_layout z false d.implicit_end ds h nothing_more)) in
+    let rest : Rest = λ e. node_layout (context_of z o.directives) root_position d.root e (λ k. end_layout z d.implicit_end k (λ h. documents_layout z false d.implicit_end ds h nothing_more)) in
     next_calm _ (directives_next z o (λ e. dashes z e rest) (dashes_next s rest))
 
 -- an explicit end
@@ -124,7 +125,7 @@ end_walks s false ds x text kept T a =
 
 documents_walk : Directing → (s : Settings) → RootsWalk (pretty s) → (ds : List Document)
     → AreWritable ds
-    → (fresh unended kept : Bool) (x : yaml_encoding_t) (text : List ℕ) (place : Where)
+    → (fresh unended kept : Bool) (x : yaml_encoding_t) (text : List ℕ) (place : WalkState)
     (more : List ℕ) (T : List TokenBody → List TokenBody)
     → (fresh ≡ true → Fresh more unended) → NodeStage x text (line_start kept) place [] more T
     → Left text place.at (bytes (documents_layout (pretty s) fresh unended ds (line_start kept)

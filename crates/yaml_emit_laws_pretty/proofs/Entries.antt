@@ -18,7 +18,7 @@ use Rattle.yaml_emit_laws_text.proofs.Steps.{left_letter}
 use Rattle.yaml_scan_laws_order.proofs.MarksForward.{line_at-grows}
 use Rattle.yaml_scan_laws_levels.specs.Fronts.{Rises}
 use Rattle.yaml_scan_laws_levels.specs.White.{IsGap}
-use Rattle.yaml_scan_laws_levels.specs.Walks.{Where, ClosesAt, behind}
+use Rattle.yaml_scan_laws_levels.specs.Walks.{WalkState, ClosesAt, behind}
 use Rattle.yaml_scan_laws_levels.specs.Signs.{sign, MarkComes}
 use Rattle.yaml_scan_laws_levels.specs.Steps.{WordLeaves}
 use Rattle.yaml_scan_laws_levels.proofs.Signing.{signs_come, printed_begins}
@@ -70,7 +70,7 @@ mark_starts Entry = (refl, refl, refl)
 mark_starts Question = (refl, refl, refl)
 mark_starts Answer = (refl, refl, refl)
 
-lone_at : (k : BareIndicator) (text : List ℕ) (o : Where) (q : ℕ) → q ≡ o.at → IsLone k text o
+lone_at : (k : BareIndicator) (text : List ℕ) (o : WalkState) (q : ℕ) → q ≡ o.at → IsLone k text o
     → is_value (mark_kind k) ≡ true → o.line < line_at text q
 lone_at Entry text o q e l v = absurd (false≢true v)
 lone_at Question text o q e l v = absurd (false≢true v)

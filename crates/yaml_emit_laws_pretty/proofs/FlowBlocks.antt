@@ -1,4 +1,4 @@
--- Collections in brackets at spots of a block.
+-- Collections in brackets at positions of a block.
 use Rattle.std.proofs.Common.{◌≡◌, ℕ, ◌≤◌, ◌||◌, not, nat_lt, Bool, true, false, List, [], ◌∷◌, refl, sym, ap, subst, ◌∙◌, inl, inr, arith, None, Some}
 use Rattle.std.specs.Prelude.{Option}
 use Rattle.std.proofs.lemmas.Bool.{false≢true}
@@ -18,12 +18,12 @@ use Rattle.yaml_emit_laws_text.specs.emit_layout.Nodes.{Context, context_of, che
 use Rattle.yaml_emit_laws_text.specs.Bodies.{anchor_bodies, tag_bodies}
 use Rattle.yaml_emit_laws_text.specs.Walk.{Left, bytes}
 use Rattle.yaml_emit_laws_text.specs.Writable.{IsWritable, IsWritableAnchor, IsWritableTag}
-use Rattle.yaml_scan_laws_levels.specs.Walks.{Where, Outside}
+use Rattle.yaml_scan_laws_levels.specs.Walks.{WalkState, Outside}
 use Rattle.yaml_emit_laws_scalars.specs.Stops.{begins_white}
 use Rattle.yaml_emit_laws_block.specs.Laws.{margin_round}
 use Rattle.yaml_emit_laws_pretty.specs.Bodies.{is_flow_at, keeps, sequence_opens, sequence_closes, mapping_opens, mapping_closes, node_bodies, items_bodies, pairs_bodies, node_kept, items_kept, pairs_kept}
 use Rattle.yaml_emit_laws_pretty.specs.Walk.{NodeStage, GoesBehindNode}
-use Rattle.yaml_emit_laws_pretty.specs.Nodes.{IsPretty, NodeWalks, PartedBehind, PropertiesAreWalked, block_spot, is_bracketed}
+use Rattle.yaml_emit_laws_pretty.specs.Nodes.{IsPretty, NodeWalks, PartedBehind, PropertiesAreWalked, block_position, is_bracketed}
 use Rattle.yaml_emit_laws_pretty.specs.Flows.{KeysAreWalkedIn, BracketsFollow}
 use Rattle.yaml_emit_laws_pretty.proofs.Lining.{line_ends}
 use Rattle.yaml_emit_laws_pretty.proofs.FlowSigns.{opening_of, opens}
@@ -37,7 +37,7 @@ use Rattle.yaml_emit_laws_pretty.proofs.Singles.{bare_off}
 
 opened_block : (mapping : Bool) (a : Layout) (B : List TokenBody → List TokenBody) (ls : List ℕ)
     (rest : Rest) → BodyIn a B ls rest
-    → (c : Cursor) (x : yaml_encoding_t) (text : List ℕ) (o : Where)
+    → (c : Cursor) (x : yaml_encoding_t) (text : List ℕ) (o : WalkState)
     (T : List TokenBody → List TokenBody) → NodeStage x text c o ls [] T
     → indent ls ≤ column_at text o.at
     → Left text o.at (bytes ((opener (opening_of mapping) ▹ a) c rest))
@@ -71,7 +71,7 @@ dressed_block : PropertiesAreWalked → (s : Settings) (d : Opening) → IsPrett
     → (has anchor || has tag) ≡ true
     → (mapping : Bool) (a : Layout) (B : List TokenBody → List TokenBody) (ls : List ℕ)
     (rest : Rest) → BodyIn a B ls rest
-    → (c : Cursor) (x : yaml_encoding_t) (text : List ℕ) (o : Where)
+    → (c : Cursor) (x : yaml_encoding_t) (text : List ℕ) (o : WalkState)
     (T : List TokenBody → List TokenBody) → NodeStage x text c o ls [] T
     → indent ls ≤ column_at text o.at
     → Left text o.at (bytes ((properties_text (prettily s d.directives) anchor tag ▹
@@ -88,7 +88,7 @@ any_block : PropertiesAreWalked → (s : Settings) (d : Opening) → IsPretty s 
     → (anchor tag : Option (List ℕ)) → IsWritableAnchor anchor → IsWritableTag tag
     → (mapping : Bool) (a : Layout) (B : List TokenBody → List TokenBody) (ls : List ℕ)
     (rest : Rest) → BodyIn a B ls rest
-    → (c : Cursor) (x : yaml_encoding_t) (text : List ℕ) (o : Where)
+    → (c : Cursor) (x : yaml_encoding_t) (text : List ℕ) (o : WalkState)
     (T : List TokenBody → List TokenBody) → NodeStage x text c o ls [] T
     → indent ls ≤ column_at text o.at
     → Left text o.at (bytes ((properties_text (prettily s d.directives) anchor tag ▹
@@ -104,21 +104,21 @@ any_block law s d is (Some name) tag good fine mapping a B ls rest body c x text
 sequence_laid : (s : Settings) (ds : List TagDirective) (around : Option ℕ) (q : Part) (o : Start)
     (items : Nodes) → is_flow_at (prettily s ds) false o (are_none items) ≡ true
     → let m = deeper (pretty_of s) around in
-    node_layout (prettily s ds) (block_spot around q) (sequence_node o items) ≡ (properties_text (prettily s ds) o.anchor (start_tag false o) ▹ (opener 91 ▹ (checked m ▹ items_layout (prettily s ds) true m true items)))
+    node_layout (prettily s ds) (block_position around q) (sequence_node o items) ≡ (properties_text (prettily s ds) o.anchor (start_tag false o) ▹ (opener 91 ▹ (checked m ▹ items_layout (prettily s ds) true m true items)))
 unfolding node_layout
 sequence_laid s ds around q o items flow =
     let p = prettily s ds in
-    let at = block_spot around q in
+    let at = block_position around q in
     ap (λ (b : Bool). properties_text p o.anchor (start_tag false o) ▹ (when b (opener 91) ▹ indented (indent_of p.settings at true b) (λ m. checked m ▹ items_layout p b m true items))) flow
 
 mapping_laid : (s : Settings) (ds : List TagDirective) (around : Option ℕ) (q : Part) (o : Start)
     (pairs : Pairs) → is_flow_at (prettily s ds) false o (are_no_pairs pairs) ≡ true
     → let m = deeper (pretty_of s) around in
-    node_layout (prettily s ds) (block_spot around q) (mapping_node o pairs) ≡ (properties_text (prettily s ds) o.anchor (start_tag false o) ▹ (opener 123 ▹ (checked m ▹ pairs_layout (prettily s ds) true m true pairs)))
+    node_layout (prettily s ds) (block_position around q) (mapping_node o pairs) ≡ (properties_text (prettily s ds) o.anchor (start_tag false o) ▹ (opener 123 ▹ (checked m ▹ pairs_layout (prettily s ds) true m true pairs)))
 unfolding node_layout
 mapping_laid s ds around q o pairs flow =
     let p = prettily s ds in
-    let at = block_spot around q in
+    let at = block_position around q in
     ap (λ (b : Bool). properties_text p o.anchor (start_tag false o) ▹ (when b (opener 123) ▹ indented (indent_of p.settings at false b) (λ m. checked m ▹ pairs_layout p b m true pairs))) flow
 
 -- the same tokens
@@ -174,7 +174,7 @@ bracketed : PropertiesAreWalked → (s : Settings) (d : Opening) → IsPretty s 
     → IsWritableAnchor anchor → IsWritableTag tag
     → (mapping : Bool) (a : Layout) (B : List TokenBody → List TokenBody)
     → ((ls : List ℕ) (rest : Rest) → indent ls ≡ margin_round around → BodyIn a B ls rest)
-    → node_layout (prettily s d.directives) (block_spot around q) y
+    → node_layout (prettily s d.directives) (block_position around q) y
     ≡ (properties_text (prettily s d.directives) anchor tag ▹ (opener (opening_of mapping) ▹ a))
     → Same (λ bs. anchor_bodies anchor (tag_bodies d.directives tag (opens mapping ∷ B bs)))
     (λ bs. node_bodies (prettily s d.directives) false q bare y bs)

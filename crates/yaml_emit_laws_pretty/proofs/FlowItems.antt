@@ -15,11 +15,11 @@ use Rattle.yaml_emit_laws_text.specs.emit_layout.emit_text.Layout.{Layout, Rest,
 use Rattle.yaml_emit_laws_text.specs.emit_layout.declared.level.Part.{Part}
 use Rattle.yaml_emit_laws_text.specs.emit_layout.declared.level.Part.TheVariants as part
 use Rattle.yaml_emit_laws_text.specs.emit_layout.Content.{Node, Nodes, no_nodes, node, Pairs, no_pairs, pair}
-use Rattle.yaml_emit_laws_text.specs.emit_layout.Nodes.{spot, is_simple_part, is_simple, key_part, turned, before_item, before_key, before_value, closer, node_layout, items_layout, pairs_layout}
+use Rattle.yaml_emit_laws_text.specs.emit_layout.Nodes.{position, is_simple_part, is_simple, key_part, turned, before_item, before_key, before_value, closer, node_layout, items_layout, pairs_layout}
 use Rattle.yaml_emit_laws_text.specs.Walk.{Left, bytes}
 use Rattle.yaml_emit_laws_text.proofs.Steps.{left_letter}
 use Rattle.yaml_scan_laws_levels.specs.Pushes.{IsRight}
-use Rattle.yaml_scan_laws_levels.specs.Walks.{Where, WalkReads, Outside}
+use Rattle.yaml_scan_laws_levels.specs.Walks.{WalkState, WalkReads, Outside}
 use Rattle.yaml_emit_laws_pretty.specs.Bodies.{node_bodies, items_bodies, pairs_bodies}
 use Rattle.yaml_emit_laws_pretty.specs.Flows.{IsClear, GoesIn, WalksIn, FollowsIn, KeyWalksIn}
 use Rattle.yaml_emit_laws_pretty.proofs.FlowSteps.{Space, space_on, clear_same}
@@ -31,7 +31,7 @@ use Rattle.yaml_emit_laws_text.proofs.Words.{lettered_on}
 -- Behind a closing bracket, where d are open.
 pub record Closed (x : yaml_encoding_t) (text : List ℕ) (rest : Rest) (kept : Bool) (d : ℕ) (cs ls : List ℕ) (T : List TokenBody → List TokenBody) : Type 0 where
   pub behind : Cursor
-  pub place : Where
+  pub place : WalkState
   pub reads : WalkReads x text place cs ls [] T
   pub deep : place.depth ≡ d
   pub now : place.now ≡ false
@@ -41,23 +41,23 @@ pub record Closed (x : yaml_encoding_t) (text : List ℕ) (rest : Rest) (kept : 
   pub white : behind.white ≡ false
   pub same : behind.kept ≡ kept
 
--- a node at each spot in brackets
+-- a node at each position in brackets
 abbrev pub NodeIn : Settings → List TagDirective → Node → Type 0
-NodeIn s ds y = (n : ℕ) (q : Part) → is_simple_part q ≡ false → (bare : Bool) (ls : List ℕ) → indent ls ≤ n → (rest : Rest) → FollowsIn rest → (c : Cursor) → WalksIn (node_layout (prettily s ds) (spot true n q) y) (node_bodies (prettily s ds) true q bare y) ls c rest
+NodeIn s ds y = (n : ℕ) (q : Part) → is_simple_part q ≡ false → (bare : Bool) (ls : List ℕ) → indent ls ≤ n → (rest : Rest) → FollowsIn rest → (c : Cursor) → WalksIn (node_layout (prettily s ds) (position true n q) y) (node_bodies (prettily s ds) true q bare y) ls c rest
 
 -- what stands behind an opening bracket, with what closes it
 abbrev pub BodyIn : Layout → (List TokenBody → List TokenBody) → List ℕ → Rest → Type 0
-BodyIn a B ls rest = (c : Cursor) → c.bare ≡ false → (x : yaml_encoding_t) (text : List ℕ) (o : Where) (d : ℕ) (cs : List ℕ) (T : List TokenBody → List TokenBody) → WalkReads x text o cs ls [] T → o.depth ≡ d + 1 → o.now ≡ true → Outside (d + 1) cs
+BodyIn a B ls rest = (c : Cursor) → c.bare ≡ false → (x : yaml_encoding_t) (text : List ℕ) (o : WalkState) (d : ℕ) (cs : List ℕ) (T : List TokenBody → List TokenBody) → WalkReads x text o cs ls [] T → o.depth ≡ d + 1 → o.now ≡ true → Outside (d + 1) cs
     → Left text o.at (bytes (a c rest)) → Closed x text rest c.kept d cs ls (λ bs. T (B bs))
 
 -- likewise behind an item or a pair
 abbrev pub MoreIn : Layout → (List TokenBody → List TokenBody) → List ℕ → Rest → Type 0
-MoreIn a B ls rest = (c : Cursor) → c.bare ≡ false → (x : yaml_encoding_t) (text : List ℕ) (o : Where) (d : ℕ) (cs : List ℕ) (T : List TokenBody → List TokenBody) → WalkReads x text o cs ls [] T → o.depth ≡ d + 1 → Outside (d + 1) cs
+MoreIn a B ls rest = (c : Cursor) → c.bare ≡ false → (x : yaml_encoding_t) (text : List ℕ) (o : WalkState) (d : ℕ) (cs : List ℕ) (T : List TokenBody → List TokenBody) → WalkReads x text o cs ls [] T → o.depth ≡ d + 1 → Outside (d + 1) cs
     → Left text o.at (bytes (a c rest)) → Closed x text rest c.kept d cs ls (λ bs. T (B bs))
 
 -- likewise where white may be last on a bare line
 abbrev pub PairIn : Layout → (List TokenBody → List TokenBody) → List ℕ → Rest → Type 0
-PairIn a B ls rest = (c : Cursor) (x : yaml_encoding_t) (text : List ℕ) (o : Where) (d : ℕ) (cs : List ℕ) (T : List TokenBody → List TokenBody) → WalkReads x text o cs ls [] T → o.depth ≡ d + 1 → o.now ≡ true → Outside (d + 1) cs
+PairIn a B ls rest = (c : Cursor) (x : yaml_encoding_t) (text : List ℕ) (o : WalkState) (d : ℕ) (cs : List ℕ) (T : List TokenBody → List TokenBody) → WalkReads x text o cs ls [] T → o.depth ≡ d + 1 → o.now ≡ true → Outside (d + 1) cs
     → Left text o.at (bytes (a c rest)) → Closed x text rest c.kept d cs ls (λ bs. T (B bs))
 
 inside_so : (n d : ℕ) → n ≡ d + 1 → nat_lt 0 n ≡ true
@@ -117,7 +117,7 @@ unfolding items_layout before_item turned items_bodies
 items_first s ds y xs one more n ls low rest c bare x text o d cs T r deep now out l =
     let p = prettily s ds in
     let after : Rest = λ k. items_layout p true n false xs k rest in
-    let a = node_layout p (spot true n part.Item) y in
+    let a = node_layout p (position true n part.Item) y in
     let t = wrap_in s.width s.line_break n x text c (λ e. a e after) o cs ls T bare r l in
     let deep1 = t.deep ∙ deep in
     let g = one n part.Item refl true ls low after (items_follow_in s ds n xs rest) t.cursor x text t.place cs T t.reads (inside_so t.place.depth d deep1) (inl (out_at t.place.depth d cs deep1 out)) t.left in
@@ -150,7 +150,8 @@ pairs_closed s ds n ls low rest c bare x text o d cs T r deep out l = mapping_sh
 -- a value, and the pairs behind it
 value_in : (s : Settings) (ds : List TagDirective) (v : Node) (ps : Pairs) → NodeIn s ds v
     → MorePairs s ds ps → (bare : Bool) (n : ℕ) (ls : List ℕ) → indent ls ≤ n → (rest : Rest)
-    → MoreIn (node_layout (prettily s ds) (spot true n part.Value) v ▹ pairs_layout (prettily s ds)
+    → MoreIn (node_layout (prettily s ds) (position true n part.Value) v
+    ▹ pairs_layout (prettily s ds)
     true n false ps) (λ bs. node_bodies (prettily s ds) true part.Value bare v
     (pairs_bodies (prettily s ds) true false ps (tokens.flow_mapping_end ∷ bs))) ls rest
 value_in s ds v ps value more b n ls low rest c bare x text o d cs T r deep out l =
@@ -164,7 +165,8 @@ value_in s ds v ps value more b n ls low rest c bare x text o d cs T r deep out 
 
 -- a byte that is a word, behind the space that is due
 sign_left : (b : ℕ) → nat_lt b 128 ≡ true
-    → (x : yaml_encoding_t) (text : List ℕ) (c : Cursor) (rest : Rest) (o : Where) (cs ls : List ℕ)
+    → (x : yaml_encoding_t) (text : List ℕ) (c : Cursor) (rest : Rest) (o : WalkState)
+    (cs ls : List ℕ)
     (T : List TokenBody → List TokenBody) → WalkReads x text o cs ls [] T
     → Left text o.at (bytes (word (b ∷ []) c rest))
     → Space x text (b ∷ bytes (rest (lettered_on (behind_gap c.white c)))) o cs ls [] T
@@ -178,7 +180,7 @@ sign_left b low x text c rest o cs ls T r l =
 -- Behind a `?` or its `:`, where d + 1 brackets are open.
 record Asked (x : yaml_encoding_t) (text : List ℕ) (rest : Rest) (kept : Bool) (d : ℕ) (cs ls : List ℕ) (T : List TokenBody → List TokenBody) : Type 0 where
   cursor : Cursor
-  place : Where
+  place : WalkState
   reads : WalkReads x text place cs ls [] T
   deep : place.depth ≡ d + 1
   now : place.now ≡ false
@@ -186,7 +188,7 @@ record Asked (x : yaml_encoding_t) (text : List ℕ) (rest : Rest) (kept : Bool)
   bare : cursor.bare ≡ false
   same : cursor.kept ≡ kept
 
-ask_then : (x : yaml_encoding_t) (text : List ℕ) (c : Cursor) (rest : Rest) (o : Where) (d : ℕ)
+ask_then : (x : yaml_encoding_t) (text : List ℕ) (c : Cursor) (rest : Rest) (o : WalkState) (d : ℕ)
     (cs ls : List ℕ) (T : List TokenBody → List TokenBody) → Spaced rest → WalkReads x text o cs ls [] T
     → o.depth ≡ d + 1 → Outside (d + 1) cs → Left text o.at (bytes (word (63 ∷ []) c rest))
     → Asked x text rest c.kept d ((d + 1) ∷ cs) ls (λ bs. T (tokens.key ∷ bs))
@@ -206,7 +208,8 @@ ask_then x text c rest o d cs ls T spaced r deep out l =
       same = gap_kept c.white c;
     }
 
-answer_then : (x : yaml_encoding_t) (text : List ℕ) (c : Cursor) (rest : Rest) (o : Where) (d : ℕ)
+answer_then : (x : yaml_encoding_t) (text : List ℕ) (c : Cursor) (rest : Rest) (o : WalkState)
+    (d : ℕ)
     (cs ls : List ℕ) (T : List TokenBody → List TokenBody) → Spaced rest
     → WalkReads x text o ((d + 1) ∷ cs) ls [] T → o.depth ≡ d + 1 → Outside (d + 1) cs
     → Left text o.at (bytes (word (58 ∷ []) c rest))
@@ -231,10 +234,10 @@ answer_then x text c rest o d cs ls T spaced r deep out l =
 -- the key of a `?`
 asked_key : (s : Settings) (ds : List TagDirective) (k : Node) → NodeIn s ds k
     → (n : ℕ) (ls : List ℕ) → indent ls ≤ n → (after : Rest) → Spaced after
-    → (x : yaml_encoding_t) (text : List ℕ) (c : Cursor) (o : Where) (d : ℕ) (cs : List ℕ)
+    → (x : yaml_encoding_t) (text : List ℕ) (c : Cursor) (o : WalkState) (d : ℕ) (cs : List ℕ)
     (T : List TokenBody → List TokenBody)
     → WalkReads x text o ((d + 1) ∷ cs) ls [] T → o.depth ≡ d + 1 → o.now ≡ false → Outside (d + 1) cs
-    → Left text o.at (bytes (node_layout (prettily s ds) (spot true n part.Key) k c
+    → Left text o.at (bytes (node_layout (prettily s ds) (position true n part.Key) k c
     (λ e. wrap s.width s.line_break n e (λ f. word (58 ∷ []) f after))))
     → GoesIn x text (λ e. wrap s.width s.line_break n e (λ f. word (58 ∷ []) f after)) c.kept
     o.depth ((d + 1) ∷ cs) ls (λ bs. T (node_bodies (prettily s ds) true part.Key true k bs))
@@ -244,7 +247,7 @@ asked_key s ds k key n ls low after parted x text c o d cs T r deep now out l =
 
 -- its `:`, on the same line or a later one
 asked_answer : (s : Settings) (n : ℕ) (after : Rest) → Spaced after
-    → (x : yaml_encoding_t) (text : List ℕ) (c : Cursor) (o : Where) (d : ℕ) (cs ls : List ℕ)
+    → (x : yaml_encoding_t) (text : List ℕ) (c : Cursor) (o : WalkState) (d : ℕ) (cs ls : List ℕ)
     (T : List TokenBody → List TokenBody) → c.bare ≡ false → WalkReads x text o ((d + 1) ∷ cs) ls [] T
     → o.depth ≡ d + 1 → Outside (d + 1) cs
     → Left text o.at (bytes (wrap s.width s.line_break n c (λ f. word (58 ∷ []) f after)))
@@ -257,9 +260,9 @@ asked_answer s n after parted x text c o d cs ls T bare r deep out l =
 asked_in : (s : Settings) (ds : List TagDirective) (k : Node) → NodeIn s ds k
     → (n : ℕ) (ls : List ℕ) → indent ls ≤ n
     → (a : Layout) (B : List TokenBody → List TokenBody) (rest : Rest) → Spaced (λ e. a e rest)
-    → ((r : Rest) → Spaced (λ e. node_layout (prettily s ds) (spot true n part.Key) k e r))
+    → ((r : Rest) → Spaced (λ e. node_layout (prettily s ds) (position true n part.Key) k e r))
     → MoreIn a B ls rest
-    → PairIn (word (63 ∷ []) ▹ (node_layout (prettily s ds) (spot true n part.Key) k ▹
+    → PairIn (word (63 ∷ []) ▹ (node_layout (prettily s ds) (position true n part.Key) k ▹
     ((wrap s.width s.line_break n ▹ word (58 ∷ [])) ▹ a)))
     (λ bs. tokens.key ∷ node_bodies (prettily s ds) true part.Key true k (tokens.value ∷ B bs)) ls
     rest
@@ -267,7 +270,7 @@ asked_in s ds k key n ls low a B rest parted starts value c x text o d cs T r de
     let p = prettily s ds in
     let after : Rest = λ e. a e rest in
     let answer : Rest = λ e. wrap s.width s.line_break n e (λ f. word (58 ∷ []) f after) in
-    let q = ask_then x text c (λ e. node_layout p (spot true n part.Key) k e answer) o d cs ls T (starts answer) r deep out l in
+    let q = ask_then x text c (λ e. node_layout p (position true n part.Key) k e answer) o d cs ls T (starts answer) r deep out l in
     let g = asked_key s ds k key n ls low after parted x text q.cursor q.place d cs (λ bs. T (tokens.key ∷ bs)) q.reads q.deep q.now out q.left in
     let v = asked_answer s n after parted x text g.behind g.place d cs ls (λ bs. T (tokens.key ∷ node_bodies p true part.Key true k bs)) g.bare g.reads (g.deep ∙ q.deep) out g.left in
     let h = value v.cursor v.bare x text v.place d cs (λ bs. T (tokens.key ∷ node_bodies p true part.Key true k (tokens.value ∷ bs))) v.reads v.deep out v.left in
@@ -278,7 +281,7 @@ keyed_in : (s : Settings) (ds : List TagDirective) (k : Node) → KeyWalksIn (pr
     → (n : ℕ) (ls : List ℕ) → indent ls ≤ n
     → (a : Layout) (B : List TokenBody → List TokenBody) (rest : Rest) → Spaced (λ e. a e rest)
     → MoreIn a B ls rest
-    → PairIn (node_layout (prettily s ds) (spot true n part.SimpleKey) k ▹ (char 58 ▹ a))
+    → PairIn (node_layout (prettily s ds) (position true n part.SimpleKey) k ▹ (char 58 ▹ a))
     (λ bs. tokens.key ∷ node_bodies (prettily s ds) true part.SimpleKey false k
     (tokens.value ∷ B bs)) ls rest
 keyed_in s ds k key n ls low a B rest parted value c x text o d cs T r deep now out l =
@@ -293,19 +296,19 @@ pub record KeyIn (s : Settings) (ds : List TagDirective) (k : Node) : Type 0 whe
   pub simple : is_simple (prettily s ds) k ≡ true → KeyWalksIn (prettily s ds) k
   pub node : NodeIn s ds k
   pub starts : (n : ℕ) (rest : Rest)
-      → Spaced (λ e. node_layout (prettily s ds) (spot true n part.Key) k e rest)
+      → Spaced (λ e. node_layout (prettily s ds) (position true n part.Key) k e rest)
 
 pub pairs_first : (s : Settings) (ds : List TagDirective) (k v : Node) (ps : Pairs) → KeyIn s ds k
     → ((n : ℕ) (rest : Rest) → Spaced
-    (λ e. node_layout (prettily s ds) (spot true n part.Value) v e rest)) → NodeIn s ds v
+    (λ e. node_layout (prettily s ds) (position true n part.Value) v e rest)) → NodeIn s ds v
     → MorePairs s ds ps → FirstPairs s ds (pair k v ps)
 unfolding pairs_layout before_key before_value turned pairs_bodies
 pairs_first s ds k v ps key starts value more n ls low rest c bare x text o d cs T r deep now out l =
     let p = prettily s ds in
     let b = pairs_layout p true n false ps in
-    let a = node_layout p (spot true n part.Value) v ▹ b in
+    let a = node_layout p (position true n part.Value) v ▹ b in
     let C : List TokenBody → List TokenBody = λ bs. pairs_bodies p true false ps (tokens.flow_mapping_end ∷ bs) in
-    let L : Bool → Layout = λ t. when (not t) (word (63 ∷ [])) ▹ (node_layout p (spot true n (key_part t)) k ▹ (before_value p.settings true n t ▹ a)) in
+    let L : Bool → Layout = λ t. when (not t) (word (63 ∷ [])) ▹ (node_layout p (position true n (key_part t)) k ▹ (before_value p.settings true n t ▹ a)) in
     let W : Bool → List TokenBody → List TokenBody = λ t bs. tokens.key ∷ node_bodies p true (key_part t) (not t) k (tokens.value ∷ node_bodies p true part.Value (not t) v (C bs)) in
     let parted : Spaced (λ e. a e rest) = starts n (λ e. b e rest) in
     let walk : (t : Bool) → is_simple p k ≡ t → PairIn (L t) (W t) ls rest = λ t same. elim (cases_Bool t) [
@@ -337,14 +340,14 @@ out_next : (d : ℕ) (cs : List ℕ) → Outside d cs → Outside (d + 1) (d ∷
 unfolding Outside
 out_next d cs out = (omega arith, deeper_out d cs out)
 
-clear_out : (o : Where) (cs : List ℕ) → IsClear o cs → Outside (o.depth + 1) cs
+clear_out : (o : WalkState) (cs : List ℕ) → IsClear o cs → Outside (o.depth + 1) cs
 clear_out o cs (inl out) = deeper_out o.depth cs out
 clear_out o cs (inr (ds, same, out, off)) = subst (λ (es : List ℕ). Outside (o.depth + 1) es) (sym same) (out_next o.depth ds out)
 
 -- a collection's brackets, at any depth
 pub opened_in : (mapping : Bool) (a : Layout) (B : List TokenBody → List TokenBody) (ls : List ℕ)
     (rest : Rest) → BodyIn a B ls rest
-    → (c : Cursor) (x : yaml_encoding_t) (text : List ℕ) (o : Where) (cs : List ℕ)
+    → (c : Cursor) (x : yaml_encoding_t) (text : List ℕ) (o : WalkState) (cs : List ℕ)
     (T : List TokenBody → List TokenBody) → WalkReads x text o cs ls [] T
     → IsRight o.depth ls (column_at text o.at) → IsClear o cs
     → Left text o.at (bytes ((opener (opening_of mapping) ▹ a) c rest))

@@ -1,4 +1,4 @@
--- All nodes in brackets, and collections in brackets at spots of a block.
+-- All nodes in brackets, and collections in brackets at positions of a block.
 use Rattle.std.proofs.Common.{◌≡◌, ℕ, ◌+◌, ◌&&◌, not, nat_lt, Bool, true, false, List, [], ◌∷◌, refl, subst, ◌∙◌, arith}
 use Rattle.yaml_emit_laws_text.specs.emit_layout.scan_model.Tokens as tokens
 use Rattle.yaml_emit_laws_text.specs.emit_layout.scan_model.Tokens.{TokenBody}
@@ -16,7 +16,7 @@ use Rattle.yaml_emit_laws_text.specs.emit_layout.declared.level.Part.{Part}
 use Rattle.yaml_emit_laws_text.specs.emit_layout.declared.level.Part.TheVariants as part
 use Rattle.yaml_emit_laws_text.specs.emit_layout.Content.{Scalar, Start, Opening, Node, alias_node, scalar_node, sequence_node, mapping_node, Nodes, no_nodes, node, Pairs, no_pairs, pair}
 use Rattle.yaml_emit_laws_text.specs.emit_layout.Grammar.{has, start_tag, scalar_tag}
-use Rattle.yaml_emit_laws_text.specs.emit_layout.Nodes.{Context, spot, checked, MOST, is_simple, is_simple_part, is_plain, key_part, style_of, page_at, node_layout, alias_layout, scalar_layout, items_layout, pairs_layout}
+use Rattle.yaml_emit_laws_text.specs.emit_layout.Nodes.{Context, position, checked, MOST, is_simple, is_simple_part, is_plain, key_part, style_of, page_at, node_layout, alias_layout, scalar_layout, items_layout, pairs_layout}
 use Rattle.yaml_emit_laws_text.specs.Walk.{Left}
 use Rattle.yaml_emit_laws_text.specs.Writable.{IsWritable, AreItemsWritable, ArePairsWritable, IsWritableOpening, IsWritableAnchor, IsWritableTag}
 use Rattle.yaml_emit_laws_scalars.specs.StylesLaws.{StylesAreAllowed}
@@ -33,12 +33,12 @@ abbrev pub bracket : ℕ → Layout
 bracket x c rest = letter x ∷ rest (record { column = c.column + 1; white = true; bare = false; kept = c.kept })
 
 pub node_spaced : (s : Settings) (ds : List TagDirective) (y : Node) (n : ℕ) (q : Part)
-    (rest : Rest) → Spaced (λ e. node_layout (prettily s ds) (spot true n q) y e rest)
+    (rest : Rest) → Spaced (λ e. node_layout (prettily s ds) (position true n q) y e rest)
 unfolding node_layout alias_layout scalar_layout
 node_spaced s ds (alias_node name) n q rest = gap_spaced (letters (42 ∷ name) ▹ when (is_simple_part q) (char 32)) rest
 node_spaced s ds (scalar_node x) n q rest =
     let p = prettily s ds in
-    let at = spot true n q in
+    let at = position true n q in
     let st = style_of p at x in
     let k = n + s.indent in
     let text = scalar_text (page_at p.settings at) p.settings.indent true st (chars x.value) in

@@ -20,7 +20,7 @@ use Rattle.yaml_emit_laws_text.specs.emit_layout.emit_tags.Tags.{tag_spelling, s
 use Rattle.yaml_emit_laws_text.specs.emit_layout.declared.level.Part.{Part}
 use Rattle.yaml_emit_laws_text.specs.emit_layout.Content.{Scalar, Opening, alias_node, scalar_node}
 use Rattle.yaml_emit_laws_text.specs.emit_layout.Grammar.{has, kept_if, scalar_tag}
-use Rattle.yaml_emit_laws_text.specs.emit_layout.Nodes.{Context, spot, checked, MOST, is_simple_part, is_plain, style_of, tag_text, anchor_text, properties_text, page_at, node_layout, alias_layout, scalar_layout}
+use Rattle.yaml_emit_laws_text.specs.emit_layout.Nodes.{Context, position, checked, MOST, is_simple_part, is_plain, style_of, tag_text, anchor_text, properties_text, page_at, node_layout, alias_layout, scalar_layout}
 use Rattle.yaml_emit_laws_text.specs.Bodies.{anchor_bodies, tag_bodies, tag_body, mark_bodies}
 use Rattle.yaml_emit_laws_text.specs.QuotedLaws.{QuotedIsReadBack}
 use Rattle.yaml_emit_laws_text.specs.TagsLaws.{SplitTagsAreRead, WrittenTagsAreReadable, ReadableTagsAreAscii}
@@ -139,13 +139,13 @@ quote_unlike (b ∷ bs) h e = let k : ends_name (39 ∷ bs) ≡ true = subst (λ
 -- the text of a scalar, by its style
 text_in : WordLaws → (p : Context) (n : ℕ) (q : Part) (x : Scalar) → IsUtf8 x.value
     → 0 < p.settings.indent → (ls : List ℕ) → indent ls ≤ n → (rest : Rest) → FollowsIn rest
-    → (s : Style) → style_of p (spot true n q) x ≡ s → (c : Cursor)
-    → WalksIn (scalar_text (page_at p.settings (spot true n q)) p.settings.indent true s
+    → (s : Style) → style_of p (position true n q) x ≡ s → (c : Cursor)
+    → WalksIn (scalar_text (page_at p.settings (position true n q)) p.settings.indent true s
     (chars x.value)) (λ bs. tokens.scalar x.value (style_named s) ∷ bs) ls c rest
 unfolding scalar_text
 text_in laws p n q x u deep ls low rest follows style.Plain same c =
-    let page = page_at p.settings (spot true n q) in
-    let may = (laws.styles p (spot true n q) x).0 same in
+    let page = page_at p.settings (position true n q) in
+    let may = (laws.styles p (position true n q) x).0 same in
     let some = filled p.settings.unicode x.value may in
     let far : indent ls ≤ page.indentation = omega (arith, low) in
     let deeper : 0 < page.indentation = omega (arith, deep) in
@@ -153,22 +153,22 @@ text_in laws p n q x u deep ls low rest follows style.Plain same c =
     word_walks ls (plain page true (chars x.value)) c (plain_word laws.words true (indent ls) (not c.white) page (behind_gap c.white c) x.value (laws.plains page true (indent ls) (behind_gap c.white c) x.value u some may deeper far)) says rest
     (follows.stops (indent ls) says.behind says.bare says.white, follows.calm says.behind says.bare says.white)
 text_in laws p n q x u deep ls low rest follows style.Single same c =
-    let page = page_at p.settings (spot true n q) in
-    let may = (laws.styles p (spot true n q) x).1 same in
+    let page = page_at p.settings (position true n q) in
+    let may = (laws.styles p (position true n q) x).1 same in
     let deeper : 0 < page.indentation = omega (arith, deep) in
     let says = single_says laws.singles laws.words true (indent ls) page x.value u deeper may c in
     word_walks ls (single_quoted page (chars x.value)) c (single_word laws.words true (indent ls) (not c.white) page (behind_gap c.white c) x.value (laws.singles page (behind_gap c.white c) x.value u (λ cuts. deeper) (λ lines. deeper) may)) says rest
     (quote_unlike (bytes (rest says.behind)) (follows.name says.behind says.bare says.white))
 text_in laws p n q x u deep ls low rest follows style.Double same c =
-    let page = page_at p.settings (spot true n q) in
+    let page = page_at p.settings (position true n q) in
     let deeper : 0 < page.indentation = omega (arith, deep) in
     let says = double_says laws.quoted true (indent ls) page x.value u deeper c in
     word_walks ls (double_quoted page (chars x.value)) c (double_word true (indent ls) (not c.white) page (behind_gap c.white c) x.value (laws.quoted page (behind_gap c.white c) x.value u (λ cuts. deeper))) says rest tt
-text_in laws p n q x u deep ls low rest follows style.Literal same c = let no_flow = ((laws.styles p (spot true n q) x).2 same).1 in absurd (true≢false no_flow)
-text_in laws p n q x u deep ls low rest follows style.Folded same c = let no_flow = ((laws.styles p (spot true n q) x).3 same).1 in absurd (true≢false no_flow)
+text_in laws p n q x u deep ls low rest follows style.Literal same c = let no_flow = ((laws.styles p (position true n q) x).2 same).1 in absurd (true≢false no_flow)
+text_in laws p n q x u deep ls low rest follows style.Folded same c = let no_flow = ((laws.styles p (position true n q) x).3 same).1 in absurd (true≢false no_flow)
 
 style_same : (p : Context) (n : ℕ) (q : Part) (x : Scalar)
-    → style_of p (spot true n q) x ≡ style_at p true q x
+    → style_of p (position true n q) x ≡ style_at p true q x
 unfolding style_of
 style_same p n q x = refl
 
@@ -176,12 +176,12 @@ pub scalar_in : WordLaws → (o : Opening) → IsWritableOpening o → (s : Sett
     → (x : Scalar) → IsWritableAnchor x.anchor → IsWritableTag x.tag → IsUtf8 x.value
     → (n : ℕ) (q : Part) (bare : Bool) (ls : List ℕ) → indent ls ≤ n → (rest : Rest)
     → FollowsIn rest → (c : Cursor)
-    → WalksIn (node_layout (prettily s o.directives) (spot true n q) (scalar_node x))
+    → WalksIn (node_layout (prettily s o.directives) (position true n q) (scalar_node x))
     (node_bodies (prettily s o.directives) true q bare (scalar_node x)) ls c rest
 unfolding node_layout scalar_layout node_bodies
 scalar_in laws o fine s deep x anchor tag u n q bare ls low rest follows c =
     let p = prettily s o.directives in
-    let at = spot true n q in
+    let at = position true n q in
     let st = style_of p at x in
     let text = scalar_text (page_at p.settings at) p.settings.indent true st (chars x.value) in
     let m = not (has (scalar_tag false x)) && (not x.quoted && not (is_plain st)) in
@@ -197,7 +197,7 @@ scalar_in laws o fine s deep x anchor tag u n q bare ls low rest follows c =
 pub alias_in : WordLaws → (s : Settings) (ds : List TagDirective) (name : List ℕ)
     → IsWritableName name → (n : ℕ) (q : Part) → is_simple_part q ≡ false
     → (bare : Bool) (ls : List ℕ) (rest : Rest) → FollowsIn rest → (c : Cursor)
-    → WalksIn (node_layout (prettily s ds) (spot true n q) (alias_node name))
+    → WalksIn (node_layout (prettily s ds) (position true n q) (alias_node name))
     (node_bodies (prettily s ds) true q bare (alias_node name)) ls c rest
 unfolding node_layout alias_layout node_bodies
 alias_in laws s ds name good n q part bare ls rest follows c =

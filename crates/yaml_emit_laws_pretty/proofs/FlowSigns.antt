@@ -20,7 +20,7 @@ use Rattle.yaml_emit_laws_text.proofs.Places.{has_at, has_front, left_first, lef
 use Rattle.yaml_emit_laws_text.proofs.Steps.{left_letter}
 use Rattle.yaml_scan_laws_levels.specs.Pushes.{IsRight}
 use Rattle.yaml_scan_laws_levels.specs.Signs.{sign}
-use Rattle.yaml_scan_laws_levels.specs.Walks.{Where, WalkReads, Outside, behind}
+use Rattle.yaml_scan_laws_levels.specs.Walks.{WalkState, WalkReads, Outside, behind}
 use Rattle.yaml_scan_laws_levels.proofs.Signing.{signs_come, printed_begins}
 use Rattle.yaml_scan_laws_levels.proofs.Stepping.{words_leave}
 use Rattle.yaml_scan_laws_levels.proofs.Walking.{walk_white, walk_word, walk_asks, walk_answers, deeper_leaves}
@@ -35,9 +35,9 @@ use Rattle.yaml_emit_laws_text.proofs.Single.{after_blanks, line_start}
 -- ---- lines
 
 -- Behind white in brackets.
-pub record Turned (x : yaml_encoding_t) (text : List ℕ) (rest : Rest) (kept : Bool) (o : Where) (cs ls : List ℕ) (T : List TokenBody → List TokenBody) : Type 0 where
+pub record Turned (x : yaml_encoding_t) (text : List ℕ) (rest : Rest) (kept : Bool) (o : WalkState) (cs ls : List ℕ) (T : List TokenBody → List TokenBody) : Type 0 where
   pub cursor : Cursor
-  pub place : Where
+  pub place : WalkState
   pub reads : WalkReads x text place cs ls [] T
   pub deep : place.depth ≡ o.depth
   pub now : o.now ≡ true → place.now ≡ true
@@ -54,7 +54,7 @@ break_gap Cr n = spaces_gap n
 break_gap CrLf n = spaces_gap n
 
 line_in : (b : LineBreak) (n : ℕ) (x : yaml_encoding_t) (text : List ℕ) (c : Cursor) (rest : Rest)
-    (o : Where) (cs ls : List ℕ) (T : List TokenBody → List TokenBody) → c.bare ≡ false
+    (o : WalkState) (cs ls : List ℕ) (T : List TokenBody → List TokenBody) → c.bare ≡ false
     → WalkReads x text o cs ls [] T → Left text o.at (bytes (line b n c rest))
     → Turned x text rest c.kept o cs ls T
 line_in b n x text c rest o cs ls T bare r l =
@@ -73,7 +73,7 @@ line_in b n x text c rest o cs ls T bare r l =
 
 -- past the width a line, else nothing
 pub wrap_in : (width : ℕ) (b : LineBreak) (n : ℕ) (x : yaml_encoding_t) (text : List ℕ) (c : Cursor)
-    (rest : Rest) (o : Where) (cs ls : List ℕ) (T : List TokenBody → List TokenBody)
+    (rest : Rest) (o : WalkState) (cs ls : List ℕ) (T : List TokenBody → List TokenBody)
     → c.bare ≡ false → WalkReads x text o cs ls [] T → Left text o.at (bytes (wrap width b n c rest))
     → Turned x text rest c.kept o cs ls T
 wrap_in width b n x text c rest o cs ls T bare r l =
@@ -111,7 +111,7 @@ gap_kept false c = refl
 
 -- Behind a sign in brackets, of which d are open.
 pub record Signed (x : yaml_encoding_t) (text bs : List ℕ) (d : ℕ) (now : Bool) (cs ls : List ℕ) (T : List TokenBody → List TokenBody) : Type 0 where
-  pub place : Where
+  pub place : WalkState
   pub reads : WalkReads x text place cs ls [] T
   pub deep : place.depth ≡ d
   pub begin : place.now ≡ now
@@ -122,7 +122,7 @@ printed : (text : List ℕ) (p b : ℕ) → byte text p ≡ b → 32 < b → b <
     → begins_lexeme text p ≡ true
 printed text p b e low high hash = printed_begins text p b e low high hash
 
-pub comma_on : (x : yaml_encoding_t) (text bs : List ℕ) (o : Where) (cs ls : List ℕ)
+pub comma_on : (x : yaml_encoding_t) (text bs : List ℕ) (o : WalkState) (cs ls : List ℕ)
     (T : List TokenBody → List TokenBody) → WalkReads x text o cs ls [] T → nat_lt 0 o.depth ≡ true
     → Outside o.depth cs → Left text o.at (44 ∷ bs)
     → Signed x text bs o.depth true cs ls (λ ds. T (tokens.flow_entry ∷ ds))
@@ -164,7 +164,7 @@ closes false = tokens.flow_sequence_end
 more_open : (d : ℕ) → not (nat_lt 0 (d + 1)) ≡ false
 more_open d = grind (arith, nat_tests)
 
-pub opener_on : (mapping : Bool) (x : yaml_encoding_t) (text bs : List ℕ) (o : Where)
+pub opener_on : (mapping : Bool) (x : yaml_encoding_t) (text bs : List ℕ) (o : WalkState)
     (cs ls : List ℕ) (T : List TokenBody → List TokenBody) → WalkReads x text o cs ls [] T
     → IsRight o.depth ls (column_at text o.at) → IsClear o cs
     → Left text o.at (opening_of mapping ∷ bs)
@@ -212,7 +212,7 @@ opener_on false x text bs o cs ls T r right clear l =
     off_or : (a b : Bool) → a ≡ false → (a || (false && b)) ≡ false
     off_or a b e = rw e refl
 
-pub closer_on : (mapping : Bool) (x : yaml_encoding_t) (text bs : List ℕ) (o : Where) (d : ℕ)
+pub closer_on : (mapping : Bool) (x : yaml_encoding_t) (text bs : List ℕ) (o : WalkState) (d : ℕ)
     (cs ls : List ℕ) (T : List TokenBody → List TokenBody) → WalkReads x text o cs ls [] T
     → o.depth ≡ d + 1 → Outside (d + 1) cs → Left text o.at (closing_of mapping ∷ bs)
     → Signed x text bs d false cs ls (λ ds. T (closes mapping ∷ ds))
@@ -259,7 +259,7 @@ closer_on false x text bs o d cs ls T r deep out l =
 
 -- ---- a `?` and its `:`
 
-pub question_on : (x : yaml_encoding_t) (text bs : List ℕ) (o : Where) (cs ls : List ℕ)
+pub question_on : (x : yaml_encoding_t) (text bs : List ℕ) (o : WalkState) (cs ls : List ℕ)
     (T : List TokenBody → List TokenBody) → WalkReads x text o cs ls [] T → nat_lt 0 o.depth ≡ true
     → Outside o.depth cs → begins_white bs ≡ true → Left text o.at (63 ∷ bs)
     → Signed x text bs o.depth false (o.depth ∷ cs) ls (λ ds. T (tokens.key ∷ ds))
@@ -283,7 +283,7 @@ question_on x text bs o cs ls T r deep out white l =
       left = subst (λ (n : ℕ). Left text (n + 1) bs) (sym z) next;
     }
 
-pub answer_on : (x : yaml_encoding_t) (text bs : List ℕ) (o : Where) (cs ls : List ℕ)
+pub answer_on : (x : yaml_encoding_t) (text bs : List ℕ) (o : WalkState) (cs ls : List ℕ)
     (T : List TokenBody → List TokenBody) → WalkReads x text o (o.depth ∷ cs) ls [] T
     → nat_lt 0 o.depth ≡ true → Outside o.depth cs → begins_white bs ≡ true
     → Left text o.at (58 ∷ bs)

@@ -16,7 +16,7 @@ use Rattle.yaml_emit_laws_text.specs.Walk.{Left, bytes}
 use Rattle.yaml_emit_laws_text.proofs.Places.{has_at, left_first, left_more, left_rest}
 use Rattle.yaml_scan_laws_levels.specs.Pushes.{stays_level}
 use Rattle.yaml_scan_laws_levels.specs.Steps.{Comes, WordLeaves}
-use Rattle.yaml_scan_laws_levels.specs.Walks.{Where, WalkReads, LeaveClear, Outside, behind}
+use Rattle.yaml_scan_laws_levels.specs.Walks.{WalkState, WalkReads, LeaveClear, Outside, behind}
 use Rattle.yaml_scan_laws_levels.proofs.Slotting.{letter_columns}
 use Rattle.yaml_scan_laws_levels.proofs.Walking.{walk_white, walk_word, deeper_leaves}
 use Rattle.yaml_emit_laws_pretty.specs.Spoken.{is_text, Fits, Spoken, SaysTokens}
@@ -67,7 +67,7 @@ text_no_value k e v = cc
 
 -- ---- depths of a `?`
 
-pub leave_clear : (k : Kind) (o : Where) (a : Bool) (cs : List ℕ) → cancels k ≡ false
+pub leave_clear : (k : Kind) (o : WalkState) (a : Bool) (cs : List ℕ) → cancels k ≡ false
     → (o.now ≡ false → a ≡ false) → IsClear o cs → LeaveClear k o.depth a cs
 unfolding LeaveClear
 leave_clear k o a cs keeps bars (inl out) = deeper_leaves k o.depth a cs out
@@ -79,8 +79,8 @@ off_or a b e = rw e refl
 
 -- ---- a space
 
-pub record Space (x : yaml_encoding_t) (text bs : List ℕ) (o : Where) (cs ls more : List ℕ) (T : List TokenBody → List TokenBody) : Type 0 where
-  pub place : Where
+pub record Space (x : yaml_encoding_t) (text bs : List ℕ) (o : WalkState) (cs ls more : List ℕ) (T : List TokenBody → List TokenBody) : Type 0 where
+  pub place : WalkState
   pub reads : WalkReads x text place cs ls more T
   pub deep : place.depth ≡ o.depth
   pub same : place.now ≡ o.now
@@ -92,7 +92,8 @@ same_or : (a b : Bool) → (a || (false && b)) ≡ a
 same_or true b = refl
 same_or false b = refl
 
-pub space_on : (b : Bool) (x : yaml_encoding_t) (text bs : List ℕ) (o : Where) (cs ls more : List ℕ)
+pub space_on : (b : Bool) (x : yaml_encoding_t) (text bs : List ℕ) (o : WalkState)
+    (cs ls more : List ℕ)
     (T : List TokenBody → List TokenBody) → WalkReads x text o cs ls more T
     → Left text o.at (if b then 32 ∷ bs else bs) → Space x text bs o cs ls more T
 space_on true x text bs o cs ls more T r l =
@@ -108,21 +109,21 @@ space_on true x text bs o cs ls more T r l =
     }
 space_on false x text bs o cs ls more T r l = record { place = o; reads = r; deep = refl; same = refl; broken = refl; right = omega arith; left = l }
 
-pub clear_same : (o u : Where) (cs : List ℕ) → u.depth ≡ o.depth → u.now ≡ o.now → IsClear o cs
+pub clear_same : (o u : WalkState) (cs : List ℕ) → u.depth ≡ o.depth → u.now ≡ o.now → IsClear o cs
     → IsClear u cs
 clear_same o u cs deep now (inl out) = inl (subst (λ (d : ℕ). Outside d cs) (sym deep) out)
 clear_same o u cs deep now (inr (ds, same, out, off)) = inr (ds, same ∙ ap (λ (d : ℕ). d ∷ ds) (sym deep), subst (λ (d : ℕ). Outside d ds) (sym deep) out, now ∙ off)
 
 -- ---- a word
 
-pub record Worded (x : yaml_encoding_t) (text bs : List ℕ) (o : Where) (cs ls : List ℕ) (T : List TokenBody → List TokenBody) : Type 0 where
-  pub place : Where
+pub record Worded (x : yaml_encoding_t) (text bs : List ℕ) (o : WalkState) (cs ls : List ℕ) (T : List TokenBody → List TokenBody) : Type 0 where
+  pub place : WalkState
   pub reads : WalkReads x text place cs ls [] T
   pub deep : place.depth ≡ o.depth
   pub now : place.now ≡ false
   pub left : Left text place.at bs
 
-here_on : (x : yaml_encoding_t) (text bs : List ℕ) (o : Where) (cs ls : List ℕ)
+here_on : (x : yaml_encoding_t) (text bs : List ℕ) (o : WalkState) (cs ls : List ℕ)
     (T : List TokenBody → List TokenBody) (w : Spoken true (indent ls)) → WalkReads x text o cs ls [] T
     → nat_lt 0 o.depth ≡ true → IsClear o cs → Left text o.at (w.own ++ bs)
     → Fits w.wants true (indent ls) bs → Worded x text bs o cs ls (λ ds. T (w.body ∷ ds))
@@ -203,6 +204,6 @@ both ls a b B C c rest w v x text o cs T r deep clear l =
       same = h.same ∙ g.same;
     }
   where
-    clear_behind : (u : Where) → IsClear o cs → u.depth ≡ o.depth → u.now ≡ false → IsClear u cs
+    clear_behind : (u : WalkState) → IsClear o cs → u.depth ≡ o.depth → u.now ≡ false → IsClear u cs
     clear_behind u (inl out) deep off = inl (subst (λ (d : ℕ). Outside d cs) (sym deep) out)
     clear_behind u (inr (ds, same, out, was)) deep off = inr (ds, same ∙ ap (λ (d : ℕ). d ∷ ds) (sym deep), subst (λ (d : ℕ). Outside d ds) (sym deep) out, off)

@@ -19,7 +19,7 @@ use Rattle.yaml_emit_laws_text.proofs.Places.{has_at, has_front, left_first, lef
 use Rattle.yaml_emit_laws_text.proofs.Steps.{letter_low}
 use Rattle.yaml_scan_laws_levels.specs.Pushes.{IsRight}
 use Rattle.yaml_scan_laws_levels.specs.Tokens.{start_bodies}
-use Rattle.yaml_scan_laws_levels.specs.Walks.{Where, WalkReads, ClosesAt, Outside}
+use Rattle.yaml_scan_laws_levels.specs.Walks.{WalkState, WalkReads, ClosesAt, Outside}
 use Rattle.yaml_scan_laws_levels.proofs.Walking.{walk_says}
 use Rattle.yaml_scan_laws_levels.proofs.Slotting.{letter_columns, near_before}
 use Rattle.yaml_emit_laws_scalars.specs.Stops.{begins_white}
@@ -223,7 +223,7 @@ same_line a b c d e = grind (arith, nat_tests)
 abbrev pub behind_colon : Cursor → Cursor
 behind_colon b = record { column = b.column + 1; white = false; bare = false; kept = b.kept }
 
-reads_as : (x : yaml_encoding_t) (text : List ℕ) (o : Where) (cs ls : List ℕ)
+reads_as : (x : yaml_encoding_t) (text : List ℕ) (o : WalkState) (cs ls : List ℕ)
     (T U : List TokenBody → List TokenBody) → WalkReads x text o cs ls [] T
     → ((bs : List TokenBody) → T bs ≡ U bs) → WalkReads x text o cs ls [] U
 reads_as x text o cs ls T U r e = walk_says.other x text o cs ls [] T U r e

@@ -21,12 +21,12 @@ use Rattle.yaml_emit_laws_text.specs.emit_layout.emit_text.Layout.{Layout, Rest,
 use Rattle.yaml_emit_laws_text.specs.emit_layout.emit_text.Text.{letter}
 use Rattle.yaml_emit_laws_text.specs.emit_layout.emit_text.Scalars.{scalar_text}
 use Rattle.yaml_emit_laws_text.specs.emit_layout.emit_text.Style.{allowed, taken, plain_fits, single_or}
-use Rattle.yaml_emit_laws_text.specs.emit_layout.declared.level.Spot.{Spot}
+use Rattle.yaml_emit_laws_text.specs.emit_layout.declared.level.NodePosition.{NodePosition}
 use Rattle.yaml_emit_laws_text.specs.emit_layout.declared.level.Part.{Part}
 use Rattle.yaml_emit_laws_text.specs.emit_layout.declared.level.Part.TheVariants as part
 use Rattle.yaml_emit_laws_text.specs.emit_layout.Content.{Opening, Scalar, Start, Node, alias_node, scalar_node, sequence_node, mapping_node, Nodes, no_nodes, node, Pairs, no_pairs, pair}
 use Rattle.yaml_emit_laws_text.specs.emit_layout.Grammar.{has, scalar_tag, start_tag}
-use Rattle.yaml_emit_laws_text.specs.emit_layout.Nodes.{Context, context_of, spot, style_of, is_plain, is_flow, is_simple, is_simple_start, anchor_text, tag_text, properties_text, page_at, deeper, checked, MOST, indented, indent_of, scalar_layout, alias_layout, closer, node_layout, items_layout, pairs_layout}
+use Rattle.yaml_emit_laws_text.specs.emit_layout.Nodes.{Context, context_of, position, style_of, is_plain, is_flow, is_simple, is_simple_start, anchor_text, tag_text, properties_text, page_at, deeper, checked, MOST, indented, indent_of, scalar_layout, alias_layout, closer, node_layout, items_layout, pairs_layout}
 use Rattle.yaml_emit_laws_text.specs.Bodies.{anchor_bodies, tag_bodies, mark_bodies}
 use Rattle.yaml_emit_laws_text.specs.Walk.{Left, bytes, first}
 use Rattle.yaml_emit_laws_text.specs.Writable.{IsWritable}
@@ -63,7 +63,7 @@ use Rattle.yaml_emit_laws_scalars.proofs.Standing.{low_starts}
 abbrev pub marked_as : Scalar → Style → Bool
 marked_as x chosen = not (has (scalar_tag false x)) && (not x.quoted && not (is_plain chosen))
 
-pub scalar_laid : (p : Context) (at : Spot) (x : Scalar) (chosen : Style)
+pub scalar_laid : (p : Context) (at : NodePosition) (x : Scalar) (chosen : Style)
     → p.settings.canonical ≡ false → style_of p at x ≡ chosen
     → node_layout p at (scalar_node x)
     ≡ ((anchor_text x.anchor ▹ (tag_text p (scalar_tag false x) ▹ when (marked_as x chosen)
@@ -140,7 +140,7 @@ not_empty true b bs = refl
 not_empty false b bs = refl
 
 last_plain : Scalars
-    → (flow : Bool) (level : ℕ) (s : Settings) (at : Spot) (x : Scalar) (c : Cursor) (b : ℕ)
+    → (flow : Bool) (level : ℕ) (s : Settings) (at : NodePosition) (x : Scalar) (c : Cursor) (b : ℕ)
     (bs : List ℕ) → x.value ≡ b ∷ bs → IsUtf8 x.value
     → may_be_plain s.unicode flow (chars x.value) ≡ true → 0 < deeper s at.around
     → level ≤ deeper s at.around
@@ -168,7 +168,7 @@ no_plain true = refl
 no_plain false = refl
 
 last_single : Scalars
-    → (flow : Bool) (level : ℕ) (s : Settings) (at : Spot) (x : Scalar) (c : Cursor)
+    → (flow : Bool) (level : ℕ) (s : Settings) (at : NodePosition) (x : Scalar) (c : Cursor)
     → IsUtf8 x.value → (allowed s.unicode (chars x.value)).single ≡ true → 0 < deeper s at.around
     → LastOf flow level (scalar_text (page_at s at) s.indent flow style.Single (chars x.value)) c x
     style.Single
@@ -185,7 +185,7 @@ last_single law flow level s at x c u may deep =
       some = no_plain flow;
     }
 
-last_double : (flow : Bool) (level : ℕ) (s : Settings) (at : Spot) (x : Scalar) (c : Cursor)
+last_double : (flow : Bool) (level : ℕ) (s : Settings) (at : NodePosition) (x : Scalar) (c : Cursor)
     → IsUtf8 x.value → 0 < deeper s at.around
     → LastOf flow level (scalar_text (page_at s at) s.indent flow style.Double (chars x.value)) c x
     style.Double
@@ -231,52 +231,52 @@ taken_empty a asked.YAML_LITERAL_SCALAR_STYLE untagged flow = block_empty a.bloc
 taken_empty a asked.YAML_FOLDED_SCALAR_STYLE untagged flow = block_empty a.block flow style.Folded refl
 
 empty_style : (p : Context) (flow : Bool) (n : ℕ) (x : Scalar) → p.settings.canonical ≡ false
-    → x.value ≡ [] → style_of p (spot flow n part.SimpleKey) x ≡ style.Plain → ⊥
+    → x.value ≡ [] → style_of p (position flow n part.SimpleKey) x ≡ style.Plain → ⊥
 unfolding style_of
 empty_style p flow n x pretty none same =
     let a = allowed p.settings.unicode (chars x.value) in
     let untagged = has (scalar_tag false x) || x.plain in
-    let e : is_plain (style_of p (spot flow n part.SimpleKey) x) ≡ false =
+    let e : is_plain (style_of p (position flow n part.SimpleKey) x) ≡ false =
     ap (λ (b : Bool). is_plain (if b then style.Double else taken a x.style untagged flow true (length x.value == 0))) pretty
     ∙ ap (λ (v : List ℕ). is_plain (taken a x.style untagged flow true (length v == 0))) none ∙ taken_empty a x.style untagged flow in
     false≢true (sym e ∙ ap is_plain same)
 
 last_of : Scalars
     → (flow : Bool) (level : ℕ) (p : Context) (n : ℕ) (x : Scalar) (c : Cursor) (chosen : Style)
-    → p.settings.canonical ≡ false → style_of p (spot flow n part.SimpleKey) x ≡ chosen
+    → p.settings.canonical ≡ false → style_of p (position flow n part.SimpleKey) x ≡ chosen
     → IsUtf8 x.value → 0 < n + p.settings.indent → level ≤ n + p.settings.indent
-    → LastOf flow level (scalar_text (page_at p.settings (spot flow n part.SimpleKey))
+    → LastOf flow level (scalar_text (page_at p.settings (position flow n part.SimpleKey))
     p.settings.indent flow chosen (chars x.value)) c x chosen
 last_of law flow level p n x c style.Plain pretty same u deep far = plain_by x.value refl
   where
     plain_by : (v : List ℕ) → x.value ≡ v
-        → LastOf flow level (scalar_text (page_at p.settings (spot flow n part.SimpleKey))
+        → LastOf flow level (scalar_text (page_at p.settings (position flow n part.SimpleKey))
         p.settings.indent flow style.Plain (chars x.value)) c x style.Plain
     plain_by [] e = absurd (empty_style p flow n x pretty e same)
-    plain_by (b ∷ bs) e = last_plain law flow level p.settings (spot flow n part.SimpleKey) x c b bs e u ((law.styles p (spot flow n part.SimpleKey) x).0 same) deep far
-last_of law flow level p n x c style.Single pretty same u deep far = last_single law flow level p.settings (spot flow n part.SimpleKey) x c u ((law.styles p (spot flow n part.SimpleKey) x).1 same) deep
-last_of law flow level p n x c style.Double pretty same u deep far = last_double flow level p.settings (spot flow n part.SimpleKey) x c u deep
-last_of law flow level p n x c style.Literal pretty same u deep far = let (may, out, whole) = (law.styles p (spot flow n part.SimpleKey) x).2 same in absurd (false≢true (sym whole))
-last_of law flow level p n x c style.Folded pretty same u deep far = let (may, out, whole) = (law.styles p (spot flow n part.SimpleKey) x).3 same in absurd (false≢true (sym whole))
+    plain_by (b ∷ bs) e = last_plain law flow level p.settings (position flow n part.SimpleKey) x c b bs e u ((law.styles p (position flow n part.SimpleKey) x).0 same) deep far
+last_of law flow level p n x c style.Single pretty same u deep far = last_single law flow level p.settings (position flow n part.SimpleKey) x c u ((law.styles p (position flow n part.SimpleKey) x).1 same) deep
+last_of law flow level p n x c style.Double pretty same u deep far = last_double flow level p.settings (position flow n part.SimpleKey) x c u deep
+last_of law flow level p n x c style.Literal pretty same u deep far = let (may, out, whole) = (law.styles p (position flow n part.SimpleKey) x).2 same in absurd (false≢true (sym whole))
+last_of law flow level p n x c style.Folded pretty same u deep far = let (may, out, whole) = (law.styles p (position flow n part.SimpleKey) x).3 same in absurd (false≢true (sym whole))
 
 value_is : (b : Bool) (s : Style) (value : List ℕ) (bs : List TokenBody) → b ≡ false
     → value_bodies b s value bs ≡ tokens.scalar value (style_named s) ∷ bs
 value_is true s value bs e = absurd (false≢true (sym e))
 value_is false s value bs e = refl
 
-spot_style : (p : Context) (flow : Bool) (n : ℕ) (x : Scalar)
-    → style_of p (spot flow n part.SimpleKey) x ≡ style_at p flow part.SimpleKey x
+position_style : (p : Context) (flow : Bool) (n : ℕ) (x : Scalar)
+    → style_of p (position flow n part.SimpleKey) x ≡ style_at p flow part.SimpleKey x
 unfolding style_of
-spot_style p flow n x = refl
+position_style p flow n x = refl
 
 scalar_form : Scalars → (s : Settings) (d : Opening) → IsPretty s d → (x : Scalar)
     → IsWritable (scalar_node x) → (flow : Bool) (level n : ℕ) → level ≤ n + s.indent → (c : Cursor)
-    → KeyForm flow level (node_layout (context_of s d.directives) (spot flow n part.SimpleKey)
+    → KeyForm flow level (node_layout (context_of s d.directives) (position flow n part.SimpleKey)
     (scalar_node x)) c (node_bodies (context_of s d.directives) flow part.SimpleKey false
     (scalar_node x))
 scalar_form law s d good x (wa, wt, u) flow level n far c =
     let p = context_of s d.directives in
-    let at = spot flow n part.SimpleKey in
+    let at = position flow n part.SimpleKey in
     let chosen = style_of p at x in
     let m = marked_as x chosen in
     let r = dress_all flow level d good.fine s x.anchor (scalar_tag false x) wa (kept_writable (not (x.plain || x.quoted)) x.tag wt) m c in
@@ -287,14 +287,14 @@ scalar_form law s d good x (wa, wt, u) flow level n far c =
     let D : List TokenBody → List TokenBody = λ bs. anchor_bodies x.anchor (tag_bodies d.directives (scalar_tag false x) (mark_bodies m bs)) in
     form_as flow level (node_layout p at (scalar_node x)) ((anchor_text x.anchor ▹ (tag_text p (scalar_tag false x) ▹ when m (word (33 ∷ [])))) ▹ (checked N ▹ body)) c (λ bs. D (l.word.body ∷ bs)) (node_bodies p flow part.SimpleKey false (scalar_node x))
     (scalar_laid p at x chosen good.pretty refl)
-    (λ bs. ap (λ (t : TokenBody). D (t ∷ bs)) l.body ∙ sym (ap (λ (ds : List TokenBody). D ds) (value_is (is_nothing flow chosen x.value) chosen x.value bs l.some)) ∙ sym (scalar_says p flow part.SimpleKey false x chosen (sym (spot_style p flow n x)) bs))
+    (λ bs. ap (λ (t : TokenBody). D (t ∷ bs)) l.body ∙ sym (ap (λ (ds : List TokenBody). D ds) (value_is (is_nothing flow chosen x.value) chosen x.value bs l.some)) ∙ sym (scalar_says p flow part.SimpleKey false x chosen (sym (position_style p flow n x)) bs))
     (form_words flow level (anchor_text x.anchor ▹ (tag_text p (scalar_tag false x) ▹ when m (word (33 ∷ [])))) (checked N ▹ body) c (has_some x.anchor (has_some (scalar_tag false x) m)) m D r l.word (last_checked flow level N body r.behind l.word l.last))
 
 -- ---- aliases
 
 alias_form : (p : Context) (name : List ℕ) → IsWritable (alias_node name)
     → (flow : Bool) (level n : ℕ) (c : Cursor)
-    → KeyForm flow level (node_layout p (spot flow n part.SimpleKey) (alias_node name)) c
+    → KeyForm flow level (node_layout p (position flow n part.SimpleKey) (alias_node name)) c
     (node_bodies p flow part.SimpleKey false (alias_node name))
 unfolding node_layout alias_layout node_bodies
 alias_form p name good flow level n c =
@@ -352,7 +352,7 @@ form_ends flow level a b c has B r k same s = record {
   kept = s.kept ∙ r.kept;
 }
 
-empty_flow : (s : Settings) (at : Spot) (q : Start) → is_flow s at q true ≡ true
+empty_flow : (s : Settings) (at : NodePosition) (q : Start) → is_flow s at q true ≡ true
 empty_flow s at q = all s.canonical at.flow q.flow
   where
     all : (a b d : Bool) → (a || (b || (d || true))) ≡ true
@@ -401,10 +401,10 @@ closer_bytes s n x pretty low d rest =
 
 -- ---- sequences
 
-abbrev sequence_rest : Context → Spot → Bool → Layout
+abbrev sequence_rest : Context → NodePosition → Bool → Layout
 sequence_rest p at flow = when flow (opener 91) ▹ indented (indent_of p.settings at true flow) (λ n. checked n ▹ items_layout p flow n true no_nodes)
 
-sequence_laid : (p : Context) (at : Spot) (q : Start) → p.settings.canonical ≡ false
+sequence_laid : (p : Context) (at : NodePosition) (q : Start) → p.settings.canonical ≡ false
     → node_layout p at (sequence_node q no_nodes)
     ≡ ((anchor_text q.anchor ▹ (tag_text p (start_tag false q) ▹ when false (word (33 ∷ [])))) ▹
     sequence_rest p at true)
@@ -418,7 +418,7 @@ items_none : (p : Context) (n : ℕ)
 unfolding items_layout
 items_none p n = refl
 
-sequence_closed : (p : Context) (at : Spot) → p.settings.canonical ≡ false → (c : Cursor)
+sequence_closed : (p : Context) (at : NodePosition) → p.settings.canonical ≡ false → (c : Cursor)
     → Closed (sequence_rest p at true) c (squares (not c.white))
 sequence_closed p at pretty c =
     let N = deeper p.settings at.around in
@@ -436,12 +436,12 @@ sequence_tokens p flow q bs =
 
 sequence_form : (s : Settings) (d : Opening) → IsPretty s d → (q : Start)
     → IsWritable (sequence_node q no_nodes) → (flow : Bool) (level n : ℕ) (c : Cursor)
-    → KeyForm flow level (node_layout (context_of s d.directives) (spot flow n part.SimpleKey)
+    → KeyForm flow level (node_layout (context_of s d.directives) (position flow n part.SimpleKey)
     (sequence_node q no_nodes)) c (node_bodies (context_of s d.directives) flow part.SimpleKey false
     (sequence_node q no_nodes))
 sequence_form s d good q (wa, wt, all) flow level n c =
     let p = context_of s d.directives in
-    let at = spot flow n part.SimpleKey in
+    let at = position flow n part.SimpleKey in
     let r = dress_all flow level d good.fine s q.anchor (start_tag false q) wa (kept_writable (not q.implicit) q.tag wt) false c in
     let front = anchor_text q.anchor ▹ (tag_text p (start_tag false q) ▹ when false (word (33 ∷ []))) in
     let D : List TokenBody → List TokenBody = λ bs. anchor_bodies q.anchor (tag_bodies d.directives (start_tag false q) bs) in
@@ -452,10 +452,10 @@ sequence_form s d good q (wa, wt, all) flow level n c =
 
 -- ---- mappings
 
-abbrev mapping_rest : Context → Spot → Bool → Layout
+abbrev mapping_rest : Context → NodePosition → Bool → Layout
 mapping_rest p at flow = when flow (opener 123) ▹ indented (indent_of p.settings at false flow) (λ n. checked n ▹ pairs_layout p flow n true no_pairs)
 
-mapping_laid : (p : Context) (at : Spot) (q : Start) → p.settings.canonical ≡ false
+mapping_laid : (p : Context) (at : NodePosition) (q : Start) → p.settings.canonical ≡ false
     → node_layout p at (mapping_node q no_pairs)
     ≡ ((anchor_text q.anchor ▹ (tag_text p (start_tag false q) ▹ when false (word (33 ∷ [])))) ▹
     mapping_rest p at true)
@@ -469,7 +469,7 @@ pairs_none : (p : Context) (n : ℕ)
 unfolding pairs_layout
 pairs_none p n = refl
 
-mapping_closed : (p : Context) (at : Spot) → p.settings.canonical ≡ false → (c : Cursor)
+mapping_closed : (p : Context) (at : NodePosition) → p.settings.canonical ≡ false → (c : Cursor)
     → Closed (mapping_rest p at true) c (curlies (not c.white))
 mapping_closed p at pretty c =
     let N = deeper p.settings at.around in
@@ -487,12 +487,12 @@ mapping_tokens p flow q bs =
 
 mapping_form : (s : Settings) (d : Opening) → IsPretty s d → (q : Start)
     → IsWritable (mapping_node q no_pairs) → (flow : Bool) (level n : ℕ) (c : Cursor)
-    → KeyForm flow level (node_layout (context_of s d.directives) (spot flow n part.SimpleKey)
+    → KeyForm flow level (node_layout (context_of s d.directives) (position flow n part.SimpleKey)
     (mapping_node q no_pairs)) c (node_bodies (context_of s d.directives) flow part.SimpleKey false
     (mapping_node q no_pairs))
 mapping_form s d good q (wa, wt, all) flow level n c =
     let p = context_of s d.directives in
-    let at = spot flow n part.SimpleKey in
+    let at = position flow n part.SimpleKey in
     let r = dress_all flow level d good.fine s q.anchor (start_tag false q) wa (kept_writable (not q.implicit) q.tag wt) false c in
     let front = anchor_text q.anchor ▹ (tag_text p (start_tag false q) ▹ when false (word (33 ∷ []))) in
     let D : List TokenBody → List TokenBody = λ bs. anchor_bodies q.anchor (tag_bodies d.directives (start_tag false q) bs) in
@@ -521,7 +521,8 @@ some_pairs p q k v ps e = not_simple (not p.settings.canonical) e
 pub key_form : Scalars → (s : Settings) (d : Opening) → IsPretty s d → (k : Node) → IsWritable k
     → is_simple (context_of s d.directives) k ≡ true → (flow : Bool) (level n : ℕ)
     → level ≤ n + s.indent → (c : Cursor)
-    → KeyForm flow level (node_layout (context_of s d.directives) (spot flow n part.SimpleKey) k) c
+    → KeyForm flow level
+    (node_layout (context_of s d.directives) (position flow n part.SimpleKey) k) c
     (node_bodies (context_of s d.directives) flow part.SimpleKey false k)
 key_form law s d good (alias_node name) w simple flow level n far c = alias_form (context_of s d.directives) name w flow level n c
 key_form law s d good (scalar_node x) w simple flow level n far c = scalar_form law s d good x w flow level n far c

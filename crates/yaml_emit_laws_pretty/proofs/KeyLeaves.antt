@@ -17,7 +17,7 @@ use Rattle.yaml_emit_laws_text.specs.emit_layout.emit_text.declared.Style.TheVar
 use Rattle.yaml_emit_laws_text.specs.emit_layout.emit_text.Layout.{Rest, ◌▹◌, char}
 use Rattle.yaml_emit_laws_text.specs.emit_layout.declared.level.Part.TheVariants as part
 use Rattle.yaml_emit_laws_text.specs.emit_layout.Content.{Opening, Scalar, Node, alias_node, scalar_node, sequence_node, mapping_node, no_nodes, node, no_pairs, pair}
-use Rattle.yaml_emit_laws_text.specs.emit_layout.Nodes.{Context, context_of, spot, style_of, is_simple, node_layout}
+use Rattle.yaml_emit_laws_text.specs.emit_layout.Nodes.{Context, context_of, position, style_of, is_simple, node_layout}
 use Rattle.yaml_emit_laws_text.specs.Walk.{bytes}
 use Rattle.yaml_emit_laws_text.specs.Writable.{IsWritable}
 use Rattle.yaml_emit_laws_text.proofs.Steps.{letter_low}
@@ -32,7 +32,7 @@ use Rattle.yaml_emit_laws_scalars.proofs.NearKeys.{keys_near}
 use Rattle.yaml_emit_laws_pretty.specs.Bodies.{node_bodies, node_kept, items_kept, pairs_kept, scalar_kept, style_at}
 use Rattle.yaml_emit_laws_pretty.specs.Flows.{KeysAreWalkedIn}
 use Rattle.yaml_emit_laws_pretty.specs.KeyLaws.{Keyed}
-use Rattle.yaml_emit_laws_pretty.specs.Nodes.{IsPretty, PartedBehind, SimpleKeysAreWalked, block_spot}
+use Rattle.yaml_emit_laws_pretty.specs.Nodes.{IsPretty, PartedBehind, SimpleKeysAreWalked, block_position}
 use Rattle.yaml_emit_laws_pretty.specs.Spoken.{Spoken, spoken_bytes, all_bytes, AllFit}
 use Rattle.yaml_emit_laws_pretty.specs.Walk.{Lined, no_comment}
 use Rattle.yaml_emit_laws_pretty.proofs.KeyForms.{KeyForm, KeyEnd, at_once, spaced, squares, curlies, end_bytes, LeadsKey, behind_colon, key_done}
@@ -47,7 +47,8 @@ key_walks : Scalars → (s : Settings) (d : Opening) → IsPretty s d → (k : N
     → (x : yaml_encoding_t) (text : List ℕ) (n : ℕ) (kept : Bool) (ls more new : List ℕ)
     (what : Opens) (T : List TokenBody → List TokenBody) (rest : Rest)
     → Lined x text (λ e. (node_layout (context_of s d.directives)
-    (block_spot (Some n) part.SimpleKey) k ▹ char 58) e rest) n kept ls more T → indent ls ≤ n + 1
+    (block_position (Some n) part.SimpleKey) k ▹ char 58) e rest) n kept ls more T
+    → indent ls ≤ n + 1
     → Rises (n + 1) more → opened true (n + 1) ls ≡ new
     → start_of 0 (n + 1) ls opening.Mapping ≡ what → PartedBehind rest
     → Keyed x text rest n kept new (λ bs. T
@@ -59,7 +60,7 @@ key_walks law s d good k w simple x text n kept ls more new what T rest here low
     let c = here.cursor in
     let o = here.place in
     let st = here.stage in
-    let L = node_layout p (spot false n part.SimpleKey) k in
+    let L = node_layout p (position false n part.SimpleKey) k in
     let B = node_bodies p false part.SimpleKey false k in
     let least = good.least in
     let form = key_form law s d good k w simple false (indent ls) n (omega (arith, low, least)) c in
@@ -118,29 +119,30 @@ form_shows level (w ∷ ws) k tail (gap, some, begins) (fit, fits) =
 key_shows : Scalars → (s : Settings) (d : Opening) → IsPretty s d → (k : Node) → IsWritable k
     → is_simple (context_of s d.directives) k ≡ true → (n : ℕ) (rest : Rest) → PartedBehind rest
     → (e : Cursor) → e.white ≡ true
-    → let bs = bytes ((node_layout (context_of s d.directives) (block_spot (Some n) part.SimpleKey)
+    → let bs = bytes
+    ((node_layout (context_of s d.directives) (block_position (Some n) part.SimpleKey)
     k ▹ char 58) e rest) in (begins_solid bs ≡ true) × (no_comment bs ≡ true)
 key_shows law s d good k w simple n rest parted e pale =
     let p = context_of s d.directives in
     let form = key_form law s d good k w simple false 0 n (omega arith) e in
     let f = behind_colon form.behind in
     let tail = bytes (rest f) in
-    let laid : bytes ((node_layout p (spot false n part.SimpleKey) k ▹ char 58) e rest) ≡ all_bytes form.words ++ (end_bytes form.end ++ (58 ∷ tail)) =
+    let laid : bytes ((node_layout p (position false n part.SimpleKey) k ▹ char 58) e rest) ≡ all_bytes form.words ++ (end_bytes form.end ++ (58 ∷ tail)) =
     form.written (λ b. char 58 b rest) ∙ ap (λ (bs : List ℕ). all_bytes form.words ++ (end_bytes form.end ++ bs)) (letter_low 58 (rest f) refl) in
     let (solid, calm) = form_shows 0 form.words form.end (58 ∷ tail) (subst (λ (b : Bool). LeadsKey form.words form.end (not b)) pale form.leads) (form.fits tail (parted f refl refl)) in
     (ap (λ bs. begins_solid bs) laid ∙ solid, ap (λ bs. no_comment bs) laid ∙ calm)
 
 -- ---- no block scalar is a key
 
-spot_style : (p : Context) (n : ℕ) (x : Scalar)
-    → style_of p (spot false n part.SimpleKey) x ≡ style_at p false part.SimpleKey x
+position_style : (p : Context) (n : ℕ) (x : Scalar)
+    → style_of p (position false n part.SimpleKey) x ≡ style_at p false part.SimpleKey x
 unfolding style_of
-spot_style p n x = refl
+position_style p n x = refl
 
 style_kept : Scalars → (p : Context) (x : Scalar) (kept : Bool) (chosen : Style)
     → style_at p false part.SimpleKey x ≡ chosen → scalar_kept chosen x.value kept ≡ kept
-style_kept law p x kept style.Literal same = let (may, out, whole) = (law.styles p (spot false 0 part.SimpleKey) x).2 (spot_style p 0 x ∙ same) in absurd (false≢true (sym whole))
-style_kept law p x kept style.Folded same = let (may, out, whole) = (law.styles p (spot false 0 part.SimpleKey) x).3 (spot_style p 0 x ∙ same) in absurd (false≢true (sym whole))
+style_kept law p x kept style.Literal same = let (may, out, whole) = (law.styles p (position false 0 part.SimpleKey) x).2 (position_style p 0 x ∙ same) in absurd (false≢true (sym whole))
+style_kept law p x kept style.Folded same = let (may, out, whole) = (law.styles p (position false 0 part.SimpleKey) x).3 (position_style p 0 x ∙ same) in absurd (false≢true (sym whole))
 style_kept law p x kept _ same = refl
 
 key_kept : Scalars → (p : Context) (k : Node) → is_simple p k ≡ true → (kept : Bool)
@@ -168,7 +170,7 @@ keys_walk law s d good k w simple = record {
 pub keys_walk_in : Scalars → KeysAreWalkedIn
 keys_walk_in law s d good k w simple n ls c rest low parted x text o cs T reads deep now out l =
     let p = context_of s d.directives in
-    let L = node_layout p (spot true n part.SimpleKey) k in
+    let L = node_layout p (position true n part.SimpleKey) k in
     let B = node_bodies p true part.SimpleKey false k in
     let form : KeyForm (nat_lt 0 o.depth) (indent ls) L c B = subst (λ (f : Bool). KeyForm f (indent ls) L c B) (sym deep) (key_form law s d good k w simple true (indent ls) n (omega (arith, low)) c) in
     let near = keys_near s d good.fine k w simple true n c in

@@ -20,7 +20,7 @@ use Rattle.yaml_scan_laws_levels.specs.Pushes.{IsRight, stays_level}
 use Rattle.yaml_scan_laws_levels.specs.Steps.{Comes, WordLeaves}
 use Rattle.yaml_scan_laws_levels.specs.Signs.{SignComes, sign}
 use Rattle.yaml_scan_laws_levels.specs.Tokens.{start_bodies}
-use Rattle.yaml_scan_laws_levels.specs.Walks.{Where, WalkReads, ReadsKey, ClosesAt, Outside, behind}
+use Rattle.yaml_scan_laws_levels.specs.Walks.{WalkState, WalkReads, ReadsKey, ClosesAt, Outside, behind}
 use Rattle.yaml_scan_laws_levels.proofs.Signing.{signs_come, printed_begins}
 use Rattle.yaml_scan_laws_levels.proofs.Stepping.{words_leave}
 use Rattle.yaml_scan_laws_levels.proofs.Walking.{walk_white, walk_key_starts, walk_key_goes, walk_key_stops, walk_says, deeper_leaves}
@@ -58,7 +58,7 @@ texty _ e = absurd (false≢true e)
 
 -- ---- places
 
-abbrev pub spot_at : ℕ → ℕ → ℕ → Bool → Bool → Where
+abbrev pub spot_at : ℕ → ℕ → ℕ → Bool → Bool → WalkState
 spot_at p line d now broken = record { at = p; line = line; depth = d; now = now; broken = broken }
 
 -- ---- a word that stands comes

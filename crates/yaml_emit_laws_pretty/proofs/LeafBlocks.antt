@@ -28,20 +28,20 @@ use Rattle.yaml_emit_laws_text.proofs.Steps.{left_letter}
 use Rattle.yaml_emit_laws_block.specs.Laws.{from_indicator, is_keep as keeps_all, read_style, margin_round, block_style}
 use Rattle.yaml_emit_laws_block.specs.Passed.{behind_line, BlockPassed}
 use Rattle.yaml_emit_laws_block.proofs.Whole.{block_back}
-use Rattle.yaml_emit_laws_block.proofs.Behind.{block_at_spot}
+use Rattle.yaml_emit_laws_block.proofs.Behind.{block_at_position}
 use Rattle.yaml_emit_laws_block.proofs.Passing.{block_is_passed}
 use Rattle.yaml_scan_laws_order.proofs.MarksForward.{line_at-grows}
 use Rattle.yaml_scan_laws_order.proofs.WordForward.{Fits, LandsWord, IsWordFrom, word_lands}
 use Rattle.yaml_scan_laws_levels.specs.Pushes.{stays_level}
 use Rattle.yaml_scan_laws_levels.specs.Steps.{Comes, WordLeaves}
-use Rattle.yaml_scan_laws_levels.specs.Walks.{Where, WalkReads, LeaveClear, behind}
+use Rattle.yaml_scan_laws_levels.specs.Walks.{WalkState, WalkReads, LeaveClear, behind}
 use Rattle.yaml_scan_laws_levels.proofs.Signing.{printed_begins}
 use Rattle.yaml_scan_laws_levels.proofs.Slotting.{letter_columns}
 use Rattle.yaml_scan_laws_levels.proofs.Stepping.{words_leave}
 use Rattle.yaml_scan_laws_levels.proofs.Walking.{walk_white, walk_word}
 use Rattle.yaml_emit_laws_pretty.specs.Bodies.{is_keep}
 use Rattle.yaml_emit_laws_pretty.specs.Walk.{NodeStage, LinedUp}
-use Rattle.yaml_emit_laws_pretty.specs.Nodes.{Ending, block_spot, column_round}
+use Rattle.yaml_emit_laws_pretty.specs.Nodes.{Ending, block_position, column_round}
 use Rattle.yaml_emit_laws_pretty.proofs.Entries.{no_gap}
 use Rattle.yaml_emit_laws_pretty.proofs.KeyColumns.{columns_grow}
 use Rattle.yaml_emit_laws_scalars.proofs.Standing.{low_starts}
@@ -50,12 +50,12 @@ use Rattle.yaml_emit_laws_scalars.proofs.Standing.{low_starts}
 
 record Gapped (x : yaml_encoding_t) (text : List ℕ) (ls : List ℕ) (T : List TokenBody → List TokenBody) (rest : Rest) : Type 0 where
   cursor : Cursor
-  place : Where
+  place : WalkState
   stage : NodeStage x text cursor place ls [] T
   right : indent ls ≤ column_at text place.at
   left : Left text place.at (bytes (rest cursor))
 
-gap_on : (x : yaml_encoding_t) (text : List ℕ) (c : Cursor) (o : Where) (ls : List ℕ)
+gap_on : (x : yaml_encoding_t) (text : List ℕ) (c : Cursor) (o : WalkState) (ls : List ℕ)
     (T : List TokenBody → List TokenBody) (rest : Rest) → NodeStage x text c o ls [] T
     → indent ls ≤ column_at text o.at → Left text o.at (bytes (gap c rest))
     → Gapped x text ls T rest
@@ -111,7 +111,7 @@ same_line text p e b m here high far u column left_of =
 
 -- from an indicator on, up to a place on a later line, where only spaces stand
 word_on : (k : Kind) → IsBlock k
-    → (x : yaml_encoding_t) (text : List ℕ) (c d : Cursor) (o : Where) (ls : List ℕ)
+    → (x : yaml_encoding_t) (text : List ℕ) (c d : Cursor) (o : WalkState) (ls : List ℕ)
     (T : List TokenBody → List TokenBody) (b e : ℕ) (w : WordText) (m : ℕ) (rest : Rest)
     → NodeStage x text c o ls [] T → indent ls ≤ column_at text o.at
     → byte text o.at ≡ b → 32 < b → b < 127 → (b ≡ 35 → ⊥) → kind_at false text o.at ≡ Some k
@@ -190,7 +190,8 @@ lands k text p level w no_end fits e =
     omega (arith, far, more)
 
 block_from : (folded : Bool) (page : Page) (digit : ℕ) (x : yaml_encoding_t) (text : List ℕ)
-    (c : Cursor) (o : Where) (ls : List ℕ) (T : List TokenBody → List TokenBody) (value : List ℕ)
+    (c : Cursor) (o : WalkState) (ls : List ℕ) (T : List TokenBody → List TokenBody)
+    (value : List ℕ)
     (m : ℕ) (rest k : Rest) → NodeStage x text c o ls [] T → indent ls ≤ column_at text o.at
     → m ≤ column_at text o.at
     → Left text o.at (bytes (from_indicator page digit folded (chars value) c k))
@@ -212,24 +213,24 @@ block_from false page digit x text c o ls T value m rest k s right low l passed 
     word_on kinds.Literal literal_is x text c (behind_line m value) o ls T 124 e w m rest s right (left_first text o.at 124 _ sign) (omega arith) (omega arith) (λ y. omega (arith, y)) passed.stands.kind passed.stands.word refl refl far passed.stands.column low refl refl refl
     (is_keep (chomp true true (chars value))) (keep_same (chomp true true (chars value))) passed.left
 
--- A block scalar with the space in front and the line behind it, at each spot where a layout chooses its style.
+-- A block scalar with the space in front and the line behind it, at each position where a layout chooses its style.
 pub block_line : (p : Context) (around : Option ℕ) (q : Part) (v : Scalar) (folded : Bool)
     → 0 < p.settings.indent → p.settings.indent < 10 → IsUtf8 v.value
-    → style_of p (block_spot around q) v ≡ block_style folded
+    → style_of p (block_position around q) v ≡ block_style folded
     → (ls : List ℕ) (c : Cursor) (m : ℕ) (after : Rest)
     → indent ls ≡ margin_round around → m ≤ column_round around
     → Ending p.settings.line_break m (indent ls) after
-    → (x : yaml_encoding_t) (text : List ℕ) (o : Where) (T : List TokenBody → List TokenBody)
+    → (x : yaml_encoding_t) (text : List ℕ) (o : WalkState) (T : List TokenBody → List TokenBody)
     → NodeStage x text c o ls [] T → indent ls ≤ column_at text o.at
-    → Left text o.at (bytes ((gap ▹ from_indicator (page_at p.settings (block_spot around q))
+    → Left text o.at (bytes ((gap ▹ from_indicator (page_at p.settings (block_position around q))
     p.settings.indent folded (chars v.value)) c (λ e. line p.settings.line_break m e after)))
     → LinedUp x text after m (is_keep (chomp true true (chars v.value))) ls
     (λ bs. T (tokens.scalar v.value (read_style folded) ∷ bs))
 block_line p around q v folded some few utf8 chosen ls c m after level low ending x text o T s right l =
-    let at = block_spot around q in
+    let at = block_position around q in
     let page = page_at p.settings at in
     let line_on : Rest = λ e. line p.settings.line_break m e after in
     let g = gap_on x text c o ls T (λ d. from_indicator page p.settings.indent folded (chars v.value) d line_on) s right l in
-    let passed = block_is_passed (block_at_spot block_back) p at v folded g.cursor m after utf8 some few chosen (below p around m low some) (ending.solid (behind_line m v.value) refl refl refl) text g.place.at g.left in
+    let passed = block_is_passed (block_at_position block_back) p at v folded g.cursor m after utf8 some few chosen (below p around m low some) (ending.solid (behind_line m v.value) refl refl refl) text g.place.at g.left in
     block_from folded page p.settings.indent x text g.cursor g.place ls T v.value m after line_on g.stage g.right (not_right around m (indent ls) (column_at text g.place.at) low level g.right) g.left
     (subst (λ (n : ℕ). BlockPassed folded n text g.place.at v.value m (bytes (after (behind_line m v.value)))) (sym level) passed)

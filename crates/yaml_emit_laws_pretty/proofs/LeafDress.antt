@@ -18,7 +18,7 @@ use Rattle.yaml_emit_laws_text.specs.Walk.{Left, bytes, first}
 use Rattle.yaml_emit_laws_text.specs.Writable.{IsWritableAnchor, IsWritableTag}
 use Rattle.yaml_emit_laws_text.proofs.Bytes.{AreCalm}
 use Rattle.yaml_emit_laws_text.proofs.Places.{has_front, left_first, left_rest}
-use Rattle.yaml_scan_laws_levels.specs.Walks.{Where, WalkReads, Outside}
+use Rattle.yaml_scan_laws_levels.specs.Walks.{WalkState, WalkReads, Outside}
 use Rattle.yaml_scan_laws_levels.proofs.Slotting.{letter_columns}
 use Rattle.yaml_scan_laws_levels.proofs.Walking.{walk_says}
 use Rattle.yaml_emit_laws_scalars.specs.Stops.{begins_white}
@@ -33,7 +33,7 @@ use Rattle.yaml_emit_laws_pretty.proofs.Singles.{bare_off}
 
 -- ---- stages
 
-stage_reads : (x : yaml_encoding_t) (text : List ℕ) (c : Cursor) (o : Where) (ls : List ℕ)
+stage_reads : (x : yaml_encoding_t) (text : List ℕ) (c : Cursor) (o : WalkState) (ls : List ℕ)
     (T : List TokenBody → List TokenBody) → NodeStage x text c o ls [] T
     → WalkReads x text (spot_at o.at o.line 0 o.now o.broken) [] ls [] T
 stage_reads x text c o ls T s = subst (λ i. WalkReads x text (spot_at o.at o.line i o.now o.broken) [] ls [] T) s.flat s.reads
@@ -78,7 +78,7 @@ word_walks a c ls w says rest fits x text o T s right l =
 -- behind a node's properties and its `!`, if it has any
 pub record Dressing (x : yaml_encoding_t) (text : List ℕ) (rest : Rest) (c : Cursor) (some : Bool) (ls : List ℕ) (T : List TokenBody → List TokenBody) : Type 0 where
   pub cursor : Cursor
-  pub place : Where
+  pub place : WalkState
   pub stage : NodeStage x text cursor place ls [] T
   pub left : Left text place.at (bytes (rest cursor))
   pub right : indent ls ≤ column_at text place.at
@@ -89,7 +89,7 @@ pub record Dressing (x : yaml_encoding_t) (text : List ℕ) (rest : Rest) (c : C
 dress_run : (ls : List ℕ) (ws : List (Spoken false (indent ls))) (c e : Cursor) (some : Bool)
     → Moved ws c e → has_words ws ≡ some → AreCalm (all_bytes ws) → e.kept ≡ c.kept → (rest : Rest)
     → (e.bare ≡ false → e.white ≡ false → AllFit ws (bytes (rest e)))
-    → (x : yaml_encoding_t) (text : List ℕ) (o : Where) (T : List TokenBody → List TokenBody)
+    → (x : yaml_encoding_t) (text : List ℕ) (o : WalkState) (T : List TokenBody → List TokenBody)
     → NodeStage x text c o ls [] T → indent ls ≤ column_at text o.at
     → Left text o.at (all_bytes ws ++ bytes (rest e))
     → Dressing x text rest c some ls (λ bs. T (all_bodies ws bs))
@@ -138,7 +138,7 @@ pub dressed : (s : Settings) (o : Opening) → IsPretty s o → (a t : Option (L
     → IsWritableAnchor a → IsWritableTag t → (ls : List ℕ) (c : Cursor) (rest : Rest)
     → ((e : Cursor) → e.bare ≡ false → e.white ≡ false → begins_white (bytes (rest e)) ≡ true)
     → (m ≡ true → (e : Cursor) → e.bare ≡ false → e.white ≡ false → first (bytes (rest e)) ≡ 32)
-    → (x : yaml_encoding_t) (text : List ℕ) (w : Where) (T : List TokenBody → List TokenBody)
+    → (x : yaml_encoding_t) (text : List ℕ) (w : WalkState) (T : List TokenBody → List TokenBody)
     → NodeStage x text c w ls [] T → indent ls ≤ column_at text w.at
     → Left text w.at (bytes ((anchor_text a ▹
     (tag_text (context_of s o.directives) t ▹ when m (word (33 ∷ [])))) c rest))

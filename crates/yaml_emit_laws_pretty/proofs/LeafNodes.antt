@@ -28,14 +28,14 @@ use Rattle.yaml_emit_laws_text.specs.Walk.{Left, bytes, first}
 use Rattle.yaml_emit_laws_text.specs.Writable.{IsWritable}
 use Rattle.yaml_emit_laws_text.proofs.Steps.{letter_low, deep_bytes}
 use Rattle.yaml_scan_laws_texts.proofs.NamesRead.{anchor_is_read}
-use Rattle.yaml_scan_laws_levels.specs.Walks.{Where}
+use Rattle.yaml_scan_laws_levels.specs.Walks.{WalkState}
 use Rattle.yaml_emit_laws_scalars.specs.Stops.{begins_white}
 use Rattle.yaml_emit_laws_scalars.specs.StandsLaws.{PlainHasGap}
 use Rattle.yaml_emit_laws_scalars.specs.StylesLaws.{StylesAreAllowed}
 use Rattle.yaml_emit_laws_block.specs.Laws.{from_indicator, margin_round}
 use Rattle.yaml_emit_laws_pretty.specs.Bodies.{style_at, takes_mark, scalar_bodies, scalar_kept, node_bodies, node_kept}
 use Rattle.yaml_emit_laws_pretty.specs.Walk.{NodeStage, LinedUp, PlainIsWalked, SingleIsWalked}
-use Rattle.yaml_emit_laws_pretty.specs.Nodes.{Ending, NodeWalks, IsPretty, LeavesAreWalked, BlockScalarsAreWalked, block_spot, column_round, is_block}
+use Rattle.yaml_emit_laws_pretty.specs.Nodes.{Ending, NodeWalks, IsPretty, LeavesAreWalked, BlockScalarsAreWalked, block_position, column_round, is_block}
 use Rattle.yaml_emit_laws_pretty.proofs.Following.{line_bytes, line_white}
 use Rattle.yaml_emit_laws_pretty.proofs.Lining.{line_ends}
 use Rattle.yaml_emit_laws_pretty.proofs.NodeLines.{up_says, word_begins_white}
@@ -93,31 +93,31 @@ page_deep s least (Some n) = (omega (arith, least), omega (arith, least))
 abbrev marked : Context → Part → Scalar → Bool
 marked p q v = not (has (scalar_tag false v)) && takes_mark v.quoted (style_at p false q v)
 
-spot_style : (p : Context) (around : Option ℕ) (q : Part) (v : Scalar)
-    → style_of p (block_spot around q) v ≡ style_at p false q v
+position_style : (p : Context) (around : Option ℕ) (q : Part) (v : Scalar)
+    → style_of p (block_position around q) v ≡ style_at p false q v
 unfolding style_of
-spot_style p around q v = refl
+position_style p around q v = refl
 
 scalar_shape : (s : Settings) (o : Opening) → s.canonical ≡ false
     → (around : Option ℕ) (q : Part) (v : Scalar) (c : Cursor) (R : Rest)
-    → let p = context_of s o.directives in let at = block_spot around q in
+    → let p = context_of s o.directives in let at = block_position around q in
     let st = style_at p false q v in
     node_layout p at (scalar_node v) c R ≡ (anchor_text v.anchor ▹ (tag_text p (scalar_tag false v) ▹ when (marked p q v) (word (33 ∷ [])))) c (λ e. (checked (deeper s around) ▹ scalar_text (page_at s at) s.indent false st (chars v.value)) e R)
 unfolding node_layout scalar_layout
 scalar_shape s o pretty around q v c R =
     let p = context_of s o.directives in
-    let at = block_spot around q in
+    let at = block_position around q in
     let body : Style → Layout = λ t. checked (deeper s around) ▹ scalar_text (page_at s at) s.indent false t (chars v.value) in
     let all : Bool → Style → Layout = λ b t. properties_text p v.anchor (scalar_tag b v) ▹ (when (not (has (scalar_tag b v)) && (not v.quoted && not (is_plain t))) (word (33 ∷ [])) ▹ body t) in
-    ap (λ (b : Bool). all b (style_of p at v) c R) pretty ∙ ap (λ (t : Style). all false t c R) (spot_style p around q v)
+    ap (λ (b : Bool). all b (style_of p at v) c R) pretty ∙ ap (λ (t : Style). all false t c R) (position_style p around q v)
 
 -- ---- the text of a scalar, up to the line behind it
 
 -- behind its properties
 abbrev TextLines : Settings → Opening → Option ℕ → Part → Scalar → Style → Type 0
 TextLines s o around q v st = (ls : List ℕ) (c : Cursor) (m : ℕ) (after : Rest) → indent ls ≡ margin_round around → m ≤ column_round around → Ending s.line_break m (indent ls) after
-    → (x : yaml_encoding_t) (text : List ℕ) (w : Where) (T : List TokenBody → List TokenBody) → NodeStage x text c w ls [] T → indent ls ≤ column_at text w.at
-    → Left text w.at (bytes (scalar_text (page_at s (block_spot around q)) s.indent false st (chars v.value) c (λ e. line s.line_break m e after)))
+    → (x : yaml_encoding_t) (text : List ℕ) (w : WalkState) (T : List TokenBody → List TokenBody) → NodeStage x text c w ls [] T → indent ls ≤ column_at text w.at
+    → Left text w.at (bytes (scalar_text (page_at s (block_position around q)) s.indent false st (chars v.value) c (λ e. line s.line_break m e after)))
     → LinedUp x text after m (scalar_kept st v.value c.kept) ls (λ bs. T (scalar_bodies false st v.value bs))
 
 plain_lines : PlainIsWalked → StylesAreAllowed → (s : Settings) (o : Opening) → IsPretty s o
@@ -127,10 +127,10 @@ plain_lines : PlainIsWalked → StylesAreAllowed → (s : Settings) (o : Opening
 unfolding scalar_text
 plain_lines law styles s o pretty around q v u is ls c m after level up ending x text w T st right l =
     let p = context_of s o.directives in
-    let at = block_spot around q in
+    let at = block_position around q in
     let (deep, far) = page_deep s pretty.least around in
     line_ends s.line_break m x text c.kept ls (λ bs. T (scalar_bodies false style.Plain v.value bs)) after ending.feed
-    (plain_walks law (page_at s at) ls c v.value (λ e. line s.line_break m e after) u ((styles p at v).0 (spot_style p around q v ∙ is)) deep (omega (arith, level, far)) ending.follows x text w T st right l)
+    (plain_walks law (page_at s at) ls c v.value (λ e. line s.line_break m e after) u ((styles p at v).0 (position_style p around q v ∙ is)) deep (omega (arith, level, far)) ending.follows x text w T st right l)
 
 single_lines : SingleIsWalked → StylesAreAllowed → (s : Settings) (o : Opening) → IsPretty s o
     → (around : Option ℕ) (q : Part) (v : Scalar) → IsUtf8 v.value
@@ -139,17 +139,17 @@ single_lines : SingleIsWalked → StylesAreAllowed → (s : Settings) (o : Openi
 unfolding scalar_text
 single_lines law styles s o pretty around q v u is ls c m after level up ending x text w T st right l =
     let p = context_of s o.directives in
-    let at = block_spot around q in
+    let at = block_position around q in
     let (deep, far) = page_deep s pretty.least around in
     line_ends s.line_break m x text c.kept ls (λ bs. T (scalar_bodies false style.Single v.value bs)) after ending.feed
-    (law (page_at s at) ls c v.value (λ e. line s.line_break m e after) u ((styles p at v).1 (spot_style p around q v ∙ is)) deep ending.follows x text w T st right l)
+    (law (page_at s at) ls c v.value (λ e. line s.line_break m e after) u ((styles p at v).1 (position_style p around q v ∙ is)) deep ending.follows x text w T st right l)
 
 double_lines : QuotedIsReadBack → (s : Settings) (o : Opening) → IsPretty s o
     → (around : Option ℕ) (q : Part) (v : Scalar) → IsUtf8 v.value
     → TextLines s o around q v style.Double
 unfolding scalar_text
 double_lines law s o pretty around q v u ls c m after level up ending x text w T st right l =
-    let page = page_at s (block_spot around q) in
+    let page = page_at s (block_position around q) in
     let (deep, far) = page_deep s pretty.least around in
     let says = double_says law false (indent ls) page v.value u deep c in
     line_ends s.line_break m x text c.kept ls (λ bs. T (scalar_bodies false style.Double v.value bs)) after ending.feed
@@ -164,12 +164,12 @@ block_lines s o pretty around q v u style.Literal some is ls c m after level up 
     let p = context_of s o.directives in
     let least = pretty.least in
     let most = pretty.most in
-    block_line p around q v false (omega (arith, least)) (omega (arith, most)) u (spot_style p around q v ∙ is) ls c m after level up ending x text w T st right l
+    block_line p around q v false (omega (arith, least)) (omega (arith, most)) u (position_style p around q v ∙ is) ls c m after level up ending x text w T st right l
 block_lines s o pretty around q v u style.Folded some is ls c m after level up ending x text w T st right l =
     let p = context_of s o.directives in
     let least = pretty.least in
     let most = pretty.most in
-    block_line p around q v true (omega (arith, least)) (omega (arith, most)) u (spot_style p around q v ∙ is) ls c m after level up ending x text w T st right l
+    block_line p around q v true (omega (arith, least)) (omega (arith, most)) u (position_style p around q v ∙ is) ls c m after level up ending x text w T st right l
 block_lines s o pretty around q v u style.Plain some is ls c m after level up ending x text w T st right l = absurd (false≢true some)
 block_lines s o pretty around q v u style.Single some is ls c m after level up ending x text w T st right l = absurd (false≢true some)
 block_lines s o pretty around q v u style.Double some is ls c m after level up ending x text w T st right l = absurd (false≢true some)
@@ -216,7 +216,7 @@ scalar_walks gaps s o pretty around q bare v (anchor, tag, u) lines = record {
       let p = context_of s o.directives in
       let chosen = style_at p false q v in
       let n = deeper s around in
-      let page = page_at s (block_spot around q) in
+      let page = page_at s (block_position around q) in
       let R : Rest = λ e. line s.line_break m e after in
       let a : Layout = scalar_text page s.indent false chosen (chars v.value) in
       let body : Rest = λ e. (checked n ▹ a) e R in
@@ -234,7 +234,7 @@ scalar_walks gaps s o pretty around q bare v (anchor, tag, u) lines = record {
       let p = context_of s o.directives in
       let chosen = style_at p false q v in
       let n = deeper s around in
-      let page = page_at s (block_spot around q) in
+      let page = page_at s (block_position around q) in
       let R : Rest = λ e. line s.line_break m e after in
       let a : Layout = scalar_text page s.indent false chosen (chars v.value) in
       ap (λ ts. begins_white (bytes ts)) (scalar_shape s o pretty.pretty around q v c R)
@@ -245,7 +245,7 @@ scalar_walks gaps s o pretty around q bare v (anchor, tag, u) lines = record {
 
 alias_shape : (p : Context) (around : Option ℕ) (q : Part) (name : List ℕ)
     → is_simple_part q ≡ false → (c : Cursor) (R : Rest)
-    → node_layout p (block_spot around q) (alias_node name) c R ≡ word (42 ∷ name) c R
+    → node_layout p (block_position around q) (alias_node name) c R ≡ word (42 ∷ name) c R
 unfolding node_layout alias_layout
 alias_shape p around q name whole c R = ap (λ (b : Bool). (word (42 ∷ name) ▹ when b (char 32)) c R) whole
 

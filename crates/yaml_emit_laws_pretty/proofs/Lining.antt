@@ -17,7 +17,7 @@ use Rattle.yaml_emit_laws_text.proofs.MarksLemmas.{column_end, line_end}
 use Rattle.yaml_emit_laws_text.proofs.Places.{has_at, left_first, left_more}
 use Rattle.yaml_emit_laws_text.proofs.Steps.{left_letter, letter_low, behind_return}
 use Rattle.yaml_scan_laws_order.proofs.MarksForward.{line_at-grows}
-use Rattle.yaml_scan_laws_levels.specs.Walks.{Where}
+use Rattle.yaml_scan_laws_levels.specs.Walks.{WalkState}
 use Rattle.yaml_scan_laws_levels.proofs.Slotting.{letter_columns, feed_line}
 use Rattle.yaml_scan_laws_levels.proofs.Walking.{walk_white}
 use Rattle.yaml_emit_laws_pretty.specs.Walk.{NodeStage, NoFeed, Lined, LineIsWalked, LineEndsNode}
@@ -33,7 +33,7 @@ first_byte text p (b ∷ bs) l = left_first text p b bs l
 pub line_on_to : (text : List ℕ) (p q i : ℕ) → i ≤ line_at text p → p ≤ q → i ≤ line_at text q
 line_on_to text p q i low up = let more = line_at-grows text p q up in omega (arith, low, more)
 
-pub blanks_on : (n : ℕ) (x : yaml_encoding_t) (text : List ℕ) (c : Cursor) (o : Where)
+pub blanks_on : (n : ℕ) (x : yaml_encoding_t) (text : List ℕ) (c : Cursor) (o : WalkState)
     (ls more : List ℕ) (T : List TokenBody → List TokenBody) (rest : Rest)
     → NodeStage x text c o ls more T → c.bare ≡ true → (n ≡ 0 → c.white ≡ true)
     → Left text o.at (bytes (blanks n c rest)) → Lined x text rest (c.column + n) c.kept ls more T
@@ -46,13 +46,13 @@ blanks_on (suc n) x text c o ls more T rest s bare white l =
     let r = walk_white x text o [] ls more T (32 ∷ []) s.reads (has_at text o.at (32 ∷ []) (here, tt)) refl in
     let (now, column) = s.bare bare in
     let (next, line_same) = letter_columns text o.at 32 here (omega arith) (omega arith) in
-    let u : Where = record { at = o.at + 1; line = o.line; depth = o.depth; now = o.now || (false && o.broken); broken = o.broken } in
+    let u : WalkState = record { at = o.at + 1; line = o.line; depth = o.depth; now = o.now || (false && o.broken); broken = o.broken } in
     let t : NodeStage x text e u ls more T = record { reads = r; flat = s.flat; broken = s.broken; bare = λ b. (or_left o.now (false && o.broken) now, next ∙ ap (λ k. k + 1) column); line = line_on_to text o.at (o.at + 1) o.line s.line (omega arith) } in
     let all = blanks_on n x text e u ls more T rest t bare (λ z. refl) (left_more text o.at 32 _ m) in
     record { cursor = all.cursor; place = all.place; stage = all.stage; left = all.left; bare = all.bare; white = all.white; column = all.column ∙ omega arith; same = all.same }
 
 -- spaces stay on later lines
-blanks_later : (n : ℕ) (x : yaml_encoding_t) (text : List ℕ) (c : Cursor) (o : Where)
+blanks_later : (n : ℕ) (x : yaml_encoding_t) (text : List ℕ) (c : Cursor) (o : WalkState)
     (ls more : List ℕ) (T : List TokenBody → List TokenBody) (rest : Rest)
     (s : NodeStage x text c o ls more T) (bare : c.bare ≡ true) (white : n ≡ 0 → c.white ≡ true)
     (l : Left text o.at (bytes (blanks n c rest))) → o.line < line_at text o.at
@@ -75,7 +75,7 @@ first_blank (suc n) c m rest none bare white column e =
 -- ---- the break that is set
 
 record Broken (x : yaml_encoding_t) (text : List ℕ) (c : Cursor) (rest : Rest) (ls more : List ℕ) (T : List TokenBody → List TokenBody) : Type 0 where
-  place : Where
+  place : WalkState
   stage : NodeStage x text (line_start c) place ls more T
   left : Left text place.at (bytes (rest (line_start c)))
   later : place.line < line_at text place.at
@@ -88,10 +88,10 @@ return_ends_line : (text : List ℕ) (p : ℕ) → byte text p ≡ 13 → (byte 
     → ends_break text p ≡ true
 return_ends_line text p e f = ap (λ (b : ℕ). ends_of (byte text (p - 2)) (byte text (p - 1)) b (byte text (p + 1))) e ∙ alone_ends (byte text (p - 2)) (byte text (p - 1)) (byte text (p + 1)) f
 
-abbrev behind_white : Where → ℕ → Where
+abbrev behind_white : WalkState → ℕ → WalkState
 behind_white o n = record { at = o.at + n; line = o.line; depth = o.depth; now = o.now || (true && o.broken); broken = o.broken }
 
-break_on : (b : LineBreak) (x : yaml_encoding_t) (text : List ℕ) (c : Cursor) (o : Where)
+break_on : (b : LineBreak) (x : yaml_encoding_t) (text : List ℕ) (c : Cursor) (o : WalkState)
     (ls more : List ℕ) (T : List TokenBody → List TokenBody) (rest : Rest)
     → NodeStage x text c o ls more T → (first (bytes (rest (line_start c))) ≡ 10 → ⊥)
     → Left text o.at (bytes (new_line b c rest)) → Broken x text c rest ls more T

@@ -19,12 +19,12 @@ use Rattle.yaml_emit_laws_text.specs.Bodies.{anchor_bodies, tag_bodies}
 use Rattle.yaml_emit_laws_text.specs.Walk.{Left, bytes}
 use Rattle.yaml_emit_laws_text.specs.Writable.{IsWritableAnchor, IsWritableTag}
 use Rattle.yaml_emit_laws_text.proofs.Steps.{deep_bytes}
-use Rattle.yaml_scan_laws_levels.specs.Walks.{Where}
+use Rattle.yaml_scan_laws_levels.specs.Walks.{WalkState}
 use Rattle.yaml_emit_laws_scalars.specs.Stops.{begins_white}
 use Rattle.yaml_emit_laws_block.specs.Laws.{margin_round}
 use Rattle.yaml_emit_laws_pretty.specs.Bodies.{keeps, is_bare, is_flow_at, node_bodies, items_bodies, pairs_bodies, sequence_opens, sequence_closes, mapping_opens, mapping_closes, node_kept, items_kept, pairs_kept}
 use Rattle.yaml_emit_laws_pretty.specs.Walk.{NodeStage, LinedUp}
-use Rattle.yaml_emit_laws_pretty.specs.Nodes.{Ending, NodeWalks, IsPretty, PropertiesAreWalked, PartedBehind, block_spot, column_round, is_place}
+use Rattle.yaml_emit_laws_pretty.specs.Nodes.{Ending, NodeWalks, IsPretty, PropertiesAreWalked, PartedBehind, block_position, column_round, is_place}
 use Rattle.yaml_emit_laws_pretty.proofs.NodeLines.{line_begins_white, word_begins_white, up_says}
 use Rattle.yaml_emit_laws_pretty.proofs.NodeItems.{MoreItems, sequence_walks, loose_walks}
 use Rattle.yaml_emit_laws_pretty.proofs.NodePairs.{PairWalks, PairsWalk, mapping_walks}
@@ -35,7 +35,7 @@ use Rattle.yaml_emit_laws_scalars.proofs.NearKeys.{kept_writable}
 -- behind a collection's properties, if it has any
 record Opened (x : yaml_encoding_t) (text : List ℕ) (rest : Rest) (kept bare : Bool) (ls : List ℕ) (T : List TokenBody → List TokenBody) : Type 0 where
   cursor : Cursor
-  place : Where
+  place : WalkState
   stage : NodeStage x text cursor place ls [] T
   left : Left text place.at (bytes (rest cursor))
   right : indent ls ≤ column_at text place.at
@@ -45,7 +45,7 @@ record Opened (x : yaml_encoding_t) (text : List ℕ) (rest : Rest) (kept bare :
 opens_on : PropertiesAreWalked → (s : Settings) (d : Opening) → IsPretty s d
     → (a t : Option (List ℕ)) → IsWritableAnchor a → IsWritableTag t
     → (ls : List ℕ) (c : Cursor) (rest : Rest) → PartedBehind rest
-    → (x : yaml_encoding_t) (text : List ℕ) (o : Where) (T : List TokenBody → List TokenBody)
+    → (x : yaml_encoding_t) (text : List ℕ) (o : WalkState) (T : List TokenBody → List TokenBody)
     → NodeStage x text c o ls [] T → indent ls ≤ column_at text o.at
     → Left text o.at (bytes (properties_text (context_of s d.directives) a t c rest))
     → Opened x text rest c.kept (c.bare && is_bare a t) ls
@@ -70,14 +70,14 @@ properties_white p None (Some t) c rest white next = word_begins_white _ c rest 
 sequence_layout : (s : Settings) (ds : List TagDirective) (around : Option ℕ) (q : Part) (o : Start)
     (y : Node) (ys : Nodes) → s.canonical ≡ false
     → is_flow_at (context_of s ds) false o false ≡ false → (c : Cursor) (R : Rest)
-    → node_layout (context_of s ds) (block_spot around q) (sequence_node o (node y ys)) c R
+    → node_layout (context_of s ds) (block_position around q) (sequence_node o (node y ys)) c R
     ≡ properties_text (context_of s ds) o.anchor (start_tag false o) c
-    (λ e. indented (indent_of s (block_spot around q) true false)
+    (λ e. indented (indent_of s (block_position around q) true false)
     (λ n. checked n ▹ items_layout (context_of s ds) false n true (node y ys)) e R)
 unfolding node_layout
 sequence_layout s ds around q o y ys pretty block c R =
     let p = context_of s ds in
-    let at = block_spot around q in
+    let at = block_position around q in
     let body : Bool → Layout = λ b. when b (opener 91) ▹ indented (indent_of s at true b) (λ n. checked n ▹ items_layout p b n true (node y ys)) in
     ap (λ (t : Bool). (properties_text p o.anchor (start_tag t o) ▹ body (is_flow s at o false)) c R) pretty
     ∙ ap (λ (b : Bool). (properties_text p o.anchor (start_tag false o) ▹ body b) c R) block
@@ -85,14 +85,14 @@ sequence_layout s ds around q o y ys pretty block c R =
 mapping_layout : (s : Settings) (ds : List TagDirective) (around : Option ℕ) (q : Part) (o : Start)
     (k v : Node) (ps : Pairs) → s.canonical ≡ false
     → is_flow_at (context_of s ds) false o false ≡ false → (c : Cursor) (R : Rest)
-    → node_layout (context_of s ds) (block_spot around q) (mapping_node o (pair k v ps)) c R
+    → node_layout (context_of s ds) (block_position around q) (mapping_node o (pair k v ps)) c R
     ≡ properties_text (context_of s ds) o.anchor (start_tag false o) c
-    (λ e. indented (indent_of s (block_spot around q) false false)
+    (λ e. indented (indent_of s (block_position around q) false false)
     (λ n. checked n ▹ pairs_layout (context_of s ds) false n true (pair k v ps)) e R)
 unfolding node_layout
 mapping_layout s ds around q o k v ps pretty block c R =
     let p = context_of s ds in
-    let at = block_spot around q in
+    let at = block_position around q in
     let body : Bool → Layout = λ b. when b (opener 123) ▹ indented (indent_of s at false b) (λ n. checked n ▹ pairs_layout p b n true (pair k v ps)) in
     ap (λ (t : Bool). (properties_text p o.anchor (start_tag t o) ▹ body (is_flow s at o false)) c R) pretty
     ∙ ap (λ (b : Bool). (properties_text p o.anchor (start_tag false o) ▹ body b) c R) block
@@ -139,7 +139,7 @@ pub record ItemsWalk (p : Context) (y : Node) (ys : Nodes) : Type 0 where
 -- by whether it keeps the indentation round it
 items_on : (p : Context) (around : Option ℕ) (q : Part) (loose : Bool) (y : Node) (ys : Nodes)
     → 1 < p.settings.indent → is_place around q ≡ true → ItemsWalk p y ys
-    → (x : yaml_encoding_t) (text : List ℕ) (c : Cursor) (o : Where) (ls : List ℕ) (m : ℕ)
+    → (x : yaml_encoding_t) (text : List ℕ) (c : Cursor) (o : WalkState) (ls : List ℕ) (m : ℕ)
     (after : Rest) (T : List TokenBody → List TokenBody)
     → NodeStage x text c o ls [] T → indent ls ≡ margin_round around → m ≤ column_round around
     → Ending p.settings.line_break m (indent ls) after → (is_of_mapping q && not c.bare) ≡ loose
@@ -173,7 +173,7 @@ block_sequence law s d pretty around q bare place o y ys good fine block walk = 
       let p = context_of s d.directives in
       let R : Rest = λ e. line s.line_break m e after in
       let tag = start_tag false o in
-      let body : Rest = λ e. indented (indent_of s (block_spot around q) true false) (λ n. checked n ▹ items_layout p false n true (node y ys)) e R in
+      let body : Rest = λ e. indented (indent_of s (block_position around q) true false) (λ n. checked n ▹ items_layout p false n true (node y ys)) e R in
       let l1 = subst (λ t. Left text w.at (bytes t)) (sequence_layout s d.directives around q o y ys pretty.pretty block c R) l in
       let h = opens_on law s d pretty o.anchor tag good (kept_writable (false || not o.implicit) o.tag fine) ls c body (λ e b white. inside_white p around q y ys e m after white) x text w T st right l1 in
       let e = h.cursor in
@@ -190,12 +190,12 @@ block_sequence law s d pretty around q bare place o y ys good fine block walk = 
       let p = context_of s d.directives in
       let R : Rest = λ e. line s.line_break m e after in
       ap (λ t. begins_white (bytes t)) (sequence_layout s d.directives around q o y ys pretty.pretty block c R)
-      ∙ properties_white p o.anchor (start_tag false o) c (λ e. indented (indent_of s (block_spot around q) true false) (λ n. checked n ▹ items_layout p false n true (node y ys)) e R) white (inside_white p around q y ys c m after white);
+      ∙ properties_white p o.anchor (start_tag false o) c (λ e. indented (indent_of s (block_position around q) true false) (λ n. checked n ▹ items_layout p false n true (node y ys)) e R) white (inside_white p around q y ys c m after white);
 }
   where
     inside_white : (p : Context) (around : Option ℕ) (q : Part) (y : Node) (ys : Nodes) (e : Cursor)
         (m : ℕ) (after : Rest) → e.white ≡ false
-        → begins_white (bytes (indented (indent_of p.settings (block_spot around q) true false)
+        → begins_white (bytes (indented (indent_of p.settings (block_position around q) true false)
         (λ n. checked n ▹ items_layout p false n true (node y ys)) e
         (λ i. line p.settings.line_break m i after))) ≡ true
     inside_white p around q y ys e m after white =
@@ -212,7 +212,7 @@ pub record BothWalk (p : Context) (k v : Node) (ps : Pairs) : Type 0 where
 
 pairs_on : (p : Context) (around : Option ℕ) (k v : Node) (ps : Pairs) → 1 < p.settings.indent
     → BothWalk p k v ps
-    → (x : yaml_encoding_t) (text : List ℕ) (c : Cursor) (o : Where) (ls : List ℕ) (m : ℕ)
+    → (x : yaml_encoding_t) (text : List ℕ) (c : Cursor) (o : WalkState) (ls : List ℕ) (m : ℕ)
     (after : Rest) (T : List TokenBody → List TokenBody)
     → NodeStage x text c o ls [] T → indent ls ≡ margin_round around → m ≤ column_round around
     → Ending p.settings.line_break m (indent ls) after
@@ -239,7 +239,7 @@ block_mapping law s d pretty around q bare o k v ps good fine block walk = recor
       let R : Rest = λ e. line s.line_break m e after in
       let tag = start_tag false o in
       let n = block_indent_in s around false in
-      let body : Rest = λ e. indented (indent_of s (block_spot around q) false false) (λ n. checked n ▹ pairs_layout p false n true (pair k v ps)) e R in
+      let body : Rest = λ e. indented (indent_of s (block_position around q) false false) (λ n. checked n ▹ pairs_layout p false n true (pair k v ps)) e R in
       let l1 = subst (λ t. Left text w.at (bytes t)) (mapping_layout s d.directives around q o k v ps pretty.pretty block c R) l in
       let h = opens_on law s d pretty o.anchor tag good (kept_writable (false || not o.implicit) o.tag fine) ls c body (λ e b white. inside_white p around q k v ps e m after white) x text w T st right l1 in
       let e = h.cursor in
@@ -253,12 +253,12 @@ block_mapping law s d pretty around q bare o k v ps good fine block walk = recor
       let p = context_of s d.directives in
       let R : Rest = λ e. line s.line_break m e after in
       ap (λ t. begins_white (bytes t)) (mapping_layout s d.directives around q o k v ps pretty.pretty block c R)
-      ∙ properties_white p o.anchor (start_tag false o) c (λ e. indented (indent_of s (block_spot around q) false false) (λ n. checked n ▹ pairs_layout p false n true (pair k v ps)) e R) white (inside_white p around q k v ps c m after white);
+      ∙ properties_white p o.anchor (start_tag false o) c (λ e. indented (indent_of s (block_position around q) false false) (λ n. checked n ▹ pairs_layout p false n true (pair k v ps)) e R) white (inside_white p around q k v ps c m after white);
 }
   where
     inside_white : (p : Context) (around : Option ℕ) (q : Part) (k v : Node) (ps : Pairs)
         (e : Cursor) (m : ℕ) (after : Rest) → e.white ≡ false
-        → begins_white (bytes (indented (indent_of p.settings (block_spot around q) false false)
+        → begins_white (bytes (indented (indent_of p.settings (block_position around q) false false)
         (λ n. checked n ▹ pairs_layout p false n true (pair k v ps)) e
         (λ i. line p.settings.line_break m i after))) ≡ true
     inside_white p around q k v ps e m after white =

@@ -10,11 +10,11 @@ use Rattle.yaml_emit_laws_text.specs.emit_layout.emit_text.declared.Cursor.{Curs
 use Rattle.yaml_emit_laws_text.specs.emit_layout.emit_text.Layout.{Rest, line, indicator}
 use Rattle.yaml_emit_laws_text.specs.emit_layout.declared.level.Part.TheVariants as part
 use Rattle.yaml_emit_laws_text.specs.emit_layout.Content.{Node, Nodes, no_nodes, node}
-use Rattle.yaml_emit_laws_text.specs.emit_layout.Nodes.{Context, spot, node_layout, items_layout, before_item, closer}
+use Rattle.yaml_emit_laws_text.specs.emit_layout.Nodes.{Context, position, node_layout, items_layout, before_item, closer}
 use Rattle.yaml_emit_laws_text.specs.Walk.{Left, bytes}
 use Rattle.yaml_scan_laws_levels.specs.Fronts.{Rises}
 use Rattle.yaml_scan_laws_levels.specs.Tokens.{start_bodies}
-use Rattle.yaml_scan_laws_levels.specs.Walks.{Where}
+use Rattle.yaml_scan_laws_levels.specs.Walks.{WalkState}
 use Rattle.yaml_scan_laws_levels.proofs.Slotting.{level_opens}
 use Rattle.yaml_scan_laws_levels.proofs.Walking.{levels_part}
 use Rattle.yaml_emit_laws_scalars.specs.Stops.{begins_white}
@@ -34,7 +34,7 @@ items_column n m (node y ys) = n
 
 abbrev pub items_after : Context → ℕ → ℕ → Rest → Nodes → Rest
 items_after p n m after no_nodes = after
-items_after p n m after (node y ys) = λ d. indicator 45 d (λ h. node_layout p (spot false n part.Item) y h (λ k. items_layout p false n false ys k (λ e. line p.settings.line_break m e after)))
+items_after p n m after (node y ys) = λ d. indicator 45 d (λ h. node_layout p (position false n part.Item) y h (λ k. items_layout p false n false ys k (λ e. line p.settings.line_break m e after)))
 
 items_line : (p : Context) (n m : ℕ) (after : Rest) (xs : Nodes)
     → ◌≡◌ {A = Rest} (λ k. items_layout p false n false xs k
@@ -53,7 +53,7 @@ items_ending : (p : Context) (n m : ℕ) (after : Rest) (xs : Nodes)
     → Ending p.settings.line_break (items_column n m xs) (n + 1) (items_after p n m after xs)
 items_ending p n m after no_nodes e = e
 items_ending p n m after (node y ys) e =
-    let R : Rest = λ h. node_layout p (spot false n part.Item) y h (λ k. items_layout p false n false ys k (λ e. line p.settings.line_break m e after)) in
+    let R : Rest = λ h. node_layout p (position false n part.Item) y h (λ k. items_layout p false n false ys k (λ e. line p.settings.line_break m e after)) in
     shown_ends p.settings.line_break n (λ d. indicator 45 d R) (mark_shows Entry n R)
 
 -- ---- items
@@ -76,7 +76,7 @@ pub item_on : (p : Context) (n : ℕ) (y : Node) (xs : Nodes) → NodeWalks p (S
 unfolding items_kept items_bodies
 item_on p n y xs walk others x text kept now more new what m after T here low rises opens starts last up ending =
     let b = p.settings.line_break in
-    let at = spot false n part.Item in
+    let at = position false n part.Item in
     let next = items_column n m xs in
     let then = items_after p n m after xs in
     let R : Rest = λ h. node_layout p at y h (λ k. items_layout p false n false xs k (λ e. line b m e after)) in
@@ -105,14 +105,14 @@ more_item p n y xs walk others x text kept now m after T last up ending line =
 
 -- from the line of the first item on
 sequence_line : (p : Context) (n : ℕ) (y : Node) (xs : Nodes) (x : yaml_encoding_t) (text : List ℕ)
-    (c : Cursor) (o : Where) (ls : List ℕ) (m : ℕ) (after : Rest)
+    (c : Cursor) (o : WalkState) (ls : List ℕ) (m : ℕ) (after : Rest)
     (T : List TokenBody → List TokenBody) → NodeStage x text c o ls [] T
     → Left text o.at (bytes (items_layout p false n true (node y xs) c
     (λ e. line p.settings.line_break m e after)))
     → Lined x text (items_after p n m after (node y xs)) n c.kept ls [] T
 unfolding items_layout before_item
 sequence_line p n y xs x text c o ls m after T s l =
-    let R : Rest = λ h. node_layout p (spot false n part.Item) y h (λ k. items_layout p false n false xs k (λ e. line p.settings.line_break m e after)) in
+    let R : Rest = λ h. node_layout p (position false n part.Item) y h (λ k. items_layout p false n false xs k (λ e. line p.settings.line_break m e after)) in
     line_on p.settings.line_break n x text c o ls [] T (λ d. indicator 45 d R) s (shows_no_feed n (λ d. indicator 45 d R) (mark_shows Entry n R)) l
 
 pub none_rise : (b : ℕ) → Rises b []
@@ -122,7 +122,7 @@ none_rise b = tt
 -- one with a level of its own
 pub sequence_walks : (p : Context) (n : ℕ) (y : Node) (xs : Nodes)
     → NodeWalks p (Some n) part.Item true y → MoreItems p n xs
-    → (x : yaml_encoding_t) (text : List ℕ) (c : Cursor) (o : Where) (ls : List ℕ) (m : ℕ)
+    → (x : yaml_encoding_t) (text : List ℕ) (c : Cursor) (o : WalkState) (ls : List ℕ) (m : ℕ)
     (after : Rest) (T : List TokenBody → List TokenBody)
     → NodeStage x text c o ls [] T → indent ls < n + 1 → m ≤ n
     → Ending p.settings.line_break m (indent ls) after
@@ -142,7 +142,7 @@ sequence_walks p n y xs walk others x text c o ls m after T s low up ending l =
 -- one that keeps the indentation round it
 pub loose_walks : (p : Context) (n : ℕ) (y : Node) (xs : Nodes)
     → NodeWalks p (Some n) part.Item true y → MoreItems p n xs
-    → (x : yaml_encoding_t) (text : List ℕ) (c : Cursor) (o : Where) (ls : List ℕ) (m : ℕ)
+    → (x : yaml_encoding_t) (text : List ℕ) (c : Cursor) (o : WalkState) (ls : List ℕ) (m : ℕ)
     (after : Rest) (T : List TokenBody → List TokenBody)
     → NodeStage x text c o ls [] T → indent ls ≡ n + 1 → m ≤ n
     → Ending p.settings.line_break m (indent ls) after

@@ -12,11 +12,11 @@ use Rattle.yaml_emit_laws_text.specs.emit_layout.emit_text.declared.Cursor.{Curs
 use Rattle.yaml_emit_laws_text.specs.emit_layout.emit_text.Layout.{Rest, ◌▹◌, line, when, char, indicator}
 use Rattle.yaml_emit_laws_text.specs.emit_layout.declared.level.Part.TheVariants as part
 use Rattle.yaml_emit_laws_text.specs.emit_layout.Content.{Node, Pairs, no_pairs, pair}
-use Rattle.yaml_emit_laws_text.specs.emit_layout.Nodes.{Context, spot, is_simple, key_part, question, node_layout, pairs_layout, before_key, before_value, closer}
+use Rattle.yaml_emit_laws_text.specs.emit_layout.Nodes.{Context, position, is_simple, key_part, question, node_layout, pairs_layout, before_key, before_value, closer}
 use Rattle.yaml_emit_laws_text.specs.Walk.{Left, bytes}
 use Rattle.yaml_scan_laws_levels.specs.Fronts.{Rises}
 use Rattle.yaml_scan_laws_levels.specs.Tokens.{start_bodies}
-use Rattle.yaml_scan_laws_levels.specs.Walks.{Where}
+use Rattle.yaml_scan_laws_levels.specs.Walks.{WalkState}
 use Rattle.yaml_scan_laws_levels.proofs.Slotting.{level_opens}
 use Rattle.yaml_scan_laws_levels.proofs.Walking.{levels_part}
 use Rattle.yaml_emit_laws_scalars.specs.Stops.{begins_white}
@@ -33,8 +33,8 @@ use Rattle.yaml_emit_laws_pretty.proofs.NodeItems.{none_rise}
 
 -- a pair from its key on, up to the line behind the mapping
 abbrev pair_rest : Context → ℕ → ℕ → Rest → Node → Node → Pairs → Bool → Rest
-pair_rest p n m after k v ps simple = λ d. (when (not simple) (question false) ▹ (node_layout p (spot false n (key_part simple)) k ▹ (before_value p.settings false n simple
-    ▹ (node_layout p (spot false n part.Value) v ▹ pairs_layout p false n false ps)))) d (λ e. line p.settings.line_break m e after)
+pair_rest p n m after k v ps simple = λ d. (when (not simple) (question false) ▹ (node_layout p (position false n (key_part simple)) k ▹ (before_value p.settings false n simple
+    ▹ (node_layout p (position false n part.Value) v ▹ pairs_layout p false n false ps)))) d (λ e. line p.settings.line_break m e after)
 
 abbrev pub pairs_column : ℕ → ℕ → Pairs → ℕ
 pairs_column n m no_pairs = m
@@ -58,18 +58,18 @@ pairs_up n m (pair k v ps) up = omega arith
 
 -- what stands behind a pair's value
 abbrev value_rest : Context → ℕ → ℕ → Rest → Node → Pairs → Rest
-value_rest p n m after v ps = λ h. node_layout p (spot false n part.Value) v h (λ e. pairs_layout p false n false ps e (λ i. line p.settings.line_break m i after))
+value_rest p n m after v ps = λ h. node_layout p (position false n part.Value) v h (λ e. pairs_layout p false n false ps e (λ i. line p.settings.line_break m i after))
 
 -- with a simple key
 abbrev simple_rest : Context → ℕ → ℕ → Rest → Node → Node → Pairs → Rest
-simple_rest p n m after k v ps = λ d. (node_layout p (spot false n part.SimpleKey) k ▹ char 58) d (value_rest p n m after v ps)
+simple_rest p n m after k v ps = λ d. (node_layout p (position false n part.SimpleKey) k ▹ char 58) d (value_rest p n m after v ps)
 
 -- with another one
 abbrev answer_rest : Context → ℕ → ℕ → Rest → Node → Pairs → Rest
 answer_rest p n m after v ps = λ d. indicator 58 d (value_rest p n m after v ps)
 
 abbrev asked_rest : Context → ℕ → ℕ → Rest → Node → Node → Pairs → Rest
-asked_rest p n m after k v ps = λ h. node_layout p (spot false n part.Key) k h (λ e. line p.settings.line_break n e (answer_rest p n m after v ps))
+asked_rest p n m after k v ps = λ h. node_layout p (position false n part.Key) k h (λ e. line p.settings.line_break n e (answer_rest p n m after v ps))
 
 pair_simple : (p : Context) (n m : ℕ) (after : Rest) (k v : Node) (ps : Pairs) (b : Bool) → b ≡ true
     → ◌≡◌ {A = Rest} (pair_rest p n m after k v ps b) (simple_rest p n m after k v ps)
@@ -95,7 +95,7 @@ pub record PairWalks (p : Context) (n : ℕ) (k v : Node) : Type 0 where
 value_parted : (p : Context) (n m : ℕ) (after : Rest) (k v : Node) (ps : Pairs) → PairWalks p n k v
     → (e : Cursor) → e.white ≡ false → begins_white (bytes (value_rest p n m after v ps e)) ≡ true
 value_parted p n m after k v ps walk e white =
-    ap (λ (r : Rest). begins_white (bytes (node_layout p (spot false n part.Value) v e r))) (pairs_line p n m after ps) ∙ (walk.value false).white e (pairs_column n m ps) (pairs_after p n m after ps) white
+    ap (λ (r : Rest). begins_white (bytes (node_layout p (position false n part.Value) v e r))) (pairs_line p n m after ps) ∙ (walk.value false).white e (pairs_column n m ps) (pairs_after p n m after ps) white
 
 pair_shows : (p : Context) (n m : ℕ) (after : Rest) (k v : Node) (ps : Pairs) → PairWalks p n k v
     → ShowsNode n (pair_rest p n m after k v ps (is_simple p k))
@@ -120,7 +120,8 @@ pairs_ending p n m after (pair k v ps) (one, all) e = shown_ends p.settings.line
 -- a value up to the line behind it
 value_on : (p : Context) (n : ℕ) (k v : Node) (ps : Pairs) (bare : Bool) → PairWalks p n k v
     → PairsWalk p n ps
-    → (x : yaml_encoding_t) (text : List ℕ) (c : Cursor) (o : Where) (kept : Bool) (new : List ℕ)
+    → (x : yaml_encoding_t) (text : List ℕ) (c : Cursor) (o : WalkState) (kept : Bool)
+    (new : List ℕ)
     (m : ℕ) (after : Rest) (U : List TokenBody → List TokenBody)
     → NodeStage x text c o new [] U → c.bare ≡ bare → c.kept ≡ kept → indent new ≤ column_at text o.at
     → indent new ≡ n + 1 → m ≤ n → Ending p.settings.line_break m (n + 1) after
@@ -133,7 +134,7 @@ value_on p n k v ps bare walk all x text c o kept new m after U s is same right 
     let then = pairs_after p n m after ps in
     subst (λ t. LinedUp x text then next (node_kept p false part.Value v t) new (λ bs. U (node_bodies p false part.Value bare v bs))) same
     ((walk.value bare).walks new c next then is last (pairs_up n m ps up) (subst (λ i. Ending b next i then) (sym last) (pairs_ending p n m after ps all ending)) x text o U s right
-    (subst (λ (r : Rest). Left text o.at (bytes (node_layout p (spot false n part.Value) v c r))) (pairs_line p n m after ps) l))
+    (subst (λ (r : Rest). Left text o.at (bytes (node_layout p (position false n part.Value) v c r))) (pairs_line p n m after ps) l))
 
 -- ---- pairs
 
@@ -235,7 +236,7 @@ all_pairs p n (pair k v ps) (one, all) = pairs_more p n k v ps one all (all_pair
 -- ---- mappings
 
 mapping_line : (p : Context) (n : ℕ) (k v : Node) (ps : Pairs) → PairWalks p n k v
-    → (x : yaml_encoding_t) (text : List ℕ) (c : Cursor) (o : Where) (ls : List ℕ) (m : ℕ)
+    → (x : yaml_encoding_t) (text : List ℕ) (c : Cursor) (o : WalkState) (ls : List ℕ) (m : ℕ)
     (after : Rest) (T : List TokenBody → List TokenBody) → NodeStage x text c o ls [] T
     → Left text o.at (bytes (pairs_layout p false n true (pair k v ps) c
     (λ e. line p.settings.line_break m e after)))
@@ -247,7 +248,7 @@ mapping_line p n k v ps walk x text c o ls m after T s l =
 
 pub mapping_walks : (p : Context) (n : ℕ) (k v : Node) (ps : Pairs) → PairWalks p n k v
     → PairsWalk p n ps
-    → (x : yaml_encoding_t) (text : List ℕ) (c : Cursor) (o : Where) (ls : List ℕ) (m : ℕ)
+    → (x : yaml_encoding_t) (text : List ℕ) (c : Cursor) (o : WalkState) (ls : List ℕ) (m : ℕ)
     (after : Rest) (T : List TokenBody → List TokenBody)
     → NodeStage x text c o ls [] T → indent ls < n + 1 → m ≤ n
     → Ending p.settings.line_break m (indent ls) after

@@ -25,7 +25,7 @@ use Rattle.yaml_emit_laws_text.specs.scan_history.scan_scalars.Plain.{ends_at}
 use Rattle.yaml_emit_laws_text.specs.scan_history.scan_model.Classes.{is_bom}
 use Rattle.yaml_scan_laws_order.proofs.MarksForward.{line_at-grows}
 use Rattle.yaml_scan_laws_levels.specs.Steps.{Comes}
-use Rattle.yaml_scan_laws_levels.specs.Walks.{Where, LeaveClear, behind}
+use Rattle.yaml_scan_laws_levels.specs.Walks.{WalkState, LeaveClear, behind}
 use Rattle.yaml_scan_laws_levels.proofs.Slotting.{letter_columns}
 use Rattle.yaml_scan_laws_levels.proofs.Stepping.{words_leave}
 use Rattle.yaml_scan_laws_levels.proofs.Walking.{walk_white, walk_word}
@@ -49,7 +49,7 @@ walks_gap a B ls c rest w x text o T s right l =
           let here = left_first text o.at 32 _ m in
           let r = walk_white x text o [] ls [] T (32 ∷ []) s.reads (has_at text o.at (32 ∷ []) (here, tt)) refl in
           let (next, line_same) = letter_columns text o.at 32 here (omega arith) (omega arith) in
-          let u : Where = record { at = o.at + 1; line = o.line; depth = o.depth; now = o.now || (false && o.broken); broken = o.broken } in
+          let u : WalkState = record { at = o.at + 1; line = o.line; depth = o.depth; now = o.now || (false && o.broken); broken = o.broken } in
           let t : NodeStage x text d u ls [] T = record { reads = r; flat = s.flat; broken = s.broken; bare = λ b. let (now, column) = s.bare b in (or_left o.now (false && o.broken) now, next ∙ ap (λ k. k + 1) column); line = line_on_to text o.at (o.at + 1) o.line s.line (omega arith) } in
           w d x text u T t (omega (arith, next, right)) (left_more text o.at 32 _ m)
     ]

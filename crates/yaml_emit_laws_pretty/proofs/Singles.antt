@@ -17,7 +17,7 @@ use Rattle.yaml_emit_laws_text.specs.ReadBack.{between_single}
 use Rattle.yaml_emit_laws_text.specs.Walk.{bytes, first}
 use Rattle.yaml_scan_laws_order.proofs.MarksForward.{line_at-grows}
 use Rattle.yaml_scan_laws_levels.specs.Steps.{Comes}
-use Rattle.yaml_scan_laws_levels.specs.Walks.{Where, WalkReads, LeaveClear, behind}
+use Rattle.yaml_scan_laws_levels.specs.Walks.{WalkState, WalkReads, LeaveClear, behind}
 use Rattle.yaml_scan_laws_levels.proofs.Stepping.{words_leave}
 use Rattle.yaml_scan_laws_levels.proofs.Walking.{walk_word}
 use Rattle.yaml_emit_laws_scalars.specs.Stops.{begins_white}
@@ -55,7 +55,7 @@ quotes_walk stands words page ls value rest u may deep follows c x text o T s ri
       word = ap (λ n. word_at kinds.SingleQuoted false level text n) z ∙ (words false level text p value).1 e at.read;
       up = omega arith;
     } in
-    let u0 : Where = record { at = p; line = o.line; depth = 0; now = o.now; broken = o.broken } in
+    let u0 : WalkState = record { at = p; line = o.line; depth = 0; now = o.now; broken = o.broken } in
     let reads : WalkReads x text u0 [] ls [] T = subst (λ i. WalkReads x text (record { at = p; line = o.line; depth = i; now = o.now; broken = o.broken }) [] ls [] T) s.flat s.reads in
     let r = walk_word x text u0 [] ls T kinds.SingleQuoted [] w e false true reads tt comes refl (inr (subst (λ n. level ≤ column_at text n) (sym z) right)) (λ v. absurd (false≢true v)) (words_leave.all text 0 false w refl) in
     record {

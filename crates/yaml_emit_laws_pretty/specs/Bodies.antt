@@ -13,7 +13,7 @@ use Rattle.yaml_emit_laws_text.specs.emit_layout.emit_text.declared.Chomp.TheVar
 use Rattle.yaml_emit_laws_text.specs.emit_layout.emit_text.Scalars.{chomp}
 use Rattle.yaml_emit_laws_text.specs.emit_layout.declared.level.Part.{Part}
 use Rattle.yaml_emit_laws_text.specs.emit_layout.declared.level.Part.TheVariants as part
-use Rattle.yaml_emit_laws_text.specs.emit_layout.declared.level.Spot.{Spot}
+use Rattle.yaml_emit_laws_text.specs.emit_layout.declared.level.NodePosition.{NodePosition}
 use Rattle.yaml_emit_laws_text.specs.emit_layout.Content.{Scalar, Start, Opening, Document, Node, alias_node, scalar_node, sequence_node, mapping_node, Nodes, no_nodes, node, Pairs, no_pairs, pair}
 use Rattle.yaml_emit_laws_text.specs.emit_layout.Grammar.{has, scalar_tag, start_tag}
 use Rattle.yaml_emit_laws_text.specs.emit_layout.Nodes.{Context, context_of, style_of, is_plain, is_flow, is_simple, is_of_mapping, key_part, are_none, are_no_pairs, is_directed, is_marked}
@@ -22,8 +22,8 @@ use Rattle.yaml_emit_laws_text.specs.PrettyBodies.{comma_bodies, start_bodies}
 
 -- ---- what the layout decides, by whether a node stands in brackets, and its part there
 
--- a spot, its surroundings' indentation aside: no decision looks at it
-abbrev pub place : Bool → Part → Spot
+-- a position, its surroundings' indentation aside: no decision looks at it
+abbrev pub place : Bool → Part → NodePosition
 place flow q = record { around = None; flow = flow; part = q }
 
 abbrev pub style_at : Context → Bool → Part → Scalar → Style

@@ -9,10 +9,10 @@ use Rattle.yaml_emit_laws_text.specs.emit_layout.emit_text.declared.Settings.{Se
 use Rattle.yaml_emit_laws_text.specs.emit_layout.emit_text.Layout.{Layout, Rest, ◌▹◌, char}
 use Rattle.yaml_emit_laws_text.specs.emit_layout.declared.level.Part.TheVariants as part
 use Rattle.yaml_emit_laws_text.specs.emit_layout.Content.{Opening, Node}
-use Rattle.yaml_emit_laws_text.specs.emit_layout.Nodes.{Context, context_of, spot, is_simple, node_layout}
+use Rattle.yaml_emit_laws_text.specs.emit_layout.Nodes.{Context, context_of, position, is_simple, node_layout}
 use Rattle.yaml_emit_laws_text.specs.Walk.{Left, bytes}
 use Rattle.yaml_emit_laws_text.specs.Writable.{IsWritable}
-use Rattle.yaml_scan_laws_levels.specs.Walks.{Where, WalkReads, Outside}
+use Rattle.yaml_scan_laws_levels.specs.Walks.{WalkState, WalkReads, Outside}
 use Rattle.yaml_emit_laws_scalars.specs.Stops.{stops_plain_at}
 use Rattle.yaml_emit_laws_pretty.specs.Bodies.{node_bodies}
 use Rattle.yaml_emit_laws_pretty.specs.Walk.{no_comment}
@@ -20,7 +20,7 @@ use Rattle.yaml_emit_laws_pretty.specs.Nodes.{IsPretty, PartedBehind, Properties
 use Rattle.yaml_emit_laws_pretty.specs.Spoken.{ends_name}
 
 -- Content may stand there: each `?` whose `:` is to come stands further out, or it stands in the same brackets and no key may begin.
-abbrev pub IsClear : Where → List ℕ → Type 0
+abbrev pub IsClear : WalkState → List ℕ → Type 0
 IsClear o cs = Outside o.depth cs ⊎ ((ds : List ℕ) × (cs ≡ o.depth ∷ ds) × Outside o.depth ds
     × (o.now ≡ false))
 
@@ -28,7 +28,7 @@ IsClear o cs = Outside o.depth cs ⊎ ((ds : List ℕ) × (cs ≡ o.depth ∷ ds
 pub record GoesIn (x : yaml_encoding_t) (text : List ℕ) (rest : Rest) (kept : Bool) (d : ℕ)
     (cs ls : List ℕ) (T : List TokenBody → List TokenBody) : Type 0 where
   pub behind : Cursor
-  pub place : Where
+  pub place : WalkState
   pub reads : WalkReads x text place cs ls [] T
   pub deep : place.depth ≡ d
   pub now : place.now ≡ false
@@ -39,7 +39,7 @@ pub record GoesIn (x : yaml_encoding_t) (text : List ℕ) (rest : Rest) (kept : 
 
 -- Where a text goes on as the layout does and then as `rest`, in brackets, these tokens come.
 abbrev pub WalksIn : Layout → (List TokenBody → List TokenBody) → List ℕ → Cursor → Rest → Type 0
-WalksIn a B ls c rest = (x : yaml_encoding_t) (text : List ℕ) (o : Where) (cs : List ℕ)
+WalksIn a B ls c rest = (x : yaml_encoding_t) (text : List ℕ) (o : WalkState) (cs : List ℕ)
     (T : List TokenBody → List TokenBody) → WalkReads x text o cs ls [] T → nat_lt 0 o.depth ≡ true
     → IsClear o cs → Left text o.at (bytes (a c rest))
     → GoesIn x text rest c.kept o.depth cs ls (λ bs. T (B bs))
@@ -58,10 +58,10 @@ pub record FollowsIn (rest : Rest) : Type 0 where
 abbrev pub KeyWalksIn : Context → Node → Type 0
 KeyWalksIn p k = (n : ℕ) (ls : List ℕ) (c : Cursor) (rest : Rest) → indent ls ≤ n
     → PartedBehind rest
-    → (x : yaml_encoding_t) (text : List ℕ) (o : Where) (cs : List ℕ)
+    → (x : yaml_encoding_t) (text : List ℕ) (o : WalkState) (cs : List ℕ)
     (T : List TokenBody → List TokenBody) → WalkReads x text o cs ls [] T → nat_lt 0 o.depth ≡ true
     → o.now ≡ true → Outside o.depth cs
-    → Left text o.at (bytes ((node_layout p (spot true n part.SimpleKey) k ▹ char 58) c rest))
+    → Left text o.at (bytes ((node_layout p (position true n part.SimpleKey) k ▹ char 58) c rest))
     → GoesIn x text rest c.kept o.depth cs ls (λ bs. T (tokens.key
     ∷ node_bodies p true part.SimpleKey false k (tokens.value ∷ bs)))
 

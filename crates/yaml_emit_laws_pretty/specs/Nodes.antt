@@ -15,7 +15,7 @@ use Rattle.yaml_emit_laws_text.specs.emit_layout.emit_text.declared.Style.TheVar
 use Rattle.yaml_emit_laws_text.specs.emit_layout.emit_text.Layout.{Rest, ◌▹◌, line, char}
 use Rattle.yaml_emit_laws_text.specs.emit_layout.declared.level.Part.{Part}
 use Rattle.yaml_emit_laws_text.specs.emit_layout.declared.level.Part.TheVariants as part
-use Rattle.yaml_emit_laws_text.specs.emit_layout.declared.level.Spot.{Spot}
+use Rattle.yaml_emit_laws_text.specs.emit_layout.declared.level.NodePosition.{NodePosition}
 use Rattle.yaml_emit_laws_text.specs.emit_layout.Content.{Scalar, Opening, Node, alias_node, scalar_node, sequence_node, mapping_node}
 use Rattle.yaml_emit_laws_text.specs.emit_layout.Grammar.{has}
 use Rattle.yaml_emit_laws_text.specs.emit_layout.Nodes.{Context, context_of, is_simple, is_simple_part, is_of_mapping, are_none, are_no_pairs, node_layout, properties_text}
@@ -24,7 +24,7 @@ use Rattle.yaml_emit_laws_text.specs.Walk.{Left, bytes}
 use Rattle.yaml_emit_laws_text.specs.Writable.{IsWritable, IsWritableAnchor, IsWritableTag, IsWritableOpening}
 use Rattle.yaml_scan_laws_levels.specs.Fronts.{Rises}
 use Rattle.yaml_scan_laws_levels.specs.Tokens.{start_bodies}
-use Rattle.yaml_scan_laws_levels.specs.Walks.{Where}
+use Rattle.yaml_scan_laws_levels.specs.Walks.{WalkState}
 use Rattle.yaml_emit_laws_scalars.specs.Stops.{begins_white, begins_solid}
 use Rattle.yaml_emit_laws_block.specs.Laws.{margin_round}
 use Rattle.yaml_emit_laws_block.specs.Passed.{begins_white as begins_blank}
@@ -55,9 +55,9 @@ ShownEnds = (b : LineBreak) (n : ℕ) (after : Rest) → ShowsNode n after → E
 
 -- ---- nodes
 
--- a spot outside of brackets
-abbrev pub block_spot : Option ℕ → Part → Spot
-block_spot around q = record { around = around; flow = false; part = q }
+-- a position outside of brackets
+abbrev pub block_position : Option ℕ → Part → NodePosition
+block_position around q = record { around = around; flow = false; part = q }
 
 -- the innermost level's column, 0 round a root
 abbrev pub column_round : Option ℕ → ℕ
@@ -76,7 +76,7 @@ pub record IsPretty (s : Settings) (d : Opening) : Type 0 where
   pub most : s.indent ≤ 9
   pub fine : IsWritableOpening d
 
--- A node at a spot of a block, up to the line behind it, whose column isn't right of the innermost level: where a text goes on with the
+-- A node at a position of a block, up to the line behind it, whose column isn't right of the innermost level: where a text goes on with the
 -- node and then with that line and `after`, right of the innermost level or at it, the node's tokens come. It begins with white, where
 -- the cursor isn't behind white.
 pub record NodeWalks (p : Context) (around : Option ℕ) (q : Part) (bare : Bool) (y : Node)
@@ -84,17 +84,17 @@ pub record NodeWalks (p : Context) (around : Option ℕ) (q : Part) (bare : Bool
   pub walks : (ls : List ℕ) (c : Cursor) (m : ℕ) (after : Rest) → c.bare ≡ bare
       → indent ls ≡ margin_round around → m ≤ column_round around
       → Ending p.settings.line_break m (indent ls) after
-      → (x : yaml_encoding_t) (text : List ℕ) (o : Where) (T : List TokenBody → List TokenBody)
+      → (x : yaml_encoding_t) (text : List ℕ) (o : WalkState) (T : List TokenBody → List TokenBody)
       → NodeStage x text c o ls [] T → indent ls ≤ column_at text o.at
-      → Left text o.at (bytes (node_layout p (block_spot around q) y c
+      → Left text o.at (bytes (node_layout p (block_position around q) y c
       (λ e. line p.settings.line_break m e after)))
       → LinedUp x text after m (node_kept p false q y c.kept) ls
       (λ bs. T (node_bodies p false q bare y bs))
   pub white : (c : Cursor) (m : ℕ) (after : Rest) → c.white ≡ false
-      → begins_white (bytes (node_layout p (block_spot around q) y c
+      → begins_white (bytes (node_layout p (block_position around q) y c
       (λ e. line p.settings.line_break m e after))) ≡ true
 
--- All nodes that may be written are walked so, at each spot of a block that isn't a simple key's.
+-- All nodes that may be written are walked so, at each position of a block that isn't a simple key's.
 abbrev pub NodesAreWalked : Type 0
 NodesAreWalked = (s : Settings) (d : Opening) → IsPretty s d → (y : Node) → IsWritable y
     → (around : Option ℕ) (q : Part) (bare : Bool) → is_place around q ≡ true
@@ -153,7 +153,7 @@ BracketsAreWalked = (s : Settings) (d : Opening) → IsPretty s d → (y : Node)
 pub record Dressed (x : yaml_encoding_t) (text : List ℕ) (rest : Rest) (kept : Bool) (ls : List ℕ)
     (T : List TokenBody → List TokenBody) : Type 0 where
   pub cursor : Cursor
-  pub place : Where
+  pub place : WalkState
   pub stage : NodeStage x text cursor place ls [] T
   pub left : Left text place.at (bytes (rest cursor))
   pub bare : cursor.bare ≡ false
@@ -171,7 +171,7 @@ abbrev pub PropertiesAreWalked : Type 0
 PropertiesAreWalked = (s : Settings) (d : Opening) → IsPretty s d → (anchor tag : Option (List ℕ))
     → IsWritableAnchor anchor → IsWritableTag tag → (has anchor || has tag) ≡ true
     → (ls : List ℕ) (c : Cursor) (rest : Rest) → PartedBehind rest
-    → (x : yaml_encoding_t) (text : List ℕ) (o : Where) (T : List TokenBody → List TokenBody)
+    → (x : yaml_encoding_t) (text : List ℕ) (o : WalkState) (T : List TokenBody → List TokenBody)
     → NodeStage x text c o ls [] T → indent ls ≤ column_at text o.at
     → Left text o.at (bytes (properties_text (context_of s d.directives) anchor tag c rest))
     → Dressed x text rest c.kept ls
@@ -184,14 +184,16 @@ PropertiesAreWalked = (s : Settings) (d : Opening) → IsPretty s d → (anchor 
 pub record KeyWalks (p : Context) (k : Node) : Type 0 where
   pub walks : (x : yaml_encoding_t) (text : List ℕ) (n : ℕ) (kept : Bool) (ls more new : List ℕ)
       (what : Opens) (T : List TokenBody → List TokenBody) (rest : Rest)
-      → Lined x text (λ e. (node_layout p (block_spot (Some n) part.SimpleKey) k ▹ char 58) e rest)
+      → Lined x text
+      (λ e. (node_layout p (block_position (Some n) part.SimpleKey) k ▹ char 58) e rest)
       n kept ls more T
       → indent ls ≤ n + 1 → Rises (n + 1) more → opened true (n + 1) ls ≡ new
       → start_of 0 (n + 1) ls opening.Mapping ≡ what → PartedBehind rest
       → Keyed x text rest n kept new (λ bs. T (start_bodies what (tokens.key
       ∷ node_bodies p false part.SimpleKey false k (tokens.value ∷ bs))))
   pub shows : (n : ℕ) (rest : Rest) → PartedBehind rest
-      → ShowsNode n (λ e. (node_layout p (block_spot (Some n) part.SimpleKey) k ▹ char 58) e rest)
+      → ShowsNode n
+      (λ e. (node_layout p (block_position (Some n) part.SimpleKey) k ▹ char 58) e rest)
   pub same : (kept : Bool) → node_kept p false part.SimpleKey k kept ≡ kept
 
 -- All simple keys that may be written.

@@ -19,12 +19,13 @@ use Rattle.yaml_emit_laws_text.specs.emit_layout.emit_text.declared.Cursor.{Curs
 use Rattle.yaml_emit_laws_text.specs.emit_layout.emit_text.declared.LineBreak.{LineBreak}
 use Rattle.yaml_emit_laws_text.specs.emit_layout.emit_text.Layout.{Layout, Rest, line, indicator}
 use Rattle.yaml_emit_laws_text.specs.Walk.{Left, bytes, first}
-use Rattle.yaml_scan_laws_levels.specs.Walks.{Where, WalkReads}
+use Rattle.yaml_scan_laws_levels.specs.Walks.{WalkState, WalkReads}
 use Rattle.yaml_emit_laws_scalars.specs.Stops.{stops_plain_at, begins_white, is_gap_byte}
 
 -- The lexemes up to a cursor, with levels `ls` and beside them `more`, told T. Where the line is bare, a key may begin, and the cursor's
 -- column is the text's. The line from which keys may be looked for is that of the place or an earlier one.
-pub record NodeStage (x : yaml_encoding_t) (text : List ℕ) (c : Cursor) (o : Where) (ls more : List
+pub record NodeStage (x : yaml_encoding_t) (text : List ℕ) (c : Cursor) (o : WalkState)
+    (ls more : List
     ℕ)
     (T : List TokenBody → List TokenBody) : Type 0 where
   pub reads : WalkReads x text o [] ls more T
@@ -38,7 +39,7 @@ pub record GoesBehindNode (x : yaml_encoding_t) (text : List ℕ) (rest : Rest) 
     List ℕ)
     (T : List TokenBody → List TokenBody) : Type 0 where
   pub behind : Cursor
-  pub place : Where
+  pub place : WalkState
   pub more : List ℕ
   pub stage : NodeStage x text behind place ls more T
   pub left : Left text place.at (bytes (rest behind))
@@ -47,7 +48,7 @@ pub record GoesBehindNode (x : yaml_encoding_t) (text : List ℕ) (rest : Rest) 
 
 -- Where a text goes on as the layout does and then as `rest`, right of the innermost level or at it, these tokens come.
 abbrev pub Walks : Layout → (List TokenBody → List TokenBody) → List ℕ → Cursor → Rest → Type 0
-Walks a B ls c rest = (x : yaml_encoding_t) (text : List ℕ) (o : Where)
+Walks a B ls c rest = (x : yaml_encoding_t) (text : List ℕ) (o : WalkState)
     (T : List TokenBody → List TokenBody) → NodeStage x text c o ls [] T
     → indent ls ≤ column_at text o.at → Left text o.at (bytes (a c rest))
     → GoesBehindNode x text rest c.kept ls (λ bs. T (B bs))
@@ -73,7 +74,7 @@ NoFeed n rest = (e : Cursor) → e.bare ≡ true → e.white ≡ true → e.colu
 pub record Lined (x : yaml_encoding_t) (text : List ℕ) (rest : Rest) (n : ℕ) (kept : Bool)
     (ls more : List ℕ) (T : List TokenBody → List TokenBody) : Type 0 where
   pub cursor : Cursor
-  pub place : Where
+  pub place : WalkState
   pub stage : NodeStage x text cursor place ls more T
   pub left : Left text place.at (bytes (rest cursor))
   pub bare : cursor.bare ≡ true
@@ -84,7 +85,7 @@ pub record Lined (x : yaml_encoding_t) (text : List ℕ) (rest : Rest) (n : ℕ)
 -- A line leads there from every cursor, with every break: by a break and spaces, or by spaces alone, where the line is bare.
 abbrev pub LineIsWalked : Type 0
 LineIsWalked = (b : LineBreak) (n : ℕ) (x : yaml_encoding_t) (text : List ℕ) (c : Cursor)
-    (o : Where) (ls more : List ℕ) (T : List TokenBody → List TokenBody) (rest : Rest)
+    (o : WalkState) (ls more : List ℕ) (T : List TokenBody → List TokenBody) (rest : Rest)
     → NodeStage x text c o ls more T → NoFeed n rest → Left text o.at (bytes (line b n c rest))
     → Lined x text rest n c.kept ls more T
 
@@ -126,7 +127,7 @@ mark_level Question = opening.Mapping
 mark_level Answer = opening.Mapping
 
 -- a `:` stands on a later line than all that could be its key
-abbrev pub IsLone : BareIndicator → List ℕ → Where → Type 0
+abbrev pub IsLone : BareIndicator → List ℕ → WalkState → Type 0
 IsLone Entry text o = Unit {0}
 IsLone Question text o = Unit {0}
 IsLone Answer text o = o.line < line_at text o.at
@@ -140,7 +141,7 @@ Parted n rest = (e : Cursor) → e.bare ≡ true → e.white ≡ false → e.col
 pub record Entered (x : yaml_encoding_t) (text : List ℕ) (rest : Rest) (n : ℕ) (kept : Bool)
     (ls : List ℕ) (T : List TokenBody → List TokenBody) : Type 0 where
   pub cursor : Cursor
-  pub place : Where
+  pub place : WalkState
   pub stage : NodeStage x text cursor place ls [] T
   pub left : Left text place.at (bytes (rest cursor))
   pub bare : cursor.bare ≡ true

@@ -11,7 +11,7 @@ use yaml_emit_laws_text::{
 };
 use yaml_scan_laws_texts::{anchor_reads, lone_mark_reads};
 
-/// With simple keys and properties all collections in brackets are walked, at every spot of a block.
+/// With simple keys and properties all collections in brackets are walked, at every position of a block.
 pub fn brackets_follow()
     ensures { BracketsFollow }
 {

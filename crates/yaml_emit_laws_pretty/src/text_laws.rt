@@ -3,7 +3,7 @@
 ghost use Rattle.yaml_emit_laws_pretty.specs.DocLaws.{PrettyTextIsRead};
 ghost use Rattle.yaml_emit_laws_pretty.specs.Nodes.{NodesAreWalked};
 
-/// All nodes that may be written are walked, at every spot of a block.
+/// All nodes that may be written are walked, at every position of a block.
 pub fn nodes_are_walked()
     ensures { NodesAreWalked }
 {}

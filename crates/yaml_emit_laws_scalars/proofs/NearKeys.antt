@@ -27,7 +27,7 @@ use Rattle.yaml_emit_layout.specs.emit_tags.Tags.{suffix_keeps, keeps_byte, uri_
 use Rattle.yaml_emit_layout.specs.declared.level.Part.TheVariants as part
 use Rattle.yaml_emit_layout.specs.Content.{Scalar, Start, alias_node, scalar_node, sequence_node, mapping_node, no_nodes, node, no_pairs, pair, Opening}
 use Rattle.yaml_emit_layout.specs.Grammar.{has, kept_if, scalar_tag, start_tag}
-use Rattle.yaml_emit_layout.specs.Nodes.{Context, context_of, spot, deeper, checked, anchor_text, tag_text, properties_text, is_plain, style_of, mark_text, page_at, scalar_layout, alias_layout, text_size, written_size, properties_size, has_break, is_simple_scalar, is_simple_alias, is_simple_start, is_simple, is_flow, indent_of, indented, closer, node_layout, items_layout, pairs_layout}
+use Rattle.yaml_emit_layout.specs.Nodes.{Context, context_of, position, deeper, checked, anchor_text, tag_text, properties_text, is_plain, style_of, mark_text, page_at, scalar_layout, alias_layout, text_size, written_size, properties_size, has_break, is_simple_scalar, is_simple_alias, is_simple_start, is_simple, is_flow, indent_of, indented, closer, node_layout, items_layout, pairs_layout}
 use Rattle.yaml_emit_laws_text.specs.ReadBack.{is_one_line}
 use Rattle.yaml_emit_laws_text.specs.TagsLaws.{IsShaped, IsReadable, are_ascii, IsMarked}
 use Rattle.yaml_emit_laws_text.specs.Writable.{IsWritableName, IsWritableAnchor, IsWritableTag, IsWritableOpening}
@@ -196,7 +196,7 @@ taken_key a asked.YAML_LITERAL_SCALAR_STYLE untagged flow empty = block_key a.bl
 taken_key a asked.YAML_FOLDED_SCALAR_STYLE untagged flow empty = block_key a.block flow style.Folded
 
 style_key : (p : Context) (flow : Bool) (n : ℕ) (x : Scalar)
-    → is_key_style (style_of p (spot flow n part.SimpleKey) x) ≡ true
+    → is_key_style (style_of p (position flow n part.SimpleKey) x) ≡ true
 unfolding style_of
 style_key p flow n x = elim (cases_Bool p.settings.canonical) [ inl e ↦ rw e refl | inr e ↦ rw e (taken_key (allowed p.settings.unicode (chars x.value)) x.style _ flow (length x.value == 0)) ]
 
@@ -263,11 +263,11 @@ simply p x h =
 near_scalar : (s : Settings) (o : Opening) → IsWritableOpening o → (x : Scalar)
     → IsWritableAnchor x.anchor → IsWritableTag x.tag → IsUtf8 x.value
     → is_simple_scalar (context_of s o.directives) x ≡ true → (flow : Bool) (n : ℕ) (c : Cursor)
-    → StaysNear (scalar_layout (context_of s o.directives) (spot flow n part.SimpleKey) x) c 530
+    → StaysNear (scalar_layout (context_of s o.directives) (position flow n part.SimpleKey) x) c 530
 unfolding scalar_layout
 near_scalar s o good x a t u simple flow n c =
     let p = context_of s o.directives in
-    let at = spot flow n part.SimpleKey in
+    let at = position flow n part.SimpleKey in
     let k = simply p x simple in
     let tag = scalar_tag s.canonical x in
     let chosen = style_of p at x in
@@ -289,7 +289,7 @@ near_scalar s o good x a t u simple flow n c =
 
 near_alias : (p : Context) (name : List ℕ) → IsWritableName name → is_simple_alias p name ≡ true
     → (flow : Bool) (n : ℕ) (c : Cursor)
-    → StaysNear (alias_layout (spot flow n part.SimpleKey) name) c 530
+    → StaysNear (alias_layout (position flow n part.SimpleKey) name) c 530
 unfolding alias_layout is_simple_alias
 near_alias p name (some, are) simple flow n c =
     let few = at_most (length name) 128 (and_parts (not p.settings.canonical) (nat_le (length name) 128) simple).1 in
@@ -345,7 +345,7 @@ near_close s n x c sign =
     near_on (when (s.canonical && not true) (char 44 ▹ line s.line_break (n - s.indent))) (char x) c 0 1 one (near_sign_char x one.behind sign)
 
 empty_flow : (s : Settings) (flow : Bool) (n : ℕ) (q : Start)
-    → is_flow s (spot flow n part.SimpleKey) q true ≡ true
+    → is_flow s (position flow n part.SimpleKey) q true ≡ true
 empty_flow s flow n q = all s.canonical flow q.flow
   where
     all : (a b d : Bool) → (a || (b || (d || true))) ≡ true
@@ -378,13 +378,13 @@ keys_near s o good (alias_node name) w simple flow n c = near_alias (context_of 
 keys_near s o good (scalar_node x) (a, t, u) simple flow n c = near_scalar s o good x a t u simple flow n c
 keys_near s o good (sequence_node q no_nodes) (a, t, w) simple flow n c =
     let p = context_of s o.directives in
-    let at = spot flow n part.SimpleKey in
+    let at = position flow n part.SimpleKey in
     let is = empty_flow s flow n q in
     near_empty s o good q a t simple 91 93 (is_flow s at q true) is (indent_of s at true (is_flow s at q true)) (λ m. items_layout p (is_flow s at q true) m true no_nodes) (λ m d e. no_items p m d (is_flow s at q true) is) refl c
 keys_near s o good (sequence_node q (node x xs)) w simple flow n c = absurd (some_start (context_of s o.directives) q simple)
 keys_near s o good (mapping_node q no_pairs) (a, t, w) simple flow n c =
     let p = context_of s o.directives in
-    let at = spot flow n part.SimpleKey in
+    let at = position flow n part.SimpleKey in
     let is = empty_flow s flow n q in
     near_empty s o good q a t simple 123 125 (is_flow s at q true) is (indent_of s at false (is_flow s at q true)) (λ m. pairs_layout p (is_flow s at q true) m true no_pairs) (λ m d e. no_more p m d (is_flow s at q true) is) refl c
 keys_near s o good (mapping_node q (pair k v ps)) w simple flow n c = absurd (some_start (context_of s o.directives) q simple)

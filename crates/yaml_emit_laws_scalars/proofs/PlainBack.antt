@@ -15,7 +15,7 @@ use Rattle.yaml_emit_layout.specs.emit_text.Style.{last_or}
 use Rattle.yaml_emit_laws_text.specs.Spelling.{end_bytes, end_means, LineTurn, turn_bytes, QuotedPart, raw, doubled, named, numbered, fold, joint, spelling, meaning, IsSpelling}
 use Rattle.yaml_emit_laws_text.proofs.Chars.{encode_1}
 use Rattle.yaml_emit_laws_text.proofs.Values.{keeps, blanks_of, turns_read, read_as, all_read_as, read_kept as raw_kept, read_blank as raw_blank, spelling_value}
-use Rattle.yaml_emit_laws_scalars.proofs.Standing.{sealed, Read, read_blank, Stand, stand_behind, char_at, kept_sealed, positive}
+use Rattle.yaml_emit_laws_scalars.proofs.Standing.{sealed, Read, read_blank, InLine, stand_behind, char_at, kept_sealed, positive}
 use Rattle.yaml_emit_laws_scalars.proofs.GapWords.{Stops, gap_words}
 use Rattle.yaml_emit_laws_scalars.proofs.PlainParts.{Spells, Good, AreGood, firm, FirmNext, char_through, space_spot, spaced, stand_space, folded_at, behind_white, colon_next}
 use Rattle.yaml_emit_laws_text.proofs.Escapes.{space_encodes}
@@ -73,7 +73,7 @@ no_space x h e = true≢false (sym (ap (λ k. k == 32) e) ∙ h)
 
 pub parts_read : (flow : Bool) (level m : ℕ) (text : List ℕ) (p before : ℕ) (ps : List QuotedPart)
     (xs : List ℕ) → level ≤ suc m → Spells (suc m) ps xs → AreGood flow before xs
-    → (last_or before xs == 32) ≡ false → Stand level text p before
+    → (last_or before xs == 32) ≡ false → InLine level text p before
     → Has text p (spelling ps)
     → ReadsOn flow level text p (p + length (spelling ps)) (all_read_as ps)
 unfolding all_read_as spelling last_or
@@ -89,7 +89,7 @@ parts_read flow level m text p before (raw c ∷ ps) (x ∷ xs) deep (e, s) (g, 
           let all = subst (λ (bs : List ℕ). Has text p (bs ++ spelling ps)) bytes h in
           let x32 : x ≡ 32 = sym e ∙ is in
           let some = behind_white (suc m) ps xs s (subst (λ i. (last_or i xs == 32) ≡ false) x32 l) in
-          let more = parts_read flow level m text (p + 1) x ps xs deep s gs l (subst (λ i. Stand level text (p + 1) i) (sym x32) (stand_space level text p before all.0 st)) all.1 in
+          let more = parts_read flow level m text (p + 1) x ps xs deep s gs l (subst (λ i. InLine level text (p + 1) i) (sym x32) (stand_space level text p before all.0 st)) all.1 in
           let far : p + 1 + length (spelling ps) ≡ p + length (32 ∷ spelling ps) = omega arith in
           subst (λ (bs : List ℕ). ReadsOn flow level text p (p + length (bs ++ spelling ps)) (read_as (raw c) ++ all_read_as ps)) (sym bytes)
           (subst (λ (rs : List Piece). ReadsOn flow level text p (p + length (32 ∷ spelling ps)) (rs ++ all_read_as ps)) (sym pieces)
@@ -102,7 +102,7 @@ parts_read flow level m text p before (raw c ∷ ps) (x ∷ xs) deep (e, s) (g, 
           let next = next_firm flow level (suc m) text p before x ps xs g s gs rest in
           let one = char_through flow level text p before x (first xs) g space next st (has_front text p (encode_utf8 x) (spelling ps) here) in
           let q = p + length (encode_utf8 x) in
-          let st2 : Stand level text q x = record { column = one.stand.column; inner = one.stand.inner; white = λ w. absurd (no_zero 0 refl (one.stand.white w)) } in
+          let st2 : InLine level text q x = record { column = one.stand.column; inner = one.stand.inner; white = λ w. absurd (no_zero 0 refl (one.stand.white w)) } in
           let more = parts_read flow level m text q x ps xs deep s gs l st2 rest in
           let pieces : read_as (raw x) ≡ keeps (encode_utf8 x) = raw_kept x (rw (k, ne_eqb x 9 g.tab) refl) in
           subst (λ i. ReadsOn flow level text p (p + length (encode_utf8 i ++ spelling ps)) (read_as (raw i) ++ all_read_as ps)) (sym e)
@@ -124,7 +124,7 @@ parts_read flow level m text p before (fold t [] ∷ ps) (x ∷ xs) deep (e, s) 
     let q = p + length (end_bytes t.end) + n in
     let rest = subst (λ k. Has text k (spelling ps)) (sym far) (has_rest text p (end_bytes t.end ++ replicate n 32) (spelling ps) all) in
     let some = behind_white n ps xs s (subst (λ i. (last_or i xs == 32) ≡ false) x32 l) in
-    let more = parts_read flow level m text q x ps xs deep s gs l (subst (λ i. Stand level text q i) (sym x32) f.stand) rest in
+    let more = parts_read flow level m text q x ps xs deep s gs l (subst (λ i. InLine level text q i) (sym x32) f.stand) rest in
     subst (λ (bs : List ℕ). ReadsOn flow level text p (p + length (bs ++ spelling ps)) (read_as (fold t []) ++ all_read_as ps)) (sym bytes)
     (subst (λ (rs : List Piece). ReadsOn flow level text p (p + length ((end_bytes t.end ++ replicate n 32) ++ spelling ps)) (rs ++ all_read_as ps)) (sym pieces)
     (subst (λ k. ReadsOn flow level text p k ((Break (end_means t.end) ∷ blanks_of n) ++ all_read_as ps)) (ap (λ k. k + length (spelling ps)) far ∙ append_long p (end_bytes t.end ++ replicate n 32) (spelling ps))
@@ -197,7 +197,7 @@ scalar_read flow level m quote text p c ps xs place broke deep right s space (g,
     let st = stand_behind level text p 0 blank at.ends (column_start text p at.ends (ap (λ b. starts b) at.here ∙ at.starts)) in
     let tail = at.tail st in
     let q = p + length (encode_utf8 c) in
-    let st2 : Stand level text q c = record { column = tail.stand.column; inner = tail.stand.inner; white = λ w. absurd (no_zero 0 refl (tail.stand.white w)) } in
+    let st2 : InLine level text q c = record { column = tail.stand.column; inner = tail.stand.inner; white = λ w. absurd (no_zero 0 refl (tail.stand.white w)) } in
     let long = append_long p (encode_utf8 c) (spelling ps) in
     let end = p + length (encode_utf8 c ++ spelling ps) in
     let r2 = subst (λ k. Read flow level text k [] k place broke) (sym long) r in

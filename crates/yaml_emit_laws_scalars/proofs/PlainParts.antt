@@ -7,7 +7,7 @@ use Rattle.yaml_scan_history.specs.scan_model.Marks.{byte, break_of, break_width
 use Rattle.yaml_scan_history.specs.scan_model.Breaks.{break_value, feed_at}
 use Rattle.yaml_scan_history.specs.scan_scalars.Pieces.{Piece, Kept, Blank, Break}
 use Rattle.yaml_scan_history.specs.scan_scalars.Plain.{is_bracket, after_white, leads, Takes, spot_at, is_nothing}
-use Rattle.yaml_scan_history.proofs.PlainLemmas.{leads-blank, white-blank, spot_blank, spot_break, seat_break, blank_inside}
+use Rattle.yaml_scan_history.proofs.PlainLemmas.{leads-blank, white-blank, spot_blank, spot_break, lead_break, blank_inside}
 use Rattle.yaml_scan_history.proofs.MarksLemmas.{past_break, column_more}
 use Rattle.yaml_scan_history.proofs.HasLemmas.{Has, has_front, has_rest}
 use Rattle.yaml_emit_layout.specs.emit_text.Quoted.{first}
@@ -16,7 +16,7 @@ use Rattle.yaml_emit_laws_text.specs.Spelling.{LineEnd, feed, return, return_fee
 use Rattle.yaml_emit_laws_text.proofs.Chars.{encode_1, encode_2, encode_3, encode_4}
 use Rattle.yaml_emit_laws_text.proofs.Values.{keeps, blanks_of, read_as, all_read_as, read_kept as raw_kept, read_blank as raw_blank}
 use Rattle.yaml_emit_laws_text.proofs.Bytes.{calm_end, calm_break, calm_from}
-use Rattle.yaml_emit_laws_scalars.proofs.Standing.{Read, read_blank, read_break, Stand, column_on, Stays, Through, CharAt, Plainly, char_at, through_byte, through_both}
+use Rattle.yaml_emit_laws_scalars.proofs.Standing.{Read, read_blank, read_break, InLine, column_on, Stays, Through, CharAt, Plainly, char_at, through_byte, through_both}
 use Rattle.yaml_emit_laws_scalars.proofs.GapWords.{no_tab, space_blank}
 
 -- ---- what the parts say
@@ -123,7 +123,7 @@ colon_is false text p x f h = refl
 colon_is true text p x f h = ne_eqb (byte text p) 58 (λ g. true≢false (sym (ap (λ k. k == 58) (f.same 58 (omega arith) g)) ∙ h))
 
 pub stays_at : (flow : Bool) (level : ℕ) (text : List ℕ) (p before x next : ℕ) → Firm text p x
-    → Good flow before x next → FirmNext text p x → Stand level text p before → Stays flow text p
+    → Good flow before x next → FirmNext text p x → InLine level text p before → Stays flow text p
 stays_at flow level text p before x next f g n s = record {
   some = f.some g.some;
   hash = when_is (byte text p) 35 (after_white text p) (λ e. no_white (after_white text p) (λ w. g.hash (f.same 35 (omega arith) e) (s.white w)));
@@ -137,7 +137,7 @@ stays_at flow level text p before x next f g n s = record {
     no_white false h = refl
 
 pub char_through : (flow : Bool) (level : ℕ) (text : List ℕ) (p before x next : ℕ)
-    → Good flow before x next → x ≢ 32 → FirmNext text p x → Stand level text p before
+    → Good flow before x next → x ≢ 32 → FirmNext text p x → InLine level text p before
     → Has text p (encode_utf8 x)
     → Through flow level text p (keeps (encode_utf8 x)) (p + length (encode_utf8 x))
 char_through flow level text p before x next g space n s h =
@@ -178,7 +178,7 @@ further false m n level e h = refl
 further true m n level e h = grind (arith, nat_tests)
 
 pub stand_space : (level : ℕ) (text : List ℕ) (p before : ℕ) → byte text p ≡ 32
-    → Stand level text p before → Stand level text (p + 1) 32
+    → InLine level text p before → InLine level text (p + 1) 32
 stand_space level text p before h s =
     let d = spaced text p h in
     record {
@@ -244,7 +244,7 @@ pub record Folded (flow : Bool) (level : ℕ) (text : List ℕ) (p n : ℕ) (e :
   pub reads : (ps : List Piece) (f place : ℕ) (broke : Bool) → is_nothing ps ≡ false
       → Read flow level text (p + length (end_bytes e) + n) ps f place broke
       → Read flow level text p (Break (end_means e) ∷ (blanks_of n ++ ps)) f place broke
-  pub stand : Stand level text (p + length (end_bytes e) + n) 32
+  pub stand : InLine level text (p + length (end_bytes e) + n) 32
 
 some_blanks : (n : ℕ) (ps : List Piece) → is_nothing ps ≡ false
     → is_nothing (blanks_of n ++ ps) ≡ false
@@ -259,7 +259,7 @@ folded_at flow level text p m e good deep h =
     let a = end_at text p e (replicate m 32) good h in
     let some : 0 < break_width text p = let w = a.width in let s = a.some in omega (arith, w, s) in
     let past = past_break text p some in
-    let seat = seat_break text p some in
+    let seat = lead_break text p some in
     let q = p + length (end_bytes e) in
     let same : p + break_width text p ≡ q = ap (λ k. p + k) a.width in
     let blanks = has_rest text p (end_bytes e) (replicate n 32) h in

@@ -16,7 +16,7 @@ use Rattle.yaml_emit_layout.specs.emit_text.Style.{behind, is_indicator}
 use Rattle.yaml_emit_laws_text.specs.Spelling.{LineEnd, feed, return, return_feed, next_line, line_separator, paragraph_separator, end_bytes, LineTurn, turn_bytes, QuotedPart, raw, doubled, named, numbered, fold, joint, spelling}
 use Rattle.yaml_emit_laws_text.proofs.Chars.{encode_1, encode_2, encode_3, encode_4}
 use Rattle.yaml_emit_laws_text.proofs.Bytes.{calm_end, calm_from}
-use Rattle.yaml_emit_laws_scalars.proofs.Standing.{Stand, stand_behind, Stays, not_ended, char_at}
+use Rattle.yaml_emit_laws_scalars.proofs.Standing.{InLine, stand_behind, Stays, not_ended, char_at}
 use Rattle.yaml_emit_laws_scalars.proofs.GapWords.{Stops}
 use Rattle.yaml_emit_laws_scalars.proofs.PlainParts.{is_plain_end, Spells, AreGood, firm, when_is, colon_next}
 use Rattle.yaml_emit_laws_text.proofs.QuotedReading.{column_start}
@@ -38,7 +38,7 @@ no_stop : (flow : Bool) (level : ℕ) (text : List ℕ) (r b : ℕ) → (b ≡ 4
 no_stop flow level text r b which here stop next =
     let calm = calm_from b (some which) (small which) in
     let ends : ends_break text r ≡ false = rw here (calm_end _ _ b _ calm) in
-    let st : Stand level text (r + 1) 0 = stand_behind level text r 0 (ap (λ k. is_blank k) here ∙ no_blank which) ends (column_start text r ends (ap (λ k. nat_lt k 128 || nat_le 192 k) here ∙ low which)) in
+    let st : InLine level text (r + 1) 0 = stand_behind level text r 0 (ap (λ k. is_blank k) here ∙ no_blank which) ends (column_start text r ends (ap (λ k. nat_lt k 128 || nat_le 192 k) here ∙ low which)) in
     let k : Stays flow text (r + 1) = record {
       some = ap (λ k. k == 0) next ∙ none which 0 (λ e. omega (arith, e)) (λ e. omega (arith, e));
       hash = ap (λ k. k == 35 && after_white text (r + 1)) next ∙ ap (λ t. t && after_white text (r + 1)) (none which 35 (λ e. omega (arith, e)) (λ e. omega (arith, e)));

@@ -111,7 +111,7 @@ read_break flow level text p q bytes ps e place broke s more i some r =
 -- ---- where a byte stands
 
 -- inside a line, not left of the level, behind that character
-pub record Stand (level : ℕ) (text : List ℕ) (p before : ℕ) : Type 0 where
+pub record InLine (level : ℕ) (text : List ℕ) (p before : ℕ) : Type 0 where
   pub column : 0 < column_at text p
   pub inner : (leads text p && nat_lt (column_at text p) level) ≡ false
   pub white : after_white text p ≡ true → before ≡ 32
@@ -123,7 +123,7 @@ column_on text p h c = rw (add-one, h) (omega arith)
 
 -- behind a byte that isn't white
 pub stand_behind : (level : ℕ) (text : List ℕ) (p x : ℕ) → is_blank (byte text p) ≡ false
-    → ends_break text p ≡ false → 0 < column_at text (p + 1) → Stand level text (p + 1) x
+    → ends_break text p ≡ false → 0 < column_at text (p + 1) → InLine level text (p + 1) x
 stand_behind level text p x b e c = record {
   column = c;
   inner = ap (λ t. t && nat_lt (column_at text (p + 1)) level) (leads-text text p b e);
@@ -138,7 +138,8 @@ pub record Stays (flow : Bool) (text : List ℕ) (p : ℕ) : Type 0 where
   pub bracket : (flow && is_bracket (byte text p)) ≡ false
   pub odd : (flow && byte text p == 58) ≡ false
 
-pub not_ended : (flow : Bool) (level : ℕ) (text : List ℕ) (p before : ℕ) → Stand level text p before
+pub not_ended : (flow : Bool) (level : ℕ) (text : List ℕ) (p before : ℕ)
+    → InLine level text p before
     → Stays flow text p → ends_at flow level text p ≡ false
 unfolding ends_at
 not_ended true level text p before s b = rw (b.some, in_line text p s.column, b.hash, b.colon) b.bracket
@@ -150,7 +151,7 @@ no_odd true false c h = refl
 no_odd true true c h = absurd (true≢false h)
 
 pub kept_spot : (flow : Bool) (level : ℕ) (text : List ℕ) (p b before : ℕ)
-    → Stand level text p before → Stays flow text p → byte text p ≡ b → is_blank b ≡ false
+    → InLine level text p before → Stays flow text p → byte text p ≡ b → is_blank b ≡ false
     → break_width text p ≡ 0 → spot_at flow level text p ≡ Takes (Kept (b ∷ [])) (p + 1)
 kept_spot flow level text p b before s k e blank width =
     spot_kept flow level text p width (ap (λ x. is_blank x) e ∙ blank) (not_ended flow level text p before s k) (no_odd flow (byte text p == 58) _ k.odd)
@@ -161,7 +162,7 @@ kept_spot flow level text p b before s k e blank width =
 pub record Through (flow : Bool) (level : ℕ) (text : List ℕ) (p : ℕ) (qs : List Piece) (q : ℕ) : Type 0 where
   pub reads : (ps : List Piece) (e place : ℕ) (broke : Bool)
       → Read flow level text q ps e place broke → Read flow level text p (qs ++ ps) e place broke
-  pub stand : Stand level text q 0
+  pub stand : InLine level text q 0
 
 pub through_both : (flow : Bool) (level : ℕ) (text : List ℕ) (p q r : ℕ) (qs rs : List Piece)
     → Through flow level text p qs q → Through flow level text q rs r
@@ -175,7 +176,7 @@ pub through_at : (flow : Bool) (level : ℕ) (text : List ℕ) (p q r : ℕ) (qs
     → Through flow level text p qs q → Through flow level text p qs r
 through_at flow level text p q r qs e t = subst (λ k. Through flow level text p qs k) e t
 
-through_none : (flow : Bool) (level : ℕ) (text : List ℕ) (p : ℕ) → Stand level text p 0
+through_none : (flow : Bool) (level : ℕ) (text : List ℕ) (p : ℕ) → InLine level text p 0
     → Through flow level text p [] p
 through_none flow level text p s = record { reads = λ ps e place broke r. r; stand = s }
 
@@ -183,7 +184,7 @@ pub positive : (b : ℕ) → (b == 0) ≡ false → 0 < b
 positive b h = grind (arith, nat_tests)
 
 pub through_byte : (flow : Bool) (level : ℕ) (text : List ℕ) (p b before : ℕ)
-    → Stand level text p before → Stays flow text p → byte text p ≡ b → is_blank b ≡ false
+    → InLine level text p before → Stays flow text p → byte text p ≡ b → is_blank b ≡ false
     → ends_break text p ≡ false → break_width text p ≡ 0
     → Through flow level text p (Kept (b ∷ []) ∷ []) (p + 1)
 through_byte flow level text p b before s k e blank ends width = record {
@@ -206,7 +207,7 @@ high_stays flow text p h = record {
   odd = ap (λ t. flow && t) (ne_eqb (byte text p) 58 (λ e. omega arith)) ∙ and-false flow;
 }
 
-high : (flow : Bool) (level : ℕ) (text : List ℕ) (p b before : ℕ) → Stand level text p before
+high : (flow : Bool) (level : ℕ) (text : List ℕ) (p b before : ℕ) → InLine level text p before
     → byte text p ≡ b → 128 ≤ b → ends_break text p ≡ false → break_width text p ≡ 0
     → Through flow level text p (Kept (b ∷ []) ∷ []) (p + 1)
 high flow level text p b before s e h ends width = through_byte flow level text p b before s (high_stays flow text p (rw e h)) e (high_blank b h) ends width
@@ -222,7 +223,7 @@ pub record CharAt (flow : Bool) (level : ℕ) (text : List ℕ) (p c : ℕ) (byt
   pub starts : starts first ≡ true
   pub low : c < 128 → first ≡ c
   pub high : 128 ≤ c → 192 ≤ first
-  pub tail : Stand level text (p + 1) 0
+  pub tail : InLine level text (p + 1) 0
       → Through flow level text (p + 1) (keeps rest) (p + length bytes)
 
 -- A byte that begins several starts a character.

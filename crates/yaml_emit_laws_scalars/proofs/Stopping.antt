@@ -6,7 +6,7 @@ use Rattle.yaml_scan_history.specs.scan_model.Marks.{byte, break_of, break_width
 use Rattle.yaml_scan_history.specs.scan_model.Breaks.{is_document_indicator}
 use Rattle.yaml_scan_history.specs.scan_words.Written.{are_gap}
 use Rattle.yaml_scan_history.specs.scan_scalars.Plain.{is_bracket, after_white, leads, ends_at}
-use Rattle.yaml_scan_history.proofs.PlainLemmas.{seat_break}
+use Rattle.yaml_scan_history.proofs.PlainLemmas.{lead_break}
 use Rattle.yaml_scan_history.proofs.MarksLemmas.{past_break}
 use Rattle.yaml_scan_laws_texts.specs.PlainLaws.{ends_plain}
 use Rattle.yaml_emit_layout.specs.emit_text.declared.LineBreak.{LineBreak}
@@ -174,7 +174,7 @@ line_begins text p w =
     let some : 0 < break_width text p = omega (arith, w) in
     let same : p + break_width text p ≡ p + 1 = ap (λ k. p + k) w in
     let past = past_break text p some in
-    let seat = seat_break text p some in
+    let seat = lead_break text p some in
     (subst (λ q. column_at text q ≡ 0) same past.column, subst (λ q. leads text q ≡ true) same (sym seat.leading))
 
 at_space : (text : List ℕ) (p : ℕ) (at : Option ℕ) → byte text p ≡ 32 → At text p at

@@ -9,7 +9,7 @@ use Rattle.yaml_emit_layout.specs.emit_text.declared.Allowed.{Allowed}
 use Rattle.yaml_emit_layout.specs.emit_text.declared.Style.{Style}
 use Rattle.yaml_emit_layout.specs.emit_text.declared.Style.TheVariants as style
 use Rattle.yaml_emit_layout.specs.emit_text.Style.{allowed, taken, plain_fits, single_or, block_or, plain_or}
-use Rattle.yaml_emit_layout.specs.declared.level.Spot.{Spot}
+use Rattle.yaml_emit_layout.specs.declared.level.NodePosition.{NodePosition}
 use Rattle.yaml_emit_layout.specs.Content.{Scalar}
 use Rattle.yaml_emit_layout.specs.Grammar.{has, scalar_tag}
 use Rattle.yaml_emit_layout.specs.Nodes.{Context, is_simple_part, style_of, deeper}
@@ -55,7 +55,7 @@ taken_fits a asked.YAML_DOUBLE_QUOTED_SCALAR_STYLE untagged flow simple empty = 
 taken_fits a asked.YAML_LITERAL_SCALAR_STYLE untagged flow simple empty = block_is a flow simple style.Literal (λ h. h)
 taken_fits a asked.YAML_FOLDED_SCALAR_STYLE untagged flow simple empty = block_is a flow simple style.Folded (λ h. h)
 
-style_fits : (p : Context) (at : Spot) (x : Scalar)
+style_fits : (p : Context) (at : NodePosition) (x : Scalar)
     → Fits (allowed p.settings.unicode (chars x.value)) at.flow (is_simple_part at.part)
     (style_of p at x)
 unfolding style_of

@@ -8,7 +8,7 @@ use Rattle.yaml_emit_layout.specs.emit_text.declared.Settings.{Settings}
 use Rattle.yaml_emit_layout.specs.emit_text.Layout.{Layout, Rest}
 use Rattle.yaml_emit_layout.specs.declared.level.Part.TheVariants as part
 use Rattle.yaml_emit_layout.specs.Content.{Node, Opening}
-use Rattle.yaml_emit_layout.specs.Nodes.{context_of, spot, is_simple, node_layout}
+use Rattle.yaml_emit_layout.specs.Nodes.{context_of, position, is_simple, node_layout}
 use Rattle.yaml_emit_laws_text.specs.ReadBack.{is_one_line}
 use Rattle.yaml_emit_laws_text.specs.Walk.{bytes}
 use Rattle.yaml_emit_laws_text.specs.Writable.{IsWritable, IsWritableOpening}
@@ -26,7 +26,7 @@ pub record StaysNear (a : Layout) (c : Cursor) (n : ℕ) : Type 0 where
 abbrev pub SimpleKeysAreNear : Type 0
 SimpleKeysAreNear = (s : Settings) (o : Opening) → IsWritableOpening o → (k : Node) → IsWritable k
     → is_simple (context_of s o.directives) k ≡ true → (flow : Bool) (n : ℕ) (c : Cursor)
-    → StaysNear (node_layout (context_of s o.directives) (spot flow n part.SimpleKey) k) c 530
+    → StaysNear (node_layout (context_of s o.directives) (position flow n part.SimpleKey) k) c 530
 
 -- Where a text has what stays so near, its end is fresh from each of its places on.
 abbrev pub NearIsFresh : Type 0

@@ -16,7 +16,7 @@ use Rattle.yaml_emit_laws_text.specs.scan_history.Kinds.{depth_after, is_end}
 use Rattle.yaml_emit_laws_text.specs.scan_history.History.{reached, depth, key_allowed}
 use Rattle.yaml_emit_laws_text.specs.scan_history.Words.{WordText, kind_at, word_at}
 use Rattle.yaml_emit_laws_text.specs.scan_history.Remaining.{SpelledText}
-use Rattle.yaml_emit_laws_text.specs.scan_laws_texts.KeysTexts.{Word, lexemes, Stand, word_kinds, token_of, first_token}
+use Rattle.yaml_emit_laws_text.specs.scan_laws_texts.KeysTexts.{Word, lexemes, WordsStand, word_kinds, token_of, first_token}
 use Rattle.yaml_emit_laws_text.specs.emit_layout.emit_text.declared.Cursor.{Cursor}
 use Rattle.yaml_emit_laws_text.specs.emit_layout.emit_text.declared.Settings.{Settings}
 use Rattle.yaml_emit_laws_text.specs.emit_layout.emit_text.declared.LineBreak.{LineBreak}
@@ -24,7 +24,7 @@ use Rattle.yaml_emit_laws_text.specs.emit_layout.emit_text.declared.LineBreak.Th
 use Rattle.yaml_emit_laws_text.specs.emit_layout.emit_text.Text.{letter, encode, char_bytes}
 use Rattle.yaml_emit_laws_text.specs.emit_layout.emit_text.Layout.{Layout, Rest, ◌▹◌, keep, stay, when, letters, word, line, blanks, new_line, must_break, indent_to, start, nothing_more}
 use Rattle.yaml_emit_laws_text.specs.emit_layout.Content.{Opening, Document, Node}
-use Rattle.yaml_emit_laws_text.specs.emit_layout.Nodes.{is_directed, dots, dashes, root_spot, context_of, version_text, directives_text, start_layout, end_layout, stop_layout, documents_layout, node_layout}
+use Rattle.yaml_emit_laws_text.specs.emit_layout.Nodes.{is_directed, dots, dashes, root_position, context_of, version_text, directives_text, start_layout, end_layout, stop_layout, documents_layout, node_layout}
 use Rattle.yaml_emit_laws_text.specs.CanonicalLaws.{CanonicalWordsAreRead}
 use Rattle.yaml_emit_laws_text.specs.QuotedLaws.{QuotedIsReadBack}
 use Rattle.yaml_emit_laws_text.specs.Canonical.{put_if, node_kinds, version_kinds, directives_kinds, opening_kinds, documents_kinds}
@@ -254,7 +254,7 @@ opening_lands law s o fresh unended directed =
 
 root_lands : GapReads → AnchorReads → QuotedIsReadBack → MarkWalks → (s : Settings) → 0 < s.indent
     → (o : Opening) → TagWalks o.directives → (n : Node) → IsWritable n → (implicit : Bool)
-    → LinesWalk (node_layout (context_of (canonical_settings s) o.directives) root_spot n ▹
+    → LinesWalk (node_layout (context_of (canonical_settings s) o.directives) root_position n ▹
     end_layout (canonical_settings s) implicit)
     (λ ks. put_if (not implicit) kinds.DocumentEnd (node_kinds n ks))
     (λ bs. node_bodies o.directives n (end_bodies (not implicit) bs))
@@ -263,7 +263,7 @@ root_lands law names quoted mark s some o tags n good implicit rest kept text p 
     let z = canonical_settings s in
     let after : Rest = λ c. when (not implicit) (dots z) c rest in
     let k : Rest = λ c. line s.line_break 0 c after in
-    let g = nodes_read law names quoted mark s o.directives tags some n good root_spot refl 0 (at_line kept) k (line_parts s.line_break 0 (when (not implicit) (dots z)) rest) text p ws stage l in
+    let g = nodes_read law names quoted mark s o.directives tags some n good root_position refl 0 (at_line kept) k (line_parts s.line_break 0 (when (not implicit) (dots z)) rest) text p ws stage l in
     let h = line_lined s.line_break text g.behind g.place g.words 0 after g.bare g.stage g.left in
     let e = dots_if law z (not implicit) rest g.behind.kept text h.place g.words h.stage h.left in
     record { kept = e.kept; place = e.place; words = e.words; stage = e.stage; left = e.left; kinds = e.kinds ∙ ap (λ (ks : List Kind). put_if (not implicit) kinds.DocumentEnd ks) g.kinds; bodies = λ bs. e.bodies bs ∙ g.bodies (end_bodies (not implicit) bs) }
@@ -272,7 +272,7 @@ root_lands law names quoted mark s some o tags n good implicit rest kept text p 
 
 record Ended (text : List ℕ) (ks : List Kind) (ws : List Word) (B : List TokenBody) : Type 0 where
   words : List Word
-  stand : Stand text words
+  stand : WordsStand text words
   kinds : word_kinds words ≡ ks
   bodies : told words [] ≡ told ws B
 
@@ -300,7 +300,7 @@ end_begins text p h = sign_starts text p 0 h refl refl refl refl (λ c d. refl)
 ended : GapReads → (text : List ℕ) (c : Cursor) (p : ℕ) (ws : List Word) → WordStage text c p ws 0
     → Left text p (bytes [])
     → Ended text (kinds.StreamEnd ∷ word_kinds ws) ws (tokens.stream_end ∷ [])
-unfolding Stand
+unfolding WordsStand
 ended law text c p ws s l =
     let h = lexemes text ws in
     let zero_byte = end_zero text p l in
@@ -347,7 +347,7 @@ documents_end law names quoted mark s some opens (d ∷ ds) (right, root, good) 
     let z = canonical_settings s in
     let o = d.opening in
     let (directed, tags) = opens o right in
-    let whole = both_land (start_layout z fresh unended o) (node_layout (context_of z o.directives) root_spot d.root ▹ end_layout z d.implicit_end) (λ ks. opening_kinds unended o ks)
+    let whole = both_land (start_layout z fresh unended o) (node_layout (context_of z o.directives) root_position d.root ▹ end_layout z d.implicit_end) (λ ks. opening_kinds unended o ks)
     (λ ks. put_if (not d.implicit_end) kinds.DocumentEnd (node_kinds d.root ks)) (λ bs. opening_bodies unended o bs) (λ bs. node_bodies o.directives d.root (end_bodies (not d.implicit_end) bs))
     (opening_lands law s o fresh unended directed) (root_lands law names quoted mark s some o tags d.root root d.implicit_end) in
     let g = whole (λ c. documents_layout z false d.implicit_end ds c nothing_more) kept text p ws stage l in
@@ -374,7 +374,7 @@ has_all text before (x ∷ rest) e =
     length_one (y ∷ xs) x = let e = length_one xs x in omega arith
 
 pub first_stage : (text : List ℕ) → WordStage text start 0 [] 0
-unfolding Stand lexemes column_at
+unfolding WordsStand lexemes column_at
 first_stage text = record { stand = tt; gap = []; from = refl; stands = tt; blank = refl; deep = refl; column = λ z n. refl; plain = refl }
 
 told_reversed : (text : List ℕ) (ws : List Word) (bs : List TokenBody)

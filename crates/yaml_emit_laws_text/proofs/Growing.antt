@@ -9,7 +9,7 @@ use Rattle.yaml_scan_laws_texts.specs.scan_history.Remaining.{SpelledText, offli
 use Rattle.yaml_emit_layout.specs.scan_model.declared.yaml_version_directive_t.{yaml_version_directive_t}
 use Rattle.yaml_emit_layout.specs.parse_model.Events.{TagDirective}
 use Rattle.yaml_scan_laws_texts.specs.KeyFree.{asked_after, asked, fits, is_key_free}
-use Rattle.yaml_scan_laws_texts.specs.KeysTexts.{Word, Stand, word_kinds, token_of, first_token, ReachEnd}
+use Rattle.yaml_scan_laws_texts.specs.KeysTexts.{Word, WordsStand, word_kinds, token_of, first_token, ReachEnd}
 use Rattle.yaml_scan_laws_texts.proofs.TextLemmas.{words_read}
 use Rattle.yaml_emit_layout.specs.Content.{Scalar, Node, alias_node, scalar_node, sequence_node, mapping_node, Nodes, no_nodes, node, Pairs, no_pairs, pair, Opening, Document}
 use Rattle.yaml_emit_layout.specs.Grammar.{has, scalar_tag, start_tag}
@@ -181,7 +181,7 @@ reaches (w ∷ ws) ds e =
     let ks = tail_is w.kind kinds.StreamEnd (word_kinds ws) (documents_kinds false ds []) e in
     (ap (λ (x : Kind). is_end x) k, all_on ws ∙ ap (λ (x : List Kind). list_all (λ (k : Kind). not (is_end k)) x) ks ∙ (documents_grow false ds []).on refl)
 
-pub canonical_read : (s : SpelledText) (ds : List Document) (ws : List Word) → Stand s.text ws
+pub canonical_read : (s : SpelledText) (ds : List Document) (ws : List Word) → WordsStand s.text ws
     → word_kinds ws ≡ stream_kinds ds
     → offline s ≡ record {
       tokens = first_token s

@@ -17,11 +17,11 @@ use Rattle.yaml_emit_laws_text.specs.emit_layout.emit_text.Layout.{Layout, Rest,
 use Rattle.yaml_emit_laws_text.specs.emit_layout.emit_tags.Tags.{tag_spelling}
 use Rattle.yaml_emit_laws_text.specs.emit_layout.emit_text.Quoted.{double_quoted}
 use Rattle.yaml_emit_laws_text.specs.emit_layout.emit_text.Scalars.{scalar_text}
-use Rattle.yaml_emit_laws_text.specs.emit_layout.declared.level.Spot.{Spot}
+use Rattle.yaml_emit_laws_text.specs.emit_layout.declared.level.NodePosition.{NodePosition}
 use Rattle.yaml_emit_laws_text.specs.emit_layout.declared.level.Part.TheVariants as part
 use Rattle.yaml_emit_laws_text.specs.emit_layout.Content.{Opening, Scalar, Start, Node, alias_node, scalar_node, sequence_node, mapping_node, Nodes, no_nodes, node, Pairs, no_pairs, pair}
 use Rattle.yaml_emit_laws_text.specs.emit_layout.Grammar.{has}
-use Rattle.yaml_emit_laws_text.specs.emit_layout.Nodes.{Context, context_of, is_simple_part, spot, key_part, deeper, checked, MOST, anchor_text, tag_text, page_at, style_of, scalar_layout, alias_layout, is_simple, is_simple_scalar, is_simple_alias, is_simple_start, turned, before_item, before_key, before_value, closer, node_layout, items_layout, pairs_layout}
+use Rattle.yaml_emit_laws_text.specs.emit_layout.Nodes.{Context, context_of, is_simple_part, position, key_part, deeper, checked, MOST, anchor_text, tag_text, page_at, style_of, scalar_layout, alias_layout, is_simple, is_simple_scalar, is_simple_alias, is_simple_start, turned, before_item, before_key, before_value, closer, node_layout, items_layout, pairs_layout}
 use Rattle.yaml_emit_laws_text.specs.Canonical.{put_if, properties_kinds, is_marked, node_kinds, items_kinds, pairs_kinds}
 use Rattle.yaml_emit_laws_text.specs.Bodies.{anchor_bodies, tag_bodies, mark_bodies, node_bodies, items_bodies, pairs_bodies}
 use Rattle.yaml_emit_laws_text.specs.Walk.{bytes, Walks, first, parts, Parts}
@@ -109,7 +109,7 @@ marked_so false b = refl
 
 scalar_walks : GapReads → AnchorReads → QuotedIsReadBack → MarkWalks
     → (s : Settings) (ds : List TagDirective) → TagWalks ds → 0 < s.indent → (x : Scalar)
-    → IsWritable (scalar_node x) → (at : Spot)
+    → IsWritable (scalar_node x) → (at : NodePosition)
     → (d : ℕ) (c : Cursor) (rest : Rest)
     → Walks (scalar_layout (canonically s ds) at x) (node_kinds (scalar_node x))
     (node_bodies ds (scalar_node x)) d d c rest
@@ -130,7 +130,8 @@ scalar_walks law names quoted mark s ds tags some x (ga, gt, utf8) at d c rest =
 when_off : (b : Bool) (a : Layout) → b ≡ false → when b a ≡ stay
 when_off b a e = rw e refl
 
-alias_goes : GapReads → AnchorReads → (name : List ℕ) → IsWritable (alias_node name) → (at : Spot)
+alias_goes : GapReads → AnchorReads → (name : List ℕ) → IsWritable (alias_node name)
+    → (at : NodePosition)
     → is_simple_part at.part ≡ false → (d : ℕ) (c : Cursor) (rest : Rest) → Parts rest
     → Walks (alias_layout at name) (λ ks. kinds.Alias ∷ ks) (λ bs. tokens.alias name ∷ bs) d d c
     rest
@@ -162,7 +163,7 @@ more_parts : (p : Context) → p.settings.canonical ≡ true → (n : ℕ) (ns :
 unfolding items_layout before_item closer
 more_parts p canon n no_nodes rest =
     subst (λ (b : Bool). Parts (λ c. (when (b && true) (char 44 ▹ line p.settings.line_break (n - p.settings.indent)) ▹ char 93) c rest)) (sym canon) (comma_parts (line p.settings.line_break (n - p.settings.indent) ▹ char 93) rest)
-more_parts p canon n (node x xs) rest = comma_parts (turned p.settings n ▹ (node_layout p (spot true n part.Item) x ▹ items_layout p true n false xs)) rest
+more_parts p canon n (node x xs) rest = comma_parts (turned p.settings n ▹ (node_layout p (position true n part.Item) x ▹ items_layout p true n false xs)) rest
 
 more_pair_parts : (p : Context) → p.settings.canonical ≡ true → (n : ℕ) (ps : Pairs) (rest : Rest)
     → Parts (λ c. pairs_layout p true n false ps c rest)
@@ -171,7 +172,7 @@ more_pair_parts p canon n no_pairs rest =
     subst (λ (b : Bool). Parts (λ c. (when (b && true) (char 44 ▹ line p.settings.line_break (n - p.settings.indent)) ▹ char 125) c rest)) (sym canon) (comma_parts (line p.settings.line_break (n - p.settings.indent) ▹ char 125) rest)
 more_pair_parts p canon n (pair k v ps) rest =
     let simple = is_simple p k in
-    comma_parts (turned p.settings n ▹ (when (not simple) (word (63 ∷ [])) ▹ (node_layout p (spot true n (key_part simple)) k ▹ (before_value p.settings true n simple ▹ (node_layout p (spot true n part.Value) v ▹ pairs_layout p true n false ps))))) rest
+    comma_parts (turned p.settings n ▹ (when (not simple) (word (63 ∷ [])) ▹ (node_layout p (position true n (key_part simple)) k ▹ (before_value p.settings true n simple ▹ (node_layout p (position true n part.Value) v ▹ pairs_layout p true n false ps))))) rest
 
 -- ---- no key is simple
 
@@ -186,7 +187,7 @@ not_simple s ds (mapping_node q pairs) = refl
 -- ---- collections
 
 abbrev pub NodeWalks : Settings → List TagDirective → Node → Type 0
-NodeWalks s ds n = (at : Spot) → is_simple_part at.part ≡ false → (d : ℕ) (c : Cursor) (rest : Rest) → Parts rest → Walks (node_layout (canonically s ds) at n) (node_kinds n) (node_bodies ds n) d d c rest
+NodeWalks s ds n = (at : NodePosition) → is_simple_part at.part ≡ false → (d : ℕ) (c : Cursor) (rest : Rest) → Parts rest → Walks (node_layout (canonically s ds) at n) (node_kinds n) (node_bodies ds n) d d c rest
 
 abbrev FirstWalks : Settings → List TagDirective → Nodes → Type 0
 FirstWalks s ds ns = (n d : ℕ) (c : Cursor) (rest : Rest) → c.bare ≡ false
@@ -209,11 +210,11 @@ items_first : GapReads → (s : Settings) (ds : List TagDirective) (x : Node) (x
 unfolding items_layout before_item turned items_kinds items_bodies
 items_first law s ds x xs one more n d c rest bare =
     let p = canonically s ds in
-    walks_line s.line_break n (node_layout p (spot true n part.Item) x ▹ items_layout p true n false xs) (λ ks. kinds.FlowSequenceEnd ∷ items_kinds xs (kinds.FlowEntry ∷ node_kinds x ks))
+    walks_line s.line_break n (node_layout p (position true n part.Item) x ▹ items_layout p true n false xs) (λ ks. kinds.FlowSequenceEnd ∷ items_kinds xs (kinds.FlowEntry ∷ node_kinds x ks))
     (λ bs. node_bodies ds x (tokens.flow_entry ∷ items_bodies ds xs (tokens.flow_sequence_end ∷ bs))) (suc d) d c rest bare
-    (λ k. both (node_layout p (spot true n part.Item) x) (items_layout p true n false xs) (node_kinds x) (λ ks. kinds.FlowSequenceEnd ∷ items_kinds xs (kinds.FlowEntry ∷ ks)) (node_bodies ds x)
+    (λ k. both (node_layout p (position true n part.Item) x) (items_layout p true n false xs) (node_kinds x) (λ ks. kinds.FlowSequenceEnd ∷ items_kinds xs (kinds.FlowEntry ∷ ks)) (node_bodies ds x)
     (λ bs. tokens.flow_entry ∷ items_bodies ds xs (tokens.flow_sequence_end ∷ bs)) (suc d) (suc d) d k rest
-    (one (spot true n part.Item) refl (suc d) k (λ e. items_layout p true n false xs e rest) (more_parts p refl n xs rest)) (λ e off. more n d e rest off))
+    (one (position true n part.Item) refl (suc d) k (λ e. items_layout p true n false xs e rest) (more_parts p refl n xs rest)) (λ e off. more n d e rest off))
 
 items_more : GapReads → (s : Settings) (ds : List TagDirective) (x : Node) (xs : Nodes)
     → FirstWalks s ds (node x xs) → MoreWalks s ds (node x xs)
@@ -231,9 +232,9 @@ pairs_first law s ds k v ps key value more n d c rest bare =
     let p = canonically s ds in
     let b = s.line_break in
     let pair_end = pairs_layout p true n false ps in
-    let value_on = node_layout p (spot true n part.Value) v ▹ pair_end in
+    let value_on = node_layout p (position true n part.Value) v ▹ pair_end in
     let colon_on = word (58 ∷ []) ▹ value_on in
-    let key_on = node_layout p (spot true n part.Key) k ▹ (line b n ▹ colon_on) in
+    let key_on = node_layout p (position true n part.Key) k ▹ (line b n ▹ colon_on) in
     let KE : List Kind → List Kind = λ ks. kinds.FlowMappingEnd ∷ pairs_kinds ps (kinds.FlowEntry ∷ ks) in
     let BE : List TokenBody → List TokenBody = λ bs. tokens.flow_entry ∷ pairs_bodies ds ps (tokens.flow_mapping_end ∷ bs) in
     let KV : List Kind → List Kind = λ ks. KE (node_kinds v ks) in
@@ -243,17 +244,17 @@ pairs_first law s ds k v ps key value more n d c rest bare =
     let KK : List Kind → List Kind = λ ks. KC (node_kinds k ks) in
     let BK : List TokenBody → List TokenBody = λ bs. node_bodies ds k (BC bs) in
     let value_walk : (e : Cursor) → Walks value_on KV BV (suc d) d e rest =
-    λ e. both (node_layout p (spot true n part.Value) v) pair_end (node_kinds v) KE (node_bodies ds v) BE (suc d) (suc d) d e rest
-    (value (spot true n part.Value) refl (suc d) e (λ x. pair_end x rest) (more_pair_parts p refl n ps rest)) (λ x off. more n d x rest off) in
+    λ e. both (node_layout p (position true n part.Value) v) pair_end (node_kinds v) KE (node_bodies ds v) BE (suc d) (suc d) d e rest
+    (value (position true n part.Value) refl (suc d) e (λ x. pair_end x rest) (more_pair_parts p refl n ps rest)) (λ x off. more n d x rest off) in
     let colon_walk : (e : Cursor) → Walks colon_on KC BC (suc d) d e rest =
     λ e. both (word (58 ∷ [])) value_on (λ ks. kinds.ValueMark ∷ ks) KV (λ bs. tokens.value ∷ bs) BV (suc d) (suc d) d e rest (value_walks law d e (λ x. value_on x rest)) (λ x off. value_walk x) in
     let key_walk : (e : Cursor) → Walks key_on KK BK (suc d) d e rest =
-    λ e. both (node_layout p (spot true n part.Key) k) (line b n ▹ colon_on) (node_kinds k) KC (node_bodies ds k) BC (suc d) (suc d) d e rest
-    (key (spot true n part.Key) refl (suc d) e (λ x. (line b n ▹ colon_on) x rest) (line_parts b n colon_on rest)) (λ x off. walks_line b n colon_on KC BC (suc d) d x rest off colon_walk) in
+    λ e. both (node_layout p (position true n part.Key) k) (line b n ▹ colon_on) (node_kinds k) KC (node_bodies ds k) BC (suc d) (suc d) d e rest
+    (key (position true n part.Key) refl (suc d) e (λ x. (line b n ▹ colon_on) x rest) (line_parts b n colon_on rest)) (λ x off. walks_line b n colon_on KC BC (suc d) d x rest off colon_walk) in
     let question_walk : (e : Cursor) → Walks (word (63 ∷ []) ▹ key_on) (λ ks. KK (kinds.KeyMark ∷ ks)) (λ bs. tokens.key ∷ BK bs) (suc d) d e rest =
     λ e. both (word (63 ∷ [])) key_on (λ ks. kinds.KeyMark ∷ ks) KK (λ bs. tokens.key ∷ bs) BK (suc d) (suc d) d e rest (key_walks law d e (λ x. key_on x rest)) (λ x off. key_walk x) in
     let whole = walks_line b n (word (63 ∷ []) ▹ key_on) (λ ks. KK (kinds.KeyMark ∷ ks)) (λ bs. tokens.key ∷ BK bs) (suc d) d c rest bare question_walk in
-    subst (λ (t : Bool). Walks (before_key p.settings true n true t ▹ (node_layout p (spot true n (key_part t)) k ▹ (before_value p.settings true n t ▹ value_on)))
+    subst (λ (t : Bool). Walks (before_key p.settings true n true t ▹ (node_layout p (position true n (key_part t)) k ▹ (before_value p.settings true n t ▹ value_on)))
     (λ ks. kinds.FlowMappingEnd ∷ pairs_kinds (pair k v ps) ks) (λ bs. pairs_bodies ds (pair k v ps) (tokens.flow_mapping_end ∷ bs)) (suc d) d c rest)
     (sym (not_simple s ds k)) whole
 

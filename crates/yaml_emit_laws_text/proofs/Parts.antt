@@ -8,7 +8,7 @@ use Rattle.yaml_scan_scalars.specs.scan_model.Marks.{byte, starts, column_at, is
 use Rattle.yaml_scan_scalars.specs.scan_model.Breaks.{is_document_indicator}
 use Rattle.yaml_scan_scalars.specs.scan_model.Wrong.{Wrong}
 use Rattle.yaml_scan_scalars.specs.Pieces.{Piece, Kept, Blank, value}
-use Rattle.yaml_scan_scalars.specs.Quoted.{Standing, Closing, Pieces, Bad, quote_at, standing_at, with_front, followed, pieces, valued, quoted_at, double_quoted_at, single_quoted_at}
+use Rattle.yaml_scan_scalars.specs.Quoted.{QuotedSpot, Closing, Pieces, Bad, quote_at, standing_at, with_front, followed, pieces, valued, quoted_at, double_quoted_at, single_quoted_at}
 use Rattle.yaml_emit_laws_text.specs.Stands.{HasAt}
 use Rattle.yaml_emit_laws_text.specs.Spelling.{QuotedPart, raw, doubled, named, numbered, fold, joint, spelled, spelling, meaning, is_line_end, may_be_raw, MayStand, IsSpelling, quoted}
 use Rattle.yaml_emit_laws_text.proofs.Chars.{encode_1}
@@ -126,7 +126,7 @@ front_more : (qs : List Piece) (r s : Result (List Piece × ℕ) Wrong) (x : Lis
 front_more qs (Ok y) s x h e = rw (h y refl) e
 front_more qs (Err w) s x h e = absurd (cc)
 
-followed_more : (f g : ℕ → Result (List Piece × ℕ) Wrong) (p : ℕ) (st : Standing)
+followed_more : (f g : ℕ → Result (List Piece × ℕ) Wrong) (p : ℕ) (st : QuotedSpot)
     (x : List Piece × ℕ) → ((q : ℕ) (y : List Piece × ℕ) → f q ≡ Ok y → g q ≡ Ok y)
     → followed f p st ≡ Ok x → followed g p st ≡ Ok x
 followed_more f g p Closing x h e = e

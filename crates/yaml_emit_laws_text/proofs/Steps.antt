@@ -14,7 +14,7 @@ use Rattle.yaml_emit_laws_text.specs.scan_history.Kinds.{depth_after, is_end}
 use Rattle.yaml_emit_laws_text.specs.scan_history.History.{reached, depth, key_allowed}
 use Rattle.yaml_emit_laws_text.specs.scan_history.Words.{WordText, indicator_of, kind_at, word_at}
 use Rattle.yaml_emit_laws_text.specs.scan_laws_texts.KeysLaws.{gap_in, end_in}
-use Rattle.yaml_emit_laws_text.specs.scan_laws_texts.KeysTexts.{Word, lexemes, Stand, word_kinds}
+use Rattle.yaml_emit_laws_text.specs.scan_laws_texts.KeysTexts.{Word, lexemes, WordsStand, word_kinds}
 use Rattle.yaml_emit_laws_text.specs.scan_model.Tokens.{TokenBody}
 use Rattle.yaml_emit_laws_text.specs.emit_layout.emit_text.declared.Cursor.{Cursor}
 use Rattle.yaml_emit_laws_text.specs.emit_layout.emit_text.declared.LineBreak.{LineBreak}
@@ -246,7 +246,7 @@ pub push_to : GapReads
     → word_at k (nat_lt 0 d) 0 text p ≡ Ok said → is_end k ≡ false
     → (e.column ≡ 0 → Starts text said.reached) → e.kept ≡ c.kept
     → WordStage text e said.reached (word_of k p said ∷ ws) (depth_after k d)
-unfolding lexemes Stand
+unfolding lexemes WordsStand
 push_to law text c e p ws d k said s begins kind reads more column same =
     let h = lexemes text ws in
     let g = law (nat_lt 0 (depth h)) (key_allowed h) text (reached h).index s.gap (has_at text (reached h).index s.gap s.stands) s.blank (ap (λ q. begins_lexeme text q) s.from ∙ begins) in

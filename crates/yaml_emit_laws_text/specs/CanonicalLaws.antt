@@ -2,7 +2,7 @@
 use Rattle.std.specs.Prelude.{◌≡◌, true, List, ◌∷◌, map, reverse, None}
 use Rattle.yaml_scan_laws_texts.specs.scan_history.Remaining.{SpelledText, offline}
 use Rattle.yaml_scan_laws_texts.specs.KeyFree.{is_key_free}
-use Rattle.yaml_scan_laws_texts.specs.KeysTexts.{Word, Stand, word_kinds, token_of, first_token}
+use Rattle.yaml_scan_laws_texts.specs.KeysTexts.{Word, WordsStand, word_kinds, token_of, first_token}
 use Rattle.yaml_emit_layout.specs.Content.{Document}
 use Rattle.yaml_emit_laws_text.specs.Canonical.{stream_kinds}
 
@@ -12,7 +12,8 @@ CanonicalIsKeyFree = (ds : List Document) → is_key_free (stream_kinds ds) ≡ 
 
 -- A text in which words of these kinds stand one behind another is read as their tokens, without fault.
 abbrev pub CanonicalWordsAreRead : Type 0
-CanonicalWordsAreRead = (s : SpelledText) (ds : List Document) (ws : List Word) → Stand s.text ws
+CanonicalWordsAreRead = (s : SpelledText) (ds : List Document) (ws : List Word)
+    → WordsStand s.text ws
     → word_kinds ws ≡ stream_kinds ds
     → offline s ≡ record {
       tokens = first_token s ∷ map (token_of s.text) (reverse ws);

@@ -8,7 +8,7 @@ use Rattle.yaml_emit_laws_text.specs.emit_layout.emit_text.declared.Settings.{Se
 use Rattle.yaml_emit_laws_text.specs.emit_layout.emit_text.declared.Encoding.TheVariants.{Utf8}
 use Rattle.yaml_emit_laws_text.specs.emit_layout.emit_text.Text.{encode}
 use Rattle.yaml_emit_laws_text.specs.emit_layout.emit_text.Layout.{Rest, written}
-use Rattle.yaml_emit_laws_text.specs.emit_layout.declared.level.Spot.{Spot}
+use Rattle.yaml_emit_laws_text.specs.emit_layout.declared.level.NodePosition.{NodePosition}
 use Rattle.yaml_emit_laws_text.specs.emit_layout.Content.{Node, Opening, Document}
 use Rattle.yaml_emit_laws_text.specs.emit_layout.Nodes.{context_of, is_simple_part, node_layout, documents_layout}
 use Rattle.yaml_emit_laws_text.specs.Canonical.{node_kinds}
@@ -22,7 +22,8 @@ use Rattle.yaml_emit_laws_text.specs.Walk.{Walks, Parts}
 abbrev pub NodesAreWords : Type 0
 NodesAreWords = (s : Settings) → s.canonical ≡ true → 0 < s.indent → (o : Opening)
     → IsWritableOpening o → (n : Node) → IsWritable n
-    → (at : Spot) → is_simple_part at.part ≡ false → (d : ℕ) (c : Cursor) (rest : Rest) → Parts rest
+    → (at : NodePosition) → is_simple_part at.part ≡ false → (d : ℕ) (c : Cursor) (rest : Rest)
+    → Parts rest
     → Walks (node_layout (context_of s o.directives) at n) (node_kinds n)
     (node_bodies o.directives n) d d c rest
 

@@ -5,7 +5,7 @@ use Rattle.yaml_emit_laws_text.specs.scan_history.scan_model.Marks.{byte, column
 use Rattle.yaml_emit_laws_text.specs.scan_history.scan_words.Written.{are_gap}
 use Rattle.yaml_emit_laws_text.specs.scan_history.declared.kind.Kind.{Kind}
 use Rattle.yaml_emit_laws_text.specs.scan_history.History.{reached, depth}
-use Rattle.yaml_emit_laws_text.specs.scan_laws_texts.KeysTexts.{Word, lexemes, Stand, word_kinds}
+use Rattle.yaml_emit_laws_text.specs.scan_laws_texts.KeysTexts.{Word, lexemes, WordsStand, word_kinds}
 use Rattle.yaml_emit_laws_text.specs.emit_layout.emit_text.declared.Cursor.{Cursor}
 use Rattle.yaml_emit_laws_text.specs.emit_layout.emit_text.declared.Encoding.TheVariants.{Utf8}
 use Rattle.yaml_emit_laws_text.specs.emit_layout.emit_text.Text.{Item, encode}
@@ -27,7 +27,7 @@ Starts text p = (byte text p ≡ 10 → ⊥) → column_at text p ≡ 0
 
 -- Words stand in the text up to a gap that goes up to the place; so many brackets are open.
 pub record WordStage (text : List ℕ) (c : Cursor) (p : ℕ) (ws : List Word) (d : ℕ) : Type 0 where
-  pub stand : Stand text ws
+  pub stand : WordsStand text ws
   pub gap : List ℕ
   pub from : (reached (lexemes text ws)).index + length gap ≡ p
   pub stands : Has text (reached (lexemes text ws)).index gap

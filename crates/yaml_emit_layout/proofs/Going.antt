@@ -7,11 +7,11 @@ use Rattle.yaml_emit_text.specs.Layout.{Rest}
 use Rattle.yaml_emit_layout.specs.declared.level.Level.{Level}
 use Rattle.yaml_emit_layout.specs.declared.level.Phase.TheVariants.{Items, Keys, Value}
 use Rattle.yaml_emit_layout.specs.declared.level.Expected.TheVariants as at
-use Rattle.yaml_emit_layout.specs.declared.level.Spot.{Spot}
+use Rattle.yaml_emit_layout.specs.declared.level.NodePosition.{NodePosition}
 use Rattle.yaml_emit_layout.specs.Content.{Start, Node, alias_node, scalar_node, sequence_node, mapping_node, Nodes, no_nodes, node, Pairs, no_pairs, pair, Document, Event, stream_start, stream_end, document_start, document_end, alias, scalar, sequence_start, sequence_end, mapping_start, mapping_end, node_events, items_events, pairs_events, documents_events}
 use Rattle.yaml_emit_layout.specs.Grammar.{place_problem, node_problem, begins_node, ends_phase}
-use Rattle.yaml_emit_layout.specs.Nodes.{Context, context_of, spot, root_spot, key_part, is_simple, is_simple_alias, is_simple_scalar, is_simple_start, is_flow, indent_of, are_none, are_no_pairs, node_layout, items_layout, pairs_layout, stream_layout, documents_layout}
-use Rattle.yaml_emit_layout.specs.State.{State, next, next_at, piece, text_at, depth_at, opens_empty, is_simple_event, top_of, spot_of, before_node, levels_behind, phase_behind, among, start_text}
+use Rattle.yaml_emit_layout.specs.Nodes.{Context, context_of, position, root_position, key_part, is_simple, is_simple_alias, is_simple_scalar, is_simple_start, is_flow, indent_of, are_none, are_no_pairs, node_layout, items_layout, pairs_layout, stream_layout, documents_layout}
+use Rattle.yaml_emit_layout.specs.State.{State, next, next_at, piece, text_at, depth_at, opens_empty, is_simple_event, top_of, position_of, before_node, levels_behind, phase_behind, among, start_text}
 use Rattle.yaml_emit_layout.specs.ToCome.{Frame, items_left, pairs_left, value_left, ToCome, stream, documents, root, frames, nothing, levels_of, state_of, events, frame_events, frames_events, ending_events, layout, frame_layout, frames_layout}
 
 -- an event at a state, by whether it opens an empty collection, and what comes behind it
@@ -46,11 +46,12 @@ empty_pairs p (pair (sequence_node q ms) v ps) es = refl
 empty_pairs p (pair (mapping_node q ms) v ps) es = refl
 
 -- the place of a node: its levels, what is left of the open collections behind it, and what was to come with it
-record Spotted (s : Settings) (g : List TagDirective) (ls : List Level) (outer : List Frame) (implicit : Bool) (ds : List Document) (v : Node) (k : ToCome) : Type 0 where
+record Positioned (s : Settings) (g : List TagDirective) (ls : List Level) (outer : List Frame) (implicit : Bool) (ds : List Document) (v : Node) (k : ToCome) : Type 0 where
   levels : levels_behind ls (is_simple (context_of s g) v) ≡ levels_of outer
   text : (c : Cursor) (f : Rest)
       → layout s k c f ≡ before_node s (top_of ls) (is_simple (context_of s g) v) c
-      (λ d. node_layout (context_of s g) (spot_of (top_of ls) (is_simple (context_of s g) v)) v d
+      (λ d. node_layout (context_of s g)
+      (position_of (top_of ls) (is_simple (context_of s g) v)) v d
       (λ d'. layout s (frames g outer implicit ds) d' f))
 
 from_same : (s : Settings) (st : State) (e e' : Event) (b : Bool) (es es' : List Event) (k : ToCome)
@@ -66,7 +67,7 @@ from_same s st e e' b es es' k h w g =
 
 node_goes : (s : Settings) (g : List TagDirective) (ls : List Level) (outer : List Frame)
     (implicit : Bool) (ds : List Document) (e : Event) (es : List Event) (v : Node) (k : ToCome)
-    → Spotted s g ls outer implicit ds v k
+    → Positioned s g ls outer implicit ds v k
     → e ∷ es ≡ node_events v (frames_events outer (ending_events implicit ds))
     → Goes s (record { place = at.Node; levels = ls; directives = g }) e (opens_empty e es) es k
 unfolding node_events is_simple is_simple_event node_layout text_at depth_at next_at state_of events layout place_problem opens_empty levels_of frames_events frames_layout frame_layout frame_events
@@ -88,7 +89,7 @@ node_goes s g ls outer implicit ds e es (scalar_node y) k h w =
     })
 node_goes s g ls outer implicit ds e es (sequence_node q ns) k h w =
     let simple : Bool = is_simple (context_of s g) (sequence_node q ns) in
-    let at : Spot = spot_of (top_of ls) simple in
+    let at : NodePosition = position_of (top_of ls) simple in
     let b : Bool = is_flow s at q (are_none ns) in
     from_same s _ e (sequence_start q) (are_none ns) es _ k w (empty_items q ns _) (record {
       rest = λ d. frames g (items_left b (indent_of s at true b d) true ns ∷ outer) implicit ds;
@@ -99,7 +100,7 @@ node_goes s g ls outer implicit ds e es (sequence_node q ns) k h w =
     })
 node_goes s g ls outer implicit ds e es (mapping_node q ps) k h w =
     let simple : Bool = is_simple (context_of s g) (mapping_node q ps) in
-    let at : Spot = spot_of (top_of ls) simple in
+    let at : NodePosition = position_of (top_of ls) simple in
     let b : Bool = is_flow s at q (are_no_pairs ps) in
     from_same s _ e (mapping_start q) (are_no_pairs ps) es _ k w (empty_pairs q ps _) (record {
       rest = λ d. frames g (pairs_left b (indent_of s at false b d) true ps ∷ outer) implicit ds;

@@ -17,7 +17,7 @@ use Rattle.yaml_emit_tags.specs.Tags.{tag_spelling, tag_size, uri_text}
 use Rattle.yaml_emit_text.specs.Layout.{Layout, ◌▹◌, stay, choose, when, char, word, indicator, opener, line, wrap, keep, order_mark}
 use Rattle.yaml_emit_layout.specs.declared.level.Part.{Part}
 use Rattle.yaml_emit_layout.specs.declared.level.Part.TheVariants as part
-use Rattle.yaml_emit_layout.specs.declared.level.Spot.{Spot}
+use Rattle.yaml_emit_layout.specs.declared.level.NodePosition.{NodePosition}
 use Rattle.yaml_emit_layout.specs.Content.{Scalar, Start, Node, alias_node, scalar_node, sequence_node, mapping_node, Nodes, no_nodes, node, Pairs, no_pairs, pair, Opening, Document}
 use Rattle.yaml_emit_layout.specs.Grammar.{has, scalar_tag, start_tag}
 
@@ -26,11 +26,11 @@ pub record Context : Type 0 where
   pub settings : Settings
   pub directives : List TagDirective
 
-abbrev pub root_spot : Spot
-root_spot = record { around = None; flow = false; part = part.Item }
+abbrev pub root_position : NodePosition
+root_position = record { around = None; flow = false; part = part.Item }
 
-abbrev pub spot : Bool → ℕ → Part → Spot
-spot flow n p = record { around = Some n; flow = flow; part = p }
+abbrev pub position : Bool → ℕ → Part → NodePosition
+position flow n p = record { around = Some n; flow = flow; part = p }
 
 abbrev pub is_simple_part : Part → Bool
 is_simple_part part.SimpleKey = true
@@ -81,7 +81,7 @@ is_plain style.Literal = false
 is_plain style.Folded = false
 
 -- canonical form double quotes all scalars
-unfoldable pub style_of : Context → Spot → Scalar → Style
+unfoldable pub style_of : Context → NodePosition → Scalar → Style
 style_of p at x =
     if p.settings.canonical then style.Double
     else taken (allowed p.settings.unicode (chars x.value)) x.style (has (scalar_tag false x)
@@ -93,7 +93,7 @@ mark_text p x chosen = when (not (has (scalar_tag p.settings.canonical x))
     && (not x.quoted && not (is_plain chosen))) (word (33 ∷ []))
 
 -- the lines that a scalar stands in
-abbrev pub page_at : Settings → Spot → Page
+abbrev pub page_at : Settings → NodePosition → Page
 page_at s at = record {
   width = s.width;
   indentation = deeper s at.around;
@@ -102,7 +102,7 @@ page_at s at = record {
   line_break = s.line_break;
 }
 
-unfoldable pub scalar_layout : Context → Spot → Scalar → Layout
+unfoldable pub scalar_layout : Context → NodePosition → Scalar → Layout
 scalar_layout p at x =
     properties_text p x.anchor (scalar_tag p.settings.canonical x) ▹ mark_text p x (style_of p at x)
     ▹ checked (deeper p.settings at.around)
@@ -110,7 +110,7 @@ scalar_layout p at x =
     (chars x.value)
 
 -- an alias as a simple key has a space behind it
-unfoldable pub alias_layout : Spot → List ℕ → Layout
+unfoldable pub alias_layout : NodePosition → List ℕ → Layout
 alias_layout at name = word (42 ∷ name) ▹ when (is_simple_part at.part) (char 32)
 
 abbrev pub text_size : Option (List ℕ) → ℕ
@@ -173,11 +173,11 @@ block_indent_in s None keeps = 0
 block_indent_in s (Some n) keeps = if keeps then n else n + s.indent
 
 -- a collection is flow inside a flow one, with flow style, or empty; in canonical form always
-abbrev pub is_flow : Settings → Spot → Start → Bool → Bool
+abbrev pub is_flow : Settings → NodePosition → Start → Bool → Bool
 is_flow s at q empty = s.canonical || (at.flow || (q.flow || empty))
 
 -- the indentation of a collection, found behind its properties: a block sequence that is a key or a value keeps that round it where the line isn't bare
-abbrev pub indent_of : Settings → Spot → Bool → Bool → Cursor → ℕ
+abbrev pub indent_of : Settings → NodePosition → Bool → Bool → Cursor → ℕ
 indent_of s at sequence flow c = if flow then deeper s at.around else block_indent_in s at.around
     (sequence && (is_of_mapping at.part && not c.bare))
 
@@ -222,9 +222,9 @@ abbrev pub key_part : Bool → Part
 key_part true = part.SimpleKey
 key_part false = part.Key
 
--- The layout of a node at a spot, and of the rest of a collection with what ends it.
+-- The layout of a node at a position, and of the rest of a collection with what ends it.
 unfoldable mutual
-  pub node_layout : Context → Spot → Node → Layout
+  pub node_layout : Context → NodePosition → Node → Layout
   node_layout p at (alias_node name) = alias_layout at name
   node_layout p at (scalar_node x) = scalar_layout p at x
   node_layout p at (sequence_node q items) =
@@ -242,14 +242,15 @@ unfoldable mutual
   pub items_layout : Context → Bool → ℕ → Bool → Nodes → Layout
   items_layout p flow n fresh no_nodes = closer p.settings flow n fresh 93
   items_layout p flow n fresh (node x xs) = before_item p.settings flow n fresh
-      ▹ node_layout p (spot flow n part.Item) x ▹ items_layout p flow n false xs
+      ▹ node_layout p (position flow n part.Item) x ▹ items_layout p flow n false xs
 
   pub pairs_layout : Context → Bool → ℕ → Bool → Pairs → Layout
   pairs_layout p flow n fresh no_pairs = closer p.settings flow n fresh 125
   pairs_layout p flow n fresh (pair k v ps) =
       before_key p.settings flow n fresh (is_simple p k)
-      ▹ node_layout p (spot flow n (key_part (is_simple p k))) k
-      ▹ before_value p.settings flow n (is_simple p k) ▹ node_layout p (spot flow n part.Value) v
+      ▹ node_layout p (position flow n (key_part (is_simple p k))) k
+      ▹ before_value p.settings flow n (is_simple p k)
+      ▹ node_layout p (position flow n part.Value) v
       ▹ pairs_layout p flow n false ps
 
 abbrev pub dots : Settings → Layout
@@ -313,7 +314,7 @@ unfoldable pub documents_layout : Settings → Bool → Bool → List Document �
 documents_layout s first unended [] = stop_layout s unended
 documents_layout s first unended (d ∷ ds) =
     start_layout s first unended d.opening ▹ node_layout (context_of s d.opening.directives)
-    root_spot d.root
+    root_position d.root
     ▹ end_layout s d.implicit_end ▹ documents_layout s false d.implicit_end ds
 
 -- The layout of a stream: canonical or pretty, as the settings say.

@@ -7,7 +7,7 @@ use Rattle.yaml_emit_text.specs.Layout.{Layout, ◌▹◌, stay, when, opener, o
 use Rattle.yaml_emit_layout.specs.declared.problem.Problem.{Problem}
 use Rattle.yaml_emit_layout.specs.declared.level.Part.{Part}
 use Rattle.yaml_emit_layout.specs.declared.level.Part.TheVariants as part
-use Rattle.yaml_emit_layout.specs.declared.level.Spot.{Spot}
+use Rattle.yaml_emit_layout.specs.declared.level.NodePosition.{NodePosition}
 use Rattle.yaml_emit_layout.specs.declared.level.Level.{Level}
 use Rattle.yaml_emit_layout.specs.declared.level.Phase.{Phase}
 use Rattle.yaml_emit_layout.specs.declared.level.Phase.TheVariants.{Items, Keys, Value}
@@ -15,7 +15,7 @@ use Rattle.yaml_emit_layout.specs.declared.level.Expected.{Expected}
 use Rattle.yaml_emit_layout.specs.declared.level.Expected.TheVariants as at
 use Rattle.yaml_emit_layout.specs.Content.{Start, Opening, Event, no_event, stream_start, stream_end, document_start, document_end, alias, scalar, sequence_start, sequence_end, mapping_start, mapping_end}
 use Rattle.yaml_emit_layout.specs.Grammar.{problem_by, start_tag}
-use Rattle.yaml_emit_layout.specs.Nodes.{Context, context_of, root_spot, spot, key_part, is_simple_scalar, is_simple_alias, is_simple_start, is_flow, indent_of, indented, checked, properties_text, scalar_layout, alias_layout, before_item, before_key, before_value, closer, start_layout, end_layout, stop_layout}
+use Rattle.yaml_emit_layout.specs.Nodes.{Context, context_of, root_position, position, key_part, is_simple_scalar, is_simple_alias, is_simple_start, is_flow, indent_of, indented, checked, properties_text, scalar_layout, alias_layout, before_item, before_key, before_value, closer, start_layout, end_layout, stop_layout}
 
 -- the levels, the innermost first, and the directives of the document
 pub record State : Type 0 where
@@ -53,7 +53,7 @@ is_simple_event p (sequence_start q) empty = is_simple_start p q empty
 is_simple_event p (mapping_start q) empty = is_simple_start p q empty
 is_simple_event p e empty = false
 
--- the spot of a node, by the innermost level and whether the node is a simple key
+-- the position of a node, by the innermost level and whether the node is a simple key
 abbrev pub part_at : Phase → Bool → Part
 part_at (Items fresh) simple = part.Item
 part_at (Keys fresh) simple = key_part simple
@@ -67,9 +67,9 @@ abbrev pub outer_of : List Level → List Level
 outer_of [] = []
 outer_of (l ∷ ls) = ls
 
-abbrev pub spot_of : Option Level → Bool → Spot
-spot_of None simple = root_spot
-spot_of (Some l) simple = spot l.flow l.indent (part_at l.phase simple)
+abbrev pub position_of : Option Level → Bool → NodePosition
+position_of None simple = root_position
+position_of (Some l) simple = position l.flow l.indent (part_at l.phase simple)
 
 -- what comes before a node
 abbrev pub before_at : Settings → Phase → Bool → ℕ → Bool → Layout
@@ -128,12 +128,12 @@ closer_at s None x = stay
 closer_at s (Some l) x = closer s l.flow l.indent (is_fresh l.phase) x
 
 -- what opens a collection: its anchor and tag, and the indicator for flow
-abbrev pub start_text : Context → Spot → ℕ → Start → Bool → Layout
+abbrev pub start_text : Context → NodePosition → ℕ → Start → Bool → Layout
 start_text p at x q empty = properties_text p q.anchor (start_tag p.settings.canonical q)
     ▹ when (is_flow p.settings at q empty) (opener x)
 
 -- a collection that is too deep is marked behind that
-abbrev pub depth_text : Context → Spot → Bool → Start → Bool → Layout
+abbrev pub depth_text : Context → NodePosition → Bool → Start → Bool → Layout
 depth_text p at sequence q empty = indented
     (indent_of p.settings at sequence (is_flow p.settings at q empty)) checked
 
@@ -145,21 +145,21 @@ text_at p place top stream_end empty = stop_at p.settings place
 text_at p place top (document_start o) empty = start_at p.settings place o
 text_at p place top (document_end implicit) empty = end_layout p.settings implicit
 text_at p place top (alias name) empty = let simple = is_simple_event p (alias name) empty
-    in before_node p.settings top simple ▹ alias_layout (spot_of top simple) name
+    in before_node p.settings top simple ▹ alias_layout (position_of top simple) name
 text_at p place top (scalar v) empty = let simple = is_simple_event p (scalar v) empty
-    in before_node p.settings top simple ▹ scalar_layout p (spot_of top simple) v
+    in before_node p.settings top simple ▹ scalar_layout p (position_of top simple) v
 text_at p place top (sequence_start q) empty = let simple = is_simple_event p (sequence_start q)
-    empty in before_node p.settings top simple ▹ start_text p (spot_of top simple) 91 q empty
+    empty in before_node p.settings top simple ▹ start_text p (position_of top simple) 91 q empty
 text_at p place top (mapping_start q) empty = let simple = is_simple_event p (mapping_start q) empty
-    in before_node p.settings top simple ▹ start_text p (spot_of top simple) 123 q empty
+    in before_node p.settings top simple ▹ start_text p (position_of top simple) 123 q empty
 text_at p place top sequence_end empty = closer_at p.settings top 93
 text_at p place top mapping_end empty = closer_at p.settings top 125
 
 unfoldable pub depth_at : Context → Option Level → Event → Bool → Layout
 depth_at p top (sequence_start q) empty = depth_text p
-    (spot_of top (is_simple_event p (sequence_start q) empty)) true q empty
+    (position_of top (is_simple_event p (sequence_start q) empty)) true q empty
 depth_at p top (mapping_start q) empty = depth_text p
-    (spot_of top (is_simple_event p (mapping_start q) empty)) false q empty
+    (position_of top (is_simple_event p (mapping_start q) empty)) false q empty
 depth_at p top no_event empty = stay
 depth_at p top (stream_start x) empty = stay
 depth_at p top stream_end empty = stay
@@ -195,12 +195,12 @@ next_at p place ls (scalar v) empty c = among p.directives
     (levels_behind ls (is_simple_event p (scalar v) empty))
 next_at p place ls (sequence_start q) empty c =
     let simple = is_simple_event p (sequence_start q) empty in
-    let at = spot_of (top_of ls) simple in
+    let at = position_of (top_of ls) simple in
     opened p.directives ls simple (Items true) (is_flow p.settings at q empty)
     (indent_of p.settings at true (is_flow p.settings at q empty) c)
 next_at p place ls (mapping_start q) empty c =
     let simple = is_simple_event p (mapping_start q) empty in
-    let at = spot_of (top_of ls) simple in
+    let at = position_of (top_of ls) simple in
     opened p.directives ls simple (Keys true) (is_flow p.settings at q empty)
     (indent_of p.settings at false (is_flow p.settings at q empty) c)
 next_at p place ls sequence_end empty c = among p.directives (outer_of ls)

@@ -9,7 +9,7 @@ use Rattle.yaml_emit_layout.specs.declared.level.Level.{Level}
 use Rattle.yaml_emit_layout.specs.declared.level.Phase.TheVariants.{Items, Keys, Value}
 use Rattle.yaml_emit_layout.specs.declared.level.Expected.TheVariants as at
 use Rattle.yaml_emit_layout.specs.Content.{Node, Nodes, Pairs, Document, Event, document_end, sequence_end, mapping_end, node_events, items_events, pairs_events, documents_events, stream_events}
-use Rattle.yaml_emit_layout.specs.Nodes.{Context, context_of, root_spot, spot, node_layout, items_layout, pairs_layout, before_value, end_layout, documents_layout, stream_layout}
+use Rattle.yaml_emit_layout.specs.Nodes.{Context, context_of, root_position, position, node_layout, items_layout, pairs_layout, before_value, end_layout, documents_layout, stream_layout}
 use Rattle.yaml_emit_layout.specs.State.{State, among, placed}
 
 -- the rest of an open collection: whether it is flow, its indentation, whether nothing has come in it
@@ -75,7 +75,7 @@ unfoldable pub frame_layout : Context → Frame → Layout
 frame_layout p (items_left flow n fresh ns) = items_layout p flow n fresh ns
 frame_layout p (pairs_left flow n fresh ps) = pairs_layout p flow n fresh ps
 frame_layout p (value_left flow n simple v ps) = before_value p.settings flow n simple
-    ▹ node_layout p (spot flow n part.Value) v ▹ pairs_layout p flow n false ps
+    ▹ node_layout p (position flow n part.Value) v ▹ pairs_layout p flow n false ps
 
 unfoldable pub frames_layout : Context → List Frame → Layout
 frames_layout p [] = stay
@@ -84,7 +84,7 @@ frames_layout p (f ∷ fs) = frame_layout p f ▹ frames_layout p fs
 unfoldable pub layout : Settings → ToCome → Layout
 layout s (stream x ds) = stream_layout s ds
 layout s (documents first unended ds) = documents_layout s first unended ds
-layout s (root directives n implicit ds) = node_layout (context_of s directives) root_spot n
+layout s (root directives n implicit ds) = node_layout (context_of s directives) root_position n
     ▹ ending_layout s implicit ds
 layout s (frames directives fs implicit ds) = frames_layout (context_of s directives) fs
     ▹ ending_layout s implicit ds

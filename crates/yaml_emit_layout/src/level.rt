@@ -46,7 +46,7 @@ pub enum Part {
 
 /// Where a node stands: the indentation round it (none round a root), whether that is flow, and its part there.
 #[derive(Clone, Copy)]
-pub struct Spot {
+pub struct NodePosition {
     pub around: Option<u64>,
     pub flow: bool,
     pub part: Part,

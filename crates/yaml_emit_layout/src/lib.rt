@@ -7,5 +7,5 @@
 mod level;
 mod problem;
 
-pub use level::{Expected, Level, Part, Phase, Spot};
+pub use level::{Expected, Level, NodePosition, Part, Phase};
 pub use problem::{Problem, problem_text};

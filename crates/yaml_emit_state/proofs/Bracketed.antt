@@ -12,11 +12,11 @@ use Rattle.yaml_emit_layout.specs.declared.Expected.{Expected}
 use Rattle.yaml_emit_layout.specs.declared.Expected.TheVariants as at
 use Rattle.yaml_emit_layout.specs.declared.Level.{Level}
 use Rattle.yaml_emit_layout.specs.declared.Phase.TheVariants.{Items, Keys}
-use Rattle.yaml_emit_layout.specs.declared.Spot.{Spot}
+use Rattle.yaml_emit_layout.specs.declared.NodePosition.{NodePosition}
 use Rattle.yaml_emit_layout.specs.Content.{Start, sequence_start, mapping_start}
 use Rattle.yaml_emit_layout.specs.Grammar.{event_problem, last_problem, place_problem, problem_by}
 use Rattle.yaml_emit_layout.specs.Nodes.{Context, context_of, is_flow, indent_of, indented, checked}
-use Rattle.yaml_emit_layout.specs.State.{State, problem_at, top_of, spot_of, before_node, start_text, depth_text, text_at, next_at, depth_at, opened}
+use Rattle.yaml_emit_layout.specs.State.{State, problem_at, top_of, position_of, before_node, start_text, depth_text, text_at, next_at, depth_at, opened}
 use Rattle.yaml_emit_state.specs.declared.state.Core.{Core}
 use Rattle.yaml_emit_state.specs.Stack.{stack_of}
 use Rattle.yaml_emit_state.specs.Given.{plain_start, plain_opening}
@@ -24,7 +24,7 @@ use Rattle.yaml_emit_state.specs.Steps.{state_of, OpensCollection, MovesOn}
 use Rattle.yaml_emit_state.proofs.Canonical.{no_keys}
 
 -- the tag, and the bracket
-pub puts_start : (s : Settings) (ds : List TagDirective) (at : Spot) (x : ℕ) (tag : List ℕ)
+pub puts_start : (s : Settings) (ds : List TagDirective) (at : NodePosition) (x : ℕ) (tag : List ℕ)
     (flow empty : Bool) (a b c : Output) → s.canonical ≡ true
     → Puts a b (word (tag_spelling ds tag)) → Puts b c (when true (opener x))
     → Puts a c (start_text (context_of s ds) at x (plain_start tag flow) empty)
@@ -32,23 +32,23 @@ puts_start s ds at x tag flow empty a b c e p q = rw e (puts_both a b c _ _ p q)
 
 pub puts_sequence : (p : Context) (place : Expected) (top : Option Level) (flow empty : Bool)
     (a b c : Output) → p.settings.canonical ≡ true → Puts a b (before_node p.settings top false)
-    → ((at : Spot) → Puts b c (start_text p at 91 (plain_start seq_tag flow) empty))
+    → ((at : NodePosition) → Puts b c (start_text p at 91 (plain_start seq_tag flow) empty))
     → Puts a c (text_at p place top (plain_opening true flow) empty)
 unfolding text_at
 puts_sequence p place top flow empty a b c e before start =
     let q : Start = plain_start seq_tag flow in
-    let P : Bool → Type 0 = λ k. Puts a c (before_node p.settings top k ▹ start_text p (spot_of top k) 91 q empty) in
-    subst P (no_keys p (sequence_start q) empty e) (puts_both a b c _ _ before (start (spot_of top false)))
+    let P : Bool → Type 0 = λ k. Puts a c (before_node p.settings top k ▹ start_text p (position_of top k) 91 q empty) in
+    subst P (no_keys p (sequence_start q) empty e) (puts_both a b c _ _ before (start (position_of top false)))
 
 pub puts_mapping : (p : Context) (place : Expected) (top : Option Level) (flow empty : Bool)
     (a b c : Output) → p.settings.canonical ≡ true → Puts a b (before_node p.settings top false)
-    → ((at : Spot) → Puts b c (start_text p at 123 (plain_start map_tag flow) empty))
+    → ((at : NodePosition) → Puts b c (start_text p at 123 (plain_start map_tag flow) empty))
     → Puts a c (text_at p place top (plain_opening false flow) empty)
 unfolding text_at
 puts_mapping p place top flow empty a b c e before start =
     let q : Start = plain_start map_tag flow in
-    let P : Bool → Type 0 = λ k. Puts a c (before_node p.settings top k ▹ start_text p (spot_of top k) 123 q empty) in
-    subst P (no_keys p (mapping_start q) empty e) (puts_both a b c _ _ before (start (spot_of top false)))
+    let P : Bool → Type 0 = λ k. Puts a c (before_node p.settings top k ▹ start_text p (position_of top k) 123 q empty) in
+    subst P (no_keys p (mapping_start q) empty e) (puts_both a b c _ _ before (start (position_of top false)))
 
 right_by : (canonical : Bool) (place : Expected) (top : Option Level) (sequence flow : Bool)
     → canonical ≡ true → place ≡ at.Node
@@ -77,12 +77,12 @@ moves_opening s old new true flow empty e o =
     let p : Context = context_of s (state_of old).directives in
     let q : Start = plain_start seq_tag flow in
     let top : Option Level = top_of (stack_of old.levels) in
-    let f = same_flow s.canonical ((spot_of top false).flow || (false || false)) ((spot_of top false).flow || (flow || empty)) e in
+    let f = same_flow s.canonical ((position_of top false).flow || (false || false)) ((position_of top false).flow || (flow || empty)) e in
     let k = no_keys p (sequence_start q) empty e in
-    let F : Bool → Type 0 = λ g. state_of new ≡ opened (state_of old).directives (stack_of old.levels) false (Items true) g (indent_of s (spot_of top false) true g old.sink.cursor) in
-    let K : Bool → Type 0 = λ b. state_of new ≡ opened (state_of old).directives (stack_of old.levels) b (Items true) (is_flow s (spot_of top b) q empty) (indent_of s (spot_of top b) true (is_flow s (spot_of top b) q empty) old.sink.cursor) in
-    let G : Bool → Type 0 = λ g. Puts old.sink new.sink (indented (indent_of s (spot_of top false) true g) checked) in
-    let H : Bool → Type 0 = λ b. Puts old.sink new.sink (depth_text p (spot_of top b) true q empty) in
+    let F : Bool → Type 0 = λ g. state_of new ≡ opened (state_of old).directives (stack_of old.levels) false (Items true) g (indent_of s (position_of top false) true g old.sink.cursor) in
+    let K : Bool → Type 0 = λ b. state_of new ≡ opened (state_of old).directives (stack_of old.levels) b (Items true) (is_flow s (position_of top b) q empty) (indent_of s (position_of top b) true (is_flow s (position_of top b) q empty) old.sink.cursor) in
+    let G : Bool → Type 0 = λ g. Puts old.sink new.sink (indented (indent_of s (position_of top false) true g) checked) in
+    let H : Bool → Type 0 = λ b. Puts old.sink new.sink (depth_text p (position_of top b) true q empty) in
     record {
       settings = o.settings;
       state = λ g. subst K k (subst F f (o.state g));
@@ -95,12 +95,12 @@ moves_opening s old new false flow empty e o =
     let p : Context = context_of s (state_of old).directives in
     let q : Start = plain_start map_tag flow in
     let top : Option Level = top_of (stack_of old.levels) in
-    let f = same_flow s.canonical ((spot_of top false).flow || (false || false)) ((spot_of top false).flow || (flow || empty)) e in
+    let f = same_flow s.canonical ((position_of top false).flow || (false || false)) ((position_of top false).flow || (flow || empty)) e in
     let k = no_keys p (mapping_start q) empty e in
-    let F : Bool → Type 0 = λ g. state_of new ≡ opened (state_of old).directives (stack_of old.levels) false (Keys true) g (indent_of s (spot_of top false) false g old.sink.cursor) in
-    let K : Bool → Type 0 = λ b. state_of new ≡ opened (state_of old).directives (stack_of old.levels) b (Keys true) (is_flow s (spot_of top b) q empty) (indent_of s (spot_of top b) false (is_flow s (spot_of top b) q empty) old.sink.cursor) in
-    let G : Bool → Type 0 = λ g. Puts old.sink new.sink (indented (indent_of s (spot_of top false) false g) checked) in
-    let H : Bool → Type 0 = λ b. Puts old.sink new.sink (depth_text p (spot_of top b) false q empty) in
+    let F : Bool → Type 0 = λ g. state_of new ≡ opened (state_of old).directives (stack_of old.levels) false (Keys true) g (indent_of s (position_of top false) false g old.sink.cursor) in
+    let K : Bool → Type 0 = λ b. state_of new ≡ opened (state_of old).directives (stack_of old.levels) b (Keys true) (is_flow s (position_of top b) q empty) (indent_of s (position_of top b) false (is_flow s (position_of top b) q empty) old.sink.cursor) in
+    let G : Bool → Type 0 = λ g. Puts old.sink new.sink (indented (indent_of s (position_of top false) false g) checked) in
+    let H : Bool → Type 0 = λ b. Puts old.sink new.sink (depth_text p (position_of top b) false q empty) in
     record {
       settings = o.settings;
       state = λ g. subst K k (subst F f (o.state g));

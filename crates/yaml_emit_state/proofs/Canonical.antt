@@ -14,7 +14,7 @@ use Rattle.yaml_emit_text.proofs.Sinks.{puts_both}
 use Rattle.yaml_emit_layout.specs.Content.{Scalar, Event, no_event, stream_start, stream_end, document_start, document_end, alias, scalar, sequence_start, sequence_end, mapping_start, mapping_end}
 use Rattle.yaml_emit_layout.specs.State.{is_simple_event}
 use Rattle.yaml_emit_layout.specs.Nodes.{Context, context_of, is_simple_scalar, is_simple_alias, is_simple_start, anchor_text, tag_text, MOST, deep_if, checked, deeper, page_at, scalar_layout, style_of}
-use Rattle.yaml_emit_layout.specs.declared.Spot.{Spot}
+use Rattle.yaml_emit_layout.specs.declared.NodePosition.{NodePosition}
 use Rattle.yaml_emit_state.specs.Stack.{within}
 
 -- canonical form has no simple keys
@@ -33,7 +33,8 @@ no_keys p (document_end i) empty h = refl
 no_keys p sequence_end empty h = refl
 no_keys p mapping_end empty h = refl
 
-pub puts_tagged : (s : Settings) (ds : List TagDirective) (at : Spot) (x : Scalar) (tag : List ℕ)
+pub puts_tagged : (s : Settings) (ds : List TagDirective) (at : NodePosition) (x : Scalar)
+    (tag : List ℕ)
     (a b c : Output) → s.canonical ≡ true → x.tag ≡ Some tag → Puts a b (anchor_text x.anchor)
     → Puts b c (tag_text (context_of s ds) (Some tag) ▹
     (checked (deeper s at.around) ▹ scalar_text (page_at s at) s.indent at.flow style.Double
@@ -49,7 +50,7 @@ marked : (b c : Output) (quoted : Bool) (y : Layout)
 marked b c true y p = p
 marked b c false y p = p
 
-pub puts_untagged : (s : Settings) (ds : List TagDirective) (at : Spot) (x : Scalar)
+pub puts_untagged : (s : Settings) (ds : List TagDirective) (at : NodePosition) (x : Scalar)
     (a b c : Output) → s.canonical ≡ true → x.tag ≡ None → Puts a b (anchor_text x.anchor)
     → Puts b c (when (not x.quoted) (word (33 ∷ [])) ▹
     (checked (deeper s at.around) ▹ double_quoted (page_at s at) (chars x.value)))

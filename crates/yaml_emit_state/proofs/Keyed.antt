@@ -8,7 +8,7 @@ use Rattle.yaml_emit_layout.specs.declared.Level.{Level}
 use Rattle.yaml_emit_layout.specs.declared.Phase.{Phase}
 use Rattle.yaml_emit_layout.specs.declared.Phase.TheVariants.{Items, Keys, Value}
 use Rattle.yaml_emit_layout.specs.Content.{Scalar, alias, scalar}
-use Rattle.yaml_emit_layout.specs.State.{among, before_at, before_node, spot_of, part_at, levels_behind, phase_behind, top_of, text_at, next_at, depth_at, is_simple_event}
+use Rattle.yaml_emit_layout.specs.State.{among, before_at, before_node, position_of, part_at, levels_behind, phase_behind, top_of, text_at, next_at, depth_at, is_simple_event}
 use Rattle.yaml_emit_layout.specs.Nodes.{context_of, is_simple_alias, is_simple_scalar, alias_layout, scalar_layout}
 use Rattle.yaml_emit_state.specs.declared.state.Core.{Core}
 use Rattle.yaml_emit_state.specs.Stack.{stack_of}
@@ -32,9 +32,10 @@ part_in (Items fresh) b = refl
 part_in (Keys fresh) b = refl
 part_in (Value was_simple) b = refl
 
-spot_keyed : (top : Option Level) (b : Bool) → spot_of top (is_key top && b) ≡ spot_of top b
-spot_keyed None b = refl
-spot_keyed (Some l) b = rw (part_in l.phase b) refl
+position_keyed : (top : Option Level) (b : Bool)
+    → position_of top (is_key top && b) ≡ position_of top b
+position_keyed None b = refl
+position_keyed (Some l) b = rw (part_in l.phase b) refl
 
 phase_in : (p : Phase) (b : Bool) → phase_behind p (is_key_in p && b) ≡ phase_behind p b
 unfolding phase_behind
@@ -53,7 +54,7 @@ pub lays_scalar : (old new : Core) (o : Output) (s : Settings) (top : Option Lev
     → s ≡ settings_of old → top ≡ top_of (stack_of old.levels)
     → simple ≡ (is_key top && is_simple_scalar (context_of s old.directives) v)
     → Puts old.sink o (before_node s top simple ▹ scalar_layout (context_of s old.directives)
-    (spot_of top simple) v)
+    (position_of top simple) v)
     → state_of new ≡ among old.directives (levels_behind (stack_of old.levels) simple)
     → StaysBut (record old { sink = o }) new
     → LaysOutRight old new (scalar v) empty
@@ -61,7 +62,7 @@ unfolding text_at next_at depth_at is_simple_event
 lays_scalar old new o s top v simple empty settings upper asked put moved kept =
     let b = is_simple_scalar (context_of (settings_of old) old.directives) v in
     let is : simple ≡ (is_key (top_of (stack_of old.levels)) && b) = rw (settings, upper) at asked in
-    let text = rw (settings, upper, is, before_keyed (settings_of old) (top_of (stack_of old.levels)) b, spot_keyed (top_of (stack_of old.levels)) b) at put in
+    let text = rw (settings, upper, is, before_keyed (settings_of old) (top_of (stack_of old.levels)) b, position_keyed (top_of (stack_of old.levels)) b) at put in
     record {
       settings = kept.0;
       state = λ g. moved ∙ ap (λ ls. among old.directives ls) (ap (levels_behind (stack_of old.levels)) is ∙ levels_keyed (stack_of old.levels) b);
@@ -75,7 +76,7 @@ pub lays_alias : (old new : Core) (o : Output) (s : Settings) (top : Option Leve
     (simple empty : Bool)
     → s ≡ settings_of old → top ≡ top_of (stack_of old.levels)
     → simple ≡ is_simple_alias (context_of s old.directives) name
-    → Puts old.sink o (before_node s top simple ▹ alias_layout (spot_of top simple) name)
+    → Puts old.sink o (before_node s top simple ▹ alias_layout (position_of top simple) name)
     → state_of new ≡ among old.directives (levels_behind (stack_of old.levels) simple)
     → StaysBut (record old { sink = o }) new
     → LaysOutRight old new (alias name) empty

@@ -17,7 +17,7 @@ use Rattle.yaml_emit_text.proofs.Sinks.{puts_both}
 use Rattle.yaml_emit_layout.specs.declared.Expected.{Expected}
 use Rattle.yaml_emit_layout.specs.declared.Expected.TheVariants as at
 use Rattle.yaml_emit_layout.specs.declared.Level.{Level}
-use Rattle.yaml_emit_layout.specs.declared.Spot.{Spot}
+use Rattle.yaml_emit_layout.specs.declared.NodePosition.{NodePosition}
 use Rattle.yaml_emit_layout.specs.Content.{Scalar, Event, scalar}
 use Rattle.yaml_emit_layout.specs.Grammar.{event_problem, last_problem, place_problem, problem_by}
 use Rattle.yaml_emit_layout.specs.State.{State, problem_at, is_simple_event}
@@ -54,7 +54,7 @@ puts_default a b ds tag spelled e is p =
     let Q : List TagDirective → Type 0 = λ z. Puts a b (word (tag_spelling z tag)) in
     subst Q (sym e) (subst P (sym is) p)
 
-pub puts_text : (s : Settings) (ds : List TagDirective) (at : Spot) (value : List ℕ)
+pub puts_text : (s : Settings) (ds : List TagDirective) (at : NodePosition) (value : List ℕ)
     (style : yaml_scalar_style_t) (a b c : Output) → s.canonical ≡ true
     → Puts a b (word (tag_spelling ds str_tag))
     → Puts b c (checked (deeper s at.around) ▹ double_quoted (page_at s at) (chars value))

@@ -12,7 +12,7 @@ use Rattle.yaml_emit_layout.specs.declared.Expected.TheVariants as at
 use Rattle.yaml_emit_layout.specs.declared.Phase.{Phase}
 use Rattle.yaml_emit_layout.specs.declared.Phase.TheVariants.{Items, Keys}
 use Rattle.yaml_emit_layout.specs.Content.{Event, document_start, sequence_start, mapping_start}
-use Rattle.yaml_emit_layout.specs.State.{State, placed, piece, next, problem_at, top_of, spot_of, opened, depth_at}
+use Rattle.yaml_emit_layout.specs.State.{State, placed, piece, next, problem_at, top_of, position_of, opened, depth_at}
 use Rattle.yaml_emit_layout.specs.Nodes.{indented, indent_of, checked, context_of}
 use Rattle.yaml_emit_state.specs.declared.state.Core.{Core}
 use Rattle.yaml_emit_state.specs.Stack.{stack_of}
@@ -92,12 +92,12 @@ pub record OpensCollection (s : Settings) (old new : Core)
     (simple empty flow sequence : Bool) : Type 0 where
   pub settings : new.settings ≡ old.settings
   pub state : new.sink.status ≡ Going →
-      let at = spot_of (top_of (stack_of old.levels)) simple in
+      let at = position_of (top_of (stack_of old.levels)) simple in
       let f = s.canonical || (at.flow || (flow || empty)) in
       state_of new ≡ opened (state_of old).directives (stack_of old.levels) simple
       (first_phase sequence) f (indent_of s at sequence f old.sink.cursor)
   pub cursor : new.sink.status ≡ Going → new.sink.cursor ≡ old.sink.cursor
-  pub text : let at = spot_of (top_of (stack_of old.levels)) simple in
+  pub text : let at = position_of (top_of (stack_of old.levels)) simple in
       Puts old.sink new.sink (indented
       (indent_of s at sequence (s.canonical || (at.flow || (flow || empty)))) checked)
   pub memory : Notes true old new

@@ -14,7 +14,7 @@ pub struct Context<'a> {
 
 /// Where an event stands: what is expected, the innermost open collection, and whether the event is a simple key.
 #[derive(Clone, Copy)]
-pub struct Where<'a> {
+pub struct EventPosition<'a> {
     pub place: Expected,
     pub top: &'a Option<Level>,
     pub simple: bool,

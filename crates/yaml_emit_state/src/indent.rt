@@ -2,10 +2,10 @@
 ghost use Rattle.std.specs.Prelude.{◌≡◌, ◌≢◌, ◌≤◌, ◌<◌, ◌+◌, ℕ, None, Some, true, false, not, ◌&&◌, ◌||◌};
 ghost use Rattle.yaml_emit_text.specs.Sink.{Puts};
 ghost use Rattle.yaml_emit_layout.specs.Nodes.{deeper, block_indent_in, indent_of, is_of_mapping, is_simple_part, checked, is_flow};
-ghost use Rattle.yaml_emit_layout.specs.State.{spot_of, part_at};
+ghost use Rattle.yaml_emit_layout.specs.State.{position_of, part_at};
 ghost use Rattle.yaml_emit_state.specs.Stack.{within};
 
-use yaml_emit_layout::{Level, Part, Phase, Spot};
+use yaml_emit_layout::{Level, NodePosition, Part, Phase};
 use yaml_emit_text::{Cursor, Settings, Sink, Status};
 
 // The largest indentation, in columns.
@@ -22,16 +22,16 @@ fn part(phase: Phase, simple: bool) -> Part
 }
 
 /// Where a node in the innermost collection stands, by whether it is a simple key.
-pub fn spot_of(top: Option<Level>, simple: bool) -> Spot
-    ensures { result ≡ spot_of top simple }
+pub fn position_of(top: Option<Level>, simple: bool) -> NodePosition
+    ensures { result ≡ position_of top simple }
 {
     match top {
-        None => Spot {
+        None => NodePosition {
             around: None,
             flow: false,
             part: Part::Item,
         },
-        Some(level) => Spot {
+        Some(level) => NodePosition {
             around: Some(level.indent),
             flow: level.flow,
             part: part(level.phase, simple),
@@ -99,29 +99,29 @@ fn block_indent(settings: &Settings, around: Option<u64>, keeps: bool) -> Option
 #[inline(always)]
 pub fn indent_of(
     settings: &Settings,
-    spot: Spot,
+    position: NodePosition,
     sequence: bool,
     flow: bool,
     cursor: Cursor,
 ) -> Option<u64>
-    ensures { result ≡ within (indent_of settings.now spot sequence flow cursor) }
+    ensures { result ≡ within (indent_of settings.now position sequence flow cursor) }
 {
     if flow {
-        deeper(settings, spot.around)
+        deeper(settings, position.around)
     } else {
         block_indent(
             settings,
-            spot.around,
-            sequence && is_of_mapping(spot.part) && !cursor.bare,
+            position.around,
+            sequence && is_of_mapping(position.part) && !cursor.bare,
         )
     }
 }
 
 /// Whether a collection is flow.
-pub fn is_flow(settings: &Settings, spot: Spot, flow: bool, empty: bool) -> bool
-    ensures { result ≡ (settings.now.canonical || (spot.flow || (flow || empty))) }
+pub fn is_flow(settings: &Settings, position: NodePosition, flow: bool, empty: bool) -> bool
+    ensures { result ≡ (settings.now.canonical || (position.flow || (flow || empty))) }
 {
-    settings.canonical || spot.flow || flow || empty
+    settings.canonical || position.flow || flow || empty
 }
 
 /// An indentation that is too deep stops the output.

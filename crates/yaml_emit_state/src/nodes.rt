@@ -18,7 +18,7 @@ ghost use Rattle.yaml_emit_state.specs.Given.{lent_context, lent_scalar, lent_st
 use crate::before::{put_blank_if, put_opener_if};
 use crate::given::{Context, Scalar, Start};
 use crate::indent::{deeper, is_flow, is_simple_part, put_checked};
-use yaml_emit_layout::Spot;
+use yaml_emit_layout::NodePosition;
 use yaml_emit_tags::{DirectiveTable, put_tag};
 use yaml_emit_text::{
     Page, Settings, Sink, Style, allowed_by, are_solid, put_opening_quote, put_quoted_inside,
@@ -37,12 +37,12 @@ fn put_name(sink: &mut Sink, indicator: u8, name: &[u8])
 
 /// An alias.
 #[tactic(auto, unfolding(yaml_emit_layout::specs::Nodes::alias_layout))]
-pub fn put_alias_at(sink: &mut Sink, spot: Spot, name: &[u8])
+pub fn put_alias_at(sink: &mut Sink, position: NodePosition, name: &[u8])
     requires { IsAscii name.now }
-    ensures { Puts sink.old sink.new (alias_layout spot name.now) }
+    ensures { Puts sink.old sink.new (alias_layout position name.now) }
 {
     put_name(sink, b'*', name);
-    put_blank_if(sink, is_simple_part(spot.part));
+    put_blank_if(sink, is_simple_part(position.part));
 }
 
 fn put_anchor_if(sink: &mut Sink, anchor: &Option<Vec<u8>>)
@@ -137,10 +137,10 @@ fn is_plain(style: Style) -> bool
 // Inlined: then what it is given needn't stand in memory.
 #[inline(always)]
 #[tactic(auto, unfolding(yaml_emit_layout::specs::Nodes::style_of))]
-fn style_of(context: &Context, spot: Spot, scalar: &Scalar) -> Style
+fn style_of(context: &Context, position: NodePosition, scalar: &Scalar) -> Style
     requires utf8 { IsUtf8 scalar.now.value.now }
     requires tame { scalar.now.tame ≡ true → IsTame scalar.now.value.now }
-    ensures { result ≡ style_of (lent_context context.now) spot (lent_scalar scalar.now) }
+    ensures { result ≡ style_of (lent_context context.now) position (lent_scalar scalar.now) }
 {
     if context.settings.canonical {
         Style::Double
@@ -149,8 +149,8 @@ fn style_of(context: &Context, spot: Spot, scalar: &Scalar) -> Style
             allowed_by(context.settings.unicode, scalar.value, scalar.tame),
             scalar.style,
             is_written(false, scalar.plain || scalar.quoted, scalar.tag) || scalar.plain,
-            spot.flow,
-            is_simple_part(spot.part),
+            position.flow,
+            is_simple_part(position.part),
             scalar.value.is_empty(),
         )
     }
@@ -185,18 +185,18 @@ fn is_marked(
 fn put_lines(
     sink: &mut Sink,
     settings: &Settings,
-    spot: Spot,
+    position: NodePosition,
     style: Style,
     value: &[u8],
     tame: bool,
 )
     requires utf8 { IsUtf8 value.now }
     requires tame { tame ≡ true → IsTame value.now }
-    ensures { Puts sink.old sink.new (checked (deeper settings.now spot.around)
-        ▹ scalar_text (page_at settings.now spot) settings.now.indent spot.flow style
+    ensures { Puts sink.old sink.new (checked (deeper settings.now position.around)
+        ▹ scalar_text (page_at settings.now position) settings.now.indent position.flow style
         (chars value.now)) }
 {
-    let depth = deeper(settings, spot.around);
+    let depth = deeper(settings, position.around);
     put_checked(sink, depth);
     match depth {
         None => (),
@@ -205,13 +205,27 @@ fn put_lines(
                 width: settings.width,
                 indentation,
                 unicode: settings.unicode,
-                cuts: !is_simple_part(spot.part),
+                cuts: !is_simple_part(position.part),
                 line_break: settings.line_break,
             };
             if tame {
-                put_tame(sink, page, settings.indent, spot.flow, style, text(value));
+                put_tame(
+                    sink,
+                    page,
+                    settings.indent,
+                    position.flow,
+                    style,
+                    text(value),
+                );
             } else {
-                put_styled(sink, page, settings.indent, spot.flow, style, text(value));
+                put_styled(
+                    sink,
+                    page,
+                    settings.indent,
+                    position.flow,
+                    style,
+                    text(value),
+                );
             }
         }
     }
@@ -223,14 +237,14 @@ fn put_lines(
 fn put_in_quotes(
     sink: &mut Sink,
     settings: &Settings,
-    spot: Spot,
+    position: NodePosition,
     indentation: u64,
     marked: bool,
     value: &[u8],
 )
     requires { IsUtf8 value.now }
     ensures { Puts sink.old sink.new (when marked (word (33 ∷ []))
-        ▹ double_quoted (record (page_at settings.now spot) {
+        ▹ double_quoted (record (page_at settings.now position) {
           indentation = indentation;
         }) (chars value.now)) }
 {
@@ -241,7 +255,7 @@ fn put_in_quotes(
             width: settings.width,
             indentation,
             unicode: settings.unicode,
-            cuts: !is_simple_part(spot.part),
+            cuts: !is_simple_part(position.part),
             line_break: settings.line_break,
         };
         put_opening_quote(sink, marked);
@@ -252,34 +266,40 @@ fn put_in_quotes(
 // A scalar without a tag in canonical form, behind its anchor: `!` where it is due, and the value in quotes.
 // Inlined: mostly it is a few bytes round the value.
 #[inline(always)]
-fn put_untagged(sink: &mut Sink, settings: &Settings, spot: Spot, quoted: bool, value: &[u8])
+fn put_untagged(
+    sink: &mut Sink,
+    settings: &Settings,
+    position: NodePosition,
+    quoted: bool,
+    value: &[u8],
+)
     requires { IsUtf8 value.now }
     ensures { Puts sink.old sink.new (when (not quoted) (word (33 ∷ []))
-        ▹ (checked (deeper settings.now spot.around)
-        ▹ double_quoted (page_at settings.now spot) (chars value.now))) }
+        ▹ (checked (deeper settings.now position.around)
+        ▹ double_quoted (page_at settings.now position) (chars value.now))) }
 {
-    let depth = deeper(settings, spot.around);
+    let depth = deeper(settings, position.around);
     match depth {
         None => {
             put_exclamation_if(sink, !quoted);
             put_checked(sink, depth);
         }
-        Some(indentation) => put_in_quotes(sink, settings, spot, indentation, !quoted, value),
+        Some(indentation) => put_in_quotes(sink, settings, position, indentation, !quoted, value),
     }
 }
 
 // A scalar with a tag in canonical form, behind its anchor.
 // Inlined: then what it is given needn't stand in memory.
 #[inline(always)]
-fn put_tagged(sink: &mut Sink, context: &Context, spot: Spot, tag: &[u8], value: &[u8])
+fn put_tagged(sink: &mut Sink, context: &Context, position: NodePosition, tag: &[u8], value: &[u8])
     requires { IsUtf8 value.now }
     ensures { Puts sink.old sink.new (tag_text (lent_context context.now) (Some tag.now)
-        ▹ (checked (deeper context.now.settings.now spot.around)
-        ▹ scalar_text (page_at context.now.settings.now spot) context.now.settings.now.indent
-        spot.flow Style.Double (chars value.now))) }
+        ▹ (checked (deeper context.now.settings.now position.around)
+        ▹ scalar_text (page_at context.now.settings.now position) context.now.settings.now.indent
+        position.flow Style.Double (chars value.now))) }
 {
     put_tag(sink, context.directives, tag);
-    put_untagged(sink, context.settings, spot, true, value);
+    put_untagged(sink, context.settings, position, true, value);
 }
 
 // Inlined: one read.
@@ -362,30 +382,36 @@ fn put_map_tag(sink: &mut Sink, directives: &DirectiveTable)
 /// A text with the default tag and without an anchor, in canonical form.
 // Inlined: it is a few bytes round its value.
 #[inline(always)]
-pub fn put_text(sink: &mut Sink, context: &Context, spot: Spot, value: &[u8])
+pub fn put_text(sink: &mut Sink, context: &Context, position: NodePosition, value: &[u8])
     requires utf8 { IsUtf8 value.now }
     requires canonical { context.now.settings.now.canonical ≡ true }
     ensures { (style : yaml_scalar_style_t) → Puts sink.old sink.new
-        (scalar_layout (lent_context context.now) spot (plain_text value.now style)) }
+        (scalar_layout (lent_context context.now) position (plain_text value.now style)) }
 {
     put_str_tag(sink, context.directives);
-    put_untagged(sink, context.settings, spot, true, value);
+    put_untagged(sink, context.settings, position, true, value);
 }
 
 // A scalar in canonical form: it is double quoted, and each tag is written.
 // Inlined: mostly it has no property, and is a few bytes round its value.
 #[inline(always)]
-fn put_canonical_scalar(sink: &mut Sink, context: &Context, spot: Spot, scalar: &Scalar)
+fn put_canonical_scalar(sink: &mut Sink, context: &Context, position: NodePosition, scalar: &Scalar)
     requires utf8 { IsUtf8 scalar.now.value.now }
     requires named { IsNamed (text_of scalar.now.anchor.now) }
     requires canonical { context.now.settings.now.canonical ≡ true }
-    ensures { Puts sink.old sink.new (scalar_layout (lent_context context.now) spot
+    ensures { Puts sink.old sink.new (scalar_layout (lent_context context.now) position
         (lent_scalar scalar.now)) }
 {
     put_anchor_if(sink, scalar.anchor);
     match scalar.tag {
-        None => put_untagged(sink, context.settings, spot, scalar.quoted, scalar.value),
-        Some(tag) => put_tagged(sink, context, spot, tag, scalar.value),
+        None => put_untagged(
+            sink,
+            context.settings,
+            position,
+            scalar.quoted,
+            scalar.value,
+        ),
+        Some(tag) => put_tagged(sink, context, position, tag, scalar.value),
     }
 }
 
@@ -393,11 +419,11 @@ fn put_canonical_scalar(sink: &mut Sink, context: &Context, spot: Spot, scalar: 
 // Inlined: where the form is known, and most of what it is given.
 #[inline(always)]
 #[tactic(auto, unfolding(yaml_emit_layout::specs::Nodes::scalar_layout))]
-fn put_any_scalar(sink: &mut Sink, context: &Context, spot: Spot, scalar: &Scalar)
+fn put_any_scalar(sink: &mut Sink, context: &Context, position: NodePosition, scalar: &Scalar)
     requires utf8 { IsUtf8 scalar.now.value.now }
     requires named { IsNamed (text_of scalar.now.anchor.now) }
     requires tame { scalar.now.tame ≡ true → IsTame scalar.now.value.now }
-    ensures { Puts sink.old sink.new (scalar_layout (lent_context context.now) spot
+    ensures { Puts sink.old sink.new (scalar_layout (lent_context context.now) position
         (lent_scalar scalar.now)) }
 {
     let Scalar {
@@ -408,45 +434,57 @@ fn put_any_scalar(sink: &mut Sink, context: &Context, spot: Spot, scalar: &Scala
         quoted,
         ..
     } = *scalar;
-    let chosen = style_of(context, spot, scalar);
+    let chosen = style_of(context, position, scalar);
     put_properties(sink, context, anchor, plain || quoted, tag);
     put_exclamation_if(
         sink,
         is_marked(context.settings.canonical, tag, plain, quoted, chosen),
     );
-    put_lines(sink, context.settings, spot, chosen, value, scalar.tame);
+    put_lines(sink, context.settings, position, chosen, value, scalar.tame);
 }
 
 /// A scalar, with its anchor and tag.
 // Inlined: where the form is known one call is left.
 #[inline(always)]
-pub fn put_scalar(sink: &mut Sink, context: &Context, spot: Spot, scalar: &Scalar, canonical: bool)
+pub fn put_scalar(
+    sink: &mut Sink,
+    context: &Context,
+    position: NodePosition,
+    scalar: &Scalar,
+    canonical: bool,
+)
     requires utf8 { IsUtf8 scalar.now.value.now }
     requires named { IsNamed (text_of scalar.now.anchor.now) }
     requires tame { scalar.now.tame ≡ true → IsTame scalar.now.value.now }
     requires form { canonical ≡ context.now.settings.now.canonical }
-    ensures { Puts sink.old sink.new (scalar_layout (lent_context context.now) spot
+    ensures { Puts sink.old sink.new (scalar_layout (lent_context context.now) position
         (lent_scalar scalar.now)) }
 {
     if canonical {
-        put_canonical_scalar(sink, context, spot, scalar);
+        put_canonical_scalar(sink, context, position, scalar);
     } else {
-        put_any_scalar(sink, context, spot, scalar);
+        put_any_scalar(sink, context, position, scalar);
     }
 }
 
 /// What opens a collection, with its anchor and tag.
 // Inlined: where the form is known it is short.
 #[inline(always)]
-pub fn put_collection(sink: &mut Sink, context: &Context, spot: Spot, c: char, start: &Start)
+pub fn put_collection(
+    sink: &mut Sink,
+    context: &Context,
+    position: NodePosition,
+    c: char,
+    start: &Start,
+)
     requires { IsNamed (text_of start.now.anchor.now) }
-    ensures { Puts sink.old sink.new (start_text (lent_context context.now) spot c
+    ensures { Puts sink.old sink.new (start_text (lent_context context.now) position c
         (lent_start start.now) start.now.empty) }
 {
     put_properties(sink, context, start.anchor, start.implicit, start.tag);
     put_opener_if(
         sink,
-        is_flow(context.settings, spot, start.flow, start.empty),
+        is_flow(context.settings, position, start.flow, start.empty),
         c,
     );
 }
@@ -456,7 +494,7 @@ pub fn put_collection(sink: &mut Sink, context: &Context, spot: Spot, c: char, s
 #[inline(always)]
 pub fn put_plain_sequence(sink: &mut Sink, context: &Context)
     requires { context.now.settings.now.canonical ≡ true }
-    ensures { (at : Spot) (flow empty : Bool) → Puts sink.old sink.new
+    ensures { (at : NodePosition) (flow empty : Bool) → Puts sink.old sink.new
         (start_text (lent_context context.now) at 91 (plain_start seq_tag flow) empty) }
 {
     put_seq_tag(sink, context.directives);
@@ -468,7 +506,7 @@ pub fn put_plain_sequence(sink: &mut Sink, context: &Context)
 #[inline(always)]
 pub fn put_plain_mapping(sink: &mut Sink, context: &Context)
     requires { context.now.settings.now.canonical ≡ true }
-    ensures { (at : Spot) (flow empty : Bool) → Puts sink.old sink.new
+    ensures { (at : NodePosition) (flow empty : Bool) → Puts sink.old sink.new
         (start_text (lent_context context.now) at 123 (plain_start map_tag flow) empty) }
 {
     put_map_tag(sink, context.directives);

@@ -8,7 +8,7 @@ mod event;
 mod moves;
 mod resume;
 
-use crate::given::{Context, Scalar, Where};
+use crate::given::{Context, EventPosition, Scalar};
 use crate::judge::problem_of;
 use crate::keys::{is_simple, is_simple_alias, is_simple_key};
 use crate::levels::Levels;
@@ -163,7 +163,7 @@ impl Core {
             directives: &self.directives,
         };
         let simple = is_simple(&context, event, empty);
-        let at = Where {
+        let at = EventPosition {
             place: self.place,
             top: self.levels.innermost(),
             simple,
@@ -172,7 +172,7 @@ impl Core {
         self.move_on(&settings, event, empty, simple);
     }
 
-    // The same.
+    // An event in its right place, in the form that is asked for.
     // Out of line: the rare way beside the short one for scalars.
     #[inline(never)]
     fn take_rare(&mut self, event: &mut yaml_event_body_t, empty: bool)
@@ -437,7 +437,7 @@ impl Core {
         }
     }
 
-    // In pretty form. The same.
+    // An event in its right place, in pretty form.
     // Out of line: what other kinds and the other form need takes no room here.
     #[inline(never)]
     fn lay_pretty(&mut self, event: &mut yaml_event_body_t, empty: bool)

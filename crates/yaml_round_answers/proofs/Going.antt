@@ -6,7 +6,7 @@ use Rattle.yaml_parse.specs.declared.yaml_origin_t.TheVariants.{Emitter}
 use Rattle.yaml_emit.specs.emit_text.declared.RequestedSettings.{RequestedSettings}
 use Rattle.yaml_round_answers.specs.declared.answer.yaml_c_answer.{yaml_c_answer}
 use Rattle.yaml_round_records.specs.declared.yaml_c_stand.{yaml_c_stand}
-use Rattle.yaml_round_records.specs.declared.Standing.{Standing}
+use Rattle.yaml_round_records.specs.declared.StandRecords.{StandRecords}
 use Rattle.yaml_round_records.specs.Leading.{all_events}
 use Rattle.yaml_round_records.specs.Standing.{At}
 use Rattle.yaml_round_records.specs.Onward.{most_on, IsOnwardAt, IsOnward}
@@ -19,7 +19,7 @@ use Rattle.yaml_round_answers.proofs.Exact.{text_kind, fault_kind, exact}
 use Rattle.yaml_round_answers.proofs.Refusing.{refused_answer}
 
 pub on_told : (old new : yaml_c_stand) (o : Option (List EventBody)) (m : RequestedSettings × ℕ)
-    (at : Option (Option At)) (r : List ℕ × Standing) (a : yaml_c_answer)
+    (at : Option (Option At)) (r : List ℕ × StandRecords) (a : yaml_c_answer)
     → IsOnwardAt m.0 (most_on m.1) at (all_events o) (Ok r) → TellsOnward old new (Ok r) a
     → EmitsAllOn old new o m at a
 on_told old new None m at r a is told = tt
@@ -38,7 +38,8 @@ on_refused old new (Some bs) m (Some at) f a same is told =
 
 -- ---- the kind that is told
 
-onward_kind : (old new : yaml_c_stand) (r : Result (List ℕ × Standing) Fault) (a : yaml_c_answer)
+onward_kind : (old new : yaml_c_stand) (r : Result (List ℕ × StandRecords) Fault)
+    (a : yaml_c_answer)
     → TellsOnward old new r a → ¬ (a.kind ≡ negsuc 0)
 onward_kind old new (Ok o) a h = text_kind o.0 (pos 0) a h.0
 onward_kind old new (Err f) a h = fault_kind f (pos 0) a h.0

@@ -7,7 +7,7 @@ use Rattle.yaml_round_answers.specs.declared.answer.yaml_c_answer.{yaml_c_answer
 use Rattle.yaml_round_answers.specs.declared.parsing.yaml_c_parsed.{yaml_c_parsed}
 use Rattle.yaml_round_records.specs.declared.yaml_c_settings.{yaml_c_settings}
 use Rattle.yaml_round_records.specs.declared.yaml_c_stand.{yaml_c_stand}
-use Rattle.yaml_round_records.specs.declared.Standing.{Standing}
+use Rattle.yaml_round_records.specs.declared.StandRecords.{StandRecords}
 use Rattle.yaml_round_records.specs.Written.{emitter_events}
 use Rattle.yaml_round_records.specs.Standing.{At, stand_meant}
 use Rattle.yaml_round_records.specs.Onward.{most_on, IsOnward}
@@ -25,14 +25,14 @@ onward_meant given settings stand = both
     (emit_meant given.bytes.now given.directives.now given.events.now settings) (at_meant_by stand)
 
 -- the records of a stand are handed out
-pub record HandsStand (s : Standing) (b : yaml_c_stand) : Type 0 where
+pub record HandsStand (s : StandRecords) (b : yaml_c_stand) : Type 0 where
   pub place : b.place ≡ s.place
   pub levels : b.levels.now ≡ s.levels.items
   pub directives : b.directives.now ≡ s.directives.items
   pub bytes : b.bytes.now ≡ s.bytes.items
 
 -- The text, and the stand behind it; with a fault that stand is left as it was.
-abbrev pub TellsOnward : yaml_c_stand → yaml_c_stand → Result (List ℕ × Standing) Fault
+abbrev pub TellsOnward : yaml_c_stand → yaml_c_stand → Result (List ℕ × StandRecords) Fault
     → yaml_c_answer → Type 0
 TellsOnward old new (Ok o) a = TellsText o.0 (pos 0) a × HandsStand o.1 new
 TellsOnward old new (Err fault) a = TellsFault fault (pos 0) a × (new ≡ old)

@@ -10,7 +10,7 @@ use crate::answer::{handed_out, misused, refused, text_answer, yaml_c_answer};
 use crate::parsing::{directives_out, yaml_c_parsed};
 use std::alloc::Global;
 use yaml_round_records::{
-    Asked, Standing, are_meant, asked_of, emitted_on, is_stand, yaml_c_level, yaml_c_settings,
+    Asked, StandRecords, are_meant, asked_of, emitted_on, is_stand, yaml_c_level, yaml_c_settings,
     yaml_c_stand,
 };
 
@@ -24,10 +24,10 @@ fn levels_out(levels: Vec<yaml_c_level>) -> &'static [yaml_c_level]
 }
 
 // Lists that live on for C.
-fn stand_out(stand: Standing) -> yaml_c_stand
+fn stand_out(stand: StandRecords) -> yaml_c_stand
     ensures { HandsStand stand result }
 {
-    let Standing {
+    let StandRecords {
         place,
         levels,
         directives,

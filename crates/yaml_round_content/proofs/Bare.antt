@@ -7,11 +7,11 @@ use Rattle.yaml_round_content.specs.emit_text.declared.Settings.{Settings}
 use Rattle.yaml_round_content.specs.emit_text.Layout.{Layout, ◌▹◌, when, word, opener}
 use Rattle.yaml_round_content.specs.emit_text.Scalars.{scalar_text}
 use Rattle.yaml_round_content.specs.emit_text.declared.Style.TheVariants as style
-use Rattle.yaml_round_content.specs.emit_layout.declared.Spot.{Spot}
+use Rattle.yaml_round_content.specs.emit_layout.declared.NodePosition.{NodePosition}
 use Rattle.yaml_round_content.specs.emit_layout.declared.Part.TheVariants as part
 use Rattle.yaml_round_content.specs.emit_layout.Content.{Scalar, Start, Node, alias_node, scalar_node, sequence_node, mapping_node, Nodes, no_nodes, node, Pairs, no_pairs, pair}
 use Rattle.yaml_round_content.specs.emit_layout.Grammar.{has}
-use Rattle.yaml_round_content.specs.emit_layout.Nodes.{Context, spot, key_part, deeper, checked, properties_text, page_at, style_of, scalar_layout, is_simple, is_simple_scalar, is_simple_alias, is_simple_start, before_item, before_key, before_value, node_layout, items_layout, pairs_layout}
+use Rattle.yaml_round_content.specs.emit_layout.Nodes.{Context, position, key_part, deeper, checked, properties_text, page_at, style_of, scalar_layout, is_simple, is_simple_scalar, is_simple_alias, is_simple_start, before_item, before_key, before_value, node_layout, items_layout, pairs_layout}
 
 -- the settings with canonical form
 abbrev pub canonical_settings : Settings → Settings
@@ -46,7 +46,7 @@ marks_same : (t q : Bool) → (not t && (not q && true)) ≡ (not t && (not (not
 marks_same true q = refl
 marks_same false q = refl
 
-scalar_same : (s : Settings) (ds : List TagDirective) (x : Scalar) (at : Spot)
+scalar_same : (s : Settings) (ds : List TagDirective) (x : Scalar) (at : NodePosition)
     → scalar_layout (canonically s ds) at x ≡ scalar_layout (canonically s ds) at (bare_scalar x)
 unfolding scalar_layout style_of
 scalar_same s ds x at =
@@ -65,7 +65,7 @@ not_simple s ds (mapping_node q pairs) = refl
 mutual
   unfolding node_layout items_layout pairs_layout
 
-  pub node_same : (s : Settings) (ds : List TagDirective) (n : Node) (at : Spot)
+  pub node_same : (s : Settings) (ds : List TagDirective) (n : Node) (at : NodePosition)
       → node_layout (canonically s ds) at n ≡ node_layout (canonically s ds) at (bare_node n)
   node_same s ds (alias_node name) at = refl
   node_same s ds (scalar_node x) at = scalar_same s ds x at
@@ -84,8 +84,8 @@ mutual
   items_same s ds no_nodes n fresh = refl
   items_same s ds (node x xs) n fresh =
       let p = canonically s ds in
-      ap (λ (a : Layout). before_item p.settings true n fresh ▹ (a ▹ items_layout p true n false xs)) (node_same s ds x (spot true n part.Item))
-      ∙ ap (λ (a : Layout). before_item p.settings true n fresh ▹ (node_layout p (spot true n part.Item) (bare_node x) ▹ a)) (items_same s ds xs n false)
+      ap (λ (a : Layout). before_item p.settings true n fresh ▹ (a ▹ items_layout p true n false xs)) (node_same s ds x (position true n part.Item))
+      ∙ ap (λ (a : Layout). before_item p.settings true n fresh ▹ (node_layout p (position true n part.Item) (bare_node x) ▹ a)) (items_same s ds xs n false)
 
   pairs_same : (s : Settings) (ds : List TagDirective) (ps : Pairs) (n : ℕ) (fresh : Bool)
       → pairs_layout (canonically s ds) true n fresh ps
@@ -94,9 +94,9 @@ mutual
   pairs_same s ds (pair k v ps) n fresh =
       let p = canonically s ds in
       let f : Bool → Layout → Layout → Layout → Layout = λ b x y z. before_key p.settings true n fresh b ▹ (x ▹ (before_value p.settings true n b ▹ (y ▹ z))) in
-      let vs = spot true n part.Value in
-      ap (λ (b : Bool). f b (node_layout p (spot true n (key_part b)) k) (node_layout p vs v) (pairs_layout p true n false ps)) (not_simple s ds k)
-      ∙ ap (λ (a : Layout). f false a (node_layout p vs v) (pairs_layout p true n false ps)) (node_same s ds k (spot true n part.Key))
-      ∙ ap (λ (a : Layout). f false (node_layout p (spot true n part.Key) (bare_node k)) a (pairs_layout p true n false ps)) (node_same s ds v vs)
-      ∙ ap (λ (a : Layout). f false (node_layout p (spot true n part.Key) (bare_node k)) (node_layout p vs (bare_node v)) a) (pairs_same s ds ps n false)
-      ∙ sym (ap (λ (b : Bool). f b (node_layout p (spot true n (key_part b)) (bare_node k)) (node_layout p vs (bare_node v)) (pairs_layout p true n false (bare_pairs ps))) (not_simple s ds (bare_node k)))
+      let vs = position true n part.Value in
+      ap (λ (b : Bool). f b (node_layout p (position true n (key_part b)) k) (node_layout p vs v) (pairs_layout p true n false ps)) (not_simple s ds k)
+      ∙ ap (λ (a : Layout). f false a (node_layout p vs v) (pairs_layout p true n false ps)) (node_same s ds k (position true n part.Key))
+      ∙ ap (λ (a : Layout). f false (node_layout p (position true n part.Key) (bare_node k)) a (pairs_layout p true n false ps)) (node_same s ds v vs)
+      ∙ ap (λ (a : Layout). f false (node_layout p (position true n part.Key) (bare_node k)) (node_layout p vs (bare_node v)) a) (pairs_same s ds ps n false)
+      ∙ sym (ap (λ (b : Bool). f b (node_layout p (position true n (key_part b)) (bare_node k)) (node_layout p vs (bare_node v)) (pairs_layout p true n false (bare_pairs ps))) (not_simple s ds (bare_node k)))

@@ -16,7 +16,7 @@ use Rattle.yaml_round_content.specs.emit_text.Text.{Item}
 use Rattle.yaml_round_content.specs.emit_text.Layout.{Layout, ◌▹◌, order_mark, written}
 use Rattle.yaml_round_content.specs.emit_layout.Streams.{IsStream}
 use Rattle.yaml_round_content.specs.emit_layout.Content as emit
-use Rattle.yaml_round_content.specs.emit_layout.Nodes.{root_spot, node_layout, start_layout, end_layout, documents_layout, stream_layout}
+use Rattle.yaml_round_content.specs.emit_layout.Nodes.{root_position, node_layout, start_layout, end_layout, documents_layout, stream_layout}
 use Rattle.yaml_round_content.specs.emit_laws_dumps.StreamsLaws.{RightStream}
 use Rattle.yaml_round_content.specs.Normalize.{is_lone_mark, normalize_scalar, normalize_body}
 use Rattle.yaml_round_content.specs.Events.{emitter_events}
@@ -122,9 +122,9 @@ mutual
       ∙ ap (λ (y : emit.Pairs). emit.pair (written_node (tree_of k)) (written_node (tree_of v)) y) (pairs_written ps hs)
 
 root_same : (s : Settings) (ds : List TagDirective) (n : emit.Node) → NodeFlagged n
-    → node_layout (canonically s ds) root_spot n
-    ≡ node_layout (canonically s ds) root_spot (written_node (tree_of n))
-root_same s ds n h = node_same s ds n root_spot ∙ ap (λ (y : emit.Node). node_layout (canonically s ds) root_spot y) (node_written n h)
+    → node_layout (canonically s ds) root_position n
+    ≡ node_layout (canonically s ds) root_position (written_node (tree_of n))
+root_same s ds n h = node_same s ds n root_position ∙ ap (λ (y : emit.Node). node_layout (canonically s ds) root_position y) (node_written n h)
 
 -- ---- documents
 
@@ -199,9 +199,9 @@ document_same s first unended d ds flagged end more =
     let z = canonical_settings s in
     let o = d.opening in
     let begun = start_layout z first unended o in
-    ap (λ (b : Bool). begun ▹ (node_layout (canonically s o.directives) root_spot d.root ▹ (end_layout z b ▹ documents_layout z false b ds))) end
+    ap (λ (b : Bool). begun ▹ (node_layout (canonically s o.directives) root_position d.root ▹ (end_layout z b ▹ documents_layout z false b ds))) end
     ∙ ap (λ (a : Layout). begun ▹ (a ▹ (end_layout z true ▹ documents_layout z false true ds))) (root_same s o.directives d.root flagged)
-    ∙ ap (λ (a : Layout). begun ▹ (node_layout (canonically s o.directives) root_spot (written_node (tree_of d.root)) ▹ (end_layout z true ▹ a))) more
+    ∙ ap (λ (a : Layout). begun ▹ (node_layout (canonically s o.directives) root_position (written_node (tree_of d.root)) ▹ (end_layout z true ▹ a))) more
 
 documents_same : (s : Settings) (first unended : Bool) (ds : List emit.Document) → Normalize ds
     → documents_layout (canonical_settings s) first unended ds

@@ -6,11 +6,11 @@ use Rattle.yaml_emit_layout.specs.emit_text.declared.Settings.{Settings}
 use Rattle.yaml_emit_layout.specs.emit_text.Layout.{◌▹◌, stay, choose, when, char, word, opener, keep}
 use Rattle.yaml_emit_layout.specs.emit_text.Quoted.{double_quoted}
 use Rattle.yaml_emit_layout.specs.emit_text.Scalars.{scalar_text}
-use Rattle.yaml_emit_layout.specs.declared.level.Spot.{Spot}
+use Rattle.yaml_emit_layout.specs.declared.level.NodePosition.{NodePosition}
 use Rattle.yaml_emit_layout.specs.declared.level.Part.TheVariants as part
 use Rattle.yaml_emit_layout.specs.Content.{Document, Scalar, Start, Node, alias_node, scalar_node, sequence_node, mapping_node, Nodes, no_nodes, node, Pairs, no_pairs, pair}
 use Rattle.yaml_emit_layout.specs.Grammar.{version_problem, directives_problem}
-use Rattle.yaml_emit_layout.specs.Nodes.{Context, MOST, is_kept, is_simple, is_simple_part, key_part, root_spot, spot, deeper, page_at, checked, deep_if, line_at, anchor_text, tag_text, properties_text, style_of, scalar_layout, alias_layout, comma, turned, before_item, question, before_key, before_value, closer, node_layout, items_layout, pairs_layout, dots, is_directed, version_text, directives_text, dashes, start_layout, end_layout, stop_layout, documents_layout}
+use Rattle.yaml_emit_layout.specs.Nodes.{Context, MOST, is_kept, is_simple, is_simple_part, key_part, root_position, position, deeper, page_at, checked, deep_if, line_at, anchor_text, tag_text, properties_text, style_of, scalar_layout, alias_layout, comma, turned, before_item, question, before_key, before_value, closer, node_layout, items_layout, pairs_layout, dots, is_directed, version_text, directives_text, dashes, start_layout, end_layout, stop_layout, documents_layout}
 use Rattle.yaml_emit_layout.specs.emit_text.Text.{Item}
 use Rattle.yaml_round_laws_documents.specs.BytesLaws.{IsNameOption, IsTextOption, IsSpellable, AreSpellable, PairsAreSpellable, DocumentsAreSpellable}
 use Rattle.yaml_round_laws_documents.proofs.Characters.{Fits, graphic, names_fit}
@@ -43,7 +43,7 @@ marked_tame b = when_tame b (word (33 ∷ [])) (word_tame (33 ∷ []) (graphic 3
 -- ---- leaves
 
 abbrev NodeTame : Settings → List TagDirective → Node → Type 0
-NodeTame s ds n = (at : Spot) → Tame (node_layout (context s ds) at n)
+NodeTame s ds n = (at : NodePosition) → Tame (node_layout (context s ds) at n)
 
 alias_tame : (s : Settings) (ds : List TagDirective) (name : List ℕ) → IsSpellable (alias_node name)
     → NodeTame s ds (alias_node name)
@@ -124,9 +124,9 @@ item_tame : (s : Settings) (ds : List TagDirective) (x : Node) (xs : Nodes) → 
 unfolding items_layout before_item
 item_tame s ds x xs one more n fresh =
     let p = context s ds in
-    both (comma fresh ▹ turned (canonically s) n) (node_layout p (spot true n part.Item) x ▹ items_layout p true n false xs)
+    both (comma fresh ▹ turned (canonically s) n) (node_layout p (position true n part.Item) x ▹ items_layout p true n false xs)
     (both (comma fresh) (turned (canonically s) n) (comma_tame fresh) (turned_tame s n))
-    (both (node_layout p (spot true n part.Item) x) (items_layout p true n false xs) (one (spot true n part.Item)) (more n false))
+    (both (node_layout p (position true n part.Item) x) (items_layout p true n false xs) (one (position true n part.Item)) (more n false))
 
 before_key_tame : (s : Settings) (n : ℕ) (fresh simple : Bool)
     → Tame (before_key (canonically s) true n fresh simple)
@@ -148,9 +148,10 @@ pair_tame s ds k v ps key value more n fresh =
     let p = context s ds in
     let simple = is_simple p k in
     both (before_key (canonically s) true n fresh simple) _ (before_key_tame s n fresh simple)
-    (both (node_layout p (spot true n (key_part simple)) k) _ (key (spot true n (key_part simple)))
+    (both (node_layout p (position true n (key_part simple)) k) _
+    (key (position true n (key_part simple)))
     (both (before_value (canonically s) true n simple) _ (before_value_tame s n simple)
-    (both (node_layout p (spot true n part.Value) v) (pairs_layout p true n false ps) (value (spot true n part.Value)) (more n false))))
+    (both (node_layout p (position true n part.Value) v) (pairs_layout p true n false ps) (value (position true n part.Value)) (more n false))))
 
 mutual
   node_tame : (s : Settings) (ds : List TagDirective) → TagsFit ds → (n : Node) → IsSpellable n
@@ -213,9 +214,9 @@ document_tame s first unended d ds (right, prefixes, root, more) rest =
     let z = canonically s in
     let o = d.opening in
     let fit = tags_fit o.directives (or_second (version_problem o.version) (directives_problem [] o.directives) right) in
-    let body = node_layout (context s o.directives) root_spot d.root in
+    let body = node_layout (context s o.directives) root_position d.root in
     both (start_layout z first unended o) (body ▹ (end_layout z d.implicit_end ▹ documents_layout z false d.implicit_end ds)) (start_tame s first unended d ds (right, prefixes, root, more))
-    (both body (end_layout z d.implicit_end ▹ documents_layout z false d.implicit_end ds) (node_tame s o.directives fit d.root root root_spot)
+    (both body (end_layout z d.implicit_end ▹ documents_layout z false d.implicit_end ds) (node_tame s o.directives fit d.root root root_position)
     (both (end_layout z d.implicit_end) (documents_layout z false d.implicit_end ds) (end_tame s d.implicit_end) rest))
 
 pub documents_tame : (s : Settings) (first unended : Bool) (ds : List Document)

@@ -26,7 +26,7 @@ use Rattle.yaml_scan_laws_levels.specs.Pushes.{IsRight, stays_level}
 use Rattle.yaml_scan_laws_levels.specs.Steps.{Comes, WordLeaves}
 use Rattle.yaml_scan_laws_levels.specs.White.{IsGap}
 use Rattle.yaml_scan_laws_levels.specs.Signs.{sign}
-use Rattle.yaml_scan_laws_levels.specs.Walks.{Where, WalkReads, LeaveClear, behind}
+use Rattle.yaml_scan_laws_levels.specs.Walks.{WalkState, WalkReads, LeaveClear, behind}
 use Rattle.yaml_scan_laws_levels.proofs.Signing.{printed_begins}
 use Rattle.yaml_scan_laws_levels.proofs.Slotting.{near_before, level_opens}
 use Rattle.yaml_scan_laws_levels.proofs.Walking.{walk_word, walk_key_starts, walk_key_stops}
@@ -95,7 +95,7 @@ behind_starts d (b ∷ bs) text p (deep, which) l = solid_starts text p b (left_
 
 -- At a word, or at the end: so many brackets are open, and these bytes are left.
 pub record At (x : yaml_encoding_t) (text bs : List ℕ) (d : ℕ) (T : Tell) : Type 0 where
-  pub place : Where
+  pub place : WalkState
   pub reads : WalkReads x text place [] [] [] T
   pub deep : place.depth ≡ d
   pub left : Left text place.at bs
@@ -143,7 +143,8 @@ comes_of text p d k w e s up =
 
 -- a word that is no key, up to the next one
 step : (x : yaml_encoding_t) (text bs : List ℕ) (d f : ℕ) (T : Tell) (k : Kind) (w : WordText)
-    (e : ℕ) (may : Bool) (o : Where) → WalkReads x text o [] [] [] T → Stands text o.at o.depth k w
+    (e : ℕ) (may : Bool) (o : WalkState) → WalkReads x text o [] [] [] T
+    → Stands text o.at o.depth k w
     → o.at ≤ e → stays_level k o.depth ≡ true → is_value k ≡ false
     → WordLeaves text (depth_after k o.depth) (allows_key k (o.depth == 0) false) w e may false
     → depth_after k o.depth ≡ f → Left text e bs
@@ -260,7 +261,7 @@ colon_sign d deep = record { solid = refl; kind = λ text p h. kind_by (nat_lt 0
 
 -- a sign and the white behind it
 sign_step : (x : yaml_encoding_t) (text : List ℕ) (b f : ℕ) (T : Tell) (k : Kind) (body : TokenBody)
-    (ws bs : List ℕ) (o : Where) → WalkReads x text o [] [] [] T → IsSign b k body o.depth
+    (ws bs : List ℕ) (o : WalkState) → WalkReads x text o [] [] [] T → IsSign b k body o.depth
     → stays_level k o.depth ≡ true → is_value k ≡ false → depth_after k o.depth ≡ f
     → are_white ws ≡ true
     → tabs_fit (nat_lt 0 (depth_after k o.depth)) (allows_key k (o.depth == 0) false || false) ws

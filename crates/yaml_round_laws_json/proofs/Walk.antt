@@ -8,7 +8,7 @@ use Rattle.yaml_scan_history.specs.scan_model.Tokens as tokens
 use Rattle.yaml_scan_history.specs.scan_model.Tokens.{TokenBody}
 use Rattle.yaml_scan_history.specs.scan_words.Written.{are_gap}
 use Rattle.yaml_scan_history.proofs.HasLemmas.{has}
-use Rattle.yaml_scan_laws_levels.specs.Walks.{Where, Done}
+use Rattle.yaml_scan_laws_levels.specs.Walks.{WalkState, Done}
 use Rattle.yaml_scan_laws_levels.proofs.Signing.{marks_come}
 use Rattle.yaml_scan_laws_levels.proofs.Walking.{walk_starts, walk_white, walk_stops, walk_says}
 use Rattle.yaml_emit_laws_text.specs.Walk.{Left}
@@ -185,7 +185,7 @@ first_word x text front bs same white calm =
     let z : 0 + length text ≡ length text = omega arith in
     let whole : Left text 0 text = record { has = has text 0 text (λ k few. let y : 0 + k ≡ k = omega arith in ap (λ (i : ℕ). byte text i) y); ends = z } in
     let all = subst (λ (ys : List ℕ). Left text 0 ys) same whole in
-    let o : Where = record { at = 0; line = 0; depth = 0; now = true; broken = true } in
+    let o : WalkState = record { at = 0; line = 0; depth = 0; now = true; broken = true } in
     record {
       place = _;
       reads = walk_white x text o [] [] [] (λ es. tokens.stream_start x ∷ es) front (walk_starts x text) (places.has_at text 0 front (places.has_front text 0 front bs all.has)) (front_gap front white calm);

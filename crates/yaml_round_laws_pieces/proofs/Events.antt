@@ -9,7 +9,7 @@ use Rattle.yaml_emit_text.specs.Scalars.{scalar_text}
 use Rattle.yaml_emit_layout.specs.scan_model.declared.yaml_version_directive_t.{yaml_version_directive_t}
 use Rattle.yaml_emit_layout.specs.parse_model.Events.{TagDirective}
 use Rattle.yaml_emit_layout.specs.emit_tags.Tags.{tag_spelling, uri_text}
-use Rattle.yaml_emit_layout.specs.declared.Spot.{Spot}
+use Rattle.yaml_emit_layout.specs.declared.NodePosition.{NodePosition}
 use Rattle.yaml_emit_layout.specs.declared.Level.{Level}
 use Rattle.yaml_emit_layout.specs.declared.Phase.{Phase}
 use Rattle.yaml_emit_layout.specs.declared.Phase.TheVariants.{Items, Keys, Value}
@@ -18,7 +18,7 @@ use Rattle.yaml_emit_layout.specs.declared.Expected.TheVariants as at
 use Rattle.yaml_emit_layout.specs.Content.{Scalar, Start, Opening, Event, no_event, stream_start, stream_end, document_start, document_end, alias, scalar, sequence_start, sequence_end, mapping_start, mapping_end}
 use Rattle.yaml_emit_layout.specs.Grammar.{scalar_tag, start_tag}
 use Rattle.yaml_emit_layout.specs.Nodes.{Context, is_simple_part, deeper, checked, line_at, wrap_at, anchor_text, tag_text, properties_text, style_of, mark_text, page_at, scalar_layout, alias_layout, is_flow, indent_of, indented, comma, turned, before_item, question, before_key, before_value, closer, dots, version_word, version_text, directive_text, directives_text, is_directed, dashes, is_marked, start_layout, end_layout, is_kept, stop_layout}
-use Rattle.yaml_emit_layout.specs.State.{is_simple_event, spot_of, before_at, before_node, stop_at, start_at, is_fresh, closer_at, start_text, depth_text, text_at, depth_at, piece_at}
+use Rattle.yaml_emit_layout.specs.State.{is_simple_event, position_of, before_at, before_node, stop_at, start_at, is_fresh, closer_at, start_text, depth_text, text_at, depth_at, piece_at}
 use Rattle.yaml_round_laws_pieces.proofs.Regular.{Written, Regular, both, stay_regular, when_regular, if_regular, choose_regular, char_regular, keep_regular, mark_regular, word_regular, indicator_regular, opener_regular, line_regular, wrap_regular, checked_regular, scalar_text_regular}
 
 -- ---- nodes
@@ -34,7 +34,7 @@ tag_regular p (Some t) = word_regular (tag_spelling p.directives t)
 properties_regular : (p : Context) (a t : Option (List ℕ)) → Regular (properties_text p a t)
 properties_regular p a t = both (anchor_text a) (tag_text p t) (anchor_regular a) (tag_regular p t)
 
-scalar_regular : (p : Context) (at : Spot) (x : Scalar) → Regular (scalar_layout p at x)
+scalar_regular : (p : Context) (at : NodePosition) (x : Scalar) → Regular (scalar_layout p at x)
 unfolding scalar_layout
 scalar_regular p at x =
     let mark : Layout = mark_text p x (style_of p at x) in
@@ -44,7 +44,7 @@ scalar_regular p at x =
     (both mark (deep ▹ text) (when_regular _ (word (33 ∷ [])) (word_regular (33 ∷ [])))
     (both deep text (checked_regular (deeper p.settings at.around)) (scalar_text_regular (page_at p.settings at) p.settings.indent at.flow (style_of p at x) (chars x.value))))
 
-alias_regular : (at : Spot) (name : List ℕ) → Regular (alias_layout at name)
+alias_regular : (at : NodePosition) (name : List ℕ) → Regular (alias_layout at name)
 unfolding alias_layout
 alias_regular at name = both (word (42 ∷ name)) (when (is_simple_part at.part) (char 32)) (word_regular (42 ∷ name)) (when_regular (is_simple_part at.part) (char 32) (char_regular 32))
 
@@ -110,7 +110,7 @@ closer_regular : (s : Settings) (top : Option Level) (x : ℕ) → Regular (clos
 closer_regular s None x = stay_regular
 closer_regular s (Some l) x = closer_by s l.flow l.indent (is_fresh l.phase) x
 
-start_regular : (p : Context) (at : Spot) (x : ℕ) (q : Start) (empty : Bool)
+start_regular : (p : Context) (at : NodePosition) (x : ℕ) (q : Start) (empty : Bool)
     → Regular (start_text p at x q empty)
 start_regular p at x q empty =
     both (properties_text p q.anchor (start_tag p.settings.canonical q)) (when (is_flow p.settings at q empty) (opener x)) (properties_regular p q.anchor (start_tag p.settings.canonical q))
@@ -122,7 +122,7 @@ indented_regular n f h c =
     let p : Written (f (n c)) c = h (n c) c in
     record { text = p.text; behind = p.behind; is = p.is }
 
-depth_regular : (p : Context) (at : Spot) (sequence : Bool) (q : Start) (empty : Bool)
+depth_regular : (p : Context) (at : NodePosition) (sequence : Bool) (q : Start) (empty : Bool)
     → Regular (depth_text p at sequence q empty)
 depth_regular p at sequence q empty = indented_regular (indent_of p.settings at sequence (is_flow p.settings at q empty)) checked checked_regular
 
@@ -197,24 +197,24 @@ text_regular p place top (document_start o) empty = begin_regular p.settings pla
 text_regular p place top (document_end implicit) empty = ending_regular p.settings implicit
 text_regular p place top (alias name) empty =
     let simple : Bool = is_simple_event p (alias name) empty in
-    both (before_node p.settings top simple) (alias_layout (spot_of top simple) name) (before_regular p.settings top simple) (alias_regular (spot_of top simple) name)
+    both (before_node p.settings top simple) (alias_layout (position_of top simple) name) (before_regular p.settings top simple) (alias_regular (position_of top simple) name)
 text_regular p place top (scalar v) empty =
     let simple : Bool = is_simple_event p (scalar v) empty in
-    both (before_node p.settings top simple) (scalar_layout p (spot_of top simple) v) (before_regular p.settings top simple) (scalar_regular p (spot_of top simple) v)
+    both (before_node p.settings top simple) (scalar_layout p (position_of top simple) v) (before_regular p.settings top simple) (scalar_regular p (position_of top simple) v)
 text_regular p place top (sequence_start q) empty =
     let simple : Bool = is_simple_event p (sequence_start q) empty in
-    both (before_node p.settings top simple) (start_text p (spot_of top simple) 91 q empty) (before_regular p.settings top simple) (start_regular p (spot_of top simple) 91 q empty)
+    both (before_node p.settings top simple) (start_text p (position_of top simple) 91 q empty) (before_regular p.settings top simple) (start_regular p (position_of top simple) 91 q empty)
 text_regular p place top (mapping_start q) empty =
     let simple : Bool = is_simple_event p (mapping_start q) empty in
-    both (before_node p.settings top simple) (start_text p (spot_of top simple) 123 q empty) (before_regular p.settings top simple) (start_regular p (spot_of top simple) 123 q empty)
+    both (before_node p.settings top simple) (start_text p (position_of top simple) 123 q empty) (before_regular p.settings top simple) (start_regular p (position_of top simple) 123 q empty)
 text_regular p place top sequence_end empty = closer_regular p.settings top 93
 text_regular p place top mapping_end empty = closer_regular p.settings top 125
 
 deep_regular : (p : Context) (top : Option Level) (e : Event) (empty : Bool)
     → Regular (depth_at p top e empty)
 unfolding depth_at
-deep_regular p top (sequence_start q) empty = depth_regular p (spot_of top (is_simple_event p (sequence_start q) empty)) true q empty
-deep_regular p top (mapping_start q) empty = depth_regular p (spot_of top (is_simple_event p (mapping_start q) empty)) false q empty
+deep_regular p top (sequence_start q) empty = depth_regular p (position_of top (is_simple_event p (sequence_start q) empty)) true q empty
+deep_regular p top (mapping_start q) empty = depth_regular p (position_of top (is_simple_event p (mapping_start q) empty)) false q empty
 deep_regular p top no_event empty = stay_regular
 deep_regular p top (stream_start x) empty = stay_regular
 deep_regular p top stream_end empty = stay_regular

@@ -7,10 +7,10 @@ use Rattle.yaml_emit_laws_text.specs.emit_layout.emit_text.Text.{Item}
 use Rattle.yaml_emit_laws_text.specs.emit_layout.emit_text.Scalars.{scalar_text}
 use Rattle.yaml_emit_laws_text.specs.emit_layout.emit_text.Layout.{Layout, ◌▹◌, stay, choose, when, char, gap, word, indicator, opener, line, is_past, keep}
 use Rattle.yaml_emit_laws_text.specs.emit_layout.declared.level.Part.TheVariants as part
-use Rattle.yaml_emit_laws_text.specs.emit_layout.declared.level.Spot.{Spot}
+use Rattle.yaml_emit_laws_text.specs.emit_layout.declared.level.NodePosition.{NodePosition}
 use Rattle.yaml_emit_laws_text.specs.emit_layout.Content.{Document, Scalar, Start, Node, alias_node, scalar_node, sequence_node, mapping_node, Nodes, no_nodes, node, Pairs, no_pairs, pair}
 use Rattle.yaml_emit_laws_text.specs.emit_layout.Grammar.{has, kept_tag, scalar_tag, start_tag, version_problem, directives_problem}
-use Rattle.yaml_emit_laws_text.specs.emit_layout.Nodes.{Context, context_of, is_kept, is_plain, is_simple, is_simple_part, key_part, root_spot, spot, deeper, page_at, checked, line_at, wrap_at, properties_text, style_of, mark_text, scalar_layout, alias_layout, is_flow, indent_of, indented, are_none, are_no_pairs, comma, turned, before_item, question, before_key, before_value, closer, node_layout, items_layout, pairs_layout, dots, is_directed, is_marked, version_text, directives_text, dashes, start_layout, end_layout, stop_layout, documents_layout}
+use Rattle.yaml_emit_laws_text.specs.emit_layout.Nodes.{Context, context_of, is_kept, is_plain, is_simple, is_simple_part, key_part, root_position, position, deeper, page_at, checked, line_at, wrap_at, properties_text, style_of, mark_text, scalar_layout, alias_layout, is_flow, indent_of, indented, are_none, are_no_pairs, comma, turned, before_item, question, before_key, before_value, closer, node_layout, items_layout, pairs_layout, dots, is_directed, is_marked, version_text, directives_text, dashes, start_layout, end_layout, stop_layout, documents_layout}
 use Rattle.yaml_round_laws_documents.specs.BytesLaws.{IsNameOption, IsTextOption, IsSpellable, AreSpellable, PairsAreSpellable, DocumentsAreSpellable}
 use Rattle.yaml_round_laws_documents.proofs.Characters.{Fits, graphic, is_32, names_fit}
 use Rattle.yaml_round_laws_documents.proofs.Layouts.{Tame, letter_allowed, both, stay_tame, choose_tame, when_tame, char_tame, gap_tame, word_tame, opener_tame, line_tame, keep_tame}
@@ -30,7 +30,7 @@ indicator_tame x f = both gap _ gap_tame (λ c rest h. letter_allowed x (rest _)
 -- ---- leaves
 
 abbrev NodeTame : Context → Node → Type 0
-NodeTame p n = (at : Spot) → Tame (node_layout p at n)
+NodeTame p n = (at : NodePosition) → Tame (node_layout p at n)
 
 alias_tame : (p : Context) (name : List ℕ) → IsSpellable (alias_node name)
     → NodeTame p (alias_node name)
@@ -38,7 +38,7 @@ unfolding node_layout alias_layout
 alias_tame p name h at =
     both (word (42 ∷ name)) (when (is_simple_part at.part) (char 32)) (word_tame (42 ∷ name) (graphic 42 (omega arith) (omega arith), names_fit name h)) (when_tame (is_simple_part at.part) (char 32) (char_tame 32 is_32))
 
-text_by : (p : Context) (at : Spot) (x : Scalar) → IsUtf8 x.value
+text_by : (p : Context) (at : NodePosition) (x : Scalar) → IsUtf8 x.value
     → Tame (scalar_text (page_at p.settings at) p.settings.indent at.flow (style_of p at x)
     (chars x.value))
 unfolding style_of
@@ -149,8 +149,8 @@ item_tame : (p : Context) (x : Node) (xs : Nodes) → NodeTame p x → ItemsTame
     → ItemsTame p (node x xs)
 unfolding items_layout
 item_tame p x xs one more flow n fresh =
-    both (before_item p.settings flow n fresh) (node_layout p (spot flow n part.Item) x ▹ items_layout p flow n false xs) (before_item_tame p.settings flow n fresh)
-    (both (node_layout p (spot flow n part.Item) x) (items_layout p flow n false xs) (one (spot flow n part.Item)) (more flow n false))
+    both (before_item p.settings flow n fresh) (node_layout p (position flow n part.Item) x ▹ items_layout p flow n false xs) (before_item_tame p.settings flow n fresh)
+    (both (node_layout p (position flow n part.Item) x) (items_layout p flow n false xs) (one (position flow n part.Item)) (more flow n false))
 
 pair_tame : (p : Context) (k v : Node) (ps : Pairs) → NodeTame p k → NodeTame p v → PairsTame p ps
     → PairsTame p (pair k v ps)
@@ -158,9 +158,10 @@ unfolding pairs_layout
 pair_tame p k v ps key value more flow n fresh =
     let simple = is_simple p k in
     both (before_key p.settings flow n fresh simple) _ (before_key_tame p.settings flow n fresh simple)
-    (both (node_layout p (spot flow n (key_part simple)) k) _ (key (spot flow n (key_part simple)))
+    (both (node_layout p (position flow n (key_part simple)) k) _
+    (key (position flow n (key_part simple)))
     (both (before_value p.settings flow n simple) _ (before_value_tame p.settings flow n simple)
-    (both (node_layout p (spot flow n part.Value) v) (pairs_layout p flow n false ps) (value (spot flow n part.Value)) (more flow n false))))
+    (both (node_layout p (position flow n part.Value) v) (pairs_layout p flow n false ps) (value (position flow n part.Value)) (more flow n false))))
 
 mutual
   node_tame : (p : Context) → TagsFit p.directives → (n : Node) → IsSpellable n → NodeTame p n
@@ -216,7 +217,7 @@ documents_tame s fresh unended (d ∷ ds) (right, prefixes, root, more) =
     let o = d.opening in
     let p = context_of s o.directives in
     let fit = tags_fit o.directives (or_second (version_problem o.version) (directives_problem [] o.directives) right) in
-    let body = node_layout p root_spot d.root in
+    let body = node_layout p root_position d.root in
     both (start_layout s fresh unended o) (body ▹ (end_layout s d.implicit_end ▹ documents_layout s false d.implicit_end ds)) (start_tame s fresh unended d ds (right, prefixes, root, more))
-    (both body (end_layout s d.implicit_end ▹ documents_layout s false d.implicit_end ds) (node_tame p fit d.root root root_spot)
+    (both body (end_layout s d.implicit_end ▹ documents_layout s false d.implicit_end ds) (node_tame p fit d.root root root_position)
     (both (end_layout s d.implicit_end) (documents_layout s false d.implicit_end ds) (end_tame s d.implicit_end) (documents_tame s false d.implicit_end ds more)))

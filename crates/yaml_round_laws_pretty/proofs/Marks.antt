@@ -19,10 +19,10 @@ use Rattle.yaml_emit_laws_text.specs.emit_layout.emit_text.Quoted.{is_printable,
 use Rattle.yaml_emit_laws_text.specs.emit_layout.emit_text.Scalars.{value_break, cuts_at, cut, quote_char, text_char, flow_char, flow_body, block_header, chomp, chomp_mark, digit_mark, scalar_text}
 use Rattle.yaml_emit_laws_text.specs.emit_layout.emit_text.Layout.{Layout, Rest, ◌▹◌, stay, choose, when, char, letters, blank, blanks, break, new_line, gap, is_white, word, indicator, opener, must_break, indent_to, line, is_past, keep, after_text}
 use Rattle.yaml_emit_laws_text.specs.emit_layout.declared.level.Part.TheVariants as part
-use Rattle.yaml_emit_laws_text.specs.emit_layout.declared.level.Spot.{Spot}
+use Rattle.yaml_emit_laws_text.specs.emit_layout.declared.level.NodePosition.{NodePosition}
 use Rattle.yaml_emit_laws_text.specs.emit_layout.Content.{Opening, Document, Scalar, Start, Node, alias_node, scalar_node, sequence_node, mapping_node, Nodes, no_nodes, node, Pairs, no_pairs, pair}
 use Rattle.yaml_emit_laws_text.specs.emit_layout.Grammar.{has, kept_tag, scalar_tag, start_tag, opening_problem}
-use Rattle.yaml_emit_laws_text.specs.emit_layout.Nodes.{Context, context_of, MOST, is_kept, is_plain, is_simple, is_simple_part, key_part, root_spot, spot, deeper, page_at, checked, deep_if, line_at, anchor_text, tag_text, properties_text, style_of, mark_text, scalar_layout, alias_layout, is_flow, indent_of, indented, are_none, are_no_pairs, before_item, before_key, before_value, closer, node_layout, items_layout, pairs_layout, dots, is_directed, is_marked, version_text, directive_text, directives_text, dashes, start_layout, end_layout, stop_layout, documents_layout}
+use Rattle.yaml_emit_laws_text.specs.emit_layout.Nodes.{Context, context_of, MOST, is_kept, is_plain, is_simple, is_simple_part, key_part, root_position, position, deeper, page_at, checked, deep_if, line_at, anchor_text, tag_text, properties_text, style_of, mark_text, scalar_layout, alias_layout, is_flow, indent_of, indented, are_none, are_no_pairs, before_item, before_key, before_value, closer, node_layout, items_layout, pairs_layout, dots, is_directed, is_marked, version_text, directive_text, directives_text, dashes, start_layout, end_layout, stop_layout, documents_layout}
 use Rattle.yaml_emit_laws_text.specs.TagsLaws.{HaveUtf8, IsReadable}
 use Rattle.yaml_emit_laws_text.specs.Writable as text
 use Rattle.yaml_emit_laws_text.proofs.Joining.{written_readable}
@@ -228,13 +228,13 @@ kept_writable false false t h = h
 -- ---- nodes
 
 abbrev NodeHeads : Settings → Opening → Node → Type 0
-NodeHeads s o n = (at : Spot) → Heads (node_layout (context_of s o.directives) at n)
+NodeHeads s o n = (at : NodePosition) → Heads (node_layout (context_of s o.directives) at n)
 
 properties_heads : (s : Settings) (o : Opening) → Opened o → (anchor tag : Option (List ℕ))
     → text.IsWritableTag tag → Heads (properties_text (context_of s o.directives) anchor tag)
 properties_heads s o h anchor tag w = both (anchor_text anchor) (tag_text (context_of s o.directives) tag) (anchor_heads anchor) (tag_heads s o h tag w)
 
-text_by : (p : Context) (at : Spot) (x : Scalar)
+text_by : (p : Context) (at : NodePosition) (x : Scalar)
     → Heads (scalar_text (page_at p.settings at) p.settings.indent at.flow (style_of p at x)
     (chars x.value))
 unfolding style_of
@@ -268,7 +268,7 @@ items_heads : (p : Context) (ns : Nodes) → ItemsHeads p ns
 unfolding items_layout closer before_item
 items_heads p no_nodes n = stay_heads
 items_heads p (node x xs) n =
-    let more = node_layout p (spot false n part.Item) x ▹ items_layout p false n false xs in
+    let more = node_layout p (position false n part.Item) x ▹ items_layout p false n false xs in
     let dash = line_at p.settings n ▹ indicator 45 in
     led (dash ▹ more) (leading dash more (behind (line_at p.settings n) (indicator 45) (line_heads p.settings.line_break n) (indicator_leads 45 (low 45 (omega arith)))))
 
@@ -287,9 +287,9 @@ unfolding pairs_layout
 pair_heads s o k v ps key n =
     let p = context_of s o.directives in
     let simple = is_simple p k in
-    let more = node_layout p (spot false n part.Value) v ▹ pairs_layout p false n false ps in
-    both (before_key s false n true simple) (node_layout p (spot false n (key_part simple)) k ▹ (before_value s false n simple ▹ more)) (key_heads s n simple)
-    (both (node_layout p (spot false n (key_part simple)) k) (before_value s false n simple ▹ more) (key (spot false n (key_part simple))) (led (before_value s false n simple ▹ more) (leading (before_value s false n simple) more (value_leads s n simple))))
+    let more = node_layout p (position false n part.Value) v ▹ pairs_layout p false n false ps in
+    both (before_key s false n true simple) (node_layout p (position false n (key_part simple)) k ▹ (before_value s false n simple ▹ more)) (key_heads s n simple)
+    (both (node_layout p (position false n (key_part simple)) k) (before_value s false n simple ▹ more) (key (position false n (key_part simple))) (led (before_value s false n simple ▹ more) (leading (before_value s false n simple) more (value_leads s n simple))))
 
 no_pair_heads : (p : Context) → PairsHeads p no_pairs
 unfolding pairs_layout closer
@@ -375,9 +375,9 @@ pub documents_heads : (s : Settings) (fresh unended : Bool) (ds : List Document)
 unfolding documents_layout
 documents_heads s fresh unended [] w = stop_heads s unended
 documents_heads s fresh unended (d ∷ ds) ((right, utf8), root, more) =
-    let body = node_layout (context_of s d.opening.directives) root_spot d.root in
+    let body = node_layout (context_of s d.opening.directives) root_position d.root in
     both (start_layout s fresh unended d.opening) (body ▹ (end_layout s d.implicit_end ▹ documents_layout s false d.implicit_end ds)) (start_heads s fresh unended d.opening)
-    (both body (end_layout s d.implicit_end ▹ documents_layout s false d.implicit_end ds) (node_heads s d.opening (record { right = right; utf8 = utf8 }) d.root root root_spot)
+    (both body (end_layout s d.implicit_end ▹ documents_layout s false d.implicit_end ds) (node_heads s d.opening (record { right = right; utf8 = utf8 }) d.root root root_position)
     (both (end_layout s d.implicit_end) (documents_layout s false d.implicit_end ds) (end_heads s d.implicit_end) (documents_heads s false d.implicit_end ds more)))
 
 -- ---- bytes

@@ -9,7 +9,7 @@ use Rattle.yaml_scan_history.specs.scan_model.Runs.{is_blank_there, is_text, pas
 use Rattle.yaml_scan_history.specs.scan_model.Wrong.{Wrong}
 use Rattle.yaml_scan_history.proofs.RunsLemmas.{past-le}
 use Rattle.yaml_scan_history.specs.scan_scalars.Pieces.{Piece, Kept, Blank, Break, value}
-use Rattle.yaml_scan_history.specs.scan_scalars.Quoted.{Standing, Closing, Pieces, Bad, hex_value, is_scalar, coded, hex_len, simple_escape, escaped, escape_at, quote_at, standing_at, with_front, followed, pieces, valued as valued_pieces, quoted_at}
+use Rattle.yaml_scan_history.specs.scan_scalars.Quoted.{QuotedSpot, Closing, Pieces, Bad, hex_value, is_scalar, coded, hex_len, simple_escape, escaped, escape_at, quote_at, standing_at, with_front, followed, pieces, valued as valued_pieces, quoted_at}
 use Rattle.yaml_scan_history.specs.scan_scalars.Plain.{is_bracket, leads, PlainSpot, Ends as PlainEnds, Takes, Faulty as PlainFaulty, ends_at, spot_at as plain_spot_at, Words as PlainWords, is_nothing, with_piece, words_from, follows, words, PlainText, plain_with, plain_text, plain_at}
 use Rattle.yaml_scan_history.specs.scan_block.Value.{BlockLine, block_value}
 use Rattle.yaml_scan_history.specs.scan_block.Lines.{spaces, LineSpot, Stops, Line, Tab, spot_behind, line_spot, Lines, with_line, line_then, lines_from}
@@ -19,7 +19,7 @@ use Rattle.yaml_round_laws_sizes.proofs.Pieces.{piece_size, pieces_size, pieces_
 
 -- ---- between quotes
 
-abbrev Spent : ℕ → Standing → Type 0
+abbrev Spent : ℕ → QuotedSpot → Type 0
 Spent p Closing = Unit {0}
 Spent p (Pieces qs q) = 2 * pieces_size qs + 3 * p ≤ 3 * q
 Spent p (Bad w) = Unit {0}
@@ -134,7 +134,7 @@ front_spent : (p q : ℕ) (qs : List Piece) (r : Result (List Piece × ℕ) Wron
 front_spent p q qs (Ok x) a b = omega (arith, a, b, pieces_append qs x.0)
 front_spent p q qs (Err w) a b = tt
 
-followed_spent : (more : ℕ → Result (List Piece × ℕ) Wrong) (p : ℕ) (s : Standing)
+followed_spent : (more : ℕ → Result (List Piece × ℕ) Wrong) (p : ℕ) (s : QuotedSpot)
     → ((q : ℕ) → PiecesSpent q (more q)) → Spent p s → PiecesSpent p (followed more p s)
 followed_spent more p Closing rest f = omega arith
 followed_spent more p (Pieces qs q) rest f = front_spent p q qs (more q) f (rest q)

@@ -25,7 +25,7 @@ use Rattle.yaml_emit.specs.emit_text.declared.Status.TheVariants.{Going}
 use Rattle.yaml_round_laws_pieces.specs.Pieces.{Stand, added}
 use Rattle.yaml_round_laws_pieces.specs.Calls.{LeadsIn}
 use Rattle.yaml_round_records.specs.declared.onward.Onward.{Onward}
-use Rattle.yaml_round_records.specs.declared.onward.Standing.{Standing}
+use Rattle.yaml_round_records.specs.declared.onward.StandRecords.{StandRecords}
 use Rattle.yaml_round_records.specs.declared.standing.yaml_c_place.{yaml_c_place}
 use Rattle.yaml_round_records.specs.Written.{whole_text}
 use Rattle.yaml_round_records.specs.Leading.{StartsUnder, LeadsOnward, TakesAllEvents}
@@ -185,15 +185,15 @@ not_true : (b : Bool) → (b ≡ true → ⊥) → b ≡ false
 not_true true h = absurd (h refl)
 not_true false h = refl
 
-told_waiting : {n : ℕ} {a : At} (s : Standing) → TellsAt s (Some a) n → s.place.waiting ≡ n
+told_waiting : {n : ℕ} {a : At} (s : StandRecords) → TellsAt s (Some a) n → s.place.waiting ≡ n
 told_waiting s t = ap (λ (z : yaml_c_place). z.waiting) t.place
 
-none_waiting : (s : Standing) → TellsAt s None 0 → s.place.waiting ≡ 0
+none_waiting : (s : StandRecords) → TellsAt s None 0 → s.place.waiting ≡ 0
 none_waiting s t = ap (λ (z : yaml_c_place). z.waiting) t.place
 
 -- without a fault: what is said of the events, and that they lead where the emitter stands
 record Went (e : Emitter) (limit : ℕ) (s : Settings) (st : State) (c : Cursor) (es : List Event)
-    (text : List ℕ) (sd : Standing) : Type 0 where
+    (text : List ℕ) (sd : StandRecords) : Type 0 where
   right : refusal_behind s st es ≡ None
   is : text ≡ encode s.encoding (text_at s st c es)
   short : Fits limit s.encoding (text_at s st c es)
@@ -216,7 +216,7 @@ known_short first e limit s st c es k l on =
     (all.0, subst (λ (n : ℕ). Fits n s.encoding whole) l (fits e.limit s.encoding whole e.output all))
 
 went : (first e : Emitter) (w : RequestedSettings) (limit : ℕ) (s : Settings) (st : State)
-    (c : Cursor) (es : List Event) (text : List ℕ) (sd : Standing)
+    (c : Cursor) (es : List Event) (text : List ℕ) (sd : StandRecords)
     → Known first e s st c es → KnownOnward first s st c es → e.fresh ≡ false
     → e.fault ≡ None → text ≡ e.output → TellsStand e sd → e.requested_settings ≡ w
     → e.limit ≡ limit → s ≡ settings_in w s.encoding → Went e limit s st c es text sd
@@ -275,7 +275,7 @@ from_onward first w limit a es g = record {
 }
 
 from_goes : (first e : Emitter) (w : RequestedSettings) (limit : ℕ) (a : At) (es : List Event)
-    (text : List ℕ) (sd : Standing) → GoesFrom first w limit a → TakesAllEvents first es e
+    (text : List ℕ) (sd : StandRecords) → GoesFrom first w limit a → TakesAllEvents first es e
     → e.fault ≡ None → text ≡ e.output → TellsOutcome e → TellsStand e sd
     → AddsWholeText w limit (Some a) es text sd
 unfolding added_on refusal_on
@@ -348,7 +348,7 @@ none_leads x s a st h = record {
 }
 
 start_goes : (first e : Emitter) (w : RequestedSettings) (limit : ℕ) (es : List Event)
-    (text : List ℕ) (sd : Standing) → StartsUnder first w limit → TakesAllEvents first es e
+    (text : List ℕ) (sd : StandRecords) → StartsUnder first w limit → TakesAllEvents first es e
     → e.fault ≡ None → text ≡ e.output → TellsOutcome e → TellsStand e sd
     → AddsWholeText w limit None es text sd
 unfolding added_on refusal_on

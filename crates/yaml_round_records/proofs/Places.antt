@@ -22,7 +22,7 @@ use Rattle.yaml_emit.specs.emit_state.Stack.{stack}
 use Rattle.yaml_emit.specs.emit_state.declared.yaml_emitter_stand_t.{yaml_emitter_stand_t}
 use Rattle.yaml_round_records.specs.declared.onward.Onward.{Onward}
 use Rattle.yaml_round_records.specs.declared.listing.Listing.{Listing}
-use Rattle.yaml_round_records.specs.declared.onward.Standing.{Standing}
+use Rattle.yaml_round_records.specs.declared.onward.StandRecords.{StandRecords}
 use Rattle.yaml_round_records.specs.declared.record.yaml_c_directive.{yaml_c_directive}
 use Rattle.yaml_round_records.specs.declared.record.yaml_c_span.{yaml_c_span}
 use Rattle.yaml_round_records.specs.Listing.{PutsDirectives}
@@ -216,7 +216,7 @@ same_stack : (top : Option Level) (outer : List Level)
 same_stack None outer = refl
 same_stack (Some l) outer = refl
 
-tells_at : (e : Emitter) (s : Standing) (stand : yaml_emitter_stand_t) (outer : List Level)
+tells_at : (e : Emitter) (s : StandRecords) (stand : yaml_emitter_stand_t) (outer : List Level)
     (ds : List TagDirective) → StandsWhere e stand
     → stack (top_of e.course.state.levels) outer ≡ e.course.state.levels
     → ds ≡ e.course.state.directives → TellsStandPlace stand s.place
@@ -237,7 +237,8 @@ outer_stack e stand outer is o =
     ap (λ z. stack (top_of e.course.state.levels) (outer_if z outer)) is.innermost
     ∙ same_stack (top_of e.course.state.levels) outer ∙ o
 
-pub told_stand : (e : Emitter) (s : Standing) (stand : yaml_emitter_stand_t) (outer : List Level)
+pub told_stand : (e : Emitter) (s : StandRecords) (stand : yaml_emitter_stand_t)
+    (outer : List Level)
     (ds : List TagDirective) → e.fresh ≡ false → StandsWhere e stand
     → stack (top_of e.course.state.levels) outer ≡ e.course.state.levels
     → ds ≡ e.course.state.directives → TellsStandPlace stand s.place
@@ -279,7 +280,8 @@ no_place i = record {
 }
 
 -- before any event nothing is told
-pub tells_none : (s : Standing) (i : yaml_c_level) → s.place ≡ no_place i → i ≡ innermost_told None
+pub tells_none : (s : StandRecords) (i : yaml_c_level) → s.place ≡ no_place i
+    → i ≡ innermost_told None
     → s.levels.items ≡ [] → s.directives.items ≡ [] → s.bytes.items ≡ [] → TellsAt s None 0
 tells_none s i p e l d b = record {
   place = p ∙ ap no_place e;

@@ -16,7 +16,7 @@ use Rattle.yaml_emit.specs.emit_text.declared.Status.TheVariants.{Going}
 use Rattle.yaml_round_laws_pieces.specs.Pieces.{added}
 use Rattle.yaml_round_laws_pieces.specs.Calls.{LeadsIn}
 use Rattle.yaml_round_records.specs.declared.onward.Onward.{Onward}
-use Rattle.yaml_round_records.specs.declared.onward.Standing.{Standing}
+use Rattle.yaml_round_records.specs.declared.onward.StandRecords.{StandRecords}
 use Rattle.yaml_round_records.specs.Leading.{StartsUnder}
 use Rattle.yaml_emit.specs.emit_state.declared.yaml_emitter_stand_t.{yaml_emitter_stand_t}
 use Rattle.yaml_round_records.specs.declared.standing.yaml_c_place.{yaml_c_place}
@@ -49,13 +49,13 @@ abbrev pub IsShortOn : RequestedSettings → ℕ → Option At → List Event �
 IsShortOn w limit at es = Fits limit (settings_on w at es).encoding (added_on w at es)
 
 -- what the records of a stand mean, where its column is small enough to be gone on from
-abbrev pub Means : Standing → Option At → Type 0
+abbrev pub Means : StandRecords → Option At → Type 0
 Means s next = IsFew s.place.column
     → stand_meant s.place s.levels.items s.directives.items s.bytes.items ≡ Some next
 
 -- The records tell a stand where so many events wait, and nothing beside: every number of its place, the collections round the
 -- innermost one, and the document's directives, with the bytes of their texts, one behind another.
-pub record TellsAt (s : Standing) (next : Option At) (waiting : ℕ) : Type 0 where
+pub record TellsAt (s : StandRecords) (next : Option At) (waiting : ℕ) : Type 0 where
   pub place : s.place ≡ place_told next waiting
   pub levels : levels_meant s.levels.items ≡ Some (levels_round next)
   pub directives : all_directives s.bytes.items s.directives.items ≡ Some (directives_of next)
@@ -64,7 +64,7 @@ pub record TellsAt (s : Standing) (next : Option At) (waiting : ℕ) : Type 0 wh
 -- No event is refused, and what is added is the text, which passes no limit. The records mean the stand to which the events lead,
 -- and tell it; the last of them wait there, as many as is told, and gone on from there the settings in force are the same.
 pub record AddsWholeText (w : RequestedSettings) (limit : ℕ) (at : Option At) (es : List Event)
-    (text : List ℕ) (s : Standing) : Type 0 where
+    (text : List ℕ) (s : StandRecords) : Type 0 where
   pub right : refusal_on w at es ≡ None
   pub is : text ≡ bytes_on w at es
   pub short : IsShortOn w limit at es
@@ -93,17 +93,17 @@ StopsOn w limit at es fault = IsRefusedOn w limit at es fault
 
 -- An emitter that goes on from there may answer this.
 abbrev pub IsOnward : RequestedSettings → ℕ → Option At → List Event
-    → Result (List ℕ × Standing) Fault → Type 0
+    → Result (List ℕ × StandRecords) Fault → Type 0
 IsOnward w limit at es (Ok o) = AddsWholeText w limit at es o.0 o.1
 IsOnward w limit at es (Err fault) = StopsOn w limit at es fault
 
 -- the same, where a stand is meant
 abbrev pub IsOnwardAt : RequestedSettings → ℕ → Option (Option At) → List Event
-    → Result (List ℕ × Standing) Fault → Type 0
+    → Result (List ℕ × StandRecords) Fault → Type 0
 IsOnwardAt w limit None es r = Unit {0}
 IsOnwardAt w limit (Some at) es r = IsOnward w limit at es r
 
-abbrev pub onward_of : Onward → List ℕ × Standing
+abbrev pub onward_of : Onward → List ℕ × StandRecords
 onward_of o = (o.text.items, o.stand)
 
 -- ---- emitters
@@ -138,7 +138,7 @@ at_of e = record {
 }
 
 -- the records tell where an emitter without a fault stands
-pub record TellsStand (e : Emitter) (s : Standing) : Type 0 where
+pub record TellsStand (e : Emitter) (s : StandRecords) : Type 0 where
   pub nowhere : e.fresh ≡ true → Means s None × TellsAt s None 0
   pub somewhere : e.fresh ≡ false → refused_at e.course.state.place ≡ None
       → Means s (Some (at_of e)) × TellsAt s (Some (at_of e)) (length e.held)
@@ -175,7 +175,7 @@ pub record TellsStandPlace (stand : yaml_emitter_stand_t) (r : yaml_c_place) : T
   pub told : r ≡ place_record stand.encoding stand.place stand.innermost stand.cursor stand.waiting
 
 -- where an emitter stands, or its fault
-abbrev pub GoneTold : Emitter → Result Standing yaml_fault_t → Type 0
+abbrev pub GoneTold : Emitter → Result StandRecords yaml_fault_t → Type 0
 GoneTold e (Ok s) = (e.fault ≡ None) × TellsOutcome e × TellsStand e s
 GoneTold e (Err f) = IsMemoryFault emit_layers (fault_of f)
     ⊎ ((e.fault ≡ Some (fault_of f)) × TellsOutcome e)

@@ -18,7 +18,7 @@ pub use emitter::{Asked, asked_of, emitted};
 pub use listing::Listing;
 pub use meaning::are_meant;
 pub use number::{break_of, encoding_of, error_number, is_set};
-pub use onward::{Onward, Standing, emitted_on};
+pub use onward::{Onward, StandRecords, emitted_on};
 pub use record::{
     mark_told, yaml_c_directive, yaml_c_event, yaml_c_mark, yaml_c_settings, yaml_c_span,
 };

@@ -26,7 +26,7 @@ use yaml_parse::{yaml_fault_t, yaml_memory_fault, yaml_origin_t};
 
 /// Where an emitter stands, in records, with lists of its own.
 #[derive(Drop)]
-pub struct Standing {
+pub struct StandRecords {
     pub place: yaml_c_place,
     pub levels: Vec<yaml_c_level>,
     pub directives: Vec<yaml_c_directive>,
@@ -37,7 +37,7 @@ pub struct Standing {
 #[derive(Drop)]
 pub struct Onward {
     pub text: Vec<u8>,
-    pub stand: Standing,
+    pub stand: StandRecords,
 }
 
 // No text has more bytes than these: an output that goes on in a line keeps count of its columns.
@@ -148,11 +148,11 @@ fn place_told(stand: yaml_emitter_stand_t) -> yaml_c_place
 
 // Where an emitter stands that was given no event.
 #[tactic(auto, unfolding(crate::specs::Standing::stand_meant, crate::specs::Numbers::is_set))]
-fn nowhere(alloc: Global) -> Standing
+fn nowhere(alloc: Global) -> StandRecords
     ensures means { Means result None }
     ensures told { TellsAt result None 0 }
 {
-    Standing {
+    StandRecords {
         place: yaml_c_place {
             state: 0,
             encoding: 0,
@@ -171,7 +171,7 @@ fn nowhere(alloc: Global) -> Standing
 }
 
 // Where an emitter stands that was given events.
-fn somewhere(alloc: Global, emitter: &yaml_emitter_t) -> Result<Standing, AllocError>
+fn somewhere(alloc: Global, emitter: &yaml_emitter_t) -> Result<StandRecords, AllocError>
     requires { emitter.now.fresh ≡ false }
     ensures { IfOk result (TellsStand emitter.now) }
 {
@@ -189,7 +189,7 @@ fn somewhere(alloc: Global, emitter: &yaml_emitter_t) -> Result<Standing, AllocE
         bytes,
     } = listing;
     drop(events);
-    Ok(Standing {
+    Ok(StandRecords {
         place,
         levels,
         directives,
@@ -198,7 +198,7 @@ fn somewhere(alloc: Global, emitter: &yaml_emitter_t) -> Result<Standing, AllocE
 }
 
 // Where an emitter stands. Refused only for want of memory.
-fn stand_behind(alloc: Global, emitter: &yaml_emitter_t) -> Result<Standing, AllocError>
+fn stand_behind(alloc: Global, emitter: &yaml_emitter_t) -> Result<StandRecords, AllocError>
     ensures { IfOk result (TellsStand emitter.now) }
 {
     if yaml_emitter_fresh(emitter) {
@@ -209,7 +209,7 @@ fn stand_behind(alloc: Global, emitter: &yaml_emitter_t) -> Result<Standing, All
 }
 
 // Where an emitter stands, unless it has a fault.
-fn stand_told(alloc: Global, emitter: &yaml_emitter_t) -> Result<Standing, yaml_fault_t>
+fn stand_told(alloc: Global, emitter: &yaml_emitter_t) -> Result<StandRecords, yaml_fault_t>
     ensures { GoneTold emitter.now result }
 {
     match fault_in(emitter) {

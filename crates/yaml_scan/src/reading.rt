@@ -9,7 +9,7 @@ ghost use Rattle.yaml_scan_machine.specs.Stood.{MayRead, Steps};
 ghost use Rattle.yaml_scan.specs.Found.{Comes, ReadsOn};
 
 use std::mem;
-use yaml_scan_machine::{Machine, Spot};
+use yaml_scan_machine::{LexemeSpot, Machine};
 use yaml_scan_model::{Spares, moved, yaml_fault_t, yaml_token_body_t, yaml_token_t};
 
 /// What reading on came to: the next token is known, or there is none, or a fault stands in the slot that was lent.
@@ -217,7 +217,7 @@ fn fill_further(machine: &mut Machine, spares: &mut Spares, fault: &mut yaml_fau
     requires some { 0 < machine.old.dropped + length machine.old.waiting.items }
     ensures { ReadsOn machine.old machine.new (fault_of fault.new) result }
 {
-    let mut spot = Spot::blank();
+    let mut spot = LexemeSpot::blank();
     'steps: loop {
         if machine.ended {
             return Sought::Nothing;
@@ -237,7 +237,7 @@ fn fill_further(machine: &mut Machine, spares: &mut Spares, fault: &mut yaml_fau
 #[inline(always)]
 fn read_one_more(
     machine: &mut Machine,
-    spot: &mut Spot,
+    spot: &mut LexemeSpot,
     spares: &mut Spares,
     fault: &mut yaml_fault_t,
 ) -> bool

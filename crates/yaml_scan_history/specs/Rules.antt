@@ -14,7 +14,7 @@ use Rattle.yaml_scan_words.specs.Anchors.{may_end_name}
 use Rattle.yaml_scan_words.specs.Uris.{UriSpot, Spells, Ends, Faulty, octet_at, spot_at, uri_at, some_uri_at}
 use Rattle.yaml_scan_words.specs.Tags.{TagText, parts_at, may_end_tag}
 use Rattle.yaml_scan_words.specs.Directives.{is_yaml, is_tag, value_at, ValueText, handle_at, comment_end}
-use Rattle.yaml_scan_scalars.specs.Quoted.{Standing, Bad, standing_at, hex_len, hex_value, is_scalar, simple_escape}
+use Rattle.yaml_scan_scalars.specs.Quoted.{QuotedSpot, Bad, standing_at, hex_len, hex_value, is_scalar, simple_escape}
 use Rattle.yaml_scan_scalars.specs.Quoted as quoted
 use Rattle.yaml_scan_scalars.specs.Plain as plain
 use Rattle.yaml_scan_block.specs.Header.{digit_place, header_end, header_at}
@@ -169,7 +169,7 @@ pub record DirectivesAreTold : Type 0 where
 
 -- ---- quotes
 
-abbrev pub IsStandingTold : Standing → List ℕ → List ℕ → ℕ → Type 0
+abbrev pub IsStandingTold : QuotedSpot → List ℕ → List ℕ → ℕ → Type 0
 IsStandingTold (Bad w) context problem q = TellsAll w context problem q
 IsStandingTold quoted.Closing context problem q = ⊥
 IsStandingTold (quoted.Pieces ps r) context problem q = ⊥

@@ -24,7 +24,7 @@ use Rattle.yaml_scan_laws_levels.specs.Pushes.{IsRight, IsLone, stays_level}
 use Rattle.yaml_scan_laws_levels.specs.Tokens.{told, start_bodies}
 use Rattle.yaml_scan_laws_levels.specs.Steps.{Stands, Comes, WordLeaves, may_begin}
 use Rattle.yaml_scan_laws_levels.specs.Ends.{end_at}
-use Rattle.yaml_scan_laws_levels.specs.Walks.{WalkSays, Content, Key, WalkGoes, Where, Clear, LeaveClear, Outside, DeeperLeaves, WalkReads, ClosesAt, LevelsPart, WalkEnds, behind, WalkStarts, WalkWhite, WalkWord, WalkMark, WalkOuter, WalkStops, WalkKeyStarts, WalkKeyGoes, WalkKeyStops, WalkAsks, WalkAnswers}
+use Rattle.yaml_scan_laws_levels.specs.Walks.{WalkSays, Content, Key, WalkGoes, WalkState, Clear, LeaveClear, Outside, DeeperLeaves, WalkReads, ClosesAt, LevelsPart, WalkEnds, behind, WalkStarts, WalkWhite, WalkWord, WalkMark, WalkOuter, WalkStops, WalkKeyStarts, WalkKeyGoes, WalkKeyStops, WalkAsks, WalkAnswers}
 use Rattle.yaml_scan_laws_levels.proofs.Levels.{rises_front, left_closes, inside_leaves}
 use Rattle.yaml_scan_laws_levels.proofs.Telling.{word_tells, level_tells, key_tells}
 use Rattle.yaml_scan_laws_levels.proofs.Slotting.{later_is_lone, none_is_lone, slots_go_on}
@@ -151,7 +151,7 @@ walk_white x text o cs ls more T white r at blank = record {
   tells = r.tells;
 }
 
-word_on : (x : yaml_encoding_t) (text : List ℕ) (o : Where) (cs ds ls : List ℕ)
+word_on : (x : yaml_encoding_t) (text : List ℕ) (o : WalkState) (cs ds ls : List ℕ)
     (T : List TokenBody → List TokenBody) (k : Kind) (gap : List ℕ) (w : WordText) (e : ℕ)
     (then wide : Bool) (r : WalkReads x text o cs ls [] T) → let q = o.at + length gap in
     Clear (read_at text r.lexemes k q (may_begin o.now o.broken gap) w ∷ r.lexemes) ds

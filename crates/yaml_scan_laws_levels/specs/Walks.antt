@@ -24,7 +24,7 @@ use Rattle.yaml_scan_laws_levels.specs.Steps.{Stands, Comes, WordLeaves, may_beg
 
 -- Where a walk is: its place, a line up to which candidates start, how many brackets are open, and
 -- whether a key may begin now, or behind a break.
-pub record Where : Type 0 where
+pub record WalkState : Type 0 where
   pub at : ℕ
   pub line : ℕ
   pub depth : ℕ
@@ -53,7 +53,7 @@ DeeperLeaves = (k : Kind) (f : ℕ) (a : Bool) (cs : List ℕ) → Outside f cs 
 -- A walk within the levels ls, beside which `more` are open, where no `:` is owed: what the lexemes
 -- tell, BLOCK-END for `more`, and then others, is what T makes of these. At the depths cs, those of
 -- a `?` in brackets, no candidate stands.
-pub record WalkReads (x : yaml_encoding_t) (text : List ℕ) (o : Where) (cs ls more : List ℕ)
+pub record WalkReads (x : yaml_encoding_t) (text : List ℕ) (o : WalkState) (cs ls more : List ℕ)
     (T : List TokenBody → List TokenBody) : Type 0 where
   pub lexemes : List Lexeme
   pub entries : List Entry
@@ -64,7 +64,7 @@ pub record WalkReads (x : yaml_encoding_t) (text : List ℕ) (o : Where) (cs ls 
       → told (record { encoding = x; text = text }) entries (length more) bs ≡ T bs
 
 -- A walk within a key of that depth that starts there: T was told before it, its words tell K.
-pub record ReadsKey (x : yaml_encoding_t) (text : List ℕ) (o : Where) (d : ℕ)
+pub record ReadsKey (x : yaml_encoding_t) (text : List ℕ) (o : WalkState) (d : ℕ)
     (start : yaml_mark_t) (cs ls : List ℕ)
     (T K : List TokenBody → List TokenBody) : Type 0 where
   pub lexemes : List Lexeme
@@ -100,13 +100,13 @@ LevelsPart = (ls more : List ℕ) → Rises 0 (ls ++ more) → Rises 0 ls × Ris
 
 -- The innermost level is left to whoever opened the others: it owes a BLOCK-END.
 abbrev pub WalkEnds : Type 0
-WalkEnds = (x : yaml_encoding_t) (text : List ℕ) (o : Where) (m : ℕ) (cs ls more : List ℕ)
+WalkEnds = (x : yaml_encoding_t) (text : List ℕ) (o : WalkState) (m : ℕ) (cs ls more : List ℕ)
     (T : List TokenBody → List TokenBody) → WalkReads x text o cs (ls ++ m ∷ []) more T
     → WalkReads x text o cs ls (m ∷ more) (λ bs. T (block_end ∷ bs))
 
 -- ---- steps
 
-abbrev pub behind : List ℕ → ℕ → ℕ → ℕ → Bool → Bool → Where
+abbrev pub behind : List ℕ → ℕ → ℕ → ℕ → Bool → Bool → WalkState
 behind text q e d then wide = record {
   at = e;
   line = line_at text q;
@@ -121,7 +121,7 @@ WalkStarts = (x : yaml_encoding_t) (text : List ℕ)
     (λ bs. stream_start x ∷ bs)
 
 abbrev pub WalkWhite : Type 0
-WalkWhite = (x : yaml_encoding_t) (text : List ℕ) (o : Where) (cs ls more : List ℕ)
+WalkWhite = (x : yaml_encoding_t) (text : List ℕ) (o : WalkState) (cs ls more : List ℕ)
     (T : List TokenBody → List TokenBody)
     (white : List ℕ) → WalkReads x text o cs ls more T → HasAt text o.at white
     → are_gap white ≡ true
@@ -136,7 +136,7 @@ WalkWhite = (x : yaml_encoding_t) (text : List ℕ) (o : Where) (cs ls more : Li
 -- A word in a line, a bracket, a comma or a `?` in brackets; a `:` on a later line than all
 -- candidates.
 abbrev pub WalkWord : Type 0
-WalkWord = (x : yaml_encoding_t) (text : List ℕ) (o : Where) (cs ls : List ℕ)
+WalkWord = (x : yaml_encoding_t) (text : List ℕ) (o : WalkState) (cs ls : List ℕ)
     (T : List TokenBody → List TokenBody)
     (k : Kind) (gap : List ℕ) (w : WordText) (e : ℕ) (then wide : Bool)
     → WalkReads x text o cs ls [] T
@@ -151,7 +151,8 @@ WalkWord = (x : yaml_encoding_t) (text : List ℕ) (o : Where) (cs ls : List ℕ
 -- A `-` or a `?` in a block, or a `:` there on a later line than all candidates. Which level opens,
 -- if any, is told beside.
 abbrev pub WalkMark : Type 0
-WalkMark = (x : yaml_encoding_t) (text : List ℕ) (o : Where) (ls more new : List ℕ) (what : Opens)
+WalkMark = (x : yaml_encoding_t) (text : List ℕ) (o : WalkState) (ls more new : List ℕ)
+    (what : Opens)
     (T : List TokenBody → List TokenBody) (k : Kind) (gap : List ℕ) (w : WordText) (e : ℕ)
     (then wide : Bool)
     → WalkReads x text o [] ls more T → o.depth ≡ 0
@@ -165,7 +166,7 @@ WalkMark = (x : yaml_encoding_t) (text : List ℕ) (o : Where) (ls more new : Li
 
 -- A document's mark or a directive.
 abbrev pub WalkOuter : Type 0
-WalkOuter = (x : yaml_encoding_t) (text : List ℕ) (o : Where) (more : List ℕ)
+WalkOuter = (x : yaml_encoding_t) (text : List ℕ) (o : WalkState) (more : List ℕ)
     (T : List TokenBody → List TokenBody)
     (k : Kind) (gap : List ℕ) (w : WordText) (e : ℕ) (then wide : Bool)
     → WalkReads x text o [] [] more T → o.depth ≡ 0
@@ -185,7 +186,7 @@ pub record Done (x : yaml_encoding_t) (text : List ℕ) (bs : List TokenBody) : 
   pub same : map (λ (t : Token). t.body) tokens ≡ bs
 
 abbrev pub WalkStops : Type 0
-WalkStops = (x : yaml_encoding_t) (text : List ℕ) (o : Where) (more : List ℕ)
+WalkStops = (x : yaml_encoding_t) (text : List ℕ) (o : WalkState) (more : List ℕ)
     (T : List TokenBody → List TokenBody)
     (gap : List ℕ) (w : WordText) (e : ℕ) → WalkReads x text o [] [] more T → o.depth ≡ 0
     → Comes text o.at 0 0 kinds.StreamEnd gap w e → Done x text (T (stream_end ∷ []))
@@ -194,7 +195,7 @@ WalkStops = (x : yaml_encoding_t) (text : List ℕ) (o : Where) (more : List ℕ
 
 -- The first word of a key.
 abbrev pub WalkKeyStarts : Type 0
-WalkKeyStarts = (x : yaml_encoding_t) (text : List ℕ) (o : Where) (cs ls more : List ℕ)
+WalkKeyStarts = (x : yaml_encoding_t) (text : List ℕ) (o : WalkState) (cs ls more : List ℕ)
     (T : List TokenBody → List TokenBody)
     (k : Kind) (gap : List ℕ) (w : WordText) (e : ℕ) (then wide : Bool)
     → WalkReads x text o cs ls more T
@@ -210,7 +211,7 @@ WalkKeyStarts = (x : yaml_encoding_t) (text : List ℕ) (o : Where) (cs ls more 
 
 -- A further word of a key, which is near its start.
 abbrev pub WalkKeyGoes : Type 0
-WalkKeyGoes = (x : yaml_encoding_t) (text : List ℕ) (o : Where) (d : ℕ) (start : yaml_mark_t)
+WalkKeyGoes = (x : yaml_encoding_t) (text : List ℕ) (o : WalkState) (d : ℕ) (start : yaml_mark_t)
     (cs ls : List ℕ)
     (T K : List TokenBody → List TokenBody) (k : Kind) (gap : List ℕ) (w : WordText) (e : ℕ)
     (then wide : Bool)
@@ -226,7 +227,7 @@ WalkKeyGoes = (x : yaml_encoding_t) (text : List ℕ) (o : Where) (d : ℕ) (sta
 
 -- The `:` of a key, which is near its start. Which level opens, if any, is told beside.
 abbrev pub WalkKeyStops : Type 0
-WalkKeyStops = (x : yaml_encoding_t) (text : List ℕ) (o : Where) (start : yaml_mark_t)
+WalkKeyStops = (x : yaml_encoding_t) (text : List ℕ) (o : WalkState) (start : yaml_mark_t)
     (cs ls new : List ℕ) (what : Opens)
     (T K : List TokenBody → List TokenBody) (gap : List ℕ) (w : WordText) (e : ℕ) (then wide : Bool)
     → ReadsKey x text o o.depth start cs ls T K
@@ -243,7 +244,7 @@ WalkKeyStops = (x : yaml_encoding_t) (text : List ℕ) (o : Where) (start : yaml
 
 -- The `?` itself: behind it no candidate stands at its depth.
 abbrev pub WalkAsks : Type 0
-WalkAsks = (x : yaml_encoding_t) (text : List ℕ) (o : Where) (cs ls : List ℕ)
+WalkAsks = (x : yaml_encoding_t) (text : List ℕ) (o : WalkState) (cs ls : List ℕ)
     (T : List TokenBody → List TokenBody)
     (gap : List ℕ) (w : WordText) (e : ℕ) (then wide : Bool) → WalkReads x text o cs ls [] T
     → LeaveClear kinds.KeyMark o.depth (may_begin o.now o.broken gap) cs → nat_lt 0 o.depth ≡ true
@@ -254,7 +255,7 @@ WalkAsks = (x : yaml_encoding_t) (text : List ℕ) (o : Where) (cs ls : List ℕ
 
 -- Its `:`, on the same line or a later one.
 abbrev pub WalkAnswers : Type 0
-WalkAnswers = (x : yaml_encoding_t) (text : List ℕ) (o : Where) (cs ls : List ℕ)
+WalkAnswers = (x : yaml_encoding_t) (text : List ℕ) (o : WalkState) (cs ls : List ℕ)
     (T : List TokenBody → List TokenBody)
     (gap : List ℕ) (w : WordText) (e : ℕ) (then wide : Bool)
     → WalkReads x text o (o.depth ∷ cs) ls [] T
@@ -271,7 +272,7 @@ pub data RoleInWalk : Type 0 where
   Key : ℕ → yaml_mark_t → RoleInWalk
 
 -- T was told before the node's words, K by them
-abbrev pub Goes : RoleInWalk → yaml_encoding_t → List ℕ → Where → List ℕ → List ℕ
+abbrev pub Goes : RoleInWalk → yaml_encoding_t → List ℕ → WalkState → List ℕ → List ℕ
     → (List TokenBody → List TokenBody) → (List TokenBody → List TokenBody) → Type 0
 Goes Content x text o cs ls T K = WalkReads x text o cs ls [] (λ bs. T (K bs))
 Goes (Key d start) x text o cs ls T K = ReadsKey x text o d start cs ls T K
@@ -285,7 +286,7 @@ MayGo (Key d start) text k f a q w = IsInKey k d f a
 
 -- A further word of a node, whichever it is.
 abbrev pub WalkGoes : Type 0
-WalkGoes = (r : RoleInWalk) (x : yaml_encoding_t) (text : List ℕ) (o : Where) (cs ls : List ℕ)
+WalkGoes = (r : RoleInWalk) (x : yaml_encoding_t) (text : List ℕ) (o : WalkState) (cs ls : List ℕ)
     (T K : List TokenBody → List TokenBody) (k : Kind) (gap : List ℕ) (w : WordText) (e : ℕ)
     (then wide : Bool) → Goes r x text o cs ls T K
     → LeaveClear k o.depth (may_begin o.now o.broken gap) cs
@@ -302,17 +303,17 @@ WalkGoes = (r : RoleInWalk) (x : yaml_encoding_t) (text : List ℕ) (o : Where) 
 
 -- What is told may be said otherwise, and depths may be forgotten.
 pub record WalkSays : Type 0 where
-  pub other : (x : yaml_encoding_t) (text : List ℕ) (o : Where) (cs ls more : List ℕ)
+  pub other : (x : yaml_encoding_t) (text : List ℕ) (o : WalkState) (cs ls more : List ℕ)
       (T U : List TokenBody → List TokenBody) → WalkReads x text o cs ls more T
       → ((bs : List TokenBody) → T bs ≡ U bs) → WalkReads x text o cs ls more U
-  pub fewer : (x : yaml_encoding_t) (text : List ℕ) (o : Where) (c : ℕ) (cs ls more : List ℕ)
+  pub fewer : (x : yaml_encoding_t) (text : List ℕ) (o : WalkState) (c : ℕ) (cs ls more : List ℕ)
       (T : List TokenBody → List TokenBody) → WalkReads x text o (c ∷ cs) ls more T
       → WalkReads x text o cs ls more T
-  pub key : (x : yaml_encoding_t) (text : List ℕ) (o : Where) (d : ℕ) (start : yaml_mark_t)
+  pub key : (x : yaml_encoding_t) (text : List ℕ) (o : WalkState) (d : ℕ) (start : yaml_mark_t)
       (cs ls : List ℕ) (T K L : List TokenBody → List TokenBody)
       → ReadsKey x text o d start cs ls T K → ((bs : List TokenBody) → K bs ≡ L bs)
       → ReadsKey x text o d start cs ls T L
-  pub white : (x : yaml_encoding_t) (text : List ℕ) (o : Where) (d : ℕ) (start : yaml_mark_t)
+  pub white : (x : yaml_encoding_t) (text : List ℕ) (o : WalkState) (d : ℕ) (start : yaml_mark_t)
       (cs ls : List ℕ) (T K : List TokenBody → List TokenBody) (white : List ℕ)
       → ReadsKey x text o d start cs ls T K → HasAt text o.at white → are_gap white ≡ true
       → ReadsKey x text (record {

@@ -9,7 +9,7 @@ use Rattle.yaml_scan_history.proofs.MarksLemmas.{within, past_break}
 use Rattle.yaml_scan_history.specs.scan_words.Readings.{behind_bytes}
 use Rattle.yaml_scan_history.proofs.PlacesLemmas.{Lands}
 use Rattle.yaml_scan_history.specs.scan_scalars.Pieces.{Piece, value}
-use Rattle.yaml_scan_history.specs.scan_scalars.Quoted.{Standing, Closing, Pieces, Bad, hex_digit, hex_value, is_scalar, coded, hex_len, simple_escape, escaped, escape_at, quote_at, standing_at, with_front, followed, pieces, valued, quoted_at}
+use Rattle.yaml_scan_history.specs.scan_scalars.Quoted.{QuotedSpot, Closing, Pieces, Bad, hex_digit, hex_value, is_scalar, coded, hex_len, simple_escape, escaped, escape_at, quote_at, standing_at, with_front, followed, pieces, valued, quoted_at}
 
 some_of : (b : ℕ) → (b == 0) ≡ false → 0 < b
 some_of b h = grind (arith, nat_tests)
@@ -45,7 +45,7 @@ hex_inside (suc n) text p h s =
     omega (arith, here)
 
 -- what stands at the place ends behind it, inside the text
-abbrev Fits : List ℕ → ℕ → Standing → Type 0
+abbrev Fits : List ℕ → ℕ → QuotedSpot → Type 0
 Fits text p Closing = p < length text
 Fits text p (Pieces qs q) = (p < q) × (q ≤ length text)
 Fits text p (Bad w) = Unit {0}
@@ -134,7 +134,7 @@ lands_further : {Y : Type 0} (end : Y → ℕ) (text : List ℕ) (o p : ℕ) (r 
 lands_further end text o p (Ok y) l h = record { forward = omega (arith, l, h.forward); inside = h.inside }
 lands_further end text o p (Err w) l h = tt
 
-followed_lands : (more : ℕ → Result (List Piece × ℕ) Wrong) (text : List ℕ) (p : ℕ) (s : Standing)
+followed_lands : (more : ℕ → Result (List Piece × ℕ) Wrong) (text : List ℕ) (p : ℕ) (s : QuotedSpot)
     → ((q : ℕ) → Lands behind_pieces text (q + 1) (more q)) → Fits text p s
     → Lands behind_pieces text (p + 1) (followed more p s)
 followed_lands more text p Closing rest f = record { forward = omega arith; inside = omega (arith, f) }

@@ -10,7 +10,7 @@ use Rattle.yaml_scan_history.specs.scan_model.Breaks.{break_value, is_document_i
 use Rattle.yaml_scan_history.specs.scan_model.Wrong.{Wrong}
 use Rattle.yaml_scan_history.proofs.MarksLemmas.{within}
 use Rattle.yaml_scan_history.specs.scan_scalars.Pieces.{Piece, Kept, Blank, Break, value}
-use Rattle.yaml_scan_history.specs.scan_scalars.Quoted.{Standing, Closing, Pieces, Bad, hex_digit, hex_value, is_scalar, coded, hex_len, simple_escape, escaped, escape_at, quote_at, standing_at, with_front, followed, pieces, valued, quoted_at}
+use Rattle.yaml_scan_history.specs.scan_scalars.Quoted.{QuotedSpot, Closing, Pieces, Bad, hex_digit, hex_value, is_scalar, coded, hex_len, simple_escape, escaped, escape_at, quote_at, standing_at, with_front, followed, pieces, valued, quoted_at}
 use Rattle.yaml_scan_laws_texts.proofs.Whole.{IsWhole, whole_ascii, whole_after, whole_before, whole_behind, blank_small, ascii_utf8, cut, break_utf8, nel_char, nbsp_char, ls_char, ps_char}
 use Rattle.yaml_scan_laws_texts.proofs.Values.{Goes, value_utf8}
 
@@ -36,7 +36,7 @@ record Joins (u text : List ℕ) (qs : List Piece) (q : ℕ) : Type 0 where
   pub waits : Waits waiting text q
   pub goes : (ps : List Piece) → FollowsOn text q ps → Goes u (qs ++ ps)
 
-abbrev Fits : List ℕ → List ℕ → ℕ → Standing → Type 0
+abbrev Fits : List ℕ → List ℕ → ℕ → QuotedSpot → Type 0
 Fits u text p Closing = IsUtf8 u × IsWhole text (p + 1)
 Fits u text p (Pieces qs q) = Joins u text qs q
 Fits u text p (Bad w) = Unit {0}
@@ -235,7 +235,8 @@ front_good : (u text : List ℕ) (q : ℕ) (qs : List Piece) (r : Result (List P
 front_good u text q qs (Ok x) j rest = record { goes = j.goes x.0 (λ v wait. (rest v wait).goes); place = (rest j.waiting j.waits).place }
 front_good u text q qs (Err e) j rest = tt
 
-followed_good : (more : ℕ → Result (List Piece × ℕ) Wrong) (u text : List ℕ) (p : ℕ) (s : Standing)
+followed_good : (more : ℕ → Result (List Piece × ℕ) Wrong) (u text : List ℕ) (p : ℕ)
+    (s : QuotedSpot)
     → ((q : ℕ) (v : List ℕ) → Waits v text q → Good v text (more q)) → Fits u text p s
     → Good u text (followed more p s)
 followed_good more u text p Closing rest (a, b) = record { goes = a; place = b }

@@ -19,7 +19,7 @@ use Rattle.yaml_scan_laws_order.proofs.HistoryForward.{last_is_all}
 use Rattle.yaml_scan_laws_order.proofs.WordForward.{FitsAny, kind_fits}
 use Rattle.yaml_scan_laws_texts.specs.KeyFree.{asked_after, asked, fits, is_key_free, keeps_level, is_level_free, kinds_of}
 use Rattle.yaml_scan_laws_texts.specs.KeysLaws.{gap_in, end_in, lexeme_of}
-use Rattle.yaml_scan_laws_texts.specs.KeysTexts.{Word, lexemes, StandsBehind, Stand, word_kinds, token_of, first_token, ReachEnd}
+use Rattle.yaml_scan_laws_texts.specs.KeysTexts.{Word, lexemes, StandsBehind, WordsStand, word_kinds, token_of, first_token, ReachEnd}
 use Rattle.yaml_scan_laws_texts.proofs.MadeLemmas.{AllMade, history_made}
 use Rattle.yaml_scan_laws_texts.proofs.FreeLemmas.{level_free, level_rest}
 use Rattle.yaml_scan_laws_texts.proofs.StepLemmas.{remaining_bare, step_reads}
@@ -64,11 +64,11 @@ goes_behind : (w : Word) (ws : List Word) → GoOn (w ∷ ws) → GoOn ws
 goes_behind w ws g = (and_parts (not (is_end w.kind)) (list_all (λ (x : Word). not (is_end x.kind)) ws) g).1
 
 -- as many steps as there are words, and the first, read them
-words_history : (text : List ℕ) (w : Word) (ws : List Word) → Stand text (w ∷ ws)
+words_history : (text : List ℕ) (w : Word) (ws : List Word) → WordsStand text (w ∷ ws)
     → is_level_free (w.kind ∷ word_kinds ws) ≡ true → GoOn ws
     → history text (suc (length ws)) ≡ lexemes text ws
     → history text (suc (suc (length ws))) ≡ lexemes text (w ∷ ws)
-unfolding history lexemes Stand
+unfolding history lexemes WordsStand
 words_history text w ws (stands, more) free on before =
     let h = lexemes text ws in
     let P : List Lexeme → Type 0 = λ x. AllMade x in
@@ -82,10 +82,10 @@ words_history text w ws (stands, more) free on before =
     ap (λ (x : List Lexeme). extended (next text x) x) before
     ∙ ap (λ (x : Next). extended x h) (reads w.kind w.said made (level_with text w ws free) (goes_on text ws on) kind said)
 
-read_so_far : (text : List ℕ) (ws : List Word) → Stand text ws
+read_so_far : (text : List ℕ) (ws : List Word) → WordsStand text ws
     → is_level_free (word_kinds ws) ≡ true → GoOn ws
     → history text (suc (length ws)) ≡ lexemes text ws
-unfolding history next lexemes Stand
+unfolding history next lexemes WordsStand
 read_so_far text [] stand free on = refl
 read_so_far text (w ∷ ws) (stands, more) free on =
     let rest = goes_behind w ws on in
@@ -142,10 +142,10 @@ of_more : (text : List ℕ) (xs ys : List Word)
 of_more text [] ys = refl
 of_more text (x ∷ xs) ys = rw (of_more text xs ys) refl
 
-tokens_are : (s : SpelledText) (ws : List Word) → Stand s.text ws
+tokens_are : (s : SpelledText) (ws : List Word) → WordsStand s.text ws
     → map (token_in s) (reverse (lexemes s.text ws)) ≡ first_token s
     ∷ map (token_of s.text) (reverse ws)
-unfolding lexemes Stand
+unfolding lexemes WordsStand
 tokens_are s [] stand = refl
 tokens_are s (w ∷ ws) (stands, more) =
     let h = lexemes s.text ws in
@@ -155,10 +155,10 @@ tokens_are s (w ∷ ws) (stands, more) =
     ∙ ap (λ (t : Token). (first_token s ∷ map (token_of s.text) (reverse ws)) ++ t ∷ []) (token_is s w h stands)
     ∙ ap (λ (ts : List Token). first_token s ∷ ts) (sym (ap (λ (xs : List Word). map (token_of s.text) xs) (reverse-append (w ∷ []) ws) ∙ of_more s.text (reverse ws) (w ∷ [])))
 
-pub words_lexemes : (text : List ℕ) (ws : List Word) → Stand text ws
+pub words_lexemes : (text : List ℕ) (ws : List Word) → WordsStand text ws
     → is_level_free (word_kinds ws) ≡ true → ReachEnd ws
     → (all text ≡ lexemes text ws) × (next text (all text) ≡ Ends)
-unfolding lexemes Stand
+unfolding lexemes WordsStand
 words_lexemes text [] stand free end = absurd end
 words_lexemes text (w ∷ ws) (stands, more) free (end, on) =
     let rest = level_rest w.kind (word_kinds ws) free in
@@ -169,7 +169,7 @@ words_lexemes text (w ∷ ws) (stands, more) free (end, on) =
     (whole, ap (λ (x : List Lexeme). next text x) whole ∙ ends_behind text h end)
 
 -- Words that stand in a text, free of keys, are read as their tokens.
-pub words_read : (s : SpelledText) (ws : List Word) → Stand s.text ws
+pub words_read : (s : SpelledText) (ws : List Word) → WordsStand s.text ws
     → is_key_free (word_kinds ws) ≡ true → ReachEnd ws
     → offline s ≡ record {
       tokens = first_token s

@@ -32,9 +32,9 @@ pub record StandsBehind (text : List ℕ) (h : List Lexeme) (w : Word) : Type 0 
   pub said : word_at w.kind (nat_lt 0 (depth h)) 0 text w.place ≡ Ok w.said
 
 -- each word stands behind those before it
-unfoldable pub Stand : List ℕ → List Word → Type 0
-Stand text [] = Unit {0}
-Stand text (w ∷ ws) = StandsBehind text (lexemes text ws) w × Stand text ws
+unfoldable pub WordsStand : List ℕ → List Word → Type 0
+WordsStand text [] = Unit {0}
+WordsStand text (w ∷ ws) = StandsBehind text (lexemes text ws) w × WordsStand text ws
 
 abbrev pub word_kinds : List Word → List Kind
 word_kinds ws = map (λ (w : Word). w.kind) ws
@@ -64,13 +64,15 @@ ReachEnd (w ∷ ws) = (is_end w.kind ≡ true)
 -- The lexemes of a text in which words stand one behind another, up to the end, of which none opens a
 -- level, are these words, without fault.
 abbrev pub WordsAreLexemes : Type 0
-WordsAreLexemes = (text : List ℕ) (ws : List Word) → Stand text ws → is_level_free (word_kinds ws)
+WordsAreLexemes = (text : List ℕ) (ws : List Word) → WordsStand text ws
+    → is_level_free (word_kinds ws)
     ≡ true → ReachEnd ws
     → (all text ≡ lexemes text ws) × (next text (all text) ≡ Ends)
 
 -- A text in which key-free words stand one behind another, up to the end, is read as their tokens, without fault.
 abbrev pub WordsAreRead : Type 0
-WordsAreRead = (s : SpelledText) (ws : List Word) → Stand s.text ws → is_key_free (word_kinds ws)
+WordsAreRead = (s : SpelledText) (ws : List Word) → WordsStand s.text ws
+    → is_key_free (word_kinds ws)
     ≡ true → ReachEnd ws
     → offline s ≡ record {
       tokens = first_token s ∷ map (token_of s.text) (reverse ws);

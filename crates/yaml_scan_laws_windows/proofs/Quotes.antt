@@ -8,23 +8,23 @@ use Rattle.yaml_scan_history.specs.scan_model.Marks.{byte, break_width, column_a
 use Rattle.yaml_scan_history.specs.scan_model.Breaks.{is_document_indicator}
 use Rattle.yaml_scan_history.specs.scan_model.Wrong.{Wrong}
 use Rattle.yaml_scan_history.specs.scan_scalars.Pieces.{Piece, value}
-use Rattle.yaml_scan_history.specs.scan_scalars.Quoted.{Standing, Closing, Pieces, Bad, hex_digit, hex_value, hex_len, is_scalar, coded, simple_escape, escaped, escape_at, quote_at, standing_at, with_front, pieces, valued, quoted_at, in_quotes}
+use Rattle.yaml_scan_history.specs.scan_scalars.Quoted.{QuotedSpot, Closing, Pieces, Bad, hex_digit, hex_value, hex_len, is_scalar, coded, simple_escape, escaped, escape_at, quote_at, standing_at, with_front, pieces, valued, quoted_at, in_quotes}
 use Rattle.yaml_scan_laws_windows.specs.Alike.{Alike, is_onward}
 use Rattle.yaml_scan_laws_windows.proofs.Bytes.{width_alike, next_byte, indicator_alike, off_cases, onward_some}
 use Rattle.yaml_scan_laws_windows.proofs.Moving.{moved_wrong, moved_by, At, at_step, at_break}
 use Rattle.yaml_scan_laws_windows.proofs.Plains.{value_alike, left_step, byte_at}
 
-abbrev pub moved_standing : ℕ → Standing → Standing
+abbrev pub moved_standing : ℕ → QuotedSpot → QuotedSpot
 moved_standing d Closing = Closing
 moved_standing d (Pieces ps q) = Pieces ps (d + q)
 moved_standing d (Bad w) = Bad (moved_wrong d w)
 
-abbrev Within : List ℕ → List ℕ → ℕ → ℕ → ℕ → Standing → Type 0
+abbrev Within : List ℕ → List ℕ → ℕ → ℕ → ℕ → QuotedSpot → Type 0
 Within t u d m p Closing = At t u d m (p + 1)
 Within t u d m p (Pieces ps q) = At t u d m q × p < q × p < length t × d + p < length u
 Within t u d m p (Bad w) = Unit {0}
 
-record StandsAlike (t u : List ℕ) (d m p : ℕ) (s r : Standing) : Type 0 where
+record StandsAlike (t u : List ℕ) (d m p : ℕ) (s r : QuotedSpot) : Type 0 where
   pub same : r ≡ moved_standing d s
   pub lies : Within t u d m p s
 
@@ -316,7 +316,7 @@ unfolding standing_at
 mark_standing quote u p h = rw h refl
 
 -- where the first text ends, either ends, or a mark of documents stands in the other
-record Tears (u : List ℕ) (d m : ℕ) (s r : Standing) : Type 0 where
+record Tears (u : List ℕ) (d m : ℕ) (s r : QuotedSpot) : Type 0 where
   pub mark : is_document_indicator u (d + m) ≡ true
   pub wrong : Wrong
   pub mine : s ≡ Bad wrong
@@ -325,7 +325,7 @@ record Tears (u : List ℕ) (d m : ℕ) (s r : Standing) : Type 0 where
   pub others : r ≡ Bad other
   pub there : other.place ≡ d + m
 
-abbrev Spotted : List ℕ → List ℕ → ℕ → ℕ → ℕ → Standing → Standing → Type 0
+abbrev Spotted : List ℕ → List ℕ → ℕ → ℕ → ℕ → QuotedSpot → QuotedSpot → Type 0
 Spotted t u d m p s r = StandsAlike t u d m p s r ⊎ Tears u d m s r
 
 stands_there : (t u : List ℕ) (d m quote p : ℕ) → Alike t u d m → p ≤ m → IsQuote quote
@@ -387,7 +387,7 @@ unfolding pieces
 pieces_more t u d m quote p n o ps q e f step =
     rw (e, f) (front_alike u d m ps (pieces n quote t q) (pieces o quote u (d + q)) step)
 
-pieces_by : (k : ℕ) (t u : List ℕ) (d m quote p n o : ℕ) (s : Standing) → Alike t u d m
+pieces_by : (k : ℕ) (t u : List ℕ) (d m quote p n o : ℕ) (s : QuotedSpot) → Alike t u d m
     → IsQuote quote → At t u d m p → length t ≤ p + k → length t < p + n → length u < d + p + o
     → standing_at quote t p ≡ s → Spotted t u d m p s (standing_at quote u (d + p))
     → Told t u d m quote p n o

@@ -10,7 +10,7 @@ use Rattle.yaml_scan_history.specs.Stepwise.{of_kind}
 use Rattle.yaml_scan_history.specs.Laws.{Upto}
 use Rattle.yaml_scan_machine.specs.declared.machine.Machine.{Machine}
 use Rattle.yaml_scan_history.specs.declared.kind.Kind.{Kind}
-use Rattle.yaml_scan_machine.specs.declared.next.Spot.{Spot}
+use Rattle.yaml_scan_machine.specs.declared.next.LexemeSpot.{LexemeSpot}
 use Rattle.yaml_scan_machine.specs.declared.next.Read.{Read}
 use Rattle.yaml_scan_machine.specs.Stands.{Stands}
 use Rattle.yaml_scan_machine.specs.Shows.{history_of}
@@ -20,7 +20,7 @@ use Rattle.yaml_scan_machine.specs.Left.{IsLocated}
 use Rattle.yaml_scan_machine.specs.State.{IsPlace, IsShort, IsMachine, IsNext, ReadsOneMore, is_ready}
 
 -- a lexeme of a kind stands there, and comes next
-pub record StandsAsNext (m : Machine) (k : Kind) (s : Spot) : Type 0 where
+pub record StandsAsNext (m : Machine) (k : Kind) (s : LexemeSpot) : Type 0 where
   pub place : IsPlace (text_bytes m.text) s.mark
   pub kind : Stands k (nat_lt 0 m.depth) (text_bytes m.text) s.mark.index
   pub forward : Upto (reached (history_of m)) s.mark
@@ -47,7 +47,7 @@ pub record MayRead (m : Machine) : Type 0 where
   pub more : m.ended ≡ false
 
 -- a lexeme of a kind is to be read, which stands there
-pub record MayReadAt (m : Machine) (k : Kind) (s : Spot) : Type 0 where
+pub record MayReadAt (m : Machine) (k : Kind) (s : LexemeSpot) : Type 0 where
   pub may : MayRead m
   pub stand : StandsAsNext m k s
 

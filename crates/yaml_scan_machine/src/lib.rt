@@ -14,4 +14,4 @@ mod word;
 pub use keys::{Effect, Key, Keys};
 pub use levels::Levels;
 pub use machine::Machine;
-pub use next::{Read, Spot};
+pub use next::{LexemeSpot, Read};

@@ -38,7 +38,7 @@ pub struct Read {
 
 /// The place where a lexeme stands, behind the gap, and what is known there before its kind is.
 #[derive(Clone, Copy)]
-pub struct Spot {
+pub struct LexemeSpot {
     pub mark: yaml_mark_t,
     /// A key may begin there.
     pub allowed: bool,
@@ -48,7 +48,7 @@ pub struct Spot {
 
 /// The place where a lexeme stands, behind the gap.
 #[derive(Clone, Copy)]
-struct Stand {
+struct KindSpot {
     mark: yaml_mark_t,
     kind: Kind,
     /// A key may begin there.
@@ -80,7 +80,7 @@ impl<'a> Machine<'a> {
     pub(crate) fn next<R: Reading>(
         &self,
         reading: &R,
-        spot: Spot,
+        spot: LexemeSpot,
         required: Option<yaml_mark_t>,
         spares: &mut Spares,
     ) -> Result<Read, ScanError>
@@ -95,12 +95,12 @@ impl<'a> Machine<'a> {
         ensures refused { IfErr result (Refused self.now) }
     {
         let mut reader = Reader::resume(self.text.as_slice(), spot.mark);
-        let stand = Stand {
+        let known = KindSpot {
             mark: spot.mark,
             kind: reading.kind(),
             allowed: spot.allowed,
         };
-        self.of_kind(reading, &mut reader, stand, required, spares)
+        self.of_kind(reading, &mut reader, known, required, spares)
     }
 
     /// The lexeme of that kind, which stands there.
@@ -110,33 +110,33 @@ impl<'a> Machine<'a> {
         &self,
         reading: &R,
         reader: &mut Reader,
-        stand: Stand,
+        spot: KindSpot,
         required: Option<yaml_mark_t>,
         spares: &mut Spares,
     ) -> Result<Read, ScanError>
         requires stands { IsMachine self.now }
         requires more { self.now.ended ≡ false }
-        requires same { stand.kind ≡ R.reads reading.now }
+        requires same { spot.kind ≡ R.reads reading.now }
         requires text { reader.old.text ≡ text_bytes self.now.text }
-        requires mark { stand.mark ≡ mark_at reader.old.text reader.old.at }
-        requires place { IsPlace (text_bytes self.now.text) stand.mark }
-        requires kind { Stands stand.kind (nat_lt 0 self.now.depth) reader.old.text reader.old.at }
-        requires forward { Upto (reached (history_of self.now)) stand.mark }
+        requires mark { spot.mark ≡ mark_at reader.old.text reader.old.at }
+        requires place { IsPlace (text_bytes self.now.text) spot.mark }
+        requires kind { Stands spot.kind (nat_lt 0 self.now.depth) reader.old.text reader.old.at }
+        requires forward { Upto (reached (history_of self.now)) spot.mark }
         requires required { required ≡ required_in (fresh (candidate 0 (history_of self.now))
             (reached (history_of self.now))) }
-        requires early { late required stand.mark ≡ None }
+        requires early { late required spot.mark ≡ None }
         ensures safe { IfOk result (λ r. IsNext self.now r) }
         ensures exact { (gap : Gap) → gap.place ≡ reader.old.at
-            → spec.allowed_behind (history_of self.now) gap ≡ stand.allowed
-            → GivesNext self.now result (steps.of_kind (Some stand.kind) (text_bytes self.now.text)
+            → spec.allowed_behind (history_of self.now) gap ≡ spot.allowed
+            → GivesNext self.now result (steps.of_kind (Some spot.kind) (text_bytes self.now.text)
             gap (history_of self.now)) }
     {
-        let key = self.key(stand);
-        if self.is_misplaced(stand, key) {
-            return Err(misplaced(stand.kind, stand.mark));
+        let key = self.key(spot);
+        if self.is_misplaced(spot, key) {
+            return Err(misplaced(spot.kind, spot.mark));
         }
-        let left = self.left_at(stand);
-        let lexeme = self.lexeme_at(stand, left);
+        let left = self.left_at(spot);
+        let lexeme = self.lexeme_at(spot, left);
         if let Some(start) = lost(required, lexeme) {
             return Err(no_colon(start, lexeme.start));
         }
@@ -188,31 +188,31 @@ impl<'a> Machine<'a> {
     /// Whether a `-`, a `?`, or a `:` without a key stands where no key may begin.
     // Inlined: the kind is known where it is called.
     #[inline(always)]
-    fn is_misplaced(&self, stand: Stand, key: Option<usize>) -> bool
-        ensures { result ≡ ((not (nat_lt 0 self.now.depth) && not stand.allowed)
-            && (kinds.is_start stand.kind && not (is_some key))) }
+    fn is_misplaced(&self, spot: KindSpot, key: Option<usize>) -> bool
+        ensures { result ≡ ((not (nat_lt 0 self.now.depth) && not spot.allowed)
+            && (kinds.is_start spot.kind && not (is_some key))) }
     {
-        self.depth == 0 && !stand.allowed && (stand.kind.is_start() && key.is_none())
+        self.depth == 0 && !spot.allowed && (spot.kind.is_start() && key.is_none())
     }
 
     /// The lexeme that stands there, without its end.
     // Inlined: the kind is known where it is called.
     #[inline(always)]
-    fn lexeme_at(&self, stand: Stand, left: usize) -> Lexeme
+    fn lexeme_at(&self, spot: KindSpot, left: usize) -> Lexeme
         requires stands { IsMachine self.now }
-        requires place { IsPlace (text_bytes self.now.text) stand.mark }
-        requires left { Leaves stand.kind self.now.depth (placed stand.kind stand.mark).column
+        requires place { IsPlace (text_bytes self.now.text) spot.mark }
+        requires left { Leaves spot.kind self.now.depth (placed spot.kind spot.mark).column
             self.now.levels left }
-        ensures value { result ≡ begun_in stand.kind (placed stand.kind stand.mark) stand.allowed
+        ensures value { result ≡ begun_in spot.kind (placed spot.kind spot.mark) spot.allowed
             self.now.depth self.now.levels }
         ensures level { result.level ≤ length (text_bytes self.now.text) + 1 }
         ensures column { result.start.column ≤ length (text_bytes self.now.text) }
     {
-        let start = moved_end(stand.kind, stand.mark);
-        let saved = stand.allowed && stand.kind.may_be_key();
-        let level = self.level_at(stand.kind, start.column, left);
+        let start = moved_end(spot.kind, spot.mark);
+        let saved = spot.allowed && spot.kind.may_be_key();
+        let level = self.level_at(spot.kind, start.column, left);
         Lexeme {
-            kind: stand.kind,
+            kind: spot.kind,
             start,
             end: start,
             reached: start,
@@ -227,17 +227,17 @@ impl<'a> Machine<'a> {
     /// How many block levels a lexeme that stands there leaves open; inside brackets it leaves all.
     // Inlined: the kind is known where it is called.
     #[inline(always)]
-    fn left_at(&self, stand: Stand) -> usize
+    fn left_at(&self, spot: KindSpot) -> usize
         requires stands { IsMachine self.now }
-        requires place { IsPlace (text_bytes self.now.text) stand.mark }
-        ensures { Leaves stand.kind self.now.depth (placed stand.kind stand.mark).column
+        requires place { IsPlace (text_bytes self.now.text) spot.mark }
+        ensures { Leaves spot.kind self.now.depth (placed spot.kind spot.mark).column
             self.now.levels result }
     {
         if 0 < self.depth {
             return self.levels.len();
         }
-        let start = moved_end(stand.kind, stand.mark);
-        self.levels.count_at(keeps(stand.kind, start.column))
+        let start = moved_end(spot.kind, spot.mark);
+        self.levels.count_at(keeps(spot.kind, start.column))
     }
 
     /// The innermost level that a lexeme at a column stands in, or 0.
@@ -255,19 +255,19 @@ impl<'a> Machine<'a> {
     /// Where the candidate waits of which a `:` makes a key.
     // Inlined: the kind is known where it is called.
     #[inline(always)]
-    fn key(&self, stand: Stand) -> Option<usize>
+    fn key(&self, spot: KindSpot) -> Option<usize>
         requires stands { IsMachine self.now }
         requires more { self.now.ended ≡ false }
-        requires forward { Upto (reached (history_of self.now)) stand.mark }
+        requires forward { Upto (reached (history_of self.now)) spot.mark }
         ensures picks { Picks self.now
-            (keyed_by stand.kind (fresh (candidate self.now.depth (history_of self.now))
-            stand.mark)) result }
+            (keyed_by spot.kind (fresh (candidate self.now.depth (history_of self.now))
+            spot.mark)) result }
         ensures inside { IfSome result (λ i. i < length self.now.waiting.items) }
     {
-        if !stand.kind.is_value() {
+        if !spot.kind.is_value() {
             return None;
         }
-        match self.keys.innermost.found(stand.mark) {
+        match self.keys.innermost.found(spot.mark) {
             Some(number) => Some(number - self.dropped),
             None => None,
         }

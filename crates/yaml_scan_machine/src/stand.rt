@@ -8,7 +8,7 @@ ghost use Rattle.yaml_scan_machine.specs.Reads.{colon_fault, no_token_fault};
 ghost use Rattle.yaml_scan_machine.specs.Left.{IsLocated};
 
 use crate::machine::{Machine, put_fault};
-use crate::next::{Spot, late, no_colon};
+use crate::next::{LexemeSpot, late, no_colon};
 use crate::word::kind_at;
 use yaml_scan_history::Kind;
 use yaml_scan_model::{Context, Problem, Reader, ScanError, yaml_fault_t, yaml_mark_t};
@@ -23,7 +23,7 @@ impl<'a> Machine<'a> {
     // The place is written where it is lent on: one that is answered goes by way of the stack.
     // Inlined: it is called at one place.
     #[inline(always)]
-    pub fn stand(&self, spot: &mut Spot, fault: &mut yaml_fault_t) -> Option<Kind>
+    pub fn stand(&self, spot: &mut LexemeSpot, fault: &mut yaml_fault_t) -> Option<Kind>
         requires stands { IsMachine self.now }
         requires more { self.now.ended ≡ false }
         requires some { 0 < self.now.dropped + length self.now.waiting.items }
@@ -49,15 +49,15 @@ impl<'a> Machine<'a> {
     }
 }
 
-impl Spot {
+impl LexemeSpot {
     /// A place that nothing is said of yet.
-    pub fn blank() -> Spot {
+    pub fn blank() -> LexemeSpot {
         let mark = yaml_mark_t {
             index: 0,
             line: 0,
             column: 0,
         };
-        Spot {
+        LexemeSpot {
             mark,
             allowed: false,
             required: false,

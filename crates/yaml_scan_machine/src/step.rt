@@ -5,7 +5,7 @@ ghost use Rattle.yaml_scan_model.specs.Faults.{fault_of};
 ghost use Rattle.yaml_scan_machine.specs.Left.{IsLocated};
 
 use crate::machine::{Machine, allows, opens_here, put_fault};
-use crate::next::{Read, Spot};
+use crate::next::{LexemeSpot, Read};
 use crate::word::Reading;
 use std::alloc::AllocError;
 use yaml_scan_history::Kind;
@@ -42,7 +42,7 @@ impl<'a> Machine<'a> {
     pub(crate) fn step_at<R: Reading>(
         &mut self,
         reading: &R,
-        spot: &Spot,
+        spot: &LexemeSpot,
         spares: &mut Spares,
         fault: &mut yaml_fault_t,
     ) -> bool
@@ -60,7 +60,7 @@ impl<'a> Machine<'a> {
     /// Whether a lexeme of that kind may be refused for what stands before it.
     // Inlined: the kind is known where it is called.
     #[inline(always)]
-    fn may_refuse(&self, kind: Kind, spot: Spot) -> bool {
+    fn may_refuse(&self, kind: Kind, spot: LexemeSpot) -> bool {
         spot.required || kind.is_start() && self.depth == 0 && !spot.allowed
     }
 
@@ -70,7 +70,7 @@ impl<'a> Machine<'a> {
     pub(crate) fn step_by<R: Reading>(
         &mut self,
         reading: &R,
-        spot: Spot,
+        spot: LexemeSpot,
         required: Option<yaml_mark_t>,
         spares: &mut Spares,
         fault: &mut yaml_fault_t,

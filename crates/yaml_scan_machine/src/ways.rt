@@ -7,7 +7,7 @@ ghost use Rattle.yaml_scan_model.specs.Faults.{fault_of};
 ghost use Rattle.yaml_scan_history.specs.declared.kind.Kind.TheVariants as kinds;
 
 use crate::machine::Machine;
-use crate::next::Spot;
+use crate::next::LexemeSpot;
 use crate::readings::{
     AliasReading, AnchorReading, DoubleQuotedReading, PlainReading, SingleQuotedReading, TagReading,
 };
@@ -24,7 +24,7 @@ impl<'a> Machine<'a> {
     pub fn by_kind(
         &mut self,
         kind: Kind,
-        spot: &Spot,
+        spot: &LexemeSpot,
         spares: &mut Spares,
         fault: &mut yaml_fault_t,
     ) -> bool
@@ -52,7 +52,12 @@ impl<'a> Machine<'a> {
     /// Reads a `,`.
     // Inlined, as is the way of each indicator.
     #[inline(always)]
-    fn flow_entry(&mut self, spot: &Spot, spares: &mut Spares, fault: &mut yaml_fault_t) -> bool
+    fn flow_entry(
+        &mut self,
+        spot: &LexemeSpot,
+        spares: &mut Spares,
+        fault: &mut yaml_fault_t,
+    ) -> bool
         requires { MayReadAt self.old kinds.FlowEntry spot.now }
         ensures { Steps self.old self.new (fault_of fault.new) result }
     {
@@ -62,7 +67,12 @@ impl<'a> Machine<'a> {
     /// Reads a `:`.
     // Inlined, as is the way of each indicator.
     #[inline(always)]
-    fn value_mark(&mut self, spot: &Spot, spares: &mut Spares, fault: &mut yaml_fault_t) -> bool
+    fn value_mark(
+        &mut self,
+        spot: &LexemeSpot,
+        spares: &mut Spares,
+        fault: &mut yaml_fault_t,
+    ) -> bool
         requires { MayReadAt self.old kinds.ValueMark spot.now }
         ensures { Steps self.old self.new (fault_of fault.new) result }
     {
@@ -72,7 +82,7 @@ impl<'a> Machine<'a> {
     /// Reads a plain scalar.
     // Inlined, as the way that is met most.
     #[inline(always)]
-    fn plain(&mut self, spot: &Spot, spares: &mut Spares, fault: &mut yaml_fault_t) -> bool
+    fn plain(&mut self, spot: &LexemeSpot, spares: &mut Spares, fault: &mut yaml_fault_t) -> bool
         requires { MayReadAt self.old kinds.Plain spot.now }
         ensures { Steps self.old self.new (fault_of fault.new) result }
     {
@@ -82,7 +92,12 @@ impl<'a> Machine<'a> {
     /// Reads a double quoted scalar.
     // Out of line: it is met less often.
     #[inline(never)]
-    fn double_quoted(&mut self, spot: &Spot, spares: &mut Spares, fault: &mut yaml_fault_t) -> bool
+    fn double_quoted(
+        &mut self,
+        spot: &LexemeSpot,
+        spares: &mut Spares,
+        fault: &mut yaml_fault_t,
+    ) -> bool
         requires { MayReadAt self.old kinds.DoubleQuoted spot.now }
         ensures { Steps self.old self.new (fault_of fault.new) result }
     {
@@ -92,7 +107,12 @@ impl<'a> Machine<'a> {
     /// Reads a `]`.
     // Inlined, as is the way of each indicator.
     #[inline(always)]
-    fn sequence_end(&mut self, spot: &Spot, spares: &mut Spares, fault: &mut yaml_fault_t) -> bool
+    fn sequence_end(
+        &mut self,
+        spot: &LexemeSpot,
+        spares: &mut Spares,
+        fault: &mut yaml_fault_t,
+    ) -> bool
         requires { MayReadAt self.old kinds.FlowSequenceEnd spot.now }
         ensures { Steps self.old self.new (fault_of fault.new) result }
     {
@@ -102,7 +122,12 @@ impl<'a> Machine<'a> {
     /// Reads a `}`.
     // Inlined, as is the way of each indicator.
     #[inline(always)]
-    fn mapping_end(&mut self, spot: &Spot, spares: &mut Spares, fault: &mut yaml_fault_t) -> bool
+    fn mapping_end(
+        &mut self,
+        spot: &LexemeSpot,
+        spares: &mut Spares,
+        fault: &mut yaml_fault_t,
+    ) -> bool
         requires { MayReadAt self.old kinds.FlowMappingEnd spot.now }
         ensures { Steps self.old self.new (fault_of fault.new) result }
     {
@@ -112,7 +137,12 @@ impl<'a> Machine<'a> {
     /// Reads a `[`.
     // Inlined, as is the way of each indicator.
     #[inline(always)]
-    fn sequence_start(&mut self, spot: &Spot, spares: &mut Spares, fault: &mut yaml_fault_t) -> bool
+    fn sequence_start(
+        &mut self,
+        spot: &LexemeSpot,
+        spares: &mut Spares,
+        fault: &mut yaml_fault_t,
+    ) -> bool
         requires { MayReadAt self.old kinds.FlowSequenceStart spot.now }
         ensures { Steps self.old self.new (fault_of fault.new) result }
     {
@@ -122,7 +152,12 @@ impl<'a> Machine<'a> {
     /// Reads a `{`.
     // Inlined, as is the way of each indicator.
     #[inline(always)]
-    fn mapping_start(&mut self, spot: &Spot, spares: &mut Spares, fault: &mut yaml_fault_t) -> bool
+    fn mapping_start(
+        &mut self,
+        spot: &LexemeSpot,
+        spares: &mut Spares,
+        fault: &mut yaml_fault_t,
+    ) -> bool
         requires { MayReadAt self.old kinds.FlowMappingStart spot.now }
         ensures { Steps self.old self.new (fault_of fault.new) result }
     {
@@ -132,7 +167,12 @@ impl<'a> Machine<'a> {
     /// Reads a `-`.
     // Inlined, as is the way of each indicator.
     #[inline(always)]
-    fn block_entry(&mut self, spot: &Spot, spares: &mut Spares, fault: &mut yaml_fault_t) -> bool
+    fn block_entry(
+        &mut self,
+        spot: &LexemeSpot,
+        spares: &mut Spares,
+        fault: &mut yaml_fault_t,
+    ) -> bool
         requires { MayReadAt self.old kinds.BlockEntry spot.now }
         ensures { Steps self.old self.new (fault_of fault.new) result }
     {
@@ -142,7 +182,12 @@ impl<'a> Machine<'a> {
     /// Reads a single quoted scalar.
     // Out of line: it is met less often.
     #[inline(never)]
-    fn single_quoted(&mut self, spot: &Spot, spares: &mut Spares, fault: &mut yaml_fault_t) -> bool
+    fn single_quoted(
+        &mut self,
+        spot: &LexemeSpot,
+        spares: &mut Spares,
+        fault: &mut yaml_fault_t,
+    ) -> bool
         requires { MayReadAt self.old kinds.SingleQuoted spot.now }
         ensures { Steps self.old self.new (fault_of fault.new) result }
     {
@@ -152,7 +197,7 @@ impl<'a> Machine<'a> {
     /// Reads an anchor.
     // Out of line: it is met less often.
     #[inline(never)]
-    fn anchor(&mut self, spot: &Spot, spares: &mut Spares, fault: &mut yaml_fault_t) -> bool
+    fn anchor(&mut self, spot: &LexemeSpot, spares: &mut Spares, fault: &mut yaml_fault_t) -> bool
         requires { MayReadAt self.old kinds.Anchor spot.now }
         ensures { Steps self.old self.new (fault_of fault.new) result }
     {
@@ -162,7 +207,7 @@ impl<'a> Machine<'a> {
     /// Reads an alias.
     // Out of line: it is met less often.
     #[inline(never)]
-    fn alias(&mut self, spot: &Spot, spares: &mut Spares, fault: &mut yaml_fault_t) -> bool
+    fn alias(&mut self, spot: &LexemeSpot, spares: &mut Spares, fault: &mut yaml_fault_t) -> bool
         requires { MayReadAt self.old kinds.Alias spot.now }
         ensures { Steps self.old self.new (fault_of fault.new) result }
     {
@@ -172,7 +217,7 @@ impl<'a> Machine<'a> {
     /// Reads a tag.
     // Out of line: it is met less often.
     #[inline(never)]
-    fn tag(&mut self, spot: &Spot, spares: &mut Spares, fault: &mut yaml_fault_t) -> bool
+    fn tag(&mut self, spot: &LexemeSpot, spares: &mut Spares, fault: &mut yaml_fault_t) -> bool
         requires { MayReadAt self.old kinds.Tag spot.now }
         ensures { Steps self.old self.new (fault_of fault.new) result }
     {
@@ -186,7 +231,7 @@ impl<'a> Machine<'a> {
     pub(crate) fn of_rare(
         &mut self,
         kind: Kind,
-        spot: &Spot,
+        spot: &LexemeSpot,
         spares: &mut Spares,
         fault: &mut yaml_fault_t,
     ) -> bool

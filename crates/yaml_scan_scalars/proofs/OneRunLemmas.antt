@@ -17,7 +17,7 @@ use Rattle.yaml_scan_scalars.specs.Pieces.{Piece, Kept, value}
 use Rattle.yaml_scan_scalars.specs.Ordinary.{bytes_at, run_pieces, ends_kept, IsRun}
 use Rattle.yaml_scan_scalars.specs.Quoted.{Closing, pieces, quote_at, quoted_at, standing_at, valued}
 use Rattle.yaml_scan_scalars.specs.Plain.{Ends, Words, PlainText, is_bracket, with_run, words_from, words, plain_with, plain_text, plain_at, spot_at, ends_at, leads, after_white}
-use Rattle.yaml_scan_scalars.proofs.PlainLemmas.{spot_ends, spot_blank, spot_break, seat_break, leads-blank}
+use Rattle.yaml_scan_scalars.proofs.PlainLemmas.{spot_ends, spot_blank, spot_break, lead_break, leads-blank}
 use Rattle.yaml_scan_scalars.proofs.PlainRunLemmas.{with_run_is, words_run}
 use Rattle.yaml_scan_scalars.proofs.QuotedLemmas.{standing_quote, quote_some}
 use Rattle.yaml_scan_scalars.proofs.RunLemmas.{pieces_run, value_run, run_ends, ends_bytes, first_last, few, no_mark, quoted_run}
@@ -285,7 +285,7 @@ pub line_ends : (level : ℕ) (text : List ℕ) (p q : ℕ) → byte text p ≡ 
     ≡ Ok (record { pieces = []; end = q; place = q; broke = true })
 line_ends level text p q b e low high less n room =
     let one = feed_width (byte text p) (byte text (p + 1)) (byte text (p + 2)) b in
-    let seat = rw one at (seat_break text p (rw one (omega arith))) in
+    let seat = rw one at (lead_break text p (rw one (omega arith))) in
     let at : q ≡ past is_space_there (length text) text (p + 1) = rw one at e in
     let over : Over level text (past is_space_there (length text) text (p + 1)) = subst (λ (k : ℕ). Over level text k) at (over_word level text q low high less) in
     let all : (m : ℕ) → length text ≤ p + 1 + m → words (suc m) false level text (p + 1) ≡ Ok (nothing_at q false) = rw at (over_spaces (length text) level text (p + 1) (sym seat.leading) over) in

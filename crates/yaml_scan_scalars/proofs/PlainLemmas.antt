@@ -150,15 +150,15 @@ pub white-blank : (text : List ℕ) (p : ℕ) → is_blank (byte text p) ≡ tru
     → after_white text (p + 1) ≡ true
 white-blank text p h = white-suc text p ∙ rw h refl
 
-pub record Seat (text : List ℕ) (p q : ℕ) : Type 0 where
+pub record InLead (text : List ℕ) (p q : ℕ) : Type 0 where
   pub leading : true ≡ leads text q
   pub white : true ≡ after_white text q
   pub further : p < q
   pub inside : p < length text
 
-pub seat_break : (text : List ℕ) (p : ℕ) → 0 < break_width text p
-    → Seat text p (p + break_width text p)
-seat_break text p h =
+pub lead_break : (text : List ℕ) (p : ℕ) → 0 < break_width text p
+    → InLead text p (p + break_width text p)
+lead_break text p h =
     let l = last_of text p h in
     let past = past_break text p h in
     let b = end_not_blank _ _ _ _ l.ends in
@@ -227,9 +227,9 @@ pub blank_inside : (text : List ℕ) (p : ℕ) → is_blank (byte text p) ≡ tr
 blank_inside text p h = within text p (some_blank (byte text p) h)
 
 -- a byte that is no blank and ends no break leads nothing
-pub seat_text : (text : List ℕ) (p : ℕ) → is_blank (byte text p) ≡ false → ends_break text p ≡ false
+pub lead_text : (text : List ℕ) (p : ℕ) → is_blank (byte text p) ≡ false → ends_break text p ≡ false
     → (false ≡ leads text (p + 1)) × (false ≡ after_white text (p + 1))
-seat_text text p h e = (sym (leads-text text p h e), sym (white-text text p h e))
+lead_text text p h e = (sym (leads-text text p h e), sym (white-text text p h e))
 
 -- exits
 

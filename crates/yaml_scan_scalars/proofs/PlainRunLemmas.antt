@@ -12,7 +12,7 @@ use Rattle.yaml_scan_scalars.specs.Plain.{Takes, Words, is_bracket, is_nothing, 
 use Rattle.yaml_scan_scalars.specs.Joined.{joined, TookFirst, TookWords}
 use Rattle.yaml_scan_scalars.proofs.RunLemmas.{ordinary_is, ordinary_no_break, ordinary_ends_none, ordinary_no_mark, run_parts, space_is, space_no_break, bytes_none, bytes_more, ends_bytes, resume_run, value_run, same_or, few}
 use Rattle.yaml_scan_scalars.proofs.FoldingLemmas.{value-kept}
-use Rattle.yaml_scan_scalars.proofs.PlainLemmas.{spot_kept, spot_blank, seat_text, leads-blank}
+use Rattle.yaml_scan_scalars.proofs.PlainLemmas.{spot_kept, spot_blank, lead_text, leads-blank}
 
 -- many pieces or one
 
@@ -124,7 +124,7 @@ spot_space flow level text p h =
 
 pub calm_next : (text : List ℕ) (p : ℕ) → is_ordinary (byte text p) ≡ true
     → (false ≡ leads text (p + 1)) × (false ≡ after_white text (p + 1))
-calm_next text p h = let o = ordinary_is (byte text p) h in seat_text text p o.no_blank (ordinary_ends_none _ _ _ _ h)
+calm_next text p h = let o = ordinary_is (byte text p) h in lead_text text p o.no_blank (ordinary_ends_none _ _ _ _ h)
 
 -- behind a run
 pub calm_behind : (text : List ℕ) (p : ℕ) (place : Place) → IsRun text p place → p < place.at
@@ -140,7 +140,7 @@ pub behind_first : (text : List ℕ) (p : ℕ) (place : Place) → is_blank (byt
 behind_first text p place b e run =
     let after = run.after in
     elim (same_or (p + 1) place.at after) [
-      | inl s ↦ rw s (seat_text text p b e)
+      | inl s ↦ rw s (lead_text text p b e)
       | inr l ↦ calm_behind text (p + 1) place run l
     ]
 

@@ -12,7 +12,7 @@ use Rattle.yaml_scan_model.specs.Wrong.{Wrong, IsMemory}
 use Rattle.yaml_scan_model.proofs.MarksLemmas.{no_break, within}
 use Rattle.yaml_scan_scalars.specs.Pieces.{Piece, Kept, Blank, Break}
 use Rattle.yaml_scan_scalars.specs.Readings.{Took, Reads}
-use Rattle.yaml_scan_scalars.specs.Quoted.{Standing, Closing, Pieces, Bad, in_quotes, with_front, followed, pieces, valued, quote_at, standing_at, escape_at}
+use Rattle.yaml_scan_scalars.specs.Quoted.{QuotedSpot, Closing, Pieces, Bad, in_quotes, with_front, followed, pieces, valued, quote_at, standing_at, escape_at}
 
 front : (old new : List Piece → List ℕ) (qs : List Piece) (r : Result (List Piece × ℕ) Wrong)
     → ((ps : List Piece) → new ps ≡ old (qs ++ ps)) → valued old (with_front qs r) ≡ valued new r
@@ -28,7 +28,7 @@ pub record GoesOn (quote : ℕ) (text : List ℕ) (p n : ℕ) (old new : List Pi
       × (valued old (pieces (suc n) quote text p) ≡ valued new (pieces (suc m) quote text place.at))
 
 step : (text : List ℕ) (start : yaml_mark_t) (quote p n : ℕ) (old new : List Piece → List ℕ)
-    (place : Place) (s : Standing)
+    (place : Place) (s : QuotedSpot)
     → Took text start p old new place (Ok true) s
     → (place.text ≡ text) × (p < place.at) × (p < length text)
     × (valued old (followed (pieces n quote text) p s) ≡ valued new (pieces n quote text place.at))
@@ -52,7 +52,7 @@ turn_more text start quote p (suc n) old new place h room =
     record { same = te; further = further; inside = inside; rest = (n, omega arith, same) }
 
 done : (text : List ℕ) (start : yaml_mark_t) (p : ℕ) (old new : List Piece → List ℕ) (place : Place)
-    (s : Standing) (more : ℕ → Result (List Piece × ℕ) Wrong)
+    (s : QuotedSpot) (more : ℕ → Result (List Piece × ℕ) Wrong)
     → Took text start p old new place (Ok false) s
     → (place ≡ record { text = text; at = p + 1 })
     × (valued old (followed more p s) ≡ Ok (new [], p + 1))
@@ -79,7 +79,7 @@ only_memory text a place errors.Memory r h = reads_memory text a place r
 only_memory text a place (errors.Fault f) r h = absurd h
 
 refused : (text : List ℕ) (a p : ℕ) (old new : List Piece → List ℕ) (place : Place) (e : ScanError)
-    (s : Standing) (more : ℕ → Result (List Piece × ℕ) Wrong)
+    (s : QuotedSpot) (more : ℕ → Result (List Piece × ℕ) Wrong)
     → Took text (mark_at text a) p old new place (Err e) s
     → Reads text a place (Err e) (valued old (followed more p s))
 refused text a p old new place e (Pieces qs q) more h = only_memory text a place e (valued old (followed more p (Pieces qs q))) h

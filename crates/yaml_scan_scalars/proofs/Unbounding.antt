@@ -7,7 +7,7 @@ use Rattle.yaml_scan_model.specs.Breaks.{is_document_indicator}
 use Rattle.yaml_scan_model.specs.Wrong.{Wrong}
 use Rattle.yaml_scan_model.proofs.MarksLemmas.{within}
 use Rattle.yaml_scan_scalars.specs.Pieces.{Piece, value}
-use Rattle.yaml_scan_scalars.specs.Quoted.{Standing, Closing, Pieces, Bad, is_scalar, coded, hex_len, hex_value, simple_escape, escaped, escape_at, quote_at, standing_at, with_front, followed, pieces, valued}
+use Rattle.yaml_scan_scalars.specs.Quoted.{QuotedSpot, Closing, Pieces, Bad, is_scalar, coded, hex_len, hex_value, simple_escape, escaped, escape_at, quote_at, standing_at, with_front, followed, pieces, valued}
 use Rattle.yaml_scan_scalars.specs.Plain.{PlainSpot, Ends, Takes, Faulty, spot_at, ends_at, leads, is_bracket, Words, words_from, follows, words, plain_with, plain_text}
 use Rattle.yaml_scan_scalars.specs.Unbounded.{IsQuotedFrom, closes, goes_on, is_bad, QuotedIs, QuotedIsOne, IsPlainFrom, ends, takes, is_faulty, plain_behind, PlainIs, PlainIsOne}
 
@@ -16,7 +16,7 @@ is_there b h = grind (arith, nat_tests)
 
 -- ---- quotes: what goes on moves
 
-abbrev Moves : List ℕ → ℕ → Standing → Type 0
+abbrev Moves : List ℕ → ℕ → QuotedSpot → Type 0
 Moves text p Closing = Unit {0}
 Moves text p (Pieces ps q) = (p < q) × (p < length text)
 Moves text p (Bad w) = Unit {0}
@@ -89,29 +89,31 @@ standing_moves quote text p =
           ]
         ]
 
-quoted_by : (d : ℕ) (quote : ℕ) (text : List ℕ) (p : ℕ) (s : Standing)
+quoted_by : (d : ℕ) (quote : ℕ) (text : List ℕ) (p : ℕ) (s : QuotedSpot)
     → standing_at quote text p ≡ s → length text ≤ p + d
     → IsQuotedFrom quote text p (pieces (suc d) quote text p)
 unfolding pieces
-quoted_by d quote text p Closing e room = subst (λ (x : Standing). IsQuotedFrom quote text p (followed (pieces d quote text) p x)) (sym e) (closes p e)
-quoted_by d quote text p (Bad w) e room = subst (λ (x : Standing). IsQuotedFrom quote text p (followed (pieces d quote text) p x)) (sym e) (is_bad p w e)
+quoted_by d quote text p Closing e room = subst (λ (x : QuotedSpot). IsQuotedFrom quote text p (followed (pieces d quote text) p x)) (sym e) (closes p e)
+quoted_by d quote text p (Bad w) e room = subst (λ (x : QuotedSpot). IsQuotedFrom quote text p (followed (pieces d quote text) p x)) (sym e) (is_bad p w e)
 quoted_by zero quote text p (Pieces ps q) e room =
-    let (far, inside) = subst (λ (x : Standing). Moves text p x) e (standing_moves quote text p) in absurd (omega (arith, inside, room))
+    let (far, inside) = subst (λ (x : QuotedSpot). Moves text p x) e (standing_moves quote text p) in absurd (omega (arith, inside, room))
 quoted_by (suc d) quote text p (Pieces ps q) e room =
-    let (far, inside) = subst (λ (x : Standing). Moves text p x) e (standing_moves quote text p) in
-    subst (λ (x : Standing). IsQuotedFrom quote text p (followed (pieces (suc d) quote text) p x)) (sym e)
+    let (far, inside) = subst (λ (x : QuotedSpot). Moves text p x) e
+    (standing_moves quote text p) in
+    subst (λ (x : QuotedSpot). IsQuotedFrom quote text p (followed (pieces (suc d) quote text) p x)) (sym e)
     (goes_on p q ps (pieces (suc d) quote text q) e (quoted_by d quote text q (standing_at quote text q) refl (omega (arith, far, room))))
 
 one_quoted : (quote : ℕ) (text : List ℕ) (p : ℕ) (r : Result (List Piece × ℕ) Wrong)
     → IsQuotedFrom quote text p r → (d : ℕ) → length text ≤ p + d → pieces (suc d) quote text p ≡ r
 unfolding pieces
-one_quoted quote text p r (closes x e) d room = ap (λ (s : Standing). followed (pieces d quote text) x s) e
-one_quoted quote text p r (is_bad x w e) d room = ap (λ (s : Standing). followed (pieces d quote text) x s) e
+one_quoted quote text p r (closes x e) d room = ap (λ (s : QuotedSpot). followed (pieces d quote text) x s) e
+one_quoted quote text p r (is_bad x w e) d room = ap (λ (s : QuotedSpot). followed (pieces d quote text) x s) e
 one_quoted quote text p r (goes_on x q ps rest e h) zero room =
-    let (far, inside) = subst (λ (s : Standing). Moves text x s) e (standing_moves quote text x) in absurd (omega (arith, inside, room))
+    let (far, inside) = subst (λ (s : QuotedSpot). Moves text x s) e (standing_moves quote text x) in absurd (omega (arith, inside, room))
 one_quoted quote text p r (goes_on x q ps rest e h) (suc d) room =
-    let (far, inside) = subst (λ (s : Standing). Moves text x s) e (standing_moves quote text x) in
-    ap (λ (s : Standing). followed (pieces (suc d) quote text) x s) e ∙ ap (λ (z : Result (List Piece × ℕ) Wrong). with_front ps z) (one_quoted quote text q rest h d (omega (arith, far, room)))
+    let (far, inside) = subst (λ (s : QuotedSpot). Moves text x s) e
+    (standing_moves quote text x) in
+    ap (λ (s : QuotedSpot). followed (pieces (suc d) quote text) x s) e ∙ ap (λ (z : Result (List Piece × ℕ) Wrong). with_front ps z) (one_quoted quote text q rest h d (omega (arith, far, room)))
 
 last_of : (text : List ℕ) (p : ℕ) → p < length text → length text ≡ suc (length text - 1)
 last_of text p h = omega (arith, h)

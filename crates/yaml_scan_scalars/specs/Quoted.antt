@@ -9,15 +9,15 @@ use Rattle.yaml_scan_model.specs.Wrong.{Wrong}
 use Rattle.yaml_scan_scalars.specs.Pieces.{Piece, Kept, Blank, Break, value}
 
 -- What stands at a place inside the quotes: the closing one, pieces with the place after them, or what is wrong.
-pub data Standing : Type 0 where
-  Closing : Standing
-  Pieces : List Piece → ℕ → Standing
-  Bad : Wrong → Standing
+pub data QuotedSpot : Type 0 where
+  Closing : QuotedSpot
+  Pieces : List Piece → ℕ → QuotedSpot
+  Bad : Wrong → QuotedSpot
 
-abbrev pub in_quotes : Problem → ℕ → Standing
+abbrev pub in_quotes : Problem → ℕ → QuotedSpot
 in_quotes problem p = Bad record { problem = problem; context = contexts.QuotedScalar; place = p }
 
-abbrev pub in_escape : Problem → ℕ → Standing
+abbrev pub in_escape : Problem → ℕ → QuotedSpot
 in_escape problem p = Bad record {
   problem = problem;
   context = contexts.QuotedScalarEscape;
@@ -42,7 +42,7 @@ hex_value text p (suc n) = option_and_then (λ high. option_map (λ low. high * 
 abbrev pub is_scalar : ℕ → Bool
 is_scalar c = nat_lt c 0xD800 || (nat_le 0xE000 c && nat_le c 0x10_FFFF)
 
-abbrev pub coded : ℕ → ℕ → Option ℕ → Standing
+abbrev pub coded : ℕ → ℕ → Option ℕ → QuotedSpot
 coded p q None = in_escape problems.NoHexNumber p
 coded p q (Some c) = if is_scalar c then Pieces (Kept (encode_utf8 c) ∷ []) q
     else in_escape problems.InvalidCode p
@@ -70,12 +70,12 @@ simple_escape b =
     else if b == 0x50 then Some (0xE2 ∷ 0x80 ∷ 0xA9 ∷ [])
     else None
 
-abbrev pub escaped : ℕ → Option (List ℕ) → Standing
+abbrev pub escaped : ℕ → Option (List ℕ) → QuotedSpot
 escaped p None = in_escape problems.UnknownEscape p
 escaped p (Some bytes) = Pieces (Kept bytes ∷ []) (p + 2)
 
 -- what the backslash there begins
-unfoldable pub escape_at : List ℕ → ℕ → Standing
+unfoldable pub escape_at : List ℕ → ℕ → QuotedSpot
 escape_at text p =
     if nat_lt 0 (break_width text (p + 1)) then Pieces (Kept [] ∷ Break [] ∷ [])
     (p + 1 + break_width text (p + 1))
@@ -85,12 +85,12 @@ escape_at text p =
     else escaped p (simple_escape (byte text (p + 1)))
 
 -- the quote there closes the scalar, or is the first of two that stand for one
-unfoldable pub quote_at : ℕ → List ℕ → ℕ → Standing
+unfoldable pub quote_at : ℕ → List ℕ → ℕ → QuotedSpot
 quote_at quote text p = if quote == 39 && byte text (p + 1) == 39 then Pieces (Kept (39 ∷ []) ∷ [])
     (p + 2) else Closing
 
 -- between quotes of that byte
-unfoldable pub standing_at : ℕ → List ℕ → ℕ → Standing
+unfoldable pub standing_at : ℕ → List ℕ → ℕ → QuotedSpot
 standing_at quote text p =
     if is_document_indicator text p then in_quotes problems.DocumentIndicator p
     else if byte text p == 0 then in_quotes problems.EndOfStream p
@@ -106,7 +106,7 @@ abbrev pub with_front : List Piece → Result (List Piece × ℕ) Wrong → Resu
 with_front ps (Ok x) = Ok (ps ++ x.0, x.1)
 with_front ps (Err w) = Err w
 
-abbrev pub followed : (ℕ → Result (List Piece × ℕ) Wrong) → ℕ → Standing
+abbrev pub followed : (ℕ → Result (List Piece × ℕ) Wrong) → ℕ → QuotedSpot
     → Result (List Piece × ℕ) Wrong
 followed more p Closing = Ok ([], p + 1)
 followed more p (Pieces qs q) = with_front qs (more q)

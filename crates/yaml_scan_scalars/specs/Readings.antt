@@ -6,11 +6,11 @@ use Rattle.yaml_scan_model.specs.declared.problem.ScanError.{ScanError}
 use Rattle.yaml_scan_model.specs.Marks.{Place, mark_at}
 use Rattle.yaml_scan_model.specs.Wrong.{Wrong, Refuses, IsMemory}
 use Rattle.yaml_scan_scalars.specs.Pieces.{Piece}
-use Rattle.yaml_scan_scalars.specs.Quoted.{Standing, Closing, Pieces, Bad}
+use Rattle.yaml_scan_scalars.specs.Quoted.{QuotedSpot, Closing, Pieces, Bad}
 
 -- What a step inside the quotes took. `old` and `new` give the value when pieces follow.
 abbrev pub Took : List ℕ → yaml_mark_t → ℕ → (List Piece → List ℕ) → (List Piece → List ℕ) → Place
-    → Result Bool ScanError → Standing → Type 0
+    → Result Bool ScanError → QuotedSpot → Type 0
 Took text start p old new place (Ok true) (Pieces qs q) = (place ≡ record { text = text; at = q })
     × ((ps : List Piece) → new ps ≡ old (qs ++ ps)) × (p < q) × (p < length text)
 Took text start p old new place (Ok true) Closing = ⊥

@@ -5,7 +5,7 @@ use Rattle.std.proofs.lemmas.Bool.Decides.{nat_tests}
 use Rattle.yaml_scan_model.specs.Marks.{byte, break_of, break_width}
 use Rattle.yaml_scan_model.specs.Classes.{is_bom}
 use Rattle.yaml_scan_model.proofs.MarksLemmas.{no_break, within}
-use Rattle.yaml_scan_words.specs.declared.between.Standing.TheVariants as standings
+use Rattle.yaml_scan_words.specs.declared.between.GapSpot.TheVariants as gap_spots
 use Rattle.yaml_scan_words.specs.declared.run.Run.TheVariants as runs
 use Rattle.yaml_scan_words.specs.Runs.{belongs, run_end}
 use Rattle.yaml_scan_words.proofs.RunsLemmas.{run_further}
@@ -30,14 +30,14 @@ unfolding belongs
 hash_belongs text p h = hash_line _ _ h (no_break _ _ _ (omega arith) (omega arith) (omega arith) (omega arith))
 
 blank_lexeme : (p q : ℕ)
-    → ◌≡◌ {A = GapStep} (record { standing = standings.Blank; place = p })
-    (record { standing = standings.Lexeme; place = q }) → ⊥
-blank_lexeme p q h = let e : standings.Blank ≡ standings.Lexeme = ap (λ (s : GapStep). s.standing) h in cc
+    → ◌≡◌ {A = GapStep} (record { standing = gap_spots.Blank; place = p })
+    (record { standing = gap_spots.Lexeme; place = q }) → ⊥
+blank_lexeme p q h = let e : gap_spots.Blank ≡ gap_spots.Lexeme = ap (λ (s : GapStep). s.standing) h in cc
 
 break_lexeme : (p q : ℕ)
-    → ◌≡◌ {A = GapStep} (record { standing = standings.Break; place = p })
-    (record { standing = standings.Lexeme; place = q }) → ⊥
-break_lexeme p q h = let e : standings.Break ≡ standings.Lexeme = ap (λ (s : GapStep). s.standing) h in cc
+    → ◌≡◌ {A = GapStep} (record { standing = gap_spots.Break; place = p })
+    (record { standing = gap_spots.Lexeme; place = q }) → ⊥
+break_lexeme p q h = let e : gap_spots.Break ≡ gap_spots.Lexeme = ap (λ (s : GapStep). s.standing) h in cc
 
 not_first : (b c d : ℕ) (first : Bool) → (nat_lt 32 b && (nat_lt b 128 && not (b == 35))) ≡ true
     → (first && (b == 0xEF && (c == 0xBB && d == 0xBF))) ≡ false
@@ -69,7 +69,7 @@ last_step a b c w v x y z u h i j k = rw (h, i, j, k) refl
 --- these bytes begin a lexeme
 pub lexeme_here : (tabs : Bool) (text : List ℕ) (p : ℕ)
     → (nat_lt 32 (byte text p) && (nat_lt (byte text p) 128 && not (byte text p == 35))) ≡ true
-    → step_at tabs text p ≡ record { standing = standings.Lexeme; place = p }
+    → step_at tabs text p ≡ record { standing = gap_spots.Lexeme; place = p }
 unfolding step_at
 lexeme_here tabs text p h =
     last_step _ _ _ _ _ _ _ _ _ (not_first (byte text p) (byte text (p + 1)) (byte text (p + 2)) (p == 0) h) (not_skipped (byte text p) tabs h) (not_hash (byte text p) h) (no_width (byte text p) (byte text (p + 1)) (byte text (p + 2)) h)
@@ -84,7 +84,7 @@ space_skipped b tabs h = rw h refl
 
 -- a space is passed
 pub space_here : (tabs : Bool) (text : List ℕ) (p : ℕ) → byte text p ≡ 32
-    → step_at tabs text p ≡ record { standing = standings.Blank; place = p + 1 }
+    → step_at tabs text p ≡ record { standing = gap_spots.Blank; place = p + 1 }
 unfolding step_at
 space_here tabs text p h =
     let first : (p == 0 && is_bom text p) ≡ false = space_first (byte text p) (byte text (p + 1)) (byte text (p + 2)) (p == 0) h in
@@ -124,7 +124,7 @@ hash_inside text p h =
 
 -- a step stops at a lexeme, or goes on inside the text
 pub step_moves : (tabs : Bool) (text : List ℕ) (p : ℕ)
-    → (step_at tabs text p ≡ record { standing = standings.Lexeme; place = p })
+    → (step_at tabs text p ≡ record { standing = gap_spots.Lexeme; place = p })
     ⊎ ((p < (step_at tabs text p).place) × (p < length text))
 unfolding step_at
 step_moves tabs text p =
@@ -144,7 +144,7 @@ step_moves tabs text p =
 
 -- what is left of a gap behind a blank
 pub gap_blank : (n : ℕ) (flow allowed : Bool) (text : List ℕ) (p q : ℕ)
-    → step_at (flow || not allowed) text p ≡ record { standing = standings.Blank; place = q }
+    → step_at (flow || not allowed) text p ≡ record { standing = gap_spots.Blank; place = q }
     → length text ≤ p + n
     → (m : ℕ) × (length text ≤ q + m) × (p < q) × (p < length text)
     × (gap_within n flow allowed text p ≡ gap_within m flow allowed text q)
@@ -162,7 +162,7 @@ gap_blank n flow allowed text p q h room =
 
 -- what is left of a gap behind a break
 pub gap_break : (n : ℕ) (flow allowed : Bool) (text : List ℕ) (p q : ℕ)
-    → step_at (flow || not allowed) text p ≡ record { standing = standings.Break; place = q }
+    → step_at (flow || not allowed) text p ≡ record { standing = gap_spots.Break; place = q }
     → length text ≤ p + n
     → (m : ℕ) × (length text ≤ q + m) × (p < q) × (p < length text)
     × (gap_within n flow allowed text p
@@ -181,7 +181,7 @@ gap_break n flow allowed text p q h room =
 
 -- A gap stops at a lexeme.
 pub gap_stop : (n : ℕ) (flow allowed : Bool) (text : List ℕ) (p q : ℕ)
-    → step_at (flow || not allowed) text p ≡ record { standing = standings.Lexeme; place = q }
+    → step_at (flow || not allowed) text p ≡ record { standing = gap_spots.Lexeme; place = q }
     → length text ≤ p + n → gap_within n flow allowed text p ≡ record { place = q; broke = false }
 unfolding gap_within
 gap_stop zero flow allowed text p q h room =

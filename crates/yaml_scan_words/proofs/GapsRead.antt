@@ -4,7 +4,7 @@ use Rattle.std.proofs.lemmas.Bool.{ne_eqb, lt-ltb, not-true, and_parts}
 use Rattle.std.proofs.lemmas.Bool.Decides.{nat_tests}
 use Rattle.yaml_scan_model.specs.Marks.{byte, break_of, break_width}
 use Rattle.yaml_scan_model.specs.Classes.{is_bom}
-use Rattle.yaml_scan_words.specs.declared.between.Standing.TheVariants as standings
+use Rattle.yaml_scan_words.specs.declared.between.GapSpot.TheVariants as gap_spots
 use Rattle.yaml_scan_words.specs.Between.{step_at, is_skipped, with_break, gap_within, gap_at}
 use Rattle.yaml_scan_words.proofs.BetweenLemmas.{gap_blank, gap_break, gap_stop}
 use Rattle.yaml_scan_words.specs.Written.{HasAt, are_gap, has_break, begins_lexeme}
@@ -19,7 +19,7 @@ no_bom : (text : List ℕ) (p : ℕ) → byte text p ≢ 0xEF → (p == 0 && is_
 no_bom text p h = not_first (p == 0) (byte text p) (byte text (p + 1)) (byte text (p + 2)) h
 
 step_space : (tabs : Bool) (text : List ℕ) (p : ℕ) → byte text p ≡ 32
-    → step_at tabs text p ≡ record { standing = standings.Blank; place = p + 1 }
+    → step_at tabs text p ≡ record { standing = gap_spots.Blank; place = p + 1 }
 unfolding step_at
 step_space tabs text p h =
     let first : (p == 0 && is_bom text p) ≡ false = no_bom text p (omega arith) in
@@ -34,7 +34,7 @@ no_skip true b h i = grind (arith, nat_tests)
 no_skip false b h i = grind (arith, nat_tests)
 
 step_break : (tabs : Bool) (text : List ℕ) (p : ℕ) → 0 < break_width text p
-    → step_at tabs text p ≡ record { standing = standings.Break; place = p + break_width text p }
+    → step_at tabs text p ≡ record { standing = gap_spots.Break; place = p + break_width text p }
 unfolding step_at
 step_break tabs text p h =
     let (bom, space, tab, hash) = break_parts _ _ _ h in
@@ -57,7 +57,7 @@ lexeme_parts b c d h =
     (unequal d 32 space, unequal d 9 tab, unequal d 35 hash, not-true b none, not-true c first)
 
 step_lexeme : (tabs : Bool) (text : List ℕ) (p : ℕ) → begins_lexeme text p ≡ true
-    → step_at tabs text p ≡ record { standing = standings.Lexeme; place = p }
+    → step_at tabs text p ≡ record { standing = gap_spots.Lexeme; place = p }
 unfolding step_at
 step_lexeme tabs text p h =
     let (space, tab, hash, none, first) = lexeme_parts (nat_lt 0 (break_width text p)) (p == 0 && is_bom text p) (byte text p) h in

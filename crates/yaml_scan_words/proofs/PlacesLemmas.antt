@@ -8,8 +8,8 @@ use Rattle.yaml_scan_model.specs.Marks.{byte, break_width, is_blank_or_end}
 use Rattle.yaml_scan_model.specs.Classes.{is_bom}
 use Rattle.yaml_scan_model.specs.Wrong.{Wrong}
 use Rattle.yaml_scan_model.proofs.MarksLemmas.{within, past_break}
-use Rattle.yaml_scan_words.specs.declared.between.Standing.{Standing}
-use Rattle.yaml_scan_words.specs.declared.between.Standing.TheVariants as standings
+use Rattle.yaml_scan_words.specs.declared.between.GapSpot.{GapSpot}
+use Rattle.yaml_scan_words.specs.declared.between.GapSpot.TheVariants as gap_spots
 use Rattle.yaml_scan_words.specs.declared.run.Run.{Run}
 use Rattle.yaml_scan_words.specs.declared.run.Run.TheVariants as runs
 use Rattle.yaml_scan_words.specs.Runs.{belongs, run_end}
@@ -63,13 +63,13 @@ step_place tabs text p l =
       ]
     ]
 
-behind : (more : Bool → ℕ → Gap) (flow allowed : Bool) (text : List ℕ) (p : ℕ) (standing : Standing)
+behind : (more : Bool → ℕ → Gap) (flow allowed : Bool) (text : List ℕ) (p : ℕ) (standing : GapSpot)
     (q : ℕ)
     → ((key : Bool) → IsFrom text q (more key q).place) → IsFrom text p q
     → IsFrom text p (gap_behind more flow allowed standing q).place
-behind more flow allowed text p standings.Blank q rest f = further text p q (more allowed q).place f.forward (rest allowed)
-behind more flow allowed text p standings.Break q rest f = further text p q (more (allowed || not flow) q).place f.forward (rest (allowed || not flow))
-behind more flow allowed text p standings.Lexeme q rest f = f
+behind more flow allowed text p gap_spots.Blank q rest f = further text p q (more allowed q).place f.forward (rest allowed)
+behind more flow allowed text p gap_spots.Break q rest f = further text p q (more (allowed || not flow) q).place f.forward (rest (allowed || not flow))
+behind more flow allowed text p gap_spots.Lexeme q rest f = f
 
 gap_within-place : (n : ℕ) (flow allowed : Bool) (text : List ℕ) (p : ℕ) → p ≤ length text
     → IsFrom text p (gap_within n flow allowed text p).place

@@ -2,8 +2,8 @@
 use Rattle.std.proofs.Common.{◌≡◌, ℕ, zero, suc, ◌+◌, ◌≤◌, Bool, true, false, not, ◌||◌, List, [], ◌∷◌, ◌++◌, length, Result, refl, sym, ap, subst, ◌∙◌, inl, inr, ◌⊎◌, arith}
 use Rattle.yaml_scan_model.specs.declared.problem.Context.{Context}
 use Rattle.yaml_scan_model.specs.Wrong.{Wrong}
-use Rattle.yaml_scan_words.specs.declared.between.Standing.{Standing}
-use Rattle.yaml_scan_words.specs.declared.between.Standing.TheVariants as standings
+use Rattle.yaml_scan_words.specs.declared.between.GapSpot.{GapSpot}
+use Rattle.yaml_scan_words.specs.declared.between.GapSpot.TheVariants as gap_spots
 use Rattle.yaml_scan_words.specs.Between.{GapStep, Gap, with_break, step_at, gap_within}
 use Rattle.yaml_scan_words.specs.Uris.{UriSpot, Spells, Ends, Faulty, spot_at, with_bytes, uri_within}
 use Rattle.yaml_scan_words.proofs.BetweenLemmas.{gap_blank, gap_break, gap_stop}
@@ -54,22 +54,22 @@ run_end_is_one run text p q h =
 
 -- ---- gaps
 
-led_by : (d : ℕ) (flow allowed : Bool) (text : List ℕ) (p n : ℕ) (s : Standing) (q : ℕ)
+led_by : (d : ℕ) (flow allowed : Bool) (text : List ℕ) (p n : ℕ) (s : GapSpot) (q : ℕ)
     → ◌≡◌ {A = GapStep} (step_at (flow || not allowed) text p) (record { standing = s; place = q })
     → length text ≤ p + d → length text ≤ p + n
     → LeadsOverGap flow text allowed p (gap_within n flow allowed text p)
-led_by d flow allowed text p n standings.Lexeme q e room fuel =
+led_by d flow allowed text p n gap_spots.Lexeme q e room fuel =
     subst (λ (g : Gap). LeadsOverGap flow text allowed p g) (sym (gap_stop n flow allowed text p q e fuel)) (arrives allowed p q e)
-led_by zero flow allowed text p n standings.Blank q e room fuel =
+led_by zero flow allowed text p n gap_spots.Blank q e room fuel =
     let (m, left, far, inside, same) = gap_blank n flow allowed text p q e fuel in absurd (omega (arith, inside, room))
-led_by (suc d) flow allowed text p n standings.Blank q e room fuel =
+led_by (suc d) flow allowed text p n gap_spots.Blank q e room fuel =
     let (m, left, far, inside, same) = gap_blank n flow allowed text p q e fuel in
     let here : GapStep = step_at (flow || not allowed) text q in
     subst (λ (g : Gap). LeadsOverGap flow text allowed p g) (sym same)
     (passes_blank allowed p q (gap_within m flow allowed text q) e (led_by d flow allowed text q m here.standing here.place refl (omega (arith, room, far)) left))
-led_by zero flow allowed text p n standings.Break q e room fuel =
+led_by zero flow allowed text p n gap_spots.Break q e room fuel =
     let (m, left, far, inside, same) = gap_break n flow allowed text p q e fuel in absurd (omega (arith, inside, room))
-led_by (suc d) flow allowed text p n standings.Break q e room fuel =
+led_by (suc d) flow allowed text p n gap_spots.Break q e room fuel =
     let (m, left, far, inside, same) = gap_break n flow allowed text p q e fuel in
     let here : GapStep = step_at (flow || not (allowed || not flow)) text q in
     subst (λ (g : Gap). LeadsOverGap flow text allowed p g) (sym same)

@@ -1,7 +1,7 @@
 -- What stands between lexemes.
 use Rattle.std.specs.Prelude.{ℕ, zero, suc, ◌+◌, Bool, true, false, not, ◌&&◌, ◌||◌, ◌==◌, nat_lt, if◌then◌else◌, List, length}
-use Rattle.yaml_scan_words.specs.declared.between.Standing.{Standing}
-use Rattle.yaml_scan_words.specs.declared.between.Standing.TheVariants as standings
+use Rattle.yaml_scan_words.specs.declared.between.GapSpot.{GapSpot}
+use Rattle.yaml_scan_words.specs.declared.between.GapSpot.TheVariants as gap_spots
 use Rattle.yaml_scan_words.specs.declared.run.Run.TheVariants as runs
 use Rattle.yaml_scan_words.specs.Runs.{run_end}
 use Rattle.yaml_scan_model.specs.Marks.{byte, break_width}
@@ -9,7 +9,7 @@ use Rattle.yaml_scan_model.specs.Classes.{is_bom}
 
 -- what stands at a place between lexemes, and the place behind it
 pub record GapStep : Type 0 where
-  pub standing : Standing
+  pub standing : GapSpot
   pub place : ℕ
 
 -- a space, or a tab where tabs are skipped
@@ -19,16 +19,16 @@ is_skipped tabs text p = byte text p == 32 || (tabs && byte text p == 9)
 -- U+FEFF at index 0, a blank, a comment, a break, or else a lexeme
 unfoldable pub step_at : Bool → List ℕ → ℕ → GapStep
 step_at tabs text p =
-    if p == 0 && is_bom text p then record { standing = standings.Blank; place = p + 3 }
-    else if is_skipped tabs text p then record { standing = standings.Blank; place = p + 1 }
+    if p == 0 && is_bom text p then record { standing = gap_spots.Blank; place = p + 3 }
+    else if is_skipped tabs text p then record { standing = gap_spots.Blank; place = p + 1 }
     else if byte text p == 35 then record {
-      standing = standings.Blank;
+      standing = gap_spots.Blank;
       place = run_end runs.Line
           text p;
     }
     else if nat_lt 0 (break_width text p)
-    then record { standing = standings.Break; place = p + break_width text p }
-    else record { standing = standings.Lexeme; place = p }
+    then record { standing = gap_spots.Break; place = p + break_width text p }
+    else record { standing = gap_spots.Lexeme; place = p }
 
 -- what stands between two lexemes: the place of the second one, and whether a break stands before it
 pub record Gap : Type 0 where
@@ -39,10 +39,10 @@ abbrev pub with_break : Bool → Gap → Gap
 with_break broke gap = record { place = gap.place; broke = broke || gap.broke }
 
 -- a gap, where `more` is its rest behind a step, by whether a key is allowed there
-abbrev pub gap_behind : (Bool → ℕ → Gap) → Bool → Bool → Standing → ℕ → Gap
-gap_behind more flow allowed standings.Blank q = more allowed q
-gap_behind more flow allowed standings.Break q = with_break true (more (allowed || not flow) q)
-gap_behind more flow allowed standings.Lexeme q = record { place = q; broke = false }
+abbrev pub gap_behind : (Bool → ℕ → Gap) → Bool → Bool → GapSpot → ℕ → Gap
+gap_behind more flow allowed gap_spots.Blank q = more allowed q
+gap_behind more flow allowed gap_spots.Break q = with_break true (more (allowed || not flow) q)
+gap_behind more flow allowed gap_spots.Lexeme q = record { place = q; broke = false }
 
 -- the gap there, of at most n steps; tabs are skipped in flow context or where no key is allowed
 unfoldable pub gap_within : ℕ → Bool → Bool → List ℕ → ℕ → Gap

@@ -3,7 +3,7 @@ use Rattle.std.specs.Prelude.{◌≡◌, ◌<◌, ◌≤◌, ℕ, Bool, true, fa
 use Rattle.yaml_scan_model.specs.declared.problem.Context.{Context}
 use Rattle.yaml_scan_model.specs.declared.problem.Problem.{Problem}
 use Rattle.yaml_scan_model.specs.Wrong.{Wrong}
-use Rattle.yaml_scan_words.specs.declared.between.Standing.TheVariants as standings
+use Rattle.yaml_scan_words.specs.declared.between.GapSpot.TheVariants as gap_spots
 use Rattle.yaml_scan_words.specs.declared.run.Run.{Run}
 use Rattle.yaml_scan_words.specs.Runs.{belongs, run_end}
 use Rattle.yaml_scan_words.specs.Between.{Gap, with_break, step_at, gap_at}
@@ -30,13 +30,13 @@ RunEndIsOne = (run : Run) (text : List ℕ) (p q : ℕ) → EndsRun run text p q
 -- changes outside of brackets.
 pub data LeadsOverGap (flow : Bool) (text : List ℕ) : Bool → ℕ → Gap → Type 0 where
   arrives : (allowed : Bool) (p q : ℕ)
-      → step_at (flow || not allowed) text p ≡ record { standing = standings.Lexeme; place = q }
+      → step_at (flow || not allowed) text p ≡ record { standing = gap_spots.Lexeme; place = q }
       → LeadsOverGap flow text allowed p (record { place = q; broke = false })
   passes_blank : (allowed : Bool) (p q : ℕ) (gap : Gap)
-      → step_at (flow || not allowed) text p ≡ record { standing = standings.Blank; place = q }
+      → step_at (flow || not allowed) text p ≡ record { standing = gap_spots.Blank; place = q }
       → LeadsOverGap flow text allowed q gap → LeadsOverGap flow text allowed p gap
   passes_break : (allowed : Bool) (p q : ℕ) (gap : Gap)
-      → step_at (flow || not allowed) text p ≡ record { standing = standings.Break; place = q }
+      → step_at (flow || not allowed) text p ≡ record { standing = gap_spots.Break; place = q }
       → LeadsOverGap flow text (allowed || not flow) q gap
       → LeadsOverGap flow text allowed p (with_break true gap)
 

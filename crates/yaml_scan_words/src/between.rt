@@ -10,7 +10,7 @@ use yaml_scan_model::Reader;
 
 /// What stands at a place between lexemes.
 #[derive(Clone, Copy)]
-pub(crate) enum Standing {
+pub(crate) enum GapSpot {
     /// A blank that is skipped, a comment, or U+FEFF at the start of the text.
     Blank,
     Break,
@@ -31,12 +31,12 @@ pub fn skip_gap(reader: &mut Reader, flow: bool, key_allowed: bool) -> bool
     let mut broke = false;
     'gap: loop {
         match pass_one(reader, skips_tabs(flow, allowed)) {
-            Standing::Blank => {}
-            Standing::Break => {
+            GapSpot::Blank => {}
+            GapSpot::Break => {
                 broke = true;
                 allowed = allows_key(flow, allowed);
             }
-            Standing::Lexeme => return broke,
+            GapSpot::Lexeme => return broke,
         }
     }
 }
@@ -57,35 +57,35 @@ fn allows_key(flow: bool, allowed: bool) -> bool
 
 /// Past what stands here, where it is no lexeme.
 #[tactic(auto, unfolding(crate::specs::Between::step_at))]
-fn pass_one(reader: &mut Reader, tabs: bool) -> Standing
+fn pass_one(reader: &mut Reader, tabs: bool) -> GapSpot
     ensures step { spec.step_at tabs reader.old.text reader.old.at
         ≡ record { standing = result; place = reader.new.at } }
     ensures text { reader.new.text ≡ reader.old.text }
 {
     if begins_lexeme(reader.here()) {
-        return Standing::Lexeme;
+        return GapSpot::Lexeme;
     }
     if reader.here() == b' ' {
         reader.skip();
-        return Standing::Blank;
+        return GapSpot::Blank;
     }
     if is_bom_first(reader) {
         skip_bom(reader);
-        return Standing::Blank;
+        return GapSpot::Blank;
     }
     if is_skipped(reader, tabs) {
         reader.skip();
-        return Standing::Blank;
+        return GapSpot::Blank;
     }
     if reader.here() == b'#' {
         skip_run(Run::Line, reader);
-        return Standing::Blank;
+        return GapSpot::Blank;
     }
     if reader.break_width() > 0 {
         reader.skip_break();
-        return Standing::Break;
+        return GapSpot::Break;
     }
-    Standing::Lexeme
+    GapSpot::Lexeme
 }
 
 /// Whether the byte begins no blank, comment, break or U+FEFF, as nearly all bytes of lexemes.

@@ -9,14 +9,14 @@ ghost use Rattle.yaml_emit_layout.specs.declared.Expected.{Expected};
 ghost use Rattle.yaml_emit_layout.specs.Content.{emitter_event};
 ghost use Rattle.yaml_emit_text.specs.Layout.{◌▹◌};
 ghost use Rattle.yaml_emit_layout.specs.Nodes.{alias_layout, scalar_layout};
-ghost use Rattle.yaml_emit_layout.specs.State.{text_at, is_simple_event, before_node, spot_of, start_text};
+ghost use Rattle.yaml_emit_layout.specs.State.{text_at, is_simple_event, before_node, position_of, start_text};
 ghost use Rattle.yaml_scan_model.specs.declared.yaml_scalar_style_t.{yaml_scalar_style_t};
 ghost use Rattle.yaml_emit_state.specs.Given.{lent_context, lent_scalar, lent_start, plain_text, plain_opening, name_of, IsNamed};
 
 use crate::before::{put_before, put_closer_at};
 use crate::documents::{put_end, put_start_at, put_stop_at};
-use crate::given::{Context, Opening, Scalar, Start, Where};
-use crate::indent::spot_of;
+use crate::given::{Context, EventPosition, Opening, Scalar, Start};
+use crate::indent::position_of;
 use crate::keys::{is_flow_mapping, is_flow_sequence};
 use crate::nodes::{
     put_alias_at, put_collection, put_plain_mapping, put_plain_sequence, put_scalar, put_text,
@@ -37,10 +37,10 @@ pub(super) fn put_alias_node(
 )
     requires { IsAscii name.now }
     ensures { Puts sink.old sink.new (before_node settings.now top.now simple
-        ▹ alias_layout (spot_of top.now simple) name.now) }
+        ▹ alias_layout (position_of top.now simple) name.now) }
 {
     put_before(sink, settings, top, simple);
-    put_alias_at(sink, spot_of(*top, simple), name);
+    put_alias_at(sink, position_of(*top, simple), name);
 }
 
 // The same in either form.
@@ -55,7 +55,7 @@ fn put_any_alias(
 )
     requires { IsAscii name.now }
     ensures { Puts sink.old sink.new (before_node settings.now top.now simple
-        ▹ alias_layout (spot_of top.now simple) name.now) }
+        ▹ alias_layout (position_of top.now simple) name.now) }
 {
     put_alias_node(sink, settings, top, simple, name);
 }
@@ -76,11 +76,11 @@ pub(super) fn put_scalar_node(
     requires tame { scalar.now.tame ≡ true → IsTame scalar.now.value.now }
     requires form { canonical ≡ context.now.settings.now.canonical }
     ensures { Puts sink.old sink.new (before_node context.now.settings.now top.now simple
-        ▹ scalar_layout (lent_context context.now) (spot_of top.now simple)
+        ▹ scalar_layout (lent_context context.now) (position_of top.now simple)
         (lent_scalar scalar.now)) }
 {
     put_before(sink, context.settings, top, simple);
-    put_scalar(sink, context, spot_of(*top, simple), scalar, canonical);
+    put_scalar(sink, context, position_of(*top, simple), scalar, canonical);
 }
 
 // A text with the default tag and without an anchor in the innermost collection, with what comes before it, in canonical form.
@@ -91,11 +91,11 @@ pub(super) fn put_text_node(sink: &mut Sink, context: &Context, top: &Option<Lev
     requires form { context.now.settings.now.canonical ≡ true }
     ensures { (style : yaml_scalar_style_t) → Puts sink.old sink.new
         (before_node context.now.settings.now top.now false
-        ▹ scalar_layout (lent_context context.now) (spot_of top.now false)
+        ▹ scalar_layout (lent_context context.now) (position_of top.now false)
         (plain_text value.now style)) }
 {
     put_before(sink, context.settings, top, false);
-    put_text(sink, context, spot_of(*top, false), value);
+    put_text(sink, context, position_of(*top, false), value);
 }
 
 // The same in either form.
@@ -112,7 +112,7 @@ fn put_any_node(
     requires named { IsNamed (text_of scalar.now.anchor.now) }
     requires tame { scalar.now.tame ≡ true → IsTame scalar.now.value.now }
     ensures { Puts sink.old sink.new (before_node context.now.settings.now top.now simple
-        ▹ scalar_layout (lent_context context.now) (spot_of top.now simple)
+        ▹ scalar_layout (lent_context context.now) (position_of top.now simple)
         (lent_scalar scalar.now)) }
 {
     put_scalar_node(
@@ -138,11 +138,12 @@ fn put_start_node(
 )
     requires { IsNamed (text_of start.now.anchor.now) }
     ensures { Puts sink.old sink.new (before_node context.now.settings.now top.now simple
-        ▹ start_text (lent_context context.now) (spot_of top.now simple) c (lent_start start.now)
+        ▹ start_text (lent_context context.now) (position_of top.now simple) c
+        (lent_start start.now)
         start.now.empty) }
 {
     put_before(sink, context.settings, top, simple);
-    put_collection(sink, context, spot_of(*top, simple), c, start);
+    put_collection(sink, context, position_of(*top, simple), c, start);
 }
 
 // What opens a collection with the default tag and without an anchor in the innermost one, with what comes before it, in canonical
@@ -175,7 +176,7 @@ pub(super) fn put_plain_node(
 pub fn put_event(
     sink: &mut Sink,
     context: &Context,
-    at: &Where,
+    at: &EventPosition,
     event: &yaml_event_body_t,
     empty: bool,
 )
@@ -187,7 +188,7 @@ pub fn put_event(
     ensures { Puts sink.old sink.new (text_at (lent_context context.now) at.now.place at.now.top.now
         (emitter_event (body_of event.now)) empty) }
 {
-    let Where { place, top, simple } = *at;
+    let EventPosition { place, top, simple } = *at;
     match event {
         yaml_event_body_t::No => (),
         yaml_event_body_t::StreamStart { .. } => sink.put_order_mark(),

@@ -10,7 +10,7 @@ ghost use Rattle.yaml_emit_layout.specs.Nodes.{checked, context_of};
 ghost use Rattle.yaml_emit_state.specs.Steps.{state_of, StaysBut, MovesOn, OpensCollection, Notes, Halts, first_phase, is_document_start};
 
 use super::Core;
-use crate::indent::{indent_of, is_flow, spot_of};
+use crate::indent::{indent_of, is_flow, position_of};
 use crate::keys::{is_flow_mapping, is_flow_sequence};
 use std::mem;
 use yaml_emit_layout::{Expected, Level, Phase};
@@ -176,9 +176,9 @@ impl Core {
     )
         ensures { OpensCollection settings.now self.old self.new simple empty style_flow sequence }
     {
-        let spot = spot_of(self.levels.top(), simple);
-        let flow = is_flow(settings, spot, style_flow, empty);
-        let indent = indent_of(settings, spot, sequence, flow, self.sink.cursor());
+        let position = position_of(self.levels.top(), simple);
+        let flow = is_flow(settings, position, style_flow, empty);
+        let indent = indent_of(settings, position, sequence, flow, self.sink.cursor());
         let phase = first_phase(sequence);
         self.open_at(simple, phase, flow, indent);
     }

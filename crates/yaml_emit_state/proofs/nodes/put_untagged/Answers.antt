@@ -14,5 +14,5 @@ returns-in-None c = puts_both _ _ _ _ _ c.put_exclamation_if.ensures (puts_both 
 pub returns-in-Some : goal.returns-in-Some
 returns-in-Some c =
     let s = c.args.settings.now in
-    let quoted : ℕ → Layout = λ n. double_quoted (record { width = s.width; indentation = n; unicode = s.unicode; cuts = not (is_simple_part c.args.spot.part); line_break = s.line_break }) (chars c.args.value.now) in
+    let quoted : ℕ → Layout = λ n. double_quoted (record { width = s.width; indentation = n; unicode = s.unicode; cuts = not (is_simple_part c.args.position.part); line_break = s.line_break }) (chars c.args.value.now) in
     puts_shallow _ _ _ _ (when (not c.args.quoted) (word (33 ∷ []))) quoted (sym c.in-Some.is ∙ c.deeper-depth.ensures) c.put_in_quotes.ensures

@@ -2,7 +2,7 @@ use Rattle.std.proofs.Common.{◌≡◌, ◌+◌, ◌-◌, suc, arith, ◌∙◌
 use Rattle.std.proofs.lemmas.Result.{err_from_is_err_and}
 use Rattle.yaml_scan_scalars.specs.Plain.{spot_at}
 use Rattle.yaml_scan_scalars.specs.Joined.{Steps, TookFirst, TookWords}
-use Rattle.yaml_scan_scalars.proofs.PlainLemmas.{seat_text, turn_more, turn_done, turn_refused}
+use Rattle.yaml_scan_scalars.proofs.PlainLemmas.{lead_text, turn_more, turn_done, turn_refused}
 use Rattle.yaml_scan_scalars.proofs.PlainRunLemmas.{plain_run, plain_first_run, first_text, behind_first}
 use Rattle.yaml_scan_scalars.proofs.RunLemmas.{first_last}
 use Rattle.yaml_scan_scalars.proofs.OneRunLemmas.{no_space}
@@ -32,7 +32,7 @@ pieces-init c =
         line = λ e. c.in_ok-joining.ensures.line;
       };
     } in
-    let calm = sym (seat_text text p c.requires.no_blank c.requires.no_end).0 in
+    let calm = sym (lead_text text p c.requires.no_blank c.requires.no_end).0 in
     record {
       text = refl;
       seat = took.seat;

@@ -5,7 +5,7 @@ use Rattle.yaml_scan_model.specs.Marks.{byte, break_width, is_blank, column_at}
 use Rattle.yaml_scan_model.proofs.BreaksLemmas.{feed_some, value_long}
 use Rattle.yaml_scan_scalars.specs.Plain.{leads, ends_at, is_bracket}
 use Rattle.yaml_scan_model.proofs.MarksLemmas.{within}
-use Rattle.yaml_scan_scalars.proofs.PlainLemmas.{blank_inside, seat_text, spot_break, spot_blank, spot_tab, spot_ends, spot_colon, spot_kept, not_ended, seat_break, leads-blank, white-blank}
+use Rattle.yaml_scan_scalars.proofs.PlainLemmas.{blank_inside, lead_text, spot_break, spot_blank, spot_tab, spot_ends, spot_colon, spot_kept, not_ended, lead_break, leads-blank, white-blank}
 use Rattle.yaml_scan_scalars.proofs.plain.piece.Goals as goal
 
 pub break_line-requires-clause-some : goal.break_line-requires-clause-some
@@ -29,7 +29,7 @@ returns-then-break_here-gt0 c =
     let text = c.args.reader.now.text in
     let p = c.args.reader.now.at in
     let some : 0 < break_width text p = omega (arith, c.break_here.ensures.value, c.if-break_here-gt0.true) in
-    let seat = seat_break text p some in
+    let seat = lead_break text p some in
     let value = rw c.feed.ensures at (c.in_ok-break_line.ensures.value (p + break_width text p)) in
     rw (spot_break c.args.flow c.args.level text p some) (
       c.skip_break.ensures,
@@ -138,7 +138,7 @@ returns c =
     let k : is_blank (byte text p) ≡ false = rw b at (sym c.is_blank.ensures ∙ c.if-is_blank.false) in
     let n : ends_at c.args.flow c.args.level text p ≡ false = sym c.ends.ensures ∙ c.if-ends.false in
     let o : (c.args.flow && (byte text p == 58 && (is_bracket (byte text (p + 1)) || byte text (p + 1) == 63))) ≡ false = rw (b, c.byte.ensures) at (sym c.is_bad_colon.ensures ∙ c.if-is_bad_colon.false) in
-    let none = seat_text text p k (c.break_here.ensures.none (c.break_here.ensures.value ∙ z)) in
+    let none = lead_text text p k (c.break_here.ensures.none (c.break_here.ensures.value ∙ z)) in
     let m = rw c.skip-2.ensures at c.mark-2.ensures in
     let value = rw (b, m) at c.in_ok-keep.ensures.value in
     let seat = rw m at c.in_ok-keep.ensures.seat in

@@ -1,7 +1,7 @@
 use Rattle.std.proofs.Common.{◌∙◌, ap, sym, true, false}
 use Rattle.yaml_scan_model.specs.Marks.{Place}
 use Rattle.yaml_scan_model.proofs.MarksLemmas.{within}
-use Rattle.yaml_scan_scalars.proofs.PlainLemmas.{plain_start, seat_text}
+use Rattle.yaml_scan_scalars.proofs.PlainLemmas.{plain_start, lead_text}
 use Rattle.yaml_scan_scalars.proofs.OneRunLemmas.{own_mark, no_space, plain_one, plain_then, reads_in, line_in, run_whole}
 use Rattle.yaml_scan_scalars.proofs.plain.plain_scalar.Goals as goal
 
@@ -25,7 +25,7 @@ returns-then-is_followed c =
     let ends = c.break_here-width.ensures.none (c.break_here-width.ensures.value ∙ z) in
     let run = c.first_run-bytes.ensures.run in
     let followed = rw run.same at (c.is_followed.ensures c.if-is_followed.true c.args.level) in
-    let one = plain_one c.args.flow c.args.level text p c.first_run-bytes.new.reader (within text p some) (sym (seat_text text p blank ends).0) (no_space _ blank) run followed in
+    let one = plain_one c.args.flow c.args.level text p c.first_run-bytes.new.reader (within text p some) (sym (lead_text text p blank ends).0) (no_space _ blank) run followed in
     let at = (own_mark text p _ c.mark-start.ensures).1 in
     rw (one, ← c.first_run-bytes.ensures.bytes) (reads_in text p _ c.first_run-bytes.new.reader _ _ run.same at c.one_run.ensures)
 
@@ -46,7 +46,7 @@ returns-then-passes_line c =
     let ends = c.break_here-width.ensures.none (c.break_here-width.ensures.value ∙ z) in
     let run = c.first_run-bytes.ensures.run in
     let follow = rw (c.ahead-ahead.ensures, run.same) at (c.passes_line.ensures.ends c.if-passes_line.true) in
-    let one = plain_then false c.args.level text p c.passes_line.new.reader.at c.passes_line.new.reader.at true c.first_run-bytes.new.reader (within text p some) (sym (seat_text text p blank ends).0) (no_space _ blank) run follow in
+    let one = plain_then false c.args.level text p c.passes_line.new.reader.at c.passes_line.new.reader.at true c.first_run-bytes.new.reader (within text p some) (sym (lead_text text p blank ends).0) (no_space _ blank) run follow in
     let at = (own_mark text p _ c.mark-start.ensures).1 in
     rw (c.if-not-flow.true, one, ← c.first_run-bytes.ensures.bytes) (line_in text p _ _ c.first_run-bytes.new.reader _ _ run.same at c.one_line.ensures)
 

@@ -5,11 +5,11 @@ use Rattle.yaml_scan_machine.proofs.machine.Machine.left_at.Goals as goal
 
 pub moved_end-start-requires : goal.moved_end-start-requires
 moved_end-start-requires c =
-    let low = mark_line (text_bytes c.args.self.now.text) c.args.stand.mark c.requires.place in
+    let low = mark_line (text_bytes c.args.self.now.text) c.args.spot.mark c.requires.place in
     omega (arith, low, c.requires.stands.long)
 
 pub keeps-requires : goal.keeps-requires
 keeps-requires c =
-    let low = mark_column (text_bytes c.args.self.now.text) c.args.stand.mark c.requires.place in
-    let less = placed_column c.args.stand.kind c.args.stand.mark in
+    let low = mark_column (text_bytes c.args.self.now.text) c.args.spot.mark c.requires.place in
+    let less = placed_column c.args.spot.kind c.args.spot.mark in
     rw c.moved_end-start.ensures (omega (arith, low, less, c.requires.stands.long))

@@ -5,7 +5,7 @@ use Rattle.yaml_scan_machine.proofs.machine.Machine.lexeme_at.Goals as goal
 
 pub moved_end-start-requires : goal.moved_end-start-requires
 moved_end-start-requires c =
-    let low = mark_line (text_bytes c.args.self.now.text) c.args.stand.mark c.requires.place in
+    let low = mark_line (text_bytes c.args.self.now.text) c.args.spot.mark c.requires.place in
     omega (arith, low, c.requires.stands.long)
 
 pub level_at-level-requires-clause-left : goal.level_at-level-requires-clause-left
@@ -13,24 +13,24 @@ level_at-level-requires-clause-left c = rw c.moved_end-start.ensures c.requires.
 
 pub overflow_add-result : goal.overflow_add-result
 overflow_add-result c =
-    let low = mark_column (text_bytes c.args.self.now.text) c.args.stand.mark c.requires.place in
-    let less = placed_column c.args.stand.kind c.args.stand.mark in
+    let low = mark_column (text_bytes c.args.self.now.text) c.args.spot.mark c.requires.place in
+    let less = placed_column c.args.spot.kind c.args.spot.mark in
     rw c.moved_end-start.ensures (omega (arith, low, less, c.requires.stands.long))
 
 pub returns-then-self-eq0-clause-column : goal.returns-then-self-eq0-clause-column
 returns-then-self-eq0-clause-column c =
-    let low = mark_column (text_bytes c.args.self.now.text) c.args.stand.mark c.requires.place in
-    let less = placed_column c.args.stand.kind c.args.stand.mark in
+    let low = mark_column (text_bytes c.args.self.now.text) c.args.spot.mark c.requires.place in
+    let less = placed_column c.args.spot.kind c.args.spot.mark in
     rw c.moved_end-start.ensures (omega (arith, low, less))
 
 pub returns-else-self-eq0-clause-column : goal.returns-else-self-eq0-clause-column
 returns-else-self-eq0-clause-column c =
-    let low = mark_column (text_bytes c.args.self.now.text) c.args.stand.mark c.requires.place in
-    let less = placed_column c.args.stand.kind c.args.stand.mark in
+    let low = mark_column (text_bytes c.args.self.now.text) c.args.spot.mark c.requires.place in
+    let less = placed_column c.args.spot.kind c.args.spot.mark in
     rw c.moved_end-start.ensures (omega (arith, low, less))
 
 pub returns-else-saved-clause-column : goal.returns-else-saved-clause-column
 returns-else-saved-clause-column c =
-    let low = mark_column (text_bytes c.args.self.now.text) c.args.stand.mark c.requires.place in
-    let less = placed_column c.args.stand.kind c.args.stand.mark in
+    let low = mark_column (text_bytes c.args.self.now.text) c.args.spot.mark c.requires.place in
+    let less = placed_column c.args.spot.kind c.args.spot.mark in
     rw c.moved_end-start.ensures (omega (arith, low, less))

@@ -16,17 +16,17 @@ use Rattle.yaml_scan_machine.proofs.machine.Machine.of_kind.Goals as goal
 pub returns-then-is_misplaced-clause-exact : goal.returns-then-is_misplaced-clause-exact
 returns-then-is_misplaced-clause-exact g c = λ gap here allow.
     let m = c.args.self.now in
-    let k = c.args.stand.kind in
-    misplaced_gives m c.misplaced.result _ k c.args.stand.mark
-    (wrong_machine m gap k c.args.stand.mark c.args.reader.now.text c.args.reader.now.at c.args.stand.allowed c.key-key.result c.is_misplaced.result c.requires.stands.shown c.requires.text here c.requires.mark allow c.key-key.ensures.picks c.is_misplaced.ensures c.if-is_misplaced.true)
+    let k = c.args.spot.kind in
+    misplaced_gives m c.misplaced.result _ k c.args.spot.mark
+    (wrong_machine m gap k c.args.spot.mark c.args.reader.now.text c.args.reader.now.at c.args.spot.allowed c.key-key.result c.is_misplaced.result c.requires.stands.shown c.requires.text here c.requires.mark allow c.key-key.ensures.picks c.is_misplaced.ensures c.if-is_misplaced.true)
     c.misplaced.ensures
 
 pub returns-in-Some-clause-exact : goal.returns-in-Some-clause-exact
 returns-in-Some-clause-exact g c = λ gap here allow.
     let m = c.args.self.now in
-    let k = c.args.stand.kind in
+    let k = c.args.spot.kind in
     let l = c.lexeme_at-lexeme.result in
-    let eq = kind_machine m gap k c.args.stand.mark c.args.reader.now.text c.args.reader.now.at c.args.stand.allowed c.args.required l c.key-key.result c.is_misplaced.result c.requires.stands.shown c.requires.text here c.requires.mark allow c.key-key.ensures.picks c.is_misplaced.ensures c.if-is_misplaced.false c.requires.forward c.requires.required c.requires.early c.lexeme_at-lexeme.ensures.value in
+    let eq = kind_machine m gap k c.args.spot.mark c.args.reader.now.text c.args.reader.now.at c.args.spot.allowed c.args.required l c.key-key.result c.is_misplaced.result c.requires.stands.shown c.requires.text here c.requires.mark allow c.key-key.ensures.picks c.is_misplaced.ensures c.if-is_misplaced.false c.requires.forward c.requires.required c.requires.early c.lexeme_at-lexeme.ensures.value in
     let some : lost c.args.required l ≡ Some c.in-Some.start = sym c.lost.ensures ∙ c.in-Some.is in
     lost_gives m c.no_colon.result _ c.in-Some.start l.start (eq ∙ ap (λ o. unless_lost o (text_bytes m.text) l.start.index l (history_of m)) some) c.no_colon.ensures
 
@@ -34,12 +34,12 @@ pub read-requires-clause-same : goal.read-requires-clause-same
 read-requires-clause-same g c = ap (λ (x : Lexeme). x.kind) c.lexeme_at-lexeme.ensures.value ∙ c.requires.same
 
 pub read-requires-clause-index : goal.read-requires-clause-index
-read-requires-clause-index g c = ap (λ (x : Lexeme). x.start.index) c.lexeme_at-lexeme.ensures.value ∙ placed_index c.args.stand.kind c.args.stand.mark ∙ ap (λ (x : yaml_mark_t). x.index) c.requires.mark
+read-requires-clause-index g c = ap (λ (x : Lexeme). x.start.index) c.lexeme_at-lexeme.ensures.value ∙ placed_index c.args.spot.kind c.args.spot.mark ∙ ap (λ (x : yaml_mark_t). x.index) c.requires.mark
 
 pub read-requires-clause-start : goal.read-requires-clause-start
 read-requires-clause-start g c = λ e.
     let value = c.lexeme_at-lexeme.ensures.value in
-    ap (λ (x : Lexeme). x.start) value ∙ placed_start c.args.stand.kind c.args.stand.mark (sym (ap (λ (x : Lexeme). is_end x.kind) value) ∙ e) ∙ c.requires.mark
+    ap (λ (x : Lexeme). x.start) value ∙ placed_start c.args.spot.kind c.args.spot.mark (sym (ap (λ (x : Lexeme). is_end x.kind) value) ∙ e) ∙ c.requires.mark
 
 pub read-requires-clause-kind : goal.read-requires-clause-kind
 read-requires-clause-kind g c =
@@ -49,12 +49,12 @@ read-requires-clause-kind g c =
     subst D (sym (ap (λ (x : Lexeme). x.depth) value)) (subst K (sym (ap (λ (x : Lexeme). x.kind) value)) c.requires.kind)
 
 pub read-requires-clause-saved : goal.read-requires-clause-saved
-read-requires-clause-saved g c = required_saved c.args.stand.kind (placed c.args.stand.kind c.args.stand.mark) c.args.stand.allowed c.args.self.now.depth c.args.self.now.levels c.lexeme_at-lexeme.result c.lexeme_at-lexeme.ensures.value
+read-requires-clause-saved g c = required_saved c.args.spot.kind (placed c.args.spot.kind c.args.spot.mark) c.args.spot.allowed c.args.self.now.depth c.args.self.now.levels c.lexeme_at-lexeme.result c.lexeme_at-lexeme.ensures.value
 
 pub returns-in-Ok-clause-safe : goal.returns-in-Ok-clause-safe
 returns-in-Ok-clause-safe g c =
     let m = c.args.self.now in
-    let k = c.args.stand.kind in
+    let k = c.args.spot.kind in
     let value = c.lexeme_at-lexeme.ensures.value in
     let e = c.in-Ok.ensures.safe in
     let n : ℕ = length (text_bytes m.text) in
@@ -64,29 +64,29 @@ returns-in-Ok-clause-safe g c =
       column = subst At (sym e.start) low;
       depth = e.depth ∙ ap (λ (x : Lexeme). x.depth) value;
       key = c.key-key.ensures.inside;
-      left = leaves_ends k c.args.stand.mark c.args.stand.allowed m.depth m.levels c.left_at-left.result (text_bytes m.text) c.lexeme_at-lexeme.result c.in-Ok.lexeme value e c.left_at-left.ensures;
+      left = leaves_ends k c.args.spot.mark c.args.spot.allowed m.depth m.levels c.left_at-left.result (text_bytes m.text) c.lexeme_at-lexeme.result c.in-Ok.lexeme value e c.left_at-left.ensures;
       place = λ f. e.place (sym (ap is_end e.kind) ∙ f);
     }
 
 pub returns-in-Ok-clause-exact : goal.returns-in-Ok-clause-exact
 returns-in-Ok-clause-exact g c = λ gap here allow.
     let m = c.args.self.now in
-    let k = c.args.stand.kind in
+    let k = c.args.spot.kind in
     let l = c.lexeme_at-lexeme.result in
     let value = c.lexeme_at-lexeme.ensures.value in
-    let eq = kind_machine m gap k c.args.stand.mark c.args.reader.now.text c.args.reader.now.at c.args.stand.allowed c.args.required l c.key-key.result c.is_misplaced.result c.requires.stands.shown c.requires.text here c.requires.mark allow c.key-key.ensures.picks c.is_misplaced.ensures c.if-is_misplaced.false c.requires.forward c.requires.required c.requires.early value in
+    let eq = kind_machine m gap k c.args.spot.mark c.args.reader.now.text c.args.reader.now.at c.args.spot.allowed c.args.required l c.key-key.result c.is_misplaced.result c.requires.stands.shown c.requires.text here c.requires.mark allow c.key-key.ensures.picks c.is_misplaced.ensures c.if-is_misplaced.false c.requires.forward c.requires.required c.requires.early value in
     let none : lost c.args.required l ≡ None = sym c.lost.ensures ∙ c.in_default.is in
     let all = eq ∙ ap (λ o. unless_lost o (text_bytes m.text) l.start.index l (history_of m)) none in
     subst (λ (x : Next). GivesNext m (Ok record { lexeme = c.in-Ok.lexeme; body = c.in-Ok.body; key = c.key-key.result; left = c.left_at-left.result }) x) (sym all)
-    (ok_gives m _ record { lexeme = c.in-Ok.lexeme; body = c.in-Ok.body; key = c.key-key.result; left = c.left_at-left.result } l k c.args.stand.mark c.args.stand.allowed m.levels value c.in-Ok.ensures.exact c.in-Ok.ensures.safe c.key-key.ensures.picks)
+    (ok_gives m _ record { lexeme = c.in-Ok.lexeme; body = c.in-Ok.body; key = c.key-key.result; left = c.left_at-left.result } l k c.args.spot.mark c.args.spot.allowed m.levels value c.in-Ok.ensures.exact c.in-Ok.ensures.safe c.key-key.ensures.picks)
 
 pub returns-in-Err-clause-exact : goal.returns-in-Err-clause-exact
 returns-in-Err-clause-exact g c = λ gap here allow.
     let m = c.args.self.now in
-    let k = c.args.stand.kind in
+    let k = c.args.spot.kind in
     let l = c.lexeme_at-lexeme.result in
     let value = c.lexeme_at-lexeme.ensures.value in
-    let eq = kind_machine m gap k c.args.stand.mark c.args.reader.now.text c.args.reader.now.at c.args.stand.allowed c.args.required l c.key-key.result c.is_misplaced.result c.requires.stands.shown c.requires.text here c.requires.mark allow c.key-key.ensures.picks c.is_misplaced.ensures c.if-is_misplaced.false c.requires.forward c.requires.required c.requires.early value in
+    let eq = kind_machine m gap k c.args.spot.mark c.args.reader.now.text c.args.reader.now.at c.args.spot.allowed c.args.required l c.key-key.result c.is_misplaced.result c.requires.stands.shown c.requires.text here c.requires.mark allow c.key-key.ensures.picks c.is_misplaced.ensures c.if-is_misplaced.false c.requires.forward c.requires.required c.requires.early value in
     let none : lost c.args.required l ≡ None = sym c.lost.ensures ∙ c.in_default.is in
     let all = eq ∙ ap (λ o. unless_lost o (text_bytes m.text) l.start.index l (history_of m)) none in
     subst (λ (x : Next). GivesNext m (Err c.in-Err.error) x) (sym all) (err_gives m (stream_of m) c.in-Err.error _ c.in-Err.ensures.exact)

@@ -16,10 +16,10 @@ use yaml_parse_model::{
     yaml_error_type_t, yaml_event_t, yaml_fault_t, yaml_mark_t, yaml_memory_fault, yaml_origin_t,
 };
 
-/// The fault of an alias that no node before it anchors: kind 5, at the alias, without context.
-// Out of line: in line its room would be set to zero for each event.
+// The fault of an alias that no node before it anchors.
+// Out of line: it is rare, and has much room of its own.
 #[inline(never)]
-pub fn undefined_alias_fault(at: yaml_mark_t) -> yaml_fault_t
+fn alias_fault(at: yaml_mark_t) -> yaml_fault_t
     ensures { fault_of result ≡ undefined_alias at }
 {
     yaml_fault_t {
@@ -36,6 +36,15 @@ pub fn undefined_alias_fault(at: yaml_mark_t) -> yaml_fault_t
         },
         origin: yaml_origin_t::Loader,
     }
+}
+
+/// The fault of an alias that no node before it anchors: kind 5, at the alias, without context.
+// Inlined: its room is made where it is met, and not for each event.
+#[inline(always)]
+pub fn undefined_alias_fault(at: yaml_mark_t) -> yaml_fault_t
+    ensures { fault_of result ≡ undefined_alias at }
+{
+    alias_fault(at)
 }
 
 /// A document in the making. Events are moved in, and their texts become the document's. Nothing recurses: open

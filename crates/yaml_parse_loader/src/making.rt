@@ -250,10 +250,10 @@ impl Making {
         *self = Making::new(self.parts.alloc);
     }
 
-    /// The document. It starts anew.
-    // Out of line: in line its room would be set to zero for each event.
+    // The document. It starts anew.
+    // Out of line: it runs once a document, and has much room of its own.
     #[inline(never)]
-    pub fn take_document(&mut self) -> yaml_document_t
+    fn take_whole(&mut self) -> yaml_document_t
         requires sound { IsDocument (loading_of self.old).document }
         requires sized { IsSized (loading_of self.old).document }
         ensures document { result ≡ (loading_of self.old).document }
@@ -262,6 +262,18 @@ impl Making {
         let alloc = self.parts.alloc;
         let whole = mem::replace(self, Making::new(alloc));
         whole.parts.into_document()
+    }
+
+    /// The document. It starts anew.
+    // Inlined: its room is made where a document ends, and not for each event.
+    #[inline(always)]
+    pub fn take_document(&mut self) -> yaml_document_t
+        requires sound { IsDocument (loading_of self.old).document }
+        requires sized { IsSized (loading_of self.old).document }
+        ensures document { result ≡ (loading_of self.old).document }
+        ensures anew { loading_of self.new ≡ nothing_loaded }
+    {
+        self.take_whole()
     }
 
     // A document begins; what was loaded before is let go.

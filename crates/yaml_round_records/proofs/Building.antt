@@ -1,12 +1,11 @@
 -- Events that are built of records.
-use Rattle.std.proofs.Common.{◌≡◌, ℕ, ◌+◌, ◌<◌, ◌≤◌, length, get_or, drop, Bool, true, false, ◌&&◌, List, [], ◌∷◌, ◌++◌, refl, sym, ap, ◌∙◌, subst, Option, None, Some, is_some, map, append-nil}
-use Rattle.std.specs.Prelude.{IsUtf8}
+use Rattle.std.proofs.Common.{◌≡◌, ℕ, ◌+◌, ◌<◌, ◌≤◌, length, get_or, drop, Bool, true, false, ◌&&◌, List, [], ◌∷◌, ◌++◌, refl, sym, ap, ◌∙◌, subst, Option, None, Some, is_some, map, append-nil, Result, Ok, Err}
+use Rattle.std.specs.Prelude.{IsUtf8, OnOk}
 use Rattle.std.specs.Str.{is_utf8}
 use Rattle.std.proofs.lemmas.Str.{IsUtf8-from_is_utf8}
 use Rattle.yaml_parse.specs.Constructors.{HasUtf8, AreUtf8, IsUtf8Option}
-use Rattle.yaml_parse.specs.declared.yaml_event_t.{yaml_event_t}
 use Rattle.yaml_parse.specs.declared.yaml_tag_directive_t.{yaml_tag_directive_t}
-use Rattle.yaml_parse.specs.Events.{Event, EventBody, TagDirective, directive_of, event_of, unplaced}
+use Rattle.yaml_parse.specs.Events.{EventBody, TagDirective, directive_of}
 use Rattle.yaml_parse.specs.Events as event
 use Rattle.yaml_round_records.proofs.Checked.{left_cons}
 use Rattle.std.proofs.lemmas.List.{drop_all}
@@ -107,12 +106,19 @@ pub put_all : (bytes : List ℕ) (list : List yaml_c_directive) (i : ℕ) (front
     → all_directives bytes list ≡ Some front
 put_all bytes list i front h inv = inv [] (ap (all_directives bytes) (drop_all i list h) ∙ none_directives bytes) ∙ ap (λ (ds : List TagDirective). Some ds) (append-nil front)
 
--- ---- an event with its marks at zero
+-- ---- the same of an event that was put, or refused for want of memory
 
-pub placed_body : (e : yaml_event_t) (b : EventBody) (o : Option EventBody)
-    → event_of e ≡ unplaced b → o ≡ Some b → o ≡ Some (event_of e).body
-placed_body e b o is h = h ∙ ap (λ (x : Event). Some x.body) (sym is)
+abbrev Put : {X E : Type 0} → Result X E → Option EventBody → EventBody → Type 0
+Put r o b = OnOk r (o ≡ Some b)
 
-pub placed_utf8 : (e : yaml_event_t) (b : EventBody) → event_of e ≡ unplaced b → HasUtf8 b
-    → HasUtf8 (event_of e).body
-placed_utf8 e b is h = subst (λ (x : Event). HasUtf8 x.body) (sym is) h
+pub put_meant : {X E : Type 0} (bytes : List ℕ) (list : List yaml_c_directive) (c : yaml_c_event)
+    (b : EventBody) (r : Result X E) → Put r (body_meant bytes list c) b
+    → is_some (event_meant bytes list c) ≡ true → Put r (event_meant bytes list c) b
+put_meant bytes list c b (Ok u) is h = (meant_body bytes list c b is h).0
+put_meant bytes list c b (Err e) is h = tt
+
+pub put_utf8 : {X E : Type 0} (bytes : List ℕ) (list : List yaml_c_directive) (c : yaml_c_event)
+    (b : EventBody) (r : Result X E) → Put r (body_meant bytes list c) b
+    → is_some (event_meant bytes list c) ≡ true → OnOk r (HasUtf8 b)
+put_utf8 bytes list c b (Ok u) is h = (meant_body bytes list c b is h).1
+put_utf8 bytes list c b (Err e) is h = tt

@@ -1,11 +1,12 @@
 -- Tests of what records name, and what the records mean.
 use Rattle.std.proofs.Common.{◌≡◌, ℕ, ◌+◌, ◌<◌, ◌≤◌, length, get_or, drop, add-one, Bool, true, false, ◌&&◌, List, [], ◌∷◌, refl, sym, ap, ◌∙◌, Option, None, Some, is_some, IsTrue, ◌↔◌}
 use Rattle.std.specs.Prelude.{IsUtf8}
-use Rattle.std.specs.Str.{is_utf8}
+use Rattle.std.specs.Bool.{MatchBool}
+use Rattle.std.specs.Str.{IsAscii, IsNotAscii, is_utf8}
 use Rattle.std.proofs.Math.Seq.{drop-cons}
 use Rattle.std.proofs.lemmas.List.{drop_all}
 use Rattle.std.proofs.lemmas.Bool.{false≢true}
-use Rattle.std.proofs.lemmas.Str.{IsUtf8-from_is_utf8, is_utf8-from_IsUtf8}
+use Rattle.std.proofs.lemmas.Str.{IsUtf8-from_ascii, IsUtf8-from_is_utf8, is_utf8-from_IsUtf8}
 use Rattle.std.proofs.Math.Bool.{and-false}
 use Rattle.yaml_parse.specs.Events.{EventBody, TagDirective}
 use Rattle.yaml_parse.specs.declared.yaml_scalar_style_t.{yaml_scalar_style_t}
@@ -29,6 +30,12 @@ unreadable false t is h = refl
 pub readable : (b : Bool) (t : List ℕ) → (IsTrue b ↔ IsUtf8 t) → b ≡ is_utf8 t
 readable true t h = sym (is_utf8-from_IsUtf8 t (h.0 refl))
 readable false t h = unreadable (is_utf8 t) t refl (λ u. false≢true (h.1 u))
+
+-- a test that tells ASCII
+pub plain : (b : Bool) (t : List ℕ) → MatchBool b (IsAscii t) (IsNotAscii t) → b ≡ true
+    → is_utf8 t ≡ true
+plain true t h is = is_utf8-from_IsUtf8 t (IsUtf8-from_ascii t h)
+plain false t h is = absurd (false≢true is)
 
 -- ---- directives
 

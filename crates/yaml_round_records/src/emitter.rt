@@ -1,19 +1,14 @@
 //! What an emitter makes of records.
 
-ghost use Rattle.std.specs.Prelude.{◌≡◌, ◌≤◌, ◌∷◌, ◌++◌, [], length, None, Some, IsSome, IfOk, IfErr, OnOk, option_map};
+ghost use Rattle.std.specs.Prelude.{◌≡◌, None, Some, IsSome, IfOk, IfErr, OnOk, option_map};
 ghost use Rattle.yaml_parse.specs.Faults.{Fault, fault_of, IsMemoryFault, emit_layers, Answers};
-ghost use Rattle.yaml_parse.specs.Events.{event_of};
-ghost use Rattle.yaml_parse.specs.Constructors.{HasUtf8};
-ghost use Rattle.yaml_emit.specs.Content.{emitter_event};
-ghost use Rattle.yaml_emit.specs.Emitter.{IsLimited, Stays};
-ghost use Rattle.yaml_emit.specs.Held.{AreLast};
-ghost use Rattle.yaml_emit.specs.Taking.{TakesEvents};
+ghost use Rattle.yaml_emit.specs.Emitter.{IsLimited};
 ghost use Rattle.yaml_emit.specs.Verdict.{TellsOutcome};
 ghost use Rattle.yaml_round_records.specs.Meaning.{events_meant, asked_meant};
 ghost use Rattle.yaml_round_records.specs.Written.{IsEmitted};
 ghost use Rattle.yaml_round_records.specs.Leading.{bytes_of, requested, asked_for, all_events, StartsUnder, TakesAllEvents, FinishesEmitter};
 
-use crate::event::event_of;
+use crate::event::{Rooms, put_event};
 use crate::number::{break_of, encoding_of, is_set};
 use crate::record::{yaml_c_directive, yaml_c_event, yaml_c_settings};
 use std::alloc::Global;
@@ -24,7 +19,8 @@ use yaml_emit::{
     yaml_emitter_set_unicode, yaml_emitter_set_width, yaml_emitter_t,
 };
 use yaml_parse::{
-    yaml_break_t, yaml_encoding_t, yaml_event_t, yaml_fault_t, yaml_memory_fault, yaml_origin_t,
+    yaml_break_t, yaml_encoding_t, yaml_event_body_t, yaml_event_t, yaml_fault_t,
+    yaml_memory_fault, yaml_origin_t,
 };
 
 /// What is asked of an emitter.
@@ -95,22 +91,33 @@ pub(crate) fn emitter_under(
     Ok(emitter)
 }
 
-// Gives an event. The emitter keeps its first fault.
-fn emit_record(emitter: &mut yaml_emitter_t, event: yaml_event_t)
-    requires { HasUtf8 (event_of event).body }
-    ensures takes { TakesEvents emitter.old (emitter_event (event_of event).body ∷ []) emitter.new
-        [] }
-    ensures stays { Stays emitter.old emitter.new }
-    ensures last { emitter.old.fault ≡ None → AreLast (emitter.old.held
-        ++ emitter_event (event_of event).body ∷ []) emitter.new.held }
-    ensures few { length emitter.new.held ≤ 3 }
+// Gives the events of records, one after another, each in place of the one before it. Refused for want of memory alone.
+fn give_from(
+    rooms: &mut Rooms,
+    bytes: &[u8],
+    list: &[yaml_c_directive],
+    records: &[yaml_c_event],
+    event: &mut yaml_event_t,
+    emitter: &mut yaml_emitter_t,
+) -> Result<(), yaml_fault_t>
+    requires { IsSome (events_meant bytes.now list.now records.now) }
+    ensures given { OnOk result (TakesAllEvents emitter.old
+        (all_events (events_meant bytes.now list.now records.now)) emitter.new) }
+    ensures memory { IfErr result (λ f. IsMemoryFault emit_layers (fault_of f)) }
 {
-    let mut event = event;
-    yaml_emitter_emit_from(emitter, &mut event);
-    drop(event);
+    if records.is_empty() {
+        return Ok(());
+    }
+    for record in records {
+        let Ok(()) = put_event(rooms, bytes, list, record, &mut event.body) else {
+            return Err(yaml_memory_fault(yaml_origin_t::Emitter));
+        };
+        yaml_emitter_emit_from(emitter, event);
+    }
+    Ok(())
 }
 
-// Gives the events of records, one after another. Refused for want of memory alone.
+// The same, with rooms of its own.
 pub(crate) fn give_all(
     alloc: Global,
     bytes: &[u8],
@@ -123,16 +130,16 @@ pub(crate) fn give_all(
         (all_events (events_meant bytes.now list.now records.now)) emitter.new) }
     ensures memory { IfErr result (λ f. IsMemoryFault emit_layers (fault_of f)) }
 {
-    if records.is_empty() {
-        return Ok(());
-    }
-    for record in records {
-        let Some(event) = event_of(alloc, bytes, list, record) else {
-            return Err(yaml_memory_fault(yaml_origin_t::Emitter));
-        };
-        emit_record(emitter, event);
-    }
-    Ok(())
+    let mut rooms = Rooms {
+        alloc,
+        tag: Vec::new(alloc),
+        value: Vec::new(alloc),
+    };
+    let mut event = yaml_event_t::unplaced(yaml_event_body_t::No);
+    let given = give_from(&mut rooms, bytes, list, records, &mut event, emitter);
+    drop(event);
+    drop(rooms);
+    given
 }
 
 pub(crate) fn fault_in(emitter: &yaml_emitter_t) -> Option<yaml_fault_t>

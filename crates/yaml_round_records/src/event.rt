@@ -1,8 +1,8 @@
-//! The events that records mean. None where a record means none, or memory was refused.
+//! The events that records mean. Refused where a record means none, or for want of memory.
 
-ghost use Rattle.std.specs.Prelude.{◌≡◌, Some, map, option_map, IfSome, IsSome};
+ghost use Rattle.std.specs.Prelude.{◌≡◌, Some, map, option_map, IfOk, IfSome, IsSome, OnOk};
 ghost use Rattle.yaml_parse.specs.Constructors.{HasUtf8};
-ghost use Rattle.yaml_parse.specs.Events.{body_of, directive_of, event_of, text_of};
+ghost use Rattle.yaml_parse.specs.Events.{body_of, directive_of, text_of};
 ghost use Rattle.yaml_parse.specs.Events as event;
 ghost use Rattle.yaml_round_records.specs.Numbers.{is_set, encoding_meant, scalar_style_meant, sequence_style_meant, mapping_style_meant};
 ghost use Rattle.yaml_round_records.specs.Records.{part_at, optional_at, directive_at, all_directives, directives_at, version_by, document_by, scalar_by, sequence_by, mapping_by, body_meant};
@@ -13,11 +13,20 @@ use crate::number::{
     encoding_of, is_set, is_there, kind_of, mapping_style_of, scalar_style_of, sequence_style_of,
 };
 use crate::record::{yaml_c_directive, yaml_c_event, yaml_c_span};
-use std::alloc::Global;
+use std::alloc::{AllocError, Global};
+use std::mem;
 use yaml_parse::{
-    yaml_event_body_t, yaml_event_t, yaml_event_type_t, yaml_tag_directive_t,
-    yaml_version_directive_t,
+    yaml_event_body_t, yaml_event_type_t, yaml_mapping_style_t, yaml_scalar_style_t,
+    yaml_sequence_style_t, yaml_tag_directive_t, yaml_version_directive_t,
 };
+
+/// Texts that were let go, in whose room those of later events are put.
+#[derive(Drop)]
+pub(crate) struct Rooms {
+    pub alloc: Global,
+    pub tag: Vec<u8>,
+    pub value: Vec<u8>,
+}
 
 fn copied(alloc: Global, text: &[u8]) -> Option<Vec<u8>>
     ensures { IfSome result (λ v. v.items ≡ text.now) }
@@ -33,18 +42,6 @@ fn text_at(alloc: Global, bytes: &[u8], span: yaml_c_span) -> Option<Vec<u8>>
 {
     match text_within(bytes, span) {
         Some(text) => copied(alloc, text),
-        None => None,
-    }
-}
-
-fn optional_at(alloc: Global, bytes: &[u8], has: i32, span: yaml_c_span) -> Option<Option<Vec<u8>>>
-    ensures { IfSome result (λ t. optional_at bytes.now has span ≡ Some (text_of t)) }
-{
-    if !is_there(has) {
-        return Some(None);
-    }
-    match text_at(alloc, bytes, span) {
-        Some(text) => Some(Some(text)),
         None => None,
     }
 }
@@ -147,67 +144,255 @@ fn alias_of(alloc: Global, bytes: &[u8], given: &yaml_c_event) -> Option<yaml_ev
     }
 }
 
-fn scalar_of(alloc: Global, bytes: &[u8], given: &yaml_c_event) -> Option<yaml_event_body_t>
-    ensures { IfSome result (λ b. scalar_by
+// Inlined: some moves.
+#[inline(always)]
+fn moved(alloc: Global, text: &mut Vec<u8>) -> Vec<u8> {
+    mem::replace(text, Vec::new(alloc))
+}
+
+// Puts the rooms of an event's tag and value aside.
+fn put_aside(rooms: &mut Rooms, event: &mut yaml_event_body_t) {
+    let tag = match event {
+        yaml_event_body_t::Scalar { tag, value, .. } => {
+            rooms.value = moved(rooms.alloc, value);
+            tag.take()
+        }
+        yaml_event_body_t::SequenceStart { tag, .. }
+        | yaml_event_body_t::MappingStart { tag, .. } => tag.take(),
+        _ => None,
+    };
+    if let Some(room) = tag {
+        rooms.tag = room;
+    }
+}
+
+// The room of a text that an event has, else one that is put aside.
+// Inlined: some moves.
+#[inline(always)]
+fn room_of(alloc: Global, text: &mut Option<Vec<u8>>, aside: &mut Vec<u8>) -> Vec<u8> {
+    match text.take() {
+        Some(room) => room,
+        None => moved(alloc, aside),
+    }
+}
+
+// A text in the room of another.
+// Out of line: what the room is told of its memory stands once.
+#[inline(never)]
+fn put_text(room: &mut Vec<u8>, bytes: &[u8], span: yaml_c_span) -> Result<(), AllocError>
+    ensures { OnOk result (part_at bytes.now span ≡ Some room.new.items) }
+{
+    match text_within(bytes, span) {
+        Some(text) => {
+            room.clear();
+            room.extend_from_slice(text)
+        }
+        None => Err(AllocError),
+    }
+}
+
+// A text that may be left out, in that room.
+// Inlined: mostly a look at the flag.
+#[inline(always)]
+fn text_if(
+    room: Vec<u8>,
+    bytes: &[u8],
+    has: i32,
+    span: yaml_c_span,
+) -> Result<Option<Vec<u8>>, AllocError>
+    ensures { IfOk result (λ t. optional_at bytes.now has span ≡ Some (text_of t)) }
+{
+    if !is_there(has) {
+        return Ok(None);
+    }
+    let mut text = room;
+    put_text(&mut text, bytes, span)?;
+    Ok(Some(text))
+}
+
+fn anchor_at(
+    alloc: Global,
+    bytes: &[u8],
+    given: &yaml_c_event,
+) -> Result<Option<Vec<u8>>, AllocError>
+    ensures { IfOk result (λ t. optional_at bytes.now given.now.has_anchor given.now.anchor
+        ≡ Some (text_of t)) }
+{
+    text_if(Vec::new(alloc), bytes, given.has_anchor, given.anchor)
+}
+
+// A scalar, in rooms that are put aside.
+fn put_other_scalar(
+    rooms: &mut Rooms,
+    bytes: &[u8],
+    given: &yaml_c_event,
+    style: yaml_scalar_style_t,
+    event: &mut yaml_event_body_t,
+) -> Result<(), AllocError>
+    ensures { OnOk result (scalar_by
+        (optional_at bytes.now given.now.has_anchor given.now.anchor)
+        (optional_at bytes.now given.now.has_tag given.now.tag)
+        (part_at bytes.now given.now.value) (Some style) given.now ≡ Some (body_of event.new)) }
+{
+    put_aside(rooms, event);
+    let anchor = anchor_at(rooms.alloc, bytes, given)?;
+    let room = moved(rooms.alloc, &mut rooms.tag);
+    let tag = text_if(room, bytes, given.has_tag, given.tag)?;
+    let mut value = moved(rooms.alloc, &mut rooms.value);
+    put_text(&mut value, bytes, given.value)?;
+    *event = yaml_event_body_t::Scalar {
+        anchor,
+        tag,
+        value,
+        plain_implicit: is_set(given.implicit),
+        quoted_implicit: is_set(given.quoted_implicit),
+        style,
+    };
+    Ok(())
+}
+
+// A scalar: in the rooms of the one before it, where the slot holds one.
+fn put_styled_scalar(
+    rooms: &mut Rooms,
+    bytes: &[u8],
+    given: &yaml_c_event,
+    style: yaml_scalar_style_t,
+    event: &mut yaml_event_body_t,
+) -> Result<(), AllocError>
+    ensures { OnOk result (scalar_by
+        (optional_at bytes.now given.now.has_anchor given.now.anchor)
+        (optional_at bytes.now given.now.has_tag given.now.tag)
+        (part_at bytes.now given.now.value) (Some style) given.now ≡ Some (body_of event.new)) }
+{
+    match event {
+        yaml_event_body_t::Scalar {
+            anchor: name,
+            tag: held_tag,
+            value: held_value,
+            plain_implicit,
+            quoted_implicit,
+            style: how,
+        } => {
+            let anchor = anchor_at(rooms.alloc, bytes, given)?;
+            let room = room_of(rooms.alloc, held_tag, &mut rooms.tag);
+            let tag = text_if(room, bytes, given.has_tag, given.tag)?;
+            let mut value = moved(rooms.alloc, held_value);
+            put_text(&mut value, bytes, given.value)?;
+            *name = anchor;
+            *held_tag = tag;
+            *held_value = value;
+            *plain_implicit = is_set(given.implicit);
+            *quoted_implicit = is_set(given.quoted_implicit);
+            *how = style;
+            Ok(())
+        }
+        _ => put_other_scalar(rooms, bytes, given, style, event),
+    }
+}
+
+fn put_scalar(
+    rooms: &mut Rooms,
+    bytes: &[u8],
+    given: &yaml_c_event,
+    event: &mut yaml_event_body_t,
+) -> Result<(), AllocError>
+    ensures { OnOk result (scalar_by
         (optional_at bytes.now given.now.has_anchor given.now.anchor)
         (optional_at bytes.now given.now.has_tag given.now.tag)
         (part_at bytes.now given.now.value) (scalar_style_meant given.now.style) given.now
-        ≡ Some (body_of b)) }
+        ≡ Some (body_of event.new)) }
 {
-    let anchor = optional_at(alloc, bytes, given.has_anchor, given.anchor)?;
-    let tag = optional_at(alloc, bytes, given.has_tag, given.tag)?;
-    let value = text_at(alloc, bytes, given.value)?;
     match scalar_style_of(given.style) {
-        Some(style) => Some(yaml_event_body_t::Scalar {
-            anchor,
-            tag,
-            value,
-            plain_implicit: is_set(given.implicit),
-            quoted_implicit: is_set(given.quoted_implicit),
-            style,
-        }),
-        None => None,
+        Some(style) => put_styled_scalar(rooms, bytes, given, style, event),
+        None => Err(AllocError),
     }
 }
 
-fn sequence_of(alloc: Global, bytes: &[u8], given: &yaml_c_event) -> Option<yaml_event_body_t>
-    ensures { IfSome result (λ b. sequence_by
+fn put_styled_sequence(
+    rooms: &mut Rooms,
+    bytes: &[u8],
+    given: &yaml_c_event,
+    style: yaml_sequence_style_t,
+    event: &mut yaml_event_body_t,
+) -> Result<(), AllocError>
+    ensures { OnOk result (sequence_by
+        (optional_at bytes.now given.now.has_anchor given.now.anchor)
+        (optional_at bytes.now given.now.has_tag given.now.tag) (Some style) given.now
+        ≡ Some (body_of event.new)) }
+{
+    put_aside(rooms, event);
+    let anchor = anchor_at(rooms.alloc, bytes, given)?;
+    let room = moved(rooms.alloc, &mut rooms.tag);
+    let tag = text_if(room, bytes, given.has_tag, given.tag)?;
+    *event = yaml_event_body_t::SequenceStart {
+        anchor,
+        tag,
+        implicit: is_set(given.implicit),
+        style,
+    };
+    Ok(())
+}
+
+fn put_sequence(
+    rooms: &mut Rooms,
+    bytes: &[u8],
+    given: &yaml_c_event,
+    event: &mut yaml_event_body_t,
+) -> Result<(), AllocError>
+    ensures { OnOk result (sequence_by
         (optional_at bytes.now given.now.has_anchor given.now.anchor)
         (optional_at bytes.now given.now.has_tag given.now.tag)
-        (sequence_style_meant given.now.style) given.now ≡ Some (body_of b)) }
+        (sequence_style_meant given.now.style) given.now ≡ Some (body_of event.new)) }
 {
-    let anchor = optional_at(alloc, bytes, given.has_anchor, given.anchor)?;
-    let tag = optional_at(alloc, bytes, given.has_tag, given.tag)?;
     match sequence_style_of(given.style) {
-        Some(style) => Some(yaml_event_body_t::SequenceStart {
-            anchor,
-            tag,
-            implicit: is_set(given.implicit),
-            style,
-        }),
-        None => None,
+        Some(style) => put_styled_sequence(rooms, bytes, given, style, event),
+        None => Err(AllocError),
     }
 }
 
-fn mapping_of(alloc: Global, bytes: &[u8], given: &yaml_c_event) -> Option<yaml_event_body_t>
-    ensures { IfSome result (λ b. mapping_by
+fn put_styled_mapping(
+    rooms: &mut Rooms,
+    bytes: &[u8],
+    given: &yaml_c_event,
+    style: yaml_mapping_style_t,
+    event: &mut yaml_event_body_t,
+) -> Result<(), AllocError>
+    ensures { OnOk result (mapping_by
+        (optional_at bytes.now given.now.has_anchor given.now.anchor)
+        (optional_at bytes.now given.now.has_tag given.now.tag) (Some style) given.now
+        ≡ Some (body_of event.new)) }
+{
+    put_aside(rooms, event);
+    let anchor = anchor_at(rooms.alloc, bytes, given)?;
+    let room = moved(rooms.alloc, &mut rooms.tag);
+    let tag = text_if(room, bytes, given.has_tag, given.tag)?;
+    *event = yaml_event_body_t::MappingStart {
+        anchor,
+        tag,
+        implicit: is_set(given.implicit),
+        style,
+    };
+    Ok(())
+}
+
+fn put_mapping(
+    rooms: &mut Rooms,
+    bytes: &[u8],
+    given: &yaml_c_event,
+    event: &mut yaml_event_body_t,
+) -> Result<(), AllocError>
+    ensures { OnOk result (mapping_by
         (optional_at bytes.now given.now.has_anchor given.now.anchor)
         (optional_at bytes.now given.now.has_tag given.now.tag)
-        (mapping_style_meant given.now.style) given.now ≡ Some (body_of b)) }
+        (mapping_style_meant given.now.style) given.now ≡ Some (body_of event.new)) }
 {
-    let anchor = optional_at(alloc, bytes, given.has_anchor, given.anchor)?;
-    let tag = optional_at(alloc, bytes, given.has_tag, given.tag)?;
     match mapping_style_of(given.style) {
-        Some(style) => Some(yaml_event_body_t::MappingStart {
-            anchor,
-            tag,
-            implicit: is_set(given.implicit),
-            style,
-        }),
-        None => None,
+        Some(style) => put_styled_mapping(rooms, bytes, given, style, event),
+        None => Err(AllocError),
     }
 }
 
+// The event of a record that has no tag and no value of a scalar. None of another one.
 #[tactic(auto, unfolding(crate::specs::Records::body_meant))]
 fn body_of(
     alloc: Global,
@@ -229,28 +414,64 @@ fn body_of(
             implicit: is_set(given.implicit),
         }),
         yaml_event_type_t::YAML_ALIAS_EVENT => alias_of(alloc, bytes, given),
-        yaml_event_type_t::YAML_SCALAR_EVENT => scalar_of(alloc, bytes, given),
-        yaml_event_type_t::YAML_SEQUENCE_START_EVENT => sequence_of(alloc, bytes, given),
         yaml_event_type_t::YAML_SEQUENCE_END_EVENT => Some(yaml_event_body_t::SequenceEnd),
-        yaml_event_type_t::YAML_MAPPING_START_EVENT => mapping_of(alloc, bytes, given),
         yaml_event_type_t::YAML_MAPPING_END_EVENT => Some(yaml_event_body_t::MappingEnd),
+        _ => None,
     }
 }
 
-/// The event that a record means. None for want of memory.
-pub(crate) fn event_of(
-    alloc: Global,
+// Puts such an event.
+fn put_other(
+    rooms: &mut Rooms,
     bytes: &[u8],
     list: &[yaml_c_directive],
     given: &yaml_c_event,
-) -> Option<yaml_event_t>
-    requires { IsSome (event_meant bytes.now list.now given.now) }
-    ensures is { IfSome result (λ e. event_meant bytes.now list.now given.now
-        ≡ Some (event_of e).body) }
-    ensures utf8 { IfSome result (λ e. HasUtf8 (event_of e).body) }
+    event: &mut yaml_event_body_t,
+) -> Result<(), AllocError>
+    ensures { OnOk result (body_meant bytes.now list.now given.now ≡ Some (body_of event.new)) }
 {
-    match body_of(alloc, bytes, list, given) {
-        Some(body) => Some(yaml_event_t::unplaced(body)),
-        None => None,
+    match body_of(rooms.alloc, bytes, list, given) {
+        Some(body) => {
+            put_aside(rooms, event);
+            *event = body;
+            Ok(())
+        }
+        None => Err(AllocError),
     }
+}
+
+#[tactic(auto, unfolding(crate::specs::Records::body_meant))]
+fn put_body(
+    rooms: &mut Rooms,
+    bytes: &[u8],
+    list: &[yaml_c_directive],
+    given: &yaml_c_event,
+    event: &mut yaml_event_body_t,
+) -> Result<(), AllocError>
+    ensures { OnOk result (body_meant bytes.now list.now given.now ≡ Some (body_of event.new)) }
+{
+    let Some(kind) = kind_of(given.kind) else {
+        return Err(AllocError);
+    };
+    match kind {
+        yaml_event_type_t::YAML_SCALAR_EVENT => put_scalar(rooms, bytes, given, event),
+        yaml_event_type_t::YAML_SEQUENCE_START_EVENT => put_sequence(rooms, bytes, given, event),
+        yaml_event_type_t::YAML_MAPPING_START_EVENT => put_mapping(rooms, bytes, given, event),
+        _ => put_other(rooms, bytes, list, given, event),
+    }
+}
+
+/// Puts the event that a record means in place of another one. Refused for want of memory.
+pub(crate) fn put_event(
+    rooms: &mut Rooms,
+    bytes: &[u8],
+    list: &[yaml_c_directive],
+    given: &yaml_c_event,
+    event: &mut yaml_event_body_t,
+) -> Result<(), AllocError>
+    requires { IsSome (event_meant bytes.now list.now given.now) }
+    ensures is { OnOk result (event_meant bytes.now list.now given.now ≡ Some (body_of event.new)) }
+    ensures utf8 { OnOk result (HasUtf8 (body_of event.new)) }
+{
+    put_body(rooms, bytes, list, given, event)
 }

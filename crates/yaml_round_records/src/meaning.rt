@@ -1,6 +1,6 @@
 //! Whether records mean events. Nothing is copied, so that no refusal of memory hides a number that means nothing.
 
-ghost use Rattle.std.specs.Prelude.{◌≡◌, ◌&&◌, is_some, option_map};
+ghost use Rattle.std.specs.Prelude.{◌≡◌, ◌&&◌, is_some, option_map, true};
 ghost use Rattle.std.specs.Str.{is_utf8};
 ghost use Rattle.yaml_parse.specs.Events as event;
 ghost use Rattle.yaml_round_records.specs.Numbers.{encoding_meant, scalar_style_meant, sequence_style_meant, mapping_style_meant};
@@ -14,6 +14,9 @@ use crate::number::{
 use crate::record::{yaml_c_directive, yaml_c_event, yaml_c_span};
 use simdutf8::is_utf8;
 use yaml_parse::yaml_event_type_t;
+
+// A text of more bytes is told faster by the decoder of UTF-8.
+const MOST_SEEN: usize = 64;
 
 /// The bytes that a span names, where it lies within them.
 #[tactic(auto, unfolding(crate::specs::Records::part_at))]
@@ -51,11 +54,28 @@ pub(crate) fn list_within(
 }
 
 // Whether a text is UTF-8.
+// Out of line: the decoder sets up an aligned buffer, which few texts need.
+#[inline(never)]
 #[tactic(auto, using(crate::proofs::Checked::readable))]
-fn is_readable(text: &[u8]) -> bool
+fn is_decoded_text(text: &[u8]) -> bool
     ensures { result ≡ is_utf8 text.now }
 {
     is_utf8(text)
+}
+
+// Whether a text is UTF-8 at sight, since it is short and ASCII alone.
+#[tactic(auto, using(crate::proofs::Checked::plain))]
+fn is_short_ascii(text: &[u8]) -> bool
+    ensures { result ≡ true → is_utf8 text.now ≡ true }
+{
+    text.len() <= MOST_SEEN && text.is_ascii()
+}
+
+// Whether a text is UTF-8. Most are short and ASCII alone: a look at them costs less than what the decoder sets up.
+fn is_readable(text: &[u8]) -> bool
+    ensures { result ≡ is_utf8 text.now }
+{
+    is_short_ascii(text) || is_decoded_text(text)
 }
 
 // Whether a span names a text in UTF-8.

@@ -1,9 +1,9 @@
 use Rattle.yaml_round_records.proofs.Leading.{first_meant, rest_meant, leads_same, leads_record}
 use Rattle.yaml_round_records.proofs.Giving.{last_nothing, last_record, gives_none, gives_end}
-use Rattle.yaml_round_records.proofs.emitter.give_all.Goals as goal
+use Rattle.yaml_round_records.proofs.emitter.give_from.Goals as goal
 
-pub event_of-requires : goal.event_of-requires
-event_of-requires c = first_meant _ _ _ _ _ c.loop-record-test.true c.loop-record.invariant.meant
+pub put_event-requires : goal.put_event-requires
+put_event-requires c = first_meant _ _ _ _ _ c.loop-record-test.true c.loop-record.invariant.meant
 
 pub loop-record-init : goal.loop-record-init
 loop-record-init c = record {
@@ -15,10 +15,10 @@ loop-record-init c = record {
 
 pub loop-record-preserved : goal.loop-record-preserved
 loop-record-preserved c = record {
-  meant = rest_meant _ _ _ _ _ _ c.loop-record-test.true c.loop-record.invariant.meant c.in-Some.ensures.is;
-  leads = leads_record _ _ _ _ _ _ _ _ _ _ c.loop-record-test.true c.loop-record.invariant.meant c.in-Some.ensures.is c.loop-record.invariant.leads c.emit_record.ensures.takes;
-  last = last_record _ _ _ _ _ _ _ _ _ _ c.loop-record-test.true c.loop-record.invariant.meant c.in-Some.ensures.is c.loop-record.invariant.last c.emit_record.ensures.stays c.emit_record.ensures.last;
-  few = λ few. c.emit_record.ensures.few;
+  meant = rest_meant _ _ _ _ _ _ c.loop-record-test.true c.loop-record.invariant.meant c.in-Ok.ensures.is;
+  leads = leads_record _ _ _ _ _ _ _ _ _ _ c.loop-record-test.true c.loop-record.invariant.meant c.in-Ok.ensures.is c.loop-record.invariant.leads c.yaml_emitter_emit_from.ensures.takes;
+  last = last_record _ _ _ _ _ _ _ _ _ _ c.loop-record-test.true c.loop-record.invariant.meant c.in-Ok.ensures.is c.loop-record.invariant.last c.yaml_emitter_emit_from.ensures.stays c.yaml_emitter_emit_from.ensures.last;
+  few = λ few. c.yaml_emitter_emit_from.ensures.few;
 }
 
 pub returns-then-is_empty-clause-given : goal.returns-then-is_empty-clause-given

@@ -14,7 +14,7 @@ use Rattle.yaml_emit_laws_text.specs.Walk.{Left, bytes, first}
 use Rattle.yaml_emit_laws_text.proofs.Steps.{letter_low}
 use Rattle.yaml_scan_laws_levels.specs.Walks.{WalkState, WalkReads}
 use Rattle.yaml_emit_laws_scalars.specs.Stops.{begins_white, begins_mark, stops_plain_at}
-use Rattle.yaml_emit_laws_block.specs.Passed.{begins_white as begins_blank}
+use Rattle.yaml_emit_laws_scalars.specs.BlockPassing.{begins_white as begins_blank}
 use Rattle.yaml_emit_laws_pretty.specs.Walk.{NodeStage, Lined, NoFeed, no_comment}
 use Rattle.yaml_emit_laws_pretty.specs.Nodes.{Ending}
 use Rattle.yaml_emit_laws_pretty.proofs.Lining.{line_on}

@@ -20,7 +20,7 @@ use Rattle.yaml_emit_laws_text.specs.Walk.{Left, bytes}
 use Rattle.yaml_emit_laws_text.specs.Writable.{IsWritable, IsWritableAnchor, IsWritableTag}
 use Rattle.yaml_scan_laws_levels.specs.Walks.{WalkState, Outside}
 use Rattle.yaml_emit_laws_scalars.specs.Stops.{begins_white}
-use Rattle.yaml_emit_laws_block.specs.Laws.{margin_round}
+use Rattle.yaml_emit_laws_scalars.specs.BlockLaws.{margin_round}
 use Rattle.yaml_emit_laws_pretty.specs.Bodies.{is_flow_at, keeps, sequence_opens, sequence_closes, mapping_opens, mapping_closes, node_bodies, items_bodies, pairs_bodies, node_kept, items_kept, pairs_kept}
 use Rattle.yaml_emit_laws_pretty.specs.Walk.{NodeStage, GoesBehindNode}
 use Rattle.yaml_emit_laws_pretty.specs.Nodes.{IsPretty, NodeWalks, PartedBehind, PropertiesAreWalked, block_position, is_bracketed}

@@ -13,7 +13,7 @@ use Rattle.yaml_emit_laws_scalars.specs.Stops.{stops_plain_at, begins_white, beg
 use Rattle.yaml_emit_laws_scalars.proofs.Stopping.{behind_lines}
 use Rattle.yaml_emit_laws_scalars.proofs.Solid.{what_stops}
 use Rattle.yaml_emit_laws_text.specs.scan_history.scan_model.Marks.{break_of}
-use Rattle.yaml_emit_laws_block.specs.Passed.{begins_white as begins_blank}
+use Rattle.yaml_emit_laws_scalars.specs.BlockPassing.{begins_white as begins_blank}
 use Rattle.yaml_emit_laws_pretty.specs.Walk.{Follows, NoFeed, no_comment}
 use Rattle.yaml_emit_laws_pretty.specs.Nodes.{ShowsNode, Ending, ShownEnds}
 use Rattle.yaml_emit_laws_scalars.proofs.Stands.{break_low, blanks_bare, blanks_white}

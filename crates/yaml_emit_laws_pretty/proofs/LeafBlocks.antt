@@ -25,11 +25,11 @@ use Rattle.yaml_emit_laws_text.specs.emit_layout.Nodes.{Context, style_of, deepe
 use Rattle.yaml_emit_laws_text.specs.Walk.{Left, bytes}
 use Rattle.yaml_emit_laws_text.proofs.Places.{has_at, left_first, left_more}
 use Rattle.yaml_emit_laws_text.proofs.Steps.{left_letter}
-use Rattle.yaml_emit_laws_block.specs.Laws.{from_indicator, is_keep as keeps_all, read_style, margin_round, block_style}
-use Rattle.yaml_emit_laws_block.specs.Passed.{behind_line, BlockPassed}
-use Rattle.yaml_emit_laws_block.proofs.Whole.{block_back}
-use Rattle.yaml_emit_laws_block.proofs.Behind.{block_at_position}
-use Rattle.yaml_emit_laws_block.proofs.Passing.{block_is_passed}
+use Rattle.yaml_emit_laws_scalars.specs.BlockLaws.{from_indicator, is_keep as keeps_all, read_style, margin_round, block_style}
+use Rattle.yaml_emit_laws_scalars.specs.BlockPassing.{behind_line, BlockPassed}
+use Rattle.yaml_emit_laws_scalars.proofs.BlockWhole.{block_back}
+use Rattle.yaml_emit_laws_scalars.proofs.BlockBehind.{block_at_position}
+use Rattle.yaml_emit_laws_scalars.proofs.BlockPassing.{block_is_passed}
 use Rattle.yaml_scan_laws_order.proofs.MarksForward.{line_at-grows}
 use Rattle.yaml_scan_laws_order.proofs.WordForward.{Fits, LandsWord, IsWordFrom, word_lands}
 use Rattle.yaml_scan_laws_levels.specs.Pushes.{stays_level}

@@ -32,7 +32,7 @@ use Rattle.yaml_scan_laws_levels.specs.Walks.{WalkState}
 use Rattle.yaml_emit_laws_scalars.specs.Stops.{begins_white}
 use Rattle.yaml_emit_laws_scalars.specs.StandsLaws.{PlainHasGap}
 use Rattle.yaml_emit_laws_scalars.specs.StylesLaws.{StylesAreAllowed}
-use Rattle.yaml_emit_laws_block.specs.Laws.{from_indicator, margin_round}
+use Rattle.yaml_emit_laws_scalars.specs.BlockLaws.{from_indicator, margin_round}
 use Rattle.yaml_emit_laws_pretty.specs.Bodies.{style_at, takes_mark, scalar_bodies, scalar_kept, node_bodies, node_kept}
 use Rattle.yaml_emit_laws_pretty.specs.Walk.{NodeStage, LinedUp, PlainIsWalked, SingleIsWalked}
 use Rattle.yaml_emit_laws_pretty.specs.Nodes.{Ending, NodeWalks, IsPretty, LeavesAreWalked, BlockScalarsAreWalked, block_position, column_round, is_block}

@@ -21,7 +21,7 @@ use Rattle.yaml_emit_laws_text.specs.Writable.{IsWritableAnchor, IsWritableTag}
 use Rattle.yaml_emit_laws_text.proofs.Steps.{deep_bytes}
 use Rattle.yaml_scan_laws_levels.specs.Walks.{WalkState}
 use Rattle.yaml_emit_laws_scalars.specs.Stops.{begins_white}
-use Rattle.yaml_emit_laws_block.specs.Laws.{margin_round}
+use Rattle.yaml_emit_laws_scalars.specs.BlockLaws.{margin_round}
 use Rattle.yaml_emit_laws_pretty.specs.Bodies.{keeps, is_bare, is_flow_at, node_bodies, items_bodies, pairs_bodies, sequence_opens, sequence_closes, mapping_opens, mapping_closes, node_kept, items_kept, pairs_kept}
 use Rattle.yaml_emit_laws_pretty.specs.Walk.{NodeStage, LinedUp}
 use Rattle.yaml_emit_laws_pretty.specs.Nodes.{Ending, NodeWalks, IsPretty, PropertiesAreWalked, PartedBehind, block_position, column_round, is_place}

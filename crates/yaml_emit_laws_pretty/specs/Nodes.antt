@@ -26,8 +26,8 @@ use Rattle.yaml_scan_laws_levels.specs.Fronts.{Rises}
 use Rattle.yaml_scan_laws_levels.specs.Tokens.{start_bodies}
 use Rattle.yaml_scan_laws_levels.specs.Walks.{WalkState}
 use Rattle.yaml_emit_laws_scalars.specs.Stops.{begins_white, begins_solid}
-use Rattle.yaml_emit_laws_block.specs.Laws.{margin_round}
-use Rattle.yaml_emit_laws_block.specs.Passed.{begins_white as begins_blank}
+use Rattle.yaml_emit_laws_scalars.specs.BlockLaws.{margin_round}
+use Rattle.yaml_emit_laws_scalars.specs.BlockPassing.{begins_white as begins_blank}
 use Rattle.yaml_emit_laws_pretty.specs.Bodies.{style_at, is_flow_at, node_bodies, node_kept}
 use Rattle.yaml_emit_laws_pretty.specs.Walk.{NodeStage, Lined, LinedUp, Follows, NoFeed, no_comment}
 use Rattle.yaml_emit_laws_pretty.specs.KeyLaws.{Keyed}

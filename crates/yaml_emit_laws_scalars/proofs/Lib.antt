@@ -16,3 +16,14 @@ pub mod NearKeys
 pub mod Solid
 pub mod Styles
 pub mod Stands
+mod BlockMarks
+mod BlockLayouts
+mod BlockWaiting
+mod BlockValues
+mod BlockReading
+mod BlockColumn
+mod BlockHeader
+pub mod BlockWhole
+pub mod BlockBehind
+pub mod BlockLexemes
+pub mod BlockPassing

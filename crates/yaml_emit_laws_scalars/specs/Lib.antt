@@ -4,3 +4,7 @@ pub mod Stops
 pub mod KeysLaws
 pub mod StylesLaws
 pub mod StandsLaws
+pub mod BlockLines
+pub mod BlockLaws
+pub mod BlockLexemes
+pub mod BlockPassing

@@ -29,6 +29,17 @@ pub mod Documents
 pub mod TextWhole
 pub mod Prettily
 mod Printing
+mod ColumnsCalm
+pub mod ColumnsMarks
+pub mod ColumnsDepths
+pub mod ColumnsEvents
+mod ColumnsRows
+mod ColumnsForgetting
+mod ColumnsValues
+pub mod SizesCounting
+pub mod SizesEscapes
+pub mod SizesLemmas
+pub mod SizesLaid
 -- what it stands on, for crates that name this one alone
 pub use Rattle.yaml_scan_laws_texts.proofs.MarksLemmas
 pub use Rattle.yaml_scan_laws_texts.proofs.GapsRead

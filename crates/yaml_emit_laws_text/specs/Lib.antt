@@ -12,6 +12,11 @@ pub mod TextLaws
 pub mod Json
 pub mod PrettyBodies
 pub mod Printing
+pub mod Depths
+pub mod Forgetting
+pub mod ColumnsLaws
+pub mod ColumnsRows
+pub mod Sizes
 -- what it stands on, for crates that name this one alone
 pub use Rattle.yaml_emit_text.specs as emit_text
 pub use Rattle.yaml_scan_laws_texts.specs as scan_laws_texts

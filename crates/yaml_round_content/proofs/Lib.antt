@@ -37,6 +37,11 @@ pub mod DumpsSaying
 pub mod Loading
 pub mod DumpsTrees
 pub mod Agreeing
+mod EncodingsTokens
+mod EncodingsEvents
+mod EncodingsJoining
+mod EncodingsSpelled
+mod EncodingsTexts
 -- what it stands on, for crates that name this one alone
 pub use Rattle.yaml_emit_laws_dumps.proofs.Joining as ContentJoining
 pub use Rattle.yaml_emit_laws_dumps.proofs.Contents

@@ -24,6 +24,8 @@ pub mod Renamed
 pub mod DumpsLoads
 pub mod DumpsEvents
 pub mod DumpsLaws
+pub mod EncodingsLaws
+pub mod EncodingsTexts
 -- what it stands on, for crates that name this one alone
 pub use Rattle.yaml_emit_laws_dumps.specs as emit_laws_dumps
 pub use Rattle.yaml_round_laws_adapted.specs as round_laws_adapted

@@ -1,11 +1,12 @@
 //! What an input says as trees, its canonical text, the plain reading of an input and the plain loading, and laws: an input has
 //! one content, what is laid out for it in canonical form is the content's text, all of it may be written, the plain reading and
 //! loading are what the engine reads and loads, and documents depend on what an input says alone, not on styles, marks or the
-//! names of anchors, so that what a dump says loads them again. No code.
+//! names of anchors, so that what a dump says loads them again; nor on how a text is spelled. No code.
 #![tactic(auto)]
 
 mod content_laws;
 mod dumps_laws;
+mod encodings_laws;
 mod loads;
 mod reading_laws;
 mod streams_laws;
@@ -19,6 +20,7 @@ pub use dumps_laws::{
     content_is_loaded, content_is_said, content_loads_documents, dumps_are_numbered_back,
     dumps_load_back, inputs_load_documents,
 };
+pub use encodings_laws::{characters_are_enough, encodings_do_not_matter, texts_are_read};
 pub use loads::{agreeing_say_the_same, loads_of_content, loads_of_renamed};
 pub use reading_laws::{
     a_source_has_one_loading, a_source_loads_its_loading, an_input_has_one_loading,

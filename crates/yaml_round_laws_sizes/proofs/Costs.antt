@@ -10,12 +10,12 @@ use Rattle.yaml_parse_grammar.specs.declared.Brackets.TheVariants as brackets
 use Rattle.yaml_parse_grammar.specs.Items.{Properties}
 use Rattle.yaml_parse_grammar.specs.Trees as tree
 use Rattle.yaml_parse_grammar.specs.Trees.{PropertyTokens, token_at, closing, properties_of, spell_properties, spell_node, spell_content, spell_maybe, spell_colon, spell_items, spell_more, spell_entries, spell_others, spell_pairs, spell_directives, spell_ends, spell_documents, spell_first, spell}
-use Rattle.yaml_emit_laws_columns.specs.emit_layout.parse_model.Events.{TagDirective}
-use Rattle.yaml_emit_laws_columns.specs.emit_layout.emit_text.declared.Encoding.{Encoding}
-use Rattle.yaml_emit_laws_columns.specs.emit_layout.emit_text.declared.Settings.{Settings}
-use Rattle.yaml_emit_laws_columns.specs.emit_layout.Content.{scalar_node}
-use Rattle.yaml_emit_laws_columns.specs.emit_layout.Nodes.{context_of}
-use Rattle.yaml_emit_laws_columns.specs.Sizes.{ascii, text_bytes, anchor_bytes, tag_bytes, most_of_value, most_of_line, directives_bytes}
+use Rattle.yaml_emit_laws_text.specs.emit_layout.parse_model.Events.{TagDirective}
+use Rattle.yaml_emit_laws_text.specs.emit_layout.emit_text.declared.Encoding.{Encoding}
+use Rattle.yaml_emit_laws_text.specs.emit_layout.emit_text.declared.Settings.{Settings}
+use Rattle.yaml_emit_laws_text.specs.emit_layout.Content.{scalar_node}
+use Rattle.yaml_emit_laws_text.specs.emit_layout.Nodes.{context_of}
+use Rattle.yaml_emit_laws_text.specs.Sizes.{ascii, text_bytes, anchor_bytes, tag_bytes, most_of_value, most_of_line, directives_bytes}
 use Rattle.yaml_round_content.specs.TreeContent.{tag_of, anchor_of, is_plain, mark_of, empty, node_of, with_content, maybe_of, colon_of, items_of, more_items_of, parts_of, more_parts_of, entries_of, others_of, pairs_of, tags_in, documents_of, behind_first, tree_content}
 use Rattle.yaml_round_content.specs.Canon.{written_scalar, written_node, written_nodes, written_pairs, written_documents}
 use Rattle.yaml_round_laws_sizes.proofs.Weights.{Weight, weigh}

@@ -25,10 +25,10 @@ use Rattle.yaml_round_content.specs.TreeContent.{tree_content}
 use Rattle.yaml_round_content.specs.Canon.{written_documents, canon_items}
 use Rattle.yaml_round_laws_adapted.specs.Adapted.{adapted}
 use Rattle.yaml_scan_laws_texts.proofs.TokensUtf8.{remaining_sound}
-use Rattle.yaml_emit_laws_columns.specs.Depths.{RootStandsAt}
-use Rattle.yaml_emit_laws_columns.specs.Sizes.{unit, ascii, most_of_documents, most_bytes}
-use Rattle.yaml_emit_laws_columns.proofs.Depths.{by_depth}
-use Rattle.yaml_emit_laws_columns.proofs.Laid.{by_content}
+use Rattle.yaml_emit_laws_text.specs.Depths.{RootStandsAt}
+use Rattle.yaml_emit_laws_text.specs.Sizes.{unit, ascii, most_of_documents, most_bytes}
+use Rattle.yaml_emit_laws_text.proofs.ColumnsDepths.{by_depth}
+use Rattle.yaml_emit_laws_text.proofs.SizesLaid.{by_content}
 use Rattle.yaml_round_laws_sizes.specs.Laws.{text_times, most_of_read, DepthsTakeBytes, DeepInputsAreLong, ShortInputsKeepColumns, CanonicalTextsAreBounded, ContentsAreBounded, CanonicalTextsAreShort, LayoutsAreShort}
 use Rattle.yaml_round_laws_sizes.proofs.Leads.{Few, few_decoded, leads_few}
 use Rattle.yaml_round_laws_sizes.proofs.Tokens.{count, count_append, tokens_few, cut_most}

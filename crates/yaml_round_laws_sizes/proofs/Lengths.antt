@@ -10,15 +10,15 @@ use lib.Utf8.{scalar, scalars, encode, encodes}
 use Rattle.yaml_scan_history.specs.scan_model.Faults.{Fault}
 use Rattle.yaml_scan_history.specs.scan_model.Tokens.{Token, TokenBody}
 use Rattle.yaml_scan_history.specs.scan_model.Tokens as token
-use Rattle.yaml_emit_laws_columns.specs.emit_layout.emit_text.declared.Encoding.{Encoding}
-use Rattle.yaml_emit_laws_columns.specs.emit_layout.emit_text.declared.Encoding.TheVariants.{Utf8, Utf16Le, Utf16Be}
-use Rattle.yaml_emit_laws_columns.specs.emit_layout.emit_text.declared.Settings.{Settings}
-use Rattle.yaml_emit_laws_columns.specs.emit_layout.emit_text.Text.{char_bytes}
-use Rattle.yaml_emit_laws_columns.specs.emit_layout.emit_text.Hex.{hex_2}
-use Rattle.yaml_emit_laws_columns.specs.emit_layout.emit_tags.Tags.{suffix_keeps, uri_byte, uri_text}
-use Rattle.yaml_emit_laws_columns.specs.Sizes.{unit, ascii, larger, text_bytes, most_of_quoted, most_of_char, most_of_escape, most_of_value}
-use Rattle.yaml_emit_laws_columns.proofs.Counting.{ascii_bytes}
-use Rattle.yaml_emit_laws_columns.proofs.Escapes.{raw_most, two_small, short}
+use Rattle.yaml_emit_laws_text.specs.emit_layout.emit_text.declared.Encoding.{Encoding}
+use Rattle.yaml_emit_laws_text.specs.emit_layout.emit_text.declared.Encoding.TheVariants.{Utf8, Utf16Le, Utf16Be}
+use Rattle.yaml_emit_laws_text.specs.emit_layout.emit_text.declared.Settings.{Settings}
+use Rattle.yaml_emit_laws_text.specs.emit_layout.emit_text.Text.{char_bytes}
+use Rattle.yaml_emit_laws_text.specs.emit_layout.emit_text.Hex.{hex_2}
+use Rattle.yaml_emit_laws_text.specs.emit_layout.emit_tags.Tags.{suffix_keeps, uri_byte, uri_text}
+use Rattle.yaml_emit_laws_text.specs.Sizes.{unit, ascii, larger, text_bytes, most_of_quoted, most_of_char, most_of_escape, most_of_value}
+use Rattle.yaml_emit_laws_text.proofs.SizesCounting.{ascii_bytes}
+use Rattle.yaml_emit_laws_text.proofs.SizesEscapes.{raw_most, two_small, short}
 use Rattle.yaml_round_laws_adapted.specs.Adapted.{spells_text, cut}
 use Rattle.yaml_round_content.specs.scan_laws_texts.Utf8Texts.{HasTexts}
 use Rattle.yaml_round_laws_sizes.proofs.Weights.{Weight, weigh}

@@ -2,15 +2,15 @@
 use Rattle.std.proofs.Common.{◌≡◌, ℕ, zero, suc, ◌+◌, ◌*◌, ◌≤◌, true, false, ◌==◌, List, [], ◌∷◌, ◌++◌, length, drop, codes, Option, Some, None, refl, arith, inl, inr, le_refl}
 use Rattle.std.proofs.lemmas.Bool.{cases_Bool, eqb-true}
 use Rattle.std.specs.Str.{bytes_eq}
-use Rattle.yaml_emit_laws_columns.specs.emit_layout.parse_model.Events.{TagDirective}
-use Rattle.yaml_emit_laws_columns.specs.emit_layout.emit_text.declared.Encoding.{Encoding}
-use Rattle.yaml_emit_laws_columns.specs.emit_layout.emit_text.declared.Encoding.TheVariants.{Utf8, Utf16Le, Utf16Be}
-use Rattle.yaml_emit_laws_columns.specs.emit_layout.emit_text.declared.Settings.{Settings}
-use Rattle.yaml_emit_laws_columns.specs.emit_layout.emit_text.Text.{char_bytes}
-use Rattle.yaml_emit_laws_columns.specs.emit_layout.emit_text.Hex.{hex_digit, hex_2}
-use Rattle.yaml_emit_laws_columns.specs.emit_layout.emit_tags.Tags.{has_shorter_prefix, directive_for, defines, primary, secondary, unless_defined, defaults, in_force, suffix_keeps, uri_byte, uri_text, spelled, split_by, tag_spelling}
-use Rattle.yaml_emit_laws_columns.specs.emit_layout.Nodes.{context_of}
-use Rattle.yaml_emit_laws_columns.specs.Sizes.{unit, ascii, text_bytes, tag_bytes}
+use Rattle.yaml_emit_laws_text.specs.emit_layout.parse_model.Events.{TagDirective}
+use Rattle.yaml_emit_laws_text.specs.emit_layout.emit_text.declared.Encoding.{Encoding}
+use Rattle.yaml_emit_laws_text.specs.emit_layout.emit_text.declared.Encoding.TheVariants.{Utf8, Utf16Le, Utf16Be}
+use Rattle.yaml_emit_laws_text.specs.emit_layout.emit_text.declared.Settings.{Settings}
+use Rattle.yaml_emit_laws_text.specs.emit_layout.emit_text.Text.{char_bytes}
+use Rattle.yaml_emit_laws_text.specs.emit_layout.emit_text.Hex.{hex_digit, hex_2}
+use Rattle.yaml_emit_laws_text.specs.emit_layout.emit_tags.Tags.{has_shorter_prefix, directive_for, defines, primary, secondary, unless_defined, defaults, in_force, suffix_keeps, uri_byte, uri_text, spelled, split_by, tag_spelling}
+use Rattle.yaml_emit_laws_text.specs.emit_layout.Nodes.{context_of}
+use Rattle.yaml_emit_laws_text.specs.Sizes.{unit, ascii, text_bytes, tag_bytes}
 use Rattle.yaml_round_content.specs.TreeContent.{prefix_of, in_full}
 
 -- a text of a tag, with its escapes

@@ -16,7 +16,7 @@ use Rattle.yaml_round_content.specs.Events.{emitter_events, contents}
 use Rattle.yaml_round_content.specs.Said.{ScalarMark, untagged, tagged, Node, Nodes, Pairs, Document, scalar_says, node_says, items_say, pairs_say, documents_say, stream_says}
 use Rattle.yaml_round_content.specs.Said as content
 use Rattle.yaml_round_content.specs.Canon.{written_node, written_nodes, written_pairs, written_documents}
-use Rattle.yaml_emit_laws_columns.specs.Sizes.{ascii, text_bytes, properties_bytes, most_of_value, most_of_line, most_of_node, most_of_items, most_of_pairs, directives_bytes, most_of_documents, most_bytes}
+use Rattle.yaml_emit_laws_text.specs.Sizes.{ascii, text_bytes, properties_bytes, most_of_value, most_of_line, most_of_node, most_of_items, most_of_pairs, directives_bytes, most_of_documents, most_bytes}
 
 -- what an event takes, a line before each node and behind each collection, where nodes are indented by n; of a document w besides
 abbrev tally_of : Settings → ℕ → List TagDirective → ℕ → Event → ℕ

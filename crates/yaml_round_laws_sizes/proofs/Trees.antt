@@ -11,7 +11,7 @@ use Rattle.yaml_parse_grammar.specs.Trees.{PropertyTokens, token_at, closing, pr
 use Rattle.yaml_round_content.specs.parse_model.Events.{TagDirective}
 use Rattle.yaml_round_content.specs.TreeContent.{node_of, with_content, maybe_of, colon_of, items_of, more_items_of, parts_of, more_parts_of, entries_of, others_of, pairs_of, tags_in, documents_of, behind_first, tree_content}
 use Rattle.yaml_round_content.specs.Canon.{written_node, written_nodes, written_pairs, written_documents}
-use Rattle.yaml_emit_laws_columns.specs.Depths.{StandsAt, ItemStandsAt, PartStandsAt, RootStandsAt}
+use Rattle.yaml_emit_laws_text.specs.Depths.{StandsAt, ItemStandsAt, PartStandsAt, RootStandsAt}
 use Rattle.yaml_round_laws_sizes.proofs.Tokens.{count, weight}
 use Rattle.yaml_round_laws_sizes.proofs.Weights.{Weight, weigh}
 

@@ -14,8 +14,8 @@ use Rattle.yaml_round_content.specs.Events.{emitter_events}
 use Rattle.yaml_round_content.specs.Said.{Document}
 use Rattle.yaml_round_content.specs.Canon.{written_documents, canon_encoding, canon_items, canon}
 use Rattle.yaml_round_content.specs.Reading.{PlainReading}
-use Rattle.yaml_emit_laws_columns.specs.Depths.{RootStandsAt, IsTooDeep}
-use Rattle.yaml_emit_laws_columns.specs.Sizes.{unit, most_bytes}
+use Rattle.yaml_emit_laws_text.specs.Depths.{RootStandsAt, IsTooDeep}
+use Rattle.yaml_emit_laws_text.specs.Sizes.{unit, most_bytes}
 
 -- A node at depth d takes one and a half bytes of its input for each level: three times the depth is at most twice the bytes, and
 -- two.

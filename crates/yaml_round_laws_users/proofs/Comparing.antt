@@ -2,7 +2,7 @@
 use Rattle.std.proofs.Common.{◌≡◌, ℕ, List, Result, Ok, Bool, true, false, IsTrue, refl, sym, subst}
 use Rattle.std.proofs.lemmas.Bool.{true≢false}
 use Rattle.yaml_round.specs.declared.yaml_encoding_t.{yaml_encoding_t}
-use Rattle.yaml_emit_laws_columns.specs.emit_layout.scan_model.Faults.{Fault}
+use Rattle.yaml_emit_laws_text.specs.emit_layout.scan_model.Faults.{Fault}
 use Rattle.yaml_round.specs.round_laws_documents.round_content.Said.{Document}
 use Rattle.yaml_round.specs.round_content.Reading.{PlainReading}
 use Rattle.yaml_round.proofs.Joining.{one_reading}

@@ -4,14 +4,14 @@ use Rattle.yaml_round.specs.declared.yaml_encoding_t.{yaml_encoding_t}
 use Rattle.yaml_round.specs.declared.yaml_encoding_t.TheVariants.{YAML_ANY_ENCODING}
 use Rattle.yaml_round.specs.declared.yaml_output_encoding_t.{yaml_output_encoding_t}
 use Rattle.yaml_round.specs.declared.yaml_output_encoding_t.TheVariants.{Utf8, Utf16Le, Utf16Be}
-use Rattle.yaml_emit_laws_columns.specs.emit_layout.scan_model.Faults.{Fault}
+use Rattle.yaml_emit_laws_text.specs.emit_layout.scan_model.Faults.{Fault}
 use Rattle.yaml_round.specs.round_laws_documents.round_content.parse_grammar.Resolve.{Told}
 use Rattle.yaml_round.specs.emit.Text.{Item, encode, is_deep}
 use Rattle.yaml_round.specs.emit.Settings.{settled, settled_encoding}
-use Rattle.yaml_emit_laws_columns.specs.emit_layout.emit_text.declared.Encoding.{Encoding}
-use Rattle.yaml_emit_laws_columns.specs.emit_layout.emit_text.declared.Settings.{Settings}
-use Rattle.yaml_emit_laws_columns.specs.emit_layout.Nodes.{Context, context_of, stream_layout}
-use Rattle.yaml_emit_laws_columns.specs.emit_layout.emit_text.Layout.{written}
+use Rattle.yaml_emit_laws_text.specs.emit_layout.emit_text.declared.Encoding.{Encoding}
+use Rattle.yaml_emit_laws_text.specs.emit_layout.emit_text.declared.Settings.{Settings}
+use Rattle.yaml_emit_laws_text.specs.emit_layout.Nodes.{Context, context_of, stream_layout}
+use Rattle.yaml_emit_laws_text.specs.emit_layout.emit_text.Layout.{written}
 use Rattle.yaml_round.specs.round_laws_documents.round_content.parse_laws_trees.parse_document.Documents as documents
 use Rattle.yaml_round.specs.emit.emit_graph.Graph.{graph_content}
 use Rattle.yaml_round.specs.round_laws_documents.Normal.{ended}
@@ -31,8 +31,8 @@ use Rattle.yaml_round.proofs.Plain.{events_are}
 use Rattle.yaml_round.proofs.Joining.{read_said}
 use Rattle.yaml_round.proofs.ReadBack.{layout_is_of_input}
 use Rattle.yaml_round_laws_normal.specs.Readable.{is_unmarked, readable_node, readable_nodes, readable_pairs, documents_from, readable_documents}
-use Rattle.yaml_emit_laws_columns.specs.Sizes.{most_of_node, most_of_items, most_of_pairs, most_of_documents, most_bytes}
-use Rattle.yaml_emit_laws_columns.proofs.Laid.{by_content}
+use Rattle.yaml_emit_laws_text.specs.Sizes.{most_of_node, most_of_items, most_of_pairs, most_of_documents, most_bytes}
+use Rattle.yaml_emit_laws_text.proofs.SizesLaid.{by_content}
 use Rattle.yaml_round_laws_sizes.specs.Laws.{most_of_input}
 use Rattle.yaml_round_laws_sizes.proofs.Joining.{contents_bounded, layouts_short}
 use Rattle.yaml_round_laws_sizes.proofs.Tally.{tallies_same}

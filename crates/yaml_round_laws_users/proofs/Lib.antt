@@ -10,3 +10,5 @@ mod Readings
 mod Partings
 mod DocumentPartings
 mod Fitting
+mod NoEmptyPlain
+mod MarkRoots

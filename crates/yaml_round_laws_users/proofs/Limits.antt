@@ -3,7 +3,7 @@ use Rattle.std.proofs.Common.{◌≡◌, inl, inr, ℕ, Bool, true, false, true�
 use Rattle.std.proofs.lemmas.Bool.{false≢true}
 use Rattle.yaml_round.specs.declared.yaml_encoding_t.{yaml_encoding_t}
 use Rattle.yaml_round.specs.declared.yaml_encoding_t.TheVariants.{YAML_ANY_ENCODING}
-use Rattle.yaml_emit_laws_columns.specs.emit_layout.scan_model.Faults.{Fault}
+use Rattle.yaml_emit_laws_text.specs.emit_layout.scan_model.Faults.{Fault}
 use Rattle.yaml_round.specs.round_laws_documents.round_content.parse_laws_trees.parse_document.Documents as documents
 use Rattle.yaml_round.specs.round_laws_documents.round_content.parse_grammar.Resolve.{Told}
 use Rattle.yaml_round.specs.emit.Text.{Item, encode, is_deep}
@@ -13,8 +13,8 @@ use Rattle.yaml_round.specs.emit.Content as emit
 use Rattle.yaml_round.specs.emit.Streams.{IsStream}
 use Rattle.yaml_round.specs.emit.Emitter.{Passes, write_error, too_deep}
 use Rattle.yaml_round.specs.emit.emit_graph.Graph.{graph_content}
-use Rattle.yaml_emit_laws_columns.specs.emit_layout.emit_text.declared.Encoding.{Encoding}
-use Rattle.yaml_emit_laws_columns.specs.emit_layout.emit_text.declared.RequestedSettings.{RequestedSettings}
+use Rattle.yaml_emit_laws_text.specs.emit_layout.emit_text.declared.Encoding.{Encoding}
+use Rattle.yaml_emit_laws_text.specs.emit_layout.emit_text.declared.RequestedSettings.{RequestedSettings}
 use Rattle.yaml_round.specs.round_laws_documents.round_content.Input.{events_of}
 use Rattle.yaml_round.specs.round_laws_documents.round_content.Loads.{loads_of}
 use Rattle.yaml_round.specs.round_laws_documents.round_content.Said.{Document}
@@ -36,9 +36,9 @@ use Rattle.yaml_round.proofs.ReadBack.{layout_is_of_input}
 use Rattle.yaml_round.proofs.Flags.{input_laid_out}
 use Rattle.yaml_round.proofs.Layouts.{content_laid_out}
 use Rattle.yaml_round.proofs.Laid.{laid_out}
-use Rattle.yaml_emit_laws_columns.specs.Depths.{RootStandsAt, IsTooDeep}
-use Rattle.yaml_emit_laws_columns.proofs.Depths.{by_depth}
-use Rattle.yaml_emit_laws_columns.proofs.Events.{events_tell}
+use Rattle.yaml_emit_laws_text.specs.Depths.{RootStandsAt, IsTooDeep}
+use Rattle.yaml_emit_laws_text.proofs.ColumnsDepths.{by_depth}
+use Rattle.yaml_emit_laws_text.proofs.ColumnsEvents.{events_tell}
 use Rattle.yaml_round_laws_users.specs.Limits.{IsContentTooDeep, AreDumpsTooDeep, CanonicalFormPassesColumns, ReformatsNameColumns, CanonicalAnswersKeepColumns, ReloadsNameColumns, ReloadsKeepColumns}
 
 -- ---- a fault that names the columns

@@ -2,9 +2,9 @@
 use Rattle.std.proofs.Common.{◌≡◌, ℕ, false, List, Ok, sym, ap, subst, ◌∙◌}
 use Rattle.yaml_round.specs.declared.yaml_encoding_t.{yaml_encoding_t}
 use Rattle.yaml_round.specs.declared.yaml_encoding_t.TheVariants.{YAML_ANY_ENCODING}
-use Rattle.yaml_emit_laws_columns.specs.emit_layout.emit_text.Text.{encode}
-use Rattle.yaml_emit_laws_columns.specs.emit_layout.emit_text.declared.RequestedSettings.{RequestedSettings}
-use Rattle.yaml_emit_laws_columns.specs.emit_layout.Streams.{IsStream}
+use Rattle.yaml_emit_laws_text.specs.emit_layout.emit_text.Text.{encode}
+use Rattle.yaml_emit_laws_text.specs.emit_layout.emit_text.declared.RequestedSettings.{RequestedSettings}
+use Rattle.yaml_emit_laws_text.specs.emit_layout.Streams.{IsStream}
 use Rattle.yaml_round.specs.round_laws_documents.parse_grammar.Resolve.{Told}
 use Rattle.yaml_round.specs.round_laws_documents.Stays.{SaysInput}
 use Rattle.yaml_round.specs.round_content.Said.{Document, HasContent}

@@ -3,11 +3,11 @@ use Rattle.std.proofs.Common.{◌≡◌, inl, inr, ℕ, true, List, Some, None, 
 use Rattle.std.proofs.lemmas.Bool.{true≢false}
 use Rattle.yaml_round.specs.declared.yaml_encoding_t.{yaml_encoding_t}
 use Rattle.yaml_round.specs.declared.yaml_encoding_t.TheVariants.{YAML_ANY_ENCODING}
-use Rattle.yaml_emit_laws_columns.specs.emit_layout.scan_model.Faults.{Fault}
+use Rattle.yaml_emit_laws_text.specs.emit_layout.scan_model.Faults.{Fault}
 use Rattle.yaml_round.specs.emit.Text.{Item, encode, is_deep}
 use Rattle.yaml_round.specs.emit.Within.{Fits}
 use Rattle.yaml_round.specs.emit.Emitter.{Passes}
-use Rattle.yaml_emit_laws_columns.specs.emit_layout.emit_text.declared.Encoding.{Encoding}
+use Rattle.yaml_emit_laws_text.specs.emit_layout.emit_text.declared.Encoding.{Encoding}
 use Rattle.yaml_round.specs.round_laws_documents.round_content.Input.{ending_of, events_of}
 use Rattle.yaml_round.specs.round_laws_documents.round_content.Said.{Document, HasContent}
 use Rattle.yaml_round.specs.round_laws_documents.round_content.parse_grammar.Resolve.{Told}

@@ -2,7 +2,7 @@
 use Rattle.std.specs.Prelude.{◌≡◌, ◌↔◌, ◌⊎◌, ℕ, Bool, true, false, List, Result, Ok, Err}
 use Rattle.yaml_round.specs.declared.yaml_encoding_t.{yaml_encoding_t}
 use Rattle.yaml_round.specs.declared.yaml_encoding_t.TheVariants.{YAML_ANY_ENCODING}
-use Rattle.yaml_emit_laws_columns.specs.emit_layout.scan_model.Faults.{Fault}
+use Rattle.yaml_emit_laws_text.specs.emit_layout.scan_model.Faults.{Fault}
 use Rattle.yaml_round.specs.declared.yaml_settings_t.{yaml_settings_t}
 use Rattle.yaml_round.specs.declared.yaml_form_t.{yaml_form_t}
 use Rattle.yaml_round.specs.declared.yaml_form_t.TheVariants.{Canonical, Pretty}

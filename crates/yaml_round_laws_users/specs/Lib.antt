@@ -6,3 +6,4 @@ pub mod Limits
 pub mod Plain
 pub mod Partings
 pub mod Sizes
+pub mod MarkAlone

@@ -13,7 +13,7 @@ use Rattle.yaml_round.specs.declared.yaml_settings_t.{yaml_settings_t}
 use Rattle.yaml_round.specs.declared.yaml_form_t.TheVariants.{Canonical}
 use Rattle.yaml_round.specs.Answers.{IsTooLong, IsReformatted}
 use Rattle.yaml_round.specs.Reload.{IsReloaded}
-use Rattle.yaml_emit_laws_columns.specs.Depths.{IsTooDeep}
+use Rattle.yaml_emit_laws_text.specs.Depths.{IsTooDeep}
 
 -- Under the indent in force, 2 to 9, some node of the content that is no alias stands too deep.
 abbrev pub IsContentTooDeep : yaml_settings_t → List Document → Type 0

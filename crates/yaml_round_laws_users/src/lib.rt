@@ -1,9 +1,10 @@
 //! Laws of what `yaml_reformat`, `yaml_normalize`, `yaml_reload`, `yaml_same` and `yaml_diff` answer and of the limits that
-//! they name, for users: each follows from the definitions that the calls' contracts name. No code.
+//! they name, for users: each follows from the definitions that the calls' contracts name; and of which inputs begin with nothing. No code.
 #![tactic(auto)]
 
 mod column;
 mod laws;
+mod mark;
 mod normalizing;
 mod parting;
 mod plain;
@@ -18,6 +19,7 @@ pub use laws::{
     answers_read_back, canonical_answers_tell_contents, comparisons_agree, form_tells_beginning,
     json_stays_pretty, rewriting_is_still, same_content_is_an_equivalence, settings_do_not_matter,
 };
+pub use mark::beginning_is_a_mark;
 pub use normalizing::{normal_forms_tell_contents, normalizing_is_still};
 pub use parting::diffs_agree;
 pub use plain::{canonical_text_is_the_contents, pretty_text_reads_back};

@@ -1,0 +1,56 @@
+-- What characters spell, in an encoding that is named or behind its mark.
+use Rattle.std.proofs.Common.{◌≡◌, ℕ, ◌||◌, Bool, true, false, if◌then◌else◌, List, ◌++◌, drop, refl, sym, ap, ◌∙◌, encode_utf8_all}
+use Rattle.std.specs.List.{AllPass}
+use Rattle.yaml_scan_laws_texts.specs.scan_history.scan_model.declared.yaml_encoding_t.{yaml_encoding_t}
+use Rattle.yaml_scan_laws_texts.specs.scan_history.scan_model.declared.yaml_encoding_t.TheVariants.{YAML_ANY_ENCODING, YAML_UTF8_ENCODING, YAML_UTF16LE_ENCODING, YAML_UTF16BE_ENCODING}
+use Rattle.yaml_scan_laws_texts.specs.scan_history.scan_decode.Characters.{is_allowed}
+use Rattle.yaml_scan_laws_texts.specs.scan_history.scan_decode.Encodings.{encoding_of, mark_length, begins_low_first, begins_high_first, begins_utf8}
+use Rattle.yaml_scan_laws_texts.specs.scan_history.scan_decode.Spelling.{Spells, spellings}
+use Rattle.yaml_round_content.specs.EncodingsLaws.{EncodingsDoNotMatter, CharactersAreEnough, IsNamed, mark_of}
+
+named_spells : (cs : List ℕ) → AllPass is_allowed cs → (x : yaml_encoding_t) → IsNamed x
+    → Spells x (spellings x cs) (encode_utf8_all cs)
+unfolding encoding_of mark_length
+named_spells cs h YAML_ANY_ENCODING n = absurd n
+named_spells cs h _ n = record { characters = cs; allowed = h; spelled = refl; is = refl }
+
+marked_spells : (cs : List ℕ) → AllPass is_allowed cs → (x : yaml_encoding_t) → IsNamed x
+    → Spells YAML_ANY_ENCODING (mark_of x ++ spellings x cs) (encode_utf8_all cs)
+unfolding encoding_of mark_length
+marked_spells cs h YAML_ANY_ENCODING n = absurd n
+marked_spells cs h _ n = record { characters = cs; allowed = h; spelled = refl; is = refl }
+
+abbrev length_by : Bool → Bool → Bool → ℕ
+length_by low high utf8 = if low || high then 2 else if utf8 then 3 else 0
+
+no_mark_told : (low high utf8 : Bool) → length_by low high utf8 ≡ 0
+    → (if low then YAML_UTF16LE_ENCODING else if high then YAML_UTF16BE_ENCODING else
+    YAML_UTF8_ENCODING) ≡ YAML_UTF8_ENCODING
+no_mark_told true high utf8 e = absurd cc
+no_mark_told false true utf8 e = absurd cc
+no_mark_told false false utf8 e = refl
+
+unmarked_told : (bytes : List ℕ) → mark_length YAML_ANY_ENCODING bytes ≡ 0
+    → encoding_of YAML_ANY_ENCODING bytes ≡ YAML_UTF8_ENCODING
+unfolding encoding_of mark_length
+unmarked_told bytes e = no_mark_told (begins_low_first bytes) (begins_high_first bytes) (begins_utf8 bytes) e
+
+unmarked_spells : (cs : List ℕ) → AllPass is_allowed cs
+    → mark_length YAML_ANY_ENCODING (spellings YAML_UTF8_ENCODING cs) ≡ 0
+    → Spells YAML_ANY_ENCODING (spellings YAML_UTF8_ENCODING cs) (encode_utf8_all cs)
+unmarked_spells cs h none =
+    let bytes = spellings YAML_UTF8_ENCODING cs in
+    let behind : drop (mark_length YAML_ANY_ENCODING bytes) bytes ≡ bytes = ap (λ (n : ℕ). drop n bytes) none in
+    record {
+      characters = cs;
+      allowed = h;
+      spelled = behind ∙ ap (λ (x : yaml_encoding_t). spellings x cs) (sym (unmarked_told bytes none));
+      is = refl;
+    }
+
+pub characters_enough : EncodingsDoNotMatter → CharactersAreEnough
+characters_enough law = record {
+  named = λ cs h x y n m. law x y (spellings x cs) (spellings y cs) (encode_utf8_all cs) (named_spells cs h x n) (named_spells cs h y m);
+  marked = λ cs h x n. law YAML_ANY_ENCODING x (mark_of x ++ spellings x cs) (spellings x cs) (encode_utf8_all cs) (marked_spells cs h x n) (named_spells cs h x n);
+  unmarked = λ cs h none. law YAML_ANY_ENCODING YAML_UTF8_ENCODING (spellings YAML_UTF8_ENCODING cs) (spellings YAML_UTF8_ENCODING cs) (encode_utf8_all cs) (unmarked_spells cs h none) (named_spells cs h YAML_UTF8_ENCODING tt);
+}

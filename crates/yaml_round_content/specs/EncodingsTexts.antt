@@ -1,0 +1,37 @@
+-- What bytes say is what the text says that they spell.
+use Rattle.std.specs.Prelude.{◌≡◌, ◌↔◌, ◌<◌, ℕ, List, [], Some, Result, All}
+use Rattle.yaml_scan_laws_texts.specs.scan_history.scan_model.declared.yaml_encoding_t.{yaml_encoding_t}
+use Rattle.yaml_scan_laws_texts.specs.scan_history.scan_model.declared.yaml_error_type_t.TheVariants.{YAML_READER_ERROR}
+use Rattle.yaml_scan_laws_texts.specs.scan_history.scan_model.Faults.{Fault}
+use Rattle.yaml_scan_laws_texts.specs.scan_history.scan_decode.Encodings.{encoding_of}
+use Rattle.yaml_scan_laws_texts.specs.scan_history.scan_decode.Spelling.{Spells, SpellsNothing}
+use Rattle.yaml_scan_laws_texts.specs.scan_history.Remaining.{SpelledText, offline}
+use Rattle.yaml_scan_laws_texts.specs.scan_history.Scanned.{scanned}
+use Rattle.yaml_round_laws_adapted.specs.Adapted.{adapted}
+use Rattle.yaml_round_content.specs.Said.{Document}
+use Rattle.yaml_round_content.specs.Reading.{TokensRead, PlainReading}
+
+-- the text that bytes spell, with the encoding in which they spell it
+abbrev pub spelled_in : yaml_encoding_t → List ℕ → List ℕ → SpelledText
+spelled_in from input text = record { encoding = encoding_of from input; text = text }
+
+-- The tokens of bytes are those of the text that they spell.
+abbrev pub TokensAreOfText : Type 0
+TokensAreOfText = (from : yaml_encoding_t) (input text : List ℕ) → Spells from input text
+    → scanned from input ≡ offline (spelled_in from input text)
+
+-- Bytes that spell no text have no token, and a fault of the reader.
+abbrev pub NoTextHasNoToken : Type 0
+NoTextHasNoToken = (from : yaml_encoding_t) (input : List ℕ) → All (λ b. b < 256) input
+    → SpellsNothing from input → (fault : Fault) × (fault.kind ≡ YAML_READER_ERROR)
+    × (scanned from input ≡ record { tokens = []; fault = Some fault })
+
+-- The reading of tokens, up to the first tag that isn't UTF-8.
+abbrev pub TextReads : SpelledText → Result (List Document) Fault → Type 0
+TextReads s r = TokensRead (adapted (offline s)).tokens (adapted (offline s)).fault r
+
+-- The plain reading of an input is that of the text that its bytes spell.
+abbrev pub ReadingIsOfText : Type 0
+ReadingIsOfText = (from : yaml_encoding_t) (input text : List ℕ)
+    (r : Result (List Document) Fault) → Spells from input text
+    → PlainReading from input r ↔ TextReads (spelled_in from input text) r

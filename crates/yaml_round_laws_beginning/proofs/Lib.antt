@@ -1,2 +1,0 @@
-mod Full
-mod Roots

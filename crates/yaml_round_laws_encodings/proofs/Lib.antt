@@ -1,5 +1,0 @@
-mod Tokens
-mod Events
-mod Joining
-mod Spelled
-mod Texts

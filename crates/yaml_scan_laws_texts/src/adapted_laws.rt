@@ -1,6 +1,6 @@
 //! Each function's contract is a law.
 
-ghost use Rattle.yaml_round_laws_adapted.specs.Laws.{
+ghost use Rattle.yaml_scan_laws_texts.specs.AdaptedLaws.{
   AdaptedIsUtf8,
   FrontIsGiven,
   TagIsRefused,

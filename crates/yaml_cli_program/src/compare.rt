@@ -4,10 +4,10 @@ use crate::engine::{Compared, Difference, Engine, Met, Side};
 use crate::fault::{FAILED, UNJUDGED, run_failed, shown, unread};
 use crate::file::{STANDARD, bytes_of, whole_of, write_answer, write_text};
 use crate::order::{Measure, Pair};
+use crate::places::{Label, Source, difference_text};
 use std::alloc::Global;
 use std::io::{Read, Write};
 use std::rt::Files;
-use yaml_cli_places::{Label, Source, difference_text};
 use yaml_types::yaml_event_type_t;
 
 fn is_itself(pair: &Pair<'_>) -> bool {

@@ -3,9 +3,9 @@
 
 use crate::file::Unread;
 use crate::order::WRONG_WORDS;
+use crate::places::{Source, fault_text};
 use std::alloc::Global;
 use std::io::{Error, ErrorKind, Write};
-use yaml_cli_places::{Source, fault_text};
 use yaml_round_device::{yaml_fault_line, yaml_run_fault_t};
 use yaml_types::yaml_fault_t;
 

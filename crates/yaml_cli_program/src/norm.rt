@@ -4,10 +4,10 @@ use crate::engine::Engine;
 use crate::fault::{FAILED, shown, unread};
 use crate::file::{STANDARD, whole_of, write_text};
 use crate::order::{Manner, Rewriting};
+use crate::places::Source;
 use std::alloc::Global;
 use std::io::{Read, Write};
 use std::rt::Files;
-use yaml_cli_places::Source;
 
 fn write_normal<G: Engine, W: Write, E: Write>(
     engine: &G,

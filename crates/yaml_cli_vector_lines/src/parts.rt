@@ -35,6 +35,19 @@ impl Reply {
         self.room(done);
     }
 
+    /// Begins the field `answer`, which is a list.
+    pub fn begin_answers(&mut self) {
+        self.begin();
+        self.name("answer");
+        self.begin_list();
+    }
+
+    /// Ends it, and the object with it.
+    pub fn end_answers(&mut self) {
+        self.end_list();
+        self.end();
+    }
+
     /// A word.
     pub fn put_word(&mut self, word: &str) {
         let done = self.writer.string(word);

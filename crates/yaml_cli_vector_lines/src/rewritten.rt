@@ -11,12 +11,9 @@ fn put_token(reply: &mut Reply, token: &Value) {
 
 /// The line's tokens, read and written again.
 pub fn tokens(reply: &mut Reply, line: &Value) {
-    reply.begin();
-    reply.name("answer");
-    reply.begin_list();
+    reply.begin_answers();
     for token in reply.list(line, "tokens") {
         put_token(reply, token);
     }
-    reply.end_list();
-    reply.end();
+    reply.end_answers();
 }

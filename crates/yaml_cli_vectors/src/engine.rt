@@ -2,9 +2,9 @@
 
 use crate::difference::put_difference;
 use crate::given::{Given, given_of, input_of};
+use crate::reading::own_fault;
 use crate::text::put_answer;
 use serde_json::Value;
-use yaml_cli_vector_calls::own_fault;
 use yaml_cli_vector_lines::Reply;
 use yaml_round::{
     yaml_check, yaml_diff, yaml_diff_documents, yaml_difference_t, yaml_events, yaml_fault_line,

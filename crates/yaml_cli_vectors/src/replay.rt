@@ -1,15 +1,15 @@
 //! A line, replayed by the call that it names.
 
 use crate::engine::put_line;
+use crate::member::answer_member;
 use crate::{engine, limits, lookup, program, read_all, run};
 use serde_json::Value;
 use std::alloc::Global;
-use yaml_cli_vector_calls::answer_member;
 use yaml_cli_vector_lines::{Outcome, Reply, VectorError, compare, json_error};
 use yaml_scan::yaml_fault_t;
 
-// What the call answers on the line; the reply keeps the fault where it only refuses.
-fn answer(rt: &HostRuntime, reply: &mut Reply, call: &str, line: &Value) {
+// What a call of the engine answers on the line, or one of a member below it.
+fn answer_engine(reply: &mut Reply, call: &str, line: &Value) {
     match call {
         "events" => engine::events(reply, line),
         "reformat" => engine::reformat(reply, line),
@@ -19,6 +19,13 @@ fn answer(rt: &HostRuntime, reply: &mut Reply, call: &str, line: &Value) {
         "same" => engine::same(reply, line),
         "diff" => engine::diff(reply, line, false),
         "diff_documents" => engine::diff(reply, line, true),
+        _ => answer_member(reply, call, line),
+    }
+}
+
+// What the call answers on the line; the reply keeps the fault where it only refuses.
+fn answer(rt: &HostRuntime, reply: &mut Reply, call: &str, line: &Value) {
+    match call {
         "line" => engine::fault_line(reply, line),
         "least_limit" => limits::least_limit(reply, line),
         "run" => run::run(reply, line),
@@ -26,7 +33,7 @@ fn answer(rt: &HostRuntime, reply: &mut Reply, call: &str, line: &Value) {
         "read_all" => read_all::answer(reply, line),
         "told" => engine::told(reply, line),
         "lookup" => lookup::answer(reply, line),
-        _ => answer_member(reply, call, line),
+        _ => answer_engine(reply, call, line),
     }
 }
 

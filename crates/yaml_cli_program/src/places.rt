@@ -1,12 +1,12 @@
 //! Places in texts, as people are shown them: the lines that tell a fault, or where two texts part, with the source line and a
 //! caret under it; and the path to a place in the documents.
-#![tactic(auto)]
 
 mod chars;
 mod excerpt;
 mod path;
 mod place;
 mod telling;
+mod text;
 
 pub use chars::Source;
 pub use path::{Step, push_step};

@@ -24,14 +24,11 @@ fn put_next(reply: &mut Reply, reading: &mut Reading) -> bool {
 
 /// The events that the parser gives.
 pub fn events(reply: &mut Reply, reading: &mut Reading) {
-    reply.begin();
-    reply.name("answer");
-    reply.begin_list();
+    reply.begin_answers();
     for _ in 0..u64::MAX {
         if !put_next(reply, reading) {
             break;
         }
     }
-    reply.end_list();
-    reply.end();
+    reply.end_answers();
 }

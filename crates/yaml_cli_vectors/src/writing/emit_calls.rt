@@ -81,12 +81,9 @@ fn put_call(reply: &mut Reply, line: &Value, call: &Value, emitter: &mut yaml_em
 /// What the line's calls answer: null or the fault where an event or a document is given, the stream is turned (opened, or
 /// closed where it was opened) or flushed; whether it is opened; the output, or whether it is a front of a text.
 pub fn answer(reply: &mut Reply, line: &Value, emitter: &mut yaml_emitter_t) {
-    reply.begin();
-    reply.name("answer");
-    reply.begin_list();
+    reply.begin_answers();
     for call in reply.list(line, "calls") {
         put_call(reply, line, call, emitter);
     }
-    reply.end_list();
-    reply.end();
+    reply.end_answers();
 }

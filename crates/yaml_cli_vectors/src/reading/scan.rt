@@ -2,9 +2,7 @@
 
 use serde_json::Value;
 use yaml_cli_vector_lines::{Reply, show_token};
-use yaml_scan::{
-    yaml_encoding_t, yaml_fault_t, yaml_parser_scan, yaml_parser_t, yaml_token_type_t,
-};
+use yaml_scan::{yaml_fault_t, yaml_parser_scan, yaml_parser_t, yaml_token_type_t};
 
 // Puts the next token. False behind the last, for which the empty one stands, and at a fault, which is kept.
 fn put_next(
@@ -31,9 +29,7 @@ fn put_next(
 // Puts the tokens that the session hands out, and the fault that ends them.
 fn tokens(reply: &mut Reply, line: &Value, session: &mut yaml_parser_t<'_>) {
     let mut end = None;
-    reply.begin();
-    reply.name("answer");
-    reply.begin_list();
+    reply.begin_answers();
     for _ in 0..u64::MAX {
         if !put_next(reply, session, &mut end) {
             break;
@@ -44,15 +40,11 @@ fn tokens(reply: &mut Reply, line: &Value, session: &mut yaml_parser_t<'_>) {
     reply.end();
 }
 
-fn scan(reply: &mut Reply, line: &Value, input: &[u8], from: yaml_encoding_t) {
-    let mut session = yaml_parser_t::new(reply.alloc(), input, from);
-    tokens(reply, line, &mut session);
-    drop(session);
-}
-
 /// The tokens of the line's input, and the fault behind them where there is one.
 pub fn answer(reply: &mut Reply, line: &Value) {
     let from = reply.encoding(line, "from");
     let input = reply.bytes(line, "input");
-    scan(reply, line, input.as_slice(), from);
+    let mut session = yaml_parser_t::new(reply.alloc(), input.as_slice(), from);
+    tokens(reply, line, &mut session);
+    drop(session);
 }

@@ -55,15 +55,12 @@ fn put_call(reply: &mut Reply, line: &Value, word: &str, session: &mut yaml_pars
 }
 
 fn put_calls(reply: &mut Reply, line: &Value, session: &mut yaml_parser_t<'_>) {
-    reply.begin();
-    reply.name("answer");
-    reply.begin_list();
+    reply.begin_answers();
     for call in reply.list(line, "calls") {
         let word = reply.take(call.as_str(), "calls", "");
         put_call(reply, line, word, session);
     }
-    reply.end_list();
-    reply.end();
+    reply.end_answers();
 }
 
 /// What the line's calls answer, of a session over its input: a token that is given or lent, whether a token was known and is

@@ -32,9 +32,7 @@ fn put_next(reply: &mut Reply, reading: &mut Reading, end: &mut Option<yaml_faul
 /// The documents that the parser gives, and the fault behind them where there is one.
 pub fn documents(reply: &mut Reply, line: &Value, reading: &mut Reading) {
     let mut end = None;
-    reply.begin();
-    reply.name("answer");
-    reply.begin_list();
+    reply.begin_answers();
     for _ in 0..u64::MAX {
         if !put_next(reply, reading, &mut end) {
             break;

@@ -111,15 +111,12 @@ pub fn put_calls<S: yaml_token_source_t>(
     line: &Value,
     parser: &mut yaml_parser_t<S>,
 ) {
-    reply.begin();
-    reply.name("answer");
-    reply.begin_list();
+    reply.begin_answers();
     for call in reply.list(line, "calls") {
         let word = reply.take(call.as_str(), "calls", "");
         put_call(reply, line, word, parser);
     }
-    reply.end_list();
-    reply.end();
+    reply.end_answers();
 }
 
 fn put_input(reply: &mut Reply, line: &Value, input: &[u8], from: yaml_encoding_t) {

@@ -4,7 +4,6 @@ use serde_json::Value;
 use yaml_cli_vector_lines::{Reply, show_token};
 use yaml_parse::yaml_token_source_t;
 use yaml_round_adapter::yaml_adapter_t;
-use yaml_scan::yaml_encoding_t;
 
 // Puts what the source answers next: a token, the empty one behind the end, or a fault.
 fn put_next(reply: &mut Reply, line: &Value, adapter: &mut yaml_adapter_t<'_>) {
@@ -17,27 +16,20 @@ fn put_next(reply: &mut Reply, line: &Value, adapter: &mut yaml_adapter_t<'_>) {
     }
 }
 
-fn put_all(reply: &mut Reply, line: &Value, calls: u64, adapter: &mut yaml_adapter_t<'_>) {
-    reply.begin();
-    reply.name("answer");
-    reply.begin_list();
+fn put_all(reply: &mut Reply, line: &Value, adapter: &mut yaml_adapter_t<'_>) {
+    let calls = reply.count(line, "calls");
+    reply.begin_answers();
     for _ in 0..calls {
         put_next(reply, line, adapter);
     }
-    reply.end_list();
-    reply.end();
-}
-
-fn put_tokens(reply: &mut Reply, line: &Value, calls: u64, input: &[u8], from: yaml_encoding_t) {
-    let mut adapter = yaml_adapter_t::new(reply.alloc(), input, from);
-    put_all(reply, line, calls, &mut adapter);
-    drop(adapter);
+    reply.end_answers();
 }
 
 /// What so many calls of the input's source answer, as a parser makes them.
 pub fn answer(reply: &mut Reply, line: &Value) {
-    let calls = reply.count(line, "calls");
     let from = reply.encoding(line, "from");
     let input = reply.bytes(line, "input");
-    put_tokens(reply, line, calls, input.as_slice(), from);
+    let mut adapter = yaml_adapter_t::new(reply.alloc(), input.as_slice(), from);
+    put_all(reply, line, &mut adapter);
+    drop(adapter);
 }

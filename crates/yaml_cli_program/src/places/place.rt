@@ -1,6 +1,6 @@
 //! Where a fault stands.
 
-use crate::chars::{Chars, Next, Source};
+use super::chars::{Chars, Next, Source};
 use yaml_types::{yaml_error_type_t, yaml_fault_t, yaml_mark_t};
 
 // The place of the character that has that byte, or of the first bytes in front of it that spell none.

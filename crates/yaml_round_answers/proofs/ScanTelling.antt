@@ -6,10 +6,10 @@ use Rattle.yaml_parse.specs.declared.yaml_fault_t.{yaml_fault_t}
 use Rattle.yaml_parse.specs.Faults.{fault_of, memory_fault, IsMemoryFault, scan_layers}
 use Rattle.yaml_parse.specs.declared.yaml_origin_t.TheVariants.{Scanner}
 use Rattle.yaml_parse.specs.Tokens.{Token}
-use Rattle.yaml_round_tokens.specs.Scanned.{scanned}
-use Rattle.yaml_round_tokens.specs.declared.TokenListing.{TokenListing}
-use Rattle.yaml_round_tokens.specs.Listed.{ListsTokens}
-use Rattle.yaml_round_tokens.specs.Counted.{token_counted}
+use Rattle.yaml_round_records.specs.Scanned.{scanned}
+use Rattle.yaml_round_records.specs.declared.TokenListing.{TokenListing}
+use Rattle.yaml_round_records.specs.TokensListed.{ListsTokens}
+use Rattle.yaml_round_records.specs.TokensCounted.{token_counted}
 use Rattle.yaml_round_answers.specs.declared.answer.yaml_c_answer.{yaml_c_answer}
 use Rattle.yaml_round_answers.specs.declared.scanning.yaml_c_scanned.{yaml_c_scanned}
 use Rattle.yaml_round_answers.specs.Told.{TellsText, TellsFaultIn, TellsMemory, TellsWant, RefusesIn}

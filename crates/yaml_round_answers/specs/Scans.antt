@@ -3,10 +3,10 @@ use Rattle.std.specs.Prelude.{◌≡◌, ◌⊎◌, pos, ℕ, Bool, true, false,
 use Rattle.yaml_parse.specs.declared.yaml_encoding_t.{yaml_encoding_t}
 use Rattle.yaml_parse.specs.Faults.{Fault, IsMemoryFault, scan_layers}
 use Rattle.yaml_parse.specs.Tokens.{Token}
-use Rattle.yaml_round_tokens.specs.Scanned.{scanned}
-use Rattle.yaml_round_tokens.specs.declared.TokenListing.{TokenListing}
-use Rattle.yaml_round_tokens.specs.Listed.{records_from, all_texts}
-use Rattle.yaml_round_tokens.specs.Counted.{token_counted}
+use Rattle.yaml_round_records.specs.Scanned.{scanned}
+use Rattle.yaml_round_records.specs.declared.TokenListing.{TokenListing}
+use Rattle.yaml_round_records.specs.TokensListed.{records_from, all_texts}
+use Rattle.yaml_round_records.specs.TokensCounted.{token_counted}
 use Rattle.yaml_round_answers.specs.declared.answer.yaml_c_answer.{yaml_c_answer}
 use Rattle.yaml_round_answers.specs.declared.scanning.yaml_c_scanned.{yaml_c_scanned}
 use Rattle.yaml_round_answers.specs.Told.{TellsText, TellsFaultIn, TellsWant}

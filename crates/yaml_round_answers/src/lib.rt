@@ -30,6 +30,5 @@ pub use serializing::{serialized_by, yaml_c_turns};
 pub use yaml_round_nodes::{yaml_c_graph, yaml_c_node, yaml_c_spot, yaml_c_step, yaml_c_turn};
 pub use yaml_round_records::{
     yaml_c_directive, yaml_c_event, yaml_c_level, yaml_c_mark, yaml_c_place, yaml_c_settings,
-    yaml_c_span, yaml_c_stand,
+    yaml_c_span, yaml_c_stand, yaml_c_token,
 };
-pub use yaml_round_tokens::yaml_c_token;

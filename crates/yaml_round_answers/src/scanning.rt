@@ -10,8 +10,7 @@ use crate::answer::{handed_out, misused, refused_in, said, yaml_c_answer};
 use crate::spelled::{is_starved, spelled_text};
 use std::alloc::Global;
 use yaml_round::yaml_encoding_t;
-use yaml_round_records::encoding_of;
-use yaml_round_tokens::{TokenListing, count_tokens, list_tokens, yaml_c_token};
+use yaml_round_records::{TokenListing, count_tokens, encoding_of, list_tokens, yaml_c_token};
 use yaml_scan::{yaml_memory_fault, yaml_origin_t};
 
 /// The tokens of an input, and the bytes that they speak of. Both are the caller's to free, where they have any item.

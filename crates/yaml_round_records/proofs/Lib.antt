@@ -11,3 +11,6 @@ pub mod Saying
 pub mod Offsets
 pub mod Rows
 pub mod Places
+pub mod TokensAdding
+pub mod TokensOffsets
+pub mod TokensRows

@@ -10,3 +10,9 @@ pub mod Standing
 pub mod Onward
 pub mod Listing
 pub mod Counted
+pub mod TokensListed
+pub mod TokensCounted
+pub mod TokensOffsets
+pub mod TokensRows
+-- what it speaks of, for those above
+pub use Rattle.yaml_scan.specs.Scanned

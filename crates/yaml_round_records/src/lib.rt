@@ -1,4 +1,5 @@
-//! What C's records of events mean to an emitter, and what a parser's events are as such records.
+//! What C's records of events mean to an emitter, and what a parser's events are as such records; and an input's tokens as
+//! records over one block of bytes.
 #![tactic(auto)]
 
 mod collecting;
@@ -11,6 +12,9 @@ mod number;
 mod onward;
 mod record;
 mod standing;
+mod token_counted;
+mod token_listing;
+mod token_record;
 
 pub use collecting::collect;
 pub use counted::{count_events, count_mark};
@@ -23,3 +27,6 @@ pub use record::{
     mark_told, yaml_c_directive, yaml_c_event, yaml_c_mark, yaml_c_settings, yaml_c_span,
 };
 pub use standing::{is_stand, yaml_c_level, yaml_c_place, yaml_c_stand};
+pub use token_counted::count_tokens;
+pub use token_listing::{TokenListing, list_tokens};
+pub use token_record::yaml_c_token;

@@ -2,11 +2,11 @@
 
 ghost use Rattle.std.specs.Prelude.{◌≡◌, map};
 ghost use Rattle.yaml_round_places.specs.Places.{Counts};
-ghost use Rattle.yaml_round_tokens.specs.Counted.{token_counted};
+ghost use Rattle.yaml_round_records.specs.TokensCounted.{token_counted};
 
-use crate::record::yaml_c_token;
+use crate::counted::count_mark;
+use crate::token_record::yaml_c_token;
 use yaml_round_places::Count;
-use yaml_round_records::count_mark;
 
 fn count_token(text: &[u8], count: &mut Count, token: &mut yaml_c_token)
     requires { Counts text.now count.old }

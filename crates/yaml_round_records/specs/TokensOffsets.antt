@@ -1,6 +1,6 @@
 -- Where the fields of a token's record lie.
 use Rattle.yaml_round_records.specs.Offsets.{LiesAt}
-use Rattle.yaml_round_tokens.specs.contracts.record.yaml_c_token as token
+use Rattle.yaml_round_records.specs.contracts.token_record.yaml_c_token as token
 
 -- the layout that the header asserts
 pub record TokenLies : Type 0 where

@@ -1,7 +1,7 @@
 -- Records of an input's tokens with the characters in front of their marks.
 use Rattle.std.specs.Prelude.{ℕ, List}
 use Rattle.yaml_round_records.specs.Counted.{mark_counted}
-use Rattle.yaml_round_tokens.specs.declared.record.yaml_c_token.{yaml_c_token}
+use Rattle.yaml_round_records.specs.declared.token_record.yaml_c_token.{yaml_c_token}
 
 abbrev pub token_counted : List ℕ → yaml_c_token → yaml_c_token
 token_counted text r = record r {

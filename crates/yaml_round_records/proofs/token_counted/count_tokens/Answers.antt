@@ -1,8 +1,8 @@
 -- One more token is counted.
 use Rattle.std.proofs.Common.{◌∙◌, ap, slice_set, arith}
 use Rattle.std.proofs.lemmas.List.Edits.{map_over_more}
-use Rattle.yaml_round_tokens.specs.Counted.{token_counted}
-use Rattle.yaml_round_tokens.proofs.counted.count_tokens.Goals as goal
+use Rattle.yaml_round_records.specs.TokensCounted.{token_counted}
+use Rattle.yaml_round_records.proofs.token_counted.count_tokens.Goals as goal
 
 pub loop-i-preserved : goal.loop-i-preserved
 loop-i-preserved c = record {

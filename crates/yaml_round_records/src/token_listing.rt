@@ -4,11 +4,11 @@ ghost use Rattle.std.specs.Prelude.{◌≡◌, [], ◌++◌, length, pos, IfOk};
 ghost use Rattle.yaml_scan.specs.Tokens.{token_of};
 ghost use Rattle.yaml_scan.specs.Scanned.{scanned};
 ghost use Rattle.yaml_scan.specs.Session.{HasFirst};
-ghost use Rattle.yaml_round_tokens.specs.Listed.{ListsTokens, EndsListed, ListsNext, Puts, MakesRecord, Adds, with_value, with_both};
+ghost use Rattle.yaml_round_records.specs.TokensListed.{ListsTokens, EndsListed, ListsNext, Puts, MakesRecord, Adds, with_value, with_both};
 
-use crate::record::{encoding_number, plain, style_number, yaml_c_token};
+use crate::record::{mark_told, yaml_c_mark, yaml_c_span};
+use crate::token_record::{encoding_number, plain, style_number, yaml_c_token};
 use std::alloc::{AllocError, Global};
-use yaml_round_records::{mark_told, yaml_c_mark, yaml_c_span};
 use yaml_scan::{
     yaml_encoding_t, yaml_fault_t, yaml_memory_fault, yaml_origin_t, yaml_parser_has_token,
     yaml_parser_peek, yaml_parser_scan, yaml_parser_t, yaml_token_body_t, yaml_token_t,

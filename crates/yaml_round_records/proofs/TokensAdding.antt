@@ -7,9 +7,9 @@ use Rattle.yaml_scan.specs.Faults.{Fault, IsMemoryFault, scan_layers}
 use Rattle.yaml_scan.specs.Remaining.{Remaining, nothing}
 use Rattle.yaml_scan.specs.Session.{HasFirst, first_of, others_of, behind_first}
 use Rattle.yaml_scan.specs.Left.{IsTold}
-use Rattle.yaml_round_tokens.specs.declared.record.yaml_c_token.{yaml_c_token}
-use Rattle.yaml_round_tokens.specs.declared.listing.TokenListing.{TokenListing}
-use Rattle.yaml_round_tokens.specs.Listed.{body_texts, record_at, records_from, all_texts, ListsTokens, Adds}
+use Rattle.yaml_round_records.specs.declared.token_record.yaml_c_token.{yaml_c_token}
+use Rattle.yaml_round_records.specs.declared.token_listing.TokenListing.{TokenListing}
+use Rattle.yaml_round_records.specs.TokensListed.{body_texts, record_at, records_from, all_texts, ListsTokens, Adds}
 
 -- one more token's record, behind the others
 records_snoc : (n : ℕ) (ts : List Token) (t : Token)

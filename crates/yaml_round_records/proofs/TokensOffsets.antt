@@ -1,6 +1,6 @@
 -- Each field lies where the header says.
 use Rattle.std.proofs.Common.{refl}
-use Rattle.yaml_round_tokens.specs.Offsets.{TokenLies}
+use Rattle.yaml_round_records.specs.TokensOffsets.{TokenLies}
 
 pub token_lies : TokenLies
 token_lies = record {

@@ -1,9 +1,9 @@
 //! Tokens as records, with the numbers of libyaml's enums.
 
 ghost use Rattle.std.specs.Prelude.{◌≡◌};
-ghost use Rattle.yaml_round_tokens.specs.Listed.{plain, encoding_number, style_number};
+ghost use Rattle.yaml_round_records.specs.TokensListed.{plain, encoding_number, style_number};
 
-use yaml_round_records::{yaml_c_mark, yaml_c_span};
+use crate::record::{yaml_c_mark, yaml_c_span};
 use yaml_scan::{yaml_encoding_t, yaml_scalar_style_t};
 
 /// A token. What its kind doesn't have is 0.

@@ -11,11 +11,11 @@ use Rattle.yaml_scan.specs.Faults.{fault_of, IsMemoryFault, scan_layers}
 use Rattle.yaml_scan.specs.Remaining.{Remaining}
 use Rattle.yaml_scan.specs.Session.{first_of, behind_first}
 use Rattle.yaml_scan.specs.Left.{IsTold}
-use Rattle.yaml_round_records.specs.declared.yaml_c_mark.{yaml_c_mark}
-use Rattle.yaml_round_records.specs.declared.yaml_c_span.{yaml_c_span}
+use Rattle.yaml_round_records.specs.declared.record.yaml_c_mark.{yaml_c_mark}
+use Rattle.yaml_round_records.specs.declared.record.yaml_c_span.{yaml_c_span}
 use Rattle.yaml_round_records.specs.Records.{mark_told}
-use Rattle.yaml_round_tokens.specs.declared.record.yaml_c_token.{yaml_c_token}
-use Rattle.yaml_round_tokens.specs.declared.listing.TokenListing.{TokenListing}
+use Rattle.yaml_round_records.specs.declared.token_record.yaml_c_token.{yaml_c_token}
+use Rattle.yaml_round_records.specs.declared.token_listing.TokenListing.{TokenListing}
 
 -- ---- numbers, which are libyaml's
 

@@ -1,8 +1,8 @@
 -- The first ones are counted, and the others are as they were.
 use Rattle.std.proofs.Common.{◌≡◌, ◌++◌, map, take, drop}
 use Rattle.yaml_round_places.specs.Places.{Counts}
-use Rattle.yaml_round_tokens.specs.Counted.{token_counted}
-use Rattle.yaml_round_tokens.proofs.counted.count_tokens.Given as goal
+use Rattle.yaml_round_records.specs.TokensCounted.{token_counted}
+use Rattle.yaml_round_records.proofs.token_counted.count_tokens.Given as goal
 
 abbrev pub invariant-loop-i : goal.invariant-loop-i
 invariant-loop-i l = record {

@@ -6,10 +6,10 @@ use Rattle.yaml_scan.specs.declared.yaml_scalar_style_t.{yaml_scalar_style_t}
 use Rattle.yaml_scan.specs.declared.yaml_scalar_style_t.TheVariants as style
 use Rattle.yaml_scan.specs.Tokens.{Token, TokenBody, type_of}
 use Rattle.yaml_scan.specs.Tokens as token
-use Rattle.yaml_round_records.specs.declared.yaml_c_mark.{yaml_c_mark}
+use Rattle.yaml_round_records.specs.declared.record.yaml_c_mark.{yaml_c_mark}
 use Rattle.yaml_round_records.specs.Numbers.{numbered, encodings, scalar_styles}
-use Rattle.yaml_round_tokens.specs.Listed.{encoding_number, style_number, body_record, record_at}
-use Rattle.yaml_round_tokens.specs.Rows.{token_kinds}
+use Rattle.yaml_round_records.specs.TokensListed.{encoding_number, style_number, body_record, record_at}
+use Rattle.yaml_round_records.specs.TokensRows.{token_kinds}
 
 pub encoding_is : (e : yaml_encoding_t) → numbered encodings (encoding_number e) ≡ Some e
 encoding_is encoding.YAML_ANY_ENCODING = refl

@@ -93,6 +93,8 @@ IMPLIED = [
     ("yaml_reformat", "a tag that isn't UTF-8 is the input's fault", ["yaml_round_adapter/tag_bytes_replaced"], "the plain reading is of the adapter's tokens"),
     ("yaml_reformat", "want of memory is told with nothing else", ["yaml_parse/memory_fault_with_an_offset", "yaml_parse/memory_fault_with_the_text_of_an_alias", "yaml_round_device/context_of_a_memory_fault"], "`memory_fault` is one definition for all calls"),
     ("yaml_reload", "the same", ["yaml_parse/memory_fault_with_the_text_of_an_alias"], "the same"),
+    ("yaml_parser_initialize", "a fault's text is the definition's, also where code and machine agree on another", ["yaml_parse/wrong_token_told_as_a_directive"], "the fault to come is said by `FaultOfTokens`, whose texts a law, `rows_of_faults_hold`, has in its own words; a parse that answers another fault than the one to come is refused"),
+    ("yaml_parser_initialize", "what is whole when a token comes that is wrong is given before the fault", ["yaml_parse/event_told_as_a_fault"], "the events to come are said by `EventsOfTokens`, whose worked lists a law, `rows_of_events_hold`, has in its own words; a parse that answers a fault where one of them is to come is refused"),
 ]
 
 

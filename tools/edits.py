@@ -93,6 +93,12 @@ IMPLIED = [
     ("yaml_reformat", "a tag that isn't UTF-8 is the input's fault", ["yaml_round_adapter/tag_bytes_replaced"], "the plain reading is of the adapter's tokens"),
     ("yaml_reformat", "want of memory is told with nothing else", ["yaml_parse/memory_fault_with_an_offset", "yaml_parse/memory_fault_with_the_text_of_an_alias", "yaml_round_device/context_of_a_memory_fault"], "`memory_fault` is one definition for all calls"),
     ("yaml_reload", "the same", ["yaml_parse/memory_fault_with_the_text_of_an_alias"], "the same"),
+    ("yaml_read_all", "an input is told as failed only where it has", ["yaml_round/refusal_told_as_a_failed_input"], "`yaml_run` hands its refusal on, and `FailsBy` says of `Read` what `IsReadFault` says"),
+    ("yaml_write_all", "a failed finish is a failed write", ["yaml_round_device/finish_not_called"], "an output whose finish failed isn't finished either, which `finished` wants of each answer that is Ok"),
+    ("yaml_fault_line", "want of memory names its layer", ["yaml_scan/scanners_memory_told_of_the_reader"], "`memory_fault` is one definition for all calls"),
+    ("yaml_std_output_t::put", "a failed output stays failed", ["yaml_round_device/failure_not_kept"], "`failure` says of an output what it says of an input, word for word"),
+    ("yaml_run", "the output is finished behind a whole answer", ["yaml_round_device/finish_not_called"], "`finished` is the clause of `yaml_write_all`, word for word"),
+    ("yaml_diff_documents", "each mark of a place of loaded documents is of its own input's event", ["yaml_round/second_mark_for_the_first"], "`TellsOf` is one record for both calls"),
 ]
 
 

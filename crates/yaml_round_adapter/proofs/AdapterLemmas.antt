@@ -9,9 +9,9 @@ use Rattle.yaml_scan.specs.scan_decode.Encodings.{encoding_of}
 use Rattle.yaml_scan.specs.scan_decode.Decoding.{decoded_text}
 use Rattle.yaml_scan.proofs.DecodeLemmas.{AreBytes}
 use Rattle.yaml_scan.proofs.CompleteLemmas.{decoded_spells}
-use Rattle.yaml_scan_laws_texts.specs.Utf8Texts.{HasTexts}
-use Rattle.yaml_scan_laws_texts.proofs.Decoded.{spelled_utf8}
-use Rattle.yaml_scan_laws_texts.proofs.TokensUtf8.{remaining_sound}
+use Rattle.yaml_round_laws_adapted.specs.scan_laws_texts.Utf8Texts.{HasTexts}
+use Rattle.yaml_round_laws_adapted.proofs.Decoded.{spelled_utf8}
+use Rattle.yaml_round_laws_adapted.proofs.TokensUtf8.{remaining_sound}
 use Rattle.yaml_scan.specs.scan_history.Remaining.{Remaining}
 use Rattle.yaml_scan.specs.Scanned.{scanned_in, scanned}
 use Rattle.yaml_scan.specs.Session as session
@@ -19,7 +19,7 @@ use Rattle.yaml_scan.specs.Session.{View, HoldsLittle, begun, first_of, others_o
 use Rattle.yaml_parse_model.specs.Source.{front_of, rest_of, MayAnswer, HasMore, GivesToken, GivesFault}
 use Rattle.yaml_round_adapter.specs.Adapted.{adapted}
 use Rattle.yaml_round_adapter.specs.Adapter.{Adapter, TakesText, Stops, IsStep, remaining_of}
-use Rattle.yaml_scan_laws_texts.proofs.AdaptedLemmas.{taken, refused, failed}
+use Rattle.yaml_round_laws_adapted.proofs.AdaptedLemmas.{taken, refused, failed}
 
 abbrev pub HaveTexts : Remaining → Type 0
 HaveTexts c = All (λ t. HasTexts t.body) c.tokens

@@ -1,7 +1,7 @@
 -- What a clause sees of an adapter.
 use Rattle.std.specs.Prelude.{◌≡◌, false, All}
 use Rattle.yaml_scan.specs.Session.{HoldsLittle}
-use Rattle.yaml_scan_laws_texts.specs.Utf8Texts.{HasTexts}
+use Rattle.yaml_round_laws_adapted.specs.scan_laws_texts.Utf8Texts.{HasTexts}
 use Rattle.yaml_round_adapter.specs.Adapter.{Adapter}
 use Rattle.yaml_round_adapter.specs.declared.adapter.yaml_adapter_t.TheInside.{Inside}
 

@@ -1,3 +1,3 @@
 pub mod Adapter
 pub mod AdapterView
-pub use Rattle.yaml_scan_laws_texts.specs.Adapted
+pub use Rattle.yaml_round_laws_adapted.specs.Adapted

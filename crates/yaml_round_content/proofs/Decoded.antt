@@ -10,7 +10,7 @@ use Rattle.yaml_round_content.specs.scan_model.Tokens.{Token}
 use Rattle.yaml_round_content.specs.scan_history.Scanned.{scanned_in}
 use Rattle.yaml_round_content.specs.parse_model.Source as source
 use Rattle.yaml_round_content.specs.Input.{tokens_of}
-use Rattle.yaml_round_content.specs.scan_laws_texts.Adapted.{adapted}
+use Rattle.yaml_round_content.specs.round_laws_adapted.Adapted.{adapted}
 use Rattle.yaml_round_content.proofs.AdaptedLemmas.{adapted_utf8}
 use Rattle.yaml_round_content.specs.scan_history.scan_decode.declared.offence.Offence.{Offence}
 use Rattle.yaml_round_content.specs.scan_history.scan_decode.declared.offence.Character.{Character}

@@ -8,7 +8,7 @@ use Rattle.yaml_scan_laws_texts.specs.scan_history.scan_decode.Spelling.{Spells}
 use Rattle.yaml_scan_laws_texts.specs.scan_history.Scanned.{scanned_in}
 use Rattle.yaml_scan_laws_texts.specs.scan_history.Remaining.{Remaining, offline}
 use Rattle.yaml_scan_laws_texts.proofs.CompleteLemmas.{spells_decoded}
-use Rattle.yaml_scan_laws_texts.specs.Adapted.{adapted}
+use Rattle.yaml_round_laws_adapted.specs.Adapted.{adapted}
 use Rattle.yaml_emit_laws_dumps.specs.parse_grammar.Machine.{run, initial}
 use Rattle.yaml_emit_laws_dumps.specs.parse_grammar.Resolve.{Reading, reading, no_directives}
 use Rattle.yaml_round_content.specs.Input.{read, parsed}

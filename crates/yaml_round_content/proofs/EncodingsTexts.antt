@@ -12,7 +12,7 @@ use Rattle.yaml_scan_laws_texts.specs.scan_history.scan_decode.Decoding.{decoded
 use Rattle.yaml_scan_laws_texts.specs.scan_history.scan_decode.Offences.{reader_fault}
 use Rattle.yaml_scan_laws_texts.specs.scan_history.Remaining.{Remaining}
 use Rattle.yaml_scan_laws_texts.specs.scan_history.Scanned.{scanned_in}
-use Rattle.yaml_scan_laws_texts.specs.Adapted.{adapted}
+use Rattle.yaml_round_laws_adapted.specs.Adapted.{adapted}
 use Rattle.yaml_round_content.specs.Reading.{TokensRead}
 use Rattle.yaml_scan_laws_texts.proofs.CompleteLemmas.{spells_decoded, decoded_spells}
 use Rattle.yaml_round_content.specs.EncodingsTexts.{TokensAreOfText, NoTextHasNoToken, ReadingIsOfText}

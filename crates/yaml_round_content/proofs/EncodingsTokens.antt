@@ -12,7 +12,7 @@ use Rattle.yaml_scan_laws_texts.specs.scan_history.declared.Lexeme.{Lexeme}
 use Rattle.yaml_scan_laws_texts.specs.scan_history.declared.Entry.{Entry}
 use Rattle.yaml_scan_laws_texts.specs.scan_history.Next.{next}
 use Rattle.yaml_scan_laws_texts.specs.scan_history.Remaining.{SpelledText, Remaining, body_by, token_in, before, start_tokens, end_tokens, own_tokens, spell, all, handed, kept_of, remaining, offline}
-use Rattle.yaml_scan_laws_texts.specs.Adapted.{spells_text, tag_fault, with_token, cut}
+use Rattle.yaml_round_laws_adapted.specs.Adapted.{spells_text, tag_fault, with_token, cut}
 
 -- ---- alike
 

@@ -63,7 +63,7 @@ pub use Rattle.yaml_emit_laws_dumps.proofs.Turns
 pub use Rattle.yaml_emit_laws_dumps.proofs.Keeps
 pub use Rattle.yaml_emit_laws_dumps.proofs.Loads
 pub use Rattle.yaml_emit_laws_dumps.proofs.Visited
-pub use Rattle.yaml_scan_laws_texts.proofs.AdaptedLemmas
+pub use Rattle.yaml_round_laws_adapted.proofs.AdaptedLemmas
 pub use Rattle.yaml_scan_laws_texts.proofs.CompleteLemmas
 pub use Rattle.yaml_scan_laws_texts.proofs.SpellingLemmas
 pub use Rattle.yaml_scan_laws_texts.proofs.Inputs

@@ -12,7 +12,7 @@ use Rattle.yaml_emit_laws_dumps.specs.emit_layout.Progress.{first_progress}
 use Rattle.yaml_emit_laws_dumps.specs.StreamsLaws.{AreRightTold}
 use Rattle.yaml_emit_laws_dumps.proofs.Passing.{streams, fronts, own_right}
 use Rattle.yaml_emit_laws_dumps.proofs.Loading.{taken}
-use Rattle.yaml_scan_laws_texts.specs.Adapted.{adapted}
+use Rattle.yaml_round_laws_adapted.specs.Adapted.{adapted}
 use Rattle.yaml_round_content.specs.Normalized.{IsNormalizing}
 use Rattle.yaml_round_content.specs.StreamsLaws.{emitter_events_by, IsRightReading, parsed_input, InputsAreStreams, InputsAreFronts, InputsLoadRight}
 use Rattle.yaml_round_content.proofs.Tokens.{cut_spelled}

@@ -6,7 +6,7 @@ use Rattle.yaml_round_content.specs.scan_model.Tokens.{Token}
 use Rattle.yaml_round_content.specs.scan_model.Faults.{Fault}
 use Rattle.yaml_round_content.specs.scan_history.Scanned.{scanned}
 use Rattle.yaml_round_content.specs.Input.{tokens_of}
-use Rattle.yaml_round_content.specs.scan_laws_texts.Adapted.{spells_text, cut}
+use Rattle.yaml_round_content.specs.round_laws_adapted.Adapted.{spells_text, cut}
 use Rattle.yaml_round_content.specs.scan_laws_texts.Spelled.{AreSpelled}
 use Rattle.yaml_round_content.proofs.Inputs.{scanned_spelled}
 

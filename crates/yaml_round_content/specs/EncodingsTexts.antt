@@ -7,7 +7,7 @@ use Rattle.yaml_scan_laws_texts.specs.scan_history.scan_decode.Encodings.{encodi
 use Rattle.yaml_scan_laws_texts.specs.scan_history.scan_decode.Spelling.{Spells, SpellsNothing}
 use Rattle.yaml_scan_laws_texts.specs.scan_history.Remaining.{SpelledText, offline}
 use Rattle.yaml_scan_laws_texts.specs.scan_history.Scanned.{scanned}
-use Rattle.yaml_scan_laws_texts.specs.Adapted.{adapted}
+use Rattle.yaml_round_laws_adapted.specs.Adapted.{adapted}
 use Rattle.yaml_round_content.specs.Said.{Document}
 use Rattle.yaml_round_content.specs.Reading.{TokensRead, PlainReading}
 

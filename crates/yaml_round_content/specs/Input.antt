@@ -7,7 +7,7 @@ use Rattle.yaml_round_content.specs.scan_history.Scanned.{scanned}
 use Rattle.yaml_round_content.specs.parse_grammar.Remaining.{ParserRemaining, reading_of}
 use Rattle.yaml_round_content.specs.parse_grammar.Machine.{run, initial}
 use Rattle.yaml_round_content.specs.parse_grammar.Resolve.{Reading, Told, no_directives}
-use Rattle.yaml_round_content.specs.scan_laws_texts.Adapted.{adapted}
+use Rattle.yaml_round_content.specs.round_laws_adapted.Adapted.{adapted}
 
 -- the scanner's tokens, up to the first tag that isn't UTF-8
 abbrev pub tokens_of : yaml_encoding_t → List ℕ → scan.Remaining

@@ -28,6 +28,7 @@ pub mod EncodingsLaws
 pub mod EncodingsTexts
 -- what it stands on, for crates that name this one alone
 pub use Rattle.yaml_emit_laws_dumps.specs as emit_laws_dumps
+pub use Rattle.yaml_round_laws_adapted.specs as round_laws_adapted
 pub use Rattle.yaml_scan_laws_texts.specs as scan_laws_texts
 pub use Rattle.yaml_scan_laws_texts.specs.scan_history
 pub use Rattle.yaml_scan_laws_texts.specs.scan_history.scan_model

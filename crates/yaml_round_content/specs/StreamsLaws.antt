@@ -13,7 +13,7 @@ use Rattle.yaml_emit_laws_dumps.specs.emit_layout.declared.Expected.TheVariants 
 use Rattle.yaml_emit_laws_dumps.specs.emit_layout.Content.{Event, emitter_event}
 use Rattle.yaml_emit_laws_dumps.specs.emit_layout.Progress.{first_progress, first_refusal}
 use Rattle.yaml_emit_laws_dumps.specs.StreamsLaws.{progress_behind, RightStream, RightFront, AreRightTold}
-use Rattle.yaml_scan_laws_texts.specs.Adapted.{adapted}
+use Rattle.yaml_round_laws_adapted.specs.Adapted.{adapted}
 use Rattle.yaml_round_content.specs.Normalized.{IsNormalizing}
 
 -- the events, each changed so, as an emitter sees them

@@ -7,7 +7,7 @@ use Rattle.yaml_round_laws_documents.specs.scan_decode.Decoding.{decoded_text}
 use Rattle.yaml_round_laws_documents.specs.emit_laws_text.scan_history.Remaining.{Remaining}
 use Rattle.yaml_round_laws_documents.specs.emit_laws_text.scan_history.Scanned.{scanned, scanned_in}
 use Rattle.yaml_round_laws_documents.specs.emit_laws_text.emit_layout.emit_text.Settings.{settled, settled_indent}
-use Rattle.yaml_round_laws_documents.specs.scan_laws_texts.Adapted.{adapted}
+use Rattle.yaml_round_laws_documents.specs.round_laws_adapted.Adapted.{adapted}
 use Rattle.yaml_round_content.specs.Events.{contents}
 use Rattle.yaml_round_content.specs.Input.{events_of, ending_of, read, parsed, tokens_of}
 use Rattle.yaml_round_content.specs.Said.{stream_says}

@@ -12,7 +12,7 @@ use Rattle.yaml_round_content.specs.parse_grammar.Resolve.{Told, Reading}
 use Rattle.yaml_round_content.specs.Said.{HasContent}
 use Rattle.yaml_round_content.specs.Input.{events_of, read, parsed, tokens_of}
 use Rattle.yaml_round_content.proofs.Joining.{said_read, events_of_tree, one_reading}
-use Rattle.yaml_scan_laws_texts.specs.Adapted.{adapted}
+use Rattle.yaml_round_laws_adapted.specs.Adapted.{adapted}
 use Rattle.yaml_round_laws_documents.specs.Adapting.{without_fault}
 use Rattle.yaml_round_laws_documents.specs.TreeLaws.{parsed_of}
 use Rattle.yaml_round_laws_json.specs.Grammar.{Text, IsJsonText}

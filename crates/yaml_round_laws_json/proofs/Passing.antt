@@ -5,7 +5,7 @@ use Rattle.yaml_round_laws_documents.specs.parse_grammar.parse_model.Tokens as t
 use Rattle.yaml_emit_laws_text.specs.emit_layout.Content.{Document, Node, alias_node, scalar_node, sequence_node, mapping_node, Nodes, no_nodes, node, Pairs, no_pairs, pair}
 use Rattle.yaml_emit_laws_text.specs.PrettyBodies.{comma_bodies, json_bodies, json_items, json_pairs, start_bodies, stop_bodies, document_bodies}
 use Rattle.yaml_round_laws_documents.proofs.Passing.{Spell, passes}
-use Rattle.yaml_round_laws_documents.specs.scan_laws_texts.Adapted.{adapted}
+use Rattle.yaml_round_laws_documents.specs.round_laws_adapted.Adapted.{adapted}
 use Rattle.yaml_round_laws_documents.specs.Adapting.{without_fault}
 use Rattle.yaml_round_laws_documents.specs.TreeLaws.{token_bodies}
 use Rattle.yaml_round_laws_documents.specs.parse_grammar.parse_model.declared.yaml_encoding_t.{yaml_encoding_t}

@@ -10,7 +10,7 @@ use Rattle.yaml_emit_laws_text.specs.emit_layout.emit_text.Settings.{settled}
 use Rattle.yaml_round_content.specs.Events.{contents}
 use Rattle.yaml_round_content.specs.Input.{events_of, parsed, tokens_of}
 use Rattle.yaml_round_content.specs.Said.{stream_says}
-use Rattle.yaml_scan_laws_texts.specs.Adapted.{adapted}
+use Rattle.yaml_round_laws_adapted.specs.Adapted.{adapted}
 use Rattle.yaml_round_laws_documents.specs.BytesLaws.{canonical_text, encoding_named}
 use Rattle.yaml_round_laws_documents.specs.TreeLaws.{parsed_of}
 use Rattle.yaml_round_laws_documents.specs.Adapting.{without_fault}

@@ -18,7 +18,7 @@ use Rattle.yaml_emit_laws_text.specs.emit_layout.Nodes.{stream_layout}
 use Rattle.yaml_emit_laws_text.specs.emit_layout.Streams.{IsStream}
 use Rattle.yaml_round_content.specs.Events.{emitter_events, contents}
 use Rattle.yaml_round_content.specs.Input.{events_of, ending_of, read, parsed, tokens_of}
-use Rattle.yaml_scan_laws_texts.specs.Adapted.{adapted}
+use Rattle.yaml_round_laws_adapted.specs.Adapted.{adapted}
 use Rattle.yaml_round_laws_documents.specs.BytesLaws.{canonical_bytes, canonical_text, encoding_named}
 use Rattle.yaml_round_laws_documents.specs.TreeLaws.{token_bodies, parsed_of}
 use Rattle.yaml_round_laws_documents.specs.Adapting.{without_fault}

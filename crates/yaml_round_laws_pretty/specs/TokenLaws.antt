@@ -8,7 +8,7 @@ use Rattle.yaml_emit_laws_text.specs.emit_layout.emit_text.declared.Settings.{Se
 use Rattle.yaml_parse_grammar.specs.Resolve.{Told}
 use Rattle.yaml_emit_laws_text.specs.emit_layout.Content.{Document, stream_events}
 use Rattle.yaml_round_content.specs.Events.{emitter_events, contents}
-use Rattle.yaml_scan_laws_texts.specs.Adapted.{adapted}
+use Rattle.yaml_round_laws_adapted.specs.Adapted.{adapted}
 use Rattle.yaml_round_laws_documents.specs.TreeLaws.{token_bodies, event_bodies, AreParsable, parsed_of}
 use Rattle.yaml_round_laws_documents.specs.Adapting.{HaveTexts, without_fault}
 use Rattle.yaml_emit_laws_pretty.specs.Bodies.{stream_bodies, starts_with_nothing}

@@ -23,7 +23,7 @@ use Rattle.yaml_round_content.specs.Said.{Document}
 use Rattle.yaml_round_content.specs.Reading.{HaveContent}
 use Rattle.yaml_round_content.specs.TreeContent.{tree_content}
 use Rattle.yaml_round_content.specs.Canon.{written_documents, canon_items}
-use Rattle.yaml_scan_laws_texts.specs.Adapted.{adapted}
+use Rattle.yaml_round_laws_adapted.specs.Adapted.{adapted}
 use Rattle.yaml_scan_laws_texts.proofs.TokensUtf8.{remaining_sound}
 use Rattle.yaml_emit_laws_text.specs.Depths.{RootStandsAt}
 use Rattle.yaml_emit_laws_text.specs.Sizes.{unit, ascii, most_of_documents, most_bytes}

@@ -19,7 +19,7 @@ use Rattle.yaml_emit_laws_text.specs.emit_layout.emit_tags.Tags.{suffix_keeps, u
 use Rattle.yaml_emit_laws_text.specs.Sizes.{unit, ascii, larger, text_bytes, most_of_quoted, most_of_char, most_of_escape, most_of_value}
 use Rattle.yaml_emit_laws_text.proofs.SizesCounting.{ascii_bytes}
 use Rattle.yaml_emit_laws_text.proofs.SizesEscapes.{raw_most, two_small, short}
-use Rattle.yaml_scan_laws_texts.specs.Adapted.{spells_text, cut}
+use Rattle.yaml_round_laws_adapted.specs.Adapted.{spells_text, cut}
 use Rattle.yaml_round_content.specs.scan_laws_texts.Utf8Texts.{HasTexts}
 use Rattle.yaml_round_laws_sizes.proofs.Weights.{Weight, weigh}
 use Rattle.yaml_round_laws_sizes.proofs.Spellings.{uri_bytes, text_append}

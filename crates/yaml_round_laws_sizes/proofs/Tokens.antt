@@ -22,7 +22,7 @@ use Rattle.yaml_scan_history.specs.declared.lexeme.Opens.TheVariants as opening
 use Rattle.yaml_scan_history.specs.History.{indent, start_of}
 use Rattle.yaml_scan_history.specs.Words.{word_at, body_said, valued, tagged, directed, blocked, plainly}
 use Rattle.yaml_scan_history.specs.Remaining.{SpelledText, body_of_word, body_by, all, offline}
-use Rattle.yaml_scan_laws_texts.specs.Adapted.{cut}
+use Rattle.yaml_round_laws_adapted.specs.Adapted.{cut}
 use Rattle.yaml_round_laws_sizes.proofs.Leads.{leads}
 use Rattle.yaml_round_laws_sizes.proofs.Lexemes.{own, outside, apart, worth, worths}
 use Rattle.yaml_round_laws_sizes.proofs.Paying.{all_paid}

@@ -17,7 +17,7 @@ use Rattle.yaml_scan_history.specs.History.{Candidate, candidate, entries, mark_
 use Rattle.yaml_scan_history.specs.Next.{Next, Read, Fails, Ends, next}
 use Rattle.yaml_scan_history.specs.Remaining.{SpelledText, body_in, before, start_tokens, end_tokens, own_tokens, spell, all, handed_out, handed, front_ends, kept_of, remaining, offline}
 use Rattle.yaml_scan_history.proofs.HistoryLemmas.{candidate-more, candidate_below, length-keyed, length-entries, fresh_is}
-use Rattle.yaml_scan_laws_texts.specs.Adapted.{spells_text, cut}
+use Rattle.yaml_round_laws_adapted.specs.Adapted.{spells_text, cut}
 
 abbrev pub Weight : Type 0
 Weight = TokenBody → ℕ

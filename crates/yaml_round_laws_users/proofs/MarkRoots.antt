@@ -25,7 +25,7 @@ use Rattle.yaml_round_content.specs.parse_grammar.Trees as tree
 use Rattle.yaml_round_content.specs.parse_grammar.TreeSteps.{items, items_node, items_content, items_directives, items_documents, items_first}
 use Rattle.yaml_round_content.specs.parse_grammar.Resolve.{Directives, no_directives, Settled, refused, gave, noted, resolved, directive_for, with_resolved, with_tag, with_version, is_known_version, is_plain, node_event, Reading, read_on, reading}
 use Rattle.yaml_round_content.specs.scan_laws_texts.Spelled.{IsSome, AreSpelled}
-use Rattle.yaml_round_content.specs.scan_laws_texts.Adapted.{spells_text, cut}
+use Rattle.yaml_round_content.specs.round_laws_adapted.Adapted.{spells_text, cut}
 use Rattle.yaml_round_content.specs.scan_history.Scanned.{scanned}
 use Rattle.yaml_round_content.specs.Normalize.{is_lone_mark, normalize_scalar, normalize_body}
 use Rattle.yaml_round_content.specs.Events.{emitter_events}

@@ -28,7 +28,7 @@ use Rattle.yaml_round_content.specs.scan_history.Remaining.{SpelledText, body_of
 use Rattle.yaml_round_content.specs.scan_history.Scanned.{scanned_in, scanned}
 use Rattle.yaml_round_content.specs.scan_history.scan_decode.Encodings.{encoding_of}
 use Rattle.yaml_round_content.specs.scan_history.scan_decode.Decoding.{decoded_text}
-use Rattle.yaml_round_content.specs.scan_laws_texts.Adapted.{spells_text, cut}
+use Rattle.yaml_round_content.specs.round_laws_adapted.Adapted.{spells_text, cut}
 use Rattle.yaml_round_content.specs.Input.{tokens_of}
 use Rattle.yaml_emit_laws_pretty.specs.Bodies.{is_empty}
 use Rattle.yaml_round_laws_pretty.specs.Flags.{is_asked_plain}

@@ -8,7 +8,7 @@ use Rattle.yaml_round_content.specs.scan_history.scan_words.Indicators.{is_docum
 use Rattle.yaml_round_content.specs.parse_grammar.declared.ParseProblem.TheVariants.{NoDocumentStart}
 use Rattle.yaml_round_content.specs.parse_grammar.Problems.{parser_fault}
 use Rattle.yaml_round_content.specs.parse_grammar.Resolve.{Reading}
-use Rattle.yaml_round_content.specs.scan_laws_texts.Adapted.{spells_text, cut}
+use Rattle.yaml_round_content.specs.round_laws_adapted.Adapted.{spells_text, cut}
 use Rattle.yaml_scan_laws_windows.specs.Cuts.{IsCut}
 use Rattle.yaml_scan_laws_windows.specs.Laws.{scan_of}
 use Rattle.yaml_scan_laws_windows.proofs.Refused.{refused_fronts_are_scanned}

@@ -9,7 +9,7 @@ use Rattle.yaml_round_content.specs.scan_model.Tokens.{Token, TokenBody}
 use Rattle.yaml_round_content.specs.scan_model.Tokens as token
 use Rattle.yaml_round_content.specs.scan_history.Remaining.{Remaining}
 use Rattle.yaml_round_content.specs.parse_grammar.Resolve.{Reading}
-use Rattle.yaml_round_content.specs.scan_laws_texts.Adapted.{spells_text, cut}
+use Rattle.yaml_round_content.specs.round_laws_adapted.Adapted.{spells_text, cut}
 use Rattle.yaml_scan_laws_windows.specs.Cuts.{EndsIn, IsCut, IsEndLine}
 use Rattle.yaml_scan_laws_windows.specs.Laws.{scan_of}
 use Rattle.yaml_scan_laws_windows.proofs.Feeding.{front_mark}

@@ -20,7 +20,7 @@ use Rattle.yaml_round_content.specs.parse_grammar.Resolve.{Reading, no_directive
 use Rattle.yaml_scan_laws_windows.specs.Cuts.{IsCut, IsEndCut, LeadsToDirective}
 use Rattle.yaml_round_content.specs.parse_model.Events.{Event}
 use Rattle.yaml_round_content.specs.parse_model.Events as event
-use Rattle.yaml_round_content.specs.scan_laws_texts.Adapted.{spells_text, with_token, cut}
+use Rattle.yaml_round_content.specs.round_laws_adapted.Adapted.{spells_text, with_token, cut}
 use Rattle.yaml_scan_laws_windows.specs.Laws.{scan_of}
 use Rattle.yaml_scan_laws_windows.specs.Moved.{moved_mark, moved_token, moved_fault}
 use Rattle.yaml_scan_laws_windows.proofs.Windows.{windows_are_scanned, at_cut}

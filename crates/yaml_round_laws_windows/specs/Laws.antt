@@ -11,7 +11,7 @@ use Rattle.yaml_round_content.specs.parse_model.Events.{Event, stream_start, str
 use Rattle.yaml_round_content.specs.parse_grammar.declared.ParseProblem.TheVariants.{NoDocumentStart}
 use Rattle.yaml_round_content.specs.parse_grammar.Problems.{parser_fault}
 use Rattle.yaml_round_content.specs.parse_grammar.Resolve.{Reading, Told}
-use Rattle.yaml_round_content.specs.scan_laws_texts.Adapted.{adapted}
+use Rattle.yaml_round_content.specs.round_laws_adapted.Adapted.{adapted}
 use Rattle.yaml_round_content.specs.Input.{parsed}
 use Rattle.yaml_scan_laws_windows.specs.Cuts.{IsCut, IsEndCut, LeadsToDirective}
 use Rattle.yaml_scan_laws_windows.specs.Laws.{scan_of}

@@ -16,7 +16,6 @@ are_scalars (c ∷ cs) h =
     let rest = are_scalars cs (All-tail (λ x. is_allowed x ≡ true) c cs h) in
     rw (own, rest) refl
 
--- What a stream's bytes spell is UTF-8.
 pub spelled_utf8 : (setting : yaml_encoding_t) (bytes text : List ℕ) → Spells setting bytes text
     → IsUtf8 text
 spelled_utf8 setting bytes text s = (s.characters, (are_scalars s.characters s.allowed, sym s.is))

@@ -19,7 +19,6 @@ pub mod TokensUtf8
 pub mod Decoded
 pub mod Lines
 pub mod Directives
-pub mod AdaptedLemmas
 -- what it stands on, for crates that name this one alone
 pub use Rattle.yaml_scan_history.proofs.CompleteLemmas
 pub use Rattle.yaml_scan_history.proofs.SpellingLemmas

@@ -8,7 +8,5 @@ pub mod Utf8Laws
 pub mod Values
 pub mod PlainLaws
 pub mod WordsLaws
-pub mod Adapted
-pub mod AdaptedLaws
 -- what it stands on, for crates that name this one alone
 pub use Rattle.yaml_scan_laws_order.specs.scan_history

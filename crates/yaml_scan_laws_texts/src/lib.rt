@@ -1,17 +1,15 @@
 //! Laws of texts in which no `:` meets a candidate: their tokens are those of their lexemes, in order. No code.
 //! Laws of spelling: names are alphas, handles are `!` or `!alphas!`, prefixes and suffixes have a byte at least. No code.
 //! Laws of texts: what a stream's bytes spell is UTF-8, and so are its tokens' texts, but those that escapes spell byte by
-//! byte; and the tokens of a session as a parser takes them, up to the first tag that isn't UTF-8. No code.
+//! byte. No code.
 //! Laws of words that are written: directives with their lines, and `!` alone; beside them the laws of gaps and names. No code.
 #![tactic(auto)]
 
-mod adapted_laws;
 mod keys_laws;
 mod names_laws;
 mod utf8_laws;
 mod words_laws;
 
-pub use adapted_laws::{adapted_is_utf8, fault_is_given, front_is_given, tag_is_refused};
 pub use keys_laws::{
     asked_have_no_candidate, key_free_is_level_free, key_free_texts_are_bare,
     key_free_tokens_are_own, none_is_required, word_is_read, words_are_lexemes, words_are_read,

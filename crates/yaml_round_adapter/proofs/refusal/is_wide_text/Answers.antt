@@ -1,4 +1,4 @@
-use Rattle.yaml_scan_laws_texts.proofs.AdaptedLemmas.{same_test}
+use Rattle.yaml_round_laws_adapted.proofs.AdaptedLemmas.{same_test}
 use Rattle.yaml_round_adapter.proofs.refusal.is_wide_text.Goals as goal
 
 pub returns : goal.returns

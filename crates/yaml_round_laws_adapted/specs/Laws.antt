@@ -2,10 +2,10 @@
 use Rattle.std.specs.Prelude.{ℕ, ◌≡◌, ◌⊎◌, true, false, [], None, Some, IsUtf8, All}
 use Rattle.yaml_parse_model.specs.Tokens.{Token}
 use Rattle.yaml_parse_model.specs.Faults.{Fault, IsMemoryFault, scan_layers}
-use Rattle.yaml_scan_laws_order.specs.scan_history.Remaining.{SpelledText, Remaining, remaining}
+use Rattle.yaml_scan_laws_texts.specs.scan_history.Remaining.{SpelledText, Remaining, remaining}
 use Rattle.yaml_scan_laws_texts.specs.Utf8Texts.{HasTexts}
 use Rattle.yaml_parse_model.specs.Source.{front_of, rest_of, MayAnswer, HasMore, HasUtf8, GivesToken, GivesFault}
-use Rattle.yaml_scan_laws_texts.specs.Adapted.{spells_text, tag_fault, adapted}
+use Rattle.yaml_round_laws_adapted.specs.Adapted.{spells_text, tag_fault, adapted}
 
 -- Its texts are UTF-8.
 abbrev pub AdaptedIsUtf8 : Type 0

@@ -7,11 +7,11 @@ use Rattle.std.proofs.lemmas.List.Elements.{All-nil, All-cons, All-head, All-tai
 use Rattle.yaml_parse_model.specs.Tokens as token
 use Rattle.yaml_parse_model.specs.Tokens.{Token, TokenBody}
 use Rattle.yaml_parse_model.specs.Faults.{Fault, IsMemoryFault, scan_layers}
-use Rattle.yaml_scan_laws_order.specs.scan_history.Remaining.{SpelledText, Remaining, remaining}
+use Rattle.yaml_scan_laws_texts.specs.scan_history.Remaining.{SpelledText, Remaining, remaining}
 use Rattle.yaml_scan_laws_texts.specs.Utf8Texts.{HasTexts}
 use Rattle.yaml_scan_laws_texts.proofs.TokensUtf8.{remaining_sound}
 use Rattle.yaml_parse_model.specs.Source.{front_of, rest_of, MayAnswer, HasMore, HasUtf8, GivesToken, GivesFault}
-use Rattle.yaml_scan_laws_texts.specs.Adapted.{spells_text, tag_fault, cut, adapted}
+use Rattle.yaml_round_laws_adapted.specs.Adapted.{spells_text, tag_fault, cut, adapted}
 
 -- what escapes spell, and all other texts
 body_utf8 : (b : TokenBody) → HasTexts b → spells_text b ≡ true → HasUtf8 b

@@ -1,6 +1,6 @@
 //! Each function's contract is a law.
 
-ghost use Rattle.yaml_scan_laws_texts.specs.AdaptedLaws.{
+ghost use Rattle.yaml_round_laws_adapted.specs.Laws.{
   AdaptedIsUtf8,
   FrontIsGiven,
   TagIsRefused,

@@ -7,7 +7,7 @@ use Rattle.yaml_parse_model.specs.declared.yaml_origin_t.TheVariants.{Adapter}
 use Rattle.yaml_parse_model.specs.Tokens as token
 use Rattle.yaml_parse_model.specs.Tokens.{Token, TokenBody}
 use Rattle.yaml_parse_model.specs.Faults.{Fault}
-use Rattle.yaml_scan_laws_order.specs.scan_history.Remaining.{Remaining}
+use Rattle.yaml_scan_laws_texts.specs.scan_history.Remaining.{Remaining}
 
 -- What escapes spell byte by byte is UTF-8: a tag's suffix, and a directive's prefix.
 abbrev pub spells_text : TokenBody → Bool

@@ -1,0 +1,4 @@
+pub mod AdaptedLemmas
+-- what it stands on, for crates that name this one alone
+pub use Rattle.yaml_scan_laws_texts.proofs.Decoded
+pub use Rattle.yaml_scan_laws_texts.proofs.TokensUtf8

@@ -85,6 +85,9 @@ No edit turns these meanings at their own call, since the prover would let none 
 """
 # The call, the meaning, the edits that imply it, and why they do.
 IMPLIED = [
+    ("yaml_parser_scan", "an alias is told as one", ["yaml_scan/value_ended_by_two_quotes"], "`Takes` says by one equation which token is given: its kind and its texts"),
+    ("yaml_parser_scan_into", "a scan into a slot puts the next token there", ["yaml_round_adapter/next_token_is_the_empty_one"], "the adapter's clause follows from this call's alone: where this one let the empty token through, so would that one"),
+    ("yaml_adapter_t::next_token_into", "want of memory is told of a layer that scans", ["yaml_round_adapter/tags_fault_told_as_memory"], "the clause of all sources lets want of memory of such a layer through, so what refuses it is `Stops`: the fault is as a whole the session's own, or its tag's"),
     ("yaml_diff", "a fault of two inputs that are compared names the input that has it", ["yaml_round/sides_turned"], "`IsDiff` says of a fault what `IsSame` says"),
     ("yaml_diff", "nothing is answered only where the contents are the same", ["yaml_round/differing_told_alike"], "`IsDiff` says of nothing what `IsSame` says of true: `SameContent`"),
     ("yaml_check", "an input that is refused does not load", ["yaml_round/events_alone_checked"], "it accepts some of these"),

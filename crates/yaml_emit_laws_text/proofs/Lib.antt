@@ -44,3 +44,5 @@ pub mod SizesLaid
 pub use Rattle.yaml_scan_laws_texts.proofs.MarksLemmas
 pub use Rattle.yaml_scan_laws_texts.proofs.GapsRead
 pub use Rattle.yaml_scan_laws_texts.proofs.HasLemmas
+pub use Rattle.yaml_scan_scalars.proofs.scan_model.RunsLemmas
+pub use Rattle.yaml_scan_scalars.proofs.PlainLemmas

@@ -1,10 +1,10 @@
 -- Tokens that are alike make events that say the same.
 use Rattle.std.proofs.Common.{◌≡◌, ◌⊎◌, inl, inr, ℕ, true, List, [], ◌∷◌, ◌++◌, length, map, Option, Some, None, refl, sym, ap, subst}
-use Rattle.yaml_scan_laws_texts.specs.scan_history.scan_model.declared.yaml_encoding_t.{yaml_encoding_t}
-use Rattle.yaml_scan_laws_texts.specs.scan_history.scan_model.declared.yaml_encoding_t.TheVariants.{YAML_ANY_ENCODING}
-use Rattle.yaml_scan_laws_texts.specs.scan_history.scan_model.declared.yaml_mark_t.{yaml_mark_t}
-use Rattle.yaml_scan_laws_texts.specs.scan_history.scan_model.Tokens.{Token, type_of}
-use Rattle.yaml_scan_laws_texts.specs.scan_history.scan_model.Faults.{Fault}
+use Rattle.yaml_round_laws_adapted.specs.scan_laws_texts.scan_history.scan_model.declared.yaml_encoding_t.{yaml_encoding_t}
+use Rattle.yaml_round_laws_adapted.specs.scan_laws_texts.scan_history.scan_model.declared.yaml_encoding_t.TheVariants.{YAML_ANY_ENCODING}
+use Rattle.yaml_round_laws_adapted.specs.scan_laws_texts.scan_history.scan_model.declared.yaml_mark_t.{yaml_mark_t}
+use Rattle.yaml_round_laws_adapted.specs.scan_laws_texts.scan_history.scan_model.Tokens.{Token, type_of}
+use Rattle.yaml_round_laws_adapted.specs.scan_laws_texts.scan_history.scan_model.Faults.{Fault}
 use Rattle.yaml_emit_laws_dumps.specs.parse_model.Events.{EventBody}
 use Rattle.yaml_emit_laws_dumps.specs.parse_model.Events as event
 use Rattle.yaml_emit_laws_dumps.specs.parse_grammar.Items.{RawEvent}

@@ -1,13 +1,13 @@
 -- Two spellings of one text are read alike.
 use Rattle.std.proofs.Common.{◌≡◌, ℕ, List, Option, Result, sym, ap, subst}
-use Rattle.yaml_scan_laws_texts.specs.scan_history.scan_model.declared.yaml_encoding_t.{yaml_encoding_t}
-use Rattle.yaml_scan_laws_texts.specs.scan_history.scan_decode.declared.offence.Offence.{Offence}
-use Rattle.yaml_scan_laws_texts.specs.scan_history.scan_decode.Encodings.{encoding_of}
-use Rattle.yaml_scan_laws_texts.specs.scan_history.scan_model.Faults.{Fault}
-use Rattle.yaml_scan_laws_texts.specs.scan_history.scan_decode.Spelling.{Spells}
-use Rattle.yaml_scan_laws_texts.specs.scan_history.Scanned.{scanned_in}
-use Rattle.yaml_scan_laws_texts.specs.scan_history.Remaining.{Remaining, offline}
-use Rattle.yaml_scan_laws_texts.proofs.CompleteLemmas.{spells_decoded}
+use Rattle.yaml_round_laws_adapted.specs.scan_laws_texts.scan_history.scan_model.declared.yaml_encoding_t.{yaml_encoding_t}
+use Rattle.yaml_round_laws_adapted.specs.scan_laws_texts.scan_history.scan_decode.declared.offence.Offence.{Offence}
+use Rattle.yaml_round_laws_adapted.specs.scan_laws_texts.scan_history.scan_decode.Encodings.{encoding_of}
+use Rattle.yaml_round_laws_adapted.specs.scan_laws_texts.scan_history.scan_model.Faults.{Fault}
+use Rattle.yaml_round_laws_adapted.specs.scan_laws_texts.scan_history.scan_decode.Spelling.{Spells}
+use Rattle.yaml_round_laws_adapted.specs.scan_laws_texts.scan_history.Scanned.{scanned_in}
+use Rattle.yaml_round_laws_adapted.specs.scan_laws_texts.scan_history.Remaining.{Remaining, offline}
+use Rattle.yaml_round_laws_adapted.proofs.CompleteLemmas.{spells_decoded}
 use Rattle.yaml_round_laws_adapted.specs.Adapted.{adapted}
 use Rattle.yaml_emit_laws_dumps.specs.parse_grammar.Machine.{run, initial}
 use Rattle.yaml_emit_laws_dumps.specs.parse_grammar.Resolve.{Reading, reading, no_directives}

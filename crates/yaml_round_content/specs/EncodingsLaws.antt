@@ -1,11 +1,11 @@
 -- How a text is spelled in bytes is no part of what it says.
 use Rattle.std.specs.Prelude.{◌≡◌, ℕ, List, [], ◌∷◌, ◌++◌}
 use Rattle.std.specs.List.{AllPass}
-use Rattle.yaml_scan_laws_texts.specs.scan_history.scan_model.declared.yaml_encoding_t.{yaml_encoding_t}
-use Rattle.yaml_scan_laws_texts.specs.scan_history.scan_model.declared.yaml_encoding_t.TheVariants.{YAML_ANY_ENCODING, YAML_UTF8_ENCODING, YAML_UTF16LE_ENCODING, YAML_UTF16BE_ENCODING}
-use Rattle.yaml_scan_laws_texts.specs.scan_history.scan_decode.Characters.{is_allowed}
-use Rattle.yaml_scan_laws_texts.specs.scan_history.scan_decode.Encodings.{mark_length}
-use Rattle.yaml_scan_laws_texts.specs.scan_history.scan_decode.Spelling.{Spells, spellings}
+use Rattle.yaml_round_laws_adapted.specs.scan_laws_texts.scan_history.scan_model.declared.yaml_encoding_t.{yaml_encoding_t}
+use Rattle.yaml_round_laws_adapted.specs.scan_laws_texts.scan_history.scan_model.declared.yaml_encoding_t.TheVariants.{YAML_ANY_ENCODING, YAML_UTF8_ENCODING, YAML_UTF16LE_ENCODING, YAML_UTF16BE_ENCODING}
+use Rattle.yaml_round_laws_adapted.specs.scan_laws_texts.scan_history.scan_decode.Characters.{is_allowed}
+use Rattle.yaml_round_laws_adapted.specs.scan_laws_texts.scan_history.scan_decode.Encodings.{mark_length}
+use Rattle.yaml_round_laws_adapted.specs.scan_laws_texts.scan_history.scan_decode.Spelling.{Spells, spellings}
 use Rattle.yaml_round_content.specs.Events.{contents}
 use Rattle.yaml_round_content.specs.Input.{events_of, ending_of}
 

@@ -3,16 +3,18 @@ use Rattle.std.proofs.Common.{ℕ, ◌≡◌, ◌≤◌, length, Bool, true, fal
 use Rattle.std.proofs.lemmas.Bool.Decides.{nat_tests}
 use Rattle.std.specs.Prelude.{is_some}
 use Rattle.yaml_scan_model.specs.declared.fault.yaml_fault_t.{yaml_fault_t}
+use Rattle.yaml_scan_model.specs.declared.name.yaml_encoding_t.{yaml_encoding_t}
 use Rattle.yaml_scan_model.specs.declared.token.yaml_token_t.{yaml_token_t}
 use Rattle.yaml_scan_model.specs.Tokens.{Token, token_of, no_token}
 use Rattle.yaml_scan_model.specs.Faults.{Fault, fault_of}
 use Rattle.yaml_scan_history.specs.Remaining.{Remaining, nothing}
+use Rattle.yaml_scan_history.specs.Scanned.{scanned}
 use Rattle.yaml_scan_machine.specs.scan_laws_order.Fronts.{GivesFirst}
 use Rattle.yaml_scan_machine.specs.declared.machine.Machine.{Machine}
 use Rattle.yaml_scan_machine.specs.State.{IsShort, IsMachine, is_ready}
 use Rattle.yaml_scan_machine.specs.Left.{left_in}
 use Rattle.yaml_scan_machine.proofs.TakeLemmas.{ready_gives}
-use Rattle.yaml_scan.specs.Session.{View, HasFirst, ReadsNeeded, Takes, Lends, Refuses, ScansInto, MayAnswer, first_of, behind_first, is_settled}
+use Rattle.yaml_scan.specs.Session.{View, HasFirst, ReadsNeeded, Takes, Lends, Refuses, ScansInto, MayAnswer, begun, first_of, behind_first, is_settled}
 use Rattle.yaml_scan.specs.Settled.{open_count}
 use Rattle.yaml_scan.specs.Found.{ReadsAsNeeded, Gives, Lacks, Denies, read_by}
 use Rattle.yaml_scan.proofs.SettledLemmas.{machine_tells}
@@ -271,3 +273,9 @@ pub scan_refuses : (old new : View) (b : Bool) (t : Token) (f : Fault) → b ≡
     → ScansInto old new b t f → Refuses old f new
 scan_refuses old new true t f e s = cc
 scan_refuses old new false t f e s = s
+
+-- what a new session stands for
+pub begins : (s e : yaml_encoding_t) (b i x : List ℕ) (r w l : ℕ) (m : Remaining) → s ≡ e → b ≡ i
+    → r ≡ 0 → m ≡ scanned e i → w ≡ 0 → l ≡ 0 → x ≡ []
+    → record { setting = s; bytes = b; read = r; remaining = m; answered = None; waiting = w; slots = l; spares = x } ≡ begun e i
+begins s e b i x r w l m setting bytes read left waiting slots spares = rw (setting, bytes, read, left, waiting, slots, spares) refl

@@ -34,6 +34,12 @@ invariant_of-parser-in-Known c =
     let s = c.parser.inside in
     whole_taken s.fault s.aside s.machine c.next_into.new.machine s.shown c.parser.invariant c.in-Known.ensures.stands
 
+pub returns-in-Nothing-clause-scans : goal.returns-in-Nothing-clause-scans
+returns-in-Nothing-clause-scans c =
+    let s = c.parser.inside in
+    let n = c.next_into.new.machine in
+    rw (← c.parser.view_is) (takes_none (rooms_of s.spares) (rooms_of c.next_into.new.spares) s.fault s.aside (token_of s.shown) (token_of c.next_into.new.token) s.machine n (none_some s.fault (c.parser.invariant.free c.if-parser.false)) c.if-parser.false c.in-Nothing.ensures)
+
 pub invariant_of-parser-in-Nothing : goal.invariant_of-parser-in-Nothing
 invariant_of-parser-in-Nothing c =
     let s = c.parser.inside in
@@ -43,12 +49,6 @@ pub invariant_of-parser-in-Refused : goal.invariant_of-parser-in-Refused
 invariant_of-parser-in-Refused c =
     let s = c.parser.inside in
     whole_refused c.keep.new.slot c.next_into.new.machine s.shown s.shown c.next_into.new.fault c.keep.ensures refl (c.parser.invariant.idle c.if-parser.false) c.in-Refused.ensures.denies.few
-
-pub returns-in-Nothing-clause-scans : goal.returns-in-Nothing-clause-scans
-returns-in-Nothing-clause-scans c =
-    let s = c.parser.inside in
-    let n = c.next_into.new.machine in
-    rw (← c.parser.view_is) (takes_none (rooms_of s.spares) (rooms_of c.next_into.new.spares) s.fault s.aside (token_of s.shown) (token_of c.next_into.new.token) s.machine n (none_some s.fault (c.parser.invariant.free c.if-parser.false)) c.if-parser.false c.in-Nothing.ensures)
 
 pub returns-in-Refused-clause-scans : goal.returns-in-Refused-clause-scans
 returns-in-Refused-clause-scans c =

@@ -10,3 +10,5 @@ mod walk;
 
 pub use bracket::Bracket;
 pub use graph::Events;
+pub use numbers::{Numbers, Walked, number_of};
+pub use walk::{Turn, place_of};

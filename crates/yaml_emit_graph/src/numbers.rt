@@ -8,7 +8,7 @@ use crate::walk::{Turn, Walk, place_of};
 use std::alloc::{AllocError, Global};
 use yaml_parse_document::yaml_document_t;
 
-/// The turns of a walk over a document's nodes, and the number of each node by its place; 0 stands for none.
+/// The turns of a walk over nodes, and the number of each node by its place; 0 stands for none.
 #[derive(Drop)]
 pub struct Walked {
     pub turns: Vec<Turn>,
@@ -18,8 +18,8 @@ pub struct Walked {
 /// How many numbers were given, and the number of each node by its place; 0 stands for none.
 #[derive(Drop)]
 pub struct Numbers {
-    given: u64,
-    table: Vec<u64>,
+    pub given: u64,
+    pub table: Vec<u64>,
 }
 
 fn number_in(table: &[u64], at: usize) -> u64
@@ -39,7 +39,8 @@ pub fn number_of(table: &[u64], id: i32) -> u64
 }
 
 impl Numbers {
-    fn none(alloc: Global, count: usize) -> Result<Numbers, AllocError>
+    /// No number is given, of so many nodes.
+    pub fn none(alloc: Global, count: usize) -> Result<Numbers, AllocError>
         ensures { IfOk result (λ n. numbering_of n ≡ none_numbered count) }
     {
         Ok(Numbers {
@@ -83,7 +84,8 @@ impl Numbers {
         }
     }
 
-    fn number_turn(&mut self, turn: Turn)
+    /// A node that is met again gets the next number, where it has none.
+    pub fn number_turn(&mut self, turn: Turn)
         requires numbers { IsNumbering (numbering_of self.old) }
         ensures gives { numbering_of self.new ≡ numbered_by turn (numbering_of self.old) }
         ensures numbers { IsNumbering (numbering_of self.new) }

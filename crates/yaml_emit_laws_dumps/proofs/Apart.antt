@@ -3,8 +3,8 @@ use Rattle.std.proofs.Common.{◌≡◌, ◌≢◌, ◌<◌, ◌≤◌, ◌==◌
 use Rattle.std.specs.Prelude.{set, replicate}
 use Rattle.std.proofs.lemmas.Bool.{cases_Bool, cases_eq}
 use Rattle.std.proofs.lemmas.Bool.Decides.{nat_tests}
-use Rattle.yaml_emit_graph.specs.declared.walk.Turn.{Turn}
-use Rattle.yaml_emit_graph.specs.declared.walk.Turn.TheVariants.{First, Again, Leave}
+use Rattle.yaml_emit_graph.specs.declared.Turn.{Turn}
+use Rattle.yaml_emit_graph.specs.declared.Turn.TheVariants.{First, Again, Leave}
 use Rattle.yaml_emit_graph.specs.Graph.{place_at, Numbering, next_number, again_at, numbered_by, numbered, none_numbered}
 use Rattle.yaml_emit_graph.specs.Numbers.{counted}
 use Rattle.yaml_emit_laws_dumps.specs.Dumps.{AreApart, MeetsAgain}

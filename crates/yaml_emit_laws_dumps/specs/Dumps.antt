@@ -11,8 +11,8 @@ use Rattle.yaml_parse_loader.specs.Numbering.{Head, Span, Content, Contents, Doc
 use Rattle.yaml_parse_loader.specs.Numbering as numbering
 use Rattle.yaml_parse_loader.specs.Order.{VisitsInPreorder, done, again, first, IsInPreorder}
 use Rattle.yaml_emit_graph.specs.emit_layout.Content as emit
-use Rattle.yaml_emit_graph.specs.declared.walk.Turn.{Turn}
-use Rattle.yaml_emit_graph.specs.declared.walk.Turn.TheVariants.{Again}
+use Rattle.yaml_emit_graph.specs.declared.Turn.{Turn}
+use Rattle.yaml_emit_graph.specs.declared.Turn.TheVariants.{Again}
 use Rattle.yaml_emit_graph.specs.Graph.{Met, number_at, anchor_of, Numbering}
 use Rattle.yaml_emit_graph.specs.Onward.{items_by, content_by}
 

@@ -7,7 +7,7 @@ use Rattle.yaml_parse_loader.specs.Loading.{Loading, load}
 use Rattle.yaml_parse_loader.specs.Loading as loading
 use Rattle.yaml_parse_loader.specs.Numbering.{DocumentContent, document_of, document_events, last_with}
 use Rattle.yaml_parse_loader.specs.Order.{VisitsInPreorder, IsInPreorder}
-use Rattle.yaml_emit_graph.specs.declared.walk.Turn.{Turn}
+use Rattle.yaml_emit_graph.specs.declared.Turn.{Turn}
 use Rattle.yaml_emit_graph.specs.Graph.{IsWhole, walked, turns, number_at, name_of, numbered, none_numbered, numbers, graph_content}
 use Rattle.yaml_emit_laws_dumps.specs.Dumps.{core_document, as_document, AreLoadedNodes, IsLoadedDocument, AgainsAre, MeetsAgain, IsNumbered, AreApart, before_at, NumbersBack}
 

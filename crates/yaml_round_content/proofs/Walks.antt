@@ -8,8 +8,8 @@ use Rattle.yaml_round_content.specs.scan_model.Tokens.{zero_mark}
 use Rattle.yaml_round_content.specs.parse_model.Nodes as model
 use Rattle.yaml_round_content.specs.parse_laws_trees.parse_document.Documents as documents
 use Rattle.yaml_round_content.specs.emit_layout.Content as emit
-use Rattle.yaml_round_content.specs.emit_laws_dumps.emit_graph.declared.walk.Turn.{Turn}
-use Rattle.yaml_round_content.specs.emit_laws_dumps.emit_graph.declared.walk.Turn.TheVariants.{First, Again}
+use Rattle.yaml_round_content.specs.emit_laws_dumps.emit_graph.declared.Turn.{Turn}
+use Rattle.yaml_round_content.specs.emit_laws_dumps.emit_graph.declared.Turn.TheVariants.{First, Again}
 use Rattle.yaml_round_content.specs.emit_laws_dumps.emit_graph.Graph.{Met, is_met, meet, body_at, tag_at, body_of_id, tag_of_id, none_met, turns, none_numbered, numbered, numbers, number_at, anchor_of, graph_root, graph_content}
 use Rattle.yaml_round_content.specs.emit_laws_dumps.emit_graph.Onward.{Rest, inside, visits, nothing_left, items_by, pairs_by, node_by, content_by, itself, turns_onward, root_onward}
 use Rattle.yaml_round_content.proofs.ContentJoining.{turns_joined, root_joined}

@@ -3,34 +3,26 @@ use Rattle.std.proofs.Common.{◌≡◌, ℕ, ◌+◌, ◌<◌, ◌≤◌, List,
 use Rattle.std.proofs.lemmas.List.{map-append, take_more, take_all}
 use Rattle.yaml_round_nodes.specs.declared.record.yaml_c_graph.{yaml_c_graph}
 use Rattle.yaml_round_nodes.specs.declared.record.yaml_c_turn.{yaml_c_turn}
-use Rattle.yaml_round_nodes.specs.declared.walk.Turn.{Turn}
-use Rattle.yaml_round_nodes.specs.Walk.{turn_of}
+use Rattle.yaml_emit_graph.specs.declared.Turn.{Turn}
 use Rattle.yaml_round_nodes.specs.Turns.{turn_by}
 
 pub told_start : (g : yaml_c_graph) (table : List ℕ) (ts : List Turn) (out : List yaml_c_turn)
-    → out ≡ [] → out ≡ map (turn_by g table) (map turn_of (take 0 ts))
+    → out ≡ [] → out ≡ map (turn_by g table) (take 0 ts)
 told_start g table ts out none = none
-
-told_snoc : (g : yaml_c_graph) (table : List ℕ) (ts : List Turn) (t : Turn)
-    → map (turn_by g table) (map turn_of (ts ++ t ∷ []))
-    ≡ map (turn_by g table) (map turn_of ts) ++ turn_by g table (turn_of t) ∷ []
-told_snoc g table ts t =
-    ap (map (turn_by g table)) (map-append turn_of ts (t ∷ []))
-    ∙ map-append (turn_by g table) (map turn_of ts) (turn_of t ∷ [])
 
 pub told_more : (g : yaml_c_graph) (table : List ℕ) (ts : List Turn) (i : ℕ) (d : Turn)
     (out new : List yaml_c_turn) (r : yaml_c_turn) → i < length ts
-    → out ≡ map (turn_by g table) (map turn_of (take i ts))
-    → r ≡ turn_by g table (turn_of (get_or ts i d)) → new ≡ out ++ r ∷ []
-    → new ≡ map (turn_by g table) (map turn_of (take (i + 1) ts))
+    → out ≡ map (turn_by g table) (take i ts)
+    → r ≡ turn_by g table (get_or ts i d) → new ≡ out ++ r ∷ []
+    → new ≡ map (turn_by g table) (take (i + 1) ts)
 told_more g table ts i d out new r h inv is added =
     added ∙ ap (λ z. z ++ r ∷ []) inv
-    ∙ ap (λ z. map (turn_by g table) (map turn_of (take i ts)) ++ z ∷ []) is
-    ∙ sym (told_snoc g table (take i ts) (get_or ts i d))
-    ∙ ap (λ z. map (turn_by g table) (map turn_of z)) (sym (take_more ts i d h))
+    ∙ ap (λ z. map (turn_by g table) (take i ts) ++ z ∷ []) is
+    ∙ sym (map-append (turn_by g table) (take i ts) (get_or ts i d ∷ []))
+    ∙ ap (map (turn_by g table)) (sym (take_more ts i d h))
 
 pub told_all : (g : yaml_c_graph) (table : List ℕ) (ts : List Turn) (i : ℕ)
     (out : List yaml_c_turn) → length ts ≤ i
-    → out ≡ map (turn_by g table) (map turn_of (take i ts))
-    → out ≡ map (turn_by g table) (map turn_of ts)
-told_all g table ts i out h inv = inv ∙ ap (λ z. map (turn_by g table) (map turn_of z)) (take_all i ts h)
+    → out ≡ map (turn_by g table) (take i ts)
+    → out ≡ map (turn_by g table) ts
+told_all g table ts i out h inv = inv ∙ ap (map (turn_by g table)) (take_all i ts h)

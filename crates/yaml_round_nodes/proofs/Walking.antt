@@ -4,25 +4,24 @@ use Rattle.std.specs.Prelude.{suc, ℤ, pos, replicate, Ok, Vec}
 use Rattle.std.specs.Global.{Global}
 use Rattle.std.proofs.lemmas.List.{length-replicate}
 use Rattle.yaml_parse_model.specs.Nodes as model
-use Rattle.yaml_emit_graph.specs.declared.walk.Turn.TheVariants as graph_turn
+use Rattle.yaml_emit_graph.specs.declared.Turn.{Turn}
+use Rattle.yaml_emit_graph.specs.declared.Turn.TheVariants.{First, Again, Leave}
 use Rattle.yaml_emit_graph.specs.Graph.{Met, place_at, is_met, meet, child_ids, is_collection, body_of_id}
 use Rattle.yaml_emit_graph.specs.Onward.{Rest, over, inside, visits, nothing_left, turns_onward}
 use Rattle.yaml_emit_graph.specs.Walk.{marked}
 use Rattle.yaml_emit_graph.proofs.Walking as walking
-use Rattle.yaml_round_nodes.specs.declared.walk.Turn.{Turn}
-use Rattle.yaml_round_nodes.specs.declared.walk.Turn.TheVariants.{First, Again, Leave}
 use Rattle.yaml_round_nodes.specs.declared.walk.Open.{Open}
 use Rattle.yaml_round_nodes.specs.declared.walk.Walk.{Walk}
-use Rattle.yaml_round_nodes.specs.Walk.{turn_of, NextChild, rest_of, stack, stack_of, opened, frames, remaining_by, remaining_turns, IsGraphWalk, with_opened, Visited, Comes}
+use Rattle.yaml_round_nodes.specs.Walk.{NextChild, rest_of, stack, stack_of, opened, frames, remaining_by, remaining_turns, IsGraphWalk, with_opened, Visited, Comes}
 
 visit_again : (n : ℕ) (nodes : List model.Node) (id : ℤ) (r : Rest) (met : Met)
-    → is_met met id ≡ true → visits (suc n) nodes id r met ≡ graph_turn.Again id ∷ r met
+    → is_met met id ≡ true → visits (suc n) nodes id r met ≡ Again id ∷ r met
 unfolding visits
 visit_again n nodes id r met h = rw h refl
 
 visit_first : (n : ℕ) (nodes : List model.Node) (id : ℤ) (r : Rest) (met : Met)
     → is_met met id ≡ false
-    → visits (suc n) nodes id r met ≡ graph_turn.First id
+    → visits (suc n) nodes id r met ≡ First id
     ∷ inside (visits n nodes) id (body_of_id nodes id) r (meet met id)
 unfolding visits
 visit_first n nodes id r met h = rw h refl
@@ -35,11 +34,11 @@ unfolding frames
 inside_frames model.no n nodes id os met e k = refl
 inside_frames (model.scalar value style) n nodes id os met e k = refl
 inside_frames (model.sequence items style) n nodes id os met e k =
-    let r : Rest = λ m. graph_turn.Leave id ∷ frames nodes os m in
+    let r : Rest = λ m. Leave id ∷ frames nodes os m in
     ap (λ z. over (visits z nodes) items r met) k
     ∙ ap (λ z. over (visits (length nodes - length os) nodes) (child_ids z) r met) (sym e)
 inside_frames (model.mapping pairs style) n nodes id os met e k =
-    let r : Rest = λ m. graph_turn.Leave id ∷ frames nodes os m in
+    let r : Rest = λ m. Leave id ∷ frames nodes os m in
     ap (λ z. over (visits z nodes) (child_ids (model.mapping pairs style)) r met) k
     ∙ ap (λ z. over (visits (length nodes - length os) nodes) (child_ids z) r met) (sym e)
 
@@ -69,20 +68,20 @@ first_walk nodes old new id w s h m t k = record {
 pub visited : (nodes : List model.Node) (mid new : Walk) (id : ℤ) (t : Turn) (n : ℕ)
     → mid.started ≡ true → IsGraphWalk nodes mid → n ≡ length nodes - length (stack_of mid)
     → Visited nodes id mid (Ok t) new
-    → (visits (suc n) nodes id (frames nodes (stack_of mid)) mid.met.items ≡ turn_of t
+    → (visits (suc n) nodes id (frames nodes (stack_of mid)) mid.met.items ≡ t
     ∷ remaining_turns nodes new) × IsGraphWalk nodes new
 unfolding remaining_turns
 visited nodes mid new id (Again i) n s w k v =
     let a = visit_again n nodes id (frames nodes (stack_of mid)) mid.met.items v.1 in
     let c : remaining_turns nodes mid ≡ frames nodes (stack_of mid) mid.met.items = ap (λ z. remaining_by z nodes (stack_of mid) mid.met.items) s in
     let P : Walk → Type 0 = λ z. IsGraphWalk nodes z in
-    (a ∙ ap (λ z. graph_turn.Again z ∷ frames nodes (stack_of mid) mid.met.items) (sym v.0) ∙ ap (λ z. graph_turn.Again i ∷ z) (sym c ∙ ap (remaining_turns nodes) (sym v.2)), subst P (sym v.2) w)
+    (a ∙ ap (λ z. Again z ∷ frames nodes (stack_of mid) mid.met.items) (sym v.0) ∙ ap (λ z. Again i ∷ z) (sym c ∙ ap (remaining_turns nodes) (sym v.2)), subst P (sym v.2) w)
 visited nodes mid new id (First i) n s w k v =
     let a = visit_first n nodes id (frames nodes (stack_of mid)) mid.met.items v.1 in
     let b = inside_frames (body_of_id nodes id) n nodes id (stack_of mid) (meet mid.met.items id) refl k in
     let c : frames nodes (with_opened (is_collection (body_of_id nodes id)) id (stack_of mid)) (meet mid.met.items id) ≡ remaining_by new.started nodes (stack_of new) new.met.items =
     rw (v.4, v.3 ∙ s, v.2) refl in
-    (a ∙ ap (λ z. graph_turn.First id ∷ z) (b ∙ c) ∙ ap (λ z. graph_turn.First z ∷ remaining_by new.started nodes (stack_of new) new.met.items) (sym v.0), first_walk nodes mid new id w s v.1 v.2 v.3 v.4)
+    (a ∙ ap (λ z. First id ∷ z) (b ∙ c) ∙ ap (λ z. First z ∷ remaining_by new.started nodes (stack_of new) new.met.items) (sym v.0), first_walk nodes mid new id w s v.1 v.2 v.3 v.4)
 visited nodes mid new id (Leave i) n s w k v = absurd v
 
 -- the next child of an open node
@@ -96,7 +95,7 @@ child_comes nodes old o p os id n s k f l e =
     let met : Met = old.met.items in
     let a : remaining_turns nodes old ≡ frames nodes (o ∷ os) met = rw (s, k) refl in
     let F : ℕ = length nodes - length os in
-    let r : ℤ → Rest = λ z m. graph_turn.Leave z ∷ frames nodes os m in
+    let r : ℤ → Rest = λ z m. Leave z ∷ frames nodes os m in
     let b : over (visits F nodes) (drop o.index (child_ids (body_of_id nodes o.node))) (r o.node) met ≡ over (visits F nodes) (id ∷ drop p.index (child_ids (body_of_id nodes o.node))) (r o.node) met = ap (λ z. over (visits F nodes) z (r o.node) met) l in
     let c : visits F nodes id (over (visits F nodes) (drop p.index (child_ids (body_of_id nodes o.node))) (r o.node)) met ≡ visits F nodes id (over (visits F nodes) (drop p.index (child_ids (body_of_id nodes p.node))) (r p.node)) met =
     ap (λ z. visits F nodes id (over (visits F nodes) (drop p.index (child_ids (body_of_id nodes z))) (r z)) met) (sym e) in
@@ -135,7 +134,7 @@ same_walk nodes old new w s m l = record {
 pub leave_comes : (nodes : List model.Node) (old new : Walk) (o : Open) → old.started ≡ true
     → old.top ≡ Some o → IsGraphWalk nodes old → drop o.index (child_ids (body_of_id nodes o.node)) ≡ []
     → stack_of new ≡ rest_of (stack_of old) → new.met ≡ old.met → new.started ≡ old.started
-    → (remaining_turns nodes old ≡ graph_turn.Leave o.node ∷ remaining_turns nodes new) × IsGraphWalk nodes new
+    → (remaining_turns nodes old ≡ Leave o.node ∷ remaining_turns nodes new) × IsGraphWalk nodes new
 unfolding remaining_turns frames over
 leave_comes nodes old new o s t w l k m b =
     let os : List Open = reverse old.outer.items in
@@ -143,12 +142,12 @@ leave_comes nodes old new o s t w l k m b =
     let f : stack_of new ≡ os = k ∙ ap rest_of e in
     let met : Met = old.met.items in
     let a : remaining_turns nodes old ≡ frames nodes (o ∷ os) met = rw (s, e) refl in
-    let r : Rest = λ z. graph_turn.Leave o.node ∷ frames nodes os z in
-    let c : frames nodes (o ∷ os) met ≡ graph_turn.Leave o.node ∷ frames nodes os met = ap (λ z. over (visits (length nodes - length os) nodes) z r met) l in
+    let r : Rest = λ z. Leave o.node ∷ frames nodes os z in
+    let c : frames nodes (o ∷ os) met ≡ Leave o.node ∷ frames nodes os met = ap (λ z. over (visits (length nodes - length os) nodes) z r met) l in
     let d : frames nodes os met ≡ remaining_by new.started nodes (stack_of new) new.met.items = rw (b ∙ s, f, m) refl in
     let g : length (stack_of old) ≡ suc (length os) = ap length e in
     let h : length (stack_of new) ≡ length os = ap length f in
-    (a ∙ c ∙ ap (λ z. graph_turn.Leave o.node ∷ z) d, same_walk nodes old new w (b ∙ s) m (omega (arith, g, h)))
+    (a ∙ c ∙ ap (λ z. Leave o.node ∷ z) d, same_walk nodes old new w (b ∙ s) m (omega (arith, g, h)))
 
 -- the next child of the innermost open node is visited
 pub child_met : (nodes : List model.Node) (old mid new : Walk) (o p : Open) (id : ℤ) (t : Turn)
@@ -156,7 +155,7 @@ pub child_met : (nodes : List model.Node) (old mid new : Walk) (o p : Open) (id 
     → mid.top ≡ Some p → mid.outer ≡ old.outer → mid.met ≡ old.met → mid.started ≡ true
     → NextChild (body_of_id nodes o.node) o (Some (id, p)) → (i : ℤ) → i ≡ id
     → Visited nodes i mid (Ok t) new
-    → (remaining_turns nodes old ≡ turn_of t ∷ remaining_turns nodes new) × IsGraphWalk nodes new
+    → (remaining_turns nodes old ≡ t ∷ remaining_turns nodes new) × IsGraphWalk nodes new
 child_met nodes old mid new o p id t s k w km out m sm next i same u =
     let V : ℤ → Type 0 = λ z. Visited nodes z mid (Ok t) new in
     let v : Visited nodes id mid (Ok t) new = subst V same u in
@@ -177,7 +176,7 @@ pub root_met : (nodes : List model.Node) (old mid new : Walk) (t : Turn) → old
     → IsGraphWalk nodes old
     → mid.top ≡ old.top → mid.outer ≡ old.outer → mid.met ≡ old.met → mid.started ≡ true
     → Visited nodes (pos 1) mid (Ok t) new
-    → (remaining_turns nodes old ≡ turn_of t ∷ remaining_turns nodes new) × IsGraphWalk nodes new
+    → (remaining_turns nodes old ≡ t ∷ remaining_turns nodes new) × IsGraphWalk nodes new
 unfolding remaining_turns frames
 root_met nodes old mid new t s w km out m sm v =
     let e : stack_of old ≡ [] = w.begun s in

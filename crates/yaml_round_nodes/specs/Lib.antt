@@ -1,6 +1,5 @@
 pub mod Graphs
 pub mod Walk
-pub mod Numbers
 pub mod Turns
 pub mod Names
 pub mod Composing

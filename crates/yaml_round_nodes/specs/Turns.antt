@@ -4,8 +4,8 @@ use Rattle.std.specs.Ordering.{int_eq}
 use Rattle.yaml_parse_model.specs.Nodes.{Node}
 use Rattle.yaml_parse_document.specs.Documents.{Document}
 use Rattle.yaml_emit_graph.specs.emit_layout.Content.{document_start, document_end}
-use Rattle.yaml_emit_graph.specs.declared.walk.Turn.{Turn}
-use Rattle.yaml_emit_graph.specs.declared.walk.Turn.TheVariants.{First, Again, Leave}
+use Rattle.yaml_emit_graph.specs.declared.Turn.{Turn}
+use Rattle.yaml_emit_graph.specs.declared.Turn.TheVariants.{First, Again, Leave}
 use Rattle.yaml_emit_graph.specs.Graph.{body_of_id, number_at, numbers, turns, turn_event, graph_opening, dumped}
 use Rattle.yaml_round_nodes.specs.declared.record.yaml_c_graph.{yaml_c_graph}
 use Rattle.yaml_round_nodes.specs.declared.record.yaml_c_turn.{yaml_c_turn}

@@ -2,21 +2,13 @@
 use Rattle.std.specs.Prelude.{◌≡◌, ◌≤◌, suc, ◌-◌, ℤ, pos, Bool, true, false, List, [], ◌∷◌, length, drop, reverse, Option, Some, None, Result, Ok, Err}
 use Rattle.std.specs.declared.alloc.AllocError.{AllocError}
 use Rattle.yaml_parse_model.specs.Nodes as model
-use Rattle.yaml_emit_graph.specs.declared.walk.Turn as graph
-use Rattle.yaml_emit_graph.specs.declared.walk.Turn.TheVariants as graph_turn
-use Rattle.yaml_round_nodes.specs.declared.walk.Turn.{Turn}
-use Rattle.yaml_round_nodes.specs.declared.walk.Turn.TheVariants.{First, Again, Leave}
+use Rattle.yaml_emit_graph.specs.declared.Turn.{Turn}
+use Rattle.yaml_emit_graph.specs.declared.Turn.TheVariants.{First, Again, Leave}
 use Rattle.yaml_round_nodes.specs.declared.walk.Open.{Open}
 use Rattle.yaml_round_nodes.specs.declared.walk.Walk.{Walk}
 use Rattle.yaml_emit_graph.specs.Graph.{is_met, meet, child_ids, is_collection, body_of_id}
 use Rattle.yaml_emit_graph.specs.Onward.{Rest, over, visits, nothing_left}
 use Rattle.yaml_emit_graph.specs.Walk.{marked}
-
--- the turn of the definitions
-abbrev pub turn_of : Turn → graph.Turn
-turn_of (First id) = graph_turn.First id
-turn_of (Again id) = graph_turn.Again id
-turn_of (Leave id) = graph_turn.Leave id
 
 -- what is left of a list of numbers: the next one, and the node with what is left of it then
 abbrev pub next_of : List ℤ → Open → Option (ℤ × Open) → Type 0
@@ -43,13 +35,13 @@ unfoldable pub frames : List model.Node → List Open → Rest
 frames nodes [] met = []
 frames nodes (o ∷ os) met = over (visits (length nodes - length os) nodes)
     (drop o.index (child_ids (body_of_id nodes o.node)))
-    (λ m. graph_turn.Leave o.node ∷ frames nodes os m) met
+    (λ m. Leave o.node ∷ frames nodes os m) met
 
 abbrev pub remaining_by : Bool → List model.Node → List Open → Rest
 remaining_by true nodes os = frames nodes os
 remaining_by false nodes os = visits (suc (length nodes)) nodes (pos 1) nothing_left
 
-unfoldable pub remaining_turns : List model.Node → Walk → List graph.Turn
+unfoldable pub remaining_turns : List model.Node → Walk → List Turn
 remaining_turns nodes w = remaining_by w.started nodes (stack_of w) w.met.items
 
 -- the marks are those of the nodes, and each open node was met
@@ -83,6 +75,6 @@ Visited nodes id old (Err e) new = Unit {0}
 -- a walk gives what comes next, and the rest is still to come
 abbrev pub Comes : List model.Node → Walk → Result (Option Turn) AllocError → Walk → Type 0
 Comes nodes old (Ok None) new = (remaining_turns nodes old ≡ []) × IsGraphWalk nodes new
-Comes nodes old (Ok (Some t)) new = (remaining_turns nodes old ≡ turn_of t
+Comes nodes old (Ok (Some t)) new = (remaining_turns nodes old ≡ t
     ∷ remaining_turns nodes new) × IsGraphWalk nodes new
 Comes nodes old (Err e) new = Unit {0}

@@ -5,17 +5,7 @@ ghost use Rattle.yaml_emit_graph.specs.Graph.{place_at};
 ghost use Rattle.yaml_round_nodes.specs.Graphs.{part, held_by, holds, is_node, are_nodes, record_in};
 
 use crate::record::{yaml_c_graph, yaml_c_node};
-
-/// The place of a node in the list of nodes, by its number.
-pub(crate) fn node_place(id: i32) -> Option<usize>
-    ensures { result ≡ place_at id }
-{
-    if id < 1 {
-        None
-    } else {
-        Some((id - 1) as usize)
-    }
-}
+use yaml_emit_graph::place_of;
 
 // The numbers that a record names, where they lie within the list.
 #[tactic(auto, unfolding(crate::specs::Graphs::part))]
@@ -85,7 +75,7 @@ pub fn is_graph(graph: &yaml_c_graph) -> bool
 pub(crate) fn record_at(graph: &yaml_c_graph, id: i32) -> Option<yaml_c_node>
     ensures { result ≡ record_in graph.now.nodes.now (place_at id) }
 {
-    match node_place(id) {
+    match place_of(id) {
         None => None,
         Some(at) => graph.nodes.get(at).copied(),
     }

@@ -4,7 +4,6 @@
 mod composing;
 mod graph;
 mod names;
-mod numbers;
 mod record;
 mod turns;
 mod walk;

@@ -3,14 +3,13 @@
 ghost use Rattle.std.specs.Prelude.{◌≡◌, map, IfOk};
 ghost use Rattle.yaml_emit_graph.specs.Graph.{turns, numbers};
 ghost use Rattle.yaml_round_nodes.specs.Graphs.{kind_at, stand_ins};
-ghost use Rattle.yaml_round_nodes.specs.Walk.{turn_of};
 ghost use Rattle.yaml_round_nodes.specs.Turns.{opening_kind, closing_kind, turn_by, turns_by};
 
 use crate::graph::record_at;
-use crate::numbers::{Walked, node_number, walk_nodes};
 use crate::record::{yaml_c_graph, yaml_c_turn};
-use crate::walk::Turn;
+use crate::walk::walk_nodes;
 use std::alloc::{AllocError, Global};
+use yaml_emit_graph::{Turn, Walked, number_of};
 
 // The kind of the node under a number; 0 where it names none.
 fn kind_at(graph: &yaml_c_graph, id: i32) -> i32
@@ -47,18 +46,18 @@ fn closing_kind(kind: i32) -> i32
 
 // A turn's record.
 fn turn_by(graph: &yaml_c_graph, numbers: &[u64], turn: Turn) -> yaml_c_turn
-    ensures { result ≡ turn_by graph.now numbers.now (turn_of turn) }
+    ensures { result ≡ turn_by graph.now numbers.now turn }
 {
     match turn {
         Turn::First(node) => yaml_c_turn {
             kind: opening_kind(kind_at(graph, node)),
             node,
-            number: node_number(numbers, node),
+            number: number_of(numbers, node),
         },
         Turn::Again(node) => yaml_c_turn {
             kind: 5,
             node,
-            number: node_number(numbers, node),
+            number: number_of(numbers, node),
         },
         Turn::Leave(node) => yaml_c_turn {
             kind: closing_kind(kind_at(graph, node)),
@@ -76,7 +75,7 @@ fn turns_by(
     turns: &[Turn],
 ) -> Result<Vec<yaml_c_turn>, AllocError>
     ensures { IfOk result (λ v. v.items ≡ map (turn_by graph.now numbers.now)
-        (map turn_of turns.now)) }
+        turns.now) }
 {
     let mut records = Vec::with_capacity(alloc, turns.len())?;
     for turn in turns {

@@ -1,30 +1,20 @@
 //! A walk over the nodes that records show, with a list of its own.
 
 ghost use Rattle.std.specs.Prelude.{◌≡◌, ◌∷◌, [], None, Some, IfOk, OnOk, replicate, true, false};
-ghost use Rattle.yaml_emit_graph.specs.Graph.{met_at, meet_at, is_met, meet, is_collection, body_of_id};
+ghost use Rattle.yaml_emit_graph.specs.Graph.{turns, numbers, met_at, meet_at, is_met, meet, is_collection, body_of_id};
 ghost use Rattle.yaml_round_nodes.specs.Graphs.{stand_ins};
 ghost use Rattle.yaml_round_nodes.specs.Walk.{next_of, NextChild, IsGraphWalk, stack_of, rest_of, with_opened, Marks, Visited, Comes};
 
-use crate::graph::{held_by, holds_nodes, node_place, record_at};
+use crate::graph::{held_by, holds_nodes, record_at};
 use crate::record::yaml_c_graph;
 use std::alloc::{AllocError, Global};
+use yaml_emit_graph::{Numbers, Turn, Walked, place_of};
 
 /// A collection that is being walked, and which of the numbers that it holds comes next.
 #[derive(Clone, Copy)]
 pub struct Open {
     pub node: i32,
     pub index: usize,
-}
-
-/// What a walk meets.
-#[derive(Clone, Copy)]
-pub enum Turn {
-    /// A node for the first time.
-    First(i32),
-    /// A node again.
-    Again(i32),
-    /// The end of a collection.
-    Leave(i32),
 }
 
 /// The collections that are being walked: the innermost, and those round it, the outermost first. And the nodes that were met,
@@ -99,7 +89,7 @@ impl Walk {
     fn is_met(&self, id: i32) -> bool
         ensures { result ≡ is_met self.now.met.items id }
     {
-        match node_place(id) {
+        match place_of(id) {
             None => true,
             Some(at) => self.is_met_at(at),
         }
@@ -118,7 +108,7 @@ impl Walk {
         ensures marks { self.new.met.items ≡ meet self.old.met.items id }
         ensures rest { Marks self.old self.new }
     {
-        match node_place(id) {
+        match place_of(id) {
             None => (),
             Some(at) => self.mark_at(at),
         }
@@ -230,4 +220,23 @@ impl Walk {
             self.begin(graph)
         }
     }
+}
+
+/// The walk over the nodes, and their numbers: a node's second visit gives it the next one, from 1.
+pub(crate) fn walk_nodes(alloc: Global, graph: &yaml_c_graph) -> Result<Walked, AllocError>
+    ensures { IfOk result (λ w. (w.turns.items ≡ turns (stand_ins graph.now))
+        × (w.numbers.items ≡ numbers (stand_ins graph.now))) }
+{
+    let count = graph.nodes.len();
+    let mut walk = Walk::new(alloc, count)?;
+    let mut numbers = Numbers::none(alloc, count)?;
+    let mut turns = Vec::with_capacity(alloc, count)?;
+    while let Some(turn) = walk.next(graph)? {
+        numbers.number_turn(turn);
+        turns.push(turn)?;
+    }
+    Ok(Walked {
+        turns,
+        numbers: numbers.table,
+    })
 }

@@ -1,9 +1,8 @@
 -- What reading a directive answers.
-use Rattle.std.proofs.Common.{◌≡◌, eqb, ℕ, Bool, true, false, refl, List, Result, Ok, Err}
+use Rattle.std.proofs.Common.{ℕ, List, Result, Ok, Err}
 use Rattle.yaml_scan_model.specs.declared.problem.ScanError.{ScanError}
 use Rattle.yaml_scan_model.specs.Marks.{Place, mark_at}
 use Rattle.yaml_scan_model.specs.Wrong.{Wrong}
-use Rattle.yaml_scan_scalars.specs.Joined.{break_number}
 use Rattle.yaml_scan_words.specs.Readings.{ReadsAs}
 use Rattle.yaml_scan_words.specs.Directives.{DirectiveText}
 use Rattle.yaml_scan_words.specs.DirectivesGiven.{IsDirective}
@@ -16,7 +15,3 @@ pub directive_refused : (text : List ℕ) (p : ℕ) (place : Place) (e : ScanErr
     → ReadsWord text p place (Err e) (directed x)
 directive_refused text p place e (Ok x) r = r
 directive_refused text p place e (Err w) r = r
-
-pub one_break : (b : Bool) (n : ℕ) → n ≡ break_number b → eqb n 1 ≡ b
-one_break true n e = rw e refl
-one_break false n e = rw e refl

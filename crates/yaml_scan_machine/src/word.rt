@@ -2,7 +2,6 @@
 
 ghost use Rattle.std.specs.Prelude.{Bool, ◌≡◌, ◌+◌, ◌<◌, ◌≤◌, ◌⊎◌, IfSome, None, option_map, true, false, length};
 ghost use Rattle.yaml_scan_model.specs.Marks.{byte, break_width, is_blank_or_end};
-ghost use Rattle.yaml_scan_scalars.specs.Joined.{break_number};
 ghost use Rattle.yaml_scan_scalars.specs.Plain as plains;
 ghost use Rattle.yaml_scan_model.specs.Tokens as tokens;
 ghost use Rattle.yaml_scan_model.specs.Tokens.{body_of};
@@ -468,15 +467,6 @@ pub(crate) fn plain_word(
             style: yaml_scalar_style_t::YAML_PLAIN_SCALAR_STYLE,
         },
         end: read.end_mark,
-        broke: is_one(read.breaks),
+        broke: read.broke,
     })
-}
-
-/// Whether it is 1, which tells a break.
-// Inlined: a comparison.
-#[inline(always)]
-fn is_one(n: u64) -> bool
-    ensures { (b : Bool) → n ≡ break_number b → result ≡ b }
-{
-    n == 1
 }

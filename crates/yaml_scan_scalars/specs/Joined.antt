@@ -59,16 +59,11 @@ pub record TookFirst (text : List ℕ) (p : ℕ) (new : Joining) (place : Place)
   pub value : (w : Words) → joined new w ≡ plain_text (with_run text p (place.at - p) w)
   pub seat : IsJoining text place.at new
 
--- a number that is 1 where a break stands behind the scalar
-abbrev pub break_number : Bool → ℕ
-break_number true = 1
-break_number false = 0
-
 pub record IsPlain (text : List ℕ) (start : ℕ) (s : PlainScalar) (x : PlainText) : Type 0 where
   pub value : s.value.items ≡ x.value
   pub start_mark : s.start_mark ≡ mark_at text start
   pub end_mark : s.end_mark ≡ mark_at text x.end
-  pub broke : s.breaks ≡ break_number x.broke
+  pub broke : s.broke ≡ x.broke
 
 -- What reading a plain scalar answers, and where it leaves the reader.
 abbrev pub ReadsPlain : List ℕ → ℕ → Place → Result PlainScalar ScanError → Result PlainText Wrong

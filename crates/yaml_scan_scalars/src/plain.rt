@@ -4,7 +4,7 @@ ghost use Rattle.std.specs.Prelude.{◌≡◌, ◌+◌, ◌-◌, ◌||◌, ◌&&
 ghost use Rattle.yaml_scan_model.specs.Spares.{HoldsAt};
 ghost use Rattle.yaml_scan_model.specs.Marks.{byte, break_width, ends_break, is_blank, is_blank_or_end, mark_at};
 ghost use Rattle.yaml_scan_scalars.specs.Plain as spec;
-ghost use Rattle.yaml_scan_scalars.specs.Joined.{IsJoining, Steps, ReadsPlain, TookWords, break_number};
+ghost use Rattle.yaml_scan_scalars.specs.Joined.{IsJoining, Steps, ReadsPlain, TookWords};
 ghost use Rattle.yaml_scan_scalars.specs.Ordinary.{IsRun, bytes_at};
 
 use crate::joining::Joining;
@@ -111,7 +111,7 @@ fn one_run(
         value,
         start_mark: start,
         end_mark: reader.mark(),
-        breaks: 0,
+        broke: false,
     })
 }
 
@@ -192,7 +192,7 @@ fn one_line<'a>(
         value,
         start_mark: start,
         end_mark,
-        breaks: 1,
+        broke: true,
     })
 }
 
@@ -257,23 +257,16 @@ fn join_runs(
         let more = piece(reader, &mut joining, start, flow, level)?;
         if !more {
             let end_mark = joining.end;
-            let breaks = break_number(joining.broke);
+            let broke = joining.broke;
             return Ok(PlainScalar {
                 value: joining.finish(),
                 start_mark: start,
                 end_mark,
-                breaks,
+                broke,
             });
         }
         keep_run(reader, &mut joining)?;
     }
-}
-
-/// 1 where a break stands behind the scalar, or else 0.
-fn break_number(broke: bool) -> u64
-    ensures { result ≡ break_number broke }
-{
-    if broke { 1 } else { 0 }
 }
 
 /// Takes the run that stands here, but none at a line's start.

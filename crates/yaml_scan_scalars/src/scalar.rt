@@ -8,7 +8,6 @@ pub struct PlainScalar {
     pub value: Vec<u8>,
     pub start_mark: yaml_mark_t,
     pub end_mark: yaml_mark_t,
-    /// 1 where a break is among the blanks and breaks behind it, so that a key is allowed there, or else 0.
-    // A number: the gap behind a bool would be copied by itself.
-    pub breaks: u64,
+    /// Whether a break is among the blanks and breaks behind it, so that a key is allowed there.
+    pub broke: bool,
 }

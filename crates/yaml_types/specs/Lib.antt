@@ -3,3 +3,5 @@ pub mod Classes
 pub mod Tokens
 pub mod Faults
 pub mod Ends
+pub mod Widths
+pub mod Ascii

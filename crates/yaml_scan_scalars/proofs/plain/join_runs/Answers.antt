@@ -54,7 +54,7 @@ returns-then-not-more c =
     let (place, kept, value) = turn_done c.args.flow c.args.level c.args.reader.now.text c.args.start c.pieces.reader.at n c.pieces.joining c.piece.new.joining c.piece.new.reader took in
     let seat = rw c.pieces.invariant.text at c.pieces.invariant.seat.end in
     let all = rw kept at c.finish.ensures in
-    rw (same, value) (record { value = all; start_mark = c.requires.start; end_mark = rw kept seat; broke = rw kept at c.break_number-breaks.ensures }, place)
+    rw (same, value) (record { value = all; start_mark = c.requires.start; end_mark = rw kept seat; broke = rw kept refl }, place)
 
 pub pieces-preserved : goal.pieces-preserved
 pieces-preserved c =

@@ -1,12 +1,12 @@
 use Rattle.std.proofs.Common.{Option, refl, subst}
 use Rattle.std.specs.Prelude.{Ok}
-use Rattle.yaml_round_nodes.specs.declared.walk.Turn.{Turn}
+use Rattle.yaml_emit_graph.specs.declared.Turn.{Turn}
 use Rattle.yaml_round_nodes.specs.Graphs.{stand_ins}
 use Rattle.yaml_round_nodes.specs.Walk.{Comes}
 use Rattle.yaml_round_nodes.proofs.Walking.{fresh_walk, none_left}
 use Rattle.yaml_emit_graph.proofs.Counting as counting
-use Rattle.yaml_round_nodes.proofs.Counting.{as_many, met_start, met_more}
-use Rattle.yaml_round_nodes.proofs.numbers.walk_nodes.Goals as goal
+use Rattle.yaml_round_nodes.proofs.Counting.{as_many}
+use Rattle.yaml_round_nodes.proofs.walk.walk_nodes.Goals as goal
 
 pub loop-turns-init : goal.loop-turns-init
 loop-turns-init c =
@@ -14,7 +14,7 @@ loop-turns-init c =
     let w = fresh_walk _ _ _ n c.in_ok-walk.ensures.0 c.in_ok-walk.ensures.1 c.in_ok-walk.ensures.2 in
     record {
       walk = w.0;
-      met = met_start _ _ _ c.in_ok-turns.ensures.items w.1;
+      met = counting.turns_start _ _ _ c.in_ok-turns.ensures.items w.1;
       given = counting.numbered_start _ _ c.in_ok-numbers.ensures;
       same = counting.numbers_start _ _ _ _ c.in_ok-numbers.ensures n w.1;
     }
@@ -25,9 +25,9 @@ loop-turns-preserved c =
     let m = subst P c.in-Some.is c.in_ok-turn.ensures in
     record {
       walk = m.1;
-      met = met_more _ _ _ _ _ _ c.loop-turns.invariant.met m.0 c.in_ok-push.ensures.items;
-      given = c.take.ensures.numbers;
-      same = counting.numbers_more _ _ _ _ _ _ c.loop-turns.invariant.same m.0 c.take.ensures.gives;
+      met = counting.turns_more _ _ _ _ _ _ c.loop-turns.invariant.met m.0 c.in_ok-push.ensures.items;
+      given = c.number_turn.ensures.numbers;
+      same = counting.numbers_more _ _ _ _ _ _ c.loop-turns.invariant.same m.0 c.number_turn.ensures.gives;
     }
 
 pub returns : goal.returns

@@ -1,16 +1,15 @@
-use Rattle.std.proofs.Common.{◌≡◌, ◌++◌, length, map}
+use Rattle.std.proofs.Common.{◌≡◌, ◌++◌, length}
 use Rattle.yaml_emit_graph.specs.Graph.{turns, numbers, numbered}
-use Rattle.yaml_emit_graph.specs.Numbers.{IsNumbering}
+use Rattle.yaml_emit_graph.specs.Numbers.{IsNumbering, numbering_of}
 use Rattle.yaml_round_nodes.specs.Graphs.{stand_ins}
-use Rattle.yaml_round_nodes.specs.Walk.{turn_of, remaining_turns, IsGraphWalk}
-use Rattle.yaml_round_nodes.specs.Numbers.{numbering_of}
-use Rattle.yaml_round_nodes.proofs.numbers.walk_nodes.Given as goal
+use Rattle.yaml_round_nodes.specs.Walk.{remaining_turns, IsGraphWalk}
+use Rattle.yaml_round_nodes.proofs.walk.walk_nodes.Given as goal
 
 -- what was met is listed and numbered, and the numbers of what comes are still to be given
 abbrev pub invariant-loop-turns : goal.invariant-loop-turns
 invariant-loop-turns l = record {
   walk : IsGraphWalk (stand_ins l.graph) l.walk;
-  met : turns (stand_ins l.graph) ≡ map turn_of l.turns.items ++ remaining_turns (stand_ins l.graph) l.walk;
+  met : turns (stand_ins l.graph) ≡ l.turns.items ++ remaining_turns (stand_ins l.graph) l.walk;
   given : IsNumbering (numbering_of l.numbers);
   same : numbers (stand_ins l.graph)
       ≡ (numbered (numbering_of l.numbers) (remaining_turns (stand_ins l.graph) l.walk)).table;

@@ -12,20 +12,24 @@ An edit says what it turns in a line `turns: TEXT`; where it has none, its name 
 in an edit's place says it in a field `turns`.
 """
 import collections
+import functools
 import glob
 import json
 import os
+import re
 import sys
 
 import repository as repo
 
 PAGE = "docs/EDITS.md"
 LINES = "crates/yaml_cli_vectors/stdin"
+# The crate that the exports of the library for C hand on.
+CALLS = "yaml_round_calls"
 HEAD = """# Must-fail edits
 
 Written by `tools/edits.py`; not by hand.
 
-Each line is a change of the code that the prover must refuse (`crates/CRATE/must-fail/EDIT.edit`), and the meaning that it turns: were it still proved, the contract would not say that meaning. A call is public where a member hands it out. 'Helper' marks functions that only a helper crate hands out, and 'private' the rest: their edits stand where no public call turns the same meaning.
+Each line is a change of the code that the prover must refuse (`crates/CRATE/must-fail/EDIT.edit`), and the meaning that it turns: were it still proved, the contract would not say that meaning. A call is public where a member hands it out, or an export for C, with its clauses. 'Helper' marks functions that only a helper crate hands out, and 'private' the rest: their edits stand where no public call turns the same meaning.
 
 """
 LINES_HEAD = f"""
@@ -62,7 +66,7 @@ FIRST = [
     ("directives carried to the next document, by reader and emitter alike", "yaml_parse/version_carried_to_the_next_document", "reformat: fault of the input 6"),
     ("aliases looked up once the document has ended", "load: loads: an alias before its anchor"),
     ("the document without root, which ends the loads, never comes", "yaml_parse/ending_document_never_comes"),
-    ("names of anchors kept, a shared node written twice", "yaml_round_c/reloaded_as_a_rewriting", "reload: documents 1"),
+    ("names of anchors kept, a shared node written twice", "yaml_round_calls/reloaded_as_a_rewriting", "reload: documents 1"),
     ("the text thrown away behind a wrong event that is given early", "yaml_emit/early_refusal_left_out", "yaml_emit/early_event_dropped"),
     ("the text lost where an indentation is too deep or memory ran out", "yaml_emit/goes_on_after_a_fault"),
     ("want of memory told of another layer, or of the other input", "yaml_round/memory_fault_of_the_writer_for_lines", "yaml_round/second_blamed_for_the_firsts_memory"),
@@ -72,7 +76,7 @@ FIRST = [
     ("the input repeated as its normal form", "yaml_round/own_styles_kept"),
     ("a size refused one byte early, or one late", "yaml_round_device/size_refused_one_byte_early", "yaml_round/normal_form_refused_one_byte_early", "yaml_round/size_refused_one_byte_late"),
     ("a flush left out, an empty `put` that fails, reading on behind the limit", "yaml_round_device/finish_not_called", "yaml_round_device/empty_put_told_as_failed", "yaml_round_device/byte_past_the_limit"),
-    ("for C: a place told of what isn't there, a fault without its line, two fields exchanged", "yaml_round_c/absent_anchor_has_a_place", "yaml_round_c/line_never_told", "yaml_round_c/indent_and_width_exchanged"),
+    ("for C: a place told of what isn't there, a fault without its line, two fields exchanged", "yaml_round_calls/absent_anchor_has_a_place", "yaml_round_calls/line_never_told", "yaml_round_calls/indent_and_width_exchanged"),
     ("every fault told as want of memory by a caller", "yaml_cli_lookup/every_fault_told_as_want_of_memory"),
 ]
 IMPLIED_HEAD = """
@@ -103,8 +107,15 @@ IMPLIED = [
     ("yaml_std_output_t::put", "a failed output stays failed", ["yaml_round_device/failure_not_kept"], "`failure` says of an output what it says of an input, word for word"),
     ("yaml_run", "the output is finished behind a whole answer", ["yaml_round_device/finish_not_called"], "`finished` is the clause of `yaml_write_all`, word for word"),
     ("yaml_diff_documents", "each mark of a place of loaded documents is of its own input's event", ["yaml_round/second_mark_for_the_first"], "`TellsOf` is one record for both calls"),
+    ("yaml_reformat", "a root with an anchor or a tag isn't nothing, nor one behind a `---`, nor that of a later document", ["yaml_round/canonical_unasked"], "canonical form comes unasked only where `begins_with_nothing`, one definition, which names all of these, says so of the input's events"),
+    ("yaml_normalize", "a root that would be nothing where the text begins is quoted", ["yaml_round/own_styles_kept"], "the text is `readable_text` of the content, which decides the style of each root"),
     ("yaml_parser_initialize", "a fault's text is the definition's, also where code and machine agree on another", ["yaml_parse/wrong_token_told_as_a_directive"], "the fault to come is said by `FaultOfTokens`, whose texts a law, `rows_of_faults_hold`, has in its own words; a parse that answers another fault than the one to come is refused"),
     ("yaml_parser_initialize", "what is whole when a token comes that is wrong is given before the fault", ["yaml_parse/event_told_as_a_fault"], "the events to come are said by `EventsOfTokens`, whose worked lists a law, `rows_of_events_hold`, has in its own words; a parse that answers a fault where one of them is to come is refused"),
+    ("yaml_c_events", "every fault but want of memory comes with its line", ["yaml_round_calls/line_never_told"], "`TellsFault`, which says each field of the record, is one definition for all calls"),
+    ("yaml_c_emit", "the fault of a refused event is told", ["yaml_round_calls/undefined_alias_hidden"], "the same: it says the kind, of the fault that the definition names"),
+    ("yaml_c_parse", "every event of the input has its record, the first one too", ["yaml_round/events_left_out", "yaml_round_calls/last_event_of_a_starved_front_left_out"], "`HasEvents` says of both calls which events an input has, and `SayEvents` of a parse and of a front that each of its events has its record"),
+    ("yaml_c_front", "the events in front of a fault are handed out with it, the last one too", ["yaml_round_calls/last_event_of_a_starved_front_left_out"], "`SayFront` lets with want of memory through all that it lets through with another fault, and beside it only that nothing is handed out"),
+    ("yaml_c_scan", "each token in front of the end or the fault has its record, the last one too", ["yaml_round_calls/last_token_of_a_starved_scan_left_out"], "the same of `Scans`"),
 ]
 
 
@@ -152,11 +163,33 @@ def function_with(path, text):
     return round_it[-1] if round_it else None
 
 
+def clauses(it):
+    return [" ".join(clause.split()) for clause in it.contract()]
+
+
+@functools.lru_cache(maxsize=None)
+def exported():
+    """The calls of the library for C: each export, by its name, with the call that is its whole body, where that has its clauses,
+    word for word, or None."""
+    below, found = {it.name: it for it in repo.all_functions() if it.crate == CALLS and it.is_pub}, {}
+    for it in repo.all_functions():
+        if it.head.startswith("pub extern"):
+            only = re.fullmatch(r"\{\s*(\w+)\([^()]*\);?\s*\}?", repo.read(it.path)[it.body : it.end])
+            call = below.get(only[1]) if only else None
+            found[it.name] = call if call and clauses(call) == clauses(it) else None
+    return found
+
+
+def is_exported(it):
+    """Whether an export hands the function on, with its clauses."""
+    return it.crate == CALLS and any(call and call.name == it.name for call in exported().values())
+
+
 def rank(it):
     """How far a function is seen."""
     if it is None:
         return "private"
-    if repo.is_public(it):
+    if repo.is_public(it) or is_exported(it):
         return "public"
     handed = repo.handed_out(it.crate)
     seen = it.owner.type in handed and (it.is_pub or it.owner.is_of_trait) if it.owner else it.is_pub and it.name in handed
@@ -177,6 +210,8 @@ def why_none(it):
         return "a method of a trait: those who implement it have the edits"
     if repo.is_law(it):
         return "a law: its body is empty, and its clause speaks of definitions alone"
+    if exported().get(it.name):
+        return f"an export: it hands on `{exported()[it.name].name}` of `{CALLS}`, whose clauses are its own, word for word, and which has the edits"
     if it.name == "into_inner":
         return "its type leaves no other value to hand back"
     if it.name == "yaml_parser_prefix":

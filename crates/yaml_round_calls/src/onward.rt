@@ -1,0 +1,30 @@
+//! The text of events that are given as records, piece by piece.
+
+ghost use Rattle.std.specs.Prelude.{◌≡◌, ◌⊎◌, pos};
+ghost use Rattle.yaml_round_answers.specs.Told.{AnswersMeant, IsExact};
+ghost use Rattle.yaml_round_answers.specs.Onward.{onward_meant, EmitsOn};
+
+use std::alloc::Global;
+use yaml_round_answers::{onward_by, yaml_c_answer, yaml_c_parsed, yaml_c_settings, yaml_c_stand};
+
+/// The text that the events add from a stand on: what an emitter writes for them that stands there, or its fault without any text. The
+/// events that wait at the stand are to be given again in front of the new ones. Behind the call `behind` is where the emitter stands
+/// then; with a fault it is left as it is. All records are looked at before an event is given, and the stand too, so that -1 comes exactly
+/// where a number means nothing, a span that is looked at lies outside, or a text of an event isn't UTF-8.
+pub fn emit_on(
+    alloc: Global,
+    given: &yaml_c_parsed,
+    settings: &yaml_c_settings,
+    stand: &yaml_c_stand,
+    behind: &mut yaml_c_stand,
+    answer: &mut yaml_c_answer,
+) -> i32
+    ensures told { AnswersMeant (onward_meant given.now settings.now stand.now)
+        (EmitsOn behind.old behind.new) answer.new }
+    ensures left { (result ≡ pos 0) ⊎ (behind.new ≡ behind.old) }
+    ensures exact { IsExact (onward_meant given.now settings.now stand.now) result }
+    ensures kind { result ≡ answer.new.kind }
+{
+    *answer = onward_by(alloc, given, settings, stand, behind);
+    answer.kind
+}

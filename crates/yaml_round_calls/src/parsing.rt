@@ -1,0 +1,43 @@
+//! The events of an input, as records.
+
+ghost use Rattle.std.specs.Prelude.{◌≡◌, ◌⊎◌, pos};
+ghost use Rattle.yaml_round_answers.specs.Numbers.{encoding_meant};
+ghost use Rattle.yaml_round_answers.specs.Told.{AnswersMeant, IsExact};
+ghost use Rattle.yaml_round_answers.specs.Parses.{HasNothing, Parses, Fronts, NothingUnmeant};
+
+use std::alloc::Global;
+use yaml_round_answers::{front_by, parsed_by, yaml_c_answer, yaml_c_parsed};
+
+/// The events of the input, as records over one block of bytes. Where it is refused there are none.
+pub fn parse(
+    alloc: Global,
+    input: &[u8],
+    from: i32,
+    blocks: &mut yaml_c_parsed,
+    answer: &mut yaml_c_answer,
+) -> i32
+    ensures told { AnswersMeant (encoding_meant from) (Parses input.now blocks.new) answer.new }
+    ensures none { (result ≡ pos 0) ⊎ HasNothing blocks.new }
+    ensures exact { IsExact (encoding_meant from) result }
+    ensures kind { result ≡ answer.new.kind }
+{
+    *answer = parsed_by(alloc, input, from, blocks);
+    answer.kind
+}
+
+/// The events of the input in front of its end or its fault, as records over one block of bytes.
+pub fn front_events(
+    alloc: Global,
+    input: &[u8],
+    from: i32,
+    blocks: &mut yaml_c_parsed,
+    answer: &mut yaml_c_answer,
+) -> i32
+    ensures told { AnswersMeant (encoding_meant from) (Fronts input.now blocks.new) answer.new }
+    ensures none { NothingUnmeant (encoding_meant from) blocks.new }
+    ensures exact { IsExact (encoding_meant from) result }
+    ensures kind { result ≡ answer.new.kind }
+{
+    *answer = front_by(alloc, input, from, blocks);
+    answer.kind
+}

@@ -1,0 +1,23 @@
+//! How an answer is written where nothing else is asked for.
+
+ghost use Rattle.std.specs.Prelude.{◌≡◌, Some};
+ghost use Rattle.yaml_round_answers.specs.Settings.{settings_meant, default_record, default_settings};
+
+use yaml_round_answers::{DEFAULT_WIDTH, yaml_c_settings};
+
+/// Sets what `yaml_settings_t::new` has.
+pub fn defaults(settings: &mut yaml_c_settings)
+    ensures engine { settings_meant settings.new ≡ Some default_settings }
+    // The numbers themselves: `yaml_c_emit` takes an encoding of 0 in another way than the engine does.
+    ensures numbers { settings.new ≡ default_record }
+{
+    *settings = yaml_c_settings {
+        encoding: 1,
+        canonical: 1,
+        indent: 2,
+        width: DEFAULT_WIDTH,
+        unicode: 1,
+        line_break: 2,
+        limit: 1_099_511_627_776,
+    };
+}

@@ -192,5 +192,5 @@ pub fn yaml_document_get_node(document: &yaml_document_t, index: i32) -> Option<
 pub fn yaml_document_get_root_node(document: &yaml_document_t) -> Option<&yaml_node_t>
     ensures { option_map (λ n. node_of n.now) result ≡ node_at document.now.nodes (pos 1) }
 {
-    document.nodes.first()
+    yaml_document_get_node(document, 1)
 }

@@ -63,7 +63,7 @@ FIRST = [
     ("aliases looked up once the document has ended", "load: loads: an alias before its anchor"),
     ("the document without root, which ends the loads, never comes", "yaml_parse/ending_document_never_comes"),
     ("names of anchors kept, a shared node written twice", "yaml_round_c/reloaded_as_a_rewriting", "reload: documents 1"),
-    ("the text thrown away behind a wrong event that is given early", "yaml_emit/early_refusal_left_out", "yaml_emit/early_event_dropped"),
+    ("the text thrown away behind a wrong event that is given early", "yaml_emit/early_refusal_left_out"),
     ("the text lost where an indentation is too deep or memory ran out", "yaml_emit/goes_on_after_a_fault"),
     ("want of memory told of another layer, or of the other input", "yaml_round/memory_fault_of_the_writer_for_lines", "yaml_round/second_blamed_for_the_firsts_memory"),
     ("pretty text that has the values alone", "yaml_emit/properties_left_out", "reformat: not shaped as JSON 6, an anchor and an alias"),
@@ -99,6 +99,7 @@ IMPLIED = [
     ("yaml_fault_line", "want of memory names its layer", ["yaml_scan/scanners_memory_told_of_the_reader"], "`memory_fault` is one definition for all calls"),
     ("yaml_std_output_t::put", "a failed output stays failed", ["yaml_round_device/failure_not_kept"], "`failure` says of an output what it says of an input, word for word"),
     ("yaml_run", "the output is finished behind a whole answer", ["yaml_round_device/finish_not_called"], "`finished` is the clause of `yaml_write_all`, word for word"),
+    ("yaml_emitter_emit_early", "each event that is given early is laid out", ["yaml_emit/early_refusal_left_out"], "`GivesText` says of each event what it says of a wrong one: `first` and `lays`"),
     ("yaml_diff_documents", "each mark of a place of loaded documents is of its own input's event", ["yaml_round/second_mark_for_the_first"], "`TellsOf` is one record for both calls"),
 ]
 

@@ -141,9 +141,34 @@ impl Keys {
             return self.innermost.must_come();
         }
         if self.gone == 0 {
-            return self.outer[0].must_come();
+            return self.outermost();
         }
         None
+    }
+
+    /// The start of the outermost candidate that is kept, where its `:` must come.
+    // Inlined: mostly a look at two bytes.
+    #[inline(always)]
+    fn outermost(&self) -> Option<yaml_mark_t>
+        requires { 0 < length self.now.outer.items }
+        ensures { result ≡ required_view (key_view (key_at (stack_of self.now) 0)) }
+    {
+        if self.outer[0].required && self.outer[0].possible {
+            return self.outermost_start();
+        }
+        None
+    }
+
+    /// The same, where it must.
+    // Out of line and cold: it is rare. In line the places of both starts would be put aside for each token, and each start be
+    // read by them.
+    #[cold]
+    #[inline(never)]
+    fn outermost_start(&self) -> Option<yaml_mark_t>
+        requires { 0 < length self.now.outer.items }
+        ensures { result ≡ required_view (key_view (key_at (stack_of self.now) 0)) }
+    {
+        self.outer[0].must_come()
     }
 
     /// The number of the earliest candidate that isn't stale at that place, if there is one. Each that is passed is passed
@@ -231,7 +256,7 @@ impl Keys {
         self.spare();
         self.save(lexeme, number);
         self.outer.reserve(1)?;
-        self.outer.push_reserved(self.innermost);
+        self.outer.push_reserved(key_again(&self.innermost));
         self.innermost.possible = false;
         Ok(())
     }
@@ -276,7 +301,7 @@ impl Keys {
     {
         match self.outer.pop() {
             Some(key) => {
-                self.innermost = key;
+                put_again(&mut self.innermost, &key);
                 self.stale = least(self.stale, self.outer.len());
             }
             None => {
@@ -303,6 +328,32 @@ fn put_key(key: &mut Key, number: usize, lexeme: Lexeme)
     key.start = mark_again(&lexeme.start);
     key.possible = true;
     key.required = lexeme.required;
+}
+
+/// A key once more, number by number: the place of one that is copied whole is put aside for each token.
+// Inlined: some loads.
+#[inline(always)]
+fn key_again(key: &Key) -> Key
+    ensures { result ≡ key.now }
+{
+    Key {
+        number: key.number,
+        start: mark_again(&key.start),
+        possible: key.possible,
+        required: key.required,
+    }
+}
+
+/// Puts a key to a place, number by number.
+// Inlined: some stores.
+#[inline(always)]
+fn put_again(to: &mut Key, key: &Key)
+    ensures { to.new ≡ key.now }
+{
+    to.number = key.number;
+    to.start = mark_again(&key.start);
+    to.possible = key.possible;
+    to.required = key.required;
 }
 
 /// The lesser one.

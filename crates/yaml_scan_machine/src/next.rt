@@ -354,13 +354,37 @@ fn ended_at(lexeme: Lexeme, read: &Word, reached: yaml_mark_t) -> Lexeme
 fn still_required(required: Option<yaml_mark_t>, lexeme: Lexeme) -> Option<yaml_mark_t>
     ensures { result ≡ required_behind required lexeme }
 {
-    if 0 < lexeme.depth || !lexeme.saved && !lexeme.kind.cancels() {
+    if lexeme.required {
+        return required_by(required, lexeme);
+    }
+    if stands_beside(lexeme) {
         return required;
     }
-    if lexeme.required {
-        return Some(lexeme.start);
-    }
     None
+}
+
+/// The required candidate that is open behind a lexeme that may be one itself.
+// Asked by itself: where none was open, what else the lexeme says isn't asked of one that is none.
+// Inlined: the kind is known where it is called.
+#[inline(always)]
+fn required_by(required: Option<yaml_mark_t>, lexeme: Lexeme) -> Option<yaml_mark_t>
+    requires { lexeme.required ≡ true }
+    ensures { result ≡ required_behind required lexeme }
+{
+    if stands_beside(lexeme) {
+        return required;
+    }
+    Some(lexeme.start)
+}
+
+/// Whether a lexeme leaves the candidate outside all brackets.
+// Inlined: the kind is known where it is called.
+#[inline(always)]
+fn stands_beside(lexeme: Lexeme) -> bool
+    ensures { result ≡ (nat_lt 0 lexeme.depth
+        || (not lexeme.saved && not (kinds.cancels lexeme.kind))) }
+{
+    0 < lexeme.depth || !lexeme.saved && !lexeme.kind.cancels()
 }
 
 /// The lexeme with its end, unless a required candidate is stale there.

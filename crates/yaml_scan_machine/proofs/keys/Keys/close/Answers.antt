@@ -1,4 +1,4 @@
-use Rattle.std.proofs.Common.{false, refl, arith}
+use Rattle.std.proofs.Common.{◌≡◌, ◌∙◌, [], ◌∷◌, ◌++◌, false, refl, sym, ap, arith}
 use Rattle.yaml_scan_machine.specs.Candidates.{KeyStack, stack_of}
 use Rattle.yaml_scan_machine.specs.declared.keys.Key.{Key}
 use Rattle.yaml_scan_machine.proofs.KeysLemmas.{popped_turns, bare_turns}
@@ -7,8 +7,9 @@ use Rattle.yaml_scan_machine.proofs.keys.Keys.close.Goals as goal
 pub returns-in-Some : goal.returns-in-Some
 returns-in-Some c =
     let s = stack_of c.args.self.now in
-    let t : KeyStack = record { gone = s.gone; outer = c.pop.new.self.items; innermost = c.in-Some.key; stale = c.least-self.result } in
-    popped_turns c.args.lexeme c.args.number s t c.in-Some.ensures.items refl c.least-self.ensures.first (omega (arith, c.least-self.ensures.second, c.len.ensures))
+    let t : KeyStack = record { gone = s.gone; outer = c.pop.new.self.items; innermost = c.put_again.new.to; stale = c.least-self.result } in
+    let kept : s.outer ≡ t.outer ++ t.innermost ∷ [] = c.in-Some.ensures.items ∙ ap (λ (k : Key). c.pop.new.self.items ++ k ∷ []) (sym c.put_again.ensures) in
+    popped_turns c.args.lexeme c.args.number s t kept refl c.least-self.ensures.first (omega (arith, c.least-self.ensures.second, c.len.ensures))
 
 pub returns-in-None : goal.returns-in-None
 returns-in-None c =

@@ -4,9 +4,9 @@ use Rattle.std.specs.Prelude.{if◌then◌else◌}
 use Rattle.std.specs.Str.{chars}
 use Rattle.std.proofs.lemmas.List.{length-append}
 use Rattle.std.proofs.lemmas.Str.{encodes-append}
-use Rattle.yaml_scan_history.specs.scan_model.Marks.{byte}
-use Rattle.yaml_scan_history.specs.scan_words.Written.{HasAt}
-use Rattle.yaml_scan_history.proofs.HasLemmas.{Has, has, has_front, has_rest}
+use Rattle.yaml_emit_laws_text.specs.scan_model.Marks.{byte}
+use Rattle.yaml_emit_laws_text.specs.scan_history.scan_words.Written.{HasAt}
+use Rattle.yaml_emit_laws_text.proofs.HasLemmas.{Has, has, has_front, has_rest}
 use Rattle.yaml_emit_laws_text.specs.emit_text.declared.Cursor.{Cursor}
 use Rattle.yaml_emit_laws_text.specs.emit_text.declared.LineBreak.{LineBreak}
 use Rattle.yaml_emit_laws_text.specs.emit_text.declared.page.Page.{Page}

@@ -1,10 +1,10 @@
 -- The column of a block scalar's text, by digit and without.
 use Rattle.std.proofs.Common.{◌≡◌, ◌≢◌, ℕ, zero, suc, ◌+◌, ◌-◌, ◌<◌, ◌≤◌, true, ◌==◌, List, length, replicate, Ok, refl, sym, ap, subst, ◌∙◌, arith, add-zero}
 use Rattle.std.proofs.lemmas.Bool.Decides.{nat_tests}
-use Rattle.yaml_scan_history.specs.scan_model.Marks.{byte, break_width, column_at}
-use Rattle.yaml_scan_history.specs.scan_model.Runs.{is_space_there, past_spaces}
-use Rattle.yaml_scan_history.proofs.RunsLemmas.{InRun, run_start, run_more, run_done, no_space}
-use Rattle.yaml_scan_history.proofs.HasLemmas.{Has}
+use Rattle.yaml_emit_laws_text.specs.scan_model.Marks.{byte, break_width, column_at}
+use Rattle.yaml_emit_laws_text.specs.scan_model.Runs.{is_space_there, past_spaces}
+use Rattle.yaml_emit_laws_text.proofs.RunsLemmas.{InRun, run_start, run_more, run_done, no_space}
+use Rattle.yaml_emit_laws_text.proofs.HasLemmas.{Has}
 use Rattle.yaml_scan_block.specs.Block.{larger, column_of}
 use Rattle.yaml_scan_block.proofs.DepthLemmas.{depth_done, column_given, column_found}
 use Rattle.yaml_emit_laws_block.proofs.Reading.{spaces_column}

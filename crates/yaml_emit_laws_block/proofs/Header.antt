@@ -1,12 +1,12 @@
 -- The header of a block scalar is read.
 use Rattle.std.proofs.Common.{◌≡◌, ◌≢◌, ℕ, ◌+◌, ◌<◌, ◌≤◌, Bool, true, false, not, ◌==◌, ◌||◌, nat_lt, List, [], ◌∷◌, ◌++◌, length, Ok, refl, sym, ap, subst, ◌∙◌, arith, add-zero}
 use Rattle.std.proofs.lemmas.Bool.Decides.{nat_tests}
-use Rattle.yaml_scan_history.specs.scan_model.Marks.{byte, break_width, column_at, is_blank}
-use Rattle.yaml_scan_history.proofs.MarksLemmas.{past_break}
-use Rattle.yaml_scan_history.specs.scan_model.Runs.{is_text, is_blank_there, past_blanks}
-use Rattle.yaml_scan_history.specs.scan_model.Classes.{is_digit_byte}
-use Rattle.yaml_scan_history.proofs.RunsLemmas.{past_stop}
-use Rattle.yaml_scan_history.proofs.HasLemmas.{Has}
+use Rattle.yaml_emit_laws_text.specs.scan_model.Marks.{byte, break_width, column_at, is_blank}
+use Rattle.yaml_emit_laws_text.proofs.MarksLemmas.{past_break}
+use Rattle.yaml_emit_laws_text.specs.scan_model.Runs.{is_text, is_blank_there, past_blanks}
+use Rattle.yaml_emit_laws_text.specs.scan_model.Classes.{is_digit_byte}
+use Rattle.yaml_emit_laws_text.proofs.RunsLemmas.{past_stop}
+use Rattle.yaml_emit_laws_text.proofs.HasLemmas.{Has}
 use Rattle.yaml_scan_block.specs.Header.{is_chomping, chomp_of as chomp_at, digit_of, digit_place, chomping_place, indicators, past_comment, header_end, header_at}
 use Rattle.yaml_scan_block.proofs.HeaderLemmas.{whole_header}
 use Rattle.yaml_emit_laws_text.specs.emit_text.declared.LineBreak.{LineBreak}

@@ -2,10 +2,10 @@
 use Rattle.std.proofs.Common.{◌≡◌, ◌≢◌, ℕ, ◌+◌, ◌<◌, ◌≤◌, true, false, ◌||◌, ◌==◌, List, [], ◌∷◌, ◌++◌, length, refl, sym, ap, ◌∙◌, inl, inr, arith, encode_utf8, encode_utf8_all}
 use Rattle.std.proofs.lemmas.Bool.{cases_lt, cases_eq, ne_eqb}
 use lib.Utf8.{encode}
-use Rattle.yaml_scan_history.specs.scan_model.Marks.{byte, break_of, break_width, is_blank}
-use Rattle.yaml_scan_history.specs.scan_model.Breaks.{break_value, is_feed}
-use Rattle.yaml_scan_history.specs.scan_block.Value.{starts_blank}
-use Rattle.yaml_scan_history.proofs.HasLemmas.{Has}
+use Rattle.yaml_emit_laws_text.specs.scan_model.Marks.{byte, break_of, break_width, is_blank}
+use Rattle.yaml_emit_laws_text.specs.scan_model.Breaks.{break_value, is_feed}
+use Rattle.yaml_scan_block.specs.Value.{starts_blank}
+use Rattle.yaml_emit_laws_text.proofs.HasLemmas.{Has}
 use Rattle.yaml_emit_laws_text.specs.emit_text.declared.LineBreak.{LineBreak}
 use Rattle.yaml_emit_laws_text.specs.emit_text.declared.LineBreak.TheVariants.{Lf, Cr, CrLf}
 use Rattle.yaml_emit_laws_text.specs.emit_text.Text.{is_break}

@@ -3,8 +3,8 @@ use Rattle.std.proofs.Common.{◌≡◌, ℕ, ◌+◌, ◌-◌, ◌≤◌, Bool,
 use Rattle.std.proofs.lemmas.Bool.{cases_lt, or_parts, eqb-false}
 use Rattle.std.proofs.lemmas.Bool.Decides.{nat_tests}
 use Rattle.std.proofs.lemmas.List.{get_or_past}
-use Rattle.yaml_scan_history.specs.scan_model.Marks.{byte, break_of, is_blank}
-use Rattle.yaml_scan_history.proofs.HasLemmas.{has_front}
+use Rattle.yaml_emit_laws_text.specs.scan_model.Marks.{byte, break_of, is_blank}
+use Rattle.yaml_emit_laws_text.proofs.HasLemmas.{has_front}
 use Rattle.yaml_emit_laws_text.specs.emit_text.declared.Cursor.{Cursor}
 use Rattle.yaml_emit_laws_text.specs.emit_text.Text.{Item}
 use Rattle.yaml_emit_laws_text.specs.emit_text.Layout.{Rest}

@@ -4,13 +4,13 @@ use Rattle.std.proofs.lemmas.Bool.{cases_lt, and_parts, not-true, eqb-false}
 use Rattle.std.proofs.lemmas.Bool.Decides.{nat_tests}
 use Rattle.std.proofs.lemmas.List.{length-append}
 use Rattle.std.proofs.lemmas.Str.{encode_ascii, encodes-append}
-use Rattle.yaml_scan_history.specs.scan_model.Marks.{byte, break_of, break_width, column_at}
-use Rattle.yaml_scan_history.specs.scan_model.Breaks.{break_value, feed_at}
-use Rattle.yaml_scan_history.specs.scan_model.Runs.{is_text, line_end}
-use Rattle.yaml_scan_history.specs.scan_model.Wrong.{Wrong}
-use Rattle.yaml_scan_history.proofs.MarksLemmas.{within, past_break}
-use Rattle.yaml_scan_history.proofs.RunsLemmas.{InRun, run_start, run_more, run_done, text_parts}
-use Rattle.yaml_scan_history.proofs.HasLemmas.{Has, has, has_front, has_rest, range_reads}
+use Rattle.yaml_emit_laws_text.specs.scan_model.Marks.{byte, break_of, break_width, column_at}
+use Rattle.yaml_emit_laws_text.specs.scan_model.Breaks.{break_value, feed_at}
+use Rattle.yaml_emit_laws_text.specs.scan_model.Runs.{is_text, line_end}
+use Rattle.yaml_emit_laws_text.specs.scan_model.Wrong.{Wrong}
+use Rattle.yaml_emit_laws_text.proofs.MarksLemmas.{within, past_break}
+use Rattle.yaml_emit_laws_text.proofs.RunsLemmas.{InRun, run_start, run_more, run_done, text_parts}
+use Rattle.yaml_emit_laws_text.proofs.HasLemmas.{Has, has, has_front, has_rest, range_reads}
 use Rattle.yaml_scan_block.specs.Value.{BlockLine, Empty, Words}
 use Rattle.yaml_scan_block.specs.Lines.{spaces, Line, spot_behind, line_spot, Lines, with_line, line_then, lines_from}
 use Rattle.yaml_scan_block.proofs.BlockLemmas.{space_column, empty_spot, end_spot, text_spot, stop_short, no_stop}

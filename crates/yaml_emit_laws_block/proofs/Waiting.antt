@@ -2,7 +2,7 @@
 use Rattle.std.proofs.Common.{◌≡◌, ℕ, ◌<◌, Bool, true, false, not, ◌&&◌, List, [], ◌∷◌, ◌++◌, length, refl, sym, ap, ◌∙◌, arith, append-nil, append_assoc}
 use Rattle.std.specs.Prelude.{if◌then◌else◌}
 use Rattle.std.proofs.lemmas.Bool.{true≢false}
-use Rattle.yaml_scan_history.specs.scan_model.Breaks.{is_feed}
+use Rattle.yaml_emit_laws_text.specs.scan_model.Breaks.{is_feed}
 use Rattle.yaml_scan_block.specs.Header.{chomp_of as chomp_at}
 use Rattle.yaml_scan_block.specs.Value.{BlockLine, Words, texts_of, starts_blank, space_or, between, behind_text, value_with}
 use Rattle.yaml_scan_block.specs.Stacked.{stacked_with}

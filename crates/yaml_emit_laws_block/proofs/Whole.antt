@@ -6,13 +6,13 @@ use Rattle.std.proofs.lemmas.Bool.Decides.{nat_tests}
 use Rattle.std.proofs.lemmas.List.{length-append}
 use Rattle.std.proofs.lemmas.Str.{encode_ascii, encodes-append, encodes-chars}
 use Rattle.std.proofs.lemmas.Bool.{false≢true, true≢false, not-true, or_parts, eqb-false}
-use Rattle.yaml_scan_history.specs.scan_model.Marks.{byte, break_width, column_at, is_blank}
-use Rattle.yaml_scan_history.specs.scan_model.Wrong.{Wrong}
-use Rattle.yaml_scan_history.specs.scan_words.Written.{HasAt}
-use Rattle.yaml_scan_history.specs.scan_words.Indicators.{is_document_start, is_document_end}
-use Rattle.yaml_scan_history.specs.Words.{indicator_of, kind_at, blocked, word_at}
-use Rattle.yaml_scan_history.proofs.HasLemmas.{Has, has, has_front, has_rest}
-use Rattle.yaml_scan_history.proofs.RunsLemmas.{text_parts}
+use Rattle.yaml_emit_laws_text.specs.scan_model.Marks.{byte, break_width, column_at, is_blank}
+use Rattle.yaml_emit_laws_text.specs.scan_model.Wrong.{Wrong}
+use Rattle.yaml_emit_laws_text.specs.scan_history.scan_words.Written.{HasAt}
+use Rattle.yaml_emit_laws_text.specs.scan_history.scan_words.Indicators.{is_document_start, is_document_end}
+use Rattle.yaml_emit_laws_text.specs.scan_history.Words.{indicator_of, kind_at, blocked, word_at}
+use Rattle.yaml_emit_laws_text.proofs.HasLemmas.{Has, has, has_front, has_rest}
+use Rattle.yaml_emit_laws_text.proofs.RunsLemmas.{text_parts}
 use Rattle.yaml_scan_block.specs.Value.{starts_blank, block_value}
 use Rattle.yaml_scan_block.specs.Stacked.{stacked_with}
 use Rattle.yaml_scan_block.specs.Header.{chomp_of as chomp_at}

@@ -1,13 +1,13 @@
 -- A block scalar as a lexeme.
 use Rattle.std.specs.Prelude.{ℕ, ◌+◌, ◌<◌, ◌≡◌, Bool, true, false, List, [], ◌∷◌, ◌++◌, length, None}
-use Rattle.yaml_scan_history.specs.scan_model.declared.name.yaml_encoding_t.{yaml_encoding_t}
-use Rattle.yaml_scan_history.specs.scan_model.Marks.{mark_at}
-use Rattle.yaml_scan_history.specs.scan_model.Tokens.{scalar}
-use Rattle.yaml_scan_history.specs.declared.lexeme.Lexeme.{Lexeme}
-use Rattle.yaml_scan_history.specs.declared.lexeme.Opens.TheVariants as opening
-use Rattle.yaml_scan_history.specs.History.{depth, ended, candidate, levels, entries, entry_of, inside, key_allowed}
-use Rattle.yaml_scan_history.specs.Next.{Read, next, gap_behind, place_behind, level_in, stale_before, candidate_lost}
-use Rattle.yaml_scan_history.specs.Remaining.{body_in}
+use Rattle.yaml_emit_laws_text.specs.scan_model.declared.name.yaml_encoding_t.{yaml_encoding_t}
+use Rattle.yaml_emit_laws_text.specs.scan_model.Marks.{mark_at}
+use Rattle.yaml_emit_laws_text.specs.scan_model.Tokens.{scalar}
+use Rattle.yaml_emit_laws_text.specs.scan_history.declared.lexeme.Lexeme.{Lexeme}
+use Rattle.yaml_emit_laws_text.specs.scan_history.declared.lexeme.Opens.TheVariants as opening
+use Rattle.yaml_emit_laws_text.specs.scan_history.History.{depth, ended, candidate, levels, entries, entry_of, inside, key_allowed}
+use Rattle.yaml_emit_laws_text.specs.scan_history.Next.{Read, next, gap_behind, place_behind, level_in, stale_before, candidate_lost}
+use Rattle.yaml_emit_laws_text.specs.scan_history.Remaining.{body_in}
 use Rattle.yaml_emit_laws_block.specs.Laws.{kind_of, read_style, BlockStands}
 
 -- Behind these lexemes a block scalar comes, with that value. It opens no level, no candidate is behind it, and a key may begin.

@@ -4,4 +4,4 @@ pub mod Lexemes
 pub mod Passed
 -- what it stands on, for crates of laws that name this one alone
 pub use Rattle.yaml_emit_laws_text.specs.emit_text
-pub use Rattle.yaml_scan_history.specs as scan_history
+pub use Rattle.yaml_emit_laws_text.specs.scan_history as scan_history

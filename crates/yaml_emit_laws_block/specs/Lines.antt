@@ -1,8 +1,8 @@
 -- The lines of a block scalar, as they are written and as they are read.
 use Rattle.std.specs.Prelude.{ℕ, ◌+◌, ◌<◌, ◌≡◌, ◌≢◌, Bool, true, not, ◌&&◌, ◌==◌, if◌then◌else◌, List, [], ◌∷◌, ◌++◌, replicate, encode_utf8_all}
-use Rattle.yaml_scan_history.specs.scan_model.Marks.{byte, break_width}
-use Rattle.yaml_scan_history.specs.scan_words.Written.{HasAt}
-use Rattle.yaml_scan_history.specs.scan_block.Value.{BlockLine, Empty, Words}
+use Rattle.yaml_emit_laws_text.specs.scan_model.Marks.{byte, break_width}
+use Rattle.yaml_emit_laws_text.specs.scan_history.scan_words.Written.{HasAt}
+use Rattle.yaml_scan_block.specs.Value.{BlockLine, Empty, Words}
 use Rattle.yaml_emit_laws_text.specs.emit_text.declared.LineBreak.{LineBreak}
 use Rattle.yaml_emit_laws_text.specs.emit_text.Text.{is_break}
 use Rattle.yaml_emit_laws_text.specs.emit_text.Spelling.{break_text}

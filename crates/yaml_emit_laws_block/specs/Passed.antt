@@ -1,7 +1,7 @@
 -- A block scalar in a text that goes on as its layout does.
 use Rattle.std.specs.Prelude.{ℕ, ◌+◌, ◌<◌, ◌≡◌, Bool, true, false, ◌||◌, nat_lt, List, get_or, IsUtf8}
 use Rattle.std.specs.Str.{chars}
-use Rattle.yaml_scan_history.specs.scan_model.Marks.{break_of, is_blank}
+use Rattle.yaml_emit_laws_text.specs.scan_model.Marks.{break_of, is_blank}
 use Rattle.yaml_emit_laws_text.specs.emit_text.declared.Cursor.{Cursor}
 use Rattle.yaml_emit_laws_text.specs.emit_text.Layout.{Rest, ◌▹◌, line}
 use Rattle.yaml_emit_laws_text.specs.emit_text.Scalars.{chomp}

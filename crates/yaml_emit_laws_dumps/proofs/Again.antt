@@ -2,9 +2,9 @@
 use Rattle.std.proofs.Common.{◌≡◌, ◌<◌, ◌≤◌, ◌+◌, ℕ, zero, suc, ℤ, pos, Bool, true, false, List, [], ◌∷◌, length, Some, refl, ap, subst, ◌∙◌, inl, inr, arith}
 use Rattle.std.specs.Prelude.{slice_get, if◌then◌else◌, Option}
 use Rattle.std.proofs.lemmas.Option.{slice_get_within}
-use Rattle.yaml_parse_model.specs.declared.yaml_node_pair_t.{yaml_node_pair_t}
-use Rattle.yaml_parse_model.specs.Nodes.{Node, NodeBody}
-use Rattle.yaml_parse_model.specs.Nodes as model
+use Rattle.yaml_emit_graph.specs.emit_layout.parse_model.declared.yaml_node_pair_t.{yaml_node_pair_t}
+use Rattle.yaml_emit_graph.specs.emit_layout.parse_model.Nodes.{Node, NodeBody}
+use Rattle.yaml_emit_graph.specs.emit_layout.parse_model.Nodes as model
 use Rattle.yaml_parse_loader.specs.Order.{VisitsInPreorder, IsInPreorder, done, again, first, children, pair_numbers}
 use Rattle.yaml_emit_graph.specs.declared.walk.Turn.{Turn}
 use Rattle.yaml_emit_graph.specs.declared.walk.Turn.TheVariants.{First, Again, Leave}

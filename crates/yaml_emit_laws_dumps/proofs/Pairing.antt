@@ -1,11 +1,11 @@
 -- A mapping's keys and values, two by two: what is said of the items that they are together holds of the pairs.
 use Rattle.std.proofs.Common.{◌≡◌, ◌+◌, ℕ, ℤ, List, [], ◌∷◌, ◌++◌, length, Result, Ok, Err, refl, ap, ◌∙◌}
-use Rattle.yaml_parse_model.specs.declared.yaml_node_pair_t.{yaml_node_pair_t}
-use Rattle.yaml_parse_model.specs.Faults.{Fault}
-use Rattle.yaml_parse_model.specs.Nodes.{Node}
+use Rattle.yaml_emit_graph.specs.emit_layout.parse_model.declared.yaml_node_pair_t.{yaml_node_pair_t}
+use Rattle.yaml_emit_graph.specs.emit_layout.scan_model.Faults.{Fault}
+use Rattle.yaml_emit_graph.specs.emit_layout.parse_model.Nodes.{Node}
 use Rattle.yaml_parse_loader.specs.Numbering.{Anchored, Numbered, ◌>>=◌, number, number_items, number_pairs}
 use Rattle.yaml_parse_loader.specs.Order.{pair_numbers}
-use Rattle.yaml_emit_layout.specs.Content as emit
+use Rattle.yaml_emit_graph.specs.emit_layout.Content as emit
 use Rattle.yaml_emit_graph.specs.Graph.{Met}
 use Rattle.yaml_emit_graph.specs.Onward.{items_by, pairs_by}
 use Rattle.yaml_emit_laws_dumps.specs.Dumps.{as_content, as_contents, as_pairs, AreAsMany}

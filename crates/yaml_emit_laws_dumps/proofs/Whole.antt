@@ -1,14 +1,14 @@
 -- A dump of a loaded document is numbered as the document is.
 use Rattle.std.proofs.Common.{◌≡◌, ◌<◌, ℕ, suc, ℤ, pos, List, [], ◌∷◌, ◌++◌, length, map, take, Result, Ok, Err, refl, sym, ap, ◌∙◌, arith, append-nil}
-use Rattle.yaml_parse_model.specs.Faults.{Fault}
-use Rattle.yaml_parse_model.specs.Events.{Event}
-use Rattle.yaml_parse_model.specs.Nodes.{Node}
-use Rattle.yaml_parse_document.specs.Documents.{Document}
+use Rattle.yaml_emit_graph.specs.emit_layout.scan_model.Faults.{Fault}
+use Rattle.yaml_emit_graph.specs.emit_layout.parse_model.Events.{Event}
+use Rattle.yaml_emit_graph.specs.emit_layout.parse_model.Nodes.{Node}
+use Rattle.yaml_parse_laws_trees.specs.parse_document.Documents.{Document}
 use Rattle.yaml_parse_loader.specs.Loading.{Loading, load, behind}
 use Rattle.yaml_parse_loader.specs.Loading as loading
 use Rattle.yaml_parse_loader.specs.Numbering.{Numbered, ◌>>=◌, number, number_items, DocumentContent, document_of, document_events}
 use Rattle.yaml_parse_loader.specs.Order.{VisitsInPreorder, done, again, first}
-use Rattle.yaml_emit_layout.specs.Content as emit
+use Rattle.yaml_emit_graph.specs.emit_layout.Content as emit
 use Rattle.yaml_emit_graph.specs.Graph.{Met, Numbering, numbered, none_numbered, numbers, turns, graph_root, graph_content}
 use Rattle.yaml_emit_graph.specs.Onward.{items_by, content_by, itself, root_onward}
 use Rattle.yaml_emit_graph.proofs.Joining.{root_joined}

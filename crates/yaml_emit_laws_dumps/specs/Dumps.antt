@@ -1,16 +1,16 @@
 -- The content of a dump as a loader is fed it, and what is true of the nodes and the numbers of a loaded document.
 use Rattle.std.specs.Prelude.{◌≡◌, ◌≤◌, ◌+◌, ◌-◌, ℕ, zero, suc, ℤ, pos, true, false, List, [], ◌∷◌, ◌++◌, length, map, take, replicate, get_or, slice_get, ◌⊎◌, Option, Some, Ok}
-use Rattle.yaml_parse_model.specs.declared.yaml_scalar_style_t.TheVariants.{YAML_ANY_SCALAR_STYLE}
-use Rattle.yaml_parse_model.specs.declared.yaml_sequence_style_t.TheVariants.{YAML_ANY_SEQUENCE_STYLE}
-use Rattle.yaml_parse_model.specs.declared.yaml_mapping_style_t.TheVariants.{YAML_ANY_MAPPING_STYLE}
-use Rattle.yaml_parse_model.specs.Tokens.{zero_mark}
-use Rattle.yaml_parse_model.specs.Nodes.{Node, NodeBody}
-use Rattle.yaml_parse_model.specs.Nodes as model
-use Rattle.yaml_parse_document.specs.Documents.{Document}
+use Rattle.yaml_emit_graph.specs.emit_layout.parse_model.declared.yaml_scalar_style_t.TheVariants.{YAML_ANY_SCALAR_STYLE}
+use Rattle.yaml_emit_graph.specs.emit_layout.parse_model.declared.yaml_sequence_style_t.TheVariants.{YAML_ANY_SEQUENCE_STYLE}
+use Rattle.yaml_emit_graph.specs.emit_layout.parse_model.declared.yaml_mapping_style_t.TheVariants.{YAML_ANY_MAPPING_STYLE}
+use Rattle.yaml_emit_graph.specs.emit_layout.scan_model.Tokens.{zero_mark}
+use Rattle.yaml_emit_graph.specs.emit_layout.parse_model.Nodes.{Node, NodeBody}
+use Rattle.yaml_emit_graph.specs.emit_layout.parse_model.Nodes as model
+use Rattle.yaml_parse_laws_trees.specs.parse_document.Documents.{Document}
 use Rattle.yaml_parse_loader.specs.Numbering.{Head, Span, Content, Contents, DocumentContent, Anchored, and_node, number_items, is_bang}
 use Rattle.yaml_parse_loader.specs.Numbering as numbering
 use Rattle.yaml_parse_loader.specs.Order.{VisitsInPreorder, done, again, first, IsInPreorder}
-use Rattle.yaml_emit_layout.specs.Content as emit
+use Rattle.yaml_emit_graph.specs.emit_layout.Content as emit
 use Rattle.yaml_emit_graph.specs.declared.walk.Turn.{Turn}
 use Rattle.yaml_emit_graph.specs.declared.walk.Turn.TheVariants.{Again}
 use Rattle.yaml_emit_graph.specs.Graph.{Met, number_at, anchor_of, Numbering}

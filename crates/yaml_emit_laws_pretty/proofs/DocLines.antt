@@ -15,7 +15,7 @@ use Rattle.yaml_emit_laws_text.specs.emit_layout.Nodes.{dots}
 use Rattle.yaml_emit_laws_text.specs.Walk.{Left, bytes}
 use Rattle.yaml_emit_laws_text.proofs.Places.{left_first, left_more}
 use Rattle.yaml_emit_laws_text.proofs.Documents.{Thrice, thrice_dash, thrice_dot, three, behind_three, line_blank}
-use Rattle.yaml_scan_laws_order.proofs.MarksForward.{line_at-grows}
+use Rattle.yaml_scan_laws_levels.proofs.MarksForward.{line_at-grows}
 use Rattle.yaml_scan_laws_levels.specs.Steps.{Comes}
 use Rattle.yaml_scan_laws_levels.specs.Walks.{WalkState, behind}
 use Rattle.yaml_scan_laws_levels.proofs.Stepping.{words_leave}

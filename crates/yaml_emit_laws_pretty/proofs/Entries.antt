@@ -15,7 +15,7 @@ use Rattle.yaml_emit_laws_text.specs.emit_layout.emit_text.Text.{letter}
 use Rattle.yaml_emit_laws_text.specs.Walk.{Left, bytes}
 use Rattle.yaml_emit_laws_text.proofs.Places.{left_first, left_more}
 use Rattle.yaml_emit_laws_text.proofs.Steps.{left_letter}
-use Rattle.yaml_scan_laws_order.proofs.MarksForward.{line_at-grows}
+use Rattle.yaml_scan_laws_levels.proofs.MarksForward.{line_at-grows}
 use Rattle.yaml_scan_laws_levels.specs.Fronts.{Rises}
 use Rattle.yaml_scan_laws_levels.specs.White.{IsGap}
 use Rattle.yaml_scan_laws_levels.specs.Walks.{WalkState, ClosesAt, behind}

@@ -8,7 +8,7 @@ use Rattle.yaml_emit_laws_text.specs.Walk.{Has}
 use Rattle.yaml_emit_laws_text.proofs.Bytes.{AreCalm, calm_end}
 use Rattle.yaml_emit_laws_text.proofs.MarksLemmas.{line_more}
 use Rattle.yaml_emit_laws_text.proofs.Places.{has_front}
-use Rattle.yaml_scan_laws_order.proofs.MarksForward.{line_at-grows}
+use Rattle.yaml_scan_laws_levels.proofs.MarksForward.{line_at-grows}
 use Rattle.yaml_emit_laws_scalars.proofs.Standing.{high_starts, low_starts}
 
 column_step : (text : List ℕ) (q : ℕ) → line_at text (suc q) ≤ line_at text q

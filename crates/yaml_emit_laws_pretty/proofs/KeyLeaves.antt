@@ -21,7 +21,7 @@ use Rattle.yaml_emit_laws_text.specs.emit_layout.Nodes.{Context, context_of, pos
 use Rattle.yaml_emit_laws_text.specs.Walk.{bytes}
 use Rattle.yaml_emit_laws_text.specs.Writable.{IsWritable}
 use Rattle.yaml_emit_laws_text.proofs.Steps.{letter_low}
-use Rattle.yaml_scan_laws_order.proofs.MarksForward.{line_at-grows}
+use Rattle.yaml_scan_laws_levels.proofs.MarksForward.{line_at-grows}
 use Rattle.yaml_scan_laws_levels.specs.Fronts.{Rises}
 use Rattle.yaml_scan_laws_levels.specs.Tokens.{start_bodies}
 use Rattle.yaml_scan_laws_levels.specs.Walks.{WalkReads, ClosesAt, Outside}

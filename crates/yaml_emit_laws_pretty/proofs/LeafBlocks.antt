@@ -30,8 +30,8 @@ use Rattle.yaml_emit_laws_block.specs.Passed.{behind_line, BlockPassed}
 use Rattle.yaml_emit_laws_block.proofs.Whole.{block_back}
 use Rattle.yaml_emit_laws_block.proofs.Behind.{block_at_position}
 use Rattle.yaml_emit_laws_block.proofs.Passing.{block_is_passed}
-use Rattle.yaml_scan_laws_order.proofs.MarksForward.{line_at-grows}
-use Rattle.yaml_scan_laws_order.proofs.WordForward.{Fits, LandsWord, IsWordFrom, word_lands}
+use Rattle.yaml_scan_laws_levels.proofs.MarksForward.{line_at-grows}
+use Rattle.yaml_scan_laws_levels.proofs.WordForward.{Fits, LandsWord, IsWordFrom, word_lands}
 use Rattle.yaml_scan_laws_levels.specs.Pushes.{stays_level}
 use Rattle.yaml_scan_laws_levels.specs.Steps.{Comes, WordLeaves}
 use Rattle.yaml_scan_laws_levels.specs.Walks.{WalkState, WalkReads, LeaveClear, behind}

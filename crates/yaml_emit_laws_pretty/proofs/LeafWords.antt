@@ -10,7 +10,7 @@ use Rattle.yaml_emit_laws_text.specs.scan_history.Words.{WordText}
 use Rattle.yaml_emit_laws_text.specs.scan_history.declared.kind.Kind.{Kind}
 use Rattle.yaml_emit_laws_text.specs.Walk.{Left}
 use Rattle.yaml_emit_laws_text.proofs.Places.{has_at, left_first, left_more, left_rest}
-use Rattle.yaml_scan_laws_order.proofs.MarksForward.{line_at-grows}
+use Rattle.yaml_scan_laws_levels.proofs.MarksForward.{line_at-grows}
 use Rattle.yaml_scan_laws_levels.specs.Pushes.{IsRight}
 use Rattle.yaml_scan_laws_levels.specs.Walks.{WalkReads, LeaveClear, Outside}
 use Rattle.yaml_scan_laws_levels.proofs.Walking.{walk_white, walk_word, deeper_leaves}

@@ -37,3 +37,7 @@ pub mod LeafDress
 pub mod LeafNodes
 pub mod FlowBlocks
 pub mod Whole
+-- what it stands on, for crates of laws that name this one alone
+pub use Rattle.yaml_emit_laws_text.proofs.Single
+pub use Rattle.yaml_emit_laws_text.proofs.Resolving
+pub use Rattle.yaml_emit_laws_text.proofs.Joining

@@ -23,7 +23,7 @@ use Rattle.std.proofs.lemmas.Bool.Decides.{nat_tests}
 use Rattle.yaml_scan_laws_texts.specs.PlainLaws.{ends_plain}
 use Rattle.yaml_emit_laws_text.specs.scan_history.scan_scalars.Plain.{ends_at}
 use Rattle.yaml_emit_laws_text.specs.scan_history.scan_model.Classes.{is_bom}
-use Rattle.yaml_scan_laws_order.proofs.MarksForward.{line_at-grows}
+use Rattle.yaml_scan_laws_levels.proofs.MarksForward.{line_at-grows}
 use Rattle.yaml_scan_laws_levels.specs.Steps.{Comes}
 use Rattle.yaml_scan_laws_levels.specs.Walks.{WalkState, LeaveClear, behind}
 use Rattle.yaml_scan_laws_levels.proofs.Slotting.{letter_columns}

@@ -15,7 +15,7 @@ use Rattle.yaml_emit_laws_text.specs.emit_layout.emit_text.Layout.{Rest}
 use Rattle.yaml_emit_laws_text.specs.emit_layout.emit_text.Style.{allowed}
 use Rattle.yaml_emit_laws_text.specs.ReadBack.{between_single}
 use Rattle.yaml_emit_laws_text.specs.Walk.{bytes, first}
-use Rattle.yaml_scan_laws_order.proofs.MarksForward.{line_at-grows}
+use Rattle.yaml_scan_laws_levels.proofs.MarksForward.{line_at-grows}
 use Rattle.yaml_scan_laws_levels.specs.Steps.{Comes}
 use Rattle.yaml_scan_laws_levels.specs.Walks.{WalkState, WalkReads, LeaveClear, behind}
 use Rattle.yaml_scan_laws_levels.proofs.Stepping.{words_leave}

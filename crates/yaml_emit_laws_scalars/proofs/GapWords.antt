@@ -2,16 +2,16 @@
 use Rattle.std.proofs.Common.{◌≡◌, ◌≢◌, ℕ, zero, suc, ◌+◌, ◌<◌, ◌≤◌, ◌==◌, ◌&&◌, ◌||◌, nat_lt, not, Bool, true, false, List, [], ◌∷◌, length, Result, Ok, refl, ap, subst, ◌∙◌, inl, inr, ◌⊎◌, arith}
 use Rattle.std.proofs.lemmas.Bool.{not-true, and_parts}
 use Rattle.std.proofs.lemmas.Bool.Decides.{nat_tests}
-use Rattle.yaml_scan_history.specs.scan_model.Marks.{byte, break_of, break_width, column_at, is_blank}
-use Rattle.yaml_scan_history.specs.scan_model.Breaks.{feed_at}
-use Rattle.yaml_scan_history.specs.scan_model.Wrong.{Wrong}
-use Rattle.yaml_scan_history.specs.scan_words.Written.{are_gap, has_break}
-use Rattle.yaml_scan_history.proofs.HasLemmas.{Has}
-use Rattle.yaml_scan_history.proofs.RunsLemmas.{space_parts}
-use Rattle.yaml_scan_history.specs.scan_scalars.Pieces.{Blank, Break}
-use Rattle.yaml_scan_history.specs.scan_scalars.Plain.{leads, Ends, Takes, ends_at, Words, words_from, words}
-use Rattle.yaml_scan_history.proofs.PlainLemmas.{spot_break, spot_blank, spot_ends}
-use Rattle.yaml_scan_laws_texts.specs.PlainLaws.{ends_plain}
+use Rattle.yaml_emit_laws_text.specs.scan_model.Marks.{byte, break_of, break_width, column_at, is_blank}
+use Rattle.yaml_emit_laws_text.specs.scan_model.Breaks.{feed_at}
+use Rattle.yaml_emit_laws_text.specs.scan_model.Wrong.{Wrong}
+use Rattle.yaml_emit_laws_text.specs.scan_history.scan_words.Written.{are_gap, has_break}
+use Rattle.yaml_emit_laws_text.proofs.HasLemmas.{Has}
+use Rattle.yaml_emit_laws_text.proofs.RunsLemmas.{space_parts}
+use Rattle.yaml_emit_laws_text.specs.scan_history.scan_scalars.Pieces.{Blank, Break}
+use Rattle.yaml_emit_laws_text.specs.scan_history.scan_scalars.Plain.{leads, Ends, Takes, ends_at, Words, words_from, words}
+use Rattle.yaml_emit_laws_text.proofs.PlainLemmas.{spot_break, spot_blank, spot_ends}
+use Rattle.yaml_emit_laws_text.specs.scan_laws_texts.PlainLaws.{ends_plain}
 use Rattle.yaml_emit_laws_scalars.proofs.Standing.{words_next}
 
 -- no word more: what is left ends at the place

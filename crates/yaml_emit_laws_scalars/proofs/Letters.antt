@@ -3,16 +3,16 @@ use Rattle.std.proofs.Common.{◌≡◌, ℕ, ◌+◌, ◌<◌, Bool, true, fals
 use Rattle.std.proofs.lemmas.Bool.{true≢false, lt-ltb, eqb-true, and_parts, not-true, or_parts, ne_eqb, eqb-false}
 use Rattle.std.proofs.lemmas.Str.{encode_ascii}
 use lib.Utf8.{scalar}
-use Rattle.yaml_scan_history.specs.scan_model.Marks.{is_blank}
-use Rattle.yaml_emit_layout.specs.emit_text.declared.Cursor.{Cursor}
-use Rattle.yaml_emit_layout.specs.emit_text.declared.LineBreak.{LineBreak}
-use Rattle.yaml_emit_layout.specs.emit_text.declared.LineBreak.TheVariants.{Lf, Cr, CrLf}
-use Rattle.yaml_emit_layout.specs.emit_text.Text.{letter, is_break}
-use Rattle.yaml_emit_layout.specs.emit_text.Layout.{Layout, Rest, when, char, line, is_past}
-use Rattle.yaml_emit_layout.specs.emit_text.declared.Page.{Page}
-use Rattle.yaml_emit_layout.specs.emit_text.Quoted.{is_printable, first}
-use Rattle.yaml_emit_layout.specs.emit_text.Scalars.{cuts_at, text_char}
-use Rattle.yaml_emit_layout.specs.emit_text.Spelling.{in_front, break_text}
+use Rattle.yaml_emit_laws_text.specs.scan_model.Marks.{is_blank}
+use Rattle.yaml_emit_laws_text.specs.emit_text.declared.Cursor.{Cursor}
+use Rattle.yaml_emit_laws_text.specs.emit_text.declared.LineBreak.{LineBreak}
+use Rattle.yaml_emit_laws_text.specs.emit_text.declared.LineBreak.TheVariants.{Lf, Cr, CrLf}
+use Rattle.yaml_emit_laws_text.specs.emit_text.Text.{letter, is_break}
+use Rattle.yaml_emit_laws_text.specs.emit_text.Layout.{Layout, Rest, when, char, line, is_past}
+use Rattle.yaml_emit_laws_text.specs.emit_text.declared.Page.{Page}
+use Rattle.yaml_emit_laws_text.specs.emit_text.Quoted.{is_printable, first}
+use Rattle.yaml_emit_laws_text.specs.emit_text.Scalars.{cuts_at, text_char}
+use Rattle.yaml_emit_laws_text.specs.emit_text.Spelling.{in_front, break_text}
 use Rattle.yaml_emit_laws_text.specs.Spelling.{may_turn, QuotedPart, raw, doubled, fold, may_be_raw, MayStand, spelled, meant, is_raw_blank, is_turn, may_follow}
 use Rattle.yaml_emit_laws_text.proofs.Values.{cond_true, cond_false}
 use Rattle.yaml_emit_laws_text.proofs.Escapes.{low_encodes, end_of, fold_bytes, fold_means, space_encodes}

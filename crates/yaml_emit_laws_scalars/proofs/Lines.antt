@@ -3,15 +3,15 @@ use Rattle.std.proofs.Common.{◌≡◌, ℕ, zero, suc, ◌+◌, ◌-◌, Bool,
 use Rattle.std.proofs.lemmas.Bool.{true≢false, eqb-true, ne_eqb}
 use Rattle.std.proofs.lemmas.Bool.Decides.{nat_tests}
 use Rattle.std.proofs.Math.Bool.{and-false}
-use Rattle.yaml_scan_history.specs.scan_scalars.Pieces.{gap}
-use Rattle.yaml_emit_layout.specs.emit_text.declared.Cursor.{Cursor}
-use Rattle.yaml_emit_layout.specs.emit_text.declared.LineBreak.{LineBreak}
-use Rattle.yaml_emit_layout.specs.emit_text.declared.LineBreak.TheVariants.{Lf, Cr, CrLf}
-use Rattle.yaml_emit_layout.specs.emit_text.Text.{is_break}
-use Rattle.yaml_emit_layout.specs.emit_text.Layout.{Rest, blanks, new_line, line, indent_to, must_break}
-use Rattle.yaml_emit_layout.specs.emit_text.Quoted.{is_printable}
-use Rattle.yaml_emit_layout.specs.emit_text.Scalars.{value_break}
-use Rattle.yaml_emit_layout.specs.emit_text.Spelling.{in_front, break_text}
+use Rattle.yaml_emit_laws_text.specs.scan_history.scan_scalars.Pieces.{gap}
+use Rattle.yaml_emit_laws_text.specs.emit_text.declared.Cursor.{Cursor}
+use Rattle.yaml_emit_laws_text.specs.emit_text.declared.LineBreak.{LineBreak}
+use Rattle.yaml_emit_laws_text.specs.emit_text.declared.LineBreak.TheVariants.{Lf, Cr, CrLf}
+use Rattle.yaml_emit_laws_text.specs.emit_text.Text.{is_break}
+use Rattle.yaml_emit_laws_text.specs.emit_text.Layout.{Rest, blanks, new_line, line, indent_to, must_break}
+use Rattle.yaml_emit_laws_text.specs.emit_text.Quoted.{is_printable}
+use Rattle.yaml_emit_laws_text.specs.emit_text.Scalars.{value_break}
+use Rattle.yaml_emit_laws_text.specs.emit_text.Spelling.{in_front, break_text}
 use Rattle.yaml_emit_laws_text.specs.Spelling.{LineEnd, line_separator, paragraph_separator, end_bytes, end_means, is_return, is_feed_end}
 use Rattle.yaml_emit_laws_text.proofs.Chars.{encode_1, encode_3}
 use Rattle.yaml_emit_laws_text.proofs.Values.{cond_false}

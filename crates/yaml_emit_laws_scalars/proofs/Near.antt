@@ -5,14 +5,14 @@ use Rattle.std.proofs.lemmas.List.{length-append}
 use Rattle.std.proofs.lemmas.Str.{encodes-append}
 use Rattle.std.specs.Str.{all_scalars}
 use lib.Utf8.{scalar}
-use Rattle.yaml_emit_layout.specs.emit_text.declared.Cursor.{Cursor}
-use Rattle.yaml_emit_layout.specs.emit_text.declared.Page.{Page}
-use Rattle.yaml_emit_layout.specs.emit_text.Text.{letter, is_break}
-use Rattle.yaml_emit_layout.specs.emit_text.Layout.{Layout, Rest, ◌▹◌, stay, when, char, letters, blank, gap, word, opener, after_text, line}
-use Rattle.yaml_emit_layout.specs.emit_text.Quoted.{needs_escape, escape_letter, escape_text, escaped, quoted_char, quoted_body, first, is_empty}
-use Rattle.yaml_emit_layout.specs.emit_text.Scalars.{cuts_at, quote_char, text_char, flow_char, flow_body}
-use Rattle.yaml_emit_layout.specs.emit_text.Spelling.{in_front}
-use Rattle.yaml_emit_layout.specs.Nodes.{MOST, checked}
+use Rattle.yaml_emit_laws_text.specs.emit_text.declared.Cursor.{Cursor}
+use Rattle.yaml_emit_laws_text.specs.emit_text.declared.Page.{Page}
+use Rattle.yaml_emit_laws_text.specs.emit_text.Text.{letter, is_break}
+use Rattle.yaml_emit_laws_text.specs.emit_text.Layout.{Layout, Rest, ◌▹◌, stay, when, char, letters, blank, gap, word, opener, after_text, line}
+use Rattle.yaml_emit_laws_text.specs.emit_text.Quoted.{needs_escape, escape_letter, escape_text, escaped, quoted_char, quoted_body, first, is_empty}
+use Rattle.yaml_emit_laws_text.specs.emit_text.Scalars.{cuts_at, quote_char, text_char, flow_char, flow_body}
+use Rattle.yaml_emit_laws_text.specs.emit_text.Spelling.{in_front}
+use Rattle.yaml_emit_laws_text.specs.emit_layout.Nodes.{MOST, checked}
 use Rattle.yaml_emit_laws_text.specs.ReadBack.{is_one_line}
 use Rattle.yaml_emit_laws_text.specs.Walk.{bytes}
 use Rattle.yaml_emit_laws_text.proofs.Chars.{encode_1, encode_2, encode_3, encode_4}

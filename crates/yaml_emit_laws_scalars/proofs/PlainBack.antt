@@ -3,15 +3,15 @@ use Rattle.std.proofs.Common.{◌≡◌, ◌≢◌, ℕ, zero, suc, ◌+◌, ◌
 use Rattle.std.proofs.lemmas.Bool.{cases_Bool, true≢false, and_parts, ne_eqb}
 use Rattle.std.proofs.lemmas.Bool.Decides.{nat_tests}
 use Rattle.std.proofs.lemmas.List.{length-append}
-use Rattle.yaml_scan_history.specs.scan_model.Marks.{byte, starts}
-use Rattle.yaml_scan_history.specs.scan_model.Wrong.{Wrong}
-use Rattle.yaml_scan_history.specs.scan_words.Written.{are_gap, has_break}
-use Rattle.yaml_scan_history.specs.scan_scalars.Pieces.{Piece, Kept, Blank, Break, value as value_of}
-use Rattle.yaml_scan_history.specs.scan_scalars.Plain.{Words, is_nothing, with_piece, words_from, PlainText, plain_with, plain_text, plain_at}
-use Rattle.yaml_scan_history.proofs.MarksLemmas.{within}
-use Rattle.yaml_scan_history.proofs.HasLemmas.{Has, has_front, has_rest}
-use Rattle.yaml_emit_layout.specs.emit_text.Quoted.{first}
-use Rattle.yaml_emit_layout.specs.emit_text.Style.{last_or}
+use Rattle.yaml_emit_laws_text.specs.scan_model.Marks.{byte, starts}
+use Rattle.yaml_emit_laws_text.specs.scan_model.Wrong.{Wrong}
+use Rattle.yaml_emit_laws_text.specs.scan_history.scan_words.Written.{are_gap, has_break}
+use Rattle.yaml_emit_laws_text.specs.scan_history.scan_scalars.Pieces.{Piece, Kept, Blank, Break, value as value_of}
+use Rattle.yaml_emit_laws_text.specs.scan_history.scan_scalars.Plain.{Words, is_nothing, with_piece, words_from, PlainText, plain_with, plain_text, plain_at}
+use Rattle.yaml_emit_laws_text.proofs.MarksLemmas.{within}
+use Rattle.yaml_emit_laws_text.proofs.HasLemmas.{Has, has_front, has_rest}
+use Rattle.yaml_emit_laws_text.specs.emit_text.Quoted.{first}
+use Rattle.yaml_emit_laws_text.specs.emit_text.Style.{last_or}
 use Rattle.yaml_emit_laws_text.specs.Spelling.{end_bytes, end_means, LineTurn, turn_bytes, QuotedPart, raw, doubled, named, numbered, fold, joint, spelling, meaning, IsSpelling}
 use Rattle.yaml_emit_laws_text.proofs.Chars.{encode_1}
 use Rattle.yaml_emit_laws_text.proofs.Values.{keeps, blanks_of, turns_read, read_as, all_read_as, read_kept as raw_kept, read_blank as raw_blank, spelling_value}

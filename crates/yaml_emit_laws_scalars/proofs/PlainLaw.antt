@@ -4,18 +4,18 @@ use Rattle.std.proofs.lemmas.Bool.{true≢false, eq-eqb, or_right, and_parts, no
 use Rattle.std.proofs.lemmas.Str.{encodes-chars, scalars-chars}
 use Rattle.std.specs.Str.{all_scalars, chars}
 use lib.Utf8.{scalar}
-use Rattle.yaml_scan_history.specs.scan_model.Wrong.{Wrong}
-use Rattle.yaml_scan_history.specs.scan_words.Written.{HasAt, are_gap, has_break}
-use Rattle.yaml_scan_history.specs.scan_scalars.Plain.{is_bracket, PlainText}
-use Rattle.yaml_scan_history.proofs.HasLemmas.{has, has_front, has_rest}
-use Rattle.yaml_scan_laws_texts.specs.PlainLaws.{ends_plain}
-use Rattle.yaml_emit_layout.specs.emit_text.declared.Cursor.{Cursor}
-use Rattle.yaml_emit_layout.specs.emit_text.declared.Page.{Page}
-use Rattle.yaml_emit_layout.specs.emit_text.Text.{is_break}
-use Rattle.yaml_emit_layout.specs.emit_text.Layout.{◌▹◌, after_text}
-use Rattle.yaml_emit_layout.specs.emit_text.Quoted.{is_printable, first}
-use Rattle.yaml_emit_layout.specs.emit_text.Scalars.{flow_body}
-use Rattle.yaml_emit_layout.specs.emit_text.Style.{behind, is_blank as is_white, ends_word, somewhere, is_special, is_break_space, is_not_plain, is_not_flow, last_or, ends_in_space, is_indicator, starts_badly, allowed}
+use Rattle.yaml_emit_laws_text.specs.scan_model.Wrong.{Wrong}
+use Rattle.yaml_emit_laws_text.specs.scan_history.scan_words.Written.{HasAt, are_gap, has_break}
+use Rattle.yaml_emit_laws_text.specs.scan_history.scan_scalars.Plain.{is_bracket, PlainText}
+use Rattle.yaml_emit_laws_text.proofs.HasLemmas.{has, has_front, has_rest}
+use Rattle.yaml_emit_laws_text.specs.scan_laws_texts.PlainLaws.{ends_plain}
+use Rattle.yaml_emit_laws_text.specs.emit_text.declared.Cursor.{Cursor}
+use Rattle.yaml_emit_laws_text.specs.emit_text.declared.Page.{Page}
+use Rattle.yaml_emit_laws_text.specs.emit_text.Text.{is_break}
+use Rattle.yaml_emit_laws_text.specs.emit_text.Layout.{◌▹◌, after_text}
+use Rattle.yaml_emit_laws_text.specs.emit_text.Quoted.{is_printable, first}
+use Rattle.yaml_emit_laws_text.specs.emit_text.Scalars.{flow_body}
+use Rattle.yaml_emit_laws_text.specs.emit_text.Style.{behind, is_blank as is_white, ends_word, somewhere, is_special, is_break_space, is_not_plain, is_not_flow, last_or, ends_in_space, is_indicator, starts_badly, allowed}
 use Rattle.yaml_emit_laws_text.specs.Spelling.{QuotedPart, raw, doubled, spelling, meaning, IsSpelling}
 use Rattle.yaml_emit_laws_text.specs.ReadBack.{is_one_line}
 use Rattle.yaml_emit_laws_scalars.specs.PlainLaws.{IsReadPlain, PlainIsBack, may_be_plain, PlainIsReadBack}

@@ -3,15 +3,15 @@ use Rattle.std.proofs.Common.{◌≡◌, ◌≢◌, ℕ, zero, suc, ◌+◌, ◌
 use Rattle.std.proofs.lemmas.Bool.{cases_Bool, cases_lt, true≢false, le-ltb, ne_eqb}
 use Rattle.std.proofs.lemmas.Bool.Decides.{nat_tests}
 use Rattle.std.proofs.Math.Bool.{and-false}
-use Rattle.yaml_scan_history.specs.scan_model.Marks.{byte, break_of, break_width, ends_break, column_at, is_blank, is_blank_or_end}
-use Rattle.yaml_scan_history.specs.scan_model.Breaks.{break_value, feed_at}
-use Rattle.yaml_scan_history.specs.scan_scalars.Pieces.{Piece, Kept, Blank, Break}
-use Rattle.yaml_scan_history.specs.scan_scalars.Plain.{is_bracket, after_white, leads, Takes, spot_at, is_nothing}
-use Rattle.yaml_scan_history.proofs.PlainLemmas.{leads-blank, white-blank, spot_blank, spot_break, lead_break, blank_inside}
-use Rattle.yaml_scan_history.proofs.MarksLemmas.{past_break, column_more}
-use Rattle.yaml_scan_history.proofs.HasLemmas.{Has, has_front, has_rest}
-use Rattle.yaml_emit_layout.specs.emit_text.Quoted.{first}
-use Rattle.yaml_emit_layout.specs.emit_text.Style.{last_or}
+use Rattle.yaml_emit_laws_text.specs.scan_model.Marks.{byte, break_of, break_width, ends_break, column_at, is_blank, is_blank_or_end}
+use Rattle.yaml_emit_laws_text.specs.scan_model.Breaks.{break_value, feed_at}
+use Rattle.yaml_emit_laws_text.specs.scan_history.scan_scalars.Pieces.{Piece, Kept, Blank, Break}
+use Rattle.yaml_emit_laws_text.specs.scan_history.scan_scalars.Plain.{is_bracket, after_white, leads, Takes, spot_at, is_nothing}
+use Rattle.yaml_emit_laws_text.proofs.PlainLemmas.{leads-blank, white-blank, spot_blank, spot_break, lead_break, blank_inside}
+use Rattle.yaml_emit_laws_text.proofs.MarksLemmas.{past_break, column_more}
+use Rattle.yaml_emit_laws_text.proofs.HasLemmas.{Has, has_front, has_rest}
+use Rattle.yaml_emit_laws_text.specs.emit_text.Quoted.{first}
+use Rattle.yaml_emit_laws_text.specs.emit_text.Style.{last_or}
 use Rattle.yaml_emit_laws_text.specs.Spelling.{LineEnd, feed, return, return_feed, next_line, line_separator, paragraph_separator, end_bytes, end_means, QuotedPart, raw, doubled, named, numbered, fold, joint, spelling}
 use Rattle.yaml_emit_laws_text.proofs.Chars.{encode_1, encode_2, encode_3, encode_4}
 use Rattle.yaml_emit_laws_text.proofs.Values.{keeps, blanks_of, read_as, all_read_as, read_kept as raw_kept, read_blank as raw_blank}

@@ -3,16 +3,16 @@ use Rattle.std.proofs.Common.{◌≡◌, ◌≢◌, ℕ, suc, ◌+◌, ◌%◌, 
 use Rattle.std.proofs.lemmas.Bool.{cases_lt, true≢false, and_parts, eqb-true, or_parts, ne_eqb}
 use Rattle.std.proofs.lemmas.Bool.Decides.{nat_tests}
 use Rattle.std.proofs.Math.Bool.{or-true, and-false}
-use Rattle.yaml_scan_history.specs.scan_model.Marks.{byte, break_width, ends_break, is_blank, is_blank_or_end}
-use Rattle.yaml_scan_history.specs.scan_model.Classes.{is_bom}
-use Rattle.yaml_scan_history.specs.scan_words.Written.{are_gap, begins_lexeme}
-use Rattle.yaml_scan_history.specs.scan_words.Indicators.{is_thrice, is_document_start, is_document_end}
-use Rattle.yaml_scan_history.specs.scan_scalars.Plain.{is_bracket, is_indicator_byte, starts_plain, after_white}
-use Rattle.yaml_scan_history.specs.declared.kind.Kind.TheVariants as kinds
-use Rattle.yaml_scan_history.specs.Words.{indicator_of, kind_at}
-use Rattle.yaml_scan_history.proofs.HasLemmas.{Has, has_front, has_rest}
-use Rattle.yaml_emit_layout.specs.emit_text.Quoted.{first}
-use Rattle.yaml_emit_layout.specs.emit_text.Style.{behind, is_indicator}
+use Rattle.yaml_emit_laws_text.specs.scan_model.Marks.{byte, break_width, ends_break, is_blank, is_blank_or_end}
+use Rattle.yaml_emit_laws_text.specs.scan_model.Classes.{is_bom}
+use Rattle.yaml_emit_laws_text.specs.scan_history.scan_words.Written.{are_gap, begins_lexeme}
+use Rattle.yaml_emit_laws_text.specs.scan_history.scan_words.Indicators.{is_thrice, is_document_start, is_document_end}
+use Rattle.yaml_emit_laws_text.specs.scan_history.scan_scalars.Plain.{is_bracket, is_indicator_byte, starts_plain, after_white}
+use Rattle.yaml_emit_laws_text.specs.scan_history.declared.kind.Kind.TheVariants as kinds
+use Rattle.yaml_emit_laws_text.specs.scan_history.Words.{indicator_of, kind_at}
+use Rattle.yaml_emit_laws_text.proofs.HasLemmas.{Has, has_front, has_rest}
+use Rattle.yaml_emit_laws_text.specs.emit_text.Quoted.{first}
+use Rattle.yaml_emit_laws_text.specs.emit_text.Style.{behind, is_indicator}
 use Rattle.yaml_emit_laws_text.specs.Spelling.{LineEnd, feed, return, return_feed, next_line, line_separator, paragraph_separator, end_bytes, LineTurn, turn_bytes, QuotedPart, raw, doubled, named, numbered, fold, joint, spelling}
 use Rattle.yaml_emit_laws_text.proofs.Chars.{encode_1, encode_2, encode_3, encode_4}
 use Rattle.yaml_emit_laws_text.proofs.Bytes.{calm_end, calm_from}

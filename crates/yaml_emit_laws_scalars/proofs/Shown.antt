@@ -3,9 +3,9 @@ use Rattle.std.proofs.Common.{◌≡◌, ℕ, Bool, true, false, ◌&&◌, ◌==
 use Rattle.std.proofs.lemmas.Bool.{and_parts, not-true, or_parts}
 use Rattle.std.specs.Str.{all_scalars}
 use lib.Utf8.{scalar}
-use Rattle.yaml_emit_layout.specs.emit_text.Text.{is_break}
-use Rattle.yaml_emit_layout.specs.emit_text.Quoted.{first}
-use Rattle.yaml_emit_layout.specs.emit_text.Style.{somewhere, is_special, is_break_space, allowed}
+use Rattle.yaml_emit_laws_text.specs.emit_text.Text.{is_break}
+use Rattle.yaml_emit_laws_text.specs.emit_text.Quoted.{first}
+use Rattle.yaml_emit_laws_text.specs.emit_text.Style.{somewhere, is_special, is_break_space, allowed}
 use Rattle.yaml_emit_laws_scalars.proofs.Letters.{AllShow}
 use Rattle.yaml_emit_laws_text.proofs.Single.{shown_first}
 

@@ -3,15 +3,15 @@ use Rattle.std.proofs.Common.{◌≡◌, ℕ, ◌+◌, ◌<◌, true, List, [], 
 use Rattle.std.proofs.lemmas.Bool.{true≢false}
 use Rattle.std.proofs.lemmas.Str.{encode_ascii, encodes-append, encodes-chars, scalars-chars}
 use Rattle.std.specs.Str.{chars}
-use Rattle.yaml_scan_history.specs.scan_model.Marks.{byte}
-use Rattle.yaml_scan_history.specs.scan_words.Written.{HasAt}
-use Rattle.yaml_scan_history.specs.scan_scalars.Quoted.{single_quoted_at}
-use Rattle.yaml_emit_layout.specs.emit_text.declared.Cursor.{Cursor}
-use Rattle.yaml_emit_layout.specs.emit_text.declared.Page.{Page}
-use Rattle.yaml_emit_layout.specs.emit_text.Text.{letter}
-use Rattle.yaml_emit_layout.specs.emit_text.Layout.{char}
-use Rattle.yaml_emit_layout.specs.emit_text.Spelling.{in_front}
-use Rattle.yaml_emit_layout.specs.emit_text.Style.{allowed}
+use Rattle.yaml_emit_laws_text.specs.scan_model.Marks.{byte}
+use Rattle.yaml_emit_laws_text.specs.scan_history.scan_words.Written.{HasAt}
+use Rattle.yaml_emit_laws_text.specs.scan_history.scan_scalars.Quoted.{single_quoted_at}
+use Rattle.yaml_emit_laws_text.specs.emit_text.declared.Cursor.{Cursor}
+use Rattle.yaml_emit_laws_text.specs.emit_text.declared.Page.{Page}
+use Rattle.yaml_emit_laws_text.specs.emit_text.Text.{letter}
+use Rattle.yaml_emit_laws_text.specs.emit_text.Layout.{char}
+use Rattle.yaml_emit_laws_text.specs.emit_text.Spelling.{in_front}
+use Rattle.yaml_emit_laws_text.specs.emit_text.Style.{allowed}
 use Rattle.yaml_emit_laws_text.specs.Spelling.{doubled, spelling, meaning, quoted}
 use Rattle.yaml_emit_laws_text.specs.ReadBack.{between_single, is_one_line}
 use Rattle.yaml_emit_laws_text.specs.QuotedLaws.{SingleSpellingReads}

@@ -4,11 +4,11 @@ use Rattle.std.proofs.lemmas.Bool.{cases_lt, true≢false, and_parts, not-true, 
 use Rattle.std.proofs.lemmas.Bool.Decides.{nat_tests}
 use Rattle.std.proofs.Math.Bool.{and-false, or-true}
 use lib.Utf8.{scalar, scalar_cases}
-use Rattle.yaml_scan_history.specs.scan_model.Marks.{break_of}
-use Rattle.yaml_scan_history.specs.scan_scalars.Plain.{is_bracket}
-use Rattle.yaml_emit_layout.specs.emit_text.Text.{is_break}
-use Rattle.yaml_emit_layout.specs.emit_text.Quoted.{first, is_printable}
-use Rattle.yaml_emit_layout.specs.emit_text.Style.{behind}
+use Rattle.yaml_emit_laws_text.specs.scan_model.Marks.{break_of}
+use Rattle.yaml_emit_laws_text.specs.scan_history.scan_scalars.Plain.{is_bracket}
+use Rattle.yaml_emit_laws_text.specs.emit_text.Text.{is_break}
+use Rattle.yaml_emit_laws_text.specs.emit_text.Quoted.{first, is_printable}
+use Rattle.yaml_emit_laws_text.specs.emit_text.Style.{behind}
 use Rattle.yaml_emit_laws_text.proofs.Chars.{encode_1, encode_2, encode_3, encode_4}
 use Rattle.yaml_emit_laws_text.proofs.Bytes.{low_break, two_break, three_break, four_break}
 use Rattle.yaml_emit_laws_scalars.specs.Stops.{is_gap_byte, begins_white, begins_mark, stops_here, stops_plain_at, begins_solid, WhatStopsPlain, CharactersAreSolid}

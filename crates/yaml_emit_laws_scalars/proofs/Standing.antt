@@ -3,13 +3,13 @@ use Rattle.std.proofs.Common.{◌≡◌, ◌≢◌, ℕ, zero, suc, ◌+◌, ◌
 use Rattle.std.proofs.lemmas.Bool.{cases_lt, true≢false, ne_eqb}
 use Rattle.std.proofs.lemmas.Bool.Decides.{nat_tests}
 use Rattle.std.proofs.Math.Bool.{and-false}
-use Rattle.yaml_scan_history.specs.scan_model.Marks.{byte, break_width, ends_break, starts, column_at, is_blank, is_blank_or_end}
-use Rattle.yaml_scan_history.specs.scan_model.Wrong.{Wrong}
-use Rattle.yaml_scan_history.specs.scan_scalars.Pieces.{Piece, Kept, Blank, Break}
-use Rattle.yaml_scan_history.specs.scan_scalars.Plain.{is_bracket, after_white, leads, PlainSpot, Takes, spot_at, ends_at, Words, is_nothing, with_piece, words_from, follows, words}
-use Rattle.yaml_scan_history.proofs.PlainLemmas.{leads-text, white-text, spot_kept}
-use Rattle.yaml_scan_history.proofs.MarksLemmas.{within}
-use Rattle.yaml_scan_history.proofs.HasLemmas.{Has}
+use Rattle.yaml_emit_laws_text.specs.scan_model.Marks.{byte, break_width, ends_break, starts, column_at, is_blank, is_blank_or_end}
+use Rattle.yaml_emit_laws_text.specs.scan_model.Wrong.{Wrong}
+use Rattle.yaml_emit_laws_text.specs.scan_history.scan_scalars.Pieces.{Piece, Kept, Blank, Break}
+use Rattle.yaml_emit_laws_text.specs.scan_history.scan_scalars.Plain.{is_bracket, after_white, leads, PlainSpot, Takes, spot_at, ends_at, Words, is_nothing, with_piece, words_from, follows, words}
+use Rattle.yaml_emit_laws_text.proofs.PlainLemmas.{leads-text, white-text, spot_kept}
+use Rattle.yaml_emit_laws_text.proofs.MarksLemmas.{within}
+use Rattle.yaml_emit_laws_text.proofs.HasLemmas.{Has}
 use Rattle.yaml_emit_laws_text.proofs.Chars.{encode_1, encode_2, encode_3, encode_4}
 use Rattle.yaml_emit_laws_text.proofs.Values.{keeps}
 use Rattle.yaml_emit_laws_text.proofs.Bytes.{low_end, low_break, first_end, second_end, third_end, later_break, two_break, three_break, four_break, high_blank}

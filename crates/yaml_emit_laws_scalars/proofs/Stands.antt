@@ -3,24 +3,24 @@ use Rattle.std.proofs.Common.{None, Some, Bool, List, Result, [], ap, append_ass
 use Rattle.std.proofs.lemmas.Str.{encode_ascii, encodes-chars}
 use Rattle.std.specs.Str.{chars}
 use Rattle.std.proofs.Math.Bool.{or-true}
-use Rattle.yaml_scan_history.specs.declared.kind.Kind.TheVariants as kinds
-use Rattle.yaml_scan_history.specs.Words.{indicator_of}
-use Rattle.yaml_emit_layout.specs.emit_text.declared.Page.{Page}
-use Rattle.yaml_emit_layout.specs.emit_text.Layout.{Layout, ◌▹◌, when, gap, after_text, line}
-use Rattle.yaml_emit_layout.specs.emit_text.Scalars.{flow_body, plain}
-use Rattle.yaml_scan_history.specs.scan_model.Wrong.{Wrong}
-use Rattle.yaml_scan_history.specs.scan_scalars.Plain.{PlainText, plain_at}
-use Rattle.yaml_scan_history.specs.Words.{plainly, valued, word_at}
-use Rattle.yaml_emit_layout.specs.scan_model.declared.yaml_scalar_style_t.TheVariants.{YAML_SINGLE_QUOTED_SCALAR_STYLE}
-use Rattle.yaml_emit_layout.specs.scan_model.Tokens as tokens
-use Rattle.yaml_emit_layout.specs.emit_text.declared.LineBreak.{LineBreak}
-use Rattle.yaml_emit_layout.specs.emit_text.declared.LineBreak.TheVariants.{Lf, Cr, CrLf}
-use Rattle.yaml_emit_layout.specs.emit_text.Spelling.{break_text}
+use Rattle.yaml_emit_laws_text.specs.scan_history.declared.kind.Kind.TheVariants as kinds
+use Rattle.yaml_emit_laws_text.specs.scan_history.Words.{indicator_of}
+use Rattle.yaml_emit_laws_text.specs.emit_text.declared.Page.{Page}
+use Rattle.yaml_emit_laws_text.specs.emit_text.Layout.{Layout, ◌▹◌, when, gap, after_text, line}
+use Rattle.yaml_emit_laws_text.specs.emit_text.Scalars.{flow_body, plain}
+use Rattle.yaml_emit_laws_text.specs.scan_model.Wrong.{Wrong}
+use Rattle.yaml_emit_laws_text.specs.scan_history.scan_scalars.Plain.{PlainText, plain_at}
+use Rattle.yaml_emit_laws_text.specs.scan_history.Words.{plainly, valued, word_at}
+use Rattle.yaml_emit_laws_text.specs.scan_model.declared.yaml_scalar_style_t.TheVariants.{YAML_SINGLE_QUOTED_SCALAR_STYLE}
+use Rattle.yaml_emit_laws_text.specs.scan_model.Tokens as tokens
+use Rattle.yaml_emit_laws_text.specs.emit_text.declared.LineBreak.{LineBreak}
+use Rattle.yaml_emit_laws_text.specs.emit_text.declared.LineBreak.TheVariants.{Lf, Cr, CrLf}
+use Rattle.yaml_emit_laws_text.specs.emit_text.Spelling.{break_text}
 use Rattle.yaml_emit_laws_text.proofs.Escapes.{AreLow, low_encodes, spaces_low}
 use Rattle.yaml_emit_laws_text.proofs.Back.{spaced_by}
 use Rattle.yaml_emit_laws_scalars.proofs.Lines.{blanks_column, blanks_kept}
-use Rattle.yaml_scan_history.specs.scan_scalars.Quoted.{single_quoted_at}
-use Rattle.yaml_emit_layout.specs.emit_text.declared.Cursor.{Cursor}
+use Rattle.yaml_emit_laws_text.specs.scan_history.scan_scalars.Quoted.{single_quoted_at}
+use Rattle.yaml_emit_laws_text.specs.emit_text.declared.Cursor.{Cursor}
 use Rattle.yaml_emit_laws_text.specs.QuotedLaws.{SingleSpellingReads}
 use Rattle.yaml_emit_laws_text.specs.ReadBack.{between_single}
 use Rattle.yaml_emit_laws_text.specs.Walk.{Has, Left, bytes}

@@ -2,18 +2,18 @@
 use Rattle.std.proofs.Common.{◌≡◌, ℕ, zero, suc, ◌+◌, ◌<◌, Bool, true, false, not, ◌&&◌, ◌||◌, ◌==◌, nat_lt, List, [], ◌∷◌, ◌++◌, length, Option, Some, None, replicate, refl, sym, ap, subst, ◌∙◌, inl, inr, arith, encode_utf8_all}
 use Rattle.std.proofs.lemmas.Bool.{true≢false, eqb-true, or_cases, or_left, or_right, and_parts, not-true, or_parts, ne_eqb}
 use Rattle.std.proofs.lemmas.List.{get_or_past}
-use Rattle.yaml_scan_history.specs.scan_model.Marks.{byte, break_of, break_width, column_at, is_blank, is_blank_or_end}
-use Rattle.yaml_scan_history.specs.scan_model.Breaks.{is_document_indicator}
-use Rattle.yaml_scan_history.specs.scan_words.Written.{are_gap}
-use Rattle.yaml_scan_history.specs.scan_scalars.Plain.{is_bracket, after_white, leads, ends_at}
-use Rattle.yaml_scan_history.proofs.PlainLemmas.{lead_break}
-use Rattle.yaml_scan_history.proofs.MarksLemmas.{past_break}
-use Rattle.yaml_scan_laws_texts.specs.PlainLaws.{ends_plain}
-use Rattle.yaml_emit_layout.specs.emit_text.declared.LineBreak.{LineBreak}
-use Rattle.yaml_emit_layout.specs.emit_text.declared.LineBreak.TheVariants.{Lf, Cr, CrLf}
-use Rattle.yaml_emit_layout.specs.emit_text.Quoted.{first}
-use Rattle.yaml_emit_layout.specs.emit_text.Spelling.{break_text}
-use Rattle.yaml_emit_layout.specs.emit_text.Style.{behind}
+use Rattle.yaml_emit_laws_text.specs.scan_model.Marks.{byte, break_of, break_width, column_at, is_blank, is_blank_or_end}
+use Rattle.yaml_emit_laws_text.specs.scan_model.Breaks.{is_document_indicator}
+use Rattle.yaml_emit_laws_text.specs.scan_history.scan_words.Written.{are_gap}
+use Rattle.yaml_emit_laws_text.specs.scan_history.scan_scalars.Plain.{is_bracket, after_white, leads, ends_at}
+use Rattle.yaml_emit_laws_text.proofs.PlainLemmas.{lead_break}
+use Rattle.yaml_emit_laws_text.proofs.MarksLemmas.{past_break}
+use Rattle.yaml_emit_laws_text.specs.scan_laws_texts.PlainLaws.{ends_plain}
+use Rattle.yaml_emit_laws_text.specs.emit_text.declared.LineBreak.{LineBreak}
+use Rattle.yaml_emit_laws_text.specs.emit_text.declared.LineBreak.TheVariants.{Lf, Cr, CrLf}
+use Rattle.yaml_emit_laws_text.specs.emit_text.Quoted.{first}
+use Rattle.yaml_emit_laws_text.specs.emit_text.Spelling.{break_text}
+use Rattle.yaml_emit_laws_text.specs.emit_text.Style.{behind}
 use Rattle.yaml_emit_laws_text.specs.Walk.{Has, Left}
 use Rattle.yaml_emit_laws_text.proofs.Places.{has_front, has_at, left_first, left_more, left_rest}
 use Rattle.yaml_emit_laws_text.proofs.Values.{cond_true, cond_false}

@@ -3,18 +3,18 @@ use Rattle.std.proofs.Common.{◌≡◌, Bool, true, false, not, ◌&&◌, ◌||
 use Rattle.std.specs.Prelude.{if◌then◌else◌}
 use Rattle.std.specs.Str.{chars}
 use Rattle.std.proofs.lemmas.Bool.{and_parts, not-true, or_parts}
-use Rattle.yaml_emit_layout.specs.scan_model.declared.yaml_scalar_style_t.{yaml_scalar_style_t}
-use Rattle.yaml_emit_layout.specs.scan_model.declared.yaml_scalar_style_t.TheVariants as asked
-use Rattle.yaml_emit_layout.specs.emit_text.declared.Allowed.{Allowed}
-use Rattle.yaml_emit_layout.specs.emit_text.declared.Style.{Style}
-use Rattle.yaml_emit_layout.specs.emit_text.declared.Style.TheVariants as style
-use Rattle.yaml_emit_layout.specs.emit_text.Style.{allowed, taken, plain_fits, single_or, block_or, plain_or}
-use Rattle.yaml_emit_layout.specs.declared.level.NodePosition.{NodePosition}
-use Rattle.yaml_emit_layout.specs.Content.{Scalar}
-use Rattle.yaml_emit_layout.specs.Grammar.{has, scalar_tag}
-use Rattle.yaml_emit_layout.specs.Nodes.{Context, is_simple_part, style_of, deeper}
+use Rattle.yaml_emit_laws_text.specs.scan_model.declared.yaml_scalar_style_t.{yaml_scalar_style_t}
+use Rattle.yaml_emit_laws_text.specs.scan_model.declared.yaml_scalar_style_t.TheVariants as asked
+use Rattle.yaml_emit_laws_text.specs.emit_text.declared.Allowed.{Allowed}
+use Rattle.yaml_emit_laws_text.specs.emit_text.declared.Style.{Style}
+use Rattle.yaml_emit_laws_text.specs.emit_text.declared.Style.TheVariants as style
+use Rattle.yaml_emit_laws_text.specs.emit_text.Style.{allowed, taken, plain_fits, single_or, block_or, plain_or}
+use Rattle.yaml_emit_laws_text.specs.emit_layout.declared.level.NodePosition.{NodePosition}
+use Rattle.yaml_emit_laws_text.specs.emit_layout.Content.{Scalar}
+use Rattle.yaml_emit_laws_text.specs.emit_layout.Grammar.{has, scalar_tag}
+use Rattle.yaml_emit_laws_text.specs.emit_layout.Nodes.{Context, is_simple_part, style_of, deeper}
 use Rattle.yaml_emit_laws_scalars.specs.StylesLaws.{StylesAreAllowed, level_of, PagesIndent}
-use Rattle.yaml_emit_layout.specs.emit_text.declared.Settings.{Settings}
+use Rattle.yaml_emit_laws_text.specs.emit_text.declared.Settings.{Settings}
 use Rattle.yaml_emit_laws_text.proofs.Single.{bool_cases}
 
 -- what a style has to be allowed

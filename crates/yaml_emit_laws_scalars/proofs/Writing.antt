@@ -3,14 +3,14 @@ use Rattle.std.proofs.Common.{◌≡◌, ℕ, zero, suc, ◌<◌, Bool, true, fa
 use Rattle.std.proofs.lemmas.Bool.{true≢false, lt-ltb, eqb-true, and_parts, eqb-false}
 use Rattle.std.proofs.lemmas.Str.{encode_ascii, encodes-append}
 use Rattle.std.proofs.Math.Bool.{and-false}
-use Rattle.yaml_emit_layout.specs.emit_text.declared.Cursor.{Cursor}
-use Rattle.yaml_emit_layout.specs.emit_text.declared.LineBreak.{LineBreak}
-use Rattle.yaml_emit_layout.specs.emit_text.Text.{is_break}
-use Rattle.yaml_emit_layout.specs.emit_text.Layout.{Layout, Rest, when, new_line, line}
-use Rattle.yaml_emit_layout.specs.emit_text.declared.Page.{Page}
-use Rattle.yaml_emit_layout.specs.emit_text.Quoted.{is_printable, first}
-use Rattle.yaml_emit_layout.specs.emit_text.Scalars.{value_break, flow_char, flow_body}
-use Rattle.yaml_emit_layout.specs.emit_text.Spelling.{in_front, break_text}
+use Rattle.yaml_emit_laws_text.specs.emit_text.declared.Cursor.{Cursor}
+use Rattle.yaml_emit_laws_text.specs.emit_text.declared.LineBreak.{LineBreak}
+use Rattle.yaml_emit_laws_text.specs.emit_text.Text.{is_break}
+use Rattle.yaml_emit_laws_text.specs.emit_text.Layout.{Layout, Rest, when, new_line, line}
+use Rattle.yaml_emit_laws_text.specs.emit_text.declared.Page.{Page}
+use Rattle.yaml_emit_laws_text.specs.emit_text.Quoted.{is_printable, first}
+use Rattle.yaml_emit_laws_text.specs.emit_text.Scalars.{value_break, flow_char, flow_body}
+use Rattle.yaml_emit_laws_text.specs.emit_text.Spelling.{in_front, break_text}
 use Rattle.yaml_emit_laws_text.specs.Spelling.{LineEnd, end_bytes, end_means, is_return, is_feed_end, LineTurn, turn_bytes, turn_means, may_turn, QuotedPart, fold, MayStand, spelled, meant, spelling, meaning, is_raw_blank, is_turn, may_be_next, IsSpelling}
 use Rattle.yaml_emit_laws_text.specs.ReadBack.{is_one_line}
 use Rattle.yaml_emit_laws_text.proofs.Values.{cond_true, cond_false}

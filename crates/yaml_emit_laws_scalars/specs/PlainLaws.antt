@@ -1,17 +1,17 @@
 -- Plain scalars that are written, with folds, are read back.
 use Rattle.std.specs.Prelude.{ℕ, ◌+◌, ◌<◌, ◌≤◌, ◌≡◌, Bool, true, false, if◌then◌else◌, List, ◌++◌, length, Some, Ok, IsUtf8, encode_utf8_all}
 use Rattle.std.specs.Str.{chars}
-use Rattle.yaml_scan_history.specs.scan_words.Written.{HasAt, are_gap, has_break, begins_lexeme}
-use Rattle.yaml_scan_history.specs.scan_scalars.Plain.{PlainText, plain_at}
-use Rattle.yaml_scan_history.specs.declared.kind.Kind.TheVariants as kinds
-use Rattle.yaml_scan_history.specs.Words.{kind_at}
-use Rattle.yaml_scan_laws_texts.specs.PlainLaws.{ends_plain}
-use Rattle.yaml_emit_layout.specs.emit_text.declared.Cursor.{Cursor}
-use Rattle.yaml_emit_layout.specs.emit_text.declared.Page.{Page}
-use Rattle.yaml_emit_layout.specs.emit_text.Layout.{Layout, Rest, ◌▹◌, after_text}
-use Rattle.yaml_emit_layout.specs.emit_text.Scalars.{flow_body}
-use Rattle.yaml_emit_layout.specs.emit_text.Spelling.{in_front}
-use Rattle.yaml_emit_layout.specs.emit_text.Style.{allowed}
+use Rattle.yaml_emit_laws_text.specs.scan_history.scan_words.Written.{HasAt, are_gap, has_break, begins_lexeme}
+use Rattle.yaml_emit_laws_text.specs.scan_history.scan_scalars.Plain.{PlainText, plain_at}
+use Rattle.yaml_emit_laws_text.specs.scan_history.declared.kind.Kind.TheVariants as kinds
+use Rattle.yaml_emit_laws_text.specs.scan_history.Words.{kind_at}
+use Rattle.yaml_emit_laws_text.specs.scan_laws_texts.PlainLaws.{ends_plain}
+use Rattle.yaml_emit_laws_text.specs.emit_text.declared.Cursor.{Cursor}
+use Rattle.yaml_emit_laws_text.specs.emit_text.declared.Page.{Page}
+use Rattle.yaml_emit_laws_text.specs.emit_text.Layout.{Layout, Rest, ◌▹◌, after_text}
+use Rattle.yaml_emit_laws_text.specs.emit_text.Scalars.{flow_body}
+use Rattle.yaml_emit_laws_text.specs.emit_text.Spelling.{in_front}
+use Rattle.yaml_emit_laws_text.specs.emit_text.Style.{allowed}
 
 -- a plain scalar of these bytes, with the white behind it
 abbrev pub plain_of : List ℕ → List ℕ → List ℕ → ℕ → PlainText

@@ -1,18 +1,18 @@
 -- Scalars in a text that goes on as a layout writes it.
 use Rattle.std.specs.Prelude.{ℕ, ◌+◌, ◌<◌, ◌≤◌, ◌≡◌, Bool, true, false, List, length, Some, None, Ok, IsUtf8}
 use Rattle.std.specs.Str.{chars}
-use Rattle.yaml_scan_history.specs.scan_words.Written.{has_break, begins_lexeme}
-use Rattle.yaml_scan_history.specs.scan_scalars.Quoted.{single_quoted_at}
-use Rattle.yaml_scan_history.specs.declared.kind.Kind.TheVariants as kinds
-use Rattle.yaml_scan_history.specs.Words.{word_at, kind_at}
-use Rattle.yaml_emit_layout.specs.scan_model.declared.yaml_scalar_style_t.TheVariants.{YAML_PLAIN_SCALAR_STYLE, YAML_SINGLE_QUOTED_SCALAR_STYLE}
-use Rattle.yaml_emit_layout.specs.scan_model.Tokens as tokens
-use Rattle.yaml_emit_layout.specs.emit_text.declared.LineBreak.{LineBreak}
-use Rattle.yaml_emit_layout.specs.emit_text.declared.Cursor.{Cursor}
-use Rattle.yaml_emit_layout.specs.emit_text.declared.Page.{Page}
-use Rattle.yaml_emit_layout.specs.emit_text.Layout.{Rest, ◌▹◌, gap, line, after_text}
-use Rattle.yaml_emit_layout.specs.emit_text.Scalars.{flow_body, plain}
-use Rattle.yaml_emit_layout.specs.emit_text.Style.{allowed}
+use Rattle.yaml_emit_laws_text.specs.scan_history.scan_words.Written.{has_break, begins_lexeme}
+use Rattle.yaml_emit_laws_text.specs.scan_history.scan_scalars.Quoted.{single_quoted_at}
+use Rattle.yaml_emit_laws_text.specs.scan_history.declared.kind.Kind.TheVariants as kinds
+use Rattle.yaml_emit_laws_text.specs.scan_history.Words.{word_at, kind_at}
+use Rattle.yaml_emit_laws_text.specs.scan_model.declared.yaml_scalar_style_t.TheVariants.{YAML_PLAIN_SCALAR_STYLE, YAML_SINGLE_QUOTED_SCALAR_STYLE}
+use Rattle.yaml_emit_laws_text.specs.scan_model.Tokens as tokens
+use Rattle.yaml_emit_laws_text.specs.emit_text.declared.LineBreak.{LineBreak}
+use Rattle.yaml_emit_laws_text.specs.emit_text.declared.Cursor.{Cursor}
+use Rattle.yaml_emit_laws_text.specs.emit_text.declared.Page.{Page}
+use Rattle.yaml_emit_laws_text.specs.emit_text.Layout.{Rest, ◌▹◌, gap, line, after_text}
+use Rattle.yaml_emit_laws_text.specs.emit_text.Scalars.{flow_body, plain}
+use Rattle.yaml_emit_laws_text.specs.emit_text.Style.{allowed}
 use Rattle.yaml_emit_laws_text.specs.ReadBack.{between_single}
 use Rattle.yaml_emit_laws_text.specs.Walk.{Left, bytes, first}
 use Rattle.yaml_emit_laws_scalars.specs.PlainLaws.{IsReadPlain, may_be_plain}

@@ -1,17 +1,17 @@
 -- What stands behind a plain scalar stops it: a test of the bytes that are left.
 use Rattle.std.specs.Prelude.{ℕ, ◌+◌, ◌≡◌, Bool, true, false, not, ◌&&◌, ◌||◌, ◌==◌, nat_lt, if◌then◌else◌, List, [], ◌∷◌, ◌++◌, length, Option, Some, None, replicate, ◌<◌, encode_utf8, encode_utf8_all}
 use lib.Utf8.{scalar}
-use Rattle.yaml_scan_history.specs.scan_model.Marks.{break_of}
-use Rattle.yaml_scan_history.specs.scan_words.Written.{HasAt, are_gap}
-use Rattle.yaml_scan_history.specs.scan_scalars.Plain.{is_bracket}
-use Rattle.yaml_scan_laws_texts.specs.PlainLaws.{ends_plain}
-use Rattle.yaml_emit_layout.specs.emit_text.declared.Cursor.{Cursor}
-use Rattle.yaml_emit_layout.specs.emit_text.declared.LineBreak.{LineBreak}
-use Rattle.yaml_emit_layout.specs.emit_text.Layout.{Layout}
-use Rattle.yaml_emit_layout.specs.emit_text.Quoted.{first, is_printable}
-use Rattle.yaml_emit_layout.specs.emit_text.Spelling.{break_text}
-use Rattle.yaml_emit_layout.specs.emit_text.Text.{is_break}
-use Rattle.yaml_emit_layout.specs.emit_text.Style.{behind}
+use Rattle.yaml_emit_laws_text.specs.scan_model.Marks.{break_of}
+use Rattle.yaml_emit_laws_text.specs.scan_history.scan_words.Written.{HasAt, are_gap}
+use Rattle.yaml_emit_laws_text.specs.scan_history.scan_scalars.Plain.{is_bracket}
+use Rattle.yaml_emit_laws_text.specs.scan_laws_texts.PlainLaws.{ends_plain}
+use Rattle.yaml_emit_laws_text.specs.emit_text.declared.Cursor.{Cursor}
+use Rattle.yaml_emit_laws_text.specs.emit_text.declared.LineBreak.{LineBreak}
+use Rattle.yaml_emit_laws_text.specs.emit_text.Layout.{Layout}
+use Rattle.yaml_emit_laws_text.specs.emit_text.Quoted.{first, is_printable}
+use Rattle.yaml_emit_laws_text.specs.emit_text.Spelling.{break_text}
+use Rattle.yaml_emit_laws_text.specs.emit_text.Text.{is_break}
+use Rattle.yaml_emit_laws_text.specs.emit_text.Style.{behind}
 use Rattle.yaml_emit_laws_text.specs.Walk.{Left}
 use Rattle.yaml_emit_laws_scalars.specs.PlainLaws.{IsReadPlain, PlainIsBack}
 

@@ -7,7 +7,7 @@ use Rattle.std.proofs.Math.Bool.{and-false}
 use Rattle.yaml_scan_scalars.specs.scan_model.Marks.{byte, break_of, ends_of, is_blank}
 use Rattle.yaml_scan_scalars.specs.Quoted.{hex_digit, hex_value, hex_len, simple_escape}
 use Rattle.yaml_emit_laws_text.specs.Spelling.{number_behind}
-use Rattle.yaml_scan_words.proofs.HasLemmas.{Has}
+use Rattle.yaml_scan_laws_texts.proofs.HasLemmas.{Has}
 
 -- ---- tests
 

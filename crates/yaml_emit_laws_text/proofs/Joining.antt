@@ -9,9 +9,9 @@ use Rattle.std.specs.List.{list_all}
 use Rattle.std.specs.Prelude.{encode_utf8_all, codes}
 use Rattle.std.specs.Str.{IsUtf8, chars, bytes_eq}
 use lib.Utf8.{scalar, scalars}
-use Rattle.yaml_scan_model.specs.Classes.{is_alpha_byte}
-use Rattle.yaml_scan_words.specs.Tags.{may_end_tag}
-use Rattle.yaml_scan_words.specs.Written.{HasAt, are_alphas}
+use Rattle.yaml_scan_scalars.specs.scan_model.Classes.{is_alpha_byte}
+use Rattle.yaml_scan_laws_texts.specs.scan_history.scan_words.Tags.{may_end_tag}
+use Rattle.yaml_scan_laws_texts.specs.scan_history.scan_words.Written.{HasAt, are_alphas}
 use Rattle.yaml_emit_layout.specs.parse_model.Events.{TagDirective}
 use Rattle.yaml_parse_grammar.specs.Resolve.{resolved}
 use Rattle.yaml_emit_layout.specs.emit_tags.Tags.{has_shorter_prefix, directive_for, defines, primary, secondary, unless_defined, defaults, in_force, Split, shorthand, verbatim, split_by, split_tag, spelled, tag_spelling}

@@ -33,3 +33,5 @@ mod Printing
 pub use Rattle.yaml_scan_laws_texts.proofs.MarksLemmas
 pub use Rattle.yaml_scan_laws_texts.proofs.GapsRead
 pub use Rattle.yaml_scan_laws_texts.proofs.HasLemmas
+pub use Rattle.yaml_scan_scalars.proofs.scan_model.RunsLemmas
+pub use Rattle.yaml_scan_scalars.proofs.PlainLemmas

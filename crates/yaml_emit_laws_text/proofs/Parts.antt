@@ -16,9 +16,9 @@ use Rattle.yaml_emit_laws_text.proofs.Values.{read_as, all_read_as, read_blank, 
 use Rattle.yaml_emit_laws_text.proofs.Bytes.{same_test, IsQuote, quote_some, calm_end, calm_from}
 use Rattle.yaml_emit_laws_text.proofs.QuotedReading.{has, Read, Through, through_one, in_line, column_more, column_start, blank_through, Raw, raw_through}
 use Rattle.yaml_emit_laws_text.proofs.Turns.{named_through, numbered_through, fold_through, joint_through}
-use Rattle.yaml_scan_model.proofs.MarksLemmas.{within}
+use Rattle.yaml_scan_laws_texts.proofs.MarksLemmas.{within}
 use Rattle.yaml_emit_laws_text.proofs.Pieces.{top_of}
-use Rattle.yaml_scan_words.proofs.HasLemmas.{has_rest, Has, has_front}
+use Rattle.yaml_scan_laws_texts.proofs.HasLemmas.{has_rest, Has, has_front}
 
 -- ---- characters
 

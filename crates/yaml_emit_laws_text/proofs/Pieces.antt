@@ -6,10 +6,10 @@ use Rattle.std.specs.Prelude.{encode_utf8_all}
 use Rattle.std.specs.Str.{IsUtf8}
 use lib.Utf8.{scalar, scalars}
 use Rattle.std.proofs.Math.Utf8.{scalar_cases}
-use Rattle.yaml_scan_model.specs.Classes.{is_alpha_byte, is_digit_byte}
-use Rattle.yaml_scan_words.specs.Uris.{is_punctuation, is_wide_punctuation, due_behind}
-use Rattle.yaml_scan_words.specs.Written as written
-use Rattle.yaml_scan_words.specs.Written.{UriPiece, raw, escape, capital, piece_text, piece_byte, uri_bytes, is_kept, IsUri, has_no_mark}
+use Rattle.yaml_scan_scalars.specs.scan_model.Classes.{is_alpha_byte, is_digit_byte}
+use Rattle.yaml_scan_laws_texts.specs.scan_history.scan_words.Uris.{is_punctuation, is_wide_punctuation, due_behind}
+use Rattle.yaml_scan_laws_texts.specs.scan_history.scan_words.Written as written
+use Rattle.yaml_scan_laws_texts.specs.scan_history.scan_words.Written.{UriPiece, raw, escape, capital, piece_text, piece_byte, uri_bytes, is_kept, IsUri, has_no_mark}
 use Rattle.yaml_emit_layout.specs.emit_text.Hex.{hex_digit, hex_2}
 use Rattle.yaml_emit_layout.specs.emit_tags.Tags.{suffix_keeps, prefix_keeps, keeps_byte, uri_byte, uri_text}
 use Rattle.yaml_emit_laws_text.proofs.Chars.{encode_4, encode_3, encode_1, encode_2}

@@ -11,7 +11,7 @@ use Rattle.yaml_emit_laws_text.specs.Stands.{HasAt}
 use Rattle.yaml_emit_laws_text.proofs.Chars.{encode_1, encode_2, encode_3, encode_4}
 use Rattle.yaml_emit_laws_text.proofs.Values.{keeps}
 use Rattle.yaml_emit_laws_text.proofs.Bytes.{IsQuote, no_quote, no_slash, low_end, low_break, Calm, calm_end, calm_break, calm_from, first_end, second_end, third_end, later_break, two_break, three_break, four_break, high_blank}
-use Rattle.yaml_scan_words.proofs.HasLemmas.{Has}
+use Rattle.yaml_scan_laws_texts.proofs.HasLemmas.{Has}
 
 pub has : (text : List ℕ) (p : ℕ) (xs : List ℕ) → HasAt text p xs → Has text p xs
 has text p [] h = tt

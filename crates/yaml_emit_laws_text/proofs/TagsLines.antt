@@ -1,12 +1,12 @@
 -- Directives that are written are read.
 use Rattle.std.proofs.Common.{◌≡◌, ℕ, ◌+◌, true, List, ◌∷◌, ◌++◌, length, Ok, ap, subst, ◌∙◌, arith}
 use Rattle.std.specs.Prelude.{codes}
-use Rattle.yaml_scan_model.specs.Marks.{break_width}
-use Rattle.yaml_scan_model.specs.Classes.{is_break}
-use Rattle.yaml_scan_words.specs.Directives as directives
-use Rattle.yaml_scan_words.specs.Directives.{directive_at}
-use Rattle.yaml_scan_words.specs.Written as written
-use Rattle.yaml_scan_words.specs.Written.{HasAt}
+use Rattle.yaml_scan_scalars.specs.scan_model.Marks.{break_width}
+use Rattle.yaml_scan_scalars.specs.scan_model.Classes.{is_break}
+use Rattle.yaml_scan_laws_texts.specs.scan_history.scan_words.Directives as directives
+use Rattle.yaml_scan_laws_texts.specs.scan_history.scan_words.Directives.{directive_at}
+use Rattle.yaml_scan_laws_texts.specs.scan_history.scan_words.Written as written
+use Rattle.yaml_scan_laws_texts.specs.scan_history.scan_words.Written.{HasAt}
 use Rattle.yaml_scan_laws_texts.proofs.Directives.{tag_directive_is_read}
 use Rattle.yaml_emit_layout.specs.parse_model.Events.{TagDirective}
 use Rattle.yaml_emit_laws_text.specs.TagsLaws.{IsReadableDirective, directive_bytes}

@@ -12,7 +12,7 @@ use Rattle.yaml_emit_laws_text.specs.Spelling.{LineEnd, feed, return, return_fee
 use Rattle.yaml_emit_laws_text.proofs.Values.{blanks_of, turns_read, turn_read}
 use Rattle.yaml_emit_laws_text.proofs.Bytes.{IsQuote, no_quote, Calm, AreCalm, calm_end, calm_break, calm_from, hex_start, digits, named_is, number_calm}
 use Rattle.yaml_emit_laws_text.proofs.QuotedReading.{Read, Through, read_step, through_one, through_at, in_line, no_mark, column_more, space_standing, space_column}
-use Rattle.yaml_scan_words.proofs.HasLemmas.{has_rest, Has, has_front}
+use Rattle.yaml_scan_laws_texts.proofs.HasLemmas.{has_rest, Has, has_front}
 
 -- ---- escapes
 

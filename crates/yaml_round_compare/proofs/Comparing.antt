@@ -1,9 +1,9 @@
 -- From what two readings say to what is said of their inputs.
 use Rattle.std.proofs.Common.{◌≡◌, ◌⊎◌, ◌∙◌, inl, inr, ap, sym, ℕ, List, Bool, Result, Ok, Err}
-use Rattle.yaml_scan.specs.declared.yaml_encoding_t.{yaml_encoding_t}
-use Rattle.yaml_scan.specs.declared.yaml_fault_t.{yaml_fault_t}
-use Rattle.yaml_scan.specs.declared.yaml_origin_t.TheVariants.{Parser}
-use Rattle.yaml_scan.specs.Faults.{fault_of, memory_fault}
+use Rattle.yaml_parse.specs.declared.yaml_encoding_t.{yaml_encoding_t}
+use Rattle.yaml_parse.specs.declared.yaml_fault_t.{yaml_fault_t}
+use Rattle.yaml_parse.specs.declared.yaml_origin_t.TheVariants.{Parser}
+use Rattle.yaml_parse.specs.Faults.{fault_of, memory_fault}
 use Rattle.yaml_parse.specs.Remaining.{ParserRemaining}
 use Rattle.yaml_round_content.specs.Input.{ReadsInput}
 use Rattle.yaml_round_reading.specs.declared.side.yaml_side_t.{yaml_side_t}

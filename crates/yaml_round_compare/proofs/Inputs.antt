@@ -1,8 +1,8 @@
 -- Where the dumps of two inputs' documents part, the documents do, at a place.
 use Rattle.std.proofs.Common.{◌≡◌, ◌∙◌, inl, inr, ℕ, ◌+◌, List, [], ◌∷◌, ◌++◌, length, map, Option, Some, None, Ok, refl, sym, ap, subst, arith}
-use Rattle.yaml_scan.specs.declared.yaml_encoding_t.{yaml_encoding_t}
-use Rattle.yaml_scan.specs.declared.yaml_fault_t.{yaml_fault_t}
-use Rattle.yaml_scan.specs.Faults.{Fault, fault_of, IsMemoryFault, load_layers}
+use Rattle.yaml_parse.specs.declared.yaml_encoding_t.{yaml_encoding_t}
+use Rattle.yaml_parse.specs.declared.yaml_fault_t.{yaml_fault_t}
+use Rattle.yaml_parse.specs.Faults.{Fault, fault_of, IsMemoryFault, load_layers}
 use Rattle.yaml_round_content.specs.scan_model.declared.yaml_encoding_t.TheVariants.{YAML_ANY_ENCODING}
 use Rattle.yaml_parse.specs.Events.{EventBody}
 use Rattle.yaml_parse.specs.Events as event

@@ -4,7 +4,7 @@ use Rattle.yaml_parse.specs.Events.{Event, EventBody, event_of, type_of}
 use Rattle.yaml_parse.specs.Events as event
 use Rattle.yaml_parse.specs.Resolve.{Told}
 use Rattle.yaml_parse.specs.Remaining.{ParserRemaining}
-use Rattle.yaml_scan.specs.declared.yaml_scalar_style_t.{yaml_scalar_style_t}
+use Rattle.yaml_parse.specs.declared.yaml_scalar_style_t.{yaml_scalar_style_t}
 use Rattle.yaml_round_content.specs.Normalize.{normalize_body, normalize_scalar, is_lone_mark}
 use Rattle.yaml_round_content.specs.Content.{content_of}
 use Rattle.yaml_round_reading.specs.Reading.{contents, AreReal, GivesNextEvent}

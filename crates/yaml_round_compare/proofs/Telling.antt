@@ -1,7 +1,7 @@
 -- A place tells of the events that it was given.
 use Rattle.std.proofs.Common.{◌≡◌, ◌∙◌, ap}
-use Rattle.yaml_scan.specs.declared.yaml_mark_t.{yaml_mark_t}
-use Rattle.yaml_scan.specs.declared.yaml_event_type_t.{yaml_event_type_t}
+use Rattle.yaml_parse.specs.declared.yaml_mark_t.{yaml_mark_t}
+use Rattle.yaml_parse.specs.declared.yaml_event_type_t.{yaml_event_type_t}
 use Rattle.yaml_parse.specs.Events.{Event, type_of}
 use Rattle.yaml_round_compare.specs.declared.difference.yaml_difference_t.{yaml_difference_t}
 use Rattle.yaml_round_compare.specs.Places.{path_of}

@@ -1,8 +1,8 @@
 -- Where the contents of two inputs part.
 use Rattle.std.specs.Prelude.{◌≡◌, ◌⊎◌, true, ℕ, List, [], ◌∷◌, ◌++◌, Option, Some, None, Result, Ok, Err}
-use Rattle.yaml_scan.specs.declared.yaml_encoding_t.{yaml_encoding_t}
-use Rattle.yaml_scan.specs.declared.yaml_fault_t.{yaml_fault_t}
-use Rattle.yaml_scan.specs.Faults.{fault_of}
+use Rattle.yaml_parse.specs.declared.yaml_encoding_t.{yaml_encoding_t}
+use Rattle.yaml_parse.specs.declared.yaml_fault_t.{yaml_fault_t}
+use Rattle.yaml_parse.specs.Faults.{fault_of}
 use Rattle.yaml_parse.specs.Events.{Event, EventBody, type_of}
 use Rattle.yaml_parse.specs.Resolve.{Told}
 use Rattle.yaml_round_content.specs.Normalize.{normalize_body}

@@ -1,9 +1,9 @@
 -- Where the loaded documents of two inputs part.
 use Rattle.std.specs.Prelude.{◌≡◌, ◌⊎◌, ℕ, zero, suc, List, [], ◌∷◌, ◌++◌, length, Option, Some, None, Result, Ok, Err}
-use Rattle.yaml_scan.specs.declared.yaml_encoding_t.{yaml_encoding_t}
-use Rattle.yaml_scan.specs.declared.yaml_fault_t.{yaml_fault_t}
-use Rattle.yaml_scan.specs.Tokens.{zero_mark}
-use Rattle.yaml_scan.specs.Faults.{Fault, fault_of, IsMemoryFault, load_layers}
+use Rattle.yaml_parse.specs.declared.yaml_encoding_t.{yaml_encoding_t}
+use Rattle.yaml_parse.specs.declared.yaml_fault_t.{yaml_fault_t}
+use Rattle.yaml_parse.specs.Tokens.{zero_mark}
+use Rattle.yaml_parse.specs.Faults.{Fault, fault_of, IsMemoryFault, load_layers}
 use Rattle.yaml_parse.specs.Events.{Event, EventBody}
 use Rattle.yaml_parse.specs.Events as event
 use Rattle.yaml_parse.specs.Documents.{Document}

@@ -12,9 +12,10 @@ ghost use Rattle.yaml_round_reading.specs.Answers.{IsSame};
 use crate::content::agree;
 use crate::trail::Trail;
 use std::alloc::Global;
-use yaml_parse::{yaml_event_t, yaml_found_t};
+use yaml_parse::{
+    yaml_encoding_t, yaml_event_t, yaml_fault_t, yaml_found_t, yaml_memory_fault, yaml_origin_t,
+};
 use yaml_round_reading::{Reading, let_go, normalize_event, read_out, reading_of, yaml_side_t};
-use yaml_scan::{yaml_encoding_t, yaml_fault_t, yaml_memory_fault, yaml_origin_t};
 
 /// How two streams of events go on.
 #[derive(Clone, Copy)]

@@ -4,8 +4,7 @@ ghost use Rattle.std.specs.Prelude.{◌≡◌, ◌↔◌, IsTrue, map};
 ghost use Rattle.yaml_parse.specs.Events.{event_of, text_of, directive_of};
 ghost use Rattle.yaml_round_content.specs.Content.{content_of, counts_as_plain};
 
-use yaml_parse::{yaml_event_body_t, yaml_event_t};
-use yaml_scan::{yaml_tag_directive_t, yaml_version_directive_t};
+use yaml_parse::{yaml_event_body_t, yaml_event_t, yaml_tag_directive_t, yaml_version_directive_t};
 
 // Whether both texts are there and equal, or neither is there.
 fn same_text(a: &Option<Vec<u8>>, b: &Option<Vec<u8>>) -> bool

@@ -1,7 +1,6 @@
 //! Where the contents of two inputs part.
 
-use yaml_parse::yaml_event_type_t;
-use yaml_scan::yaml_mark_t;
+use yaml_parse::{yaml_event_type_t, yaml_mark_t};
 
 /// A step of a path, into a collection that is open at the place.
 #[derive(Drop)]

@@ -8,9 +8,8 @@ ghost use Rattle.yaml_round_compare.specs.Dumps.{FindsEvent, TellsOfInputs};
 use crate::difference::yaml_difference_t;
 use crate::front::Front;
 use std::alloc::Global;
-use yaml_parse::{yaml_event_type_t, yaml_found_t};
+use yaml_parse::{yaml_encoding_t, yaml_event_type_t, yaml_fault_t, yaml_found_t, yaml_mark_t};
 use yaml_round_reading::{Reading, let_go, reading_of, yaml_side_t};
-use yaml_scan::{yaml_encoding_t, yaml_fault_t, yaml_mark_t};
 
 // Where the event of that number begins, from 0, and what it is; no event at no place behind the last.
 fn found_at(

@@ -9,8 +9,7 @@ ghost use Rattle.yaml_round_compare.specs.Walking.{past_end, past_event, past_no
 use crate::difference::{yaml_difference_t, yaml_step_t};
 use std::alloc::{AllocError, Global};
 use std::mem;
-use yaml_parse::{yaml_event_body_t, yaml_event_t, yaml_event_type_t};
-use yaml_scan::yaml_mark_t;
+use yaml_parse::{yaml_event_body_t, yaml_event_t, yaml_event_type_t, yaml_mark_t};
 
 /// Where a comparison stands, or where it found that the contents part. The path is kept only where it is asked for.
 #[derive(Drop)]

@@ -59,9 +59,9 @@ pub use Rattle.yaml_emit_laws_dumps.proofs.Keeps
 pub use Rattle.yaml_emit_laws_dumps.proofs.Loads
 pub use Rattle.yaml_emit_laws_dumps.proofs.Visited
 pub use Rattle.yaml_round_laws_adapted.proofs.AdaptedLemmas
-pub use Rattle.yaml_scan_laws_texts.proofs.CompleteLemmas
-pub use Rattle.yaml_scan_laws_texts.proofs.SpellingLemmas
-pub use Rattle.yaml_scan_laws_texts.proofs.Inputs
+pub use Rattle.yaml_round_laws_adapted.proofs.CompleteLemmas
+pub use Rattle.yaml_round_laws_adapted.proofs.SpellingLemmas
+pub use Rattle.yaml_round_laws_adapted.proofs.Inputs
 -- the laws beneath, for crates that name this one alone
 pub use Rattle.yaml_emit_laws_dumps.proofs.Again
 pub use Rattle.yaml_emit_laws_dumps.proofs.Apart

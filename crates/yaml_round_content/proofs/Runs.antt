@@ -10,7 +10,7 @@ use Rattle.yaml_emit_laws_dumps.proofs.Single.{Emptied, emptied}
 use Rattle.yaml_emit_laws_dumps.proofs.Throughout.{GivenAre, Each, run_are}
 use Rattle.yaml_emit_laws_dumps.specs.emit_layout.declared.Expected.TheVariants as at
 use Rattle.yaml_emit_laws_dumps.specs.emit_layout.Progress.{Progress, at_place, first_progress}
-use Rattle.yaml_scan_laws_texts.specs.Spelled.{IsSpelled, AreSpelled}
+use Rattle.yaml_round_laws_adapted.specs.scan_laws_texts.Spelled.{IsSpelled, AreSpelled}
 use Rattle.yaml_round_content.proofs.Stacks.{shape_of, AreRight, IsPlaced, moved}
 use Rattle.yaml_round_content.proofs.Places.{AllPlaced, moved_all, FedLeads, feed_leads}
 use Rattle.yaml_round_content.proofs.Spellings.{IsSpelledItem, spelled_rules}

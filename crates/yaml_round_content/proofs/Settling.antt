@@ -5,7 +5,7 @@ use Rattle.std.specs.Str.{bytes_eq}
 use Rattle.yaml_emit_laws_dumps.specs.parse_model.declared.yaml_mark_t.{yaml_mark_t}
 use Rattle.yaml_emit_laws_dumps.specs.parse_model.declared.yaml_scalar_style_t.{yaml_scalar_style_t}
 use Rattle.yaml_emit_laws_dumps.specs.parse_model.declared.yaml_version_directive_t.{yaml_version_directive_t}
-use Rattle.yaml_scan_laws_texts.specs.Spelled.{IsSome, IsName, IsHandle}
+use Rattle.yaml_round_laws_adapted.specs.scan_laws_texts.Spelled.{IsSome, IsName, IsHandle}
 use Rattle.yaml_emit_laws_dumps.specs.parse_model.Events.{EventBody, TagDirective}
 use Rattle.yaml_emit_laws_dumps.specs.parse_model.Events as event
 use Rattle.yaml_emit_laws_dumps.specs.parse_grammar.Items.{RawEventBody, Shape as Kind}

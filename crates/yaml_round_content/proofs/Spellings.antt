@@ -1,6 +1,6 @@
 -- Names and tags of well spelled tokens, in the items and states that a machine makes of them.
 use Rattle.std.proofs.Common.{ℕ, List, Option, Some, None}
-use Rattle.yaml_scan_laws_texts.specs.Spelled.{IsSome, IsName, IsHandle, IsSpelled}
+use Rattle.yaml_round_laws_adapted.specs.scan_laws_texts.Spelled.{IsSome, IsName, IsHandle, IsSpelled}
 use Rattle.yaml_emit_laws_dumps.specs.parse_model.Events.{EventBody}
 use Rattle.yaml_emit_laws_dumps.specs.parse_model.Events as event
 use Rattle.yaml_emit_laws_dumps.specs.parse_grammar.Items.{RawEventBody, Tag}

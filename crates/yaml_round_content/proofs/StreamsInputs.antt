@@ -1,9 +1,9 @@
 -- The events of an input.
 use Rattle.std.proofs.Common.{◌≡◌, ℕ, Bool, true, List, [], ◌∷◌, None}
 use Rattle.yaml_emit_laws_dumps.specs.parse_model.declared.yaml_encoding_t.{yaml_encoding_t}
-use Rattle.yaml_scan_laws_texts.specs.scan_history.Scanned.{scanned}
-use Rattle.yaml_scan_laws_texts.specs.Spelled.{AreSpelled}
-use Rattle.yaml_scan_laws_texts.proofs.Inputs.{scanned_spelled}
+use Rattle.yaml_round_laws_adapted.specs.scan_laws_texts.scan_history.Scanned.{scanned}
+use Rattle.yaml_round_laws_adapted.specs.scan_laws_texts.Spelled.{AreSpelled}
+use Rattle.yaml_round_laws_adapted.proofs.Inputs.{scanned_spelled}
 use Rattle.yaml_emit_laws_dumps.specs.parse_model.Events.{EventBody}
 use Rattle.yaml_emit_laws_dumps.specs.parse_grammar.Resolve.{Told}
 use Rattle.yaml_emit_laws_dumps.specs.emit_layout.Content.{emitter_event}

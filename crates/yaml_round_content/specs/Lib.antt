@@ -27,9 +27,9 @@ pub mod DumpsLaws
 -- what it stands on, for crates that name this one alone
 pub use Rattle.yaml_emit_laws_dumps.specs as emit_laws_dumps
 pub use Rattle.yaml_round_laws_adapted.specs as round_laws_adapted
-pub use Rattle.yaml_scan_laws_texts.specs as scan_laws_texts
-pub use Rattle.yaml_scan_laws_texts.specs.scan_history
-pub use Rattle.yaml_scan_laws_texts.specs.scan_history.scan_model
+pub use Rattle.yaml_round_laws_adapted.specs.scan_laws_texts as scan_laws_texts
+pub use Rattle.yaml_round_laws_adapted.specs.scan_laws_texts.scan_history
+pub use Rattle.yaml_emit_laws_dumps.specs.emit_layout.scan_model
 pub use Rattle.yaml_emit_laws_dumps.specs.parse_model
 pub use Rattle.yaml_emit_laws_dumps.specs.parse_grammar
 pub use Rattle.yaml_emit_laws_dumps.specs.parse_laws_trees

@@ -3,8 +3,8 @@ use Rattle.std.specs.Prelude.{◌≡◌, ℕ, Bool, List, map, Option, None}
 use Rattle.yaml_emit_laws_dumps.specs.parse_model.declared.yaml_encoding_t.{yaml_encoding_t}
 use Rattle.yaml_emit_laws_dumps.specs.parse_model.Tokens.{Token}
 use Rattle.yaml_emit_laws_dumps.specs.parse_model.Faults.{Fault}
-use Rattle.yaml_scan_laws_texts.specs.scan_history.Scanned.{scanned}
-use Rattle.yaml_scan_laws_texts.specs.Spelled.{AreSpelled}
+use Rattle.yaml_round_laws_adapted.specs.scan_laws_texts.scan_history.Scanned.{scanned}
+use Rattle.yaml_round_laws_adapted.specs.scan_laws_texts.Spelled.{AreSpelled}
 use Rattle.yaml_emit_laws_dumps.specs.parse_model.Events.{EventBody}
 use Rattle.yaml_emit_laws_dumps.specs.parse_grammar.Machine.{run, initial}
 use Rattle.yaml_emit_laws_dumps.specs.parse_grammar.Resolve.{Told, Reading, no_directives}

@@ -33,11 +33,11 @@ use Rattle.yaml_round_content.specs.Input.{tokens_of, events_of}
 use Rattle.yaml_round_content.proofs.Inputs.{scanned_spelled}
 use Rattle.yaml_round_content.proofs.Joining.{read_is, tree_read}
 use Rattle.yaml_round_content.proofs.Spelling.{spelled_before}
-use Rattle.yaml_emit_layout.specs.Content as emit
-use Rattle.yaml_emit_layout.specs.Content.{emitter_event}
-use Rattle.yaml_emit_layout.specs.Grammar.{has}
-use Rattle.yaml_emit_laws_pretty.specs.Bodies.{is_bare, is_empty}
-use Rattle.yaml_round_laws_pretty.specs.Flags.{is_asked_plain}
+use Rattle.yaml_round_content.specs.emit_layout.Content as emit
+use Rattle.yaml_round_content.specs.emit_layout.Content.{emitter_event}
+use Rattle.yaml_round_content.specs.emit_layout.Grammar.{has}
+use Rattle.yaml_round_beginning.specs.round_laws_normal.round_laws_pretty.Bodies.{is_bare, is_empty}
+use Rattle.yaml_round_beginning.specs.round_laws_normal.round_laws_pretty.Flags.{is_asked_plain}
 use Rattle.yaml_round_beginning.specs.declared.beginning.Beginning.TheVariants as known
 use Rattle.yaml_round_beginning.specs.Beginning.{is_nothing_next, opens_with_nothing, nothing_comes}
 use Rattle.yaml_round_beginning.proofs.Starting.{from_start}

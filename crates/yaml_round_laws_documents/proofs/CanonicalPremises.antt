@@ -3,9 +3,9 @@ use Rattle.std.proofs.Common.{◌≡◌, ℕ, Bool, true, false, if◌then◌els
 use Rattle.std.specs.List.{list_any}
 use Rattle.std.specs.Str.{bytes_eq}
 use Rattle.std.proofs.lemmas.Bool.{or_parts}
-use Rattle.yaml_parse_grammar.specs.parse_model.declared.yaml_version_directive_t.{yaml_version_directive_t}
-use Rattle.yaml_parse_grammar.specs.parse_model.Events.{TagDirective}
-use Rattle.yaml_parse_grammar.specs.Resolve.{is_known_version, directive_for}
+use Rattle.yaml_round_content.specs.parse_model.declared.yaml_version_directive_t.{yaml_version_directive_t}
+use Rattle.yaml_round_content.specs.parse_model.Events.{TagDirective}
+use Rattle.yaml_round_content.specs.parse_grammar.Resolve.{is_known_version, directive_for}
 use Rattle.yaml_emit_laws_text.specs.emit_layout.emit_tags.Tags.{split_tag}
 use Rattle.yaml_emit_laws_text.specs.emit_layout.Content.{Opening}
 use Rattle.yaml_emit_laws_text.specs.emit_layout.declared.problem.Problem.{Problem}

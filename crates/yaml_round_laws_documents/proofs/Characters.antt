@@ -6,12 +6,12 @@ use Rattle.std.proofs.lemmas.List.Elements.{All-nil, All-cons}
 use Rattle.std.proofs.lemmas.Bool.{cases_Bool, cases_lt, and_parts, or_parts, not-false, eqb-true, ltb-true}
 use Rattle.std.proofs.lemmas.Bool.Decides.{nat_tests}
 use lib.Utf8.{scalar, scalars, encode}
-use Rattle.yaml_emit_layout.specs.scan_model.Classes.{is_alpha_byte, is_digit_byte}
-use Rattle.yaml_scan_decode.specs.Characters.{is_allowed}
-use Rattle.yaml_emit_layout.specs.emit_text.Text.{is_break}
-use Rattle.yaml_emit_layout.specs.emit_text.Quoted.{is_printable, needs_escape, escape_letter, escape_text, hex_4, hex_8}
-use Rattle.yaml_emit_layout.specs.emit_text.Hex.{hex_digit, hex_2}
-use Rattle.yaml_emit_layout.specs.emit_tags.Tags.{suffix_keeps, prefix_keeps, keeps_byte, uri_byte, uri_text}
+use Rattle.yaml_emit_laws_text.specs.scan_model.Classes.{is_alpha_byte, is_digit_byte}
+use Rattle.yaml_emit_laws_text.specs.scan_history.scan_decode.Characters.{is_allowed}
+use Rattle.yaml_emit_laws_text.specs.emit_text.Text.{is_break}
+use Rattle.yaml_emit_laws_text.specs.emit_text.Quoted.{is_printable, needs_escape, escape_letter, escape_text, hex_4, hex_8}
+use Rattle.yaml_emit_laws_text.specs.emit_text.Hex.{hex_digit, hex_2}
+use Rattle.yaml_emit_laws_text.specs.emit_layout.emit_tags.Tags.{suffix_keeps, prefix_keeps, keeps_byte, uri_byte, uri_text}
 use Rattle.yaml_emit_laws_text.proofs.Pieces.{top_of}
 
 abbrev pub Fits : ℕ → Type 0

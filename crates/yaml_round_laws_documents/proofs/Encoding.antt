@@ -2,11 +2,11 @@
 use Rattle.std.proofs.Common.{◌≡◌, ℕ, ◌+◌, ◌-◌, ◌/◌, ◌%◌, Bool, true, false, nat_lt, List, [], ◌∷◌, ◌++◌, refl, ap, ◌∙◌, encode_utf8, encode_utf8_all}
 use Rattle.std.specs.Prelude.{if◌then◌else◌}
 use lib.Utf8.{encode as encode_char}
-use Rattle.yaml_emit_layout.specs.scan_model.declared.yaml_encoding_t.TheVariants.{YAML_UTF8_ENCODING, YAML_UTF16LE_ENCODING, YAML_UTF16BE_ENCODING}
-use Rattle.yaml_scan_decode.specs.Spelling.{spelling, spellings, units_bytes}
-use Rattle.yaml_scan_decode.specs.declared.utf16.ByteOrder.TheVariants.{LowFirst, HighFirst}
-use Rattle.yaml_emit_layout.specs.emit_text.declared.Encoding.TheVariants.{Utf8, Utf16Le, Utf16Be}
-use Rattle.yaml_emit_layout.specs.emit_text.Text.{Item, letter, deep, char_bytes, unit_bytes, encode, shown}
+use Rattle.yaml_emit_laws_text.specs.scan_model.declared.yaml_encoding_t.TheVariants.{YAML_UTF8_ENCODING, YAML_UTF16LE_ENCODING, YAML_UTF16BE_ENCODING}
+use Rattle.yaml_emit_laws_text.specs.scan_history.scan_decode.Spelling.{spelling, spellings, units_bytes}
+use Rattle.yaml_emit_laws_text.specs.scan_history.scan_decode.declared.utf16.ByteOrder.TheVariants.{LowFirst, HighFirst}
+use Rattle.yaml_emit_laws_text.specs.emit_text.declared.Encoding.TheVariants.{Utf8, Utf16Le, Utf16Be}
+use Rattle.yaml_emit_laws_text.specs.emit_text.Text.{Item, letter, deep, char_bytes, unit_bytes, encode, shown}
 
 pub char_8 : (c : ℕ) → char_bytes Utf8 c ≡ encode_utf8 c
 unfolding char_bytes encode_char

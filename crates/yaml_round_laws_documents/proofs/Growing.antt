@@ -2,26 +2,26 @@
 use Rattle.std.proofs.Common.{◌≡◌, ℕ, Bool, true, false, not, ◌&&◌, List, [], ◌∷◌, length, Option, Some, None, refl, sym, ap, subst, ◌∙◌, codes, ◌||◌}
 use Rattle.std.specs.Prelude.{if◌then◌else◌}
 use Rattle.std.specs.Str.{bytes_eq}
-use Rattle.yaml_parse_grammar.specs.parse_model.declared.yaml_mark_t.{yaml_mark_t}
-use Rattle.yaml_parse_grammar.specs.parse_model.declared.yaml_scalar_style_t.{yaml_scalar_style_t}
-use Rattle.yaml_parse_grammar.specs.parse_model.declared.yaml_scalar_style_t.TheVariants.{YAML_DOUBLE_QUOTED_SCALAR_STYLE}
-use Rattle.yaml_parse_grammar.specs.parse_model.declared.yaml_sequence_style_t.TheVariants.{YAML_FLOW_SEQUENCE_STYLE}
-use Rattle.yaml_parse_grammar.specs.parse_model.declared.yaml_mapping_style_t.TheVariants.{YAML_FLOW_MAPPING_STYLE}
-use Rattle.yaml_parse_grammar.specs.parse_model.Tokens.{Token, TokenBody}
-use Rattle.yaml_parse_grammar.specs.parse_model.Tokens as token
-use Rattle.yaml_parse_grammar.specs.parse_model.Events.{EventBody, TagDirective}
-use Rattle.yaml_parse_grammar.specs.parse_model.Events as event
-use Rattle.yaml_parse_grammar.specs.parse_model.Faults.{Fault}
-use Rattle.yaml_parse_grammar.specs.declared.name.Wants.{Wants}
-use Rattle.yaml_parse_grammar.specs.declared.name.Wants.TheVariants.{Flow}
-use Rattle.yaml_parse_grammar.specs.declared.name.Brackets.{Brackets}
-use Rattle.yaml_parse_grammar.specs.declared.name.Brackets.TheVariants as brackets
-use Rattle.yaml_parse_grammar.specs.Items.{RawEvent, Shape, Properties, node_at}
-use Rattle.yaml_parse_grammar.specs.Items as item
-use Rattle.yaml_parse_grammar.specs.Trees.{Span, token_at, PropertyTokens, Given, spell_properties, spell_node, spell_content, spell_items, spell_more, spell_colon, properties_of, Items, More, end_items, single, comma, there, colon}
-use Rattle.yaml_parse_grammar.specs.TreeSteps.{items_node, items_content, items_items}
-use Rattle.yaml_parse_grammar.specs.Trees as trees
-use Rattle.yaml_parse_grammar.specs.Resolve.{Directives, Reading, Settled, gave, settle, read_on, reading, resolved, with_resolved, node_event, is_missing}
+use Rattle.yaml_round_content.specs.parse_model.declared.yaml_mark_t.{yaml_mark_t}
+use Rattle.yaml_round_content.specs.parse_model.declared.yaml_scalar_style_t.{yaml_scalar_style_t}
+use Rattle.yaml_round_content.specs.parse_model.declared.yaml_scalar_style_t.TheVariants.{YAML_DOUBLE_QUOTED_SCALAR_STYLE}
+use Rattle.yaml_round_content.specs.parse_model.declared.yaml_sequence_style_t.TheVariants.{YAML_FLOW_SEQUENCE_STYLE}
+use Rattle.yaml_round_content.specs.parse_model.declared.yaml_mapping_style_t.TheVariants.{YAML_FLOW_MAPPING_STYLE}
+use Rattle.yaml_emit_laws_text.specs.scan_model.Tokens.{Token, TokenBody}
+use Rattle.yaml_emit_laws_text.specs.scan_model.Tokens as token
+use Rattle.yaml_round_content.specs.parse_model.Events.{EventBody, TagDirective}
+use Rattle.yaml_round_content.specs.parse_model.Events as event
+use Rattle.yaml_emit_laws_text.specs.scan_model.Faults.{Fault}
+use Rattle.yaml_round_content.specs.parse_grammar.declared.name.Wants.{Wants}
+use Rattle.yaml_round_content.specs.parse_grammar.declared.name.Wants.TheVariants.{Flow}
+use Rattle.yaml_round_content.specs.parse_grammar.declared.name.Brackets.{Brackets}
+use Rattle.yaml_round_content.specs.parse_grammar.declared.name.Brackets.TheVariants as brackets
+use Rattle.yaml_round_content.specs.parse_grammar.Items.{RawEvent, Shape, Properties, node_at}
+use Rattle.yaml_round_content.specs.parse_grammar.Items as item
+use Rattle.yaml_round_content.specs.parse_grammar.Trees.{Span, token_at, PropertyTokens, Given, spell_properties, spell_node, spell_content, spell_items, spell_more, spell_colon, properties_of, Items, More, end_items, single, comma, there, colon}
+use Rattle.yaml_round_content.specs.parse_grammar.TreeSteps.{items_node, items_content, items_items}
+use Rattle.yaml_round_content.specs.parse_grammar.Trees as trees
+use Rattle.yaml_round_content.specs.parse_grammar.Resolve.{Directives, Reading, Settled, gave, settle, read_on, reading, resolved, with_resolved, node_event, is_missing}
 use Rattle.yaml_emit_laws_text.specs.emit_layout.emit_tags.Tags.{Split, shorthand, verbatim, split_tag}
 use Rattle.yaml_emit_laws_text.specs.emit_layout.Content.{Scalar, Start, Node, alias_node, scalar_node, sequence_node, mapping_node, Nodes, no_nodes, node, Pairs, no_pairs, pair}
 use Rattle.yaml_emit_laws_text.specs.emit_layout.Grammar.{has}

@@ -31,4 +31,12 @@ pub use Rattle.yaml_round_content.proofs.Walks
 pub use Rattle.yaml_round_content.proofs.Joining as ReadingJoining
 pub use Rattle.yaml_round_content.proofs.Loaded
 -- what it stands on, for crates that name this one alone
-pub use Rattle.yaml_parse_grammar.proofs.CompleteStream
+pub use Rattle.yaml_round_content.proofs.CompleteStream
+pub use Rattle.yaml_round_content.proofs.Throughout
+pub use Rattle.yaml_round_content.proofs.Tokens
+pub use Rattle.yaml_round_content.proofs.Spellings
+pub use Rattle.yaml_round_content.proofs.Runs
+pub use Rattle.yaml_round_content.proofs.Utf8
+pub use Rattle.yaml_round_content.proofs.Injective as ContentInjective
+pub use Rattle.yaml_round_content.proofs.WritableContents
+pub use Rattle.yaml_round_content.proofs.Naming

@@ -2,16 +2,16 @@
 use Rattle.std.proofs.Common.{◌≡◌, ℕ, ◌<◌, true, false, List, [], ◌∷◌, drop, Option, Some, None, refl, arith}
 use Rattle.std.specs.Prelude.{nat_eq}
 use Rattle.std.proofs.lemmas.Bool.Decides.{nat_tests}
-use Rattle.yaml_emit_layout.specs.scan_model.declared.yaml_encoding_t.TheVariants.{YAML_ANY_ENCODING, YAML_UTF8_ENCODING, YAML_UTF16LE_ENCODING, YAML_UTF16BE_ENCODING}
-use Rattle.yaml_emit_layout.specs.scan_model.declared.yaml_version_directive_t.{yaml_version_directive_t}
-use Rattle.yaml_scan_decode.specs.Encodings.{encoding_of, mark_length}
-use Rattle.yaml_emit_layout.specs.parse_model.Events.{TagDirective}
-use Rattle.yaml_emit_layout.specs.emit_text.declared.Encoding.TheVariants.{Utf8, Utf16Le, Utf16Be}
-use Rattle.yaml_emit_layout.specs.emit_text.declared.Settings.{Settings}
-use Rattle.yaml_emit_layout.specs.emit_text.Text.{Item, letter, char_bytes, encode}
-use Rattle.yaml_emit_layout.specs.emit_text.Layout.{Rest, ◌▹◌, letters, blanks, line, start, written}
-use Rattle.yaml_emit_layout.specs.Content.{Document}
-use Rattle.yaml_emit_layout.specs.Nodes.{version_text, directives_text, dashes, start_layout, stop_layout, documents_layout}
+use Rattle.yaml_emit_laws_text.specs.scan_model.declared.yaml_encoding_t.TheVariants.{YAML_ANY_ENCODING, YAML_UTF8_ENCODING, YAML_UTF16LE_ENCODING, YAML_UTF16BE_ENCODING}
+use Rattle.yaml_emit_laws_text.specs.scan_model.declared.yaml_version_directive_t.{yaml_version_directive_t}
+use Rattle.yaml_emit_laws_text.specs.scan_history.scan_decode.Encodings.{encoding_of, mark_length}
+use Rattle.yaml_round_content.specs.parse_model.Events.{TagDirective}
+use Rattle.yaml_emit_laws_text.specs.emit_text.declared.Encoding.TheVariants.{Utf8, Utf16Le, Utf16Be}
+use Rattle.yaml_emit_laws_text.specs.emit_text.declared.Settings.{Settings}
+use Rattle.yaml_emit_laws_text.specs.emit_text.Text.{Item, letter, char_bytes, encode}
+use Rattle.yaml_emit_laws_text.specs.emit_text.Layout.{Rest, ◌▹◌, letters, blanks, line, start, written}
+use Rattle.yaml_emit_laws_text.specs.emit_layout.Content.{Document}
+use Rattle.yaml_emit_laws_text.specs.emit_layout.Nodes.{version_text, directives_text, dashes, start_layout, stop_layout, documents_layout}
 use Rattle.yaml_round_laws_documents.proofs.Nodes.{canonically}
 
 -- the first byte, if there is one, is ASCII

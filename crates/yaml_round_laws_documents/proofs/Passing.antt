@@ -12,7 +12,7 @@ use Rattle.yaml_emit_laws_text.specs.emit_layout.Nodes.{is_directed}
 use Rattle.yaml_emit_laws_text.specs.emit_layout.scan_model.declared.yaml_scalar_style_t.TheVariants.{YAML_DOUBLE_QUOTED_SCALAR_STYLE}
 use Rattle.yaml_emit_laws_text.specs.Canonical.{is_marked}
 use Rattle.yaml_emit_laws_text.specs.TagsLaws.{IsReadable, HaveUtf8}
-use Rattle.yaml_round_laws_adapted.specs.Adapted.{spells_text, cut, with_token}
+use Rattle.yaml_round_content.specs.round_laws_adapted.Adapted.{spells_text, cut, with_token}
 use Rattle.yaml_emit_laws_text.specs.Bodies.{tag_body, anchor_bodies, tag_bodies, mark_bodies, node_bodies, items_bodies, pairs_bodies, version_bodies, directives_bodies, end_bodies, documents_bodies}
 use Rattle.yaml_round_laws_documents.specs.TreeLaws.{token_bodies}
 use Rattle.yaml_round_laws_documents.specs.Adapting.{IsReadableTag, IsTagged, AreTagged, PairsAreTagged, HaveTexts, without_fault, CanonicalTokensPass}

@@ -8,7 +8,7 @@ use Rattle.yaml_emit_laws_text.specs.emit_layout.parse_model.Events.{TagDirectiv
 use Rattle.yaml_emit_laws_text.specs.emit_layout.emit_tags.Tags.{split_tag}
 use Rattle.yaml_emit_laws_text.specs.emit_layout.Content.{Document, Node, alias_node, scalar_node, sequence_node, mapping_node, Nodes, no_nodes, node, Pairs, no_pairs, pair}
 use Rattle.yaml_emit_laws_text.specs.TagsLaws.{IsReadable, HaveUtf8}
-use Rattle.yaml_round_laws_adapted.specs.Adapted.{adapted}
+use Rattle.yaml_round_content.specs.round_laws_adapted.Adapted.{adapted}
 use Rattle.yaml_emit_laws_text.specs.Bodies.{documents_bodies}
 use Rattle.yaml_round_laws_documents.specs.TreeLaws.{token_bodies}
 

@@ -2,20 +2,20 @@
 use Rattle.std.specs.Prelude.{◌≡◌, ℕ, true, false, List, [], ◌∷◌, Option, Some, None, Ok}
 use Rattle.std.specs.List.{list_all}
 use Rattle.std.specs.Str.{IsUtf8}
-use Rattle.yaml_emit_layout.specs.scan_model.Classes.{is_alpha_byte}
-use Rattle.yaml_scan_decode.specs.Encodings.{encoding_of}
-use Rattle.yaml_scan_decode.specs.Decoding.{decoded_text}
-use Rattle.yaml_emit_layout.specs.scan_model.declared.yaml_encoding_t.{yaml_encoding_t}
-use Rattle.yaml_emit_layout.specs.scan_model.declared.yaml_encoding_t.TheVariants.{YAML_ANY_ENCODING, YAML_UTF8_ENCODING, YAML_UTF16LE_ENCODING, YAML_UTF16BE_ENCODING}
-use Rattle.yaml_emit_layout.specs.parse_model.Events.{TagDirective}
-use Rattle.yaml_emit_layout.specs.emit_text.declared.Encoding.{Encoding}
-use Rattle.yaml_emit_layout.specs.emit_text.declared.Encoding.TheVariants.{Utf8, Utf16Le, Utf16Be}
-use Rattle.yaml_emit_layout.specs.emit_text.declared.Settings.{Settings}
-use Rattle.yaml_emit_layout.specs.emit_text.Text.{encode}
-use Rattle.yaml_emit_layout.specs.emit_text.Layout.{written}
-use Rattle.yaml_emit_layout.specs.Content.{Document, Node, alias_node, scalar_node, sequence_node, mapping_node, Nodes, no_nodes, node, Pairs, no_pairs, pair}
-use Rattle.yaml_emit_layout.specs.Grammar.{opening_problem}
-use Rattle.yaml_emit_layout.specs.Nodes.{documents_layout, stream_layout}
+use Rattle.yaml_emit_laws_text.specs.scan_model.Classes.{is_alpha_byte}
+use Rattle.yaml_emit_laws_text.specs.scan_history.scan_decode.Encodings.{encoding_of}
+use Rattle.yaml_emit_laws_text.specs.scan_history.scan_decode.Decoding.{decoded_text}
+use Rattle.yaml_emit_laws_text.specs.scan_model.declared.yaml_encoding_t.{yaml_encoding_t}
+use Rattle.yaml_emit_laws_text.specs.scan_model.declared.yaml_encoding_t.TheVariants.{YAML_ANY_ENCODING, YAML_UTF8_ENCODING, YAML_UTF16LE_ENCODING, YAML_UTF16BE_ENCODING}
+use Rattle.yaml_round_content.specs.parse_model.Events.{TagDirective}
+use Rattle.yaml_emit_laws_text.specs.emit_text.declared.Encoding.{Encoding}
+use Rattle.yaml_emit_laws_text.specs.emit_text.declared.Encoding.TheVariants.{Utf8, Utf16Le, Utf16Be}
+use Rattle.yaml_emit_laws_text.specs.emit_text.declared.Settings.{Settings}
+use Rattle.yaml_emit_laws_text.specs.emit_text.Text.{encode}
+use Rattle.yaml_emit_laws_text.specs.emit_text.Layout.{written}
+use Rattle.yaml_emit_laws_text.specs.emit_layout.Content.{Document, Node, alias_node, scalar_node, sequence_node, mapping_node, Nodes, no_nodes, node, Pairs, no_pairs, pair}
+use Rattle.yaml_emit_laws_text.specs.emit_layout.Grammar.{opening_problem}
+use Rattle.yaml_emit_laws_text.specs.emit_layout.Nodes.{documents_layout, stream_layout}
 
 -- the bytes are 0-9 A-Z a-z _ -
 abbrev pub IsName : List ℕ → Type 0

@@ -11,7 +11,7 @@ pub mod KeptLaws
 -- what they speak of, and the laws beneath, for crates that name this one alone
 pub use Rattle.yaml_round_content.specs as round_content
 -- what it stands on, for crates that name this one alone
-pub use Rattle.yaml_scan_decode.specs as scan_decode
+pub use Rattle.yaml_emit_laws_text.specs.scan_history.scan_decode as scan_decode
 pub use Rattle.yaml_emit_laws_text.specs as emit_laws_text
-pub use Rattle.yaml_round_laws_adapted.specs as round_laws_adapted
-pub use Rattle.yaml_parse_grammar.specs as parse_grammar
+pub use Rattle.yaml_round_content.specs.round_laws_adapted as round_laws_adapted
+pub use Rattle.yaml_round_content.specs.parse_grammar as parse_grammar

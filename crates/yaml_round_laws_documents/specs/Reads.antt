@@ -5,7 +5,7 @@ use Rattle.yaml_emit_laws_text.specs.emit_layout.scan_model.declared.yaml_sequen
 use Rattle.yaml_emit_laws_text.specs.emit_layout.scan_model.declared.yaml_mapping_style_t.TheVariants.{YAML_FLOW_MAPPING_STYLE}
 use Rattle.yaml_emit_laws_text.specs.emit_layout.parse_model.Events.{EventBody}
 use Rattle.yaml_emit_laws_text.specs.emit_layout.parse_model.Events as event
-use Rattle.yaml_parse_grammar.specs.Resolve.{is_missing}
+use Rattle.yaml_round_content.specs.parse_grammar.Resolve.{is_missing}
 use Rattle.yaml_emit_laws_text.specs.emit_layout.Nodes.{is_directed}
 use Rattle.yaml_emit_laws_text.specs.emit_layout.Content.{Document, Node, alias_node, scalar_node, sequence_node, mapping_node, Nodes, no_nodes, node, Pairs, no_pairs, pair}
 

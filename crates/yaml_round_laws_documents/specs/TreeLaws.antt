@@ -1,19 +1,19 @@
 -- What a parser makes of the tokens of canonical documents.
 use Rattle.std.specs.Prelude.{◌≡◌, ℕ, false, List, [], ◌∷◌, map, Option, Some, None, codes}
 use Rattle.std.specs.Str.{bytes_eq}
-use Rattle.yaml_parse_grammar.specs.parse_model.Tokens.{Token, TokenBody}
-use Rattle.yaml_parse_grammar.specs.parse_model.Events.{EventBody, TagDirective}
-use Rattle.yaml_parse_grammar.specs.parse_model.Faults.{Fault}
-use Rattle.yaml_parse_grammar.specs.declared.name.Wants.{Wants}
-use Rattle.yaml_parse_grammar.specs.Trees.{Given, spell_node}
-use Rattle.yaml_parse_grammar.specs.TreeSteps.{items_node}
-use Rattle.yaml_parse_grammar.specs.Trees as trees
-use Rattle.yaml_parse_grammar.specs.Resolve.{Directives, Told, Reading, reading, no_directives}
-use Rattle.yaml_parse_grammar.specs.Machine.{run, initial}
-use Rattle.yaml_parse_grammar.specs.Remaining.{reading_of}
-use Rattle.yaml_parse_grammar.specs.parse_model.declared.yaml_encoding_t.{yaml_encoding_t}
-use Rattle.yaml_parse_grammar.specs.parse_model.Tokens as token
-use Rattle.yaml_parse_grammar.specs.parse_model.Events as event
+use Rattle.yaml_emit_laws_text.specs.scan_model.Tokens.{Token, TokenBody}
+use Rattle.yaml_round_content.specs.parse_model.Events.{EventBody, TagDirective}
+use Rattle.yaml_emit_laws_text.specs.scan_model.Faults.{Fault}
+use Rattle.yaml_round_content.specs.parse_grammar.declared.name.Wants.{Wants}
+use Rattle.yaml_round_content.specs.parse_grammar.Trees.{Given, spell_node}
+use Rattle.yaml_round_content.specs.parse_grammar.TreeSteps.{items_node}
+use Rattle.yaml_round_content.specs.parse_grammar.Trees as trees
+use Rattle.yaml_round_content.specs.parse_grammar.Resolve.{Directives, Told, Reading, reading, no_directives}
+use Rattle.yaml_round_content.specs.parse_grammar.Machine.{run, initial}
+use Rattle.yaml_round_content.specs.parse_grammar.Remaining.{reading_of}
+use Rattle.yaml_round_content.specs.parse_model.declared.yaml_encoding_t.{yaml_encoding_t}
+use Rattle.yaml_emit_laws_text.specs.scan_model.Tokens as token
+use Rattle.yaml_round_content.specs.parse_model.Events as event
 use Rattle.yaml_emit_laws_text.specs.emit_layout.Grammar.{opening_problem}
 use Rattle.yaml_emit_laws_text.specs.emit_layout.Content.{Opening, Document, Node, alias_node, scalar_node, sequence_node, mapping_node, Nodes, no_nodes, node, Pairs, no_pairs, pair}
 use Rattle.yaml_emit_laws_text.specs.Bodies.{node_bodies, documents_bodies}

@@ -1,23 +1,23 @@
 -- The text that people read decodes to a text whose tokens pass the adapter and are parsed as the content.
 use Rattle.std.proofs.Common.{◌≡◌, ℕ, true, List, map, Ok, sym, ap, ◌∙◌}
-use Rattle.yaml_parse_grammar.specs.parse_model.declared.yaml_encoding_t.{yaml_encoding_t}
-use Rattle.yaml_parse_grammar.specs.parse_model.declared.yaml_encoding_t.TheVariants.{YAML_ANY_ENCODING}
-use Rattle.yaml_parse_grammar.specs.parse_model.Events.{EventBody}
-use Rattle.yaml_round_laws_documents.specs.scan_decode.Decoding.{decoded_text}
-use Rattle.yaml_emit_laws_text.specs.scan_history.Remaining.{Remaining}
-use Rattle.yaml_emit_laws_text.specs.scan_history.Scanned.{scanned, scanned_in}
-use Rattle.yaml_emit_laws_text.specs.emit_layout.emit_text.Settings.{settled}
-use Rattle.yaml_round_content.specs.Events.{contents}
-use Rattle.yaml_round_content.specs.Input.{events_of, parsed, tokens_of}
-use Rattle.yaml_round_content.specs.Said.{stream_says}
-use Rattle.yaml_round_laws_adapted.specs.Adapted.{adapted}
-use Rattle.yaml_round_laws_documents.specs.BytesLaws.{canonical_text, encoding_named}
-use Rattle.yaml_round_laws_documents.specs.TreeLaws.{parsed_of}
-use Rattle.yaml_round_laws_documents.specs.Adapting.{without_fault}
-use Rattle.yaml_emit_laws_text.proofs.Joining.{written_readable}
-use Rattle.yaml_emit_laws_pretty.proofs.Whole.{text_is_read}
-use Rattle.yaml_round_content.proofs.Injective.{says_injective}
-use Rattle.yaml_round_content.proofs.WritableContents.{are_writable as inputs_writable}
+use Rattle.yaml_round_laws_pretty.specs.round_content.parse_model.declared.yaml_encoding_t.{yaml_encoding_t}
+use Rattle.yaml_round_laws_pretty.specs.round_content.parse_model.declared.yaml_encoding_t.TheVariants.{YAML_ANY_ENCODING}
+use Rattle.yaml_round_laws_pretty.specs.round_content.parse_model.Events.{EventBody}
+use Rattle.yaml_round_laws_pretty.specs.round_laws_documents.scan_decode.Decoding.{decoded_text}
+use Rattle.yaml_round_laws_pretty.specs.round_content.scan_history.Remaining.{Remaining}
+use Rattle.yaml_round_laws_pretty.specs.round_content.scan_history.Scanned.{scanned, scanned_in}
+use Rattle.yaml_round_laws_pretty.specs.round_content.emit_text.Settings.{settled}
+use Rattle.yaml_round_laws_pretty.specs.round_content.Events.{contents}
+use Rattle.yaml_round_laws_pretty.specs.round_content.Input.{events_of, parsed, tokens_of}
+use Rattle.yaml_round_laws_pretty.specs.round_content.Said.{stream_says}
+use Rattle.yaml_round_laws_pretty.specs.round_content.round_laws_adapted.Adapted.{adapted}
+use Rattle.yaml_round_laws_pretty.specs.round_laws_documents.BytesLaws.{canonical_text, encoding_named}
+use Rattle.yaml_round_laws_pretty.specs.round_laws_documents.TreeLaws.{parsed_of}
+use Rattle.yaml_round_laws_pretty.specs.round_laws_documents.Adapting.{without_fault}
+use Rattle.yaml_round_laws_pretty.proofs.TextJoining.{written_readable}
+use Rattle.yaml_round_laws_pretty.proofs.Whole.{text_is_read}
+use Rattle.yaml_round_laws_pretty.proofs.Injective.{says_injective}
+use Rattle.yaml_round_laws_pretty.proofs.WritableContents.{are_writable as inputs_writable}
 use Rattle.yaml_round_laws_pretty.proofs.Bytes.{bytes_decode}
 use Rattle.yaml_round_laws_pretty.proofs.Contents.{content, contents_by, stream_same}
 use Rattle.yaml_round_laws_pretty.proofs.Documents.{tokens_parsed}
@@ -27,7 +27,7 @@ use Rattle.yaml_round_laws_normal.specs.Laws.{ReadableReadsBack, ReadableTellsCo
 use Rattle.yaml_round_laws_normal.proofs.Premises.{are_writable, are_spellable, have_texts, are_parsable}
 use Rattle.yaml_round_laws_normal.proofs.Saying.{have_flags, stream_said}
 use Rattle.yaml_round_laws_normal.proofs.Starting.{starts_with_something}
-use Rattle.yaml_round_laws_documents.proofs.Joining.{ending_is, contents_are}
+use Rattle.yaml_round_laws_pretty.proofs.DocumentsJoining.{ending_is, contents_are}
 use Rattle.yaml_round_laws_pretty.proofs.Joining.{least, most}
 
 pub reads_back : ReadableReadsBack

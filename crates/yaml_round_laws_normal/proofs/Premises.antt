@@ -1,17 +1,17 @@
 -- What reading back asks of a content's documents, from what may be written.
 use Rattle.std.proofs.Common.{◌≡◌, ℕ, Bool, false, List, [], ◌∷◌, Option, Some, None}
 use Rattle.std.specs.Str.{IsUtf8}
-use Rattle.yaml_round_laws_documents.specs.emit_laws_text.emit_layout.Content.{Opening}
-use Rattle.yaml_round_laws_documents.specs.emit_laws_text.emit_layout.Grammar.{opening_problem}
-use Rattle.yaml_round_content.specs.Said.{ScalarMark, untagged, tagged, Node, alias, scalar, sequence, mapping, Nodes, no_nodes, node, Pairs, no_pairs, pair, Document}
+use Rattle.yaml_round_laws_pretty.specs.round_content.emit_layout.Content.{Opening}
+use Rattle.yaml_round_laws_pretty.specs.round_content.emit_layout.Grammar.{opening_problem}
+use Rattle.yaml_round_laws_pretty.specs.round_content.Said.{ScalarMark, untagged, tagged, Node, alias, scalar, sequence, mapping, Nodes, no_nodes, node, Pairs, no_pairs, pair, Document}
 use Rattle.yaml_round_laws_normal.specs.Readable.{readable_scalar, readable_node, readable_nodes, readable_pairs, readable_document, is_unmarked, documents_from}
-use Rattle.yaml_emit_laws_text.specs.TagsLaws.{HaveUtf8, WrittenTagsAreReadable}
-use Rattle.yaml_emit_laws_text.specs.Writable as text
-use Rattle.yaml_round_laws_documents.specs.BytesLaws as bytes
-use Rattle.yaml_round_laws_documents.specs.TreeLaws.{IsNoMark, HasNoMark, HaveNoMark, PairsHaveNoMark, AreParsable}
-use Rattle.yaml_round_laws_documents.specs.Adapting.{IsReadableTag, IsTagged, AreTagged, PairsAreTagged, HaveTexts}
-use Rattle.yaml_round_content.specs.Writable.{IsAnchor, IsTag, IsMark, IsWritable, AreItemsWritable, ArePairsWritable, AreWritable}
-use Rattle.yaml_round_laws_documents.proofs.Premises.{not_bang, text_anchor, text_tag, have_utf8, bytes_anchor, bytes_tag, have_prefixes, text_name, bytes_name}
+use Rattle.yaml_round_laws_pretty.specs.round_laws_documents.emit_laws_text.TagsLaws.{HaveUtf8, WrittenTagsAreReadable}
+use Rattle.yaml_round_laws_pretty.specs.round_laws_documents.emit_laws_text.Writable as text
+use Rattle.yaml_round_laws_pretty.specs.round_laws_documents.BytesLaws as bytes
+use Rattle.yaml_round_laws_pretty.specs.round_laws_documents.TreeLaws.{IsNoMark, HasNoMark, HaveNoMark, PairsHaveNoMark, AreParsable}
+use Rattle.yaml_round_laws_pretty.specs.round_laws_documents.Adapting.{IsReadableTag, IsTagged, AreTagged, PairsAreTagged, HaveTexts}
+use Rattle.yaml_round_laws_pretty.specs.round_content.Writable.{IsAnchor, IsTag, IsMark, IsWritable, AreItemsWritable, ArePairsWritable, AreWritable}
+use Rattle.yaml_round_laws_pretty.proofs.Premises.{not_bang, text_anchor, text_tag, have_utf8, bytes_anchor, bytes_tag, have_prefixes, text_name, bytes_name}
 
 -- ---- the text
 

@@ -1,21 +1,21 @@
 -- Such events are those of the content's documents, and nothing is wrong with them.
 use Rattle.std.proofs.Common.{◌≡◌, ℕ, Bool, true, false, if◌then◌else◌, List, [], ◌∷◌, length, Option, Some, None, refl, ap, ◌∙◌}
 use Rattle.std.specs.List.{list_all}
-use Rattle.yaml_round_content.specs.scan_model.declared.yaml_encoding_t.TheVariants.{YAML_ANY_ENCODING}
-use Rattle.yaml_parse_grammar.specs.parse_model.Events.{EventBody}
-use Rattle.yaml_parse_grammar.specs.parse_model.Events as event
-use Rattle.yaml_emit_laws_text.specs.emit_layout.declared.problem.Problem.{Problem}
-use Rattle.yaml_emit_laws_text.specs.emit_layout.declared.problem.Problem.TheVariants as problem
-use Rattle.yaml_emit_laws_text.specs.emit_layout.Content as emit
-use Rattle.yaml_emit_laws_text.specs.emit_layout.Grammar.{or_else, kept_tag, name_problem, anchor_problem, tag_problem, event_problem, last_problem, own_problem, own_problems}
-use Rattle.yaml_round_laws_documents.specs.emit_laws_text.scan_model.Classes.{is_alpha_byte}
-use Rattle.yaml_round_content.specs.Said.{ScalarMark, untagged, tagged, Node, alias, scalar, sequence, mapping, Nodes, no_nodes, node, Pairs, no_pairs, pair, Document, scalar_says, node_says, items_say, pairs_say, documents_say, stream_says}
-use Rattle.yaml_round_content.specs.Writable.{IsName, IsAnchor, IsTag, IsMark, IsWritable, AreItemsWritable, ArePairsWritable, AreWritable}
-use Rattle.yaml_round_content.proofs.WritableContents.{are_writable as inputs_writable}
+use Rattle.yaml_round_laws_pretty.specs.round_content.scan_model.declared.yaml_encoding_t.TheVariants.{YAML_ANY_ENCODING}
+use Rattle.yaml_round_laws_pretty.specs.round_content.parse_model.Events.{EventBody}
+use Rattle.yaml_round_laws_pretty.specs.round_content.parse_model.Events as event
+use Rattle.yaml_round_laws_pretty.specs.round_content.emit_layout.declared.problem.Problem.{Problem}
+use Rattle.yaml_round_laws_pretty.specs.round_content.emit_layout.declared.problem.Problem.TheVariants as problem
+use Rattle.yaml_round_laws_pretty.specs.round_content.emit_layout.Content as emit
+use Rattle.yaml_round_laws_pretty.specs.round_content.emit_layout.Grammar.{or_else, kept_tag, name_problem, anchor_problem, tag_problem, event_problem, last_problem, own_problem, own_problems}
+use Rattle.yaml_round_laws_pretty.specs.round_content.scan_model.Classes.{is_alpha_byte}
+use Rattle.yaml_round_laws_pretty.specs.round_content.Said.{ScalarMark, untagged, tagged, Node, alias, scalar, sequence, mapping, Nodes, no_nodes, node, Pairs, no_pairs, pair, Document, scalar_says, node_says, items_say, pairs_say, documents_say, stream_says}
+use Rattle.yaml_round_laws_pretty.specs.round_content.Writable.{IsName, IsAnchor, IsTag, IsMark, IsWritable, AreItemsWritable, ArePairsWritable, AreWritable}
+use Rattle.yaml_round_laws_pretty.proofs.WritableContents.{are_writable as inputs_writable}
 use Rattle.yaml_round_laws_normal.specs.Readable.{readable_scalar, readable_start, readable_node, readable_nodes, readable_pairs, is_unmarked, documents_from, readable_documents}
 use Rattle.yaml_round_laws_normal.specs.Restyled.{OpeningPosition, Before, Within, root_position, readable_event, readable_events, ReadableIsLaidOut}
-use Rattle.yaml_round_content.proofs.Passing.{or_none}
-use Rattle.yaml_round_content.proofs.Naming.{not_zero}
+use Rattle.yaml_round_laws_pretty.proofs.DumpsPassing.{or_none}
+use Rattle.yaml_round_laws_pretty.proofs.Naming.{not_zero}
 
 -- ---- the events
 

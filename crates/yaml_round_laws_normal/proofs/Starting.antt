@@ -2,20 +2,20 @@
 use Rattle.std.proofs.Common.{◌≡◌, ℕ, ◌==◌, Bool, true, false, not, ◌&&◌, ◌||◌, if◌then◌else◌, List, [], ◌∷◌, length, Option, Some, None, refl, ap, ◌∙◌}
 use Rattle.std.specs.Str.{chars}
 use Rattle.std.proofs.Math.Bool.{and-false}
-use Rattle.yaml_emit_laws_text.specs.emit_layout.emit_text.declared.Settings.{Settings}
-use Rattle.yaml_emit_laws_text.specs.emit_layout.emit_text.declared.Allowed.{Allowed}
-use Rattle.yaml_emit_laws_text.specs.emit_layout.emit_text.declared.Style.{Style}
-use Rattle.yaml_emit_laws_text.specs.emit_layout.emit_text.declared.Style.TheVariants as style
-use Rattle.yaml_emit_laws_text.specs.emit_layout.emit_text.Style.{allowed, taken, single_or}
-use Rattle.yaml_emit_laws_text.specs.emit_layout.declared.level.Part.TheVariants as part
-use Rattle.yaml_emit_laws_text.specs.emit_layout.Content as emit
-use Rattle.yaml_emit_laws_text.specs.emit_layout.Grammar.{has, scalar_tag}
-use Rattle.yaml_emit_laws_text.specs.emit_layout.Nodes.{Context, is_plain, style_of, has_version, has_directives}
-use Rattle.yaml_round_content.specs.scan_model.declared.yaml_scalar_style_t.{yaml_scalar_style_t}
-use Rattle.yaml_round_content.specs.scan_model.declared.yaml_scalar_style_t.TheVariants.{YAML_SINGLE_QUOTED_SCALAR_STYLE}
-use Rattle.yaml_round_content.specs.Said.{ScalarMark, untagged, tagged, Node, alias, scalar, sequence, mapping, Document}
-use Rattle.yaml_emit_laws_pretty.specs.Bodies as bodies
-use Rattle.yaml_emit_laws_pretty.specs.Bodies.{style_at, is_bare, is_empty, is_left_out, context_in, starts_with_nothing}
+use Rattle.yaml_round_laws_pretty.specs.round_content.emit_text.declared.Settings.{Settings}
+use Rattle.yaml_round_laws_pretty.specs.round_content.emit_text.declared.Allowed.{Allowed}
+use Rattle.yaml_round_laws_pretty.specs.round_content.emit_text.declared.Style.{Style}
+use Rattle.yaml_round_laws_pretty.specs.round_content.emit_text.declared.Style.TheVariants as style
+use Rattle.yaml_round_laws_pretty.specs.round_content.emit_text.Style.{allowed, taken, single_or}
+use Rattle.yaml_round_laws_pretty.specs.round_content.emit_layout.declared.level.Part.TheVariants as part
+use Rattle.yaml_round_laws_pretty.specs.round_content.emit_layout.Content as emit
+use Rattle.yaml_round_laws_pretty.specs.round_content.emit_layout.Grammar.{has, scalar_tag}
+use Rattle.yaml_round_laws_pretty.specs.round_content.emit_layout.Nodes.{Context, is_plain, style_of, has_version, has_directives}
+use Rattle.yaml_round_laws_pretty.specs.round_content.scan_model.declared.yaml_scalar_style_t.{yaml_scalar_style_t}
+use Rattle.yaml_round_laws_pretty.specs.round_content.scan_model.declared.yaml_scalar_style_t.TheVariants.{YAML_SINGLE_QUOTED_SCALAR_STYLE}
+use Rattle.yaml_round_laws_pretty.specs.round_content.Said.{ScalarMark, untagged, tagged, Node, alias, scalar, sequence, mapping, Document}
+use Rattle.yaml_round_laws_pretty.specs.Bodies as bodies
+use Rattle.yaml_round_laws_pretty.specs.Bodies.{style_at, is_bare, is_empty, is_left_out, context_in, starts_with_nothing}
 use Rattle.yaml_round_laws_pretty.proofs.Contents.{style_not_plain}
 use Rattle.yaml_round_laws_normal.specs.Readable.{readable_scalar, readable_node, is_unmarked, documents_from, readable_documents}
 

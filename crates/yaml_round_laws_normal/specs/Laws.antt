@@ -1,10 +1,10 @@
 -- The text that people read reads back, and is a normal form of contents.
 use Rattle.std.specs.Prelude.{◌≡◌, ℕ, false, List}
-use Rattle.yaml_round_content.specs.scan_model.declared.yaml_encoding_t.{yaml_encoding_t}
-use Rattle.yaml_round_content.specs.scan_model.declared.yaml_encoding_t.TheVariants.{YAML_ANY_ENCODING}
-use Rattle.yaml_round_content.specs.emit_text.declared.RequestedSettings.{RequestedSettings}
-use Rattle.yaml_round_content.specs.Said.{Document, HasContent}
-use Rattle.yaml_round_content.specs.Writable.{AreWritable}
+use Rattle.yaml_round_laws_pretty.specs.round_content.scan_model.declared.yaml_encoding_t.{yaml_encoding_t}
+use Rattle.yaml_round_laws_pretty.specs.round_content.scan_model.declared.yaml_encoding_t.TheVariants.{YAML_ANY_ENCODING}
+use Rattle.yaml_round_laws_pretty.specs.round_content.emit_text.declared.RequestedSettings.{RequestedSettings}
+use Rattle.yaml_round_laws_pretty.specs.round_content.Said.{Document, HasContent}
+use Rattle.yaml_round_laws_pretty.specs.round_content.Writable.{AreWritable}
 use Rattle.yaml_round_laws_normal.specs.Readable.{readable}
 
 -- It is accepted, and says the content, whatever else is set.

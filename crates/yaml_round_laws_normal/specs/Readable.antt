@@ -1,19 +1,19 @@
 -- The normal form that people read: a content's documents with styles that the content alone decides.
 use Rattle.std.specs.Prelude.{ℕ, ◌==◌, Bool, true, false, not, ◌&&◌, if◌then◌else◌, List, [], ◌∷◌, Option, Some, None}
-use Rattle.yaml_round_content.specs.scan_model.declared.yaml_encoding_t.TheVariants.{YAML_ANY_ENCODING}
-use Rattle.yaml_round_content.specs.scan_model.declared.yaml_scalar_style_t.{yaml_scalar_style_t}
-use Rattle.yaml_round_content.specs.scan_model.declared.yaml_scalar_style_t.TheVariants.{YAML_PLAIN_SCALAR_STYLE, YAML_SINGLE_QUOTED_SCALAR_STYLE, YAML_LITERAL_SCALAR_STYLE}
-use Rattle.yaml_round_content.specs.emit_text.declared.RequestedSettings.{RequestedSettings}
-use Rattle.yaml_round_content.specs.emit_text.Settings.{settled}
-use Rattle.yaml_round_content.specs.emit_text.Text.{Item, encode}
-use Rattle.yaml_round_content.specs.emit_text.Layout.{written}
-use Rattle.yaml_round_content.specs.emit_text.Style.{last_or}
-use Rattle.yaml_round_content.specs.emit_layout.Content as emit
-use Rattle.yaml_round_content.specs.emit_layout.Grammar.{has}
-use Rattle.yaml_round_content.specs.emit_layout.Nodes.{has_break, has_version, has_directives, stream_layout}
-use Rattle.yaml_round_content.specs.Said as content
-use Rattle.yaml_round_content.specs.Said.{ScalarMark, untagged, tagged, Node, Nodes, Pairs, Document}
-use Rattle.yaml_round_content.specs.Canon.{canon_encoding}
+use Rattle.yaml_round_laws_pretty.specs.round_content.scan_model.declared.yaml_encoding_t.TheVariants.{YAML_ANY_ENCODING}
+use Rattle.yaml_round_laws_pretty.specs.round_content.scan_model.declared.yaml_scalar_style_t.{yaml_scalar_style_t}
+use Rattle.yaml_round_laws_pretty.specs.round_content.scan_model.declared.yaml_scalar_style_t.TheVariants.{YAML_PLAIN_SCALAR_STYLE, YAML_SINGLE_QUOTED_SCALAR_STYLE, YAML_LITERAL_SCALAR_STYLE}
+use Rattle.yaml_round_laws_pretty.specs.round_content.emit_text.declared.RequestedSettings.{RequestedSettings}
+use Rattle.yaml_round_laws_pretty.specs.round_content.emit_text.Settings.{settled}
+use Rattle.yaml_round_laws_pretty.specs.round_content.emit_text.Text.{Item, encode}
+use Rattle.yaml_round_laws_pretty.specs.round_content.emit_text.Layout.{written}
+use Rattle.yaml_round_laws_pretty.specs.round_content.emit_text.Style.{last_or}
+use Rattle.yaml_round_laws_pretty.specs.round_content.emit_layout.Content as emit
+use Rattle.yaml_round_laws_pretty.specs.round_content.emit_layout.Grammar.{has}
+use Rattle.yaml_round_laws_pretty.specs.round_content.emit_layout.Nodes.{has_break, has_version, has_directives, stream_layout}
+use Rattle.yaml_round_laws_pretty.specs.round_content.Said as content
+use Rattle.yaml_round_laws_pretty.specs.round_content.Said.{ScalarMark, untagged, tagged, Node, Nodes, Pairs, Document}
+use Rattle.yaml_round_laws_pretty.specs.round_content.Canon.{canon_encoding}
 
 -- an empty value without anchor
 abbrev pub is_nothing : Option (List ℕ) → List ℕ → Bool

@@ -1,16 +1,16 @@
 -- The events of an input, one by one, with the styles that the content alone decides.
 use Rattle.std.specs.Prelude.{◌≡◌, ℕ, Bool, true, false, not, ◌&&◌, List, [], ◌∷◌, Option, Some, None}
-use Rattle.yaml_round_content.specs.scan_model.declared.yaml_encoding_t.{yaml_encoding_t}
-use Rattle.yaml_parse_grammar.specs.parse_model.Events.{EventBody}
-use Rattle.yaml_parse_grammar.specs.parse_model.Events as event
-use Rattle.yaml_round_content.specs.emit_text.declared.RequestedSettings.{RequestedSettings}
-use Rattle.yaml_round_content.specs.emit_layout.Content as emit
-use Rattle.yaml_round_content.specs.emit_layout.Nodes.{has_version, has_directives}
-use Rattle.yaml_round_content.specs.emit_layout.Streams.{IsStream}
-use Rattle.yaml_round_content.specs.Said.{ScalarMark, untagged, tagged, Document, HasContent}
-use Rattle.yaml_round_content.specs.Canon.{canon_encoding}
-use Rattle.yaml_round_content.specs.Events.{contents}
-use Rattle.yaml_round_content.specs.Input.{events_of}
+use Rattle.yaml_round_laws_pretty.specs.round_content.scan_model.declared.yaml_encoding_t.{yaml_encoding_t}
+use Rattle.yaml_round_laws_pretty.specs.round_content.parse_model.Events.{EventBody}
+use Rattle.yaml_round_laws_pretty.specs.round_content.parse_model.Events as event
+use Rattle.yaml_round_laws_pretty.specs.round_content.emit_text.declared.RequestedSettings.{RequestedSettings}
+use Rattle.yaml_round_laws_pretty.specs.round_content.emit_layout.Content as emit
+use Rattle.yaml_round_laws_pretty.specs.round_content.emit_layout.Nodes.{has_version, has_directives}
+use Rattle.yaml_round_laws_pretty.specs.round_content.emit_layout.Streams.{IsStream}
+use Rattle.yaml_round_laws_pretty.specs.round_content.Said.{ScalarMark, untagged, tagged, Document, HasContent}
+use Rattle.yaml_round_laws_pretty.specs.round_content.Canon.{canon_encoding}
+use Rattle.yaml_round_laws_pretty.specs.round_content.Events.{contents}
+use Rattle.yaml_round_laws_pretty.specs.round_content.Input.{events_of}
 use Rattle.yaml_round_laws_normal.specs.Readable.{readable_scalar, readable_start, readable_items}
 
 -- Where an event stands: before all documents, at the root of a first one that needs no `---`, or elsewhere.

@@ -3,14 +3,14 @@ use Rattle.std.proofs.Common.{◌≡◌, ℕ, ◌+◌, ◌/◌, ◌%◌, ◌<◌
 use Rattle.std.specs.Prelude.{nat_eq}
 use Rattle.std.proofs.lemmas.Bool.{cases_Bool, ltb-true, and_parts, ne_eqb, eqb-true}
 use Rattle.std.proofs.lemmas.Bool.Decides.{nat_tests}
-use Rattle.yaml_parse_grammar.specs.parse_model.declared.yaml_encoding_t.TheVariants.{YAML_ANY_ENCODING, YAML_UTF8_ENCODING, YAML_UTF16LE_ENCODING, YAML_UTF16BE_ENCODING}
+use Rattle.yaml_round_laws_documents.specs.parse_grammar.parse_model.declared.yaml_encoding_t.TheVariants.{YAML_ANY_ENCODING, YAML_UTF8_ENCODING, YAML_UTF16LE_ENCODING, YAML_UTF16BE_ENCODING}
 use Rattle.yaml_round_laws_documents.specs.scan_decode.Characters.{is_allowed}
-use Rattle.yaml_emit_laws_text.specs.emit_layout.emit_text.Text.{Item, letter, deep, shown, char_bytes, encode}
-use Rattle.yaml_emit_laws_text.specs.emit_layout.emit_text.declared.Encoding.TheVariants.{Utf8}
-use Rattle.yaml_emit_laws_text.specs.emit_layout.emit_text.Layout.{Rest, order_mark, start, nothing_more}
-use Rattle.yaml_emit_laws_text.specs.emit_layout.emit_text.declared.Encoding.{Encoding}
-use Rattle.yaml_emit_laws_text.specs.emit_layout.emit_text.declared.Encoding.TheVariants.{Utf16Le, Utf16Be}
-use Rattle.yaml_emit_laws_text.specs.emit_layout.Nodes.{documents_layout, stream_layout}
+use Rattle.yaml_round_laws_documents.specs.round_content.emit_text.Text.{Item, letter, deep, shown, char_bytes, encode}
+use Rattle.yaml_round_laws_documents.specs.emit_laws_text.emit_text.declared.Encoding.TheVariants.{Utf8}
+use Rattle.yaml_round_laws_documents.specs.round_content.emit_text.Layout.{Rest, order_mark, start, nothing_more}
+use Rattle.yaml_round_laws_documents.specs.emit_laws_text.emit_text.declared.Encoding.{Encoding}
+use Rattle.yaml_round_laws_documents.specs.emit_laws_text.emit_text.declared.Encoding.TheVariants.{Utf16Le, Utf16Be}
+use Rattle.yaml_round_laws_documents.specs.emit_laws_text.emit_layout.Nodes.{documents_layout, stream_layout}
 use Rattle.yaml_round_laws_documents.specs.scan_decode.Encodings.{encoding_of, mark_length}
 use Rattle.yaml_round_laws_documents.specs.BytesLaws.{encoding_named}
 use Rattle.yaml_round_laws_documents.proofs.CanonicalJoining.{Decodes, decoded}

@@ -3,29 +3,29 @@ use Rattle.std.proofs.Common.{◌≡◌, ℕ, Bool, true, false, not, ◌&&◌, 
 use Rattle.std.specs.Str.{chars}
 use Rattle.std.proofs.lemmas.Bool.{false≢true}
 use Rattle.std.proofs.Math.Bool.{and-false}
-use Rattle.yaml_parse_grammar.specs.parse_model.declared.yaml_encoding_t.{yaml_encoding_t}
-use Rattle.yaml_parse_grammar.specs.parse_model.declared.yaml_encoding_t.TheVariants.{YAML_ANY_ENCODING}
-use Rattle.yaml_parse_grammar.specs.parse_model.declared.yaml_scalar_style_t.{yaml_scalar_style_t}
-use Rattle.yaml_parse_grammar.specs.parse_model.declared.yaml_scalar_style_t.TheVariants as asked
-use Rattle.yaml_parse_grammar.specs.parse_model.declared.yaml_scalar_style_t.TheVariants.{YAML_ANY_SCALAR_STYLE}
-use Rattle.yaml_parse_grammar.specs.parse_model.declared.yaml_sequence_style_t.TheVariants.{YAML_ANY_SEQUENCE_STYLE}
-use Rattle.yaml_parse_grammar.specs.parse_model.declared.yaml_mapping_style_t.TheVariants.{YAML_ANY_MAPPING_STYLE}
-use Rattle.yaml_parse_grammar.specs.parse_model.Events.{EventBody}
-use Rattle.yaml_parse_grammar.specs.parse_model.Events as event
-use Rattle.yaml_parse_grammar.specs.Resolve.{Told}
-use Rattle.yaml_round_content.specs.Normalize.{normalize_body, normalize_scalar, is_lone_mark}
-use Rattle.yaml_round_content.specs.Content.{content_of, counts_as_plain}
-use Rattle.yaml_round_content.specs.Events.{emitter_events, contents}
-use Rattle.yaml_emit_laws_text.specs.emit_layout.emit_text.declared.Settings.{Settings}
-use Rattle.yaml_emit_laws_text.specs.emit_layout.emit_text.declared.Style.{Style}
-use Rattle.yaml_emit_laws_text.specs.emit_layout.emit_text.declared.Style.TheVariants as style
-use Rattle.yaml_emit_laws_text.specs.emit_layout.emit_text.declared.Allowed.{Allowed}
-use Rattle.yaml_emit_laws_text.specs.emit_layout.emit_text.Style.{allowed, taken, plain_fits, single_or, plain_or}
-use Rattle.yaml_emit_laws_text.specs.emit_layout.declared.level.Part.{Part}
-use Rattle.yaml_emit_laws_text.specs.emit_layout.declared.level.Part.TheVariants as part
-use Rattle.yaml_emit_laws_text.specs.emit_layout.Content as emit
-use Rattle.yaml_emit_laws_text.specs.emit_layout.Grammar.{has, kept_if, kept_tag, scalar_tag, start_tag}
-use Rattle.yaml_emit_laws_text.specs.emit_layout.Nodes.{Context, style_of, is_plain, is_simple, is_simple_part, key_part, are_none, are_no_pairs}
+use Rattle.yaml_round_laws_documents.specs.parse_grammar.parse_model.declared.yaml_encoding_t.{yaml_encoding_t}
+use Rattle.yaml_round_laws_documents.specs.parse_grammar.parse_model.declared.yaml_encoding_t.TheVariants.{YAML_ANY_ENCODING}
+use Rattle.yaml_round_laws_documents.specs.parse_grammar.parse_model.declared.yaml_scalar_style_t.{yaml_scalar_style_t}
+use Rattle.yaml_round_laws_documents.specs.parse_grammar.parse_model.declared.yaml_scalar_style_t.TheVariants as asked
+use Rattle.yaml_round_laws_documents.specs.parse_grammar.parse_model.declared.yaml_scalar_style_t.TheVariants.{YAML_ANY_SCALAR_STYLE}
+use Rattle.yaml_round_laws_documents.specs.parse_grammar.parse_model.declared.yaml_sequence_style_t.TheVariants.{YAML_ANY_SEQUENCE_STYLE}
+use Rattle.yaml_round_laws_documents.specs.parse_grammar.parse_model.declared.yaml_mapping_style_t.TheVariants.{YAML_ANY_MAPPING_STYLE}
+use Rattle.yaml_round_laws_documents.specs.parse_grammar.parse_model.Events.{EventBody}
+use Rattle.yaml_round_laws_documents.specs.parse_grammar.parse_model.Events as event
+use Rattle.yaml_round_laws_documents.specs.parse_grammar.Resolve.{Told}
+use Rattle.yaml_round_laws_documents.specs.round_content.Normalize.{normalize_body, normalize_scalar, is_lone_mark}
+use Rattle.yaml_round_laws_documents.specs.round_content.Content.{content_of, counts_as_plain}
+use Rattle.yaml_round_laws_documents.specs.round_content.Events.{emitter_events, contents}
+use Rattle.yaml_round_laws_documents.specs.emit_laws_text.emit_text.declared.Settings.{Settings}
+use Rattle.yaml_round_laws_documents.specs.emit_laws_text.emit_text.declared.Style.{Style}
+use Rattle.yaml_round_laws_documents.specs.emit_laws_text.emit_text.declared.Style.TheVariants as style
+use Rattle.yaml_round_laws_documents.specs.emit_laws_text.emit_text.declared.Allowed.{Allowed}
+use Rattle.yaml_round_laws_documents.specs.emit_laws_text.emit_text.Style.{allowed, taken, plain_fits, single_or, plain_or}
+use Rattle.yaml_round_laws_documents.specs.emit_laws_text.emit_layout.declared.level.Part.{Part}
+use Rattle.yaml_round_laws_documents.specs.emit_laws_text.emit_layout.declared.level.Part.TheVariants as part
+use Rattle.yaml_round_laws_documents.specs.emit_laws_text.emit_layout.Content as emit
+use Rattle.yaml_round_laws_documents.specs.emit_laws_text.emit_layout.Grammar.{has, kept_if, kept_tag, scalar_tag, start_tag}
+use Rattle.yaml_round_laws_documents.specs.emit_laws_text.emit_layout.Nodes.{Context, style_of, is_plain, is_simple, is_simple_part, key_part, are_none, are_no_pairs}
 use Rattle.yaml_round_laws_documents.specs.TreeLaws.{IsNoMark, HasNoMark, HaveNoMark, PairsHaveNoMark, AreParsable}
 use Rattle.yaml_emit_laws_pretty.specs.Bodies.{style_at, is_flow_at, style_named, takes_mark}
 use Rattle.yaml_round_laws_pretty.specs.Reads.{scalar_reads, node_reads, items_reads, pairs_reads, documents_reads}

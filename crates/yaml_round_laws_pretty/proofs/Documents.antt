@@ -1,28 +1,28 @@
 -- Trees of documents.
 use Rattle.std.proofs.Common.{◌≡◌, Bool, true, false, not, ◌&&◌, ◌||◌, List, [], ◌∷◌, length, Option, Some, None, refl, sym, ap, ◌∙◌}
 use Rattle.std.proofs.Math.Bool.{or-true}
-use Rattle.yaml_parse_grammar.specs.parse_model.declared.yaml_encoding_t.{yaml_encoding_t}
-use Rattle.yaml_parse_grammar.specs.parse_model.declared.yaml_version_directive_t.{yaml_version_directive_t}
-use Rattle.yaml_parse_grammar.specs.parse_model.Tokens.{Token, TokenBody}
-use Rattle.yaml_parse_grammar.specs.parse_model.Tokens as token
-use Rattle.yaml_parse_grammar.specs.parse_model.Events.{EventBody, TagDirective}
-use Rattle.yaml_parse_grammar.specs.parse_model.Events as event
-use Rattle.yaml_parse_grammar.specs.declared.name.Site.TheVariants.{Root}
-use Rattle.yaml_parse_grammar.specs.Items as item
-use Rattle.yaml_parse_grammar.specs.Trees.{Span, token_at, Given, spell_node, spell_maybe, spell_directives, spell_ends, spell_documents, no_first}
-use Rattle.yaml_parse_grammar.specs.TreeSteps.{items_node, items_maybe, items_ends, items_documents, items, behind}
-use Rattle.yaml_parse_grammar.specs.Trees as trees
-use Rattle.yaml_parse_grammar.specs.Machine.{Outcome}
-use Rattle.yaml_parse_grammar.specs.Resolve.{Directives, no_directives, Reading, reading}
-use Rattle.yaml_parse_grammar.specs.Remaining.{reading_of}
-use Rattle.yaml_parse_grammar.proofs.CompleteStream.{stream_runs}
-use Rattle.yaml_emit_laws_text.specs.emit_layout.emit_text.declared.Settings.{Settings}
-use Rattle.yaml_emit_laws_text.specs.emit_layout.declared.level.Part.TheVariants as part
-use Rattle.yaml_emit_laws_text.specs.emit_layout.Content.{Opening, Document}
-use Rattle.yaml_emit_laws_text.specs.emit_layout.Nodes.{has_version, has_directives, is_directed, is_marked}
-use Rattle.yaml_emit_laws_text.specs.emit_layout.Grammar.{opening_problem}
-use Rattle.yaml_emit_laws_text.specs.Bodies.{version_bodies, directives_bodies, end_bodies}
-use Rattle.yaml_emit_laws_text.specs.PrettyBodies.{start_bodies}
+use Rattle.yaml_round_laws_documents.specs.parse_grammar.parse_model.declared.yaml_encoding_t.{yaml_encoding_t}
+use Rattle.yaml_round_laws_documents.specs.parse_grammar.parse_model.declared.yaml_version_directive_t.{yaml_version_directive_t}
+use Rattle.yaml_round_laws_documents.specs.round_content.parse_model.Tokens.{Token, TokenBody}
+use Rattle.yaml_round_laws_documents.specs.round_content.parse_model.Tokens as token
+use Rattle.yaml_round_laws_documents.specs.parse_grammar.parse_model.Events.{EventBody, TagDirective}
+use Rattle.yaml_round_laws_documents.specs.parse_grammar.parse_model.Events as event
+use Rattle.yaml_round_laws_documents.specs.parse_grammar.declared.name.Site.TheVariants.{Root}
+use Rattle.yaml_round_laws_documents.specs.parse_grammar.Items as item
+use Rattle.yaml_round_laws_documents.specs.parse_grammar.Trees.{Span, token_at, Given, spell_node, spell_maybe, spell_directives, spell_ends, spell_documents, no_first}
+use Rattle.yaml_round_laws_documents.specs.parse_grammar.TreeSteps.{items_node, items_maybe, items_ends, items_documents, items, behind}
+use Rattle.yaml_round_laws_documents.specs.parse_grammar.Trees as trees
+use Rattle.yaml_round_laws_documents.specs.parse_grammar.Machine.{Outcome}
+use Rattle.yaml_round_laws_documents.specs.parse_grammar.Resolve.{Directives, no_directives, Reading, reading}
+use Rattle.yaml_round_laws_documents.specs.parse_grammar.Remaining.{reading_of}
+use Rattle.yaml_round_laws_documents.proofs.CompleteStream.{stream_runs}
+use Rattle.yaml_round_laws_documents.specs.emit_laws_text.emit_text.declared.Settings.{Settings}
+use Rattle.yaml_round_laws_documents.specs.emit_laws_text.emit_layout.declared.level.Part.TheVariants as part
+use Rattle.yaml_round_laws_documents.specs.emit_laws_text.emit_layout.Content.{Opening, Document}
+use Rattle.yaml_round_laws_documents.specs.emit_laws_text.emit_layout.Nodes.{has_version, has_directives, is_directed, is_marked}
+use Rattle.yaml_round_laws_documents.specs.emit_laws_text.emit_layout.Grammar.{opening_problem}
+use Rattle.yaml_round_laws_documents.specs.emit_laws_text.Bodies.{version_bodies, directives_bodies, end_bodies}
+use Rattle.yaml_round_laws_documents.specs.emit_laws_text.PrettyBodies.{start_bodies}
 use Rattle.yaml_round_laws_documents.specs.TreeLaws.{token_bodies, event_bodies, SaysTree, HasNoMark, AreParsable, parsed_of}
 use Rattle.yaml_round_laws_documents.proofs.Growing.{take}
 use Rattle.yaml_round_laws_documents.proofs.Documents.{version_directed, item_says, no_spans, ends_say, resolving}

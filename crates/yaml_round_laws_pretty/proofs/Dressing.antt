@@ -2,24 +2,24 @@
 use Rattle.std.proofs.Common.{◌≡◌, ℕ, Bool, true, false, not, ◌&&◌, ◌||◌, List, [], ◌∷◌, length, Option, Some, None, refl, sym, ap, subst, ◌∙◌, codes}
 use Rattle.std.specs.Str.{bytes_eq}
 use Rattle.std.proofs.lemmas.Bool.{false≢true, true≢false}
-use Rattle.yaml_parse_grammar.specs.parse_model.declared.yaml_mark_t.{yaml_mark_t}
-use Rattle.yaml_parse_grammar.specs.parse_model.declared.yaml_scalar_style_t.{yaml_scalar_style_t}
-use Rattle.yaml_parse_grammar.specs.parse_model.Tokens.{Token, TokenBody}
-use Rattle.yaml_parse_grammar.specs.parse_model.Tokens as token
-use Rattle.yaml_parse_grammar.specs.parse_model.Events.{EventBody, TagDirective}
-use Rattle.yaml_parse_grammar.specs.parse_model.Faults.{Fault}
-use Rattle.yaml_parse_grammar.specs.declared.name.Wants.{Wants}
-use Rattle.yaml_parse_grammar.specs.declared.name.Site.{Site}
-use Rattle.yaml_parse_grammar.specs.Items.{Shape, Properties, node_at}
-use Rattle.yaml_parse_grammar.specs.Items as item
-use Rattle.yaml_parse_grammar.specs.Trees.{PropertyTokens, Given, spell_content, spell_maybe, properties_of}
-use Rattle.yaml_parse_grammar.specs.TreeSteps.{items_content, items_maybe, behind}
-use Rattle.yaml_parse_grammar.specs.Trees as trees
-use Rattle.yaml_parse_grammar.specs.Resolve.{Directives, gave, settle, reading, node_event}
-use Rattle.yaml_emit_laws_text.specs.emit_layout.emit_text.declared.Style.{Style}
-use Rattle.yaml_emit_laws_text.specs.emit_layout.emit_text.declared.Style.TheVariants as style
-use Rattle.yaml_emit_laws_text.specs.emit_layout.Grammar.{has}
-use Rattle.yaml_emit_laws_text.specs.Bodies.{anchor_bodies, tag_bodies, mark_bodies}
+use Rattle.yaml_round_laws_documents.specs.parse_grammar.parse_model.declared.yaml_mark_t.{yaml_mark_t}
+use Rattle.yaml_round_laws_documents.specs.parse_grammar.parse_model.declared.yaml_scalar_style_t.{yaml_scalar_style_t}
+use Rattle.yaml_round_laws_documents.specs.round_content.parse_model.Tokens.{Token, TokenBody}
+use Rattle.yaml_round_laws_documents.specs.round_content.parse_model.Tokens as token
+use Rattle.yaml_round_laws_documents.specs.parse_grammar.parse_model.Events.{EventBody, TagDirective}
+use Rattle.yaml_round_laws_documents.specs.round_content.parse_model.Faults.{Fault}
+use Rattle.yaml_round_laws_documents.specs.parse_grammar.declared.name.Wants.{Wants}
+use Rattle.yaml_round_laws_documents.specs.parse_grammar.declared.name.Site.{Site}
+use Rattle.yaml_round_laws_documents.specs.parse_grammar.Items.{Shape, Properties, node_at}
+use Rattle.yaml_round_laws_documents.specs.parse_grammar.Items as item
+use Rattle.yaml_round_laws_documents.specs.parse_grammar.Trees.{PropertyTokens, Given, spell_content, spell_maybe, properties_of}
+use Rattle.yaml_round_laws_documents.specs.parse_grammar.TreeSteps.{items_content, items_maybe, behind}
+use Rattle.yaml_round_laws_documents.specs.parse_grammar.Trees as trees
+use Rattle.yaml_round_laws_documents.specs.parse_grammar.Resolve.{Directives, gave, settle, reading, node_event}
+use Rattle.yaml_round_laws_documents.specs.emit_laws_text.emit_text.declared.Style.{Style}
+use Rattle.yaml_round_laws_documents.specs.emit_laws_text.emit_text.declared.Style.TheVariants as style
+use Rattle.yaml_round_laws_documents.specs.emit_laws_text.emit_layout.Grammar.{has}
+use Rattle.yaml_round_laws_documents.specs.emit_laws_text.Bodies.{anchor_bodies, tag_bodies, mark_bodies}
 use Rattle.yaml_round_laws_documents.specs.TreeLaws.{token_bodies, SaysTree, IsNoMark, Grown}
 use Rattle.yaml_round_laws_documents.proofs.Growing.{take, step_says, tagged_event, dress_gives, dress_spells, spell_if, properties_if, with_dress, Named, IsNamed, named_bodies, full_of, some_tokens, some_named, with_properties, tag_named, tag_is_named, tag_bodies_are, full_is, bang}
 use Rattle.yaml_emit_laws_pretty.specs.Bodies.{style_named, takes_mark, is_bare, is_nothing, scalar_bodies}

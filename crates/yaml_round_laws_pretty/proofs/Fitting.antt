@@ -3,24 +3,24 @@ use Rattle.std.proofs.Common.{◌≡◌, ℕ, ◌+◌, ◌<◌, Bool, true, fals
 use Rattle.std.specs.Str.{chars}
 use Rattle.std.proofs.lemmas.Bool.Decides.{nat_tests}
 use Rattle.std.proofs.lemmas.Bool.{or_parts, and_parts, not-true}
-use Rattle.yaml_parse_grammar.specs.parse_model.declared.yaml_scalar_style_t.{yaml_scalar_style_t}
-use Rattle.yaml_parse_grammar.specs.parse_model.declared.yaml_scalar_style_t.TheVariants as asked
-use Rattle.yaml_emit_laws_text.specs.emit_layout.emit_text.declared.Page.{Page}
-use Rattle.yaml_emit_laws_text.specs.emit_layout.emit_text.declared.LineBreak.{LineBreak}
-use Rattle.yaml_emit_laws_text.specs.emit_layout.emit_text.declared.Style.{Style}
-use Rattle.yaml_emit_laws_text.specs.emit_layout.emit_text.declared.Style.TheVariants as style
-use Rattle.yaml_emit_laws_text.specs.emit_layout.emit_text.declared.Allowed.{Allowed}
-use Rattle.yaml_emit_laws_text.specs.emit_layout.emit_text.declared.Chomp.{Chomp}
-use Rattle.yaml_emit_laws_text.specs.emit_layout.emit_text.declared.Chomp.TheVariants as chomping
-use Rattle.yaml_emit_laws_text.specs.emit_layout.emit_text.Text.{is_break}
-use Rattle.yaml_emit_laws_text.specs.emit_layout.emit_text.Style.{somewhere, is_special, is_break_space, is_not_plain, is_not_flow, ends_in_space, starts_badly, allowed_text, allowed, plain_fits, single_or, plain_or, taken}
-use Rattle.yaml_emit_laws_text.specs.emit_layout.emit_text.Quoted.{is_printable, first, is_empty}
-use Rattle.yaml_emit_laws_text.specs.emit_layout.emit_text.Scalars.{value_break, cuts_at, cut, quote_char, text_char, flow_char, flow_body, adds_break, cuts_block, line_blank, block_text, block_char, block_body, chomp, chomp_mark, digit_char, block, scalar_text}
-use Rattle.yaml_emit_laws_text.specs.emit_layout.emit_text.Layout.{Layout, ◌▹◌, when, char, break, new_line, gap, line, is_past, keep, after_text, after_block}
+use Rattle.yaml_round_laws_documents.specs.parse_grammar.parse_model.declared.yaml_scalar_style_t.{yaml_scalar_style_t}
+use Rattle.yaml_round_laws_documents.specs.parse_grammar.parse_model.declared.yaml_scalar_style_t.TheVariants as asked
+use Rattle.yaml_round_laws_documents.specs.emit_laws_text.emit_text.declared.Page.{Page}
+use Rattle.yaml_round_laws_documents.specs.emit_laws_text.emit_text.declared.LineBreak.{LineBreak}
+use Rattle.yaml_round_laws_documents.specs.emit_laws_text.emit_text.declared.Style.{Style}
+use Rattle.yaml_round_laws_documents.specs.emit_laws_text.emit_text.declared.Style.TheVariants as style
+use Rattle.yaml_round_laws_documents.specs.emit_laws_text.emit_text.declared.Allowed.{Allowed}
+use Rattle.yaml_round_laws_documents.specs.emit_laws_text.emit_text.declared.Chomp.{Chomp}
+use Rattle.yaml_round_laws_documents.specs.emit_laws_text.emit_text.declared.Chomp.TheVariants as chomping
+use Rattle.yaml_round_laws_documents.specs.round_content.emit_text.Text.{is_break}
+use Rattle.yaml_round_laws_documents.specs.emit_laws_text.emit_text.Style.{somewhere, is_special, is_break_space, is_not_plain, is_not_flow, ends_in_space, starts_badly, allowed_text, allowed, plain_fits, single_or, plain_or, taken}
+use Rattle.yaml_round_laws_documents.specs.emit_laws_text.emit_text.Quoted.{is_printable, first, is_empty}
+use Rattle.yaml_round_laws_documents.specs.emit_laws_text.emit_text.Scalars.{value_break, cuts_at, cut, quote_char, text_char, flow_char, flow_body, adds_break, cuts_block, line_blank, block_text, block_char, block_body, chomp, chomp_mark, digit_char, block, scalar_text}
+use Rattle.yaml_round_laws_documents.specs.round_content.emit_text.Layout.{Layout, ◌▹◌, when, char, break, new_line, gap, line, is_past, keep, after_text, after_block}
 use Rattle.yaml_round_laws_documents.proofs.Characters.{Fits, graphic, printed}
 use Rattle.yaml_round_laws_documents.proofs.Layouts.{Tame, both, stay_tame, choose_tame, when_tame, char_tame, new_line_tame, gap_tame, line_tame, keep_tame, break_tame}
 use Rattle.yaml_round_laws_documents.proofs.Leaves.{quoted_tame}
-use Rattle.yaml_emit_laws_text.proofs.Single.{shown_first}
+use Rattle.yaml_emit_laws_pretty.proofs.Single.{shown_first}
 
 -- ---- characters that are printed
 

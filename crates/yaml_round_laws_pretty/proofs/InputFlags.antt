@@ -3,23 +3,23 @@ use Rattle.std.proofs.Common.{◌≡◌, ℕ, Bool, true, false, not, if◌then�
 use Rattle.std.specs.Str.{bytes_eq}
 use Rattle.std.proofs.lemmas.Bool.{cases_Bool, true≢false}
 use Rattle.std.proofs.lemmas.Slice.Eq.{bytes_eq-Decides}
-use Rattle.yaml_parse_grammar.specs.parse_model.declared.yaml_encoding_t.{yaml_encoding_t}
-use Rattle.yaml_parse_grammar.specs.parse_model.declared.yaml_scalar_style_t.{yaml_scalar_style_t}
-use Rattle.yaml_parse_grammar.specs.parse_model.Events.{EventBody}
-use Rattle.yaml_parse_grammar.specs.parse_model.Events as event
-use Rattle.yaml_parse_grammar.specs.Items.{Shape}
-use Rattle.yaml_parse_grammar.specs.Items as item
-use Rattle.yaml_parse_grammar.specs.Machine.{run, initial}
-use Rattle.yaml_parse_grammar.specs.Resolve.{no_directives, is_plain, is_missing, node_event, Told, reading}
-use Rattle.yaml_round_content.specs.Normalize.{is_lone_mark, normalize_scalar, normalize_body}
-use Rattle.yaml_round_content.specs.Events.{emitter_events}
-use Rattle.yaml_round_content.specs.Input.{tokens_of, events_of, read}
-use Rattle.yaml_round_content.proofs.Throughout.{EventsAre, reading_is}
-use Rattle.yaml_round_content.proofs.Tokens.{tokens_spelled}
-use Rattle.yaml_round_content.proofs.Spellings.{IsWhole, IsSpelledItem}
-use Rattle.yaml_round_content.proofs.Runs.{stream_spelled}
-use Rattle.yaml_emit_laws_text.specs.emit_layout.Content as emit
-use Rattle.yaml_emit_laws_text.specs.emit_layout.Grammar.{has}
+use Rattle.yaml_round_laws_documents.specs.parse_grammar.parse_model.declared.yaml_encoding_t.{yaml_encoding_t}
+use Rattle.yaml_round_laws_documents.specs.parse_grammar.parse_model.declared.yaml_scalar_style_t.{yaml_scalar_style_t}
+use Rattle.yaml_round_laws_documents.specs.parse_grammar.parse_model.Events.{EventBody}
+use Rattle.yaml_round_laws_documents.specs.parse_grammar.parse_model.Events as event
+use Rattle.yaml_round_laws_documents.specs.parse_grammar.Items.{Shape}
+use Rattle.yaml_round_laws_documents.specs.parse_grammar.Items as item
+use Rattle.yaml_round_laws_documents.specs.parse_grammar.Machine.{run, initial}
+use Rattle.yaml_round_laws_documents.specs.parse_grammar.Resolve.{no_directives, is_plain, is_missing, node_event, Told, reading}
+use Rattle.yaml_round_laws_documents.specs.round_content.Normalize.{is_lone_mark, normalize_scalar, normalize_body}
+use Rattle.yaml_round_laws_documents.specs.round_content.Events.{emitter_events}
+use Rattle.yaml_round_laws_documents.specs.round_content.Input.{tokens_of, events_of, read}
+use Rattle.yaml_round_laws_documents.proofs.Throughout.{EventsAre, reading_is}
+use Rattle.yaml_round_laws_documents.proofs.Tokens.{tokens_spelled}
+use Rattle.yaml_round_laws_documents.proofs.Spellings.{IsWhole, IsSpelledItem}
+use Rattle.yaml_round_laws_documents.proofs.Runs.{stream_spelled}
+use Rattle.yaml_round_laws_documents.specs.emit_laws_text.emit_layout.Content as emit
+use Rattle.yaml_round_laws_documents.specs.emit_laws_text.emit_layout.Grammar.{has}
 use Rattle.yaml_round_laws_documents.specs.TreeLaws.{IsNoMark, HasNoMark, HaveNoMark, PairsHaveNoMark}
 use Rattle.yaml_round_laws_pretty.specs.Flags.{HasScalarFlags, HasStartFlags, HasFlags, HaveFlags, PairsHaveFlags, HaveReaderFlags}
 use Rattle.yaml_round_laws_pretty.specs.InputLaws.{HaveNoMarks, InputsHaveReaderFlags}

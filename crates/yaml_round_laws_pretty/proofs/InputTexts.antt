@@ -1,23 +1,23 @@
 -- What is laid out in pretty form for an input may be written.
 use Rattle.std.proofs.Common.{◌≡◌, ℕ, Bool, true, false, ◌==◌, if◌then◌else◌, List, [], ◌∷◌, length, Option, Some, None, refl, sym, ap, subst, ◌∙◌, IsUtf8}
 use Rattle.std.specs.List.{list_all}
-use Rattle.yaml_parse_grammar.specs.parse_model.declared.yaml_scalar_style_t.{yaml_scalar_style_t}
-use Rattle.yaml_parse_grammar.specs.parse_model.Constructors.{IsUtf8Option, AreUtf8, HasUtf8}
-use Rattle.yaml_parse_grammar.specs.parse_model.Events.{EventBody, TagDirective}
-use Rattle.yaml_parse_grammar.specs.parse_model.Events as event
-use Rattle.yaml_parse_grammar.specs.Resolve.{Told}
-use Rattle.yaml_emit_laws_text.specs.emit_layout.scan_model.Classes.{is_alpha_byte}
-use Rattle.yaml_emit_laws_text.specs.emit_layout.declared.problem.Problem.{Problem}
-use Rattle.yaml_emit_laws_text.specs.emit_layout.Content as emit
-use Rattle.yaml_emit_laws_text.specs.emit_layout.Grammar.{or_else, name_problem, anchor_problem, tag_problem, scalar_tag, start_tag, event_problem, last_problem, own_problem, own_problems, opening_problem}
-use Rattle.yaml_emit_laws_text.specs.TagsLaws.{HaveUtf8}
-use Rattle.yaml_emit_laws_text.specs.Writable as text
-use Rattle.yaml_emit_laws_text.proofs.Joining.{written_readable}
-use Rattle.yaml_round_content.specs.Normalize.{is_lone_mark, normalize_scalar, normalize_body}
-use Rattle.yaml_round_content.specs.Events.{emitter_events}
-use Rattle.yaml_round_content.specs.Input.{events_of}
-use Rattle.yaml_round_content.specs.WritableLaws.{HaveUtf8Texts}
-use Rattle.yaml_round_content.proofs.Utf8.{input_utf8}
+use Rattle.yaml_round_laws_documents.specs.parse_grammar.parse_model.declared.yaml_scalar_style_t.{yaml_scalar_style_t}
+use Rattle.yaml_round_laws_documents.specs.parse_grammar.parse_model.Constructors.{IsUtf8Option, AreUtf8, HasUtf8}
+use Rattle.yaml_round_laws_documents.specs.parse_grammar.parse_model.Events.{EventBody, TagDirective}
+use Rattle.yaml_round_laws_documents.specs.parse_grammar.parse_model.Events as event
+use Rattle.yaml_round_laws_documents.specs.parse_grammar.Resolve.{Told}
+use Rattle.yaml_round_laws_documents.specs.round_content.scan_model.Classes.{is_alpha_byte}
+use Rattle.yaml_round_laws_documents.specs.emit_laws_text.emit_layout.declared.problem.Problem.{Problem}
+use Rattle.yaml_round_laws_documents.specs.emit_laws_text.emit_layout.Content as emit
+use Rattle.yaml_round_laws_documents.specs.emit_laws_text.emit_layout.Grammar.{or_else, name_problem, anchor_problem, tag_problem, scalar_tag, start_tag, event_problem, last_problem, own_problem, own_problems, opening_problem}
+use Rattle.yaml_round_laws_documents.specs.emit_laws_text.TagsLaws.{HaveUtf8}
+use Rattle.yaml_round_laws_documents.specs.emit_laws_text.Writable as text
+use Rattle.yaml_emit_laws_pretty.proofs.Joining.{written_readable}
+use Rattle.yaml_round_laws_documents.specs.round_content.Normalize.{is_lone_mark, normalize_scalar, normalize_body}
+use Rattle.yaml_round_laws_documents.specs.round_content.Events.{emitter_events}
+use Rattle.yaml_round_laws_documents.specs.round_content.Input.{events_of}
+use Rattle.yaml_round_laws_documents.specs.round_content.WritableLaws.{HaveUtf8Texts}
+use Rattle.yaml_round_laws_documents.proofs.Utf8.{input_utf8}
 use Rattle.yaml_round_laws_documents.specs.BytesLaws as bytes
 use Rattle.yaml_round_laws_documents.specs.Adapting.{IsReadableTag, IsTagged, AreTagged, PairsAreTagged, HaveTexts}
 use Rattle.yaml_round_laws_pretty.specs.Flags.{HasFlags, HaveFlags, PairsHaveFlags, HaveReaderFlags}
@@ -28,7 +28,7 @@ use Rattle.yaml_round_laws_pretty.proofs.InputFlags.{inputs_flags}
 use Rattle.yaml_round_laws_pretty.proofs.InputPremises.{or_second, Right, head, tail, opening_right}
 use Rattle.yaml_round_laws_documents.proofs.Premises.{alphas_are}
 use Rattle.yaml_round_laws_documents.proofs.Written.{some_byte}
-use Rattle.yaml_emit_laws_text.proofs.Resolving.{or_first}
+use Rattle.yaml_emit_laws_pretty.proofs.Resolving.{or_first}
 
 -- ---- texts of events
 

@@ -1,24 +1,24 @@
 -- Pretty text reads back exactly where the input doesn't begin with nothing, by the law of text.
 use Rattle.std.proofs.Common.{◌≡◌, ℕ, ◌≤◌, false, ◌&&◌, nat_le, if◌then◌else◌, List, ◌∷◌, Ok, sym, ap, ◌∙◌, ℤ, pos, negsuc, arith}
 use Rattle.std.proofs.lemmas.Bool.Decides.{nat_tests}
-use Rattle.yaml_parse_grammar.specs.parse_model.declared.yaml_encoding_t.{yaml_encoding_t}
-use Rattle.yaml_parse_grammar.specs.parse_model.declared.yaml_encoding_t.TheVariants.{YAML_ANY_ENCODING}
-use Rattle.yaml_parse_grammar.specs.parse_model.Tokens.{Token}
-use Rattle.yaml_parse_grammar.specs.parse_model.Tokens as token
+use Rattle.yaml_round_laws_documents.specs.parse_grammar.parse_model.declared.yaml_encoding_t.{yaml_encoding_t}
+use Rattle.yaml_round_laws_documents.specs.parse_grammar.parse_model.declared.yaml_encoding_t.TheVariants.{YAML_ANY_ENCODING}
+use Rattle.yaml_round_laws_documents.specs.round_content.parse_model.Tokens.{Token}
+use Rattle.yaml_round_laws_documents.specs.round_content.parse_model.Tokens as token
 use Rattle.yaml_round_laws_documents.specs.scan_decode.Decoding.{decoded_text}
-use Rattle.yaml_emit_laws_text.specs.scan_history.Remaining.{Remaining}
-use Rattle.yaml_emit_laws_text.specs.scan_history.Scanned.{scanned, scanned_in}
-use Rattle.yaml_emit_laws_text.specs.emit_layout.emit_text.Settings.{settled, settled_indent}
-use Rattle.yaml_emit_laws_text.specs.emit_layout.emit_text.Text.{Item, encode}
-use Rattle.yaml_emit_laws_text.specs.emit_layout.emit_text.Layout.{written}
-use Rattle.yaml_emit_laws_text.specs.emit_layout.emit_text.declared.Encoding.{Encoding}
-use Rattle.yaml_emit_laws_text.specs.emit_layout.emit_text.declared.RequestedSettings.{RequestedSettings}
-use Rattle.yaml_emit_laws_text.specs.emit_layout.Content.{Event}
-use Rattle.yaml_emit_laws_text.specs.emit_layout.Nodes.{stream_layout}
-use Rattle.yaml_emit_laws_text.specs.emit_layout.Streams.{IsStream}
-use Rattle.yaml_round_content.specs.Events.{emitter_events, contents}
-use Rattle.yaml_round_content.specs.Input.{events_of, ending_of, read, parsed, tokens_of}
-use Rattle.yaml_round_laws_adapted.specs.Adapted.{adapted}
+use Rattle.yaml_round_laws_documents.specs.emit_laws_text.scan_history.Remaining.{Remaining}
+use Rattle.yaml_round_laws_documents.specs.emit_laws_text.scan_history.Scanned.{scanned, scanned_in}
+use Rattle.yaml_round_laws_documents.specs.round_content.emit_text.Settings.{settled, settled_indent}
+use Rattle.yaml_round_laws_documents.specs.round_content.emit_text.Text.{Item, encode}
+use Rattle.yaml_round_laws_documents.specs.round_content.emit_text.Layout.{written}
+use Rattle.yaml_round_laws_documents.specs.emit_laws_text.emit_text.declared.Encoding.{Encoding}
+use Rattle.yaml_round_laws_documents.specs.emit_laws_text.emit_text.declared.RequestedSettings.{RequestedSettings}
+use Rattle.yaml_round_laws_documents.specs.emit_laws_text.emit_layout.Content.{Event}
+use Rattle.yaml_round_laws_documents.specs.emit_laws_text.emit_layout.Nodes.{stream_layout}
+use Rattle.yaml_round_laws_documents.specs.emit_laws_text.emit_layout.Streams.{IsStream}
+use Rattle.yaml_round_laws_documents.specs.round_content.Events.{emitter_events, contents}
+use Rattle.yaml_round_laws_documents.specs.round_content.Input.{events_of, ending_of, read, parsed, tokens_of}
+use Rattle.yaml_round_laws_documents.specs.round_laws_adapted.Adapted.{adapted}
 use Rattle.yaml_round_laws_documents.specs.BytesLaws.{canonical_bytes, canonical_text, encoding_named}
 use Rattle.yaml_round_laws_documents.specs.TreeLaws.{token_bodies, parsed_of}
 use Rattle.yaml_round_laws_documents.specs.Adapting.{without_fault}

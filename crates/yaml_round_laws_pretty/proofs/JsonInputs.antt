@@ -2,14 +2,14 @@
 use Rattle.std.proofs.Common.{◌≡◌, ℕ, Bool, true, false, not, ◌&&◌, List, [], ◌∷◌, refl, sym, ap, ◌∙◌, inl, inr}
 use Rattle.std.proofs.lemmas.Bool.{false≢true}
 use Rattle.std.proofs.Math.Bool.{and-false}
-use Rattle.yaml_parse_grammar.specs.parse_model.declared.yaml_encoding_t.{yaml_encoding_t}
-use Rattle.yaml_parse_grammar.specs.Resolve.{Told}
-use Rattle.yaml_emit_laws_text.specs.emit_layout.Content.{Event, stream_start, document_start, Scalar, Document, Node, alias_node, scalar_node, sequence_node, mapping_node, Opening, node_events, documents_events, stream_events}
-use Rattle.yaml_emit_laws_text.specs.emit_layout.Nodes.{is_directed}
-use Rattle.yaml_emit_laws_text.specs.Json.{IsJsonScalar, IsJsonNode}
-use Rattle.yaml_emit_laws_text.specs.scan_laws_texts.Values.{is_plain_value}
-use Rattle.yaml_round_content.specs.Events.{emitter_events}
-use Rattle.yaml_round_content.proofs.Joining.{events_of_tree}
+use Rattle.yaml_round_laws_documents.specs.parse_grammar.parse_model.declared.yaml_encoding_t.{yaml_encoding_t}
+use Rattle.yaml_round_laws_documents.specs.parse_grammar.Resolve.{Told}
+use Rattle.yaml_round_laws_documents.specs.emit_laws_text.emit_layout.Content.{Event, stream_start, document_start, Scalar, Document, Node, alias_node, scalar_node, sequence_node, mapping_node, Opening, node_events, documents_events, stream_events}
+use Rattle.yaml_round_laws_documents.specs.emit_laws_text.emit_layout.Nodes.{is_directed}
+use Rattle.yaml_round_laws_documents.specs.emit_laws_text.Json.{IsJsonScalar, IsJsonNode}
+use Rattle.yaml_round_laws_documents.specs.emit_laws_text.scan_laws_texts.Values.{is_plain_value}
+use Rattle.yaml_round_laws_documents.specs.round_content.Events.{emitter_events}
+use Rattle.yaml_round_laws_documents.proofs.ReadingJoining.{events_of_tree}
 use Rattle.yaml_emit_laws_pretty.specs.Bodies.{is_bare, is_empty}
 use Rattle.yaml_round_laws_pretty.specs.Flags.{is_asked_plain, says_nothing, begins_with_nothing}
 use Rattle.yaml_round_laws_pretty.specs.InputLaws.{JsonBeginsWithSomething}

@@ -1,16 +1,16 @@
 -- The pretty layout of documents writes characters that a stream may hold.
 use Rattle.std.proofs.Common.{ℕ, Bool, true, false, not, ◌&&◌, ◌||◌, ◌==◌, if◌then◌else◌, List, [], ◌∷◌, length, Option, arith, IsUtf8}
 use Rattle.std.specs.Str.{chars}
-use Rattle.yaml_emit_laws_text.specs.emit_layout.emit_text.declared.Cursor.{Cursor}
-use Rattle.yaml_emit_laws_text.specs.emit_layout.emit_text.declared.Settings.{Settings}
-use Rattle.yaml_emit_laws_text.specs.emit_layout.emit_text.Text.{Item}
-use Rattle.yaml_emit_laws_text.specs.emit_layout.emit_text.Scalars.{scalar_text}
-use Rattle.yaml_emit_laws_text.specs.emit_layout.emit_text.Layout.{Layout, ◌▹◌, stay, choose, when, char, gap, word, indicator, opener, line, is_past, keep}
-use Rattle.yaml_emit_laws_text.specs.emit_layout.declared.level.Part.TheVariants as part
-use Rattle.yaml_emit_laws_text.specs.emit_layout.declared.level.NodePosition.{NodePosition}
-use Rattle.yaml_emit_laws_text.specs.emit_layout.Content.{Document, Scalar, Start, Node, alias_node, scalar_node, sequence_node, mapping_node, Nodes, no_nodes, node, Pairs, no_pairs, pair}
-use Rattle.yaml_emit_laws_text.specs.emit_layout.Grammar.{has, kept_tag, scalar_tag, start_tag, version_problem, directives_problem}
-use Rattle.yaml_emit_laws_text.specs.emit_layout.Nodes.{Context, context_of, is_kept, is_plain, is_simple, is_simple_part, key_part, root_position, position, deeper, page_at, checked, line_at, wrap_at, properties_text, style_of, mark_text, scalar_layout, alias_layout, is_flow, indent_of, indented, are_none, are_no_pairs, comma, turned, before_item, question, before_key, before_value, closer, node_layout, items_layout, pairs_layout, dots, is_directed, is_marked, version_text, directives_text, dashes, start_layout, end_layout, stop_layout, documents_layout}
+use Rattle.yaml_round_laws_documents.specs.emit_laws_text.emit_text.declared.Cursor.{Cursor}
+use Rattle.yaml_round_laws_documents.specs.emit_laws_text.emit_text.declared.Settings.{Settings}
+use Rattle.yaml_round_laws_documents.specs.round_content.emit_text.Text.{Item}
+use Rattle.yaml_round_laws_documents.specs.emit_laws_text.emit_text.Scalars.{scalar_text}
+use Rattle.yaml_round_laws_documents.specs.round_content.emit_text.Layout.{Layout, ◌▹◌, stay, choose, when, char, gap, word, indicator, opener, line, is_past, keep}
+use Rattle.yaml_round_laws_documents.specs.emit_laws_text.emit_layout.declared.level.Part.TheVariants as part
+use Rattle.yaml_round_laws_documents.specs.emit_laws_text.emit_layout.declared.level.NodePosition.{NodePosition}
+use Rattle.yaml_round_laws_documents.specs.emit_laws_text.emit_layout.Content.{Document, Scalar, Start, Node, alias_node, scalar_node, sequence_node, mapping_node, Nodes, no_nodes, node, Pairs, no_pairs, pair}
+use Rattle.yaml_round_laws_documents.specs.emit_laws_text.emit_layout.Grammar.{has, kept_tag, scalar_tag, start_tag, version_problem, directives_problem}
+use Rattle.yaml_round_laws_documents.specs.emit_laws_text.emit_layout.Nodes.{Context, context_of, is_kept, is_plain, is_simple, is_simple_part, key_part, root_position, position, deeper, page_at, checked, line_at, wrap_at, properties_text, style_of, mark_text, scalar_layout, alias_layout, is_flow, indent_of, indented, are_none, are_no_pairs, comma, turned, before_item, question, before_key, before_value, closer, node_layout, items_layout, pairs_layout, dots, is_directed, is_marked, version_text, directives_text, dashes, start_layout, end_layout, stop_layout, documents_layout}
 use Rattle.yaml_round_laws_documents.specs.BytesLaws.{IsNameOption, IsTextOption, IsSpellable, AreSpellable, PairsAreSpellable, DocumentsAreSpellable}
 use Rattle.yaml_round_laws_documents.proofs.Characters.{Fits, graphic, is_32, names_fit}
 use Rattle.yaml_round_laws_documents.proofs.Layouts.{Tame, letter_allowed, both, stay_tame, choose_tame, when_tame, char_tame, gap_tame, word_tame, opener_tame, line_tame, keep_tame}

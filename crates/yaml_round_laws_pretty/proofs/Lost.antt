@@ -3,29 +3,29 @@ use Rattle.std.proofs.Common.{◌≡◌, ℕ, Bool, true, false, not, ◌&&◌, 
 use Rattle.std.specs.Str.{chars}
 use Rattle.std.proofs.lemmas.Bool.{false≢true}
 use Rattle.std.proofs.Math.Bool.{and-false, and-true}
-use Rattle.yaml_parse_grammar.specs.parse_model.declared.yaml_encoding_t.{yaml_encoding_t}
-use Rattle.yaml_parse_grammar.specs.parse_model.declared.yaml_encoding_t.TheVariants.{YAML_ANY_ENCODING}
-use Rattle.yaml_parse_grammar.specs.parse_model.declared.yaml_scalar_style_t.{yaml_scalar_style_t}
-use Rattle.yaml_parse_grammar.specs.parse_model.declared.yaml_scalar_style_t.TheVariants as asked
-use Rattle.yaml_parse_grammar.specs.parse_model.declared.yaml_version_directive_t.{yaml_version_directive_t}
-use Rattle.yaml_parse_grammar.specs.parse_model.Tokens.{Token, TokenBody}
-use Rattle.yaml_parse_grammar.specs.parse_model.Tokens as token
-use Rattle.yaml_parse_grammar.specs.parse_model.Events.{EventBody, TagDirective}
-use Rattle.yaml_parse_grammar.specs.parse_model.Events as event
-use Rattle.yaml_parse_grammar.specs.Trees.{Span, token_at, spell_ends, spell_documents}
-use Rattle.yaml_parse_grammar.specs.Machine.{run, feed}
-use Rattle.yaml_parse_grammar.specs.Resolve.{reading, Told}
-use Rattle.yaml_round_content.specs.Events.{emitter_events, contents}
-use Rattle.yaml_emit_laws_text.specs.emit_layout.emit_text.declared.Settings.{Settings}
-use Rattle.yaml_emit_laws_text.specs.emit_layout.emit_text.declared.Style.{Style}
-use Rattle.yaml_emit_laws_text.specs.emit_layout.emit_text.declared.Style.TheVariants as style
-use Rattle.yaml_emit_laws_text.specs.emit_layout.emit_text.Style.{allowed, taken}
-use Rattle.yaml_emit_laws_text.specs.emit_layout.declared.level.Part.TheVariants as part
-use Rattle.yaml_emit_laws_text.specs.emit_layout.Content.{Event, document_end, scalar, Scalar, Document, Node, alias_node, scalar_node, sequence_node, mapping_node, node_events, documents_events, stream_events}
-use Rattle.yaml_emit_laws_text.specs.emit_layout.Grammar.{has, kept_tag, scalar_tag}
-use Rattle.yaml_emit_laws_text.specs.emit_layout.Nodes.{style_of, is_plain, is_directed, is_marked}
-use Rattle.yaml_emit_laws_text.specs.Bodies.{anchor_bodies, tag_bodies, mark_bodies, version_bodies, directives_bodies}
-use Rattle.yaml_emit_laws_text.specs.PrettyBodies.{start_bodies}
+use Rattle.yaml_round_laws_documents.specs.parse_grammar.parse_model.declared.yaml_encoding_t.{yaml_encoding_t}
+use Rattle.yaml_round_laws_documents.specs.parse_grammar.parse_model.declared.yaml_encoding_t.TheVariants.{YAML_ANY_ENCODING}
+use Rattle.yaml_round_laws_documents.specs.parse_grammar.parse_model.declared.yaml_scalar_style_t.{yaml_scalar_style_t}
+use Rattle.yaml_round_laws_documents.specs.parse_grammar.parse_model.declared.yaml_scalar_style_t.TheVariants as asked
+use Rattle.yaml_round_laws_documents.specs.parse_grammar.parse_model.declared.yaml_version_directive_t.{yaml_version_directive_t}
+use Rattle.yaml_round_laws_documents.specs.round_content.parse_model.Tokens.{Token, TokenBody}
+use Rattle.yaml_round_laws_documents.specs.round_content.parse_model.Tokens as token
+use Rattle.yaml_round_laws_documents.specs.parse_grammar.parse_model.Events.{EventBody, TagDirective}
+use Rattle.yaml_round_laws_documents.specs.parse_grammar.parse_model.Events as event
+use Rattle.yaml_round_laws_documents.specs.parse_grammar.Trees.{Span, token_at, spell_ends, spell_documents}
+use Rattle.yaml_round_laws_documents.specs.parse_grammar.Machine.{run, feed}
+use Rattle.yaml_round_laws_documents.specs.parse_grammar.Resolve.{reading, Told}
+use Rattle.yaml_round_laws_documents.specs.round_content.Events.{emitter_events, contents}
+use Rattle.yaml_round_laws_documents.specs.emit_laws_text.emit_text.declared.Settings.{Settings}
+use Rattle.yaml_round_laws_documents.specs.emit_laws_text.emit_text.declared.Style.{Style}
+use Rattle.yaml_round_laws_documents.specs.emit_laws_text.emit_text.declared.Style.TheVariants as style
+use Rattle.yaml_round_laws_documents.specs.emit_laws_text.emit_text.Style.{allowed, taken}
+use Rattle.yaml_round_laws_documents.specs.emit_laws_text.emit_layout.declared.level.Part.TheVariants as part
+use Rattle.yaml_round_laws_documents.specs.emit_laws_text.emit_layout.Content.{Event, document_end, scalar, Scalar, Document, Node, alias_node, scalar_node, sequence_node, mapping_node, node_events, documents_events, stream_events}
+use Rattle.yaml_round_laws_documents.specs.emit_laws_text.emit_layout.Grammar.{has, kept_tag, scalar_tag}
+use Rattle.yaml_round_laws_documents.specs.emit_laws_text.emit_layout.Nodes.{style_of, is_plain, is_directed, is_marked}
+use Rattle.yaml_round_laws_documents.specs.emit_laws_text.Bodies.{anchor_bodies, tag_bodies, mark_bodies, version_bodies, directives_bodies}
+use Rattle.yaml_round_laws_documents.specs.emit_laws_text.PrettyBodies.{start_bodies}
 use Rattle.yaml_round_laws_documents.specs.TreeLaws.{token_bodies, AreParsable, parsed_of}
 use Rattle.yaml_round_laws_documents.proofs.Growing.{take}
 use Rattle.yaml_emit_laws_pretty.specs.Bodies.{context_in, style_at, takes_mark, is_bare, is_empty, is_nothing, scalar_bodies, node_bodies, root_bodies, is_root_kept, is_left_out, opening_bodies, documents_bodies, starts_with_nothing}

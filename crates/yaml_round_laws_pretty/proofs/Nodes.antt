@@ -1,32 +1,32 @@
 -- Trees from the bodies of tokens.
 use Rattle.std.proofs.Common.{◌≡◌, ℕ, Bool, true, false, not, ◌&&◌, ◌||◌, List, ◌∷◌, length, Option, Some, None, refl, ap, ◌∙◌}
 use Rattle.std.proofs.lemmas.Bool.{false≢true, true≢false}
-use Rattle.yaml_parse_grammar.specs.parse_model.declared.yaml_mark_t.{yaml_mark_t}
-use Rattle.yaml_parse_grammar.specs.parse_model.declared.yaml_sequence_style_t.TheVariants.{YAML_FLOW_SEQUENCE_STYLE, YAML_BLOCK_SEQUENCE_STYLE}
-use Rattle.yaml_parse_grammar.specs.parse_model.declared.yaml_mapping_style_t.TheVariants.{YAML_FLOW_MAPPING_STYLE, YAML_BLOCK_MAPPING_STYLE}
-use Rattle.yaml_parse_grammar.specs.parse_model.Tokens.{Token, TokenBody}
-use Rattle.yaml_parse_grammar.specs.parse_model.Tokens as token
-use Rattle.yaml_parse_grammar.specs.parse_model.Events.{EventBody, TagDirective}
-use Rattle.yaml_parse_grammar.specs.parse_model.Events as event
-use Rattle.yaml_parse_grammar.specs.declared.name.Wants.{Wants}
-use Rattle.yaml_parse_grammar.specs.declared.name.Wants.TheVariants.{Flow, Block}
-use Rattle.yaml_parse_grammar.specs.declared.name.Side.{Side}
-use Rattle.yaml_parse_grammar.specs.declared.name.Side.TheVariants.{Key, Value}
-use Rattle.yaml_parse_grammar.specs.declared.name.Brackets.TheVariants as brackets
-use Rattle.yaml_parse_grammar.specs.declared.name.Site.{Site}
-use Rattle.yaml_parse_grammar.specs.declared.name.Site.TheVariants.{Entry, IndentlessEntry, BlockPair, FlowPair}
-use Rattle.yaml_parse_grammar.specs.Items.{node_at}
-use Rattle.yaml_parse_grammar.specs.Items as item
-use Rattle.yaml_parse_grammar.specs.Trees.{token_at, Given, spell_node, spell_maybe, spell_items, spell_more, spell_colon, spell_entries, spell_others, spell_pairs, end_items, end_more, single, comma, colon, end_entries, entry, no_others, other, end_pairs, block_pair}
-use Rattle.yaml_parse_grammar.specs.TreeSteps.{items_maybe, items_items, items_more, items_entries, items_others, items_pairs, behind}
-use Rattle.yaml_parse_grammar.specs.Trees as trees
-use Rattle.yaml_parse_grammar.specs.Resolve.{reading, is_missing}
-use Rattle.yaml_emit_laws_text.specs.emit_layout.declared.level.Part.{Part}
-use Rattle.yaml_emit_laws_text.specs.emit_layout.declared.level.Part.TheVariants as part
-use Rattle.yaml_emit_laws_text.specs.emit_layout.Content.{Scalar, Start, Node, alias_node, scalar_node, sequence_node, mapping_node, Nodes, no_nodes, node, Pairs, no_pairs, pair}
-use Rattle.yaml_emit_laws_text.specs.emit_layout.Grammar.{scalar_tag, start_tag}
-use Rattle.yaml_emit_laws_text.specs.emit_layout.Nodes.{Context, is_simple, is_of_mapping, key_part, are_none, are_no_pairs}
-use Rattle.yaml_emit_laws_text.specs.Bodies.{anchor_bodies, tag_bodies}
+use Rattle.yaml_round_laws_documents.specs.parse_grammar.parse_model.declared.yaml_mark_t.{yaml_mark_t}
+use Rattle.yaml_round_laws_documents.specs.parse_grammar.parse_model.declared.yaml_sequence_style_t.TheVariants.{YAML_FLOW_SEQUENCE_STYLE, YAML_BLOCK_SEQUENCE_STYLE}
+use Rattle.yaml_round_laws_documents.specs.parse_grammar.parse_model.declared.yaml_mapping_style_t.TheVariants.{YAML_FLOW_MAPPING_STYLE, YAML_BLOCK_MAPPING_STYLE}
+use Rattle.yaml_round_laws_documents.specs.round_content.parse_model.Tokens.{Token, TokenBody}
+use Rattle.yaml_round_laws_documents.specs.round_content.parse_model.Tokens as token
+use Rattle.yaml_round_laws_documents.specs.parse_grammar.parse_model.Events.{EventBody, TagDirective}
+use Rattle.yaml_round_laws_documents.specs.parse_grammar.parse_model.Events as event
+use Rattle.yaml_round_laws_documents.specs.parse_grammar.declared.name.Wants.{Wants}
+use Rattle.yaml_round_laws_documents.specs.parse_grammar.declared.name.Wants.TheVariants.{Flow, Block}
+use Rattle.yaml_round_laws_documents.specs.parse_grammar.declared.name.Side.{Side}
+use Rattle.yaml_round_laws_documents.specs.parse_grammar.declared.name.Side.TheVariants.{Key, Value}
+use Rattle.yaml_round_laws_documents.specs.parse_grammar.declared.name.Brackets.TheVariants as brackets
+use Rattle.yaml_round_laws_documents.specs.parse_grammar.declared.name.Site.{Site}
+use Rattle.yaml_round_laws_documents.specs.parse_grammar.declared.name.Site.TheVariants.{Entry, IndentlessEntry, BlockPair, FlowPair}
+use Rattle.yaml_round_laws_documents.specs.parse_grammar.Items.{node_at}
+use Rattle.yaml_round_laws_documents.specs.parse_grammar.Items as item
+use Rattle.yaml_round_laws_documents.specs.parse_grammar.Trees.{token_at, Given, spell_node, spell_maybe, spell_items, spell_more, spell_colon, spell_entries, spell_others, spell_pairs, end_items, end_more, single, comma, colon, end_entries, entry, no_others, other, end_pairs, block_pair}
+use Rattle.yaml_round_laws_documents.specs.parse_grammar.TreeSteps.{items_maybe, items_items, items_more, items_entries, items_others, items_pairs, behind}
+use Rattle.yaml_round_laws_documents.specs.parse_grammar.Trees as trees
+use Rattle.yaml_round_laws_documents.specs.parse_grammar.Resolve.{reading, is_missing}
+use Rattle.yaml_round_laws_documents.specs.emit_laws_text.emit_layout.declared.level.Part.{Part}
+use Rattle.yaml_round_laws_documents.specs.emit_laws_text.emit_layout.declared.level.Part.TheVariants as part
+use Rattle.yaml_round_laws_documents.specs.emit_laws_text.emit_layout.Content.{Scalar, Start, Node, alias_node, scalar_node, sequence_node, mapping_node, Nodes, no_nodes, node, Pairs, no_pairs, pair}
+use Rattle.yaml_round_laws_documents.specs.emit_laws_text.emit_layout.Grammar.{scalar_tag, start_tag}
+use Rattle.yaml_round_laws_documents.specs.emit_laws_text.emit_layout.Nodes.{Context, is_simple, is_of_mapping, key_part, are_none, are_no_pairs}
+use Rattle.yaml_round_laws_documents.specs.emit_laws_text.Bodies.{anchor_bodies, tag_bodies}
 use Rattle.yaml_round_laws_documents.specs.TreeLaws.{token_bodies, IsNoMark, HasNoMark, HaveNoMark, PairsHaveNoMark, Grown}
 use Rattle.yaml_round_laws_documents.proofs.Growing.{take, both_say, step_says}
 use Rattle.yaml_emit_laws_pretty.specs.Bodies.{style_at, is_flow_at, is_bare, keeps, sequence_opens, sequence_closes, mapping_opens, mapping_closes, node_bodies, items_bodies, pairs_bodies, is_left_out}

@@ -1,10 +1,10 @@
 -- Flags as a reader gives them, and the beginning for which no text is written.
 use Rattle.std.specs.Prelude.{◌≡◌, ℕ, Bool, true, false, not, ◌&&◌, List, [], ◌∷◌, Option, Some, None}
-use Rattle.yaml_emit_laws_text.specs.emit_layout.scan_model.declared.yaml_scalar_style_t.{yaml_scalar_style_t}
-use Rattle.yaml_emit_laws_text.specs.emit_layout.scan_model.declared.yaml_scalar_style_t.TheVariants as asked
-use Rattle.yaml_emit_laws_text.specs.emit_layout.Content.{Scalar, Document, Node, alias_node, scalar_node, sequence_node, mapping_node, Nodes, no_nodes, node, Pairs, no_pairs, pair, Event, stream_start, document_start, scalar}
-use Rattle.yaml_emit_laws_text.specs.emit_layout.Grammar.{has}
-use Rattle.yaml_emit_laws_text.specs.emit_layout.Nodes.{is_directed}
+use Rattle.yaml_round_laws_documents.specs.emit_laws_text.scan_model.declared.yaml_scalar_style_t.{yaml_scalar_style_t}
+use Rattle.yaml_round_laws_documents.specs.emit_laws_text.scan_model.declared.yaml_scalar_style_t.TheVariants as asked
+use Rattle.yaml_round_laws_documents.specs.emit_laws_text.emit_layout.Content.{Scalar, Document, Node, alias_node, scalar_node, sequence_node, mapping_node, Nodes, no_nodes, node, Pairs, no_pairs, pair, Event, stream_start, document_start, scalar}
+use Rattle.yaml_round_laws_documents.specs.emit_laws_text.emit_layout.Grammar.{has}
+use Rattle.yaml_round_laws_documents.specs.emit_laws_text.emit_layout.Nodes.{is_directed}
 use Rattle.yaml_emit_laws_pretty.specs.Bodies.{is_bare, is_empty}
 
 -- an untagged scalar has exactly one flag, a tagged one none

@@ -1,13 +1,13 @@
 -- What the normalized events of an input are, as an emitter in pretty form sees them.
 use Rattle.std.specs.Prelude.{◌≡◌, ℕ, false, List, [], ◌∷◌}
-use Rattle.yaml_parse_grammar.specs.parse_model.declared.yaml_encoding_t.{yaml_encoding_t}
-use Rattle.yaml_emit_laws_text.specs.emit_layout.emit_text.Text.{Item}
-use Rattle.yaml_emit_laws_text.specs.emit_layout.emit_text.declared.Encoding.{Encoding}
-use Rattle.yaml_emit_laws_text.specs.emit_layout.emit_text.declared.RequestedSettings.{RequestedSettings}
-use Rattle.yaml_emit_laws_text.specs.emit_layout.Content.{Document, stream_events}
-use Rattle.yaml_emit_laws_text.specs.emit_layout.Streams.{IsStream}
-use Rattle.yaml_round_content.specs.Events.{emitter_events}
-use Rattle.yaml_round_content.specs.Input.{events_of}
+use Rattle.yaml_round_laws_documents.specs.parse_grammar.parse_model.declared.yaml_encoding_t.{yaml_encoding_t}
+use Rattle.yaml_round_laws_documents.specs.round_content.emit_text.Text.{Item}
+use Rattle.yaml_round_laws_documents.specs.emit_laws_text.emit_text.declared.Encoding.{Encoding}
+use Rattle.yaml_round_laws_documents.specs.emit_laws_text.emit_text.declared.RequestedSettings.{RequestedSettings}
+use Rattle.yaml_round_laws_documents.specs.emit_laws_text.emit_layout.Content.{Document, stream_events}
+use Rattle.yaml_round_laws_documents.specs.emit_laws_text.emit_layout.Streams.{IsStream}
+use Rattle.yaml_round_laws_documents.specs.round_content.Events.{emitter_events}
+use Rattle.yaml_round_laws_documents.specs.round_content.Input.{events_of}
 use Rattle.yaml_round_laws_documents.specs.TreeLaws.{HasNoMark, AreParsable}
 use Rattle.yaml_round_laws_documents.specs.KeptLaws.{IsJsonInput}
 use Rattle.yaml_round_laws_pretty.specs.Flags.{HaveReaderFlags, begins_with_nothing}

@@ -2,17 +2,17 @@
 use Rattle.std.specs.Prelude.{◌≡◌, ℕ, true, false, List, Ok}
 use Rattle.yaml_round_laws_documents.specs.scan_decode.Encodings.{encoding_of}
 use Rattle.yaml_round_laws_documents.specs.scan_decode.Decoding.{decoded_text}
-use Rattle.yaml_parse_grammar.specs.parse_model.declared.yaml_encoding_t.{yaml_encoding_t}
-use Rattle.yaml_parse_grammar.specs.parse_model.declared.yaml_encoding_t.TheVariants.{YAML_ANY_ENCODING}
-use Rattle.yaml_emit_laws_text.specs.emit_layout.emit_text.Text.{Item, encode}
-use Rattle.yaml_emit_laws_text.specs.emit_layout.emit_text.declared.Encoding.{Encoding}
-use Rattle.yaml_emit_laws_text.specs.emit_layout.emit_text.declared.Settings.{Settings}
-use Rattle.yaml_emit_laws_text.specs.emit_layout.emit_text.declared.RequestedSettings.{RequestedSettings}
-use Rattle.yaml_emit_laws_text.specs.emit_layout.Content.{Document}
-use Rattle.yaml_emit_laws_text.specs.emit_layout.Streams.{IsStream}
-use Rattle.yaml_emit_laws_text.specs.Writable.{AreWritable}
-use Rattle.yaml_round_content.specs.Events.{emitter_events}
-use Rattle.yaml_round_content.specs.Input.{events_of}
+use Rattle.yaml_round_laws_documents.specs.parse_grammar.parse_model.declared.yaml_encoding_t.{yaml_encoding_t}
+use Rattle.yaml_round_laws_documents.specs.parse_grammar.parse_model.declared.yaml_encoding_t.TheVariants.{YAML_ANY_ENCODING}
+use Rattle.yaml_round_laws_documents.specs.round_content.emit_text.Text.{Item, encode}
+use Rattle.yaml_round_laws_documents.specs.emit_laws_text.emit_text.declared.Encoding.{Encoding}
+use Rattle.yaml_round_laws_documents.specs.emit_laws_text.emit_text.declared.Settings.{Settings}
+use Rattle.yaml_round_laws_documents.specs.emit_laws_text.emit_text.declared.RequestedSettings.{RequestedSettings}
+use Rattle.yaml_round_laws_documents.specs.emit_laws_text.emit_layout.Content.{Document}
+use Rattle.yaml_round_laws_documents.specs.emit_laws_text.emit_layout.Streams.{IsStream}
+use Rattle.yaml_round_laws_documents.specs.emit_laws_text.Writable.{AreWritable}
+use Rattle.yaml_round_laws_documents.specs.round_content.Events.{emitter_events}
+use Rattle.yaml_round_laws_documents.specs.round_content.Input.{events_of}
 use Rattle.yaml_round_laws_documents.specs.BytesLaws.{DocumentsAreSpellable, canonical_bytes, canonical_text, encoding_named}
 use Rattle.yaml_round_laws_documents.specs.Adapting.{HaveTexts}
 use Rattle.yaml_round_laws_documents.specs.Stays.{SaysInput}

@@ -1,19 +1,19 @@
 -- The events that are read of pretty text.
 use Rattle.std.specs.Prelude.{ℕ, Bool, true, false, not, ◌&&◌, ◌||◌, List, [], ◌∷◌, Option, Some, None}
-use Rattle.yaml_emit_laws_text.specs.emit_layout.scan_model.declared.yaml_sequence_style_t.{yaml_sequence_style_t}
-use Rattle.yaml_emit_laws_text.specs.emit_layout.scan_model.declared.yaml_sequence_style_t.TheVariants.{YAML_BLOCK_SEQUENCE_STYLE, YAML_FLOW_SEQUENCE_STYLE}
-use Rattle.yaml_emit_laws_text.specs.emit_layout.scan_model.declared.yaml_mapping_style_t.{yaml_mapping_style_t}
-use Rattle.yaml_emit_laws_text.specs.emit_layout.scan_model.declared.yaml_mapping_style_t.TheVariants.{YAML_BLOCK_MAPPING_STYLE, YAML_FLOW_MAPPING_STYLE}
-use Rattle.yaml_emit_laws_text.specs.emit_layout.parse_model.Events.{EventBody}
-use Rattle.yaml_emit_laws_text.specs.emit_layout.parse_model.Events as event
-use Rattle.yaml_emit_laws_text.specs.emit_layout.emit_text.declared.Settings.{Settings}
-use Rattle.yaml_emit_laws_text.specs.emit_layout.emit_text.declared.Style.{Style}
-use Rattle.yaml_emit_laws_text.specs.emit_layout.declared.level.Part.{Part}
-use Rattle.yaml_emit_laws_text.specs.emit_layout.declared.level.Part.TheVariants as part
-use Rattle.yaml_emit_laws_text.specs.emit_layout.Content.{Document, Node, alias_node, scalar_node, sequence_node, mapping_node, Nodes, no_nodes, node, Pairs, no_pairs, pair}
-use Rattle.yaml_emit_laws_text.specs.emit_layout.Grammar.{scalar_tag, start_tag}
-use Rattle.yaml_emit_laws_text.specs.emit_layout.Nodes.{Context, is_plain, is_simple, key_part, are_none, are_no_pairs, is_marked}
-use Rattle.yaml_parse_grammar.specs.Resolve.{is_missing}
+use Rattle.yaml_round_laws_documents.specs.emit_laws_text.scan_model.declared.yaml_sequence_style_t.{yaml_sequence_style_t}
+use Rattle.yaml_round_laws_documents.specs.emit_laws_text.scan_model.declared.yaml_sequence_style_t.TheVariants.{YAML_BLOCK_SEQUENCE_STYLE, YAML_FLOW_SEQUENCE_STYLE}
+use Rattle.yaml_round_laws_documents.specs.emit_laws_text.scan_model.declared.yaml_mapping_style_t.{yaml_mapping_style_t}
+use Rattle.yaml_round_laws_documents.specs.emit_laws_text.scan_model.declared.yaml_mapping_style_t.TheVariants.{YAML_BLOCK_MAPPING_STYLE, YAML_FLOW_MAPPING_STYLE}
+use Rattle.yaml_round_laws_documents.specs.parse_grammar.parse_model.Events.{EventBody}
+use Rattle.yaml_round_laws_documents.specs.parse_grammar.parse_model.Events as event
+use Rattle.yaml_round_laws_documents.specs.emit_laws_text.emit_text.declared.Settings.{Settings}
+use Rattle.yaml_round_laws_documents.specs.emit_laws_text.emit_text.declared.Style.{Style}
+use Rattle.yaml_round_laws_documents.specs.emit_laws_text.emit_layout.declared.level.Part.{Part}
+use Rattle.yaml_round_laws_documents.specs.emit_laws_text.emit_layout.declared.level.Part.TheVariants as part
+use Rattle.yaml_round_laws_documents.specs.emit_laws_text.emit_layout.Content.{Document, Node, alias_node, scalar_node, sequence_node, mapping_node, Nodes, no_nodes, node, Pairs, no_pairs, pair}
+use Rattle.yaml_round_laws_documents.specs.emit_laws_text.emit_layout.Grammar.{scalar_tag, start_tag}
+use Rattle.yaml_round_laws_documents.specs.emit_laws_text.emit_layout.Nodes.{Context, is_plain, is_simple, key_part, are_none, are_no_pairs, is_marked}
+use Rattle.yaml_round_laws_documents.specs.parse_grammar.Resolve.{is_missing}
 use Rattle.yaml_emit_laws_pretty.specs.Bodies.{style_at, is_flow_at, style_named, takes_mark, context_in, is_root_kept, has_dots}
 
 abbrev pub sequence_style : Bool → yaml_sequence_style_t

@@ -1,14 +1,14 @@
 -- What a parser makes of the tokens of pretty text.
 use Rattle.std.specs.Prelude.{◌≡◌, true, false, List, ◌∷◌, None}
-use Rattle.yaml_parse_grammar.specs.parse_model.declared.yaml_encoding_t.{yaml_encoding_t}
-use Rattle.yaml_parse_grammar.specs.parse_model.Tokens.{Token}
-use Rattle.yaml_parse_grammar.specs.parse_model.Tokens as token
-use Rattle.yaml_parse_grammar.specs.parse_model.Events as event
-use Rattle.yaml_emit_laws_text.specs.emit_layout.emit_text.declared.Settings.{Settings}
-use Rattle.yaml_parse_grammar.specs.Resolve.{Told}
-use Rattle.yaml_emit_laws_text.specs.emit_layout.Content.{Document, stream_events}
-use Rattle.yaml_round_content.specs.Events.{emitter_events, contents}
-use Rattle.yaml_round_laws_adapted.specs.Adapted.{adapted}
+use Rattle.yaml_round_laws_documents.specs.parse_grammar.parse_model.declared.yaml_encoding_t.{yaml_encoding_t}
+use Rattle.yaml_round_laws_documents.specs.round_content.parse_model.Tokens.{Token}
+use Rattle.yaml_round_laws_documents.specs.round_content.parse_model.Tokens as token
+use Rattle.yaml_round_laws_documents.specs.parse_grammar.parse_model.Events as event
+use Rattle.yaml_round_laws_documents.specs.emit_laws_text.emit_text.declared.Settings.{Settings}
+use Rattle.yaml_round_laws_documents.specs.parse_grammar.Resolve.{Told}
+use Rattle.yaml_round_laws_documents.specs.emit_laws_text.emit_layout.Content.{Document, stream_events}
+use Rattle.yaml_round_laws_documents.specs.round_content.Events.{emitter_events, contents}
+use Rattle.yaml_round_laws_documents.specs.round_laws_adapted.Adapted.{adapted}
 use Rattle.yaml_round_laws_documents.specs.TreeLaws.{token_bodies, event_bodies, AreParsable, parsed_of}
 use Rattle.yaml_round_laws_documents.specs.Adapting.{HaveTexts, without_fault}
 use Rattle.yaml_emit_laws_pretty.specs.Bodies.{stream_bodies, starts_with_nothing}

@@ -1,6 +1,6 @@
 -- A normalized event's texts are UTF-8.
 use Rattle.std.proofs.Common.{◌≡◌, ap, sym, subst, ℕ, List, Bool, true, false, Option}
-use Rattle.yaml_scan.specs.declared.yaml_scalar_style_t.{yaml_scalar_style_t}
+use Rattle.yaml_parse.specs.declared.yaml_scalar_style_t.{yaml_scalar_style_t}
 use Rattle.yaml_parse.specs.Events.{Event, EventBody}
 use Rattle.yaml_parse.specs.Events as event
 use Rattle.yaml_parse.specs.Constructors.{HasUtf8}

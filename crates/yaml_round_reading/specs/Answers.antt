@@ -1,9 +1,9 @@
 -- What is said of inputs: that they are accepted, and that their contents are equal.
 use Rattle.std.specs.Prelude.{◌⊎◌, ◌↔◌, IsTrue, true, false, ℕ, Bool, List, Result, Ok, Err}
-use Rattle.yaml_scan.specs.declared.yaml_encoding_t.{yaml_encoding_t}
-use Rattle.yaml_scan.specs.declared.yaml_encoding_t.TheVariants.{YAML_ANY_ENCODING}
-use Rattle.yaml_scan.specs.declared.yaml_fault_t.{yaml_fault_t}
-use Rattle.yaml_scan.specs.Faults.{Fault, fault_of, IsMemoryFault, parse_layers}
+use Rattle.yaml_parse.specs.declared.yaml_encoding_t.{yaml_encoding_t}
+use Rattle.yaml_parse.specs.declared.yaml_encoding_t.TheVariants.{YAML_ANY_ENCODING}
+use Rattle.yaml_parse.specs.declared.yaml_fault_t.{yaml_fault_t}
+use Rattle.yaml_parse.specs.Faults.{Fault, fault_of, IsMemoryFault, parse_layers}
 use Rattle.yaml_round_content.specs.Said.{Document}
 use Rattle.yaml_round_content.specs.Reading.{PlainReading}
 use Rattle.yaml_round_reading.specs.declared.side.yaml_side_t.{yaml_side_t}

@@ -1,7 +1,7 @@
 //! The events of an input.
 
 ghost use Rattle.std.specs.Prelude.{◌≡◌, true, IfOk, IfErr};
-ghost use Rattle.yaml_scan.specs.Faults.{fault_of, memory_fault};
+ghost use Rattle.yaml_parse.specs.Faults.{fault_of, memory_fault};
 ghost use Rattle.yaml_parse.specs.Events.{event_of};
 ghost use Rattle.yaml_parse.specs.NextLoad.{AreLoadsByContent, LoadIsNext, RefusalIsNext};
 ghost use Rattle.yaml_round_content.specs.Input.{ReadsInput};
@@ -9,11 +9,11 @@ ghost use Rattle.yaml_round_reading.specs.Reading.{AreReal, FindsNextEvent, Ends
 
 use std::alloc::Global;
 use yaml_parse::{
-    yaml_document_t, yaml_event_body_t, yaml_event_t, yaml_found_t, yaml_parser_delete,
-    yaml_parser_initialize, yaml_parser_load, yaml_parser_parse_into, yaml_parser_t,
+    yaml_document_t, yaml_encoding_t, yaml_event_body_t, yaml_event_t, yaml_fault_t, yaml_found_t,
+    yaml_memory_fault, yaml_origin_t, yaml_parser_delete, yaml_parser_initialize, yaml_parser_load,
+    yaml_parser_parse_into, yaml_parser_t,
 };
 use yaml_round_adapter::yaml_adapter_t;
-use yaml_scan::{yaml_encoding_t, yaml_fault_t, yaml_memory_fault, yaml_origin_t};
 
 /// A parser of an input's tokens, and slots in which its next event stands, or the fault that ends it.
 #[derive(Drop)]

@@ -1,10 +1,10 @@
 -- Whether an input loads, told by its events.
 use Rattle.std.proofs.Common.{◌≡◌, ◌⊎◌, ◌∙◌, inl, inr, refl, sym, subst, ℕ, List, [], ◌∷◌, true, false, Option, None, Some, Ok, Err}
 use Rattle.std.proofs.Math.Bool.{true≢false}
-use Rattle.yaml_scan.specs.declared.yaml_encoding_t.{yaml_encoding_t}
-use Rattle.yaml_scan.specs.declared.yaml_fault_t.{yaml_fault_t}
-use Rattle.yaml_scan.specs.declared.yaml_mark_t.{yaml_mark_t}
-use Rattle.yaml_scan.specs.Faults.{Fault, fault_of, IsMemoryFault, load_layers, parse_layers}
+use Rattle.yaml_parse.specs.declared.yaml_encoding_t.{yaml_encoding_t}
+use Rattle.yaml_parse.specs.declared.yaml_fault_t.{yaml_fault_t}
+use Rattle.yaml_parse.specs.declared.yaml_mark_t.{yaml_mark_t}
+use Rattle.yaml_parse.specs.Faults.{Fault, fault_of, IsMemoryFault, load_layers, parse_layers}
 use Rattle.yaml_parse.specs.Events.{Event}
 use Rattle.yaml_parse.specs.Nodes.{Node}
 use Rattle.yaml_parse.specs.Documents.{Document}

@@ -1,9 +1,9 @@
 -- From what readings say to what is said of their inputs.
 use Rattle.std.proofs.Common.{◌≡◌, ◌⊎◌, ◌∙◌, ◌++◌, inl, inr, ap, sym, ℕ, List, [], Option, None, Some, Result, Ok, Err}
 use Rattle.std.proofs.lemmas.List.{append_assoc}
-use Rattle.yaml_scan.specs.declared.yaml_encoding_t.{yaml_encoding_t}
-use Rattle.yaml_scan.specs.declared.yaml_fault_t.{yaml_fault_t}
-use Rattle.yaml_scan.specs.Faults.{Fault, fault_of, IsMemoryFault, parse_layers, Answers}
+use Rattle.yaml_parse.specs.declared.yaml_encoding_t.{yaml_encoding_t}
+use Rattle.yaml_parse.specs.declared.yaml_fault_t.{yaml_fault_t}
+use Rattle.yaml_parse.specs.Faults.{Fault, fault_of, IsMemoryFault, parse_layers, Answers}
 use Rattle.yaml_parse.specs.Remaining.{ParserRemaining}
 use Rattle.yaml_parse.specs.Resolve.{Told}
 use Rattle.yaml_parse.specs.Events.{Event}

@@ -15,7 +15,7 @@ use Rattle.std.proofs.Math.Bool.{true≢false}
 use Rattle.std.specs.FinMap.{FinMap, slice_cmp-IsAntisymmetric, nat_cmp-IsAntisymmetric}
 use Rattle.std.specs.FinMap as map
 use Rattle.std.specs.List.{list_any, slice_range}
-use Rattle.yaml_scan.specs.declared.yaml_mark_t.{yaml_mark_t}
+use Rattle.yaml_parse.specs.declared.yaml_mark_t.{yaml_mark_t}
 use Rattle.yaml_parse.specs.Nodes.{Node}
 use Rattle.yaml_parse.specs.Numbering.{is_same}
 use Rattle.yaml_emit.proofs.Seeing.{any_inserted}

@@ -20,5 +20,5 @@ pub use Rattle.yaml_round_laws_documents.proofs.Walks
 pub use Rattle.yaml_round_laws_documents.proofs.ReadingJoining as Joining
 pub use Rattle.yaml_round_laws_documents.proofs.Loaded
 pub use Rattle.yaml_round_reading.proofs.Plain
-pub use Rattle.yaml_round_laws_pretty.proofs.Theorem
-pub use Rattle.yaml_round_laws_pretty.proofs.JsonInputs
+pub use Rattle.yaml_round_beginning.proofs.Theorem
+pub use Rattle.yaml_round_beginning.proofs.JsonInputs

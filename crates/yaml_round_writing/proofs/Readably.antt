@@ -1,17 +1,17 @@
 -- What is laid out for an input with the styles that its content decides is the normal form that people read.
 use Rattle.std.proofs.Common.{◌⊎◌, ◌∙◌, inl, inr, false, ℕ, List, Err, refl, sym, subst}
-use Rattle.yaml_scan.specs.declared.yaml_encoding_t.{yaml_encoding_t}
-use Rattle.yaml_scan.specs.declared.yaml_encoding_t.TheVariants.{YAML_ANY_ENCODING}
-use Rattle.yaml_scan.specs.Faults.{Fault, IsMemoryFault}
+use Rattle.yaml_parse.specs.declared.yaml_encoding_t.{yaml_encoding_t}
+use Rattle.yaml_parse.specs.declared.yaml_encoding_t.TheVariants.{YAML_ANY_ENCODING}
+use Rattle.yaml_parse.specs.Faults.{Fault, IsMemoryFault}
 use Rattle.yaml_emit.specs.Streams.{IsStream}
 use Rattle.yaml_round_device.specs.declared.yaml_settings_t.{yaml_settings_t}
 use Rattle.yaml_round_laws_documents.specs.round_content.Input.{events_of}
 use Rattle.yaml_round_laws_documents.specs.round_content.Said.{Document, HasContent}
 use Rattle.yaml_round_laws_documents.proofs.ContentInputs.{have_content}
 use Rattle.yaml_round_laws_documents.proofs.ReadingJoining.{said_read, read_said}
-use Rattle.yaml_round_laws_normal.specs.Restyled.{Before, readable_events}
-use Rattle.yaml_round_laws_normal.proofs.Joining.{is_read, tells_inputs}
-use Rattle.yaml_round_laws_normal.proofs.Restyling.{laid_out}
+use Rattle.yaml_round_beginning.specs.round_laws_normal.Restyled.{Before, readable_events}
+use Rattle.yaml_round_beginning.proofs.Joining.{is_read, tells_inputs}
+use Rattle.yaml_round_beginning.proofs.Restyling.{laid_out}
 use Rattle.yaml_round_reading.specs.Reading.{contents}
 use Rattle.yaml_round_reading.specs.Answers.{IsRight}
 use Rattle.yaml_round_reading.proofs.Plain.{right_ending}

@@ -1,14 +1,14 @@
 -- What is laid out in pretty form reads back, unless the input begins with nothing.
 use Rattle.std.proofs.Common.{◌≡◌, ◌∙◌, ℕ, Bool, true, false, List, Ok, sym, subst, refl}
-use Rattle.yaml_scan.specs.declared.yaml_encoding_t.{yaml_encoding_t}
-use Rattle.yaml_scan.specs.declared.yaml_encoding_t.TheVariants.{YAML_ANY_ENCODING}
+use Rattle.yaml_parse.specs.declared.yaml_encoding_t.{yaml_encoding_t}
+use Rattle.yaml_parse.specs.declared.yaml_encoding_t.TheVariants.{YAML_ANY_ENCODING}
 use Rattle.yaml_parse.specs.Resolve.{Told}
 use Rattle.yaml_emit.specs.Streams.{IsStream}
 use Rattle.yaml_emit.specs.Text.{encode}
 use Rattle.yaml_round_laws_documents.specs.Stays.{SaysInput}
 use Rattle.yaml_round_laws_documents.specs.round_content.Input.{events_of}
-use Rattle.yaml_round_laws_pretty.specs.Flags.{begins_with_nothing}
-use Rattle.yaml_round_laws_pretty.proofs.Theorem.{pretty_reads_back}
+use Rattle.yaml_round_beginning.specs.round_laws_normal.round_laws_pretty.Flags.{begins_with_nothing}
+use Rattle.yaml_round_beginning.proofs.Theorem.{pretty_reads_back}
 use Rattle.yaml_round_device.specs.declared.yaml_settings_t.{yaml_settings_t}
 use Rattle.yaml_round_reading.specs.Reading.{emitter_events}
 use Rattle.yaml_round_writing.specs.declared.writing.Form.TheVariants as form

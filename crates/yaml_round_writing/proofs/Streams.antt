@@ -1,8 +1,8 @@
 -- What an input says, and what it loads, is a stream in which nothing is wrong, and so has a text.
 use Rattle.std.proofs.Common.{None, ◌≡◌, ℕ, List, [], ◌∷◌, map, Bool, true, Option, refl, sym, subst}
-use Rattle.yaml_scan.specs.declared.yaml_encoding_t.{yaml_encoding_t}
-use Rattle.yaml_scan.specs.declared.yaml_encoding_t.TheVariants.{YAML_ANY_ENCODING}
-use Rattle.yaml_scan.specs.Faults.{Fault}
+use Rattle.yaml_parse.specs.declared.yaml_encoding_t.{yaml_encoding_t}
+use Rattle.yaml_parse.specs.declared.yaml_encoding_t.TheVariants.{YAML_ANY_ENCODING}
+use Rattle.yaml_parse.specs.Faults.{Fault}
 use Rattle.yaml_parse.specs.Nodes.{Node}
 use Rattle.yaml_parse.specs.Documents.{Document}
 use Rattle.yaml_parse.specs.Resolve.{Told}

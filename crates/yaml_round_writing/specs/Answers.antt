@@ -1,8 +1,8 @@
 -- What the engine answers to an input, texts in place of vectors and references.
 use Rattle.std.specs.Prelude.{◌≡◌, ◌⊎◌, true, false, ℕ, Bool, List, Option, Result, Ok, Err, Vec}
-use Rattle.yaml_scan.specs.declared.yaml_encoding_t.{yaml_encoding_t}
-use Rattle.yaml_scan.specs.declared.yaml_encoding_t.TheVariants.{YAML_ANY_ENCODING}
-use Rattle.yaml_scan.specs.Faults.{Fault}
+use Rattle.yaml_parse.specs.declared.yaml_encoding_t.{yaml_encoding_t}
+use Rattle.yaml_parse.specs.declared.yaml_encoding_t.TheVariants.{YAML_ANY_ENCODING}
+use Rattle.yaml_parse.specs.Faults.{Fault}
 use Rattle.yaml_emit.specs.Content.{Event}
 use Rattle.yaml_emit.specs.Text.{Item, encode, is_deep}
 use Rattle.yaml_emit.specs.Streams.{IsStream}
@@ -22,7 +22,7 @@ use Rattle.yaml_parse.specs.Resolve.{Told}
 use Rattle.yaml_round_laws_documents.specs.round_content.Said.{Document}
 use Rattle.yaml_round_laws_documents.specs.round_content.Reading.{PlainReading, HasEvents}
 use Rattle.yaml_round_laws_documents.specs.round_content.Canon.{canon}
-use Rattle.yaml_round_laws_pretty.specs.Flags.{begins_with_nothing}
+use Rattle.yaml_round_beginning.specs.round_laws_normal.round_laws_pretty.Flags.{begins_with_nothing}
 unfoldable pub use Rattle.yaml_round_reading.specs.Answers.{IsRight, IsFaulty}
 pub use Rattle.yaml_round_reading.specs.Answers.{SameContent, IsCompared, IsSideFaulty, IsSideStarved, IsSame, ReadsBack}
 

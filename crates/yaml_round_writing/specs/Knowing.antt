@@ -3,7 +3,7 @@ use Rattle.std.specs.Prelude.{◌≡◌, ◌≤◌, ℕ, Bool, true, false, cond
 use Rattle.std.specs.Global.{Global}
 use Rattle.std.specs.List.{list_any, slice_range}
 use Rattle.std.specs.FinMap as map
-use Rattle.yaml_scan.specs.declared.yaml_mark_t.{yaml_mark_t}
+use Rattle.yaml_parse.specs.declared.yaml_mark_t.{yaml_mark_t}
 use Rattle.yaml_parse.specs.Nodes.{Node}
 use Rattle.yaml_parse.specs.Numbering.{is_same, undefined_alias}
 use Rattle.yaml_parse.specs.Loading.{Loading, LoadStep, goes_on, loaded, refused, nothing_loaded}

@@ -1,8 +1,8 @@
 -- The layers in which memory may run out, by calls.
 use Rattle.std.specs.Prelude.{List, ◌∷◌}
-use Rattle.yaml_scan.specs.declared.yaml_origin_t.{yaml_origin_t}
-use Rattle.yaml_scan.specs.declared.yaml_origin_t.TheVariants.{Emitter, Writer}
-use Rattle.yaml_scan.specs.Faults.{parse_layers, load_layers}
+use Rattle.yaml_parse.specs.declared.yaml_origin_t.{yaml_origin_t}
+use Rattle.yaml_parse.specs.declared.yaml_origin_t.TheVariants.{Emitter, Writer}
+use Rattle.yaml_parse.specs.Faults.{parse_layers, load_layers}
 
 -- of a line for each event
 abbrev pub list_layers : List yaml_origin_t

@@ -1,8 +1,8 @@
 -- What `yaml_normalize` answers: the normal form that people read.
 use Rattle.std.specs.Prelude.{◌≡◌, ◌⊎◌, false, ℕ, List, Result, Ok, Err}
-use Rattle.yaml_scan.specs.declared.yaml_encoding_t.{yaml_encoding_t}
-use Rattle.yaml_scan.specs.declared.yaml_encoding_t.TheVariants.{YAML_ANY_ENCODING}
-use Rattle.yaml_scan.specs.Faults.{Fault}
+use Rattle.yaml_parse.specs.declared.yaml_encoding_t.{yaml_encoding_t}
+use Rattle.yaml_parse.specs.declared.yaml_encoding_t.TheVariants.{YAML_ANY_ENCODING}
+use Rattle.yaml_parse.specs.Faults.{Fault}
 use Rattle.yaml_emit.specs.Text.{Item, is_deep}
 use Rattle.yaml_emit.specs.Emitter.{Passes}
 use Rattle.yaml_emit.specs.Within.{Fits}
@@ -11,7 +11,7 @@ use Rattle.yaml_round_device.specs.declared.yaml_settings_t.{yaml_settings_t}
 use Rattle.yaml_round_laws_documents.specs.round_content.Said.{Document}
 use Rattle.yaml_round_laws_documents.specs.round_content.Reading.{PlainReading}
 use Rattle.yaml_round_laws_documents.specs.round_content.Canon.{canon_encoding}
-use Rattle.yaml_round_laws_normal.specs.Readable.{readable, readable_items}
+use Rattle.yaml_round_beginning.specs.round_laws_normal.Readable.{readable, readable_items}
 use Rattle.yaml_round_reading.specs.Answers.{IsFaulty}
 use Rattle.yaml_round_writing.specs.Writing.{requested_under}
 

@@ -2,15 +2,17 @@
 
 ghost use Rattle.std.specs.Prelude.{ℕ, List};
 ghost use Rattle.yaml_round_laws_documents.specs.round_content.Input.{ReadsInput};
-ghost use Rattle.yaml_scan.specs.Faults.{Answers, load_layers};
+ghost use Rattle.yaml_parse.specs.Faults.{Answers, load_layers};
 ghost use Rattle.yaml_round_writing.specs.Checking.{IsChecked};
 ghost use Rattle.yaml_round_writing.specs.Knowing.{IsUnknown};
 
 use crate::known::{Known, Passed};
 use std::alloc::Global;
-use yaml_parse::{undefined_alias_fault, yaml_found_t, yaml_parser_parse_into};
+use yaml_parse::{
+    undefined_alias_fault, yaml_encoding_t, yaml_fault_t, yaml_found_t, yaml_memory_fault,
+    yaml_origin_t, yaml_parser_parse_into,
+};
 use yaml_round_reading::{Reading, let_go, reading_of};
-use yaml_scan::{yaml_encoding_t, yaml_fault_t, yaml_memory_fault, yaml_origin_t};
 
 // ReadsInput to the end, or to what loading refuses or ends at.
 fn look_through(reading: &mut Reading<'_>, known: &mut Known) -> Result<(), yaml_fault_t>

@@ -1,7 +1,7 @@
 //! The lines of an input's events.
 
 ghost use Rattle.std.specs.Prelude.{ℕ, List};
-ghost use Rattle.yaml_scan.specs.Faults.{Answers};
+ghost use Rattle.yaml_parse.specs.Faults.{Answers};
 ghost use Rattle.yaml_round_laws_documents.specs.round_content.Input.{ReadsInput};
 ghost use Rattle.yaml_round_reading.specs.Reading.{AreReal};
 ghost use Rattle.yaml_round_writing.specs.Layers.{list_layers};
@@ -9,10 +9,9 @@ ghost use Rattle.yaml_round_writing.specs.Lines.{AddsLines};
 ghost use Rattle.yaml_round_writing.specs.Answers.{IsListed, bytes_of};
 
 use std::alloc::Global;
-use yaml_parse::yaml_found_t;
+use yaml_parse::{yaml_encoding_t, yaml_fault_t, yaml_found_t, yaml_memory_fault, yaml_origin_t};
 use yaml_round_lines::yaml_push_event_line;
 use yaml_round_reading::Reading;
-use yaml_scan::{yaml_encoding_t, yaml_fault_t, yaml_memory_fault, yaml_origin_t};
 
 // Adds the lines of the events to their end.
 fn push_lines(reading: &mut Reading<'_>, lines: &mut Vec<u8>) -> Result<(), yaml_fault_t>

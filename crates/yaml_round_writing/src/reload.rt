@@ -2,7 +2,7 @@
 
 ghost use Rattle.std.specs.Prelude.{◌≡◌, ℕ, List, true, false, All};
 ghost use Rattle.yaml_round_laws_documents.specs.round_content.Input.{ReadsInput};
-ghost use Rattle.yaml_scan.specs.Faults.{Answers, load_layers, emit_layers};
+ghost use Rattle.yaml_parse.specs.Faults.{Answers, load_layers, emit_layers};
 ghost use Rattle.yaml_round_writing.specs.Answers.{bytes_of};
 ghost use Rattle.yaml_round_writing.specs.Reload.{LoadsNext, IsLoaded, HasRoot, IsWithinStream, DumpsAll, DumpsStream, IsEachDump};
 
@@ -10,10 +10,12 @@ use crate::writing::{emitter_under, finished};
 use std::alloc::Global;
 use std::collections::VecDeque;
 use yaml_emit::{yaml_emitter_close, yaml_emitter_dump, yaml_emitter_open, yaml_emitter_t};
-use yaml_parse::{yaml_document_set_end_implicit, yaml_document_t};
+use yaml_parse::{
+    yaml_document_set_end_implicit, yaml_document_t, yaml_encoding_t, yaml_fault_t,
+    yaml_memory_fault, yaml_origin_t,
+};
 use yaml_round_device::yaml_settings_t;
 use yaml_round_reading::{Reading, let_go, reading_of};
-use yaml_scan::{yaml_encoding_t, yaml_fault_t, yaml_memory_fault, yaml_origin_t};
 
 /// The next document, whose end is made implicit; nothing behind the last.
 #[tactic(auto, using(crate::proofs::Reloading::loaded_document, crate::proofs::Reloading::loaded_last, crate::proofs::Reloading::load_refused))]

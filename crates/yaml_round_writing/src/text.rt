@@ -1,7 +1,7 @@
 //! The text of an input's events, and whether they begin with nothing.
 
 ghost use Rattle.std.specs.Prelude.{◌≡◌, [], IfOk};
-ghost use Rattle.yaml_scan.specs.Faults.{Answers, parse_layers};
+ghost use Rattle.yaml_parse.specs.Faults.{Answers, parse_layers};
 ghost use Rattle.yaml_round_writing.specs.Layers.{reformat_layers};
 ghost use Rattle.yaml_round_laws_documents.specs.round_content.Input.{ReadsInput, ending_of, events_of};
 ghost use Rattle.yaml_round_reading.specs.Reading.{AreReal};
@@ -13,10 +13,10 @@ use crate::writing::{
 };
 use std::alloc::Global;
 use yaml_emit::yaml_emitter_t;
+use yaml_parse::{yaml_encoding_t, yaml_fault_t};
 use yaml_round_beginning::Beginning;
 use yaml_round_device::yaml_settings_t;
 use yaml_round_reading::{Reading, let_go, read_out, reading_of};
-use yaml_scan::{yaml_encoding_t, yaml_fault_t};
 
 // A text that has more than this many bytes for each byte of its input has outgrown it.
 const OUTGROWN: usize = 32;

@@ -1,7 +1,7 @@
 //! An emitter under the engine's settings, and the writing of a reading's events.
 
 ghost use Rattle.std.specs.Prelude.{◌≡◌, Some, List, [], ◌∷◌, IfOk, IfErr, option_map};
-ghost use Rattle.yaml_scan.specs.Faults.{Fault, fault_of, memory_fault};
+ghost use Rattle.yaml_parse.specs.Faults.{Fault, fault_of, memory_fault};
 ghost use Rattle.yaml_parse.specs.Events.{event_of};
 ghost use Rattle.yaml_parse.specs.Constructors.{HasUtf8};
 ghost use Rattle.yaml_emit.specs.Content.{emitter_event};
@@ -17,11 +17,12 @@ use yaml_emit::{
     yaml_emitter_set_canonical, yaml_emitter_set_encoding, yaml_emitter_set_indent,
     yaml_emitter_set_unicode, yaml_emitter_set_width, yaml_emitter_t,
 };
-use yaml_parse::{yaml_event_t, yaml_found_t};
+use yaml_parse::{
+    yaml_encoding_t, yaml_event_t, yaml_fault_t, yaml_found_t, yaml_memory_fault, yaml_origin_t,
+};
 use yaml_round_beginning::{Beginning, OpeningPosition, behind, is_nothing, restyle};
 use yaml_round_device::{yaml_output_encoding_t, yaml_settings_t};
 use yaml_round_reading::{Reading, normalize_event};
-use yaml_scan::{yaml_encoding_t, yaml_fault_t, yaml_memory_fault, yaml_origin_t};
 
 /// The form in which events are given to the emitter, and what it has to know of those that were.
 #[derive(Clone, Copy)]

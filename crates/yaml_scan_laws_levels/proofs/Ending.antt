@@ -2,22 +2,22 @@
 use Rattle.std.proofs.Common.{◌≡◌, ◌≢◌, ℕ, ◌+◌, ◌-◌, ◌==◌, ◌&&◌, not, nat_lt, cond, Bool, true, false, List, [], ◌∷◌, ◌++◌, length, flat_map, Option, Some, None, Result, Ok, refl, sym, ap, ◌∙◌, arith}
 use Rattle.std.proofs.lemmas.List.{append-nil}
 use Rattle.std.proofs.Math.Bool.{and-false}
-use Rattle.yaml_scan_history.specs.scan_model.declared.record.yaml_mark_t.{yaml_mark_t}
-use Rattle.yaml_scan_history.specs.scan_model.Marks.{mark_at}
-use Rattle.yaml_scan_history.specs.scan_model.Tokens.{Token, TokenBody, stream_end}
-use Rattle.yaml_scan_history.specs.scan_model.Faults.{Fault}
-use Rattle.yaml_scan_history.specs.scan_model.Wrong.{Wrong}
-use Rattle.yaml_scan_history.specs.scan_words.Between.{Gap}
-use Rattle.yaml_scan_history.specs.declared.kind.Kind.{Kind}
-use Rattle.yaml_scan_history.specs.declared.kind.Kind.TheVariants as kinds
-use Rattle.yaml_scan_history.specs.declared.lexeme.Lexeme.{Lexeme}
-use Rattle.yaml_scan_history.specs.declared.lexeme.Entry.{Entry}
-use Rattle.yaml_scan_history.specs.declared.lexeme.Opens.TheVariants as opening
-use Rattle.yaml_scan_history.specs.History.{depth, reached, placed, candidate, fresh, indent, left_by, levels, entries}
-use Rattle.yaml_scan_history.specs.Words.{WordText, kind_at, word_at}
-use Rattle.yaml_scan_history.specs.Next.{Next, Read, Ends, first_lexeme, begun, gap_behind, allowed_behind, misplaced, missed, lost_by, level_in, next, extended, history}
-use Rattle.yaml_scan_history.specs.Stepwise.{not_allowed, unless_wrong, unless_lost, of_kind, unless_missed, behind}
-use Rattle.yaml_scan_history.specs.Remaining.{SpelledText, body_in, spell, all, handed_out, handed, kept_of, fault_in, Remaining, remaining, offline}
+use Rattle.yaml_scan_laws_order.specs.scan_model.declared.record.yaml_mark_t.{yaml_mark_t}
+use Rattle.yaml_scan_laws_order.specs.scan_model.Marks.{mark_at}
+use Rattle.yaml_scan_laws_order.specs.scan_model.Tokens.{Token, TokenBody, stream_end}
+use Rattle.yaml_scan_laws_order.specs.scan_model.Faults.{Fault}
+use Rattle.yaml_scan_laws_order.specs.scan_model.Wrong.{Wrong}
+use Rattle.yaml_scan_laws_order.specs.scan_words.Between.{Gap}
+use Rattle.yaml_scan_laws_order.specs.scan_history.declared.kind.Kind.{Kind}
+use Rattle.yaml_scan_laws_order.specs.scan_history.declared.kind.Kind.TheVariants as kinds
+use Rattle.yaml_scan_laws_order.specs.scan_history.declared.lexeme.Lexeme.{Lexeme}
+use Rattle.yaml_scan_laws_order.specs.scan_history.declared.lexeme.Entry.{Entry}
+use Rattle.yaml_scan_laws_order.specs.scan_history.declared.lexeme.Opens.TheVariants as opening
+use Rattle.yaml_scan_laws_order.specs.scan_history.History.{depth, reached, placed, candidate, fresh, indent, left_by, levels, entries}
+use Rattle.yaml_scan_laws_order.specs.scan_history.Words.{WordText, kind_at, word_at}
+use Rattle.yaml_scan_laws_order.specs.scan_history.Next.{Next, Read, Ends, first_lexeme, begun, gap_behind, allowed_behind, misplaced, missed, lost_by, level_in, next, extended, history}
+use Rattle.yaml_scan_laws_order.specs.scan_history.Stepwise.{not_allowed, unless_wrong, unless_lost, of_kind, unless_missed, behind}
+use Rattle.yaml_scan_laws_order.specs.scan_history.Remaining.{SpelledText, body_in, spell, all, handed_out, handed, kept_of, fault_in, Remaining, remaining, offline}
 use Rattle.yaml_scan_laws_order.proofs.HistoryForward.{last_is_all}
 use Rattle.yaml_scan_laws_levels.specs.Fronts.{Came, Rises, Front, IsFree, Idle, InTime, entry}
 use Rattle.yaml_scan_laws_levels.specs.Tokens.{bodies_of, told}

@@ -3,18 +3,18 @@ use Rattle.std.proofs.Common.{◌≡◌, ◌⊎◌, ℕ, zero, suc, ◌-◌, ◌
 use Rattle.std.proofs.lemmas.Bool.{cases_Bool, eq-eqb}
 use Rattle.std.proofs.lemmas.Bool.Decides.{nat_tests}
 use Rattle.std.proofs.Math.Bool.{and-false}
-use Rattle.yaml_scan_history.specs.scan_model.declared.record.yaml_mark_t.{yaml_mark_t}
-use Rattle.yaml_scan_history.specs.scan_model.Marks.{column_at, mark_at}
-use Rattle.yaml_scan_history.specs.declared.kind.Kind.{Kind}
-use Rattle.yaml_scan_history.specs.declared.kind.Kind.TheVariants as kinds
-use Rattle.yaml_scan_history.specs.declared.lexeme.Lexeme.{Lexeme}
-use Rattle.yaml_scan_history.specs.declared.lexeme.Entry.{Entry}
-use Rattle.yaml_scan_history.specs.declared.lexeme.Opens.{Opens}
-use Rattle.yaml_scan_history.specs.declared.lexeme.Opens.TheVariants as opening
-use Rattle.yaml_scan_history.specs.Kinds.{depth_after, may_be_key, cancels, is_value, is_start, is_outside}
-use Rattle.yaml_scan_history.specs.History.{Candidate, candidate, fresh, has, is_fresh, margin_at, indent, left_by, opens_at, opened, level_of, marked, mark_key, as_key}
-use Rattle.yaml_scan_history.specs.Next.{level_in}
-use Rattle.yaml_scan_history.proofs.HistoryLemmas.{length-entries}
+use Rattle.yaml_scan_laws_order.specs.scan_model.declared.record.yaml_mark_t.{yaml_mark_t}
+use Rattle.yaml_scan_laws_order.specs.scan_model.Marks.{column_at, mark_at}
+use Rattle.yaml_scan_laws_order.specs.scan_history.declared.kind.Kind.{Kind}
+use Rattle.yaml_scan_laws_order.specs.scan_history.declared.kind.Kind.TheVariants as kinds
+use Rattle.yaml_scan_laws_order.specs.scan_history.declared.lexeme.Lexeme.{Lexeme}
+use Rattle.yaml_scan_laws_order.specs.scan_history.declared.lexeme.Entry.{Entry}
+use Rattle.yaml_scan_laws_order.specs.scan_history.declared.lexeme.Opens.{Opens}
+use Rattle.yaml_scan_laws_order.specs.scan_history.declared.lexeme.Opens.TheVariants as opening
+use Rattle.yaml_scan_laws_order.specs.scan_history.Kinds.{depth_after, may_be_key, cancels, is_value, is_start, is_outside}
+use Rattle.yaml_scan_laws_order.specs.scan_history.History.{Candidate, candidate, fresh, has, is_fresh, margin_at, indent, left_by, opens_at, opened, level_of, marked, mark_key, as_key}
+use Rattle.yaml_scan_laws_order.specs.scan_history.Next.{level_in}
+use Rattle.yaml_scan_laws_order.proofs.HistoryLemmas.{length-entries}
 use Rattle.yaml_scan_laws_levels.specs.Fronts.{IsFree, Idle, InTime, Holds, entry, read_at}
 use Rattle.yaml_scan_laws_levels.specs.Keys.{KeyBegins, IsInKey, KeyGoesOn, KeyEnds}
 use Rattle.yaml_scan_laws_levels.proofs.Levels.{opened_rises, stays_right}

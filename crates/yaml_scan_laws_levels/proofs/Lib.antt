@@ -12,3 +12,6 @@ pub mod RowOfBlocks
 pub mod RowOfKeys
 pub mod Signing
 pub mod LookingBack
+-- what it stands on, for crates of laws that name this one alone
+pub use Rattle.yaml_scan_laws_order.proofs.MarksForward
+pub use Rattle.yaml_scan_laws_order.proofs.WordForward

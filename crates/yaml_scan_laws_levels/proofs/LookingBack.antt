@@ -5,21 +5,21 @@ use Rattle.std.proofs.lemmas.Bool.Decides.{nat_tests}
 use Rattle.std.proofs.lemmas.Grind.{flat_map-append}
 use Rattle.std.proofs.lemmas.List.{append-nil}
 use Rattle.std.proofs.Math.Bool.{and-false}
-use Rattle.yaml_scan_history.specs.scan_model.declared.problem.ScanFault.{ScanFault}
-use Rattle.yaml_scan_history.specs.scan_model.Tokens.{Token}
-use Rattle.yaml_scan_history.specs.scan_model.Wrong.{Wrong}
-use Rattle.yaml_scan_history.specs.declared.kind.Kind.{Kind}
-use Rattle.yaml_scan_history.specs.declared.kind.Kind.TheVariants as kinds
-use Rattle.yaml_scan_history.specs.declared.lexeme.Lexeme.{Lexeme}
-use Rattle.yaml_scan_history.specs.declared.lexeme.Entry.{Entry}
-use Rattle.yaml_scan_history.specs.declared.lexeme.Opens.{Opens}
-use Rattle.yaml_scan_history.specs.declared.lexeme.Opens.TheVariants as opening
-use Rattle.yaml_scan_history.specs.Kinds.{may_be_key, cancels, is_value, is_start, is_end}
-use Rattle.yaml_scan_history.specs.History.{Candidate, candidate, has_number, found_by, first_open, indent, inside, level_of, opens_at, opens_of, margin_at, start_of, entry_of, as_key, mark_key, marked, keyed, entries}
-use Rattle.yaml_scan_history.specs.Words.{WordText}
-use Rattle.yaml_scan_history.specs.Next.{Next, Read, Fails, Ends, next, first_fault_or, coming, faults, stale_before, no_start, place_behind, kind_behind, with_end, begun_behind, word_behind, lexeme_behind, extended, history}
-use Rattle.yaml_scan_history.specs.Remaining.{SpelledText, spell, front_ends, handed_out, handed, kept_of, all, fault_in, Remaining, remaining}
-use Rattle.yaml_scan_history.proofs.HistoryLemmas.{candidate-more, candidate_below, fresh_is}
+use Rattle.yaml_scan_laws_order.specs.scan_model.declared.problem.ScanFault.{ScanFault}
+use Rattle.yaml_scan_laws_order.specs.scan_model.Tokens.{Token}
+use Rattle.yaml_scan_laws_order.specs.scan_model.Wrong.{Wrong}
+use Rattle.yaml_scan_laws_order.specs.scan_history.declared.kind.Kind.{Kind}
+use Rattle.yaml_scan_laws_order.specs.scan_history.declared.kind.Kind.TheVariants as kinds
+use Rattle.yaml_scan_laws_order.specs.scan_history.declared.lexeme.Lexeme.{Lexeme}
+use Rattle.yaml_scan_laws_order.specs.scan_history.declared.lexeme.Entry.{Entry}
+use Rattle.yaml_scan_laws_order.specs.scan_history.declared.lexeme.Opens.{Opens}
+use Rattle.yaml_scan_laws_order.specs.scan_history.declared.lexeme.Opens.TheVariants as opening
+use Rattle.yaml_scan_laws_order.specs.scan_history.Kinds.{may_be_key, cancels, is_value, is_start, is_end}
+use Rattle.yaml_scan_laws_order.specs.scan_history.History.{Candidate, candidate, has_number, found_by, first_open, indent, inside, level_of, opens_at, opens_of, margin_at, start_of, entry_of, as_key, mark_key, marked, keyed, entries}
+use Rattle.yaml_scan_laws_order.specs.scan_history.Words.{WordText}
+use Rattle.yaml_scan_laws_order.specs.scan_history.Next.{Next, Read, Fails, Ends, next, first_fault_or, coming, faults, stale_before, no_start, place_behind, kind_behind, with_end, begun_behind, word_behind, lexeme_behind, extended, history}
+use Rattle.yaml_scan_laws_order.specs.scan_history.Remaining.{SpelledText, spell, front_ends, handed_out, handed, kept_of, all, fault_in, Remaining, remaining}
+use Rattle.yaml_scan_laws_order.proofs.HistoryLemmas.{candidate-more, candidate_below, fresh_is}
 use Rattle.yaml_scan_laws_levels.specs.LookBack.{finds, is_key, opens_level, number_or, begins_with, level_at, closes, end_tokens, tokens_of, tokens_before, lost_from, OfflineLooksBack}
 use Rattle.yaml_scan_laws_levels.proofs.Pushing.{start_no_key}
 

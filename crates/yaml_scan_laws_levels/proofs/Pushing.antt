@@ -2,20 +2,20 @@
 use Rattle.std.proofs.Common.{◌≡◌, ◌⊎◌, ℕ, ◌+◌, ◌-◌, ◌≤◌, ◌==◌, ◌&&◌, ◌||◌, not, nat_lt, cond, Bool, true, false, List, [], ◌∷◌, ◌++◌, length, Option, Some, None, Result, Ok, refl, sym, ap, subst, ◌∙◌, inl, inr, arith}
 use Rattle.std.proofs.lemmas.Bool.{cases_Bool, not-true, and_parts}
 use Rattle.std.proofs.lemmas.Bool.Decides.{nat_tests}
-use Rattle.yaml_scan_history.specs.scan_model.declared.record.yaml_mark_t.{yaml_mark_t}
-use Rattle.yaml_scan_history.specs.scan_model.Marks.{column_at, mark_at}
-use Rattle.yaml_scan_history.specs.declared.kind.Kind.{Kind}
-use Rattle.yaml_scan_history.specs.declared.kind.Kind.TheVariants as kinds
-use Rattle.yaml_scan_history.specs.declared.lexeme.Lexeme.{Lexeme}
-use Rattle.yaml_scan_history.specs.declared.lexeme.Entry.{Entry}
-use Rattle.yaml_scan_history.specs.declared.lexeme.Opens.{Opens}
-use Rattle.yaml_scan_history.specs.declared.lexeme.Opens.TheVariants as opening
-use Rattle.yaml_scan_history.specs.Kinds.{depth_after, may_be_key, cancels, is_value, is_start, is_outside, is_end}
-use Rattle.yaml_scan_history.specs.History.{depth, Candidate, candidate, fresh, has, margin_at, indent, left_by, opens_at, opened, levels, start_of, level_of, marked, entries}
-use Rattle.yaml_scan_history.specs.Words.{WordText, word_at}
-use Rattle.yaml_scan_history.specs.Next.{Read, level_in, next}
-use Rattle.yaml_scan_history.specs.Remaining.{SpelledText, body_of_word, body_by}
-use Rattle.yaml_scan_history.specs.scan_model.Wrong.{Wrong}
+use Rattle.yaml_scan_laws_order.specs.scan_model.declared.record.yaml_mark_t.{yaml_mark_t}
+use Rattle.yaml_scan_laws_order.specs.scan_model.Marks.{column_at, mark_at}
+use Rattle.yaml_scan_laws_order.specs.scan_history.declared.kind.Kind.{Kind}
+use Rattle.yaml_scan_laws_order.specs.scan_history.declared.kind.Kind.TheVariants as kinds
+use Rattle.yaml_scan_laws_order.specs.scan_history.declared.lexeme.Lexeme.{Lexeme}
+use Rattle.yaml_scan_laws_order.specs.scan_history.declared.lexeme.Entry.{Entry}
+use Rattle.yaml_scan_laws_order.specs.scan_history.declared.lexeme.Opens.{Opens}
+use Rattle.yaml_scan_laws_order.specs.scan_history.declared.lexeme.Opens.TheVariants as opening
+use Rattle.yaml_scan_laws_order.specs.scan_history.Kinds.{depth_after, may_be_key, cancels, is_value, is_start, is_outside, is_end}
+use Rattle.yaml_scan_laws_order.specs.scan_history.History.{depth, Candidate, candidate, fresh, has, margin_at, indent, left_by, opens_at, opened, levels, start_of, level_of, marked, entries}
+use Rattle.yaml_scan_laws_order.specs.scan_history.Words.{WordText, word_at}
+use Rattle.yaml_scan_laws_order.specs.scan_history.Next.{Read, level_in, next}
+use Rattle.yaml_scan_laws_order.specs.scan_history.Remaining.{SpelledText, body_of_word, body_by}
+use Rattle.yaml_scan_laws_order.specs.scan_model.Wrong.{Wrong}
 use Rattle.yaml_scan_laws_order.proofs.WordForward.{FitsAny, kind_fits}
 use Rattle.yaml_scan_laws_levels.specs.Fronts.{Says, Came, Rises, Front, IsFree, Idle, InTime, Meets, entry, read_at}
 use Rattle.yaml_scan_laws_levels.specs.Pushes.{IsPlaced, stays_level, WordIsRead, MarkIsRead, OuterIsRead}

@@ -1,18 +1,18 @@
 -- What stands behind lexemes is read.
 use Rattle.std.proofs.Common.{◌≡◌, ◌⊎◌, ℕ, ◌&&◌, ◌||◌, not, nat_lt, cond, Bool, true, false, List, [], ◌∷◌, Option, Some, None, Result, Ok, refl, ap, ◌∙◌, inl, inr}
 use Rattle.std.proofs.lemmas.Bool.{cases_Bool}
-use Rattle.yaml_scan_history.specs.scan_model.declared.record.yaml_mark_t.{yaml_mark_t}
-use Rattle.yaml_scan_history.specs.scan_model.Marks.{column_at, mark_at}
-use Rattle.yaml_scan_history.specs.scan_model.Wrong.{Wrong}
-use Rattle.yaml_scan_history.specs.scan_words.Between.{Gap}
-use Rattle.yaml_scan_history.specs.declared.kind.Kind.{Kind}
-use Rattle.yaml_scan_history.specs.declared.lexeme.Lexeme.{Lexeme}
-use Rattle.yaml_scan_history.specs.Kinds.{cancels, is_value, is_start, is_end}
-use Rattle.yaml_scan_history.specs.History.{depth, reached, ended, Candidate, candidate, fresh, is_fresh, has, placed, indent, left_by, levels}
-use Rattle.yaml_scan_history.specs.Words.{WordText, kind_at, word_at}
-use Rattle.yaml_scan_history.specs.Next.{Next, Read, Ends, begun, finished, gap_behind, allowed_behind, misplaced, missed, lost_by, level_in, kind_behind, coming, next}
-use Rattle.yaml_scan_history.specs.Stepwise.{no_colon, not_allowed, tested, unless_wrong, unless_lost, of_kind, unless_missed, behind}
-use Rattle.yaml_scan_history.proofs.StepwiseLemmas.{stepwise}
+use Rattle.yaml_scan_laws_order.specs.scan_model.declared.record.yaml_mark_t.{yaml_mark_t}
+use Rattle.yaml_scan_laws_order.specs.scan_model.Marks.{column_at, mark_at}
+use Rattle.yaml_scan_laws_order.specs.scan_model.Wrong.{Wrong}
+use Rattle.yaml_scan_laws_order.specs.scan_words.Between.{Gap}
+use Rattle.yaml_scan_laws_order.specs.scan_history.declared.kind.Kind.{Kind}
+use Rattle.yaml_scan_laws_order.specs.scan_history.declared.lexeme.Lexeme.{Lexeme}
+use Rattle.yaml_scan_laws_order.specs.scan_history.Kinds.{cancels, is_value, is_start, is_end}
+use Rattle.yaml_scan_laws_order.specs.scan_history.History.{depth, reached, ended, Candidate, candidate, fresh, is_fresh, has, placed, indent, left_by, levels}
+use Rattle.yaml_scan_laws_order.specs.scan_history.Words.{WordText, kind_at, word_at}
+use Rattle.yaml_scan_laws_order.specs.scan_history.Next.{Next, Read, Ends, begun, finished, gap_behind, allowed_behind, misplaced, missed, lost_by, level_in, kind_behind, coming, next}
+use Rattle.yaml_scan_laws_order.specs.scan_history.Stepwise.{no_colon, not_allowed, tested, unless_wrong, unless_lost, of_kind, unless_missed, behind}
+use Rattle.yaml_scan_laws_order.proofs.StepwiseLemmas.{stepwise}
 use Rattle.yaml_scan_laws_levels.specs.Fronts.{Came, IsFree, InTime, read_at}
 use Rattle.yaml_scan_laws_levels.specs.Pushes.{MetIsRead}
 

@@ -2,21 +2,21 @@
 -- further key with brackets.
 use Rattle.std.proofs.Common.{◌≡◌, ℕ, suc, zero, ◌+◌, true, false, List, [], ◌∷◌, refl, ap, ◌∙◌, inl, inr, arith}
 use Rattle.std.proofs.lemmas.Bool.{false≢true}
-use Rattle.yaml_scan_history.specs.scan_model.Marks.{byte, line_at, column_at, break_of, ends_of}
-use Rattle.yaml_scan_history.specs.scan_model.Classes.{is_digit_byte, is_alpha_byte}
-use Rattle.yaml_scan_history.specs.scan_model.Breaks.{is_document_indicator, break_value}
-use Rattle.yaml_scan_history.specs.scan_model.Tokens as tokens
-use Rattle.yaml_scan_history.specs.scan_model.Tokens.{TokenBody}
-use Rattle.yaml_scan_history.specs.scan_words.Indicators.{is_document_start, is_document_end}
-use Rattle.yaml_scan_history.specs.scan_words.Written.{HasAt, begins_lexeme}
-use Rattle.yaml_scan_history.specs.scan_words.Anchors.{may_end_name}
-use Rattle.yaml_scan_history.specs.scan_words.Runs.{run_within, belongs}
-use Rattle.yaml_scan_history.specs.scan_scalars.Plain.{is_bracket, is_indicator_byte, starts_plain, leads, ends_at, spot_at, words}
-use Rattle.yaml_scan_history.specs.scan_scalars.Joined.{joined}
-use Rattle.yaml_scan_history.specs.declared.kind.Kind.TheVariants as kinds
-use Rattle.yaml_scan_history.specs.declared.lexeme.Opens.TheVariants as opening
-use Rattle.yaml_scan_history.specs.History.{indent}
-use Rattle.yaml_scan_history.specs.Words.{WordText, indicator_of, kind_at, word_at}
+use Rattle.yaml_scan_laws_order.specs.scan_model.Marks.{byte, line_at, column_at, break_of, ends_of}
+use Rattle.yaml_scan_laws_order.specs.scan_model.Classes.{is_digit_byte, is_alpha_byte}
+use Rattle.yaml_scan_laws_order.specs.scan_model.Breaks.{is_document_indicator, break_value}
+use Rattle.yaml_scan_laws_order.specs.scan_model.Tokens as tokens
+use Rattle.yaml_scan_laws_order.specs.scan_model.Tokens.{TokenBody}
+use Rattle.yaml_scan_laws_order.specs.scan_words.Indicators.{is_document_start, is_document_end}
+use Rattle.yaml_scan_laws_order.specs.scan_words.Written.{HasAt, begins_lexeme}
+use Rattle.yaml_scan_laws_order.specs.scan_words.Anchors.{may_end_name}
+use Rattle.yaml_scan_laws_order.specs.scan_words.Runs.{run_within, belongs}
+use Rattle.yaml_scan_laws_order.specs.scan_scalars.Plain.{is_bracket, is_indicator_byte, starts_plain, leads, ends_at, spot_at, words}
+use Rattle.yaml_scan_laws_order.specs.scan_scalars.Joined.{joined}
+use Rattle.yaml_scan_laws_order.specs.scan_history.declared.kind.Kind.TheVariants as kinds
+use Rattle.yaml_scan_laws_order.specs.scan_history.declared.lexeme.Opens.TheVariants as opening
+use Rattle.yaml_scan_laws_order.specs.scan_history.History.{indent}
+use Rattle.yaml_scan_laws_order.specs.scan_history.Words.{WordText, indicator_of, kind_at, word_at}
 use Rattle.yaml_scan_laws_levels.specs.Fronts.{Rises}
 use Rattle.yaml_scan_laws_levels.specs.White.{IsGap}
 use Rattle.yaml_scan_laws_levels.specs.Steps.{Comes}

@@ -1,27 +1,27 @@
 -- A text of five lines, lexeme by lexeme: marks of a document, a `?` with a block scalar, and in brackets a key of either kind.
 use Rattle.std.proofs.Common.{◌≡◌, ℕ, suc, zero, ◌+◌, true, false, List, [], ◌∷◌, refl, ap, ◌∙◌, inl, inr, arith}
 use Rattle.std.proofs.lemmas.Bool.{false≢true}
-use Rattle.yaml_scan_history.specs.scan_model.declared.name.yaml_scalar_style_t.TheVariants as styles
-use Rattle.yaml_scan_history.specs.scan_model.Marks.{byte, line_at, column_at, break_of, ends_of}
-use Rattle.yaml_scan_history.specs.scan_model.Classes.{is_digit_byte, is_alpha_byte}
-use Rattle.yaml_scan_history.specs.scan_model.Breaks.{is_document_indicator, break_value}
-use Rattle.yaml_scan_history.specs.scan_model.Tokens as tokens
-use Rattle.yaml_scan_history.specs.scan_model.Tokens.{TokenBody}
-use Rattle.yaml_scan_history.specs.scan_words.Indicators.{is_document_start, is_document_end}
-use Rattle.yaml_scan_history.specs.scan_words.Written.{HasAt}
-use Rattle.yaml_scan_history.specs.scan_words.Anchors.{may_end_name}
-use Rattle.yaml_scan_history.specs.scan_words.Runs.{run_within, belongs}
-use Rattle.yaml_scan_history.specs.scan_model.Runs.{past}
-use Rattle.yaml_scan_history.specs.scan_block.Header.{is_chomping, chomp_of, digit_of, indicators, past_comment, header_at}
-use Rattle.yaml_scan_history.specs.scan_block.Lines.{spaces, spot_behind, lines_from}
-use Rattle.yaml_scan_history.specs.scan_block.Block.{larger, deepest, column_of}
-use Rattle.yaml_scan_history.specs.scan_block.Value.{between}
-use Rattle.yaml_scan_history.specs.scan_scalars.Plain.{is_bracket, is_indicator_byte, starts_plain, leads, ends_at, spot_at, words}
-use Rattle.yaml_scan_history.specs.scan_scalars.Joined.{joined}
-use Rattle.yaml_scan_history.specs.declared.kind.Kind.TheVariants as kinds
-use Rattle.yaml_scan_history.specs.declared.lexeme.Opens.TheVariants as opening
-use Rattle.yaml_scan_history.specs.History.{indent}
-use Rattle.yaml_scan_history.specs.Words.{WordText, indicator_of, kind_at, word_at}
+use Rattle.yaml_scan_laws_order.specs.scan_model.declared.name.yaml_scalar_style_t.TheVariants as styles
+use Rattle.yaml_scan_laws_order.specs.scan_model.Marks.{byte, line_at, column_at, break_of, ends_of}
+use Rattle.yaml_scan_laws_order.specs.scan_model.Classes.{is_digit_byte, is_alpha_byte}
+use Rattle.yaml_scan_laws_order.specs.scan_model.Breaks.{is_document_indicator, break_value}
+use Rattle.yaml_scan_laws_order.specs.scan_model.Tokens as tokens
+use Rattle.yaml_scan_laws_order.specs.scan_model.Tokens.{TokenBody}
+use Rattle.yaml_scan_laws_order.specs.scan_words.Indicators.{is_document_start, is_document_end}
+use Rattle.yaml_scan_laws_order.specs.scan_words.Written.{HasAt}
+use Rattle.yaml_scan_laws_order.specs.scan_words.Anchors.{may_end_name}
+use Rattle.yaml_scan_laws_order.specs.scan_words.Runs.{run_within, belongs}
+use Rattle.yaml_scan_laws_order.specs.scan_model.Runs.{past}
+use Rattle.yaml_scan_laws_order.specs.scan_block.Header.{is_chomping, chomp_of, digit_of, indicators, past_comment, header_at}
+use Rattle.yaml_scan_laws_order.specs.scan_block.Lines.{spaces, spot_behind, lines_from}
+use Rattle.yaml_scan_laws_order.specs.scan_block.Block.{larger, deepest, column_of}
+use Rattle.yaml_scan_laws_order.specs.scan_block.Value.{between}
+use Rattle.yaml_scan_laws_order.specs.scan_scalars.Plain.{is_bracket, is_indicator_byte, starts_plain, leads, ends_at, spot_at, words}
+use Rattle.yaml_scan_laws_order.specs.scan_scalars.Joined.{joined}
+use Rattle.yaml_scan_laws_order.specs.scan_history.declared.kind.Kind.TheVariants as kinds
+use Rattle.yaml_scan_laws_order.specs.scan_history.declared.lexeme.Opens.TheVariants as opening
+use Rattle.yaml_scan_laws_order.specs.scan_history.History.{indent}
+use Rattle.yaml_scan_laws_order.specs.scan_history.Words.{WordText, indicator_of, kind_at, word_at}
 use Rattle.yaml_scan_laws_levels.specs.Fronts.{Rises}
 use Rattle.yaml_scan_laws_levels.specs.Steps.{Comes}
 use Rattle.yaml_scan_laws_levels.specs.Rows.{row_of_keys, plain, KeysAreRead}

@@ -1,15 +1,15 @@
 -- Words of one byte, and the marks of documents and of the stream's end.
 use Rattle.std.proofs.Common.{◌≡◌, ℕ, ◌+◌, ◌<◌, ◌==◌, ◌&&◌, ◌||◌, not, nat_lt, cond, Bool, true, false, List, length, Option, Some, Ok, refl, sym, ap, ◌∙◌, arith}
 use Rattle.std.proofs.lemmas.Bool.Decides.{nat_tests}
-use Rattle.yaml_scan_history.specs.scan_model.Marks.{byte, break_of, break_width, column_at, is_blank_or_end}
-use Rattle.yaml_scan_history.specs.scan_model.Classes.{is_bom}
-use Rattle.yaml_scan_history.specs.scan_model.Tokens as tokens
-use Rattle.yaml_scan_history.specs.scan_model.Tokens.{TokenBody}
-use Rattle.yaml_scan_history.specs.scan_words.Indicators.{is_document_start, is_document_end}
-use Rattle.yaml_scan_history.specs.scan_scalars.Plain.{starts_plain}
-use Rattle.yaml_scan_history.specs.declared.kind.Kind.{Kind}
-use Rattle.yaml_scan_history.specs.declared.kind.Kind.TheVariants as kinds
-use Rattle.yaml_scan_history.specs.Words.{indicator_of, or_plain, kind_at, word_at}
+use Rattle.yaml_scan_laws_order.specs.scan_model.Marks.{byte, break_of, break_width, column_at, is_blank_or_end}
+use Rattle.yaml_scan_laws_order.specs.scan_model.Classes.{is_bom}
+use Rattle.yaml_scan_laws_order.specs.scan_model.Tokens as tokens
+use Rattle.yaml_scan_laws_order.specs.scan_model.Tokens.{TokenBody}
+use Rattle.yaml_scan_laws_order.specs.scan_words.Indicators.{is_document_start, is_document_end}
+use Rattle.yaml_scan_laws_order.specs.scan_scalars.Plain.{starts_plain}
+use Rattle.yaml_scan_laws_order.specs.scan_history.declared.kind.Kind.{Kind}
+use Rattle.yaml_scan_laws_order.specs.scan_history.declared.kind.Kind.TheVariants as kinds
+use Rattle.yaml_scan_laws_order.specs.scan_history.Words.{indicator_of, or_plain, kind_at, word_at}
 use Rattle.yaml_scan_laws_levels.specs.White.{IsGap}
 use Rattle.yaml_scan_laws_levels.specs.Steps.{Comes}
 use Rattle.yaml_scan_laws_levels.specs.Signs.{sign, SignComes, MarkComes, SignsCome, MarksCome, PrintedBegins, LevelIsOut}

@@ -3,14 +3,14 @@ use Rattle.std.proofs.Common.{◌≡◌, ◌⊎◌, ℕ, suc, ◌+◌, ◌-◌, 
 use Rattle.std.specs.Prelude.{if◌then◌else◌}
 use Rattle.std.proofs.lemmas.Bool.{cases_Bool, and_parts}
 use Rattle.std.proofs.lemmas.Bool.Decides.{nat_tests}
-use Rattle.yaml_scan_history.specs.scan_model.Marks.{byte, ends_of, ends_break, starts, line_at, column_at, mark_at}
-use Rattle.yaml_scan_history.specs.scan_words.Written.{are_gap, has_break, begins_lexeme}
-use Rattle.yaml_scan_history.specs.declared.lexeme.Lexeme.{Lexeme}
-use Rattle.yaml_scan_history.specs.declared.lexeme.Opens.{Opens}
-use Rattle.yaml_scan_history.specs.declared.lexeme.Opens.TheVariants as opening
-use Rattle.yaml_scan_history.specs.Kinds.{cancels}
-use Rattle.yaml_scan_history.specs.History.{Candidate, candidate, fresh, indent, opened, start_of}
-use Rattle.yaml_scan_history.proofs.MarksLemmas.{line_more, line_end, column_more, column_end}
+use Rattle.yaml_scan_laws_order.specs.scan_model.Marks.{byte, ends_of, ends_break, starts, line_at, column_at, mark_at}
+use Rattle.yaml_scan_laws_order.specs.scan_words.Written.{are_gap, has_break, begins_lexeme}
+use Rattle.yaml_scan_laws_order.specs.scan_history.declared.lexeme.Lexeme.{Lexeme}
+use Rattle.yaml_scan_laws_order.specs.scan_history.declared.lexeme.Opens.{Opens}
+use Rattle.yaml_scan_laws_order.specs.scan_history.declared.lexeme.Opens.TheVariants as opening
+use Rattle.yaml_scan_laws_order.specs.scan_history.Kinds.{cancels}
+use Rattle.yaml_scan_laws_order.specs.scan_history.History.{Candidate, candidate, fresh, indent, opened, start_of}
+use Rattle.yaml_scan_laws_order.proofs.MarksLemmas.{line_more, line_end, column_more, column_end}
 use Rattle.yaml_scan_laws_order.proofs.MarksForward.{line_at-grows}
 use Rattle.yaml_scan_laws_levels.specs.Fronts.{read_at}
 use Rattle.yaml_scan_laws_levels.specs.White.{IsGap}

@@ -1,15 +1,15 @@
 -- One lexeme more behind lexemes at a place.
 use Rattle.std.proofs.Common.{◌≡◌, ℕ, ◌+◌, ◌≤◌, ◌==◌, ◌&&◌, ◌||◌, not, nat_lt, Bool, true, false, List, [], ◌∷◌, length, Option, refl, sym, ap, subst, ◌∙◌, arith}
 use Rattle.std.proofs.Math.Bool.{or-false}
-use Rattle.yaml_scan_history.specs.scan_model.Marks.{line_at, mark_at}
-use Rattle.yaml_scan_history.specs.declared.kind.Kind.{Kind}
-use Rattle.yaml_scan_history.specs.declared.kind.Kind.TheVariants as kinds
-use Rattle.yaml_scan_history.specs.declared.lexeme.Lexeme.{Lexeme}
-use Rattle.yaml_scan_history.specs.declared.lexeme.Entry.{Entry}
-use Rattle.yaml_scan_history.specs.Kinds.{depth_after, may_be_key, allows_key, is_value, is_outside, is_end}
-use Rattle.yaml_scan_history.specs.History.{depth, Candidate, candidate, fresh, has, indent}
-use Rattle.yaml_scan_history.specs.Words.{WordText}
-use Rattle.yaml_scan_history.specs.Next.{first_lexeme}
+use Rattle.yaml_scan_laws_order.specs.scan_model.Marks.{line_at, mark_at}
+use Rattle.yaml_scan_laws_order.specs.scan_history.declared.kind.Kind.{Kind}
+use Rattle.yaml_scan_laws_order.specs.scan_history.declared.kind.Kind.TheVariants as kinds
+use Rattle.yaml_scan_laws_order.specs.scan_history.declared.lexeme.Lexeme.{Lexeme}
+use Rattle.yaml_scan_laws_order.specs.scan_history.declared.lexeme.Entry.{Entry}
+use Rattle.yaml_scan_laws_order.specs.scan_history.Kinds.{depth_after, may_be_key, allows_key, is_value, is_outside, is_end}
+use Rattle.yaml_scan_laws_order.specs.scan_history.History.{depth, Candidate, candidate, fresh, has, indent}
+use Rattle.yaml_scan_laws_order.specs.scan_history.Words.{WordText}
+use Rattle.yaml_scan_laws_order.specs.scan_history.Next.{first_lexeme}
 use Rattle.yaml_scan_laws_order.proofs.MarksForward.{line_at-grows}
 use Rattle.yaml_scan_laws_levels.specs.Fronts.{Front, Meets, read_at}
 use Rattle.yaml_scan_laws_levels.specs.Pushes.{IsLone}

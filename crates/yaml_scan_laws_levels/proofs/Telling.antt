@@ -2,13 +2,13 @@
 use Rattle.std.proofs.Common.{◌≡◌, ℕ, zero, suc, Bool, true, false, List, [], ◌∷◌, ◌++◌, map, replicate, flat_map, refl, sym, ap, ◌∙◌, append_assoc}
 use Rattle.std.proofs.lemmas.List.{append_cancel_left}
 use Rattle.std.proofs.lemmas.Grind.{flat_map-append}
-use Rattle.yaml_scan_history.specs.scan_model.Tokens.{Token, TokenBody, block_end, key}
-use Rattle.yaml_scan_history.specs.declared.lexeme.Lexeme.{Lexeme}
-use Rattle.yaml_scan_history.specs.declared.lexeme.Entry.{Entry}
-use Rattle.yaml_scan_history.specs.declared.lexeme.Opens.{Opens}
-use Rattle.yaml_scan_history.specs.declared.lexeme.Opens.TheVariants as opening
-use Rattle.yaml_scan_history.specs.History.{margin_at, start_of, as_key}
-use Rattle.yaml_scan_history.specs.Remaining.{SpelledText, body_in, before, spell, start_tokens, own_tokens}
+use Rattle.yaml_scan_laws_order.specs.scan_model.Tokens.{Token, TokenBody, block_end, key}
+use Rattle.yaml_scan_laws_order.specs.scan_history.declared.lexeme.Lexeme.{Lexeme}
+use Rattle.yaml_scan_laws_order.specs.scan_history.declared.lexeme.Entry.{Entry}
+use Rattle.yaml_scan_laws_order.specs.scan_history.declared.lexeme.Opens.{Opens}
+use Rattle.yaml_scan_laws_order.specs.scan_history.declared.lexeme.Opens.TheVariants as opening
+use Rattle.yaml_scan_laws_order.specs.scan_history.History.{margin_at, start_of, as_key}
+use Rattle.yaml_scan_laws_order.specs.scan_history.Remaining.{SpelledText, body_in, before, spell, start_tokens, own_tokens}
 use Rattle.yaml_scan_laws_levels.specs.Fronts.{entry}
 use Rattle.yaml_scan_laws_levels.specs.Tokens.{bodies_of, told, start_bodies, WordTells, LevelTells, KeyTells}
 

@@ -4,21 +4,21 @@ use Rattle.std.proofs.lemmas.Bool.Decides.{nat_tests}
 use Rattle.std.proofs.lemmas.List.{append-nil}
 use Rattle.std.proofs.lemmas.Bool.{and_parts}
 use Rattle.std.proofs.Math.Bool.{and-false}
-use Rattle.yaml_scan_history.specs.scan_model.declared.record.yaml_mark_t.{yaml_mark_t}
-use Rattle.yaml_scan_history.specs.scan_model.declared.name.yaml_encoding_t.{yaml_encoding_t}
-use Rattle.yaml_scan_history.specs.scan_model.Marks.{line_at, column_at, mark_at}
-use Rattle.yaml_scan_history.specs.scan_model.Tokens.{TokenBody, stream_end, block_end, key}
-use Rattle.yaml_scan_history.specs.declared.kind.Kind.{Kind}
-use Rattle.yaml_scan_history.specs.declared.kind.Kind.TheVariants as kinds
-use Rattle.yaml_scan_history.specs.declared.lexeme.Lexeme.{Lexeme}
-use Rattle.yaml_scan_history.specs.declared.lexeme.Entry.{Entry}
-use Rattle.yaml_scan_history.specs.declared.lexeme.Opens.{Opens}
-use Rattle.yaml_scan_history.specs.declared.lexeme.Opens.TheVariants as opening
-use Rattle.yaml_scan_history.specs.Kinds.{depth_after, allows_key, is_value}
-use Rattle.yaml_scan_history.specs.History.{depth, Candidate, candidate, is_fresh, margin_at, indent, opened, start_of, level_of}
-use Rattle.yaml_scan_history.specs.Words.{WordText}
-use Rattle.yaml_scan_history.specs.Next.{first_lexeme}
-use Rattle.yaml_scan_history.specs.Remaining.{SpelledText, spell}
+use Rattle.yaml_scan_laws_order.specs.scan_model.declared.record.yaml_mark_t.{yaml_mark_t}
+use Rattle.yaml_scan_laws_order.specs.scan_model.declared.name.yaml_encoding_t.{yaml_encoding_t}
+use Rattle.yaml_scan_laws_order.specs.scan_model.Marks.{line_at, column_at, mark_at}
+use Rattle.yaml_scan_laws_order.specs.scan_model.Tokens.{TokenBody, stream_end, block_end, key}
+use Rattle.yaml_scan_laws_order.specs.scan_history.declared.kind.Kind.{Kind}
+use Rattle.yaml_scan_laws_order.specs.scan_history.declared.kind.Kind.TheVariants as kinds
+use Rattle.yaml_scan_laws_order.specs.scan_history.declared.lexeme.Lexeme.{Lexeme}
+use Rattle.yaml_scan_laws_order.specs.scan_history.declared.lexeme.Entry.{Entry}
+use Rattle.yaml_scan_laws_order.specs.scan_history.declared.lexeme.Opens.{Opens}
+use Rattle.yaml_scan_laws_order.specs.scan_history.declared.lexeme.Opens.TheVariants as opening
+use Rattle.yaml_scan_laws_order.specs.scan_history.Kinds.{depth_after, allows_key, is_value}
+use Rattle.yaml_scan_laws_order.specs.scan_history.History.{depth, Candidate, candidate, is_fresh, margin_at, indent, opened, start_of, level_of}
+use Rattle.yaml_scan_laws_order.specs.scan_history.Words.{WordText}
+use Rattle.yaml_scan_laws_order.specs.scan_history.Next.{first_lexeme}
+use Rattle.yaml_scan_laws_order.specs.scan_history.Remaining.{SpelledText, spell}
 use Rattle.yaml_scan_laws_levels.specs.Fronts.{Rises, LeavesLevels, Meets, Says, entry, read_at}
 use Rattle.yaml_scan_laws_levels.specs.Pushes.{IsRight, IsLone, stays_level}
 use Rattle.yaml_scan_laws_levels.specs.Tokens.{told, start_bodies}

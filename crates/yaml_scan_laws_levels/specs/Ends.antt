@@ -1,17 +1,17 @@
 -- How a text begins and ends.
 use Rattle.std.specs.Prelude.{◌≡◌, ℕ, Bool, List, [], ◌∷◌, ◌++◌, length, None}
 use Rattle.std.specs.List.{flat_map}
-use Rattle.yaml_scan_history.specs.scan_model.declared.name.yaml_encoding_t.{yaml_encoding_t}
-use Rattle.yaml_scan_history.specs.scan_model.Marks.{mark_at}
-use Rattle.yaml_scan_history.specs.scan_model.Tokens.{TokenBody, stream_start, stream_end}
-use Rattle.yaml_scan_history.specs.declared.kind.Kind.TheVariants as kinds
-use Rattle.yaml_scan_history.specs.declared.lexeme.Lexeme.{Lexeme}
-use Rattle.yaml_scan_history.specs.declared.lexeme.Entry.{Entry}
-use Rattle.yaml_scan_history.specs.declared.lexeme.Opens.TheVariants as opening
-use Rattle.yaml_scan_history.specs.History.{placed}
-use Rattle.yaml_scan_history.specs.Words.{WordText}
-use Rattle.yaml_scan_history.specs.Next.{first_lexeme, begun}
-use Rattle.yaml_scan_history.specs.Remaining.{SpelledText, spell, offline}
+use Rattle.yaml_scan_laws_order.specs.scan_model.declared.name.yaml_encoding_t.{yaml_encoding_t}
+use Rattle.yaml_scan_laws_order.specs.scan_model.Marks.{mark_at}
+use Rattle.yaml_scan_laws_order.specs.scan_model.Tokens.{TokenBody, stream_start, stream_end}
+use Rattle.yaml_scan_laws_order.specs.scan_history.declared.kind.Kind.TheVariants as kinds
+use Rattle.yaml_scan_laws_order.specs.scan_history.declared.lexeme.Lexeme.{Lexeme}
+use Rattle.yaml_scan_laws_order.specs.scan_history.declared.lexeme.Entry.{Entry}
+use Rattle.yaml_scan_laws_order.specs.scan_history.declared.lexeme.Opens.TheVariants as opening
+use Rattle.yaml_scan_laws_order.specs.scan_history.History.{placed}
+use Rattle.yaml_scan_laws_order.specs.scan_history.Words.{WordText}
+use Rattle.yaml_scan_laws_order.specs.scan_history.Next.{first_lexeme, begun}
+use Rattle.yaml_scan_laws_order.specs.scan_history.Remaining.{SpelledText, spell, offline}
 use Rattle.yaml_scan_laws_levels.specs.Fronts.{Front, Idle, Meets, entry}
 use Rattle.yaml_scan_laws_levels.specs.Tokens.{bodies_of, told}
 

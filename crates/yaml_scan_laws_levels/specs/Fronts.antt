@@ -1,17 +1,17 @@
 -- What is known behind lexemes that came one behind the other.
 use Rattle.std.specs.Prelude.{◌≡◌, ◌⊎◌, ◌<◌, ◌-◌, ℕ, Bool, true, false, List, [], ◌∷◌, ◌&&◌, nat_lt, length, Option, Some, None, Ok}
-use Rattle.yaml_scan_history.specs.scan_model.declared.record.yaml_mark_t.{yaml_mark_t}
-use Rattle.yaml_scan_history.specs.scan_model.declared.name.yaml_encoding_t.{yaml_encoding_t}
-use Rattle.yaml_scan_history.specs.scan_model.Marks.{column_at, mark_at}
-use Rattle.yaml_scan_history.specs.declared.kind.Kind.{Kind}
-use Rattle.yaml_scan_history.specs.declared.lexeme.Lexeme.{Lexeme}
-use Rattle.yaml_scan_history.specs.declared.lexeme.Entry.{Entry}
-use Rattle.yaml_scan_history.specs.declared.lexeme.Opens.{Opens}
-use Rattle.yaml_scan_history.specs.Kinds.{may_be_key, is_outside}
-use Rattle.yaml_scan_history.specs.History.{depth, ended, Candidate, candidate, is_fresh, left_by, levels, entries}
-use Rattle.yaml_scan_history.specs.Words.{WordText, kind_at, word_at}
-use Rattle.yaml_scan_history.specs.Next.{Read, next, first_lexeme, gap_behind, allowed_behind, begun, level_in}
-use Rattle.yaml_scan_history.specs.Remaining.{body_in}
+use Rattle.yaml_scan_laws_order.specs.scan_model.declared.record.yaml_mark_t.{yaml_mark_t}
+use Rattle.yaml_scan_laws_order.specs.scan_model.declared.name.yaml_encoding_t.{yaml_encoding_t}
+use Rattle.yaml_scan_laws_order.specs.scan_model.Marks.{column_at, mark_at}
+use Rattle.yaml_scan_laws_order.specs.scan_history.declared.kind.Kind.{Kind}
+use Rattle.yaml_scan_laws_order.specs.scan_history.declared.lexeme.Lexeme.{Lexeme}
+use Rattle.yaml_scan_laws_order.specs.scan_history.declared.lexeme.Entry.{Entry}
+use Rattle.yaml_scan_laws_order.specs.scan_history.declared.lexeme.Opens.{Opens}
+use Rattle.yaml_scan_laws_order.specs.scan_history.Kinds.{may_be_key, is_outside}
+use Rattle.yaml_scan_laws_order.specs.scan_history.History.{depth, ended, Candidate, candidate, is_fresh, left_by, levels, entries}
+use Rattle.yaml_scan_laws_order.specs.scan_history.Words.{WordText, kind_at, word_at}
+use Rattle.yaml_scan_laws_order.specs.scan_history.Next.{Read, next, first_lexeme, gap_behind, allowed_behind, begun, level_in}
+use Rattle.yaml_scan_laws_order.specs.scan_history.Remaining.{body_in}
 
 -- Lexemes that come one behind the other, from the stream's start on; the newest stands first.
 unfoldable pub Came : List ℕ → List Lexeme → Type 0

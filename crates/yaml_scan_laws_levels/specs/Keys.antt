@@ -1,14 +1,14 @@
 -- Simple keys, of one word or several, and their `:`.
 use Rattle.std.specs.Prelude.{◌≡◌, ◌⊎◌, ◌<◌, ℕ, Bool, true, false, not, ◌&&◌, nat_lt, List, [], ◌∷◌, ◌++◌, length}
-use Rattle.yaml_scan_history.specs.scan_model.Marks.{column_at, mark_at}
-use Rattle.yaml_scan_history.specs.declared.kind.Kind.{Kind}
-use Rattle.yaml_scan_history.specs.declared.kind.Kind.TheVariants as kinds
-use Rattle.yaml_scan_history.specs.declared.lexeme.Lexeme.{Lexeme}
-use Rattle.yaml_scan_history.specs.declared.lexeme.Entry.{Entry}
-use Rattle.yaml_scan_history.specs.declared.lexeme.Opens.TheVariants as opening
-use Rattle.yaml_scan_history.specs.Kinds.{depth_after, may_be_key, cancels}
-use Rattle.yaml_scan_history.specs.History.{Candidate, is_fresh, margin_at, indent, opened, as_key}
-use Rattle.yaml_scan_history.specs.Words.{WordText}
+use Rattle.yaml_scan_laws_order.specs.scan_model.Marks.{column_at, mark_at}
+use Rattle.yaml_scan_laws_order.specs.scan_history.declared.kind.Kind.{Kind}
+use Rattle.yaml_scan_laws_order.specs.scan_history.declared.kind.Kind.TheVariants as kinds
+use Rattle.yaml_scan_laws_order.specs.scan_history.declared.lexeme.Lexeme.{Lexeme}
+use Rattle.yaml_scan_laws_order.specs.scan_history.declared.lexeme.Entry.{Entry}
+use Rattle.yaml_scan_laws_order.specs.scan_history.declared.lexeme.Opens.TheVariants as opening
+use Rattle.yaml_scan_laws_order.specs.scan_history.Kinds.{depth_after, may_be_key, cancels}
+use Rattle.yaml_scan_laws_order.specs.scan_history.History.{Candidate, is_fresh, margin_at, indent, opened, as_key}
+use Rattle.yaml_scan_laws_order.specs.scan_history.Words.{WordText}
 use Rattle.yaml_scan_laws_levels.specs.Fronts.{Front, Idle, Holds, LeavesLevels, Meets, Pushed, Held, entry, read_at}
 use Rattle.yaml_scan_laws_levels.specs.Pushes.{IsRight, IsLone, stays_level}
 

@@ -1,13 +1,13 @@
 -- The tokens of a text, lexeme by lexeme, by looking back.
 use Rattle.std.specs.Prelude.{◌≡◌, ℕ, ◌-◌, Bool, true, false, not, ◌&&◌, ◌||◌, ◌==◌, nat_lt, if◌then◌else◌, List, [], ◌∷◌, ◌++◌, length, replicate, Option, Some, None}
-use Rattle.yaml_scan_history.specs.scan_model.Tokens.{Token, block_end, key}
-use Rattle.yaml_scan_history.specs.declared.lexeme.Lexeme.{Lexeme}
-use Rattle.yaml_scan_history.specs.declared.lexeme.Opens.{Opens}
-use Rattle.yaml_scan_history.specs.declared.lexeme.Opens.TheVariants as opening
-use Rattle.yaml_scan_history.specs.Kinds.{is_value, is_start}
-use Rattle.yaml_scan_history.specs.History.{Candidate, has_number, found_by, first_open, indent, inside, levels, level_of, opens_at}
-use Rattle.yaml_scan_history.specs.Next.{Next, Read, Fails, Ends, next}
-use Rattle.yaml_scan_history.specs.Remaining.{SpelledText, before, token_in, start_tokens, all, fault_in, Remaining, offline}
+use Rattle.yaml_scan_laws_order.specs.scan_model.Tokens.{Token, block_end, key}
+use Rattle.yaml_scan_laws_order.specs.scan_history.declared.lexeme.Lexeme.{Lexeme}
+use Rattle.yaml_scan_laws_order.specs.scan_history.declared.lexeme.Opens.{Opens}
+use Rattle.yaml_scan_laws_order.specs.scan_history.declared.lexeme.Opens.TheVariants as opening
+use Rattle.yaml_scan_laws_order.specs.scan_history.Kinds.{is_value, is_start}
+use Rattle.yaml_scan_laws_order.specs.scan_history.History.{Candidate, has_number, found_by, first_open, indent, inside, levels, level_of, opens_at}
+use Rattle.yaml_scan_laws_order.specs.scan_history.Next.{Next, Read, Fails, Ends, next}
+use Rattle.yaml_scan_laws_order.specs.scan_history.Remaining.{SpelledText, before, token_in, start_tokens, all, fault_in, Remaining, offline}
 
 -- A lexeme is a `:` that finds lexeme n.
 abbrev pub finds : Lexeme → List Lexeme → ℕ → Bool

@@ -1,14 +1,14 @@
 -- What a lexeme makes of what is known behind those before it.
 use Rattle.std.specs.Prelude.{◌≡◌, ◌⊎◌, ◌≤◌, ℕ, Bool, true, false, not, ◌&&◌, ◌||◌, nat_lt, List, [], ◌∷◌, ◌++◌, length, None}
-use Rattle.yaml_scan_history.specs.scan_model.Marks.{column_at, mark_at}
-use Rattle.yaml_scan_history.specs.declared.kind.Kind.{Kind}
-use Rattle.yaml_scan_history.specs.declared.lexeme.Lexeme.{Lexeme}
-use Rattle.yaml_scan_history.specs.declared.lexeme.Entry.{Entry}
-use Rattle.yaml_scan_history.specs.declared.lexeme.Opens.TheVariants as opening
-use Rattle.yaml_scan_history.specs.Kinds.{depth_after, is_outside, may_be_key, cancels, is_value, is_start, is_end}
-use Rattle.yaml_scan_history.specs.History.{has, candidate, fresh, margin_at, indent, left_by, opened, start_of, level_of}
-use Rattle.yaml_scan_history.specs.Words.{WordText}
-use Rattle.yaml_scan_history.specs.Next.{Read, next}
+use Rattle.yaml_scan_laws_order.specs.scan_model.Marks.{column_at, mark_at}
+use Rattle.yaml_scan_laws_order.specs.scan_history.declared.kind.Kind.{Kind}
+use Rattle.yaml_scan_laws_order.specs.scan_history.declared.lexeme.Lexeme.{Lexeme}
+use Rattle.yaml_scan_laws_order.specs.scan_history.declared.lexeme.Entry.{Entry}
+use Rattle.yaml_scan_laws_order.specs.scan_history.declared.lexeme.Opens.TheVariants as opening
+use Rattle.yaml_scan_laws_order.specs.scan_history.Kinds.{depth_after, is_outside, may_be_key, cancels, is_value, is_start, is_end}
+use Rattle.yaml_scan_laws_order.specs.scan_history.History.{has, candidate, fresh, margin_at, indent, left_by, opened, start_of, level_of}
+use Rattle.yaml_scan_laws_order.specs.scan_history.Words.{WordText}
+use Rattle.yaml_scan_laws_order.specs.scan_history.Next.{Read, next}
 use Rattle.yaml_scan_laws_levels.specs.Fronts.{Front, IsFree, InTime, Idle, LeavesLevels, Meets, Pushed, Rises, entry, read_at}
 
 -- a `-`, a `?` or a `:` stands where a key may begin, or behind a candidate that takes it, or in

@@ -1,9 +1,9 @@
 -- Two small texts, and their tokens.
 use Rattle.std.specs.Prelude.{ℕ, List, [], ◌∷◌}
-use Rattle.yaml_scan_history.specs.scan_model.declared.name.yaml_encoding_t.{yaml_encoding_t}
-use Rattle.yaml_scan_history.specs.scan_model.declared.name.yaml_scalar_style_t.TheVariants as styles
-use Rattle.yaml_scan_history.specs.scan_model.Tokens as tokens
-use Rattle.yaml_scan_history.specs.scan_model.Tokens.{TokenBody}
+use Rattle.yaml_scan_laws_order.specs.scan_model.declared.name.yaml_encoding_t.{yaml_encoding_t}
+use Rattle.yaml_scan_laws_order.specs.scan_model.declared.name.yaml_scalar_style_t.TheVariants as styles
+use Rattle.yaml_scan_laws_order.specs.scan_model.Tokens as tokens
+use Rattle.yaml_scan_laws_order.specs.scan_model.Tokens.{TokenBody}
 use Rattle.yaml_scan_laws_levels.specs.Walks.{Done}
 
 -- `&x k:`, `- a`, `- - b`, `q: [c]`

@@ -1,13 +1,13 @@
 -- Words of one byte, and the marks of documents and of the stream's end: what stands there comes.
 use Rattle.std.specs.Prelude.{◌≡◌, ◌<◌, ◌+◌, ℕ, Bool, true, false, List, length}
-use Rattle.yaml_scan_history.specs.scan_model.Marks.{byte, is_blank_or_end}
-use Rattle.yaml_scan_history.specs.scan_model.Tokens as tokens
-use Rattle.yaml_scan_history.specs.scan_model.Tokens.{TokenBody}
-use Rattle.yaml_scan_history.specs.scan_words.Indicators.{is_document_start, is_document_end}
-use Rattle.yaml_scan_history.specs.scan_words.Written.{begins_lexeme}
-use Rattle.yaml_scan_history.specs.declared.kind.Kind.{Kind}
-use Rattle.yaml_scan_history.specs.declared.kind.Kind.TheVariants as kinds
-use Rattle.yaml_scan_history.specs.Words.{WordText, word_at}
+use Rattle.yaml_scan_laws_order.specs.scan_model.Marks.{byte, is_blank_or_end}
+use Rattle.yaml_scan_laws_order.specs.scan_model.Tokens as tokens
+use Rattle.yaml_scan_laws_order.specs.scan_model.Tokens.{TokenBody}
+use Rattle.yaml_scan_laws_order.specs.scan_words.Indicators.{is_document_start, is_document_end}
+use Rattle.yaml_scan_laws_order.specs.scan_words.Written.{begins_lexeme}
+use Rattle.yaml_scan_laws_order.specs.scan_history.declared.kind.Kind.{Kind}
+use Rattle.yaml_scan_laws_order.specs.scan_history.declared.kind.Kind.TheVariants as kinds
+use Rattle.yaml_scan_laws_order.specs.scan_history.Words.{WordText, word_at}
 use Rattle.yaml_scan_laws_levels.specs.White.{IsGap}
 use Rattle.yaml_scan_laws_levels.specs.Steps.{Comes}
 

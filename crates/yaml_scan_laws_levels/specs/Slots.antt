@@ -1,16 +1,16 @@
 -- Where candidates stand: which `:` meets none, and which is near its key; levels that open;
 -- columns behind white.
 use Rattle.std.specs.Prelude.{◌≡◌, ◌<◌, ◌≤◌, ◌+◌, ◌==◌, ℕ, Bool, true, false, not, ◌&&◌, nat_lt, if◌then◌else◌, List, [], ◌∷◌, ◌++◌, length, Option, Some, None}
-use Rattle.yaml_scan_history.specs.scan_model.declared.record.yaml_mark_t.{yaml_mark_t}
-use Rattle.yaml_scan_history.specs.scan_model.Marks.{byte, line_at, column_at, mark_at}
-use Rattle.yaml_scan_history.specs.scan_words.Written.{has_break}
-use Rattle.yaml_scan_history.specs.declared.kind.Kind.{Kind}
-use Rattle.yaml_scan_history.specs.declared.lexeme.Lexeme.{Lexeme}
-use Rattle.yaml_scan_history.specs.declared.lexeme.Opens.{Opens}
-use Rattle.yaml_scan_history.specs.declared.lexeme.Opens.TheVariants as opening
-use Rattle.yaml_scan_history.specs.Kinds.{may_be_key, cancels}
-use Rattle.yaml_scan_history.specs.History.{depth, Candidate, candidate, fresh, is_fresh, indent, opened, start_of}
-use Rattle.yaml_scan_history.specs.Words.{WordText}
+use Rattle.yaml_scan_laws_order.specs.scan_model.declared.record.yaml_mark_t.{yaml_mark_t}
+use Rattle.yaml_scan_laws_order.specs.scan_model.Marks.{byte, line_at, column_at, mark_at}
+use Rattle.yaml_scan_laws_order.specs.scan_words.Written.{has_break}
+use Rattle.yaml_scan_laws_order.specs.scan_history.declared.kind.Kind.{Kind}
+use Rattle.yaml_scan_laws_order.specs.scan_history.declared.lexeme.Lexeme.{Lexeme}
+use Rattle.yaml_scan_laws_order.specs.scan_history.declared.lexeme.Opens.{Opens}
+use Rattle.yaml_scan_laws_order.specs.scan_history.declared.lexeme.Opens.TheVariants as opening
+use Rattle.yaml_scan_laws_order.specs.scan_history.Kinds.{may_be_key, cancels}
+use Rattle.yaml_scan_laws_order.specs.scan_history.History.{depth, Candidate, candidate, fresh, is_fresh, indent, opened, start_of}
+use Rattle.yaml_scan_laws_order.specs.scan_history.Words.{WordText}
 use Rattle.yaml_scan_laws_levels.specs.Fronts.{read_at}
 use Rattle.yaml_scan_laws_levels.specs.White.{IsGap}
 use Rattle.yaml_scan_laws_levels.specs.Keys.{IsInKey}

@@ -1,17 +1,17 @@
 -- What is known behind lexemes at a place in the text, and one lexeme more: the form that a walk
 -- over a layout takes.
 use Rattle.std.specs.Prelude.{◌≡◌, ◌≤◌, ◌+◌, ◌==◌, ℕ, Bool, true, false, not, ◌&&◌, ◌||◌, nat_lt, List, [], ◌∷◌, ◌++◌, length, Some, Ok}
-use Rattle.yaml_scan_history.specs.scan_model.Marks.{line_at, column_at, mark_at}
-use Rattle.yaml_scan_history.specs.scan_words.Written.{HasAt, are_gap, has_break}
-use Rattle.yaml_scan_history.specs.declared.kind.Kind.{Kind}
-use Rattle.yaml_scan_history.specs.declared.kind.Kind.TheVariants as kinds
-use Rattle.yaml_scan_history.specs.declared.lexeme.Lexeme.{Lexeme}
-use Rattle.yaml_scan_history.specs.declared.lexeme.Entry.{Entry}
-use Rattle.yaml_scan_history.specs.declared.lexeme.Opens.TheVariants as opening
-use Rattle.yaml_scan_history.specs.Kinds.{depth_after, may_be_key, allows_key, is_start, is_outside, is_end}
-use Rattle.yaml_scan_history.specs.History.{depth, reached, key_allowed, Candidate, is_fresh, margin_at, indent, opened, start_of, level_of, as_key}
-use Rattle.yaml_scan_history.specs.Words.{WordText, kind_at, word_at}
-use Rattle.yaml_scan_history.specs.Next.{first_lexeme}
+use Rattle.yaml_scan_laws_order.specs.scan_model.Marks.{line_at, column_at, mark_at}
+use Rattle.yaml_scan_laws_order.specs.scan_words.Written.{HasAt, are_gap, has_break}
+use Rattle.yaml_scan_laws_order.specs.scan_history.declared.kind.Kind.{Kind}
+use Rattle.yaml_scan_laws_order.specs.scan_history.declared.kind.Kind.TheVariants as kinds
+use Rattle.yaml_scan_laws_order.specs.scan_history.declared.lexeme.Lexeme.{Lexeme}
+use Rattle.yaml_scan_laws_order.specs.scan_history.declared.lexeme.Entry.{Entry}
+use Rattle.yaml_scan_laws_order.specs.scan_history.declared.lexeme.Opens.TheVariants as opening
+use Rattle.yaml_scan_laws_order.specs.scan_history.Kinds.{depth_after, may_be_key, allows_key, is_start, is_outside, is_end}
+use Rattle.yaml_scan_laws_order.specs.scan_history.History.{depth, reached, key_allowed, Candidate, is_fresh, margin_at, indent, opened, start_of, level_of, as_key}
+use Rattle.yaml_scan_laws_order.specs.scan_history.Words.{WordText, kind_at, word_at}
+use Rattle.yaml_scan_laws_order.specs.scan_history.Next.{first_lexeme}
 use Rattle.yaml_scan_laws_levels.specs.Fronts.{Front, Idle, Holds, LeavesLevels, Says, entry, read_at}
 use Rattle.yaml_scan_laws_levels.specs.Pushes.{IsRight, IsLone, stays_level}
 use Rattle.yaml_scan_laws_levels.specs.Keys.{IsInKey}

@@ -1,13 +1,13 @@
 -- The tokens of entries, and how BLOCK-END comes out.
 use Rattle.std.specs.Prelude.{◌≡◌, ℕ, suc, List, [], ◌∷◌, ◌++◌, map, replicate}
 use Rattle.std.specs.List.{flat_map}
-use Rattle.yaml_scan_history.specs.scan_model.Tokens.{Token, TokenBody, block_end, block_sequence_start, block_mapping_start, key}
-use Rattle.yaml_scan_history.specs.declared.lexeme.Lexeme.{Lexeme}
-use Rattle.yaml_scan_history.specs.declared.lexeme.Entry.{Entry}
-use Rattle.yaml_scan_history.specs.declared.lexeme.Opens.{Opens}
-use Rattle.yaml_scan_history.specs.declared.lexeme.Opens.TheVariants as opening
-use Rattle.yaml_scan_history.specs.History.{margin_at, start_of, as_key}
-use Rattle.yaml_scan_history.specs.Remaining.{SpelledText, body_in, spell}
+use Rattle.yaml_scan_laws_order.specs.scan_model.Tokens.{Token, TokenBody, block_end, block_sequence_start, block_mapping_start, key}
+use Rattle.yaml_scan_laws_order.specs.scan_history.declared.lexeme.Lexeme.{Lexeme}
+use Rattle.yaml_scan_laws_order.specs.scan_history.declared.lexeme.Entry.{Entry}
+use Rattle.yaml_scan_laws_order.specs.scan_history.declared.lexeme.Opens.{Opens}
+use Rattle.yaml_scan_laws_order.specs.scan_history.declared.lexeme.Opens.TheVariants as opening
+use Rattle.yaml_scan_laws_order.specs.scan_history.History.{margin_at, start_of, as_key}
+use Rattle.yaml_scan_laws_order.specs.scan_history.Remaining.{SpelledText, body_in, spell}
 use Rattle.yaml_scan_laws_levels.specs.Fronts.{entry}
 
 abbrev pub bodies_of : SpelledText → List Entry → List TokenBody

@@ -1,21 +1,21 @@
 -- What a walk over a text carries from lexeme to lexeme, with the tokens so far as a function of
 -- those that follow.
 use Rattle.std.specs.Prelude.{◌≡◌, ◌⊎◌, ◌<◌, ◌≤◌, ◌+◌, ◌==◌, ℕ, Bool, true, false, not, ◌&&◌, ◌||◌, nat_lt, List, [], ◌∷◌, ◌++◌, length, map, None}
-use Rattle.yaml_scan_history.specs.scan_model.declared.record.yaml_mark_t.{yaml_mark_t}
-use Rattle.yaml_scan_history.specs.scan_model.declared.name.yaml_encoding_t.{yaml_encoding_t}
-use Rattle.yaml_scan_history.specs.scan_model.Marks.{line_at, column_at, mark_at}
-use Rattle.yaml_scan_history.specs.scan_model.Tokens.{Token, TokenBody, stream_start, stream_end, block_end, key}
-use Rattle.yaml_scan_history.specs.scan_words.Written.{HasAt, are_gap, has_break}
-use Rattle.yaml_scan_history.specs.declared.kind.Kind.{Kind}
-use Rattle.yaml_scan_history.specs.declared.kind.Kind.TheVariants as kinds
-use Rattle.yaml_scan_history.specs.declared.lexeme.Lexeme.{Lexeme}
-use Rattle.yaml_scan_history.specs.declared.lexeme.Entry.{Entry}
-use Rattle.yaml_scan_history.specs.declared.lexeme.Opens.{Opens}
-use Rattle.yaml_scan_history.specs.declared.lexeme.Opens.TheVariants as opening
-use Rattle.yaml_scan_history.specs.Kinds.{depth_after, may_be_key, allows_key, is_value, is_start, is_outside, is_end}
-use Rattle.yaml_scan_history.specs.History.{candidate, is_fresh, margin_at, indent, opened, start_of, level_of}
-use Rattle.yaml_scan_history.specs.Words.{WordText}
-use Rattle.yaml_scan_history.specs.Remaining.{offline}
+use Rattle.yaml_scan_laws_order.specs.scan_model.declared.record.yaml_mark_t.{yaml_mark_t}
+use Rattle.yaml_scan_laws_order.specs.scan_model.declared.name.yaml_encoding_t.{yaml_encoding_t}
+use Rattle.yaml_scan_laws_order.specs.scan_model.Marks.{line_at, column_at, mark_at}
+use Rattle.yaml_scan_laws_order.specs.scan_model.Tokens.{Token, TokenBody, stream_start, stream_end, block_end, key}
+use Rattle.yaml_scan_laws_order.specs.scan_words.Written.{HasAt, are_gap, has_break}
+use Rattle.yaml_scan_laws_order.specs.scan_history.declared.kind.Kind.{Kind}
+use Rattle.yaml_scan_laws_order.specs.scan_history.declared.kind.Kind.TheVariants as kinds
+use Rattle.yaml_scan_laws_order.specs.scan_history.declared.lexeme.Lexeme.{Lexeme}
+use Rattle.yaml_scan_laws_order.specs.scan_history.declared.lexeme.Entry.{Entry}
+use Rattle.yaml_scan_laws_order.specs.scan_history.declared.lexeme.Opens.{Opens}
+use Rattle.yaml_scan_laws_order.specs.scan_history.declared.lexeme.Opens.TheVariants as opening
+use Rattle.yaml_scan_laws_order.specs.scan_history.Kinds.{depth_after, may_be_key, allows_key, is_value, is_start, is_outside, is_end}
+use Rattle.yaml_scan_laws_order.specs.scan_history.History.{candidate, is_fresh, margin_at, indent, opened, start_of, level_of}
+use Rattle.yaml_scan_laws_order.specs.scan_history.Words.{WordText}
+use Rattle.yaml_scan_laws_order.specs.scan_history.Remaining.{offline}
 use Rattle.yaml_scan_laws_levels.specs.Fronts.{Rises, Idle, Holds, entry}
 use Rattle.yaml_scan_laws_levels.specs.Pushes.{IsRight, stays_level}
 use Rattle.yaml_scan_laws_levels.specs.Keys.{IsInKey}

@@ -1,14 +1,14 @@
 -- The white behind lexemes, seen from a place: before it, or behind it, lexemes may have taken
 -- some.
 use Rattle.std.specs.Prelude.{◌≡◌, ℕ, ◌+◌, ◌==◌, Bool, true, false, not, ◌&&◌, ◌||◌, nat_lt, List, ◌∷◌, length, Some, Ok}
-use Rattle.yaml_scan_history.specs.scan_model.Marks.{mark_at}
-use Rattle.yaml_scan_history.specs.scan_words.Written.{HasAt, are_gap, has_break, begins_lexeme}
-use Rattle.yaml_scan_history.specs.declared.kind.Kind.{Kind}
-use Rattle.yaml_scan_history.specs.declared.lexeme.Lexeme.{Lexeme}
-use Rattle.yaml_scan_history.specs.Kinds.{allows_key, is_value}
-use Rattle.yaml_scan_history.specs.History.{reached, depth, candidate, fresh, has, key_allowed}
-use Rattle.yaml_scan_history.specs.Words.{WordText, kind_at, word_at}
-use Rattle.yaml_scan_history.specs.Next.{gap_behind, allowed_behind}
+use Rattle.yaml_scan_laws_order.specs.scan_model.Marks.{mark_at}
+use Rattle.yaml_scan_laws_order.specs.scan_words.Written.{HasAt, are_gap, has_break, begins_lexeme}
+use Rattle.yaml_scan_laws_order.specs.scan_history.declared.kind.Kind.{Kind}
+use Rattle.yaml_scan_laws_order.specs.scan_history.declared.lexeme.Lexeme.{Lexeme}
+use Rattle.yaml_scan_laws_order.specs.scan_history.Kinds.{allows_key, is_value}
+use Rattle.yaml_scan_laws_order.specs.scan_history.History.{reached, depth, candidate, fresh, has, key_allowed}
+use Rattle.yaml_scan_laws_order.specs.scan_history.Words.{WordText, kind_at, word_at}
+use Rattle.yaml_scan_laws_order.specs.scan_history.Next.{gap_behind, allowed_behind}
 use Rattle.yaml_scan_laws_levels.specs.Fronts.{Meets, read_at}
 
 -- From the place on stands a gap, and then a lexeme or the end.

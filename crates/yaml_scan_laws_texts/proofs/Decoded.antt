@@ -4,10 +4,10 @@ use Rattle.std.specs.Char.{IsScalar}
 use Rattle.std.specs.List.{AllPass}
 use Rattle.std.specs.Str.{all_scalars}
 use Rattle.std.proofs.lemmas.List.Elements.{All-head, All-tail}
-use Rattle.yaml_scan_history.specs.scan_model.declared.name.yaml_encoding_t.{yaml_encoding_t}
-use Rattle.yaml_scan_history.specs.scan_decode.Characters.{is_allowed}
-use Rattle.yaml_scan_history.specs.scan_decode.Spelling.{Spells}
-use Rattle.yaml_scan_history.proofs.SpellingLemmas.{allowed_scalar}
+use Rattle.yaml_scan_laws_order.specs.scan_model.declared.name.yaml_encoding_t.{yaml_encoding_t}
+use Rattle.yaml_scan_laws_order.specs.scan_history.scan_decode.Characters.{is_allowed}
+use Rattle.yaml_scan_laws_order.specs.scan_history.scan_decode.Spelling.{Spells}
+use Rattle.yaml_scan_laws_order.proofs.SpellingLemmas.{allowed_scalar}
 
 are_scalars : (cs : List ℕ) → AllPass is_allowed cs → all_scalars cs ≡ true
 are_scalars [] h = refl

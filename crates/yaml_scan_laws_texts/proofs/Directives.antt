@@ -2,11 +2,11 @@
 use Rattle.std.proofs.Common.{◌≡◌, ℕ, suc, ◌+◌, ◌-◌, ◌<◌, ◌==◌, nat_lt, true, false, List, [], ◌∷◌, ◌++◌, length, slice_range, Ok, Err, refl, sym, ap, subst, ◌∙◌, inl, inr, arith, add-zero, length-append}
 use Rattle.std.specs.Prelude.{codes, if◌then◌else◌}
 use Rattle.std.proofs.lemmas.Bool.Decides.{nat_tests}
-use Rattle.yaml_scan_model.specs.declared.problem.Context.TheVariants as contexts
-use Rattle.yaml_scan_model.specs.declared.problem.Problem.TheVariants as problems
-use Rattle.yaml_scan_model.specs.Marks.{byte, break_width}
-use Rattle.yaml_scan_model.specs.Classes.{is_alpha_byte, is_digit_byte, is_blank, is_digit, is_break}
-use Rattle.yaml_scan_model.proofs.MarksLemmas.{within}
+use Rattle.yaml_scan_laws_order.specs.scan_model.declared.problem.Context.TheVariants as contexts
+use Rattle.yaml_scan_laws_order.specs.scan_model.declared.problem.Problem.TheVariants as problems
+use Rattle.yaml_scan_laws_order.specs.scan_model.Marks.{byte, break_width}
+use Rattle.yaml_scan_laws_order.specs.scan_model.Classes.{is_alpha_byte, is_digit_byte, is_blank, is_digit, is_break}
+use Rattle.yaml_scan_laws_order.proofs.MarksLemmas.{within}
 use Rattle.yaml_scan_words.specs.Runs.{belongs, run_end}
 use Rattle.yaml_scan_words.specs.Directives.{version, tag, then_at, decimal, number_between, number_at, minor_at, version_at, handle_at, prefix_ended, prefix_at, with_prefix, tag_directive_at, value_at, directive_at}
 use Rattle.yaml_scan_words.specs.Uris.{is_uri, some_uri_at}

@@ -2,12 +2,12 @@
 use Rattle.std.proofs.Common.{◌≡◌, ℕ, zero, suc, ◌+◌, ◌<◌, ◌≤◌, ◌==◌, ◌&&◌, ◌||◌, not, nat_lt, Bool, true, List, length, refl, inl, inr, arith, IsUtf8}
 use Rattle.std.proofs.lemmas.Bool.{cases_Bool, ltb-true, eqb-true, and_parts, not-false}
 use Rattle.std.proofs.lemmas.Bool.Decides.{nat_tests}
-use Rattle.yaml_scan_history.specs.scan_model.Marks.{byte, break_width}
-use Rattle.yaml_scan_history.specs.scan_model.Classes.{is_bom, is_breakz}
-use Rattle.yaml_scan_history.specs.scan_words.Runs.{belongs, run_within}
-use Rattle.yaml_scan_history.specs.scan_words.Between.{step_at, is_skipped, gap_within, gap_at}
-use Rattle.yaml_scan_history.specs.scan_words.Directives.{comment_end}
-use Rattle.yaml_scan_history.proofs.BetweenLemmas.{bom_bytes}
+use Rattle.yaml_scan_laws_order.specs.scan_model.Marks.{byte, break_width}
+use Rattle.yaml_scan_laws_order.specs.scan_model.Classes.{is_bom, is_breakz}
+use Rattle.yaml_scan_words.specs.Runs.{belongs, run_within}
+use Rattle.yaml_scan_words.specs.Between.{step_at, is_skipped, gap_within, gap_at}
+use Rattle.yaml_scan_words.specs.Directives.{comment_end}
+use Rattle.yaml_scan_words.proofs.BetweenLemmas.{bom_bytes}
 use Rattle.yaml_scan_laws_texts.proofs.Whole.{IsWhole, whole_past, whole_ascii, whole_after, whole_before, whole_behind, whole_bom}
 
 -- at the end or before a break

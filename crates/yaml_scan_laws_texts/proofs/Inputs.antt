@@ -1,9 +1,9 @@
 -- The tokens of an input are well spelled.
 use Rattle.std.proofs.Common.{ℕ, List, Result, Ok, Err}
-use Rattle.yaml_scan_history.specs.scan_model.declared.yaml_encoding_t.{yaml_encoding_t}
-use Rattle.yaml_scan_history.specs.scan_decode.Encodings.{encoding_of}
-use Rattle.yaml_scan_history.specs.scan_decode.Decoding.{decoded_text}
-use Rattle.yaml_scan_history.specs.Scanned.{scanned_in, scanned}
+use Rattle.yaml_scan_laws_order.specs.scan_model.declared.yaml_encoding_t.{yaml_encoding_t}
+use Rattle.yaml_scan_laws_order.specs.scan_history.scan_decode.Encodings.{encoding_of}
+use Rattle.yaml_scan_laws_order.specs.scan_history.scan_decode.Decoding.{decoded_text}
+use Rattle.yaml_scan_laws_order.specs.scan_history.Scanned.{scanned_in, scanned}
 use Rattle.yaml_scan_laws_texts.specs.Spelled.{AreSpelled}
 use Rattle.yaml_scan_laws_texts.proofs.TokensSpelled.{remaining_spelled}
 

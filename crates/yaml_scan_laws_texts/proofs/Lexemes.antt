@@ -1,20 +1,20 @@
 -- Each lexeme of a text in UTF-8 starts and is left where the text may be cut, and carries UTF-8.
 use Rattle.std.proofs.Common.{◌≡◌, ℕ, zero, suc, ◌&&◌, nat_lt, List, [], ◌∷◌, Option, Some, None, Result, Ok, Err, refl, sym, subst, inl, inr, IsUtf8}
 use Rattle.std.proofs.lemmas.Bool.{cases_Bool}
-use Rattle.yaml_scan_history.specs.scan_model.declared.record.yaml_mark_t.{yaml_mark_t}
-use Rattle.yaml_scan_history.specs.scan_model.Marks.{mark_at}
-use Rattle.yaml_scan_history.specs.scan_model.Wrong.{Wrong}
-use Rattle.yaml_scan_history.specs.scan_words.Between.{Gap, gap_at}
-use Rattle.yaml_scan_history.specs.declared.kind.Kind.{Kind}
-use Rattle.yaml_scan_history.specs.declared.kind.Kind.TheVariants as kinds
-use Rattle.yaml_scan_history.specs.declared.lexeme.Lexeme.{Lexeme}
-use Rattle.yaml_scan_history.specs.Kinds.{is_end}
-use Rattle.yaml_scan_history.specs.History.{placed, depth, key_allowed, candidate, fresh}
-use Rattle.yaml_scan_history.specs.Words.{WordText, kind_at, word_at}
-use Rattle.yaml_scan_history.specs.Next.{Next, Read, Fails, Ends, begun, finished, allowed_behind, misplaced, missed, lost_by, next, extended, history}
-use Rattle.yaml_scan_history.specs.Stepwise.{no_colon, tested, unless_wrong, unless_lost, of_kind, unless_missed}
-use Rattle.yaml_scan_history.proofs.StepwiseLemmas.{stepwise}
-use Rattle.yaml_scan_history.specs.Remaining.{SpelledText, body_of_word, body_by, body_in}
+use Rattle.yaml_scan_laws_order.specs.scan_model.declared.record.yaml_mark_t.{yaml_mark_t}
+use Rattle.yaml_scan_laws_order.specs.scan_model.Marks.{mark_at}
+use Rattle.yaml_scan_laws_order.specs.scan_model.Wrong.{Wrong}
+use Rattle.yaml_scan_words.specs.Between.{Gap, gap_at}
+use Rattle.yaml_scan_laws_order.specs.scan_history.declared.kind.Kind.{Kind}
+use Rattle.yaml_scan_laws_order.specs.scan_history.declared.kind.Kind.TheVariants as kinds
+use Rattle.yaml_scan_laws_order.specs.scan_history.declared.lexeme.Lexeme.{Lexeme}
+use Rattle.yaml_scan_laws_order.specs.scan_history.Kinds.{is_end}
+use Rattle.yaml_scan_laws_order.specs.scan_history.History.{placed, depth, key_allowed, candidate, fresh}
+use Rattle.yaml_scan_laws_order.specs.scan_history.Words.{WordText, kind_at, word_at}
+use Rattle.yaml_scan_laws_order.specs.scan_history.Next.{Next, Read, Fails, Ends, begun, finished, allowed_behind, misplaced, missed, lost_by, next, extended, history}
+use Rattle.yaml_scan_laws_order.specs.scan_history.Stepwise.{no_colon, tested, unless_wrong, unless_lost, of_kind, unless_missed}
+use Rattle.yaml_scan_laws_order.proofs.StepwiseLemmas.{stepwise}
+use Rattle.yaml_scan_laws_order.specs.scan_history.Remaining.{SpelledText, body_of_word, body_by, body_in}
 use Rattle.yaml_scan_laws_texts.specs.Utf8Texts.{HasTexts}
 use Rattle.yaml_scan_laws_texts.proofs.Whole.{IsWhole}
 use Rattle.yaml_scan_laws_texts.proofs.Utf8Words.{Fits, FitsAny, kind_fits, HasWord, word_utf8}

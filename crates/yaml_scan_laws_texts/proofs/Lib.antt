@@ -20,9 +20,10 @@ pub mod Decoded
 pub mod Lines
 pub mod Directives
 -- what it stands on, for crates that name this one alone
-pub use Rattle.yaml_scan_history.proofs.CompleteLemmas
-pub use Rattle.yaml_scan_history.proofs.SpellingLemmas
-pub use Rattle.yaml_scan_history.proofs.MarksLemmas
-pub use Rattle.yaml_scan_history.proofs.HasLemmas
+pub use Rattle.yaml_scan_laws_order.proofs.CompleteLemmas
+pub use Rattle.yaml_scan_laws_order.proofs.SpellingLemmas
+pub use Rattle.yaml_scan_laws_order.proofs.MarksLemmas
+pub use Rattle.yaml_scan_words.proofs.HasLemmas
 pub use Rattle.yaml_scan_words.proofs.GapsRead
 pub use Rattle.yaml_scan_words.proofs.NamesRead
+pub use Rattle.yaml_scan_words.proofs.TagsRead

@@ -3,9 +3,9 @@ use Rattle.std.proofs.Common.{◌≡◌, ◌≢◌, ℕ, ◌+◌, ◌<◌, ◌�
 use Rattle.std.proofs.lemmas.Bool.{cases_Bool, eqb-true}
 use Rattle.std.proofs.lemmas.Bool.Decides.{nat_tests}
 use Rattle.std.proofs.Math.Bool.{or-true}
-use Rattle.yaml_scan_model.specs.declared.problem.Context.TheVariants as contexts
-use Rattle.yaml_scan_model.specs.Marks.{byte, break_of, break_width, is_blank as is_blank_byte, is_blank_or_end}
-use Rattle.yaml_scan_model.specs.Classes.{is_alpha_byte, is_digit_byte, is_blank, is_digit, is_break}
+use Rattle.yaml_scan_laws_order.specs.scan_model.declared.problem.Context.TheVariants as contexts
+use Rattle.yaml_scan_laws_order.specs.scan_model.Marks.{byte, break_of, break_width, is_blank as is_blank_byte, is_blank_or_end}
+use Rattle.yaml_scan_laws_order.specs.scan_model.Classes.{is_alpha_byte, is_digit_byte, is_blank, is_digit, is_break}
 use Rattle.yaml_scan_words.specs.Runs.{belongs, run_end}
 use Rattle.yaml_scan_words.specs.Uris.{is_punctuation, is_wide_punctuation, is_uri}
 use Rattle.yaml_scan_words.specs.Tags.{name_end, parts_at, tag_at}

@@ -2,17 +2,17 @@
 use Rattle.std.proofs.Common.{◌≡◌, ℕ, zero, suc, ◌+◌, ◌≤◌, ◌<◌, ◌==◌, ◌||◌, not, true, false, List, [], ◌∷◌, ◌++◌, length, slice_range, Result, Ok, Err, refl, sym, ◌∙◌, inl, inr, arith, add-zero, length-append, subst}
 use Rattle.std.proofs.lemmas.Bool.{cases_Bool, and_parts, or_parts, eqb-true}
 use Rattle.std.proofs.lemmas.Bool.Decides.{nat_tests}
-use Rattle.yaml_scan_history.specs.scan_model.declared.Context.{Context}
-use Rattle.yaml_scan_history.specs.scan_model.Marks.{byte}
-use Rattle.yaml_scan_history.specs.scan_model.Classes.{is_digit_byte, is_alpha_byte}
-use Rattle.yaml_scan_history.specs.scan_model.Wrong.{Wrong}
-use Rattle.yaml_scan_history.proofs.MarksLemmas.{within}
-use Rattle.yaml_scan_history.specs.scan_words.Runs.{belongs, run_within}
-use Rattle.yaml_scan_history.specs.scan_words.Anchors.{may_end_name, name_between, anchor_at}
-use Rattle.yaml_scan_history.specs.scan_words.Tags.{name_end}
-use Rattle.yaml_scan_history.specs.scan_words.Directives.{handle_between, handle_at}
-use Rattle.yaml_scan_history.proofs.WordsRunsLemmas.{run_within-le}
-use Rattle.yaml_scan_history.proofs.HasLemmas.{Has, range_reads}
+use Rattle.yaml_scan_laws_order.specs.scan_model.declared.Context.{Context}
+use Rattle.yaml_scan_laws_order.specs.scan_model.Marks.{byte}
+use Rattle.yaml_scan_laws_order.specs.scan_model.Classes.{is_digit_byte, is_alpha_byte}
+use Rattle.yaml_scan_laws_order.specs.scan_model.Wrong.{Wrong}
+use Rattle.yaml_scan_laws_order.proofs.MarksLemmas.{within}
+use Rattle.yaml_scan_words.specs.Runs.{belongs, run_within}
+use Rattle.yaml_scan_words.specs.Anchors.{may_end_name, name_between, anchor_at}
+use Rattle.yaml_scan_words.specs.Tags.{name_end}
+use Rattle.yaml_scan_words.specs.Directives.{handle_between, handle_at}
+use Rattle.yaml_scan_laws_order.proofs.WordsRunsLemmas.{run_within-le}
+use Rattle.yaml_scan_words.proofs.HasLemmas.{Has, range_reads}
 use Rattle.yaml_scan_laws_texts.specs.Spelled.{AreAlphas, IsName, IsHandle}
 
 same_test : (a b : ℕ) → a ≡ b → (a == b) ≡ false → ⊥

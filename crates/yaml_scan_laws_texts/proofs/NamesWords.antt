@@ -1,25 +1,25 @@
 -- What each lexeme carries is well spelled.
 use Rattle.std.proofs.Common.{◌≡◌, ℕ, ◌+◌, ◌-◌, ◌==◌, ◌&&◌, not, if◌then◌else◌, Bool, true, false, List, length, slice_range, Result, Ok, Err, refl, inl, inr}
 use Rattle.std.proofs.lemmas.Bool.{cases_Bool, eqb-true}
-use Rattle.yaml_scan_history.specs.scan_model.declared.Context.{Context}
-use Rattle.yaml_scan_history.specs.scan_model.declared.Context.TheVariants as contexts
-use Rattle.yaml_scan_history.specs.scan_model.declared.Problem.TheVariants as problems
-use Rattle.yaml_scan_history.specs.scan_model.declared.yaml_scalar_style_t.{yaml_scalar_style_t}
-use Rattle.yaml_scan_history.specs.scan_model.declared.yaml_scalar_style_t.TheVariants as styles
-use Rattle.yaml_scan_history.specs.scan_model.Tokens as tokens
-use Rattle.yaml_scan_history.specs.scan_model.Marks.{byte, is_blank_or_end}
-use Rattle.yaml_scan_history.specs.scan_model.Wrong.{Wrong}
-use Rattle.yaml_scan_history.specs.scan_words.Runs.{belongs, run_end}
-use Rattle.yaml_scan_history.specs.scan_words.Anchors.{anchor_at}
-use Rattle.yaml_scan_history.specs.scan_words.Uris.{filled, uri_at, some_uri_at}
-use Rattle.yaml_scan_history.specs.scan_words.Tags.{TagText, bracketed, name_end, with_handle, bare, parts_at, may_end_tag, ended}
-use Rattle.yaml_scan_history.specs.scan_words.Directives.{ValueText, then_at, is_yaml, is_tag, name_between as directive_name_between, number_at, with_major, minor_at, handle_at, prefix_ended, prefix_at, with_prefix, named_value_at, value_at, line_end_at, with_line, finished}
-use Rattle.yaml_scan_history.specs.scan_scalars.Quoted.{single_quoted_at, double_quoted_at}
-use Rattle.yaml_scan_history.specs.scan_scalars.Plain.{PlainText, plain_at}
-use Rattle.yaml_scan_history.specs.scan_block.Block.{BlockText, block_at, style_at}
-use Rattle.yaml_scan_history.specs.declared.Kind.{Kind}
-use Rattle.yaml_scan_history.specs.declared.Kind.TheVariants as kinds
-use Rattle.yaml_scan_history.specs.Words.{WordText, valued, tagged, body_said, directed, blocked, plainly, word_at}
+use Rattle.yaml_scan_laws_order.specs.scan_model.declared.Context.{Context}
+use Rattle.yaml_scan_laws_order.specs.scan_model.declared.Context.TheVariants as contexts
+use Rattle.yaml_scan_laws_order.specs.scan_model.declared.Problem.TheVariants as problems
+use Rattle.yaml_scan_laws_order.specs.scan_model.declared.yaml_scalar_style_t.{yaml_scalar_style_t}
+use Rattle.yaml_scan_laws_order.specs.scan_model.declared.yaml_scalar_style_t.TheVariants as styles
+use Rattle.yaml_scan_laws_order.specs.scan_model.Tokens as tokens
+use Rattle.yaml_scan_laws_order.specs.scan_model.Marks.{byte, is_blank_or_end}
+use Rattle.yaml_scan_laws_order.specs.scan_model.Wrong.{Wrong}
+use Rattle.yaml_scan_words.specs.Runs.{belongs, run_end}
+use Rattle.yaml_scan_words.specs.Anchors.{anchor_at}
+use Rattle.yaml_scan_words.specs.Uris.{filled, uri_at, some_uri_at}
+use Rattle.yaml_scan_words.specs.Tags.{TagText, bracketed, name_end, with_handle, bare, parts_at, may_end_tag, ended}
+use Rattle.yaml_scan_words.specs.Directives.{ValueText, then_at, is_yaml, is_tag, name_between as directive_name_between, number_at, with_major, minor_at, handle_at, prefix_ended, prefix_at, with_prefix, named_value_at, value_at, line_end_at, with_line, finished}
+use Rattle.yaml_scan_laws_order.specs.scan_scalars.Quoted.{single_quoted_at, double_quoted_at}
+use Rattle.yaml_scan_laws_order.specs.scan_scalars.Plain.{PlainText, plain_at}
+use Rattle.yaml_scan_laws_order.specs.scan_block.Block.{BlockText, block_at, style_at}
+use Rattle.yaml_scan_laws_order.specs.scan_history.declared.Kind.{Kind}
+use Rattle.yaml_scan_laws_order.specs.scan_history.declared.Kind.TheVariants as kinds
+use Rattle.yaml_scan_laws_order.specs.scan_history.Words.{WordText, valued, tagged, body_said, directed, blocked, plainly, word_at}
 use Rattle.yaml_scan_laws_texts.specs.Spelled.{IsSome, IsHandle, IsSpelled}
 use Rattle.yaml_scan_laws_texts.proofs.Names.{HasName, anchor_good, name_spans, closed_handle, HasHandle, handle_good}
 

@@ -2,13 +2,13 @@
 use Rattle.std.proofs.Common.{◌≡◌, ℕ, zero, suc, ◌+◌, ◌<◌, ◌==◌, ◌&&◌, ◌||◌, nat_lt, if◌then◌else◌, Bool, true, false, List, [], ◌∷◌, ◌++◌, length, drop, Result, Ok, Err, refl, sym, true≢false, inl, inr, arith, IsUtf8}
 use Rattle.std.proofs.lemmas.Bool.{cases_Bool, ltb-true, and_parts, or_cases}
 use Rattle.std.proofs.lemmas.Bool.Decides.{nat_tests}
-use Rattle.yaml_scan_history.specs.scan_model.Marks.{byte, break_width, column_at, is_blank, is_blank_or_end}
-use Rattle.yaml_scan_history.specs.scan_model.Breaks.{is_document_indicator}
-use Rattle.yaml_scan_history.specs.scan_model.Wrong.{Wrong}
-use Rattle.yaml_scan_history.proofs.MarksLemmas.{within}
-use Rattle.yaml_scan_history.specs.scan_scalars.Pieces.{Piece, Kept, Blank, Break}
-use Rattle.yaml_scan_history.specs.scan_scalars.Plain.{is_bracket, after_white, leads, PlainSpot, Ends, Takes, Faulty, ends_at, spot_at, Words, is_nothing, with_piece, words_from, follows, words, PlainText, plain_with, plain_text, plain_at}
-use Rattle.yaml_scan_history.proofs.PlainLemmas.{not_ended}
+use Rattle.yaml_scan_laws_order.specs.scan_model.Marks.{byte, break_width, column_at, is_blank, is_blank_or_end}
+use Rattle.yaml_scan_laws_order.specs.scan_model.Breaks.{is_document_indicator}
+use Rattle.yaml_scan_laws_order.specs.scan_model.Wrong.{Wrong}
+use Rattle.yaml_scan_laws_order.proofs.MarksLemmas.{within}
+use Rattle.yaml_scan_laws_order.specs.scan_scalars.Pieces.{Piece, Kept, Blank, Break}
+use Rattle.yaml_scan_laws_order.specs.scan_scalars.Plain.{is_bracket, after_white, leads, PlainSpot, Ends, Takes, Faulty, ends_at, spot_at, Words, is_nothing, with_piece, words_from, follows, words, PlainText, plain_with, plain_text, plain_at}
+use Rattle.yaml_scan_laws_order.proofs.PlainLemmas.{not_ended}
 use Rattle.yaml_scan_laws_texts.proofs.Whole.{IsWhole, whole_ascii, whole_after, whole_before, whole_behind, leads_whole, blank_small, cut, break_utf8, indicator_small}
 use Rattle.yaml_scan_laws_texts.proofs.Values.{Goes, value_utf8}
 use Rattle.yaml_scan_laws_texts.proofs.Quoted.{Waits, kept_waits}

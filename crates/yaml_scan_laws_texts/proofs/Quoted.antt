@@ -5,12 +5,12 @@ use Rattle.std.proofs.lemmas.Bool.{cases_Bool, ltb-true, eqb-true, and_parts}
 use Rattle.std.proofs.lemmas.Bool.Decides.{nat_tests}
 use Rattle.std.proofs.lemmas.List.{drop_more}
 use Rattle.std.proofs.lemmas.Str.{IsUtf8-nil, IsUtf8-append, IsUtf8-encode}
-use Rattle.yaml_scan_history.specs.scan_model.Marks.{byte, break_width, is_blank}
-use Rattle.yaml_scan_history.specs.scan_model.Breaks.{break_value, is_document_indicator}
-use Rattle.yaml_scan_history.specs.scan_model.Wrong.{Wrong}
-use Rattle.yaml_scan_history.proofs.MarksLemmas.{within}
-use Rattle.yaml_scan_history.specs.scan_scalars.Pieces.{Piece, Kept, Blank, Break, value}
-use Rattle.yaml_scan_history.specs.scan_scalars.Quoted.{QuotedSpot, Closing, Pieces, Bad, hex_digit, hex_value, is_scalar, coded, hex_len, simple_escape, escaped, escape_at, quote_at, standing_at, with_front, followed, pieces, valued, quoted_at}
+use Rattle.yaml_scan_laws_order.specs.scan_model.Marks.{byte, break_width, is_blank}
+use Rattle.yaml_scan_laws_order.specs.scan_model.Breaks.{break_value, is_document_indicator}
+use Rattle.yaml_scan_laws_order.specs.scan_model.Wrong.{Wrong}
+use Rattle.yaml_scan_laws_order.proofs.MarksLemmas.{within}
+use Rattle.yaml_scan_laws_order.specs.scan_scalars.Pieces.{Piece, Kept, Blank, Break, value}
+use Rattle.yaml_scan_laws_order.specs.scan_scalars.Quoted.{QuotedSpot, Closing, Pieces, Bad, hex_digit, hex_value, is_scalar, coded, hex_len, simple_escape, escaped, escape_at, quote_at, standing_at, with_front, followed, pieces, valued, quoted_at}
 use Rattle.yaml_scan_laws_texts.proofs.Whole.{IsWhole, whole_ascii, whole_after, whole_before, whole_behind, blank_small, ascii_utf8, cut, break_utf8, nel_char, nbsp_char, ls_char, ps_char}
 use Rattle.yaml_scan_laws_texts.proofs.Values.{Goes, value_utf8}
 

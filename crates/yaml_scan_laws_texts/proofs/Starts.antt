@@ -1,21 +1,21 @@
 -- Each tag of a text starts with `!`.
 use Rattle.std.proofs.Common.{◌≡◌, ℕ, zero, suc, ◌+◌, ◌==◌, ◌&&◌, ◌||◌, not, nat_lt, if◌then◌else◌, Bool, true, false, List, [], ◌∷◌, Option, Some, None, Result, Ok, Err, refl, sym, subst, inl, inr}
 use Rattle.std.proofs.lemmas.Bool.{cases_Bool, eqb-true}
-use Rattle.yaml_scan_history.specs.scan_model.declared.yaml_mark_t.{yaml_mark_t}
-use Rattle.yaml_scan_history.specs.scan_model.Marks.{byte, mark_at, column_at, is_blank_or_end}
-use Rattle.yaml_scan_history.specs.scan_model.Wrong.{Wrong}
-use Rattle.yaml_scan_history.specs.scan_words.Between.{Gap, gap_at}
-use Rattle.yaml_scan_history.specs.scan_words.Indicators.{is_document_start, is_document_end}
-use Rattle.yaml_scan_history.specs.scan_scalars.Plain.{starts_plain}
-use Rattle.yaml_scan_history.specs.declared.Kind.{Kind}
-use Rattle.yaml_scan_history.specs.declared.Kind.TheVariants as kinds
-use Rattle.yaml_scan_history.specs.declared.Lexeme.{Lexeme}
-use Rattle.yaml_scan_history.specs.Kinds.{is_end}
-use Rattle.yaml_scan_history.specs.History.{placed, depth, key_allowed, candidate, fresh}
-use Rattle.yaml_scan_history.specs.Words.{indicator_of, or_plain, kind_at, WordText, word_at}
-use Rattle.yaml_scan_history.specs.Next.{Next, Read, Fails, Ends, begun, finished, allowed_behind, misplaced, missed, lost_by, next, extended, history}
-use Rattle.yaml_scan_history.specs.Stepwise.{no_colon, tested, unless_wrong, unless_lost, of_kind, unless_missed}
-use Rattle.yaml_scan_history.proofs.StepwiseLemmas.{stepwise}
+use Rattle.yaml_scan_laws_order.specs.scan_model.declared.yaml_mark_t.{yaml_mark_t}
+use Rattle.yaml_scan_laws_order.specs.scan_model.Marks.{byte, mark_at, column_at, is_blank_or_end}
+use Rattle.yaml_scan_laws_order.specs.scan_model.Wrong.{Wrong}
+use Rattle.yaml_scan_words.specs.Between.{Gap, gap_at}
+use Rattle.yaml_scan_words.specs.Indicators.{is_document_start, is_document_end}
+use Rattle.yaml_scan_laws_order.specs.scan_scalars.Plain.{starts_plain}
+use Rattle.yaml_scan_laws_order.specs.scan_history.declared.Kind.{Kind}
+use Rattle.yaml_scan_laws_order.specs.scan_history.declared.Kind.TheVariants as kinds
+use Rattle.yaml_scan_laws_order.specs.scan_history.declared.Lexeme.{Lexeme}
+use Rattle.yaml_scan_laws_order.specs.scan_history.Kinds.{is_end}
+use Rattle.yaml_scan_laws_order.specs.scan_history.History.{placed, depth, key_allowed, candidate, fresh}
+use Rattle.yaml_scan_laws_order.specs.scan_history.Words.{indicator_of, or_plain, kind_at, WordText, word_at}
+use Rattle.yaml_scan_laws_order.specs.scan_history.Next.{Next, Read, Fails, Ends, begun, finished, allowed_behind, misplaced, missed, lost_by, next, extended, history}
+use Rattle.yaml_scan_laws_order.specs.scan_history.Stepwise.{no_colon, tested, unless_wrong, unless_lost, of_kind, unless_missed}
+use Rattle.yaml_scan_laws_order.proofs.StepwiseLemmas.{stepwise}
 use Rattle.yaml_scan_laws_texts.proofs.NamesWords.{Marked}
 
 -- Kinds.

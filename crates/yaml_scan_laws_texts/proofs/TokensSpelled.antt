@@ -1,19 +1,19 @@
 -- The tokens that are handed out are well spelled.
 use Rattle.std.proofs.Common.{ℕ, zero, suc, ◌+◌, nat_lt, List, [], ◌∷◌, ◌++◌, length, take, drop, replicate, Option, Some, None, Result, Ok, Err, inl, inr, flat_map}
 use Rattle.std.proofs.lemmas.Bool.{cases_Bool}
-use Rattle.yaml_scan_history.specs.scan_model.Tokens.{Token, block_end}
-use Rattle.yaml_scan_history.specs.scan_model.Wrong.{Wrong}
-use Rattle.yaml_scan_history.specs.declared.Kind.{Kind}
-use Rattle.yaml_scan_history.specs.declared.Kind.TheVariants as kinds
-use Rattle.yaml_scan_history.specs.declared.Lexeme.{Lexeme}
-use Rattle.yaml_scan_history.specs.declared.Entry.{Entry}
-use Rattle.yaml_scan_history.specs.declared.Opens.{Opens}
-use Rattle.yaml_scan_history.specs.declared.Opens.TheVariants as opening
-use Rattle.yaml_scan_history.specs.Kinds.{is_value}
-use Rattle.yaml_scan_history.specs.History.{Candidate, first_open, found_by, inside, entry_of, mark_key, marked, keyed, entries}
-use Rattle.yaml_scan_history.specs.Words.{WordText, word_at}
-use Rattle.yaml_scan_history.specs.Next.{Next, Read, Fails, Ends, next, history}
-use Rattle.yaml_scan_history.specs.Remaining.{SpelledText, body_of_word, body_by, body_in, before, start_tokens, end_tokens, own_tokens, spell, all, handed_out, handed, front_ends, kept_of, remaining}
+use Rattle.yaml_scan_laws_order.specs.scan_model.Tokens.{Token, block_end}
+use Rattle.yaml_scan_laws_order.specs.scan_model.Wrong.{Wrong}
+use Rattle.yaml_scan_laws_order.specs.scan_history.declared.Kind.{Kind}
+use Rattle.yaml_scan_laws_order.specs.scan_history.declared.Kind.TheVariants as kinds
+use Rattle.yaml_scan_laws_order.specs.scan_history.declared.Lexeme.{Lexeme}
+use Rattle.yaml_scan_laws_order.specs.scan_history.declared.Entry.{Entry}
+use Rattle.yaml_scan_laws_order.specs.scan_history.declared.Opens.{Opens}
+use Rattle.yaml_scan_laws_order.specs.scan_history.declared.Opens.TheVariants as opening
+use Rattle.yaml_scan_laws_order.specs.scan_history.Kinds.{is_value}
+use Rattle.yaml_scan_laws_order.specs.scan_history.History.{Candidate, first_open, found_by, inside, entry_of, mark_key, marked, keyed, entries}
+use Rattle.yaml_scan_laws_order.specs.scan_history.Words.{WordText, word_at}
+use Rattle.yaml_scan_laws_order.specs.scan_history.Next.{Next, Read, Fails, Ends, next, history}
+use Rattle.yaml_scan_laws_order.specs.scan_history.Remaining.{SpelledText, body_of_word, body_by, body_in, before, start_tokens, end_tokens, own_tokens, spell, all, handed_out, handed, front_ends, kept_of, remaining}
 use Rattle.yaml_scan_laws_texts.specs.Spelled.{IsSpelled, AreSpelled}
 use Rattle.yaml_scan_laws_texts.proofs.NamesWords.{Marked, HasWord, word_spelled}
 use Rattle.yaml_scan_laws_texts.proofs.Starts.{Starts, AllStart, history_starts}

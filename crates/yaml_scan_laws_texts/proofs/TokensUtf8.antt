@@ -2,15 +2,15 @@
 use Rattle.std.proofs.Common.{ℕ, zero, suc, ◌+◌, List, [], ◌∷◌, ◌++◌, length, take, drop, Option, Some, None, inl, inr, IsUtf8, All, flat_map}
 use Rattle.std.proofs.lemmas.Bool.{cases_Bool}
 use Rattle.std.proofs.lemmas.List.Elements.{All-nil, All-cons, All-append, All-drop, All-replicate}
-use Rattle.yaml_scan_history.specs.scan_model.Tokens.{Token, block_end, block_sequence_start, block_mapping_start, key}
-use Rattle.yaml_scan_history.specs.declared.lexeme.Lexeme.{Lexeme}
-use Rattle.yaml_scan_history.specs.declared.lexeme.Entry.{Entry}
-use Rattle.yaml_scan_history.specs.declared.lexeme.Opens.{Opens}
-use Rattle.yaml_scan_history.specs.declared.lexeme.Opens.TheVariants as opening
-use Rattle.yaml_scan_history.specs.Kinds.{is_value}
-use Rattle.yaml_scan_history.specs.History.{Candidate, first_open, found_by, inside, entry_of, mark_key, marked, keyed, entries}
-use Rattle.yaml_scan_history.specs.Next.{Next, Read, Fails, Ends, next, history}
-use Rattle.yaml_scan_history.specs.Remaining.{SpelledText, body_in, token_in, before, start_tokens, end_tokens, own_tokens, spell, all, handed_out, handed, front_ends, kept_of, remaining}
+use Rattle.yaml_scan_laws_order.specs.scan_model.Tokens.{Token, block_end, block_sequence_start, block_mapping_start, key}
+use Rattle.yaml_scan_laws_order.specs.scan_history.declared.lexeme.Lexeme.{Lexeme}
+use Rattle.yaml_scan_laws_order.specs.scan_history.declared.lexeme.Entry.{Entry}
+use Rattle.yaml_scan_laws_order.specs.scan_history.declared.lexeme.Opens.{Opens}
+use Rattle.yaml_scan_laws_order.specs.scan_history.declared.lexeme.Opens.TheVariants as opening
+use Rattle.yaml_scan_laws_order.specs.scan_history.Kinds.{is_value}
+use Rattle.yaml_scan_laws_order.specs.scan_history.History.{Candidate, first_open, found_by, inside, entry_of, mark_key, marked, keyed, entries}
+use Rattle.yaml_scan_laws_order.specs.scan_history.Next.{Next, Read, Fails, Ends, next, history}
+use Rattle.yaml_scan_laws_order.specs.scan_history.Remaining.{SpelledText, body_in, token_in, before, start_tokens, end_tokens, own_tokens, spell, all, handed_out, handed, front_ends, kept_of, remaining}
 use Rattle.yaml_scan_laws_texts.specs.Utf8Texts.{HasTexts}
 use Rattle.yaml_scan_laws_texts.proofs.Lexemes.{AllCarry, history_carry}
 

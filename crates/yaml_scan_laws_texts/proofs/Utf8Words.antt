@@ -3,26 +3,26 @@ use Rattle.std.proofs.Common.{◌≡◌, ℕ, ◌+◌, ◌-◌, ◌<◌, ◌==�
 use Rattle.std.proofs.lemmas.Bool.{cases_Bool, ltb-true, eqb-true, or_cases, not-false, or_parts}
 use Rattle.std.proofs.lemmas.Bool.Decides.{nat_tests}
 use Rattle.std.proofs.lemmas.Str.{IsUtf8-nil}
-use Rattle.yaml_scan_history.specs.scan_model.declared.problem.Context.{Context}
-use Rattle.yaml_scan_history.specs.scan_model.declared.problem.Context.TheVariants as contexts
-use Rattle.yaml_scan_history.specs.scan_model.declared.name.yaml_scalar_style_t.{yaml_scalar_style_t}
-use Rattle.yaml_scan_history.specs.scan_model.declared.name.yaml_scalar_style_t.TheVariants as styles
-use Rattle.yaml_scan_history.specs.scan_model.Tokens as tokens
-use Rattle.yaml_scan_history.specs.scan_model.Tokens.{TokenBody}
-use Rattle.yaml_scan_history.specs.scan_model.Marks.{byte, break_width, column_at, is_blank, is_blank_or_end}
-use Rattle.yaml_scan_history.specs.scan_model.Wrong.{Wrong}
-use Rattle.yaml_scan_history.proofs.MarksLemmas.{within}
-use Rattle.yaml_scan_history.specs.scan_words.Indicators.{is_document_start, is_document_end}
-use Rattle.yaml_scan_history.specs.scan_words.Anchors.{is_name_end, may_end_name, name_between, anchor_at}
-use Rattle.yaml_scan_history.specs.scan_words.Uris.{some_uri_at, uri_at}
-use Rattle.yaml_scan_history.specs.scan_words.Tags.{TagText, bracketed, name_end, with_handle, bare, parts_at, may_end_tag, ended}
-use Rattle.yaml_scan_history.specs.scan_words.Directives.{ValueText, then_at, is_yaml, is_tag, name_between as directive_name_between, number_at, with_major, minor_at, handle_between, handle_at, prefix_at, with_prefix, named_value_at, value_at, break_end, line_end_at, with_line, finished}
-use Rattle.yaml_scan_history.specs.scan_scalars.Quoted.{single_quoted_at, double_quoted_at}
-use Rattle.yaml_scan_history.specs.scan_scalars.Plain.{PlainText, plain_at, starts_plain}
-use Rattle.yaml_scan_history.specs.scan_block.Block.{BlockText, block_at, style_at}
-use Rattle.yaml_scan_history.specs.declared.kind.Kind.{Kind}
-use Rattle.yaml_scan_history.specs.declared.kind.Kind.TheVariants as kinds
-use Rattle.yaml_scan_history.specs.Words.{indicator_of, or_plain, kind_at, WordText, carrying, valued, tagged, body_said, directed, blocked, plainly, word_at}
+use Rattle.yaml_scan_laws_order.specs.scan_model.declared.problem.Context.{Context}
+use Rattle.yaml_scan_laws_order.specs.scan_model.declared.problem.Context.TheVariants as contexts
+use Rattle.yaml_scan_laws_order.specs.scan_model.declared.name.yaml_scalar_style_t.{yaml_scalar_style_t}
+use Rattle.yaml_scan_laws_order.specs.scan_model.declared.name.yaml_scalar_style_t.TheVariants as styles
+use Rattle.yaml_scan_laws_order.specs.scan_model.Tokens as tokens
+use Rattle.yaml_scan_laws_order.specs.scan_model.Tokens.{TokenBody}
+use Rattle.yaml_scan_laws_order.specs.scan_model.Marks.{byte, break_width, column_at, is_blank, is_blank_or_end}
+use Rattle.yaml_scan_laws_order.specs.scan_model.Wrong.{Wrong}
+use Rattle.yaml_scan_laws_order.proofs.MarksLemmas.{within}
+use Rattle.yaml_scan_words.specs.Indicators.{is_document_start, is_document_end}
+use Rattle.yaml_scan_words.specs.Anchors.{is_name_end, may_end_name, name_between, anchor_at}
+use Rattle.yaml_scan_words.specs.Uris.{some_uri_at, uri_at}
+use Rattle.yaml_scan_words.specs.Tags.{TagText, bracketed, name_end, with_handle, bare, parts_at, may_end_tag, ended}
+use Rattle.yaml_scan_words.specs.Directives.{ValueText, then_at, is_yaml, is_tag, name_between as directive_name_between, number_at, with_major, minor_at, handle_between, handle_at, prefix_at, with_prefix, named_value_at, value_at, break_end, line_end_at, with_line, finished}
+use Rattle.yaml_scan_laws_order.specs.scan_scalars.Quoted.{single_quoted_at, double_quoted_at}
+use Rattle.yaml_scan_laws_order.specs.scan_scalars.Plain.{PlainText, plain_at, starts_plain}
+use Rattle.yaml_scan_laws_order.specs.scan_block.Block.{BlockText, block_at, style_at}
+use Rattle.yaml_scan_laws_order.specs.scan_history.declared.kind.Kind.{Kind}
+use Rattle.yaml_scan_laws_order.specs.scan_history.declared.kind.Kind.TheVariants as kinds
+use Rattle.yaml_scan_laws_order.specs.scan_history.Words.{indicator_of, or_plain, kind_at, WordText, carrying, valued, tagged, body_said, directed, blocked, plainly, word_at}
 use Rattle.yaml_scan_laws_texts.specs.Utf8Texts.{HasTexts}
 use Rattle.yaml_scan_laws_texts.proofs.Whole.{IsWhole, whole_ascii, whole_after, whole_before, whole_behind, blank_small, ascii_utf8, slice_utf8}
 use Rattle.yaml_scan_laws_texts.proofs.Quoted.{HasQuoted, quoted_utf8}

@@ -2,8 +2,8 @@
 use Rattle.std.proofs.Common.{ℕ, ◌<◌, List, [], ◌∷◌, ◌++◌, inl, inr, arith, IsUtf8, append-nil, append_assoc}
 use Rattle.std.proofs.lemmas.Bool.{cases_Bool}
 use Rattle.std.proofs.lemmas.Str.{IsUtf8-nil, IsUtf8-append}
-use Rattle.yaml_scan_history.specs.scan_model.Breaks.{is_feed}
-use Rattle.yaml_scan_history.specs.scan_scalars.Pieces.{Piece, Kept, Blank, Break, Line, lines, is_empty, text, trim_end, trim_start, gap, rest_of, folded, value}
+use Rattle.yaml_scan_laws_order.specs.scan_model.Breaks.{is_feed}
+use Rattle.yaml_scan_laws_order.specs.scan_scalars.Pieces.{Piece, Kept, Blank, Break, Line, lines, is_empty, text, trim_end, trim_start, gap, rest_of, folded, value}
 use Rattle.yaml_scan_laws_texts.proofs.Whole.{ascii_utf8}
 
 -- Behind bytes that wait for the rest of a character, these pieces bring it: what is kept up to the next blank or break is

@@ -5,10 +5,10 @@ use Rattle.std.proofs.lemmas.List.{drop_all, drop_more}
 use Rattle.std.proofs.lemmas.Bool.{cases_Bool, cases_lt}
 use Rattle.std.proofs.lemmas.Bool.Decides.{nat_tests}
 use Rattle.std.proofs.lemmas.Str.{IsUtf8-nil, IsUtf8-drop, IsUtf8-take, IsUtf8-between, IsUtf8-past_char, IsUtf8-from_ascii, IsUtf8-encode, IsCharBoundary-after_ascii, IsCharBoundary-from_drop, IsCharBoundary-at_seam}
-use Rattle.yaml_scan_history.specs.scan_model.Marks.{byte, break_of, ends_of, break_width, ends_break, is_blank, column_at, is_blank_or_end}
-use Rattle.yaml_scan_history.specs.scan_model.Breaks.{break_value, is_document_indicator}
-use Rattle.yaml_scan_history.proofs.MarksLemmas.{within, widths}
-use Rattle.yaml_scan_history.specs.scan_scalars.Plain.{leads}
+use Rattle.yaml_scan_laws_order.specs.scan_model.Marks.{byte, break_of, ends_of, break_width, ends_break, is_blank, column_at, is_blank_or_end}
+use Rattle.yaml_scan_laws_order.specs.scan_model.Breaks.{break_value, is_document_indicator}
+use Rattle.yaml_scan_laws_order.proofs.MarksLemmas.{within, widths}
+use Rattle.yaml_scan_laws_order.specs.scan_scalars.Plain.{leads}
 
 -- a character begins there, or the text has ended
 abbrev pub IsWhole : List ℕ → ℕ → Type 0

@@ -1,8 +1,8 @@
 -- How the tokens of every input are spelled.
 use Rattle.std.specs.Prelude.{ℕ, List}
-use Rattle.yaml_scan_history.specs.scan_model.declared.yaml_encoding_t.{yaml_encoding_t}
-use Rattle.yaml_scan_history.specs.Remaining.{SpelledText, remaining}
-use Rattle.yaml_scan_history.specs.Scanned.{scanned}
+use Rattle.yaml_scan_laws_order.specs.scan_model.declared.yaml_encoding_t.{yaml_encoding_t}
+use Rattle.yaml_scan_laws_order.specs.scan_history.Remaining.{SpelledText, remaining}
+use Rattle.yaml_scan_laws_order.specs.scan_history.Scanned.{scanned}
 use Rattle.yaml_scan_laws_texts.specs.Spelled.{AreSpelled}
 
 -- Each token that is still to come of a text is well spelled.

@@ -1,9 +1,9 @@
 -- How a scanner spells names, handles and tags.
 use Rattle.std.specs.Prelude.{ℕ, true, false, ◌==◌, ◌≡◌, ◌⊎◌, List, [], ◌∷◌, ◌++◌, length}
 use Rattle.std.specs.List.{list_all}
-use Rattle.yaml_scan_history.specs.scan_model.Classes.{is_alpha_byte}
-use Rattle.yaml_scan_history.specs.scan_model.Tokens as token
-use Rattle.yaml_scan_history.specs.scan_model.Tokens.{Token, TokenBody}
+use Rattle.yaml_scan_laws_order.specs.scan_model.Classes.{is_alpha_byte}
+use Rattle.yaml_scan_laws_order.specs.scan_model.Tokens as token
+use Rattle.yaml_scan_laws_order.specs.scan_model.Tokens.{Token, TokenBody}
 
 -- one byte at least
 abbrev pub IsSome : List ℕ → Type 0

@@ -1,8 +1,8 @@
 -- What the tokens of a text in UTF-8 carry.
 use Rattle.std.specs.Prelude.{ℕ, List, IsUtf8, All}
-use Rattle.yaml_scan_history.specs.scan_model.declared.name.yaml_encoding_t.{yaml_encoding_t}
-use Rattle.yaml_scan_history.specs.scan_decode.Spelling.{Spells}
-use Rattle.yaml_scan_history.specs.Remaining.{SpelledText, remaining}
+use Rattle.yaml_scan_laws_order.specs.scan_model.declared.name.yaml_encoding_t.{yaml_encoding_t}
+use Rattle.yaml_scan_laws_order.specs.scan_history.scan_decode.Spelling.{Spells}
+use Rattle.yaml_scan_laws_order.specs.scan_history.Remaining.{SpelledText, remaining}
 use Rattle.yaml_scan_laws_texts.specs.Utf8Texts.{HasTexts}
 
 -- Each token that is still to come has texts in UTF-8, but for what escapes spell byte by byte.

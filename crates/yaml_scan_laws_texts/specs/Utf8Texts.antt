@@ -1,7 +1,7 @@
 -- Which texts of a token are UTF-8 as the text is.
 use Rattle.std.specs.Prelude.{IsUtf8}
-use Rattle.yaml_scan_history.specs.scan_model.Tokens as token
-use Rattle.yaml_scan_history.specs.scan_model.Tokens.{TokenBody}
+use Rattle.yaml_scan_laws_order.specs.scan_model.Tokens as token
+use Rattle.yaml_scan_laws_order.specs.scan_model.Tokens.{TokenBody}
 
 -- Each text is UTF-8, but a tag's suffix and a directive's prefix: their escapes spell bytes.
 abbrev pub HasTexts : TokenBody → Type 0

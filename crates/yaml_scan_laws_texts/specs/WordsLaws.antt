@@ -1,7 +1,7 @@
 -- Directives and `!` alone are read back, wherever a text has them.
 use Rattle.std.specs.Prelude.{◌≡◌, ◌⊎◌, ◌<◌, ◌+◌, ℕ, Bool, true, List, [], ◌∷◌, ◌++◌, length, codes, Ok}
-use Rattle.yaml_scan_model.specs.Marks.{byte, break_width}
-use Rattle.yaml_scan_model.specs.Classes.{is_break}
+use Rattle.yaml_scan_laws_order.specs.scan_model.Marks.{byte, break_width}
+use Rattle.yaml_scan_laws_order.specs.scan_model.Classes.{is_break}
 use Rattle.yaml_scan_words.specs.Tags.{tag_at}
 use Rattle.yaml_scan_words.specs.Directives.{DirectiveText, version, tag, directive_at}
 use Rattle.yaml_scan_words.specs.Written.{HasAt, are_alphas, UriPiece, uri_text, uri_bytes, IsUri}

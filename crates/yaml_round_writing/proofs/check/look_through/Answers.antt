@@ -1,6 +1,6 @@
 -- What is to come ends in the fault that all events end in.
 use Rattle.std.proofs.Common.{◌∙◌, refl, sym, subst, Option, Some, ap}
-use Rattle.yaml_scan.specs.Faults.{Fault}
+use Rattle.yaml_parse.specs.Faults.{Fault}
 use Rattle.yaml_parse.specs.Events.{event_of}
 use Rattle.yaml_parse.specs.Loading.{nothing_loaded}
 use Rattle.yaml_round_writing.specs.Checking.{LoadsOn}

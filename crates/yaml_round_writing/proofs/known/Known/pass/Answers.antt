@@ -1,6 +1,6 @@
 -- Each kind of event, as the loader takes it.
 use Rattle.std.proofs.Common.{refl, sym, subst}
-use Rattle.yaml_scan.specs.declared.yaml_mark_t.{yaml_mark_t}
+use Rattle.yaml_parse.specs.declared.yaml_mark_t.{yaml_mark_t}
 use Rattle.yaml_parse.specs.declared.yaml_event_body_t.{yaml_event_body_t}
 use Rattle.yaml_parse.specs.Events.{body_of, text_of}
 use Rattle.yaml_parse.specs.Loading.{Loading, step_body, next}

@@ -104,7 +104,6 @@ IMPLIED = [
     ("yaml_read_all", "an input is told as failed only where it has", ["yaml_round/refusal_told_as_a_failed_input"], "`yaml_run` hands its refusal on, and `FailsBy` says of `Read` what `IsReadFault` says"),
     ("yaml_write_all", "a failed finish is a failed write", ["yaml_round_device/finish_not_called"], "an output whose finish failed isn't finished either, which `finished` wants of each answer that is Ok"),
     ("yaml_fault_line", "want of memory names its layer", ["yaml_scan/scanners_memory_told_of_the_reader"], "`memory_fault` is one definition for all calls"),
-    ("yaml_std_output_t::put", "a failed output stays failed", ["yaml_round_device/failure_not_kept"], "`failure` says of an output what it says of an input, word for word"),
     ("yaml_run", "the output is finished behind a whole answer", ["yaml_round_device/finish_not_called"], "`finished` is the clause of `yaml_write_all`, word for word"),
     ("yaml_emitter_emit_early", "each event that is given early is laid out", ["yaml_emit/early_refusal_left_out"], "`GivesText` says of each event what it says of a wrong one: `first` and `lays`"),
     ("yaml_diff_documents", "each mark of a place of loaded documents is of its own input's event", ["yaml_round/second_mark_for_the_first"], "`TellsOf` is one record for both calls"),

@@ -91,8 +91,25 @@ IMPLIED = [
     ("yaml_normalize", "the input is not repeated", ["yaml_round/own_styles_kept"], "the pretty text of an input, given in, has the same content and so the same normal form"),
     ("yaml_reformat", "what is answered unasked as canonical form is canonical", ["yaml_round/canonical_unasked"], "no text is, where the input doesn't begin with nothing"),
     ("yaml_reformat", "a tag that isn't UTF-8 is the input's fault", ["yaml_round_adapter/tag_bytes_replaced"], "the plain reading is of the adapter's tokens"),
-    ("yaml_reformat", "want of memory is told with nothing else", ["yaml_parse/memory_fault_with_an_offset", "yaml_parse/memory_fault_with_the_text_of_an_alias", "yaml_round_device/context_of_a_memory_fault"], "`memory_fault` is one definition for all calls"),
-    ("yaml_reload", "the same", ["yaml_parse/memory_fault_with_the_text_of_an_alias"], "the same"),
+    ("yaml_reformat", "want of memory is told with nothing else", ["yaml_parse/memory_fault_with_an_offset", "yaml_round_device/context_of_a_memory_fault"], "`memory_fault` is one definition for all calls"),
+    ("yaml_reload", "the same", ["yaml_parse/memory_fault_with_an_offset"], "the same"),
+    ("yaml_parser_load", "the same", ["yaml_parse/memory_fault_with_an_offset"], "the same"),
+    ("yaml_parser_load", "a repeated anchor names the later node", ["yaml_parse/node_begins_at_its_end"], "`LoadIsNext` says the whole document by one equation, the numbering of the content whose events come"),
+    ("yaml_mapping_end_event_initialize", "a mapping's end is one", ["yaml_parse_model/sequence_end_is_mapping_end"], "either body is proved only where both ends are the same event"),
+    ("yaml_event_delete", "a deleted event is the empty one", ["yaml_parse_model/stream_end_is_empty"], "either body is proved only where a stream's end is the empty event"),
+    ("yaml_event_utf8", "an event's value counts among its texts", ["yaml_parse_model/scalar_value_not_looked_at"], "both calls name `HasUtf8`: either body is proved only where that does not ask for the value"),
+    ("yaml_node_tag_t::as_slice", "a tag's bytes are its own", ["yaml_parse_document/sequence_tag_is_map"], "one that answers another default tag's bytes is proved only where the two are the same, and then a sequence may have either"),
+    ("yaml_node_text_t::copied", "a copy has all bytes of the text", ["yaml_parse_model/short_text_cut"], "a text is what `as_slice` shows: without the last byte of a short one it is proved only where none has a last byte, and then the cut one may be shown"),
+    ("yaml_node_text_t::taken", "the same", ["yaml_parse_model/short_text_cut"], "the same"),
+    ("yaml_document_t::start_implicit", "whether a document's start is implicit", ["yaml_parse_document/end_flag_is_start"], "either body is proved only where both flags are always the same"),
+    ("yaml_document_t::start_mark", "where a document begins", ["yaml_parse_document/end_mark_is_start"], "the same of the marks"),
+    ("yaml_document_add_mapping", "a mapping's default tag", ["yaml_parse_document/sequence_tag_is_map"], "`Adds` and `tag_or` are one definition for both calls: either is proved only where the two default tags are the same"),
+    ("yaml_document_get_node", "numbers count from 1", ["yaml_parse_document/root_is_the_second_node"], "the root is the node under 1: one that gives the node behind the number that is asked for gives the second one there"),
+    ("yaml_parser_parse", "a node's event has its tag, resolved by the document's directives; a scalar with a tag is told to need it", ["yaml_parse/lone_mark_passed_on"], "`EventOf` says the whole event by one equation, so another part that is lost turns the same clause"),
+    ("yaml_parser_parse_into", "an event stands where its tokens do, whichever way it was made", ["yaml_parse/lone_mark_passed_on"], "`yaml_parser_parse` hands on what it gives and knows nothing else of it, so an event that `Finds` left open would be open in `EventOf` too"),
+    ("yaml_parser_parse_into", "what an event leaves of the machine is what the grammar leaves: the events behind it come", ["yaml_parse/version_carried_to_the_next_document"], "the same of what is left: one equation on all events behind"),
+    ("yaml_parser_parse_into", "a parse gives the next event", ["yaml_parse/deep_input_refused"], "both tell a fault where none is to come, which `FaultOf` refuses by one clause"),
+    ("yaml_parser_parse", "a wrong token in a block sequence is told as such", ["yaml_parse/undefined_handle_before_the_next_fault"], "both calls promise `FaultOf`, which says the whole fault by one equation"),
 ]
 
 
@@ -177,6 +194,8 @@ def why_none(it):
         return "a law: its body reads a field for the clause and does nothing"
     if it.name.endswith("_delete") and not it.contract():
         return "it takes what it frees and answers nothing, so that no clause can speak of it"
+    if it.contract() and it.label in {call for call, *_ in IMPLIED}:
+        return "what another edit implies, as above"
     return "" if it.contract() else "no clause"
 
 

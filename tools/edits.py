@@ -98,9 +98,15 @@ IMPLIED = [
     ("yaml_normalize", "the input is not repeated", ["yaml_round/own_styles_kept"], "the pretty text of an input, given in, has the same content and so the same normal form"),
     ("yaml_reformat", "what is answered unasked as canonical form is canonical", ["yaml_round/canonical_unasked"], "no text is, where the input doesn't begin with nothing"),
     ("yaml_reformat", "a tag that isn't UTF-8 is the input's fault", ["yaml_round_adapter/tag_bytes_replaced"], "the plain reading is of the adapter's tokens"),
-    ("yaml_reformat", "want of memory is told with nothing else", ["yaml_parse/memory_fault_with_an_offset", "yaml_parse/memory_fault_with_the_text_of_an_alias"], "`memory_fault` is one definition for all calls"),
+    ("yaml_reformat", "want of memory is told with nothing else", ["yaml_parse/memory_fault_with_an_offset"], "`memory_fault` is one definition for all calls"),
     ("yaml_read_all", "the same", ["yaml_parse/memory_fault_with_an_offset"], "the same"),
-    ("yaml_reload", "the same", ["yaml_parse/memory_fault_with_the_text_of_an_alias"], "the same"),
+    ("yaml_reload", "the same", ["yaml_parse/memory_fault_with_an_offset"], "the same"),
+    ("yaml_parser_load", "the same", ["yaml_parse/memory_fault_with_an_offset"], "the same"),
+    ("yaml_parser_parse", "a node's event has its tag, resolved by the document's directives; a scalar with a tag is told to need it", ["yaml_parse/lone_mark_passed_on"], "`EventOf` says the whole event by one equation, so another part that is lost turns the same clause"),
+    ("yaml_parser_parse_into", "an event stands where its tokens do, whichever way it was made", ["yaml_parse/lone_mark_passed_on"], "`yaml_parser_parse` hands on what it gives and knows nothing else of it, so an event that `Finds` left open would be open in `EventOf` too"),
+    ("yaml_parser_parse_into", "what an event leaves of the machine is what the grammar leaves: the events behind it come", ["yaml_parse/version_carried_to_the_next_document"], "the same of what is left: one equation on all events behind"),
+    ("yaml_parser_parse_into", "a parse gives the next event", ["yaml_parse/deep_input_refused"], "both tell a fault where none is to come, which `FaultOf` refuses by one clause"),
+    ("yaml_parser_parse", "a wrong token in a block sequence is told as such", ["yaml_parse/undefined_handle_before_the_next_fault"], "both calls promise `FaultOf`, which says the whole fault by one equation"),
     ("yaml_read_all", "an input is told as failed only where it has", ["yaml_round/refusal_told_as_a_failed_input"], "`yaml_run` hands its refusal on, and `FailsBy` says of `Read` what `IsReadFault` says"),
     ("yaml_write_all", "a failed finish is a failed write", ["yaml_round_device/finish_not_called"], "an output whose finish failed isn't finished either, which `finished` wants of each answer that is Ok"),
     ("yaml_fault_line", "want of memory names its layer", ["yaml_scan/scanners_memory_told_of_the_reader"], "`memory_fault` is one definition for all calls"),
@@ -109,8 +115,8 @@ IMPLIED = [
     ("yaml_diff_documents", "each mark of a place of loaded documents is of its own input's event", ["yaml_round/second_mark_for_the_first"], "`TellsOf` is one record for both calls"),
     ("yaml_reformat", "a root with an anchor or a tag isn't nothing, nor one behind a `---`, nor that of a later document", ["yaml_round/canonical_unasked"], "canonical form comes unasked only where `begins_with_nothing`, one definition, which names all of these, says so of the input's events"),
     ("yaml_normalize", "a root that would be nothing where the text begins is quoted", ["yaml_round/own_styles_kept"], "the text is `readable_text` of the content, which decides the style of each root"),
-    ("yaml_parser_initialize", "a fault's text is the definition's, also where code and machine agree on another", ["yaml_parse/wrong_token_told_as_a_directive"], "the fault to come is said by `FaultOfTokens`, whose texts a law, `rows_of_faults_hold`, has in its own words; a parse that answers another fault than the one to come is refused"),
-    ("yaml_parser_initialize", "what is whole when a token comes that is wrong is given before the fault", ["yaml_parse/event_told_as_a_fault"], "the events to come are said by `EventsOfTokens`, whose worked lists a law, `rows_of_events_hold`, has in its own words; a parse that answers a fault where one of them is to come is refused"),
+    ("yaml_parser_initialize", "a fault's text is the definition's, also where code and machine agree on another", ["yaml_parse/undefined_handle_before_the_next_fault"], "the fault to come is said by `FaultOfTokens`, whose texts a law, `rows_of_faults_hold`, has in its own words; a parse that answers another fault than the one to come is refused"),
+    ("yaml_parser_initialize", "what is whole when a token comes that is wrong is given before the fault", ["yaml_parse/deep_input_refused"], "the events to come are said by `EventsOfTokens`, whose worked lists a law, `rows_of_events_hold`, has in its own words; a parse that answers a fault where one of them is to come is refused"),
     ("yaml_c_events", "every fault but want of memory comes with its line", ["yaml_round_calls/line_never_told"], "`TellsFault`, which says each field of the record, is one definition for all calls"),
     ("yaml_c_emit", "the fault of a refused event is told", ["yaml_round_calls/undefined_alias_hidden"], "the same: it says the kind, of the fault that the definition names"),
     ("yaml_c_parse", "every event of the input has its record, the first one too", ["yaml_round/events_left_out", "yaml_round_calls/last_event_of_a_starved_front_left_out"], "`HasEvents` says of both calls which events an input has, and `SayEvents` of a parse and of a front that each of its events has its record"),
@@ -224,6 +230,8 @@ def why_none(it):
         return "a law: its body reads a field for the clause and does nothing"
     if it.name.endswith("_delete") and not it.contract():
         return "it takes what it frees and answers nothing, so that no clause can speak of it"
+    if it.contract() and it.label in {call for call, *_ in IMPLIED}:
+        return "what another edit implies, as above"
     return "" if it.contract() else "no clause"
 
 

@@ -12,6 +12,14 @@ use yaml_parse_model::{yaml_event_body_t, yaml_event_t, yaml_token_source_t};
 use yaml_parse_step::yaml_found_t;
 use yaml_scan_model::{yaml_fault_t, yaml_memory_fault, yaml_origin_t};
 
+// Both are let go. A call for each way out of a load: there each field that is freed by itself would be a step of its own.
+// Inlined: they lie where they were made.
+#[inline(always)]
+fn let_go(loader: Loader, event: yaml_event_t) {
+    loader.let_go();
+    drop(event);
+}
+
 /// The next document, its nodes numbered from 1 in preorder; behind the last one a document without root. An alias stands
 /// for the last node before it in preorder that has its anchor, a node that encloses it counting from its own start; an
 /// anchor may occur again. Also refused, with kind 5, for an alias without such a node in its document (`found undefined
@@ -41,14 +49,24 @@ pub fn yaml_parser_load<S: yaml_token_source_t>(
         match yaml_parser_parse_into(parser, &mut event, &mut fault) {
             yaml_found_t::Event => match loader.feed(&mut event) {
                 Ok(None) => {}
-                Ok(Some(document)) => return Ok(document),
+                Ok(Some(document)) => {
+                    let_go(loader, event);
+                    return Ok(document);
+                }
                 Err(refused) => {
+                    let_go(loader, event);
                     parser.refuse(&refused);
                     return Err(refused);
                 }
             },
-            yaml_found_t::End => return Ok(no_document(alloc)),
-            yaml_found_t::Refused => return Err(fault),
+            yaml_found_t::End => {
+                let_go(loader, event);
+                return Ok(no_document(alloc));
+            }
+            yaml_found_t::Refused => {
+                let_go(loader, event);
+                return Err(fault);
+            }
         }
     }
 }

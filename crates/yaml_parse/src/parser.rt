@@ -19,6 +19,7 @@ ghost use Rattle.yaml_parse_step.specs.Turned.{turned};
 ghost use Rattle.yaml_parse_step.specs.parse_laws_trees.NextLoad.{AreLoadsByContent};
 ghost use Rattle.yaml_parse_step.specs.parse_laws_trees.Falling.{AreFalling};
 ghost use Rattle.yaml_parse_step.specs.parse_grammar.Stacks.{parts_documents_behind};
+ghost use Rattle.yaml_parse.specs.HandsOut.{HandsOut};
 
 use std::alloc::Global;
 use std::marker::Model;
@@ -179,6 +180,29 @@ pub fn yaml_parser_parse_into<S: yaml_token_source_t>(
     }
 }
 
+// What was found: the event or the fault in its slot, or behind the end the empty event.
+// Inlined: an event is built where it is to stand.
+#[inline(always)]
+fn handed_out(
+    found: yaml_found_t,
+    event: yaml_event_t,
+    fault: yaml_fault_t,
+) -> Result<yaml_event_t, yaml_fault_t>
+    ensures { HandsOut found (event_of event) (fault_of fault) result }
+{
+    match found {
+        yaml_found_t::Event => Ok(event),
+        yaml_found_t::Refused => {
+            drop(event);
+            Err(fault)
+        }
+        yaml_found_t::End => {
+            drop(event);
+            Ok(yaml_event_t::unplaced(yaml_event_body_t::No))
+        }
+    }
+}
+
 /// The next event, whose texts are UTF-8; behind the last one and after a fault the empty event. Refused by the source's
 /// fault, by one of its own (kind 4: the tokens are those of no stream, or a directive or a handle is wrong), or for want
 /// of memory; once.
@@ -196,17 +220,8 @@ pub fn yaml_parser_parse<S: yaml_token_source_t>(
 {
     let mut event = yaml_event_t::unplaced(yaml_event_body_t::No);
     let mut fault = yaml_memory_fault(yaml_origin_t::Parser);
-    match yaml_parser_parse_into(parser, &mut event, &mut fault) {
-        yaml_found_t::Event => Ok(event),
-        yaml_found_t::Refused => {
-            drop(event);
-            Err(fault)
-        }
-        yaml_found_t::End => {
-            drop(event);
-            Ok(yaml_event_t::unplaced(yaml_event_body_t::No))
-        }
-    }
+    let found = yaml_parser_parse_into(parser, &mut event, &mut fault);
+    handed_out(found, event, fault)
 }
 
 /// No document is half taken: true at first, behind the stream's start, behind a document, at the end and after a fault.

@@ -80,6 +80,13 @@ impl Loader {
         }
     }
 
+    /// Lets go what was loaded. A call of this crate, so that callers need not prove how each part is freed.
+    // Inlined: it lies where it was made.
+    #[inline(always)]
+    pub fn let_go(self) {
+        drop(self);
+    }
+
     /// Takes an event: at a DOCUMENT-END it gives the document, at every other one nothing. Nodes count from 1 in
     /// preorder. An alias stands for the last node before it that has its anchor, and is refused where there is none
     /// (`found undefined alias`). Where a list would get more than 2,147,483,647 entries, want of memory is answered.

@@ -4,13 +4,6 @@ use Rattle.yaml_parse_step.proofs.Loading.{keeps_on, loads_document, loads_nothi
 use Rattle.yaml_parse_step.proofs.NextLoads.{load_is_next, refusal_is_next}
 use Rattle.yaml_parse.proofs.load.yaml_parser_load.Goals as goal
 
-pub events-preserved : goal.events-preserved
-events-preserved g c =
-    let next = rw c.in-Event.is at c.yaml_parser_parse_into.ensures.finds in
-    let fed = rw c.in-Ok-None.field-0-is at c.in-Ok-None.ensures.feeds in
-    keeps_on c.args.parser.now c.events.parser c.yaml_parser_parse_into.new.parser c.events.loader c.feed.new.self (event_of c.yaml_parser_parse_into.new.event) c.events.invariant
-    next fed
-
 pub returns-in-Ok-Some-clause-next : goal.returns-in-Ok-Some-clause-next
 returns-in-Ok-Some-clause-next g c =
     let next = rw c.in-Event.is at c.yaml_parser_parse_into.ensures.finds in
@@ -18,6 +11,13 @@ returns-in-Ok-Some-clause-next g c =
     load_is_next c.args.parser.now c.yaml_parser_parse_into.new.parser c.in-Ok-Some.document
     (loads_document c.args.parser.now c.events.parser c.yaml_parser_parse_into.new.parser c.events.loader (event_of c.yaml_parser_parse_into.new.event) c.in-Ok-Some.document c.events.invariant
     next fed.0)
+
+pub events-preserved : goal.events-preserved
+events-preserved g c =
+    let next = rw c.in-Event.is at c.yaml_parser_parse_into.ensures.finds in
+    let fed = rw c.in-Ok-None.field-0-is at c.in-Ok-None.ensures.feeds in
+    keeps_on c.args.parser.now c.events.parser c.yaml_parser_parse_into.new.parser c.events.loader c.feed.new.self (event_of c.yaml_parser_parse_into.new.event) c.events.invariant
+    next fed
 
 pub returns-in-End-clause-next : goal.returns-in-End-clause-next
 returns-in-End-clause-next g c =

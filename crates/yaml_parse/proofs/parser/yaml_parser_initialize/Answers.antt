@@ -1,4 +1,4 @@
-use Rattle.std.proofs.Common.{ap, List, None}
+use Rattle.std.proofs.Common.{ap, refl, List, None}
 use Rattle.yaml_parse_model.specs.Events.{TagDirective}
 use Rattle.yaml_parse_step.specs.parse_grammar.Resolve.{Directives}
 use Rattle.yaml_parse_core.specs.Owned.{owned_states, owned_properties}
@@ -7,6 +7,10 @@ use Rattle.yaml_parse_step.proofs.Turning.{starts, starts_anywhere, starts_unask
 use Rattle.yaml_parse_step.specs.parse_grammar.Remaining.{is_between}
 use Rattle.yaml_parse.proofs.Holds.{stream_holds}
 use Rattle.yaml_parse.proofs.parser.yaml_parser_initialize.Goals as goal
+
+-- first what is cheap to refuse: a token that none asked for
+pub returns-clause-unasked : goal.returns-clause-unasked
+returns-clause-unasked g c = (refl, refl)
 
 pub returns-clause-tree : goal.returns-clause-tree
 returns-clause-tree g c = λ t rest h.

@@ -7,6 +7,12 @@ use Rattle.yaml_parse_document.proofs.Sizing.{no_items_sized}
 use Rattle.yaml_parse_document.proofs.Sound.{tag_utf8, seq_utf8, added}
 use Rattle.yaml_parse_document.proofs.document.adding.yaml_document_add_sequence.Goals as goal
 
+pub returns : goal.returns
+returns c =
+    let tag : IsUtf8Option (option_map (λ t. t.now) c.args.tag) = search rules in
+    let same : node_of c.unplaced_node.result ≡ new_sequence (option_map (λ t. t.now) c.args.tag) c.args.style = rw (c.unplaced_node.ensures, c.in_ok-tag.ensures, c.new-items.ensures.items) refl in
+    added _ _ _ _ _ _ same tag c.add_node.ensures
+
 pub add_node-requires-clause-sound : goal.add_node-requires-clause-sound
 add_node-requires-clause-sound c =
     let tag : IsUtf8Option (option_map (λ t. t.now) c.args.tag) = search rules in
@@ -15,9 +21,3 @@ add_node-requires-clause-sound c =
 
 pub add_node-requires-clause-sized : goal.add_node-requires-clause-sized
 add_node-requires-clause-sized c = subst (λ (n : Node). IsSizedBody n.body) (sym c.unplaced_node.ensures) (no_items_sized _ c.args.style c.new-items.ensures.items)
-
-pub returns : goal.returns
-returns c =
-    let tag : IsUtf8Option (option_map (λ t. t.now) c.args.tag) = search rules in
-    let same : node_of c.unplaced_node.result ≡ new_sequence (option_map (λ t. t.now) c.args.tag) c.args.style = rw (c.unplaced_node.ensures, c.in_ok-tag.ensures, c.new-items.ensures.items) refl in
-    added _ _ _ _ _ _ same tag c.add_node.ensures

@@ -8,6 +8,18 @@ use Rattle.yaml_parse_document.proofs.Sizing.{appended_sized, item_sized}
 use Rattle.yaml_parse_document.proofs.Sound.{appended, appended_sound, had_room, item_sound, some_id, kind_inside}
 use Rattle.yaml_parse_document.proofs.document.adding.yaml_document_append_sequence_item.Goals as goal
 
+pub returns-clause-appends : goal.returns-clause-appends
+returns-clause-appends c =
+    let after : Document = record (document_view c.document.inside) { nodes = map node_of (set c.document.inside.nodes.items c.node_place.result c.push_item.new.node) } in
+    let at_place : c.args.sequence ≡ pos (suc c.node_place.result) = sym (to_z-of_z w32 c.args.sequence c.ranges.sequence) ∙ c.node_place.ensures in
+    let inside : c.node_place.result < length c.document.inside.nodes.items
+    = kind_inside IsSequenceBody c.args.document.now _ _ _ at_place (ap (λ (d : Document). d.nodes) (sym c.document.view_is)) c.requires.sequence in
+    let done : Appends (document_view c.document.inside) (change_body (with_item c.args.item) c.args.sequence (document_view c.document.inside)) c.push_item.result after
+    = subst (λ (i : ℤ). Appends (document_view c.document.inside) (change_body (with_item i) c.args.sequence (document_view c.document.inside)) c.push_item.result after) (to_z-of_z w32 c.args.item c.ranges.item)
+    (appended (with_item (to_z w32 (of_z w32 c.args.item))) item_count (document_view c.document.inside) c.document.inside.nodes.items c.node_place.result c.args.sequence
+    c.index_mut.result.now c.push_item.new.node c.push_item.result at_place inside c.index_mut.ensures.value refl c.push_item.ensures) in
+    subst (λ (d : Document). Appends d (change_body (with_item c.args.item) c.args.sequence d) c.push_item.result after) c.document.view_is done
+
 pub invariant_of-document : goal.invariant_of-document
 invariant_of-document c =
     let named : IsId (length (document_view c.document.inside).nodes) (to_z w32 (of_z w32 c.args.item))
@@ -23,18 +35,6 @@ invariant_of-document c =
           c.index_mut.result.now c.push_item.new.node c.push_item.result inside c.index_mut.ensures.value refl c.push_item.ensures
           (item_sized _) c.document.invariant.1,
     )
-
-pub returns-clause-appends : goal.returns-clause-appends
-returns-clause-appends c =
-    let after : Document = record (document_view c.document.inside) { nodes = map node_of (set c.document.inside.nodes.items c.node_place.result c.push_item.new.node) } in
-    let at_place : c.args.sequence ≡ pos (suc c.node_place.result) = sym (to_z-of_z w32 c.args.sequence c.ranges.sequence) ∙ c.node_place.ensures in
-    let inside : c.node_place.result < length c.document.inside.nodes.items
-    = kind_inside IsSequenceBody c.args.document.now _ _ _ at_place (ap (λ (d : Document). d.nodes) (sym c.document.view_is)) c.requires.sequence in
-    let done : Appends (document_view c.document.inside) (change_body (with_item c.args.item) c.args.sequence (document_view c.document.inside)) c.push_item.result after
-    = subst (λ (i : ℤ). Appends (document_view c.document.inside) (change_body (with_item i) c.args.sequence (document_view c.document.inside)) c.push_item.result after) (to_z-of_z w32 c.args.item c.ranges.item)
-    (appended (with_item (to_z w32 (of_z w32 c.args.item))) item_count (document_view c.document.inside) c.document.inside.nodes.items c.node_place.result c.args.sequence
-    c.index_mut.result.now c.push_item.new.node c.push_item.result at_place inside c.index_mut.ensures.value refl c.push_item.ensures) in
-    subst (λ (d : Document). Appends d (change_body (with_item c.args.item) c.args.sequence d) c.push_item.result after) c.document.view_is done
 
 pub returns-clause-room : goal.returns-clause-room
 returns-clause-room c =

@@ -160,28 +160,6 @@ fn judge_listed<G: Engine, H: Files + AllocGlobal, R: Read, W: Write, E: Write>(
     }
 }
 
-// The files, then those of the list, where there is one, and where none are named standard input.
-fn judge_each<G: Engine, H: Files + AllocGlobal, R: Read, W: Write, E: Write>(
-    judge: &Judge<'_, G>,
-    rt: &H,
-    judged: &Judged<'_>,
-    inputs: &mut Inputs<R>,
-    writer: &mut W,
-    errors: &mut E,
-) -> u8 {
-    let files = judged.files.as_slice();
-    let Some(list) = judged.list else {
-        let files = if files.is_empty() { &[STANDARD] } else { files };
-        return judge_files(judge, rt, files, inputs, writer, errors).status;
-    };
-    let verdict = judge_files(judge, rt, files, inputs, writer, errors);
-    if verdict.stops {
-        return verdict.status;
-    }
-    let status = judge_listed(judge, rt, list, inputs, writer, errors);
-    status.max(verdict.status)
-}
-
 /// Judges the files, or standard input where none are named. The status is the worst one: 0 where each is as it was asked for,
 /// 1 where one isn't or is refused, 2 where one couldn't be judged.
 pub(crate) fn judge_all<G: Engine, H: Files + AllocGlobal, R: Read, W: Write, E: Write>(
@@ -196,7 +174,16 @@ pub(crate) fn judge_all<G: Engine, H: Files + AllocGlobal, R: Read, W: Write, E:
         engine,
         judging: &judged.judging,
     };
-    // lent on at once, since an owner that may end in several ways is dear to prove
     let mut inputs = Inputs::new(rt.alloc(), reader);
-    judge_each(&judge, rt, judged, &mut inputs, writer, errors)
+    let files = judged.files.as_slice();
+    let Some(list) = judged.list else {
+        let files = if files.is_empty() { &[STANDARD] } else { files };
+        return judge_files(&judge, rt, files, &mut inputs, writer, errors).status;
+    };
+    let verdict = judge_files(&judge, rt, files, &mut inputs, writer, errors);
+    if verdict.stops {
+        return verdict.status;
+    }
+    let status = judge_listed(&judge, rt, list, &mut inputs, writer, errors);
+    status.max(verdict.status)
 }

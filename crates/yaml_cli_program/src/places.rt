@@ -6,7 +6,6 @@ mod excerpt;
 mod path;
 mod place;
 mod telling;
-mod text;
 
 pub use chars::Source;
 pub use path::{Step, push_step};

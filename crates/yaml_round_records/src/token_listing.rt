@@ -23,7 +23,7 @@ pub struct TokenListing {
 
 impl TokenListing {
     /// A listing of nothing.
-    #[tactic(auto, unfolding(crate::specs::Listed::records_from, crate::specs::Listed::all_texts))]
+    #[tactic(auto, unfolding(crate::specs::TokensListed::records_from, crate::specs::TokensListed::all_texts))]
     pub fn new(alloc: Global) -> TokenListing
         ensures { ListsTokens [] result }
     {

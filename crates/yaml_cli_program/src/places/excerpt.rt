@@ -2,7 +2,7 @@
 
 use super::chars::{Chars, Source};
 use super::place::from_place;
-use super::text::Telling;
+use std::alloc::AllocError;
 use unicode_width::UnicodeWidthChar;
 use yaml_types::yaml_mark_t;
 
@@ -29,32 +29,29 @@ pub(crate) fn is_hidden(c: char) -> bool {
 }
 
 /// Adds a character; a hidden one by its number, but for a tab.
-pub(crate) fn put_shown(text: &mut Telling, c: char) {
+pub(crate) fn push_shown(text: &mut String, c: char) -> Result<(), AllocError> {
     if c != '\t' && is_hidden(c) {
-        text.put_hidden(u32::from(c));
+        let code = u32::from(c);
+        write!(text, "<U+{code:04X}>")
     } else {
-        text.put_char(c);
-    }
-}
-
-// How many columns the character takes, as it is shown.
-fn width_of(c: char) -> usize {
-    if is_hidden(c) {
-        8
-    } else {
-        c.width().unwrap_or(1)
+        text.push(c)
     }
 }
 
 // Adds what takes as many columns as the character does.
-fn put_blank(text: &mut Telling, c: char) {
+fn push_blank(text: &mut String, c: char) -> Result<(), AllocError> {
     if c == '\t' {
-        text.put_char('\t');
-    } else {
-        for _ in 0..width_of(c) {
-            text.put_char(' ');
-        }
+        return text.push('\t');
     }
+    let columns = if is_hidden(c) {
+        8
+    } else {
+        c.width().unwrap_or(1)
+    };
+    for _ in 0..columns {
+        text.push(' ')?;
+    }
+    Ok(())
 }
 
 // The first column that is shown.
@@ -66,46 +63,51 @@ fn first_shown(column: u64) -> u64 {
     }
 }
 
-// Adds the characters of a line from that column to that one, or as many as it has; answers whether there are more.
-fn put_columns(text: &mut Telling, line: &mut Chars<'_>, first: u64, last: u64) -> bool {
-    for _ in first..last {
-        match line.next_in_line() {
-            Some(c) => put_shown(text, c),
-            None => return false,
-        }
-    }
-    line.next_in_line().is_some()
-}
-
-// Says that something isn't shown, if so.
-fn put_cut(text: &mut Telling, is_cut: bool) {
-    if is_cut {
-        text.put(CUT);
-    }
-}
-
-fn put_line(text: &mut Telling, mut line: Chars<'_>, first: u64, column: u64) {
-    put_cut(text, first > 0);
-    let goes_on = put_columns(text, &mut line, first, column.saturating_add(BEHIND));
-    put_cut(text, goes_on);
-    text.put_char('\n');
-}
-
-fn put_caret(text: &mut Telling, mut line: Chars<'_>, first: u64, column: u64) {
+fn push_line(
+    text: &mut String,
+    mut line: Chars<'_>,
+    first: u64,
+    column: u64,
+) -> Result<(), AllocError> {
     if first > 0 {
-        text.put("   ");
+        text.push_str(CUT)?;
+    }
+    for _ in first..column.saturating_add(BEHIND) {
+        let Some(c) = line.next_in_line() else {
+            return text.push('\n');
+        };
+        push_shown(text, c)?;
+    }
+    if line.next_in_line().is_some() {
+        text.push_str(CUT)?;
+    }
+    text.push('\n')
+}
+
+fn push_caret(
+    text: &mut String,
+    mut line: Chars<'_>,
+    first: u64,
+    column: u64,
+) -> Result<(), AllocError> {
+    if first > 0 {
+        text.push_str("   ")?;
     }
     for _ in first..column {
-        match line.next_in_line() {
-            Some(c) => put_blank(text, c),
-            None => break,
-        }
+        let Some(c) = line.next_in_line() else {
+            break;
+        };
+        push_blank(text, c)?;
     }
-    text.put("^\n");
+    text.push_str("^\n")
 }
 
 /// Adds the source line of a place, a long one cut around it, and a caret under the place.
-pub(crate) fn put_excerpt(text: &mut Telling, source: Source<'_>, place: yaml_mark_t) {
+pub(crate) fn push_excerpt(
+    text: &mut String,
+    source: Source<'_>,
+    place: yaml_mark_t,
+) -> Result<(), AllocError> {
     let first = first_shown(place.column);
     let line = from_place(
         source,
@@ -114,6 +116,6 @@ pub(crate) fn put_excerpt(text: &mut Telling, source: Source<'_>, place: yaml_ma
             ..place
         },
     );
-    put_line(text, line, first, place.column);
-    put_caret(text, line, first, place.column);
+    push_line(text, line, first, place.column)?;
+    push_caret(text, line, first, place.column)
 }

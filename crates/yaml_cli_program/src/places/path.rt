@@ -1,8 +1,7 @@
 //! Paths from a stream's documents inwards, as people are shown them: `[0].service.ports[1]`, the document's number first.
 
 use super::chars::{Chars, Next};
-use super::excerpt::{is_hidden, put_shown};
-use super::text::Telling;
+use super::excerpt::{is_hidden, push_shown};
 use std::alloc::AllocError;
 use yaml_types::yaml_encoding_t;
 
@@ -24,40 +23,23 @@ pub enum Step<'k> {
 
 /// Adds a step.
 pub fn push_step(path: &mut String, step: Step<'_>) -> Result<(), AllocError> {
-    let mut text = Telling::new(*path.allocator());
-    put_step(&mut text, step);
-    path.push_str(text.finish()?.as_str())
-}
-
-// Adds a pair of which the key or the value is meant.
-fn put_pair(text: &mut Telling, what: &str, pair: u64) {
-    text.put(what);
-    text.put_number(pair, 0);
-    text.put_char('>');
-}
-
-fn put_step(text: &mut Telling, step: Step<'_>) {
     match step {
-        Step::Item(number) => {
-            text.put_char('[');
-            text.put_number(number, 0);
-            text.put_char(']');
-        }
-        Step::Key(pair) => put_pair(text, ".<key ", pair),
-        Step::Value(pair) => put_pair(text, ".<value ", pair),
-        Step::Named(key) => put_named(text, Chars::of(key, yaml_encoding_t::YAML_UTF8_ENCODING)),
+        Step::Item(number) => write!(path, "[{number}]"),
+        Step::Key(pair) => write!(path, ".<key {pair}>"),
+        Step::Value(pair) => write!(path, ".<value {pair}>"),
+        Step::Named(key) => push_named(path, Chars::of(key, yaml_encoding_t::YAML_UTF8_ENCODING)),
     }
 }
 
 // A key that is no more than a word is shown as it is.
-fn put_named(text: &mut Telling, key: Chars<'_>) {
+fn push_named(path: &mut String, key: Chars<'_>) -> Result<(), AllocError> {
     if is_word(key) {
-        text.put_char('.');
-        put_front(text, key);
+        path.push('.')?;
+        push_front(path, key)
     } else {
-        text.put("[\"");
-        put_front(text, key);
-        text.put("\"]");
+        path.push_str("[\"")?;
+        push_front(path, key)?;
+        path.push_str("\"]")
     }
 }
 
@@ -76,26 +58,19 @@ fn is_word(mut key: Chars<'_>) -> bool {
     key.left.is_empty()
 }
 
-// Adds what comes next of a key, with `\` before what would end it. False behind its last.
-fn put_next(text: &mut Telling, next: Next) -> bool {
-    match next {
-        Next::Char('"') => text.put("\\\""),
-        Next::Char('\\') => text.put("\\\\"),
-        Next::Char(c) => put_shown(text, c),
-        Next::Broken => text.put_char('\u{FFFD}'),
-        Next::End => return false,
-    }
-    true
-}
-
-// Adds a key, a long one cut.
-fn put_front(text: &mut Telling, mut key: Chars<'_>) {
+// Adds a key, a long one cut, with `\` before what would end it.
+fn push_front(path: &mut String, mut key: Chars<'_>) -> Result<(), AllocError> {
     for _ in 0..MOST_OF_KEY {
-        if !put_next(text, key.next_char()) {
-            return;
+        match key.next_char() {
+            Next::Char('"') => path.push_str("\\\"")?,
+            Next::Char('\\') => path.push_str("\\\\")?,
+            Next::Char(c) => push_shown(path, c)?,
+            Next::Broken => path.push('\u{FFFD}')?,
+            Next::End => return Ok(()),
         }
     }
-    if !key.left.is_empty() {
-        text.put("...");
+    if key.left.is_empty() {
+        return Ok(());
     }
+    path.push_str("...")
 }

@@ -166,11 +166,11 @@ unfolding may_turn
 fold_may b n h = h
 
 -- what a cut needs
-record CutNeeds (page : Page) (before x : ℕ) (xs : List ℕ) : Type 0 where
-  cuts : page.cuts ≡ true
-  space : x ≡ 32
-  behind : (before == 32) ≡ false
-  next : (first xs == 32) ≡ false
+pub record CutNeeds (page : Page) (before x : ℕ) (xs : List ℕ) : Type 0 where
+  pub cuts : page.cuts ≡ true
+  pub space : x ≡ 32
+  pub behind : (before == 32) ≡ false
+  pub next : (first xs == 32) ≡ false
 
 -- what stands where a line is cut
 pub cut_needs : (page : Page) (before x : ℕ) (xs : List ℕ) → cuts_at page before x xs ≡ true

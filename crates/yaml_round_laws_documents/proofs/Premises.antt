@@ -118,8 +118,8 @@ are_spellable (d ∷ ds) (h, hs) = (h.opening, have_prefixes d.directives h.pref
 
 -- the directives may be written
 pub record Opened (o : Opening) : Type 0 where
-  right : opening_problem o ≡ None
-  utf8 : HaveUtf8 o.directives
+  pub right : opening_problem o ≡ None
+  pub utf8 : HaveUtf8 o.directives
 
 -- a tag that may be written is readable under the document's directives
 pub readable_tag : WrittenTagsAreReadable → (o : Opening) → Opened o → (tag : Option (List ℕ))

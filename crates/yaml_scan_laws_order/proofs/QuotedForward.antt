@@ -15,7 +15,7 @@ some_of : (b : ℕ) → (b == 0) ≡ false → 0 < b
 some_of b h = grind (arith, nat_tests)
 
 -- there is a value
-abbrev IsThere : {A : Type 0} → Option A → Type 0
+abbrev pub IsThere : {A : Type 0} → Option A → Type 0
 IsThere (Some x) = Unit {0}
 IsThere None = ⊥
 

@@ -7,7 +7,7 @@ use Rattle.std.proofs.lemmas.List.{length-append}
 use Rattle.std.proofs.lemmas.Str.{scalars-chars, encodes-chars}
 use Rattle.std.specs.Str.{chars}
 use Rattle.std.proofs.Math.Bool.{and-false}
-use Rattle.yaml_scan_history.specs.scan_model.Classes.{is_alpha_byte, is_digit_byte}
+use Rattle.yaml_scan_history.specs.scan_model.Classes.{is_alpha_byte, is_digit_byte, has_break}
 use Rattle.yaml_scan_history.specs.scan_words.Written.{are_alphas}
 use Rattle.yaml_emit_layout.specs.scan_model.declared.yaml_scalar_style_t.{yaml_scalar_style_t}
 use Rattle.yaml_emit_layout.specs.scan_model.declared.yaml_scalar_style_t.TheVariants as asked
@@ -27,7 +27,7 @@ use Rattle.yaml_emit_layout.specs.emit_tags.Tags.{suffix_keeps, keeps_byte, uri_
 use Rattle.yaml_emit_layout.specs.declared.level.Part.TheVariants as part
 use Rattle.yaml_emit_layout.specs.Content.{Scalar, Start, alias_node, scalar_node, sequence_node, mapping_node, no_nodes, node, no_pairs, pair, Opening}
 use Rattle.yaml_emit_layout.specs.Grammar.{has, kept_if, scalar_tag, start_tag}
-use Rattle.yaml_emit_layout.specs.Nodes.{Context, context_of, position, deeper, checked, anchor_text, tag_text, properties_text, is_plain, style_of, mark_text, page_at, scalar_layout, alias_layout, text_size, written_size, properties_size, has_break, is_simple_scalar, is_simple_alias, is_simple_start, is_simple, is_flow, indent_of, indented, closer, node_layout, items_layout, pairs_layout}
+use Rattle.yaml_emit_layout.specs.Nodes.{Context, context_of, position, deeper, checked, anchor_text, tag_text, properties_text, is_plain, style_of, mark_text, page_at, scalar_layout, alias_layout, text_size, written_size, properties_size, is_simple_scalar, is_simple_alias, is_simple_start, is_simple, is_flow, indent_of, indented, closer, node_layout, items_layout, pairs_layout}
 use Rattle.yaml_emit_laws_text.specs.ReadBack.{is_one_line}
 use Rattle.yaml_emit_laws_text.specs.TagsLaws.{IsShaped, IsReadable, are_ascii, IsMarked}
 use Rattle.yaml_emit_laws_text.specs.Writable.{IsWritableName, IsWritableAnchor, IsWritableTag, IsWritableOpening}

@@ -6,11 +6,10 @@ use Rattle.std.proofs.lemmas.List.{length-append}
 use Rattle.std.proofs.lemmas.Str.{encodes-chars}
 use Rattle.std.specs.Str.{chars}
 use Rattle.yaml_scan_history.specs.scan_model.Marks.{byte, break_of, line_at}
-use Rattle.yaml_scan_history.specs.scan_model.Classes.{is_break as breaks_at}
+use Rattle.yaml_scan_history.specs.scan_model.Classes.{is_break as breaks_at, any_below, has_break}
 use Rattle.yaml_scan_history.proofs.MarksLemmas.{line_more}
 use Rattle.yaml_scan_history.proofs.HasLemmas.{Has, has, has_front, has_rest}
 use Rattle.yaml_emit_layout.specs.emit_text.Text.{is_break}
-use Rattle.yaml_emit_layout.specs.Nodes.{any_below, has_break}
 use Rattle.yaml_emit_laws_text.specs.ReadBack.{is_one_line}
 use Rattle.yaml_emit_laws_text.proofs.Chars.{encode_1, encode_2, encode_3, encode_4}
 use Rattle.yaml_emit_laws_text.proofs.Bytes.{low_end, first_end, second_end, third_end}

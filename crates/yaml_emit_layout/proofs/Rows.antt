@@ -4,7 +4,7 @@ use Rattle.std.specs.Prelude.{codes}
 use Rattle.std.specs.Str.{chars}
 use Rattle.yaml_emit_tags.specs.scan_model.declared.yaml_scalar_style_t.{yaml_scalar_style_t}
 use Rattle.yaml_emit_tags.specs.scan_model.declared.yaml_scalar_style_t.TheVariants as asked
-use Rattle.yaml_emit_tags.specs.scan_model.Classes.{is_alpha_byte, is_digit_byte}
+use Rattle.yaml_emit_tags.specs.scan_model.Classes.{is_alpha_byte, is_digit_byte, any_below}
 use Rattle.yaml_emit_tags.specs.parse_model.Events.{TagDirective}
 use Rattle.yaml_emit_text.specs.declared.Settings.{Settings}
 use Rattle.yaml_emit_text.specs.declared.Encoding.TheVariants.{Utf8, Utf16Le}
@@ -19,7 +19,7 @@ use Rattle.yaml_emit_tags.specs.Tags.{directive_for, defines, suffix_keeps, uri_
 use Rattle.yaml_emit_layout.specs.declared.problem.Problem.TheVariants as problem
 use Rattle.yaml_emit_layout.specs.Content.{Scalar, Start, Node, alias_node, scalar_node, sequence_node, mapping_node, no_nodes, node, no_pairs, pair, Document, Event, document_start, alias, scalar, sequence_start}
 use Rattle.yaml_emit_layout.specs.Grammar.{handle_problem, directives_problem, event_problem, last_problem, own_problems}
-use Rattle.yaml_emit_layout.specs.Nodes.{style_of, scalar_layout, alias_layout, is_simple_scalar, is_simple_alias, is_simple_start, is_simple, any_below, turned, before_item, before_key, before_value, closer, node_layout, items_layout, pairs_layout, directives_text, start_layout, end_layout, stop_layout, documents_layout, stream_layout}
+use Rattle.yaml_emit_layout.specs.Nodes.{style_of, scalar_layout, alias_layout, is_simple_scalar, is_simple_alias, is_simple_start, is_simple, turned, before_item, before_key, before_value, closer, node_layout, items_layout, pairs_layout, directives_text, start_layout, end_layout, stop_layout, documents_layout, stream_layout}
 
 abbrev canonical : Settings
 canonical = record { encoding = Utf8; canonical = true; indent = 2; width = 80; unicode = true; line_break = Lf }

@@ -2,7 +2,7 @@
 use Rattle.std.specs.Prelude.{ℕ, ◌+◌, ◌-◌, Bool, true, false, not, ◌&&◌, ◌||◌, ◌==◌, nat_le, nat_lt, if◌then◌else◌, List, [], ◌∷◌, length, Option, Some, None, pos, codes, zero, suc}
 use Rattle.std.specs.Ordering.{int_eq}
 use Rattle.std.specs.Str.{chars}
-use Rattle.yaml_emit_tags.specs.scan_model.Classes.{is_break}
+use Rattle.yaml_emit_tags.specs.scan_model.Classes.{has_break}
 use Rattle.yaml_emit_tags.specs.scan_model.declared.yaml_version_directive_t.{yaml_version_directive_t}
 use Rattle.yaml_emit_tags.specs.parse_model.Events.{TagDirective}
 use Rattle.yaml_emit_text.specs.declared.Cursor.{Cursor}
@@ -124,15 +124,6 @@ written_size p (Some t) = tag_size p.directives t
 -- bytes of the anchor, and of the tag's handle and suffix before they are escaped
 abbrev pub properties_size : Context → Option (List ℕ) → Option (List ℕ) → ℕ
 properties_size p anchor tag = text_size anchor + written_size p tag
-
--- one of the first n numbers passes a test
-unfoldable pub any_below : ℕ → (ℕ → Bool) → Bool
-any_below zero p = false
-any_below (suc n) p = any_below n p || p n
-
--- somewhere a line break begins
-abbrev pub has_break : List ℕ → Bool
-has_break value = any_below (length value) (is_break value)
 
 -- a simple key has no break, and at most 128 bytes of anchor, tag and value; canonical form has none
 unfoldable pub is_simple_scalar : Context → Scalar → Bool

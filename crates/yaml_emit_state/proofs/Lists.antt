@@ -1,16 +1,13 @@
 -- Loops over lists.
-use Rattle.std.proofs.Common.{◌≡◌, ℕ, ◌+◌, ◌<◌, ◌≤◌, List, [], ◌∷◌, ◌++◌, length, take, drop, get_or, map, Bool, true, false, refl, sym, ◌∙◌, ap, arith, subst, inl, inr, add-one, Option, None, Some}
-use Rattle.std.specs.Prelude.{zero, suc}
+use Rattle.std.proofs.Common.{◌≡◌, ℕ, ◌+◌, ◌<◌, ◌≤◌, List, [], ◌∷◌, ◌++◌, length, take, drop, get_or, map, sym, ◌∙◌, ap, subst, Option, None, Some}
 use Rattle.std.proofs.lemmas.List.{drop_more, drop_all, take_more, map-append}
-use Rattle.std.proofs.lemmas.Bool.{cases_eq}
-use Rattle.std.proofs.Math.Bool.{or-true}
 use Rattle.yaml_parse_model.specs.Events.{TagDirective}
 use Rattle.yaml_emit_text.specs.declared.Settings.{Settings}
 use Rattle.yaml_emit_text.specs.Sink.{Output, Owes, Puts}
 use Rattle.yaml_emit_text.proofs.Sinks.{owes_more}
 use Rattle.yaml_emit_layout.specs.declared.Problem.{Problem}
 use Rattle.yaml_emit_layout.specs.Grammar.{directives_problem, directive_problem, or_else}
-use Rattle.yaml_emit_layout.specs.Nodes.{any_below, directives_text, directive_text}
+use Rattle.yaml_emit_layout.specs.Nodes.{directives_text, directive_text}
 
 pub next_item : {X : Type 0} (xs : List X) (i : ℕ) (y : X) → i < length xs → y ≡ get_or xs i y
     → drop i xs ≡ y ∷ drop (i + 1) xs
@@ -37,20 +34,6 @@ pub directives_all : {X : Type 0} (f : X → TagDirective) (s : Settings) (a b :
     → Puts a b (directives_text s (map f xs))
 unfolding directives_text
 directives_all {X} f s a b xs i h p = let P : List X → Type 0 = λ t. Owes a b (directives_text s (map f xs)) (directives_text s (map f t)) in subst P (drop_all _ _ h) p
-
--- a test of the first numbers
-pub below_found : (p : ℕ → Bool) (n i : ℕ) → i < n → p i ≡ true → any_below n p ≡ true
-unfolding any_below
-below_found p zero i h e = absurd (omega arith)
-below_found p (suc n) i h e = elim (cases_eq i n) [
-  | inl same ↦ (let k : p n ≡ true = ap p (sym same) ∙ e in rw k (or-true (any_below n p)))
-  | inr other ↦ (let k : any_below n p ≡ true = below_found p n i (omega (arith, other)) e in rw k refl)
-]
-
-pub below_more : (p : ℕ → Bool) (i : ℕ) → any_below i p ≡ false → p i ≡ false
-    → any_below (i + 1) p ≡ false
-unfolding any_below
-below_more p i h e = rw add-one (rw (h, e) refl)
 
 -- a problem more of those of a list
 pub problem_more : {X : Type 0} (f : X → TagDirective) (r : Option Problem) (xs : List X) (i : ℕ)

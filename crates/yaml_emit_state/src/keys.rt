@@ -1,10 +1,9 @@
 //! Simple keys.
 ghost use Rattle.std.specs.Prelude.{◌≡◌, ◌∷◌, [], None, Some, true, false, not, ◌&&◌, ◌||◌, map, length, nat_le, ◌+◌, ◌≤◌, ◌<◌};
-ghost use Rattle.yaml_scan_model.specs.Classes.{is_break};
 ghost use Rattle.yaml_parse_model.specs.Events.{text_of, body_of};
 ghost use Rattle.yaml_emit_layout.specs.Content.{emitter_event, is_flow_sequence, is_flow_mapping};
 ghost use Rattle.yaml_emit_layout.specs.Grammar.{kept_tag};
-ghost use Rattle.yaml_emit_layout.specs.Nodes.{has_break, properties_size, text_size, written_size, is_simple_scalar, is_simple_alias, is_simple_start};
+ghost use Rattle.yaml_emit_layout.specs.Nodes.{properties_size, text_size, written_size, is_simple_scalar, is_simple_alias, is_simple_start};
 ghost use Rattle.yaml_emit_layout.specs.State.{is_simple_event};
 ghost use Rattle.yaml_emit_state.specs.Due.{is_key_in, is_key};
 ghost use Rattle.yaml_emit_state.specs.Given.{lent_context, lent_scalar, lent_start};
@@ -13,37 +12,8 @@ use crate::given::{Context, Scalar, Start};
 use yaml_emit_layout::{Level, Phase};
 use yaml_emit_tags::tag_size;
 use yaml_parse_model::yaml_event_body_t;
-use yaml_scan_classes::IS_BREAK;
+use yaml_scan_classes::has_break;
 use yaml_scan_model::{yaml_mapping_style_t, yaml_sequence_style_t};
-
-// Whether a break begins there. Most bytes tell by themselves that none does.
-// Inlined: two comparisons a byte.
-#[inline(always)]
-#[tactic(auto, unfolding(yaml_types::specs::Marks::break_of))]
-fn begins_break(value: &[u8], place: usize) -> bool
-    requires { place < length value.now }
-    ensures { result ≡ is_break value.now place }
-{
-    let byte = value[place];
-    if b'\r' < byte && byte < 0xC2 {
-        false
-    } else {
-        IS_BREAK(value, place)
-    }
-}
-
-// Inlined into its one caller.
-#[inline(always)]
-fn has_break(value: &[u8]) -> bool
-    ensures { result ≡ has_break value.now }
-{
-    for i in 0..value.len() {
-        if begins_break(value, i) {
-            return true;
-        }
-    }
-    false
-}
 
 fn text_size(text: &Option<Vec<u8>>) -> usize
     ensures { result ≡ text_size (text_of text.now) }

@@ -1,25 +1,7 @@
--- Where a value has a break, and how it ends.
-use Rattle.std.proofs.Common.{◌≡◌, ◌∙◌, ℕ, ◌<◌, ◌+◌, ◌-◌, ◌==◌, List, [], ◌∷◌, length, get_or, Bool, true, false, refl, sym, ap, subst, arith, inl, inr, add-one}
-use Rattle.std.specs.Prelude.{zero, suc, ◌&&◌}
-use Rattle.std.proofs.lemmas.Bool.{cases_eq}
-use Rattle.std.proofs.Math.Bool.{or-true}
+-- How a value ends.
+use Rattle.std.proofs.Common.{◌≡◌, ◌∙◌, ℕ, ◌-◌, ◌==◌, List, [], ◌∷◌, length, get_or, true, false, refl, ap, arith}
 use Rattle.std.proofs.lemmas.Bool.Decides.{nat_tests}
-use Rattle.yaml_emit_layout.specs.Nodes.{any_below}
 use Rattle.yaml_round_laws_normal.specs.round_content.emit_text.Style.{last_or}
-
--- a test of the first numbers
-pub below_found : (p : ℕ → Bool) (n i : ℕ) → i < n → p i ≡ true → any_below n p ≡ true
-unfolding any_below
-below_found p zero i h e = absurd (omega arith)
-below_found p (suc n) i h e = elim (cases_eq i n) [
-  | inl same ↦ (let k : p n ≡ true = ap p (sym same) ∙ e in rw k (or-true (any_below n p)))
-  | inr other ↦ (let k : any_below n p ≡ true = below_found p n i (omega (arith, other)) e in rw k refl)
-]
-
-pub below_more : (p : ℕ → Bool) (i : ℕ) → any_below i p ≡ false → p i ≡ false
-    → any_below (i + 1) p ≡ false
-unfolding any_below
-below_more p i h e = rw add-one (rw (h, e) refl)
 
 last_at : (before x : ℕ) (xs : List ℕ) → get_or (x ∷ xs) (length xs) 0 ≡ last_or before (x ∷ xs)
 unfolding last_or
@@ -35,14 +17,3 @@ pub last_none : (before : ℕ) (xs : List ℕ) → (length xs == 0) ≡ true →
 unfolding last_or
 last_none before [] h = refl
 last_none before (x ∷ xs) h = absurd (grind (arith, nat_tests, h))
-
--- one place more of a row
-pub row_more : (p : ℕ → Bool) (at n : ℕ) (all one : Bool)
-    → (all ≡ true → any_below at p ≡ false → any_below (at + n) p ≡ false)
-    → (one ≡ true → p (at + n) ≡ false)
-    → (all && one) ≡ true → any_below at p ≡ false → any_below (at + (n + 1)) p ≡ false
-row_more p at n true true h k e none =
-    let on : (at + n) + 1 ≡ at + (n + 1) = omega arith in
-    subst (λ (m : ℕ). any_below m p ≡ false) on (below_more p (at + n) (h refl none) (k refl))
-row_more p at n true false h k e none = absurd (cc)
-row_more p at n false one h k e none = absurd (cc)

@@ -1,23 +1,18 @@
 //! The normal form that people read, event by event: each is given the style that its content alone decides.
 
-ghost use Rattle.std.specs.Prelude.{◌≡◌, ◌+◌, ◌<◌, ◌≤◌, true, false, length, map};
-ghost use Rattle.yaml_scan_model.specs.Classes.{is_break};
+ghost use Rattle.std.specs.Prelude.{◌≡◌, map};
 ghost use Rattle.yaml_parse_model.specs.Constructors.{HasUtf8};
 ghost use Rattle.yaml_parse_model.specs.Events.{event_of, text_of, directive_of};
 ghost use Rattle.yaml_emit_layout.specs.Content.{emitter_event};
-ghost use Rattle.yaml_emit_layout.specs.Nodes.{any_below, has_break};
 ghost use Rattle.yaml_round_beginning.specs.Styles as spec;
 
 use crate::beginning::has_none;
 use yaml_parse_model::{yaml_event_body_t, yaml_event_t};
-use yaml_scan_classes::IS_BREAK;
+use yaml_scan_classes::has_break;
 use yaml_scan_model::{
     yaml_encoding_t, yaml_mapping_style_t, yaml_scalar_style_t, yaml_sequence_style_t,
     yaml_tag_directive_t, yaml_version_directive_t,
 };
-
-// How many bytes are looked at in a row.
-const ROW: usize = 32;
 
 /// Where an event stands.
 #[derive(Clone, Copy)]
@@ -28,75 +23,6 @@ pub enum OpeningPosition {
     Starts,
     /// Elsewhere.
     Within,
-}
-
-// Whether the byte there tells by itself that no break begins there, as most do.
-// Inlined: two comparisons a byte.
-#[inline(always)]
-#[tactic(auto, unfolding(yaml_types::specs::Marks::break_of))]
-fn tells_none(value: &[u8], place: usize) -> bool
-    requires { place < length value.now }
-    ensures { result ≡ true → is_break value.now place ≡ false }
-{
-    let byte = value[place];
-    (b'\r' < byte) & (byte < 0xC2)
-}
-
-// Whether so many bytes stand there, and all tell it.
-// Inlined into the loop over such rows; without an early exit, so that the bytes are looked at side by side.
-#[inline(always)]
-fn row_tells_none(value: &[u8], at: usize) -> bool
-    ensures inside { result ≡ true → at + 32 ≤ length value.now }
-    ensures none { result ≡ true → any_below at (is_break value.now) ≡ false
-        → any_below (at + 32) (is_break value.now) ≡ false }
-{
-    if value.len().saturating_sub(at) < ROW {
-        return false;
-    }
-    let mut all = true;
-    let mut count = 0;
-    'bytes: while count < ROW {
-        all = all & tells_none(value, at + count);
-        count += 1;
-    }
-    all
-}
-
-// How many bytes stand in front in rows that tell it.
-fn rows_without(value: &[u8]) -> usize
-    ensures inside { result ≤ length value.now }
-    ensures none { any_below result (is_break value.now) ≡ false }
-{
-    let mut end = 0;
-    'rows: while row_tells_none(value, end) {
-        end += ROW;
-    }
-    end
-}
-
-// Whether a break begins there.
-// Inlined: two comparisons a byte.
-#[inline(always)]
-fn begins_break(value: &[u8], place: usize) -> bool
-    requires { place < length value.now }
-    ensures { result ≡ is_break value.now place }
-{
-    if tells_none(value, place) {
-        false
-    } else {
-        IS_BREAK(value, place)
-    }
-}
-
-fn has_break(value: &[u8]) -> bool
-    ensures { result ≡ has_break value.now }
-{
-    for i in rows_without(value)..value.len() {
-        if begins_break(value, i) {
-            return true;
-        }
-    }
-    false
 }
 
 fn ends_in_space(value: &[u8]) -> bool

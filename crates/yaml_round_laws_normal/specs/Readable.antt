@@ -10,7 +10,8 @@ use Rattle.yaml_round_content.specs.emit_text.Layout.{written}
 use Rattle.yaml_round_content.specs.emit_text.Style.{last_or}
 use Rattle.yaml_round_content.specs.emit_layout.Content as emit
 use Rattle.yaml_round_content.specs.emit_layout.Grammar.{has}
-use Rattle.yaml_round_content.specs.emit_layout.Nodes.{has_break, has_version, has_directives, stream_layout}
+use Rattle.yaml_round_content.specs.scan_model.Classes.{has_break}
+use Rattle.yaml_round_content.specs.emit_layout.Nodes.{has_version, has_directives, stream_layout}
 use Rattle.yaml_round_content.specs.Said as content
 use Rattle.yaml_round_content.specs.Said.{ScalarMark, untagged, tagged, Node, Nodes, Pairs, Document}
 use Rattle.yaml_round_content.specs.Canon.{canon_encoding}

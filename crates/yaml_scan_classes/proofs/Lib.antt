@@ -1,1 +1,2 @@
+mod BreaksLemmas
 pub mod ClassesLemmas

@@ -1,5 +1,5 @@
 -- The classes of bytes: what stands at a place of a text.
-use Rattle.std.specs.Prelude.{ℕ, ◌+◌, ◌-◌, Bool, true, not, ◌&&◌, ◌||◌, ◌==◌, nat_lt, nat_le, if◌then◌else◌, List, length}
+use Rattle.std.specs.Prelude.{ℕ, zero, suc, ◌+◌, ◌-◌, Bool, true, false, not, ◌&&◌, ◌||◌, ◌==◌, nat_lt, nat_le, if◌then◌else◌, List, length}
 use Rattle.yaml_types.specs.Marks.{byte, break_width, is_blank as is_blank_byte}
 
 -- 0-9
@@ -78,6 +78,15 @@ is_break text p = nat_lt 0 (break_width text p)
 
 abbrev pub is_crlf : List ℕ → ℕ → Bool
 is_crlf text p = byte text p == 13 && byte text (p + 1) == 10
+
+-- one of the first n numbers passes a test
+unfoldable pub any_below : ℕ → (ℕ → Bool) → Bool
+any_below zero p = false
+any_below (suc n) p = any_below n p || p n
+
+-- somewhere a line break begins
+abbrev pub has_break : List ℕ → Bool
+has_break text = any_below (length text) (is_break text)
 
 abbrev pub is_breakz : List ℕ → ℕ → Bool
 is_breakz text p = is_break text p || is_z text p

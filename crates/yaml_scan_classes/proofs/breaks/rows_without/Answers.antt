@@ -1,6 +1,6 @@
 use Rattle.std.proofs.Common.{refl, arith}
-use Rattle.yaml_emit_layout.specs.Nodes.{any_below}
-use Rattle.yaml_round_beginning.proofs.styles.rows_without.Goals as goal
+use Rattle.yaml_types.specs.Classes.{any_below}
+use Rattle.yaml_scan_classes.proofs.breaks.rows_without.Goals as goal
 
 pub rows-init : goal.rows-init
 unfolding any_below

@@ -1,11 +1,6 @@
-use Rattle.std.proofs.Common.{refl, sym, ◌∙◌}
-use Rattle.yaml_emit_layout.specs.Nodes.{any_below}
-use Rattle.yaml_emit_state.proofs.Lists.{below_found, below_more}
-use Rattle.yaml_emit_state.proofs.keys.has_break.Goals as goal
-
-pub loop-i-init : goal.loop-i-init
-unfolding any_below
-loop-i-init c = refl
+use Rattle.std.proofs.Common.{sym, ◌∙◌}
+use Rattle.yaml_scan_classes.proofs.BreaksLemmas.{below_found, below_more}
+use Rattle.yaml_scan_classes.proofs.breaks.has_break.Goals as goal
 
 pub returns-then-begins_break : goal.returns-then-begins_break
 returns-then-begins_break c = sym (below_found _ _ _ c.loop-i-test.true (sym c.begins_break.ensures ∙ c.if-begins_break.true))

@@ -1,18 +1,17 @@
 -- An event that is laid out is judged, and what follows is judged and written as before.
-use Rattle.std.proofs.Common.{◌≡◌, ◌⊎◌, inl, inr, ℕ, zero, suc, ◌+◌, drop, List, [], ◌∷◌, ◌++◌, length, Bool, true, false, refl, sym, subst, ◌∙◌, ap, arith, Option, Some, None, length-append}
+use Rattle.std.proofs.Common.{◌≡◌, ℕ, zero, suc, ◌+◌, drop, List, [], ◌∷◌, ◌++◌, length, Bool, true, false, refl, sym, subst, ◌∙◌, ap, arith, Option, Some, None, length-append}
 use Rattle.std.specs.Prelude.{not, nat_le, ◌||◌, ◌&&◌}
 use Rattle.std.proofs.lemmas.Bool.Decides.{nat_tests}
-use Rattle.std.proofs.lemmas.Bool.{false≢true, or_right, or_parts}
+use Rattle.std.proofs.lemmas.Bool.{false≢true, or_right}
 use Rattle.yaml_parse_model.specs.Events.{TagDirective}
 use Rattle.yaml_emit_text.specs.declared.Cursor.{Cursor}
 use Rattle.yaml_emit_text.specs.declared.Settings.{Settings}
 use Rattle.yaml_emit_text.specs.declared.Status.{Status}
 use Rattle.yaml_emit_text.specs.declared.Status.TheVariants.{Going, Full, Deep, Starved}
-use Rattle.yaml_emit_text.specs.declared.Encoding.{Encoding}
-use Rattle.yaml_emit_text.specs.Text.{Item, encode}
-use Rattle.yaml_emit_text.specs.Layout.{Layout, Rest, stay, nothing_more}
+use Rattle.yaml_emit_text.specs.Text.{Item}
+use Rattle.yaml_emit_text.specs.Layout.{Layout, Rest, nothing_more}
 use Rattle.yaml_emit_text.specs.Sink.{Output, Ends, Puts}
-use Rattle.yaml_emit_text.proofs.Sinks.{grows_none, grows_both, ends_other, status_cases}
+use Rattle.yaml_emit_text.proofs.Sinks.{ends_other, status_cases}
 use Rattle.yaml_emit_layout.specs.declared.Problem.{Problem}
 use Rattle.yaml_emit_layout.specs.declared.Level.{Level}
 use Rattle.yaml_emit_layout.specs.declared.Phase.{Phase}
@@ -24,16 +23,12 @@ use Rattle.yaml_emit_layout.specs.Grammar.{or_else, ends_phase, begins_node, may
 use Rattle.yaml_emit_layout.specs.Nodes.{Context, context_of}
 use Rattle.yaml_emit_layout.specs.State.{State, piece, next, next_at, problem_at, opens_empty, begins_by, is_sequence_end, is_mapping_end, top_of, outer_of, place_at, among, levels_behind, phase_behind}
 use Rattle.yaml_emit_state.specs.declared.Core.{Core}
-use Rattle.yaml_emit_state.specs.Steps.{state_of, settings_of, next_state, next_piece, LaysOut, IsPut, takes_memory, is_document_start, may_note, goes_on}
-use Rattle.yaml_emit_state.specs.Finish.{Finishes}
-use Rattle.yaml_emit_state.proofs.Finishing.{finishes_on}
-use Rattle.yaml_emit_state.proofs.Noting.{notes_both, notes_within}
-use Rattle.yaml_emit_held.specs.Held.{is_ready, needs, closes, passes, opens_level, ends_level}
+use Rattle.yaml_emit_state.specs.Steps.{state_of, settings_of, next_state, next_piece, LaysOut, takes_memory, is_document_start, may_note, goes_on}
+use Rattle.yaml_emit_state.proofs.Finishing.{same_settings}
+use Rattle.yaml_emit_held.specs.Held.{is_ready, needs, closes, opens_level, ends_level}
 use Rattle.yaml_emit_layout.specs.Progress.{Due, item_due, key_due, progress_after, inside, behind_node, outer_due, phase_due, level_due, problem_in, first_refusal}
-use Rattle.yaml_emit_held.specs.Judged.{let_out, unless, laid, refused_at, due_in, due_of, shape_of, refusal_among, text_among, refusal_from, refusal_behind, LetsOut, first_wrong, LaysAll, take_memory, laid_some, some_among, LaysSome, first_takes, first_starts, RefusesHeld}
-use Rattle.yaml_emit_held.specs.Laying.{HasLaid, LaysEvents}
-use Rattle.yaml_emit_held.proofs.Opening.{opens_none}
-use Rattle.yaml_emit_held.proofs.Holding.{ready_empty, none_needed}
+use Rattle.yaml_emit_held.specs.Judged.{let_out, unless, laid, refused_at, due_in, due_of, shape_of, refusal_among, text_among, refusal_from, refusal_behind, LetsOut, first_wrong, LaysAll, laid_some, some_among, LaysSome, first_takes, first_starts}
+use Rattle.yaml_emit_held.proofs.Holding.{none_needed}
 
 -- ---- what is ready stays so
 
@@ -143,7 +138,9 @@ place_open : (l : Option Level) → refused_at (place_at l) ≡ None
 place_open None = refl
 place_open (Some l) = refl
 
-open_at : (p : Context) (place : Expected) (ls : List Level) (e : Event) (empty : Bool) (d : Cursor)
+-- behind an event no place is refused where none was
+pub open_at : (p : Context) (place : Expected) (ls : List Level) (e : Event) (empty : Bool)
+    (d : Cursor)
     → refused_at place ≡ None → refused_at (next_at p place ls e empty d).place ≡ None
 unfolding next_at
 open_at p place ls no_event empty d h = h
@@ -158,7 +155,8 @@ open_at p place ls (mapping_start q) empty d h = refl
 open_at p place ls sequence_end empty d h = place_open (top_of (outer_of ls))
 open_at p place ls mapping_end empty d h = place_open (top_of (outer_of ls))
 
-open_next : (s : Settings) (st : State) (e : Event) (empty : Bool) (d : Cursor)
+-- the same by the state
+pub open_next : (s : Settings) (st : State) (e : Event) (empty : Bool) (d : Cursor)
     → refused_at st.place ≡ None → refused_at (next s st e empty d).place ≡ None
 open_next s st e empty d h = open_at (context_of s st.directives) st.place st.levels e empty d h
 
@@ -205,7 +203,8 @@ pub or_some : (p q : Option Problem) (x : Problem) → p ≡ Some x → or_else 
 or_some None q x e = absurd (cc)
 or_some (Some y) q x e = e
 
-first_out : (e : Event) (es : List Event) → is_ready (e ∷ es) ≡ true
+-- an event that waits for nothing is let out
+pub first_out : (e : Event) (es : List Event) → is_ready (e ∷ es) ≡ true
     → let_out (e ∷ es) ≡ e ∷ let_out es
 unfolding let_out
 first_out e es r = rw r refl
@@ -280,7 +279,8 @@ unfolding let_out
 mapping_begins [] = refl
 mapping_begins (f ∷ es) = out_begins is_mapping_end (is_ready (f ∷ es)) f es refl (end_mapping f es)
 
-empty_out : (e : Event) (es : List Event) → opens_empty e (let_out es) ≡ opens_empty e es
+-- whether a collection is opened and at once closed is told by the events that are let out
+pub empty_out : (e : Event) (es : List Event) → opens_empty e (let_out es) ≡ opens_empty e es
 unfolding opens_empty
 empty_out (sequence_start p) es = sequence_begins es
 empty_out (mapping_start p) es = mapping_begins es
@@ -320,10 +320,6 @@ text_wrong : (s : Settings) (st : State) (e : Event) (es : List Event) (c : Curs
     (x : Problem) → refused_at st.place ≡ None → problem_at s st e ≡ Some x
     → text_among s st (e ∷ es) c rest ≡ rest c
 text_wrong s st e es c rest x o p = unless_none (refused_at st.place) _ c rest o ∙ laid_wrong s st e es c rest x p
-
-same_settings : (old new : Core) → new.settings ≡ old.settings
-    → new.sink.encoding ≡ old.sink.encoding → settings_of new ≡ settings_of old
-same_settings old new e x = rw (e, x) refl
 
 -- what an event that was laid out has done, by what was wrong with it
 pub record Done (old new : Core) (e : Event) (empty : Bool) (p : Option Problem) : Type 0 where

@@ -1,12 +1,11 @@
 -- A block scalar and the line behind it, and both at a position of a layout.
-use Rattle.std.proofs.Common.{◌≡◌, ℕ, zero, suc, ◌+◌, ◌-◌, ◌<◌, ◌≤◌, Bool, true, false, not, ◌&&◌, ◌||◌, ◌==◌, List, [], ◌∷◌, ◌++◌, length, replicate, get_or, Option, Some, None, refl, sym, ap, subst, ◌∙◌, arith, add-zero, append_assoc, encode_utf8_all}
+use Rattle.std.proofs.Common.{◌≡◌, ℕ, zero, suc, ◌+◌, ◌-◌, ◌<◌, ◌≤◌, Bool, true, false, not, ◌&&◌, ◌||◌, ◌==◌, List, ◌++◌, length, replicate, Option, Some, None, refl, sym, ap, subst, ◌∙◌, arith, append_assoc, encode_utf8_all}
 use Rattle.std.specs.Prelude.{if◌then◌else◌}
 use Rattle.std.specs.Str.{chars}
 use Rattle.std.proofs.lemmas.List.{length-append}
 use Rattle.std.proofs.lemmas.Str.{encodes-append}
-use Rattle.yaml_scan_history.specs.scan_model.Marks.{byte}
 use Rattle.yaml_scan_history.specs.scan_words.Written.{HasAt}
-use Rattle.yaml_scan_history.proofs.HasLemmas.{Has, has, has_front, has_rest}
+use Rattle.yaml_scan_history.proofs.HasLemmas.{has, has_front, has_rest, has_at}
 use Rattle.yaml_emit_laws_text.specs.emit_text.declared.Cursor.{Cursor}
 use Rattle.yaml_emit_laws_text.specs.emit_text.declared.LineBreak.{LineBreak}
 use Rattle.yaml_emit_laws_text.specs.emit_text.declared.page.Page.{Page}
@@ -26,9 +25,10 @@ use Rattle.yaml_emit_laws_text.specs.emit_layout.Nodes.{Context, is_simple_part,
 use Rattle.yaml_emit_laws_text.proofs.Back.{front_append}
 use Rattle.yaml_emit_laws_block.specs.Lines.{closing, NoWhite}
 use Rattle.yaml_emit_laws_block.specs.Laws.{is_keep, BlockStands, BlockReads, BlockIsReadBack, BlockBeforeLine, margin_round, block_style, BlockIsChosen, BlockAtPosition}
-use Rattle.yaml_emit_laws_block.proofs.Layouts.{start_at, line_is, start_is}
+use Rattle.yaml_emit_laws_block.proofs.Layouts.{line_is, start_is}
 use Rattle.yaml_emit_laws_block.proofs.Reading.{spaces_encode, length_spaces}
 use Rattle.yaml_emit_laws_text.proofs.Single.{after_blanks}
+use Rattle.yaml_emit_laws_text.proofs.Forms.{at_line}
 
 -- ---- the line behind
 
@@ -41,7 +41,7 @@ spaced_cursor (suc m) k kept =
     spaced_cursor m (k + 1) kept ∙ ap (λ j. record { column = j; white = true; bare = true; kept = kept }) e
 
 spaced_start : (m : ℕ) (kept : Bool)
-    → after_blanks m (start_at kept) ≡ record { column = m; white = true; bare = true; kept = kept }
+    → after_blanks m (at_line kept) ≡ record { column = m; white = true; bare = true; kept = kept }
 spaced_start m kept = let e : 0 + m ≡ m = omega arith in spaced_cursor m 0 kept ∙ ap (λ j. record { column = j; white = true; bare = true; kept = kept }) e
 
 -- the cursor behind a line's spaces
@@ -49,20 +49,13 @@ abbrev line_cursor : ℕ → Bool → Cursor
 line_cursor m kept = record { column = m; white = true; bare = true; kept = kept }
 
 line_behind : (b : LineBreak) (ended : Bool) (kept : Bool) (d : Cursor) (m : ℕ) (rest : Rest)
-    → (ended ≡ true → d ≡ start_at kept) → (ended ≡ false → d.bare ≡ false) → d.kept ≡ kept
+    → (ended ≡ true → d ≡ at_line kept) → (ended ≡ false → d.bare ≡ false) → d.kept ≡ kept
     → line b m d rest ≡ in_front (closing b ended ++ replicate m 32) (rest (line_cursor m kept))
 line_behind b true kept d m rest f g h =
     ap (λ e. line b m e rest) (f refl) ∙ start_is b m kept rest ∙ ap (λ e. in_front (replicate m 32) (rest e)) (spaced_start m kept)
 line_behind b false kept d m rest f g h =
-    line_is b m d rest (g refl) ∙ ap (λ e. in_front (break_text b ++ replicate m 32) (rest (after_blanks m (start_at e)))) h
+    line_is b m d rest (g refl) ∙ ap (λ e. in_front (break_text b ++ replicate m 32) (rest (after_blanks m (at_line e)))) h
     ∙ ap (λ e. in_front (break_text b ++ replicate m 32) (rest e)) (spaced_start m kept)
-
-pub has_at : (text : List ℕ) (p : ℕ) (xs : List ℕ) → Has text p xs → HasAt text p xs
-has_at text p [] h k l = absurd (omega arith)
-has_at text p (x ∷ xs) (e, h) zero l = rw add-zero e
-has_at text p (x ∷ xs) (e, h) (suc k) l =
-    let same : p + 1 + k ≡ p + suc k = omega arith in
-    subst (λ q. byte text q ≡ get_or xs k 0) same (has_at text (p + 1) xs h k (omega arith))
 
 line_bytes_are : (letters close : List ℕ) (m : ℕ)
     → encode_utf8_all (letters ++ (close ++ replicate m 32)) ≡ encode_utf8_all (letters ++ close)

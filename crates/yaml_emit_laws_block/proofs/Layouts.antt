@@ -15,58 +15,51 @@ use Rattle.yaml_emit_laws_text.proofs.Values.{cond_true, cond_false}
 use Rattle.yaml_emit_laws_text.proofs.Back.{front_append, moved_by, spaced_by}
 use Rattle.yaml_emit_laws_block.specs.Lines.{LineMark, own, separator, paragraph, mark_char, mark_text}
 use Rattle.yaml_emit_laws_block.proofs.Marks.{mark_breaks}
-use Rattle.yaml_emit_laws_text.proofs.Single.{blanks_are, after_blanks, from_start}
-
--- the cursor at the start of a line
-abbrev pub start_at : Bool → Cursor
-start_at kept = record { column = 0; white = true; bare = true; kept = kept }
+use Rattle.yaml_emit_laws_text.proofs.Single.{blanks_are, after_blanks, from_start, broken}
+use Rattle.yaml_emit_laws_text.proofs.Forms.{at_line}
 
 pub blanks_kept : (n : ℕ) (c : Cursor) → (after_blanks n c).kept ≡ c.kept
 blanks_kept zero c = refl
 blanks_kept (suc n) c = blanks_kept n (spaced_by c)
 
 pub new_line_is : (b : LineBreak) (c : Cursor) (rest : Rest)
-    → new_line b c rest ≡ in_front (break_text b) (rest (start_at c.kept))
+    → new_line b c rest ≡ in_front (break_text b) (rest (at_line c.kept))
 unfolding in_front
 new_line_is Lf c rest = refl
 new_line_is Cr c rest = refl
 new_line_is CrLf c rest = refl
 
 indent_is : (n : ℕ) (kept : Bool) (rest : Rest)
-    → indent_to n (start_at kept) rest
-    ≡ in_front (replicate n 32) (rest (after_blanks n (start_at kept)))
-indent_is n kept rest = ap (λ k. blanks k (start_at kept) rest) (from_start n) ∙ blanks_are n (start_at kept) rest
-
-due : (a b d : Bool) → a ≡ false → (not a || b || d) ≡ true
-due false b d e = refl
-due true b d e = absurd (cc)
+    → indent_to n (at_line kept) rest
+    ≡ in_front (replicate n 32) (rest (after_blanks n (at_line kept)))
+indent_is n kept rest = ap (λ k. blanks k (at_line kept) rest) (from_start n) ∙ blanks_are n (at_line kept) rest
 
 -- behind a character a line begins with a break
 pub line_is : (b : LineBreak) (n : ℕ) (c : Cursor) (rest : Rest) → c.bare ≡ false
     → line b n c rest ≡ in_front (break_text b ++ replicate n 32)
-    (rest (after_blanks n (start_at c.kept)))
+    (rest (after_blanks n (at_line c.kept)))
 unfolding line
 line_is b n c rest e =
-    let breaks : must_break n c ≡ true = due c.bare (nat_lt n c.column) (c.column == n && not c.white) e in
+    let breaks : must_break n c ≡ true = broken c.bare (nat_lt n c.column) (c.column == n && not c.white) e in
     cond_true (must_break n c) (new_line b c (λ d. indent_to n d rest)) (indent_to n c rest) breaks
-    ∙ new_line_is b c (λ d. indent_to n d rest) ∙ ap (in_front (break_text b)) (indent_is n c.kept rest) ∙ sym (front_append (break_text b) (replicate n 32) (rest (after_blanks n (start_at c.kept))))
+    ∙ new_line_is b c (λ d. indent_to n d rest) ∙ ap (in_front (break_text b)) (indent_is n c.kept rest) ∙ sym (front_append (break_text b) (replicate n 32) (rest (after_blanks n (at_line c.kept))))
 
 undue : (n : ℕ) → (nat_lt n 0 || (0 == n && false)) ≡ false
 undue n = grind (arith, nat_tests)
 
 -- at its start only spaces come
 pub start_is : (b : LineBreak) (n : ℕ) (kept : Bool) (rest : Rest)
-    → line b n (start_at kept) rest ≡ in_front (replicate n 32)
-    (rest (after_blanks n (start_at kept)))
+    → line b n (at_line kept) rest ≡ in_front (replicate n 32)
+    (rest (after_blanks n (at_line kept)))
 unfolding line
 start_is b n kept rest =
-    let none : must_break n (start_at kept) ≡ false = undue n in
-    cond_false (must_break n (start_at kept)) (new_line b (start_at kept) (λ d. indent_to n d rest)) (indent_to n (start_at kept) rest) none ∙ indent_is n kept rest
+    let none : must_break n (at_line kept) ≡ false = undue n in
+    cond_false (must_break n (at_line kept)) (new_line b (at_line kept) (λ d. indent_to n d rest)) (indent_to n (at_line kept) rest) none ∙ indent_is n kept rest
 
 -- ---- breaks
 
 value_break_is : (b : LineBreak) (m : LineMark) (c : Cursor) (rest : Rest)
-    → value_break b (mark_char m) c rest ≡ in_front (mark_text b m) (rest (start_at c.kept))
+    → value_break b (mark_char m) c rest ≡ in_front (mark_text b m) (rest (at_line c.kept))
 unfolding in_front
 value_break_is b own c rest = new_line_is b c rest
 value_break_is b separator c rest = refl
@@ -79,15 +72,15 @@ added false b = []
 
 when_break : (a : Bool) (b : LineBreak) (m : LineMark) (c : Cursor) (rest : Rest)
     → when a (new_line b) c (λ d. value_break b (mark_char m) d rest)
-    ≡ in_front (added a b ++ mark_text b m) (rest (start_at c.kept))
+    ≡ in_front (added a b ++ mark_text b m) (rest (at_line c.kept))
 when_break true b m c rest =
-    new_line_is b c (λ d. value_break b (mark_char m) d rest) ∙ ap (in_front (break_text b)) (value_break_is b m (start_at c.kept) rest) ∙ sym (front_append (break_text b) (mark_text b m) (rest (start_at c.kept)))
+    new_line_is b c (λ d. value_break b (mark_char m) d rest) ∙ ap (in_front (break_text b)) (value_break_is b m (at_line c.kept) rest) ∙ sym (front_append (break_text b) (mark_text b m) (rest (at_line c.kept)))
 when_break false b m c rest = value_break_is b m c rest
 
 pub break_is : (page : Page) (folded blank : Bool) (before : ℕ) (m : LineMark) (xs : List ℕ)
     (a : Bool) (c : Cursor) (rest : Rest) → adds_break folded blank before (mark_char m) xs ≡ a
     → block_char page folded blank before (mark_char m) xs c rest
-    ≡ in_front (added a page.line_break ++ mark_text page.line_break m) (rest (start_at c.kept))
+    ≡ in_front (added a page.line_break ++ mark_text page.line_break m) (rest (at_line c.kept))
 unfolding block_char
 break_is page folded blank before m xs a c rest e =
     ap (λ (l : Layout). l c rest) (cond_true (is_break (mark_char m)) _ _ (mark_breaks m))
@@ -123,17 +116,17 @@ char_at page folded blank before x xs c rest e = ap (λ (l : Layout). l c rest) 
 -- the first of a line
 pub first_is : (page : Page) (folded blank : Bool) (before x : ℕ) (xs : List ℕ) (kept : Bool)
     (rest : Rest) → is_break x ≡ false → is_break before ≡ true
-    → block_char page folded blank before x xs (start_at kept) rest
+    → block_char page folded blank before x xs (at_line kept) rest
     ≡ in_front (replicate page.indentation 32 ++ x ∷ [])
-    (rest (moved_by (after_blanks page.indentation (start_at kept))))
+    (rest (moved_by (after_blanks page.indentation (at_line kept))))
 unfolding in_front
 first_is page folded blank before x xs kept rest e f =
     let cuts : cuts_block folded blank before x xs ≡ false = no_cut folded (x == 32) (not blank) (is_break before) (not (first xs == 32)) f in
-    char_at page folded blank before x xs (start_at kept) rest e
-    ∙ ap (λ t. when t (line page.line_break page.indentation) (start_at kept) (λ d. block_text page (cuts_block folded blank before x xs) x d rest)) f
-    ∙ ap (λ t. line page.line_break page.indentation (start_at kept) (λ d. block_text page t x d rest)) cuts
+    char_at page folded blank before x xs (at_line kept) rest e
+    ∙ ap (λ t. when t (line page.line_break page.indentation) (at_line kept) (λ d. block_text page (cuts_block folded blank before x xs) x d rest)) f
+    ∙ ap (λ t. line page.line_break page.indentation (at_line kept) (λ d. block_text page t x d rest)) cuts
     ∙ start_is page.line_break page.indentation kept (λ d. char x d rest)
-    ∙ sym (front_append (replicate page.indentation 32) (x ∷ []) (rest (moved_by (after_blanks page.indentation (start_at kept)))))
+    ∙ sym (front_append (replicate page.indentation 32) (x ∷ []) (rest (moved_by (after_blanks page.indentation (at_line kept)))))
 
 past_cut : (page : Page) (b : Bool) (x : ℕ) (c : Cursor) (rest : Rest) → b ≡ true
     → is_past page.width c ≡ true
@@ -167,7 +160,7 @@ pub cut_is : (page : Page) (folded blank : Bool) (before x : ℕ) (xs : List ℕ
     → cuts_block folded blank before x xs ≡ true → is_past page.width c ≡ true → c.bare ≡ false
     → block_char page folded blank before x xs c rest
     ≡ in_front (break_text page.line_break ++ replicate page.indentation 32)
-    (rest (after_blanks page.indentation (start_at c.kept)))
+    (rest (after_blanks page.indentation (at_line c.kept)))
 cut_is page folded blank before x xs c rest e f g h i =
     in_line page folded blank before x xs c rest e f ∙ past_cut page (cuts_block folded blank before x xs) x c rest g h ∙ line_is page.line_break page.indentation c rest i
 

@@ -4,7 +4,7 @@ use Rattle.std.proofs.lemmas.Bool.{cases_lt, or_parts, eqb-false}
 use Rattle.std.proofs.lemmas.Bool.Decides.{nat_tests}
 use Rattle.std.proofs.lemmas.List.{get_or_past}
 use Rattle.yaml_scan_history.specs.scan_model.Marks.{byte, break_of, is_blank}
-use Rattle.yaml_scan_history.proofs.HasLemmas.{has_front}
+use Rattle.yaml_scan_history.proofs.HasLemmas.{has_front, has_at}
 use Rattle.yaml_emit_laws_text.specs.emit_text.declared.Cursor.{Cursor}
 use Rattle.yaml_emit_laws_text.specs.emit_text.Text.{Item}
 use Rattle.yaml_emit_laws_text.specs.emit_text.Layout.{Rest}
@@ -14,7 +14,6 @@ use Rattle.yaml_emit_laws_text.specs.Walk.{Left, bytes}
 use Rattle.yaml_emit_laws_block.specs.Lines.{NoWhite}
 use Rattle.yaml_emit_laws_block.specs.Laws.{margin_round, BlockAndLineRead, BlockAtPosition}
 use Rattle.yaml_emit_laws_block.specs.Passed.{begins_white, behind_line, BlockPassed, BlockIsPassed}
-use Rattle.yaml_emit_laws_block.proofs.Behind.{has_at}
 use Rattle.yaml_emit_laws_text.proofs.Places.{left_rest}
 use Rattle.yaml_emit_laws_text.proofs.Words.{front_encodes}
 

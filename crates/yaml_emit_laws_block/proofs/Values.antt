@@ -18,9 +18,10 @@ use Rattle.yaml_emit_laws_text.specs.emit_text.Spelling.{in_front, break_text}
 use Rattle.yaml_emit_laws_text.proofs.Back.{front_append, moved_by}
 use Rattle.yaml_emit_laws_block.specs.Lines.{LineMark, own, mark_char, mark_text, mark_means, BodyLine, bare, full, body_text, read_lines, are_inside, AreInside, closing}
 use Rattle.yaml_emit_laws_block.proofs.Marks.{mark_breaks, mark_encodes, mark_some, mark_feed, mark_of, text_blank}
-use Rattle.yaml_emit_laws_block.proofs.Layouts.{start_at, blanks_kept, break_is, none_added, first_is, char_is, cut_is, blank_break, blank_first, blank_in}
+use Rattle.yaml_emit_laws_block.proofs.Layouts.{blanks_kept, break_is, none_added, first_is, char_is, cut_is, blank_break, blank_first, blank_in}
 use Rattle.yaml_emit_laws_block.proofs.Waiting.{read_chomp, Waits, owed, stacked_so, waits_end, waits_text, waits_break, break_owed}
 use Rattle.yaml_emit_laws_text.proofs.Single.{bool_cases, after_blanks}
+use Rattle.yaml_emit_laws_text.proofs.Forms.{at_line}
 
 -- ---- characters of a value
 
@@ -45,7 +46,7 @@ inside_one x s e = both_not (is_break x) (x == 0) e (not_printed x 0 s refl)
 -- ---- what is behind
 
 pub record Ends (kept : Bool) (behind : Cursor) (broke : Bool) : Type 0 where
-  pub at_start : broke ≡ true → behind ≡ start_at kept
+  pub at_start : broke ≡ true → behind ≡ at_line kept
   pub in_line : broke ≡ false → behind.bare ≡ false
   pub same : behind.kept ≡ kept
 
@@ -83,7 +84,7 @@ pub record Starts (page : Page) (folded any blank more : Bool) (feed empties : L
   pub letters : List ℕ
   pub behind : Cursor
   pub text : (rest : Rest)
-      → block_body page folded blank before value (start_at kept) rest
+      → block_body page folded blank before value (at_line kept) rest
       ≡ in_front letters (rest behind)
   pub whole : letters ++ closing page.line_break (is_break (last_or before value))
       ≡ body_text page.line_break page.indentation lines
@@ -122,7 +123,7 @@ unfolding block_body body_text in_front chomp last_or
 starts_none page folded any blank more feed empties broken k before kept e f w = record {
   lines = [];
   letters = [];
-  behind = start_at kept;
+  behind = at_line kept;
   text = λ rest. refl;
   whole = ap (λ (b : Bool). closing page.line_break b) f;
   sound = tt;
@@ -135,10 +136,10 @@ starts_none page folded any blank more feed empties broken k before kept e f w =
 
 break_rest : (page : Page) (folded blank : Bool) (before x : ℕ) (xs : List ℕ) (was kept : Bool)
     (rest : Rest) → is_break x ≡ true → was ≡ kept
-    → block_body page folded (line_blank blank before x) x xs (start_at was) rest
-    ≡ block_body page folded blank x xs (start_at kept) rest
+    → block_body page folded (line_blank blank before x) x xs (at_line was) rest
+    ≡ block_body page folded blank x xs (at_line kept) rest
 break_rest page folded blank before x xs was kept rest e f =
-    ap (λ t. block_body page folded t x xs (start_at was) rest) (blank_break blank before x e) ∙ ap (λ u. block_body page folded blank x xs (start_at u) rest) f
+    ap (λ t. block_body page folded t x xs (at_line was) rest) (blank_break blank before x e) ∙ ap (λ u. block_body page folded blank x xs (at_line u) rest) f
 
 goes_added : (page : Page) (folded blank : Bool) (k before : ℕ) (m : LineMark) (xs : List ℕ)
     (kept : Bool) (c : Cursor) → c.kept ≡ kept
@@ -202,7 +203,7 @@ starts_break page folded any blank more feed empties k before m xs kept e s =
       letters = mark_text b m ++ s.letters;
       behind = s.behind;
       text = λ rest.
-          break_is page folded blank before m xs false (start_at kept) (λ d. block_body page folded (line_blank blank before (mark_char m)) (mark_char m) xs d rest)
+          break_is page folded blank before m xs false (at_line kept) (λ d. block_body page folded (line_blank blank before (mark_char m)) (mark_char m) xs d rest)
           (none_added folded blank before (mark_char m) xs e)
           ∙ ap (in_front (mark_text b m)) (break_rest page folded blank before (mark_char m) xs kept kept rest (mark_breaks m) refl ∙ s.text rest) ∙ sym (front_append (mark_text b m) s.letters (rest s.behind));
       whole = append_assoc (mark_text b m) s.letters _ ∙ ap (λ (t : List ℕ). mark_text b m ++ t) s.whole;
@@ -242,7 +243,7 @@ starts_text : (page : Page) (folded any blank more : Bool) (feed empties : List 
     → is_break before ≡ true
     → Waits folded any blank more feed empties broken (x ∷ xs)
     → Goes page folded (is_blank x) k x xs kept
-    (moved_by (after_blanks page.indentation (start_at kept)))
+    (moved_by (after_blanks page.indentation (at_line kept)))
     → Starts page folded any blank more feed empties k before (x ∷ xs) kept
 unfolding block_body body_text last_or
 starts_text page folded any blank more feed empties broken k before x xs kept s e f w g =
@@ -258,7 +259,7 @@ starts_text page folded any blank more feed empties broken k before x xs kept s 
       text = λ rest.
           first_is page folded blank before x xs kept (λ d. block_body page folded (line_blank blank before x) x xs d rest) e f
           ∙ ap (in_front (spaces ++ x ∷ []))
-          (ap (λ t. block_body page folded t x xs (moved_by (after_blanks page.indentation (start_at kept))) rest) (blank_first blank before x e f) ∙ g.text rest)
+          (ap (λ t. block_body page folded t x xs (moved_by (after_blanks page.indentation (at_line kept))) rest) (blank_first blank before x e f) ∙ g.text rest)
           ∙ sym (front_append (spaces ++ x ∷ []) g.letters (rest g.behind));
       whole =
           append_assoc (spaces ++ x ∷ []) g.letters _ ∙ ap (λ (t : List ℕ). (spaces ++ x ∷ []) ++ t) g.whole ∙ append_assoc spaces (x ∷ []) (g.head ++ rest_of)
@@ -312,7 +313,7 @@ space_encodes : (x : ℕ) → x ≡ 32 → encode_utf8 x ≡ 32 ∷ []
 space_encodes x e = ap (λ y. encode_utf8 y) e ∙ encode_ascii 32 (omega arith)
 
 abbrev behind_cut : Page → Bool → Cursor
-behind_cut page kept = after_blanks page.indentation (start_at kept)
+behind_cut page kept = after_blanks page.indentation (at_line kept)
 
 cut_rest : (page : Page) (folded blank : Bool) (before x y : ℕ) (ys : List ℕ) (was kept : Bool)
     (rest : Rest) → is_break x ≡ false → is_break before ≡ false → is_break y ≡ false
@@ -479,7 +480,7 @@ mutual
       let i = unbroken x y (cuts_need folded blank before x (y ∷ ys) cuts).space n in
       goes_cut page folded blank k before x y ys kept c h f t i cuts (and_parts (cuts_block folded blank before x (y ∷ ys)) (is_past page.width c) u).1 bar same
       (goes page folded blank false k y ys kept (moved_by (behind_cut page kept)) (chomp_to false false false y ys k (chomp_to broken false false x (y ∷ ys) k e h) i) i g
-      (last_next x y ys (last_next before x (y ∷ ys) l)) refl (blanks_kept page.indentation (start_at kept))))
+      (last_next x y ys (last_next before x (y ∷ ys) l)) refl (blanks_kept page.indentation (at_line kept))))
       (λ u. goes_char page folded blank k before x (y ∷ ys) kept c s h f u
       (goes page folded blank false k x (y ∷ ys) kept (moved_by c) (chomp_to broken false false x (y ∷ ys) k e h) h (t, o, g) (last_next before x (y ∷ ys) l) refl same)))
 
@@ -494,5 +495,5 @@ mutual
       (λ h. starts_more page folded any blank more feed empties broken k before x xs kept s h f w
       (λ es v. starts page folded any blank more feed es true k x xs kept (chomp_to broken true true x xs k e h) h g (last_next before x xs l) v))
       (λ h. starts_text page folded any blank more feed empties broken k before x xs kept s h f w
-      (goes page folded (is_blank x) true k x xs kept (moved_by (after_blanks page.indentation (start_at kept))) (chomp_to broken true false x xs k e h) h g (last_next before x xs l) refl
-      (blanks_kept page.indentation (start_at kept))))
+      (goes page folded (is_blank x) true k x xs kept (moved_by (after_blanks page.indentation (at_line kept))) (chomp_to broken true false x xs k e h) h g (last_next before x xs l) refl
+      (blanks_kept page.indentation (at_line kept))))

@@ -35,13 +35,14 @@ use Rattle.yaml_emit_laws_text.proofs.Back.{front_append, moved_by}
 use Rattle.yaml_emit_laws_block.specs.Lines.{own, mark_bytes, BodyLine, bare, full, body_text, body_bytes, read_lines, AreInside, closing, StandsLeft}
 use Rattle.yaml_emit_laws_block.specs.Laws.{from_indicator, is_keep, kind_of, read_style, BlockStands, BlockIsReadBack, BlockIsLaidOut}
 use Rattle.yaml_emit_laws_block.proofs.Marks.{text_encodes, text_blank}
-use Rattle.yaml_emit_laws_block.proofs.Layouts.{start_at, new_line_is}
+use Rattle.yaml_emit_laws_block.proofs.Layouts.{new_line_is}
 use Rattle.yaml_emit_laws_block.proofs.Waiting.{read_chomp, Waits}
 use Rattle.yaml_emit_laws_block.proofs.Values.{AreGood, HasFirst, Begins, Starts, starts, unblank}
 use Rattle.yaml_emit_laws_block.proofs.Reading.{left_of, next_feed, length_more, length_spaces, AllText, spaces_column, chars_text, body_reads, body_column, body_encodes}
 use Rattle.yaml_emit_laws_block.proofs.Column.{column_by_text, column_by_digit}
 use Rattle.yaml_emit_laws_block.proofs.Header.{digit_text, digit_value, chomp_text, header_reads}
 use Rattle.yaml_emit_laws_text.proofs.Single.{special_left}
+use Rattle.yaml_emit_laws_text.proofs.Forms.{at_line}
 
 -- ---- what a value is that allows it
 
@@ -118,16 +119,16 @@ header_text shown d k b = digit_text shown d ++ (chomp_text k ++ break_text b)
 
 header_is : (shown : Bool) (d : ℕ) (k : Chomp) (b : LineBreak) (c : Cursor) (rest : Rest) → d < 10
     → when shown (char (digit_char d)) c (λ e. chomp_mark k e (λ f. new_line b f rest))
-    ≡ in_front (header_text shown d k b) (rest (start_at (is_keep k)))
+    ≡ in_front (header_text shown d k b) (rest (at_line (is_keep k)))
 header_is shown d k b c rest h =
     let e = after_digit shown c in
     let f = after_chomp k e in
     digit_is shown d c (λ x. chomp_mark k x (λ y. new_line b y rest)) h
     ∙ ap (in_front (digit_text shown d))
     (chomp_is k e (λ y. new_line b y rest)
-    ∙ ap (in_front (chomp_text k)) (new_line_is b f rest ∙ ap (λ x. in_front (break_text b) (rest (start_at x))) (chomp_kept k e))
-    ∙ sym (front_append (chomp_text k) (break_text b) (rest (start_at (is_keep k)))))
-    ∙ sym (front_append (digit_text shown d) (chomp_text k ++ break_text b) (rest (start_at (is_keep k))))
+    ∙ ap (in_front (chomp_text k)) (new_line_is b f rest ∙ ap (λ x. in_front (break_text b) (rest (at_line x))) (chomp_kept k e))
+    ∙ sym (front_append (chomp_text k) (break_text b) (rest (at_line (is_keep k)))))
+    ∙ sym (front_append (digit_text shown d) (chomp_text k ++ break_text b) (rest (at_line (is_keep k))))
 
 -- ---- its bytes
 

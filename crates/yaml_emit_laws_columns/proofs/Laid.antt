@@ -59,7 +59,8 @@ larger_grows a b c d w v =
       | inr e ↦ rw e (let k = larger_left c d in omega (arith, k, w))
     ]
 
-ascii_grows : (s : Settings) (n m : ℕ) → n ≤ m → ascii s n ≤ ascii s m
+-- more characters have no fewer bytes
+pub ascii_grows : (s : Settings) (n m : ℕ) → n ≤ m → ascii s n ≤ ascii s m
 ascii_grows s n m w = mul-le-mul_left (unit s.encoding) w
 
 quoted_grows : (s : Settings) (n m c : ℕ) → n ≤ m → most_of_quoted s n c ≤ most_of_quoted s m c

@@ -9,16 +9,7 @@ use Rattle.yaml_parse_loader.specs.Numbering.{Content, Contents, Pairs, alias, s
 use Rattle.yaml_parse_loader.specs.Order.{IsInPreorder}
 use Rattle.yaml_emit_laws_dumps.specs.Dumps.{IsLoadedNode, AreLoadedNodes, IsLoadedDocument}
 use Rattle.yaml_emit_laws_dumps.specs.DumpsLaws.{DocumentsAreLoaded}
-
--- what is true of a result, if there is one
-abbrev Good : {A : Type 0} → Result A Fault → (A → Type 0) → Type 0
-Good (Ok x) P = P x
-Good (Err e) P = Unit {0}
-
-good_then : {A B : Type 0} (r : Result A Fault) (f : A → Result B Fault) (P : A → Type 0)
-    (Q : B → Type 0) → Good r P → ((x : A) → P x → Good (f x) Q) → Good (r >>= f) Q
-good_then (Ok x) f P Q g h = h x g
-good_then (Err e) f P Q g h = tt
+use Rattle.yaml_parse_loader.proofs.Visited.{good_then, Good}
 
 abbrev All : List Node → Type 0
 All [] = Unit {0}

@@ -213,6 +213,7 @@ closing_right canonical _ due = refl
 
 -- ---- a whole list
 
+-- where the first of two problems is none, both are
 pub or_both : (p q : Option Problem) → or_else p q ≡ None → (p ≡ None) × (q ≡ None)
 or_both None q e = (refl, e)
 or_both (Some x) q e = absurd (cc)

@@ -39,13 +39,13 @@ use Rattle.yaml_scan_laws_levels.specs.Walks.{behind}
 use Rattle.yaml_scan_laws_levels.proofs.Signing.{printed_begins}
 use Rattle.yaml_scan_laws_levels.proofs.Stepping.{words_leave}
 use Rattle.yaml_scan_laws_levels.proofs.Walking.{walk_white, walk_outer}
-use Rattle.yaml_emit_laws_pretty.proofs.Lining.{first_byte}
 use Rattle.yaml_emit_laws_pretty.proofs.Entries.{no_gap}
-use Rattle.yaml_emit_laws_pretty.proofs.DocStarts.{line_start, OnLine}
-use Rattle.yaml_emit_laws_text.proofs.TextLines.{return_width, both_width, feed_width}
+use Rattle.yaml_emit_laws_pretty.proofs.DocStarts.{OnLine}
+use Rattle.yaml_emit_laws_text.proofs.TextLines.{return_width, both_width, feed_width, left_byte}
 use Rattle.yaml_emit_laws_text.proofs.Resolving.{or_first}
 use Rattle.yaml_emit_laws_text.proofs.Joining.{none_all}
 use Rattle.yaml_emit_laws_text.proofs.Directives.{percent_kind, directive_word, percent_begins, ReadsLine, version_line, said_directive, WritesLine, version_writes, tag_front, tag_writes}
+use Rattle.yaml_emit_laws_text.proofs.Forms.{at_line}
 
 -- ---- the break that ends a directive
 
@@ -69,30 +69,30 @@ record Broken (text : List ℕ) (q : ℕ) (rest : Rest) (kept : Bool) : Type 0 w
   width : break_width text q ≡ length white
   some : 0 < length white
   column : column_at text (q + length white) ≡ 0
-  left : Left text (q + length white) (bytes (rest (line_start kept)))
+  left : Left text (q + length white) (bytes (rest (at_line kept)))
 
 new_line_broken : (b : LineBreak) (text : List ℕ) (c : Cursor) (q : ℕ) (rest : Rest)
-    → IsNext (first (bytes (rest (line_start c.kept)))) → Left text q (bytes (new_line b c rest))
+    → IsNext (first (bytes (rest (at_line c.kept)))) → Left text q (bytes (new_line b c rest))
     → Broken text q rest c.kept
 new_line_broken Lf text c q rest next l =
-    let m = left_letter text q 10 (rest (line_start c.kept)) refl l in
-    let h = left_first text q 10 (bytes (rest (line_start c.kept))) m in
-    let n = left_more text q 10 (bytes (rest (line_start c.kept))) m in
-    let calm : byte text (q + 1) ≡ 10 → ⊥ = λ e. next_calm (first (bytes (rest (line_start c.kept)))) next (sym (first_byte text (q + 1) (bytes (rest (line_start c.kept))) n) ∙ e) in
+    let m = left_letter text q 10 (rest (at_line c.kept)) refl l in
+    let h = left_first text q 10 (bytes (rest (at_line c.kept))) m in
+    let n = left_more text q 10 (bytes (rest (at_line c.kept))) m in
+    let calm : byte text (q + 1) ≡ 10 → ⊥ = λ e. next_calm (first (bytes (rest (at_line c.kept)))) next (sym (left_byte text (q + 1) (bytes (rest (at_line c.kept))) n) ∙ e) in
     record { white = 10 ∷ []; has = has_at text q (10 ∷ []) (h, tt); blank = refl; width = feed_width text q h; some = omega arith; column = behind_feed text q h calm; left = n }
 new_line_broken Cr text c q rest next l =
-    let m = left_letter text q 13 (rest (line_start c.kept)) refl l in
-    let h = left_first text q 13 (bytes (rest (line_start c.kept))) m in
-    let n = left_more text q 13 (bytes (rest (line_start c.kept))) m in
-    let calm : byte text (q + 1) ≡ 10 → ⊥ = λ e. next_calm (first (bytes (rest (line_start c.kept)))) next (sym (first_byte text (q + 1) (bytes (rest (line_start c.kept))) n) ∙ e) in
+    let m = left_letter text q 13 (rest (at_line c.kept)) refl l in
+    let h = left_first text q 13 (bytes (rest (at_line c.kept))) m in
+    let n = left_more text q 13 (bytes (rest (at_line c.kept))) m in
+    let calm : byte text (q + 1) ≡ 10 → ⊥ = λ e. next_calm (first (bytes (rest (at_line c.kept)))) next (sym (left_byte text (q + 1) (bytes (rest (at_line c.kept))) n) ∙ e) in
     record { white = 13 ∷ []; has = has_at text q (13 ∷ []) (h, tt); blank = refl; width = return_width text q h calm; some = omega arith; column = behind_return text q h calm; left = n }
 new_line_broken CrLf text c q rest next l =
-    let m = left_letter text q 13 (letter 10 ∷ rest (line_start c.kept)) refl l in
+    let m = left_letter text q 13 (letter 10 ∷ rest (at_line c.kept)) refl l in
     let h = left_first text q 13 _ m in
-    let k = left_letter text (q + 1) 10 (rest (line_start c.kept)) refl (left_more text q 13 _ m) in
-    let g = left_first text (q + 1) 10 (bytes (rest (line_start c.kept))) k in
-    let n = left_more text (q + 1) 10 (bytes (rest (line_start c.kept))) k in
-    let calm : byte text (q + 1 + 1) ≡ 10 → ⊥ = λ e. next_calm (first (bytes (rest (line_start c.kept)))) next (sym (first_byte text (q + 1 + 1) (bytes (rest (line_start c.kept))) n) ∙ e) in
+    let k = left_letter text (q + 1) 10 (rest (at_line c.kept)) refl (left_more text q 13 _ m) in
+    let g = left_first text (q + 1) 10 (bytes (rest (at_line c.kept))) k in
+    let n = left_more text (q + 1) 10 (bytes (rest (at_line c.kept))) k in
+    let calm : byte text (q + 1 + 1) ≡ 10 → ⊥ = λ e. next_calm (first (bytes (rest (at_line c.kept)))) next (sym (left_byte text (q + 1 + 1) (bytes (rest (at_line c.kept))) n) ∙ e) in
     let two : q + 1 + 1 ≡ q + 2 = omega arith in
     record {
       white = 13 ∷ 10 ∷ [];
@@ -101,11 +101,11 @@ new_line_broken CrLf text c q rest next l =
       width = both_width text q h g;
       some = omega arith;
       column = subst (λ n. column_at text n ≡ 0) two (behind_feed text (q + 1) g calm);
-      left = subst (λ n. Left text n (bytes (rest (line_start c.kept)))) two n;
+      left = subst (λ n. Left text n (bytes (rest (at_line c.kept)))) two n;
     }
 
 line_broken : (b : LineBreak) (text : List ℕ) (c : Cursor) (q : ℕ) (rest : Rest) → c.bare ≡ false
-    → IsNext (first (bytes (rest (line_start c.kept)))) → Left text q (bytes (line b 0 c rest))
+    → IsNext (first (bytes (rest (at_line c.kept)))) → Left text q (bytes (line b 0 c rest))
     → Broken text q rest c.kept
 unfolding line blanks
 line_broken b text c q rest e next l =
@@ -121,7 +121,7 @@ abbrev pub WalksOver : Layout → (List TokenBody → List TokenBody) → Rest �
 WalksOver a B rest = (x : yaml_encoding_t) (text : List ℕ) (T : List TokenBody → List TokenBody) → OnLine x text (λ e. a e rest) false T → OnLine x text rest false (λ bs. T (B bs))
 
 line_walks : (a : Layout) (b : LineBreak) (xs : List ℕ) (said : Said) → WritesLine a b xs false
-    → ReadsLine xs said → (rest : Rest) → IsNext (first (bytes (rest (line_start false))))
+    → ReadsLine xs said → (rest : Rest) → IsNext (first (bytes (rest (at_line false))))
     → WalksOver a (λ bs. body_said said ∷ bs) rest
 line_walks a b xs said w reads rest next x text T s =
     let o = s.place in
@@ -131,7 +131,7 @@ line_walks a b xs said w reads rest next x text T s =
     let h = left_first text p 37 (xs ++ tail) m in
     let q = p + length (37 ∷ xs) in
     let l : Left text q tail = left_rest text p (37 ∷ xs) tail m in
-    let there = subst (λ (k : Bool). IsNext (first (bytes (rest (line_start k))))) (sym w.still) next in
+    let there = subst (λ (k : Bool). IsNext (first (bytes (rest (at_line k))))) (sym w.still) next in
     let broken = line_broken b text w.behind q rest w.bare there l in
     let is : is_break text q ≡ true = lt-ltb 0 (break_width text q) (subst (λ n. 0 < n) (sym broken.width) broken.some) in
     let place = q + break_width text q in
@@ -145,7 +145,7 @@ line_walks a b xs said w reads rest next x text T s =
       word = ap (λ n. word_at kinds.Directive false 0 text n) z ∙ same;
       up = omega arith;
     } in
-    let begins = next_begins text (q + length broken.white) _ (first_byte text (q + length broken.white) _ broken.left) there in
+    let begins = next_begins text (q + length broken.white) _ (left_byte text (q + length broken.white) _ broken.left) there in
     let gap : IsGap text q broken.white = record { has = broken.has; blank = broken.blank; ends = begins } in
     let leaves = words_leave.over text 0 false here q broken.white gap (ap (λ n. q + n) broken.width) refl in
     let r = walk_outer x text o s.more T kinds.Directive [] here q false false s.reads s.flat comes refl leaves in
@@ -156,7 +156,7 @@ line_walks a b xs said w reads rest next x text T s =
       reads = white;
       flat = refl;
       column = broken.column;
-      left = subst (λ (k : Bool). Left text (q + length broken.white) (bytes (rest (line_start k)))) w.still broken.left;
+      left = subst (λ (k : Bool). Left text (q + length broken.white) (bytes (rest (at_line k)))) w.still broken.left;
     }
 
 nothing_walks : (rest : Rest) → WalksOver (λ e k. k e) (λ bs. bs) rest
@@ -165,7 +165,7 @@ nothing_walks rest x text T s = s
 -- ---- versions
 
 version_line_walks : VersionReads → (b : LineBreak) (n : ℕ) → n < 10 → nat_lt (48 + n) 128 ≡ true
-    → (rest : Rest) → IsNext (first (bytes (rest (line_start false))))
+    → (rest : Rest) → IsNext (first (bytes (rest (at_line false))))
     → WalksOver (version_line b (49 ∷ 46 ∷ (48 + n) ∷ []))
     (λ bs. tokens.version_directive (pos 1) (pos n) ∷ bs) rest
 version_line_walks versions b n small low rest next =
@@ -175,7 +175,7 @@ version_line_walks versions b n small low rest next =
 version_so : VersionReads → (b : LineBreak) (v : yaml_version_directive_t) (n : ℕ) → n < 10
     → nat_lt (48 + n) 128 ≡ true → v.major ≡ pos 1 → v.minor ≡ pos n
     → version_word v ≡ 49 ∷ 46 ∷ (48 + n) ∷ [] → (rest : Rest)
-    → IsNext (first (bytes (rest (line_start false))))
+    → IsNext (first (bytes (rest (at_line false))))
     → WalksOver (version_line b (version_word v))
     (λ bs. tokens.version_directive v.major v.minor ∷ bs) rest
 version_so versions b v n small low major minor says rest next =
@@ -187,7 +187,7 @@ version_so versions b v n small low major minor says rest next =
 
 version_walks : VersionReads → (s : Settings) (version : Option yaml_version_directive_t)
     → version_problem version ≡ None → (rest : Rest)
-    → IsNext (first (bytes (rest (line_start false))))
+    → IsNext (first (bytes (rest (at_line false))))
     → WalksOver (version_text s version) (λ bs. version_bodies version bs) rest
 version_walks versions s None right rest next = nothing_walks rest
 version_walks versions s (Some v) right rest next =
@@ -202,21 +202,21 @@ version_walks versions s (Some v) right rest next =
     ]
 
 version_front : (kept : Bool) (rest : Rest)
-    → bytes (letters (codes "%YAML") (line_start kept) rest) ≡ 37 ∷ 89 ∷ 65 ∷ 77 ∷ 76
+    → bytes (letters (codes "%YAML") (at_line kept) rest) ≡ 37 ∷ 89 ∷ 65 ∷ 77 ∷ 76
     ∷ bytes (rest (record { column = 5; white = false; bare = false; kept = kept }))
 unfolding letters encode char_bytes
 version_front kept rest = refl
 
 version_next : (s : Settings) (version : Option yaml_version_directive_t) (rest : Rest)
-    → IsNext (first (bytes (rest (line_start false))))
-    → IsNext (first (bytes (version_text s version (line_start false) rest)))
+    → IsNext (first (bytes (rest (at_line false))))
+    → IsNext (first (bytes (version_text s version (at_line false) rest)))
 version_next s None rest next = next
 version_next s (Some v) rest next = inl (ap (λ (bs : List ℕ). first bs) (version_front false (λ c. (word (version_word v) ▹ line s.line_break 0) c rest)))
 
 -- ---- tags
 
 tag_walks : DirectivesAreRead → ReadableDirectivesAreAscii → (s : Settings) (d : TagDirective)
-    → IsReadableDirective d → (rest : Rest) → IsNext (first (bytes (rest (line_start false))))
+    → IsReadableDirective d → (rest : Rest) → IsNext (first (bytes (rest (at_line false))))
     → WalksOver (directive_text s d) (λ bs. tokens.tag_directive d.handle d.prefix ∷ bs) rest
 tag_walks reads ascii s d may rest next =
     let (marked, low) = ascii d may in
@@ -225,18 +225,18 @@ tag_walks reads ascii s d may rest next =
     (λ text p has stop. reads d may text p (has_at text p (37 ∷ xs) has) stop) rest next
 
 tag_next : (s : Settings) (d : TagDirective) (rest : Rest)
-    → IsNext (first (bytes (directive_text s d (line_start false) rest)))
+    → IsNext (first (bytes (directive_text s d (at_line false) rest)))
 tag_next s d rest = inl (ap (λ (bs : List ℕ). first bs) (tag_front false (λ c. (word d.handle ▹ (word (uri_text true d.prefix) ▹ line s.line_break 0)) c rest)))
 
 tags_next : (s : Settings) (ds : List TagDirective) (rest : Rest)
-    → IsNext (first (bytes (rest (line_start false))))
-    → IsNext (first (bytes (directives_text s ds (line_start false) rest)))
+    → IsNext (first (bytes (rest (at_line false))))
+    → IsNext (first (bytes (directives_text s ds (at_line false) rest)))
 unfolding directives_text
 tags_next s [] rest next = next
 tags_next s (d ∷ ds) rest next = tag_next s d (λ c. directives_text s ds c rest)
 
 tags_walk : DirectivesAreRead → ReadableDirectivesAreAscii → (s : Settings) (ds : List TagDirective)
-    → AreReadable ds → (rest : Rest) → IsNext (first (bytes (rest (line_start false))))
+    → AreReadable ds → (rest : Rest) → IsNext (first (bytes (rest (at_line false))))
     → WalksOver (directives_text s ds) (λ bs. directives_bodies ds bs) rest
 unfolding directives_text directives_bodies
 tags_walk reads ascii s [] may rest next x text T st = st
@@ -247,15 +247,15 @@ tags_walk reads ascii s (d ∷ ds) (own, may) rest next x text T st =
 
 -- they begin as directives do, or as what follows
 pub directives_next : (s : Settings) (o : Opening) (rest : Rest)
-    → IsNext (first (bytes (rest (line_start false))))
+    → IsNext (first (bytes (rest (at_line false))))
     → IsNext (first (bytes ((version_text s o.version ▹ directives_text s o.directives)
-    (line_start false) rest)))
+    (at_line false) rest)))
 directives_next s o rest next = version_next s o.version (λ c. directives_text s o.directives c rest) (tags_next s o.directives rest next)
 
 -- the lines of a document's directives
 pub directives_walk : VersionReads → DirectivesAreRead → ReadableDirectivesAreAscii
     → WrittenDirectivesAreReadable → (s : Settings) (o : Opening) → IsWritableOpening o
-    → (rest : Rest) → IsNext (first (bytes (rest (line_start false))))
+    → (rest : Rest) → IsNext (first (bytes (rest (at_line false))))
     → WalksOver (version_text s o.version ▹ directives_text s o.directives)
     (λ bs. version_bodies o.version (directives_bodies o.directives bs)) rest
 directives_walk versions reads ascii readable s o (right, utf8) rest next x text T st =

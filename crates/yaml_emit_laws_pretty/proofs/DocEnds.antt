@@ -14,25 +14,26 @@ use Rattle.yaml_emit_laws_text.proofs.Documents.{three, behind_three}
 use Rattle.yaml_emit_laws_text.proofs.Prettily.{pretty}
 use Rattle.yaml_emit_laws_scalars.specs.Stops.{begins_white}
 use Rattle.yaml_emit_laws_pretty.specs.Nodes.{NodeWalks}
-use Rattle.yaml_emit_laws_pretty.proofs.DocStarts.{line_start, is_outer, EndsRoot, line_white}
+use Rattle.yaml_emit_laws_pretty.proofs.DocStarts.{is_outer, EndsRoot, line_white}
+use Rattle.yaml_emit_laws_text.proofs.Forms.{at_line}
 
 -- ---- marks
 
 pub dots_outer : (s : Settings) (kept : Bool) (rest : Rest)
-    → is_outer (bytes (dots s (line_start kept) rest)) ≡ true
+    → is_outer (bytes (dots s (at_line kept) rest)) ≡ true
 dots_outer s kept rest =
     let after : Rest = λ e. line s.line_break 0 e rest in
     ap (λ bs. is_outer bs) (three 46 refl kept after) ∙ line_white s.line_break (behind_three kept) rest refl
 
 pub dashes_are : (s : Settings) (kept : Bool) (rest : Rest)
-    → bytes (dashes (pretty s) (line_start kept) rest) ≡ 45 ∷ 45 ∷ 45
+    → bytes (dashes (pretty s) (at_line kept) rest) ≡ 45 ∷ 45 ∷ 45
     ∷ bytes (rest (behind_three kept))
 unfolding line blanks
 dashes_are s kept rest = three 45 refl kept rest
 
 dashes_outer : (s : Settings) (kept : Bool) (rest : Rest)
     → begins_white (bytes (rest (behind_three kept))) ≡ true
-    → is_outer (bytes (dashes (pretty s) (line_start kept) rest)) ≡ true
+    → is_outer (bytes (dashes (pretty s) (at_line kept) rest)) ≡ true
 dashes_outer s kept rest white = ap (λ bs. is_outer bs) (dashes_are s kept rest) ∙ white
 
 -- ---- what follows a document
@@ -42,7 +43,7 @@ unfolding encode
 nothing_outer = refl
 
 stop_outer : (s : Settings) (kept : Bool)
-    → is_outer (bytes (stop_layout s true (line_start kept) nothing_more)) ≡ true
+    → is_outer (bytes (stop_layout s true (at_line kept) nothing_more)) ≡ true
 unfolding stop_layout
 stop_outer s true = dots_outer s true nothing_more
 stop_outer s false = nothing_outer
@@ -51,7 +52,7 @@ start_outer : (s : Settings) (version : Option yaml_version_directive_t)
     (directives : List TagDirective) (implicit kept : Bool) (rest : Rest)
     → begins_white (bytes (rest (behind_three false))) ≡ true
     → is_outer (bytes (start_layout (pretty s) false true
-    (record { version = version; directives = directives; implicit = implicit }) (line_start kept)
+    (record { version = version; directives = directives; implicit = implicit }) (at_line kept)
     rest)) ≡ true
 unfolding start_layout directives_text
 start_outer s (Some v) directives implicit kept rest white = dots_outer (pretty s) kept _
@@ -76,7 +77,7 @@ root_white s roots d right root ds = (roots d.opening right d.root root true).wh
 
 documents_outer : (s : Settings) → RootsWalk (pretty s) → (ds : List Document) → AreWritable ds
     → (kept : Bool)
-    → is_outer (bytes (documents_layout (pretty s) false true ds (line_start kept) nothing_more))
+    → is_outer (bytes (documents_layout (pretty s) false true ds (at_line kept) nothing_more))
     ≡ true
 unfolding documents_layout end_layout
 documents_outer s roots [] good kept = stop_outer (pretty s) kept

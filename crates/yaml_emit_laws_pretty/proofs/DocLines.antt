@@ -22,7 +22,8 @@ use Rattle.yaml_scan_laws_levels.proofs.Stepping.{words_leave}
 use Rattle.yaml_scan_laws_levels.proofs.Walking.{walk_outer}
 use Rattle.yaml_emit_laws_pretty.specs.Walk.{NodeStage, NoFeed}
 use Rattle.yaml_emit_laws_pretty.proofs.Entries.{no_gap}
-use Rattle.yaml_emit_laws_pretty.proofs.DocStarts.{line_start, AtLine, OnLine, on_from, line_lands}
+use Rattle.yaml_emit_laws_pretty.proofs.DocStarts.{AtLine, OnLine, on_from, line_lands}
+use Rattle.yaml_emit_laws_text.proofs.Forms.{at_line}
 
 -- what is left of the text behind three equal signs at the start of a line
 record Threes (text : List ℕ) (p x : ℕ) (kept : Bool) (rest : Rest) : Type 0 where
@@ -32,7 +33,7 @@ record Threes (text : List ℕ) (p x : ℕ) (kept : Bool) (rest : Rest) : Type 0
   left : Left text (p + 3) (bytes (rest (behind_three kept)))
 
 threes : (text : List ℕ) (p x : ℕ) → nat_lt x 128 ≡ true → (kept : Bool) (rest : Rest)
-    → Left text p (bytes (word (x ∷ x ∷ x ∷ []) (line_start kept) rest)) → Threes text p x kept rest
+    → Left text p (bytes (word (x ∷ x ∷ x ∷ []) (at_line kept) rest)) → Threes text p x kept rest
 threes text p x low kept rest l =
     let m = subst (λ (bs : List ℕ). Left text p bs) (three x low kept rest) l in
     let m1 = left_more text p x _ m in

@@ -24,10 +24,11 @@ use Rattle.yaml_emit_laws_scalars.specs.Stops.{begins_white}
 use Rattle.yaml_emit_laws_pretty.specs.Bodies.{opening_bodies}
 use Rattle.yaml_emit_laws_pretty.specs.Walk.{NodeStage, NoFeed}
 use Rattle.yaml_emit_laws_pretty.proofs.Entries.{white_stands}
-use Rattle.yaml_emit_laws_pretty.proofs.DocStarts.{line_start, at_start, AtLine, OnLine}
+use Rattle.yaml_emit_laws_pretty.proofs.DocStarts.{at_start, AtLine, OnLine}
 use Rattle.yaml_emit_laws_pretty.proofs.DocLines.{dashes_walk, dots_walk}
 use Rattle.yaml_emit_laws_pretty.proofs.DocDirectives.{IsNext, next_calm, directives_walk, directives_next}
 use Rattle.yaml_emit_laws_pretty.proofs.DocEnds.{dashes_are}
+use Rattle.yaml_emit_laws_text.proofs.Forms.{at_line}
 
 -- Where a root begins.
 pub record Opens (x : yaml_encoding_t) (text : List ℕ) (rest : Rest) (T : List TokenBody → List TokenBody) : Type 0 where
@@ -44,7 +45,7 @@ pub record Directing : Type 0 where
   pub ascii : ReadableDirectivesAreAscii
   pub readable : WrittenDirectivesAreReadable
 
-pub feed_at : (rest : Rest) → ((kept : Bool) → first (bytes (rest (line_start kept))) ≡ 10 → ⊥)
+pub feed_at : (rest : Rest) → ((kept : Bool) → first (bytes (rest (at_line kept))) ≡ 10 → ⊥)
     → NoFeed 0 rest
 feed_at rest calm e bare white column f = calm e.kept (sym (ap (λ (c : Cursor). first (bytes (rest c))) (at_start e e.kept bare white column refl)) ∙ f)
 
@@ -58,7 +59,7 @@ dots_if s false x text rest kept T calm a = a
 -- ---- with `---`
 
 pub dashes_next : (s : Settings) (rest : Rest)
-    → IsNext (first (bytes (dashes (pretty s) (line_start false) rest)))
+    → IsNext (first (bytes (dashes (pretty s) (at_line false) rest)))
 dashes_next s rest = inr (ap (λ (bs : List ℕ). first bs) (dashes_are s false rest))
 
 dashed : (s : Settings) (x : yaml_encoding_t) (text : List ℕ) (rest : Rest)
@@ -83,7 +84,7 @@ marked_opens laws s o right dotted x text rest kept T a white =
     let after : Rest = λ e. dashes z e rest in
     let lines : Layout = version_text z o.version ▹ directives_text z o.directives in
     let next = dashes_next s rest in
-    let calm = next_calm (first (bytes (lines (line_start false) after))) (directives_next z o after next) in
+    let calm = next_calm (first (bytes (lines (at_line false) after))) (directives_next z o after next) in
     let unkept : Rest = λ e. keep false e (λ k. lines k after) in
     let b = dots_if z dotted x text unkept kept T (feed_at unkept (λ k. calm)) a in
     let U : List TokenBody → List TokenBody = λ bs. T (end_bodies dotted bs) in
@@ -101,9 +102,9 @@ plain_opens : (s : Settings) (fresh : Bool) (version : Option yaml_version_direc
     { version = version; directives = directives; implicit = implicit }) ≡ false
     → (x : yaml_encoding_t) (text : List ℕ) (rest : Rest) (kept : Bool)
     (T : List TokenBody → List TokenBody) (place : WalkState)
-    → NodeStage x text (line_start kept) place [] [] T
+    → NodeStage x text (at_line kept) place [] [] T
     → Left text place.at (bytes (start_layout (pretty s) fresh false
-    (record { version = version; directives = directives; implicit = implicit }) (line_start kept)
+    (record { version = version; directives = directives; implicit = implicit }) (at_line kept)
     rest))
     → Opens x text rest (λ bs. T (opening_bodies (pretty s) fresh
     (record { version = version; directives = directives; implicit = implicit }) bs))
@@ -115,7 +116,7 @@ plain_opens s true None (d ∷ ds) true e x text rest kept T place st l = absurd
 plain_opens s true None (d ∷ ds) false e x text rest kept T place st l = absurd (true≢false e)
 plain_opens s true None [] false e x text rest kept T place st l = absurd (true≢false e)
 plain_opens s true None [] true e x text rest kept T place st l = record {
-  cursor = line_start false;
+  cursor = at_line false;
   kept = refl;
   place = place;
   stage = record { reads = st.reads; flat = st.flat; broken = st.broken; bare = st.bare; line = st.line };
@@ -137,8 +138,8 @@ unmarked_fresh s false o e = absurd (true≢false e)
 pub opening_walks : Directing → (s : Settings) (o : Opening) → IsWritableOpening o
     → (fresh unended : Bool) (x : yaml_encoding_t) (text : List ℕ) (rest : Rest) (kept : Bool)
     (T : List TokenBody → List TokenBody) (place : WalkState) (more : List ℕ)
-    → (fresh ≡ true → Fresh more unended) → NodeStage x text (line_start kept) place [] more T
-    → Left text place.at (bytes (start_layout (pretty s) fresh unended o (line_start kept) rest))
+    → (fresh ≡ true → Fresh more unended) → NodeStage x text (at_line kept) place [] more T
+    → Left text place.at (bytes (start_layout (pretty s) fresh unended o (at_line kept) rest))
     → begins_white (bytes (rest (behind_three false))) ≡ true
     → Opens x text rest (λ bs. T (end_bodies (unended && is_directed o)
     (opening_bodies (pretty s) fresh o bs)))
@@ -148,11 +149,11 @@ opening_walks laws s o right fresh unended x text rest kept T place more first s
     let dotted = unended && is_directed o in
     elim (cases_Bool (is_marked z fresh o)) [
       | inl e ↦
-          let m = subst (λ (b : Bool). Left text place.at (bytes ((when dotted (dots z) ▹ keep false ▹ version_text z o.version ▹ directives_text z o.directives ▹ when b (dashes z)) (line_start kept) rest))) e l in
+          let m = subst (λ (b : Bool). Left text place.at (bytes ((when dotted (dots z) ▹ keep false ▹ version_text z o.version ▹ directives_text z o.directives ▹ when b (dashes z)) (at_line kept) rest))) e l in
           subst (λ (b : Bool). Opens x text rest (λ bs. T (end_bodies dotted (version_bodies o.version (directives_bodies o.directives (start_bodies (not b) bs)))))) (sym e)
           (marked_opens laws s o right dotted x text rest kept T (record { place = place; more = more; stage = st; left = m }) white)
       | inr e ↦
           let f = first (unmarked_fresh s fresh o e) in
-          subst (λ (u : Bool). Left text place.at (bytes (start_layout z fresh u o (line_start kept) rest)) → Opens x text rest (λ bs. T (end_bodies (u && is_directed o) (opening_bodies z fresh o bs)))) (sym f.ended)
-          (λ k. plain_opens s fresh o.version o.directives o.implicit e x text rest kept T place (subst (λ ms. NodeStage x text (line_start kept) place [] ms T) f.none st) k) l
+          subst (λ (u : Bool). Left text place.at (bytes (start_layout z fresh u o (at_line kept) rest)) → Opens x text rest (λ bs. T (end_bodies (u && is_directed o) (opening_bodies z fresh o bs)))) (sym f.ended)
+          (λ k. plain_opens s fresh o.version o.directives o.implicit e x text rest kept T place (subst (λ ms. NodeStage x text (at_line kept) place [] ms T) f.none st) k) l
     ]

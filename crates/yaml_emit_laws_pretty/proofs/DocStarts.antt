@@ -18,25 +18,22 @@ use Rattle.yaml_emit_laws_block.specs.Passed.{begins_white as begins_blank}
 use Rattle.yaml_emit_laws_pretty.specs.Walk.{NodeStage, Lined, NoFeed, no_comment}
 use Rattle.yaml_emit_laws_pretty.specs.Nodes.{Ending}
 use Rattle.yaml_emit_laws_pretty.proofs.Lining.{line_on}
-
--- the cursor at the start of a line
-abbrev pub line_start : Bool → Cursor
-line_start kept = record { column = 0; white = true; bare = true; kept = kept }
+use Rattle.yaml_emit_laws_text.proofs.Forms.{at_line}
 
 pub at_start : (e : Cursor) (kept : Bool) → e.bare ≡ true → e.white ≡ true → e.column ≡ 0
-    → e.kept ≡ kept → e ≡ line_start kept
+    → e.kept ≡ kept → e ≡ at_line kept
 at_start e kept bare white column same =
     ap (λ (b : Bool). let c : Cursor = record { column = e.column; white = e.white; bare = b; kept = e.kept } in c) bare
     ∙ ap (λ (w : Bool). let c : Cursor = record { column = e.column; white = w; bare = true; kept = e.kept } in c) white
     ∙ ap (λ (n : ℕ). let c : Cursor = record { column = n; white = true; bare = true; kept = e.kept } in c) column
-    ∙ ap (λ (k : Bool). line_start k) same
+    ∙ ap (λ (k : Bool). at_line k) same
 
 -- At the start of a line outside of all levels but those that are left to whoever closes them.
 pub record AtLine (x : yaml_encoding_t) (text : List ℕ) (after : Rest) (kept : Bool) (T : List TokenBody → List TokenBody) : Type 0 where
   pub place : WalkState
   pub more : List ℕ
-  pub stage : NodeStage x text (line_start kept) place [] more T
-  pub left : Left text place.at (bytes (after (line_start kept)))
+  pub stage : NodeStage x text (at_line kept) place [] more T
+  pub left : Left text place.at (bytes (after (at_line kept)))
 
 pub from_lined : (x : yaml_encoding_t) (text : List ℕ) (after : Rest) (kept : Bool) (more : List ℕ)
     (T : List TokenBody → List TokenBody) → Lined x text after 0 kept [] more T
@@ -57,7 +54,7 @@ pub record OnLine (x : yaml_encoding_t) (text : List ℕ) (rest : Rest) (kept : 
   pub reads : WalkReads x text place [] [] more T
   pub flat : place.depth ≡ 0
   pub column : column_at text place.at ≡ 0
-  pub left : Left text place.at (bytes (rest (line_start kept)))
+  pub left : Left text place.at (bytes (rest (at_line kept)))
 
 pub on_from : (x : yaml_encoding_t) (text : List ℕ) (rest : Rest) (kept : Bool)
     (T : List TokenBody → List TokenBody) → AtLine x text rest kept T → OnLine x text rest kept T
@@ -72,7 +69,7 @@ is_outer (b ∷ bs) = begins_mark b bs
 
 -- At the start of the line behind a root nothing comes, or a document's mark.
 abbrev pub EndsRoot : Rest → Type 0
-EndsRoot after = (kept : Bool) → is_outer (bytes (after (line_start kept))) ≡ true
+EndsRoot after = (kept : Bool) → is_outer (bytes (after (at_line kept))) ≡ true
 
 -- ---- a mark's first byte
 
@@ -129,14 +126,14 @@ outer_solid (b ∷ bs) h = elim (mark_first b bs h) [
 -- a line behind text, in bytes
 new_line_bytes : (b : LineBreak) (c : Cursor) (rest : Rest)
     → bytes (new_line b c (λ k. indent_to 0 k rest)) ≡ break_text b
-    ++ bytes (rest (line_start c.kept))
+    ++ bytes (rest (at_line c.kept))
 unfolding blanks
 new_line_bytes Lf c rest = letter_low 10 _ refl
 new_line_bytes Cr c rest = letter_low 13 _ refl
 new_line_bytes CrLf c rest = letter_low 13 _ refl ∙ ap (λ (bs : List ℕ). 13 ∷ bs) (letter_low 10 _ refl)
 
 line_bytes : (b : LineBreak) (c : Cursor) (rest : Rest) → c.bare ≡ false
-    → bytes (line b 0 c rest) ≡ break_text b ++ bytes (rest (line_start c.kept))
+    → bytes (line b 0 c rest) ≡ break_text b ++ bytes (rest (at_line c.kept))
 unfolding line
 line_bytes b c rest bare =
     let must : must_break 0 c ≡ true = rw bare refl in
@@ -156,28 +153,28 @@ break_calm Lf bs = refl
 break_calm Cr bs = refl
 break_calm CrLf bs = refl
 
-break_white : (b : LineBreak) (bs : List ℕ) → begins_white (break_text b ++ bs) ≡ true
+pub break_white : (b : LineBreak) (bs : List ℕ) → begins_white (break_text b ++ bs) ≡ true
 break_white Lf bs = refl
 break_white Cr bs = refl
 break_white CrLf bs = refl
 
 pub line_white : (b : LineBreak) (c : Cursor) (rest : Rest) → c.bare ≡ false
     → begins_white (bytes (line b 0 c rest)) ≡ true
-line_white b c rest bare = ap (λ bs. begins_white bs) (line_bytes b c rest bare) ∙ break_white b (bytes (rest (line_start c.kept)))
+line_white b c rest bare = ap (λ bs. begins_white bs) (line_bytes b c rest bare) ∙ break_white b (bytes (rest (at_line c.kept)))
 
 pub outer_feed : (after : Rest) → EndsRoot after → NoFeed 0 after
-outer_feed after ends e bare white column f = outer_calm (bytes (after (line_start e.kept))) (ends e.kept) (sym (ap (λ (c : Cursor). first (bytes (after c))) (at_start e e.kept bare white column refl)) ∙ f)
+outer_feed after ends e bare white column f = outer_calm (bytes (after (at_line e.kept))) (ends e.kept) (sym (ap (λ (c : Cursor). first (bytes (after c))) (at_start e e.kept bare white column refl)) ∙ f)
 
 -- what follows a root ends it
 pub root_ending : (b : LineBreak) (after : Rest) → EndsRoot after → Ending b 0 0 after
 root_ending b after ends = record {
   follows = record {
-    stops = λ level low e bare. ap (λ bs. stops_plain_at false level None bs) (line_bytes b e after bare) ∙ break_stops level b (bytes (after (line_start e.kept))) ∙ outer_stops level (bytes (after (line_start e.kept))) (ends e.kept);
-    calm = λ e bare. ap (λ bs. no_comment bs) (line_bytes b e after bare) ∙ break_calm b (bytes (after (line_start e.kept))) ∙ outer_no_comment (bytes (after (line_start e.kept))) (ends e.kept);
+    stops = λ level low e bare. ap (λ bs. stops_plain_at false level None bs) (line_bytes b e after bare) ∙ break_stops level b (bytes (after (at_line e.kept))) ∙ outer_stops level (bytes (after (at_line e.kept))) (ends e.kept);
+    calm = λ e bare. ap (λ bs. no_comment bs) (line_bytes b e after bare) ∙ break_calm b (bytes (after (at_line e.kept))) ∙ outer_no_comment (bytes (after (at_line e.kept))) (ends e.kept);
     white = λ e bare. line_white b e after bare;
   };
   feed = outer_feed after ends;
-  solid = λ e bare white column. ap (λ (c : Cursor). begins_blank (bytes (after c))) (at_start e e.kept bare white column refl) ∙ outer_solid (bytes (after (line_start e.kept))) (ends e.kept);
+  solid = λ e bare white column. ap (λ (c : Cursor). begins_blank (bytes (after c))) (at_start e e.kept bare white column refl) ∙ outer_solid (bytes (after (at_line e.kept))) (ends e.kept);
 }
 
 -- ---- the line behind text

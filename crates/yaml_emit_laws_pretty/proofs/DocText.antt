@@ -25,11 +25,12 @@ use Rattle.yaml_emit_laws_pretty.specs.Bodies.{node_bodies, node_kept, root_bodi
 use Rattle.yaml_emit_laws_pretty.specs.Walk.{NodeStage}
 use Rattle.yaml_emit_laws_pretty.specs.DocLaws.{DocumentsAreRead}
 use Rattle.yaml_emit_laws_pretty.proofs.Entries.{no_gap}
-use Rattle.yaml_emit_laws_pretty.proofs.DocStarts.{line_start, AtLine, from_lined, outer_calm, root_ending}
+use Rattle.yaml_emit_laws_pretty.proofs.DocStarts.{AtLine, from_lined, outer_calm, root_ending}
 use Rattle.yaml_emit_laws_pretty.proofs.DocLines.{dots_walk}
 use Rattle.yaml_emit_laws_pretty.proofs.DocEnds.{RootsWalk, behind_root, from_root, root_white, root_ends, nothing_outer}
 use Rattle.yaml_emit_laws_pretty.proofs.DocOpens.{Directing, Fresh, feed_at, dashes_next, opening_walks}
 use Rattle.yaml_emit_laws_pretty.proofs.DocDirectives.{next_calm, directives_next}
+use Rattle.yaml_emit_laws_text.proofs.Forms.{at_line}
 
 -- ---- the end
 
@@ -46,15 +47,15 @@ ended x text c o more T s l =
 stop_walks : (s : Settings) (unended kept : Bool) (x : yaml_encoding_t) (text : List ℕ)
     (o : WalkState)
     (more : List ℕ) (T : List TokenBody → List TokenBody)
-    → NodeStage x text (line_start kept) o [] more T
-    → Left text o.at (bytes (stop_layout s unended (line_start kept) nothing_more))
+    → NodeStage x text (at_line kept) o [] more T
+    → Left text o.at (bytes (stop_layout s unended (at_line kept) nothing_more))
     → Done x text (T (end_bodies (unended && kept) (tokens.stream_end ∷ [])))
 unfolding stop_layout
-stop_walks s false kept x text o more T st l = ended x text (line_start kept) o more T st l
-stop_walks s true false x text o more T st l = ended x text (line_start false) o more T st l
+stop_walks s false kept x text o more T st l = ended x text (at_line kept) o more T st l
+stop_walks s true false x text o more T st l = ended x text (at_line false) o more T st l
 stop_walks s true true x text o more T st l =
     let h = dots_walk s x text nothing_more true T (feed_at nothing_more (λ k. outer_calm (bytes []) nothing_outer)) (record { place = o; more = more; stage = st; left = l }) in
-    ended x text (line_start true) h.place h.more (λ bs. T (tokens.document_end ∷ bs)) h.stage h.left
+    ended x text (at_line true) h.place h.more (λ bs. T (tokens.document_end ∷ bs)) h.stage h.left
 
 -- ---- a document
 
@@ -100,7 +101,7 @@ root_walks s roots d ds (right, root, good) x text c o T kept st l =
 
 -- behind `...` comes nothing, a directive or `---`
 explicit_calm : (s : Settings) (ds : List Document) (kept : Bool)
-    → first (bytes (documents_layout (pretty s) false false ds (line_start kept) nothing_more)) ≡ 10
+    → first (bytes (documents_layout (pretty s) false false ds (at_line kept) nothing_more)) ≡ 10
     → ⊥
 unfolding documents_layout start_layout stop_layout
 explicit_calm s [] kept = outer_calm (bytes []) nothing_outer
@@ -127,8 +128,8 @@ documents_walk : Directing → (s : Settings) → RootsWalk (pretty s) → (ds :
     → AreWritable ds
     → (fresh unended kept : Bool) (x : yaml_encoding_t) (text : List ℕ) (place : WalkState)
     (more : List ℕ) (T : List TokenBody → List TokenBody)
-    → (fresh ≡ true → Fresh more unended) → NodeStage x text (line_start kept) place [] more T
-    → Left text place.at (bytes (documents_layout (pretty s) fresh unended ds (line_start kept)
+    → (fresh ≡ true → Fresh more unended) → NodeStage x text (at_line kept) place [] more T
+    → Left text place.at (bytes (documents_layout (pretty s) fresh unended ds (at_line kept)
     nothing_more))
     → Done x text (T (documents_bodies (pretty s) fresh unended kept ds))
 unfolding documents_layout end_layout documents_bodies

@@ -27,8 +27,8 @@ use Rattle.yaml_scan_laws_levels.proofs.Stepping.{words_leave}
 use Rattle.yaml_scan_laws_levels.proofs.Walking.{walk_mark}
 use Rattle.yaml_emit_laws_scalars.specs.Stops.{begins_white, is_gap_byte}
 use Rattle.yaml_emit_laws_pretty.specs.Walk.{BareIndicator, Entry, Question, Answer, mark_byte, mark_body, mark_level, IsLone, MarkIsWalked}
-use Rattle.yaml_emit_laws_pretty.proofs.Lining.{first_byte}
 use Rattle.yaml_emit_laws_pretty.proofs.NodeLines.{mark_small}
+use Rattle.yaml_emit_laws_text.proofs.TextLines.{left_byte}
 
 pub no_gap : (text : List ℕ) (p : ℕ) → begins_lexeme text p ≡ true → IsGap text p []
 no_gap text p e = let z : p + 0 ≡ p = omega arith in record { has = λ k few. absurd (omega (arith, few)); blank = refl; ends = ap (λ n. begins_lexeme text n) z ∙ e }
@@ -42,7 +42,7 @@ space_white c d b e = grind (arith, nat_tests)
 
 pub white_stands : (text : List ℕ) (p : ℕ) (bs : List ℕ) → Left text p bs → begins_white bs ≡ true
     → is_blank_or_end text p ≡ true
-white_stands text p [] l e = let z = first_byte text p [] l in rw z refl
+white_stands text p [] l e = let z = left_byte text p [] l in rw z refl
 white_stands text p (b ∷ bs) l e = space_white (byte text (p + 1)) (byte text (p + 2)) (byte text p) (ap (λ x. is_gap_byte x) (left_first text p b bs l) ∙ e)
 
 -- ---- the three indicators

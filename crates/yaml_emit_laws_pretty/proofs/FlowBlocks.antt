@@ -28,10 +28,11 @@ use Rattle.yaml_emit_laws_pretty.specs.Flows.{KeysAreWalkedIn, BracketsFollow}
 use Rattle.yaml_emit_laws_pretty.proofs.Lining.{line_ends}
 use Rattle.yaml_emit_laws_pretty.proofs.FlowSigns.{opening_of, opens}
 use Rattle.yaml_emit_laws_pretty.proofs.FlowScalars.{WordLaws, kept_good}
-use Rattle.yaml_emit_laws_pretty.proofs.FlowFollows.{pretty_of, prettily, space_parts, gap_spaced, properties_spaced}
+use Rattle.yaml_emit_laws_pretty.proofs.FlowFollows.{prettily, space_parts, gap_spaced, properties_spaced}
 use Rattle.yaml_emit_laws_pretty.proofs.FlowItems.{BodyIn, opened_in}
 use Rattle.yaml_emit_laws_pretty.proofs.FlowNodes.{body_checked, pretty_fine, first_in, first_pairs_in, items_keep, pairs_keep, bracket}
 use Rattle.yaml_emit_laws_pretty.proofs.Singles.{bare_off}
+use Rattle.yaml_emit_laws_text.proofs.Prettily.{pretty}
 
 -- ---- brackets, behind properties or without
 
@@ -80,7 +81,7 @@ dressed_block : PropertiesAreWalked → (s : Settings) (d : Opening) → IsPrett
     (anchor_bodies anchor (tag_bodies d.directives tag (opens mapping ∷ B bs))))
 dressed_block law s d is anchor tag good fine some mapping a B ls rest body c x text o T st right l =
     let after : Rest = λ e. (opener (opening_of mapping) ▹ a) e rest in
-    let g = law (pretty_of s) d (pretty_fine s d is) anchor tag good fine some ls c after (parted_opener mapping a rest) x text o T st right l in
+    let g = law (pretty s) d (pretty_fine s d is) anchor tag good fine some ls c after (parted_opener mapping a rest) x text o T st right l in
     let h = opened_block mapping a B ls rest body g.cursor x text g.place (λ bs. T (anchor_bodies anchor (tag_bodies d.directives tag bs))) g.stage g.right g.left in
     subst (λ (k : Bool). GoesBehindNode x text rest k ls (λ bs. T (anchor_bodies anchor (tag_bodies d.directives tag (opens mapping ∷ B bs))))) g.same h
 
@@ -103,7 +104,7 @@ any_block law s d is (Some name) tag good fine mapping a B ls rest body c x text
 
 sequence_laid : (s : Settings) (ds : List TagDirective) (around : Option ℕ) (q : Part) (o : Start)
     (items : Nodes) → is_flow_at (prettily s ds) false o (are_none items) ≡ true
-    → let m = deeper (pretty_of s) around in
+    → let m = deeper (pretty s) around in
     node_layout (prettily s ds) (block_position around q) (sequence_node o items) ≡ (properties_text (prettily s ds) o.anchor (start_tag false o) ▹ (opener 91 ▹ (checked m ▹ items_layout (prettily s ds) true m true items)))
 unfolding node_layout
 sequence_laid s ds around q o items flow =
@@ -113,7 +114,7 @@ sequence_laid s ds around q o items flow =
 
 mapping_laid : (s : Settings) (ds : List TagDirective) (around : Option ℕ) (q : Part) (o : Start)
     (pairs : Pairs) → is_flow_at (prettily s ds) false o (are_no_pairs pairs) ≡ true
-    → let m = deeper (pretty_of s) around in
+    → let m = deeper (pretty s) around in
     node_layout (prettily s ds) (block_position around q) (mapping_node o pairs) ≡ (properties_text (prettily s ds) o.anchor (start_tag false o) ▹ (opener 123 ▹ (checked m ▹ pairs_layout (prettily s ds) true m true pairs)))
 unfolding node_layout
 mapping_laid s ds around q o pairs flow =
@@ -162,7 +163,7 @@ unfolding node_kept
 mapping_keeps laws s ds q o pairs flow kept = sym (ap (λ (b : Bool). pairs_kept (prettily s ds) b pairs kept) flow ∙ pairs_keep laws.styles s ds pairs kept)
 
 margin_deep : (s : Settings) → 2 ≤ s.indent → (around : Option ℕ)
-    → margin_round around ≤ deeper (pretty_of s) around
+    → margin_round around ≤ deeper (pretty s) around
 margin_deep s least None = omega arith
 margin_deep s least (Some n) = omega (arith, least)
 
@@ -204,7 +205,7 @@ node_brackets laws keys law s d is (alias_node name) good flow around q bare = a
 node_brackets laws keys law s d is (scalar_node v) good flow around q bare = absurd (false≢true flow)
 node_brackets laws keys law s d is (sequence_node o items) (anchor, tag, all) flow around q bare =
     let p = prettily s d.directives in
-    let m = deeper (pretty_of s) around in
+    let m = deeper (pretty s) around in
     let least = is.least in
     let up = margin_deep s least around in
     bracketed law s d is around q bare (sequence_node o items) o.anchor (start_tag false o) anchor (kept_good (not o.implicit) o.tag tag) false (checked m ▹ items_layout p true m true items) (λ bs. items_bodies p true true items (tokens.flow_sequence_end ∷ bs))
@@ -212,7 +213,7 @@ node_brackets laws keys law s d is (sequence_node o items) (anchor, tag, all) fl
     (sequence_laid s d.directives around q o items flow) (sequence_told p q bare o items flow) (λ kept. sequence_keeps laws s d.directives q o items flow kept)
 node_brackets laws keys law s d is (mapping_node o pairs) (anchor, tag, all) flow around q bare =
     let p = prettily s d.directives in
-    let m = deeper (pretty_of s) around in
+    let m = deeper (pretty s) around in
     let least = is.least in
     let up = margin_deep s least around in
     bracketed law s d is around q bare (mapping_node o pairs) o.anchor (start_tag false o) anchor (kept_good (not o.implicit) o.tag tag) true (checked m ▹ pairs_layout p true m true pairs) (λ bs. pairs_bodies p true true pairs (tokens.flow_mapping_end ∷ bs))

@@ -27,17 +27,15 @@ use Rattle.yaml_emit_laws_pretty.specs.Walk.{no_comment}
 use Rattle.yaml_emit_laws_pretty.specs.Spoken.{ends_name}
 use Rattle.yaml_emit_laws_pretty.specs.Flows.{FollowsIn}
 use Rattle.yaml_emit_laws_pretty.specs.Nodes.{PartedBehind}
-use Rattle.yaml_emit_laws_pretty.proofs.Following.{line_bytes, line_calm, line_white}
+use Rattle.yaml_emit_laws_pretty.proofs.Following.{line_bytes, line_calm}
 use Rattle.yaml_emit_laws_text.proofs.Words.{lettered_on}
 use Rattle.yaml_emit_laws_text.proofs.Single.{after_blanks, line_start}
 use Rattle.yaml_emit_laws_scalars.proofs.Stands.{blanks_white}
-
--- settings of pretty form
-abbrev pub pretty_of : Settings → Settings
-pretty_of s = record { encoding = s.encoding; canonical = false; indent = s.indent; width = s.width; unicode = s.unicode; line_break = s.line_break }
+use Rattle.yaml_emit_laws_text.proofs.Prettily.{pretty}
+use Rattle.yaml_emit_laws_pretty.proofs.DocStarts.{break_white}
 
 abbrev pub prettily : Settings → List TagDirective → Context
-prettily s ds = record { settings = pretty_of s; directives = ds }
+prettily s ds = record { settings = pretty s; directives = ds }
 
 -- ---- a comma or a closing bracket follows
 
@@ -128,7 +126,7 @@ answer_line b n e after parted bare =
     record {
       stops = λ level. ap (λ bs. stops_plain_at true level None bs) same ∙ (behind_lines true level n (58 ∷ tail)).0 b None ∙ (what_stops true level (Some n)).2 tail (parted (lettered_on d) refl refl);
       calm = ap (λ bs. no_comment bs) same ∙ line_calm b n (58 ∷ tail) ∙ colon_calm tail;
-      name = white_ends (bytes (line b n e (λ k. word (58 ∷ []) k after))) (ap (λ bs. begins_white bs) same ∙ line_white b (replicate n 32 ++ (58 ∷ tail)));
+      name = white_ends (bytes (line b n e (λ k. word (58 ∷ []) k after))) (ap (λ bs. begins_white bs) same ∙ break_white b (replicate n 32 ++ (58 ∷ tail)));
     }
 
 answer_here : (e : Cursor) (after : Rest) → PartedBehind after → e.white ≡ false

@@ -24,8 +24,9 @@ use Rattle.yaml_emit_laws_pretty.specs.Bodies.{place, style_at, scalar_kept, nod
 use Rattle.yaml_emit_laws_pretty.specs.Nodes.{IsPretty}
 use Rattle.yaml_emit_laws_pretty.specs.Flows.{KeysAreWalkedIn}
 use Rattle.yaml_emit_laws_pretty.proofs.FlowScalars.{WordLaws, properties_in, kept_good, scalar_in, alias_in}
-use Rattle.yaml_emit_laws_pretty.proofs.FlowFollows.{pretty_of, prettily, Spaced, gap_spaced, checked_spaced, properties_spaced, mark_spaced, text_spaced}
+use Rattle.yaml_emit_laws_pretty.proofs.FlowFollows.{prettily, Spaced, gap_spaced, checked_spaced, properties_spaced, mark_spaced, text_spaced}
 use Rattle.yaml_emit_laws_pretty.proofs.FlowItems.{NodeIn, BodyIn, KeyIn, FirstItems, MoreItems, FirstPairs, MorePairs, items_none, items_closed, items_first, items_more, pairs_none, pairs_closed, pairs_first, pairs_more, bracket_in}
+use Rattle.yaml_emit_laws_text.proofs.Prettily.{pretty as pretty_of}
 
 -- ---- what nodes begin with
 

@@ -19,6 +19,7 @@ use Rattle.yaml_emit_laws_pretty.specs.Nodes.{ShowsNode, Ending, ShownEnds}
 use Rattle.yaml_emit_laws_scalars.proofs.Stands.{break_low, blanks_bare, blanks_white}
 use Rattle.yaml_emit_laws_scalars.proofs.Lines.{blanks_column}
 use Rattle.yaml_emit_laws_text.proofs.Single.{line_is, after_blanks, line_start}
+use Rattle.yaml_emit_laws_pretty.proofs.DocStarts.{break_white}
 
 spaces_calm : (n : ℕ) (bs : List ℕ) → no_comment (replicate n 32 ++ bs) ≡ no_comment bs
 unfolding no_comment
@@ -31,11 +32,6 @@ unfolding no_comment
 line_calm Lf n bs = spaces_calm n bs
 line_calm Cr n bs = spaces_calm n bs
 line_calm CrLf n bs = spaces_calm n bs
-
-pub line_white : (b : LineBreak) (bs : List ℕ) → begins_white (break_text b ++ bs) ≡ true
-line_white Lf bs = refl
-line_white Cr bs = refl
-line_white CrLf bs = refl
 
 start_column : (n : ℕ) (e : Cursor) → (after_blanks n (line_start e)).column ≡ n
 start_column n e = let z = blanks_column n (line_start e) in omega (arith, z)
@@ -57,7 +53,7 @@ follows_line b n rest shows = record {
   calm = λ e bare. let d = after_blanks n (line_start e) in
       ap (λ bs. no_comment bs) (line_bytes b n e rest bare) ∙ line_calm b n (bytes (rest d)) ∙ shows.calm d (blanks_bare n (line_start e) refl) (blanks_white n (line_start e) refl) (start_column n e);
   white = λ e bare. let d = after_blanks n (line_start e) in
-      ap (λ bs. begins_white bs) (line_bytes b n e rest bare) ∙ line_white b (replicate n 32 ++ bytes (rest d));
+      ap (λ bs. begins_white bs) (line_bytes b n e rest bare) ∙ break_white b (replicate n 32 ++ bytes (rest d));
 }
 
 solid_no_feed : (bs : List ℕ) → begins_solid bs ≡ true → first bs ≡ 10 → ⊥

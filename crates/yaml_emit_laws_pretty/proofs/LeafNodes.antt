@@ -36,7 +36,7 @@ use Rattle.yaml_emit_laws_block.specs.Laws.{from_indicator, margin_round}
 use Rattle.yaml_emit_laws_pretty.specs.Bodies.{style_at, takes_mark, scalar_bodies, scalar_kept, node_bodies, node_kept}
 use Rattle.yaml_emit_laws_pretty.specs.Walk.{NodeStage, LinedUp, PlainIsWalked, SingleIsWalked}
 use Rattle.yaml_emit_laws_pretty.specs.Nodes.{Ending, NodeWalks, IsPretty, LeavesAreWalked, BlockScalarsAreWalked, block_position, column_round, is_block}
-use Rattle.yaml_emit_laws_pretty.proofs.Following.{line_bytes, line_white}
+use Rattle.yaml_emit_laws_pretty.proofs.Following.{line_bytes}
 use Rattle.yaml_emit_laws_pretty.proofs.Lining.{line_ends}
 use Rattle.yaml_emit_laws_pretty.proofs.NodeLines.{up_says, word_begins_white}
 use Rattle.yaml_emit_laws_pretty.proofs.PlainLayouts.{plain_walks, plain_white}
@@ -47,13 +47,14 @@ use Rattle.yaml_emit_laws_pretty.proofs.LeafDress.{dressed, word_walks}
 use Rattle.yaml_emit_laws_scalars.proofs.NearKeys.{kept_writable}
 use Rattle.yaml_emit_laws_pretty.proofs.FlowFollows.{white_ends, space_parts}
 use Rattle.yaml_emit_laws_pretty.proofs.FlowSigns.{behind_gap}
+use Rattle.yaml_emit_laws_pretty.proofs.DocStarts.{break_white}
 
 -- ---- white
 
 -- behind text a line begins with a break
 text_line_white : (b : LineBreak) (m : ℕ) (after : Rest) (e : Cursor) → e.bare ≡ false
     → begins_white (bytes (line b m e after)) ≡ true
-text_line_white b m after e bare = ap (λ bs. begins_white bs) (line_bytes b m e after bare) ∙ line_white b _
+text_line_white b m after e bare = ap (λ bs. begins_white bs) (line_bytes b m e after bare) ∙ break_white b _
 
 gap_bytes : (a : Layout) (e : Cursor) (R : Rest) → e.white ≡ false
     → bytes ((gap ▹ a) e R) ≡ 32 ∷ bytes

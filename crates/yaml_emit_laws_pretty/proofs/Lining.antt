@@ -3,7 +3,6 @@ use Rattle.std.proofs.Common.{◌≡◌, ℕ, ◌-◌, ◌+◌, ◌≤◌, ◌<�
 use Rattle.std.specs.Prelude.{if◌then◌else◌}
 use Rattle.std.proofs.lemmas.Bool.{cases_Bool, or_left, or_right, not-false, ltb-false, eq-eqb}
 use Rattle.std.proofs.lemmas.Bool.Decides.{nat_tests}
-use Rattle.std.proofs.lemmas.List.{get_or_past}
 use Rattle.yaml_emit_laws_text.specs.emit_layout.scan_model.declared.yaml_encoding_t.{yaml_encoding_t}
 use Rattle.yaml_emit_laws_text.specs.emit_layout.scan_model.Tokens.{TokenBody}
 use Rattle.yaml_emit_laws_text.specs.scan_history.scan_model.Marks.{byte, column_at, line_at, ends_of, ends_break}
@@ -22,10 +21,7 @@ use Rattle.yaml_scan_laws_levels.proofs.Slotting.{letter_columns, feed_line}
 use Rattle.yaml_scan_laws_levels.proofs.Walking.{walk_white}
 use Rattle.yaml_emit_laws_pretty.specs.Walk.{NodeStage, NoFeed, Lined, LineIsWalked, LineEndsNode}
 use Rattle.yaml_emit_laws_text.proofs.Single.{line_start}
-
-pub first_byte : (text : List ℕ) (p : ℕ) (bs : List ℕ) → Left text p bs → byte text p ≡ first bs
-first_byte text p [] l = let e = l.ends in get_or_past text p 0 (omega (arith, e))
-first_byte text p (b ∷ bs) l = left_first text p b bs l
+use Rattle.yaml_emit_laws_text.proofs.TextLines.{left_byte}
 
 -- ---- spaces
 
@@ -108,8 +104,8 @@ break_on Cr x text c o ls more T rest s none l =
     let here = left_first text o.at 13 _ m in
     let after = left_more text o.at 13 _ m in
     let r = walk_white x text o [] ls more T (13 ∷ []) s.reads (has_at text o.at (13 ∷ []) (here, tt)) refl in
-    let start : column_at text (o.at + 1) ≡ 0 = behind_return text o.at here (λ e. none (sym (first_byte text (o.at + 1) _ after) ∙ e)) in
-    let next = line_end text o.at (return_ends_line text o.at here (λ e. none (sym (first_byte text (o.at + 1) _ after) ∙ e))) in
+    let start : column_at text (o.at + 1) ≡ 0 = behind_return text o.at here (λ e. none (sym (left_byte text (o.at + 1) _ after) ∙ e)) in
+    let next = line_end text o.at (return_ends_line text o.at here (λ e. none (sym (left_byte text (o.at + 1) _ after) ∙ e))) in
     let low = s.line in
     record { place = behind_white o 1; stage = record { reads = r; flat = s.flat; broken = s.broken; bare = λ b. (or_right o.now (true && o.broken) s.broken, start); line = omega (arith, next, low) }; left = after; later = omega (arith, next, low) }
 break_on CrLf x text c o ls more T rest s none l =

@@ -34,8 +34,9 @@ use Rattle.yaml_emit_laws_scalars.specs.PlainLaws.{may_be_plain}
 use Rattle.yaml_emit_laws_scalars.specs.StandsLaws.{PlainHasGap, PlainStands, ScalarsAreWords}
 use Rattle.yaml_emit_laws_scalars.proofs.Stopping.{stops_end}
 use Rattle.yaml_emit_laws_pretty.specs.Walk.{NodeStage, Walks, Follows, no_comment, PlainIsWalked}
-use Rattle.yaml_emit_laws_pretty.proofs.Lining.{first_byte, line_on_to}
+use Rattle.yaml_emit_laws_pretty.proofs.Lining.{line_on_to}
 use Rattle.yaml_emit_laws_pretty.proofs.Entries.{no_gap}
+use Rattle.yaml_emit_laws_text.proofs.TextLines.{left_byte}
 
 -- a space, where one is due
 pub walks_gap : (a : Layout) (B : List TokenBody → List TokenBody) (ls : List ℕ) (c : Cursor)
@@ -64,7 +65,7 @@ pub no_hash : (text : List ℕ) (p : ℕ) (bs : List ℕ) → Left text p bs →
 unfolding no_comment white_of
 no_hash text p [] l h e =
     let z : p + 0 ≡ p = omega arith in
-    let f : 0 ≡ 35 = sym (first_byte text p [] l) ∙ (sym (ap (λ q. byte text q) z) ∙ e) in
+    let f : 0 ≡ 35 = sym (left_byte text p [] l) ∙ (sym (ap (λ q. byte text q) z) ∙ e) in
     omega (arith, f)
 no_hash text p (b ∷ bs) l h e = elim (cases_Bool (is_gap_byte b)) [
   | inl g ↦

@@ -23,10 +23,10 @@ use Rattle.yaml_emit_laws_text.specs.emit_layout.emit_text.Layout.{◌▹◌, af
 use Rattle.yaml_emit_laws_text.specs.emit_layout.emit_text.Scalars.{flow_body}
 use Rattle.yaml_emit_laws_text.specs.ReadBack.{ValueIsReadBack, between_quotes, between_single}
 use Rattle.yaml_emit_laws_text.specs.scan_history.scan_model.Wrong.{Wrong}
-use Rattle.yaml_emit_laws_text.specs.emit_layout.emit_tags.Tags.{Split, shorthand, verbatim, spelled, split_tag}
+use Rattle.yaml_emit_laws_text.specs.emit_layout.emit_tags.Tags.{Split, spelled, split_tag}
 use Rattle.yaml_emit_laws_text.specs.emit_layout.Content.{Opening}
 use Rattle.yaml_emit_laws_text.specs.Bodies.{tag_body}
-use Rattle.yaml_emit_laws_text.specs.TagsLaws.{SplitTagsAreRead, WrittenTagsAreReadable, IsReadable, ReadableTagsAreAscii, tag_text}
+use Rattle.yaml_emit_laws_text.specs.TagsLaws.{SplitTagsAreRead, WrittenTagsAreReadable, IsReadable, ReadableTagsAreAscii}
 use Rattle.yaml_scan_laws_texts.specs.WordsLaws.{LoneMarkReads}
 use Rattle.yaml_emit_laws_text.specs.Walk.{Left}
 use Rattle.yaml_emit_laws_text.specs.Writable.{IsWritableName, IsWritableOpening, IsWritableTag}
@@ -41,11 +41,11 @@ use Rattle.yaml_emit_laws_scalars.specs.SingleLaws.{SingleIsBack}
 use Rattle.yaml_emit_laws_scalars.specs.StandsLaws.{ScalarsAreWords}
 use Rattle.yaml_emit_laws_scalars.proofs.Stopping.{goes_on, stops_end}
 use Rattle.yaml_emit_laws_pretty.specs.Spoken.{Spoken, WordStands, Fits, anything, space, white, name_end, unquoted, stop, ends_name}
-use Rattle.yaml_emit_laws_pretty.proofs.Lining.{first_byte}
 use Rattle.yaml_emit_laws_pretty.proofs.Entries.{white_stands}
 use Rattle.yaml_emit_laws_pretty.proofs.Plains.{no_hash, ends_begins}
-use Rattle.yaml_emit_laws_text.proofs.Tags.{mark_kind, said_tag}
+use Rattle.yaml_emit_laws_text.proofs.Tags.{mark_kind, said_tag, text_is}
 use Rattle.yaml_emit_laws_scalars.proofs.Stands.{single_kind}
+use Rattle.yaml_emit_laws_text.proofs.TextLines.{left_byte}
 
 -- a word that takes no white
 in_line : (flow : Bool) (level : ℕ) (k : Kind) (body : TokenBody) (text : List ℕ) (p e : ℕ)
@@ -176,12 +176,6 @@ tag_at_word : (flow : Bool) (level : ℕ) (text : List ℕ) (p : ℕ)
 unfolding word_at
 tag_at_word flow level text p = refl
 
-text_is : (s : Split) (e : ℕ)
-    → tagged (Ok (tag_text s e)) ≡ Ok
-    (record { body = tag_body s; end = e; reached = e; broke = false })
-text_is (shorthand handle suffix) e = refl
-text_is (verbatim t) e = refl
-
 tag_ends : (flow : Bool) (text : List ℕ) (p : ℕ) (bs : List ℕ) → Left text p bs
     → begins_white bs ≡ true → may_end_tag flow text p ≡ true
 tag_ends flow text p bs l e = or_left (is_blank_or_end text p) (flow && byte text p == 44) (white_stands text p bs l e)
@@ -224,7 +218,7 @@ pub mark_stands : LoneMarkReads → (flow : Bool) (level : ℕ) → (text : List
 mark_stands lone flow level text p bs l fits =
     let h = left_first text p 33 bs l in
     let o = left_more text p 33 bs l in
-    let next : byte text (p + 1) ≡ 32 = first_byte text (p + 1) bs o ∙ fits in
+    let next : byte text (p + 1) ≡ 32 = left_byte text (p + 1) bs o ∙ fits in
     in_line flow level kinds.Tag (tokens.tag [] (33 ∷ [])) text p (p + 1) bs (sign_begins text p 33 mark_sign h) (sign_kind flow text p 33 kinds.Tag mark_sign h (λ a. mark_kind flow a))
     (tag_at_word flow level text p ∙ said_tag (tag_at flow text p) (record { handle = []; suffix = 33 ∷ []; end = p + 1 }) (lone flow text p h next))
 
@@ -291,7 +285,7 @@ single_stands words flow level page c value r text p bs l fits =
     let q = p + length own in
     let o = left_rest text p own bs l in
     in_line flow level kinds.SingleQuoted (tokens.scalar value YAML_SINGLE_QUOTED_SCALAR_STYLE) text p q bs (sign_begins text p 39 single_sign h) (sign_kind flow text p 39 kinds.SingleQuoted single_sign h (λ a. single_kind flow a))
-    ((words flow level text p value).1 q (r.read text p (has_at text p own (has_front text p own bs l.has)) (λ e. fits (sym (first_byte text q bs o) ∙ e))))
+    ((words flow level text p value).1 q (r.read text p (has_at text p own (has_front text p own bs l.has)) (λ e. fits (sym (left_byte text q bs o) ∙ e))))
 
 abbrev pub single_word : ScalarsAreWords
     → (flow : Bool) (level : ℕ) (spaced : Bool) (page : Page) (c : Cursor) (value : List ℕ)

@@ -1,5 +1,5 @@
 -- The gap behind a plain scalar, and the end that it comes before.
-use Rattle.std.proofs.Common.{◌≡◌, ◌≢◌, ℕ, zero, suc, ◌+◌, ◌<◌, ◌≤◌, ◌==◌, ◌&&◌, ◌||◌, nat_lt, not, Bool, true, false, List, [], ◌∷◌, length, Result, Ok, refl, ap, subst, ◌∙◌, inl, inr, ◌⊎◌, arith}
+use Rattle.std.proofs.Common.{◌≡◌, ◌≢◌, ℕ, zero, suc, ◌+◌, ◌<◌, ◌≤◌, ◌==◌, ◌&&◌, ◌||◌, nat_lt, not, Bool, true, false, List, [], ◌∷◌, length, Result, Ok, refl, ap, subst, ◌∙◌, inl, inr, arith}
 use Rattle.std.proofs.lemmas.Bool.{not-true, and_parts}
 use Rattle.std.proofs.lemmas.Bool.Decides.{nat_tests}
 use Rattle.yaml_scan_history.specs.scan_model.Marks.{byte, break_of, break_width, column_at, is_blank}
@@ -13,6 +13,7 @@ use Rattle.yaml_scan_history.specs.scan_scalars.Plain.{leads, Ends, Takes, ends_
 use Rattle.yaml_scan_history.proofs.PlainLemmas.{spot_break, spot_blank, spot_ends}
 use Rattle.yaml_scan_laws_texts.specs.PlainLaws.{ends_plain}
 use Rattle.yaml_emit_laws_scalars.proofs.Standing.{words_next}
+use Rattle.yaml_scan_history.proofs.GapsRead.{cr_width, byte_cases}
 
 -- no word more: what is left ends at the place
 abbrev pub none_to : ℕ → Bool → Words
@@ -62,10 +63,6 @@ lf_width : (c d : ℕ) → break_of 10 c d ≡ 1
 unfolding break_of
 lf_width c d = refl
 
-cr_width : (c d : ℕ) → c ≢ 10 → break_of 13 c d ≡ 1
-unfolding break_of
-cr_width c d h = let e : (c == 10) ≡ false = grind (arith, nat_tests) in rw e refl
-
 crlf_width : (d : ℕ) → break_of 13 10 d ≡ 2
 unfolding break_of
 crlf_width d = refl
@@ -73,9 +70,6 @@ crlf_width d = refl
 no_feed : (b c d : ℕ) → break_of b c d ≡ 0 → b ≢ 10
 unfolding break_of
 no_feed b c d h = grind (arith, nat_tests)
-
-byte_cases : (b : ℕ) → (b == 32 || (b == 10 || b == 13)) ≡ true → (b ≡ 32) ⊎ ((b ≡ 10) ⊎ (b ≡ 13))
-byte_cases b h = grind (arith, nat_tests)
 
 -- gaps of at most k bytes are taken
 abbrev Reads : ℕ → Type 0

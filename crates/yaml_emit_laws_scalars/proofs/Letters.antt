@@ -1,6 +1,6 @@
 -- What is written for a character inside a plain or single quoted scalar is a part of a spelling.
 use Rattle.std.proofs.Common.{◌≡◌, ℕ, ◌+◌, ◌<◌, Bool, true, false, not, ◌&&◌, ◌||◌, ◌==◌, nat_lt, List, [], ◌∷◌, ◌++◌, replicate, refl, sym, ap, ◌∙◌, inl, inr, ◌⊎◌, arith, append-nil, encode_utf8, encode_utf8_all}
-use Rattle.std.proofs.lemmas.Bool.{true≢false, lt-ltb, eqb-true, and_parts, not-true, or_parts, ne_eqb, eqb-false}
+use Rattle.std.proofs.lemmas.Bool.{true≢false, lt-ltb, eqb-true, and_parts, or_parts, ne_eqb, eqb-false}
 use Rattle.std.proofs.lemmas.Str.{encode_ascii}
 use lib.Utf8.{scalar}
 use Rattle.yaml_scan_history.specs.scan_model.Marks.{is_blank}
@@ -19,7 +19,7 @@ use Rattle.yaml_emit_laws_text.proofs.Escapes.{low_encodes, end_of, fold_bytes, 
 use Rattle.yaml_emit_laws_text.proofs.Back.{moved_by}
 use Rattle.yaml_emit_laws_scalars.proofs.Lines.{blanks_column, blanks_kept}
 use Rattle.yaml_emit_laws_scalars.proofs.PlainParts.{IsOne, is_plain_end}
-use Rattle.yaml_emit_laws_text.proofs.Single.{blank_follows, fold_follows, other_follows, line_is, bool_cases, after_blanks, line_start}
+use Rattle.yaml_emit_laws_text.proofs.Single.{blank_follows, fold_follows, other_follows, line_is, bool_cases, after_blanks, line_start, cut_needs}
 use Rattle.yaml_emit_laws_text.proofs.Steps.{not_start}
 
 -- ---- characters
@@ -125,21 +125,6 @@ fold_may : (quote : Bool) (b : LineBreak) (n : ℕ) → nat_lt 0 n ≡ true
     → MayStand (quote_byte quote) (fold (record { end = end_of b; spaces = n }) [])
 unfolding may_turn
 fold_may quote b n h = h
-
--- what a cut needs
-record CutNeeds (page : Page) (before x : ℕ) (xs : List ℕ) : Type 0 where
-  cuts : page.cuts ≡ true
-  space : x ≡ 32
-  behind : (before == 32) ≡ false
-  next : (first xs == 32) ≡ false
-
-cut_needs : (page : Page) (before x : ℕ) (xs : List ℕ) → cuts_at page before x xs ≡ true
-    → CutNeeds page before x xs
-cut_needs page before x xs e =
-    let a = (and_parts page.cuts _ e).1 in
-    let b = (and_parts (x == 32) _ a).1 in
-    let d = (and_parts (not (before == 32)) _ b).1 in
-    record { cuts = (and_parts page.cuts _ e).0; space = eqb-true x 32 (and_parts (x == 32) _ a).0; behind = not-true (before == 32) (and_parts (not (before == 32)) _ b).0; next = not-true (first xs == 32) (and_parts (not (first xs == 32)) _ d).0 }
 
 own_plain : (b : LineBreak) → is_plain_end (end_of b) ≡ true
 own_plain Lf = refl

@@ -16,8 +16,9 @@ use Rattle.yaml_emit_laws_text.specs.Spelling.{LineEnd, feed, return, return_fee
 use Rattle.yaml_emit_laws_text.proofs.Chars.{encode_1, encode_2, encode_3, encode_4}
 use Rattle.yaml_emit_laws_text.proofs.Values.{keeps, blanks_of, read_as, all_read_as, read_kept as raw_kept, read_blank as raw_blank}
 use Rattle.yaml_emit_laws_text.proofs.Bytes.{calm_end, calm_break, calm_from}
-use Rattle.yaml_emit_laws_scalars.proofs.Standing.{Read, read_blank, read_break, InLine, column_on, Stays, Through, CharAt, Plainly, char_at, through_byte, through_both}
+use Rattle.yaml_emit_laws_scalars.proofs.Standing.{Read, read_blank, read_break, InLine, Stays, Through, CharAt, Plainly, char_at, through_byte, through_both}
 use Rattle.yaml_emit_laws_scalars.proofs.GapWords.{no_tab, space_blank}
+use Rattle.yaml_emit_laws_text.proofs.QuotedReading.{column_more as column_on}
 
 -- ---- what the parts say
 

@@ -1,7 +1,7 @@
 -- What an emitter writes between single quotes is read back, in lines or in one.
-use Rattle.std.proofs.Common.{◌≡◌, ℕ, ◌+◌, ◌<◌, true, List, [], ◌∷◌, ◌++◌, length, Ok, refl, sym, ap, subst, ◌∙◌, arith, encode_utf8_all, IsUtf8, false}
+use Rattle.std.proofs.Common.{◌≡◌, ℕ, ◌+◌, ◌<◌, true, List, [], ◌∷◌, ◌++◌, length, Ok, refl, sym, ap, subst, ◌∙◌, encode_utf8_all, IsUtf8, false}
 use Rattle.std.proofs.lemmas.Bool.{true≢false}
-use Rattle.std.proofs.lemmas.Str.{encode_ascii, encodes-append, encodes-chars, scalars-chars}
+use Rattle.std.proofs.lemmas.Str.{encodes-chars, scalars-chars}
 use Rattle.std.specs.Str.{chars}
 use Rattle.yaml_scan_history.specs.scan_model.Marks.{byte}
 use Rattle.yaml_scan_history.specs.scan_words.Written.{HasAt}
@@ -15,19 +15,13 @@ use Rattle.yaml_emit_layout.specs.emit_text.Style.{allowed}
 use Rattle.yaml_emit_laws_text.specs.Spelling.{doubled, spelling, meaning, quoted}
 use Rattle.yaml_emit_laws_text.specs.ReadBack.{between_single, is_one_line}
 use Rattle.yaml_emit_laws_text.specs.QuotedLaws.{SingleSpellingReads}
-use Rattle.yaml_emit_laws_text.proofs.Escapes.{low_encodes}
 use Rattle.yaml_emit_laws_text.proofs.Back.{front_append, front_one, front_more, moved_by}
 use Rattle.yaml_emit_laws_scalars.specs.SingleLaws.{SingleIsBack}
 use Rattle.yaml_emit_laws_scalars.proofs.Letters.{Behind}
 use Rattle.yaml_emit_laws_scalars.proofs.Writing.{left}
 use Rattle.yaml_emit_laws_scalars.proofs.Shown.{single_show}
 use Rattle.yaml_emit_laws_text.proofs.Steps.{not_start}
-
-between : (xs bs : List ℕ) → encode_utf8_all xs ≡ bs
-    → encode_utf8_all (39 ∷ (xs ++ 39 ∷ [])) ≡ 39 ∷ (bs ++ 39 ∷ [])
-between xs bs e =
-    let one : encode_utf8_all (39 ∷ []) ≡ 39 ∷ [] = low_encodes (39 ∷ []) (omega arith, tt) in
-    rw (encode_ascii 39 (omega arith), encodes-append xs (39 ∷ []), e) (ap (λ t. 39 ∷ (bs ++ t)) one)
+use Rattle.yaml_emit_laws_text.proofs.Single.{between}
 
 -- before the first character
 pub start_behind : (c : Cursor) (value : List ℕ) → Behind 32 c doubled value

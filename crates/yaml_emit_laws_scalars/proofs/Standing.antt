@@ -1,5 +1,5 @@
 -- How the bytes of a plain scalar are read, one by one.
-use Rattle.std.proofs.Common.{◌≡◌, ◌≢◌, ℕ, zero, suc, ◌+◌, ◌-◌, ◌/◌, ◌%◌, ◌<◌, ◌≤◌, Bool, true, false, ◌&&◌, ◌==◌, nat_lt, List, [], ◌∷◌, ◌++◌, length, Result, Ok, refl, sym, ap, subst, ◌∙◌, inl, inr, arith, add-one, append_assoc, encode_utf8}
+use Rattle.std.proofs.Common.{◌≡◌, ◌≢◌, ℕ, zero, suc, ◌+◌, ◌-◌, ◌/◌, ◌%◌, ◌<◌, ◌≤◌, Bool, true, false, ◌&&◌, ◌==◌, nat_lt, List, [], ◌∷◌, ◌++◌, length, Result, Ok, refl, sym, ap, subst, ◌∙◌, inl, inr, arith, append_assoc, encode_utf8}
 use Rattle.std.proofs.lemmas.Bool.{cases_lt, true≢false, ne_eqb}
 use Rattle.std.proofs.lemmas.Bool.Decides.{nat_tests}
 use Rattle.std.proofs.Math.Bool.{and-false}
@@ -13,7 +13,7 @@ use Rattle.yaml_scan_history.proofs.HasLemmas.{Has}
 use Rattle.yaml_emit_laws_text.proofs.Chars.{encode_1, encode_2, encode_3, encode_4}
 use Rattle.yaml_emit_laws_text.proofs.Values.{keeps}
 use Rattle.yaml_emit_laws_text.proofs.Bytes.{low_end, low_break, first_end, second_end, third_end, later_break, two_break, three_break, four_break, high_blank}
-use Rattle.yaml_emit_laws_text.proofs.QuotedReading.{ends_2, ends_1, in_line}
+use Rattle.yaml_emit_laws_text.proofs.QuotedReading.{ends_2, ends_1, in_line, column_more}
 
 -- ---- readings, from the right
 
@@ -116,11 +116,6 @@ pub record InLine (level : ℕ) (text : List ℕ) (p before : ℕ) : Type 0 wher
   pub inner : (leads text p && nat_lt (column_at text p) level) ≡ false
   pub white : after_white text p ≡ true → before ≡ 32
 
-pub column_on : (text : List ℕ) (p : ℕ) → ends_break text p ≡ false → 0 < column_at text p
-    → 0 < column_at text (p + 1)
-unfolding column_at
-column_on text p h c = rw (add-one, h) (omega arith)
-
 -- behind a byte that isn't white
 pub stand_behind : (level : ℕ) (text : List ℕ) (p x : ℕ) → is_blank (byte text p) ≡ false
     → ends_break text p ≡ false → 0 < column_at text (p + 1) → InLine level text (p + 1) x
@@ -189,7 +184,7 @@ pub through_byte : (flow : Bool) (level : ℕ) (text : List ℕ) (p b before : �
     → Through flow level text p (Kept (b ∷ []) ∷ []) (p + 1)
 through_byte flow level text p b before s k e blank ends width = record {
   reads = λ ps f place broke r. read_kept flow level text p (b ∷ []) ps f place broke (kept_spot flow level text p b before s k e blank width) (within text p (positive (byte text p) k.some)) r;
-  stand = stand_behind level text p 0 (ap (λ x. is_blank x) e ∙ blank) ends (column_on text p ends s.column);
+  stand = stand_behind level text p 0 (ap (λ x. is_blank x) e ∙ blank) ends (column_more text p ends s.column);
 }
 
 -- ---- characters past ASCII

@@ -76,6 +76,7 @@ pub front_more : (x : ℕ) (xs : List ℕ) (t : List Item)
 unfolding in_front
 front_more x xs t = refl
 
+-- a character's bytes under UTF-8
 pub char_encodes : (c : ℕ) → char_bytes Utf8 c ≡ encode_utf8 c
 unfolding char_bytes encode_char
 char_encodes c = refl

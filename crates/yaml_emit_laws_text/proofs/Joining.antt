@@ -24,7 +24,8 @@ use Rattle.yaml_emit_laws_text.proofs.TagsReading.{split_read}
 
 -- Handles.
 
-if_none : (b : Bool) (p : Problem) (o : Option Problem) → (if b then Some p else o) ≡ None
+-- a test that finds no problem has failed, and what is asked then finds none
+pub if_none : (b : Bool) (p : Problem) (o : Option Problem) → (if b then Some p else o) ≡ None
     → (b ≡ false) × (o ≡ None)
 if_none false p o e = (refl, e)
 if_none true p o e = absurd (cc)
@@ -62,10 +63,12 @@ held h e =
       inner = alphas_of (between h) (none_all (list_all is_alpha_byte (between h)) _ inner);
     }
 
-long_rest : (c r : ℕ) (rs : List ℕ) → length (c ∷ r ∷ rs) - 1 - 1 ≡ length rs
+-- and how many behind the second
+pub long_rest : (c r : ℕ) (rs : List ℕ) → length (c ∷ r ∷ rs) - 1 - 1 ≡ length rs
 long_rest c r rs = omega arith
 
-last_rest : (c r : ℕ) (rs : List ℕ) → length (c ∷ r ∷ rs) - 1 ≡ suc (length rs)
+-- of two bytes or more, how many stand behind the first
+pub last_rest : (c r : ℕ) (rs : List ℕ) → length (c ∷ r ∷ rs) - 1 ≡ suc (length rs)
 last_rest c r rs = omega arith
 
 shaped : (h : List ℕ) → Held h → IsShaped h

@@ -2,6 +2,7 @@
 use Rattle.std.proofs.Common.{◌≡◌, Bool, false, sym, ap}
 use Rattle.yaml_emit_laws_text.specs.emit_layout.emit_text.declared.Settings.{Settings}
 
+-- the settings with canonical form off
 abbrev pub pretty : Settings → Settings
 pretty s = record { encoding = s.encoding; canonical = false; indent = s.indent; width = s.width; unicode = s.unicode; line_break = s.line_break }
 

@@ -72,6 +72,7 @@ no_mark text p b e m n = rw (e, ne_eqb b 45 m, ne_eqb b 46 n, and-false) refl
 
 -- ---- columns
 
+-- within a line the column stays above 0
 pub column_more : (text : List ℕ) (p : ℕ) → ends_break text p ≡ false → 0 < column_at text p
     → 0 < column_at text (p + 1)
 unfolding column_at

@@ -28,11 +28,13 @@ pub or_first : (p q : Option Problem) → or_else p q ≡ None → p ≡ None
 or_first None q e = refl
 or_first (Some p) q e = absurd (cc)
 
+-- where the first of two problems is none, so is the second
 pub or_second : (p q : Option Problem) → or_else p q ≡ None → q ≡ None
 or_second None q e = e
 or_second (Some p) q e = absurd (cc)
 
-none_true : (b : Bool) (p : Problem) → (if b then Some p else None) ≡ None → b ≡ false
+-- a test that finds no problem has failed
+pub none_true : (b : Bool) (p : Problem) → (if b then Some p else None) ≡ None → b ≡ false
 none_true false p e = refl
 none_true true p e = absurd (cc)
 

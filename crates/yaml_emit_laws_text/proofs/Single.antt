@@ -57,7 +57,8 @@ indent_is : (n : ℕ) (c : Cursor) (rest : Rest)
     ≡ in_front (replicate n 32) (rest (after_blanks n (line_start c)))
 indent_is n c rest = ap (λ k. blanks k (line_start c) rest) (from_start n) ∙ blanks_are n (line_start c) rest
 
-broken : (a b d : Bool) → a ≡ false → (not a || b || d) ≡ true
+-- a premise that is false
+pub broken : (a b d : Bool) → a ≡ false → (not a || b || d) ≡ true
 broken false b d e = refl
 broken true b d e = absurd (cc)
 
@@ -165,13 +166,14 @@ unfolding may_turn
 fold_may b n h = h
 
 -- what a cut needs
-record CutNeeds (page : Page) (before x : ℕ) (xs : List ℕ) : Type 0 where
-  cuts : page.cuts ≡ true
-  space : x ≡ 32
-  behind : (before == 32) ≡ false
-  next : (first xs == 32) ≡ false
+pub record CutNeeds (page : Page) (before x : ℕ) (xs : List ℕ) : Type 0 where
+  pub cuts : page.cuts ≡ true
+  pub space : x ≡ 32
+  pub behind : (before == 32) ≡ false
+  pub next : (first xs == 32) ≡ false
 
-cut_needs : (page : Page) (before x : ℕ) (xs : List ℕ) → cuts_at page before x xs ≡ true
+-- what stands where a line is cut
+pub cut_needs : (page : Page) (before x : ℕ) (xs : List ℕ) → cuts_at page before x xs ≡ true
     → CutNeeds page before x xs
 cut_needs page before x xs e =
     let a = (and_parts page.cuts _ e).1 in
@@ -358,7 +360,8 @@ no_special unicode (x ∷ xs) e = (or_parts _ (somewhere is_break_space 32 (x �
 
 -- ---- single quoted text
 
-between : (xs bs : List ℕ) → encode_utf8_all xs ≡ bs
+-- the bytes of a text between single quotes
+pub between : (xs bs : List ℕ) → encode_utf8_all xs ≡ bs
     → encode_utf8_all (39 ∷ (xs ++ 39 ∷ [])) ≡ 39 ∷ (bs ++ 39 ∷ [])
 between xs bs e =
     let one : encode_utf8_all (39 ∷ []) ≡ 39 ∷ [] = low_encodes (39 ∷ []) (omega arith, tt) in

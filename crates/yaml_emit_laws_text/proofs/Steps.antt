@@ -1,10 +1,10 @@
 -- Gaps, lines and words, one after another.
-use Rattle.std.proofs.Common.{◌≡◌, ◌≢◌, ℕ, zero, suc, ◌+◌, ◌-◌, ◌==◌, ◌&&◌, ◌||◌, nat_lt, Bool, true, false, List, [], ◌∷◌, ◌++◌, length, Some, Ok, refl, ap, subst, ◌∙◌, inl, inr, arith, add-one, add-zero}
+use Rattle.std.proofs.Common.{◌≡◌, ◌≢◌, ℕ, zero, suc, ◌+◌, ◌-◌, ◌==◌, ◌&&◌, ◌||◌, nat_lt, Bool, true, false, List, [], ◌∷◌, ◌++◌, length, Some, Ok, refl, ap, subst, ◌∙◌, inl, inr, arith, add-zero}
 use Rattle.std.specs.Prelude.{if◌then◌else◌}
 use Rattle.std.proofs.lemmas.Bool.{cases_Bool}
 use Rattle.std.proofs.lemmas.Bool.Decides.{nat_tests}
 use Rattle.std.proofs.Math.Bool.{and-false}
-use Rattle.yaml_emit_laws_text.specs.scan_history.scan_model.Marks.{byte, break_of, ends_of, ends_break, column_at}
+use Rattle.yaml_emit_laws_text.specs.scan_history.scan_model.Marks.{byte, break_of, ends_of}
 use Rattle.yaml_emit_laws_text.specs.scan_history.scan_words.Between.{Gap}
 use Rattle.yaml_emit_laws_text.specs.scan_history.scan_words.Indicators.{is_document_start, is_document_end}
 use Rattle.yaml_emit_laws_text.specs.scan_history.scan_words.Written.{are_gap, begins_lexeme}
@@ -24,6 +24,7 @@ use Rattle.yaml_emit_laws_text.specs.emit_layout.emit_text.Layout.{Layout, Rest,
 use Rattle.yaml_emit_laws_text.specs.emit_layout.Nodes.{checked, deep_if, MOST}
 use Rattle.yaml_emit_laws_text.specs.Walk.{Left, Starts, WordStage, bytes, GoesBehindWords, Walks}
 use Rattle.yaml_emit_laws_text.proofs.Places.{has_both, has_at, left_first, left_more}
+use Rattle.yaml_scan_model.proofs.MarksLemmas.{column_end}
 
 -- ---- a byte of a gap
 
@@ -124,17 +125,13 @@ return_ends : (x y c : ℕ) → c ≢ 10 → ends_of x y 13 c ≡ true
 unfolding ends_of
 return_ends x y c h = let e : (c == 10) ≡ false = grind (arith, nat_tests) in rw e refl
 
-behind_break : (text : List ℕ) (p : ℕ) → ends_break text p ≡ true → column_at text (p + 1) ≡ 0
-unfolding column_at
-behind_break text p h = rw (add-one, h) refl
-
 -- A line starts behind a line feed.
 pub behind_feed : (text : List ℕ) (p : ℕ) → byte text p ≡ 10 → Starts text (p + 1)
-behind_feed text p h n = behind_break text p (rw h (feed_ends _ _ _))
+behind_feed text p h n = column_end text p (rw h (feed_ends _ _ _))
 
 -- A line starts behind a carriage return.
 pub behind_return : (text : List ℕ) (p : ℕ) → byte text p ≡ 13 → Starts text (p + 1)
-behind_return text p h n = behind_break text p (rw h (return_ends _ _ (byte text (p + 1)) n))
+behind_return text p h n = column_end text p (rw h (return_ends _ _ (byte text (p + 1)) n))
 
 -- the break that is set
 pub new_line_here : (b : LineBreak) (text : List ℕ) (c : Cursor) (p : ℕ) (ws : List Word) (d : ℕ)

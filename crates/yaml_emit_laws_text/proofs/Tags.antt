@@ -75,7 +75,8 @@ space_ends : (flow : Bool) (text : List ℕ) (p : ℕ) → byte text p ≡ 32
     → may_end_tag flow text p ≡ true
 space_ends flow text p h = rw h refl
 
-text_is : (s : Split) (e : ℕ)
+-- a tag's text as the scanner carries it
+pub text_is : (s : Split) (e : ℕ)
     → tagged (Ok (tag_text s e)) ≡ Ok
     (record { body = tag_body s; end = e; reached = e; broke = false })
 text_is (shorthand handle suffix) e = refl

@@ -6,7 +6,7 @@ use Rattle.std.proofs.lemmas.Str.{encode_ascii}
 use Rattle.std.proofs.lemmas.Bool.Decides.{nat_tests}
 use Rattle.yaml_scan_scalars.specs.scan_model.Marks.{is_blank}
 use Rattle.yaml_scan_scalars.specs.Pieces.{Piece, Kept, Blank, Break, Line, lines, is_empty, gap, Rest, rest_of, folded, value}
-use Rattle.yaml_scan_scalars.proofs.FoldingLemmas.{value-kept}
+use Rattle.yaml_scan_scalars.proofs.FoldingLemmas.{value-kept, rest_of-blank}
 use Rattle.yaml_emit_laws_text.specs.Spelling.{end_means, LineTurn, turn_means, QuotedPart, raw, doubled, named, numbered, fold, joint, meant, meaning, IsSpelling, may_follow, may_be_next, is_raw_blank, is_fold, is_turn}
 use Rattle.yaml_emit_laws_text.proofs.Chars.{encode_1, encode_2, encode_3, encode_4}
 
@@ -163,14 +163,9 @@ rest_after ps = rest_of (lines ps).first (lines ps).others
 abbrev settled : List ℕ → List Piece → Rest
 settled breaks ps = record { breaks = breaks; value = value ps }
 
-rest_blank : (b : ℕ) (l : Line) (ls : List (List ℕ × Line))
-    → rest_of (Blank b ∷ l) ls ≡ rest_of l ls
-rest_blank b l [] = refl
-rest_blank b l (next ∷ ls) = refl
-
 rest_blanks : (n : ℕ) (ps : List Piece) → rest_after (blanks_of n ++ ps) ≡ rest_after ps
 rest_blanks zero ps = refl
-rest_blanks (suc n) ps = rest_blank 32 (lines (blanks_of n ++ ps)).first (lines (blanks_of n ++ ps)).others ∙ rest_blanks n ps
+rest_blanks (suc n) ps = rest_of-blank 32 (lines (blanks_of n ++ ps)).first (lines (blanks_of n ++ ps)).others ∙ rest_blanks n ps
 
 rest_kept : (k : List ℕ) (l : Line) (ls : List (List ℕ × Line))
     → rest_of (Kept k ∷ l) ls ≡ record { breaks = []; value = folded (Kept k ∷ l) ls }

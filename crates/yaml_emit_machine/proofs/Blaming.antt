@@ -75,7 +75,7 @@ inside_blames i core held fault e fr l = λ off on.
 
 -- ---- the settings came into force
 
-ends_new : (o : Output) (t : List Item) → o.bytes ≡ [] → o.status ≡ Going → Ends o t t
+pub ends_new : (o : Output) (t : List Item) → o.bytes ≡ [] → o.status ≡ Going → Ends o t t
 unfolding Ends
 ends_new o t b g =
     let P : Status → Type 0 = λ z. EndsBy z o.limit o.encoding o.bytes t t in

@@ -131,7 +131,7 @@ written_at Full v st o xs whole same g w f = absurd (cc)
 written_at Deep v st o xs whole same g w f = absurd (cc)
 written_at Starved v st o xs whole same g w f = absurd (cc)
 
-no_stream : (e : Emitter) (x : Encoding) (whole : List Item)
+pub no_stream : (e : Emitter) (x : Encoding) (whole : List Item)
     → IsStream e.requested_settings x [] whole → ⊥
 no_stream e x whole h = let k = h.same in cc
 

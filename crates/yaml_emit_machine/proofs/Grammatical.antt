@@ -1,10 +1,9 @@
 -- Of a stream in which nothing is wrong no event is refused.
-use Rattle.std.proofs.Common.{◌≡◌, List, [], ◌∷◌, ◌++◌, Bool, refl, sym, ◌∙◌, ap, Option, Some, None}
+use Rattle.std.proofs.Common.{◌≡◌, List, [], ◌∷◌, ◌++◌, Bool, refl, sym, ◌∙◌, ap, None}
 use Rattle.yaml_emit_text.specs.declared.Settings.{Settings}
 use Rattle.yaml_emit_text.specs.Layout.{start}
-use Rattle.yaml_emit_layout.specs.declared.Problem.{Problem}
 use Rattle.yaml_emit_layout.specs.Content.{Event}
-use Rattle.yaml_emit_layout.specs.Grammar.{or_else, event_problem, last_problem, place_problem, problem_by, own_problem, own_problems}
+use Rattle.yaml_emit_layout.specs.Grammar.{event_problem, last_problem, place_problem, problem_by, own_problem, own_problems}
 use Rattle.yaml_emit_layout.specs.State.{State, opens_empty, problem_at, top_of}
 use Rattle.yaml_emit_layout.specs.ToCome.{ToCome, stream, events}
 use Rattle.yaml_emit_layout.specs.ToCome as come
@@ -12,24 +11,21 @@ use Rattle.yaml_emit_layout.proofs.Going.{goes}
 use Rattle.yaml_emit_layout.specs.Progress.{progress_after, problem_in, first_refusal, PassesStreams}
 use Rattle.yaml_emit_held.specs.Judged.{shape_of}
 use Rattle.yaml_emit_held.proofs.Judging.{or_none, same_problem, shape_next}
-
-or_both : (p q : Option Problem) → or_else p q ≡ None → (p ≡ None) × (q ≡ None)
-or_both None q e = (refl, e)
-or_both (Some x) q e = absurd (cc)
+use Rattle.yaml_emit_state.proofs.Finishing.{or_else_none}
 
 -- Of events whose contents are right the first is, and so are the others.
 pub first_right : (canonical : Bool) (e : Event) (es : List Event)
     → own_problems canonical (e ∷ es) ≡ None
     → (own_problem canonical e ≡ None) × (own_problems canonical es ≡ None)
 unfolding own_problems
-first_right canonical e es h = or_both (own_problem canonical e) (own_problems canonical es) h
+first_right canonical e es h = or_else_none (own_problem canonical e) (own_problems canonical es) h
 
 -- An event whose content is right, in a place that takes it, is no problem.
 pub right_there : (s : Settings) (st : State) (e : Event) → own_problem s.canonical e ≡ None
     → place_problem st.place (top_of st.levels) e ≡ None → problem_at s st e ≡ None
 unfolding problem_by
 right_there s st e h k =
-    let r = or_both (event_problem s.canonical e) (last_problem e) h in
+    let r = or_else_none (event_problem s.canonical e) (last_problem e) h in
     or_none (event_problem s.canonical e) _ r.0 ∙ (or_none (place_problem st.place (top_of st.levels) e) _ k ∙ r.1)
 
 no_refusal : (s : Settings) (es more : List Event) (k : ToCome) → es ++ more ≡ events k

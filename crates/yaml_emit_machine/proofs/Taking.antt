@@ -1,5 +1,5 @@
 -- What becomes of the events that an emitter is given.
-use Rattle.std.proofs.Common.{◌≡◌, List, [], ◌∷◌, ◌++◌, Bool, true, false, refl, sym, subst, ◌∙◌, ap, arith, Option, Some, None, append_assoc, option_map}
+use Rattle.std.proofs.Common.{◌≡◌, List, [], ◌∷◌, ◌++◌, Bool, true, false, refl, sym, subst, ◌∙◌, ap, Option, Some, None, append_assoc, option_map}
 use Rattle.yaml_scan_model.specs.Faults.{Fault, fault_of}
 use Rattle.yaml_scan_model.specs.declared.yaml_encoding_t.{yaml_encoding_t}
 use Rattle.yaml_emit_text.specs.declared.Cursor.{Cursor}
@@ -10,7 +10,7 @@ use Rattle.yaml_emit_text.specs.declared.Status.TheVariants.{Going, Full, Deep, 
 use Rattle.yaml_emit_text.specs.Text.{Item}
 use Rattle.yaml_emit_text.specs.Settings.{settled}
 use Rattle.yaml_emit_text.specs.Layout.{nothing_more, written}
-use Rattle.yaml_emit_text.specs.Sink.{Output, Ends, EndsBy}
+use Rattle.yaml_emit_text.specs.Sink.{Output, Ends}
 use Rattle.yaml_emit_text.proofs.Sinks.{grows_none, grows_both, grows_same, ends_other, status_cases}
 use Rattle.yaml_emit_layout.specs.declared.Problem.{Problem}
 use Rattle.yaml_emit_layout.specs.declared.Expected.TheVariants as at
@@ -30,7 +30,7 @@ use Rattle.yaml_emit_machine.specs.Views.{emitter_of, IsEmitter}
 use Rattle.yaml_emit_machine.specs.Verdict.{verdict_by, verdict, IsLetOut, WritesBy, Writes, wrong_by, wrong, IsLaid, LaysBy, Lays, TellsOutcome}
 use Rattle.yaml_emit_machine.specs.Taking.{TakesEvents, Stuck, NotesMemory, NotesMemoryOf, ComesIntoForce}
 use Rattle.yaml_emit_machine.proofs.Viewing.{seen}
-use Rattle.yaml_emit_machine.proofs.Blaming.{begin_first}
+use Rattle.yaml_emit_machine.proofs.Blaming.{begin_first, ends_new}
 use Rattle.yaml_emit_held.proofs.Judging.{going_open, goes_going, or_some, unless_some}
 use Rattle.yaml_emit_machine.proofs.Emitting.{not_true, refusal_none, stopped_completes, lay_completes, begin_completes}
 
@@ -218,12 +218,6 @@ fresh_refuses : (core : Core) (s : Settings) (es : List Event) → IsFreshCore c
 unfolding refusal_behind first_wrong
 fresh_refuses core s es f = fresh_wrong core s (let_out es) f
 
-ends_fresh : (o : Output) (t : List Item) → o.bytes ≡ [] → o.status ≡ Going → Ends o t t
-unfolding Ends
-ends_fresh o t b g =
-    let P : Status → Type 0 = λ z. EndsBy z o.limit o.encoding o.bytes t t in
-    subst P (sym g) (rw b refl, (rw b (omega arith), (refl, rw b refl)))
-
 fresh_lays : (core : Core) (s : Settings) (es : List Event) → IsFreshCore core s
     → LaysAll (settings_of core) (state_of core) core.sink es
     (written (laid s (placed at.StreamStart) es))
@@ -234,7 +228,7 @@ fresh_lays core s es f =
     ap (λ (z : Settings). text_among z (state_of core) es core.sink.cursor nothing_more) f.settings
     ∙ (ap (λ (z : State). text_among s z es core.sink.cursor nothing_more) f.state ∙ ap (λ (z : Cursor). laid s (placed at.StreamStart) es z nothing_more) f.cursor) in
     let P : List Item → Type 0 = λ t. Ends core.sink text t in
-    subst P same (ends_fresh core.sink text f.output f.status)
+    subst P same (ends_new core.sink text f.output f.status)
 
 fresh_lets_out : (core : Core) (s : Settings) (es : List Event) → IsFreshCore core s
     → LetsOut (settings_of core) (state_of core) core.sink es

@@ -14,11 +14,10 @@ use Rattle.yaml_emit_state.specs.Steps.{goes_on}
 use Rattle.yaml_emit_state.specs.Finish.{Finishes, FinishesAt}
 use Rattle.yaml_emit_machine.specs.declared.emitter.yaml_emitter_t.TheInside.{Inside}
 use Rattle.yaml_emit_held.specs.Held.{is_ready}
-use Rattle.yaml_emit_layout.specs.Streams.{IsStream}
 use Rattle.yaml_emit_machine.specs.Emitter.{Emitter, text_of, Completes, CompletesBy}
 use Rattle.yaml_emit_machine.specs.Views.{emitter_of, IsEmitter}
 use Rattle.yaml_emit_machine.specs.Within.{Fits, IsWithin}
-use Rattle.yaml_emit_machine.proofs.Ending.{nothing_held, no_event_left}
+use Rattle.yaml_emit_machine.proofs.Ending.{nothing_held, no_event_left, no_stream}
 use Rattle.yaml_emit_held.proofs.Judging.{goes_going}
 use Rattle.yaml_emit_machine.proofs.Emitting.{refusal_none}
 
@@ -38,10 +37,6 @@ fits_at Going v st o xs whole same g w f =
 fits_at Full v st o xs whole same g w f = absurd (cc)
 fits_at Deep v st o xs whole same g w f = absurd (cc)
 fits_at Starved v st o xs whole same g w f = absurd (cc)
-
-no_stream : (e : Emitter) (x : Encoding) (whole : List Item)
-    → IsStream e.requested_settings x [] whole → ⊥
-no_stream e x whole h = let k = h.same in cc
 
 fits_by_fresh : (b : Bool) (e : Emitter) (x : Encoding) (whole : List Item) → e.status ≡ Going
     → is_ready e.held ≡ false → CompletesBy b e x [] whole → Fits e.limit x whole

@@ -113,10 +113,12 @@ puts_moved a b f o s e l k = record {
   grows = grows_same a.bytes b.bytes o;
 }
 
+-- a choice whose test holds
 pub cond_true : {A : Type 0} (b : Bool) (x y : A) → b ≡ true → cond b x y ≡ x
 cond_true true x y e = refl
 cond_true false x y e = absurd (cc)
 
+-- a choice whose test has failed
 pub cond_false : {A : Type 0} (b : Bool) (x y : A) → b ≡ false → cond b x y ≡ y
 cond_false false x y e = refl
 cond_false true x y e = absurd (cc)

@@ -50,7 +50,8 @@ by_stopped Full core es whole n h = h
 by_stopped Deep core es whole n h = h
 by_stopped Starved core es whole n h = h
 
-or_else_none : (p q : Option Problem) → or_else p q ≡ None → (p ≡ None) × (q ≡ None)
+-- where the first of two problems is none, both are
+pub or_else_none : (p q : Option Problem) → or_else p q ≡ None → (p ≡ None) × (q ≡ None)
 or_else_none None q e = (refl, e)
 or_else_none (Some x) q e = absurd (cc)
 
@@ -79,7 +80,8 @@ record Stepped (old new : Core) (e : Event) (empty : Bool) : Type 0 where
       → state_of new ≡ next (settings_of old) (state_of old) e empty new.sink.cursor
   text : Puts old.sink new.sink (piece (settings_of old) (state_of old) e empty)
 
-same_settings : (old new : Core) → new.settings ≡ old.settings
+-- settings and encoding make an emitter's settings
+pub same_settings : (old new : Core) → new.settings ≡ old.settings
     → new.sink.encoding ≡ old.sink.encoding → settings_of new ≡ settings_of old
 same_settings old new e x = rw (e, x) refl
 

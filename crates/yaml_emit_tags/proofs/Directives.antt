@@ -45,7 +45,7 @@ pub defines_none : (b : Bool) (ds : List yaml_tag_directive_t) (i : ℕ) (handle
 unfolding defines
 defines_none b ds i handle h e = sym (e ∙ ap (λ t. defines t handle) (none_of ds i h))
 
-directive_at : (d : TagDirective) (ds : List TagDirective) (tag : List ℕ)
+pub directive_at : (d : TagDirective) (ds : List TagDirective) (tag : List ℕ)
     → directive_for (d ∷ ds) tag ≡ cond (has_shorter_prefix d.prefix tag) (Some d)
     (directive_for ds tag)
 unfolding directive_for

@@ -1,5 +1,5 @@
 -- The entries of an index, and the first directive by them.
-use Rattle.std.proofs.Common.{◌≡◌, ℕ, ◌+◌, ◌<◌, ◌≤◌, List, [], ◌∷◌, ◌++◌, length, take, drop, get_or, map, Bool, true, false, cond, refl, sym, ◌∙◌, ap, arith, subst, Option, None, Some, append-nil, append_assoc}
+use Rattle.std.proofs.Common.{◌≡◌, ℕ, ◌+◌, ◌<◌, ◌≤◌, List, [], ◌∷◌, ◌++◌, length, drop, get_or, map, Bool, true, false, cond, refl, sym, ◌∙◌, ap, arith, subst, Option, None, Some, append-nil, append_assoc}
 use Rattle.std.specs.Prelude.{zero, suc, Vec}
 use Rattle.std.specs.Global.{Global}
 use Rattle.std.specs.Ordering.{nat_cmp, ordering_then, is_lt}
@@ -14,6 +14,7 @@ use Rattle.yaml_parse_model.specs.Events.{TagDirective, directive_of}
 use Rattle.yaml_emit_tags.specs.Tags.{has_shorter_prefix, directive_for}
 use Rattle.yaml_emit_tags.specs.Prefixes.{Entry, entry_of, at, entry_cmp, numbered, directive_at, IsIndex, IsFirstShorter, IsAtMost, IsNumber}
 use Rattle.yaml_emit_tags.proofs.Sorting.{Begins, begins}
+use Rattle.yaml_emit_tags.proofs.Directives.{directive_at as head_of}
 
 -- ---- numbering
 
@@ -129,12 +130,6 @@ found_there ds xs tag n x f =
     subst P w.3 (m.0, ap (λ p. has_shorter_prefix p tag) m.1 ∙ w.2)
 
 -- ---- the first directive
-
-head_of : (d : TagDirective) (ds : List TagDirective) (tag : List ℕ)
-    → directive_for (d ∷ ds) tag ≡ cond (has_shorter_prefix d.prefix tag) (Some d)
-    (directive_for ds tag)
-unfolding directive_for
-head_of d ds tag = refl
 
 pub taken : (d : TagDirective) (ds : List TagDirective) (tag : List ℕ)
     → has_shorter_prefix d.prefix tag ≡ true → directive_for (d ∷ ds) tag ≡ Some d

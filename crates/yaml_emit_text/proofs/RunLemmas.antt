@@ -14,7 +14,7 @@ use Rattle.yaml_emit_text.specs.Quoted.{first, is_empty}
 use Rattle.yaml_emit_text.specs.Style.{last_or}
 use Rattle.yaml_emit_text.specs.Runs.{front, all_pass, runs_on, is_calm, calm, may_follow, passed}
 
-bool_cases : {P : Type 0} (b : Bool) → (b ≡ true → P) → (b ≡ false → P) → P
+pub bool_cases : {P : Type 0} (b : Bool) → (b ≡ true → P) → (b ≡ false → P) → P
 bool_cases true p q = p refl
 bool_cases false p q = q refl
 

@@ -17,14 +17,10 @@ use Rattle.yaml_emit_text.specs.Quoted.{needs_escape, escape_text, first, is_emp
 use Rattle.yaml_emit_text.specs.Scalars.{value_break, cuts_at, text_char, flow_char, flow_body, adds_break, cuts_block, line_blank, block_text, block_char, block_body}
 use Rattle.yaml_emit_text.specs.Style.{last_or, seen, looked, joined, is_special, is_break_space, is_not_plain, is_not_flow}
 use Rattle.yaml_emit_text.specs.Runs.{all_pass, runs_on, is_calm, calm, may_follow, quoted_bounds, flow_bounds, block_bounds}
-use Rattle.yaml_emit_text.proofs.RunLemmas.{calm_ascii, calm_least, calm_largest, run_byte, last_append}
+use Rattle.yaml_emit_text.proofs.RunLemmas.{calm_ascii, calm_least, calm_largest, run_byte, last_append, bool_cases}
 use Rattle.yaml_emit_text.proofs.Walks.{walk_end, flow_end}
 use Rattle.yaml_emit_text.specs.Tame.{IsTame}
 use Rattle.yaml_emit_text.proofs.Looks.{looked_at}
-
-bool_cases : {P : Type 0} (b : Bool) → (b ≡ true → P) → (b ≡ false → P) → P
-bool_cases true p q = p refl
-bool_cases false p q = q refl
 
 -- what is owed is owed in other words at the cursor
 owes_as : (a b : Output) (x y z : Layout)

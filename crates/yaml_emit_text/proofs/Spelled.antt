@@ -1,5 +1,5 @@
 -- Double quoted text is a spelling.
-use Rattle.std.proofs.Common.{◌≡◌, ◌≢◌, ℕ, zero, suc, ◌+◌, ◌<◌, List, [], ◌∷◌, ◌++◌, Bool, true, false, cond, refl, sym, subst, ◌∙◌, ap}
+use Rattle.std.proofs.Common.{◌≡◌, ◌≢◌, ℕ, zero, suc, ◌+◌, ◌<◌, List, [], ◌∷◌, ◌++◌, Bool, true, false, refl, sym, subst, ◌∙◌, ap}
 use Rattle.std.specs.Prelude.{if◌then◌else◌, replicate, not, ◌==◌, ◌||◌, ◌&&◌}
 use Rattle.std.specs.Str.{all_scalars}
 use Rattle.std.proofs.lemmas.Bool.{and_parts, and_from, not-true, eqb-true, ne_eqb, eqb-false, or_parts, lt-ltb}
@@ -12,6 +12,8 @@ use Rattle.yaml_emit_sink.specs.Text.{Item, letter, is_break}
 use Rattle.yaml_emit_sink.specs.Layout.{Layout, Rest, choose, when, char, letters, blanks, new_line, is_past}
 use Rattle.yaml_emit_text.specs.Quoted.{needs_escape, escape_text, first, is_empty, may_fold, fold as fold_layout, escaped, quoted_char, quoted_body}
 use Rattle.yaml_emit_text.specs.Spelling.{SpelledPart, raw, escape, escaped_space, fold, break_text, spelled, meant, spelling, meaning, is_raw_blank, is_fold, may_follow, may_stand, IsSpelling, in_front, WritesSpelling}
+use Rattle.yaml_emit_sink.proofs.Sinks.{cond_false, cond_true}
+use Rattle.yaml_emit_text.proofs.RunLemmas.{bool_cases}
 
 -- Layouts that write characters, and the cursor behind them.
 
@@ -80,14 +82,6 @@ fold_is page cs c rest =
     ∙ ap (in_front (replicate page.indentation 32)) (slash_is (first cs == 32) (after_blanks page.indentation (line_start c)) rest))
     ∙ sym (in_front_append (break_text page.line_break) (replicate page.indentation 32) (slashed (first cs == 32) (rest (after_fold page cs c))))
 
-cond_true : {A : Type 0} (b : Bool) (x y : A) → b ≡ true → cond b x y ≡ x
-cond_true true x y e = refl
-cond_true false x y e = absurd (cc)
-
-cond_false : {A : Type 0} (b : Bool) (x y : A) → b ≡ false → cond b x y ≡ y
-cond_false false x y e = refl
-cond_false true x y e = absurd (cc)
-
 -- what a character is written as
 
 char_fold : (page : Page) (before x : ℕ) (cs : List ℕ) (c : Cursor) (rest : Rest)
@@ -134,10 +128,6 @@ record Behind (before : ℕ) (slash : Bool) (last : SpelledPart) (value : List �
   folded : is_fold last ≡ true → (slash ≡ (first value == 32)) × (is_empty value ≡ false)
   unfolded : is_fold last ≡ false → slash ≡ false
   blank : is_raw_blank last ≡ true → before ≡ 32
-
-bool_cases : {P : Type 0} (b : Bool) → (b ≡ true → P) → (b ≡ false → P) → P
-bool_cases true p q = p refl
-bool_cases false p q = q refl
 
 -- what a fold needs
 record FoldNeeds (before x : ℕ) (cs : List ℕ) : Type 0 where

@@ -24,7 +24,8 @@ use Rattle.yaml_parse_grammar.specs.Stacks.{parts_documents_behind, StandsBehind
 
 -- ---- inside a document
 
-inside_at_stack : (x : State) (s : List State) → InsideAt x s (IsInside s)
+-- what stands within a document may stand on a stack
+pub inside_at_stack : (x : State) (s : List State) → InsideAt x s (IsInside s)
     → StackAt x s (InsideAt x s (IsInside s))
 inside_at_stack state.stream s h = absurd h.0
 inside_at_stack state.first s h = absurd h.0
@@ -32,7 +33,8 @@ inside_at_stack state.documents s h = absurd h.0
 inside_at_stack (state.directives from) s h = absurd h.0
 inside_at_stack _ s h = h
 
-inside_stack : (s : List State) → IsInside s → IsStack s
+-- what stands within a document is a stack
+pub inside_stack : (s : List State) → IsInside s → IsStack s
 inside_stack [] h = tt
 inside_stack (x ∷ s) h = inside_at_stack x s h
 

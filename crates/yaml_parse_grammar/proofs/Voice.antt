@@ -53,7 +53,8 @@ documents_speak from start end token.document_start = tt
 documents_speak from start end token.stream_end = tt
 documents_speak from start end _ = tt
 
-stands_above : (xs ys : List State) → Stands xs → Stands (xs ++ ys)
+-- levels that stand do so above others too
+pub stands_above : (xs ys : List State) → Stands xs → Stands (xs ++ ys)
 stands_above [] ys h = absurd h
 stands_above (x ∷ xs) ys h = tt
 

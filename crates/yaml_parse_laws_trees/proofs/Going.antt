@@ -12,13 +12,14 @@ use Rattle.yaml_parse_laws_trees.specs.parse_grammar.Items.{RawEvent, item_at}
 use Rattle.yaml_parse_laws_trees.specs.parse_grammar.Items as item
 use Rattle.yaml_parse_laws_trees.specs.parse_grammar.States.{State}
 use Rattle.yaml_parse_laws_trees.specs.parse_grammar.States as state
-use Rattle.yaml_parse_laws_trees.specs.parse_grammar.Stacks.{IsInner, InsideAt, IsInside, StackAt, IsStack}
+use Rattle.yaml_parse_laws_trees.specs.parse_grammar.Stacks.{IsInner, IsStack}
 use Rattle.yaml_parse_laws_trees.specs.parse_grammar.Machine.{choice_at, taken_at, left_at, Fed, stop, go, with_item, given_by, turn, feed}
 use Rattle.yaml_parse_laws_trees.proofs.FaultsStanding.{Sign, signs_behind, open_in, asking, directive, other, last_of, last_in, told, Plain, Nested}
 use Rattle.yaml_parse_laws_trees.proofs.Refusing.{Tells, tells}
 use Rattle.yaml_parse_laws_trees.proofs.Keeping.{Kept, KeptInside, Ground, node_kept, inside_kept}
 use Rattle.yaml_parse_laws_trees.proofs.Stepping.{Within, at_end, deeper, within, not_first}
 use Rattle.yaml_parse_laws_trees.proofs.Properties.{PropsTop, node_props, taken_props, tok}
+use Rattle.yaml_parse_grammar.proofs.Standing.{inside_stack}
 
 -- ---- the states
 
@@ -29,18 +30,6 @@ pub record Stacked (b : TokenBody) (at : yaml_mark_t) (gs : List Sign) (s : List
 abbrev pub FedKept : TokenBody → yaml_mark_t → List Sign → Fed → Type 0
 FedKept b at gs (stop is e) = Unit {0}
 FedKept b at gs (go is s) = Stacked b at gs s
-
-inside_at_stack : (x : State) (s : List State) → InsideAt x s (IsInside s)
-    → StackAt x s (InsideAt x s (IsInside s))
-inside_at_stack state.stream s h = absurd h.0
-inside_at_stack state.first s h = absurd h.0
-inside_at_stack state.documents s h = absurd h.0
-inside_at_stack (state.directives from) s h = absurd h.0
-inside_at_stack _ s h = h
-
-inside_stack : (s : List State) → IsInside s → IsStack s
-inside_stack [] h = tt
-inside_stack (x ∷ s) h = inside_at_stack x s h
 
 fed_with : (b : TokenBody) (at : yaml_mark_t) (gs : List Sign) (i : RawEvent) (fed : Fed)
     → FedKept b at gs fed → FedKept b at gs (with_item i fed)

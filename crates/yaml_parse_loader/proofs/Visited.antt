@@ -10,11 +10,12 @@ use Rattle.yaml_parse_loader.specs.Order.{VisitsInPreorder, done, again, first, 
 use Rattle.yaml_parse_loader.proofs.Keeps.{inserted_sound}
 
 -- what is true of a result, if there is one
-abbrev Good : {A : Type 0} → Result A Fault → (A → Type 0) → Type 0
+abbrev pub Good : {A : Type 0} → Result A Fault → (A → Type 0) → Type 0
 Good (Ok x) P = P x
 Good (Err e) P = Unit {0}
 
-good_then : {A B : Type 0} (r : Result A Fault) (f : A → Result B Fault) (P : A → Type 0)
+-- what comes of a good answer, taken by a step that keeps it good
+pub good_then : {A B : Type 0} (r : Result A Fault) (f : A → Result B Fault) (P : A → Type 0)
     (Q : B → Type 0) → Good r P → ((x : A) → P x → Good (f x) Q) → Good (r >>= f) Q
 good_then (Ok x) f P Q g h = h x g
 good_then (Err e) f P Q g h = tt

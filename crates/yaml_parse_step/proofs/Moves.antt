@@ -12,7 +12,7 @@ use Rattle.yaml_parse_grammar.specs.States.{State, Taken}
 use Rattle.yaml_parse_grammar.specs.Trees.{Given}
 use Rattle.yaml_parse_grammar.specs.Machine.{choice_at, taken_at, left_at, context_of, opened, run, ending_at, unasked_at_stop, Stands}
 use Rattle.yaml_parse_grammar.proofs.Complete.{giving, leaves_at}
-use Rattle.yaml_parse_grammar.proofs.Voice.{Voiced, TakenSpeaks, taken_speaks, left_voiced, takes_a_token}
+use Rattle.yaml_parse_grammar.proofs.Voice.{Voiced, TakenSpeaks, taken_speaks, left_voiced, takes_a_token, stands_above}
 use Rattle.yaml_parse_grammar.proofs.Single.{refuses, takes, takes_silently, opens, refuses_stops, takes_stops, leaves_stops, opens_stops}
 use Rattle.yaml_scan_model.specs.Faults.{memory_fault}
 use Rattle.yaml_scan_model.specs.declared.yaml_origin_t.TheVariants.{Parser}
@@ -41,10 +41,6 @@ directive_stands (item.node a t s) P h d = absurd d
 left_is_none : (x : State) (start : yaml_mark_t) → IsDirective (left_at x start).body → ⊥
 left_is_none x start d = directive_stands (left_at x start).body ⊥ (left_voiced x start ⊥) d
 
-stands_over : (xs ys : List State) → Stands xs → Stands (xs ++ ys)
-stands_over [] ys h = absurd h
-stands_over (x ∷ xs) ys h = tt
-
 -- the item and the states of a taken token
 pub taken_is : (x : State) (t : Token) (o : Option RawEvent) → o ≡ (taken_at x t).item
     → record { item = o; above = (taken_at x t).above } ≡ taken_at x t
@@ -59,7 +55,7 @@ take_item x t rest f s s' i above h k e = record {
   same = takes x i above t rest s f h (sym k) ∙ ap (λ (z : List State). giving (λ (more : List Given). (i, length rest) ∷ more) (run rest z f)) (sym e);
   stop = takes_stops x (Some i) above t rest s h (sym k) ∙ ap (unasked_at_stop rest) (sym e);
   less = λ d. omega arith;
-  stands = λ d. subst Stands (sym e) (stands_over above s (directive_stands i.body (Stands above) (subst (λ (y : Taken). TakenSpeaks y.item y.above) (sym k) (taken_speaks x t)) d));
+  stands = λ d. subst Stands (sym e) (stands_above above s (directive_stands i.body (Stands above) (subst (λ (y : Taken). TakenSpeaks y.item y.above) (sym k) (taken_speaks x t)) d));
 }
 
 pub take_silent : (x : State) (t : Token) (rest : List Token) (f : Option Fault) (s s' : List State)
@@ -71,7 +67,7 @@ take_silent x t rest f s s' above h k e = record {
   same = takes_silently x above t rest s f h (sym k) ∙ ap (λ (z : List State). run rest z f) (sym e);
   stop = takes_stops x None above t rest s h (sym k) ∙ ap (unasked_at_stop rest) (sym e);
   less = omega arith;
-  stands = subst Stands (sym e) (stands_over above s (subst (λ (y : Taken). TakenSpeaks y.item y.above) (sym k) (taken_speaks x t)));
+  stands = subst Stands (sym e) (stands_above above s (subst (λ (y : Taken). TakenSpeaks y.item y.above) (sym k) (taken_speaks x t)));
 }
 
 pub leave_item : (x : State) (t : Token) (rest : List Token) (f : Option Fault) (s : List State)

@@ -1,5 +1,5 @@
 -- From the documents that two inputs load to where they part.
-use Rattle.std.proofs.Common.{◌≡◌, ◌⊎◌, inl, inr, refl, ap, subst, ℕ, true, List, [], ◌∷◌, Ok, Err}
+use Rattle.std.proofs.Common.{◌≡◌, ◌⊎◌, inl, inr, refl, ap, subst, ℕ, true, List, Ok, Err}
 use Rattle.std.specs.Prelude.{pos}
 use Rattle.yaml_scan_model.specs.declared.yaml_encoding_t.{yaml_encoding_t}
 use Rattle.yaml_scan_model.specs.declared.yaml_encoding_t.TheVariants.{YAML_UTF8_ENCODING}
@@ -13,7 +13,6 @@ use Rattle.yaml_round_writing.specs.round_laws_documents.round_content.Said as c
 use Rattle.yaml_round_writing.specs.round_laws_documents.round_content.Canon.{canon}
 use Rattle.yaml_round_writing.specs.round_laws_documents.round_content.Agree.{AreAgreeing}
 use Rattle.yaml_round_writing.specs.round_laws_documents.round_content.DumpsEvents.{trees_of_dumps, AreNumerable}
-use Rattle.yaml_round_writing.specs.round_laws_documents.Normal.{ended}
 use Rattle.yaml_round_writing.specs.Reload.{AreLoaded, IsLoaded}
 use Rattle.yaml_round_writing.proofs.Whole.{loads_are, texts_tell}
 use Rattle.yaml_round_writing.proofs.Loaded.{faulty_load}
@@ -24,6 +23,7 @@ use Rattle.yaml_round_compare.specs.Dumps.{documents_left, IsStarted, PartsBehin
 use Rattle.yaml_round_compare.proofs.Inputs.{loads, short, all_agree, all_part}
 use Rattle.yaml_round_writing.specs.declared.yaml_side_t.{yaml_side_t}
 use Rattle.yaml_round_writing.specs.declared.yaml_side_t.TheVariants.{First, Second}
+use Rattle.yaml_round_writing.proofs.Reloading.{unended_small}
 
 -- ---- documents with the same dumps agree
 
@@ -31,13 +31,9 @@ use Rattle.yaml_round_writing.specs.declared.yaml_side_t.TheVariants.{First, Sec
 abbrev settings : RequestedSettings
 settings = record { encoding = YAML_UTF8_ENCODING; canonical = true; indent = pos 2; width = pos 80; unicode = true; line_break = YAML_LN_BREAK }
 
-unended : (ds : List Document) → AreNumerable (ended ds) → AreNumerable ds
-unended [] h = tt
-unended (d ∷ ds) h = (h.0, unended ds h.1)
-
 numerable : (from : yaml_encoding_t) (input : List ℕ) (ds : List Document) → AreLoaded from input ds
     → AreNumerable (loads_of from input).documents
-numerable from input ds h = unended (loads_of from input).documents (subst AreNumerable h.same h.small)
+numerable from input ds h = unended_small (loads_of from input).documents (subst AreNumerable h.same h.small)
 
 tell : (a_from : yaml_encoding_t) (a : List ℕ) (b_from : yaml_encoding_t) (b : List ℕ)
     → AreNumerable (loads_of a_from a).documents → AreNumerable (loads_of b_from b).documents

@@ -101,7 +101,7 @@ behind_same : (xs ys zs : List EventBody) → xs ++ ys ≡ xs ++ zs → ys ≡ z
 behind_same [] ys zs e = e
 behind_same (x ∷ xs) ys zs e = behind_same xs ys zs (rest_same x (xs ++ ys) (xs ++ zs) e)
 
-abbrev InFront : List EventBody → Type 0
+abbrev pub InFront : List EventBody → Type 0
 InFront front = (p : StreamPosition) × (front ≡ position_says p [])
 
 in_front : (c d : List content.Document) (before left other_left : List EventBody)

@@ -16,13 +16,14 @@ use Rattle.yaml_round_reading.specs.Reading.{contents}
 use Rattle.yaml_round_reading.proofs.Plain.{has_events}
 use Rattle.yaml_round_compare.specs.declared.difference.yaml_difference_t.{yaml_difference_t}
 use Rattle.yaml_round_compare.specs.declared.trail.Trail.{Trail}
-use Rattle.yaml_round_compare.specs.Places.{StreamPosition, position_says, Path, path_of}
+use Rattle.yaml_round_compare.specs.Places.{Path, path_of}
 use Rattle.yaml_round_compare.specs.Walking.{past, start, IsFreshTrail}
 use Rattle.yaml_round_compare.specs.Compare.{AreApart, Parted, WhereDifferent, ComparesReadings}
 use Rattle.yaml_round_compare.specs.Differences.{saying, IsParting}
 use Rattle.yaml_round_compare.proofs.Walks.{position_walked}
 use Rattle.yaml_round_compare.proofs.Placing.{placed}
 use Rattle.yaml_round_compare.proofs.Fronts.{whole_stream}
+use Rattle.yaml_round_compare.proofs.Inputs.{InFront}
 
 -- ---- lists
 
@@ -34,7 +35,7 @@ said_apart c events before left s e = sym (map-append (λ (t : Told). saying t.0
 not_nothing : (b : EventBody) (bs : List EventBody) → b ∷ bs ≡ [] → ⊥
 not_nothing b bs e = absurd (cc)
 
-first_same : (a b : EventBody) (x y : List EventBody) → a ∷ x ≡ b ∷ y → a ≡ b
+pub first_same : (a b : EventBody) (x y : List EventBody) → a ∷ x ≡ b ∷ y → a ≡ b
 first_same a b x y e = cc
 
 nothing_behind : (xs : List EventBody) → xs ++ [] ≡ xs
@@ -56,9 +57,6 @@ begun_alike c d a b x y e f =
     first_same a (event.stream_start YAML_ANY_ENCODING) x (documents_say c) e ∙ sym (first_same b (event.stream_start YAML_ANY_ENCODING) y (documents_say d) f)
 
 -- ---- the place
-
-abbrev InFront : List EventBody → Type 0
-InFront front = (p : StreamPosition) × (front ≡ position_says p [])
 
 in_front : (c d : List Document) (before other_before : List Told) (e f : EventBody)
     (es fs : List EventBody)

@@ -18,6 +18,7 @@ use Rattle.yaml_round_compare.specs.Places.{Path, path_of}
 use Rattle.yaml_round_compare.specs.Walking.{past, past_event}
 use Rattle.yaml_round_compare.specs.Differences.{saying, TellsOf}
 use Rattle.yaml_round_compare.specs.Compare.{normalized, JudgesEvents, AreApart, Parted, BothGoOn, StepsBeside, StepsOn}
+use Rattle.yaml_round_compare.proofs.Parting.{first_same}
 
 -- ---- normalized events
 
@@ -140,9 +141,6 @@ apart_from e f shown other xs ys second n m d p q s differ t =
 pub apart_behind : (x : Told) (xs second : List Told) (d : yaml_difference_t) → second ≡ []
     → AreApart (x ∷ xs) second d
 apart_behind x xs second d s = subst (λ (zs : List Told). AreApart (x ∷ xs) zs d) (sym s) tt
-
-first_same : (a b : EventBody) (x y : List EventBody) → a ∷ x ≡ b ∷ y → a ≡ b
-first_same a b x y e = cc
 
 -- the second gave that event, and both are judged
 pub judged_beside : (e f shown : Event) (second : ParserRemaining) (r : Next) (second_new : Reading)

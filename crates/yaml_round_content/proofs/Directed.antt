@@ -9,7 +9,8 @@ use Rattle.yaml_scan_laws_texts.specs.Spelled.{IsSome, AreAlphas, IsHandle}
 use Rattle.yaml_emit_laws_dumps.specs.parse_model.Events.{TagDirective}
 use Rattle.yaml_emit_laws_dumps.specs.parse_grammar.Resolve.{directive_for}
 use Rattle.yaml_emit_laws_dumps.specs.emit_layout.Grammar.{between, handle_problem, prefix_problem, has_handle, twice_problem, directive_problem, directives_problem}
-use Rattle.yaml_round_content.proofs.Emitted.{or_both, or_none}
+use Rattle.yaml_round_content.proofs.Emitted.{or_none}
+use Rattle.yaml_emit_laws_dumps.proofs.Passing.{or_both}
 
 -- ---- a handle
 

@@ -11,6 +11,7 @@ use Rattle.yaml_emit_laws_dumps.specs.emit_layout.Grammar.{or_else, anchor_probl
 use Rattle.yaml_emit_laws_dumps.specs.emit_layout.Progress.{Due, item_due, key_due, value_due, Progress, inside, behind_node, outer_due, level_due, progress_after, problem_in}
 use Rattle.yaml_round_content.specs.Normalized.{IsNormalized, IsNormalizing}
 use Rattle.yaml_round_content.proofs.Stacks.{between, Expects, moved_by}
+use Rattle.yaml_emit_laws_dumps.proofs.Passing.{or_both}
 
 -- ---- without the flags of the place between documents
 
@@ -139,10 +140,6 @@ pub normalized_leads : (b c : EventBody) (h : Progress) → IsNormalized b c →
 normalized_leads b c h e x = moved_there h c (normalized_expected b c (plain h) e x) ∙ normalized_moved b c (plain h) e
 
 -- ---- what is wrong with it wherever it stands
-
-pub or_both : (p q : Option Problem) → or_else p q ≡ None → (p ≡ None) × (q ≡ None)
-or_both None q e = (refl, e)
-or_both (Some x) q e = absurd (cc)
 
 pub or_none : (p q : Option Problem) → p ≡ None → q ≡ None → or_else p q ≡ None
 or_none None q e k = k

@@ -17,10 +17,10 @@ use Rattle.yaml_round_content.specs.emit_layout.Grammar.{opening_problem, or_els
 use Rattle.yaml_round_content.specs.Normalize.{is_lone_mark, normalize_scalar, normalize_body}
 use Rattle.yaml_round_content.specs.Content.{content_of}
 use Rattle.yaml_round_content.specs.Events.{emitter_events, contents}
-use Rattle.yaml_round_content.proofs.Emitted.{or_both}
 use Rattle.yaml_round_content.specs.Writable.{IsName, IsAnchor, IsTag, HavePrefixes}
 use Rattle.yaml_round_content.specs.WritableLaws.{HaveUtf8Texts}
 use Rattle.yaml_round_content.proofs.Scalars.{IsNoMark, IsScalarRight, IsRight, AreRight}
+use Rattle.yaml_emit_laws_dumps.proofs.Passing.{or_both}
 
 -- ---- what an event says
 

@@ -53,7 +53,7 @@ fault_told (x ∷ es) l f g e = fault_turn (step x l) es f g (λ m h. fault_told
 
 -- ---- documents
 
-abbrev LoadsDocuments : Type 0
+abbrev pub LoadsDocuments : Type 0
 LoadsDocuments = (d : DocumentContent) (rest : List Event) (l : Loading) → load (document_events d rest) l ≡ behind (document_of d) (λ e. loading.document e rest)
 
 by_number : (r : Result documents.Document Fault) (es rest : List Event) (l : Loading)

@@ -9,7 +9,7 @@ use Rattle.yaml_round_content.specs.parse_grammar.Resolve.{Reading, Told, readin
 use Rattle.yaml_round_content.specs.parse_laws_trees.Places.{BeginsWithSentence}
 use Rattle.yaml_round_content.proofs.TreesEnding.{fault_ends}
 use Rattle.yaml_round_content.specs.parse_laws_trees.parse_document.Documents as documents
-use Rattle.yaml_parse_loader.specs.Numbering.{DocumentContent, document_events, document_of}
+use Rattle.yaml_parse_loader.specs.Numbering.{DocumentContent, document_of}
 use Rattle.yaml_parse_loader.specs.Loading.{Loading, LoadStep, goes_on, loaded, refused, nothing_loaded, step, turn, load, behind}
 use Rattle.yaml_parse_loader.specs.Loading as loading
 use Rattle.yaml_round_content.specs.parse_laws_trees.NextLoad.{NextLoad, next_document, next_fault, next_none}
@@ -21,6 +21,7 @@ use Rattle.yaml_round_content.specs.TreeDocuments.{tree_documents, numbered_one,
 use Rattle.yaml_round_content.specs.Loading.{placed_events, tree_events, events_told, read_of, end_of, EventsArePlaced, LoadsAreNumbered, InputsAreNumbered, by_next, LoadsAreOneByOne}
 use Rattle.yaml_round_content.proofs.Joining.{tree_read, read_is}
 use Rattle.yaml_round_content.proofs.Placed.{tree_reads}
+use Rattle.yaml_round_content.proofs.Loading.{LoadsDocuments}
 
 -- ---- the first document of events; how many tokens aren't asked for counts for nothing
 
@@ -75,9 +76,6 @@ fault_told [] l f g e = absurd (cc)
 fault_told (x ∷ es) l f g e = fault_turn (step x l) es f g (λ m h. fault_told es m f g h) e
 
 -- ---- documents
-
-abbrev LoadsDocuments : Type 0
-LoadsDocuments = (d : DocumentContent) (rest : List Event) (l : Loading) → load (document_events d rest) l ≡ behind (document_of d) (λ e. loading.document e rest)
 
 by_number : (r : Result documents.Document Fault) (es rest : List Event) (l : Loading)
     (more : Loads) → load es l ≡ behind r (λ e. loading.document e rest)

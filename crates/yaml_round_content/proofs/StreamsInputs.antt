@@ -10,13 +10,13 @@ use Rattle.yaml_emit_laws_dumps.specs.emit_layout.Content.{emitter_event}
 use Rattle.yaml_emit_laws_dumps.specs.emit_layout.Grammar.{own_problem, own_problems}
 use Rattle.yaml_emit_laws_dumps.specs.emit_layout.Progress.{first_progress}
 use Rattle.yaml_emit_laws_dumps.specs.StreamsLaws.{AreRightTold}
-use Rattle.yaml_emit_laws_dumps.proofs.Passing.{streams, fronts, own_right}
+use Rattle.yaml_emit_laws_dumps.proofs.Passing.{streams, fronts, own_right, or_both}
 use Rattle.yaml_emit_laws_dumps.proofs.Loading.{taken}
 use Rattle.yaml_round_laws_adapted.specs.Adapted.{adapted}
 use Rattle.yaml_round_content.specs.Normalized.{IsNormalizing}
 use Rattle.yaml_round_content.specs.StreamsLaws.{emitter_events_by, IsRightReading, parsed_input, InputsAreStreams, InputsAreFronts, InputsLoadRight}
 use Rattle.yaml_round_content.proofs.Tokens.{cut_spelled}
-use Rattle.yaml_round_content.proofs.Emitted.{or_both, unchanged}
+use Rattle.yaml_round_content.proofs.Emitted.{unchanged}
 use Rattle.yaml_round_content.proofs.Whole.{parsed_is_right}
 
 -- ---- its tokens

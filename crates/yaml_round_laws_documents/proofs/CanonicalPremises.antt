@@ -1,5 +1,5 @@
 -- What a parser asks of directives, and that those that may be written have it.
-use Rattle.std.proofs.Common.{◌≡◌, ℕ, Bool, true, false, if◌then◌else◌, List, [], ◌∷◌, ◌++◌, Option, Some, None, refl}
+use Rattle.std.proofs.Common.{◌≡◌, ℕ, true, false, List, [], ◌∷◌, ◌++◌, Option, Some, None, refl}
 use Rattle.std.specs.List.{list_any}
 use Rattle.std.specs.Str.{bytes_eq}
 use Rattle.std.proofs.lemmas.Bool.{or_parts}
@@ -8,10 +8,9 @@ use Rattle.yaml_parse_grammar.specs.parse_model.Events.{TagDirective}
 use Rattle.yaml_parse_grammar.specs.Resolve.{is_known_version, directive_for}
 use Rattle.yaml_emit_laws_text.specs.emit_layout.emit_tags.Tags.{split_tag}
 use Rattle.yaml_emit_laws_text.specs.emit_layout.Content.{Opening}
-use Rattle.yaml_emit_laws_text.specs.emit_layout.declared.problem.Problem.{Problem}
 use Rattle.yaml_emit_laws_text.specs.emit_layout.Grammar.{or_else, is_version, version_problem, handle_problem, prefix_problem, has_handle, twice_problem, directive_problem, directives_problem, opening_problem}
 use Rattle.yaml_emit_laws_text.specs.TagsLaws.{resolved_split}
-use Rattle.yaml_emit_laws_text.proofs.Resolving.{or_first}
+use Rattle.yaml_emit_laws_text.proofs.Resolving.{or_first, none_true, or_second}
 use Rattle.yaml_emit_laws_text.proofs.Joining.{none_all}
 
 -- under the directives each tag is resolved as it was
@@ -26,14 +25,6 @@ IsFineVersion (Some v) = is_known_version v.major v.minor ≡ true
 abbrev pub AreFineTags : List TagDirective → List TagDirective → Type 0
 AreFineTags before [] = Unit {0}
 AreFineTags before (d ∷ ds) = (directive_for d.handle before ≡ None) × AreFineTags (before ++ d ∷ []) ds
-
-or_second : (p q : Option Problem) → or_else p q ≡ None → q ≡ None
-or_second None q e = e
-or_second (Some p) q e = absurd (cc)
-
-pub none_true : (b : Bool) (p : Problem) → (if b then Some p else None) ≡ None → b ≡ false
-none_true false p e = refl
-none_true true p e = absurd (cc)
 
 pub none_has : (h : List ℕ) (before : List TagDirective) → list_any (has_handle h) before ≡ false
     → directive_for h before ≡ None

@@ -7,16 +7,13 @@ use Rattle.yaml_scan_decode.specs.Spelling.{spelling, spellings, units_bytes}
 use Rattle.yaml_scan_decode.specs.declared.utf16.ByteOrder.TheVariants.{LowFirst, HighFirst}
 use Rattle.yaml_emit_layout.specs.emit_text.declared.Encoding.TheVariants.{Utf8, Utf16Le, Utf16Be}
 use Rattle.yaml_emit_layout.specs.emit_text.Text.{Item, letter, deep, char_bytes, unit_bytes, encode, shown}
-
-pub char_8 : (c : ℕ) → char_bytes Utf8 c ≡ encode_utf8 c
-unfolding char_bytes encode_char
-char_8 c = refl
+use Rattle.yaml_emit_laws_text.proofs.Back.{char_encodes}
 
 -- In UTF-8 a text is what is shown of it.
 pub bytes_8 : (t : List Item) → encode Utf8 t ≡ encode_utf8_all (shown t)
 unfolding encode shown
 bytes_8 [] = refl
-bytes_8 (letter c ∷ t) = ap (λ (b : List ℕ). b ++ encode Utf8 t) (char_8 c) ∙ ap (λ (b : List ℕ). encode_utf8 c ++ b) (bytes_8 t)
+bytes_8 (letter c ∷ t) = ap (λ (b : List ℕ). b ++ encode Utf8 t) (char_encodes c) ∙ ap (λ (b : List ℕ). encode_utf8 c ++ b) (bytes_8 t)
 bytes_8 (deep ∷ t) = bytes_8 t
 
 pub low_units : (b : Bool) (c x y : ℕ)

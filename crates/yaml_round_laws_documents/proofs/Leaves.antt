@@ -1,5 +1,5 @@
 -- Handles, tags, directives and quoted scalars.
-use Rattle.std.proofs.Common.{◌≡◌, ℕ, suc, ◌-◌, ◌<◌, Bool, true, false, not, ◌&&◌, ◌==◌, List, [], ◌∷◌, ◌++◌, length, take, drop, get_or, Option, Some, None, refl, sym, ap, subst, ◌∙◌, arith}
+use Rattle.std.proofs.Common.{◌≡◌, ℕ, ◌-◌, ◌<◌, Bool, true, false, not, ◌&&◌, ◌==◌, List, [], ◌∷◌, ◌++◌, length, take, drop, get_or, Option, Some, None, refl, sym, ap, subst, ◌∙◌, arith}
 use Rattle.std.specs.Prelude.{if◌then◌else◌, IsUtf8, codes}
 use Rattle.std.specs.List.{list_all}
 use Rattle.std.specs.Str.{chars}
@@ -13,26 +13,15 @@ use Rattle.yaml_emit_layout.specs.emit_text.declared.page.Page.{Page}
 use Rattle.yaml_emit_layout.specs.emit_text.Layout.{Layout, ◌▹◌, choose, when, char, letters, blanks, new_line, gap, word, is_past}
 use Rattle.yaml_emit_layout.specs.emit_text.Quoted.{needs_escape, escape_text, first, is_empty, may_fold, fold, escaped, quoted_char, quoted_body, double_quoted}
 use Rattle.yaml_emit_layout.specs.emit_tags.Tags.{has_shorter_prefix, directive_for, defines, primary, secondary, unless_defined, defaults, in_force, split_by, spelled, tag_spelling, uri_text}
-use Rattle.yaml_emit_layout.specs.declared.problem.Problem.{Problem}
 use Rattle.yaml_emit_layout.specs.Grammar.{or_else, between, inner_problem, ends_problem, handle_problem, prefix_problem, twice_problem, directive_problem, directives_problem}
 use Rattle.yaml_emit_layout.specs.Nodes.{Context, anchor_text, tag_text, version_word, version_text, directive_text, directives_text, line_at}
 use Rattle.yaml_round_laws_documents.specs.BytesLaws.{IsNameOption, IsTextOption, HavePrefixes}
 use Rattle.yaml_round_laws_documents.proofs.Characters.{Fits, AllFit, AreChars, AreBytes, all_append, graphic, is_32, names_fit, escape_fits, raw_fits, uri_fits, bytes_drop, utf8_bytes, scalars_below}
 use Rattle.yaml_round_laws_documents.proofs.Layouts.{Tame, both, stay_tame, choose_tame, when_tame, char_tame, letters_tame, blanks_tame, new_line_tame, gap_tame, word_tame, line_tame}
-use Rattle.yaml_emit_laws_text.proofs.Resolving.{or_first}
-use Rattle.yaml_emit_laws_text.proofs.Joining.{none_all}
+use Rattle.yaml_emit_laws_text.proofs.Resolving.{or_first, or_second}
+use Rattle.yaml_emit_laws_text.proofs.Joining.{none_all, if_none, last_rest, long_rest}
 
 -- ---- handles
-
-if_none : (b : Bool) (p : Problem) (o : Option Problem) → (if b then Some p else o) ≡ None
-    → (b ≡ false) × (o ≡ None)
-if_none false p o e = (refl, e)
-if_none true p o e = absurd (cc)
-
--- Where neither of two problems is, the second isn't.
-pub or_second : (p q : Option Problem) → or_else p q ≡ None → q ≡ None
-or_second None q e = e
-or_second (Some p) q e = absurd (cc)
 
 mark_fits : (b : ℕ) → b ≡ 33 → Fits b
 mark_fits b e = subst (λ (x : ℕ). Fits x) (sym e) (graphic 33 (omega arith) (omega arith))
@@ -42,12 +31,6 @@ all_but_last : (x : ℕ) (xs : List ℕ) → AllFit (take (length xs) (x ∷ xs)
     → Fits (get_or (x ∷ xs) (length xs) 0) → AllFit (x ∷ xs)
 all_but_last x [] h k = (k, tt)
 all_but_last x (y ∷ ys) (h, hs) k = (h, all_but_last y ys hs k)
-
-long_rest : (c r : ℕ) (rs : List ℕ) → length (c ∷ r ∷ rs) - 1 - 1 ≡ length rs
-long_rest c r rs = omega arith
-
-last_rest : (c r : ℕ) (rs : List ℕ) → length (c ∷ r ∷ rs) - 1 ≡ suc (length rs)
-last_rest c r rs = omega arith
 
 handle_by : (h : List ℕ) → get_or h 0 0 ≡ 33 → get_or h (length h - 1) 0 ≡ 33
     → list_all is_alpha_byte (between h) ≡ true → AllFit h

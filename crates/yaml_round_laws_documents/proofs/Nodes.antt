@@ -15,7 +15,8 @@ use Rattle.yaml_emit_layout.specs.emit_text.Text.{Item}
 use Rattle.yaml_round_laws_documents.specs.BytesLaws.{IsNameOption, IsTextOption, IsSpellable, AreSpellable, PairsAreSpellable, DocumentsAreSpellable}
 use Rattle.yaml_round_laws_documents.proofs.Characters.{Fits, graphic, names_fit}
 use Rattle.yaml_round_laws_documents.proofs.Layouts.{Allowed, Tame, deep_allowed, both, stay_tame, choose_tame, when_tame, char_tame, word_tame, opener_tame, line_tame, keep_tame}
-use Rattle.yaml_round_laws_documents.proofs.Leaves.{TagsFit, or_second, handles_fit, tags_fit, anchor_tame, tag_tame, quoted_tame, version_tame, directives_tame}
+use Rattle.yaml_round_laws_documents.proofs.Leaves.{TagsFit, handles_fit, tags_fit, anchor_tame, tag_tame, quoted_tame, version_tame, directives_tame}
+use Rattle.yaml_emit_laws_text.proofs.Resolving.{or_second}
 
 -- the settings with canonical form
 abbrev pub canonically : Settings → Settings

@@ -117,11 +117,12 @@ are_spellable (d ∷ ds) (h, hs) = (h.opening, have_prefixes d.directives h.pref
 -- ---- the adapter
 
 -- the directives may be written
-record Opened (o : Opening) : Type 0 where
-  right : opening_problem o ≡ None
-  utf8 : HaveUtf8 o.directives
+pub record Opened (o : Opening) : Type 0 where
+  pub right : opening_problem o ≡ None
+  pub utf8 : HaveUtf8 o.directives
 
-readable_tag : WrittenTagsAreReadable → (o : Opening) → Opened o → (tag : Option (List ℕ))
+-- a tag that may be written is readable under the document's directives
+pub readable_tag : WrittenTagsAreReadable → (o : Opening) → Opened o → (tag : Option (List ℕ))
     → IsTag tag → IsReadableTag o.directives tag
 readable_tag law o h None t = tt
 readable_tag law o h (Some t) (some, utf8) = law o h.right h.utf8 t utf8 some

@@ -101,7 +101,9 @@ texts_tell w k ds es d e =
 pub loads_are : LoadsAreDocuments
 loads_are from input small = record { loaded = all_load from input; small = small; writable = all_writable from input }
 
-documents_alike : (ds es : List Document) (o : Option Fault) → unless_faulty ds o ≡ Ok es → ds ≡ es
+-- documents that no fault ends are those that are answered
+pub documents_alike : (ds es : List Document) (o : Option Fault) → unless_faulty ds o ≡ Ok es
+    → ds ≡ es
 documents_alike ds es None h = cc
 documents_alike ds es (Some f) h = cc
 

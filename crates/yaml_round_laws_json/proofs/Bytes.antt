@@ -1,5 +1,5 @@
 -- The bytes of a JSON text spell it.
-use Rattle.std.proofs.Common.{◌≡◌, ℕ, ◌<◌, ◌≤◌, ◌==◌, ◌&&◌, ◌||◌, not, nat_lt, nat_le, Bool, true, false, List, [], ◌∷◌, ◌++◌, drop, refl, sym, ap, subst, ◌∙◌, inl, inr, arith, append-nil, encode_utf8, encode_utf8_all}
+use Rattle.std.proofs.Common.{◌≡◌, ℕ, ◌<◌, ◌≤◌, ◌==◌, ◌&&◌, ◌||◌, not, nat_lt, nat_le, Bool, true, false, List, [], ◌∷◌, ◌++◌, drop, refl, sym, ap, subst, ◌∙◌, inl, inr, arith, append-nil}
 use Rattle.std.specs.Prelude.{nat_eq}
 use Rattle.std.specs.List.{list_all}
 use Rattle.std.proofs.lemmas.Bool.{true≢false, and_parts}
@@ -17,6 +17,7 @@ use Rattle.yaml_round_laws_json.specs.Exceptions.{is_refused, ends_line, IsUsual
 use Rattle.yaml_round_laws_json.specs.Laws.{may_be_utf8}
 use Rattle.yaml_round_laws_json.proofs.Numbers.{begins_solid, is_solid, plain_bytes, literal_plain, number_plain, value_begins}
 use Rattle.yaml_round_laws_json.proofs.Characters.{Spelled, Passes, no_bytes, byte_before, string_before, white_before}
+use Rattle.yaml_round_laws_documents.proofs.Encoding.{bytes_utf8}
 
 -- ---- characters that a stream may hold
 
@@ -155,10 +156,6 @@ told YAML_UTF8_ENCODING may bs h = utf8_told bs
 told YAML_UTF16LE_ENCODING may bs h = absurd (true≢false (sym may))
 told YAML_UTF16BE_ENCODING may bs h = absurd (true≢false (sym may))
 
-in_utf8 : (cs : List ℕ) → spellings YAML_UTF8_ENCODING cs ≡ encode_utf8_all cs
-in_utf8 [] = refl
-in_utf8 (c ∷ cs) = ap (λ (b : List ℕ). encode_utf8 c ++ b) (in_utf8 cs)
-
 -- In UTF-8 the bytes spell themselves.
 pub text_spells : (from : yaml_encoding_t) → may_be_utf8 from ≡ true → (bytes : List ℕ) (t : Text)
     → IsJsonText bytes t → IsUsualText t → Spells from bytes bytes
@@ -169,6 +166,6 @@ text_spells from may bytes t is u =
     record {
       characters = s.characters;
       allowed = AllPass-from_list_all is_allowed s.characters s.all;
-      spelled = ap (λ (n : ℕ). drop n bytes) none ∙ sym s.is ∙ sym (in_utf8 s.characters) ∙ ap (λ (e : yaml_encoding_t). spellings e s.characters) (sym utf8);
+      spelled = ap (λ (n : ℕ). drop n bytes) none ∙ sym s.is ∙ sym (bytes_utf8 s.characters) ∙ ap (λ (e : yaml_encoding_t). spellings e s.characters) (sym utf8);
       is = sym s.is;
     }

@@ -12,7 +12,8 @@ use Rattle.yaml_scan_history.specs.scan_scalars.Plain.{leads, PlainSpot, Ends, T
 use Rattle.yaml_scan_history.proofs.PlainLemmas.{spot_break, spot_blank, spot_ends}
 use Rattle.yaml_round_laws_json.specs.Grammar.{is_white, are_white}
 use Rattle.yaml_round_laws_json.specs.Exceptions.{has_break}
-use Rattle.yaml_round_laws_json.proofs.Whites.{byte_cases, lf_width, cr_width, crlf_width}
+use Rattle.yaml_round_laws_json.proofs.Whites.{byte_cases, lf_width, crlf_width}
+use Rattle.yaml_scan_history.proofs.GapsRead.{cr_width}
 
 -- no word more: what is left ends at the place
 abbrev pub none_to : ℕ → Bool → Words

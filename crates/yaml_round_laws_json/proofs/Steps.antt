@@ -1,5 +1,5 @@
 -- A walk over a JSON text, word by word: each word goes with the white behind it, up to the next word.
-use Rattle.std.proofs.Common.{◌≡◌, ℕ, ◌+◌, ◌-◌, ◌<◌, ◌≤◌, ◌==◌, ◌&&◌, ◌||◌, nat_lt, cond, Bool, true, false, List, [], ◌∷◌, ◌++◌, length, Option, Some, Result, Ok, refl, sym, ap, subst, ◌∙◌, inl, inr, ◌⊎◌, arith, append_assoc}
+use Rattle.std.proofs.Common.{◌≡◌, ℕ, ◌+◌, ◌-◌, ◌<◌, ◌≤◌, ◌==◌, ◌&&◌, ◌||◌, nat_lt, Bool, true, false, List, [], ◌∷◌, ◌++◌, length, Some, Result, Ok, refl, sym, ap, subst, ◌∙◌, inl, inr, ◌⊎◌, arith, append_assoc}
 use Rattle.std.specs.Prelude.{if◌then◌else◌}
 use Rattle.std.proofs.lemmas.Bool.{true≢false}
 use Rattle.std.proofs.lemmas.Bool.Decides.{nat_tests}
@@ -21,13 +21,13 @@ use Rattle.yaml_scan_history.specs.declared.kind.Kind.TheVariants as kinds
 use Rattle.yaml_scan_history.specs.declared.lexeme.Opens.TheVariants as opening
 use Rattle.yaml_scan_history.specs.Kinds.{depth_after, allows_key, is_value}
 use Rattle.yaml_scan_history.specs.History.{is_fresh, margin_at, indent}
-use Rattle.yaml_scan_history.specs.Words.{WordText, indicator_of, or_plain, kind_at, word_at, valued, plainly}
+use Rattle.yaml_scan_history.specs.Words.{WordText, indicator_of, kind_at, word_at, valued, plainly}
 use Rattle.yaml_scan_laws_levels.specs.Pushes.{IsRight, stays_level}
 use Rattle.yaml_scan_laws_levels.specs.Steps.{Comes, WordLeaves}
 use Rattle.yaml_scan_laws_levels.specs.White.{IsGap}
 use Rattle.yaml_scan_laws_levels.specs.Signs.{sign}
 use Rattle.yaml_scan_laws_levels.specs.Walks.{WalkState, WalkReads, LeaveClear, behind}
-use Rattle.yaml_scan_laws_levels.proofs.Signing.{printed_begins}
+use Rattle.yaml_scan_laws_levels.proofs.Signing.{printed_begins, chain, no_start, no_end, no_percent}
 use Rattle.yaml_scan_laws_levels.proofs.Slotting.{near_before, level_opens}
 use Rattle.yaml_scan_laws_levels.proofs.Walking.{walk_word, walk_key_starts, walk_key_stops}
 use Rattle.yaml_emit_laws_text.specs.Walk.{Left}
@@ -43,6 +43,7 @@ use Rattle.yaml_round_laws_json.proofs.Plains.{IsStop, stops_at, plain_read, pla
 use Rattle.yaml_round_laws_json.proofs.Strings.{string_reads}
 use Rattle.yaml_round_laws_json.proofs.Numbers.{is_solid, begins_solid}
 use Rattle.yaml_round_laws_json.proofs.Near.{key_near}
+use Rattle.yaml_emit_laws_text.proofs.Words.{quote_kind}
 
 abbrev pub Tell : Type 0
 Tell = List TokenBody → List TokenBody
@@ -159,31 +160,6 @@ step x text bs d f T k w e may o r s up stays plain leaves deep left =
 
 -- ---- kinds of lexemes
 
-chain : (z pc ds de s : Bool) (o : Option Kind) (k : Kind) → z ≡ false → pc ≡ false → ds ≡ false
-    → de ≡ false → o ≡ Some k
-    → cond z (Some kinds.StreamEnd) (cond pc (Some kinds.Directive)
-    (cond ds (Some kinds.DocumentStart) (cond de (Some kinds.DocumentEnd) (or_plain o s)))) ≡ Some k
-chain z pc ds de s o k a b c d e = rw (a, b, c, d, e) refl
-
-off_first : (c a b z w : Bool) → a ≡ false → ((c && (a && (b && z))) && w) ≡ false
-off_first true false b z w e = refl
-off_first false a b z w e = refl
-off_first true true b z w e = absurd (cc)
-
-no_start : (text : List ℕ) (p b : ℕ) → byte text p ≡ b → (b == 45) ≡ false
-    → is_document_start text p ≡ false
-unfolding is_document_start
-no_start text p b h e = off_first (column_at text p == 0) (byte text p == 45) (byte text (p + 1) == 45) (byte text (p + 2) == 45) (is_blank_or_end text (p + 3)) (ap (λ (x : ℕ). x == 45) h ∙ e)
-
-no_end : (text : List ℕ) (p b : ℕ) → byte text p ≡ b → (b == 46) ≡ false
-    → is_document_end text p ≡ false
-unfolding is_document_end
-no_end text p b h e = off_first (column_at text p == 0) (byte text p == 46) (byte text (p + 1) == 46) (byte text (p + 2) == 46) (is_blank_or_end text (p + 3)) (ap (λ (x : ℕ). x == 46) h ∙ e)
-
-no_percent : (a b : Bool) → a ≡ false → (a && b) ≡ false
-no_percent false b e = refl
-no_percent true b e = absurd (cc)
-
 kind_by : (flow : Bool) (text : List ℕ) (p b : ℕ) (k : Kind) → byte text p ≡ b → (b == 0) ≡ false
     → (b == 37) ≡ false → (b == 45) ≡ false → (b == 46) ≡ false
     → indicator_of flow (is_blank_or_end text (p + 1)) b ≡ Some k → kind_at flow text p ≡ Some k
@@ -224,10 +200,6 @@ mapping_end_kind flow alone = refl
 comma_kind : (flow alone : Bool) → indicator_of flow alone 44 ≡ Some kinds.FlowEntry
 unfolding indicator_of
 comma_kind flow alone = refl
-
-quote_kind : (flow alone : Bool) → indicator_of flow alone 34 ≡ Some kinds.DoubleQuoted
-unfolding indicator_of
-quote_kind flow alone = refl
 
 -- in brackets a `:` stands alone whatever follows
 colon_kind : (flow alone : Bool) → flow ≡ true → indicator_of flow alone 58 ≡ Some kinds.ValueMark

@@ -1,6 +1,6 @@
 -- The white of JSON, with tabs, between lexemes.
 use Rattle.std.proofs.Common.{◌≡◌, ◌≢◌, ℕ, zero, suc, ◌+◌, ◌<◌, ◌≤◌, ◌==◌, ◌&&◌, ◌||◌, not, nat_lt, Bool, true, false, List, [], ◌∷◌, length, refl, sym, ap, subst, ◌∙◌, inl, inr, ◌⊎◌, arith}
-use Rattle.std.proofs.lemmas.Bool.{true≢false, cases_Bool, and_parts, not-true, ne_eqb, lt-ltb}
+use Rattle.std.proofs.lemmas.Bool.{true≢false, cases_Bool, and_parts, ne_eqb, lt-ltb}
 use Rattle.std.proofs.lemmas.Bool.Decides.{nat_tests}
 use Rattle.yaml_scan_history.specs.scan_model.Marks.{byte, break_of, break_width}
 use Rattle.yaml_scan_history.specs.scan_model.Classes.{is_bom}
@@ -16,16 +16,9 @@ use Rattle.yaml_scan_laws_levels.specs.Steps.{WordLeaves}
 use Rattle.yaml_scan_laws_levels.proofs.Whites.{no_white, has_first}
 use Rattle.yaml_round_laws_json.specs.Grammar.{is_white, are_white}
 use Rattle.yaml_round_laws_json.specs.Exceptions.{is_break, has_tab, has_tab_below}
+use Rattle.yaml_scan_history.proofs.GapsRead.{lexeme_parts, break_parts, no_bom, no_skip, cr_width, some_width}
 
 -- ---- one step
-
-not_first : (first : Bool) (a b c : ℕ) → a ≢ 0xEF
-    → (first && (a == 0xEF && (b == 0xBB && c == 0xBF))) ≡ false
-not_first true a b c h = grind (arith, nat_tests)
-not_first false a b c h = refl
-
-no_bom : (text : List ℕ) (p : ℕ) → byte text p ≢ 0xEF → (p == 0 && is_bom text p) ≡ false
-no_bom text p h = not_first (p == 0) (byte text p) (byte text (p + 1)) (byte text (p + 2)) h
 
 -- a step of a gap, and what is left of it
 abbrev Goes : ℕ → Bool → Bool → Bool → List ℕ → ℕ → ℕ → Type 0
@@ -47,14 +40,6 @@ step_tab n flow allowed text p t h room =
     let (m, more, far, inside, same) = gap_blank n flow allowed text p (p + 1) (rw (first, h, t) refl) room in
     (m, more, ap (λ (g : Gap). g.place) same)
 
-no_skip : (tabs : Bool) (b : ℕ) → b ≢ 32 → b ≢ 9 → (b == 32 || (tabs && b == 9)) ≡ false
-no_skip true b h i = grind (arith, nat_tests)
-no_skip false b h i = grind (arith, nat_tests)
-
-break_parts : (b c d : ℕ) → 0 < break_of b c d → (b ≢ 0xEF) × (b ≢ 32) × (b ≢ 9) × (b ≢ 35)
-unfolding break_of
-break_parts b c d h = (grind (arith, nat_tests), grind (arith, nat_tests), grind (arith, nat_tests), grind (arith, nat_tests))
-
 step_break : (n : ℕ) (flow allowed : Bool) (text : List ℕ) (p w : ℕ) → break_width text p ≡ suc w
     → length text ≤ p + n → Goes n flow allowed (allowed || not flow) text p (p + suc w)
 unfolding step_at
@@ -73,16 +58,6 @@ step_break n flow allowed text p w width room =
 unequal : (b n : ℕ) → not (b == n) ≡ true → b ≢ n
 unequal b n h = grind (arith, nat_tests)
 
-lexeme_parts : (b c : Bool) (d : ℕ)
-    → (not (d == 32) && (not (d == 9) && (not (d == 35) && (not b && not c)))) ≡ true
-    → (d ≢ 32) × (d ≢ 9) × (d ≢ 35) × (b ≡ false) × (c ≡ false)
-lexeme_parts b c d h =
-    let (space, h1) = and_parts (not (d == 32)) (not (d == 9) && (not (d == 35) && (not b && not c))) h in
-    let (tab, h2) = and_parts (not (d == 9)) (not (d == 35) && (not b && not c)) h1 in
-    let (hash, h3) = and_parts (not (d == 35)) (not b && not c) h2 in
-    let (none, first) = and_parts (not b) (not c) h3 in
-    (unequal d 32 space, unequal d 9 tab, unequal d 35 hash, not-true b none, not-true c first)
-
 step_lexeme : (n : ℕ) (flow allowed : Bool) (text : List ℕ) (p : ℕ) → begins_lexeme text p ≡ true
     → length text ≤ p + n → (gap_within n flow allowed text p).place ≡ p
 unfolding step_at
@@ -98,17 +73,9 @@ pub lf_width : (c d : ℕ) → break_of 10 c d ≡ 1
 unfolding break_of
 lf_width c d = refl
 
-pub cr_width : (c d : ℕ) → c ≢ 10 → break_of 13 c d ≡ 1
-unfolding break_of
-cr_width c d h = let e : (c == 10) ≡ false = grind (arith, nat_tests) in rw e refl
-
 pub crlf_width : (d : ℕ) → break_of 13 10 d ≡ 2
 unfolding break_of
 crlf_width d = refl
-
-some_width : (b c d : ℕ) → nat_lt 0 (break_of b c d) ≡ false → b ≢ 10
-unfolding break_of
-some_width b c d h = grind (arith, nat_tests)
 
 pub byte_cases : (b : ℕ) → is_white b ≡ true → (b ≡ 32) ⊎ ((b ≡ 9) ⊎ ((b ≡ 10) ⊎ (b ≡ 13)))
 byte_cases b h = grind (arith, nat_tests)

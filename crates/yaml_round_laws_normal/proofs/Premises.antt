@@ -1,17 +1,16 @@
 -- What reading back asks of a content's documents, from what may be written.
-use Rattle.std.proofs.Common.{◌≡◌, ℕ, Bool, false, List, [], ◌∷◌, Option, Some, None}
+use Rattle.std.proofs.Common.{ℕ, Bool, false, List, [], ◌∷◌, Option, Some}
 use Rattle.std.specs.Str.{IsUtf8}
 use Rattle.yaml_round_laws_documents.specs.emit_laws_text.emit_layout.Content.{Opening}
-use Rattle.yaml_round_laws_documents.specs.emit_laws_text.emit_layout.Grammar.{opening_problem}
 use Rattle.yaml_round_content.specs.Said.{ScalarMark, untagged, tagged, Node, alias, scalar, sequence, mapping, Nodes, no_nodes, node, Pairs, no_pairs, pair, Document}
 use Rattle.yaml_round_laws_normal.specs.Readable.{readable_scalar, readable_node, readable_nodes, readable_pairs, readable_document, is_unmarked, documents_from}
-use Rattle.yaml_emit_laws_text.specs.TagsLaws.{HaveUtf8, WrittenTagsAreReadable}
+use Rattle.yaml_emit_laws_text.specs.TagsLaws.{WrittenTagsAreReadable}
 use Rattle.yaml_emit_laws_text.specs.Writable as text
 use Rattle.yaml_round_laws_documents.specs.BytesLaws as bytes
 use Rattle.yaml_round_laws_documents.specs.TreeLaws.{IsNoMark, HasNoMark, HaveNoMark, PairsHaveNoMark, AreParsable}
-use Rattle.yaml_round_laws_documents.specs.Adapting.{IsReadableTag, IsTagged, AreTagged, PairsAreTagged, HaveTexts}
-use Rattle.yaml_round_content.specs.Writable.{IsAnchor, IsTag, IsMark, IsWritable, AreItemsWritable, ArePairsWritable, AreWritable}
-use Rattle.yaml_round_laws_documents.proofs.Premises.{not_bang, text_anchor, text_tag, have_utf8, bytes_anchor, bytes_tag, have_prefixes, text_name, bytes_name}
+use Rattle.yaml_round_laws_documents.specs.Adapting.{IsTagged, AreTagged, PairsAreTagged, HaveTexts}
+use Rattle.yaml_round_content.specs.Writable.{IsAnchor, IsMark, IsWritable, AreItemsWritable, ArePairsWritable, AreWritable}
+use Rattle.yaml_round_laws_documents.proofs.Premises.{not_bang, text_anchor, text_tag, have_utf8, bytes_anchor, bytes_tag, have_prefixes, text_name, bytes_name, readable_tag, Opened}
 
 -- ---- the text
 
@@ -70,16 +69,6 @@ are_spellable first [] h = tt
 are_spellable first (d ∷ ds) (h, hs) = (h.opening, have_prefixes d.directives h.prefixes, bytes_node (is_unmarked first d) d.root h.root, are_spellable false ds hs)
 
 -- ---- the adapter
-
--- the directives may be written
-record Opened (o : Opening) : Type 0 where
-  right : opening_problem o ≡ None
-  utf8 : HaveUtf8 o.directives
-
-readable_tag : WrittenTagsAreReadable → (o : Opening) → Opened o → (tag : Option (List ℕ))
-    → IsTag tag → IsReadableTag o.directives tag
-readable_tag law o h None t = tt
-readable_tag law o h (Some t) (some, utf8) = law o h.right h.utf8 t utf8 some
 
 tagged_scalar : (b : Bool) → WrittenTagsAreReadable → (o : Opening) → Opened o
     → (anchor : Option (List ℕ)) (mark : ScalarMark) (value : List ℕ) → IsMark mark

@@ -17,7 +17,7 @@ use Rattle.yaml_emit_layout.specs.ToCome as come
 use Rattle.yaml_emit_layout.proofs.Going.{goes}
 use Rattle.yaml_emit_held.specs.Held.{is_ready}
 use Rattle.yaml_emit_held.specs.Judged.{let_out, laid, shape_of}
-use Rattle.yaml_emit_held.proofs.Judging.{same_problem, shape_next, or_none, unless_none, unless_some}
+use Rattle.yaml_emit_held.proofs.Judging.{same_problem, shape_next, or_none, unless_none, unless_some, first_out}
 use Rattle.yaml_emit_machine.proofs.Ending.{nothing_held}
 use Rattle.yaml_emit_machine.proofs.Grammatical.{first_right, right_there}
 use Rattle.yaml_emit_machine.proofs.LaidOut.{streams_are_laid}
@@ -25,7 +25,6 @@ use Rattle.yaml_round_laws_pieces.specs.Pieces.{whole}
 use Rattle.yaml_round_laws_pieces.specs.Layouts.{all_written, BeginsStream, StreamsAreLayouts, FrontsAreOfLayouts, stays_open, AllIsOfLayouts, WrongAddNothing}
 use Rattle.yaml_round_laws_pieces.proofs.Regular.{Written}
 use Rattle.yaml_round_laws_pieces.proofs.Events.{piece_regular}
-use Rattle.yaml_round_laws_pieces.proofs.Leading.{first_out}
 use Rattle.yaml_round_laws_pieces.proofs.Joining.{shown}
 
 -- ---- whole streams

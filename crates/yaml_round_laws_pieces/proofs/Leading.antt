@@ -4,30 +4,23 @@ use Rattle.std.proofs.Common.{◌≡◌, Bool, true, false, List, [], ◌∷◌,
 use Rattle.yaml_emit_text.specs.declared.Cursor.{Cursor}
 use Rattle.yaml_emit_text.specs.declared.Settings.{Settings}
 use Rattle.yaml_emit_text.specs.Layout.{Rest, nothing_more}
-use Rattle.yaml_emit_layout.specs.declared.Level.{Level}
 use Rattle.yaml_emit_layout.specs.declared.Problem.{Problem}
-use Rattle.yaml_emit_layout.specs.declared.Expected.{Expected}
 use Rattle.yaml_emit_layout.specs.declared.Expected.TheVariants as at
-use Rattle.yaml_emit_layout.specs.Content.{Event, no_event, stream_start, stream_end, document_start, document_end, alias, scalar, sequence_start, sequence_end, mapping_start, mapping_end}
+use Rattle.yaml_emit_layout.specs.Content.{Event}
 use Rattle.yaml_emit_layout.specs.Grammar.{or_else}
-use Rattle.yaml_emit_layout.specs.Nodes.{Context, context_of}
+use Rattle.yaml_emit_layout.specs.Nodes.{context_of}
 use Rattle.yaml_emit_layout.specs.Progress.{problem_in, progress_after, first_refusal}
-use Rattle.yaml_emit_layout.specs.State.{State, piece, next, next_at, problem_at, opens_empty, begins_by, is_sequence_end, is_mapping_end, top_of, outer_of, place_at, levels_behind}
+use Rattle.yaml_emit_layout.specs.State.{State, piece, next, problem_at, opens_empty, begins_by, top_of}
 use Rattle.yaml_emit_held.specs.Held.{is_ready}
 use Rattle.yaml_emit_held.specs.Judged.{let_out, unless, laid, refused_at, shape_of, refusal_from, text_from, refusal_behind}
-use Rattle.yaml_emit_held.proofs.Holding.{ready_empty, none_needed, few_short}
-use Rattle.yaml_emit_held.proofs.Judging.{ready_more, same_problem, shape_next, or_none, or_some, unless_none, unless_some}
+use Rattle.yaml_emit_held.proofs.Holding.{ready_empty, few_short}
+use Rattle.yaml_emit_held.proofs.Judging.{ready_more, same_problem, shape_next, or_none, or_some, unless_none, unless_some, empty_out, open_next, first_out}
 use Rattle.yaml_round_laws_pieces.specs.Pieces.{Stand, added}
 use Rattle.yaml_round_laws_pieces.specs.Laws.{StandsAreThere}
 use Rattle.yaml_round_laws_pieces.proofs.Regular.{Written}
 use Rattle.yaml_round_laws_pieces.proofs.Events.{piece_regular}
 
 -- ---- what is let out
-
-pub first_out : (e : Event) (es : List Event) → is_ready (e ∷ es) ≡ true
-    → let_out (e ∷ es) ≡ e ∷ let_out es
-unfolding let_out
-first_out e es r = rw r refl
 
 none_out : (e : Event) (es : List Event) → is_ready (e ∷ es) ≡ false → let_out (e ∷ es) ≡ []
 unfolding let_out
@@ -38,64 +31,7 @@ out_begins : (p : Event → Bool) (b : Bool) (f : Event) (es : List Event) → i
 out_begins p true f es r n = ap (begins_by p) (first_out f es r)
 out_begins p false f es r n = ap (begins_by p) (none_out f es r) ∙ sym (n refl)
 
-end_sequence : (f : Event) (es : List Event) → is_ready (f ∷ es) ≡ false → is_sequence_end f ≡ false
-end_sequence sequence_end es r = let k = none_needed sequence_end es refl in absurd (cc)
-end_sequence f es r = refl
-
-end_mapping : (f : Event) (es : List Event) → is_ready (f ∷ es) ≡ false → is_mapping_end f ≡ false
-end_mapping mapping_end es r = let k = none_needed mapping_end es refl in absurd (cc)
-end_mapping f es r = refl
-
-sequence_begins : (es : List Event)
-    → begins_by is_sequence_end (let_out es) ≡ begins_by is_sequence_end es
-unfolding let_out
-sequence_begins [] = refl
-sequence_begins (f ∷ es) = out_begins is_sequence_end (is_ready (f ∷ es)) f es refl (end_sequence f es)
-
-mapping_begins : (es : List Event)
-    → begins_by is_mapping_end (let_out es) ≡ begins_by is_mapping_end es
-unfolding let_out
-mapping_begins [] = refl
-mapping_begins (f ∷ es) = out_begins is_mapping_end (is_ready (f ∷ es)) f es refl (end_mapping f es)
-
-empty_out : (e : Event) (es : List Event) → opens_empty e (let_out es) ≡ opens_empty e es
-unfolding opens_empty
-empty_out (sequence_start p) es = sequence_begins es
-empty_out (mapping_start p) es = mapping_begins es
-empty_out no_event es = refl
-empty_out (stream_start x) es = refl
-empty_out stream_end es = refl
-empty_out (document_start o) es = refl
-empty_out (document_end implicit) es = refl
-empty_out (alias name) es = refl
-empty_out (scalar x) es = refl
-empty_out sequence_end es = refl
-empty_out mapping_end es = refl
-
 -- ---- a right event leads on
-
-place_open : (l : Option Level) → refused_at (place_at l) ≡ None
-place_open None = refl
-place_open (Some l) = refl
-
-open_at : (p : Context) (place : Expected) (ls : List Level) (e : Event) (empty : Bool) (d : Cursor)
-    → refused_at place ≡ None → refused_at (next_at p place ls e empty d).place ≡ None
-unfolding next_at
-open_at p place ls no_event empty d h = h
-open_at p place ls (stream_start x) empty d h = refl
-open_at p place ls stream_end empty d h = refl
-open_at p place ls (document_start o) empty d h = refl
-open_at p place ls (document_end implicit) empty d h = refl
-open_at p place ls (alias name) empty d h = place_open (top_of (levels_behind ls _))
-open_at p place ls (scalar v) empty d h = place_open (top_of (levels_behind ls _))
-open_at p place ls (sequence_start q) empty d h = refl
-open_at p place ls (mapping_start q) empty d h = refl
-open_at p place ls sequence_end empty d h = place_open (top_of (outer_of ls))
-open_at p place ls mapping_end empty d h = place_open (top_of (outer_of ls))
-
-open_next : (s : Settings) (st : State) (e : Event) (empty : Bool) (d : Cursor)
-    → refused_at st.place ≡ None → refused_at (next s st e empty d).place ≡ None
-open_next s st e empty d h = open_at (context_of s st.directives) st.place st.levels e empty d h
 
 first_judged : (canonical : Bool) (st : State) (e : Event) (es : List Event)
     → refused_at st.place ≡ None → is_ready (e ∷ es) ≡ true

@@ -1,16 +1,11 @@
 -- The documents of a text that is laid out for an input can be parsed.
-use Rattle.std.proofs.Common.{◌≡◌, Bool, List, [], ◌∷◌, Option, Some, None, ap, sym, ◌∙◌}
-use Rattle.yaml_emit_laws_text.specs.emit_layout.declared.problem.Problem.{Problem}
+use Rattle.std.proofs.Common.{◌≡◌, Bool, List, [], ◌∷◌, None, ap, sym, ◌∙◌}
 use Rattle.yaml_emit_laws_text.specs.emit_layout.Content as emit
-use Rattle.yaml_emit_laws_text.specs.emit_layout.Grammar.{or_else, event_problem, last_problem, own_problem, own_problems, opening_problem}
+use Rattle.yaml_emit_laws_text.specs.emit_layout.Grammar.{event_problem, last_problem, own_problem, own_problems, opening_problem}
 use Rattle.yaml_round_laws_documents.specs.TreeLaws.{AreParsable}
 use Rattle.yaml_round_laws_pretty.specs.InputLaws.{HaveNoMarks, InputsAreParsable}
 use Rattle.yaml_round_laws_pretty.proofs.InputFlags.{inputs_flags}
-use Rattle.yaml_emit_laws_text.proofs.Resolving.{or_first}
-
-pub or_second : (p q : Option Problem) → or_else p q ≡ None → q ≡ None
-or_second None q e = e
-or_second (Some p) q e = absurd (cc)
+use Rattle.yaml_emit_laws_text.proofs.Resolving.{or_first, or_second}
 
 abbrev pub Right : Bool → List emit.Event → Type 0
 Right c es = own_problems c es ≡ None

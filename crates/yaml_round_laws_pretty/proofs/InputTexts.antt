@@ -25,10 +25,10 @@ use Rattle.yaml_round_laws_pretty.specs.Laws.{InputsLayoutIsWritable}
 use Rattle.yaml_round_laws_pretty.proofs.Contents.{start_by}
 use Rattle.yaml_round_laws_pretty.proofs.Lost.{written_is}
 use Rattle.yaml_round_laws_pretty.proofs.InputFlags.{inputs_flags}
-use Rattle.yaml_round_laws_pretty.proofs.InputPremises.{or_second, Right, head, tail, opening_right}
+use Rattle.yaml_round_laws_pretty.proofs.InputPremises.{Right, head, tail, opening_right}
 use Rattle.yaml_round_laws_documents.proofs.Premises.{alphas_are}
 use Rattle.yaml_round_laws_documents.proofs.Written.{some_byte}
-use Rattle.yaml_emit_laws_text.proofs.Resolving.{or_first}
+use Rattle.yaml_emit_laws_text.proofs.Resolving.{or_first, or_second}
 
 -- ---- texts of events
 

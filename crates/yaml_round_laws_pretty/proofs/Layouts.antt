@@ -14,9 +14,10 @@ use Rattle.yaml_emit_laws_text.specs.emit_layout.Nodes.{Context, context_of, is_
 use Rattle.yaml_round_laws_documents.specs.BytesLaws.{IsNameOption, IsTextOption, IsSpellable, AreSpellable, PairsAreSpellable, DocumentsAreSpellable}
 use Rattle.yaml_round_laws_documents.proofs.Characters.{Fits, graphic, is_32, names_fit}
 use Rattle.yaml_round_laws_documents.proofs.Layouts.{Tame, letter_allowed, both, stay_tame, choose_tame, when_tame, char_tame, gap_tame, word_tame, opener_tame, line_tame, keep_tame}
-use Rattle.yaml_round_laws_documents.proofs.Leaves.{TagsFit, or_second, handles_fit, tags_fit, version_tame, directives_tame}
+use Rattle.yaml_round_laws_documents.proofs.Leaves.{TagsFit, handles_fit, tags_fit, version_tame, directives_tame}
 use Rattle.yaml_round_laws_pretty.proofs.Fitting.{style_needs, scalar_text_tame}
 use Rattle.yaml_round_laws_documents.proofs.Nodes.{dots_tame, properties_tame, checked_tame, comma_tame}
+use Rattle.yaml_emit_laws_text.proofs.Resolving.{or_second}
 
 kept_text : (canonical left_out : Bool) (t : Option (List ℕ)) → IsTextOption t
     → IsTextOption (kept_tag canonical left_out t)

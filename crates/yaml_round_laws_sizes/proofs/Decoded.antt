@@ -28,7 +28,7 @@ abbrev SpeltAny : ℕ → ℕ → ℕ → Result Character Offence → Type 0
 SpeltAny n k p (Ok c) = Spelt n k p c
 SpeltAny n k p (Err o) = Unit {0}
 
-char_size : (c : ℕ) → length (encode_utf8 c) ≤ 4
+pub char_size : (c : ℕ) → length (encode_utf8 c) ≤ 4
 char_size c = let b = (len_utf8_bounds c).1 in omega (arith, length-encode c, b)
 
 utf8_spelt : (bytes : List ℕ) (p : ℕ) (r : Result Character Offence) → p < length bytes

@@ -16,7 +16,7 @@ use Rattle.yaml_emit_laws_columns.specs.emit_layout.emit_text.declared.Settings.
 use Rattle.yaml_emit_laws_columns.specs.emit_layout.emit_text.Text.{char_bytes}
 use Rattle.yaml_emit_laws_columns.specs.emit_layout.emit_text.Hex.{hex_2}
 use Rattle.yaml_emit_laws_columns.specs.emit_layout.emit_tags.Tags.{suffix_keeps, uri_byte, uri_text}
-use Rattle.yaml_emit_laws_columns.specs.Sizes.{unit, ascii, larger, text_bytes, most_of_quoted, most_of_char, most_of_escape, most_of_value}
+use Rattle.yaml_emit_laws_columns.specs.Sizes.{unit, larger, text_bytes, most_of_quoted, most_of_char, most_of_escape, most_of_value}
 use Rattle.yaml_emit_laws_columns.proofs.Counting.{ascii_bytes}
 use Rattle.yaml_emit_laws_columns.proofs.Escapes.{raw_most, two_small, short}
 use Rattle.yaml_round_laws_adapted.specs.Adapted.{spells_text, cut}
@@ -25,6 +25,7 @@ use Rattle.yaml_round_laws_sizes.proofs.Weights.{Weight, weigh}
 use Rattle.yaml_round_laws_sizes.proofs.Spellings.{uri_bytes, text_append}
 use Rattle.yaml_round_laws_sizes.proofs.Costs.{broad, cost, lends}
 use Rattle.yaml_round_laws_sizes.proofs.Prices.{by_length, marks}
+use Rattle.yaml_emit_laws_columns.proofs.Laid.{ascii_grows}
 
 -- ---- texts
 
@@ -96,9 +97,6 @@ utf8_most x bs u = uri_most x bs (utf8_small bs u)
 
 -- ---- values
 
-ascii_more : (s : Settings) (n m : ℕ) → n ≤ m → ascii s n ≤ ascii s m
-ascii_more s n m w = mul-le-mul_left (unit s.encoding) w
-
 escape_ten : (c : ℕ) → most_of_escape c ≤ 10
 escape_ten c =
     elim (cases_Bool (nat_lt c 0x100)) [
@@ -112,10 +110,10 @@ escape_ten c =
 quoted_most : (s : Settings) (i c : ℕ) → c < 1114112 → most_of_quoted s i c ≤ broad s i
 quoted_most s i c w =
     elim (cases_Bool (c == 32)) [
-      | inl e ↦ rw e (ascii_more s (i + 3) (i + 10) (omega arith))
+      | inl e ↦ rw e (ascii_grows s (i + 3) (i + 10) (omega arith))
       | inr e ↦
           let a = short s i c (omega (arith, w)) e in
-          let b = ascii_more s (most_of_escape c) (i + 10) (omega (arith, escape_ten c)) in
+          let b = ascii_grows s (most_of_escape c) (i + 10) (omega (arith, escape_ten c)) in
           omega (arith, a, b)
     ]
 

@@ -1,5 +1,5 @@
 -- The lexemes of a text are worth no more than the characters that begin in it, and one.
-use Rattle.std.proofs.Common.{◌≡◌, ℕ, zero, suc, ◌+◌, ◌<◌, ◌≤◌, Bool, true, false, not, ◌&&◌, nat_lt, List, [], ◌∷◌, length, Option, Some, None, Result, Ok, Err, refl, ap, subst, ◌∙◌, arith, inl, inr}
+use Rattle.std.proofs.Common.{◌≡◌, ℕ, zero, suc, ◌+◌, ◌<◌, ◌≤◌, Bool, true, false, not, List, [], ◌∷◌, length, Option, Some, None, Result, Ok, Err, refl, ap, subst, ◌∙◌, arith, inl, inr}
 use Rattle.std.proofs.lemmas.Bool.{cases_Bool}
 use Rattle.yaml_scan_history.specs.scan_model.declared.record.yaml_mark_t.{yaml_mark_t}
 use Rattle.yaml_scan_history.specs.scan_model.declared.problem.ScanFault.{ScanFault}
@@ -9,13 +9,14 @@ use Rattle.yaml_scan_history.specs.declared.kind.Kind.{Kind}
 use Rattle.yaml_scan_history.specs.declared.kind.Kind.TheVariants as kinds
 use Rattle.yaml_scan_history.specs.declared.lexeme.Lexeme.{Lexeme}
 use Rattle.yaml_scan_history.specs.Kinds.{is_end}
-use Rattle.yaml_scan_history.specs.History.{depth, in_flow, placed}
+use Rattle.yaml_scan_history.specs.History.{depth, in_flow}
 use Rattle.yaml_scan_history.specs.Next.{Next, Read, Fails, Ends, first_lexeme, begun_behind, with_end, gap_behind, place_behind, kind_behind, word_behind, lexeme_behind, first_fault_or, stale_before, no_start, faults, coming, next, extended, history}
 use Rattle.yaml_scan_history.specs.Words.{WordText, word_at}
 use Rattle.yaml_scan_history.specs.Remaining.{all}
 use Rattle.yaml_scan_laws_order.proofs.HistoryForward.{Stands, history_stands, stand_in, not_ended, first_is, takes_bytes}
 use Rattle.yaml_round_laws_sizes.proofs.Leads.{one_if, leads, leads_grow}
 use Rattle.yaml_round_laws_sizes.proofs.Lexemes.{own, apart, apart_least, worth, worths, white_starts, blank_white, begins, followed, not_blank}
+use Rattle.yaml_scan_laws_order.proofs.NextForward.{placed_index}
 
 -- what is known of a lexeme that was read
 pub record Telling (text : List ℕ) (l : Lexeme) : Type 0 where
@@ -46,13 +47,6 @@ ended_keeps text l (Ok w) =
       | inr e ↦ rw e (record { kind = refl; depth = refl; start = refl })
     ]
 ended_keeps text l (Err w) = record { kind = refl; depth = refl; start = refl }
-
-pub placed_index : (k : Kind) (m : yaml_mark_t) → (placed k m).index ≡ m.index
-placed_index k m =
-    elim (cases_Bool (is_end k && nat_lt 0 m.column)) [
-      | inl e ↦ rw e refl
-      | inr e ↦ rw e refl
-    ]
 
 -- the place behind an indicator of blocks is the next one
 behind_of : (k : Kind) (text : List ℕ) (h : List Lexeme)

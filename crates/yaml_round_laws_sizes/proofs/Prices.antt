@@ -20,9 +20,10 @@ use Rattle.yaml_scan_laws_order.specs.Standing.{Takes}
 use Rattle.yaml_scan_laws_order.proofs.HistoryForward.{Stands, history_stands, stand_in, not_ended, first_is, takes_bytes}
 use Rattle.yaml_round_laws_sizes.proofs.Leads.{one_if}
 use Rattle.yaml_round_laws_sizes.proofs.Lexemes.{outside, apart, apart_least}
-use Rattle.yaml_round_laws_sizes.proofs.Paying.{Telling, Tells, next_tells, placed_index, no_blank}
+use Rattle.yaml_round_laws_sizes.proofs.Paying.{Telling, Tells, next_tells, no_blank}
 use Rattle.yaml_round_laws_sizes.proofs.Spans.{Spans, WordSpans, word_spans}
 use Rattle.yaml_round_laws_sizes.proofs.Weights.{Weight, weigh, start_weight, outer, mapping_most, taken, opens_by, ArePaid, prices, tokens_weigh}
+use Rattle.yaml_scan_laws_order.proofs.NextForward.{placed_index}
 
 -- ---- what is known of a lexeme
 

@@ -1,8 +1,6 @@
 -- The values of scalars are one and a half times as long at most as what a scanner reads of them.
 use Rattle.std.proofs.Common.{ℕ, zero, suc, ◌+◌, ◌-◌, ◌*◌, ◌<◌, ◌≤◌, Bool, true, false, not, ◌&&◌, ◌||◌, ◌==◌, nat_lt, if◌then◌else◌, List, [], ◌∷◌, length, Option, Some, None, Result, Ok, Err, arith, inl, inr, le_refl}
 use Rattle.std.proofs.lemmas.Bool.{cases_Bool, ltb-true}
-use Rattle.std.proofs.lemmas.Str.{length-encode, len_utf8_bounds}
-use Rattle.std.specs.Prelude.{encode_utf8}
 use Rattle.yaml_scan_history.specs.scan_model.Marks.{byte, break_width, column_at, is_blank}
 use Rattle.yaml_scan_history.specs.scan_model.Breaks.{feed_at, is_document_indicator}
 use Rattle.yaml_scan_history.specs.scan_model.Runs.{is_blank_there, is_text, past_blanks, line_end}
@@ -16,6 +14,7 @@ use Rattle.yaml_scan_history.specs.scan_block.Lines.{spaces, LineSpot, Stops, Li
 use Rattle.yaml_scan_history.specs.scan_block.Header.{indicators, chomp_of, digit_of, digit_place, chomping_place, past_comment, header_end, header_at}
 use Rattle.yaml_scan_history.specs.scan_block.Block.{BlockText, column_of, block_with, block_lines, block_at}
 use Rattle.yaml_round_laws_sizes.proofs.Pieces.{piece_size, pieces_size, pieces_append, value_size, break_size, line_size, block_size, block_value_size, slice_size}
+use Rattle.yaml_round_laws_sizes.proofs.Decoded.{char_size}
 
 -- ---- between quotes
 
@@ -23,9 +22,6 @@ abbrev Spent : ℕ → QuotedSpot → Type 0
 Spent p Closing = Unit {0}
 Spent p (Pieces qs q) = 2 * pieces_size qs + 3 * p ≤ 3 * q
 Spent p (Bad w) = Unit {0}
-
-char_size : (c : ℕ) → length (encode_utf8 c) ≤ 4
-char_size c = let b = (len_utf8_bounds c).1 in omega (arith, length-encode c, b)
 
 coded_spent : (p at q : ℕ) (o : Option ℕ) → p + 4 ≤ q → Spent p (coded at q o)
 coded_spent p at q None w = tt

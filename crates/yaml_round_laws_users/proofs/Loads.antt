@@ -7,7 +7,7 @@ use Rattle.yaml_round.specs.round_laws_documents.round_content.parse_laws_trees.
 use Rattle.yaml_round.specs.round_laws_documents.round_content.Loads.{loads_of}
 use Rattle.yaml_round.specs.round_laws_documents.round_content.PlainLoading.{PlainLoading, unless_faulty}
 use Rattle.yaml_round.specs.round_laws_documents.round_content.Agree.{AreAgreeing}
-use Rattle.yaml_round.proofs.Whole.{loads_are}
+use Rattle.yaml_round.proofs.Whole.{loads_are, documents_alike}
 use Rattle.yaml_round.proofs.Loaded.{faultless_load, faulty_load, loading_loads}
 use Rattle.yaml_round.specs.declared.yaml_settings_t.{yaml_settings_t}
 use Rattle.yaml_round.specs.Reload.{IsDumped, IsNormalOfDocuments, LaysOutLoading, IsReloaded}
@@ -16,11 +16,6 @@ use Rattle.yaml_round_laws_users.specs.Loads.{LaysOutLoads, AreLoadsReloaded, Is
 pub no_fault : (ds es : List Document) (o : Option Fault) → unless_faulty ds o ≡ Ok es → o ≡ None
 no_fault ds es None h = refl
 no_fault ds es (Some f) h = cc
-
-pub same_documents : (ds es : List Document) (o : Option Fault) → unless_faulty ds o ≡ Ok es
-    → ds ≡ es
-same_documents ds es None h = cc
-same_documents ds es (Some f) h = cc
 
 same_fault : (ds : List Document) (o : Option Fault) (e : Fault) → unless_faulty ds o ≡ Err e
     → o ≡ Some e
@@ -38,13 +33,13 @@ dumped : (from : yaml_encoding_t) (settings : yaml_settings_t) (input : List ℕ
 dumped from settings input r h =
     let e = loading_loads from input (Ok h.documents) h.loading in (
       no_fault (loads_of from input).documents h.documents (loads_of from input).fault e,
-      subst (λ (ds : List Document). IsDumped settings ds r) (sym (same_documents (loads_of from input).documents h.documents (loads_of from input).fault e)) h.dumped,
+      subst (λ (ds : List Document). IsDumped settings ds r) (sym (documents_alike (loads_of from input).documents h.documents (loads_of from input).fault e)) h.dumped,
     )
 
 -- the documents of the plain loading are those that are loaded
 pub loads_alike : (from : yaml_encoding_t) (input : List ℕ) (ds : List Document)
     → PlainLoading from input (Ok ds) → (loads_of from input).documents ≡ ds
-loads_alike from input ds h = same_documents (loads_of from input).documents ds (loads_of from input).fault (loading_loads from input (Ok ds) h)
+loads_alike from input ds h = documents_alike (loads_of from input).documents ds (loads_of from input).fault (loading_loads from input (Ok ds) h)
 
 pub right_loads : (from : yaml_encoding_t) (input : List ℕ) (ds : List Document)
     → PlainLoading from input (Ok ds) → (loads_of from input).fault ≡ None

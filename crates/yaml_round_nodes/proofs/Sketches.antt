@@ -1,19 +1,18 @@
 -- What is known of a document in the making is what the loader knows.
-use Rattle.std.proofs.Common.{◌≡◌, ℕ, ◌+◌, length, Bool, true, false, List, [], ◌∷◌, ◌++◌, refl, sym, subst, ap, ◌∙◌, map, Option, None, Some, arith}
-use Rattle.std.specs.Prelude.{zero, suc, ℤ, pos}
+use Rattle.std.proofs.Common.{◌≡◌, ℕ, ◌+◌, length, Bool, List, [], ◌∷◌, ◌++◌, refl, sym, subst, ap, ◌∙◌, Option, None, Some}
+use Rattle.std.specs.Prelude.{suc, ℤ, pos}
 use Rattle.std.specs.FinMap as finite
-use Rattle.std.proofs.lemmas.List.{length-append}
 use Rattle.yaml_parse_model.specs.Events.{Event, EventBody}
 use Rattle.yaml_parse_model.specs.Events as event
 use Rattle.yaml_parse_model.specs.Nodes.{Node}
 use Rattle.yaml_parse_model.specs.Faults.{Fault}
 use Rattle.yaml_parse_model.specs.declared.yaml_mark_t.{yaml_mark_t}
-use Rattle.yaml_parse_document.specs.Documents.{change_place}
 use Rattle.yaml_parse_loader.specs.Anchors.{Anchors}
 use Rattle.yaml_parse_loader.specs.Loading.{Open, open_sequence, open_mapping, Loading, LoadStep, goes_on, loaded, refused, step, step_body, place_of, named, next, attach, attached, closed, filled, aliased}
 use Rattle.yaml_round_nodes.specs.declared.record.yaml_c_step.{yaml_c_step}
 use Rattle.yaml_round_nodes.specs.declared.record.yaml_c_spot.{yaml_c_spot}
-use Rattle.yaml_round_nodes.specs.Composing.{kind_number, name_in, IsWithin, name_at, ShowsEvent, ShowEvents, Sketch, fresh_sketch, innermost, outer, spot, begun, opened, ended, stood_for, stood, drawn, drawn_on, all_drawn, top_of, number_or, spot_of, spots_on, spots_of, IsFresh, is_whole, AreSpots}
+use Rattle.yaml_round_nodes.specs.Composing.{kind_number, name_in, IsWithin, name_at, ShowEvents, Sketch, fresh_sketch, innermost, outer, spot, stood_for, drawn, drawn_on, all_drawn, top_of, number_or, spot_of, spots_on, spots_of, IsFresh, is_whole, AreSpots}
+use Rattle.yaml_parse_document.proofs.Sound.{length_change}
 
 abbrev numbers_open : List Open → List ℤ
 numbers_open [] = []
@@ -42,11 +41,6 @@ same_open n (o ∷ os) = ap (λ (k : ℕ). pos (suc k) ∷ numbers_open os) (sam
 one_more : (ns : List Node) (n : Node) → length (ns ++ n ∷ []) ≡ suc (length ns)
 one_more [] n = refl
 one_more (m ∷ ns) n = ap suc (one_more ns n)
-
-as_many : (f : Node → Node) (k : ℕ) (ns : List Node) → length (change_place f k ns) ≡ length ns
-as_many f k [] = refl
-as_many f zero (n ∷ ns) = refl
-as_many f (suc k) (n ∷ ns) = ap suc (as_many f k ns)
 
 abbrev made : ℕ → List ℤ → Anchors → Sketch
 made count around names = record { count = count; around = around; names = names }
@@ -87,7 +81,7 @@ end_step : (l : Loading) (os : List Open) (to : yaml_mark_t) → l.levels ≡ os
     → put (spot (innermost (numbers_open os)) (pos 0)) (made (length l.document.nodes) (outer (numbers_open os)) l.anchors)
     ≡ put (spot (top_of os) (pos 0)) (sketched (closed to l os))
 end_step l [] to h = ap (λ z. put (spot (pos 0) (pos 0)) (made (length l.document.nodes) (numbers_open z) l.anchors)) (sym h)
-end_step l (o ∷ os) to h = ap (λ (k : ℕ). put (spot (pos (suc (place_of o))) (pos 0)) (made k (numbers_open os) l.anchors)) (sym (as_many (filled o to) (place_of o) l.document.nodes))
+end_step l (o ∷ os) to h = ap (λ (k : ℕ). put (spot (pos (suc (place_of o))) (pos 0)) (made k (numbers_open os) l.anchors)) (sym (length_change (filled o to) (place_of o) l.document.nodes))
 
 body_step : (b : EventBody) (from to : yaml_mark_t) (l : Loading) → IsWithin b
     → Stepped (step_body b from to l) (spot_of b l) (drawn (kind_number b) (name_in b) (sketched l))

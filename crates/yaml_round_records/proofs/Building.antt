@@ -97,7 +97,7 @@ put_more bytes list i d x front new h inv is added = λ rest left.
     inv (directive_of x ∷ rest) (ap (all_directives bytes) (left_cons list i d h) ∙ one_more bytes (get_or list i d) (drop (i + 1) list) (directive_of x) rest is left)
     ∙ ap (λ (ds : List TagDirective). Some ds) (snoc_map front x rest ∙ ap (λ (ys : List yaml_tag_directive_t). map directive_of ys ++ rest) (sym added))
 
-none_directives : (bytes : List ℕ) → all_directives bytes [] ≡ Some []
+pub none_directives : (bytes : List ℕ) → all_directives bytes [] ≡ Some []
 unfolding all_directives
 none_directives bytes = refl
 

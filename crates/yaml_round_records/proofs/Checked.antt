@@ -147,11 +147,11 @@ pub left_cons : {X : Type 0} (xs : List X) (i : ℕ) (d : X) → i < length xs
 left_cons xs i d h = drop-cons xs i d h ∙ ap (λ (k : ℕ). get_or xs i d ∷ drop k xs) (sym (add-one i))
 
 -- a test of what is left is one of its first item and one of the rest
-none_left : (b y x t r : Bool) → x ≡ t → x ≡ (b && y) → r ≡ b → r ≡ false → false ≡ t
+pub none_left : (b y x t r : Bool) → x ≡ t → x ≡ (b && y) → r ≡ b → r ≡ false → false ≡ t
 none_left true y x t r inv e is off = absurd (cc)
 none_left false y x t r inv e is off = sym e ∙ inv
 
-some_left : (b y x t r : Bool) → x ≡ t → x ≡ (b && y) → r ≡ b → r ≡ true → y ≡ t
+pub some_left : (b y x t r : Bool) → x ≡ t → x ≡ (b && y) → r ≡ b → r ≡ true → y ≡ t
 some_left true y x t r inv e is on = sym e ∙ inv
 some_left false y x t r inv e is on = absurd (cc)
 

@@ -15,18 +15,10 @@ use Rattle.yaml_round_records.specs.declared.standing.yaml_c_place.{yaml_c_place
 use Rattle.yaml_round_records.specs.Numbers.{is_set}
 use Rattle.yaml_round_records.specs.Records.{directive_by, directive_at, in_front, all_directives}
 use Rattle.yaml_round_records.specs.Standing.{At, at_if, at_by, at_meant, stand_if, stand_meant, level_meant, level_in_front, levels_meant, spelling_meant, place_meant, innermost_meant}
-use Rattle.yaml_round_records.proofs.Checked.{left_cons}
+use Rattle.yaml_round_records.proofs.Checked.{left_cons, none_left, some_left}
+use Rattle.yaml_round_records.proofs.Building.{none_directives}
 
 -- ---- whether all of a list mean something
-
--- a test of what is left is one of its first item and one of the rest
-item_refused : (b y x t r : Bool) → x ≡ t → x ≡ (b && y) → r ≡ b → r ≡ false → false ≡ t
-item_refused true y x t r inv e is off = absurd (cc)
-item_refused false y x t r inv e is off = sym e ∙ inv
-
-item_passed : (b y x t r : Bool) → x ≡ t → x ≡ (b && y) → r ≡ b → r ≡ true → y ≡ t
-item_passed true y x t r inv e is on = sym e ∙ inv
-item_passed false y x t r inv e is on = absurd (cc)
 
 front_level : (l : Option Level) (ls : Option (List Level))
     → is_some (level_in_front l ls) ≡ (is_some l && is_some ls)
@@ -43,13 +35,13 @@ left_levels ls i d h = ap (λ xs. is_some (levels_meant xs)) (left_cons ls i d h
 pub level_refused : (ls : List yaml_c_level) (i : ℕ) (d : yaml_c_level) (r : Bool) → i < length ls
     → is_some (levels_meant (drop i ls)) ≡ is_some (levels_meant ls)
     → r ≡ is_some (level_meant (get_or ls i d)) → r ≡ false → false ≡ is_some (levels_meant ls)
-level_refused ls i d r h inv is off = item_refused (is_some (level_meant (get_or ls i d))) _ _ _ r inv (left_levels ls i d h) is off
+level_refused ls i d r h inv is off = none_left (is_some (level_meant (get_or ls i d))) _ _ _ r inv (left_levels ls i d h) is off
 
 pub level_passed : (ls : List yaml_c_level) (i : ℕ) (d : yaml_c_level) (r : Bool) → i < length ls
     → is_some (levels_meant (drop i ls)) ≡ is_some (levels_meant ls)
     → r ≡ is_some (level_meant (get_or ls i d)) → r ≡ true
     → is_some (levels_meant (drop (i + 1) ls)) ≡ is_some (levels_meant ls)
-level_passed ls i d r h inv is on = item_passed (is_some (level_meant (get_or ls i d))) _ _ _ r inv (left_levels ls i d h) is on
+level_passed ls i d r h inv is on = some_left (is_some (level_meant (get_or ls i d))) _ _ _ r inv (left_levels ls i d h) is on
 
 no_levels : levels_meant [] ≡ Some []
 unfolding levels_meant
@@ -78,23 +70,19 @@ pub span_refused : (bytes : List ℕ) (list : List yaml_c_directive) (i : ℕ) (
     → is_some (all_directives bytes (drop i list)) ≡ is_some (all_directives bytes list)
     → r ≡ is_some (directive_at bytes (get_or list i d)) → r ≡ false
     → false ≡ is_some (all_directives bytes list)
-span_refused bytes list i d r h inv is off = item_refused (is_some (directive_at bytes (get_or list i d))) _ _ _ r inv (left_spans bytes list i d h) is off
+span_refused bytes list i d r h inv is off = none_left (is_some (directive_at bytes (get_or list i d))) _ _ _ r inv (left_spans bytes list i d h) is off
 
 pub span_passed : (bytes : List ℕ) (list : List yaml_c_directive) (i : ℕ) (d : yaml_c_directive)
     (r : Bool) → i < length list
     → is_some (all_directives bytes (drop i list)) ≡ is_some (all_directives bytes list)
     → r ≡ is_some (directive_at bytes (get_or list i d)) → r ≡ true
     → is_some (all_directives bytes (drop (i + 1) list)) ≡ is_some (all_directives bytes list)
-span_passed bytes list i d r h inv is on = item_passed (is_some (directive_at bytes (get_or list i d))) _ _ _ r inv (left_spans bytes list i d h) is on
-
-no_spans : (bytes : List ℕ) → all_directives bytes [] ≡ Some []
-unfolding all_directives
-no_spans bytes = refl
+span_passed bytes list i d r h inv is on = some_left (is_some (directive_at bytes (get_or list i d))) _ _ _ r inv (left_spans bytes list i d h) is on
 
 pub spans_end : (bytes : List ℕ) (list : List yaml_c_directive) (i : ℕ) → length list ≤ i
     → is_some (all_directives bytes (drop i list)) ≡ is_some (all_directives bytes list)
     → true ≡ is_some (all_directives bytes list)
-spans_end bytes list i h inv = ap (λ o. is_some o) (sym (no_spans bytes)) ∙ ap (λ xs. is_some (all_directives bytes xs)) (sym (drop_all i list h)) ∙ inv
+spans_end bytes list i h inv = ap (λ o. is_some o) (sym (none_directives bytes)) ∙ ap (λ xs. is_some (all_directives bytes xs)) (sym (drop_all i list h)) ∙ inv
 
 pub both_spans : (h p : Option (List ℕ)) → (is_some h && is_some p) ≡ is_some (directive_by h p)
 both_spans None p = refl

@@ -409,7 +409,8 @@ laid_out : (from : yaml_encoding_t) (input : List ℕ) (settings : yaml_settings
     → LaysOutLoading from settings input result
 laid_out from input settings result h d = record { documents = (loads_of from input).documents; loading = faultless_load from input h; dumped = d }
 
-unended_small : (ds : List Document) → AreNumerable (ended ds) → AreNumerable ds
+-- documents' ends are no part of whether they can be numbered
+pub unended_small : (ds : List Document) → AreNumerable (ended ds) → AreNumerable ds
 unended_small [] h = tt
 unended_small (d ∷ ds) h = (h.0, unended_small ds h.1)
 

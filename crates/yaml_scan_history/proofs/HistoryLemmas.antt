@@ -70,7 +70,8 @@ first_open-le all (l ∷ h) =
     let before = first_open-le all h in
     grind (arith, nat_tests)
 
-near_before : (s p q : yaml_mark_t) → p.index ≤ q.index → p.line ≤ q.line → is_fresh s q ≡ true
+-- what is fresh at a place is fresh before it
+pub near_before : (s p q : yaml_mark_t) → p.index ≤ q.index → p.line ≤ q.line → is_fresh s q ≡ true
     → is_fresh s p ≡ true
 near_before s p q i l h = grind (arith, nat_tests)
 
@@ -195,7 +196,8 @@ first_open-grows l h further =
       | inr past ↦ omega arith
     ]
 
-cases_Option : {A : Type 0} (o : Option A) → (o ≡ None) ⊎ ((x : A) × (o ≡ Some x))
+-- nothing, or something
+pub cases_Option : {A : Type 0} (o : Option A) → (o ≡ None) ⊎ ((x : A) × (o ≡ Some x))
 cases_Option None = inl refl
 cases_Option (Some x) = inr (x, refl)
 

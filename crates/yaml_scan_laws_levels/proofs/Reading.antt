@@ -15,6 +15,7 @@ use Rattle.yaml_scan_history.specs.Stepwise.{no_colon, not_allowed, tested, unle
 use Rattle.yaml_scan_history.proofs.StepwiseLemmas.{stepwise}
 use Rattle.yaml_scan_laws_levels.specs.Fronts.{Came, IsFree, InTime, read_at}
 use Rattle.yaml_scan_laws_levels.specs.Pushes.{MetIsRead}
+use Rattle.yaml_scan_laws_order.proofs.NextForward.{placed_same}
 
 pub unless_so : (b : Bool) (x y : Next) → b ≡ false → cond b x y ≡ y
 unless_so false x y e = refl
@@ -76,9 +77,6 @@ finished_is : (text : List ℕ) (l : Lexeme) (w : WordText) → is_end l.kind �
     }
 finished_is text l w e = rw e refl
 
-placed_start : (k : Kind) (m : yaml_mark_t) → is_end k ≡ false → placed k m ≡ m
-placed_start k m e = rw e refl
-
 pub tested_read : (l : Lexeme) (h : List Lexeme) → InTime (candidate 0 (l ∷ h)) l.reached
     → tested l h ≡ Read l
 tested_read l h u =
@@ -108,7 +106,7 @@ of_place text gap h k q a w place allowed goes kind said placed_so none lost tim
     (unless_lost (lost_by (begun k (placed k (mark_at text p)) (allowed_behind h gap) h) (fresh (candidate (depth h) h) (mark_at text p))) text p (begun k (placed k (mark_at text p)) (allowed_behind h gap) h) h)) place
     ∙ ap (λ (x : Bool). cond (misplaced k m x h) (not_allowed k m) (unless_lost (lost_by (begun k (placed k m) x h) (fresh (candidate (depth h) h) m)) text q (begun k (placed k m) x h) h)) allowed
     ∙ unless_so (misplaced k m a h) (not_allowed k m) _ placed_so
-    ∙ ap (λ (s : yaml_mark_t). unless_lost (lost_by (begun k s a h) (fresh (candidate (depth h) h) m)) text q (begun k s a h) h) (placed_start k m goes)
+    ∙ ap (λ (s : yaml_mark_t). unless_lost (lost_by (begun k s a h) (fresh (candidate (depth h) h) m)) text q (begun k s a h) h) (placed_same k m goes)
     ∙ ap (λ (o : Option yaml_mark_t). unless_lost o text q b h) lost
     ∙ ap (λ (r : Result WordText Wrong). unless_wrong r text b h) said
     ∙ ap (λ (x : Lexeme). tested x h) (finished_is text b w goes)

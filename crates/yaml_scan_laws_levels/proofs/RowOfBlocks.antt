@@ -25,7 +25,7 @@ use Rattle.yaml_scan_laws_levels.specs.Walks.{LeaveClear}
 use Rattle.yaml_scan_laws_levels.proofs.Stepping.{words_leave}
 use Rattle.yaml_scan_laws_levels.proofs.Walking.{walk_starts, walk_mark, walk_word, walk_ends, walk_stops, walk_key_starts, walk_key_goes, walk_key_stops}
 
-abbrev short : TokenBody → ℕ → WordText
+abbrev pub short : TokenBody → ℕ → WordText
 short body e = record { body = body; end = e; reached = e; broke = false }
 
 abbrev long : List ℕ → ℕ → ℕ → WordText

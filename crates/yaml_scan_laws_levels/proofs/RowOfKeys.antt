@@ -1,12 +1,11 @@
 -- A text of five lines, lexeme by lexeme: marks of a document, a `?` with a block scalar, and in brackets a key of either kind.
-use Rattle.std.proofs.Common.{◌≡◌, ℕ, suc, zero, ◌+◌, true, false, List, [], ◌∷◌, refl, ap, ◌∙◌, inl, inr, arith}
+use Rattle.std.proofs.Common.{◌≡◌, ℕ, suc, zero, ◌+◌, true, false, [], ◌∷◌, refl, ap, ◌∙◌, inl, inr, arith}
 use Rattle.std.proofs.lemmas.Bool.{false≢true}
 use Rattle.yaml_scan_history.specs.scan_model.declared.name.yaml_scalar_style_t.TheVariants as styles
 use Rattle.yaml_scan_history.specs.scan_model.Marks.{byte, line_at, column_at, break_of, ends_of}
 use Rattle.yaml_scan_history.specs.scan_model.Classes.{is_digit_byte, is_alpha_byte}
 use Rattle.yaml_scan_history.specs.scan_model.Breaks.{is_document_indicator, break_value}
 use Rattle.yaml_scan_history.specs.scan_model.Tokens as tokens
-use Rattle.yaml_scan_history.specs.scan_model.Tokens.{TokenBody}
 use Rattle.yaml_scan_history.specs.scan_words.Indicators.{is_document_start, is_document_end}
 use Rattle.yaml_scan_history.specs.scan_words.Written.{HasAt}
 use Rattle.yaml_scan_history.specs.scan_words.Anchors.{may_end_name}
@@ -21,19 +20,14 @@ use Rattle.yaml_scan_history.specs.scan_scalars.Joined.{joined}
 use Rattle.yaml_scan_history.specs.declared.kind.Kind.TheVariants as kinds
 use Rattle.yaml_scan_history.specs.declared.lexeme.Opens.TheVariants as opening
 use Rattle.yaml_scan_history.specs.History.{indent}
-use Rattle.yaml_scan_history.specs.Words.{WordText, indicator_of, kind_at, word_at}
+use Rattle.yaml_scan_history.specs.Words.{indicator_of, kind_at, word_at}
 use Rattle.yaml_scan_laws_levels.specs.Fronts.{Rises}
 use Rattle.yaml_scan_laws_levels.specs.Steps.{Comes}
 use Rattle.yaml_scan_laws_levels.specs.Rows.{row_of_keys, plain, KeysAreRead}
 use Rattle.yaml_scan_laws_levels.specs.Walks.{LeaveClear}
 use Rattle.yaml_scan_laws_levels.proofs.Stepping.{words_leave}
 use Rattle.yaml_scan_laws_levels.proofs.Walking.{walk_starts, walk_mark, walk_word, walk_outer, walk_ends, walk_stops, walk_key_starts, walk_key_stops, walk_asks, walk_answers}
-
-abbrev short : TokenBody → ℕ → WordText
-short body e = record { body = body; end = e; reached = e; broke = false }
-
-abbrev long : List ℕ → ℕ → ℕ → WordText
-long v e r = record { body = plain v; end = e; reached = r; broke = true }
+use Rattle.yaml_scan_laws_levels.proofs.RowOfBlocks.{short}
 
 nothing_has : (p : ℕ) → HasAt row_of_keys p []
 nothing_has p = λ k few. absurd (omega (arith, few))

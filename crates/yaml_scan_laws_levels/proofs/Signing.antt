@@ -16,7 +16,8 @@ use Rattle.yaml_scan_laws_levels.specs.Signs.{sign, SignComes, MarkComes, SignsC
 
 -- ---- kinds
 
-chain : (z pc ds de s : Bool) (o : Option Kind) (k : Kind) → z ≡ false → pc ≡ false → ds ≡ false
+-- a lexeme is what its first byte tells, where it is neither the end nor a mark of directives and documents
+pub chain : (z pc ds de s : Bool) (o : Option Kind) (k : Kind) → z ≡ false → pc ≡ false → ds ≡ false
     → de ≡ false → o ≡ Some k
     → cond z (Some kinds.StreamEnd) (cond pc (Some kinds.Directive)
     (cond ds (Some kinds.DocumentStart) (cond de (Some kinds.DocumentEnd) (or_plain o s)))) ≡ Some k
@@ -33,7 +34,8 @@ off_second true false b z w e = refl
 off_second false a b z w e = refl
 off_second true true true z w e = absurd (cc)
 
-no_start : (text : List ℕ) (p b : ℕ) → byte text p ≡ b → (b == 45) ≡ false
+-- no `---` stands where a byte stands that is no hyphen
+pub no_start : (text : List ℕ) (p b : ℕ) → byte text p ≡ b → (b == 45) ≡ false
     → is_document_start text p ≡ false
 unfolding is_document_start
 no_start text p b h e = off_first (column_at text p == 0) (byte text p == 45) (byte text (p + 1) == 45) (byte text (p + 2) == 45) (is_blank_or_end text (p + 3)) (ap (λ (x : ℕ). x == 45) h ∙ e)
@@ -43,12 +45,14 @@ no_second : (text : List ℕ) (p : ℕ) → (byte text (p + 1) == 45) ≡ false
 unfolding is_document_start
 no_second text p e = off_second (column_at text p == 0) (byte text p == 45) (byte text (p + 1) == 45) (byte text (p + 2) == 45) (is_blank_or_end text (p + 3)) e
 
-no_end : (text : List ℕ) (p b : ℕ) → byte text p ≡ b → (b == 46) ≡ false
+-- no `...` stands where a byte stands that is no dot
+pub no_end : (text : List ℕ) (p b : ℕ) → byte text p ≡ b → (b == 46) ≡ false
     → is_document_end text p ≡ false
 unfolding is_document_end
 no_end text p b h e = off_first (column_at text p == 0) (byte text p == 46) (byte text (p + 1) == 46) (byte text (p + 2) == 46) (is_blank_or_end text (p + 3)) (ap (λ (x : ℕ). x == 46) h ∙ e)
 
-no_percent : (a b : Bool) → a ≡ false → (a && b) ≡ false
+-- a test whose first part has failed
+pub no_percent : (a b : Bool) → a ≡ false → (a && b) ≡ false
 no_percent false b e = refl
 no_percent true b e = absurd (cc)
 

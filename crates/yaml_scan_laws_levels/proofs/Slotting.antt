@@ -17,6 +17,7 @@ use Rattle.yaml_scan_laws_levels.specs.White.{IsGap}
 use Rattle.yaml_scan_laws_levels.specs.Slots.{StartsBy, Started, StartedGoesOn, LaterIsLone, BreakEndsLine, NearBefore, SlotsGoOn, NoneIsLone, LevelOpens, column_behind, WhiteColumns, LetterColumns}
 use Rattle.yaml_scan_laws_levels.proofs.Keying.{kept_in, cancelled_slot}
 use Rattle.yaml_scan_laws_levels.proofs.Whites.{has_first, has_rest, no_white}
+use Rattle.yaml_scan_history.proofs.GapsRead.{byte_cases}
 
 -- ---- candidates on earlier lines
 
@@ -79,10 +80,6 @@ letter_columns text p b e low high =
     let first : starts (byte text p) ≡ true = ap (λ (x : ℕ). starts x) e ∙ starts_low b high in
     (column_more text p ends first, line_more text p ends)
 
--- what a gap begins with
-gap_cases : (b : ℕ) → (b == 32 || (b == 10 || b == 13)) ≡ true → (b ≡ 32) ⊎ ((b ≡ 10) ⊎ (b ≡ 13))
-gap_cases b h = grind (arith, nat_tests)
-
 rest_gap : (text : List ℕ) (p b : ℕ) (bs : List ℕ) → IsGap text p (b ∷ bs) → IsGap text (p + 1) bs
 rest_gap text p b bs g =
     let (here, rest) = and_parts (b == 32 || (b == 10 || b == 13)) (are_gap bs) g.blank in
@@ -136,7 +133,7 @@ breaks_line : (text : List ℕ) (p : ℕ) (gap : List ℕ) → IsGap text p gap 
 breaks_line text p [] g e = absurd (cc)
 breaks_line text p (b ∷ bs) g e =
     let (same, white) = first_gap text p b bs g in
-    elim (gap_cases b white) [
+    elim (byte_cases b white) [
       | inl s ↦
           let more : has_break bs ≡ true = sym (ap (λ (x : ℕ). (x == 10 || x == 13) || has_break bs) s) ∙ e in
           later_line text p bs (breaks_line text (p + 1) bs (rest_gap text p b bs g) more)
@@ -172,7 +169,7 @@ white_column text p (b ∷ bs) c g start =
     let rest = rest_gap text p b bs g in
     let z : p + suc (length bs) ≡ p + 1 + length bs = omega arith in
     let far : column_at text (p + suc (length bs)) ≡ column_at text (p + 1 + length bs) = ap (λ (n : ℕ). column_at text n) z in
-    elim (gap_cases b white) [
+    elim (byte_cases b white) [
       | inl s ↦
           let here : column_at text p ≡ c = elim start [ inl e ↦ e | inr (cs, e) ↦ let f : b ≡ 10 = cc in absurd (omega (arith, f, s)) ] in
           let (one, line) = letter_columns text p 32 (same ∙ s) (omega arith) (omega arith) in

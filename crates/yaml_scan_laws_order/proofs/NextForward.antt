@@ -27,14 +27,16 @@ ReadsBehind text p (Read l) = Follows text p l
 ReadsBehind text p (Fails f) = Unit {0}
 ReadsBehind text p Ends = ⊥
 
-placed_index : (k : Kind) (m : yaml_mark_t) → (placed k m).index ≡ m.index
+-- a lexeme's mark keeps the place
+pub placed_index : (k : Kind) (m : yaml_mark_t) → (placed k m).index ≡ m.index
 placed_index k m =
     elim (cases_Bool (is_end k && nat_lt 0 m.column)) [
       | inl e ↦ rw e refl
       | inr e ↦ rw e refl
     ]
 
-placed_same : (k : Kind) (m : yaml_mark_t) → is_end k ≡ false → placed k m ≡ m
+-- but for the end's, a lexeme's mark is its place's
+pub placed_same : (k : Kind) (m : yaml_mark_t) → is_end k ≡ false → placed k m ≡ m
 placed_same k m e = rw e refl
 
 -- a lexeme that starts at a place, its end aside
@@ -52,7 +54,8 @@ ended_follows text p q l b f i e =
     let same = start_index text q l b in
     rw e (omega (arith, same), record { start = b.start ∙ ap (λ i. placed l.kind (mark_at text i)) (sym same); end = b.end; reached = b.reached; inside = omega (arith, same) })
 
-abbrev with_end : List ℕ → Lexeme → WordText → Lexeme
+-- a lexeme with what it carries and its end
+abbrev pub with_end : List ℕ → Lexeme → WordText → Lexeme
 with_end text l w = record l { end = mark_at text w.end; reached = mark_at text w.reached; broke = w.broke }
 
 word_follows : (text : List ℕ) (p q : ℕ) (l : Lexeme) (w : WordText) → IsBegun text q l → p ≤ q

@@ -15,7 +15,7 @@ some_of : (b : ℕ) → (b == 0) ≡ false → 0 < b
 some_of b h = grind (arith, nat_tests)
 
 -- there is a value
-abbrev IsThere : {A : Type 0} → Option A → Type 0
+abbrev pub IsThere : {A : Type 0} → Option A → Type 0
 IsThere (Some x) = Unit {0}
 IsThere None = ⊥
 
@@ -29,7 +29,8 @@ unfolding simple_escape
 simple_some zero h = absurd h
 simple_some (suc b) h = omega arith
 
-last_digit : (a b : Option ℕ)
+-- a number of two digits has the last one
+pub last_digit : (a b : Option ℕ)
     → IsThere (option_and_then (λ high. option_map (λ low. high * 16 + low) b) a) → IsThere b
 last_digit None b h = absurd h
 last_digit (Some a) None h = h

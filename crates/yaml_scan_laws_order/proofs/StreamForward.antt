@@ -257,7 +257,8 @@ fault_some (Read l) f e = let bad : None ≡ Some f = e in absurd cc
 fault_some (Fails p) f e = (p, refl)
 fault_some Ends f e = let bad : None ≡ Some f = e in absurd cc
 
-fault_next : (s : SpelledText) → (offline s).fault ≡ fault_in (next s.text (all s.text))
+-- the fault of a text's tokens is what its lexemes end in
+pub fault_next : (s : SpelledText) → (offline s).fault ≡ fault_in (next s.text (all s.text))
 unfolding remaining
 fault_next s = refl
 

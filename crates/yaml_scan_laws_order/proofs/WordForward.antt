@@ -67,7 +67,8 @@ indicator_fits flow alone b text p l =
     (pick text p (b == 39) kinds.SingleQuoted _ l
     (pick text p (b == 34) kinds.DoubleQuoted None l tt))))))))))))))
 
-plain_fits : (o : Option Kind) (starts : Bool) (text : List ℕ) (p : ℕ) → p < length text
+-- what fits does so also where a plain scalar may start
+pub plain_fits : (o : Option Kind) (starts : Bool) (text : List ℕ) (p : ℕ) → p < length text
     → FitsAny o text p → FitsAny (or_plain o starts) text p
 plain_fits (Some k) starts text p l f = f
 plain_fits None true text p l f = l

@@ -1,5 +1,5 @@
 -- Each lexeme of a text in UTF-8 starts and is left where the text may be cut, and carries UTF-8.
-use Rattle.std.proofs.Common.{◌≡◌, ℕ, zero, suc, ◌&&◌, nat_lt, List, [], ◌∷◌, Option, Some, None, Result, Ok, Err, refl, sym, subst, inl, inr, IsUtf8}
+use Rattle.std.proofs.Common.{◌≡◌, ℕ, zero, suc, nat_lt, List, [], ◌∷◌, Option, Some, None, Result, Ok, Err, sym, subst, inl, inr, IsUtf8}
 use Rattle.std.proofs.lemmas.Bool.{cases_Bool}
 use Rattle.yaml_scan_history.specs.scan_model.declared.record.yaml_mark_t.{yaml_mark_t}
 use Rattle.yaml_scan_history.specs.scan_model.Marks.{mark_at}
@@ -19,6 +19,7 @@ use Rattle.yaml_scan_laws_texts.specs.Utf8Texts.{HasTexts}
 use Rattle.yaml_scan_laws_texts.proofs.Whole.{IsWhole}
 use Rattle.yaml_scan_laws_texts.proofs.Utf8Words.{Fits, FitsAny, kind_fits, HasWord, word_utf8}
 use Rattle.yaml_scan_laws_texts.proofs.Gaps.{gap_at_whole}
+use Rattle.yaml_scan_laws_order.proofs.NextForward.{placed_index, with_end}
 
 -- A lexeme carries UTF-8, but for what escapes spell, and is left where the text may be cut.
 pub record Carries (s : SpelledText) (l : Lexeme) : Type 0 where
@@ -42,20 +43,10 @@ body_texts : (k : Kind) (s : SpelledText) (l : Lexeme)
 body_texts kinds.StreamStart s l h = tt
 body_texts k s l h = word_texts s.text (word_at k (nat_lt 0 l.depth) l.level s.text l.start.index) h
 
-placed_index : (k : Kind) (m : yaml_mark_t) → (placed k m).index ≡ m.index
-placed_index k m =
-    elim (cases_Bool (is_end k && nat_lt 0 m.column)) [
-      | inl e ↦ rw e refl
-      | inr e ↦ rw e refl
-    ]
-
 -- a lexeme that starts at a place, its end aside
 record IsBegun (q : ℕ) (l : Lexeme) : Type 0 where
   pub start : l.start.index ≡ q
   pub reached : l.reached.index ≡ q
-
-abbrev with_end : List ℕ → Lexeme → WordText → Lexeme
-with_end text l w = record l { end = mark_at text w.end; reached = mark_at text w.reached; broke = w.broke }
 
 -- a lexeme's end changes nothing of what it carries
 ended_texts : (k : Kind) (s : SpelledText) (l : Lexeme) (w : WordText) → HasTexts (body_by k s l)

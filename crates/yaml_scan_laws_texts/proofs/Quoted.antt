@@ -1,5 +1,5 @@
 -- The value of a quoted scalar is UTF-8, and so is what stands behind it.
-use Rattle.std.proofs.Common.{◌≡◌, ℕ, zero, suc, ◌+◌, ◌*◌, ◌<◌, ◌==◌, ◌&&◌, nat_lt, if◌then◌else◌, ◌||◌, Bool, true, false, List, [], ◌∷◌, ◌++◌, length, drop, Option, Some, None, option_and_then, option_map, Result, Ok, Err, refl, inl, inr, arith, IsUtf8, append-nil, append_assoc}
+use Rattle.std.proofs.Common.{◌≡◌, ℕ, zero, suc, ◌+◌, ◌<◌, ◌==◌, ◌&&◌, nat_lt, if◌then◌else◌, ◌||◌, Bool, true, false, List, [], ◌∷◌, ◌++◌, length, drop, Option, Some, None, Result, Ok, Err, refl, inl, inr, arith, IsUtf8, append-nil, append_assoc}
 use Rattle.std.specs.Char.{encode_utf8, IsScalar}
 use Rattle.std.proofs.lemmas.Bool.{cases_Bool, ltb-true, eqb-true, and_parts}
 use Rattle.std.proofs.lemmas.Bool.Decides.{nat_tests}
@@ -13,6 +13,7 @@ use Rattle.yaml_scan_history.specs.scan_scalars.Pieces.{Piece, Kept, Blank, Brea
 use Rattle.yaml_scan_history.specs.scan_scalars.Quoted.{QuotedSpot, Closing, Pieces, Bad, hex_digit, hex_value, is_scalar, coded, hex_len, simple_escape, escaped, escape_at, quote_at, standing_at, with_front, followed, pieces, valued, quoted_at}
 use Rattle.yaml_scan_laws_texts.proofs.Whole.{IsWhole, whole_ascii, whole_after, whole_before, whole_behind, blank_small, ascii_utf8, cut, break_utf8, nel_char, nbsp_char, ls_char, ps_char}
 use Rattle.yaml_scan_laws_texts.proofs.Values.{Goes, value_utf8}
+use Rattle.yaml_scan_laws_order.proofs.QuotedForward.{last_digit}
 
 some_of : (b : ℕ) → (b == 0) ≡ false → 0 < b
 some_of b h = grind (arith, nat_tests)
@@ -86,12 +87,6 @@ digit_small b h =
       | inr e ↦ absurd (rw (no_digit b e) at h)
     ]
 
-last_digit : (a b : Option ℕ)
-    → IsThere (option_and_then (λ high. option_map (λ low. high * 16 + low) b) a) → IsThere b
-last_digit None b h = absurd h
-last_digit (Some a) None h = h
-last_digit (Some a) (Some b) h = tt
-
 hex_whole : (n : ℕ) (text : List ℕ) (p : ℕ) → IsUtf8 text → 0 < n → IsThere (hex_value text p n)
     → IsWhole text (p + n)
 unfolding hex_value
@@ -119,7 +114,7 @@ one_char : (test : Bool) (b c : ℕ) (bytes : List ℕ) (o : Option (List ℕ)) 
 one_char true b c bytes o s l e h = (rw e (IsUtf8-encode c l), s refl)
 one_char false b c bytes o s l e h = h
 
-is_small : (b c : ℕ) → c < 128 → (b == c) ≡ true → b < 128
+pub is_small : (b c : ℕ) → c < 128 → (b == c) ≡ true → b < 128
 is_small b c l h = grind (arith, nat_tests)
 
 tab_small : (b : ℕ) → (b == 0x74 || b == 9) ≡ true → b < 128

@@ -17,6 +17,7 @@ use Rattle.yaml_scan_history.specs.Next.{Next, Read, Fails, Ends, begun, finishe
 use Rattle.yaml_scan_history.specs.Stepwise.{no_colon, tested, unless_wrong, unless_lost, of_kind, unless_missed}
 use Rattle.yaml_scan_history.proofs.StepwiseLemmas.{stepwise}
 use Rattle.yaml_scan_laws_texts.proofs.NamesWords.{Marked}
+use Rattle.yaml_scan_laws_order.proofs.NextForward.{placed_index}
 
 -- Kinds.
 
@@ -77,13 +78,6 @@ abbrev StartsAny : List ℕ → Next → Type 0
 StartsAny text (Read l) = Starts text l
 StartsAny text (Fails f) = Unit {0}
 StartsAny text Ends = Unit {0}
-
-placed_index : (k : Kind) (m : yaml_mark_t) → (placed k m).index ≡ m.index
-placed_index k m =
-    elim (cases_Bool (is_end k && nat_lt 0 m.column)) [
-      | inl e ↦ rw e refl
-      | inr e ↦ rw e refl
-    ]
 
 finished_starts : (text : List ℕ) (l : Lexeme) (w : WordText) → Starts text l
     → Starts text (finished text l w)

@@ -1,9 +1,8 @@
 -- Texts of key-free words.
-use Rattle.std.proofs.Common.{◌≡◌, ◌≢◌, ℕ, suc, ◌&&◌, not, nat_lt, if◌then◌else◌, Bool, true, false, List, [], ◌∷◌, ◌++◌, length, map, reverse, Option, Some, None, Result, Ok, refl, sym, ap, subst, ◌∙◌, inl, inr}
-use Rattle.std.proofs.lemmas.Bool.{cases_Bool, and_parts, not-true}
+use Rattle.std.proofs.Common.{◌≡◌, ◌≢◌, ℕ, suc, ◌&&◌, not, nat_lt, if◌then◌else◌, Bool, true, false, List, [], ◌∷◌, ◌++◌, length, map, reverse, Option, Some, None, Result, Ok, refl, sym, ap, subst, ◌∙◌}
+use Rattle.std.proofs.lemmas.Bool.{and_parts, not-true}
 use Rattle.std.proofs.lemmas.List.{reverse-append}
 use Rattle.std.specs.List.{list_all}
-use Rattle.yaml_scan_laws_order.specs.scan_model.declared.record.yaml_mark_t.{yaml_mark_t}
 use Rattle.yaml_scan_laws_order.specs.scan_model.Tokens.{Token, TokenBody}
 use Rattle.yaml_scan_laws_order.specs.scan_model.Marks.{mark_at}
 use Rattle.yaml_scan_laws_order.specs.scan_model.Wrong.{Wrong}
@@ -23,6 +22,7 @@ use Rattle.yaml_scan_laws_texts.specs.KeysTexts.{Word, lexemes, StandsBehind, Wo
 use Rattle.yaml_scan_laws_texts.proofs.MadeLemmas.{AllMade, history_made}
 use Rattle.yaml_scan_laws_texts.proofs.FreeLemmas.{level_free, level_rest}
 use Rattle.yaml_scan_laws_texts.proofs.StepLemmas.{remaining_bare, step_reads}
+use Rattle.yaml_scan_laws_order.proofs.NextForward.{placed_index}
 
 -- the stream's start changes nothing
 
@@ -105,13 +105,6 @@ no_read x l e f = cc
 not_start : (o : Option Kind) (text : List ℕ) (p : ℕ) (k : Kind) → FitsAny o text p → o ≡ Some k
     → FitsAny (Some k) text p
 not_start o text p k f e = let P : Option Kind → Type 0 = λ x. FitsAny x text p in subst P e f
-
-placed_index : (k : Kind) (m : yaml_mark_t) → (placed k m).index ≡ m.index
-placed_index k m =
-    elim (cases_Bool (is_end k && nat_lt 0 m.column)) [
-      | inl e ↦ rw e refl
-      | inr e ↦ rw e refl
-    ]
 
 body_is : (k : Kind) (s : SpelledText) (l : Lexeme) (p : ℕ) (w : WordText)
     → FitsAny (Some k) s.text p → l.level ≡ 0 → l.start.index ≡ p

@@ -22,12 +22,13 @@ use Rattle.yaml_scan_history.specs.scan_scalars.Plain.{PlainText, plain_at, star
 use Rattle.yaml_scan_history.specs.scan_block.Block.{BlockText, block_at, style_at}
 use Rattle.yaml_scan_history.specs.declared.kind.Kind.{Kind}
 use Rattle.yaml_scan_history.specs.declared.kind.Kind.TheVariants as kinds
-use Rattle.yaml_scan_history.specs.Words.{indicator_of, or_plain, kind_at, WordText, carrying, valued, tagged, body_said, directed, blocked, plainly, word_at}
+use Rattle.yaml_scan_history.specs.Words.{indicator_of, kind_at, WordText, carrying, valued, tagged, body_said, directed, blocked, plainly, word_at}
 use Rattle.yaml_scan_laws_texts.specs.Utf8Texts.{HasTexts}
 use Rattle.yaml_scan_laws_texts.proofs.Whole.{IsWhole, whole_ascii, whole_after, whole_before, whole_behind, blank_small, ascii_utf8, slice_utf8}
-use Rattle.yaml_scan_laws_texts.proofs.Quoted.{HasQuoted, quoted_utf8}
+use Rattle.yaml_scan_laws_texts.proofs.Quoted.{HasQuoted, quoted_utf8, is_small}
 use Rattle.yaml_scan_laws_texts.proofs.Plain.{HasPlain, plain_utf8}
 use Rattle.yaml_scan_laws_texts.proofs.Block.{HasBlock, block_utf8}
+use Rattle.yaml_scan_laws_order.proofs.WordForward.{plain_fits}
 
 -- a blank, a break or the end
 pub end_whole : (text : List ℕ) (p : ℕ) → IsUtf8 text → is_blank_or_end text p ≡ true
@@ -290,9 +291,6 @@ pick : (text : List ℕ) (p : ℕ) (test : Bool) (k : Kind) (rest : Option Kind)
 pick text p true k rest f g = f refl
 pick text p false k rest f g = g
 
-small : (b c : ℕ) → c < 128 → (b == c) ≡ true → b < 128
-small b c l h = grind (arith, nat_tests)
-
 small_with : (b c : ℕ) (other : Bool) → c < 128 → (b == c && other) ≡ true → b < 128
 small_with b c other l h = grind (arith, nat_tests)
 
@@ -301,27 +299,21 @@ indicator_fits : (flow alone : Bool) (text : List ℕ) (p : ℕ)
 unfolding indicator_of
 indicator_fits flow alone text p =
     let b = byte text p in
-    pick text p (b == 91) kinds.FlowSequenceStart _ (small b 91 (omega arith))
-    (pick text p (b == 123) kinds.FlowMappingStart _ (small b 123 (omega arith))
-    (pick text p (b == 93) kinds.FlowSequenceEnd _ (small b 93 (omega arith))
-    (pick text p (b == 125) kinds.FlowMappingEnd _ (small b 125 (omega arith))
-    (pick text p (b == 44) kinds.FlowEntry _ (small b 44 (omega arith))
+    pick text p (b == 91) kinds.FlowSequenceStart _ (is_small b 91 (omega arith))
+    (pick text p (b == 123) kinds.FlowMappingStart _ (is_small b 123 (omega arith))
+    (pick text p (b == 93) kinds.FlowSequenceEnd _ (is_small b 93 (omega arith))
+    (pick text p (b == 125) kinds.FlowMappingEnd _ (is_small b 125 (omega arith))
+    (pick text p (b == 44) kinds.FlowEntry _ (is_small b 44 (omega arith))
     (pick text p (b == 45 && alone) kinds.BlockEntry _ (small_with b 45 alone (omega arith))
     (pick text p (b == 63 && (flow || alone)) kinds.KeyMark _ (small_with b 63 (flow || alone) (omega arith))
     (pick text p (b == 58 && (flow || alone)) kinds.ValueMark _ (small_with b 58 (flow || alone) (omega arith))
-    (pick text p (b == 42) kinds.Alias _ (small b 42 (omega arith))
-    (pick text p (b == 38) kinds.Anchor _ (small b 38 (omega arith))
-    (pick text p (b == 33) kinds.Tag _ (small b 33 (omega arith))
+    (pick text p (b == 42) kinds.Alias _ (is_small b 42 (omega arith))
+    (pick text p (b == 38) kinds.Anchor _ (is_small b 38 (omega arith))
+    (pick text p (b == 33) kinds.Tag _ (is_small b 33 (omega arith))
     (pick text p (b == 124 && not flow) kinds.Literal _ (small_with b 124 (not flow) (omega arith))
     (pick text p (b == 62 && not flow) kinds.Folded _ (small_with b 62 (not flow) (omega arith))
-    (pick text p (b == 39) kinds.SingleQuoted _ (small b 39 (omega arith))
-    (pick text p (b == 34) kinds.DoubleQuoted None (small b 34 (omega arith)) tt))))))))))))))
-
-plain_fits : (o : Option Kind) (starts : Bool) (text : List ℕ) (p : ℕ) → p < length text
-    → FitsAny o text p → FitsAny (or_plain o starts) text p
-plain_fits (Some k) starts text p l f = f
-plain_fits None true text p l f = l
-plain_fits None false text p l f = tt
+    (pick text p (b == 39) kinds.SingleQuoted _ (is_small b 39 (omega arith))
+    (pick text p (b == 34) kinds.DoubleQuoted None (is_small b 34 (omega arith)) tt))))))))))))))
 
 third_small : (a b c d x : ℕ) (last : Bool)
     → ((a == 0 && (b == x && (c == x && d == x))) && last) ≡ true → x < 128 → d < 128

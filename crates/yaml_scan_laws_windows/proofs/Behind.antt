@@ -23,7 +23,7 @@ use Rattle.yaml_scan_history.specs.Next.{Next, Read, Fails, Ends, first_lexeme, 
 use Rattle.yaml_scan_history.specs.Remaining.{SpelledText, token_in, spell, all, fault_in, Remaining, handed, remaining}
 use Rattle.yaml_scan_history.proofs.PlacesLemmas.{gap_place}
 use Rattle.yaml_scan_laws_order.proofs.HistoryForward.{Stands, history_stands, first_is, not_ended, all_ends, last_is_all}
-use Rattle.yaml_scan_laws_order.proofs.StreamForward.{stream_starts, stream_ends}
+use Rattle.yaml_scan_laws_order.proofs.StreamForward.{stream_starts, stream_ends, fault_next}
 use Rattle.yaml_scan_laws_windows.specs.Cuts.{IsCut, is_white, IsEndLine, IsEndCut}
 use Rattle.yaml_scan_laws_windows.specs.Moved.{moved_mark, moved_token, moved_fault, moved_next}
 use Rattle.yaml_scan_laws_windows.specs.Laws.{scan_of, EndedWindowsAreScanned}
@@ -36,7 +36,7 @@ use Rattle.yaml_scan_laws_windows.proofs.Marking.{end_mark, mark_lexeme}
 use Rattle.yaml_scan_laws_windows.proofs.Turning.{finishes, end_byte, end_place, mark_there}
 use Rattle.yaml_scan_laws_windows.proofs.Depths.{read_deep}
 use Rattle.yaml_scan_laws_windows.proofs.Rests.{whole}
-use Rattle.yaml_scan_laws_windows.proofs.Joining.{told, offline_told, offline_fault, parted}
+use Rattle.yaml_scan_laws_windows.proofs.Joining.{told, offline_told, parted}
 use Rattle.yaml_scan_laws_windows.proofs.Windows.{windows_are_scanned, coming_goes, ends_ended, fault_none, made, all_is, uncons, first_told}
 use Rattle.yaml_scan_laws_windows.proofs.Failing.{mark_reached}
 use Rattle.yaml_scan_laws_windows.proofs.Refused.{refused_fronts_are_scanned}
@@ -111,7 +111,7 @@ line_reaches : (x : yaml_encoding_t) (line : List ℕ) → IsEndLine line
 unfolding candidate
 line_reaches x line e none =
     let s : SpelledText = record { encoding = x; text = line } in
-    let over = fault_none (next line (all line)) (sym (offline_fault s) ∙ none) (all_ends line) in
+    let over = fault_none (next line (all line)) (sym (fault_next s) ∙ none) (all_ends line) in
     let (y, reads) = goes_on line over 2 _ (first_lexeme ∷ []) (line_history line e.mark) end_mark.end in
     (line_over [] line e (mark_lexeme kinds.DocumentEnd line 0) (first_lexeme ∷ []) refl y end_mark.end reads).1
 
@@ -213,7 +213,7 @@ lined x line b e plain there first behind come =
       are = offline_told v ∙ ap (λ z. told v z (all U)) w.comes ∙ ap (λ h. told v (moved_next d n y) h) w.others ∙ p.others
           ∙ ap (λ z. z ++ map (moved_token d n) p.behind) (first_told v kinds.DocumentEnd tokens.document_end end_mark U)
           ∙ ap (λ z. stream_token x U ∷ dots_token x U ∷ map (moved_token d n) z) (sym rest);
-      fault = offline_fault v ∙ ap fault_in w.comes ∙ fault_moved d n y ∙ ap (option_map (moved_fault d n)) (sym (offline_fault r));
+      fault = fault_next v ∙ ap fault_in w.comes ∙ fault_moved d n y ∙ ap (option_map (moved_fault d n)) (sym (fault_next r));
     }
 
 -- ---- moved twice
@@ -298,8 +298,8 @@ at_line x a line cut e none outer =
     let d = length a in
     let n = line_at a d in
     let clear : (scan_of x a).fault ≡ None = unfaulted (scan_of x a).fault refl in
-    let ends = fault_none (next a (all a)) (sym (offline_fault s) ∙ clear) (all_ends a) in
-    let whole_ends = fault_none (next t (all t)) (sym (offline_fault (record { encoding = x; text = t })) ∙ none) (all_ends t) in
+    let ends = fault_none (next a (all a)) (sym (fault_next s) ∙ clear) (all_ends a) in
+    let whole_ends = fault_none (next t (all t)) (sym (fault_next (record { encoding = x; text = t })) ∙ none) (all_ends t) in
     let inner = line_outer a line cut e ends whole_ends outer in
     let (front, end, told_front, _, _) = stream_ends s clear in
     let (rest, starts) = stream_starts (record { encoding = x; text = line }) in

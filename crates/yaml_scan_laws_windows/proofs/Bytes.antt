@@ -192,7 +192,7 @@ either_within t u d m p a l h =
           thrice_within t u d m p 46 a l (onward_dot 46 refl) other
     ]
 
-or_alike : (a b x y : Bool) → a ≡ b → x ≡ y → (a || x) ≡ (b || y)
+pub or_alike : (a b x y : Bool) → a ≡ b → x ≡ y → (a || x) ≡ (b || y)
 or_alike a b x y h k = rw (h, k) refl
 
 pub indicator_alike : (t u : List ℕ) (d m p : ℕ) → Alike t u d m → p < m

@@ -13,7 +13,7 @@ use Rattle.yaml_scan_history.specs.declared.lexeme.Opens.{Opens}
 use Rattle.yaml_scan_history.specs.declared.lexeme.Opens.TheVariants as opening
 use Rattle.yaml_scan_history.specs.History.{entries, first_open}
 use Rattle.yaml_scan_history.specs.Next.{Next, Read, Fails, Ends, next}
-use Rattle.yaml_scan_history.specs.Remaining.{SpelledText, body_in, token_in, before, start_tokens, end_tokens, own_tokens, spell, all, handed_out, handed, front_ends, kept_of, fault_in, remaining, offline}
+use Rattle.yaml_scan_history.specs.Remaining.{SpelledText, body_in, token_in, before, start_tokens, end_tokens, own_tokens, spell, all, handed_out, handed, front_ends, kept_of, remaining, offline}
 use Rattle.yaml_scan_history.proofs.HistoryLemmas.{length-entries}
 use Rattle.yaml_scan_laws_windows.specs.Moved.{moved_token, moved_lexeme, moved_next}
 use Rattle.yaml_scan_laws_windows.proofs.Histories.{Bases, moved_lexemes}
@@ -118,10 +118,6 @@ pub offline_told : (s : SpelledText)
     → (offline s).tokens ≡ told s (next s.text (all s.text)) (all s.text)
 unfolding remaining handed
 offline_told s = refl
-
-pub offline_fault : (s : SpelledText) → (offline s).fault ≡ fault_in (next s.text (all s.text))
-unfolding remaining
-offline_fault s = refl
 
 -- what is told of the lexemes on a base
 pub record Parted (s v : SpelledText) (d n : ℕ) (y : Next) (h b c : List Lexeme) : Type 0 where

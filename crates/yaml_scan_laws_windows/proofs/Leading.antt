@@ -29,9 +29,10 @@ use Rattle.yaml_scan_laws_windows.proofs.Fronts.{lexeme_zero, next_open, history
 use Rattle.yaml_scan_laws_windows.proofs.Histories.{Bases}
 use Rattle.yaml_scan_laws_windows.proofs.Depths.{read_deep}
 use Rattle.yaml_scan_laws_windows.proofs.Rests.{word_of, AllCarry}
-use Rattle.yaml_scan_laws_windows.proofs.Joining.{told, offline_told, offline_fault, parted}
+use Rattle.yaml_scan_laws_windows.proofs.Joining.{told, offline_told, parted}
 use Rattle.yaml_scan_laws_windows.proofs.Windows.{coming_goes, all_is, uncons}
 use Rattle.yaml_scan_laws_windows.proofs.Ending.{start_history}
+use Rattle.yaml_scan_laws_order.proofs.StreamForward.{fault_next}
 
 -- ---- the token of a directive
 
@@ -166,7 +167,7 @@ lead_fails x b f e first behind come =
     let told_all : (scan_of x b).tokens ≡ token_in s first_lexeme ∷ [] =
     offline_told s ∙ ap (λ y. told s y (all b)) fails ∙ ap (told s (Fails f)) is_all ∙ failed_told s f in
     let rest : behind ≡ [] = uncons first (token_in s first_lexeme) behind [] (sym come ∙ told_all) in
-    let fault = offline_fault s ∙ ap fault_in fails in
+    let fault = fault_next s ∙ ap fault_in fails in
     subst (λ z. LeadsSo z (scan_of x b).fault) (sym rest) (λ none. some_none (sym fault ∙ none))
   where
     some_none : {A : Type 0} {y : A} → Some y ≡ None → ⊥

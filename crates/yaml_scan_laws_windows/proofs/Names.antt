@@ -14,7 +14,7 @@ use Rattle.yaml_scan_history.specs.scan_words.Uris.{is_punctuation, is_wide_punc
 use Rattle.yaml_scan_history.specs.scan_words.Tags.{TagText, tag_end, bracketed, verbatim_at, name_end, with_handle, bare, bare_at, parts_at, may_end_tag, ended, tag_at}
 use Rattle.yaml_scan_history.proofs.PlacesLemmas.{run_place}
 use Rattle.yaml_scan_laws_windows.specs.Alike.{Alike, is_onward}
-use Rattle.yaml_scan_laws_windows.proofs.Bytes.{end_alike, next_byte, off_cases, onward_some}
+use Rattle.yaml_scan_laws_windows.proofs.Bytes.{end_alike, next_byte, off_cases, onward_some, or_alike}
 use Rattle.yaml_scan_laws_windows.proofs.Running.{run_alike, range_alike}
 use Rattle.yaml_scan_laws_windows.proofs.Moving.{moved_by, at_step}
 use Rattle.yaml_scan_laws_windows.proofs.Plains.{left_step, byte_at}
@@ -38,13 +38,10 @@ PairAlike d m r s = Alike_in (moved_pair d) second d m r s
 
 -- ---- anchors
 
-pub or_same : (a b x y : Bool) → a ≡ b → x ≡ y → (a || x) ≡ (b || y)
-or_same a b x y h k = rw (h, k) refl
-
 ends_name : (t u : List ℕ) (d m p : ℕ) → Alike t u d m → p < m
     → may_end_name u (d + p) ≡ may_end_name t p
 unfolding may_end_name
-ends_name t u d m p a l = or_same _ _ _ _ (end_alike t u d m p a l) (ap is_name_end (a.bytes p l))
+ends_name t u d m p a l = or_alike _ _ _ _ (end_alike t u d m p a l) (ap is_name_end (a.bytes p l))
 
 pub moved_equal : (d p q : ℕ) → (d + p == d + q) ≡ (p == q)
 moved_equal d p q = grind (arith, nat_tests)
@@ -392,7 +389,7 @@ tag_ends t u d m flow (Err w) s a h = let same = h.same in rw same record { same
 tag_ends t u d m flow (Ok x) s a h =
     let same = h.same in
     let l = h.ends in
-    let test : may_end_tag flow u (d + x.end) ≡ may_end_tag flow t x.end = or_same _ _ _ _ (end_alike t u d m x.end a l) (ap (λ b. flow && b == 44) (a.bytes x.end l)) in
+    let test : may_end_tag flow u (d + x.end) ≡ may_end_tag flow t x.end = or_alike _ _ _ _ (end_alike t u d m x.end a l) (ap (λ b. flow && b == 44) (a.bytes x.end l)) in
     elim (cases_Bool (may_end_tag flow t x.end)) [
       | inl e ↦ rw (same, e, test ∙ e) record { same = refl; ends = l }
       | inr e ↦ rw (same, e, test ∙ e) record { same = refl; ends = tt }

@@ -39,11 +39,12 @@ use Rattle.yaml_scan_laws_windows.proofs.Marking.{start_mark, IsMark, IsFree, an
 use Rattle.yaml_scan_laws_windows.proofs.Turning.{starts, MarkStands, free_of, colon_none, end_begun, end_mark_placed, end_byte, end_is, end_place, mark_there, finishes}
 use Rattle.yaml_scan_laws_windows.proofs.Depths.{read_deep}
 use Rattle.yaml_scan_laws_windows.proofs.Rests.{AllCarry}
-use Rattle.yaml_scan_laws_windows.proofs.Joining.{offline_told, offline_fault, told}
+use Rattle.yaml_scan_laws_windows.proofs.Joining.{offline_told, told}
 use Rattle.yaml_scan_laws_windows.proofs.Windows.{ends_ended, fault_none, all_is, front_carry, front_told, coming_goes}
 use Rattle.yaml_scan_laws_windows.proofs.Ending.{white_kind, line_long}
 use Rattle.yaml_scan_laws_windows.proofs.Behind.{line_over, last_two, one_more}
 use Rattle.yaml_scan_laws_windows.proofs.Failing.{after_none, some_none, mark_reached, mark_depth, mark_saved, end_late, colon_index, fails_same, fails_not}
+use Rattle.yaml_scan_laws_order.proofs.StreamForward.{fault_next}
 
 -- ---- what may be a key stands in front of the front's last line
 
@@ -431,7 +432,7 @@ begun_by : (x : yaml_encoding_t) (a b : List ℕ) → IsCut a b → (K : Kind) (
     → Begun x a b K body front last
 begun_by x a b cut K body isk stands_k told_k none front last are =
     let s : SpelledText = record { encoding = x; text = a } in
-    let over = fault_none (next a (all a)) (sym (offline_fault s) ∙ none) (all_ends a) in
+    let over = fault_none (next a (all a)) (sym (fault_next s) ∙ none) (all_ends a) in
     let n = suc (suc (length a)) in
     let end : ended (history a n) ≡ true = ap ended (sym (all_is a)) ∙ ends_ended a (all a) over in
     let (j, E, at, is) = end_step a n end in
@@ -561,7 +562,7 @@ line_tail x a line e front last r = by (next (a ++ line) (r.newest ∷ r.older))
         ∙ ap (λ z. z ++ (spell s (entry_of y H) ++ [])) r.base
         ∙ ap (λ z. (front ++ r.mark ∷ []) ++ z) (append-nil (spell s (entry_of y H)) ∙ outer_spelled s y H kinds.StreamEnd ended refl refl ∙ ap (λ z. z ++ token_in s y ∷ []) closed)
         ∙ append_assoc front (r.mark ∷ []) (token_in s y ∷ []) in
-        (token_in s y ∷ [], list, inl (token_in s y, refl, ap (λ z. body_by z s y) ended, offline_fault s ∙ ap fault_in over))
+        (token_in s y ∷ [], list, inl (token_in s y, refl, ap (λ z. body_by z s y) ended, fault_next s ∙ ap fault_in over))
     by (Fails g) k =
         let t = a ++ line in
         let s : SpelledText = record { encoding = x; text = t } in
@@ -572,6 +573,6 @@ line_tail x a line e front last r = by (next (a ++ line) (r.newest ∷ r.older))
         let fails : next t (all t) ≡ Fails g = ap (next t) is_all ∙ k in
         let list : (scan_of x t).tokens ≡ front ++ r.mark ∷ [] =
         offline_told s ∙ ap (λ z. told s z (all t)) fails ∙ ap (told s (Fails g)) is_all ∙ all_taken s g H r.shut ∙ r.base in
-        ([], list, inr (scanner_fault g, refl, offline_fault s ∙ ap fault_in fails, line_fails a line e r.newest r.older far goes g k))
+        ([], list, inr (scanner_fault g, refl, fault_next s ∙ ap fault_in fails, line_fails a line e r.newest r.older far goes g k))
     by Ends k =
         absurd (coming_goes (kind_behind (a ++ line) (r.newest ∷ r.older)) (a ++ line) (r.newest ∷ r.older) (sym (next_open (a ++ line) r.newest r.older (ap is_end r.kind)) ∙ k))

@@ -9,7 +9,7 @@ use Rattle.yaml_scan_history.specs.scan_scalars.Pieces.{Piece, Kept, Blank, Brea
 use Rattle.yaml_scan_history.specs.scan_scalars.Plain.{is_bracket, is_indicator_byte, starts_plain, after_white, leads, PlainSpot, Ends, Takes, Faulty, ends_at, spot_at, Words, is_nothing, with_piece, words_from, words, PlainText, plain_with, plain_text, plain_at}
 use Rattle.yaml_scan_history.proofs.MarksLemmas.{within}
 use Rattle.yaml_scan_laws_windows.specs.Alike.{Alike, is_onward}
-use Rattle.yaml_scan_laws_windows.proofs.Bytes.{IsQuiet, quiet_edge, quiet_break, width_alike, end_alike, next_byte, next_end, column_alike, indicator_alike, and_alike}
+use Rattle.yaml_scan_laws_windows.proofs.Bytes.{IsQuiet, quiet_edge, quiet_break, width_alike, end_alike, next_byte, next_end, column_alike, indicator_alike, and_alike, or_alike}
 use Rattle.yaml_scan_laws_windows.proofs.Moving.{moved_wrong, moved_by, At, at_step, at_break}
 
 three_onward : (b c e : ℕ) → break_of b c e ≡ 3 → (is_onward b ≡ true) × (is_onward c ≡ true)
@@ -95,9 +95,6 @@ mark_onward : (b : ℕ) → (b == 63 || b == 58) ≡ true → is_onward b ≡ tr
 unfolding is_onward
 mark_onward b h = grind (arith, nat_tests)
 
-or_same : (a b x y : Bool) → a ≡ b → x ≡ y → (a || x) ≡ (b || y)
-or_same a b x y h k = rw (h, k) refl
-
 if_same : (c : Bool) (a b x y : Bool) → a ≡ b → x ≡ y
     → (if c then a else x) ≡ (if c then b else y)
 if_same true a b x y h k = h
@@ -117,9 +114,9 @@ ends_alike : (t u : List ℕ) (d m : ℕ) (flow : Bool) (level x : ℕ) → Alik
 unfolding ends_at
 ends_alike t u d m flow level x a k l =
     let same = a.bytes (x + 1) l in
-    or_same _ _ _ _ (or_same _ _ _ _ (ap (λ b. b == 0) same) (indicator_alike t u d m (x + 1) a l))
-    (or_same _ _ _ _ (and_alike _ _ _ _ (ap (λ b. b == 35) same) (λ h. white_alike t u d m x a (omega (arith, l))))
-    (or_same _ _ _ _ (and_alike _ _ _ _ (ap (λ b. b == 58) same) (λ h. next_end t u d m (x + 1) a l (colon_onward _ h)))
+    or_alike _ _ _ _ (or_alike _ _ _ _ (ap (λ b. b == 0) same) (indicator_alike t u d m (x + 1) a l))
+    (or_alike _ _ _ _ (and_alike _ _ _ _ (ap (λ b. b == 35) same) (λ h. white_alike t u d m x a (omega (arith, l))))
+    (or_alike _ _ _ _ (and_alike _ _ _ _ (ap (λ b. b == 58) same) (λ h. next_end t u d m (x + 1) a l (colon_onward _ h)))
     (if_same flow _ _ _ _ (ap is_bracket same) (left_alike t u d m x level a k l))))
 
 -- ---- a spot
@@ -403,6 +400,6 @@ starts_alike t u d m p flow a l =
     let same = a.bytes p l in
     let next = λ (o : is_onward (byte t p) ≡ true). next_byte t u d m p a l o in
     and_alike _ _ _ _ (ap not (end_alike t u d m p a l))
-    (λ h. or_same _ _ _ _ (or_same _ _ _ _ (ap (λ b. not (is_indicator_byte b)) same)
+    (λ h. or_alike _ _ _ _ (or_alike _ _ _ _ (ap (λ b. not (is_indicator_byte b)) same)
     (and_alike _ _ _ _ (ap (λ b. b == 45) same) (λ i. ap (λ b. not (is_blank b)) (next (dash_onward _ i)).1)))
     (and_alike _ _ _ _ refl (λ i. and_alike _ _ _ _ (ap (λ b. b == 63 || b == 58) same) (λ j. ap not (next_end t u d m p a l (mark_onward _ j))))))

@@ -18,9 +18,10 @@ use Rattle.yaml_scan_laws_windows.specs.Moved.{moved_token}
 use Rattle.yaml_scan_laws_windows.specs.Laws.{scan_of, RefusedFrontsAreScanned}
 use Rattle.yaml_scan_laws_windows.proofs.Fronts.{next_open, next_over, history_more, front_next}
 use Rattle.yaml_scan_laws_windows.proofs.Rests.{AllCarry}
-use Rattle.yaml_scan_laws_windows.proofs.Joining.{told, offline_told, offline_fault, parted}
+use Rattle.yaml_scan_laws_windows.proofs.Joining.{told, offline_told, parted}
 use Rattle.yaml_scan_laws_windows.proofs.Windows.{coming_goes, made, all_is, front_carried, lexemes_zero, tokens_zero, no_bases, no_entries}
 use Rattle.yaml_scan_laws_windows.proofs.Failing.{some_none, fails_not, reads_not, fails_same, fails_there, fails_back}
+use Rattle.yaml_scan_laws_order.proofs.StreamForward.{fault_next}
 
 -- ---- all of the front's lexemes are all of the whole's
 
@@ -159,7 +160,7 @@ pub refused_fronts_are_scanned : RefusedFrontsAreScanned
 refused_fronts_are_scanned x a b cut f none =
     let s : SpelledText = record { encoding = x; text = a } in
     let v : SpelledText = record { encoding = x; text = a ++ b } in
-    let (p, fails, is) = fault_some (next a (all a)) f (sym (offline_fault s) ∙ none) in
+    let (p, fails, is) = fault_some (next a (all a)) f (sym (fault_next s) ∙ none) in
     let r = front_fails x a b cut p fails in
     let parts = parted x a (a ++ b) 0 0 0 (all a) [] [] no_bases r.carry (Fails p) (λ l e. fails_not e) in
     let h = all a in
@@ -170,7 +171,7 @@ refused_fronts_are_scanned x a b cut f none =
     ∙ ap (told v (Fails p)) (sym (append-nil h) ∙ ap (λ z. z ++ []) (sym (lexemes_zero h))) ∙ parts.others
     ∙ ap (λ es. flat_map (spell v) es ++ map (moved_token 0 0) parts.behind) no_entries ∙ tokens_zero parts.behind in
     let fault : (scan_of x (a ++ b)).fault ≡ Some (scanner_fault r.fault) =
-    offline_fault v ∙ ap (λ z. fault_in (next (a ++ b) z)) r.all_same ∙ ap fault_in r.fails in (
+    fault_next v ∙ ap (λ z. fault_in (next (a ++ b) z)) r.all_same ∙ ap fault_in r.fails in (
       scanner_fault r.fault,
       made (scan_of x (a ++ b)) (scan_of x a).tokens (Some (scanner_fault r.fault)) (others ∙ sym mine) fault,
       λ low. ap scanner_fault (r.same (elim low [

@@ -33,7 +33,8 @@ use Rattle.yaml_scan_laws_windows.proofs.Turning.{starts, MarkStands, mark_stand
 use Rattle.yaml_scan_laws_windows.proofs.Depths.{read_deep}
 use Rattle.yaml_scan_laws_windows.proofs.Rests.{body_same, carries, AllCarry, rest_base, whole_base, rest_begins, rest_bases, rest_ground, rest_marks, Whole, whole}
 use Rattle.yaml_scan_laws_windows.proofs.Entering.{moved_entry, entered}
-use Rattle.yaml_scan_laws_windows.proofs.Joining.{spells_moved, told, offline_told, offline_fault, parted}
+use Rattle.yaml_scan_laws_windows.proofs.Joining.{spells_moved, told, offline_told, parted}
+use Rattle.yaml_scan_laws_order.proofs.StreamForward.{fault_next}
 
 -- ---- without a fault the stream's end is read
 
@@ -334,12 +335,12 @@ tokens_joined x a b cut m over outer front last are first behind come =
     ∙ ap (λ z. (old ++ closed) ++ z ∷ map (moved_token d n) p.behind) (mark_token x a b cut m.kind m.body m.is)
     ∙ ap (λ z. z ++ map (moved_token d n) (token_in r L0 ∷ p.behind)) (sym same)
     ∙ ap (λ z. front ++ map (moved_token d n) z) (sym rest) in
-    (tokens, offline_fault v ∙ ap fault_in w.comes ∙ fault_moved d n y ∙ ap (option_map (moved_fault d n)) (sym (offline_fault r)))
+    (tokens, fault_next v ∙ ap fault_in w.comes ∙ fault_moved d n y ∙ ap (option_map (moved_fault d n)) (sym (fault_next r)))
 
 pub windows_are_scanned : WindowsAreScanned
 windows_are_scanned x a b cut none outer front last are first behind come =
     let s : SpelledText = record { encoding = x; text = a } in
-    let over = fault_none (next a (all a)) (sym (offline_fault s) ∙ none) (all_ends a) in
+    let over = fault_none (next a (all a)) (sym (fault_next s) ∙ none) (all_ends a) in
     let (tokens, fault) = tokens_joined x a b cut (mark_stands false b 0 cut.mark) over outer front last are first behind come in
     let lines : line_at (a ++ b) (length a) ≡ line_at a (length a) = ap (λ (m : yaml_mark_t). m.line) (sym (mark_there a b cut)) in
     made (scan_of x (a ++ b)) _ _
@@ -350,7 +351,7 @@ windows_are_scanned x a b cut none outer front last are first behind come =
 pub ended_told : (s : SpelledText) → (offline s).fault ≡ None
     → (offline s).tokens ≡ flat_map (spell s) (entries (all s.text))
 ended_told s none =
-    let over = fault_none (next s.text (all s.text)) (sym (offline_fault s) ∙ none) (all_ends s.text) in
+    let over = fault_none (next s.text (all s.text)) (sym (fault_next s) ∙ none) (all_ends s.text) in
     offline_told s ∙ ap (λ z. told s z (all s.text)) over ∙ append-nil (flat_map (spell s) (entries (all s.text)))
 
 -- ---- the tokens at the cut
@@ -379,7 +380,7 @@ at_cut x a b cut begins none outer front last are first behind come =
     let s : SpelledText = record { encoding = x; text = a } in
     let r : SpelledText = record { encoding = x; text = b } in
     let m : MarkStands false b 0 = record { kind = kinds.DocumentStart; body = document_start; is = start_mark; stands = starts false b 0 begins } in
-    let over = fault_none (next a (all a)) (sym (offline_fault s) ∙ none) (all_ends a) in
+    let over = fault_none (next a (all a)) (sym (fault_next s) ∙ none) (all_ends a) in
     let t = turned x a b cut m over outer in
     let H = t.lexemes in
     let w = marked x a b cut m H t.some t.steps t.there in

@@ -1,7 +1,6 @@
 -- Lexemes of every kind are the same in both texts.
-use Rattle.std.proofs.Common.{◌≡◌, ℕ, ◌+◌, ◌<◌, ◌==◌, ◌&&◌, ◌||◌, nat_lt, if◌then◌else◌, Bool, true, false, List, Some, None, Result, Ok, Err, refl, sym, ap, ◌∙◌, inl, inr, ◌⊎◌, arith}
+use Rattle.std.proofs.Common.{◌≡◌, ℕ, ◌+◌, ◌<◌, ◌==◌, ◌&&◌, nat_lt, if◌then◌else◌, Bool, true, false, List, Some, None, Result, Ok, Err, refl, sym, ap, ◌∙◌, inl, inr, ◌⊎◌, arith}
 use Rattle.std.proofs.lemmas.Bool.{cases_Bool, true≢false}
-use Rattle.std.proofs.lemmas.Bool.Decides.{nat_tests}
 use Rattle.std.proofs.Math.Bool.{or-true}
 use Rattle.std.proofs.lemmas.Option.{none-some, same_Some}
 use Rattle.yaml_scan_history.specs.scan_model.declared.name.yaml_scalar_style_t.{yaml_scalar_style_t}
@@ -30,11 +29,9 @@ use Rattle.yaml_scan_laws_windows.proofs.Quotes.{Carried, torn_by, moved_pair, q
 use Rattle.yaml_scan_laws_windows.proofs.Names.{moved_tag, anchor_alike, tag_alike}
 use Rattle.yaml_scan_laws_windows.proofs.Directives.{moved_directive, directive_alike}
 use Rattle.yaml_scan_laws_windows.proofs.Blocks.{moved_block, block_alike}
+use Rattle.yaml_scan_history.proofs.WordsRunsLemmas.{blank_cases}
 
 -- ---- kinds
-
-blank_cases : (b : ℕ) → is_blank b ≡ true → (b ≡ 32) ⊎ (b ≡ 9)
-blank_cases b h = grind (arith, nat_tests)
 
 no_indicator : (flow alone : Bool) (b : ℕ) → is_onward b ≡ false → indicator_of flow alone b ≡ None
 unfolding indicator_of

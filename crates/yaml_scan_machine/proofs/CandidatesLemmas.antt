@@ -9,10 +9,9 @@ use Rattle.yaml_scan_history.specs.Kinds.{cancels}
 use Rattle.yaml_scan_history.specs.History.{Candidate, candidate, depth, fresh, is_fresh}
 use Rattle.yaml_scan_history.specs.declared.lexeme.Opens.TheVariants as opening
 use Rattle.yaml_scan_history.specs.Laws.{Upto}
-use Rattle.yaml_scan_history.proofs.HistoryLemmas.{fresh_before}
+use Rattle.yaml_scan_history.proofs.HistoryLemmas.{fresh_before, near_before, cases_Option}
 use Rattle.yaml_scan_machine.specs.declared.keys.Key.{Key}
 use Rattle.yaml_scan_machine.specs.Candidates.{KeyStack, KeyView, key_at, view_of, key_view, fresh_key, AreStale, IsKey, AreKeysTo}
-use Rattle.yaml_scan_machine.proofs.ReadLemmas.{cases_Option}
 
 -- ---- the candidates behind one more lexeme
 
@@ -41,10 +40,6 @@ unfolding candidate
 top_same l h s e = grind (arith, nat_tests)
 
 -- ---- the keys
-
-pub near_before : (s p q : yaml_mark_t) → p.index ≤ q.index → p.line ≤ q.line → is_fresh s q ≡ true
-    → is_fresh s p ≡ true
-near_before s p q i l h = grind (arith, nat_tests)
 
 pub if_none : (b : Bool) (v : KeyView) → cond b (Some v) None ≡ None → b ≡ false
 if_none true v e = cc

@@ -220,9 +220,6 @@ stop_place text t a r same is inside whole =
 pub placed_index : (k : Kind) (m : yaml_mark_t) → (placed k m).index ≡ m.index
 placed_index k m = elim (is_end k && ltb 0 m.column) as (λ b. (cond b record { index = m.index; line = m.line + 1; column = 0 } m).index ≡ m.index) [ true ↦ refl | false ↦ refl ]
 
-pub placed_start : (k : Kind) (m : yaml_mark_t) → is_end k ≡ false → placed k m ≡ m
-placed_start k m e = rw e refl
-
 keyed_same : (k : Kind) (o : Option Candidate) (m : yaml_mark_t)
     → keyed_by k (fresh o (placed k m)) ≡ keyed_by k (fresh o m)
 keyed_same kinds.ValueMark o m = refl

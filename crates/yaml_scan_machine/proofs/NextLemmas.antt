@@ -12,10 +12,10 @@ use Rattle.yaml_scan_history.specs.Next.{Next, Read, Fails, Ends, next, history,
 use Rattle.yaml_scan_history.specs.Stepwise.{behind}
 use Rattle.yaml_scan_history.specs.Laws.{Upto}
 use Rattle.yaml_scan_history.proofs.StepwiseLemmas.{stepwise}
-use Rattle.yaml_scan_history.proofs.HistoryLemmas.{fresh_is, fresh_before}
+use Rattle.yaml_scan_history.proofs.HistoryLemmas.{fresh_is, fresh_before, cases_Option}
 use Rattle.yaml_scan_machine.specs.Shows.{Fields, IsShown, read, settled_in}
 use Rattle.yaml_scan_machine.specs.Reads.{required_in, late, lost, required_behind}
-use Rattle.yaml_scan_machine.proofs.ReadLemmas.{next_is, first_is, cases_Option, begun_at, gap_of, finished_required, finished_depth, finished_saved}
+use Rattle.yaml_scan_machine.proofs.ReadLemmas.{next_is, first_is, begun_at, gap_of, finished_required, finished_depth, finished_saved}
 use Rattle.yaml_scan_machine.proofs.StepLemmas.{candidate_top}
 
 pub next_first : (text : List ℕ) (h : List Lexeme) → length h ≡ 0 → next text h ≡ Read first_lexeme

@@ -1,5 +1,5 @@
 -- What a lexeme that is read next is made of.
-use Rattle.std.proofs.Common.{◌≡◌, ℕ, true, false, cond, ltb, ◌&&◌, List, [], ◌∷◌, Option, Some, None, is_some, Result, Ok, Err, refl, sym, ap, subst, ◌∙◌, inl, inr, ◌⊎◌}
+use Rattle.std.proofs.Common.{◌≡◌, ℕ, true, false, cond, ltb, ◌&&◌, List, [], ◌∷◌, Option, Some, None, is_some, Result, Ok, Err, refl, sym, ap, subst, ◌∙◌, inl, inr}
 use Rattle.std.proofs.lemmas.Bool.{cases_Bool}
 use Rattle.yaml_scan_model.specs.declared.record.yaml_mark_t.{yaml_mark_t}
 use Rattle.yaml_scan_model.specs.Marks.{mark_at}
@@ -53,10 +53,6 @@ finished_saved text l w = elim (is_end l.kind) as (λ b. (cond b l record l { en
 pub finished_required : (text : List ℕ) (l : Lexeme) (w : WordText)
     → (finished text l w).required ≡ l.required
 finished_required text l w = elim (is_end l.kind) as (λ b. (cond b l record l { end = mark_at text w.end; reached = mark_at text w.reached; broke = w.broke }).required ≡ l.required) [ true ↦ refl | false ↦ refl ]
-
-pub cases_Option : {A : Type 0} (o : Option A) → (o ≡ None) ⊎ ((x : A) × (o ≡ Some x))
-cases_Option None = inl refl
-cases_Option (Some x) = inr (x, refl)
 
 tested_from : (o : Option yaml_mark_t) (l x : Lexeme)
     → (elim o as (λ _. Next) [ Some start ↦ no_colon start l.reached | None ↦ Read l ]) ≡ Read x

@@ -2,7 +2,7 @@
 use Rattle.std.proofs.Common.{◌≡◌, ℕ, zero, suc, ◌+◌, ◌<◌, ◌≤◌, Bool, true, false, cond, leb, ltb, List, [], ◌∷◌, ◌++◌, length, refl, sym, subst, ap, inl, inr, arith}
 use Rattle.std.proofs.lemmas.Bool.{cases_Bool, cases_lt}
 use Rattle.std.proofs.lemmas.Bool.Decides.{nat_tests}
-use Rattle.std.specs.Prelude.{slice_set, Option, Some, None}
+use Rattle.std.specs.Prelude.{slice_set}
 use Rattle.yaml_scan_model.specs.declared.record.yaml_mark_t.{yaml_mark_t}
 use Rattle.yaml_scan_model.specs.Marks.{line_at, column_at, splits_break, splits_of, ends_break, starts, byte}
 use Rattle.yaml_scan_history.specs.declared.kind.Kind.{Kind}
@@ -122,10 +122,6 @@ pub inside_set : (n : ℕ) (w : Waiting) (ws : List Waiting) (i : ℕ) → w.sta
 inside_set n w [] i low h = h
 inside_set n w (x ∷ xs) zero low h = inside_cons n w xs low (inside_rest n x xs h)
 inside_set n w (x ∷ xs) (suc i) low h = inside_cons n x (slice_set xs i w) (h 0 x (omega arith)) (inside_set n w xs i low (inside_rest n x xs h))
-
-pub none_left : {A : Type 0} (o : Option A) → ((x : A) → o ≡ Some x → ⊥) → o ≡ None
-none_left None not_some = refl
-none_left (Some x) not_some = absurd (not_some x refl)
 
 -- what is known and no BLOCK-END is settled
 pub known_settled : (d s g : ℕ) (w : Waiting) (ws : List Waiting) → ready_in d s g (w ∷ ws) ≡ true

@@ -23,12 +23,12 @@ use Rattle.yaml_scan_machine.specs.Comes.{to_come}
 use Rattle.yaml_scan_machine.proofs.MarkLemmas.{next_ended}
 use Rattle.yaml_scan_machine.proofs.NextLemmas.{settled_first}
 use Rattle.yaml_scan_machine.specs.Left.{left_in}
-use Rattle.yaml_scan_machine.proofs.ReadLemmas.{cases_Option}
 use Rattle.yaml_scan_machine.proofs.ComesLemmas.{settled_end, left_is, ready_started}
 use Rattle.yaml_scan_machine.proofs.SafeLemmas.{known_settled}
 use Rattle.yaml_scan_machine.proofs.SpellLemmas.{spell_length, spell_token, front_count-le}
 use Rattle.yaml_scan_machine.proofs.FrontLemmas.{shown_given}
 use Rattle.yaml_scan_machine.proofs.GivenLemmas.{own_settled, front_is, no_entry, given_few, given_more, front_room, front_done, ends_few}
+use Rattle.yaml_scan_history.proofs.HistoryLemmas.{cases_Option}
 
 -- no later lexeme changes it, or there is none
 abbrev IsKnown : List ℕ → List Lexeme → ℕ → Type 0

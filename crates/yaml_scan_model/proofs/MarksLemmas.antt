@@ -47,6 +47,7 @@ pub column_same : (text : List ℕ) (p : ℕ) → ends_break text p ≡ false �
 unfolding column_at
 column_same text p h k = rw (add-one, h, k) (omega arith)
 
+-- behind a break the column is the first
 pub column_end : (text : List ℕ) (p : ℕ) → ends_break text p ≡ true → column_at text (p + 1) ≡ 0
 unfolding column_at
 column_end text p h = rw (add-one, h) refl

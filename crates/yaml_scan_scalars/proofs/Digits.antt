@@ -24,7 +24,7 @@ last_parts : (text : List ℕ) (p n v : ℕ) → hex_value text p (suc n) ≡ So
 unfolding hex_value
 last_parts text p n v e = parts (hex_value text p n) (hex_digit (byte text (p + n))) v e
 
-none_read : (text : List ℕ) (p : ℕ) → hex_value text p 0 ≡ Some 0
+pub none_read : (text : List ℕ) (p : ℕ) → hex_value text p 0 ≡ Some 0
 unfolding hex_value
 none_read text p = refl
 

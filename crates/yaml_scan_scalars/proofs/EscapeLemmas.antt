@@ -4,10 +4,6 @@ use Rattle.std.proofs.lemmas.Bool.Decides.{nat_tests}
 use Rattle.yaml_scan_model.specs.Marks.{byte, break_width}
 use Rattle.yaml_scan_scalars.specs.Quoted.{hex_digit, hex_value, hex_len, simple_escape, escape_at, coded}
 
-pub hex_start : (text : List ℕ) (p : ℕ) → hex_value text p 0 ≡ Some 0
-unfolding hex_value
-hex_start text p = refl
-
 pub hex_more : (text : List ℕ) (p k v d : ℕ) → hex_value text p k ≡ Some v
     → hex_digit (byte text (p + k)) ≡ Some d → hex_value text p (k + 1) ≡ Some (v * 16 + d)
 unfolding hex_value

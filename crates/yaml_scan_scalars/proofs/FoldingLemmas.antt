@@ -50,7 +50,8 @@ pub value-break : (bs b : List ℕ) (ps : List Piece)
     → value (blanks_of bs ++ Break b ∷ ps) ≡ behind b ps
 value-break bs b ps = rw (lines-blanks bs (Break b ∷ ps), trim_end-blanks bs) refl
 
-rest_of-blank : (b : ℕ) (l : Line) (ls : List (List ℕ × Line))
+-- a blank in front of a line is no part of the value
+pub rest_of-blank : (b : ℕ) (l : Line) (ls : List (List ℕ × Line))
     → rest_of (Blank b ∷ l) ls ≡ rest_of l ls
 rest_of-blank b l [] = refl
 rest_of-blank b l (next ∷ ls) = refl

@@ -2,7 +2,7 @@
 use Rattle.std.proofs.Common.{◌≡◌, ◌≢◌, ℕ, zero, suc, ◌+◌, ◌-◌, ◌<◌, ◌≤◌, ◌==◌, ◌&&◌, ◌||◌, Bool, true, false, List, [], ◌∷◌, ◌++◌, length, take, drop, Result, Ok, Err, refl, sym, ap, ◌∙◌, inl, inr, ◌⊎◌, not, append_assoc, arith}
 use Rattle.std.proofs.lemmas.Bool.{cases_Bool, or_right, not-true}
 use Rattle.std.proofs.lemmas.Bool.Decides.{nat_tests}
-use Rattle.std.proofs.lemmas.List.{drop_more, length-drop, length-take-le}
+use Rattle.std.proofs.lemmas.List.{drop_more}
 use Rattle.yaml_scan_model.specs.Marks.{Place, byte, break_of, ends_of, is_blank}
 use Rattle.yaml_scan_model.specs.Breaks.{is_document_indicator}
 use Rattle.yaml_scan_model.specs.Wrong.{Wrong}
@@ -15,7 +15,7 @@ use Rattle.yaml_scan_scalars.specs.Resume.{resume, resumed}
 use Rattle.yaml_scan_scalars.specs.Ordinary.{is_ordinary, is_narrow, is_spaced, in_run, bytes_at, piece_of, run_pieces, starts_kept, ends_kept, IsRun, TookRun}
 use Rattle.yaml_scan_scalars.specs.Quoted.{Pieces, with_front, pieces, valued, standing_at}
 use Rattle.yaml_scan_scalars.proofs.FoldingLemmas.{value-kept, blanks_of, keep_line, keep_feed, keep_kept}
-use Rattle.yaml_scan_scalars.proofs.QuotedLemmas.{standing_kept, standing_blank}
+use Rattle.yaml_scan_scalars.proofs.QuotedLemmas.{standing_kept, standing_blank, front}
 
 -- what an ordinary byte is not
 
@@ -437,11 +437,6 @@ pieces_run (suc d) (suc n) quote text p q h o =
     let more = pieces_run d n quote text (p + 1) q (omega arith) (λ k a b. o k (omega arith) (omega arith)) in
     rw (e, f, bytes_more text p d) (pieces_one (suc n) quote text p (piece_of (byte text p)) here ∙ ap (λ r. with_front (piece_of (byte text p) ∷ []) r) more
     ∙ front_more (piece_of (byte text p)) (run_pieces (bytes_at text (p + 1) d)) (pieces (suc (n - d)) quote text (p + 1 + d)))
-
-front : (old new : List Piece → List ℕ) (qs : List Piece) (r : Result (List Piece × ℕ) Wrong)
-    → ((ps : List Piece) → new ps ≡ old (qs ++ ps)) → valued old (with_front qs r) ≡ valued new r
-front old new qs (Ok x) h = rw (h x.0) refl
-front old new qs (Err e) h = refl
 
 pub few : (text : List ℕ) (p n : ℕ) (place : Place) → IsRun text p place → length text ≤ p + n
     → place.at - p ≤ n

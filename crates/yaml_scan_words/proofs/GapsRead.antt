@@ -15,7 +15,8 @@ not_first : (first : Bool) (a b c : ℕ) → a ≢ 0xEF
 not_first true a b c h = grind (arith, nat_tests)
 not_first false a b c h = refl
 
-no_bom : (text : List ℕ) (p : ℕ) → byte text p ≢ 0xEF → (p == 0 && is_bom text p) ≡ false
+-- no byte order mark stands there
+pub no_bom : (text : List ℕ) (p : ℕ) → byte text p ≢ 0xEF → (p == 0 && is_bom text p) ≡ false
 no_bom text p h = not_first (p == 0) (byte text p) (byte text (p + 1)) (byte text (p + 2)) h
 
 step_space : (tabs : Bool) (text : List ℕ) (p : ℕ) → byte text p ≡ 32
@@ -25,11 +26,13 @@ step_space tabs text p h =
     let first : (p == 0 && is_bom text p) ≡ false = no_bom text p (omega arith) in
     rw (first, h) refl
 
-break_parts : (b c d : ℕ) → 0 < break_of b c d → (b ≢ 0xEF) × (b ≢ 32) × (b ≢ 9) × (b ≢ 35)
+-- what a byte that begins a break is not
+pub break_parts : (b c d : ℕ) → 0 < break_of b c d → (b ≢ 0xEF) × (b ≢ 32) × (b ≢ 9) × (b ≢ 35)
 unfolding break_of
 break_parts b c d h = (grind (arith, nat_tests), grind (arith, nat_tests), grind (arith, nat_tests), grind (arith, nat_tests))
 
-no_skip : (tabs : Bool) (b : ℕ) → b ≢ 32 → b ≢ 9 → (b == 32 || (tabs && b == 9)) ≡ false
+-- no white stands there
+pub no_skip : (tabs : Bool) (b : ℕ) → b ≢ 32 → b ≢ 9 → (b == 32 || (tabs && b == 9)) ≡ false
 no_skip true b h i = grind (arith, nat_tests)
 no_skip false b h i = grind (arith, nat_tests)
 
@@ -46,7 +49,8 @@ step_break tabs text p h =
 unequal : (b n : ℕ) → not (b == n) ≡ true → b ≢ n
 unequal b n h = grind (arith, nat_tests)
 
-lexeme_parts : (b c : Bool) (d : ℕ)
+-- what does not stand where a lexeme begins
+pub lexeme_parts : (b c : Bool) (d : ℕ)
     → (not (d == 32) && (not (d == 9) && (not (d == 35) && (not b && not c)))) ≡ true
     → (d ≢ 32) × (d ≢ 9) × (d ≢ 35) × (b ≡ false) × (c ≡ false)
 lexeme_parts b c d h =
@@ -69,7 +73,8 @@ lf_width : (c d : ℕ) → break_of 10 c d ≡ 1
 unfolding break_of
 lf_width c d = refl
 
-cr_width : (c d : ℕ) → c ≢ 10 → break_of 13 c d ≡ 1
+-- CR without LF is one byte
+pub cr_width : (c d : ℕ) → c ≢ 10 → break_of 13 c d ≡ 1
 unfolding break_of
 cr_width c d h = let e : (c == 10) ≡ false = grind (arith, nat_tests) in rw e refl
 
@@ -77,11 +82,14 @@ crlf_width : (d : ℕ) → break_of 13 10 d ≡ 2
 unfolding break_of
 crlf_width d = refl
 
-some_width : (b c d : ℕ) → nat_lt 0 (break_of b c d) ≡ false → b ≢ 10
+-- where no break begins stands no LF
+pub some_width : (b c d : ℕ) → nat_lt 0 (break_of b c d) ≡ false → b ≢ 10
 unfolding break_of
 some_width b c d h = grind (arith, nat_tests)
 
-byte_cases : (b : ℕ) → (b == 32 || (b == 10 || b == 13)) ≡ true → (b ≡ 32) ⊎ ((b ≡ 10) ⊎ (b ≡ 13))
+-- a space, LF or CR
+pub byte_cases : (b : ℕ) → (b == 32 || (b == 10 || b == 13)) ≡ true
+    → (b ≡ 32) ⊎ ((b ≡ 10) ⊎ (b ≡ 13))
 byte_cases b h = grind (arith, nat_tests)
 
 -- a gap whose rest is read

@@ -30,7 +30,8 @@ has_rest text p (x ∷ xs) ys (e, h) =
     let same : p + 1 + length xs ≡ p + suc (length xs) = omega arith in
     subst (λ q. Has text q ys) same (has_rest text (p + 1) xs ys h)
 
-has_at : (text : List ℕ) (p : ℕ) (xs : List ℕ) → Has text p xs → HasAt text p xs
+-- a text that stands there, byte by byte
+pub has_at : (text : List ℕ) (p : ℕ) (xs : List ℕ) → Has text p xs → HasAt text p xs
 has_at text p [] h k l = absurd (omega arith)
 has_at text p (x ∷ xs) (e, h) zero l = rw add-zero e
 has_at text p (x ∷ xs) (e, h) (suc k) l =

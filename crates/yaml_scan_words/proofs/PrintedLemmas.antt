@@ -8,7 +8,7 @@ use Rattle.yaml_scan_words.specs.declared.run.Run.TheVariants as runs
 use Rattle.yaml_scan_words.specs.Runs.{belongs, run_within, run_end}
 use Rattle.yaml_scan_words.specs.Uris.{is_uri}
 
-alpha_range : (b : ℕ) → is_alpha_byte b ≡ true → (32 < b) × (b < 127)
+pub alpha_range : (b : ℕ) → is_alpha_byte b ≡ true → (32 < b) × (b < 127)
 unfolding is_alpha_byte is_digit_byte
 alpha_range b h = (grind (arith, nat_tests), grind (arith, nat_tests))
 

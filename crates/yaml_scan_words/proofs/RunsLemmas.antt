@@ -17,6 +17,7 @@ alpha_range : (b : ℕ) → is_alpha_byte b ≡ true → (45 ≤ b) × (b ≤ 12
 unfolding is_alpha_byte is_digit_byte
 alpha_range b h = (grind (arith, nat_tests), grind (arith, nat_tests))
 
+-- a space or a tab
 pub blank_cases : (b : ℕ) → is_blank b ≡ true → (b ≡ 32) ⊎ (b ≡ 9)
 blank_cases b h = grind (arith, nat_tests)
 

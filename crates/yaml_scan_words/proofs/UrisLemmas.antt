@@ -10,10 +10,7 @@ use Rattle.yaml_scan_model.specs.Classes.{is_alpha_byte, is_digit_byte}
 use Rattle.yaml_scan_model.specs.Wrong.{Wrong}
 use Rattle.yaml_scan_model.proofs.MarksLemmas.{within}
 use Rattle.yaml_scan_words.specs.Uris.{is_punctuation, is_wide_punctuation, is_uri, hex_digit, octet_of, octet_at, due_behind, UriSpot, Spells, Ends, Faulty, escape_spot, octet_spot, spot_at, with_bytes, uri_from, uri_within, uri_at}
-
-alpha_range : (b : ℕ) → is_alpha_byte b ≡ true → (32 < b) × (b < 127)
-unfolding is_alpha_byte is_digit_byte
-alpha_range b h = (grind (arith, nat_tests), grind (arith, nat_tests))
+use Rattle.yaml_scan_words.proofs.PrintedLemmas.{alpha_range}
 
 punctuation_range : (b : ℕ) → is_punctuation b ≡ true → (32 < b) × (b < 127)
 unfolding is_punctuation

@@ -1,13 +1,14 @@
 use Rattle.std.proofs.Common.{refl, arith, ◌∙◌, sym, ◌≡◌, ◌+◌, None, Some}
 use Rattle.yaml_scan_scalars.specs.Quoted.{hex_digit}
 use Rattle.yaml_scan_model.specs.Marks.{byte}
-use Rattle.yaml_scan_scalars.proofs.EscapeLemmas.{hex_start, hex_more, hex_refused, hex_room, hex_limit-more}
+use Rattle.yaml_scan_scalars.proofs.EscapeLemmas.{hex_more, hex_refused, hex_room, hex_limit-more}
 use Rattle.yaml_scan_scalars.proofs.escape.hex_value.Goals as goal
+use Rattle.yaml_scan_scalars.proofs.Digits.{none_read}
 
 pub loop-k-init : goal.loop-k-init
 loop-k-init c =
     let z : c.args.reader.now.at + 0 ≡ c.args.reader.now.at = omega arith in
-    record { place = rw z refl; spelled = hex_start _ _; small = omega arith }
+    record { place = rw z refl; spelled = none_read _ _; small = omega arith }
 
 pub returns-in_err-digit-clause-value : goal.returns-in_err-digit-clause-value
 returns-in_err-digit-clause-value c =

@@ -10,8 +10,9 @@ use Rattle.yaml_scan_history.specs.Stepwise.{unless_lost}
 use Rattle.yaml_scan_machine.specs.Stands.{Stands}
 use Rattle.yaml_scan_machine.specs.Shows.{stream_of, history_of}
 use Rattle.yaml_scan_machine.specs.Reads.{GivesNext, lost}
-use Rattle.yaml_scan_machine.proofs.KindLemmas.{kind_machine, wrong_machine, misplaced_gives, lost_gives, err_gives, ok_gives, required_saved, placed_index, placed_start, leaves_ends}
+use Rattle.yaml_scan_machine.proofs.KindLemmas.{kind_machine, wrong_machine, misplaced_gives, lost_gives, err_gives, ok_gives, required_saved, placed_index, leaves_ends}
 use Rattle.yaml_scan_machine.proofs.machine.Machine.of_kind.Goals as goal
+use Rattle.yaml_scan_laws_order.proofs.NextForward.{placed_same}
 
 pub returns-then-is_misplaced-clause-exact : goal.returns-then-is_misplaced-clause-exact
 returns-then-is_misplaced-clause-exact g c = λ gap here allow.
@@ -39,7 +40,7 @@ read-requires-clause-index g c = ap (λ (x : Lexeme). x.start.index) c.lexeme_at
 pub read-requires-clause-start : goal.read-requires-clause-start
 read-requires-clause-start g c = λ e.
     let value = c.lexeme_at-lexeme.ensures.value in
-    ap (λ (x : Lexeme). x.start) value ∙ placed_start c.args.spot.kind c.args.spot.mark (sym (ap (λ (x : Lexeme). is_end x.kind) value) ∙ e) ∙ c.requires.mark
+    ap (λ (x : Lexeme). x.start) value ∙ placed_same c.args.spot.kind c.args.spot.mark (sym (ap (λ (x : Lexeme). is_end x.kind) value) ∙ e) ∙ c.requires.mark
 
 pub read-requires-clause-kind : goal.read-requires-clause-kind
 read-requires-clause-kind g c =

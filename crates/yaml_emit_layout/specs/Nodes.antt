@@ -125,18 +125,22 @@ written_size p (Some t) = tag_size p.directives t
 abbrev pub properties_size : Context → Option (List ℕ) → Option (List ℕ) → ℕ
 properties_size p anchor tag = text_size anchor + written_size p tag
 
--- a simple key has no break, and at most 128 bytes of anchor, tag and value; canonical form has none
+-- how many bytes of anchor, tag and value a simple key may have, or of an alias's name
+abbrev pub simple_key_bytes : ℕ
+simple_key_bytes = 128
+
+-- a simple key has no break, and no more bytes; canonical form has none
 unfoldable pub is_simple_scalar : Context → Scalar → Bool
 is_simple_scalar p x = not p.settings.canonical
     && (not (has_break x.value) && nat_le (properties_size p x.anchor (scalar_tag false x) + length
-    x.value) 128)
+    x.value) simple_key_bytes)
 
 unfoldable pub is_simple_alias : Context → List ℕ → Bool
-is_simple_alias p name = not p.settings.canonical && nat_le (length name) 128
+is_simple_alias p name = not p.settings.canonical && nat_le (length name) simple_key_bytes
 
 unfoldable pub is_simple_start : Context → Start → Bool → Bool
 is_simple_start p q empty = not p.settings.canonical
-    && (empty && nat_le (properties_size p q.anchor (start_tag false q)) 128)
+    && (empty && nat_le (properties_size p q.anchor (start_tag false q)) simple_key_bytes)
 
 abbrev pub are_none : Nodes → Bool
 are_none no_nodes = true

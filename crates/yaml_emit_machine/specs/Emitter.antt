@@ -16,6 +16,7 @@ use Rattle.yaml_scan_model.specs.declared.yaml_error_type_t.{yaml_error_type_t}
 use Rattle.yaml_scan_model.specs.declared.yaml_error_type_t.TheVariants.{YAML_EMITTER_ERROR, YAML_WRITER_ERROR}
 use Rattle.yaml_scan_model.specs.declared.yaml_origin_t.{yaml_origin_t}
 use Rattle.yaml_scan_model.specs.declared.yaml_origin_t.TheVariants as origin
+use Rattle.yaml_scan_model.specs.Widths.{default_width}
 use Rattle.yaml_scan_model.specs.Tokens.{zero_mark}
 use Rattle.yaml_scan_model.specs.Faults.{Fault, fault_of, memory_fault, IsMemoryFault, emit_layers}
 use Rattle.yaml_emit_text.specs.declared.Cursor.{Cursor}
@@ -215,13 +216,13 @@ abbrev pub IsWhole : Emitter → List ℕ → Type 0
 IsWhole e output = e.fault ≡ None → (x : Encoding) (whole : List Item) → Completes e x [] whole
     → output ≡ encode x whole
 
--- a new emitter: any encoding and break, canonical and unicode off, indent 2, width 80
+-- a new emitter: any encoding and break, canonical and unicode off, indent 2, the default width
 abbrev pub first_requested : RequestedSettings
 first_requested = record {
   encoding = YAML_ANY_ENCODING;
   canonical = false;
   indent = pos 2;
-  width = pos 80;
+  width = pos default_width;
   unicode = false;
   line_break = YAML_ANY_BREAK;
 }

@@ -4,6 +4,7 @@ use Rattle.yaml_types.specs.declared.yaml_encoding_t.{yaml_encoding_t}
 use Rattle.yaml_types.specs.declared.yaml_encoding_t.TheVariants as coding
 use Rattle.yaml_types.specs.declared.yaml_break_t.{yaml_break_t}
 use Rattle.yaml_types.specs.declared.yaml_break_t.TheVariants as ending
+use Rattle.yaml_types.specs.Widths.{default_width}
 use Rattle.yaml_emit_sink.specs.declared.settings.Encoding.{Encoding}
 use Rattle.yaml_emit_sink.specs.declared.settings.Encoding.TheVariants.{Utf8, Utf16Le, Utf16Be}
 use Rattle.yaml_emit_sink.specs.declared.settings.LineBreak.{LineBreak}
@@ -16,9 +17,9 @@ abbrev pub settled_indent : ℤ → ℕ
 settled_indent (pos n) = if nat_le 2 n && nat_le n 9 then n else 2
 settled_indent (negsuc n) = 2
 
--- a negative width means no end of lines, and one up to twice the indent 80
+-- a negative width means no end of lines, and one up to twice the indent the default
 abbrev pub settled_width : ℤ → ℕ → ℕ
-settled_width (pos n) indent = if nat_le n (2 * indent) then 80 else n
+settled_width (pos n) indent = if nat_le n (2 * indent) then default_width else n
 settled_width (negsuc n) indent = 2147483647
 
 abbrev pub settled_break : yaml_break_t → LineBreak

@@ -1,9 +1,10 @@
 //! Settings.
 
 ghost use Rattle.std.specs.Prelude.{◌≡◌, ◌<◌, pos, false};
+ghost use Rattle.yaml_types.specs.Widths.{default_width};
 ghost use Rattle.yaml_emit_sink.specs.Settings.{settled, settled_indent, settled_width, settled_break, settled_encoding, encoding_or};
 
-use yaml_types::{yaml_break_t, yaml_encoding_t};
+use yaml_types::{DEFAULT_WIDTH, yaml_break_t, yaml_encoding_t};
 
 /// How the characters are spelled in bytes.
 #[derive(Clone, Copy)]
@@ -52,12 +53,12 @@ pub struct Settings {
 }
 
 impl RequestedSettings {
-    /// Any encoding and break, canonical and unicode off, indent 2, width 80.
+    /// Any encoding and break, canonical and unicode off, indent 2, the default width.
     pub fn new() -> RequestedSettings
         ensures encoding { result.encoding ≡ yaml_encoding_t.YAML_ANY_ENCODING }
         ensures canonical { result.canonical ≡ false }
         ensures indent { result.indent ≡ pos 2 }
-        ensures width { result.width ≡ pos 80 }
+        ensures width { result.width ≡ pos default_width }
         ensures unicode { result.unicode ≡ false }
         ensures line_break { result.line_break ≡ yaml_break_t.YAML_ANY_BREAK }
     {
@@ -65,7 +66,7 @@ impl RequestedSettings {
             encoding: yaml_encoding_t::YAML_ANY_ENCODING,
             canonical: false,
             indent: 2,
-            width: 80,
+            width: DEFAULT_WIDTH,
             unicode: false,
             line_break: yaml_break_t::YAML_ANY_BREAK,
         }
@@ -89,7 +90,7 @@ fn settled_width(width: i32, indent: u64) -> u64
     if width < 0 {
         2147483647
     } else if width as u64 <= 2 * indent {
-        80
+        DEFAULT_WIDTH as u64
     } else {
         width as u64
     }

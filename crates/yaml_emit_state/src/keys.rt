@@ -3,7 +3,7 @@ ghost use Rattle.std.specs.Prelude.{◌≡◌, ◌∷◌, [], None, Some, true, 
 ghost use Rattle.yaml_parse_model.specs.Events.{text_of, body_of};
 ghost use Rattle.yaml_emit_layout.specs.Content.{emitter_event, is_flow_sequence, is_flow_mapping};
 ghost use Rattle.yaml_emit_layout.specs.Grammar.{kept_tag};
-ghost use Rattle.yaml_emit_layout.specs.Nodes.{properties_size, text_size, written_size, is_simple_scalar, is_simple_alias, is_simple_start};
+ghost use Rattle.yaml_emit_layout.specs.Nodes.{simple_key_bytes, properties_size, text_size, written_size, is_simple_scalar, is_simple_alias, is_simple_start};
 ghost use Rattle.yaml_emit_layout.specs.State.{is_simple_event};
 ghost use Rattle.yaml_emit_state.specs.Due.{is_key_in, is_key};
 ghost use Rattle.yaml_emit_state.specs.Given.{lent_context, lent_scalar, lent_start};
@@ -14,6 +14,9 @@ use yaml_emit_tags::tag_size;
 use yaml_parse_model::yaml_event_body_t;
 use yaml_scan_classes::has_break;
 use yaml_scan_model::{yaml_mapping_style_t, yaml_sequence_style_t};
+
+/// How many bytes of anchor, tag and value a simple key may have, or of an alias's name.
+const SIMPLE_KEY_BYTES: usize = 128;
 
 fn text_size(text: &Option<Vec<u8>>) -> usize
     ensures { result ≡ text_size (text_of text.now) }
@@ -45,11 +48,14 @@ fn written_size(context: &Context, left_out: bool, tag: &Option<Vec<u8>>) -> usi
     }
 }
 
-// Whether three sizes make at most 128.
+// Whether three sizes make no more than a simple key may have.
 fn are_short(a: usize, b: usize, c: usize) -> bool
-    ensures { result ≡ nat_le (a + b + c) 128 }
+    ensures { result ≡ nat_le (a + b + c) simple_key_bytes }
 {
-    a <= 128 && b <= 128 && c <= 128 && a + b + c <= 128
+    a <= SIMPLE_KEY_BYTES
+        && b <= SIMPLE_KEY_BYTES
+        && c <= SIMPLE_KEY_BYTES
+        && a + b + c <= SIMPLE_KEY_BYTES
 }
 
 /// Whether an alias is a simple key: canonical form has none.
@@ -59,7 +65,7 @@ fn are_short(a: usize, b: usize, c: usize) -> bool
 pub fn is_simple_alias(context: &Context, name: &[u8]) -> bool
     ensures { result ≡ is_simple_alias (lent_context context.now) name.now }
 {
-    !context.settings.canonical && name.len() <= 128
+    !context.settings.canonical && name.len() <= SIMPLE_KEY_BYTES
 }
 
 // Inlined into its one caller.
@@ -186,7 +192,7 @@ fn is_simple_by(context: &Context, event: &yaml_event_body_t, empty: bool) -> bo
 }
 
 /// Whether a node that begins so is a simple key: an alias, a scalar without breaks or an empty collection, with at most
-/// 128 bytes of anchor, tag and value. Canonical form has none.
+/// `SIMPLE_KEY_BYTES` of anchor, tag and value. Canonical form has none.
 // Inlined: canonical form has none.
 #[inline(always)]
 #[tactic(auto, using(crate::proofs::Canonical::no_keys))]

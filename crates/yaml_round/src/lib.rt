@@ -24,6 +24,6 @@ pub use yaml_round_device::{
 };
 pub use yaml_round_writing::{yaml_adapter_t, yaml_side_t};
 pub use yaml_scan_model::{
-    yaml_break_t, yaml_encoding_t, yaml_error_type_t, yaml_event_type_t, yaml_fault_t, yaml_mark_t,
-    yaml_origin_t,
+    DEFAULT_WIDTH, yaml_break_t, yaml_encoding_t, yaml_error_type_t, yaml_event_type_t,
+    yaml_fault_t, yaml_mark_t, yaml_origin_t,
 };

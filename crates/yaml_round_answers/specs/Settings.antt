@@ -43,13 +43,13 @@ abbrev pub settings_meant : yaml_c_settings → Option yaml_settings_t
 settings_meant given = settings_by (output_meant given.encoding) (break_meant given.line_break)
     given
 
--- What the header names: UTF-8, canonical form, indent 2, width 80, unicode on, LF, and 2^40 bytes.
+-- What the header names: UTF-8, canonical form, indent 2, the default width, unicode on, LF, and 2^40 bytes.
 abbrev pub default_record : yaml_c_settings
 default_record = record {
   encoding = pos 1;
   canonical = pos 1;
   indent = pos 2;
-  width = pos 80;
+  width = default_settings.width;
   unicode = pos 1;
   line_break = pos 2;
   limit = 1099511627776;

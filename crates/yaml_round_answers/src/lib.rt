@@ -27,6 +27,7 @@ pub use parsing::{front_by, parsed_by, yaml_c_parsed};
 pub use parting::{documents_parted_by, parted_by, yaml_c_parting};
 pub use scanning::{scanned_by, yaml_c_scanned};
 pub use serializing::{serialized_by, yaml_c_turns};
+pub use yaml_round::DEFAULT_WIDTH;
 pub use yaml_round_nodes::{yaml_c_graph, yaml_c_node, yaml_c_spot, yaml_c_step, yaml_c_turn};
 pub use yaml_round_records::{
     yaml_c_directive, yaml_c_event, yaml_c_level, yaml_c_mark, yaml_c_place, yaml_c_settings,

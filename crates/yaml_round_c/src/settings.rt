@@ -3,7 +3,7 @@
 ghost use Rattle.std.specs.Prelude.{◌≡◌, Some};
 ghost use Rattle.yaml_round_answers.specs.Settings.{settings_meant, default_record, default_settings};
 
-use yaml_round_answers::yaml_c_settings;
+use yaml_round_answers::{DEFAULT_WIDTH, yaml_c_settings};
 
 /// Sets what `yaml_settings_t::new` has.
 #[unsafe(no_mangle)]
@@ -16,7 +16,7 @@ pub extern "C" fn yaml_c_defaults(settings: &mut yaml_c_settings)
         encoding: 1,
         canonical: 1,
         indent: 2,
-        width: 80,
+        width: DEFAULT_WIDTH,
         unicode: 1,
         line_break: 2,
         limit: 1_099_511_627_776,

@@ -2,7 +2,7 @@
 
 ghost use Rattle.std.specs.Prelude.{◌≡◌};
 
-use yaml_types::yaml_break_t;
+use yaml_types::{DEFAULT_WIDTH, yaml_break_t};
 
 /// How the bytes of the answer spell its characters. A UTF-16 text begins with U+FEFF.
 #[derive(Clone, Copy, PartialEq, Eq, Debug)]
@@ -34,7 +34,7 @@ pub struct yaml_settings_t {
 impl yaml_settings_t {
     ghost use Rattle.yaml_round_device.specs.Settings.{default_settings};
 
-    /// UTF-8, canonical, indent 2, width 80, unicode on, line feeds, 1,099,511,627,776 bytes.
+    /// UTF-8, canonical, indent 2, the default width, unicode on, line feeds, 1,099,511,627,776 bytes.
     pub fn new() -> yaml_settings_t
         ensures { result ≡ default_settings }
     {
@@ -42,7 +42,7 @@ impl yaml_settings_t {
             encoding: yaml_output_encoding_t::Utf8,
             canonical: true,
             indent: 2,
-            width: 80,
+            width: DEFAULT_WIDTH,
             unicode: true,
             line_break: yaml_break_t::YAML_LN_BREAK,
             limit: 1_099_511_627_776,

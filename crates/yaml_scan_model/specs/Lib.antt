@@ -3,6 +3,7 @@ pub use Rattle.yaml_types.specs.Classes
 pub use Rattle.yaml_types.specs.Tokens
 pub use Rattle.yaml_types.specs.Faults
 pub use Rattle.yaml_types.specs.Ends
+pub use Rattle.yaml_types.specs.Widths
 pub mod Problems
 pub mod Breaks
 pub mod Runs

@@ -26,6 +26,6 @@ pub use run::{is_text, leap, skip_blanks, skip_spaces, skip_text};
 pub use spares::{copied, copied_whole, moved, room};
 pub use token::{yaml_token_body_t, yaml_token_t};
 pub use yaml_types::{
-    SHORT, is_short, push_each, push_near, put_short, stands_in_front, yaml_memory_fault,
-    yaml_token_delete,
+    DEFAULT_WIDTH, SHORT, is_short, push_each, push_near, put_short, stands_in_front,
+    yaml_memory_fault, yaml_token_delete,
 };

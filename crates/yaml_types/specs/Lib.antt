@@ -3,3 +3,4 @@ pub mod Classes
 pub mod Tokens
 pub mod Faults
 pub mod Ends
+pub mod Widths

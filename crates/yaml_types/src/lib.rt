@@ -12,6 +12,7 @@ mod putting;
 mod record;
 mod standing;
 mod token;
+mod width;
 
 pub use directive::{yaml_tag_directive_t, yaml_version_directive_t};
 pub use event_name::{
@@ -25,3 +26,4 @@ pub use putting::{BRIEF, SHORT, is_short, put_brief, put_short, sixteen_at};
 pub use record::{yaml_mark_t, yaml_simple_key_t};
 pub use standing::stands_in_front;
 pub use token::{yaml_token_body_t, yaml_token_delete, yaml_token_t};
+pub use width::DEFAULT_WIDTH;

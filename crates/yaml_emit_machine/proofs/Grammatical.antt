@@ -7,7 +7,7 @@ use Rattle.yaml_emit_layout.specs.Grammar.{event_problem, last_problem, place_pr
 use Rattle.yaml_emit_layout.specs.State.{State, opens_empty, problem_at, top_of}
 use Rattle.yaml_emit_layout.specs.ToCome.{ToCome, stream, events}
 use Rattle.yaml_emit_layout.specs.ToCome as come
-use Rattle.yaml_emit_layout.proofs.Going.{goes}
+use Rattle.yaml_emit_layout.proofs.LeadsOn.{goes}
 use Rattle.yaml_emit_layout.specs.Progress.{progress_after, problem_in, first_refusal, PassesStreams}
 use Rattle.yaml_emit_held.specs.Judged.{shape_of}
 use Rattle.yaml_emit_held.proofs.Judging.{or_none, same_problem, shape_next}

@@ -15,7 +15,7 @@ use Rattle.yaml_emit_layout.specs.Nodes.{stream_layout}
 use Rattle.yaml_emit_layout.specs.State.{State, opens_empty, problem_at, piece, next, top_of}
 use Rattle.yaml_emit_layout.specs.ToCome.{ToCome, stream, events, layout}
 use Rattle.yaml_emit_layout.specs.ToCome as come
-use Rattle.yaml_emit_layout.proofs.Going.{Goes, goes}
+use Rattle.yaml_emit_layout.proofs.LeadsOn.{Goes, goes}
 use Rattle.yaml_emit_state.specs.declared.state.Core.{Core}
 use Rattle.yaml_emit_state.specs.Steps.{state_of, settings_of, next_state, next_piece, LaysOut, IsFreshCore}
 use Rattle.yaml_emit_state.specs.Finish.{Finishes, FinishesAt, FinishesBy}

@@ -14,7 +14,7 @@ use Rattle.yaml_emit_layout.specs.Progress.{Progress, problem_in, progress_after
 use Rattle.yaml_emit_layout.specs.State.{State, placed, piece, next, problem_at, opens_empty, top_of}
 use Rattle.yaml_emit_layout.specs.ToCome.{ToCome, stream, events}
 use Rattle.yaml_emit_layout.specs.ToCome as come
-use Rattle.yaml_emit_layout.proofs.Going.{goes}
+use Rattle.yaml_emit_layout.proofs.LeadsOn.{goes}
 use Rattle.yaml_emit_held.specs.Held.{is_ready}
 use Rattle.yaml_emit_held.specs.Judged.{let_out, laid, shape_of}
 use Rattle.yaml_emit_held.proofs.Judging.{same_problem, shape_next, or_none, unless_none, unless_some, first_out}

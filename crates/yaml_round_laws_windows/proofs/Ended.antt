@@ -12,7 +12,7 @@ use Rattle.yaml_round_content.specs.parse_grammar.Resolve.{Reading}
 use Rattle.yaml_round_content.specs.round_laws_adapted.Adapted.{spells_text, cut}
 use Rattle.yaml_scan_laws_windows.specs.Cuts.{EndsIn, IsCut, IsEndLine}
 use Rattle.yaml_scan_laws_windows.specs.Laws.{scan_of}
-use Rattle.yaml_scan_laws_windows.proofs.Feeding.{front_mark}
+use Rattle.yaml_scan_laws_windows.proofs.BehindBreak.{front_mark}
 use Rattle.yaml_scan_laws_windows.proofs.Refused.{refused_fronts_are_scanned}
 use Rattle.yaml_scan_laws_windows.proofs.Ending.{line_long, whole_end, line_cut}
 use Rattle.yaml_scan_laws_windows.proofs.Opening.{begun_over, TailSo, line_tail}

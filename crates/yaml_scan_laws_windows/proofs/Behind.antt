@@ -31,7 +31,7 @@ use Rattle.yaml_scan_laws_windows.proofs.Words.{end_kind, kind_alike}
 use Rattle.yaml_scan_laws_windows.proofs.Cutting.{byte_right, byte_past, rest_alike, rest_lines}
 use Rattle.yaml_scan_laws_windows.proofs.Stepping.{has_read, read_kind}
 use Rattle.yaml_scan_laws_windows.proofs.Fronts.{next_open, next_over, history_more, EndsAt, front_history, end_step, front_pair}
-use Rattle.yaml_scan_laws_windows.proofs.Feeding.{front_line, front_mark}
+use Rattle.yaml_scan_laws_windows.proofs.BehindBreak.{front_line, front_mark}
 use Rattle.yaml_scan_laws_windows.proofs.Marking.{end_mark, mark_lexeme}
 use Rattle.yaml_scan_laws_windows.proofs.Turning.{finishes, end_byte, end_place, mark_there}
 use Rattle.yaml_scan_laws_windows.proofs.Depths.{read_deep}

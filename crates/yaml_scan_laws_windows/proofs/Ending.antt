@@ -20,7 +20,7 @@ use Rattle.yaml_scan_laws_windows.specs.Cuts.{EndsIn, EndsLine, IsCut, is_white,
 use Rattle.yaml_scan_laws_windows.proofs.Gaps.{is_passed, gap_passes, gap_breaks, gap_stops, left_step, gap_by}
 use Rattle.yaml_scan_laws_windows.proofs.Words.{break_byte, blank_kind, break_kind}
 use Rattle.yaml_scan_laws_windows.proofs.Cutting.{byte_left}
-use Rattle.yaml_scan_laws_windows.proofs.Feeding.{feed_last, fed_marks, fed_alike}
+use Rattle.yaml_scan_laws_windows.proofs.BehindBreak.{feed_last, fed_marks, fed_alike}
 use Rattle.yaml_scan_laws_windows.proofs.Histories.{Bases}
 use Rattle.yaml_scan_laws_windows.proofs.Fronts.{next_open}
 use Rattle.yaml_scan_laws_windows.proofs.Marking.{end_mark}

@@ -12,7 +12,7 @@ mod Cutting
 mod Histories
 mod Coming
 mod Stepping
-pub mod Feeding
+pub mod BehindBreak
 mod Fronts
 mod Marking
 mod Turning

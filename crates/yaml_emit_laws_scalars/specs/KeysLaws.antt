@@ -2,7 +2,7 @@
 use Rattle.std.specs.Prelude.{◌≡◌, ℕ, ◌+◌, ◌≤◌, Bool, true, List, ◌++◌, length, encode_utf8_all}
 use Rattle.yaml_scan_history.specs.scan_model.Marks.{mark_at}
 use Rattle.yaml_scan_history.specs.scan_words.Written.{HasAt}
-use Rattle.yaml_scan_history.specs.History.{is_fresh}
+use Rattle.yaml_scan_history.specs.History.{key_bytes, is_fresh}
 use Rattle.yaml_emit_layout.specs.emit_text.declared.Cursor.{Cursor}
 use Rattle.yaml_emit_layout.specs.emit_text.declared.Settings.{Settings}
 use Rattle.yaml_emit_layout.specs.emit_text.Layout.{Layout, Rest}
@@ -30,7 +30,7 @@ SimpleKeysAreNear = (s : Settings) (o : Opening) → IsWritableOpening o → (k 
 
 -- Where a text has what stays so near, its end is fresh from each of its places on.
 abbrev pub NearIsFresh : Type 0
-NearIsFresh = (a : Layout) (c : Cursor) (n : ℕ) → n ≤ 1024 → (near : StaysNear a c n)
+NearIsFresh = (a : Layout) (c : Cursor) (n : ℕ) → n ≤ key_bytes → (near : StaysNear a c n)
     → (text : List ℕ) (p : ℕ) → HasAt text p (encode_utf8_all near.shown) → (k : ℕ)
     → is_fresh (mark_at text (p + k)) (mark_at text (p + length (encode_utf8_all near.shown)))
     ≡ true

@@ -1,5 +1,6 @@
 -- What YAML 1.1 reads otherwise, or refuses, in a JSON text.
 use Rattle.std.specs.Prelude.{◌≡◌, ℕ, Bool, true, false, not, ◌&&◌, ◌||◌, ◌==◌, nat_le, if◌then◌else◌, List, [], ◌∷◌, ◌++◌, length}
+use Rattle.yaml_scan_history.specs.History.{key_bytes}
 use Rattle.yaml_round_laws_json.specs.Grammar.{Letter, raw, short, coded, code, string_bytes, Value, literal, number, string, empty_array, array, empty_object, object, Elements, last_element, element, Members, last_member, member, Text}
 
 -- ---- characters
@@ -35,9 +36,9 @@ abbrev pub has_break : List ℕ → Bool
 has_break [] = false
 has_break (b ∷ bs) = is_break b || has_break bs
 
--- A key stands on the line of its `:`, which is at most 1,024 bytes behind the key's start.
+-- A key stands on the line of its `:`, which is at most `key_bytes` behind the key's start.
 abbrev pub is_near : List Letter → List ℕ → Bool
-is_near key white = not (has_break white) && nat_le (length (string_bytes key ++ white)) 1024
+is_near key white = not (has_break white) && nat_le (length (string_bytes key ++ white)) key_bytes
 
 -- ---- tabs
 

@@ -44,9 +44,13 @@ candidate d (l ∷ h) =
     else if nat_lt l.depth d then None
     else candidate d h
 
--- the place is on its line and within 1,024 bytes of the start
+-- how many bytes behind its start a key's `:` may stand
+abbrev pub key_bytes : ℕ
+key_bytes = 1024
+
+-- the place is on its line and within `key_bytes` of the start
 abbrev pub is_fresh : yaml_mark_t → yaml_mark_t → Bool
-is_fresh start place = nat_le place.line start.line && nat_le place.index (start.index + 1024)
+is_fresh start place = nat_le place.line start.line && nat_le place.index (start.index + key_bytes)
 
 -- the candidate, where it isn't stale at that place
 abbrev pub fresh : Option Candidate → yaml_mark_t → Option Candidate

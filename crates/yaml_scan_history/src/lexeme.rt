@@ -7,6 +7,9 @@ ghost use Rattle.yaml_scan_history.specs.History.{placed};
 use crate::kind::Kind;
 use yaml_scan_model::yaml_mark_t;
 
+/// How many bytes behind its start a key's `:` may stand (YAML 1.1, 7.3.3).
+const KEY_BYTES: u64 = 1024;
+
 /// Where a lexeme stands, and what the lexemes before it decide.
 #[derive(Clone, Copy)]
 pub struct Lexeme {
@@ -48,12 +51,12 @@ pub struct Entry {
     pub key: bool,
 }
 
-/// Whether a candidate that starts there can still become a key at that place: on its line, and at most 1,024 bytes on
-/// (YAML 1.1, 7.3.3).
+/// Whether a candidate that starts there can still become a key at that place: on its line, and at most `KEY_BYTES`
+/// on.
 pub fn is_fresh(start: yaml_mark_t, place: yaml_mark_t) -> bool
     ensures { result ≡ is_fresh start place }
 {
-    place.line <= start.line && place.index.saturating_sub(start.index) <= 1024
+    place.line <= start.line && place.index.saturating_sub(start.index) <= KEY_BYTES
 }
 
 /// Where a lexeme's token starts: the stream's end stands at the start of a line.

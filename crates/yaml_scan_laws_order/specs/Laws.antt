@@ -1,7 +1,7 @@
 -- What is known of the lexemes of every text.
 use Rattle.std.specs.Prelude.{ℕ, suc, ◌+◌, ◌≡◌, ◌≢◌, ◌<◌, ◌≤◌, Some, List, ◌++◌, length, take}
 use Rattle.yaml_scan_history.specs.declared.lexeme.Lexeme.{Lexeme}
-use Rattle.yaml_scan_history.specs.History.{reached, Candidate, candidate, fresh, entries, first_open}
+use Rattle.yaml_scan_history.specs.History.{key_bytes, reached, Candidate, candidate, fresh, entries, first_open}
 use Rattle.yaml_scan_history.specs.Next.{Read, next, history}
 use Rattle.yaml_scan_history.specs.Remaining.{all, handed}
 use Rattle.yaml_scan_history.specs.Laws as layout
@@ -48,14 +48,14 @@ abbrev pub HistoryGrows : Type 0
 HistoryGrows = (text : List ℕ) (n m : ℕ) → n ≤ m → (newer : List Lexeme)
     × (history text m ≡ newer ++ history text n)
 
--- The earliest open candidate starts on the line that is reached, at most 1,024 bytes before the place that is reached.
+-- The earliest open candidate starts on the line that is reached, at most `key_bytes` before the place that is reached.
 abbrev pub HeldIsShort : Type 0
 HeldIsShort = (text : List ℕ) (n : ℕ) → first_open (history text n) (history text n)
     < length (history text n) → (c : Candidate)
     × (c.number ≡ first_open (history text n) (history text n))
     × (candidate c.lexeme.depth (history text n) ≡ Some c)
     × ((reached (history text n)).line ≡ c.lexeme.start.line)
-    × ((reached (history text n)).index ≤ c.lexeme.start.index + 1024)
+    × ((reached (history text n)).index ≤ c.lexeme.start.index + key_bytes)
 
 -- At most 1,025 lexemes stand from the earliest open candidate on.
 abbrev pub FewAreHeld : Type 0

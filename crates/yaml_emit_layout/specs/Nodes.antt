@@ -2,6 +2,7 @@
 use Rattle.std.specs.Prelude.{ℕ, ◌+◌, ◌-◌, Bool, true, false, not, ◌&&◌, ◌||◌, ◌==◌, nat_le, nat_lt, if◌then◌else◌, List, [], ◌∷◌, length, Option, Some, None, pos, codes, zero, suc}
 use Rattle.std.specs.Ordering.{int_eq}
 use Rattle.std.specs.Str.{chars}
+use Rattle.yaml_emit_tags.specs.scan_model.Ascii as ascii
 use Rattle.yaml_emit_tags.specs.scan_model.Classes.{has_break}
 use Rattle.yaml_emit_tags.specs.scan_model.declared.yaml_version_directive_t.{yaml_version_directive_t}
 use Rattle.yaml_emit_tags.specs.parse_model.Events.{TagDirective}
@@ -64,7 +65,7 @@ wrap_at s n = wrap s.width s.line_break n
 
 abbrev pub anchor_text : Option (List ℕ) → Layout
 anchor_text None = stay
-anchor_text (Some name) = word (38 ∷ name)
+anchor_text (Some name) = word (ascii.ampersand ∷ name)
 
 abbrev pub tag_text : Context → Option (List ℕ) → Layout
 tag_text p None = stay
@@ -90,7 +91,7 @@ style_of p at x =
 -- an untagged scalar that may not be quoted has `!` in front, unless it is plain
 abbrev pub mark_text : Context → Scalar → Style → Layout
 mark_text p x chosen = when (not (has (scalar_tag p.settings.canonical x))
-    && (not x.quoted && not (is_plain chosen))) (word (33 ∷ []))
+    && (not x.quoted && not (is_plain chosen))) (word (ascii.exclamation ∷ []))
 
 -- the lines that a scalar stands in
 abbrev pub page_at : Settings → NodePosition → Page
@@ -111,7 +112,8 @@ scalar_layout p at x =
 
 -- an alias as a simple key has a space behind it
 unfoldable pub alias_layout : NodePosition → List ℕ → Layout
-alias_layout at name = word (42 ∷ name) ▹ when (is_simple_part at.part) (char 32)
+alias_layout at name = word (ascii.asterisk ∷ name)
+    ▹ when (is_simple_part at.part) (char ascii.space)
 
 abbrev pub text_size : Option (List ℕ) → ℕ
 text_size None = 0
@@ -181,7 +183,7 @@ abbrev pub indented : (Cursor → ℕ) → (ℕ → Layout) → Layout
 indented n f c rest = f (n c) c rest
 
 abbrev pub comma : Bool → Layout
-comma fresh = when (not fresh) (char 44)
+comma fresh = when (not fresh) (char ascii.comma)
 
 -- in flow a line comes past the width alone; in canonical form always
 unfoldable pub turned : Settings → ℕ → Layout
@@ -190,11 +192,11 @@ turned s n = if s.canonical then line_at s n else wrap_at s n
 -- what comes before an item, by whether none has come
 unfoldable pub before_item : Settings → Bool → ℕ → Bool → Layout
 before_item s true n fresh = comma fresh ▹ turned s n
-before_item s false n fresh = line_at s n ▹ indicator 45
+before_item s false n fresh = line_at s n ▹ indicator ascii.hyphen
 
 abbrev pub question : Bool → Layout
-question true = word (63 ∷ [])
-question false = indicator 63
+question true = word (ascii.question ∷ [])
+question false = indicator ascii.question
 
 -- what comes before a key, by whether none has come and whether it is simple
 unfoldable pub before_key : Settings → Bool → ℕ → Bool → Bool → Layout
@@ -203,14 +205,14 @@ before_key s flow n fresh simple = (if flow then comma fresh ▹ turned s n else
 
 -- what comes before a value, by whether its key was simple
 unfoldable pub before_value : Settings → Bool → ℕ → Bool → Layout
-before_value s flow n true = char 58
-before_value s true n false = turned s n ▹ word (58 ∷ [])
-before_value s false n false = line_at s n ▹ indicator 58
+before_value s flow n true = char ascii.colon
+before_value s true n false = turned s n ▹ word (ascii.colon ∷ [])
+before_value s false n false = line_at s n ▹ indicator ascii.colon
 
 -- what ends a collection; in canonical form a comma and a line of the surroundings come before the indicator, unless nothing has come
 unfoldable pub closer : Settings → Bool → ℕ → Bool → ℕ → Layout
-closer s true n fresh x = when (s.canonical && not fresh) (char 44 ▹ line_at s (n - s.indent))
-    ▹ char x
+closer s true n fresh x =
+    when (s.canonical && not fresh) (char ascii.comma ▹ line_at s (n - s.indent)) ▹ char x
 closer s false n fresh x = stay
 
 abbrev pub key_part : Bool → Part
@@ -224,23 +226,23 @@ unfoldable mutual
   node_layout p at (scalar_node x) = scalar_layout p at x
   node_layout p at (sequence_node q items) =
       properties_text p q.anchor (start_tag p.settings.canonical q)
-      ▹ when (is_flow p.settings at q (are_none items)) (opener 91)
+      ▹ when (is_flow p.settings at q (are_none items)) (opener ascii.open_bracket)
       ▹ indented (indent_of p.settings at true (is_flow p.settings at q (are_none items)))
       (λ n. checked n ▹ items_layout p (is_flow p.settings at q (are_none items)) n true items)
   node_layout p at (mapping_node q pairs) =
       properties_text p q.anchor (start_tag p.settings.canonical q)
-      ▹ when (is_flow p.settings at q (are_no_pairs pairs)) (opener 123)
+      ▹ when (is_flow p.settings at q (are_no_pairs pairs)) (opener ascii.open_brace)
       ▹ indented (indent_of p.settings at false (is_flow p.settings at q (are_no_pairs pairs)))
       (λ n. checked n ▹ pairs_layout p (is_flow p.settings at q (are_no_pairs pairs)) n true
       pairs)
 
   pub items_layout : Context → Bool → ℕ → Bool → Nodes → Layout
-  items_layout p flow n fresh no_nodes = closer p.settings flow n fresh 93
+  items_layout p flow n fresh no_nodes = closer p.settings flow n fresh ascii.close_bracket
   items_layout p flow n fresh (node x xs) = before_item p.settings flow n fresh
       ▹ node_layout p (position flow n part.Item) x ▹ items_layout p flow n false xs
 
   pub pairs_layout : Context → Bool → ℕ → Bool → Pairs → Layout
-  pairs_layout p flow n fresh no_pairs = closer p.settings flow n fresh 125
+  pairs_layout p flow n fresh no_pairs = closer p.settings flow n fresh ascii.close_brace
   pairs_layout p flow n fresh (pair k v ps) =
       before_key p.settings flow n fresh (is_simple p k)
       ▹ node_layout p (position flow n (key_part (is_simple p k))) k
@@ -249,7 +251,7 @@ unfoldable mutual
       ▹ pairs_layout p flow n false ps
 
 abbrev pub dots : Settings → Layout
-dots s = word (46 ∷ 46 ∷ 46 ∷ []) ▹ line_at s 0
+dots s = word (ascii.dot ∷ ascii.dot ∷ ascii.dot ∷ []) ▹ line_at s 0
 
 abbrev pub version_word : yaml_version_directive_t → List ℕ
 version_word v = if int_eq v.minor (pos 1) then codes "1.1" else codes "1.2"
@@ -280,7 +282,8 @@ abbrev pub is_directed : Opening → Bool
 is_directed o = has_version o.version || has_directives o.directives
 
 abbrev pub dashes : Settings → Layout
-dashes s = line_at s 0 ▹ word (45 ∷ 45 ∷ 45 ∷ []) ▹ when s.canonical (line_at s 0)
+dashes s = line_at s 0 ▹ word (ascii.hyphen ∷ ascii.hyphen ∷ ascii.hyphen ∷ [])
+    ▹ when s.canonical (line_at s 0)
 
 -- a first implicit document without directives has no `---`; in canonical form each has one
 abbrev pub is_marked : Settings → Bool → Opening → Bool

@@ -1,5 +1,6 @@
 -- Layouts: what is written from a cursor on, with what follows at the cursor behind it.
 use Rattle.std.specs.Prelude.{ℕ, zero, suc, ◌+◌, ◌-◌, Bool, true, false, not, ◌&&◌, ◌||◌, ◌==◌, nat_lt, if◌then◌else◌, List, [], ◌∷◌}
+use Rattle.yaml_types.specs.Ascii as ascii
 use Rattle.yaml_emit_sink.specs.declared.cursor.Cursor.{Cursor}
 use Rattle.yaml_emit_sink.specs.declared.settings.Encoding.{Encoding}
 use Rattle.yaml_emit_sink.specs.declared.settings.Encoding.TheVariants.{Utf8, Utf16Le, Utf16Be}
@@ -41,7 +42,7 @@ letters (x ∷ xs) = char x ▹ letters xs
 
 -- a space that parts
 abbrev pub blank : Layout
-blank c rest = letter 32 ∷ rest
+blank c rest = letter ascii.space ∷ rest
     (record { column = c.column + 1; white = true; bare = c.bare; kept = c.kept })
 
 unfoldable pub blanks : ℕ → Layout
@@ -54,9 +55,9 @@ break x c rest = letter x ∷ rest (record { column = 0; white = true; bare = tr
 
 -- the break that is set
 abbrev pub new_line : LineBreak → Layout
-new_line Lf = break 10
-new_line Cr = break 13
-new_line CrLf = char 13 ▹ break 10
+new_line Lf = break ascii.line_feed
+new_line Cr = break ascii.carriage_return
+new_line CrLf = char ascii.carriage_return ▹ break ascii.line_feed
 
 abbrev pub is_white : Cursor → Bool
 is_white c = c.white

@@ -1,6 +1,7 @@
 -- The spelling of tags.
 use Rattle.std.specs.Prelude.{ℕ, ◌+◌, Bool, true, false, not, ◌&&◌, ◌||◌, ◌==◌, nat_lt, nat_le, if◌then◌else◌, List, [], ◌∷◌, ◌++◌, length, take, drop, codes, Option, Some, None}
 use Rattle.std.specs.Str.{bytes_eq}
+use Rattle.yaml_scan_model.specs.Ascii as ascii
 use Rattle.yaml_parse_model.specs.Events.{TagDirective}
 use Rattle.yaml_emit_tags.specs.declared.split.SplitTag.{SplitTag}
 use Rattle.yaml_emit_tags.specs.declared.split.SplitTag.TheVariants as tagging
@@ -23,11 +24,11 @@ defines (d ∷ ds) handle = bytes_eq d.handle handle || defines ds handle
 
 -- `!` stands for `!`
 abbrev pub primary : TagDirective
-primary = record { handle = 33 ∷ []; prefix = 33 ∷ [] }
+primary = record { handle = ascii.exclamation ∷ []; prefix = ascii.exclamation ∷ [] }
 
 -- `!!` stands for `tag:yaml.org,2002:`
 abbrev pub secondary : TagDirective
-secondary = record { handle = 33 ∷ 33 ∷ []; prefix = codes "tag:yaml.org,2002:" }
+secondary = record { handle = ascii.exclamation ∷ ascii.exclamation ∷ []; prefix = codes "tag:yaml.org,2002:" }
 
 -- a handle that no directive defines stands for the start of a tag
 abbrev pub stands_for : List TagDirective → TagDirective → List ℕ → Bool
@@ -62,7 +63,7 @@ keeps_byte flow b = if flow then prefix_keeps b else suffix_keeps b
 
 -- a byte as it is, or `%` and its number in capitals
 abbrev pub uri_byte : Bool → ℕ → List ℕ
-uri_byte flow b = if keeps_byte flow b then b ∷ [] else 37 ∷ hex_2 b
+uri_byte flow b = if keeps_byte flow b then b ∷ [] else ascii.percent ∷ hex_2 b
 
 -- flow: , [ ] may stand
 unfoldable pub uri_text : Bool → List ℕ → List ℕ
@@ -87,7 +88,7 @@ split_tag ds tag = split_by (directive_for (in_force ds) tag) tag
 
 unfoldable pub spelled : Split → List ℕ
 spelled (shorthand handle suffix) = handle ++ uri_text false suffix
-spelled (verbatim tag) = 33 ∷ 60 ∷ (uri_text true tag ++ 62 ∷ [])
+spelled (verbatim tag) = ascii.exclamation ∷ ascii.less ∷ (uri_text true tag ++ ascii.greater ∷ [])
 
 -- a tag under a document's directives
 abbrev pub tag_spelling : List TagDirective → List ℕ → List ℕ

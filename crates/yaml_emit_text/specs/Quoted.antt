@@ -1,5 +1,6 @@
 -- Double quoted text: escapes, and folds at the width.
 use Rattle.std.specs.Prelude.{ℕ, ◌/◌, ◌%◌, Bool, true, false, not, ◌==◌, ◌&&◌, ◌||◌, nat_lt, nat_le, if◌then◌else◌, List, [], ◌∷◌, ◌++◌}
+use Rattle.yaml_types.specs.Ascii as ascii
 use Rattle.yaml_emit_text.specs.declared.page.Page.{Page}
 use Rattle.yaml_emit_sink.specs.Text.{is_break}
 use Rattle.yaml_emit_sink.specs.Hex.{hex_2}
@@ -15,7 +16,8 @@ is_printable c =
 -- what is not printable, or not ASCII with unicode off, a break, `"` or `\`
 unfoldable pub needs_escape : Bool → ℕ → Bool
 needs_escape unicode c =
-    not (is_printable c) || (not unicode && nat_le 0x80 c) || is_break c || c == 34 || c == 92
+    not (is_printable c) || (not unicode && nat_le 0x80 c) || is_break c || c == ascii.quote
+    || c == ascii.backslash
 
 -- the letter that stands for a character behind a backslash, or 0
 unfoldable pub escape_letter : ℕ → ℕ
@@ -46,10 +48,10 @@ hex_8 n = hex_4 (n / 0x1_0000) ++ hex_4 (n % 0x1_0000)
 -- a backslash, and a letter, or `x`, `u` or `U` and a number
 unfoldable pub escape_text : ℕ → List ℕ
 escape_text c =
-    if not (escape_letter c == 0) then 92 ∷ escape_letter c ∷ []
-    else if nat_lt c 0x100 then 92 ∷ 120 ∷ hex_2 c
-    else if nat_lt c 0x1_0000 then 92 ∷ 117 ∷ hex_4 c
-    else 92 ∷ 85 ∷ hex_8 c
+    if not (escape_letter c == 0) then ascii.backslash ∷ escape_letter c ∷ []
+    else if nat_lt c 0x100 then ascii.backslash ∷ 120 ∷ hex_2 c
+    else if nat_lt c 0x1_0000 then ascii.backslash ∷ 117 ∷ hex_4 c
+    else ascii.backslash ∷ 85 ∷ hex_8 c
 
 -- the first character, 0 at the end
 abbrev pub first : List ℕ → ℕ
@@ -62,12 +64,13 @@ is_empty (c ∷ cs) = false
 
 -- a space that may be folded: no space is before it, and it is neither first nor last
 abbrev pub may_fold : Page → ℕ → ℕ → List ℕ → Bool
-may_fold page before x rest = page.cuts && (x == 32 && (not (before == 32) && not (is_empty rest)))
+may_fold page before x rest = page.cuts
+    && (x == ascii.space && (not (before == ascii.space) && not (is_empty rest)))
 
 -- past the width, what is to be folded becomes a break and the indentation, and a backslash where a space follows
 abbrev pub fold : Page → List ℕ → Layout
 fold page rest = new_line page.line_break
-    ▹ (blanks page.indentation ▹ when (first rest == 32) (char 92))
+    ▹ (blanks page.indentation ▹ when (first rest == ascii.space) (char ascii.backslash))
 
 abbrev pub escaped : Bool → ℕ → Layout
 escaped unicode x = if needs_escape unicode x then letters (escape_text x) else char x
@@ -82,4 +85,5 @@ quoted_body page before [] = stay
 quoted_body page before (x ∷ xs) = quoted_char page before x xs ▹ quoted_body page x xs
 
 abbrev pub double_quoted : Page → List ℕ → Layout
-double_quoted page value = gap ▹ (char 34 ▹ (quoted_body page 32 value ▹ char 34))
+double_quoted page value = gap
+    ▹ (char ascii.quote ▹ (quoted_body page ascii.space value ▹ char ascii.quote))

@@ -1,5 +1,6 @@
 -- Scalars of each style.
 use Rattle.std.specs.Prelude.{ℕ, ◌+◌, Bool, true, false, not, ◌&&◌, ◌||◌, ◌==◌, nat_lt, if◌then◌else◌, List, [], ◌∷◌}
+use Rattle.yaml_types.specs.Ascii as ascii
 use Rattle.yaml_emit_text.specs.declared.page.Page.{Page}
 use Rattle.yaml_emit_text.specs.declared.page.Style.{Style}
 use Rattle.yaml_emit_text.specs.declared.page.Style.TheVariants as style
@@ -13,12 +14,13 @@ use Rattle.yaml_emit_text.specs.Style.{is_blank, last_or}
 
 -- a break of a value: LF as the break that is set, the others as they are
 abbrev pub value_break : LineBreak → ℕ → Layout
-value_break b x = if x == 10 then new_line b else break x
+value_break b x = if x == ascii.line_feed then new_line b else break x
 
 -- a space that may be cut: it is neither first nor last, and no space is beside it
 abbrev pub cuts_at : Page → ℕ → ℕ → List ℕ → Bool
 cuts_at page before x rest = page.cuts
-    && (x == 32 && (not (before == 32) && (not (first rest == 32) && not (is_empty rest))))
+    && (x == ascii.space
+    && (not (before == ascii.space) && (not (first rest == ascii.space) && not (is_empty rest))))
 
 -- a space that may be cut, past the width or not
 abbrev pub cut : Page → ℕ → Layout
@@ -26,7 +28,7 @@ cut page x = choose (is_past page.width) (line page.line_break page.indentation)
 
 -- in single quotes `'` is doubled
 abbrev pub quote_char : Bool → ℕ → Layout
-quote_char quote x = when (quote && x == 39) (char 39) ▹ char x
+quote_char quote x = when (quote && x == ascii.apostrophe) (char ascii.apostrophe) ▹ char x
 
 abbrev pub text_char : Page → Bool → Bool → ℕ → Layout
 text_char page quote cuts x = if cuts then cut page x else quote_char quote x
@@ -34,8 +36,8 @@ text_char page quote cuts x = if cuts then cut page x else quote_char quote x
 -- a run of breaks that begins with LF gets one break more in front; a line follows the run
 unfoldable pub flow_char : Page → Bool → ℕ → ℕ → List ℕ → Layout
 flow_char page quote before x rest =
-    if is_break x then when (x == 10 && not (is_break before)) (new_line page.line_break)
-    ▹ value_break page.line_break x
+    if is_break x then when (x == ascii.line_feed && not (is_break before))
+    (new_line page.line_break) ▹ value_break page.line_break x
     else when (is_break before) (line page.line_break page.indentation) ▹ text_char page quote
     (cuts_at page before x rest) x
 
@@ -47,25 +49,28 @@ flow_body page quote before (x ∷ xs) = flow_char page quote before x xs ▹ fl
 -- a space in front stands for the start: there no space is cut; outside flow an empty one is nothing, not even a space
 abbrev pub plain : Page → Bool → List ℕ → Layout
 plain page flow value = when (flow || not (is_empty value)) gap
-    ▹ (flow_body page false 32 value ▹ after_text)
+    ▹ (flow_body page false ascii.space value ▹ after_text)
 
 abbrev pub single_quoted : Page → List ℕ → Layout
-single_quoted page value = gap ▹ (char 39 ▹ (flow_body page true 32 value ▹ char 39))
+single_quoted page value = gap
+    ▹ (char ascii.apostrophe ▹ (flow_body page true ascii.space value ▹ char ascii.apostrophe))
 
 -- the first character behind a run of breaks; the end counts as a blank
 unfoldable pub behind_breaks : List ℕ → ℕ
-behind_breaks [] = 32
+behind_breaks [] = ascii.space
 behind_breaks (c ∷ cs) = if is_break c then behind_breaks cs else c
 
 -- folded: a break more before LF, behind a line that does not begin with a blank, before one that does not
 abbrev pub adds_break : Bool → Bool → ℕ → ℕ → List ℕ → Bool
 adds_break folded blank before x rest = folded
-    && (x == 10 && (not (is_break before) && (not blank && not (is_blank (behind_breaks rest)))))
+    && (x == ascii.line_feed
+    && (not (is_break before) && (not blank && not (is_blank (behind_breaks rest)))))
 
 -- folded: a space that may be cut
 abbrev pub cuts_block : Bool → Bool → ℕ → ℕ → List ℕ → Bool
 cuts_block folded blank before x rest = folded
-    && (x == 32 && (not blank && (not (is_break before) && not (first rest == 32))))
+    && (x == ascii.space
+    && (not blank && (not (is_break before) && not (first rest == ascii.space))))
 
 -- whether a line begins with a blank
 abbrev pub line_blank : Bool → ℕ → ℕ → Bool
@@ -96,7 +101,7 @@ chomp_of broken last = if last then (if broken then chomping.Keep else chomping.
 
 -- a text ends in a break; an empty one counts as one that does
 abbrev pub ends_in_break : List ℕ → Bool
-ends_in_break text = is_break (last_or 10 text)
+ends_in_break text = is_break (last_or ascii.line_feed text)
 
 -- by how it ends, behind a break or not
 unfoldable pub chomp : Bool → Bool → List ℕ → Chomp
@@ -104,9 +109,9 @@ chomp broken last [] = chomp_of broken last
 chomp broken last (x ∷ xs) = chomp last (is_break x) xs
 
 abbrev pub chomp_mark : Chomp → Layout
-chomp_mark chomping.Strip = char 45 ▹ keep false
+chomp_mark chomping.Strip = char ascii.hyphen ▹ keep false
 chomp_mark chomping.Clip = keep false
-chomp_mark chomping.Keep = char 43 ▹ keep true
+chomp_mark chomping.Keep = char ascii.plus ▹ keep true
 
 -- an indent of more than one digit means 2
 abbrev pub digit_char : ℕ → ℕ

@@ -2,6 +2,7 @@
 -- bytes of a part stand in front of those that follow.
 use Rattle.std.specs.Prelude.{◌≡◌, ◌<◌, ℕ, ◌+◌, ◌*◌, Bool, true, false, not, ◌&&◌, ◌||◌, ◌==◌, nat_lt, nat_le, if◌then◌else◌, List, [], ◌∷◌, ◌++◌, Option, Some, None, codes, encode_utf8}
 use Rattle.std.specs.List.{list_all}
+use Rattle.yaml_scan_history.specs.scan_model.Ascii as ascii
 use lib.Utf8.{scalar}
 
 -- ---- white
@@ -33,8 +34,8 @@ pub data Sign : Type 0 where
 
 abbrev pub sign_bytes : Sign → List ℕ
 sign_bytes no_sign = []
-sign_bytes plus = 43 ∷ []
-sign_bytes minus = 45 ∷ []
+sign_bytes plus = ascii.plus ∷ []
+sign_bytes minus = ascii.hyphen ∷ []
 
 -- `E` or `e`, a sign and digits
 pub record Exponent : Type 0 where
@@ -51,7 +52,7 @@ pub record Number : Type 0 where
 
 abbrev pub fraction_bytes : Option (List ℕ) → List ℕ
 fraction_bytes None = []
-fraction_bytes (Some digits) = 46 ∷ digits
+fraction_bytes (Some digits) = ascii.dot ∷ digits
 
 abbrev pub exponent_bytes : Option Exponent → List ℕ
 exponent_bytes None = []
@@ -141,15 +142,16 @@ code a b c d = ((a.value * 16 + b.value) * 16 + c.value) * 16 + d.value
 
 abbrev pub letter_bytes : Letter → List ℕ
 letter_bytes (raw c) = encode_utf8 c
-letter_bytes (short s) = 92 ∷ short_byte s ∷ []
-letter_bytes (coded a b c d) = 92 ∷ 117 ∷ hex_byte a ∷ hex_byte b ∷ hex_byte c ∷ hex_byte d ∷ []
+letter_bytes (short s) = ascii.backslash ∷ short_byte s ∷ []
+letter_bytes (coded a b c d) =
+    ascii.backslash ∷ 117 ∷ hex_byte a ∷ hex_byte b ∷ hex_byte c ∷ hex_byte d ∷ []
 
 abbrev pub letters_bytes : List Letter → List ℕ
 letters_bytes [] = []
 letters_bytes (l ∷ ls) = letter_bytes l ++ letters_bytes ls
 
 abbrev pub string_bytes : List Letter → List ℕ
-string_bytes ls = 34 ∷ (letters_bytes ls ++ 34 ∷ [])
+string_bytes ls = ascii.quote ∷ (letters_bytes ls ++ ascii.quote ∷ [])
 
 -- from U+0020 on, but `"` and the backslash
 abbrev pub IsLetter : Letter → Type 0
@@ -192,21 +194,25 @@ unfoldable mutual
   value_bytes (literal l) bs = literal_bytes l ++ bs
   value_bytes (number n) bs = number_bytes n ++ bs
   value_bytes (string ls) bs = string_bytes ls ++ bs
-  value_bytes (empty_array w) bs = 91 ∷ (w ++ 93 ∷ bs)
-  value_bytes (array w elements) bs = 91 ∷ (w ++ elements_bytes elements (93 ∷ bs))
-  value_bytes (empty_object w) bs = 123 ∷ (w ++ 125 ∷ bs)
-  value_bytes (object w members) bs = 123 ∷ (w ++ members_bytes members (125 ∷ bs))
+  value_bytes (empty_array w) bs = ascii.open_bracket ∷ (w ++ ascii.close_bracket ∷ bs)
+  value_bytes (array w elements) bs =
+      ascii.open_bracket ∷ (w ++ elements_bytes elements (ascii.close_bracket ∷ bs))
+  value_bytes (empty_object w) bs = ascii.open_brace ∷ (w ++ ascii.close_brace ∷ bs)
+  value_bytes (object w members) bs =
+      ascii.open_brace ∷ (w ++ members_bytes members (ascii.close_brace ∷ bs))
 
   pub elements_bytes : Elements → List ℕ → List ℕ
   elements_bytes (last_element v a) bs = value_bytes v (a ++ bs)
   elements_bytes (element v a b elements) bs =
-      value_bytes v (a ++ 44 ∷ (b ++ elements_bytes elements bs))
+      value_bytes v (a ++ ascii.comma ∷ (b ++ elements_bytes elements bs))
 
   pub members_bytes : Members → List ℕ → List ℕ
   members_bytes (last_member k a b v c) bs =
-      string_bytes k ++ (a ++ 58 ∷ (b ++ value_bytes v (c ++ bs)))
+      string_bytes k ++ (a ++ ascii.colon ∷ (b ++ value_bytes v (c ++ bs)))
   members_bytes (member k a b v c d members) bs =
-      string_bytes k ++ (a ++ 58 ∷ (b ++ value_bytes v (c ++ 44 ∷ (d ++ members_bytes members bs))))
+      string_bytes k
+      ++ (a
+      ++ ascii.colon ∷ (b ++ value_bytes v (c ++ ascii.comma ∷ (d ++ members_bytes members bs))))
 
 abbrev mutual
   pub IsValue : Value → Type 0

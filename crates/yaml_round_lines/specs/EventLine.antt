@@ -1,6 +1,7 @@
 -- The line that tells an event.
 use Rattle.std.specs.Prelude.{ℕ, Bool, true, false, ◌==◌, if◌then◌else◌, List, [], ◌∷◌, ◌++◌, Option, Some, None, codes}
 use Rattle.std.specs.List.{flat_map}
+use Rattle.yaml_scan_model.specs.Ascii as ascii
 use Rattle.yaml_scan_model.specs.declared.yaml_scalar_style_t.{yaml_scalar_style_t}
 use Rattle.yaml_scan_model.specs.declared.yaml_scalar_style_t.TheVariants as style
 use Rattle.yaml_parse_model.specs.Events.{EventBody}
@@ -9,12 +10,12 @@ use Rattle.yaml_parse_model.specs.Events as event
 -- A byte of a tag or a value: a backslash, and 00, 08, 09, 0A and 0D, are a backslash and a letter.
 unfoldable pub escaped_byte : ℕ → List ℕ
 escaped_byte b =
-    if b == 92 then 92 ∷ 92 ∷ []
-    else if b == 0 then 92 ∷ 48 ∷ []
-    else if b == 8 then 92 ∷ 98 ∷ []
-    else if b == 9 then 92 ∷ 116 ∷ []
-    else if b == 10 then 92 ∷ 110 ∷ []
-    else if b == 13 then 92 ∷ 114 ∷ []
+    if b == ascii.backslash then ascii.backslash ∷ ascii.backslash ∷ []
+    else if b == 0 then ascii.backslash ∷ 48 ∷ []
+    else if b == 8 then ascii.backslash ∷ 98 ∷ []
+    else if b == 9 then ascii.backslash ∷ 116 ∷ []
+    else if b == 10 then ascii.backslash ∷ 110 ∷ []
+    else if b == 13 then ascii.backslash ∷ 114 ∷ []
     else b ∷ []
 
 abbrev pub escaped : List ℕ → List ℕ
@@ -32,12 +33,12 @@ tag_part (Some tag) = codes " <" ++ escaped tag ++ codes ">"
 
 -- the style's indicator
 abbrev pub indicator_of : yaml_scalar_style_t → ℕ
-indicator_of style.YAML_ANY_SCALAR_STYLE = 58
-indicator_of style.YAML_PLAIN_SCALAR_STYLE = 58
-indicator_of style.YAML_SINGLE_QUOTED_SCALAR_STYLE = 39
-indicator_of style.YAML_DOUBLE_QUOTED_SCALAR_STYLE = 34
-indicator_of style.YAML_LITERAL_SCALAR_STYLE = 124
-indicator_of style.YAML_FOLDED_SCALAR_STYLE = 62
+indicator_of style.YAML_ANY_SCALAR_STYLE = ascii.colon
+indicator_of style.YAML_PLAIN_SCALAR_STYLE = ascii.colon
+indicator_of style.YAML_SINGLE_QUOTED_SCALAR_STYLE = ascii.apostrophe
+indicator_of style.YAML_DOUBLE_QUOTED_SCALAR_STYLE = ascii.quote
+indicator_of style.YAML_LITERAL_SCALAR_STYLE = ascii.bar
+indicator_of style.YAML_FOLDED_SCALAR_STYLE = ascii.greater
 
 -- what an explicit document mark adds
 abbrev pub mark_part : Bool → List ℕ → List ℕ
@@ -54,7 +55,7 @@ event_text (event.document_start version directives implicit) = codes "+DOC" ++ 
 event_text (event.document_end implicit) = codes "-DOC" ++ mark_part implicit (codes " ...")
 event_text (event.alias anchor) = codes "=ALI *" ++ anchor
 event_text (event.scalar anchor tag value plain quoted style) = codes "=VAL" ++ anchor_part anchor
-    ++ tag_part tag ++ (32 ∷ indicator_of style ∷ []) ++ escaped value
+    ++ tag_part tag ++ (ascii.space ∷ indicator_of style ∷ []) ++ escaped value
 event_text (event.sequence_start anchor tag implicit style) = codes "+SEQ" ++ anchor_part anchor
     ++ tag_part tag
 event_text event.sequence_end = codes "-SEQ"
@@ -63,4 +64,4 @@ event_text (event.mapping_start anchor tag implicit style) = codes "+MAP" ++ anc
 event_text event.mapping_end = codes "-MAP"
 
 abbrev pub event_line : EventBody → List ℕ
-event_line body = event_text body ++ 10 ∷ []
+event_line body = event_text body ++ ascii.line_feed ∷ []

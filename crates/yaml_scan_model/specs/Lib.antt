@@ -4,6 +4,7 @@ pub use Rattle.yaml_types.specs.Tokens
 pub use Rattle.yaml_types.specs.Faults
 pub use Rattle.yaml_types.specs.Ends
 pub use Rattle.yaml_types.specs.Widths
+pub use Rattle.yaml_types.specs.Ascii
 pub mod Problems
 pub mod Breaks
 pub mod Runs

@@ -4,3 +4,4 @@ pub mod Tokens
 pub mod Faults
 pub mod Ends
 pub mod Widths
+pub mod Ascii

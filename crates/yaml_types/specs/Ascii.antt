@@ -1,0 +1,74 @@
+-- The characters that have a meaning of their own, by name.
+use Rattle.std.specs.Prelude.{ℕ}
+
+abbrev pub tab : ℕ
+tab = 9
+
+abbrev pub line_feed : ℕ
+line_feed = 10
+
+abbrev pub carriage_return : ℕ
+carriage_return = 13
+
+abbrev pub space : ℕ
+space = 32
+
+abbrev pub exclamation : ℕ
+exclamation = 33
+
+abbrev pub quote : ℕ
+quote = 34
+
+abbrev pub percent : ℕ
+percent = 37
+
+abbrev pub ampersand : ℕ
+ampersand = 38
+
+abbrev pub apostrophe : ℕ
+apostrophe = 39
+
+abbrev pub asterisk : ℕ
+asterisk = 42
+
+abbrev pub plus : ℕ
+plus = 43
+
+abbrev pub comma : ℕ
+comma = 44
+
+abbrev pub hyphen : ℕ
+hyphen = 45
+
+abbrev pub dot : ℕ
+dot = 46
+
+abbrev pub colon : ℕ
+colon = 58
+
+abbrev pub less : ℕ
+less = 60
+
+abbrev pub greater : ℕ
+greater = 62
+
+abbrev pub question : ℕ
+question = 63
+
+abbrev pub open_bracket : ℕ
+open_bracket = 91
+
+abbrev pub backslash : ℕ
+backslash = 92
+
+abbrev pub close_bracket : ℕ
+close_bracket = 93
+
+abbrev pub bar : ℕ
+bar = 124
+
+abbrev pub open_brace : ℕ
+open_brace = 123
+
+abbrev pub close_brace : ℕ
+close_brace = 125

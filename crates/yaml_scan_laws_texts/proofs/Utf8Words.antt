@@ -22,13 +22,12 @@ use Rattle.yaml_scan_laws_order.specs.scan_scalars.Plain.{PlainText, plain_at, s
 use Rattle.yaml_scan_laws_order.specs.scan_block.Block.{BlockText, block_at, style_at}
 use Rattle.yaml_scan_laws_order.specs.scan_history.declared.kind.Kind.{Kind}
 use Rattle.yaml_scan_laws_order.specs.scan_history.declared.kind.Kind.TheVariants as kinds
-use Rattle.yaml_scan_laws_order.specs.scan_history.Words.{indicator_of, kind_at, WordText, carrying, valued, tagged, body_said, directed, blocked, plainly, word_at}
+use Rattle.yaml_scan_laws_order.specs.scan_history.Words.{indicator_of, or_plain, kind_at, WordText, carrying, valued, tagged, body_said, directed, blocked, plainly, word_at}
 use Rattle.yaml_scan_laws_texts.specs.Utf8Texts.{HasTexts}
 use Rattle.yaml_scan_laws_texts.proofs.Whole.{IsWhole, whole_ascii, whole_after, whole_before, whole_behind, blank_small, ascii_utf8, slice_utf8}
 use Rattle.yaml_scan_laws_texts.proofs.Quoted.{HasQuoted, quoted_utf8, is_small}
 use Rattle.yaml_scan_laws_texts.proofs.Plain.{HasPlain, plain_utf8}
 use Rattle.yaml_scan_laws_texts.proofs.Block.{HasBlock, block_utf8}
-use Rattle.yaml_scan_laws_order.proofs.WordForward.{plain_fits}
 
 -- a blank, a break or the end
 pub end_whole : (text : List ℕ) (p : ℕ) → IsUtf8 text → is_blank_or_end text p ≡ true
@@ -314,6 +313,12 @@ indicator_fits flow alone text p =
     (pick text p (b == 62 && not flow) kinds.Folded _ (small_with b 62 (not flow) (omega arith))
     (pick text p (b == 39) kinds.SingleQuoted _ (is_small b 39 (omega arith))
     (pick text p (b == 34) kinds.DoubleQuoted None (is_small b 34 (omega arith)) tt))))))))))))))
+
+plain_fits : (o : Option Kind) (starts : Bool) (text : List ℕ) (p : ℕ) → p < length text
+    → FitsAny o text p → FitsAny (or_plain o starts) text p
+plain_fits (Some k) starts text p l f = f
+plain_fits None true text p l f = l
+plain_fits None false text p l f = tt
 
 third_small : (a b c d x : ℕ) (last : Bool)
     → ((a == 0 && (b == x && (c == x && d == x))) && last) ≡ true → x < 128 → d < 128

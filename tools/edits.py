@@ -35,7 +35,7 @@ Each line is a change of the code that the prover must refuse (`crates/CRATE/mus
 LINES_HEAD = f"""
 ## By a line
 
-No clause says these, or no edit turns them: the crate whose clauses do has none, since for a first one it would be proved twice, or the body stands too far below its public call. A line of `{LINES}` refuses each. That want of memory is told where none was met is refused by every line that wants an answer: no clause can say that memory is there.
+No clause says these, or no edit turns them: the crate whose clauses do has none, or one, since for a first one it would be proved once more and for a second one twice, or the body stands too far below its public call. A line of `{LINES}` refuses each. That want of memory is told where none was met is refused by every line that wants an answer: no clause can say that memory is there.
 
 | call | line | the meaning that it turns |
 |---|---|---|

@@ -15,7 +15,14 @@ from yaml_c import _calls, _library, _records
 HERE = os.path.dirname(os.path.abspath(__file__))
 HEADER = os.path.join(HERE, "..", "..", "c", "yaml_c.h")
 CRATES = os.path.join(HERE, "..", "..", "..", "crates")
-PROVED = [os.path.join(CRATES, f"yaml_round_{it}", "specs", "Offsets.antt") for it in ("records", "tokens", "answers")]
+PROVED = [
+    os.path.join(CRATES, crate, "specs", name)
+    for crate, name in (
+        ("yaml_round_records", "Offsets.antt"),
+        ("yaml_round_records", "TokensOffsets.antt"),
+        ("yaml_round_answers", "Offsets.antt"),
+    )
+]
 RECORDS: dict[str, Any] = {
     "bytes": _library.Bytes,
     "mark": _library.MarkRecord,

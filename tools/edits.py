@@ -82,7 +82,7 @@ FIRST = [
 IMPLIED_HEAD = """
 ## What another edit implies
 
-No edit turns these meanings at their own call, since the prover would let none of them through without the one that is named.
+No edit turns these meanings at their own call. As the clauses stand, no body that turns one is proved: the edit that is named is refused only where such a body is too, or the call has the same definition in its clause as the one that is named. The second says nothing of a clause that names another definition some day: who parts two such clauses gives the call an edit of its own.
 
 | call | the meaning | implied by | since |
 |---|---|---|---|

@@ -1,5 +1,6 @@
 -- Collections in brackets, and what stands in them, at any depth.
 use Rattle.std.specs.Prelude.{◌≡◌, ◌⊎◌, ◌≤◌, ℕ, nat_lt, Bool, true, false, List, [], ◌∷◌, None}
+use Rattle.yaml_emit_laws_text.specs.emit_layout.scan_model.Ascii as ascii
 use Rattle.yaml_emit_laws_text.specs.emit_layout.scan_model.declared.yaml_encoding_t.{yaml_encoding_t}
 use Rattle.yaml_emit_laws_text.specs.emit_layout.scan_model.Tokens as tokens
 use Rattle.yaml_emit_laws_text.specs.emit_layout.scan_model.Tokens.{TokenBody}
@@ -61,7 +62,8 @@ KeyWalksIn p k = (n : ℕ) (ls : List ℕ) (c : Cursor) (rest : Rest) → indent
     → (x : yaml_encoding_t) (text : List ℕ) (o : WalkState) (cs : List ℕ)
     (T : List TokenBody → List TokenBody) → WalkReads x text o cs ls [] T → nat_lt 0 o.depth ≡ true
     → o.now ≡ true → Outside o.depth cs
-    → Left text o.at (bytes ((node_layout p (position true n part.SimpleKey) k ▹ char 58) c rest))
+    → Left text o.at (bytes ((node_layout p (position true n part.SimpleKey) k
+    ▹ char ascii.colon) c rest))
     → GoesIn x text rest c.kept o.depth cs ls (λ bs. T (tokens.key
     ∷ node_bodies p true part.SimpleKey false k (tokens.value ∷ bs)))
 

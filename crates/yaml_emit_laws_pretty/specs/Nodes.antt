@@ -1,5 +1,6 @@
 -- Nodes in a block: each is walked with the line behind it.
 use Rattle.std.specs.Prelude.{◌≡◌, ◌≤◌, ◌+◌, ℕ, Bool, true, false, not, ◌||◌, List, [], ◌∷◌, Option, Some, None}
+use Rattle.yaml_emit_laws_text.specs.emit_layout.scan_model.Ascii as ascii
 use Rattle.yaml_emit_laws_text.specs.emit_layout.scan_model.declared.yaml_encoding_t.{yaml_encoding_t}
 use Rattle.yaml_emit_laws_text.specs.emit_layout.scan_model.Tokens as tokens
 use Rattle.yaml_emit_laws_text.specs.emit_layout.scan_model.Tokens.{TokenBody}
@@ -185,7 +186,7 @@ pub record KeyWalks (p : Context) (k : Node) : Type 0 where
   pub walks : (x : yaml_encoding_t) (text : List ℕ) (n : ℕ) (kept : Bool) (ls more new : List ℕ)
       (what : Opens) (T : List TokenBody → List TokenBody) (rest : Rest)
       → Lined x text
-      (λ e. (node_layout p (block_position (Some n) part.SimpleKey) k ▹ char 58) e rest)
+      (λ e. (node_layout p (block_position (Some n) part.SimpleKey) k ▹ char ascii.colon) e rest)
       n kept ls more T
       → indent ls ≤ n + 1 → Rises (n + 1) more → opened true (n + 1) ls ≡ new
       → start_of 0 (n + 1) ls opening.Mapping ≡ what → PartedBehind rest
@@ -193,7 +194,7 @@ pub record KeyWalks (p : Context) (k : Node) : Type 0 where
       ∷ node_bodies p false part.SimpleKey false k (tokens.value ∷ bs))))
   pub shows : (n : ℕ) (rest : Rest) → PartedBehind rest
       → ShowsNode n
-      (λ e. (node_layout p (block_position (Some n) part.SimpleKey) k ▹ char 58) e rest)
+      (λ e. (node_layout p (block_position (Some n) part.SimpleKey) k ▹ char ascii.colon) e rest)
   pub same : (kept : Bool) → node_kept p false part.SimpleKey k kept ≡ kept
 
 -- All simple keys that may be written.

@@ -1,5 +1,6 @@
 -- Words that a layout writes for a node, one behind the other: as content or as a key, at any depth.
 use Rattle.std.specs.Prelude.{◌≡◌, ◌+◌, ℕ, ◌==◌, ◌||◌, nat_lt, if◌then◌else◌, Bool, true, false, List, [], ◌∷◌, ◌++◌, length, None, Some, Ok}
+use Rattle.yaml_emit_laws_text.specs.emit_layout.scan_model.Ascii as ascii
 use Rattle.yaml_emit_laws_text.specs.emit_layout.scan_model.Tokens.{TokenBody}
 use Rattle.yaml_emit_laws_text.specs.scan_history.declared.kind.Kind.{Kind}
 use Rattle.yaml_emit_laws_text.specs.scan_history.declared.kind.Kind.TheVariants as kinds
@@ -40,14 +41,15 @@ pub data Behind : Type 0 where
 -- white, nothing, `,`, `]` or `}`
 abbrev pub ends_name : List ℕ → Bool
 ends_name [] = true
-ends_name (b ∷ bs) = begins_white (b ∷ bs) || (b == 44 || (b == 93 || b == 125))
+ends_name (b ∷ bs) = begins_white (b ∷ bs)
+    || (b == ascii.comma || (b == ascii.close_bracket || b == ascii.close_brace))
 
 abbrev pub Fits : Behind → Bool → ℕ → List ℕ → Type 0
 Fits anything flow level bs = Unit {0}
-Fits space flow level bs = first bs ≡ 32
+Fits space flow level bs = first bs ≡ ascii.space
 Fits white flow level bs = begins_white bs ≡ true
 Fits name_end flow level bs = ends_name bs ≡ true
-Fits unquoted flow level bs = first bs ≡ 39 → ⊥
+Fits unquoted flow level bs = first bs ≡ ascii.apostrophe → ⊥
 Fits stop flow level bs = (stops_plain_at flow level None bs ≡ true) × (no_comment bs ≡ true)
 
 -- A word of that kind and with that token stands at a place, up to another one, before these bytes.
@@ -78,7 +80,7 @@ pub record Spoken (flow : Bool) (level : ℕ) : Type 0 where
       → Fits wants flow level bs → WordStands flow level kind body text p (p + length own) bs
 
 abbrev pub spoken_bytes : {flow : Bool} {level : ℕ} → Spoken flow level → List ℕ
-spoken_bytes w = if w.spaced then 32 ∷ w.own else w.own
+spoken_bytes w = if w.spaced then ascii.space ∷ w.own else w.own
 
 abbrev pub all_bytes : {flow : Bool} {level : ℕ} → List (Spoken flow level) → List ℕ
 all_bytes [] = []

@@ -1,6 +1,7 @@
 -- A walk at a cursor of a layout, outside of brackets.
 use Rattle.std.specs.Prelude.{◌≡◌, ◌<◌, ◌≤◌, ◌+◌, ℕ, ◌==◌, Bool, true, false, not, if◌then◌else◌, List, [], ◌∷◌, length, None, IsUtf8}
 use Rattle.std.specs.Str.{chars}
+use Rattle.yaml_emit_laws_text.specs.emit_layout.scan_model.Ascii as ascii
 use Rattle.yaml_emit_laws_text.specs.emit_layout.scan_model.declared.yaml_scalar_style_t.TheVariants.{YAML_PLAIN_SCALAR_STYLE, YAML_SINGLE_QUOTED_SCALAR_STYLE}
 use Rattle.yaml_emit_laws_text.specs.emit_layout.scan_model.Tokens as tokens
 use Rattle.yaml_emit_laws_text.specs.emit_layout.emit_text.declared.Page.{Page}
@@ -56,7 +57,7 @@ Walks a B ls c rest = (x : yaml_encoding_t) (text : List ℕ) (o : WalkState)
 -- behind the white that bytes begin with stands no `#`
 unfoldable pub no_comment : List ℕ → Bool
 no_comment [] = true
-no_comment (b ∷ bs) = if is_gap_byte b then no_comment bs else not (b == 35)
+no_comment (b ∷ bs) = if is_gap_byte b then no_comment bs else not (b == ascii.hash)
 
 -- What follows a node in levels from m on: it stops a plain scalar, is no comment, and begins with white or is nothing.
 pub record Follows (m : ℕ) (rest : Rest) : Type 0 where
@@ -68,7 +69,7 @@ pub record Follows (m : ℕ) (rest : Rest) : Type 0 where
 -- no line feed follows white on a bare line at that column, which would make one break of CR and LF
 abbrev pub NoFeed : ℕ → Rest → Type 0
 NoFeed n rest = (e : Cursor) → e.bare ≡ true → e.white ≡ true → e.column ≡ n
-    → first (bytes (rest e)) ≡ 10 → ⊥
+    → first (bytes (rest e)) ≡ ascii.line_feed → ⊥
 
 -- A bare line with white before it, at a column.
 pub record Lined (x : yaml_encoding_t) (text : List ℕ) (rest : Rest) (n : ℕ) (kept : Bool)
@@ -111,9 +112,9 @@ pub data BareIndicator : Type 0 where
   Answer : BareIndicator
 
 abbrev pub mark_byte : BareIndicator → ℕ
-mark_byte Entry = 45
-mark_byte Question = 63
-mark_byte Answer = 58
+mark_byte Entry = ascii.hyphen
+mark_byte Question = ascii.question
+mark_byte Answer = ascii.colon
 
 abbrev pub mark_body : BareIndicator → TokenBody
 mark_body Entry = tokens.block_entry

@@ -1,6 +1,7 @@
 -- What is written for a block scalar is read back.
 use Rattle.std.specs.Prelude.{ℕ, ◌+◌, ◌-◌, ◌<◌, ◌≤◌, ◌≡◌, Bool, true, false, if◌then◌else◌, List, ◌∷◌, ◌++◌, length, Option, Some, None, Ok, IsUtf8, encode_utf8_all}
 use Rattle.std.specs.Str.{chars}
+use Rattle.yaml_emit_laws_text.specs.scan_model.Ascii as ascii
 use Rattle.yaml_emit_laws_text.specs.scan_model.Marks.{column_at}
 use Rattle.yaml_emit_laws_text.specs.scan_history.scan_words.Written.{HasAt}
 use Rattle.yaml_emit_laws_text.specs.scan_model.declared.name.yaml_scalar_style_t.{yaml_scalar_style_t}
@@ -27,9 +28,10 @@ use Rattle.yaml_emit_laws_scalars.specs.BlockLines.{closing, NoWhite, StandsLeft
 
 -- a block scalar from its indicator on, without the space in front
 abbrev pub from_indicator : Page → ℕ → Bool → List ℕ → Layout
-from_indicator page digit folded value = char (if folded then 62 else 124)
+from_indicator page digit folded value = char (if folded then ascii.greater else ascii.bar)
     ▹ (digit_mark digit value ▹ (chomp_mark (chomp true true value)
-    ▹ (new_line page.line_break ▹ (block_body page folded true 10 value ▹ after_block))))
+    ▹ (new_line page.line_break
+    ▹ (block_body page folded true ascii.line_feed value ▹ after_block))))
 
 abbrev pub is_keep : Chomp → Bool
 is_keep chomping.Strip = false
@@ -64,7 +66,7 @@ pub record BlockReads (page : Page) (digit : ℕ) (folded : Bool) (level : ℕ) 
     (value : List ℕ) : Type 0 where
   pub letters : List ℕ
   pub inside : List ℕ
-  pub begins : letters ≡ (if folded then 62 else 124) ∷ inside
+  pub begins : letters ≡ (if folded then ascii.greater else ascii.bar) ∷ inside
   pub behind : Cursor
   pub written : (rest : Rest) → from_indicator page digit folded (chars value) c rest
       ≡ in_front letters (rest behind)
@@ -102,7 +104,7 @@ pub record BlockAndLineRead (page : Page) (digit : ℕ) (folded : Bool) (level :
     (value : List ℕ) (m : ℕ) : Type 0 where
   pub letters : List ℕ
   pub inside : List ℕ
-  pub begins : letters ≡ (if folded then 62 else 124) ∷ inside
+  pub begins : letters ≡ (if folded then ascii.greater else ascii.bar) ∷ inside
   pub written : (rest : Rest)
       → (from_indicator page digit folded (chars value) ▹ line page.line_break m) c rest
       ≡ in_front letters (rest (record {

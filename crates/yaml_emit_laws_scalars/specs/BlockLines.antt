@@ -1,5 +1,6 @@
 -- The lines of a block scalar, as they are written and as they are read.
 use Rattle.std.specs.Prelude.{ℕ, ◌+◌, ◌<◌, ◌≡◌, ◌≢◌, Bool, true, not, ◌&&◌, ◌==◌, if◌then◌else◌, List, [], ◌∷◌, ◌++◌, replicate, encode_utf8_all}
+use Rattle.yaml_emit_laws_text.specs.scan_model.Ascii as ascii
 use Rattle.yaml_emit_laws_text.specs.scan_model.Marks.{byte, break_width}
 use Rattle.yaml_emit_laws_text.specs.scan_history.scan_words.Written.{HasAt}
 use Rattle.yaml_scan_block.specs.Value.{BlockLine, Empty, Words}
@@ -15,7 +16,7 @@ pub data LineMark : Type 0 where
 
 -- the character in the value
 abbrev pub mark_char : LineMark → ℕ
-mark_char own = 10
+mark_char own = ascii.line_feed
 mark_char separator = 0x2028
 mark_char paragraph = 0x2029
 
@@ -33,7 +34,7 @@ mark_bytes b paragraph = 0xE2 ∷ 0x80 ∷ 0xA9 ∷ []
 
 -- the bytes that it is read as
 abbrev pub mark_means : LineMark → List ℕ
-mark_means own = 10 ∷ []
+mark_means own = ascii.line_feed ∷ []
 mark_means separator = 0xE2 ∷ 0x80 ∷ 0xA8 ∷ []
 mark_means paragraph = 0xE2 ∷ 0x80 ∷ 0xA9 ∷ []
 
@@ -45,7 +46,7 @@ pub data BodyLine : Type 0 where
 -- a text stands behind the indentation; a line without one has none
 abbrev pub line_text : LineBreak → ℕ → BodyLine → List ℕ
 line_text b n (bare m) = mark_text b m
-line_text b n (full x xs m) = replicate n 32 ++ ((x ∷ xs) ++ mark_text b m)
+line_text b n (full x xs m) = replicate n ascii.space ++ ((x ∷ xs) ++ mark_text b m)
 
 unfoldable pub body_text : LineBreak → ℕ → List BodyLine → List ℕ
 body_text b n [] = []
@@ -53,7 +54,8 @@ body_text b n (l ∷ ls) = line_text b n l ++ body_text b n ls
 
 abbrev pub line_bytes : LineBreak → ℕ → BodyLine → List ℕ
 line_bytes b n (bare m) = mark_bytes b m
-line_bytes b n (full x xs m) = replicate n 32 ++ (encode_utf8_all (x ∷ xs) ++ mark_bytes b m)
+line_bytes b n (full x xs m) =
+    replicate n ascii.space ++ (encode_utf8_all (x ∷ xs) ++ mark_bytes b m)
 
 unfoldable pub body_bytes : LineBreak → ℕ → List BodyLine → List ℕ
 body_bytes b n [] = []
@@ -84,12 +86,12 @@ closing b ended = if ended then [] else break_text b
 
 -- Neither a blank nor a break stands there, but a text or the end.
 pub record NoWhite (text : List ℕ) (q : ℕ) : Type 0 where
-  pub no_space : byte text q ≢ 32
-  pub no_tab : byte text q ≢ 9
+  pub no_space : byte text q ≢ ascii.space
+  pub no_tab : byte text q ≢ ascii.tab
   pub no_break : break_width text q ≡ 0
 
 -- At a line's start, so many spaces stand there, fewer than n, and behind them a text left of column n, or the end.
 pub record StandsLeft (text : List ℕ) (q n k : ℕ) : Type 0 where
   pub fewer : k < n
-  pub spaces : HasAt text q (replicate k 32)
+  pub spaces : HasAt text q (replicate k ascii.space)
   pub behind : NoWhite text (q + k)

@@ -1,6 +1,7 @@
 -- Plain scalars that are written, with folds, are read back.
 use Rattle.std.specs.Prelude.{ℕ, ◌+◌, ◌<◌, ◌≤◌, ◌≡◌, Bool, true, false, if◌then◌else◌, List, ◌++◌, length, Some, Ok, IsUtf8, encode_utf8_all}
 use Rattle.std.specs.Str.{chars}
+use Rattle.yaml_emit_laws_text.specs.scan_model.Ascii as ascii
 use Rattle.yaml_emit_laws_text.specs.scan_history.scan_words.Written.{HasAt, are_gap, has_break, begins_lexeme}
 use Rattle.yaml_emit_laws_text.specs.scan_history.scan_scalars.Plain.{PlainText, plain_at}
 use Rattle.yaml_emit_laws_text.specs.scan_history.declared.kind.Kind.TheVariants as kinds
@@ -56,4 +57,4 @@ abbrev pub PlainIsReadBack : Type 0
 PlainIsReadBack = (page : Page) (flow : Bool) (level : ℕ) (c : Cursor) (value : List ℕ)
     → IsUtf8 value → 0 < length value → may_be_plain page.unicode flow (chars value) ≡ true
     → 0 < page.indentation → level ≤ page.indentation
-    → PlainIsBack flow level (flow_body page false 32 (chars value) ▹ after_text) c value
+    → PlainIsBack flow level (flow_body page false ascii.space (chars value) ▹ after_text) c value

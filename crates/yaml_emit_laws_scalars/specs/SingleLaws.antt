@@ -1,6 +1,7 @@
 -- Single quoted scalars of several lines are read back.
 use Rattle.std.specs.Prelude.{ℕ, ◌+◌, ◌<◌, ◌≡◌, true, false, List, ◌∷◌, length, Ok, IsUtf8, encode_utf8_all}
 use Rattle.std.specs.Str.{chars}
+use Rattle.yaml_emit_laws_text.specs.scan_model.Ascii as ascii
 use Rattle.yaml_emit_laws_text.specs.scan_model.Marks.{byte}
 use Rattle.yaml_emit_laws_text.specs.scan_history.scan_words.Written.{HasAt}
 use Rattle.yaml_emit_laws_text.specs.scan_history.scan_scalars.Quoted.{single_quoted_at}
@@ -16,11 +17,11 @@ use Rattle.yaml_emit_laws_text.specs.ReadBack.{between_single, is_one_line}
 pub record SingleIsBack (a : Layout) (c : Cursor) (value : List ℕ) : Type 0 where
   pub letters : List ℕ
   pub inside : List ℕ
-  pub begins : letters ≡ 39 ∷ inside
+  pub begins : letters ≡ ascii.apostrophe ∷ inside
   pub behind : Cursor
   pub written : (rest : Rest) → a c rest ≡ in_front letters (rest behind)
   pub read : (text : List ℕ) (p : ℕ) → HasAt text p (encode_utf8_all letters)
-      → (byte text (p + length (encode_utf8_all letters)) ≡ 39 → ⊥)
+      → (byte text (p + length (encode_utf8_all letters)) ≡ ascii.apostrophe → ⊥)
       → single_quoted_at text p ≡ Ok (value, p + length (encode_utf8_all letters))
   pub bare : behind.bare ≡ false
   pub white : behind.white ≡ false

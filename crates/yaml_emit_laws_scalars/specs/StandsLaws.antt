@@ -1,6 +1,7 @@
 -- Scalars in a text that goes on as a layout writes it.
 use Rattle.std.specs.Prelude.{ℕ, ◌+◌, ◌<◌, ◌≤◌, ◌≡◌, Bool, true, false, List, length, Some, None, Ok, IsUtf8}
 use Rattle.std.specs.Str.{chars}
+use Rattle.yaml_emit_laws_text.specs.scan_model.Ascii as ascii
 use Rattle.yaml_emit_laws_text.specs.scan_history.scan_words.Written.{has_break, begins_lexeme}
 use Rattle.yaml_emit_laws_text.specs.scan_history.scan_scalars.Quoted.{single_quoted_at}
 use Rattle.yaml_emit_laws_text.specs.scan_history.declared.kind.Kind.TheVariants as kinds
@@ -36,7 +37,7 @@ pub record GoesBehind (text : List ℕ) (p : ℕ) (c : Cursor) (rest : Rest) : T
 abbrev pub PlainHasGap : Type 0
 PlainHasGap = (page : Page) (flow : Bool) (value : List ℕ) → IsUtf8 value → 0 < length value
     → plain page flow (chars value)
-    ≡ (gap ▹ (flow_body page false 32 (chars value) ▹ after_text))
+    ≡ (gap ▹ (flow_body page false ascii.space (chars value) ▹ after_text))
 
 -- What follows text stops a plain scalar.
 abbrev pub StopsPlain : Bool → ℕ → Cursor → Rest → Type 0
@@ -55,12 +56,12 @@ PlainStands = (page : Page) (flow : Bool) (level : ℕ) (c : Cursor) (value : Li
     → 0 < length value → may_be_plain page.unicode flow (chars value) ≡ true
     → 0 < page.indentation → level ≤ page.indentation → (rest : Rest)
     → StopsPlain flow level c rest → (text : List ℕ) (p : ℕ)
-    → Left text p (bytes ((flow_body page false 32 (chars value) ▹ after_text) c rest))
+    → Left text p (bytes ((flow_body page false ascii.space (chars value) ▹ after_text) c rest))
     → PlainStandsAt flow level value text p c rest
 
 -- What follows text doesn't begin with a single quote.
 abbrev pub NoQuote : Cursor → Rest → Type 0
-NoQuote c rest = (e : Cursor) → IsBehind e c → first (bytes (rest e)) ≡ 39 → ⊥
+NoQuote c rest = (e : Cursor) → IsBehind e c → first (bytes (rest e)) ≡ ascii.apostrophe → ⊥
 
 -- A single quoted scalar with the value.
 pub record SingleStandsAt (value text : List ℕ) (p : ℕ) (c : Cursor) (rest : Rest) : Type 0 where

@@ -1,5 +1,6 @@
 -- What stands behind a plain scalar stops it: a test of the bytes that are left.
 use Rattle.std.specs.Prelude.{ℕ, ◌+◌, ◌≡◌, Bool, true, false, not, ◌&&◌, ◌||◌, ◌==◌, nat_lt, if◌then◌else◌, List, [], ◌∷◌, ◌++◌, length, Option, Some, None, replicate, ◌<◌, encode_utf8, encode_utf8_all}
+use Rattle.yaml_emit_laws_text.specs.scan_model.Ascii as ascii
 use lib.Utf8.{scalar}
 use Rattle.yaml_emit_laws_text.specs.scan_model.Marks.{break_of}
 use Rattle.yaml_emit_laws_text.specs.scan_history.scan_words.Written.{HasAt, are_gap}
@@ -17,7 +18,7 @@ use Rattle.yaml_emit_laws_scalars.specs.PlainLaws.{IsReadPlain, PlainIsBack}
 
 -- a space, LF or CR
 abbrev pub is_gap_byte : ℕ → Bool
-is_gap_byte b = b == 32 || (b == 10 || b == 13)
+is_gap_byte b = b == ascii.space || (b == ascii.line_feed || b == ascii.carriage_return)
 
 -- the spaces and breaks that bytes begin with
 unfoldable pub white_of : List ℕ → List ℕ
@@ -31,8 +32,8 @@ begins_white (b ∷ bs) = is_gap_byte b
 
 -- `---` or `...`, and white or the end behind it
 abbrev pub begins_mark : ℕ → List ℕ → Bool
-begins_mark a (b ∷ c ∷ bs) = (((a == 45 && b == 45) && c == 45)
-    || ((a == 46 && b == 46) && c == 46)) && begins_white bs
+begins_mark a (b ∷ c ∷ bs) = (((a == ascii.hyphen && b == ascii.hyphen) && c == ascii.hyphen)
+    || ((a == ascii.dot && b == ascii.dot) && c == ascii.dot)) && begins_white bs
 begins_mark a (b ∷ []) = false
 begins_mark a [] = false
 
@@ -44,8 +45,9 @@ stops_line flow level (Some n) b bs = (n == 0 && begins_mark b bs) || (not flow 
 -- `:` before white, in brackets a comma or a bracket, or by the line
 abbrev pub stops_here : Bool → ℕ → Option ℕ → ℕ → List ℕ → Bool
 stops_here flow level at b bs =
-    (not (b == 9) && break_of b (first bs) (first (behind bs)) == 0)
-    && ((b == 58 && begins_white bs) || ((flow && is_bracket b) || stops_line flow level at b bs))
+    (not (b == ascii.tab) && break_of b (first bs) (first (behind bs)) == 0)
+    && ((b == ascii.colon && begins_white bs)
+    || ((flow && is_bracket b) || stops_line flow level at b bs))
 
 abbrev pub one_more : Option ℕ → Option ℕ
 one_more None = None
@@ -53,7 +55,7 @@ one_more (Some n) = Some (n + 1)
 
 -- the column behind a space or a break
 abbrev pub column_behind : ℕ → Option ℕ → Option ℕ
-column_behind b at = if b == 32 then one_more at else Some 0
+column_behind b at = if b == ascii.space then one_more at else Some 0
 
 -- White, and then the end or what stops a plain scalar; by the columns since the last break, or none where the scalar's line
 -- goes on.
@@ -66,7 +68,7 @@ stops_plain_at flow level at (b ∷ bs) = if is_gap_byte b
 abbrev pub begins_solid : List ℕ → Bool
 begins_solid [] = false
 begins_solid (b ∷ bs) = not (is_gap_byte b)
-    && (not (b == 9) && break_of b (first bs) (first (behind bs)) == 0)
+    && (not (b == ascii.tab) && break_of b (first bs) (first (behind bs)) == 0)
 
 -- What stops a plain scalar: nothing; in brackets a comma or a bracket; `:` before white; a document mark at a line's start; and
 -- in a block all that is solid, left of the level.
@@ -74,17 +76,18 @@ abbrev pub WhatStopsPlain : Type 0
 WhatStopsPlain = (flow : Bool) (level : ℕ) (at : Option ℕ) →
     (stops_plain_at flow level at [] ≡ true)
     × ((b : ℕ) (bs : List ℕ) → is_bracket b ≡ true → stops_plain_at true level at (b ∷ bs) ≡ true)
-    × ((bs : List ℕ) → begins_white bs ≡ true → stops_plain_at flow level at (58 ∷ bs) ≡ true)
+    × ((bs : List ℕ) → begins_white bs ≡ true → stops_plain_at flow level at (ascii.colon ∷ bs)
+    ≡ true)
     × ((bs : List ℕ) → begins_white bs ≡ true
-    → (stops_plain_at flow level (Some 0) (45 ∷ 45 ∷ 45 ∷ bs) ≡ true)
-    × (stops_plain_at flow level (Some 0) (46 ∷ 46 ∷ 46 ∷ bs) ≡ true))
+    → (stops_plain_at flow level (Some 0) (ascii.hyphen ∷ ascii.hyphen ∷ ascii.hyphen ∷ bs) ≡ true)
+    × (stops_plain_at flow level (Some 0) (ascii.dot ∷ ascii.dot ∷ ascii.dot ∷ bs) ≡ true))
     × ((n : ℕ) (bs : List ℕ) → n < level → begins_solid bs ≡ true
     → stops_plain_at false level (Some n) bs ≡ true)
 
 -- A character that is printable, no space and no break is solid, whatever follows.
 abbrev pub CharactersAreSolid : Type 0
 CharactersAreSolid = (x : ℕ) (bs : List ℕ) → scalar x ≡ true → is_printable x ≡ true
-    → is_break x ≡ false → (x == 32) ≡ false → begins_solid (encode_utf8 x ++ bs) ≡ true
+    → is_break x ≡ false → (x == ascii.space) ≡ false → begins_solid (encode_utf8 x ++ bs) ≡ true
 
 -- Where such bytes are left, they begin with a gap, and behind it a plain scalar ends.
 abbrev pub StopsEndPlain : Type 0
@@ -105,6 +108,7 @@ PlainGoesOn = (flow : Bool) (level : ℕ) (a : Layout) (c : Cursor) (value : Lis
 abbrev pub StopsBehindLines : Type 0
 StopsBehindLines = (flow : Bool) (level n : ℕ) (bs : List ℕ) →
     ((b : LineBreak) (at : Option ℕ)
-    → stops_plain_at flow level at (break_text b ++ (replicate n 32 ++ bs))
+    → stops_plain_at flow level at (break_text b ++ (replicate n ascii.space ++ bs))
     ≡ stops_plain_at flow level (Some n) bs)
-    × (stops_plain_at flow level None (replicate n 32 ++ bs) ≡ stops_plain_at flow level None bs)
+    × (stops_plain_at flow level None (replicate n ascii.space ++ bs)
+    ≡ stops_plain_at flow level None bs)

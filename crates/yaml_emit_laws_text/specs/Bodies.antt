@@ -1,5 +1,6 @@
 -- The tokens that canonical layout writes, without their marks, in front of those that follow.
 use Rattle.std.specs.Prelude.{ℕ, Bool, true, false, not, ◌&&◌, List, [], ◌∷◌, Option, Some, None}
+use Rattle.yaml_emit_layout.specs.scan_model.Ascii as ascii
 use Rattle.yaml_emit_layout.specs.scan_model.declared.yaml_scalar_style_t.TheVariants.{YAML_DOUBLE_QUOTED_SCALAR_STYLE}
 use Rattle.yaml_emit_layout.specs.scan_model.Tokens as tokens
 use Rattle.yaml_emit_layout.specs.scan_model.Tokens.{TokenBody}
@@ -25,7 +26,7 @@ tag_bodies ds (Some t) bs = tag_body (split_tag ds t) ∷ bs
 
 -- the `!` of an untagged scalar that may not be quoted
 abbrev pub mark_bodies : Bool → List TokenBody → List TokenBody
-mark_bodies true bs = tokens.tag [] (33 ∷ []) ∷ bs
+mark_bodies true bs = tokens.tag [] (ascii.exclamation ∷ []) ∷ bs
 mark_bodies false bs = bs
 
 unfoldable mutual

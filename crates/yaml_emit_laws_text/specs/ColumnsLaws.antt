@@ -1,5 +1,6 @@
 -- Which columns canonical layout passes, how many bytes it takes, and where a column counts for nothing.
 use Rattle.std.specs.Prelude.{◌≡◌, ◌↔◌, ℕ, ◌<◌, ◌≤◌, ◌==◌, Bool, true, false, List, length}
+use Rattle.yaml_emit_laws_text.specs.scan_history.scan_model.Ascii as ascii
 use Rattle.yaml_emit_layout.specs.parse_model.Events.{TagDirective}
 use Rattle.yaml_emit_layout.specs.scan_model.declared.yaml_encoding_t.{yaml_encoding_t}
 use Rattle.yaml_emit_layout.specs.emit_text.declared.Settings.{Settings}
@@ -34,7 +35,7 @@ SizesAreByContent = (s : Settings) (ds : List Document)
 
 -- In double quotes a character but a space takes at most 4, 6 or 10 of ASCII, by its number.
 abbrev pub EscapesAreShort : Type 0
-EscapesAreShort = (s : Settings) (n c : ℕ) → c < 0x1_0000_0000 → (c == 32) ≡ false
+EscapesAreShort = (s : Settings) (n c : ℕ) → c < 0x1_0000_0000 → (c == ascii.space) ≡ false
     → most_of_quoted s n c ≤ ascii s (most_of_escape c)
 
 -- Within block collections, where an item, a key or an end is next, what is still to come of a stream is laid out without a look at

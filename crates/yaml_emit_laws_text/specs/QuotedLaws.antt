@@ -1,6 +1,7 @@
 -- What is written between quotes is read back.
 use Rattle.std.specs.Prelude.{ℕ, ◌+◌, ◌<◌, ◌≡◌, true, false, List, length, Ok, IsUtf8}
 use Rattle.std.specs.Str.{chars}
+use Rattle.yaml_scan_scalars.specs.scan_model.Ascii as ascii
 use Rattle.yaml_scan_scalars.specs.scan_model.Marks.{byte}
 use Rattle.yaml_scan_scalars.specs.Quoted.{double_quoted_at, single_quoted_at}
 use Rattle.yaml_emit_text.specs.declared.Cursor.{Cursor}
@@ -19,16 +20,17 @@ use Rattle.yaml_emit_laws_text.specs.ReadBack.{ValueIsReadBack, ValueIsReadBackB
 -- Where a spelling stands between double quotes, that is one scalar and has the value that it means, whatever stands before and
 -- behind.
 abbrev pub SpellingReads : Type 0
-SpellingReads = (parts : List QuotedPart) (text : List ℕ) (p : ℕ) → IsSpelling 34 parts
-    → HasAt text p (quoted 34 parts)
-    → double_quoted_at text p ≡ Ok (meaning parts, p + length (quoted 34 parts))
+SpellingReads = (parts : List QuotedPart) (text : List ℕ) (p : ℕ) → IsSpelling ascii.quote parts
+    → HasAt text p (quoted ascii.quote parts)
+    → double_quoted_at text p ≡ Ok (meaning parts, p + length (quoted ascii.quote parts))
 
 -- So it is between single quotes, where no single quote stands behind.
 abbrev pub SingleSpellingReads : Type 0
-SingleSpellingReads = (parts : List QuotedPart) (text : List ℕ) (p : ℕ) → IsSpelling 39 parts
-    → HasAt text p (quoted 39 parts)
-    → (byte text (p + length (quoted 39 parts)) ≡ 39 → ⊥)
-    → single_quoted_at text p ≡ Ok (meaning parts, p + length (quoted 39 parts))
+SingleSpellingReads =
+    (parts : List QuotedPart) (text : List ℕ) (p : ℕ) → IsSpelling ascii.apostrophe parts
+    → HasAt text p (quoted ascii.apostrophe parts)
+    → (byte text (p + length (quoted ascii.apostrophe parts)) ≡ ascii.apostrophe → ⊥)
+    → single_quoted_at text p ≡ Ok (meaning parts, p + length (quoted ascii.apostrophe parts))
 
 -- ---- what an emitter writes
 
@@ -58,5 +60,6 @@ abbrev pub SingleIsReadBack : Type 0
 SingleIsReadBack = (page : Page) (c : Cursor) (value : List ℕ) → IsUtf8 value
     → (page.cuts ≡ true → 0 < page.indentation)
     → (allowed page.unicode (chars value)).single ≡ true → is_one_line (chars value) ≡ true
-    → ValueIsReadBackBefore (λ b. b ≡ 39 → ⊥) single_quoted_at (between_single page (chars value)) c
+    → ValueIsReadBackBefore (λ b. b ≡ ascii.apostrophe → ⊥) single_quoted_at
+      (between_single page (chars value)) c
     value

@@ -1,5 +1,6 @@
 -- Layouts whose characters are read back.
 use Rattle.std.specs.Prelude.{ℕ, ◌+◌, ◌≡◌, Bool, true, false, not, ◌&&◌, if◌then◌else◌, List, [], ◌∷◌, length, Result, Ok, encode_utf8_all}
+use Rattle.yaml_scan_scalars.specs.scan_model.Ascii as ascii
 use Rattle.yaml_scan_scalars.specs.scan_model.Marks.{byte}
 use Rattle.yaml_scan_scalars.specs.scan_model.Wrong.{Wrong}
 use Rattle.yaml_emit_text.specs.declared.Cursor.{Cursor}
@@ -18,7 +19,7 @@ pub record ValueIsReadBack (reading : List ℕ → ℕ → Result (List ℕ × �
     (c : Cursor) (value : List ℕ) : Type 0 where
   pub letters : List ℕ
   pub inside : List ℕ
-  pub begins : letters ≡ 34 ∷ inside
+  pub begins : letters ≡ ascii.quote ∷ inside
   pub behind : Cursor
   pub written : (rest : Rest) → a c rest ≡ in_front letters (rest behind)
   pub read : (text : List ℕ) (p : ℕ) → HasAt text p (encode_utf8_all letters)
@@ -40,7 +41,8 @@ pub record ValueIsReadBackBefore (Fits : ℕ → Type 0)
 
 -- a double quoted scalar from quote to quote, without the space in front
 abbrev pub between_quotes : Page → List ℕ → Layout
-between_quotes page value = char 34 ▹ (quoted_body page 32 value ▹ char 34)
+between_quotes page value =
+    char ascii.quote ▹ (quoted_body page ascii.space value ▹ char ascii.quote)
 
 -- the bytes of the space that is due in front of a scalar
 abbrev pub gap_width : Cursor → ℕ
@@ -48,7 +50,8 @@ gap_width c = if c.white then 0 else 1
 
 -- a single quoted scalar from quote to quote
 abbrev pub between_single : Page → List ℕ → Layout
-between_single page value = char 39 ▹ (flow_body page true 32 value ▹ char 39)
+between_single page value =
+    char ascii.apostrophe ▹ (flow_body page true ascii.space value ▹ char ascii.apostrophe)
 
 -- no character ends a line
 abbrev pub is_one_line : List ℕ → Bool

@@ -1,5 +1,6 @@
 -- How a value is spelled between quotes: characters as they are, escapes, and lines that are joined.
 use Rattle.std.specs.Prelude.{◌≡◌, ◌<◌, ℕ, ◌*◌, ◌+◌, Bool, true, false, not, ◌&&◌, ◌||◌, ◌==◌, nat_lt, List, [], ◌∷◌, ◌++◌, length, replicate, Option, Some, option_and_then, encode_utf8}
+use Rattle.yaml_scan_scalars.specs.scan_model.Ascii as ascii
 use lib.Utf8.{scalar}
 use Rattle.yaml_scan_scalars.specs.scan_model.Marks.{is_blank}
 use Rattle.yaml_scan_scalars.specs.Pieces.{gap}
@@ -17,19 +18,19 @@ pub data LineEnd : Type 0 where
   paragraph_separator : LineEnd
 
 abbrev pub end_bytes : LineEnd → List ℕ
-end_bytes feed = 10 ∷ []
-end_bytes return = 13 ∷ []
-end_bytes return_feed = 13 ∷ 10 ∷ []
+end_bytes feed = ascii.line_feed ∷ []
+end_bytes return = ascii.carriage_return ∷ []
+end_bytes return_feed = ascii.carriage_return ∷ ascii.line_feed ∷ []
 end_bytes next_line = 0xC2 ∷ 0x85 ∷ []
 end_bytes line_separator = 0xE2 ∷ 0x80 ∷ 0xA8 ∷ []
 end_bytes paragraph_separator = 0xE2 ∷ 0x80 ∷ 0xA9 ∷ []
 
 -- LS and PS are read as themselves, the others as a line feed
 abbrev pub end_means : LineEnd → List ℕ
-end_means feed = 10 ∷ []
-end_means return = 10 ∷ []
-end_means return_feed = 10 ∷ []
-end_means next_line = 10 ∷ []
+end_means feed = ascii.line_feed ∷ []
+end_means return = ascii.line_feed ∷ []
+end_means return_feed = ascii.line_feed ∷ []
+end_means next_line = ascii.line_feed ∷ []
 end_means line_separator = 0xE2 ∷ 0x80 ∷ 0xA8 ∷ []
 end_means paragraph_separator = 0xE2 ∷ 0x80 ∷ 0xA9 ∷ []
 
@@ -40,7 +41,7 @@ pub record LineTurn : Type 0 where
 
 unfoldable pub turn_bytes : List LineTurn → List ℕ
 turn_bytes [] = []
-turn_bytes (t ∷ ts) = end_bytes t.end ++ (replicate t.spaces 32 ++ turn_bytes ts)
+turn_bytes (t ∷ ts) = end_bytes t.end ++ (replicate t.spaces ascii.space ++ turn_bytes ts)
 
 unfoldable pub turn_means : List LineTurn → List ℕ
 turn_means [] = []
@@ -78,16 +79,16 @@ pub data QuotedPart : Type 0 where
 
 abbrev pub spelled : QuotedPart → List ℕ
 spelled (raw c) = encode_utf8 c
-spelled doubled = 39 ∷ 39 ∷ []
-spelled (named b bytes) = 92 ∷ b ∷ []
-spelled (numbered b digits c) = 92 ∷ b ∷ digits
+spelled doubled = ascii.apostrophe ∷ ascii.apostrophe ∷ []
+spelled (named b bytes) = ascii.backslash ∷ b ∷ []
+spelled (numbered b digits c) = ascii.backslash ∷ b ∷ digits
 spelled (fold t ts) = turn_bytes (t ∷ ts)
-spelled (joint t ts) = 92 ∷ turn_bytes (t ∷ ts)
+spelled (joint t ts) = ascii.backslash ∷ turn_bytes (t ∷ ts)
 
 -- A lone line feed means a space, and one before other ends of lines nothing; behind a backslash the first end means nothing.
 abbrev pub meant : QuotedPart → List ℕ
 meant (raw c) = encode_utf8 c
-meant doubled = 39 ∷ []
+meant doubled = ascii.apostrophe ∷ []
 meant (named b bytes) = bytes
 meant (numbered b digits c) = encode_utf8 c
 meant (fold t ts) = gap (end_means t.end) (turn_means ts)
@@ -108,21 +109,22 @@ number_behind n (d ∷ ds) = option_and_then (λ low. number_behind (n * 16 + lo
 
 -- LF, CR, NEL, LS and PS
 abbrev pub is_line_end : ℕ → Bool
-is_line_end c = c == 10 || (c == 13 || (c == 0x85 || (c == 0x2028 || c == 0x2029)))
+is_line_end c = c == ascii.line_feed
+    || (c == ascii.carriage_return || (c == 0x85 || (c == 0x2028 || c == 0x2029)))
 
 -- Raw characters are no ends of lines, not the quote and not 0, which ends a stream; in double quotes no backslashes.
 abbrev pub may_be_raw : ℕ → ℕ → Bool
 may_be_raw quote c = scalar c && not (is_line_end c
-    || (c == 0 || (c == quote || (quote == 34 && c == 92))))
+    || (c == 0 || (c == quote || (quote == ascii.quote && c == ascii.backslash))))
 
 abbrev pub MayStand : ℕ → QuotedPart → Type 0
 MayStand quote (raw c) = may_be_raw quote c ≡ true
-MayStand quote doubled = quote ≡ 39
-MayStand quote (named b bytes) = (quote ≡ 34) × (simple_escape b ≡ Some bytes)
-MayStand quote (numbered b digits c) = (quote ≡ 34) × (0 < length digits)
+MayStand quote doubled = quote ≡ ascii.apostrophe
+MayStand quote (named b bytes) = (quote ≡ ascii.quote) × (simple_escape b ≡ Some bytes)
+MayStand quote (numbered b digits c) = (quote ≡ ascii.quote) × (0 < length digits)
     × (hex_len b ≡ length digits) × (number_behind 0 digits ≡ Some c) × (scalar c ≡ true)
 MayStand quote (fold t ts) = may_turn t ts ≡ true
-MayStand quote (joint t ts) = (quote ≡ 34) × (may_turn t ts ≡ true)
+MayStand quote (joint t ts) = (quote ≡ ascii.quote) × (may_turn t ts ≡ true)
 
 abbrev pub is_raw_blank : QuotedPart → Bool
 is_raw_blank (raw c) = is_blank c

@@ -1,6 +1,7 @@
 -- What a scanner and a parser make of a tag that an emitter splits and spells, and of a directive that it writes.
 use Rattle.std.specs.Prelude.{◌≡◌, ◌⊎◌, ◌<◌, ◌+◌, ◌&&◌, nat_lt, ℕ, Bool, true, List, [], ◌∷◌, ◌++◌, length, codes, Option, Some, None, Ok}
 use Rattle.std.specs.Str.{IsUtf8}
+use Rattle.yaml_scan_scalars.specs.scan_model.Ascii as ascii
 use Rattle.yaml_scan_scalars.specs.scan_model.Classes.{is_break}
 use Rattle.yaml_scan_laws_texts.specs.scan_history.scan_words.Tags.{TagText, tag_at, may_end_tag}
 use Rattle.yaml_scan_laws_texts.specs.scan_history.scan_words.Directives.{directive_at}
@@ -28,7 +29,8 @@ TagsResolve = (o : Opening) → opening_problem o ≡ None → (tag : List ℕ)
 
 -- `!`, or `!alphas!`, where the alphas may be none
 abbrev pub IsShaped : List ℕ → Type 0
-IsShaped handle = (handle ≡ 33 ∷ []) ⊎ ((name : List ℕ) × (handle ≡ 33 ∷ (name ++ (33 ∷ [])))
+IsShaped handle = (handle ≡ ascii.exclamation ∷ [])
+    ⊎ ((name : List ℕ) × (handle ≡ ascii.exclamation ∷ (name ++ (ascii.exclamation ∷ [])))
     × (are_alphas name ≡ true))
 
 -- a handle of that shape, and a suffix in UTF-8 of one byte at least; or such a tag
@@ -85,7 +87,7 @@ are_ascii (b ∷ bs) = nat_lt b 128 && are_ascii bs
 -- `!`, and ASCII behind it
 pub record IsMarked (bs : List ℕ) : Type 0 where
   pub more : List ℕ
-  pub begins : bs ≡ 33 ∷ more
+  pub begins : bs ≡ ascii.exclamation ∷ more
   pub ascii : are_ascii more ≡ true
 
 -- What can be read is written as `!` and ASCII.
@@ -114,7 +116,7 @@ ReadableDirectivesAreAscii = (d : TagDirective) → IsReadableDirective d
 
 -- a directive, without its line's end
 abbrev pub directive_bytes : TagDirective → List ℕ
-directive_bytes d = codes "%TAG " ++ (d.handle ++ (32 ∷ uri_text true d.prefix))
+directive_bytes d = codes "%TAG " ++ (d.handle ++ (ascii.space ∷ uri_text true d.prefix))
 
 -- It is read as it was before a break, which it takes with it.
 abbrev pub DirectivesAreRead : Type 0

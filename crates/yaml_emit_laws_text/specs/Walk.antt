@@ -1,5 +1,6 @@
 -- A text that goes on as a layout writes it, behind words that stand in it.
 use Rattle.std.specs.Prelude.{◌≡◌, ℕ, ◌+◌, ◌==◌, ◌||◌, Bool, true, false, List, [], ◌∷◌, length}
+use Rattle.yaml_emit_laws_text.specs.scan_model.Ascii as ascii
 use Rattle.yaml_emit_laws_text.specs.scan_model.Tokens.{TokenBody}
 use Rattle.yaml_emit_laws_text.specs.scan_history.scan_model.Marks.{byte, column_at}
 use Rattle.yaml_emit_laws_text.specs.scan_history.scan_words.Written.{are_gap}
@@ -23,7 +24,7 @@ pub record Left (text : List ℕ) (p : ℕ) (bs : List ℕ) : Type 0 where
 
 -- a line starts there, unless a line feed stands there
 abbrev pub Starts : List ℕ → ℕ → Type 0
-Starts text p = (byte text p ≡ 10 → ⊥) → column_at text p ≡ 0
+Starts text p = (byte text p ≡ ascii.line_feed → ⊥) → column_at text p ≡ 0
 
 -- Words stand in the text up to a gap that goes up to the place; so many brackets are open.
 pub record WordStage (text : List ℕ) (c : Cursor) (p : ℕ) (ws : List Word) (d : ℕ) : Type 0 where
@@ -70,7 +71,7 @@ first (b ∷ bs) = b
 
 -- what follows a word that is not white begins with a comma or a break
 abbrev pub parts : ℕ → Bool
-parts b = b == 44 || (b == 10 || b == 13)
+parts b = b == ascii.comma || (b == ascii.line_feed || b == ascii.carriage_return)
 
 abbrev pub Parts : Rest → Type 0
 Parts rest = (e : Cursor) → e.bare ≡ false → parts (first (bytes (rest e))) ≡ true

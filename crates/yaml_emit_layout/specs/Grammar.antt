@@ -3,6 +3,7 @@ use Rattle.std.specs.Prelude.{ℕ, ◌-◌, Bool, true, false, not, ◌&&◌, �
 use Rattle.std.specs.Cmp.Lexicographic.{pointwise}
 use Rattle.std.specs.List.{list_all, list_any}
 use Rattle.std.specs.Ordering.{int_eq}
+use Rattle.yaml_emit_tags.specs.scan_model.Ascii as ascii
 use Rattle.yaml_emit_tags.specs.scan_model.Classes.{is_alpha_byte}
 use Rattle.yaml_emit_tags.specs.scan_model.declared.yaml_version_directive_t.{yaml_version_directive_t}
 use Rattle.yaml_emit_tags.specs.parse_model.Events.{TagDirective}
@@ -112,8 +113,8 @@ inner_problem h = if list_all is_alpha_byte (between h) then None else Some prob
 
 abbrev pub ends_problem : List ℕ → Option Problem
 ends_problem h =
-    if not (get_or h 0 0 == 33) then Some problem.HandleStart
-    else if not (get_or h (length h - 1) 0 == 33) then Some problem.HandleEnd
+    if not (get_or h 0 0 == ascii.exclamation) then Some problem.HandleStart
+    else if not (get_or h (length h - 1) 0 == ascii.exclamation) then Some problem.HandleEnd
     else inner_problem h
 
 -- a handle is `!` or `!name!`

@@ -1,5 +1,6 @@
 -- Where an emitter stands, and what it writes for an event.
 use Rattle.std.specs.Prelude.{ℕ, Bool, true, false, not, ◌&&◌, ◌||◌, if◌then◌else◌, List, [], ◌∷◌, Option, Some, None}
+use Rattle.yaml_emit_tags.specs.scan_model.Ascii as ascii
 use Rattle.yaml_emit_tags.specs.parse_model.Events.{TagDirective}
 use Rattle.yaml_emit_text.specs.declared.Cursor.{Cursor}
 use Rattle.yaml_emit_text.specs.declared.Settings.{Settings}
@@ -149,11 +150,13 @@ text_at p place top (alias name) empty = let simple = is_simple_event p (alias n
 text_at p place top (scalar v) empty = let simple = is_simple_event p (scalar v) empty
     in before_node p.settings top simple ▹ scalar_layout p (position_of top simple) v
 text_at p place top (sequence_start q) empty = let simple = is_simple_event p (sequence_start q)
-    empty in before_node p.settings top simple ▹ start_text p (position_of top simple) 91 q empty
+    empty in before_node p.settings top simple
+    ▹ start_text p (position_of top simple) ascii.open_bracket q empty
 text_at p place top (mapping_start q) empty = let simple = is_simple_event p (mapping_start q) empty
-    in before_node p.settings top simple ▹ start_text p (position_of top simple) 123 q empty
-text_at p place top sequence_end empty = closer_at p.settings top 93
-text_at p place top mapping_end empty = closer_at p.settings top 125
+    in before_node p.settings top simple
+    ▹ start_text p (position_of top simple) ascii.open_brace q empty
+text_at p place top sequence_end empty = closer_at p.settings top ascii.close_bracket
+text_at p place top mapping_end empty = closer_at p.settings top ascii.close_brace
 
 unfoldable pub depth_at : Context → Option Level → Event → Bool → Layout
 depth_at p top (sequence_start q) empty = depth_text p

@@ -28,7 +28,10 @@ primary = record { handle = ascii.exclamation ∷ []; prefix = ascii.exclamation
 
 -- `!!` stands for `tag:yaml.org,2002:`
 abbrev pub secondary : TagDirective
-secondary = record { handle = ascii.exclamation ∷ ascii.exclamation ∷ []; prefix = codes "tag:yaml.org,2002:" }
+secondary = record {
+  handle = ascii.exclamation ∷ ascii.exclamation ∷ [];
+  prefix = codes "tag:yaml.org,2002:";
+}
 
 -- a handle that no directive defines stands for the start of a tag
 abbrev pub stands_for : List TagDirective → TagDirective → List ℕ → Bool
@@ -50,13 +53,17 @@ in_force ds = ds ++ defaults ds
 unfoldable pub suffix_keeps : ℕ → Bool
 suffix_keeps b =
     (nat_le 48 b && nat_le b 57) || (nat_le 65 b && nat_le b 90) || (nat_le 97 b && nat_le b 122)
-    || b == 95 || b == 45 || b == 59 || b == 47 || b == 63 || b == 58 || b == 64 || b == 38
-    || b == 61
-    || b == 43 || b == 36 || b == 46 || b == 126 || b == 42 || b == 39 || b == 40 || b == 41
+    || b == ascii.underscore || b == ascii.hyphen || b == ascii.semicolon || b == ascii.slash
+    || b == ascii.question || b == ascii.colon || b == ascii.at || b == ascii.ampersand
+    || b == ascii.equals
+    || b == ascii.plus || b == ascii.dollar || b == ascii.dot || b == ascii.tilde
+    || b == ascii.asterisk || b == ascii.apostrophe || b == ascii.open_paren
+    || b == ascii.close_paren
 
 -- those, and , [ ]
 abbrev pub prefix_keeps : ℕ → Bool
-prefix_keeps b = suffix_keeps b || b == 44 || b == 91 || b == 93
+prefix_keeps b =
+    suffix_keeps b || b == ascii.comma || b == ascii.open_bracket || b == ascii.close_bracket
 
 abbrev pub keeps_byte : Bool → ℕ → Bool
 keeps_byte flow b = if flow then prefix_keeps b else suffix_keeps b

@@ -31,8 +31,8 @@ escape_letter c =
     else if c == 0x0C then 102
     else if c == 0x0D then 114
     else if c == 0x1B then 101
-    else if c == 34 then 34
-    else if c == 92 then 92
+    else if c == ascii.quote then ascii.quote
+    else if c == ascii.backslash then ascii.backslash
     else if c == 0x85 then 78
     else if c == 0xA0 then 95
     else if c == 0x2028 then 76

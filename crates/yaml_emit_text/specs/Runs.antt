@@ -1,5 +1,6 @@
 -- Runs of ASCII that are written as they are, and runs that allow every style.
 use Rattle.std.specs.Prelude.{ℕ, suc, ◌+◌, ◌-◌, Bool, true, not, ◌&&◌, ◌||◌, ◌==◌, nat_le, if◌then◌else◌, List, [], ◌∷◌, length}
+use Rattle.yaml_types.specs.Ascii as ascii
 use Rattle.yaml_emit_text.specs.declared.page.Page.{Page}
 use Rattle.yaml_emit_text.specs.declared.run.Bounds.{Bounds}
 
@@ -17,20 +18,21 @@ all_pass test column (b ∷ bs) = test column b && all_pass test (column + 1) bs
 unfoldable pub runs_on : Bounds → ℕ → ℕ → Bool
 runs_on e column b =
     nat_le 32 b && (nat_le b 126 && (not (b == e.quote)
-    && (not (b == e.slash) && (not (b == 32) || (not e.cuts || nat_le column e.width)))))
+    && (not (b == e.slash) && (not (b == ascii.space) || (not e.cuts || nat_le column e.width)))))
 
 -- it stands as it is between double quotes, at any column: from `!` to `~`, but `"` and `\`
 unfoldable pub is_solid : ℕ → Bool
-is_solid b = nat_le 33 b && (nat_le b 126 && (not (b == 34) && not (b == 92)))
+is_solid b = nat_le 33 b && (nat_le b 126 && (not (b == ascii.quote) && not (b == ascii.backslash)))
 
 -- in double quotes
 abbrev pub quoted_bounds : Page → Bounds
-quoted_bounds page = record { quote = 34; slash = 92; cuts = page.cuts; width = page.width }
+quoted_bounds page =
+    record { quote = ascii.quote; slash = ascii.backslash; cuts = page.cuts; width = page.width }
 
 -- in single quotes, or plain
 abbrev pub flow_bounds : Page → Bool → Bounds
 flow_bounds page quote = record {
-  quote = if quote then 39 else 0;
+  quote = if quote then ascii.apostrophe else 0;
   slash = 0;
   cuts = page.cuts;
   width = page.width;
@@ -42,8 +44,10 @@ block_bounds page folded = record { quote = 0; slash = 0; cuts = folded; width =
 
 -- from space to `~`, but for # , : ? [ ] { }: before another such one it says nothing against a style
 unfoldable pub is_calm : ℕ → Bool
-is_calm b = nat_le 32 b && (nat_le b 126 && not (b == 35 || b == 44 || b == 58 || b == 63 || b == 91
-    || b == 93 || b == 123 || b == 125))
+is_calm b = nat_le 32 b
+    && (nat_le b 126 && not (b == ascii.hash || b == ascii.comma || b == ascii.colon
+    || b == ascii.question || b == ascii.open_bracket
+    || b == ascii.close_bracket || b == ascii.open_brace || b == ascii.close_brace))
 
 -- at any column
 abbrev pub calm : ℕ → ℕ → Bool

@@ -119,19 +119,19 @@ digit_char n = if nat_lt n 10 then 48 + n else 50
 
 -- the digit of the indent, where the value begins with a space or a break
 abbrev pub digit_mark : ℕ → List ℕ → Layout
-digit_mark digit value = when (first value == 32 || is_break (first value))
+digit_mark digit value = when (first value == ascii.space || is_break (first value))
     (char (digit_char digit))
 
 -- the start counts as a break, in front of nothing
 abbrev pub block_header : ℕ → Bool → List ℕ → Layout
 block_header digit folded value = gap
-    ▹ (char (if folded then 62 else 124)
+    ▹ (char (if folded then ascii.greater else ascii.bar)
     ▹ (digit_mark digit value ▹ chomp_mark (chomp true true value)))
 
 -- at the start stands a break, and the line begins with a blank
 abbrev pub block : Page → ℕ → Bool → List ℕ → Layout
 block page digit folded value = block_header digit folded value
-    ▹ (new_line page.line_break ▹ (block_body page folded true 10 value ▹ after_block))
+    ▹ (new_line page.line_break ▹ (block_body page folded true ascii.line_feed value ▹ after_block))
 
 unfoldable pub scalar_text : Page → ℕ → Bool → Style → List ℕ → Layout
 scalar_text page digit flow style.Plain value = plain page flow value

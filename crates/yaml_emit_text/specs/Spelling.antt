@@ -1,6 +1,7 @@
 -- Double quoted spellings: raw characters, escapes and folds, and the value that they spell.
 use Rattle.std.specs.Prelude.{◌≡◌, ℕ, ◌<◌, Bool, true, false, not, ◌&&◌, ◌||◌, ◌==◌, nat_lt, List, [], ◌∷◌, ◌++◌, replicate}
 use Rattle.std.specs.Str.{all_scalars}
+use Rattle.yaml_types.specs.Ascii as ascii
 use lib.Utf8.{scalar}
 use Rattle.yaml_emit_sink.specs.declared.Cursor.{Cursor}
 use Rattle.yaml_emit_text.specs.declared.page.Page.{Page}
@@ -23,21 +24,21 @@ pub data SpelledPart : Type 0 where
 
 -- the characters of a break
 abbrev pub break_text : LineBreak → List ℕ
-break_text Lf = 10 ∷ []
-break_text Cr = 13 ∷ []
-break_text CrLf = 13 ∷ 10 ∷ []
+break_text Lf = ascii.line_feed ∷ []
+break_text Cr = ascii.carriage_return ∷ []
+break_text CrLf = ascii.carriage_return ∷ ascii.line_feed ∷ []
 
 abbrev pub spelled : SpelledPart → List ℕ
 spelled (raw c) = c ∷ []
 spelled (escape c) = escape_text c
-spelled escaped_space = 92 ∷ 32 ∷ []
-spelled (fold b n) = break_text b ++ replicate n 32
+spelled escaped_space = ascii.backslash ∷ ascii.space ∷ []
+spelled (fold b n) = break_text b ++ replicate n ascii.space
 
 abbrev pub meant : SpelledPart → ℕ
 meant (raw c) = c
 meant (escape c) = c
-meant escaped_space = 32
-meant (fold b n) = 32
+meant escaped_space = ascii.space
+meant (fold b n) = ascii.space
 
 unfoldable pub spelling : List SpelledPart → List ℕ
 spelling [] = []
@@ -66,7 +67,8 @@ may_follow p q = not (is_fold q && (is_raw_blank p || is_fold p))
 
 -- Raw characters are no quotes, backslashes or breaks, and not 0. A fold has an indentation, so that no `---` stands at column 0.
 abbrev pub may_stand : SpelledPart → Bool
-may_stand (raw c) = scalar c && not (is_break c || c == 34 || c == 92 || c == 0)
+may_stand (raw c) =
+    scalar c && not (is_break c || c == ascii.quote || c == ascii.backslash || c == 0)
 may_stand (escape c) = scalar c
 may_stand escaped_space = true
 may_stand (fold b n) = nat_lt 0 n
@@ -84,11 +86,11 @@ in_front (c ∷ cs) t = letter c ∷ in_front cs t
 pub record WritesSpelling (a : Layout) (c : Cursor) (value : List ℕ) : Type 0 where
   pub parts : List SpelledPart
   pub behind : Cursor
-  pub right : IsSpelling (raw 32) parts
+  pub right : IsSpelling (raw ascii.space) parts
   pub spelled : (rest : Rest) → a c rest ≡ in_front (spelling parts) (rest behind)
   pub meant : value ≡ meaning parts
 
 -- What stands between double quotes is a spelling of the value, on every page with an indentation and at every column.
 abbrev pub QuotedSpells : Type 0
 QuotedSpells = (page : Page) (c : Cursor) (value : List ℕ) → all_scalars value ≡ true
-    → 0 < page.indentation → WritesSpelling (quoted_body page 32 value) c value
+    → 0 < page.indentation → WritesSpelling (quoted_body page ascii.space value) c value

@@ -1,5 +1,6 @@
 -- Which styles a value allows, and which one is taken.
 use Rattle.std.specs.Prelude.{ℕ, Bool, true, false, not, ◌&&◌, ◌||◌, ◌==◌, nat_le, if◌then◌else◌, List, [], ◌∷◌}
+use Rattle.yaml_types.specs.Ascii as ascii
 use Rattle.yaml_types.specs.declared.yaml_scalar_style_t.{yaml_scalar_style_t}
 use Rattle.yaml_types.specs.declared.yaml_scalar_style_t.TheVariants as asked
 use Rattle.yaml_emit_text.specs.declared.page.Allowed.{Allowed}
@@ -10,7 +11,7 @@ use Rattle.yaml_emit_sink.specs.Text.{is_break}
 use Rattle.yaml_emit_text.specs.Quoted.{is_printable, first}
 
 abbrev pub is_blank : ℕ → Bool
-is_blank c = c == 32 || c == 9
+is_blank c = c == ascii.space || c == ascii.tab
 
 -- blanks, breaks, and the end
 abbrev pub ends_word : ℕ → Bool
@@ -24,21 +25,22 @@ somewhere p before (c ∷ cs) = p before c (first cs) || somewhere p c cs
 -- in double quotes alone: what is not printable, or not ASCII with unicode off, and a space before a break
 abbrev pub is_special : Bool → ℕ → ℕ → ℕ → Bool
 is_special unicode before c next = not (is_printable c) || (not unicode && nat_le 0x80 c)
-    || (c == 32 && is_break next)
+    || (c == ascii.space && is_break next)
 
 -- a break with a space behind it
 abbrev pub is_break_space : ℕ → ℕ → ℕ → Bool
-is_break_space before c next = is_break c && next == 32
+is_break_space before c next = is_break c && next == ascii.space
 
 -- not in a plain scalar: a break, `:` at the end of a word, `#` at the start of one
 abbrev pub is_not_plain : ℕ → ℕ → ℕ → Bool
-is_not_plain before c next = is_break c || (c == 58 && ends_word next)
-    || (c == 35 && ends_word before)
+is_not_plain before c next = is_break c || (c == ascii.colon && ends_word next)
+    || (c == ascii.hash && ends_word before)
 
 -- not in a plain scalar in flow: , ? : [ ] { }
 abbrev pub is_not_flow : ℕ → ℕ → ℕ → Bool
-is_not_flow before c next = c == 44 || c == 63 || c == 58 || c == 91 || c == 93 || c == 123
-    || c == 125
+is_not_flow before c next = c == ascii.comma || c == ascii.question || c == ascii.colon
+    || c == ascii.open_bracket || c == ascii.close_bracket || c == ascii.open_brace
+    || c == ascii.close_brace
 
 -- the last character, or else another
 unfoldable pub last_or : ℕ → List ℕ → ℕ
@@ -47,19 +49,23 @@ last_or a (c ∷ cs) = last_or c cs
 
 -- of a text that is not empty
 abbrev pub ends_in_space : List ℕ → Bool
-ends_in_space value = last_or 32 value == 32
+ends_in_space value = last_or ascii.space value == ascii.space
 
 -- # , [ ] { } & * ! | > ' " % @ `, or a space
 abbrev pub is_indicator : ℕ → Bool
 is_indicator c =
-    c == 32 || c == 35 || c == 44 || c == 91 || c == 93 || c == 123 || c == 125 || c == 38
-    || c == 42 || c == 33 || c == 124 || c == 62 || c == 39 || c == 34 || c == 37 || c == 64
-    || c == 96
+    c == ascii.space || c == ascii.hash || c == ascii.comma || c == ascii.open_bracket
+    || c == ascii.close_bracket || c == ascii.open_brace || c == ascii.close_brace
+    || c == ascii.ampersand
+    || c == ascii.asterisk || c == ascii.exclamation || c == ascii.bar || c == ascii.greater
+    || c == ascii.apostrophe || c == ascii.quote || c == ascii.percent || c == ascii.at
+    || c == ascii.grave
 
 -- not at the start of a plain scalar: by the first three characters, 0 behind the end
 abbrev pub is_badly_begun : ℕ → ℕ → ℕ → Bool
-is_badly_begun a b c = is_indicator a || ((a == 45 || a == 63) && ends_word b)
-    || (a == 45 && b == 45 && c == 45) || (a == 46 && b == 46 && c == 46)
+is_badly_begun a b c = is_indicator a || ((a == ascii.hyphen || a == ascii.question) && ends_word b)
+    || (a == ascii.hyphen && b == ascii.hyphen && c == ascii.hyphen)
+    || (a == ascii.dot && b == ascii.dot && c == ascii.dot)
 
 abbrev pub behind : List ℕ → List ℕ
 behind [] = []

@@ -1,5 +1,6 @@
 -- Events normalized for writing.
 use Rattle.std.specs.Prelude.{ℕ, Bool, true, false, ◌&&◌, ◌||◌, ◌==◌, List, length, slice_index, Option, Some, None}
+use Rattle.yaml_round_laws_adapted.specs.scan_laws_texts.scan_history.scan_model.Ascii as ascii
 use Rattle.yaml_round_content.specs.scan_model.declared.yaml_scalar_style_t.{yaml_scalar_style_t}
 use Rattle.yaml_round_content.specs.parse_model.Events.{EventBody}
 use Rattle.yaml_round_content.specs.parse_model.Events as event
@@ -7,7 +8,8 @@ use Rattle.yaml_round_content.specs.parse_model.Events as event
 -- an empty scalar with the tag `!`
 abbrev pub is_lone_mark : Option (List ℕ) → List ℕ → Bool
 is_lone_mark None value = false
-is_lone_mark (Some tag) value = (length value == 0 && length tag == 1) && slice_index tag 0 == 33
+is_lone_mark (Some tag) value =
+    (length value == 0 && length tag == 1) && slice_index tag 0 == ascii.exclamation
 
 -- a scalar, untagged and plain-implicit where it is empty and has the tag `!`
 abbrev pub normalize_scalar : Bool → Option (List ℕ) → Option (List ℕ) → List ℕ → Bool → Bool

@@ -1,5 +1,6 @@
 -- What YAML 1.1 reads otherwise, or refuses, in a JSON text.
 use Rattle.std.specs.Prelude.{◌≡◌, ℕ, Bool, true, false, not, ◌&&◌, ◌||◌, ◌==◌, nat_le, if◌then◌else◌, List, [], ◌∷◌, ◌++◌, length}
+use Rattle.yaml_scan_history.specs.scan_model.Ascii as ascii
 use Rattle.yaml_scan_history.specs.History.{key_bytes}
 use Rattle.yaml_round_laws_json.specs.Grammar.{Letter, raw, short, coded, code, string_bytes, Value, literal, number, string, empty_array, array, empty_object, object, Elements, last_element, element, Members, last_member, member, Text}
 
@@ -30,7 +31,7 @@ are_kept (l ∷ ls) = is_kept l && are_kept ls
 -- ---- keys
 
 abbrev pub is_break : ℕ → Bool
-is_break b = b == 10 || b == 13
+is_break b = b == ascii.line_feed || b == ascii.carriage_return
 
 abbrev pub has_break : List ℕ → Bool
 has_break [] = false
@@ -44,7 +45,7 @@ is_near key white = not (has_break white) && nat_le (length (string_bytes key ++
 
 abbrev pub has_tab : List ℕ → Bool
 has_tab [] = false
-has_tab (b ∷ bs) = b == 9 || has_tab bs
+has_tab (b ∷ bs) = b == ascii.tab || has_tab bs
 
 -- a tab stands on a later line than what is before the white
 abbrev pub has_tab_below : List ℕ → Bool

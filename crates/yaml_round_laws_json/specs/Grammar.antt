@@ -9,7 +9,8 @@ use lib.Utf8.{scalar}
 
 -- a space, a tab, a line feed or a carriage return
 abbrev pub is_white : ℕ → Bool
-is_white b = b == 32 || (b == 9 || (b == 10 || b == 13))
+is_white b =
+    b == ascii.space || (b == ascii.tab || (b == ascii.line_feed || b == ascii.carriage_return))
 
 abbrev pub are_white : List ℕ → Bool
 are_white [] = true
@@ -155,7 +156,8 @@ string_bytes ls = ascii.quote ∷ (letters_bytes ls ++ ascii.quote ∷ [])
 
 -- from U+0020 on, but `"` and the backslash
 abbrev pub IsLetter : Letter → Type 0
-IsLetter (raw c) = (scalar c && (nat_le 32 c && not (c == 34 || c == 92))) ≡ true
+IsLetter (raw c) =
+    (scalar c && (nat_le 32 c && not (c == ascii.quote || c == ascii.backslash))) ≡ true
 IsLetter (short s) = Unit {0}
 IsLetter (coded a b c d) = (a.value < 16) × (b.value < 16) × (c.value < 16) × (d.value < 16)
 

@@ -13,9 +13,9 @@ escaped_byte b =
     if b == ascii.backslash then ascii.backslash ∷ ascii.backslash ∷ []
     else if b == 0 then ascii.backslash ∷ 48 ∷ []
     else if b == 8 then ascii.backslash ∷ 98 ∷ []
-    else if b == 9 then ascii.backslash ∷ 116 ∷ []
-    else if b == 10 then ascii.backslash ∷ 110 ∷ []
-    else if b == 13 then ascii.backslash ∷ 114 ∷ []
+    else if b == ascii.tab then ascii.backslash ∷ 116 ∷ []
+    else if b == ascii.line_feed then ascii.backslash ∷ 110 ∷ []
+    else if b == ascii.carriage_return then ascii.backslash ∷ 114 ∷ []
     else b ∷ []
 
 abbrev pub escaped : List ℕ → List ℕ

@@ -1,10 +1,11 @@
 -- Bytes of a tag or a value that are added as they are.
 use Rattle.std.specs.Prelude.{◌≡◌, ◌≤◌, ℕ, zero, suc, ◌+◌, Bool, true, not, ◌&&◌, ◌==◌, nat_lt, List, length, slice_index, Option, None, Some}
+use Rattle.yaml_scan_model.specs.Ascii as ascii
 use Rattle.yaml_round_lines.specs.EventLine.{escaped}
 
 -- it stands behind the control characters that are escaped, and is no backslash
 unfoldable pub is_kept : ℕ → Bool
-is_kept b = nat_lt 13 b && not (b == 92)
+is_kept b = nat_lt 13 b && not (b == ascii.backslash)
 
 -- so many bytes from the place on are such
 unfoldable pub kept_run : ℕ → List ℕ → ℕ → Bool

@@ -1,5 +1,6 @@
 -- Block scalars.
 use Rattle.std.specs.Prelude.{ℕ, zero, suc, ◌+◌, ◌-◌, Bool, ◌==◌, nat_lt, nat_le, if◌then◌else◌, List, length, Result, Ok, Err}
+use Rattle.yaml_scan_model.specs.Ascii as ascii
 use Rattle.yaml_scan_model.specs.declared.name.yaml_scalar_style_t.{yaml_scalar_style_t}
 use Rattle.yaml_scan_model.specs.declared.name.yaml_scalar_style_t.TheVariants as styles
 use Rattle.yaml_scan_model.specs.declared.problem.Problem.TheVariants as problems
@@ -20,7 +21,7 @@ larger_of a (Err w) = Err w
 -- where spaces ended, q; `more` is the greatest column behind the break there
 abbrev pub depth_behind : (ℕ → Result ℕ Wrong) → List ℕ → ℕ → Result ℕ Wrong
 depth_behind more text q =
-    if byte text q == 9 then Err (in_block problems.TabForSpace q)
+    if byte text q == ascii.tab then Err (in_block problems.TabForSpace q)
     else if nat_lt 0 (break_width text q) then larger_of (column_at text q)
     (more (q + break_width text q))
     else Ok (column_at text q)
@@ -59,9 +60,10 @@ block_behind folded level text (Err w) = Err w
 
 -- the block scalar whose indicator stands there, `|` or `>`, or what is wrong
 abbrev pub block_at : ℕ → List ℕ → ℕ → Result BlockText Wrong
-block_at level text p = block_behind (byte text p == 62) level text (header_at text (p + 1))
+block_at level text p =
+    block_behind (byte text p == ascii.greater) level text (header_at text (p + 1))
 
 -- `>` folds, `|` does not
 abbrev pub style_at : List ℕ → ℕ → yaml_scalar_style_t
-style_at text p = if byte text p == 62 then styles.YAML_FOLDED_SCALAR_STYLE
+style_at text p = if byte text p == ascii.greater then styles.YAML_FOLDED_SCALAR_STYLE
     else styles.YAML_LITERAL_SCALAR_STYLE

@@ -1,5 +1,6 @@
 -- The header of a block scalar.
 use Rattle.std.specs.Prelude.{ℕ, ◌+◌, ◌-◌, Bool, ◌||◌, ◌==◌, if◌then◌else◌, List, Result, Ok, Err}
+use Rattle.yaml_scan_model.specs.Ascii as ascii
 use Rattle.yaml_scan_model.specs.declared.problem.Problem.TheVariants as problems
 use Rattle.yaml_scan_model.specs.Marks.{byte, break_width}
 use Rattle.yaml_scan_model.specs.Classes.{is_digit_byte}
@@ -17,10 +18,11 @@ pub record HeaderText : Type 0 where
 
 -- `+` or `-`
 unfoldable pub is_chomping : ℕ → Bool
-is_chomping b = b == 43 || b == 45
+is_chomping b = b == ascii.plus || b == ascii.hyphen
 
 unfoldable pub chomp_of : ℕ → Chomp
-chomp_of b = if b == 43 then chomps.Keep else if b == 45 then chomps.Strip else chomps.Clip
+chomp_of b =
+    if b == ascii.plus then chomps.Keep else if b == ascii.hyphen then chomps.Strip else chomps.Clip
 
 -- the digit's value, or 0
 unfoldable pub digit_of : ℕ → ℕ
@@ -43,7 +45,7 @@ indicators b c =
 
 -- the place after the comment there, if one is there
 unfoldable pub past_comment : List ℕ → ℕ → ℕ
-past_comment text p = if byte text p == 35 then line_end text p else p
+past_comment text p = if byte text p == ascii.hash then line_end text p else p
 
 -- the place of the header's break, behind blanks and a comment
 abbrev pub header_end : List ℕ → ℕ → ℕ

@@ -1,5 +1,6 @@
 -- The lines of a block scalar whose text stands at a column.
 use Rattle.std.specs.Prelude.{ℕ, zero, suc, ◌+◌, ◌-◌, not, ◌&&◌, ◌||◌, ◌==◌, nat_lt, if◌then◌else◌, List, [], ◌∷◌, Result, Ok, Err, slice_range}
+use Rattle.yaml_scan_model.specs.Ascii as ascii
 use Rattle.yaml_scan_model.specs.declared.problem.Problem.{Problem}
 use Rattle.yaml_scan_model.specs.declared.problem.Problem.TheVariants as problems
 use Rattle.yaml_scan_model.specs.declared.problem.Context.TheVariants as contexts
@@ -16,7 +17,7 @@ in_block problem p = record { problem = problem; context = contexts.BlockScalar;
 -- how many spaces stand there, at most n
 unfoldable pub spaces : ℕ → List ℕ → ℕ → ℕ
 spaces zero text p = 0
-spaces (suc n) text p = if byte text p == 32 then suc (spaces n text (p + 1)) else 0
+spaces (suc n) text p = if byte text p == ascii.space then suc (spaces n text (p + 1)) else 0
 
 -- What stands at a place in a line's indentation: a line with the place after its break, the end of
 -- the scalar with the place that shows it, or a tab.
@@ -28,7 +29,7 @@ pub data LineSpot : Type 0 where
 -- where the indentation ends, q, and the text's column is c
 unfoldable pub spot_behind : ℕ → List ℕ → ℕ → LineSpot
 spot_behind c text q =
-    if byte text q == 9 && nat_lt (column_at text q) c then Tab q
+    if byte text q == ascii.tab && nat_lt (column_at text q) c then Tab q
     else if nat_lt 0 (break_width text q) then Line (Empty (break_value text q))
     (q + break_width text q)
     else if byte text q == 0 || not (column_at text q == c) then Stops q

@@ -1,5 +1,6 @@
 -- Runs, indentation and the lines of a block scalar as relations, with no bound on their steps.
 use Rattle.std.specs.Prelude.{◌≡◌, ◌≢◌, ◌<◌, ◌≤◌, ℕ, suc, ◌+◌, Bool, true, false, List, [], length, Result, Ok, Err}
+use Rattle.yaml_scan_model.specs.Ascii as ascii
 use Rattle.yaml_scan_model.specs.Marks.{byte, break_width, column_at}
 use Rattle.yaml_scan_model.specs.Runs.{is_blank_there, is_space_there, is_text, past_blanks, past_spaces, line_end}
 use Rattle.yaml_scan_model.specs.declared.problem.Problem.TheVariants as problems
@@ -45,13 +46,13 @@ pub record IsDeepest (text : List ℕ) (p c : ℕ) : Type 0 where
   pub led : LeadsTo text p line
   pub reached : c ≡ indent_at text line
   pub most : (q : ℕ) → LeadsTo text p q → indent_at text q ≤ c
-  pub no_tab : (q : ℕ) → LeadsTo text p q → byte text (past_spaces text q) ≢ 9
+  pub no_tab : (q : ℕ) → LeadsTo text p q → byte text (past_spaces text q) ≢ ascii.tab
 
 -- One of these lines has a tab behind its spaces, which is wrong.
 pub record IsTabbed (text : List ℕ) (p : ℕ) (w : Wrong) : Type 0 where
   pub line : ℕ
   pub led : LeadsTo text p line
-  pub tab : byte text (past_spaces text line) ≡ 9
+  pub tab : byte text (past_spaces text line) ≡ ascii.tab
   pub told : w ≡ in_block problems.TabForSpace (past_spaces text line)
 
 abbrev pub Deepest : List ℕ → ℕ → Result ℕ Wrong → Type 0

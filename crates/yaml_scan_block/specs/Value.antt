@@ -1,5 +1,6 @@
 -- The value of a block scalar, from its lines.
 use Rattle.std.specs.Prelude.{ℕ, Bool, false, not, ◌&&◌, if◌then◌else◌, List, [], ◌∷◌, ◌++◌}
+use Rattle.yaml_scan_model.specs.Ascii as ascii
 use Rattle.yaml_scan_model.specs.Marks.{is_blank}
 use Rattle.yaml_scan_model.specs.Breaks.{is_feed}
 use Rattle.yaml_scan_block.specs.declared.header.Chomp.{Chomp}
@@ -44,7 +45,7 @@ starts_blank (b ∷ bs) = is_blank b
 
 -- what a fold leaves of the empty lines
 abbrev pub space_or : List ℕ → List ℕ
-space_or [] = 32 ∷ []
+space_or [] = ascii.space ∷ []
 space_or (b ∷ bs) = b ∷ bs
 
 -- what stands between two texts, by their breaks; `bare`: neither begins with a blank

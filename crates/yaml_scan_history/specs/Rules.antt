@@ -1,5 +1,6 @@
 -- What is wrong with a text, rule by rule: what stands there, and what the fault tells, in its own words.
 use Rattle.std.specs.Prelude.{◌≡◌, ◌≢◌, ◌<◌, ◌≤◌, ◌⊎◌, ◌&&◌, ◌||◌, ◌==◌, ℕ, suc, ◌+◌, ◌-◌, Bool, true, false, List, [], length, Option, Some, None, Result, Ok, Err, codes}
+use Rattle.yaml_scan_model.specs.Ascii as ascii
 use Rattle.yaml_scan_model.specs.declared.record.yaml_mark_t.{yaml_mark_t}
 use Rattle.yaml_scan_model.specs.declared.problem.ScanFault.{ScanFault}
 use Rattle.yaml_scan_model.specs.declared.problem.Context.TheVariants as contexts
@@ -58,12 +59,12 @@ IsSpotTold (Faulty x q) problem p = (problem_text_of x ≡ problem) × (q ≡ p)
 pub record TagsAreTold : Type 0 where
   -- `!<` and a URI, and no `>`
   pub bracket : (flow : Bool) (level : ℕ) (text : List ℕ) (p : ℕ) (u : List ℕ × ℕ)
-      → byte text (p + 1) ≡ 60 → some_uri_at contexts.TagUri true text (p + 2) ≡ Ok u
-      → byte text u.1 ≢ 62
+      → byte text (p + 1) ≡ ascii.less → some_uri_at contexts.TagUri true text (p + 2) ≡ Ok u
+      → byte text u.1 ≢ ascii.greater
       → IsTold (word_at kinds.Tag flow level text p) (codes "while scanning a tag")
       (codes "did not find the expected '>'") u.1
   -- `!<` and no URI
-  pub empty : (flow : Bool) (level : ℕ) (text : List ℕ) (p q : ℕ) → byte text (p + 1) ≡ 60
+  pub empty : (flow : Bool) (level : ℕ) (text : List ℕ) (p q : ℕ) → byte text (p + 1) ≡ ascii.less
       → uri_at contexts.TagUri true text (p + 2) ≡ Ok ([], q)
       → IsTold (word_at kinds.Tag flow level text p) (codes "while parsing a tag")
       (codes "did not find expected tag URI") q
@@ -73,16 +74,17 @@ pub record TagsAreTold : Type 0 where
       → IsTold (word_at kinds.Tag flow level text p) (codes "while scanning a tag")
       (codes "did not find expected whitespace or line break") t.end
   -- a `%` that no two hexadecimal digits follow; another character where an escape is due
-  pub escape : (wide : Bool) (due : ℕ) (text : List ℕ) (p : ℕ) → byte text p ≡ 37
+  pub escape : (wide : Bool) (due : ℕ) (text : List ℕ) (p : ℕ) → byte text p ≡ ascii.percent
       → octet_at text p ≡ None
       → IsSpotTold (spot_at wide due text p) (codes "did not find URI escaped octet") p
-  pub no_escape : (wide : Bool) (due : ℕ) (text : List ℕ) (p : ℕ) → byte text p ≢ 37 → 0 < due
+  pub no_escape : (wide : Bool) (due : ℕ) (text : List ℕ) (p : ℕ) → byte text p ≢ ascii.percent
+      → 0 < due
       → IsSpotTold (spot_at wide due text p) (codes "did not find URI escaped octet") p
   -- an octet that begins no character, and one that doesn't go on with it
-  pub leading : (wide : Bool) (text : List ℕ) (p b : ℕ) → byte text p ≡ 37
+  pub leading : (wide : Bool) (text : List ℕ) (p b : ℕ) → byte text p ≡ ascii.percent
       → octet_at text p ≡ Some b → ((0x80 ≤ b) × (b < 0xC0)) ⊎ (0xF8 ≤ b)
       → IsSpotTold (spot_at wide 0 text p) (codes "found an incorrect leading UTF-8 octet") p
-  pub trailing : (wide : Bool) (due : ℕ) (text : List ℕ) (p b : ℕ) → byte text p ≡ 37
+  pub trailing : (wide : Bool) (due : ℕ) (text : List ℕ) (p b : ℕ) → byte text p ≡ ascii.percent
       → octet_at text p ≡ Some b → 0 < due → (b < 0x80) ⊎ (0xC0 ≤ b)
       → IsSpotTold (spot_at wide due text p) (codes "found an incorrect trailing UTF-8 octet") p
   -- where such a URI stands
@@ -134,18 +136,19 @@ pub record DirectivesAreTold : Type 0 where
       (r + 9)
   pub no_dot : (flow : Bool) (level : ℕ) (text : List ℕ) (p r e : ℕ)
       → IsYaml text p r → EndsBlockRun is_digit text r e → r < e → e ≤ r + 9
-      → byte text e ≢ 46
+      → byte text e ≢ ascii.dot
       → IsTold (word_at kinds.Directive flow level text p)
       (codes "while scanning a %YAML directive")
       (codes "did not find expected digit or '.' character") e
   -- behind `%TAG` no `!`, and none behind the letters of a handle
   pub no_handle : (flow : Bool) (level : ℕ) (text : List ℕ) (p r : ℕ)
-      → IsTagDirective text p r → byte text r ≢ 33
+      → IsTagDirective text p r → byte text r ≢ ascii.exclamation
       → IsTold (word_at kinds.Directive flow level text p) (codes "while scanning a tag directive")
       (codes "did not find expected '!'") r
   pub open_handle : (flow : Bool) (level : ℕ) (text : List ℕ) (p r e : ℕ)
-      → IsTagDirective text p r → byte text r ≡ 33 → EndsBlockRun is_alpha text (r + 1) e
-      → r + 1 < e → byte text e ≢ 33
+      → IsTagDirective text p r → byte text r ≡ ascii.exclamation
+      → EndsBlockRun is_alpha text (r + 1) e
+      → r + 1 < e → byte text e ≢ ascii.exclamation
       → IsTold (word_at kinds.Directive flow level text p) (codes "while parsing a tag directive")
       (codes "did not find expected '!'") e
   -- behind the handle no blank, and something else behind the prefix
@@ -177,7 +180,7 @@ IsStandingTold (quoted.Pieces ps r) context problem q = ⊥
 -- inside of double quotes a `\` stands there, at no document's mark
 pub record IsEscape (text : List ℕ) (p : ℕ) : Type 0 where
   pub mark : is_document_indicator text p ≡ false
-  pub backslash : byte text p ≡ 92
+  pub backslash : byte text p ≡ ascii.backslash
   pub width : break_width text p ≡ 0
   pub no_break : break_width text (p + 1) ≡ 0
 
@@ -212,14 +215,15 @@ IsPlainTold (plain.Takes x r) context problem q = ⊥
 
 pub record PlainsAreTold : Type 0 where
   -- a tab in the indentation of a line of the scalar
-  pub tab : (flow : Bool) (level : ℕ) (text : List ℕ) (p : ℕ) → byte text p ≡ 9
+  pub tab : (flow : Bool) (level : ℕ) (text : List ℕ) (p : ℕ) → byte text p ≡ ascii.tab
       → break_width text p ≡ 0 → plain.leads text p ≡ true → column_at text p < level
       → IsPlainTold (plain.spot_at flow level text p) (codes "while scanning a plain scalar")
       (codes "found a tab character that violates indentation") p
   -- in brackets a `:` in front of one of `, [ ] { } ?`, where the scalar doesn't end
-  pub colon : (level : ℕ) (text : List ℕ) (p : ℕ) → byte text p ≡ 58 → break_width text p ≡ 0
+  pub colon : (level : ℕ) (text : List ℕ) (p : ℕ) → byte text p ≡ ascii.colon
+      → break_width text p ≡ 0
       → plain.ends_at true level text p ≡ false
-      → (plain.is_bracket (byte text (p + 1)) || byte text (p + 1) == 63) ≡ true
+      → (plain.is_bracket (byte text (p + 1)) || byte text (p + 1) == ascii.question) ≡ true
       → IsPlainTold (plain.spot_at true level text p) (codes "while scanning a plain scalar")
       (codes "found unexpected ':'") p
 

@@ -1,5 +1,6 @@
 -- Which lexeme stands at a place, and what it carries.
 use Rattle.std.specs.Prelude.{ℕ, pos, ◌+◌, Bool, false, not, ◌&&◌, ◌||◌, ◌==◌, if◌then◌else◌, List, Option, Some, None, Result, Ok, Err}
+use Rattle.yaml_scan_model.specs.Ascii as ascii
 use Rattle.yaml_scan_model.specs.declared.name.yaml_scalar_style_t.{yaml_scalar_style_t}
 use Rattle.yaml_scan_model.specs.declared.name.yaml_scalar_style_t.TheVariants as styles
 use Rattle.yaml_scan_model.specs.declared.problem.Context.TheVariants as contexts
@@ -22,21 +23,21 @@ use Rattle.yaml_scan_history.specs.declared.kind.Kind.TheVariants as kinds
 -- follows it.
 unfoldable pub indicator_of : Bool → Bool → ℕ → Option Kind
 indicator_of flow alone b =
-    if b == 91 then Some kinds.FlowSequenceStart
-    else if b == 123 then Some kinds.FlowMappingStart
-    else if b == 93 then Some kinds.FlowSequenceEnd
-    else if b == 125 then Some kinds.FlowMappingEnd
-    else if b == 44 then Some kinds.FlowEntry
-    else if b == 45 && alone then Some kinds.BlockEntry
-    else if b == 63 && (flow || alone) then Some kinds.KeyMark
-    else if b == 58 && (flow || alone) then Some kinds.ValueMark
-    else if b == 42 then Some kinds.Alias
-    else if b == 38 then Some kinds.Anchor
-    else if b == 33 then Some kinds.Tag
-    else if b == 124 && not flow then Some kinds.Literal
-    else if b == 62 && not flow then Some kinds.Folded
-    else if b == 39 then Some kinds.SingleQuoted
-    else if b == 34 then Some kinds.DoubleQuoted
+    if b == ascii.open_bracket then Some kinds.FlowSequenceStart
+    else if b == ascii.open_brace then Some kinds.FlowMappingStart
+    else if b == ascii.close_bracket then Some kinds.FlowSequenceEnd
+    else if b == ascii.close_brace then Some kinds.FlowMappingEnd
+    else if b == ascii.comma then Some kinds.FlowEntry
+    else if b == ascii.hyphen && alone then Some kinds.BlockEntry
+    else if b == ascii.question && (flow || alone) then Some kinds.KeyMark
+    else if b == ascii.colon && (flow || alone) then Some kinds.ValueMark
+    else if b == ascii.asterisk then Some kinds.Alias
+    else if b == ascii.ampersand then Some kinds.Anchor
+    else if b == ascii.exclamation then Some kinds.Tag
+    else if b == ascii.bar && not flow then Some kinds.Literal
+    else if b == ascii.greater && not flow then Some kinds.Folded
+    else if b == ascii.apostrophe then Some kinds.SingleQuoted
+    else if b == ascii.quote then Some kinds.DoubleQuoted
     else None
 
 abbrev pub or_plain : Option Kind → Bool → Option Kind
@@ -47,7 +48,7 @@ or_plain None starts = if starts then Some kinds.Plain else None
 unfoldable pub kind_at : Bool → List ℕ → ℕ → Option Kind
 kind_at flow text p =
     if byte text p == 0 then Some kinds.StreamEnd
-    else if byte text p == 37 && column_at text p == 0 then Some kinds.Directive
+    else if byte text p == ascii.percent && column_at text p == 0 then Some kinds.Directive
     else if is_document_start text p then Some kinds.DocumentStart
     else if is_document_end text p then Some kinds.DocumentEnd
     else or_plain (indicator_of flow (is_blank_or_end text (p + 1)) (byte text p))

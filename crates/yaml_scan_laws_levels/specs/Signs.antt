@@ -1,5 +1,6 @@
 -- Words of one byte, and the marks of documents and of the stream's end: what stands there comes.
 use Rattle.std.specs.Prelude.{◌≡◌, ◌<◌, ◌+◌, ℕ, Bool, true, false, List, length}
+use Rattle.yaml_scan_laws_order.specs.scan_model.Ascii as ascii
 use Rattle.yaml_scan_laws_order.specs.scan_model.Marks.{byte, is_blank_or_end}
 use Rattle.yaml_scan_laws_order.specs.scan_model.Tokens as tokens
 use Rattle.yaml_scan_laws_order.specs.scan_model.Tokens.{TokenBody}
@@ -27,23 +28,23 @@ MarkComes b k body = (text : List ℕ) (p d level : ℕ) (gap : List ℕ) → Is
     → Comes text p d level k gap (sign body (p + length gap + 1)) (p + length gap + 1)
 
 pub record SignsCome : Type 0 where
-  pub sequence : SignComes 91 kinds.FlowSequenceStart tokens.flow_sequence_start
-  pub mapping : SignComes 123 kinds.FlowMappingStart tokens.flow_mapping_start
-  pub sequence_end : SignComes 93 kinds.FlowSequenceEnd tokens.flow_sequence_end
-  pub mapping_end : SignComes 125 kinds.FlowMappingEnd tokens.flow_mapping_end
-  pub comma : SignComes 44 kinds.FlowEntry tokens.flow_entry
-  pub entry : MarkComes 45 kinds.BlockEntry tokens.block_entry
-  pub question : MarkComes 63 kinds.KeyMark tokens.key
-  pub colon : MarkComes 58 kinds.ValueMark tokens.value
+  pub sequence : SignComes ascii.open_bracket kinds.FlowSequenceStart tokens.flow_sequence_start
+  pub mapping : SignComes ascii.open_brace kinds.FlowMappingStart tokens.flow_mapping_start
+  pub sequence_end : SignComes ascii.close_bracket kinds.FlowSequenceEnd tokens.flow_sequence_end
+  pub mapping_end : SignComes ascii.close_brace kinds.FlowMappingEnd tokens.flow_mapping_end
+  pub comma : SignComes ascii.comma kinds.FlowEntry tokens.flow_entry
+  pub entry : MarkComes ascii.hyphen kinds.BlockEntry tokens.block_entry
+  pub question : MarkComes ascii.question kinds.KeyMark tokens.key
+  pub colon : MarkComes ascii.colon kinds.ValueMark tokens.value
 
 -- `---`, `...` and the end
 pub record MarksCome : Type 0 where
   pub starts : (text : List ℕ) (p level : ℕ) (gap : List ℕ) → IsGap text p gap
-      → byte text (p + length gap) ≡ 45 → is_document_start text (p + length gap) ≡ true
+      → byte text (p + length gap) ≡ ascii.hyphen → is_document_start text (p + length gap) ≡ true
       → Comes text p 0 level kinds.DocumentStart gap
       (sign tokens.document_start (p + length gap + 3)) (p + length gap + 3)
   pub ends : (text : List ℕ) (p level : ℕ) (gap : List ℕ) → IsGap text p gap
-      → byte text (p + length gap) ≡ 46 → is_document_end text (p + length gap) ≡ true
+      → byte text (p + length gap) ≡ ascii.dot → is_document_end text (p + length gap) ≡ true
       → Comes text p 0 level kinds.DocumentEnd gap (sign tokens.document_end (p + length gap + 3))
       (p + length gap + 3)
   pub stops : (text : List ℕ) (p level : ℕ) (gap : List ℕ) → IsGap text p gap
@@ -53,7 +54,8 @@ pub record MarksCome : Type 0 where
 
 -- With a printed ASCII character that isn't `#` a lexeme begins.
 abbrev pub PrintedBegins : Type 0
-PrintedBegins = (text : List ℕ) (p b : ℕ) → byte text p ≡ b → 32 < b → b < 127 → (b ≡ 35 → ⊥)
+PrintedBegins =
+    (text : List ℕ) (p b : ℕ) → byte text p ≡ b → 32 < b → b < 127 → (b ≡ ascii.hash → ⊥)
     → begins_lexeme text p ≡ true
 
 -- what reads the level that it stands in

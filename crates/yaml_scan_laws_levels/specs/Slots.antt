@@ -1,6 +1,7 @@
 -- Where candidates stand: which `:` meets none, and which is near its key; levels that open;
 -- columns behind white.
 use Rattle.std.specs.Prelude.{◌≡◌, ◌<◌, ◌≤◌, ◌+◌, ◌==◌, ℕ, Bool, true, false, not, ◌&&◌, nat_lt, if◌then◌else◌, List, [], ◌∷◌, ◌++◌, length, Option, Some, None}
+use Rattle.yaml_scan_laws_order.specs.scan_model.Ascii as ascii
 use Rattle.yaml_scan_laws_order.specs.scan_model.declared.record.yaml_mark_t.{yaml_mark_t}
 use Rattle.yaml_scan_laws_order.specs.scan_model.Marks.{byte, line_at, column_at, mark_at}
 use Rattle.yaml_scan_laws_order.specs.scan_words.Written.{has_break}
@@ -86,7 +87,7 @@ pub record LevelOpens : Type 0 where
 -- the column behind spaces and breaks
 abbrev pub column_behind : List ℕ → ℕ → ℕ
 column_behind [] c = c
-column_behind (b ∷ bs) c = column_behind bs (if b == 32 then c + 1 else 0)
+column_behind (b ∷ bs) c = column_behind bs (if b == ascii.space then c + 1 else 0)
 
 abbrev pub WhiteColumns : Type 0
 WhiteColumns = (text : List ℕ) (p : ℕ) (gap : List ℕ) → IsGap text p gap

@@ -1,6 +1,7 @@
 -- How a scanner spells names, handles and tags.
 use Rattle.std.specs.Prelude.{ℕ, true, false, ◌==◌, ◌≡◌, ◌⊎◌, List, [], ◌∷◌, ◌++◌, length}
 use Rattle.std.specs.List.{list_all}
+use Rattle.yaml_scan_laws_order.specs.scan_model.Ascii as ascii
 use Rattle.yaml_scan_laws_order.specs.scan_model.Classes.{is_alpha_byte}
 use Rattle.yaml_scan_laws_order.specs.scan_model.Tokens as token
 use Rattle.yaml_scan_laws_order.specs.scan_model.Tokens.{Token, TokenBody}
@@ -19,7 +20,8 @@ IsName name = IsSome name × AreAlphas name
 
 -- `!`, or `!alphas!`, where the alphas may be none
 abbrev pub IsHandle : List ℕ → Type 0
-IsHandle handle = (handle ≡ 33 ∷ []) ⊎ ((name : List ℕ) × (handle ≡ 33 ∷ (name ++ (33 ∷ [])))
+IsHandle handle = (handle ≡ ascii.exclamation ∷ [])
+    ⊎ ((name : List ℕ) × (handle ≡ ascii.exclamation ∷ (name ++ (ascii.exclamation ∷ [])))
     × AreAlphas name)
 
 -- Anchors and aliases have names; a tag directive has a handle and some prefix, and a tag some suffix, behind a handle or none.

@@ -1,6 +1,7 @@
 -- Values that are read as themselves where they stand without quotes.
 use Rattle.std.specs.Prelude.{ℕ, Bool, false, ◌&&◌, ◌||◌, ◌==◌, nat_le, List, [], ◌∷◌}
 use Rattle.std.specs.List.{list_all}
+use Rattle.yaml_scan_laws_order.specs.scan_model.Ascii as ascii
 
 -- 0-9 A-Z a-z
 unfoldable pub is_letter_or_digit : ℕ → Bool
@@ -9,7 +10,7 @@ is_letter_or_digit b =
 
 -- 0-9 A-Z a-z + - .
 unfoldable pub is_value_byte : ℕ → Bool
-is_value_byte b = is_letter_or_digit b || (b == 43 || (b == 45 || b == 46))
+is_value_byte b = is_letter_or_digit b || (b == ascii.plus || (b == ascii.hyphen || b == ascii.dot))
 
 -- the first byte, 0 at the end
 abbrev pub first : List ℕ → ℕ
@@ -19,7 +20,7 @@ first (b ∷ bs) = b
 -- a letter or a digit comes first, or `-` before one
 abbrev pub begins_value : List ℕ → Bool
 begins_value [] = false
-begins_value (b ∷ bs) = is_letter_or_digit b || (b == 45 && is_letter_or_digit (first bs))
+begins_value (b ∷ bs) = is_letter_or_digit b || (b == ascii.hyphen && is_letter_or_digit (first bs))
 
 -- letters, digits, `+ - .` alone, and it begins so
 unfoldable pub is_plain_value : List ℕ → Bool

@@ -1,5 +1,6 @@
 -- Directives and `!` alone are read back, wherever a text has them.
 use Rattle.std.specs.Prelude.{◌≡◌, ◌⊎◌, ◌<◌, ◌+◌, ℕ, Bool, true, List, [], ◌∷◌, ◌++◌, length, codes, Ok}
+use Rattle.yaml_scan_laws_order.specs.scan_model.Ascii as ascii
 use Rattle.yaml_scan_laws_order.specs.scan_model.Marks.{byte, break_width}
 use Rattle.yaml_scan_laws_order.specs.scan_model.Classes.{is_break}
 use Rattle.yaml_scan_words.specs.Tags.{tag_at}
@@ -16,12 +17,13 @@ VersionReads = (text : List ℕ) (p minor : ℕ) → minor < 10
 -- `!`, or `!alphas!`, where the alphas may be none
 abbrev pub IsHandle : List ℕ → Type 0
 IsHandle handle =
-    (handle ≡ 33 ∷ [])
-    ⊎ ((name : List ℕ) × (handle ≡ 33 ∷ (name ++ (33 ∷ []))) × (are_alphas name ≡ true))
+    (handle ≡ ascii.exclamation ∷ [])
+    ⊎ ((name : List ℕ) × (handle ≡ ascii.exclamation ∷ (name ++ (ascii.exclamation ∷ [])))
+    × (are_alphas name ≡ true))
 
 -- the text of a directive, without its line's end
 abbrev pub directive_text : List ℕ → List UriPiece → List ℕ
-directive_text handle pieces = codes "%TAG " ++ (handle ++ (32 ∷ uri_text pieces))
+directive_text handle pieces = codes "%TAG " ++ (handle ++ (ascii.space ∷ uri_text pieces))
 
 -- a tag's directive whose value ends there, before a break, which it takes with it
 abbrev pub tag_line : List ℕ → ℕ → List ℕ → List ℕ → DirectiveText
@@ -38,5 +40,6 @@ TagDirectiveReads = (text : List ℕ) (p : ℕ) (handle : List ℕ) (pieces : Li
 
 -- `!` before a space
 abbrev pub LoneMarkReads : Type 0
-LoneMarkReads = (flow : Bool) (text : List ℕ) (p : ℕ) → byte text p ≡ 33 → byte text (p + 1) ≡ 32
-    → tag_at flow text p ≡ Ok record { handle = []; suffix = 33 ∷ []; end = p + 1 }
+LoneMarkReads = (flow : Bool) (text : List ℕ) (p : ℕ) → byte text p ≡ ascii.exclamation
+    → byte text (p + 1) ≡ ascii.space
+    → tag_at flow text p ≡ Ok record { handle = []; suffix = ascii.exclamation ∷ []; end = p + 1 }

@@ -1,12 +1,13 @@
 -- A text within another one.
 use Rattle.std.specs.Prelude.{◌≡◌, ◌⊎◌, ◌<◌, ◌≤◌, ℕ, ◌+◌, Bool, true, not, ◌&&◌, ◌||◌, ◌==◌, List, length}
+use Rattle.yaml_scan_history.specs.scan_model.Ascii as ascii
 use Rattle.yaml_scan_history.specs.scan_model.Marks.{byte, ends_break, column_at}
 use Rattle.yaml_scan_history.specs.scan_model.Classes.{is_bom}
 use Rattle.yaml_scan_history.specs.scan_model.Breaks.{is_document_indicator}
 
 -- the byte is neither the end nor CR nor LF
 unfoldable pub is_onward : ℕ → Bool
-is_onward b = not (b == 0 || (b == 10 || b == 13))
+is_onward b = not (b == 0 || (b == ascii.line_feed || b == ascii.carriage_return))
 
 -- From its place d on, the text u has the bytes of t, as far as the place m of t, where both end, or t ends and a line of u
 -- begins with `---` or `...`. Both begin at column 0.

@@ -1,5 +1,6 @@
 -- Where a text is cut in two.
 use Rattle.std.specs.Prelude.{◌≡◌, ◌⊎◌, ℕ, Bool, true, false, ◌==◌, ◌||◌, List, [], ◌∷◌, ◌++◌, ◌<◌, ◌≤◌, length}
+use Rattle.yaml_scan_history.specs.scan_model.Ascii as ascii
 use Rattle.yaml_scan_history.specs.scan_model.Marks.{byte, column_at, is_blank}
 use Rattle.yaml_scan_history.specs.scan_model.Classes.{is_bom}
 use Rattle.yaml_scan_history.specs.scan_model.Breaks.{is_document_indicator}
@@ -12,7 +13,7 @@ EndsIn text b = (before : List ℕ) × (text ≡ before ++ b ∷ [])
 
 -- the text is empty, or its last byte is LF or CR
 abbrev pub EndsLine : List ℕ → Type 0
-EndsLine text = (text ≡ []) ⊎ (EndsIn text 10 ⊎ EndsIn text 13)
+EndsLine text = (text ≡ []) ⊎ (EndsIn text ascii.line_feed ⊎ EndsIn text ascii.carriage_return)
 
 -- A text may be cut there: what stands in front ends a line and has no byte 0, which no text of a stream has, and the rest begins
 -- with `---` or `...` before a blank, a break or the end.
@@ -23,13 +24,13 @@ pub record IsCut (front rest : List ℕ) : Type 0 where
 
 -- a blank, LF or CR
 abbrev pub is_white : ℕ → Bool
-is_white b = is_blank b || (b == 10 || b == 13)
+is_white b = is_blank b || (b == ascii.line_feed || b == ascii.carriage_return)
 
 -- a line `...`, and blanks and breaks behind it, the last of which is LF
 pub record IsEndLine (line : List ℕ) : Type 0 where
   pub mark : is_document_end line 0 ≡ true
   pub white : (p : ℕ) → 3 ≤ p → p < length line → is_white (byte line p) ≡ true
-  pub feed : EndsIn line 10
+  pub feed : EndsIn line ascii.line_feed
 
 -- A text may be cut behind such a line too, in front of whatever doesn't begin with U+FEFF.
 pub record IsEndCut (front rest : List ℕ) : Type 0 where
@@ -47,5 +48,5 @@ first_place text = (gap_at false true text 0).place
 
 -- there stands `%` at column 0
 pub record LeadsToDirective (text : List ℕ) : Type 0 where
-  pub percent : byte text (first_place text) ≡ 37
+  pub percent : byte text (first_place text) ≡ ascii.percent
   pub column : column_at text (first_place text) ≡ 0

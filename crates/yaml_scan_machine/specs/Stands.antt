@@ -1,5 +1,6 @@
 -- What stands at a place where a lexeme of a kind starts.
 use Rattle.std.specs.Prelude.{ℕ, ◌+◌, ◌≡◌, Bool, true, nat_le, ◌&&◌, ◌||◌, List}
+use Rattle.yaml_scan_model.specs.Ascii as ascii
 use Rattle.yaml_scan_model.specs.Marks.{byte}
 use Rattle.yaml_scan_scalars.specs.Plain.{starts_plain}
 use Rattle.yaml_scan_history.specs.declared.kind.Kind.{Kind}
@@ -7,24 +8,24 @@ use Rattle.yaml_scan_history.specs.declared.kind.Kind.TheVariants as kinds
 
 -- the first byte of a lexeme that carries nothing, or that its first byte tells
 abbrev pub indicator_byte : Kind → ℕ
-indicator_byte kinds.Directive = 37
-indicator_byte kinds.DocumentStart = 45
-indicator_byte kinds.DocumentEnd = 46
-indicator_byte kinds.FlowSequenceStart = 91
-indicator_byte kinds.FlowMappingStart = 123
-indicator_byte kinds.FlowSequenceEnd = 93
-indicator_byte kinds.FlowMappingEnd = 125
-indicator_byte kinds.FlowEntry = 44
-indicator_byte kinds.BlockEntry = 45
-indicator_byte kinds.KeyMark = 63
-indicator_byte kinds.ValueMark = 58
-indicator_byte kinds.Alias = 42
-indicator_byte kinds.Anchor = 38
-indicator_byte kinds.Tag = 33
-indicator_byte kinds.Literal = 124
-indicator_byte kinds.Folded = 62
-indicator_byte kinds.SingleQuoted = 39
-indicator_byte kinds.DoubleQuoted = 34
+indicator_byte kinds.Directive = ascii.percent
+indicator_byte kinds.DocumentStart = ascii.hyphen
+indicator_byte kinds.DocumentEnd = ascii.dot
+indicator_byte kinds.FlowSequenceStart = ascii.open_bracket
+indicator_byte kinds.FlowMappingStart = ascii.open_brace
+indicator_byte kinds.FlowSequenceEnd = ascii.close_bracket
+indicator_byte kinds.FlowMappingEnd = ascii.close_brace
+indicator_byte kinds.FlowEntry = ascii.comma
+indicator_byte kinds.BlockEntry = ascii.hyphen
+indicator_byte kinds.KeyMark = ascii.question
+indicator_byte kinds.ValueMark = ascii.colon
+indicator_byte kinds.Alias = ascii.asterisk
+indicator_byte kinds.Anchor = ascii.ampersand
+indicator_byte kinds.Tag = ascii.exclamation
+indicator_byte kinds.Literal = ascii.bar
+indicator_byte kinds.Folded = ascii.greater
+indicator_byte kinds.SingleQuoted = ascii.apostrophe
+indicator_byte kinds.DoubleQuoted = ascii.quote
 indicator_byte _ = 0
 
 pub record IsThrice (b : ℕ) (text : List ℕ) (p : ℕ) : Type 0 where
@@ -34,8 +35,8 @@ pub record IsThrice (b : ℕ) (text : List ℕ) (p : ℕ) : Type 0 where
 
 abbrev pub Stands : Kind → Bool → List ℕ → ℕ → Type 0
 Stands kinds.StreamStart flow text p = ⊥
-Stands kinds.DocumentStart flow text p = IsThrice 45 text p
-Stands kinds.DocumentEnd flow text p = IsThrice 46 text p
+Stands kinds.DocumentStart flow text p = IsThrice ascii.hyphen text p
+Stands kinds.DocumentEnd flow text p = IsThrice ascii.dot text p
 Stands kinds.Plain flow text p = starts_plain flow text p ≡ true
 Stands k flow text p = byte text p ≡ indicator_byte k
 

@@ -1,5 +1,6 @@
 -- Runs of bytes of one kind.
 use Rattle.std.specs.Prelude.{ℕ, zero, suc, ◌+◌, Bool, true, not, ◌&&◌, ◌||◌, ◌==◌, nat_lt, if◌then◌else◌, List, length}
+use Rattle.yaml_scan_model.specs.Ascii as ascii
 use Rattle.yaml_scan_model.specs.Marks.{byte, break_width, is_blank}
 
 -- the first place from there on that is not of the kind, at most n bytes on
@@ -11,7 +12,7 @@ abbrev pub is_blank_there : List ℕ → ℕ → Bool
 is_blank_there text p = is_blank (byte text p)
 
 abbrev pub is_space_there : List ℕ → ℕ → Bool
-is_space_there text p = byte text p == 32
+is_space_there text p = byte text p == ascii.space
 
 -- neither a break nor the end stands there
 abbrev pub is_text : List ℕ → ℕ → Bool

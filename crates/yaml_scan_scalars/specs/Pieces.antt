@@ -1,5 +1,6 @@
 -- The value of a plain or quoted scalar, from its lines.
 use Rattle.std.specs.Prelude.{ℕ, Bool, true, false, if◌then◌else◌, List, [], ◌∷◌, ◌++◌}
+use Rattle.yaml_scan_model.specs.Ascii as ascii
 use Rattle.yaml_scan_model.specs.Breaks.{is_feed}
 
 -- A piece of the text: bytes that stay, a blank, or a break by what it reads as. An escaped break is
@@ -57,7 +58,7 @@ trim_start (Break bytes ∷ l) = Break bytes ∷ l
 -- What a gap between two texts reads as: its first break, and the bytes of the others. A lone line
 -- feed is a space, one before others goes, and any other break stays.
 abbrev pub gap : List ℕ → List ℕ → List ℕ
-gap first [] = if is_feed first then 32 ∷ [] else first
+gap first [] = if is_feed first then ascii.space ∷ [] else first
 gap first (b ∷ bs) = if is_feed first then b ∷ bs else first ++ b ∷ bs
 
 -- What follows a break: the other breaks of its gap, and the text behind the gap.

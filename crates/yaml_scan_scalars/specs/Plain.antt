@@ -1,5 +1,6 @@
 -- Plain scalars.
 use Rattle.std.specs.Prelude.{ℕ, zero, suc, ◌+◌, ◌-◌, Bool, true, false, not, ◌&&◌, ◌||◌, ◌==◌, nat_lt, if◌then◌else◌, List, [], ◌∷◌, length, Result, Ok, Err}
+use Rattle.yaml_scan_model.specs.Ascii as ascii
 use Rattle.yaml_scan_model.specs.declared.problem.Problem.{Problem}
 use Rattle.yaml_scan_model.specs.declared.problem.Problem.TheVariants as problems
 use Rattle.yaml_scan_model.specs.declared.problem.Context.TheVariants as contexts
@@ -11,22 +12,25 @@ use Rattle.yaml_scan_scalars.specs.Ordinary.{piece_of}
 
 -- one of `, [ ] { }`
 unfoldable pub is_bracket : ℕ → Bool
-is_bracket b = (b == 44 || (b == 91 || b == 93)) || (b == 123 || b == 125)
+is_bracket b = (b == ascii.comma || (b == ascii.open_bracket || b == ascii.close_bracket))
+    || (b == ascii.open_brace || b == ascii.close_brace)
 
 -- one of `- ? : , [ ] { } # & * ! | > ' " % @` and the grave accent
 unfoldable pub is_indicator_byte : ℕ → Bool
 is_indicator_byte b =
-    (is_bracket b || (b == 45 || (b == 63 || b == 58)))
-    || ((b == 35 || (b == 38 || (b == 42 || b == 33)))
-    || ((b == 124 || (b == 62 || b == 39)) || ((b == 34 || b == 37) || (b == 64 || b == 96))))
+    (is_bracket b || (b == ascii.hyphen || (b == ascii.question || b == ascii.colon)))
+    || ((b == ascii.hash || (b == ascii.ampersand
+    || (b == ascii.asterisk || b == ascii.exclamation)))
+    || ((b == ascii.bar || (b == ascii.greater || b == ascii.apostrophe))
+    || ((b == ascii.quote || b == ascii.percent) || (b == ascii.at || b == ascii.grave))))
 
 -- a plain scalar can start with what stands there
 unfoldable pub starts_plain : Bool → List ℕ → ℕ → Bool
 starts_plain flow text p =
     not (is_blank_or_end text p)
     && ((not (is_indicator_byte (byte text p))
-    || (byte text p == 45 && not (is_blank (byte text (p + 1)))))
-    || (not flow && ((byte text p == 63 || byte text p == 58)
+    || (byte text p == ascii.hyphen && not (is_blank (byte text (p + 1)))))
+    || (not flow && ((byte text p == ascii.question || byte text p == ascii.colon)
     && not (is_blank_or_end text (p + 1)))))
 
 -- a blank or the end of a break stands before the place
@@ -51,8 +55,8 @@ in_plain problem p = Faulty record { problem = problem; context = contexts.Plain
 unfoldable pub ends_at : Bool → ℕ → List ℕ → ℕ → Bool
 ends_at flow level text p =
     (byte text p == 0 || is_document_indicator text p)
-    || ((byte text p == 35 && after_white text p)
-    || ((byte text p == 58 && is_blank_or_end text (p + 1))
+    || ((byte text p == ascii.hash && after_white text p)
+    || ((byte text p == ascii.colon && is_blank_or_end text (p + 1))
     || (if flow then is_bracket (byte text p) else leads text p && nat_lt (column_at text p)
     level)))
 
@@ -61,11 +65,12 @@ spot_at flow level text p =
     if nat_lt 0 (break_width text p) then Takes (Break (break_value text p))
     (p + break_width text p)
     else if is_blank (byte text p) then
-    (if byte text p == 9 && (leads text p && nat_lt (column_at text p) level)
+    (if byte text p == ascii.tab && (leads text p && nat_lt (column_at text p) level)
     then in_plain problems.TabInIndentation p
     else Takes (Blank (byte text p)) (p + 1))
     else if ends_at flow level text p then Ends
-    else if flow && (byte text p == 58 && (is_bracket (byte text (p + 1)) || byte text (p + 1)
+    else if flow && (byte text p == ascii.colon
+    && (is_bracket (byte text (p + 1)) || byte text (p + 1)
     == 63)) then in_plain problems.UnexpectedColon p
     else Takes (Kept (byte text p ∷ [])) (p + 1)
 

@@ -1,5 +1,6 @@
 -- Double and single quoted scalars.
 use Rattle.std.specs.Prelude.{ℕ, zero, suc, ◌+◌, ◌*◌, ◌-◌, Bool, ◌&&◌, ◌||◌, ◌==◌, nat_lt, nat_le, if◌then◌else◌, List, [], ◌∷◌, ◌++◌, length, Option, Some, None, option_and_then, option_map, Result, Ok, Err, encode_utf8}
+use Rattle.yaml_scan_model.specs.Ascii as ascii
 use Rattle.yaml_scan_model.specs.declared.problem.Problem.{Problem}
 use Rattle.yaml_scan_model.specs.declared.problem.Problem.TheVariants as problems
 use Rattle.yaml_scan_model.specs.declared.problem.Context.TheVariants as contexts
@@ -57,11 +58,11 @@ simple_escape b =
     if b == 0x30 then Some (0 ∷ [])
     else if b == 0x61 then Some (7 ∷ [])
     else if b == 0x62 then Some (8 ∷ [])
-    else if b == 0x74 || b == 9 then Some (9 ∷ [])
-    else if b == 0x6E then Some (10 ∷ [])
+    else if b == 0x74 || b == ascii.tab then Some (ascii.tab ∷ [])
+    else if b == 0x6E then Some (ascii.line_feed ∷ [])
     else if b == 0x76 then Some (11 ∷ [])
     else if b == 0x66 then Some (12 ∷ [])
-    else if b == 0x72 then Some (13 ∷ [])
+    else if b == 0x72 then Some (ascii.carriage_return ∷ [])
     else if b == 0x65 then Some (0x1B ∷ [])
     else if b == 0x20 || (b == 0x22 || (b == 0x2F || b == 0x5C)) then Some (b ∷ [])
     else if b == 0x4E then Some (0xC2 ∷ 0x85 ∷ [])
@@ -86,7 +87,9 @@ escape_at text p =
 
 -- the quote there closes the scalar, or is the first of two that stand for one
 unfoldable pub quote_at : ℕ → List ℕ → ℕ → QuotedSpot
-quote_at quote text p = if quote == 39 && byte text (p + 1) == 39 then Pieces (Kept (39 ∷ []) ∷ [])
+quote_at quote text p =
+    if quote == ascii.apostrophe && byte text (p + 1) == ascii.apostrophe
+    then Pieces (Kept (ascii.apostrophe ∷ []) ∷ [])
     (p + 2) else Closing
 
 -- between quotes of that byte
@@ -98,7 +101,7 @@ standing_at quote text p =
     else if nat_lt 0 (break_width text p) then Pieces (Break (break_value text p) ∷ [])
     (p + break_width text p)
     else if is_blank (byte text p) then Pieces (Blank (byte text p) ∷ []) (p + 1)
-    else if quote == 34 && byte text p == 92 then escape_at text p
+    else if quote == ascii.quote && byte text p == ascii.backslash then escape_at text p
     else Pieces (Kept (byte text p ∷ []) ∷ []) (p + 1)
 
 -- these pieces before what follows
@@ -129,7 +132,7 @@ abbrev pub quoted_at : ℕ → List ℕ → ℕ → Result (List ℕ × ℕ) Wro
 quoted_at quote text p = valued value (pieces (length text) quote text (p + 1))
 
 abbrev pub double_quoted_at : List ℕ → ℕ → Result (List ℕ × ℕ) Wrong
-double_quoted_at text p = quoted_at 34 text p
+double_quoted_at text p = quoted_at ascii.quote text p
 
 abbrev pub single_quoted_at : List ℕ → ℕ → Result (List ℕ × ℕ) Wrong
-single_quoted_at text p = quoted_at 39 text p
+single_quoted_at text p = quoted_at ascii.apostrophe text p

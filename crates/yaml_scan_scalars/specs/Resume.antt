@@ -1,5 +1,6 @@
 -- What a value comes to, where the pieces so far are folded, and these follow.
 use Rattle.std.specs.Prelude.{ℕ, List, [], ◌∷◌, ◌++◌, map}
+use Rattle.yaml_scan_model.specs.Ascii as ascii
 use Rattle.yaml_scan_scalars.specs.Pieces.{Piece, Blank, lines, rest_of, gap, value}
 use Rattle.yaml_scan_scalars.specs.declared.folding.Folding.{Folding}
 use Rattle.yaml_scan_scalars.specs.declared.folding.Gap.{Gap}
@@ -14,7 +15,7 @@ behind first ps =
 
 unfoldable pub resumed : List ℕ → List ℕ → Gap → List Piece → List ℕ
 resumed done blanks gaps.Line ps = done ++ value (map (λ b. Blank b) blanks ++ ps)
-resumed done blanks gaps.Feed ps = done ++ behind (10 ∷ []) ps
+resumed done blanks gaps.Feed ps = done ++ behind (ascii.line_feed ∷ []) ps
 resumed done blanks gaps.Kept ps = done ++ behind [] ps
 
 abbrev pub resume : Folding → List Piece → List ℕ

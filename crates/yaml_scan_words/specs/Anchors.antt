@@ -1,5 +1,6 @@
 -- Anchors and aliases.
 use Rattle.std.specs.Prelude.{ℕ, ◌+◌, Bool, not, ◌||◌, ◌==◌, if◌then◌else◌, List, slice_range, Result, Ok, Err}
+use Rattle.yaml_scan_model.specs.Ascii as ascii
 use Rattle.yaml_scan_words.specs.declared.run.Run.TheVariants as runs
 use Rattle.yaml_scan_words.specs.Runs.{run_end}
 use Rattle.yaml_scan_model.specs.declared.problem.Context.{Context}
@@ -9,8 +10,10 @@ use Rattle.yaml_scan_model.specs.Wrong.{Wrong}
 
 -- one of ``? : , ] } % @ ` ``
 abbrev pub is_name_end : ℕ → Bool
-is_name_end b = b == 63 || (b == 58
-    || (b == 44 || (b == 93 || (b == 125 || (b == 37 || (b == 64 || b == 96))))))
+is_name_end b = b == ascii.question || (b == ascii.colon
+    || (b == ascii.comma || (b == ascii.close_bracket
+    || (b == ascii.close_brace
+    || (b == ascii.percent || (b == ascii.at || b == ascii.grave))))))
 
 -- a blank, a break, the end or one of ``? : , ] } % @ ` `` stands there
 unfoldable pub may_end_name : List ℕ → ℕ → Bool

@@ -1,5 +1,6 @@
 -- What stands between lexemes.
 use Rattle.std.specs.Prelude.{ℕ, zero, suc, ◌+◌, Bool, true, false, not, ◌&&◌, ◌||◌, ◌==◌, nat_lt, if◌then◌else◌, List, length}
+use Rattle.yaml_scan_model.specs.Ascii as ascii
 use Rattle.yaml_scan_words.specs.declared.between.GapSpot.{GapSpot}
 use Rattle.yaml_scan_words.specs.declared.between.GapSpot.TheVariants as gap_spots
 use Rattle.yaml_scan_words.specs.declared.run.Run.TheVariants as runs
@@ -14,14 +15,14 @@ pub record GapStep : Type 0 where
 
 -- a space, or a tab where tabs are skipped
 abbrev pub is_skipped : Bool → List ℕ → ℕ → Bool
-is_skipped tabs text p = byte text p == 32 || (tabs && byte text p == 9)
+is_skipped tabs text p = byte text p == ascii.space || (tabs && byte text p == ascii.tab)
 
 -- U+FEFF at index 0, a blank, a comment, a break, or else a lexeme
 unfoldable pub step_at : Bool → List ℕ → ℕ → GapStep
 step_at tabs text p =
     if p == 0 && is_bom text p then record { standing = gap_spots.Blank; place = p + 3 }
     else if is_skipped tabs text p then record { standing = gap_spots.Blank; place = p + 1 }
-    else if byte text p == 35 then record {
+    else if byte text p == ascii.hash then record {
       standing = gap_spots.Blank;
       place = run_end runs.Line
           text p;

@@ -1,5 +1,6 @@
 -- Directives.
 use Rattle.std.specs.Prelude.{ℕ, zero, suc, ◌+◌, ◌-◌, ◌*◌, Bool, true, not, ◌&&◌, ◌==◌, nat_lt, if◌then◌else◌, List, slice_range, Result, Ok, Err}
+use Rattle.yaml_scan_model.specs.Ascii as ascii
 use Rattle.yaml_scan_words.specs.declared.run.Run.TheVariants as runs
 use Rattle.yaml_scan_words.specs.declared.directives.DirectiveName.{DirectiveName}
 use Rattle.yaml_scan_words.specs.declared.directives.DirectiveName.TheVariants as names
@@ -107,7 +108,7 @@ with_major major (Err w) = Err w
 -- `.` and a number behind a major number
 abbrev pub minor_at : List ℕ → ℕ → ℕ → Result ValueText Wrong
 minor_at text major q =
-    if byte text q == 46 then with_major major (number_at text (q + 1))
+    if byte text q == ascii.dot then with_major major (number_at text (q + 1))
     else Err record {
       problem = problems.NoDigitOrDot;
       context = contexts.VersionDirective;
@@ -121,7 +122,7 @@ version_at text p = then_at (minor_at text) (number_at text (run_end runs.Blanks
 -- the handle from `!` to the place behind its alphas
 abbrev pub handle_between : List ℕ → ℕ → ℕ → Result (List ℕ × ℕ) Wrong
 handle_between text p q =
-    if byte text q == 33 then Ok (slice_range text p (q + 1), q + 1)
+    if byte text q == ascii.exclamation then Ok (slice_range text p (q + 1), q + 1)
     else if q == p + 1 then Ok (slice_range text p q, q)
     else Err record {
       problem = problems.NoExclamationMark;
@@ -132,7 +133,8 @@ handle_between text p q =
 -- `!` or `!alphas!`
 abbrev pub handle_at : List ℕ → ℕ → Result (List ℕ × ℕ) Wrong
 handle_at text p =
-    if byte text p == 33 then handle_between text p (run_end runs.Alphas text (p + 1))
+    if byte text p == ascii.exclamation
+    then handle_between text p (run_end runs.Alphas text (p + 1))
     else Err record {
       problem = problems.NoExclamationMark;
       context = contexts.TagDirectiveStart;
@@ -177,7 +179,7 @@ value_at text p = then_at (named_value_at text) (name_at text p)
 
 -- the place behind the comment there, if one starts there
 abbrev pub comment_end : List ℕ → ℕ → ℕ
-comment_end text p = if byte text p == 35 then run_end runs.Line text p else p
+comment_end text p = if byte text p == ascii.hash then run_end runs.Line text p else p
 
 -- the place behind the break there, or at the end
 abbrev pub break_end : List ℕ → ℕ → Result ℕ Wrong

@@ -1,5 +1,6 @@
 -- Which indicator stands at a place.
 use Rattle.std.specs.Prelude.{ℕ, ◌+◌, Bool, ◌&&◌, ◌||◌, ◌==◌, List}
+use Rattle.yaml_scan_model.specs.Ascii as ascii
 use Rattle.yaml_scan_model.specs.Marks.{byte, column_at, is_blank_or_end}
 
 -- the byte stands there three times
@@ -8,22 +9,24 @@ is_thrice b text p = byte text p == b && (byte text (p + 1) == b && byte text (p
 
 -- `---` at column 0 before a blank, a break or the end
 unfoldable pub is_document_start : List ℕ → ℕ → Bool
-is_document_start text p = (column_at text p == 0 && is_thrice 45 text p) && is_blank_or_end text
+is_document_start text p =
+    (column_at text p == 0 && is_thrice ascii.hyphen text p) && is_blank_or_end text
     (p + 3)
 
 -- `...` at column 0 before a blank, a break or the end
 unfoldable pub is_document_end : List ℕ → ℕ → Bool
-is_document_end text p = (column_at text p == 0 && is_thrice 46 text p) && is_blank_or_end text
+is_document_end text p =
+    (column_at text p == 0 && is_thrice ascii.dot text p) && is_blank_or_end text
     (p + 3)
 
 -- `-` before a blank, a break or the end
 abbrev pub is_block_entry : List ℕ → ℕ → Bool
-is_block_entry text p = byte text p == 45 && is_blank_or_end text (p + 1)
+is_block_entry text p = byte text p == ascii.hyphen && is_blank_or_end text (p + 1)
 
 -- `?` in flow context, or before a blank, a break or the end
 abbrev pub is_key : Bool → List ℕ → ℕ → Bool
-is_key flow text p = byte text p == 63 && (flow || is_blank_or_end text (p + 1))
+is_key flow text p = byte text p == ascii.question && (flow || is_blank_or_end text (p + 1))
 
 -- `:` in flow context, or before a blank, a break or the end
 abbrev pub is_value : Bool → List ℕ → ℕ → Bool
-is_value flow text p = byte text p == 58 && (flow || is_blank_or_end text (p + 1))
+is_value flow text p = byte text p == ascii.colon && (flow || is_blank_or_end text (p + 1))

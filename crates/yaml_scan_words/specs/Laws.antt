@@ -1,5 +1,6 @@
 -- What is written is read back, wherever a text has it and whatever follows.
 use Rattle.std.specs.Prelude.{ℕ, ◌+◌, ◌<◌, ◌==◌, ◌||◌, Bool, true, false, List, [], ◌∷◌, ◌++◌, ◌≡◌, length, Ok}
+use Rattle.yaml_scan_model.specs.Ascii as ascii
 use Rattle.yaml_scan_model.specs.declared.problem.Context.{Context}
 use Rattle.yaml_scan_model.specs.Marks.{byte}
 use Rattle.yaml_scan_words.specs.Between.{gap_at}
@@ -22,18 +23,18 @@ AnchorReads = (context : Context) (text : List ℕ) (p : ℕ) (name : List ℕ) 
 abbrev pub UriReads : Type 0
 UriReads = (context : Context) (wide : Bool) (text : List ℕ) (p : ℕ) (pieces : List UriPiece)
     → HasAt text p (uri_text pieces) → IsUri wide 0 pieces
-    → (byte text (p + length (uri_text pieces)) == 37 || is_uri wide text
+    → (byte text (p + length (uri_text pieces)) == ascii.percent || is_uri wide text
     (p + length (uri_text pieces))) ≡ false
     → uri_at context wide text p ≡ Ok (uri_bytes pieces, p + length (uri_text pieces))
 
 -- `!` before a URI that has no `!` of its own
 abbrev pub BareTagReads : Type 0
 BareTagReads = (flow : Bool) (text : List ℕ) (p : ℕ) (pieces : List UriPiece)
-    → HasAt text p (33 ∷ uri_text pieces) → 0 < length pieces → IsUri false 0 pieces
+    → HasAt text p (ascii.exclamation ∷ uri_text pieces) → 0 < length pieces → IsUri false 0 pieces
     → has_no_mark pieces ≡ true
     → may_end_tag flow text (p + 1 + length (uri_text pieces)) ≡ true
     → tag_at flow text p ≡ Ok record {
-      handle = 33 ∷ [];
+      handle = ascii.exclamation ∷ [];
       suffix = uri_bytes pieces;
       end = p + 1
           + length (uri_text pieces);
@@ -42,11 +43,12 @@ BareTagReads = (flow : Bool) (text : List ℕ) (p : ℕ) (pieces : List UriPiece
 -- `!alphas!` before a URI
 abbrev pub NamedTagReads : Type 0
 NamedTagReads = (flow : Bool) (text : List ℕ) (p : ℕ) (name : List ℕ) (pieces : List UriPiece)
-    → HasAt text p (33 ∷ (name ++ (33 ∷ uri_text pieces))) → are_alphas name ≡ true
+    → HasAt text p (ascii.exclamation ∷ (name ++ (ascii.exclamation ∷ uri_text pieces)))
+    → are_alphas name ≡ true
     → 0 < length pieces → IsUri false 0 pieces
     → may_end_tag flow text (p + 2 + length name + length (uri_text pieces)) ≡ true
     → tag_at flow text p ≡ Ok record {
-      handle = 33 ∷ (name ++ (33 ∷ []));
+      handle = ascii.exclamation ∷ (name ++ (ascii.exclamation ∷ []));
       suffix = uri_bytes pieces;
       end = p + 2 + length name + length (uri_text pieces);
     }
@@ -54,7 +56,8 @@ NamedTagReads = (flow : Bool) (text : List ℕ) (p : ℕ) (name : List ℕ) (pie
 -- `!<uri>`
 abbrev pub VerbatimTagReads : Type 0
 VerbatimTagReads = (flow : Bool) (text : List ℕ) (p : ℕ) (pieces : List UriPiece)
-    → HasAt text p (33 ∷ (60 ∷ (uri_text pieces ++ (62 ∷ [])))) → 0 < length pieces
+    → HasAt text p (ascii.exclamation ∷ (ascii.less ∷ (uri_text pieces ++ (ascii.greater ∷ []))))
+    → 0 < length pieces
     → IsUri true 0 pieces
     → may_end_tag flow text (p + 3 + length (uri_text pieces)) ≡ true
     → tag_at flow text p ≡ Ok record {

@@ -1,5 +1,6 @@
 -- Tags.
 use Rattle.std.specs.Prelude.{ℕ, ◌+◌, Bool, true, false, ◌&&◌, ◌||◌, ◌==◌, if◌then◌else◌, List, [], ◌∷◌, length, slice_range, Result, Ok, Err}
+use Rattle.yaml_scan_model.specs.Ascii as ascii
 use Rattle.yaml_scan_words.specs.declared.run.Run.TheVariants as runs
 use Rattle.yaml_scan_model.specs.declared.problem.Context.TheVariants as contexts
 use Rattle.yaml_scan_model.specs.declared.problem.Problem.TheVariants as problems
@@ -20,7 +21,7 @@ tag_end t = t.end
 -- `>` behind the URI of a verbatim tag, which has no handle
 abbrev pub bracketed : List ℕ → Result (List ℕ × ℕ) Wrong → Result TagText Wrong
 bracketed text (Ok u) =
-    if byte text u.1 == 62 then Ok record { handle = []; suffix = u.0; end = u.1 + 1 }
+    if byte text u.1 == ascii.greater then Ok record { handle = []; suffix = u.0; end = u.1 + 1 }
     else Err record { problem = problems.NoClosingBracket; context = contexts.Tag; place = u.1 }
 bracketed text (Err w) = Err w
 
@@ -34,7 +35,8 @@ name_end text p = run_end runs.Alphas text (p + 1)
 
 -- the place behind the handle of a tag in a short form: `!alphas!`, or else `!`
 abbrev pub handle_end : List ℕ → ℕ → ℕ
-handle_end text p = if byte text (name_end text p) == 33 then name_end text p + 1 else p + 1
+handle_end text p =
+    if byte text (name_end text p) == ascii.exclamation then name_end text p + 1 else p + 1
 
 abbrev pub with_handle : List ℕ → Result (List ℕ × ℕ) Wrong → Result TagText Wrong
 with_handle handle (Ok u) = Ok record { handle = handle; suffix = u.0; end = u.1 }
@@ -48,8 +50,8 @@ named_at text p = with_handle (slice_range text p (name_end text p + 1))
 -- the handle `!` before a URI; `!` alone is a suffix
 abbrev pub bare : Result (List ℕ × ℕ) Wrong → Result TagText Wrong
 bare (Ok u) =
-    if length u.0 == 0 then Ok record { handle = []; suffix = 33 ∷ []; end = u.1 }
-    else Ok record { handle = 33 ∷ []; suffix = u.0; end = u.1 }
+    if length u.0 == 0 then Ok record { handle = []; suffix = ascii.exclamation ∷ []; end = u.1 }
+    else Ok record { handle = ascii.exclamation ∷ []; suffix = u.0; end = u.1 }
 bare (Err w) = Err w
 
 -- `!uri` or `!`
@@ -59,13 +61,13 @@ bare_at text p = bare (uri_at contexts.TagUri false text (p + 1))
 -- the tag whose `!` stands there, whatever follows it
 unfoldable pub parts_at : List ℕ → ℕ → Result TagText Wrong
 parts_at text p =
-    if byte text (p + 1) == 60 then verbatim_at text p
-    else if byte text (name_end text p) == 33 then named_at text p
+    if byte text (p + 1) == ascii.less then verbatim_at text p
+    else if byte text (name_end text p) == ascii.exclamation then named_at text p
     else bare_at text p
 
 -- a blank, a break or the end stands there, or in flow context `,`
 abbrev pub may_end_tag : Bool → List ℕ → ℕ → Bool
-may_end_tag flow text p = is_blank_or_end text p || (flow && byte text p == 44)
+may_end_tag flow text p = is_blank_or_end text p || (flow && byte text p == ascii.comma)
 
 abbrev pub ended : Bool → List ℕ → Result TagText Wrong → Result TagText Wrong
 ended flow text (Ok t) =

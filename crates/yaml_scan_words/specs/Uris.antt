@@ -1,5 +1,6 @@
 -- The URIs of tags and prefixes, with their escapes.
 use Rattle.std.specs.Prelude.{ℕ, zero, suc, ◌+◌, ◌-◌, ◌*◌, Bool, ◌&&◌, ◌||◌, ◌==◌, nat_lt, nat_le, if◌then◌else◌, List, [], ◌∷◌, ◌++◌, length, Option, Some, None, Result, Ok, Err}
+use Rattle.yaml_scan_model.specs.Ascii as ascii
 use Rattle.yaml_scan_model.specs.declared.problem.Context.{Context}
 use Rattle.yaml_scan_model.specs.declared.problem.Problem.{Problem}
 use Rattle.yaml_scan_model.specs.declared.problem.Problem.TheVariants as problems
@@ -10,14 +11,16 @@ use Rattle.yaml_scan_model.specs.Wrong.{Wrong}
 -- one of `; / ? : @ & = + $ . ! ~ * ' ( )`
 unfoldable pub is_punctuation : ℕ → Bool
 is_punctuation b =
-    (b == 59 || (b == 47 || (b == 63
-    || (b == 58 || (b == 64 || (b == 38 || (b == 61 || b == 43)))))))
-    || (b == 36 || (b == 46 || (b == 33
-    || (b == 126 || (b == 42 || (b == 39 || (b == 40 || b == 41)))))))
+    (b == ascii.semicolon || (b == ascii.slash || (b == ascii.question
+    || (b == ascii.colon || (b == ascii.at
+    || (b == ascii.ampersand || (b == ascii.equals || b == ascii.plus)))))))
+    || (b == ascii.dollar || (b == ascii.dot || (b == ascii.exclamation
+    || (b == ascii.tilde || (b == ascii.asterisk
+    || (b == ascii.apostrophe || (b == ascii.open_paren || b == ascii.close_paren)))))))
 
 -- one of `, [ ]`
 unfoldable pub is_wide_punctuation : ℕ → Bool
-is_wide_punctuation b = b == 44 || (b == 91 || b == 93)
+is_wide_punctuation b = b == ascii.comma || (b == ascii.open_bracket || b == ascii.close_bracket)
 
 -- a character stands there that a URI holds as it is
 abbrev pub is_uri : Bool → List ℕ → ℕ → Bool
@@ -72,7 +75,7 @@ octet_spot due p None = Faulty problems.NoEscapedOctet p
 -- what stands there, where so many escapes are due
 unfoldable pub spot_at : Bool → ℕ → List ℕ → ℕ → UriSpot
 spot_at wide due text p =
-    if byte text p == 37 then octet_spot due p (octet_at text p)
+    if byte text p == ascii.percent then octet_spot due p (octet_at text p)
     else if nat_lt 0 due then Faulty problems.NoEscapedOctet p
     else if is_uri wide text p then Spells (byte text p) 0 (p + 1)
     else Ends p

@@ -1,5 +1,6 @@
 -- Texts that are written.
 use Rattle.std.specs.Prelude.{ℕ, ◌+◌, ◌<◌, ◌/◌, ◌%◌, Bool, true, false, not, ◌&&◌, ◌||◌, ◌==◌, nat_lt, if◌then◌else◌, List, [], ◌∷◌, ◌++◌, ◌≡◌, length, get_or, Ok}
+use Rattle.yaml_scan_model.specs.Ascii as ascii
 use Rattle.yaml_scan_model.specs.Marks.{byte, break_width}
 use Rattle.yaml_scan_model.specs.Classes.{is_alpha_byte, is_bom}
 use Rattle.yaml_scan_words.specs.Uris.{is_punctuation, is_wide_punctuation, due_behind}
@@ -16,18 +17,19 @@ are_alphas (b ∷ bs) = is_alpha_byte b && are_alphas bs
 -- spaces, CR and LF alone
 abbrev pub are_gap : List ℕ → Bool
 are_gap [] = true
-are_gap (b ∷ bs) = (b == 32 || (b == 10 || b == 13)) && are_gap bs
+are_gap (b ∷ bs) =
+    (b == ascii.space || (b == ascii.line_feed || b == ascii.carriage_return)) && are_gap bs
 
 -- CR or LF is among the bytes
 abbrev pub has_break : List ℕ → Bool
 has_break [] = false
-has_break (b ∷ bs) = (b == 10 || b == 13) || has_break bs
+has_break (b ∷ bs) = (b == ascii.line_feed || b == ascii.carriage_return) || has_break bs
 
 -- a lexeme stands there, or the end: neither a blank nor a comment nor a break, nor U+FEFF at the start of the text
 abbrev pub begins_lexeme : List ℕ → ℕ → Bool
 begins_lexeme text p =
-    not (byte text p == 32) && (not (byte text p == 9)
-    && (not (byte text p == 35)
+    not (byte text p == ascii.space) && (not (byte text p == ascii.tab)
+    && (not (byte text p == ascii.hash)
     && (not (nat_lt 0 (break_width text p)) && not (p == 0 && is_bom text p))))
 
 -- A byte of a URI as it is, or as an escape.
@@ -41,7 +43,7 @@ capital d = if nat_lt d 10 then d + 48 else d + 55
 
 abbrev pub piece_text : UriPiece → List ℕ
 piece_text (raw b) = b ∷ []
-piece_text (escape b) = 37 ∷ capital (b / 16) ∷ capital (b % 16) ∷ []
+piece_text (escape b) = ascii.percent ∷ capital (b / 16) ∷ capital (b % 16) ∷ []
 
 abbrev pub piece_byte : UriPiece → ℕ
 piece_byte (raw b) = b
@@ -72,5 +74,5 @@ IsUri wide due (escape b ∷ pieces) = (b < 256) × ((next : ℕ) × (due_behind
 -- no raw `!` is among the pieces
 abbrev pub has_no_mark : List UriPiece → Bool
 has_no_mark [] = true
-has_no_mark (raw b ∷ pieces) = not (b == 33) && has_no_mark pieces
+has_no_mark (raw b ∷ pieces) = not (b == ascii.exclamation) && has_no_mark pieces
 has_no_mark (escape b ∷ pieces) = has_no_mark pieces

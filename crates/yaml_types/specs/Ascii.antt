@@ -19,6 +19,12 @@ exclamation = 33
 abbrev pub quote : ℕ
 quote = 34
 
+abbrev pub hash : ℕ
+hash = 35
+
+abbrev pub dollar : ℕ
+dollar = 36
+
 abbrev pub percent : ℕ
 percent = 37
 
@@ -27,6 +33,12 @@ ampersand = 38
 
 abbrev pub apostrophe : ℕ
 apostrophe = 39
+
+abbrev pub open_paren : ℕ
+open_paren = 40
+
+abbrev pub close_paren : ℕ
+close_paren = 41
 
 abbrev pub asterisk : ℕ
 asterisk = 42
@@ -43,17 +55,29 @@ hyphen = 45
 abbrev pub dot : ℕ
 dot = 46
 
+abbrev pub slash : ℕ
+slash = 47
+
 abbrev pub colon : ℕ
 colon = 58
 
+abbrev pub semicolon : ℕ
+semicolon = 59
+
 abbrev pub less : ℕ
 less = 60
+
+abbrev pub equals : ℕ
+equals = 61
 
 abbrev pub greater : ℕ
 greater = 62
 
 abbrev pub question : ℕ
 question = 63
+
+abbrev pub at : ℕ
+at = 64
 
 abbrev pub open_bracket : ℕ
 open_bracket = 91
@@ -64,11 +88,20 @@ backslash = 92
 abbrev pub close_bracket : ℕ
 close_bracket = 93
 
-abbrev pub bar : ℕ
-bar = 124
+abbrev pub underscore : ℕ
+underscore = 95
+
+abbrev pub grave : ℕ
+grave = 96
 
 abbrev pub open_brace : ℕ
 open_brace = 123
 
+abbrev pub bar : ℕ
+bar = 124
+
 abbrev pub close_brace : ℕ
 close_brace = 125
+
+abbrev pub tilde : ℕ
+tilde = 126

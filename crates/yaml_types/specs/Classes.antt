@@ -1,5 +1,6 @@
 -- The classes of bytes: what stands at a place of a text.
 use Rattle.std.specs.Prelude.{ℕ, zero, suc, ◌+◌, ◌-◌, Bool, true, false, not, ◌&&◌, ◌||◌, ◌==◌, nat_lt, nat_le, if◌then◌else◌, List, length}
+use Rattle.yaml_types.specs.Ascii as ascii
 use Rattle.yaml_types.specs.Marks.{byte, break_width, is_blank as is_blank_byte}
 
 -- 0-9
@@ -13,7 +14,8 @@ is_hex_byte b = is_digit_byte b || ((nat_le 65 b && nat_le b 70) || (nat_le 97 b
 -- 0-9 A-Z a-z _ -
 unfoldable pub is_alpha_byte : ℕ → Bool
 is_alpha_byte b = is_digit_byte b
-    || ((nat_le 65 b && nat_le b 90) || ((nat_le 97 b && nat_le b 122) || (b == 95 || b == 45)))
+    || ((nat_le 65 b && nat_le b 90)
+    || ((nat_le 97 b && nat_le b 122) || (b == ascii.underscore || b == ascii.hyphen)))
 
 -- the value of a hexadecimal digit
 unfoldable pub hex_value_of : ℕ → ℕ
@@ -64,10 +66,10 @@ abbrev pub is_bom : List ℕ → ℕ → Bool
 is_bom text p = byte text p == 0xEF && (byte text (p + 1) == 0xBB && byte text (p + 2) == 0xBF)
 
 abbrev pub is_space : List ℕ → ℕ → Bool
-is_space text p = byte text p == 32
+is_space text p = byte text p == ascii.space
 
 abbrev pub is_tab : List ℕ → ℕ → Bool
-is_tab text p = byte text p == 9
+is_tab text p = byte text p == ascii.tab
 
 abbrev pub is_blank : List ℕ → ℕ → Bool
 is_blank text p = is_blank_byte (byte text p)
@@ -77,7 +79,7 @@ abbrev pub is_break : List ℕ → ℕ → Bool
 is_break text p = nat_lt 0 (break_width text p)
 
 abbrev pub is_crlf : List ℕ → ℕ → Bool
-is_crlf text p = byte text p == 13 && byte text (p + 1) == 10
+is_crlf text p = byte text p == ascii.carriage_return && byte text (p + 1) == ascii.line_feed
 
 -- one of the first n numbers passes a test
 unfoldable pub any_below : ℕ → (ℕ → Bool) → Bool

@@ -1,5 +1,6 @@
 -- Places in a text, and their marks.
 use Rattle.std.specs.Prelude.{ℕ, zero, suc, ◌+◌, ◌-◌, Bool, true, false, not, ◌&&◌, ◌||◌, ◌==◌, nat_lt, nat_le, if◌then◌else◌, List, slice_index}
+use Rattle.yaml_types.specs.Ascii as ascii
 use Rattle.yaml_types.specs.declared.record.yaml_mark_t.{yaml_mark_t}
 
 -- a place in a text
@@ -14,8 +15,8 @@ byte text p = slice_index text p
 -- how many bytes the break has that begins with these, or 0
 unfoldable pub break_of : ℕ → ℕ → ℕ → ℕ
 break_of b c d =
-    if b == 13 then (if c == 10 then 2 else 1)
-    else if b == 10 then 1
+    if b == ascii.carriage_return then (if c == ascii.line_feed then 2 else 1)
+    else if b == ascii.line_feed then 1
     else if b == 0xC2 && c == 0x85 then 2
     else if (b == 0xE2 && c == 0x80) && (d == 0xA8 || d == 0xA9) then 3
     else 0
@@ -23,8 +24,8 @@ break_of b c d =
 -- b is the last byte of a break, where x and y stand before it and c behind it
 unfoldable pub ends_of : ℕ → ℕ → ℕ → ℕ → Bool
 ends_of x y b c =
-    if b == 10 then true
-    else if b == 13 then not (c == 10)
+    if b == ascii.line_feed then true
+    else if b == ascii.carriage_return then not (c == ascii.line_feed)
     else if b == 0x85 then y == 0xC2
     else if b == 0xA8 || b == 0xA9 then y == 0x80 && x == 0xE2
     else false
@@ -32,7 +33,7 @@ ends_of x y b c =
 -- b goes on with a break that began before it
 unfoldable pub splits_of : ℕ → ℕ → ℕ → ℕ → Bool
 splits_of x y b c =
-    if b == 10 then y == 13
+    if b == ascii.line_feed then y == ascii.carriage_return
     else if b == 0x85 then y == 0xC2
     else if b == 0x80 then y == 0xE2 && (c == 0xA8 || c == 0xA9)
     else if b == 0xA8 || b == 0xA9 then y == 0x80 && x == 0xE2
@@ -71,7 +72,7 @@ abbrev pub mark_at : List ℕ → ℕ → yaml_mark_t
 mark_at text p = record { index = p; line = line_at text p; column = column_at text p }
 
 abbrev pub is_blank : ℕ → Bool
-is_blank b = b == 32 || b == 9
+is_blank b = b == ascii.space || b == ascii.tab
 
 -- a blank, a break or the end stands there
 abbrev pub is_blank_or_end : List ℕ → ℕ → Bool

@@ -2,7 +2,7 @@
 #![tactic(auto)]
 
 pub mod fault;
-mod keeping;
+pub mod keeping;
 pub mod name;
 mod problem;
 mod reader;

@@ -1,10 +1,12 @@
 //! The types that all members have: libyaml's enums, directives, marks, tokens and located faults, with the fault of memory; bytes that are
-//! put behind a text; and short texts, which are put so by few moves, and looked for in front of others.
+//! put behind a text; short texts, which are put so by few moves, and looked for in front of others; and texts that were let go, whose
+//! room later ones take.
 #![tactic(auto)]
 
 mod directive;
 mod event_name;
 mod fault;
+mod keeping;
 mod memory;
 mod name;
 mod pushing;
@@ -19,6 +21,7 @@ pub use event_name::{
     yaml_break_t, yaml_event_type_t, yaml_mapping_style_t, yaml_node_type_t, yaml_sequence_style_t,
 };
 pub use fault::{yaml_fault_t, yaml_origin_t};
+pub use keeping::Spares;
 pub use memory::yaml_memory_fault;
 pub use name::{yaml_encoding_t, yaml_error_type_t, yaml_scalar_style_t, yaml_token_type_t};
 pub use pushing::{push_each, push_near};

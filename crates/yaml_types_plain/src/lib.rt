@@ -11,6 +11,7 @@ mod pushing;
 mod putting;
 mod record;
 mod standing;
+mod state;
 mod width;
 
 pub use directive::{yaml_tag_directive_t, yaml_version_directive_t};
@@ -23,4 +24,5 @@ pub use pushing::{push_each, push_near};
 pub use putting::{BRIEF, SHORT, is_short, put_brief, put_short, sixteen_at};
 pub use record::{yaml_mark_t, yaml_simple_key_t};
 pub use standing::stands_in_front;
+pub use state::yaml_parser_state_t;
 pub use width::DEFAULT_WIDTH;

@@ -6,9 +6,12 @@ calls that have no edit.
     tools/edits.py             writes the page
     tools/edits.py --check     writes nothing, and fails where the page differs
 
-Both fail where an `old:` text does not stand exactly once in its file, or where FIRST or IMPLIED names what isn't there.
+Both fail where an `old:` text does not stand exactly once in its file, where FIRST or IMPLIED names what isn't there, or where the
+edits of one function don't stand together in the order of their files' names.
 
-An edit says what it turns in a line `turns: TEXT`; where it has none, its name stands for it. A line of the vectors that is named
+An edit's file is EDIT.edit, or FUNCTION.EDIT.edit where its function has several: each is tried over what the check of the one
+before it proved, so that a function that was edited is proved again as it stands before another one is; edits of one function that
+stand together spare that. An edit says what it turns in a line `turns: TEXT`; where it has none, its name stands for it. A line of the vectors that is named
 in an edit's place says it in a field `turns`.
 """
 import collections
@@ -29,7 +32,7 @@ HEAD = """# Must-fail edits
 
 Written by `tools/edits.py`; not by hand.
 
-Each line is a change of the code that the prover must refuse (`crates/CRATE/must-fail/EDIT.edit`), and the meaning that it turns: were it still proved, the contract would not say that meaning. A call is public where a member hands it out, or an export for C, with its clauses. 'Helper' marks functions that only a helper crate hands out, and 'private' the rest: their edits stand where no public call turns the same meaning.
+Each line is a change of the code that the prover must refuse (`crates/CRATE/must-fail/EDIT.edit`, or `FUNCTION.EDIT.edit` where a function has several), and the meaning that it turns: were it still proved, the contract would not say that meaning. A call is public where a member hands it out, or an export for C, with its clauses. 'Helper' marks functions that only a helper crate hands out, and 'private' the rest: their edits stand where no public call turns the same meaning.
 
 """
 LINES_HEAD = f"""
@@ -55,7 +58,7 @@ FIRST = [
     ("bytes of a tag that aren't UTF-8 left out or replaced", "yaml_round_adapter/tag_bytes_replaced"),
     ("tokens of a step that fails handed out", "yaml_scan/tokens_behind_a_fault", "scan: scans: a key without its colon"),
     ("surrogates accepted", "yaml_scan_decode/surrogate_accepted", "yaml_scan_classes/printable_surrogate"),
-    ("lexemes read ahead of need; more spare texts kept, or larger ones", "yaml_scan/reads_ahead_of_need", "yaml_scan_model/spare_text_number_65", "yaml_scan_model/spare_text_of_257_bytes"),
+    ("lexemes read ahead of need; more spare texts kept, or larger ones", "yaml_scan/reads_ahead_of_need", "yaml_types/spare_text_number_65", "yaml_types/spare_text_of_257_bytes"),
     ("a token known where a later text may change it", "yaml_scan/has_token_where_none_is", "yaml_scan/token_known_once_peeked"),
     ("a source or a session that refuses again", "yaml_scan/memory_fault_behind_streams_end", "yaml_round_adapter/refuses_again"),
     ("a scanner's want of memory told of the reader, a tag's fault told as want of memory", "yaml_scan/scanners_memory_told_of_the_reader", "yaml_round_adapter/tags_fault_told_as_memory"),
@@ -129,7 +132,7 @@ class Edit:
     """An edit: its name, the function whose text it changes first, and what it turns."""
 
     def __init__(self, crate, path):
-        self.crate, self.name = crate, os.path.basename(path)[: -len(".edit")]
+        self.crate, self.path, self.name = crate, path, os.path.basename(path)[: -len(".edit")].rpartition(".")[2]
         self.turns, file, self.at = "", "", None
         for line in repo.read(path).split("\n"):
             word, _, text = line.partition(": ")
@@ -160,6 +163,16 @@ def unfit(crate, path):
                 return f"{path}: its text stands {now.count(old)} times in {file}: {old}"
             texts[file] = now.replace(old, text)
     return "" if texts else f"{path}: it changes nothing"
+
+
+def scattered(edits):
+    """The functions whose edits don't stand together, as the gate tries them: by the names of their files."""
+    for crate in sorted({it.crate for it in edits}):
+        own = sorted((it for it in edits if it.crate == crate and it.at), key=lambda it: os.path.basename(it.path))
+        labels = [it.at.label for it in own]
+        met = [label for k, label in enumerate(labels) if not k or labels[k - 1] != label]
+        for label in sorted({it for it in met if met.count(it) > 1}):
+            yield f"{crate}: the edits of {label} don't stand together: name each file {label.split('::')[-1]}.EDIT.edit"
 
 
 def function_with(path, text):
@@ -290,8 +303,8 @@ def page():
 
 
 def main():
-    paths = [(it.crate, f"crates/{it.crate}/must-fail/{it.name}.edit") for it in all_edits()]
-    wrong = [why for why in (unfit(*it) for it in paths) if why]
+    edits = all_edits()
+    wrong = [why for why in (unfit(it.crate, it.path) for it in edits) if why] + list(scattered(edits))
     if wrong:
         sys.exit("edits: " + "\nedits: ".join(wrong))
     made = page()

@@ -3,4 +3,4 @@ pub mod BreaksLemmas
 pub mod RunsLemmas
 pub mod SparesLemmas
 pub mod PrintedLemmas
-pub mod RoomsLemmas
+pub use Rattle.yaml_types.proofs.RoomsLemmas

@@ -3,12 +3,12 @@ pub use Rattle.yaml_types.specs.Classes
 pub use Rattle.yaml_types.specs.Tokens
 pub use Rattle.yaml_types.specs.Faults
 pub use Rattle.yaml_types.specs.Ends
+pub use Rattle.yaml_types.specs.Rooms
 pub use Rattle.yaml_types.specs.Widths
 pub use Rattle.yaml_types.specs.Ascii
 pub mod Problems
 pub mod Breaks
 pub mod Runs
 pub mod Spares
-pub mod Rooms
 pub mod Views
 pub mod Wrong

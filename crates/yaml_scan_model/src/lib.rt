@@ -2,7 +2,7 @@
 #![tactic(auto)]
 
 pub mod fault;
-mod keeping;
+pub mod keeping;
 pub mod name;
 mod problem;
 mod reader;
@@ -27,5 +27,5 @@ pub use spares::{copied, copied_whole, moved, room};
 pub use token::{yaml_token_body_t, yaml_token_t};
 pub use yaml_types::{
     DEFAULT_WIDTH, SHORT, is_short, push_each, push_near, put_short, stands_in_front,
-    yaml_memory_fault, yaml_token_delete,
+    yaml_memory_fault, yaml_parser_state_t, yaml_token_delete,
 };

@@ -1,1 +1,2 @@
-pub mod Ends
+pub use Rattle.yaml_types_plain.proofs.Ends
+pub mod RoomsLemmas

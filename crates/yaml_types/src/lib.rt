@@ -1,29 +1,18 @@
-//! The types that all members have: libyaml's enums, directives, marks, tokens and located faults, with the fault of memory; bytes that are
-//! put behind a text; and short texts, which are put so by few moves, and looked for in front of others.
+//! The types that all members have: the plain ones, passed on; tokens; the fault of memory; and texts that were let go, whose room later
+//! ones take.
 #![tactic(auto)]
 
-mod directive;
-mod event_name;
-mod fault;
+mod keeping;
 mod memory;
-mod name;
-mod pushing;
-mod putting;
-mod record;
-mod standing;
 mod token;
-mod width;
 
-pub use directive::{yaml_tag_directive_t, yaml_version_directive_t};
-pub use event_name::{
-    yaml_break_t, yaml_event_type_t, yaml_mapping_style_t, yaml_node_type_t, yaml_sequence_style_t,
-};
-pub use fault::{yaml_fault_t, yaml_origin_t};
+pub use keeping::Spares;
 pub use memory::yaml_memory_fault;
-pub use name::{yaml_encoding_t, yaml_error_type_t, yaml_scalar_style_t, yaml_token_type_t};
-pub use pushing::{push_each, push_near};
-pub use putting::{BRIEF, SHORT, is_short, put_brief, put_short, sixteen_at};
-pub use record::{yaml_mark_t, yaml_simple_key_t};
-pub use standing::stands_in_front;
 pub use token::{yaml_token_body_t, yaml_token_delete, yaml_token_t};
-pub use width::DEFAULT_WIDTH;
+pub use yaml_types_plain::{
+    BRIEF, DEFAULT_WIDTH, SHORT, is_short, push_each, push_near, put_brief, put_short, sixteen_at,
+    stands_in_front, yaml_break_t, yaml_encoding_t, yaml_error_type_t, yaml_event_type_t,
+    yaml_fault_t, yaml_mapping_style_t, yaml_mark_t, yaml_node_type_t, yaml_origin_t,
+    yaml_parser_state_t, yaml_scalar_style_t, yaml_sequence_style_t, yaml_simple_key_t,
+    yaml_tag_directive_t, yaml_token_type_t, yaml_version_directive_t,
+};

@@ -1,6 +1,6 @@
 use Rattle.std.proofs.Common.{length, List, ℕ, ◌++◌, ◌∙◌, ap, rules}
-use Rattle.yaml_types.proofs.Ends.{put_is}
-use Rattle.yaml_types.proofs.putting.put_ends.Goals as goal
+use Rattle.yaml_types_plain.proofs.Ends.{put_is}
+use Rattle.yaml_types_plain.proofs.putting.put_ends.Goals as goal
 
 pub returns-clause-items : goal.returns-clause-items
 returns-clause-items c =

@@ -3,9 +3,9 @@ use Rattle.std.proofs.Common.{◌≤◌, List, [], ◌∷◌, map, All, arith}
 use Rattle.std.specs.Prelude.{vec_capacity}
 use Rattle.std.proofs.lemmas.List.{length-map}
 use Rattle.std.proofs.lemmas.List.Elements.{All-nil, All-cons}
-use Rattle.yaml_scan_model.specs.Rooms.{rooms_of, KeepsFew}
-use Rattle.yaml_scan_model.specs.declared.keeping.Spares.{Spares}
-use Rattle.yaml_scan_model.specs.declared.keeping.SpareText.{SpareText}
+use Rattle.yaml_types.specs.Rooms.{rooms_of, KeepsFew}
+use Rattle.yaml_types.specs.declared.keeping.Spares.{Spares}
+use Rattle.yaml_types.specs.declared.keeping.SpareText.{SpareText}
 
 all_small : (ts : List SpareText) → All (λ room. room ≤ 256) (map (λ t. vec_capacity t.bytes) ts)
 all_small [] = All-nil (λ room. room ≤ 256)

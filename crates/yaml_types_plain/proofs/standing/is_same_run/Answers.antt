@@ -1,7 +1,7 @@
 use Rattle.std.proofs.Common.{refl, arith}
-use Rattle.yaml_types.specs.Ends.{same_run}
-use Rattle.yaml_types.proofs.Ends.{same_more}
-use Rattle.yaml_types.proofs.standing.is_same_run.Goals as goal
+use Rattle.yaml_types_plain.specs.Ends.{same_run}
+use Rattle.yaml_types_plain.proofs.Ends.{same_more}
+use Rattle.yaml_types_plain.proofs.standing.is_same_run.Goals as goal
 
 pub bytes-init : goal.bytes-init
 unfolding same_run

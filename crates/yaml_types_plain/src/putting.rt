@@ -1,7 +1,7 @@
 //! Short texts, put behind bytes that have room for them.
 
 ghost use Rattle.std.specs.Prelude.{◌≡◌, ◌+◌, ◌-◌, ◌≤◌, ◌++◌, true, length, vec_len, vec_capacity};
-ghost use Rattle.yaml_types.specs.Ends.{bytes_at, IsShort};
+ghost use Rattle.yaml_types_plain.specs.Ends.{bytes_at, IsShort};
 
 use crate::pushing::push_each;
 

@@ -1,6 +1,6 @@
 -- How much room the texts have that are kept.
 use Rattle.std.specs.Prelude.{ℕ, ◌≤◌, List, length, map, All, vec_capacity}
-use Rattle.yaml_scan_model.specs.declared.keeping.Spares.{Spares}
+use Rattle.yaml_types.specs.declared.keeping.Spares.{Spares}
 
 -- the room of each text that is kept
 abbrev pub rooms_of : Spares → List ℕ

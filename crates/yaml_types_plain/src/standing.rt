@@ -1,7 +1,7 @@
 //! Whether a short text stands in front of bytes.
 
 ghost use Rattle.std.specs.Prelude.{◌≡◌, ◌≢◌, ◌+◌, ◌≤◌, ◌++◌, true, false, ℕ, List, length, drop};
-ghost use Rattle.yaml_types.specs.Ends.{same_run};
+ghost use Rattle.yaml_types_plain.specs.Ends.{same_run};
 
 use crate::putting::SHORT;
 

@@ -4,7 +4,7 @@ use Rattle.std.proofs.lemmas.Bool.Decides.{nat_tests}
 use Rattle.std.proofs.lemmas.List.{take_more, take_all, take-append-drop, take-append-le, drop-take, get_or-drop, length-take-le, append_assoc, get_or_append_left}
 use Rattle.std.proofs.Math.Seq.{take-append-add}
 use Rattle.std.proofs.lemmas.Bool.{and_parts}
-use Rattle.yaml_types.specs.Ends.{bytes_at, same_run}
+use Rattle.yaml_types_plain.specs.Ends.{bytes_at, same_run}
 
 -- ---- parts
 

@@ -1,0 +1,91 @@
+//! Texts that were let go, whose room later ones take.
+
+ghost use Rattle.std.specs.Prelude.{◌≡◌, ◌≤◌, [], vec_capacity};
+
+use std::alloc::Global;
+
+/// How many texts are kept.
+const TEXTS_KEPT: usize = 64;
+
+/// With how much room each at most.
+const ROOM_KEPT: usize = 256;
+
+/// A text that was let go, with little room.
+#[derive(Drop)]
+struct SpareText {
+    bytes: Vec<u8>,
+    ghost small: { vec_capacity bytes ≤ 256 },
+}
+
+/// The texts that were let go and are kept: at most 64, each with at most 256 bytes of room.
+#[derive(Drop)]
+pub struct Spares {
+    texts: Vec<SpareText>,
+    ghost few: { vec_capacity texts ≤ 64 },
+}
+
+impl Spares {
+    ghost use Rattle.yaml_types.specs.Rooms.{rooms_of};
+
+    /// No text is kept.
+    pub fn new(alloc: Global) -> Spares
+        ensures { rooms_of result ≡ [] }
+    {
+        Spares {
+            texts: Vec::new(alloc),
+        }
+    }
+
+    /// What the texts are made by.
+    // Inlined: it is nothing.
+    #[inline(always)]
+    pub fn allocator(&self) -> &Global {
+        self.texts.allocator()
+    }
+
+    /// Keeps the room of a text, where it has some and not too much, and not enough are kept.
+    // The text is taken first: one whose capacity is asked where it lies would be moved by way of the stack.
+    // Inlined: some moves.
+    #[inline(always)]
+    pub fn keep(&mut self, text: Vec<u8>) {
+        if text.capacity() == 0 {
+            return;
+        }
+        if ROOM_KEPT < text.capacity() {
+            drop_text(text);
+            return;
+        }
+        if self.texts.len() < self.texts.capacity() {
+            self.texts.push_reserved(SpareText { bytes: text });
+            return;
+        }
+        self.make_place(text);
+    }
+
+    /// Makes the places of the texts that are kept, once, and lets go of a text. Where they are refused none is kept.
+    // Out of line: they are made once.
+    #[inline(never)]
+    fn make_place(&mut self, text: Vec<u8>) {
+        if self.texts.capacity() == 0 {
+            drop(self.texts.reserve_exact(TEXTS_KEPT));
+        }
+        drop(text);
+    }
+
+    /// The text that was kept last, with what it held.
+    // Inlined: a move.
+    #[inline(always)]
+    pub fn take(&mut self) -> Option<Vec<u8>> {
+        match self.texts.pop() {
+            Some(text) => Some(text.bytes),
+            None => None,
+        }
+    }
+}
+
+/// Lets go of a text.
+// Out of line: mostly a text is kept.
+#[inline(never)]
+fn drop_text(text: Vec<u8>) {
+    drop(text);
+}

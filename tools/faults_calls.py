@@ -85,10 +85,9 @@ LAYERS = {
     "told": {"Writer"},
     "line": {"Writer"},
 }
-# What these answer where some call was refused, for want of memory or for another reason: the first limit that isn't as it
-# should be, things that aren't right, the line of a fault, which names no layer, a device over memory that failed.
+# What these answer where some call was refused, for want of memory or for another reason: things that aren't right, the line of
+# a fault, which names no layer, a device over memory that failed.
 UNTOLD = {
-    "emit_limits": lambda line, got: isinstance(got.get("answer"), int),
     "check": lambda line, got: set(got["answer"]) == set(line["answer"]) and False in got["answer"].values(),
     "line": lambda line, got: got == {"answer": LINE},
     "run": lambda line, got: got == {"refused": "Write"},

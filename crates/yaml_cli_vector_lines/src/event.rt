@@ -1,6 +1,7 @@
 //! Events, as the lines write them: the event's line, start mark, end mark, and what the event carries besides.
 
-use crate::{Reply, style};
+use crate::words::{ENCODINGS, MAPPINGS, SEQUENCES, word_of};
+use crate::{Part, Reply};
 use yaml_parse_model::{
     yaml_event_body_t, yaml_event_t, yaml_tag_directive_t, yaml_version_directive_t,
 };
@@ -15,35 +16,41 @@ fn put_event_line(reply: &mut Reply, event: &yaml_event_t) {
     reply.room(pushed);
 }
 
+/// Two numbers, as a list.
+pub fn put_numbers(reply: &mut Reply, first: i32, second: i32) {
+    reply.put(Part::List);
+    reply.put(Part::Number(first));
+    reply.put(Part::Number(second));
+    reply.put(Part::EndList);
+}
+
 /// A version: major and minor, or null.
 pub fn show_version(reply: &mut Reply, version: Option<yaml_version_directive_t>) {
     match version {
-        Some(version) => reply.put_pair(version.major, version.minor),
-        None => reply.put_null(),
+        Some(version) => put_numbers(reply, version.major, version.minor),
+        None => reply.put(Part::Null),
     }
-}
-
-fn show_directive(reply: &mut Reply, directive: &yaml_tag_directive_t) {
-    reply.begin_list();
-    reply.put_utf8(directive.handle.as_slice());
-    reply.put_bytes(directive.prefix.as_slice());
-    reply.end_list();
 }
 
 /// Tag directives: of each the handle as it is and the prefix in hexadecimal digits.
 pub fn show_directives(reply: &mut Reply, directives: &[yaml_tag_directive_t]) {
-    reply.begin_list();
+    reply.put(Part::List);
     for directive in directives {
-        show_directive(reply, directive);
+        reply.put(Part::List);
+        reply.put_utf8(directive.handle.as_slice());
+        reply.put(Part::Bytes(directive.prefix.as_slice()));
+        reply.put(Part::EndList);
     }
-    reply.end_list();
+    reply.put(Part::EndList);
 }
 
 // What the event carries that its line doesn't tell: of a scalar whether its tag may be left out in plain style, and in
 // every other.
 fn put_carried(reply: &mut Reply, body: &yaml_event_body_t) {
     match body {
-        yaml_event_body_t::StreamStart { encoding } => reply.put_encoding(*encoding),
+        yaml_event_body_t::StreamStart { encoding } => {
+            reply.put(Part::Word(word_of(&ENCODINGS, *encoding)))
+        }
         yaml_event_body_t::DocumentStart {
             version_directive,
             tag_directives,
@@ -57,34 +64,35 @@ fn put_carried(reply: &mut Reply, body: &yaml_event_body_t) {
             quoted_implicit,
             ..
         } => {
-            reply.put_flag(*plain_implicit);
-            reply.put_flag(*quoted_implicit);
-        }
+            reply.put(Part::Flag(*plain_implicit));
+            reply.put(Part::Flag(*quoted_implicit))
+        },
         yaml_event_body_t::SequenceStart {
             implicit,
             style,
             ..
         } => {
-            reply.put_flag(*implicit);
-            reply.put_word(style::sequence_word(*style));
-        }
+            reply.put(Part::Flag(*implicit));
+            reply.put(Part::Word(word_of(&SEQUENCES, *style)))
+        },
         yaml_event_body_t::MappingStart {
             implicit,
             style,
             ..
         } => {
-            reply.put_flag(*implicit);
-            reply.put_word(style::mapping_word(*style));
-        }
+            reply.put(Part::Flag(*implicit));
+            reply.put(Part::Word(word_of(&MAPPINGS, *style)))
+        },
         _ => {}
     }
 }
 
 /// Puts the event as the lines write it.
 pub fn show_event(reply: &mut Reply, event: &yaml_event_t) {
-    reply.begin_list();
+    reply.put(Part::List);
     put_event_line(reply, event);
-    reply.put_marks(event.start_mark, event.end_mark);
+    reply.put(Part::Mark(event.start_mark));
+    reply.put(Part::Mark(event.end_mark));
     put_carried(reply, &event.body);
-    reply.end_list();
+    reply.put(Part::EndList);
 }

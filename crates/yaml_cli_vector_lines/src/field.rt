@@ -1,5 +1,6 @@
 //! What a line says: the fields of an object and the items of a list, read.
 
+use crate::words::ENCODINGS;
 use crate::{Reply, VectorError};
 use serde_json::{Index, Value};
 use yaml_scan_model::{yaml_encoding_t, yaml_mark_t};
@@ -42,9 +43,9 @@ impl Reply {
         self.take(text, place.name(), "")
     }
 
-    /// The bytes of the text there.
-    pub fn copied<P: FieldPlace>(&mut self, line: &Value, place: P) -> Vec<u8> {
-        match Vec::from_slice(self.alloc(), self.text(line, place).as_bytes()) {
+    /// A copy of those bytes.
+    pub fn copy(&mut self, bytes: &[u8]) -> Vec<u8> {
+        match Vec::from_slice(self.alloc(), bytes) {
             Ok(copied) => copied,
             Err(_) => {
                 self.refuse(VectorError::Memory);
@@ -72,6 +73,29 @@ impl Reply {
         }
     }
 
+    // Adds a piece of an input: its bytes, and how often they stand there.
+    fn push_piece(&mut self, piece: &Value, bytes: &mut Vec<u8>) {
+        let repeated = self.bytes(piece, 0);
+        for _ in 0..self.count(piece, 1) {
+            if bytes.extend_from_slice(repeated.as_slice()).is_err() {
+                self.refuse(VectorError::Memory);
+                break;
+            }
+        }
+    }
+
+    /// The input there: bytes in hexadecimal digits, or a list of pieces, each with how often it is repeated.
+    pub fn input(&mut self, line: &Value, name: &'static str) -> Vec<u8> {
+        if !self.value(line, name).is_array() {
+            return self.bytes(line, name);
+        }
+        let mut bytes = Vec::new(self.alloc());
+        for piece in self.list(line, name) {
+            self.push_piece(piece, &mut bytes);
+        }
+        bytes
+    }
+
     /// True or false there.
     pub fn flag<P: FieldPlace>(&mut self, line: &Value, place: P) -> bool {
         let flag = self.value(line, place).as_bool();
@@ -84,19 +108,13 @@ impl Reply {
         self.take(count, place.name(), 0)
     }
 
-    /// That number of 32 bits.
-    pub fn whole(&mut self, value: &Value, name: &'static str) -> i32 {
-        let number = match value.as_i64() {
+    /// The number of 32 bits there.
+    pub fn number<P: FieldPlace>(&mut self, line: &Value, place: P) -> i32 {
+        let number = match self.value(line, place).as_i64() {
             Some(number) => i32::try_from(number).ok(),
             None => None,
         };
-        self.take(number, name, 0)
-    }
-
-    /// The number of 32 bits there.
-    pub fn number<P: FieldPlace>(&mut self, line: &Value, place: P) -> i32 {
-        let number = self.value(line, place);
-        self.whole(number, place.name())
+        self.take(number, place.name(), 0)
     }
 
     /// The list there.
@@ -123,17 +141,8 @@ impl Reply {
         }
     }
 
-    /// The encoding there: any, utf8, utf16le or utf16be.
+    /// The encoding there.
     pub fn encoding<P: FieldPlace>(&mut self, line: &Value, place: P) -> yaml_encoding_t {
-        match self.text(line, place) {
-            "any" => yaml_encoding_t::YAML_ANY_ENCODING,
-            "utf8" => yaml_encoding_t::YAML_UTF8_ENCODING,
-            "utf16le" => yaml_encoding_t::YAML_UTF16LE_ENCODING,
-            "utf16be" => yaml_encoding_t::YAML_UTF16BE_ENCODING,
-            _ => {
-                self.miss("encoding");
-                yaml_encoding_t::YAML_ANY_ENCODING
-            }
-        }
+        self.choice(line, place, &ENCODINGS, yaml_encoding_t::YAML_ANY_ENCODING)
     }
 }

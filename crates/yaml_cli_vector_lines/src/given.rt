@@ -1,7 +1,8 @@
 //! Events that a line lists: kind, encoding, version, directives, implicit, anchor, tag, value, plain and quoted implicit,
 //! style.
 
-use crate::{Reply, style};
+use crate::Reply;
+use crate::words::{MAPPINGS, SCALARS, SEQUENCES};
 use serde_json::Value;
 use std::alloc::Global;
 use yaml_parse_model::{
@@ -11,6 +12,9 @@ use yaml_parse_model::{
     yaml_sequence_end_event_initialize, yaml_sequence_start_event_initialize,
     yaml_stream_end_event_initialize, yaml_stream_start_event_initialize, yaml_tag_directive_t,
     yaml_text_fault_t, yaml_version_directive_t,
+};
+use yaml_scan_model::{
+    yaml_event_type_t, yaml_mapping_style_t, yaml_scalar_style_t, yaml_sequence_style_t,
 };
 
 /// A version, or null.
@@ -28,7 +32,8 @@ fn directive(reply: &mut Reply, directive: &Value, is_hex: bool) -> yaml_tag_dir
     let handle = if is_hex {
         reply.bytes(directive, 0)
     } else {
-        reply.copied(directive, 0)
+        let handle = reply.text(directive, 0);
+        reply.copy(handle.as_bytes())
     };
     let prefix = reply.bytes(directive, 1);
     yaml_tag_directive_t { handle, prefix }
@@ -66,6 +71,8 @@ fn scalar(alloc: Global, reply: &mut Reply, event: &Value) -> Made {
     let value = reply.bytes(event, 7);
     let plain_implicit = reply.flag(event, 8);
     let quoted_implicit = reply.flag(event, 9);
+    let any = yaml_scalar_style_t::YAML_ANY_SCALAR_STYLE;
+    let style = reply.choice(event, 10, &SCALARS, any);
     yaml_scalar_event_initialize(
         alloc,
         anchor.as_deref(),
@@ -73,7 +80,7 @@ fn scalar(alloc: Global, reply: &mut Reply, event: &Value) -> Made {
         value.as_slice(),
         plain_implicit,
         quoted_implicit,
-        style::scalar(reply, event, 10),
+        style,
     )
 }
 
@@ -84,37 +91,58 @@ fn collection_start(alloc: Global, reply: &mut Reply, event: &Value, is_sequence
     let tag = reply.optional_bytes(event, 6);
     let (anchor, tag) = (anchor.as_deref(), tag.as_deref());
     if is_sequence {
-        let style = style::sequence(reply, event, 10);
+        let any = yaml_sequence_style_t::YAML_ANY_SEQUENCE_STYLE;
+        let style = reply.choice(event, 10, &SEQUENCES, any);
         yaml_sequence_start_event_initialize(alloc, anchor, tag, implicit, style)
     } else {
-        let style = style::mapping(reply, event, 10);
+        let any = yaml_mapping_style_t::YAML_ANY_MAPPING_STYLE;
+        let style = reply.choice(event, 10, &MAPPINGS, any);
         yaml_mapping_start_event_initialize(alloc, anchor, tag, implicit, style)
     }
 }
 
 // An event without texts, of that kind.
-fn plain(reply: &mut Reply, kind: &str, event: &Value) -> yaml_event_t {
+fn plain(reply: &mut Reply, kind: yaml_event_type_t, event: &Value) -> yaml_event_t {
     match kind {
-        "STREAM-START" => yaml_stream_start_event_initialize(reply.encoding(event, 1)),
-        "STREAM-END" => yaml_stream_end_event_initialize(),
-        "DOCUMENT-END" => yaml_document_end_event_initialize(reply.flag(event, 4)),
-        "SEQUENCE-END" => yaml_sequence_end_event_initialize(),
-        "MAPPING-END" => yaml_mapping_end_event_initialize(),
-        _ => {
-            reply.miss("events");
-            yaml_stream_end_event_initialize()
+        yaml_event_type_t::YAML_STREAM_START_EVENT => {
+            yaml_stream_start_event_initialize(reply.encoding(event, 1))
         }
+        yaml_event_type_t::YAML_DOCUMENT_END_EVENT => {
+            yaml_document_end_event_initialize(reply.flag(event, 4))
+        }
+        yaml_event_type_t::YAML_SEQUENCE_END_EVENT => yaml_sequence_end_event_initialize(),
+        yaml_event_type_t::YAML_MAPPING_END_EVENT => yaml_mapping_end_event_initialize(),
+        _ => yaml_stream_end_event_initialize(),
     }
 }
 
+const KINDS: [(&'static str, yaml_event_type_t); 10] = [
+    ("STREAM-START", yaml_event_type_t::YAML_STREAM_START_EVENT),
+    ("STREAM-END", yaml_event_type_t::YAML_STREAM_END_EVENT),
+    (
+        "DOCUMENT-START",
+        yaml_event_type_t::YAML_DOCUMENT_START_EVENT,
+    ),
+    ("DOCUMENT-END", yaml_event_type_t::YAML_DOCUMENT_END_EVENT),
+    ("ALIAS", yaml_event_type_t::YAML_ALIAS_EVENT),
+    ("SCALAR", yaml_event_type_t::YAML_SCALAR_EVENT),
+    (
+        "SEQUENCE-START",
+        yaml_event_type_t::YAML_SEQUENCE_START_EVENT,
+    ),
+    ("SEQUENCE-END", yaml_event_type_t::YAML_SEQUENCE_END_EVENT),
+    ("MAPPING-START", yaml_event_type_t::YAML_MAPPING_START_EVENT),
+    ("MAPPING-END", yaml_event_type_t::YAML_MAPPING_END_EVENT),
+];
+
 /// The event that the line writes so.
 pub fn event_of(alloc: Global, reply: &mut Reply, event: &Value) -> Made {
-    match reply.text(event, 0) {
-        "DOCUMENT-START" => document_start(alloc, reply, event),
-        "ALIAS" => alias(alloc, reply, event),
-        "SCALAR" => scalar(alloc, reply, event),
-        "SEQUENCE-START" => collection_start(alloc, reply, event, true),
-        "MAPPING-START" => collection_start(alloc, reply, event, false),
+    match reply.choice(event, 0, &KINDS, yaml_event_type_t::YAML_NO_EVENT) {
+        yaml_event_type_t::YAML_DOCUMENT_START_EVENT => document_start(alloc, reply, event),
+        yaml_event_type_t::YAML_ALIAS_EVENT => alias(alloc, reply, event),
+        yaml_event_type_t::YAML_SCALAR_EVENT => scalar(alloc, reply, event),
+        yaml_event_type_t::YAML_SEQUENCE_START_EVENT => collection_start(alloc, reply, event, true),
+        yaml_event_type_t::YAML_MAPPING_START_EVENT => collection_start(alloc, reply, event, false),
         kind => Ok(plain(reply, kind, event)),
     }
 }

@@ -2,6 +2,7 @@
 //! as a line has it and compared with what the line wants. A line is an object of JSON; bytes stand in it as hexadecimal digits.
 #![tactic(auto)]
 
+mod checks;
 mod document;
 mod error;
 mod event;
@@ -10,21 +11,24 @@ mod given;
 mod made;
 mod parts;
 mod reply;
-mod rewritten;
+mod scripted;
 mod setting;
 mod shown;
-mod style;
 mod token;
 mod wanted;
+mod words;
 
+pub use checks::{documents, refuses_texts};
 pub use document::show_document;
 pub use error::{VectorError, json_error, text_error};
 pub use event::show_event;
 pub use given::event_of;
 pub use made::document_of;
+pub use parts::Part;
 pub use reply::Reply;
-pub use rewritten::tokens;
+pub use scripted::{ScriptedReader, ScriptedWriter, Step, steps_of};
 pub use setting::{Settings, settings_of};
-pub use shown::OWN;
-pub use token::{read_token, show_token};
+pub use shown::{OWN, own_fault};
+pub use token::{read_token, show_token, tokens};
 pub use wanted::{Outcome, compare};
+pub use words::{ORIGINS, word_of};

@@ -3,7 +3,8 @@
 ghost use Rattle.std.specs.Prelude.{IsTrue, IsSome};
 ghost use Rattle.yaml_parse_document.specs.Documents.{node_at, IsSequenceAt, IsMappingAt};
 
-use crate::{Reply, VectorError, given, style, text_error};
+use crate::words::{MAPPINGS, SCALARS, SEQUENCES};
+use crate::{Reply, VectorError, given, text_error};
 use serde_json::Value;
 use std::alloc::Global;
 use yaml_parse_document::{
@@ -12,7 +13,7 @@ use yaml_parse_document::{
     yaml_document_initialize, yaml_document_t,
 };
 use yaml_parse_model::{yaml_node_body_t, yaml_text_fault_t};
-use yaml_scan_model::yaml_scalar_style_t;
+use yaml_scan_model::{yaml_mapping_style_t, yaml_scalar_style_t, yaml_sequence_style_t};
 
 // A document without nodes.
 fn empty_document(
@@ -43,7 +44,8 @@ fn add_scalar(
     tag: Option<&[u8]>,
     node: &Value,
 ) -> Added {
-    let style = style::scalar(reply, node, 3);
+    let any = yaml_scalar_style_t::YAML_ANY_SCALAR_STYLE;
+    let style = reply.choice(node, 3, &SCALARS, any);
     let value = reply.bytes(node, 2);
     yaml_document_add_scalar(document, tag, value.as_slice(), style)
 }
@@ -58,11 +60,13 @@ fn add(
     match reply.text(node, 0) {
         "scalar" => add_scalar(document, reply, tag, node),
         "sequence" => {
-            let style = style::sequence(reply, node, 3);
+            let any = yaml_sequence_style_t::YAML_ANY_SEQUENCE_STYLE;
+            let style = reply.choice(node, 3, &SEQUENCES, any);
             yaml_document_add_sequence(document, tag, style)
         }
         "mapping" => {
-            let style = style::mapping(reply, node, 3);
+            let any = yaml_mapping_style_t::YAML_ANY_MAPPING_STYLE;
+            let style = reply.choice(node, 3, &MAPPINGS, any);
             yaml_document_add_mapping(document, tag, style)
         }
         _ => {
@@ -134,27 +138,26 @@ fn append_pair(document: &mut yaml_document_t, reply: &mut Reply, id: i32, key: 
     }
 }
 
-fn append_items(document: &mut yaml_document_t, reply: &mut Reply, id: i32, node: &Value) {
-    for item in reply.list(node, 2) {
-        let item = reply.whole(item, "nodes");
-        append_item(document, reply, id, item);
-    }
-}
-
-fn append_pairs(document: &mut yaml_document_t, reply: &mut Reply, id: i32, node: &Value) {
-    for pair in reply.list(node, 2) {
-        let key = reply.number(pair, 0);
-        let value = reply.number(pair, 1);
+// Appends an item, which is a number, or a pair, which is a list of two.
+fn append(document: &mut yaml_document_t, reply: &mut Reply, id: i32, held: &Value, at: usize) {
+    let listed = reply.value(held, at);
+    if listed.is_array() {
+        let key = reply.number(listed, 0);
+        let value = reply.number(listed, 1);
         append_pair(document, reply, id, key, value);
+    } else {
+        let item = reply.number(held, at);
+        append_item(document, reply, id, item);
     }
 }
 
 // Adds what the node of that number holds.
 fn fill(document: &mut yaml_document_t, reply: &mut Reply, id: i32, node: &Value) {
-    match reply.text(node, 0) {
-        "sequence" => append_items(document, reply, id, node),
-        "mapping" => append_pairs(document, reply, id, node),
-        _ => {}
+    if reply.text(node, 0) != "scalar" {
+        let held = reply.value(node, 2);
+        for at in 0..reply.list(node, 2).len() {
+            append(document, reply, id, held, at);
+        }
     }
 }
 

@@ -1,125 +1,104 @@
 //! The parts of an answer, as the lines write them.
 
 use crate::{Reply, VectorError};
+use json::Writer;
+use std::alloc::{AllocError, Global};
 use std::str;
 use yaml_scan_model::yaml_mark_t;
 
-impl Reply {
-    /// Begins a list.
-    pub fn begin_list(&mut self) {
-        let done = self.writer.begin_array();
-        self.room(done);
-    }
-
-    /// Ends it.
-    pub fn end_list(&mut self) {
-        let done = self.writer.end_array();
-        self.room(done);
-    }
-
-    /// Begins an object.
-    pub fn begin(&mut self) {
-        let done = self.writer.begin_object();
-        self.room(done);
-    }
-
-    /// Ends it.
-    pub fn end(&mut self) {
-        let done = self.writer.end_object();
-        self.room(done);
-    }
-
+/// A part of an answer.
+#[derive(Clone, Copy)]
+pub enum Part<'a> {
+    /// A list begins.
+    List,
+    /// It ends.
+    EndList,
+    /// An object begins.
+    Object,
+    /// It ends.
+    EndObject,
     /// The name of the field that comes next.
-    pub fn name(&mut self, name: &str) {
-        let done = self.writer.key(name);
+    Name(&'a str),
+    Word(&'a str),
+    /// A text, or null.
+    Text(Option<&'a str>),
+    /// A number that isn't negative.
+    Count(u64),
+    /// A number of 32 bits.
+    Number(i32),
+    Flag(bool),
+    Null,
+    /// Bytes, in hexadecimal digits.
+    Bytes(&'a [u8]),
+    /// The same, or null.
+    OptionalBytes(Option<&'a [u8]>),
+    /// Index, line, column.
+    Mark(yaml_mark_t),
+}
+
+fn write_bytes(writer: &mut Writer, alloc: Global, bytes: &[u8]) -> Result<(), AllocError> {
+    match hex::encode(alloc, bytes) {
+        Ok(digits) => writer.string(&digits),
+        Err(error) => Err(error),
+    }
+}
+
+fn write_mark(writer: &mut Writer, mark: yaml_mark_t) -> Result<(), AllocError> {
+    let begun = writer.begin_array();
+    let index = writer.u64(mark.index);
+    let line = writer.u64(mark.line);
+    let column = writer.u64(mark.column);
+    let ended = writer.end_array();
+    begun.and(index).and(line).and(column).and(ended)
+}
+
+fn write_part(writer: &mut Writer, alloc: Global, part: Part<'_>) -> Result<(), AllocError> {
+    match part {
+        Part::List => writer.begin_array(),
+        Part::EndList => writer.end_array(),
+        Part::Object => writer.begin_object(),
+        Part::EndObject => writer.end_object(),
+        Part::Name(name) => writer.key(name),
+        Part::Word(word) | Part::Text(Some(word)) => writer.string(word),
+        Part::Count(number) => writer.u64(number),
+        Part::Number(number) => writer.i64(i64::from(number)),
+        Part::Flag(flag) => writer.boolean(flag),
+        Part::Null | Part::Text(None) | Part::OptionalBytes(None) => writer.null(),
+        Part::Bytes(bytes) | Part::OptionalBytes(Some(bytes)) => write_bytes(writer, alloc, bytes),
+        Part::Mark(mark) => write_mark(writer, mark),
+    }
+}
+
+impl Reply {
+    /// Puts the part.
+    pub fn put(&mut self, part: Part<'_>) {
+        let done = write_part(&mut self.writer, self.alloc, part);
         self.room(done);
+    }
+
+    /// Puts a field of an object; an object or a list begins there where the part says so.
+    pub fn field(&mut self, name: &str, value: Part<'_>) {
+        self.put(Part::Name(name));
+        self.put(value);
     }
 
     /// Begins the field `answer`, which is a list.
     pub fn begin_answers(&mut self) {
-        self.begin();
-        self.name("answer");
-        self.begin_list();
+        self.put(Part::Object);
+        self.field("answer", Part::List);
     }
 
     /// Ends it, and the object with it.
     pub fn end_answers(&mut self) {
-        self.end_list();
-        self.end();
+        self.put(Part::EndList);
+        self.put(Part::EndObject);
     }
 
-    /// A word.
-    pub fn put_word(&mut self, word: &str) {
-        let done = self.writer.string(word);
-        self.room(done);
-    }
-
-    /// A number that isn't negative.
-    pub fn put_count(&mut self, number: u64) {
-        let done = self.writer.u64(number);
-        self.room(done);
-    }
-
-    /// A number of 32 bits.
-    pub fn put_number(&mut self, number: i32) {
-        let done = self.writer.i64(i64::from(number));
-        self.room(done);
-    }
-
-    /// True or false.
-    pub fn put_flag(&mut self, flag: bool) {
-        let done = self.writer.boolean(flag);
-        self.room(done);
-    }
-
-    /// The field of that name, true or false: in a check, whether something is right.
-    pub fn check(&mut self, name: &str, right: bool) {
-        self.name(name);
-        self.put_flag(right);
-    }
-
-    /// Null.
-    pub fn put_null(&mut self) {
-        let done = self.writer.null();
-        self.room(done);
-    }
-
-    /// Bytes, in hexadecimal digits.
-    pub fn put_bytes(&mut self, bytes: &[u8]) {
-        match hex::encode(self.alloc(), bytes) {
-            Ok(digits) => self.put_word(&digits),
-            Err(_) => self.refuse(VectorError::Memory),
-        }
-    }
-
-    /// A text that is UTF-8.
+    /// Puts a text that is UTF-8.
     pub fn put_utf8(&mut self, text: &[u8]) {
         match str::from_utf8(text) {
-            Ok(text) => self.put_word(text),
+            Ok(text) => self.put(Part::Word(text)),
             Err(_) => self.miss("text"),
         }
-    }
-
-    /// A mark: index, line, column.
-    pub fn put_mark(&mut self, mark: yaml_mark_t) {
-        self.begin_list();
-        self.put_count(mark.index);
-        self.put_count(mark.line);
-        self.put_count(mark.column);
-        self.end_list();
-    }
-
-    /// Where something starts and ends.
-    pub fn put_marks(&mut self, start: yaml_mark_t, end: yaml_mark_t) {
-        self.put_mark(start);
-        self.put_mark(end);
-    }
-
-    /// Two numbers, as a list.
-    pub fn put_pair(&mut self, first: i32, second: i32) {
-        self.begin_list();
-        self.put_number(first);
-        self.put_number(second);
-        self.end_list();
     }
 }

@@ -10,7 +10,7 @@ use yaml_scan_model::yaml_fault_t;
 /// have no exits, which are dear to prove.
 #[derive(Drop)]
 pub struct Reply {
-    alloc: Global,
+    pub(crate) alloc: Global,
     /// What the answer is written by.
     pub(crate) writer: Writer,
     wrong: Option<VectorError>,
@@ -48,11 +48,11 @@ impl Reply {
         self.refuse(VectorError::Fault(fault));
     }
 
-    /// A step of the call's was made, or refuses.
-    pub fn done(&mut self, done: Result<(), yaml_fault_t>) {
-        match done {
-            Ok(()) => {}
-            Err(fault) => self.fault(fault),
+    /// A step of the call's refuses where it answers a fault.
+    pub fn done(&mut self, fault: Option<yaml_fault_t>) {
+        match fault {
+            Some(fault) => self.fault(fault),
+            None => {}
         }
     }
 

@@ -1,6 +1,7 @@
 //! The settings that a line says.
 
 use crate::Reply;
+use crate::words::BREAKS;
 use serde_json::Value;
 use yaml_scan_model::{yaml_break_t, yaml_encoding_t};
 
@@ -22,17 +23,6 @@ pub struct Settings {
     pub limit: u64,
 }
 
-// How lines end, by that word.
-fn line_break(word: &str) -> Option<yaml_break_t> {
-    match word {
-        "any" => Some(yaml_break_t::YAML_ANY_BREAK),
-        "cr" => Some(yaml_break_t::YAML_CR_BREAK),
-        "lf" => Some(yaml_break_t::YAML_LN_BREAK),
-        "crlf" => Some(yaml_break_t::YAML_CRLN_BREAK),
-        _ => None,
-    }
-}
-
 /// The field `settings` of the line.
 pub fn settings_of(reply: &mut Reply, line: &Value) -> Settings {
     let fields = reply.value(line, "settings");
@@ -41,8 +31,7 @@ pub fn settings_of(reply: &mut Reply, line: &Value) -> Settings {
     let indent = reply.number(fields, "indent");
     let width = reply.number(fields, "width");
     let unicode = reply.flag(fields, "unicode");
-    let word = reply.text(fields, "break");
-    let line_break = reply.take(line_break(word), "break", yaml_break_t::YAML_ANY_BREAK);
+    let line_break = reply.choice(fields, "break", &BREAKS, yaml_break_t::YAML_ANY_BREAK);
     let limit = reply.count(fields, "limit");
     Settings {
         encoding,

@@ -5,7 +5,7 @@ use serde_json::Value;
 use std::alloc::Global;
 
 // The fields that calls answer. A line that has one wants it. No line wants `kept`.
-const ANSWERS: [&str; 15] = [
+const ANSWERS: &[&str] = &[
     "answer",
     "call_number",
     "errors",
@@ -32,19 +32,11 @@ pub enum Outcome {
     Failed(String),
 }
 
-// Whether both have the same there, or neither has anything.
-fn has(line: &Value, got: &Value, name: &'static str) -> bool {
-    match (line.get(name), got.get(name)) {
-        (Some(want), Some(got)) => *want == *got,
-        (want, got) => want.is_none() && got.is_none(),
-    }
-}
-
 // The first field that one of them lacks, or of which they have different values.
 fn first_wrong(line: &Value, got: &Value) -> Option<&'static str> {
     for name in ANSWERS {
-        if !has(line, got, name) {
-            return Some(name);
+        if line.get(*name) != got.get(*name) {
+            return Some(*name);
         }
     }
     None

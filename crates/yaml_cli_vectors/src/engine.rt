@@ -1,161 +1,168 @@
-//! The calls of the engine: events, reformat, reload, same, both diffs, and the line that tells a fault.
+//! The calls of the engine: events, loads, reformat, normalize, reload, same, both diffs, and the line that tells a fault; and the
+//! decoder's.
 
 use crate::difference::put_difference;
-use crate::given::{Given, given_of, input_of};
-use crate::reading::own_fault;
-use crate::text::put_answer;
+use crate::given::given_of;
+use crate::text::{put_answer, put_made};
 use serde_json::Value;
-use yaml_cli_vector_lines::Reply;
+use yaml_cli_vector_lines::{Part, Reply, own_fault};
 use yaml_round::{
     yaml_check, yaml_diff, yaml_diff_documents, yaml_difference_t, yaml_events, yaml_fault_line,
     yaml_fault_t, yaml_normalize, yaml_reformat, yaml_reload, yaml_same, yaml_settings_t,
     yaml_side_t,
 };
+use yaml_scan::yaml_decode;
 
-/// The event lines of the line's input.
-pub fn events(reply: &mut Reply, line: &Value) {
-    let from = reply.encoding(line, "from");
-    let input = input_of(reply, line, "input");
-    match yaml_events(reply.alloc(), input.as_slice(), from) {
-        Ok(text) => reply.answer(text.as_slice()),
+/// What is asked of an input.
+#[derive(Clone, Copy)]
+pub enum Asked {
+    /// Its text.
+    Decode,
+    /// Its event lines.
+    Events,
+    /// Whether it loads.
+    Loads,
+    /// The line that tells its fault, null where there is none.
+    FaultLine,
+}
+
+fn put_loads(reply: &mut Reply, loads: Result<(), yaml_fault_t>) {
+    match loads {
+        Ok(()) => reply.answer(Part::Flag(true)),
         Err(fault) => reply.fault(fault),
     }
-}
-
-/// The text of the line's input under its settings, and the form that it has.
-pub fn reformat(reply: &mut Reply, line: &Value) {
-    let given = given_of(reply, line);
-    let input = given.input.as_slice();
-    match yaml_reformat(reply.alloc(), input, given.from, &given.settings) {
-        Ok((text, form)) => put_answer(reply, line, text.as_slice(), Some(form)),
-        Err(fault) => reply.fault(fault),
-    }
-}
-
-/// The normal form that people read of the line's input, under its settings.
-pub fn normalize(reply: &mut Reply, line: &Value) {
-    let given = given_of(reply, line);
-    let input = given.input.as_slice();
-    match yaml_normalize(reply.alloc(), input, given.from, &given.settings) {
-        Ok(text) => put_answer(reply, line, text.as_slice(), None),
-        Err(fault) => reply.fault(fault),
-    }
-}
-
-/// The text of the documents of the line's input, under its settings.
-pub fn reload(reply: &mut Reply, line: &Value) {
-    let given = given_of(reply, line);
-    let input = given.input.as_slice();
-    match yaml_reload(reply.alloc(), input, given.from, &given.settings) {
-        Ok(text) => put_answer(reply, line, text.as_slice(), None),
-        Err(fault) => reply.fault(fault),
-    }
-}
-
-/// Whether the line's input loads, or its fault.
-pub fn loads(reply: &mut Reply, line: &Value) {
-    let from = reply.encoding(line, "from");
-    let input = input_of(reply, line, "input");
-    match yaml_check(reply.alloc(), input.as_slice(), from) {
-        Ok(()) => {
-            reply.begin();
-            reply.check("answer", true);
-            reply.end();
-        }
-        Err(fault) => reply.fault(fault),
-    }
-}
-
-fn side_word(side: yaml_side_t) -> &'static str {
-    match side {
-        yaml_side_t::First => "First",
-        yaml_side_t::Second => "Second",
-    }
-}
-
-// Puts the fault of one of two inputs.
-fn put_side(reply: &mut Reply, line: &Value, side: yaml_side_t, fault: &yaml_fault_t) {
-    reply.name("side");
-    reply.put_word(side_word(side));
-    reply.name_fault(line, fault);
-}
-
-// Puts what comparing answered.
-fn put_same(reply: &mut Reply, line: &Value, same: Result<bool, (yaml_side_t, yaml_fault_t)>) {
-    reply.begin();
-    match same {
-        Ok(same) => reply.check("answer", same),
-        Err((side, fault)) => put_side(reply, line, side, &fault),
-    }
-    reply.end();
-}
-
-/// Whether the line's inputs have the same content, or the side that is refused and its fault.
-pub fn same(reply: &mut Reply, line: &Value) {
-    let from = reply.encoding(line, "from");
-    let from2 = reply.encoding(line, "from2");
-    let first = input_of(reply, line, "input");
-    let second = input_of(reply, line, "input2");
-    let same = yaml_same(
-        reply.alloc(),
-        first.as_slice(),
-        from,
-        second.as_slice(),
-        from2,
-    );
-    put_same(reply, line, same);
-}
-
-type Parted = Result<Option<yaml_difference_t>, (yaml_side_t, yaml_fault_t)>;
-
-fn put_parted(reply: &mut Reply, line: &Value, parted: &Parted) {
-    reply.begin();
-    match parted {
-        Ok(difference) => put_difference(reply, difference),
-        Err((side, fault)) => put_side(reply, line, *side, fault),
-    }
-    reply.end();
-}
-
-/// Where the line's inputs part, or their documents, null where they don't, or the side that is refused and its fault.
-pub fn diff(reply: &mut Reply, line: &Value, documents: bool) {
-    let from = reply.encoding(line, "from");
-    let from2 = reply.encoding(line, "from2");
-    let first = input_of(reply, line, "input");
-    let second = input_of(reply, line, "input2");
-    let alloc = reply.alloc();
-    let parted = if documents {
-        yaml_diff_documents(alloc, first.as_slice(), from, second.as_slice(), from2)
-    } else {
-        yaml_diff(alloc, first.as_slice(), from, second.as_slice(), from2)
-    };
-    put_parted(reply, line, &parted);
 }
 
 /// The line that tells the fault.
 pub fn put_line(reply: &mut Reply, fault: &yaml_fault_t) {
     match yaml_fault_line(reply.alloc(), fault) {
-        Ok(text) => reply.put_bytes(text.as_slice()),
+        Ok(text) => reply.put(Part::Bytes(text.as_slice())),
         Err(fault) => reply.fault(fault),
     }
 }
 
-/// The line that tells the fault of the line's input; null where there is none.
-pub fn fault_line(reply: &mut Reply, line: &Value) {
-    let from = reply.encoding(line, "from");
-    let input = input_of(reply, line, "input");
-    reply.begin();
-    reply.name("answer");
-    match yaml_reformat(
-        reply.alloc(),
-        input.as_slice(),
-        from,
-        &yaml_settings_t::new(),
-    ) {
-        Ok(_) => reply.put_null(),
-        Err(fault) => put_line(reply, &fault),
+fn put_fault_line(reply: &mut Reply, fault: Option<yaml_fault_t>) {
+    reply.put(Part::Object);
+    reply.put(Part::Name("answer"));
+    match fault {
+        Some(fault) => put_line(reply, &fault),
+        None => reply.put(Part::Null),
     }
-    reply.end();
+    reply.put(Part::EndObject);
+}
+
+/// What the line's input answers, or its fault.
+pub fn ask(reply: &mut Reply, line: &Value, asked: Asked) {
+    let from = reply.encoding(line, "from");
+    let input = reply.input(line, "input");
+    let (alloc, text) = (reply.alloc(), input.as_slice());
+    match asked {
+        Asked::Decode => match yaml_decode(alloc, text, from) {
+            Ok(text) => put_answer(reply, line, text.as_slice(), None),
+            Err(fault) => reply.fault(fault),
+        },
+        Asked::Events => put_made(reply, line, yaml_events(alloc, text, from)),
+        Asked::Loads => put_loads(reply, yaml_check(alloc, text, from)),
+        Asked::FaultLine => {
+            let made = yaml_reformat(alloc, text, from, &yaml_settings_t::new());
+            put_fault_line(reply, made.err());
+        }
+    }
+}
+
+/// What is made of an input under settings.
+#[derive(Clone, Copy)]
+pub enum Made {
+    /// Its text again, and the form that it has.
+    Reformatted,
+    /// The normal form that people read.
+    Normalized,
+    /// The text of its documents.
+    Reloaded,
+}
+
+/// What is made of the line's input under its settings.
+pub fn make(reply: &mut Reply, line: &Value, wanted: Made) {
+    let given = given_of(reply, line);
+    let (alloc, input, settings) = (reply.alloc(), given.input.as_slice(), &given.settings);
+    match wanted {
+        Made::Reformatted => match yaml_reformat(alloc, input, given.from, settings) {
+            Ok((text, form)) => put_answer(reply, line, text.as_slice(), Some(form)),
+            Err(fault) => reply.fault(fault),
+        },
+        Made::Normalized => {
+            put_made(
+                reply,
+                line,
+                yaml_normalize(alloc, input, given.from, settings),
+            )
+        }
+        Made::Reloaded => { put_made(reply, line, yaml_reload(alloc, input, given.from, settings)) }
+    }
+}
+
+// Puts the fault of one of two inputs.
+fn put_side(reply: &mut Reply, line: &Value, side: yaml_side_t, fault: &yaml_fault_t) {
+    let word = match side {
+        yaml_side_t::First => "First",
+        yaml_side_t::Second => "Second",
+    };
+    reply.field("side", Part::Word(word));
+    reply.name_fault(line, fault);
+}
+
+// Puts whether two inputs are the same, or which of them is refused.
+fn put_same(reply: &mut Reply, line: &Value, same: Result<bool, (yaml_side_t, yaml_fault_t)>) {
+    reply.put(Part::Object);
+    match same {
+        Ok(same) => reply.field("answer", Part::Flag(same)),
+        Err((side, fault)) => put_side(reply, line, side, &fault),
+    }
+    reply.put(Part::EndObject);
+}
+
+type Parted = Result<Option<yaml_difference_t>, (yaml_side_t, yaml_fault_t)>;
+
+// Puts where two inputs part, or which of them is refused.
+fn put_parted(reply: &mut Reply, line: &Value, parted: Parted) {
+    reply.put(Part::Object);
+    match &parted {
+        Ok(None) => reply.field("answer", Part::Null),
+        Ok(Some(difference)) => put_difference(reply, difference),
+        Err((side, fault)) => put_side(reply, line, *side, fault),
+    }
+    reply.put(Part::EndObject);
+}
+
+/// How two inputs are compared.
+#[derive(Clone, Copy)]
+pub enum Compared {
+    /// Whether they have the same content.
+    Same,
+    /// Where they part, null where they don't.
+    Diff,
+    /// Where their documents part, null where they don't.
+    DiffDocuments,
+}
+
+/// What comparing the line's inputs answers, or the side that is refused and its fault.
+pub fn compare(reply: &mut Reply, line: &Value, compared: Compared) {
+    let from = reply.encoding(line, "from");
+    let from2 = reply.encoding(line, "from2");
+    let first = reply.input(line, "input");
+    let second = reply.input(line, "input2");
+    let (alloc, first, second) = (reply.alloc(), first.as_slice(), second.as_slice());
+    match compared {
+        Compared::Same => put_same(reply, line, yaml_same(alloc, first, from, second, from2)),
+        Compared::Diff => put_parted(reply, line, yaml_diff(alloc, first, from, second, from2)),
+        Compared::DiffDocuments => {
+            put_parted(
+                reply,
+                line,
+                yaml_diff_documents(alloc, first, from, second, from2),
+            )
+        }
+    }
 }
 
 /// The line that tells a fault with the line's fields, whose problem is `x`, met while `y` was being read, or nothing.
@@ -171,8 +178,5 @@ pub fn told(reply: &mut Reply, line: &Value) {
         context,
         ..own_fault(reply, fields)
     };
-    reply.begin();
-    reply.name("answer");
-    put_line(reply, &fault);
-    reply.end();
+    put_fault_line(reply, Some(fault));
 }

@@ -3,7 +3,7 @@
 use crate::given::{Given, given_of};
 use serde_json::Value;
 use std::alloc::Global;
-use yaml_cli_vector_lines::Reply;
+use yaml_cli_vector_lines::{Part, Reply};
 use yaml_round::{yaml_error_type_t, yaml_fault_t, yaml_reformat, yaml_reload, yaml_settings_t};
 
 // The fault that the call answers under the settings.
@@ -57,5 +57,5 @@ pub fn least_limit(reply: &mut Reply, line: &Value) {
     let of = reply.text(line, "of");
     let given = given_of(reply, line);
     let limit = least(reply, of, &given);
-    reply.answer_count(limit);
+    reply.answer(Part::Count(limit));
 }

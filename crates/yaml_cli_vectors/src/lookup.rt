@@ -2,7 +2,7 @@
 
 use serde_json::Value;
 use yaml_cli_lookup::{LookupError, lookup};
-use yaml_cli_vector_lines::{Reply, VectorError};
+use yaml_cli_vector_lines::{Part, Reply, VectorError};
 
 fn put_error(reply: &mut Reply, error: LookupError) {
     match error {
@@ -20,13 +20,8 @@ pub fn answer(reply: &mut Reply, line: &Value) {
     let key = reply.bytes(line, "key");
     let input = reply.bytes(line, "input");
     match lookup(reply.alloc(), input.as_slice(), from, key.as_slice()) {
-        Ok(Some(value)) => reply.answer(value.as_slice()),
-        Ok(None) => {
-            reply.begin();
-            reply.name("answer");
-            reply.put_null();
-            reply.end();
-        }
+        Ok(Some(value)) => reply.answer(Part::Bytes(value.as_slice())),
+        Ok(None) => reply.answer(Part::Null),
         Err(error) => put_error(reply, error),
     }
 }

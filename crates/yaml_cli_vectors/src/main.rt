@@ -2,19 +2,18 @@
 //! what it is a row of, and isn't looked at.
 #![tactic(auto)]
 
+mod call;
 mod checks;
 mod difference;
 mod engine;
 mod given;
 mod limits;
 mod lookup;
-mod member;
 mod program;
 mod read_all;
 mod reading;
 mod replay;
 mod run;
-mod scripted;
 mod tally;
 mod text;
 mod writing;

@@ -1,10 +1,8 @@
 //! The call `main`: a run of the whole program, over streams that do what the line says.
 
-use crate::given::input_of;
-use crate::scripted::{ScriptedReader, ScriptedWriter, Step, steps_of};
 use serde_json::Value;
 use yaml_cli_main::yaml_main;
-use yaml_cli_vector_lines::Reply;
+use yaml_cli_vector_lines::{Part, Reply, ScriptedReader, ScriptedWriter, Step, steps_of};
 
 // The input, and what the streams do.
 #[derive(Drop)]
@@ -19,7 +17,7 @@ struct Streams {
 
 fn streams_of(reply: &mut Reply, line: &Value) -> Streams {
     let unflushed = reply.flag(line, "unflushed");
-    let input = input_of(reply, line, "input");
+    let input = reply.input(line, "input");
     let reads = steps_of(reply, line, "reads");
     let writes = steps_of(reply, line, "writes");
     let tells = steps_of(reply, line, "tells");
@@ -43,22 +41,21 @@ fn words_of<'a>(reply: &mut Reply, line: &'a Value) -> Vec<&'a str> {
 
 // What stands there, or whether something does where the line wants that.
 fn put_text(reply: &mut Reply, line: &Value, name: &'static str, text: &[u8], is_utf8: bool) {
-    reply.name(name);
+    reply.put(Part::Name(name));
     match line.get(name) {
-        Some(Value::Bool(_)) => reply.put_flag(!text.is_empty()),
+        Some(Value::Bool(_)) => reply.put(Part::Flag(!text.is_empty())),
         _ if is_utf8 => reply.put_utf8(text),
-        _ => reply.put_bytes(text),
+        _ => reply.put(Part::Bytes(text)),
     }
 }
 
 // The status, what was written, and what was told.
 fn put_answer(reply: &mut Reply, line: &Value, status: u8, output: &[u8], errors: &[u8]) {
-    reply.begin();
-    reply.name("status");
-    reply.put_count(u64::from(status));
+    reply.put(Part::Object);
+    reply.field("status", Part::Count(u64::from(status)));
     put_text(reply, line, "output", output, false);
     put_text(reply, line, "errors", errors, true);
-    reply.end();
+    reply.put(Part::EndObject);
 }
 
 // One function owns the streams, and asks all there is to ask behind the run.

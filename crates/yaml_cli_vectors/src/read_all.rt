@@ -1,13 +1,11 @@
 //! The call `read_all`: an input that is read to its end.
 
-use crate::given::input_of;
 use crate::run::refusal_word;
-use crate::scripted::{ScriptedReader, Step, steps_of};
 use crate::text::put_text;
 use serde_json::Value;
 use std::alloc::Global;
 use std::io::Read;
-use yaml_cli_vector_lines::Reply;
+use yaml_cli_vector_lines::{Part, Reply, ScriptedReader, Step, steps_of};
 use yaml_round::{yaml_read_all, yaml_run_fault_t, yaml_std_input_t};
 
 type Answered = Result<Vec<u8>, yaml_run_fault_t>;
@@ -21,38 +19,34 @@ fn read_to_end<R: Read>(alloc: Global, reader: &mut R, limit: u64) -> Answered {
 fn put_read(reply: &mut Reply, line: &Value, read: &Answered) {
     match read {
         Ok(text) => put_text(reply, line, text.as_slice()),
-        Err(fault) => {
-            reply.name("refused");
-            reply.put_word(refusal_word(fault));
-        }
+        Err(fault) => reply.field("refused", Part::Word(refusal_word(fault))),
     }
 }
 
 // How many bytes the reader was asked for, where the line wants that.
 fn put_sizes(reply: &mut Reply, line: &Value, sizes: &[usize]) {
     if line.get("sizes").is_some() {
-        reply.name("sizes");
-        reply.begin_list();
+        reply.field("sizes", Part::List);
         for size in sizes {
-            reply.put_count(*size as u64);
+            reply.put(Part::Count(*size as u64));
         }
-        reply.end_list();
+        reply.put(Part::EndList);
     }
 }
 
 fn put_all(reply: &mut Reply, line: &Value, bytes: &[u8], steps: &[Step], limit: u64) {
     let mut reader = ScriptedReader::new(reply.alloc(), bytes, steps);
     let read = read_to_end(reply.alloc(), &mut reader, limit);
-    reply.begin();
+    reply.put(Part::Object);
     put_read(reply, line, &read);
     put_sizes(reply, line, reader.sizes.as_slice());
-    reply.end();
+    reply.put(Part::EndObject);
 }
 
 /// What is read of the line's input, which comes as its steps say, under its limit.
 pub fn answer(reply: &mut Reply, line: &Value) {
     let limit = reply.count(line, "input_limit");
-    let input = input_of(reply, line, "input");
+    let input = reply.input(line, "input");
     let reads = steps_of(reply, line, "reads");
     put_all(reply, line, input.as_slice(), reads.as_slice(), limit);
 }

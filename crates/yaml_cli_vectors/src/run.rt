@@ -8,14 +8,11 @@ use yaml_round::{
     yaml_command_t, yaml_form_t, yaml_run, yaml_run_fault_t, yaml_std_input_t, yaml_std_output_t,
 };
 
-fn command(word: &str) -> Option<yaml_command_t> {
-    match word {
-        "Fmt" => Some(yaml_command_t::Fmt),
-        "Docs" => Some(yaml_command_t::Docs),
-        "Events" => Some(yaml_command_t::Events),
-        _ => None,
-    }
-}
+const COMMANDS: [(&'static str, yaml_command_t); 3] = [
+    ("Fmt", yaml_command_t::Fmt),
+    ("Docs", yaml_command_t::Docs),
+    ("Events", yaml_command_t::Events),
+];
 
 /// Why a run was refused, where it wasn't by a fault of the input.
 pub fn refusal_word(fault: &yaml_run_fault_t) -> &'static str {
@@ -72,8 +69,7 @@ fn put_run(reply: &mut Reply, line: &Value, given: &Given, command: yaml_command
 /// The text that the line's command makes of its input, and the form that it has; `TooLong` where the input has more bytes
 /// than `input_limit`.
 pub fn run(reply: &mut Reply, line: &Value) {
-    let command = command(reply.text(line, "command"));
-    let command = reply.take(command, "command", yaml_command_t::Fmt);
+    let command = reply.choice(line, "command", &COMMANDS, yaml_command_t::Fmt);
     let limit = reply.count(line, "input_limit");
     let given = given_of(reply, line);
     put_run(reply, line, &given, command, limit);

@@ -1,34 +1,34 @@
 //! A text that a call answers, as the line wants it.
 
 use serde_json::Value;
-use yaml_cli_vector_lines::Reply;
-use yaml_round::yaml_form_t;
+use yaml_cli_vector_lines::{Part, Reply};
+use yaml_round::{yaml_fault_t, yaml_form_t};
 
 /// The text, or how many bytes it has where the line wants that.
 pub fn put_text(reply: &mut Reply, line: &Value, text: &[u8]) {
     if line.get("length").is_some() {
-        reply.name("length");
-        reply.put_count(text.len() as u64);
+        reply.field("length", Part::Count(text.len() as u64));
     } else {
-        reply.name("answer");
-        reply.put_bytes(text);
+        reply.field("answer", Part::Bytes(text));
     }
 }
 
 /// The text, and the form that it has, where it has one.
 pub fn put_answer(reply: &mut Reply, line: &Value, text: &[u8], form: Option<yaml_form_t>) {
-    reply.begin();
+    reply.put(Part::Object);
     put_text(reply, line, text);
     match form {
-        Some(yaml_form_t::Canonical) => {
-            reply.name("form");
-            reply.put_word("Canonical");
-        }
-        Some(yaml_form_t::Pretty) => {
-            reply.name("form");
-            reply.put_word("Pretty");
-        }
+        Some(yaml_form_t::Canonical) => reply.field("form", Part::Word("Canonical")),
+        Some(yaml_form_t::Pretty) => reply.field("form", Part::Word("Pretty")),
         None => {}
     }
-    reply.end();
+    reply.put(Part::EndObject);
+}
+
+/// A text that has no form, or the fault in its place.
+pub fn put_made(reply: &mut Reply, line: &Value, made: Result<Vec<u8>, yaml_fault_t>) {
+    match made {
+        Ok(text) => put_answer(reply, line, text.as_slice(), None),
+        Err(fault) => reply.fault(fault),
+    }
 }

@@ -1,7 +1,7 @@
 //! The call `next_tokens`.
 
 use serde_json::Value;
-use yaml_cli_vector_lines::{Reply, show_token};
+use yaml_cli_vector_lines::{Part, Reply, show_token};
 use yaml_parse::yaml_token_source_t;
 use yaml_round_adapter::yaml_adapter_t;
 

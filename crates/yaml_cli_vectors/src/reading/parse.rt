@@ -1,7 +1,7 @@
 //! Events that a parser gives.
 
 use super::parser::Reading;
-use yaml_cli_vector_lines::{Reply, show_event};
+use yaml_cli_vector_lines::{Part, Reply, show_event};
 use yaml_parse::{yaml_event_type_t, yaml_parser_parse};
 
 // Puts the next event. False behind the last, for which the empty one stands, and where it is refused.

@@ -1,7 +1,7 @@
 //! The call `parse_calls`: calls of a parser, one after another.
 
 use serde_json::Value;
-use yaml_cli_vector_lines::{Reply, show_document, show_event};
+use yaml_cli_vector_lines::{Part, Reply, show_document, show_event};
 use yaml_parse::{
     yaml_document_delete, yaml_event_body_t, yaml_event_t, yaml_fault_t, yaml_found_t,
     yaml_memory_fault, yaml_origin_t, yaml_parser_between, yaml_parser_delete,
@@ -36,7 +36,7 @@ fn put_found(
     match found {
         yaml_found_t::Event => show_event(reply, event),
         yaml_found_t::Refused => reply.put_fault(line, fault),
-        yaml_found_t::End => reply.put_word("end"),
+        yaml_found_t::End => reply.put(Part::Word("end")),
     }
 }
 
@@ -60,7 +60,7 @@ fn put_loaded<S: yaml_token_source_t>(
     parser: &mut yaml_parser_t<S>,
 ) {
     if !yaml_parser_between(parser) {
-        reply.put_word("not between");
+        reply.put(Part::Word("not between"));
         return;
     }
     match yaml_parser_load(parser) {
@@ -99,7 +99,7 @@ fn put_call<S: yaml_token_source_t>(
         "into" => put_into(reply, line, parser),
         "load" => put_loaded(reply, line, parser),
         "prefix" => put_prefix(reply, line, parser),
-        "between" => reply.put_flag(yaml_parser_between(parser)),
+        "between" => reply.put(Part::Flag(yaml_parser_between(parser))),
         _ => reply.miss("calls"),
     }
 }

@@ -1,11 +1,11 @@
 //! Parsers of a line's tokens: those of its input, or those that it lists.
 
 use serde_json::Value;
-use yaml_cli_vector_lines::{OWN, Reply, VectorError, read_token};
+use yaml_cli_vector_lines::{Reply, VectorError, own_fault, read_token};
 use yaml_parse::{yaml_parser_initialize, yaml_parser_t, yaml_token_source_t};
 use yaml_parse_list::{yaml_token_list_t, yaml_token_utf8};
 use yaml_round_adapter::yaml_adapter_t;
-use yaml_scan::{yaml_error_type_t, yaml_fault_t, yaml_origin_t, yaml_token_t, yaml_token_type_t};
+use yaml_scan::{yaml_error_type_t, yaml_fault_t, yaml_token_t, yaml_token_type_t};
 
 /// A parser of a list of tokens.
 pub type Reading = yaml_parser_t<yaml_token_list_t>;
@@ -68,53 +68,6 @@ fn add_input(reply: &mut Reply, line: &Value, list: &mut yaml_token_list_t) {
     let mut adapter = yaml_adapter_t::new(reply.alloc(), input.as_slice(), from);
     add_all(&mut adapter, reply, list);
     drop(adapter);
-}
-
-fn kind(number: u64) -> Option<yaml_error_type_t> {
-    match number {
-        1 => Some(yaml_error_type_t::YAML_MEMORY_ERROR),
-        2 => Some(yaml_error_type_t::YAML_READER_ERROR),
-        3 => Some(yaml_error_type_t::YAML_SCANNER_ERROR),
-        4 => Some(yaml_error_type_t::YAML_PARSER_ERROR),
-        5 => Some(yaml_error_type_t::YAML_COMPOSER_ERROR),
-        6 => Some(yaml_error_type_t::YAML_WRITER_ERROR),
-        7 => Some(yaml_error_type_t::YAML_EMITTER_ERROR),
-        _ => None,
-    }
-}
-
-fn origin(word: &str) -> Option<yaml_origin_t> {
-    match word {
-        "Reader" => Some(yaml_origin_t::Reader),
-        "Scanner" => Some(yaml_origin_t::Scanner),
-        "Adapter" => Some(yaml_origin_t::Adapter),
-        "Parser" => Some(yaml_origin_t::Parser),
-        "Loader" => Some(yaml_origin_t::Loader),
-        "Emitter" => Some(yaml_origin_t::Emitter),
-        "Writer" => Some(yaml_origin_t::Writer),
-        _ => None,
-    }
-}
-
-/// The fault with those fields; `OWN` stands for its texts.
-pub fn own_fault(reply: &mut Reply, fields: &Value) -> yaml_fault_t {
-    let number = reply.count(fields, "kind");
-    let kind = reply.take(kind(number), "kind", yaml_error_type_t::YAML_NO_ERROR);
-    let offset = reply.count(fields, "offset");
-    let value = reply.number(fields, "value");
-    let problem_mark = reply.mark(fields, "problem_mark");
-    let context_mark = reply.mark(fields, "context_mark");
-    let word = reply.text(fields, "origin");
-    yaml_fault_t {
-        kind,
-        problem: OWN,
-        offset,
-        value,
-        problem_mark,
-        context: None,
-        context_mark,
-        origin: reply.take(origin(word), "origin", yaml_origin_t::Reader),
-    }
 }
 
 // Adds the tokens that the line lists, and ends the list with the line's own fault where it has one.

@@ -1,7 +1,7 @@
 //! The call `scan_calls`: calls of a session, one after another.
 
 use serde_json::Value;
-use yaml_cli_vector_lines::{Reply, show_token};
+use yaml_cli_vector_lines::{Part, Reply, show_token};
 use yaml_scan::{
     yaml_parser_fault, yaml_parser_has_token, yaml_parser_peek, yaml_parser_scan, yaml_parser_skip,
     yaml_parser_t,
@@ -32,14 +32,14 @@ fn put_skipped(reply: &mut Reply, session: &mut yaml_parser_t<'_>) {
     if known {
         yaml_parser_skip(session);
     }
-    reply.put_flag(known);
+    reply.put(Part::Flag(known));
 }
 
 // Puts the fault that the session keeps, or null.
 fn put_kept(reply: &mut Reply, line: &Value, session: &yaml_parser_t<'_>) {
     match yaml_parser_fault(session) {
         Some(fault) => reply.put_fault(line, fault),
-        None => reply.put_null(),
+        None => reply.put(Part::Null),
     }
 }
 
@@ -48,27 +48,19 @@ fn put_call(reply: &mut Reply, line: &Value, word: &str, session: &mut yaml_pars
         "scan" => put_given(reply, line, session),
         "peek" => put_lent(reply, line, session),
         "skip" => put_skipped(reply, session),
-        "has" => reply.put_flag(yaml_parser_has_token(session)),
+        "has" => reply.put(Part::Flag(yaml_parser_has_token(session))),
         "fault" => put_kept(reply, line, session),
         _ => reply.miss("calls"),
     }
 }
 
-fn put_calls(reply: &mut Reply, line: &Value, session: &mut yaml_parser_t<'_>) {
+/// What the line's calls answer, of that session: a token that is given or lent, whether a token was known and is skipped, whether
+/// one is known, or the fault that is kept.
+pub fn put_calls(reply: &mut Reply, line: &Value, session: &mut yaml_parser_t<'_>) {
     reply.begin_answers();
     for call in reply.list(line, "calls") {
         let word = reply.take(call.as_str(), "calls", "");
         put_call(reply, line, word, session);
     }
     reply.end_answers();
-}
-
-/// What the line's calls answer, of a session over its input: a token that is given or lent, whether a token was known and is
-/// skipped, whether one is known, or the fault that is kept.
-pub fn answer(reply: &mut Reply, line: &Value) {
-    let from = reply.encoding(line, "from");
-    let input = reply.bytes(line, "input");
-    let mut session = yaml_parser_t::new(reply.alloc(), input.as_slice(), from);
-    put_calls(reply, line, &mut session);
-    drop(session);
 }

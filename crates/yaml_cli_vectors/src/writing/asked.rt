@@ -30,19 +30,6 @@ fn answer(reply: &mut Reply, line: &Value, given: Given, emitter: &mut yaml_emit
     }
 }
 
-// Whether an input is read; what is answered is its fault.
-fn is_read(reply: &mut Reply, line: &Value) -> bool {
-    let mut aside = Reply::new(reply.alloc());
-    parse_line(&mut aside, line, Source::Input, Asked::Events);
-    match aside.finish() {
-        Ok(_) => true,
-        Err(error) => {
-            reply.refuse(error);
-            false
-        }
-    }
-}
-
 fn emit_given(reply: &mut Reply, line: &Value, given: Given) {
     let settings = settings_of(reply, line);
     match emitter_under(reply.alloc(), &settings, settings.limit) {
@@ -54,11 +41,13 @@ fn emit_given(reply: &mut Reply, line: &Value, given: Given) {
     }
 }
 
-/// What an emitter under the line's settings answers on what it is given. An input is read before the settings are, which a line
-/// needn't have where its input is refused.
+/// What an emitter under the line's settings answers on what it is given. A line whose input is refused needn't have settings: it
+/// wants the fault of a parser.
 pub fn emit_line(reply: &mut Reply, line: &Value, given: Given) {
     match given {
-        Given::Input if !is_read(reply, line) => {}
+        Given::Input if line.get("settings").is_none() => {
+            parse_line(reply, line, Source::Input, Asked::Events)
+        }
         _ => emit_given(reply, line, given),
     }
 }

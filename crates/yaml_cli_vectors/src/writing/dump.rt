@@ -1,26 +1,10 @@
 //! The call `dump`.
 
+use super::emitter::turn;
 use serde_json::Value;
-use yaml_cli_vector_lines::{Reply, document_of, text_error};
-use yaml_emit::{
-    yaml_emitter_close, yaml_emitter_dump, yaml_emitter_open, yaml_emitter_opened,
-    yaml_emitter_output, yaml_emitter_t,
-};
+use yaml_cli_vector_lines::{Part, Reply, document_of, text_error};
+use yaml_emit::{yaml_emitter_dump, yaml_emitter_output, yaml_emitter_t};
 use yaml_scan::yaml_fault_t;
-
-fn open(reply: &mut Reply, emitter: &mut yaml_emitter_t) {
-    if !yaml_emitter_opened(emitter) {
-        let done = yaml_emitter_open(emitter);
-        reply.done(done);
-    }
-}
-
-fn close(reply: &mut Reply, emitter: &mut yaml_emitter_t) {
-    if yaml_emitter_opened(emitter) {
-        let done = yaml_emitter_close(emitter);
-        reply.done(done);
-    }
-}
 
 /// Dumps the document that the fields describe, and tells the fault that is answered.
 pub fn dumped(
@@ -37,19 +21,12 @@ pub fn dumped(
     }
 }
 
-// Dumps the document that the line describes.
-fn dump(reply: &mut Reply, line: &Value, emitter: &mut yaml_emitter_t) {
-    let fields = reply.value(line, "document");
-    match dumped(reply, fields, emitter) {
-        Some(fault) => reply.fault(fault),
-        None => {}
-    }
-}
-
 /// What open, dump and close write of the line's document. Behind a fault each call answers it again.
 pub fn answer(reply: &mut Reply, line: &Value, emitter: &mut yaml_emitter_t) {
-    open(reply, emitter);
-    dump(reply, line, emitter);
-    close(reply, emitter);
-    reply.answer(yaml_emitter_output(emitter));
+    reply.done(turn(emitter));
+    let fields = reply.value(line, "document");
+    let fault = dumped(reply, fields, emitter);
+    reply.done(fault);
+    reply.done(turn(emitter));
+    reply.answer(Part::Bytes(yaml_emitter_output(emitter)));
 }

@@ -3,7 +3,7 @@
 use super::emitter::flush;
 use crate::reading::{Reading, Source, reading_of};
 use serde_json::Value;
-use yaml_cli_vector_lines::Reply;
+use yaml_cli_vector_lines::{Part, Reply};
 use yaml_emit::{yaml_emitter_emit_from, yaml_emitter_output, yaml_emitter_t};
 use yaml_parse::{
     yaml_event_t, yaml_event_type_t, yaml_event_utf8, yaml_parser_delete, yaml_parser_parse,
@@ -60,7 +60,7 @@ fn give_input(reply: &mut Reply, line: &Value, emitter: &mut yaml_emitter_t) {
 pub fn answer(reply: &mut Reply, line: &Value, emitter: &mut yaml_emitter_t) {
     give_input(reply, line, emitter);
     match flush(emitter) {
-        None => reply.answer(yaml_emitter_output(emitter)),
+        None => reply.answer(Part::Bytes(yaml_emitter_output(emitter))),
         Some(fault) => reply.fault(fault),
     }
 }

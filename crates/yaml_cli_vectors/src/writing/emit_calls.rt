@@ -1,29 +1,15 @@
 //! The call `emit_calls`: calls of an emitter, one after another.
 
-use super::course::Course;
 use super::dump::dumped;
-use super::emitter::{flush, give_listed};
+use super::emitter::{flush, give_listed, turn};
 use serde_json::Value;
-use yaml_cli_vector_lines::Reply;
-use yaml_emit::{
-    yaml_emitter_close, yaml_emitter_open, yaml_emitter_opened, yaml_emitter_output, yaml_emitter_t,
-};
+use yaml_cli_vector_lines::{Part, Reply};
+use yaml_emit::{yaml_emitter_opened, yaml_emitter_output, yaml_emitter_t};
 use yaml_scan::yaml_fault_t;
 
-// Opens the stream, or closes it where it was opened.
-fn turn(emitter: &mut yaml_emitter_t) -> Option<yaml_fault_t> {
-    if yaml_emitter_opened(emitter) {
-        yaml_emitter_close(emitter).err()
-    } else {
-        yaml_emitter_open(emitter).err()
-    }
-}
-
 fn give(reply: &mut Reply, call: &Value, emitter: &mut yaml_emitter_t) -> Option<yaml_fault_t> {
-    let mut course = Course::new();
     let event = reply.value(call, 1);
-    give_listed(reply, event, emitter, &mut course);
-    course.fault
+    give_listed(reply, event, emitter)
 }
 
 fn dump(reply: &mut Reply, call: &Value, emitter: &mut yaml_emitter_t) -> Option<yaml_fault_t> {
@@ -59,20 +45,20 @@ fn put_done(
 ) {
     match done(reply, word, call, emitter) {
         Some(fault) => reply.put_fault(line, &fault),
-        None => reply.put_null(),
+        None => reply.put(Part::Null),
     }
 }
 
 // Whether the output is a front of those bytes. How much of a text has been written at a refusal is open.
 fn put_front(reply: &mut Reply, call: &Value, text: &[u8]) {
     let whole = reply.bytes(call, 1);
-    reply.put_flag(whole.as_slice().starts_with(text));
+    reply.put(Part::Flag(whole.as_slice().starts_with(text)));
 }
 
 fn put_call(reply: &mut Reply, line: &Value, call: &Value, emitter: &mut yaml_emitter_t) {
     match reply.text(call, 0) {
-        "opened" => reply.put_flag(yaml_emitter_opened(emitter)),
-        "output" => reply.put_bytes(yaml_emitter_output(emitter)),
+        "opened" => reply.put(Part::Flag(yaml_emitter_opened(emitter))),
+        "output" => reply.put(Part::Bytes(yaml_emitter_output(emitter))),
         "front" => put_front(reply, call, yaml_emitter_output(emitter)),
         word => put_done(reply, line, word, call, emitter),
     }

@@ -4,14 +4,15 @@ use super::course::Course;
 use super::emitter::{flush, give_listed};
 use super::flushed::put_flushes;
 use serde_json::Value;
-use yaml_cli_vector_lines::Reply;
+use yaml_cli_vector_lines::{Part, Reply};
 use yaml_emit::{yaml_emitter_output, yaml_emitter_t};
 use yaml_scan::{yaml_error_type_t, yaml_fault_t};
 
 // Gives the events, with the flushes in mid-stream that the line has, until a fault comes, and puts what each of these showed.
 fn give_all(reply: &mut Reply, line: &Value, emitter: &mut yaml_emitter_t, course: &mut Course) {
     for listed in reply.list(line, "events") {
-        give_listed(reply, listed, emitter, course);
+        let fault = give_listed(reply, listed, emitter);
+        course.take(fault, yaml_emitter_output(emitter).len());
         if course.fault.is_none() {
             put_flushes(reply, line, course.number, emitter);
         }
@@ -29,11 +30,9 @@ fn is_whole(reply: &mut Reply, line: &Value) -> bool {
 // The number of the refused call where the event is refused, else the output.
 fn put_where(reply: &mut Reply, fault: &yaml_fault_t, number: u64, text: &[u8]) {
     if fault.kind == yaml_error_type_t::YAML_EMITTER_ERROR {
-        reply.name("call_number");
-        reply.put_count(number);
+        reply.field("call_number", Part::Count(number));
     } else {
-        reply.name("output");
-        reply.put_bytes(text);
+        reply.field("output", Part::Bytes(text));
     }
 }
 
@@ -41,10 +40,9 @@ fn put_where(reply: &mut Reply, fault: &yaml_fault_t, number: u64, text: &[u8]) 
 fn put_end(reply: &mut Reply, line: &Value, course: &Course, text: &[u8]) {
     match &course.fault {
         None => {
-            reply.name("answer");
-            reply.put_bytes(text);
             let whole = is_whole(reply, line);
-            reply.check("whole", whole);
+            reply.field("answer", Part::Bytes(text));
+            reply.field("whole", Part::Flag(whole));
         }
         Some(fault) => {
             reply.name_fault(line, fault);
@@ -60,7 +58,7 @@ fn put_course(reply: &mut Reply, line: &Value, emitter: &mut yaml_emitter_t, cou
     let text = yaml_emitter_output(emitter);
     course.take(fault, text.len());
     if !course.kept {
-        reply.check("kept", false);
+        reply.field("kept", Part::Flag(false));
     }
     put_end(reply, line, course, text);
 }
@@ -70,11 +68,10 @@ fn put_course(reply: &mut Reply, line: &Value, emitter: &mut yaml_emitter_t, cou
 /// and to write nothing.
 pub fn answer(reply: &mut Reply, line: &Value, emitter: &mut yaml_emitter_t) {
     let mut course = Course::new();
-    reply.begin();
-    reply.name("flushed");
-    reply.begin_list();
+    reply.put(Part::Object);
+    reply.field("flushed", Part::List);
     give_all(reply, line, emitter, &mut course);
-    reply.end_list();
+    reply.put(Part::EndList);
     put_course(reply, line, emitter, &mut course);
-    reply.end();
+    reply.put(Part::EndObject);
 }

@@ -3,15 +3,14 @@
 ghost use Rattle.std.specs.Prelude.{◌≡◌, ◌≤◌, ◌<◌, ◌^◌, None, IfSome};
 ghost use Rattle.yaml_emit.specs.Judged.{refused_at};
 
-use super::course::Course;
 use super::emitter::{emitter_under, flush, give_listed};
 use serde_json::Value;
 use std::mem;
-use yaml_cli_vector_lines::{Reply, Settings, VectorError, settings_of};
+use yaml_cli_vector_lines::{Part, Reply, Settings, settings_of};
 use yaml_emit::{
-    Expected, Level, RequestedSettings, yaml_emitter_delete, yaml_emitter_directives,
-    yaml_emitter_fresh, yaml_emitter_outer, yaml_emitter_output, yaml_emitter_resume,
-    yaml_emitter_stand, yaml_emitter_stand_t, yaml_emitter_t,
+    Expected, Level, RequestedSettings, yaml_emitter_directives, yaml_emitter_fresh,
+    yaml_emitter_into_output, yaml_emitter_outer, yaml_emitter_resume, yaml_emitter_stand,
+    yaml_emitter_stand_t, yaml_emitter_t,
 };
 use yaml_parse::yaml_tag_directive_t;
 use yaml_scan::{yaml_error_type_t, yaml_fault_t};
@@ -19,11 +18,12 @@ use yaml_scan::{yaml_error_type_t, yaml_fault_t};
 // No emitter goes on with a larger limit, nor in a line of more columns.
 const MOST: u64 = 4_611_686_018_427_387_904;
 
-// What was written in pieces, and where the last of their emitters stands.
+/// What was written in pieces, and where the last of their emitters stands.
 #[derive(Drop)]
-struct Pieces {
-    text: Vec<u8>,
-    fault: Option<yaml_fault_t>,
+pub struct Pieces {
+    pub text: Vec<u8>,
+    /// The first fault.
+    pub fault: Option<yaml_fault_t>,
     // How many events were given, without those that wait.
     taken: usize,
     // None where no event was given.
@@ -111,24 +111,14 @@ fn next_emitter(
     }
 }
 
-fn copied(reply: &mut Reply, text: &[u8]) -> Vec<u8> {
-    match Vec::from_slice(reply.alloc(), text) {
-        Ok(copied) => copied,
-        Err(_) => {
-            reply.refuse(VectorError::Memory);
-            Vec::new(reply.alloc())
-        }
-    }
-}
-
 // Copies the open collections and the directives.
 fn keep_lists(reply: &mut Reply, emitter: &yaml_emitter_t, pieces: &mut Pieces) {
     for level in yaml_emitter_outer(emitter) {
         reply.push(&mut pieces.around, *level);
     }
     for directive in yaml_emitter_directives(emitter) {
-        let handle = copied(reply, directive.handle.as_slice());
-        let prefix = copied(reply, directive.prefix.as_slice());
+        let handle = reply.copy(directive.handle.as_slice());
+        let prefix = reply.copy(directive.prefix.as_slice());
         reply.push(
             &mut pieces.directives,
             yaml_tag_directive_t { handle, prefix },
@@ -155,17 +145,19 @@ fn give(
     emitter: &mut yaml_emitter_t,
     pieces: &mut Pieces,
 ) {
-    let mut course = Course::new();
+    let mut fault = None;
     let events = reply.list(line, "events");
     for listed in events.get(pieces.taken..upto).unwrap_or(&[]) {
-        give_listed(reply, listed, emitter, &mut course);
+        let answered = give_listed(reply, listed, emitter);
+        if fault.is_none() {
+            fault = answered;
+        }
     }
     pieces.fault = if upto == events.len() {
         flush(emitter)
     } else {
-        course.fault
+        fault
     };
-    reply.room(pieces.text.extend_from_slice(yaml_emitter_output(emitter)));
     keep_stand(reply, emitter, upto, pieces);
 }
 
@@ -180,14 +172,15 @@ fn put_piece(
     match next_emitter(reply, settings, pieces) {
         Ok(mut emitter) => {
             give(reply, line, upto, &mut emitter, pieces);
-            yaml_emitter_delete(emitter);
+            let text = yaml_emitter_into_output(emitter);
+            reply.room(pieces.text.extend_from_slice(text.as_slice()));
         }
         Err(fault) => pieces.fault = Some(fault),
     }
 }
 
-// What is written of the line's events in pieces of so many, up to the first fault.
-fn written(reply: &mut Reply, line: &Value, settings: &Settings, size: usize) -> Pieces {
+/// What is written of the line's events in pieces of so many, up to the first fault.
+pub fn written(reply: &mut Reply, line: &Value, settings: &Settings, size: usize) -> Pieces {
     let mut pieces = Pieces::new(reply);
     let count = reply.list(line, "events").len();
     for upto in 1..count.saturating_add(1) {
@@ -227,13 +220,12 @@ fn wrong_size(reply: &mut Reply, line: &Value, settings: &Settings, whole: &Piec
 /// that goes on where the one before it stood; else the least size of pieces that haven't.
 pub fn answer(reply: &mut Reply, line: &Value) {
     let settings = settings_of(reply, line);
-    let count = reply.list(line, "events").len();
-    let whole = written(reply, line, &settings, count);
+    let whole = written(reply, line, &settings, usize::MAX);
     match wrong_size(reply, line, &settings, &whole) {
-        Some(size) => reply.answer_count(size),
+        Some(size) => reply.answer(Part::Count(size)),
         None => match whole.fault {
             Some(fault) => reply.fault(fault),
-            None => reply.answer(whole.text.as_slice()),
+            None => reply.answer(Part::Bytes(whole.text.as_slice())),
         },
     }
 }

@@ -2,15 +2,14 @@
 
 ghost use Rattle.std.specs.Prelude.{◌≡◌, true};
 
-use super::course::Course;
 use serde_json::Value;
 use std::alloc::Global;
 use yaml_cli_vector_lines::{Reply, Settings, event_of, text_error};
 use yaml_emit::{
-    yaml_emitter_emit, yaml_emitter_flush, yaml_emitter_fresh, yaml_emitter_initialize,
-    yaml_emitter_output, yaml_emitter_set_break, yaml_emitter_set_canonical,
-    yaml_emitter_set_encoding, yaml_emitter_set_indent, yaml_emitter_set_unicode,
-    yaml_emitter_set_width, yaml_emitter_t,
+    yaml_emitter_close, yaml_emitter_emit, yaml_emitter_flush, yaml_emitter_fresh,
+    yaml_emitter_initialize, yaml_emitter_open, yaml_emitter_opened, yaml_emitter_set_break,
+    yaml_emitter_set_canonical, yaml_emitter_set_encoding, yaml_emitter_set_indent,
+    yaml_emitter_set_unicode, yaml_emitter_set_width, yaml_emitter_t,
 };
 use yaml_parse::{yaml_event_t, yaml_event_utf8};
 use yaml_scan::yaml_fault_t;
@@ -38,26 +37,32 @@ pub fn emitter_under(
 }
 
 // Gives the event, whose texts are to be UTF-8.
-fn give(reply: &mut Reply, event: yaml_event_t, emitter: &mut yaml_emitter_t, course: &mut Course) {
+fn give(
+    reply: &mut Reply,
+    event: yaml_event_t,
+    emitter: &mut yaml_emitter_t,
+) -> Option<yaml_fault_t> {
     if yaml_event_utf8(&event) {
-        let fault = yaml_emitter_emit(emitter, event).err();
-        course.take(fault, yaml_emitter_output(emitter).len());
+        yaml_emitter_emit(emitter, event).err()
     } else {
         drop(event);
         reply.miss("events");
+        None
     }
 }
 
-/// Gives the event that the line writes so, whose texts are to be UTF-8, and takes what is answered.
+/// Gives the event that the line writes so, whose texts are to be UTF-8, and tells the fault that is answered.
 pub fn give_listed(
     reply: &mut Reply,
     listed: &Value,
     emitter: &mut yaml_emitter_t,
-    course: &mut Course,
-) {
+) -> Option<yaml_fault_t> {
     match event_of(reply.alloc(), reply, listed) {
-        Ok(event) => give(reply, event, emitter, course),
-        Err(fault) => reply.refuse(text_error(fault)),
+        Ok(event) => give(reply, event, emitter),
+        Err(fault) => {
+            reply.refuse(text_error(fault));
+            None
+        }
     }
 }
 
@@ -67,5 +72,14 @@ pub fn flush(emitter: &mut yaml_emitter_t) -> Option<yaml_fault_t> {
         None
     } else {
         yaml_emitter_flush(emitter).err()
+    }
+}
+
+/// Opens the stream, or closes it where it was opened, and tells the fault that is answered.
+pub fn turn(emitter: &mut yaml_emitter_t) -> Option<yaml_fault_t> {
+    if yaml_emitter_opened(emitter) {
+        yaml_emitter_close(emitter).err()
+    } else {
+        yaml_emitter_open(emitter).err()
     }
 }

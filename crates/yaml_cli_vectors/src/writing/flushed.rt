@@ -2,7 +2,7 @@
 
 use super::emitter::flush;
 use serde_json::Value;
-use yaml_cli_vector_lines::Reply;
+use yaml_cli_vector_lines::{Part, Reply};
 use yaml_emit::{yaml_emitter_output, yaml_emitter_t};
 
 // Whether the text is the front and, behind it, only what stands between nodes: blanks, breaks, and the indicators that part
@@ -38,10 +38,10 @@ fn is_wanted(reply: &mut Reply, line: &Value, wanted: &Value, text: &[u8]) -> bo
 // What the line wants of a flush.
 fn put_wanted(reply: &mut Reply, wanted: &Value) {
     let text = reply.text(wanted, 1);
-    reply.put_word(text);
+    reply.put(Part::Word(text));
     if wanted.get(2).is_some() {
         let least = reply.text(wanted, 2);
-        reply.put_word(least);
+        reply.put(Part::Word(least));
     }
 }
 
@@ -51,14 +51,14 @@ fn put_flush(reply: &mut Reply, line: &Value, wanted: &Value, emitter: &mut yaml
     let text = yaml_emitter_output(emitter);
     let is_right = is_wanted(reply, line, wanted, text) && fault.is_none();
     let count = reply.count(wanted, 0);
-    reply.begin_list();
-    reply.put_count(count);
+    reply.put(Part::List);
+    reply.put(Part::Count(count));
     if is_right {
         put_wanted(reply, wanted);
     } else {
-        reply.put_bytes(text);
+        reply.put(Part::Bytes(text));
     }
-    reply.end_list();
+    reply.put(Part::EndList);
 }
 
 /// Flushes behind that many events where the line has a flush there.

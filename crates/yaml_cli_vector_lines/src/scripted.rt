@@ -1,10 +1,10 @@
 //! A reader and a writer that do what a list of steps says.
 
+use crate::Reply;
 use serde_json::Value;
 use std::alloc::Global;
 use std::io;
 use std::io::{ErrorKind, Read, Write};
-use yaml_cli_vector_lines::Reply;
 
 /// What a stream does at its next calls.
 #[derive(Clone, Copy)]

@@ -1,3 +1,0 @@
-//! The emitter: an output that stops.
-
-pub(crate) mod output;

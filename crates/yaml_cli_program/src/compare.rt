@@ -1,17 +1,41 @@
 //! Two files that are compared. Standard input, named twice, is read once.
 
-use crate::engine::{Compared, Difference, Engine, Met, Side};
+use crate::engine::{Difference, Engine, Side};
 use crate::fault::{FAILED, UNJUDGED, run_failed, shown, unread};
-use crate::file::{STANDARD, bytes_of, whole_of, write_answer, write_text};
-use crate::order::{Measure, Pair};
-use crate::places::{Label, Source, difference_text};
+use crate::file::{STANDARD, Streams, Unread, flushed, whole_of, write_answer};
+use crate::order::{Measure, Order};
+use crate::places::{Source, push_difference};
 use std::alloc::Global;
 use std::io::{Read, Write};
 use std::rt::Files;
-use yaml_types::yaml_event_type_t;
+use yaml_round_device::yaml_run_fault_t;
+use yaml_types::{yaml_memory_fault, yaml_origin_t};
 
-fn is_itself(pair: &Pair<'_>) -> bool {
-    pair.first == STANDARD && pair.second == STANDARD
+// Two files that are to be compared.
+#[derive(Clone, Copy)]
+struct Pair<'a> {
+    by: Measure,
+    first: &'a str,
+    second: &'a str,
+    // Both are standard input.
+    is_itself: bool,
+    // Where they part is shown; else it is told whether they do.
+    shows: bool,
+}
+
+fn pair_of<'a>(order: &Order<'_, 'a>) -> Pair<'a> {
+    let first = order.told.get_str("first").unwrap_or("");
+    let second = order.told.get_str("second").unwrap_or("");
+    Pair {
+        by: Measure {
+            from: order.judging.manner.from,
+            documents: order.told.get_flag("documents"),
+        },
+        first,
+        second,
+        is_itself: first == STANDARD && second == STANDARD,
+        shows: order.name == "diff",
+    }
 }
 
 // How a line calls an input of two.
@@ -22,179 +46,152 @@ fn input_name(side: Side) -> &'static str {
     }
 }
 
-// Compares what was read of the first file with the second one.
-fn same_with<G: Engine, H: Files + AllocGlobal, R: Read>(
-    engine: &G,
-    rt: &H,
-    pair: &Pair<'_>,
-    first: &[u8],
-    reader: &mut R,
-) -> Compared {
-    if is_itself(pair) {
-        return engine.same(rt.alloc(), pair.by.from, first, first);
-    }
-    match bytes_of(rt, pair.second, reader) {
-        Ok(second) => engine.same(rt.alloc(), pair.by.from, first, second.as_slice()),
-        Err(fault) => Err((Side::Second, fault)),
+// Why an input wasn't read, as a run tells it.
+fn fault_of(why: &Unread) -> yaml_run_fault_t {
+    match why {
+        Unread::TooLong => yaml_run_fault_t::TooLong,
+        Unread::Short => yaml_run_fault_t::Yaml(yaml_memory_fault(yaml_origin_t::Reader)),
+        _ => yaml_run_fault_t::Read,
     }
 }
 
-/// Tells whether two files have the same content; answers the status.
-pub(crate) fn run_same<G: Engine, H: Files + AllocGlobal, R: Read, W: Write, E: Write>(
-    engine: &G,
+// Reads a file of two. Where it couldn't be read that is told, and its status is the answer.
+fn read_side<H: Files + AllocGlobal, R: Read, W, E: Write>(
     rt: &H,
     pair: &Pair<'_>,
-    reader: &mut R,
-    writer: &mut W,
-    errors: &mut E,
-) -> u8 {
-    let answer = match bytes_of(rt, pair.first, reader) {
-        Ok(first) => same_with(engine, rt, pair, first.as_slice(), reader),
-        Err(fault) => Err((Side::First, fault)),
+    side: Side,
+    streams: &mut Streams<R, W, E>,
+) -> Result<Vec<u8>, u8> {
+    let name = match side {
+        Side::First => pair.first,
+        Side::Second => pair.second,
     };
-    match answer {
-        Ok(true) => write_answer(b"equal\n", writer, errors),
-        Ok(false) => write_answer(b"different\n", writer, errors),
-        Err((side, fault)) => run_failed(rt.alloc(), errors, input_name(side), &fault),
+    match whole_of(rt, name, streams) {
+        Ok(bytes) => Ok(bytes),
+        Err(why) if pair.shows => {
+            unread(&mut streams.errors, name, &why);
+            Err(UNJUDGED)
+        }
+        Err(why) => Err(run_failed(
+            rt.alloc(),
+            &mut streams.errors,
+            input_name(side),
+            &fault_of(&why),
+        )),
     }
 }
 
-// What came of looking for a difference.
-#[derive(Drop)]
-enum Found {
-    Nothing,
-    // The lines that tell it.
-    Difference(String),
-    // The files weren't compared, which has been told.
-    Refused,
-}
-
-// How people call what begins with such an event.
-fn event_words(kind: yaml_event_type_t) -> &'static str {
-    match kind {
-        yaml_event_type_t::YAML_SCALAR_EVENT => "a scalar",
-        yaml_event_type_t::YAML_ALIAS_EVENT => "an alias",
-        yaml_event_type_t::YAML_SEQUENCE_START_EVENT => "a sequence",
-        yaml_event_type_t::YAML_SEQUENCE_END_EVENT => "the end of a sequence",
-        yaml_event_type_t::YAML_MAPPING_START_EVENT => "a mapping",
-        yaml_event_type_t::YAML_MAPPING_END_EVENT => "the end of a mapping",
-        yaml_event_type_t::YAML_DOCUMENT_START_EVENT => "a document",
-        yaml_event_type_t::YAML_DOCUMENT_END_EVENT => "the end of a document",
-        _ => "the end of the text",
+// Tells whether they have the same content; answers the status.
+fn tell_same<G: Engine, R, W: Write, E: Write>(
+    engine: &G,
+    alloc: Global,
+    by: Measure,
+    first: &[u8],
+    second: &[u8],
+    streams: &mut Streams<R, W, E>,
+) -> u8 {
+    match engine.same(alloc, by.from, first, second) {
+        Ok(same) => {
+            let answer: &[u8] = if same { b"equal\n" } else { b"different\n" };
+            write_answer(alloc, answer, &mut streams.output, &mut streams.errors)
+        }
+        Err((side, fault)) => run_failed(alloc, &mut streams.errors, input_name(side), &fault),
     }
 }
 
-fn label_of<'a>(source: Source<'a>, met: Met) -> Label<'a> {
-    Label {
-        source,
-        mark: met.mark,
-        what: event_words(met.kind),
-    }
-}
-
-fn tell_difference(
+fn tell_difference<R, W: Write, E: Write>(
     alloc: Global,
     difference: &Difference,
     first: Source<'_>,
     second: Source<'_>,
-) -> Found {
-    let Some(path) = &difference.path else {
-        return Found::Refused;
-    };
-    let first = label_of(first, difference.first);
-    let second = label_of(second, difference.second);
-    match difference_text(alloc, path.as_str(), &first, &second) {
-        Ok(text) => Found::Difference(text),
-        Err(_) => Found::Refused,
+    streams: &mut Streams<R, W, E>,
+) -> u8 {
+    let mut text = String::new(alloc);
+    match push_difference(&mut text, difference, first, second) {
+        Ok(()) => {
+            let written = streams.output.write_all(text.as_bytes());
+            flushed(written, streams).max(FAILED)
+        }
+        Err(_) => UNJUDGED,
     }
 }
 
-fn diff_texts<G: Engine, E: Write>(
+// Tells where they part; answers the status, as diff's: 0 where they don't, 1 where they do, 2 where they couldn't be compared.
+fn tell_diff<G: Engine, R, W: Write, E: Write>(
     engine: &G,
     alloc: Global,
     by: Measure,
     first: Source<'_>,
     second: Source<'_>,
-    errors: &mut E,
-) -> Found {
+    streams: &mut Streams<R, W, E>,
+) -> u8 {
     match engine.diff(alloc, by, first.input, second.input) {
-        Ok(None) => Found::Nothing,
-        Ok(Some(difference)) => tell_difference(alloc, &difference, first, second),
+        Ok(None) => 0,
+        Ok(Some(difference)) => tell_difference(alloc, &difference, first, second, streams),
         Err((side, fault)) => {
             let source = match side {
                 Side::First => first,
                 Side::Second => second,
             };
-            shown(alloc, errors, source, &fault);
-            Found::Refused
+            shown(alloc, &mut streams.errors, source, &fault);
+            UNJUDGED
         }
     }
 }
 
-// Looks for a difference between what was read of the first file and the second one.
-fn diff_with<G: Engine, H: Files + AllocGlobal, R: Read, E: Write>(
+fn compare_texts<G: Engine, R, W: Write, E: Write>(
     engine: &G,
-    rt: &H,
-    first: Source<'_>,
+    alloc: Global,
     pair: &Pair<'_>,
-    reader: &mut R,
-    errors: &mut E,
-) -> Found {
-    if is_itself(pair) {
-        return diff_texts(engine, rt.alloc(), pair.by, first, first, errors);
-    }
-    match whole_of(rt, pair.second, reader) {
-        Ok(second) => {
-            let second = Source {
-                name: pair.second,
-                input: second.as_slice(),
-                from: pair.by.from,
-            };
-            diff_texts(engine, rt.alloc(), pair.by, first, second, errors)
-        }
-        Err(why) => {
-            unread(errors, pair.second, &why);
-            Found::Refused
-        }
-    }
-}
-
-fn find<G: Engine, H: Files + AllocGlobal, R: Read, E: Write>(
-    engine: &G,
-    rt: &H,
-    pair: &Pair<'_>,
-    reader: &mut R,
-    errors: &mut E,
-) -> Found {
-    match whole_of(rt, pair.first, reader) {
-        Ok(first) => {
-            let first = Source {
-                name: pair.first,
-                input: first.as_slice(),
-                from: pair.by.from,
-            };
-            diff_with(engine, rt, first, pair, reader, errors)
-        }
-        Err(why) => {
-            unread(errors, pair.first, &why);
-            Found::Refused
-        }
-    }
-}
-
-/// Tells where two files part; answers the status, as diff's: 0 where they don't, 1 where they do, 2 where they couldn't be
-/// compared.
-pub(crate) fn run_diff<G: Engine, H: Files + AllocGlobal, R: Read, W: Write, E: Write>(
-    engine: &G,
-    rt: &H,
-    pair: &Pair<'_>,
-    reader: &mut R,
-    writer: &mut W,
-    errors: &mut E,
+    first: &[u8],
+    second: &[u8],
+    streams: &mut Streams<R, W, E>,
 ) -> u8 {
-    match find(engine, rt, pair, reader, errors) {
-        Found::Nothing => 0,
-        Found::Difference(text) => write_text(text.as_bytes(), writer, errors).max(FAILED),
-        Found::Refused => UNJUDGED,
+    let by = pair.by;
+    if !pair.shows {
+        return tell_same(engine, alloc, by, first, second, streams);
+    }
+    let from = by.from;
+    let first = Source {
+        name: pair.first,
+        input: first,
+        from,
+    };
+    let second = Source {
+        name: pair.second,
+        input: second,
+        from,
+    };
+    tell_diff(engine, alloc, by, first, second, streams)
+}
+
+// Compares what was read of the first file with the second one.
+fn compare_with<G: Engine, H: Files + AllocGlobal, R: Read, W: Write, E: Write>(
+    engine: &G,
+    rt: &H,
+    pair: &Pair<'_>,
+    first: &[u8],
+    streams: &mut Streams<R, W, E>,
+) -> u8 {
+    if pair.is_itself {
+        return compare_texts(engine, rt.alloc(), pair, first, first, streams);
+    }
+    match read_side(rt, pair, Side::Second, streams) {
+        Ok(second) => compare_texts(engine, rt.alloc(), pair, first, second.as_slice(), streams),
+        Err(status) => status,
+    }
+}
+
+/// Compares two files; answers the status.
+pub(crate) fn compare<G: Engine, H: Files + AllocGlobal, R: Read, W: Write, E: Write>(
+    engine: &G,
+    rt: &H,
+    order: &Order<'_, '_>,
+    streams: &mut Streams<R, W, E>,
+) -> u8 {
+    let pair = pair_of(order);
+    match read_side(rt, &pair, Side::First, streams) {
+        Ok(first) => compare_with(engine, rt, &pair, first.as_slice(), streams),
+        Err(status) => status,
     }
 }

@@ -2,10 +2,10 @@
 //! functions that own something.
 
 use crate::file::Unread;
-use crate::order::WRONG_WORDS;
-use crate::places::{Source, fault_text};
+use crate::order::{WRONG_WORDS, Wrong};
+use crate::places::{Source, push_fault};
 use std::alloc::Global;
-use std::io::{Error, ErrorKind, Write};
+use std::io::Write;
 use yaml_round_device::{yaml_fault_line, yaml_run_fault_t};
 use yaml_types::yaml_fault_t;
 
@@ -20,21 +20,16 @@ pub(crate) const UNJUDGED: u8 = WRONG_WORDS;
 
 // Where a line can't be told, the status still tells, so nothing is asked of the writing.
 
-fn line_text(alloc: Global, fault: &yaml_fault_t) -> Option<String> {
-    match yaml_fault_line(alloc, fault) {
-        Ok(line) => String::from_utf8(line).ok(),
-        Err(_) => None,
+// Tells a fault, behind the words that say of which input it is. Of want of memory for the line only the status tells.
+fn tell_fault<E: Write>(alloc: Global, errors: &mut E, input: &str, fault: &yaml_fault_t) {
+    if let Ok(line) = yaml_fault_line(alloc, fault) {
+        let line = str::from_utf8(line.as_slice()).unwrap_or("");
+        let _ = writeln!(errors, "yaml_cli: {input}{line}");
     }
 }
 
-/// Tells how much of the text was written.
-pub(crate) fn write_failed<E: Write>(errors: &mut E, written: u64) -> u8 {
-    let _ = writeln!(errors, "yaml_cli: write failed after {written} bytes");
-    FAILED
-}
-
 /// Tells why a run, or the reading of that input, was refused, a fault behind the words that say of which input it is; answers the
-/// status. Of want of memory only that tells.
+/// status.
 pub(crate) fn run_failed<E: Write>(
     alloc: Global,
     errors: &mut E,
@@ -47,11 +42,14 @@ pub(crate) fn run_failed<E: Write>(
             errors,
             "yaml_cli: input is longer than {INPUT_LIMIT} bytes"
         ),
-        yaml_run_fault_t::Write { written } => return write_failed(errors, *written),
-        yaml_run_fault_t::Yaml(fault) => match line_text(alloc, fault) {
-            Some(line) => writeln!(errors, "yaml_cli: {input}{line}"),
-            None => Ok(()),
-        },
+        yaml_run_fault_t::Write { written } => writeln!(
+            errors,
+            "yaml_cli: write failed after {written} bytes"
+        ),
+        yaml_run_fault_t::Yaml(fault) => {
+            tell_fault(alloc, errors, input, fault);
+            Ok(())
+        }
     };
     FAILED
 }
@@ -61,6 +59,7 @@ pub(crate) fn unread<E: Write>(errors: &mut E, name: &str, why: &Unread) {
     let _ = match why {
         Unread::Failed(error) => writeln!(errors, "yaml_cli: {name}: {error}"),
         Unread::TooLong => writeln!(errors, "yaml_cli: {name}: longer than {INPUT_LIMIT} bytes"),
+        Unread::Short => writeln!(errors, "yaml_cli: {name}: out of memory"),
         Unread::Unlisted(what) => writeln!(errors, "yaml_cli: {name}: {what}"),
     };
 }
@@ -72,16 +71,21 @@ pub(crate) fn shown<E: Write>(
     source: Source<'_>,
     fault: &yaml_fault_t,
 ) {
-    if let Ok(text) = fault_text(alloc, source, fault) {
+    let mut text = String::new(alloc);
+    if push_fault(&mut text, source, fault).is_ok() {
         let _ = write!(errors, "{text}");
     }
 }
 
-/// Tells why standard output takes no more, but where nobody reads it; answers the status.
-pub(crate) fn unwritten<E: Write>(errors: &mut E, error: &Error) -> u8 {
-    if error.kind() == ErrorKind::BrokenPipe {
-        return FAILED;
-    }
-    let _ = writeln!(errors, "yaml_cli: standard output: {error}");
-    UNJUDGED
+/// Tells what is wrong with the words of a command; answers the status.
+pub(crate) fn told_wrong<E: Write>(errors: &mut E, wrong: &Wrong<'_>) -> u8 {
+    let _ = match wrong {
+        Wrong::Unknown { what, word } => writeln!(errors, "yaml_cli: unknown {what}: {word}"),
+        Wrong::Extra { command, word } => writeln!(
+            errors,
+            "error: unexpected argument '{word}' found\n\n\
+            Usage: yaml_cli {command} [OPTIONS] [FILE]...\n\nFor more information, try '--help'."
+        ),
+    };
+    WRONG_WORDS
 }

@@ -1,36 +1,18 @@
-//! Files that are judged one after another. One is held at a time, and what is wrong with one doesn't keep the next from being
-//! judged.
+//! Files that are read whole, one after another, and judged, or one that is written in normal form. One is held at a time, and
+//! what is wrong with one doesn't keep the next from being judged.
 
 use crate::engine::Engine;
-use crate::fault::{FAILED, UNJUDGED, shown, unread, unwritten};
-use crate::file::{Inputs, STANDARD, Unread, whole_of};
-use crate::order::{Judged, Judging};
+use crate::fault::{FAILED, UNJUDGED, shown, unread};
+use crate::file::{STANDARD, Streams, Unread, flushed, whole_of};
+use crate::order::{Judging, Order};
 use crate::places::Source;
 use std::alloc::Global;
 use std::io::{Read, Write};
 use std::rt::Files;
 use yaml_types::{yaml_error_type_t, yaml_fault_t};
 
-// An engine, and what it is asked.
-#[derive(Drop)]
-struct Judge<'j, G> {
-    engine: &'j G,
-    judging: &'j Judging,
-}
-
-// What came of a file: the status that it gives by itself, and whether no further one is to be judged.
-#[derive(Clone, Copy)]
-struct Verdict {
-    status: u8,
-    stops: bool,
-}
-
-fn goes_on(status: u8) -> Verdict {
-    Verdict {
-        status,
-        stops: false,
-    }
-}
+/// The status that a file gives by itself; as an error where no further one is to be judged.
+type Verdict = Result<u8, u8>;
 
 // Tells why a file, or a list of files, wasn't read.
 fn unread_of<E: Write>(errors: &mut E, judging: &Judging, name: &str, why: &Unread) -> u8 {
@@ -59,131 +41,169 @@ fn refused<E: Write>(
 }
 
 // Names a file that isn't as it was asked for.
-fn name_file<W: Write, E: Write>(writer: &mut W, errors: &mut E, name: &str) -> Verdict {
-    let written = match writeln!(writer, "{name}") {
-        Ok(()) => writer.flush(),
-        Err(error) => Err(error),
-    };
-    match written {
-        Ok(()) => goes_on(FAILED),
-        Err(error) => Verdict {
-            status: unwritten(errors, &error),
-            stops: true,
-        },
+fn name_file<R, W: Write, E: Write>(name: &str, streams: &mut Streams<R, W, E>) -> Verdict {
+    let written = writeln!(streams.output, "{name}");
+    match flushed(written, streams) {
+        0 => Ok(FAILED),
+        status => Err(status),
     }
 }
 
-fn judge_text<G: Engine, W: Write, E: Write>(
-    judge: &Judge<'_, G>,
+// Writes the normal form.
+fn write_normal<G: Engine, R, W: Write, E: Write>(
+    engine: &G,
     alloc: Global,
-    name: &str,
-    input: &[u8],
-    writer: &mut W,
-    errors: &mut E,
-) -> Verdict {
-    match judge.engine.judge(alloc, judge.judging, input) {
-        Ok(true) => goes_on(0),
-        Ok(false) => name_file(writer, errors, name),
-        Err(fault) => {
-            let from = judge.judging.manner.from;
-            let source = Source { name, input, from };
-            goes_on(refused(alloc, errors, judge.judging, source, &fault))
+    judging: &Judging,
+    source: Source<'_>,
+    streams: &mut Streams<R, W, E>,
+) -> u8 {
+    match engine.normalize(alloc, &judging.manner, source.input) {
+        Ok(text) => {
+            let written = streams.output.write_all(text.as_slice());
+            flushed(written, streams)
         }
+        Err(fault) => refused(alloc, &mut streams.errors, judging, source, &fault),
+    }
+}
+
+fn judge_text<G: Engine, R, W: Write, E: Write>(
+    engine: &G,
+    alloc: Global,
+    order: &Order<'_, '_>,
+    source: Source<'_>,
+    streams: &mut Streams<R, W, E>,
+) -> Verdict {
+    let judging = &order.judging;
+    if !order.judges {
+        return Ok(write_normal(engine, alloc, judging, source, streams));
+    }
+    match engine.judge(alloc, judging, source.input) {
+        Ok(true) => Ok(0),
+        Ok(false) => name_file(source.name, streams),
+        Err(fault) => Ok(refused(alloc, &mut streams.errors, judging, source, &fault)),
     }
 }
 
 fn judge_file<G: Engine, H: Files + AllocGlobal, R: Read, W: Write, E: Write>(
-    judge: &Judge<'_, G>,
+    engine: &G,
     rt: &H,
+    order: &Order<'_, '_>,
     name: &str,
-    inputs: &mut Inputs<R>,
-    writer: &mut W,
-    errors: &mut E,
+    streams: &mut Streams<R, W, E>,
 ) -> Verdict {
-    match inputs.next(rt, name) {
-        Ok(input) => judge_text(judge, rt.alloc(), name, input, writer, errors),
-        Err(why) => goes_on(unread_of(errors, judge.judging, name, &why)),
+    match whole_of(rt, name, streams) {
+        Ok(input) => {
+            let input = input.as_slice();
+            let from = order.judging.manner.from;
+            judge_text(
+                engine,
+                rt.alloc(),
+                order,
+                Source { name, input, from },
+                streams,
+            )
+        }
+        Err(why) => Ok(unread_of(&mut streams.errors, &order.judging, name, &why)),
     }
 }
 
 fn judge_files<G: Engine, H: Files + AllocGlobal, R: Read, W: Write, E: Write>(
-    judge: &Judge<'_, G>,
+    engine: &G,
     rt: &H,
+    order: &Order<'_, '_>,
     files: &[&str],
-    inputs: &mut Inputs<R>,
-    writer: &mut W,
-    errors: &mut E,
+    streams: &mut Streams<R, W, E>,
 ) -> Verdict {
     let mut worst = 0;
     for name in files {
-        let verdict = judge_file(judge, rt, name, inputs, writer, errors);
-        worst = worst.max(verdict.status);
-        if verdict.stops {
-            return verdict;
+        match judge_file(engine, rt, order, name, streams) {
+            Ok(status) => worst = status.max(worst),
+            Err(status) => return Err(status),
         }
     }
-    goes_on(worst)
+    Ok(worst)
 }
 
-// The names of a list, each ended by a zero byte.
-fn names_of<'l>(alloc: Global, list: &'l [u8]) -> Result<Vec<&'l str>, &'static str> {
-    let mut names = Vec::new(alloc);
-    for name in list.split(|byte| *byte == 0) {
-        let Ok(name) = str::from_utf8(name) else {
-            return Err("a name isn't UTF-8");
-        };
-        if !name.is_empty() && names.push(name).is_err() {
-            return Err("memory error");
+// The same of files that a list names, each name ended by a zero byte; answers the status.
+fn judge_names<G: Engine, H: Files + AllocGlobal, R: Read, W: Write, E: Write>(
+    engine: &G,
+    rt: &H,
+    order: &Order<'_, '_>,
+    names: &str,
+    streams: &mut Streams<R, W, E>,
+) -> u8 {
+    let mut worst = 0;
+    for name in names.split('\0') {
+        if !name.is_empty() {
+            match judge_file(engine, rt, order, name, streams) {
+                Ok(status) => worst = status.max(worst),
+                Err(status) => return status,
+            }
         }
     }
-    if names.is_empty() {
+    worst
+}
+
+// The names of a list, or why there are none.
+fn names_of(text: &[u8]) -> Result<&str, &'static str> {
+    let Ok(names) = str::from_utf8(text) else {
+        return Err("a name isn't UTF-8");
+    };
+    if names.trim_matches('\0').is_empty() {
         return Err("no file is named");
     }
     Ok(names)
 }
 
-fn judge_listed<G: Engine, H: Files + AllocGlobal, R: Read, W: Write, E: Write>(
-    judge: &Judge<'_, G>,
+fn judge_list<G: Engine, H: Files + AllocGlobal, R: Read, W: Write, E: Write>(
+    engine: &G,
     rt: &H,
+    order: &Order<'_, '_>,
     list: &str,
-    inputs: &mut Inputs<R>,
-    writer: &mut W,
-    errors: &mut E,
+    text: &[u8],
+    streams: &mut Streams<R, W, E>,
 ) -> u8 {
-    let text = match whole_of(rt, list, &mut inputs.reader) {
-        Ok(text) => text,
-        Err(why) => return unread_of(errors, judge.judging, list, &why),
-    };
-    match names_of(rt.alloc(), text.as_slice()) {
-        Ok(names) => judge_files(judge, rt, names.as_slice(), inputs, writer, errors).status,
-        Err(what) => unread_of(errors, judge.judging, list, &Unread::Unlisted(what)),
+    match names_of(text) {
+        Ok(names) => judge_names(engine, rt, order, names, streams),
+        Err(what) => {
+            let why = Unread::Unlisted(what);
+            unread_of(&mut streams.errors, &order.judging, list, &why)
+        }
     }
 }
 
-/// Judges the files, or standard input where none are named. The status is the worst one: 0 where each is as it was asked for,
-/// 1 where one isn't or is refused, 2 where one couldn't be judged.
+fn judge_listed<G: Engine, H: Files + AllocGlobal, R: Read, W: Write, E: Write>(
+    engine: &G,
+    rt: &H,
+    order: &Order<'_, '_>,
+    list: &str,
+    streams: &mut Streams<R, W, E>,
+) -> u8 {
+    match whole_of(rt, list, streams) {
+        Ok(text) => judge_list(engine, rt, order, list, text.as_slice(), streams),
+        Err(why) => unread_of(&mut streams.errors, &order.judging, list, &why),
+    }
+}
+
+/// Judges the files and those that a list names, or standard input where there are neither. The status is the worst one: 0 where
+/// each is as it was asked for, 1 where one isn't or is refused, 2 where one couldn't be judged.
 pub(crate) fn judge_all<G: Engine, H: Files + AllocGlobal, R: Read, W: Write, E: Write>(
     engine: &G,
     rt: &H,
-    judged: &Judged<'_>,
-    reader: &mut R,
-    writer: &mut W,
-    errors: &mut E,
+    order: &Order<'_, '_>,
+    streams: &mut Streams<R, W, E>,
 ) -> u8 {
-    let judge = Judge {
-        engine,
-        judging: &judged.judging,
+    let list = order.told.get_str("files0-from");
+    let files = if order.files.is_empty() && list.is_none() {
+        &[STANDARD]
+    } else {
+        order.files
     };
-    let mut inputs = Inputs::new(rt.alloc(), reader);
-    let files = judged.files.as_slice();
-    let Some(list) = judged.list else {
-        let files = if files.is_empty() { &[STANDARD] } else { files };
-        return judge_files(&judge, rt, files, &mut inputs, writer, errors).status;
-    };
-    let verdict = judge_files(&judge, rt, files, &mut inputs, writer, errors);
-    if verdict.stops {
-        return verdict.status;
+    match judge_files(engine, rt, order, files, streams) {
+        Ok(status) => match list {
+            Some(list) => judge_listed(engine, rt, order, list, streams).max(status),
+            None => status,
+        },
+        Err(status) => status,
     }
-    let status = judge_listed(&judge, rt, list, &mut inputs, writer, errors);
-    status.max(verdict.status)
 }

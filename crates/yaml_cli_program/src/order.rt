@@ -1,6 +1,6 @@
-//! What the words of a command say that it is to do. They are judged here, as texts: what judges them doesn't see where they
-//! were found.
+//! What the words of a command say that it is to do.
 
+use clap::ArgMatches;
 use yaml_round_device::{yaml_command_t, yaml_output_encoding_t, yaml_settings_t};
 use yaml_types::{yaml_break_t, yaml_encoding_t};
 
@@ -48,130 +48,129 @@ pub struct Measure {
     pub documents: bool,
 }
 
-/// Two files that are to be compared.
+/// What the program is told to do.
 #[derive(Clone, Copy)]
-pub(crate) struct Pair<'a> {
-    pub(crate) by: Measure,
-    pub(crate) first: &'a str,
-    pub(crate) second: &'a str,
-}
-
-/// A run over a file, or over standard input.
-#[derive(Clone, Copy)]
-pub(crate) struct Run<'a> {
-    pub(crate) task: Task,
-    pub(crate) file: Option<&'a str>,
-}
-
-/// Files that are to be judged, and those that a list names; standard input where there are neither.
-#[derive(Drop)]
-pub(crate) struct Judged<'a> {
+pub(crate) struct Order<'o, 'a> {
+    /// The command.
+    pub(crate) name: &'a str,
+    /// What stands behind it.
+    pub(crate) told: &'o ArgMatches<'a>,
+    /// The files; standard input where there are none.
+    pub(crate) files: &'o [&'a str],
+    /// Files are judged, and nothing of them is written.
+    pub(crate) judges: bool,
+    /// How they are read and written, and what they are judged by.
     pub(crate) judging: Judging,
-    pub(crate) files: Vec<&'a str>,
-    pub(crate) list: Option<&'a str>,
-}
-
-/// The rewriting of a file, or of standard input.
-#[derive(Clone, Copy)]
-pub(crate) struct Rewriting<'a> {
-    pub(crate) manner: Manner,
-    pub(crate) file: Option<&'a str>,
-}
-
-/// A word that can't stand there.
-#[derive(Clone, Copy)]
-pub(crate) struct Unknown<'a> {
-    pub(crate) what: &'static str,
-    pub(crate) word: &'a str,
 }
 
 /// What is wrong with the words.
 #[derive(Clone, Copy)]
 pub(crate) enum Wrong<'a> {
-    Unknown(Unknown<'a>),
+    /// A word that can't stand there.
+    Unknown { what: &'static str, word: &'a str },
     /// That word is one file too many for the command.
     Extra { command: &'a str, word: &'a str },
-    /// There is no room for the words.
-    Short,
-    /// There is no command.
-    Nothing,
 }
 
-/// What the program is told to do.
-#[derive(Drop)]
-pub(crate) enum Order<'a> {
-    Run(Run<'a>),
-    /// The normal form is to be written.
-    Normalize(Rewriting<'a>),
-    /// Whether they have the same content.
-    Same(Pair<'a>),
-    /// Where they part.
-    Diff(Pair<'a>),
-    Judge(Judged<'a>),
-    /// The words say nothing that can be done.
-    Wrong(Wrong<'a>),
-}
+// A word that the command doesn't have is as where it is left out.
 
-/// The words that say how a text is read and written. A word that the command doesn't have is as where it is left out.
-#[derive(Clone, Copy)]
-pub(crate) struct Words<'a> {
-    pub(crate) from: &'a str,
-    pub(crate) line_break: &'a str,
-    pub(crate) encoding: &'a str,
-    pub(crate) settings: yaml_settings_t,
-}
-
-fn break_named(word: &str) -> Option<yaml_break_t> {
-    match word {
-        "lf" => Some(yaml_break_t::YAML_LN_BREAK),
-        "cr" => Some(yaml_break_t::YAML_CR_BREAK),
-        "crlf" => Some(yaml_break_t::YAML_CRLN_BREAK),
-        _ => None,
+fn break_in<'a>(told: &ArgMatches<'a>) -> Result<yaml_break_t, Wrong<'a>> {
+    match told.get_str("break").unwrap_or("lf") {
+        "lf" => Ok(yaml_break_t::YAML_LN_BREAK),
+        "cr" => Ok(yaml_break_t::YAML_CR_BREAK),
+        "crlf" => Ok(yaml_break_t::YAML_CRLN_BREAK),
+        word => Err(Wrong::Unknown {
+            what: "break",
+            word,
+        }),
     }
 }
 
-fn encoding_named(word: &str) -> Option<yaml_output_encoding_t> {
-    match word {
-        "utf8" => Some(yaml_output_encoding_t::Utf8),
-        "utf16le" => Some(yaml_output_encoding_t::Utf16Le),
-        "utf16be" => Some(yaml_output_encoding_t::Utf16Be),
-        _ => None,
+fn encoding_in<'a>(told: &ArgMatches<'a>) -> Result<yaml_output_encoding_t, Wrong<'a>> {
+    match told.get_str("encoding").unwrap_or("utf8") {
+        "utf8" => Ok(yaml_output_encoding_t::Utf8),
+        "utf16le" => Ok(yaml_output_encoding_t::Utf16Le),
+        "utf16be" => Ok(yaml_output_encoding_t::Utf16Be),
+        word => Err(Wrong::Unknown {
+            what: "encoding",
+            word,
+        }),
     }
 }
 
-/// The encoding of an input that the word names.
-pub(crate) fn from_named<'a>(word: &'a str) -> Result<yaml_encoding_t, Unknown<'a>> {
-    match word {
+fn from_in<'a>(told: &ArgMatches<'a>) -> Result<yaml_encoding_t, Wrong<'a>> {
+    match told.get_str("from").unwrap_or("auto") {
         "auto" => Ok(yaml_encoding_t::YAML_ANY_ENCODING),
         "utf8" => Ok(yaml_encoding_t::YAML_UTF8_ENCODING),
         "utf16le" => Ok(yaml_encoding_t::YAML_UTF16LE_ENCODING),
         "utf16be" => Ok(yaml_encoding_t::YAML_UTF16BE_ENCODING),
-        _ => Err(Unknown {
+        word => Err(Wrong::Unknown {
             what: "input encoding",
             word,
         }),
     }
 }
 
-/// What the words ask for. The break is judged first, then the encoding, then how the input is encoded.
-pub(crate) fn manner_of<'a>(words: &Words<'a>) -> Result<Manner, Unknown<'a>> {
-    let Some(line_break) = break_named(words.line_break) else {
-        return Err(Unknown {
-            what: "break",
-            word: words.line_break,
-        });
-    };
-    let Some(encoding) = encoding_named(words.encoding) else {
-        return Err(Unknown {
-            what: "encoding",
-            word: words.encoding,
-        });
-    };
-    let from = from_named(words.from)?;
+// The settings but for those that are words.
+fn numbers_in(told: &ArgMatches<'_>) -> yaml_settings_t {
+    let usual = yaml_settings_t::new();
+    yaml_settings_t {
+        indent: told.get_one::<i32>("indent").unwrap_or(usual.indent),
+        width: told.get_one::<i32>("width").unwrap_or(usual.width),
+        canonical: !told.get_flag("pretty"),
+        unicode: !told.get_flag("ascii"),
+        limit: told.get_one::<u64>("limit").unwrap_or(usual.limit),
+        ..usual
+    }
+}
+
+// The break is judged first, then the encoding, then how the input is encoded.
+fn manner_in<'a>(told: &ArgMatches<'a>) -> Result<Manner, Wrong<'a>> {
+    let line_break = break_in(told)?;
+    let encoding = encoding_in(told)?;
+    let from = from_in(told)?;
     let settings = yaml_settings_t {
         encoding,
         line_break,
-        ..words.settings
+        ..numbers_in(told)
     };
     Ok(Manner { from, settings })
+}
+
+fn question_of(name: &str) -> Question {
+    match name {
+        "fmt" => Question::HasForm,
+        "norm" => Question::IsNormal,
+        _ => Question::Loads,
+    }
+}
+
+/// What the words of a command say. One that rewrites takes one file, which is judged in front of its other words, and told as
+/// clap does of a command that takes one.
+pub(crate) fn order_in<'o, 'a>(
+    name: &'a str,
+    told: &'o ArgMatches<'a>,
+) -> Result<Order<'o, 'a>, Wrong<'a>> {
+    let judges = name == "check" || told.get_flag("check");
+    let files = told.get_strs("files").unwrap_or(&[]);
+    if let Some(word) = files.get(1) {
+        if !judges {
+            return Err(Wrong::Extra {
+                command: name,
+                word,
+            });
+        }
+    }
+    let judging = Judging {
+        question: question_of(name),
+        manner: manner_in(told)?,
+        quiet: told.get_flag("quiet"),
+    };
+    Ok(Order {
+        name,
+        told,
+        files,
+        judges,
+        judging,
+    })
 }

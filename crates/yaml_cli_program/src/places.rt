@@ -9,4 +9,4 @@ mod telling;
 
 pub use chars::Source;
 pub use path::{Step, push_step};
-pub use telling::{Label, difference_text, fault_text};
+pub use telling::{push_difference, push_fault};

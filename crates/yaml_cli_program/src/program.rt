@@ -1,19 +1,19 @@
 //! The program over any engine, reader and writers.
 
-use crate::compare::{run_diff, run_same};
+use crate::compare::compare;
 use crate::engine::{Ended, Engine};
-use crate::fault::{FAILED, run_failed};
-use crate::file::{READ_AHEAD, STANDARD};
+use crate::fault::{FAILED, run_failed, told_wrong};
+use crate::file::{READ_AHEAD, STANDARD, Streams};
 use crate::judge::judge_all;
-use crate::norm::run_normalize;
-use crate::order::{Order, Run, Task, Unknown, WRONG_WORDS, Wrong};
-use crate::words::{order_of, tell};
+use crate::order::{Order, Task, order_in};
+use crate::words::{matches_of, tell};
+use clap::ArgMatches;
 use std::alloc::Global;
 use std::convert::AsStr;
 use std::fs;
 use std::io::{BufReader, Read, Write};
 use std::rt::Files;
-use yaml_round_device::{yaml_form_t, yaml_run_fault_t};
+use yaml_round_device::{yaml_command_t, yaml_form_t, yaml_run_fault_t};
 
 // Runs a command over a file, of which more is read at once than the engine asks for, where there is room for that.
 fn run_over_file<G: Engine, R: Read, W: Write>(
@@ -29,33 +29,32 @@ fn run_over_file<G: Engine, R: Read, W: Write>(
     engine.run(alloc, task, file, writer)
 }
 
-fn run_path<G: Engine, H: Files + AllocGlobal, W: Write>(
+// Runs a command over a file, or over standard input.
+fn run_path<G: Engine, H: Files + AllocGlobal, R: Read, W: Write, E>(
     engine: &G,
     rt: &H,
     task: &Task,
     path: &str,
-    writer: &mut W,
+    streams: &mut Streams<R, W, E>,
 ) -> Ended {
+    if path == STANDARD {
+        return engine.run(rt.alloc(), task, &mut streams.input, &mut streams.output);
+    }
     match fs::open(rt, path) {
-        Ok(mut file) => run_over_file(engine, rt.alloc(), task, &mut file, writer),
+        Ok(mut file) => run_over_file(engine, rt.alloc(), task, &mut file, &mut streams.output),
         Err(_) => Err(yaml_run_fault_t::Read),
     }
 }
 
-// Tells where pretty form was asked for and isn't answered.
-fn note_form<E: Write>(task: &Task, form: Option<yaml_form_t>, errors: &mut E) {
-    if !task.manner.settings.canonical && form == Some(yaml_form_t::Canonical) {
-        // A note: the text is written, whether or not it can be told.
-        let _ = writeln!(errors, "yaml_cli: canonical form was written");
-    }
-}
-
+// Tells how a run ended; answers the status.
 fn ended<E: Write>(alloc: Global, task: &Task, ended: Ended, errors: &mut E) -> u8 {
     match ended {
-        Ok(form) => {
-            note_form(task, form, errors);
+        Ok(Some(yaml_form_t::Canonical)) if !task.manner.settings.canonical => {
+            // A note: the text is written, whether or not it can be told.
+            let _ = writeln!(errors, "yaml_cli: canonical form was written");
             0
         }
+        Ok(_) => 0,
         Err(fault) => run_failed(alloc, errors, "", &fault),
     }
 }
@@ -64,53 +63,62 @@ fn ended<E: Write>(alloc: Global, task: &Task, ended: Ended, errors: &mut E) -> 
 fn run_file<G: Engine, H: Files + AllocGlobal, R: Read, W: Write, E: Write>(
     engine: &G,
     rt: &H,
-    run: &Run<'_>,
-    reader: &mut R,
-    writer: &mut W,
-    errors: &mut E,
+    command: yaml_command_t,
+    order: &Order<'_, '_>,
+    streams: &mut Streams<R, W, E>,
 ) -> u8 {
-    let answer = match run.file {
-        Some(path) if path != STANDARD => run_path(engine, rt, &run.task, path, writer),
-        _ => engine.run(rt.alloc(), &run.task, reader, writer),
+    let task = Task {
+        command,
+        manner: order.judging.manner,
     };
-    ended(rt.alloc(), &run.task, answer, errors)
-}
-
-// Tells what is wrong with the words: the status tells it where the line can't. Of a file too many it is told as clap does of a
-// command that takes one.
-fn told_wrong<E: Write>(errors: &mut E, wrong: &Wrong<'_>) -> u8 {
-    let _ = match wrong {
-        Wrong::Unknown(Unknown { what, word }) => writeln!(
-            errors,
-            "yaml_cli: unknown {what}: {word}"
-        ),
-        Wrong::Extra { command, word } => writeln!(
-            errors,
-            "error: unexpected argument '{word}' found\n\n\
-            Usage: yaml_cli {command} [OPTIONS] [FILE]...\n\nFor more information, try '--help'."
-        ),
-        Wrong::Short => Ok(()),
-        Wrong::Nothing => return FAILED,
-    };
-    WRONG_WORDS
+    let path = order.files.first().copied().unwrap_or(STANDARD);
+    let answer = run_path(engine, rt, &task, path, streams);
+    ended(rt.alloc(), &task, answer, &mut streams.errors)
 }
 
 // Does what it is told. Answers the status.
+fn obey<G: Engine, H: Files + AllocGlobal, R: Read, W: Write, E: Write>(
+    engine: &G,
+    rt: &H,
+    order: &Order<'_, '_>,
+    streams: &mut Streams<R, W, E>,
+) -> u8 {
+    match order.name {
+        "fmt" if !order.judges => run_file(engine, rt, yaml_command_t::Fmt, order, streams),
+        "docs" => run_file(engine, rt, yaml_command_t::Docs, order, streams),
+        "events" => run_file(engine, rt, yaml_command_t::Events, order, streams),
+        "same" | "diff" => compare(engine, rt, order, streams),
+        "norm" if !order.judges => judge_all(engine, rt, order, streams).min(FAILED),
+        _ => judge_all(engine, rt, order, streams),
+    }
+}
+
+// Does what is found among the words. Answers the status.
 fn follow<G: Engine, H: Files + AllocGlobal, R: Read, W: Write, E: Write>(
     engine: &G,
     rt: &H,
-    order: &Order<'_>,
-    reader: &mut R,
-    writer: &mut W,
-    errors: &mut E,
+    matches: &ArgMatches<'_>,
+    streams: &mut Streams<R, W, E>,
 ) -> u8 {
-    match order {
-        Order::Run(run) => run_file(engine, rt, run, reader, writer, errors),
-        Order::Normalize(rewriting) => run_normalize(engine, rt, rewriting, reader, writer, errors),
-        Order::Same(pair) => run_same(engine, rt, pair, reader, writer, errors),
-        Order::Diff(pair) => run_diff(engine, rt, pair, reader, writer, errors),
-        Order::Judge(judged) => judge_all(engine, rt, judged, reader, writer, errors),
-        Order::Wrong(wrong) => told_wrong(errors, wrong),
+    let Some((name, told)) = matches.subcommand() else {
+        return FAILED;
+    };
+    match order_in(name, told) {
+        Ok(order) => obey(engine, rt, &order, streams),
+        Err(wrong) => told_wrong(&mut streams.errors, &wrong),
+    }
+}
+
+// Does what the words say. Answers the status.
+fn obey_words<G: Engine, H: Files + AllocGlobal, S: AsStr, R: Read, W: Write, E: Write>(
+    engine: &G,
+    rt: &H,
+    words: &[S],
+    streams: &mut Streams<R, W, E>,
+) -> u8 {
+    match matches_of(rt.alloc(), words) {
+        Ok(matches) => follow(engine, rt, &matches, streams),
+        Err(error) => tell(&error, streams),
     }
 }
 
@@ -125,8 +133,6 @@ pub fn main_by<G: Engine, H: Files + AllocGlobal, S: AsStr, R: Read, W: Write, E
     output: &mut W,
     errors: &mut E,
 ) -> u8 {
-    match order_of(rt.alloc(), words) {
-        Ok(order) => follow(engine, rt, &order, input, output, errors),
-        Err(error) => tell(error, output, errors),
-    }
+    let mut streams = Streams::new(rt.alloc(), input, output, errors);
+    obey_words(engine, rt, words, &mut streams)
 }

@@ -167,7 +167,7 @@ Status:
 /// The arguments, in the order in which a command lists those that it takes.
 pub(crate) const ROWS: [Row; 17] = [
     Row {
-        name: "file",
+        name: "files",
         kind: Kind::Place,
         value: "FILE",
         usual: "",

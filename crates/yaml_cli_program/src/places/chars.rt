@@ -14,13 +14,6 @@ pub struct Source<'a> {
     pub from: yaml_encoding_t,
 }
 
-#[derive(Clone, Copy)]
-enum Form {
-    Utf8,
-    Utf16Le,
-    Utf16Be,
-}
-
 /// What comes next in a text.
 #[derive(Clone, Copy)]
 pub(crate) enum Next {
@@ -34,15 +27,17 @@ pub(crate) enum Next {
 #[derive(Clone, Copy)]
 pub(crate) struct Chars<'a> {
     pub(crate) left: &'a [u8],
-    form: Form,
+    form: yaml_encoding_t,
 }
 
 // The first unit of a UTF-16 text.
-fn unit_of(bytes: &[u8], form: Form) -> Option<u16> {
-    let unit = [*bytes.first()?, *bytes.get(1)?];
-    match form {
-        Form::Utf16Be => Some(u16::from_be_bytes(unit)),
-        _ => Some(u16::from_le_bytes(unit)),
+fn unit_of(bytes: &[u8], form: yaml_encoding_t) -> Option<u16> {
+    match bytes {
+        [high, low, ..] if form == yaml_encoding_t::YAML_UTF16BE_ENCODING => {
+            Some(u16::from_be_bytes([*high, *low]))
+        }
+        [low, high, ..] => Some(u16::from_le_bytes([*low, *high])),
+        _ => None,
     }
 }
 
@@ -57,7 +52,7 @@ fn pair_of(high: u16, low: u16) -> Option<char> {
 }
 
 // The first character of a UTF-16 text, and how many bytes it has.
-fn decode_utf16(bytes: &[u8], form: Form) -> (Option<char>, usize) {
+fn decode_utf16(bytes: &[u8], form: yaml_encoding_t) -> (Option<char>, usize) {
     let Some(unit) = unit_of(bytes, form) else {
         return (None, 1);
     };
@@ -78,36 +73,26 @@ pub(crate) fn ends_line(next: Next) -> bool {
     )
 }
 
-impl<'a> Chars<'a> {
-    // Those of a text whose encoding its byte order mark tells; behind the mark.
-    fn detected(input: &'a [u8]) -> Chars<'a> {
-        let (form, mark) = match input {
-            [0xFF, 0xFE, ..] => (Form::Utf16Le, 2),
-            [0xFE, 0xFF, ..] => (Form::Utf16Be, 2),
-            [0xEF, 0xBB, 0xBF, ..] => (Form::Utf8, 3),
-            _ => (Form::Utf8, 0),
-        };
-        let left = input.get(mark..).unwrap_or(b"");
-        Chars { left, form }
+// What is behind the byte order mark of a text, and the encoding that the mark tells.
+fn detected(input: &[u8]) -> (&[u8], yaml_encoding_t) {
+    if let Some(left) = input.strip_prefix(b"\xFF\xFE") {
+        return (left, yaml_encoding_t::YAML_UTF16LE_ENCODING);
     }
+    if let Some(left) = input.strip_prefix(b"\xFE\xFF") {
+        return (left, yaml_encoding_t::YAML_UTF16BE_ENCODING);
+    }
+    let left = input.strip_prefix(b"\xEF\xBB\xBF").unwrap_or(input);
+    (left, yaml_encoding_t::YAML_UTF8_ENCODING)
+}
 
-    /// All of them.
-    pub(crate) fn of(left: &'a [u8], from: yaml_encoding_t) -> Chars<'a> {
-        match from {
-            yaml_encoding_t::YAML_ANY_ENCODING => Chars::detected(left),
-            yaml_encoding_t::YAML_UTF8_ENCODING => Chars {
-                left,
-                form: Form::Utf8,
-            },
-            yaml_encoding_t::YAML_UTF16LE_ENCODING => Chars {
-                left,
-                form: Form::Utf16Le,
-            },
-            yaml_encoding_t::YAML_UTF16BE_ENCODING => Chars {
-                left,
-                form: Form::Utf16Be,
-            },
-        }
+impl<'a> Chars<'a> {
+    /// All of them, behind a byte order mark that tells their encoding.
+    pub(crate) fn of(input: &'a [u8], from: yaml_encoding_t) -> Chars<'a> {
+        let (left, form) = match from {
+            yaml_encoding_t::YAML_ANY_ENCODING => detected(input),
+            form => (input, form),
+        };
+        Chars { left, form }
     }
 
     /// The next character, whatever it is.
@@ -116,7 +101,7 @@ impl<'a> Chars<'a> {
             return Next::End;
         }
         let (found, size) = match self.form {
-            Form::Utf8 => decode_utf8(self.left),
+            yaml_encoding_t::YAML_UTF8_ENCODING => decode_utf8(self.left),
             form => decode_utf16(self.left, form),
         };
         self.left = self.left.get(size..).unwrap_or(b"");
@@ -156,7 +141,7 @@ impl<'a> Chars<'a> {
     #[inline(always)]
     fn skip_row(&mut self, most: u64, wide: bool) -> Option<u64> {
         let row = match self.form {
-            Form::Utf8 => self.left.get(..ROW)?,
+            yaml_encoding_t::YAML_UTF8_ENCODING => self.left.get(..ROW)?,
             _ => return None,
         };
         let mut plain = true;

@@ -63,59 +63,40 @@ fn first_shown(column: u64) -> u64 {
     }
 }
 
-fn push_line(
+// Adds up to so many characters of the line, or what takes as many columns; answers whether the line goes on behind them.
+fn push_columns(
     text: &mut String,
     mut line: Chars<'_>,
-    first: u64,
-    column: u64,
-) -> Result<(), AllocError> {
-    if first > 0 {
-        text.push_str(CUT)?;
-    }
-    for _ in first..column.saturating_add(BEHIND) {
+    columns: u64,
+    is_shown: bool,
+) -> Result<bool, AllocError> {
+    for _ in 0..columns {
         let Some(c) = line.next_in_line() else {
-            return text.push('\n');
+            return Ok(false);
         };
-        push_shown(text, c)?;
+        if is_shown {
+            push_shown(text, c)?;
+        } else {
+            push_blank(text, c)?;
+        }
     }
-    if line.next_in_line().is_some() {
-        text.push_str(CUT)?;
-    }
-    text.push('\n')
+    Ok(line.next_in_line().is_some())
 }
 
-fn push_caret(
-    text: &mut String,
-    mut line: Chars<'_>,
-    first: u64,
-    column: u64,
-) -> Result<(), AllocError> {
-    if first > 0 {
-        text.push_str("   ")?;
-    }
-    for _ in first..column {
-        let Some(c) = line.next_in_line() else {
-            break;
-        };
-        push_blank(text, c)?;
-    }
-    text.push_str("^\n")
-}
-
-/// Adds the source line of a place, a long one cut around it, and a caret under the place.
+/// Ends a line, and adds the source line of a place, a long one cut around it, and a caret under the place.
 pub(crate) fn push_excerpt(
     text: &mut String,
     source: Source<'_>,
     place: yaml_mark_t,
 ) -> Result<(), AllocError> {
-    let first = first_shown(place.column);
-    let line = from_place(
-        source,
-        yaml_mark_t {
-            column: first,
-            ..place
-        },
-    );
-    push_line(text, line, first, place.column)?;
-    push_caret(text, line, first, place.column)
+    let column = first_shown(place.column);
+    let before = place.column.saturating_sub(column);
+    let line = from_place(source, yaml_mark_t { column, ..place });
+    let (cut, blank) = if column > 0 { (CUT, "   ") } else { ("", "") };
+    write!(text, "\n{cut}")?;
+    let goes_on = push_columns(text, line, before.saturating_add(BEHIND), true)?;
+    let rest = if goes_on { CUT } else { "" };
+    write!(text, "{rest}\n{blank}")?;
+    push_columns(text, line, before, false)?;
+    text.push_str("^\n")
 }

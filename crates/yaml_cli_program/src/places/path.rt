@@ -33,14 +33,14 @@ pub fn push_step(path: &mut String, step: Step<'_>) -> Result<(), AllocError> {
 
 // A key that is no more than a word is shown as it is.
 fn push_named(path: &mut String, key: Chars<'_>) -> Result<(), AllocError> {
-    if is_word(key) {
-        path.push('.')?;
-        push_front(path, key)
+    let (open, close) = if is_word(key) {
+        (".", "")
     } else {
-        path.push_str("[\"")?;
-        push_front(path, key)?;
-        path.push_str("\"]")
-    }
+        ("[\"", "\"]")
+    };
+    path.push_str(open)?;
+    push_front(path, key)?;
+    path.push_str(close)
 }
 
 // Whether a key has some characters, and none but letters, digits, `_`, `-` and what isn't ASCII and can be seen.
@@ -61,16 +61,15 @@ fn is_word(mut key: Chars<'_>) -> bool {
 // Adds a key, a long one cut, with `\` before what would end it.
 fn push_front(path: &mut String, mut key: Chars<'_>) -> Result<(), AllocError> {
     for _ in 0..MOST_OF_KEY {
-        match key.next_char() {
-            Next::Char('"') => path.push_str("\\\"")?,
-            Next::Char('\\') => path.push_str("\\\\")?,
-            Next::Char(c) => push_shown(path, c)?,
-            Next::Broken => path.push('\u{FFFD}')?,
+        let c = match key.next_char() {
+            Next::Char(c) => c,
+            Next::Broken => '\u{FFFD}',
             Next::End => return Ok(()),
+        };
+        if c == '"' || c == '\\' {
+            path.push('\\')?;
         }
+        push_shown(path, c)?;
     }
-    if key.left.is_empty() {
-        return Ok(());
-    }
-    path.push_str("...")
+    path.push_str(if key.left.is_empty() { "" } else { "..." })
 }

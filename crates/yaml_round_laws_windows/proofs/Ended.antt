@@ -15,7 +15,8 @@ use Rattle.yaml_scan_laws_windows.specs.Laws.{scan_of}
 use Rattle.yaml_scan_laws_windows.proofs.BehindBreak.{front_mark}
 use Rattle.yaml_scan_laws_windows.proofs.Refused.{refused_fronts_are_scanned}
 use Rattle.yaml_scan_laws_windows.proofs.Ending.{line_long, whole_end, line_cut}
-use Rattle.yaml_scan_laws_windows.proofs.Opening.{begun_over, TailSo, line_tail}
+use Rattle.yaml_scan_laws_windows.proofs.Opening.{begun_over}
+use Rattle.yaml_scan_laws_windows.proofs.Behind.{TailSo, line_tail}
 use Rattle.yaml_scan_laws_windows.proofs.OrderLaws.{stream_ends}
 use Rattle.yaml_parse_laws_windows.specs.Laws.{parse_of, GoOn}
 use Rattle.yaml_parse_laws_windows.specs.Laws as parse

@@ -5,6 +5,7 @@ pub mod TextLemmas
 pub mod Names
 pub mod NamesWords
 pub mod Starts
+mod Throughout
 pub mod TokensSpelled
 pub mod Inputs
 pub mod Whole

@@ -7,12 +7,14 @@ use Rattle.yaml_scan_laws_order.specs.scan_model.declared.Problem.TheVariants as
 use Rattle.yaml_scan_laws_order.specs.scan_model.declared.yaml_scalar_style_t.{yaml_scalar_style_t}
 use Rattle.yaml_scan_laws_order.specs.scan_model.declared.yaml_scalar_style_t.TheVariants as styles
 use Rattle.yaml_scan_laws_order.specs.scan_model.Tokens as tokens
+use Rattle.yaml_scan_laws_order.specs.scan_model.Tokens.{TokenBody}
 use Rattle.yaml_scan_laws_order.specs.scan_model.Marks.{byte, is_blank_or_end}
 use Rattle.yaml_scan_laws_order.specs.scan_model.Wrong.{Wrong}
 use Rattle.yaml_scan_words.specs.Runs.{belongs, run_end}
 use Rattle.yaml_scan_words.specs.Anchors.{anchor_at}
 use Rattle.yaml_scan_words.specs.Uris.{filled, uri_at, some_uri_at}
 use Rattle.yaml_scan_words.specs.Tags.{TagText, bracketed, name_end, with_handle, bare, parts_at, may_end_tag, ended}
+use Rattle.yaml_scan_words.specs.Directives as directives
 use Rattle.yaml_scan_words.specs.Directives.{ValueText, then_at, is_yaml, is_tag, name_between as directive_name_between, number_at, with_major, minor_at, handle_at, prefix_ended, prefix_at, with_prefix, named_value_at, value_at, line_end_at, with_line, finished}
 use Rattle.yaml_scan_laws_order.specs.scan_scalars.Quoted.{single_quoted_at, double_quoted_at}
 use Rattle.yaml_scan_laws_order.specs.scan_scalars.Plain.{PlainText, plain_at}
@@ -122,28 +124,46 @@ tag_word flow text (Err w) h = tt
 
 -- Directives.
 
-abbrev HasSaid : Result ValueText Wrong → Type 0
-HasSaid (Ok v) = IsSpelled (body_said v.said)
-HasSaid (Err w) = Unit {0}
+-- what a directive says, of any predicate
+abbrev pub HasSaid : (TokenBody → Type 0) → Result ValueText Wrong → Type 0
+HasSaid Q (Ok v) = Q (body_said v.said)
+HasSaid Q (Err w) = Unit {0}
 
-then_good : {A : Type 0} (more : A → ℕ → Result ValueText Wrong) (r : Result (A × ℕ) Wrong)
-    → ((x : A) (q : ℕ) → HasSaid (more x q)) → HasSaid (then_at more r)
-then_good more (Ok x) h = h x.0 x.1
-then_good more (Err w) h = tt
+module _ (Q : TokenBody → Type 0) (version : (a b : ℕ) → Q (body_said (directives.version a b))) where
+  then_good : {A : Type 0} (more : A → ℕ → Result ValueText Wrong) (r : Result (A × ℕ) Wrong)
+      → ((x : A) (q : ℕ) → HasSaid Q (more x q)) → HasSaid Q (then_at more r)
+  then_good more (Ok x) h = h x.0 x.1
+  then_good more (Err w) h = tt
 
-major_good : (major : ℕ) (r : Result (ℕ × ℕ) Wrong) → HasSaid (with_major major r)
-major_good major (Ok x) = tt
-major_good major (Err w) = tt
+  major_good : (major : ℕ) (r : Result (ℕ × ℕ) Wrong) → HasSaid Q (with_major major r)
+  major_good major (Ok x) = version major x.0
+  major_good major (Err w) = tt
 
-minor_good : (text : List ℕ) (major q : ℕ) → HasSaid (minor_at text major q)
-minor_good text major q =
-    elim (cases_Bool (byte text q == 46)) [
-      | inl e ↦ rw e (major_good major (number_at text (q + 1)))
-      | inr e ↦ rw e tt
-    ]
+  minor_good : (text : List ℕ) (major q : ℕ) → HasSaid Q (minor_at text major q)
+  minor_good text major q =
+      elim (cases_Bool (byte text q == 46)) [
+        | inl e ↦ rw e (major_good major (number_at text (q + 1)))
+        | inr e ↦ rw e tt
+      ]
 
-number_said : (text : List ℕ) (p : ℕ) → HasSaid (then_at (minor_at text) (number_at text p))
-number_said text p = then_good (minor_at text) (number_at text p) (minor_good text)
+  -- a directive's value, where the handle and prefix of a tag directive satisfy it
+  pub value_said : (text : List ℕ) (p q : ℕ)
+      → ((p : ℕ) → HasSaid Q (then_at (λ handle q. with_prefix handle (prefix_at text q)) (handle_at text p)))
+      → HasSaid Q (then_at (named_value_at text) (directive_name_between text p q))
+  value_said text p q tag =
+      elim (cases_Bool (p == q)) [
+        | inl h ↦ rw h tt
+        | inr h ↦ elim (cases_Bool (not (is_blank_or_end text q))) [
+          | inl i ↦ rw (h, i) tt
+          | inr i ↦ elim (cases_Bool (is_yaml text p && q - p == 4)) [
+            | inl j ↦ rw (h, i, j) (then_good (minor_at text) (number_at text _) (minor_good text))
+            | inr j ↦ elim (cases_Bool (is_tag text p && q - p == 3)) [
+              | inl k ↦ rw (h, i, j, k) (tag _)
+              | inr k ↦ rw (h, i, j, k) tt
+            ]
+          ]
+        ]
+      ]
 
 ended_good : (text : List ℕ) (r : Result (List ℕ × ℕ) Wrong) → HasSome r
     → HasSome (prefix_ended text r)
@@ -168,42 +188,29 @@ prefix_good : (text : List ℕ) (p : ℕ) → HasSome (prefix_at text p)
 prefix_good text p = prefix_behind _ text p
 
 with_prefix_good : (handle : List ℕ) (r : Result (List ℕ × ℕ) Wrong) → IsHandle handle → HasSome r
-    → HasSaid (with_prefix handle r)
+    → HasSaid IsSpelled (with_prefix handle r)
 with_prefix_good handle (Ok x) h some = (h, some)
 with_prefix_good handle (Err w) h some = tt
 
 then_handle : (text : List ℕ) (r : Result (List ℕ × ℕ) Wrong) → HasHandle r
-    → HasSaid (then_at (λ handle q. with_prefix handle (prefix_at text q)) r)
+    → HasSaid IsSpelled (then_at (λ handle q. with_prefix handle (prefix_at text q)) r)
 then_handle text (Ok x) h = with_prefix_good x.0 (prefix_at text x.1) h (prefix_good text x.1)
 then_handle text (Err w) h = tt
 
 handle_said : (text : List ℕ) (p : ℕ)
-    → HasSaid (then_at (λ handle q. with_prefix handle (prefix_at text q)) (handle_at text p))
+    → HasSaid IsSpelled (then_at (λ handle q. with_prefix handle (prefix_at text q)) (handle_at text p))
 handle_said text p = then_handle text (handle_at text p) (handle_good text p)
 
 value_good : (text : List ℕ) (p q : ℕ)
-    → HasSaid (then_at (named_value_at text) (directive_name_between text p q))
-value_good text p q =
-    elim (cases_Bool (p == q)) [
-      | inl h ↦ rw h tt
-      | inr h ↦ elim (cases_Bool (not (is_blank_or_end text q))) [
-        | inl i ↦ rw (h, i) tt
-        | inr i ↦ elim (cases_Bool (is_yaml text p && q - p == 4)) [
-          | inl j ↦ rw (h, i, j) (number_said text _)
-          | inr j ↦ elim (cases_Bool (is_tag text p && q - p == 3)) [
-            | inl k ↦ rw (h, i, j, k) (handle_said text _)
-            | inr k ↦ rw (h, i, j, k) tt
-          ]
-        ]
-      ]
-    ]
+    → HasSaid IsSpelled (then_at (named_value_at text) (directive_name_between text p q))
+value_good text p q = value_said IsSpelled (λ a b. tt) text p q (handle_said text)
 
 line_word : (v : ValueText) (r : Result ℕ Wrong) → IsSpelled (body_said v.said)
     → HasWord (directed (with_line v r))
 line_word v (Ok q) h = h
 line_word v (Err w) h = tt
 
-directive_word : (text : List ℕ) (r : Result ValueText Wrong) → HasSaid r
+directive_word : (text : List ℕ) (r : Result ValueText Wrong) → HasSaid IsSpelled r
     → HasWord (directed (finished text r))
 directive_word text (Ok v) h = line_word v (line_end_at text v.end) h
 directive_word text (Err w) h = tt

@@ -1,5 +1,5 @@
 -- What each lexeme carries is UTF-8, but for what escapes spell, and the text may be cut behind it.
-use Rattle.std.proofs.Common.{◌≡◌, ℕ, ◌+◌, ◌-◌, ◌<◌, ◌==◌, ◌&&◌, ◌||◌, not, nat_lt, if◌then◌else◌, Bool, true, false, List, length, slice_range, Option, Some, None, Result, Ok, Err, refl, inl, inr, arith, IsUtf8}
+use Rattle.std.proofs.Common.{◌≡◌, ℕ, ◌+◌, ◌<◌, ◌==◌, ◌&&◌, ◌||◌, not, nat_lt, if◌then◌else◌, Bool, true, false, List, length, slice_range, Option, Some, None, Result, Ok, Err, refl, inl, inr, arith, IsUtf8}
 use Rattle.std.proofs.lemmas.Bool.{cases_Bool, ltb-true, eqb-true, or_cases, not-false, or_parts}
 use Rattle.std.proofs.lemmas.Bool.Decides.{nat_tests}
 use Rattle.std.proofs.lemmas.Str.{IsUtf8-nil}
@@ -16,7 +16,7 @@ use Rattle.yaml_scan_words.specs.Indicators.{is_document_start, is_document_end}
 use Rattle.yaml_scan_words.specs.Anchors.{is_name_end, may_end_name, name_between, anchor_at}
 use Rattle.yaml_scan_words.specs.Uris.{some_uri_at, uri_at}
 use Rattle.yaml_scan_words.specs.Tags.{TagText, bracketed, name_end, with_handle, bare, parts_at, may_end_tag, ended}
-use Rattle.yaml_scan_words.specs.Directives.{ValueText, then_at, is_yaml, is_tag, name_between as directive_name_between, number_at, with_major, minor_at, handle_between, handle_at, prefix_at, with_prefix, named_value_at, value_at, break_end, line_end_at, with_line, finished}
+use Rattle.yaml_scan_words.specs.Directives.{ValueText, then_at, name_between as directive_name_between, handle_between, handle_at, prefix_at, with_prefix, named_value_at, value_at, break_end, line_end_at, with_line, finished}
 use Rattle.yaml_scan_laws_order.specs.scan_scalars.Quoted.{single_quoted_at, double_quoted_at}
 use Rattle.yaml_scan_laws_order.specs.scan_scalars.Plain.{PlainText, plain_at, starts_plain}
 use Rattle.yaml_scan_laws_order.specs.scan_block.Block.{BlockText, block_at, style_at}
@@ -28,6 +28,7 @@ use Rattle.yaml_scan_laws_texts.proofs.Whole.{IsWhole, whole_ascii, whole_after,
 use Rattle.yaml_scan_laws_texts.proofs.Quoted.{HasQuoted, quoted_utf8, is_small}
 use Rattle.yaml_scan_laws_texts.proofs.Plain.{HasPlain, plain_utf8}
 use Rattle.yaml_scan_laws_texts.proofs.Block.{HasBlock, block_utf8}
+use Rattle.yaml_scan_laws_texts.proofs.NamesWords.{HasSaid, value_said}
 
 -- a blank, a break or the end
 pub end_whole : (text : List ℕ) (p : ℕ) → IsUtf8 text → is_blank_or_end text p ≡ true
@@ -168,29 +169,9 @@ tag_word flow text (Err w) t h = tt
 
 -- Directives.
 
-abbrev HasSaid : Result ValueText Wrong → Type 0
-HasSaid (Ok v) = HasTexts (body_said v.said)
-HasSaid (Err w) = Unit {0}
-
 abbrev HasText : Result (List ℕ × ℕ) Wrong → Type 0
 HasText (Ok x) = IsUtf8 x.0
 HasText (Err w) = Unit {0}
-
-then_good : {A : Type 0} (more : A → ℕ → Result ValueText Wrong) (r : Result (A × ℕ) Wrong)
-    → ((x : A) (q : ℕ) → HasSaid (more x q)) → HasSaid (then_at more r)
-then_good more (Ok x) h = h x.0 x.1
-then_good more (Err w) h = tt
-
-major_good : (major : ℕ) (r : Result (ℕ × ℕ) Wrong) → HasSaid (with_major major r)
-major_good major (Ok x) = tt
-major_good major (Err w) = tt
-
-minor_good : (text : List ℕ) (major q : ℕ) → HasSaid (minor_at text major q)
-minor_good text major q =
-    elim (cases_Bool (byte text q == 46)) [
-      | inl e ↦ rw e (major_good major (number_at text (q + 1)))
-      | inr e ↦ rw e tt
-    ]
 
 handle_between_good : (text : List ℕ) (p q : ℕ) → IsUtf8 text → byte text p < 128
     → HasText (handle_between text p q)
@@ -211,38 +192,22 @@ handle_good text p t =
     ]
 
 prefix_good : (handle : List ℕ) (r : Result (List ℕ × ℕ) Wrong) → IsUtf8 handle
-    → HasSaid (with_prefix handle r)
+    → HasSaid HasTexts (with_prefix handle r)
 prefix_good handle (Ok x) h = h
 prefix_good handle (Err w) h = tt
 
 then_handle : (text : List ℕ) (r : Result (List ℕ × ℕ) Wrong) → HasText r
-    → HasSaid (then_at (λ handle q. with_prefix handle (prefix_at text q)) r)
+    → HasSaid HasTexts (then_at (λ handle q. with_prefix handle (prefix_at text q)) r)
 then_handle text (Ok x) h = prefix_good x.0 (prefix_at text x.1) h
 then_handle text (Err w) h = tt
 
 handle_said : (text : List ℕ) (p : ℕ) → IsUtf8 text
-    → HasSaid (then_at (λ handle q. with_prefix handle (prefix_at text q)) (handle_at text p))
+    → HasSaid HasTexts (then_at (λ handle q. with_prefix handle (prefix_at text q)) (handle_at text p))
 handle_said text p t = then_handle text (handle_at text p) (handle_good text p t)
 
-number_said : (text : List ℕ) (p : ℕ) → HasSaid (then_at (minor_at text) (number_at text p))
-number_said text p = then_good (minor_at text) (number_at text p) (minor_good text)
-
 value_good : (text : List ℕ) (p q : ℕ) → IsUtf8 text
-    → HasSaid (then_at (named_value_at text) (directive_name_between text p q))
-value_good text p q t =
-    elim (cases_Bool (p == q)) [
-      | inl h ↦ rw h tt
-      | inr h ↦ elim (cases_Bool (not (is_blank_or_end text q))) [
-        | inl i ↦ rw (h, i) tt
-        | inr i ↦ elim (cases_Bool (is_yaml text p && q - p == 4)) [
-          | inl j ↦ rw (h, i, j) (number_said text _)
-          | inr j ↦ elim (cases_Bool (is_tag text p && q - p == 3)) [
-            | inl k ↦ rw (h, i, j, k) (handle_said text _ t)
-            | inr k ↦ rw (h, i, j, k) tt
-          ]
-        ]
-      ]
-    ]
+    → HasSaid HasTexts (then_at (named_value_at text) (directive_name_between text p q))
+value_good text p q t = value_said HasTexts (λ a b. tt) text p q (λ x. handle_said text x t)
 
 abbrev HasPlace : List ℕ → Result ℕ Wrong → Type 0
 HasPlace text (Ok q) = IsWhole text q
@@ -263,7 +228,7 @@ line_word : (text : List ℕ) (v : ValueText) (r : Result ℕ Wrong) → HasText
 line_word text v (Ok q) a b = record { texts = a; place = b }
 line_word text v (Err w) a b = tt
 
-directive_word : (text : List ℕ) (r : Result ValueText Wrong) → IsUtf8 text → HasSaid r
+directive_word : (text : List ℕ) (r : Result ValueText Wrong) → IsUtf8 text → HasSaid HasTexts r
     → HasWord text (directed (finished text r))
 directive_word text (Ok v) t h = line_word text v (line_end_at text v.end) h (break_end_good text _ t)
 directive_word text (Err w) t h = tt

@@ -1,6 +1,6 @@
 -- The law of windows behind a line `...`.
-use Rattle.std.proofs.Common.{◌≡◌, ℕ, suc, ◌+◌, ◌-◌, true, false, List, [], ◌∷◌, ◌++◌, map, length, Option, Some, None, option_map, refl, sym, ap, subst, ◌∙◌, inl, inr, arith}
-use Rattle.std.proofs.lemmas.Bool.{cases_lt, true≢false}
+use Rattle.std.proofs.Common.{◌≡◌, ℕ, suc, ◌+◌, ◌-◌, true, false, List, [], ◌∷◌, ◌++◌, map, length, Option, Some, None, option_map, refl, sym, ap, subst, ◌∙◌, inl, inr, arith, ◌≤◌, nat_lt, take, drop, ◌⊎◌, add_assoc}
+use Rattle.std.proofs.lemmas.Bool.{cases_lt, cases_Bool}
 use Rattle.std.proofs.lemmas.List.{append_assoc, append-nil, length-append, same_from_push}
 use Rattle.std.specs.List.{flat_map}
 use Rattle.std.proofs.lemmas.Option.{none-some, same_Some}
@@ -16,43 +16,36 @@ use Rattle.yaml_scan_history.specs.scan_words.Between.{gap_within, gap_at}
 use Rattle.yaml_scan_history.specs.declared.kind.Kind.{Kind}
 use Rattle.yaml_scan_history.specs.declared.kind.Kind.TheVariants as kinds
 use Rattle.yaml_scan_history.specs.declared.lexeme.Lexeme.{Lexeme}
-use Rattle.yaml_scan_history.specs.Kinds.{depth_after, is_end}
-use Rattle.yaml_scan_history.specs.History.{reached, depth, in_flow, ended, key_allowed, candidate, levels, entries}
+use Rattle.yaml_scan_history.specs.Kinds.{depth_after, is_end, is_outside, is_start}
+use Rattle.yaml_scan_history.specs.History.{reached, depth, in_flow, ended, key_allowed, candidate, levels, entries, open_at, first_open, entry_of}
 use Rattle.yaml_scan_history.specs.Words.{kind_at, word_at}
-use Rattle.yaml_scan_history.specs.Next.{Next, Read, Fails, Ends, first_lexeme, gap_behind, kind_behind, lexeme_behind, next, extended, history}
-use Rattle.yaml_scan_history.specs.Remaining.{SpelledText, token_in, spell, all, fault_in, Remaining, handed, remaining}
+use Rattle.yaml_scan_history.specs.Next.{Next, Read, Fails, Ends, first_lexeme, gap_behind, kind_behind, next, extended, history, place_behind, missed, stale_before, coming, first_fault_or, no_start}
+use Rattle.yaml_scan_history.specs.Remaining.{SpelledText, token_in, spell, all, fault_in, Remaining, handed, remaining, body_by, front_ends}
 use Rattle.yaml_scan_history.proofs.PlacesLemmas.{gap_place}
-use Rattle.yaml_scan_laws_order.proofs.HistoryForward.{Stands, history_stands, first_is, not_ended, all_ends, last_is_all}
+use Rattle.yaml_scan_laws_order.proofs.HistoryForward.{all_ends, last_is_all}
 use Rattle.yaml_scan_laws_order.proofs.StreamForward.{stream_starts, stream_ends, fault_next}
 use Rattle.yaml_scan_laws_windows.specs.Cuts.{IsCut, is_white, IsEndLine, IsEndCut}
 use Rattle.yaml_scan_laws_windows.specs.Moved.{moved_mark, moved_token, moved_fault, moved_next}
 use Rattle.yaml_scan_laws_windows.specs.Laws.{scan_of, EndedWindowsAreScanned}
-use Rattle.yaml_scan_laws_windows.proofs.Words.{end_kind, kind_alike}
-use Rattle.yaml_scan_laws_windows.proofs.Cutting.{byte_right, byte_past, rest_alike, rest_lines}
+use Rattle.yaml_scan_laws_windows.proofs.Words.{end_kind}
+use Rattle.yaml_scan_laws_windows.proofs.Cutting.{byte_right, byte_past, rest_lines}
 use Rattle.yaml_scan_laws_windows.proofs.Stepping.{has_read, read_kind}
-use Rattle.yaml_scan_laws_windows.proofs.Fronts.{next_open, next_over, history_more, EndsAt, front_history, end_step, front_pair}
+use Rattle.yaml_scan_laws_windows.proofs.Fronts.{next_open, next_over, history_more}
 use Rattle.yaml_scan_laws_windows.proofs.BehindBreak.{front_line, front_mark}
-use Rattle.yaml_scan_laws_windows.proofs.Marking.{end_mark, mark_lexeme}
-use Rattle.yaml_scan_laws_windows.proofs.Turning.{finishes, end_byte, end_place, mark_there}
+use Rattle.yaml_scan_laws_windows.proofs.Marking.{end_mark, mark_lexeme, none_left}
+use Rattle.yaml_scan_laws_windows.proofs.Turning.{mark_there, starts}
 use Rattle.yaml_scan_laws_windows.proofs.Depths.{read_deep}
 use Rattle.yaml_scan_laws_windows.proofs.Rests.{whole}
 use Rattle.yaml_scan_laws_windows.proofs.Joining.{told, offline_told, parted}
-use Rattle.yaml_scan_laws_windows.proofs.Windows.{windows_are_scanned, coming_goes, ends_ended, fault_none, made, all_is, uncons, first_told}
-use Rattle.yaml_scan_laws_windows.proofs.Failing.{mark_reached}
-use Rattle.yaml_scan_laws_windows.proofs.Refused.{refused_fronts_are_scanned}
+use Rattle.yaml_scan_laws_windows.proofs.Windows.{windows_are_scanned, made, uncons, first_told, fault_moved}
+use Rattle.yaml_scan_laws_windows.proofs.Failing.{some_none, end_late, colon_index, fails_same, fails_not}
+use Rattle.yaml_scan_laws_windows.proofs.Refused.{refused_fronts_are_scanned, ends_not, ends_reads}
 use Rattle.yaml_scan_laws_windows.proofs.Ending.{white_kind, line_long, whole_end, line_base, line_ground, start_history, line_cut, line_history}
-
-some_none : {A : Type 0} {x : A} → Some x ≡ None → ⊥
-some_none e = cc
-
-ends_not : {f : ScanFault} → Ends ≡ Fails f → ⊥
-ends_not e = cc
-
-read_not : {l : Lexeme} → Ends ≡ Read l → ⊥
-read_not e = cc
-
-fails_not : {f : ScanFault} {l : Lexeme} → Fails f ≡ Read l → ⊥
-fails_not e = cc
+use Rattle.std.proofs.lemmas.Grind.{flat_map-append}
+use Rattle.yaml_scan_history.specs.scan_model.Problems.{scanner_fault}
+use Rattle.yaml_scan_history.proofs.HistoryLemmas.{length-entries}
+use Rattle.yaml_scan_laws_windows.proofs.Opening.{Begun, begun_over, closings, outer_spelled, outer_entries, none_open, fault_none, coming_goes}
+use Rattle.std.proofs.Math.Seq.{take-length, drop-length}
 
 -- ---- a text without fault goes on to its end
 
@@ -74,7 +67,7 @@ one_more t n h l is e = history_more t n ∙ ap (λ z. extended (next t z) z) is
 
 pub last_two : (t : List ℕ) (n : ℕ) (l : Lexeme) (h : List Lexeme) → history t n ≡ l ∷ h
     → is_end l.kind ≡ true → all t ≡ l ∷ h
-last_two t n l h is end = last_is_all t n (λ y r. read_not (sym (next_over t l h end) ∙ ap (next t) (sym is) ∙ r)) ∙ is
+last_two t n l h is end = last_is_all t n (λ y r. ends_reads (sym (next_over t l h end) ∙ ap (next t) (sym is) ∙ r)) ∙ is
 
 -- behind the dots of a text that ends in such a line stands its end
 pub line_over : (a line : List ℕ) → IsEndLine line → (l : Lexeme) (h : List Lexeme)
@@ -88,19 +81,17 @@ line_over a line e l h at y more reads =
     let long = line_long line e in
     let r = has_read t H y (sym (next_open t l h more) ∙ reads) in
     let place = gap_place (in_flow H) (key_allowed H) t (reached H).index (omega (arith, at, size, long)) in
-    let inside = place.inside in
-    let forward = place.forward in
     let q = (gap_behind t H).place in
     elim (cases_lt q (length t)) [
       | inr past ↦
-          let there : q ≡ length t = omega (arith, past, inside) in
+          let there : q ≡ length t = omega (arith, past, place.inside) in
           let none : byte t q ≡ 0 = ap (λ z. byte t z) there ∙ byte_past t (length t) (omega arith) in
           (read_kind t H y r ∙ same_Some _ _ (sym r.stands ∙ end_kind (in_flow H) t q none), there)
       | inl on ↦
           let p = q - length a in
-          let back : q ≡ length a + p = omega (arith, forward, at) in
+          let back : q ≡ length a + p = omega (arith, place.forward, at) in
           let same : byte t q ≡ byte line p = ap (λ z. byte t z) back ∙ byte_right a line p in
-          let white = e.white p (omega (arith, forward, at)) (omega (arith, on, size, forward, at)) in
+          let white = e.white p (omega (arith, place.forward, at)) (omega (arith, on, size, place.forward, at)) in
           absurd (none-some _ (sym (white_kind (in_flow H) t q (ap is_white same ∙ white)) ∙ r.stands))
     ]
 
@@ -115,57 +106,21 @@ line_reaches x line e none =
     let (y, reads) = goes_on line over 2 _ (first_lexeme ∷ []) (line_history line e.mark) end_mark.end in
     (line_over [] line e (mark_lexeme kinds.DocumentEnd line 0) (first_lexeme ∷ []) refl y end_mark.end reads).1
 
-end_over : (k : Kind) (d : ℕ) → is_end k ≡ true → depth_after k d ≡ d
-end_over kinds.StreamEnd d h = refl
-end_over _ d h = absurd (true≢false (sym h))
-
 -- where the front leaves no bracket open, none is open in front of its line
-line_outer : (a line : List ℕ) → IsCut a line → IsEndLine line → next a (all a) ≡ Ends
+line_outer : (x : yaml_encoding_t) (a line : List ℕ) → IsEndLine line → (front : List Token)
+    (last : Token) → (g : Begun x a line kinds.DocumentEnd tokens.document_end front last)
     → next (a ++ line) (all (a ++ line)) ≡ Ends → depth (all (a ++ line)) ≡ 0 → depth (all a) ≡ 0
-line_outer a line cut e over whole_over outer =
-    let n = suc (suc (length a)) in
-    let last : ended (history a n) ≡ true = ap ended (sym (all_is a)) ∙ ends_ended a (all a) over in
-    let (j, E, at, is) = end_step a n last in
-    let front = front_history a line cut j E at j (omega arith) in
-    by j E at (all_is a ∙ is) (history a j) refl (history_stands a j) front
-  where
-    by : (j : ℕ) (E : Lexeme) → EndsAt a j E → all a ≡ E ∷ history a j → (H : List Lexeme)
-        → history a j ≡ H → Stands a H → history (a ++ line) j ≡ history a j → depth (all a) ≡ 0
-    by j E at is [] h stands front =
-        absurd (true≢false (sym at.ends ∙ ap (λ (l : Lexeme). is_end l.kind) (sym (first_is a E (ap (next a) (sym h) ∙ at.reads)))))
-    by j E at is (x ∷ h) same stands front =
-        let t = a ++ line in
-        let H = x ∷ h in
-        let reads : next a H ≡ Read E = ap (next a) (sym same) ∙ at.reads in
-        let more = not_ended a x h E reads in
-        let there : history t j ≡ H = front ∙ same in
-        let r = has_read a H E (sym (next_open a x h more) ∙ reads) in
-        let ends : is_end r.kind ≡ true = ap is_end (sym (read_kind a H E r)) ∙ at.ends in
-        let none = end_byte (in_flow H) a (gap_behind a H).place r.kind r.stands ends in
-        let place = end_place a line cut H stands.inside none in
-        let pair = front_pair a line cut H stands.inside in
-        let gap = pair.place in
-        let at_there : (gap_behind t H).place ≡ length a = omega (arith, gap, place) in
-        let first : length a + 0 ≡ length a = omega arith in
-        let stands_there : kind_behind t H ≡ Some kinds.DocumentEnd =
-        ap (kind_at (in_flow H) t) (at_there ∙ sym first) ∙ kind_alike line t (length a) (suc (length line)) 0 (in_flow H) (rest_alike a line cut) (omega arith)
-        ∙ finishes (in_flow H) line 0 e.mark in
-        let (l, dots) = goes_on t whole_over j x h there more in
-        let s = has_read t H l (sym (next_open t x h more) ∙ dots) in
-        let kind : s.kind ≡ kinds.DocumentEnd = same_Some _ _ (sym s.stands ∙ stands_there) in
-        let is_dots : l.kind ≡ kinds.DocumentEnd = read_kind t H l s ∙ kind in
-        let reached_at : l.reached ≡ mark_at t (length a + 3) =
-        ap (λ (y : Lexeme). y.reached) (sym s.clean.is) ∙ ap (λ k. (lexeme_behind k t H).reached) kind
-        ∙ mark_reached kinds.DocumentEnd tokens.document_end end_mark t H (length a) at_there in
-        let goes : is_end l.kind ≡ false = ap is_end is_dots in
-        let before = one_more t j H l there dots in
-        let (y, finish) = goes_on t whole_over (suc j) l H before goes in
-        let (ended, _) = line_over a line e l H (ap (λ (m : yaml_mark_t). m.index) reached_at) y goes finish in
-        let last = last_two t (suc (suc j)) y (l ∷ H) (one_more t (suc j) (l ∷ H) y before finish) (ap is_end ended) in
-        let deep : depth (all t) ≡ depth H =
-        ap depth last ∙ end_over y.kind y.depth (ap is_end ended) ∙ read_deep t (l ∷ H) y finish
-        ∙ ap (λ k. depth_after k l.depth) is_dots ∙ read_deep t H l dots in
-        ap depth is ∙ end_over E.kind E.depth at.ends ∙ read_deep a (history a j) E at.reads ∙ ap depth same ∙ sym deep ∙ outer
+line_outer x a line e front last g over outer =
+    let t = a ++ line in
+    let H = g.newest ∷ g.older in
+    let goes : is_end g.newest.kind ≡ false = ap is_end g.lies.kind in
+    let (y, finish) = goes_on t over g.steps g.newest g.older g.history_is goes in
+    let (ended, _) = line_over a line e g.newest g.older (ap (λ (m : yaml_mark_t). m.index) g.lies.reached) y goes finish in
+    let all_is = last_two t (suc g.steps) y H (one_more t g.steps H y g.history_is finish) (ap is_end ended) in
+    let deep : depth (all t) ≡ depth g.older =
+    ap depth all_is ∙ ap (λ k. depth_after k y.depth) ended ∙ read_deep t H y finish
+    ∙ ap (λ k. depth_after k g.newest.depth) g.lies.kind ∙ g.lies.deep in
+    g.deep ∙ sym deep ∙ outer
 
 -- ---- the line's tokens, and those of what stands behind it
 
@@ -185,12 +140,6 @@ record Lined (x : yaml_encoding_t) (line b : List ℕ) (behind : List Token) : T
   pub are : (scan_of x (line ++ b)).tokens
       ≡ stream_token x (line ++ b) ∷ dots_token x (line ++ b) ∷ map (moved_token (length line) (line_at (line ++ b) (length line))) behind
   pub fault : (scan_of x (line ++ b)).fault ≡ option_map (moved_fault (length line) (line_at (line ++ b) (length line))) (scan_of x b).fault
-
-fault_moved : (d n : ℕ) (y : Next)
-    → fault_in (moved_next d n y) ≡ option_map (moved_fault d n) (fault_in y)
-fault_moved d n (Read l) = refl
-fault_moved d n (Fails p) = refl
-fault_moved d n Ends = refl
 
 lined : (x : yaml_encoding_t) (line b : List ℕ) → IsEndLine line → is_bom b 0 ≡ false
     → (gap_at false false line 3).place ≡ length line
@@ -218,31 +167,19 @@ lined x line b e plain there first behind come =
 
 -- ---- moved twice
 
-token_twice : (d e n o : ℕ) (t : Token)
-    → moved_token d n (moved_token e o t) ≡ moved_token (d + e) (n + o) t
-token_twice d e n o t = rw (twice t.start_mark, twice t.end_mark) refl
-  where
-    twice : (m : yaml_mark_t) → moved_mark d n (moved_mark e o m) ≡ moved_mark (d + e) (n + o) m
-    twice m =
-        let i : d + (e + m.index) ≡ d + e + m.index = omega arith in
-        let l : n + (o + m.line) ≡ n + o + m.line = omega arith in
-        rw (i, l) refl
+mark_twice : (d e n o : ℕ) (m : yaml_mark_t)
+    → moved_mark d n (moved_mark e o m) ≡ moved_mark (d + e) (n + o) m
+mark_twice d e n o m = rw (← add_assoc d e m.index, ← add_assoc n o m.line) refl
 
 tokens_twice : (d e n o : ℕ) (ts : List Token)
     → map (moved_token d n) (map (moved_token e o) ts) ≡ map (moved_token (d + e) (n + o)) ts
 tokens_twice d e n o [] = refl
-tokens_twice d e n o (t ∷ ts) = ap (λ z. z ∷ map (moved_token d n) (map (moved_token e o) ts)) (token_twice d e n o t) ∙ ap (λ z. moved_token (d + e) (n + o) t ∷ z) (tokens_twice d e n o ts)
+tokens_twice d e n o (t ∷ ts) = rw (mark_twice d e n o t.start_mark, mark_twice d e n o t.end_mark, tokens_twice d e n o ts) refl
 
 fault_twice : (d e n o : ℕ) (f : Option Fault)
     → option_map (moved_fault d n) (option_map (moved_fault e o) f) ≡ option_map (moved_fault (d + e) (n + o)) f
 fault_twice d e n o None = refl
-fault_twice d e n o (Some f) = rw (twice f.problem_mark, twice f.context_mark) refl
-  where
-    twice : (m : yaml_mark_t) → moved_mark d n (moved_mark e o m) ≡ moved_mark (d + e) (n + o) m
-    twice m =
-        let i : d + (e + m.index) ≡ d + e + m.index = omega arith in
-        let l : n + (o + m.line) ≡ n + o + m.line = omega arith in
-        rw (i, l) refl
+fault_twice d e n o (Some f) = rw (mark_twice d e n o f.problem_mark, mark_twice d e n o f.context_mark) refl
 
 -- ---- the law
 
@@ -298,10 +235,9 @@ at_line x a line cut e none outer =
     let d = length a in
     let n = line_at a d in
     let clear : (scan_of x a).fault ≡ None = unfaulted (scan_of x a).fault refl in
-    let ends = fault_none (next a (all a)) (sym (fault_next s) ∙ clear) (all_ends a) in
     let whole_ends = fault_none (next t (all t)) (sym (fault_next (record { encoding = x; text = t })) ∙ none) (all_ends t) in
-    let inner = line_outer a line cut e ends whole_ends outer in
     let (front, end, told_front, _, _) = stream_ends s clear in
+    let inner = line_outer x a line e front end (begun_over x a line cut e.mark clear front end told_front) whole_ends outer in
     let (rest, starts) = stream_starts (record { encoding = x; text = line }) in
     let mine = windows_are_scanned x a line cut clear inner front end told_front _ rest starts in
     let quiet : (scan_of x line).fault ≡ None = unmoved d n (scan_of x line).fault (ap (λ (r : Remaining). r.fault) (sym mine) ∙ none) in
@@ -345,17 +281,16 @@ ended_at x a line b cut over e plain none outer before last are first behind com
     let k = length line in
     let o = line_at line k in
     let m = at_line x a line cut e none outer in
-    let front = m.front in
     let D = moved_token d n (dots_token x line) in
-    let (same, _) = same_from_push before (front ++ D ∷ []) last m.tail (sym are ∙ m.whole) in
+    let (same, _) = same_from_push before (m.front ++ D ∷ []) last m.tail (sym are ∙ m.whole) in
     let l = lined x line b e plain m.reaches first behind come in
     let lines : line_at U k ≡ o = front_line line b e.feed k (omega arith) in
-    let others = windows_are_scanned x a U over m.clear m.inner front m.end m.told (stream_token x U) (dots_token x U ∷ map (moved_token k (line_at U k)) behind) l.are in (
+    let others = windows_are_scanned x a U over m.clear m.inner m.front m.end m.told (stream_token x U) (dots_token x U ∷ map (moved_token k (line_at U k)) behind) l.are in (
       ap (λ (r : Remaining). r.tokens) others
-          ∙ ap (λ z. front ++ moved_token d n z ∷ map (moved_token d n) (map (moved_token k (line_at U k)) behind)) (dots_same x line b e)
-          ∙ ap (λ z. front ++ D ∷ map (moved_token d n) (map (moved_token k z) behind)) lines
-          ∙ ap (λ z. front ++ D ∷ z) (tokens_twice d k n o behind)
-          ∙ sym (append_assoc front (D ∷ []) (map (moved_token (d + k) (n + o)) behind))
+          ∙ ap (λ z. m.front ++ moved_token d n z ∷ map (moved_token d n) (map (moved_token k (line_at U k)) behind)) (dots_same x line b e)
+          ∙ ap (λ z. m.front ++ D ∷ map (moved_token d n) (map (moved_token k z) behind)) lines
+          ∙ ap (λ z. m.front ++ D ∷ z) (tokens_twice d k n o behind)
+          ∙ sym (append_assoc m.front (D ∷ []) (map (moved_token (d + k) (n + o)) behind))
           ∙ ap (λ z. z ++ map (moved_token (d + k) (n + o)) behind) (sym same),
       ap (λ (r : Remaining). r.fault) others ∙ ap (option_map (moved_fault d n)) (l.fault ∙ ap (λ z. option_map (moved_fault k z) (scan_of x b).fault) lines)
           ∙ fault_twice d k n o (scan_of x b).fault,
@@ -368,28 +303,22 @@ pub ended_front : (x : yaml_encoding_t) (front rest : List ℕ) → IsEndCut fro
     × ((scan_of x front).tokens ≡ (before ++ over ∷ []) ++ last ∷ []) × (over.body ≡ tokens.document_end)
 unfolding word_at
 ended_front x front rest cut none outer =
-    let a = cut.before in
-    let line = cut.line in
-    let e = cut.ends in
-    let parts = cut.parts in
-    let m = at_line x a line (line_cut a line cut.lines cut.some e.mark) e (subst (λ t. (scan_of x t).fault ≡ None) parts none) (subst (λ t. depth (all t) ≡ 0) parts outer) in
-    (m.front, moved_token (length a) (line_at a (length a)) (dots_token x line), m.tail, ap (λ t. (scan_of x t).tokens) parts ∙ m.whole, refl)
+    let m = at_line x cut.before cut.line (line_cut cut.before cut.line cut.lines cut.some cut.ends.mark) cut.ends (subst (λ t. (scan_of x t).fault ≡ None) cut.parts none) (subst (λ t. depth (all t) ≡ 0) cut.parts outer) in
+    (m.front, moved_token (length cut.before) (line_at cut.before (length cut.before)) (dots_token x cut.line), m.tail, ap (λ t. (scan_of x t).tokens) cut.parts ∙ m.whole, refl)
 
 pub ended_windows_are_scanned : EndedWindowsAreScanned
 ended_windows_are_scanned x front rest cut none outer before last are first behind come =
     let a = cut.before in
     let line = cut.line in
-    let e = cut.ends in
-    let parts = cut.parts in
-    let (told, fault) = ended_at x a line rest (line_cut a line cut.lines cut.some e.mark) (line_cut a (line ++ rest) cut.lines cut.some (whole_end line rest e)) e cut.mark
-    (subst (λ t. (scan_of x t).fault ≡ None) parts none) (subst (λ t. depth (all t) ≡ 0) parts outer)
-    before last (subst (λ t. (scan_of x t).tokens ≡ before ++ last ∷ []) parts are) first behind come in
-    let whole : a ++ (line ++ rest) ≡ front ++ rest = sym (append_assoc a line rest) ∙ ap (λ t. t ++ rest) (sym parts) in
-    let size : length a + length line ≡ length front = sym (length-append a line) ∙ ap length (sym parts) in
-    let cut_line = line_cut a line cut.lines cut.some e.mark in
+    let (told, fault) = ended_at x a line rest (line_cut a line cut.lines cut.some cut.ends.mark) (line_cut a (line ++ rest) cut.lines cut.some (whole_end line rest cut.ends)) cut.ends cut.mark
+    (subst (λ t. (scan_of x t).fault ≡ None) cut.parts none) (subst (λ t. depth (all t) ≡ 0) cut.parts outer)
+    before last (subst (λ t. (scan_of x t).tokens ≡ before ++ last ∷ []) cut.parts are) first behind come in
+    let whole : a ++ (line ++ rest) ≡ front ++ rest = sym (append_assoc a line rest) ∙ ap (λ t. t ++ rest) (sym cut.parts) in
+    let size : length a + length line ≡ length front = sym (length-append a line) ∙ ap length (sym cut.parts) in
+    let cut_line = line_cut a line cut.lines cut.some cut.ends.mark in
     let lines : line_at a (length a) + line_at line (length line) ≡ line_at front (length front) =
     ap (λ z. z + line_at line (length line)) (ap (λ (m : yaml_mark_t). m.line) (mark_there a line cut_line))
-    ∙ sym (rest_lines a line cut_line (length line)) ∙ ap (line_at (a ++ line)) (sym (length-append a line)) ∙ ap (λ t. line_at t (length t)) (sym parts) in
+    ∙ sym (rest_lines a line cut_line (length line)) ∙ ap (line_at (a ++ line)) (sym (length-append a line)) ∙ ap (λ t. line_at t (length t)) (sym cut.parts) in
     made (scan_of x (front ++ rest)) _ _
     (ap (λ t. (scan_of x t).tokens) (sym whole) ∙ told
     ∙ ap (λ d. before ++ map (moved_token d (line_at a (length a) + line_at line (length line))) behind) size
@@ -397,3 +326,116 @@ ended_windows_are_scanned x front rest cut none outer before last are first behi
     (ap (λ t. (scan_of x t).fault) (sym whole) ∙ fault
     ∙ ap (λ d. option_map (moved_fault d (line_at a (length a) + line_at line (length line))) (scan_of x rest).fault) size
     ∙ ap (λ n. option_map (moved_fault (length front) n) (scan_of x rest).fault) lines)
+
+-- ---- a line `...` with nothing behind it
+
+outer_levels : (l : Lexeme) (H : List Lexeme) (K : Kind) → l.kind ≡ K → is_outside K ≡ true
+    → is_start K ≡ false → nat_lt 0 l.depth ≡ false → levels (l ∷ H) ≡ []
+unfolding levels
+outer_levels l H K k out start deep = rw (k, start, deep, out) (none_left H)
+
+no_closings : (l : Lexeme) (H : List Lexeme) (K : Kind) → l.kind ≡ K → is_outside K ≡ true
+    → is_start K ≡ false → (m : yaml_mark_t) → closings l.depth (l ∷ H) m ≡ []
+no_closings l H K k out start m =
+    elim (cases_Bool (nat_lt 0 l.depth)) [
+      | inl deep ↦
+          let none : length (levels (l ∷ H)) - length (levels (l ∷ H)) ≡ 0 = omega arith in
+          rw (deep, none) refl
+      | inr flat ↦ rw (flat, outer_levels l H K k out start flat) refl
+    ]
+
+-- what stands behind the dots: the end, or a fault
+abbrev pub TailSo : List ℕ → List Token → Option Fault → Type 0
+TailSo a tail own =
+    ((last : Token) × (tail ≡ last ∷ []) × (last.body ≡ tokens.stream_end) × (own ≡ None))
+    ⊎ ((g : Fault) × (tail ≡ []) × (own ≡ Some g) × (length a ≤ g.problem_mark.index))
+
+line_fails : (a line : List ℕ) → IsEndLine line → (l : Lexeme) (h : List Lexeme)
+    → l.reached.index ≡ length a + 3 → is_end l.kind ≡ false → (g : ScanFault)
+    → next (a ++ line) (l ∷ h) ≡ Fails g → length a ≤ g.problem_mark.index
+line_fails a line e l h at more g fails =
+    let t = a ++ line in
+    let H = l ∷ h in
+    let size = length-append a line in
+    let long = line_long line e in
+    let here = sym (next_open t l h more) ∙ fails in
+    let place = gap_place (in_flow H) (key_allowed H) t (reached H).index (omega (arith, at, size, long)) in
+    let q = (gap_behind t H).place in
+    elim (cases_lt q (length t)) [
+      | inr past ↦
+          let there : q ≡ length t = omega (arith, past, place.inside) in
+          let none : byte t q ≡ 0 = ap (λ z. byte t z) there ∙ byte_past t (length t) (omega arith) in
+          let late = end_late t H g (ap (λ o. coming o t H) (sym (end_kind (in_flow H) t q none)) ∙ here) in
+          omega (arith, late, there, size)
+      | inl on ↦
+          let p = q - length a in
+          let back : q ≡ length a + p = omega (arith, place.forward, at) in
+          let same : byte t q ≡ byte line p = ap (λ z. byte t z) back ∙ byte_right a line p in
+          let white = e.white p (omega (arith, place.forward, at)) (omega (arith, on, size, place.forward, at)) in
+          let none = white_kind (in_flow H) t q (ap is_white same ∙ white) in
+          let late = none_late t H g (ap (λ o. coming o t H) (sym none) ∙ here) in
+          omega (arith, late, place.forward, at)
+    ]
+  where
+    none_late : (t : List ℕ) (H : List Lexeme) (g : ScanFault) → coming None t H ≡ Fails g
+        → g.problem_mark.index ≡ (gap_behind t H).place
+    none_late t H g r = go (stale_before t H) refl r
+      where
+        go : (o : Option ScanFault) → stale_before t H ≡ o → first_fault_or (o ∷ []) (Fails (no_start (place_behind t H))) ≡ Fails g
+            → g.problem_mark.index ≡ (gap_behind t H).place
+        go None k r = ap (λ (z : ScanFault). z.problem_mark.index) (fails_same (sym r))
+        go (Some f) k r = ap (λ (z : ScanFault). z.problem_mark.index) (fails_same (sym r)) ∙ ap (λ (z : yaml_mark_t). z.index) (colon_index (missed _ (place_behind t H)) (place_behind t H) f k)
+
+all_taken : (s : SpelledText) (g : ScanFault) (H : List Lexeme) → ((e : ℕ) → open_at e H ≡ None)
+    → told s (Fails g) H ≡ flat_map (spell s) (entries H)
+all_taken s g H shut =
+    let n : first_open H H ≡ length (entries H) = none_open H H shut ∙ sym (length-entries H) in
+    ap (λ k. flat_map (spell s) (take k (entries H)) ++ front_ends (drop k (entries H))) n
+    ∙ ap (λ z. flat_map (spell s) z ++ front_ends (drop (length (entries H)) (entries H))) (take-length (entries H))
+    ∙ ap (λ z. flat_map (spell s) (entries H) ++ front_ends z) (drop-length (entries H))
+    ∙ append-nil (flat_map (spell s) (entries H))
+
+-- A front's tokens, where it ends in such a line.
+pub line_tail : (x : yaml_encoding_t) (a line : List ℕ) → IsEndLine line → (front : List Token)
+    (last : Token) → (r : Begun x a line kinds.DocumentEnd tokens.document_end front last)
+    → (tail : List Token) × ((scan_of x (a ++ line)).tokens ≡ front ++ r.mark ∷ tail)
+    × TailSo a tail (scan_of x (a ++ line)).fault
+unfolding word_at
+line_tail x a line e front last r = by (next (a ++ line) (r.newest ∷ r.older)) refl
+  where
+    by : (y : Next) → next (a ++ line) (r.newest ∷ r.older) ≡ y
+        → (tail : List Token) × ((scan_of x (a ++ line)).tokens ≡ front ++ r.mark ∷ tail) × TailSo a tail (scan_of x (a ++ line)).fault
+    by (Read y) k =
+        let t = a ++ line in
+        let s : SpelledText = record { encoding = x; text = t } in
+        let H = r.newest ∷ r.older in
+        let goes : is_end r.newest.kind ≡ false = ap is_end r.lies.kind in
+        let far : r.newest.reached.index ≡ length a + 3 = ap (λ (m : yaml_mark_t). m.index) r.lies.reached in
+        let (ended, _) = line_over a line e r.newest r.older far y goes k in
+        let end : is_end y.kind ≡ true = ap is_end ended in
+        let is_all = last_two t (suc r.steps) y H (one_more t r.steps H y r.history_is k) end in
+        let over : next t (all t) ≡ Ends = ap (next t) is_all ∙ next_over t y H end in
+        let deep : y.depth ≡ r.newest.depth = read_deep t H y k ∙ ap (λ z. depth_after z r.newest.depth) r.lies.kind in
+        let closed : closings y.depth H y.start ≡ [] = ap (λ d. closings d H y.start) deep ∙ no_closings r.newest r.older kinds.DocumentEnd r.lies.kind refl refl y.start in
+        let list : (scan_of x t).tokens ≡ front ++ r.mark ∷ token_in s y ∷ [] =
+        offline_told s ∙ ap (λ z. told s z (all t)) over ∙ append-nil (flat_map (spell s) (entries (all t)))
+        ∙ ap (λ z. flat_map (spell s) (entries z)) is_all
+        ∙ ap (flat_map (spell s)) (outer_entries y H kinds.StreamEnd ended refl)
+        ∙ flat_map-append (spell s) (entries H) (entry_of y H ∷ [])
+        ∙ ap (λ z. z ++ (spell s (entry_of y H) ++ [])) r.base
+        ∙ ap (λ z. (front ++ r.mark ∷ []) ++ z) (append-nil (spell s (entry_of y H)) ∙ outer_spelled s y H kinds.StreamEnd ended refl refl ∙ ap (λ z. z ++ token_in s y ∷ []) closed)
+        ∙ append_assoc front (r.mark ∷ []) (token_in s y ∷ []) in
+        (token_in s y ∷ [], list, inl (token_in s y, refl, ap (λ z. body_by z s y) ended, fault_next s ∙ ap fault_in over))
+    by (Fails g) k =
+        let t = a ++ line in
+        let s : SpelledText = record { encoding = x; text = t } in
+        let H = r.newest ∷ r.older in
+        let goes : is_end r.newest.kind ≡ false = ap is_end r.lies.kind in
+        let far : r.newest.reached.index ≡ length a + 3 = ap (λ (m : yaml_mark_t). m.index) r.lies.reached in
+        let is_all : all t ≡ H = last_is_all t r.steps (λ l q. fails_not (sym (ap (next t) r.history_is ∙ k) ∙ q)) ∙ r.history_is in
+        let fails : next t (all t) ≡ Fails g = ap (next t) is_all ∙ k in
+        let list : (scan_of x t).tokens ≡ front ++ r.mark ∷ [] =
+        offline_told s ∙ ap (λ z. told s z (all t)) fails ∙ ap (told s (Fails g)) is_all ∙ all_taken s g H r.shut ∙ r.base in
+        ([], list, inr (scanner_fault g, refl, fault_next s ∙ ap fault_in fails, line_fails a line e r.newest r.older far goes g k))
+    by Ends k =
+        absurd (coming_goes (kind_behind (a ++ line) (r.newest ∷ r.older)) (a ++ line) (r.newest ∷ r.older) (sym (next_open (a ++ line) r.newest r.older (ap is_end r.lies.kind)) ∙ k))

@@ -1,5 +1,5 @@
 -- Block scalars are the same in both texts.
-use Rattle.std.proofs.Common.{◌≡◌, ℕ, zero, suc, ◌+◌, ◌-◌, ◌<◌, ◌≤◌, ◌==◌, ◌&&◌, ◌||◌, nat_lt, if◌then◌else◌, Bool, true, false, not, List, length, slice_range, Result, Ok, Err, refl, ap, ◌∙◌, inl, inr, arith}
+use Rattle.std.proofs.Common.{add-zero, ◌≡◌, ℕ, zero, suc, ◌+◌, ◌-◌, ◌<◌, ◌≤◌, ◌==◌, ◌&&◌, ◌||◌, nat_lt, if◌then◌else◌, Bool, true, false, not, List, length, slice_range, Result, Ok, Err, refl, ap, ◌∙◌, inl, inr, arith, add_assoc}
 use Rattle.std.proofs.lemmas.Bool.{cases_Bool, cases_lt, eqb-true, ltb-true}
 use Rattle.std.proofs.lemmas.Bool.Decides.{nat_tests}
 use Rattle.yaml_scan_history.specs.scan_model.declared.problem.Problem.TheVariants as problems
@@ -98,9 +98,8 @@ end_from t u d m q r a h = let same = h.same in rw same (comment_alike t u d m q
 blanks_from : (t u : List ℕ) (d m q r : ℕ) → Alike t u d m → PlaceAlike d m q r
     → PlaceAlike d m (past_blanks t q) (past_blanks u r)
 blanks_from t u d m q r a h =
-    let same = h.same in
     let blanks = blanks_alike t u d m q a h.inside in
-    rw same record { same = blanks.same; inside = blanks.inside }
+    rw h.same record { same = blanks.same; inside = blanks.inside }
 
 header_end_alike : (t u : List ℕ) (d m p : ℕ) → Alike t u d m → p < m
     → PlaceAlike d m (header_end t p) (header_end u (d + p))
@@ -149,18 +148,15 @@ header_alike t u d m p a l =
         (if byte t q == 48 then Err (in_block problems.ZeroIndentation q) else if is_text t x then Err (in_block problems.NoCommentOrBreak x) else Ok record { chomp = chomp_of (byte t v); digit = digit_of (byte t q); place = x + break_width t x })
         (if byte u r == 48 then Err (in_block problems.ZeroIndentation r) else if is_text u y then Err (in_block problems.NoCommentOrBreak y) else Ok record { chomp = chomp_of (byte u w); digit = digit_of (byte u r); place = y + break_width u y })
     header_from q r v w x y f g h =
-        let first = f.same in
-        let second = g.same in
-        let third = h.same in
         let zero : (byte u (d + q) == 48) ≡ (byte t q == 48) = ap (λ b. b == 48) (a.bytes q f.inside) in
         let text = text_alike t u d m x a h.inside in
         let move : d + x + break_width t x ≡ d + (x + break_width t x) = omega arith in
         elim (cases_Bool (byte t q == 48)) [
-          | inl i ↦ rw (first, i, zero ∙ i) record { same = refl; placed = tt }
+          | inl i ↦ rw (f.same, i, zero ∙ i) record { same = refl; placed = tt }
           | inr i ↦ elim (cases_Bool (is_text t x)) [
-            | inl j ↦ rw (first, third, i, zero ∙ i, j, text ∙ j) record { same = refl; placed = tt }
+            | inl j ↦ rw (f.same, h.same, i, zero ∙ i, j, text ∙ j) record { same = refl; placed = tt }
             | inr j ↦
-                rw (first, second, third, i, zero ∙ i, j, text ∙ j, a.bytes q f.inside, a.bytes v g.inside, width_alike t u d m x a h.inside, move)
+                rw (f.same, g.same, h.same, i, zero ∙ i, j, text ∙ j, a.bytes q f.inside, a.bytes v g.inside, width_alike t u d m x a h.inside, move)
                 record { same = refl; placed = at_width t u d m x a h.inside }
           ]
         ]
@@ -223,7 +219,6 @@ behind_alike : (t u : List ℕ) (d m p q r : ℕ) (f g : ℕ → Result ℕ Wron
     → (At t u d m (q + break_width t q) → p < q + break_width t q → p < length t → ColumnAlike d (f (q + break_width t q)) (g (d + (q + break_width t q))))
     → ColumnAlike d (depth_behind f t q) (depth_behind g u r)
 behind_alike t u d m p q r f g a h k =
-    let same = h.same in
     elim (cases_lt q m) [
       | inl l ↦
           let tab : (byte u (d + q) == 9) ≡ (byte t q == 9) = ap (λ b. b == 9) (a.bytes q l) in
@@ -231,24 +226,22 @@ behind_alike t u d m p q r f g a h k =
           let column = column_alike t u d m q a h.at.inside in
           let move : d + q + break_width t q ≡ d + (q + break_width t q) = omega arith in
           elim (cases_Bool (byte t q == 9)) [
-            | inl i ↦ rw (same, i, tab ∙ i) refl
+            | inl i ↦ rw (h.same, i, tab ∙ i) refl
             | inr i ↦ elim (cases_Bool (nat_lt 0 (break_width t q))) [
               | inl j ↦
                   let some = ltb-true _ _ j in
-                  let order = h.order in
                   let here = break_inside t q some in
-                  rw (same, i, tab ∙ i, j, ap (λ w. nat_lt 0 w) width ∙ j, width, move, column)
-                  (larger_alike d (column_at t q) _ _ (k (at_break t u d m q a l some) (omega (arith, order, some)) (omega (arith, order, here))))
-              | inr j ↦ rw (same, i, tab ∙ i, j, ap (λ w. nat_lt 0 w) width ∙ j, column) refl
+                  rw (h.same, i, tab ∙ i, j, ap (λ w. nat_lt 0 w) width ∙ j, width, move, column)
+                  (larger_alike d (column_at t q) _ _ (k (at_break t u d m q a l some) (omega (arith, h.order, some)) (omega (arith, h.order, here))))
+              | inr j ↦ rw (h.same, i, tab ∙ i, j, ap (λ w. nat_lt 0 w) width ∙ j, column) refl
             ]
           ]
       | inr past ↦
-          let inside = h.at.inside in
-          let e : q ≡ m = omega (arith, inside, past) in
+          let e : q ≡ m = omega (arith, h.at.inside, past) in
           let mine : IsQuiet (byte t q) = inl (rw e a.edge) in
           let others : IsQuiet (byte u (d + q)) = rw e (quiet_edge t u d m a) in
-          let column = column_alike t u d m q a inside in
-          rw (same, quiet_tab _ mine, quiet_tab _ others, quiet_width t q mine, quiet_width u (d + q) others, column) refl
+          let column = column_alike t u d m q a h.at.inside in
+          rw (h.same, quiet_tab _ mine, quiet_tab _ others, quiet_width t q mine, quiet_width u (d + q) others, column) refl
     ]
 
 deep_by : (k : ℕ) (t u : List ℕ) (d m p n o : ℕ) → Alike t u d m → At t u d m p
@@ -309,21 +302,18 @@ spaces_alike_at (suc n) t u d m p a at =
     elim (cases_lt p m) [
       | inl l ↦
           let test : (byte u (d + p) == 32) ≡ (byte t p == 32) = ap (λ b. b == 32) (a.bytes p l) in
-          let move : d + p + 1 ≡ d + (p + 1) = omega arith in
           elim (cases_Bool (byte t p == 32)) [
             | inl h ↦
                 let (same, next) = spaces_alike_at n t u d m (p + 1) a (at_step t u d m p a l (space_some (byte t p) h)) in
                 let far : p + suc (spaces n t (p + 1)) ≡ p + 1 + spaces n t (p + 1) = omega arith in
-                rw (h, test ∙ h, move, same, far) (refl, next)
+                rw (h, test ∙ h, add_assoc d p 1, same, far) (refl, next)
             | inr h ↦ let e : p + 0 ≡ p = omega arith in rw (h, test ∙ h, e) (refl, at)
           ]
       | inr past ↦
-          let inside = at.inside in
-          let e : p ≡ m = omega (arith, inside, past) in
+          let e : p ≡ m = omega (arith, at.inside, past) in
           let mine : (byte t p == 32) ≡ false = quiet_space (byte t p) (inl (rw e a.edge)) in
           let others : (byte u (d + p) == 32) ≡ false = quiet_space (byte u (d + p)) (rw e (quiet_edge t u d m a)) in
-          let f : p + 0 ≡ p = omega arith in
-          rw (mine, others, f) (refl, at)
+          rw (mine, others, add-zero p) (refl, at)
     ]
   where
     space_some : (b : ℕ) → (b == 32) ≡ true → 0 < b
@@ -369,47 +359,37 @@ words_alike : (t u : List ℕ) (d m p q e f : ℕ) → Alike t u d m → p ≤ q
     → LineAlike t u d m p (Line (Words (slice_range t q e) (feed_at t e)) (e + break_width t e))
     (Line (Words (slice_range u (d + q) f) (feed_at u f)) (f + break_width u f))
 words_alike t u d m p q e f a o l far mine run =
-    let same = run.same in
-    let inside = run.inside in
     let move : d + e + break_width t e ≡ d + (e + break_width t e) = omega arith in
-    rw (same, range_alike t u d m q e a (omega (arith, far)) (omega (arith, inside)) (short_at t u d m e a inside) (long_at t u d m e a inside), feed_alike t u d m e a inside, width_alike t u d m e a inside, move)
-    record { same = refl; lies = (at_width t u d m e a inside, omega (arith, o, far), mine) }
+    rw (run.same, range_alike t u d m q e a (omega (arith, far)) (omega (arith, run.inside)) (short_at t u d m e a run.inside) (long_at t u d m e a run.inside), feed_alike t u d m e a run.inside, width_alike t u d m e a run.inside, move)
+    record { same = refl; lies = (at_width t u d m e a run.inside, omega (arith, o, far), mine) }
 
 spot_there : (c : ℕ) (t u : List ℕ) (d m p q : ℕ) → Alike t u d m → At t u d m q → p ≤ q → 0 < c
     → LineAlike t u d m p (spot_behind c t q) (spot_behind c u (d + q))
 unfolding spot_behind
 spot_there c t u d m p q a at o right =
     elim (cases_lt q m) [
-      | inl l ↦
-          let b = a.bytes q l in
-          let column = column_alike t u d m q a at.inside in
-          let width = width_alike t u d m q a l in
-          let tab : (byte u (d + q) == 9 && nat_lt (column_at u (d + q)) c) ≡ (byte t q == 9 && nat_lt (column_at t q) c) = rw (b, column) refl in
-          let stop : (byte u (d + q) == 0 || not (column_at u (d + q) == c)) ≡ (byte t q == 0 || not (column_at t q == c)) = rw (b, column) refl in
-          let move : d + q + break_width t q ≡ d + (q + break_width t q) = omega arith in
-          elim (cases_Bool (byte t q == 9 && nat_lt (column_at t q) c)) [
-            | inl h ↦ rw (h, tab ∙ h) record { same = refl; lies = tt }
-            | inr h ↦ elim (cases_Bool (nat_lt 0 (break_width t q))) [
-              | inl i ↦
-                  let some = ltb-true _ _ i in
-                  let here = break_inside t q some in
-                  rw (h, tab ∙ h, i, ap (λ w. nat_lt 0 w) width ∙ i, value_alike t u d m q a l some, width, move)
-                  record { same = refl; lies = (at_break t u d m q a l some, omega (arith, o, some), omega (arith, o, here)) }
-              | inr i ↦ elim (cases_Bool (byte t q == 0 || not (column_at t q == c))) [
-                | inl j ↦ rw (h, tab ∙ h, i, ap (λ w. nat_lt 0 w) width ∙ i, j, stop ∙ j) record { same = refl; lies = at.inside }
-                | inr j ↦
-                    let text : is_text t q ≡ true = text_from (byte t q) (break_width t q) (not (column_at t q == c)) j i in
-                    let (some, none) = text_parts t q text in
-                    let here = within t q some in
-                    let far = past_some is_text t q text some in
-                    rw (h, tab ∙ h, i, ap (λ w. nat_lt 0 w) width ∙ i, j, stop ∙ j)
-                    (words_alike t u d m p q (line_end t q) (line_end u (d + q)) a o l far (omega (arith, o, here)) (lines_alike t u d m q a l))
-              ]
-            ]
+      | inl l ↦ rw (column_alike t u d m q a at.inside, width_alike t u d m q a l, a.bytes q l) (elim (cases_Bool (byte t q == 9 && nat_lt (column_at t q) c)) [
+        | inl h ↦ rw h record { same = refl; lies = tt }
+        | inr h ↦ elim (cases_Bool (nat_lt 0 (break_width t q))) [
+          | inl i ↦
+              let some = ltb-true _ _ i in
+              let here = break_inside t q some in
+              rw (h, i, value_alike t u d m q a l some, add_assoc d q (break_width t q))
+              record { same = refl; lies = (at_break t u d m q a l some, omega (arith, o, some), omega (arith, o, here)) }
+          | inr i ↦ elim (cases_Bool (byte t q == 0 || not (column_at t q == c))) [
+            | inl j ↦ rw (h, i, j) record { same = refl; lies = at.inside }
+            | inr j ↦
+                let text : is_text t q ≡ true = text_from (byte t q) (break_width t q) (not (column_at t q == c)) j i in
+                let (some, none) = text_parts t q text in
+                let here = within t q some in
+                let far = past_some is_text t q text some in
+                rw (h, i, j)
+                (words_alike t u d m p q (line_end t q) (line_end u (d + q)) a o l far (omega (arith, o, here)) (lines_alike t u d m q a l))
           ]
+        ]
+      ])
       | inr past ↦
-          let inside = at.inside in
-          let e : q ≡ m = omega (arith, inside, past) in
+          let e : q ≡ m = omega (arith, at.inside, past) in
           let end : byte t q ≡ 0 = rw e a.edge in
           let there : IsQuiet (byte u (d + q)) = rw e (quiet_edge t u d m a) in
           let mine : (byte t q == 0 || not (column_at t q == c)) ≡ true = rw end refl in
@@ -420,7 +400,7 @@ spot_there c t u d m p q a at o right =
                 off_column (byte u (d + q) == 0) (column_at u (d + q)) c first right
           ] in
           rw (quiet_tab _ (inl end), quiet_tab _ there, quiet_width t q (inl end), quiet_width u (d + q) there, mine, others)
-          record { same = refl; lies = inside }
+          record { same = refl; lies = at.inside }
     ]
   where
     off_column : (z : Bool) (x c : ℕ) → x ≡ 0 → 0 < c → (z || not (x == c)) ≡ true
@@ -500,8 +480,7 @@ behind_header : (folded : Bool) (level : ℕ) (t u : List ℕ) (d m : ℕ) (r s 
     → BlocksAlike d m (block_behind folded level t r) (block_behind folded level u s)
 behind_header folded level t u d m (Err w) s a h = let same = h.same in rw same record { same = refl; placed = tt }
 behind_header folded level t u d m (Ok x) s a h =
-    let same = h.same in
-    rw same (lines_of folded t u d m x (column_of level t x.digit x.place) (column_of level u x.digit (d + x.place)) a h.placed
+    rw h.same (lines_of folded t u d m x (column_of level t x.digit x.place) (column_of level u x.digit (d + x.place)) a h.placed
     (column_there t u d m level x.digit x.place a h.placed) (column_right level t x.digit x.place))
 
 -- a block scalar is the same, moved, and ends within
@@ -509,5 +488,4 @@ pub block_alike : (level : ℕ) (t u : List ℕ) (d m p : ℕ) → Alike t u d m
     → is_onward (byte t p) ≡ true → BlocksAlike d m (block_at level t p) (block_at level u (d + p))
 block_alike level t u d m p a l on =
     let more = a.onward p l on in
-    let move : d + p + 1 ≡ d + (p + 1) = omega arith in
-    rw (a.bytes p l, move) (behind_header (byte t p == 62) level t u d m (header_at t (p + 1)) (header_at u (d + (p + 1))) a (header_alike t u d m (p + 1) a more))
+    rw (a.bytes p l, add_assoc d p 1) (behind_header (byte t p == 62) level t u d m (header_at t (p + 1)) (header_at u (d + (p + 1))) a (header_alike t u d m (p + 1) a more))

@@ -1,5 +1,5 @@
 -- What is told by bytes: breaks, columns, indicators.
-use Rattle.std.proofs.Common.{◌≡◌, ℕ, zero, suc, ◌+◌, ◌<◌, ◌≤◌, ◌==◌, ◌&&◌, ◌||◌, Bool, true, false, List, refl, sym, ap, ◌∙◌, inl, inr, ◌⊎◌, arith}
+use Rattle.std.proofs.Common.{add_assoc, ◌≡◌, ℕ, zero, suc, ◌+◌, ◌<◌, ◌≤◌, ◌==◌, ◌&&◌, ◌||◌, Bool, true, false, List, refl, sym, ap, ◌∙◌, inl, inr, ◌⊎◌, arith}
 use Rattle.std.proofs.lemmas.Bool.{cases_Bool, cases_lt, and_parts, eqb-true}
 use Rattle.std.proofs.lemmas.Bool.Decides.{nat_tests}
 use Rattle.yaml_scan_history.specs.scan_model.Marks.{byte, break_of, break_width, line_at, column_at, is_blank_or_end}
@@ -48,8 +48,7 @@ pub next_byte : (t u : List ℕ) (d m p : ℕ) → Alike t u d m → p < m → i
     → (p + 1 < m) × (byte u (d + p + 1) ≡ byte t (p + 1))
 next_byte t u d m p a l o =
     let more = a.onward p l o in
-    let e : d + p + 1 ≡ d + (p + 1) = omega arith in
-    (more, rw e (a.bytes (p + 1) more))
+    (more, rw (add_assoc d p 1) (a.bytes (p + 1) more))
 
 no_break_then : (b c d e f : ℕ) → is_onward b ≡ true → is_onward c ≡ false
     → break_of b c d ≡ break_of b c e
@@ -76,13 +75,12 @@ quiet_feed b (inr (inr z)) = rw z refl
 next_feed : (t u : List ℕ) (d m p : ℕ) → Alike t u d m → p < m
     → (byte u (d + p + 1) == 10) ≡ (byte t (p + 1) == 10)
 next_feed t u d m p a l =
-    let e : d + p + 1 ≡ d + (p + 1) = omega arith in
     elim (cases_lt (p + 1) m) [
-      | inl more ↦ rw (e, a.bytes (p + 1) more) refl
+      | inl more ↦ rw (add_assoc d p 1, a.bytes (p + 1) more) refl
       | inr past ↦
           let here : p + 1 ≡ m = omega arith in
           let quiet = quiet_feed (byte u (d + m)) (quiet_edge t u d m a) in
-          rw (e, here, quiet, a.edge) refl
+          rw (add_assoc d p 1, here, quiet, a.edge) refl
     ]
 
 -- the same break stands there
@@ -114,8 +112,7 @@ end_alike t u d m p a l = rw (width_alike t u d m p a l, a.bytes p l) refl
 pub next_end : (t u : List ℕ) (d m p : ℕ) → Alike t u d m → p < m → is_onward (byte t p) ≡ true
     → is_blank_or_end u (d + p + 1) ≡ is_blank_or_end t (p + 1)
 next_end t u d m p a l o =
-    let e : d + p + 1 ≡ d + (p + 1) = omega arith in
-    rw e (end_alike t u d m (p + 1) a (a.onward p l o))
+    rw (add_assoc d p 1) (end_alike t u d m (p + 1) a (a.onward p l o))
 
 -- ---- columns and lines
 
@@ -157,7 +154,6 @@ thrice_within t u d m p x a l o h =
     let (first, second) = and_parts (byte t p == x) (byte t (p + 1) == x) both in
     let one = a.onward p l (ap is_onward (eqb-true _ _ first) ∙ o) in
     let two = a.onward (p + 1) one (ap is_onward (eqb-true _ _ second) ∙ o) in
-    let e : p + 1 + 1 ≡ p + 2 = omega arith in
     let more : p + 2 < m = omega (arith, two) in
     let three = a.onward (p + 2) more (ap is_onward (eqb-true _ _ third) ∙ o) in
     omega (arith, three)
@@ -171,9 +167,8 @@ thrice_alike t u d m p x a l o =
     let (first, second) = and_parts (byte t p == x) (byte t (p + 1) == x) h in
     let one = a.onward p l (ap is_onward (eqb-true _ _ first) ∙ o) in
     let e : d + (p + 1) + 1 ≡ d + p + 2 = omega arith in
-    let f : p + 1 + 1 ≡ p + 2 = omega arith in
     let third = (next_byte t u d m (p + 1) a one (ap is_onward (eqb-true _ _ second) ∙ o)).1 in
-    let last : byte u (d + p + 2) ≡ byte t (p + 2) = rw (← e, ← f) third in
+    let last : byte u (d + p + 2) ≡ byte t (p + 2) = rw (← e, ← (add_assoc p 1 1)) third in
     ap (λ b. b == x) last)
 
 far_end : (t u : List ℕ) (d m p : ℕ) → Alike t u d m → p + 3 < m

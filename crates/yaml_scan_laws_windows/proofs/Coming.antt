@@ -1,5 +1,5 @@
 -- What comes next is the same in both texts.
-use Rattle.std.proofs.Common.{◌≡◌, ℕ, ◌+◌, ◌<◌, ◌≤◌, ◌==◌, ◌&&◌, ◌||◌, nat_lt, if◌then◌else◌, Bool, true, false, not, List, [], ◌∷◌, ◌++◌, length, Option, Some, None, Result, Ok, Err, refl, sym, ap, ◌∙◌, inl, inr, arith}
+use Rattle.std.proofs.Common.{◌≡◌, ℕ, ◌+◌, ◌<◌, ◌≤◌, ◌&&◌, ◌||◌, nat_lt, if◌then◌else◌, Bool, true, false, not, List, [], ◌∷◌, ◌++◌, length, Option, Some, None, Result, Ok, Err, refl, sym, ap, ◌∙◌, inl, inr, arith}
 use Rattle.std.proofs.lemmas.Bool.{cases_Bool}
 use Rattle.yaml_scan_history.specs.scan_model.declared.record.yaml_mark_t.{yaml_mark_t}
 use Rattle.yaml_scan_history.specs.scan_model.declared.problem.ScanFault.{ScanFault}
@@ -18,7 +18,7 @@ use Rattle.yaml_scan_laws_windows.proofs.Bytes.{column_alike, line_alike}
 use Rattle.yaml_scan_laws_windows.proofs.Gaps.{GapsAlike, gap_alike}
 use Rattle.yaml_scan_laws_windows.proofs.Moving.{moved_by}
 use Rattle.yaml_scan_laws_windows.proofs.Words.{kind_alike, moved_word}
-use Rattle.yaml_scan_laws_windows.proofs.Histories.{Bases, moved_lexemes, moved_found, depth_on, length_on, candidate_on, near_moved, fresh_moved, has_moved, levels_on, allowed_on}
+use Rattle.yaml_scan_laws_windows.proofs.Histories.{Bases, moved_lexemes, moved_found, depth_on, length_on, candidate_on, near_moved, fresh_moved, has_moved, levels_on, allowed_on, candidate_moved}
 
 -- ---- parts of the definitions, moved
 
@@ -55,15 +55,17 @@ colon_moved : (d n : ℕ) (o : Option yaml_mark_t) (place : yaml_mark_t)
 colon_moved d n None place = refl
 colon_moved d n (Some start) place = refl
 
-first_moved : (d n : ℕ) (a b c e f : Option ScanFault) (l : Lexeme)
-    → first_fault_or (moved_fault d n a ∷ moved_fault d n b ∷ moved_fault d n c ∷ moved_fault d n e ∷ moved_fault d n f ∷ []) (Read (moved_lexeme d n l))
+first_moved : (d n : ℕ) (a b c e f : Option ScanFault) (l : Lexeme) (v w x y z : Option ScanFault)
+    (k : Lexeme) → v ≡ moved_fault d n a → w ≡ moved_fault d n b → x ≡ moved_fault d n c
+    → y ≡ moved_fault d n e → z ≡ moved_fault d n f → k ≡ moved_lexeme d n l
+    → first_fault_or (v ∷ w ∷ x ∷ y ∷ z ∷ []) (Read k)
     ≡ moved_next d n (first_fault_or (a ∷ b ∷ c ∷ e ∷ f ∷ []) (Read l))
-first_moved d n (Some x) b c e f l = refl
-first_moved d n None (Some x) c e f l = refl
-first_moved d n None None (Some x) e f l = refl
-first_moved d n None None None (Some x) f l = refl
-first_moved d n None None None None (Some x) l = refl
-first_moved d n None None None None None l = refl
+first_moved d n (Some g) b c e f l v w x y z k h i j o p q = rw h refl
+first_moved d n None (Some g) c e f l v w x y z k h i j o p q = rw (h, i) refl
+first_moved d n None None (Some g) e f l v w x y z k h i j o p q = rw (h, i, j) refl
+first_moved d n None None None (Some g) f l v w x y z k h i j o p q = rw (h, i, j, o) refl
+first_moved d n None None None None (Some g) l v w x y z k h i j o p q = rw (h, i, j, o, p) refl
+first_moved d n None None None None None l v w x y z k h i j o p q = rw (h, i, j, o, p, q) refl
 
 only_moved : (d n : ℕ) (a : Option ScanFault) (m : yaml_mark_t)
     → first_fault_or (moved_fault d n a ∷ []) (Fails (no_start (moved_mark d n m)))
@@ -275,30 +277,11 @@ text_there t u d m n k H G p x said =
     ap (λ (l : Lexeme). wrong_in u l.start (word_behind x u G)) (begun_there t u d m n k H G p x)
     ∙ wrong_there t u d m n x (begun_behind x t H).start (word_behind x t H) (word_behind x u G) said
 
-more : (d n k : ℕ) (l : Lexeme) (H G : List Lexeme) → length G ≡ k + length H
-    → ((e : ℕ) → candidate e G ≡ moved_found d n k (candidate e H))
-    → candidate 0 (moved_lexeme d n l ∷ G) ≡ moved_found d n k (candidate 0 (l ∷ H))
-unfolding candidate
-more d n k l H G count f =
-    elim (cases_Bool (l.depth == 0)) [
-      | inl i ↦ elim (cases_Bool l.saved) [
-        | inl j ↦ rw (i, j, count) refl
-        | inr j ↦ elim (cases_Bool (cancels l.kind)) [
-          | inl x ↦ rw (i, j, x) refl
-          | inr x ↦ rw (i, j, x) (f 0)
-        ]
-      ]
-      | inr i ↦ elim (cases_Bool (nat_lt l.depth 0)) [
-        | inl j ↦ rw (i, j) refl
-        | inr j ↦ rw (i, j) (f 0)
-      ]
-    ]
-
 after_there : (d n k : ℕ) (l : Lexeme) (H G : List Lexeme) → length G ≡ k + length H
     → ((e : ℕ) → candidate e G ≡ moved_found d n k (candidate e H))
     → stale_after (moved_lexeme d n l) G ≡ moved_fault d n (stale_after l H)
 after_there d n k l H G count f =
-    ap (λ o. colon_missing_of (missed o (moved_mark d n l.reached)) (moved_mark d n l.reached)) (more d n k l H G count f)
+    ap (λ o. colon_missing_of (missed o (moved_mark d n l.reached)) (moved_mark d n l.reached)) (candidate_moved d n k 0 l H G count (f 0))
     ∙ ap (λ o. colon_missing_of o (moved_mark d n l.reached)) (missed_moved d n k (candidate 0 (l ∷ H)) l.reached)
     ∙ colon_moved d n (missed (candidate 0 (l ∷ H)) l.reached) l.reached
 
@@ -308,19 +291,10 @@ coming_some : (t u : List ℕ) (d m n k : ℕ) (H G : List Lexeme) → Pair t u 
     → Said t u d m n x (word_behind x t H) (word_behind x u G)
     → coming (Some x) u G ≡ moved_next d n (coming (Some x) t H)
 coming_some t u d m n k H G p x said =
-    let a = stale_there t u d m n k H G p in
-    let b = misplaced_there t u d m n k H G p x in
-    let c = lost_there t u d m n k H G p x in
-    let e = text_there t u d m n k H G p x said in
     let l = lexeme_there t u d m n k H G p x said in
-    let f = ap (λ (z : Lexeme). stale_after z G) l ∙ after_there d n k (lexeme_behind x t H) H G p.count p.candidates in
-    ap (λ z. first_fault_or (z ∷ indicator_misplaced x u G ∷ candidate_lost x u G ∷ text_wrong x u G ∷ stale_after (lexeme_behind x u G) G ∷ []) (Read (lexeme_behind x u G))) a
-    ∙ ap (λ z. first_fault_or (moved_fault d n (stale_before t H) ∷ z ∷ candidate_lost x u G ∷ text_wrong x u G ∷ stale_after (lexeme_behind x u G) G ∷ []) (Read (lexeme_behind x u G))) b
-    ∙ ap (λ z. first_fault_or (moved_fault d n (stale_before t H) ∷ moved_fault d n (indicator_misplaced x t H) ∷ z ∷ text_wrong x u G ∷ stale_after (lexeme_behind x u G) G ∷ []) (Read (lexeme_behind x u G))) c
-    ∙ ap (λ z. first_fault_or (moved_fault d n (stale_before t H) ∷ moved_fault d n (indicator_misplaced x t H) ∷ moved_fault d n (candidate_lost x t H) ∷ z ∷ stale_after (lexeme_behind x u G) G ∷ []) (Read (lexeme_behind x u G))) e
-    ∙ ap (λ z. first_fault_or (moved_fault d n (stale_before t H) ∷ moved_fault d n (indicator_misplaced x t H) ∷ moved_fault d n (candidate_lost x t H) ∷ moved_fault d n (text_wrong x t H) ∷ z ∷ []) (Read (lexeme_behind x u G))) f
-    ∙ ap (λ z. first_fault_or (moved_fault d n (stale_before t H) ∷ moved_fault d n (indicator_misplaced x t H) ∷ moved_fault d n (candidate_lost x t H) ∷ moved_fault d n (text_wrong x t H) ∷ moved_fault d n (stale_after (lexeme_behind x t H) H) ∷ []) (Read z)) l
-    ∙ first_moved d n (stale_before t H) (indicator_misplaced x t H) (candidate_lost x t H) (text_wrong x t H) (stale_after (lexeme_behind x t H) H) (lexeme_behind x t H)
+    first_moved d n (stale_before t H) (indicator_misplaced x t H) (candidate_lost x t H) (text_wrong x t H) (stale_after (lexeme_behind x t H) H) (lexeme_behind x t H) _ _ _ _ _ _
+    (stale_there t u d m n k H G p) (misplaced_there t u d m n k H G p x) (lost_there t u d m n k H G p x) (text_there t u d m n k H G p x said)
+    (ap (λ (z : Lexeme). stale_after z G) l ∙ after_there d n k (lexeme_behind x t H) H G p.count p.candidates) l
 
 coming_none : (t u : List ℕ) (d m n k : ℕ) (H G : List Lexeme) → Pair t u d m n k H G
     → coming None u G ≡ moved_next d n (coming None t H)

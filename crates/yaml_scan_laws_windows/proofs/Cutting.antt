@@ -1,5 +1,5 @@
 -- Both parts of a text are alike in it.
-use Rattle.std.proofs.Common.{◌≡◌, ℕ, zero, suc, ◌+◌, ◌-◌, ◌<◌, ◌≤◌, ◌==◌, ◌&&◌, ◌||◌, Bool, true, false, List, [], ◌∷◌, ◌++◌, length, refl, sym, ap, ◌∙◌, inl, inr, ◌⊎◌, arith}
+use Rattle.std.proofs.Common.{zero-add, ◌≡◌, ℕ, zero, suc, ◌+◌, ◌-◌, ◌<◌, ◌≤◌, ◌==◌, ◌&&◌, ◌||◌, Bool, true, false, List, [], ◌∷◌, ◌++◌, length, refl, sym, ap, ◌∙◌, inl, inr, ◌⊎◌, arith}
 use Rattle.std.proofs.lemmas.Bool.{cases_Bool, cases_lt, eqb-true, true≢false}
 use Rattle.std.proofs.lemmas.Bool.Decides.{nat_tests}
 use Rattle.std.proofs.lemmas.List.{get_or_append_left, get_or-append-add, get_or_past, get_or_push, length-append, length_push}
@@ -220,8 +220,7 @@ front_next a b cut p l =
 front_ends : (a b : List ℕ) → IsCut a b → (p : ℕ) → p < length a
     → ends_break (a ++ b) (0 + p) ≡ ends_break a p
 front_ends a b cut p l =
-    let e : 0 + p ≡ p = omega arith in
-    rw (e, byte_left a b p l, byte_left a b (p - 1) (omega (arith, l)), byte_left a b (p - 2) (omega (arith, l)))
+    rw (zero-add p, byte_left a b p l, byte_left a b (p - 1) (omega (arith, l)), byte_left a b (p - 2) (omega (arith, l)))
     (feed_same (byte a (p - 2)) (byte a (p - 1)) (byte a p) (byte (a ++ b) (p + 1)) (byte a (p + 1)) (front_next a b cut p l))
 
 front_onward : (a b : List ℕ) → IsCut a b → (p : ℕ) → p < length a → is_onward (byte a p) ≡ true
@@ -241,8 +240,7 @@ wide_onward b n h l = let e = eqb-true _ _ h in grind (arith, nat_tests)
 front_bom : (a b : List ℕ) → IsCut a b → (p : ℕ) → p < length a
     → (0 + p == 0 && is_bom (a ++ b) (0 + p)) ≡ (p == 0 && is_bom a p)
 front_bom a b cut p l =
-    let e : 0 + p ≡ p = omega arith in
-    rw e (and_alike (p == 0) (p == 0) (is_bom (a ++ b) p) (is_bom a p) refl
+    rw (zero-add p) (and_alike (p == 0) (p == 0) (is_bom (a ++ b) p) (is_bom a p) refl
     (λ z. and_alike _ _ _ _ (ap (λ c. c == 0xEF) (byte_left a b p l))
     (λ h. let more = front_onward a b cut p l (wide_onward (byte a p) 0xEF h (omega arith)) in
     and_alike _ _ _ _ (ap (λ c. c == 0xBB) (byte_left a b (p + 1) more))

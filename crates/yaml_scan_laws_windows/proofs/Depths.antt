@@ -5,9 +5,8 @@ use Rattle.yaml_scan_history.specs.History.{depth}
 use Rattle.yaml_scan_history.specs.Next.{Next, Read, Fails, Ends, begun_behind, word_behind, next, extended, history}
 use Rattle.yaml_scan_history.specs.Remaining.{all}
 use Rattle.yaml_scan_laws_order.proofs.HistoryForward.{first_is, not_ended}
-use Rattle.yaml_scan_laws_windows.proofs.Stepping.{has_read}
+use Rattle.yaml_scan_laws_windows.proofs.Stepping.{has_read, kept}
 use Rattle.yaml_scan_laws_windows.proofs.Fronts.{next_open}
-use Rattle.yaml_scan_laws_windows.proofs.Rests.{depth_placed}
 
 abbrev pub AllDeep : List Lexeme → Type 0
 AllDeep [] = Unit {0}
@@ -19,7 +18,7 @@ read_deep t [] l e = ap (λ (y : Lexeme). y.depth) (sym (first_is t l e))
 read_deep t (x ∷ h) l e =
     let H = x ∷ h in
     let r = has_read t H l (sym (next_open t x h (not_ended t x h l e)) ∙ e) in
-    ap (λ (y : Lexeme). y.depth) (sym r.clean.is) ∙ depth_placed t (begun_behind r.kind t H) (word_behind r.kind t H)
+    ap (λ (y : Lexeme). y.depth) (sym r.clean.is) ∙ (kept t (begun_behind r.kind t H) (word_behind r.kind t H)).deep
 
 step_deep : (t : List ℕ) (h : List Lexeme) (x : Next) → next t h ≡ x → AllDeep h
     → AllDeep (extended x h)

@@ -1,5 +1,5 @@
 -- Directives are the same in both texts.
-use Rattle.std.proofs.Common.{◌≡◌, ℕ, zero, suc, ◌+◌, ◌-◌, ◌<◌, ◌≤◌, ◌==◌, ◌&&◌, nat_lt, Bool, true, false, not, List, Result, Ok, Err, refl, ap, ◌∙◌, inl, inr, arith}
+use Rattle.std.proofs.Common.{◌≡◌, ℕ, zero, suc, ◌+◌, ◌-◌, ◌<◌, ◌≤◌, ◌==◌, ◌&&◌, nat_lt, Bool, true, false, List, Result, Ok, Err, refl, ap, ◌∙◌, inl, inr, arith, add_assoc}
 use Rattle.std.proofs.lemmas.Bool.{cases_Bool, eqb-true}
 use Rattle.std.proofs.lemmas.Bool.Decides.{nat_tests}
 use Rattle.yaml_scan_history.specs.scan_model.declared.problem.Context.TheVariants as contexts
@@ -14,7 +14,7 @@ use Rattle.yaml_scan_laws_windows.proofs.Bytes.{width_alike, end_alike, and_alik
 use Rattle.yaml_scan_laws_windows.proofs.Running.{range_alike}
 use Rattle.yaml_scan_laws_windows.proofs.Gaps.{break_within}
 use Rattle.yaml_scan_laws_windows.proofs.Moving.{moved_by, at_step}
-use Rattle.yaml_scan_laws_windows.proofs.Names.{Alike_in, PairAlike, Run_in, run_in, some_uri_alike, letter_onward}
+use Rattle.yaml_scan_laws_windows.proofs.Names.{Alike_in, PairAlike, Run_in, run_in, some_uri_alike, letter_onward, moved_equal}
 
 -- ---- numbers
 
@@ -26,9 +26,6 @@ decimal_alike (suc n) t u d m p a l =
     let e : d + p + n ≡ d + (p + n) = omega arith in
     rw (e, a.bytes (p + n) (omega (arith, l)), decimal_alike n t u d m p a (omega (arith, l))) refl
 
-equal_moved : (d p q : ℕ) → (d + p == d + q) ≡ (p == q)
-equal_moved d p q = grind (arith, nat_tests)
-
 less_moved : (d p q : ℕ) → nat_lt (d + p + 9) (d + q) ≡ nat_lt (p + 9) q
 less_moved d p q = grind (arith, nat_tests)
 
@@ -36,13 +33,12 @@ number_from : (t u : List ℕ) (d m p q : ℕ) → Alike t u d m → p ≤ q →
     → PairAlike d m (number_between t p q) (number_between u (d + p) (d + q))
 number_from t u d m p q a f l =
     let e : d + q - (d + p) ≡ q - p = omega (arith, f) in
-    let g : d + p + 9 ≡ d + (p + 9) = omega arith in
     elim (cases_Bool (q == p)) [
-      | inl h ↦ rw (h, equal_moved d q p ∙ h) record { same = refl; ends = tt }
+      | inl h ↦ rw (h, moved_equal d q p ∙ h) record { same = refl; ends = tt }
       | inr h ↦ elim (cases_Bool (nat_lt (p + 9) q)) [
-        | inl i ↦ rw (h, equal_moved d q p ∙ h, i, less_moved d p q ∙ i, g) record { same = refl; ends = tt }
+        | inl i ↦ rw (h, moved_equal d q p ∙ h, i, less_moved d p q ∙ i, add_assoc d p 9) record { same = refl; ends = tt }
         | inr i ↦
-            rw (h, equal_moved d q p ∙ h, i, less_moved d p q ∙ i, e, decimal_alike (q - p) t u d m p a (omega (arith, f, l))) record { same = refl; ends = l }
+            rw (h, moved_equal d q p ∙ h, i, less_moved d p q ∙ i, e, decimal_alike (q - p) t u d m p a (omega (arith, f, l))) record { same = refl; ends = l }
       ]
     ]
 
@@ -78,21 +74,19 @@ major_alike d m major (Ok x) s k = let same = k.same in rw same record { same = 
 minor_alike : (t u : List ℕ) (d m major q : ℕ) → Alike t u d m → q < m
     → ValueAlike d m (minor_at t major q) (minor_at u major (d + q))
 minor_alike t u d m major q a l =
-    let test : (byte u (d + q) == 46) ≡ (byte t q == 46) = ap (λ b. b == 46) (a.bytes q l) in
-    let move : d + q + 1 ≡ d + (q + 1) = omega arith in
-    elim (cases_Bool (byte t q == 46)) [
+    rw (a.bytes q l, add_assoc d q 1)
+    (elim (cases_Bool (byte t q == 46)) [
       | inl h ↦
           let dot : byte t q ≡ 46 = eqb-true _ _ h in
           let more = a.onward q l (letter_onward (byte t q) (omega (arith, dot))) in
-          rw (h, test ∙ h, move) (major_alike d m major (number_at t (q + 1)) (number_at u (d + (q + 1))) (number_alike t u d m (q + 1) a more))
-      | inr h ↦ rw (h, test ∙ h) record { same = refl; ends = tt }
-    ]
+          rw h (major_alike d m major (number_at t (q + 1)) (number_at u (d + (q + 1))) (number_alike t u d m (q + 1) a more))
+      | inr h ↦ rw h record { same = refl; ends = tt }
+    ])
 
 version_from : (t u : List ℕ) (d m p q r : ℕ) → Alike t u d m → Run_in t u d m p q r
     → ValueAlike d m (then_at (minor_at t) (number_at t q)) (then_at (minor_at u) (number_at u r))
 version_from t u d m p q r a run =
-    let same = run.same in
-    rw same (then_alike d m (minor_at t) (minor_at u) (number_at t q) (number_at u (d + q)) (λ x y l. minor_alike t u d m x y a l) (number_alike t u d m q a run.inside))
+    rw run.same (then_alike d m (minor_at t) (minor_at u) (number_at t q) (number_at u (d + q)) (λ x y l. minor_alike t u d m x y a l) (number_alike t u d m q a run.inside))
 
 version_alike : (t u : List ℕ) (d m p : ℕ) → Alike t u d m → p < m
     → ValueAlike d m (version_at t p) (version_at u (d + p))
@@ -104,25 +98,22 @@ version_alike t u d m p a l = version_from t u d m p _ _ a (run_in t u d m p _ a
 handle_from : (t u : List ℕ) (d m p q r : ℕ) → Alike t u d m → Run_in t u d m (p + 1) q r
     → PairAlike d m (handle_between t p q) (handle_between u (d + p) r)
 handle_from t u d m p q r a run =
-    let same = run.same in
     let l = run.inside in
-    let order = run.order in
     let test : (byte u (d + q) == 33) ≡ (byte t q == 33) = ap (λ b. b == 33) (a.bytes q l) in
-    let move : d + q + 1 ≡ d + (q + 1) = omega arith in
     let next : d + p + 1 ≡ d + (p + 1) = omega arith in
     elim (cases_Bool (byte t q == 33)) [
       | inl h ↦
           let mark : byte t q ≡ 33 = eqb-true _ _ h in
           let on = letter_onward (byte t q) (omega (arith, mark)) in
           let at = at_step t u d m q a l (onward_some _ on) in
-          rw (same, h, test ∙ h, move, range_alike t u d m p (q + 1) a (omega (arith, order)) at.inside at.short at.long) record { same = refl; ends = a.onward q l on }
+          rw (run.same, h, test ∙ h, add_assoc d q 1, range_alike t u d m p (q + 1) a (omega (arith, run.order)) at.inside at.short at.long) record { same = refl; ends = a.onward q l on }
       | inr h ↦ elim (cases_Bool (q == p + 1)) [
         | inl i ↦
-            let i2 : (d + q == d + p + 1) ≡ true = rw next (equal_moved d q (p + 1) ∙ i) in
-            rw (same, h, test ∙ h, i, i2, range_alike t u d m p q a (omega (arith, order)) (omega (arith, l)) run.short run.long) record { same = refl; ends = l }
+            let i2 : (d + q == d + p + 1) ≡ true = rw next (moved_equal d q (p + 1) ∙ i) in
+            rw (run.same, h, test ∙ h, i, i2, range_alike t u d m p q a (omega (arith, run.order)) (omega (arith, l)) run.short run.long) record { same = refl; ends = l }
         | inr i ↦
-            let i2 : (d + q == d + p + 1) ≡ false = rw next (equal_moved d q (p + 1) ∙ i) in
-            rw (same, h, test ∙ h, i, i2) record { same = refl; ends = tt }
+            let i2 : (d + q == d + p + 1) ≡ false = rw next (moved_equal d q (p + 1) ∙ i) in
+            rw (run.same, h, test ∙ h, i, i2) record { same = refl; ends = tt }
       ]
     ]
 
@@ -131,12 +122,11 @@ handle_alike : (t u : List ℕ) (d m p : ℕ) → Alike t u d m → p < m
 unfolding belongs
 handle_alike t u d m p a l =
     let test : (byte u (d + p) == 33) ≡ (byte t p == 33) = ap (λ b. b == 33) (a.bytes p l) in
-    let move : d + p + 1 ≡ d + (p + 1) = omega arith in
     elim (cases_Bool (byte t p == 33)) [
       | inl h ↦
           let mark : byte t p ≡ 33 = eqb-true _ _ h in
           let more = a.onward p l (letter_onward (byte t p) (omega (arith, mark))) in
-          let run : Run_in t u d m (p + 1) (name_end t p) (name_end u (d + p)) = rw move (run_in t u d m (p + 1) _ a (λ x y. rw (a.bytes x y) refl) more) in
+          let run : Run_in t u d m (p + 1) (name_end t p) (name_end u (d + p)) = rw (add_assoc d p 1) (run_in t u d m (p + 1) _ a (λ x y. rw (a.bytes x y) refl) more) in
           rw (h, test ∙ h) (handle_from t u d m p (name_end t p) (name_end u (d + p)) a run)
       | inr h ↦ rw (h, test ∙ h) record { same = refl; ends = tt }
     ]
@@ -145,20 +135,17 @@ prefix_ends : (t u : List ℕ) (d m : ℕ) (r s : Result (List ℕ × ℕ) Wrong
     → PairAlike d m r s → PairAlike d m (prefix_ended t r) (prefix_ended u s)
 prefix_ends t u d m (Err w) s a h = let same = h.same in rw same record { same = refl; ends = tt }
 prefix_ends t u d m (Ok x) s a h =
-    let same = h.same in
-    let l = h.ends in
-    let test = end_alike t u d m x.1 a l in
+    let test = end_alike t u d m x.1 a h.ends in
     elim (cases_Bool (is_blank_or_end t x.1)) [
-      | inl e ↦ rw (same, e, test ∙ e) record { same = refl; ends = l }
-      | inr e ↦ rw (same, e, test ∙ e) record { same = refl; ends = tt }
+      | inl e ↦ rw (h.same, e, test ∙ e) record { same = refl; ends = h.ends }
+      | inr e ↦ rw (h.same, e, test ∙ e) record { same = refl; ends = tt }
     ]
 
 prefix_from : (t u : List ℕ) (d m p q r : ℕ) → Alike t u d m → Run_in t u d m p q r
     → PairAlike d m (prefix_ended t (some_uri_at contexts.TagDirectiveUri true t q))
     (prefix_ended u (some_uri_at contexts.TagDirectiveUri true u r))
 prefix_from t u d m p q r a run =
-    let same = run.same in
-    rw same (prefix_ends t u d m (some_uri_at contexts.TagDirectiveUri true t q) (some_uri_at contexts.TagDirectiveUri true u (d + q)) a (some_uri_alike contexts.TagDirectiveUri true t u d m q a run.inside))
+    rw run.same (prefix_ends t u d m (some_uri_at contexts.TagDirectiveUri true t q) (some_uri_at contexts.TagDirectiveUri true u (d + q)) a (some_uri_alike contexts.TagDirectiveUri true t u d m q a run.inside))
 
 prefix_alike : (t u : List ℕ) (d m p : ℕ) → Alike t u d m → p < m
     → PairAlike d m (prefix_at t p) (prefix_at u (d + p))
@@ -179,8 +166,7 @@ tag_from : (t u : List ℕ) (d m p q r : ℕ) → Alike t u d m → Run_in t u d
     → ValueAlike d m (then_at (λ handle x. with_prefix handle (prefix_at t x)) (handle_at t q))
     (then_at (λ handle x. with_prefix handle (prefix_at u x)) (handle_at u r))
 tag_from t u d m p q r a run =
-    let same = run.same in
-    rw same (then_alike d m (λ handle x. with_prefix handle (prefix_at t x)) (λ handle x. with_prefix handle (prefix_at u x)) (handle_at t q) (handle_at u (d + q))
+    rw run.same (then_alike d m (λ handle x. with_prefix handle (prefix_at t x)) (λ handle x. with_prefix handle (prefix_at u x)) (handle_at t q) (handle_at u (d + q))
     (λ handle x l. handled_alike d m handle (prefix_at t x) (prefix_at u (d + x)) (prefix_alike t u d m x a l)) (handle_alike t u d m q a run.inside))
 
 tag_alike : (t u : List ℕ) (d m p : ℕ) → Alike t u d m → p < m
@@ -202,21 +188,19 @@ last_spelled t u d m p x a l = ap (λ b. b == x) (a.bytes p l)
 
 yaml_alike : (t u : List ℕ) (d m p : ℕ) → Alike t u d m → p < m → is_yaml u (d + p) ≡ is_yaml t p
 yaml_alike t u d m p a l =
-    let e : d + p + 1 ≡ d + (p + 1) = omega arith in
     let f : d + p + 2 ≡ d + (p + 1 + 1) = omega arith in
     let g : d + p + 3 ≡ d + (p + 1 + 1 + 1) = omega arith in
     let h : p + 2 ≡ p + 1 + 1 = omega arith in
     let i : p + 3 ≡ p + 1 + 1 + 1 = omega arith in
-    rw (e, f, g, h, i)
+    rw (add_assoc d p 1, f, g, h, i)
     (spelled t u d m p 89 a l (omega arith) _ _ (λ x. spelled t u d m (p + 1) 65 a x (omega arith) _ _
     (λ y. spelled t u d m (p + 1 + 1) 77 a y (omega arith) _ _ (λ z. last_spelled t u d m (p + 1 + 1 + 1) 76 a z))))
 
 named_tag : (t u : List ℕ) (d m p : ℕ) → Alike t u d m → p < m → is_tag u (d + p) ≡ is_tag t p
 named_tag t u d m p a l =
-    let e : d + p + 1 ≡ d + (p + 1) = omega arith in
     let f : d + p + 2 ≡ d + (p + 1 + 1) = omega arith in
     let h : p + 2 ≡ p + 1 + 1 = omega arith in
-    rw (e, f, h)
+    rw (add_assoc d p 1, f, h)
     (spelled t u d m p 84 a l (omega arith) _ _ (λ x. spelled t u d m (p + 1) 65 a x (omega arith) _ _
     (λ y. last_spelled t u d m (p + 1 + 1) 71 a y)))
 
@@ -224,34 +208,28 @@ value_from : (t u : List ℕ) (d m p q r : ℕ) → Alike t u d m → p < m → 
     → ValueAlike d m (then_at (named_value_at t) (name_between t p q))
     (then_at (named_value_at u) (name_between u (d + p) r))
 value_from t u d m p q r a l run =
-    let same = run.same in
-    let order = run.order in
-    let inside = run.inside in
-    let long : d + q - (d + p) ≡ q - p = omega (arith, order) in
-    let ended : not (is_blank_or_end u (d + q)) ≡ not (is_blank_or_end t q) = ap not (end_alike t u d m q a inside) in
-    let yaml : (is_yaml u (d + p) && d + q - (d + p) == 4) ≡ (is_yaml t p && q - p == 4) = rw (long, yaml_alike t u d m p a l) refl in
-    let tag : (is_tag u (d + p) && d + q - (d + p) == 3) ≡ (is_tag t p && q - p == 3) = rw (long, named_tag t u d m p a l) refl in
-    elim (cases_Bool (p == q)) [
-      | inl h ↦ rw (same, h, equal_moved d p q ∙ h) record { same = refl; ends = tt }
-      | inr h ↦ elim (cases_Bool (not (is_blank_or_end t q))) [
-        | inl i ↦ rw (same, h, equal_moved d p q ∙ h, i, ended ∙ i) record { same = refl; ends = tt }
-        | inr i ↦ elim (cases_Bool (is_yaml t p && q - p == 4)) [
-          | inl j ↦ rw (same, h, equal_moved d p q ∙ h, i, ended ∙ i, j, yaml ∙ j) (version_alike t u d m q a inside)
+    let long : d + q - (d + p) ≡ q - p = omega (arith, run.order) in
+    rw (run.same, moved_equal d p q, end_alike t u d m q a run.inside, long, yaml_alike t u d m p a l, named_tag t u d m p a l)
+    (elim (cases_Bool (p == q)) [
+      | inl h ↦ rw h record { same = refl; ends = tt }
+      | inr h ↦ elim (cases_Bool (is_blank_or_end t q)) [
+        | inr i ↦ rw (h, i) record { same = refl; ends = tt }
+        | inl i ↦ elim (cases_Bool (is_yaml t p && q - p == 4)) [
+          | inl j ↦ rw (h, i, j) (version_alike t u d m q a run.inside)
           | inr j ↦ elim (cases_Bool (is_tag t p && q - p == 3)) [
-            | inl k ↦ rw (same, h, equal_moved d p q ∙ h, i, ended ∙ i, j, yaml ∙ j, k, tag ∙ k) (tag_alike t u d m q a inside)
-            | inr k ↦ rw (same, h, equal_moved d p q ∙ h, i, ended ∙ i, j, yaml ∙ j, k, tag ∙ k) record { same = refl; ends = tt }
+            | inl k ↦ rw (h, i, j, k) (tag_alike t u d m q a run.inside)
+            | inr k ↦ rw (h, i, j, k) record { same = refl; ends = tt }
           ]
         ]
       ]
-    ]
+    ])
 
 values_alike : (t u : List ℕ) (d m p : ℕ) → Alike t u d m → p < m → is_onward (byte t p) ≡ true
     → ValueAlike d m (value_at t p) (value_at u (d + p))
 unfolding belongs
 values_alike t u d m p a l on =
     let more = a.onward p l on in
-    let move : d + p + 1 ≡ d + (p + 1) = omega arith in
-    rw move (value_from t u d m (p + 1) _ _ a more (run_in t u d m (p + 1) _ a (λ x y. rw (a.bytes x y) refl) more))
+    rw (add_assoc d p 1) (value_from t u d m (p + 1) _ _ a more (run_in t u d m (p + 1) _ a (λ x y. rw (a.bytes x y) refl) more))
 
 -- ---- the rest of the line
 
@@ -287,17 +265,14 @@ comment_alike t u d m p a l =
 broken_alike : (t u : List ℕ) (d m p : ℕ) → Alike t u d m → p < m
     → PlacesAlike d m (break_end t p) (break_end u (d + p))
 broken_alike t u d m p a l =
-    let width = width_alike t u d m p a l in
-    let wide : nat_lt 0 (break_width u (d + p)) ≡ nat_lt 0 (break_width t p) = ap (λ w. nat_lt 0 w) width in
-    let test : (byte u (d + p) == 0) ≡ (byte t p == 0) = ap (λ b. b == 0) (a.bytes p l) in
-    let move : d + p + break_width t p ≡ d + (p + break_width t p) = omega arith in
-    elim (cases_Bool (nat_lt 0 (break_width t p))) [
-      | inl h ↦ rw (h, wide ∙ h, width, move) record { same = refl; placed = break_within t u d m p a l }
+    rw (width_alike t u d m p a l, a.bytes p l, add_assoc d p (break_width t p))
+    (elim (cases_Bool (nat_lt 0 (break_width t p))) [
+      | inl h ↦ rw h record { same = refl; placed = break_within t u d m p a l }
       | inr h ↦ elim (cases_Bool (byte t p == 0)) [
-        | inl i ↦ rw (h, wide ∙ h, i, test ∙ i) record { same = refl; placed = omega (arith, l) }
-        | inr i ↦ rw (h, wide ∙ h, i, test ∙ i) record { same = refl; placed = tt }
+        | inl i ↦ rw (h, i) record { same = refl; placed = omega (arith, l) }
+        | inr i ↦ rw (h, i) record { same = refl; placed = tt }
       ]
-    ]
+    ])
 
 behind_comment : (t u : List ℕ) (d m q r : ℕ) → Alike t u d m → PlaceAlike d m q r
     → PlacesAlike d m (break_end t q) (break_end u r)
@@ -306,8 +281,7 @@ behind_comment t u d m q r a h = let same = h.same in rw same (broken_alike t u 
 line_from : (t u : List ℕ) (d m p q r : ℕ) → Alike t u d m → Run_in t u d m p q r
     → PlacesAlike d m (break_end t (comment_end t q)) (break_end u (comment_end u r))
 line_from t u d m p q r a run =
-    let same = run.same in
-    rw same (behind_comment t u d m (comment_end t q) (comment_end u (d + q)) a (comment_alike t u d m q a run.inside))
+    rw run.same (behind_comment t u d m (comment_end t q) (comment_end u (d + q)) a (comment_alike t u d m q a run.inside))
 
 line_alike : (t u : List ℕ) (d m p : ℕ) → Alike t u d m → p < m
     → PlacesAlike d m (line_end_at t p) (line_end_at u (d + p))
@@ -336,8 +310,7 @@ finished_alike : (t u : List ℕ) (d m : ℕ) (r s : Result ValueText Wrong) →
     → ValueAlike d m r s → DirectivesAlike d m (finished t r) (finished u s)
 finished_alike t u d m (Err w) s a h = let same = h.same in rw same record { same = refl; placed = tt }
 finished_alike t u d m (Ok v) s a h =
-    let same = h.same in
-    rw same (lined_alike d m v (line_end_at t v.end) (line_end_at u (d + v.end)) (line_alike t u d m v.end a h.ends))
+    rw h.same (lined_alike d m v (line_end_at t v.end) (line_end_at u (d + v.end)) (line_alike t u d m v.end a h.ends))
 
 pub directive_alike : (t u : List ℕ) (d m p : ℕ) → Alike t u d m → p < m
     → is_onward (byte t p) ≡ true → DirectivesAlike d m (directive_at t p) (directive_at u (d + p))

@@ -275,8 +275,8 @@ cross (suc k) line b e allowed p n o far l room fuel more there =
 abbrev pub line_base : List ℕ → List Lexeme
 line_base t = rest_base kinds.DocumentEnd t
 
-pub line_mark : (t : List ℕ) → is_document_end t 0 ≡ true → MarkStands false t 0
-line_mark t h = record { kind = kinds.DocumentEnd; body = tokens.document_end; is = end_mark; stands = finishes false t 0 h }
+pub line_mark : (t : List ℕ) → is_document_end t 0 ≡ true → MarkStands t 0
+line_mark t h = record { kind = kinds.DocumentEnd; body = tokens.document_end; is = end_mark; stands = λ flow. finishes flow t 0 h }
 
 first_candidate : (e : ℕ) → candidate e (first_lexeme ∷ []) ≡ None
 unfolding candidate
@@ -328,13 +328,11 @@ pub line_ground : (line b : List ℕ) → IsEndLine line → is_bom b 0 ≡ fals
 line_ground line b e none there =
     let U = line ++ b in
     let long = line_long line e in
-    let whole_long = length-append line b in
     let alike = fed_alike line b e.feed none in
     let bases = line_bases U (length line) (line_at U (length line)) in
     let c = cross (length line) line b e false 3 (length line) (length U) (omega arith) (omega (arith, long)) (omega arith) (omega arith) (omega arith) there in
-    let room = c.room in
     let first : length line + 0 ≡ length line = omega arith in
-    let gaps = gap_by (length b) b U (length line) (suc (length b)) false true 0 (length b) c.left alike (omega arith) (omega arith) (omega arith) (omega (arith, room)) in
+    let gaps = gap_by (length b + 2) b U (length line) (suc (length b)) false true 0 (length b) c.left alike (omega arith) (omega arith) (omega arith) (omega (arith, c.room)) in
     let crossed : gap_behind U (line_base U) ≡ with_break true (gap_within c.left false true U (length line + 0)) =
     line_gap U ∙ c.crossed ∙ ap (λ q. with_break true (gap_within c.left false true U q)) (sym first) in
     record {

@@ -101,14 +101,13 @@ keyed_on d n k l h b c s es None e = (es, refl, refl, λ x t u y. y)
 keyed_on d n k l h b c s es (Some f) e =
     let lv = inside l (h ++ b) in
     let high = above h b l.depth f s.mine (fresh_is (candidate l.depth (h ++ b)) l.start f e) in
-    let count = s.count in
     let long : length (entries b) ≡ length b = length-entries b in
     let wide : length (entries c) ≡ length c = length-entries c in
     let i = f.number - length (entries b) in
-    let same : k + f.number - length (entries c) ≡ i = omega (arith, count, long, wide) in (
+    let same : k + f.number - length (entries c) ≡ i = omega (arith, s.count, long, wide) in (
       mark_key lv es i,
       mark_right lv (entries b) es f.number (omega (arith, high, long)),
-      mark_right lv (entries c) (map (moved_entry d n) es) (k + f.number) (omega (arith, high, long, wide, count))
+      mark_right lv (entries c) (map (moved_entry d n) es) (k + f.number) (omega (arith, high, long, wide, s.count))
           ∙ ap (λ z. entries c ++ mark_key lv (map (moved_entry d n) es) z) same
           ∙ ap (λ z. entries c ++ z) (mark_moved d n lv es i),
       λ x t u y. say_mark x t u d n lv es i y,
@@ -124,7 +123,6 @@ keyed_same d n k l h b c s es =
       | inr v ↦ (es, off v (marked (found_by l (h ++ b)) (inside l (h ++ b)) (entries b ++ es)) (entries b ++ es), off v (marked (found_by (moved_lexeme d n l) (moved_lexemes d n h ++ c)) (inside (moved_lexeme d n l) (moved_lexemes d n h ++ c)) (entries c ++ map (moved_entry d n) es)) (entries c ++ map (moved_entry d n) es), λ x t u y. y)
       | inl v ↦
           let (more, mine, others, say) = keyed_on d n k l h b c s es (found_by l (h ++ b)) refl in
-          let lv = inside l (h ++ b) in
           let ys = entries c ++ map (moved_entry d n) es in (
             more,
             on v _ (entries b ++ es) ∙ mine,
@@ -220,8 +218,7 @@ first_on : (d n k : ℕ) (g h b c : List Lexeme) → Bases d n k b c
     ≡ k + first_open (h ++ b) (g ++ b)
 unfolding first_open
 first_on d n k [] h b c s =
-    let count = s.count in
-    none_open (moved_lexemes d n h ++ c) c (λ e f is. let up = others e f is in omega (arith, up, count)) ∙ count
+    none_open (moved_lexemes d n h ++ c) c (λ e f is. let up = others e f is in omega (arith, up, s.count)) ∙ s.count
     ∙ ap (λ z. k + z) (sym (none_open (h ++ b) b (λ e f is. above h b e f s.mine is)))
   where
     lower : (e : ℕ) (f : Candidate) (o : Option Candidate) → candidate e (h ++ b) ≡ o

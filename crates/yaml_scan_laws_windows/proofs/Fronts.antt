@@ -1,5 +1,5 @@
 -- The lexemes of the front are the first ones of the whole.
-use Rattle.std.proofs.Common.{◌≡◌, ◌≢◌, ℕ, zero, suc, ◌+◌, ◌<◌, ◌≤◌, true, false, List, [], ◌∷◌, ◌++◌, length, Option, Some, None, refl, sym, ap, ◌∙◌, inl, inr, arith}
+use Rattle.std.proofs.Common.{zero-add, ◌≡◌, ◌≢◌, ℕ, zero, suc, ◌<◌, ◌≤◌, true, false, List, [], ◌∷◌, ◌++◌, length, Option, Some, None, refl, sym, ap, ◌∙◌, inl, inr, arith}
 use Rattle.std.proofs.lemmas.Bool.{cases_Bool, true≢false}
 use Rattle.yaml_scan_history.specs.scan_model.declared.record.yaml_mark_t.{yaml_mark_t}
 use Rattle.yaml_scan_history.specs.scan_model.declared.problem.ScanFault.{ScanFault}
@@ -20,9 +20,7 @@ use Rattle.yaml_scan_laws_windows.proofs.Stepping.{front_comes}
 
 pub mark_zero : (m : yaml_mark_t) → moved_mark 0 0 m ≡ m
 mark_zero m =
-    let e : 0 + m.index ≡ m.index = omega arith in
-    let f : 0 + m.line ≡ m.line = omega arith in
-    rw (e, f) refl
+    rw (zero-add m.index, zero-add m.line) refl
 
 pub lexeme_zero : (l : Lexeme) → moved_lexeme 0 0 l ≡ l
 lexeme_zero l = rw (mark_zero l.start, mark_zero l.end, mark_zero l.reached) refl
@@ -30,8 +28,7 @@ lexeme_zero l = rw (mark_zero l.start, mark_zero l.end, mark_zero l.reached) ref
 found_zero : (o : Option Candidate) → moved_found 0 0 0 o ≡ o
 found_zero None = refl
 found_zero (Some c) =
-    let e : 0 + c.number ≡ c.number = omega arith in
-    rw (e, lexeme_zero c.lexeme) refl
+    rw (zero-add c.number, lexeme_zero c.lexeme) refl
 
 -- the same lexemes stand in both
 pub front_pair : (a b : List ℕ) → IsCut a b → (H : List Lexeme) → (reached H).index ≤ length a

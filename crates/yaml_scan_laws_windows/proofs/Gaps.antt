@@ -12,6 +12,7 @@ use Rattle.yaml_scan_history.proofs.WordsRunsLemmas.{run_further}
 use Rattle.yaml_scan_laws_windows.specs.Alike.{Alike, is_onward}
 use Rattle.yaml_scan_laws_windows.proofs.Bytes.{IsQuiet, quiet_edge, quiet_break, width_alike, onward_some}
 use Rattle.yaml_scan_laws_windows.proofs.Running.{run_alike}
+use Rattle.std.proofs.Math.Bool.{and-false}
 
 -- the gap at a place that is moved by d
 abbrev pub moved_gap : ℕ → Gap → Gap
@@ -151,18 +152,9 @@ gap_stops (suc n) flow allowed text p h k =
 
 quiet_parts : (b c e : ℕ) (first tabs : Bool) → IsQuiet b
     → ((first && (b == 0xEF && (c == 0xBB && e == 0xBF))) || ((b == 32 || (tabs && b == 9)) || b == 35)) ≡ false
-quiet_parts b c e true true (inl z) = rw z refl
-quiet_parts b c e true true (inr (inl z)) = rw z refl
-quiet_parts b c e true true (inr (inr z)) = rw z refl
-quiet_parts b c e true false (inl z) = rw z refl
-quiet_parts b c e true false (inr (inl z)) = rw z refl
-quiet_parts b c e true false (inr (inr z)) = rw z refl
-quiet_parts b c e false true (inl z) = rw z refl
-quiet_parts b c e false true (inr (inl z)) = rw z refl
-quiet_parts b c e false true (inr (inr z)) = rw z refl
-quiet_parts b c e false false (inl z) = rw z refl
-quiet_parts b c e false false (inr (inl z)) = rw z refl
-quiet_parts b c e false false (inr (inr z)) = rw z refl
+quiet_parts b c e first tabs (inl z) = rw (z, and-false first, and-false tabs) refl
+quiet_parts b c e first tabs (inr (inl z)) = rw (z, and-false first, and-false tabs) refl
+quiet_parts b c e first tabs (inr (inr z)) = rw (z, and-false first, and-false tabs) refl
 
 -- no gap stands before what is quiet
 pub quiet_gap : (n : ℕ) (flow allowed : Bool) (text : List ℕ) (p : ℕ) → IsQuiet (byte text p)
@@ -200,22 +192,9 @@ left_step p zero x h l = absurd (omega (arith, h, l))
 left_step p (suc n) x h l = (n, refl, omega (arith, h))
 
 pub gap_by : (k : ℕ) (t u : List ℕ) (d m : ℕ) (flow allowed : Bool) (p n o : ℕ) → Alike t u d m
-    → p ≤ m → length t ≤ p + k → length t ≤ p + n → length u ≤ d + p + o
+    → p ≤ m → length t + 1 < p + k → length t ≤ p + n → length u ≤ d + p + o
     → Gaps t u d m flow allowed p n o
-gap_by zero t u d m flow allowed p n o a l room fuel more =
-    elim (cases_lt p m) [
-      | inr past ↦ gap_edge t u d m flow allowed p n o a (omega (arith, l, past))
-      | inl on ↦ elim (cases_Bool (is_passed (flow || not allowed) t p)) [
-        | inl h ↦
-            let passed = passed_place (flow || not allowed) t u d m p a on h in
-            let here = within t p passed.some in
-            absurd (omega (arith, room, here))
-        | inr h ↦ elim (cases_Bool (nat_lt 0 (break_width t p))) [
-          | inl k ↦ let here = break_inside t p (ltb-true _ _ k) in absurd (omega (arith, room, here))
-          | inr k ↦ gap_over t u d m flow allowed p n o l (gap_stops n flow allowed t p h k) (gap_stops o flow allowed u (d + p) (passed_alike (flow || not allowed) t u d m p a on ∙ h) (ap (λ w. nat_lt 0 w) (width_alike t u d m p a on) ∙ k))
-        ]
-      ]
-    ]
+gap_by zero t u d m flow allowed p n o a l room fuel more = let short = a.short in absurd (omega (arith, room, l, short))
 gap_by (suc k) t u d m flow allowed p n o a l room fuel more =
     elim (cases_lt p m) [
       | inr past ↦ gap_edge t u d m flow allowed p n o a (omega (arith, l, past))
@@ -228,8 +207,7 @@ gap_by (suc k) t u d m flow allowed p n o a l room fuel more =
             let (x, e, left) = left_step p n (length t) fuel here in
             let (y, f, rest) = left_step (d + p) o (length u) more there in
             let q = (step_at (flow || not allowed) t p).place in
-            let further = passed.further in
-            let step = gap_by k t u d m flow allowed q x y a passed.inside (omega (arith, room, further)) (omega (arith, left, further)) (omega (arith, rest, further)) in
+            let step = gap_by k t u d m flow allowed q x y a passed.inside (omega (arith, room, passed.further)) (omega (arith, left, passed.further)) (omega (arith, rest, passed.further)) in
             let last : Gaps t u d m flow allowed p (suc x) (suc y) =
             rw (gap_passes x flow allowed t p h, gap_passes y flow allowed u (d + p) (passed_alike (flow || not allowed) t u d m p a on ∙ h), passed.same) step in
             rw (e, f) last
@@ -255,4 +233,4 @@ gap_by (suc k) t u d m flow allowed p n o a l room fuel more =
 
 pub gap_alike : (t u : List ℕ) (d m : ℕ) (flow allowed : Bool) (p : ℕ) → Alike t u d m → p ≤ m
     → GapsAlike d m (gap_at flow allowed t p) (gap_at flow allowed u (d + p))
-gap_alike t u d m flow allowed p a l = gap_by (length t) t u d m flow allowed p (length t) (length u) a l (omega arith) (omega arith) (omega arith)
+gap_alike t u d m flow allowed p a l = gap_by (length t + 2) t u d m flow allowed p (length t) (length u) a l (omega arith) (omega arith) (omega arith)

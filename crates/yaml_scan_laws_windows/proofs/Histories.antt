@@ -37,27 +37,32 @@ depth_on d n k (l ∷ h) b c s = refl
 pub length_on : (d n k : ℕ) (h b c : List Lexeme) → Bases d n k b c
     → length (moved_lexemes d n h ++ c) ≡ k + length (h ++ b)
 length_on d n k h b c s =
-    let count = s.count in
-    omega (arith, count, length-append h b, length-append (moved_lexemes d n h) c, length-map h (moved_lexeme d n))
+    omega (arith, s.count, length-append h b, length-append (moved_lexemes d n h) c, length-map h (moved_lexeme d n))
 
-pub candidate_on : (d n k e : ℕ) (h b c : List Lexeme) → Bases d n k b c
-    → candidate e (moved_lexemes d n h ++ c) ≡ moved_found d n k (candidate e (h ++ b))
+-- one lexeme more
+pub candidate_moved : (d n k e : ℕ) (l : Lexeme) (H G : List Lexeme) → length G ≡ k + length H
+    → candidate e G ≡ moved_found d n k (candidate e H)
+    → candidate e (moved_lexeme d n l ∷ G) ≡ moved_found d n k (candidate e (l ∷ H))
 unfolding candidate
-candidate_on d n k e [] b c s = rw (s.mine e, s.others e) refl
-candidate_on d n k e (l ∷ h) b c s =
+candidate_moved d n k e l H G count same =
     elim (cases_Bool (l.depth == e)) [
       | inl i ↦ elim (cases_Bool l.saved) [
-        | inl j ↦ rw (i, j, length_on d n k h b c s) refl
+        | inl j ↦ rw (i, j, count) refl
         | inr j ↦ elim (cases_Bool (cancels l.kind)) [
           | inl x ↦ rw (i, j, x) refl
-          | inr x ↦ rw (i, j, x) (candidate_on d n k e h b c s)
+          | inr x ↦ rw (i, j, x) same
         ]
       ]
       | inr i ↦ elim (cases_Bool (nat_lt l.depth e)) [
         | inl j ↦ rw (i, j) refl
-        | inr j ↦ rw (i, j) (candidate_on d n k e h b c s)
+        | inr j ↦ rw (i, j) same
       ]
     ]
+
+pub candidate_on : (d n k e : ℕ) (h b c : List Lexeme) → Bases d n k b c
+    → candidate e (moved_lexemes d n h ++ c) ≡ moved_found d n k (candidate e (h ++ b))
+candidate_on d n k e [] b c s = rw (s.mine e, s.others e) refl
+candidate_on d n k e (l ∷ h) b c s = candidate_moved d n k e l (h ++ b) (moved_lexemes d n h ++ c) (length_on d n k h b c s) (candidate_on d n k e h b c s)
 
 line_moved : (n x y : ℕ) → nat_le (n + x) (n + y) ≡ nat_le x y
 line_moved n x y = grind (arith, nat_tests)

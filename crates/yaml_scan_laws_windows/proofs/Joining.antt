@@ -2,7 +2,7 @@
 use Rattle.std.proofs.Common.{◌≡◌, ◌≢◌, ℕ, zero, suc, ◌+◌, ◌-◌, List, [], ◌∷◌, ◌++◌, map, take, drop, replicate, length, refl, sym, ap, ◌∙◌, inl, inr, arith}
 use Rattle.std.proofs.lemmas.Bool.{cases_Bool}
 use Rattle.std.proofs.lemmas.Grind.{flat_map-append}
-use Rattle.std.proofs.lemmas.List.{append-nil, append_assoc, map-append}
+use Rattle.std.proofs.lemmas.List.{append-nil, append_assoc, map-append, take-map, drop-map}
 use Rattle.std.specs.List.{flat_map}
 use Rattle.yaml_scan_history.specs.scan_model.declared.name.yaml_encoding_t.{yaml_encoding_t}
 use Rattle.yaml_scan_history.specs.scan_model.declared.problem.ScanFault.{ScanFault}
@@ -19,6 +19,7 @@ use Rattle.yaml_scan_laws_windows.specs.Moved.{moved_token, moved_lexeme, moved_
 use Rattle.yaml_scan_laws_windows.proofs.Histories.{Bases, moved_lexemes}
 use Rattle.yaml_scan_laws_windows.proofs.Rests.{AllCarry}
 use Rattle.yaml_scan_laws_windows.proofs.Entering.{moved_entry, AllSay, entered, first_open_on, first_above}
+use Rattle.std.proofs.Math.Seq.{take-append-add, drop-append-add}
 
 -- ---- the tokens of an entry
 
@@ -80,30 +81,6 @@ say_take x t u d n zero es h = tt
 say_take x t u d n (suc i) [] h = tt
 say_take x t u d n (suc i) (e ∷ es) h = (h.0, say_take x t u d n i es h.1)
 
-module _ {A : Type 0} where
-  take_right : (xs ys : List A) (i : ℕ) → take (length xs + i) (xs ++ ys) ≡ xs ++ take i ys
-  take_right [] ys i = let e : 0 + i ≡ i = omega arith in ap (λ k. take k ys) e
-  take_right (x ∷ xs) ys i =
-      let e : suc (length xs) + i ≡ suc (length xs + i) = omega arith in
-      ap (λ k. take k (x ∷ (xs ++ ys))) e ∙ ap (λ z. x ∷ z) (take_right xs ys i)
-
-  drop_right : (xs ys : List A) (i : ℕ) → drop (length xs + i) (xs ++ ys) ≡ drop i ys
-  drop_right [] ys i = let e : 0 + i ≡ i = omega arith in ap (λ k. drop k ys) e
-  drop_right (x ∷ xs) ys i =
-      let e : suc (length xs) + i ≡ suc (length xs + i) = omega arith in
-      ap (λ k. drop k (x ∷ (xs ++ ys))) e ∙ drop_right xs ys i
-
-module _ {A B : Type 0} (f : A → B) where
-  take_map : (i : ℕ) (xs : List A) → take i (map f xs) ≡ map f (take i xs)
-  take_map zero xs = refl
-  take_map (suc i) [] = refl
-  take_map (suc i) (x ∷ xs) = ap (λ z. f x ∷ z) (take_map i xs)
-
-  drop_map : (i : ℕ) (xs : List A) → drop i (map f xs) ≡ map f (drop i xs)
-  drop_map zero xs = refl
-  drop_map (suc i) [] = refl
-  drop_map (suc i) (x ∷ xs) = drop_map i xs
-
 fronts_moved : (d n : ℕ) (es : List Entry)
     → front_ends (map (moved_entry d n) es) ≡ map (moved_token d n) (front_ends es)
 fronts_moved d n [] = refl
@@ -156,21 +133,20 @@ failed_parts x t u d n k p h b c base carry =
     let es = entered d n k h b c base in
     let high = first_above d n k h b c base in
     let moved = first_open_on d n k h b c base in
-    let count = base.count in
     let i = first_open (h ++ b) (h ++ b) - length b in
     let short : first_open (h ++ b) (h ++ b) ≡ length (entries b) + i = omega (arith, high, length-entries b) in
-    let long : first_open (moved_lexemes d n h ++ c) (moved_lexemes d n h ++ c) ≡ length (entries c) + i = omega (arith, high, moved, count, length-entries c) in
+    let long : first_open (moved_lexemes d n h ++ c) (moved_lexemes d n h ++ c) ≡ length (entries c) + i = omega (arith, high, moved, base.count, length-entries c) in
     let f = moved_token d n in
     let took : take (first_open (h ++ b) (h ++ b)) (entries (h ++ b)) ≡ entries b ++ take i es.more =
-    ap (λ z. take z (entries (h ++ b))) short ∙ ap (take (length (entries b) + i)) es.mine ∙ take_right (entries b) es.more i in
+    ap (λ z. take z (entries (h ++ b))) short ∙ ap (take (length (entries b) + i)) es.mine ∙ take-append-add (entries b) es.more i in
     let left : drop (first_open (h ++ b) (h ++ b)) (entries (h ++ b)) ≡ drop i es.more =
-    ap (λ z. drop z (entries (h ++ b))) short ∙ ap (drop (length (entries b) + i)) es.mine ∙ drop_right (entries b) es.more i in
+    ap (λ z. drop z (entries (h ++ b))) short ∙ ap (drop (length (entries b) + i)) es.mine ∙ drop-append-add (entries b) es.more i in
     let took_there : take (first_open (moved_lexemes d n h ++ c) (moved_lexemes d n h ++ c)) (entries (moved_lexemes d n h ++ c)) ≡ entries c ++ map (moved_entry d n) (take i es.more) =
-    ap (λ z. take z (entries (moved_lexemes d n h ++ c))) long ∙ ap (take (length (entries c) + i)) es.others ∙ take_right (entries c) (map (moved_entry d n) es.more) i
-    ∙ ap (λ z. entries c ++ z) (take_map (moved_entry d n) i es.more) in
+    ap (λ z. take z (entries (moved_lexemes d n h ++ c))) long ∙ ap (take (length (entries c) + i)) es.others ∙ take-append-add (entries c) (map (moved_entry d n) es.more) i
+    ∙ ap (λ z. entries c ++ z) (take-map (moved_entry d n) i es.more) in
     let left_there : drop (first_open (moved_lexemes d n h ++ c) (moved_lexemes d n h ++ c)) (entries (moved_lexemes d n h ++ c)) ≡ map (moved_entry d n) (drop i es.more) =
-    ap (λ z. drop z (entries (moved_lexemes d n h ++ c))) long ∙ ap (drop (length (entries c) + i)) es.others ∙ drop_right (entries c) (map (moved_entry d n) es.more) i
-    ∙ drop_map (moved_entry d n) i es.more in
+    ap (λ z. drop z (entries (moved_lexemes d n h ++ c))) long ∙ ap (drop (length (entries c) + i)) es.others ∙ drop-append-add (entries c) (map (moved_entry d n) es.more) i
+    ∙ drop-map (moved_entry d n) i es.more in
     let said = spells_moved d n x t u (take i es.more) (say_take x t u d n i es.more (es.say x t u carry)) in
     let kept = front_ends (drop i es.more) in
     record {

@@ -1,7 +1,5 @@
 -- A text that leads to a directive has its token first, or a fault in its place.
-use Rattle.std.proofs.Common.{◌≡◌, ◌≢◌, ℕ, zero, suc, ◌+◌, ◌==◌, ◌&&◌, nat_lt, Bool, true, false, List, [], ◌∷◌, ◌++◌, length, Option, Some, None, Result, Ok, Err, refl, sym, ap, subst, ◌∙◌, inl, inr, arith}
-use Rattle.std.proofs.lemmas.Bool.{cases_Bool}
-use Rattle.std.proofs.lemmas.Bool.Decides.{nat_tests}
+use Rattle.std.proofs.Common.{◌≡◌, ◌≢◌, ℕ, suc, ◌+◌, nat_lt, false, List, [], ◌∷◌, ◌++◌, length, Option, Some, None, Result, Ok, Err, refl, sym, ap, subst, ◌∙◌, arith}
 use Rattle.std.specs.List.{flat_map}
 use Rattle.std.proofs.lemmas.Option.{same_Some}
 use Rattle.std.proofs.Math.Bool.{and-false}
@@ -13,26 +11,27 @@ use Rattle.yaml_scan_history.specs.scan_model.Tokens.{Token, TokenBody}
 use Rattle.yaml_scan_history.specs.scan_model.Wrong.{Wrong}
 use Rattle.yaml_scan_history.specs.scan_words.Directives as directives
 use Rattle.yaml_scan_history.specs.scan_words.Directives.{Said, DirectiveText, directive_at}
-use Rattle.yaml_scan_history.specs.declared.kind.Kind.{Kind}
 use Rattle.yaml_scan_history.specs.declared.kind.Kind.TheVariants as kinds
 use Rattle.yaml_scan_history.specs.declared.lexeme.Lexeme.{Lexeme}
-use Rattle.yaml_scan_history.specs.Kinds.{is_end}
 use Rattle.yaml_scan_history.specs.History.{candidate, levels, entries, first_open}
 use Rattle.yaml_scan_history.specs.Words.{WordText, body_said, directed, kind_at, word_at}
-use Rattle.yaml_scan_history.specs.Next.{Next, Read, Fails, Ends, first_lexeme, gap_behind, allowed_behind, kind_behind, begun_behind, word_behind, with_end, next, extended, history}
+use Rattle.yaml_scan_history.specs.Next.{Next, Read, Fails, Ends, first_lexeme, gap_behind, allowed_behind, kind_behind, begun_behind, word_behind, next, extended, history}
 use Rattle.yaml_scan_history.specs.Remaining.{SpelledText, body_of_word, body_by, body_in, token_in, spell, all, fault_in}
 use Rattle.yaml_scan_laws_order.proofs.HistoryForward.{all_ends, last_is_all, history_grows}
 use Rattle.yaml_scan_laws_windows.specs.Cuts.{LeadsToDirective}
 use Rattle.yaml_scan_laws_windows.specs.Laws.{scan_of}
-use Rattle.yaml_scan_laws_windows.proofs.Stepping.{HasRead, has_read, read_kind}
+use Rattle.yaml_scan_laws_windows.proofs.Stepping.{HasRead, has_read, read_kind, kept}
 use Rattle.yaml_scan_laws_windows.proofs.Fronts.{lexeme_zero, next_open, history_more}
 use Rattle.yaml_scan_laws_windows.proofs.Histories.{Bases}
 use Rattle.yaml_scan_laws_windows.proofs.Depths.{read_deep}
-use Rattle.yaml_scan_laws_windows.proofs.Rests.{word_of, AllCarry}
+use Rattle.yaml_scan_laws_windows.proofs.Rests.{word_of, AllCarry, no_candidates}
 use Rattle.yaml_scan_laws_windows.proofs.Joining.{told, offline_told, parted}
-use Rattle.yaml_scan_laws_windows.proofs.Windows.{coming_goes, all_is, uncons}
+use Rattle.yaml_scan_laws_windows.proofs.Opening.{coming_goes, all_is}
+use Rattle.yaml_scan_laws_windows.proofs.Windows.{uncons}
 use Rattle.yaml_scan_laws_windows.proofs.Ending.{start_history}
 use Rattle.yaml_scan_laws_order.proofs.StreamForward.{fault_next}
+use Rattle.yaml_scan_laws_windows.proofs.Failing.{some_none, fails_not}
+use Rattle.yaml_scan_history.specs.Kinds.{cancels}
 
 -- ---- the token of a directive
 
@@ -62,42 +61,13 @@ directed_body (Err x) w e = absurd (err_ok refl e)
     err_ok : {w : WordText} {x : Wrong} {r : Result WordText Wrong} → r ≡ Err x → r ≡ Ok w → ⊥
     err_ok e f = cc
 
-fails_read : {f : ScanFault} {l : Lexeme} → Fails f ≡ Read l → ⊥
-fails_read e = cc
-
 lead_kind : (b : List ℕ) → LeadsToDirective b
     → kind_behind b (first_lexeme ∷ []) ≡ Some kinds.Directive
 unfolding kind_at candidate
 lead_kind b lead =
-    let percent = lead.percent in
-    let column = lead.column in
-    rw (percent, column) refl
-
-placed_saved : (t : List ℕ) (l : Lexeme) (r : Result WordText Wrong)
-    → (with_end t l r).saved ≡ l.saved
-placed_saved t l (Err w) = refl
-placed_saved t l (Ok w) =
-    elim (cases_Bool (is_end l.kind)) [
-      | inl e ↦ rw e refl
-      | inr e ↦ rw e refl
-    ]
+    rw (lead.percent, lead.column) refl
 
 -- ---- the lexemes of both
-
-lead_candidate : (l : Lexeme) → l.kind ≡ kinds.Directive → l.depth ≡ 0 → l.saved ≡ false → (e : ℕ)
-    → candidate e (l ∷ first_lexeme ∷ []) ≡ None
-unfolding candidate
-lead_candidate l k z s zero = rw (k, z, s) refl
-lead_candidate l k z s (suc e) =
-    let off : (0 == suc e) ≡ false = not_zero e in
-    let on : nat_lt 0 (suc e) ≡ true = some e in
-    rw (z, off, on) refl
-  where
-    not_zero : (e : ℕ) → (0 == suc e) ≡ false
-    not_zero e = grind (arith, nat_tests)
-
-    some : (e : ℕ) → nat_lt 0 (suc e) ≡ true
-    some e = grind (arith, nat_tests)
 
 lead_told : (s : SpelledText) (l : Lexeme) → l.kind ≡ kinds.Directive → l.depth ≡ 0
     → flat_map (spell s) (entries (l ∷ first_lexeme ∷ [])) ≡ token_in s first_lexeme ∷ token_in s l ∷ []
@@ -137,13 +107,13 @@ lead_reads x b lead l e first behind come =
     let kind : r.kind ≡ kinds.Directive = same_Some _ _ (sym r.stands ∙ lead_kind b lead) in
     let is : l.kind ≡ kinds.Directive = read_kind b H l r ∙ kind in
     let deep : l.depth ≡ 0 = read_deep b H l e in
-    let saved : l.saved ≡ false = ap (λ (y : Lexeme). y.saved) (sym r.clean.is) ∙ placed_saved b (begun_behind r.kind b H) (word_behind r.kind b H)
+    let saved : l.saved ≡ false = ap (λ (y : Lexeme). y.saved) (sym r.clean.is) ∙ (kept b (begun_behind r.kind b H) (word_behind r.kind b H)).saved
     ∙ ap (λ k. (begun_behind k b H).saved) kind ∙ and-false (allowed_behind H (gap_behind b H)) in
     let B = l ∷ H in
     let begins : history b 2 ≡ B = history_more b 1 ∙ ap (λ z. extended (next b z) z) (start_history b) ∙ ap (λ y. extended y H) e in
     let (h, grows) = history_grows b 2 (suc (suc (length b))) (omega arith) in
     let is_all : all b ≡ h ++ B = all_is b ∙ grows ∙ ap (λ z. h ++ z) begins in
-    let none = lead_candidate l is deep saved in
+    let none = no_candidates l H deep saved (ap cancels is) in
     let bases : Bases 0 0 0 B B = record { depth = refl; mine = none; others = none; levels = refl; count = refl_count (length B) } in
     let y = next b (all b) in
     let p = parted x b b 0 0 0 h B B bases (self_carry x b h) y (all_ends b) in
@@ -162,16 +132,13 @@ lead_fails : (x : yaml_encoding_t) (b : List ℕ) (f : ScanFault)
 lead_fails x b f e first behind come =
     let s : SpelledText = record { encoding = x; text = b } in
     let start = start_history b in
-    let is_all : all b ≡ first_lexeme ∷ [] = last_is_all b 1 (λ l r. fails_read (sym (ap (next b) start ∙ e) ∙ r)) ∙ start in
+    let is_all : all b ≡ first_lexeme ∷ [] = last_is_all b 1 (λ l r. fails_not (sym (ap (next b) start ∙ e) ∙ r)) ∙ start in
     let fails : next b (all b) ≡ Fails f = ap (next b) is_all ∙ e in
     let told_all : (scan_of x b).tokens ≡ token_in s first_lexeme ∷ [] =
     offline_told s ∙ ap (λ y. told s y (all b)) fails ∙ ap (told s (Fails f)) is_all ∙ failed_told s f in
     let rest : behind ≡ [] = uncons first (token_in s first_lexeme) behind [] (sym come ∙ told_all) in
     let fault = fault_next s ∙ ap fault_in fails in
     subst (λ z. LeadsSo z (scan_of x b).fault) (sym rest) (λ none. some_none (sym fault ∙ none))
-  where
-    some_none : {A : Type 0} {y : A} → Some y ≡ None → ⊥
-    some_none e = cc
 
 -- what is first told of a text that leads to a directive
 pub leads_so : (x : yaml_encoding_t) (b : List ℕ) → LeadsToDirective b

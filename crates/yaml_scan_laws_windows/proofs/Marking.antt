@@ -12,6 +12,7 @@ use Rattle.yaml_scan_history.specs.declared.lexeme.Lexeme.{Lexeme}
 use Rattle.yaml_scan_history.specs.Kinds.{depth_after, may_be_key, cancels, is_value, is_start, is_outside, is_end, allows_key}
 use Rattle.yaml_scan_history.specs.History.{depth, in_flow, Candidate, candidate, fresh, found_by, margin_at, indent, left_by, opens_at, levels}
 use Rattle.yaml_scan_history.specs.Words.{carrying, word_at}
+use Rattle.yaml_scan_history.specs.Remaining.{SpelledText, body_by}
 use Rattle.yaml_scan_history.specs.Next.{Read, gap_behind, place_behind, allowed_behind, begun_behind, word_behind, lexeme_behind, lost_by, stale_before, indicator_misplaced, candidate_lost, text_wrong, stale_after, coming}
 
 -- `---` or `...`
@@ -24,6 +25,7 @@ pub record IsMark (K : Kind) (body : TokenBody) : Type 0 where
   pub end : is_end K ≡ false
   pub deep : (d : ℕ) → depth_after K d ≡ d
   pub allows : (x y : Bool) → allows_key K x y ≡ false
+  pub told : (s : SpelledText) (l : Lexeme) → body_by K s l ≡ body
   pub word : (flow : Bool) (level : ℕ) (text : List ℕ) (p : ℕ) → word_at K flow level text p ≡ carrying body (p + 3)
 
 pub start_mark : IsMark kinds.DocumentStart tokens.document_start
@@ -37,6 +39,7 @@ start_mark = record {
   end = refl;
   deep = λ d. refl;
   allows = λ x y. refl;
+  told = λ s l. refl;
   word = λ flow level text p. refl;
 }
 
@@ -51,6 +54,7 @@ end_mark = record {
   end = refl;
   deep = λ d. refl;
   allows = λ x y. refl;
+  told = λ s l. refl;
   word = λ flow level text p. refl;
 }
 
@@ -161,7 +165,7 @@ pub mark_word : (K : Kind) (body : TokenBody) → IsMark K body
     → (gap_behind text H).place ≡ p → word_behind K text H ≡ carrying body (p + 3)
 mark_word K body m text H p e = m.word (in_flow H) (begun_behind K text H).level text (gap_behind text H).place ∙ ap (λ q. carrying body (q + 3)) e
 
-mark_behind : (K : Kind) (body : TokenBody) → IsMark K body → (text : List ℕ) (H : List Lexeme)
+pub mark_behind : (K : Kind) (body : TokenBody) → IsMark K body → (text : List ℕ) (H : List Lexeme)
     (p : ℕ) → (gap_behind text H).place ≡ p → depth H ≡ 0
     → lexeme_behind K text H ≡ mark_lexeme K text p
 mark_behind K body m text H p e z =
@@ -172,6 +176,34 @@ no_candidate : (K : Kind) (body : TokenBody) → IsMark K body → (text : List 
 unfolding candidate
 no_candidate K body m text p H = rw m.cancels refl
 
+-- where a mark is read, and at which depth
+pub record MarkLies (K : Kind) (t : List ℕ) (H : List Lexeme) (p : ℕ) (l : Lexeme) : Type 0 where
+  pub kind : l.kind ≡ K
+  pub start : l.start ≡ mark_at t p
+  pub end : l.end ≡ mark_at t (p + 3)
+  pub reached : l.reached ≡ mark_at t (p + 3)
+  pub deep : l.depth ≡ depth H
+  pub saved : l.saved ≡ false
+
+pub mark_lies : (K : Kind) (body : TokenBody) → IsMark K body → (t : List ℕ) (H : List Lexeme)
+    (p : ℕ) → (gap_behind t H).place ≡ p → MarkLies K t H p (lexeme_behind K t H)
+mark_lies K body m t H p e =
+    let free = and_false (allowed_behind H (gap_behind t H)) in
+    rw (mark_word K body m t H p e, m.end)
+    record { kind = refl; start = ap (mark_at t) e; end = refl; reached = refl; deep = refl; saved = rw (m.key, free) refl }
+
+-- a mark is read, where no candidate is lost or missed
+pub mark_comes : (K : Kind) (body : TokenBody) → IsMark K body → (t : List ℕ) (H : List Lexeme)
+    (p : ℕ) → (gap_behind t H).place ≡ p → stale_before t H ≡ None
+    → IsFree (fresh (candidate (depth H) H) (place_behind t H))
+    → stale_after (lexeme_behind K t H) H ≡ None
+    → coming (Some K) t H ≡ Read (lexeme_behind K t H)
+mark_comes K body m t H p e stale free after =
+    let misplaced : indicator_misplaced K t H ≡ None = rw (m.start, and_false (not (in_flow H) && not (allowed_behind H (gap_behind t H)))) refl in
+    let lost : candidate_lost K t H ≡ None = rw (lost_none (begun_behind K t H) (fresh (candidate (depth H) H) (place_behind t H)) free) refl in
+    let wrong : text_wrong K t H ≡ None = rw (mark_word K body m t H p e) refl in
+    rw (stale, misplaced, lost, wrong, after) refl
+
 -- the mark is read there
 pub mark_reads : (K : Kind) (body : TokenBody) → IsMark K body → (text : List ℕ) (H : List Lexeme)
     (p : ℕ) → (gap_behind text H).place ≡ p → depth H ≡ 0 → stale_before text H ≡ None
@@ -179,8 +211,5 @@ pub mark_reads : (K : Kind) (body : TokenBody) → IsMark K body → (text : Lis
     → coming (Some K) text H ≡ Read (mark_lexeme K text p)
 mark_reads K body m text H p e z stale free =
     let is = mark_behind K body m text H p e z in
-    let misplaced : indicator_misplaced K text H ≡ None = rw (m.start, and_false (not (in_flow H) && not (allowed_behind H (gap_behind text H)))) refl in
-    let lost : candidate_lost K text H ≡ None = rw (lost_none (begun_behind K text H) (fresh (candidate (depth H) H) (place_behind text H)) free) refl in
-    let wrong : text_wrong K text H ≡ None = rw (mark_word K body m text H p e) refl in
     let after : stale_after (lexeme_behind K text H) H ≡ None = rw (is, no_candidate K body m text p H) refl in
-    rw (stale, misplaced, lost, wrong, after, is) refl
+    mark_comes K body m text H p e stale free after ∙ ap Read is

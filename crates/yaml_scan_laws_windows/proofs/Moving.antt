@@ -33,6 +33,5 @@ at_break t u d m p a l some =
     let same = width_alike t u d m p a l in
     let here = past_break t p some in
     let there = past_break u (d + p) (rw same some) in
-    let short = here.inside in
     let far : d + p + break_width t p ≤ length u = rw (← same) there.inside in
-    record { inside = break_within t u d m p a l; short = short; long = omega (arith, far) }
+    record { inside = break_within t u d m p a l; short = here.inside; long = omega (arith, far) }

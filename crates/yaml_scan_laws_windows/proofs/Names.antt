@@ -1,5 +1,5 @@
 -- Anchors, URIs, tags and directives are the same in both texts.
-use Rattle.std.proofs.Common.{◌≡◌, ℕ, zero, suc, ◌+◌, ◌<◌, ◌≤◌, ◌==◌, ◌&&◌, ◌||◌, nat_lt, if◌then◌else◌, Bool, true, false, not, List, [], ◌∷◌, length, slice_range, Option, Some, None, Result, Ok, Err, refl, ap, ◌∙◌, inl, inr, ◌⊎◌, arith}
+use Rattle.std.proofs.Common.{◌≡◌, ℕ, zero, suc, ◌+◌, ◌<◌, ◌≤◌, ◌==◌, ◌&&◌, ◌||◌, nat_lt, if◌then◌else◌, Bool, true, false, not, List, [], ◌∷◌, length, slice_range, Option, Some, None, Result, Ok, Err, refl, ap, ◌∙◌, inl, inr, ◌⊎◌, arith, add_assoc}
 use Rattle.std.proofs.lemmas.Bool.{cases_Bool, eqb-true}
 use Rattle.std.proofs.lemmas.Bool.Decides.{nat_tests}
 use Rattle.yaml_scan_history.specs.scan_model.declared.problem.Problem.{Problem}
@@ -70,13 +70,9 @@ pub run_in : (t u : List ℕ) (d m p : ℕ) (run : _) → Alike t u d m
     → Run_in t u d m p (run_end run t p) (run_end run u (d + p))
 run_in t u d m p run a like l =
     let runs = run_alike t u d m p run a like l in
-    let short = a.short in
-    let long = a.long in
-    let here = run_place run t p (omega (arith, l, short)) in
-    let there = run_place run u (d + p) (omega (arith, l, long)) in
-    let same = runs.same in
-    let far = there.inside in
-    record { order = runs.order; inside = runs.inside; same = same; short = here.inside; long = omega (arith, same, far) }
+    let here = run_place run t p (omega (arith, l, a.short)) in
+    let there = run_place run u (d + p) (omega (arith, l, a.long)) in
+    record { order = runs.order; inside = runs.inside; same = runs.same; short = here.inside; long = omega (arith, runs.same, there.inside) }
 
 amp_onward : (b : ℕ) → (b ≡ 38) ⊎ (b ≡ 42) → is_onward b ≡ true
 unfolding is_onward
@@ -87,8 +83,7 @@ anchor_from : (context : Context) (t u : List ℕ) (d m p q r : ℕ) → Alike t
     → Run_in t u d m p q r
     → PairAlike d m (name_between context t p q) (name_between context u (d + p) r)
 anchor_from context t u d m p q r a run =
-    let same = run.same in
-    rw same (name_alike context t u d m p q a run.order run.inside run.short run.long)
+    rw run.same (name_alike context t u d m p q a run.order run.inside run.short run.long)
 
 pub anchor_alike : (context : Context) (t u : List ℕ) (d m p : ℕ) → Alike t u d m → p < m
     → is_onward (byte t p) ≡ true
@@ -96,8 +91,7 @@ pub anchor_alike : (context : Context) (t u : List ℕ) (d m p : ℕ) → Alike 
 unfolding belongs
 anchor_alike context t u d m p a l on =
     let more = a.onward p l on in
-    let move : d + p + 1 ≡ d + (p + 1) = omega arith in
-    rw move (anchor_from context t u d m (p + 1) _ _ a (run_in t u d m (p + 1) _ a (λ x y. rw (a.bytes x y) refl) more))
+    rw (add_assoc d p 1) (anchor_from context t u d m (p + 1) _ _ a (run_in t u d m (p + 1) _ a (λ x y. rw (a.bytes x y) refl) more))
 
 -- ---- URIs
 
@@ -149,8 +143,7 @@ octet_alike t u d m p a l on =
       | inl go ↦
           let (most, third) = next_byte t u d m (p + 1) a more go in
           let e : d + (p + 1) + 1 ≡ d + p + 2 = omega arith in
-          let f : p + 1 + 1 ≡ p + 2 = omega arith in
-          let last : byte u (d + p + 2) ≡ byte t (p + 2) = rw (← e, ← f) third in
+          let last : byte u (d + p + 2) ≡ byte t (p + 2) = rw (← e, ← (add_assoc p 1 1)) third in
           elim (cases_Bool (is_onward (byte t (p + 2)))) [
             | inr off ↦
                 let none = no_digit (byte t (p + 2)) off in
@@ -197,29 +190,22 @@ spot_alike : (wide : Bool) (due : ℕ) (t u : List ℕ) (d m p : ℕ) → Alike 
     → SpotAlike t u d m p (spot_at wide due t p) (spot_at wide due u (d + p))
 unfolding spot_at
 spot_alike wide due t u d m p a l =
-    let b = a.bytes p l in
     elim (cases_Bool (byte t p == 37)) [
       | inl h ↦
-          let h2 : (byte u (d + p) == 37) ≡ true = ap (λ b. b == 37) b ∙ h in
           let on = percent_onward (byte t p) (eqb-true _ _ h) in
           let (same, lies) = octet_alike t u d m p a l on in
           let (here, there) = byte_at t u d m p a l (onward_some _ on) in
-          rw (h, h2, same) (octet_spots t u d m p due (octet_at t p) lies here there)
-      | inr h ↦
-          let h2 : (byte u (d + p) == 37) ≡ false = ap (λ b. b == 37) b ∙ h in
-          elim (cases_Bool (nat_lt 0 due)) [
-            | inl i ↦ rw (h, h2, i) record { same = refl; lies = tt }
-            | inr i ↦
-                let j2 : is_uri wide u (d + p) ≡ is_uri wide t p = ap (λ b. is_alpha_byte b || (is_punctuation b || (wide && is_wide_punctuation b))) b in
-                elim (cases_Bool (is_uri wide t p)) [
-                  | inl j ↦
-                      let on = uri_onward wide (byte t p) j in
-                      let (here, there) = byte_at t u d m p a l (onward_some _ on) in
-                      let move : d + p + 1 ≡ d + (p + 1) = omega arith in
-                      rw (h, h2, i, j, j2 ∙ j, b, move) record { same = refl; lies = (a.onward p l on, omega arith, here, there) }
-                  | inr j ↦ rw (h, h2, i, j, j2 ∙ j) record { same = refl; lies = l }
-                ]
-          ]
+          rw (a.bytes p l, h, same) (octet_spots t u d m p due (octet_at t p) lies here there)
+      | inr h ↦ rw (a.bytes p l, h) (elim (cases_Bool (nat_lt 0 due)) [
+        | inl i ↦ rw i record { same = refl; lies = tt }
+        | inr i ↦ elim (cases_Bool (is_uri wide t p)) [
+          | inl j ↦
+              let on = uri_onward wide (byte t p) j in
+              let (here, there) = byte_at t u d m p a l (onward_some _ on) in
+              rw (i, j, add_assoc d p 1) record { same = refl; lies = (a.onward p l on, omega arith, here, there) }
+          | inr j ↦ rw (i, j) record { same = refl; lies = l }
+        ]
+      ])
     ]
 
 bytes_alike : (d m : ℕ) (bs : List ℕ) (r s : Result (List ℕ × ℕ) Wrong) → PairAlike d m r s
@@ -288,10 +274,9 @@ filled_alike : (context : Context) (d m : ℕ) (r s : Result (List ℕ × ℕ) W
     → PairAlike d m (filled context r) (filled context s)
 filled_alike context d m (Err w) s h = let same = h.same in rw same record { same = refl; ends = tt }
 filled_alike context d m (Ok x) s h =
-    let same = h.same in
     elim (cases_Bool (length x.0 == 0)) [
-      | inl e ↦ rw (same, e) record { same = refl; ends = tt }
-      | inr e ↦ rw (same, e) record { same = refl; ends = h.ends }
+      | inl e ↦ rw (h.same, e) record { same = refl; ends = tt }
+      | inr e ↦ rw (h.same, e) record { same = refl; ends = h.ends }
     ]
 
 pub some_uri_alike : (context : Context) (wide : Bool) (t u : List ℕ) (d m p : ℕ) → Alike t u d m
@@ -310,13 +295,11 @@ bracket_alike : (t u : List ℕ) (d m : ℕ) (r s : Result (List ℕ × ℕ) Wro
     → PairAlike d m r s → TagAlike d m (bracketed t r) (bracketed u s)
 bracket_alike t u d m (Err w) s a h = let same = h.same in rw same record { same = refl; ends = tt }
 bracket_alike t u d m (Ok x) s a h =
-    let same = h.same in
     let l = h.ends in
     let test : (byte u (d + x.1) == 62) ≡ (byte t x.1 == 62) = ap (λ b. b == 62) (a.bytes x.1 l) in
-    let move : d + x.1 + 1 ≡ d + (x.1 + 1) = omega arith in
     elim (cases_Bool (byte t x.1 == 62)) [
-      | inl e ↦ rw (same, e, test ∙ e, move) record { same = refl; ends = a.onward x.1 l (letter_onward (byte t x.1) (over (byte t x.1) (eqb-true _ _ e))) }
-      | inr e ↦ rw (same, e, test ∙ e) record { same = refl; ends = tt }
+      | inl e ↦ rw (h.same, e, test ∙ e, add_assoc d x.1 1) record { same = refl; ends = a.onward x.1 l (letter_onward (byte t x.1) (over (byte t x.1) (eqb-true _ _ e))) }
+      | inr e ↦ rw (h.same, e, test ∙ e) record { same = refl; ends = tt }
     ]
   where
     over : (b : ℕ) → b ≡ 62 → 32 < b
@@ -331,10 +314,9 @@ bare_alike : (d m : ℕ) (r s : Result (List ℕ × ℕ) Wrong) → PairAlike d 
     → TagAlike d m (bare r) (bare s)
 bare_alike d m (Err w) s k = let same = k.same in rw same record { same = refl; ends = tt }
 bare_alike d m (Ok x) s k =
-    let same = k.same in
     elim (cases_Bool (length x.0 == 0)) [
-      | inl e ↦ rw (same, e) record { same = refl; ends = k.ends }
-      | inr e ↦ rw (same, e) record { same = refl; ends = k.ends }
+      | inl e ↦ rw (k.same, e) record { same = refl; ends = k.ends }
+      | inr e ↦ rw (k.same, e) record { same = refl; ends = k.ends }
     ]
 
 named_alike : (t u : List ℕ) (d m p q r : ℕ) → Alike t u d m → p < m → p ≤ q
@@ -355,22 +337,18 @@ parts_from : (t u : List ℕ) (d m p q r : ℕ) → Alike t u d m → p < m → 
     → w ≡ (if byte u (d + p + 1) == 60 then verbatim_at u (d + p) else if byte u r == 33 then with_handle (slice_range u (d + p) (r + 1)) (some_uri_at contexts.TagUri false u (r + 1)) else bare_at u (d + p))
     → TagAlike d m v w
 parts_from t u d m p q r a l more run v w e f =
-    let move : d + p + 1 ≡ d + (p + 1) = omega arith in
-    let next : (byte u (d + p + 1) == 60) ≡ (byte t (p + 1) == 60) = rw move (ap (λ b. b == 60) (a.bytes (p + 1) more)) in
+    let next : (byte u (d + p + 1) == 60) ≡ (byte t (p + 1) == 60) = rw (add_assoc d p 1) (ap (λ b. b == 60) (a.bytes (p + 1) more)) in
     elim (cases_Bool (byte t (p + 1) == 60)) [
       | inl h ↦
           let wide : 32 < byte t (p + 1) = omega (arith, eqb-true _ _ h) in
           let most = a.onward (p + 1) more (letter_onward (byte t (p + 1)) wide) in
           let second : p + 2 < m = omega (arith, most) in
-          let g : d + p + 2 ≡ d + (p + 2) = omega arith in
-          rw (e, f, h, next ∙ h, g) (bracket_alike t u d m (some_uri_at contexts.TagUri true t (p + 2)) (some_uri_at contexts.TagUri true u (d + (p + 2))) a (some_uri_alike contexts.TagUri true t u d m (p + 2) a second))
+          rw (e, f, h, next ∙ h, add_assoc d p 2) (bracket_alike t u d m (some_uri_at contexts.TagUri true t (p + 2)) (some_uri_at contexts.TagUri true u (d + (p + 2))) a (some_uri_alike contexts.TagUri true t u d m (p + 2) a second))
       | inr h ↦
-          let same = run.same in
-          let mark : (byte u r == 33) ≡ (byte t q == 33) = rw same (ap (λ b. b == 33) (a.bytes q run.inside)) in
-          let order = run.order in
+          let mark : (byte u r == 33) ≡ (byte t q == 33) = rw run.same (ap (λ b. b == 33) (a.bytes q run.inside)) in
           elim (cases_Bool (byte t q == 33)) [
-            | inl i ↦ rw (e, f, h, next ∙ h, i, mark ∙ i) (named_alike t u d m p q r a l (omega (arith, order)) run (eqb-true _ _ i))
-            | inr i ↦ rw (e, f, h, next ∙ h, i, mark ∙ i, move) (bare_alike d m (uri_at contexts.TagUri false t (p + 1)) (uri_at contexts.TagUri false u (d + (p + 1))) (uri_alike contexts.TagUri false t u d m (p + 1) a more))
+            | inl i ↦ rw (e, f, h, next ∙ h, i, mark ∙ i) (named_alike t u d m p q r a l (omega (arith, run.order)) run (eqb-true _ _ i))
+            | inr i ↦ rw (e, f, h, next ∙ h, i, mark ∙ i, add_assoc d p 1) (bare_alike d m (uri_at contexts.TagUri false t (p + 1)) (uri_at contexts.TagUri false u (d + (p + 1))) (uri_alike contexts.TagUri false t u d m (p + 1) a more))
           ]
     ]
 
@@ -379,20 +357,17 @@ parts_alike : (t u : List ℕ) (d m p : ℕ) → Alike t u d m → p < m → is_
 unfolding parts_at belongs
 parts_alike t u d m p a l on =
     let more = a.onward p l on in
-    let move : d + p + 1 ≡ d + (p + 1) = omega arith in
-    let run : Run_in t u d m (p + 1) (name_end t p) (name_end u (d + p)) = rw move (run_in t u d m (p + 1) _ a (λ x y. rw (a.bytes x y) refl) more) in
+    let run : Run_in t u d m (p + 1) (name_end t p) (name_end u (d + p)) = rw (add_assoc d p 1) (run_in t u d m (p + 1) _ a (λ x y. rw (a.bytes x y) refl) more) in
     parts_from t u d m p (name_end t p) (name_end u (d + p)) a l more run (parts_at t p) (parts_at u (d + p)) refl refl
 
 tag_ends : (t u : List ℕ) (d m : ℕ) (flow : Bool) (r s : Result TagText Wrong) → Alike t u d m
     → TagAlike d m r s → TagAlike d m (ended flow t r) (ended flow u s)
 tag_ends t u d m flow (Err w) s a h = let same = h.same in rw same record { same = refl; ends = tt }
 tag_ends t u d m flow (Ok x) s a h =
-    let same = h.same in
-    let l = h.ends in
-    let test : may_end_tag flow u (d + x.end) ≡ may_end_tag flow t x.end = or_alike _ _ _ _ (end_alike t u d m x.end a l) (ap (λ b. flow && b == 44) (a.bytes x.end l)) in
+    let test : may_end_tag flow u (d + x.end) ≡ may_end_tag flow t x.end = or_alike _ _ _ _ (end_alike t u d m x.end a h.ends) (ap (λ b. flow && b == 44) (a.bytes x.end h.ends)) in
     elim (cases_Bool (may_end_tag flow t x.end)) [
-      | inl e ↦ rw (same, e, test ∙ e) record { same = refl; ends = l }
-      | inr e ↦ rw (same, e, test ∙ e) record { same = refl; ends = tt }
+      | inl e ↦ rw (h.same, e, test ∙ e) record { same = refl; ends = h.ends }
+      | inr e ↦ rw (h.same, e, test ∙ e) record { same = refl; ends = tt }
     ]
 
 pub tag_alike : (t u : List ℕ) (d m p : ℕ) (flow : Bool) → Alike t u d m → p < m

@@ -1,5 +1,5 @@
 -- Plain scalars are the same in both texts.
-use Rattle.std.proofs.Common.{◌≡◌, ℕ, zero, suc, ◌+◌, ◌-◌, ◌<◌, ◌≤◌, ◌==◌, ◌&&◌, ◌||◌, nat_lt, if◌then◌else◌, Bool, true, false, not, List, [], ◌∷◌, length, Result, Ok, Err, refl, sym, ap, ◌∙◌, inl, inr, ◌⊎◌, arith}
+use Rattle.std.proofs.Common.{◌≡◌, ℕ, zero, suc, ◌+◌, ◌-◌, ◌<◌, ◌≤◌, ◌==◌, ◌&&◌, ◌||◌, nat_lt, if◌then◌else◌, Bool, true, false, not, List, [], ◌∷◌, length, Result, Ok, Err, refl, sym, ap, ◌∙◌, inl, inr, ◌⊎◌, arith, add_assoc}
 use Rattle.std.proofs.lemmas.Bool.{cases_Bool, cases_lt, eqb-true, ltb-true, true≢false}
 use Rattle.std.proofs.lemmas.Bool.Decides.{nat_tests}
 use Rattle.yaml_scan_history.specs.scan_model.Marks.{byte, break_of, break_width, column_at, is_blank}
@@ -29,8 +29,7 @@ value_alike t u d m p a l some =
           let (more, next) = next_byte t u d m p a l on.0 in
           let (most, last) = next_byte t u d m (p + 1) a more on.1 in
           let e : d + (p + 1) + 1 ≡ d + p + 2 = omega arith in
-          let f : p + 1 + 1 ≡ p + 2 = omega arith in
-          let third : byte u (d + p + 2) ≡ byte t (p + 2) = rw (← e, ← f) last in
+          let third : byte u (d + p + 2) ≡ byte t (p + 2) = rw (← e, ← (add_assoc p 1 1)) last in
           rw (same, h, third) refl
     ]
 
@@ -46,11 +45,10 @@ later t p q k l = let order = k.order in record { start = k.start; order = omega
 -- it doesn't stand there where a blank does
 sooner : (t : List ℕ) (p : ℕ) → Led t (suc p) → is_blank (byte t (suc p)) ≡ true → Led t p
 sooner t p k h =
-    let order = k.order in
     elim (cases_lt k.start (suc p)) [
       | inl l ↦ record { start = k.start; order = omega (arith, l); text = k.text }
       | inr l ↦
-          let e : k.start ≡ suc p = omega (arith, l, order) in
+          let e : k.start ≡ suc p = omega (arith, l, k.order) in
           absurd (true≢false (sym h ∙ ap (λ q. is_blank (byte t q)) (sym e) ∙ k.text))
     ]
 
@@ -60,8 +58,7 @@ unfolding leads
 leads_alike t u d m zero a k l =
     let e : d + 0 + 1 ≡ suc (d + 0) = omega arith in
     let f : 0 + 1 ≡ suc 0 = omega arith in
-    let order = k.order in
-    let first : k.start ≡ 0 = omega (arith, order) in
+    let first : k.start ≡ 0 = omega (arith, k.order) in
     let h : is_blank (byte t 0) ≡ false = ap (λ q. is_blank (byte t q)) (sym first) ∙ k.text in
     rw (e, f, a.ends 0 l, a.bytes 0 l, h) refl
 leads_alike t u d m (suc p) a k l =
@@ -168,46 +165,35 @@ spot_alike : (t u : List ℕ) (d m : ℕ) (flow : Bool) (level x : ℕ) → Alik
 unfolding spot_at
 spot_alike t u d m flow level x a k l =
     let p = x + 1 in
-    let width = width_alike t u d m p a l in
-    let byte_same = a.bytes p l in
-    elim (cases_Bool (nat_lt 0 (break_width t p))) [
+    let b = a.bytes p l in
+    let tab = and_alike _ _ _ _ (ap (λ b. b == 9) b) (λ z. left_alike t u d m x level a k l) in
+    rw (tab, ends_alike t u d m flow level x a k l, question_alike t u d m p flow a l, width_alike t u d m p a l, b)
+    (elim (cases_Bool (nat_lt 0 (break_width t p))) [
       | inl h ↦
           let some = ltb-true _ _ h in
           let (here, there) = byte_at t u d m p a l (break_first _ _ _ some) in
-          let value = value_alike t u d m p a l some in
-          let other : nat_lt 0 (break_width u (d + p)) ≡ true = ap (λ w. nat_lt 0 w) width ∙ h in
-          let move : d + p + break_width t p ≡ d + (p + break_width t p) = omega arith in
-          rw (h, other, value, width, move) record { same = refl; lies = (at_break t u d m p a l some, omega (arith, some), here, there) }
-      | inr h ↦
-          let other : nat_lt 0 (break_width u (d + p)) ≡ false = ap (λ w. nat_lt 0 w) width ∙ h in
-          elim (cases_Bool (is_blank (byte t p))) [
-            | inl i ↦
-                let blank : is_blank (byte u (d + p)) ≡ true = ap is_blank byte_same ∙ i in
-                let some = blank_some _ i in
-                let (here, there) = byte_at t u d m p a l some in
-                let move : d + p + 1 ≡ d + (p + 1) = omega arith in
-                let tab = and_alike _ _ _ _ (ap (λ b. b == 9) byte_same) (λ z. left_alike t u d m x level a k l) in
-                elim (cases_Bool (byte t p == 9 && (leads t p && nat_lt (column_at t p) level))) [
-                  | inl j ↦ rw (h, other, i, blank, j, tab ∙ j) record { same = refl; lies = tt }
-                  | inr j ↦ rw (h, other, i, blank, j, tab ∙ j, byte_same, move) record { same = refl; lies = (at_step t u d m p a l some, omega arith, here, there) }
-                ]
-            | inr i ↦
-                let blank : is_blank (byte u (d + p)) ≡ false = ap is_blank byte_same ∙ i in
-                let end = ends_alike t u d m flow level x a k l in
-                elim (cases_Bool (ends_at flow level t p)) [
-                  | inl j ↦ rw (h, other, i, blank, j, end ∙ j) record { same = refl; lies = tt }
-                  | inr j ↦
-                      let some = not_ended flow level t p j in
-                      let (here, there) = byte_at t u d m p a l some in
-                      let move : d + p + 1 ≡ d + (p + 1) = omega arith in
-                      let ask = question_alike t u d m p flow a l in
-                      elim (cases_Bool (flow && (byte t p == 58 && (is_bracket (byte t (p + 1)) || byte t (p + 1) == 63)))) [
-                        | inl o ↦ rw (h, other, i, blank, j, end ∙ j, o, ask ∙ o) record { same = refl; lies = tt }
-                        | inr o ↦ rw (h, other, i, blank, j, end ∙ j, o, ask ∙ o, byte_same, move) record { same = refl; lies = (at_step t u d m p a l some, omega arith, here, there) }
-                      ]
-                ]
-          ]
-    ]
+          rw (h, value_alike t u d m p a l some, add_assoc d p (break_width t p))
+          record { same = refl; lies = (at_break t u d m p a l some, omega (arith, some), here, there) }
+      | inr h ↦ elim (cases_Bool (is_blank (byte t p))) [
+        | inl i ↦
+            let some = blank_some _ i in
+            let (here, there) = byte_at t u d m p a l some in
+            elim (cases_Bool (byte t p == 9 && (leads t p && nat_lt (column_at t p) level))) [
+              | inl j ↦ rw (h, i, j) record { same = refl; lies = tt }
+              | inr j ↦ rw (h, i, j, add_assoc d p 1) record { same = refl; lies = (at_step t u d m p a l some, omega arith, here, there) }
+            ]
+        | inr i ↦ elim (cases_Bool (ends_at flow level t p)) [
+          | inl j ↦ rw (h, i, j) record { same = refl; lies = tt }
+          | inr j ↦
+              let some = not_ended flow level t p j in
+              let (here, there) = byte_at t u d m p a l some in
+              elim (cases_Bool (flow && (byte t p == 58 && (is_bracket (byte t (p + 1)) || byte t (p + 1) == 63)))) [
+                | inl o ↦ rw (h, i, j, o) record { same = refl; lies = tt }
+                | inr o ↦ rw (h, i, j, o, add_assoc d p 1) record { same = refl; lies = (at_step t u d m p a l some, omega arith, here, there) }
+              ]
+        ]
+      ]
+    ])
 
 quiet_indicator_ends : (u : List ℕ) (p : ℕ) (flow : Bool) (level : ℕ)
     → (byte u p ≡ 0) ⊎ (is_document_indicator u p ≡ true) → ends_at flow level u p ≡ true
@@ -386,10 +372,9 @@ plain_alike t u d m flow level p a l some text =
     let spot = spot_there t u d m flow level p a led here.inside in
     let told = words_by (length t) t u d m flow level p (length t) (length u) (spot_at flow level t (p + 1)) a led here (omega arith) (omega arith) (omega arith) refl spot.same spot.lies in
     let r = words (length t) flow level t (p + 1) in
-    let move : d + p + 1 ≡ d + (p + 1) = omega arith in
     let same : words_from (Kept (byte u (d + p) ∷ [])) (d + p + 1) (words (length u) flow level u (d + p + 1))
     ≡ moved_by (moved_words d) d (words_from first (p + 1) r) =
-    rw (a.bytes p l, move, told.same) (from_moved d (p + 1) first r) in
+    rw (a.bytes p l, add_assoc d p 1, told.same) (from_moved d (p + 1) first r) in
     (rw same (plain_moved d (words_from first (p + 1) r)), plain_in m (words_from first (p + 1) r) (from_placed m (p + 1) first r told.placed))
 
 -- what begins a plain scalar

@@ -1,5 +1,5 @@
 -- Quoted scalars are the same in both texts, unless they are open where the first one ends.
-use Rattle.std.proofs.Common.{◌≡◌, ◌≢◌, ℕ, zero, suc, ◌+◌, ◌*◌, ◌<◌, ◌≤◌, ◌==◌, ◌&&◌, ◌||◌, nat_lt, Bool, true, false, List, length, Option, Some, None, option_and_then, option_map, Result, Ok, Err, refl, sym, ap, subst, ◌∙◌, inl, inr, ◌⊎◌, arith}
+use Rattle.std.proofs.Common.{◌≡◌, ◌≢◌, ℕ, zero, suc, ◌+◌, ◌*◌, ◌<◌, ◌≤◌, ◌==◌, ◌&&◌, ◌||◌, nat_lt, Bool, true, false, List, length, Option, Some, None, option_and_then, option_map, Result, Ok, Err, refl, sym, ap, subst, ◌∙◌, inl, inr, ◌⊎◌, arith, add_assoc}
 use Rattle.std.proofs.lemmas.Bool.{cases_Bool, cases_lt, and_parts, eqb-true, ltb-true}
 use Rattle.std.proofs.lemmas.Bool.Decides.{nat_tests}
 use Rattle.yaml_scan_history.specs.scan_model.declared.problem.Problem.TheVariants as problems
@@ -117,8 +117,7 @@ escape_alike t u d m p a l slash =
     let on : is_onward (byte t p) ≡ true = rw slash refl in
     let (more, next) = next_byte t u d m p a l on in
     let (here, there) = byte_at t u d m p a l (omega (arith, slash)) in
-    let move : d + p + 1 ≡ d + (p + 1) = omega arith in
-    let width : break_width u (d + p + 1) ≡ break_width t (p + 1) = rw move (width_alike t u d m (p + 1) a more) in
+    let width : break_width u (d + p + 1) ≡ break_width t (p + 1) = rw (add_assoc d p 1) (width_alike t u d m (p + 1) a more) in
     elim (cases_Bool (nat_lt 0 (break_width t (p + 1)))) [
       | inl h ↦
           let wide : 0 < break_width t (p + 1) = ltb-true _ _ h in
@@ -136,10 +135,9 @@ escape_alike t u d m p a l slash =
                 let at : At t u d m (p + 2) = rw (← e) (at_step t u d m (p + 1) a more (onward_some _ some)) in
                 let n = hex_len (byte t (p + 1)) in
                 let (same, lies) = hex_alike n t u d m (p + 2) a second at in
-                let f : d + p + 2 ≡ d + (p + 2) = omega arith in
                 let g : d + (p + 2) + n ≡ d + (p + 2 + n) = omega arith in
                 let k : nat_lt 0 (hex_len (byte u (d + p + 1))) ≡ true = ap (λ b. nat_lt 0 (hex_len b)) next ∙ i in
-                rw (h, other, i, k, next, f, same, g) (coded_alike t u d m p (p + 2) (p + 2 + n) (hex_value t (p + 2) n) (omega arith) here there lies)
+                rw (h, other, i, k, next, add_assoc d p 2, same, g) (coded_alike t u d m p (p + 2) (p + 2 + n) (hex_value t (p + 2) n) (omega arith) here there lies)
             | inr i ↦
                 let k : nat_lt 0 (hex_len (byte u (d + p + 1))) ≡ false = ap (λ b. nat_lt 0 (hex_len b)) next ∙ i in
                 let e : p + 1 + 1 ≡ p + 2 = omega arith in
@@ -176,9 +174,8 @@ closes_alike t u d m p quote a l on =
       | inr h ↦ rw (h, same ∙ h) record { same = refl; lies = at_step t u d m p a l (onward_some _ on) }
       | inl h ↦
           let second : byte t (p + 1) ≡ 39 = eqb-true _ _ (and_parts (quote == 39) (byte t (p + 1) == 39) h).1 in
-          let e : p + 1 + 1 ≡ p + 2 = omega arith in
           let f : d + p + 2 ≡ d + (p + 2) = omega arith in
-          let at : At t u d m (p + 2) = rw (← e) (at_step t u d m (p + 1) a more (omega (arith, second))) in
+          let at : At t u d m (p + 2) = rw (← (add_assoc p 1 1)) (at_step t u d m (p + 1) a more (omega (arith, second))) in
           rw (h, same ∙ h, f) record { same = refl; lies = (at, omega arith, here, there) }
     ]
 
@@ -189,51 +186,32 @@ stands_alike : (t u : List ℕ) (d m quote p : ℕ) → Alike t u d m → p < m 
     → StandsAlike t u d m p (standing_at quote t p) (standing_at quote u (d + p))
 unfolding standing_at
 stands_alike t u d m quote p a l q =
-    let indicator = indicator_alike t u d m p a l in
-    let b = a.bytes p l in
-    let width = width_alike t u d m p a l in
-    let move : d + p + 1 ≡ d + (p + 1) = omega arith in
-    elim (cases_Bool (is_document_indicator t p)) [
-      | inl h ↦ rw (h, indicator ∙ h) record { same = refl; lies = tt }
+    rw (indicator_alike t u d m p a l, width_alike t u d m p a l, a.bytes p l)
+    (elim (cases_Bool (is_document_indicator t p)) [
+      | inl h ↦ rw h record { same = refl; lies = tt }
       | inr h ↦ elim (cases_Bool (byte t p == 0)) [
-        | inl i ↦
-            let i2 : (byte u (d + p) == 0) ≡ true = ap (λ b. b == 0) b ∙ i in
-            rw (h, indicator ∙ h, i, i2) record { same = refl; lies = tt }
+        | inl i ↦ rw (h, i) record { same = refl; lies = tt }
         | inr i ↦
-            let i2 : (byte u (d + p) == 0) ≡ false = ap (λ b. b == 0) b ∙ i in
             let some = zero_false (byte t p) i in
             let (here, there) = byte_at t u d m p a l some in
             elim (cases_Bool (byte t p == quote)) [
-              | inl j ↦
-                  let j2 : (byte u (d + p) == quote) ≡ true = ap (λ b. b == quote) b ∙ j in
-                  rw (h, indicator ∙ h, i, i2, j, j2) (closes_alike t u d m p quote a l (quote_onward quote (byte t p) q j))
-              | inr j ↦
-                  let j2 : (byte u (d + p) == quote) ≡ false = ap (λ b. b == quote) b ∙ j in
-                  elim (cases_Bool (nat_lt 0 (break_width t p))) [
-                    | inl k ↦
-                        let k2 : nat_lt 0 (break_width u (d + p)) ≡ true = ap (λ w. nat_lt 0 w) width ∙ k in
-                        let wide = ltb-true _ _ k in
-                        let text = value_alike t u d m p a l wide in
-                        let far : d + p + break_width t p ≡ d + (p + break_width t p) = omega arith in
-                        rw (h, indicator ∙ h, i, i2, j, j2, k, k2, text, width, far) record { same = refl; lies = (at_break t u d m p a l wide, omega (arith, wide), here, there) }
-                    | inr k ↦
-                        let k2 : nat_lt 0 (break_width u (d + p)) ≡ false = ap (λ w. nat_lt 0 w) width ∙ k in
-                        elim (cases_Bool (is_blank (byte t p))) [
-                          | inl n ↦
-                              let n2 : is_blank (byte u (d + p)) ≡ true = ap is_blank b ∙ n in
-                              rw (h, indicator ∙ h, i, i2, j, j2, k, k2, n, n2, b, move) record { same = refl; lies = (at_step t u d m p a l some, omega arith, here, there) }
-                          | inr n ↦
-                              let n2 : is_blank (byte u (d + p)) ≡ false = ap is_blank b ∙ n in
-                              let slash : (quote == 34 && byte u (d + p) == 92) ≡ (quote == 34 && byte t p == 92) = ap (λ b. quote == 34 && b == 92) b in
-                              elim (cases_Bool (quote == 34 && byte t p == 92)) [
-                                | inl o ↦ rw (h, indicator ∙ h, i, i2, j, j2, k, k2, n, n2, o, slash ∙ o) (escape_alike t u d m p a l (eqb-true _ _ (and_parts (quote == 34) (byte t p == 92) o).1))
-                                | inr o ↦ rw (h, indicator ∙ h, i, i2, j, j2, k, k2, n, n2, o, slash ∙ o, b, move) record { same = refl; lies = (at_step t u d m p a l some, omega arith, here, there) }
-                              ]
-                        ]
+              | inl j ↦ rw (h, i, j) (closes_alike t u d m p quote a l (quote_onward quote (byte t p) q j))
+              | inr j ↦ elim (cases_Bool (nat_lt 0 (break_width t p))) [
+                | inl k ↦
+                    let wide = ltb-true _ _ k in
+                    rw (h, i, j, k, value_alike t u d m p a l wide, add_assoc d p (break_width t p))
+                    record { same = refl; lies = (at_break t u d m p a l wide, omega (arith, wide), here, there) }
+                | inr k ↦ elim (cases_Bool (is_blank (byte t p))) [
+                  | inl n ↦ rw (h, i, j, k, n, add_assoc d p 1) record { same = refl; lies = (at_step t u d m p a l some, omega arith, here, there) }
+                  | inr n ↦ elim (cases_Bool (quote == 34 && byte t p == 92)) [
+                    | inl o ↦ rw (h, i, j, k, n, o) (escape_alike t u d m p a l (eqb-true _ _ (and_parts (quote == 34) (byte t p == 92) o).1))
+                    | inr o ↦ rw (h, i, j, k, n, o, add_assoc d p 1) record { same = refl; lies = (at_step t u d m p a l some, omega arith, here, there) }
                   ]
+                ]
+              ]
             ]
       ]
-    ]
+    ])
 
 -- ---- pieces, one behind another
 
@@ -361,8 +339,7 @@ pieces_closed : (t u : List ℕ) (d m quote p n o : ℕ) → At t u d m (p + 1)
     → Told t u d m quote p (suc n) (suc o)
 unfolding pieces
 pieces_closed t u d m quote p n o at e f =
-    let move : d + p + 1 ≡ d + (p + 1) = omega arith in
-    rw (e, f, move) record { carried = inl refl; placed = at.inside }
+    rw (e, f, add_assoc d p 1) record { carried = inl refl; placed = at.inside }
 
 pieces_bad : (t u : List ℕ) (d m quote p n o : ℕ) (w : Wrong)
     → standing_at quote t p ≡ Bad w → standing_at quote u (d + p) ≡ Bad (moved_wrong d w)
@@ -444,7 +421,6 @@ pub quoted_alike : (t u : List ℕ) (d m quote p : ℕ) → Alike t u d m → p 
     → QuotedAlike u d m (quoted_at quote t p) (quoted_at quote u (d + p))
 quoted_alike t u d m quote p a l q some =
     let here = at_step t u d m p a l some in
-    let move : d + p + 1 ≡ d + (p + 1) = omega arith in
     let there = stands_there t u d m quote (p + 1) a here.inside q in
-    rw move (valued_alike u d m (pieces (length t) quote t (p + 1)) (pieces (length u) quote u (d + (p + 1)))
+    rw (add_assoc d p 1) (valued_alike u d m (pieces (length t) quote t (p + 1)) (pieces (length u) quote u (d + (p + 1)))
     (pieces_by (length t) t u d m quote (p + 1) (length t) (length u) (standing_at quote t (p + 1)) a q here (omega arith) (omega arith) (omega arith) refl there))

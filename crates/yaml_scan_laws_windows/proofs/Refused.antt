@@ -19,7 +19,8 @@ use Rattle.yaml_scan_laws_windows.specs.Laws.{scan_of, RefusedFrontsAreScanned}
 use Rattle.yaml_scan_laws_windows.proofs.Fronts.{next_open, next_over, history_more, front_next}
 use Rattle.yaml_scan_laws_windows.proofs.Rests.{AllCarry}
 use Rattle.yaml_scan_laws_windows.proofs.Joining.{told, offline_told, parted}
-use Rattle.yaml_scan_laws_windows.proofs.Windows.{coming_goes, made, all_is, front_carried, lexemes_zero, tokens_zero, no_bases, no_entries}
+use Rattle.yaml_scan_laws_windows.proofs.Opening.{coming_goes, front_carried, lexemes_zero, tokens_zero, no_bases, no_entries, all_is}
+use Rattle.yaml_scan_laws_windows.proofs.Windows.{made}
 use Rattle.yaml_scan_laws_windows.proofs.Failing.{some_none, fails_not, reads_not, fails_same, fails_there, fails_back}
 use Rattle.yaml_scan_laws_order.proofs.StreamForward.{fault_next}
 
@@ -34,10 +35,10 @@ kept_by (Read l) H never = absurd (never l refl)
 kept_by (Fails f) H never = refl
 kept_by Ends H never = refl
 
-ends_not : {f : ScanFault} → Ends ≡ Fails f → ⊥
+pub ends_not : {f : ScanFault} → Ends ≡ Fails f → ⊥
 ends_not e = cc
 
-ends_reads : {l : Lexeme} → Ends ≡ Read l → ⊥
+pub ends_reads : {l : Lexeme} → Ends ≡ Read l → ⊥
 ends_reads e = cc
 
 -- no step ends

@@ -10,10 +10,10 @@ use Rattle.yaml_scan_history.specs.scan_model.Wrong.{Wrong}
 use Rattle.yaml_scan_history.specs.declared.kind.Kind.{Kind}
 use Rattle.yaml_scan_history.specs.declared.kind.Kind.TheVariants as kinds
 use Rattle.yaml_scan_history.specs.declared.lexeme.Lexeme.{Lexeme}
-use Rattle.yaml_scan_history.specs.Kinds.{is_end}
+use Rattle.yaml_scan_history.specs.Kinds.{is_end, cancels}
 use Rattle.yaml_scan_history.specs.History.{reached, depth, in_flow, candidate, has, found_by, levels, key_allowed}
 use Rattle.yaml_scan_history.specs.Words.{WordText, kind_at, word_at}
-use Rattle.yaml_scan_history.specs.Next.{Next, Read, Fails, Ends, first_lexeme, gap_behind, kind_behind, begun_behind, word_behind, with_end, lexeme_behind, stale_before, coming, next, extended, step, history}
+use Rattle.yaml_scan_history.specs.Next.{Next, Read, Fails, Ends, first_lexeme, gap_behind, kind_behind, begun_behind, word_behind, lexeme_behind, stale_before, coming, next, extended, step, history}
 use Rattle.yaml_scan_history.specs.Remaining.{SpelledText, body_of_word, body_by, body_in, all}
 use Rattle.yaml_scan_history.proofs.PlacesLemmas.{gap_place}
 use Rattle.yaml_scan_laws_order.proofs.HistoryForward.{Stands, history_stands, not_ended, all_ends, stays_all, last_is_all}
@@ -28,7 +28,7 @@ use Rattle.yaml_scan_laws_windows.proofs.Words.{moved_word}
 use Rattle.yaml_scan_laws_windows.proofs.Cutting.{first_mark, rest_columns, rest_lines, rest_alike, rest_end}
 use Rattle.yaml_scan_laws_windows.proofs.Histories.{Bases, moved_lexemes}
 use Rattle.yaml_scan_laws_windows.proofs.Coming.{Pair, abreast, pair_on, Said, lexeme_there}
-use Rattle.yaml_scan_laws_windows.proofs.Stepping.{rest_said, rest_comes, HasRead, has_read, read_kind}
+use Rattle.yaml_scan_laws_windows.proofs.Stepping.{rest_said, rest_comes, HasRead, has_read, read_kind, kept}
 use Rattle.yaml_scan_laws_windows.proofs.Fronts.{next_open, next_over, history_more}
 use Rattle.yaml_scan_laws_windows.proofs.Marking.{IsMark, mark_lexeme, mark_reads, none_left}
 use Rattle.yaml_scan_laws_windows.proofs.Turning.{MarkStands}
@@ -41,33 +41,6 @@ pub body_same : (k : Kind) (s v : SpelledText) (l y : Lexeme) → s.encoding ≡
     → body_by k s l ≡ body_by k v y
 body_same kinds.StreamStart s v l y e h = rw e refl
 body_same _ s v l y e h = h
-
-index_placed : (t : List ℕ) (l : Lexeme) (r : Result WordText Wrong)
-    → (with_end t l r).start ≡ l.start
-index_placed t l (Err w) = refl
-index_placed t l (Ok w) =
-    elim (cases_Bool (is_end l.kind)) [
-      | inl e ↦ rw e refl
-      | inr e ↦ rw e refl
-    ]
-
-pub depth_placed : (t : List ℕ) (l : Lexeme) (r : Result WordText Wrong)
-    → (with_end t l r).depth ≡ l.depth
-depth_placed t l (Err w) = refl
-depth_placed t l (Ok w) =
-    elim (cases_Bool (is_end l.kind)) [
-      | inl e ↦ rw e refl
-      | inr e ↦ rw e refl
-    ]
-
-level_placed : (t : List ℕ) (l : Lexeme) (r : Result WordText Wrong)
-    → (with_end t l r).level ≡ l.level
-level_placed t l (Err w) = refl
-level_placed t l (Ok w) =
-    elim (cases_Bool (is_end l.kind)) [
-      | inl e ↦ rw e refl
-      | inr e ↦ rw e refl
-    ]
 
 start_index : (x : Kind) (t : List ℕ) (H : List Lexeme)
     → (begun_behind x t H).start.index ≡ (gap_behind t H).place
@@ -82,9 +55,10 @@ pub word_of : (x : Kind) (t : List ℕ) (H : List Lexeme) (l : Lexeme) → lexem
     → word_at x (nat_lt 0 l.depth) l.level t l.start.index ≡ word_behind x t H
 word_of x t H l e =
     let y = begun_behind x t H in
-    let depth : l.depth ≡ depth H = ap (λ (z : Lexeme). z.depth) (sym e) ∙ depth_placed t y (word_behind x t H) in
-    let level : l.level ≡ y.level = ap (λ (z : Lexeme). z.level) (sym e) ∙ level_placed t y (word_behind x t H) in
-    let at : l.start.index ≡ (gap_behind t H).place = ap (λ (z : Lexeme). z.start.index) (sym e) ∙ ap (λ (m : yaml_mark_t). m.index) (index_placed t y (word_behind x t H)) ∙ start_index x t H in
+    let same = kept t y (word_behind x t H) in
+    let depth : l.depth ≡ depth H = ap (λ (z : Lexeme). z.depth) (sym e) ∙ same.deep in
+    let level : l.level ≡ y.level = ap (λ (z : Lexeme). z.level) (sym e) ∙ same.level in
+    let at : l.start.index ≡ (gap_behind t H).place = ap (λ (z : Lexeme). z.start.index) (sym e) ∙ ap (λ (m : yaml_mark_t). m.index) same.start ∙ start_index x t H in
     rw (depth, level, at) refl
 
 same_word : (d : ℕ) (r : Result WordText Wrong)
@@ -127,16 +101,16 @@ stale_first b = refl
 abbrev pub rest_base : Kind → List ℕ → List Lexeme
 rest_base K b = mark_lexeme K b 0 ∷ first_lexeme ∷ []
 
-first_reads : (a b : List ℕ) → IsCut a b → (m : MarkStands false b 0)
+first_reads : (a b : List ℕ) → IsCut a b → (m : MarkStands b 0)
     → next b (first_lexeme ∷ []) ≡ Read (mark_lexeme m.kind b 0)
 unfolding candidate
 first_reads a b cut m =
     let at = first_gap a b cut in
-    let stands : kind_behind b (first_lexeme ∷ []) ≡ Some m.kind = ap (kind_at false b) at ∙ m.stands in
+    let stands : kind_behind b (first_lexeme ∷ []) ≡ Some m.kind = ap (kind_at false b) at ∙ m.stands false in
     next_open b first_lexeme [] refl ∙ ap (λ o. coming o b (first_lexeme ∷ [])) stands
     ∙ mark_reads m.kind m.body m.is b (first_lexeme ∷ []) 0 at refl (stale_first b) tt
 
-pub rest_begins : (a b : List ℕ) → IsCut a b → (m : MarkStands false b 0)
+pub rest_begins : (a b : List ℕ) → IsCut a b → (m : MarkStands b 0)
     → history b 2 ≡ rest_base m.kind b
 unfolding history next
 rest_begins a b cut m = ap (λ x. extended x (first_lexeme ∷ [])) (first_reads a b cut m)
@@ -150,15 +124,12 @@ rest_marks a b cut q = rw (rest_lines a b cut q, rest_columns a b cut q) refl
 abbrev pub whole_base : Kind → List ℕ → List ℕ → List Lexeme → List Lexeme
 whole_base K a b H = mark_lexeme K (a ++ b) (length a) ∷ H
 
-pub mark_candidate : (K : Kind) (body : TokenBody) → IsMark K body
-    → (t : List ℕ) (p : ℕ) (H : List Lexeme)
-    (e : ℕ) → candidate e (mark_lexeme K t p ∷ H) ≡ None
+-- a lexeme outside of brackets that cancels, and can be no key, leaves no candidate
+pub no_candidates : (l : Lexeme) (H : List Lexeme) → l.depth ≡ 0 → l.saved ≡ false
+    → cancels l.kind ≡ true → (e : ℕ) → candidate e (l ∷ H) ≡ None
 unfolding candidate
-mark_candidate K body m t p H zero = rw m.cancels refl
-mark_candidate K body m t p H (suc e) =
-    let off : (0 == suc e) ≡ false = not_zero e in
-    let in_it : nat_lt 0 (suc e) ≡ true = some e in
-    rw (off, in_it) refl
+no_candidates l H z s c zero = rw (z, s, c) refl
+no_candidates l H z s c (suc e) = rw (z, not_zero e, some e) refl
   where
     not_zero : (e : ℕ) → (0 == suc e) ≡ false
     not_zero e = grind (arith, nat_tests)
@@ -166,13 +137,17 @@ mark_candidate K body m t p H (suc e) =
     some : (e : ℕ) → nat_lt 0 (suc e) ≡ true
     some e = grind (arith, nat_tests)
 
+pub mark_candidate : (K : Kind) (body : TokenBody) → IsMark K body → (t : List ℕ) (p : ℕ)
+    (H : List Lexeme) (e : ℕ) → candidate e (mark_lexeme K t p ∷ H) ≡ None
+mark_candidate K body m t p H e = no_candidates (mark_lexeme K t p) H refl refl m.cancels e
+
 pub mark_levels : (K : Kind) (body : TokenBody) → IsMark K body
     → (t : List ℕ) (p : ℕ) (H : List Lexeme)
     → levels (mark_lexeme K t p ∷ H) ≡ []
 unfolding levels
 mark_levels K body m t p H = rw (m.start, m.outside) (none_left H)
 
-pub rest_bases : (a b : List ℕ) → IsCut a b → (m : MarkStands false b 0) → (H : List Lexeme)
+pub rest_bases : (a b : List ℕ) → IsCut a b → (m : MarkStands b 0) → (H : List Lexeme)
     → 0 < length H
     → Bases (length a) (line_at (a ++ b) (length a)) (length H - 1) (rest_base m.kind b) (whole_base m.kind a b H)
 rest_bases a b cut m H some = record {
@@ -197,7 +172,7 @@ reached_in t [] s = omega arith
 reached_in t (l ∷ h) s = s.inside
 
 -- behind a mark
-pub rest_ground : (a b : List ℕ) → IsCut a b → (m : MarkStands false b 0) → (H : List Lexeme)
+pub rest_ground : (a b : List ℕ) → IsCut a b → (m : MarkStands b 0) → (H : List Lexeme)
     → 0 < length H → Ground a b (length H - 1) (rest_base m.kind b) (whole_base m.kind a b H)
 rest_ground a b cut m H some =
     let bases = rest_bases a b cut m H some in
@@ -232,8 +207,7 @@ rest_pair a b k B C g h s =
 gap_in : (t : List ℕ) (H : List Lexeme) → Stands t H → (gap_behind t H).place < suc (length t)
 gap_in t H s =
     let place = gap_place (in_flow H) (key_allowed H) t (reached H).index (reached_in t H s) in
-    let inside = place.inside in
-    omega (arith, inside)
+    omega (arith, place.inside)
 
 rest_coming : (a b : List ℕ) (k : ℕ) (B C : List Lexeme) → Ground a b k B C → (h : List Lexeme)
     → Stands b (h ++ B)

@@ -52,14 +52,13 @@ pub rest_said : (t u : List ℕ) (d m n k : ℕ) (H G : List Lexeme) → Pair t 
     → (gap_behind t H).place < m → (x : Kind) → kind_behind t H ≡ Some x
     → Said t u d m n x (word_behind x t H) (word_behind x u G)
 rest_said t u d m n k H G p none marks l x e =
-    let covers = p.alike.covers in
     record {
       same = elim (word_there t u d m n k H G p l x e) [
         | inl same ↦ same
         | inr torn ↦ absurd (true≢false (sym torn.mark ∙ none))
       ];
       wrong = λ w bad. marks w.place;
-      ends = λ w is go. let (end, place) = word_inside t H x e go w is in (omega (arith, end, covers), omega (arith, place, covers));
+      ends = λ w is go. let (end, place) = word_inside t H x e go w is in (omega (arith, end, p.alike.covers), omega (arith, place, p.alike.covers));
     }
 
 -- What comes in the rest comes in the whole.
@@ -135,18 +134,26 @@ has_read t H l r = go (kind_behind t H) refl
         let (w, is) = word_of x c (word_behind x t H) refl in
         record { kind = x; stands = e; clean = c; word = w; reads = is }
 
-with_kind : (t : List ℕ) (l : Lexeme) (r : Result WordText Wrong) → (with_end t l r).kind ≡ l.kind
-with_kind t l (Err w) = refl
-with_kind t l (Ok w) =
+-- nothing else of a lexeme changes by its end
+pub record Kept (l y : Lexeme) : Type 0 where
+  pub kind : y.kind ≡ l.kind
+  pub start : y.start ≡ l.start
+  pub deep : y.depth ≡ l.depth
+  pub level : y.level ≡ l.level
+  pub saved : y.saved ≡ l.saved
+
+pub kept : (t : List ℕ) (l : Lexeme) (r : Result WordText Wrong) → Kept l (with_end t l r)
+kept t l (Err w) = record { kind = refl; start = refl; deep = refl; level = refl; saved = refl }
+kept t l (Ok w) =
     elim (cases_Bool (is_end l.kind)) [
-      | inl e ↦ rw e refl
-      | inr e ↦ rw e refl
+      | inl e ↦ rw e record { kind = refl; start = refl; deep = refl; level = refl; saved = refl }
+      | inr e ↦ rw e record { kind = refl; start = refl; deep = refl; level = refl; saved = refl }
     ]
 
 -- the kind that stands there is the lexeme's
 pub read_kind : (t : List ℕ) (H : List Lexeme) (l : Lexeme) → (r : HasRead t H l) → l.kind ≡ r.kind
 read_kind t H l r =
-    ap (λ (y : Lexeme). y.kind) (sym r.clean.is) ∙ with_kind t (begun_behind r.kind t H) (word_behind r.kind t H)
+    ap (λ (y : Lexeme). y.kind) (sym r.clean.is) ∙ (kept t (begun_behind r.kind t H) (word_behind r.kind t H)).kind
 
 -- a lexeme but the end stands in front of the end
 pub read_within : (t u : List ℕ) (d m n k : ℕ) (H G : List Lexeme) → Pair t u d m n k H G
@@ -155,8 +162,7 @@ read_within t u d m n k H G p l r go =
     elim (cases_lt (gap_behind t H).place m) [
       | inl on ↦ on
       | inr past ↦
-          let inside = p.inside in
-          let e : (gap_behind t H).place ≡ m = omega (arith, past, inside) in
+          let e : (gap_behind t H).place ≡ m = omega (arith, past, p.inside) in
           let zero : byte t (gap_behind t H).place ≡ 0 = ap (λ q. byte t q) e ∙ p.alike.edge in
           let same = same_Some kinds.StreamEnd r.kind (sym (end_kind (in_flow H) t (gap_behind t H).place zero) ∙ r.stands) in
           absurd (true≢false (ap is_end (same ∙ sym (read_kind t H l r)) ∙ go))
@@ -166,14 +172,13 @@ pub front_said : (t u : List ℕ) (d m n k : ℕ) (H G : List Lexeme) → Pair t
     → (l : Lexeme) → (r : HasRead t H l) → is_end l.kind ≡ false
     → Said t u d m n r.kind (word_behind r.kind t H) (word_behind r.kind u G)
 front_said t u d m n k H G p l r go =
-    let covers = p.alike.covers in
     record {
       same = elim (word_there t u d m n k H G p (read_within t u d m n k H G p l r go) r.kind r.stands) [
         | inl same ↦ same
         | inr torn ↦ absurd (ok_not r.word torn.wrong (sym r.reads ∙ torn.mine))
       ];
       wrong = λ w bad. absurd (ok_not r.word w (sym r.reads ∙ bad));
-      ends = λ w is go. let (end, place) = word_inside t H r.kind r.stands go w is in (omega (arith, end, covers), omega (arith, place, covers));
+      ends = λ w is go. let (end, place) = word_inside t H r.kind r.stands go w is in (omega (arith, end, p.alike.covers), omega (arith, place, p.alike.covers));
     }
   where
     ok_not : (v : WordText) (w : Wrong) → Ok v ≡ Err w → ⊥

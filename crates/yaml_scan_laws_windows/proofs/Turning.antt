@@ -1,5 +1,5 @@
 -- Where the front ends, the whole goes on with the rest's mark.
-use Rattle.std.proofs.Common.{◌≡◌, ℕ, suc, ◌+◌, ◌≤◌, ◌==◌, ◌&&◌, ◌||◌, nat_lt, if◌then◌else◌, Bool, true, false, not, List, [], ◌∷◌, ◌++◌, length, Option, Some, None, refl, sym, ap, subst, ◌∙◌, inl, inr, ◌⊎◌, arith}
+use Rattle.std.proofs.Common.{add-zero, ◌≡◌, ℕ, suc, ◌+◌, ◌≤◌, ◌==◌, ◌&&◌, ◌||◌, if◌then◌else◌, Bool, true, false, not, List, ◌++◌, length, Option, Some, None, refl, sym, ap, subst, ◌∙◌, inl, inr, ◌⊎◌, arith}
 use Rattle.std.proofs.lemmas.Bool.{cases_Bool, cases_lt, and_parts, eqb-true, true≢false}
 use Rattle.std.proofs.Math.Bool.{and-false}
 use Rattle.yaml_scan_history.specs.scan_model.declared.record.yaml_mark_t.{yaml_mark_t}
@@ -13,20 +13,18 @@ use Rattle.yaml_scan_history.specs.declared.kind.Kind.{Kind}
 use Rattle.yaml_scan_history.specs.declared.kind.Kind.TheVariants as kinds
 use Rattle.yaml_scan_history.specs.declared.lexeme.Lexeme.{Lexeme}
 use Rattle.yaml_scan_history.specs.Kinds.{cancels, is_value, is_end}
-use Rattle.yaml_scan_history.specs.History.{reached, depth, in_flow, Candidate, candidate, fresh, key_allowed, placed}
+use Rattle.yaml_scan_history.specs.History.{reached, in_flow, Candidate, key_allowed, placed}
 use Rattle.yaml_scan_history.specs.Words.{indicator_of, or_plain, kind_at, word_at}
-use Rattle.yaml_scan_history.specs.Next.{Read, gap_behind, place_behind, kind_behind, begun_behind, lexeme_behind, lost_by, colon_missing_of, stale_before, candidate_lost, coming, next}
+use Rattle.yaml_scan_history.specs.Next.{gap_behind, kind_behind, begun_behind, lexeme_behind, lost_by, colon_missing_of}
 use Rattle.yaml_scan_history.proofs.MarksLemmas.{start_line}
 use Rattle.yaml_scan_history.proofs.PlacesLemmas.{gap_place}
-use Rattle.yaml_scan_laws_order.proofs.HistoryForward.{Stands, not_ended, first_is}
 use Rattle.yaml_scan_laws_windows.specs.Cuts.{IsCut}
 use Rattle.yaml_scan_laws_windows.specs.Moved.{moved_mark}
 use Rattle.yaml_scan_laws_windows.proofs.Words.{kind_alike}
 use Rattle.yaml_scan_laws_windows.proofs.Cutting.{cut_column, front_alike, rest_alike}
-use Rattle.yaml_scan_laws_windows.proofs.Coming.{moved_fault, mark_alike, place_there, stale_there}
-use Rattle.yaml_scan_laws_windows.proofs.Stepping.{has_read, read_kind}
-use Rattle.yaml_scan_laws_windows.proofs.Fronts.{mark_zero, front_pair, next_open}
-use Rattle.yaml_scan_laws_windows.proofs.Marking.{IsMark, start_mark, end_mark, mark_lexeme, IsFree, mark_reads}
+use Rattle.yaml_scan_laws_windows.proofs.Coming.{mark_alike}
+use Rattle.yaml_scan_laws_windows.proofs.Fronts.{mark_zero}
+use Rattle.yaml_scan_laws_windows.proofs.Marking.{IsMark, start_mark, end_mark, IsFree}
 
 -- ---- the stream's end stands where the text ends
 
@@ -87,11 +85,11 @@ end_is _ h = absurd (true≢false (sym h))
 -- ---- the mark of the rest
 
 -- a mark stands there
-pub record MarkStands (flow : Bool) (t : List ℕ) (p : ℕ) : Type 0 where
+pub record MarkStands (t : List ℕ) (p : ℕ) : Type 0 where
   pub kind : Kind
   pub body : TokenBody
   pub is : IsMark kind body
-  pub stands : kind_at flow t p ≡ Some kind
+  pub stands : (flow : Bool) → kind_at flow t p ≡ Some kind
 
 mark_parts : (c z x y : Bool) → ((c && (x || y)) && z) ≡ true
     → (((c && x) && z) ≡ true) ⊎ (((c && y) && z) ≡ true)
@@ -152,12 +150,17 @@ finishes flow t p h =
     let other : is_document_start t p ≡ false = no_start t p b in
     rw (zero, percent, other, h) refl
 
-pub mark_stands : (flow : Bool) (t : List ℕ) (p : ℕ) → is_document_indicator t p ≡ true
-    → MarkStands flow t p
-mark_stands flow t p h =
+abbrev pub start_stands : (t : List ℕ) (p : ℕ) → is_document_start t p ≡ true → MarkStands t p
+start_stands t p e = record { kind = kinds.DocumentStart; body = tokens.document_start; is = start_mark; stands = λ flow. starts flow t p e }
+
+abbrev pub end_stands : (t : List ℕ) (p : ℕ) → is_document_end t p ≡ true → MarkStands t p
+end_stands t p e = record { kind = kinds.DocumentEnd; body = tokens.document_end; is = end_mark; stands = λ flow. finishes flow t p e }
+
+pub mark_stands : (t : List ℕ) (p : ℕ) → is_document_indicator t p ≡ true → MarkStands t p
+mark_stands t p h =
     elim (indicator_cases t p h) [
-      | inl e ↦ record { kind = kinds.DocumentStart; body = tokens.document_start; is = start_mark; stands = starts flow t p e }
-      | inr e ↦ record { kind = kinds.DocumentEnd; body = tokens.document_end; is = end_mark; stands = finishes flow t p e }
+      | inl e ↦ start_stands t p e
+      | inr e ↦ end_stands t p e
     ]
 
 -- ---- the turn
@@ -189,22 +192,13 @@ pub end_begun : (t : List ℕ) (H : List Lexeme)
 unfolding word_at
 end_begun t H = refl
 
--- where the front's end is read, the whole reads the mark
-pub record Turns (a b : List ℕ) (K : Kind) (H : List Lexeme) (E : Lexeme) : Type 0 where
-  pub reads : next (a ++ b) H ≡ Read (mark_lexeme K (a ++ b) (length a))
-  pub kind : E.kind ≡ kinds.StreamEnd
-  pub start : E.start ≡ mark_at (a ++ b) (length a)
-  pub end : E.end ≡ E.start
-  pub outer : E.depth ≡ 0
-
 pub end_place : (a b : List ℕ) → IsCut a b → (H : List Lexeme) → (reached H).index ≤ length a
     → byte a (gap_behind a H).place ≡ 0 → (gap_behind a H).place ≡ length a
 end_place a b cut H inside none =
     let place = gap_place (in_flow H) (key_allowed H) a (reached H).index inside in
-    let far = place.inside in
     elim (cases_lt (gap_behind a H).place (length a)) [
       | inl on ↦ let some = cut.some (gap_behind a H).place on in absurd (omega (arith, some, none))
-      | inr past ↦ omega (arith, far, past)
+      | inr past ↦ omega (arith, place.inside, past)
     ]
 
 pub mark_there : (a b : List ℕ) → IsCut a b → mark_at a (length a) ≡ mark_at (a ++ b) (length a)
@@ -219,41 +213,10 @@ pub end_mark_placed : (a b : List ℕ) → IsCut a b
     → placed kinds.StreamEnd (mark_at (a ++ b) (length a)) ≡ mark_at (a ++ b) (length a)
 end_mark_placed a b cut = rw (cut_column a b cut) refl
 
-pub turns : (a b : List ℕ) → (cut : IsCut a b) → (H : List Lexeme) → Stands a H → (E : Lexeme)
-    → next a H ≡ Read E → is_end E.kind ≡ true → depth H ≡ 0
-    → (m : MarkStands false b 0) → Turns a b m.kind H E
-turns a b cut [] stands E e end z m =
-    absurd (true≢false (sym end ∙ ap (λ (l : Lexeme). is_end l.kind) (sym (first_is a E e))))
-turns a b cut (x ∷ h) stands E e end z m =
-    let H = x ∷ h in
-    let W = a ++ b in
-    let more = not_ended a x h E e in
-    let r = has_read a H E (sym (next_open a x h more) ∙ e) in
-    let over : is_end r.kind ≡ true = ap is_end (sym (read_kind a H E r)) ∙ end in
-    let is = end_is r.kind over in
-    let none = end_byte (in_flow H) a (gap_behind a H).place r.kind r.stands over in
-    let at = end_place a b cut H stands.inside none in
-    let pair = front_pair a b cut H stands.inside in
-    let gap = pair.place in
-    let there : (gap_behind W H).place ≡ length a = omega (arith, gap, at) in
-    let stale : stale_before W H ≡ None = stale_there a W 0 (length a) 0 0 H H pair ∙ ap (moved_fault 0 0) r.clean.stale in
-    let place : place_behind W H ≡ place_behind a H = place_there a W 0 (length a) 0 0 H H pair ∙ mark_zero (place_behind a H) in
-    let lost : candidate_lost kinds.StreamEnd a H ≡ None = ap (λ k. candidate_lost k a H) (sym is) ∙ r.clean.lost in
-    let mine = free_of (begun_behind kinds.StreamEnd a H) (fresh (candidate (depth H) H) (place_behind a H)) refl refl
-    (colon_none (lost_by (begun_behind kinds.StreamEnd a H) (fresh (candidate (depth H) H) (place_behind a H))) (begun_behind kinds.StreamEnd a H).start lost) in
-    let free : IsFree (fresh (candidate (depth H) H) (place_behind W H)) = subst (λ q. IsFree (fresh (candidate (depth H) H) q)) (sym place) mine in
-    let flow : in_flow H ≡ false = ap (λ n. nat_lt 0 n) z in
-    let first : length a + 0 ≡ length a = omega arith in
-    let stands_there : kind_behind W H ≡ Some m.kind =
-    ap (λ f. kind_at f W (gap_behind W H).place) flow ∙ ap (kind_at false W) (there ∙ sym first)
-    ∙ kind_alike b W (length a) (suc (length b)) 0 false (rest_alike a b cut) (omega arith) ∙ m.stands in
-    let same : begun_behind kinds.StreamEnd a H ≡ E = sym (end_begun a H) ∙ ap (λ k. lexeme_behind k a H) (sym is) ∙ r.clean.is in
-    let begins : (begun_behind kinds.StreamEnd a H).start ≡ mark_at W (length a) =
-    ap (λ q. placed kinds.StreamEnd (mark_at a q)) at ∙ ap (placed kinds.StreamEnd) (mark_there a b cut) ∙ end_mark_placed a b cut in
-    record {
-      reads = next_open W x h more ∙ ap (λ o. coming o W H) stands_there ∙ mark_reads m.kind m.body m.is W H (length a) there z stale free;
-      kind = ap (λ (l : Lexeme). l.kind) (sym same);
-      start = ap (λ (l : Lexeme). l.start) (sym same) ∙ begins;
-      end = ap (λ (l : Lexeme). l.end) (sym same) ∙ ap (λ (l : Lexeme). l.start) same;
-      outer = ap (λ (l : Lexeme). l.depth) (sym same) ∙ z;
-    }
+-- where the front's lexemes end, the rest's mark stands in the whole
+pub stands_there : (a b : List ℕ) → IsCut a b → (H : List Lexeme) (K : Kind)
+    → kind_at (in_flow H) b 0 ≡ Some K → (gap_behind (a ++ b) H).place ≡ length a
+    → kind_behind (a ++ b) H ≡ Some K
+stands_there a b cut H K is at =
+    ap (kind_at (in_flow H) (a ++ b)) (at ∙ sym (add-zero (length a)))
+    ∙ kind_alike b (a ++ b) (length a) (suc (length b)) 0 (in_flow H) (rest_alike a b cut) (omega arith) ∙ is

@@ -153,14 +153,10 @@ none_joins w p kind.YAML_ANCHOR_TOKEN h = absurd (false≢true (sym h))
 none_joins w p kind.YAML_TAG_TOKEN h = absurd (false≢true (sym h))
 none_joins w p _ h = h
 
-with_properties_leaves_at : (w : Wants) (p : Properties) (k : yaml_token_type_t) → ends w k ≡ true
-    → choice_at (state.with_properties w p) k ≡ Leave
-with_properties_leaves_at w p k h = ap (λ (b : Bool). if b then Take else Leave) (none_joins w p k (ends_apart w k h))
-
 with_properties_leaves : (w : Wants) (p : Properties) (ts : List Token) → Ends w ts
     → Leaves (state.with_properties w p) ts
 with_properties_leaves w p [] h = h
-with_properties_leaves w p (t ∷ ts) h = with_properties_leaves_at w p (type_of t.body) h
+with_properties_leaves w p (t ∷ ts) h = ap (λ (b : Bool). if b then Take else Leave) (none_joins w p (type_of t.body) (ends_apart w (type_of t.body) h))
 
 -- what a node's first token does above a stack
 abbrev pub run_node : Wants → List Token → List State → Option Fault → Outcome
@@ -299,37 +295,6 @@ pub step_take : (x : State) (t : Token) (ts : List Token) (s : List State) (f : 
 unfolding run feed
 step_take x t ts s f h = ap (λ (c : Choice). carry (length ts) (turn c x t s (feed s t)) (λ s'. run ts s' f)) h
 
-entries_close : (p : Span) (o : yaml_mark_t) (rest : List Token) (s : List State) (f : Option Fault)
-    → run (token_at token.block_end p ∷ rest) (state.entries o ∷ s) f
-    ≡ giving (items_entries (tree.end_entries p) rest) (run rest s f)
-entries_close p o rest s f = step_take (state.entries o) _ rest s f refl
-
-entry_opens : (p : Span) (o : yaml_mark_t) (ts : List Token) (s : List State) (f : Option Fault)
-    → run (token_at token.block_entry p ∷ ts) (state.entries o ∷ s) f
-    ≡ run ts (state.optional Entry p.to ∷ state.entries o ∷ s) f
-entry_opens p o ts s f = step_take (state.entries o) _ ts s f refl
-
-other_opens : (p : Span) (side : Side) (ts : List Token) (s : List State) (f : Option Fault)
-    → run (token_at token.block_entry p ∷ ts) (state.others side ∷ s) f
-    ≡ run ts (state.optional (IndentlessEntry side) p.to ∷ state.others side ∷ s) f
-other_opens p side ts s f = step_take (state.others side) _ ts s f refl
-
-pairs_close : (p : Span) (o : yaml_mark_t) (rest : List Token) (s : List State) (f : Option Fault)
-    → run (token_at token.block_end p ∷ rest) (state.pairs o ∷ s) f
-    ≡ giving (items_pairs (tree.end_pairs p) rest) (run rest s f)
-pairs_close p o rest s f = step_take (state.pairs o) _ rest s f refl
-
-pair_opens : (p : Span) (o : yaml_mark_t) (ts : List Token) (s : List State) (f : Option Fault)
-    → run (token_at token.key p ∷ ts) (state.pairs o ∷ s) f
-    ≡ run ts (state.optional (BlockPair Key) p.to ∷ state.colon (BlockPair Value) ∷ state.pairs o
-    ∷ s) f
-pair_opens p o ts s f = step_take (state.pairs o) _ ts s f refl
-
-colon_opens : (p : Span) (place : Site) (ts : List Token) (s : List State) (f : Option Fault)
-    → run (token_at token.value p ∷ ts) (state.colon place ∷ s) f
-    ≡ run ts (state.optional place p.to ∷ s) f
-colon_opens p place ts s f = step_take (state.colon place) _ ts s f refl
-
 items_close : (b : Brackets) (p : Span) (o : yaml_mark_t) (rest : List Token) (s : List State)
     (f : Option Fault)
     → run (token_at (closing b) p ∷ rest) (state.items b o ∷ s) f
@@ -343,11 +308,6 @@ more_close : (b : Brackets) (p : Span) (o : yaml_mark_t) (rest : List Token) (s 
     ≡ giving (items_more b (tree.end_more p) rest) (run rest s f)
 more_close brackets.Sequence p o rest s f = step_take (state.more brackets.Sequence o) _ rest s f refl
 more_close brackets.Mapping p o rest s f = step_take (state.more brackets.Mapping o) _ rest s f refl
-
-comma_opens : (b : Brackets) (p : Span) (o : yaml_mark_t) (ts : List Token) (s : List State)
-    (f : Option Fault)
-    → run (token_at token.flow_entry p ∷ ts) (state.more b o ∷ s) f ≡ run ts (state.items b o ∷ s) f
-comma_opens b p o ts s f = step_take (state.more b o) _ ts s f refl
 
 -- the states behind a pair inside brackets
 abbrev pair_below : Brackets → List State → List State
@@ -512,7 +472,7 @@ mutual
       → run (spell_colon v rest) (state.colon place ∷ s) f
       ≡ giving (items_colon v place rest) (run rest s f)
   colon_runs tree.no_colon place e rest s f l h = leaves (state.colon place) rest s f l
-  colon_runs (tree.colon p m) place e rest s f l h = colon_opens p place (spell_maybe m rest) s f ∙ maybe_runs m place e p.to rest s f h
+  colon_runs (tree.colon p m) place e rest s f l h = step_take (state.colon place) _ (spell_maybe m rest) s f refl ∙ maybe_runs m place e p.to rest s f h
 
   pub items_run : (i : Items) (b : Brackets) (o : yaml_mark_t) (rest : List Token) (s : List State)
       (f : Option Fault)
@@ -538,15 +498,15 @@ mutual
       → run (spell_more b m rest) (state.more b o ∷ s) f
       ≡ giving (items_more b m rest) (run rest s f)
   more_runs (tree.end_more p) b o rest s f = more_close b p o rest s f
-  more_runs (tree.comma p i) b o rest s f = comma_opens b p o (spell_items b i rest) s f ∙ items_run i b o rest s f
+  more_runs (tree.comma p i) b o rest s f = step_take (state.more b o) _ (spell_items b i rest) s f refl ∙ items_run i b o rest s f
 
   pub entries_run : (e : Entries) (o : yaml_mark_t) (rest : List Token) (s : List State)
       (f : Option Fault)
       → run (spell_entries e rest) (state.entries o ∷ s) f
       ≡ giving (items_entries e rest) (run rest s f)
-  entries_run (tree.end_entries p) o rest s f = entries_close p o rest s f
+  entries_run (tree.end_entries p) o rest s f = step_take (state.entries o) _ rest s f refl
   entries_run (tree.entry p m e) o rest s f =
-      entry_opens p o (spell_maybe m (spell_entries e rest)) s f
+      step_take (state.entries o) _ (spell_maybe m (spell_entries e rest)) s f refl
       ∙ maybe_runs m Entry refl p.to (spell_entries e rest) (state.entries o ∷ s) f (entries_follow e rest)
       ∙ ap (giving (items_maybe m Entry p.to (spell_entries e rest))) (entries_run e o rest s f)
 
@@ -556,16 +516,16 @@ mutual
       ≡ giving (items_others side o rest) (run rest s f)
   others_run tree.no_others side rest s f h = leaves (state.others side) rest s f (others_leave side rest h)
   others_run (tree.other p m o) side rest s f h =
-      other_opens p side (spell_maybe m (spell_others o rest)) s f
+      step_take (state.others side) _ (spell_maybe m (spell_others o rest)) s f refl
       ∙ maybe_runs m (IndentlessEntry side) refl p.to (spell_others o rest) (state.others side ∷ s) f (others_follow side o rest h)
       ∙ ap (giving (items_maybe m (IndentlessEntry side) p.to (spell_others o rest))) (others_run o side rest s f h)
 
   pub pairs_run : (m : Pairs) (o : yaml_mark_t) (rest : List Token) (s : List State)
       (f : Option Fault)
       → run (spell_pairs m rest) (state.pairs o ∷ s) f ≡ giving (items_pairs m rest) (run rest s f)
-  pairs_run (tree.end_pairs p) o rest s f = pairs_close p o rest s f
+  pairs_run (tree.end_pairs p) o rest s f = step_take (state.pairs o) _ rest s f refl
   pairs_run (tree.block_pair p key v m) o rest s f =
-      pair_opens p o (spell_maybe key (spell_colon v (spell_pairs m rest))) s f
+      step_take (state.pairs o) _ (spell_maybe key (spell_colon v (spell_pairs m rest))) s f refl
       ∙ maybe_runs key (BlockPair Key) refl p.to (spell_colon v (spell_pairs m rest)) (state.colon (BlockPair Value) ∷ state.pairs o ∷ s) f (block_colon_follows v m rest)
       ∙ ap (giving (items_maybe key (BlockPair Key) p.to (spell_colon v (spell_pairs m rest))))
       (colon_runs v (BlockPair Value) refl (spell_pairs m rest) (state.pairs o ∷ s) f (pairs_leave m rest) (pairs_follow Value m rest)

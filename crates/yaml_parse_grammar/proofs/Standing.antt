@@ -103,16 +103,13 @@ abbrev pub StandsOn : Option RawEvent → List State → Type 0
 StandsOn None s = IsStack s
 StandsOn (Some i) s = IsStack s × StandsBehind i.body (is_between s)
 
-behind_false : (b : RawEventBody) (x : Bool) → x ≡ false → StandsBehind b false → StandsBehind b x
-behind_false b x e h = subst (StandsBehind b) (sym e) h
-
 takes_inside : (i : Option RawEvent) (above s : List State)
     → AreTaken IsWithin IsInner (record { item = i; above = above }) → IsInside s
     → StandsOn i (above ++ s)
 takes_inside None above s h k = inside_stack (above ++ s) (all_inner_above above s h.1 k)
 takes_inside (Some i) above s h k =
     let inside : IsInside (above ++ s) = all_inner_above above s h.1 k in
-    (inside_stack (above ++ s) inside, behind_false i.body (is_between (above ++ s)) (half_taken (above ++ s) inside) (half_within i.body h.0))
+    (inside_stack (above ++ s) inside, subst (StandsBehind i.body) (sym (half_taken (above ++ s) inside)) (half_within i.body h.0))
 
 stream_stands : (start end : yaml_mark_t) (b : TokenBody) (s : List State) → s ≡ []
     → choice_at state.stream (type_of b) ≡ Take

@@ -160,14 +160,10 @@ light_or_heavy state.pair_end h = inl (λ r. r)
 light_or_heavy state.lone h = inl (λ r. r)
 light_or_heavy _ h = absurd (true≢false h)
 
-one_more : (i j : RawEvent) (is js : List RawEvent) → j ≡ i → OneMore is js
-    → OneMore (i ∷ is) (j ∷ js)
-one_more i j is js e h = record { last = h.last; same = ap (λ (z : RawEvent). z ∷ js) e ∙ ap (λ (z : List RawEvent). i ∷ z) h.same }
-
 alike_with : (i j : RawEvent) (a b : Fed) → j ≡ i → Alike a b
     → Alike (with_item i a) (with_item j b)
 alike_with i j (stop is e) (stop js f) p h = tt
-alike_with i j (stop is e) (go js s) p h = one_more i j is js p h
+alike_with i j (stop is e) (go js s) p h = record { last = h.last; same = ap (λ (z : RawEvent). z ∷ js) p ∙ ap (λ (z : List RawEvent). i ∷ z) h.same }
 alike_with i j (go is s) b p h = tt
 
 light_turn : (c : Choice) (x : State) (t u : Token) (s : List State) (a b : Fed) → IsLight x
@@ -208,14 +204,11 @@ sorted_turn : (x : State) (t u : Token) (s : List State) (a b : Fed) → IsLight
 sorted_turn x t u s a b (inl l) e m h = light_turn (choice_at x (type_of t.body)) x t u s a b l refl e m h
 sorted_turn x t u s a b (inr l) e m h = heavy_turn (choice_at x (type_of t.body)) x t u s a b l refl e
 
-plain_closed : (x : State) → told x ≡ other → open_behind (told x) ≡ false
-plain_closed x h = ap open_behind h
-
 plain_alike : (s : List State) (t u : Token) → Plain s → is_end u.body ≡ true
     → u.start_mark ≡ t.start_mark → Alike (feed s t) (feed s u)
 unfolding feed
 plain_alike [] t u p e m = tt
-plain_alike (x ∷ s) t u p e m = sorted_turn x t u s (feed s t) (feed s u) (light_or_heavy x (plain_closed x p.0)) e m (plain_alike s t u p.1 e m)
+plain_alike (x ∷ s) t u p e m = sorted_turn x t u s (feed s t) (feed s u) (light_or_heavy x (ap open_behind p.0)) e m (plain_alike s t u p.1 e m)
 
 pub feed_alike : (x : State) (s : List State) (t u : Token) → open_behind (told x) ≡ false → Plain s
     → is_end u.body ≡ true → u.start_mark ≡ t.start_mark → Alike (feed (x ∷ s) t) (feed (x ∷ s) u)

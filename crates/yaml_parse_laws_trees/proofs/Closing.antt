@@ -5,7 +5,6 @@ use Rattle.yaml_parse_laws_trees.specs.parse_grammar.parse_model.declared.yaml_e
 use Rattle.yaml_parse_laws_trees.specs.parse_grammar.parse_model.declared.yaml_token_type_t.{yaml_token_type_t}
 use Rattle.yaml_parse_laws_trees.specs.parse_grammar.parse_model.Tokens.{Token, TokenBody, type_of}
 use Rattle.yaml_parse_laws_trees.specs.parse_grammar.parse_model.Tokens as token
-use Rattle.yaml_parse_laws_trees.specs.parse_grammar.parse_model.Faults.{Fault}
 use Rattle.yaml_parse_laws_trees.specs.parse_grammar.declared.name.Brackets.TheVariants as brackets
 use Rattle.yaml_parse_laws_trees.specs.parse_grammar.declared.name.Site.{Site}
 use Rattle.yaml_parse_laws_trees.specs.parse_grammar.declared.name.Choice.{Choice}
@@ -171,15 +170,11 @@ not_fitting x s t c h n place before e =
     let h' : Stood (state.optional place before) s = subst (λ (y : State). Stood y s) e h in
     n (fitting place before s t c' h'.0)
 
-stopped : (s : List State) (t : Token) (is : List RawEvent) (f : Fault) → feed s t ≡ stop is f
-    → Goes (feed s t) → ⊥
-stopped s t is f p g = subst Goes p g
-
 leave_begins : (x : State) (t : Token) (s : List State) (below : Fed) → feed s t ≡ below
     → choice_at x (type_of t.body) ≡ Leave → Stood x s
     → StopBegins t.start_mark s below
     → StopBegins t.start_mark (x ∷ s) (with_item (left_at x t.start_mark) below)
-leave_begins x t s (stop is f) p c h b = left_begins x (type_of t.body) t.start_mark s is (leave_rule x (type_of t.body) c) h (not_fitting x s t c h (stopped s t is f p)) b
+leave_begins x t s (stop is f) p c h b = left_begins x (type_of t.body) t.start_mark s is (leave_rule x (type_of t.body) c) h (not_fitting x s t c h (λ g. subst Goes p g)) b
 leave_begins x t s (go is s') p c h b = tt
 
 turn_begins : (c : Choice) (x : State) (t : Token) (s : List State)

@@ -15,7 +15,7 @@ use Rattle.yaml_parse_laws_trees.specs.parse_grammar.Items as item
 use Rattle.yaml_parse_laws_trees.specs.parse_grammar.States.{State}
 use Rattle.yaml_parse_laws_trees.specs.parse_grammar.States as state
 use Rattle.yaml_parse_laws_trees.specs.parse_grammar.Machine.{Fed, stop, go, with_item, given_by}
-use Rattle.yaml_parse_laws_trees.specs.parse_grammar.Resolve.{Directives, Settled, gave, noted, settle, placed, node_event, scalar_event, with_resolved, resolved}
+use Rattle.yaml_parse_laws_trees.specs.parse_grammar.Resolve.{Directives, Settled, gave, noted, settle, placed, node_event, with_resolved, resolved}
 use Rattle.yaml_parse_laws_trees.specs.parse_grammar.Resolve as resolve
 use Rattle.yaml_parse_laws_trees.proofs.FaultsStanding.{other, told, Plain}
 use Rattle.yaml_parse_laws_trees.proofs.Settling.{Done, bad, fine, then_read, read_all}

@@ -85,12 +85,6 @@ alias_found past t ts f (Some g) e c a u h b =
 
 -- ---- what loads of a step end in
 
-stop_ends : (is : List RawEvent) (e : Fault) (left : ℕ) (k : List State → Outcome) (ds : Directives)
-    (l : Loading)
-    → ends_in (reading_of (carry left (stop is e) k) ds) l
-    ≡ fared_fault (load_items is ds l) (λ d m. Some e)
-stop_ends is e left k ds l = last_loads is left (Some e) ds l
-
 go_ends : (is : List RawEvent) (s : List State) (left : ℕ) (k : List State → Outcome)
     (ds : Directives) (l : Loading)
     → ends_in (reading_of (carry left (go is s) k) ds) l
@@ -189,7 +183,7 @@ stepped : (x : State) (s : List State) (past : List Token) (ds : Directives) (l 
     → FaultOfLoading (followed_by past (t ∷ ts)) f
     (ends_in (reading_of (carry (length ts) fed (λ s'. run ts s' f)) ds) l)
 stepped x s past ds l t ts f (stop is e) h a n p q r j k =
-    found_load past t ts f _ n (stopped x s past ds t is e h a p q r _ (stop_ends is e (length ts) (λ s'. run ts s' f) ds l ∙ alike_ends (read_all is ds) (load_items is ds l) e j))
+    found_load past t ts f _ n (stopped x s past ds t is e h a p q r _ ((last_loads is (length ts) (Some e) ds l) ∙ alike_ends (read_all is ds) (load_items is ds l) e j))
 stepped x s past ds l t ts f (go is s') (Some g) a n p q r j k =
     found_load past t ts f _ n
     (found_handle x s past ds t g _ a q
@@ -205,7 +199,7 @@ at_last : (x : State) (s : List State) (past : List Token) (ds : Directives) (l 
     (ends_in (reading_of (carry 0 fed (λ _. finished)) ds) l)
 at_last x s past ds l (stop is e) a n p r j h =
     found_last past _ n a.unfinished
-    (stopped x s past ds no_token is e (handle_fault past no_token.body) a p refl r _ (stop_ends is e 0 (λ _. finished) ds l ∙ alike_ends (read_all is ds) (load_items is ds l) e j))
+    (stopped x s past ds no_token is e (handle_fault past no_token.body) a p refl r _ ((last_loads is 0 (Some e) ds l) ∙ alike_ends (read_all is ds) (load_items is ds l) e j))
 at_last x s past ds l (go is s') a n p r j h = absurd (no_stop is s' h)
 
 run_own : (x : State) (s : List State) (g : Fault) (ds : Directives) (l : Loading)

@@ -33,7 +33,7 @@ use Rattle.yaml_parse_laws_trees.specs.parse_grammar.Machine.{starts_content, st
 use Rattle.yaml_parse_laws_trees.specs.parse_grammar.Resolve.{Directives, noted, with_version, with_tag, directive_for, is_known_version}
 use Rattle.yaml_parse_laws_trees.specs.parse_grammar.Resolve as resolve
 use Rattle.yaml_parse_laws_trees.proofs.FaultsStanding.{Plain}
-use Rattle.yaml_parse_loader.specs.Loading.{Loading, nothing_loaded, started, aliased}
+use Rattle.yaml_parse_loader.specs.Loading.{Loading, nothing_loaded, aliased}
 use Rattle.yaml_parse_laws_trees.specs.Aliases.{has_anchor, undefined, alias_fault}
 use Rattle.yaml_parse_laws_trees.proofs.Faring.{onward, then_fed}
 use Rattle.yaml_parse_laws_trees.proofs.Fitting.{known, Rooted, is_named, Owes, Names, Held, held, NoneNamed, Fits, fits_below, Added, added_names, Passes, node_passes, anchor_in, placed_passes, closed_fits, whole, FedLoads, AtAlias, loads_on, loads_given}
@@ -174,16 +174,11 @@ none_held false A e h = cc
 abbrev pub Started : List Token → Loading → Type 0
 Started past m = Names past m × Held m
 
-start_fits : (past : List Token) (version : Option yaml_version_directive_t)
-    (directives : List TagDirective) (implicit : Bool) (from : yaml_mark_t) → NoneNamed past
-    → Started past (started version directives implicit from)
-start_fits past version directives implicit from n = (λ name. nothing_known name ∙ sym (n name), λ name k. none_held _ _ (nothing_known name) k)
-
 pub start_passes : (implicit : Bool) (from to : yaml_mark_t) (past : List Token) (ds : Directives)
     (l : Loading) → NoneNamed past
     → Passes (resolve.settle (item_at (item.document implicit) from to) ds)
     (item_at (item.document implicit) from to) l (λ m. Started past m)
-start_passes implicit from to past ds l n = (_, λ k. refl, start_fits past ds.version ds.tags implicit from n)
+start_passes implicit from to past ds l n = (_, λ k. refl, (λ name. nothing_known name ∙ sym (n name), λ name k. none_held _ _ (nothing_known name) k))
 
 documents_given : (from start end : yaml_mark_t) (b : TokenBody) (s : List State)
     (past : List Token) (ds : Directives) (l : Loading)

@@ -62,17 +62,11 @@ entry_taken o kind.YAML_BLOCK_ENTRY_TOKEN h = refl
 entry_taken o kind.YAML_BLOCK_END_TOKEN h = refl
 entry_taken o _ h = absurd (false≢true h)
 
-entries_fit : (o : yaml_mark_t) (s : List State) → Fits Entry (state.entries o ∷ s)
-entries_fit o s t h = takes_goes (state.entries o) s t (entry_taken o (type_of t.body) h)
-
 pair_taken : (o : yaml_mark_t) (k : yaml_token_type_t) → follows (BlockPair Value) k ≡ true
     → choice_at (state.pairs o) k ≡ Take
 pair_taken o kind.YAML_KEY_TOKEN h = refl
 pair_taken o kind.YAML_BLOCK_END_TOKEN h = refl
 pair_taken o _ h = absurd (false≢true h)
-
-pairs_fit : (o : yaml_mark_t) (s : List State) → Fits (BlockPair Value) (state.pairs o ∷ s)
-pairs_fit o s t h = takes_goes (state.pairs o) s t (pair_taken o (type_of t.body) h)
 
 colon_choice : (place : Site) (k : yaml_token_type_t) → TakesOrLeaves (state.colon place) k
 colon_choice place kind.YAML_VALUE_TOKEN = inl refl
@@ -88,7 +82,8 @@ block_key _ h c = absurd (false≢true h)
 keys_fit : (o : yaml_mark_t) (s : List State)
     → Fits (BlockPair Key) (state.colon (BlockPair Value) ∷ state.pairs o ∷ s)
 keys_fit o s t h =
-    takes_or_leaves (state.colon (BlockPair Value)) (state.pairs o ∷ s) t (colon_choice (BlockPair Value) (type_of t.body)) (λ c. pairs_fit o s t (block_key (type_of t.body) h c))
+    takes_or_leaves (state.colon (BlockPair Value)) (state.pairs o ∷ s) t (colon_choice (BlockPair Value) (type_of t.body)) (λ c.
+    takes_goes (state.pairs o) s t (pair_taken o (type_of t.body) (block_key (type_of t.body) h c)))
 
 more_taken_at : (b : Brackets) (o : yaml_mark_t) (k : yaml_token_type_t)
     → follows (FlowPair b Value) k ≡ true → choice_at (state.more b o) k ≡ Take
@@ -266,12 +261,12 @@ more_stood b o start end _ s a = a
 
 entries_stood : (o start end : yaml_mark_t) (x : TokenBody) (s : List State) → AllStood s
     → AllStood ((entries_taken o start end x).above ++ s)
-entries_stood o start end token.block_entry s a = ((entries_fit o s, tt), (tt, a))
+entries_stood o start end token.block_entry s a = (((λ t h. takes_goes (state.entries o) s t (entry_taken o (type_of t.body) h)), tt), (tt, a))
 entries_stood o start end _ s a = a
 
 pairs_stood : (o start end : yaml_mark_t) (x : TokenBody) (s : List State) → AllStood s
     → AllStood ((pairs_taken o start end x).above ++ s)
-pairs_stood o start end token.key s a = ((keys_fit o s, tt), ((pairs_fit o s, tt), (tt, a)))
+pairs_stood o start end token.key s a = ((keys_fit o s, tt), (((λ t h. takes_goes (state.pairs o) s t (pair_taken o (type_of t.body) h)), tt), (tt, a)))
 pairs_stood o start end _ s a = a
 
 taken_stood : (x : State) (t : Token) (s : List State) → choice_at x (type_of t.body) ≡ Take

@@ -34,16 +34,13 @@ abbrev pub Solid : List State → Type 0
 Solid [] = ⊥
 Solid (x ∷ s) = SolidAt x (Solid s)
 
-solid_documents : (s : List State) → s ≡ state.documents ∷ [] → Solid s
-solid_documents s e = subst Solid (sym e) tt
-
 inside_solid : (s : List State) → IsInside s → Solid s
 inside_solid [] h = h
 inside_solid (state.stream ∷ s) h = tt
 inside_solid (state.first ∷ s) h = tt
 inside_solid (state.documents ∷ s) h = tt
 inside_solid (state.directives from ∷ s) h = tt
-inside_solid (state.document_end ∷ s) h = solid_documents s h
+inside_solid (state.document_end ∷ s) h = subst Solid (sym h) tt
 inside_solid (_ ∷ s) h = inside_solid s h.1
 
 pub stack_solid : (x : State) (s : List State) → IsStack (x ∷ s) → Solid (x ∷ s)

@@ -367,9 +367,6 @@ pub record Has (P : List Event → Type 0) : Type 0 where
 abbrev nowhere : Span
 nowhere = span zero_mark zero_mark
 
-node_has : (P : List Event → Type 0) → Has P → Has (Node P)
-node_has P h = record { given = at_span (event.alias []) nowhere ∷ h.given; is = alias_given [] zero_mark zero_mark P h.given h.is }
-
 items_have : (P : List Event → Type 0) → Has P → Has (Items P)
 items_have P h = record { given = at_span event.sequence_end nowhere ∷ h.given; is = no_more_items zero_mark zero_mark P h.given h.is }
 
@@ -398,7 +395,7 @@ state_has (state.pairs o) P h = pairs_have P h
 state_has (state.items b o) P h = brackets_have b P h
 state_has (state.more b o) P h = brackets_have b P h
 state_has state.pair_end P h = record { given = at_span event.mapping_end nowhere ∷ h.given; is = record { part = nowhere; rest = h.given; same = refl; goes = h.is } }
-state_has _ P h = node_has P h
+state_has _ P h = record { given = at_span (event.alias []) nowhere ∷ h.given; is = alias_given [] zero_mark zero_mark P h.given h.is }
 
 pub stack_has : (s : List State) (P : List Event → Type 0) → Has P → Has (Over s P)
 stack_has [] P h = h

@@ -13,7 +13,7 @@ use Rattle.yaml_parse_grammar.specs.declared.name.Site.{Site}
 use Rattle.yaml_parse_grammar.specs.declared.name.Site.TheVariants.{Root, Entry, IndentlessEntry, BlockPair, FlowPair}
 use Rattle.yaml_parse_grammar.specs.Items.{RawEvent, Properties, blank, item_at}
 use Rattle.yaml_parse_grammar.specs.Items as item
-use Rattle.yaml_parse_grammar.specs.Trees.{Span, PropertyTokens, Node, Content, Maybe, Colon, Items, More, Entries, Others, Pairs, Directive, Documents, First, Stream, Given, next, event_at, mark_at, start_of, spell_properties, spell_node, spell_content, spell_maybe, spell_colon, spell_items, spell_more, spell_entries, spell_others, spell_pairs, spell_directives, spell_ends, spell_documents, spell_first, spell}
+use Rattle.yaml_parse_grammar.specs.Trees.{Span, PropertyTokens, Node, Content, Maybe, Colon, Items, More, Entries, Others, Pairs, Directive, Documents, First, Stream, Given, next, event_at, mark_at, spell_properties, spell_node, spell_content, spell_maybe, spell_colon, spell_items, spell_more, spell_entries, spell_others, spell_pairs, spell_directives, spell_ends, spell_documents, spell_first, spell}
 use Rattle.yaml_parse_grammar.specs.Trees as tree
 use Rattle.yaml_parse_grammar.specs.TreeEvents.{content_start, node_start, colon_start, more_start, entries_start, others_start, pairs_start, ends_start, documents_start, pair_opens, pair_closes, lone_value, node_events, content_events, maybe_events, colon_events, items_events, more_events, entries_events, others_events, pairs_events, directives_events, ends_events, documents_events, first_events, tree_events, Turn, asks, gives, gives_at_next, properties_turns, pair_opens_turns, pair_closes_turns, lone_turns, node_turns, content_turns, maybe_turns, colon_turns, items_turns, more_turns, entries_turns, others_turns, pairs_turns, directives_turns, each_asks, ends_turns, documents_turns, first_turns, tree_turns, tokens_in, unasked}
 use Rattle.yaml_parse_grammar.specs.TreeSteps.{behind, pair_start, pair_end, lone, items_node, items_content, items_maybe, items_colon, items_items, items_more, items_entries, items_others, items_pairs, items_directives, items_ends, items_documents, items_first, items}
@@ -360,9 +360,6 @@ tree_part t rest =
 
 -- ---- the laws
 
-events_of_tree : (t : Stream) (rest : List Token) → events_in (items t rest) ≡ tree_events t
-events_of_tree t rest = (tree_part t rest).events ∙ append-nil (tree_events t)
-
 numbers_of_tree : (t : Stream) (rest : List Token)
     → numbers_in (items t rest) ≡ unasked (tree_turns t) (length rest)
 numbers_of_tree t rest = (tree_part t rest).numbers ∙ append-nil (unasked (tree_turns t) (length rest))
@@ -370,11 +367,11 @@ numbers_of_tree t rest = (tree_part t rest).numbers ∙ append-nil (unasked (tre
 pub items_given : ItemsAreGiven
 items_given t rest =
     sym (zipped (items t rest))
-    ∙ ap (λ (es : List RawEvent). zip es (numbers_in (items t rest))) (events_of_tree t rest)
+    ∙ ap (λ (es : List RawEvent). zip es (numbers_in (items t rest))) ((tree_part t rest).events ∙ append-nil (tree_events t))
     ∙ ap (λ (ns : List ℕ). zip (tree_events t) ns) (numbers_of_tree t rest)
 
 pub turns_fit : TurnsFitTree
 turns_fit t rest = record {
   tokens = (tree_part t rest).tokens;
-  events = ap length (sym (numbers_of_tree t rest)) ∙ as_many (items t rest) ∙ ap length (events_of_tree t rest);
+  events = ap length (sym (numbers_of_tree t rest)) ∙ as_many (items t rest) ∙ ap length ((tree_part t rest).events ∙ append-nil (tree_events t));
 }

@@ -92,9 +92,6 @@ ends_same ts f o o' n n' p q h = rw (p, q) h
 
 -- ---- what is known at a token
 
-abbrev over_closers : State → List State → List Token
-over_closers x s = closers zero_mark (x ∷ s)
-
 pub sentence_tree : (ts : List Token) → Over initial Empty ts
     → (tree : Stream) × (ts ≡ spell tree [])
 sentence_tree ts h = (h.tree, h.same ∙ ap (spell h.tree) h.goes)

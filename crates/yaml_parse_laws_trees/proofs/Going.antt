@@ -40,10 +40,6 @@ stacked : (b : TokenBody) (at : yaml_mark_t) (gs : List Sign) (s : List State)
     → KeptInside b at gs s → Stacked b at gs s
 stacked b at gs s k = record { kept = k.kept; stack = inside_stack s k.inside }
 
-lone : (b : TokenBody) (at : yaml_mark_t) (s : List State) → Kept b at [] s → IsStack s
-    → Stacked b at [] s
-lone b at s k h = record { kept = k; stack = h }
-
 opened_ground : Ground (Block None) (state.document_end ∷ state.documents ∷ [])
 opened_ground = record { plain = (refl, (refl, tt)); nested = (tt, (refl, tt)); inside = refl; flow = refl }
 

@@ -42,10 +42,6 @@ use Rattle.yaml_parse_laws_trees.proofs.Properties.{tok}
 
 -- ---- nodes
 
--- a node's event and what stands above: they fit if no anchor stands at the token
-abbrev content_fits : Option (List ℕ) → List Token → Loading → Type 0
-content_fits anchor past l = Owes anchor past l × Held l
-
 content_given : (past : List Token) (t : Token) (ds : Directives) (l : Loading)
     (p : Option Properties) (shape : Shape) (above s : List State)
     → alias_fault past t.body t.start_mark ≡ None → Owes (anchor_in p) past l

@@ -25,9 +25,6 @@ use Rattle.std.proofs.lemmas.Bool.{false≢true, true≢false}
 
 -- ---- the tag among the last tokens
 
-node_tag : List ℕ → yaml_mark_t → yaml_mark_t → NodeTag
-node_tag handle tag node = record { handle = handle; tag = tag; node = node }
-
 -- a tag that an anchor may still join
 abbrev waiting : NodeTag → TokenBody → Option NodeTag
 waiting n (token.anchor name) = None

@@ -142,10 +142,6 @@ items_numbered : (n : ℕ) (is : List RawEvent)
 items_numbered n [] = refl
 items_numbered n (i ∷ is) = ap (λ z. i ∷ z) (items_numbered n is)
 
-items_joined : (n : ℕ) (is : List RawEvent) (gs : List Given)
-    → items_of (map (λ (i : RawEvent). (i, n)) is ++ gs) ≡ is ++ items_of gs
-items_joined n is gs = map-append (λ (g : Given). g.0) (map (λ (i : RawEvent). (i, n)) is) gs ∙ ap (λ z. z ++ items_of gs) (items_numbered n is)
-
 -- The first token is fed to the stack, and then the others are.
 pub run_step : (t : Token) (ts : List Token) (s : List State) (f : Option Fault)
     → run (t ∷ ts) s f ≡ carry (length ts) (feed s t) (λ z. run ts z f)
@@ -154,11 +150,8 @@ run_step t ts s f = refl
 
 carried_items : (n : ℕ) (x : Fed) (is : List RawEvent) (s : List State) (k : List State → Outcome)
     → x ≡ go is s → items_of (carry n x k).items ≡ is ++ items_of (k s).items
-carried_items n x is s k e = ap (λ y. items_of (carry n y k).items) e ∙ items_joined n is (k s).items
-
-carried_ending : (n : ℕ) (x : Fed) (is : List RawEvent) (s : List State) (k : List State → Outcome)
-    → x ≡ go is s → (carry n x k).ending ≡ (k s).ending
-carried_ending n x is s k e = ap (λ y. (carry n y k).ending) e
+carried_items n x is s k e = ap (λ y. items_of (carry n y k).items) e ∙
+    (map-append (λ (g : Given). g.0) (map (λ (i : RawEvent). (i, n)) is) (k s).items ∙ ap (λ z. z ++ items_of (k s).items) (items_numbered n is))
 
 -- The items of a token that is taken come in front of those of the rest.
 pub step_items : (t : Token) (ts : List Token) (s z : List State) (f : Option Fault)
@@ -170,7 +163,7 @@ step_items t ts s z f is e = ap (λ y. items_of y.items) (run_step t ts s f) ∙
 pub step_ending : (t : Token) (ts : List Token) (s z : List State) (f : Option Fault)
     (is : List RawEvent)
     → feed s t ≡ go is z → (run (t ∷ ts) s f).ending ≡ (run ts z f).ending
-step_ending t ts s z f is e = ap (λ y. y.ending) (run_step t ts s f) ∙ carried_ending (length ts) (feed s t) is z (λ z. run ts z f) e
+step_ending t ts s z f is e = ap (λ y. y.ending) (run_step t ts s f) ∙ ap (λ y. (carry (length ts) y (λ z. run ts z f)).ending) e
 
 abbrev pub read_of : Outcome → Directives → Plain
 read_of o ds = plain (items_of o.items) o.ending ds

@@ -122,10 +122,6 @@ same_front (i ∷ is) ds js ks f g h = by (settle i ds) refl (λ z k. same_front
 
 -- ---- tokens
 
-nothing_behind : (ds : Directives) → (read_of (run [] [] None) ds).ending ≡ None
-unfolding run feed
-nothing_behind ds = refl
-
 nothing_there : items_of (run [] [] None).items ≡ []
 unfolding run feed
 nothing_there = refl

@@ -12,7 +12,7 @@ use Rattle.yaml_parse_grammar.specs.Stacks.{IsStack, StandsBehind, parts_documen
 use Rattle.yaml_parse_grammar.proofs.Standing.{StandsOn, taken_stands, left_stands, opened_stands, SettledBehind, settled_behind}
 use Rattle.yaml_parse_step.specs.Stepped.{SteppedOnce}
 use Rattle.yaml_parse_step.specs.Stepped as step
-use Rattle.yaml_parse_step.specs.Steps.{Raw, IsDone, OpensAt, IsStackStep}
+use Rattle.yaml_parse_step.specs.Steps.{OpensAt, IsStackStep}
 
 pub take_item_stands : (x : State) (t : Token) (s s' : List State) (i : RawEvent)
     (above : List State) → choice_at x (type_of t.body) ≡ Take
@@ -48,9 +48,6 @@ open_stands x t s s' step.done c o h = tt
 
 pub cleared_stands : (s : List State) → s ≡ [] → Unit {0} × IsStack s
 cleared_stands s e = (tt, subst IsStack (sym e) tt)
-
-pub done_stands : (old new : Raw) → IsDone old new → Unit {0} × IsStack new.stack
-done_stands old new h = cleared_stands new.stack (ap (λ (r : Raw). r.stack) h.same ∙ h.empty)
 
 pub silent_stands : (s : List State) → IsStack s → Unit {0} × IsStack s
 silent_stands s h = (tt, h)

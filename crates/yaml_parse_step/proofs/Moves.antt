@@ -118,26 +118,11 @@ open_real x t start s s' (step.refused e) o = tt
 open_real x t start s s' step.silent o = absurd o
 open_real x t start s s' step.done o = absurd o
 
--- what takes a token is real
-pub take_real : (x : State) (t : Token) (s : List State) (new : Raw) (r : SteppedOnce)
-    → choice_at x (type_of t.body) ≡ Take → Steps (raw (Some t) [] None (x ∷ s)) r new
-    → IsReal x t r
-take_real x t s new (step.given i) h o = λ d. h
-take_real x t s new (step.refused f) h o = tt
-take_real x t s new step.silent h o = h
-take_real x t s new step.done h o = nothing_empty x s o.empty
-  where
-    nothing_empty : (x : State) (s : List State) → x ∷ s ≡ [] → ⊥
-    nothing_empty x s e = cc
-
 -- ---- the token of the source
-
-takes_real_token : (x : State) (t : Token) → choice_at x (type_of t.body) ≡ Take → t ≡ no_token → ⊥
-takes_real_token x t h e = takes_a_token x (sym (ap (λ (u : Token). choice_at x (type_of u.body)) e) ∙ h)
 
 less_of : (old middle new : ℕ) (x : State) (t : Token) → new < middle
     → (middle ≡ old) ⊎ (t ≡ no_token) → choice_at x (type_of t.body) ≡ Take → new < old
-less_of old middle new x t l a h = elim a [ inl e ↦ omega arith | inr e ↦ absurd (takes_real_token x t h e) ]
+less_of old middle new x t l a h = elim a [ inl e ↦ omega arith | inr e ↦ absurd (takes_a_token x (sym (ap (λ (u : Token). choice_at x (type_of u.body)) e) ∙ h)) ]
 
 pub bridge : (old middle new : Raw) (x : State) (t : Token) (r : SteppedOnce) → Steps middle r new
     → outcome middle ≡ outcome old → stop_of middle ≡ stop_of old
@@ -170,17 +155,11 @@ front_at peeked ts f [] t rest after new r n h k l = absurd (n refl)
 front_at peeked ts f (x ∷ s) t rest after new r n h k l =
     bridge (raw peeked ts f (x ∷ s)) (raw (Some t) rest after (x ∷ s)) new x t r k (h.runs (x ∷ s)) (h.stops (x ∷ s)) (elim h.asked [ inl a ↦ inl a | inr a ↦ inr a ]) l
 
-ending_outcome : (peeked : Option Token) (ts : List Token) (f : Option Fault) (old : List State)
-    (x : State) (s : List State) (e : Fault)
-    → old ≡ x ∷ s → ((z : List State) → outcome (raw peeked ts f z) ≡ ending_at z e)
-    → outcome (raw peeked ts f old) ≡ record { items = []; ending = Some e }
-ending_outcome peeked ts f old x s e p r = r old ∙ ap (λ (z : List State). ending_at z e) p
-
 no_front_step : (peeked : Option Token) (ts : List Token) (f : Option Fault) (old : List State)
     (x : State) (s : List State) (e : Fault) (new : Raw)
     → old ≡ x ∷ s → HasNoFront peeked ts f e new.tokens → IsRefused e (raw peeked ts f old) new
 no_front_step peeked ts f old x s e new p h = record {
-  reason = elim h.reason [ inl m ↦ inl (inr m) | inr r ↦ inr (ending_outcome peeked ts f old x s e p r) ];
+  reason = elim h.reason [ inl m ↦ inl (inr m) | inr r ↦ inr (r old ∙ ap (λ (z : List State). ending_at z e) p) ];
   unasked = elim h.unasked [ inl m ↦ inl (inr m) | inr n ↦ inr (n old) ];
 }
 
@@ -211,10 +190,6 @@ no_front_open peeked ts f s e new z h = no_front_at peeked ts f s e new (some_le
 
 -- ---- what a turn of the machine owes
 
-leave_real : (x : State) (t : Token) (start : yaml_mark_t) (i : RawEvent) → i ≡ left_at x start
-    → IsReal x t (step.given i)
-leave_real x t start i e = λ d. absurd (left_is_none x start (subst (λ (j : RawEvent). IsDirective j.body) e d))
-
 moves_taken : (x : State) (t : Token) (s : List State) (i : RawEvent) (f : Properties → List State)
     → Takes x t s i f → (q : Properties) → Moves (x ∷ s) t i None (f q)
 moves_taken x t s i f h q = record {
@@ -229,7 +204,7 @@ left_here : (x : State) (t : Token) (s : List State) (i : RawEvent)
     → Moves (x ∷ s) t i (Some t) s
 left_here x t s i h e = record {
   gives = λ rest ending. leave_item x t rest ending s i h e;
-  real = leave_real x t t.start_mark i e;
+  real = (λ d. absurd (left_is_none x t.start_mark (subst (λ (j : RawEvent). IsDirective j.body) e d)));
   utf8 = λ ds. leave_utf8 x t t.start_mark s i ds e;
   stack = leave_stands x t s i h e;
 }

@@ -1,5 +1,5 @@
 -- The texts of what a step gives and holds are UTF-8.
-use Rattle.std.proofs.Common.{◌≡◌, List, [], ◌∷◌, ◌++◌, Option, Some, None, sym, subst, ap, ◌∙◌}
+use Rattle.std.proofs.Common.{◌≡◌, List, [], ◌∷◌, ◌++◌, Option, Some, None, sym, subst, ◌∙◌}
 use Rattle.yaml_scan_model.specs.declared.yaml_mark_t.{yaml_mark_t}
 use Rattle.yaml_scan_model.specs.Tokens.{Token}
 use Rattle.yaml_parse_model.specs.Source as source
@@ -13,7 +13,7 @@ use Rattle.yaml_parse_grammar.specs.Texts.{IsUtf8Item, AreUtf8States, IsUtf8Toke
 use Rattle.yaml_parse_grammar.proofs.Utf8.{IsUtf8Taken, taken_utf8, left_utf8, opened_utf8, states_over, IsUtf8Settled, settled_utf8, held_utf8}
 use Rattle.yaml_parse_step.specs.Stepped.{SteppedOnce}
 use Rattle.yaml_parse_step.specs.Stepped as step
-use Rattle.yaml_parse_step.specs.Steps.{Raw, IsDone, OpensAt, IsUtf8Step}
+use Rattle.yaml_parse_step.specs.Steps.{OpensAt, IsUtf8Step}
 
 taken_held : (x : State) (t : Token) (i : Option RawEvent) (above s : List State) (ds : Directives)
     → record { item = i; above = above } ≡ taken_at x t
@@ -64,10 +64,6 @@ advance_utf8 peeked (x ∷ s) t after s' r ds f k h = k (f h.0, h.1)
 pub cleared_utf8 : (peeked : Option Token) (s : List State) (ds : Directives) → s ≡ []
     → Unit {0} × IsUtf8Held peeked s ds
 cleared_utf8 peeked s ds e = (tt, subst (λ (z : List State). IsUtf8Held peeked z ds) (sym e) tt)
-
-pub done_utf8 : (old new : Raw) (ds : Directives) → IsDone old new
-    → Unit {0} × IsUtf8Held new.peeked new.stack ds
-done_utf8 old new ds h = cleared_utf8 new.peeked new.stack ds (ap (λ (r : Raw). r.stack) h.same ∙ h.empty)
 
 pub silent_utf8 : (peeked : Option Token) (s : List State) (ds : Directives)
     → IsUtf8Token peeked × (AreUtf8States s × AreUtf8 ds.tags) → Unit {0} × IsUtf8Held peeked s ds

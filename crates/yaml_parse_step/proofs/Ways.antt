@@ -5,7 +5,7 @@ use Rattle.yaml_scan_model.specs.Faults.{Fault}
 use Rattle.yaml_parse_model.specs.Events.{Event}
 use Rattle.yaml_parse_model.specs.Source as source
 use Rattle.yaml_parse_grammar.specs.States.{State}
-use Rattle.yaml_parse_grammar.specs.Machine.{Outcome, run, ending_at, unasked_at_stop, Stands}
+use Rattle.yaml_parse_grammar.specs.Machine.{Outcome, run, unasked_at_stop, Stands}
 use Rattle.yaml_parse_grammar.specs.Resolve.{Directives, unasked_at_fault}
 use Rattle.yaml_parse_grammar.specs.Remaining.{parser_remaining, is_between, waiting, reading_of, next_unasked}
 use Rattle.yaml_parse_laws_trees.proofs.Falling.{next_behind, ended_next}

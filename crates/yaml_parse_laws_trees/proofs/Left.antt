@@ -31,6 +31,21 @@ pub record Spelled (T : Type 0) (spelling : T → List Token → List Token) (P 
   pub same : ts ≡ spelling tree rest
   pub goes : P rest
 
+-- one part behind another
+pub together : {A B : Type 0} {front : A → List Token → List Token}
+    {back : B → List Token → List Token} {Q P : List Token → Type 0} {ts : List Token}
+    (h : Spelled A front Q ts) → Spelled B back P h.rest
+    → Spelled (A × B) (λ x rest. front x.0 (back x.1 rest)) P ts
+together {front = front} h k = record { tree = (h.tree, k.tree); rest = k.rest; same = h.same ∙ ap (front h.tree) k.same; goes = k.goes }
+
+-- what is made of a part with a token in front
+pub ahead : {A B : Type 0} {front : A → List Token → List Token}
+    {back : B → List Token → List Token} {P : List Token → Type 0} {ts : List Token}
+    → Spelled A front P ts → (t : Token) (make : A → B)
+    → ((x : A) (rest : List Token) → back (make x) rest ≡ t ∷ front x rest)
+    → Spelled B back P (t ∷ ts)
+ahead h t make e = record { tree = make h.tree; rest = h.rest; same = ap (λ us. t ∷ us) h.same ∙ sym (e h.tree h.rest); goes = h.goes }
+
 -- a document behind the directives that were read, and the documents behind it
 pub record Opening : Type 0 where
   pub directives : List Directive
@@ -113,20 +128,11 @@ content_left : (w : Wants) (p : Option Properties) (start end : yaml_mark_t) (b 
     → (P : List Token → Type 0) (ts : List Token) → Over (content_taken w p start end b).above P ts
     → Spelled (Content w) spell_content P (token_at b (span start end) ∷ ts)
 content_left w p start end (token.scalar value style) c P ts h = record { tree = tree.scalar (span start end) value style; rest = ts; same = refl; goes = h }
-content_left w p start end token.flow_sequence_start c P ts h =
-    record { tree = tree.flow brackets.Sequence (span start end) h.tree; rest = h.rest; same = ap (λ us. token_at token.flow_sequence_start (span start end) ∷ us) h.same; goes = h.goes }
-content_left w p start end token.flow_mapping_start c P ts h =
-    record { tree = tree.flow brackets.Mapping (span start end) h.tree; rest = h.rest; same = ap (λ us. token_at token.flow_mapping_start (span start end) ∷ us) h.same; goes = h.goes }
-content_left (Block s) p start end token.block_sequence_start c P ts h =
-    record { tree = tree.block_sequence (span start end) h.tree; rest = h.rest; same = ap (λ us. token_at token.block_sequence_start (span start end) ∷ us) h.same; goes = h.goes }
-content_left (Block s) p start end token.block_mapping_start c P ts h =
-    record { tree = tree.block_mapping (span start end) h.tree; rest = h.rest; same = ap (λ us. token_at token.block_mapping_start (span start end) ∷ us) h.same; goes = h.goes }
-content_left (Block (Some side)) p start end token.block_entry c P ts h = record {
-  tree = tree.indentless (span start end) h.tree h.goes.tree;
-  rest = h.goes.rest;
-  same = ap (λ us. token_at token.block_entry (span start end) ∷ us) (h.same ∙ ap (spell_maybe h.tree) h.goes.same);
-  goes = h.goes.goes;
-}
+content_left w p start end token.flow_sequence_start c P ts h = ahead h _ (λ x. tree.flow brackets.Sequence (span start end) x) (λ x r. refl)
+content_left w p start end token.flow_mapping_start c P ts h = ahead h _ (λ x. tree.flow brackets.Mapping (span start end) x) (λ x r. refl)
+content_left (Block s) p start end token.block_sequence_start c P ts h = ahead h _ (λ x. tree.block_sequence (span start end) x) (λ x r. refl)
+content_left (Block s) p start end token.block_mapping_start c P ts h = ahead h _ (λ x. tree.block_mapping (span start end) x) (λ x r. refl)
+content_left (Block (Some side)) p start end token.block_entry c P ts h = ahead (together h h.goes) _ (λ x. tree.indentless (span start end) x.0 x.1) (λ x r. refl)
 content_left Flow p start end token.block_sequence_start c P ts h = absurd (false≢true c)
 content_left Flow p start end token.block_mapping_start c P ts h = absurd (false≢true c)
 content_left Flow p start end token.block_entry c P ts h = absurd (false≢true c)
@@ -210,18 +216,8 @@ opening_left : (from start end : yaml_mark_t) (b : TokenBody)
     → (P : List Token → Type 0) (ts : List Token)
     → Over (documents_taken from start end b).above P ts
     → Spelled Opening spell_opening P (token_at b (span start end) ∷ ts)
-opening_left from start end (token.version_directive major minor) c P ts h = record {
-  tree = directed (tree.version (span start end) major minor) h.tree;
-  rest = h.rest;
-  same = ap (λ us. token_at (token.version_directive major minor) (span start end) ∷ us) h.same;
-  goes = h.goes;
-}
-opening_left from start end (token.tag_directive name prefix) c P ts h = record {
-  tree = directed (tree.handle (span start end) name prefix) h.tree;
-  rest = h.rest;
-  same = ap (λ us. token_at (token.tag_directive name prefix) (span start end) ∷ us) h.same;
-  goes = h.goes;
-}
+opening_left from start end (token.version_directive major minor) c P ts h = ahead h _ (λ x. directed (tree.version (span start end) major minor) x) (λ x r. refl)
+opening_left from start end (token.tag_directive name prefix) c P ts h = ahead h _ (λ x. directed (tree.handle (span start end) name prefix) x) (λ x r. refl)
 opening_left from start end token.document_start c P ts h = begun_left start end end P ts h
 opening_left from start end _ c P ts h = absurd (was_take _ c)
 
@@ -245,8 +241,7 @@ documents_left : (start end : yaml_mark_t) (b : TokenBody)
     → (P : List Token → Type 0) (ts : List Token)
     → Over (documents_taken start start end b).above P ts
     → Left state.documents P (token_at b (span start end) ∷ ts)
-documents_left start end token.document_end c P ts h =
-    record { tree = span start end ∷ h.tree; rest = h.rest; same = ap (λ us. token_at token.document_end (span start end) ∷ us) h.same; goes = h.goes }
+documents_left start end token.document_end c P ts h = ahead h _ (λ x. span start end ∷ x) (λ x r. refl)
 documents_left start end token.stream_end c P ts h = record { tree = []; rest = token_at token.stream_end (span start end) ∷ ts; same = refl; goes = parting_left start end token.stream_end refl P ts h }
 documents_left start end (token.version_directive major minor) c P ts h =
     record { tree = []; rest = token_at (token.version_directive major minor) (span start end) ∷ ts; same = refl; goes = parting_left start end (token.version_directive major minor) refl P ts h }
@@ -289,12 +284,7 @@ opened_left t c P ts h =
 stream_left : (start end : yaml_mark_t) (b : TokenBody) → choice_at state.stream (type_of b) ≡ Take
     → (P : List Token → Type 0) (ts : List Token) → Over (stream_taken start end b).above P ts
     → Spelled Stream spell P (token_at b (span start end) ∷ ts)
-stream_left start end (token.stream_start e) c P ts h = record {
-  tree = record { encoding = e; start = span start end; first = h.tree; documents = h.goes.tree };
-  rest = h.goes.rest;
-  same = ap (λ us. token_at (token.stream_start e) (span start end) ∷ us) (h.same ∙ ap (spell_first h.tree) h.goes.same);
-  goes = h.goes.goes;
-}
+stream_left start end (token.stream_start e) c P ts h = ahead (together h h.goes) _ (λ x. record { encoding = e; start = span start end; first = x.0; documents = x.1 }) (λ x r. refl)
 stream_left start end _ c P ts h = absurd (was_take _ c)
 
 -- ---- taking a token inside a document
@@ -307,12 +297,7 @@ entries_left : (o start end : yaml_mark_t) (b : TokenBody)
     → choice_at (state.entries o) (type_of b) ≡ Take
     → (P : List Token → Type 0) (ts : List Token) → Over (entries_taken o start end b).above P ts
     → Spelled Entries spell_entries P (token_at b (span start end) ∷ ts)
-entries_left o start end token.block_entry c P ts h = record {
-  tree = tree.entry (span start end) h.tree h.goes.tree;
-  rest = h.goes.rest;
-  same = ap (λ us. token_at token.block_entry (span start end) ∷ us) (h.same ∙ ap (spell_maybe h.tree) h.goes.same);
-  goes = h.goes.goes;
-}
+entries_left o start end token.block_entry c P ts h = ahead (together h h.goes) _ (λ x. tree.entry (span start end) x.0 x.1) (λ x r. refl)
 entries_left o start end token.block_end c P ts h = record { tree = tree.end_entries (span start end); rest = ts; same = refl; goes = h }
 entries_left o start end _ c P ts h = absurd (was_take _ c)
 
@@ -320,12 +305,7 @@ pairs_left : (o start end : yaml_mark_t) (b : TokenBody)
     → choice_at (state.pairs o) (type_of b) ≡ Take
     → (P : List Token → Type 0) (ts : List Token) → Over (pairs_taken o start end b).above P ts
     → Spelled Pairs spell_pairs P (token_at b (span start end) ∷ ts)
-pairs_left o start end token.key c P ts h = record {
-  tree = tree.block_pair (span start end) h.tree h.goes.tree h.goes.goes.tree;
-  rest = h.goes.goes.rest;
-  same = ap (λ us. token_at token.key (span start end) ∷ us) (h.same ∙ ap (spell_maybe h.tree) (h.goes.same ∙ ap (spell_colon h.goes.tree) h.goes.goes.same));
-  goes = h.goes.goes.goes;
-}
+pairs_left o start end token.key c P ts h = ahead (together h (together h.goes h.goes.goes)) _ (λ x. tree.block_pair (span start end) x.0 x.1.0 x.1.1) (λ x r. refl)
 pairs_left o start end token.block_end c P ts h = record { tree = tree.end_pairs (span start end); rest = ts; same = refl; goes = h }
 pairs_left o start end _ c P ts h = absurd (was_take _ c)
 
@@ -334,20 +314,14 @@ others_left : (side : Side) (start end : yaml_mark_t) (b : TokenBody)
     → (P : List Token → Type 0) (ts : List Token)
     → Over (state.optional (IndentlessEntry side) end ∷ state.others side ∷ []) P ts
     → Spelled Others spell_others P (token_at b (span start end) ∷ ts)
-others_left side start end token.block_entry c P ts h = record {
-  tree = tree.other (span start end) h.tree h.goes.tree;
-  rest = h.goes.rest;
-  same = ap (λ us. token_at token.block_entry (span start end) ∷ us) (h.same ∙ ap (spell_maybe h.tree) h.goes.same);
-  goes = h.goes.goes;
-}
+others_left side start end token.block_entry c P ts h = ahead (together h h.goes) _ (λ x. tree.other (span start end) x.0 x.1) (λ x r. refl)
 others_left side start end _ c P ts h = absurd (was_take _ c)
 
 colon_left : (place : Site) (start end : yaml_mark_t) (b : TokenBody)
     → choice_at (state.colon place) (type_of b) ≡ Take
     → (P : List Token → Type 0) (ts : List Token) → Over (state.optional place end ∷ []) P ts
     → Spelled (Colon (wants_of place)) spell_colon P (token_at b (span start end) ∷ ts)
-colon_left place start end token.value c P ts h =
-    record { tree = tree.colon (span start end) h.tree; rest = h.rest; same = ap (λ us. token_at token.value (span start end) ∷ us) h.same; goes = h.goes }
+colon_left place start end token.value c P ts h = ahead h _ (λ x. tree.colon (span start end) x) (λ x r. refl)
 colon_left place start end _ c P ts h = absurd (was_take _ c)
 
 end_left : (start end : yaml_mark_t) (b : TokenBody)
@@ -361,8 +335,7 @@ more_left : (bs : Brackets) (o start end : yaml_mark_t) (b : TokenBody)
     → choice_at (state.more bs o) (type_of b) ≡ Take
     → (P : List Token → Type 0) (ts : List Token) → Over (more_taken bs o start end b).above P ts
     → Spelled More (spell_more bs) P (token_at b (span start end) ∷ ts)
-more_left bs o start end token.flow_entry c P ts h =
-    record { tree = tree.comma (span start end) h.tree; rest = h.rest; same = ap (λ us. token_at token.flow_entry (span start end) ∷ us) h.same; goes = h.goes }
+more_left bs o start end token.flow_entry c P ts h = ahead h _ (λ x. tree.comma (span start end) x) (λ x r. refl)
 more_left brackets.Sequence o start end token.flow_sequence_end c P ts h = record { tree = tree.end_more (span start end); rest = ts; same = refl; goes = h }
 more_left brackets.Mapping o start end token.flow_mapping_end c P ts h = record { tree = tree.end_more (span start end); rest = ts; same = refl; goes = h }
 more_left brackets.Sequence o start end _ c P ts h = absurd (was_take _ c)
@@ -389,18 +362,8 @@ node_over bs o start end b c P ts h =
 pair_left : (bs : Brackets) (o start end : yaml_mark_t) (P : List Token → Type 0) (ts : List Token)
     → Over (items_taken bs o start end token.key).above P ts
     → Spelled Items (spell_items bs) P (token_at token.key (span start end) ∷ ts)
-pair_left brackets.Sequence o start end P ts h = record {
-  tree = tree.pair (span start end) h.tree h.goes.tree h.goes.goes.tree;
-  rest = h.goes.goes.rest;
-  same = ap (λ us. token_at token.key (span start end) ∷ us) (h.same ∙ ap (spell_maybe h.tree) (h.goes.same ∙ ap (spell_colon h.goes.tree) h.goes.goes.same));
-  goes = h.goes.goes.goes;
-}
-pair_left brackets.Mapping o start end P ts h = record {
-  tree = tree.pair (span start end) h.tree h.goes.tree h.goes.goes.tree;
-  rest = h.goes.goes.rest;
-  same = ap (λ us. token_at token.key (span start end) ∷ us) (h.same ∙ ap (spell_maybe h.tree) (h.goes.same ∙ ap (spell_colon h.goes.tree) h.goes.goes.same));
-  goes = h.goes.goes.goes;
-}
+pair_left brackets.Sequence o start end P ts h = ahead (together h (together h.goes h.goes.goes)) _ (λ x. tree.pair (span start end) x.0 x.1.0 x.1.1) (λ x r. refl)
+pair_left brackets.Mapping o start end P ts h = ahead (together h (together h.goes h.goes.goes)) _ (λ x. tree.pair (span start end) x.0 x.1.0 x.1.1) (λ x r. refl)
 
 items_left : (bs : Brackets) (o start end : yaml_mark_t) (b : TokenBody)
     → choice_at (state.items bs o) (type_of b) ≡ Take

@@ -200,23 +200,6 @@ no_alias : (x : State) (b : TokenBody) (name : List ℕ)
     → b ≡ token.alias name → ⊥
 no_alias x b name h c e = h (subst (λ (z : TokenBody). choice_at x (type_of z) ≡ Take) e c)
 
-first_loads : (start end : yaml_mark_t) (b : TokenBody) (s : List State) (past : List Token)
-    (ds : Directives) (l : Loading) → choice_at state.first (type_of b) ≡ Take → s ≡ []
-    → FedLoads past (tok b start end) ds l (given_by (taken_at state.first (tok b start end)) s)
-first_loads start end b s past ds l c e = documents_given start start end b s past ds l (λ name. no_alias state.first b name (λ h. cc) c) e
-
-documents_loads : (start end : yaml_mark_t) (b : TokenBody) (s : List State) (past : List Token)
-    (ds : Directives) (l : Loading) → choice_at state.documents (type_of b) ≡ Take → s ≡ []
-    → FedLoads past (tok b start end) ds l (given_by (taken_at state.documents (tok b start end)) s)
-documents_loads start end b s past ds l c e = documents_given start start end b s past ds l (λ name. no_alias state.documents b name (λ h. cc) c) e
-
-directives_loads : (from start end : yaml_mark_t) (b : TokenBody) (s : List State)
-    (past : List Token) (ds : Directives) (l : Loading)
-    → choice_at (state.directives from) (type_of b) ≡ Take → s ≡ []
-    → FedLoads past (tok b start end) ds l
-    (given_by (taken_at (state.directives from) (tok b start end)) s)
-directives_loads from start end b s past ds l c e = documents_given from start end b s past ds l (λ name. no_alias (state.directives from) b name (λ h. cc) c) e
-
 end_loads : (start end : yaml_mark_t) (b : TokenBody) (s : List State) (past : List Token)
     (ds : Directives) (l : Loading) → choice_at state.document_end (type_of b) ≡ Take
     → s ≡ state.documents ∷ [] → Rooted l.document.nodes
@@ -350,9 +333,9 @@ pub taken_loads : (x : State) (t : Token) (s : List State) (past : List Token) (
     → Fits (x ∷ s) past l
     → FedLoads past t ds l (given_by (taken_at x t) s)
 taken_loads state.stream t s past ds l A c pl i h = stream_loads t.start_mark t.end_mark t.body s past ds l c h
-taken_loads state.first t s past ds l A c pl i h = first_loads t.start_mark t.end_mark t.body s past ds l c i
-taken_loads state.documents t s past ds l A c pl i h = documents_loads t.start_mark t.end_mark t.body s past ds l c i
-taken_loads (state.directives from) t s past ds l A c pl i h = directives_loads from t.start_mark t.end_mark t.body s past ds l c i
+taken_loads state.first t s past ds l A c pl i h = documents_given t.start_mark t.start_mark t.end_mark t.body s past ds l (λ name. no_alias state.first t.body name (λ e. cc) c) i
+taken_loads state.documents t s past ds l A c pl i h = documents_given t.start_mark t.start_mark t.end_mark t.body s past ds l (λ name. no_alias state.documents t.body name (λ e. cc) c) i
+taken_loads (state.directives from) t s past ds l A c pl i h = documents_given from t.start_mark t.end_mark t.body s past ds l (λ name. no_alias (state.directives from) t.body name (λ e. cc) c) i
 taken_loads (state.optional place before) t s past ds l A c pl i h =
     node_loads (wants_of place) t.start_mark t.end_mark t.body s past ds l (take_rule (state.optional place before) (type_of t.body) c) pl h.0 h.1
 taken_loads state.document_end t s past ds l A c pl i h = end_loads t.start_mark t.end_mark t.body s past ds l c i h

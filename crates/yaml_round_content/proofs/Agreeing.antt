@@ -12,7 +12,7 @@ use Rattle.yaml_round_content.specs.WritableLaws.{InputsAreWritable}
 use Rattle.yaml_round_content.specs.Agree.{CoreNode, Core, core_body, core_node, core_of, AreAgreeing}
 use Rattle.yaml_round_content.specs.DumpsLoads.{LoadsOfContent}
 use Rattle.yaml_emit_laws_dumps.specs.Dumps as dumps
-use Rattle.yaml_emit_laws_dumps.specs.Dumps.{HasKind, IsLoadedNode, AreLoadedNodes, IsLoadedDocument}
+use Rattle.yaml_emit_laws_dumps.specs.Dumps.{HasKind, IsLoadedNode, IsLoadedDocument}
 use Rattle.yaml_round_content.specs.DumpsEvents.{events_saying, load_each, trees_of_dumps, loaded_again, AreLoadedDocuments}
 use Rattle.yaml_round_content.specs.DumpsLaws.{ContentIsSaid, ContentIsLoaded, ContentLoadsDocuments, DumpsAreNumberedBack, DumpsLoadBack, InputsLoadDocuments}
 
@@ -44,10 +44,6 @@ record Beside (ys : List model.Node) (k : ℕ) (m : model.Node) : Type 0 where
   other : model.Node
   at : slice_get ys k ≡ Some other
   same : core_node m ≡ core_node other
-
-first_node : List CoreNode → CoreNode → CoreNode
-first_node [] c = c
-first_node (x ∷ xs) c = x
 
 beside : (xs ys : List model.Node) (k : ℕ) (m : model.Node) → map core_node xs ≡ map core_node ys
     → slice_get xs k ≡ Some m → Beside ys k m

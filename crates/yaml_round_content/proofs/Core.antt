@@ -142,10 +142,6 @@ cores a = record { documents = map core_of a.documents; refused = is_fault a.fau
 
 -- ---- one event
 
-pushed : (ns : List Node) (n : Node)
-    → map core_node (ns ++ n ∷ []) ≡ map core_node ns ++ core_node n ∷ []
-pushed ns n = map-append core_node ns (n ∷ [])
-
 core_count : (l : Loading) → length l.document.nodes ≡ length (core_of l.document).nodes
 core_count l = let e : length (map core_node l.document.nodes) ≡ length l.document.nodes = length-map l.document.nodes core_node in rw e refl
 
@@ -159,7 +155,7 @@ leaf_core l anchor n =
       levels = attach (pos (suc k)) l.levels;
       anchors = named anchor (pos (suc k)) l.anchors;
     } in
-    ap (λ (ns : List CoreNode). at k ns) (pushed l.document.nodes n) ∙ ap (λ (j : ℕ). at j (map core_node l.document.nodes ++ core_node n ∷ [])) (core_count l)
+    ap (λ (ns : List CoreNode). at k ns) (map-append core_node l.document.nodes (n ∷ [])) ∙ ap (λ (j : ℕ). at j (map core_node l.document.nodes ++ core_node n ∷ [])) (core_count l)
 
 open_core : (l : Loading) (anchor : Option (List ℕ)) (n : Node) (o : ℕ → Open)
     → core_loading (enter_open l anchor n (o (length l.document.nodes)))
@@ -172,7 +168,7 @@ open_core l anchor n o =
       levels = o k ∷ attach (pos (suc k)) l.levels;
       anchors = named anchor (pos (suc k)) l.anchors;
     } in
-    ap (λ (ns : List CoreNode). at k ns) (pushed l.document.nodes n) ∙ ap (λ (j : ℕ). at j (map core_node l.document.nodes ++ core_node n ∷ [])) (core_count l)
+    ap (λ (ns : List CoreNode). at k ns) (map-append core_node l.document.nodes (n ∷ [])) ∙ ap (λ (j : ℕ). at j (map core_node l.document.nodes ++ core_node n ∷ [])) (core_count l)
 
 filled_core : (o : Open) (b : NodeBody) → core_body (filled_body o b) ≡ filled_body o (core_body b)
 filled_core (open_sequence place items) node.no = refl
@@ -184,15 +180,11 @@ filled_core (open_mapping place pairs key) (node.scalar value style) = refl
 filled_core (open_mapping place pairs key) (node.sequence none style) = refl
 filled_core (open_mapping place pairs key) (node.mapping none style) = refl
 
-node_filled : (o : Open) (to : yaml_mark_t) (n : Node)
-    → core_node (filled o to n) ≡ core_filled o (core_node n)
-node_filled o to n = ap (λ (b : NodeBody). let c : CoreNode = record { tag = n.tag; body = b } in c) (filled_core o n.body)
-
 changed_core : (o : Open) (to : yaml_mark_t) (k : ℕ) (ns : List Node)
     → map core_node (change_place (filled o to) k ns)
     ≡ change_core (core_filled o) k (map core_node ns)
 changed_core o to k [] = refl
-changed_core o to zero (n ∷ ns) = ap (λ (c : CoreNode). c ∷ map core_node ns) (node_filled o to n)
+changed_core o to zero (n ∷ ns) = ap (λ (c : CoreNode). c ∷ map core_node ns) (ap (λ (b : NodeBody). let c : CoreNode = record { tag = n.tag; body = b } in c) (filled_core o n.body))
 changed_core o to (suc k) (n ∷ ns) = ap (λ (cs : List CoreNode). core_node n ∷ cs) (changed_core o to k ns)
 
 closed_core : (to : yaml_mark_t) (l : Loading) (os : List Open)

@@ -26,14 +26,11 @@ use Rattle.yaml_round_content.specs.DumpsLaws.{ContentIsSaid}
 longer : (n : ℕ) → (suc (suc n) == 1) ≡ false
 longer n = grind (arith, nat_tests)
 
-is_it : (c : ℕ) → (c == 33) ≡ true → c ≡ 33
-is_it c h = grind (arith, nat_tests)
-
 other_mark : (t value : List ℕ) → (t ≡ codes "!" → ⊥) → is_lone_mark (Some t) value ≡ false
 other_mark [] value h = let none : List ℕ = [] in ap (λ (b : Bool). b && slice_index none 0 == 33) (and-false (length value == 0))
 other_mark (c ∷ []) value h =
     elim (cases_Bool (c == 33)) [
-      | inl e ↦ absurd (h (ap (λ (x : ℕ). x ∷ []) (is_it c e)))
+      | inl e ↦ absurd (h (ap (λ (x : ℕ). x ∷ []) (grind (arith, nat_tests))))
       | inr e ↦ ap (λ (b : Bool). (length value == 0 && true) && b) e ∙ and-false (length value == 0 && true)
     ]
 other_mark (c ∷ d ∷ more) value h =

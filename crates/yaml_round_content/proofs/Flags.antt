@@ -12,15 +12,12 @@ use Rattle.yaml_round_content.specs.ContentLaws.{IsFlagged, AreFlagged, LayoutIs
 use Rattle.yaml_round_content.specs.WritableLaws.{InputsAreFlagged, LayoutIsOfInputsContent, InputsContentIsLaidOut}
 use Rattle.yaml_round_content.proofs.Scalars.{IsScalarRight, IsRight, AreRight, input_right}
 
-some_tag : (t : List ℕ) → Some t ≡ None → ⊥
-some_tag t e = cc
-
 scalar_flagged : (lone : Bool) (anchor tag : Option (List ℕ)) (value : List ℕ) (plain quoted : Bool)
     (style : yaml_scalar_style_t) → IsScalarRight tag value plain quoted
     → IsFlagged (emitter_event (normalize_scalar lone anchor tag value plain quoted style))
 scalar_flagged true anchor tag value plain quoted style h = λ e. refl
 scalar_flagged false anchor None value plain quoted style h = λ e. h
-scalar_flagged false anchor (Some t) value plain quoted style h = λ e. absurd (some_tag t e)
+scalar_flagged false anchor (Some t) value plain quoted style h = λ e. absurd cc
 
 body_flagged : (b : EventBody) → IsRight b → IsFlagged (emitter_event (normalize_body true b))
 body_flagged (event.scalar anchor tag value plain quoted style) h = scalar_flagged (is_lone_mark tag value) anchor tag value plain quoted style h

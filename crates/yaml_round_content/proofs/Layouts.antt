@@ -2,7 +2,7 @@
 use Rattle.std.proofs.Common.{◌≡◌, ℕ, Bool, true, false, not, List, [], ◌∷◌, Option, Some, None, refl, sym, ap, subst, ◌∙◌}
 use Rattle.std.proofs.Math.Bool.{or-true}
 use Rattle.yaml_round_content.specs.scan_model.declared.yaml_encoding_t.{yaml_encoding_t}
-use Rattle.yaml_round_content.specs.scan_model.declared.yaml_encoding_t.TheVariants.{YAML_ANY_ENCODING, YAML_UTF8_ENCODING, YAML_UTF16LE_ENCODING, YAML_UTF16BE_ENCODING}
+use Rattle.yaml_round_content.specs.scan_model.declared.yaml_encoding_t.TheVariants.{YAML_ANY_ENCODING}
 use Rattle.yaml_round_content.specs.scan_model.declared.yaml_scalar_style_t.{yaml_scalar_style_t}
 use Rattle.yaml_round_content.specs.scan_model.declared.yaml_scalar_style_t.TheVariants.{YAML_ANY_SCALAR_STYLE}
 use Rattle.yaml_round_content.specs.parse_model.Events.{EventBody, TagDirective}
@@ -253,14 +253,10 @@ layouts_of_content w right es flagged c says x whole stream =
       stream.is ∙ ap (λ (z : Settings). written (stream_layout z ds)) fixed ∙ ap (λ (a : Layout). written a) same ∙ ap (λ (e : List Document). canon_items w e) (sym known),
     )
 
-right_canonical : (w : RequestedSettings) → w.canonical ≡ true → (es : List emit.Event)
-    → RightStream true es → RightStream w.canonical es
-right_canonical w e es r = subst (λ (b : Bool). RightStream b es) (sym e) r
-
 pub content_laid_out : ContentIsLaidOut
 content_laid_out w right from input flagged c has =
     let es = events_of from input in
-    let r = right_canonical w right.canonical (emitter_events true es) (input_stream from input true has.right) in
+    let r = subst (λ (b : Bool). RightStream b (emitter_events true es)) (sym right.canonical) (input_stream from input true has.right) in
     let whole = written (stream_layout (settled w r.encoding) r.documents) in
     let x = (settled w r.encoding).encoding in
     let is : IsStream w x (emitter_events true es) whole = record { encoding = r.encoding; documents = r.documents; coded = refl; same = r.same; right = r.right; is = refl } in

@@ -1,5 +1,5 @@
 -- The events that are read of a tree: the stream's start, its documents' events, its end.
-use Rattle.std.proofs.Common.{◌≡◌, ℕ, Bool, true, false, List, [], ◌∷◌, Option, None, refl, ap, ◌∙◌}
+use Rattle.std.proofs.Common.{◌≡◌, ℕ, Bool, true, false, List, [], ◌∷◌, map, Option, None, refl, ap, ◌∙◌}
 use Rattle.yaml_round_content.specs.scan_model.declared.yaml_mark_t.{yaml_mark_t}
 use Rattle.yaml_round_content.specs.scan_model.Tokens.{Token}
 use Rattle.yaml_round_content.specs.scan_model.Faults.{Fault}
@@ -18,6 +18,13 @@ use Rattle.yaml_round_content.specs.TreeDocuments.{placed_node, placed_maybe, en
 use Rattle.yaml_round_content.specs.Loading.{end_of, placed_events, tree_events, events_told}
 use Rattle.yaml_round_content.proofs.Documents.{directives, directives_read, right_behind}
 use Rattle.yaml_round_content.proofs.Placing.{ReadsAs, both, node_reads, maybe_reads}
+use Rattle.yaml_round_content.specs.parse_grammar.Resolve.{Told}
+use Rattle.yaml_round_content.specs.Content.{content_of}
+use Rattle.yaml_round_content.specs.Normalize.{normalize_body}
+use Rattle.yaml_round_content.specs.Events.{contents}
+use Rattle.yaml_round_content.specs.Said.{stream_says}
+use Rattle.yaml_round_content.specs.TreeContent.{tree_content}
+use Rattle.yaml_round_content.proofs.Saying.{tree_said}
 
 document_read : (implicit : Bool) (from to : yaml_mark_t) (left : ℕ) (gs : List Given)
     (f : Option Fault) (D : Directives)
@@ -78,3 +85,17 @@ pub tree_reads : (t : Stream) (rest : List Token)
     → events_told (reading (items t rest) None no_directives).events ≡ tree_events t rest
 unfolding reading
 tree_reads t rest e = ap (λ (es : List Event). spanning (event.stream_start t.encoding) t.start.from t.start.to ∷ es) (first_read t.first t.documents rest e)
+
+told_contents : (gs : List Told)
+    → contents gs ≡ map (λ (e : Event). content_of (normalize_body true e.body)) (events_told gs)
+told_contents [] = refl
+told_contents (g ∷ gs) = ap (λ (bs : List event.EventBody). content_of (normalize_body true g.0.body) ∷ bs) (told_contents gs)
+
+-- The events of a tree in order say its content.
+pub tree_says : (t : Stream) (rest : List Token)
+    → (reading (items t rest) None no_directives).ending ≡ None
+    → contents (reading (items t rest) None no_directives).events ≡ stream_says (tree_content t)
+tree_says t rest e =
+    told_contents (reading (items t rest) None no_directives).events
+    ∙ ap (λ (es : List Event). map (λ (e : Event). content_of (normalize_body true e.body)) es) (tree_reads t rest e)
+    ∙ (tree_said t rest).same

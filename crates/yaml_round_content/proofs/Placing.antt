@@ -47,21 +47,6 @@ same_plain : (style : yaml_scalar_style_t) → resolve.is_plain style ≡ is_pla
 same_plain YAML_PLAIN_SCALAR_STYLE = refl
 same_plain _ = refl
 
-flagged : (anchor : Option (List ℕ)) (value : List ℕ) (style : yaml_scalar_style_t)
-    (from to : yaml_mark_t) (b c : Bool) → b ≡ c → (es : List Event)
-    → spanning (event.scalar anchor None value b (if b then false else true) style) from to ∷ es
-    ≡ spanning (event.scalar anchor None value c (if c then false else true) style) from to ∷ es
-flagged anchor value style from to b c e es = ap (λ (z : Bool). spanning (event.scalar anchor None value z (if z then false else true) style) from to ∷ es) e
-
-tagged : (anchor : Option (List ℕ)) (t value : List ℕ) (style : yaml_scalar_style_t)
-    (from to : yaml_mark_t) (b : Bool) (es : List Event)
-    → spanning (if b then event.scalar anchor None value true false style else event.scalar anchor
-    (Some t) value false false style) from to ∷ es
-    ≡ (if b then spanning (event.scalar anchor None value true false style) from to
-    ∷ es else spanning (event.scalar anchor (Some t) value false false style) from to ∷ es)
-tagged anchor t value style from to true es = refl
-tagged anchor t value style from to false es = refl
-
 plain_placed : (anchor : Option (List ℕ)) (value : List ℕ) (style : yaml_scalar_style_t)
     (from to : yaml_mark_t) (es : List Event) (b : Bool) → is_plain style ≡ b
     → spanning (event.scalar anchor None value b (if b then false else true) style) from to ∷ es
@@ -81,7 +66,8 @@ scalar_placed : (anchor tag : Option (List ℕ)) (value : List ℕ) (style : yam
     (from to : yaml_mark_t) (es : List Event)
     → spanning (node_event anchor tag (item.scalar value style)) from to ∷ es
     ≡ events (placed_scalar anchor tag value style from to) es
-scalar_placed anchor None value style from to es = flagged anchor value style from to (resolve.is_plain style) (is_plain style) (same_plain style) es ∙ plain_placed anchor value style from to es (is_plain style) refl
+scalar_placed anchor None value style from to es =
+    ap (λ (z : Bool). spanning (event.scalar anchor None value z (if z then false else true) style) from to ∷ es) (same_plain style) ∙ plain_placed anchor value style from to es (is_plain style) refl
 scalar_placed anchor (Some t) value style from to es = mark_placed anchor t value style from to es (bytes_eq t (codes "!")) refl
 
 empty_placed : (anchor tag : Option (List ℕ)) (from to : yaml_mark_t) (es : List Event)

@@ -51,12 +51,9 @@ alone_placed left h (i ∷ is) p = (p.0, alone_placed left (moved h i.body) is p
 abbrev pub Ends : Progress → Outcome → Type 0
 Ends h o = GivenPlaced h o.items × (o.ending ≡ None → moved_given h o.items ≡ at_place at.End)
 
-ended : (f : Fault) → Some f ≡ None → ⊥
-ended f d = cc
-
 carried_places : (left : ℕ) (fed : Fed) (k : List State → Outcome) (h : Progress) → FedLeads h fed
     → ((s : List State) → AreRight s → Ends (shape_of s) (k s)) → Ends h (carry left fed k)
-carried_places left (stop is f) k h l r = (alone_placed left h is l, λ d. absurd (ended f d))
+carried_places left (stop is f) k h l r = (alone_placed left h is l, λ d. absurd cc)
 carried_places left (go is s) k h l r =
     let there : Ends (shape_of s) (k s) = r s l.1.1 in (
       with_placed left h is (k s).items l.0 (subst (λ (z : Progress). GivenPlaced z (k s).items) (sym l.1.0) there.0),
@@ -65,7 +62,7 @@ carried_places left (go is s) k h l r =
 
 last_places : (fed : Fed) (h : Progress) → FedLeads h fed → Emptied fed
     → Ends h (carry 0 fed (λ _. finished))
-last_places (stop is f) h l e = (alone_placed 0 h is l, λ d. absurd (ended f d))
+last_places (stop is f) h l e = (alone_placed 0 h is l, λ d. absurd cc)
 last_places (go is s) h l e =
     (with_placed 0 h is [] l.0 tt, λ d. with_moved 0 h is [] ∙ (l.1.0 ∙ ap shape_of e))
 
@@ -73,7 +70,7 @@ run_places : (ts : List Token) (s : List State) (f : Option Fault) → AreRight 
     → Ends (shape_of s) (run ts s f)
 unfolding run
 run_places [] [] (Some e) r = (tt, λ _. refl)
-run_places [] (x ∷ s) (Some e) r = (tt, λ d. absurd (ended e d))
+run_places [] (x ∷ s) (Some e) r = (tt, λ d. absurd cc)
 run_places [] s None r = last_places (feed s no_token) (shape_of s) (feed_leads s no_token r) (emptied s)
 run_places (t ∷ ts) s f r = carried_places (length ts) (feed s t) (λ s'. run ts s' f) (shape_of s) (feed_leads s t r) (λ s' r'. run_places ts s' f r')
 

@@ -32,9 +32,6 @@ abbrev pub IsRight : EventBody → Type 0
 IsRight (event.scalar anchor tag value plain quoted style) = IsScalarRight tag value plain quoted
 IsRight _ = Unit {0}
 
-mark_alone : is_lone_mark (Some (codes "!")) [] ≡ true
-mark_alone = refl
-
 empty_right : (tag : List ℕ) → is_lone_mark (Some tag) [] ≡ false → IsNoMark tag
 empty_right tag e =
     elim (cases_Bool (bytes_eq tag (codes "!"))) [
@@ -43,7 +40,7 @@ empty_right tag e =
     ]
   where
     marked : bytes_eq tag (codes "!") ≡ true → is_lone_mark (Some tag) [] ≡ true
-    marked h = rw ((bytes_eq-Decides tag (codes "!")).0 h) mark_alone
+    marked h = rw ((bytes_eq-Decides tag (codes "!")).0 h) refl
 
 tagged_right : (t : Bool) (anchor : Option (List ℕ)) (tag value : List ℕ)
     (style : yaml_scalar_style_t) → bytes_eq tag (codes "!") ≡ t

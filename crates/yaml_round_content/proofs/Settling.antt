@@ -132,13 +132,10 @@ anchor_right : (anchor : Option (List ℕ)) → IsNamed anchor → anchor_proble
 anchor_right None h = refl
 anchor_right (Some name) h = name_right problem.AnchorEmpty problem.AnchorCharacters name h
 
-full_right : (tag : List ℕ) → IsSome tag → tag_problem (Some tag) ≡ None
-full_right tag h = rw h refl
-
 tag_right : (kept : Bool) (tag : Option (List ℕ)) → IsFull tag
     → tag_problem (kept_if kept tag) ≡ None
 tag_right true None h = refl
-tag_right true (Some tag) h = full_right tag h
+tag_right true (Some tag) h = rw h refl
 tag_right false tag h = refl
 
 names_right : (kept : Bool) (anchor tag : Option (List ℕ)) → IsNamed anchor → IsFull tag

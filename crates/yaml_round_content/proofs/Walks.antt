@@ -87,14 +87,11 @@ onward_same ns =
     ap (λ (k : ℕ). visits (suc k) ns (pos 1) nothing_left (replicate k false)) (length_bare ns)
     ∙ ap (λ (v : Visit). v (pos 1) nothing_left (none_met (bare ns))) (visited (suc (length (bare ns))) ns)
 
-turns_same : (ns : List model.Node) → turns ns ≡ turns (bare ns)
-turns_same ns = sym (turns_joined ns) ∙ onward_same ns ∙ turns_joined (bare ns)
-
 numbers_same : (ns : List model.Node) → numbers ns ≡ numbers (bare ns)
 unfolding numbers
 numbers_same ns =
     ap (λ (k : ℕ). (numbered (none_numbered k) (turns ns)).table) (length_bare ns)
-    ∙ ap (λ (ts : List Turn). (numbered (none_numbered (length (bare ns))) ts).table) (turns_same ns)
+    ∙ ap (λ (ts : List Turn). (numbered (none_numbered (length (bare ns))) ts).table) (sym (turns_joined ns) ∙ onward_same ns ∙ turns_joined (bare ns))
 
 -- ---- what is made of a walk: rests that say the same of what says the same
 

@@ -1,5 +1,5 @@
 -- The events of a list of well spelled tokens, from the first to the last.
-use Rattle.std.proofs.Common.{◌≡◌, Bool, List, [], ◌∷◌, Option, Some, None, refl, sym, ap, subst, ◌∙◌}
+use Rattle.std.proofs.Common.{◌≡◌, Bool, List, [], ◌∷◌, Option, None, refl, sym, ap, subst, ◌∙◌}
 use Rattle.yaml_emit_laws_dumps.specs.parse_model.Faults.{Fault}
 use Rattle.yaml_emit_laws_dumps.specs.parse_model.Events.{EventBody}
 use Rattle.yaml_emit_laws_dumps.specs.parse_grammar.Trees.{Given}
@@ -22,9 +22,6 @@ abbrev Passes : (EventBody → EventBody) → Bool → Progress → Option Fault
 Passes normalize canonical h f to r =
     (first_refusal canonical h (emitter_events_by normalize r.events) ≡ None) × (r.ending ≡ None → (f ≡ None) × (plain (progress_behind h (emitter_events_by normalize r.events)) ≡ to))
 
-ended : (f : Fault) → Some f ≡ None → ⊥
-ended f e = cc
-
 on_passes : (normalize : EventBody → EventBody) → IsNormalizing normalize
     → (canonical : Bool) (h : Progress) (f : Option Fault) (to : Progress) (c : Settled) (g : Given)
     (k : Directives → Reading)
@@ -33,7 +30,7 @@ on_passes : (normalize : EventBody → EventBody) → IsNormalizing normalize
     → Passes normalize canonical h' f to (k ds))
     → Passes normalize canonical h f to (read_on c g.0 g.1 k)
 unfolding first_refusal progress_behind
-on_passes normalize e canonical h f to (refused x) g k p o more = (refl, λ d. absurd (ended x d))
+on_passes normalize e canonical h f to (refused x) g k p o more = (refl, λ d. absurd cc)
 on_passes normalize e canonical h f to (gave b ds) g k p o more =
     let rest : Passes normalize canonical (progress_after h (emitter_event (normalize b))) f to (k ds) = more (progress_after h (emitter_event (normalize b))) ds p.1 o.1 in
     (or_none (problem_in canonical h (emitter_event (normalize b))) _ (no_problem canonical h (normalize b) p.0 (normalized_own canonical b (normalize b) (e b) o.0)) rest.0, rest.1)

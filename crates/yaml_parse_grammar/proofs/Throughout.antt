@@ -13,7 +13,6 @@ use Rattle.yaml_parse_model.specs.Events.{EventBody, TagDirective}
 use Rattle.yaml_parse_model.specs.Events as event
 use Rattle.yaml_parse_grammar.specs.declared.name.Wants.{Wants}
 use Rattle.yaml_parse_grammar.specs.declared.name.Wants.TheVariants.{Flow, Block}
-use Rattle.yaml_parse_grammar.specs.declared.name.Brackets.{Brackets}
 use Rattle.yaml_parse_grammar.specs.declared.name.Brackets.TheVariants as brackets
 use Rattle.yaml_parse_grammar.specs.declared.name.Site.TheVariants.{Root}
 use Rattle.yaml_parse_grammar.specs.declared.name.Choice.{Choice}
@@ -25,7 +24,7 @@ use Rattle.yaml_parse_grammar.specs.States as state
 use Rattle.yaml_parse_grammar.specs.Trees.{Given}
 use Rattle.yaml_parse_grammar.specs.Stacks.{IsInner}
 use Rattle.yaml_parse_grammar.specs.Resolve.{Directives, Settled, refused, gave, noted, settle, settle_body, resolved, directive_for, with_resolved, with_tag, with_version, is_known_version, node_event, Told, Reading, read_on, reading}
-use Rattle.yaml_parse_grammar.specs.Machine.{choice_at, tag_at, taken_at, documents_taken, content_taken, node_taken, with_properties_taken, items_taken, more_taken, stream_taken, entries_taken, pairs_taken, left_at, Stands, Fed, stop, go, with_item, given_by, turn, feed, Outcome, finished, carry, run}
+use Rattle.yaml_parse_grammar.specs.Machine.{choice_at, tag_at, taken_at, documents_taken, content_taken, node_taken, left_at, Stands, Fed, stop, go, with_item, given_by, turn, feed, Outcome, finished, carry, run}
 
 -- ---- what is taken
 
@@ -93,7 +92,8 @@ on_others P Q (Some i) xs ys h k = (h.0, all_over Q xs ys h.1 k)
 
 module _ {T : TokenBody → Type 0} {A : Option (List ℕ) → Type 0} {G : Option Tag → Type 0} {P : RawEventBody → Type 0}
     {Q : State → Type 0} (r : Inner T A G P Q) where
-  content_are : (w : Wants) (p : Option Properties) (start end : yaml_mark_t) (b : TokenBody) → AreOf A G p → T b → AreTaken P Q (content_taken w p start end b)
+  content_are : (w : Wants) (p : Option Properties) (start end : yaml_mark_t) (b : TokenBody)
+      → AreOf A G p → T b → AreTaken P Q (content_taken w p start end b)
   content_are w p start end (token.scalar v style) h t = (node_is A G P p _ start end h (λ a g k l. r.scalar a g v style k l t), tt)
   content_are w p start end token.flow_sequence_start h t = (node_is A G P p _ start end h (λ a g. r.sequence a g _), (r.states _ tt, tt))
   content_are w p start end token.flow_mapping_start h t = (node_is A G P p _ start end h (λ a g. r.mapping a g _), (r.states _ tt, tt))
@@ -104,53 +104,43 @@ module _ {T : TokenBody → Type 0} {A : Option (List ℕ) → Type 0} {G : Opti
   content_are Flow p start end token.block_entry h t = (tt, (r.states _ tt, tt))
   content_are w p start end _ h t = (tt, (r.states _ tt, tt))
 
-  node_are : (w : Wants) (start end : yaml_mark_t) (b : TokenBody) → T b → AreTaken P Q (node_taken w start end b)
+  node_are : (w : Wants) (start end : yaml_mark_t) (b : TokenBody) → T b
+      → AreTaken P Q (node_taken w start end b)
   node_are w start end (token.alias name) t = (r.alias name t, tt)
   node_are w start end (token.anchor name) t = (tt, (r.properties w _ (r.anchor name t) r.untagged, tt))
   node_are w start end (token.tag handle suffix) t = (tt, (r.properties w _ r.unnamed (r.tag handle suffix start t), tt))
   node_are w start end b t = content_are w None start end b (r.unnamed, r.untagged) t
 
-  beside_are : (w : Wants) (p : Properties) (start end : yaml_mark_t) (b : TokenBody) → A p.anchor × G p.tag → T b → AreTaken P Q (with_properties_taken w p start end b)
-  beside_are w p start end (token.anchor name) h t = (tt, (r.properties w _ (r.anchor name t) h.1, tt))
-  beside_are w p start end (token.tag handle suffix) h t = (tt, (r.properties w _ h.0 (r.tag handle suffix start t), tt))
-  beside_are w p start end b h t = content_are w (Some p) start end b h t
-
-  items_are : (b : Brackets) (o start end : yaml_mark_t) (x : TokenBody) → T x → AreTaken P Q (items_taken b o start end x)
-  items_are brackets.Sequence o start end token.key t = (r.mapping None None _ r.unnamed r.untagged, (r.states _ tt, (r.states _ tt, (r.states _ tt, (r.states _ tt, tt)))))
-  items_are brackets.Mapping o start end token.key t = (tt, (r.states _ tt, (r.states _ tt, (r.states _ tt, tt))))
-  items_are brackets.Sequence o start end token.flow_sequence_end t = (r.sequence_end, tt)
-  items_are brackets.Mapping o start end token.flow_sequence_end t = (r.mapping_end, tt)
-  items_are brackets.Sequence o start end token.flow_mapping_end t = (r.sequence_end, tt)
-  items_are brackets.Mapping o start end token.flow_mapping_end t = (r.mapping_end, tt)
-  items_are brackets.Sequence o start end x t = on_others P Q (node_taken Flow start end x).item (node_taken Flow start end x).above (state.more brackets.Sequence o ∷ []) (node_are Flow start end x t) (r.states _ tt, tt)
-  items_are brackets.Mapping o start end x t = on_others P Q (node_taken Flow start end x).item (node_taken Flow start end x).above (state.lone ∷ state.more brackets.Mapping o ∷ []) (node_are Flow start end x t) (r.states _ tt, (r.states _ tt, tt))
-
-  more_are : (b : Brackets) (o start end : yaml_mark_t) (x : TokenBody) → AreTaken P Q (more_taken b o start end x)
-  more_are b o start end token.flow_entry = (tt, (r.states _ tt, tt))
-  more_are brackets.Sequence o start end _ = (r.sequence_end, tt)
-  more_are brackets.Mapping o start end _ = (r.mapping_end, tt)
-
-  entries_are : (o start end : yaml_mark_t) (x : TokenBody) → AreTaken P Q (entries_taken o start end x)
-  entries_are o start end token.block_entry = (tt, (r.states _ tt, (r.states _ tt, tt)))
-  entries_are o start end _ = (r.sequence_end, tt)
-
-  pairs_are : (o start end : yaml_mark_t) (x : TokenBody) → AreTaken P Q (pairs_taken o start end x)
-  pairs_are o start end token.key = (tt, (r.states _ tt, (r.states _ tt, (r.states _ tt, tt))))
-  pairs_are o start end _ = (r.mapping_end, tt)
+  inner_are_by : (x : State) (start end : yaml_mark_t) (b : TokenBody) → IsInner x → Q x → T b
+      → AreTaken P Q (taken_at x (record { body = b; start_mark = start; end_mark = end }))
+  inner_are_by (state.optional place before) start end b i q h = node_are _ start end b h
+  inner_are_by (state.entries o) start end token.block_entry i q h = (tt, (r.states _ tt, (r.states _ tt, tt)))
+  inner_are_by (state.entries o) start end _ i q h = (r.sequence_end, tt)
+  inner_are_by (state.others side) start end b i q h = (tt, (r.states _ tt, (r.states _ tt, tt)))
+  inner_are_by (state.pairs o) start end token.key i q h = (tt, (r.states _ tt, (r.states _ tt, (r.states _ tt, tt))))
+  inner_are_by (state.pairs o) start end _ i q h = (r.mapping_end, tt)
+  inner_are_by (state.colon place) start end b i q h = (tt, (r.states _ tt, tt))
+  inner_are_by (state.with_properties w p) start end (token.anchor name) i q h = (tt, (r.properties w _ (r.anchor name h) (r.held w p q).1, tt))
+  inner_are_by (state.with_properties w p) start end (token.tag handle suffix) i q h = (tt, (r.properties w _ (r.held w p q).0 (r.tag handle suffix start h), tt))
+  inner_are_by (state.with_properties w p) start end b i q h = content_are w (Some p) start end b (r.held w p q) h
+  inner_are_by (state.items brackets.Sequence o) start end token.key i q h = (r.mapping None None _ r.unnamed r.untagged, (r.states _ tt, (r.states _ tt, (r.states _ tt, (r.states _ tt, tt)))))
+  inner_are_by (state.items brackets.Mapping o) start end token.key i q h = (tt, (r.states _ tt, (r.states _ tt, (r.states _ tt, tt))))
+  inner_are_by (state.items brackets.Sequence o) start end token.flow_sequence_end i q h = (r.sequence_end, tt)
+  inner_are_by (state.items brackets.Mapping o) start end token.flow_sequence_end i q h = (r.mapping_end, tt)
+  inner_are_by (state.items brackets.Sequence o) start end token.flow_mapping_end i q h = (r.sequence_end, tt)
+  inner_are_by (state.items brackets.Mapping o) start end token.flow_mapping_end i q h = (r.mapping_end, tt)
+  inner_are_by (state.items brackets.Sequence o) start end b i q h = on_others P Q (node_taken Flow start end b).item (node_taken Flow start end b).above (state.more brackets.Sequence o ∷ []) (node_are Flow start end b h) (r.states _ tt, tt)
+  inner_are_by (state.items brackets.Mapping o) start end b i q h = on_others P Q (node_taken Flow start end b).item (node_taken Flow start end b).above (state.lone ∷ state.more brackets.Mapping o ∷ []) (node_are Flow start end b h) (r.states _ tt, (r.states _ tt, tt))
+  inner_are_by (state.more b o) start end token.flow_entry i q h = (tt, (r.states _ tt, tt))
+  inner_are_by (state.more brackets.Sequence o) start end _ i q h = (r.sequence_end, tt)
+  inner_are_by (state.more brackets.Mapping o) start end _ i q h = (r.mapping_end, tt)
+  inner_are_by state.pair_end start end b i q h = (tt, (r.states _ tt, tt))
+  inner_are_by state.lone start end b i q h = (tt, (r.states _ tt, tt))
+  inner_are_by _ start end b i q h = absurd i
 
   -- Within a document what is taken is as the rules say.
   pub inner_are : (x : State) (t : Token) → IsInner x → Q x → T t.body → AreTaken P Q (taken_at x t)
-  inner_are (state.optional place before) t i q h = node_are _ t.start_mark t.end_mark t.body h
-  inner_are (state.entries o) t i q h = entries_are o t.start_mark t.end_mark t.body
-  inner_are (state.others side) t i q h = (tt, (r.states _ tt, (r.states _ tt, tt)))
-  inner_are (state.pairs o) t i q h = pairs_are o t.start_mark t.end_mark t.body
-  inner_are (state.colon place) t i q h = (tt, (r.states _ tt, tt))
-  inner_are (state.with_properties w p) t i q h = beside_are w p t.start_mark t.end_mark t.body (r.held w p q) h
-  inner_are (state.items b o) t i q h = items_are b o t.start_mark t.end_mark t.body h
-  inner_are (state.more b o) t i q h = more_are b o t.start_mark t.end_mark t.body
-  inner_are state.pair_end t i q h = (tt, (r.states _ tt, tt))
-  inner_are state.lone t i q h = (tt, (r.states _ tt, tt))
-  inner_are _ t i q h = absurd i
+  inner_are x t i q h = inner_are_by x t.start_mark t.end_mark t.body i q h
 
 -- ---- over all tokens
 
@@ -227,25 +217,27 @@ carried_are P Q left (go is s) k h more = given_over P left is (k s).items h.0 (
 
 module _ {T : TokenBody → Type 0} {A : Option (List ℕ) → Type 0} {G : Option Tag → Type 0} {P : RawEventBody → Type 0}
     {Q : State → Type 0} (r : Outer T A G P Q) where
-  stream_are : (start end : yaml_mark_t) (b : TokenBody) → AreTaken P Q (stream_taken start end b)
-  stream_are start end (token.stream_start encoding) = (r.start encoding, (r.outer _ tt, tt))
-  stream_are start end _ = (tt, (r.outer _ tt, tt))
-
-  documents_are : (from start end : yaml_mark_t) (b : TokenBody) → T b → AreTaken P Q (documents_taken from start end b)
+  documents_are : (from start end : yaml_mark_t) (b : TokenBody) → T b
+      → AreTaken P Q (documents_taken from start end b)
   documents_are from start end (token.version_directive major minor) t = (r.version major minor, (r.outer _ tt, tt))
   documents_are from start end (token.tag_directive handle prefix) t = (r.handle handle prefix t, (r.outer _ tt, tt))
   documents_are from start end token.document_start t = (r.document false, (r.outer _ tt, (r.outer _ tt, (r.outer _ tt, tt))))
   documents_are from start end token.stream_end t = (r.end, tt)
   documents_are from start end _ t = (tt, (r.outer _ tt, tt))
 
+  taken_are_by : (x : State) (start end : yaml_mark_t) (b : TokenBody) → Q x → T b
+      → AreTaken P Q (taken_at x (record { body = b; start_mark = start; end_mark = end }))
+  taken_are_by state.stream start end (token.stream_start encoding) q h = (r.start encoding, (r.outer _ tt, tt))
+  taken_are_by state.stream start end _ q h = (tt, (r.outer _ tt, tt))
+  taken_are_by state.first start end b q h = documents_are start start end b h
+  taken_are_by state.documents start end b q h = documents_are start start end b h
+  taken_are_by (state.directives from) start end b q h = documents_are from start end b h
+  taken_are_by state.document_end start end b q h = (r.document_end false, tt)
+  taken_are_by x start end b q h = inner_are r.inner x (record { body = b; start_mark = start; end_mark = end }) tt q h
+
   -- What a state takes is as the rules say.
   pub taken_are : (x : State) (t : Token) → Q x → T t.body → AreTaken P Q (taken_at x t)
-  taken_are state.stream t q h = stream_are t.start_mark t.end_mark t.body
-  taken_are state.first t q h = documents_are t.start_mark t.start_mark t.end_mark t.body h
-  taken_are state.documents t q h = documents_are t.start_mark t.start_mark t.end_mark t.body h
-  taken_are (state.directives from) t q h = documents_are from t.start_mark t.end_mark t.body h
-  taken_are state.document_end t q h = (r.document_end false, tt)
-  taken_are x t q h = inner_are r.inner x t tt q h
+  taken_are x t q h = taken_are_by x t.start_mark t.end_mark t.body q h
 
   -- So is what it gives where it leaves.
   pub left_are : (x : State) (start : yaml_mark_t) → Q x → P (left_at x start).body
@@ -256,7 +248,8 @@ module _ {T : TokenBody → Type 0} {A : Option (List ℕ) → Type 0} {G : Opti
   left_are state.pair_end start q = r.inner.mapping_end
   left_are _ start q = r.empty None None r.inner.unnamed r.inner.untagged
 
-  turn_are : (c : Choice) (x : State) (t : Token) (s : List State) (below : Fed) → T t.body → AllAre Q (x ∷ s) → FedAre P Q below → FedAre P Q (turn c x t s below)
+  turn_are : (c : Choice) (x : State) (t : Token) (s : List State) (below : Fed) → T t.body
+      → AllAre Q (x ∷ s) → FedAre P Q below → FedAre P Q (turn c x t s below)
   turn_are (Refuse p o) x t s below h q k = tt
   turn_are Take x t s below h q k = fed_by P Q (taken_at x t).item (taken_at x t).above s (taken_are x t q.0 h) q.1
   turn_are Leave x t s below h q k = fed_with P Q (left_at x t.start_mark) below (left_are x t.start_mark q.0) k
@@ -272,7 +265,8 @@ module _ {T : TokenBody → Type 0} {A : Option (List ℕ) → Type 0} {G : Opti
   feed_are (x ∷ s) t h q = turn_are (choice_at x (type_of t.body)) x t s (feed s t) h q (feed_are s t h q.1)
 
   -- All items of a list of tokens are as the rules say.
-  pub run_are : (ts : List Token) (s : List State) (f : Option Fault) → Each T ts → AllAre Q s → GivenAre P (run ts s f).items
+  pub run_are : (ts : List Token) (s : List State) (f : Option Fault) → Each T ts → AllAre Q s
+      → GivenAre P (run ts s f).items
   unfolding run
   run_are [] [] (Some e) h q = tt
   run_are [] (x ∷ s) (Some e) h q = tt

@@ -20,7 +20,7 @@ use Rattle.yaml_parse_laws_trees.specs.parse_grammar.Items.{RawEvent, Properties
 use Rattle.yaml_parse_laws_trees.specs.parse_grammar.Items as item
 use Rattle.yaml_parse_laws_trees.specs.parse_grammar.States.{State}
 use Rattle.yaml_parse_laws_trees.specs.parse_grammar.States as state
-use Rattle.yaml_parse_laws_trees.specs.parse_grammar.Machine.{wants_of, follows, choice_at, documents_taken, content_taken, node_taken, with_properties_taken, items_taken, more_taken, entries_taken, pairs_taken, stream_taken, lone_below, taken_at, left_at, Fed, stop, go, with_item, given_by, turn, feed}
+use Rattle.yaml_parse_laws_trees.specs.parse_grammar.Machine.{wants_of, follows, choice_at, documents_taken, content_taken, node_taken, lone_below, taken_at, left_at, Fed, stop, go, with_item, given_by, turn, feed}
 use Rattle.yaml_parse_grammar.proofs.Rules.{was_take}
 use Rattle.std.proofs.lemmas.Bool.{false≢true}
 
@@ -211,13 +211,6 @@ node_stood w start end (token.anchor name) s f c a = ((f, c), a)
 node_stood w start end (token.tag handle suffix) s f c a = ((f, c), a)
 node_stood w start end b s f c a = content_stood w None start end b s f c a
 
-with_properties_stood : (w : Wants) (p : Properties) (start end : yaml_mark_t) (b : TokenBody)
-    (s : List State) → FitsWants w s → Closed s → AllStood s
-    → AllStood ((with_properties_taken w p start end b).above ++ s)
-with_properties_stood w p start end (token.anchor name) s f c a = ((f, c), a)
-with_properties_stood w p start end (token.tag handle suffix) s f c a = ((f, c), a)
-with_properties_stood w p start end b s f c a = content_stood w (Some p) start end b s f c a
-
 documents_stood : (from start end : yaml_mark_t) (b : TokenBody) (s : List State) → AllStood s
     → AllStood ((documents_taken from start end b).above ++ s)
 documents_stood from start end (token.version_directive major minor) s a = (tt, a)
@@ -225,12 +218,6 @@ documents_stood from start end (token.tag_directive name prefix) s a = (tt, a)
 documents_stood from start end token.document_start s a = ((root_fits s, tt), (tt, (tt, a)))
 documents_stood from start end token.stream_end s a = a
 documents_stood from start end _ s a = (tt, a)
-
-stream_stood : (start end : yaml_mark_t) (b : TokenBody) (s : List State)
-    → choice_at state.stream (type_of b) ≡ Take → AllStood s
-    → AllStood ((stream_taken start end b).above ++ s)
-stream_stood start end (token.stream_start e) s c a = (tt, a)
-stream_stood start end _ s c a = absurd (was_take _ c)
 
 lone_closed : (b : Brackets) (o : yaml_mark_t) (s : List State)
     → Closed (lone_below b (state.more b o ∷ []) ++ s)
@@ -242,50 +229,40 @@ lone_stood : (b : Brackets) (o : yaml_mark_t) (s : List State) → AllStood s
 lone_stood brackets.Sequence o s a = (tt, a)
 lone_stood brackets.Mapping o s a = (tt, (tt, a))
 
-items_stood : (b : Brackets) (o start end : yaml_mark_t) (x : TokenBody) (s : List State)
-    → AllStood s → AllStood ((items_taken b o start end x).above ++ s)
-items_stood brackets.Sequence o start end token.key s a =
+taken_stood_by : (x : State) (start end : yaml_mark_t) (b : TokenBody) (s : List State)
+    → choice_at x (type_of b) ≡ Take → Stood x s → AllStood s
+    → AllStood ((taken_at x (record { body = b; start_mark = start; end_mark = end })).above ++ s)
+taken_stood_by state.stream start end (token.stream_start e) s c h a = (tt, a)
+taken_stood_by state.first start end b s c h a = documents_stood start start end b s a
+taken_stood_by state.documents start end b s c h a = documents_stood start start end b s a
+taken_stood_by (state.directives from) start end b s c h a = documents_stood from start end b s a
+taken_stood_by (state.optional place before) start end b s c h a = node_stood (wants_of place) start end b s (fits_wants place s h.0) h.1 a
+taken_stood_by state.document_end start end b s c h a = a
+taken_stood_by (state.entries o) start end token.block_entry s c h a = (((λ t h. takes_goes (state.entries o) s t (entry_taken o (type_of t.body) h)), tt), (tt, a))
+taken_stood_by (state.entries o) start end _ s c h a = a
+taken_stood_by (state.others side) start end b s c h a = ((others_fit side s h.0, h.1), (h, a))
+taken_stood_by (state.pairs o) start end token.key s c h a = ((keys_fit o s, tt), (((λ t h. takes_goes (state.pairs o) s t (pair_taken o (type_of t.body) h)), tt), (tt, a)))
+taken_stood_by (state.pairs o) start end _ s c h a = a
+taken_stood_by (state.colon place) start end b s c h a = (h, a)
+taken_stood_by (state.with_properties w p) start end (token.anchor name) s c h a = ((h.0, h.1), a)
+taken_stood_by (state.with_properties w p) start end (token.tag handle suffix) s c h a = ((h.0, h.1), a)
+taken_stood_by (state.with_properties w p) start end b s c h a = content_stood w (Some p) start end b s h.0 h.1 a
+taken_stood_by (state.items brackets.Sequence o) start end token.key s c h a =
     ((flow_keys_fit brackets.Sequence (state.pair_end ∷ state.more brackets.Sequence o ∷ s) (end_fits brackets.Sequence o s), tt), ((end_fits brackets.Sequence o s, tt), (tt, (tt, a))))
-items_stood brackets.Mapping o start end token.key s a =
+taken_stood_by (state.items brackets.Mapping o) start end token.key s c h a =
     ((flow_keys_fit brackets.Mapping (state.more brackets.Mapping o ∷ s) (more_fits brackets.Mapping o s), tt), ((more_fits brackets.Mapping o s, tt), (tt, a)))
-items_stood b o start end token.flow_sequence_end s a = a
-items_stood b o start end token.flow_mapping_end s a = a
-items_stood b o start end x s a =
-    subst AllStood (sym (append_assoc (node_taken Flow start end x).above (lone_below b (state.more b o ∷ [])) s))
-    (node_stood Flow start end x (lone_below b (state.more b o ∷ []) ++ s) tt (lone_closed b o s) (lone_stood b o s a))
+taken_stood_by (state.items b o) start end token.flow_sequence_end s c h a = a
+taken_stood_by (state.items b o) start end token.flow_mapping_end s c h a = a
+taken_stood_by (state.items b o) start end b' s c h a =
+    subst AllStood (sym (append_assoc (node_taken Flow start end b').above (lone_below b (state.more b o ∷ [])) s))
+    (node_stood Flow start end b' (lone_below b (state.more b o ∷ []) ++ s) tt (lone_closed b o s) (lone_stood b o s a))
+taken_stood_by (state.more b o) start end token.flow_entry s c h a = (tt, a)
+taken_stood_by (state.more b o) start end _ s c h a = a
+taken_stood_by _ start end _ s c h a = absurd (was_take _ c)
 
-more_stood : (b : Brackets) (o start end : yaml_mark_t) (x : TokenBody) (s : List State)
-    → AllStood s → AllStood ((more_taken b o start end x).above ++ s)
-more_stood b o start end token.flow_entry s a = (tt, a)
-more_stood b o start end _ s a = a
-
-entries_stood : (o start end : yaml_mark_t) (x : TokenBody) (s : List State) → AllStood s
-    → AllStood ((entries_taken o start end x).above ++ s)
-entries_stood o start end token.block_entry s a = (((λ t h. takes_goes (state.entries o) s t (entry_taken o (type_of t.body) h)), tt), (tt, a))
-entries_stood o start end _ s a = a
-
-pairs_stood : (o start end : yaml_mark_t) (x : TokenBody) (s : List State) → AllStood s
-    → AllStood ((pairs_taken o start end x).above ++ s)
-pairs_stood o start end token.key s a = ((keys_fit o s, tt), (((λ t h. takes_goes (state.pairs o) s t (pair_taken o (type_of t.body) h)), tt), (tt, a)))
-pairs_stood o start end _ s a = a
-
-taken_stood : (x : State) (t : Token) (s : List State) → choice_at x (type_of t.body) ≡ Take
-    → Stood x s → AllStood s → AllStood ((taken_at x t).above ++ s)
-taken_stood state.stream t s c h a = stream_stood t.start_mark t.end_mark t.body s c a
-taken_stood state.first t s c h a = documents_stood t.start_mark t.start_mark t.end_mark t.body s a
-taken_stood state.documents t s c h a = documents_stood t.start_mark t.start_mark t.end_mark t.body s a
-taken_stood (state.directives from) t s c h a = documents_stood from t.start_mark t.end_mark t.body s a
-taken_stood (state.optional place before) t s c h a = node_stood (wants_of place) t.start_mark t.end_mark t.body s (fits_wants place s h.0) h.1 a
-taken_stood state.document_end t s c h a = a
-taken_stood (state.entries o) t s c h a = entries_stood o t.start_mark t.end_mark t.body s a
-taken_stood (state.others side) t s c h a = ((others_fit side s h.0, h.1), (h, a))
-taken_stood (state.pairs o) t s c h a = pairs_stood o t.start_mark t.end_mark t.body s a
-taken_stood (state.colon place) t s c h a = (h, a)
-taken_stood (state.with_properties w p) t s c h a = with_properties_stood w p t.start_mark t.end_mark t.body s h.0 h.1 a
-taken_stood (state.items b o) t s c h a = items_stood b o t.start_mark t.end_mark t.body s a
-taken_stood (state.more b o) t s c h a = more_stood b o t.start_mark t.end_mark t.body s a
-taken_stood state.pair_end t s c h a = absurd (was_take _ c)
-taken_stood state.lone t s c h a = absurd (was_take _ c)
+taken_stood : (x : State) (t : Token) (s : List State) → choice_at x (type_of t.body) ≡ Take → Stood
+    x s → AllStood s → AllStood ((taken_at x t).above ++ s)
+taken_stood x t s c h a = taken_stood_by x t.start_mark t.end_mark t.body s c h a
 
 abbrev pub FedStood : Fed → Type 0
 FedStood (stop is f) = Unit {0}

@@ -157,9 +157,9 @@ taken_props_by (state.directives from) start end b s past c h e k = documents_pr
 taken_props_by (state.optional place before) start end b s past c h e k = node_props _ start end b s past h (e refl)
 taken_props_by state.document_end start end b s past c h e k = plain_props s ((tok b start end) ∷ past) h
 taken_props_by (state.entries o) start end token.block_entry s past c h e k = tt
-taken_props_by (state.entries o) start end _ s past c h e k = plain_props s (t ∷ past) h
+taken_props_by (state.entries o) start end _ s past c h e k = plain_props s _ h
 taken_props_by (state.pairs o) start end token.key s past c h e k = tt
-taken_props_by (state.pairs o) start end _ s past c h e k = plain_props s (t ∷ past) h
+taken_props_by (state.pairs o) start end _ s past c h e k = plain_props s _ h
 taken_props_by (state.with_properties w p) start end b s past c h e k =
     with_properties_props w p.anchor p.tag p.from p.to start end b s past (take_rule (state.with_properties w p) (type_of b) c) h k
 taken_props_by (state.items brackets.Sequence o) start end token.key s past c h e k = tt
@@ -170,7 +170,7 @@ taken_props_by (state.items bs o) start end b s past c h e k =
     subst (λ (z : List State). PropsTop z (tok b start end ∷ past)) (sym (append_assoc (node_taken Flow start end b).above (lone_below bs (state.more bs o ∷ [])) s))
     (node_props Flow start end b (lone_below bs (state.more bs o ∷ []) ++ s) past (lone_plain bs o s h) (e refl))
 taken_props_by (state.more bs o) start end token.flow_entry s past c h e k = tt
-taken_props_by (state.more bs o) start end _ s past c h e k = plain_props s (t ∷ past) h
+taken_props_by (state.more bs o) start end _ s past c h e k = plain_props s _ h
 taken_props_by _ start end b s past c h e k = tt
 
 pub taken_props : (x : State) (t : Token) (s : List State) (past : List Token) → choice_at x

@@ -288,7 +288,7 @@ taking_by : (x : State) (start end : yaml_mark_t) (b : TokenBody) → choice_at 
     → (P : List Token → Type 0) (ts : List Token)
     → Over (taken_at x (token_at b (span start end))).above P ts
     → Left x P ((token_at b (span start end)) ∷ ts)
-taking_by state.stream start end (token.stream_start e) c P ts h = ahead (together h h.goes) _ (λ x. record { encoding = e; start = span start end; first = x.0; documents = x.1 }) (λ x r. refl)
+taking_by state.stream start end (token.stream_start e) c P ts h = ahead {B = Stream} (together h h.goes) _ (λ x. record { encoding = e; start = span start end; first = x.0; documents = x.1 }) (λ x r. refl)
 taking_by state.first start end b c P ts h = record {
   tree = tree.no_first;
   rest = token_at b (span start end) ∷ ts;

@@ -230,7 +230,7 @@ mutual
 documents_said : (d : tree.Documents) (rest : List Token)
     → Says (placed_events (placed_documents d rest) (end_of d)) (documents_say (documents_of d))
 unfolding documents_say
-documents_said (tree.end_stream s) rest = on _ _ _ _ refl (record { same = refl })
+documents_said (tree.end_stream s) rest = record { same = refl }
 documents_said (tree.document ds s root ends more) rest = on _ _ _ _ refl (maybe_said (tags_in ds) root _ _ _ (on _ _ _ _ refl (documents_said more rest)))
 
 first_said : (x : tree.First) (d : tree.Documents) (rest : List Token)

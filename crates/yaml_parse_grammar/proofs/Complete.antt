@@ -3,33 +3,22 @@ use Rattle.std.proofs.Common.{◌≡◌, ℕ, Bool, true, false, if◌then◌els
 use Rattle.std.proofs.lemmas.List.{append_assoc}
 use Rattle.std.proofs.Math.Bool.{or-true}
 use Rattle.std.proofs.lemmas.Bool.{cases_Bool, false≢true}
-use Rattle.yaml_parse_model.specs.declared.yaml_mark_t.{yaml_mark_t}
-use Rattle.yaml_parse_model.specs.declared.yaml_token_type_t.{yaml_token_type_t}
+use Rattle.yaml_parse_grammar.proofs.Words.{yaml_mark_t, yaml_token_type_t, Token, TokenBody, type_of, Fault, Wants, Flow, Block, Site, Root, Entry, IndentlessEntry, BlockPair, FlowPair, Choice, Refuse, Take, Leave, RawEvent, Properties, node_at, State, Taken, Span, Given, token_at, spell_node, spell_maybe, next, items_node, items_maybe, items, behind, starts_content, starts_node, joins, wants_of, closes, parts_documents, follows, no_node, choice_at, node_taken, content_taken, taken_at, left_at, Fed, stop, go, with_item, given_by, turn, feed, Outcome, finished, carry, run}
 use Rattle.yaml_parse_model.specs.declared.yaml_token_type_t.TheVariants as kind
-use Rattle.yaml_parse_model.specs.Tokens.{Token, TokenBody, type_of}
 use Rattle.yaml_parse_model.specs.Tokens as token
-use Rattle.yaml_parse_model.specs.Faults.{Fault}
 use Rattle.yaml_parse_model.specs.declared.yaml_sequence_style_t.TheVariants.{YAML_BLOCK_SEQUENCE_STYLE}
 use Rattle.yaml_parse_model.specs.declared.yaml_mapping_style_t.TheVariants.{YAML_BLOCK_MAPPING_STYLE}
-use Rattle.yaml_parse_grammar.specs.declared.name.Wants.{Wants}
-use Rattle.yaml_parse_grammar.specs.declared.name.Wants.TheVariants.{Flow, Block}
 use Rattle.yaml_parse_grammar.specs.declared.name.Side.{Side}
 use Rattle.yaml_parse_grammar.specs.declared.name.Side.TheVariants.{Key, Value}
 use Rattle.yaml_parse_grammar.specs.declared.name.Brackets.{Brackets}
 use Rattle.yaml_parse_grammar.specs.declared.name.Brackets.TheVariants as brackets
-use Rattle.yaml_parse_grammar.specs.declared.name.Site.{Site}
-use Rattle.yaml_parse_grammar.specs.declared.name.Site.TheVariants.{Root, Entry, IndentlessEntry, BlockPair, FlowPair}
-use Rattle.yaml_parse_grammar.specs.declared.name.Choice.{Choice}
-use Rattle.yaml_parse_grammar.specs.declared.name.Choice.TheVariants.{Refuse, Take, Leave}
 use Rattle.yaml_parse_grammar.specs.declared.problem.ParseProblem.TheVariants as problem
-use Rattle.yaml_parse_grammar.specs.Items.{RawEvent, Properties, node_at}
 use Rattle.yaml_parse_grammar.specs.Items as item
-use Rattle.yaml_parse_grammar.specs.States.{State, Taken}
 use Rattle.yaml_parse_grammar.specs.States as state
-use Rattle.yaml_parse_grammar.specs.Trees.{Span, Node, Content, Maybe, Colon, Items, More, Entries, Others, Pairs, PropertyTokens, Given, token_at, spell_properties, properties_of, closing, spell_node, spell_content, spell_maybe, spell_colon, spell_items, spell_more, spell_entries, spell_others, spell_pairs, next, flow_shape}
-use Rattle.yaml_parse_grammar.specs.TreeSteps.{items_node, items_content, items_maybe, items_colon, items_items, items_more, items_entries, items_others, items_pairs, items, behind, lone, pair_start, pair_end}
+use Rattle.yaml_parse_grammar.specs.Trees.{Node, Content, Maybe, Colon, Items, More, Entries, Others, Pairs, PropertyTokens, spell_properties, properties_of, closing, spell_content, spell_colon, spell_items, spell_more, spell_entries, spell_others, spell_pairs, flow_shape}
+use Rattle.yaml_parse_grammar.specs.TreeSteps.{items_content, items_colon, items_items, items_more, items_entries, items_others, items_pairs, lone, pair_start, pair_end}
 use Rattle.yaml_parse_grammar.specs.Trees as tree
-use Rattle.yaml_parse_grammar.specs.Machine.{starts_content, starts_node, joins, wants_of, closes, parts_documents, follows, no_node, choice_at, node_taken, content_taken, items_taken, above, lone_below, taken_at, left_at, Fed, stop, go, with_item, given_by, turn, feed, Outcome, finished, carry, run}
+use Rattle.yaml_parse_grammar.specs.Machine.{items_taken, above, lone_below}
 
 -- what a list of items does in front of an outcome
 abbrev pub giving : (List Given → List Given) → Outcome → Outcome

@@ -1,19 +1,10 @@
 -- What a state does at a token, by cases on what it does: the one place where each state meets each token.
 use Rattle.std.proofs.Common.{◌≡◌, Bool, true, false, if◌then◌else◌, ◌||◌, Option, Some, None, refl, subst, sym}
-use Rattle.yaml_parse_model.specs.declared.yaml_mark_t.{yaml_mark_t}
-use Rattle.yaml_parse_model.specs.declared.yaml_token_type_t.{yaml_token_type_t}
+use Rattle.yaml_parse_grammar.proofs.Words.{yaml_mark_t, yaml_token_type_t, Wants, Flow, Block, Site, Choice, Refuse, Take, Leave, Open, ParseProblem, Properties, State, starts_content, starts_node, wants_of, closes, parts_documents, follows, no_node, joins, choice_at}
 use Rattle.yaml_parse_model.specs.declared.yaml_token_type_t.TheVariants as kind
-use Rattle.yaml_parse_grammar.specs.declared.name.Wants.{Wants}
-use Rattle.yaml_parse_grammar.specs.declared.name.Wants.TheVariants.{Flow, Block}
-use Rattle.yaml_parse_grammar.specs.declared.name.Site.{Site}
-use Rattle.yaml_parse_grammar.specs.declared.name.Choice.{Choice}
-use Rattle.yaml_parse_grammar.specs.declared.name.Choice.TheVariants.{Refuse, Take, Leave, Open}
-use Rattle.yaml_parse_grammar.specs.declared.problem.ParseProblem.{ParseProblem}
 use Rattle.yaml_parse_grammar.specs.declared.problem.ParseProblem.TheVariants as problem
-use Rattle.yaml_parse_grammar.specs.Items.{Properties}
-use Rattle.yaml_parse_grammar.specs.States.{State}
 use Rattle.yaml_parse_grammar.specs.States as state
-use Rattle.yaml_parse_grammar.specs.Machine.{starts_content, starts_node, wants_of, closes, parts_documents, follows, no_node, no_end, joins, choice_at}
+use Rattle.yaml_parse_grammar.specs.Machine.{no_end}
 
 -- ---- what each choice tells
 

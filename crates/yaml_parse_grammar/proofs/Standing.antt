@@ -2,25 +2,15 @@
 use Rattle.std.proofs.Common.{◌≡◌, ℕ, ℤ, Bool, true, false, if◌then◌else◌, List, [], ◌∷◌, ◌++◌, Option, Some, None, refl, sym, ap, subst}
 use Rattle.std.specs.Str.{bytes_eq}
 use Rattle.std.specs.Prelude.{codes}
-use Rattle.yaml_parse_model.specs.declared.yaml_mark_t.{yaml_mark_t}
-use Rattle.yaml_parse_model.specs.declared.yaml_scalar_style_t.{yaml_scalar_style_t}
-use Rattle.yaml_parse_model.specs.declared.yaml_version_directive_t.{yaml_version_directive_t}
-use Rattle.yaml_parse_model.specs.declared.yaml_token_type_t.{yaml_token_type_t}
-use Rattle.yaml_parse_model.specs.Tokens.{Token, TokenBody, type_of}
+use Rattle.yaml_parse_grammar.proofs.Words.{yaml_mark_t, yaml_scalar_style_t, yaml_version_directive_t, yaml_token_type_t, Token, TokenBody, type_of, TagDirective, Take, Leave, Open, RawEvent, RawEventBody, Shape, State, choice_at, taken_at, documents_taken, stream_taken, left_at, opened, Directives, Settled, refused, gave, noted, settle_body, resolved, directive_for, with_resolved, with_tag, with_version, is_known_version, node_event, IsInner}
 use Rattle.yaml_parse_model.specs.Tokens as token
-use Rattle.yaml_parse_model.specs.Events.{TagDirective}
 use Rattle.yaml_parse_model.specs.Events as event
-use Rattle.yaml_parse_grammar.specs.declared.name.Choice.TheVariants.{Take, Leave, Open}
-use Rattle.yaml_parse_grammar.specs.Items.{RawEvent, RawEventBody, Shape}
 use Rattle.yaml_parse_grammar.specs.Items as item
-use Rattle.yaml_parse_grammar.specs.States.{State}
 use Rattle.yaml_parse_grammar.specs.States as state
-use Rattle.yaml_parse_grammar.specs.Machine.{choice_at, taken_at, documents_taken, stream_taken, left_at, opened}
-use Rattle.yaml_parse_grammar.specs.Resolve.{Directives, Settled, refused, gave, noted, settle_body, resolved, directive_for, with_resolved, with_tag, with_version, is_known_version, node_event}
 use Rattle.yaml_parse_grammar.specs.Remaining.{is_between}
 use Rattle.yaml_parse_grammar.proofs.Rules.{MayLeave, leave_rule, opens_first}
 use Rattle.yaml_parse_grammar.proofs.Throughout.{AllAre, AreTaken, IsBare, Inner, inner_are}
-use Rattle.yaml_parse_grammar.specs.Stacks.{parts_documents_behind, StandsBehind, IsInner, InsideAt, IsInside, StackAt, IsStack}
+use Rattle.yaml_parse_grammar.specs.Stacks.{parts_documents_behind, StandsBehind, InsideAt, IsInside, StackAt, IsStack}
 
 -- ---- inside a document
 

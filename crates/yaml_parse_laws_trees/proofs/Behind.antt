@@ -1,20 +1,13 @@
 -- What a stack gives at a token that it refuses: nothing where a node or a document must come, and else what it gives at an end.
 use Rattle.std.proofs.Common.{◌≡◌, ◌⊎◌, inl, inr, Bool, true, false, List, [], ◌∷◌, ◌++◌, Option, Some, None, refl, ap, sym, subst, ◌∙◌}
-use Rattle.yaml_parse_laws_trees.specs.parse_grammar.parse_model.declared.yaml_mark_t.{yaml_mark_t}
-use Rattle.yaml_parse_laws_trees.specs.parse_grammar.parse_model.declared.yaml_token_type_t.{yaml_token_type_t}
-use Rattle.yaml_parse_laws_trees.specs.parse_grammar.parse_model.Tokens.{Token, TokenBody, type_of}
+use Rattle.yaml_parse_laws_trees.proofs.Words.{yaml_mark_t, yaml_token_type_t, Token, TokenBody, type_of, Brackets, Choice, Refuse, Take, Leave, Open, RawEvent, State, choice_at, documents_taken, taken_at, left_at, Fed, stop, go, with_item, given_by, turn, feed, is_end, last_leaves_open}
 use Rattle.yaml_parse_laws_trees.specs.parse_grammar.parse_model.Tokens as token
-use Rattle.yaml_parse_laws_trees.specs.parse_grammar.declared.name.Brackets.{Brackets}
-use Rattle.yaml_parse_laws_trees.specs.parse_grammar.declared.name.Choice.{Choice}
-use Rattle.yaml_parse_laws_trees.specs.parse_grammar.declared.name.Choice.TheVariants.{Refuse, Take, Leave, Open}
-use Rattle.yaml_parse_laws_trees.specs.parse_grammar.Items.{RawEvent}
-use Rattle.yaml_parse_laws_trees.specs.parse_grammar.States.{State}
 use Rattle.yaml_parse_laws_trees.specs.parse_grammar.States as state
-use Rattle.yaml_parse_laws_trees.specs.parse_grammar.Machine.{choice_at, documents_taken, entries_taken, pairs_taken, more_taken, taken_at, left_at, Fed, stop, go, with_item, given_by, turn, feed}
+use Rattle.yaml_parse_laws_trees.specs.parse_grammar.Machine.{entries_taken, pairs_taken, more_taken}
 use Rattle.yaml_parse_laws_trees.proofs.SoundStanding.{Goes, Closed, Stood}
 use Rattle.yaml_parse_laws_trees.proofs.Closing.{IsLight, light_leaves}
 use Rattle.yaml_parse_laws_trees.proofs.FaultsStanding.{Last, nothing, asking, property, directive, other, last_of, told, Plain}
-use Rattle.yaml_parse_laws_trees.specs.Given.{is_end, leaves_open, last_leaves_open}
+use Rattle.yaml_parse_laws_trees.specs.Given.{leaves_open}
 use Rattle.yaml_parse_laws_trees.proofs.Walking.{last_behind}
 use Rattle.yaml_parse_grammar.proofs.Rules.{MayLeave, leave_rule, refuse_rule, opens_first, was_take}
 use Rattle.std.proofs.lemmas.Bool.{false≢true, true≢false}

@@ -1,7 +1,6 @@
 -- Where a list of tokens is cut.
 use Rattle.std.proofs.Common.{◌≡◌, ◌+◌, List, [], ◌∷◌, ◌++◌, length, refl, ap, sym, ◌∙◌, arith, zero-add}
-use Rattle.yaml_parse_laws_trees.specs.parse_grammar.parse_model.Tokens.{Token}
-use Rattle.yaml_parse_laws_trees.specs.LookBack.{followed_by}
+use Rattle.yaml_parse_laws_trees.proofs.Words.{Token, followed_by}
 use Rattle.yaml_parse_laws_trees.proofs.CountsFirst.{rest_same}
 
 pub followed_on : (past ts us : List Token)

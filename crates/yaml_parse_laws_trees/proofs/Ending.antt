@@ -1,23 +1,13 @@
 -- The machine ends in the fault of the list.
 use Rattle.std.proofs.Common.{◌≡◌, ◌-◌, ◌+◌, inl, inr, ℕ, suc, List, [], ◌∷◌, ◌++◌, length, Option, Some, None, refl, ap, sym, subst, ◌∙◌, arith}
-use Rattle.yaml_parse_laws_trees.specs.parse_grammar.parse_model.Tokens.{Token, no_token, zero_mark}
-use Rattle.yaml_parse_laws_trees.specs.parse_grammar.parse_model.Faults.{Fault}
-use Rattle.yaml_parse_laws_trees.specs.parse_grammar.Items.{RawEvent}
-use Rattle.yaml_parse_laws_trees.specs.parse_grammar.States.{State}
+use Rattle.yaml_parse_laws_trees.proofs.Words.{Token, no_token, zero_mark, Fault, RawEvent, State, IsStack, Stream, spell, Fed, stop, go, feed, Outcome, finished, carry, run, initial, left_where_stopped, unasked_at_stop, Directives, no_directives, reading, unasked_at_fault, reading_of, TreeGoesOn, followed_by, opened, grammar_fault, directive_fault, handle_fault, of_handle, of_token, WrongToken, grammar, directive, StandsIn, BeginsWithSentence, with_end, FaultOfTokens}
 use Rattle.yaml_parse_laws_trees.specs.parse_grammar.States as state
-use Rattle.yaml_parse_laws_trees.specs.parse_grammar.Stacks.{IsStack}
-use Rattle.yaml_parse_laws_trees.specs.parse_grammar.Trees.{Stream, spell}
-use Rattle.yaml_parse_laws_trees.specs.parse_grammar.Machine.{Fed, stop, go, feed, Outcome, finished, carry, run, initial, left_where_stopped, unasked_at_stop}
-use Rattle.yaml_parse_laws_trees.specs.parse_grammar.Resolve.{Directives, no_directives, reading, unasked_at_fault}
-use Rattle.yaml_parse_laws_trees.specs.parse_grammar.Remaining.{reading_of, unasked_of}
+use Rattle.yaml_parse_laws_trees.specs.parse_grammar.Remaining.{unasked_of}
 use Rattle.yaml_parse_laws_trees.proofs.CompleteStream.{stream_runs, nothing_runs}
-use Rattle.yaml_parse_laws_trees.specs.SoundLaws.{TreeGoesOn}
 use Rattle.yaml_parse_laws_trees.proofs.Left.{Over}
 use Rattle.yaml_parse_laws_trees.proofs.SoundStanding.{AllStood, FedStood, feed_stood}
 use Rattle.yaml_parse_laws_trees.proofs.Closing.{closers, Empty, all_close}
-use Rattle.yaml_parse_laws_trees.specs.LookBack.{followed_by, opened}
-use Rattle.yaml_parse_laws_trees.specs.Wrong.{grammar_fault, directive_fault, handle_fault}
-use Rattle.yaml_parse_laws_trees.specs.Places.{of_handle, of_token, WrongToken, grammar, directive, StandsIn, BeginsWithSentence, with_end, FaultOfTokens, IsToldWith}
+use Rattle.yaml_parse_laws_trees.specs.Places.{IsToldWith}
 use Rattle.yaml_parse_laws_trees.specs.FaultsLaws.{EndsInFault, FaultEnds, FaultIsToldAtPlace}
 use Rattle.yaml_parse_laws_trees.proofs.FaultsUnique.{one_fault}
 use Rattle.yaml_parse_laws_trees.proofs.Cuts.{followed_on, followed_length}

@@ -1,20 +1,11 @@
 -- Taking a token inside a document: what is open, which token was last, and how the states stand.
 use Rattle.std.proofs.Common.{◌≡◌, true, false, ◌||◌, List, [], ◌∷◌, ◌++◌, Option, Some, None, refl, sym, subst}
 use Rattle.std.proofs.lemmas.List.{append_assoc}
-use Rattle.yaml_parse_laws_trees.specs.parse_grammar.parse_model.declared.yaml_mark_t.{yaml_mark_t}
-use Rattle.yaml_parse_laws_trees.specs.parse_grammar.parse_model.Tokens.{Token, TokenBody, type_of}
+use Rattle.yaml_parse_laws_trees.proofs.Words.{yaml_mark_t, Token, TokenBody, type_of, Wants, Flow, Block, Brackets, Take, Properties, State, IsInner, IsInside, starts_content, starts_node, wants_of, choice_at, content_taken, node_taken, lone_below, taken_at, is_directive}
 use Rattle.yaml_parse_laws_trees.specs.parse_grammar.parse_model.Tokens as token
-use Rattle.yaml_parse_laws_trees.specs.parse_grammar.declared.name.Wants.{Wants}
-use Rattle.yaml_parse_laws_trees.specs.parse_grammar.declared.name.Wants.TheVariants.{Flow, Block}
-use Rattle.yaml_parse_laws_trees.specs.parse_grammar.declared.name.Brackets.{Brackets}
 use Rattle.yaml_parse_laws_trees.specs.parse_grammar.declared.name.Brackets.TheVariants as brackets
-use Rattle.yaml_parse_laws_trees.specs.parse_grammar.declared.name.Choice.TheVariants.{Take}
-use Rattle.yaml_parse_laws_trees.specs.parse_grammar.Items.{Properties}
-use Rattle.yaml_parse_laws_trees.specs.parse_grammar.States.{State}
 use Rattle.yaml_parse_laws_trees.specs.parse_grammar.States as state
-use Rattle.yaml_parse_laws_trees.specs.parse_grammar.Stacks.{IsInner, IsInside}
-use Rattle.yaml_parse_laws_trees.specs.parse_grammar.Machine.{starts_content, starts_node, wants_of, choice_at, content_taken, node_taken, lone_below, taken_at}
-use Rattle.yaml_parse_laws_trees.specs.LookBack.{is_directive, starts_document}
+use Rattle.yaml_parse_laws_trees.specs.LookBack.{starts_document}
 use Rattle.yaml_parse_laws_trees.proofs.FaultsStanding.{Sign, signs_behind, open_in, bracketed, last_of, Plain, Topped, plain_topped, is_flow, Nested}
 use Rattle.yaml_parse_grammar.proofs.Rules.{take_rule, was_take}
 use Rattle.std.proofs.lemmas.Bool.{false≢true}

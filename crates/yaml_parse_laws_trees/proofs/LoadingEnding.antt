@@ -1,18 +1,8 @@
 -- Loads end in the fault of the list.
 use Rattle.std.proofs.Common.{◌≡◌, inl, inr, ℕ, List, [], ◌∷◌, ◌++◌, length, Option, Some, None, refl, ap, sym, subst, ◌∙◌}
-use Rattle.yaml_parse_laws_trees.specs.parse_grammar.parse_model.Tokens.{Token, no_token}
-use Rattle.yaml_parse_laws_trees.specs.parse_grammar.parse_model.Faults.{Fault}
-use Rattle.yaml_parse_laws_trees.specs.parse_grammar.Items.{RawEvent}
-use Rattle.yaml_parse_laws_trees.specs.parse_grammar.States.{State}
+use Rattle.yaml_parse_laws_trees.proofs.Words.{Token, no_token, Fault, RawEvent, State, Stream, spell, Fed, stop, go, feed, Outcome, finished, carry, run, initial, Directives, no_directives, Reading, reading, reading_of, followed_by, handle_fault, directive, StandsIn, with_end, FaultOfTokens, Loading, nothing_loaded, alias_fault, IsFirstIn, IsLoadable, FaultOfLoading}
 use Rattle.yaml_parse_laws_trees.specs.parse_grammar.States as state
-use Rattle.yaml_parse_laws_trees.specs.parse_grammar.Trees.{Stream, spell}
-use Rattle.yaml_parse_laws_trees.specs.parse_grammar.Machine.{Fed, stop, go, feed, Outcome, finished, carry, run, initial}
-use Rattle.yaml_parse_laws_trees.specs.parse_grammar.Resolve.{Directives, no_directives, Reading, reading}
-use Rattle.yaml_parse_laws_trees.specs.parse_grammar.Remaining.{reading_of}
 use Rattle.yaml_parse_laws_trees.proofs.CompleteStream.{nothing_runs}
-use Rattle.yaml_parse_laws_trees.specs.LookBack.{followed_by}
-use Rattle.yaml_parse_laws_trees.specs.Wrong.{handle_fault}
-use Rattle.yaml_parse_laws_trees.specs.Places.{directive, StandsIn, with_end, FaultOfTokens}
 use Rattle.yaml_parse_laws_trees.proofs.Cuts.{Reaches, reaches, followed_on, head_same}
 use Rattle.yaml_parse_laws_trees.proofs.Settling.{Done, bad, fine, read_all}
 use Rattle.yaml_parse_laws_trees.proofs.Stepping.{StepRead}
@@ -20,9 +10,6 @@ use Rattle.yaml_parse_laws_trees.proofs.Tagging.{Step}
 use Rattle.yaml_parse_laws_trees.proofs.Taking.{stack_solid, Stops, stops_at_none, ending_of}
 use Rattle.yaml_parse_laws_trees.proofs.Clean.{Clean, Unfinished, FirstAt, no_fault, free, no_whole_sentence}
 use Rattle.yaml_parse_laws_trees.proofs.Ending.{At, at_start, step_at, Found, found_handle, found_token, found_first, stopped, taken_goes, taken_on, taken_at, sentence_tree, runs_fed, runs_out, ends_in_fault, no_stop}
-use Rattle.yaml_parse_loader.specs.Loading.{Loading, nothing_loaded}
-use Rattle.yaml_parse_laws_trees.specs.Aliases.{alias_fault}
-use Rattle.yaml_parse_laws_trees.specs.Faults.{IsFirstIn, IsLoadable, FaultOfLoading}
 use Rattle.yaml_parse_laws_trees.proofs.Ends.{fault_of_loads, faults_alike}
 use Rattle.yaml_parse_laws_trees.specs.Laws.{LoadsEndInFault, FaultEndsLoads, loads_end}
 use Rattle.yaml_parse_laws_trees.proofs.Placing.{Anchored, loadable, parser_first, alias_first}

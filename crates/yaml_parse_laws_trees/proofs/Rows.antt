@@ -3,16 +3,10 @@ use Rattle.std.proofs.Common.{◌≡◌, ℤ, pos, List, [], ◌∷◌, Option, 
 use Rattle.std.specs.FinMap as map
 use Rattle.std.specs.Ordering.{nat_cmp}
 use Rattle.std.specs.Cmp.Lexicographic.{slice_cmp, nat_list_cmp_total}
-use Rattle.yaml_parse_laws_trees.specs.parse_grammar.parse_model.declared.yaml_mark_t.{yaml_mark_t}
-use Rattle.yaml_parse_laws_trees.specs.parse_grammar.parse_model.Faults.{Fault}
-use Rattle.yaml_parse_laws_trees.specs.parse_grammar.Problems.{problem_text_of, context_text_of, context_place}
-use Rattle.yaml_parse_laws_trees.specs.parse_grammar.Machine.{feed, run, initial}
-use Rattle.yaml_parse_laws_trees.specs.parse_grammar.Resolve.{no_directives, reading, directive_for}
-use Rattle.yaml_parse_laws_trees.specs.parse_grammar.Remaining.{reading_of}
-use Rattle.yaml_parse_laws_trees.specs.FaultsRows.{FaultRow, column}
+use Rattle.yaml_parse_laws_trees.proofs.Words.{yaml_mark_t, Fault, problem_text_of, context_text_of, context_place, feed, run, initial, no_directives, reading, directive_for, reading_of, FaultRow, Loading, nothing_loaded, aliased, FaultOfLoading}
+use Rattle.yaml_parse_laws_trees.specs.FaultsRows.{column}
 use Rattle.yaml_parse_loader.specs.Numbering.{undefined_alias}
-use Rattle.yaml_parse_loader.specs.Loading.{Loading, nothing_loaded, attach, aliased}
-use Rattle.yaml_parse_laws_trees.specs.Faults.{FaultOfLoading}
+use Rattle.yaml_parse_loader.specs.Loading.{attach}
 use Rattle.yaml_parse_laws_trees.specs.Rows.{alias_rows, parser_rows, right_rows, AllHold, RowsHold}
 use Rattle.yaml_parse_laws_trees.proofs.Ends.{fault_on, fault_of_loads}
 use Rattle.yaml_parse_laws_trees.proofs.Faring.{ends_in}

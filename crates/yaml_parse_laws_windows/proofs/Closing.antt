@@ -1,21 +1,13 @@
 -- A stack has a state for each bracket that is open.
 use Rattle.std.proofs.Common.{◌≡◌, ℕ, ◌+◌, ◌-◌, Bool, true, false, ◌||◌, if◌then◌else◌, List, [], ◌∷◌, ◌++◌, Some, None, refl, sym, ap, subst, ◌∙◌, arith}
 use Rattle.std.proofs.lemmas.Bool.{true≢false}
-use Rattle.yaml_parse_grammar.specs.parse_model.declared.yaml_mark_t.{yaml_mark_t}
-use Rattle.yaml_parse_grammar.specs.parse_model.Tokens.{Token, TokenBody, type_of}
+use Rattle.yaml_parse_laws_windows.proofs.Words.{yaml_mark_t, Token, TokenBody, type_of, Flow, Block, Refuse, Take, Leave, Open, Choice, ParseProblem, Root, RawEvent, Directives, no_directives, State, starts_node, choice_at, taken_at, left_at, Fed, stop, go, with_item, turn, feed}
 use Rattle.yaml_parse_grammar.specs.parse_model.Tokens as token
 use Rattle.yaml_parse_grammar.specs.declared.Brackets.TheVariants as brackets
 use Rattle.yaml_parse_grammar.specs.declared.Wants.{Wants}
-use Rattle.yaml_parse_grammar.specs.declared.Wants.TheVariants.{Flow, Block}
-use Rattle.yaml_parse_grammar.specs.declared.Choice.TheVariants.{Refuse, Take, Leave, Open}
-use Rattle.yaml_parse_grammar.specs.declared.Choice.{Choice}
-use Rattle.yaml_parse_grammar.specs.declared.ParseProblem.{ParseProblem}
-use Rattle.yaml_parse_grammar.specs.declared.Site.TheVariants.{Root}
-use Rattle.yaml_parse_grammar.specs.Items.{RawEvent, Properties}
-use Rattle.yaml_parse_grammar.specs.Resolve.{Directives, no_directives}
-use Rattle.yaml_parse_grammar.specs.States.{State}
+use Rattle.yaml_parse_grammar.specs.Items.{Properties}
 use Rattle.yaml_parse_grammar.specs.States as state
-use Rattle.yaml_parse_grammar.specs.Machine.{starts_content, starts_node, follows, joins, wants_of, no_node, choice_at, node_taken, with_properties_taken, taken_at, left_at, Fed, stop, go, with_item, turn, feed}
+use Rattle.yaml_parse_grammar.specs.Machine.{starts_content, follows, joins, wants_of, no_node, node_taken, with_properties_taken}
 use Rattle.yaml_parse_laws_windows.specs.Depths.{depth_after}
 use Rattle.yaml_parse_laws_windows.proofs.Grounding.{is_ground, Stands}
 use Rattle.yaml_parse_laws_windows.proofs.Noting.{within_stands}

@@ -2,22 +2,17 @@
 use Rattle.std.proofs.Common.{◌≡◌, ℕ, false, List, [], ◌∷◌, ◌++◌, map, length, Option, Some, None, refl, sym, ap, subst, ◌∙◌, inl, inr}
 use Rattle.std.proofs.lemmas.List.{append-nil, append_assoc, map-append, same_from_push}
 use Rattle.std.proofs.lemmas.Option.{same_Some}
-use Rattle.yaml_parse_grammar.specs.parse_model.declared.yaml_mark_t.{yaml_mark_t}
-use Rattle.yaml_parse_grammar.specs.parse_model.declared.yaml_encoding_t.{yaml_encoding_t}
-use Rattle.yaml_parse_grammar.specs.parse_model.Tokens.{Token, TokenBody}
+use Rattle.yaml_parse_laws_windows.proofs.Words.{yaml_mark_t, yaml_encoding_t, Token, TokenBody, Event, Fault, RawEvent, item_at, event_at, Directives, no_directives, Settled, refused, gave, noted, settle, placed, State, Fed, stop, go, feed, carry, run, initial, parse_of, events_in, GoOn}
 use Rattle.yaml_parse_grammar.specs.parse_model.Tokens as token
-use Rattle.yaml_parse_grammar.specs.parse_model.Events.{Event, EventBody}
+use Rattle.yaml_parse_grammar.specs.parse_model.Events.{EventBody}
 use Rattle.yaml_parse_grammar.specs.parse_model.Events as event
-use Rattle.yaml_parse_grammar.specs.parse_model.Faults.{Fault}
-use Rattle.yaml_parse_grammar.specs.Items.{RawEvent, item_at}
 use Rattle.yaml_parse_grammar.specs.Items as item
-use Rattle.yaml_parse_grammar.specs.Trees.{Given, event_at}
-use Rattle.yaml_parse_grammar.specs.Resolve.{Directives, no_directives, Settled, refused, gave, noted, settle, placed, Reading, read_on, reading}
-use Rattle.yaml_parse_grammar.specs.States.{State}
+use Rattle.yaml_parse_grammar.specs.Trees.{Given}
+use Rattle.yaml_parse_grammar.specs.Resolve.{Reading, read_on, reading}
 use Rattle.yaml_parse_grammar.specs.States as state
-use Rattle.yaml_parse_grammar.specs.Machine.{Fed, stop, go, feed, Outcome, carry, run, initial}
+use Rattle.yaml_parse_grammar.specs.Machine.{Outcome}
 use Rattle.yaml_parse_laws_windows.specs.Depths.{depth_behind}
-use Rattle.yaml_parse_laws_windows.specs.Laws.{parse_of, events_in, GoOn, WindowsAreParsed, BracketsAreClosed}
+use Rattle.yaml_parse_laws_windows.specs.Laws.{WindowsAreParsed, BracketsAreClosed}
 use Rattle.yaml_parse_laws_windows.proofs.Grounding.{Stands}
 use Rattle.yaml_parse_laws_windows.proofs.Noting.{with_event, then_through, through, none_some, Fine, stands_feed}
 use Rattle.yaml_parse_laws_windows.proofs.Closing.{opened, IsLevel, feed_level}

@@ -1,21 +1,12 @@
 -- Which directives are noted where a stack stands.
 use Rattle.std.proofs.Common.{◌≡◌, ◌≢◌, Bool, true, false, if◌then◌else◌, List, [], ◌∷◌, ◌++◌, Option, Some, None, refl, sym, ap, subst, ◌∙◌}
 use Rattle.std.proofs.lemmas.Option.{same_Some}
-use Rattle.yaml_parse_grammar.specs.parse_model.declared.yaml_mark_t.{yaml_mark_t}
-use Rattle.yaml_parse_grammar.specs.parse_model.Tokens.{Token, TokenBody, type_of}
+use Rattle.yaml_parse_laws_windows.proofs.Words.{yaml_mark_t, Token, TokenBody, type_of, Event, Refuse, Take, Leave, Open, Choice, Root, Block, RawEvent, item_at, Directives, no_directives, Settled, refused, gave, noted, settle, placed, State, starts_node, choice_at, taken_at, left_at, Fed, stop, go, with_item, turn, feed}
 use Rattle.yaml_parse_grammar.specs.parse_model.Tokens as token
-use Rattle.yaml_parse_grammar.specs.parse_model.Events.{Event}
-use Rattle.yaml_parse_grammar.specs.declared.Choice.TheVariants.{Refuse, Take, Leave, Open}
-use Rattle.yaml_parse_grammar.specs.declared.Choice.{Choice}
-use Rattle.yaml_parse_grammar.specs.declared.Site.TheVariants.{Root}
-use Rattle.yaml_parse_grammar.specs.declared.Wants.TheVariants.{Block}
 use Rattle.yaml_parse_grammar.specs.declared.ParseProblem.TheVariants as problem
-use Rattle.yaml_parse_grammar.specs.Items.{RawEvent, item_at}
 use Rattle.yaml_parse_grammar.specs.Items as item
-use Rattle.yaml_parse_grammar.specs.Resolve.{Directives, no_directives, Settled, refused, gave, noted, settle, placed}
-use Rattle.yaml_parse_grammar.specs.States.{State}
 use Rattle.yaml_parse_grammar.specs.States as state
-use Rattle.yaml_parse_grammar.specs.Machine.{starts_node, parts_documents, choice_at, documents_taken, taken_at, left_at, Fed, stop, go, with_item, given_by, turn, feed}
+use Rattle.yaml_parse_grammar.specs.Machine.{parts_documents, documents_taken, given_by}
 use Rattle.yaml_parse_laws_windows.proofs.Grounding.{Within, Stands, inner, inner_on, taken_inner, not_open}
 use Rattle.yaml_parse_grammar.proofs.Rules.{leave_rule, open_rule}
 

@@ -5,22 +5,12 @@ use Rattle.std.specs.Ordering.{nat_cmp}
 use Rattle.std.specs.Cmp.Lexicographic.{slice_cmp}
 use Rattle.std.specs.FinMap as map
 use Rattle.std.specs.FinMap.{FinMap}
-use Rattle.yaml_round_content.specs.scan_model.declared.yaml_mark_t.{yaml_mark_t}
-use Rattle.yaml_round_content.specs.scan_model.declared.yaml_version_directive_t.{yaml_version_directive_t}
-use Rattle.yaml_round_content.specs.scan_model.declared.yaml_scalar_style_t.TheVariants.{YAML_ANY_SCALAR_STYLE}
-use Rattle.yaml_round_content.specs.scan_model.declared.yaml_sequence_style_t.TheVariants.{YAML_ANY_SEQUENCE_STYLE}
-use Rattle.yaml_round_content.specs.scan_model.declared.yaml_mapping_style_t.TheVariants.{YAML_ANY_MAPPING_STYLE}
-use Rattle.yaml_round_content.specs.scan_model.Faults.{Fault}
-use Rattle.yaml_round_content.specs.parse_model.Events.{EventBody, TagDirective}
+use Rattle.yaml_round_content.proofs.Words.{yaml_mark_t, yaml_version_directive_t, YAML_ANY_SCALAR_STYLE, YAML_ANY_SEQUENCE_STYLE, YAML_ANY_MAPPING_STYLE, Fault, EventBody, TagDirective, str_tag, Told, loaded_tag, Open, open_sequence, open_mapping, Loading, nothing_loaded, attach, named, LoadStep, goes_on, loaded, step, Loads, in_front, load_on, load_all, CoreNode, Core, core_body, core_node, core_of}
 use Rattle.yaml_round_content.specs.parse_model.Events as event
 use Rattle.yaml_round_content.specs.parse_model.Nodes.{Node, NodeBody}
 use Rattle.yaml_round_content.specs.parse_model.Nodes as node
-use Rattle.yaml_round_content.specs.parse_laws_trees.parse_document.Documents.{Document, change_place, str_tag, seq_tag, map_tag}
-use Rattle.yaml_round_content.specs.parse_grammar.Resolve.{Told}
-use Rattle.yaml_parse_loader.specs.Numbering.{loaded_tag}
-use Rattle.yaml_parse_loader.specs.Loading.{Open, open_sequence, open_mapping, Loading, nothing_loaded, attach, named, filled, filled_body, place_of, closed, aliased, enter_leaf, enter_open, LoadStep, goes_on, loaded, refused, step, step_body}
-use Rattle.yaml_round_content.specs.Loads.{Loads, in_front, load_on, load_all}
-use Rattle.yaml_round_content.specs.Agree.{CoreNode, Core, core_body, core_node, core_of}
+use Rattle.yaml_round_content.specs.parse_laws_trees.parse_document.Documents.{Document, change_place, seq_tag, map_tag}
+use Rattle.yaml_parse_loader.specs.Loading.{filled, filled_body, place_of, closed, aliased, enter_leaf, enter_open, refused, step_body}
 
 -- ---- the machine
 

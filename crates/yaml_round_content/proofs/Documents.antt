@@ -1,20 +1,11 @@
 -- The directives of a document, as they are read.
 use Rattle.std.proofs.Common.{◌≡◌, ℕ, ℤ, Bool, true, false, if◌then◌else◌, List, [], ◌∷◌, ◌++◌, Option, Some, None, refl, ap, sym, ◌∙◌}
 use Rattle.std.proofs.lemmas.List.{append_assoc, append-nil}
-use Rattle.yaml_round_content.specs.scan_model.declared.yaml_mark_t.{yaml_mark_t}
-use Rattle.yaml_round_content.specs.scan_model.declared.yaml_version_directive_t.{yaml_version_directive_t}
-use Rattle.yaml_round_content.specs.scan_model.Tokens.{Token}
-use Rattle.yaml_round_content.specs.scan_model.Faults.{Fault}
-use Rattle.yaml_round_content.specs.parse_model.Events.{TagDirective}
+use Rattle.yaml_round_content.proofs.Words.{yaml_mark_t, yaml_version_directive_t, Token, Fault, TagDirective, RawEvent, Given, Directive, items_directives, Directives, Reading, read_on, reading, directive_for, with_version, with_tag, is_known_version, tags_in, version_in}
 use Rattle.yaml_round_content.specs.parse_grammar.declared.ParseProblem.TheVariants as problem
 use Rattle.yaml_round_content.specs.parse_grammar.Problems.{parser_fault}
-use Rattle.yaml_round_content.specs.parse_grammar.Items.{RawEvent}
-use Rattle.yaml_round_content.specs.parse_grammar.Trees.{Given, Directive}
-use Rattle.yaml_round_content.specs.parse_grammar.TreeSteps.{items_directives}
 use Rattle.yaml_round_content.specs.parse_grammar.Trees as tree
-use Rattle.yaml_round_content.specs.parse_grammar.Resolve.{Directives, Reading, read_on, reading, directive_for, with_version, with_tag, is_known_version}
 use Rattle.yaml_round_content.specs.parse_grammar.Resolve as resolve
-use Rattle.yaml_round_content.specs.TreeContent.{tags_in, version_in}
 
 -- ---- directives
 

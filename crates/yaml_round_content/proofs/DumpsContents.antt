@@ -3,20 +3,9 @@ use Rattle.std.proofs.Common.{◌≡◌, ◌↔◌, ℕ, Bool, true, false, ◌=
 use Rattle.std.specs.Prelude.{slice_index}
 use Rattle.std.proofs.lemmas.Bool.Decides.{nat_tests}
 use Rattle.std.proofs.lemmas.Bool.{and_parts}
-use Rattle.yaml_round_content.specs.scan_model.declared.yaml_scalar_style_t.{yaml_scalar_style_t}
-use Rattle.yaml_round_content.specs.scan_model.Faults.{Fault}
-use Rattle.yaml_round_content.specs.parse_model.Events.{EventBody}
+use Rattle.yaml_round_content.proofs.Words.{yaml_scalar_style_t, Fault, EventBody, str_tag, Told, is_bang, loaded_tag, nothing_loaded, is_lone_mark, normalize_scalar, normalize_body, content_of, contents, Loads, load_all, LoadsOfContent}
 use Rattle.yaml_round_content.specs.parse_model.Events as event
-use Rattle.yaml_round_content.specs.parse_laws_trees.parse_document.Documents.{str_tag}
-use Rattle.yaml_round_content.specs.parse_grammar.Resolve.{Told}
-use Rattle.yaml_parse_loader.specs.Numbering.{is_bang, loaded_tag}
-use Rattle.yaml_parse_loader.specs.Loading.{nothing_loaded}
-use Rattle.yaml_round_content.specs.Normalize.{is_lone_mark, normalize_scalar, normalize_body}
-use Rattle.yaml_round_content.specs.Content.{content_of}
-use Rattle.yaml_round_content.specs.Events.{contents}
-use Rattle.yaml_round_content.specs.Loads.{Loads, load_all}
 use Rattle.yaml_round_content.specs.Agree.{LoadAlike}
-use Rattle.yaml_round_content.specs.DumpsLoads.{LoadsOfContent}
 use Rattle.yaml_round_content.proofs.Core.{CoreLoading, CoreFed, core_goes_on, CoreLoads, core_leaf, core_scalar, core_loaded, core_refused, core_in_front, core_step, core_on, core_loads, core_nothing, is_fault, cores, bodies, load_cores}
 
 -- ---- the lone tag `!` loads as no tag

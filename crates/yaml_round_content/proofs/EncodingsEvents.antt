@@ -1,26 +1,12 @@
 -- Tokens that are alike make events that say the same.
 use Rattle.std.proofs.Common.{◌≡◌, ◌⊎◌, inl, inr, ℕ, true, List, [], ◌∷◌, ◌++◌, length, map, Option, Some, None, refl, sym, ap, subst}
-use Rattle.yaml_round_laws_adapted.specs.scan_laws_texts.scan_history.scan_model.declared.yaml_encoding_t.{yaml_encoding_t}
-use Rattle.yaml_round_laws_adapted.specs.scan_laws_texts.scan_history.scan_model.declared.yaml_encoding_t.TheVariants.{YAML_ANY_ENCODING}
-use Rattle.yaml_round_laws_adapted.specs.scan_laws_texts.scan_history.scan_model.declared.yaml_mark_t.{yaml_mark_t}
-use Rattle.yaml_round_laws_adapted.specs.scan_laws_texts.scan_history.scan_model.Tokens.{Token, type_of}
-use Rattle.yaml_round_laws_adapted.specs.scan_laws_texts.scan_history.scan_model.Faults.{Fault}
-use Rattle.yaml_emit_laws_dumps.specs.parse_model.Events.{EventBody}
+use Rattle.yaml_round_content.proofs.Words.{yaml_encoding_t, YAML_ANY_ENCODING, yaml_mark_t, Token, type_of, Fault, EventBody, RawEvent, State, Choice, Refuse, Take, Leave, Given, event_at, item_at, Root, Fed, stop, go, choice_at, taken_at, left_at, with_item, given_by, turn, feed, Outcome, carry, run, Directives, Settled, refused, gave, noted, settle, Reading, read_on, reading, contents, normalize_body, content_of}
 use Rattle.yaml_emit_laws_dumps.specs.parse_model.Events as event
-use Rattle.yaml_emit_laws_dumps.specs.parse_grammar.Items.{RawEvent}
-use Rattle.yaml_emit_laws_dumps.specs.parse_grammar.States.{State, Taken}
+use Rattle.yaml_emit_laws_dumps.specs.parse_grammar.States.{Taken}
 use Rattle.yaml_emit_laws_dumps.specs.parse_grammar.States as state
-use Rattle.yaml_emit_laws_dumps.specs.parse_grammar.declared.Choice.{Choice}
-use Rattle.yaml_emit_laws_dumps.specs.parse_grammar.declared.Choice.TheVariants.{Refuse, Take, Leave, Open}
-use Rattle.yaml_emit_laws_dumps.specs.parse_grammar.Trees.{Given, event_at}
-use Rattle.yaml_emit_laws_dumps.specs.parse_grammar.Items.{item_at}
+use Rattle.yaml_emit_laws_dumps.specs.parse_grammar.declared.Choice.TheVariants.{Open}
 use Rattle.yaml_emit_laws_dumps.specs.parse_grammar.Items as item
-use Rattle.yaml_emit_laws_dumps.specs.parse_grammar.declared.Site.TheVariants.{Root}
-use Rattle.yaml_emit_laws_dumps.specs.parse_grammar.Machine.{Fed, stop, go, choice_at, taken, taken_at, left_at, with_item, given_by, turn, feed, Outcome, carry, at_end, run}
-use Rattle.yaml_emit_laws_dumps.specs.parse_grammar.Resolve.{Directives, Settled, refused, gave, noted, settle, Reading, read_on, reading}
-use Rattle.yaml_round_content.specs.Events.{contents}
-use Rattle.yaml_round_content.specs.Normalize.{normalize_body}
-use Rattle.yaml_round_content.specs.Content.{content_of}
+use Rattle.yaml_emit_laws_dumps.specs.parse_grammar.Machine.{taken, at_end}
 use Rattle.yaml_round_content.proofs.EncodingsTokens.{start, IsAlike, AreAlike}
 
 -- ---- items

@@ -4,21 +4,13 @@ use Rattle.std.proofs.lemmas.Bool.Decides.{nat_tests}
 use Rattle.std.proofs.lemmas.Slice.Eq.{bytes_eq-Decides}
 use Rattle.std.specs.List.{list_all}
 use Rattle.std.proofs.lemmas.Bool.{true≢false}
-use Rattle.yaml_round_content.specs.scan_model.declared.yaml_scalar_style_t.{yaml_scalar_style_t}
-use Rattle.yaml_round_content.specs.scan_model.Classes.{is_alpha_byte}
-use Rattle.yaml_round_content.specs.parse_model.Constructors.{HasUtf8, IsUtf8Option, AreUtf8}
-use Rattle.yaml_round_content.specs.parse_model.Events.{EventBody, TagDirective}
+use Rattle.yaml_round_content.proofs.Words.{yaml_scalar_style_t, is_alpha_byte, AreUtf8, EventBody, TagDirective, Told, Problem, emitter_event, or_else, name_problem, anchor_problem, tag_problem, event_problem, last_problem, own_problem, own_problems, is_lone_mark, normalize_scalar, normalize_body, content_of, emitter_events, contents, HaveUtf8Texts}
+use Rattle.yaml_round_content.specs.parse_model.Constructors.{HasUtf8, IsUtf8Option}
 use Rattle.yaml_round_content.specs.parse_model.Events as event
-use Rattle.yaml_round_content.specs.parse_grammar.Resolve.{Told}
-use Rattle.yaml_round_content.specs.emit_layout.declared.Problem.{Problem}
 use Rattle.yaml_round_content.specs.emit_layout.declared.Problem.TheVariants as problem
-use Rattle.yaml_round_content.specs.emit_layout.Content.{Opening, emitter_event}
-use Rattle.yaml_round_content.specs.emit_layout.Grammar.{opening_problem, or_else, name_problem, anchor_problem, tag_problem, event_problem, last_problem, own_problem, own_problems}
-use Rattle.yaml_round_content.specs.Normalize.{is_lone_mark, normalize_scalar, normalize_body}
-use Rattle.yaml_round_content.specs.Content.{content_of}
-use Rattle.yaml_round_content.specs.Events.{emitter_events, contents}
+use Rattle.yaml_round_content.specs.emit_layout.Content.{Opening}
+use Rattle.yaml_round_content.specs.emit_layout.Grammar.{opening_problem}
 use Rattle.yaml_round_content.specs.Writable.{IsName, IsAnchor, IsTag, HavePrefixes}
-use Rattle.yaml_round_content.specs.WritableLaws.{HaveUtf8Texts}
 use Rattle.yaml_round_content.proofs.Scalars.{IsScalarRight, IsRight, AreRight}
 use Rattle.yaml_emit_laws_dumps.proofs.Passing.{or_both}
 

@@ -1,23 +1,13 @@
 -- The plain reading of an input is what the machine reads.
 use Rattle.std.proofs.Common.{◌≡◌, ℕ, List, Option, Some, None, Result, Ok, Err, refl, ap, sym, subst, ◌∙◌}
-use Rattle.yaml_round_content.specs.scan_model.declared.yaml_encoding_t.{yaml_encoding_t}
-use Rattle.yaml_round_content.specs.scan_model.Tokens.{Token}
-use Rattle.yaml_round_content.specs.scan_model.Faults.{Fault}
-use Rattle.yaml_round_content.specs.parse_grammar.Trees.{Given}
-use Rattle.yaml_round_content.specs.parse_grammar.TreeSteps.{items}
-use Rattle.yaml_round_content.specs.parse_grammar.Machine.{Outcome, run, initial}
-use Rattle.yaml_round_content.specs.parse_grammar.Resolve.{Reading, reading, no_directives}
+use Rattle.yaml_round_content.proofs.Words.{yaml_encoding_t, Token, Fault, Given, items, Outcome, run, initial, Reading, reading, no_directives, BeginsWithSentence, FaultOfTokens, contents, tokens_of, read, events_of, ending_of, Document, stream_says, tree_content, TokensRead}
 use Rattle.yaml_round_content.specs.parse_grammar.Remaining.{reading_of}
 use Rattle.yaml_round_content.proofs.CompleteStream.{stream_runs}
-use Rattle.yaml_round_content.specs.parse_laws_trees.Places.{BeginsWithSentence, FaultOfTokens}
 use Rattle.yaml_round_content.proofs.TreesEnding.{ends_in_fault, fault_ends}
 use Rattle.yaml_round_content.proofs.Turns.{items_given}
-use Rattle.yaml_round_content.specs.Events.{contents}
-use Rattle.yaml_round_content.specs.Input.{tokens_of, read, events_of, ending_of}
-use Rattle.yaml_round_content.specs.Said.{Document, HasContent, stream_says}
+use Rattle.yaml_round_content.specs.Said.{HasContent}
 use Rattle.yaml_round_content.proofs.Injective.{says_injective}
-use Rattle.yaml_round_content.specs.TreeContent.{tree_content}
-use Rattle.yaml_round_content.specs.Reading.{TokensRead, InputsRead, ReadingIsOne, RefusedIsRead, ReadIsRefused, SaidIsRead, ReadIsSaid, EventsAreOfTree}
+use Rattle.yaml_round_content.specs.Reading.{InputsRead, ReadingIsOne, RefusedIsRead, ReadIsRefused, SaidIsRead, ReadIsSaid, EventsAreOfTree}
 use Rattle.yaml_round_content.proofs.Spelling.{spelled_before}
 use Rattle.yaml_round_content.proofs.Placed.{tree_says}
 

@@ -1,19 +1,11 @@
 -- What an input loads is its plain loading.
 use Rattle.std.proofs.Common.{◌≡◌, ℕ, List, Option, Some, None, Ok, Err, ap, sym, subst, ◌∙◌}
 use Rattle.std.proofs.lemmas.Option.{same_Some}
-use Rattle.yaml_round_content.specs.scan_model.Tokens.{Token}
-use Rattle.yaml_round_content.specs.scan_model.Faults.{Fault}
-use Rattle.yaml_round_content.specs.parse_grammar.Resolve.{Reading}
-use Rattle.yaml_round_content.specs.parse_laws_trees.Places.{BeginsWithSentence}
+use Rattle.yaml_round_content.proofs.Words.{Token, Fault, Reading, BeginsWithSentence, nothing_loaded, tokens_of, Loads, load_all, loads_of, tree_documents, numbered, read_of}
 use Rattle.yaml_round_content.specs.parse_laws_trees.parse_document.Documents.{Document}
-use Rattle.yaml_parse_loader.specs.Loading.{nothing_loaded}
 use Rattle.yaml_round_content.specs.parse_laws_trees.Faults.{FaultOfLoading}
 use Rattle.yaml_round_content.proofs.Unique.{one_load_fault}
 use Rattle.yaml_round_content.proofs.Ending.{loads_end_in_fault}
-use Rattle.yaml_round_content.specs.Input.{tokens_of}
-use Rattle.yaml_round_content.specs.Loads.{Loads, load_all, loads_of}
-use Rattle.yaml_round_content.specs.TreeDocuments.{tree_documents, numbered}
-use Rattle.yaml_round_content.specs.Loading.{read_of}
 use Rattle.yaml_round_content.specs.PlainLoading.{HaveDocuments, TokensLoad, unless_faulty, result_of, SourcesLoad, SourceLoadingIsOne, InputsLoad, LoadingIsOne, LoadingIsLoads, FaultlessLoad, FaultyLoad}
 use Rattle.yaml_round_content.proofs.Joining.{read_is}
 use Rattle.yaml_round_content.proofs.Numbered.{loads_numbered}

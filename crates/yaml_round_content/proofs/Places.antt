@@ -2,21 +2,17 @@
 use Rattle.std.proofs.Common.{◌≡◌, true, List, [], ◌∷◌, ◌++◌, Option, Some, None, refl, sym, ap, subst, ◌∙◌, append_assoc}
 use Rattle.yaml_emit_laws_dumps.specs.parse_model.declared.yaml_mark_t.{yaml_mark_t}
 use Rattle.yaml_emit_laws_dumps.specs.parse_model.declared.yaml_token_type_t.{yaml_token_type_t}
-use Rattle.yaml_emit_laws_dumps.specs.parse_model.Tokens.{Token, TokenBody, type_of}
+use Rattle.yaml_round_content.proofs.Words.{Token, type_of, Wants, Root, Choice, Refuse, Take, Leave, RawEvent, Properties, Shape, item_at, node_at, State, choice_at, taken_at, left_at, Fed, stop, go, with_item, given_by, turn, feed, Due, item_due, key_due, value_due, Progress, at_place, inside, behind_node}
+use Rattle.yaml_emit_laws_dumps.specs.parse_model.Tokens.{TokenBody}
 use Rattle.yaml_emit_laws_dumps.specs.parse_model.Tokens as token
-use Rattle.yaml_emit_laws_dumps.specs.parse_grammar.declared.Wants.{Wants}
 use Rattle.yaml_emit_laws_dumps.specs.parse_grammar.declared.Wants.TheVariants.{Flow, Block}
 use Rattle.yaml_emit_laws_dumps.specs.parse_grammar.declared.Brackets.TheVariants as brackets
-use Rattle.yaml_emit_laws_dumps.specs.parse_grammar.declared.Site.TheVariants.{Root, IndentlessEntry}
-use Rattle.yaml_emit_laws_dumps.specs.parse_grammar.declared.Choice.{Choice}
-use Rattle.yaml_emit_laws_dumps.specs.parse_grammar.declared.Choice.TheVariants.{Refuse, Take, Leave, Open}
-use Rattle.yaml_emit_laws_dumps.specs.parse_grammar.Items.{RawEvent, Properties, Shape, item_at, node_at}
+use Rattle.yaml_emit_laws_dumps.specs.parse_grammar.declared.Site.TheVariants.{IndentlessEntry}
+use Rattle.yaml_emit_laws_dumps.specs.parse_grammar.declared.Choice.TheVariants.{Open}
 use Rattle.yaml_emit_laws_dumps.specs.parse_grammar.Items as item
-use Rattle.yaml_emit_laws_dumps.specs.parse_grammar.States.{State}
 use Rattle.yaml_emit_laws_dumps.specs.parse_grammar.States as state
-use Rattle.yaml_emit_laws_dumps.specs.parse_grammar.Machine.{choice_at, taken_at, documents_taken, content_taken, node_taken, left_at, wants_of, Fed, stop, go, with_item, given_by, turn, feed}
+use Rattle.yaml_emit_laws_dumps.specs.parse_grammar.Machine.{documents_taken, content_taken, node_taken, wants_of}
 use Rattle.yaml_emit_laws_dumps.specs.emit_layout.declared.Expected.TheVariants as at
-use Rattle.yaml_emit_laws_dumps.specs.emit_layout.Progress.{Due, item_due, key_due, value_due, Progress, at_place, inside, behind_node}
 use Rattle.yaml_emit_laws_dumps.proofs.Rules.{MayLeave, leave_rule, opens_first, was_take}
 use Rattle.yaml_round_content.proofs.Stacks.{between, dues, shape_of, node_shape, AreRight, IsPlaced, moved_kind, moved, Leads}
 

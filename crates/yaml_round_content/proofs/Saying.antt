@@ -3,28 +3,14 @@ use Rattle.std.proofs.Common.{◌≡◌, ◌⊎◌, inl, inr, ℕ, Bool, true, f
 use Rattle.std.specs.Str.{bytes_eq}
 use Rattle.std.proofs.lemmas.Bool.{cases_Bool, eqb-true, and_parts, true≢false}
 use Rattle.std.proofs.lemmas.Slice.Eq.{bytes_eq-Decides}
-use Rattle.yaml_round_content.specs.scan_model.declared.yaml_mark_t.{yaml_mark_t}
-use Rattle.yaml_round_content.specs.scan_model.declared.yaml_scalar_style_t.{yaml_scalar_style_t}
-use Rattle.yaml_round_content.specs.scan_model.declared.yaml_scalar_style_t.TheVariants.{YAML_PLAIN_SCALAR_STYLE}
-use Rattle.yaml_round_content.specs.scan_model.Tokens.{Token}
-use Rattle.yaml_round_content.specs.scan_model.Faults.{Fault}
-use Rattle.yaml_round_content.specs.parse_model.Events.{Event, EventBody, TagDirective}
+use Rattle.yaml_round_content.proofs.Words.{yaml_mark_t, yaml_scalar_style_t, YAML_PLAIN_SCALAR_STYLE, Token, Fault, Event, EventBody, TagDirective, Wants, Side, Site, Properties, properties_of, spell_documents, resolved, directive_for, or_default, is_lone_mark, normalize_scalar, normalize_body, content_of, scalar_says, node_says, items_say, pairs_say, documents_say, stream_says, untagged, tagged, in_full, tag_of, anchor_of, is_plain, tags_in, tree_content, begins, placed_scalar, placed_empty, placed_node, placed_content, placed_maybe, placed_colon, placed_items, placed_more_items, placed_parts, placed_more_parts, placed_entries, placed_others, placed_pairs, placed_documents, placed_first, end_of, placed_events, tree_events, spanning, events, item_events, pair_events}
 use Rattle.yaml_round_content.specs.parse_model.Events as event
-use Rattle.yaml_round_content.specs.parse_grammar.declared.Wants.{Wants}
-use Rattle.yaml_round_content.specs.parse_grammar.declared.Side.{Side}
 use Rattle.yaml_round_content.specs.parse_grammar.declared.Brackets.TheVariants as brackets
-use Rattle.yaml_round_content.specs.parse_grammar.declared.Site.{Site}
-use Rattle.yaml_round_content.specs.parse_grammar.Items.{Properties}
-use Rattle.yaml_round_content.specs.parse_grammar.Trees.{properties_of, spell_documents}
 use Rattle.yaml_round_content.specs.parse_grammar.Trees as tree
-use Rattle.yaml_round_content.specs.parse_grammar.Resolve.{resolved, directive_for, or_default, default_prefix}
-use Rattle.yaml_round_content.specs.Normalize.{is_lone_mark, normalize_scalar, normalize_body}
-use Rattle.yaml_round_content.specs.Content.{content_of}
-use Rattle.yaml_round_content.specs.Said.{scalar_says, node_says, items_say, pairs_say, documents_say, stream_says, untagged, tagged}
-use Rattle.yaml_round_content.specs.TreeContent.{prefix_of, in_full, tag_of, anchor_of, is_plain, mark_of, empty, node_of, with_content, maybe_of, colon_of, items_of, more_items_of, parts_of, more_parts_of, entries_of, others_of, pairs_of, tags_in, documents_of, behind_first, tree_content}
-use Rattle.yaml_round_content.specs.TreeDocuments.{begins, head, placed_scalar, placed_empty, placed_node, placed_content, placed_maybe, placed_colon, placed_items, placed_more_items, placed_parts, placed_more_parts, placed_entries, placed_others, placed_pairs, placed_documents, placed_first}
-use Rattle.yaml_round_content.specs.Loading.{end_of, placed_events, tree_events}
-use Rattle.yaml_parse_loader.specs.Numbering.{spanning, events, item_events, pair_events, scalar}
+use Rattle.yaml_round_content.specs.parse_grammar.Resolve.{default_prefix}
+use Rattle.yaml_round_content.specs.TreeContent.{prefix_of, mark_of, empty, node_of, with_content, maybe_of, colon_of, items_of, more_items_of, parts_of, more_parts_of, entries_of, others_of, pairs_of, documents_of, behind_first}
+use Rattle.yaml_round_content.specs.TreeDocuments.{head}
+use Rattle.yaml_parse_loader.specs.Numbering.{scalar}
 
 -- those events say that
 pub record Says (es : List Event) (xs : List EventBody) : Type 0 where

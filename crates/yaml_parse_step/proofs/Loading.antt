@@ -1,18 +1,12 @@
 -- What feeding a loader with a parser's events comes to.
 use Rattle.std.proofs.Common.{◌≡◌, ◌⊎◌, ◌<◌, ◌≤◌, ℕ, ℤ, inl, inr, List, [], ◌∷◌, Option, Some, None, Bool, true, refl, sym, ap, subst, ◌∙◌, arith}
 use Rattle.yaml_scan_model.specs.declared.yaml_origin_t.TheVariants.{Loader}
-use Rattle.yaml_scan_model.specs.Faults.{Fault, memory_fault, IsMemoryFault, scan_layers}
-use Rattle.yaml_parse_model.specs.Source.{HasMore}
-use Rattle.yaml_scan_model.specs.declared.yaml_mark_t.{yaml_mark_t}
+use Rattle.yaml_parse_step.proofs.Words.{Fault, memory_fault, IsMemoryFault, scan_layers, HasMore, yaml_mark_t, Event, EventBody, parts_documents_behind, Told, ParserRemaining, IsFinished, next_unasked, GivesNext, GivesEnd}
 use Rattle.std.specs.FinMap as map
-use Rattle.yaml_parse_model.specs.Events.{Event, EventBody}
 use Rattle.yaml_parse_model.specs.Events as event
-use Rattle.yaml_parse_grammar.specs.Stacks.{parts_documents_behind}
 use Rattle.yaml_parse_laws_trees.specs.parse_document.Documents.{Document, no_document}
-use Rattle.yaml_parse_grammar.specs.Resolve.{Told}
-use Rattle.yaml_parse_grammar.specs.Remaining.{ParserRemaining, IsFinished, FaultOf, next_unasked}
+use Rattle.yaml_parse_grammar.specs.Remaining.{FaultOf}
 use Rattle.yaml_parse_laws_trees.specs.parse_loader.Loading.{Loading, LoadStep, goes_on, loaded, refused, step, step_body, aliased, load, turn}
-use Rattle.yaml_parse_step.specs.Finds.{GivesNext, GivesEnd}
 use Rattle.yaml_parse_laws_trees.specs.NextLoad.{told_events, left_behind}
 use Rattle.yaml_parse_laws_trees.proofs.ByStep.{Loads, load_on, behind_all, loads, loads_of, unasked_on, unasked_at_refusal, unasked_of, unasked_by, answer_unasked, LoadGives, LoadRefuses, KeepsLoading, LoadsSame}
 use Rattle.yaml_parse_laws_trees.specs.Falling.{AreFalling}

@@ -1,34 +1,22 @@
 -- What each step over the grammar owes.
 use Rattle.std.proofs.Common.{◌≡◌, ◌⊎◌, ◌<◌, ℕ, inl, inr, List, [], ◌∷◌, ◌++◌, length, Option, Some, None, refl, sym, ap, subst, ◌∙◌, arith, true, false}
-use Rattle.yaml_scan_model.specs.declared.yaml_mark_t.{yaml_mark_t}
-use Rattle.yaml_scan_model.specs.Tokens.{Token, no_token, type_of}
-use Rattle.yaml_scan_model.specs.Faults.{Fault}
-use Rattle.yaml_parse_grammar.specs.declared.name.Choice.TheVariants.{Refuse, Take, Leave, Open}
+use Rattle.yaml_parse_step.proofs.Words.{yaml_mark_t, Token, no_token, type_of, Fault, Take, Leave, Open, parser_fault, RawEvent, RawEventBody, item_at, State, Taken, Given, choice_at, taken_at, left_at, opened, run, ending_at, unasked_at_stop, Stands, memory_fault, Parser, Properties, Shape, Around, is_nothing, node_item, named_item, told_item, implied_item, TurnsOn, Moves, Stops, SteppedOnce, Raw, raw, outcome, stop_of, IsFront, HasNoFront, IsDirective, GivesItem, GivesNoItem, IsRefused, OpensAt, IsRealOn}
+use Rattle.yaml_parse_grammar.specs.declared.name.Choice.TheVariants.{Refuse}
 use Rattle.yaml_parse_grammar.specs.declared.problem.ParseProblem.{ParseProblem}
-use Rattle.yaml_parse_grammar.specs.Problems.{parser_fault}
-use Rattle.yaml_parse_grammar.specs.Items.{RawEvent, RawEventBody, item_at}
 use Rattle.yaml_parse_grammar.specs.Items as item
-use Rattle.yaml_parse_grammar.specs.States.{State, Taken}
-use Rattle.yaml_parse_grammar.specs.Trees.{Given}
-use Rattle.yaml_parse_grammar.specs.Machine.{choice_at, taken_at, left_at, context_of, opened, run, ending_at, unasked_at_stop, Stands}
+use Rattle.yaml_parse_grammar.specs.Machine.{context_of}
 use Rattle.yaml_parse_grammar.proofs.Complete.{giving, leaves_at}
 use Rattle.yaml_parse_grammar.proofs.Voice.{Voiced, TakenSpeaks, taken_speaks, left_voiced, takes_a_token, stands_above}
 use Rattle.yaml_parse_grammar.proofs.Single.{refuses, takes, takes_silently, opens, refuses_stops, takes_stops, leaves_stops, opens_stops}
-use Rattle.yaml_scan_model.specs.Faults.{memory_fault}
-use Rattle.yaml_scan_model.specs.declared.yaml_origin_t.TheVariants.{Parser}
-use Rattle.yaml_parse_grammar.specs.Items.{Properties}
-use Rattle.yaml_parse_core.specs.declared.told.Shape.{Shape}
 use Rattle.yaml_parse_core.specs.declared.told.Told.{Told}
 use Rattle.yaml_parse_core.specs.declared.told.Implied.{Implied}
 use Rattle.yaml_parse_core.specs.Seen as seen
-use Rattle.yaml_parse_core.specs.Views.{Around, is_nothing, node_item, named_item, told_item, implied_item}
-use Rattle.yaml_parse_core.specs.Turns.{Takes, TurnsOn, context_if}
-use Rattle.yaml_parse_step.specs.Moves.{Moves, MovesSilently, Stops}
+use Rattle.yaml_parse_core.specs.Turns.{Takes, context_if}
+use Rattle.yaml_parse_step.specs.Moves.{MovesSilently}
 use Rattle.yaml_parse_step.proofs.Texts.{take_item_utf8, take_silent_utf8, leave_utf8, open_utf8}
 use Rattle.yaml_parse_step.proofs.Heights.{take_item_stands, take_silent_stands, leave_stands, open_stands}
-use Rattle.yaml_parse_step.specs.Stepped.{SteppedOnce}
 use Rattle.yaml_parse_step.specs.Stepped as step
-use Rattle.yaml_parse_step.specs.Steps.{Raw, raw, outcome, stop_of, budget, IsFront, HasNoFront, IsDirective, GivesItem, GivesNoItem, IsRefused, Steps, OpensAt, IsReal, IsRealOn}
+use Rattle.yaml_parse_step.specs.Steps.{budget, Steps, IsReal}
 
 -- a directive leaves something open
 directive_stands : (b : RawEventBody) (P : Type 0) → Voiced b P → IsDirective b → P

@@ -1,25 +1,15 @@
 -- What a step with its item resolved owes.
 use Rattle.std.proofs.Common.{◌≡◌, ◌⊎◌, ◌+◌, ◌<◌, ◌≤◌, arith, ℕ, inl, inr, List, [], ◌∷◌, length, Option, Some, None, refl, sym, ap, subst, ◌∙◌}
-use Rattle.yaml_scan_model.specs.declared.yaml_origin_t.TheVariants.{Parser}
-use Rattle.yaml_scan_model.specs.declared.yaml_mark_t.{yaml_mark_t}
-use Rattle.yaml_scan_model.specs.Tokens.{Token}
-use Rattle.yaml_scan_model.specs.Faults.{Fault, memory_fault, IsMemoryFault, scan_layers}
-use Rattle.yaml_parse_model.specs.Source.{HasMore}
-use Rattle.yaml_parse_model.specs.Events.{Event, EventBody}
-use Rattle.yaml_parse_grammar.specs.Items.{RawEvent, RawEventBody}
+use Rattle.yaml_parse_step.proofs.Words.{Parser, yaml_mark_t, Token, Fault, memory_fault, IsMemoryFault, scan_layers, HasMore, Event, EventBody, RawEvent, RawEventBody, State, Given, given_of, Outcome, run, initial, Stands, Directives, no_directives, Settled, gave, noted, settle, placed, unasked_at_fault, ParserRemaining, parser_remaining, reading_of, unasked_of, waiting, IsFinished, next_unasked, Raw, outcome, stop_of, IsDirective, GivesItem, GivesNoItem, IsRefused, IsSilent, GivesNext, GivesEnd}
 use Rattle.yaml_parse_grammar.specs.Items as item
-use Rattle.yaml_parse_grammar.specs.States.{State}
-use Rattle.yaml_parse_grammar.specs.Trees.{Given, Stream, spell}
-use Rattle.yaml_parse_grammar.specs.TreeEvents.{given_of}
-use Rattle.yaml_parse_grammar.specs.Machine.{Outcome, run, initial, Stands}
-use Rattle.yaml_parse_grammar.specs.Resolve.{Directives, no_directives, Settled, refused, gave, noted, settle, settle_body, resolved, placed, read_on, reading, Reading, unasked_on, unasked_at_fault}
-use Rattle.yaml_parse_grammar.specs.Remaining.{ParserRemaining, parser_remaining, reading_of, unasked_of, waiting, held_of, IsFinished, next_unasked}
+use Rattle.yaml_parse_grammar.specs.Trees.{Stream, spell}
+use Rattle.yaml_parse_grammar.specs.Resolve.{refused, settle_body, resolved, read_on, reading, Reading, unasked_on}
+use Rattle.yaml_parse_grammar.specs.Remaining.{held_of}
 use Rattle.yaml_parse_grammar.proofs.CompleteStream.{nothing_runs, stream_runs}
 use Rattle.yaml_parse_grammar.proofs.Voice.{speaks, reading_speaks, not_noted}
 use Rattle.yaml_parse_laws_trees.proofs.Turns.{items_given}
 use Rattle.yaml_parse_laws_trees.proofs.Falling.{has_more}
-use Rattle.yaml_parse_step.specs.Steps.{Raw, outcome, stop_of, IsDirective, GivesItem, GivesNoItem, IsRefused, IsDone, IsSilent, IsTurnRefused, IsOver, KeptOverTurns}
-use Rattle.yaml_parse_step.specs.Finds.{GivesNext, GivesEnd}
+use Rattle.yaml_parse_step.specs.Steps.{IsDone, IsTurnRefused, IsOver, KeptOverTurns}
 
 -- what is to come of it
 abbrev pub of_raw : Raw → Directives → Fault → ParserRemaining
@@ -268,6 +258,10 @@ one_held (Some t) = omega arith
 
 -- ---- the turns of a call
 
+same_unasked : (i o : ParserRemaining) → KeptOverTurns i o → i.events ≡ [] → i.ending ≡ None
+    → (o.unasked ≡ i.unasked) × (o.held ≡ i.held)
+same_unasked i o k p q = elim k.unasked [ inl a ↦ a | inr s ↦ absurd (s p q) ]
+
 pub kept_end : (i o n : ParserRemaining) → KeptOverTurns i o → IsOver o n → GivesEnd i n
 kept_end i o n k h =
     let p : i.events ≡ [] = sym k.events ∙ h.finished.events in
@@ -278,8 +272,8 @@ kept_end i o n k h =
       nothing = record {
         given = refl;
         finished = subst IsFinished (sym h.same) h.finished;
-        unasked = ap (λ (c : ParserRemaining). c.unasked) h.same ∙ (elim k.unasked [ inl a ↦ a | inr s ↦ absurd (s p q) ]).0;
-        held = ap (λ (c : ParserRemaining). c.held) h.same ∙ (elim k.unasked [ inl a ↦ a | inr s ↦ absurd (s p q) ]).1;
+        unasked = ap (λ (c : ParserRemaining). c.unasked) h.same ∙ (same_unasked i o k p q).0;
+        held = ap (λ (c : ParserRemaining). c.held) h.same ∙ (same_unasked i o k p q).1;
         answered = ap (λ (c : ParserRemaining). c.answered) h.same ∙ k.answered;
       };
     }

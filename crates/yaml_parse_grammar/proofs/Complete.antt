@@ -3,33 +3,22 @@ use Rattle.std.proofs.Common.{◌≡◌, ℕ, Bool, true, false, if◌then◌els
 use Rattle.std.proofs.lemmas.List.{append_assoc}
 use Rattle.std.proofs.Math.Bool.{or-true}
 use Rattle.std.proofs.lemmas.Bool.{cases_Bool, false≢true}
-use Rattle.yaml_parse_model.specs.declared.yaml_mark_t.{yaml_mark_t}
-use Rattle.yaml_parse_model.specs.declared.yaml_token_type_t.{yaml_token_type_t}
+use Rattle.yaml_parse_grammar.proofs.Words.{yaml_mark_t, yaml_token_type_t, Token, TokenBody, type_of, Fault, Wants, Flow, Block, Site, Root, Entry, IndentlessEntry, BlockPair, FlowPair, Choice, Refuse, Take, Leave, RawEvent, Properties, node_at, State, Taken, Span, Given, token_at, spell_node, spell_maybe, next, items_node, items_maybe, items, behind, starts_content, starts_node, joins, wants_of, closes, parts_documents, follows, no_node, choice_at, node_taken, content_taken, taken_at, left_at, Fed, stop, go, with_item, given_by, turn, feed, Outcome, finished, carry, run}
 use Rattle.yaml_parse_model.specs.declared.yaml_token_type_t.TheVariants as kind
-use Rattle.yaml_parse_model.specs.Tokens.{Token, TokenBody, type_of}
 use Rattle.yaml_parse_model.specs.Tokens as token
-use Rattle.yaml_parse_model.specs.Faults.{Fault}
 use Rattle.yaml_parse_model.specs.declared.yaml_sequence_style_t.TheVariants.{YAML_BLOCK_SEQUENCE_STYLE}
 use Rattle.yaml_parse_model.specs.declared.yaml_mapping_style_t.TheVariants.{YAML_BLOCK_MAPPING_STYLE}
-use Rattle.yaml_parse_grammar.specs.declared.name.Wants.{Wants}
-use Rattle.yaml_parse_grammar.specs.declared.name.Wants.TheVariants.{Flow, Block}
 use Rattle.yaml_parse_grammar.specs.declared.name.Side.{Side}
 use Rattle.yaml_parse_grammar.specs.declared.name.Side.TheVariants.{Key, Value}
 use Rattle.yaml_parse_grammar.specs.declared.name.Brackets.{Brackets}
 use Rattle.yaml_parse_grammar.specs.declared.name.Brackets.TheVariants as brackets
-use Rattle.yaml_parse_grammar.specs.declared.name.Site.{Site}
-use Rattle.yaml_parse_grammar.specs.declared.name.Site.TheVariants.{Root, Entry, IndentlessEntry, BlockPair, FlowPair}
-use Rattle.yaml_parse_grammar.specs.declared.name.Choice.{Choice}
-use Rattle.yaml_parse_grammar.specs.declared.name.Choice.TheVariants.{Refuse, Take, Leave}
 use Rattle.yaml_parse_grammar.specs.declared.problem.ParseProblem.TheVariants as problem
-use Rattle.yaml_parse_grammar.specs.Items.{RawEvent, Properties, node_at}
 use Rattle.yaml_parse_grammar.specs.Items as item
-use Rattle.yaml_parse_grammar.specs.States.{State, Taken}
 use Rattle.yaml_parse_grammar.specs.States as state
-use Rattle.yaml_parse_grammar.specs.Trees.{Span, Node, Content, Maybe, Colon, Items, More, Entries, Others, Pairs, PropertyTokens, Given, token_at, spell_properties, properties_of, closing, spell_node, spell_content, spell_maybe, spell_colon, spell_items, spell_more, spell_entries, spell_others, spell_pairs, next, flow_shape}
-use Rattle.yaml_parse_grammar.specs.TreeSteps.{items_node, items_content, items_maybe, items_colon, items_items, items_more, items_entries, items_others, items_pairs, items, behind, lone, pair_start, pair_end}
+use Rattle.yaml_parse_grammar.specs.Trees.{Node, Content, Maybe, Colon, Items, More, Entries, Others, Pairs, PropertyTokens, spell_properties, properties_of, closing, spell_content, spell_colon, spell_items, spell_more, spell_entries, spell_others, spell_pairs, flow_shape}
+use Rattle.yaml_parse_grammar.specs.TreeSteps.{items_content, items_colon, items_items, items_more, items_entries, items_others, items_pairs, lone, pair_start, pair_end}
 use Rattle.yaml_parse_grammar.specs.Trees as tree
-use Rattle.yaml_parse_grammar.specs.Machine.{starts_content, starts_node, joins, wants_of, closes, parts_documents, follows, no_node, choice_at, node_taken, content_taken, items_taken, above, lone_below, taken_at, left_at, Fed, stop, go, with_item, given_by, turn, feed, Outcome, finished, carry, run}
+use Rattle.yaml_parse_grammar.specs.Machine.{items_taken, above, lone_below}
 
 -- what a list of items does in front of an outcome
 abbrev pub giving : (List Given → List Given) → Outcome → Outcome
@@ -153,14 +142,10 @@ none_joins w p kind.YAML_ANCHOR_TOKEN h = absurd (false≢true (sym h))
 none_joins w p kind.YAML_TAG_TOKEN h = absurd (false≢true (sym h))
 none_joins w p _ h = h
 
-with_properties_leaves_at : (w : Wants) (p : Properties) (k : yaml_token_type_t) → ends w k ≡ true
-    → choice_at (state.with_properties w p) k ≡ Leave
-with_properties_leaves_at w p k h = ap (λ (b : Bool). if b then Take else Leave) (none_joins w p k (ends_apart w k h))
-
 with_properties_leaves : (w : Wants) (p : Properties) (ts : List Token) → Ends w ts
     → Leaves (state.with_properties w p) ts
 with_properties_leaves w p [] h = h
-with_properties_leaves w p (t ∷ ts) h = with_properties_leaves_at w p (type_of t.body) h
+with_properties_leaves w p (t ∷ ts) h = ap (λ (b : Bool). if b then Take else Leave) (none_joins w p (type_of t.body) (ends_apart w (type_of t.body) h))
 
 -- what a node's first token does above a stack
 abbrev pub run_node : Wants → List Token → List State → Option Fault → Outcome
@@ -299,37 +284,6 @@ pub step_take : (x : State) (t : Token) (ts : List Token) (s : List State) (f : 
 unfolding run feed
 step_take x t ts s f h = ap (λ (c : Choice). carry (length ts) (turn c x t s (feed s t)) (λ s'. run ts s' f)) h
 
-entries_close : (p : Span) (o : yaml_mark_t) (rest : List Token) (s : List State) (f : Option Fault)
-    → run (token_at token.block_end p ∷ rest) (state.entries o ∷ s) f
-    ≡ giving (items_entries (tree.end_entries p) rest) (run rest s f)
-entries_close p o rest s f = step_take (state.entries o) _ rest s f refl
-
-entry_opens : (p : Span) (o : yaml_mark_t) (ts : List Token) (s : List State) (f : Option Fault)
-    → run (token_at token.block_entry p ∷ ts) (state.entries o ∷ s) f
-    ≡ run ts (state.optional Entry p.to ∷ state.entries o ∷ s) f
-entry_opens p o ts s f = step_take (state.entries o) _ ts s f refl
-
-other_opens : (p : Span) (side : Side) (ts : List Token) (s : List State) (f : Option Fault)
-    → run (token_at token.block_entry p ∷ ts) (state.others side ∷ s) f
-    ≡ run ts (state.optional (IndentlessEntry side) p.to ∷ state.others side ∷ s) f
-other_opens p side ts s f = step_take (state.others side) _ ts s f refl
-
-pairs_close : (p : Span) (o : yaml_mark_t) (rest : List Token) (s : List State) (f : Option Fault)
-    → run (token_at token.block_end p ∷ rest) (state.pairs o ∷ s) f
-    ≡ giving (items_pairs (tree.end_pairs p) rest) (run rest s f)
-pairs_close p o rest s f = step_take (state.pairs o) _ rest s f refl
-
-pair_opens : (p : Span) (o : yaml_mark_t) (ts : List Token) (s : List State) (f : Option Fault)
-    → run (token_at token.key p ∷ ts) (state.pairs o ∷ s) f
-    ≡ run ts (state.optional (BlockPair Key) p.to ∷ state.colon (BlockPair Value) ∷ state.pairs o
-    ∷ s) f
-pair_opens p o ts s f = step_take (state.pairs o) _ ts s f refl
-
-colon_opens : (p : Span) (place : Site) (ts : List Token) (s : List State) (f : Option Fault)
-    → run (token_at token.value p ∷ ts) (state.colon place ∷ s) f
-    ≡ run ts (state.optional place p.to ∷ s) f
-colon_opens p place ts s f = step_take (state.colon place) _ ts s f refl
-
 items_close : (b : Brackets) (p : Span) (o : yaml_mark_t) (rest : List Token) (s : List State)
     (f : Option Fault)
     → run (token_at (closing b) p ∷ rest) (state.items b o ∷ s) f
@@ -343,11 +297,6 @@ more_close : (b : Brackets) (p : Span) (o : yaml_mark_t) (rest : List Token) (s 
     ≡ giving (items_more b (tree.end_more p) rest) (run rest s f)
 more_close brackets.Sequence p o rest s f = step_take (state.more brackets.Sequence o) _ rest s f refl
 more_close brackets.Mapping p o rest s f = step_take (state.more brackets.Mapping o) _ rest s f refl
-
-comma_opens : (b : Brackets) (p : Span) (o : yaml_mark_t) (ts : List Token) (s : List State)
-    (f : Option Fault)
-    → run (token_at token.flow_entry p ∷ ts) (state.more b o ∷ s) f ≡ run ts (state.items b o ∷ s) f
-comma_opens b p o ts s f = step_take (state.more b o) _ ts s f refl
 
 -- the states behind a pair inside brackets
 abbrev pair_below : Brackets → List State → List State
@@ -512,7 +461,7 @@ mutual
       → run (spell_colon v rest) (state.colon place ∷ s) f
       ≡ giving (items_colon v place rest) (run rest s f)
   colon_runs tree.no_colon place e rest s f l h = leaves (state.colon place) rest s f l
-  colon_runs (tree.colon p m) place e rest s f l h = colon_opens p place (spell_maybe m rest) s f ∙ maybe_runs m place e p.to rest s f h
+  colon_runs (tree.colon p m) place e rest s f l h = step_take (state.colon place) _ (spell_maybe m rest) s f refl ∙ maybe_runs m place e p.to rest s f h
 
   pub items_run : (i : Items) (b : Brackets) (o : yaml_mark_t) (rest : List Token) (s : List State)
       (f : Option Fault)
@@ -538,15 +487,15 @@ mutual
       → run (spell_more b m rest) (state.more b o ∷ s) f
       ≡ giving (items_more b m rest) (run rest s f)
   more_runs (tree.end_more p) b o rest s f = more_close b p o rest s f
-  more_runs (tree.comma p i) b o rest s f = comma_opens b p o (spell_items b i rest) s f ∙ items_run i b o rest s f
+  more_runs (tree.comma p i) b o rest s f = step_take (state.more b o) _ (spell_items b i rest) s f refl ∙ items_run i b o rest s f
 
   pub entries_run : (e : Entries) (o : yaml_mark_t) (rest : List Token) (s : List State)
       (f : Option Fault)
       → run (spell_entries e rest) (state.entries o ∷ s) f
       ≡ giving (items_entries e rest) (run rest s f)
-  entries_run (tree.end_entries p) o rest s f = entries_close p o rest s f
+  entries_run (tree.end_entries p) o rest s f = step_take (state.entries o) _ rest s f refl
   entries_run (tree.entry p m e) o rest s f =
-      entry_opens p o (spell_maybe m (spell_entries e rest)) s f
+      step_take (state.entries o) _ (spell_maybe m (spell_entries e rest)) s f refl
       ∙ maybe_runs m Entry refl p.to (spell_entries e rest) (state.entries o ∷ s) f (entries_follow e rest)
       ∙ ap (giving (items_maybe m Entry p.to (spell_entries e rest))) (entries_run e o rest s f)
 
@@ -556,16 +505,16 @@ mutual
       ≡ giving (items_others side o rest) (run rest s f)
   others_run tree.no_others side rest s f h = leaves (state.others side) rest s f (others_leave side rest h)
   others_run (tree.other p m o) side rest s f h =
-      other_opens p side (spell_maybe m (spell_others o rest)) s f
+      step_take (state.others side) _ (spell_maybe m (spell_others o rest)) s f refl
       ∙ maybe_runs m (IndentlessEntry side) refl p.to (spell_others o rest) (state.others side ∷ s) f (others_follow side o rest h)
       ∙ ap (giving (items_maybe m (IndentlessEntry side) p.to (spell_others o rest))) (others_run o side rest s f h)
 
   pub pairs_run : (m : Pairs) (o : yaml_mark_t) (rest : List Token) (s : List State)
       (f : Option Fault)
       → run (spell_pairs m rest) (state.pairs o ∷ s) f ≡ giving (items_pairs m rest) (run rest s f)
-  pairs_run (tree.end_pairs p) o rest s f = pairs_close p o rest s f
+  pairs_run (tree.end_pairs p) o rest s f = step_take (state.pairs o) _ rest s f refl
   pairs_run (tree.block_pair p key v m) o rest s f =
-      pair_opens p o (spell_maybe key (spell_colon v (spell_pairs m rest))) s f
+      step_take (state.pairs o) _ (spell_maybe key (spell_colon v (spell_pairs m rest))) s f refl
       ∙ maybe_runs key (BlockPair Key) refl p.to (spell_colon v (spell_pairs m rest)) (state.colon (BlockPair Value) ∷ state.pairs o ∷ s) f (block_colon_follows v m rest)
       ∙ ap (giving (items_maybe key (BlockPair Key) p.to (spell_colon v (spell_pairs m rest))))
       (colon_runs v (BlockPair Value) refl (spell_pairs m rest) (state.pairs o ∷ s) f (pairs_leave m rest) (pairs_follow Value m rest)

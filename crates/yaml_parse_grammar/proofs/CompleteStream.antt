@@ -1,25 +1,16 @@
 -- The machine gives the items of a stream of documents.
 use Rattle.std.proofs.Common.{◌≡◌, Bool, true, false, if◌then◌else◌, List, [], ◌∷◌, length, Option, Some, None, refl, ap, ◌∙◌}
-use Rattle.yaml_parse_model.specs.declared.yaml_mark_t.{yaml_mark_t}
-use Rattle.yaml_parse_model.specs.declared.yaml_token_type_t.{yaml_token_type_t}
+use Rattle.yaml_parse_grammar.proofs.Words.{yaml_mark_t, yaml_token_type_t, Token, type_of, Fault, Block, Root, Choice, Refuse, Take, Open, item_at, State, Span, Given, token_at, spell_node, spell_maybe, next, items_node, items_maybe, items, behind, starts_node, parts_documents, follows, choice_at, taken_at, given_by, turn, feed, finished, carry, run, opened}
 use Rattle.yaml_parse_model.specs.declared.yaml_token_type_t.TheVariants as kind
-use Rattle.yaml_parse_model.specs.Tokens.{Token, type_of}
 use Rattle.yaml_parse_model.specs.Tokens as token
-use Rattle.yaml_parse_model.specs.Faults.{Fault}
 use Rattle.yaml_parse_model.specs.Events as event
-use Rattle.yaml_parse_grammar.specs.declared.name.Wants.TheVariants.{Block}
-use Rattle.yaml_parse_grammar.specs.declared.name.Site.TheVariants.{Root}
-use Rattle.yaml_parse_grammar.specs.declared.name.Choice.{Choice}
-use Rattle.yaml_parse_grammar.specs.declared.name.Choice.TheVariants.{Refuse, Take, Open}
 use Rattle.yaml_parse_grammar.specs.declared.problem.ParseProblem.TheVariants as problem
-use Rattle.yaml_parse_grammar.specs.Items.{item_at}
 use Rattle.yaml_parse_grammar.specs.Items as item
-use Rattle.yaml_parse_grammar.specs.States.{State}
 use Rattle.yaml_parse_grammar.specs.States as state
-use Rattle.yaml_parse_grammar.specs.Trees.{Span, Documents, First, Stream, Directive, Given, token_at, spell_node, spell_maybe, spell_directives, spell_ends, spell_documents, spell_first, spell, next, start_of, event_at}
-use Rattle.yaml_parse_grammar.specs.TreeSteps.{items_node, items_maybe, items_directives, items_ends, items_documents, items_first, items, behind}
+use Rattle.yaml_parse_grammar.specs.Trees.{Documents, First, Stream, Directive, spell_directives, spell_ends, spell_documents, spell_first, spell, start_of, event_at}
+use Rattle.yaml_parse_grammar.specs.TreeSteps.{items_directives, items_ends, items_documents, items_first}
 use Rattle.yaml_parse_grammar.specs.Trees as tree
-use Rattle.yaml_parse_grammar.specs.Machine.{starts_node, parts_documents, follows, choice_at, taken_at, given_by, turn, feed, finished, carry, run, initial, opened}
+use Rattle.yaml_parse_grammar.specs.Machine.{initial}
 use Rattle.yaml_parse_grammar.proofs.Complete.{giving, Leaves, leaves, Follows, follows_ends, Starts, node_starts, run_node, carry_with_item, not_following, step_take, maybe_runs, node_runs}
 
 -- Documents may follow a root that is left out.

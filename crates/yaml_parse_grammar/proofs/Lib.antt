@@ -1,3 +1,4 @@
+mod Words
 pub mod Rules
 pub mod Throughout
 pub mod Complete

@@ -1,19 +1,10 @@
 -- What a state does at a token, by cases on what it does: the one place where each state meets each token.
 use Rattle.std.proofs.Common.{◌≡◌, Bool, true, false, if◌then◌else◌, ◌||◌, Option, Some, None, refl, subst, sym}
-use Rattle.yaml_parse_model.specs.declared.yaml_mark_t.{yaml_mark_t}
-use Rattle.yaml_parse_model.specs.declared.yaml_token_type_t.{yaml_token_type_t}
+use Rattle.yaml_parse_grammar.proofs.Words.{yaml_mark_t, yaml_token_type_t, Wants, Flow, Block, Site, Choice, Refuse, Take, Leave, Open, ParseProblem, Properties, State, starts_content, starts_node, wants_of, closes, parts_documents, follows, no_node, joins, choice_at}
 use Rattle.yaml_parse_model.specs.declared.yaml_token_type_t.TheVariants as kind
-use Rattle.yaml_parse_grammar.specs.declared.name.Wants.{Wants}
-use Rattle.yaml_parse_grammar.specs.declared.name.Wants.TheVariants.{Flow, Block}
-use Rattle.yaml_parse_grammar.specs.declared.name.Site.{Site}
-use Rattle.yaml_parse_grammar.specs.declared.name.Choice.{Choice}
-use Rattle.yaml_parse_grammar.specs.declared.name.Choice.TheVariants.{Refuse, Take, Leave, Open}
-use Rattle.yaml_parse_grammar.specs.declared.problem.ParseProblem.{ParseProblem}
 use Rattle.yaml_parse_grammar.specs.declared.problem.ParseProblem.TheVariants as problem
-use Rattle.yaml_parse_grammar.specs.Items.{Properties}
-use Rattle.yaml_parse_grammar.specs.States.{State}
 use Rattle.yaml_parse_grammar.specs.States as state
-use Rattle.yaml_parse_grammar.specs.Machine.{starts_content, starts_node, wants_of, closes, parts_documents, follows, no_node, no_end, joins, choice_at}
+use Rattle.yaml_parse_grammar.specs.Machine.{no_end}
 
 -- ---- what each choice tells
 
@@ -122,25 +113,22 @@ was_take x e = subst IsTake (sym e) tt
 
 -- ---- the rules inverted
 
-by_rule : (x : State) (k : yaml_token_type_t) (c : Choice) → choice_at x k ≡ c → Rule c x k
-by_rule x k c e = subst (λ (d : Choice). Rule d x k) e (rule x k)
-
 -- A state that is left may be left out there.
 pub leave_rule : (x : State) (k : yaml_token_type_t) → choice_at x k ≡ Leave → MayLeave x k
-leave_rule x k e = by_rule x k Leave e
+leave_rule x k e = subst (λ (d : Choice). Rule d x k) e (rule x k)
 
 -- A token that is taken may come there.
 pub take_rule : (x : State) (k : yaml_token_type_t) → choice_at x k ≡ Take → MayTake x k
-take_rule x k e = by_rule x k Take e
+take_rule x k e = subst (λ (d : Choice). Rule d x k) e (rule x k)
 
 -- Where a document opens, it is a stream's first, and a node begins.
 pub open_rule : (x : State) (k : yaml_token_type_t) → choice_at x k ≡ Open → MayOpen x k
-open_rule x k e = by_rule x k Open e
+open_rule x k e = subst (λ (d : Choice). Rule d x k) e (rule x k)
 
 -- A state that refuses may not always be left out.
 pub refuse_rule : (x : State) (k : yaml_token_type_t) (p : ParseProblem) (o : Option yaml_mark_t)
     → choice_at x k ≡ Refuse p o → MayRefuse x
-refuse_rule x k p o e = by_rule x k (Refuse p o) e
+refuse_rule x k p o e = subst (λ (d : Choice). Rule d x k) e (rule x k)
 
 may_open : (x : State) (k : yaml_token_type_t) → MayOpen x k → x ≡ state.first
 may_open state.first k h = refl

@@ -1,23 +1,12 @@
 -- One step of the machine, at a token.
 use Rattle.std.proofs.Common.{◌≡◌, ℕ, true, List, [], ◌∷◌, ◌++◌, length, Option, Some, None, refl, ap, sym, subst, ◌∙◌}
-use Rattle.yaml_parse_model.specs.declared.yaml_mark_t.{yaml_mark_t}
-use Rattle.yaml_parse_model.specs.declared.yaml_token_type_t.{yaml_token_type_t}
+use Rattle.yaml_parse_grammar.proofs.Words.{yaml_mark_t, yaml_token_type_t, Token, type_of, no_token, Fault, Block, Root, Choice, Refuse, Take, Leave, Open, ParseProblem, RawEvent, item_at, State, Taken, Given, starts_node, choice_at, taken_at, left_at, opened, Fed, stop, go, with_item, given_by, turn, feed, finished, carry, run}
 use Rattle.yaml_parse_model.specs.declared.yaml_token_type_t.TheVariants as kind
-use Rattle.yaml_parse_model.specs.Tokens.{Token, type_of, no_token}
-use Rattle.yaml_parse_model.specs.Faults.{Fault}
 use Rattle.yaml_parse_model.specs.Source.{front_of, rest_of, MayAnswer}
-use Rattle.yaml_parse_grammar.specs.declared.name.Wants.TheVariants.{Block}
-use Rattle.yaml_parse_grammar.specs.declared.name.Site.TheVariants.{Root}
-use Rattle.yaml_parse_grammar.specs.declared.name.Choice.{Choice}
-use Rattle.yaml_parse_grammar.specs.declared.name.Choice.TheVariants.{Refuse, Take, Leave, Open}
-use Rattle.yaml_parse_grammar.specs.declared.problem.ParseProblem.{ParseProblem}
 use Rattle.yaml_parse_grammar.specs.Problems.{parser_fault}
-use Rattle.yaml_parse_grammar.specs.Items.{RawEvent, item_at}
 use Rattle.yaml_parse_grammar.specs.Items as item
-use Rattle.yaml_parse_grammar.specs.States.{State, Taken}
 use Rattle.yaml_parse_grammar.specs.States as state
-use Rattle.yaml_parse_grammar.specs.Trees.{Given}
-use Rattle.yaml_parse_grammar.specs.Machine.{starts_node, choice_at, taken_at, left_at, context_of, opened, Fed, stop, go, with_item, given_by, turn, feed, finished, carry, ending_at, run, left_where_stopped, unasked_at_stop}
+use Rattle.yaml_parse_grammar.specs.Machine.{context_of, ending_at, left_where_stopped, unasked_at_stop}
 use Rattle.yaml_parse_grammar.proofs.Complete.{giving, carry_with_item, step_take, optional_takes}
 use Rattle.yaml_parse_grammar.proofs.Rules.{MayOpen, open_rule, opens_first, none_opens}
 use Rattle.yaml_parse_grammar.proofs.Voice.{takes_a_token}

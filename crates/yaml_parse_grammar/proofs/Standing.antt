@@ -2,25 +2,15 @@
 use Rattle.std.proofs.Common.{◌≡◌, ℕ, ℤ, Bool, true, false, if◌then◌else◌, List, [], ◌∷◌, ◌++◌, Option, Some, None, refl, sym, ap, subst}
 use Rattle.std.specs.Str.{bytes_eq}
 use Rattle.std.specs.Prelude.{codes}
-use Rattle.yaml_parse_model.specs.declared.yaml_mark_t.{yaml_mark_t}
-use Rattle.yaml_parse_model.specs.declared.yaml_scalar_style_t.{yaml_scalar_style_t}
-use Rattle.yaml_parse_model.specs.declared.yaml_version_directive_t.{yaml_version_directive_t}
-use Rattle.yaml_parse_model.specs.declared.yaml_token_type_t.{yaml_token_type_t}
-use Rattle.yaml_parse_model.specs.Tokens.{Token, TokenBody, type_of}
+use Rattle.yaml_parse_grammar.proofs.Words.{yaml_mark_t, yaml_scalar_style_t, yaml_version_directive_t, yaml_token_type_t, Token, TokenBody, type_of, TagDirective, Take, Leave, Open, RawEvent, RawEventBody, Shape, State, choice_at, taken_at, documents_taken, stream_taken, left_at, opened, Directives, Settled, refused, gave, noted, settle_body, resolved, directive_for, with_resolved, with_tag, with_version, is_known_version, node_event, IsInner}
 use Rattle.yaml_parse_model.specs.Tokens as token
-use Rattle.yaml_parse_model.specs.Events.{TagDirective}
 use Rattle.yaml_parse_model.specs.Events as event
-use Rattle.yaml_parse_grammar.specs.declared.name.Choice.TheVariants.{Take, Leave, Open}
-use Rattle.yaml_parse_grammar.specs.Items.{RawEvent, RawEventBody, Shape}
 use Rattle.yaml_parse_grammar.specs.Items as item
-use Rattle.yaml_parse_grammar.specs.States.{State}
 use Rattle.yaml_parse_grammar.specs.States as state
-use Rattle.yaml_parse_grammar.specs.Machine.{choice_at, taken_at, documents_taken, stream_taken, left_at, opened}
-use Rattle.yaml_parse_grammar.specs.Resolve.{Directives, Settled, refused, gave, noted, settle_body, resolved, directive_for, with_resolved, with_tag, with_version, is_known_version, node_event}
 use Rattle.yaml_parse_grammar.specs.Remaining.{is_between}
 use Rattle.yaml_parse_grammar.proofs.Rules.{MayLeave, leave_rule, opens_first}
 use Rattle.yaml_parse_grammar.proofs.Throughout.{AllAre, AreTaken, IsBare, Inner, inner_are}
-use Rattle.yaml_parse_grammar.specs.Stacks.{parts_documents_behind, StandsBehind, IsInner, InsideAt, IsInside, StackAt, IsStack}
+use Rattle.yaml_parse_grammar.specs.Stacks.{parts_documents_behind, StandsBehind, InsideAt, IsInside, StackAt, IsStack}
 
 -- ---- inside a document
 
@@ -103,16 +93,13 @@ abbrev pub StandsOn : Option RawEvent → List State → Type 0
 StandsOn None s = IsStack s
 StandsOn (Some i) s = IsStack s × StandsBehind i.body (is_between s)
 
-behind_false : (b : RawEventBody) (x : Bool) → x ≡ false → StandsBehind b false → StandsBehind b x
-behind_false b x e h = subst (StandsBehind b) (sym e) h
-
 takes_inside : (i : Option RawEvent) (above s : List State)
     → AreTaken IsWithin IsInner (record { item = i; above = above }) → IsInside s
     → StandsOn i (above ++ s)
 takes_inside None above s h k = inside_stack (above ++ s) (all_inner_above above s h.1 k)
 takes_inside (Some i) above s h k =
     let inside : IsInside (above ++ s) = all_inner_above above s h.1 k in
-    (inside_stack (above ++ s) inside, behind_false i.body (is_between (above ++ s)) (half_taken (above ++ s) inside) (half_within i.body h.0))
+    (inside_stack (above ++ s) inside, subst (StandsBehind i.body) (sym (half_taken (above ++ s) inside)) (half_within i.body h.0))
 
 stream_stands : (start end : yaml_mark_t) (b : TokenBody) (s : List State) → s ≡ []
     → choice_at state.stream (type_of b) ≡ Take

@@ -1,31 +1,17 @@
 -- What holds of all items: whatever holds of each part of a token holds of what the machine gives, of what it keeps, and of the events.
 use Rattle.std.proofs.Common.{ℕ, ℤ, Bool, true, false, if◌then◌else◌, List, [], ◌∷◌, ◌++◌, length, map, Option, Some, None}
-use Rattle.yaml_parse_model.specs.declared.yaml_mark_t.{yaml_mark_t}
+use Rattle.yaml_parse_grammar.proofs.Words.{yaml_mark_t, yaml_scalar_style_t, Token, TokenBody, type_of, no_token, Fault, yaml_version_directive_t, EventBody, TagDirective, Wants, Flow, Block, Root, Choice, Refuse, Take, Leave, Open, RawEvent, RawEventBody, Properties, Shape, node_at, State, Taken, Given, IsInner, Directives, Settled, refused, gave, noted, settle, settle_body, resolved, directive_for, with_resolved, with_tag, with_version, is_known_version, node_event, read_on, reading, choice_at, taken_at, documents_taken, content_taken, node_taken, left_at, Stands, Fed, stop, go, with_item, given_by, turn, feed, Outcome, finished, carry, run}
 use Rattle.yaml_parse_model.specs.declared.yaml_encoding_t.{yaml_encoding_t}
-use Rattle.yaml_parse_model.specs.declared.yaml_scalar_style_t.{yaml_scalar_style_t}
 use Rattle.yaml_parse_model.specs.declared.yaml_sequence_style_t.{yaml_sequence_style_t}
 use Rattle.yaml_parse_model.specs.declared.yaml_mapping_style_t.{yaml_mapping_style_t}
-use Rattle.yaml_parse_model.specs.Tokens.{Token, TokenBody, type_of, no_token}
 use Rattle.yaml_parse_model.specs.Tokens as token
-use Rattle.yaml_parse_model.specs.Faults.{Fault}
-use Rattle.yaml_parse_model.specs.declared.yaml_version_directive_t.{yaml_version_directive_t}
-use Rattle.yaml_parse_model.specs.Events.{EventBody, TagDirective}
 use Rattle.yaml_parse_model.specs.Events as event
-use Rattle.yaml_parse_grammar.specs.declared.name.Wants.{Wants}
-use Rattle.yaml_parse_grammar.specs.declared.name.Wants.TheVariants.{Flow, Block}
-use Rattle.yaml_parse_grammar.specs.declared.name.Brackets.{Brackets}
 use Rattle.yaml_parse_grammar.specs.declared.name.Brackets.TheVariants as brackets
-use Rattle.yaml_parse_grammar.specs.declared.name.Site.TheVariants.{Root}
-use Rattle.yaml_parse_grammar.specs.declared.name.Choice.{Choice}
-use Rattle.yaml_parse_grammar.specs.declared.name.Choice.TheVariants.{Refuse, Take, Leave, Open}
-use Rattle.yaml_parse_grammar.specs.Items.{RawEvent, RawEventBody, Properties, Tag, Shape, node_at}
+use Rattle.yaml_parse_grammar.specs.Items.{Tag}
 use Rattle.yaml_parse_grammar.specs.Items as item
-use Rattle.yaml_parse_grammar.specs.States.{State, Taken}
 use Rattle.yaml_parse_grammar.specs.States as state
-use Rattle.yaml_parse_grammar.specs.Trees.{Given}
-use Rattle.yaml_parse_grammar.specs.Stacks.{IsInner}
-use Rattle.yaml_parse_grammar.specs.Resolve.{Directives, Settled, refused, gave, noted, settle, settle_body, resolved, directive_for, with_resolved, with_tag, with_version, is_known_version, node_event, Told, Reading, read_on, reading}
-use Rattle.yaml_parse_grammar.specs.Machine.{choice_at, tag_at, taken_at, documents_taken, content_taken, node_taken, with_properties_taken, items_taken, more_taken, stream_taken, entries_taken, pairs_taken, left_at, Stands, Fed, stop, go, with_item, given_by, turn, feed, Outcome, finished, carry, run}
+use Rattle.yaml_parse_grammar.specs.Resolve.{Told, Reading}
+use Rattle.yaml_parse_grammar.specs.Machine.{tag_at}
 
 -- ---- what is taken
 
@@ -84,36 +70,6 @@ node_is : (A : Option (List ℕ) → Type 0) (G : Option Tag → Type 0) (P : Ra
 node_is A G P None s start end h f = f None None h.0 h.1
 node_is A G P (Some p) s start end h f = f p.anchor p.tag h.0 h.1
 
-content_are : {T : TokenBody → Type 0} {A : Option (List ℕ) → Type 0} {G : Option Tag → Type 0}
-    {P : RawEventBody → Type 0} {Q : State → Type 0} (r : Inner T A G P Q) (w : Wants)
-    (p : Option Properties) (start end : yaml_mark_t) (b : TokenBody) → AreOf A G p → T b
-    → AreTaken P Q (content_taken w p start end b)
-content_are {A = A} {G = G} {P = P} r w p start end (token.scalar v style) h t = (node_is A G P p _ start end h (λ a g k l. r.scalar a g v style k l t), tt)
-content_are {A = A} {G = G} {P = P} r w p start end token.flow_sequence_start h t = (node_is A G P p _ start end h (λ a g. r.sequence a g _), (r.states _ tt, tt))
-content_are {A = A} {G = G} {P = P} r w p start end token.flow_mapping_start h t = (node_is A G P p _ start end h (λ a g. r.mapping a g _), (r.states _ tt, tt))
-content_are {A = A} {G = G} {P = P} r w p start end token.block_sequence_start h t = (node_is A G P p _ start end h (λ a g. r.sequence a g _), (r.states _ tt, tt))
-content_are {A = A} {G = G} {P = P} r w p start end token.block_mapping_start h t = (node_is A G P p _ start end h (λ a g. r.mapping a g _), (r.states _ tt, tt))
-content_are {A = A} {G = G} {P = P} r (Block (Some side)) p start end token.block_entry h t = (node_is A G P p _ start end h (λ a g. r.sequence a g _), (r.states _ tt, (r.states _ tt, tt)))
-content_are r (Block None) p start end token.block_entry h t = (tt, (r.states _ tt, tt))
-content_are r Flow p start end token.block_entry h t = (tt, (r.states _ tt, tt))
-content_are r w p start end _ h t = (tt, (r.states _ tt, tt))
-
-node_are : {T : TokenBody → Type 0} {A : Option (List ℕ) → Type 0} {G : Option Tag → Type 0}
-    {P : RawEventBody → Type 0} {Q : State → Type 0} (r : Inner T A G P Q) (w : Wants)
-    (start end : yaml_mark_t) (b : TokenBody) → T b → AreTaken P Q (node_taken w start end b)
-node_are r w start end (token.alias name) t = (r.alias name t, tt)
-node_are r w start end (token.anchor name) t = (tt, (r.properties w _ (r.anchor name t) r.untagged, tt))
-node_are r w start end (token.tag handle suffix) t = (tt, (r.properties w _ r.unnamed (r.tag handle suffix start t), tt))
-node_are r w start end b t = content_are r w None start end b (r.unnamed, r.untagged) t
-
-beside_are : {T : TokenBody → Type 0} {A : Option (List ℕ) → Type 0} {G : Option Tag → Type 0}
-    {P : RawEventBody → Type 0} {Q : State → Type 0} (r : Inner T A G P Q) (w : Wants)
-    (p : Properties) (start end : yaml_mark_t) (b : TokenBody) → A p.anchor × G p.tag → T b
-    → AreTaken P Q (with_properties_taken w p start end b)
-beside_are r w p start end (token.anchor name) h t = (tt, (r.properties w _ (r.anchor name t) h.1, tt))
-beside_are r w p start end (token.tag handle suffix) h t = (tt, (r.properties w _ h.0 (r.tag handle suffix start t), tt))
-beside_are r w p start end b h t = content_are r w (Some p) start end b h t
-
 on_others : (P : RawEventBody → Type 0) (Q : State → Type 0) (i : Option RawEvent)
     (xs ys : List State) → AreTaken P Q (record { item = i; above = xs }) → AllAre Q ys
     → AreTaken P Q (record { item = i; above = xs ++ ys })
@@ -121,52 +77,57 @@ on_others P Q None [] ys h k = absurd h.0
 on_others P Q None (x ∷ xs) ys h k = (tt, all_over Q (x ∷ xs) ys h.1 k)
 on_others P Q (Some i) xs ys h k = (h.0, all_over Q xs ys h.1 k)
 
-items_are : {T : TokenBody → Type 0} {A : Option (List ℕ) → Type 0} {G : Option Tag → Type 0}
-    {P : RawEventBody → Type 0} {Q : State → Type 0} (r : Inner T A G P Q) (b : Brackets)
-    (o start end : yaml_mark_t) (x : TokenBody) → T x → AreTaken P Q (items_taken b o start end x)
-items_are r brackets.Sequence o start end token.key t = (r.mapping None None _ r.unnamed r.untagged, (r.states _ tt, (r.states _ tt, (r.states _ tt, (r.states _ tt, tt)))))
-items_are r brackets.Mapping o start end token.key t = (tt, (r.states _ tt, (r.states _ tt, (r.states _ tt, tt))))
-items_are r brackets.Sequence o start end token.flow_sequence_end t = (r.sequence_end, tt)
-items_are r brackets.Mapping o start end token.flow_sequence_end t = (r.mapping_end, tt)
-items_are r brackets.Sequence o start end token.flow_mapping_end t = (r.sequence_end, tt)
-items_are r brackets.Mapping o start end token.flow_mapping_end t = (r.mapping_end, tt)
-items_are {P = P} {Q = Q} r brackets.Sequence o start end x t = on_others P Q (node_taken Flow start end x).item (node_taken Flow start end x).above (state.more brackets.Sequence o ∷ []) (node_are r Flow start end x t) (r.states _ tt, tt)
-items_are {P = P} {Q = Q} r brackets.Mapping o start end x t = on_others P Q (node_taken Flow start end x).item (node_taken Flow start end x).above (state.lone ∷ state.more brackets.Mapping o ∷ []) (node_are r Flow start end x t) (r.states _ tt, (r.states _ tt, tt))
+module _ {T : TokenBody → Type 0} {A : Option (List ℕ) → Type 0} {G : Option Tag → Type 0} {P : RawEventBody → Type 0}
+    {Q : State → Type 0} (r : Inner T A G P Q) where
+  content_are : (w : Wants) (p : Option Properties) (start end : yaml_mark_t) (b : TokenBody)
+      → AreOf A G p → T b → AreTaken P Q (content_taken w p start end b)
+  content_are w p start end (token.scalar v style) h t = (node_is A G P p _ start end h (λ a g k l. r.scalar a g v style k l t), tt)
+  content_are w p start end token.flow_sequence_start h t = (node_is A G P p _ start end h (λ a g. r.sequence a g _), (r.states _ tt, tt))
+  content_are w p start end token.flow_mapping_start h t = (node_is A G P p _ start end h (λ a g. r.mapping a g _), (r.states _ tt, tt))
+  content_are w p start end token.block_sequence_start h t = (node_is A G P p _ start end h (λ a g. r.sequence a g _), (r.states _ tt, tt))
+  content_are w p start end token.block_mapping_start h t = (node_is A G P p _ start end h (λ a g. r.mapping a g _), (r.states _ tt, tt))
+  content_are (Block (Some side)) p start end token.block_entry h t = (node_is A G P p _ start end h (λ a g. r.sequence a g _), (r.states _ tt, (r.states _ tt, tt)))
+  content_are (Block None) p start end token.block_entry h t = (tt, (r.states _ tt, tt))
+  content_are Flow p start end token.block_entry h t = (tt, (r.states _ tt, tt))
+  content_are w p start end _ h t = (tt, (r.states _ tt, tt))
 
-more_are : {T : TokenBody → Type 0} {A : Option (List ℕ) → Type 0} {G : Option Tag → Type 0}
-    {P : RawEventBody → Type 0} {Q : State → Type 0} (r : Inner T A G P Q) (b : Brackets)
-    (o start end : yaml_mark_t) (x : TokenBody) → AreTaken P Q (more_taken b o start end x)
-more_are r b o start end token.flow_entry = (tt, (r.states _ tt, tt))
-more_are r brackets.Sequence o start end _ = (r.sequence_end, tt)
-more_are r brackets.Mapping o start end _ = (r.mapping_end, tt)
+  node_are : (w : Wants) (start end : yaml_mark_t) (b : TokenBody) → T b
+      → AreTaken P Q (node_taken w start end b)
+  node_are w start end (token.alias name) t = (r.alias name t, tt)
+  node_are w start end (token.anchor name) t = (tt, (r.properties w _ (r.anchor name t) r.untagged, tt))
+  node_are w start end (token.tag handle suffix) t = (tt, (r.properties w _ r.unnamed (r.tag handle suffix start t), tt))
+  node_are w start end b t = content_are w None start end b (r.unnamed, r.untagged) t
 
-entries_are : {T : TokenBody → Type 0} {A : Option (List ℕ) → Type 0} {G : Option Tag → Type 0}
-    {P : RawEventBody → Type 0} {Q : State → Type 0} (r : Inner T A G P Q)
-    (o start end : yaml_mark_t) (x : TokenBody) → AreTaken P Q (entries_taken o start end x)
-entries_are r o start end token.block_entry = (tt, (r.states _ tt, (r.states _ tt, tt)))
-entries_are r o start end _ = (r.sequence_end, tt)
+  inner_are_by : (x : State) (start end : yaml_mark_t) (b : TokenBody) → IsInner x → Q x → T b
+      → AreTaken P Q (taken_at x (record { body = b; start_mark = start; end_mark = end }))
+  inner_are_by (state.optional place before) start end b i q h = node_are _ start end b h
+  inner_are_by (state.entries o) start end token.block_entry i q h = (tt, (r.states _ tt, (r.states _ tt, tt)))
+  inner_are_by (state.entries o) start end _ i q h = (r.sequence_end, tt)
+  inner_are_by (state.others side) start end b i q h = (tt, (r.states _ tt, (r.states _ tt, tt)))
+  inner_are_by (state.pairs o) start end token.key i q h = (tt, (r.states _ tt, (r.states _ tt, (r.states _ tt, tt))))
+  inner_are_by (state.pairs o) start end _ i q h = (r.mapping_end, tt)
+  inner_are_by (state.colon place) start end b i q h = (tt, (r.states _ tt, tt))
+  inner_are_by (state.with_properties w p) start end (token.anchor name) i q h = (tt, (r.properties w _ (r.anchor name h) (r.held w p q).1, tt))
+  inner_are_by (state.with_properties w p) start end (token.tag handle suffix) i q h = (tt, (r.properties w _ (r.held w p q).0 (r.tag handle suffix start h), tt))
+  inner_are_by (state.with_properties w p) start end b i q h = content_are w (Some p) start end b (r.held w p q) h
+  inner_are_by (state.items brackets.Sequence o) start end token.key i q h = (r.mapping None None _ r.unnamed r.untagged, (r.states _ tt, (r.states _ tt, (r.states _ tt, (r.states _ tt, tt)))))
+  inner_are_by (state.items brackets.Mapping o) start end token.key i q h = (tt, (r.states _ tt, (r.states _ tt, (r.states _ tt, tt))))
+  inner_are_by (state.items brackets.Sequence o) start end token.flow_sequence_end i q h = (r.sequence_end, tt)
+  inner_are_by (state.items brackets.Mapping o) start end token.flow_sequence_end i q h = (r.mapping_end, tt)
+  inner_are_by (state.items brackets.Sequence o) start end token.flow_mapping_end i q h = (r.sequence_end, tt)
+  inner_are_by (state.items brackets.Mapping o) start end token.flow_mapping_end i q h = (r.mapping_end, tt)
+  inner_are_by (state.items brackets.Sequence o) start end b i q h = on_others P Q (node_taken Flow start end b).item (node_taken Flow start end b).above (state.more brackets.Sequence o ∷ []) (node_are Flow start end b h) (r.states _ tt, tt)
+  inner_are_by (state.items brackets.Mapping o) start end b i q h = on_others P Q (node_taken Flow start end b).item (node_taken Flow start end b).above (state.lone ∷ state.more brackets.Mapping o ∷ []) (node_are Flow start end b h) (r.states _ tt, (r.states _ tt, tt))
+  inner_are_by (state.more b o) start end token.flow_entry i q h = (tt, (r.states _ tt, tt))
+  inner_are_by (state.more brackets.Sequence o) start end _ i q h = (r.sequence_end, tt)
+  inner_are_by (state.more brackets.Mapping o) start end _ i q h = (r.mapping_end, tt)
+  inner_are_by state.pair_end start end b i q h = (tt, (r.states _ tt, tt))
+  inner_are_by state.lone start end b i q h = (tt, (r.states _ tt, tt))
+  inner_are_by _ start end b i q h = absurd i
 
-pairs_are : {T : TokenBody → Type 0} {A : Option (List ℕ) → Type 0} {G : Option Tag → Type 0}
-    {P : RawEventBody → Type 0} {Q : State → Type 0} (r : Inner T A G P Q)
-    (o start end : yaml_mark_t) (x : TokenBody) → AreTaken P Q (pairs_taken o start end x)
-pairs_are r o start end token.key = (tt, (r.states _ tt, (r.states _ tt, (r.states _ tt, tt))))
-pairs_are r o start end _ = (r.mapping_end, tt)
-
--- Within a document what is taken is as the rules say.
-pub inner_are : {T : TokenBody → Type 0} {A : Option (List ℕ) → Type 0} {G : Option Tag → Type 0}
-    {P : RawEventBody → Type 0} {Q : State → Type 0} (r : Inner T A G P Q) (x : State) (t : Token)
-    → IsInner x → Q x → T t.body → AreTaken P Q (taken_at x t)
-inner_are r (state.optional place before) t i q h = node_are r _ t.start_mark t.end_mark t.body h
-inner_are r (state.entries o) t i q h = entries_are r o t.start_mark t.end_mark t.body
-inner_are r (state.others side) t i q h = (tt, (r.states _ tt, (r.states _ tt, tt)))
-inner_are r (state.pairs o) t i q h = pairs_are r o t.start_mark t.end_mark t.body
-inner_are r (state.colon place) t i q h = (tt, (r.states _ tt, tt))
-inner_are r (state.with_properties w p) t i q h = beside_are r w p t.start_mark t.end_mark t.body (r.held w p q) h
-inner_are r (state.items b o) t i q h = items_are r b o t.start_mark t.end_mark t.body h
-inner_are r (state.more b o) t i q h = more_are r b o t.start_mark t.end_mark t.body
-inner_are r state.pair_end t i q h = (tt, (r.states _ tt, tt))
-inner_are r state.lone t i q h = (tt, (r.states _ tt, tt))
-inner_are r _ t i q h = absurd i
+  -- Within a document what is taken is as the rules say.
+  pub inner_are : (x : State) (t : Token) → IsInner x → Q x → T t.body → AreTaken P Q (taken_at x t)
+  inner_are x t i q h = inner_are_by x t.start_mark t.end_mark t.body i q h
 
 -- ---- over all tokens
 
@@ -193,44 +154,6 @@ pub record Outer (T : TokenBody → Type 0) (A : Option (List ℕ) → Type 0) (
   pub document_end : (implicit : Bool) → P (item.event (event.document_end implicit))
   pub outer : (x : State) → IsTextless x → Q x
   pub none : T no_token.body
-
-stream_are : {T : TokenBody → Type 0} {A : Option (List ℕ) → Type 0} {G : Option Tag → Type 0}
-    {P : RawEventBody → Type 0} {Q : State → Type 0} (r : Outer T A G P Q) (start end : yaml_mark_t)
-    (b : TokenBody) → AreTaken P Q (stream_taken start end b)
-stream_are r start end (token.stream_start encoding) = (r.start encoding, (r.outer _ tt, tt))
-stream_are r start end _ = (tt, (r.outer _ tt, tt))
-
-documents_are : {T : TokenBody → Type 0} {A : Option (List ℕ) → Type 0} {G : Option Tag → Type 0}
-    {P : RawEventBody → Type 0} {Q : State → Type 0} (r : Outer T A G P Q)
-    (from start end : yaml_mark_t) (b : TokenBody) → T b
-    → AreTaken P Q (documents_taken from start end b)
-documents_are r from start end (token.version_directive major minor) t = (r.version major minor, (r.outer _ tt, tt))
-documents_are r from start end (token.tag_directive handle prefix) t = (r.handle handle prefix t, (r.outer _ tt, tt))
-documents_are r from start end token.document_start t = (r.document false, (r.outer _ tt, (r.outer _ tt, (r.outer _ tt, tt))))
-documents_are r from start end token.stream_end t = (r.end, tt)
-documents_are r from start end _ t = (tt, (r.outer _ tt, tt))
-
--- What a state takes is as the rules say.
-pub taken_are : {T : TokenBody → Type 0} {A : Option (List ℕ) → Type 0} {G : Option Tag → Type 0}
-    {P : RawEventBody → Type 0} {Q : State → Type 0} (r : Outer T A G P Q) (x : State) (t : Token)
-    → Q x → T t.body → AreTaken P Q (taken_at x t)
-taken_are r state.stream t q h = stream_are r t.start_mark t.end_mark t.body
-taken_are r state.first t q h = documents_are r t.start_mark t.start_mark t.end_mark t.body h
-taken_are r state.documents t q h = documents_are r t.start_mark t.start_mark t.end_mark t.body h
-taken_are r (state.directives from) t q h = documents_are r from t.start_mark t.end_mark t.body h
-taken_are r state.document_end t q h = (r.document_end false, tt)
-taken_are r x t q h = inner_are r.inner x t tt q h
-
--- So is what it gives where it leaves.
-pub left_are : {T : TokenBody → Type 0} {A : Option (List ℕ) → Type 0} {G : Option Tag → Type 0}
-    {P : RawEventBody → Type 0} {Q : State → Type 0} (r : Outer T A G P Q) (x : State)
-    (start : yaml_mark_t) → Q x → P (left_at x start).body
-left_are r state.document_end start q = r.document_end true
-left_are r (state.others side) start q = r.inner.sequence_end
-left_are r (state.with_properties w p) start q =
-    let (a, g) = r.inner.held w p q in r.empty p.anchor p.tag a g
-left_are r state.pair_end start q = r.inner.mapping_end
-left_are r _ start q = r.empty None None r.inner.unnamed r.inner.untagged
 
 -- all items of a list
 abbrev pub AllGive : (RawEventBody → Type 0) → List RawEvent → Type 0
@@ -261,26 +184,6 @@ fed_by : (P : RawEventBody → Type 0) (Q : State → Type 0) (i : Option RawEve
 fed_by P Q None above s h k = (tt, all_over Q above s h.1 k)
 fed_by P Q (Some i) above s h k = ((h.0, tt), all_over Q above s h.1 k)
 
-turn_are : {T : TokenBody → Type 0} {A : Option (List ℕ) → Type 0} {G : Option Tag → Type 0}
-    {P : RawEventBody → Type 0} {Q : State → Type 0} (r : Outer T A G P Q) (c : Choice) (x : State)
-    (t : Token) (s : List State) (below : Fed) → T t.body → AllAre Q (x ∷ s) → FedAre P Q below
-    → FedAre P Q (turn c x t s below)
-turn_are r (Refuse p o) x t s below h q k = tt
-turn_are {P = P} {Q = Q} r Take x t s below h q k = fed_by P Q (taken_at x t).item (taken_at x t).above s (taken_are r x t q.0 h) q.1
-turn_are {P = P} {Q = Q} r Leave x t s below h q k = fed_with P Q (left_at x t.start_mark) below (left_are r x t.start_mark q.0) k
-turn_are {P = P} {Q = Q} r Open x t s below h q k =
-    let start = state.optional Root t.start_mark in
-    let rest = state.document_end ∷ state.documents ∷ s in
-    fed_with P Q (item.item_at (item.document true) t.start_mark t.start_mark) (given_by (taken_at start t) rest) (r.document true)
-    (fed_by P Q (taken_at start t).item (taken_at start t).above rest (taken_are r start t (r.outer start tt) h) (r.outer _ tt, (r.outer _ tt, q.1)))
-
-pub feed_are : {T : TokenBody → Type 0} {A : Option (List ℕ) → Type 0} {G : Option Tag → Type 0}
-    {P : RawEventBody → Type 0} {Q : State → Type 0} (r : Outer T A G P Q) (s : List State)
-    (t : Token) → T t.body → AllAre Q s → FedAre P Q (feed s t)
-unfolding feed
-feed_are r [] t h q = (tt, tt)
-feed_are r (x ∷ s) t h q = turn_are r (choice_at x (type_of t.body)) x t s (feed s t) h q (feed_are r s t h q.1)
-
 given_over : (P : RawEventBody → Type 0) (left : ℕ) (is : List RawEvent) (more : List Given)
     → AllGive P is → GivenAre P more
     → GivenAre P (map (λ (i : RawEvent). (i, left)) is ++ more)
@@ -299,16 +202,64 @@ carried_are : (P : RawEventBody → Type 0) (Q : State → Type 0) (left : ℕ) 
 carried_are P Q left (stop is f) k h more = given_alone P left is h
 carried_are P Q left (go is s) k h more = given_over P left is (k s).items h.0 (more s h.1)
 
--- All items of a list of tokens are as the rules say.
-pub run_are : {T : TokenBody → Type 0} {A : Option (List ℕ) → Type 0} {G : Option Tag → Type 0}
-    {P : RawEventBody → Type 0} {Q : State → Type 0} (r : Outer T A G P Q) (ts : List Token)
-    (s : List State) (f : Option Fault) → Each T ts → AllAre Q s → GivenAre P (run ts s f).items
-unfolding run
-run_are r [] [] (Some e) h q = tt
-run_are r [] (x ∷ s) (Some e) h q = tt
-run_are {P = P} {Q = Q} r [] s None h q = carried_are P Q 0 (feed s no_token) (λ _. finished) (feed_are r s no_token r.none q) (λ s' q'. tt)
-run_are {P = P} {Q = Q} r (t ∷ ts) s f h q =
-    carried_are P Q (length ts) (feed s t) (λ s'. run ts s' f) (feed_are r s t h.0 q) (λ s' q'. run_are r ts s' f h.1 q')
+module _ {T : TokenBody → Type 0} {A : Option (List ℕ) → Type 0} {G : Option Tag → Type 0} {P : RawEventBody → Type 0}
+    {Q : State → Type 0} (r : Outer T A G P Q) where
+  documents_are : (from start end : yaml_mark_t) (b : TokenBody) → T b
+      → AreTaken P Q (documents_taken from start end b)
+  documents_are from start end (token.version_directive major minor) t = (r.version major minor, (r.outer _ tt, tt))
+  documents_are from start end (token.tag_directive handle prefix) t = (r.handle handle prefix t, (r.outer _ tt, tt))
+  documents_are from start end token.document_start t = (r.document false, (r.outer _ tt, (r.outer _ tt, (r.outer _ tt, tt))))
+  documents_are from start end token.stream_end t = (r.end, tt)
+  documents_are from start end _ t = (tt, (r.outer _ tt, tt))
+
+  taken_are_by : (x : State) (start end : yaml_mark_t) (b : TokenBody) → Q x → T b
+      → AreTaken P Q (taken_at x (record { body = b; start_mark = start; end_mark = end }))
+  taken_are_by state.stream start end (token.stream_start encoding) q h = (r.start encoding, (r.outer _ tt, tt))
+  taken_are_by state.stream start end _ q h = (tt, (r.outer _ tt, tt))
+  taken_are_by state.first start end b q h = documents_are start start end b h
+  taken_are_by state.documents start end b q h = documents_are start start end b h
+  taken_are_by (state.directives from) start end b q h = documents_are from start end b h
+  taken_are_by state.document_end start end b q h = (r.document_end false, tt)
+  taken_are_by x start end b q h = inner_are r.inner x (record { body = b; start_mark = start; end_mark = end }) tt q h
+
+  -- What a state takes is as the rules say.
+  pub taken_are : (x : State) (t : Token) → Q x → T t.body → AreTaken P Q (taken_at x t)
+  taken_are x t q h = taken_are_by x t.start_mark t.end_mark t.body q h
+
+  -- So is what it gives where it leaves.
+  pub left_are : (x : State) (start : yaml_mark_t) → Q x → P (left_at x start).body
+  left_are state.document_end start q = r.document_end true
+  left_are (state.others side) start q = r.inner.sequence_end
+  left_are (state.with_properties w p) start q =
+      let (a, g) = r.inner.held w p q in r.empty p.anchor p.tag a g
+  left_are state.pair_end start q = r.inner.mapping_end
+  left_are _ start q = r.empty None None r.inner.unnamed r.inner.untagged
+
+  turn_are : (c : Choice) (x : State) (t : Token) (s : List State) (below : Fed) → T t.body
+      → AllAre Q (x ∷ s) → FedAre P Q below → FedAre P Q (turn c x t s below)
+  turn_are (Refuse p o) x t s below h q k = tt
+  turn_are Take x t s below h q k = fed_by P Q (taken_at x t).item (taken_at x t).above s (taken_are x t q.0 h) q.1
+  turn_are Leave x t s below h q k = fed_with P Q (left_at x t.start_mark) below (left_are x t.start_mark q.0) k
+  turn_are Open x t s below h q k =
+      let start = state.optional Root t.start_mark in
+      let rest = state.document_end ∷ state.documents ∷ s in
+      fed_with P Q (item.item_at (item.document true) t.start_mark t.start_mark) (given_by (taken_at start t) rest) (r.document true)
+      (fed_by P Q (taken_at start t).item (taken_at start t).above rest (taken_are start t (r.outer start tt) h) (r.outer _ tt, (r.outer _ tt, q.1)))
+
+  pub feed_are : (s : List State) (t : Token) → T t.body → AllAre Q s → FedAre P Q (feed s t)
+  unfolding feed
+  feed_are [] t h q = (tt, tt)
+  feed_are (x ∷ s) t h q = turn_are (choice_at x (type_of t.body)) x t s (feed s t) h q (feed_are s t h q.1)
+
+  -- All items of a list of tokens are as the rules say.
+  pub run_are : (ts : List Token) (s : List State) (f : Option Fault) → Each T ts → AllAre Q s
+      → GivenAre P (run ts s f).items
+  unfolding run
+  run_are [] [] (Some e) h q = tt
+  run_are [] (x ∷ s) (Some e) h q = tt
+  run_are [] s None h q = carried_are P Q 0 (feed s no_token) (λ _. finished) (feed_are s no_token r.none q) (λ s' q'. tt)
+  run_are (t ∷ ts) s f h q =
+      carried_are P Q (length ts) (feed s t) (λ s'. run ts s' f) (feed_are s t h.0 q) (λ s' q'. run_are ts s' f h.1 q')
 
 -- ---- settled
 

@@ -2,20 +2,13 @@
 use Rattle.std.proofs.Common.{ℕ, ℤ, Bool, true, false, if◌then◌else◌, List, [], ◌∷◌, ◌++◌, Option, Some, None, option_map, IsUtf8, codes, refl}
 use Rattle.std.proofs.lemmas.Str.{IsUtf8-append, IsUtf8-nil}
 use Rattle.std.specs.Str.{bytes_eq}
-use Rattle.yaml_parse_model.specs.declared.yaml_mark_t.{yaml_mark_t}
-use Rattle.yaml_parse_model.specs.declared.yaml_scalar_style_t.{yaml_scalar_style_t}
-use Rattle.yaml_parse_model.specs.declared.yaml_version_directive_t.{yaml_version_directive_t}
-use Rattle.yaml_parse_model.specs.Tokens.{Token}
+use Rattle.yaml_parse_grammar.proofs.Words.{yaml_mark_t, yaml_scalar_style_t, yaml_version_directive_t, Token, EventBody, TagDirective, RawEvent, RawEventBody, Shape, State, taken_at, left_at, opened, Directives, Settled, refused, gave, noted, settle_body, resolved, directive_for, with_resolved, with_tag, with_version, is_known_version, node_event}
 use Rattle.yaml_parse_model.specs.Source as source
-use Rattle.yaml_parse_model.specs.Events.{EventBody, TagDirective}
 use Rattle.yaml_parse_model.specs.Events as event
 use Rattle.yaml_parse_model.specs.Constructors.{HasUtf8, IsUtf8Option, AreUtf8}
-use Rattle.yaml_parse_grammar.specs.Items.{RawEvent, RawEventBody, Shape}
 use Rattle.yaml_parse_grammar.specs.Items as item
-use Rattle.yaml_parse_grammar.specs.States.{State}
 use Rattle.yaml_parse_grammar.specs.States as state
-use Rattle.yaml_parse_grammar.specs.Machine.{taken_at, left_at, opened}
-use Rattle.yaml_parse_grammar.specs.Resolve.{Directives, Settled, refused, gave, noted, settle_body, resolved, directive_for, or_default, default_prefix, with_resolved, with_tag, with_version, is_known_version, behind_event, node_event, scalar_event}
+use Rattle.yaml_parse_grammar.specs.Resolve.{or_default, behind_event, scalar_event}
 use Rattle.yaml_parse_grammar.proofs.Throughout.{AllAre, AreTaken, IsTextless, bare_textless, Outer, taken_are, left_are}
 use Rattle.yaml_parse_grammar.specs.Texts.{IsUtf8Tag, IsUtf8Shape, IsUtf8Item, IsUtf8State, AreUtf8States, IsUtf8Token, IsUtf8Held}
 
@@ -107,9 +100,6 @@ core_is_utf8 : IsUtf8 (codes "tag:yaml.org,2002:")
 unfolding lib.Utf8.encode
 core_is_utf8 = (codes "tag:yaml.org,2002:", (refl, refl))
 
-default_utf8 : (handle : List ℕ) → IsUtf8Option (default_prefix handle)
-default_utf8 handle = either_prefix (bytes_eq handle (codes "!")) _ _ mark_is_utf8 (either_prefix (bytes_eq handle (codes "!!")) _ _ core_is_utf8 tt)
-
 directive_utf8 : (handle : List ℕ) (ds : List TagDirective) → AreUtf8 ds
     → IsUtf8Option (directive_for handle ds)
 unfolding directive_for
@@ -118,7 +108,7 @@ directive_utf8 handle (d ∷ ds) h = either_prefix (bytes_eq d.handle handle) (S
 
 prefix_utf8 : (o : Option (List ℕ)) (handle : List ℕ) → IsUtf8Option o
     → IsUtf8Option (or_default o handle)
-prefix_utf8 None handle h = default_utf8 handle
+prefix_utf8 None handle h = either_prefix (bytes_eq handle (codes "!")) _ _ mark_is_utf8 (either_prefix (bytes_eq handle (codes "!!")) _ _ core_is_utf8 tt)
 prefix_utf8 (Some p) handle h = h
 
 joined_utf8 : (o : Option (List ℕ)) (suffix : List ℕ) → IsUtf8Option o → IsUtf8 suffix

@@ -1,25 +1,13 @@
 -- A stack that isn't empty still has an event to give, or a fault.
 use Rattle.std.proofs.Common.{◌≡◌, ℕ, List, [], ◌∷◌, ◌++◌, length, map, Option, Some, None, refl}
-use Rattle.yaml_parse_model.specs.declared.yaml_mark_t.{yaml_mark_t}
+use Rattle.yaml_parse_grammar.proofs.Words.{yaml_mark_t, Token, TokenBody, type_of, no_token, Fault, Flow, Block, Root, Entry, IndentlessEntry, BlockPair, FlowPair, Choice, Refuse, Take, Leave, Open, RawEvent, RawEventBody, State, Given, choice_at, taken_at, documents_taken, stream_taken, left_at, Fed, stop, go, with_item, given_by, turn, feed, Stands, Outcome, finished, carry, run, IsInner, Directives, Settled, refused, gave, noted, settle, settle_body, reading, read_on, with_resolved, resolved}
 use Rattle.yaml_parse_model.specs.declared.yaml_token_type_t.TheVariants as kind
-use Rattle.yaml_parse_model.specs.Tokens.{Token, TokenBody, type_of, no_token}
 use Rattle.yaml_parse_model.specs.Tokens as token
-use Rattle.yaml_parse_model.specs.Faults.{Fault}
-use Rattle.yaml_parse_grammar.specs.declared.name.Wants.TheVariants.{Flow, Block}
 use Rattle.yaml_parse_grammar.specs.declared.name.Brackets.TheVariants as brackets
-use Rattle.yaml_parse_grammar.specs.declared.name.Site.TheVariants.{Root, Entry, IndentlessEntry, BlockPair, FlowPair}
-use Rattle.yaml_parse_grammar.specs.declared.name.Choice.{Choice}
-use Rattle.yaml_parse_grammar.specs.declared.name.Choice.TheVariants.{Refuse, Take, Leave, Open}
-use Rattle.yaml_parse_grammar.specs.Items.{RawEvent, RawEventBody}
 use Rattle.yaml_parse_grammar.specs.Items as item
-use Rattle.yaml_parse_grammar.specs.States.{State}
 use Rattle.yaml_parse_grammar.specs.States as state
-use Rattle.yaml_parse_grammar.specs.Trees.{Given}
-use Rattle.yaml_parse_grammar.specs.Machine.{choice_at, taken_at, documents_taken, stream_taken, left_at, Fed, stop, go, with_item, given_by, turn, feed, Stands, Outcome, finished, carry, run}
 use Rattle.yaml_parse_grammar.proofs.Standing.{IsWithin, inside_taken}
 use Rattle.yaml_parse_grammar.proofs.Throughout.{AreTaken}
-use Rattle.yaml_parse_grammar.specs.Stacks.{IsInner}
-use Rattle.yaml_parse_grammar.specs.Resolve.{Directives, Settled, refused, gave, noted, settle, settle_body, reading, read_on, with_resolved, resolved}
 
 -- the item is an event and no directive, or else the other fact holds
 abbrev pub Voiced : RawEventBody → Type 0 → Type 0

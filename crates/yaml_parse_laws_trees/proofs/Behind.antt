@@ -1,20 +1,13 @@
 -- What a stack gives at a token that it refuses: nothing where a node or a document must come, and else what it gives at an end.
 use Rattle.std.proofs.Common.{◌≡◌, ◌⊎◌, inl, inr, Bool, true, false, List, [], ◌∷◌, ◌++◌, Option, Some, None, refl, ap, sym, subst, ◌∙◌}
-use Rattle.yaml_parse_laws_trees.specs.parse_grammar.parse_model.declared.yaml_mark_t.{yaml_mark_t}
-use Rattle.yaml_parse_laws_trees.specs.parse_grammar.parse_model.declared.yaml_token_type_t.{yaml_token_type_t}
-use Rattle.yaml_parse_laws_trees.specs.parse_grammar.parse_model.Tokens.{Token, TokenBody, type_of}
+use Rattle.yaml_parse_laws_trees.proofs.Words.{yaml_mark_t, yaml_token_type_t, Token, TokenBody, type_of, Brackets, Choice, Refuse, Take, Leave, Open, RawEvent, State, choice_at, documents_taken, taken_at, left_at, Fed, stop, go, with_item, given_by, turn, feed, is_end, last_leaves_open}
 use Rattle.yaml_parse_laws_trees.specs.parse_grammar.parse_model.Tokens as token
-use Rattle.yaml_parse_laws_trees.specs.parse_grammar.declared.name.Brackets.{Brackets}
-use Rattle.yaml_parse_laws_trees.specs.parse_grammar.declared.name.Choice.{Choice}
-use Rattle.yaml_parse_laws_trees.specs.parse_grammar.declared.name.Choice.TheVariants.{Refuse, Take, Leave, Open}
-use Rattle.yaml_parse_laws_trees.specs.parse_grammar.Items.{RawEvent}
-use Rattle.yaml_parse_laws_trees.specs.parse_grammar.States.{State}
 use Rattle.yaml_parse_laws_trees.specs.parse_grammar.States as state
-use Rattle.yaml_parse_laws_trees.specs.parse_grammar.Machine.{choice_at, documents_taken, entries_taken, pairs_taken, more_taken, taken_at, left_at, Fed, stop, go, with_item, given_by, turn, feed}
+use Rattle.yaml_parse_laws_trees.specs.parse_grammar.Machine.{entries_taken, pairs_taken, more_taken}
 use Rattle.yaml_parse_laws_trees.proofs.SoundStanding.{Goes, Closed, Stood}
 use Rattle.yaml_parse_laws_trees.proofs.Closing.{IsLight, light_leaves}
 use Rattle.yaml_parse_laws_trees.proofs.FaultsStanding.{Last, nothing, asking, property, directive, other, last_of, told, Plain}
-use Rattle.yaml_parse_laws_trees.specs.Given.{is_end, leaves_open, last_leaves_open}
+use Rattle.yaml_parse_laws_trees.specs.Given.{leaves_open}
 use Rattle.yaml_parse_laws_trees.proofs.Walking.{last_behind}
 use Rattle.yaml_parse_grammar.proofs.Rules.{MayLeave, leave_rule, refuse_rule, opens_first, was_take}
 use Rattle.std.proofs.lemmas.Bool.{false≢true, true≢false}
@@ -160,14 +153,10 @@ light_or_heavy state.pair_end h = inl (λ r. r)
 light_or_heavy state.lone h = inl (λ r. r)
 light_or_heavy _ h = absurd (true≢false h)
 
-one_more : (i j : RawEvent) (is js : List RawEvent) → j ≡ i → OneMore is js
-    → OneMore (i ∷ is) (j ∷ js)
-one_more i j is js e h = record { last = h.last; same = ap (λ (z : RawEvent). z ∷ js) e ∙ ap (λ (z : List RawEvent). i ∷ z) h.same }
-
 alike_with : (i j : RawEvent) (a b : Fed) → j ≡ i → Alike a b
     → Alike (with_item i a) (with_item j b)
 alike_with i j (stop is e) (stop js f) p h = tt
-alike_with i j (stop is e) (go js s) p h = one_more i j is js p h
+alike_with i j (stop is e) (go js s) p h = record { last = h.last; same = ap (λ (z : RawEvent). z ∷ js) p ∙ ap (λ (z : List RawEvent). i ∷ z) h.same }
 alike_with i j (go is s) b p h = tt
 
 light_turn : (c : Choice) (x : State) (t u : Token) (s : List State) (a b : Fed) → IsLight x
@@ -208,14 +197,11 @@ sorted_turn : (x : State) (t u : Token) (s : List State) (a b : Fed) → IsLight
 sorted_turn x t u s a b (inl l) e m h = light_turn (choice_at x (type_of t.body)) x t u s a b l refl e m h
 sorted_turn x t u s a b (inr l) e m h = heavy_turn (choice_at x (type_of t.body)) x t u s a b l refl e
 
-plain_closed : (x : State) → told x ≡ other → open_behind (told x) ≡ false
-plain_closed x h = ap open_behind h
-
 plain_alike : (s : List State) (t u : Token) → Plain s → is_end u.body ≡ true
     → u.start_mark ≡ t.start_mark → Alike (feed s t) (feed s u)
 unfolding feed
 plain_alike [] t u p e m = tt
-plain_alike (x ∷ s) t u p e m = sorted_turn x t u s (feed s t) (feed s u) (light_or_heavy x (plain_closed x p.0)) e m (plain_alike s t u p.1 e m)
+plain_alike (x ∷ s) t u p e m = sorted_turn x t u s (feed s t) (feed s u) (light_or_heavy x (ap open_behind p.0)) e m (plain_alike s t u p.1 e m)
 
 pub feed_alike : (x : State) (s : List State) (t u : Token) → open_behind (told x) ≡ false → Plain s
     → is_end u.body ≡ true → u.start_mark ≡ t.start_mark → Alike (feed (x ∷ s) t) (feed (x ∷ s) u)

@@ -1,13 +1,8 @@
 -- Where no fault stands at the tokens that were read.
 use Rattle.std.proofs.Common.{◌≡◌, ◌⊎◌, inl, inr, ℕ, ◌<◌, ◌+◌, List, [], ◌∷◌, ◌++◌, length, Option, Some, None, refl, ap, sym, subst, ◌∙◌, arith}
 use Rattle.std.proofs.lemmas.Bool.{cases_order}
-use Rattle.yaml_parse_laws_trees.specs.parse_grammar.parse_model.Tokens.{Token}
-use Rattle.yaml_parse_laws_trees.specs.parse_grammar.parse_model.Faults.{Fault}
-use Rattle.yaml_parse_laws_trees.specs.parse_grammar.Trees.{Stream, spell}
-use Rattle.yaml_parse_laws_trees.specs.SoundLaws.{TreeGoesOn}
-use Rattle.yaml_parse_laws_trees.specs.LookBack.{followed_by}
-use Rattle.yaml_parse_laws_trees.specs.Wrong.{directive_fault, handle_fault}
-use Rattle.yaml_parse_laws_trees.specs.Places.{Rank, of_handle, of_token, FaultPlace, RanksBefore, ComesBefore, WrongToken, grammar, directive, FaultAt, StandsIn, IsOfLeastPlace, IsFree, BeginsWithSentence}
+use Rattle.yaml_parse_laws_trees.proofs.Words.{Token, Fault, Stream, spell, TreeGoesOn, followed_by, directive_fault, handle_fault, Rank, of_handle, of_token, ComesBefore, WrongToken, grammar, directive, FaultAt, StandsIn, IsOfLeastPlace, BeginsWithSentence}
+use Rattle.yaml_parse_laws_trees.specs.Places.{FaultPlace, RanksBefore, IsFree}
 use Rattle.yaml_parse_laws_trees.proofs.Cuts.{SameCut, same_cut, IsNoFront, Reaches, reaches, followed_length, head_same}
 
 abbrev pub NoFault : List Token → Token → Type 0

@@ -1,27 +1,14 @@
 -- Tokens that close all that is open. What is given at a refused token is given at these too.
 use Rattle.std.proofs.Common.{◌≡◌, true, List, [], ◌∷◌, None, refl, ap, subst, ◌∙◌}
-use Rattle.yaml_parse_laws_trees.specs.parse_grammar.parse_model.declared.yaml_mark_t.{yaml_mark_t}
-use Rattle.yaml_parse_laws_trees.specs.parse_grammar.parse_model.declared.yaml_encoding_t.TheVariants.{YAML_ANY_ENCODING}
-use Rattle.yaml_parse_laws_trees.specs.parse_grammar.parse_model.declared.yaml_token_type_t.{yaml_token_type_t}
-use Rattle.yaml_parse_laws_trees.specs.parse_grammar.parse_model.Tokens.{Token, TokenBody, type_of}
+use Rattle.yaml_parse_laws_trees.proofs.Words.{yaml_mark_t, YAML_ANY_ENCODING, yaml_token_type_t, Token, TokenBody, type_of, Site, Choice, Refuse, Take, Leave, Open, RawEvent, State, Span, closing, token_at, choice_at, left_at, Fed, stop, go, with_item, turn, feed, Outcome, run, bare, BeginsWithItems, is_end, EndsAt}
 use Rattle.yaml_parse_laws_trees.specs.parse_grammar.parse_model.Tokens as token
-use Rattle.yaml_parse_laws_trees.specs.parse_grammar.parse_model.Faults.{Fault}
 use Rattle.yaml_parse_laws_trees.specs.parse_grammar.declared.name.Brackets.TheVariants as brackets
-use Rattle.yaml_parse_laws_trees.specs.parse_grammar.declared.name.Site.{Site}
-use Rattle.yaml_parse_laws_trees.specs.parse_grammar.declared.name.Choice.{Choice}
-use Rattle.yaml_parse_laws_trees.specs.parse_grammar.declared.name.Choice.TheVariants.{Refuse, Take, Leave, Open}
-use Rattle.yaml_parse_laws_trees.specs.parse_grammar.Items.{RawEvent}
-use Rattle.yaml_parse_laws_trees.specs.parse_grammar.States.{State}
 use Rattle.yaml_parse_laws_trees.specs.parse_grammar.States as state
-use Rattle.yaml_parse_laws_trees.specs.parse_grammar.Trees.{Span, closing, token_at}
 use Rattle.yaml_parse_laws_trees.specs.parse_grammar.Trees as tree
-use Rattle.yaml_parse_laws_trees.specs.parse_grammar.Machine.{choice_at, left_at, Fed, stop, go, with_item, turn, feed, Outcome, run}
 use Rattle.yaml_parse_laws_trees.proofs.Complete.{leaves_at}
-use Rattle.yaml_parse_laws_trees.specs.SoundLaws.{bare, BeginsWithItems}
 use Rattle.yaml_parse_laws_trees.proofs.Left.{Left, Over, properties_alone}
 use Rattle.yaml_parse_laws_trees.proofs.SoundStanding.{Goes, Fits, Closed, Stood, AllStood}
 use Rattle.yaml_parse_grammar.proofs.Rules.{MayLeave, MayRefuse, leave_rule}
-use Rattle.yaml_parse_laws_trees.specs.Given.{is_end, EndsAt}
 use Rattle.std.proofs.lemmas.Bool.{false≢true}
 
 -- ---- tokens that close all that is open
@@ -171,15 +158,11 @@ not_fitting x s t c h n place before e =
     let h' : Stood (state.optional place before) s = subst (λ (y : State). Stood y s) e h in
     n (fitting place before s t c' h'.0)
 
-stopped : (s : List State) (t : Token) (is : List RawEvent) (f : Fault) → feed s t ≡ stop is f
-    → Goes (feed s t) → ⊥
-stopped s t is f p g = subst Goes p g
-
 leave_begins : (x : State) (t : Token) (s : List State) (below : Fed) → feed s t ≡ below
     → choice_at x (type_of t.body) ≡ Leave → Stood x s
     → StopBegins t.start_mark s below
     → StopBegins t.start_mark (x ∷ s) (with_item (left_at x t.start_mark) below)
-leave_begins x t s (stop is f) p c h b = left_begins x (type_of t.body) t.start_mark s is (leave_rule x (type_of t.body) c) h (not_fitting x s t c h (stopped s t is f p)) b
+leave_begins x t s (stop is f) p c h b = left_begins x (type_of t.body) t.start_mark s is (leave_rule x (type_of t.body) c) h (not_fitting x s t c h (λ g. subst Goes p g)) b
 leave_begins x t s (go is s') p c h b = tt
 
 turn_begins : (c : Choice) (x : State) (t : Token) (s : List State)

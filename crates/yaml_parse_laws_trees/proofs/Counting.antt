@@ -1,14 +1,7 @@
 -- Which items come with so many tokens unasked for, and what they mean.
 use Rattle.std.proofs.Common.{◌≡◌, ◌+◌, ◌-◌, ◌≤◌, ◌<◌, nat_le, ℕ, Bool, true, false, if◌then◌else◌, List, [], ◌∷◌, ◌++◌, length, Option, None, refl, ap, ◌∙◌, arith}
 use Rattle.std.proofs.lemmas.Bool.Decides.{nat_tests}
-use Rattle.yaml_parse_laws_trees.specs.parse_grammar.parse_model.Tokens.{Token, no_token}
-use Rattle.yaml_parse_laws_trees.specs.parse_grammar.parse_model.Faults.{Fault}
-use Rattle.yaml_parse_laws_trees.specs.parse_grammar.Items.{RawEvent}
-use Rattle.yaml_parse_laws_trees.specs.parse_grammar.States.{State}
-use Rattle.yaml_parse_laws_trees.specs.parse_grammar.Trees.{Given}
-use Rattle.yaml_parse_laws_trees.specs.parse_grammar.Machine.{Fed, stop, go, feed, Outcome, finished, carry, run}
-use Rattle.yaml_parse_laws_trees.specs.parse_grammar.Resolve.{Directives, Settled, refused, gave, noted, settle, Reading, Told, placed, read_on, reading}
-use Rattle.yaml_parse_laws_trees.specs.Given.{first_items, but_last, BeginsWith}
+use Rattle.yaml_parse_laws_trees.proofs.Words.{Token, no_token, Fault, RawEvent, State, Given, Fed, stop, go, feed, Outcome, finished, carry, run, Directives, Settled, refused, gave, noted, settle, Reading, Told, placed, read_on, reading, first_items, but_last, BeginsWith}
 use Rattle.yaml_parse_laws_trees.proofs.Walking.{raised, numbered}
 
 le_true : (n m : ℕ) → n ≤ m → nat_le n m ≡ true

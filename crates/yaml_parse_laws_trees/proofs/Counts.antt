@@ -1,26 +1,11 @@
 -- How many items come of a list of tokens.
 use Rattle.std.proofs.Common.{◌≡◌, ◌≤◌, ◌+◌, ◌*◌, ℕ, suc, true, List, [], ◌∷◌, ◌++◌, length, map, Option, Some, None, refl, ap, arith}
-use Rattle.yaml_parse_grammar.specs.parse_model.declared.yaml_mark_t.{yaml_mark_t}
-use Rattle.yaml_parse_grammar.specs.parse_model.declared.yaml_token_type_t.{yaml_token_type_t}
+use Rattle.yaml_parse_laws_trees.proofs.Words.{yaml_mark_t, yaml_token_type_t, Token, TokenBody, type_of, no_token, Fault, Wants, Flow, Block, Brackets, Root, Choice, Refuse, Take, Leave, Open, RawEvent, Properties, item_at, State, Taken, Given, choice_at, taken_at, documents_taken, content_taken, node_taken, with_properties_taken, lone_below, left_at, wants_of, Fed, stop, go, with_item, given_by, turn, feed, Outcome, finished, carry, ending_at, run, initial, Directives, Settled, refused, gave, noted, settle, Reading, read_on, reading, reading_of}
 use Rattle.yaml_parse_grammar.specs.parse_model.declared.yaml_token_type_t.TheVariants as kind
-use Rattle.yaml_parse_grammar.specs.parse_model.Tokens.{Token, TokenBody, type_of, no_token}
 use Rattle.yaml_parse_grammar.specs.parse_model.Tokens as token
-use Rattle.yaml_parse_grammar.specs.parse_model.Faults.{Fault}
-use Rattle.yaml_parse_grammar.specs.declared.name.Wants.{Wants}
-use Rattle.yaml_parse_grammar.specs.declared.name.Wants.TheVariants.{Flow, Block}
-use Rattle.yaml_parse_grammar.specs.declared.name.Brackets.{Brackets}
 use Rattle.yaml_parse_grammar.specs.declared.name.Brackets.TheVariants as brackets
-use Rattle.yaml_parse_grammar.specs.declared.name.Site.TheVariants.{Root}
-use Rattle.yaml_parse_grammar.specs.declared.name.Choice.{Choice}
-use Rattle.yaml_parse_grammar.specs.declared.name.Choice.TheVariants.{Refuse, Take, Leave, Open}
-use Rattle.yaml_parse_grammar.specs.Items.{RawEvent, Properties, item_at}
 use Rattle.yaml_parse_grammar.specs.Items as item
-use Rattle.yaml_parse_grammar.specs.States.{State, Taken}
 use Rattle.yaml_parse_grammar.specs.States as state
-use Rattle.yaml_parse_grammar.specs.Trees.{Given}
-use Rattle.yaml_parse_grammar.specs.Machine.{choice_at, taken_at, documents_taken, content_taken, node_taken, with_properties_taken, items_taken, more_taken, stream_taken, entries_taken, pairs_taken, lone_below, left_at, wants_of, Fed, stop, go, with_item, given_by, turn, feed, Outcome, finished, carry, ending_at, run, initial}
-use Rattle.yaml_parse_grammar.specs.Resolve.{Directives, Settled, refused, gave, noted, settle, Reading, read_on, reading}
-use Rattle.yaml_parse_grammar.specs.Remaining.{reading_of}
 use Rattle.yaml_parse_grammar.proofs.Voice.{takes_a_token}
 use Rattle.yaml_parse_grammar.proofs.Rules.{MayLeave, leave_rule, none_opens}
 
@@ -95,34 +80,6 @@ above_cost : (i : Option RawEvent) (xs ys : List State) (n m : ℕ) → count i 
     → all_owe ys ≤ m → count i + all_owe (xs ++ ys) ≤ n + m
 above_cost i xs ys n m h k = let e : all_owe (xs ++ ys) ≡ all_owe xs + all_owe ys = owe_over xs ys in omega arith
 
-items_cost : (b : Brackets) (o start end : yaml_mark_t) (x : TokenBody)
-    → cost (items_taken b o start end x) ≤ 4
-items_cost brackets.Sequence o start end token.key = omega arith
-items_cost brackets.Mapping o start end token.key = omega arith
-items_cost b o start end token.flow_sequence_end = omega arith
-items_cost b o start end token.flow_mapping_end = omega arith
-items_cost b o start end x =
-    let e : count (node_taken Flow start end x).item + all_owe ((node_taken Flow start end x).above ++ lone_below b (state.more b o ∷ [])) ≤ 1 + 1
-    = above_cost (node_taken Flow start end x).item (node_taken Flow start end x).above (lone_below b (state.more b o ∷ [])) 1 1 (node_cost Flow start end x) (lone_cost b o)
-    in omega arith
-
-more_cost : (b : Brackets) (o start end : yaml_mark_t) (x : TokenBody)
-    → cost (more_taken b o start end x) ≤ 4
-more_cost b o start end token.flow_entry = omega arith
-more_cost b o start end _ = omega arith
-
-entries_cost : (o start end : yaml_mark_t) (x : TokenBody) → cost (entries_taken o start end x) ≤ 4
-entries_cost o start end token.block_entry = omega arith
-entries_cost o start end _ = omega arith
-
-pairs_cost : (o start end : yaml_mark_t) (x : TokenBody) → cost (pairs_taken o start end x) ≤ 4
-pairs_cost o start end token.key = omega arith
-pairs_cost o start end _ = omega arith
-
-stream_cost : (start end : yaml_mark_t) (b : TokenBody) → cost (stream_taken start end b) ≤ 4
-stream_cost start end (token.stream_start e) = omega arith
-stream_cost start end _ = omega arith
-
 documents_cost : (from start end : yaml_mark_t) (b : TokenBody)
     → cost (documents_taken from start end b) ≤ 4
 documents_cost from start end (token.version_directive x y) = omega arith
@@ -134,18 +91,33 @@ documents_cost from start end _ = omega arith
 less : (a b : ℕ) → a ≤ 1 + b → b ≤ 2 → a ≤ 4
 less a b h k = omega arith
 
+taken_cost_by : (x : State) (start end : yaml_mark_t) (b : TokenBody)
+    → cost (taken_at x (record { body = b; start_mark = start; end_mark = end })) ≤ 4
+taken_cost_by state.stream start end (token.stream_start e) = omega arith
+taken_cost_by state.stream start end _ = omega arith
+taken_cost_by state.first start end b = documents_cost start start end b
+taken_cost_by state.documents start end b = documents_cost start start end b
+taken_cost_by (state.directives from) start end b = documents_cost from start end b
+taken_cost_by (state.optional place before) start end b = less _ _ (node_cost (wants_of place) start end b) (few_extra (wants_of place))
+taken_cost_by (state.entries o) start end token.block_entry = omega arith
+taken_cost_by (state.entries o) start end _ = omega arith
+taken_cost_by (state.pairs o) start end token.key = omega arith
+taken_cost_by (state.pairs o) start end _ = omega arith
+taken_cost_by (state.with_properties w q) start end b = less _ _ (with_properties_cost w q start end b) (few_extra w)
+taken_cost_by (state.items brackets.Sequence o) start end token.key = omega arith
+taken_cost_by (state.items brackets.Mapping o) start end token.key = omega arith
+taken_cost_by (state.items b o) start end token.flow_sequence_end = omega arith
+taken_cost_by (state.items b o) start end token.flow_mapping_end = omega arith
+taken_cost_by (state.items b o) start end b' =
+    let e : count (node_taken Flow start end b').item + all_owe ((node_taken Flow start end b').above ++ lone_below b (state.more b o ∷ [])) ≤ 1 + 1
+    = above_cost (node_taken Flow start end b').item (node_taken Flow start end b').above (lone_below b (state.more b o ∷ [])) 1 1 (node_cost Flow start end b') (lone_cost b o)
+    in omega arith
+taken_cost_by (state.more b o) start end token.flow_entry = omega arith
+taken_cost_by (state.more b o) start end _ = omega arith
+taken_cost_by _ start end b = omega arith
+
 taken_cost : (x : State) (t : Token) → cost (taken_at x t) ≤ 4
-taken_cost state.stream t = stream_cost t.start_mark t.end_mark t.body
-taken_cost state.first t = documents_cost t.start_mark t.start_mark t.end_mark t.body
-taken_cost state.documents t = documents_cost t.start_mark t.start_mark t.end_mark t.body
-taken_cost (state.directives from) t = documents_cost from t.start_mark t.end_mark t.body
-taken_cost (state.optional place before) t = less _ _ (node_cost (wants_of place) t.start_mark t.end_mark t.body) (few_extra (wants_of place))
-taken_cost (state.entries o) t = entries_cost o t.start_mark t.end_mark t.body
-taken_cost (state.pairs o) t = pairs_cost o t.start_mark t.end_mark t.body
-taken_cost (state.with_properties w q) t = less _ _ (with_properties_cost w q t.start_mark t.end_mark t.body) (few_extra w)
-taken_cost (state.items b o) t = items_cost b o t.start_mark t.end_mark t.body
-taken_cost (state.more b o) t = more_cost b o t.start_mark t.end_mark t.body
-taken_cost _ t = omega arith
+taken_cost x t = taken_cost_by x t.start_mark t.end_mark t.body
 
 -- ---- what is left owed
 

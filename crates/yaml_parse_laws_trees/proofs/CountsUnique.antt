@@ -1,21 +1,10 @@
 -- Two trees whose tokens begin alike are equal.
 use Rattle.std.proofs.Common.{◌≡◌, ℕ, ℤ, Bool, true, false, List, [], ◌∷◌, Option, Some, None, refl, ap, sym, subst, ◌∙◌}
-use Rattle.yaml_parse_grammar.specs.parse_model.declared.yaml_encoding_t.{yaml_encoding_t}
-use Rattle.yaml_parse_grammar.specs.parse_model.declared.yaml_scalar_style_t.{yaml_scalar_style_t}
-use Rattle.yaml_parse_grammar.specs.parse_model.declared.yaml_token_type_t.{yaml_token_type_t}
+use Rattle.yaml_parse_laws_trees.proofs.Words.{yaml_encoding_t, yaml_scalar_style_t, yaml_token_type_t, Token, type_of, Wants, Flow, Block, Side, Key, Value, Root, Entry, IndentlessEntry, BlockPair, FlowPair, Brackets, Span, token_at, PropertyTokens, spell_properties, closing, Node, Content, Maybe, Colon, Items, More, Entries, Others, Pairs, Directive, Documents, First, Stream, spell_node, spell_content, spell_maybe, spell_colon, spell_items, spell_more, spell_entries, spell_others, spell_pairs, spell_directives, spell_ends, spell_documents, spell_first, starts_node}
 use Rattle.yaml_parse_grammar.specs.parse_model.declared.yaml_token_type_t.TheVariants as kind
-use Rattle.yaml_parse_grammar.specs.parse_model.Tokens.{Token, type_of}
 use Rattle.yaml_parse_grammar.specs.parse_model.Tokens as token
-use Rattle.yaml_parse_grammar.specs.declared.name.Wants.{Wants}
-use Rattle.yaml_parse_grammar.specs.declared.name.Wants.TheVariants.{Flow, Block}
-use Rattle.yaml_parse_grammar.specs.declared.name.Side.{Side}
-use Rattle.yaml_parse_grammar.specs.declared.name.Side.TheVariants.{Key, Value}
-use Rattle.yaml_parse_grammar.specs.declared.name.Site.TheVariants.{Root, Entry, IndentlessEntry, BlockPair, FlowPair}
-use Rattle.yaml_parse_grammar.specs.declared.name.Brackets.{Brackets}
 use Rattle.yaml_parse_grammar.specs.declared.name.Brackets.TheVariants as brackets
-use Rattle.yaml_parse_grammar.specs.Trees.{Span, token_at, PropertyTokens, spell_properties, closing, Node, Content, Maybe, Colon, Items, More, Entries, Others, Pairs, Directive, Documents, First, Stream, spell_node, spell_content, spell_maybe, spell_colon, spell_items, spell_more, spell_entries, spell_others, spell_pairs, spell_directives, spell_ends, spell_documents, spell_first}
 use Rattle.yaml_parse_grammar.specs.Trees as tree
-use Rattle.yaml_parse_grammar.specs.Machine.{starts_node}
 use Rattle.yaml_parse_grammar.proofs.Complete.{Ends, Starts, node_starts, follows_ends, more_ends, colon_follows, entries_follow, pairs_follow, block_colon_follows, others_follow}
 use Rattle.yaml_parse_grammar.proofs.CompleteStream.{documents_follow, root_follows}
 use Rattle.yaml_parse_laws_trees.specs.CountsLaws.{TokensHaveOneTree}
@@ -55,10 +44,6 @@ node_sorted (tree.only_properties d) ts = properties_sorted d ts
 node_sorted (tree.with_properties d c) ts = properties_sorted d (spell_content c ts)
 node_sorted (tree.bare c) ts = content_sorted c ts
 
-node_sorts : {w : Wants} (m n : Node w) (x y : List Token) → spell_node m x ≡ spell_node n y
-    → node_sort m ≡ node_sort n
-node_sorts m n x y h = sym (node_sorted m x) ∙ ap (λ ts. sort_of (kind_of ts)) h ∙ node_sorted n y
-
 -- the first token of content, brackets of both kinds alike
 abbrev form_of : yaml_token_type_t → yaml_token_type_t
 form_of kind.YAML_FLOW_MAPPING_START_TOKEN = kind.YAML_FLOW_SEQUENCE_START_TOKEN
@@ -77,10 +62,6 @@ content_formed (tree.scalar p v style) ts = refl
 content_formed (tree.flow brackets.Sequence p i) ts = refl
 content_formed (tree.flow brackets.Mapping p i) ts = refl
 content_formed _ ts = refl
-
-content_forms : {w : Wants} (c d : Content w) (x y : List Token)
-    → spell_content c x ≡ spell_content d y → content_form c ≡ content_form d
-content_forms c d x y h = sym (content_formed c x) ∙ ap (λ ts. form_of (kind_of ts)) h ∙ content_formed d y
 
 -- a closing bracket, a node, or a pair
 abbrev part_of : yaml_token_type_t → Option Bool
@@ -111,10 +92,6 @@ items_parted brackets.Mapping (tree.end_items p) ts = refl
 items_parted b (tree.single n m) ts = started_part (spell_node n (spell_more b m ts)) (node_starts n (spell_more b m ts))
 items_parted b (tree.pair p k v m) ts = refl
 
-items_parts : (b : Brackets) (i j : Items) (x y : List Token)
-    → spell_items b i x ≡ spell_items b j y → items_part i ≡ items_part j
-items_parts b i j x y h = sym (items_parted b i x) ∙ ap (λ ts. part_of (kind_of ts)) h ∙ items_parted b j y
-
 -- ---- what follows a node ends it
 
 colon_ends : (b : Brackets) (v : Colon Flow) (m : More) (ts : List Token)
@@ -135,13 +112,6 @@ pairs_end side m ts = follows_ends (BlockPair side) _ (pairs_follow side m ts)
 colon_pairs_end : (v : Colon (Block (Some Value))) (m : Pairs) (ts : List Token)
     → Ends (Block (Some Key)) (spell_colon v (spell_pairs m ts))
 colon_pairs_end v m ts = follows_ends (BlockPair Key) _ (block_colon_follows v m ts)
-
-documents_end : (d : Documents) (ts : List Token) → Ends (Block None) (spell_documents d ts)
-documents_end d ts = follows_ends Root _ (documents_follow d ts)
-
-root_ends : (e : List Span) (d : Documents) (ts : List Token)
-    → Ends (Block None) (spell_ends e (spell_documents d ts))
-root_ends e d ts = follows_ends Root _ (root_follows e d ts)
 
 -- no VALUE comes first
 abbrev NoValue : List Token → Type 0
@@ -199,7 +169,7 @@ nodes_alike (tree.only_properties c) (tree.with_properties d n) x y h = tt
 nodes_alike (tree.with_properties c m) (tree.only_properties d) x y h = tt
 nodes_alike (tree.with_properties c m) (tree.with_properties d n) x y h = tt
 nodes_alike (tree.bare m) (tree.bare n) x y h = tt
-nodes_alike m n x y h = let s : node_sort m ≡ node_sort n = node_sorts m n x y h in cc
+nodes_alike m n x y h = let s : node_sort m ≡ node_sort n = sym (node_sorted m x) ∙ ap (λ ts. sort_of (kind_of ts)) h ∙ node_sorted n y in cc
 
 abbrev ContentsAlike : {w : Wants} → Content w → Content w → Type 0
 ContentsAlike (tree.scalar p v s) (tree.scalar q u r) = Unit {0}
@@ -216,7 +186,7 @@ contents_alike (tree.flow a p i) (tree.flow b q j) x y h = tt
 contents_alike (tree.block_sequence p m) (tree.block_sequence q n) x y h = tt
 contents_alike (tree.block_mapping p m) (tree.block_mapping q n) x y h = tt
 contents_alike (tree.indentless p m o) (tree.indentless q n u) x y h = tt
-contents_alike c d x y h = let s : content_form c ≡ content_form d = content_forms c d x y h in cc
+contents_alike c d x y h = let s : content_form c ≡ content_form d = sym (content_formed c x) ∙ ap (λ ts. form_of (kind_of ts)) h ∙ content_formed d y in cc
 
 brackets_apart : (p q : Span) (x y : List Token)
     → token_at token.flow_sequence_start p ∷ x ≡ token_at token.flow_mapping_start q ∷ y → ⊥
@@ -233,7 +203,7 @@ items_alike : (b : Brackets) (i j : Items) (x y : List Token)
 items_alike b (tree.end_items p) (tree.end_items q) x y h = tt
 items_alike b (tree.single m k) (tree.single n l) x y h = tt
 items_alike b (tree.pair p m v k) (tree.pair q n u l) x y h = tt
-items_alike b i j x y h = let s : items_part i ≡ items_part j = items_parts b i j x y h in cc
+items_alike b i j x y h = let s : items_part i ≡ items_part j = sym (items_parted b i x) ∙ ap (λ ts. part_of (kind_of ts)) h ∙ items_parted b j y in cc
 
 comma_apart : (b : Brackets) (p q : Span) (x y : List Token)
     → token_at (closing b) p ∷ x ≡ token_at token.flow_entry q ∷ y → ⊥
@@ -431,20 +401,15 @@ not_the_end [] p ts h = cc
 not_the_end (tree.version q major minor ∷ ds) p ts h = cc
 not_the_end (tree.handle q name prefix ∷ ds) p ts h = cc
 
-document_same : (ds es : List Directive) (p q : Span) (m n : Maybe (Block None)) (a b : List Span)
-    (c d : Documents)
-    → ds ≡ es → p ≡ q → m ≡ n → a ≡ b → c ≡ d → tree.document ds p m a c ≡ tree.document es q n b d
-document_same ds es p q m n a b c d e f g h i = ap (λ z. tree.document z p m a c) e ∙ four (tree.document es) p q m n a b c d f g h i
-
 documents_same : (c d : Documents) (x y : List Token) → spell_documents c x ≡ spell_documents d y
     → (c ≡ d) × (x ≡ y)
 documents_same (tree.end_stream p) (tree.end_stream q) x y h = (ap tree.end_stream (span_same _ _ p q x y h), rest_same _ _ x y h)
 documents_same (tree.document ds p m a c) (tree.document es q n b d) x y h =
     let r = directives_same ds es p q (spell_maybe m (spell_ends a (spell_documents c x))) (spell_maybe n (spell_ends b (spell_documents d y))) h in
-    let s = maybe_same m n (spell_ends a (spell_documents c x)) (spell_ends b (spell_documents d y)) (root_ends a c x) (root_ends b d y) r.2 in
+    let s = maybe_same m n (spell_ends a (spell_documents c x)) (spell_ends b (spell_documents d y)) (follows_ends Root _ (root_follows a c x)) (follows_ends Root _ (root_follows b d y)) r.2 in
     let t = ends_same a b c d x y s.1 in
     let u = documents_same c d x y t.1 in
-    (document_same ds es p q m n a b c d r.0 r.1 s.0 t.0 u.0, u.1)
+    ((ap (λ z. tree.document z p m a c) r.0 ∙ four (tree.document es) p q m n a b c d r.1 s.0 t.0 u.0), u.1)
 documents_same (tree.end_stream p) (tree.document es q n b d) x y h = absurd (not_the_end es q _ (ap kind_of (sym h)))
 documents_same (tree.document ds p m a c) (tree.end_stream q) x y h = absurd (not_the_end ds p _ (ap kind_of h))
 
@@ -453,11 +418,11 @@ first_same : (m n : First) (c d : Documents) (x y : List Token)
     → (m ≡ n) × (spell_documents c x ≡ spell_documents d y)
 first_same tree.no_first tree.no_first c d x y h = (refl, h)
 first_same (tree.first m a) (tree.first n b) c d x y h =
-    let r = node_same m n (spell_ends a (spell_documents c x)) (spell_ends b (spell_documents d y)) (root_ends a c x) (root_ends b d y) h in
+    let r = node_same m n (spell_ends a (spell_documents c x)) (spell_ends b (spell_documents d y)) (follows_ends Root _ (root_follows a c x)) (follows_ends Root _ (root_follows b d y)) h in
     let s = ends_same a b c d x y r.1 in
     (both tree.first m n a b r.0 s.0, s.1)
-first_same tree.no_first (tree.first n b) c d x y h = absurd (no_node n (spell_documents c x) _ (documents_end c x) h)
-first_same (tree.first m a) tree.no_first c d x y h = absurd (no_node m (spell_documents d y) _ (documents_end d y) (sym h))
+first_same tree.no_first (tree.first n b) c d x y h = absurd (no_node n (spell_documents c x) _ (follows_ends Root _ (documents_follow c x)) h)
+first_same (tree.first m a) tree.no_first c d x y h = absurd (no_node m (spell_documents d y) _ (follows_ends Root _ (documents_follow d y)) (sym h))
 
 encoding_same : (a b : yaml_encoding_t) (p q : Span) (x y : List Token)
     → token_at (token.stream_start a) p ∷ x ≡ token_at (token.stream_start b) q ∷ y → a ≡ b

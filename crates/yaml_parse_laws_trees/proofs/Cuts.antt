@@ -1,7 +1,6 @@
 -- Where a list of tokens is cut.
 use Rattle.std.proofs.Common.{◌≡◌, ◌+◌, List, [], ◌∷◌, ◌++◌, length, refl, ap, sym, ◌∙◌, arith, zero-add}
-use Rattle.yaml_parse_laws_trees.specs.parse_grammar.parse_model.Tokens.{Token}
-use Rattle.yaml_parse_laws_trees.specs.LookBack.{followed_by}
+use Rattle.yaml_parse_laws_trees.proofs.Words.{Token, followed_by}
 use Rattle.yaml_parse_laws_trees.proofs.CountsFirst.{rest_same}
 
 pub followed_on : (past ts us : List Token)
@@ -19,10 +18,6 @@ pub record SameCut (past other ts us : List Token) : Type 0 where
 cons_same : (a b : Token) (x y : List Token) → a ≡ b → x ≡ y → a ∷ x ≡ b ∷ y
 cons_same a b x y p q = cc
 
-longer : (a b : Token) (past other : List Token) → length (a ∷ past) ≡ length (b ∷ other)
-    → length past ≡ length other
-longer a b past other h = omega arith
-
 empty_length : (a : Token) (past : List Token) → length (a ∷ past) ≡ length {A = Token} [] → ⊥
 empty_length a past h = omega arith
 
@@ -33,7 +28,7 @@ same_cut [] [] ts us h n = record { before = refl; behind = h }
 same_cut [] (b ∷ other) ts us h n = absurd (empty_length b other (sym n))
 same_cut (a ∷ past) [] ts us h n = absurd (empty_length a past n)
 same_cut (a ∷ past) (b ∷ other) ts us h n =
-    let c : SameCut past other (a ∷ ts) (b ∷ us) = same_cut past other (a ∷ ts) (b ∷ us) h (longer a b past other n) in
+    let c : SameCut past other (a ∷ ts) (b ∷ us) = same_cut past other (a ∷ ts) (b ∷ us) h (omega arith) in
     record { before = cons_same a b past other (head_same a b ts us c.behind) c.before; behind = rest_same a b ts us c.behind }
 
 -- ---- a list whose front is another

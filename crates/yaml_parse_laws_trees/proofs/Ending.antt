@@ -1,24 +1,13 @@
 -- The machine ends in the fault of the list.
 use Rattle.std.proofs.Common.{◌≡◌, ◌-◌, ◌+◌, inl, inr, ℕ, suc, List, [], ◌∷◌, ◌++◌, length, Option, Some, None, refl, ap, sym, subst, ◌∙◌, arith}
-use Rattle.yaml_parse_laws_trees.specs.parse_grammar.parse_model.declared.yaml_mark_t.{yaml_mark_t}
-use Rattle.yaml_parse_laws_trees.specs.parse_grammar.parse_model.Tokens.{Token, no_token, zero_mark}
-use Rattle.yaml_parse_laws_trees.specs.parse_grammar.parse_model.Faults.{Fault}
-use Rattle.yaml_parse_laws_trees.specs.parse_grammar.Items.{RawEvent}
-use Rattle.yaml_parse_laws_trees.specs.parse_grammar.States.{State}
+use Rattle.yaml_parse_laws_trees.proofs.Words.{Token, no_token, zero_mark, Fault, RawEvent, State, IsStack, Stream, spell, Fed, stop, go, feed, Outcome, finished, carry, run, initial, left_where_stopped, unasked_at_stop, Directives, no_directives, reading, unasked_at_fault, reading_of, TreeGoesOn, followed_by, opened, grammar_fault, directive_fault, handle_fault, of_handle, of_token, WrongToken, grammar, directive, StandsIn, BeginsWithSentence, with_end, FaultOfTokens}
 use Rattle.yaml_parse_laws_trees.specs.parse_grammar.States as state
-use Rattle.yaml_parse_laws_trees.specs.parse_grammar.Stacks.{IsStack}
-use Rattle.yaml_parse_laws_trees.specs.parse_grammar.Trees.{Stream, spell}
-use Rattle.yaml_parse_laws_trees.specs.parse_grammar.Machine.{Fed, stop, go, feed, Outcome, finished, carry, run, initial, left_where_stopped, unasked_at_stop}
-use Rattle.yaml_parse_laws_trees.specs.parse_grammar.Resolve.{Directives, no_directives, reading, unasked_at_fault}
-use Rattle.yaml_parse_laws_trees.specs.parse_grammar.Remaining.{reading_of, unasked_of}
+use Rattle.yaml_parse_laws_trees.specs.parse_grammar.Remaining.{unasked_of}
 use Rattle.yaml_parse_laws_trees.proofs.CompleteStream.{stream_runs, nothing_runs}
-use Rattle.yaml_parse_laws_trees.specs.SoundLaws.{TreeGoesOn}
 use Rattle.yaml_parse_laws_trees.proofs.Left.{Over}
 use Rattle.yaml_parse_laws_trees.proofs.SoundStanding.{AllStood, FedStood, feed_stood}
 use Rattle.yaml_parse_laws_trees.proofs.Closing.{closers, Empty, all_close}
-use Rattle.yaml_parse_laws_trees.specs.LookBack.{followed_by, opened}
-use Rattle.yaml_parse_laws_trees.specs.Wrong.{grammar_fault, directive_fault, handle_fault}
-use Rattle.yaml_parse_laws_trees.specs.Places.{of_handle, of_token, WrongToken, grammar, directive, StandsIn, BeginsWithSentence, with_end, FaultOfTokens, IsToldWith}
+use Rattle.yaml_parse_laws_trees.specs.Places.{IsToldWith}
 use Rattle.yaml_parse_laws_trees.specs.FaultsLaws.{EndsInFault, FaultEnds, FaultIsToldAtPlace}
 use Rattle.yaml_parse_laws_trees.proofs.FaultsUnique.{one_fault}
 use Rattle.yaml_parse_laws_trees.proofs.Cuts.{followed_on, followed_length}
@@ -61,10 +50,6 @@ pub runs_out : (s : List State) (fed : Fed) → feed s no_token ≡ fed
 unfolding run
 runs_out s fed p = ap (λ (d : Fed). carry 0 d (λ _. finished)) p
 
-read_stop : (is : List RawEvent) (e : Fault) (left : ℕ) (k : List State → Outcome) (ds : Directives)
-    → (reading_of (carry left (stop is e) k) ds).ending ≡ ending_of (read_all is ds) (λ d. Some e)
-read_stop is e left k ds = last_read is left (Some e) ds
-
 read_go : (is : List RawEvent) (s : List State) (left : ℕ) (k : List State → Outcome)
     (ds : Directives)
     → (reading_of (carry left (go is s) k) ds).ending
@@ -75,10 +60,6 @@ read_go is s left k ds = front_read is left (k s).items (k s).ending ds
 
 abbrev fed_number : List Token → Option Fault → Directives → Fed → ℕ
 fed_number ts f ds fed = unasked_at_fault (carry (length ts) fed (λ s'. run ts s' f)).items (left_where_stopped (length ts) fed (λ s'. unasked_at_stop ts s')) ds
-
-stop_number : (is : List RawEvent) (e : Fault) (ts : List Token) (f : Option Fault)
-    (ds : Directives) → fed_number ts f ds (stop is e) ≡ length ts
-stop_number is e ts f ds = last_number is (length ts) ds
 
 go_number : (is : List RawEvent) (s : List State) (ts : List Token) (f : Option Fault)
     (ds : Directives)
@@ -99,14 +80,7 @@ ends_same : (ts : List Token) (f o o' : Option Fault) (n n' : ℕ) → o' ≡ o 
     → Ends ts f o' n'
 ends_same ts f o o' n n' p q h = rw (p, q) h
 
-ends_none : (ts : List Token) (f : Option Fault) (n : ℕ) → FaultOfTokens ts f None
-    → Ends ts f None n
-ends_none ts f n h = record { fault = h; told = tt }
-
 -- ---- what is known at a token
-
-abbrev over_closers : State → List State → List Token
-over_closers x s = closers zero_mark (x ∷ s)
 
 pub sentence_tree : (ts : List Token) → Over initial Empty ts
     → (tree : Stream) × (ts ≡ spell tree [])
@@ -127,15 +101,12 @@ refused_token x s past ds t is e a p g =
     ∙ ap (λ (us : List Token). (run us initial None).ending) same
     ∙ ap (λ (o : Outcome). o.ending) (stream_runs g.tree [] None))
 
-told_same : (x : State) (s : List State) (past : List Token) (ds : Directives) (at : yaml_mark_t)
-    → At x s past ds → told_fault (told x) (open_in (x ∷ s)) at ≡ grammar_fault past at
-told_same x s past ds at a = ap (λ (l : Last). told_fault l (open_in (x ∷ s)) at) a.last ∙ ap (λ (gs : List Sign). told_fault (last_in past) gs at) a.signs ∙ sym (grammar_told past at)
-
 refused_told : (x : State) (s : List State) (past : List Token) (ds : Directives) (t : Token)
     (is : List RawEvent) (e : Fault) → At x s past ds → feed (x ∷ s) t ≡ stop is e
     → e ≡ grammar_fault past t.start_mark
 refused_told x s past ds t is e a p =
-    subst (StopsWith (told_fault (told x) (open_in (x ∷ s)) t.start_mark)) p (top_stops x s t a.plain a.nested a.stood.0) ∙ told_same x s past ds t.start_mark a
+    subst (StopsWith (told_fault (told x) (open_in (x ∷ s)) t.start_mark)) p (top_stops x s t a.plain a.nested a.stood.0) ∙
+    (ap (λ (l : Last). told_fault l (open_in (x ∷ s)) t.start_mark) a.last ∙ ap (λ (gs : List Sign). told_fault (last_in past) gs t.start_mark) a.signs ∙ sym (grammar_told past t.start_mark))
 
 -- ---- a fault at a token
 
@@ -294,12 +265,8 @@ gone : (x : State) (s s' : List State) (past : List Token) (ds : Directives) (t 
 gone x s s' past ds t ts is f (bad e) a p h r k = found_fault past t ts f (Some e) (found_token x s past ds t e (Some e) a h (directive (taken_on x s s' past ds t is a p) r) refl)
 gone x s [] past ds t ts is f (fine ds') a p h r k =
     subst (λ (z : Option Fault). Ends (followed_by past (t ∷ ts)) f z (unasked_of ts f [] ds')) (sym (nothing_left ts f ds'))
-    (ends_none (followed_by past (t ∷ ts)) f (unasked_of ts f [] ds') (finished_here x s past ds t ts is f a p h r.0))
+    (record { fault = (finished_here x s past ds t ts is f a p h r.0); told = tt })
 gone x s (y ∷ s') past ds t ts is f (fine ds') a p h r k = k y s' ds' (taken_at x s y s' past ds ds' t is a p h r.0 r.1)
-
-bad_number : (d : Done) (e : Fault) (left : ℕ) (k : Directives → ℕ) → d ≡ bad e
-    → number_of d left k ≡ left
-bad_number d e left k p = ap (λ (z : Done). number_of z left k) p
 
 stepped : (x : State) (s : List State) (past : List Token) (ds : Directives) (t : Token)
     (ts : List Token) (f : Option Fault) (fed : Fed) (h : Option Fault) → At x s past ds
@@ -310,11 +277,11 @@ stepped : (x : State) (s : List State) (past : List Token) (ds : Directives) (t 
     → Ends (followed_by past (t ∷ ts)) f
     (reading_of (carry (length ts) fed (λ s'. run ts s' f)) ds).ending (fed_number ts f ds fed)
 stepped x s past ds t ts f (stop is e) h a p q r k =
-    ends_same (followed_by past (t ∷ ts)) f _ _ (length ts) (fed_number ts f ds (stop is e)) refl (stop_number is e ts f ds)
-    (found_fault past t ts f _ (stopped x s past ds t is e h a p q r _ (read_stop is e (length ts) (λ s'. run ts s' f) ds)))
+    ends_same (followed_by past (t ∷ ts)) f _ _ (length ts) (fed_number ts f ds (stop is e)) refl (last_number is (length ts) ds)
+    (found_fault past t ts f _ (stopped x s past ds t is e h a p q r _ (last_read is (length ts) (Some e) ds)))
 stepped x s past ds t ts f (go is s') (Some e) a p q r k =
     ends_same (followed_by past (t ∷ ts)) f _ _ (length ts) (fed_number ts f ds (go is s')) refl
-    (go_number is s' ts f ds ∙ bad_number (read_all is ds) e (length ts) (λ d. unasked_of ts f s' d) r)
+    (go_number is s' ts f ds ∙ ap (λ (z : Done). number_of z (length ts) (λ d. unasked_of ts f s' d)) r)
     (found_fault past t ts f _ (found_handle x s past ds t e _ a q (read_go is s' (length ts) (λ s'. run ts s' f) ds ∙ ap (λ (d : Done). ending_of d (λ ds'. (reading_of (run ts s' f) ds').ending)) r)))
 stepped x s past ds t ts f (go is s') None a p q r k =
     ends_same (followed_by past (t ∷ ts)) f _ _ _ _ (read_go is s' (length ts) (λ s'. run ts s' f) ds) (go_number is s' ts f ds) (gone x s s' past ds t ts is f (read_all is ds) a p q r k)
@@ -339,7 +306,7 @@ at_last : (x : State) (s : List State) (past : List Token) (ds : Directives) (fe
     (unasked_at_fault (carry 0 fed (λ _. finished)).items 0 ds)
 at_last x s past ds (stop is e) a p r h =
     ends_same (followed_by past []) None _ _ 0 _ refl (last_number is 0 ds)
-    (found_at_end past _ a.unfinished (stopped x s past ds no_token is e (handle_fault past no_token.body) a p refl r _ (read_stop is e 0 (λ _. finished) ds)))
+    (found_at_end past _ a.unfinished (stopped x s past ds no_token is e (handle_fault past no_token.body) a p refl r _ (last_read is 0 (Some e) ds)))
 at_last x s past ds (go is s') a p r h = absurd (no_stop is s' h)
 
 pub step_at : (x : State) (s : List State) (past : List Token) (ds : Directives) (t : Token)
@@ -397,10 +364,6 @@ ends_in_fault ts own = (ends ts [] state.stream [] no_directives own at_start).f
 pub fault_ends : FaultEnds
 fault_ends ts own fault h = one_fault ts own (reading_of (run ts initial own) no_directives).ending fault (ends_in_fault ts own) h
 
-told_by : (ts : List Token) (own o : Option Fault) (e : Fault) (n : ℕ) → o ≡ Some e
-    → Told ts own o n → IsToldWith ts own e n
-told_by ts own o e n p h = subst (λ (z : Option Fault). Told ts own z n) p h
-
 pub told_at_place : FaultIsToldAtPlace
 told_at_place ts own e p =
-    told_by ts own (reading_of (run ts initial own) no_directives).ending e (unasked_of ts own initial no_directives) p (ends ts [] state.stream [] no_directives own at_start).told
+    (subst (λ (z : Option Fault). Told ts own z (unasked_of ts own initial no_directives)) p (ends ts [] state.stream [] no_directives own at_start).told)

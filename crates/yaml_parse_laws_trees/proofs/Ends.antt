@@ -1,10 +1,8 @@
 -- The fault that loads end in, event by event.
 use Rattle.std.proofs.Common.{◌≡◌, List, [], ◌∷◌, Option, Some, None, refl}
-use Rattle.yaml_parse_laws_trees.specs.parse_grammar.parse_model.Faults.{Fault}
+use Rattle.yaml_parse_laws_trees.proofs.Words.{Fault, Told, Document, Loading, LoadStep, goes_on, loaded, nothing_loaded, step}
 use Rattle.yaml_parse_laws_trees.specs.parse_grammar.parse_model.Nodes.{Node}
-use Rattle.yaml_parse_laws_trees.specs.parse_grammar.Resolve.{Told}
-use Rattle.yaml_parse_document.specs.Documents.{Document}
-use Rattle.yaml_parse_loader.specs.Loading.{Loading, LoadStep, goes_on, loaded, refused, nothing_loaded, step}
+use Rattle.yaml_parse_loader.specs.Loading.{refused}
 use Rattle.yaml_parse_laws_trees.specs.AllLoads.{Loads, in_front, load_on, load_all}
 
 -- a document without a root ends them

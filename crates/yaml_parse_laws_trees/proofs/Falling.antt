@@ -1,15 +1,8 @@
 -- The numbers of tokens that are not asked for fall from event to event.
 use Rattle.std.proofs.Common.{◌≡◌, ◌≤◌, ◌+◌, ℕ, List, [], ◌∷◌, ◌++◌, length, map, Option, Some, None, refl, arith}
-use Rattle.yaml_parse_grammar.specs.parse_model.Tokens.{Token, no_token}
-use Rattle.yaml_parse_grammar.specs.parse_model.Faults.{Fault}
-use Rattle.yaml_parse_grammar.specs.parse_model.Source.{HasMore}
-use Rattle.yaml_parse_grammar.specs.Items.{RawEvent}
-use Rattle.yaml_parse_grammar.specs.States.{State}
-use Rattle.yaml_parse_grammar.specs.Trees.{Given}
-use Rattle.yaml_parse_grammar.specs.Machine.{Fed, stop, go, feed, Outcome, finished, carry, ending_at, run, left_where_stopped, unasked_at_stop}
-use Rattle.yaml_parse_grammar.specs.Resolve.{Directives, Settled, refused, gave, noted, settle, Reading, read_on, reading, unasked_on, unasked_at_fault}
-use Rattle.yaml_parse_grammar.specs.Remaining.{next_unasked, reading_of}
-use Rattle.yaml_parse_laws_trees.specs.Falling.{AreFalling}
+use Rattle.yaml_parse_laws_trees.proofs.Words.{Token, no_token, Fault, HasMore, RawEvent, State, Given, Fed, stop, go, feed, Outcome, finished, carry, ending_at, run, left_where_stopped, unasked_at_stop, Directives, Settled, refused, gave, noted, settle, Reading, read_on, reading, unasked_at_fault, reading_of, AreFalling}
+use Rattle.yaml_parse_grammar.specs.Resolve.{unasked_on}
+use Rattle.yaml_parse_grammar.specs.Remaining.{next_unasked}
 
 -- ---- something is to come
 

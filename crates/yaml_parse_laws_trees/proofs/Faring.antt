@@ -1,12 +1,9 @@
 -- What loading the items of a step gives.
 use Rattle.std.proofs.Common.{◌≡◌, ℕ, List, [], ◌∷◌, ◌++◌, map, Option, Some, None, refl}
-use Rattle.yaml_parse_laws_trees.specs.parse_grammar.parse_model.Faults.{Fault}
+use Rattle.yaml_parse_laws_trees.proofs.Words.{Fault, RawEvent, Given, Directives, Settled, gave, noted, settle, placed, Reading, reading, read_on, Loading, LoadStep, goes_on, loaded, nothing_loaded, step}
 use Rattle.yaml_parse_laws_trees.specs.parse_grammar.parse_model.Nodes.{Node}
-use Rattle.yaml_parse_laws_trees.specs.parse_grammar.Items.{RawEvent}
-use Rattle.yaml_parse_laws_trees.specs.parse_grammar.Trees.{Given}
-use Rattle.yaml_parse_laws_trees.specs.parse_grammar.Resolve.{Directives, Settled, gave, noted, settle, placed, Reading, reading, read_on}
 use Rattle.yaml_parse_laws_trees.specs.parse_grammar.Resolve as resolve
-use Rattle.yaml_parse_loader.specs.Loading.{Loading, LoadStep, goes_on, loaded, refused, nothing_loaded, step}
+use Rattle.yaml_parse_loader.specs.Loading.{refused}
 use Rattle.yaml_parse_laws_trees.proofs.Ends.{unless_rootless, fault_on, fault_of_loads}
 
 -- loads end with that, or they go on

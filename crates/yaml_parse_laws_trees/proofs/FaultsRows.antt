@@ -1,12 +1,7 @@
 -- The rows, by running the machine.
 use Rattle.std.proofs.Common.{◌≡◌, List, [], ◌∷◌, Option, refl, subst}
-use Rattle.yaml_parse_laws_trees.specs.parse_grammar.parse_model.Faults.{Fault}
-use Rattle.yaml_parse_laws_trees.specs.parse_grammar.Problems.{problem_text_of, context_text_of, context_place}
-use Rattle.yaml_parse_laws_trees.specs.parse_grammar.Machine.{feed, run, initial}
-use Rattle.yaml_parse_laws_trees.specs.parse_grammar.Resolve.{no_directives, reading, directive_for}
-use Rattle.yaml_parse_laws_trees.specs.parse_grammar.Remaining.{reading_of}
-use Rattle.yaml_parse_laws_trees.specs.Places.{FaultOfTokens}
-use Rattle.yaml_parse_laws_trees.specs.FaultsRows.{FaultRow, grammar_rows, directive_rows, other_rows, AllHold, RowsHold}
+use Rattle.yaml_parse_laws_trees.proofs.Words.{Fault, problem_text_of, context_text_of, context_place, feed, run, initial, no_directives, reading, directive_for, reading_of, FaultOfTokens, FaultRow}
+use Rattle.yaml_parse_laws_trees.specs.FaultsRows.{grammar_rows, directive_rows, other_rows, AllHold, RowsHold}
 use Rattle.yaml_parse_laws_trees.proofs.Ending.{ends_in_fault}
 
 abbrev AllRun : List FaultRow → Type 0

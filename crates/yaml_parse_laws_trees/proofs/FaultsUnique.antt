@@ -1,10 +1,8 @@
 -- A list of tokens has one fault at most.
 use Rattle.std.proofs.Common.{◌≡◌, ◌⊎◌, inl, inr, ℕ, ◌<◌, List, ◌∷◌, Option, Some, None, refl, ap, sym, subst, ◌∙◌}
 use Rattle.std.proofs.lemmas.Bool.{cases_order}
-use Rattle.yaml_parse_laws_trees.specs.parse_grammar.parse_model.Tokens.{Token}
-use Rattle.yaml_parse_laws_trees.specs.parse_grammar.parse_model.Faults.{Fault}
-use Rattle.yaml_parse_laws_trees.specs.Wrong.{directive_fault, handle_fault}
-use Rattle.yaml_parse_laws_trees.specs.Places.{Rank, of_handle, of_token, ComesBefore, WrongToken, grammar, directive, FaultAt, StandsIn, IsOfLeastPlace, with_end, IsOwn}
+use Rattle.yaml_parse_laws_trees.proofs.Words.{Token, Fault, directive_fault, handle_fault, Rank, of_handle, of_token, ComesBefore, WrongToken, grammar, directive, FaultAt, StandsIn, IsOfLeastPlace, with_end}
+use Rattle.yaml_parse_laws_trees.specs.Places.{IsOwn}
 use Rattle.yaml_parse_laws_trees.specs.FaultsLaws.{FaultIsOne}
 use Rattle.yaml_parse_laws_trees.proofs.Cuts.{SameCut, same_cut, head_same}
 

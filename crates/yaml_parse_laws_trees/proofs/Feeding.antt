@@ -1,23 +1,11 @@
 -- One token: what a stack gives is loaded, and the stack behind it fits the tokens from then on.
-use Rattle.std.proofs.Common.{◌≡◌, ℕ, true, List, [], ◌∷◌, Option, None, refl, sym, subst}
-use Rattle.yaml_parse_laws_trees.specs.parse_grammar.parse_model.declared.yaml_mark_t.{yaml_mark_t}
-use Rattle.yaml_parse_laws_trees.specs.parse_grammar.parse_model.declared.yaml_token_type_t.{yaml_token_type_t}
-use Rattle.yaml_parse_laws_trees.specs.parse_grammar.parse_model.Tokens.{Token, type_of}
-use Rattle.yaml_parse_laws_trees.specs.parse_grammar.declared.name.Wants.TheVariants.{Block}
-use Rattle.yaml_parse_laws_trees.specs.parse_grammar.declared.name.Site.TheVariants.{Root}
-use Rattle.yaml_parse_laws_trees.specs.parse_grammar.declared.name.Choice.{Choice}
-use Rattle.yaml_parse_laws_trees.specs.parse_grammar.declared.name.Choice.TheVariants.{Refuse, Take, Leave, Open}
-use Rattle.yaml_parse_laws_trees.specs.parse_grammar.Items.{item_at, blank}
+use Rattle.std.proofs.Common.{◌≡◌, ℕ, true, List, [], ◌∷◌, None, refl, sym, subst}
+use Rattle.yaml_parse_laws_trees.proofs.Words.{yaml_mark_t, yaml_token_type_t, Token, type_of, Block, Root, Choice, Refuse, Take, Leave, Open, item_at, blank, State, IsInside, IsStack, choice_at, taken_at, left_at, Fed, with_item, given_by, turn, feed, Directives, settle, Loading, nothing_loaded}
 use Rattle.yaml_parse_laws_trees.specs.parse_grammar.Items as item
-use Rattle.yaml_parse_laws_trees.specs.parse_grammar.States.{State}
 use Rattle.yaml_parse_laws_trees.specs.parse_grammar.States as state
-use Rattle.yaml_parse_laws_trees.specs.parse_grammar.Stacks.{IsInside, IsStack}
-use Rattle.yaml_parse_laws_trees.specs.parse_grammar.Machine.{choice_at, taken_at, left_at, Fed, with_item, given_by, turn, feed}
-use Rattle.yaml_parse_laws_trees.specs.parse_grammar.Resolve.{Directives, settle}
 use Rattle.yaml_parse_laws_trees.proofs.Single.{opens_node}
 use Rattle.yaml_parse_laws_trees.proofs.FaultsStanding.{Plain}
-use Rattle.yaml_parse_loader.specs.Loading.{Loading, nothing_loaded}
-use Rattle.yaml_parse_laws_trees.proofs.Fitting.{Owes, Names, NoneNamed, Fits, fits_below, Added, added_names, Passes, passes_on, node_passes, closed_fits, whole, FedLoads, loads_with}
+use Rattle.yaml_parse_laws_trees.proofs.Fitting.{Names, NoneNamed, Fits, fits_below, Added, added_names, Passes, passes_on, node_passes, closed_fits, whole, FedLoads, loads_with}
 use Rattle.yaml_parse_laws_trees.proofs.LoadingTaking.{SitsAt, Started, start_passes, node_loads, taken_loads}
 use Rattle.yaml_parse_grammar.proofs.Rules.{MayLeave, leave_rule, opens_first}
 
@@ -26,9 +14,6 @@ use Rattle.yaml_parse_grammar.proofs.Rules.{MayLeave, leave_rule, opens_first}
 abbrev Sits : List State → Type 0
 Sits [] = ⊥
 Sits (x ∷ s) = SitsAt x s (Sits s)
-
-sits_documents : (s : List State) → s ≡ state.documents ∷ [] → Sits s
-sits_documents s e = subst Sits (sym e) refl
 
 inside_sits : (s : List State) → IsInside s → Sits s
 inside_sits [] h = h
@@ -58,7 +43,7 @@ plain_below (x ∷ s) h = h.1
 -- a state that leaves has states below
 sits_left : (x : State) (k : yaml_token_type_t) (s : List State) → MayLeave x k → Sits (x ∷ s)
     → Sits s
-sits_left state.document_end k s l h = sits_documents s h
+sits_left state.document_end k s l h = subst Sits (sym h) refl
 sits_left state.stream k s l h = absurd l
 sits_left state.first k s l h = absurd l
 sits_left state.documents k s l h = absurd l
@@ -67,15 +52,12 @@ sits_left _ k s l h = h
 
 -- ---- a state that leaves
 
-added_fits : (anchor : Option (List ℕ)) (s : List State) (past : List Token) (l m : Loading)
-    → Plain s → Owes anchor past l → Added anchor l m → Fits s past m
-added_fits anchor s past l m pl o a = fits_below s past m pl (added_names anchor past l m o a) a.rooted
-
 blank_passes : (at : yaml_mark_t) (s : List State) (past : List Token) (ds : Directives)
     (l : Loading) → Plain s → Names past l
     → Passes (settle (blank at) ds) (blank at) l (λ m. Fits s past m)
 blank_passes at s past ds l pl n =
-    passes_on (settle (blank at) ds) (blank at) l (λ m. Added None l m) (λ m. Fits s past m) (λ m a. added_fits None s past l m pl n a) (node_passes None None item.empty at at ds l)
+    passes_on (settle (blank at) ds) (blank at) l (λ m. Added None l m) (λ m. Fits s past m) (λ m a.
+    fits_below s past m pl (added_names None past l m n a) a.rooted) (node_passes None None item.empty at at ds l)
 
 left_passes : (x : State) (k : yaml_token_type_t) (start : yaml_mark_t) (s : List State)
     (past : List Token) (ds : Directives) (l : Loading) → MayLeave x k → Plain s
@@ -85,7 +67,8 @@ left_passes state.document_end k start s past ds l c pl i h = (nothing_loaded, �
 left_passes (state.optional place before) k start s past ds l c pl i h = blank_passes _ s past ds l pl h.0
 left_passes (state.others side) k start s past ds l c pl i h = (_, λ q. refl, closed_fits start l s past pl h.0 h.1)
 left_passes (state.with_properties w p) k start s past ds l c pl i h =
-    passes_on _ _ l (λ m. Added p.anchor l m) (λ m. Fits s past m) (λ m a. added_fits p.anchor s past l m pl h.0 a) (node_passes p.anchor p.tag item.empty p.from p.to ds l)
+    passes_on _ _ l (λ m. Added p.anchor l m) (λ m. Fits s past m) (λ m a.
+    fits_below s past m pl (added_names p.anchor past l m h.0 a) a.rooted) (node_passes p.anchor p.tag item.empty p.from p.to ds l)
 left_passes state.pair_end k start s past ds l c pl i h = (_, λ q. refl, closed_fits start l s past pl h.0 h.1)
 left_passes (state.colon place) k start s past ds l c pl i h = blank_passes start s past ds l pl h.0
 left_passes state.lone k start s past ds l c pl i h = blank_passes start s past ds l pl h.0
@@ -104,10 +87,6 @@ opened_loads x t s past ds l c pl n =
     (start_passes true t.start_mark t.start_mark past ds l n)
     (λ m q d. node_loads (Block None) t.start_mark t.end_mark t.body (state.document_end ∷ state.documents ∷ s) past d m (opens_node x (type_of t.body) c) (refl, (refl, pl)) q.0 q.1)
 
-only_first : (x : State) (k : yaml_token_type_t) (s : List State) (past : List Token) (l : Loading)
-    → choice_at x k ≡ Open → Fits (x ∷ s) past l → NoneNamed past
-only_first x k s past l c h = subst (λ (y : State). Fits (y ∷ s) past l) (opens_first x k c) h
-
 turn_loads : (c : Choice) (x : State) (t : Token) (s : List State) (fed : Fed) (past : List Token)
     (ds : Directives) (l : Loading) → choice_at x (type_of t.body) ≡ c → Plain s → Sits (x ∷ s)
     → Fits (x ∷ s) past l
@@ -117,7 +96,7 @@ turn_loads (Refuse p o) x t s fed past ds l c pl i h k = (l, refl)
 turn_loads Take x t s fed past ds l c pl i h k = taken_loads x t s past ds l (Sits s) c pl i h
 turn_loads Leave x t s fed past ds l c pl i h k =
     loads_with past t ds l (left_at x t.start_mark) fed (λ m. Fits s past m) (left_passes x (type_of t.body) t.start_mark s past ds l (leave_rule x (type_of t.body) c) pl i h) (k c)
-turn_loads Open x t s fed past ds l c pl i h k = opened_loads x t s past ds l c pl (only_first x (type_of t.body) s past l c h)
+turn_loads Open x t s fed past ds l c pl i h k = opened_loads x t s past ds l c pl (subst (λ (y : State). Fits (y ∷ s) past l) (opens_first x (type_of t.body) c) h)
 
 pub fed_loads : (s : List State) (t : Token) (past : List Token) (ds : Directives) (l : Loading)
     → Sits s → PlainBelow s → Fits s past l → FedLoads past t ds l (feed s t)

@@ -3,27 +3,16 @@ use Rattle.std.proofs.Common.{◌≡◌, ℕ, suc, ℤ, zero, Bool, true, false,
 use Rattle.std.specs.FinMap as map
 use Rattle.std.specs.Str.{bytes_eq}
 use Rattle.std.specs.Cmp.Lexicographic.{nat_list_cmp_total}
-use Rattle.yaml_parse_laws_trees.specs.parse_grammar.parse_model.declared.yaml_mark_t.{yaml_mark_t}
-use Rattle.yaml_parse_laws_trees.specs.parse_grammar.parse_model.declared.yaml_scalar_style_t.{yaml_scalar_style_t}
-use Rattle.yaml_parse_laws_trees.specs.parse_grammar.parse_model.Tokens.{Token}
-use Rattle.yaml_parse_laws_trees.specs.parse_grammar.parse_model.Faults.{Fault}
+use Rattle.yaml_parse_laws_trees.proofs.Words.{yaml_mark_t, yaml_scalar_style_t, Token, Fault, EventBody, RawEvent, Properties, Tag, Shape, item_at, node_at, State, Fed, stop, go, with_item, given_by, Directives, Settled, gave, noted, settle, placed, node_event, with_resolved, resolved, Anchors, is_same, Loading, named, closed, step, has_anchor, alias_fault}
 use Rattle.yaml_parse_laws_trees.specs.parse_grammar.parse_model.Nodes.{Node}
-use Rattle.yaml_parse_laws_trees.specs.parse_grammar.parse_model.Events.{EventBody}
 use Rattle.yaml_parse_laws_trees.specs.parse_grammar.parse_model.Events as event
-use Rattle.yaml_parse_laws_trees.specs.parse_grammar.Items.{RawEvent, Properties, Tag, Shape, item_at, node_at}
 use Rattle.yaml_parse_laws_trees.specs.parse_grammar.Items as item
-use Rattle.yaml_parse_laws_trees.specs.parse_grammar.States.{State}
 use Rattle.yaml_parse_laws_trees.specs.parse_grammar.States as state
-use Rattle.yaml_parse_laws_trees.specs.parse_grammar.Machine.{Fed, stop, go, with_item, given_by}
-use Rattle.yaml_parse_laws_trees.specs.parse_grammar.Resolve.{Directives, Settled, gave, noted, settle, placed, node_event, scalar_event, with_resolved, resolved}
 use Rattle.yaml_parse_laws_trees.specs.parse_grammar.Resolve as resolve
 use Rattle.yaml_parse_laws_trees.proofs.FaultsStanding.{other, told, Plain}
 use Rattle.yaml_parse_laws_trees.proofs.Settling.{Done, bad, fine, then_read, read_all}
-use Rattle.yaml_parse_loader.specs.Anchors.{Anchors}
-use Rattle.yaml_parse_loader.specs.Numbering.{is_same}
-use Rattle.yaml_parse_loader.specs.Loading.{Open, Loading, next, named, closed, place_of, filled, step}
+use Rattle.yaml_parse_loader.specs.Loading.{Open, next, place_of, filled}
 use Rattle.yaml_parse_document.specs.Documents.{change_place}
-use Rattle.yaml_parse_laws_trees.specs.Aliases.{has_anchor, alias_fault}
 use Rattle.yaml_parse_laws_trees.proofs.Faring.{Fared, ended, onward, unless_empty, then_fed, then_load, load_items}
 
 -- ---- names

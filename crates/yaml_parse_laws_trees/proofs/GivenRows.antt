@@ -1,9 +1,6 @@
 -- The rows, by running the machine.
 use Rattle.std.proofs.Common.{◌≡◌, List, [], ◌∷◌, refl, subst}
-use Rattle.yaml_parse_laws_trees.specs.parse_grammar.Machine.{feed, run}
-use Rattle.yaml_parse_laws_trees.specs.parse_grammar.Resolve.{Told, reading}
-use Rattle.yaml_parse_laws_trees.specs.Given.{EventsOfTokens}
-use Rattle.yaml_parse_laws_trees.specs.GivenLaws.{events_run}
+use Rattle.yaml_parse_laws_trees.proofs.Words.{feed, run, Told, reading, EventsOfTokens, events_run}
 use Rattle.yaml_parse_laws_trees.specs.GivenRows.{EventsRow, rows, AllHold, RowsHold}
 use Rattle.yaml_parse_laws_trees.proofs.Giving.{run_gives_events}
 

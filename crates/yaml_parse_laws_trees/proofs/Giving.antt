@@ -1,18 +1,9 @@
 -- The machine gives the events of a list, and a list has no others.
 use Rattle.std.proofs.Common.{◌≡◌, ◌⊎◌, inl, inr, ◌+◌, ◌-◌, ◌≤◌, ℕ, suc, Bool, true, false, ◌||◌, List, [], ◌∷◌, ◌++◌, length, Option, Some, None, refl, ap, sym, subst, ◌∙◌, arith, append_assoc, append-nil, le_refl}
 use Rattle.std.proofs.lemmas.Bool.{true≢false, false≢true, or_cases}
-use Rattle.yaml_parse_laws_trees.specs.parse_grammar.parse_model.declared.yaml_mark_t.{yaml_mark_t}
-use Rattle.yaml_parse_laws_trees.specs.parse_grammar.parse_model.Tokens.{Token, no_token, zero_mark}
-use Rattle.yaml_parse_laws_trees.specs.parse_grammar.parse_model.Faults.{Fault}
-use Rattle.yaml_parse_laws_trees.specs.parse_grammar.Items.{RawEvent}
-use Rattle.yaml_parse_laws_trees.specs.parse_grammar.States.{State}
-use Rattle.yaml_parse_laws_trees.specs.parse_grammar.Trees.{Stream, spell, Given, next}
-use Rattle.yaml_parse_laws_trees.specs.parse_grammar.TreeSteps.{items}
+use Rattle.yaml_parse_laws_trees.proofs.Words.{yaml_mark_t, Token, no_token, zero_mark, Fault, RawEvent, State, Stream, spell, Given, next, items, Fed, stop, go, feed, Outcome, run, initial, Told, reading, no_directives, reading_of, TreeGoesOn, bare, RefusedAt, RunsOut, first_items, but_last, EndsAt, last_leaves_open, BeginsWith, EventsOfTokens, events_run}
 use Rattle.yaml_parse_laws_trees.specs.parse_grammar.TreeEvents.{given_of}
-use Rattle.yaml_parse_laws_trees.specs.parse_grammar.Machine.{Fed, stop, go, feed, Outcome, run, initial}
-use Rattle.yaml_parse_laws_trees.specs.parse_grammar.Resolve.{Told, reading, no_directives}
-use Rattle.yaml_parse_laws_trees.specs.parse_grammar.Remaining.{reading_of}
-use Rattle.yaml_parse_laws_trees.specs.SoundLaws.{TreeGoesOn, BeginsWithTree, bare, RefusedAt, RunsOut}
+use Rattle.yaml_parse_laws_trees.specs.SoundLaws.{BeginsWithTree}
 use Rattle.yaml_parse_laws_trees.proofs.CompleteStream.{stream_runs, nothing_runs}
 use Rattle.yaml_parse_laws_trees.proofs.Left.{Over}
 use Rattle.yaml_parse_laws_trees.proofs.Closing.{closers, Empty, all_close, closers_end}
@@ -23,8 +14,8 @@ use Rattle.yaml_parse_laws_trees.proofs.FaultsStanding.{Last, nothing, last_of, 
 use Rattle.yaml_parse_laws_trees.proofs.Taking.{stack_solid, Stops, stops_at_none}
 use Rattle.yaml_parse_laws_trees.proofs.Ending.{runs_fed, runs_out}
 use Rattle.yaml_parse_laws_trees.proofs.Turns.{items_given}
-use Rattle.yaml_parse_laws_trees.specs.Given.{IsLongest, LongestFront, first_items, events_of, events_of_front, events_at_next, but_last, EndsAt, last_leaves_open, has_fault, gives_no_more, GivesAt, GivesFront, BeginsWith, EventsOfTokens}
-use Rattle.yaml_parse_laws_trees.specs.GivenLaws.{events_run, HasFront, ListHasFront, EventsAreOne, RunGivesEvents, EventsAreRun, RunGivesLeast}
+use Rattle.yaml_parse_laws_trees.specs.Given.{IsLongest, LongestFront, events_of, events_of_front, events_at_next, has_fault, gives_no_more, GivesAt}
+use Rattle.yaml_parse_laws_trees.specs.GivenLaws.{HasFront, ListHasFront, EventsAreOne, RunGivesEvents, EventsAreRun, RunGivesLeast}
 use Rattle.yaml_parse_laws_trees.proofs.Walking.{raised, numbered, before, Knows, knows_step, takes_step, Unfinished, last_behind, Walked, walk}
 use Rattle.yaml_parse_laws_trees.proofs.Behind.{open_behind, front_open, GivesNone, none_given, OneMore, Alike, feed_alike, closed_top}
 use Rattle.yaml_parse_laws_trees.proofs.Counting.{front_items, token_items, none_from, but_one, any_ending, more_begin}
@@ -175,10 +166,6 @@ front_given ts l w =
 
 -- ---- where nothing is given behind the front
 
-none_stopped : (s : List State) (t : Token) (is : List RawEvent) (e : Fault) → feed s t ≡ stop is e
-    → GivesNone (feed s t) → is ≡ []
-none_stopped s t is e p h = subst GivesNone p h
-
 top_open : (front : List Token) (w : Here front)
     → open_behind (told w.top) ≡ last_leaves_open true front
 top_open front w = ap open_behind w.knows.topped.0 ∙ sym (front_open front nothing)
@@ -189,7 +176,7 @@ open_none : (front behind : List Token) (own : Option Fault) (w : Here front)
 open_none front behind own w r o true p = r.silent p
 open_none front behind own w r o false p =
     let d : StoppedAt (w.top ∷ w.below) (next behind) r.items = r.stopped p in
-    none_stopped (w.top ∷ w.below) d.token r.items d.fault d.same (none_given w.top w.below d.token (top_open front w ∙ o) w.knows.stood.0)
+    (subst GivesNone d.same (none_given w.top w.below d.token (top_open front w ∙ o) w.knows.stood.0))
 
 nothing_given : (front behind : List Token) (own : Option Fault) (w : Here front)
     (r : Refused (w.top ∷ w.below) behind own)
@@ -239,14 +226,8 @@ none_left m b us [] l k a = ap (λ (o : Outcome). first_items (length us) m b o.
 none_left m b [] (x ∷ s) l k a = absurd (some_left x s l k a)
 none_left m b (u ∷ us) (x ∷ s) l k a = none_from m b us u (x ∷ s)
 
-less_one : (u : Token) (us : List Token) → length (u ∷ us) - 1 ≡ length us
-less_one u us = omega arith
-
 end_number : (n b : ℕ) → (n + b) - suc n ≡ b - 1
 end_number n b = omega arith
-
-shorter : (u : Token) (us : List Token) → length us ≤ length (u ∷ us)
-shorter u us = omega arith
 
 -- what the tree gives up to the end's own event
 end_items : (front : List Token) (u : Token) (us : List Token) (t : Stream) (b : ℕ) (w : Here front)
@@ -257,7 +238,7 @@ end_items : (front : List Token) (u : Token) (us : List Token) (t : Stream) (b :
     ≡ (raised b w.items ++ numbered (b - 1) is) ++ (i, b - 1) ∷ []
 end_items front u us t b w d is i p l k q =
     ap (first_items (length us) (length (u ∷ us)) b) (tree_items front (u ∷ us) t w p)
-    ∙ front_items (length us) (length (u ∷ us)) b w.items (run (u ∷ us) (w.top ∷ w.below) None).items (shorter u us)
+    ∙ front_items (length us) (length (u ∷ us)) b w.items (run (u ∷ us) (w.top ∷ w.below) None).items (omega arith)
     ∙ ap (λ (z : List Given). raised b w.items ++ z)
     (ap (first_items (length us) (length (u ∷ us)) b) d.given
     ∙ token_items (length us) (length (u ∷ us)) b d.items (run us d.left None).items
@@ -289,7 +270,7 @@ end_given front behind (u ∷ us) own t w r p o h =
     let a : OneMore r.items d.items =
     one_more (w.top ∷ w.below) st.token u r.items d.items st.fault d.left st.same d.same
     (feed_alike w.top w.below st.token u (top_open front w ∙ f.0) w.knows.topped.1 h.0 (h.1 ∙ sym st.start)) in
-    sym (ap but_last (ap (λ (n : ℕ). first_items n (length (u ∷ us)) (length behind) (items t [])) (less_one u us)
+    sym (ap but_last (ap (λ (n : ℕ). first_items n (length (u ∷ us)) (length behind) (items t [])) (omega arith)
     ∙ end_items front u us t (length behind) w d r.items a.last p (last_of u.body) (knows_step w.top w.below d.left (last_behind nothing front) u d.items w.knows d.same) a.same)
     ∙ but_one (raised (length behind) w.items ++ numbered (length behind - 1) r.items) (a.last, length behind - 1))
 
@@ -311,10 +292,6 @@ gives_at : (ts : List Token) (own : Option Fault) (l : LongestFront ts) (w : Her
 gives_at ts own l w r true q = gives_front ts own l w r q
 gives_at ts own l w r false q = λ h. gives_at_end ts own l w r q h
 
-pub run_gives_front : (ts : List Token) (own : Option Fault) → (BeginsWithTree ts → ⊥)
-    → GivesFront ts own (events_run ts own)
-run_gives_front ts own n = λ l. let w : Here l.front = here ts n l in gives_at ts own l w (refused l.front l.behind own w l.longest) (gives_no_more l own) refl
-
 pub run_gives_tree : (ts : List Token) (own : Option Fault) (t : Stream) (rest : List Token)
     → ts ≡ spell t rest
     → events_run ts own ≡ (reading (given_of t (length rest)) None no_directives).events
@@ -324,7 +301,11 @@ run_gives_tree ts own t rest p =
     ∙ ap (λ (gs : List Given). (reading gs None no_directives).events) (items_given t rest)
 
 pub run_gives_events : RunGivesEvents
-run_gives_events ts own = record { tree = run_gives_tree ts own; front = run_gives_front ts own }
+run_gives_events ts own = record {
+  tree = run_gives_tree ts own;
+  front =
+      (λ n. λ l. let w : Here l.front = here ts n l in gives_at ts own l w (refused l.front l.behind own w l.longest) (gives_no_more l own) refl);
+}
 
 least_given : (ts : List Token) (own : Option Fault) (l : LongestFront ts) (w : Here l.front)
     (r : Refused (w.top ∷ w.below) l.behind own)
@@ -386,16 +367,11 @@ one_at : (ts : List Token) (l : LongestFront ts) (b : Bool) (x y : List Told)
 one_at ts l true x y e h k = h ∙ sym k
 one_at ts l false x y e h k = h (e refl) ∙ sym (k (e refl))
 
-not_tree : (ts : List Token) (own : Option Fault) (e : Fault) → (run ts initial own).ending ≡ Some e
-    → BeginsWithTree ts → ⊥
-not_tree ts own e p t =
-    not_none e (sym p ∙ ap (λ (us : List Token). (run us initial own).ending) t.same ∙ ap (λ (o : Outcome). o.ending) (stream_runs t.tree t.rest own))
-
 one_by : (ts : List Token) (own o : Option Fault) (x y : List Told)
     → (run ts initial own).ending ≡ o → EventsOfTokens ts own x → EventsOfTokens ts own y → x ≡ y
 one_by ts own None x y p h k = let t : BeginsWithTree ts = accepted_trees ts own p in h.tree t.tree t.rest t.same ∙ sym (k.tree t.tree t.rest t.same)
 one_by ts own (Some e) x y p h k =
-    let n : BeginsWithTree ts → ⊥ = not_tree ts own e p in
+    let n : BeginsWithTree ts → ⊥ = λ t. not_none e (sym p ∙ ap (λ (us : List Token). (run us initial own).ending) t.same ∙ ap (λ (o : Outcome). o.ending) (stream_runs t.tree t.rest own)) in
     let f : HasFront ts own = list_has_front ts own n in
     one_at ts f.front (gives_no_more f.front own) x y f.ends (h.front n f.front) (k.front n f.front)
 

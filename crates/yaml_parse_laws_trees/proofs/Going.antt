@@ -1,19 +1,10 @@
 -- Behind one token: what the stack knows of the tokens.
 use Rattle.std.proofs.Common.{◌≡◌, true, List, [], ◌∷◌, ◌++◌, Option, Some, None, refl, ap, sym, subst, ◌∙◌}
-use Rattle.yaml_parse_laws_trees.specs.parse_grammar.parse_model.declared.yaml_mark_t.{yaml_mark_t}
-use Rattle.yaml_parse_laws_trees.specs.parse_grammar.parse_model.Tokens.{Token, TokenBody, type_of}
+use Rattle.yaml_parse_laws_trees.proofs.Words.{yaml_mark_t, Token, TokenBody, type_of, Block, Root, Choice, Refuse, Take, Leave, Open, RawEvent, item_at, State, IsInner, IsStack, choice_at, taken_at, left_at, Fed, stop, go, with_item, given_by, turn, feed}
 use Rattle.yaml_parse_laws_trees.specs.parse_grammar.parse_model.Tokens as token
 use Rattle.yaml_parse_laws_trees.specs.parse_grammar.parse_model.Events as event
-use Rattle.yaml_parse_laws_trees.specs.parse_grammar.declared.name.Wants.TheVariants.{Block}
-use Rattle.yaml_parse_laws_trees.specs.parse_grammar.declared.name.Site.TheVariants.{Root}
-use Rattle.yaml_parse_laws_trees.specs.parse_grammar.declared.name.Choice.{Choice}
-use Rattle.yaml_parse_laws_trees.specs.parse_grammar.declared.name.Choice.TheVariants.{Refuse, Take, Leave, Open}
-use Rattle.yaml_parse_laws_trees.specs.parse_grammar.Items.{RawEvent, item_at}
 use Rattle.yaml_parse_laws_trees.specs.parse_grammar.Items as item
-use Rattle.yaml_parse_laws_trees.specs.parse_grammar.States.{State}
 use Rattle.yaml_parse_laws_trees.specs.parse_grammar.States as state
-use Rattle.yaml_parse_laws_trees.specs.parse_grammar.Stacks.{IsInner, IsStack}
-use Rattle.yaml_parse_laws_trees.specs.parse_grammar.Machine.{choice_at, taken_at, left_at, Fed, stop, go, with_item, given_by, turn, feed}
 use Rattle.yaml_parse_laws_trees.proofs.FaultsStanding.{Sign, signs_behind, open_in, asking, directive, other, last_of, last_in, told, Plain, Nested}
 use Rattle.yaml_parse_laws_trees.proofs.Refusing.{Tells, tells}
 use Rattle.yaml_parse_laws_trees.proofs.Keeping.{Kept, KeptInside, Ground, node_kept, inside_kept}
@@ -39,10 +30,6 @@ fed_with b at gs i (go is s) h = h
 stacked : (b : TokenBody) (at : yaml_mark_t) (gs : List Sign) (s : List State)
     → KeptInside b at gs s → Stacked b at gs s
 stacked b at gs s k = record { kept = k.kept; stack = inside_stack s k.inside }
-
-lone : (b : TokenBody) (at : yaml_mark_t) (s : List State) → Kept b at [] s → IsStack s
-    → Stacked b at [] s
-lone b at s k h = record { kept = k; stack = h }
 
 opened_ground : Ground (Block None) (state.document_end ∷ state.documents ∷ [])
 opened_ground = record { plain = (refl, (refl, tt)); nested = (tt, (refl, tt)); inside = refl; flow = refl }

@@ -1,23 +1,11 @@
 -- Taking a token inside a document: what is open, which token was last, and how the states stand.
 use Rattle.std.proofs.Common.{◌≡◌, true, false, ◌||◌, List, [], ◌∷◌, ◌++◌, Option, Some, None, refl, sym, subst}
 use Rattle.std.proofs.lemmas.List.{append_assoc}
-use Rattle.yaml_parse_laws_trees.specs.parse_grammar.parse_model.declared.yaml_mark_t.{yaml_mark_t}
-use Rattle.yaml_parse_laws_trees.specs.parse_grammar.parse_model.Tokens.{Token, TokenBody, type_of}
+use Rattle.yaml_parse_laws_trees.proofs.Words.{yaml_mark_t, Token, TokenBody, type_of, Wants, Flow, Block, Brackets, Take, Properties, State, IsInner, IsInside, starts_content, starts_node, wants_of, choice_at, content_taken, node_taken, lone_below, taken_at, is_directive}
 use Rattle.yaml_parse_laws_trees.specs.parse_grammar.parse_model.Tokens as token
-use Rattle.yaml_parse_laws_trees.specs.parse_grammar.declared.name.Wants.{Wants}
-use Rattle.yaml_parse_laws_trees.specs.parse_grammar.declared.name.Wants.TheVariants.{Flow, Block}
-use Rattle.yaml_parse_laws_trees.specs.parse_grammar.declared.name.Side.{Side}
-use Rattle.yaml_parse_laws_trees.specs.parse_grammar.declared.name.Brackets.{Brackets}
 use Rattle.yaml_parse_laws_trees.specs.parse_grammar.declared.name.Brackets.TheVariants as brackets
-use Rattle.yaml_parse_laws_trees.specs.parse_grammar.declared.name.Site.{Site}
-use Rattle.yaml_parse_laws_trees.specs.parse_grammar.declared.name.Site.TheVariants.{IndentlessEntry}
-use Rattle.yaml_parse_laws_trees.specs.parse_grammar.declared.name.Choice.TheVariants.{Take}
-use Rattle.yaml_parse_laws_trees.specs.parse_grammar.Items.{Properties}
-use Rattle.yaml_parse_laws_trees.specs.parse_grammar.States.{State}
 use Rattle.yaml_parse_laws_trees.specs.parse_grammar.States as state
-use Rattle.yaml_parse_laws_trees.specs.parse_grammar.Stacks.{IsInner, IsInside}
-use Rattle.yaml_parse_laws_trees.specs.parse_grammar.Machine.{starts_content, starts_node, wants_of, joins, choice_at, content_taken, node_taken, with_properties_taken, items_taken, more_taken, entries_taken, pairs_taken, lone_below, taken_at}
-use Rattle.yaml_parse_laws_trees.specs.LookBack.{is_directive, starts_document}
+use Rattle.yaml_parse_laws_trees.specs.LookBack.{starts_document}
 use Rattle.yaml_parse_laws_trees.proofs.FaultsStanding.{Sign, signs_behind, open_in, bracketed, last_of, Plain, Topped, plain_topped, is_flow, Nested}
 use Rattle.yaml_parse_grammar.proofs.Rules.{take_rule, was_take}
 use Rattle.std.proofs.lemmas.Bool.{false≢true}
@@ -70,13 +58,6 @@ node_kept w start end (token.anchor name) s c g = keep refl (refl, g.plain) (g.f
 node_kept w start end (token.tag handle suffix) s c g = keep refl (refl, g.plain) (g.flow, g.nested) (tt, g.inside) refl refl
 node_kept w start end b s c g = content_kept w None start end b s c g
 
-with_properties_kept : (w : Wants) (p : Properties) (start end : yaml_mark_t) (b : TokenBody)
-    (s : List State) → (joins p (type_of b) || starts_content w (type_of b)) ≡ true → Ground w s
-    → KeptInside b start (open_in s) ((with_properties_taken w p start end b).above ++ s)
-with_properties_kept w p start end (token.anchor name) s c g = keep refl (refl, g.plain) (g.flow, g.nested) (tt, g.inside) refl refl
-with_properties_kept w p start end (token.tag handle suffix) s c g = keep refl (refl, g.plain) (g.flow, g.nested) (tt, g.inside) refl refl
-with_properties_kept w p start end b s c g = content_kept w (Some p) start end b s c g
-
 -- ---- inside brackets
 
 lone_ground : (bs : Brackets) (o : yaml_mark_t) (s : List State) → Plain s → Nested s → IsInside s
@@ -98,83 +79,59 @@ lone_kept bs o start end b s c p n i =
     (subst (λ (gs : List Sign). KeptInside b start gs ((node_taken Flow start end b).above ++ (lone_below bs (state.more bs o ∷ []) ++ s))) (lone_open bs o s)
     (node_kept Flow start end b (lone_below bs (state.more bs o ∷ []) ++ s) c (lone_ground bs o s p n i)))
 
-items_kept : (bs : Brackets) (o start end : yaml_mark_t) (b : TokenBody) (s : List State)
-    → choice_at (state.items bs o) (type_of b) ≡ Take → Plain s → Nested s → IsInside s
-    → KeptInside b start (open_in (state.items bs o ∷ s))
-    ((items_taken bs o start end b).above ++ s)
-items_kept brackets.Sequence o start end token.key s c p n i = keep refl (refl, (refl, (refl, (refl, p)))) (refl, (refl, (tt, (tt, n)))) (tt, (tt, (tt, (tt, i)))) refl refl
-items_kept brackets.Mapping o start end token.key s c p n i = keep refl (refl, (refl, (refl, p))) (refl, (refl, (tt, n))) (tt, (tt, (tt, i))) refl refl
-items_kept brackets.Sequence o start end token.flow_sequence_end s c p n i = keep refl (plain_topped s p) n i refl refl
-items_kept brackets.Mapping o start end token.flow_mapping_end s c p n i = keep refl (plain_topped s p) n i refl refl
-items_kept brackets.Sequence o start end token.flow_mapping_end s c p n i = absurd (was_take _ c)
-items_kept brackets.Mapping o start end token.flow_sequence_end s c p n i = absurd (was_take _ c)
-items_kept bs o start end (token.alias name) s c p n i = lone_kept bs o start end (token.alias name) s refl p n i
-items_kept bs o start end (token.anchor name) s c p n i = lone_kept bs o start end (token.anchor name) s refl p n i
-items_kept bs o start end (token.tag handle suffix) s c p n i = lone_kept bs o start end (token.tag handle suffix) s refl p n i
-items_kept bs o start end (token.scalar value style) s c p n i = lone_kept bs o start end (token.scalar value style) s refl p n i
-items_kept bs o start end token.flow_sequence_start s c p n i = lone_kept bs o start end token.flow_sequence_start s refl p n i
-items_kept bs o start end token.flow_mapping_start s c p n i = lone_kept bs o start end token.flow_mapping_start s refl p n i
-items_kept brackets.Sequence o start end _ s c p n i = absurd (was_take _ c)
-items_kept brackets.Mapping o start end _ s c p n i = absurd (was_take _ c)
-
-more_kept : (bs : Brackets) (o start end : yaml_mark_t) (b : TokenBody) (s : List State)
-    → choice_at (state.more bs o) (type_of b) ≡ Take → Plain s → Nested s → IsInside s
-    → KeptInside b start (open_in (state.more bs o ∷ s)) ((more_taken bs o start end b).above ++ s)
-more_kept bs o start end token.flow_entry s c p n i = keep refl (refl, p) (tt, n) (tt, i) refl refl
-more_kept brackets.Sequence o start end token.flow_sequence_end s c p n i = keep refl (plain_topped s p) n i refl refl
-more_kept brackets.Mapping o start end token.flow_mapping_end s c p n i = keep refl (plain_topped s p) n i refl refl
-more_kept brackets.Sequence o start end _ s c p n i = absurd (was_take _ c)
-more_kept brackets.Mapping o start end _ s c p n i = absurd (was_take _ c)
-
--- ---- block collections
-
-entries_kept : (o start end : yaml_mark_t) (b : TokenBody) (s : List State)
-    → choice_at (state.entries o) (type_of b) ≡ Take → Plain s → Nested s → IsInside s
-    → KeptInside b start (open_in (state.entries o ∷ s)) ((entries_taken o start end b).above ++ s)
-entries_kept o start end token.block_entry s c p n i = keep refl (refl, (refl, p)) (refl, (tt, n)) (tt, (tt, i)) refl refl
-entries_kept o start end token.block_end s c p n i = keep refl (plain_topped s p) n i refl refl
-entries_kept o start end _ s c p n i = absurd (was_take _ c)
-
-pairs_kept : (o start end : yaml_mark_t) (b : TokenBody) (s : List State)
-    → choice_at (state.pairs o) (type_of b) ≡ Take → Plain s → Nested s → IsInside s
-    → KeptInside b start (open_in (state.pairs o ∷ s)) ((pairs_taken o start end b).above ++ s)
-pairs_kept o start end token.key s c p n i = keep refl (refl, (refl, (refl, p))) (refl, (refl, (tt, n))) (tt, (tt, (tt, i))) refl refl
-pairs_kept o start end token.block_end s c p n i = keep refl (plain_topped s p) n i refl refl
-pairs_kept o start end _ s c p n i = absurd (was_take _ c)
-
-others_kept : (side : Side) (start end : yaml_mark_t) (b : TokenBody) (s : List State)
-    → choice_at (state.others side) (type_of b) ≡ Take → Ground (Block None) s
-    → KeptInside b start (open_in s) (state.optional (IndentlessEntry side) end ∷ state.others side
-    ∷ s)
-others_kept side start end token.block_entry s c g = keep refl (refl, (refl, g.plain)) (g.flow, (g.flow, g.nested)) (tt, (tt, g.inside)) refl refl
-others_kept side start end _ s c g = absurd (was_take _ c)
-
-colon_kept : (place : Site) (start end : yaml_mark_t) (b : TokenBody) (s : List State)
-    → choice_at (state.colon place) (type_of b) ≡ Take → Ground (wants_of place) s
-    → KeptInside b start (open_in s) (state.optional place end ∷ s)
-colon_kept place start end token.value s c g = keep refl (refl, g.plain) (g.flow, g.nested) (tt, g.inside) refl refl
-colon_kept place start end _ s c g = absurd (was_take _ c)
-
 -- ---- each state
 
 ground : (w : Wants) (s : List State) → Plain s → Nested s → IsInside s
     → bracketed (open_in s) ≡ is_flow w → Ground w s
 ground w s p n i f = record { plain = p; nested = n; inside = i; flow = f }
 
+inside_kept_by : (x : State) (start end : yaml_mark_t) (b : TokenBody) (s : List State)
+    → choice_at x (type_of b) ≡ Take → IsInner x → Plain s → Nested (x ∷ s) → IsInside s
+    → KeptInside b start (open_in (x ∷ s)) ((taken_at x (record {
+      body = b;
+      start_mark = start;
+      end_mark = end;
+    })).above ++ s)
+inside_kept_by (state.optional place before) start end b s c h p n i =
+    node_kept (wants_of place) start end b s
+    (take_rule (state.optional place before) (type_of b) c) (ground (wants_of place) s p n.1 i n.0)
+inside_kept_by (state.entries o) start end token.block_entry s c h p n i = keep refl (refl, (refl, p)) (refl, (tt, n.1)) (tt, (tt, i)) refl refl
+inside_kept_by (state.entries o) start end token.block_end s c h p n i = keep refl (plain_topped s p) n.1 i refl refl
+inside_kept_by (state.entries o) start end _ s c h p n i = absurd (was_take _ c)
+inside_kept_by (state.others side) start end token.block_entry s c h p n i = keep refl (refl, (refl, p)) (n.0, (n.0, n.1)) (tt, (tt, i)) refl refl
+inside_kept_by (state.others side) start end _ s c h p n i = absurd (was_take _ c)
+inside_kept_by (state.pairs o) start end token.key s c h p n i = keep refl (refl, (refl, (refl, p))) (refl, (refl, (tt, n.1))) (tt, (tt, (tt, i))) refl refl
+inside_kept_by (state.pairs o) start end token.block_end s c h p n i = keep refl (plain_topped s p) n.1 i refl refl
+inside_kept_by (state.pairs o) start end _ s c h p n i = absurd (was_take _ c)
+inside_kept_by (state.colon place) start end token.value s c h p n i = keep refl (refl, p) (n.0, n.1) (tt, i) refl refl
+inside_kept_by (state.colon place) start end _ s c h p n i = absurd (was_take _ c)
+inside_kept_by (state.with_properties w q) start end (token.anchor name) s c h p n i = keep refl (refl, p) (n.0, n.1) (tt, i) refl refl
+inside_kept_by (state.with_properties w q) start end (token.tag handle suffix) s c h p n i = keep refl (refl, p) (n.0, n.1) (tt, i) refl refl
+inside_kept_by (state.with_properties w q) start end b s c h p n i = content_kept w (Some q) start end b s (take_rule (state.with_properties w q) (type_of b) c) (ground w s p n.1 i n.0)
+inside_kept_by (state.items brackets.Sequence o) start end token.key s c h p n i = keep refl (refl, (refl, (refl, (refl, p)))) (refl, (refl, (tt, (tt, n.1)))) (tt, (tt, (tt, (tt, i)))) refl refl
+inside_kept_by (state.items brackets.Mapping o) start end token.key s c h p n i = keep refl (refl, (refl, (refl, p))) (refl, (refl, (tt, n.1))) (tt, (tt, (tt, i))) refl refl
+inside_kept_by (state.items brackets.Sequence o) start end token.flow_sequence_end s c h p n i = keep refl (plain_topped s p) n.1 i refl refl
+inside_kept_by (state.items brackets.Mapping o) start end token.flow_mapping_end s c h p n i = keep refl (plain_topped s p) n.1 i refl refl
+inside_kept_by (state.items brackets.Sequence o) start end token.flow_mapping_end s c h p n i = absurd (was_take _ c)
+inside_kept_by (state.items brackets.Mapping o) start end token.flow_sequence_end s c h p n i = absurd (was_take _ c)
+inside_kept_by (state.items bs o) start end (token.alias name) s c h p n i = lone_kept bs o start end (token.alias name) s refl p n.1 i
+inside_kept_by (state.items bs o) start end (token.anchor name) s c h p n i = lone_kept bs o start end (token.anchor name) s refl p n.1 i
+inside_kept_by (state.items bs o) start end (token.tag handle suffix) s c h p n i = lone_kept bs o start end (token.tag handle suffix) s refl p n.1 i
+inside_kept_by (state.items bs o) start end (token.scalar value style) s c h p n i = lone_kept bs o start end (token.scalar value style) s refl p n.1 i
+inside_kept_by (state.items bs o) start end token.flow_sequence_start s c h p n i = lone_kept bs o start end token.flow_sequence_start s refl p n.1 i
+inside_kept_by (state.items bs o) start end token.flow_mapping_start s c h p n i = lone_kept bs o start end token.flow_mapping_start s refl p n.1 i
+inside_kept_by (state.items brackets.Sequence o) start end _ s c h p n i = absurd (was_take _ c)
+inside_kept_by (state.items brackets.Mapping o) start end _ s c h p n i = absurd (was_take _ c)
+inside_kept_by (state.more bs o) start end token.flow_entry s c h p n i = keep refl (refl, p) (tt, n.1) (tt, i) refl refl
+inside_kept_by (state.more brackets.Sequence o) start end token.flow_sequence_end s c h p n i = keep refl (plain_topped s p) n.1 i refl refl
+inside_kept_by (state.more brackets.Mapping o) start end token.flow_mapping_end s c h p n i = keep refl (plain_topped s p) n.1 i refl refl
+inside_kept_by (state.more brackets.Sequence o) start end _ s c h p n i = absurd (was_take _ c)
+inside_kept_by (state.more brackets.Mapping o) start end _ s c h p n i = absurd (was_take _ c)
+inside_kept_by state.pair_end start end b s c h p n i = absurd (was_take _ c)
+inside_kept_by state.lone start end b s c h p n i = absurd (was_take _ c)
+inside_kept_by _ start end b s c h p n i = absurd h
+
 pub inside_kept : (x : State) (t : Token) (s : List State) → choice_at x (type_of t.body) ≡ Take
-    → IsInner x → Plain s → Nested (x ∷ s) → IsInside s
-    → KeptInside t.body t.start_mark (open_in (x ∷ s)) ((taken_at x t).above ++ s)
-inside_kept (state.optional place before) t s c h p n i =
-    node_kept (wants_of place) t.start_mark t.end_mark t.body s
-    (take_rule (state.optional place before) (type_of t.body) c) (ground (wants_of place) s p n.1 i n.0)
-inside_kept (state.entries o) t s c h p n i = entries_kept o t.start_mark t.end_mark t.body s c p n.1 i
-inside_kept (state.others side) t s c h p n i = others_kept side t.start_mark t.end_mark t.body s c (ground (Block None) s p n.1 i n.0)
-inside_kept (state.pairs o) t s c h p n i = pairs_kept o t.start_mark t.end_mark t.body s c p n.1 i
-inside_kept (state.colon place) t s c h p n i = colon_kept place t.start_mark t.end_mark t.body s c (ground (wants_of place) s p n.1 i n.0)
-inside_kept (state.with_properties w q) t s c h p n i =
-    with_properties_kept w q t.start_mark t.end_mark t.body s (take_rule (state.with_properties w q) (type_of t.body) c) (ground w s p n.1 i n.0)
-inside_kept (state.items bs o) t s c h p n i = items_kept bs o t.start_mark t.end_mark t.body s c p n.1 i
-inside_kept (state.more bs o) t s c h p n i = more_kept bs o t.start_mark t.end_mark t.body s c p n.1 i
-inside_kept state.pair_end t s c h p n i = absurd (was_take _ c)
-inside_kept state.lone t s c h p n i = absurd (was_take _ c)
-inside_kept _ t s c h p n i = absurd h
+    → IsInner x → Plain s → Nested (x ∷ s) → IsInside s → KeptInside t.body t.start_mark
+    (open_in (x ∷ s)) ((taken_at x t).above ++ s)
+inside_kept x t s c h p n i = inside_kept_by x t.start_mark t.end_mark t.body s c h p n i

@@ -1,26 +1,13 @@
 -- What a state still waits for: the tokens of part of a tree, and what follows them.
 use Rattle.std.proofs.Common.{◌≡◌, ℕ, Bool, true, false, if◌then◌else◌, ◌||◌, List, [], ◌∷◌, ◌++◌, Option, Some, None, refl, sym, ap, subst, ◌∙◌}
 use Rattle.std.proofs.lemmas.Bool.{false≢true}
-use Rattle.yaml_parse_laws_trees.specs.parse_grammar.parse_model.declared.yaml_mark_t.{yaml_mark_t}
-use Rattle.yaml_parse_laws_trees.specs.parse_grammar.parse_model.declared.yaml_token_type_t.{yaml_token_type_t}
-use Rattle.yaml_parse_laws_trees.specs.parse_grammar.parse_model.Tokens.{Token, TokenBody, type_of}
+use Rattle.yaml_parse_laws_trees.proofs.Words.{yaml_mark_t, yaml_token_type_t, Token, TokenBody, type_of, Wants, Flow, Block, Brackets, Root, Refuse, Take, Open, ParseProblem, Properties, Tag, State, Span, token_at, AnchorToken, TagToken, anchor_token, tag_token, PropertyTokens, spell_properties, Node, Content, Maybe, Colon, Items, More, Entries, Others, Pairs, Directive, Documents, First, Stream, spell_node, spell_content, spell_maybe, spell_colon, spell_items, spell_more, spell_entries, spell_others, spell_pairs, spell_directives, spell_ends, spell_documents, spell_first, spell, starts_content, starts_node, wants_of, parts_documents, joins, choice_at, documents_taken, content_taken, node_taken, with_properties_taken, lone_below, taken_at}
 use Rattle.yaml_parse_laws_trees.specs.parse_grammar.parse_model.Tokens as token
-use Rattle.yaml_parse_laws_trees.specs.parse_grammar.declared.name.Wants.{Wants}
-use Rattle.yaml_parse_laws_trees.specs.parse_grammar.declared.name.Wants.TheVariants.{Flow, Block}
-use Rattle.yaml_parse_laws_trees.specs.parse_grammar.declared.name.Side.{Side}
-use Rattle.yaml_parse_laws_trees.specs.parse_grammar.declared.name.Brackets.{Brackets}
 use Rattle.yaml_parse_laws_trees.specs.parse_grammar.declared.name.Brackets.TheVariants as brackets
-use Rattle.yaml_parse_laws_trees.specs.parse_grammar.declared.name.Site.{Site}
-use Rattle.yaml_parse_laws_trees.specs.parse_grammar.declared.name.Site.TheVariants.{Root, IndentlessEntry}
-use Rattle.yaml_parse_laws_trees.specs.parse_grammar.declared.name.Choice.TheVariants.{Refuse, Take, Open}
-use Rattle.yaml_parse_laws_trees.specs.parse_grammar.declared.problem.ParseProblem.{ParseProblem}
 use Rattle.yaml_parse_laws_trees.specs.parse_grammar.declared.problem.ParseProblem.TheVariants as problem
-use Rattle.yaml_parse_laws_trees.specs.parse_grammar.Items.{Properties, Tag}
-use Rattle.yaml_parse_laws_trees.specs.parse_grammar.States.{State}
 use Rattle.yaml_parse_laws_trees.specs.parse_grammar.States as state
-use Rattle.yaml_parse_laws_trees.specs.parse_grammar.Trees.{Span, token_at, AnchorToken, TagToken, anchor_token, tag_token, PropertyTokens, spell_properties, Node, Content, Maybe, Colon, Items, More, Entries, Others, Pairs, Directive, Documents, First, Stream, spell_node, spell_content, spell_maybe, spell_colon, spell_items, spell_more, spell_entries, spell_others, spell_pairs, spell_directives, spell_ends, spell_documents, spell_first, spell}
 use Rattle.yaml_parse_laws_trees.specs.parse_grammar.Trees as tree
-use Rattle.yaml_parse_laws_trees.specs.parse_grammar.Machine.{starts_content, starts_node, wants_of, parts_documents, joins, choice_at, documents_taken, content_taken, node_taken, with_properties_taken, items_taken, more_taken, entries_taken, pairs_taken, stream_taken, lone_below, taken_at}
+use Rattle.yaml_parse_laws_trees.specs.parse_grammar.Machine.{items_taken}
 use Rattle.yaml_parse_laws_trees.proofs.Single.{opens_node}
 use Rattle.yaml_parse_grammar.proofs.Rules.{MayLeave, take_rule, opens_first, was_take}
 
@@ -30,6 +17,21 @@ pub record Spelled (T : Type 0) (spelling : T → List Token → List Token) (P 
   pub rest : List Token
   pub same : ts ≡ spelling tree rest
   pub goes : P rest
+
+-- one part behind another
+pub together : {A B : Type 0} {front : A → List Token → List Token}
+    {back : B → List Token → List Token} {Q P : List Token → Type 0} {ts : List Token}
+    (h : Spelled A front Q ts) → Spelled B back P h.rest
+    → Spelled (A × B) (λ x rest. front x.0 (back x.1 rest)) P ts
+together {front = front} h k = record { tree = (h.tree, k.tree); rest = k.rest; same = h.same ∙ ap (front h.tree) k.same; goes = k.goes }
+
+-- what is made of a part with a token in front
+pub ahead : {A B : Type 0} {front : A → List Token → List Token}
+    {back : B → List Token → List Token} {P : List Token → Type 0} {ts : List Token}
+    → Spelled A front P ts → (t : Token) (make : A → B)
+    → ((x : A) (rest : List Token) → back (make x) rest ≡ t ∷ front x rest)
+    → Spelled B back P (t ∷ ts)
+ahead h t make e = record { tree = make h.tree; rest = h.rest; same = ap (λ us. t ∷ us) h.same ∙ sym (e h.tree h.rest); goes = h.goes }
 
 -- a document behind the directives that were read, and the documents behind it
 pub record Opening : Type 0 where
@@ -113,20 +115,11 @@ content_left : (w : Wants) (p : Option Properties) (start end : yaml_mark_t) (b 
     → (P : List Token → Type 0) (ts : List Token) → Over (content_taken w p start end b).above P ts
     → Spelled (Content w) spell_content P (token_at b (span start end) ∷ ts)
 content_left w p start end (token.scalar value style) c P ts h = record { tree = tree.scalar (span start end) value style; rest = ts; same = refl; goes = h }
-content_left w p start end token.flow_sequence_start c P ts h =
-    record { tree = tree.flow brackets.Sequence (span start end) h.tree; rest = h.rest; same = ap (λ us. token_at token.flow_sequence_start (span start end) ∷ us) h.same; goes = h.goes }
-content_left w p start end token.flow_mapping_start c P ts h =
-    record { tree = tree.flow brackets.Mapping (span start end) h.tree; rest = h.rest; same = ap (λ us. token_at token.flow_mapping_start (span start end) ∷ us) h.same; goes = h.goes }
-content_left (Block s) p start end token.block_sequence_start c P ts h =
-    record { tree = tree.block_sequence (span start end) h.tree; rest = h.rest; same = ap (λ us. token_at token.block_sequence_start (span start end) ∷ us) h.same; goes = h.goes }
-content_left (Block s) p start end token.block_mapping_start c P ts h =
-    record { tree = tree.block_mapping (span start end) h.tree; rest = h.rest; same = ap (λ us. token_at token.block_mapping_start (span start end) ∷ us) h.same; goes = h.goes }
-content_left (Block (Some side)) p start end token.block_entry c P ts h = record {
-  tree = tree.indentless (span start end) h.tree h.goes.tree;
-  rest = h.goes.rest;
-  same = ap (λ us. token_at token.block_entry (span start end) ∷ us) (h.same ∙ ap (spell_maybe h.tree) h.goes.same);
-  goes = h.goes.goes;
-}
+content_left w p start end token.flow_sequence_start c P ts h = ahead h _ (λ x. tree.flow brackets.Sequence (span start end) x) (λ x r. refl)
+content_left w p start end token.flow_mapping_start c P ts h = ahead h _ (λ x. tree.flow brackets.Mapping (span start end) x) (λ x r. refl)
+content_left (Block s) p start end token.block_sequence_start c P ts h = ahead h _ (λ x. tree.block_sequence (span start end) x) (λ x r. refl)
+content_left (Block s) p start end token.block_mapping_start c P ts h = ahead h _ (λ x. tree.block_mapping (span start end) x) (λ x r. refl)
+content_left (Block (Some side)) p start end token.block_entry c P ts h = ahead (together h h.goes) _ (λ x. tree.indentless (span start end) x.0 x.1) (λ x r. refl)
 content_left Flow p start end token.block_sequence_start c P ts h = absurd (false≢true c)
 content_left Flow p start end token.block_mapping_start c P ts h = absurd (false≢true c)
 content_left Flow p start end token.block_entry c P ts h = absurd (false≢true c)
@@ -210,18 +203,8 @@ opening_left : (from start end : yaml_mark_t) (b : TokenBody)
     → (P : List Token → Type 0) (ts : List Token)
     → Over (documents_taken from start end b).above P ts
     → Spelled Opening spell_opening P (token_at b (span start end) ∷ ts)
-opening_left from start end (token.version_directive major minor) c P ts h = record {
-  tree = directed (tree.version (span start end) major minor) h.tree;
-  rest = h.rest;
-  same = ap (λ us. token_at (token.version_directive major minor) (span start end) ∷ us) h.same;
-  goes = h.goes;
-}
-opening_left from start end (token.tag_directive name prefix) c P ts h = record {
-  tree = directed (tree.handle (span start end) name prefix) h.tree;
-  rest = h.rest;
-  same = ap (λ us. token_at (token.tag_directive name prefix) (span start end) ∷ us) h.same;
-  goes = h.goes;
-}
+opening_left from start end (token.version_directive major minor) c P ts h = ahead h _ (λ x. directed (tree.version (span start end) major minor) x) (λ x r. refl)
+opening_left from start end (token.tag_directive name prefix) c P ts h = ahead h _ (λ x. directed (tree.handle (span start end) name prefix) x) (λ x r. refl)
 opening_left from start end token.document_start c P ts h = begun_left start end end P ts h
 opening_left from start end _ c P ts h = absurd (was_take _ c)
 
@@ -240,37 +223,11 @@ parting_left start end (token.tag_directive name prefix) c P ts h = opened_docum
 parting_left start end token.document_start c P ts h = opened_document P _ (opening_left start start end token.document_start refl P ts h)
 parting_left start end _ c P ts h = absurd (false≢true c)
 
-documents_left : (start end : yaml_mark_t) (b : TokenBody)
-    → choice_at state.documents (type_of b) ≡ Take
-    → (P : List Token → Type 0) (ts : List Token)
-    → Over (documents_taken start start end b).above P ts
-    → Left state.documents P (token_at b (span start end) ∷ ts)
-documents_left start end token.document_end c P ts h =
-    record { tree = span start end ∷ h.tree; rest = h.rest; same = ap (λ us. token_at token.document_end (span start end) ∷ us) h.same; goes = h.goes }
-documents_left start end token.stream_end c P ts h = record { tree = []; rest = token_at token.stream_end (span start end) ∷ ts; same = refl; goes = parting_left start end token.stream_end refl P ts h }
-documents_left start end (token.version_directive major minor) c P ts h =
-    record { tree = []; rest = token_at (token.version_directive major minor) (span start end) ∷ ts; same = refl; goes = parting_left start end (token.version_directive major minor) refl P ts h }
-documents_left start end (token.tag_directive name prefix) c P ts h =
-    record { tree = []; rest = token_at (token.tag_directive name prefix) (span start end) ∷ ts; same = refl; goes = parting_left start end (token.tag_directive name prefix) refl P ts h }
-documents_left start end token.document_start c P ts h = record { tree = []; rest = token_at token.document_start (span start end) ∷ ts; same = refl; goes = parting_left start end token.document_start refl P ts h }
-documents_left start end _ c P ts h = absurd (was_take _ c)
-
 taken_first : (a b : Bool) (p : ParseProblem)
     → (if a then Take else if b then Open else Refuse p None) ≡ Take → a ≡ true
 taken_first true b p h = refl
 taken_first false true p h = cc
 taken_first false false p h = cc
-
-first_left : (start end : yaml_mark_t) (b : TokenBody) → choice_at state.first (type_of b) ≡ Take
-    → (P : List Token → Type 0) (ts : List Token)
-    → Over (documents_taken start start end b).above P ts
-    → Left state.first P (token_at b (span start end) ∷ ts)
-first_left start end b c P ts h = record {
-  tree = tree.no_first;
-  rest = token_at b (span start end) ∷ ts;
-  same = refl;
-  goes = parting_left start end b (taken_first (parts_documents (type_of b)) (starts_node (Block None) (type_of b)) problem.NoBlockNode c) P ts h;
-}
 
 -- a document that begins with its root
 opened_left : (t : Token) → starts_node (Block None) (type_of t.body) ≡ true
@@ -286,87 +243,11 @@ opened_left t c P ts h =
       goes = n.goes.goes.goes;
     }
 
-stream_left : (start end : yaml_mark_t) (b : TokenBody) → choice_at state.stream (type_of b) ≡ Take
-    → (P : List Token → Type 0) (ts : List Token) → Over (stream_taken start end b).above P ts
-    → Spelled Stream spell P (token_at b (span start end) ∷ ts)
-stream_left start end (token.stream_start e) c P ts h = record {
-  tree = record { encoding = e; start = span start end; first = h.tree; documents = h.goes.tree };
-  rest = h.goes.rest;
-  same = ap (λ us. token_at (token.stream_start e) (span start end) ∷ us) (h.same ∙ ap (spell_first h.tree) h.goes.same);
-  goes = h.goes.goes;
-}
-stream_left start end _ c P ts h = absurd (was_take _ c)
-
 -- ---- taking a token inside a document
 
 maybe_left : (w : Wants) (P : List Token → Type 0) (ts : List Token)
     → Spelled (Node w) spell_node P ts → Spelled (Maybe w) spell_maybe P ts
 maybe_left w P ts h = record { tree = tree.there h.tree; rest = h.rest; same = h.same; goes = h.goes }
-
-entries_left : (o start end : yaml_mark_t) (b : TokenBody)
-    → choice_at (state.entries o) (type_of b) ≡ Take
-    → (P : List Token → Type 0) (ts : List Token) → Over (entries_taken o start end b).above P ts
-    → Spelled Entries spell_entries P (token_at b (span start end) ∷ ts)
-entries_left o start end token.block_entry c P ts h = record {
-  tree = tree.entry (span start end) h.tree h.goes.tree;
-  rest = h.goes.rest;
-  same = ap (λ us. token_at token.block_entry (span start end) ∷ us) (h.same ∙ ap (spell_maybe h.tree) h.goes.same);
-  goes = h.goes.goes;
-}
-entries_left o start end token.block_end c P ts h = record { tree = tree.end_entries (span start end); rest = ts; same = refl; goes = h }
-entries_left o start end _ c P ts h = absurd (was_take _ c)
-
-pairs_left : (o start end : yaml_mark_t) (b : TokenBody)
-    → choice_at (state.pairs o) (type_of b) ≡ Take
-    → (P : List Token → Type 0) (ts : List Token) → Over (pairs_taken o start end b).above P ts
-    → Spelled Pairs spell_pairs P (token_at b (span start end) ∷ ts)
-pairs_left o start end token.key c P ts h = record {
-  tree = tree.block_pair (span start end) h.tree h.goes.tree h.goes.goes.tree;
-  rest = h.goes.goes.rest;
-  same = ap (λ us. token_at token.key (span start end) ∷ us) (h.same ∙ ap (spell_maybe h.tree) (h.goes.same ∙ ap (spell_colon h.goes.tree) h.goes.goes.same));
-  goes = h.goes.goes.goes;
-}
-pairs_left o start end token.block_end c P ts h = record { tree = tree.end_pairs (span start end); rest = ts; same = refl; goes = h }
-pairs_left o start end _ c P ts h = absurd (was_take _ c)
-
-others_left : (side : Side) (start end : yaml_mark_t) (b : TokenBody)
-    → choice_at (state.others side) (type_of b) ≡ Take
-    → (P : List Token → Type 0) (ts : List Token)
-    → Over (state.optional (IndentlessEntry side) end ∷ state.others side ∷ []) P ts
-    → Spelled Others spell_others P (token_at b (span start end) ∷ ts)
-others_left side start end token.block_entry c P ts h = record {
-  tree = tree.other (span start end) h.tree h.goes.tree;
-  rest = h.goes.rest;
-  same = ap (λ us. token_at token.block_entry (span start end) ∷ us) (h.same ∙ ap (spell_maybe h.tree) h.goes.same);
-  goes = h.goes.goes;
-}
-others_left side start end _ c P ts h = absurd (was_take _ c)
-
-colon_left : (place : Site) (start end : yaml_mark_t) (b : TokenBody)
-    → choice_at (state.colon place) (type_of b) ≡ Take
-    → (P : List Token → Type 0) (ts : List Token) → Over (state.optional place end ∷ []) P ts
-    → Spelled (Colon (wants_of place)) spell_colon P (token_at b (span start end) ∷ ts)
-colon_left place start end token.value c P ts h =
-    record { tree = tree.colon (span start end) h.tree; rest = h.rest; same = ap (λ us. token_at token.value (span start end) ∷ us) h.same; goes = h.goes }
-colon_left place start end _ c P ts h = absurd (was_take _ c)
-
-end_left : (start end : yaml_mark_t) (b : TokenBody)
-    → choice_at state.document_end (type_of b) ≡ Take
-    → (P : List Token → Type 0) (ts : List Token) → P ts
-    → Spelled (Option Span) spell_end P (token_at b (span start end) ∷ ts)
-end_left start end token.document_end c P ts h = record { tree = Some (span start end); rest = ts; same = refl; goes = h }
-end_left start end _ c P ts h = absurd (was_take _ c)
-
-more_left : (bs : Brackets) (o start end : yaml_mark_t) (b : TokenBody)
-    → choice_at (state.more bs o) (type_of b) ≡ Take
-    → (P : List Token → Type 0) (ts : List Token) → Over (more_taken bs o start end b).above P ts
-    → Spelled More (spell_more bs) P (token_at b (span start end) ∷ ts)
-more_left bs o start end token.flow_entry c P ts h =
-    record { tree = tree.comma (span start end) h.tree; rest = h.rest; same = ap (λ us. token_at token.flow_entry (span start end) ∷ us) h.same; goes = h.goes }
-more_left brackets.Sequence o start end token.flow_sequence_end c P ts h = record { tree = tree.end_more (span start end); rest = ts; same = refl; goes = h }
-more_left brackets.Mapping o start end token.flow_mapping_end c P ts h = record { tree = tree.end_more (span start end); rest = ts; same = refl; goes = h }
-more_left brackets.Sequence o start end _ c P ts h = absurd (was_take _ c)
-more_left brackets.Mapping o start end _ c P ts h = absurd (was_take _ c)
 
 -- a lone node inside brackets
 single_left : (bs : Brackets) (o : yaml_mark_t) (P : List Token → Type 0) (ts : List Token)
@@ -389,60 +270,66 @@ node_over bs o start end b c P ts h =
 pair_left : (bs : Brackets) (o start end : yaml_mark_t) (P : List Token → Type 0) (ts : List Token)
     → Over (items_taken bs o start end token.key).above P ts
     → Spelled Items (spell_items bs) P (token_at token.key (span start end) ∷ ts)
-pair_left brackets.Sequence o start end P ts h = record {
-  tree = tree.pair (span start end) h.tree h.goes.tree h.goes.goes.tree;
-  rest = h.goes.goes.rest;
-  same = ap (λ us. token_at token.key (span start end) ∷ us) (h.same ∙ ap (spell_maybe h.tree) (h.goes.same ∙ ap (spell_colon h.goes.tree) h.goes.goes.same));
-  goes = h.goes.goes.goes;
-}
-pair_left brackets.Mapping o start end P ts h = record {
-  tree = tree.pair (span start end) h.tree h.goes.tree h.goes.goes.tree;
-  rest = h.goes.goes.rest;
-  same = ap (λ us. token_at token.key (span start end) ∷ us) (h.same ∙ ap (spell_maybe h.tree) (h.goes.same ∙ ap (spell_colon h.goes.tree) h.goes.goes.same));
-  goes = h.goes.goes.goes;
-}
+pair_left brackets.Sequence o start end P ts h = ahead (together h (together h.goes h.goes.goes)) _ (λ x. tree.pair (span start end) x.0 x.1.0 x.1.1) (λ x r. refl)
+pair_left brackets.Mapping o start end P ts h = ahead (together h (together h.goes h.goes.goes)) _ (λ x. tree.pair (span start end) x.0 x.1.0 x.1.1) (λ x r. refl)
 
-items_left : (bs : Brackets) (o start end : yaml_mark_t) (b : TokenBody)
-    → choice_at (state.items bs o) (type_of b) ≡ Take
-    → (P : List Token → Type 0) (ts : List Token) → Over (items_taken bs o start end b).above P ts
-    → Spelled Items (spell_items bs) P (token_at b (span start end) ∷ ts)
-items_left bs o start end token.key c P ts h = pair_left bs o start end P ts h
-items_left brackets.Sequence o start end token.flow_sequence_end c P ts h = record { tree = tree.end_items (span start end); rest = ts; same = refl; goes = h }
-items_left brackets.Mapping o start end token.flow_mapping_end c P ts h = record { tree = tree.end_items (span start end); rest = ts; same = refl; goes = h }
-items_left brackets.Sequence o start end token.flow_mapping_end c P ts h = absurd (was_take _ c)
-items_left brackets.Mapping o start end token.flow_sequence_end c P ts h = absurd (was_take _ c)
-items_left bs o start end (token.alias name) c P ts h = node_over bs o start end (token.alias name) refl P ts h
-items_left bs o start end (token.anchor name) c P ts h = node_over bs o start end (token.anchor name) refl P ts h
-items_left bs o start end (token.tag handle suffix) c P ts h = node_over bs o start end (token.tag handle suffix) refl P ts h
-items_left bs o start end (token.scalar value style) c P ts h = node_over bs o start end (token.scalar value style) refl P ts h
-items_left bs o start end token.flow_sequence_start c P ts h = node_over bs o start end token.flow_sequence_start refl P ts h
-items_left bs o start end token.flow_mapping_start c P ts h = node_over bs o start end token.flow_mapping_start refl P ts h
-items_left brackets.Sequence o start end _ c P ts h = absurd (was_take _ c)
-items_left brackets.Mapping o start end _ c P ts h = absurd (was_take _ c)
+taking_by : (x : State) (start end : yaml_mark_t) (b : TokenBody) → choice_at x (type_of b) ≡ Take
+    → (P : List Token → Type 0) (ts : List Token)
+    → Over (taken_at x (token_at b (span start end))).above P ts
+    → Left x P ((token_at b (span start end)) ∷ ts)
+taking_by state.stream start end (token.stream_start e) c P ts h = ahead {B = Stream} (together h h.goes) _ (λ x. record { encoding = e; start = span start end; first = x.0; documents = x.1 }) (λ x r. refl)
+taking_by state.first start end b c P ts h = record {
+  tree = tree.no_first;
+  rest = token_at b (span start end) ∷ ts;
+  same = refl;
+  goes = parting_left start end b (taken_first (parts_documents (type_of b)) (starts_node (Block None) (type_of b)) problem.NoBlockNode c) P ts h;
+}
+taking_by state.documents start end token.document_end c P ts h = ahead h _ (λ x. span start end ∷ x) (λ x r. refl)
+taking_by state.documents start end token.stream_end c P ts h = record { tree = []; rest = token_at token.stream_end (span start end) ∷ ts; same = refl; goes = parting_left start end token.stream_end refl P ts h }
+taking_by state.documents start end (token.version_directive major minor) c P ts h =
+    record { tree = []; rest = token_at (token.version_directive major minor) (span start end) ∷ ts; same = refl; goes = parting_left start end (token.version_directive major minor) refl P ts h }
+taking_by state.documents start end (token.tag_directive name prefix) c P ts h =
+    record { tree = []; rest = token_at (token.tag_directive name prefix) (span start end) ∷ ts; same = refl; goes = parting_left start end (token.tag_directive name prefix) refl P ts h }
+taking_by state.documents start end token.document_start c P ts h = record { tree = []; rest = token_at token.document_start (span start end) ∷ ts; same = refl; goes = parting_left start end token.document_start refl P ts h }
+taking_by (state.directives from) start end b c P ts h = opening_left from start end b c P ts h
+taking_by (state.optional place before) start end b c P ts h =
+    maybe_left (wants_of place) P _
+    (node_left (wants_of place) start end b
+    (take_rule (state.optional place before) (type_of b) c) P ts h)
+taking_by state.document_end start end token.document_end c P ts h = record { tree = Some (span start end); rest = ts; same = refl; goes = h }
+taking_by (state.entries o) start end token.block_entry c P ts h = ahead (together h h.goes) _ (λ x. tree.entry (span start end) x.0 x.1) (λ x r. refl)
+taking_by (state.entries o) start end token.block_end c P ts h = record { tree = tree.end_entries (span start end); rest = ts; same = refl; goes = h }
+taking_by (state.others side) start end token.block_entry c P ts h = ahead (together h h.goes) _ (λ x. tree.other (span start end) x.0 x.1) (λ x r. refl)
+taking_by (state.pairs o) start end token.key c P ts h = ahead (together h (together h.goes h.goes.goes)) _ (λ x. tree.block_pair (span start end) x.0 x.1.0 x.1.1) (λ x r. refl)
+taking_by (state.pairs o) start end token.block_end c P ts h = record { tree = tree.end_pairs (span start end); rest = ts; same = refl; goes = h }
+taking_by (state.colon place) start end token.value c P ts h = ahead h _ (λ x. tree.colon (span start end) x) (λ x r. refl)
+taking_by (state.with_properties w p) start end b c P ts h =
+    with_properties_left w p.anchor p.tag p.from p.to start end b (take_rule (state.with_properties w p) (type_of b) c) P ts h
+taking_by (state.items b o) start end token.key c P ts h = pair_left b o start end P ts h
+taking_by (state.items brackets.Sequence o) start end token.flow_sequence_end c P ts h = record { tree = tree.end_items (span start end); rest = ts; same = refl; goes = h }
+taking_by (state.items brackets.Mapping o) start end token.flow_mapping_end c P ts h = record { tree = tree.end_items (span start end); rest = ts; same = refl; goes = h }
+taking_by (state.items brackets.Sequence o) start end token.flow_mapping_end c P ts h = absurd (was_take _ c)
+taking_by (state.items brackets.Mapping o) start end token.flow_sequence_end c P ts h = absurd (was_take _ c)
+taking_by (state.items b o) start end (token.alias name) c P ts h = node_over b o start end (token.alias name) refl P ts h
+taking_by (state.items b o) start end (token.anchor name) c P ts h = node_over b o start end (token.anchor name) refl P ts h
+taking_by (state.items b o) start end (token.tag handle suffix) c P ts h = node_over b o start end (token.tag handle suffix) refl P ts h
+taking_by (state.items b o) start end (token.scalar value style) c P ts h = node_over b o start end (token.scalar value style) refl P ts h
+taking_by (state.items b o) start end token.flow_sequence_start c P ts h = node_over b o start end token.flow_sequence_start refl P ts h
+taking_by (state.items b o) start end token.flow_mapping_start c P ts h = node_over b o start end token.flow_mapping_start refl P ts h
+taking_by (state.items brackets.Sequence o) start end _ c P ts h = absurd (was_take _ c)
+taking_by (state.items brackets.Mapping o) start end _ c P ts h = absurd (was_take _ c)
+taking_by (state.more b o) start end token.flow_entry c P ts h = ahead h _ (λ x. tree.comma (span start end) x) (λ x r. refl)
+taking_by (state.more brackets.Sequence o) start end token.flow_sequence_end c P ts h = record { tree = tree.end_more (span start end); rest = ts; same = refl; goes = h }
+taking_by (state.more brackets.Mapping o) start end token.flow_mapping_end c P ts h = record { tree = tree.end_more (span start end); rest = ts; same = refl; goes = h }
+taking_by (state.more brackets.Sequence o) start end _ c P ts h = absurd (was_take _ c)
+taking_by (state.more brackets.Mapping o) start end _ c P ts h = absurd (was_take _ c)
+taking_by _ start end _ c P ts h = absurd (was_take _ c)
 
 -- A state that takes a token waits for the token, if the states that it puts in its place wait for what follows.
 pub taking : (x : State) (t : Token) → choice_at x (type_of t.body) ≡ Take
-    → (P : List Token → Type 0) (ts : List Token) → Over (taken_at x t).above P ts
-    → Left x P (t ∷ ts)
-taking state.stream t c P ts h = stream_left t.start_mark t.end_mark t.body c P ts h
-taking state.first t c P ts h = first_left t.start_mark t.end_mark t.body c P ts h
-taking state.documents t c P ts h = documents_left t.start_mark t.end_mark t.body c P ts h
-taking (state.directives from) t c P ts h = opening_left from t.start_mark t.end_mark t.body c P ts h
-taking (state.optional place before) t c P ts h =
-    maybe_left (wants_of place) P _
-    (node_left (wants_of place) t.start_mark t.end_mark t.body
-    (take_rule (state.optional place before) (type_of t.body) c) P ts h)
-taking state.document_end t c P ts h = end_left t.start_mark t.end_mark t.body c P ts h
-taking (state.entries o) t c P ts h = entries_left o t.start_mark t.end_mark t.body c P ts h
-taking (state.others side) t c P ts h = others_left side t.start_mark t.end_mark t.body c P ts h
-taking (state.pairs o) t c P ts h = pairs_left o t.start_mark t.end_mark t.body c P ts h
-taking (state.colon place) t c P ts h = colon_left place t.start_mark t.end_mark t.body c P ts h
-taking (state.with_properties w p) t c P ts h =
-    with_properties_left w p.anchor p.tag p.from p.to t.start_mark t.end_mark t.body (take_rule (state.with_properties w p) (type_of t.body) c) P ts h
-taking (state.items b o) t c P ts h = items_left b o t.start_mark t.end_mark t.body c P ts h
-taking (state.more b o) t c P ts h = more_left b o t.start_mark t.end_mark t.body c P ts h
-taking state.pair_end t c P ts h = absurd (was_take _ c)
-taking state.lone t c P ts h = absurd (was_take _ c)
+    → (P : List Token → Type 0) (ts : List Token) → Over (taken_at x t).above P ts → Left x P
+    (t ∷ ts)
+taking x t c h3 ts h = taking_by x t.start_mark t.end_mark t.body c h3 ts h
 
 -- The same of a state at which a document opens.
 pub opening : (x : State) (t : Token) → choice_at x (type_of t.body) ≡ Open

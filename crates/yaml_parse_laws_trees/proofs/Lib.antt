@@ -1,3 +1,4 @@
+mod Words
 pub mod Counts
 pub mod SoFar
 pub mod Turns

@@ -1,18 +1,8 @@
 -- Loads end in the fault of the list.
 use Rattle.std.proofs.Common.{◌≡◌, inl, inr, ℕ, List, [], ◌∷◌, ◌++◌, length, Option, Some, None, refl, ap, sym, subst, ◌∙◌}
-use Rattle.yaml_parse_laws_trees.specs.parse_grammar.parse_model.Tokens.{Token, no_token}
-use Rattle.yaml_parse_laws_trees.specs.parse_grammar.parse_model.Faults.{Fault}
-use Rattle.yaml_parse_laws_trees.specs.parse_grammar.Items.{RawEvent}
-use Rattle.yaml_parse_laws_trees.specs.parse_grammar.States.{State}
+use Rattle.yaml_parse_laws_trees.proofs.Words.{Token, no_token, Fault, RawEvent, State, Stream, spell, Fed, stop, go, feed, Outcome, finished, carry, run, initial, Directives, no_directives, Reading, reading, reading_of, followed_by, handle_fault, directive, StandsIn, with_end, FaultOfTokens, Loading, nothing_loaded, alias_fault, IsFirstIn, IsLoadable, FaultOfLoading}
 use Rattle.yaml_parse_laws_trees.specs.parse_grammar.States as state
-use Rattle.yaml_parse_laws_trees.specs.parse_grammar.Trees.{Stream, spell}
-use Rattle.yaml_parse_laws_trees.specs.parse_grammar.Machine.{Fed, stop, go, feed, Outcome, finished, carry, run, initial}
-use Rattle.yaml_parse_laws_trees.specs.parse_grammar.Resolve.{Directives, no_directives, Reading, reading}
-use Rattle.yaml_parse_laws_trees.specs.parse_grammar.Remaining.{reading_of}
 use Rattle.yaml_parse_laws_trees.proofs.CompleteStream.{nothing_runs}
-use Rattle.yaml_parse_laws_trees.specs.LookBack.{followed_by}
-use Rattle.yaml_parse_laws_trees.specs.Wrong.{handle_fault}
-use Rattle.yaml_parse_laws_trees.specs.Places.{directive, StandsIn, with_end, FaultOfTokens}
 use Rattle.yaml_parse_laws_trees.proofs.Cuts.{Reaches, reaches, followed_on, head_same}
 use Rattle.yaml_parse_laws_trees.proofs.Settling.{Done, bad, fine, read_all}
 use Rattle.yaml_parse_laws_trees.proofs.Stepping.{StepRead}
@@ -20,9 +10,6 @@ use Rattle.yaml_parse_laws_trees.proofs.Tagging.{Step}
 use Rattle.yaml_parse_laws_trees.proofs.Taking.{stack_solid, Stops, stops_at_none, ending_of}
 use Rattle.yaml_parse_laws_trees.proofs.Clean.{Clean, Unfinished, FirstAt, no_fault, free, no_whole_sentence}
 use Rattle.yaml_parse_laws_trees.proofs.Ending.{At, at_start, step_at, Found, found_handle, found_token, found_first, stopped, taken_goes, taken_on, taken_at, sentence_tree, runs_fed, runs_out, ends_in_fault, no_stop}
-use Rattle.yaml_parse_loader.specs.Loading.{Loading, nothing_loaded}
-use Rattle.yaml_parse_laws_trees.specs.Aliases.{alias_fault}
-use Rattle.yaml_parse_laws_trees.specs.Faults.{IsFirstIn, IsLoadable, FaultOfLoading}
 use Rattle.yaml_parse_laws_trees.proofs.Ends.{fault_of_loads, faults_alike}
 use Rattle.yaml_parse_laws_trees.specs.Laws.{LoadsEndInFault, FaultEndsLoads, loads_end}
 use Rattle.yaml_parse_laws_trees.proofs.Placing.{Anchored, loadable, parser_first, alias_first}
@@ -84,12 +71,6 @@ alias_found past t ts f (Some g) e c a u h b =
     inr (record { unfinished = b.unfinished; fault = inl (subst (λ (us : List Token). IsFirstIn us e) (sym r.same) (alias_first past t (ts ++ r.rest) e c a h)) })
 
 -- ---- what loads of a step end in
-
-stop_ends : (is : List RawEvent) (e : Fault) (left : ℕ) (k : List State → Outcome) (ds : Directives)
-    (l : Loading)
-    → ends_in (reading_of (carry left (stop is e) k) ds) l
-    ≡ fared_fault (load_items is ds l) (λ d m. Some e)
-stop_ends is e left k ds l = last_loads is left (Some e) ds l
 
 go_ends : (is : List RawEvent) (s : List State) (left : ℕ) (k : List State → Outcome)
     (ds : Directives) (l : Loading)
@@ -189,7 +170,7 @@ stepped : (x : State) (s : List State) (past : List Token) (ds : Directives) (l 
     → FaultOfLoading (followed_by past (t ∷ ts)) f
     (ends_in (reading_of (carry (length ts) fed (λ s'. run ts s' f)) ds) l)
 stepped x s past ds l t ts f (stop is e) h a n p q r j k =
-    found_load past t ts f _ n (stopped x s past ds t is e h a p q r _ (stop_ends is e (length ts) (λ s'. run ts s' f) ds l ∙ alike_ends (read_all is ds) (load_items is ds l) e j))
+    found_load past t ts f _ n (stopped x s past ds t is e h a p q r _ ((last_loads is (length ts) (Some e) ds l) ∙ alike_ends (read_all is ds) (load_items is ds l) e j))
 stepped x s past ds l t ts f (go is s') (Some g) a n p q r j k =
     found_load past t ts f _ n
     (found_handle x s past ds t g _ a q
@@ -205,7 +186,7 @@ at_last : (x : State) (s : List State) (past : List Token) (ds : Directives) (l 
     (ends_in (reading_of (carry 0 fed (λ _. finished)) ds) l)
 at_last x s past ds l (stop is e) a n p r j h =
     found_last past _ n a.unfinished
-    (stopped x s past ds no_token is e (handle_fault past no_token.body) a p refl r _ (stop_ends is e 0 (λ _. finished) ds l ∙ alike_ends (read_all is ds) (load_items is ds l) e j))
+    (stopped x s past ds no_token is e (handle_fault past no_token.body) a p refl r _ ((last_loads is 0 (Some e) ds l) ∙ alike_ends (read_all is ds) (load_items is ds l) e j))
 at_last x s past ds l (go is s') a n p r j h = absurd (no_stop is s' h)
 
 run_own : (x : State) (s : List State) (g : Fault) (ds : Directives) (l : Loading)

@@ -4,47 +4,26 @@ use Rattle.std.specs.FinMap as map
 use Rattle.std.specs.Ordering.{nat_cmp}
 use Rattle.std.specs.Cmp.Lexicographic.{slice_cmp}
 use Rattle.std.proofs.lemmas.Bool.{false≢true}
-use Rattle.yaml_parse_laws_trees.specs.parse_grammar.parse_model.declared.yaml_mark_t.{yaml_mark_t}
-use Rattle.yaml_parse_laws_trees.specs.parse_grammar.parse_model.declared.yaml_version_directive_t.{yaml_version_directive_t}
+use Rattle.yaml_parse_laws_trees.proofs.Words.{yaml_mark_t, yaml_version_directive_t, Token, TokenBody, type_of, Fault, TagDirective, Wants, Flow, Block, Key, Value, Brackets, Root, Entry, IndentlessEntry, BlockPair, FlowPair, Refuse, Take, Leave, ParseProblem, RawEvent, Properties, Tag, Shape, item_at, node_at, State, event_at, starts_content, starts_node, wants_of, choice_at, documents_taken, content_taken, node_taken, with_properties_taken, lone_below, taken_at, Fed, go, given_by, Directives, noted, with_version, with_tag, directive_for, is_known_version, Loading, nothing_loaded, aliased, has_anchor, alias_fault}
 use Rattle.yaml_parse_laws_trees.specs.parse_grammar.parse_model.declared.yaml_sequence_style_t.TheVariants.{YAML_BLOCK_SEQUENCE_STYLE}
 use Rattle.yaml_parse_laws_trees.specs.parse_grammar.parse_model.declared.yaml_mapping_style_t.TheVariants.{YAML_BLOCK_MAPPING_STYLE, YAML_FLOW_MAPPING_STYLE}
-use Rattle.yaml_parse_laws_trees.specs.parse_grammar.parse_model.Tokens.{Token, TokenBody, type_of}
 use Rattle.yaml_parse_laws_trees.specs.parse_grammar.parse_model.Tokens as token
-use Rattle.yaml_parse_laws_trees.specs.parse_grammar.parse_model.Faults.{Fault}
-use Rattle.yaml_parse_laws_trees.specs.parse_grammar.parse_model.Events.{TagDirective}
 use Rattle.yaml_parse_laws_trees.specs.parse_grammar.parse_model.Events as event
-use Rattle.yaml_parse_laws_trees.specs.parse_grammar.declared.name.Wants.{Wants}
-use Rattle.yaml_parse_laws_trees.specs.parse_grammar.declared.name.Wants.TheVariants.{Flow, Block}
-use Rattle.yaml_parse_laws_trees.specs.parse_grammar.declared.name.Side.{Side}
-use Rattle.yaml_parse_laws_trees.specs.parse_grammar.declared.name.Side.TheVariants.{Key, Value}
-use Rattle.yaml_parse_laws_trees.specs.parse_grammar.declared.name.Brackets.{Brackets}
 use Rattle.yaml_parse_laws_trees.specs.parse_grammar.declared.name.Brackets.TheVariants as brackets
-use Rattle.yaml_parse_laws_trees.specs.parse_grammar.declared.name.Site.{Site}
-use Rattle.yaml_parse_laws_trees.specs.parse_grammar.declared.name.Site.TheVariants.{Root, Entry, IndentlessEntry, BlockPair, FlowPair}
-use Rattle.yaml_parse_laws_trees.specs.parse_grammar.declared.name.Choice.TheVariants.{Refuse, Take, Leave}
-use Rattle.yaml_parse_laws_trees.specs.parse_grammar.declared.problem.ParseProblem.{ParseProblem}
 use Rattle.yaml_parse_laws_trees.specs.parse_grammar.declared.problem.ParseProblem.TheVariants as problem
-use Rattle.yaml_parse_laws_trees.specs.parse_grammar.Items.{RawEvent, Properties, Tag, Shape, item_at, node_at}
 use Rattle.yaml_parse_laws_trees.specs.parse_grammar.Items as item
-use Rattle.yaml_parse_laws_trees.specs.parse_grammar.States.{State}
 use Rattle.yaml_parse_laws_trees.specs.parse_grammar.States as state
-use Rattle.yaml_parse_laws_trees.specs.parse_grammar.Trees.{flow_shape, event_at}
-use Rattle.yaml_parse_laws_trees.specs.parse_grammar.Machine.{starts_content, starts_node, wants_of, choice_at, taken, documents_taken, content_taken, node_taken, with_properties_taken, items_taken, more_taken, entries_taken, pairs_taken, stream_taken, lone_below, taken_at, tag_at, Fed, go, given_by}
-use Rattle.yaml_parse_laws_trees.specs.parse_grammar.Resolve.{Directives, noted, with_version, with_tag, directive_for, is_known_version}
+use Rattle.yaml_parse_laws_trees.specs.parse_grammar.Trees.{flow_shape}
+use Rattle.yaml_parse_laws_trees.specs.parse_grammar.Machine.{taken, tag_at}
 use Rattle.yaml_parse_laws_trees.specs.parse_grammar.Resolve as resolve
 use Rattle.yaml_parse_laws_trees.proofs.FaultsStanding.{Plain}
-use Rattle.yaml_parse_loader.specs.Loading.{Loading, nothing_loaded, started, aliased}
-use Rattle.yaml_parse_laws_trees.specs.Aliases.{has_anchor, undefined, alias_fault}
+use Rattle.yaml_parse_laws_trees.specs.Aliases.{undefined}
 use Rattle.yaml_parse_laws_trees.proofs.Faring.{onward, then_fed}
 use Rattle.yaml_parse_laws_trees.proofs.Fitting.{known, Rooted, is_named, Owes, Names, Held, held, NoneNamed, Fits, fits_below, Added, added_names, Passes, node_passes, anchor_in, placed_passes, closed_fits, whole, FedLoads, AtAlias, loads_on, loads_given}
 use Rattle.yaml_parse_grammar.proofs.Rules.{take_rule, was_take}
 use Rattle.yaml_parse_laws_trees.proofs.Properties.{tok}
 
 -- ---- nodes
-
--- a node's event and what stands above: they fit if no anchor stands at the token
-abbrev content_fits : Option (List ℕ) → List Token → Loading → Type 0
-content_fits anchor past l = Owes anchor past l × Held l
 
 content_given : (past : List Token) (t : Token) (ds : Directives) (l : Loading)
     (p : Option Properties) (shape : Shape) (above s : List State)
@@ -140,13 +119,6 @@ properties_loads w anchor tag from to start end b s past ds l c pl o h =
 
 -- ---- between documents
 
-stream_loads : (start end : yaml_mark_t) (b : TokenBody) (s : List State) (past : List Token)
-    (ds : Directives) (l : Loading) → choice_at state.stream (type_of b) ≡ Take → NoneNamed past
-    → FedLoads past (tok b start end) ds l (given_by (stream_taken start end b) s)
-stream_loads start end (token.stream_start encoding) s past ds l c n =
-    loads_given past (tok (token.stream_start encoding) start end) ds l (event_at (event.stream_start encoding) start end) (state.first ∷ []) s (λ m. Unit {0}) refl (l, λ k. refl, tt) (λ m q. n)
-stream_loads start end _ s past ds l c n = absurd (was_take _ c)
-
 noted_if : (b : Bool) (d : Directives) (f : Fault) (i : RawEvent) (l : Loading)
     → Passes (if b then noted d else resolve.refused f) i l (λ m. Unit {0})
 noted_if true d f i l = tt
@@ -174,16 +146,11 @@ none_held false A e h = cc
 abbrev pub Started : List Token → Loading → Type 0
 Started past m = Names past m × Held m
 
-start_fits : (past : List Token) (version : Option yaml_version_directive_t)
-    (directives : List TagDirective) (implicit : Bool) (from : yaml_mark_t) → NoneNamed past
-    → Started past (started version directives implicit from)
-start_fits past version directives implicit from n = (λ name. nothing_known name ∙ sym (n name), λ name k. none_held _ _ (nothing_known name) k)
-
 pub start_passes : (implicit : Bool) (from to : yaml_mark_t) (past : List Token) (ds : Directives)
     (l : Loading) → NoneNamed past
     → Passes (resolve.settle (item_at (item.document implicit) from to) ds)
     (item_at (item.document implicit) from to) l (λ m. Started past m)
-start_passes implicit from to past ds l n = (_, λ k. refl, start_fits past ds.version ds.tags implicit from n)
+start_passes implicit from to past ds l n = (_, λ k. refl, (λ name. nothing_known name ∙ sym (n name), λ name k. none_held _ _ (nothing_known name) k))
 
 documents_given : (from start end : yaml_mark_t) (b : TokenBody) (s : List State)
     (past : List Token) (ds : Directives) (l : Loading)
@@ -209,33 +176,6 @@ no_alias : (x : State) (b : TokenBody) (name : List ℕ)
     → b ≡ token.alias name → ⊥
 no_alias x b name h c e = h (subst (λ (z : TokenBody). choice_at x (type_of z) ≡ Take) e c)
 
-first_loads : (start end : yaml_mark_t) (b : TokenBody) (s : List State) (past : List Token)
-    (ds : Directives) (l : Loading) → choice_at state.first (type_of b) ≡ Take → s ≡ []
-    → FedLoads past (tok b start end) ds l (given_by (taken_at state.first (tok b start end)) s)
-first_loads start end b s past ds l c e = documents_given start start end b s past ds l (λ name. no_alias state.first b name (λ h. cc) c) e
-
-documents_loads : (start end : yaml_mark_t) (b : TokenBody) (s : List State) (past : List Token)
-    (ds : Directives) (l : Loading) → choice_at state.documents (type_of b) ≡ Take → s ≡ []
-    → FedLoads past (tok b start end) ds l (given_by (taken_at state.documents (tok b start end)) s)
-documents_loads start end b s past ds l c e = documents_given start start end b s past ds l (λ name. no_alias state.documents b name (λ h. cc) c) e
-
-directives_loads : (from start end : yaml_mark_t) (b : TokenBody) (s : List State)
-    (past : List Token) (ds : Directives) (l : Loading)
-    → choice_at (state.directives from) (type_of b) ≡ Take → s ≡ []
-    → FedLoads past (tok b start end) ds l
-    (given_by (taken_at (state.directives from) (tok b start end)) s)
-directives_loads from start end b s past ds l c e = documents_given from start end b s past ds l (λ name. no_alias (state.directives from) b name (λ h. cc) c) e
-
-end_loads : (start end : yaml_mark_t) (b : TokenBody) (s : List State) (past : List Token)
-    (ds : Directives) (l : Loading) → choice_at state.document_end (type_of b) ≡ Take
-    → s ≡ state.documents ∷ [] → Rooted l.document.nodes
-    → FedLoads past (tok b start end) ds l
-    (given_by (taken_at state.document_end (tok b start end)) s)
-end_loads start end token.document_end s past ds l c e r =
-    loads_given past (tok token.document_end start end) ds l (event_at (event.document_end false) start end) [] s (λ m. Unit {0}) refl (nothing_loaded, λ k. whole l.document.nodes (k nothing_loaded) r, tt)
-    (λ m q. subst (λ (z : List State). Fits z (tok token.document_end start end ∷ past) m) (sym e) tt)
-end_loads start end _ s past ds l c e r = absurd (was_take _ c)
-
 -- ---- inside a document
 
 abbrev Inner : List Token → Loading → Type 0
@@ -257,39 +197,6 @@ mapping_closes : (start end : yaml_mark_t) (t : Token) (s : List State) (past : 
     → FedLoads past t ds l (given_by (taken (Some (event_at event.mapping_end start end)) []) s)
 mapping_closes start end t s past ds l e a pl h =
     loads_given past t ds l (event_at event.mapping_end start end) [] s (λ m. Fits s (t ∷ past) m) e (_, λ k. refl, closed_fits end l s (t ∷ past) pl (λ name. h.0 name ∙ sym (a name)) h.1) (λ m q. q)
-
-entries_loads : (o start end : yaml_mark_t) (b : TokenBody) (s : List State) (past : List Token)
-    (ds : Directives) (l : Loading) → choice_at (state.entries o) (type_of b) ≡ Take → Plain s
-    → Inner past l
-    → FedLoads past (tok b start end) ds l (given_by (entries_taken o start end b) s)
-entries_loads o start end token.block_entry s past ds l c pl h = loads_on past (tok token.block_entry start end) ds l (state.optional Entry end ∷ state.entries o ∷ []) s refl (h.0, held l h.1)
-entries_loads o start end token.block_end s past ds l c pl h = sequence_closes start end (tok token.block_end start end) s past ds l refl (λ name. refl) pl h
-entries_loads o start end _ s past ds l c pl h = absurd (was_take _ c)
-
-pairs_loads : (o start end : yaml_mark_t) (b : TokenBody) (s : List State) (past : List Token)
-    (ds : Directives) (l : Loading) → choice_at (state.pairs o) (type_of b) ≡ Take → Plain s
-    → Inner past l
-    → FedLoads past (tok b start end) ds l (given_by (pairs_taken o start end b) s)
-pairs_loads o start end token.key s past ds l c pl h =
-    loads_on past (tok token.key start end) ds l (state.optional (BlockPair Key) end ∷ state.colon (BlockPair Value) ∷ state.pairs o ∷ []) s refl (h.0, held l h.1)
-pairs_loads o start end token.block_end s past ds l c pl h = mapping_closes start end (tok token.block_end start end) s past ds l refl (λ name. refl) pl h
-pairs_loads o start end _ s past ds l c pl h = absurd (was_take _ c)
-
-others_loads : (start end : yaml_mark_t) (b : TokenBody) (side : Side) (s : List State)
-    (past : List Token) (ds : Directives) (l : Loading)
-    → choice_at (state.others side) (type_of b) ≡ Take → Inner past l
-    → FedLoads past (tok b start end) ds l
-    (given_by (taken_at (state.others side) (tok b start end)) s)
-others_loads start end token.block_entry side s past ds l c h = loads_on past (tok token.block_entry start end) ds l (state.optional (IndentlessEntry side) end ∷ state.others side ∷ []) s refl (h.0, held l h.1)
-others_loads start end _ side s past ds l c h = absurd (was_take _ c)
-
-colon_loads : (start end : yaml_mark_t) (b : TokenBody) (place : Site) (s : List State)
-    (past : List Token) (ds : Directives) (l : Loading)
-    → choice_at (state.colon place) (type_of b) ≡ Take → Inner past l
-    → FedLoads past (tok b start end) ds l
-    (given_by (taken_at (state.colon place) (tok b start end)) s)
-colon_loads start end token.value place s past ds l c h = loads_on past (tok token.value start end) ds l (state.optional place end ∷ []) s refl (h.0, held l h.1)
-colon_loads start end _ place s past ds l c h = absurd (was_take _ c)
 
 -- ---- in brackets
 
@@ -316,33 +223,6 @@ starts_part : (a : Bool) (p : ParseProblem) → (if a then Take else Refuse p No
 starts_part true p h = refl
 starts_part false p h = cc
 
-items_loads : (bs : Brackets) (o start end : yaml_mark_t) (b : TokenBody) (s : List State)
-    (past : List Token) (ds : Directives) (l : Loading)
-    → choice_at (state.items bs o) (type_of b) ≡ Take → Plain s → Inner past l
-    → FedLoads past (tok b start end) ds l (given_by (items_taken bs o start end b) s)
-items_loads brackets.Sequence o start end token.key s past ds l c pl h =
-    loads_given past (tok token.key start end) ds l (item_at (item.node None None (item.mapping YAML_FLOW_MAPPING_STYLE)) start end)
-    (state.optional (FlowPair brackets.Sequence Key) end ∷ state.colon (FlowPair brackets.Sequence Value) ∷ state.pair_end ∷ state.more brackets.Sequence o ∷ []) s (λ m. Added None l m) refl
-    (node_passes None None (item.mapping YAML_FLOW_MAPPING_STYLE) start end ds l) (λ m a. (added_names None past l m h.0 a, held m a.rooted))
-items_loads brackets.Mapping o start end token.key s past ds l c pl h =
-    loads_on past (tok token.key start end) ds l (state.optional (FlowPair brackets.Mapping Key) end ∷ state.colon (FlowPair brackets.Mapping Value) ∷ state.more brackets.Mapping o ∷ []) s refl (h.0, held l h.1)
-items_loads brackets.Sequence o start end token.flow_sequence_end s past ds l c pl h = sequence_closes start end (tok token.flow_sequence_end start end) s past ds l refl (λ name. refl) pl h
-items_loads brackets.Mapping o start end token.flow_sequence_end s past ds l c pl h = absurd (was_take _ c)
-items_loads brackets.Sequence o start end token.flow_mapping_end s past ds l c pl h = absurd (was_take _ c)
-items_loads brackets.Mapping o start end token.flow_mapping_end s past ds l c pl h = mapping_closes start end (tok token.flow_mapping_end start end) s past ds l refl (λ name. refl) pl h
-items_loads brackets.Sequence o start end b s past ds l c pl h = part_loads brackets.Sequence o start end b s past ds l (starts_part (starts_node Flow (type_of b)) problem.NoFlowNode c) pl h
-items_loads brackets.Mapping o start end b s past ds l c pl h = part_loads brackets.Mapping o start end b s past ds l (starts_part (starts_node Flow (type_of b)) problem.NoFlowNode c) pl h
-
-more_loads : (bs : Brackets) (o start end : yaml_mark_t) (b : TokenBody) (s : List State)
-    (past : List Token) (ds : Directives) (l : Loading)
-    → choice_at (state.more bs o) (type_of b) ≡ Take → Plain s → Inner past l
-    → FedLoads past (tok b start end) ds l (given_by (more_taken bs o start end b) s)
-more_loads bs o start end token.flow_entry s past ds l c pl h = loads_on past (tok token.flow_entry start end) ds l (state.items bs o ∷ []) s refl h
-more_loads brackets.Sequence o start end token.flow_sequence_end s past ds l c pl h = sequence_closes start end (tok token.flow_sequence_end start end) s past ds l refl (λ name. refl) pl h
-more_loads brackets.Mapping o start end token.flow_mapping_end s past ds l c pl h = mapping_closes start end (tok token.flow_mapping_end start end) s past ds l refl (λ name. refl) pl h
-more_loads brackets.Sequence o start end _ s past ds l c pl h = absurd (was_take _ c)
-more_loads brackets.Mapping o start end _ s past ds l c pl h = absurd (was_take _ c)
-
 -- ---- each state
 
 -- between documents one state stands alone, and the end of one stands above the documents behind it
@@ -354,23 +234,48 @@ SitsAt (state.directives from) s below = s ≡ []
 SitsAt state.document_end s below = s ≡ state.documents ∷ []
 SitsAt _ s below = below
 
+taken_loads_by : (x : State) (start end : yaml_mark_t) (b : TokenBody) (s : List State)
+    (past : List Token) (ds : Directives) (l : Loading) (A : Type 0)
+    → choice_at x (type_of b) ≡ Take → Plain s → SitsAt x s A → Fits (x ∷ s) past l
+    → FedLoads past (tok b start end) ds l (given_by (taken_at x (tok b start end)) s)
+taken_loads_by state.stream start end (token.stream_start encoding) s past ds l A c pl i h =
+    loads_given past (tok (token.stream_start encoding) start end) ds l (event_at (event.stream_start encoding) start end) (state.first ∷ []) s (λ m. Unit {0}) refl (l, λ k. refl, tt) (λ m q. h)
+taken_loads_by state.first start end b s past ds l A c pl i h = documents_given start start end b s past ds l (λ name. no_alias state.first b name (λ e. cc) c) i
+taken_loads_by state.documents start end b s past ds l A c pl i h = documents_given start start end b s past ds l (λ name. no_alias state.documents b name (λ e. cc) c) i
+taken_loads_by (state.directives from) start end b s past ds l A c pl i h = documents_given from start end b s past ds l (λ name. no_alias (state.directives from) b name (λ e. cc) c) i
+taken_loads_by (state.optional place before) start end b s past ds l A c pl i h =
+    node_loads (wants_of place) start end b s past ds l (take_rule (state.optional place before) (type_of b) c) pl h.0 h.1
+taken_loads_by state.document_end start end token.document_end s past ds l A c pl i h =
+    loads_given past (tok token.document_end start end) ds l (event_at (event.document_end false) start end) [] s (λ m. Unit {0}) refl (nothing_loaded, λ k. whole l.document.nodes (k nothing_loaded) h, tt)
+    (λ m q. subst (λ (z : List State). Fits z (tok token.document_end start end ∷ past) m) (sym i) tt)
+taken_loads_by (state.entries o) start end token.block_entry s past ds l A c pl i h = loads_on past (tok token.block_entry start end) ds l (state.optional Entry end ∷ state.entries o ∷ []) s refl (h.0, held l h.1)
+taken_loads_by (state.entries o) start end token.block_end s past ds l A c pl i h = sequence_closes start end (tok token.block_end start end) s past ds l refl (λ name. refl) pl h
+taken_loads_by (state.others side) start end token.block_entry s past ds l A c pl i h = loads_on past (tok token.block_entry start end) ds l (state.optional (IndentlessEntry side) end ∷ state.others side ∷ []) s refl (h.0, held l h.1)
+taken_loads_by (state.pairs o) start end token.key s past ds l A c pl i h =
+    loads_on past (tok token.key start end) ds l (state.optional (BlockPair Key) end ∷ state.colon (BlockPair Value) ∷ state.pairs o ∷ []) s refl (h.0, held l h.1)
+taken_loads_by (state.pairs o) start end token.block_end s past ds l A c pl i h = mapping_closes start end (tok token.block_end start end) s past ds l refl (λ name. refl) pl h
+taken_loads_by (state.colon place) start end token.value s past ds l A c pl i h = loads_on past (tok token.value start end) ds l (state.optional place end ∷ []) s refl (h.0, held l h.1)
+taken_loads_by (state.with_properties w p) start end b s past ds l A c pl i h = properties_loads w p.anchor p.tag p.from p.to start end b s past ds l c pl h.0 h.1
+taken_loads_by (state.items brackets.Sequence o) start end token.key s past ds l A c pl i h =
+    loads_given past (tok token.key start end) ds l (item_at (item.node None None (item.mapping YAML_FLOW_MAPPING_STYLE)) start end)
+    (state.optional (FlowPair brackets.Sequence Key) end ∷ state.colon (FlowPair brackets.Sequence Value) ∷ state.pair_end ∷ state.more brackets.Sequence o ∷ []) s (λ m. Added None l m) refl
+    (node_passes None None (item.mapping YAML_FLOW_MAPPING_STYLE) start end ds l) (λ m a. (added_names None past l m h.0 a, held m a.rooted))
+taken_loads_by (state.items brackets.Mapping o) start end token.key s past ds l A c pl i h =
+    loads_on past (tok token.key start end) ds l (state.optional (FlowPair brackets.Mapping Key) end ∷ state.colon (FlowPair brackets.Mapping Value) ∷ state.more brackets.Mapping o ∷ []) s refl (h.0, held l h.1)
+taken_loads_by (state.items brackets.Sequence o) start end token.flow_sequence_end s past ds l A c pl i h = sequence_closes start end (tok token.flow_sequence_end start end) s past ds l refl (λ name. refl) pl h
+taken_loads_by (state.items brackets.Mapping o) start end token.flow_sequence_end s past ds l A c pl i h = absurd (was_take _ c)
+taken_loads_by (state.items brackets.Sequence o) start end token.flow_mapping_end s past ds l A c pl i h = absurd (was_take _ c)
+taken_loads_by (state.items brackets.Mapping o) start end token.flow_mapping_end s past ds l A c pl i h = mapping_closes start end (tok token.flow_mapping_end start end) s past ds l refl (λ name. refl) pl h
+taken_loads_by (state.items brackets.Sequence o) start end b s past ds l A c pl i h = part_loads brackets.Sequence o start end b s past ds l (starts_part (starts_node Flow (type_of b)) problem.NoFlowNode c) pl h
+taken_loads_by (state.items brackets.Mapping o) start end b s past ds l A c pl i h = part_loads brackets.Mapping o start end b s past ds l (starts_part (starts_node Flow (type_of b)) problem.NoFlowNode c) pl h
+taken_loads_by (state.more bs o) start end token.flow_entry s past ds l A c pl i h = loads_on past (tok token.flow_entry start end) ds l (state.items bs o ∷ []) s refl h
+taken_loads_by (state.more brackets.Sequence o) start end token.flow_sequence_end s past ds l A c pl i h = sequence_closes start end (tok token.flow_sequence_end start end) s past ds l refl (λ name. refl) pl h
+taken_loads_by (state.more brackets.Mapping o) start end token.flow_mapping_end s past ds l A c pl i h = mapping_closes start end (tok token.flow_mapping_end start end) s past ds l refl (λ name. refl) pl h
+taken_loads_by (state.more brackets.Sequence o) start end _ s past ds l A c pl i h = absurd (was_take _ c)
+taken_loads_by (state.more brackets.Mapping o) start end _ s past ds l A c pl i h = absurd (was_take _ c)
+taken_loads_by _ start end _ s past ds l A c pl i h = absurd (was_take _ c)
+
 pub taken_loads : (x : State) (t : Token) (s : List State) (past : List Token) (ds : Directives)
-    (l : Loading) (A : Type 0) → choice_at x (type_of t.body) ≡ Take → Plain s → SitsAt x s A
-    → Fits (x ∷ s) past l
-    → FedLoads past t ds l (given_by (taken_at x t) s)
-taken_loads state.stream t s past ds l A c pl i h = stream_loads t.start_mark t.end_mark t.body s past ds l c h
-taken_loads state.first t s past ds l A c pl i h = first_loads t.start_mark t.end_mark t.body s past ds l c i
-taken_loads state.documents t s past ds l A c pl i h = documents_loads t.start_mark t.end_mark t.body s past ds l c i
-taken_loads (state.directives from) t s past ds l A c pl i h = directives_loads from t.start_mark t.end_mark t.body s past ds l c i
-taken_loads (state.optional place before) t s past ds l A c pl i h =
-    node_loads (wants_of place) t.start_mark t.end_mark t.body s past ds l (take_rule (state.optional place before) (type_of t.body) c) pl h.0 h.1
-taken_loads state.document_end t s past ds l A c pl i h = end_loads t.start_mark t.end_mark t.body s past ds l c i h
-taken_loads (state.entries o) t s past ds l A c pl i h = entries_loads o t.start_mark t.end_mark t.body s past ds l c pl h
-taken_loads (state.others side) t s past ds l A c pl i h = others_loads t.start_mark t.end_mark t.body side s past ds l c h
-taken_loads (state.pairs o) t s past ds l A c pl i h = pairs_loads o t.start_mark t.end_mark t.body s past ds l c pl h
-taken_loads (state.colon place) t s past ds l A c pl i h = colon_loads t.start_mark t.end_mark t.body place s past ds l c h
-taken_loads (state.with_properties w p) t s past ds l A c pl i h = properties_loads w p.anchor p.tag p.from p.to t.start_mark t.end_mark t.body s past ds l c pl h.0 h.1
-taken_loads (state.items bs o) t s past ds l A c pl i h = items_loads bs o t.start_mark t.end_mark t.body s past ds l c pl h
-taken_loads (state.more bs o) t s past ds l A c pl i h = more_loads bs o t.start_mark t.end_mark t.body s past ds l c pl h
-taken_loads state.pair_end t s past ds l A c pl i h = absurd (was_take _ c)
-taken_loads state.lone t s past ds l A c pl i h = absurd (was_take _ c)
+    (l : Loading) (A : Type 0) → choice_at x (type_of t.body) ≡ Take → Plain s → SitsAt x s A → Fits
+    (x ∷ s) past l → FedLoads past t ds l (given_by (taken_at x t) s)
+taken_loads x t s past ds l A c pl i h = taken_loads_by x t.start_mark t.end_mark t.body s past ds l A c pl i h

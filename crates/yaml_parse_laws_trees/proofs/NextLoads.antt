@@ -1,23 +1,18 @@
 -- What a load comes to by content is what it comes to by the loader's steps.
 use Rattle.std.proofs.Common.{◌≡◌, ◌⊎◌, ◌<◌, ◌≤◌, ◌+◌, ℕ, suc, ℤ, inl, inr, Bool, true, false, ◌||◌, cond, List, [], ◌∷◌, ◌++◌, length, Option, Some, None, Result, Ok, refl, sym, ap, subst, ◌∙◌, arith}
+use Rattle.std.proofs.lemmas.List.{append-nil}
 use Rattle.std.specs.FinMap as map
 use Rattle.std.specs.Ordering.{nat_cmp}
 use Rattle.std.specs.Cmp.Lexicographic.{slice_cmp, nat_list_cmp_total}
-use Rattle.yaml_parse_laws_trees.specs.parse_grammar.parse_model.declared.yaml_mark_t.{yaml_mark_t}
-use Rattle.yaml_parse_laws_trees.specs.parse_grammar.parse_model.Faults.{Fault, IsMemoryFault, scan_layers}
-use Rattle.yaml_parse_laws_trees.specs.parse_grammar.parse_model.Source.{HasMore}
-use Rattle.yaml_parse_laws_trees.specs.parse_grammar.parse_model.Events.{Event, EventBody}
+use Rattle.yaml_parse_laws_trees.proofs.Words.{yaml_mark_t, Fault, IsMemoryFault, HasMore, Event, EventBody, Document, Told, ParserRemaining, Anchors, is_same, spanning, Contents, alias, scalar, sequence, mapping, no_items, item, no_pairs, pair, events, item_events, pair_events, DocumentContent, document_events, document_of, Loading, LoadStep, goes_on, loaded, nothing_loaded, named, closed, aliased, step, load, behind, told_events, left_behind, names_behind, wrong_alias, or_later, first_wrong, IsOutside, AreOutside, NoneNext, LoadsByContent, one_more, ended}
+use Rattle.yaml_parse_laws_trees.specs.parse_grammar.parse_model.Faults.{scan_layers}
 use Rattle.yaml_parse_laws_trees.specs.parse_grammar.parse_model.Events as event
 use Rattle.yaml_parse_laws_trees.specs.parse_grammar.parse_model.Prefix.{no_fault}
-use Rattle.yaml_parse_document.specs.Documents.{Document}
-use Rattle.yaml_parse_laws_trees.specs.parse_grammar.Resolve.{Told}
-use Rattle.yaml_parse_laws_trees.specs.parse_grammar.Remaining.{ParserRemaining}
-use Rattle.yaml_parse_loader.specs.Anchors.{Anchors}
-use Rattle.yaml_parse_loader.specs.Numbering.{is_same, spanning, Content, Contents, Pairs, alias, scalar, sequence, mapping, no_items, item, no_pairs, pair, events, item_events, pair_events, DocumentContent, document_events, document_of}
-use Rattle.yaml_parse_loader.specs.Loading.{Open, Loading, LoadStep, goes_on, loaded, refused, nothing_loaded, named, closed, aliased, step, step_body, load, turn, behind}
+use Rattle.yaml_parse_loader.specs.Numbering.{Content, Pairs}
+use Rattle.yaml_parse_loader.specs.Loading.{Open, refused, step_body, turn}
 use Rattle.yaml_parse_loader.specs.Loading as loading
 use Rattle.yaml_parse_loader.proofs.Loads as numbering
-use Rattle.yaml_parse_laws_trees.specs.NextLoad.{told_events, left_behind, is_among, and_anchor, names_behind, unless_known, wrong_alias, or_later, first_wrong, IsOutside, AreOutside, NextLoad, next_document, next_fault, next_none, NoneNext, IsLoadOf, IsNextLoad, GivesLoad, load_unasked, IsRefusalOf, RefusesNext, LoadIsNext, RefusalIsNext, LoadsByContent, one_more, ended, AreLoadsByContent}
+use Rattle.yaml_parse_laws_trees.specs.NextLoad.{is_among, and_anchor, unless_known, NextLoad, next_document, next_fault, next_none, IsLoadOf, IsNextLoad, GivesLoad, load_unasked, IsRefusalOf, RefusesNext, LoadIsNext, RefusalIsNext, AreLoadsByContent}
 use Rattle.yaml_parse_laws_trees.specs.NextLoad as next
 use Rattle.yaml_parse_laws_trees.proofs.ByStep as told
 use Rattle.yaml_parse_laws_trees.proofs.ByStep.{Loads, load_on, behind_all, loads, loads_of, unasked_on, unasked_at_refusal, unasked_of, unasked_by, answer_unasked, LoadGives, LoadRefuses}
@@ -129,59 +124,9 @@ inner_step _ from to l names h k = (refl, k)
 abbrev RefusedAt : Loads → ℕ → Fault × ℕ → Type 0
 RefusedAt r count w = (r ≡ told.faulty w.0) × (count ≡ w.1)
 
-wrong_on : (fed : LoadStep) (wrong : Option Fault) (names : List (List ℕ))
-    (later : Option (Fault × ℕ)) (w : Fault × ℕ) (go : Loading → Loads) (count : Loading → ℕ)
-    (rest : List Told) (n : ℕ)
-    → Inner fed wrong names → or_later wrong n later ≡ Some w
-    → ((m : Loading) → Knows m.anchors names → later ≡ Some w → RefusedAt (go m) (count m) w)
-    → RefusedAt (load_on fed go rest n) (unasked_on fed n count) w
-wrong_on (goes_on m) wrong names later w go count rest n i e h =
-    h m i.1 (ap (λ (o : Option Fault). or_later o n later) (sym i.0) ∙ e)
-wrong_on (loaded d) wrong names later w go count rest n i e h = absurd i
-wrong_on (refused f) wrong names later w go count rest n i e h =
-    let p : Some (f, n) ≡ Some w = ap (λ (o : Option Fault). or_later o n later) (sym i) ∙ e in
-    let q : (f, n) ≡ w = cc in
-    (ap (λ (x : Fault × ℕ). told.faulty x.0) q, ap (λ (x : Fault × ℕ). x.1) q)
-
-wrong_inner : (gs left : List Told) (f : Option Fault) (behind : ℕ) (l : Loading)
-    (names : List (List ℕ)) (w : Fault × ℕ) → AreInner (told_events gs) → Knows l.anchors names
-    → first_wrong gs names ≡ Some w
-    → RefusedAt (loads (gs ++ left) f l) (unasked_at_refusal (gs ++ left) behind l) w
-unfolding loads unasked_at_refusal first_wrong
-wrong_inner [] left f behind l names w h k e = absurd (cc)
-wrong_inner (g ∷ gs) left f behind l names w h k e =
-    wrong_on (step g.0 l) (wrong_alias g.0.body g.0.start_mark names) (names_behind g.0.body names) (first_wrong gs (names_behind g.0.body names)) w
-    (loads (gs ++ left) f) (unasked_at_refusal (gs ++ left) behind) (gs ++ left) g.1
-    (inner_step g.0.body g.0.start_mark g.0.end_mark l names h.0 k) e
-    (λ m c p. wrong_inner gs left f behind m (names_behind g.0.body names) w h.1 c p)
-
 -- nothing is wrong, and what is behind comes
 abbrev EndsAt : Loads → ℕ → Option Fault → ℕ → Type 0
 EndsAt r count f behind = (r ≡ behind_all f) × (count ≡ behind)
-
-right_on : (fed : LoadStep) (wrong : Option Fault) (names : List (List ℕ))
-    (later : Option (Fault × ℕ)) (f : Option Fault) (behind : ℕ) (go : Loading → Loads)
-    (count : Loading → ℕ) (rest : List Told) (n : ℕ)
-    → Inner fed wrong names → or_later wrong n later ≡ None
-    → ((m : Loading) → Knows m.anchors names → later ≡ None → EndsAt (go m) (count m) f behind)
-    → EndsAt (load_on fed go rest n) (unasked_on fed n count) f behind
-right_on (goes_on m) wrong names later f behind go count rest n i e h =
-    h m i.1 (ap (λ (o : Option Fault). or_later o n later) (sym i.0) ∙ e)
-right_on (loaded d) wrong names later f behind go count rest n i e h = absurd i
-right_on (refused g) wrong names later f behind go count rest n i e h =
-    let p : or_later (Some g) n later ≡ None = ap (λ (o : Option Fault). or_later o n later) (sym i) ∙ e in
-    absurd (cc)
-
-right_inner : (gs : List Told) (f : Option Fault) (behind : ℕ) (l : Loading) (names : List (List ℕ))
-    → AreInner (told_events gs) → Knows l.anchors names → first_wrong gs names ≡ None
-    → EndsAt (loads gs f l) (unasked_at_refusal gs behind l) f behind
-unfolding loads unasked_at_refusal first_wrong
-right_inner [] f behind l names h k e = (refl, refl)
-right_inner (g ∷ gs) f behind l names h k e =
-    right_on (step g.0 l) (wrong_alias g.0.body g.0.start_mark names) (names_behind g.0.body names) (first_wrong gs (names_behind g.0.body names)) f behind
-    (loads gs f) (unasked_at_refusal gs behind) gs g.1
-    (inner_step g.0.body g.0.start_mark g.0.end_mark l names h.0 k) e
-    (λ m c p. right_inner gs f behind m (names_behind g.0.body names) h.1 c p)
 
 -- ---- a front of a document's content
 
@@ -198,41 +143,65 @@ pub inner_front : (d : DocumentContent) (gs : List Told) (y : Event) (ys : List 
     → events d.root (end_event d ∷ []) ≡ told_events gs ++ y ∷ ys → AreInner (told_events gs)
 inner_front d gs y ys e = inner_content d.root (end_event d ∷ []) (inner_last (end_event d)) (told_events gs) y ys e
 
-abbrev WrongOf : (w : Fault × ℕ) → List Told → List Told → Option Fault → ℕ → Type 0
-WrongOf w gs left f behind = first_wrong gs [] ≡ Some w → RefusedAt (loads (gs ++ left) f nothing_loaded) (unasked_at_refusal (gs ++ left) behind nothing_loaded) w
+-- An answer and the number beside it, for a front of a document in front of others: what the first wrong alias makes of them where
+-- there is one, else what the others do.
+module _ (R : Loads → ℕ → Type 0) (o : Option (Fault × ℕ)) (left : List Told) (f : Option Fault)
+    (behind : ℕ) (wrong_is : (e : Fault) (n : ℕ) → Some (e, n) ≡ o → R (told.faulty e) n)
+    (left_is : (m : Loading) → None ≡ o → R (loads left f m) (unasked_at_refusal left behind m)) where
+  met_on : (fed : LoadStep) (wrong : Option Fault) (names : List (List ℕ))
+      (later : Option (Fault × ℕ)) (go : Loading → Loads) (count : Loading → ℕ)
+      (rest : List Told) (n : ℕ) → Inner fed wrong names → or_later wrong n later ≡ o
+      → ((m : Loading) → Knows m.anchors names → later ≡ o → R (go m) (count m))
+      → R (load_on fed go rest n) (unasked_on fed n count)
+  met_on (goes_on m) wrong names later go count rest n i e h = h m i.1 (ap (λ (z : Option Fault). or_later z n later) (sym i.0) ∙ e)
+  met_on (loaded d) wrong names later go count rest n i e h = absurd i
+  met_on (refused g) wrong names later go count rest n i e h = wrong_is g n (ap (λ (z : Option Fault). or_later z n later) (sym i) ∙ e)
 
-begun_wrong : (d : DocumentContent) (n : ℕ) (gs left : List Told) (f : Option Fault) (behind : ℕ)
-    (w : Fault × ℕ) → AreInner (told_events gs) → WrongOf w ((start_event d, n) ∷ gs) left f behind
-unfolding loads unasked_at_refusal first_wrong
-begun_wrong d n gs left f behind w h k = wrong_inner gs left f behind (started_by d) [] w h knows_nothing k
+  inner_met : (gs : List Told) (l : Loading) (names : List (List ℕ)) → AreInner (told_events gs)
+      → Knows l.anchors names → first_wrong gs names ≡ o
+      → R (loads (gs ++ left) f l) (unasked_at_refusal (gs ++ left) behind l)
+  unfolding loads unasked_at_refusal first_wrong
+  inner_met [] l names h k e = left_is l e
+  inner_met (g ∷ gs) l names h k e =
+      met_on (step g.0 l) (wrong_alias g.0.body g.0.start_mark names) (names_behind g.0.body names) (first_wrong gs (names_behind g.0.body names))
+      (loads (gs ++ left) f) (unasked_at_refusal (gs ++ left) behind) (gs ++ left) g.1
+      (inner_step g.0.body g.0.start_mark g.0.end_mark l names h.0 k) e
+      (λ m c p. inner_met gs m (names_behind g.0.body names) h.1 c p)
+
+  abbrev FrontMet : List Told → Type 0
+  FrontMet gs = first_wrong gs [] ≡ o → R (loads (gs ++ left) f nothing_loaded) (unasked_at_refusal (gs ++ left) behind nothing_loaded)
+
+  begun_met : (d : DocumentContent) (n : ℕ) (gs : List Told) → AreInner (told_events gs)
+      → FrontMet ((start_event d, n) ∷ gs)
+  unfolding loads unasked_at_refusal first_wrong
+  begun_met d n gs h k = inner_met gs (started_by d) [] h knows_nothing k
+
+  front_met : (d : DocumentContent) (gs : List Told) (y : Event) (ys : List Event)
+      → document_events d [] ≡ told_events gs ++ y ∷ ys → FrontMet gs
+  unfolding first_wrong
+  front_met d [] y ys e k = left_is nothing_loaded k
+  front_met d (g ∷ gs) y ys e k =
+      let first : start_event d ≡ g.0 = cc in
+      let others : events d.root (end_event d ∷ []) ≡ told_events gs ++ y ∷ ys = cc in
+      subst (λ (x : Event). FrontMet ((x, g.1) ∷ gs)) first (begun_met d g.1 gs (inner_front d gs y ys others)) k
 
 front_wrong : (d : DocumentContent) (gs left : List Told) (y : Event) (ys : List Event)
     (f : Option Fault) (behind : ℕ) (w : Fault × ℕ)
-    → document_events d [] ≡ told_events gs ++ y ∷ ys → WrongOf w gs left f behind
-unfolding first_wrong
-front_wrong d [] left y ys f behind w e k = absurd (cc)
-front_wrong d (g ∷ gs) left y ys f behind w e k =
-    let first : start_event d ≡ g.0 = cc in
-    let others : events d.root (end_event d ∷ []) ≡ told_events gs ++ y ∷ ys = cc in
-    subst (λ (x : Event). WrongOf w ((x, g.1) ∷ gs) left f behind) first (begun_wrong d g.1 gs left f behind w (inner_front d gs y ys others)) k
-
-abbrev RightOf : List Told → Option Fault → ℕ → Type 0
-RightOf gs f behind = first_wrong gs [] ≡ None → EndsAt (loads gs f nothing_loaded) (unasked_at_refusal gs behind nothing_loaded) f behind
-
-begun_right : (d : DocumentContent) (n : ℕ) (gs : List Told) (f : Option Fault) (behind : ℕ)
-    → AreInner (told_events gs) → RightOf ((start_event d, n) ∷ gs) f behind
-unfolding loads unasked_at_refusal first_wrong
-begun_right d n gs f behind h k = right_inner gs f behind (started_by d) [] h knows_nothing k
+    → document_events d [] ≡ told_events gs ++ y ∷ ys → first_wrong gs [] ≡ Some w
+    → RefusedAt (loads (gs ++ left) f nothing_loaded)
+    (unasked_at_refusal (gs ++ left) behind nothing_loaded) w
+front_wrong d gs left y ys f behind w e k =
+    front_met (λ r n. RefusedAt r n w) (Some w) left f behind
+    (λ g n p. let q : (g, n) ≡ w = cc in (ap (λ (x : Fault × ℕ). told.faulty x.0) q, ap (λ (x : Fault × ℕ). x.1) q)) (λ m p. absurd (cc)) d gs y ys e k
 
 front_right : (d : DocumentContent) (gs : List Told) (y : Event) (ys : List Event)
     (f : Option Fault) (behind : ℕ) → document_events d [] ≡ told_events gs ++ y ∷ ys
-    → RightOf gs f behind
+    → first_wrong gs [] ≡ None
+    → EndsAt (loads gs f nothing_loaded) (unasked_at_refusal gs behind nothing_loaded) f behind
 unfolding loads unasked_at_refusal
-front_right d [] y ys f behind e k = (refl, refl)
-front_right d (g ∷ gs) y ys f behind e k =
-    let first : start_event d ≡ g.0 = cc in
-    let others : events d.root (end_event d ∷ []) ≡ told_events gs ++ y ∷ ys = cc in
-    subst (λ (x : Event). RightOf ((x, g.1) ∷ gs) f behind) first (begun_right d g.1 gs f behind (inner_front d gs y ys others)) k
+front_right d gs y ys f behind e k =
+    subst (λ (z : List Told). EndsAt (loads z f nothing_loaded) (unasked_at_refusal z behind nothing_loaded) f behind) (append-nil gs)
+    (front_met (λ r n. EndsAt r n f behind) None [] f behind (λ g n p. absurd (cc)) (λ m p. (refl, refl)) d gs y ys e k)
 
 -- ---- events of no document
 

@@ -1,13 +1,9 @@
 -- The first fault of a list, where nothing is wrong with the tokens that were read.
 use Rattle.std.proofs.Common.{◌≡◌, ◌⊎◌, inl, inr, ℕ, ◌<◌, ◌+◌, List, [], ◌∷◌, length, Some, None, refl, ap, sym, subst, ◌∙◌, arith}
 use Rattle.std.proofs.lemmas.Bool.{cases_order}
-use Rattle.yaml_parse_laws_trees.specs.parse_grammar.parse_model.Tokens.{Token}
-use Rattle.yaml_parse_laws_trees.specs.parse_grammar.parse_model.Faults.{Fault}
-use Rattle.yaml_parse_laws_trees.specs.LookBack.{followed_by}
+use Rattle.yaml_parse_laws_trees.proofs.Words.{Token, Fault, followed_by, alias_fault, LoadRank, of_parser, of_alias, LoadRanksBefore, LoadFaultAt, IsFirstIn, IsLoadable}
 use Rattle.yaml_parse_laws_trees.proofs.Cuts.{SameCut, same_cut, followed_length, head_same}
 use Rattle.yaml_parse_laws_trees.proofs.Clean.{Clean, none_earlier, FirstAt, some_none}
-use Rattle.yaml_parse_laws_trees.specs.Aliases.{alias_fault}
-use Rattle.yaml_parse_laws_trees.specs.Faults.{LoadRank, of_parser, of_alias, LoadRanksBefore, LoadFaultAt, IsFirstIn, IsLoadable}
 
 -- each alias among the tokens has its anchor
 abbrev pub Anchored : List Token → Type 0

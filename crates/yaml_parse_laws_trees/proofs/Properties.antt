@@ -1,32 +1,18 @@
 -- The properties that a state holds are the last tokens.
 use Rattle.std.proofs.Common.{◌≡◌, ℕ, true, false, ◌||◌, List, [], ◌∷◌, ◌++◌, Option, Some, None, refl, sym, subst, ◌∙◌}
 use Rattle.std.proofs.lemmas.List.{append_assoc}
-use Rattle.yaml_parse_laws_trees.specs.parse_grammar.parse_model.declared.yaml_mark_t.{yaml_mark_t}
-use Rattle.yaml_parse_laws_trees.specs.parse_grammar.parse_model.Tokens.{Token, TokenBody, type_of}
+use Rattle.yaml_parse_laws_trees.proofs.Words.{yaml_mark_t, Token, TokenBody, type_of, Fault, Wants, Flow, Block, Brackets, Take, RawEvent, Properties, Tag, Shape, item_at, State, joins, starts_content, choice_at, documents_taken, content_taken, node_taken, with_properties_taken, lone_below, taken_at, Directives, settle, directive_for, NodeTag, ended_tag, has_handle, tag_fault}
 use Rattle.yaml_parse_laws_trees.specs.parse_grammar.parse_model.Tokens as token
-use Rattle.yaml_parse_laws_trees.specs.parse_grammar.parse_model.Faults.{Fault}
-use Rattle.yaml_parse_laws_trees.specs.parse_grammar.declared.name.Wants.{Wants}
-use Rattle.yaml_parse_laws_trees.specs.parse_grammar.declared.name.Wants.TheVariants.{Flow, Block}
-use Rattle.yaml_parse_laws_trees.specs.parse_grammar.declared.name.Brackets.{Brackets}
 use Rattle.yaml_parse_laws_trees.specs.parse_grammar.declared.name.Brackets.TheVariants as brackets
-use Rattle.yaml_parse_laws_trees.specs.parse_grammar.declared.name.Choice.TheVariants.{Take}
-use Rattle.yaml_parse_laws_trees.specs.parse_grammar.Items.{RawEvent, Properties, Tag, Shape, item_at}
 use Rattle.yaml_parse_laws_trees.specs.parse_grammar.Items as item
-use Rattle.yaml_parse_laws_trees.specs.parse_grammar.States.{State}
 use Rattle.yaml_parse_laws_trees.specs.parse_grammar.States as state
-use Rattle.yaml_parse_laws_trees.specs.parse_grammar.Machine.{joins, starts_content, choice_at, documents_taken, content_taken, node_taken, with_properties_taken, items_taken, more_taken, stream_taken, entries_taken, pairs_taken, lone_below, taken_at}
-use Rattle.yaml_parse_laws_trees.specs.parse_grammar.Resolve.{Directives, settle, directive_for}
-use Rattle.yaml_parse_laws_trees.specs.LookBack.{NodeTag, ended_tag, tag_behind, tag_before_anchor, unless_joined, has_handle}
-use Rattle.yaml_parse_laws_trees.specs.Wrong.{tag_fault}
+use Rattle.yaml_parse_laws_trees.specs.LookBack.{tag_behind, tag_before_anchor, unless_joined}
 use Rattle.yaml_parse_laws_trees.proofs.FaultsStanding.{asking, property, other, last_of, last_in, told, Plain}
 use Rattle.yaml_parse_laws_trees.proofs.Settling.{Done, then_read, by_fault, tag_in, resolved_done, prefix_known, Agree}
 use Rattle.yaml_parse_grammar.proofs.Rules.{take_rule}
 use Rattle.std.proofs.lemmas.Bool.{false≢true, true≢false}
 
 -- ---- the tag among the last tokens
-
-node_tag : List ℕ → yaml_mark_t → yaml_mark_t → NodeTag
-node_tag handle tag node = record { handle = handle; tag = tag; node = node }
 
 -- a tag that an anchor may still join
 abbrev waiting : NodeTag → TokenBody → Option NodeTag
@@ -143,59 +129,43 @@ lone_plain : (bs : Brackets) (o : yaml_mark_t) (s : List State) → Plain s
 lone_plain brackets.Sequence o s h = (refl, h)
 lone_plain brackets.Mapping o s h = (refl, (refl, h))
 
-items_props : (bs : Brackets) (o start end : yaml_mark_t) (b : TokenBody) (s : List State)
-    (past : List Token) → Plain s → last_in past ≡ asking
-    → PropsTop ((items_taken bs o start end b).above ++ s) (tok b start end ∷ past)
-items_props brackets.Sequence o start end token.key s past h e = tt
-items_props brackets.Mapping o start end token.key s past h e = tt
-items_props bs o start end token.flow_sequence_end s past h e = plain_props s (tok token.flow_sequence_end start end ∷ past) h
-items_props bs o start end token.flow_mapping_end s past h e = plain_props s (tok token.flow_mapping_end start end ∷ past) h
-items_props bs o start end b s past h e =
-    subst (λ (z : List State). PropsTop z (tok b start end ∷ past)) (sym (append_assoc (node_taken Flow start end b).above (lone_below bs (state.more bs o ∷ [])) s))
-    (node_props Flow start end b (lone_below bs (state.more bs o ∷ []) ++ s) past (lone_plain bs o s h) e)
-
 documents_props : (from start end : yaml_mark_t) (b : TokenBody) (s : List State)
     (past : List Token) → Plain s → PropsTop ((documents_taken from start end b).above ++ s) past
 documents_props from start end token.stream_end s past h = plain_props s past h
 documents_props from start end _ s past h = tt
 
-stream_props : (start end : yaml_mark_t) (b : TokenBody) (s : List State) (past : List Token)
-    → PropsTop ((stream_taken start end b).above ++ s) past
-stream_props start end (token.stream_start e) s past = tt
-stream_props start end _ s past = tt
+taken_props_by : (x : State) (start end : yaml_mark_t) (b : TokenBody) (s : List State)
+    (past : List Token) → choice_at x (type_of b) ≡ Take → Plain s
+    → (told x ≡ asking → last_in past ≡ asking) → PropsTop (x ∷ s) past
+    → PropsTop ((taken_at x (tok b start end)).above ++ s) ((tok b start end) ∷ past)
+taken_props_by state.stream start end (token.stream_start e') s past c h e k = tt
+taken_props_by state.stream start end _ s past c h e k = tt
+taken_props_by state.first start end b s past c h e k = documents_props start start end b s ((tok b start end) ∷ past) h
+taken_props_by state.documents start end b s past c h e k = documents_props start start end b s ((tok b start end) ∷ past) h
+taken_props_by (state.directives from) start end b s past c h e k = documents_props from start end b s ((tok b start end) ∷ past) h
+taken_props_by (state.optional place before) start end b s past c h e k = node_props _ start end b s past h (e refl)
+taken_props_by state.document_end start end b s past c h e k = plain_props s ((tok b start end) ∷ past) h
+taken_props_by (state.entries o) start end token.block_entry s past c h e k = tt
+taken_props_by (state.entries o) start end _ s past c h e k = plain_props s _ h
+taken_props_by (state.pairs o) start end token.key s past c h e k = tt
+taken_props_by (state.pairs o) start end _ s past c h e k = plain_props s _ h
+taken_props_by (state.with_properties w p) start end b s past c h e k =
+    with_properties_props w p.anchor p.tag p.from p.to start end b s past (take_rule (state.with_properties w p) (type_of b) c) h k
+taken_props_by (state.items brackets.Sequence o) start end token.key s past c h e k = tt
+taken_props_by (state.items brackets.Mapping o) start end token.key s past c h e k = tt
+taken_props_by (state.items bs o) start end token.flow_sequence_end s past c h e k = plain_props s (tok token.flow_sequence_end start end ∷ past) h
+taken_props_by (state.items bs o) start end token.flow_mapping_end s past c h e k = plain_props s (tok token.flow_mapping_end start end ∷ past) h
+taken_props_by (state.items bs o) start end b s past c h e k =
+    subst (λ (z : List State). PropsTop z (tok b start end ∷ past)) (sym (append_assoc (node_taken Flow start end b).above (lone_below bs (state.more bs o ∷ [])) s))
+    (node_props Flow start end b (lone_below bs (state.more bs o ∷ []) ++ s) past (lone_plain bs o s h) (e refl))
+taken_props_by (state.more bs o) start end token.flow_entry s past c h e k = tt
+taken_props_by (state.more bs o) start end _ s past c h e k = plain_props s _ h
+taken_props_by _ start end b s past c h e k = tt
 
-entries_props : (o start end : yaml_mark_t) (b : TokenBody) (s : List State) (past : List Token)
-    → Plain s → PropsTop ((entries_taken o start end b).above ++ s) past
-entries_props o start end token.block_entry s past h = tt
-entries_props o start end _ s past h = plain_props s past h
-
-pairs_props : (o start end : yaml_mark_t) (b : TokenBody) (s : List State) (past : List Token)
-    → Plain s → PropsTop ((pairs_taken o start end b).above ++ s) past
-pairs_props o start end token.key s past h = tt
-pairs_props o start end _ s past h = plain_props s past h
-
-more_props : (bs : Brackets) (o start end : yaml_mark_t) (b : TokenBody) (s : List State)
-    (past : List Token) → Plain s → PropsTop ((more_taken bs o start end b).above ++ s) past
-more_props bs o start end token.flow_entry s past h = tt
-more_props bs o start end _ s past h = plain_props s past h
-
-pub taken_props : (x : State) (t : Token) (s : List State) (past : List Token)
-    → choice_at x (type_of t.body) ≡ Take → Plain s → (told x ≡ asking → last_in past ≡ asking)
-    → PropsTop (x ∷ s) past
-    → PropsTop ((taken_at x t).above ++ s) (t ∷ past)
-taken_props state.stream t s past c h e k = stream_props t.start_mark t.end_mark t.body s (t ∷ past)
-taken_props state.first t s past c h e k = documents_props t.start_mark t.start_mark t.end_mark t.body s (t ∷ past) h
-taken_props state.documents t s past c h e k = documents_props t.start_mark t.start_mark t.end_mark t.body s (t ∷ past) h
-taken_props (state.directives from) t s past c h e k = documents_props from t.start_mark t.end_mark t.body s (t ∷ past) h
-taken_props (state.optional place before) t s past c h e k = node_props _ t.start_mark t.end_mark t.body s past h (e refl)
-taken_props state.document_end t s past c h e k = plain_props s (t ∷ past) h
-taken_props (state.entries o) t s past c h e k = entries_props o t.start_mark t.end_mark t.body s (t ∷ past) h
-taken_props (state.pairs o) t s past c h e k = pairs_props o t.start_mark t.end_mark t.body s (t ∷ past) h
-taken_props (state.with_properties w p) t s past c h e k =
-    with_properties_props w p.anchor p.tag p.from p.to t.start_mark t.end_mark t.body s past (take_rule (state.with_properties w p) (type_of t.body) c) h k
-taken_props (state.items bs o) t s past c h e k = items_props bs o t.start_mark t.end_mark t.body s past h (e refl)
-taken_props (state.more bs o) t s past c h e k = more_props bs o t.start_mark t.end_mark t.body s (t ∷ past) h
-taken_props _ t s past c h e k = tt
+pub taken_props : (x : State) (t : Token) (s : List State) (past : List Token) → choice_at x
+    (type_of t.body) ≡ Take → Plain s → (told x ≡ asking → last_in past ≡ asking) → PropsTop (x ∷ s)
+    past → PropsTop ((taken_at x t).above ++ s) (t ∷ past)
+taken_props x t s past c h e k = taken_props_by x t.start_mark t.end_mark t.body s past c h e k
 
 -- ---- reading a node behind them
 

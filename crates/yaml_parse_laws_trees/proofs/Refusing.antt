@@ -1,28 +1,15 @@
 -- A state that refuses a token tells the fault of the grammar.
 use Rattle.std.proofs.Common.{◌≡◌, Bool, true, false, if◌then◌else◌, ◌||◌, List, [], ◌∷◌, Option, Some, None, refl, ap, sym, subst, ◌∙◌}
-use Rattle.yaml_parse_laws_trees.specs.parse_grammar.parse_model.declared.yaml_mark_t.{yaml_mark_t}
-use Rattle.yaml_parse_laws_trees.specs.parse_grammar.parse_model.declared.yaml_token_type_t.{yaml_token_type_t}
+use Rattle.yaml_parse_laws_trees.proofs.Words.{yaml_mark_t, yaml_token_type_t, Token, type_of, Fault, Wants, Flow, Block, Brackets, Choice, Refuse, Take, Leave, Open, ParseProblem, problem_text_of, context_text_of, context_place, Site, RawEvent, State, starts_content, starts_node, wants_of, parts_documents, follows, joins, choice_at, left_at, Fed, stop, go, with_item, turn, feed, grammar_fault}
 use Rattle.yaml_parse_laws_trees.specs.parse_grammar.parse_model.declared.yaml_token_type_t.TheVariants as kind
-use Rattle.yaml_parse_laws_trees.specs.parse_grammar.parse_model.Tokens.{Token, type_of}
 use Rattle.yaml_parse_laws_trees.specs.parse_grammar.parse_model.Tokens as token
-use Rattle.yaml_parse_laws_trees.specs.parse_grammar.parse_model.Faults.{Fault}
-use Rattle.yaml_parse_laws_trees.specs.parse_grammar.declared.name.Wants.{Wants}
-use Rattle.yaml_parse_laws_trees.specs.parse_grammar.declared.name.Wants.TheVariants.{Flow, Block}
-use Rattle.yaml_parse_laws_trees.specs.parse_grammar.declared.name.Brackets.{Brackets}
 use Rattle.yaml_parse_laws_trees.specs.parse_grammar.declared.name.Brackets.TheVariants as brackets
-use Rattle.yaml_parse_laws_trees.specs.parse_grammar.declared.name.Choice.{Choice}
-use Rattle.yaml_parse_laws_trees.specs.parse_grammar.declared.name.Choice.TheVariants.{Refuse, Take, Leave, Open}
-use Rattle.yaml_parse_laws_trees.specs.parse_grammar.declared.problem.ParseProblem.{ParseProblem}
 use Rattle.yaml_parse_laws_trees.specs.parse_grammar.declared.problem.ParseProblem.TheVariants as problem
-use Rattle.yaml_parse_laws_trees.specs.parse_grammar.Problems.{problem_text_of, context_text_of, context_place, parser_fault}
-use Rattle.yaml_parse_laws_trees.specs.parse_grammar.declared.name.Site.{Site}
-use Rattle.yaml_parse_laws_trees.specs.parse_grammar.Items.{RawEvent}
-use Rattle.yaml_parse_laws_trees.specs.parse_grammar.States.{State}
+use Rattle.yaml_parse_laws_trees.specs.parse_grammar.Problems.{parser_fault}
 use Rattle.yaml_parse_laws_trees.specs.parse_grammar.States as state
-use Rattle.yaml_parse_laws_trees.specs.parse_grammar.Machine.{starts_content, starts_node, wants_of, closes, parts_documents, follows, no_node, no_end, joins, choice_at, context_of, left_at, Fed, stop, go, with_item, turn, feed}
+use Rattle.yaml_parse_laws_trees.specs.parse_grammar.Machine.{closes, no_node, no_end, context_of}
 use Rattle.yaml_parse_laws_trees.proofs.SoundStanding.{Goes, Stood}
 use Rattle.yaml_parse_laws_trees.specs.Wrong as wrong
-use Rattle.yaml_parse_laws_trees.specs.Wrong.{grammar_fault}
 use Rattle.yaml_parse_laws_trees.proofs.FaultsStanding.{Sign, put, open_in, bracketed, stuck, Last, nothing, asking, property, directive, other, told, Plain, is_flow, Placed, Nested, told_fault}
 use Rattle.yaml_parse_grammar.proofs.Rules.{MayLeave, leave_rule}
 

@@ -1,18 +1,12 @@
 -- The rows, by loading them.
-use Rattle.std.proofs.Common.{◌≡◌, ℤ, pos, List, [], ◌∷◌, Option, Some, None, codes, refl, ap, subst}
+use Rattle.std.proofs.Common.{◌≡◌, ℤ, pos, List, [], ◌∷◌, Option, Some, codes, refl, ap, subst}
 use Rattle.std.specs.FinMap as map
 use Rattle.std.specs.Ordering.{nat_cmp}
 use Rattle.std.specs.Cmp.Lexicographic.{slice_cmp, nat_list_cmp_total}
-use Rattle.yaml_parse_laws_trees.specs.parse_grammar.parse_model.declared.yaml_mark_t.{yaml_mark_t}
-use Rattle.yaml_parse_laws_trees.specs.parse_grammar.parse_model.Faults.{Fault}
-use Rattle.yaml_parse_laws_trees.specs.parse_grammar.Problems.{problem_text_of, context_text_of, context_place}
-use Rattle.yaml_parse_laws_trees.specs.parse_grammar.Machine.{feed, run, initial}
-use Rattle.yaml_parse_laws_trees.specs.parse_grammar.Resolve.{no_directives, reading, directive_for}
-use Rattle.yaml_parse_laws_trees.specs.parse_grammar.Remaining.{reading_of}
-use Rattle.yaml_parse_laws_trees.specs.FaultsRows.{FaultRow, column}
+use Rattle.yaml_parse_laws_trees.proofs.Words.{yaml_mark_t, Fault, problem_text_of, context_text_of, context_place, feed, run, initial, no_directives, reading, directive_for, reading_of, FaultRow, Loading, nothing_loaded, aliased, FaultOfLoading}
+use Rattle.yaml_parse_laws_trees.specs.FaultsRows.{column}
 use Rattle.yaml_parse_loader.specs.Numbering.{undefined_alias}
-use Rattle.yaml_parse_loader.specs.Loading.{Loading, nothing_loaded, attach, aliased}
-use Rattle.yaml_parse_laws_trees.specs.Faults.{FaultOfLoading}
+use Rattle.yaml_parse_loader.specs.Loading.{attach}
 use Rattle.yaml_parse_laws_trees.specs.Rows.{alias_rows, parser_rows, right_rows, AllHold, RowsHold}
 use Rattle.yaml_parse_laws_trees.proofs.Ends.{fault_on, fault_of_loads}
 use Rattle.yaml_parse_laws_trees.proofs.Faring.{ends_in}
@@ -26,22 +20,15 @@ all_hold : (rs : List FaultRow) → AllLoad rs → AllHold rs
 all_hold [] h = tt
 all_hold (r ∷ rs) h = (subst (λ (z : Option Fault). FaultOfLoading r.tokens r.own z) h.0 (steps_end_in_fault r.tokens r.own), all_hold rs h.1)
 
-unknown : map.get nothing_loaded.anchors (codes "b") ≡ None
-unknown = map.get-empty (slice_cmp nat_cmp) (codes "b")
-
-first_known : map.get (map.insert nothing_loaded.anchors (codes "b") (pos 1)) (codes "b")
-    ≡ Some (pos 1)
-first_known = map.get-insert nat_list_cmp_total nothing_loaded.anchors (codes "b") (pos 1) (codes "b")
-
 not_told : (at : yaml_mark_t) (l : Loading) (k : Loading → Option Fault)
     → fault_on (aliased (map.get nothing_loaded.anchors (codes "b")) at l) k
     ≡ Some (undefined_alias at)
-not_told at l k = ap (λ (o : Option ℤ). fault_on (aliased o at l) k) unknown
+not_told at l k = ap (λ (o : Option ℤ). fault_on (aliased o at l) k) (map.get-empty (slice_cmp nat_cmp) (codes "b"))
 
 goes : (at : yaml_mark_t) (l : Loading) (k : Loading → Option Fault)
     → fault_on (aliased (map.get (map.insert nothing_loaded.anchors (codes "b") (pos 1))
     (codes "b")) at l) k ≡ k (record l { levels = attach (pos 1) l.levels })
-goes at l k = ap (λ (o : Option ℤ). fault_on (aliased o at l) k) first_known
+goes at l k = ap (λ (o : Option ℤ). fault_on (aliased o at l) k) (map.get-insert nat_list_cmp_total nothing_loaded.anchors (codes "b") (pos 1) (codes "b"))
 
 aliases_load : AllLoad alias_rows
 unfolding run feed reading directive_for problem_text_of context_text_of context_place fault_of_loads

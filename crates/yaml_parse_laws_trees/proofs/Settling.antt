@@ -1,25 +1,14 @@
 -- What the items of a step do to the directives, and which faults they have.
 use Rattle.std.proofs.Common.{◌≡◌, ℕ, ℤ, Bool, true, false, if◌then◌else◌, ◌||◌, List, [], ◌∷◌, ◌++◌, Option, Some, None, is_some, option_map, codes, refl, ap, sym, ◌∙◌}
 use Rattle.std.specs.Str.{bytes_eq}
-use Rattle.yaml_parse_laws_trees.specs.parse_grammar.parse_model.declared.yaml_mark_t.{yaml_mark_t}
-use Rattle.yaml_parse_laws_trees.specs.parse_grammar.parse_model.declared.yaml_version_directive_t.{yaml_version_directive_t}
-use Rattle.yaml_parse_laws_trees.specs.parse_grammar.parse_model.Tokens.{Token, TokenBody}
+use Rattle.yaml_parse_laws_trees.proofs.Words.{yaml_mark_t, yaml_version_directive_t, Token, TokenBody, Fault, TagDirective, Wants, Flow, Block, problem_text_of, context_text_of, context_place, RawEvent, Properties, Tag, Shape, item_at, State, content_taken, node_taken, taken_at, left_at, Directives, no_directives, Settled, refused, gave, noted, settle, directive_for, with_resolved, with_tag, with_version, is_known_version, directives_before, has_handle, NodeTag, directive_fault}
 use Rattle.yaml_parse_laws_trees.specs.parse_grammar.parse_model.Tokens as token
-use Rattle.yaml_parse_laws_trees.specs.parse_grammar.parse_model.Faults.{Fault}
-use Rattle.yaml_parse_laws_trees.specs.parse_grammar.parse_model.Events.{TagDirective}
-use Rattle.yaml_parse_laws_trees.specs.parse_grammar.declared.name.Wants.{Wants}
-use Rattle.yaml_parse_laws_trees.specs.parse_grammar.declared.name.Wants.TheVariants.{Flow, Block}
-use Rattle.yaml_parse_laws_trees.specs.parse_grammar.declared.name.Brackets.{Brackets}
 use Rattle.yaml_parse_laws_trees.specs.parse_grammar.declared.name.Brackets.TheVariants as brackets
-use Rattle.yaml_parse_laws_trees.specs.parse_grammar.Problems.{problem_text_of, context_text_of, context_place}
-use Rattle.yaml_parse_laws_trees.specs.parse_grammar.Items.{RawEvent, RawEventBody, Properties, Tag, Shape, item_at}
 use Rattle.yaml_parse_laws_trees.specs.parse_grammar.Items as item
-use Rattle.yaml_parse_laws_trees.specs.parse_grammar.States.{State}
 use Rattle.yaml_parse_laws_trees.specs.parse_grammar.States as state
-use Rattle.yaml_parse_laws_trees.specs.parse_grammar.Machine.{content_taken, node_taken, items_taken, more_taken, entries_taken, pairs_taken, taken_at, left_at}
-use Rattle.yaml_parse_laws_trees.specs.parse_grammar.Resolve.{Directives, no_directives, Settled, refused, gave, noted, settle, directive_for, or_default, default_prefix, with_resolved, with_tag, with_version, is_known_version}
-use Rattle.yaml_parse_laws_trees.specs.LookBack.{directives_before, has_version, has_handle, NodeTag}
-use Rattle.yaml_parse_laws_trees.specs.Wrong.{version_fault, handle_twice, directive_fault, undefined_handle, is_version_1}
+use Rattle.yaml_parse_laws_trees.specs.parse_grammar.Resolve.{or_default, default_prefix}
+use Rattle.yaml_parse_laws_trees.specs.LookBack.{has_version}
+use Rattle.yaml_parse_laws_trees.specs.Wrong.{version_fault, handle_twice, undefined_handle, is_version_1}
 
 -- ---- items one after another
 
@@ -61,31 +50,6 @@ node_quiet w start end (token.anchor name) = tt
 node_quiet w start end (token.tag handle suffix) = tt
 node_quiet w start end b = content_quiet w start end b
 
-items_quiet : (bs : Brackets) (o start end : yaml_mark_t) (b : TokenBody)
-    → Quiet (items_taken bs o start end b).item
-items_quiet brackets.Sequence o start end token.key = λ ds k. refl
-items_quiet brackets.Mapping o start end token.key = tt
-items_quiet brackets.Sequence o start end token.flow_sequence_end = λ ds k. refl
-items_quiet brackets.Mapping o start end token.flow_sequence_end = λ ds k. refl
-items_quiet brackets.Sequence o start end token.flow_mapping_end = λ ds k. refl
-items_quiet brackets.Mapping o start end token.flow_mapping_end = λ ds k. refl
-items_quiet bs o start end b = node_quiet Flow start end b
-
-more_quiet : (bs : Brackets) (o start end : yaml_mark_t) (b : TokenBody)
-    → Quiet (more_taken bs o start end b).item
-more_quiet bs o start end token.flow_entry = tt
-more_quiet brackets.Sequence o start end _ = λ ds k. refl
-more_quiet brackets.Mapping o start end _ = λ ds k. refl
-
-entries_quiet : (o start end : yaml_mark_t) (b : TokenBody)
-    → Quiet (entries_taken o start end b).item
-entries_quiet o start end token.block_entry = tt
-entries_quiet o start end _ = λ ds k. refl
-
-pairs_quiet : (o start end : yaml_mark_t) (b : TokenBody) → Quiet (pairs_taken o start end b).item
-pairs_quiet o start end token.key = tt
-pairs_quiet o start end _ = λ ds k. refl
-
 -- a state inside a document that isn't behind properties
 abbrev pub IsMute : State → Type 0
 IsMute state.stream = ⊥
@@ -96,17 +60,31 @@ IsMute state.document_end = ⊥
 IsMute (state.with_properties w p) = ⊥
 IsMute _ = Unit {0}
 
+taken_quiet_by : (x : State) (start end : yaml_mark_t) (b : TokenBody) → IsMute x
+    → Quiet (taken_at x (record { body = b; start_mark = start; end_mark = end })).item
+taken_quiet_by (state.optional place before) start end b h = node_quiet _ start end b
+taken_quiet_by (state.entries o) start end token.block_entry h = tt
+taken_quiet_by (state.entries o) start end _ h = λ ds k. refl
+taken_quiet_by (state.others side) start end b h = tt
+taken_quiet_by (state.pairs o) start end token.key h = tt
+taken_quiet_by (state.pairs o) start end _ h = λ ds k. refl
+taken_quiet_by (state.colon place) start end b h = tt
+taken_quiet_by (state.items brackets.Sequence o) start end token.key h = λ ds k. refl
+taken_quiet_by (state.items brackets.Mapping o) start end token.key h = tt
+taken_quiet_by (state.items brackets.Sequence o) start end token.flow_sequence_end h = λ ds k. refl
+taken_quiet_by (state.items brackets.Mapping o) start end token.flow_sequence_end h = λ ds k. refl
+taken_quiet_by (state.items brackets.Sequence o) start end token.flow_mapping_end h = λ ds k. refl
+taken_quiet_by (state.items brackets.Mapping o) start end token.flow_mapping_end h = λ ds k. refl
+taken_quiet_by (state.items bs o) start end b h = node_quiet Flow start end b
+taken_quiet_by (state.more bs o) start end token.flow_entry h = tt
+taken_quiet_by (state.more brackets.Sequence o) start end _ h = λ ds k. refl
+taken_quiet_by (state.more brackets.Mapping o) start end _ h = λ ds k. refl
+taken_quiet_by state.pair_end start end b h = tt
+taken_quiet_by state.lone start end b h = tt
+taken_quiet_by _ start end b h = absurd h
+
 pub taken_quiet : (x : State) (t : Token) → IsMute x → Quiet (taken_at x t).item
-taken_quiet (state.optional place before) t h = node_quiet _ t.start_mark t.end_mark t.body
-taken_quiet (state.entries o) t h = entries_quiet o t.start_mark t.end_mark t.body
-taken_quiet (state.others side) t h = tt
-taken_quiet (state.pairs o) t h = pairs_quiet o t.start_mark t.end_mark t.body
-taken_quiet (state.colon place) t h = tt
-taken_quiet (state.items bs o) t h = items_quiet bs o t.start_mark t.end_mark t.body
-taken_quiet (state.more bs o) t h = more_quiet bs o t.start_mark t.end_mark t.body
-taken_quiet state.pair_end t h = tt
-taken_quiet state.lone t h = tt
-taken_quiet _ t h = absurd h
+taken_quiet x t h = taken_quiet_by x t.start_mark t.end_mark t.body h
 
 pub left_quiet : (x : State) (start : yaml_mark_t) → IsMute x → Quiet (Some (left_at x start))
 left_quiet state.stream start h = absurd h

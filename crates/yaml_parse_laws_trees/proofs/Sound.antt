@@ -1,20 +1,9 @@
 -- What the machine accepts begins with the tokens of a tree.
 use Rattle.std.proofs.Common.{◌≡◌, ℕ, true, List, [], ◌∷◌, length, Option, Some, None, refl, ap, sym, subst, ◌∙◌}
 use Rattle.yaml_parse_laws_trees.specs.parse_grammar.parse_model.declared.yaml_token_type_t.TheVariants as kind
-use Rattle.yaml_parse_laws_trees.specs.parse_grammar.parse_model.Tokens.{Token, type_of, no_token}
-use Rattle.yaml_parse_laws_trees.specs.parse_grammar.parse_model.Faults.{Fault}
-use Rattle.yaml_parse_laws_trees.specs.parse_grammar.declared.name.Site.TheVariants.{Root}
-use Rattle.yaml_parse_laws_trees.specs.parse_grammar.declared.name.Choice.{Choice}
-use Rattle.yaml_parse_laws_trees.specs.parse_grammar.declared.name.Choice.TheVariants.{Refuse, Take, Leave, Open}
-use Rattle.yaml_parse_laws_trees.specs.parse_grammar.Items.{RawEvent, item_at}
+use Rattle.yaml_parse_laws_trees.proofs.Words.{Token, type_of, no_token, Fault, Root, Choice, Refuse, Take, Leave, Open, RawEvent, item_at, State, Given, items, choice_at, taken_at, left_at, Fed, stop, go, with_item, given_by, turn, feed, Outcome, finished, carry, ending_at, run, initial, Directives, Settled, refused, gave, noted, settle, Reading, read_on, reading, no_directives, reading_of}
 use Rattle.yaml_parse_laws_trees.specs.parse_grammar.Items as item
-use Rattle.yaml_parse_laws_trees.specs.parse_grammar.States.{State}
 use Rattle.yaml_parse_laws_trees.specs.parse_grammar.States as state
-use Rattle.yaml_parse_laws_trees.specs.parse_grammar.Trees.{Given}
-use Rattle.yaml_parse_laws_trees.specs.parse_grammar.TreeSteps.{items}
-use Rattle.yaml_parse_laws_trees.specs.parse_grammar.Machine.{choice_at, taken_at, left_at, Fed, stop, go, with_item, given_by, turn, feed, Outcome, finished, carry, ending_at, run, initial}
-use Rattle.yaml_parse_laws_trees.specs.parse_grammar.Resolve.{Directives, Settled, refused, gave, noted, settle, Reading, read_on, reading, no_directives}
-use Rattle.yaml_parse_laws_trees.specs.parse_grammar.Remaining.{reading_of}
 use Rattle.yaml_parse_laws_trees.proofs.CompleteStream.{stream_runs}
 use Rattle.yaml_parse_laws_trees.proofs.Voice.{takes_a_token}
 use Rattle.yaml_parse_laws_trees.proofs.Turns.{items_given}

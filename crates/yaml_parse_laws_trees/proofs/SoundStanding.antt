@@ -1,26 +1,12 @@
 -- What stands below a state: after a left-out node nothing is refused, and below a state that leaves something waits to be closed.
 use Rattle.std.proofs.Common.{◌≡◌, ◌⊎◌, inl, inr, true, List, [], ◌∷◌, ◌++◌, Option, Some, None, refl, sym, subst}
 use Rattle.std.proofs.lemmas.List.{append_assoc}
-use Rattle.yaml_parse_laws_trees.specs.parse_grammar.parse_model.declared.yaml_mark_t.{yaml_mark_t}
-use Rattle.yaml_parse_laws_trees.specs.parse_grammar.parse_model.declared.yaml_token_type_t.{yaml_token_type_t}
+use Rattle.yaml_parse_laws_trees.proofs.Words.{yaml_mark_t, yaml_token_type_t, Token, TokenBody, type_of, Wants, Flow, Block, Side, Key, Value, Brackets, Site, Root, Entry, IndentlessEntry, BlockPair, FlowPair, Choice, Refuse, Take, Leave, Open, RawEvent, Properties, item_at, State, wants_of, follows, choice_at, documents_taken, content_taken, node_taken, lone_below, taken_at, left_at, Fed, stop, go, with_item, given_by, turn, feed}
 use Rattle.yaml_parse_laws_trees.specs.parse_grammar.parse_model.declared.yaml_token_type_t.TheVariants as kind
-use Rattle.yaml_parse_laws_trees.specs.parse_grammar.parse_model.Tokens.{Token, TokenBody, type_of}
 use Rattle.yaml_parse_laws_trees.specs.parse_grammar.parse_model.Tokens as token
-use Rattle.yaml_parse_laws_trees.specs.parse_grammar.declared.name.Wants.{Wants}
-use Rattle.yaml_parse_laws_trees.specs.parse_grammar.declared.name.Wants.TheVariants.{Flow, Block}
-use Rattle.yaml_parse_laws_trees.specs.parse_grammar.declared.name.Side.{Side}
-use Rattle.yaml_parse_laws_trees.specs.parse_grammar.declared.name.Side.TheVariants.{Key, Value}
-use Rattle.yaml_parse_laws_trees.specs.parse_grammar.declared.name.Brackets.{Brackets}
 use Rattle.yaml_parse_laws_trees.specs.parse_grammar.declared.name.Brackets.TheVariants as brackets
-use Rattle.yaml_parse_laws_trees.specs.parse_grammar.declared.name.Site.{Site}
-use Rattle.yaml_parse_laws_trees.specs.parse_grammar.declared.name.Site.TheVariants.{Root, Entry, IndentlessEntry, BlockPair, FlowPair}
-use Rattle.yaml_parse_laws_trees.specs.parse_grammar.declared.name.Choice.{Choice}
-use Rattle.yaml_parse_laws_trees.specs.parse_grammar.declared.name.Choice.TheVariants.{Refuse, Take, Leave, Open}
-use Rattle.yaml_parse_laws_trees.specs.parse_grammar.Items.{RawEvent, Properties, item_at}
 use Rattle.yaml_parse_laws_trees.specs.parse_grammar.Items as item
-use Rattle.yaml_parse_laws_trees.specs.parse_grammar.States.{State}
 use Rattle.yaml_parse_laws_trees.specs.parse_grammar.States as state
-use Rattle.yaml_parse_laws_trees.specs.parse_grammar.Machine.{wants_of, follows, choice_at, documents_taken, content_taken, node_taken, with_properties_taken, items_taken, more_taken, entries_taken, pairs_taken, stream_taken, lone_below, taken_at, left_at, Fed, stop, go, with_item, given_by, turn, feed}
 use Rattle.yaml_parse_grammar.proofs.Rules.{was_take}
 use Rattle.std.proofs.lemmas.Bool.{false≢true}
 
@@ -62,17 +48,11 @@ entry_taken o kind.YAML_BLOCK_ENTRY_TOKEN h = refl
 entry_taken o kind.YAML_BLOCK_END_TOKEN h = refl
 entry_taken o _ h = absurd (false≢true h)
 
-entries_fit : (o : yaml_mark_t) (s : List State) → Fits Entry (state.entries o ∷ s)
-entries_fit o s t h = takes_goes (state.entries o) s t (entry_taken o (type_of t.body) h)
-
 pair_taken : (o : yaml_mark_t) (k : yaml_token_type_t) → follows (BlockPair Value) k ≡ true
     → choice_at (state.pairs o) k ≡ Take
 pair_taken o kind.YAML_KEY_TOKEN h = refl
 pair_taken o kind.YAML_BLOCK_END_TOKEN h = refl
 pair_taken o _ h = absurd (false≢true h)
-
-pairs_fit : (o : yaml_mark_t) (s : List State) → Fits (BlockPair Value) (state.pairs o ∷ s)
-pairs_fit o s t h = takes_goes (state.pairs o) s t (pair_taken o (type_of t.body) h)
 
 colon_choice : (place : Site) (k : yaml_token_type_t) → TakesOrLeaves (state.colon place) k
 colon_choice place kind.YAML_VALUE_TOKEN = inl refl
@@ -88,7 +68,8 @@ block_key _ h c = absurd (false≢true h)
 keys_fit : (o : yaml_mark_t) (s : List State)
     → Fits (BlockPair Key) (state.colon (BlockPair Value) ∷ state.pairs o ∷ s)
 keys_fit o s t h =
-    takes_or_leaves (state.colon (BlockPair Value)) (state.pairs o ∷ s) t (colon_choice (BlockPair Value) (type_of t.body)) (λ c. pairs_fit o s t (block_key (type_of t.body) h c))
+    takes_or_leaves (state.colon (BlockPair Value)) (state.pairs o ∷ s) t (colon_choice (BlockPair Value) (type_of t.body)) (λ c.
+    takes_goes (state.pairs o) s t (pair_taken o (type_of t.body) (block_key (type_of t.body) h c)))
 
 more_taken_at : (b : Brackets) (o : yaml_mark_t) (k : yaml_token_type_t)
     → follows (FlowPair b Value) k ≡ true → choice_at (state.more b o) k ≡ Take
@@ -216,13 +197,6 @@ node_stood w start end (token.anchor name) s f c a = ((f, c), a)
 node_stood w start end (token.tag handle suffix) s f c a = ((f, c), a)
 node_stood w start end b s f c a = content_stood w None start end b s f c a
 
-with_properties_stood : (w : Wants) (p : Properties) (start end : yaml_mark_t) (b : TokenBody)
-    (s : List State) → FitsWants w s → Closed s → AllStood s
-    → AllStood ((with_properties_taken w p start end b).above ++ s)
-with_properties_stood w p start end (token.anchor name) s f c a = ((f, c), a)
-with_properties_stood w p start end (token.tag handle suffix) s f c a = ((f, c), a)
-with_properties_stood w p start end b s f c a = content_stood w (Some p) start end b s f c a
-
 documents_stood : (from start end : yaml_mark_t) (b : TokenBody) (s : List State) → AllStood s
     → AllStood ((documents_taken from start end b).above ++ s)
 documents_stood from start end (token.version_directive major minor) s a = (tt, a)
@@ -230,12 +204,6 @@ documents_stood from start end (token.tag_directive name prefix) s a = (tt, a)
 documents_stood from start end token.document_start s a = ((root_fits s, tt), (tt, (tt, a)))
 documents_stood from start end token.stream_end s a = a
 documents_stood from start end _ s a = (tt, a)
-
-stream_stood : (start end : yaml_mark_t) (b : TokenBody) (s : List State)
-    → choice_at state.stream (type_of b) ≡ Take → AllStood s
-    → AllStood ((stream_taken start end b).above ++ s)
-stream_stood start end (token.stream_start e) s c a = (tt, a)
-stream_stood start end _ s c a = absurd (was_take _ c)
 
 lone_closed : (b : Brackets) (o : yaml_mark_t) (s : List State)
     → Closed (lone_below b (state.more b o ∷ []) ++ s)
@@ -247,50 +215,40 @@ lone_stood : (b : Brackets) (o : yaml_mark_t) (s : List State) → AllStood s
 lone_stood brackets.Sequence o s a = (tt, a)
 lone_stood brackets.Mapping o s a = (tt, (tt, a))
 
-items_stood : (b : Brackets) (o start end : yaml_mark_t) (x : TokenBody) (s : List State)
-    → AllStood s → AllStood ((items_taken b o start end x).above ++ s)
-items_stood brackets.Sequence o start end token.key s a =
+taken_stood_by : (x : State) (start end : yaml_mark_t) (b : TokenBody) (s : List State)
+    → choice_at x (type_of b) ≡ Take → Stood x s → AllStood s
+    → AllStood ((taken_at x (record { body = b; start_mark = start; end_mark = end })).above ++ s)
+taken_stood_by state.stream start end (token.stream_start e) s c h a = (tt, a)
+taken_stood_by state.first start end b s c h a = documents_stood start start end b s a
+taken_stood_by state.documents start end b s c h a = documents_stood start start end b s a
+taken_stood_by (state.directives from) start end b s c h a = documents_stood from start end b s a
+taken_stood_by (state.optional place before) start end b s c h a = node_stood (wants_of place) start end b s (fits_wants place s h.0) h.1 a
+taken_stood_by state.document_end start end b s c h a = a
+taken_stood_by (state.entries o) start end token.block_entry s c h a = (((λ t h. takes_goes (state.entries o) s t (entry_taken o (type_of t.body) h)), tt), (tt, a))
+taken_stood_by (state.entries o) start end _ s c h a = a
+taken_stood_by (state.others side) start end b s c h a = ((others_fit side s h.0, h.1), (h, a))
+taken_stood_by (state.pairs o) start end token.key s c h a = ((keys_fit o s, tt), (((λ t h. takes_goes (state.pairs o) s t (pair_taken o (type_of t.body) h)), tt), (tt, a)))
+taken_stood_by (state.pairs o) start end _ s c h a = a
+taken_stood_by (state.colon place) start end b s c h a = (h, a)
+taken_stood_by (state.with_properties w p) start end (token.anchor name) s c h a = ((h.0, h.1), a)
+taken_stood_by (state.with_properties w p) start end (token.tag handle suffix) s c h a = ((h.0, h.1), a)
+taken_stood_by (state.with_properties w p) start end b s c h a = content_stood w (Some p) start end b s h.0 h.1 a
+taken_stood_by (state.items brackets.Sequence o) start end token.key s c h a =
     ((flow_keys_fit brackets.Sequence (state.pair_end ∷ state.more brackets.Sequence o ∷ s) (end_fits brackets.Sequence o s), tt), ((end_fits brackets.Sequence o s, tt), (tt, (tt, a))))
-items_stood brackets.Mapping o start end token.key s a =
+taken_stood_by (state.items brackets.Mapping o) start end token.key s c h a =
     ((flow_keys_fit brackets.Mapping (state.more brackets.Mapping o ∷ s) (more_fits brackets.Mapping o s), tt), ((more_fits brackets.Mapping o s, tt), (tt, a)))
-items_stood b o start end token.flow_sequence_end s a = a
-items_stood b o start end token.flow_mapping_end s a = a
-items_stood b o start end x s a =
-    subst AllStood (sym (append_assoc (node_taken Flow start end x).above (lone_below b (state.more b o ∷ [])) s))
-    (node_stood Flow start end x (lone_below b (state.more b o ∷ []) ++ s) tt (lone_closed b o s) (lone_stood b o s a))
+taken_stood_by (state.items b o) start end token.flow_sequence_end s c h a = a
+taken_stood_by (state.items b o) start end token.flow_mapping_end s c h a = a
+taken_stood_by (state.items b o) start end b' s c h a =
+    subst AllStood (sym (append_assoc (node_taken Flow start end b').above (lone_below b (state.more b o ∷ [])) s))
+    (node_stood Flow start end b' (lone_below b (state.more b o ∷ []) ++ s) tt (lone_closed b o s) (lone_stood b o s a))
+taken_stood_by (state.more b o) start end token.flow_entry s c h a = (tt, a)
+taken_stood_by (state.more b o) start end _ s c h a = a
+taken_stood_by _ start end _ s c h a = absurd (was_take _ c)
 
-more_stood : (b : Brackets) (o start end : yaml_mark_t) (x : TokenBody) (s : List State)
-    → AllStood s → AllStood ((more_taken b o start end x).above ++ s)
-more_stood b o start end token.flow_entry s a = (tt, a)
-more_stood b o start end _ s a = a
-
-entries_stood : (o start end : yaml_mark_t) (x : TokenBody) (s : List State) → AllStood s
-    → AllStood ((entries_taken o start end x).above ++ s)
-entries_stood o start end token.block_entry s a = ((entries_fit o s, tt), (tt, a))
-entries_stood o start end _ s a = a
-
-pairs_stood : (o start end : yaml_mark_t) (x : TokenBody) (s : List State) → AllStood s
-    → AllStood ((pairs_taken o start end x).above ++ s)
-pairs_stood o start end token.key s a = ((keys_fit o s, tt), ((pairs_fit o s, tt), (tt, a)))
-pairs_stood o start end _ s a = a
-
-taken_stood : (x : State) (t : Token) (s : List State) → choice_at x (type_of t.body) ≡ Take
-    → Stood x s → AllStood s → AllStood ((taken_at x t).above ++ s)
-taken_stood state.stream t s c h a = stream_stood t.start_mark t.end_mark t.body s c a
-taken_stood state.first t s c h a = documents_stood t.start_mark t.start_mark t.end_mark t.body s a
-taken_stood state.documents t s c h a = documents_stood t.start_mark t.start_mark t.end_mark t.body s a
-taken_stood (state.directives from) t s c h a = documents_stood from t.start_mark t.end_mark t.body s a
-taken_stood (state.optional place before) t s c h a = node_stood (wants_of place) t.start_mark t.end_mark t.body s (fits_wants place s h.0) h.1 a
-taken_stood state.document_end t s c h a = a
-taken_stood (state.entries o) t s c h a = entries_stood o t.start_mark t.end_mark t.body s a
-taken_stood (state.others side) t s c h a = ((others_fit side s h.0, h.1), (h, a))
-taken_stood (state.pairs o) t s c h a = pairs_stood o t.start_mark t.end_mark t.body s a
-taken_stood (state.colon place) t s c h a = (h, a)
-taken_stood (state.with_properties w p) t s c h a = with_properties_stood w p t.start_mark t.end_mark t.body s h.0 h.1 a
-taken_stood (state.items b o) t s c h a = items_stood b o t.start_mark t.end_mark t.body s a
-taken_stood (state.more b o) t s c h a = more_stood b o t.start_mark t.end_mark t.body s a
-taken_stood state.pair_end t s c h a = absurd (was_take _ c)
-taken_stood state.lone t s c h a = absurd (was_take _ c)
+taken_stood : (x : State) (t : Token) (s : List State) → choice_at x (type_of t.body) ≡ Take → Stood
+    x s → AllStood s → AllStood ((taken_at x t).above ++ s)
+taken_stood x t s c h a = taken_stood_by x t.start_mark t.end_mark t.body s c h a
 
 abbrev pub FedStood : Fed → Type 0
 FedStood (stop is f) = Unit {0}

@@ -1,20 +1,11 @@
 -- One token: what the stack gives is read, and the directives agree with the tokens from then on.
 use Rattle.std.proofs.Common.{◌≡◌, Bool, true, false, if◌then◌else◌, List, [], ◌∷◌, ◌++◌, Option, Some, None, refl, ap, sym, subst}
-use Rattle.yaml_parse_laws_trees.specs.parse_grammar.parse_model.declared.yaml_mark_t.{yaml_mark_t}
-use Rattle.yaml_parse_laws_trees.specs.parse_grammar.parse_model.Tokens.{Token, TokenBody, type_of}
+use Rattle.yaml_parse_laws_trees.proofs.Words.{yaml_mark_t, Token, TokenBody, type_of, Choice, Refuse, Take, Leave, Open, RawEvent, item_at, State, IsInner, IsInside, choice_at, taken_at, left_at, Fed, stop, go, with_item, given_by, turn, feed, Directives, no_directives, directives_before, document_directives, is_directive, directive_fault}
 use Rattle.yaml_parse_laws_trees.specs.parse_grammar.parse_model.Tokens as token
 use Rattle.yaml_parse_laws_trees.specs.parse_grammar.parse_model.Events as event
-use Rattle.yaml_parse_laws_trees.specs.parse_grammar.declared.name.Choice.{Choice}
-use Rattle.yaml_parse_laws_trees.specs.parse_grammar.declared.name.Choice.TheVariants.{Refuse, Take, Leave, Open}
-use Rattle.yaml_parse_laws_trees.specs.parse_grammar.Items.{RawEvent, item_at}
 use Rattle.yaml_parse_laws_trees.specs.parse_grammar.Items as item
-use Rattle.yaml_parse_laws_trees.specs.parse_grammar.States.{State}
 use Rattle.yaml_parse_laws_trees.specs.parse_grammar.States as state
-use Rattle.yaml_parse_laws_trees.specs.parse_grammar.Stacks.{IsInner, InsideAt, IsInside}
-use Rattle.yaml_parse_laws_trees.specs.parse_grammar.Machine.{choice_at, taken_at, left_at, Fed, stop, go, with_item, given_by, turn, feed}
-use Rattle.yaml_parse_laws_trees.specs.parse_grammar.Resolve.{Directives, no_directives}
-use Rattle.yaml_parse_laws_trees.specs.LookBack.{directives_before, document_directives, is_directive, starts_document}
-use Rattle.yaml_parse_laws_trees.specs.Wrong.{directive_fault}
+use Rattle.yaml_parse_laws_trees.specs.parse_grammar.Stacks.{InsideAt}
 use Rattle.yaml_parse_laws_trees.proofs.FaultsStanding.{Sign, open_in, directive, other, last_of, last_in, told, Plain, Nested}
 use Rattle.yaml_parse_laws_trees.proofs.Refusing.{Tells, tells}
 use Rattle.yaml_parse_laws_trees.proofs.Keeping.{KeptInside, inside_kept}
@@ -75,17 +66,13 @@ no_directive past (token.version_directive major minor) at h = cc
 no_directive past (token.tag_directive handle prefix) at h = cc
 no_directive past _ at h = refl
 
-same_document : (t : Token) (past : List Token) → starts_document t.body ≡ false
-    → document_directives (t ∷ past) ≡ document_directives past
-same_document t past h = ap (λ (b : Bool). if b then directives_before past else document_directives past) h
-
 -- the token was taken inside a document
 pub inside_read : (past : List Token) (ds : Directives) (t : Token) (gs : List Sign)
     (s : List State) → KeptInside t.body t.start_mark gs s → Agree (document_directives past) ds
     → StepRead past t (fine ds) s
 inside_read past ds t gs s k a = (
   no_directive past t.body t.start_mark k.still,
-  inside_dirs s (t ∷ past) ds k.inside (subst (λ (z : List Token). Agree z ds) (sym (same_document t past k.within)) a),
+  inside_dirs s (t ∷ past) ds k.inside (subst (λ (z : List Token). Agree z ds) (sym (ap (λ (b : Bool). if b then directives_before past else document_directives past) k.within)) a),
 )
 
 -- ---- between documents

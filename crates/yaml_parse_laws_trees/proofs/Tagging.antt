@@ -1,20 +1,10 @@
 -- One token, behind properties too: the fault of a handle comes first.
 use Rattle.std.proofs.Common.{◌≡◌, Bool, true, false, if◌then◌else◌, ◌||◌, List, [], ◌∷◌, ◌++◌, Option, Some, None, refl, ap, sym, subst, ◌∙◌}
-use Rattle.yaml_parse_laws_trees.specs.parse_grammar.parse_model.declared.yaml_mark_t.{yaml_mark_t}
-use Rattle.yaml_parse_laws_trees.specs.parse_grammar.parse_model.Tokens.{Token, TokenBody, type_of}
+use Rattle.yaml_parse_laws_trees.proofs.Words.{yaml_mark_t, Token, TokenBody, type_of, Fault, Wants, Take, Leave, RawEvent, Properties, State, IsInner, IsInside, IsStack, joins, starts_content, choice_at, with_properties_taken, Fed, stop, go, with_item, given_by, turn, feed, Directives, no_directives, settle, NodeTag, directives_before, document_directives, ended_tag, handle_fault, tag_fault}
 use Rattle.yaml_parse_laws_trees.specs.parse_grammar.parse_model.Tokens as token
-use Rattle.yaml_parse_laws_trees.specs.parse_grammar.parse_model.Faults.{Fault}
-use Rattle.yaml_parse_laws_trees.specs.parse_grammar.declared.name.Wants.{Wants}
-use Rattle.yaml_parse_laws_trees.specs.parse_grammar.declared.name.Choice.TheVariants.{Take, Leave}
-use Rattle.yaml_parse_laws_trees.specs.parse_grammar.Items.{RawEvent, Properties, properties_alone}
+use Rattle.yaml_parse_laws_trees.specs.parse_grammar.Items.{properties_alone}
 use Rattle.yaml_parse_laws_trees.specs.parse_grammar.Items as item
-use Rattle.yaml_parse_laws_trees.specs.parse_grammar.States.{State}
 use Rattle.yaml_parse_laws_trees.specs.parse_grammar.States as state
-use Rattle.yaml_parse_laws_trees.specs.parse_grammar.Stacks.{IsInner, IsInside, IsStack}
-use Rattle.yaml_parse_laws_trees.specs.parse_grammar.Machine.{joins, starts_content, choice_at, with_properties_taken, Fed, stop, go, with_item, given_by, turn, feed}
-use Rattle.yaml_parse_laws_trees.specs.parse_grammar.Resolve.{Directives, no_directives, settle}
-use Rattle.yaml_parse_laws_trees.specs.LookBack.{NodeTag, directives_before, document_directives, ended_tag}
-use Rattle.yaml_parse_laws_trees.specs.Wrong.{handle_fault, tag_fault}
 use Rattle.yaml_parse_laws_trees.proofs.FaultsStanding.{open_in, nothing, property, directive, other, last_of, last_in, told, Plain, Nested}
 use Rattle.yaml_parse_laws_trees.proofs.Keeping.{inside_kept}
 use Rattle.yaml_parse_laws_trees.proofs.Settling.{Done, bad, fine, then_read, read_all, IsMute, Agree, tag_in, by_fault}

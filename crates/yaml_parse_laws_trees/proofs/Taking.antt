@@ -1,20 +1,9 @@
 -- What a stack waits for, with a token in front; and the reading of what a step gives.
 use Rattle.std.proofs.Common.{◌≡◌, ℕ, true, List, [], ◌∷◌, ◌++◌, map, Option, Some, None, refl, sym, subst}
-use Rattle.yaml_parse_laws_trees.specs.parse_grammar.parse_model.declared.yaml_token_type_t.{yaml_token_type_t}
+use Rattle.yaml_parse_laws_trees.proofs.Words.{yaml_token_type_t, Token, type_of, no_token, Fault, Root, Choice, Refuse, Take, Leave, Open, RawEvent, item_at, State, IsInside, IsStack, Given, choice_at, taken_at, left_at, Fed, stop, go, with_item, given_by, turn, feed, Directives, Settled, refused, gave, noted, settle, Reading, reading, unasked_at_fault}
 use Rattle.yaml_parse_laws_trees.specs.parse_grammar.parse_model.declared.yaml_token_type_t.TheVariants as kind
-use Rattle.yaml_parse_laws_trees.specs.parse_grammar.parse_model.Tokens.{Token, type_of, no_token}
-use Rattle.yaml_parse_laws_trees.specs.parse_grammar.parse_model.Faults.{Fault}
-use Rattle.yaml_parse_laws_trees.specs.parse_grammar.declared.name.Site.TheVariants.{Root}
-use Rattle.yaml_parse_laws_trees.specs.parse_grammar.declared.name.Choice.{Choice}
-use Rattle.yaml_parse_laws_trees.specs.parse_grammar.declared.name.Choice.TheVariants.{Refuse, Take, Leave, Open}
-use Rattle.yaml_parse_laws_trees.specs.parse_grammar.Items.{RawEvent, item_at}
 use Rattle.yaml_parse_laws_trees.specs.parse_grammar.Items as item
-use Rattle.yaml_parse_laws_trees.specs.parse_grammar.States.{State}
 use Rattle.yaml_parse_laws_trees.specs.parse_grammar.States as state
-use Rattle.yaml_parse_laws_trees.specs.parse_grammar.Stacks.{IsInside, IsStack}
-use Rattle.yaml_parse_laws_trees.specs.parse_grammar.Trees.{Given}
-use Rattle.yaml_parse_laws_trees.specs.parse_grammar.Machine.{choice_at, taken_at, left_at, Fed, stop, go, with_item, given_by, turn, feed}
-use Rattle.yaml_parse_laws_trees.specs.parse_grammar.Resolve.{Directives, Settled, refused, gave, noted, settle, Reading, reading, unasked_at_fault}
 use Rattle.yaml_parse_laws_trees.specs.parse_grammar.Resolve as resolve
 use Rattle.yaml_parse_laws_trees.proofs.Voice.{takes_a_token}
 use Rattle.yaml_parse_laws_trees.proofs.Left.{Left, Over, over_both, leaving, taking, opening}
@@ -34,16 +23,13 @@ abbrev pub Solid : List State → Type 0
 Solid [] = ⊥
 Solid (x ∷ s) = SolidAt x (Solid s)
 
-solid_documents : (s : List State) → s ≡ state.documents ∷ [] → Solid s
-solid_documents s e = subst Solid (sym e) tt
-
 inside_solid : (s : List State) → IsInside s → Solid s
 inside_solid [] h = h
 inside_solid (state.stream ∷ s) h = tt
 inside_solid (state.first ∷ s) h = tt
 inside_solid (state.documents ∷ s) h = tt
 inside_solid (state.directives from ∷ s) h = tt
-inside_solid (state.document_end ∷ s) h = solid_documents s h
+inside_solid (state.document_end ∷ s) h = subst Solid (sym h) tt
 inside_solid (_ ∷ s) h = inside_solid s h.1
 
 pub stack_solid : (x : State) (s : List State) → IsStack (x ∷ s) → Solid (x ∷ s)

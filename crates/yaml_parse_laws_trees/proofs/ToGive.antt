@@ -1,26 +1,16 @@
 -- What a state still gives: the events of a part of some documents, and what follows them.
 use Rattle.std.proofs.Common.{◌≡◌, ℕ, Bool, true, false, List, [], ◌∷◌, ◌++◌, Option, Some, None, refl, sym, ap, subst, ◌∙◌}
-use Rattle.yaml_parse_laws_trees.specs.parse_grammar.parse_model.declared.yaml_mark_t.{yaml_mark_t}
-use Rattle.yaml_parse_laws_trees.specs.parse_grammar.parse_model.declared.yaml_encoding_t.{yaml_encoding_t}
-use Rattle.yaml_parse_laws_trees.specs.parse_grammar.parse_model.declared.yaml_encoding_t.TheVariants.{YAML_ANY_ENCODING}
-use Rattle.yaml_parse_laws_trees.specs.parse_grammar.parse_model.declared.yaml_token_type_t.{yaml_token_type_t}
-use Rattle.yaml_parse_laws_trees.specs.parse_grammar.parse_model.declared.yaml_version_directive_t.{yaml_version_directive_t}
-use Rattle.yaml_parse_laws_trees.specs.parse_grammar.parse_model.Tokens.{Token, TokenBody, type_of, zero_mark}
+use Rattle.yaml_parse_laws_trees.proofs.Words.{yaml_mark_t, yaml_encoding_t, YAML_ANY_ENCODING, yaml_token_type_t, yaml_version_directive_t, Token, TokenBody, type_of, zero_mark, Event, EventBody, TagDirective, RawEvent, RawEventBody, Properties, Shape, State, choice_at, taken_at, documents_taken, content_taken, node_taken, lone_below, left_at, wants_of, placed, spanning, Contents, alias, scalar, sequence, mapping, no_items, item, no_pairs, pair, events, item_events, pair_events, DocumentContent, document_events}
 use Rattle.yaml_parse_laws_trees.specs.parse_grammar.parse_model.Tokens as token
-use Rattle.yaml_parse_laws_trees.specs.parse_grammar.parse_model.Events.{Event, EventBody, TagDirective}
 use Rattle.yaml_parse_laws_trees.specs.parse_grammar.parse_model.Events as event
 use Rattle.yaml_parse_laws_trees.specs.parse_grammar.declared.Wants.{Wants}
 use Rattle.yaml_parse_laws_trees.specs.parse_grammar.declared.Wants.TheVariants.{Flow, Block}
 use Rattle.yaml_parse_laws_trees.specs.parse_grammar.declared.Brackets.{Brackets}
 use Rattle.yaml_parse_laws_trees.specs.parse_grammar.declared.Brackets.TheVariants as brackets
 use Rattle.yaml_parse_laws_trees.specs.parse_grammar.declared.Choice.TheVariants.{Take, Open}
-use Rattle.yaml_parse_laws_trees.specs.parse_grammar.Items.{RawEvent, RawEventBody, Properties, Shape}
 use Rattle.yaml_parse_laws_trees.specs.parse_grammar.Items as item
-use Rattle.yaml_parse_laws_trees.specs.parse_grammar.States.{State}
 use Rattle.yaml_parse_laws_trees.specs.parse_grammar.States as state
-use Rattle.yaml_parse_laws_trees.specs.parse_grammar.Machine.{choice_at, taken_at, documents_taken, content_taken, node_taken, with_properties_taken, items_taken, more_taken, stream_taken, entries_taken, pairs_taken, lone_below, left_at, wants_of}
-use Rattle.yaml_parse_laws_trees.specs.parse_grammar.Resolve.{placed}
-use Rattle.yaml_parse_loader.specs.Numbering.{Head, Span, spanning, Content, Contents, Pairs, alias, scalar, sequence, mapping, no_items, item, no_pairs, pair, events, item_events, pair_events, DocumentContent, document_events}
+use Rattle.yaml_parse_loader.specs.Numbering.{Head, Span, Content, Pairs}
 use Rattle.yaml_parse_grammar.proofs.Rules.{MayLeave, opens_first, was_take}
 
 -- ---- parts
@@ -248,14 +238,6 @@ node_fits w start end (token.anchor name) P = λ es h. h
 node_fits w start end (token.tag handle suffix) P = λ es h. h
 node_fits w start end b P = content_fits w None start end b P
 
-with_properties_fits : (w : Wants) (p : Properties) (start end : yaml_mark_t) (b : TokenBody)
-    (P : List Event → Type 0)
-    → FitsIf (with_properties_taken w p start end b).item
-    (Over (with_properties_taken w p start end b).above P) (Node P)
-with_properties_fits w p start end (token.anchor name) P = λ es h. h
-with_properties_fits w p start end (token.tag handle suffix) P = λ es h. h
-with_properties_fits w p start end b P = content_fits w (Some p) start end b P
-
 documents_fit : (from start end : yaml_mark_t) (b : TokenBody) (P : List Event → Type 0)
     → FitsIf (documents_taken from start end b).item
     (Over (documents_taken from start end b).above P) (Documents P)
@@ -273,70 +255,50 @@ no_more_pairs : (from to : yaml_mark_t) (P : List Event → Type 0) (es : List E
     → PairList P (spanning event.mapping_end from to ∷ es)
 no_more_pairs from to P es h = record { part = (no_pairs, span from to); rest = es; same = refl; goes = h }
 
-entries_fit : (o start end : yaml_mark_t) (b : TokenBody) (P : List Event → Type 0)
-    → FitsIf (entries_taken o start end b).item (Over (entries_taken o start end b).above P)
-    (Items P)
-entries_fit o start end token.block_entry P = λ es h. item_more P es h
-entries_fit o start end _ P = λ es h. no_more_items start end P es h
-
-pairs_fit : (o start end : yaml_mark_t) (b : TokenBody) (P : List Event → Type 0)
-    → FitsIf (pairs_taken o start end b).item (Over (pairs_taken o start end b).above P)
-    (PairList P)
-pairs_fit o start end token.key P = λ es h. pair_more P es h
-pairs_fit o start end _ P = λ es h. no_more_pairs start end P es h
-
-more_fits : (b : Brackets) (o start end : yaml_mark_t) (x : TokenBody) (P : List Event → Type 0)
-    → FitsIf (more_taken b o start end x).item (Over (more_taken b o start end x).above P)
-    (InBrackets b P)
-more_fits b o start end token.flow_entry P = λ es h. h
-more_fits brackets.Sequence o start end _ P = λ es h. no_more_items start end P es h
-more_fits brackets.Mapping o start end _ P = λ es h. no_more_pairs start end P es h
-
 lone_fits : (b : Brackets) (o : yaml_mark_t) (P : List Event → Type 0) (es : List Event)
     → Node (Over (lone_below b (state.more b o ∷ [])) P) es → InBrackets b P es
 lone_fits brackets.Sequence o P es h = item_more P es h
 lone_fits brackets.Mapping o P es h = pair_more P es h
 
-items_fit : (b : Brackets) (o start end : yaml_mark_t) (x : TokenBody) (P : List Event → Type 0)
-    → FitsIf (items_taken b o start end x).item (Over (items_taken b o start end x).above P)
-    (InBrackets b P)
-items_fit brackets.Sequence o start end token.key P = λ b k es h. item_more P _ (mapping_given b start end (Items P) es k (pair_alone (Items P) es h))
-items_fit brackets.Mapping o start end token.key P = λ es h. pair_more P es h
-items_fit brackets.Sequence o start end token.flow_sequence_end P = λ es h. no_more_items start end P es h
-items_fit brackets.Mapping o start end token.flow_sequence_end P = λ es h. no_more_pairs start end P es h
-items_fit brackets.Sequence o start end token.flow_mapping_end P = λ es h. no_more_items start end P es h
-items_fit brackets.Mapping o start end token.flow_mapping_end P = λ es h. no_more_pairs start end P es h
-items_fit b o start end x P =
-    fits_on (node_taken Flow start end x).item _ (Node (Over (lone_below b (state.more b o ∷ [])) P)) (InBrackets b P)
-    (subst (λ (Q : List Event → Type 0). FitsIf (node_taken Flow start end x).item Q (Node (Over (lone_below b (state.more b o ∷ [])) P))) (sym (over_both (node_taken Flow start end x).above (lone_below b (state.more b o ∷ [])) P))
-    (node_fits Flow start end x (Over (lone_below b (state.more b o ∷ [])) P)))
+taking_fits_by : (x : State) (start end : yaml_mark_t) (b : TokenBody) (P : List Event → Type 0)
+    → choice_at x (type_of b) ≡ Take
+    → FitsIf (taken_at x (record { body = b; start_mark = start; end_mark = end })).item (Over
+    (taken_at x (record { body = b; start_mark = start; end_mark = end })).above P) (ToGive x P)
+taking_fits_by state.stream start end (token.stream_start encoding) P c = λ es h. record { part = (encoding, span start end); rest = es; same = refl; goes = h }
+taking_fits_by state.first start end b P c = documents_fit start start end b P
+taking_fits_by state.documents start end b P c = documents_fit start start end b P
+taking_fits_by (state.directives from) start end b P c = documents_fit from start end b P
+taking_fits_by (state.optional place before) start end b P c = node_fits (wants_of place) start end b P
+taking_fits_by state.document_end start end b P c = λ es h. record { part = (false, span start end); rest = es; same = refl; goes = h }
+taking_fits_by (state.entries o) start end token.block_entry P c = λ es h. item_more P es h
+taking_fits_by (state.entries o) start end _ P c = λ es h. no_more_items start end P es h
+taking_fits_by (state.others side) start end b P c = λ es h. item_more P es h
+taking_fits_by (state.pairs o) start end token.key P c = λ es h. pair_more P es h
+taking_fits_by (state.pairs o) start end _ P c = λ es h. no_more_pairs start end P es h
+taking_fits_by (state.colon place) start end b P c = λ es h. h
+taking_fits_by (state.with_properties w p) start end (token.anchor name) P c = λ es h. h
+taking_fits_by (state.with_properties w p) start end (token.tag handle suffix) P c = λ es h. h
+taking_fits_by (state.with_properties w p) start end b P c = content_fits w (Some p) start end b P
+taking_fits_by (state.items brackets.Sequence o) start end token.key P c = λ b k es h. item_more P _ (mapping_given b start end (Items P) es k (pair_alone (Items P) es h))
+taking_fits_by (state.items brackets.Mapping o) start end token.key P c = λ es h. pair_more P es h
+taking_fits_by (state.items brackets.Sequence o) start end token.flow_sequence_end P c = λ es h. no_more_items start end P es h
+taking_fits_by (state.items brackets.Mapping o) start end token.flow_sequence_end P c = λ es h. no_more_pairs start end P es h
+taking_fits_by (state.items brackets.Sequence o) start end token.flow_mapping_end P c = λ es h. no_more_items start end P es h
+taking_fits_by (state.items brackets.Mapping o) start end token.flow_mapping_end P c = λ es h. no_more_pairs start end P es h
+taking_fits_by (state.items b o) start end b' P c =
+    fits_on (node_taken Flow start end b').item _ (Node (Over (lone_below b (state.more b o ∷ [])) P)) (InBrackets b P)
+    (subst (λ (Q : List Event → Type 0). FitsIf (node_taken Flow start end b').item Q (Node (Over (lone_below b (state.more b o ∷ [])) P))) (sym (over_both (node_taken Flow start end b').above (lone_below b (state.more b o ∷ [])) P))
+    (node_fits Flow start end b' (Over (lone_below b (state.more b o ∷ [])) P)))
     (λ es h. lone_fits b o P es h)
-
-stream_fits : (start end : yaml_mark_t) (b : TokenBody) (P : List Event → Type 0)
-    → choice_at state.stream (type_of b) ≡ Take
-    → FitsIf (stream_taken start end b).item (Over (stream_taken start end b).above P) (Stream P)
-stream_fits start end (token.stream_start encoding) P c = λ es h. record { part = (encoding, span start end); rest = es; same = refl; goes = h }
-stream_fits start end _ P c = absurd (was_take _ c)
+taking_fits_by (state.more b o) start end token.flow_entry P c = λ es h. h
+taking_fits_by (state.more brackets.Sequence o) start end _ P c = λ es h. no_more_items start end P es h
+taking_fits_by (state.more brackets.Mapping o) start end _ P c = λ es h. no_more_pairs start end P es h
+taking_fits_by _ start end _ P c = absurd (was_take _ c)
 
 -- what a state gives as it takes a token is the front of what it had to give
-pub taking_fits : (x : State) (t : Token) (P : List Event → Type 0)
-    → choice_at x (type_of t.body) ≡ Take
-    → FitsIf (taken_at x t).item (Over (taken_at x t).above P) (ToGive x P)
-taking_fits state.stream t P c = stream_fits t.start_mark t.end_mark t.body P c
-taking_fits state.first t P c = documents_fit t.start_mark t.start_mark t.end_mark t.body P
-taking_fits state.documents t P c = documents_fit t.start_mark t.start_mark t.end_mark t.body P
-taking_fits (state.directives from) t P c = documents_fit from t.start_mark t.end_mark t.body P
-taking_fits (state.optional place before) t P c = node_fits (wants_of place) t.start_mark t.end_mark t.body P
-taking_fits state.document_end t P c = λ es h. record { part = (false, span t.start_mark t.end_mark); rest = es; same = refl; goes = h }
-taking_fits (state.entries o) t P c = entries_fit o t.start_mark t.end_mark t.body P
-taking_fits (state.others side) t P c = λ es h. item_more P es h
-taking_fits (state.pairs o) t P c = pairs_fit o t.start_mark t.end_mark t.body P
-taking_fits (state.colon place) t P c = λ es h. h
-taking_fits (state.with_properties w p) t P c = with_properties_fits w p t.start_mark t.end_mark t.body P
-taking_fits (state.items b o) t P c = items_fit b o t.start_mark t.end_mark t.body P
-taking_fits (state.more b o) t P c = more_fits b o t.start_mark t.end_mark t.body P
-taking_fits state.pair_end t P c = absurd (was_take _ c)
-taking_fits state.lone t P c = absurd (was_take _ c)
+pub taking_fits : (x : State) (t : Token) (P : List Event → Type 0) → choice_at x (type_of t.body) ≡
+    Take → FitsIf (taken_at x t).item (Over (taken_at x t).above P) (ToGive x P)
+taking_fits x t P c = taking_fits_by x t.start_mark t.end_mark t.body P c
 
 -- ---- leaving a state
 
@@ -367,9 +329,6 @@ pub record Has (P : List Event → Type 0) : Type 0 where
 abbrev nowhere : Span
 nowhere = span zero_mark zero_mark
 
-node_has : (P : List Event → Type 0) → Has P → Has (Node P)
-node_has P h = record { given = at_span (event.alias []) nowhere ∷ h.given; is = alias_given [] zero_mark zero_mark P h.given h.is }
-
 items_have : (P : List Event → Type 0) → Has P → Has (Items P)
 items_have P h = record { given = at_span event.sequence_end nowhere ∷ h.given; is = no_more_items zero_mark zero_mark P h.given h.is }
 
@@ -398,7 +357,7 @@ state_has (state.pairs o) P h = pairs_have P h
 state_has (state.items b o) P h = brackets_have b P h
 state_has (state.more b o) P h = brackets_have b P h
 state_has state.pair_end P h = record { given = at_span event.mapping_end nowhere ∷ h.given; is = record { part = nowhere; rest = h.given; same = refl; goes = h.is } }
-state_has _ P h = node_has P h
+state_has _ P h = record { given = at_span (event.alias []) nowhere ∷ h.given; is = alias_given [] zero_mark zero_mark P h.given h.is }
 
 pub stack_has : (s : List State) (P : List Event → Type 0) → Has P → Has (Over s P)
 stack_has [] P h = h

@@ -1,16 +1,12 @@
 -- A list of tokens has one fault of loading at most.
 use Rattle.std.proofs.Common.{◌≡◌, ◌⊎◌, inl, inr, ℕ, ◌<◌, List, [], ◌∷◌, Option, Some, None, refl, ap, sym, subst, ◌∙◌}
 use Rattle.std.proofs.lemmas.Bool.{cases_order}
-use Rattle.yaml_parse_laws_trees.specs.parse_grammar.parse_model.Tokens.{Token}
-use Rattle.yaml_parse_laws_trees.specs.parse_grammar.parse_model.Faults.{Fault}
-use Rattle.yaml_parse_laws_trees.specs.parse_grammar.Trees.{Stream, spell}
-use Rattle.yaml_parse_laws_trees.specs.Places.{of_handle, of_token, BeginsWithSentence, with_end}
+use Rattle.yaml_parse_laws_trees.proofs.Words.{Token, Fault, Stream, spell, of_handle, of_token, BeginsWithSentence, with_end, alias_fault, LoadRank, of_parser, of_alias, LoadRanksBefore, LoadFaultAt, IsFirstIn}
 use Rattle.yaml_parse_laws_trees.proofs.CountsUnique.{one_tree}
 use Rattle.yaml_parse_laws_trees.proofs.Cuts.{SameCut, same_cut, head_same}
 use Rattle.yaml_parse_laws_trees.proofs.Spelling.{spelled_before}
 use Rattle.yaml_parse_laws_trees.proofs.FaultsUnique.{one_at, same_some}
-use Rattle.yaml_parse_laws_trees.specs.Aliases.{alias_fault}
-use Rattle.yaml_parse_laws_trees.specs.Faults.{LoadRank, of_parser, of_alias, LoadRanksBefore, LoadFaultAt, LoadStandsIn, IsFirstIn, FirstOf, LoadsSentence, IsLoadOwn, LoadsUnfinished}
+use Rattle.yaml_parse_laws_trees.specs.Faults.{LoadStandsIn, FirstOf, LoadsSentence, IsLoadOwn, LoadsUnfinished}
 use Rattle.yaml_parse_laws_trees.specs.Laws.{LoadFaultIsOne}
 
 -- one fault at each place

@@ -1,12 +1,6 @@
 -- The machine over the front of a list.
 use Rattle.std.proofs.Common.{◌≡◌, ◌+◌, ℕ, List, [], ◌∷◌, ◌++◌, length, map, Option, None, refl, ap, sym, subst, ◌∙◌, arith, append_assoc, zero-add}
-use Rattle.yaml_parse_laws_trees.specs.parse_grammar.parse_model.Tokens.{Token}
-use Rattle.yaml_parse_laws_trees.specs.parse_grammar.parse_model.Faults.{Fault}
-use Rattle.yaml_parse_laws_trees.specs.parse_grammar.Items.{RawEvent}
-use Rattle.yaml_parse_laws_trees.specs.parse_grammar.States.{State}
-use Rattle.yaml_parse_laws_trees.specs.parse_grammar.Stacks.{IsStack}
-use Rattle.yaml_parse_laws_trees.specs.parse_grammar.Trees.{Given}
-use Rattle.yaml_parse_laws_trees.specs.parse_grammar.Machine.{Fed, stop, go, feed, Outcome, run}
+use Rattle.yaml_parse_laws_trees.proofs.Words.{Token, Fault, RawEvent, State, IsStack, Given, Fed, stop, go, feed, Outcome, run}
 use Rattle.yaml_parse_laws_trees.proofs.Left.{Over}
 use Rattle.yaml_parse_laws_trees.proofs.SoundStanding.{AllStood, FedStood, feed_stood}
 use Rattle.yaml_parse_laws_trees.proofs.Closing.{Empty}

@@ -1,24 +1,12 @@
 -- Behind a document's explicit end a directive begins a document as behind the stream's start.
 use Rattle.std.proofs.Common.{◌≡◌, ◌≢◌, List, [], ◌∷◌, ◌++◌, length, Option, Some, None, refl, sym, ap, subst, ◌∙◌}
 use Rattle.std.proofs.lemmas.List.{append_assoc, same_from_push}
-use Rattle.yaml_parse_grammar.specs.parse_model.declared.yaml_mark_t.{yaml_mark_t}
-use Rattle.yaml_parse_grammar.specs.parse_model.declared.yaml_encoding_t.{yaml_encoding_t}
-use Rattle.yaml_parse_grammar.specs.parse_model.Tokens.{Token, TokenBody}
+use Rattle.yaml_parse_laws_windows.proofs.Words.{yaml_mark_t, yaml_encoding_t, Token, TokenBody, Event, Fault, Root, Entry, IndentlessEntry, BlockPair, FlowPair, Key, Value, Flow, Block, RawEvent, event_at, Directives, no_directives, placed, State, left_at, Fed, stop, go, with_item, feed, carry, run, initial, parse_of, events_in, GoOn}
 use Rattle.yaml_parse_grammar.specs.parse_model.Tokens as token
-use Rattle.yaml_parse_grammar.specs.parse_model.Events.{Event}
 use Rattle.yaml_parse_grammar.specs.parse_model.Events as event
-use Rattle.yaml_parse_grammar.specs.parse_model.Faults.{Fault}
 use Rattle.yaml_parse_grammar.specs.declared.Brackets.TheVariants as brackets
-use Rattle.yaml_parse_grammar.specs.declared.Site.TheVariants.{Root, Entry, IndentlessEntry, BlockPair, FlowPair}
-use Rattle.yaml_parse_grammar.specs.declared.Side.TheVariants.{Key, Value}
-use Rattle.yaml_parse_grammar.specs.declared.Wants.TheVariants.{Flow, Block}
-use Rattle.yaml_parse_grammar.specs.Items.{RawEvent}
-use Rattle.yaml_parse_grammar.specs.Trees.{event_at}
-use Rattle.yaml_parse_grammar.specs.Resolve.{Directives, no_directives, placed}
-use Rattle.yaml_parse_grammar.specs.States.{State}
 use Rattle.yaml_parse_grammar.specs.States as state
-use Rattle.yaml_parse_grammar.specs.Machine.{left_at, Fed, stop, go, with_item, feed, carry, run, initial}
-use Rattle.yaml_parse_laws_windows.specs.Laws.{parse_of, events_in, GoOn, BeginsDocument, GoesOn, DirectivesAreParsed}
+use Rattle.yaml_parse_laws_windows.specs.Laws.{BeginsDocument, GoesOn, DirectivesAreParsed}
 use Rattle.yaml_parse_laws_windows.proofs.Grounding.{Stands}
 use Rattle.yaml_parse_laws_windows.proofs.Noting.{through, none_some, Fine, within_stands, stands_feed}
 use Rattle.yaml_parse_laws_windows.proofs.Parting.{end_at}

@@ -1,22 +1,13 @@
 -- A stack has a state for each bracket that is open.
 use Rattle.std.proofs.Common.{◌≡◌, ℕ, ◌+◌, ◌-◌, Bool, true, false, ◌||◌, if◌then◌else◌, List, [], ◌∷◌, ◌++◌, Some, None, refl, sym, ap, subst, ◌∙◌, arith}
 use Rattle.std.proofs.lemmas.Bool.{true≢false}
-use Rattle.yaml_parse_grammar.specs.parse_model.declared.yaml_mark_t.{yaml_mark_t}
-use Rattle.yaml_parse_grammar.specs.parse_model.Tokens.{Token, TokenBody, type_of}
+use Rattle.yaml_parse_laws_windows.proofs.Words.{yaml_mark_t, Token, TokenBody, type_of, Flow, Block, Refuse, Take, Leave, Open, Choice, ParseProblem, Root, RawEvent, Directives, no_directives, State, starts_node, choice_at, taken_at, left_at, Fed, stop, go, with_item, turn, feed}
 use Rattle.yaml_parse_grammar.specs.parse_model.Tokens as token
-use Rattle.yaml_parse_grammar.specs.declared.Brackets.{Brackets}
 use Rattle.yaml_parse_grammar.specs.declared.Brackets.TheVariants as brackets
 use Rattle.yaml_parse_grammar.specs.declared.Wants.{Wants}
-use Rattle.yaml_parse_grammar.specs.declared.Wants.TheVariants.{Flow, Block}
-use Rattle.yaml_parse_grammar.specs.declared.Choice.TheVariants.{Refuse, Take, Leave, Open}
-use Rattle.yaml_parse_grammar.specs.declared.Choice.{Choice}
-use Rattle.yaml_parse_grammar.specs.declared.ParseProblem.{ParseProblem}
-use Rattle.yaml_parse_grammar.specs.declared.Site.TheVariants.{Root}
-use Rattle.yaml_parse_grammar.specs.Items.{RawEvent, Properties}
-use Rattle.yaml_parse_grammar.specs.Resolve.{Directives, no_directives}
-use Rattle.yaml_parse_grammar.specs.States.{State}
+use Rattle.yaml_parse_grammar.specs.Items.{Properties}
 use Rattle.yaml_parse_grammar.specs.States as state
-use Rattle.yaml_parse_grammar.specs.Machine.{starts_content, starts_node, follows, joins, wants_of, no_node, choice_at, node_taken, with_properties_taken, taken_at, left_at, Fed, stop, go, with_item, turn, feed}
+use Rattle.yaml_parse_grammar.specs.Machine.{starts_content, follows, joins, wants_of, no_node, node_taken, with_properties_taken}
 use Rattle.yaml_parse_laws_windows.specs.Depths.{depth_after}
 use Rattle.yaml_parse_laws_windows.proofs.Grounding.{is_ground, Stands}
 use Rattle.yaml_parse_laws_windows.proofs.Noting.{within_stands}
@@ -62,43 +53,6 @@ Levels Take x t = Rises (taken_at x t).above (weight x) t.body
 Levels Leave x t = (weight x ≡ 0) × (is_ground x ≡ false)
 Levels Open x t = Rises (taken_at (state.optional Root t.start_mark) t).above (weight x) t.body
 
-abbrev LevelsAt : State → TokenBody → yaml_mark_t → yaml_mark_t → Type 0
-LevelsAt x b m e = Levels (choice_at x (type_of b)) x (record { body = b; start_mark = m; end_mark = e })
-
-stream_levels : (b : TokenBody) (m e : yaml_mark_t) → LevelsAt state.stream b m e
-stream_levels (token.stream_start encoding) m e = λ n. refl
-stream_levels _ m e = tt
-
-first_levels : (b : TokenBody) (m e : yaml_mark_t) → LevelsAt state.first b m e
-first_levels token.stream_end m e = λ n. refl
-first_levels (token.version_directive major minor) m e = λ n. refl
-first_levels (token.tag_directive handle prefix) m e = λ n. refl
-first_levels token.document_start m e = λ n. refl
-first_levels token.block_sequence_start m e = λ n. refl
-first_levels token.block_mapping_start m e = λ n. refl
-first_levels token.flow_sequence_start m e = opens
-first_levels token.flow_mapping_start m e = opens
-first_levels (token.alias name) m e = λ n. refl
-first_levels (token.anchor name) m e = λ n. refl
-first_levels (token.tag handle suffix) m e = λ n. refl
-first_levels (token.scalar value style) m e = λ n. refl
-first_levels _ m e = tt
-
-documents_levels : (b : TokenBody) (m e : yaml_mark_t) → LevelsAt state.documents b m e
-documents_levels token.stream_end m e = λ n. refl
-documents_levels (token.version_directive major minor) m e = λ n. refl
-documents_levels (token.tag_directive handle prefix) m e = λ n. refl
-documents_levels token.document_start m e = λ n. refl
-documents_levels token.document_end m e = λ n. refl
-documents_levels _ m e = tt
-
-directives_levels : (from : yaml_mark_t) (b : TokenBody) (m e : yaml_mark_t)
-    → LevelsAt (state.directives from) b m e
-directives_levels from (token.version_directive major minor) m e = λ n. refl
-directives_levels from (token.tag_directive handle prefix) m e = λ n. refl
-directives_levels from token.document_start m e = λ n. refl
-directives_levels from _ m e = tt
-
 node_rises : (w : Wants) (b : TokenBody) (m e : yaml_mark_t) → starts_node w (type_of b) ≡ true
     → Rises (node_taken w m e b).above 0 b
 node_rises w token.flow_sequence_start m e h = opens
@@ -139,81 +93,83 @@ beside_levels : (w : Wants) (p : Properties) (t : Token)
 beside_levels w p t =
     by (joins p (type_of t.body) || starts_content w (type_of t.body)) (beside_rises w p t.body t.start_mark t.end_mark)
   where
-    by : (a : Bool) → (a ≡ true → Rises (with_properties_taken w p t.start_mark t.end_mark t.body).above 0 t.body)
+    by : (a : Bool)
+        → (a ≡ true → Rises (with_properties_taken w p t.start_mark t.end_mark t.body).above 0
+        t.body)
         → Levels (if a then Take else Leave) (state.with_properties w p) t
     by true h = h refl
     by false h = (refl, refl)
 
-last_levels : (b : TokenBody) (m e : yaml_mark_t) → LevelsAt state.document_end b m e
-last_levels token.document_end m e = λ n. refl
-last_levels _ m e = (refl, refl)
-
-entries_levels : (opener : yaml_mark_t) (b : TokenBody) (m e : yaml_mark_t)
-    → LevelsAt (state.entries opener) b m e
-entries_levels opener token.block_entry m e = λ n. refl
-entries_levels opener token.block_end m e = λ n. refl
-entries_levels opener _ m e = tt
-
-others_levels : (side : _) (b : TokenBody) (m e : yaml_mark_t) → LevelsAt (state.others side) b m e
-others_levels side token.block_entry m e = λ n. refl
-others_levels side _ m e = (refl, refl)
-
-pairs_levels : (opener : yaml_mark_t) (b : TokenBody) (m e : yaml_mark_t)
-    → LevelsAt (state.pairs opener) b m e
-pairs_levels opener token.key m e = λ n. refl
-pairs_levels opener token.block_end m e = λ n. refl
-pairs_levels opener _ m e = tt
-
-colon_levels : (place : _) (b : TokenBody) (m e : yaml_mark_t) → LevelsAt (state.colon place) b m e
-colon_levels place token.value m e = λ n. refl
-colon_levels place _ m e = (refl, refl)
-
-items_levels : (k : Brackets) (opener : yaml_mark_t) (b : TokenBody) (m e : yaml_mark_t)
-    → LevelsAt (state.items k opener) b m e
-items_levels brackets.Sequence opener token.key m e = λ n. refl
-items_levels brackets.Mapping opener token.key m e = λ n. refl
-items_levels brackets.Sequence opener token.flow_sequence_end m e = closes
-items_levels brackets.Mapping opener token.flow_mapping_end m e = closes
-items_levels brackets.Sequence opener token.flow_sequence_start m e = opens_within
-items_levels brackets.Mapping opener token.flow_sequence_start m e = opens_within
-items_levels brackets.Sequence opener token.flow_mapping_start m e = opens_within
-items_levels brackets.Mapping opener token.flow_mapping_start m e = opens_within
-items_levels brackets.Sequence opener (token.alias name) m e = λ n. refl
-items_levels brackets.Mapping opener (token.alias name) m e = λ n. refl
-items_levels brackets.Sequence opener (token.anchor name) m e = λ n. refl
-items_levels brackets.Mapping opener (token.anchor name) m e = λ n. refl
-items_levels brackets.Sequence opener (token.tag handle suffix) m e = λ n. refl
-items_levels brackets.Mapping opener (token.tag handle suffix) m e = λ n. refl
-items_levels brackets.Sequence opener (token.scalar value style) m e = λ n. refl
-items_levels brackets.Mapping opener (token.scalar value style) m e = λ n. refl
-items_levels brackets.Sequence opener _ m e = tt
-items_levels brackets.Mapping opener _ m e = tt
-
-more_levels : (k : Brackets) (opener : yaml_mark_t) (b : TokenBody) (m e : yaml_mark_t)
-    → LevelsAt (state.more k opener) b m e
-more_levels brackets.Sequence opener token.flow_entry m e = λ n. refl
-more_levels brackets.Mapping opener token.flow_entry m e = λ n. refl
-more_levels brackets.Sequence opener token.flow_sequence_end m e = closes
-more_levels brackets.Mapping opener token.flow_mapping_end m e = closes
-more_levels brackets.Sequence opener _ m e = tt
-more_levels brackets.Mapping opener _ m e = tt
+levels_at_by : (x : State) (start end : yaml_mark_t) (b : TokenBody)
+    → Levels (choice_at x (type_of b)) x (record { body = b; start_mark = start; end_mark = end })
+levels_at_by state.stream start end (token.stream_start encoding) = λ n. refl
+levels_at_by state.stream start end _ = tt
+levels_at_by state.first start end token.stream_end = λ n. refl
+levels_at_by state.first start end (token.version_directive major minor) = λ n. refl
+levels_at_by state.first start end (token.tag_directive handle prefix) = λ n. refl
+levels_at_by state.first start end token.document_start = λ n. refl
+levels_at_by state.first start end token.block_sequence_start = λ n. refl
+levels_at_by state.first start end token.block_mapping_start = λ n. refl
+levels_at_by state.first start end token.flow_sequence_start = opens
+levels_at_by state.first start end token.flow_mapping_start = opens
+levels_at_by state.first start end (token.alias name) = λ n. refl
+levels_at_by state.first start end (token.anchor name) = λ n. refl
+levels_at_by state.first start end (token.tag handle suffix) = λ n. refl
+levels_at_by state.first start end (token.scalar value style) = λ n. refl
+levels_at_by state.first start end _ = tt
+levels_at_by state.documents start end token.stream_end = λ n. refl
+levels_at_by state.documents start end (token.version_directive major minor) = λ n. refl
+levels_at_by state.documents start end (token.tag_directive handle prefix) = λ n. refl
+levels_at_by state.documents start end token.document_start = λ n. refl
+levels_at_by state.documents start end token.document_end = λ n. refl
+levels_at_by state.documents start end _ = tt
+levels_at_by (state.directives from) start end (token.version_directive major minor) = λ n. refl
+levels_at_by (state.directives from) start end (token.tag_directive handle prefix) = λ n. refl
+levels_at_by (state.directives from) start end token.document_start = λ n. refl
+levels_at_by (state.directives from) start end _ = tt
+levels_at_by (state.optional place before) start end b = optional_levels place before (record { body = b; start_mark = start; end_mark = end })
+levels_at_by state.document_end start end token.document_end = λ n. refl
+levels_at_by state.document_end start end _ = (refl, refl)
+levels_at_by (state.entries opener) start end token.block_entry = λ n. refl
+levels_at_by (state.entries opener) start end token.block_end = λ n. refl
+levels_at_by (state.entries opener) start end _ = tt
+levels_at_by (state.others side) start end token.block_entry = λ n. refl
+levels_at_by (state.others side) start end _ = (refl, refl)
+levels_at_by (state.pairs opener) start end token.key = λ n. refl
+levels_at_by (state.pairs opener) start end token.block_end = λ n. refl
+levels_at_by (state.pairs opener) start end _ = tt
+levels_at_by (state.colon place) start end token.value = λ n. refl
+levels_at_by (state.colon place) start end _ = (refl, refl)
+levels_at_by (state.with_properties w p) start end b = beside_levels w p (record { body = b; start_mark = start; end_mark = end })
+levels_at_by (state.items brackets.Sequence opener) start end token.key = λ n. refl
+levels_at_by (state.items brackets.Mapping opener) start end token.key = λ n. refl
+levels_at_by (state.items brackets.Sequence opener) start end token.flow_sequence_end = closes
+levels_at_by (state.items brackets.Mapping opener) start end token.flow_mapping_end = closes
+levels_at_by (state.items brackets.Sequence opener) start end token.flow_sequence_start = opens_within
+levels_at_by (state.items brackets.Mapping opener) start end token.flow_sequence_start = opens_within
+levels_at_by (state.items brackets.Sequence opener) start end token.flow_mapping_start = opens_within
+levels_at_by (state.items brackets.Mapping opener) start end token.flow_mapping_start = opens_within
+levels_at_by (state.items brackets.Sequence opener) start end (token.alias name) = λ n. refl
+levels_at_by (state.items brackets.Mapping opener) start end (token.alias name) = λ n. refl
+levels_at_by (state.items brackets.Sequence opener) start end (token.anchor name) = λ n. refl
+levels_at_by (state.items brackets.Mapping opener) start end (token.anchor name) = λ n. refl
+levels_at_by (state.items brackets.Sequence opener) start end (token.tag handle suffix) = λ n. refl
+levels_at_by (state.items brackets.Mapping opener) start end (token.tag handle suffix) = λ n. refl
+levels_at_by (state.items brackets.Sequence opener) start end (token.scalar value style) = λ n. refl
+levels_at_by (state.items brackets.Mapping opener) start end (token.scalar value style) = λ n. refl
+levels_at_by (state.items brackets.Sequence opener) start end _ = tt
+levels_at_by (state.items brackets.Mapping opener) start end _ = tt
+levels_at_by (state.more brackets.Sequence opener) start end token.flow_entry = λ n. refl
+levels_at_by (state.more brackets.Mapping opener) start end token.flow_entry = λ n. refl
+levels_at_by (state.more brackets.Sequence opener) start end token.flow_sequence_end = closes
+levels_at_by (state.more brackets.Mapping opener) start end token.flow_mapping_end = closes
+levels_at_by (state.more brackets.Sequence opener) start end _ = tt
+levels_at_by (state.more brackets.Mapping opener) start end _ = tt
+levels_at_by state.pair_end start end b = (refl, refl)
+levels_at_by state.lone start end b = (refl, refl)
 
 levels_at : (x : State) (t : Token) → Levels (choice_at x (type_of t.body)) x t
-levels_at state.stream t = stream_levels t.body t.start_mark t.end_mark
-levels_at state.first t = first_levels t.body t.start_mark t.end_mark
-levels_at state.documents t = documents_levels t.body t.start_mark t.end_mark
-levels_at (state.directives from) t = directives_levels from t.body t.start_mark t.end_mark
-levels_at (state.optional place before) t = optional_levels place before t
-levels_at state.document_end t = last_levels t.body t.start_mark t.end_mark
-levels_at (state.entries opener) t = entries_levels opener t.body t.start_mark t.end_mark
-levels_at (state.others side) t = others_levels side t.body t.start_mark t.end_mark
-levels_at (state.pairs opener) t = pairs_levels opener t.body t.start_mark t.end_mark
-levels_at (state.colon place) t = colon_levels place t.body t.start_mark t.end_mark
-levels_at (state.with_properties w p) t = beside_levels w p t
-levels_at (state.items k opener) t = items_levels k opener t.body t.start_mark t.end_mark
-levels_at (state.more k opener) t = more_levels k opener t.body t.start_mark t.end_mark
-levels_at state.pair_end t = (refl, refl)
-levels_at state.lone t = (refl, refl)
+levels_at x t = levels_at_by x t.start_mark t.end_mark t.body
 
 -- ---- a stack at a token
 

@@ -2,22 +2,17 @@
 use Rattle.std.proofs.Common.{◌≡◌, ℕ, false, List, [], ◌∷◌, ◌++◌, map, length, Option, Some, None, refl, sym, ap, subst, ◌∙◌, inl, inr}
 use Rattle.std.proofs.lemmas.List.{append-nil, append_assoc, map-append, same_from_push}
 use Rattle.std.proofs.lemmas.Option.{same_Some}
-use Rattle.yaml_parse_grammar.specs.parse_model.declared.yaml_mark_t.{yaml_mark_t}
-use Rattle.yaml_parse_grammar.specs.parse_model.declared.yaml_encoding_t.{yaml_encoding_t}
-use Rattle.yaml_parse_grammar.specs.parse_model.Tokens.{Token, TokenBody}
+use Rattle.yaml_parse_laws_windows.proofs.Words.{yaml_mark_t, yaml_encoding_t, Token, TokenBody, Event, Fault, RawEvent, item_at, event_at, Directives, no_directives, Settled, refused, gave, noted, settle, placed, State, Fed, stop, go, feed, carry, run, initial, parse_of, events_in, GoOn}
 use Rattle.yaml_parse_grammar.specs.parse_model.Tokens as token
-use Rattle.yaml_parse_grammar.specs.parse_model.Events.{Event, EventBody}
+use Rattle.yaml_parse_grammar.specs.parse_model.Events.{EventBody}
 use Rattle.yaml_parse_grammar.specs.parse_model.Events as event
-use Rattle.yaml_parse_grammar.specs.parse_model.Faults.{Fault}
-use Rattle.yaml_parse_grammar.specs.Items.{RawEvent, item_at}
 use Rattle.yaml_parse_grammar.specs.Items as item
-use Rattle.yaml_parse_grammar.specs.Trees.{Given, event_at}
-use Rattle.yaml_parse_grammar.specs.Resolve.{Directives, no_directives, Settled, refused, gave, noted, settle, placed, Reading, read_on, reading}
-use Rattle.yaml_parse_grammar.specs.States.{State}
+use Rattle.yaml_parse_grammar.specs.Trees.{Given}
+use Rattle.yaml_parse_grammar.specs.Resolve.{Reading, read_on, reading}
 use Rattle.yaml_parse_grammar.specs.States as state
-use Rattle.yaml_parse_grammar.specs.Machine.{Fed, stop, go, feed, Outcome, carry, run, initial}
+use Rattle.yaml_parse_grammar.specs.Machine.{Outcome}
 use Rattle.yaml_parse_laws_windows.specs.Depths.{depth_behind}
-use Rattle.yaml_parse_laws_windows.specs.Laws.{parse_of, events_in, GoOn, WindowsAreParsed, BracketsAreClosed}
+use Rattle.yaml_parse_laws_windows.specs.Laws.{WindowsAreParsed, BracketsAreClosed}
 use Rattle.yaml_parse_laws_windows.proofs.Grounding.{Stands}
 use Rattle.yaml_parse_laws_windows.proofs.Noting.{with_event, then_through, through, none_some, Fine, stands_feed}
 use Rattle.yaml_parse_laws_windows.proofs.Closing.{opened, IsLevel, feed_level}
@@ -142,10 +137,6 @@ items_numbered : (n : ℕ) (is : List RawEvent)
 items_numbered n [] = refl
 items_numbered n (i ∷ is) = ap (λ z. i ∷ z) (items_numbered n is)
 
-items_joined : (n : ℕ) (is : List RawEvent) (gs : List Given)
-    → items_of (map (λ (i : RawEvent). (i, n)) is ++ gs) ≡ is ++ items_of gs
-items_joined n is gs = map-append (λ (g : Given). g.0) (map (λ (i : RawEvent). (i, n)) is) gs ∙ ap (λ z. z ++ items_of gs) (items_numbered n is)
-
 -- The first token is fed to the stack, and then the others are.
 pub run_step : (t : Token) (ts : List Token) (s : List State) (f : Option Fault)
     → run (t ∷ ts) s f ≡ carry (length ts) (feed s t) (λ z. run ts z f)
@@ -154,11 +145,8 @@ run_step t ts s f = refl
 
 carried_items : (n : ℕ) (x : Fed) (is : List RawEvent) (s : List State) (k : List State → Outcome)
     → x ≡ go is s → items_of (carry n x k).items ≡ is ++ items_of (k s).items
-carried_items n x is s k e = ap (λ y. items_of (carry n y k).items) e ∙ items_joined n is (k s).items
-
-carried_ending : (n : ℕ) (x : Fed) (is : List RawEvent) (s : List State) (k : List State → Outcome)
-    → x ≡ go is s → (carry n x k).ending ≡ (k s).ending
-carried_ending n x is s k e = ap (λ y. (carry n y k).ending) e
+carried_items n x is s k e = ap (λ y. items_of (carry n y k).items) e ∙
+    (map-append (λ (g : Given). g.0) (map (λ (i : RawEvent). (i, n)) is) (k s).items ∙ ap (λ z. z ++ items_of (k s).items) (items_numbered n is))
 
 -- The items of a token that is taken come in front of those of the rest.
 pub step_items : (t : Token) (ts : List Token) (s z : List State) (f : Option Fault)
@@ -170,7 +158,7 @@ step_items t ts s z f is e = ap (λ y. items_of y.items) (run_step t ts s f) ∙
 pub step_ending : (t : Token) (ts : List Token) (s z : List State) (f : Option Fault)
     (is : List RawEvent)
     → feed s t ≡ go is z → (run (t ∷ ts) s f).ending ≡ (run ts z f).ending
-step_ending t ts s z f is e = ap (λ y. y.ending) (run_step t ts s f) ∙ carried_ending (length ts) (feed s t) is z (λ z. run ts z f) e
+step_ending t ts s z f is e = ap (λ y. y.ending) (run_step t ts s f) ∙ ap (λ y. (carry (length ts) y (λ z. run ts z f)).ending) e
 
 abbrev pub read_of : Outcome → Directives → Plain
 read_of o ds = plain (items_of o.items) o.ending ds

@@ -2,12 +2,8 @@
 use Rattle.std.proofs.Common.{◌≡◌, ◌≢◌, Bool, true, false, not, ◌&&◌, ◌||◌, List, [], ◌∷◌, ◌++◌, refl, sym, ap, ◌∙◌}
 use Rattle.std.proofs.lemmas.Bool.{true≢false}
 use Rattle.yaml_parse_grammar.specs.parse_model.declared.yaml_token_type_t.{yaml_token_type_t}
-use Rattle.yaml_parse_grammar.specs.parse_model.Tokens.{Token}
-use Rattle.yaml_parse_grammar.specs.declared.Choice.TheVariants.{Open}
-use Rattle.yaml_parse_grammar.specs.Resolve.{Directives, no_directives}
-use Rattle.yaml_parse_grammar.specs.States.{State}
+use Rattle.yaml_parse_laws_windows.proofs.Words.{Token, Open, Directives, no_directives, State, choice_at, taken_at}
 use Rattle.yaml_parse_grammar.specs.States as state
-use Rattle.yaml_parse_grammar.specs.Machine.{choice_at, taken_at}
 use Rattle.yaml_parse_grammar.specs.Stacks.{IsInner}
 use Rattle.yaml_parse_grammar.proofs.Rules.{opens_first}
 use Rattle.yaml_parse_grammar.proofs.Standing.{inside_taken}

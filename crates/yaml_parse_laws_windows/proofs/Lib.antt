@@ -1,3 +1,4 @@
+mod Words
 pub mod Grounding
 pub mod Noting
 pub mod Parting

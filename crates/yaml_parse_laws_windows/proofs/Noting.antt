@@ -1,22 +1,12 @@
 -- Which directives are noted where a stack stands.
 use Rattle.std.proofs.Common.{◌≡◌, ◌≢◌, Bool, true, false, if◌then◌else◌, List, [], ◌∷◌, ◌++◌, Option, Some, None, refl, sym, ap, subst, ◌∙◌}
 use Rattle.std.proofs.lemmas.Option.{same_Some}
-use Rattle.yaml_parse_grammar.specs.parse_model.declared.yaml_mark_t.{yaml_mark_t}
-use Rattle.yaml_parse_grammar.specs.parse_model.declared.yaml_token_type_t.{yaml_token_type_t}
-use Rattle.yaml_parse_grammar.specs.parse_model.Tokens.{Token, TokenBody, type_of}
+use Rattle.yaml_parse_laws_windows.proofs.Words.{yaml_mark_t, Token, TokenBody, type_of, Event, Refuse, Take, Leave, Open, Choice, Root, Block, RawEvent, item_at, Directives, no_directives, Settled, refused, gave, noted, settle, placed, State, starts_node, choice_at, taken_at, left_at, Fed, stop, go, with_item, turn, feed}
 use Rattle.yaml_parse_grammar.specs.parse_model.Tokens as token
-use Rattle.yaml_parse_grammar.specs.parse_model.Events.{Event}
-use Rattle.yaml_parse_grammar.specs.declared.Choice.TheVariants.{Refuse, Take, Leave, Open}
-use Rattle.yaml_parse_grammar.specs.declared.Choice.{Choice}
-use Rattle.yaml_parse_grammar.specs.declared.Site.TheVariants.{Root}
-use Rattle.yaml_parse_grammar.specs.declared.Wants.TheVariants.{Block}
 use Rattle.yaml_parse_grammar.specs.declared.ParseProblem.TheVariants as problem
-use Rattle.yaml_parse_grammar.specs.Items.{RawEvent, item_at}
 use Rattle.yaml_parse_grammar.specs.Items as item
-use Rattle.yaml_parse_grammar.specs.Resolve.{Directives, no_directives, Settled, refused, gave, noted, settle, placed}
-use Rattle.yaml_parse_grammar.specs.States.{State}
 use Rattle.yaml_parse_grammar.specs.States as state
-use Rattle.yaml_parse_grammar.specs.Machine.{starts_node, parts_documents, choice_at, documents_taken, taken_at, left_at, Fed, stop, go, with_item, given_by, turn, feed}
+use Rattle.yaml_parse_grammar.specs.Machine.{parts_documents, documents_taken, given_by}
 use Rattle.yaml_parse_laws_windows.proofs.Grounding.{Within, Stands, inner, inner_on, taken_inner, not_open}
 use Rattle.yaml_parse_grammar.proofs.Rules.{leave_rule, open_rule}
 
@@ -130,10 +120,6 @@ between_fine Take t ds h none k l = documents_fine t.start_mark t.start_mark t.e
 between_fine Leave t ds h none k l = absurd (k refl)
 between_fine Open t ds h none k l = absurd (l refl)
 
-documents_stay : (k : yaml_token_type_t) → (choice_at state.documents k ≢ Leave)
-    × (choice_at state.documents k ≢ Open)
-documents_stay k = (λ e. leave_rule state.documents k e, λ e. open_rule state.documents k e)
-
 directives_fine : (from start end : yaml_mark_t) (b : TokenBody) (ds : Directives)
     → Fine (turn (choice_at (state.directives from) (type_of b)) (state.directives from) (record { body = b; start_mark = start; end_mark = end }) [] (feed [] (record { body = b; start_mark = start; end_mark = end }))) ds
 directives_fine from start end (token.version_directive major minor) ds = λ es behind e. refl
@@ -157,8 +143,7 @@ stands_feed [] ds g t h = absurd g
 stands_feed (state.stream ∷ s) ds g t h = rw (g.0) (stream_fine t.start_mark t.end_mark t.body ds g.1)
 stands_feed (state.first ∷ s) ds g t h = rw (g.0) (first_fine (parts_documents (type_of t.body)) (starts_node (Block None) (type_of t.body)) t ds h g.1)
 stands_feed (state.documents ∷ s) ds g t h =
-    let (stays, shut) = documents_stay (type_of t.body) in
-    rw (g.0) (between_fine (choice_at state.documents (type_of t.body)) t ds h g.1 stays shut)
+    rw (g.0) (between_fine (choice_at state.documents (type_of t.body)) t ds h g.1 (λ e. leave_rule state.documents (type_of t.body) e) (λ e. open_rule state.documents (type_of t.body) e))
 stands_feed (state.directives from ∷ s) ds g t h = rw g (directives_fine from t.start_mark t.end_mark t.body ds)
 stands_feed (state.document_end ∷ s) ds g t h =
     last_fine (choice_at state.document_end (type_of t.body)) t s ds g

@@ -1,25 +1,12 @@
 -- A document's start does to a stack what the stream's end does, but for its own event.
 use Rattle.std.proofs.Common.{◌≡◌, false, List, [], ◌∷◌, ◌++◌, Option, Some, None, refl, sym, ap, subst, ◌∙◌, inl, inr, ◌⊎◌}
-use Rattle.yaml_parse_grammar.specs.parse_model.declared.yaml_mark_t.{yaml_mark_t}
+use Rattle.yaml_parse_laws_windows.proofs.Words.{yaml_mark_t, Token, Event, Fault, Refuse, Leave, ParseProblem, Root, Entry, IndentlessEntry, BlockPair, FlowPair, Key, Value, Flow, Block, RawEvent, item_at, event_at, Directives, no_directives, Settled, refused, gave, noted, settle, placed, State, choice_at, left_at, stop, go, with_item, turn, feed}
 use Rattle.yaml_parse_grammar.specs.parse_model.declared.yaml_token_type_t.TheVariants as kind
-use Rattle.yaml_parse_grammar.specs.parse_model.Tokens.{Token}
 use Rattle.yaml_parse_grammar.specs.parse_model.Tokens as token
-use Rattle.yaml_parse_grammar.specs.parse_model.Events.{Event}
 use Rattle.yaml_parse_grammar.specs.parse_model.Events as event
-use Rattle.yaml_parse_grammar.specs.parse_model.Faults.{Fault}
 use Rattle.yaml_parse_grammar.specs.declared.Brackets.TheVariants as brackets
-use Rattle.yaml_parse_grammar.specs.declared.Choice.TheVariants.{Refuse, Leave}
-use Rattle.yaml_parse_grammar.specs.declared.ParseProblem.{ParseProblem}
-use Rattle.yaml_parse_grammar.specs.declared.Site.TheVariants.{Root, Entry, IndentlessEntry, BlockPair, FlowPair}
-use Rattle.yaml_parse_grammar.specs.declared.Side.TheVariants.{Key, Value}
-use Rattle.yaml_parse_grammar.specs.declared.Wants.TheVariants.{Flow, Block}
-use Rattle.yaml_parse_grammar.specs.Items.{RawEvent, item_at}
 use Rattle.yaml_parse_grammar.specs.Items as item
-use Rattle.yaml_parse_grammar.specs.Trees.{event_at}
-use Rattle.yaml_parse_grammar.specs.Resolve.{Directives, no_directives, Settled, refused, gave, noted, settle, placed}
-use Rattle.yaml_parse_grammar.specs.States.{State}
 use Rattle.yaml_parse_grammar.specs.States as state
-use Rattle.yaml_parse_grammar.specs.Machine.{choice_at, left_at, stop, go, with_item, turn, feed}
 use Rattle.yaml_parse_laws_windows.proofs.Grounding.{Stands}
 use Rattle.yaml_parse_laws_windows.proofs.Noting.{Follows, with_event, then_through, through, within_stands, none_some, pair_last}
 

@@ -2,26 +2,15 @@
 use Rattle.std.proofs.Common.{◌≡◌, ◌≢◌, false, List, [], ◌∷◌, ◌++◌, Option, Some, None, refl, sym, ap, subst, ◌∙◌, inl, inr, ◌⊎◌}
 use Rattle.std.proofs.lemmas.List.{append_assoc}
 use Rattle.std.proofs.lemmas.Option.{none-some, same_Some}
-use Rattle.yaml_parse_grammar.specs.parse_model.declared.yaml_mark_t.{yaml_mark_t}
-use Rattle.yaml_parse_grammar.specs.parse_model.Tokens.{Token}
+use Rattle.yaml_parse_laws_windows.proofs.Words.{yaml_mark_t, Token, Event, Fault, Root, Entry, IndentlessEntry, BlockPair, FlowPair, Key, Value, Flow, Block, RawEvent, item_at, event_at, Directives, no_directives, Settled, refused, gave, noted, settle, placed, State, left_at, Fed, stop, go, with_item, feed, run, initial, parse_of, events_in, GoOn}
 use Rattle.yaml_parse_grammar.specs.parse_model.Tokens as token
-use Rattle.yaml_parse_grammar.specs.parse_model.Events.{Event}
 use Rattle.yaml_parse_grammar.specs.parse_model.Events as event
-use Rattle.yaml_parse_grammar.specs.parse_model.Faults.{Fault}
 use Rattle.yaml_parse_grammar.specs.declared.Brackets.TheVariants as brackets
 use Rattle.yaml_parse_grammar.specs.declared.ParseProblem.TheVariants as problem
-use Rattle.yaml_parse_grammar.specs.declared.Site.TheVariants.{Root, Entry, IndentlessEntry, BlockPair, FlowPair}
-use Rattle.yaml_parse_grammar.specs.declared.Side.TheVariants.{Key, Value}
-use Rattle.yaml_parse_grammar.specs.declared.Wants.TheVariants.{Flow, Block}
 use Rattle.yaml_parse_grammar.specs.Problems.{parser_fault}
-use Rattle.yaml_parse_grammar.specs.Items.{RawEvent, item_at}
 use Rattle.yaml_parse_grammar.specs.Items as item
-use Rattle.yaml_parse_grammar.specs.Trees.{event_at}
-use Rattle.yaml_parse_grammar.specs.Resolve.{Directives, no_directives, Settled, refused, gave, noted, settle, placed}
-use Rattle.yaml_parse_grammar.specs.States.{State}
 use Rattle.yaml_parse_grammar.specs.States as state
-use Rattle.yaml_parse_grammar.specs.Machine.{left_at, Fed, stop, go, with_item, feed, run, initial}
-use Rattle.yaml_parse_laws_windows.specs.Laws.{parse_of, events_in, GoOn, RefusedFrontsStay}
+use Rattle.yaml_parse_laws_windows.specs.Laws.{RefusedFrontsStay}
 use Rattle.yaml_parse_laws_windows.proofs.Grounding.{Within, Stands}
 use Rattle.yaml_parse_laws_windows.proofs.Noting.{with_event, then_through, through, Fine, stands_feed}
 use Rattle.yaml_parse_laws_windows.proofs.Parting.{end_at, start_at, begun, Ended, parts}
@@ -121,10 +110,6 @@ same_front (i ∷ is) ds js ks f g h = by (settle i ds) refl (λ z k. same_front
     by (noted z) e rec = rec z (λ es behind t. h es behind (ap (λ v. then_through v i (λ x. through is x)) e ∙ t))
 
 -- ---- tokens
-
-nothing_behind : (ds : Directives) → (read_of (run [] [] None) ds).ending ≡ None
-unfolding run feed
-nothing_behind ds = refl
 
 nothing_there : items_of (run [] [] None).items ≡ []
 unfolding run feed

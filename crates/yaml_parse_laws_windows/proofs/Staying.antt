@@ -1,19 +1,11 @@
 -- Tokens that are refused before they end are refused so whatever stands behind them.
 use Rattle.std.proofs.Common.{◌≡◌, ◌≢◌, List, [], ◌∷◌, ◌++◌, Option, Some, None, refl, sym, ap, subst, ◌∙◌, inl, inr, ◌⊎◌}
 use Rattle.std.proofs.lemmas.Option.{none-some, same_Some}
-use Rattle.yaml_parse_grammar.specs.parse_model.declared.yaml_mark_t.{yaml_mark_t}
-use Rattle.yaml_parse_grammar.specs.parse_model.Tokens.{Token}
+use Rattle.yaml_parse_laws_windows.proofs.Words.{yaml_mark_t, Token, Event, Fault, RawEvent, Directives, no_directives, event_at, State, Fed, stop, go, feed, run, initial, parse_of, events_in, GoOn}
 use Rattle.yaml_parse_grammar.specs.parse_model.Tokens as token
-use Rattle.yaml_parse_grammar.specs.parse_model.Events.{Event}
 use Rattle.yaml_parse_grammar.specs.parse_model.Events as event
-use Rattle.yaml_parse_grammar.specs.parse_model.Faults.{Fault}
-use Rattle.yaml_parse_grammar.specs.Items.{RawEvent}
-use Rattle.yaml_parse_grammar.specs.Resolve.{Directives, no_directives}
-use Rattle.yaml_parse_grammar.specs.Trees.{event_at}
-use Rattle.yaml_parse_grammar.specs.States.{State}
 use Rattle.yaml_parse_grammar.specs.States as state
-use Rattle.yaml_parse_grammar.specs.Machine.{Fed, stop, go, feed, run, initial}
-use Rattle.yaml_parse_laws_windows.specs.Laws.{parse_of, events_in, GoOn, RefusedTokensStay, EndedFrontsStay}
+use Rattle.yaml_parse_laws_windows.specs.Laws.{RefusedTokensStay, EndedFrontsStay}
 use Rattle.yaml_parse_laws_windows.proofs.Noting.{through, Fine, stands_feed}
 use Rattle.yaml_parse_laws_windows.proofs.Grounding.{Stands}
 use Rattle.yaml_parse_laws_windows.proofs.Parting.{end_at}

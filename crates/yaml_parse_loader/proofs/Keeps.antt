@@ -1,5 +1,5 @@
 -- Every event leaves a document in the making sound, and the document that it ends is sound.
-use Rattle.std.proofs.Common.{◌≡◌, ◌≤◌, ℕ, suc, ℤ, pos, Bool, true, false, cond, List, [], ◌∷◌, ◌++◌, length, Option, Some, None, IsUtf8, IfSome, sym, subst, arith}
+use Rattle.std.proofs.Common.{◌≡◌, ◌≤◌, ℕ, suc, ℤ, Bool, true, false, cond, List, [], ◌∷◌, ◌++◌, length, Option, Some, None, IsUtf8, IfSome, sym, subst, arith}
 use Rattle.std.specs.Ordering.{nat_cmp, eq_by_cmp}
 use Rattle.std.specs.Cmp.Lexicographic.{slice_cmp, nat_list_cmp_total}
 use Rattle.std.specs.FinMap as map
@@ -55,9 +55,6 @@ attach_sound m id (o ∷ os) h s = (attached_sound m id o h s.0, s.1)
 
 -- ---- a node more
 
-last_id : (m : ℕ) → IsId (suc m) (pos (suc m))
-last_id m = omega arith
-
 leaf_sound : (l : Loading) (n : Node) (known : Anchors) → IsLoading l
     → IsSoundNode (length l.document.nodes) n → AreAnchors (suc (length l.document.nodes)) known
     → IsLoading (with_leaf l n known)
@@ -66,7 +63,7 @@ leaf_sound l n known s h a =
     record {
       document = with_node_sound l.document n s.document h;
       levels = subst (λ (k : ℕ). AreSoundOpen k (attach (next l) l.levels)) grown
-          (attach_sound _ (next l) l.levels (last_id _) (wider_levels _ _ l.levels (omega arith) s.levels));
+          (attach_sound _ (next l) l.levels (omega arith) (wider_levels _ _ l.levels (omega arith) s.levels));
       anchors = subst (λ (k : ℕ). AreAnchors k known) grown a;
     }
 
@@ -93,7 +90,7 @@ next_sound : (l : Loading) (anchor : Option (List ℕ)) → IsLoading l
     → AreAnchors (suc (length l.document.nodes)) (named anchor (next l) l.anchors)
 next_sound l anchor s =
     named_sound (suc (length l.document.nodes)) anchor (next l) l.anchors
-    (λ q. wider_found _ _ (map.get l.anchors q) (omega arith) (s.anchors q)) (last_id _)
+    (λ q. wider_found _ _ (map.get l.anchors q) (omega arith) (s.anchors q)) (omega arith)
 
 -- ---- tags
 

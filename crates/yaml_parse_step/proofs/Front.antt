@@ -1,12 +1,9 @@
 -- From what a source says to what every stack does.
 use Rattle.std.proofs.Common.{◌+◌, length, arith, ◌≡◌, ◌⊎◌, inl, inr, Bool, true, false, List, [], ◌∷◌, Option, Some, None, refl, sym}
-use Rattle.yaml_scan_model.specs.Tokens.{Token, no_token}
-use Rattle.yaml_scan_model.specs.Faults.{Fault}
+use Rattle.yaml_parse_step.proofs.Words.{Token, no_token, Fault, State, run, ending_at, unasked_at_stop, IsFront, HasNoFront}
 use Rattle.yaml_parse_model.specs.Source.{front_of, rest_of, HasUtf8, GivesToken, GivesFault, GivesInto}
-use Rattle.yaml_parse_grammar.specs.States.{State}
-use Rattle.yaml_parse_grammar.specs.Machine.{run, ending_at, unasked_at_stop}
 use Rattle.yaml_parse_grammar.proofs.Single.{front_runs, ending_runs, front_stops, nothing_stops}
-use Rattle.yaml_parse_step.specs.Steps.{IsFront, HasNoFront, HasFront}
+use Rattle.yaml_parse_step.specs.Steps.{HasFront}
 
 asked_of : (ts : List Token) → (length (rest_of ts) + 1 ≡ length ts + 0) ⊎ (front_of ts ≡ no_token)
 asked_of [] = inr refl

@@ -1,26 +1,11 @@
 -- What a turn comes to with its item resolved.
 use Rattle.std.proofs.Common.{◌≡◌, inr, List, Option, None, sym, ap, subst, ◌∙◌}
-use Rattle.yaml_scan_model.specs.declared.yaml_mark_t.{yaml_mark_t}
-use Rattle.yaml_scan_model.specs.Tokens.{Token}
-use Rattle.yaml_scan_model.specs.Faults.{Fault}
-use Rattle.yaml_parse_model.specs.Events.{Event}
-use Rattle.yaml_parse_grammar.specs.Items.{RawEvent, Properties}
-use Rattle.yaml_parse_grammar.specs.States.{State}
-use Rattle.yaml_parse_grammar.specs.Resolve.{Directives, gave, node_event, placed}
-use Rattle.yaml_parse_core.specs.declared.told.Shape.{Shape}
+use Rattle.yaml_parse_step.proofs.Words.{yaml_mark_t, Token, Fault, Event, RawEvent, Properties, State, Directives, gave, node_event, placed, Shape, Around, node_item, shape_at, TurnsOn, owned_states_by, ComesTo, directives_of, StepBuffers, Step, peeked_of, states_in, Moves, Went}
 use Rattle.yaml_parse_core.specs.declared.machine.Machine.{Machine}
 use Rattle.yaml_parse_core.specs.Seen as seen
-use Rattle.yaml_parse_core.specs.Views.{Around, node_item, shape_at}
-use Rattle.yaml_parse_core.specs.Turns.{TurnsOn}
-use Rattle.yaml_parse_core.specs.Owned.{owned_states_by}
 use Rattle.yaml_parse_resolve.specs.declared.resolving.Settled.{Settled}
 use Rattle.yaml_parse_resolve.specs.declared.resolving.Settled.TheVariants as came
-use Rattle.yaml_parse_resolve.specs.Settles.{ComesTo}
-use Rattle.yaml_parse_resolve.specs.Settles.{directives_of}
-use Rattle.yaml_parse_step.specs.declared.step.StepBuffers.{StepBuffers}
-use Rattle.yaml_parse_step.specs.declared.step.Step.{Step}
-use Rattle.yaml_parse_step.specs.Steps.{peeked_of, states_in}
-use Rattle.yaml_parse_step.specs.Moves.{Moves, GaveEvent, Went, LeavesMachine, step_of}
+use Rattle.yaml_parse_step.specs.Moves.{GaveEvent, LeavesMachine, step_of}
 use Rattle.yaml_parse_step.proofs.Moves.{node_moves}
 
 -- a node without properties

@@ -1,18 +1,10 @@
 -- How the states stand behind a step, and whether a document is half taken then.
 use Rattle.std.proofs.Common.{◌≡◌, false, List, [], ◌∷◌, ◌++◌, Some, None, sym, subst, ap, ◌∙◌}
-use Rattle.yaml_scan_model.specs.Tokens.{Token, type_of}
-use Rattle.yaml_parse_model.specs.Events.{EventBody}
-use Rattle.yaml_parse_grammar.specs.declared.name.Choice.TheVariants.{Take, Leave, Open}
-use Rattle.yaml_parse_grammar.specs.Items.{RawEvent}
-use Rattle.yaml_parse_grammar.specs.States.{State, Taken}
-use Rattle.yaml_parse_grammar.specs.Machine.{choice_at, taken_at, left_at, opened}
-use Rattle.yaml_parse_grammar.specs.Resolve.{Directives, Settled, gave, settle}
-use Rattle.yaml_parse_grammar.specs.Remaining.{is_between}
-use Rattle.yaml_parse_grammar.specs.Stacks.{IsStack, StandsBehind, parts_documents_behind}
+use Rattle.yaml_parse_step.proofs.Words.{Token, type_of, EventBody, Take, Leave, Open, RawEvent, State, Taken, choice_at, taken_at, left_at, opened, Directives, Settled, gave, settle, is_between, IsStack, parts_documents_behind, SteppedOnce, OpensAt}
+use Rattle.yaml_parse_grammar.specs.Stacks.{StandsBehind}
 use Rattle.yaml_parse_grammar.proofs.Standing.{StandsOn, taken_stands, left_stands, opened_stands, SettledBehind, settled_behind}
-use Rattle.yaml_parse_step.specs.Stepped.{SteppedOnce}
 use Rattle.yaml_parse_step.specs.Stepped as step
-use Rattle.yaml_parse_step.specs.Steps.{Raw, IsDone, OpensAt, IsStackStep}
+use Rattle.yaml_parse_step.specs.Steps.{IsStackStep}
 
 pub take_item_stands : (x : State) (t : Token) (s s' : List State) (i : RawEvent)
     (above : List State) → choice_at x (type_of t.body) ≡ Take
@@ -48,9 +40,6 @@ open_stands x t s s' step.done c o h = tt
 
 pub cleared_stands : (s : List State) → s ≡ [] → Unit {0} × IsStack s
 cleared_stands s e = (tt, subst IsStack (sym e) tt)
-
-pub done_stands : (old new : Raw) → IsDone old new → Unit {0} × IsStack new.stack
-done_stands old new h = cleared_stands new.stack (ap (λ (r : Raw). r.stack) h.same ∙ h.empty)
 
 pub silent_stands : (s : List State) → IsStack s → Unit {0} × IsStack s
 silent_stands s h = (tt, h)

@@ -1,3 +1,4 @@
+mod Words
 pub mod Front
 pub mod Moves
 pub mod Going

@@ -1,26 +1,16 @@
 -- What feeding a loader with a parser's events comes to.
-use Rattle.std.proofs.Common.{◌≡◌, ◌⊎◌, ◌<◌, ◌≤◌, ℕ, ℤ, inl, inr, List, [], ◌∷◌, length, Option, Some, None, Bool, true, refl, sym, ap, subst, ◌∙◌, arith}
+use Rattle.std.proofs.Common.{◌≡◌, ◌⊎◌, ◌<◌, ◌≤◌, ℕ, ℤ, inl, inr, List, [], ◌∷◌, Option, Some, None, Bool, true, refl, sym, ap, subst, ◌∙◌, arith}
 use Rattle.yaml_scan_model.specs.declared.yaml_origin_t.TheVariants.{Loader}
-use Rattle.yaml_scan_model.specs.Faults.{Fault, memory_fault, IsMemoryFault, scan_layers}
-use Rattle.yaml_parse_model.specs.Source.{HasMore}
-use Rattle.yaml_scan_model.specs.declared.yaml_mark_t.{yaml_mark_t}
+use Rattle.yaml_parse_step.proofs.Words.{Fault, memory_fault, IsMemoryFault, scan_layers, HasMore, yaml_mark_t, Event, EventBody, parts_documents_behind, Told, ParserRemaining, IsFinished, next_unasked, GivesNext, GivesEnd}
 use Rattle.std.specs.FinMap as map
-use Rattle.yaml_parse_model.specs.Events.{Event, EventBody}
 use Rattle.yaml_parse_model.specs.Events as event
-use Rattle.yaml_parse_grammar.specs.Stacks.{parts_documents_behind}
 use Rattle.yaml_parse_laws_trees.specs.parse_document.Documents.{Document, no_document}
-use Rattle.yaml_parse_grammar.specs.Resolve.{Told}
-use Rattle.yaml_parse_grammar.specs.Remaining.{ParserRemaining, IsFinished, FaultOf, next_unasked}
-use Rattle.yaml_parse_laws_trees.specs.parse_loader.Loading.{Loading, LoadStep, goes_on, loaded, refused, nothing_loaded, step, step_body, aliased, load, turn}
-use Rattle.yaml_parse_step.specs.Finds.{GivesNext, GivesEnd}
+use Rattle.yaml_parse_grammar.specs.Remaining.{FaultOf}
+use Rattle.yaml_parse_laws_trees.specs.parse_loader.Loading.{Loading, LoadStep, goes_on, loaded, refused, step, step_body, aliased, load, turn}
 use Rattle.yaml_parse_laws_trees.specs.NextLoad.{told_events, left_behind}
 use Rattle.yaml_parse_laws_trees.proofs.ByStep.{Loads, load_on, behind_all, loads, loads_of, unasked_on, unasked_at_refusal, unasked_of, unasked_by, answer_unasked, LoadGives, LoadRefuses, KeepsLoading, LoadsSame}
 use Rattle.yaml_parse_laws_trees.specs.Falling.{AreFalling}
 use Rattle.yaml_parse_laws_trees.proofs.Falling.{has_more, nothing_more}
-
-pub keeps_first : (c : ParserRemaining) (l : Loading) → l ≡ nothing_loaded
-    → AreFalling c.events c.ending_unasked → KeepsLoading c c l
-keeps_first c l e d = record { falls = d; none = λ p. p; same = ap (λ (x : Loading). loads c.events c.ending x) e; unasked = ap (λ (x : Loading). unasked_at_refusal c.events c.ending_unasked x) e; left = refl; ending = refl; ending_unasked = refl; answered = refl }
 
 -- the next event is fed
 fed : (i o n : ParserRemaining) (l : Loading) (e : Event) (c : LoadStep) → KeepsLoading i o l
@@ -42,10 +32,6 @@ fed_left : (i o n : ParserRemaining) (l : Loading) (e : Event) → KeepsLoading 
 unfolding left_behind
 fed_left i o n l e k h = sym (ap (λ (gs : List Told). left_behind gs o.unasked) h.events) ∙ k.left
 
-falls_behind : (gs rest : List Told) (g : Told) (m k : ℕ) → gs ≡ g ∷ rest → k ≡ m → AreFalling gs m
-    → AreFalling rest k
-falls_behind gs rest g m k e p d = subst (AreFalling rest) (sym p) (subst (λ (z : List Told). AreFalling z m) e d).1
-
 none_before : (gs rest : List Told) (g : Told) → gs ≡ g ∷ rest → gs ≡ [] → rest ≡ []
 none_before gs rest g e p = let bad : [] ≡ g ∷ rest = sym p ∙ e in cc
 
@@ -53,7 +39,7 @@ none_before gs rest g e p = let bad : [] ≡ g ∷ rest = sym p ∙ e in cc
 pub keeps_on : (i o n : ParserRemaining) (l m : Loading) (e : Event) → KeepsLoading i o l
     → GivesNext e o n → step e l ≡ goes_on m → KeepsLoading i n m
 keeps_on i o n l m e k h s = record {
-  falls = falls_behind o.events n.events (e, n.unasked) o.ending_unasked n.ending_unasked h.events h.ending_unasked k.falls;
+  falls = subst (AreFalling n.events) (sym h.ending_unasked) (subst (λ (z : List Told). AreFalling z o.ending_unasked) h.events k.falls).1;
   none = λ p. none_before o.events n.events (e, n.unasked) h.events (k.none p);
   same = ap (λ (f : Option Fault). loads n.events f m) h.ending ∙ sym (fed i o n l e (goes_on m) k h s);
   unasked = ap (λ (u : ℕ). unasked_at_refusal n.events u m) h.ending_unasked ∙ sym (fed_unasked i o n l e (goes_on m) k h s);
@@ -62,13 +48,6 @@ keeps_on i o n l m e k h s = record {
   ending_unasked = h.ending_unasked ∙ k.ending_unasked;
   answered = h.answered ∙ k.answered;
 }
-
-shorter : (es : List Told) (t : Told) (rest : List Told) → es ≡ t ∷ rest → length rest < length es
-shorter es t rest e = rw e (omega arith)
-
-pub keeps_less : (o n : ParserRemaining) (e : Event) → GivesNext e o n
-    → length n.events < length o.events
-keeps_less o n e h = shorter o.events (e, n.unasked) n.events h.events
 
 -- A loader whose step ends a document gives it.
 pub loads_document : (i o n : ParserRemaining) (l : Loading) (e : Event) (d : Document)

@@ -1,34 +1,22 @@
 -- What each step over the grammar owes.
 use Rattle.std.proofs.Common.{◌≡◌, ◌⊎◌, ◌<◌, ℕ, inl, inr, List, [], ◌∷◌, ◌++◌, length, Option, Some, None, refl, sym, ap, subst, ◌∙◌, arith, true, false}
-use Rattle.yaml_scan_model.specs.declared.yaml_mark_t.{yaml_mark_t}
-use Rattle.yaml_scan_model.specs.Tokens.{Token, no_token, type_of}
-use Rattle.yaml_scan_model.specs.Faults.{Fault}
-use Rattle.yaml_parse_grammar.specs.declared.name.Choice.TheVariants.{Refuse, Take, Leave, Open}
+use Rattle.yaml_parse_step.proofs.Words.{yaml_mark_t, Token, no_token, type_of, Fault, Take, Leave, Open, parser_fault, RawEvent, RawEventBody, item_at, State, Taken, Given, choice_at, taken_at, left_at, opened, run, ending_at, unasked_at_stop, Stands, memory_fault, Parser, Properties, Shape, Around, is_nothing, node_item, named_item, told_item, implied_item, TurnsOn, Moves, Stops, SteppedOnce, Raw, raw, outcome, stop_of, IsFront, HasNoFront, IsDirective, GivesItem, GivesNoItem, IsRefused, OpensAt, IsRealOn}
+use Rattle.yaml_parse_grammar.specs.declared.name.Choice.TheVariants.{Refuse}
 use Rattle.yaml_parse_grammar.specs.declared.problem.ParseProblem.{ParseProblem}
-use Rattle.yaml_parse_grammar.specs.Problems.{parser_fault}
-use Rattle.yaml_parse_grammar.specs.Items.{RawEvent, RawEventBody, item_at}
 use Rattle.yaml_parse_grammar.specs.Items as item
-use Rattle.yaml_parse_grammar.specs.States.{State, Taken}
-use Rattle.yaml_parse_grammar.specs.Trees.{Given}
-use Rattle.yaml_parse_grammar.specs.Machine.{choice_at, taken_at, left_at, context_of, opened, run, ending_at, unasked_at_stop, Stands}
+use Rattle.yaml_parse_grammar.specs.Machine.{context_of}
 use Rattle.yaml_parse_grammar.proofs.Complete.{giving, leaves_at}
 use Rattle.yaml_parse_grammar.proofs.Voice.{Voiced, TakenSpeaks, taken_speaks, left_voiced, takes_a_token, stands_above}
 use Rattle.yaml_parse_grammar.proofs.Single.{refuses, takes, takes_silently, opens, refuses_stops, takes_stops, leaves_stops, opens_stops}
-use Rattle.yaml_scan_model.specs.Faults.{memory_fault}
-use Rattle.yaml_scan_model.specs.declared.yaml_origin_t.TheVariants.{Parser}
-use Rattle.yaml_parse_grammar.specs.Items.{Properties}
-use Rattle.yaml_parse_core.specs.declared.told.Shape.{Shape}
 use Rattle.yaml_parse_core.specs.declared.told.Told.{Told}
 use Rattle.yaml_parse_core.specs.declared.told.Implied.{Implied}
 use Rattle.yaml_parse_core.specs.Seen as seen
-use Rattle.yaml_parse_core.specs.Views.{Around, is_nothing, node_item, named_item, told_item, implied_item}
-use Rattle.yaml_parse_core.specs.Turns.{Takes, TurnsOn, context_if}
-use Rattle.yaml_parse_step.specs.Moves.{Moves, MovesSilently, Stops}
+use Rattle.yaml_parse_core.specs.Turns.{Takes, context_if}
+use Rattle.yaml_parse_step.specs.Moves.{MovesSilently}
 use Rattle.yaml_parse_step.proofs.Texts.{take_item_utf8, take_silent_utf8, leave_utf8, open_utf8}
 use Rattle.yaml_parse_step.proofs.Heights.{take_item_stands, take_silent_stands, leave_stands, open_stands}
-use Rattle.yaml_parse_step.specs.Stepped.{SteppedOnce}
 use Rattle.yaml_parse_step.specs.Stepped as step
-use Rattle.yaml_parse_step.specs.Steps.{Raw, raw, outcome, stop_of, budget, IsFront, HasNoFront, IsDirective, GivesItem, GivesNoItem, IsRefused, Steps, OpensAt, IsReal, IsRealOn}
+use Rattle.yaml_parse_step.specs.Steps.{budget, Steps, IsReal}
 
 -- a directive leaves something open
 directive_stands : (b : RawEventBody) (P : Type 0) → Voiced b P → IsDirective b → P
@@ -118,26 +106,11 @@ open_real x t start s s' (step.refused e) o = tt
 open_real x t start s s' step.silent o = absurd o
 open_real x t start s s' step.done o = absurd o
 
--- what takes a token is real
-pub take_real : (x : State) (t : Token) (s : List State) (new : Raw) (r : SteppedOnce)
-    → choice_at x (type_of t.body) ≡ Take → Steps (raw (Some t) [] None (x ∷ s)) r new
-    → IsReal x t r
-take_real x t s new (step.given i) h o = λ d. h
-take_real x t s new (step.refused f) h o = tt
-take_real x t s new step.silent h o = h
-take_real x t s new step.done h o = nothing_empty x s o.empty
-  where
-    nothing_empty : (x : State) (s : List State) → x ∷ s ≡ [] → ⊥
-    nothing_empty x s e = cc
-
 -- ---- the token of the source
-
-takes_real_token : (x : State) (t : Token) → choice_at x (type_of t.body) ≡ Take → t ≡ no_token → ⊥
-takes_real_token x t h e = takes_a_token x (sym (ap (λ (u : Token). choice_at x (type_of u.body)) e) ∙ h)
 
 less_of : (old middle new : ℕ) (x : State) (t : Token) → new < middle
     → (middle ≡ old) ⊎ (t ≡ no_token) → choice_at x (type_of t.body) ≡ Take → new < old
-less_of old middle new x t l a h = elim a [ inl e ↦ omega arith | inr e ↦ absurd (takes_real_token x t h e) ]
+less_of old middle new x t l a h = elim a [ inl e ↦ omega arith | inr e ↦ absurd (takes_a_token x (sym (ap (λ (u : Token). choice_at x (type_of u.body)) e) ∙ h)) ]
 
 pub bridge : (old middle new : Raw) (x : State) (t : Token) (r : SteppedOnce) → Steps middle r new
     → outcome middle ≡ outcome old → stop_of middle ≡ stop_of old
@@ -170,17 +143,11 @@ front_at peeked ts f [] t rest after new r n h k l = absurd (n refl)
 front_at peeked ts f (x ∷ s) t rest after new r n h k l =
     bridge (raw peeked ts f (x ∷ s)) (raw (Some t) rest after (x ∷ s)) new x t r k (h.runs (x ∷ s)) (h.stops (x ∷ s)) (elim h.asked [ inl a ↦ inl a | inr a ↦ inr a ]) l
 
-ending_outcome : (peeked : Option Token) (ts : List Token) (f : Option Fault) (old : List State)
-    (x : State) (s : List State) (e : Fault)
-    → old ≡ x ∷ s → ((z : List State) → outcome (raw peeked ts f z) ≡ ending_at z e)
-    → outcome (raw peeked ts f old) ≡ record { items = []; ending = Some e }
-ending_outcome peeked ts f old x s e p r = r old ∙ ap (λ (z : List State). ending_at z e) p
-
 no_front_step : (peeked : Option Token) (ts : List Token) (f : Option Fault) (old : List State)
     (x : State) (s : List State) (e : Fault) (new : Raw)
     → old ≡ x ∷ s → HasNoFront peeked ts f e new.tokens → IsRefused e (raw peeked ts f old) new
 no_front_step peeked ts f old x s e new p h = record {
-  reason = elim h.reason [ inl m ↦ inl (inr m) | inr r ↦ inr (ending_outcome peeked ts f old x s e p r) ];
+  reason = elim h.reason [ inl m ↦ inl (inr m) | inr r ↦ inr (r old ∙ ap (λ (z : List State). ending_at z e) p) ];
   unasked = elim h.unasked [ inl m ↦ inl (inr m) | inr n ↦ inr (n old) ];
 }
 
@@ -211,10 +178,6 @@ no_front_open peeked ts f s e new z h = no_front_at peeked ts f s e new (some_le
 
 -- ---- what a turn of the machine owes
 
-leave_real : (x : State) (t : Token) (start : yaml_mark_t) (i : RawEvent) → i ≡ left_at x start
-    → IsReal x t (step.given i)
-leave_real x t start i e = λ d. absurd (left_is_none x start (subst (λ (j : RawEvent). IsDirective j.body) e d))
-
 moves_taken : (x : State) (t : Token) (s : List State) (i : RawEvent) (f : Properties → List State)
     → Takes x t s i f → (q : Properties) → Moves (x ∷ s) t i None (f q)
 moves_taken x t s i f h q = record {
@@ -229,7 +192,7 @@ left_here : (x : State) (t : Token) (s : List State) (i : RawEvent)
     → Moves (x ∷ s) t i (Some t) s
 left_here x t s i h e = record {
   gives = λ rest ending. leave_item x t rest ending s i h e;
-  real = leave_real x t t.start_mark i e;
+  real = (λ d. absurd (left_is_none x t.start_mark (subst (λ (j : RawEvent). IsDirective j.body) e d)));
   utf8 = λ ds. leave_utf8 x t t.start_mark s i ds e;
   stack = leave_stands x t s i h e;
 }

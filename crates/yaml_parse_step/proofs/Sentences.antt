@@ -1,12 +1,7 @@
 -- A parser's fault is that of its tokens, and what comes before it begins a tree.
 use Rattle.std.proofs.Common.{◌≡◌, ◌⊎◌, ◌∙◌, ℕ, inl, inr, refl, sym, subst, List, [], ◌∷◌, ◌++◌, length, Option, Some, None}
 use Rattle.std.proofs.lemmas.List.{append-nil}
-use Rattle.yaml_scan_model.specs.Tokens.{Token}
-use Rattle.yaml_scan_model.specs.Faults.{Fault}
-use Rattle.yaml_parse_grammar.specs.TreeEvents.{given_of}
-use Rattle.yaml_parse_grammar.specs.Machine.{run, initial}
-use Rattle.yaml_parse_grammar.specs.Resolve.{Told, no_directives}
-use Rattle.yaml_parse_grammar.specs.Remaining.{reading_of, unasked_of}
+use Rattle.yaml_parse_step.proofs.Words.{Token, Fault, given_of, run, initial, Told, no_directives, reading_of, unasked_of}
 use Rattle.yaml_parse_laws_trees.specs.SoundLaws.{BeginsWithTree, bare, TreeGoesOnGiving, RefusedAt, RunsOut}
 use Rattle.yaml_parse_laws_trees.specs.CountsLaws.{AtMostFourSoFar}
 use Rattle.yaml_parse_laws_trees.specs.Places.{FaultOfTokens, IsToldWith}

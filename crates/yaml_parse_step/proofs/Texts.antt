@@ -1,19 +1,12 @@
 -- The texts of what a step gives and holds are UTF-8.
-use Rattle.std.proofs.Common.{◌≡◌, List, [], ◌∷◌, ◌++◌, Option, Some, None, sym, subst, ap, ◌∙◌}
-use Rattle.yaml_scan_model.specs.declared.yaml_mark_t.{yaml_mark_t}
-use Rattle.yaml_scan_model.specs.Tokens.{Token}
+use Rattle.std.proofs.Common.{◌≡◌, List, [], ◌∷◌, ◌++◌, Option, Some, None, sym, subst, ◌∙◌}
+use Rattle.yaml_parse_step.proofs.Words.{yaml_mark_t, Token, EventBody, RawEvent, State, Taken, taken_at, left_at, opened, Directives, gave, noted, settle, IsUtf8Token, IsUtf8Held, SteppedOnce, OpensAt}
 use Rattle.yaml_parse_model.specs.Source as source
-use Rattle.yaml_parse_model.specs.Events.{EventBody}
 use Rattle.yaml_parse_model.specs.Constructors.{HasUtf8, AreUtf8}
-use Rattle.yaml_parse_grammar.specs.Items.{RawEvent}
-use Rattle.yaml_parse_grammar.specs.States.{State, Taken}
-use Rattle.yaml_parse_grammar.specs.Machine.{taken_at, left_at, opened}
-use Rattle.yaml_parse_grammar.specs.Resolve.{Directives, gave, noted, settle}
-use Rattle.yaml_parse_grammar.specs.Texts.{IsUtf8Item, AreUtf8States, IsUtf8Token, IsUtf8Held}
+use Rattle.yaml_parse_grammar.specs.Texts.{IsUtf8Item, AreUtf8States}
 use Rattle.yaml_parse_grammar.proofs.Utf8.{IsUtf8Taken, taken_utf8, left_utf8, opened_utf8, states_over, IsUtf8Settled, settled_utf8, held_utf8}
-use Rattle.yaml_parse_step.specs.Stepped.{SteppedOnce}
 use Rattle.yaml_parse_step.specs.Stepped as step
-use Rattle.yaml_parse_step.specs.Steps.{Raw, IsDone, OpensAt, IsUtf8Step}
+use Rattle.yaml_parse_step.specs.Steps.{IsUtf8Step}
 
 taken_held : (x : State) (t : Token) (i : Option RawEvent) (above s : List State) (ds : Directives)
     → record { item = i; above = above } ≡ taken_at x t
@@ -64,10 +57,6 @@ advance_utf8 peeked (x ∷ s) t after s' r ds f k h = k (f h.0, h.1)
 pub cleared_utf8 : (peeked : Option Token) (s : List State) (ds : Directives) → s ≡ []
     → Unit {0} × IsUtf8Held peeked s ds
 cleared_utf8 peeked s ds e = (tt, subst (λ (z : List State). IsUtf8Held peeked z ds) (sym e) tt)
-
-pub done_utf8 : (old new : Raw) (ds : Directives) → IsDone old new
-    → Unit {0} × IsUtf8Held new.peeked new.stack ds
-done_utf8 old new ds h = cleared_utf8 new.peeked new.stack ds (ap (λ (r : Raw). r.stack) h.same ∙ h.empty)
 
 pub silent_utf8 : (peeked : Option Token) (s : List State) (ds : Directives)
     → IsUtf8Token peeked × (AreUtf8States s × AreUtf8 ds.tags) → Unit {0} × IsUtf8Held peeked s ds

@@ -1,25 +1,15 @@
 -- What a step with its item resolved owes.
 use Rattle.std.proofs.Common.{◌≡◌, ◌⊎◌, ◌+◌, ◌<◌, ◌≤◌, arith, ℕ, inl, inr, List, [], ◌∷◌, length, Option, Some, None, refl, sym, ap, subst, ◌∙◌}
-use Rattle.yaml_scan_model.specs.declared.yaml_origin_t.TheVariants.{Parser}
-use Rattle.yaml_scan_model.specs.declared.yaml_mark_t.{yaml_mark_t}
-use Rattle.yaml_scan_model.specs.Tokens.{Token}
-use Rattle.yaml_scan_model.specs.Faults.{Fault, memory_fault, IsMemoryFault, scan_layers}
-use Rattle.yaml_parse_model.specs.Source.{HasMore}
-use Rattle.yaml_parse_model.specs.Events.{Event, EventBody, no_event}
-use Rattle.yaml_parse_grammar.specs.Items.{RawEvent, RawEventBody}
+use Rattle.yaml_parse_step.proofs.Words.{Parser, yaml_mark_t, Token, Fault, memory_fault, IsMemoryFault, scan_layers, HasMore, Event, EventBody, RawEvent, RawEventBody, State, Given, given_of, Outcome, run, initial, Stands, Directives, no_directives, Settled, gave, noted, settle, placed, unasked_at_fault, ParserRemaining, parser_remaining, reading_of, unasked_of, waiting, IsFinished, next_unasked, Raw, outcome, stop_of, IsDirective, GivesItem, GivesNoItem, IsRefused, IsSilent, GivesNext, GivesEnd}
 use Rattle.yaml_parse_grammar.specs.Items as item
-use Rattle.yaml_parse_grammar.specs.States.{State}
-use Rattle.yaml_parse_grammar.specs.Trees.{Given, Stream, spell}
-use Rattle.yaml_parse_grammar.specs.TreeEvents.{given_of}
-use Rattle.yaml_parse_grammar.specs.Machine.{Outcome, run, initial, Stands}
-use Rattle.yaml_parse_grammar.specs.Resolve.{Directives, no_directives, Settled, refused, gave, noted, settle, settle_body, resolved, placed, read_on, reading, Reading, Told, unasked_on, unasked_at_fault}
-use Rattle.yaml_parse_grammar.specs.Remaining.{ParserRemaining, parser_remaining, reading_of, unasked_of, waiting, held_of, IsFinished, GivesNothing, GivesEvent, EventOf, FaultOf, next_unasked}
+use Rattle.yaml_parse_grammar.specs.Trees.{Stream, spell}
+use Rattle.yaml_parse_grammar.specs.Resolve.{refused, settle_body, resolved, read_on, reading, Reading, unasked_on}
+use Rattle.yaml_parse_grammar.specs.Remaining.{held_of}
 use Rattle.yaml_parse_grammar.proofs.CompleteStream.{nothing_runs, stream_runs}
 use Rattle.yaml_parse_grammar.proofs.Voice.{speaks, reading_speaks, not_noted}
 use Rattle.yaml_parse_laws_trees.proofs.Turns.{items_given}
 use Rattle.yaml_parse_laws_trees.proofs.Falling.{has_more}
-use Rattle.yaml_parse_step.specs.Steps.{Raw, outcome, stop_of, IsDirective, GivesItem, GivesNoItem, IsRefused, IsDone, IsSilent, IsTurnRefused, IsOver, KeptOverTurns}
-use Rattle.yaml_parse_step.specs.Finds.{GivesNext, GivesEnd}
+use Rattle.yaml_parse_step.specs.Steps.{IsDone, IsTurnRefused, IsOver, KeptOverTurns}
 
 -- what is to come of it
 abbrev pub of_raw : Raw → Directives → Fault → ParserRemaining
@@ -85,10 +75,6 @@ item_unasked old new ds i h = ap (λ (o : Outcome). unasked_at_fault o.items (st
 silent_unasked : (old new : Raw) (ds : Directives) → GivesNoItem old new
     → fault_of_raw old ds ≡ fault_of_raw new ds
 silent_unasked old new ds h = ap (λ (o : Outcome). unasked_at_fault o.items (stop_of old) ds) h.same ∙ ap (λ (n : ℕ). unasked_at_fault (outcome new).items n ds) h.stop
-
-refused_unasked : (old : Raw) (ds : Directives) (e : Fault)
-    → outcome old ≡ record { items = []; ending = Some e } → fault_of_raw old ds ≡ stop_of old
-refused_unasked old ds e q = ap (λ (o : Outcome). unasked_at_fault o.items (stop_of old) ds) q ∙ fault_nothing (stop_of old) ds
 
 noted_directive : (b : RawEventBody) (from : yaml_mark_t) (ds ds' : Directives)
     → settle_body b from ds ≡ noted ds' → IsDirective b
@@ -191,7 +177,7 @@ refused_turn old middle new ds ds' answered e z a h k s = record {
   ];
   unasked = elim h.reason [
     | inl m ↦ inl m
-    | inr q ↦ elim h.unasked [ inl m ↦ inl m | inr n ↦ inr (ap length k ∙ n ∙ sym (refused_unasked old ds e q)) ]
+    | inr q ↦ elim h.unasked [ inl m ↦ inl m | inr n ↦ inr (ap length k ∙ n ∙ sym (ap (λ (o : Outcome). unasked_at_fault o.items (stop_of old) ds) q ∙ fault_nothing (stop_of old) ds)) ]
   ];
 }
 
@@ -272,26 +258,9 @@ one_held (Some t) = omega arith
 
 -- ---- the turns of a call
 
-pub kept_first : (c : ParserRemaining) → KeptOverTurns c c
-kept_first c = record { events = refl; ending = refl; ending_unasked = refl; answered = refl; unasked = inl (refl, refl) }
-
-pub kept_silent : (i o n : ParserRemaining) → KeptOverTurns i o → IsSilent o n → KeptOverTurns i n
-kept_silent i o n k s = record {
-  events = s.events ∙ k.events;
-  ending = s.ending ∙ k.ending;
-  ending_unasked = s.ending_unasked ∙ k.ending_unasked;
-  answered = s.answered ∙ k.answered;
-  unasked = inr (λ p q. s.speaks (k.events ∙ p) (k.ending ∙ q));
-}
-
 same_unasked : (i o : ParserRemaining) → KeptOverTurns i o → i.events ≡ [] → i.ending ≡ None
     → (o.unasked ≡ i.unasked) × (o.held ≡ i.held)
 same_unasked i o k p q = elim k.unasked [ inl a ↦ a | inr s ↦ absurd (s p q) ]
-
--- the next event
-pub kept_event : (i o n : ParserRemaining) (e : Event) → KeptOverTurns i o → GivesNext e o n
-    → GivesNext e i n
-kept_event i o n e k h = record { events = sym k.events ∙ h.events; ending = h.ending ∙ k.ending; ending_unasked = h.ending_unasked ∙ k.ending_unasked; answered = h.answered ∙ k.answered }
 
 pub kept_end : (i o n : ParserRemaining) → KeptOverTurns i o → IsOver o n → GivesEnd i n
 kept_end i o n k h =
@@ -308,39 +277,3 @@ kept_end i o n k h =
         answered = ap (λ (c : ParserRemaining). c.answered) h.same ∙ k.answered;
       };
     }
-
--- what a call gives
-given_front : (es : List Told) (f : Option Fault) (e : Event) (i n : ParserRemaining)
-    → es ≡ (e, n.unasked) ∷ n.events → n.ending ≡ f → n.ending_unasked ≡ i.ending_unasked
-    → n.answered ≡ i.answered → GivesEvent es f e i n
-given_front es f e i n p q u a = rw p (record { given = refl; events = refl; ending = q; ending_unasked = u; unasked = refl; answered = a })
-
-pub parsed_event : (i n : ParserRemaining) (e : Event) → GivesNext e i n → EventOf i e n
-parsed_event i n e h = given_front i.events i.ending e i n h.events h.ending h.ending_unasked h.answered
-
-given_end : (es : List Told) (f : Option Fault) (e : Event) (i n : ParserRemaining) → es ≡ []
-    → f ≡ None → e ≡ no_event → GivesNothing no_event i n → GivesEvent es f e i n
-given_end es f e i n p q r h = rw (p, q, r) h
-
-pub parsed_end : (i n : ParserRemaining) (e : Event) → GivesEnd i n → e ≡ no_event → EventOf i e n
-parsed_end i n e h p = given_end i.events i.ending e i n h.events h.ending p h.nothing
-
-asked_same : (i o n n' : ParserRemaining) → KeptOverTurns i o
-    → next_unasked o.events o.ending_unasked ≤ n.unasked → n'.unasked ≡ n.unasked
-    → next_unasked i.events i.ending_unasked ≤ n'.unasked
-asked_same i o n n' k l u =
-    subst (λ (x : ℕ). next_unasked i.events i.ending_unasked ≤ x) (sym u)
-    (subst (λ (x : ℕ). next_unasked i.events x ≤ n.unasked) k.ending_unasked (subst (λ (gs : List Told). next_unasked gs o.ending_unasked ≤ n.unasked) k.events l))
-
-pub parsed_fault : (i o n n' : ParserRemaining) (f : Fault) → KeptOverTurns i o
-    → IsTurnRefused f o n
-    → n'.events ≡ n.events → n'.ending ≡ n.ending → n'.between ≡ n.between → n'.unasked ≡ n.unasked
-    → n'.answered ≡ f → FaultOf i f n'
-parsed_fault i o n n' f k h a b c u d = record {
-  more = subst (λ (x : Option Fault). HasMore i.events x) k.ending (subst (λ (gs : List Told). HasMore gs o.ending) k.events h.more);
-  asked = elim h.asked [ inl m ↦ inl m | inr l ↦ inr (asked_same i o n n' k l u) ];
-  finished = record { events = a ∙ h.finished.events; ending = b ∙ h.finished.ending; between = c ∙ h.finished.between };
-  answered = d;
-  reason = elim h.reason [ inl m ↦ inl m | inr q ↦ inr (sym k.events ∙ q.0, sym k.ending ∙ q.1) ];
-  unasked = elim h.unasked [ inl m ↦ inl m | inr n ↦ inr (u ∙ n ∙ k.ending_unasked) ];
-}

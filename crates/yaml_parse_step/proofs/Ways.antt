@@ -1,23 +1,12 @@
 -- What a turn with its item resolved is to what is to come.
 use Rattle.std.proofs.Common.{◌≡◌, ◌⊎◌, ◌∙◌, ◌≤◌, ℕ, inl, inr, true, false, List, [], ◌∷◌, length, arith, Option, None, refl, sym, subst}
-use Rattle.yaml_scan_model.specs.Tokens.{Token}
-use Rattle.yaml_scan_model.specs.Faults.{Fault}
-use Rattle.yaml_parse_model.specs.Events.{Event}
+use Rattle.yaml_parse_step.proofs.Words.{Token, Fault, Event, State, Outcome, run, unasked_at_stop, Stands, Directives, unasked_at_fault, parser_remaining, is_between, waiting, reading_of, next_unasked, IsStack, IsUtf8Token, IsUtf8Held, is_nothing, Step, raw, IsFront, HasNoFront, IsSilent, IsRealOn, Went}
 use Rattle.yaml_parse_model.specs.Source as source
-use Rattle.yaml_parse_grammar.specs.States.{State}
-use Rattle.yaml_parse_grammar.specs.Machine.{Outcome, run, ending_at, unasked_at_stop, Stands}
-use Rattle.yaml_parse_grammar.specs.Resolve.{Directives, unasked_at_fault}
-use Rattle.yaml_parse_grammar.specs.Remaining.{parser_remaining, is_between, waiting, reading_of, next_unasked}
 use Rattle.yaml_parse_laws_trees.proofs.Falling.{next_behind, ended_next}
-use Rattle.yaml_parse_grammar.specs.Stacks.{IsStack}
-use Rattle.yaml_parse_grammar.specs.Texts.{IsUtf8Token, IsUtf8Held}
-use Rattle.yaml_parse_core.specs.Views.{is_nothing}
-use Rattle.yaml_parse_step.specs.declared.step.Step.{Step}
 use Rattle.yaml_parse_step.specs.declared.step.Step.TheVariants as code
 use Rattle.yaml_parse_step.specs.Stepped as step
-use Rattle.yaml_parse_step.specs.Steps.{raw, IsFront, HasNoFront, Turns, IsSilent, IsUtf8Turn, IsStackTurn, IsRealOn}
+use Rattle.yaml_parse_step.specs.Steps.{Turns, IsUtf8Turn, IsStackTurn}
 use Rattle.yaml_parse_step.specs.Turned.{turned}
-use Rattle.yaml_parse_step.specs.Moves.{Went}
 use Rattle.yaml_parse_step.proofs.Moves.{over_front}
 use Rattle.yaml_parse_step.proofs.Turning.{event_turn, silent_turn, noted_turn, refused_turn, unsettled_turn, AskedFor}
 use Rattle.yaml_parse_step.proofs.Texts.{advance_utf8, silent_utf8, event_utf8, noted_utf8, cleared_utf8}

@@ -3,18 +3,13 @@ use Rattle.std.proofs.Common.{◌≡◌, ℕ, zero, suc, ℤ, List, [], ◌∷�
 use Rattle.std.specs.Prelude.{false, slice_get, pos}
 use Rattle.yaml_round_content.specs.parse_model.Nodes as model
 use Rattle.yaml_round_content.specs.parse_laws_trees.parse_document.Documents as documents
-use Rattle.yaml_parse_loader.specs.Numbering.{is_bang}
-use Rattle.yaml_parse_loader.specs.Order.{VisitsInPreorder, done, again, first, children}
-use Rattle.yaml_round_content.specs.Input.{events_of, ending_of}
-use Rattle.yaml_round_content.specs.Said.{Document}
-use Rattle.yaml_round_content.specs.Loads.{Loads, loads_of}
-use Rattle.yaml_round_content.specs.WritableLaws.{InputsAreWritable}
-use Rattle.yaml_round_content.specs.Agree.{CoreNode, Core, core_body, core_node, core_of, AreAgreeing}
-use Rattle.yaml_round_content.specs.DumpsLoads.{LoadsOfContent}
+use Rattle.yaml_round_content.proofs.Words.{is_bang, VisitsInPreorder, again, first, events_of, ending_of, Document, Loads, loads_of, InputsAreWritable, CoreNode, Core, core_body, core_node, core_of, LoadsOfContent, IsLoadedDocument, load_each, trees_of_dumps, loaded_again, AreLoadedDocuments, ContentIsSaid, ContentIsLoaded, ContentLoadsDocuments, DumpsAreNumberedBack}
+use Rattle.yaml_parse_loader.specs.Order.{done, children}
+use Rattle.yaml_round_content.specs.Agree.{AreAgreeing}
 use Rattle.yaml_emit_laws_dumps.specs.Dumps as dumps
-use Rattle.yaml_emit_laws_dumps.specs.Dumps.{HasKind, IsLoadedNode, AreLoadedNodes, IsLoadedDocument}
-use Rattle.yaml_round_content.specs.DumpsEvents.{events_saying, load_each, trees_of_dumps, loaded_again, AreLoadedDocuments}
-use Rattle.yaml_round_content.specs.DumpsLaws.{ContentIsSaid, ContentIsLoaded, ContentLoadsDocuments, DumpsAreNumberedBack, DumpsLoadBack, InputsLoadDocuments}
+use Rattle.yaml_emit_laws_dumps.specs.Dumps.{HasKind, IsLoadedNode}
+use Rattle.yaml_round_content.specs.DumpsEvents.{events_saying}
+use Rattle.yaml_round_content.specs.DumpsLaws.{DumpsLoadBack, InputsLoadDocuments}
 
 -- ---- one node
 
@@ -44,10 +39,6 @@ record Beside (ys : List model.Node) (k : ℕ) (m : model.Node) : Type 0 where
   other : model.Node
   at : slice_get ys k ≡ Some other
   same : core_node m ≡ core_node other
-
-first_node : List CoreNode → CoreNode → CoreNode
-first_node [] c = c
-first_node (x ∷ xs) c = x
 
 beside : (xs ys : List model.Node) (k : ℕ) (m : model.Node) → map core_node xs ≡ map core_node ys
     → slice_get xs k ≡ Some m → Beside ys k m

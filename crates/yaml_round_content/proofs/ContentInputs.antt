@@ -1,14 +1,8 @@
 -- What an input says is a stream in which nothing is wrong.
 use Rattle.std.proofs.Common.{◌≡◌, ◌||◌, ℕ, List, map, Bool, true, false, Option, None, refl, inl, inr}
-use Rattle.yaml_round_content.specs.scan_model.declared.yaml_encoding_t.{yaml_encoding_t}
-use Rattle.yaml_round_content.specs.scan_model.declared.yaml_scalar_style_t.{yaml_scalar_style_t}
+use Rattle.yaml_round_content.proofs.Words.{yaml_encoding_t, yaml_scalar_style_t, RightStream, IsNormalized, IsNormalizing, is_lone_mark, normalize_scalar, normalize_body, emitter_events, events_of, ending_of, read}
 use Rattle.yaml_round_content.specs.parse_model.Events as event
-use Rattle.yaml_round_content.specs.emit_laws_dumps.StreamsLaws.{RightStream}
-use Rattle.yaml_round_content.specs.Normalized.{IsNormalized, IsNormalizing}
 use Rattle.yaml_round_content.proofs.StreamsInputs.{inputs_are_streams, inputs_are_fronts}
-use Rattle.yaml_round_content.specs.Normalize.{is_lone_mark, normalize_scalar, normalize_body}
-use Rattle.yaml_round_content.specs.Events.{emitter_events}
-use Rattle.yaml_round_content.specs.Input.{events_of, ending_of, read}
 use Rattle.yaml_round_content.specs.ContentLaws.{InputsHaveContent, InputsSayFronts}
 use Rattle.yaml_round_content.proofs.Trees.{core, document_trees, stream_trees, front_trees}
 

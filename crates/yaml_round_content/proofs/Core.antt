@@ -5,22 +5,12 @@ use Rattle.std.specs.Ordering.{nat_cmp}
 use Rattle.std.specs.Cmp.Lexicographic.{slice_cmp}
 use Rattle.std.specs.FinMap as map
 use Rattle.std.specs.FinMap.{FinMap}
-use Rattle.yaml_round_content.specs.scan_model.declared.yaml_mark_t.{yaml_mark_t}
-use Rattle.yaml_round_content.specs.scan_model.declared.yaml_version_directive_t.{yaml_version_directive_t}
-use Rattle.yaml_round_content.specs.scan_model.declared.yaml_scalar_style_t.TheVariants.{YAML_ANY_SCALAR_STYLE}
-use Rattle.yaml_round_content.specs.scan_model.declared.yaml_sequence_style_t.TheVariants.{YAML_ANY_SEQUENCE_STYLE}
-use Rattle.yaml_round_content.specs.scan_model.declared.yaml_mapping_style_t.TheVariants.{YAML_ANY_MAPPING_STYLE}
-use Rattle.yaml_round_content.specs.scan_model.Faults.{Fault}
-use Rattle.yaml_round_content.specs.parse_model.Events.{EventBody, TagDirective}
+use Rattle.yaml_round_content.proofs.Words.{yaml_mark_t, yaml_version_directive_t, YAML_ANY_SCALAR_STYLE, YAML_ANY_SEQUENCE_STYLE, YAML_ANY_MAPPING_STYLE, Fault, EventBody, TagDirective, str_tag, Told, loaded_tag, Open, open_sequence, open_mapping, Loading, nothing_loaded, attach, named, LoadStep, goes_on, loaded, step, Loads, in_front, load_on, load_all, CoreNode, Core, core_body, core_node, core_of}
 use Rattle.yaml_round_content.specs.parse_model.Events as event
 use Rattle.yaml_round_content.specs.parse_model.Nodes.{Node, NodeBody}
 use Rattle.yaml_round_content.specs.parse_model.Nodes as node
-use Rattle.yaml_round_content.specs.parse_laws_trees.parse_document.Documents.{Document, change_place, str_tag, seq_tag, map_tag}
-use Rattle.yaml_round_content.specs.parse_grammar.Resolve.{Told}
-use Rattle.yaml_parse_loader.specs.Numbering.{loaded_tag}
-use Rattle.yaml_parse_loader.specs.Loading.{Open, open_sequence, open_mapping, Loading, nothing_loaded, attach, named, filled, filled_body, place_of, closed, aliased, enter_leaf, enter_open, LoadStep, goes_on, loaded, refused, step, step_body}
-use Rattle.yaml_round_content.specs.Loads.{Loads, in_front, load_on, load_all}
-use Rattle.yaml_round_content.specs.Agree.{CoreNode, Core, core_body, core_node, core_of}
+use Rattle.yaml_round_content.specs.parse_laws_trees.parse_document.Documents.{Document, change_place, seq_tag, map_tag}
+use Rattle.yaml_parse_loader.specs.Loading.{filled, filled_body, place_of, closed, aliased, enter_leaf, enter_open, refused, step_body}
 
 -- ---- the machine
 
@@ -142,10 +132,6 @@ cores a = record { documents = map core_of a.documents; refused = is_fault a.fau
 
 -- ---- one event
 
-pushed : (ns : List Node) (n : Node)
-    → map core_node (ns ++ n ∷ []) ≡ map core_node ns ++ core_node n ∷ []
-pushed ns n = map-append core_node ns (n ∷ [])
-
 core_count : (l : Loading) → length l.document.nodes ≡ length (core_of l.document).nodes
 core_count l = let e : length (map core_node l.document.nodes) ≡ length l.document.nodes = length-map l.document.nodes core_node in rw e refl
 
@@ -159,7 +145,7 @@ leaf_core l anchor n =
       levels = attach (pos (suc k)) l.levels;
       anchors = named anchor (pos (suc k)) l.anchors;
     } in
-    ap (λ (ns : List CoreNode). at k ns) (pushed l.document.nodes n) ∙ ap (λ (j : ℕ). at j (map core_node l.document.nodes ++ core_node n ∷ [])) (core_count l)
+    ap (λ (ns : List CoreNode). at k ns) (map-append core_node l.document.nodes (n ∷ [])) ∙ ap (λ (j : ℕ). at j (map core_node l.document.nodes ++ core_node n ∷ [])) (core_count l)
 
 open_core : (l : Loading) (anchor : Option (List ℕ)) (n : Node) (o : ℕ → Open)
     → core_loading (enter_open l anchor n (o (length l.document.nodes)))
@@ -172,7 +158,7 @@ open_core l anchor n o =
       levels = o k ∷ attach (pos (suc k)) l.levels;
       anchors = named anchor (pos (suc k)) l.anchors;
     } in
-    ap (λ (ns : List CoreNode). at k ns) (pushed l.document.nodes n) ∙ ap (λ (j : ℕ). at j (map core_node l.document.nodes ++ core_node n ∷ [])) (core_count l)
+    ap (λ (ns : List CoreNode). at k ns) (map-append core_node l.document.nodes (n ∷ [])) ∙ ap (λ (j : ℕ). at j (map core_node l.document.nodes ++ core_node n ∷ [])) (core_count l)
 
 filled_core : (o : Open) (b : NodeBody) → core_body (filled_body o b) ≡ filled_body o (core_body b)
 filled_core (open_sequence place items) node.no = refl
@@ -184,15 +170,11 @@ filled_core (open_mapping place pairs key) (node.scalar value style) = refl
 filled_core (open_mapping place pairs key) (node.sequence none style) = refl
 filled_core (open_mapping place pairs key) (node.mapping none style) = refl
 
-node_filled : (o : Open) (to : yaml_mark_t) (n : Node)
-    → core_node (filled o to n) ≡ core_filled o (core_node n)
-node_filled o to n = ap (λ (b : NodeBody). let c : CoreNode = record { tag = n.tag; body = b } in c) (filled_core o n.body)
-
 changed_core : (o : Open) (to : yaml_mark_t) (k : ℕ) (ns : List Node)
     → map core_node (change_place (filled o to) k ns)
     ≡ change_core (core_filled o) k (map core_node ns)
 changed_core o to k [] = refl
-changed_core o to zero (n ∷ ns) = ap (λ (c : CoreNode). c ∷ map core_node ns) (node_filled o to n)
+changed_core o to zero (n ∷ ns) = ap (λ (c : CoreNode). c ∷ map core_node ns) (ap (λ (b : NodeBody). let c : CoreNode = record { tag = n.tag; body = b } in c) (filled_core o n.body))
 changed_core o to (suc k) (n ∷ ns) = ap (λ (cs : List CoreNode). core_node n ∷ cs) (changed_core o to k ns)
 
 closed_core : (to : yaml_mark_t) (l : Loading) (os : List Open)

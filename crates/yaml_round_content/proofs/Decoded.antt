@@ -3,20 +3,13 @@ use Rattle.std.proofs.Common.{◌≡◌, ℕ, zero, suc, ◌+◌, ◌-◌, ◌*�
 use Rattle.std.specs.Char.{IsScalar}
 use Rattle.std.specs.Str.{all_scalars}
 use Rattle.std.proofs.lemmas.List.Elements.{All-nil}
-use Rattle.yaml_round_content.specs.scan_model.declared.yaml_encoding_t.{yaml_encoding_t}
-use Rattle.yaml_round_content.specs.scan_model.declared.yaml_encoding_t.TheVariants.{YAML_ANY_ENCODING, YAML_UTF8_ENCODING, YAML_UTF16LE_ENCODING, YAML_UTF16BE_ENCODING}
+use Rattle.yaml_round_content.proofs.Words.{yaml_encoding_t, YAML_ANY_ENCODING, YAML_UTF8_ENCODING, YAML_UTF16LE_ENCODING, YAML_UTF16BE_ENCODING, Token, scanned_in, tokens_of, adapted, Offence, encoding_of, mark_length, is_allowed, decoded_text}
 use Rattle.yaml_round_content.specs.scan_model.Classes.{width_of}
-use Rattle.yaml_round_content.specs.scan_model.Tokens.{Token}
-use Rattle.yaml_round_content.specs.scan_history.Scanned.{scanned_in}
 use Rattle.yaml_round_content.specs.parse_model.Source as source
-use Rattle.yaml_round_content.specs.Input.{tokens_of}
-use Rattle.yaml_round_content.specs.round_laws_adapted.Adapted.{adapted}
 use Rattle.yaml_round_content.proofs.AdaptedLemmas.{adapted_utf8}
-use Rattle.yaml_round_content.specs.scan_history.scan_decode.declared.offence.Offence.{Offence}
 use Rattle.yaml_round_content.specs.scan_history.scan_decode.declared.offence.Character.{Character}
-use Rattle.yaml_round_content.specs.scan_history.scan_decode.Encodings.{encoding_of, mark_length}
-use Rattle.yaml_round_content.specs.scan_history.scan_decode.Characters.{between, is_allowed, is_low_surrogate, is_high_surrogate, is_trailing, allowed_at, valued_at, least_code, sequence_of, utf8_code, utf8_of, utf16_of, character_at}
-use Rattle.yaml_round_content.specs.scan_history.scan_decode.Decoding.{before, led_by, characters, in_utf8, decoded_characters, decoded_text}
+use Rattle.yaml_round_content.specs.scan_history.scan_decode.Characters.{between, is_low_surrogate, is_high_surrogate, is_trailing, allowed_at, valued_at, least_code, sequence_of, utf8_code, utf8_of, utf16_of, character_at}
+use Rattle.yaml_round_content.specs.scan_history.scan_decode.Decoding.{before, led_by, characters, in_utf8, decoded_characters}
 use Rattle.yaml_round_content.proofs.SpellingLemmas.{allowed_scalar}
 
 -- ---- a character

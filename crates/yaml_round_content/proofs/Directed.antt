@@ -4,11 +4,9 @@ use Rattle.std.proofs.lemmas.Bool.Decides.{nat_tests}
 use Rattle.std.proofs.lemmas.Grind.{common_steps}
 use Rattle.std.specs.List.{list_all, list_any}
 use Rattle.std.specs.Str.{bytes_eq}
-use Rattle.yaml_emit_laws_dumps.specs.emit_layout.scan_model.Classes.{is_alpha_byte}
-use Rattle.yaml_round_laws_adapted.specs.scan_laws_texts.Spelled.{IsSome, AreAlphas, IsHandle}
-use Rattle.yaml_emit_laws_dumps.specs.parse_model.Events.{TagDirective}
-use Rattle.yaml_emit_laws_dumps.specs.parse_grammar.Resolve.{directive_for}
-use Rattle.yaml_emit_laws_dumps.specs.emit_layout.Grammar.{between, handle_problem, prefix_problem, has_handle, twice_problem, directive_problem, directives_problem}
+use Rattle.yaml_round_content.proofs.Words.{is_alpha_byte, IsSome, IsHandle, TagDirective, directive_for, directives_problem}
+use Rattle.yaml_round_laws_adapted.specs.scan_laws_texts.Spelled.{AreAlphas}
+use Rattle.yaml_emit_laws_dumps.specs.emit_layout.Grammar.{between, handle_problem, prefix_problem, has_handle, twice_problem, directive_problem}
 use Rattle.yaml_round_content.proofs.Emitted.{or_none}
 use Rattle.yaml_emit_laws_dumps.proofs.Passing.{or_both}
 

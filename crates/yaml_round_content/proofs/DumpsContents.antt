@@ -3,31 +3,17 @@ use Rattle.std.proofs.Common.{◌≡◌, ◌↔◌, ℕ, Bool, true, false, ◌=
 use Rattle.std.specs.Prelude.{slice_index}
 use Rattle.std.proofs.lemmas.Bool.Decides.{nat_tests}
 use Rattle.std.proofs.lemmas.Bool.{and_parts}
-use Rattle.yaml_round_content.specs.scan_model.declared.yaml_scalar_style_t.{yaml_scalar_style_t}
-use Rattle.yaml_round_content.specs.scan_model.Faults.{Fault}
-use Rattle.yaml_round_content.specs.parse_model.Events.{EventBody}
+use Rattle.yaml_round_content.proofs.Words.{yaml_scalar_style_t, Fault, EventBody, str_tag, Told, is_bang, loaded_tag, nothing_loaded, is_lone_mark, normalize_scalar, normalize_body, content_of, contents, Loads, load_all, LoadsOfContent}
 use Rattle.yaml_round_content.specs.parse_model.Events as event
-use Rattle.yaml_round_content.specs.parse_laws_trees.parse_document.Documents.{str_tag}
-use Rattle.yaml_round_content.specs.parse_grammar.Resolve.{Told}
-use Rattle.yaml_parse_loader.specs.Numbering.{is_bang, loaded_tag}
-use Rattle.yaml_parse_loader.specs.Loading.{nothing_loaded}
-use Rattle.yaml_round_content.specs.Normalize.{is_lone_mark, normalize_scalar, normalize_body}
-use Rattle.yaml_round_content.specs.Content.{content_of}
-use Rattle.yaml_round_content.specs.Events.{contents}
-use Rattle.yaml_round_content.specs.Loads.{Loads, load_all}
 use Rattle.yaml_round_content.specs.Agree.{LoadAlike}
-use Rattle.yaml_round_content.specs.DumpsLoads.{LoadsOfContent}
 use Rattle.yaml_round_content.proofs.Core.{CoreLoading, CoreFed, core_goes_on, CoreLoads, core_leaf, core_scalar, core_loaded, core_refused, core_in_front, core_step, core_on, core_loads, core_nothing, is_fault, cores, bodies, load_cores}
 
 -- ---- the lone tag `!` loads as no tag
 
-one_is_one : (c d : ℕ) (more : List ℕ) → (length (c ∷ d ∷ more) == 1) ≡ true → ⊥
-one_is_one c d more e = grind (arith, nat_tests)
-
 bang_of : (t : List ℕ) → (length t == 1) ≡ true → (slice_index t 0 == 33) ≡ true → is_bang t ≡ true
 bang_of [] e f = absurd (cc)
 bang_of (c ∷ []) e f = f
-bang_of (c ∷ d ∷ more) e f = absurd (one_is_one c d more e)
+bang_of (c ∷ d ∷ more) e f = absurd (grind (arith, nat_tests))
 
 lone_tag : (tag : Option (List ℕ)) (value default : List ℕ) → is_lone_mark tag value ≡ true
     → loaded_tag tag default ≡ default
@@ -78,9 +64,6 @@ no_fault : (f : Option Fault) → is_fault f ≡ false → f ≡ None
 no_fault None e = refl
 no_fault (Some f) e = absurd (cc)
 
-both_faults : (f g : Option Fault) → is_fault f ≡ is_fault g → (f ≡ None) ↔ (g ≡ None)
-both_faults f g e = (λ h. no_fault g (sym e ∙ ap is_fault h), λ h. no_fault f (e ∙ ap is_fault h))
-
 some_is_none : (f : Fault) → Some f ≡ None → ⊥
 some_is_none f e = cc
 
@@ -91,7 +74,11 @@ faults_alike (Some f) None e = absurd (some_is_none f (e.1 refl))
 faults_alike (Some f) (Some g) e = refl
 
 pub alike : (a b : Loads) → cores a ≡ cores b → LoadAlike a b
-alike a b e = record { agree = ap (λ (x : CoreLoads). x.documents) e; both = both_faults a.fault b.fault (ap (λ (x : CoreLoads). x.refused) e) }
+alike a b e = record {
+  agree = ap (λ (x : CoreLoads). x.documents) e;
+  both =
+      (λ h. no_fault b.fault (sym (ap (λ (x : CoreLoads). x.refused) e) ∙ ap is_fault h), λ h. no_fault a.fault ((ap (λ (x : CoreLoads). x.refused) e) ∙ ap is_fault h));
+}
 
 pub loads_of_contents : LoadsOfContent
 loads_of_contents es fs f g h e =

@@ -4,36 +4,21 @@ use Rattle.std.proofs.lemmas.Bool.{cases_Bool}
 use Rattle.std.proofs.lemmas.Bool.Decides.{nat_tests}
 use Rattle.std.specs.Prelude.{slice_index}
 use Rattle.std.proofs.Math.Bool.{and-false}
-use Rattle.yaml_round_content.specs.scan_model.declared.yaml_scalar_style_t.TheVariants.{YAML_ANY_SCALAR_STYLE}
-use Rattle.yaml_round_content.specs.scan_model.declared.yaml_sequence_style_t.TheVariants.{YAML_ANY_SEQUENCE_STYLE}
-use Rattle.yaml_round_content.specs.scan_model.declared.yaml_mapping_style_t.TheVariants.{YAML_ANY_MAPPING_STYLE}
-use Rattle.yaml_round_content.specs.scan_model.declared.yaml_encoding_t.TheVariants.{YAML_ANY_ENCODING}
-use Rattle.yaml_round_content.specs.parse_model.Events.{Event, EventBody}
+use Rattle.yaml_round_content.proofs.Words.{YAML_ANY_SCALAR_STYLE, YAML_ANY_SEQUENCE_STYLE, YAML_ANY_MAPPING_STYLE, YAML_ANY_ENCODING, Event, EventBody, events, item_events, pair_events, is_lone_mark, normalize_scalar, content_of, contents, ScalarMark, untagged, tagged, Node, alias, scalar, sequence, mapping, Nodes, no_nodes, node, Pairs, no_pairs, pair, Document, scalar_says, node_says, items_say, pairs_say, documents_say, written_node, written_nodes, written_pairs, IsWritable, AreItemsWritable, ArePairsWritable, AreWritable, as_content, as_contents, as_pairs, content_events, told_by, ContentIsSaid}
 use Rattle.yaml_round_content.specs.parse_model.Events as event
-use Rattle.yaml_parse_loader.specs.Numbering.{events, item_events, pair_events}
-use Rattle.yaml_round_content.specs.Normalize.{is_lone_mark, normalize_scalar}
-use Rattle.yaml_round_content.specs.Content.{content_of}
-use Rattle.yaml_round_content.specs.Events.{contents}
-use Rattle.yaml_round_content.specs.Said.{ScalarMark, untagged, tagged, Node, alias, scalar, sequence, mapping, Nodes, no_nodes, node, Pairs, no_pairs, pair, Document, scalar_says, node_says, items_say, pairs_say, documents_say}
-use Rattle.yaml_round_content.specs.Canon.{written_node, written_nodes, written_pairs}
-use Rattle.yaml_round_content.specs.Writable.{IsMark, IsWritable, AreItemsWritable, ArePairsWritable, AreWritable}
-use Rattle.yaml_emit_laws_dumps.specs.Dumps.{as_content, as_contents, as_pairs}
-use Rattle.yaml_round_content.specs.DumpsEvents.{unplaced, content_events, told_by}
-use Rattle.yaml_round_content.specs.DumpsLaws.{ContentIsSaid}
+use Rattle.yaml_round_content.specs.Writable.{IsMark}
+use Rattle.yaml_round_content.specs.DumpsEvents.{unplaced}
 
 -- ---- a tag that isn't `!`
 
 longer : (n : ℕ) → (suc (suc n) == 1) ≡ false
 longer n = grind (arith, nat_tests)
 
-is_it : (c : ℕ) → (c == 33) ≡ true → c ≡ 33
-is_it c h = grind (arith, nat_tests)
-
 other_mark : (t value : List ℕ) → (t ≡ codes "!" → ⊥) → is_lone_mark (Some t) value ≡ false
 other_mark [] value h = let none : List ℕ = [] in ap (λ (b : Bool). b && slice_index none 0 == 33) (and-false (length value == 0))
 other_mark (c ∷ []) value h =
     elim (cases_Bool (c == 33)) [
-      | inl e ↦ absurd (h (ap (λ (x : ℕ). x ∷ []) (is_it c e)))
+      | inl e ↦ absurd (h (ap (λ (x : ℕ). x ∷ []) (grind (arith, nat_tests))))
       | inr e ↦ ap (λ (b : Bool). (length value == 0 && true) && b) e ∙ and-false (length value == 0 && true)
     ]
 other_mark (c ∷ d ∷ more) value h =

@@ -1,26 +1,12 @@
 -- Tokens that are alike make events that say the same.
 use Rattle.std.proofs.Common.{◌≡◌, ◌⊎◌, inl, inr, ℕ, true, List, [], ◌∷◌, ◌++◌, length, map, Option, Some, None, refl, sym, ap, subst}
-use Rattle.yaml_round_laws_adapted.specs.scan_laws_texts.scan_history.scan_model.declared.yaml_encoding_t.{yaml_encoding_t}
-use Rattle.yaml_round_laws_adapted.specs.scan_laws_texts.scan_history.scan_model.declared.yaml_encoding_t.TheVariants.{YAML_ANY_ENCODING}
-use Rattle.yaml_round_laws_adapted.specs.scan_laws_texts.scan_history.scan_model.declared.yaml_mark_t.{yaml_mark_t}
-use Rattle.yaml_round_laws_adapted.specs.scan_laws_texts.scan_history.scan_model.Tokens.{Token, type_of}
-use Rattle.yaml_round_laws_adapted.specs.scan_laws_texts.scan_history.scan_model.Faults.{Fault}
-use Rattle.yaml_emit_laws_dumps.specs.parse_model.Events.{EventBody}
+use Rattle.yaml_round_content.proofs.Words.{yaml_encoding_t, YAML_ANY_ENCODING, yaml_mark_t, Token, type_of, Fault, EventBody, RawEvent, State, Choice, Refuse, Take, Leave, Given, event_at, item_at, Root, Fed, stop, go, choice_at, taken_at, left_at, with_item, given_by, turn, feed, Outcome, carry, run, Directives, Settled, refused, gave, noted, settle, Reading, read_on, reading, contents, normalize_body, content_of}
 use Rattle.yaml_emit_laws_dumps.specs.parse_model.Events as event
-use Rattle.yaml_emit_laws_dumps.specs.parse_grammar.Items.{RawEvent}
-use Rattle.yaml_emit_laws_dumps.specs.parse_grammar.States.{State, Taken}
+use Rattle.yaml_emit_laws_dumps.specs.parse_grammar.States.{Taken}
 use Rattle.yaml_emit_laws_dumps.specs.parse_grammar.States as state
-use Rattle.yaml_emit_laws_dumps.specs.parse_grammar.declared.Choice.{Choice}
-use Rattle.yaml_emit_laws_dumps.specs.parse_grammar.declared.Choice.TheVariants.{Refuse, Take, Leave, Open}
-use Rattle.yaml_emit_laws_dumps.specs.parse_grammar.Trees.{Given, event_at}
-use Rattle.yaml_emit_laws_dumps.specs.parse_grammar.Items.{item_at}
+use Rattle.yaml_emit_laws_dumps.specs.parse_grammar.declared.Choice.TheVariants.{Open}
 use Rattle.yaml_emit_laws_dumps.specs.parse_grammar.Items as item
-use Rattle.yaml_emit_laws_dumps.specs.parse_grammar.declared.Site.TheVariants.{Root}
-use Rattle.yaml_emit_laws_dumps.specs.parse_grammar.Machine.{Fed, stop, go, choice_at, taken, taken_at, left_at, with_item, given_by, turn, feed, Outcome, carry, at_end, run}
-use Rattle.yaml_emit_laws_dumps.specs.parse_grammar.Resolve.{Directives, Settled, refused, gave, noted, settle, Reading, read_on, reading}
-use Rattle.yaml_round_content.specs.Events.{contents}
-use Rattle.yaml_round_content.specs.Normalize.{normalize_body}
-use Rattle.yaml_round_content.specs.Content.{content_of}
+use Rattle.yaml_emit_laws_dumps.specs.parse_grammar.Machine.{taken, at_end}
 use Rattle.yaml_round_content.proofs.EncodingsTokens.{start, IsAlike, AreAlike}
 
 -- ---- items
@@ -65,9 +51,6 @@ same_option (Some i) = inl refl
 abbrev IsLikeTaken : Taken → Taken → Type 0
 IsLikeTaken p q = IsLikeOption p.item q.item × (p.above ≡ q.above)
 
-same_taken : (p : Taken) → IsLikeTaken p p
-same_taken p = (same_option p.item, refl)
-
 abbrev IsLikeFed : Fed → Fed → Type 0
 IsLikeFed (stop is f) (stop js g) = AreLike is js × (f ≡ g)
 IsLikeFed (stop is f) (go js z) = ⊥
@@ -99,7 +82,7 @@ taken_given p q s (h, e) = option_given p.item q.item p.above q.above s h e
 taken_start : (q : State) (x y : yaml_encoding_t) (from to : yaml_mark_t)
     → IsLikeTaken (taken_at q (start x from to)) (taken_at q (start y from to))
 taken_start state.stream x y from to = (inr record { one = x; two = y; from = from; to = to; first = refl; second = refl }, refl)
-taken_start z x y from to = same_taken (taken_at z (start x from to))
+taken_start z x y from to = (same_option (taken_at z (start x from to)).item, refl)
 
 turn_start : (c : Choice) (q : State) (x y : yaml_encoding_t) (from to : yaml_mark_t)
     (s : List State) (a b : Fed) → IsLikeFed a b
@@ -187,12 +170,6 @@ settled_alike (refused f) i j n m k l h = (refl, refl)
 settled_alike (gave body ds) i j n m k l h = (ap (λ (es : List EventBody). content_of (normalize_body true body) ∷ es) (h ds).0, (h ds).1)
 settled_alike (noted ds) i j n m k l h = h ds
 
-opened_alike : (x y : yaml_encoding_t) (from to : yaml_mark_t) (n m : ℕ) (ds : Directives)
-    (k l : Directives → Reading) → ((e : Directives) → SaysAlike (k e) (l e))
-    → SaysAlike (read_on (settle (opened x from to) ds) (opened x from to) n k)
-    (read_on (settle (opened y from to) ds) (opened y from to) m l)
-opened_alike x y from to n m ds k l h = (ap (λ (es : List EventBody). event.stream_start YAML_ANY_ENCODING ∷ es) (h ds).0, (h ds).1)
-
 one_read : (i j : RawEvent) (n m : ℕ) (ds : Directives) (k l : Directives → Reading) → IsLike i j
     → ((e : Directives) → SaysAlike (k e) (l e))
     → SaysAlike (read_on (settle i ds) i n k) (read_on (settle j ds) j m l)
@@ -200,7 +177,7 @@ one_read i j n m ds k l (inl e) h = subst (λ (z : RawEvent). SaysAlike (read_on
 one_read i j n m ds k l (inr b) h =
     subst (λ (z : RawEvent). SaysAlike (read_on (settle i ds) i n k) (read_on (settle z ds) z m l)) (sym b.second)
     (subst (λ (z : RawEvent). SaysAlike (read_on (settle z ds) z n k) (read_on (settle (opened b.two b.from b.to) ds) (opened b.two b.from b.to) m l)) (sym b.first)
-    (opened_alike b.one b.two b.from b.to n m ds k l h))
+    (ap (λ (es : List EventBody). event.stream_start YAML_ANY_ENCODING ∷ es) (h ds).0, (h ds).1))
 
 pub read_alike : (gs hs : List Given) (f : Option Fault) (ds : Directives) → AreGivenLike gs hs
     → SaysAlike (reading gs f ds) (reading hs f ds)

@@ -1,18 +1,8 @@
 -- Two spellings of one text are read alike.
 use Rattle.std.proofs.Common.{◌≡◌, ℕ, List, Option, Result, sym, ap, subst}
-use Rattle.yaml_round_laws_adapted.specs.scan_laws_texts.scan_history.scan_model.declared.yaml_encoding_t.{yaml_encoding_t}
-use Rattle.yaml_round_laws_adapted.specs.scan_laws_texts.scan_history.scan_decode.declared.offence.Offence.{Offence}
-use Rattle.yaml_round_laws_adapted.specs.scan_laws_texts.scan_history.scan_decode.Encodings.{encoding_of}
-use Rattle.yaml_round_laws_adapted.specs.scan_laws_texts.scan_history.scan_model.Faults.{Fault}
-use Rattle.yaml_round_laws_adapted.specs.scan_laws_texts.scan_history.scan_decode.Spelling.{Spells}
-use Rattle.yaml_round_laws_adapted.specs.scan_laws_texts.scan_history.Scanned.{scanned_in}
-use Rattle.yaml_round_laws_adapted.specs.scan_laws_texts.scan_history.Remaining.{Remaining, offline}
+use Rattle.yaml_round_content.proofs.Words.{yaml_encoding_t, Offence, encoding_of, Fault, Spells, scanned_in, Remaining, offline, adapted, run, initial, Reading, reading, no_directives, read, EncodingsDoNotMatter}
 use Rattle.yaml_round_laws_adapted.proofs.CompleteLemmas.{spells_decoded}
-use Rattle.yaml_round_laws_adapted.specs.Adapted.{adapted}
-use Rattle.yaml_emit_laws_dumps.specs.parse_grammar.Machine.{run, initial}
-use Rattle.yaml_emit_laws_dumps.specs.parse_grammar.Resolve.{Reading, reading, no_directives}
-use Rattle.yaml_round_content.specs.Input.{read, parsed}
-use Rattle.yaml_round_content.specs.EncodingsLaws.{EncodingsDoNotMatter}
+use Rattle.yaml_round_content.specs.Input.{parsed}
 use Rattle.yaml_round_content.proofs.EncodingsTokens.{spelled, Resembles, adapted_alike}
 use Rattle.yaml_round_content.proofs.EncodingsEvents.{SaysAlike, IsLikeOutcome, run_alike, read_alike}
 

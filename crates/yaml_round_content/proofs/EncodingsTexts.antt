@@ -3,17 +3,9 @@ use Rattle.std.proofs.Common.{◌≡◌, ℕ, ◌<◌, List, [], Some, Result, O
 use Rattle.std.proofs.lemmas.Bool.{cases_lt}
 use Rattle.std.proofs.lemmas.List.{get_or_past}
 use Rattle.std.proofs.lemmas.List.Elements.{All-get_or}
-use Rattle.yaml_round_laws_adapted.specs.scan_laws_texts.scan_history.scan_model.declared.yaml_encoding_t.{yaml_encoding_t}
+use Rattle.yaml_round_content.proofs.Words.{yaml_encoding_t, Fault, Offence, encoding_of, decoded_text, Remaining, scanned_in, adapted, TokensRead}
 use Rattle.yaml_round_laws_adapted.specs.scan_laws_texts.scan_history.scan_model.declared.yaml_error_type_t.TheVariants.{YAML_READER_ERROR}
-use Rattle.yaml_round_laws_adapted.specs.scan_laws_texts.scan_history.scan_model.Faults.{Fault}
-use Rattle.yaml_round_laws_adapted.specs.scan_laws_texts.scan_history.scan_decode.declared.offence.Offence.{Offence}
-use Rattle.yaml_round_laws_adapted.specs.scan_laws_texts.scan_history.scan_decode.Encodings.{encoding_of}
-use Rattle.yaml_round_laws_adapted.specs.scan_laws_texts.scan_history.scan_decode.Decoding.{decoded_text}
 use Rattle.yaml_round_laws_adapted.specs.scan_laws_texts.scan_history.scan_decode.Offences.{reader_fault}
-use Rattle.yaml_round_laws_adapted.specs.scan_laws_texts.scan_history.Remaining.{Remaining}
-use Rattle.yaml_round_laws_adapted.specs.scan_laws_texts.scan_history.Scanned.{scanned_in}
-use Rattle.yaml_round_laws_adapted.specs.Adapted.{adapted}
-use Rattle.yaml_round_content.specs.Reading.{TokensRead}
 use Rattle.yaml_round_laws_adapted.proofs.CompleteLemmas.{spells_decoded, decoded_spells}
 use Rattle.yaml_round_content.specs.EncodingsTexts.{TokensAreOfText, NoTextHasNoToken, ReadingIsOfText}
 

@@ -4,22 +4,14 @@ use Rattle.std.proofs.lemmas.Bool.Decides.{nat_tests}
 use Rattle.std.proofs.lemmas.Slice.Eq.{bytes_eq-Decides}
 use Rattle.std.specs.List.{list_all}
 use Rattle.std.proofs.lemmas.Bool.{true≢false}
-use Rattle.yaml_round_content.specs.scan_model.declared.yaml_scalar_style_t.{yaml_scalar_style_t}
-use Rattle.yaml_round_content.specs.scan_model.Classes.{is_alpha_byte}
-use Rattle.yaml_round_content.specs.parse_model.Constructors.{HasUtf8, IsUtf8Option, AreUtf8}
-use Rattle.yaml_round_content.specs.parse_model.Events.{EventBody, TagDirective}
+use Rattle.yaml_round_content.proofs.Words.{yaml_scalar_style_t, is_alpha_byte, AreUtf8, EventBody, TagDirective, Told, Problem, emitter_event, or_else, name_problem, anchor_problem, tag_problem, event_problem, last_problem, own_problem, own_problems, is_lone_mark, normalize_scalar, normalize_body, content_of, emitter_events, contents, HaveUtf8Texts}
+use Rattle.yaml_round_content.specs.parse_model.Constructors.{HasUtf8, IsUtf8Option}
 use Rattle.yaml_round_content.specs.parse_model.Events as event
-use Rattle.yaml_round_content.specs.parse_grammar.Resolve.{Told}
-use Rattle.yaml_round_content.specs.emit_layout.declared.Problem.{Problem}
 use Rattle.yaml_round_content.specs.emit_layout.declared.Problem.TheVariants as problem
-use Rattle.yaml_round_content.specs.emit_layout.Content.{Opening, emitter_event}
-use Rattle.yaml_round_content.specs.emit_layout.Grammar.{opening_problem, or_else, name_problem, anchor_problem, tag_problem, event_problem, last_problem, own_problem, own_problems}
-use Rattle.yaml_round_content.specs.Normalize.{is_lone_mark, normalize_scalar, normalize_body}
-use Rattle.yaml_round_content.specs.Content.{content_of}
-use Rattle.yaml_round_content.specs.Events.{emitter_events, contents}
+use Rattle.yaml_round_content.specs.emit_layout.Content.{Opening}
+use Rattle.yaml_round_content.specs.emit_layout.Grammar.{opening_problem}
 use Rattle.yaml_round_content.specs.Writable.{IsName, IsAnchor, IsTag, HavePrefixes}
-use Rattle.yaml_round_content.specs.WritableLaws.{HaveUtf8Texts}
-use Rattle.yaml_round_content.proofs.Scalars.{IsNoMark, IsScalarRight, IsRight, AreRight}
+use Rattle.yaml_round_content.proofs.Scalars.{IsScalarRight, IsRight, AreRight}
 use Rattle.yaml_emit_laws_dumps.proofs.Passing.{or_both}
 
 -- ---- what an event says
@@ -67,24 +59,21 @@ test_of : (none : Bool) (p : Problem) → (if none then Some p else None) ≡ No
 test_of true p e = absurd (cc)
 test_of false p e = refl
 
-some_tag : (t : List ℕ) → tag_problem (Some t) ≡ None → 0 < length t
-some_tag t e = some_byte (length t) (test_of (length t == 0) problem.TagEmpty e)
-
 -- ---- events
 
 tag_writable : (tag : Option (List ℕ)) → tag_problem tag ≡ None → IsUtf8Option tag → IsTag tag
 tag_writable None e u = tt
-tag_writable (Some t) e u = (some_tag t e, u)
-
-other_tag : (t : List ℕ) → IsNoMark t → t ≡ codes "!" → ⊥
-other_tag t h e = true≢false (sym ((bytes_eq-Decides t (codes "!")).1 e) ∙ h)
+tag_writable (Some t) e u = ((some_byte (length t) (test_of (length t == 0) problem.TagEmpty e)), u)
 
 scalar_tag_writable : (tag : Option (List ℕ)) (value : List ℕ) (plain quoted : Bool)
     → tag_problem tag ≡ None → IsUtf8Option tag → is_lone_mark tag value ≡ false
     → IsScalarRight tag value plain quoted
     → IsScalarTag tag
 scalar_tag_writable None value plain quoted e u l r = tt
-scalar_tag_writable (Some t) value plain quoted e u l r = ((some_tag t e, u), other_tag t (r l))
+scalar_tag_writable (Some t) value plain quoted e u l r = (
+  ((some_byte (length t) (test_of (length t == 0) problem.TagEmpty e)), u),
+  (λ e. true≢false (sym ((bytes_eq-Decides t (codes "!")).1 e) ∙ (r l))),
+)
 
 prefixes_writable : (ds : List TagDirective) → AreUtf8 ds → HavePrefixes ds
 prefixes_writable [] u = tt

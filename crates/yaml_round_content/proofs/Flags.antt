@@ -1,26 +1,17 @@
 -- The flags of an input's normalized events, and layouts without a premise on them.
 use Rattle.std.proofs.Common.{◌≡◌, ℕ, Bool, true, false, List, [], ◌∷◌, Option, Some, None, refl}
-use Rattle.yaml_round_content.specs.scan_model.declared.yaml_scalar_style_t.{yaml_scalar_style_t}
-use Rattle.yaml_round_content.specs.parse_model.Events.{EventBody}
+use Rattle.yaml_round_content.proofs.Words.{yaml_scalar_style_t, EventBody, Told, emitter_event, is_lone_mark, normalize_scalar, normalize_body, emitter_events, events_of, AreFlagged, LayoutIsOfContent, ContentIsLaidOut}
 use Rattle.yaml_round_content.specs.parse_model.Events as event
-use Rattle.yaml_round_content.specs.parse_grammar.Resolve.{Told}
-use Rattle.yaml_round_content.specs.emit_layout.Content.{emitter_event}
-use Rattle.yaml_round_content.specs.Normalize.{is_lone_mark, normalize_scalar, normalize_body}
-use Rattle.yaml_round_content.specs.Events.{emitter_events}
-use Rattle.yaml_round_content.specs.Input.{events_of}
-use Rattle.yaml_round_content.specs.ContentLaws.{IsFlagged, AreFlagged, LayoutIsOfContent, ContentIsLaidOut}
+use Rattle.yaml_round_content.specs.ContentLaws.{IsFlagged}
 use Rattle.yaml_round_content.specs.WritableLaws.{InputsAreFlagged, LayoutIsOfInputsContent, InputsContentIsLaidOut}
 use Rattle.yaml_round_content.proofs.Scalars.{IsScalarRight, IsRight, AreRight, input_right}
-
-some_tag : (t : List ℕ) → Some t ≡ None → ⊥
-some_tag t e = cc
 
 scalar_flagged : (lone : Bool) (anchor tag : Option (List ℕ)) (value : List ℕ) (plain quoted : Bool)
     (style : yaml_scalar_style_t) → IsScalarRight tag value plain quoted
     → IsFlagged (emitter_event (normalize_scalar lone anchor tag value plain quoted style))
 scalar_flagged true anchor tag value plain quoted style h = λ e. refl
 scalar_flagged false anchor None value plain quoted style h = λ e. h
-scalar_flagged false anchor (Some t) value plain quoted style h = λ e. absurd (some_tag t e)
+scalar_flagged false anchor (Some t) value plain quoted style h = λ e. absurd cc
 
 body_flagged : (b : EventBody) → IsRight b → IsFlagged (emitter_event (normalize_body true b))
 body_flagged (event.scalar anchor tag value plain quoted style) h = scalar_flagged (is_lone_mark tag value) anchor tag value plain quoted style h

@@ -1,25 +1,15 @@
 -- The plain reading of an input is what the machine reads.
 use Rattle.std.proofs.Common.{◌≡◌, ℕ, List, Option, Some, None, Result, Ok, Err, refl, ap, sym, subst, ◌∙◌}
-use Rattle.yaml_round_content.specs.scan_model.declared.yaml_encoding_t.{yaml_encoding_t}
-use Rattle.yaml_round_content.specs.scan_model.Tokens.{Token}
-use Rattle.yaml_round_content.specs.scan_model.Faults.{Fault}
-use Rattle.yaml_round_content.specs.parse_grammar.Trees.{Given}
-use Rattle.yaml_round_content.specs.parse_grammar.TreeSteps.{items}
-use Rattle.yaml_round_content.specs.parse_grammar.Machine.{Outcome, run, initial}
-use Rattle.yaml_round_content.specs.parse_grammar.Resolve.{Reading, reading, no_directives}
+use Rattle.yaml_round_content.proofs.Words.{yaml_encoding_t, Token, Fault, Given, items, Outcome, run, initial, Reading, reading, no_directives, BeginsWithSentence, FaultOfTokens, contents, tokens_of, read, events_of, ending_of, Document, stream_says, tree_content, TokensRead}
 use Rattle.yaml_round_content.specs.parse_grammar.Remaining.{reading_of}
 use Rattle.yaml_round_content.proofs.CompleteStream.{stream_runs}
-use Rattle.yaml_round_content.specs.parse_laws_trees.Places.{BeginsWithSentence, FaultOfTokens}
 use Rattle.yaml_round_content.proofs.TreesEnding.{ends_in_fault, fault_ends}
 use Rattle.yaml_round_content.proofs.Turns.{items_given}
-use Rattle.yaml_round_content.specs.Events.{contents}
-use Rattle.yaml_round_content.specs.Input.{tokens_of, read, events_of, ending_of}
-use Rattle.yaml_round_content.specs.Said.{Document, HasContent, stream_says}
+use Rattle.yaml_round_content.specs.Said.{HasContent}
 use Rattle.yaml_round_content.proofs.Injective.{says_injective}
-use Rattle.yaml_round_content.specs.TreeContent.{tree_content}
-use Rattle.yaml_round_content.specs.Reading.{TokensRead, InputsRead, ReadingIsOne, RefusedIsRead, ReadIsRefused, SaidIsRead, ReadIsSaid, EventsAreOfTree}
+use Rattle.yaml_round_content.specs.Reading.{InputsRead, ReadingIsOne, RefusedIsRead, ReadIsRefused, SaidIsRead, ReadIsSaid, EventsAreOfTree}
 use Rattle.yaml_round_content.proofs.Spelling.{spelled_before}
-use Rattle.yaml_round_content.proofs.Documents.{tree_says}
+use Rattle.yaml_round_content.proofs.Placed.{tree_says}
 
 -- ---- tokens
 
@@ -43,10 +33,6 @@ has_reading : (ts : List Token) (own o : Option Fault) → FaultOfTokens ts own 
     → (r : Result (List Document) Fault) × TokensRead ts own r
 has_reading ts own None h = (Ok (tree_content h.tree), record { sentence = h; content = refl })
 has_reading ts own (Some e) h = (Err e, h)
-
-no_content : (ts : List Token) (own : Option Fault) (e : Fault) → FaultOfTokens ts own (Some e)
-    → BeginsWithSentence ts → ⊥
-no_content ts own e h b = h.unfinished b
 
 same_error : (o : Option Fault) (e f : Fault) → o ≡ Some e → o ≡ Some f → e ≡ f
 same_error o e f p q = cc
@@ -105,6 +91,6 @@ one_reading from input (Ok c) (Ok d) p q =
     let b : HasContent from input c = read_said from input c p in
     let a : HasContent from input d = read_said from input d q in
     ap (λ (z : List Document). Ok z) (says_injective c d (sym b.says ∙ a.says))
-one_reading from input (Ok c) (Err e) p q = absurd (no_content (tokens_of from input).tokens (tokens_of from input).fault e q p.sentence)
-one_reading from input (Err e) (Ok c) p q = absurd (no_content (tokens_of from input).tokens (tokens_of from input).fault e p q.sentence)
+one_reading from input (Ok c) (Err e) p q = absurd (q.unfinished p.sentence)
+one_reading from input (Err e) (Ok c) p q = absurd (p.unfinished q.sentence)
 one_reading from input (Err e) (Err f) p q = ap (λ (z : Fault). Err z) (same_error (ending_of from input) e f (read_refused from input e p) (read_refused from input f q))

@@ -1,29 +1,18 @@
 -- The canonical layout of a stream is that of its content.
 use Rattle.std.proofs.Common.{◌≡◌, ℕ, Bool, true, false, not, List, [], ◌∷◌, Option, Some, None, refl, sym, ap, subst, ◌∙◌}
 use Rattle.std.proofs.Math.Bool.{or-true}
-use Rattle.yaml_round_content.specs.scan_model.declared.yaml_encoding_t.{yaml_encoding_t}
-use Rattle.yaml_round_content.specs.scan_model.declared.yaml_encoding_t.TheVariants.{YAML_ANY_ENCODING, YAML_UTF8_ENCODING, YAML_UTF16LE_ENCODING, YAML_UTF16BE_ENCODING}
-use Rattle.yaml_round_content.specs.scan_model.declared.yaml_scalar_style_t.{yaml_scalar_style_t}
-use Rattle.yaml_round_content.specs.scan_model.declared.yaml_scalar_style_t.TheVariants.{YAML_ANY_SCALAR_STYLE}
-use Rattle.yaml_round_content.specs.parse_model.Events.{EventBody, TagDirective}
+use Rattle.yaml_round_content.proofs.Words.{yaml_encoding_t, YAML_ANY_ENCODING, yaml_scalar_style_t, YAML_ANY_SCALAR_STYLE, EventBody, TagDirective, Told, Settings, Layout, ◌▹◌, node_layout, RightStream, is_lone_mark, normalize_scalar, normalize_body, emitter_events, events_of, Document, written_node, written_nodes, written_pairs, AreFlagged, LayoutIsOfContent, ContentIsLaidOut}
 use Rattle.yaml_round_content.specs.parse_model.Events as event
-use Rattle.yaml_round_content.specs.parse_grammar.Resolve.{Told}
 use Rattle.yaml_round_content.specs.emit_text.declared.Encoding.{Encoding}
 use Rattle.yaml_round_content.specs.emit_text.declared.RequestedSettings.{RequestedSettings}
-use Rattle.yaml_round_content.specs.emit_text.declared.Settings.{Settings}
 use Rattle.yaml_round_content.specs.emit_text.Settings.{settled, settled_encoding}
 use Rattle.yaml_round_content.specs.emit_text.Text.{Item}
-use Rattle.yaml_round_content.specs.emit_text.Layout.{Layout, ◌▹◌, order_mark, written}
+use Rattle.yaml_round_content.specs.emit_text.Layout.{order_mark, written}
 use Rattle.yaml_round_content.specs.emit_layout.Streams.{IsStream}
 use Rattle.yaml_round_content.specs.emit_layout.Content as emit
-use Rattle.yaml_round_content.specs.emit_layout.Nodes.{root_position, node_layout, start_layout, end_layout, documents_layout, stream_layout}
-use Rattle.yaml_round_content.specs.emit_laws_dumps.StreamsLaws.{RightStream}
-use Rattle.yaml_round_content.specs.Normalize.{is_lone_mark, normalize_scalar, normalize_body}
-use Rattle.yaml_round_content.specs.Events.{emitter_events}
-use Rattle.yaml_round_content.specs.Input.{events_of}
-use Rattle.yaml_round_content.specs.Said.{Document}
-use Rattle.yaml_round_content.specs.Canon.{written_scalar, written_node, written_nodes, written_pairs, written_documents, canon_items}
-use Rattle.yaml_round_content.specs.ContentLaws.{IsSet, IsFlaggedScalar, AreFlagged, LayoutIsOfContent, ContentIsLaidOut}
+use Rattle.yaml_round_content.specs.emit_layout.Nodes.{root_position, start_layout, end_layout, documents_layout, stream_layout}
+use Rattle.yaml_round_content.specs.Canon.{written_scalar, written_documents, canon_items}
+use Rattle.yaml_round_content.specs.ContentLaws.{IsSet, IsFlaggedScalar}
 use Rattle.yaml_round_content.proofs.Injective.{says_injective}
 use Rattle.yaml_round_content.proofs.Trees.{mark_of, tree_of, trees_of, pair_trees_of, document_trees, stream_trees}
 use Rattle.yaml_round_content.proofs.ContentInputs.{input_stream}
@@ -253,14 +242,10 @@ layouts_of_content w right es flagged c says x whole stream =
       stream.is ∙ ap (λ (z : Settings). written (stream_layout z ds)) fixed ∙ ap (λ (a : Layout). written a) same ∙ ap (λ (e : List Document). canon_items w e) (sym known),
     )
 
-right_canonical : (w : RequestedSettings) → w.canonical ≡ true → (es : List emit.Event)
-    → RightStream true es → RightStream w.canonical es
-right_canonical w e es r = subst (λ (b : Bool). RightStream b es) (sym e) r
-
 pub content_laid_out : ContentIsLaidOut
 content_laid_out w right from input flagged c has =
     let es = events_of from input in
-    let r = right_canonical w right.canonical (emitter_events true es) (input_stream from input true has.right) in
+    let r = subst (λ (b : Bool). RightStream b (emitter_events true es)) (sym right.canonical) (input_stream from input true has.right) in
     let whole = written (stream_layout (settled w r.encoding) r.documents) in
     let x = (settled w r.encoding).encoding in
     let is : IsStream w x (emitter_events true es) whole = record { encoding = r.encoding; documents = r.documents; coded = refl; same = r.same; right = r.right; is = refl } in

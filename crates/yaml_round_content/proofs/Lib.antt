@@ -1,3 +1,4 @@
+mod Words
 pub mod Stacks
 pub mod Places
 pub mod Spellings

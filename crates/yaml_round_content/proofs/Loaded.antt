@@ -1,20 +1,11 @@
 -- What an input loads is its plain loading.
 use Rattle.std.proofs.Common.{◌≡◌, ℕ, List, Option, Some, None, Ok, Err, ap, sym, subst, ◌∙◌}
 use Rattle.std.proofs.lemmas.Option.{same_Some}
-use Rattle.yaml_round_content.specs.scan_model.declared.yaml_encoding_t.{yaml_encoding_t}
-use Rattle.yaml_round_content.specs.scan_model.Tokens.{Token}
-use Rattle.yaml_round_content.specs.scan_model.Faults.{Fault}
-use Rattle.yaml_round_content.specs.parse_grammar.Resolve.{Reading}
-use Rattle.yaml_round_content.specs.parse_laws_trees.Places.{BeginsWithSentence}
+use Rattle.yaml_round_content.proofs.Words.{Token, Fault, Reading, BeginsWithSentence, nothing_loaded, tokens_of, Loads, load_all, loads_of, tree_documents, numbered, read_of}
 use Rattle.yaml_round_content.specs.parse_laws_trees.parse_document.Documents.{Document}
-use Rattle.yaml_parse_loader.specs.Loading.{nothing_loaded}
-use Rattle.yaml_round_content.specs.parse_laws_trees.Faults.{LoadsSentence, FaultOfLoading}
+use Rattle.yaml_round_content.specs.parse_laws_trees.Faults.{FaultOfLoading}
 use Rattle.yaml_round_content.proofs.Unique.{one_load_fault}
 use Rattle.yaml_round_content.proofs.Ending.{loads_end_in_fault}
-use Rattle.yaml_round_content.specs.Input.{tokens_of}
-use Rattle.yaml_round_content.specs.Loads.{Loads, load_all, loads_of}
-use Rattle.yaml_round_content.specs.TreeDocuments.{tree_documents, numbered}
-use Rattle.yaml_round_content.specs.Loading.{read_of}
 use Rattle.yaml_round_content.specs.PlainLoading.{HaveDocuments, TokensLoad, unless_faulty, result_of, SourcesLoad, SourceLoadingIsOne, InputsLoad, LoadingIsOne, LoadingIsLoads, FaultlessLoad, FaultyLoad}
 use Rattle.yaml_round_content.proofs.Joining.{read_is}
 use Rattle.yaml_round_content.proofs.Numbered.{loads_numbered}
@@ -24,10 +15,6 @@ use Rattle.yaml_parse_loader.proofs.Loads.{loads_document}
 
 abbrev loads_in : Reading → Loads
 loads_in r = load_all r.events r.ending nothing_loaded
-
-ends_in_fault : (ts : List Token) (own : Option Fault)
-    → FaultOfLoading ts own (loads_in (read_of ts own)).fault
-ends_in_fault ts own = loads_end_in_fault ts own
 
 numbered_documents : (ts : List Token) (own : Option Fault) (b : BeginsWithSentence ts)
     → (loads_in (read_of ts own)).documents ≡ (numbered (tree_documents b.tree b.rest)).documents
@@ -41,12 +28,9 @@ by_fault ts own ds None h k = record { sentence = h.sentence; loadable = h.first
 by_fault ts own ds (Some e) h k = h
 
 pub tokens_load : SourcesLoad
-tokens_load ts own = by_fault ts own (loads_in (read_of ts own)).documents (loads_in (read_of ts own)).fault (ends_in_fault ts own) (λ b. numbered_documents ts own b)
+tokens_load ts own = by_fault ts own (loads_in (read_of ts own)).documents (loads_in (read_of ts own)).fault (loads_end_in_fault ts own) (λ b. numbered_documents ts own b)
 
 -- ---- one loading
-
-as_sentence : (ts : List Token) (ds : List Document) → HaveDocuments ts ds → LoadsSentence ts None
-as_sentence ts ds h = record { sentence = h.sentence; first = h.loadable }
 
 same_documents : (ts : List Token) (own : Option Fault) (ds : List Document) → HaveDocuments ts ds
     → ds ≡ (loads_in (read_of ts own)).documents
@@ -57,20 +41,15 @@ apart e A h = cc
 
 pub one_of_tokens : SourceLoadingIsOne
 one_of_tokens ts own (Ok ds) (Ok es) p q = ap (λ (z : List Document). Ok z) (same_documents ts own ds p ∙ sym (same_documents ts own es q))
-one_of_tokens ts own (Ok ds) (Err e) p q = apart e _ (one_load_fault ts own None (Some e) (as_sentence ts ds p) q)
-one_of_tokens ts own (Err e) (Ok ds) p q = apart e _ (one_load_fault ts own None (Some e) (as_sentence ts ds q) p)
+one_of_tokens ts own (Ok ds) (Err e) p q = apart e _ (one_load_fault ts own None (Some e) (record { sentence = p.sentence; first = p.loadable }) q)
+one_of_tokens ts own (Err e) (Ok ds) p q = apart e _ (one_load_fault ts own None (Some e) (record { sentence = q.sentence; first = q.loadable }) p)
 one_of_tokens ts own (Err e) (Err f) p q = ap (λ (z : Fault). Err z) (same_Some e f (one_load_fault ts own (Some e) (Some f) p q))
 
 -- ---- inputs
 
-loads_are : (from : yaml_encoding_t) (input : List ℕ)
-    → loads_of from input ≡ loads_in (read_of (tokens_of from input).tokens
-    (tokens_of from input).fault)
-loads_are from input = ap (λ (r : Reading). loads_in r) (read_is from input)
-
 pub inputs_load : InputsLoad
 inputs_load from input =
-    subst (λ (l : Loads). TokensLoad (tokens_of from input).tokens (tokens_of from input).fault (result_of l)) (sym (loads_are from input))
+    subst (λ (l : Loads). TokensLoad (tokens_of from input).tokens (tokens_of from input).fault (result_of l)) (sym (ap (λ (r : Reading). loads_in r) (read_is from input)))
     (tokens_load (tokens_of from input).tokens (tokens_of from input).fault)
 
 pub one_loading : LoadingIsOne

@@ -1,18 +1,12 @@
 -- The events of a content load its documents as they are numbered.
 use Rattle.std.proofs.Common.{◌≡◌, List, [], ◌∷◌, Option, Some, None, Result, Ok, Err, IfOk, refl, ap, ◌∙◌}
-use Rattle.yaml_round_content.specs.scan_model.Faults.{Fault}
-use Rattle.yaml_round_content.specs.parse_model.Events.{Event}
+use Rattle.yaml_round_content.proofs.Words.{Fault, Event, DocumentContent, document_of, Loading, LoadStep, goes_on, loaded, nothing_loaded, step, load, behind, Document, Loads, no_more, in_front, load_on, load_all, IsLoadedDocument, loader_content, content_events, told_by, load_of, load_each, AreLoadedDocuments, ContentIsLoaded, ContentLoadsDocuments}
 use Rattle.yaml_round_content.specs.parse_model.Nodes as model
 use Rattle.yaml_round_content.specs.parse_laws_trees.parse_document.Documents as documents
-use Rattle.yaml_parse_loader.specs.Numbering.{DocumentContent, document_events, document_of}
-use Rattle.yaml_parse_loader.specs.Loading.{Loading, LoadStep, goes_on, loaded, refused, nothing_loaded, step, turn, load, behind}
+use Rattle.yaml_parse_loader.specs.Numbering.{document_events}
+use Rattle.yaml_parse_loader.specs.Loading.{refused, turn}
 use Rattle.yaml_parse_loader.specs.Loading as loading
-use Rattle.yaml_round_content.specs.Said.{Document}
-use Rattle.yaml_round_content.specs.Loads.{Loads, no_more, in_front, load_on, load_all}
-use Rattle.yaml_emit_laws_dumps.specs.Dumps.{IsLoadedDocument}
 use Rattle.yaml_emit_laws_dumps.specs.DumpsLaws.{DocumentsAreLoaded}
-use Rattle.yaml_round_content.specs.DumpsEvents.{loader_content, content_events, told_by, load_of, load_each, AreLoadedDocuments}
-use Rattle.yaml_round_content.specs.DumpsLaws.{ContentIsLoaded, ContentLoadsDocuments}
 
 -- ---- the first document of events
 

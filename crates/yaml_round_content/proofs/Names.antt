@@ -6,15 +6,8 @@ use Rattle.std.specs.Str.{bytes_eq}
 use Rattle.std.specs.Ordering.{nat_cmp, eq_by_cmp}
 use Rattle.std.specs.Cmp.Lexicographic.{slice_cmp, nat_list_cmp_total}
 use Rattle.std.specs.FinMap as map
-use Rattle.yaml_round_content.specs.scan_model.declared.yaml_sequence_style_t.TheVariants.{YAML_ANY_SEQUENCE_STYLE}
-use Rattle.yaml_round_content.specs.scan_model.declared.yaml_mapping_style_t.TheVariants.{YAML_ANY_MAPPING_STYLE}
-use Rattle.yaml_round_content.specs.parse_model.Events.{EventBody}
+use Rattle.yaml_round_content.proofs.Words.{YAML_ANY_SEQUENCE_STYLE, YAML_ANY_MAPPING_STYLE, EventBody, Open, open_sequence, open_mapping, attach, named, nothing_loaded, contents, load_all, ScalarMark, untagged, tagged, Node, alias, scalar, sequence, mapping, Nodes, no_nodes, node, Pairs, no_pairs, pair, Document, scalar_says, node_says, items_say, pairs_say, documents_say, Core, CoreNode}
 use Rattle.yaml_round_content.specs.parse_model.Events as event
-use Rattle.yaml_parse_loader.specs.Loading.{Open, open_sequence, open_mapping, attach, named, nothing_loaded}
-use Rattle.yaml_round_content.specs.Events.{contents}
-use Rattle.yaml_round_content.specs.Loads.{load_all}
-use Rattle.yaml_round_content.specs.Said.{ScalarMark, untagged, tagged, Node, alias, scalar, sequence, mapping, Nodes, no_nodes, node, Pairs, no_pairs, pair, Document, scalar_says, node_says, items_say, pairs_say, documents_say}
-use Rattle.yaml_round_content.specs.Agree.{Core, CoreNode}
 use Rattle.yaml_round_content.specs.Renamed.{Renaming, renamed_anchor, renamed_node, renamed_items, renamed_pairs, renamed, IsAnchorName, HasName, ItemsHaveName, PairsHaveName, AreOneToOne}
 use Rattle.yaml_round_content.specs.DumpsLoads.{LoadsOfRenamed}
 use Rattle.yaml_round_content.proofs.Core.{Anchors, CoreLoading, CoreLoads, core_leaf, core_open, core_closed, core_aliased, core_nothing, core_in_front, core_on, core_loads, is_fault}

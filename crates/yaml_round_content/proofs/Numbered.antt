@@ -1,24 +1,15 @@
 -- What is loaded of events that are documents' is their numbering.
 use Rattle.std.proofs.Common.{◌≡◌, ℕ, List, [], ◌∷◌, map, Option, Some, None, Result, Ok, Err, refl, ap, sym, ◌∙◌}
-use Rattle.yaml_round_content.specs.scan_model.Tokens.{Token}
-use Rattle.yaml_round_content.specs.scan_model.Faults.{Fault}
-use Rattle.yaml_round_content.specs.parse_model.Events.{Event}
-use Rattle.yaml_round_content.specs.parse_grammar.Trees.{Span, Stream}
-use Rattle.yaml_round_content.specs.parse_grammar.TreeSteps.{items}
-use Rattle.yaml_round_content.specs.parse_grammar.Resolve.{Reading, Told, reading, no_directives}
-use Rattle.yaml_round_content.specs.parse_laws_trees.Places.{BeginsWithSentence}
+use Rattle.yaml_round_content.proofs.Words.{Token, Fault, Event, Span, Stream, items, Reading, Told, reading, no_directives, BeginsWithSentence, DocumentContent, document_of, Loading, LoadStep, goes_on, loaded, nothing_loaded, step, load, behind, tokens_of, Loads, no_more, in_front, load_on, load_all, tree_documents, numbered, placed_events, tree_events, events_told, read_of, end_of}
 use Rattle.yaml_round_content.proofs.TreesEnding.{fault_ends}
 use Rattle.yaml_round_content.specs.parse_laws_trees.parse_document.Documents as documents
-use Rattle.yaml_parse_loader.specs.Numbering.{DocumentContent, document_of}
-use Rattle.yaml_parse_loader.specs.Loading.{Loading, LoadStep, goes_on, loaded, refused, nothing_loaded, step, turn, load, behind}
+use Rattle.yaml_parse_loader.specs.Loading.{refused, turn}
 use Rattle.yaml_parse_loader.specs.Loading as loading
 use Rattle.yaml_round_content.specs.parse_laws_trees.NextLoad.{NextLoad, next_document, next_fault, next_none}
 use Rattle.yaml_round_content.proofs.ByStep as parse
 use Rattle.yaml_round_content.proofs.NextLoads.{IsOf, load_is}
-use Rattle.yaml_round_content.specs.Input.{tokens_of}
-use Rattle.yaml_round_content.specs.Loads.{Loads, no_more, in_front, load_on, load_all}
-use Rattle.yaml_round_content.specs.TreeDocuments.{tree_documents, numbered_one, numbered}
-use Rattle.yaml_round_content.specs.Loading.{placed_events, tree_events, events_told, read_of, end_of, EventsArePlaced, LoadsAreNumbered, InputsAreNumbered, by_next, LoadsAreOneByOne}
+use Rattle.yaml_round_content.specs.TreeDocuments.{numbered_one}
+use Rattle.yaml_round_content.specs.Loading.{EventsArePlaced, LoadsAreNumbered, InputsAreNumbered, by_next, LoadsAreOneByOne}
 use Rattle.yaml_round_content.proofs.Joining.{tree_read, read_is}
 use Rattle.yaml_round_content.proofs.Placed.{tree_reads}
 use Rattle.yaml_round_content.proofs.Loading.{LoadsDocuments}

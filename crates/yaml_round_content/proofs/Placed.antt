@@ -1,23 +1,15 @@
 -- The events that are read of a tree: the stream's start, its documents' events, its end.
-use Rattle.std.proofs.Common.{◌≡◌, ℕ, Bool, true, false, List, [], ◌∷◌, Option, None, refl, ap, ◌∙◌}
-use Rattle.yaml_round_content.specs.scan_model.declared.yaml_mark_t.{yaml_mark_t}
-use Rattle.yaml_round_content.specs.scan_model.Tokens.{Token}
-use Rattle.yaml_round_content.specs.scan_model.Faults.{Fault}
-use Rattle.yaml_round_content.specs.parse_model.Events.{Event}
+use Rattle.std.proofs.Common.{◌≡◌, ℕ, Bool, true, false, List, [], ◌∷◌, map, Option, None, refl, ap, ◌∙◌}
+use Rattle.yaml_round_content.proofs.Words.{yaml_mark_t, Token, Fault, Event, Root, item_at, Span, Given, Documents, First, Stream, spell_documents, items_maybe, items, Directives, no_directives, Reading, reading, spanning, events, tags_in, version_in, placed_node, placed_maybe, placed_documents, placed_first, end_of, placed_events, tree_events, events_told, Told, content_of, normalize_body, contents, stream_says, tree_content}
 use Rattle.yaml_round_content.specs.parse_model.Events as event
-use Rattle.yaml_round_content.specs.parse_grammar.declared.Site.TheVariants.{Root}
-use Rattle.yaml_round_content.specs.parse_grammar.Items.{item_at}
 use Rattle.yaml_round_content.specs.parse_grammar.Items as item
-use Rattle.yaml_round_content.specs.parse_grammar.Trees.{Span, Given, Documents, First, Stream, next, spell_node, spell_ends, spell_documents}
-use Rattle.yaml_round_content.specs.parse_grammar.TreeSteps.{items_maybe, items_ends, items_documents, items_first, items}
+use Rattle.yaml_round_content.specs.parse_grammar.Trees.{next, spell_node, spell_ends}
+use Rattle.yaml_round_content.specs.parse_grammar.TreeSteps.{items_ends, items_documents, items_first}
 use Rattle.yaml_round_content.specs.parse_grammar.Trees as tree
-use Rattle.yaml_round_content.specs.parse_grammar.Resolve.{Directives, no_directives, Reading, reading}
-use Rattle.yaml_parse_loader.specs.Numbering.{spanning, events}
-use Rattle.yaml_round_content.specs.TreeContent.{tags_in, version_in}
-use Rattle.yaml_round_content.specs.TreeDocuments.{placed_node, placed_maybe, ends_at, ends_implicitly, placed_documents, placed_first}
-use Rattle.yaml_round_content.specs.Loading.{end_of, placed_events, tree_events, events_told}
+use Rattle.yaml_round_content.specs.TreeDocuments.{ends_at, ends_implicitly}
 use Rattle.yaml_round_content.proofs.Documents.{directives, directives_read, right_behind}
 use Rattle.yaml_round_content.proofs.Placing.{ReadsAs, both, node_reads, maybe_reads}
+use Rattle.yaml_round_content.proofs.Saying.{tree_said}
 
 document_read : (implicit : Bool) (from to : yaml_mark_t) (left : ℕ) (gs : List Given)
     (f : Option Fault) (D : Directives)
@@ -78,3 +70,17 @@ pub tree_reads : (t : Stream) (rest : List Token)
     → events_told (reading (items t rest) None no_directives).events ≡ tree_events t rest
 unfolding reading
 tree_reads t rest e = ap (λ (es : List Event). spanning (event.stream_start t.encoding) t.start.from t.start.to ∷ es) (first_read t.first t.documents rest e)
+
+told_contents : (gs : List Told)
+    → contents gs ≡ map (λ (e : Event). content_of (normalize_body true e.body)) (events_told gs)
+told_contents [] = refl
+told_contents (g ∷ gs) = ap (λ (bs : List event.EventBody). content_of (normalize_body true g.0.body) ∷ bs) (told_contents gs)
+
+-- The events of a tree in order say its content.
+pub tree_says : (t : Stream) (rest : List Token)
+    → (reading (items t rest) None no_directives).ending ≡ None
+    → contents (reading (items t rest) None no_directives).events ≡ stream_says (tree_content t)
+tree_says t rest e =
+    told_contents (reading (items t rest) None no_directives).events
+    ∙ ap (λ (es : List Event). map (λ (e : Event). content_of (normalize_body true e.body)) es) (tree_reads t rest e)
+    ∙ (tree_said t rest).same

@@ -2,22 +2,17 @@
 use Rattle.std.proofs.Common.{◌≡◌, true, List, [], ◌∷◌, ◌++◌, Option, Some, None, refl, sym, ap, subst, ◌∙◌, append_assoc}
 use Rattle.yaml_emit_laws_dumps.specs.parse_model.declared.yaml_mark_t.{yaml_mark_t}
 use Rattle.yaml_emit_laws_dumps.specs.parse_model.declared.yaml_token_type_t.{yaml_token_type_t}
-use Rattle.yaml_emit_laws_dumps.specs.parse_model.Tokens.{Token, TokenBody, type_of}
+use Rattle.yaml_round_content.proofs.Words.{Token, type_of, Wants, Root, Choice, Refuse, Take, Leave, RawEvent, Properties, Shape, item_at, node_at, State, choice_at, taken_at, left_at, Fed, stop, go, with_item, given_by, turn, feed, Due, item_due, key_due, value_due, Progress, at_place, inside, behind_node}
+use Rattle.yaml_emit_laws_dumps.specs.parse_model.Tokens.{TokenBody}
 use Rattle.yaml_emit_laws_dumps.specs.parse_model.Tokens as token
-use Rattle.yaml_emit_laws_dumps.specs.parse_grammar.declared.Wants.{Wants}
 use Rattle.yaml_emit_laws_dumps.specs.parse_grammar.declared.Wants.TheVariants.{Flow, Block}
-use Rattle.yaml_emit_laws_dumps.specs.parse_grammar.declared.Brackets.{Brackets}
 use Rattle.yaml_emit_laws_dumps.specs.parse_grammar.declared.Brackets.TheVariants as brackets
-use Rattle.yaml_emit_laws_dumps.specs.parse_grammar.declared.Site.TheVariants.{Root, IndentlessEntry}
-use Rattle.yaml_emit_laws_dumps.specs.parse_grammar.declared.Choice.{Choice}
-use Rattle.yaml_emit_laws_dumps.specs.parse_grammar.declared.Choice.TheVariants.{Refuse, Take, Leave, Open}
-use Rattle.yaml_emit_laws_dumps.specs.parse_grammar.Items.{RawEvent, Properties, Shape, item_at, node_at}
+use Rattle.yaml_emit_laws_dumps.specs.parse_grammar.declared.Site.TheVariants.{IndentlessEntry}
+use Rattle.yaml_emit_laws_dumps.specs.parse_grammar.declared.Choice.TheVariants.{Open}
 use Rattle.yaml_emit_laws_dumps.specs.parse_grammar.Items as item
-use Rattle.yaml_emit_laws_dumps.specs.parse_grammar.States.{State}
 use Rattle.yaml_emit_laws_dumps.specs.parse_grammar.States as state
-use Rattle.yaml_emit_laws_dumps.specs.parse_grammar.Machine.{choice_at, taken_at, documents_taken, content_taken, node_taken, with_properties_taken, items_taken, more_taken, stream_taken, entries_taken, pairs_taken, left_at, wants_of, Fed, stop, go, with_item, given_by, turn, feed}
+use Rattle.yaml_emit_laws_dumps.specs.parse_grammar.Machine.{documents_taken, content_taken, node_taken, wants_of}
 use Rattle.yaml_emit_laws_dumps.specs.emit_layout.declared.Expected.TheVariants as at
-use Rattle.yaml_emit_laws_dumps.specs.emit_layout.Progress.{Due, item_due, key_due, value_due, Progress, at_place, inside, behind_node}
 use Rattle.yaml_emit_laws_dumps.proofs.Rules.{MayLeave, leave_rule, opens_first, was_take}
 use Rattle.yaml_round_content.proofs.Stacks.{between, dues, shape_of, node_shape, AreRight, IsPlaced, moved_kind, moved, Leads}
 
@@ -41,13 +36,6 @@ opens_items s = ap (λ ds. inside (item_due ∷ ds)) (twice (dues s))
 opens_pairs : (s : List State)
     → inside (key_due ∷ behind_node (behind_node (dues s))) ≡ inside (key_due ∷ dues s)
 opens_pairs s = ap (λ ds. inside (key_due ∷ ds)) (twice (dues s))
-
-stream_leads : (start end : yaml_mark_t) (b : TokenBody) (s : List State)
-    → choice_at state.stream (type_of b) ≡ Take → AreRight (state.stream ∷ s)
-    → Leads (shape_of (state.stream ∷ s)) (stream_taken start end b).item
-    ((stream_taken start end b).above ++ s)
-stream_leads start end (token.stream_start e) s c h = (refl, (refl, h))
-stream_leads start end _ s c h = absurd (was_take _ c)
 
 documents_lead : (from start end : yaml_mark_t) (b : TokenBody) (s : List State)
     → AreRight (state.documents ∷ s)
@@ -88,14 +76,6 @@ node_leads w start end (token.anchor n) s e r = (refl, (e, r))
 node_leads w start end (token.tag x y) s e r = (refl, (e, r))
 node_leads w start end b s e r = content_leads w None start end b s e r
 
-with_properties_leads : (w : Wants) (p : Properties) (start end : yaml_mark_t) (b : TokenBody)
-    (s : List State) → shape_of s ≡ inside (dues s) → AreRight s
-    → Leads (node_shape s) (with_properties_taken w p start end b).item
-    ((with_properties_taken w p start end b).above ++ s)
-with_properties_leads w p start end (token.anchor n) s e r = (refl, (e, r))
-with_properties_leads w p start end (token.tag x y) s e r = (refl, (e, r))
-with_properties_leads w p start end b s e r = content_leads w (Some p) start end b s e r
-
 -- a node inside brackets, with the states that stand below it from then on
 part_leads : (start end : yaml_mark_t) (b : TokenBody) (ys s : List State)
     → shape_of (ys ++ s) ≡ inside (dues (ys ++ s)) → AreRight (ys ++ s)
@@ -104,59 +84,45 @@ part_leads : (start end : yaml_mark_t) (b : TokenBody) (ys s : List State)
 part_leads start end b ys s e r =
     subst (Leads (node_shape (ys ++ s)) (node_taken Flow start end b).item) (sym (append_assoc (node_taken Flow start end b).above ys s)) (node_leads Flow start end b (ys ++ s) e r)
 
-items_lead : (b : Brackets) (o start end : yaml_mark_t) (x : TokenBody) (s : List State)
-    → AreRight (state.items b o ∷ s)
-    → Leads (shape_of (state.items b o ∷ s)) (items_taken b o start end x).item
-    ((items_taken b o start end x).above ++ s)
-items_lead brackets.Sequence o start end token.key s h = (refl, (refl, (refl, (refl, (refl, h)))))
-items_lead brackets.Mapping o start end token.key s h = (refl, (refl, (refl, h)))
-items_lead brackets.Sequence o start end token.flow_sequence_end s h = ((refl, refl), (sym h.0, h.1))
-items_lead brackets.Mapping o start end token.flow_sequence_end s h = ((refl, refl), (sym h.0, h.1))
-items_lead brackets.Sequence o start end token.flow_mapping_end s h = ((refl, refl), (sym h.0, h.1))
-items_lead brackets.Mapping o start end token.flow_mapping_end s h = ((refl, refl), (sym h.0, h.1))
-items_lead brackets.Sequence o start end x s h = part_leads start end x (state.more brackets.Sequence o ∷ []) s refl h
-items_lead brackets.Mapping o start end x s h = part_leads start end x (state.lone ∷ state.more brackets.Mapping o ∷ []) s refl (refl, h)
-
-more_leads : (b : Brackets) (o start end : yaml_mark_t) (x : TokenBody) (s : List State)
-    → AreRight (state.more b o ∷ s)
-    → Leads (shape_of (state.more b o ∷ s)) (more_taken b o start end x).item
-    ((more_taken b o start end x).above ++ s)
-more_leads brackets.Sequence o start end token.flow_entry s h = (refl, h)
-more_leads brackets.Mapping o start end token.flow_entry s h = (refl, h)
-more_leads brackets.Sequence o start end _ s h = ((refl, refl), (sym h.0, h.1))
-more_leads brackets.Mapping o start end _ s h = ((refl, refl), (sym h.0, h.1))
-
-entries_lead : (o start end : yaml_mark_t) (x : TokenBody) (s : List State)
-    → AreRight (state.entries o ∷ s)
-    → Leads (shape_of (state.entries o ∷ s)) (entries_taken o start end x).item
-    ((entries_taken o start end x).above ++ s)
-entries_lead o start end token.block_entry s h = (refl, (refl, h))
-entries_lead o start end _ s h = ((refl, refl), (sym h.0, h.1))
-
-pairs_lead : (o start end : yaml_mark_t) (x : TokenBody) (s : List State)
-    → AreRight (state.pairs o ∷ s)
-    → Leads (shape_of (state.pairs o ∷ s)) (pairs_taken o start end x).item
-    ((pairs_taken o start end x).above ++ s)
-pairs_lead o start end token.key s h = (refl, (refl, (refl, h)))
-pairs_lead o start end _ s h = ((refl, refl), (sym h.0, h.1))
+taken_leads_by : (x : State) (start end : yaml_mark_t) (b : TokenBody) (s : List State)
+    → choice_at x (type_of b) ≡ Take → AreRight (x ∷ s)
+    → Leads (shape_of (x ∷ s)) (taken_at x (record {
+      body = b;
+      start_mark = start;
+      end_mark = end;
+    })).item ((taken_at x (record { body = b; start_mark = start; end_mark = end })).above ++ s)
+taken_leads_by state.stream start end (token.stream_start e) s c h = (refl, (refl, h))
+taken_leads_by state.first start end b s c h = documents_lead start start end b s h
+taken_leads_by state.documents start end b s c h = documents_lead start start end b s h
+taken_leads_by (state.directives from) start end b s c h = documents_lead from start end b s h
+taken_leads_by (state.optional place before) start end b s c h = node_leads (wants_of place) start end b s h.0 h.1
+taken_leads_by state.document_end start end b s c h = (refl, (sym (ap shape_of h.0), h.1))
+taken_leads_by (state.entries o) start end token.block_entry s c h = (refl, (refl, h))
+taken_leads_by (state.entries o) start end _ s c h = ((refl, refl), (sym h.0, h.1))
+taken_leads_by (state.others side) start end b s c h = (refl, (refl, h))
+taken_leads_by (state.pairs o) start end token.key s c h = (refl, (refl, (refl, h)))
+taken_leads_by (state.pairs o) start end _ s c h = ((refl, refl), (sym h.0, h.1))
+taken_leads_by (state.colon place) start end b s c h = (refl, h)
+taken_leads_by (state.with_properties w q) start end (token.anchor n) s c h = (refl, (h.0, h.1))
+taken_leads_by (state.with_properties w q) start end (token.tag x y) s c h = (refl, (h.0, h.1))
+taken_leads_by (state.with_properties w q) start end b s c h = content_leads w (Some q) start end b s h.0 h.1
+taken_leads_by (state.items brackets.Sequence o) start end token.key s c h = (refl, (refl, (refl, (refl, (refl, h)))))
+taken_leads_by (state.items brackets.Mapping o) start end token.key s c h = (refl, (refl, (refl, h)))
+taken_leads_by (state.items brackets.Sequence o) start end token.flow_sequence_end s c h = ((refl, refl), (sym h.0, h.1))
+taken_leads_by (state.items brackets.Mapping o) start end token.flow_sequence_end s c h = ((refl, refl), (sym h.0, h.1))
+taken_leads_by (state.items brackets.Sequence o) start end token.flow_mapping_end s c h = ((refl, refl), (sym h.0, h.1))
+taken_leads_by (state.items brackets.Mapping o) start end token.flow_mapping_end s c h = ((refl, refl), (sym h.0, h.1))
+taken_leads_by (state.items brackets.Sequence o) start end b s c h = part_leads start end b (state.more brackets.Sequence o ∷ []) s refl h
+taken_leads_by (state.items brackets.Mapping o) start end b s c h = part_leads start end b (state.lone ∷ state.more brackets.Mapping o ∷ []) s refl (refl, h)
+taken_leads_by (state.more brackets.Sequence o) start end token.flow_entry s c h = (refl, h)
+taken_leads_by (state.more brackets.Mapping o) start end token.flow_entry s c h = (refl, h)
+taken_leads_by (state.more brackets.Sequence o) start end _ s c h = ((refl, refl), (sym h.0, h.1))
+taken_leads_by (state.more brackets.Mapping o) start end _ s c h = ((refl, refl), (sym h.0, h.1))
+taken_leads_by _ start end _ s c h = absurd (was_take _ c)
 
 taken_leads : (x : State) (t : Token) (s : List State) → choice_at x (type_of t.body) ≡ Take
     → AreRight (x ∷ s) → Leads (shape_of (x ∷ s)) (taken_at x t).item ((taken_at x t).above ++ s)
-taken_leads state.stream t s c h = stream_leads t.start_mark t.end_mark t.body s c h
-taken_leads state.first t s c h = documents_lead t.start_mark t.start_mark t.end_mark t.body s h
-taken_leads state.documents t s c h = documents_lead t.start_mark t.start_mark t.end_mark t.body s h
-taken_leads (state.directives from) t s c h = documents_lead from t.start_mark t.end_mark t.body s h
-taken_leads (state.optional place before) t s c h = node_leads (wants_of place) t.start_mark t.end_mark t.body s h.0 h.1
-taken_leads state.document_end t s c h = (refl, (sym (ap shape_of h.0), h.1))
-taken_leads (state.entries o) t s c h = entries_lead o t.start_mark t.end_mark t.body s h
-taken_leads (state.others side) t s c h = (refl, (refl, h))
-taken_leads (state.pairs o) t s c h = pairs_lead o t.start_mark t.end_mark t.body s h
-taken_leads (state.colon place) t s c h = (refl, h)
-taken_leads (state.with_properties w q) t s c h = with_properties_leads w q t.start_mark t.end_mark t.body s h.0 h.1
-taken_leads (state.items b o) t s c h = items_lead b o t.start_mark t.end_mark t.body s h
-taken_leads (state.more b o) t s c h = more_leads b o t.start_mark t.end_mark t.body s h
-taken_leads state.pair_end t s c h = absurd (was_take _ c)
-taken_leads state.lone t s c h = absurd (was_take _ c)
+taken_leads x t s c h = taken_leads_by x t.start_mark t.end_mark t.body s c h
 
 -- ---- leaving a state
 

@@ -1,31 +1,18 @@
 -- The events that are read of a tree's nodes are those of its content with marks, styles and flags.
 use Rattle.std.proofs.Common.{◌≡◌, ℕ, Bool, true, false, if◌then◌else◌, List, ◌∷◌, Option, Some, None, codes, refl, ap, ◌∙◌}
 use Rattle.std.specs.Str.{bytes_eq}
-use Rattle.yaml_round_content.specs.scan_model.declared.yaml_mark_t.{yaml_mark_t}
-use Rattle.yaml_round_content.specs.scan_model.declared.yaml_scalar_style_t.{yaml_scalar_style_t}
-use Rattle.yaml_round_content.specs.scan_model.declared.yaml_scalar_style_t.TheVariants.{YAML_PLAIN_SCALAR_STYLE}
+use Rattle.yaml_round_content.proofs.Words.{yaml_mark_t, yaml_scalar_style_t, YAML_PLAIN_SCALAR_STYLE, Token, Fault, Event, Wants, Side, Site, Properties, Tag, Shape, item_at, node_at, Given, properties_of, items_maybe, Directives, Reading, read_on, reading, resolved, with_resolved, node_event, spanning, events, item_events, pair_events, in_full, tag_of, anchor_of, is_plain, begins, placed_scalar, placed_empty, placed_node, placed_content, placed_maybe, placed_colon, placed_items, placed_more_items, placed_parts, placed_more_parts, placed_entries, placed_others, placed_pairs, events_told}
 use Rattle.yaml_round_content.specs.scan_model.declared.yaml_sequence_style_t.{yaml_sequence_style_t}
 use Rattle.yaml_round_content.specs.scan_model.declared.yaml_mapping_style_t.{yaml_mapping_style_t}
 use Rattle.yaml_round_content.specs.scan_model.declared.yaml_mapping_style_t.TheVariants.{YAML_FLOW_MAPPING_STYLE}
-use Rattle.yaml_round_content.specs.scan_model.Tokens.{Token}
-use Rattle.yaml_round_content.specs.scan_model.Faults.{Fault}
-use Rattle.yaml_round_content.specs.parse_model.Events.{Event}
 use Rattle.yaml_round_content.specs.parse_model.Events as event
-use Rattle.yaml_round_content.specs.parse_grammar.declared.Wants.{Wants}
-use Rattle.yaml_round_content.specs.parse_grammar.declared.Side.{Side}
 use Rattle.yaml_round_content.specs.parse_grammar.declared.Brackets.TheVariants as brackets
-use Rattle.yaml_round_content.specs.parse_grammar.declared.Site.{Site}
-use Rattle.yaml_round_content.specs.parse_grammar.Items.{Properties, Tag, Shape, item_at, node_at}
 use Rattle.yaml_round_content.specs.parse_grammar.Items as item
-use Rattle.yaml_round_content.specs.parse_grammar.Trees.{Given, properties_of}
-use Rattle.yaml_round_content.specs.parse_grammar.TreeSteps.{items_node, items_content, items_maybe, items_colon, items_items, items_more, items_entries, items_others, items_pairs}
+use Rattle.yaml_round_content.specs.parse_grammar.TreeSteps.{items_node, items_content, items_colon, items_items, items_more, items_entries, items_others, items_pairs}
 use Rattle.yaml_round_content.specs.parse_grammar.Trees as tree
-use Rattle.yaml_round_content.specs.parse_grammar.Resolve.{Directives, Reading, read_on, reading, resolved, with_resolved, node_event}
 use Rattle.yaml_round_content.specs.parse_grammar.Resolve as resolve
-use Rattle.yaml_parse_loader.specs.Numbering.{spanning, events, item_events, pair_events}
-use Rattle.yaml_round_content.specs.TreeContent.{in_full, full_tag, tag_of, anchor_of, is_plain}
-use Rattle.yaml_round_content.specs.TreeDocuments.{begins, is_untagged, ends_before, placed_scalar, placed_empty, nothing_at, items_end, more_end, entries_end, pairs_end, placed_node, placed_content, placed_maybe, placed_colon, placed_items, placed_more_items, placed_parts, placed_more_parts, placed_entries, placed_others, placed_pairs}
-use Rattle.yaml_round_content.specs.Loading.{events_told}
+use Rattle.yaml_round_content.specs.TreeContent.{full_tag}
+use Rattle.yaml_round_content.specs.TreeDocuments.{is_untagged, ends_before, nothing_at, items_end, more_end, entries_end, pairs_end}
 use Rattle.yaml_round_content.proofs.Saying.{full_is, not_none}
 
 -- where the first reading has no fault, the second one has none, and the events of the first are those in front of the second's
@@ -47,21 +34,6 @@ same_plain : (style : yaml_scalar_style_t) → resolve.is_plain style ≡ is_pla
 same_plain YAML_PLAIN_SCALAR_STYLE = refl
 same_plain _ = refl
 
-flagged : (anchor : Option (List ℕ)) (value : List ℕ) (style : yaml_scalar_style_t)
-    (from to : yaml_mark_t) (b c : Bool) → b ≡ c → (es : List Event)
-    → spanning (event.scalar anchor None value b (if b then false else true) style) from to ∷ es
-    ≡ spanning (event.scalar anchor None value c (if c then false else true) style) from to ∷ es
-flagged anchor value style from to b c e es = ap (λ (z : Bool). spanning (event.scalar anchor None value z (if z then false else true) style) from to ∷ es) e
-
-tagged : (anchor : Option (List ℕ)) (t value : List ℕ) (style : yaml_scalar_style_t)
-    (from to : yaml_mark_t) (b : Bool) (es : List Event)
-    → spanning (if b then event.scalar anchor None value true false style else event.scalar anchor
-    (Some t) value false false style) from to ∷ es
-    ≡ (if b then spanning (event.scalar anchor None value true false style) from to
-    ∷ es else spanning (event.scalar anchor (Some t) value false false style) from to ∷ es)
-tagged anchor t value style from to true es = refl
-tagged anchor t value style from to false es = refl
-
 plain_placed : (anchor : Option (List ℕ)) (value : List ℕ) (style : yaml_scalar_style_t)
     (from to : yaml_mark_t) (es : List Event) (b : Bool) → is_plain style ≡ b
     → spanning (event.scalar anchor None value b (if b then false else true) style) from to ∷ es
@@ -81,7 +53,8 @@ scalar_placed : (anchor tag : Option (List ℕ)) (value : List ℕ) (style : yam
     (from to : yaml_mark_t) (es : List Event)
     → spanning (node_event anchor tag (item.scalar value style)) from to ∷ es
     ≡ events (placed_scalar anchor tag value style from to) es
-scalar_placed anchor None value style from to es = flagged anchor value style from to (resolve.is_plain style) (is_plain style) (same_plain style) es ∙ plain_placed anchor value style from to es (is_plain style) refl
+scalar_placed anchor None value style from to es =
+    ap (λ (z : Bool). spanning (event.scalar anchor None value z (if z then false else true) style) from to ∷ es) (same_plain style) ∙ plain_placed anchor value style from to es (is_plain style) refl
 scalar_placed anchor (Some t) value style from to es = mark_placed anchor t value style from to es (bytes_eq t (codes "!")) refl
 
 empty_placed : (anchor tag : Option (List ℕ)) (from to : yaml_mark_t) (es : List Event)

@@ -1,16 +1,11 @@
 -- Over a list of tokens: the items come in their right places and are well spelled, and behind the last the stream has ended.
 use Rattle.std.proofs.Common.{◌≡◌, ℕ, List, [], ◌∷◌, ◌++◌, length, map, Option, Some, None, refl, sym, ap, subst, ◌∙◌}
-use Rattle.yaml_emit_laws_dumps.specs.parse_model.Tokens.{Token, no_token}
-use Rattle.yaml_emit_laws_dumps.specs.parse_model.Faults.{Fault}
-use Rattle.yaml_emit_laws_dumps.specs.parse_grammar.Items.{RawEvent}
-use Rattle.yaml_emit_laws_dumps.specs.parse_grammar.States.{State}
-use Rattle.yaml_emit_laws_dumps.specs.parse_grammar.Trees.{Given}
-use Rattle.yaml_emit_laws_dumps.specs.parse_grammar.Machine.{Fed, stop, go, feed, Outcome, finished, carry, run, initial}
+use Rattle.yaml_round_content.proofs.Words.{Token, Fault, RawEvent, State, Given, Fed, stop, go, feed, Outcome, carry, run, initial, Progress, at_place, first_progress, IsSpelled, AreSpelled}
+use Rattle.yaml_emit_laws_dumps.specs.parse_model.Tokens.{no_token}
+use Rattle.yaml_emit_laws_dumps.specs.parse_grammar.Machine.{finished}
 use Rattle.yaml_emit_laws_dumps.proofs.Single.{Emptied, emptied}
 use Rattle.yaml_emit_laws_dumps.proofs.Throughout.{GivenAre, Each, run_are}
 use Rattle.yaml_emit_laws_dumps.specs.emit_layout.declared.Expected.TheVariants as at
-use Rattle.yaml_emit_laws_dumps.specs.emit_layout.Progress.{Progress, at_place, first_progress}
-use Rattle.yaml_round_laws_adapted.specs.scan_laws_texts.Spelled.{IsSpelled, AreSpelled}
 use Rattle.yaml_round_content.proofs.Stacks.{shape_of, AreRight, IsPlaced, moved}
 use Rattle.yaml_round_content.proofs.Places.{AllPlaced, moved_all, FedLeads, feed_leads}
 use Rattle.yaml_round_content.proofs.Spellings.{IsSpelledItem, spelled_rules}
@@ -51,12 +46,9 @@ alone_placed left h (i ∷ is) p = (p.0, alone_placed left (moved h i.body) is p
 abbrev pub Ends : Progress → Outcome → Type 0
 Ends h o = GivenPlaced h o.items × (o.ending ≡ None → moved_given h o.items ≡ at_place at.End)
 
-ended : (f : Fault) → Some f ≡ None → ⊥
-ended f d = cc
-
 carried_places : (left : ℕ) (fed : Fed) (k : List State → Outcome) (h : Progress) → FedLeads h fed
     → ((s : List State) → AreRight s → Ends (shape_of s) (k s)) → Ends h (carry left fed k)
-carried_places left (stop is f) k h l r = (alone_placed left h is l, λ d. absurd (ended f d))
+carried_places left (stop is f) k h l r = (alone_placed left h is l, λ d. absurd cc)
 carried_places left (go is s) k h l r =
     let there : Ends (shape_of s) (k s) = r s l.1.1 in (
       with_placed left h is (k s).items l.0 (subst (λ (z : Progress). GivenPlaced z (k s).items) (sym l.1.0) there.0),
@@ -65,7 +57,7 @@ carried_places left (go is s) k h l r =
 
 last_places : (fed : Fed) (h : Progress) → FedLeads h fed → Emptied fed
     → Ends h (carry 0 fed (λ _. finished))
-last_places (stop is f) h l e = (alone_placed 0 h is l, λ d. absurd (ended f d))
+last_places (stop is f) h l e = (alone_placed 0 h is l, λ d. absurd cc)
 last_places (go is s) h l e =
     (with_placed 0 h is [] l.0 tt, λ d. with_moved 0 h is [] ∙ (l.1.0 ∙ ap shape_of e))
 
@@ -73,7 +65,7 @@ run_places : (ts : List Token) (s : List State) (f : Option Fault) → AreRight 
     → Ends (shape_of s) (run ts s f)
 unfolding run
 run_places [] [] (Some e) r = (tt, λ _. refl)
-run_places [] (x ∷ s) (Some e) r = (tt, λ d. absurd (ended e d))
+run_places [] (x ∷ s) (Some e) r = (tt, λ d. absurd cc)
 run_places [] s None r = last_places (feed s no_token) (shape_of s) (feed_leads s no_token r) (emptied s)
 run_places (t ∷ ts) s f r = carried_places (length ts) (feed s t) (λ s'. run ts s' f) (shape_of s) (feed_leads s t r) (λ s' r'. run_places ts s' f r')
 

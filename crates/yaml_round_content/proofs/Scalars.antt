@@ -3,16 +3,10 @@ use Rattle.std.proofs.Common.{◌≡◌, ℕ, Bool, true, false, not, if◌then�
 use Rattle.std.specs.Str.{bytes_eq}
 use Rattle.std.proofs.lemmas.Bool.{cases_Bool, true≢false}
 use Rattle.std.proofs.lemmas.Slice.Eq.{bytes_eq-Decides}
-use Rattle.yaml_round_content.specs.scan_model.declared.yaml_encoding_t.{yaml_encoding_t}
-use Rattle.yaml_round_content.specs.scan_model.declared.yaml_scalar_style_t.{yaml_scalar_style_t}
-use Rattle.yaml_round_content.specs.parse_model.Events.{EventBody}
+use Rattle.yaml_round_content.proofs.Words.{yaml_encoding_t, yaml_scalar_style_t, EventBody, Shape, run, initial, no_directives, node_event, Told, is_lone_mark, tokens_of, events_of, read}
 use Rattle.yaml_round_content.specs.parse_model.Events as event
-use Rattle.yaml_round_content.specs.parse_grammar.Items.{Shape}
 use Rattle.yaml_round_content.specs.parse_grammar.Items as item
-use Rattle.yaml_round_content.specs.parse_grammar.Machine.{run, initial}
-use Rattle.yaml_round_content.specs.parse_grammar.Resolve.{no_directives, is_plain, node_event, Told}
-use Rattle.yaml_round_content.specs.Normalize.{is_lone_mark}
-use Rattle.yaml_round_content.specs.Input.{tokens_of, events_of, read}
+use Rattle.yaml_round_content.specs.parse_grammar.Resolve.{is_plain}
 use Rattle.yaml_round_content.proofs.Throughout.{EventsAre, reading_is}
 use Rattle.yaml_round_content.proofs.Spellings.{IsWhole, IsSpelledItem}
 use Rattle.yaml_round_content.proofs.Runs.{stream_spelled}
@@ -32,9 +26,6 @@ abbrev pub IsRight : EventBody → Type 0
 IsRight (event.scalar anchor tag value plain quoted style) = IsScalarRight tag value plain quoted
 IsRight _ = Unit {0}
 
-mark_alone : is_lone_mark (Some (codes "!")) [] ≡ true
-mark_alone = refl
-
 empty_right : (tag : List ℕ) → is_lone_mark (Some tag) [] ≡ false → IsNoMark tag
 empty_right tag e =
     elim (cases_Bool (bytes_eq tag (codes "!"))) [
@@ -43,7 +34,7 @@ empty_right tag e =
     ]
   where
     marked : bytes_eq tag (codes "!") ≡ true → is_lone_mark (Some tag) [] ≡ true
-    marked h = rw ((bytes_eq-Decides tag (codes "!")).0 h) mark_alone
+    marked h = rw ((bytes_eq-Decides tag (codes "!")).0 h) refl
 
 tagged_right : (t : Bool) (anchor : Option (List ℕ)) (tag value : List ℕ)
     (style : yaml_scalar_style_t) → bytes_eq tag (codes "!") ≡ t

@@ -5,19 +5,13 @@ use Rattle.std.specs.Str.{bytes_eq}
 use Rattle.yaml_emit_laws_dumps.specs.parse_model.declared.yaml_mark_t.{yaml_mark_t}
 use Rattle.yaml_emit_laws_dumps.specs.parse_model.declared.yaml_scalar_style_t.{yaml_scalar_style_t}
 use Rattle.yaml_emit_laws_dumps.specs.parse_model.declared.yaml_version_directive_t.{yaml_version_directive_t}
-use Rattle.yaml_round_laws_adapted.specs.scan_laws_texts.Spelled.{IsSome, IsName, IsHandle}
-use Rattle.yaml_emit_laws_dumps.specs.parse_model.Events.{EventBody, TagDirective}
+use Rattle.yaml_round_content.proofs.Words.{IsSome, IsName, IsHandle, EventBody, TagDirective, RawEventBody, Kind, Directives, no_directives, Settled, refused, gave, noted, settle_body, resolved, directive_for, or_default, with_resolved, with_tag, with_version, is_known_version, behind_event, node_event, Problem, emitter_event, or_else, name_problem, anchor_problem, tag_problem, kept_if, event_problem, directives_problem, last_problem, Progress, progress_after, IsNormalizing}
 use Rattle.yaml_emit_laws_dumps.specs.parse_model.Events as event
-use Rattle.yaml_emit_laws_dumps.specs.parse_grammar.Items.{RawEventBody, Shape as Kind}
 use Rattle.yaml_emit_laws_dumps.specs.parse_grammar.Items as item
-use Rattle.yaml_emit_laws_dumps.specs.parse_grammar.Resolve.{Directives, no_directives, Settled, refused, gave, noted, settle_body, resolved, directive_for, or_default, with_resolved, with_tag, with_version, is_known_version, behind_event, is_plain, node_event}
-use Rattle.yaml_emit_laws_dumps.specs.emit_layout.declared.Problem.{Problem}
+use Rattle.yaml_emit_laws_dumps.specs.parse_grammar.Resolve.{is_plain}
 use Rattle.yaml_emit_laws_dumps.specs.emit_layout.declared.Problem.TheVariants as problem
 use Rattle.yaml_emit_laws_dumps.specs.emit_layout.declared.Expected.TheVariants as at
-use Rattle.yaml_emit_laws_dumps.specs.emit_layout.Content.{emitter_event}
-use Rattle.yaml_emit_laws_dumps.specs.emit_layout.Grammar.{or_else, name_problem, anchor_problem, tag_problem, kept_if, event_problem, version_problem, directives_problem, last_problem}
-use Rattle.yaml_emit_laws_dumps.specs.emit_layout.Progress.{Progress, progress_after}
-use Rattle.yaml_round_content.specs.Normalized.{IsNormalizing}
+use Rattle.yaml_emit_laws_dumps.specs.emit_layout.Grammar.{version_problem}
 use Rattle.yaml_round_content.proofs.Stacks.{Expects, moved_by, moved_kind, IsPlaced, moved}
 use Rattle.yaml_round_content.proofs.Spellings.{IsNamed, IsWhole, IsSpelledItem}
 use Rattle.yaml_round_content.proofs.Emitted.{plain, IsTaken, IsOwn, or_none, normalized_taken, normalized_leads}
@@ -132,13 +126,10 @@ anchor_right : (anchor : Option (List ℕ)) → IsNamed anchor → anchor_proble
 anchor_right None h = refl
 anchor_right (Some name) h = name_right problem.AnchorEmpty problem.AnchorCharacters name h
 
-full_right : (tag : List ℕ) → IsSome tag → tag_problem (Some tag) ≡ None
-full_right tag h = rw h refl
-
 tag_right : (kept : Bool) (tag : Option (List ℕ)) → IsFull tag
     → tag_problem (kept_if kept tag) ≡ None
 tag_right true None h = refl
-tag_right true (Some tag) h = full_right tag h
+tag_right true (Some tag) h = rw h refl
 tag_right false tag h = refl
 
 names_right : (kept : Bool) (anchor tag : Option (List ℕ)) → IsNamed anchor → IsFull tag

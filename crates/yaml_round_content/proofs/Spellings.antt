@@ -1,11 +1,8 @@
 -- Names and tags of well spelled tokens, in the items and states that a machine makes of them.
 use Rattle.std.proofs.Common.{ℕ, List, Option, Some, None}
-use Rattle.yaml_round_laws_adapted.specs.scan_laws_texts.Spelled.{IsSome, IsName, IsHandle, IsSpelled}
-use Rattle.yaml_emit_laws_dumps.specs.parse_model.Events.{EventBody}
+use Rattle.yaml_round_content.proofs.Words.{IsSome, IsName, IsHandle, IsSpelled, EventBody, RawEventBody, Tag, State}
 use Rattle.yaml_emit_laws_dumps.specs.parse_model.Events as event
-use Rattle.yaml_emit_laws_dumps.specs.parse_grammar.Items.{RawEventBody, Tag}
 use Rattle.yaml_emit_laws_dumps.specs.parse_grammar.Items as item
-use Rattle.yaml_emit_laws_dumps.specs.parse_grammar.States.{State}
 use Rattle.yaml_emit_laws_dumps.specs.parse_grammar.States as state
 use Rattle.yaml_emit_laws_dumps.proofs.Throughout.{IsTextless, bare_textless, Outer}
 

@@ -1,15 +1,11 @@
 -- What a stack of states stands for in an emitter's eyes, and how an item moves it.
 use Rattle.std.proofs.Common.{◌≡◌, true, false, List, [], ◌∷◌, Option, Some, None}
-use Rattle.yaml_emit_laws_dumps.specs.parse_model.Events.{EventBody}
+use Rattle.yaml_round_content.proofs.Words.{EventBody, RawEvent, RawEventBody, Kind, State, Expected, Due, item_due, key_due, Progress, at_place, inside, behind_node, outer_due}
 use Rattle.yaml_emit_laws_dumps.specs.parse_model.Events as event
 use Rattle.yaml_emit_laws_dumps.specs.parse_grammar.declared.Brackets.TheVariants as brackets
-use Rattle.yaml_emit_laws_dumps.specs.parse_grammar.Items.{RawEvent, RawEventBody, Shape as Kind}
 use Rattle.yaml_emit_laws_dumps.specs.parse_grammar.Items as item
-use Rattle.yaml_emit_laws_dumps.specs.parse_grammar.States.{State}
 use Rattle.yaml_emit_laws_dumps.specs.parse_grammar.States as state
-use Rattle.yaml_emit_laws_dumps.specs.emit_layout.declared.Expected.{Expected}
 use Rattle.yaml_emit_laws_dumps.specs.emit_layout.declared.Expected.TheVariants as at
-use Rattle.yaml_emit_laws_dumps.specs.emit_layout.Progress.{Due, item_due, key_due, Progress, at_place, inside, behind_node, outer_due}
 
 -- ---- a stack
 

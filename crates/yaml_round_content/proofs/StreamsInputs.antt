@@ -1,20 +1,12 @@
 -- The events of an input.
 use Rattle.std.proofs.Common.{◌≡◌, ℕ, Bool, true, List, [], ◌∷◌, None}
 use Rattle.yaml_emit_laws_dumps.specs.parse_model.declared.yaml_encoding_t.{yaml_encoding_t}
-use Rattle.yaml_round_laws_adapted.specs.scan_laws_texts.scan_history.Scanned.{scanned}
-use Rattle.yaml_round_laws_adapted.specs.scan_laws_texts.Spelled.{AreSpelled}
+use Rattle.yaml_round_content.proofs.Words.{scanned, AreSpelled, EventBody, Told, emitter_event, own_problem, own_problems, first_progress, adapted, IsNormalizing, emitter_events_by}
 use Rattle.yaml_round_laws_adapted.proofs.Inputs.{scanned_spelled}
-use Rattle.yaml_emit_laws_dumps.specs.parse_model.Events.{EventBody}
-use Rattle.yaml_emit_laws_dumps.specs.parse_grammar.Resolve.{Told}
-use Rattle.yaml_emit_laws_dumps.specs.emit_layout.Content.{emitter_event}
-use Rattle.yaml_emit_laws_dumps.specs.emit_layout.Grammar.{own_problem, own_problems}
-use Rattle.yaml_emit_laws_dumps.specs.emit_layout.Progress.{first_progress}
 use Rattle.yaml_emit_laws_dumps.specs.StreamsLaws.{AreRightTold}
 use Rattle.yaml_emit_laws_dumps.proofs.Passing.{streams, fronts, own_right, or_both}
 use Rattle.yaml_emit_laws_dumps.proofs.Loading.{taken}
-use Rattle.yaml_round_laws_adapted.specs.Adapted.{adapted}
-use Rattle.yaml_round_content.specs.Normalized.{IsNormalizing}
-use Rattle.yaml_round_content.specs.StreamsLaws.{emitter_events_by, IsRightReading, parsed_input, InputsAreStreams, InputsAreFronts, InputsLoadRight}
+use Rattle.yaml_round_content.specs.StreamsLaws.{IsRightReading, parsed_input, InputsAreStreams, InputsAreFronts, InputsLoadRight}
 use Rattle.yaml_round_content.proofs.Tokens.{cut_spelled}
 use Rattle.yaml_round_content.proofs.Emitted.{unchanged}
 use Rattle.yaml_round_content.proofs.Whole.{parsed_is_right}

@@ -1,13 +1,7 @@
 -- The tokens of an input that a parser takes: they are well spelled.
 use Rattle.std.proofs.Common.{ℕ, List, [], ◌∷◌, Option, inl, inr}
 use Rattle.std.proofs.lemmas.Bool.{cases_Bool}
-use Rattle.yaml_round_content.specs.scan_model.declared.yaml_encoding_t.{yaml_encoding_t}
-use Rattle.yaml_round_content.specs.scan_model.Tokens.{Token}
-use Rattle.yaml_round_content.specs.scan_model.Faults.{Fault}
-use Rattle.yaml_round_content.specs.scan_history.Scanned.{scanned}
-use Rattle.yaml_round_content.specs.Input.{tokens_of}
-use Rattle.yaml_round_content.specs.round_laws_adapted.Adapted.{spells_text, cut}
-use Rattle.yaml_round_content.specs.scan_laws_texts.Spelled.{AreSpelled}
+use Rattle.yaml_round_content.proofs.Words.{yaml_encoding_t, Token, Fault, scanned, tokens_of, spells_text, cut, AreSpelled}
 use Rattle.yaml_round_content.proofs.Inputs.{scanned_spelled}
 
 -- What is cut stays well spelled.

@@ -1,20 +1,11 @@
 -- The trees of what an emitter is given.
 use Rattle.std.proofs.Common.{◌≡◌, ◌++◌, ℕ, Bool, true, false, List, [], ◌∷◌, map, Option, Some, None, refl, sym, ap, ◌∙◌}
 use Rattle.std.proofs.lemmas.List.{map-append}
-use Rattle.yaml_round_content.specs.scan_model.declared.yaml_encoding_t.{yaml_encoding_t}
-use Rattle.yaml_round_content.specs.scan_model.declared.yaml_encoding_t.TheVariants.{YAML_ANY_ENCODING}
-use Rattle.yaml_round_content.specs.scan_model.declared.yaml_scalar_style_t.TheVariants.{YAML_ANY_SCALAR_STYLE}
-use Rattle.yaml_round_content.specs.scan_model.declared.yaml_sequence_style_t.TheVariants.{YAML_ANY_SEQUENCE_STYLE}
-use Rattle.yaml_round_content.specs.scan_model.declared.yaml_mapping_style_t.TheVariants.{YAML_ANY_MAPPING_STYLE}
-use Rattle.yaml_round_content.specs.parse_model.Events.{EventBody}
+use Rattle.yaml_round_content.proofs.Words.{yaml_encoding_t, YAML_ANY_ENCODING, YAML_ANY_SCALAR_STYLE, YAML_ANY_SEQUENCE_STYLE, YAML_ANY_MAPPING_STYLE, EventBody, Told, normalize_body, content_of, emitter_events, contents, scalar_says, node_says, items_say, pairs_say, documents_say, stream_says}
 use Rattle.yaml_round_content.specs.parse_model.Events as event
-use Rattle.yaml_round_content.specs.parse_grammar.Resolve.{Told}
 use Rattle.yaml_round_content.specs.emit_layout.Content as emit
-use Rattle.yaml_round_content.specs.Normalize.{normalize_body}
-use Rattle.yaml_round_content.specs.Content.{content_of, counts_as_plain}
-use Rattle.yaml_round_content.specs.Events.{emitter_events, contents}
+use Rattle.yaml_round_content.specs.Content.{counts_as_plain}
 pub use Rattle.yaml_round_content.specs.Trees.{mark_of, tree_of, trees_of, pair_trees_of, document_tree, document_trees}
-use Rattle.yaml_round_content.specs.Said.{scalar_says, node_says, items_say, pairs_say, documents_say, stream_says}
 
 -- ---- what an emitter's event says
 

@@ -3,19 +3,16 @@ use Rattle.std.proofs.Common.{◌≡◌, ℕ, zero, suc, ℤ, pos, negsuc, Bool,
 use Rattle.std.specs.Prelude.{slice_get, if◌then◌else◌}
 use Rattle.std.proofs.Math.Path.{fun_ext}
 use Rattle.std.proofs.lemmas.List.{length-map}
-use Rattle.yaml_round_content.specs.parse_model.declared.yaml_node_pair_t.{yaml_node_pair_t}
-use Rattle.yaml_round_content.specs.scan_model.Tokens.{zero_mark}
+use Rattle.yaml_round_content.proofs.Words.{yaml_node_pair_t, zero_mark, graph_content, Node, Nodes, Pairs, Document, node, pair, sequence, mapping, tree_of, trees_of, pair_trees_of, document_tree, CoreNode, Core, core_body, core_node, core_of}
 use Rattle.yaml_round_content.specs.parse_model.Nodes as model
 use Rattle.yaml_round_content.specs.parse_laws_trees.parse_document.Documents as documents
 use Rattle.yaml_round_content.specs.emit_layout.Content as emit
 use Rattle.yaml_round_content.specs.emit_laws_dumps.emit_graph.declared.Turn.{Turn}
 use Rattle.yaml_round_content.specs.emit_laws_dumps.emit_graph.declared.Turn.TheVariants.{First, Again}
-use Rattle.yaml_round_content.specs.emit_laws_dumps.emit_graph.Graph.{Met, is_met, meet, body_at, tag_at, body_of_id, tag_of_id, none_met, turns, none_numbered, numbered, numbers, number_at, anchor_of, graph_root, graph_content}
+use Rattle.yaml_round_content.specs.emit_laws_dumps.emit_graph.Graph.{Met, is_met, meet, body_at, tag_at, body_of_id, tag_of_id, none_met, turns, none_numbered, numbered, numbers, number_at, anchor_of, graph_root}
 use Rattle.yaml_round_content.specs.emit_laws_dumps.emit_graph.Onward.{Rest, inside, visits, nothing_left, items_by, pairs_by, node_by, content_by, itself, turns_onward, root_onward}
 use Rattle.yaml_round_content.proofs.ContentJoining.{turns_joined, root_joined}
-use Rattle.yaml_round_content.specs.Said.{Node, Nodes, Pairs, Document, node, pair, sequence, mapping}
-use Rattle.yaml_round_content.specs.Trees.{tree_of, trees_of, pair_trees_of, document_tree, document_trees}
-use Rattle.yaml_round_content.specs.Agree.{CoreNode, Core, core_body, core_node, core_of}
+use Rattle.yaml_round_content.specs.Trees.{document_trees}
 use Rattle.yaml_round_content.specs.DumpsLoads.{AgreeingSayTheSame}
 
 -- ---- a document of its core: the styles are the ones that stand for any, and the marks are zero
@@ -87,14 +84,11 @@ onward_same ns =
     ap (λ (k : ℕ). visits (suc k) ns (pos 1) nothing_left (replicate k false)) (length_bare ns)
     ∙ ap (λ (v : Visit). v (pos 1) nothing_left (none_met (bare ns))) (visited (suc (length (bare ns))) ns)
 
-turns_same : (ns : List model.Node) → turns ns ≡ turns (bare ns)
-turns_same ns = sym (turns_joined ns) ∙ onward_same ns ∙ turns_joined (bare ns)
-
 numbers_same : (ns : List model.Node) → numbers ns ≡ numbers (bare ns)
 unfolding numbers
 numbers_same ns =
     ap (λ (k : ℕ). (numbered (none_numbered k) (turns ns)).table) (length_bare ns)
-    ∙ ap (λ (ts : List Turn). (numbered (none_numbered (length (bare ns))) ts).table) (turns_same ns)
+    ∙ ap (λ (ts : List Turn). (numbered (none_numbered (length (bare ns))) ts).table) (sym (turns_joined ns) ∙ onward_same ns ∙ turns_joined (bare ns))
 
 -- ---- what is made of a walk: rests that say the same of what says the same
 

@@ -1,16 +1,10 @@
 -- The events of a list of well spelled tokens, from the first to the last.
-use Rattle.std.proofs.Common.{◌≡◌, Bool, List, [], ◌∷◌, Option, Some, None, refl, sym, ap, subst, ◌∙◌}
-use Rattle.yaml_emit_laws_dumps.specs.parse_model.Faults.{Fault}
-use Rattle.yaml_emit_laws_dumps.specs.parse_model.Events.{EventBody}
-use Rattle.yaml_emit_laws_dumps.specs.parse_grammar.Trees.{Given}
-use Rattle.yaml_emit_laws_dumps.specs.parse_grammar.Machine.{run, initial}
-use Rattle.yaml_emit_laws_dumps.specs.parse_grammar.Resolve.{Directives, no_directives, Settled, refused, gave, noted, settle, Reading, read_on, reading}
+use Rattle.std.proofs.Common.{◌≡◌, Bool, List, [], ◌∷◌, Option, None, refl, sym, ap, subst, ◌∙◌}
+use Rattle.yaml_round_content.proofs.Words.{Fault, EventBody, Given, run, initial, Directives, no_directives, Settled, refused, gave, noted, settle, Reading, read_on, reading, emitter_event, Progress, first_progress, progress_after, problem_in, IsNormalizing, emitter_events_by}
 use Rattle.yaml_emit_laws_dumps.specs.emit_layout.declared.Expected.TheVariants as at
-use Rattle.yaml_emit_laws_dumps.specs.emit_layout.Content.{emitter_event}
-use Rattle.yaml_emit_laws_dumps.specs.emit_layout.Progress.{Progress, first_progress, progress_after, problem_in, first_refusal}
+use Rattle.yaml_emit_laws_dumps.specs.emit_layout.Progress.{first_refusal}
 use Rattle.yaml_emit_laws_dumps.specs.StreamsLaws.{progress_behind}
-use Rattle.yaml_round_content.specs.Normalized.{IsNormalizing}
-use Rattle.yaml_round_content.specs.StreamsLaws.{emitter_events_by, ParsedIsRight}
+use Rattle.yaml_round_content.specs.StreamsLaws.{ParsedIsRight}
 use Rattle.yaml_round_content.proofs.Stacks.{moved}
 use Rattle.yaml_round_content.proofs.Runs.{GivenPlaced, moved_given, GivenSpelled, stream_places, stream_spelled}
 use Rattle.yaml_round_content.proofs.Emitted.{plain, plain_same, not_end, or_none, normalized_own, no_problem}
@@ -22,9 +16,6 @@ abbrev Passes : (EventBody → EventBody) → Bool → Progress → Option Fault
 Passes normalize canonical h f to r =
     (first_refusal canonical h (emitter_events_by normalize r.events) ≡ None) × (r.ending ≡ None → (f ≡ None) × (plain (progress_behind h (emitter_events_by normalize r.events)) ≡ to))
 
-ended : (f : Fault) → Some f ≡ None → ⊥
-ended f e = cc
-
 on_passes : (normalize : EventBody → EventBody) → IsNormalizing normalize
     → (canonical : Bool) (h : Progress) (f : Option Fault) (to : Progress) (c : Settled) (g : Given)
     (k : Directives → Reading)
@@ -33,7 +24,7 @@ on_passes : (normalize : EventBody → EventBody) → IsNormalizing normalize
     → Passes normalize canonical h' f to (k ds))
     → Passes normalize canonical h f to (read_on c g.0 g.1 k)
 unfolding first_refusal progress_behind
-on_passes normalize e canonical h f to (refused x) g k p o more = (refl, λ d. absurd (ended x d))
+on_passes normalize e canonical h f to (refused x) g k p o more = (refl, λ d. absurd cc)
 on_passes normalize e canonical h f to (gave b ds) g k p o more =
     let rest : Passes normalize canonical (progress_after h (emitter_event (normalize b))) f to (k ds) = more (progress_after h (emitter_event (normalize b))) ds p.1 o.1 in
     (or_none (problem_in canonical h (emitter_event (normalize b))) _ (no_problem canonical h (normalize b) p.0 (normalized_own canonical b (normalize b) (e b) o.0)) rest.0, rest.1)

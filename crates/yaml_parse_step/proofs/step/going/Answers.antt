@@ -1,5 +1,5 @@
 use Rattle.std.proofs.Common.{refl, inl}
-use Rattle.yaml_parse_core.specs.Owned.{owned_properties, owned_states_by}
+use Rattle.yaml_parse_step.proofs.Words.{owned_properties, owned_states_by}
 use Rattle.yaml_parse_step.proofs.Moves.{silent_moves, memory_stops}
 use Rattle.yaml_parse_step.proofs.step.going.Goals as goal
 

@@ -1,13 +1,7 @@
 use Rattle.std.proofs.Common.{Some, true, subst}
-use Rattle.yaml_scan_model.specs.Tokens.{Token, token_of}
-use Rattle.yaml_scan_model.specs.Faults.{fault_of}
-use Rattle.yaml_parse_model.specs.Events.{event_of}
-use Rattle.yaml_parse_grammar.specs.Items.{item_at}
+use Rattle.yaml_parse_step.proofs.Words.{Token, token_of, fault_of, event_of, item_at, owned_properties, owned_states_by, directives_of, Turned, WentOn}
 use Rattle.yaml_parse_grammar.specs.Items as item
 use Rattle.yaml_parse_core.specs.Seen as kinds
-use Rattle.yaml_parse_core.specs.Owned.{owned_properties, owned_states_by}
-use Rattle.yaml_parse_resolve.specs.Settles.{directives_of}
-use Rattle.yaml_parse_step.specs.Moves.{Turned, WentOn}
 use Rattle.yaml_parse_step.proofs.Moves.{opened_moves}
 use Rattle.yaml_parse_step.proofs.Going.{went_on, went_of}
 use Rattle.yaml_parse_step.proofs.step.open_document.Goals as goal

@@ -1,11 +1,7 @@
 use Rattle.std.proofs.Common.{◌⊎◌, ◌∙◌, inl, ap, subst}
-use Rattle.yaml_scan_model.specs.Tokens.{Token, token_of}
-use Rattle.yaml_scan_model.specs.Faults.{fault_of}
-use Rattle.yaml_parse_grammar.specs.Problems.{parser_fault}
+use Rattle.yaml_parse_step.proofs.Words.{Token, token_of, fault_of, parser_fault, owned_properties, owned_states_by, directives_of, Turned, Stops}
 use Rattle.yaml_parse_core.specs.Seen as kinds
-use Rattle.yaml_parse_core.specs.Owned.{owned_properties, owned_states_by}
-use Rattle.yaml_parse_resolve.specs.Settles.{directives_of}
-use Rattle.yaml_parse_step.specs.Moves.{Turned, Stops, GaveFault}
+use Rattle.yaml_parse_step.specs.Moves.{GaveFault}
 use Rattle.yaml_parse_step.proofs.Moves.{refused_stops}
 use Rattle.yaml_parse_step.proofs.step.refused.Goals as goal
 

@@ -1,12 +1,6 @@
 use Rattle.std.proofs.Common.{refl, sym, subst, ◌∙◌}
-use Rattle.yaml_scan_model.specs.Tokens.{token_of}
-use Rattle.yaml_scan_model.specs.Faults.{fault_of}
-use Rattle.yaml_parse_model.specs.Events.{event_of}
-use Rattle.yaml_parse_core.specs.Owned.{owned_properties, owned_states_by}
-use Rattle.yaml_parse_resolve.specs.Settles.{directives_of}
-use Rattle.yaml_parse_step.specs.declared.step.StepBuffers.{StepBuffers}
-use Rattle.yaml_parse_step.specs.Steps.{raw, held_if, peeked_of, states_in}
-use Rattle.yaml_parse_step.specs.Moves.{Went}
+use Rattle.yaml_parse_step.proofs.Words.{token_of, fault_of, event_of, owned_properties, owned_states_by, directives_of, StepBuffers, raw, peeked_of, states_in, Went}
+use Rattle.yaml_parse_step.specs.Steps.{held_if}
 use Rattle.yaml_parse_step.proofs.Moves.{no_front_open}
 use Rattle.yaml_parse_step.proofs.Turning.{done_turn, refused_turn}
 use Rattle.yaml_parse_step.proofs.Texts.{cleared_utf8}

@@ -1,10 +1,5 @@
 use Rattle.std.proofs.Common.{◌≡◌, None, subst}
-use Rattle.yaml_scan_model.specs.Tokens.{Token}
-use Rattle.yaml_parse_model.specs.Events.{event_of}
-use Rattle.yaml_parse_grammar.specs.Resolve.{node_event, placed}
-use Rattle.yaml_parse_core.specs.Views.{node_item, shape_at}
-use Rattle.yaml_parse_core.specs.Owned.{owned_properties, owned_states_by}
-use Rattle.yaml_parse_resolve.specs.Settles.{directives_of}
+use Rattle.yaml_parse_step.proofs.Words.{Token, event_of, node_event, placed, node_item, shape_at, owned_properties, owned_states_by, directives_of}
 use Rattle.yaml_parse_step.proofs.Going.{went_node}
 use Rattle.yaml_parse_step.proofs.step.tell.Goals as goal
 

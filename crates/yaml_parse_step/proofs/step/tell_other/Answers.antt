@@ -1,12 +1,6 @@
 use Rattle.std.proofs.Common.{None, subst}
-use Rattle.yaml_scan_model.specs.Tokens.{Token, token_of}
-use Rattle.yaml_scan_model.specs.Faults.{fault_of}
-use Rattle.yaml_parse_model.specs.Events.{event_of}
+use Rattle.yaml_parse_step.proofs.Words.{Token, token_of, fault_of, event_of, told_item, owned_properties, owned_states_by, directives_of, Turned, WentOn}
 use Rattle.yaml_parse_core.specs.Seen as kinds
-use Rattle.yaml_parse_core.specs.Views.{told_item}
-use Rattle.yaml_parse_core.specs.Owned.{owned_properties, owned_states_by}
-use Rattle.yaml_parse_resolve.specs.Settles.{directives_of}
-use Rattle.yaml_parse_step.specs.Moves.{Turned, WentOn}
 use Rattle.yaml_parse_step.proofs.Moves.{told_moves}
 use Rattle.yaml_parse_step.proofs.Going.{went_on, went_of}
 use Rattle.yaml_parse_step.proofs.step.tell_other.Goals as goal

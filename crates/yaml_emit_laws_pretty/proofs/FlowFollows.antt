@@ -21,8 +21,7 @@ use Rattle.yaml_emit_laws_text.specs.emit_layout.Nodes.{Context, checked, MOST, 
 use Rattle.yaml_emit_laws_text.specs.Walk.{bytes, first}
 use Rattle.yaml_emit_laws_text.proofs.Steps.{letter_low, deep_bytes}
 use Rattle.yaml_emit_laws_scalars.specs.Stops.{stops_plain_at, begins_white}
-use Rattle.yaml_emit_laws_scalars.proofs.Stopping.{behind_lines}
-use Rattle.yaml_emit_laws_scalars.proofs.Solid.{what_stops}
+use Rattle.yaml_emit_laws_scalars.proofs.Stopping.{behind_lines, what_stops, blanks_white}
 use Rattle.yaml_emit_laws_pretty.specs.Walk.{no_comment}
 use Rattle.yaml_emit_laws_pretty.specs.Spoken.{ends_name}
 use Rattle.yaml_emit_laws_pretty.specs.Flows.{FollowsIn}
@@ -30,7 +29,6 @@ use Rattle.yaml_emit_laws_pretty.specs.Nodes.{PartedBehind}
 use Rattle.yaml_emit_laws_pretty.proofs.Following.{line_bytes, line_calm}
 use Rattle.yaml_emit_laws_text.proofs.Words.{lettered_on}
 use Rattle.yaml_emit_laws_text.proofs.Single.{after_blanks, line_start}
-use Rattle.yaml_emit_laws_scalars.proofs.Stands.{blanks_white}
 use Rattle.yaml_emit_laws_text.proofs.Prettily.{pretty}
 use Rattle.yaml_emit_laws_pretty.proofs.DocStarts.{break_white}
 

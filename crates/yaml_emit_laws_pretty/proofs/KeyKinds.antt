@@ -38,8 +38,8 @@ use Rattle.yaml_emit_laws_scalars.specs.PlainLaws.{may_be_plain}
 use Rattle.yaml_emit_laws_scalars.specs.SingleLaws.{SingleLinesAreReadBack}
 use Rattle.yaml_emit_laws_scalars.specs.StandsLaws.{PlainHasGap, ScalarsAreWords}
 use Rattle.yaml_emit_laws_scalars.specs.StylesLaws.{StylesAreAllowed}
-use Rattle.yaml_emit_laws_scalars.proofs.PlainLaw.{plain_back}
-use Rattle.yaml_emit_laws_scalars.proofs.Solid.{what_stops}
+use Rattle.yaml_emit_laws_scalars.proofs.PlainStart.{plain_back}
+use Rattle.yaml_emit_laws_scalars.proofs.Stopping.{what_stops}
 use Rattle.yaml_scan_laws_levels.specs.White.{IsGap}
 use Rattle.yaml_scan_laws_levels.proofs.Signing.{signs_come, printed_begins}
 use Rattle.yaml_emit_laws_pretty.specs.Bodies.{place, style_at, is_empty, is_nothing, style_named, takes_mark, value_bodies, scalar_bodies, node_bodies, sequence_opens, sequence_closes, mapping_opens, mapping_closes, items_bodies, pairs_bodies, keeps}

@@ -27,9 +27,8 @@ use Rattle.yaml_emit_laws_text.proofs.Places.{has_at, left_first, left_more}
 use Rattle.yaml_emit_laws_text.proofs.Steps.{left_letter}
 use Rattle.yaml_emit_laws_scalars.specs.BlockLaws.{from_indicator, is_keep as keeps_all, read_style, margin_round, block_style}
 use Rattle.yaml_emit_laws_scalars.specs.BlockPassing.{behind_line, BlockPassed}
-use Rattle.yaml_emit_laws_scalars.proofs.BlockWhole.{block_back}
-use Rattle.yaml_emit_laws_scalars.proofs.BlockBehind.{block_at_position}
-use Rattle.yaml_emit_laws_scalars.proofs.BlockPassing.{block_is_passed}
+use Rattle.yaml_emit_laws_scalars.proofs.BlockWhole.{block_back, block_at_position}
+use Rattle.yaml_emit_laws_scalars.proofs.BlockHeader.{block_is_passed}
 use Rattle.yaml_scan_laws_levels.proofs.MarksForward.{line_at-grows}
 use Rattle.yaml_scan_laws_levels.proofs.WordForward.{Fits, LandsWord, IsWordFrom, word_lands}
 use Rattle.yaml_scan_laws_levels.specs.Pushes.{stays_level}

@@ -39,12 +39,11 @@ use Rattle.yaml_emit_laws_scalars.specs.Stops.{begins_white, white_of}
 use Rattle.yaml_emit_laws_scalars.specs.PlainLaws.{PlainIsBack}
 use Rattle.yaml_emit_laws_scalars.specs.SingleLaws.{SingleIsBack}
 use Rattle.yaml_emit_laws_scalars.specs.StandsLaws.{ScalarsAreWords}
-use Rattle.yaml_emit_laws_scalars.proofs.Stopping.{goes_on, stops_end}
+use Rattle.yaml_emit_laws_scalars.proofs.Stopping.{goes_on, stops_end, single_kind}
 use Rattle.yaml_emit_laws_pretty.specs.Spoken.{Spoken, WordStands, Fits, anything, space, white, name_end, unquoted, stop, ends_name}
 use Rattle.yaml_emit_laws_pretty.proofs.Entries.{white_stands}
 use Rattle.yaml_emit_laws_pretty.proofs.Plains.{no_hash, ends_begins}
 use Rattle.yaml_emit_laws_text.proofs.Tags.{mark_kind, said_tag, text_is}
-use Rattle.yaml_emit_laws_scalars.proofs.Stands.{single_kind}
 use Rattle.yaml_emit_laws_text.proofs.TextLines.{left_byte}
 
 -- a word that takes no white

@@ -9,9 +9,9 @@ use Rattle.yaml_emit_laws_text.proofs.Joining.{written_readable, written_directi
 use Rattle.yaml_emit_laws_text.proofs.Ascii.{spelled_ascii, directive_ascii}
 use Rattle.yaml_emit_laws_text.proofs.TagsLines.{directive_read}
 use Rattle.yaml_emit_laws_scalars.proofs.Single.{single_back}
-use Rattle.yaml_emit_laws_scalars.proofs.PlainLaw.{plain_back}
+use Rattle.yaml_emit_laws_scalars.proofs.PlainStart.{plain_back}
 use Rattle.yaml_emit_laws_scalars.proofs.Styles.{styles_allowed}
-use Rattle.yaml_emit_laws_scalars.proofs.Stands.{has_gap, stands, are_words, quoted_stands}
+use Rattle.yaml_emit_laws_scalars.proofs.Stopping.{has_gap, stands, are_words, quoted_stands}
 use Rattle.yaml_emit_laws_pretty.specs.Nodes.{NodesAreWalked, LeavesAreWalked, BlockScalarsAreWalked, BracketsAreWalked, PropertiesAreWalked, SimpleKeysAreWalked}
 use Rattle.yaml_emit_laws_pretty.specs.Flows.{KeysAreWalkedIn}
 use Rattle.yaml_emit_laws_pretty.specs.DocLaws.{PrettyTextIsRead}

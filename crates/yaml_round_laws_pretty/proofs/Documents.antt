@@ -128,7 +128,7 @@ one_document s fresh d ds marked opening fine behind_root ts e =
     let root = items_maybe n.tree Root t.span.to (spell_ends b.ends more) ending in
     let head : Given = (item.item_at (item.document false) (trees.start_of dir.directives t.span) t.span.to, length (spell_maybe n.tree (spell_ends b.ends more))) in
     let done = event.document_end (d.implicit_end && not (has_dots (is_root_kept s d) ds)) ∷ documents_reads s false ds in
-    let second = ends_by (root_reads s d) (reading root None E) (reading ending None E) done (n.gives (spell_ends b.ends more) ending None E refl) (b.gives E) in
+    let second = ends_by (root_reads s d) (reading root None E) (reading ending None E) done (n.said.gives (spell_ends b.ends more) ending None E refl) (b.gives E) in
     let whole = ends_by (λ es. event.document_start o.version o.directives false ∷ es) (reading (head ∷ root) None E) (reading root None E) (root_reads s d done)
     (item_says head root None E E (event.document_start o.version o.directives false) refl) second in
     let front = dir.gives (token_at token.document_start t.span ∷ spell_maybe n.tree (spell_ends b.ends more)) (head ∷ root) None in
@@ -136,7 +136,7 @@ one_document s fresh d ds marked opening fine behind_root ts e =
       documents = trees.document dir.directives t.span n.tree b.ends b.documents;
       rest = b.rest;
       same = dir.same
-          ∙ ap (λ (y : List Token). spell_directives dir.directives y) (t.same ∙ ap (λ (y : List Token). token_at token.document_start t.span ∷ y) (n.same ∙ ap (λ (y : List Token). spell_maybe n.tree y) b.same));
+          ∙ ap (λ (y : List Token). spell_directives dir.directives y) (t.same ∙ ap (λ (y : List Token). token_at token.document_start t.span ∷ y) (n.said.same ∙ ap (λ (y : List Token). spell_maybe n.tree y) b.same));
       gives = record {
         events = ap (λ (r : Reading). event_bodies r) front ∙ whole.events ∙ ap (λ (m : Bool). event.document_start o.version o.directives (not m) ∷ root_reads s d done) (sym marked);
         ending = ap (λ (r : Reading). r.ending) front ∙ whole.ending;

@@ -1,39 +1,27 @@
 -- Properties in front of a content, and nodes that have nothing else.
-use Rattle.std.proofs.Common.{◌≡◌, ℕ, Bool, true, false, not, ◌&&◌, ◌||◌, List, [], ◌∷◌, length, Option, Some, None, refl, sym, ap, subst, ◌∙◌, codes}
-use Rattle.std.specs.Str.{bytes_eq}
+use Rattle.std.proofs.Common.{◌≡◌, ℕ, Bool, true, false, not, ◌&&◌, ◌||◌, List, [], ◌∷◌, Option, Some, None, refl, sym, ap, subst, ◌∙◌, codes, bytes_eq}
 use Rattle.std.proofs.lemmas.Bool.{false≢true, true≢false}
 use Rattle.yaml_round_laws_documents.specs.parse_grammar.parse_model.declared.yaml_mark_t.{yaml_mark_t}
-use Rattle.yaml_round_laws_documents.specs.parse_grammar.parse_model.declared.yaml_scalar_style_t.{yaml_scalar_style_t}
 use Rattle.yaml_round_laws_documents.specs.round_content.parse_model.Tokens.{Token, TokenBody}
 use Rattle.yaml_round_laws_documents.specs.round_content.parse_model.Tokens as token
 use Rattle.yaml_round_laws_documents.specs.parse_grammar.parse_model.Events.{EventBody, TagDirective}
-use Rattle.yaml_round_laws_documents.specs.round_content.parse_model.Faults.{Fault}
 use Rattle.yaml_round_laws_documents.specs.parse_grammar.declared.name.Wants.{Wants}
 use Rattle.yaml_round_laws_documents.specs.parse_grammar.declared.name.Site.{Site}
-use Rattle.yaml_round_laws_documents.specs.parse_grammar.Items.{Shape, Properties, node_at}
+use Rattle.yaml_round_laws_documents.specs.parse_grammar.Items.{node_at}
 use Rattle.yaml_round_laws_documents.specs.parse_grammar.Items as item
-use Rattle.yaml_round_laws_documents.specs.parse_grammar.Trees.{PropertyTokens, Given, spell_content, spell_maybe, properties_of}
-use Rattle.yaml_round_laws_documents.specs.parse_grammar.TreeSteps.{items_content, items_maybe, behind}
+use Rattle.yaml_round_laws_documents.specs.parse_grammar.Trees.{PropertyTokens, Given, spell_maybe, properties_of}
+use Rattle.yaml_round_laws_documents.specs.parse_grammar.TreeSteps.{items_maybe, behind}
 use Rattle.yaml_round_laws_documents.specs.parse_grammar.Trees as trees
-use Rattle.yaml_round_laws_documents.specs.parse_grammar.Resolve.{Directives, gave, settle, reading, node_event}
+use Rattle.yaml_round_laws_documents.specs.parse_grammar.Resolve.{Directives, gave, settle, node_event}
 use Rattle.yaml_round_laws_documents.specs.emit_laws_text.emit_text.declared.Style.{Style}
 use Rattle.yaml_round_laws_documents.specs.emit_laws_text.emit_text.declared.Style.TheVariants as style
 use Rattle.yaml_round_laws_documents.specs.emit_laws_text.emit_layout.Grammar.{has}
 use Rattle.yaml_round_laws_documents.specs.emit_laws_text.Bodies.{anchor_bodies, tag_bodies, mark_bodies}
-use Rattle.yaml_round_laws_documents.specs.TreeLaws.{token_bodies, SaysTree, IsNoMark, Grown}
-use Rattle.yaml_round_laws_documents.proofs.Growing.{take, step_says, tagged_event, dress_gives, dress_spells, spell_if, properties_if, with_dress, Named, IsNamed, named_bodies, full_of, some_tokens, some_named, with_properties, tag_named, tag_is_named, tag_bodies_are, full_is, bang}
+use Rattle.yaml_round_laws_documents.specs.TreeLaws.{token_bodies, IsNoMark, Grown}
+use Rattle.yaml_round_laws_documents.proofs.Growing.{Spelt, grown, dressed_named, scalar_contained, step_says, tagged_event, spell_if, properties_if, Named, IsNamed, named_bodies, full_of, some_tokens, some_named, with_properties, tag_named, tag_is_named, tag_bodies_are, full_is, bang}
 use Rattle.yaml_emit_laws_pretty.specs.Bodies.{style_named, takes_mark, is_bare, is_nothing, scalar_bodies}
 use Rattle.yaml_round_laws_pretty.specs.Reads.{scalar_reads}
 use Rattle.yaml_round_laws_documents.proofs.CanonicalPremises.{Resolves}
-
--- The tokens begin with a part of a tree, of which the events are read, whatever follows.
-pub record Spelt (T : Type 0) (spell : T → List Token → List Token) (items : T → List Token → List Given → List Given) (ds : List TagDirective) (R : List EventBody → List EventBody) (ts : List Token) (bs : List TokenBody) : Type 0 where
-  pub tree : T
-  pub rest : List Token
-  pub same : ts ≡ spell tree rest
-  pub left : token_bodies rest ≡ bs
-  pub gives : (more : List Token) (gs : List Given) (f : Option Fault) (D : Directives)
-      → D.tags ≡ ds → SaysTree R (reading (items tree more gs) f D) (reading gs f D)
 
 abbrev pub MaybeGrown : Wants → Site → yaml_mark_t → List TagDirective
     → (List EventBody → List EventBody) → List Token → List TokenBody → Type 0
@@ -42,7 +30,7 @@ MaybeGrown w at before ds R ts bs = Spelt (trees.Maybe w) (λ (n : trees.Maybe w
 pub held : (w : Wants) (at : Site) (before : yaml_mark_t) (ds : List TagDirective)
     (R : List EventBody → List EventBody) (ts : List Token) (bs : List TokenBody)
     → Grown w ds R ts bs → MaybeGrown w at before ds R ts bs
-held w at before ds R ts bs g = record { tree = trees.there g.tree; rest = g.rest; same = g.same; left = g.left; gives = g.gives }
+held w at before ds R ts bs g = record { tree = trees.there g.tree; rest = g.rest; left = g.left; said = grown g }
 
 -- ---- properties
 
@@ -66,50 +54,6 @@ scalar_bodies_are ds None true bs = refl
 scalar_bodies_are ds None false bs = refl
 scalar_bodies_are ds (Some t) marked bs = tag_bodies_are ds (Some t) bs
 
--- ---- a content behind them
-
--- The tokens begin with a content of that shape: whatever its properties settle to stands in front of the events in it.
-pub record Contained (w : Wants) (ds : List TagDirective) (shape : Shape) (R : List EventBody → List EventBody) (ts : List Token) (bs : List TokenBody) : Type 0 where
-  pub tree : trees.Content w
-  pub rest : List Token
-  pub same : ts ≡ spell_content tree rest
-  pub left : token_bodies rest ≡ bs
-  pub gives : (o : Option Properties) (b : EventBody) (more : List Token) (gs : List Given)
-      (f : Option Fault) (D : Directives) → D.tags ≡ ds
-      → ((from to : yaml_mark_t) → settle (node_at o shape from to) D ≡ gave b D)
-      → SaysTree (λ es. b ∷ R es) (reading (items_content tree o more gs) f D) (reading gs f D)
-
-dressed_named : (w : Wants) (ds : List TagDirective) (anchor : Option (List ℕ)) (tag : Option Named)
-    → IsNamed ds tag
-    → (shape : Shape) (R : List EventBody → List EventBody) (cs bs : List TokenBody)
-    → ((us : List Token) → token_bodies us ≡ cs → Contained w ds shape R us bs)
-    → (ts : List Token) → token_bodies ts ≡ anchor_bodies anchor (named_bodies tag cs)
-    → Grown w ds (λ es. node_event anchor (full_of tag) shape ∷ R es) ts bs
-dressed_named w ds anchor tag h shape R cs bs inner ts e =
-    let d = with_properties ds anchor tag h ts cs e in
-    let c = inner d.rest d.left in
-    record {
-      tree = with_dress d.only_properties c.tree;
-      rest = c.rest;
-      same = d.same ∙ ap (λ (y : List Token). spell_if d.only_properties y) c.same ∙ sym (dress_spells w d.only_properties c.tree c.rest);
-      left = c.left;
-      gives = λ more gs f D same.
-          let P : List Given → Type 0 = λ y. SaysTree (λ es. node_event anchor (full_of tag) shape ∷ R es) (reading y f D) (reading gs f D) in
-          subst P (sym (dress_gives w d.only_properties c.tree more gs)) (c.gives (properties_if d.only_properties) (node_event anchor (full_of tag) shape) more gs f D same (λ from to. d.gives shape from to D same));
-    }
-
--- of a collection
-pub dressed : (w : Wants) (ds : List TagDirective) → Resolves ds
-    → (anchor tag : Option (List ℕ)) (shape : Shape) (R : List EventBody → List EventBody)
-    (cs bs : List TokenBody)
-    → ((us : List Token) → token_bodies us ≡ cs → Contained w ds shape R us bs)
-    → (ts : List Token) → token_bodies ts ≡ anchor_bodies anchor (tag_bodies ds tag cs)
-    → Grown w ds (λ es. node_event anchor tag shape ∷ R es) ts bs
-dressed w ds r anchor tag shape R cs bs inner ts e =
-    let named = e ∙ ap (λ (y : List TokenBody). anchor_bodies anchor y) (tag_bodies_are ds tag cs) in
-    let P : Option (List ℕ) → Type 0 = λ t. Grown w ds (λ es. node_event anchor t shape ∷ R es) ts bs in
-    subst P (full_is ds tag) (dressed_named w ds anchor (tag_named ds tag) (tag_is_named ds r tag) shape R cs bs inner ts named)
-
 -- ---- scalars
 
 untagged_event : (anchor : Option (List ℕ)) (value : List ℕ) (s : Style)
@@ -125,19 +69,6 @@ event_is : (ds : List TagDirective) (anchor tag : Option (List ℕ)) (value : Li
 event_is ds anchor None value true s h = refl
 event_is ds anchor None value false s h = untagged_event anchor value s
 event_is ds anchor (Some t) value marked s h = tagged_event (bytes_eq t (codes "!")) anchor t value (style_named s) h
-
-scalar_contained : (w : Wants) (ds : List TagDirective) (value : List ℕ) (s : yaml_scalar_style_t)
-    (bs : List TokenBody) (us : List Token) → token_bodies us ≡ token.scalar value s ∷ bs
-    → Contained w ds (item.scalar value s) (λ es. es) us bs
-scalar_contained w ds value s bs us e =
-    let t = take us (token.scalar value s) bs e in
-    record {
-      tree = trees.scalar t.span value s;
-      rest = t.rest;
-      same = t.same;
-      left = t.left;
-      gives = λ o b more gs f D same settles. step_says (node_at o (item.scalar value s) t.span.from t.span.to, length more) gs f D b (settles t.span.from t.span.to);
-    }
 
 -- a scalar that has a word
 worded : (w : Wants) (ds : List TagDirective) → Resolves ds → (anchor tag : Option (List ℕ))
@@ -234,13 +165,9 @@ nothing_held : (w : Wants) (at : Site) (before : yaml_mark_t) (ds : List TagDire
     (quoted : Bool) (bs : List TokenBody) (ts : List Token) → token_bodies ts ≡ bs
     → MaybeGrown w at before ds (λ es. scalar_reads None None [] (takes_mark quoted style.Plain)
     style.Plain ∷ es) ts bs
-nothing_held w at before ds quoted bs ts e = record {
-  tree = trees.left_out;
-  rest = ts;
-  same = refl;
-  left = e;
-  gives = λ more gs f D is. step_says _ gs f D (scalar_reads None None [] (takes_mark quoted style.Plain) style.Plain) (ap (λ (b : Bool). gave (scalar_reads None None [] b style.Plain) D) (sym (unmarked quoted)));
-}
+nothing_held w at before ds quoted bs ts e =
+    let b = scalar_reads None None [] (takes_mark quoted style.Plain) style.Plain in
+    record { tree = trees.left_out; rest = ts; left = e; said = record { same = refl; gives = λ more gs f D is. step_says _ gs f D b (ap (λ (b : Bool). gave (scalar_reads None None [] b style.Plain) D) (sym (unmarked quoted))) } }
 
 -- a scalar for which nothing stands
 pub scalar_left_out : (w : Wants) (at : Site) (before : yaml_mark_t) (ds : List TagDirective)

@@ -1,6 +1,5 @@
 -- The pretty layout writes characters that a stream may hold.
-use Rattle.std.proofs.Common.{◌≡◌, ℕ, ◌+◌, ◌<◌, Bool, true, false, not, ◌&&◌, ◌||◌, ◌==◌, nat_lt, if◌then◌else◌, List, [], ◌∷◌, refl, arith, IsUtf8}
-use Rattle.std.specs.Str.{chars}
+use Rattle.std.proofs.Common.{◌≡◌, ℕ, ◌+◌, ◌<◌, Bool, true, false, not, ◌&&◌, ◌||◌, ◌==◌, nat_lt, if◌then◌else◌, List, [], ◌∷◌, refl, arith, IsUtf8, chars}
 use Rattle.std.proofs.lemmas.Bool.Decides.{nat_tests}
 use Rattle.std.proofs.lemmas.Bool.{or_parts, and_parts, not-true}
 use Rattle.yaml_round_laws_documents.specs.parse_grammar.parse_model.declared.yaml_scalar_style_t.{yaml_scalar_style_t}
@@ -120,12 +119,6 @@ tame_if : (b : Bool) (x y : Layout) → Tame x → Tame y → Tame (if b then x 
 tame_if true x y f g = f
 tame_if false x y f g = g
 
-text_tame : Tame after_text
-text_tame c rest h = h _
-
-behind_tame : Tame after_block
-behind_tame c rest h = h _
-
 value_break_tame : (b : LineBreak) (x : ℕ) → Fits x → Tame (value_break b x)
 value_break_tame b x f = tame_if (x == 10) (new_line b) (break x) (new_line_tame b) (break_tame x f)
 
@@ -191,7 +184,7 @@ block_tame page digit folded cs h =
     let body = block_body page folded true 10 cs in
     both (gap ▹ (mark ▹ (sign ▹ tail))) (new_line page.line_break ▹ (body ▹ after_block))
     (both gap (mark ▹ (sign ▹ tail)) gap_tame (both mark (sign ▹ tail) (char_tame (if folded then 62 else 124) (header_fits folded)) (both sign tail (when_tame (first cs == 32 || is_break (first cs)) (char (digit_char digit)) (char_tame (digit_char digit) (digit_by (nat_lt digit 10) digit refl))) (chomp_tame (chomp true true cs)))))
-    (both (new_line page.line_break) (body ▹ after_block) (new_line_tame page.line_break) (both body after_block (block_body_tame page folded true 10 cs h) behind_tame))
+    (both (new_line page.line_break) (body ▹ after_block) (new_line_tame page.line_break) (both body after_block (block_body_tame page folded true 10 cs h) (λ c rest h. h _)))
 
 pub scalar_text_tame : (page : Page) (digit : ℕ) (flow : Bool) (s : Style) (value : List ℕ)
     → IsUtf8 value → Needs s (ArePrintable (chars value))
@@ -199,7 +192,7 @@ pub scalar_text_tame : (page : Page) (digit : ℕ) (flow : Bool) (s : Style) (va
 unfolding scalar_text
 scalar_text_tame page digit flow style.Plain value u h =
     both (when (flow || not (is_empty (chars value))) gap) (flow_body page false 32 (chars value) ▹ after_text) (when_tame (flow || not (is_empty (chars value))) gap gap_tame)
-    (both (flow_body page false 32 (chars value)) after_text (flow_tame page false 32 (chars value) h) text_tame)
+    (both (flow_body page false 32 (chars value)) after_text (flow_tame page false 32 (chars value) h) (λ c rest h. h _))
 scalar_text_tame page digit flow style.Single value u h =
     let body = flow_body page true 32 (chars value) in
     both gap (char 39 ▹ (body ▹ char 39)) gap_tame (both (char 39) (body ▹ char 39) (char_tame 39 tick) (both body (char 39) (flow_tame page true 32 (chars value) h) (char_tame 39 tick)))

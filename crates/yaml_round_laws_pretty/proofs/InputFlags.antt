@@ -1,6 +1,5 @@
 -- The flags and tags of an input's normalized events.
-use Rattle.std.proofs.Common.{◌≡◌, ℕ, Bool, true, false, not, if◌then◌else◌, List, [], ◌∷◌, Option, Some, None, codes, refl, subst, inl, inr, sym, ◌∙◌}
-use Rattle.std.specs.Str.{bytes_eq}
+use Rattle.std.proofs.Common.{◌≡◌, ℕ, Bool, true, false, not, if◌then◌else◌, List, [], ◌∷◌, Option, Some, None, codes, refl, subst, inl, inr, sym, ◌∙◌, bytes_eq}
 use Rattle.std.proofs.lemmas.Bool.{cases_Bool, true≢false}
 use Rattle.std.proofs.lemmas.Slice.Eq.{bytes_eq-Decides}
 use Rattle.yaml_round_laws_documents.specs.parse_grammar.parse_model.declared.yaml_encoding_t.{yaml_encoding_t}
@@ -39,9 +38,6 @@ AreRight (e ∷ es) = IsRight e × AreRight es
 abbrev BodyRight : EventBody → Type 0
 BodyRight b = IsRight (emit.emitter_event (normalize_body false b))
 
-lone : is_lone_mark (Some (codes "!")) [] ≡ true
-lone = refl
-
 -- an empty scalar that isn't a lone `!`
 empty_no_mark : (tag : List ℕ) → is_lone_mark (Some tag) [] ≡ false → IsNoMark (Some tag)
 empty_no_mark tag e =
@@ -51,7 +47,7 @@ empty_no_mark tag e =
     ]
   where
     marked : bytes_eq tag (codes "!") ≡ true → is_lone_mark (Some tag) [] ≡ true
-    marked h = rw ((bytes_eq-Decides tag (codes "!")).0 h) lone
+    marked h = rw ((bytes_eq-Decides tag (codes "!")).0 h) refl
 
 tagged : (m : Bool) (anchor : Option (List ℕ)) (tag value : List ℕ) (style : yaml_scalar_style_t)
     → (m ≡ false → IsNoMark (Some tag))

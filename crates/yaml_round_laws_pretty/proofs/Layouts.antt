@@ -1,6 +1,5 @@
 -- The pretty layout of documents writes characters that a stream may hold.
-use Rattle.std.proofs.Common.{ℕ, Bool, true, false, not, ◌&&◌, ◌||◌, ◌==◌, if◌then◌else◌, List, [], ◌∷◌, length, Option, arith, IsUtf8}
-use Rattle.std.specs.Str.{chars}
+use Rattle.std.proofs.Common.{ℕ, Bool, true, false, not, ◌&&◌, ◌||◌, ◌==◌, if◌then◌else◌, List, [], ◌∷◌, length, Option, arith, IsUtf8, chars}
 use Rattle.yaml_round_laws_documents.specs.emit_laws_text.emit_text.declared.Cursor.{Cursor}
 use Rattle.yaml_round_laws_documents.specs.emit_laws_text.emit_text.declared.Settings.{Settings}
 use Rattle.yaml_round_laws_documents.specs.round_content.emit_text.Text.{Item}
@@ -90,15 +89,9 @@ mapping_tame p fit q ps ha ht inner at =
     (both (when f (opener 123)) (indented (indent_of p.settings at false f) body) (when_tame f (opener 123) (opener_tame 123 (graphic 123 (omega arith) (omega arith))))
     (indented_tame (indent_of p.settings at false f) body (λ n. both (checked n) (pairs_layout p f n true ps) (checked_tame n) (inner f n true))))
 
-comma_fits : Fits 44
-comma_fits = graphic 44 (omega arith) (omega arith)
-
-wrap_tame : (s : Settings) (n : ℕ) → Tame (wrap_at s n)
-wrap_tame s n = choose_tame (is_past s.width) (line s.line_break n) stay (line_tame s.line_break n) stay_tame
-
 turned_by : (b : Bool) (s : Settings) (n : ℕ) → Tame (if b then line_at s n else wrap_at s n)
 turned_by true s n = line_tame s.line_break n
-turned_by false s n = wrap_tame s n
+turned_by false s n = choose_tame (is_past s.width) (line s.line_break n) stay (line_tame s.line_break n) stay_tame
 
 turned_tame : (s : Settings) (n : ℕ) → Tame (turned s n)
 unfolding turned
@@ -108,7 +101,7 @@ closer_tame : (s : Settings) (flow : Bool) (n : ℕ) (fresh : Bool) (x : ℕ) �
     → Tame (closer s flow n fresh x)
 unfolding closer
 closer_tame s true n fresh x f =
-    both (when (s.canonical && not fresh) (char 44 ▹ line_at s _)) (char x) (when_tame (s.canonical && not fresh) (char 44 ▹ line_at s _) (both (char 44) (line_at s _) (char_tame 44 comma_fits) (line_tame s.line_break _))) (char_tame x f)
+    both (when (s.canonical && not fresh) (char 44 ▹ line_at s _)) (char x) (when_tame (s.canonical && not fresh) (char 44 ▹ line_at s _) (both (char 44) (line_at s _) (char_tame 44 (graphic 44 (omega arith) (omega arith))) (line_tame s.line_break _))) (char_tame x f)
 closer_tame s false n fresh x f = stay_tame
 
 before_item_tame : (s : Settings) (flow : Bool) (n : ℕ) (fresh : Bool)
@@ -202,18 +195,10 @@ start_tame s fresh unended d ds (right, prefixes, root, more) =
     (both (version_text s o.version) (directives_text s o.directives ▹ dash) (version_tame s o.version)
     (both (directives_text s o.directives) dash (directives_tame s o.directives fit prefixes) (when_tame (is_marked s fresh o) (dashes s) (dashes_tame s)))))
 
-end_tame : (s : Settings) (implicit : Bool) → Tame (end_layout s implicit)
-unfolding end_layout
-end_tame s implicit = both (line_at s 0) (when (not implicit) (dots s)) (line_tame s.line_break 0) (when_tame (not implicit) (dots s) (dots_tame s))
-
-stop_tame : (s : Settings) (unended : Bool) → Tame (stop_layout s unended)
-unfolding stop_layout
-stop_tame s unended = when_tame unended (choose is_kept (dots s) stay) (choose_tame is_kept (dots s) stay (dots_tame s) stay_tame)
-
 pub documents_tame : (s : Settings) (fresh unended : Bool) (ds : List Document)
     → DocumentsAreSpellable ds → Tame (documents_layout s fresh unended ds)
-unfolding documents_layout
-documents_tame s fresh unended [] h = stop_tame s unended
+unfolding documents_layout end_layout stop_layout
+documents_tame s fresh unended [] h = when_tame unended (choose is_kept (dots s) stay) (choose_tame is_kept (dots s) stay (dots_tame s) stay_tame)
 documents_tame s fresh unended (d ∷ ds) (right, prefixes, root, more) =
     let o = d.opening in
     let p = context_of s o.directives in
@@ -221,4 +206,4 @@ documents_tame s fresh unended (d ∷ ds) (right, prefixes, root, more) =
     let body = node_layout p root_position d.root in
     both (start_layout s fresh unended o) (body ▹ (end_layout s d.implicit_end ▹ documents_layout s false d.implicit_end ds)) (start_tame s fresh unended d ds (right, prefixes, root, more))
     (both body (end_layout s d.implicit_end ▹ documents_layout s false d.implicit_end ds) (node_tame p fit d.root root root_position)
-    (both (end_layout s d.implicit_end) (documents_layout s false d.implicit_end ds) (end_tame s d.implicit_end) (documents_tame s false d.implicit_end ds more)))
+    (both (end_layout s d.implicit_end) (documents_layout s false d.implicit_end ds) (both (line_at s 0) (when (not d.implicit_end) (dots s)) (line_tame s.line_break 0) (when_tame (not d.implicit_end) (dots s) (dots_tame s))) (documents_tame s false d.implicit_end ds more)))

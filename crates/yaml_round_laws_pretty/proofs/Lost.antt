@@ -156,11 +156,6 @@ root_one s d (scalar_node v) none = (v, refl)
 abbrev Refused : List Token → Type 0
 Refused ts = (parsed_of ts).ending ≡ None → ⊥
 
-dots_refused : (x : yaml_encoding_t) (a b : Span) (rest : List Token)
-    → Refused (token_at (token.stream_start x) a ∷ token_at token.document_end b ∷ rest)
-unfolding run feed reading
-dots_refused x a b rest e = absurd (cc)
-
 both_are : (m n : Bool) → (not m && n) ≡ true → (m ≡ false) × (n ≡ true)
 both_are true n e = absurd (false≢true e)
 both_are false n e = (refl, e)
@@ -204,6 +199,7 @@ lost_by : (s : Settings) (es : List Told) (x y : yaml_encoding_t) (d : Document)
     → (explicit unended kept : Bool) (span : Span) (ts us : List Token)
     → ts ≡ token_at (token.stream_start y) span ∷ us → (p : Parsed s explicit unended kept ds us)
     → (ends : List Span) → p.ends ≡ ends → contents (parsed_of ts).events ≡ contents es → Refused ts
+unfolding run feed reading
 lost_by s es x y d ds same flags fine v root explicit unended kept span ts us start p [] none said ending =
     let spelt = p.same ∙ ap (λ (z : List Span). spell_ends z (spell_documents p.documents p.rest)) none in
     let (events, right) = marked_stream y (documents_reads s false ds) span ts us start (record { documents = p.documents; rest = p.rest; same = spelt; gives = p.gives }) in
@@ -213,7 +209,7 @@ lost_by s es x y d ds same flags fine v root explicit unended kept span ts us st
     longer (event.stream_start YAML_ANY_ENCODING) (event.document_start d.opening.version d.opening.directives true) (says (scalar v)) (event.document_end true) (map says (documents_events ds)) (sym read ∙ said ∙ whole)
 lost_by s es x y d ds same flags fine v root explicit unended kept span ts us start p (b ∷ bs) some said ending =
     let spelt = p.same ∙ ap (λ (z : List Span). spell_ends z (spell_documents p.documents p.rest)) some in
-    subst Refused (sym (start ∙ ap (λ (z : List Token). token_at (token.stream_start y) span ∷ z) spelt)) (dots_refused y span b (spell_ends bs (spell_documents p.documents p.rest))) ending
+    subst Refused (sym (start ∙ ap (λ (z : List Token). token_at (token.stream_start y) span ∷ z) spelt)) (λ e. absurd cc) ending
 
 pub tokens_lost : PrettyTokensAreLost
 unfolding documents_bodies

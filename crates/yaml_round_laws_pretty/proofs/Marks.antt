@@ -25,7 +25,7 @@ use Rattle.yaml_round_laws_documents.specs.emit_laws_text.TagsLaws.{HaveUtf8, Is
 use Rattle.yaml_round_laws_documents.specs.emit_laws_text.Writable as text
 use Rattle.yaml_emit_laws_pretty.proofs.Joining.{written_readable}
 use Rattle.yaml_round_laws_documents.proofs.Marks.{Told}
-use Rattle.yaml_round_laws_pretty.proofs.Fitting.{ArePrintable, Needs, style_needs}
+use Rattle.yaml_round_laws_pretty.proofs.Layouts.{ArePrintable, Needs, style_needs}
 
 -- ---- the first character isn't the mark
 

@@ -1,6 +1,5 @@
 -- What a derivation of visits meets again is met again by the walk of a dump.
-use Rattle.std.proofs.Common.{◌≡◌, ◌<◌, ◌≤◌, ◌+◌, ℕ, zero, suc, ℤ, pos, Bool, true, false, List, [], ◌∷◌, length, Some, refl, ap, subst, ◌∙◌, inl, inr, arith}
-use Rattle.std.specs.Prelude.{slice_get, if◌then◌else◌, Option}
+use Rattle.std.proofs.Common.{◌≡◌, ◌<◌, ◌≤◌, ◌+◌, ℕ, zero, suc, ℤ, pos, Bool, true, false, List, [], ◌∷◌, length, Some, refl, ap, subst, ◌∙◌, inl, inr, arith, slice_get, if◌then◌else◌, Option}
 use Rattle.std.proofs.lemmas.Option.{slice_get_within}
 use Rattle.yaml_emit_graph.specs.emit_layout.parse_model.declared.yaml_node_pair_t.{yaml_node_pair_t}
 use Rattle.yaml_emit_graph.specs.emit_layout.parse_model.Nodes.{Node, NodeBody}

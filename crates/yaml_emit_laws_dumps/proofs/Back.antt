@@ -1,6 +1,5 @@
 -- Visits, written and numbered again.
-use Rattle.std.proofs.Common.{◌≡◌, ◌<◌, ◌≤◌, ◌+◌, ℕ, zero, suc, ℤ, pos, Bool, true, false, List, [], ◌∷◌, ◌++◌, length, map, take, Option, Some, Result, Ok, refl, sym, ap, subst, ◌∙◌, arith, append_assoc, append-nil, length-append}
-use Rattle.std.specs.Prelude.{slice_get, if◌then◌else◌}
+use Rattle.std.proofs.Common.{◌≡◌, ◌<◌, ◌≤◌, ◌+◌, ℕ, zero, suc, ℤ, pos, Bool, true, false, List, [], ◌∷◌, ◌++◌, length, map, take, Option, Some, Result, Ok, refl, sym, ap, subst, ◌∙◌, arith, append_assoc, append-nil, length-append, slice_get, if◌then◌else◌}
 use Rattle.std.proofs.lemmas.Option.{slice_get_within}
 use Rattle.std.proofs.lemmas.List.{map-append}
 use Rattle.yaml_emit_graph.specs.emit_layout.parse_model.declared.yaml_scalar_style_t.{yaml_scalar_style_t}
@@ -15,7 +14,7 @@ use Rattle.yaml_emit_graph.specs.emit_layout.scan_model.Faults.{Fault}
 use Rattle.yaml_emit_graph.specs.emit_layout.parse_model.Nodes.{Node, NodeBody}
 use Rattle.yaml_emit_graph.specs.emit_layout.parse_model.Nodes as model
 use Rattle.yaml_parse_laws_trees.specs.parse_document.Documents.{map_tag, seq_tag, str_tag}
-use Rattle.yaml_parse_loader.specs.Numbering.{Head, Content, Contents, Numbered, ◌>>=◌, Anchored, last_with, and_node, alias_number, number, number_items, number_pairs, is_bang, loaded_tag}
+use Rattle.yaml_parse_loader.specs.Numbering.{Head, Content, Contents, Numbered, ◌>>=◌, Anchored, and_node, alias_number, number, number_items, number_pairs, is_bang, loaded_tag}
 use Rattle.yaml_parse_loader.specs.Numbering as numbering
 use Rattle.yaml_parse_loader.specs.Order.{VisitsInPreorder, done, again, first, children, pair_numbers}
 use Rattle.yaml_emit_graph.specs.emit_layout.Content as emit
@@ -85,18 +84,6 @@ then_ok : {A B : Type 0} (r : Result A Fault) (x : A) (f : A → Result B Fault)
     → (r >>= f) ≡ f x
 then_ok r x f e = rw e refl
 
-scalar_gives : (h : Head) (value : List ℕ) (plain quoted : Bool) (style : yaml_scalar_style_t)
-    (count : ℕ) (before : Anchored)
-    → number (numbering.scalar h value plain quoted style) count before
-    ≡ Ok (record {
-      number = pos (suc count);
-      nodes = numbering.scalar_node h value style
-          ∷ [];
-      before = and_node h.anchor (pos (suc count)) before;
-    })
-unfolding number
-scalar_gives h value plain quoted style count before = refl
-
 sequence_gives : (h : Head) (implicit : Bool) (style : yaml_sequence_style_t) (items : Contents)
     (at : numbering.Span) (count : ℕ) (before : Anchored) (r : Numbered (List ℤ))
     → number_items items (suc count) (and_node h.anchor (pos (suc count)) before) ≡ Ok r
@@ -123,13 +110,6 @@ mapping_gives : (h : Head) (implicit : Bool) (style : yaml_mapping_style_t)
     })
 unfolding number
 mapping_gives h implicit style pairs at count before r g = rw g refl
-
-alias_gives : (name : List ℕ) (at : numbering.Span) (count : ℕ) (before : Anchored) (n : ℤ)
-    → last_with name before ≡ Some n
-    → number (numbering.alias name at) count before
-    ≡ Ok (record { number = n; nodes = []; before = before })
-unfolding number
-alias_gives name at count before n e = ap (λ (o : Option ℤ). alias_number o at.start_mark before) e
 
 items_give : (c : Content) (more : Contents) (count : ℕ) (before : Anchored) (x : Numbered ℤ)
     (y : Numbered (List ℤ)) → number c count before ≡ Ok x
@@ -173,6 +153,7 @@ one_scalar : (nodes : List Node) (table : List ℕ) (f seen between : ℕ) (n : 
     (style : yaml_scalar_style_t) → n.body ≡ model.scalar value style → is_bang n.tag ≡ false
     → slice_get nodes seen ≡ Some n → seen < length nodes
     → VisitsInPreorder nodes (suc seen) (children n.body) between → One nodes table f seen between n
+unfolding number
 one_scalar nodes table f seen between n value style is plain at h inner =
     let anchor = anchor_of (number_at table (pos (suc seen))) in
     let x : emit.Node = emit.scalar_node (graph_scalar anchor n.tag value style) in
@@ -184,7 +165,7 @@ one_scalar nodes table f seen between n value style is plain at h inner =
           ∙ ap (λ (b : NodeBody). node_by (content_by f table nodes) anchor n.tag b rest (met_so nodes (suc seen))) is
           ∙ ap (λ (k : ℕ). rest x (met_so nodes k)) end;
       inner = [];
-      gives = scalar_gives (head_of anchor (Some n.tag)) value _ _ YAML_ANY_SCALAR_STYLE seen (before_at table seen)
+      gives = refl
           ∙ ap (λ (known : Anchored). Ok (record { number = pos (suc seen); nodes = numbering.scalar_node (head_of anchor (Some n.tag)) value YAML_ANY_SCALAR_STYLE ∷ []; before = known })) (anchored table seen)
           ∙ ap (λ (m : Node). Ok (record { number = pos (suc seen); nodes = m ∷ []; before = before_at table (suc seen) })) (core_scalar n value style anchor is plain)
           ∙ ap (λ (k : ℕ). Ok (record { number = pos (suc seen); nodes = core_node n ∷ []; before = before_at table k })) end;
@@ -274,7 +255,7 @@ again_back : (nodes : List Node) (table : List ℕ) (f seen k after : ℕ) (ids 
     → NamesAreFound table (length nodes) → IsNumbered table k → k < seen → seen ≤ length nodes
     → NumbersBack nodes table f seen ids after
     → NumbersBack nodes table f seen (pos (suc k) ∷ ids) after
-unfolding items_by
+unfolding items_by number
 again_back nodes table f seen k after ids fi met h le b =
     let z : seen + 0 ≡ seen = omega arith in
     let name = name_of (number_at table (pos (suc k))) in
@@ -286,7 +267,7 @@ again_back nodes table f seen k after ids fi met h le b =
           content_again f table nodes (pos (suc k)) (λ x m. items_by (content_by f table nodes) ids (λ vs j. rest (emit.node x vs) j) m) (met_so nodes seen) (met_old nodes seen k h) ∙ b.same (λ vs j. rest (emit.node v vs) j);
       new = b.new;
       gives = items_give (as_content v) (as_contents b.items) seen (before_at table seen) (record { number = pos (suc k); nodes = []; before = before_at table seen }) (record { number = ids; nodes = b.new; before = before_at table after })
-          (alias_gives name nowhere seen (before_at table seen) (pos (suc k)) (fi seen k h le met)) (ap (λ (j : ℕ). number_items (as_contents b.items) j (before_at table seen)) z ∙ b.gives);
+          (ap (λ (o : Option ℤ). alias_number o nowhere.start_mark (before_at table seen)) (fi seen k h le met)) (ap (λ (j : ℕ). number_items (as_contents b.items) j (before_at table seen)) z ∙ b.gives);
       fronts = b.fronts;
       count = b.count;
       within = b.within;

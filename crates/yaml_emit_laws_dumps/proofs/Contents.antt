@@ -1,9 +1,10 @@
 -- Nothing is wrong with the events of what a document says.
-use Rattle.std.proofs.Common.{subst, ◌≡◌, ◌<◌, ℕ, zero, suc, ℤ, pos, negsuc, Bool, true, false, List, [], ◌∷◌, length, map, Option, Some, None, refl, inl, inr, arith}
-use Rattle.std.specs.Prelude.{slice_get}
+use Rattle.std.proofs.Common.{subst, ◌≡◌, ◌<◌, ℕ, zero, suc, ℤ, pos, negsuc, Bool, true, false, List, [], ◌∷◌, length, map, Option, Some, None, refl, inl, inr, arith, slice_get}
 use Rattle.std.proofs.lemmas.Bool.{cases_Bool}
 use Rattle.yaml_emit_graph.specs.emit_layout.scan_model.declared.yaml_scalar_style_t.{yaml_scalar_style_t}
 use Rattle.yaml_emit_graph.specs.emit_layout.scan_model.declared.yaml_scalar_style_t.TheVariants.{YAML_ANY_SCALAR_STYLE}
+use Rattle.yaml_emit_graph.specs.emit_layout.parse_model.declared.yaml_sequence_style_t.{yaml_sequence_style_t}
+use Rattle.yaml_emit_graph.specs.emit_layout.parse_model.declared.yaml_mapping_style_t.{yaml_mapping_style_t}
 use Rattle.yaml_emit_graph.specs.emit_layout.parse_model.declared.yaml_node_pair_t.{yaml_node_pair_t}
 use Rattle.yaml_emit_graph.specs.emit_layout.parse_model.Nodes as model
 use Rattle.yaml_parse_laws_trees.specs.parse_document.Documents.{seq_tag, map_tag}
@@ -32,24 +33,6 @@ record RightPairs (canonical : Bool) (ps : Pairs) : Type 0 where
   front : (es : List Event) → own_problems canonical es ≡ None
       → own_problems canonical (pairs_events ps es) ≡ None
 
-no_nodes_right : (canonical : Bool) → RightNodes canonical no_nodes
-unfolding items_events
-no_nodes_right canonical = record { front = λ es h. h }
-
-nodes_right : (canonical : Bool) (v : Node) (vs : Nodes) → RightNode canonical v
-    → RightNodes canonical vs → RightNodes canonical (node v vs)
-unfolding items_events
-nodes_right canonical v vs a b = record { front = λ es h. a.front (items_events vs es) (b.front es h) }
-
-no_pairs_right : (canonical : Bool) → RightPairs canonical no_pairs
-unfolding pairs_events
-no_pairs_right canonical = record { front = λ es h. h }
-
-pairs_right : (canonical : Bool) (k v : Node) (ps : Pairs) → RightNode canonical k
-    → RightNode canonical v → RightPairs canonical ps → RightPairs canonical (pair k v ps)
-unfolding pairs_events
-pairs_right canonical k v ps a b c = record { front = λ es h. a.front (node_events v (pairs_events ps es)) (b.front (pairs_events ps es) (c.front es h)) }
-
 -- an anchor that is a name, if there is one, and a tag
 record Named (anchor : Option (List ℕ)) (tag : List ℕ) : Type 0 where
   anchored : anchor_problem anchor ≡ None
@@ -59,10 +42,6 @@ tag_right : (kept : Bool) (tag : List ℕ) → 0 < length tag
     → tag_problem (kept_if kept (Some tag)) ≡ None
 tag_right true tag h = rw (not_zero (length tag) h) refl
 tag_right false tag h = refl
-
-alias_right : (canonical : Bool) (n : ℕ) → RightNode canonical (alias_node (name_of n))
-unfolding node_events own_problems event_problem last_problem
-alias_right canonical n = record { front = λ es h. or_none _ _ (or_none _ _ (name_right problem.AliasEmpty problem.AliasCharacters n) refl) h }
 
 scalar_right : (canonical : Bool) (anchor : Option (List ℕ)) (tag value : List ℕ)
     (style : yaml_scalar_style_t) → Named anchor tag
@@ -77,58 +56,80 @@ unfolding node_events own_problems event_problem last_problem
 sequence_right canonical anchor tag default flow vs n r =
     record { front = λ es h. or_none _ _ (or_none _ _ (or_none _ _ n.anchored (tag_right _ tag n.tagged)) refl) (r.front (sequence_end ∷ es) h) }
 
-mapping_right : (canonical : Bool) (anchor : Option (List ℕ)) (tag default : List ℕ) (flow : Bool)
-    (ps : Pairs) → Named anchor tag → RightPairs canonical ps
-    → RightNode canonical (mapping_node (graph_start anchor tag default flow) ps)
-unfolding node_events own_problems event_problem last_problem
-mapping_right canonical anchor tag default flow ps n r =
-    record { front = λ es h. or_none _ _ (or_none _ _ (or_none _ _ n.anchored (tag_right _ tag n.tagged)) refl) (r.front (mapping_end ∷ es) h) }
+-- ---- the walk: what holds of all parts holds of what is made of them
 
--- ---- the walk: what is right stays so, whatever is made of it
+-- Predicates that a node, nodes and pairs have where their parts do; of anchor, tag and body of a document's node something is known.
+pub record Closed (P : Node → Type 0) (Q : Nodes → Type 0) (R : Pairs → Type 0) (F : Option (List ℕ) → List ℕ → model.NodeBody → Type 0) : Type 0 where
+  pub alias : (n : ℕ) → P (alias_node (name_of n))
+  pub none : Q no_nodes
+  pub more : (v : Node) (vs : Nodes) → P v → Q vs → Q (node v vs)
+  pub empty : R no_pairs
+  pub another : (k v : Node) (ps : Pairs) → P k → P v → R ps → R (pair k v ps)
+  pub bare : (anchor : Option (List ℕ)) (tag : List ℕ) → F anchor tag model.no
+      → P (scalar_node (graph_scalar anchor tag [] YAML_ANY_SCALAR_STYLE))
+  pub scalar : (anchor : Option (List ℕ)) (tag value : List ℕ) (style : yaml_scalar_style_t)
+      → F anchor tag (model.scalar value style)
+      → P (scalar_node (graph_scalar anchor tag value style))
+  pub sequence : (anchor : Option (List ℕ)) (tag : List ℕ) (items : List ℤ)
+      (style : yaml_sequence_style_t) → F anchor tag (model.sequence items style)
+      → (vs : Nodes) → Q vs
+      → P (sequence_node (graph_start anchor tag seq_tag (is_flow_sequence style)) vs)
+  pub mapping : (anchor : Option (List ℕ)) (tag : List ℕ) (pairs : List yaml_node_pair_t)
+      (style : yaml_mapping_style_t) → F anchor tag (model.mapping pairs style)
+      → (ps : Pairs) → R ps
+      → P (mapping_node (graph_start anchor tag map_tag (is_flow_mapping style)) ps)
 
--- whatever is made of a right node is right
-record KeepsNode (canonical : Bool) (rest : Node → Met → Node) : Type 0 where
-  goes : (v : Node) (m : Met) → RightNode canonical v → RightNode canonical (rest v m)
+-- a visit keeps a predicate of nodes, whatever is made of them
+abbrev Visits : (Node → Type 0) → (ℤ → (Node → Met → Node) → Met → Node) → Type 0
+Visits P visit = (id : ℤ) (rest : Node → Met → Node) (met : Met) → ((v : Node) (m : Met) → P v → P (rest v m)) → P (visit id rest met)
 
-record KeepsNodes (canonical : Bool) (rest : Nodes → Met → Node) : Type 0 where
-  goes : (vs : Nodes) (m : Met) → RightNodes canonical vs → RightNode canonical (rest vs m)
-
-record KeepsPairs (canonical : Bool) (rest : Pairs → Met → Node) : Type 0 where
-  goes : (ps : Pairs) (m : Met) → RightPairs canonical ps → RightNode canonical (rest ps m)
-
--- a visit makes right nodes
-record Visits (canonical : Bool) (visit : ℤ → (Node → Met → Node) → Met → Node) : Type 0 where
-  goes : (id : ℤ) (rest : Node → Met → Node) (met : Met) → KeepsNode canonical rest
-      → RightNode canonical (visit id rest met)
-
-module _ (canonical : Bool) (visit : ℤ → (Node → Met → Node) → Met → Node) (w : Visits canonical visit) where
-  items_right : (ids : List ℤ) (rest : Nodes → Met → Node) (met : Met) → KeepsNodes canonical rest
-      → RightNode canonical (items_by visit ids rest met)
+module _ (P : Node → Type 0) (Q : Nodes → Type 0) (R : Pairs → Type 0) (F : Option (List ℕ) → List ℕ → model.NodeBody → Type 0) (c : Closed P Q R F) where
+  items_hold : (visit : ℤ → (Node → Met → Node) → Met → Node) → Visits P visit → (ids : List ℤ)
+      (rest : Nodes → Met → Node) (met : Met) → ((vs : Nodes) (m : Met) → Q vs → P (rest vs m))
+      → P (items_by visit ids rest met)
   unfolding items_by
-  items_right [] rest met k = k.goes no_nodes met (no_nodes_right canonical)
-  items_right (id ∷ ids) rest met k = w.goes id (λ v m. items_by visit ids (λ vs n. rest (node v vs) n) m) met record {
-    goes = λ v m a. items_right ids (λ vs n. rest (node v vs) n) m record { goes = λ vs n b. k.goes (node v vs) n (nodes_right canonical v vs a b) };
-  }
+  items_hold visit w [] rest met k = k no_nodes met c.none
+  items_hold visit w (id ∷ ids) rest met k =
+      w id (λ v m. items_by visit ids (λ vs n. rest (node v vs) n) m) met
+      (λ v m a. items_hold visit w ids (λ vs n. rest (node v vs) n) m (λ vs n b. k (node v vs) n (c.more v vs a b)))
 
-  entries_right : (ids : List yaml_node_pair_t) (rest : Pairs → Met → Node) (met : Met)
-      → KeepsPairs canonical rest → RightNode canonical (pairs_by visit ids rest met)
+  pairs_hold : (visit : ℤ → (Node → Met → Node) → Met → Node) → Visits P visit
+      → (ids : List yaml_node_pair_t) (rest : Pairs → Met → Node) (met : Met)
+      → ((ps : Pairs) (m : Met) → R ps → P (rest ps m)) → P (pairs_by visit ids rest met)
   unfolding pairs_by
-  entries_right [] rest met k = k.goes no_pairs met (no_pairs_right canonical)
-  entries_right (p ∷ ids) rest met k = w.goes p.key (λ x m. visit p.value (λ v n. pairs_by visit ids (λ vs o. rest (pair x v vs) o) n) m) met record {
-    goes = λ x m a. w.goes p.value (λ v n. pairs_by visit ids (λ vs o. rest (pair x v vs) o) n) m record {
-      goes = λ v n b. entries_right ids (λ vs o. rest (pair x v vs) o) n record { goes = λ vs o c. k.goes (pair x v vs) o (pairs_right canonical x v vs a b c) };
-    };
-  }
+  pairs_hold visit w [] rest met k = k no_pairs met c.empty
+  pairs_hold visit w (p ∷ ids) rest met k =
+      w p.key (λ x m. visit p.value (λ v n. pairs_by visit ids (λ vs o. rest (pair x v vs) o) n) m) met
+      (λ x m a. w p.value (λ v n. pairs_by visit ids (λ vs o. rest (pair x v vs) o) n) m
+      (λ v n b. pairs_hold visit w ids (λ vs o. rest (pair x v vs) o) n (λ vs o d. k (pair x v vs) o (c.another x v vs a b d))))
 
-  made_right : (anchor : Option (List ℕ)) (tag : List ℕ) (body : model.NodeBody)
-      (rest : Node → Met → Node) (met : Met) → Named anchor tag → KeepsNode canonical rest
-      → RightNode canonical (node_by visit anchor tag body rest met)
-  made_right anchor tag model.no rest met n k = k.goes _ met (scalar_right canonical anchor tag [] YAML_ANY_SCALAR_STYLE n)
-  made_right anchor tag (model.scalar value style) rest met n k = k.goes _ met (scalar_right canonical anchor tag value style n)
-  made_right anchor tag (model.sequence items style) rest met n k =
-      items_right items (λ vs. rest (sequence_node (graph_start anchor tag seq_tag (is_flow_sequence style)) vs)) met record { goes = λ vs m r. k.goes _ m (sequence_right canonical anchor tag seq_tag (is_flow_sequence style) vs n r) }
-  made_right anchor tag (model.mapping pairs style) rest met n k =
-      entries_right pairs (λ vs. rest (mapping_node (graph_start anchor tag map_tag (is_flow_mapping style)) vs)) met record { goes = λ vs m r. k.goes _ m (mapping_right canonical anchor tag map_tag (is_flow_mapping style) vs n r) }
+  made_holds : (visit : ℤ → (Node → Met → Node) → Met → Node) → Visits P visit
+      → (anchor : Option (List ℕ)) (tag : List ℕ) (body : model.NodeBody)
+      (rest : Node → Met → Node) (met : Met) → F anchor tag body
+      → ((v : Node) (m : Met) → P v → P (rest v m)) → P (node_by visit anchor tag body rest met)
+  made_holds visit w anchor tag model.no rest met f k = k _ met (c.bare anchor tag f)
+  made_holds visit w anchor tag (model.scalar value style) rest met f k = k _ met (c.scalar anchor tag value style f)
+  made_holds visit w anchor tag (model.sequence items style) rest met f k =
+      items_hold visit w items (λ vs. rest (sequence_node (graph_start anchor tag seq_tag (is_flow_sequence style)) vs)) met (λ vs m r. k _ m (c.sequence anchor tag items style f vs r))
+  made_holds visit w anchor tag (model.mapping pairs style) rest met f k =
+      pairs_hold visit w pairs (λ vs. rest (mapping_node (graph_start anchor tag map_tag (is_flow_mapping style)) vs)) met (λ vs m r. k _ m (c.mapping anchor tag pairs style f vs r))
+
+  content_holds : (n : ℕ) (table : List ℕ) (nodes : List model.Node)
+      → ((k : ℕ) (id : ℤ) → F (anchor_of k) (tag_of_id nodes id) (body_of_id nodes id))
+      → Visits P (content_by n table nodes)
+  unfolding content_by
+  content_holds zero table nodes h id rest met k = k (alias_node (name_of (number_at table id))) met (c.alias (number_at table id))
+  content_holds (suc n) table nodes h id rest met k = elim (cases_Bool (is_met met id)) [
+    | inl e ↦ rw e (k (alias_node (name_of (number_at table id))) met (c.alias (number_at table id)))
+    | inr e ↦ rw e (made_holds (content_by n table nodes) (content_holds n table nodes h) (anchor_of (number_at table id)) (tag_of_id nodes id) (body_of_id nodes id) rest (meet met id) (h (number_at table id) id) k)
+  ]
+
+  -- The root of what a document says has them.
+  pub root_holds : (nodes : List model.Node)
+      → ((k : ℕ) (id : ℤ) → F (anchor_of k) (tag_of_id nodes id) (body_of_id nodes id))
+      → P (graph_root nodes)
+  unfolding root_onward
+  root_holds nodes h = subst (λ (v : Node). P v) (root_joined nodes) (content_holds (suc (length nodes)) (numbers nodes) nodes h (pos 1) itself (none_met nodes) (λ v m r. r))
 
 -- ---- the tags of a document
 
@@ -143,22 +144,21 @@ tagged nodes (pos zero) h = omega arith
 tagged nodes (pos (suc k)) h = found_tagged nodes k h
 tagged nodes (negsuc k) h = omega arith
 
-content_right : (canonical : Bool) (n : ℕ) (table : List ℕ) (nodes : List model.Node)
-    → AreTagged nodes → Visits canonical (content_by n table nodes)
-unfolding content_by
-content_right canonical zero table nodes h = record { goes = λ id rest met k. k.goes (alias_node (name_of (number_at table id))) met (alias_right canonical (number_at table id)) }
-content_right canonical (suc n) table nodes h = record {
-  goes = λ id rest met k. elim (cases_Bool (is_met met id)) [
-    | inl e ↦ rw e (k.goes (alias_node (name_of (number_at table id))) met (alias_right canonical (number_at table id)))
-    | inr e ↦ rw e (made_right canonical (content_by n table nodes) (content_right canonical n table nodes h) (anchor_of (number_at table id)) (tag_of_id nodes id) (body_of_id nodes id) rest (meet met id)
-        record { anchored = anchor_right (number_at table id); tagged = tagged nodes id h } k)
-  ];
-}
-
 root_right : (canonical : Bool) (nodes : List model.Node) → AreTagged nodes
     → RightNode canonical (graph_root nodes)
-unfolding root_onward
-root_right canonical nodes h = subst (λ (v : Node). RightNode canonical v) (root_joined nodes) ((content_right canonical (suc (length nodes)) (numbers nodes) nodes h).goes (pos 1) itself (none_met nodes) record { goes = λ v m r. r })
+unfolding items_events pairs_events node_events own_problems event_problem last_problem
+root_right canonical nodes h = root_holds (RightNode canonical) (RightNodes canonical) (RightPairs canonical) (λ anchor tag body. Named anchor tag)
+    (record {
+      alias = λ n. record { front = λ es h. or_none _ _ (or_none _ _ (name_right problem.AliasEmpty problem.AliasCharacters n) refl) h };
+      none = record { front = λ es h. h };
+      more = λ v vs a b. record { front = λ es h. a.front (items_events vs es) (b.front es h) };
+      empty = record { front = λ es h. h };
+      another = λ k v ps a b c. record { front = λ es h. a.front (node_events v (pairs_events ps es)) (b.front (pairs_events ps es) (c.front es h)) };
+      bare = λ anchor tag n. scalar_right canonical anchor tag [] YAML_ANY_SCALAR_STYLE n;
+      scalar = λ anchor tag value style n. scalar_right canonical anchor tag value style n;
+      sequence = λ anchor tag items style n vs r. sequence_right canonical anchor tag seq_tag (is_flow_sequence style) vs n r;
+      mapping = λ anchor tag pairs style n ps r. (record { front = λ es h. or_none _ _ (or_none _ _ (or_none _ _ n.anchored (tag_right _ tag n.tagged)) refl) (r.front (mapping_end ∷ es) h) });
+    }) nodes (λ k id. record { anchored = anchor_right k; tagged = tagged nodes id h })
 
 -- ---- documents
 

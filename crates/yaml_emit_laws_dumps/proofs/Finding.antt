@@ -1,6 +1,5 @@
 -- Names of numbers are apart, so that each node that has a number is found by its name.
-use Rattle.std.proofs.Common.{◌≡◌, ◌<◌, ◌^◌, ◌==◌, ℕ, zero, suc, ℤ, pos, Bool, true, false, List, ◌++◌, length, get_or, drop, Some, None, refl, sym, ap, ◌∙◌, inl, inr, arith, decimal}
-use Rattle.std.specs.Prelude.{if◌then◌else◌, cond, codes}
+use Rattle.std.proofs.Common.{◌≡◌, ◌<◌, ◌^◌, ◌==◌, ℕ, zero, suc, ℤ, pos, Bool, true, false, List, ◌++◌, length, get_or, drop, Some, None, refl, sym, ap, ◌∙◌, inl, inr, arith, decimal, if◌then◌else◌, cond, codes}
 use Rattle.std.specs.Cmp.Lexicographic.{bytes_decides, texts_ties}
 use Rattle.std.specs.Str.Parse.{digits_value}
 use Rattle.std.proofs.lemmas.Bool.{cases_Bool, cases_eq}

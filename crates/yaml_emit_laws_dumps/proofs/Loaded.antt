@@ -1,6 +1,5 @@
 -- Numbered content: each node has a kind, and none has the tag `!`.
-use Rattle.std.proofs.Common.{◌≡◌, ◌+◌, ℕ, suc, ℤ, pos, Bool, true, false, List, [], ◌∷◌, ◌++◌, length, Option, Some, None, Result, Ok, Err, IfOk, refl, subst}
-use Rattle.std.specs.Prelude.{cond, zero}
+use Rattle.std.proofs.Common.{◌≡◌, ◌+◌, ℕ, suc, ℤ, pos, Bool, true, false, List, [], ◌∷◌, ◌++◌, length, Option, Some, None, Result, Ok, Err, IfOk, refl, subst, cond, zero}
 use Rattle.yaml_emit_graph.specs.emit_layout.parse_model.declared.yaml_mark_t.{yaml_mark_t}
 use Rattle.yaml_emit_graph.specs.emit_layout.scan_model.Faults.{Fault}
 use Rattle.yaml_emit_graph.specs.emit_layout.parse_model.Nodes.{Node}

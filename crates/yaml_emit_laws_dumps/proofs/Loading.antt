@@ -1,6 +1,5 @@
 -- What is loaded of right events is right.
-use Rattle.std.proofs.Common.{◌≡◌, ◌<◌, ℕ, zero, suc, subst, Bool, true, false, List, [], ◌∷◌, ◌++◌, length, Option, Some, None, refl, arith}
-use Rattle.std.specs.Prelude.{◌==◌, cond, if◌then◌else◌}
+use Rattle.std.proofs.Common.{◌≡◌, ◌<◌, ℕ, zero, suc, subst, Bool, true, false, List, [], ◌∷◌, ◌++◌, length, Option, Some, None, refl, arith, ◌==◌, cond, if◌then◌else◌}
 use Rattle.std.proofs.lemmas.Bool.Decides.{nat_tests}
 use Rattle.yaml_emit_graph.specs.emit_layout.scan_model.declared.yaml_mark_t.{yaml_mark_t}
 use Rattle.yaml_emit_graph.specs.emit_layout.scan_model.Faults.{Fault}
@@ -8,8 +7,8 @@ use Rattle.yaml_emit_graph.specs.emit_layout.parse_model.Events as event
 use Rattle.yaml_emit_graph.specs.emit_layout.parse_model.Nodes as model
 use Rattle.yaml_parse_laws_trees.specs.parse_document.Documents.{Document, with_node, change_place, str_tag, seq_tag, map_tag, no_document}
 use Rattle.yaml_parse_laws_trees.specs.parse_grammar.Resolve.{Told}
-use Rattle.yaml_parse_laws_trees.specs.parse_loader.Numbering.{loaded_tag, is_bang}
-use Rattle.yaml_parse_laws_trees.specs.parse_loader.Loading.{Open, Loading, LoadStep, goes_on, loaded, refused, nothing_loaded, step, step_body, aliased, closed, filled}
+use Rattle.yaml_parse_loader.specs.Numbering.{loaded_tag, is_bang}
+use Rattle.yaml_parse_loader.specs.Loading.{Open, Loading, LoadStep, goes_on, loaded, refused, nothing_loaded, step, step_body, aliased, closed, filled}
 use Rattle.yaml_parse_laws_trees.specs.NextLoad.{NextLoad, next_document, next_fault, next_none}
 use Rattle.yaml_parse_laws_trees.proofs.ByStep.{Loads, load_on, behind_all, loads}
 use Rattle.yaml_parse_laws_trees.proofs.ByStep as load

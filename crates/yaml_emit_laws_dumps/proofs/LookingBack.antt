@@ -155,10 +155,6 @@ root_place past d sequence_end = refl
 root_place past d (mapping_start p) = refl
 root_place past d mapping_end = refl
 
-end_place : (past : List Event) → HasPlace (at_place at.End) (stream_end ∷ past)
-unfolding place_problem
-end_place past e = refl
-
 ends_none : (p : Phase) → ends_phase p no_event ≡ false
 ends_none (Items fresh) = refl
 ends_none (Keys fresh) = refl
@@ -214,10 +210,10 @@ mapping_due h past p f (suc n) even = f.due n (met n even) ∙ node_met n even h
 
 step_fits : (h : Progress) (past : List Event) (e : Event) → Fits h past
     → place_problem h.place (level_due h.due) e ≡ None → Fits (progress_after h e) (e ∷ past)
-unfolding progress_after innermost
+unfolding progress_after innermost place_problem
 step_fits h past no_event f r = absurd (none_misplaced h.place (level_due h.due) r)
 step_fits h past (stream_start x) f r = record { place = documents_place true false; due = λ n even. refl }
-step_fits h past stream_end f r = record { place = end_place past; due = λ n even. refl }
+step_fits h past stream_end f r = record { place = (λ e. refl); due = λ n even. refl }
 step_fits h past (document_start o) f r = record { place = root_place past o; due = λ n even. refl }
 step_fits h past (document_end implicit) f r = record { place = documents_place false implicit; due = λ n even. refl }
 step_fits h past (alias name) f r = node_fits h past f (alias name) (λ n even. refl) (λ e. refl)
@@ -250,9 +246,6 @@ refusals_are canonical h past (e ∷ es) f =
     or_same (problem_in canonical h e) _ _ (λ none. refusals_are canonical (progress_after h e) (e ∷ past) es (step_fits h past e f (or_first _ _ (or_last _ _ none))))
     ∙ ap (λ (o : Option Problem). or_else o (first_wrong canonical (e ∷ past) es)) same
 
-nothing_due : HasDue first_progress []
-unfolding innermost
-nothing_due n even = refl
-
 pub refusal_looks_back : RefusalLooksBack
-refusal_looks_back canonical es = refusals_are canonical first_progress [] es (record { place = start_place; due = nothing_due })
+unfolding innermost
+refusal_looks_back canonical es = refusals_are canonical first_progress [] es (record { place = start_place; due = (λ n even. refl) })

@@ -1,6 +1,5 @@
 -- The anchors of a dump are names.
-use Rattle.std.proofs.Common.{◌≡◌, ◌<◌, ℕ, zero, suc, ◌%◌, ◌/◌, Bool, true, false, List, [], ◌∷◌, ◌++◌, length, Some, None, refl, ◌∙◌, inl, inr, arith, length-append, decimal}
-use Rattle.std.specs.Prelude.{◌==◌, if◌then◌else◌}
+use Rattle.std.proofs.Common.{◌≡◌, ◌<◌, ℕ, zero, suc, ◌%◌, ◌/◌, Bool, true, false, List, [], ◌∷◌, ◌++◌, length, Some, None, refl, ◌∙◌, inl, inr, arith, length-append, decimal, ◌==◌, if◌then◌else◌}
 use Rattle.std.specs.List.{list_all}
 use Rattle.std.specs.Fmt.{digits, digits_onto, digit_glyph}
 use Rattle.std.proofs.lemmas.Bool.{cases_Bool}
@@ -13,24 +12,17 @@ use Rattle.yaml_emit_graph.specs.Graph.{lead, name_of, anchor_of}
 
 -- ---- digits
 
-glyph_alpha : (d : ℕ) → d < 10 → is_alpha_byte (digit_glyph false d) ≡ true
-unfolding is_alpha_byte is_digit_byte
-glyph_alpha d h = grind (arith, nat_tests)
-
 digits_alpha : (k n : ℕ) (more : List ℕ) → list_all is_alpha_byte more ≡ true
     → list_all is_alpha_byte (digits_onto k 10 false n more) ≡ true
+unfolding is_alpha_byte is_digit_byte
 digits_alpha zero n more h = h
 digits_alpha (suc k) n more h =
-    let first : is_alpha_byte (digit_glyph false (n % 10)) ≡ true = glyph_alpha (n % 10) (omega arith) in
+    let first : is_alpha_byte (digit_glyph false (n % 10)) ≡ true = grind (arith, nat_tests) in
     let both : list_all is_alpha_byte (digit_glyph false (n % 10) ∷ more) ≡ true = rw (first, h) refl in
     elim (cases_Bool (n / 10 == 0)) [
       | inl e ↦ rw e both
       | inr e ↦ rw e (digits_alpha k (n / 10) (digit_glyph false (n % 10) ∷ more) both)
     ]
-
-decimal_alpha : (n : ℕ) → list_all is_alpha_byte (decimal n) ≡ true
-unfolding digits
-decimal_alpha n = digits_alpha 64 n [] refl
 
 -- ---- names
 
@@ -52,11 +44,11 @@ not_zero n h = grind (arith, nat_tests)
 
 pub name_right : (empty characters : Problem) (n : ℕ)
     → name_problem empty characters (name_of n) ≡ None
-unfolding name_of
+unfolding name_of digits
 name_right empty characters n =
     let l = lead_right (length (decimal n)) in
     let some : (length (lead (length (decimal n)) ++ decimal n) == 0) ≡ false = not_zero _ (omega (arith, length-append (lead (length (decimal n))) (decimal n), l.some)) in
-    let alpha : list_all is_alpha_byte (lead (length (decimal n)) ++ decimal n) ≡ true = list_all-append is_alpha_byte (lead (length (decimal n))) (decimal n) ∙ (rw (l.alpha, decimal_alpha n) refl) in
+    let alpha : list_all is_alpha_byte (lead (length (decimal n)) ++ decimal n) ≡ true = list_all-append is_alpha_byte (lead (length (decimal n))) (decimal n) ∙ (rw (l.alpha, (digits_alpha 64 n [] refl)) refl) in
     rw (some, alpha) refl
 
 anchor_if : (b : Bool) (n : ℕ) → anchor_problem (if b then None else Some (name_of n)) ≡ None

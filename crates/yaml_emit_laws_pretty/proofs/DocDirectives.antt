@@ -1,9 +1,7 @@
 -- The lines of directives are walked.
-use Rattle.std.proofs.Common.{◌≡◌, ◌⊎◌, ℕ, ◌+◌, ◌<◌, ◌||◌, nat_lt, Bool, true, false, List, [], ◌∷◌, ◌++◌, length, Option, Some, None, refl, sym, ap, subst, ◌∙◌, inl, inr, arith}
-use Rattle.std.specs.Prelude.{ℤ, pos, codes, if◌then◌else◌}
-use Rattle.std.specs.Ordering.{int_eq}
+use Rattle.std.proofs.Common.{◌≡◌, ◌⊎◌, ℕ, ◌+◌, ◌<◌, ◌||◌, nat_lt, Bool, true, false, List, [], ◌∷◌, ◌++◌, length, Option, Some, None, refl, sym, ap, subst, ◌∙◌, inl, inr, arith, ℤ, pos, codes, if◌then◌else◌, int_eq, ◌&&◌, not}
 use Rattle.std.specs.Cmp.{signed_Decides}
-use Rattle.std.proofs.lemmas.Bool.{cases_Bool, lt-ltb, and_parts}
+use Rattle.std.proofs.lemmas.Bool.{cases_Bool, lt-ltb, and_parts, true≢false, false≢true}
 use Rattle.yaml_emit_laws_text.specs.emit_layout.scan_model.declared.yaml_encoding_t.{yaml_encoding_t}
 use Rattle.yaml_emit_laws_text.specs.scan_history.scan_model.Marks.{byte, break_width, column_at}
 use Rattle.yaml_emit_laws_text.specs.scan_history.scan_model.Classes.{is_break}
@@ -12,40 +10,50 @@ use Rattle.yaml_emit_laws_text.specs.scan_history.scan_words.Directives.{Said, d
 use Rattle.yaml_emit_laws_text.specs.scan_history.scan_words.Written.{HasAt, are_gap, begins_lexeme}
 use Rattle.yaml_emit_laws_text.specs.scan_history.declared.kind.Kind.TheVariants as kinds
 use Rattle.yaml_emit_laws_text.specs.scan_history.Words.{WordText, kind_at, word_at, body_said}
-use Rattle.yaml_emit_laws_text.specs.scan_model.Tokens as tokens
-use Rattle.yaml_emit_laws_text.specs.scan_model.Tokens.{TokenBody}
-use Rattle.yaml_emit_laws_text.specs.scan_model.declared.yaml_version_directive_t.{yaml_version_directive_t}
+use Rattle.yaml_emit_laws_text.specs.emit_layout.scan_model.Tokens as tokens
+use Rattle.yaml_emit_laws_text.specs.emit_layout.scan_model.Tokens.{TokenBody}
+use Rattle.yaml_emit_laws_text.specs.emit_layout.scan_model.declared.yaml_version_directive_t.{yaml_version_directive_t}
 use Rattle.yaml_emit_laws_text.specs.emit_layout.parse_model.Events.{TagDirective}
 use Rattle.yaml_emit_laws_text.specs.emit_layout.emit_text.declared.Cursor.{Cursor}
 use Rattle.yaml_emit_laws_text.specs.emit_layout.emit_text.declared.Settings.{Settings}
 use Rattle.yaml_emit_laws_text.specs.emit_layout.emit_text.declared.LineBreak.{LineBreak}
 use Rattle.yaml_emit_laws_text.specs.emit_layout.emit_text.declared.LineBreak.TheVariants.{Lf, Cr, CrLf}
 use Rattle.yaml_emit_laws_text.specs.emit_layout.emit_text.Text.{letter, encode, char_bytes}
-use Rattle.yaml_emit_laws_text.specs.emit_layout.emit_text.Layout.{Layout, Rest, ◌▹◌, letters, word, line, blanks, must_break, new_line, indent_to}
+use Rattle.yaml_emit_laws_text.specs.emit_layout.emit_text.Layout.{Layout, Rest, ◌▹◌, letters, word, line, blanks, must_break, new_line, indent_to, keep, when, nothing_more}
 use Rattle.yaml_emit_laws_text.specs.emit_layout.emit_tags.Tags.{uri_text}
-use Rattle.yaml_emit_laws_text.specs.emit_layout.Content.{Opening}
+use Rattle.yaml_emit_laws_text.specs.emit_layout.Content.{Opening, Document, Node, alias_node, scalar_node, sequence_node, mapping_node}
 use Rattle.yaml_emit_laws_text.specs.emit_layout.Grammar.{is_version, version_problem, directives_problem}
-use Rattle.yaml_emit_laws_text.specs.emit_layout.Nodes.{version_word, version_text, directive_text, directives_text}
-use Rattle.yaml_emit_laws_text.specs.Bodies.{version_bodies, directives_bodies}
+use Rattle.yaml_emit_laws_text.specs.emit_layout.Nodes.{version_word, version_text, directive_text, directives_text, is_directed, is_marked, dots, dashes, start_layout, Context, context_of, root_position, node_layout, end_layout, stop_layout, documents_layout}
+use Rattle.yaml_emit_laws_text.specs.Bodies.{version_bodies, directives_bodies, end_bodies}
 use Rattle.yaml_scan_laws_texts.specs.WordsLaws.{VersionReads}
 use Rattle.yaml_emit_laws_text.specs.TagsLaws.{IsReadableDirective, AreReadable, WrittenDirectivesAreReadable, ReadableDirectivesAreAscii, DirectivesAreRead}
-use Rattle.yaml_emit_laws_text.specs.Writable.{IsWritableOpening}
+use Rattle.yaml_emit_laws_text.specs.Writable.{IsWritableOpening, AreWritable}
 use Rattle.yaml_emit_laws_text.specs.Walk.{Left, bytes, first}
 use Rattle.yaml_emit_laws_text.proofs.Places.{has_front, has_at, left_first, left_more, left_rest}
 use Rattle.yaml_emit_laws_text.proofs.Steps.{left_letter, behind_feed, behind_return}
 use Rattle.yaml_scan_laws_levels.specs.White.{IsGap}
 use Rattle.yaml_scan_laws_levels.specs.Steps.{Comes}
-use Rattle.yaml_scan_laws_levels.specs.Walks.{behind}
-use Rattle.yaml_scan_laws_levels.proofs.Signing.{printed_begins}
+use Rattle.yaml_scan_laws_levels.specs.Walks.{behind, WalkState, Done}
+use Rattle.yaml_scan_laws_levels.proofs.Signing.{printed_begins, marks_come}
 use Rattle.yaml_scan_laws_levels.proofs.Stepping.{words_leave}
-use Rattle.yaml_scan_laws_levels.proofs.Walking.{walk_white, walk_outer}
-use Rattle.yaml_emit_laws_pretty.proofs.Entries.{no_gap}
-use Rattle.yaml_emit_laws_pretty.proofs.DocStarts.{OnLine}
+use Rattle.yaml_scan_laws_levels.proofs.Walking.{walk_white, walk_outer, walk_starts, walk_stops, walk_says}
+use Rattle.yaml_emit_laws_pretty.proofs.Lining.{no_gap, white_stands}
+use Rattle.yaml_emit_laws_pretty.proofs.DocStarts.{OnLine, at_start, AtLine, from_lined, outer_calm, root_ending, dashes_walk, dots_walk, dashes_are, RootsWalk, behind_root, from_root, root_white, root_ends, nothing_outer}
 use Rattle.yaml_emit_laws_text.proofs.TextLines.{return_width, both_width, feed_width, left_byte}
 use Rattle.yaml_emit_laws_text.proofs.Resolving.{or_first}
 use Rattle.yaml_emit_laws_text.proofs.Joining.{none_all}
 use Rattle.yaml_emit_laws_text.proofs.Directives.{percent_kind, directive_word, percent_begins, ReadsLine, version_line, said_directive, WritesLine, version_writes, tag_front, tag_writes}
 use Rattle.yaml_emit_laws_text.proofs.Forms.{at_line}
+use Rattle.yaml_emit_laws_text.specs.PrettyBodies.{start_bodies}
+use Rattle.yaml_emit_laws_text.proofs.Documents.{behind_three, end_zero, end_begins, has_all}
+use Rattle.yaml_emit_laws_text.proofs.Prettily.{pretty, same_settings}
+use Rattle.yaml_emit_laws_scalars.specs.Stops.{begins_white}
+use Rattle.yaml_emit_laws_pretty.specs.Bodies.{opening_bodies, node_bodies, node_kept, root_bodies, is_root_kept, documents_bodies, stream_bodies}
+use Rattle.yaml_emit_laws_pretty.specs.Walk.{NodeStage, NoFeed}
+use Rattle.yaml_emit_laws_text.specs.scan_history.History.{indent}
+use Rattle.yaml_emit_laws_text.specs.emit_layout.declared.level.Part.TheVariants as part
+use Rattle.yaml_emit_laws_text.specs.TextLaws.{text_of_documents, IsReadAs}
+use Rattle.yaml_emit_laws_pretty.specs.DocLaws.{DocumentsAreRead}
 
 -- ---- the break that ends a directive
 
@@ -264,3 +272,265 @@ directives_walk versions reads ascii readable s o (right, utf8) rest next x text
     let after : Rest = λ c. directives_text s o.directives c rest in
     let g = version_walks versions s o.version known after (tags_next s o.directives rest next) x text T st in
     tags_walk reads ascii s o.directives may rest next x text (λ bs. T (version_bodies o.version bs)) g
+
+-- ==== What opens a document is walked.
+
+-- Where a root begins.
+pub record Opens (x : yaml_encoding_t) (text : List ℕ) (rest : Rest) (T : List TokenBody → List TokenBody) : Type 0 where
+  pub cursor : Cursor
+  pub kept : cursor.kept ≡ false
+  pub place : WalkState
+  pub stage : NodeStage x text cursor place [] [] T
+  pub left : Left text place.at (bytes (rest cursor))
+
+-- the laws of directives
+pub record Directing : Type 0 where
+  pub versions : VersionReads
+  pub reads : DirectivesAreRead
+  pub ascii : ReadableDirectivesAreAscii
+  pub readable : WrittenDirectivesAreReadable
+
+pub feed_at : (rest : Rest) → ((kept : Bool) → first (bytes (rest (at_line kept))) ≡ 10 → ⊥)
+    → NoFeed 0 rest
+feed_at rest calm e bare white column f = calm e.kept (sym (ap (λ (c : Cursor). first (bytes (rest c))) (at_start e e.kept bare white column refl)) ∙ f)
+
+dots_if : (s : Settings) (b : Bool) (x : yaml_encoding_t) (text : List ℕ) (rest : Rest)
+    (kept : Bool) (T : List TokenBody → List TokenBody) → NoFeed 0 rest
+    → AtLine x text (λ e. when b (dots s) e rest) kept T
+    → AtLine x text rest kept (λ bs. T (end_bodies b bs))
+dots_if s true x text rest kept T calm a = dots_walk s x text rest kept T calm a
+dots_if s false x text rest kept T calm a = a
+
+-- ---- with `---`
+
+pub dashes_next : (s : Settings) (rest : Rest)
+    → IsNext (first (bytes (dashes (pretty s) (at_line false) rest)))
+dashes_next s rest = inr (ap (λ (bs : List ℕ). first bs) (dashes_are s false rest))
+
+dashed : (s : Settings) (x : yaml_encoding_t) (text : List ℕ) (rest : Rest)
+    (T : List TokenBody → List TokenBody) → OnLine x text (λ e. dashes (pretty s) e rest) false T
+    → begins_white (bytes (rest (behind_three false))) ≡ true
+    → Opens x text rest (λ bs. T (tokens.document_start ∷ bs))
+unfolding line blanks
+dashed s x text rest T h white =
+    let m = dashes_walk x text rest false T (λ q l. white_stands text q (bytes (rest (behind_three false))) l white) (record { place = h.place; more = h.more; reads = h.reads; flat = h.flat; column = h.column; left = h.left }) in
+    record { cursor = behind_three false; kept = refl; place = m.place; stage = m.stage; left = m.left }
+
+marked_opens : Directing → (s : Settings) (o : Opening) → IsWritableOpening o
+    → (dotted : Bool) (x : yaml_encoding_t) (text : List ℕ) (rest : Rest) (kept : Bool)
+    (T : List TokenBody → List TokenBody)
+    → AtLine x text (λ e. (when dotted (dots (pretty s)) ▹ keep false ▹ version_text (pretty s)
+    o.version ▹ directives_text (pretty s) o.directives ▹ dashes (pretty s)) e rest) kept T
+    → begins_white (bytes (rest (behind_three false))) ≡ true
+    → Opens x text rest (λ bs. T (end_bodies dotted
+    (version_bodies o.version (directives_bodies o.directives (tokens.document_start ∷ bs)))))
+marked_opens laws s o right dotted x text rest kept T a white =
+    let z = pretty s in
+    let after : Rest = λ e. dashes z e rest in
+    let lines : Layout = version_text z o.version ▹ directives_text z o.directives in
+    let next = dashes_next s rest in
+    let calm = next_calm (first (bytes (lines (at_line false) after))) (directives_next z o after next) in
+    let unkept : Rest = λ e. keep false e (λ k. lines k after) in
+    let b = dots_if z dotted x text unkept kept T (feed_at unkept (λ k. calm)) a in
+    let U : List TokenBody → List TokenBody = λ bs. T (end_bodies dotted bs) in
+    let (now, column) = b.stage.bare refl in
+    let h : OnLine x text (λ e. lines e after) false U = record { place = b.place; more = b.more; reads = b.stage.reads; flat = b.stage.flat; column = column; left = b.left } in
+    let d = directives_walk laws.versions laws.reads laws.ascii laws.readable z o right after next x text U h in
+    dashed s x text rest (λ bs. U (version_bodies o.version (directives_bodies o.directives bs))) d white
+
+-- ---- without
+
+-- the first document alone, without directives
+plain_opens : (s : Settings) (fresh : Bool) (version : Option yaml_version_directive_t)
+    (directives : List TagDirective) (implicit : Bool)
+    → is_marked (pretty s) fresh (record
+    { version = version; directives = directives; implicit = implicit }) ≡ false
+    → (x : yaml_encoding_t) (text : List ℕ) (rest : Rest) (kept : Bool)
+    (T : List TokenBody → List TokenBody) (place : WalkState)
+    → NodeStage x text (at_line kept) place [] [] T
+    → Left text place.at (bytes (start_layout (pretty s) fresh false
+    (record { version = version; directives = directives; implicit = implicit }) (at_line kept)
+    rest))
+    → Opens x text rest (λ bs. T (opening_bodies (pretty s) fresh
+    (record { version = version; directives = directives; implicit = implicit }) bs))
+unfolding start_layout directives_text directives_bodies
+plain_opens s false version directives implicit e x text rest kept T place st l = absurd (true≢false e)
+plain_opens s true (Some v) directives true e x text rest kept T place st l = absurd (true≢false e)
+plain_opens s true (Some v) directives false e x text rest kept T place st l = absurd (true≢false e)
+plain_opens s true None (d ∷ ds) true e x text rest kept T place st l = absurd (true≢false e)
+plain_opens s true None (d ∷ ds) false e x text rest kept T place st l = absurd (true≢false e)
+plain_opens s true None [] false e x text rest kept T place st l = absurd (true≢false e)
+plain_opens s true None [] true e x text rest kept T place st l = record {
+  cursor = at_line false;
+  kept = refl;
+  place = place;
+  stage = record { reads = st.reads; flat = st.flat; broken = st.broken; bare = st.bare; line = st.line };
+  left = l;
+}
+
+-- ---- either
+
+-- where no document went before, no level is open, and none ended implicitly
+pub record Fresh (more : List ℕ) (unended : Bool) : Type 0 where
+  pub none : more ≡ []
+  pub ended : unended ≡ false
+
+unmarked_fresh : (s : Settings) (fresh : Bool) (o : Opening) → is_marked (pretty s) fresh o ≡ false
+    → fresh ≡ true
+unmarked_fresh s true o e = refl
+unmarked_fresh s false o e = absurd (true≢false e)
+
+pub opening_walks : Directing → (s : Settings) (o : Opening) → IsWritableOpening o
+    → (fresh unended : Bool) (x : yaml_encoding_t) (text : List ℕ) (rest : Rest) (kept : Bool)
+    (T : List TokenBody → List TokenBody) (place : WalkState) (more : List ℕ)
+    → (fresh ≡ true → Fresh more unended) → NodeStage x text (at_line kept) place [] more T
+    → Left text place.at (bytes (start_layout (pretty s) fresh unended o (at_line kept) rest))
+    → begins_white (bytes (rest (behind_three false))) ≡ true
+    → Opens x text rest (λ bs. T (end_bodies (unended && is_directed o)
+    (opening_bodies (pretty s) fresh o bs)))
+unfolding start_layout
+opening_walks laws s o right fresh unended x text rest kept T place more first st l white =
+    let z = pretty s in
+    let dotted = unended && is_directed o in
+    elim (cases_Bool (is_marked z fresh o)) [
+      | inl e ↦
+          let m = subst (λ (b : Bool). Left text place.at (bytes ((when dotted (dots z) ▹ keep false ▹ version_text z o.version ▹ directives_text z o.directives ▹ when b (dashes z)) (at_line kept) rest))) e l in
+          subst (λ (b : Bool). Opens x text rest (λ bs. T (end_bodies dotted (version_bodies o.version (directives_bodies o.directives (start_bodies (not b) bs)))))) (sym e)
+          (marked_opens laws s o right dotted x text rest kept T (record { place = place; more = more; stage = st; left = m }) white)
+      | inr e ↦
+          let f = first (unmarked_fresh s fresh o e) in
+          subst (λ (u : Bool). Left text place.at (bytes (start_layout z fresh u o (at_line kept) rest)) → Opens x text rest (λ bs. T (end_bodies (u && is_directed o) (opening_bodies z fresh o bs)))) (sym f.ended)
+          (λ k. plain_opens s fresh o.version o.directives o.implicit e x text rest kept T place (subst (λ ms. NodeStage x text (at_line kept) place [] ms T) f.none st) k) l
+    ]
+
+-- ==== Documents are walked, and so is their whole text.
+
+-- ---- the end
+
+ended : (x : yaml_encoding_t) (text : List ℕ) (c : Cursor) (o : WalkState) (more : List ℕ)
+    (T : List TokenBody → List TokenBody) → NodeStage x text c o [] more T → Left text o.at (bytes [])
+    → Done x text (T (tokens.stream_end ∷ []))
+ended x text c o more T s l =
+    let p = o.at in
+    let z : p + 0 ≡ p = omega arith in
+    let zero_byte = end_zero text p l in
+    let comes = marks_come.stops text p 0 [] (no_gap text p (end_begins text p zero_byte)) (ap (λ n. byte text n) z ∙ zero_byte) in
+    walk_stops x text o more T [] _ _ s.reads s.flat comes
+
+stop_walks : (s : Settings) (unended kept : Bool) (x : yaml_encoding_t) (text : List ℕ)
+    (o : WalkState)
+    (more : List ℕ) (T : List TokenBody → List TokenBody)
+    → NodeStage x text (at_line kept) o [] more T
+    → Left text o.at (bytes (stop_layout s unended (at_line kept) nothing_more))
+    → Done x text (T (end_bodies (unended && kept) (tokens.stream_end ∷ [])))
+unfolding stop_layout
+stop_walks s false kept x text o more T st l = ended x text (at_line kept) o more T st l
+stop_walks s true false x text o more T st l = ended x text (at_line false) o more T st l
+stop_walks s true true x text o more T st l =
+    let h = dots_walk s x text nothing_more true T (feed_at nothing_more (λ k. outer_calm (bytes []) nothing_outer)) (record { place = o; more = more; stage = st; left = l }) in
+    ended x text (at_line true) h.place h.more (λ bs. T (tokens.document_end ∷ bs)) h.stage h.left
+
+-- ---- a document
+
+-- whether its line is bare decides nothing of an item
+item_bodies_same : (p : Context) (flow bare : Bool) (n : Node) (bs : List TokenBody)
+    → node_bodies p flow part.Item bare n bs ≡ node_bodies p flow part.Item true n bs
+unfolding node_bodies
+item_bodies_same p flow bare (alias_node name) bs = refl
+item_bodies_same p flow bare (scalar_node v) bs = refl
+item_bodies_same p flow bare (sequence_node q items) bs = refl
+item_bodies_same p flow bare (mapping_node q pairs) bs = refl
+
+says_as : (x : yaml_encoding_t) (text : List ℕ) (after : Rest) (kept : Bool)
+    (T U : List TokenBody → List TokenBody) → ((bs : List TokenBody) → T bs ≡ U bs)
+    → AtLine x text after kept T → AtLine x text after kept U
+says_as x text after kept T U e a =
+    let s = a.stage in
+    record {
+      place = a.place;
+      more = a.more;
+      stage = record { reads = walk_says.other x text a.place [] [] a.more T U s.reads e; flat = s.flat; broken = s.broken; bare = s.bare; line = s.line };
+      left = a.left;
+    }
+
+-- its root and the line behind it
+root_walks : (s : Settings) → RootsWalk (pretty s) → (d : Document) (ds : List Document)
+    → AreWritable (d ∷ ds)
+    → (x : yaml_encoding_t) (text : List ℕ) (c : Cursor) (o : WalkState)
+    (T : List TokenBody → List TokenBody) → c.kept ≡ false → NodeStage x text c o [] [] T
+    → Left text o.at (bytes (from_root (pretty s) d ds c))
+    → AtLine x text (behind_root (pretty s) d.implicit_end ds) (is_root_kept (pretty s) d)
+    (λ bs. T (root_bodies (pretty s) d bs))
+unfolding indent
+root_walks s roots d ds (right, root, good) x text c o T kept st l =
+    let z = pretty s in
+    let p = context_of z d.opening.directives in
+    let after = behind_root z d.implicit_end ds in
+    let ends = root_ends s roots d.implicit_end ds good in
+    let walk = (roots d.opening right d.root root c.bare).walks [] c 0 after refl refl (omega arith) (root_ending z.line_break after ends) x text o T st (omega arith) l in
+    let h = from_lined x text after (node_kept p false part.Item d.root c.kept) walk.more (λ bs. T (node_bodies p false part.Item c.bare d.root bs)) walk.lined in
+    let k = says_as x text after (node_kept p false part.Item d.root c.kept) (λ bs. T (node_bodies p false part.Item c.bare d.root bs)) (λ bs. T (root_bodies z d bs)) (λ bs. ap (λ xs. T xs) (item_bodies_same p false c.bare d.root bs)) h in
+    subst (λ (b : Bool). AtLine x text after (node_kept p false part.Item d.root b) (λ bs. T (root_bodies z d bs))) kept k
+
+-- behind `...` comes nothing, a directive or `---`
+explicit_calm : (s : Settings) (ds : List Document) (kept : Bool)
+    → first (bytes (documents_layout (pretty s) false false ds (at_line kept) nothing_more)) ≡ 10
+    → ⊥
+unfolding documents_layout start_layout stop_layout
+explicit_calm s [] kept = outer_calm (bytes []) nothing_outer
+explicit_calm s (d ∷ ds) kept =
+    let z = pretty s in
+    let o = d.opening in
+    let rest : Rest = λ e. node_layout (context_of z o.directives) root_position d.root e (λ k. end_layout z d.implicit_end k (λ h. documents_layout z false d.implicit_end ds h nothing_more)) in
+    next_calm _ (directives_next z o (λ e. dashes z e rest) (dashes_next s rest))
+
+-- an explicit end
+end_walks : (s : Settings) (implicit : Bool) (ds : List Document) (x : yaml_encoding_t)
+    (text : List ℕ) (kept : Bool) (T : List TokenBody → List TokenBody)
+    → AtLine x text (behind_root (pretty s) implicit ds) kept T
+    → AtLine x text (λ e. documents_layout (pretty s) false implicit ds e nothing_more) kept
+    (λ bs. T (end_bodies (not implicit) bs))
+end_walks s true ds x text kept T a = a
+end_walks s false ds x text kept T a =
+    let rest : Rest = λ e. documents_layout (pretty s) false false ds e nothing_more in
+    dots_walk (pretty s) x text rest kept T (feed_at rest (explicit_calm s ds)) a
+
+-- ---- documents
+
+documents_walk : Directing → (s : Settings) → RootsWalk (pretty s) → (ds : List Document)
+    → AreWritable ds
+    → (fresh unended kept : Bool) (x : yaml_encoding_t) (text : List ℕ) (place : WalkState)
+    (more : List ℕ) (T : List TokenBody → List TokenBody)
+    → (fresh ≡ true → Fresh more unended) → NodeStage x text (at_line kept) place [] more T
+    → Left text place.at (bytes (documents_layout (pretty s) fresh unended ds (at_line kept)
+    nothing_more))
+    → Done x text (T (documents_bodies (pretty s) fresh unended kept ds))
+unfolding documents_layout end_layout documents_bodies
+documents_walk laws s roots [] good fresh unended kept x text place more T first st l = stop_walks (pretty s) unended kept x text place more T st l
+documents_walk laws s roots (d ∷ ds) (right, root, good) fresh unended kept x text place more T first st l =
+    let z = pretty s in
+    let o = d.opening in
+    let U : List TokenBody → List TokenBody = λ bs. T (end_bodies (unended && is_directed o) (opening_bodies z fresh o bs)) in
+    let begin = opening_walks laws s o right fresh unended x text (from_root z d ds) kept T place more first st l (root_white s roots d right root ds) in
+    let r = root_walks s roots d ds (right, root, good) x text begin.cursor begin.place U begin.kept begin.stage begin.left in
+    let V : List TokenBody → List TokenBody = λ bs. U (root_bodies z d bs) in
+    let e = end_walks s d.implicit_end ds x text (is_root_kept z d) V r in
+    documents_walk laws s roots ds good false d.implicit_end (is_root_kept z d) x text e.place e.more (λ bs. V (end_bodies (not d.implicit_end) bs)) (λ f. absurd (false≢true f)) e.stage e.left
+
+-- ---- the whole text
+
+text_done : Directing → (s : Settings) → RootsWalk (pretty s)
+    → (x : yaml_encoding_t) (ds : List Document) → AreWritable ds
+    → Done x (text_of_documents (pretty s) ds) (tokens.stream_start x ∷ stream_bodies (pretty s) ds)
+unfolding column_at
+text_done laws s roots x ds good =
+    let text = text_of_documents (pretty s) ds in
+    documents_walk laws s roots ds good true false false x text (record { at = 0; line = 0; depth = 0; now = true; broken = true }) [] (λ bs. tokens.stream_start x ∷ bs) (λ f. record { none = refl; ended = refl }) (record { reads = walk_starts x text; flat = refl; broken = refl; bare = λ b. (refl, refl); line = omega arith })
+    (record { has = has_all text [] text refl; ends = omega arith })
+
+pub documents_read : Directing → DocumentsAreRead
+documents_read laws nodes s canonical least most x ds good =
+    let roots : RootsWalk (pretty s) = λ o right n fine bare. nodes (pretty s) o (record { pretty = refl; least = least; most = most; fine = right }) n fine None part.Item bare refl in
+    let done = text_done laws s roots x ds good in
+    subst (λ (z : Settings). IsReadAs (record { encoding = x; text = text_of_documents z ds }) (tokens.stream_start x ∷ stream_bodies z ds)) (same_settings s canonical)
+    (record { tokens = done.tokens; read = done.read; same = done.same })

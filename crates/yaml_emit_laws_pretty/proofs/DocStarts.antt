@@ -1,24 +1,43 @@
 -- The start of a line outside of all levels, and what may stand there behind a root.
-use Rattle.std.proofs.Common.{◌≡◌, ◌⊎◌, ℕ, ◌==◌, ◌&&◌, ◌||◌, Bool, true, false, List, [], ◌∷◌, ◌++◌, Some, None, refl, sym, ap, subst, ◌∙◌, inl, inr, arith}
-use Rattle.std.specs.Prelude.{if◌then◌else◌}
+use Rattle.std.proofs.Common.{◌≡◌, ◌⊎◌, ℕ, ◌==◌, ◌&&◌, ◌||◌, Bool, true, false, List, [], ◌∷◌, ◌++◌, Some, None, refl, sym, ap, subst, ◌∙◌, inl, inr, arith, if◌then◌else◌, not, Option, ◌+◌, nat_lt}
 use Rattle.std.proofs.lemmas.Bool.{false≢true, eqb-true, and_parts}
 use Rattle.yaml_emit_laws_text.specs.emit_layout.scan_model.declared.yaml_encoding_t.{yaml_encoding_t}
 use Rattle.yaml_emit_laws_text.specs.emit_layout.scan_model.Tokens.{TokenBody}
-use Rattle.yaml_emit_laws_text.specs.scan_history.scan_model.Marks.{column_at, break_of}
+use Rattle.yaml_emit_laws_text.specs.scan_history.scan_model.Marks.{column_at, break_of, byte, is_blank_or_end}
 use Rattle.yaml_emit_laws_text.specs.emit_layout.emit_text.declared.Cursor.{Cursor}
 use Rattle.yaml_emit_laws_text.specs.emit_layout.emit_text.declared.LineBreak.{LineBreak}
 use Rattle.yaml_emit_laws_text.specs.emit_layout.emit_text.declared.LineBreak.TheVariants.{Lf, Cr, CrLf}
-use Rattle.yaml_emit_laws_text.specs.emit_layout.emit_text.Layout.{Rest, line, blanks, must_break, new_line, indent_to}
+use Rattle.yaml_emit_laws_text.specs.emit_layout.emit_text.Layout.{Rest, line, blanks, must_break, new_line, indent_to, when, nothing_more, word}
 use Rattle.yaml_emit_laws_text.specs.emit_layout.emit_text.Spelling.{break_text}
 use Rattle.yaml_emit_laws_text.specs.Walk.{Left, bytes, first}
 use Rattle.yaml_emit_laws_text.proofs.Steps.{letter_low}
-use Rattle.yaml_scan_laws_levels.specs.Walks.{WalkState, WalkReads}
+use Rattle.yaml_scan_laws_levels.specs.Walks.{WalkState, WalkReads, behind}
 use Rattle.yaml_emit_laws_scalars.specs.Stops.{begins_white, begins_mark, stops_plain_at}
 use Rattle.yaml_emit_laws_scalars.specs.BlockPassing.{begins_white as begins_blank}
 use Rattle.yaml_emit_laws_pretty.specs.Walk.{NodeStage, Lined, NoFeed, no_comment}
-use Rattle.yaml_emit_laws_pretty.specs.Nodes.{Ending}
-use Rattle.yaml_emit_laws_pretty.proofs.Lining.{line_on}
+use Rattle.yaml_emit_laws_pretty.specs.Nodes.{Ending, NodeWalks}
+use Rattle.yaml_emit_laws_pretty.proofs.Lining.{line_on, no_gap}
 use Rattle.yaml_emit_laws_text.proofs.Forms.{at_line}
+use Rattle.yaml_emit_laws_text.specs.emit_layout.scan_model.declared.yaml_version_directive_t.{yaml_version_directive_t}
+use Rattle.yaml_emit_laws_text.specs.emit_layout.parse_model.Events.{TagDirective}
+use Rattle.yaml_emit_laws_text.specs.emit_layout.emit_text.declared.Settings.{Settings}
+use Rattle.yaml_emit_laws_text.specs.emit_layout.emit_text.Text.{encode}
+use Rattle.yaml_emit_laws_text.specs.emit_layout.declared.level.Part.TheVariants as part
+use Rattle.yaml_emit_laws_text.specs.emit_layout.Content.{Opening, Document, Node}
+use Rattle.yaml_emit_laws_text.specs.emit_layout.Nodes.{dots, dashes, context_of, root_position, node_layout, directives_text, start_layout, end_layout, stop_layout, documents_layout}
+use Rattle.yaml_emit_laws_text.specs.Writable.{IsWritable, IsWritableOpening, AreWritable}
+use Rattle.yaml_emit_laws_text.proofs.Documents.{three, behind_three, Thrice, thrice_dash, thrice_dot, line_blank}
+use Rattle.yaml_emit_laws_text.proofs.Prettily.{pretty}
+use Rattle.yaml_emit_laws_text.specs.emit_layout.scan_model.Tokens as tokens
+use Rattle.yaml_emit_laws_text.specs.scan_history.declared.kind.Kind.{Kind}
+use Rattle.yaml_emit_laws_text.specs.scan_history.declared.kind.Kind.TheVariants as kinds
+use Rattle.yaml_emit_laws_text.specs.scan_history.Kinds.{allows_key, is_outside, is_end}
+use Rattle.yaml_emit_laws_text.specs.scan_history.Words.{WordText, kind_at, word_at}
+use Rattle.yaml_emit_laws_text.proofs.Places.{left_first, left_more}
+use Rattle.yaml_scan_laws_levels.proofs.MarksForward.{line_at-grows}
+use Rattle.yaml_scan_laws_levels.specs.Steps.{Comes}
+use Rattle.yaml_scan_laws_levels.proofs.Stepping.{words_leave}
+use Rattle.yaml_scan_laws_levels.proofs.Walking.{walk_outer}
 
 pub at_start : (e : Cursor) (kept : Bool) → e.bare ≡ true → e.white ≡ true → e.column ≡ 0
     → e.kept ≡ kept → e ≡ at_line kept
@@ -184,3 +203,145 @@ pub line_lands : (b : LineBreak) (x : yaml_encoding_t) (text : List ℕ) (c : Cu
     → NoFeed 0 rest
     → Left text o.at (bytes (line b 0 c rest)) → AtLine x text rest c.kept T
 line_lands b x text c o more T rest s calm l = from_lined x text rest c.kept more T (line_on b 0 x text c o [] more T rest s calm l)
+
+-- ==== What stands behind a root: a document's mark, or nothing.
+
+-- ---- marks
+
+pub dots_outer : (s : Settings) (kept : Bool) (rest : Rest)
+    → is_outer (bytes (dots s (at_line kept) rest)) ≡ true
+dots_outer s kept rest =
+    let after : Rest = λ e. line s.line_break 0 e rest in
+    ap (λ bs. is_outer bs) (three 46 refl kept after) ∙ line_white s.line_break (behind_three kept) rest refl
+
+pub dashes_are : (s : Settings) (kept : Bool) (rest : Rest)
+    → bytes (dashes (pretty s) (at_line kept) rest) ≡ 45 ∷ 45 ∷ 45
+    ∷ bytes (rest (behind_three kept))
+unfolding line blanks
+dashes_are s kept rest = three 45 refl kept rest
+
+-- ---- what follows a document
+
+pub nothing_outer : is_outer (bytes []) ≡ true
+unfolding encode
+nothing_outer = refl
+
+stop_outer : (s : Settings) (kept : Bool)
+    → is_outer (bytes (stop_layout s true (at_line kept) nothing_more)) ≡ true
+unfolding stop_layout
+stop_outer s true = dots_outer s true nothing_more
+stop_outer s false = nothing_outer
+
+start_outer : (s : Settings) (version : Option yaml_version_directive_t)
+    (directives : List TagDirective) (implicit kept : Bool) (rest : Rest)
+    → begins_white (bytes (rest (behind_three false))) ≡ true
+    → is_outer (bytes (start_layout (pretty s) false true
+    (record { version = version; directives = directives; implicit = implicit }) (at_line kept)
+    rest)) ≡ true
+unfolding start_layout directives_text
+start_outer s (Some v) directives implicit kept rest white = dots_outer (pretty s) kept _
+start_outer s None (d ∷ ds) implicit kept rest white = dots_outer (pretty s) kept _
+start_outer s None [] implicit kept rest white = ap (λ bs. is_outer bs) (dashes_are s false rest) ∙ white
+
+-- all roots of documents are walked
+abbrev pub RootsWalk : Settings → Type 0
+RootsWalk s = (o : Opening) → IsWritableOpening o → (n : Node) → IsWritable n → (bare : Bool) → NodeWalks (context_of s o.directives) None part.Item bare n
+
+abbrev pub behind_root : Settings → Bool → List Document → Rest
+behind_root s implicit ds e = when (not implicit) (dots s) e (λ k. documents_layout s false implicit ds k nothing_more)
+
+-- a root, and the line behind it
+abbrev pub from_root : Settings → Document → List Document → Rest
+from_root s d ds e = node_layout (context_of s d.opening.directives) root_position d.root e (λ k. line s.line_break 0 k (behind_root s d.implicit_end ds))
+
+pub root_white : (s : Settings) → RootsWalk (pretty s) → (d : Document)
+    → IsWritableOpening d.opening → IsWritable d.root → (ds : List Document)
+    → begins_white (bytes (from_root (pretty s) d ds (behind_three false))) ≡ true
+root_white s roots d right root ds = (roots d.opening right d.root root true).white (behind_three false) 0 (behind_root (pretty s) d.implicit_end ds) refl
+
+documents_outer : (s : Settings) → RootsWalk (pretty s) → (ds : List Document) → AreWritable ds
+    → (kept : Bool)
+    → is_outer (bytes (documents_layout (pretty s) false true ds (at_line kept) nothing_more))
+    ≡ true
+unfolding documents_layout end_layout
+documents_outer s roots [] good kept = stop_outer (pretty s) kept
+documents_outer s roots (d ∷ ds) (right, root, good) kept = start_outer s d.opening.version d.opening.directives d.opening.implicit kept (from_root (pretty s) d ds) (root_white s roots d right root ds)
+
+pub root_ends : (s : Settings) → RootsWalk (pretty s) → (implicit : Bool) (ds : List Document)
+    → AreWritable ds → EndsRoot (behind_root (pretty s) implicit ds)
+root_ends s roots false ds good kept = dots_outer (pretty s) kept _
+root_ends s roots true ds good kept = documents_outer s roots ds good kept
+
+-- ==== Document marks.
+
+-- what is left of the text behind three equal signs at the start of a line
+record Threes (text : List ℕ) (p x : ℕ) (kept : Bool) (rest : Rest) : Type 0 where
+  first : byte text p ≡ x
+  second : byte text (p + 1) ≡ x
+  third : byte text (p + 2) ≡ x
+  left : Left text (p + 3) (bytes (rest (behind_three kept)))
+
+threes : (text : List ℕ) (p x : ℕ) → nat_lt x 128 ≡ true → (kept : Bool) (rest : Rest)
+    → Left text p (bytes (word (x ∷ x ∷ x ∷ []) (at_line kept) rest)) → Threes text p x kept rest
+threes text p x low kept rest l =
+    let m = subst (λ (bs : List ℕ). Left text p bs) (three x low kept rest) l in
+    let m1 = left_more text p x _ m in
+    let m2 = left_more text (p + 1) x _ m1 in
+    let two : p + 1 + 1 ≡ p + 2 = omega arith in
+    let far : p + 1 + 1 + 1 ≡ p + 3 = omega arith in
+    record {
+      first = left_first text p x _ m;
+      second = left_first text (p + 1) x _ m1;
+      third = ap (λ q. byte text q) (sym two) ∙ left_first text (p + 1 + 1) x _ m2;
+      left = subst (λ (q : ℕ). Left text q (bytes (rest (behind_three kept)))) far (left_more text (p + 1 + 1) x _ m2);
+    }
+
+-- Behind a document's mark.
+pub record Marked (x : yaml_encoding_t) (text : List ℕ) (rest : Rest) (kept : Bool) (T : List TokenBody → List TokenBody) : Type 0 where
+  pub place : WalkState
+  pub stage : NodeStage x text (behind_three kept) place [] [] T
+  pub left : Left text place.at (bytes (rest (behind_three kept)))
+
+three_walks : (s : ℕ) (k : Kind) (body : TokenBody) → Thrice s k body
+    → (is_outside k && not (is_end k)) ≡ true
+    → (x : yaml_encoding_t) (text : List ℕ) (rest : Rest) (kept : Bool)
+    (T : List TokenBody → List TokenBody)
+    → ((q : ℕ) → Left text q (bytes (rest (behind_three kept))) → is_blank_or_end text q ≡ true)
+    → OnLine x text (λ e. word (s ∷ s ∷ s ∷ []) e rest) kept T
+    → Marked x text rest kept (λ bs. T (body ∷ bs))
+three_walks s k body t outer x text rest kept T alone h =
+    let o = h.place in
+    let p = o.at in
+    let m = threes text p s t.low kept rest h.left in
+    let z : p + 0 ≡ p = omega arith in
+    let w : WordText = record { body = body; end = p + 3; reached = p + 3; broke = false } in
+    let comes : Comes text p 0 0 k [] w (p + 3) = record {
+      behind = no_gap text p (t.begins text p m.first);
+      kind = ap (λ n. kind_at false text n) z ∙ t.kind text p m.first m.second m.third (alone (p + 3) m.left) h.column;
+      word = ap (λ n. word_at k false 0 text n) z ∙ t.said text p;
+      up = omega arith;
+    } in
+    let r = walk_outer x text o h.more T k [] w (p + 3) (allows_key k true false) true h.reads h.flat comes outer (words_leave.all text 0 (allows_key k true false) w refl) in
+    record {
+      place = behind text (p + 0) (p + 3) 0 (allows_key k true false) true;
+      stage = record { reads = r; flat = refl; broken = refl; bare = λ b. absurd (false≢true b); line = line_at-grows text (p + 0) (p + 3) (omega arith) };
+      left = m.left;
+    }
+
+pub dashes_walk : (x : yaml_encoding_t) (text : List ℕ) (rest : Rest) (kept : Bool)
+    (T : List TokenBody → List TokenBody)
+    → ((q : ℕ) → Left text q (bytes (rest (behind_three kept))) → is_blank_or_end text q ≡ true)
+    → OnLine x text (λ e. word (45 ∷ 45 ∷ 45 ∷ []) e rest) kept T
+    → Marked x text rest kept (λ bs. T (tokens.document_start ∷ bs))
+dashes_walk = three_walks 45 kinds.DocumentStart tokens.document_start thrice_dash refl
+
+-- with its line
+pub dots_walk : (s : Settings) (x : yaml_encoding_t) (text : List ℕ) (rest : Rest) (kept : Bool)
+    (T : List TokenBody → List TokenBody) → NoFeed 0 rest
+    → AtLine x text (λ e. dots s e rest) kept T
+    → AtLine x text rest kept (λ bs. T (tokens.document_end ∷ bs))
+dots_walk s x text rest kept T calm a =
+    let after : Rest = λ e. line s.line_break 0 e rest in
+    let m = three_walks 46 kinds.DocumentEnd tokens.document_end thrice_dot refl x text after kept T (λ q l. line_blank s.line_break text (behind_three kept) q rest refl l)
+    (on_from x text (λ e. dots s e rest) kept T a) in
+    line_lands s.line_break x text (behind_three kept) m.place [] (λ bs. T (tokens.document_end ∷ bs)) rest m.stage calm m.left

@@ -1,6 +1,5 @@
 -- White and words in brackets.
-use Rattle.std.proofs.Common.{◌≡◌, ℕ, ◌+◌, ◌≤◌, ◌==◌, ◌&&◌, ◌||◌, nat_lt, Bool, true, false, List, [], ◌∷◌, ◌++◌, length, Some, Ok, refl, sym, ap, subst, ◌∙◌, inl, inr, arith, append_assoc}
-use Rattle.std.specs.Prelude.{if◌then◌else◌}
+use Rattle.std.proofs.Common.{◌≡◌, ℕ, ◌+◌, ◌≤◌, ◌==◌, ◌&&◌, ◌||◌, nat_lt, Bool, true, false, List, [], ◌∷◌, ◌++◌, length, Some, Ok, refl, sym, ap, subst, ◌∙◌, inl, inr, arith, append_assoc, if◌then◌else◌}
 use Rattle.std.proofs.lemmas.Bool.{false≢true, or_right}
 use Rattle.yaml_emit_laws_text.specs.emit_layout.scan_model.declared.yaml_encoding_t.{yaml_encoding_t}
 use Rattle.yaml_emit_laws_text.specs.emit_layout.scan_model.Tokens.{TokenBody}
@@ -21,7 +20,7 @@ use Rattle.yaml_scan_laws_levels.proofs.Slotting.{letter_columns}
 use Rattle.yaml_scan_laws_levels.proofs.Walking.{walk_white, walk_word, deeper_leaves}
 use Rattle.yaml_emit_laws_pretty.specs.Spoken.{is_text, Fits, Spoken, SaysTokens}
 use Rattle.yaml_emit_laws_pretty.specs.Flows.{IsClear, WalksIn}
-use Rattle.yaml_emit_laws_pretty.proofs.Entries.{no_gap}
+use Rattle.yaml_emit_laws_pretty.proofs.Lining.{no_gap}
 
 -- ---- kinds
 
@@ -159,9 +158,6 @@ spoken_left : (text : List ℕ) (p : ℕ) (b : Bool) (own bs : List ℕ)
 spoken_left text p true own bs l = l
 spoken_left text p false own bs l = l
 
-append_none : (xs ys : List ℕ) → (xs ++ []) ++ ys ≡ xs ++ ys
-append_none xs ys = append_assoc xs [] ys
-
 -- a layout that says one word is walked as content
 pub word_walks : (ls : List ℕ) (a : Layout) (c : Cursor) (w : Spoken true (indent ls))
     (says : SaysTokens true (indent ls) a c (w ∷ [])) (rest : Rest)
@@ -169,7 +165,7 @@ pub word_walks : (ls : List ℕ) (a : Layout) (c : Cursor) (w : Spoken true (ind
     → WalksIn a (λ bs. w.body ∷ bs) ls c rest
 word_walks ls a c w says rest fits x text o cs T r deep clear l =
     let tail = bytes (rest says.behind) in
-    let m = spoken_left text o.at w.spaced w.own tail (subst (λ (bs : List ℕ). Left text o.at bs) (says.written rest ∙ append_none (if w.spaced then 32 ∷ w.own else w.own) tail) l) in
+    let m = spoken_left text o.at w.spaced w.own tail (subst (λ (bs : List ℕ). Left text o.at bs) (says.written rest ∙ (append_assoc (if w.spaced then 32 ∷ w.own else w.own) [] tail)) l) in
     let s = space_on w.spaced x text (w.own ++ tail) o cs ls [] T r m in
     let g = here_on x text tail s.place cs ls T w s.reads (ap (λ (d : ℕ). nat_lt 0 d) s.deep ∙ deep) (clear_same o s.place cs s.deep s.same clear) s.left fits in
     record {

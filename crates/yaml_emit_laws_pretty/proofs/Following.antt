@@ -10,13 +10,11 @@ use Rattle.yaml_emit_laws_text.specs.Walk.{bytes, first}
 use Rattle.yaml_emit_laws_text.proofs.Escapes.{low_encodes}
 use Rattle.yaml_emit_laws_text.proofs.Words.{front_encodes}
 use Rattle.yaml_emit_laws_scalars.specs.Stops.{stops_plain_at, begins_white, begins_solid}
-use Rattle.yaml_emit_laws_scalars.proofs.Stopping.{behind_lines}
-use Rattle.yaml_emit_laws_scalars.proofs.Solid.{what_stops}
+use Rattle.yaml_emit_laws_scalars.proofs.Stopping.{behind_lines, what_stops, break_low, blanks_bare, blanks_white}
 use Rattle.yaml_emit_laws_text.specs.scan_history.scan_model.Marks.{break_of}
 use Rattle.yaml_emit_laws_scalars.specs.BlockPassing.{begins_white as begins_blank}
 use Rattle.yaml_emit_laws_pretty.specs.Walk.{Follows, NoFeed, no_comment}
 use Rattle.yaml_emit_laws_pretty.specs.Nodes.{ShowsNode, Ending, ShownEnds}
-use Rattle.yaml_emit_laws_scalars.proofs.Stands.{break_low, blanks_bare, blanks_white}
 use Rattle.yaml_emit_laws_scalars.proofs.Lines.{blanks_column}
 use Rattle.yaml_emit_laws_text.proofs.Single.{line_is, after_blanks, line_start}
 use Rattle.yaml_emit_laws_pretty.proofs.DocStarts.{break_white}

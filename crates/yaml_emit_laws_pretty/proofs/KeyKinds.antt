@@ -1,7 +1,5 @@
 -- Simple keys of every kind: scalars in the three styles that a key can have, aliases, and empty collections, with their properties.
-use Rattle.std.proofs.Common.{◌≡◌, ◌⊎◌, ℕ, ◌+◌, ◌-◌, ◌<◌, ◌≤◌, ◌==◌, ◌&&◌, ◌||◌, not, nat_lt, Bool, true, false, List, [], ◌∷◌, ◌++◌, length, Some, None, refl, sym, ap, subst, ◌∙◌, inl, inr, arith, encode_utf8_all, IsUtf8}
-use Rattle.std.specs.Prelude.{if◌then◌else◌}
-use Rattle.std.specs.Str.{chars}
+use Rattle.std.proofs.Common.{◌≡◌, ◌⊎◌, ℕ, ◌+◌, ◌-◌, ◌<◌, ◌≤◌, ◌==◌, ◌&&◌, ◌||◌, not, nat_lt, Bool, true, false, List, [], ◌∷◌, ◌++◌, length, Some, None, refl, sym, ap, subst, ◌∙◌, inl, inr, arith, encode_utf8_all, IsUtf8, if◌then◌else◌, chars}
 use Rattle.std.proofs.lemmas.Bool.{cases_Bool, false≢true}
 use Rattle.std.proofs.lemmas.Str.{encode_ascii}
 use Rattle.std.proofs.Math.Bool.{and-false}
@@ -29,7 +27,7 @@ use Rattle.yaml_emit_laws_text.specs.emit_layout.Grammar.{has, scalar_tag, start
 use Rattle.yaml_emit_laws_text.specs.emit_layout.Nodes.{Context, context_of, position, style_of, is_plain, is_flow, is_simple, is_simple_start, anchor_text, tag_text, properties_text, page_at, deeper, checked, MOST, indented, indent_of, scalar_layout, alias_layout, closer, node_layout, items_layout, pairs_layout}
 use Rattle.yaml_emit_laws_text.specs.Bodies.{anchor_bodies, tag_bodies, mark_bodies}
 use Rattle.yaml_emit_laws_text.specs.Walk.{Left, bytes, first}
-use Rattle.yaml_emit_laws_text.specs.Writable.{IsWritable}
+use Rattle.yaml_emit_laws_text.specs.Writable.{IsWritable, IsWritableAnchor, IsWritableTag}
 use Rattle.yaml_emit_laws_text.proofs.QuotedWhole.{quoted_is_back}
 use Rattle.yaml_emit_laws_text.proofs.Steps.{letter_low, deep_bytes}
 use Rattle.yaml_scan_laws_texts.proofs.NamesRead.{anchor_is_read}
@@ -38,23 +36,21 @@ use Rattle.yaml_emit_laws_scalars.specs.PlainLaws.{may_be_plain}
 use Rattle.yaml_emit_laws_scalars.specs.SingleLaws.{SingleLinesAreReadBack}
 use Rattle.yaml_emit_laws_scalars.specs.StandsLaws.{PlainHasGap, ScalarsAreWords}
 use Rattle.yaml_emit_laws_scalars.specs.StylesLaws.{StylesAreAllowed}
-use Rattle.yaml_emit_laws_scalars.proofs.PlainLaw.{plain_back}
-use Rattle.yaml_emit_laws_scalars.proofs.Solid.{what_stops}
+use Rattle.yaml_emit_laws_scalars.proofs.PlainStart.{plain_back}
+use Rattle.yaml_emit_laws_scalars.proofs.Stopping.{what_stops}
 use Rattle.yaml_scan_laws_levels.specs.White.{IsGap}
 use Rattle.yaml_scan_laws_levels.proofs.Signing.{signs_come, printed_begins}
 use Rattle.yaml_emit_laws_pretty.specs.Bodies.{place, style_at, is_empty, is_nothing, style_named, takes_mark, value_bodies, scalar_bodies, node_bodies, sequence_opens, sequence_closes, mapping_opens, mapping_closes, items_bodies, pairs_bodies, keeps}
 use Rattle.yaml_emit_laws_pretty.specs.Nodes.{IsPretty}
 use Rattle.yaml_emit_laws_pretty.specs.Spoken.{Spoken, Fits, all_bytes}
-use Rattle.yaml_emit_laws_pretty.proofs.Entries.{no_gap}
+use Rattle.yaml_emit_laws_pretty.proofs.Lining.{no_gap}
 use Rattle.yaml_emit_laws_pretty.proofs.SpokenWords.{alias_word, double_word, single_word, plain_word}
 use Rattle.yaml_emit_laws_pretty.proofs.SpokenLayouts.{alias_says, double_says, single_says, plain_says}
-use Rattle.yaml_emit_laws_pretty.proofs.KeyColumns.{letters_start}
-use Rattle.yaml_emit_laws_pretty.proofs.KeyForms.{KeyForm, KeyEnd, spaced, squares, curlies, end_bytes, end_bodies, StartsEnd, LeadsKey}
+use Rattle.yaml_emit_laws_pretty.proofs.KeySteps.{letters_start}
+use Rattle.yaml_emit_laws_pretty.proofs.KeyForms.{KeyForm, KeyEnd, spaced, squares, curlies, end_bytes, end_bodies, StartsEnd, LeadsKey, plains_none, calm_starts, fits_moved, form_words, form_as, LastWord}
 use Rattle.yaml_emit_laws_pretty.proofs.LeafProps.{Dress, Moved, Leads, has_some, dress_all}
-use Rattle.yaml_emit_laws_pretty.proofs.KeyWords.{plains_none, calm_starts, fits_moved, form_words, form_as, LastWord}
 use Rattle.yaml_emit_laws_scalars.proofs.NearKeys.{kept_writable}
-use Rattle.yaml_emit_laws_pretty.proofs.FlowFollows.{colon_calm}
-use Rattle.yaml_emit_laws_pretty.proofs.FlowSigns.{behind_gap}
+use Rattle.yaml_emit_laws_pretty.proofs.FlowSigns.{opening_of, colon_calm, behind_gap}
 use Rattle.yaml_emit_laws_scalars.proofs.Standing.{low_starts}
 
 -- ---- scalars
@@ -100,9 +96,6 @@ quote_some q letters inside low e =
     let same : encode_utf8_all letters ≡ (q ∷ []) ++ encode_utf8_all inside = ap (λ (xs : List ℕ). encode_utf8_all xs) e ∙ ap (λ (bs : List ℕ). bs ++ encode_utf8_all inside) (encode_ascii q low) in
     let l = ap (λ (bs : List ℕ). length bs) same in
     omega (arith, l)
-
-no_quote : (tail : List ℕ) → first (58 ∷ tail) ≡ 39 → ⊥
-no_quote tail e = omega (arith, e)
 
 -- what the three styles' laws are
 pub record Scalars : Type 0 where
@@ -180,7 +173,7 @@ last_single law flow level s at x c u may deep =
     let full = quote_some 39 r.letters r.inside (omega arith) r.begins in
     record {
       word = single_word law.words flow level (not c.white) page (behind_gap c.white c) v r;
-      last = record { says = single_says law.singles law.words flow level page v u deep may c; spaced = refl; some = full; starts = λ text p h. letters_start text p r.letters full h; fits = λ tail h. no_quote tail };
+      last = record { says = single_says law.singles law.words flow level page v u deep may c; spaced = refl; some = full; starts = λ text p h. letters_start text p r.letters full h; fits = λ tail h. (λ e. omega (arith, e)) };
       body = refl;
       some = no_plain flow;
     }
@@ -207,12 +200,9 @@ last_double flow level s at x c u deep =
 is_plain_single : (a : Allowed) → is_plain (single_or a) ≡ false
 is_plain_single a = elim (cases_Bool a.single) [ inl e ↦ rw e refl | inr e ↦ rw e refl ]
 
-fits_none : (a : Allowed) (untagged flow : Bool) → plain_fits a untagged flow true true ≡ false
-fits_none a untagged flow = and-false (if flow then a.flow_plain else a.plain)
-
 plain_empty : (a : Allowed) (untagged flow : Bool)
     → is_plain (if plain_fits a untagged flow true true then style.Plain else single_or a) ≡ false
-plain_empty a untagged flow = rw (fits_none a untagged flow) (is_plain_single a)
+plain_empty a untagged flow = rw (and-false (if flow then a.flow_plain else a.plain)) (is_plain_single a)
 
 block_empty : (b flow : Bool) (s : Style) → is_plain s ≡ false
     → is_plain (if b && not (flow || true) then s else style.Double) ≡ false
@@ -264,16 +254,12 @@ value_is : (b : Bool) (s : Style) (value : List ℕ) (bs : List TokenBody) → b
 value_is true s value bs e = absurd (false≢true (sym e))
 value_is false s value bs e = refl
 
-position_style : (p : Context) (flow : Bool) (n : ℕ) (x : Scalar)
-    → style_of p (position flow n part.SimpleKey) x ≡ style_at p flow part.SimpleKey x
-unfolding style_of
-position_style p flow n x = refl
-
 scalar_form : Scalars → (s : Settings) (d : Opening) → IsPretty s d → (x : Scalar)
     → IsWritable (scalar_node x) → (flow : Bool) (level n : ℕ) → level ≤ n + s.indent → (c : Cursor)
     → KeyForm flow level (node_layout (context_of s d.directives) (position flow n part.SimpleKey)
     (scalar_node x)) c (node_bodies (context_of s d.directives) flow part.SimpleKey false
     (scalar_node x))
+unfolding style_of
 scalar_form law s d good x (wa, wt, u) flow level n far c =
     let p = context_of s d.directives in
     let at = position flow n part.SimpleKey in
@@ -287,7 +273,7 @@ scalar_form law s d good x (wa, wt, u) flow level n far c =
     let D : List TokenBody → List TokenBody = λ bs. anchor_bodies x.anchor (tag_bodies d.directives (scalar_tag false x) (mark_bodies m bs)) in
     form_as flow level (node_layout p at (scalar_node x)) ((anchor_text x.anchor ▹ (tag_text p (scalar_tag false x) ▹ when m (word (33 ∷ [])))) ▹ (checked N ▹ body)) c (λ bs. D (l.word.body ∷ bs)) (node_bodies p flow part.SimpleKey false (scalar_node x))
     (scalar_laid p at x chosen good.pretty refl)
-    (λ bs. ap (λ (t : TokenBody). D (t ∷ bs)) l.body ∙ sym (ap (λ (ds : List TokenBody). D ds) (value_is (is_nothing flow chosen x.value) chosen x.value bs l.some)) ∙ sym (scalar_says p flow part.SimpleKey false x chosen (sym (position_style p flow n x)) bs))
+    (λ bs. ap (λ (t : TokenBody). D (t ∷ bs)) l.body ∙ sym (ap (λ (ds : List TokenBody). D ds) (value_is (is_nothing flow chosen x.value) chosen x.value bs l.some)) ∙ sym (scalar_says p flow part.SimpleKey false x chosen (sym refl) bs))
     (form_words flow level (anchor_text x.anchor ▹ (tag_text p (scalar_tag false x) ▹ when m (word (33 ∷ [])))) (checked N ▹ body) c (has_some x.anchor (has_some (scalar_tag false x) m)) m D r l.word (last_checked flow level N body r.behind l.word l.last))
 
 -- ---- aliases
@@ -399,107 +385,83 @@ unfolding closer
 closer_bytes s n x pretty low d rest =
     ap (λ (b : Bool). bytes ((when (b && false) (char 44 ▹ line s.line_break (n - s.indent)) ▹ char x) d rest)) pretty ∙ letter_low x (rest (record { column = d.column + 1; white = false; bare = false; kept = d.kept })) low
 
--- ---- sequences
+-- ---- by whether it is a mapping
 
-abbrev sequence_rest : Context → NodePosition → Bool → Layout
-sequence_rest p at flow = when flow (opener 91) ▹ indented (indent_of p.settings at true flow) (λ n. checked n ▹ items_layout p flow n true no_nodes)
+abbrev empty_node : Bool → Start → Node
+empty_node true q = mapping_node q no_pairs
+empty_node false q = sequence_node q no_nodes
 
-sequence_laid : (p : Context) (at : NodePosition) (q : Start) → p.settings.canonical ≡ false
-    → node_layout p at (sequence_node q no_nodes)
+abbrev empty_layout : Bool → Context → ℕ → Layout
+empty_layout true p n = pairs_layout p true n true no_pairs
+empty_layout false p n = items_layout p true n true no_nodes
+
+-- behind its properties
+abbrev empty_rest : Bool → Context → NodePosition → Layout
+empty_rest mapping p at = opener (opening_of mapping) ▹ indented (indent_of p.settings at (not mapping) true) (λ n. checked n ▹ empty_layout mapping p n)
+
+abbrev ends_of : Bool → Bool → KeyEnd
+ends_of true b = curlies b
+ends_of false b = squares b
+
+either_end : (mapping b : Bool) → (ends_of mapping b ≡ squares b) ⊎ (ends_of mapping b ≡ curlies b)
+either_end true b = inr refl
+either_end false b = inl refl
+
+empty_laid : (mapping : Bool) (p : Context) (at : NodePosition) (q : Start)
+    → p.settings.canonical ≡ false → node_layout p at (empty_node mapping q)
     ≡ ((anchor_text q.anchor ▹ (tag_text p (start_tag false q) ▹ when false (word (33 ∷ [])))) ▹
-    sequence_rest p at true)
+    empty_rest mapping p at)
 unfolding node_layout
-sequence_laid p at q pretty =
-    ap (λ (b : Bool). properties_text p q.anchor (start_tag b q) ▹ sequence_rest p at (is_flow p.settings at q true)) pretty
-    ∙ ap (λ (b : Bool). properties_text p q.anchor (start_tag false q) ▹ sequence_rest p at b) (empty_flow p.settings at q)
+empty_laid true p at q pretty =
+    let rest : Bool → Layout = λ b. when b (opener 123) ▹ indented (indent_of p.settings at false b) (λ n. checked n ▹ pairs_layout p b n true no_pairs) in
+    ap (λ (b : Bool). properties_text p q.anchor (start_tag b q) ▹ rest (is_flow p.settings at q true)) pretty ∙ ap (λ (b : Bool). properties_text p q.anchor (start_tag false q) ▹ rest b) (empty_flow p.settings at q)
+empty_laid false p at q pretty =
+    let rest : Bool → Layout = λ b. when b (opener 91) ▹ indented (indent_of p.settings at true b) (λ n. checked n ▹ items_layout p b n true no_nodes) in
+    ap (λ (b : Bool). properties_text p q.anchor (start_tag b q) ▹ rest (is_flow p.settings at q true)) pretty ∙ ap (λ (b : Bool). properties_text p q.anchor (start_tag false q) ▹ rest b) (empty_flow p.settings at q)
 
-items_none : (p : Context) (n : ℕ)
-    → items_layout p true n true no_nodes ≡ closer p.settings true n true 93
-unfolding items_layout
-items_none p n = refl
-
-sequence_closed : (p : Context) (at : NodePosition) → p.settings.canonical ≡ false → (c : Cursor)
-    → Closed (sequence_rest p at true) c (squares (not c.white))
-sequence_closed p at pretty c =
+empty_closed : (mapping : Bool) (p : Context) (at : NodePosition) → p.settings.canonical ≡ false
+    → (c : Cursor) → Closed (empty_rest mapping p at) c (ends_of mapping (not c.white))
+unfolding items_layout pairs_layout
+empty_closed true p at pretty c =
+    let N = deeper p.settings at.around in
+    closed_by 123 125 refl (indented (indent_of p.settings at false true) (λ n. checked n ▹ pairs_layout p true n true no_pairs))
+    (λ d rest. deep_bytes (nat_lt MOST N) (pairs_layout p true N true no_pairs d rest) ∙ closer_bytes p.settings N 125 pretty refl d rest) c (curlies (not c.white)) refl
+empty_closed false p at pretty c =
     let N = deeper p.settings at.around in
     closed_by 91 93 refl (indented (indent_of p.settings at true true) (λ n. checked n ▹ items_layout p true n true no_nodes))
-    (λ d rest. deep_bytes (nat_lt MOST N) (items_layout p true N true no_nodes d rest) ∙ ap (λ (l : Layout). bytes (l d rest)) (items_none p N) ∙ closer_bytes p.settings N 93 pretty refl d rest) c (squares (not c.white)) refl
+    (λ d rest. deep_bytes (nat_lt MOST N) (items_layout p true N true no_nodes d rest) ∙ closer_bytes p.settings N 93 pretty refl d rest) c (squares (not c.white)) refl
 
-sequence_tokens : (p : Context) (flow : Bool) (q : Start) (bs : List TokenBody)
-    → node_bodies p flow part.SimpleKey false (sequence_node q no_nodes) bs
+empty_tokens : (mapping : Bool) (p : Context) (flow : Bool) (q : Start) (bs : List TokenBody)
+    → node_bodies p flow part.SimpleKey false (empty_node mapping q) bs
     ≡ anchor_bodies q.anchor (tag_bodies p.directives (start_tag false q)
-    (tokens.flow_sequence_start ∷ tokens.flow_sequence_end ∷ bs))
-unfolding node_bodies items_bodies
-sequence_tokens p flow q bs =
+    (end_bodies (ends_of mapping false) bs))
+unfolding node_bodies items_bodies pairs_bodies
+empty_tokens true p flow q bs =
+    ap (λ (b : Bool). anchor_bodies q.anchor (tag_bodies p.directives (start_tag false q) (mapping_opens b (pairs_bodies p b true no_pairs (mapping_closes b bs))))) (empty_flow p.settings (place flow part.Item) q)
+empty_tokens false p flow q bs =
     ap (λ (b : Bool). anchor_bodies q.anchor (tag_bodies p.directives (start_tag false q) (sequence_opens b (keeps part.SimpleKey false q) (items_bodies p b true no_nodes (sequence_closes b (keeps part.SimpleKey false q) bs)))))
     (empty_flow p.settings (place flow part.Item) q)
 
-sequence_form : (s : Settings) (d : Opening) → IsPretty s d → (q : Start)
-    → IsWritable (sequence_node q no_nodes) → (flow : Bool) (level n : ℕ) (c : Cursor)
+end_same : (mapping b : Bool) (bs : List TokenBody)
+    → end_bodies (ends_of mapping false) bs ≡ end_bodies (ends_of mapping b) bs
+end_same true b bs = refl
+end_same false b bs = refl
+
+empty_form : (mapping : Bool) (s : Settings) (d : Opening) → IsPretty s d → (q : Start)
+    → IsWritableAnchor q.anchor → IsWritableTag q.tag → (flow : Bool) (level n : ℕ) (c : Cursor)
     → KeyForm flow level (node_layout (context_of s d.directives) (position flow n part.SimpleKey)
-    (sequence_node q no_nodes)) c (node_bodies (context_of s d.directives) flow part.SimpleKey false
-    (sequence_node q no_nodes))
-sequence_form s d good q (wa, wt, all) flow level n c =
+    (empty_node mapping q)) c (node_bodies (context_of s d.directives) flow part.SimpleKey false
+    (empty_node mapping q))
+empty_form mapping s d good q wa wt flow level n c =
     let p = context_of s d.directives in
     let at = position flow n part.SimpleKey in
     let r = dress_all flow level d good.fine s q.anchor (start_tag false q) wa (kept_writable (not q.implicit) q.tag wt) false c in
     let front = anchor_text q.anchor ▹ (tag_text p (start_tag false q) ▹ when false (word (33 ∷ []))) in
     let D : List TokenBody → List TokenBody = λ bs. anchor_bodies q.anchor (tag_bodies d.directives (start_tag false q) bs) in
-    let k = squares (not r.behind.white) in
-    form_as flow level (node_layout p at (sequence_node q no_nodes)) (front ▹ sequence_rest p at true) c (λ bs. D (end_bodies k bs)) (node_bodies p flow part.SimpleKey false (sequence_node q no_nodes))
-    (sequence_laid p at q good.pretty) (λ bs. sym (sequence_tokens p flow q bs))
-    (form_ends flow level front (sequence_rest p at true) c (has_some q.anchor (has_some (start_tag false q) false)) D r k (inl refl) (sequence_closed p at good.pretty r.behind))
-
--- ---- mappings
-
-abbrev mapping_rest : Context → NodePosition → Bool → Layout
-mapping_rest p at flow = when flow (opener 123) ▹ indented (indent_of p.settings at false flow) (λ n. checked n ▹ pairs_layout p flow n true no_pairs)
-
-mapping_laid : (p : Context) (at : NodePosition) (q : Start) → p.settings.canonical ≡ false
-    → node_layout p at (mapping_node q no_pairs)
-    ≡ ((anchor_text q.anchor ▹ (tag_text p (start_tag false q) ▹ when false (word (33 ∷ [])))) ▹
-    mapping_rest p at true)
-unfolding node_layout
-mapping_laid p at q pretty =
-    ap (λ (b : Bool). properties_text p q.anchor (start_tag b q) ▹ mapping_rest p at (is_flow p.settings at q true)) pretty
-    ∙ ap (λ (b : Bool). properties_text p q.anchor (start_tag false q) ▹ mapping_rest p at b) (empty_flow p.settings at q)
-
-pairs_none : (p : Context) (n : ℕ)
-    → pairs_layout p true n true no_pairs ≡ closer p.settings true n true 125
-unfolding pairs_layout
-pairs_none p n = refl
-
-mapping_closed : (p : Context) (at : NodePosition) → p.settings.canonical ≡ false → (c : Cursor)
-    → Closed (mapping_rest p at true) c (curlies (not c.white))
-mapping_closed p at pretty c =
-    let N = deeper p.settings at.around in
-    closed_by 123 125 refl (indented (indent_of p.settings at false true) (λ n. checked n ▹ pairs_layout p true n true no_pairs))
-    (λ d rest. deep_bytes (nat_lt MOST N) (pairs_layout p true N true no_pairs d rest) ∙ ap (λ (l : Layout). bytes (l d rest)) (pairs_none p N) ∙ closer_bytes p.settings N 125 pretty refl d rest) c (curlies (not c.white)) refl
-
-mapping_tokens : (p : Context) (flow : Bool) (q : Start) (bs : List TokenBody)
-    → node_bodies p flow part.SimpleKey false (mapping_node q no_pairs) bs
-    ≡ anchor_bodies q.anchor (tag_bodies p.directives (start_tag false q)
-    (tokens.flow_mapping_start ∷ tokens.flow_mapping_end ∷ bs))
-unfolding node_bodies pairs_bodies
-mapping_tokens p flow q bs =
-    ap (λ (b : Bool). anchor_bodies q.anchor (tag_bodies p.directives (start_tag false q) (mapping_opens b (pairs_bodies p b true no_pairs (mapping_closes b bs)))))
-    (empty_flow p.settings (place flow part.Item) q)
-
-mapping_form : (s : Settings) (d : Opening) → IsPretty s d → (q : Start)
-    → IsWritable (mapping_node q no_pairs) → (flow : Bool) (level n : ℕ) (c : Cursor)
-    → KeyForm flow level (node_layout (context_of s d.directives) (position flow n part.SimpleKey)
-    (mapping_node q no_pairs)) c (node_bodies (context_of s d.directives) flow part.SimpleKey false
-    (mapping_node q no_pairs))
-mapping_form s d good q (wa, wt, all) flow level n c =
-    let p = context_of s d.directives in
-    let at = position flow n part.SimpleKey in
-    let r = dress_all flow level d good.fine s q.anchor (start_tag false q) wa (kept_writable (not q.implicit) q.tag wt) false c in
-    let front = anchor_text q.anchor ▹ (tag_text p (start_tag false q) ▹ when false (word (33 ∷ []))) in
-    let D : List TokenBody → List TokenBody = λ bs. anchor_bodies q.anchor (tag_bodies d.directives (start_tag false q) bs) in
-    let k = curlies (not r.behind.white) in
-    form_as flow level (node_layout p at (mapping_node q no_pairs)) (front ▹ mapping_rest p at true) c (λ bs. D (end_bodies k bs)) (node_bodies p flow part.SimpleKey false (mapping_node q no_pairs))
-    (mapping_laid p at q good.pretty) (λ bs. sym (mapping_tokens p flow q bs))
-    (form_ends flow level front (mapping_rest p at true) c (has_some q.anchor (has_some (start_tag false q) false)) D r k (inr refl) (mapping_closed p at good.pretty r.behind))
+    let k = ends_of mapping (not r.behind.white) in
+    form_as flow level (node_layout p at (empty_node mapping q)) (front ▹ empty_rest mapping p at) c (λ bs. D (end_bodies k bs)) (node_bodies p flow part.SimpleKey false (empty_node mapping q))
+    (empty_laid mapping p at q good.pretty) (λ bs. ap (λ (ts : List TokenBody). D ts) (sym (end_same mapping (not r.behind.white) bs)) ∙ sym (empty_tokens mapping p flow q bs))
+    (form_ends flow level front (empty_rest mapping p at) c (has_some q.anchor (has_some (start_tag false q) false)) D r k (either_end mapping (not r.behind.white)) (empty_closed mapping p at good.pretty r.behind))
 
 -- ---- all
 
@@ -526,7 +488,7 @@ pub key_form : Scalars → (s : Settings) (d : Opening) → IsPretty s d → (k 
     (node_bodies (context_of s d.directives) flow part.SimpleKey false k)
 key_form law s d good (alias_node name) w simple flow level n far c = alias_form (context_of s d.directives) name w flow level n c
 key_form law s d good (scalar_node x) w simple flow level n far c = scalar_form law s d good x w flow level n far c
-key_form law s d good (sequence_node q no_nodes) w simple flow level n far c = sequence_form s d good q w flow level n c
+key_form law s d good (sequence_node q no_nodes) (wa, wt, all) simple flow level n far c = empty_form false s d good q wa wt flow level n c
 key_form law s d good (sequence_node q (node x xs)) w simple flow level n far c = absurd (some_items (context_of s d.directives) q x xs simple)
-key_form law s d good (mapping_node q no_pairs) w simple flow level n far c = mapping_form s d good q w flow level n c
+key_form law s d good (mapping_node q no_pairs) (wa, wt, all) simple flow level n far c = empty_form true s d good q wa wt flow level n c
 key_form law s d good (mapping_node q (pair k v ps)) w simple flow level n far c = absurd (some_pairs (context_of s d.directives) q k v ps simple)

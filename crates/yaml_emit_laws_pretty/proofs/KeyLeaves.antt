@@ -1,12 +1,16 @@
--- Simple keys of every kind and their `:` are walked, in a block and in brackets.
-use Rattle.std.proofs.Common.{◌≡◌, ℕ, ◌+◌, ◌<◌, ◌≤◌, not, nat_lt, Bool, true, false, List, [], ◌∷◌, ◌++◌, length, Some, refl, sym, ap, subst, ◌∙◌, inl, inr, arith, append_assoc, length-append}
-use Rattle.std.specs.Prelude.{if◌then◌else◌}
-use Rattle.std.proofs.lemmas.Bool.{false≢true}
+-- A plain key begins with neither white nor a comment: the text that it writes is read as a plain scalar, so a lexeme begins with it.
+use Rattle.std.proofs.Common.{◌≡◌, ℕ, ◌+◌, ◌==◌, ◌&&◌, ◌||◌, not, nat_lt, Bool, true, false, List, [], ◌∷◌, ◌++◌, length, refl, subst, arith, append_assoc, if◌then◌else◌, ◌<◌, ◌≤◌, Some, sym, ap, ◌∙◌, inl, inr, length-append}
+use Rattle.std.proofs.lemmas.Bool.Decides.{nat_tests}
+use Rattle.std.proofs.lemmas.Bool.{not-true, and_parts, false≢true}
+use Rattle.yaml_emit_laws_text.specs.scan_history.scan_model.Marks.{byte, break_of, column_at, line_at}
+use Rattle.yaml_emit_laws_text.specs.scan_history.scan_words.Written.{begins_lexeme}
+use Rattle.yaml_emit_laws_text.specs.Walk.{Has, Left, bytes}
+use Rattle.yaml_emit_laws_scalars.specs.Stops.{begins_solid, is_gap_byte}
+use Rattle.yaml_emit_laws_pretty.specs.Walk.{no_comment, Lined}
+use Rattle.yaml_emit_laws_text.proofs.Steps.{length_more, letter_low}
 use Rattle.yaml_emit_laws_text.specs.emit_layout.scan_model.declared.yaml_encoding_t.{yaml_encoding_t}
 use Rattle.yaml_emit_laws_text.specs.emit_layout.scan_model.Tokens as tokens
 use Rattle.yaml_emit_laws_text.specs.emit_layout.scan_model.Tokens.{TokenBody}
-use Rattle.yaml_emit_laws_text.specs.scan_history.scan_model.Marks.{column_at, line_at}
-use Rattle.yaml_emit_laws_text.specs.scan_history.scan_words.Written.{begins_lexeme}
 use Rattle.yaml_emit_laws_text.specs.scan_history.History.{indent, margin_at, opened, start_of}
 use Rattle.yaml_emit_laws_text.specs.scan_history.declared.lexeme.Opens.{Opens}
 use Rattle.yaml_emit_laws_text.specs.scan_history.declared.lexeme.Opens.TheVariants as opening
@@ -18,27 +22,73 @@ use Rattle.yaml_emit_laws_text.specs.emit_layout.emit_text.Layout.{Rest, ◌▹�
 use Rattle.yaml_emit_laws_text.specs.emit_layout.declared.level.Part.TheVariants as part
 use Rattle.yaml_emit_laws_text.specs.emit_layout.Content.{Opening, Scalar, Node, alias_node, scalar_node, sequence_node, mapping_node, no_nodes, node, no_pairs, pair}
 use Rattle.yaml_emit_laws_text.specs.emit_layout.Nodes.{Context, context_of, position, style_of, is_simple, node_layout}
-use Rattle.yaml_emit_laws_text.specs.Walk.{bytes}
 use Rattle.yaml_emit_laws_text.specs.Writable.{IsWritable}
-use Rattle.yaml_emit_laws_text.proofs.Steps.{letter_low}
 use Rattle.yaml_scan_laws_levels.proofs.MarksForward.{line_at-grows}
 use Rattle.yaml_scan_laws_levels.specs.Fronts.{Rises}
 use Rattle.yaml_scan_laws_levels.specs.Tokens.{start_bodies}
 use Rattle.yaml_scan_laws_levels.specs.Walks.{WalkReads, ClosesAt, Outside}
 use Rattle.yaml_scan_laws_levels.proofs.Signing.{printed_begins}
 use Rattle.yaml_scan_laws_levels.proofs.Slotting.{level_opens}
-use Rattle.yaml_emit_laws_scalars.specs.Stops.{begins_solid}
 use Rattle.yaml_emit_laws_scalars.proofs.NearKeys.{keys_near}
 use Rattle.yaml_emit_laws_pretty.specs.Bodies.{node_bodies, node_kept, items_kept, pairs_kept, scalar_kept, style_at}
 use Rattle.yaml_emit_laws_pretty.specs.Flows.{KeysAreWalkedIn}
 use Rattle.yaml_emit_laws_pretty.specs.KeyLaws.{Keyed}
 use Rattle.yaml_emit_laws_pretty.specs.Nodes.{IsPretty, PartedBehind, SimpleKeysAreWalked, block_position}
 use Rattle.yaml_emit_laws_pretty.specs.Spoken.{Spoken, spoken_bytes, all_bytes, AllFit}
-use Rattle.yaml_emit_laws_pretty.specs.Walk.{Lined, no_comment}
 use Rattle.yaml_emit_laws_pretty.proofs.KeyForms.{KeyForm, KeyEnd, at_once, spaced, squares, curlies, end_bytes, LeadsKey, behind_colon, key_done}
 use Rattle.yaml_emit_laws_pretty.proofs.KeyKinds.{Scalars, key_form, some_items, some_pairs}
 use Rattle.yaml_emit_laws_pretty.proofs.KeySteps.{front, spot_at}
-use Rattle.yaml_emit_laws_pretty.proofs.KeysShow.{left_self, lexeme_solid, lexeme_calm}
+
+byte_here : (pre : List ℕ) (x : ℕ) (xs : List ℕ) → byte (pre ++ x ∷ xs) (length pre) ≡ x
+byte_here [] x xs = refl
+byte_here (y ∷ pre) x xs = byte_here pre x xs
+
+has_self : (pre xs : List ℕ) → Has (pre ++ xs) (length pre) xs
+has_self pre [] = tt
+has_self pre (x ∷ xs) =
+    let h = has_self (pre ++ x ∷ []) xs in
+    (byte_here pre x xs, subst (λ n. Has (pre ++ x ∷ xs) n xs) (length_more pre x) (subst (λ (t : List ℕ). Has t (length (pre ++ x ∷ [])) xs) (append_assoc pre (x ∷ []) xs) h))
+
+-- bytes are left of themselves
+pub left_self : (bs : List ℕ) → Left bs 0 bs
+left_self bs = record { has = has_self [] bs; ends = omega arith }
+
+solid_by : (b c d : ℕ) (rest : Bool)
+    → (not (b == 32) && (not (b == 9)
+    && (not (b == 35) && (not (nat_lt 0 (break_of b c d)) && rest)))) ≡ true
+    → (not (b == 32 || (b == 10 || b == 13)) && (not (b == 9) && break_of b c d == 0)) ≡ true
+unfolding break_of
+solid_by b c d rest h =
+    let (s, h1) = and_parts (not (b == 32)) (not (b == 9) && (not (b == 35) && (not (nat_lt 0 (break_of b c d)) && rest))) h in
+    let (t, h2) = and_parts (not (b == 9)) (not (b == 35) && (not (nat_lt 0 (break_of b c d)) && rest)) h1 in
+    let (k, h3) = and_parts (not (b == 35)) (not (nat_lt 0 (break_of b c d)) && rest) h2 in
+    let (w, h4) = and_parts (not (nat_lt 0 (break_of b c d))) rest h3 in
+    (grind (arith, nat_tests))
+
+-- bytes with which a lexeme begins are solid
+pub lexeme_solid : (b : ℕ) (bs : List ℕ) → begins_lexeme (b ∷ bs) 0 ≡ true
+    → begins_solid (b ∷ bs) ≡ true
+lexeme_solid b [] h = solid_by b 0 0 _ h
+lexeme_solid b (c ∷ []) h = solid_by b c 0 _ h
+lexeme_solid b (c ∷ d ∷ ds) h = solid_by b c d _ h
+
+calm_by : (g : Bool) (b : ℕ) (m : Bool) → g ≡ false → not (b == 35) ≡ true
+    → (if g then m else not (b == 35)) ≡ true
+calm_by true b m e h = absurd (cc)
+calm_by false b m e h = h
+
+-- and no comment
+pub lexeme_calm : (b : ℕ) (bs : List ℕ) → begins_lexeme (b ∷ bs) 0 ≡ true
+    → no_comment (b ∷ bs) ≡ true
+unfolding no_comment
+lexeme_calm b bs h =
+    let (gap, more) = and_parts (not (is_gap_byte b)) _ (lexeme_solid b bs h) in
+    let (s, h1) = and_parts (not (b == 32)) _ h in
+    let (t, h2) = and_parts (not (b == 9)) _ h1 in
+    let (k, h3) = and_parts (not (b == 35)) _ h2 in
+    calm_by (is_gap_byte b) b (no_comment bs) (not-true (is_gap_byte b) gap) k
+
+-- ==== Simple keys of every kind and their `:` are walked, in a block and in brackets.
 
 -- ---- in a block
 

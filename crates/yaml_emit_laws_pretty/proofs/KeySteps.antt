@@ -1,12 +1,18 @@
--- Words of a simple key, one behind the other, and its `:`: at any depth.
-use Rattle.std.proofs.Common.{◌≡◌, ℕ, ◌+◌, ◌-◌, ◌<◌, ◌≤◌, ◌==◌, ◌&&◌, ◌||◌, not, nat_lt, Bool, true, false, List, [], ◌∷◌, ◌++◌, length, refl, sym, ap, subst, ◌∙◌, inl, inr, arith, append_assoc, length-append}
-use Rattle.std.specs.Prelude.{if◌then◌else◌}
+-- Columns don't fall in a line, and rise behind text.
+use Rattle.std.proofs.Common.{◌≡◌, ℕ, ◌+◌, ◌-◌, ◌<◌, ◌≤◌, Bool, true, false, List, [], ◌∷◌, length, zero, suc, refl, sym, ap, subst, ◌∙◌, inl, inr, arith, encode_utf8, encode_utf8_all, add-zero, if◌then◌else◌, ◌==◌, ◌&&◌, ◌||◌, not, nat_lt, ◌++◌, append_assoc, length-append}
+use Rattle.std.proofs.lemmas.Bool.{cases_Bool, cases_lt, false≢true, or_right}
+use Rattle.yaml_emit_laws_text.proofs.Chars.{encode_1, encode_2, encode_3, encode_4}
+use Rattle.yaml_emit_laws_text.specs.scan_history.scan_model.Marks.{byte, column_at, line_at, starts, ends_break, ends_of, mark_at}
+use Rattle.yaml_emit_laws_text.specs.Walk.{Has, Left}
+use Rattle.yaml_emit_laws_text.proofs.Bytes.{AreCalm, calm_end}
+use Rattle.yaml_emit_laws_text.proofs.MarksLemmas.{line_more}
+use Rattle.yaml_emit_laws_text.proofs.Places.{has_front, has_at, left_first, left_more, left_rest}
+use Rattle.yaml_scan_laws_levels.proofs.MarksForward.{line_at-grows}
+use Rattle.yaml_emit_laws_scalars.proofs.Standing.{high_starts, low_starts}
 use Rattle.std.proofs.lemmas.Bool.Decides.{nat_tests}
-use Rattle.std.proofs.lemmas.Bool.{false≢true, or_right}
 use Rattle.yaml_emit_laws_text.specs.emit_layout.scan_model.declared.yaml_encoding_t.{yaml_encoding_t}
 use Rattle.yaml_emit_laws_text.specs.emit_layout.scan_model.Tokens as tokens
 use Rattle.yaml_emit_laws_text.specs.emit_layout.scan_model.Tokens.{TokenBody}
-use Rattle.yaml_emit_laws_text.specs.scan_history.scan_model.Marks.{byte, column_at, mark_at, is_blank_or_end}
 use Rattle.yaml_emit_laws_text.specs.scan_history.History.{indent, is_fresh, margin_at, opened, start_of}
 use Rattle.yaml_emit_laws_text.specs.scan_history.Kinds.{depth_after, may_be_key, cancels, is_value, allows_key}
 use Rattle.yaml_emit_laws_text.specs.scan_history.Words.{WordText, kind_at, word_at}
@@ -14,19 +20,95 @@ use Rattle.yaml_emit_laws_text.specs.scan_history.declared.kind.Kind.{Kind}
 use Rattle.yaml_emit_laws_text.specs.scan_history.declared.kind.Kind.TheVariants as kinds
 use Rattle.yaml_emit_laws_text.specs.scan_history.declared.lexeme.Opens.{Opens}
 use Rattle.yaml_emit_laws_text.specs.scan_history.declared.lexeme.Opens.TheVariants as opening
-use Rattle.yaml_emit_laws_text.specs.Walk.{Left}
-use Rattle.yaml_emit_laws_text.proofs.Places.{has_at, left_first, left_more, left_rest}
 use Rattle.yaml_scan_laws_levels.specs.Pushes.{IsRight, stays_level}
 use Rattle.yaml_scan_laws_levels.specs.Steps.{Comes, WordLeaves}
 use Rattle.yaml_scan_laws_levels.specs.Signs.{SignComes, sign}
 use Rattle.yaml_scan_laws_levels.specs.Tokens.{start_bodies}
 use Rattle.yaml_scan_laws_levels.specs.Walks.{WalkState, WalkReads, ReadsKey, ClosesAt, Outside, behind}
-use Rattle.yaml_scan_laws_levels.proofs.Signing.{signs_come, printed_begins}
+use Rattle.yaml_scan_laws_levels.proofs.Signing.{signs_come}
 use Rattle.yaml_scan_laws_levels.proofs.Stepping.{words_leave}
 use Rattle.yaml_scan_laws_levels.proofs.Walking.{walk_white, walk_key_starts, walk_key_goes, walk_key_stops, walk_says, deeper_leaves}
 use Rattle.yaml_emit_laws_scalars.specs.Stops.{begins_white, white_of}
 use Rattle.yaml_emit_laws_pretty.specs.Spoken.{is_text, Fits, WordStands, Spoken, spoken_bytes, all_bytes, all_bodies, AllFit}
-use Rattle.yaml_emit_laws_pretty.proofs.Entries.{no_gap, white_stands}
+use Rattle.yaml_emit_laws_pretty.proofs.Lining.{no_gap, sign_next, white_stands}
+
+column_step : (text : List ℕ) (q : ℕ) → line_at text (suc q) ≤ line_at text q
+    → column_at text q ≤ column_at text (suc q)
+unfolding column_at line_at
+column_step text q h = elim (cases_Bool (ends_break text q)) [
+  | inl e ↦ let k : line_at text q + 1 ≤ line_at text q = subst (λ (b : Bool). line_at text q + (if b then 1 else 0) ≤ line_at text q) e h in absurd (omega (arith, k))
+  | inr e ↦ subst (λ (b : Bool). column_at text q ≤ (if b then 0 else column_at text q + (if starts (byte text q) then 1 else 0))) (sym e) (omega arith)
+]
+
+pub columns_rise : (text : List ℕ) (p k : ℕ) → line_at text (p + k) ≤ line_at text p
+    → column_at text p ≤ column_at text (p + k)
+columns_rise text p zero h = let z : p + 0 ≡ p = omega arith in subst (λ q. column_at text p ≤ column_at text q) (sym z) (omega arith)
+columns_rise text p (suc k) h =
+    let far : p + suc k ≡ suc (p + k) = omega arith in
+    let h1 : line_at text (suc (p + k)) ≤ line_at text p = subst (λ q. line_at text q ≤ line_at text p) far h in
+    let up = line_at-grows text (p + k) (suc (p + k)) (omega arith) in
+    let low = line_at-grows text p (p + k) (omega arith) in
+    let before = columns_rise text p k (omega (arith, h1, up)) in
+    let step = column_step text (p + k) (omega (arith, h1, low)) in
+    subst (λ q. column_at text p ≤ column_at text q) (sym far) (omega (arith, before, step))
+
+column_first : (text : List ℕ) (q : ℕ) → line_at text (suc q) ≤ line_at text q
+    → starts (byte text q) ≡ true → column_at text (suc q) ≡ column_at text q + 1
+unfolding column_at line_at
+column_first text q h s = elim (cases_Bool (ends_break text q)) [
+  | inl e ↦ let k : line_at text q + 1 ≤ line_at text q = subst (λ (b : Bool). line_at text q + (if b then 1 else 0) ≤ line_at text q) e h in absurd (omega (arith, k))
+  | inr e ↦ rw (e, s) refl
+]
+
+-- behind what begins with a character's first byte the column is greater
+pub columns_grow : (text : List ℕ) (p k : ℕ) → line_at text (p + suc k) ≤ line_at text p
+    → starts (byte text p) ≡ true → column_at text p + 1 ≤ column_at text (p + suc k)
+columns_grow text p k h s =
+    let far : p + suc k ≡ suc p + k = omega arith in
+    let h1 : line_at text (suc p + k) ≤ line_at text p = subst (λ q. line_at text q ≤ line_at text p) far h in
+    let up = line_at-grows text p (suc p) (omega arith) in
+    let more = line_at-grows text (suc p) (suc p + k) (omega arith) in
+    let one = column_first text p (omega (arith, h1, more)) s in
+    let rest = columns_rise text (suc p) k (omega (arith, h1, up)) in
+    subst (λ q. column_at text p + 1 ≤ column_at text q) (sym far) (omega (arith, one, rest))
+
+char_starts : (text : List ℕ) (p x : ℕ) → Has text p (encode_utf8 x) → starts (byte text p) ≡ true
+char_starts text p x h = elim (cases_lt x 128) [
+  | inl u ↦ let k = (subst (λ (bs : List ℕ). Has text p bs) (encode_1 x u) h).0 in low_starts (byte text p) (omega (arith, k, u))
+  | inr u ↦ elim (cases_lt x 2048) [
+    | inl v ↦ let k = (subst (λ (bs : List ℕ). Has text p bs) (encode_2 x u v) h).0 in high_starts (byte text p) (omega (arith, k))
+    | inr v ↦ elim (cases_lt x 65536) [
+      | inl w ↦ let k = (subst (λ (bs : List ℕ). Has text p bs) (encode_3 x v w) h).0 in high_starts (byte text p) (omega (arith, k))
+      | inr w ↦ let k = (subst (λ (bs : List ℕ). Has text p bs) (encode_4 x w) h).0 in high_starts (byte text p) (omega (arith, k))
+    ]
+  ]
+]
+
+-- text begins with a character's first byte
+pub letters_start : (text : List ℕ) (p : ℕ) (cs : List ℕ) → 0 < length (encode_utf8_all cs)
+    → Has text p (encode_utf8_all cs) → starts (byte text p) ≡ true
+letters_start text p [] some h = absurd (omega (arith, some))
+letters_start text p (x ∷ xs) some h = char_starts text p x (has_front text p (encode_utf8 x) (encode_utf8_all xs) h)
+
+-- bytes that end no line
+pub calm_line : (text : List ℕ) (p : ℕ) (xs : List ℕ) → AreCalm xs → Has text p xs
+    → line_at text (p + length xs) ≡ line_at text p
+calm_line text p [] a h = rw add-zero refl
+calm_line text p (x ∷ xs) (c, a) (e, h) =
+    let far : p + suc (length xs) ≡ p + 1 + length xs = omega arith in
+    let ends : ends_break text p ≡ false = ap (λ (b : ℕ). ends_of (byte text (p - 2)) (byte text (p - 1)) b (byte text (p + 1))) e ∙ calm_end (byte text (p - 2)) (byte text (p - 1)) x (byte text (p + 1)) c in
+    ap (λ q. line_at text q) far ∙ calm_line text (p + 1) xs a h ∙ line_more text p ends
+
+-- up to their end the columns are those of their start or right of it
+pub calm_columns : (text : List ℕ) (p : ℕ) (xs : List ℕ) → AreCalm xs → Has text p xs → (q : ℕ)
+    → p ≤ q → q ≤ p + length xs → column_at text p ≤ column_at text q
+calm_columns text p xs a h q up low =
+    let all = calm_line text p xs a h in
+    let one = line_at-grows text q (p + length xs) low in
+    let far : p + (q - p) ≡ q = omega (arith, up) in
+    subst (λ i. column_at text p ≤ column_at text i) far (columns_rise text p (q - p) (subst (λ i. line_at text i ≤ line_at text p) (sym far) (omega (arith, all, one))))
+
+-- ==== Words of a simple key, one behind the other, and its `:`: at any depth.
 
 pub both : (a b : Bool) → a ≡ true → b ≡ false → (a && not b) ≡ true
 both true false e f = refl
@@ -283,11 +365,8 @@ pub key_colon : (d : ℕ) (ls new : List ℕ) (what : Opens) (tail : List ℕ) (
     (λ bs. T (start_bodies what (tokens.key ∷ K (tokens.value ∷ bs))))
 key_colon d ls new what tail x text p e end cs T K f some few r l white opens starts =
     let z : e + 0 ≡ e = omega arith in
-    let first = left_first text e 58 tail l in
-    let gap = no_gap text e (printed_begins text e 58 first (omega arith) (omega arith) (λ h. omega (arith, h))) in
-    let at0 : byte text (e + 0) ≡ 58 = ap (λ q. byte text q) z ∙ first in
-    let alone : is_blank_or_end text (e + 0 + 1) ≡ true = ap (λ q. is_blank_or_end text (q + 1)) z ∙ white_stands text (e + 1) tail (left_more text e 58 tail l) white in
-    let comes = signs_come.colon text e d (indent ls) [] gap at0 alone in
+    let y = sign_next text e 58 tail (omega arith) (omega arith) (λ h. omega (arith, h)) l in
+    let comes = signs_come.colon text e d (indent ls) [] y.none y.at (white_stands text (e + 0 + 1) tail y.left white) in
     let w = sign tokens.value (e + 0 + 1) in
     let r = walk_key_stops x text (spot_at e r.line d false r.wide) (mark_at text p) cs ls new what T K [] w (e + 0 + 1) false (not (nat_lt 0 d)) r.reads (deeper_leaves kinds.ValueMark d false cs f.out) comes
     (subst (λ i. IsRight d ls (column_at text i)) (sym z) (f.right e some few)) (subst (λ i. is_fresh (mark_at text p) (mark_at text i) ≡ true) (sym z) (f.near e few)) opens starts
@@ -360,9 +439,6 @@ unfolding Outside
 deeper_out d [] o = tt
 deeper_out d (c ∷ cs) (a, o) = (omega (arith, a), deeper_out d cs o)
 
-deep_in : (d : ℕ) → nat_lt 0 (d + 1) ≡ true
-deep_in d = grind (arith, nat_tests)
-
 -- the closer
 bracket_closes : (first last : ℕ) (k l : Kind) (opens closes : TokenBody)
     → Brackets first last k l opens closes
@@ -372,14 +448,12 @@ bracket_closes : (first last : ℕ) (k l : Kind) (opens closes : TokenBody)
     → Left text q (last ∷ bs) → KeyRuns x text (q + 1) d p cs ls T (λ bs. K (closes ∷ bs))
 bracket_closes first last k l opens closes b d ls bs x text p q end cs T K f few r left =
     let z : q + 0 ≡ q = omega arith in
-    let here = left_first text q last bs left in
-    let gap = no_gap text q (printed_begins text q last here b.shown_last.0 b.shown_last.1 b.shown_last.2) in
-    let at0 : byte text (q + 0) ≡ last = ap (λ i. byte text i) z ∙ here in
+    let y = sign_next text q last bs b.shown_last.0 b.shown_last.1 b.shown_last.2 left in
     let w = sign closes (q + 0 + 1) in
     let leaves : WordLeaves text (depth_after l (d + 1)) (allows_key l (d + 1 == 0) false) w (q + 0 + 1) false (not (nat_lt 0 (depth_after l (d + 1)))) =
     subst (λ a. WordLeaves text (depth_after l (d + 1)) a w (q + 0 + 1) false (not (nat_lt 0 (depth_after l (d + 1))))) (sym (b.quiet (d + 1 == 0))) (words_leave.all text (depth_after l (d + 1)) false w refl) in
     let s = walk_key_goes x text (spot_at q r.line (d + 1) r.now r.wide) d (mark_at text p) cs ls T K l [] w (q + 0 + 1) false (not (nat_lt 0 (depth_after l (d + 1)))) r.reads (deeper_leaves l (d + 1) (r.now || (false && r.wide)) cs (deeper_out d cs f.out))
-    (b.closing text q (d + 1) (indent ls) [] gap at0) (both (stays_level l (d + 1)) (is_value l) (b.stays_last (d + 1)) b.lone_last) (inl (deep_in d)) (inr (omega arith))
+    (b.closing text q (d + 1) (indent ls) [] y.none y.at) (both (stays_level l (d + 1)) (is_value l) (b.stays_last (d + 1)) b.lone_last) (inl (grind (arith, nat_tests))) (inr (omega arith))
     (subst (λ i. is_fresh (mark_at text p) (mark_at text i) ≡ true) (sym z) (f.near q (omega (arith, few)))) (subst (λ i. is_fresh (mark_at text p) (mark_at text (i + 1)) ≡ true) (sym z) (f.near (q + 1) few)) leaves in
     let shallow : depth_after l (d + 1) ≡ d = b.down (d + 1) ∙ omega arith in
     let wide = not (nat_lt 0 (depth_after l (d + 1))) in
@@ -401,13 +475,11 @@ pub brackets_first : (first last : ℕ) (k l : Kind) (opens closes : TokenBody)
     → KeyRuns x text (p + 2) d p cs ls T (λ bs. opens ∷ closes ∷ bs)
 brackets_first first last k l opens closes b d ls bs x text p line end broken cs more T reads close f few left =
     let z : p + 0 ≡ p = omega arith in
-    let here = left_first text p first (last ∷ bs) left in
-    let gap = no_gap text p (printed_begins text p first here b.shown.0 b.shown.1 b.shown.2) in
-    let at0 : byte text (p + 0) ≡ first = ap (λ i. byte text i) z ∙ here in
+    let y = sign_next text p first (last ∷ bs) b.shown.0 b.shown.1 b.shown.2 left in
     let w = sign opens (p + 0 + 1) in
     let now = allows_key k (d == 0) false in
     let wide = not (nat_lt 0 (depth_after k d)) in
-    let s = walk_key_starts x text (spot_at p line d true broken) cs ls more T k [] w (p + 0 + 1) now wide reads (deeper_leaves k d true cs f.out) (b.opening text p d (indent ls) [] gap at0) b.begins refl
+    let s = walk_key_starts x text (spot_at p line d true broken) cs ls more T k [] w (p + 0 + 1) now wide reads (deeper_leaves k d true cs f.out) (b.opening text p d (indent ls) [] y.none y.at) b.begins refl
     (subst (λ q. ClosesAt d (column_at text q) ls more) (sym z) close) (subst (λ i. is_fresh (mark_at text i) (mark_at text (i + 1)) ≡ true) (sym z) (f.near (p + 1) (omega (arith, few))))
     (words_leave.all text (depth_after k d) now w refl) in
     let o : Opened x text (p + 1) d p cs ls T (λ bs. opens ∷ bs) = subst (λ i. Opened x text (i + 1) d i cs ls T (λ bs. opens ∷ bs)) z
@@ -426,13 +498,11 @@ pub brackets_more : (first last : ℕ) (k l : Kind) (opens closes : TokenBody)
     → KeyRuns x text (q + 2) d p cs ls T (λ bs. K (opens ∷ closes ∷ bs))
 brackets_more first last k l opens closes b d ls bs x text p q end cs T K r f more few left =
     let z : q + 0 ≡ q = omega arith in
-    let here = left_first text q first (last ∷ bs) left in
-    let gap = no_gap text q (printed_begins text q first here b.shown.0 b.shown.1 b.shown.2) in
-    let at0 : byte text (q + 0) ≡ first = ap (λ i. byte text i) z ∙ here in
+    let y = sign_next text q first (last ∷ bs) b.shown.0 b.shown.1 b.shown.2 left in
     let w = sign opens (q + 0 + 1) in
     let now = allows_key k (d == 0) false in
     let wide = not (nat_lt 0 (depth_after k d)) in
-    let s = walk_key_goes x text (spot_at q r.line d false r.wide) d (mark_at text p) cs ls T K k [] w (q + 0 + 1) now wide r.reads (deeper_leaves k d false cs f.out) (b.opening text q d (indent ls) [] gap at0)
+    let s = walk_key_goes x text (spot_at q r.line d false r.wide) d (mark_at text p) cs ls T K k [] w (q + 0 + 1) now wide r.reads (deeper_leaves k d false cs f.out) (b.opening text q d (indent ls) [] y.none y.at)
     (both (stays_level k d) (is_value k) (b.stays d) b.lone) (subst (λ i. IsRight d ls (column_at text i)) (sym z) (f.right q more (omega (arith, few)))) (inl (refl, refl, b.calm))
     (subst (λ i. is_fresh (mark_at text p) (mark_at text i) ≡ true) (sym z) (f.near q (omega (arith, few)))) (subst (λ i. is_fresh (mark_at text p) (mark_at text (i + 1)) ≡ true) (sym z) (f.near (q + 1) (omega (arith, few))))
     (words_leave.all text (depth_after k d) now w refl) in

@@ -1,27 +1,261 @@
--- Spaces and lines.
-use Rattle.std.proofs.Common.{◌≡◌, ℕ, ◌-◌, ◌+◌, ◌≤◌, ◌<◌, ◌==◌, ◌&&◌, ◌||◌, not, nat_lt, Bool, true, false, List, [], ◌∷◌, zero, suc, refl, sym, ap, subst, ◌∙◌, inl, inr, arith}
-use Rattle.std.specs.Prelude.{if◌then◌else◌}
-use Rattle.std.proofs.lemmas.Bool.{cases_Bool, or_left, or_right, not-false, ltb-false, eq-eqb}
+-- Lines between nodes, and the indicators behind them.
+use Rattle.std.proofs.Common.{◌≡◌, ℕ, ◌-◌, ◌+◌, ◌<◌, ◌==◌, ◌&&◌, ◌||◌, not, nat_lt, Bool, true, false, List, [], ◌∷◌, ◌++◌, zero, suc, refl, ap, ◌∙◌, inl, inr, arith, if◌then◌else◌, sym, subst, ◌≤◌}
+use Rattle.std.proofs.lemmas.Bool.{cases_Bool, false≢true, or_left, or_right, not-false, ltb-false, eq-eqb}
 use Rattle.std.proofs.lemmas.Bool.Decides.{nat_tests}
 use Rattle.yaml_emit_laws_text.specs.emit_layout.scan_model.declared.yaml_encoding_t.{yaml_encoding_t}
+use Rattle.yaml_emit_laws_text.specs.emit_layout.scan_model.Tokens as tokens
 use Rattle.yaml_emit_laws_text.specs.emit_layout.scan_model.Tokens.{TokenBody}
-use Rattle.yaml_emit_laws_text.specs.scan_history.scan_model.Marks.{byte, column_at, line_at, ends_of, ends_break}
+use Rattle.yaml_emit_laws_text.specs.scan_history.scan_model.Marks.{break_of, byte, column_at, line_at, is_blank_or_end, ends_of, ends_break}
 use Rattle.yaml_emit_laws_text.specs.emit_layout.emit_text.declared.Cursor.{Cursor}
 use Rattle.yaml_emit_laws_text.specs.emit_layout.emit_text.declared.LineBreak.{LineBreak}
 use Rattle.yaml_emit_laws_text.specs.emit_layout.emit_text.declared.LineBreak.TheVariants.{Lf, Cr, CrLf}
-use Rattle.yaml_emit_laws_text.specs.emit_layout.emit_text.Layout.{Rest, blanks, line, must_break, new_line, indent_to}
-use Rattle.yaml_emit_laws_text.specs.emit_layout.emit_text.Text.{Item}
-use Rattle.yaml_emit_laws_text.specs.Walk.{Left, bytes, first}
-use Rattle.yaml_emit_laws_text.proofs.MarksLemmas.{column_end, line_end}
-use Rattle.yaml_emit_laws_text.proofs.Places.{has_at, left_first, left_more}
-use Rattle.yaml_emit_laws_text.proofs.Steps.{left_letter, letter_low, behind_return}
+use Rattle.yaml_emit_laws_text.specs.emit_layout.emit_text.Layout.{Rest, blank, blanks, line, letters, indicator, must_break, new_line, indent_to, word}
+use Rattle.yaml_emit_laws_text.specs.emit_layout.emit_text.Text.{letter, Item}
+use Rattle.yaml_emit_laws_text.specs.Walk.{bytes, Left, first}
+use Rattle.yaml_emit_laws_text.proofs.Steps.{letter_low, left_letter, behind_return}
+use Rattle.yaml_scan_laws_levels.proofs.Walking.{walk_ends, walk_says, walk_mark, walk_white}
+use Rattle.yaml_emit_laws_scalars.specs.Stops.{begins_white, begins_solid}
+use Rattle.yaml_emit_laws_pretty.specs.Walk.{LinedUp, BareIndicator, Entry, Question, Answer, mark_byte, no_comment, mark_body, mark_level, IsLone, MarkIsWalked, NodeStage, NoFeed, Lined, LineIsWalked, LineEndsNode}
+use Rattle.yaml_emit_laws_pretty.specs.Nodes.{ShowsNode}
+use Rattle.yaml_emit_laws_text.specs.scan_history.History.{indent, margin_at, opened, start_of, level_of}
+use Rattle.yaml_emit_laws_text.specs.scan_history.Kinds.{is_start, is_value, allows_key}
+use Rattle.yaml_emit_laws_text.specs.scan_history.declared.kind.Kind.{Kind}
+use Rattle.yaml_emit_laws_text.specs.scan_history.declared.kind.Kind.TheVariants as kinds
+use Rattle.yaml_emit_laws_text.specs.scan_history.scan_words.Written.{begins_lexeme}
+use Rattle.yaml_emit_laws_text.proofs.Places.{left_first, left_more, has_at}
 use Rattle.yaml_scan_laws_levels.proofs.MarksForward.{line_at-grows}
-use Rattle.yaml_scan_laws_levels.specs.Walks.{WalkState}
+use Rattle.yaml_scan_laws_levels.specs.Fronts.{Rises}
+use Rattle.yaml_scan_laws_levels.specs.White.{IsGap}
+use Rattle.yaml_scan_laws_levels.specs.Walks.{WalkState, ClosesAt, behind}
+use Rattle.yaml_scan_laws_levels.specs.Signs.{sign, MarkComes}
+use Rattle.yaml_scan_laws_levels.specs.Steps.{WordLeaves}
+use Rattle.yaml_scan_laws_levels.proofs.Signing.{signs_come, printed_begins}
 use Rattle.yaml_scan_laws_levels.proofs.Slotting.{letter_columns, feed_line}
-use Rattle.yaml_scan_laws_levels.proofs.Walking.{walk_white}
-use Rattle.yaml_emit_laws_pretty.specs.Walk.{NodeStage, NoFeed, Lined, LineIsWalked, LineEndsNode}
-use Rattle.yaml_emit_laws_text.proofs.Single.{line_start}
+use Rattle.yaml_scan_laws_levels.proofs.Stepping.{words_leave}
 use Rattle.yaml_emit_laws_text.proofs.TextLines.{left_byte}
+use Rattle.yaml_emit_laws_text.proofs.MarksLemmas.{column_end, line_end}
+use Rattle.yaml_emit_laws_text.proofs.Single.{line_start}
+
+-- ---- white
+
+spaces_some : (m : ℕ) (c : Cursor) (rest : Rest) → 0 < m
+    → begins_white (bytes (blanks m c rest)) ≡ true
+unfolding blanks
+spaces_some zero c rest few = absurd (omega (arith, few))
+spaces_some (suc m) c rest few =
+    let k : Rest = λ d. blanks m d rest in
+    ap (λ xs. begins_white xs) (letter_low 32 (k (record { column = c.column + 1; white = true; bare = c.bare; kept = c.kept })) refl)
+
+break_white : (b : LineBreak) (c : Cursor) (rest : Rest)
+    → begins_white (bytes (new_line b c rest)) ≡ true
+break_white Lf c rest = ap (λ xs. begins_white xs) (letter_low 10 (rest (record { column = 0; white = true; bare = true; kept = c.kept })) refl)
+break_white Cr c rest = ap (λ xs. begins_white xs) (letter_low 13 (rest (record { column = 0; white = true; bare = true; kept = c.kept })) refl)
+break_white CrLf c rest = ap (λ xs. begins_white xs) (letter_low 13 (letter 10 ∷ rest (record { column = 0; white = true; bare = true; kept = c.kept })) refl)
+
+space_due : (column n : ℕ) (bare white : Bool) → white ≡ false
+    → (not bare || nat_lt n column || (column == n && not white)) ≡ false → 0 < n - column
+space_due column n true true w e = absurd (cc)
+space_due column n false white w e = absurd (cc)
+space_due column n true false w e = grind (arith, nat_tests)
+
+-- behind what isn't white a line begins with a break or a space
+pub line_begins_white : (b : LineBreak) (n : ℕ) (c : Cursor) (rest : Rest) → c.white ≡ false
+    → begins_white (bytes (line b n c rest)) ≡ true
+unfolding line
+line_begins_white b n c rest white =
+    let after : Rest = λ k. indent_to n k rest in
+    elim (cases_Bool (must_break n c)) [
+      | inl e ↦ ap (λ (t : Bool). begins_white (bytes (if t then new_line b c after else after c))) e ∙ break_white b c after
+      | inr e ↦ ap (λ (t : Bool). begins_white (bytes (if t then new_line b c after else after c))) e ∙ spaces_some (n - c.column) c rest (space_due c.column n c.bare c.white white e)
+    ]
+
+-- so does a word
+pub word_begins_white : (t : List ℕ) (c : Cursor) (rest : Rest) → c.white ≡ false
+    → begins_white (bytes (word t c rest)) ≡ true
+word_begins_white t c rest white =
+    let k : Rest = λ d. letters t d rest in
+    ap (λ (b : Bool). begins_white (bytes (if b then k c else blank c k))) white
+    ∙ ap (λ xs. begins_white xs) (letter_low 32 (k (record { column = c.column + 1; white = true; bare = c.bare; kept = c.kept })) refl)
+
+-- ---- indicators show
+
+indicator_bytes : (b : ℕ) (rest : Rest) (e : Cursor) → nat_lt b 128 ≡ true → e.white ≡ true
+    → bytes (indicator b e rest) ≡ b ∷ bytes
+    (rest (record { column = e.column + 1; white = false; bare = e.bare; kept = e.kept }))
+indicator_bytes b rest e low white =
+    let k : Rest = λ c. letter b ∷ rest (record { column = c.column + 1; white = false; bare = c.bare; kept = c.kept }) in
+    ap (λ (t : Bool). bytes (if t then k e else blank e k)) white ∙ letter_low b (rest (record { column = e.column + 1; white = false; bare = e.bare; kept = e.kept })) low
+
+mark_solid : (k : BareIndicator) (bs : List ℕ) → begins_solid (mark_byte k ∷ bs) ≡ true
+unfolding break_of
+mark_solid Entry bs = refl
+mark_solid Question bs = refl
+mark_solid Answer bs = refl
+
+mark_calm : (k : BareIndicator) (bs : List ℕ) → no_comment (mark_byte k ∷ bs) ≡ true
+unfolding no_comment
+mark_calm Entry bs = refl
+mark_calm Question bs = refl
+mark_calm Answer bs = refl
+
+pub mark_small : (k : BareIndicator) → nat_lt (mark_byte k) 128 ≡ true
+mark_small Entry = refl
+mark_small Question = refl
+mark_small Answer = refl
+
+pub mark_shows : (k : BareIndicator) (n : ℕ) (rest : Rest)
+    → ShowsNode n (λ e. indicator (mark_byte k) e rest)
+mark_shows k n rest = record {
+  solid = λ e bare white column. ap (λ bs. begins_solid bs) (indicator_bytes (mark_byte k) rest e (mark_small k) white) ∙ mark_solid k (bytes (rest (record { column = e.column + 1; white = false; bare = e.bare; kept = e.kept })));
+  calm = λ e bare white column. ap (λ bs. no_comment bs) (indicator_bytes (mark_byte k) rest e (mark_small k) white) ∙ mark_calm k (bytes (rest (record { column = e.column + 1; white = false; bare = e.bare; kept = e.kept })));
+}
+
+-- ---- behind a line
+
+-- the innermost level is left to whoever opened the others
+pub up_ends : (x : yaml_encoding_t) (text : List ℕ) (rest : Rest) (n : ℕ) (kept : Bool) (l : ℕ)
+    (ls : List ℕ) (T : List TokenBody → List TokenBody)
+    → LinedUp x text rest n kept (ls ++ l ∷ []) T
+    → LinedUp x text rest n kept ls (λ bs. T (tokens.block_end ∷ bs))
+up_ends x text rest n kept l ls T up =
+    let h = up.lined in
+    let s = h.stage in
+    record {
+      more = l ∷ up.more;
+      lined = record {
+        cursor = h.cursor;
+        place = h.place;
+        stage = record { reads = walk_ends x text h.place l [] ls up.more T s.reads; flat = s.flat; broken = s.broken; bare = s.bare; line = s.line };
+        left = h.left;
+        bare = h.bare;
+        white = h.white;
+        column = h.column;
+        same = h.same;
+      };
+      later = up.later;
+    }
+
+-- the same tokens in other words
+pub up_says : (x : yaml_encoding_t) (text : List ℕ) (rest : Rest) (n : ℕ) (kept : Bool)
+    (ls : List ℕ) (T U : List TokenBody → List TokenBody) → LinedUp x text rest n kept ls T
+    → ((bs : List TokenBody) → T bs ≡ U bs) → LinedUp x text rest n kept ls U
+up_says x text rest n kept ls T U up e =
+    let h = up.lined in
+    let s = h.stage in
+    record {
+      more = up.more;
+      lined = record {
+        cursor = h.cursor;
+        place = h.place;
+        stage = record { reads = walk_says.other x text h.place [] ls up.more T U s.reads e; flat = s.flat; broken = s.broken; bare = s.bare; line = s.line };
+        left = h.left;
+        bare = h.bare;
+        white = h.white;
+        column = h.column;
+        same = h.same;
+      };
+      later = up.later;
+    }
+
+-- ==== The indicators of a bare line.
+
+pub no_gap : (text : List ℕ) (p : ℕ) → begins_lexeme text p ≡ true → IsGap text p []
+no_gap text p e = let z : p + 0 ≡ p = omega arith in record { has = λ k few. absurd (omega (arith, few)); blank = refl; ends = ap (λ n. begins_lexeme text n) z ∙ e }
+
+-- A sign that is next, behind no gap.
+pub record SignNext (text : List ℕ) (p b : ℕ) (bs : List ℕ) : Type 0 where
+  pub none : IsGap text p []
+  pub at : byte text (p + 0) ≡ b
+  pub left : Left text (p + 0 + 1) bs
+
+-- A printable byte that begins no comment may be one.
+pub sign_next : (text : List ℕ) (p b : ℕ) (bs : List ℕ) → 32 < b → b < 127 → (b ≡ 35 → ⊥)
+    → Left text p (b ∷ bs) → SignNext text p b bs
+sign_next text p b bs low high hash l =
+    let here = left_first text p b bs l in
+    let z : p + 0 ≡ p = omega arith in
+    record { none = no_gap text p (printed_begins text p b here low high hash); at = ap (λ n. byte text n) z ∙ here; left = subst (λ (n : ℕ). Left text (n + 1) bs) (sym z) (left_more text p b bs l) }
+
+-- ---- white in bytes is white in the text
+
+pub white_stands : (text : List ℕ) (p : ℕ) (bs : List ℕ) → Left text p bs → begins_white bs ≡ true
+    → is_blank_or_end text p ≡ true
+unfolding break_of
+white_stands text p [] l e = let z = left_byte text p [] l in rw z refl
+white_stands text p (b ∷ bs) l e = grind (arith, nat_tests)
+
+-- ---- the three indicators
+
+abbrev mark_kind : BareIndicator → Kind
+mark_kind Entry = kinds.BlockEntry
+mark_kind Question = kinds.KeyMark
+mark_kind Answer = kinds.ValueMark
+
+mark_comes : (k : BareIndicator) → MarkComes (mark_byte k) (mark_kind k) (mark_body k)
+mark_comes Entry = signs_come.entry
+mark_comes Question = signs_come.question
+mark_comes Answer = signs_come.colon
+
+mark_prints : (k : BareIndicator) → (32 < mark_byte k) × (mark_byte k < 127) × (mark_byte k ≡ 35
+    → ⊥)
+mark_prints Entry = (omega arith, omega arith, λ y. omega (arith, y))
+mark_prints Question = (omega arith, omega arith, λ y. omega (arith, y))
+mark_prints Answer = (omega arith, omega arith, λ y. omega (arith, y))
+
+mark_starts : (k : BareIndicator)
+    → (is_start (mark_kind k) ≡ true) × (level_of (mark_kind k) ≡ mark_level k)
+    × (allows_key (mark_kind k) true false ≡ true)
+mark_starts Entry = (refl, refl, refl)
+mark_starts Question = (refl, refl, refl)
+mark_starts Answer = (refl, refl, refl)
+
+lone_at : (k : BareIndicator) (text : List ℕ) (o : WalkState) (q : ℕ) → q ≡ o.at → IsLone k text o
+    → is_value (mark_kind k) ≡ true → o.line < line_at text q
+lone_at Entry text o q e l v = absurd (false≢true v)
+lone_at Question text o q e l v = absurd (false≢true v)
+lone_at Answer text o q e l v = subst (λ n. o.line < line_at text n) (sym e) l
+
+pub mark_on : MarkIsWalked
+mark_on k x text n kept ls more new what T rest here lone low rises opens starts parted =
+    let b = mark_byte k in
+    let c = here.cursor in
+    let o = here.place in
+    let s = here.stage in
+    let p = o.at in
+    let column = here.column in
+    let e : Cursor = record { column = c.column + 1; white = false; bare = c.bare; kept = c.kept } in
+    let f : Rest = λ c. letter b ∷ rest (record { column = c.column + 1; white = false; bare = c.bare; kept = c.kept }) in
+    let m = left_letter text p b (rest e) (mark_small k) (subst (λ (t : Bool). Left text p (bytes (if t then f c else blank c f))) here.white here.left) in
+    let (above, below, none) = mark_prints k in
+    let y = sign_next text p b _ above below none m in
+    let z : p + 0 ≡ p = omega arith in
+    let q = p + 0 in
+    let (now, same) = s.bare here.bare in
+    let there : column_at text q ≡ n = ap (λ n. column_at text n) z ∙ same ∙ column in
+    let margin : margin_at (column_at text q) ≡ n + 1 = ap (λ i. i + 1) there in
+    let up : c.column + 1 ≡ n + 1 = ap (λ i. i + 1) column in
+    let comes = mark_comes k text p 0 (indent ls) [] y.none y.at (white_stands text (q + 1) (bytes (rest e)) y.left (parted e here.bare refl up)) in
+    let closes : ClosesAt 0 (column_at text q) ls more = inr (refl, omega (arith, margin, low), subst (λ i. Rises i more) (sym margin) rises) in
+    let (is, level, allows) = mark_starts k in
+    let r = walk_mark x text o ls more new what T (mark_kind k) [] (sign (mark_body k) (q + 1)) (q + 1) true true s.reads s.flat comes is
+    (or_left o.now (false && o.broken) now) closes (lone_at k text o q z lone) (ap (λ i. opened true i ls) margin ∙ opens)
+    (ap (λ i. start_of 0 i ls (level_of (mark_kind k))) margin ∙ ap (λ t. start_of 0 (n + 1) ls t) level ∙ starts)
+    (subst (λ (t : Bool). WordLeaves text 0 t (sign (mark_body k) (q + 1)) (q + 1) true true) (sym allows) (words_leave.all text 0 true (sign (mark_body k) (q + 1)) refl)) in
+    let (next, line) = letter_columns text q b y.at (omega (arith, above)) below in
+    let right : column_at text (q + 1) ≡ n + 1 = next ∙ ap (λ i. i + 1) there in
+    record {
+      cursor = e;
+      place = behind text q (q + 1) 0 true true;
+      stage = record { reads = r; flat = refl; broken = refl; bare = λ b. (refl, right ∙ sym up); line = line_at-grows text q (q + 1) (omega arith) };
+      left = y.left;
+      bare = here.bare;
+      white = refl;
+      column = up;
+      right = right;
+      same = here.same;
+    }
+
+-- ==== Spaces and lines.
 
 -- ---- spaces
 

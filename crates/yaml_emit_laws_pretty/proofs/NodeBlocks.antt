@@ -1,5 +1,5 @@
 -- Block collections with their properties.
-use Rattle.std.proofs.Common.{◌≡◌, ℕ, ◌+◌, ◌<◌, ◌≤◌, ◌&&◌, ◌||◌, not, nat_lt, Bool, true, false, List, [], ◌∷◌, refl, sym, ap, subst, ◌∙◌, arith, Option, Some, None}
+use Rattle.std.proofs.Common.{◌≡◌, ℕ, ◌+◌, ◌<◌, ◌≤◌, ◌&&◌, ◌||◌, not, nat_lt, Bool, true, false, List, [], ◌∷◌, refl, sym, ap, subst, ◌∙◌, arith, Option, Some, None, inl, inr}
 use Rattle.std.proofs.Math.Bool.{and-false, and-true}
 use Rattle.yaml_emit_laws_text.specs.emit_layout.scan_model.declared.yaml_encoding_t.{yaml_encoding_t}
 use Rattle.yaml_emit_laws_text.specs.emit_layout.scan_model.Tokens as tokens
@@ -12,23 +12,23 @@ use Rattle.yaml_emit_laws_text.specs.emit_layout.emit_text.declared.Settings.{Se
 use Rattle.yaml_emit_laws_text.specs.emit_layout.emit_text.Layout.{Layout, Rest, ◌▹◌, when, line, opener}
 use Rattle.yaml_emit_laws_text.specs.emit_layout.declared.level.Part.{Part}
 use Rattle.yaml_emit_laws_text.specs.emit_layout.declared.level.Part.TheVariants as part
-use Rattle.yaml_emit_laws_text.specs.emit_layout.Content.{Start, Opening, Node, Nodes, node, Pairs, pair, sequence_node, mapping_node}
+use Rattle.yaml_emit_laws_text.specs.emit_layout.Content.{Start, Opening, Node, Nodes, node, Pairs, pair, sequence_node, mapping_node, alias_node, scalar_node, no_nodes, no_pairs}
 use Rattle.yaml_emit_laws_text.specs.emit_layout.Grammar.{start_tag}
-use Rattle.yaml_emit_laws_text.specs.emit_layout.Nodes.{Context, context_of, MOST, is_of_mapping, is_flow, checked, indented, indent_of, block_indent_in, properties_text, tag_text, node_layout, items_layout, pairs_layout, before_item, before_key}
+use Rattle.yaml_emit_laws_text.specs.emit_layout.Nodes.{Context, context_of, MOST, is_of_mapping, is_flow, checked, indented, indent_of, block_indent_in, properties_text, tag_text, node_layout, items_layout, pairs_layout, before_item, before_key, is_simple_part}
 use Rattle.yaml_emit_laws_text.specs.Bodies.{anchor_bodies, tag_bodies}
 use Rattle.yaml_emit_laws_text.specs.Walk.{Left, bytes}
-use Rattle.yaml_emit_laws_text.specs.Writable.{IsWritableAnchor, IsWritableTag}
+use Rattle.yaml_emit_laws_text.specs.Writable.{IsWritableAnchor, IsWritableTag, IsWritable, AreItemsWritable, ArePairsWritable}
 use Rattle.yaml_emit_laws_text.proofs.Steps.{deep_bytes}
 use Rattle.yaml_scan_laws_levels.specs.Walks.{WalkState}
 use Rattle.yaml_emit_laws_scalars.specs.Stops.{begins_white}
 use Rattle.yaml_emit_laws_scalars.specs.BlockLaws.{margin_round}
-use Rattle.yaml_emit_laws_pretty.specs.Bodies.{keeps, is_bare, is_flow_at, node_bodies, items_bodies, pairs_bodies, sequence_opens, sequence_closes, mapping_opens, mapping_closes, node_kept, items_kept, pairs_kept}
+use Rattle.yaml_emit_laws_pretty.specs.Bodies.{keeps, is_bare, is_flow_at, node_bodies, items_bodies, pairs_bodies, sequence_opens, sequence_closes, mapping_opens, mapping_closes, node_kept, items_kept, pairs_kept, style_at}
 use Rattle.yaml_emit_laws_pretty.specs.Walk.{NodeStage, LinedUp}
-use Rattle.yaml_emit_laws_pretty.specs.Nodes.{Ending, NodeWalks, IsPretty, PropertiesAreWalked, PartedBehind, block_position, column_round, is_place}
-use Rattle.yaml_emit_laws_pretty.proofs.NodeLines.{line_begins_white, word_begins_white, up_says}
-use Rattle.yaml_emit_laws_pretty.proofs.NodeItems.{MoreItems, sequence_walks, loose_walks}
-use Rattle.yaml_emit_laws_pretty.proofs.NodePairs.{PairWalks, PairsWalk, mapping_walks}
+use Rattle.yaml_emit_laws_pretty.specs.Nodes.{Ending, NodeWalks, IsPretty, PropertiesAreWalked, PartedBehind, block_position, column_round, is_place, NodesAreWalked, LeavesAreWalked, BlockScalarsAreWalked, is_block, BracketsAreWalked, SimpleKeysAreWalked}
+use Rattle.yaml_emit_laws_pretty.proofs.Lining.{line_begins_white, word_begins_white, up_says}
+use Rattle.yaml_emit_laws_pretty.proofs.NodePairs.{MoreItems, sequence_walks, loose_walks, more_none, more_item, PairWalks, PairsWalk, mapping_walks}
 use Rattle.yaml_emit_laws_scalars.proofs.NearKeys.{kept_writable}
+use Rattle.std.proofs.lemmas.Bool.{cases_Bool}
 
 -- ---- properties, or none
 
@@ -116,19 +116,6 @@ unfolding node_bodies
 mapping_said p q bare o k v ps block bs =
     sym (ap (λ (b : Bool). anchor_bodies o.anchor (tag_bodies p.directives (start_tag false o) (mapping_opens b (pairs_bodies p b true (pair k v ps) (mapping_closes b bs))))) block)
 
-sequence_keeps : (p : Context) (q : Part) (o : Start) (y : Node) (ys : Nodes) (kept : Bool)
-    → is_flow_at p false o false ≡ false
-    → items_kept p false (node y ys) kept ≡ node_kept p false q (sequence_node o (node y ys)) kept
-unfolding node_kept
-sequence_keeps p q o y ys kept block = sym (ap (λ (b : Bool). items_kept p b (node y ys) kept) block)
-
-mapping_keeps : (p : Context) (q : Part) (o : Start) (k v : Node) (ps : Pairs) (kept : Bool)
-    → is_flow_at p false o false ≡ false
-    → pairs_kept p false (pair k v ps) kept
-    ≡ node_kept p false q (mapping_node o (pair k v ps)) kept
-unfolding node_kept
-mapping_keeps p q o k v ps kept block = sym (ap (λ (b : Bool). pairs_kept p b (pair k v ps) kept) block)
-
 -- ---- behind the properties
 
 -- all items of a sequence at whatever column
@@ -159,6 +146,49 @@ items_on p None q true y ys deep place walk x text c o ls m after T s level up e
     root_keeps false b e f = absurd (cc)
 items_on p (Some n) q true y ys deep place walk x text c o ls m after T s level up ending loose l = loose_walks p n y ys (walk.first n) (walk.others n) x text c o ls m after T s level up ending l
 
+-- ---- collections
+
+-- A block collection by what it holds at a column: behind its properties, where that begins with a line.
+block_collection : PropertiesAreWalked → (s : Settings) (d : Opening) → IsPretty s d
+    → (around : Option ℕ) (q : Part) (bare : Bool) (y : Node) (a t : Option (List ℕ))
+    → IsWritableAnchor a → IsWritableTag t
+    → (column : Cursor → ℕ) (held : ℕ → Layout) (B : List TokenBody → List TokenBody)
+    (K : Bool → Bool)
+    → ((c : Cursor) (R : Rest) → node_layout (context_of s d.directives) (block_position around q) y c
+    R ≡ properties_text (context_of s d.directives) a t c
+    (λ e. indented column (λ n. checked n ▹ held n) e R))
+    → ((n : ℕ) (e : Cursor) (R : Rest) → e.white ≡ false → begins_white (bytes (held n e R)) ≡ true)
+    → ((bs : List TokenBody) → anchor_bodies a (tag_bodies d.directives t (B bs))
+    ≡ node_bodies (context_of s d.directives) false q bare y bs)
+    → ((kept : Bool) → K kept ≡ node_kept (context_of s d.directives) false q y kept)
+    → ((x : yaml_encoding_t) (text : List ℕ) (c : Cursor) (o : WalkState) (ls : List ℕ) (m : ℕ)
+    (after : Rest) (T : List TokenBody → List TokenBody)
+    → NodeStage x text c o ls [] T → indent ls ≡ margin_round around → m ≤ column_round around
+    → Ending s.line_break m (indent ls) after → c.bare ≡ (bare && is_bare a t)
+    → Left text o.at (bytes (held (column c) c (λ e. line s.line_break m e after)))
+    → LinedUp x text after m (K c.kept) ls (λ bs. T (B bs)))
+    → NodeWalks (context_of s d.directives) around q bare y
+block_collection law s d pretty around q bare y a t good fine column held B K laid white said keeps walk = record {
+  walks = λ ls c m after is level up ending x text w T st right l.
+      let p = context_of s d.directives in
+      let R : Rest = λ e. line s.line_break m e after in
+      let body : Rest = λ e. indented column (λ n. checked n ▹ held n) e R in
+      let l1 = subst (λ t. Left text w.at (bytes t)) (laid c R) l in
+      let h = opens_on law s d pretty a t good fine ls c body (λ e b f. inside e R f) x text w T st right l1 in
+      let e = h.cursor in
+      let l2 = subst (λ (bs : List ℕ). Left text h.place.at bs) (deep_bytes (nat_lt MOST (column e)) (held (column e) e R)) h.left in
+      let all = walk x text e h.place ls m after (λ bs. T (anchor_bodies a (tag_bodies d.directives t bs))) h.stage level up ending (h.is ∙ ap (λ (b : Bool). b && is_bare a t) is) l2 in
+      let told = up_says x text after m (K e.kept) ls _ (λ bs. T (node_bodies p false q bare y bs)) all (λ bs. ap (λ ts. T ts) (said bs)) in
+      subst (λ k. LinedUp x text after m k ls (λ bs. T (node_bodies p false q bare y bs))) (ap (λ k. K k) h.same ∙ keeps c.kept) told;
+  white = λ c m after f.
+      let R : Rest = λ e. line s.line_break m e after in
+      ap (λ t. begins_white (bytes t)) (laid c R) ∙ properties_white (context_of s d.directives) a t c (λ e. indented column (λ n. checked n ▹ held n) e R) f (inside c R f);
+}
+  where
+    inside : (e : Cursor) (R : Rest) → e.white ≡ false
+        → begins_white (bytes (indented column (λ n. checked n ▹ held n) e R)) ≡ true
+    inside e R f = ap (λ bs. begins_white bs) (deep_bytes (nat_lt MOST (column e)) (held (column e) e R)) ∙ white (column e) e R f
+
 -- ---- block sequences
 
 pub block_sequence : PropertiesAreWalked → (s : Settings) (d : Opening) → IsPretty s d
@@ -167,41 +197,18 @@ pub block_sequence : PropertiesAreWalked → (s : Settings) (d : Opening) → Is
     → is_flow_at (context_of s d.directives) false o false ≡ false
     → ItemsWalk (context_of s d.directives) y ys
     → NodeWalks (context_of s d.directives) around q bare (sequence_node o (node y ys))
-unfolding items_layout before_item
-block_sequence law s d pretty around q bare place o y ys good fine block walk = record {
-  walks = λ ls c m after is level up ending x text w T st right l.
-      let p = context_of s d.directives in
-      let R : Rest = λ e. line s.line_break m e after in
-      let tag = start_tag false o in
-      let body : Rest = λ e. indented (indent_of s (block_position around q) true false) (λ n. checked n ▹ items_layout p false n true (node y ys)) e R in
-      let l1 = subst (λ t. Left text w.at (bytes t)) (sequence_layout s d.directives around q o y ys pretty.pretty block c R) l in
-      let h = opens_on law s d pretty o.anchor tag good (kept_writable (false || not o.implicit) o.tag fine) ls c body (λ e b white. inside_white p around q y ys e m after white) x text w T st right l1 in
-      let e = h.cursor in
-      let U : List TokenBody → List TokenBody = λ bs. T (anchor_bodies o.anchor (tag_bodies d.directives tag bs)) in
-      let loose = keeps q bare o in
-      let same : (is_of_mapping q && not e.bare) ≡ loose = ap (λ (b : Bool). is_of_mapping q && not b) h.is ∙ ap (λ (b : Bool). is_of_mapping q && not (b && is_bare o.anchor tag)) is in
-      let l2 = subst (λ (bs : List ℕ). Left text h.place.at bs) (deep_bytes (nat_lt MOST (block_indent_in s around (is_of_mapping q && not e.bare))) (items_layout p false (block_indent_in s around (is_of_mapping q && not e.bare)) true (node y ys) e R)) h.left in
-      let l3 = subst (λ (b : Bool). Left text h.place.at (bytes (items_layout p false (block_indent_in s around b) true (node y ys) e R))) same l2 in
-      let least = pretty.least in
-      let all = items_on p around q loose y ys (omega (arith, least)) place walk x text e h.place ls m after U h.stage level up ending same l3 in
-      let told = up_says x text after m (items_kept p false (node y ys) e.kept) ls _ (λ bs. T (node_bodies p false q bare (sequence_node o (node y ys)) bs)) all (λ bs. ap (λ ts. T ts) (sequence_said p q bare o y ys block bs)) in
-      subst (λ k. LinedUp x text after m k ls (λ bs. T (node_bodies p false q bare (sequence_node o (node y ys)) bs))) (ap (λ k. items_kept p false (node y ys) k) h.same ∙ sequence_keeps p q o y ys c.kept block) told;
-  white = λ c m after white.
-      let p = context_of s d.directives in
-      let R : Rest = λ e. line s.line_break m e after in
-      ap (λ t. begins_white (bytes t)) (sequence_layout s d.directives around q o y ys pretty.pretty block c R)
-      ∙ properties_white p o.anchor (start_tag false o) c (λ e. indented (indent_of s (block_position around q) true false) (λ n. checked n ▹ items_layout p false n true (node y ys)) e R) white (inside_white p around q y ys c m after white);
-}
-  where
-    inside_white : (p : Context) (around : Option ℕ) (q : Part) (y : Node) (ys : Nodes) (e : Cursor)
-        (m : ℕ) (after : Rest) → e.white ≡ false
-        → begins_white (bytes (indented (indent_of p.settings (block_position around q) true false)
-        (λ n. checked n ▹ items_layout p false n true (node y ys)) e
-        (λ i. line p.settings.line_break m i after))) ≡ true
-    inside_white p around q y ys e m after white =
-        let n = block_indent_in p.settings around (is_of_mapping q && not e.bare) in
-        let R : Rest = λ i. line p.settings.line_break m i after in
-        ap (λ bs. begins_white bs) (deep_bytes (nat_lt MOST n) (items_layout p false n true (node y ys) e R)) ∙ line_begins_white p.settings.line_break n e _ white
+unfolding items_layout before_item node_kept
+block_sequence law s d pretty around q bare place o y ys good fine block walk =
+    let p = context_of s d.directives in
+    let loose = keeps q bare o in
+    let least = pretty.least in
+    block_collection law s d pretty around q bare (sequence_node o (node y ys)) o.anchor (start_tag false o) good (kept_writable (false || not o.implicit) o.tag fine)
+    (indent_of s (block_position around q) true false) (λ n. items_layout p false n true (node y ys)) (λ bs. sequence_opens false loose (items_bodies p false true (node y ys) (sequence_closes false loose bs))) (λ kept. items_kept p false (node y ys) kept)
+    (sequence_layout s d.directives around q o y ys pretty.pretty block) (λ n e R white. line_begins_white s.line_break n e _ white) (sequence_said p q bare o y ys block) (λ kept. (sym (ap (λ (b : Bool). items_kept p b (node y ys) kept) block)))
+    (λ x text c w ls m after T st level up ending is l.
+    let same : (is_of_mapping q && not c.bare) ≡ loose = ap (λ (b : Bool). is_of_mapping q && not b) is in
+    items_on p around q loose y ys (omega (arith, least)) place walk x text c w ls m after T st level up ending same
+    (subst (λ (b : Bool). Left text w.at (bytes (items_layout p false (block_indent_in s around b) true (node y ys) c (λ e. line s.line_break m e after)))) same l))
 
 -- ---- block mappings
 
@@ -232,36 +239,90 @@ pub block_mapping : PropertiesAreWalked → (s : Settings) (d : Opening) → IsP
     → is_flow_at (context_of s d.directives) false o false ≡ false
     → BothWalk (context_of s d.directives) k v ps
     → NodeWalks (context_of s d.directives) around q bare (mapping_node o (pair k v ps))
-unfolding pairs_layout before_key
-block_mapping law s d pretty around q bare o k v ps good fine block walk = record {
-  walks = λ ls c m after is level up ending x text w T st right l.
-      let p = context_of s d.directives in
-      let R : Rest = λ e. line s.line_break m e after in
-      let tag = start_tag false o in
-      let n = block_indent_in s around false in
-      let body : Rest = λ e. indented (indent_of s (block_position around q) false false) (λ n. checked n ▹ pairs_layout p false n true (pair k v ps)) e R in
-      let l1 = subst (λ t. Left text w.at (bytes t)) (mapping_layout s d.directives around q o k v ps pretty.pretty block c R) l in
-      let h = opens_on law s d pretty o.anchor tag good (kept_writable (false || not o.implicit) o.tag fine) ls c body (λ e b white. inside_white p around q k v ps e m after white) x text w T st right l1 in
-      let e = h.cursor in
-      let U : List TokenBody → List TokenBody = λ bs. T (anchor_bodies o.anchor (tag_bodies d.directives tag bs)) in
-      let l2 = subst (λ (bs : List ℕ). Left text h.place.at bs) (deep_bytes (nat_lt MOST n) (pairs_layout p false n true (pair k v ps) e R)) h.left in
-      let least = pretty.least in
-      let all = pairs_on p around k v ps (omega (arith, least)) walk x text e h.place ls m after U h.stage level up ending l2 in
-      let told = up_says x text after m (pairs_kept p false (pair k v ps) e.kept) ls _ (λ bs. T (node_bodies p false q bare (mapping_node o (pair k v ps)) bs)) all (λ bs. ap (λ ts. T ts) (mapping_said p q bare o k v ps block bs)) in
-      subst (λ t. LinedUp x text after m t ls (λ bs. T (node_bodies p false q bare (mapping_node o (pair k v ps)) bs))) (ap (λ t. pairs_kept p false (pair k v ps) t) h.same ∙ mapping_keeps p q o k v ps c.kept block) told;
-  white = λ c m after white.
-      let p = context_of s d.directives in
-      let R : Rest = λ e. line s.line_break m e after in
-      ap (λ t. begins_white (bytes t)) (mapping_layout s d.directives around q o k v ps pretty.pretty block c R)
-      ∙ properties_white p o.anchor (start_tag false o) c (λ e. indented (indent_of s (block_position around q) false false) (λ n. checked n ▹ pairs_layout p false n true (pair k v ps)) e R) white (inside_white p around q k v ps c m after white);
-}
-  where
-    inside_white : (p : Context) (around : Option ℕ) (q : Part) (k v : Node) (ps : Pairs)
-        (e : Cursor) (m : ℕ) (after : Rest) → e.white ≡ false
-        → begins_white (bytes (indented (indent_of p.settings (block_position around q) false false)
-        (λ n. checked n ▹ pairs_layout p false n true (pair k v ps)) e
-        (λ i. line p.settings.line_break m i after))) ≡ true
-    inside_white p around q k v ps e m after white =
-        let n = block_indent_in p.settings around false in
-        let R : Rest = λ i. line p.settings.line_break m i after in
-        ap (λ bs. begins_white bs) (deep_bytes (nat_lt MOST n) (pairs_layout p false n true (pair k v ps) e R)) ∙ line_begins_white p.settings.line_break n e _ white
+unfolding pairs_layout before_key node_kept
+block_mapping law s d pretty around q bare o k v ps good fine block walk =
+    let p = context_of s d.directives in
+    let least = pretty.least in
+    block_collection law s d pretty around q bare (mapping_node o (pair k v ps)) o.anchor (start_tag false o) good (kept_writable (false || not o.implicit) o.tag fine)
+    (indent_of s (block_position around q) false false) (λ n. pairs_layout p false n true (pair k v ps)) (λ bs. mapping_opens false (pairs_bodies p false true (pair k v ps) (mapping_closes false bs))) (λ kept. pairs_kept p false (pair k v ps) kept)
+    (mapping_layout s d.directives around q o k v ps pretty.pretty block) (λ n e R white. line_begins_white s.line_break n e _ white) (mapping_said p q bare o k v ps block) (λ kept. (sym (ap (λ (b : Bool). pairs_kept p b (pair k v ps) kept) block)))
+    (λ x text c w ls m after T st level up ending is l. pairs_on p around k v ps (omega (arith, least)) walk x text c w ls m after T st level up ending l)
+
+-- ==== All nodes of blocks, by induction.
+
+-- the laws of leaves, brackets, properties and simple keys
+record Parts : Type 0 where
+  leaves : LeavesAreWalked
+  blocks : BlockScalarsAreWalked
+  brackets : BracketsAreWalked
+  properties : PropertiesAreWalked
+  keys : SimpleKeysAreWalked
+
+-- what is walked as a node is no simple key
+place_whole : (around : Option ℕ) (q : Part) → is_place around q ≡ true → is_simple_part q ≡ false
+place_whole None part.SimpleKey e = absurd (cc)
+place_whole (Some n) part.Item e = refl
+place_whole (Some n) part.Key e = refl
+place_whole (Some n) part.SimpleKey e = absurd (cc)
+place_whole (Some n) part.Value e = refl
+place_whole None _ e = refl
+
+none_flows : (a b c : Bool) → (a || (b || (c || true))) ≡ false → ⊥
+none_flows true b c e = absurd (cc)
+none_flows false true c e = absurd (cc)
+none_flows false false true e = absurd (cc)
+none_flows false false false e = absurd (cc)
+
+mutual
+  node_on : Parts → (s : Settings) (d : Opening) → IsPretty s d → (y : Node) → IsWritable y
+      → (around : Option ℕ) (q : Part) (bare : Bool) → is_place around q ≡ true
+      → NodeWalks (context_of s d.directives) around q bare y
+  node_on laws s d pretty (alias_node name) fine around q bare place = laws.leaves s d pretty (alias_node name) fine around q bare (place_whole around q place) refl refl
+  node_on laws s d pretty (scalar_node v) fine around q bare place = elim (cases_Bool (is_block (style_at (context_of s d.directives) false q v))) [
+    | inl e ↦ laws.blocks s d pretty v fine around q bare (place_whole around q place) e
+    | inr e ↦ laws.leaves s d pretty (scalar_node v) fine around q bare (place_whole around q place) refl e
+  ]
+  node_on laws s d pretty (sequence_node o no_nodes) fine around q bare place = elim (cases_Bool (is_flow_at (context_of s d.directives) false o true)) [
+    | inl e ↦ laws.brackets s d pretty (sequence_node o no_nodes) fine e around q bare (place_whole around q place)
+    | inr e ↦ absurd (none_flows s.canonical false o.flow e)
+  ]
+  node_on laws s d pretty (sequence_node o (node y ys)) (anchor, tag, (one, all)) around q bare place = elim (cases_Bool (is_flow_at (context_of s d.directives) false o false)) [
+    | inl e ↦ laws.brackets s d pretty (sequence_node o (node y ys)) (anchor, tag, (one, all)) e around q bare (place_whole around q place)
+    | inr e ↦ block_sequence laws.properties s d pretty around q bare place o y ys anchor tag e (record { first = λ n. node_on laws s d pretty y one (Some n) part.Item true refl; others = λ n. all_items_on laws s d pretty ys all n })
+  ]
+  node_on laws s d pretty (mapping_node o no_pairs) fine around q bare place = elim (cases_Bool (is_flow_at (context_of s d.directives) false o true)) [
+    | inl e ↦ laws.brackets s d pretty (mapping_node o no_pairs) fine e around q bare (place_whole around q place)
+    | inr e ↦ absurd (none_flows s.canonical false o.flow e)
+  ]
+  node_on laws s d pretty (mapping_node o (pair k v ps)) (anchor, tag, (key, value, all)) around q bare place = elim (cases_Bool (is_flow_at (context_of s d.directives) false o false)) [
+    | inl e ↦ laws.brackets s d pretty (mapping_node o (pair k v ps)) (anchor, tag, (key, value, all)) e around q bare (place_whole around q place)
+    | inr e ↦ block_mapping laws.properties s d pretty around q bare o k v ps anchor tag e (record {
+      first = λ n. record {
+        simple = λ is. laws.keys s d pretty k key is;
+        asked = node_on laws s d pretty k key (Some n) part.Key true refl;
+        value = λ b. node_on laws s d pretty v value (Some n) part.Value b refl;
+      };
+      others = λ n. all_pairs_on laws s d pretty ps all n;
+    })
+  ]
+
+  all_items_on : Parts → (s : Settings) (d : Opening) → IsPretty s d → (ys : Nodes)
+      → AreItemsWritable ys → (n : ℕ) → MoreItems (context_of s d.directives) n ys
+  all_items_on laws s d pretty no_nodes fine n = more_none (context_of s d.directives) n
+  all_items_on laws s d pretty (node y ys) (one, all) n = more_item (context_of s d.directives) n y ys (node_on laws s d pretty y one (Some n) part.Item true refl) (all_items_on laws s d pretty ys all n)
+
+  all_pairs_on : Parts → (s : Settings) (d : Opening) → IsPretty s d → (ps : Pairs)
+      → ArePairsWritable ps → (n : ℕ) → PairsWalk (context_of s d.directives) n ps
+  all_pairs_on laws s d pretty no_pairs fine n = tt
+  all_pairs_on laws s d pretty (pair k v ps) (key, value, all) n = (
+    record {
+      simple = λ is. laws.keys s d pretty k key is;
+      asked = node_on laws s d pretty k key (Some n) part.Key true refl;
+      value = λ b. node_on laws s d pretty v value (Some n) part.Value b refl;
+    },
+    all_pairs_on laws s d pretty ps all n,
+  )
+
+pub nodes_walk : LeavesAreWalked → BlockScalarsAreWalked → BracketsAreWalked → PropertiesAreWalked
+    → SimpleKeysAreWalked → NodesAreWalked
+nodes_walk leaves blocks brackets properties keys s d pretty y fine around q bare place = node_on (record { leaves = leaves; blocks = blocks; brackets = brackets; properties = properties; keys = keys }) s d pretty y fine around q bare place

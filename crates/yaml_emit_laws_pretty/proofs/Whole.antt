@@ -9,20 +9,19 @@ use Rattle.yaml_emit_laws_text.proofs.Joining.{written_readable, written_directi
 use Rattle.yaml_emit_laws_text.proofs.Ascii.{spelled_ascii, directive_ascii}
 use Rattle.yaml_emit_laws_text.proofs.TagsLines.{directive_read}
 use Rattle.yaml_emit_laws_scalars.proofs.Single.{single_back}
-use Rattle.yaml_emit_laws_scalars.proofs.PlainLaw.{plain_back}
+use Rattle.yaml_emit_laws_scalars.proofs.PlainStart.{plain_back}
 use Rattle.yaml_emit_laws_scalars.proofs.Styles.{styles_allowed}
-use Rattle.yaml_emit_laws_scalars.proofs.Stands.{has_gap, stands, are_words, quoted_stands}
-use Rattle.yaml_emit_laws_pretty.specs.Nodes.{NodesAreWalked, LeavesAreWalked, BlockScalarsAreWalked, BracketsAreWalked, PropertiesAreWalked, SimpleKeysAreWalked}
+use Rattle.yaml_emit_laws_scalars.proofs.Stopping.{has_gap, stands, are_words, quoted_stands}
+use Rattle.yaml_emit_laws_pretty.specs.Nodes.{NodesAreWalked, LeavesAreWalked, BlockScalarsAreWalked, BracketsAreWalked, PropertiesAreWalked}
 use Rattle.yaml_emit_laws_pretty.specs.Flows.{KeysAreWalkedIn}
 use Rattle.yaml_emit_laws_pretty.specs.DocLaws.{PrettyTextIsRead}
-use Rattle.yaml_emit_laws_pretty.proofs.Plains.{plain_on}
-use Rattle.yaml_emit_laws_pretty.proofs.Singles.{single_on}
+use Rattle.yaml_emit_laws_pretty.proofs.SpokenWords.{plain_on, single_on}
 use Rattle.yaml_emit_laws_pretty.proofs.LeafNodes.{leaves_on, blocks_on}
-use Rattle.yaml_emit_laws_pretty.proofs.LeafDress.{properties_on}
+use Rattle.yaml_emit_laws_pretty.proofs.LeafProps.{properties_on}
 use Rattle.yaml_emit_laws_pretty.proofs.KeyLeaves.{keys_walk, keys_walk_in}
 use Rattle.yaml_emit_laws_pretty.proofs.FlowBlocks.{brackets_walk}
-use Rattle.yaml_emit_laws_pretty.proofs.NodeWalks.{nodes_walk}
-use Rattle.yaml_emit_laws_pretty.proofs.DocText.{documents_read}
+use Rattle.yaml_emit_laws_pretty.proofs.NodeBlocks.{nodes_walk}
+use Rattle.yaml_emit_laws_pretty.proofs.DocDirectives.{documents_read}
 
 leaves : LeavesAreWalked
 leaves = leaves_on (plain_on has_gap stands are_words) (single_on (quoted_stands single_spelling_reads) are_words) quoted_is_back styles_allowed has_gap
@@ -32,9 +31,6 @@ blocks = blocks_on has_gap
 
 properties : PropertiesAreWalked
 properties = properties_on
-
-keys : SimpleKeysAreWalked
-keys = keys_walk (record { gaps = has_gap; words = are_words; singles = single_back single_spelling_reads; styles = styles_allowed })
 
 keys_in : KeysAreWalkedIn
 keys_in = keys_walk_in (record { gaps = has_gap; words = are_words; singles = single_back single_spelling_reads; styles = styles_allowed })
@@ -55,7 +51,7 @@ brackets = brackets_walk (record {
 }) keys_in properties
 
 pub nodes_are_walked : NodesAreWalked
-nodes_are_walked = nodes_walk leaves blocks brackets properties keys
+nodes_are_walked = nodes_walk leaves blocks brackets properties (keys_walk (record { gaps = has_gap; words = are_words; singles = single_back single_spelling_reads; styles = styles_allowed }))
 
 pub text_is_read : PrettyTextIsRead
 text_is_read = documents_read (record { versions = version_is_read; reads = directive_read; ascii = directive_ascii; readable = written_directives }) nodes_are_walked

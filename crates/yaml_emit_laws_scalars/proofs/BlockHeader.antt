@@ -1,23 +1,181 @@
--- The header of a block scalar is read.
-use Rattle.std.proofs.Common.{◌≡◌, ◌≢◌, ℕ, ◌+◌, ◌<◌, ◌≤◌, Bool, true, false, not, ◌==◌, ◌||◌, nat_lt, List, [], ◌∷◌, ◌++◌, length, Ok, refl, sym, ap, subst, ◌∙◌, arith, add-zero}
+-- Breaks at the ends of lines, and characters between them.
+use Rattle.std.proofs.Common.{◌≡◌, ◌≢◌, ℕ, ◌+◌, ◌<◌, ◌≤◌, true, false, ◌||◌, ◌==◌, List, [], ◌∷◌, ◌++◌, length, refl, sym, ap, ◌∙◌, inl, inr, arith, encode_utf8, encode_utf8_all, Bool, not, nat_lt, Ok, subst, add-zero, ◌-◌, get_or}
+use Rattle.std.proofs.lemmas.Bool.{cases_lt, cases_eq, ne_eqb, or_parts, eqb-false}
+use lib.Utf8.{encode}
+use Rattle.yaml_emit_laws_text.specs.scan_model.Marks.{byte, break_of, break_width, is_blank, column_at}
+use Rattle.yaml_emit_laws_text.specs.scan_model.Breaks.{break_value, is_feed}
+use Rattle.yaml_scan_block.specs.Value.{starts_blank}
+use Rattle.yaml_emit_laws_text.proofs.HasLemmas.{Has, has_front, has_at}
+use Rattle.yaml_emit_laws_text.specs.emit_text.declared.LineBreak.{LineBreak}
+use Rattle.yaml_emit_laws_text.specs.emit_text.declared.LineBreak.TheVariants.{Lf, Cr, CrLf}
+use Rattle.yaml_emit_laws_text.specs.emit_text.Text.{is_break, Item}
+use Rattle.yaml_emit_laws_text.specs.emit_text.Quoted.{is_printable}
+use Rattle.yaml_emit_laws_text.proofs.Chars.{encode_1, encode_2, encode_3, encode_4}
+use Rattle.yaml_emit_laws_text.proofs.Bytes.{high_blank}
+use Rattle.yaml_emit_laws_scalars.specs.BlockLines.{LineMark, own, separator, paragraph, mark_char, mark_text, mark_bytes, mark_means, NoWhite}
 use Rattle.std.proofs.lemmas.Bool.Decides.{nat_tests}
-use Rattle.yaml_emit_laws_text.specs.scan_model.Marks.{byte, break_width, column_at, is_blank}
 use Rattle.yaml_emit_laws_text.proofs.MarksLemmas.{past_break}
 use Rattle.yaml_emit_laws_text.specs.scan_model.Runs.{is_text, is_blank_there, past_blanks}
 use Rattle.yaml_emit_laws_text.specs.scan_model.Classes.{is_digit_byte}
 use Rattle.yaml_emit_laws_text.proofs.RunsLemmas.{past_stop}
-use Rattle.yaml_emit_laws_text.proofs.HasLemmas.{Has}
 use Rattle.yaml_scan_block.specs.Header.{is_chomping, chomp_of as chomp_at, digit_of, digit_place, chomping_place, indicators, past_comment, header_end, header_at}
 use Rattle.yaml_scan_block.proofs.HeaderLemmas.{whole_header}
-use Rattle.yaml_emit_laws_text.specs.emit_text.declared.LineBreak.{LineBreak}
-use Rattle.yaml_emit_laws_text.specs.emit_text.declared.LineBreak.TheVariants.{Lf, Cr, CrLf}
 use Rattle.yaml_emit_laws_text.specs.emit_text.Spelling.{break_text}
 use Rattle.yaml_emit_laws_text.proofs.Values.{cond_true, cond_false}
-use Rattle.yaml_emit_laws_scalars.specs.BlockLines.{own}
 use Rattle.yaml_emit_laws_text.specs.emit_text.declared.page.Chomp.{Chomp as Chomping}
 use Rattle.yaml_emit_laws_text.specs.emit_text.declared.page.Chomp.TheVariants as chomping
-use Rattle.yaml_emit_laws_scalars.proofs.BlockMarks.{NoFeed, breaks}
 use Rattle.yaml_emit_laws_scalars.proofs.BlockWaiting.{read_chomp}
+use Rattle.std.proofs.lemmas.List.{get_or_past}
+use Rattle.yaml_emit_laws_text.specs.emit_text.declared.Cursor.{Cursor}
+use Rattle.yaml_emit_laws_text.specs.emit_text.Layout.{Rest}
+use Rattle.yaml_emit_laws_text.specs.emit_layout.Nodes.{page_at}
+use Rattle.yaml_emit_laws_text.specs.emit_text.declared.page.Page.{Page}
+use Rattle.yaml_emit_laws_text.specs.Walk.{Left, bytes}
+use Rattle.yaml_emit_laws_scalars.specs.BlockLaws.{margin_round, BlockAndLineRead, BlockAtPosition}
+use Rattle.yaml_emit_laws_scalars.specs.BlockPassing.{begins_white, behind_line, BlockPassed, BlockIsPassed}
+use Rattle.yaml_emit_laws_text.proofs.Places.{left_rest}
+use Rattle.yaml_emit_laws_text.proofs.Words.{front_encodes}
+
+-- behind CR no LF may stand
+abbrev pub NoFeed : LineBreak → ℕ → Type 0
+NoFeed Lf x = Unit {0}
+NoFeed Cr x = x ≢ 10
+NoFeed CrLf x = Unit {0}
+
+pub mark_breaks : (m : LineMark) → is_break (mark_char m) ≡ true
+mark_breaks own = refl
+mark_breaks separator = refl
+mark_breaks paragraph = refl
+
+pub mark_encodes : (m : LineMark) → encode_utf8 (mark_char m) ≡ mark_means m
+unfolding encode
+mark_encodes own = refl
+mark_encodes separator = refl
+mark_encodes paragraph = refl
+
+pub mark_some : (m : LineMark) → 0 < length (mark_means m)
+mark_some own = omega arith
+mark_some separator = omega arith
+mark_some paragraph = omega arith
+
+-- a mark that isn't LF isn't read as a feed
+pub mark_feed : (m : LineMark) → is_feed (mark_means m) ≡ (mark_char m == 10)
+mark_feed own = refl
+mark_feed separator = refl
+mark_feed paragraph = refl
+
+-- which break of a value a character is
+pub record IsMark (x : ℕ) : Type 0 where
+  pub mark : LineMark
+  pub is : mark_char mark ≡ x
+
+not_printed : (x k : ℕ) → is_printable x ≡ true → is_printable k ≡ false → x ≢ k
+not_printed x k s n = λ e. cc (sym s ∙ ap (λ t. is_printable t) e ∙ n)
+
+no_break : (x : ℕ) → x ≢ 10 → x ≢ 13 → x ≢ 0x85 → x ≢ 0x2028 → x ≢ 0x2029 → is_break x ≡ false
+no_break x a b c d e = rw (ne_eqb x 10 a, ne_eqb x 13 b, ne_eqb x 0x85 c, ne_eqb x 0x2028 d, ne_eqb x 0x2029 e) refl
+
+pub mark_of : (x : ℕ) → is_printable x ≡ true → is_break x ≡ true → IsMark x
+mark_of x s h =
+    elim (cases_eq x 10) [
+      | inl e ↦ record { mark = own; is = sym e }
+      | inr a ↦ elim (cases_eq x 0x2028) [
+        | inl e ↦ record { mark = separator; is = sym e }
+        | inr b ↦ elim (cases_eq x 0x2029) [
+          | inl e ↦ record { mark = paragraph; is = sym e }
+          | inr c ↦ (absurd (cc (sym h ∙ (no_break x a (not_printed x 13 s refl) (not_printed x 0x85 s refl) b c))))
+        ]
+      ]
+    ]
+
+-- ---- as bytes
+
+break_encodes : (b : LineBreak) → encode_utf8_all (mark_text b own) ≡ mark_bytes b own
+unfolding encode
+break_encodes Lf = refl
+break_encodes Cr = refl
+break_encodes CrLf = refl
+
+pub text_encodes : (b : LineBreak) (m : LineMark) → encode_utf8_all (mark_text b m) ≡ mark_bytes b m
+unfolding encode
+text_encodes b own = break_encodes b
+text_encodes b separator = refl
+text_encodes b paragraph = refl
+
+-- what stands there is a break of that width, and is read so
+pub record Breaks (text : List ℕ) (p : ℕ) (m : LineMark) (n : ℕ) : Type 0 where
+  pub width : break_width text p ≡ n
+  pub value : break_value text p ≡ mark_means m
+  pub some : 0 < byte text p
+  pub no_space : byte text p ≢ 32
+  pub no_tab : byte text p ≢ 9
+
+feed_breaks : (text : List ℕ) (p : ℕ) → byte text p ≡ 10 → Breaks text p own 1
+unfolding break_of break_value
+feed_breaks text p e = record { width = rw e refl; value = rw e refl; some = omega (arith, e); no_space = λ f. omega (arith, e, f); no_tab = λ f. omega (arith, e, f) }
+
+return_breaks : (text : List ℕ) (p : ℕ) → byte text p ≡ 13 → byte text (p + 1) ≢ 10
+    → Breaks text p own 1
+unfolding break_of break_value
+return_breaks text p e n =
+    let w : break_width text p ≡ 1 = ap (λ b. break_of b (byte text (p + 1)) (byte text (p + 2))) e ∙ (rw (ne_eqb (byte text (p + 1)) 10 n) refl) in
+    record { width = w; value = (rw w refl); some = omega (arith, e); no_space = λ f. omega (arith, e, f); no_tab = λ f. omega (arith, e, f) }
+
+both_breaks : (text : List ℕ) (p : ℕ) → byte text p ≡ 13 → byte text (p + 1) ≡ 10
+    → Breaks text p own 2
+unfolding break_value break_of
+both_breaks text p e f =
+    let w : break_width text p ≡ 2 = ap (λ b. break_of b (byte text (p + 1)) (byte text (p + 2))) e ∙ ap (λ c. break_of 13 c (byte text (p + 2))) f in
+    record { width = w; value = (rw w refl); some = omega (arith, e); no_space = λ f. omega (arith, e, f); no_tab = λ f. omega (arith, e, f) }
+
+wide_breaks : (text : List ℕ) (p d : ℕ) (m : LineMark) → mark_means m ≡ 0xE2 ∷ 0x80 ∷ d ∷ []
+    → (d == 0xA8 || d == 0xA9) ≡ true → byte text p ≡ 0xE2 → byte text (p + 1) ≡ 0x80
+    → byte text (p + 1 + 1) ≡ d → Breaks text p m 3
+unfolding break_of break_value
+wide_breaks text p d m means t e f g =
+    let two : p + 1 + 1 ≡ p + 2 = omega arith in
+    let h : byte text (p + 2) ≡ d = ap (λ q. byte text q) (sym two) ∙ g in
+    let w : break_width text p ≡ 3 =
+    ap (λ b. break_of b (byte text (p + 1)) (byte text (p + 2))) e ∙ ap (λ c. break_of 0xE2 c (byte text (p + 2))) f ∙ ap (λ c. break_of 0xE2 0x80 c) h ∙ (rw t refl) in
+    record { width = w; value = (rw w refl) ∙ ap (λ c. 0xE2 ∷ 0x80 ∷ c ∷ []) h ∙ sym means; some = omega (arith, e); no_space = λ i. omega (arith, e, i); no_tab = λ i. omega (arith, e, i) }
+
+own_breaks : (b : LineBreak) (text : List ℕ) (p : ℕ) → Has text p (mark_bytes b own)
+    → NoFeed b (byte text (p + length (mark_bytes b own)))
+    → Breaks text p own (length (mark_bytes b own))
+own_breaks Lf text p (e, h) n = feed_breaks text p e
+own_breaks Cr text p (e, h) n = return_breaks text p e n
+own_breaks CrLf text p (e, (f, h)) n = both_breaks text p e f
+
+pub breaks : (b : LineBreak) (m : LineMark) (text : List ℕ) (p : ℕ) → Has text p (mark_bytes b m)
+    → NoFeed b (byte text (p + length (mark_bytes b m))) → Breaks text p m (length (mark_bytes b m))
+breaks b own text p h n = own_breaks b text p h n
+breaks b separator text p (e, (f, (g, h))) n = wide_breaks text p 0xA8 separator refl refl e f g
+breaks b paragraph text p (e, (f, (g, h))) n = wide_breaks text p 0xA9 paragraph refl refl e f g
+
+-- ---- the first byte of a text
+
+front_blank : (bs cs : List ℕ) (a : ℕ) (t : List ℕ) → bs ≡ a ∷ t
+    → starts_blank (bs ++ cs) ≡ is_blank a
+front_blank bs cs a t e = ap (λ (xs : List ℕ). starts_blank (xs ++ cs)) e
+
+high : (x a : ℕ) (bs cs t : List ℕ) → 128 ≤ x → 128 ≤ a → bs ≡ a ∷ t
+    → starts_blank (bs ++ cs) ≡ is_blank x
+high x a bs cs t h k e = front_blank bs cs a t e ∙ high_blank a k ∙ sym (high_blank x h)
+
+pub text_blank : (x : ℕ) (xs : List ℕ) → starts_blank (encode_utf8_all (x ∷ xs)) ≡ is_blank x
+text_blank x xs =
+    elim (cases_lt x 128) [
+      | inl u ↦ front_blank (encode_utf8 x) (encode_utf8_all xs) x [] (encode_1 x u)
+      | inr u ↦ elim (cases_lt x 2048) [
+        | inl v ↦ high x _ (encode_utf8 x) (encode_utf8_all xs) _ u (omega arith) (encode_2 x u v)
+        | inr v ↦ elim (cases_lt x 65536) [
+          | inl w ↦ high x _ (encode_utf8 x) (encode_utf8_all xs) _ u (omega arith) (encode_3 x v w)
+          | inr w ↦ high x _ (encode_utf8 x) (encode_utf8_all xs) _ u (omega arith) (encode_4 x w)
+        ]
+      ]
+    ]
+
+-- ==== The header of a block scalar is read.
 
 -- the first byte of a break that is written
 record Begins (text : List ℕ) (p : ℕ) : Type 0 where
@@ -86,24 +244,6 @@ header_by text p n q w d k x y e s g dx cy z f h i =
     ∙ ap (λ j. Ok record { chomp = chomp_at (byte text y); digit = j; place = q + w }) f
     ∙ ap (λ c. Ok record { chomp = c; digit = d; place = q + w }) h
 
-no_indicators : (b c : ℕ) → is_chomping b ≡ false → is_digit_byte b ≡ false → indicators b c ≡ 0
-unfolding indicators
-no_indicators b c e f = rw (e, f) refl
-
-chomp_alone : (b c : ℕ) → is_chomping b ≡ true → is_digit_byte c ≡ false → indicators b c ≡ 1
-unfolding indicators
-chomp_alone b c e f = rw (e, f) refl
-
-digit_alone : (b c : ℕ) → is_chomping b ≡ false → is_digit_byte b ≡ true → is_chomping c ≡ false
-    → indicators b c ≡ 1
-unfolding indicators
-digit_alone b c e f g = rw (e, f, g) refl
-
-both_there : (b c : ℕ) → is_chomping b ≡ false → is_digit_byte b ≡ true → is_chomping c ≡ true
-    → indicators b c ≡ 2
-unfolding indicators
-both_there b c e f g = rw (e, f, g) refl
-
 -- `-` or `+`, by its byte
 record IsChomp (b k : ℕ) : Type 0 where
   pub chomp : is_chomping b ≡ true
@@ -120,29 +260,33 @@ keep_is b e = record { chomp = rw e refl; no_digit = rw e refl; is = ap (λ x. c
 
 header_none : (text : List ℕ) (p w : ℕ) → Begins text p → break_width text p ≡ w
     → header_at text p ≡ Ok record { chomp = chomp_at 0; digit = 0; place = p + w }
+unfolding indicators
 header_none text p w g i =
-    header_by text p 0 p w 0 0 p p (no_indicators (byte text p) (byte text (p + 1)) g.no_chomp g.no_digit) (add-zero p) g
+    header_by text p 0 p w 0 0 p p (rw (g.no_chomp, g.no_digit) refl) (add-zero p) g
     (cond_false (is_chomping (byte text p)) (p + 1) p g.no_chomp) (cond_false (is_digit_byte (byte text p)) (p + 1) p g.no_digit) g.no_zero g.none g.clip i
 
 header_chomp : (text : List ℕ) (p w k : ℕ) → IsChomp (byte text p) k → Begins text (p + 1)
     → break_width text (p + 1) ≡ w
     → header_at text p ≡ Ok record { chomp = chomp_at k; digit = 0; place = p + 1 + w }
+unfolding indicators
 header_chomp text p w k c g i =
-    header_by text p 1 (p + 1) w 0 k (p + 1) p (chomp_alone (byte text p) (byte text (p + 1)) c.chomp g.no_digit) refl g
+    header_by text p 1 (p + 1) w 0 k (p + 1) p (rw (c.chomp, g.no_digit) refl) refl g
     (cond_true (is_chomping (byte text p)) (p + 1) p c.chomp) (cond_false (is_digit_byte (byte text p)) (p + 1) p c.no_digit) g.no_zero g.none c.is i
 
 header_digit : (text : List ℕ) (p w d : ℕ) → IsDigit (byte text p) d → Begins text (p + 1)
     → break_width text (p + 1) ≡ w
     → header_at text p ≡ Ok record { chomp = chomp_at 0; digit = d; place = p + 1 + w }
+unfolding indicators
 header_digit text p w d c g i =
-    header_by text p 1 (p + 1) w d 0 p (p + 1) (digit_alone (byte text p) (byte text (p + 1)) c.no_chomp c.digit g.no_chomp) refl g
+    header_by text p 1 (p + 1) w d 0 p (p + 1) (rw (c.no_chomp, c.digit, g.no_chomp) refl) refl g
     (cond_false (is_chomping (byte text p)) (p + 1) p c.no_chomp) (cond_true (is_digit_byte (byte text p)) (p + 1) p c.digit) c.no_zero c.is g.clip i
 
 header_both : (text : List ℕ) (p w d k : ℕ) → IsDigit (byte text p) d
     → IsChomp (byte text (p + 1)) k → Begins text (p + 1 + 1) → break_width text (p + 1 + 1) ≡ w
     → header_at text p ≡ Ok record { chomp = chomp_at k; digit = d; place = p + 1 + 1 + w }
+unfolding indicators
 header_both text p w d k c x g i =
-    header_by text p 2 (p + 1 + 1) w d k p (p + 1) (both_there (byte text p) (byte text (p + 1)) c.no_chomp c.digit x.chomp) (omega arith) g
+    header_by text p 2 (p + 1 + 1) w d k p (p + 1) (rw (c.no_chomp, c.digit, x.chomp) refl) (omega arith) g
     (cond_false (is_chomping (byte text p)) (p + 1) p c.no_chomp) (cond_true (is_digit_byte (byte text p)) (p + 1) p c.digit) c.no_zero c.is x.is i
 
 -- ---- as it is written
@@ -222,3 +366,59 @@ header_reads b true d chomping.Keep text p e some small s (j, (i, h)) f =
     let x = behind_at b text (p + 1 + 1) h (subst (λ r. NoFeed b (byte text r)) far f) in
     header_is text p d 43 (p + 1 + 1) (length (break_text b)) e x (sym far)
     (header_both text p (length (break_text b)) d 43 (digit_is (byte text p) d j some small) (keep_is (byte text (p + 1)) i) x.begins x.width)
+
+-- ==== A text that goes on with a block scalar goes on behind it.
+
+-- each byte that is left, and 0 behind the end
+left_byte : (text : List ℕ) (p : ℕ) (bs : List ℕ) (k : ℕ) → Left text p bs
+    → byte text (p + k) ≡ get_or bs k 0
+left_byte text p bs k l =
+    let ends = l.ends in
+    elim (cases_lt k (length bs)) [
+      | inl inside ↦ has_at text p bs l.has k inside
+      | inr past ↦ get_or_past text (p + k) 0 (omega (arith, past, ends)) ∙ sym (get_or_past bs k 0 past)
+    ]
+
+left_white : (text : List ℕ) (p : ℕ) (bs : List ℕ) → Left text p bs → begins_white bs ≡ false
+    → NoWhite text p
+left_white text p bs l e =
+    let z : p + 0 ≡ p = omega arith in
+    let a : byte text p ≡ get_or bs 0 0 = ap (λ q. byte text q) (sym z) ∙ left_byte text p bs 0 l in
+    let b = left_byte text p bs 1 l in
+    let c = left_byte text p bs 2 l in
+    let blank = (or_parts (is_blank (get_or bs 0 0)) _ e).0 in
+    let none = (or_parts (is_blank (get_or bs 0 0)) _ e).1 in
+    record {
+      no_space = λ f. eqb-false (get_or bs 0 0) 32 (or_parts (get_or bs 0 0 == 32) (get_or bs 0 0 == 9) blank).0 (sym a ∙ f);
+      no_tab = λ f. eqb-false (get_or bs 0 0) 9 (or_parts (get_or bs 0 0 == 32) (get_or bs 0 0 == 9) blank).1 (sym a ∙ f);
+      no_break = ap (λ x. break_of x (byte text (p + 1)) (byte text (p + 2))) a ∙ ap (λ x. break_of (get_or bs 0 0) x (byte text (p + 2))) b ∙ ap (λ x. break_of (get_or bs 0 0) (get_or bs 1 0) x) c
+          ∙ (grind (arith, nat_tests));
+    }
+
+-- some bytes come before these spaces
+before_spaces : (p n m : ℕ) → m ≤ n → p + n - m + m ≡ p + n
+before_spaces p n m h = omega (arith, h)
+
+passed : (page : Page) (digit : ℕ) (folded : Bool) (level : ℕ) (c : Cursor) (value : List ℕ) (m : ℕ)
+    (r : BlockAndLineRead page digit folded level c value m) (rest : Rest)
+    → begins_white (bytes (rest (behind_line m value))) ≡ false → (text : List ℕ) (q : ℕ)
+    → Left text q (encode_utf8_all r.letters ++ bytes (rest (behind_line m value)))
+    → BlockPassed folded level text q value m (bytes (rest (behind_line m value)))
+passed page digit folded level c value m r rest white text q l =
+    let bs = encode_utf8_all r.letters in
+    let cs = bytes (rest (behind_line m value)) in
+    let more = left_rest text q bs cs l in
+    let end = q + length bs - m in
+    let same : end + m ≡ q + length bs = before_spaces q (length bs) m r.longer in
+    record {
+      end = end;
+      stands = r.read text q end (has_at text q bs (has_front text q bs cs l.has)) (left_white text (q + length bs) cs more white) same;
+      left = subst (λ x. Left text x cs) (sym same) more;
+    }
+
+pub block_is_passed : BlockAtPosition → BlockIsPassed
+block_is_passed law p at x folded c m rest u some small same deep white text q l =
+    let r = (law p at x folded c m u some small same deep).1 in
+    let page = page_at p.settings at in
+    let whole = ap (λ (t : List Item). bytes t) (r.written rest) ∙ front_encodes r.letters (rest (behind_line m x.value)) in
+    passed page p.settings.indent folded (margin_round at.around) c x.value m r rest white text q (subst (λ (t : List ℕ). Left text q t) whole l)

@@ -1,5 +1,5 @@
 -- What the layout of a block scalar's body writes for a character.
-use Rattle.std.proofs.Common.{◌≡◌, ℕ, zero, suc, Bool, true, false, not, ◌&&◌, ◌||◌, ◌==◌, nat_lt, List, [], ◌∷◌, ◌++◌, replicate, refl, sym, ap, ◌∙◌, arith}
+use Rattle.std.proofs.Common.{◌≡◌, ℕ, zero, suc, Bool, true, false, not, ◌&&◌, ◌==◌, nat_lt, List, [], ◌∷◌, ◌++◌, replicate, refl, sym, ap, ◌∙◌, arith}
 use Rattle.std.proofs.lemmas.Bool.Decides.{nat_tests}
 use Rattle.yaml_emit_laws_text.specs.emit_text.declared.Cursor.{Cursor}
 use Rattle.yaml_emit_laws_text.specs.emit_text.declared.LineBreak.{LineBreak}
@@ -14,7 +14,7 @@ use Rattle.yaml_emit_laws_text.specs.emit_text.Spelling.{in_front, break_text}
 use Rattle.yaml_emit_laws_text.proofs.Values.{cond_true, cond_false}
 use Rattle.yaml_emit_laws_text.proofs.Back.{front_append, moved_by, spaced_by}
 use Rattle.yaml_emit_laws_scalars.specs.BlockLines.{LineMark, own, separator, paragraph, mark_char, mark_text}
-use Rattle.yaml_emit_laws_scalars.proofs.BlockMarks.{mark_breaks}
+use Rattle.yaml_emit_laws_scalars.proofs.BlockHeader.{mark_breaks}
 use Rattle.yaml_emit_laws_text.proofs.Single.{blanks_are, after_blanks, from_start, broken}
 use Rattle.yaml_emit_laws_text.proofs.Forms.{at_line}
 
@@ -44,16 +44,13 @@ line_is b n c rest e =
     cond_true (must_break n c) (new_line b c (λ d. indent_to n d rest)) (indent_to n c rest) breaks
     ∙ new_line_is b c (λ d. indent_to n d rest) ∙ ap (in_front (break_text b)) (indent_is n c.kept rest) ∙ sym (front_append (break_text b) (replicate n 32) (rest (after_blanks n (at_line c.kept))))
 
-undue : (n : ℕ) → (nat_lt n 0 || (0 == n && false)) ≡ false
-undue n = grind (arith, nat_tests)
-
 -- at its start only spaces come
 pub start_is : (b : LineBreak) (n : ℕ) (kept : Bool) (rest : Rest)
     → line b n (at_line kept) rest ≡ in_front (replicate n 32)
     (rest (after_blanks n (at_line kept)))
 unfolding line
 start_is b n kept rest =
-    let none : must_break n (at_line kept) ≡ false = undue n in
+    let none : must_break n (at_line kept) ≡ false = grind (arith, nat_tests) in
     cond_false (must_break n (at_line kept)) (new_line b (at_line kept) (λ d. indent_to n d rest)) (indent_to n (at_line kept) rest) none ∙ indent_is n kept rest
 
 -- ---- breaks

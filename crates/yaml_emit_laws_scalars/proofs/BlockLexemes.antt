@@ -89,11 +89,6 @@ all_none None None (Some c) d e x f g h i j = absurd (cc)
 all_none None None None (Some d) e x f g h i j = absurd (cc)
 all_none None None None None (Some e) x f g h i j = absurd (cc)
 
-kind_is : (folded : Bool) (text : List ℕ) (h : List Lexeme) (value : List ℕ) (end k level : ℕ)
-    → depth h ≡ 0 → BlockStands folded level text (gap_behind text h).place value end k
-    → kind_behind text h ≡ Some (kind_of folded)
-kind_is folded text h value end k level o s = ap (λ (d : ℕ). kind_at (nat_lt 0 d) text (gap_behind text h).place) o ∙ s.kind
-
 next_is : (text : List ℕ) (h : List Lexeme) → 0 < length h → ended h ≡ false
     → next text h ≡ coming (kind_behind text h) text h
 unfolding next
@@ -112,7 +107,7 @@ block_comes folded text h value end k some e o stale lost s =
     let right : text_wrong kd text h ≡ None = ap (λ r. wrong_in text (begun_behind kd text h).start r) w in
     let fresh : stale_after (lexeme_behind kd text h) h ≡ None =
     ap (λ (l : Lexeme). stale_after l h) same ∙ ap (λ c. colon_missing_of (missed c (mark_at text (end + k))) (mark_at text (end + k))) (block_clear folded text h end k o) in
-    next_is text h some e ∙ ap (λ (q : Option Kind). coming q text h) (kind_is folded text h value end k _ o s)
+    next_is text h some e ∙ ap (λ (q : Option Kind). coming q text h) (ap (λ (d : ℕ). kind_at (nat_lt 0 d) text (gap_behind text h).place) o ∙ s.kind)
     ∙ all_none (stale_before text h) (indicator_misplaced kd text h) (candidate_lost kd text h) (text_wrong kd text h) (stale_after (lexeme_behind kd text h) h) (Read (lexeme_behind kd text h)) stale (not_misplaced folded text h) lost right fresh
     ∙ ap (λ (l : Lexeme). Read l) same
 

@@ -1,8 +1,7 @@
 -- Lines of a block scalar that stand in a text are read.
-use Rattle.std.proofs.Common.{◌≡◌, ◌≢◌, ℕ, zero, suc, ◌+◌, ◌-◌, ◌/◌, ◌%◌, ◌<◌, ◌≤◌, true, false, not, ◌&&◌, ◌||◌, ◌==◌, nat_lt, List, [], ◌∷◌, ◌++◌, length, replicate, slice_range, Result, Ok, refl, sym, ap, subst, ◌∙◌, inl, inr, arith, add-zero, encode_utf8, encode_utf8_all}
+use Rattle.std.proofs.Common.{◌≡◌, ◌≢◌, ℕ, zero, suc, ◌+◌, ◌-◌, ◌/◌, ◌%◌, ◌<◌, ◌≤◌, true, false, not, ◌&&◌, ◌||◌, ◌==◌, nat_lt, List, [], ◌∷◌, ◌++◌, length, replicate, slice_range, Result, Ok, refl, sym, ap, subst, ◌∙◌, inl, inr, arith, add-zero, encode_utf8, encode_utf8_all, length-append}
 use Rattle.std.proofs.lemmas.Bool.{cases_lt, and_parts, not-true, eqb-false}
 use Rattle.std.proofs.lemmas.Bool.Decides.{nat_tests}
-use Rattle.std.proofs.lemmas.List.{length-append}
 use Rattle.std.proofs.lemmas.Str.{encode_ascii, encodes-append}
 use Rattle.yaml_emit_laws_text.specs.scan_model.Marks.{byte, break_of, break_width, column_at}
 use Rattle.yaml_emit_laws_text.specs.scan_model.Breaks.{break_value, feed_at}
@@ -21,8 +20,7 @@ use Rattle.yaml_emit_laws_text.proofs.Values.{cond_true}
 use Rattle.yaml_emit_laws_text.proofs.Chars.{encode_1, encode_2, encode_3, encode_4}
 use Rattle.yaml_emit_laws_text.proofs.Bytes.{low_break, two_break, three_break, four_break, later_break}
 use Rattle.yaml_emit_laws_scalars.specs.BlockLines.{LineMark, own, separator, paragraph, mark_text, mark_bytes, mark_means, BodyLine, bare, full, line_text, body_text, line_bytes, body_bytes, read_line, read_lines, are_inside, AreInside, StandsLeft}
-use Rattle.yaml_emit_laws_scalars.proofs.BlockMarks.{NoFeed, breaks, text_encodes}
-use Rattle.yaml_emit_laws_scalars.proofs.BlockHeader.{no_text_there}
+use Rattle.yaml_emit_laws_scalars.proofs.BlockHeader.{NoFeed, breaks, text_encodes, no_text_there}
 
 -- ---- bytes of a text
 
@@ -171,22 +169,12 @@ spaces_column (suc k) text p (e, h) =
 
 -- ---- a line
 
-from_none : (n c : ℕ) → c ≡ 0 → n - c ≡ n
-from_none n c h = omega arith
-
 spot_from : (n k : ℕ) (text : List ℕ) (p : ℕ) → column_at text p ≡ 0 → spaces n text p ≡ k
     → line_spot n text p ≡ spot_behind n text (p + k)
-spot_from n k text p c s = ap (λ m. spot_behind n text (p + spaces m text p)) (from_none n (column_at text p) c) ∙ ap (λ m. spot_behind n text (p + m)) s
+spot_from n k text p c s = ap (λ m. spot_behind n text (p + spaces m text p)) (omega arith) ∙ ap (λ m. spot_behind n text (p + m)) s
 
 no_tab : (b col n : ℕ) → b ≢ 9 → (b == 9 && nat_lt col n) ≡ false
 no_tab b col n h = grind (arith, nat_tests)
-
-not_short : (b col n : ℕ) → col ≡ n → (b == 9 && nat_lt col n) ≡ false
-not_short b col n h = grind (arith, nat_tests)
-
-line_same : (x y : List ℕ) (w v p : ℕ) → x ≡ y → w ≡ v
-    → Line (Empty x) (p + w) ≡ Line (Empty y) (p + v)
-line_same x y w v p e f = ap (λ (t : List ℕ). Line (Empty t) (p + w)) e ∙ ap (λ k. Line (Empty y) (p + k)) f
 
 some_width : (n w : ℕ) → w ≡ n → 0 < n → 0 < w
 some_width n w e h = omega arith
@@ -215,7 +203,7 @@ bare_line n b m text p c h f =
     let z : p + 0 ≡ p = omega arith in
     record {
       spot = spot_from n 0 text p c (spaces_none n text p d.no_space) ∙ ap (λ q. spot_behind n text q) z
-          ∙ empty_spot n text p (no_tab (byte text p) (column_at text p) n d.no_tab) w ∙ line_same (break_value text p) (mark_means m) (break_width text p) (length (mark_bytes b m)) p d.value d.width;
+          ∙ empty_spot n text p (no_tab (byte text p) (column_at text p) n d.no_tab) w ∙ (ap (λ (t : List ℕ). Line (Empty t) (p + (break_width text p))) d.value ∙ ap (λ k. Line (Empty (mark_means m)) (p + k)) d.width);
       start = within text p d.some;
       inside = subst (λ k. p + k ≤ length text) d.width past.inside;
       column = subst (λ k. column_at text (p + k) ≡ 0) d.width past.column;
@@ -259,7 +247,7 @@ words_line n b m text p words some c sp h long t k f =
     let here = within text e d.some in
     record {
       spot = spot_from n n text p c (spaces_full n text p sp)
-          ∙ text_spot n text q (not_short (byte text q) (column_at text q) n col) none (no_stop (byte text q) (column_at text q) n (λ z. omega (arith, z, positive)) col)
+          ∙ text_spot n text q (grind (arith, nat_tests)) none (no_stop (byte text q) (column_at text q) n (λ z. omega (arith, z, positive)) col)
           ∙ text_line text q (line_end text q) (e + length (mark_bytes b m)) (length (mark_bytes b m)) words words (mark_means m) end (range_reads text q words h (omega (arith, here)))
           (feed_is text e m w d.value) d.width refl;
       start = omega (arith, here);

@@ -1,5 +1,5 @@
 -- The body of a block scalar is lines, and they are read as the value: by its characters.
-use Rattle.std.proofs.Common.{◌≡◌, ℕ, Bool, true, false, not, ◌&&◌, ◌||◌, ◌==◌, List, [], ◌∷◌, ◌++◌, replicate, refl, sym, ap, subst, ◌∙◌, arith, append-nil, append_assoc, encode_utf8, encode_utf8_all}
+use Rattle.std.proofs.Common.{◌≡◌, ℕ, Bool, true, false, not, ◌&&◌, ◌==◌, List, [], ◌∷◌, ◌++◌, replicate, refl, sym, ap, subst, ◌∙◌, arith, append-nil, append_assoc, encode_utf8, encode_utf8_all}
 use Rattle.std.proofs.lemmas.Str.{encode_ascii}
 use Rattle.std.proofs.lemmas.Bool.{false≢true, true≢false, eqb-true, and_from, and_parts, not-true, ne_eqb}
 use Rattle.std.proofs.Math.Bool.{and-false}
@@ -17,7 +17,7 @@ use Rattle.yaml_emit_laws_text.specs.emit_text.Scalars.{behind_breaks, adds_brea
 use Rattle.yaml_emit_laws_text.specs.emit_text.Spelling.{in_front, break_text}
 use Rattle.yaml_emit_laws_text.proofs.Back.{front_append, moved_by}
 use Rattle.yaml_emit_laws_scalars.specs.BlockLines.{LineMark, own, mark_char, mark_text, mark_means, BodyLine, bare, full, body_text, read_lines, are_inside, AreInside, closing}
-use Rattle.yaml_emit_laws_scalars.proofs.BlockMarks.{mark_breaks, mark_encodes, mark_some, mark_feed, mark_of, text_blank}
+use Rattle.yaml_emit_laws_scalars.proofs.BlockHeader.{mark_breaks, mark_encodes, mark_some, mark_feed, mark_of, text_blank}
 use Rattle.yaml_emit_laws_scalars.proofs.BlockLayouts.{blanks_kept, break_is, none_added, first_is, char_is, cut_is, blank_break, blank_first, blank_in}
 use Rattle.yaml_emit_laws_scalars.proofs.BlockWaiting.{read_chomp, Waits, owed, stacked_so, waits_end, waits_text, waits_break, break_owed}
 use Rattle.yaml_emit_laws_text.proofs.Single.{bool_cases, after_blanks}
@@ -33,15 +33,9 @@ AreGood (x ∷ xs) = (is_printable x ≡ true) × ((x == 32 && is_break (first x
 not_printed : (x k : ℕ) → is_printable x ≡ true → is_printable k ≡ false → (x == k) ≡ false
 not_printed x k s n = ne_eqb x k (λ e. cc (sym s ∙ ap (λ t. is_printable t) e ∙ n))
 
-both_not : (a b : Bool) → a ≡ false → b ≡ false → (not a && not b) ≡ true
-both_not a b e f = rw (e, f) refl
-
-neither : (a b : Bool) → a ≡ false → b ≡ false → (a || b) ≡ false
-neither a b e f = rw (e, f) refl
-
 inside_one : (x : ℕ) → is_printable x ≡ true → is_break x ≡ false
     → (not (is_break x) && not (x == 0)) ≡ true
-inside_one x s e = both_not (is_break x) (x == 0) e (not_printed x 0 s refl)
+inside_one x s e = rw (e, (not_printed x 0 s refl)) refl
 
 -- ---- what is behind
 
@@ -294,7 +288,7 @@ no_cuts false b c d e p h = refl
 no_cuts true b c d e p h = rw h refl
 
 pub unblank : (x : ℕ) → is_printable x ≡ true → (x == 32) ≡ false → is_blank x ≡ false
-unblank x s e = neither (x == 32) (x == 9) e (not_printed x 9 s refl)
+unblank x s e = rw (e, (not_printed x 9 s refl)) refl
 
 -- a line feed that a reader folds
 cut_means : (folded blank : Bool) (k : ℕ) (words next : List ℕ) (ls : List BlockLine)
@@ -308,9 +302,6 @@ cut_means false blank k words next ls e f g = absurd (false≢true e)
 cut_means true true k words next ls e f g = absurd (true≢false f)
 cut_means true false k words next ls e f g =
     ap (λ (b : Bool). between true (not false && not b) (10 ∷ []) [] ++ (words ++ behind_text true (chomp_at k) b next (texts_of ls).lead (texts_of ls).lines)) g
-
-space_encodes : (x : ℕ) → x ≡ 32 → encode_utf8 x ≡ 32 ∷ []
-space_encodes x e = ap (λ y. encode_utf8 y) e ∙ encode_ascii 32 (omega arith)
 
 abbrev behind_cut : Page → Bool → Cursor
 behind_cut page kept = after_blanks page.indentation (at_line kept)
@@ -364,7 +355,7 @@ goes_cut page folded blank k before x y ys kept c e f s i t p bar same g =
       means =
           cut_means folded blank k words (mark_means g.mark) (read_lines g.lines) n.folds n.text (text_blank y g.head ∙ unblank y s n.next)
           ∙ ap (λ (u : List ℕ). 32 ∷ u) (append_assoc (encode_utf8 y) (encode_utf8_all g.head) _ ∙ ap (λ (u : List ℕ). encode_utf8 y ++ u) g.means)
-          ∙ ap (λ (u : List ℕ). u ++ (encode_utf8 y ++ encode_utf8_all ys)) (sym (space_encodes x n.space));
+          ∙ ap (λ (u : List ℕ). u ++ (encode_utf8 y ++ encode_utf8_all ys)) (sym (ap (λ y. encode_utf8 y) n.space ∙ encode_ascii 32 (omega arith)));
       ends = g.ends;
     }
 

@@ -1,7 +1,5 @@
 -- What a reader owes at the start of a line, where the emitter has written breaks and no text yet.
-use Rattle.std.proofs.Common.{◌≡◌, ℕ, ◌<◌, Bool, true, false, not, ◌&&◌, List, [], ◌∷◌, ◌++◌, length, refl, sym, ap, ◌∙◌, arith, append-nil, append_assoc}
-use Rattle.std.specs.Prelude.{if◌then◌else◌}
-use Rattle.std.proofs.lemmas.Bool.{true≢false}
+use Rattle.std.proofs.Common.{◌≡◌, ℕ, ◌<◌, Bool, true, false, not, ◌&&◌, List, [], ◌∷◌, ◌++◌, length, refl, sym, ap, ◌∙◌, arith, append-nil, append_assoc, if◌then◌else◌, true≢false}
 use Rattle.yaml_emit_laws_text.specs.scan_model.Breaks.{is_feed}
 use Rattle.yaml_scan_block.specs.Header.{chomp_of as chomp_at}
 use Rattle.yaml_scan_block.specs.Value.{BlockLine, Words, texts_of, starts_blank, space_or, between, behind_text, value_with}
@@ -65,26 +63,6 @@ waits_end folded any blank true feed empties broken w = absurd (no_end folded an
 
 -- ---- a text
 
-next_char : (x : ℕ) (xs : List ℕ) → is_break x ≡ false → behind_breaks (x ∷ xs) ≡ x
-unfolding behind_breaks
-next_char x xs e = cond_false (is_break x) _ _ e
-
-next_break : (x : ℕ) (xs : List ℕ) → is_break x ≡ true → behind_breaks (x ∷ xs) ≡ behind_breaks xs
-unfolding behind_breaks
-next_break x xs e = cond_true (is_break x) _ _ e
-
-between_stays : (folded blank after : Bool) (feed empties : List ℕ)
-    → (folded && ((not blank && not after) && is_feed feed)) ≡ false
-    → between folded (not blank && not after) feed empties ≡ feed ++ empties
-unfolding between
-between_stays folded blank after feed empties e = cond_false (folded && ((not blank && not after) && is_feed feed)) (space_or empties) (feed ++ empties) e
-
-between_folds : (folded blank after : Bool) (feed empties : List ℕ) → folded ≡ true → blank ≡ false
-    → after ≡ false → is_feed feed ≡ true
-    → between folded (not blank && not after) feed empties ≡ space_or empties
-unfolding between
-between_folds folded blank after feed empties e f g h = rw (e, f, g, h) refl
-
 -- what is read where a text comes
 abbrev from_text : Bool → Bool → Bool → Bool → List ℕ → List ℕ → List ℕ → List ℕ → List ℕ
 from_text folded any blank after feed empties words behind = if any then between folded (not blank && not after) feed (empties ++ []) ++ (words ++ behind) else (empties ++ []) ++ (words ++ behind)
@@ -105,6 +83,7 @@ text_owed : (folded any blank more after : Bool) (feed empties words behind : Li
     → is_blank (behind_breaks value) ≡ after
     → from_text folded any blank after feed empties words behind ≡ owed more feed empties
     ++ (words ++ behind)
+unfolding between
 text_owed folded false blank true after feed empties words behind broken value w e = let (none, b, n) = w.first refl in absurd (true≢false n)
 text_owed folded false blank false after feed empties words behind broken value w e =
     let (none, b, n) = w.first refl in
@@ -112,11 +91,11 @@ text_owed folded false blank false after feed empties words behind broken value 
 text_owed folded true blank false after feed empties words behind broken value w e =
     let stays : (folded && ((not blank && not after) && is_feed feed)) ≡ false = ap (λ (b : Bool). folded && ((not blank && not b) && is_feed feed)) (sym e) ∙ w.stays refl refl in
     ap (λ (t : List ℕ). between folded (not blank && not after) feed t ++ (words ++ behind)) (append-nil empties)
-    ∙ ap (λ (t : List ℕ). t ++ (words ++ behind)) (between_stays folded blank after feed empties stays)
+    ∙ ap (λ (t : List ℕ). t ++ (words ++ behind)) (cond_false (folded && ((not blank && not after) && is_feed feed)) (space_or empties) (feed ++ empties) stays)
 text_owed folded true blank true after feed empties words behind broken value w e =
     let (a, b, c, d, f) = w.folds refl in
     ap (λ (t : List ℕ). between folded (not blank && not after) feed t ++ (words ++ behind)) (append-nil empties)
-    ∙ ap (λ (t : List ℕ). t ++ (words ++ behind)) (between_folds folded blank after feed empties a b (sym e ∙ f) c ∙ space_or_some empties d)
+    ∙ ap (λ (t : List ℕ). t ++ (words ++ behind)) ((rw (a, b, (sym e ∙ f), c) refl) ∙ space_or_some empties d)
 
 pub waits_text : (folded any blank more : Bool) (feed empties : List ℕ) (broken : Bool) (x : ℕ)
     (xs : List ℕ) (k : ℕ) (words next : List ℕ) (ls : List BlockLine)
@@ -125,10 +104,11 @@ pub waits_text : (folded any blank more : Bool) (feed empties : List ℕ) (broke
     → stacked_so folded any blank feed empties k (Words words next ∷ ls)
     ≡ owed more feed empties ++ (words
     ++ behind_text folded (chomp_at k) (is_blank x) next (texts_of ls).lead (texts_of ls).lines)
+unfolding behind_breaks
 waits_text folded any blank more feed empties broken x xs k words next ls w e s =
     text_is folded any blank feed empties k words next ls (is_blank x) s
     ∙ text_owed folded any blank more (is_blank x) feed empties words (behind_text folded (chomp_at k) (is_blank x) next (texts_of ls).lead (texts_of ls).lines) broken (x ∷ xs) w
-    (ap (λ (y : ℕ). is_blank y) (next_char x xs e))
+    (ap (λ (y : ℕ). is_blank y) (cond_false (is_break x) _ _ e))
 
 -- ---- another break
 
@@ -139,8 +119,9 @@ longer (x ∷ xs) ys h = omega arith
 pub waits_break : (folded any blank more : Bool) (feed empties e : List ℕ) (broken : Bool) (x : ℕ)
     (xs : List ℕ) → is_break x ≡ true → Waits folded any blank more feed empties broken (x ∷ xs)
     → Waits folded any blank more feed (empties ++ e) true xs
+unfolding behind_breaks
 waits_break folded any blank more feed empties e broken x xs h w =
-    let same = next_break x xs h in
+    let same = cond_true (is_break x) _ _ h in
     record {
       first = λ a. let (n, b, m) = w.first a in (n, refl, m);
       folds = λ m. let (a, b, c, d, f) = w.folds m in (a, b, c, longer empties e d, ap (λ (y : ℕ). is_blank y) (sym same) ∙ f);

@@ -1,48 +1,234 @@
--- What is written for a block scalar is read as its value.
-use Rattle.std.proofs.Common.{◌≡◌, ◌≢◌, ℕ, suc, ◌+◌, ◌-◌, ◌<◌, ◌≤◌, Bool, true, false, ◌&&◌, ◌||◌, ◌==◌, nat_lt, List, [], ◌∷◌, ◌++◌, length, replicate, Some, Result, Ok, refl, sym, ap, subst, ◌∙◌, arith, append_assoc, encode_utf8, encode_utf8_all}
-use Rattle.std.specs.Prelude.{if◌then◌else◌}
-use Rattle.std.specs.Str.{chars}
-use Rattle.std.proofs.lemmas.Bool.Decides.{nat_tests}
-use Rattle.std.proofs.lemmas.List.{length-append}
-use Rattle.std.proofs.lemmas.Str.{encode_ascii, encodes-append, encodes-chars}
-use Rattle.std.proofs.lemmas.Bool.{false≢true, true≢false, not-true, or_parts, eqb-false}
-use Rattle.yaml_emit_laws_text.specs.scan_model.Marks.{byte, break_width, column_at, is_blank}
-use Rattle.yaml_emit_laws_text.specs.scan_model.Wrong.{Wrong}
+-- A block scalar and the line behind it, and both at a position of a layout.
+use Rattle.std.proofs.Common.{◌≡◌, ℕ, zero, suc, ◌+◌, ◌-◌, ◌<◌, ◌≤◌, Bool, true, false, not, ◌&&◌, ◌||◌, ◌==◌, List, ◌++◌, length, replicate, Option, Some, None, refl, sym, ap, subst, ◌∙◌, arith, append_assoc, encode_utf8_all, if◌then◌else◌, chars, length-append, ◌≢◌, Ok, add-zero, nat_lt, [], ◌∷◌, Result, encode_utf8}
+use Rattle.std.proofs.lemmas.Str.{encodes-append, encode_ascii, encodes-chars}
 use Rattle.yaml_emit_laws_text.specs.scan_history.scan_words.Written.{HasAt}
+use Rattle.yaml_emit_laws_text.proofs.HasLemmas.{has, has_front, has_rest, has_at, Has}
+use Rattle.yaml_emit_laws_text.specs.emit_text.declared.Cursor.{Cursor}
+use Rattle.yaml_emit_laws_text.specs.emit_text.declared.LineBreak.{LineBreak}
+use Rattle.yaml_emit_laws_text.specs.emit_text.declared.page.Page.{Page}
+use Rattle.yaml_emit_laws_text.specs.emit_text.declared.page.Allowed.{Allowed}
+use Rattle.yaml_emit_laws_text.specs.emit_text.declared.Style.{Style}
+use Rattle.yaml_emit_laws_text.specs.emit_text.declared.Style.TheVariants as style
+use Rattle.yaml_emit_laws_text.specs.emit_text.Layout.{Rest, line, when, char, new_line, after_block}
+use Rattle.yaml_emit_laws_text.specs.emit_text.Style.{allowed, plain_fits, single_or, block_or, plain_or, taken, somewhere, is_special, ends_in_space, last_or}
+use Rattle.yaml_emit_laws_text.specs.emit_text.Scalars.{chomp, ends_in_break, digit_char, chomp_mark, block_body, scalar_text}
+use Rattle.yaml_emit_laws_text.specs.emit_text.Spelling.{in_front, break_text}
+use Rattle.yaml_emit_laws_text.specs.scan_model.declared.yaml_scalar_style_t.{yaml_scalar_style_t}
+use Rattle.yaml_emit_laws_text.specs.scan_model.declared.yaml_scalar_style_t.TheVariants as asked
+use Rattle.yaml_emit_laws_text.specs.emit_layout.declared.level.NodePosition.{NodePosition}
+use Rattle.yaml_emit_laws_text.specs.emit_layout.Content.{Scalar}
+use Rattle.yaml_emit_laws_text.specs.emit_layout.Grammar.{has as is_some, scalar_tag}
+use Rattle.yaml_emit_laws_text.specs.emit_layout.Nodes.{Context, is_simple_part, deeper, style_of, page_at}
+use Rattle.yaml_emit_laws_text.proofs.Back.{front_append, moved_by}
+use Rattle.yaml_emit_laws_scalars.specs.BlockLines.{closing, NoWhite, own, mark_bytes, BodyLine, bare, full, body_text, body_bytes, read_lines, AreInside, StandsLeft}
+use Rattle.yaml_emit_laws_scalars.specs.BlockLaws.{is_keep, BlockStands, BlockReads, BlockIsReadBack, BlockBeforeLine, margin_round, block_style, BlockIsChosen, BlockAtPosition, from_indicator, kind_of, read_style, BlockIsLaidOut}
+use Rattle.yaml_emit_laws_scalars.proofs.BlockLayouts.{line_is, start_is, new_line_is}
+use Rattle.yaml_emit_laws_scalars.proofs.BlockReading.{spaces_encode, length_spaces, spaces_column, left_of, next_feed, length_more, AllText, chars_text, body_reads, body_column, body_encodes}
+use Rattle.yaml_emit_laws_text.proofs.Single.{after_blanks, special_left}
+use Rattle.yaml_emit_laws_text.proofs.Forms.{at_line}
+use Rattle.std.proofs.lemmas.Bool.Decides.{nat_tests}
+use Rattle.yaml_emit_laws_text.specs.scan_model.Marks.{byte, break_width, column_at, is_blank}
+use Rattle.yaml_emit_laws_text.specs.scan_model.Runs.{is_space_there}
+use Rattle.yaml_emit_laws_text.proofs.RunsLemmas.{InRun, run_start, run_more, run_done, no_space, text_parts}
+use Rattle.yaml_scan_block.specs.Block.{larger, column_of, BlockText, block_with, block_at, style_at}
+use Rattle.yaml_scan_block.proofs.DepthLemmas.{depth_done, column_given, column_found}
+use Rattle.std.proofs.lemmas.Bool.{false≢true, true≢false, not-true, or_parts, eqb-false}
+use Rattle.yaml_emit_laws_text.specs.scan_model.Wrong.{Wrong}
 use Rattle.yaml_emit_laws_text.specs.scan_history.scan_words.Indicators.{is_document_start, is_document_end}
 use Rattle.yaml_emit_laws_text.specs.scan_history.Words.{indicator_of, kind_at, blocked, word_at}
-use Rattle.yaml_emit_laws_text.proofs.HasLemmas.{Has, has, has_front, has_rest}
-use Rattle.yaml_emit_laws_text.proofs.RunsLemmas.{text_parts}
 use Rattle.yaml_scan_block.specs.Value.{starts_blank, block_value}
 use Rattle.yaml_scan_block.specs.Stacked.{stacked_with}
 use Rattle.yaml_scan_block.specs.Header.{chomp_of as chomp_at}
 use Rattle.yaml_scan_block.specs.Lines.{Lines, lines_from}
-use Rattle.yaml_scan_block.specs.Block.{BlockText, column_of, block_with, block_at, style_at}
 use Rattle.yaml_scan_block.proofs.ScalarLemmas.{block_found}
-use Rattle.yaml_emit_laws_text.specs.emit_text.declared.Cursor.{Cursor}
-use Rattle.yaml_emit_laws_text.specs.emit_text.declared.LineBreak.{LineBreak}
-use Rattle.yaml_emit_laws_text.specs.emit_text.declared.page.Page.{Page}
 use Rattle.yaml_emit_laws_text.specs.emit_text.declared.page.Chomp.{Chomp}
 use Rattle.yaml_emit_laws_text.specs.emit_text.declared.page.Chomp.TheVariants as chomping
 use Rattle.yaml_emit_laws_text.specs.emit_text.Text.{letter, is_break}
-use Rattle.yaml_emit_laws_text.specs.emit_text.Layout.{Rest, when, char, new_line, after_block}
 use Rattle.yaml_emit_laws_text.specs.emit_text.Quoted.{is_printable, first}
-use Rattle.yaml_emit_laws_text.specs.emit_text.Style.{somewhere, is_special, ends_in_space, last_or, allowed}
-use Rattle.yaml_emit_laws_text.specs.emit_text.Scalars.{digit_char, chomp_mark, chomp, block_body, ends_in_break, scalar_text}
-use Rattle.yaml_emit_laws_text.specs.emit_text.Spelling.{in_front, break_text}
 use Rattle.yaml_emit_laws_text.proofs.Values.{cond_true}
-use Rattle.yaml_emit_laws_text.proofs.Back.{front_append, moved_by}
-use Rattle.yaml_emit_laws_scalars.specs.BlockLines.{own, mark_bytes, BodyLine, bare, full, body_text, body_bytes, read_lines, AreInside, closing, StandsLeft}
-use Rattle.yaml_emit_laws_scalars.specs.BlockLaws.{from_indicator, is_keep, kind_of, read_style, BlockStands, BlockIsReadBack, BlockIsLaidOut}
-use Rattle.yaml_emit_laws_scalars.proofs.BlockMarks.{text_encodes, text_blank}
-use Rattle.yaml_emit_laws_scalars.proofs.BlockLayouts.{new_line_is}
+use Rattle.yaml_emit_laws_scalars.proofs.BlockHeader.{text_encodes, text_blank, digit_text, digit_value, chomp_text, header_reads}
 use Rattle.yaml_emit_laws_scalars.proofs.BlockWaiting.{read_chomp, Waits}
 use Rattle.yaml_emit_laws_scalars.proofs.BlockValues.{AreGood, HasFirst, Begins, Starts, starts, unblank}
-use Rattle.yaml_emit_laws_scalars.proofs.BlockReading.{left_of, next_feed, length_more, length_spaces, AllText, spaces_column, chars_text, body_reads, body_column, body_encodes}
-use Rattle.yaml_emit_laws_scalars.proofs.BlockColumn.{column_by_text, column_by_digit}
-use Rattle.yaml_emit_laws_scalars.proofs.BlockHeader.{digit_text, digit_value, chomp_text, header_reads}
-use Rattle.yaml_emit_laws_text.proofs.Single.{special_left}
-use Rattle.yaml_emit_laws_text.proofs.Forms.{at_line}
+
+-- ---- the line behind
+
+spaced_cursor : (m k : ℕ) (kept : Bool)
+    → after_blanks m (record { column = k; white = true; bare = true; kept = kept })
+    ≡ record { column = k + m; white = true; bare = true; kept = kept }
+spaced_cursor zero k kept = let e : k ≡ k + 0 = omega arith in ap (λ j. record { column = j; white = true; bare = true; kept = kept }) e
+spaced_cursor (suc m) k kept =
+    let e : k + 1 + m ≡ k + suc m = omega arith in
+    spaced_cursor m (k + 1) kept ∙ ap (λ j. record { column = j; white = true; bare = true; kept = kept }) e
+
+spaced_start : (m : ℕ) (kept : Bool)
+    → after_blanks m (at_line kept) ≡ record { column = m; white = true; bare = true; kept = kept }
+spaced_start m kept = let e : 0 + m ≡ m = omega arith in spaced_cursor m 0 kept ∙ ap (λ j. record { column = j; white = true; bare = true; kept = kept }) e
+
+-- the cursor behind a line's spaces
+abbrev line_cursor : ℕ → Bool → Cursor
+line_cursor m kept = record { column = m; white = true; bare = true; kept = kept }
+
+line_behind : (b : LineBreak) (ended : Bool) (kept : Bool) (d : Cursor) (m : ℕ) (rest : Rest)
+    → (ended ≡ true → d ≡ at_line kept) → (ended ≡ false → d.bare ≡ false) → d.kept ≡ kept
+    → line b m d rest ≡ in_front (closing b ended ++ replicate m 32) (rest (line_cursor m kept))
+line_behind b true kept d m rest f g h =
+    ap (λ e. line b m e rest) (f refl) ∙ start_is b m kept rest ∙ ap (λ e. in_front (replicate m 32) (rest e)) (spaced_start m kept)
+line_behind b false kept d m rest f g h =
+    line_is b m d rest (g refl) ∙ ap (λ e. in_front (break_text b ++ replicate m 32) (rest (after_blanks m (at_line e)))) h
+    ∙ ap (λ e. in_front (break_text b ++ replicate m 32) (rest e)) (spaced_start m kept)
+
+line_bytes_are : (letters close : List ℕ) (m : ℕ)
+    → encode_utf8_all (letters ++ (close ++ replicate m 32)) ≡ encode_utf8_all (letters ++ close)
+    ++ replicate m 32
+line_bytes_are letters close m =
+    ap (λ (t : List ℕ). encode_utf8_all t) (sym (append_assoc letters close (replicate m 32))) ∙ encodes-append (letters ++ close) (replicate m 32)
+    ∙ ap (λ (t : List ℕ). encode_utf8_all (letters ++ close) ++ t) (spaces_encode m)
+
+read_line_behind : (page : Page) (digit : ℕ) (folded : Bool) (level : ℕ) (c : Cursor)
+    (value : List ℕ) (m : ℕ) (r : BlockReads page digit folded level c value) → m < page.indentation
+    → (text : List ℕ) (p end : ℕ)
+    → HasAt text p (encode_utf8_all (r.letters
+    ++ closing page.line_break (ends_in_break (chars value))) ++ replicate m 32)
+    → NoWhite text (p + length (encode_utf8_all
+    (r.letters ++ closing page.line_break (ends_in_break (chars value))) ++ replicate m 32))
+    → end + m ≡ p + length (encode_utf8_all
+    (r.letters ++ closing page.line_break (ends_in_break (chars value))) ++ replicate m 32)
+    → BlockStands folded level text p value end m
+read_line_behind page digit folded level c value m r left text p end h n e =
+    let bs = encode_utf8_all (r.letters ++ closing page.line_break (ends_in_break (chars value))) in
+    let all = has text p (bs ++ replicate m 32) h in
+    let size = length-append bs (replicate m 32) in
+    let wide = length_spaces m in
+    let far : p + length (bs ++ replicate m 32) ≡ p + length bs + m = omega (arith, size, wide) in
+    let here : p + length bs ≡ end = omega (arith, size, wide, e) in
+    subst (λ q. BlockStands folded level text p value q m) here
+    (r.read text p m (has_at text p bs (has_front text p bs (replicate m 32) all))
+    (record { fewer = left; spaces = has_at text (p + length bs) (replicate m 32) (has_rest text p bs (replicate m 32) all); behind = subst (λ q. NoWhite text q) far n }))
+
+longer_than : (bs : List ℕ) (m : ℕ) → m ≤ length (bs ++ replicate m 32)
+longer_than bs m =
+    let size = length-append bs (replicate m 32) in
+    let wide = length_spaces m in
+    omega (arith, size, wide)
+
+pub block_before_line : BlockIsReadBack → BlockBeforeLine
+unfolding in_front
+block_before_line law page digit folded level c value m u some small column block left =
+    let r = law page digit folded level c value u some small column block in
+    let ended = ends_in_break (chars value) in
+    let kept = is_keep (chomp true true (chars value)) in
+    let close = closing page.line_break ended in
+    let behind = close ++ replicate m 32 in
+    let bytes = line_bytes_are r.letters close m in
+    record {
+      letters = r.letters ++ behind;
+      inside = r.inside ++ behind;
+      begins = ap (λ (t : List ℕ). t ++ behind) r.begins;
+      written = λ rest.
+          r.written (λ d. line page.line_break m d rest) ∙ ap (in_front r.letters) (line_behind page.line_break ended kept r.behind m rest r.at_start r.in_line r.kept)
+          ∙ sym (front_append r.letters behind (rest (line_cursor m kept)));
+      read = λ text p end.
+          let P : List ℕ → Type 0 = λ bs. HasAt text p bs → NoWhite text (p + length bs) → end + m ≡ p + length bs → BlockStands folded level text p value end m in
+          subst P (sym bytes) (λ h n e. read_line_behind page digit folded level c value m r left text p end h n e);
+      longer = subst (λ (bs : List ℕ). m ≤ length bs) (sym bytes) (longer_than (encode_utf8_all (r.letters ++ close)) m);
+    }
+
+-- ---- the style that is chosen
+
+abbrev IsBlock : Style → Type 0
+IsBlock style.Plain = ⊥
+IsBlock style.Single = ⊥
+IsBlock style.Double = ⊥
+IsBlock style.Literal = Unit {0}
+IsBlock style.Folded = Unit {0}
+
+block_is : (folded : Bool) → IsBlock (block_style folded)
+block_is true = tt
+block_is false = tt
+
+single_not : (a : Allowed) → IsBlock (single_or a) → ⊥
+single_not a h = by a.single h
+  where
+    by : (b : Bool) → IsBlock (if b then style.Single else style.Double) → ⊥
+    by true f = f
+    by false f = f
+
+plain_not : (a : Allowed) (untagged flow simple empty : Bool)
+    → IsBlock (plain_or a untagged flow simple empty) → ⊥
+plain_not a untagged flow simple empty = by (plain_fits a untagged flow simple empty)
+  where
+    by : (b : Bool) → IsBlock (if b then style.Plain else single_or a) → ⊥
+    by true f = f
+    by false f = single_not a f
+
+block_by : (a : Allowed) (flow simple : Bool) (s : Style) → IsBlock (block_or a flow simple s)
+    → (a.block ≡ true) × (flow ≡ false) × (simple ≡ false)
+block_by a flow simple s h = by a.block flow simple h
+  where
+    by : (b f g : Bool) → IsBlock (if b && not (f || g) then s else style.Double)
+        → (b ≡ true) × (f ≡ false) × (g ≡ false)
+    by true false false i = (refl, refl, refl)
+    by true true g i = absurd i
+    by true false true i = absurd i
+    by false f g i = absurd i
+
+taken_block : (a : Allowed) (s : yaml_scalar_style_t) (untagged flow simple empty : Bool)
+    → IsBlock (taken a s untagged flow simple empty)
+    → (a.block ≡ true) × (flow ≡ false) × (simple ≡ false)
+unfolding taken
+taken_block a asked.YAML_ANY_SCALAR_STYLE untagged flow simple empty h = absurd (plain_not a untagged flow simple empty h)
+taken_block a asked.YAML_PLAIN_SCALAR_STYLE untagged flow simple empty h = absurd (plain_not a untagged flow simple empty h)
+taken_block a asked.YAML_SINGLE_QUOTED_SCALAR_STYLE untagged flow simple empty h = absurd (single_not a h)
+taken_block a asked.YAML_DOUBLE_QUOTED_SCALAR_STYLE untagged flow simple empty h = absurd h
+taken_block a asked.YAML_LITERAL_SCALAR_STYLE untagged flow simple empty h = block_by a flow simple style.Literal h
+taken_block a asked.YAML_FOLDED_SCALAR_STYLE untagged flow simple empty h = block_by a flow simple style.Folded h
+
+pretty_block : (canonical : Bool) (s : Style) → IsBlock (if canonical then style.Double else s)
+    → (canonical ≡ false) × IsBlock s
+pretty_block true s h = absurd h
+pretty_block false s h = (refl, h)
+
+chosen : (p : Context) (at : NodePosition) (x : Scalar) → IsBlock (style_of p at x)
+    → BlockIsChosen p at x
+unfolding style_of
+chosen p at x h =
+    let (pretty, block) = pretty_block p.settings.canonical _ h in
+    let (allows, outside, whole) = taken_block (allowed p.settings.unicode (chars x.value)) x.style (is_some (scalar_tag false x) || x.plain) at.flow (is_simple_part at.part) (length x.value == 0) block in
+    record { outside = outside; whole = whole; pretty = pretty; allows = allows }
+
+column_round : (p : Context) (o : Option ℕ)
+    → (margin_round o - 1) + p.settings.indent ≡ deeper p.settings o
+column_round p None = omega arith
+column_round p (Some n) = omega arith
+
+pub block_at_position : BlockIsReadBack → BlockAtPosition
+block_at_position law p at x folded c m u some small same left =
+    let is = chosen p at x (subst (λ s. IsBlock s) (sym same) (block_is folded)) in
+    (is, block_before_line law (page_at p.settings at) p.settings.indent folded (margin_round at.around) c x.value m u some small (column_round p at.around) is.allows left)
+
+-- ==== The column of a block scalar's text, by digit and without.
+
+spaces_run : (k : ℕ) (text : List ℕ) (a p : ℕ) → Has text p (replicate k 32)
+    → InRun is_space_there text a p → InRun is_space_there text a (p + k)
+spaces_run zero text a p h r = subst (λ q. InRun is_space_there text a q) (sym (add-zero p)) r
+spaces_run (suc k) text a p (e, h) r =
+    let same : p + 1 + k ≡ p + suc k = omega arith in
+    subst (λ q. InRun is_space_there text a q) same (spaces_run k text a (p + 1) h (run_more is_space_there text a p r (grind (arith, nat_tests)) (omega (arith, e))))
+
+-- without a digit the first line tells it
+pub column_by_text : (level n : ℕ) (text : List ℕ) (p : ℕ) → level ≤ n → 0 < n
+    → column_at text p ≡ 0 → Has text p (replicate n 32) → byte text (p + n) ≢ 32
+    → byte text (p + n) ≢ 9 → break_width text (p + n) ≡ 0
+    → column_of level text 0 p ≡ Ok n
+unfolding larger
+column_by_text level n text p l some c h e t w =
+    let here = run_done is_space_there text p (p + n) (spaces_run n text p p h (run_start is_space_there text p)) (no_space (byte text (p + n)) e) in
+    let col : column_at text (p + n) ≡ n = let s = spaces_column n text p h in omega (arith, s, c) in
+    column_found level text 0 p refl
+    ∙ depth_done (length text) text p (larger level 1) (subst (λ q. byte text q ≢ 9) (sym here) t) (subst (λ q. break_width text q ≡ 0) (sym here) w)
+    ∙ ap (λ q. Ok (larger (larger level 1) (column_at text q))) here ∙ ap (λ j. Ok (larger (larger level 1) j)) col ∙ ap (λ j. Ok j) (grind (arith, nat_tests))
+
+-- ==== What is written for a block scalar is read as its value.
 
 -- ---- what a value is that allows it
 
@@ -204,7 +390,7 @@ column_is : (b : LineBreak) (shown : Bool) (level n digit : ℕ) (cs : List ℕ)
     → column_at text p ≡ 0
     → Begins cs ls → AreInside ls → Has text p (body_bytes b n ls)
     → column_of level text (digit_value shown digit) p ≡ Ok n
-column_is b true level n digit cs ls text p a s some e c f i h = column_by_digit level n digit text p some e
+column_is b true level n digit cs ls text p a s some e c f i h = column_given level text digit p some ∙ ap (λ j. Ok j) e
 column_is b false level n digit [] ls text p a s some e c f i h = let bad = a.is in absurd (cc)
 column_is b false level n digit (x ∷ xs) ls text p a s some e c f i h =
     let (good, part, more) = a.good in
@@ -235,10 +421,6 @@ unfolding kind_at indicator_of
 kind_by true text p e s f = rw (e, s, f) refl
 kind_by false text p e s f = rw (e, s, f) refl
 
-kind_is : (folded : Bool) (text : List ℕ) (p : ℕ) → byte text p ≡ sign folded
-    → kind_at false text p ≡ Some (kind_of folded)
-kind_is folded text p e = kind_by folded text p e (no_start folded text p e) (no_document_end folded text p e)
-
 style_is : (folded : Bool) (text : List ℕ) (p : ℕ) → byte text p ≡ sign folded
     → style_at text p ≡ read_style folded
 style_is true text p e = rw e refl
@@ -257,7 +439,7 @@ stands_by : (folded : Bool) (level : ℕ) (text : List ℕ) (p : ℕ) (value : L
     → BlockStands folded level text p value end k
 stands_by folded level text p value end k e c h = record {
   block = h;
-  kind = kind_is folded text p e;
+  kind = kind_by folded text p e (no_start folded text p e) (no_document_end folded text p e);
   word = word_is folded level text p ∙ ap (λ s. blocked s (block_at level text p)) (style_is folded text p e) ∙ ap (λ (r : Result BlockText Wrong). blocked (read_style folded) r) h;
   column = c;
 }
@@ -311,12 +493,6 @@ body_stands page digit folded level cs value ls d text p k (here, h) left =
     ∙ ap (λ (s : Result Lines Wrong). block_with (block_value folded (chomp_at (read_chomp (chomp true true cs)))) s) lines
     ∙ ap (λ (v : List ℕ). let x : Result BlockText Wrong = Ok record { value = v; end = end; place = end + k } in x) d.means)
 
-value_means : (page : Page) (folded : Bool) (k : ℕ) (cs value : List ℕ) (kept : Bool)
-    (s : Starts page folded false true false [] [] k 10 cs kept) → encode_utf8_all cs ≡ value
-    → block_value folded (chomp_at k) (read_lines s.lines) ≡ value
-unfolding stacked_with
-value_means page folded k cs value kept s e = s.means ∙ e
-
 abbrev behind_block : Cursor → Cursor
 behind_block d = record { column = d.column; white = true; bare = d.bare; kept = d.kept }
 
@@ -334,6 +510,7 @@ written_by page digit folded cs c rest s small =
     ∙ ap (in_front header) (s.text (λ e. after_block e rest)) ∙ sym (front_append header s.letters (rest (behind_block s.behind))))
 
 pub block_back : BlockIsReadBack
+unfolding stacked_with
 block_back page digit folded level c value u some small column block =
     let cs = chars value in
     let b = page.line_break in
@@ -352,7 +529,7 @@ block_back page digit folded level c value u some small column block =
       column = column;
       begins = s.begins;
       sound = s.sound;
-      means = value_means page folded (read_chomp chomped) cs value kept s (encodes-chars value u);
+      means = s.means ∙ (encodes-chars value u);
     } in
     record {
       letters = sign folded ∷ inner;

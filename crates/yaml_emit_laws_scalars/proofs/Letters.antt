@@ -1,5 +1,5 @@
 -- What is written for a character inside a plain or single quoted scalar is a part of a spelling.
-use Rattle.std.proofs.Common.{◌≡◌, ℕ, ◌+◌, ◌<◌, Bool, true, false, not, ◌&&◌, ◌||◌, ◌==◌, nat_lt, List, [], ◌∷◌, ◌++◌, replicate, refl, sym, ap, ◌∙◌, inl, inr, ◌⊎◌, arith, append-nil, encode_utf8, encode_utf8_all}
+use Rattle.std.proofs.Common.{◌≡◌, ℕ, ◌+◌, ◌<◌, Bool, true, false, ◌&&◌, ◌||◌, ◌==◌, List, [], ◌∷◌, ◌++◌, replicate, refl, sym, ap, ◌∙◌, inl, inr, ◌⊎◌, arith, append-nil, encode_utf8, encode_utf8_all}
 use Rattle.std.proofs.lemmas.Bool.{true≢false, lt-ltb, eqb-true, and_parts, or_parts, ne_eqb, eqb-false}
 use Rattle.std.proofs.lemmas.Str.{encode_ascii}
 use lib.Utf8.{scalar}
@@ -44,11 +44,6 @@ quote_byte false = 0
 no_printable : (x k : ℕ) → is_printable x ≡ true → is_printable k ≡ false → (x == k) ≡ false
 no_printable x k s n = ne_eqb x k (λ e. true≢false (sym s ∙ ap (λ t. is_printable t) e ∙ n))
 
-raw_test : (s a b d e f z q k m : Bool) → s ≡ true → a ≡ false → b ≡ false → d ≡ false → e ≡ false
-    → f ≡ false → z ≡ false → q ≡ false → m ≡ false
-    → (s && not ((a || (b || (d || (e || f)))) || (z || (q || (m && k))))) ≡ true
-raw_test s a b d e f z q k m g h i j l r n o t = rw (g, h, i, j, l, r, n, o, t) refl
-
 raw_may : (quote : Bool) (x : ℕ) → scalar x ≡ true → is_printable x ≡ true → is_break x ≡ false
     → (quote && x == 39) ≡ false → may_be_raw (quote_byte quote) x ≡ true
 raw_may quote x s p inside q =
@@ -58,7 +53,7 @@ raw_may quote x s p inside q =
     let t28 = (or_parts _ (x == 0x2028) t29).0 in
     let p85 = (or_parts _ (x == 0x85) t28).1 in
     let t85 = (or_parts _ (x == 0x85) t28).0 in
-    raw_test (scalar x) (x == 10) (x == 13) (x == 0x85) (x == 0x2028) (x == 0x2029) (x == 0) (x == quote_byte quote) (x == 92) (quote_byte quote == 34) s (or_parts (x == 10) _ t85).0 (or_parts _ (x == 13) t85).1 p85 p28 p29 (no_printable x 0 p refl) (no_quote quote q) (no_double quote)
+    (rw (s, ((or_parts (x == 10) _ t85).0), ((or_parts _ (x == 13) t85).1), p85, p28, p29, (no_printable x 0 p refl), (no_quote quote q), (no_double quote)) refl)
   where
     no_quote : (quote : Bool) → (quote && x == 39) ≡ false → (x == quote_byte quote) ≡ false
     no_quote true h = h
@@ -121,11 +116,6 @@ pub record Behind (before : ℕ) (c : Cursor) (last : QuotedPart) (value : List 
       → ((before ≡ 32) ⊎ (is_break before ≡ true)) × ((first value == 32) ≡ false)
   pub bare : (before == 32) ≡ false → is_break before ≡ false → c.bare ≡ false
 
-fold_may : (quote : Bool) (b : LineBreak) (n : ℕ) → nat_lt 0 n ≡ true
-    → MayStand (quote_byte quote) (fold (record { end = end_of b; spaces = n }) [])
-unfolding may_turn
-fold_may quote b n h = h
-
 own_plain : (b : LineBreak) → is_plain_end (end_of b) ≡ true
 own_plain Lf = refl
 own_plain Cr = refl
@@ -139,6 +129,7 @@ step_cut : (page : Page) (quote : Bool) (before x : ℕ) (xs : List ℕ) (c : Cu
     → Behind before c last (x ∷ xs) → is_break before ≡ false → cuts_at page before x xs ≡ true
     → is_past page.width c ≡ true
     → Step page quote before x xs c last
+unfolding may_turn
 step_cut page quote before x xs c last deep s h inside m p =
     let needs = cut_needs page before x xs m in
     let n = page.indentation in
@@ -149,7 +140,7 @@ step_cut page quote before x xs c last deep s h inside m p =
       part = fold (record { end = end_of b; spaces = n }) [];
       letters = break_text b ++ replicate n 32;
       after = after_blanks n (line_start c);
-      stand = fold_may quote b n (lt-ltb 0 n (deep needs.cuts));
+      stand = (lt-ltb 0 n (deep needs.cuts));
       follow = fold_follows last (fold (record { end = end_of page.line_break; spaces = page.indentation }) []) refl refl (bool_cases (is_raw_blank last) (λ t. absurd (apart_from (h.blank t))) (λ f. f)) no_turn;
       text = λ rest. cut_is page quote (cuts_at page before x xs) x c rest m p ∙ line_is b n c rest (h.bare needs.behind inside);
       bytes = fold_bytes b n;

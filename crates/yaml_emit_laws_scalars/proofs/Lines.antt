@@ -1,6 +1,5 @@
 -- Lines and breaks that a layout writes inside a scalar.
-use Rattle.std.proofs.Common.{◌≡◌, ℕ, zero, suc, ◌+◌, ◌-◌, Bool, true, false, not, ◌&&◌, ◌||◌, ◌==◌, nat_lt, List, [], ◌∷◌, ◌++◌, replicate, refl, sym, ap, subst, ◌∙◌, inl, inr, ◌⊎◌, arith, append-nil, encode_utf8, encode_utf8_all}
-use Rattle.std.proofs.lemmas.Bool.{true≢false, eqb-true, ne_eqb}
+use Rattle.std.proofs.Common.{◌≡◌, ℕ, zero, suc, ◌+◌, ◌-◌, Bool, true, false, not, ◌&&◌, ◌||◌, ◌==◌, nat_lt, List, [], ◌∷◌, ◌++◌, replicate, refl, sym, ap, subst, ◌∙◌, inl, inr, ◌⊎◌, arith, append-nil, encode_utf8, encode_utf8_all, true≢false, eqb-true, ne_eqb}
 use Rattle.std.proofs.lemmas.Bool.Decides.{nat_tests}
 use Rattle.std.proofs.Math.Bool.{and-false}
 use Rattle.yaml_emit_laws_text.specs.scan_history.scan_scalars.Pieces.{gap}
@@ -57,15 +56,12 @@ unbroken true false false x e f g = absurd (true≢false (sym g))
 unbroken true true w x e f g = absurd (true≢false f)
 unbroken false b w x e f g = absurd (true≢false (sym e))
 
-none_less : (n m : ℕ) → m ≡ 0 → nat_lt n m ≡ false
-none_less n m e = grind (arith, nat_tests)
-
 -- there it is spaces alone
 pub start_is : (b : LineBreak) (n : ℕ) (c : Cursor) (rest : Rest) → Starts c
     → line b n c rest ≡ in_front (replicate n 32) (rest (after_blanks n c))
 unfolding line
 start_is b n c rest s =
-    let none : must_break n c ≡ false = unbroken c.bare (nat_lt n c.column) c.white (c.column == n) s.bare (none_less n c.column s.column) s.white in
+    let none : must_break n c ≡ false = unbroken c.bare (nat_lt n c.column) c.white (c.column == n) s.bare (grind (arith, nat_tests)) s.white in
     cond_false (must_break n c) (new_line b c (λ d. indent_to n d rest)) (indent_to n c rest) none ∙ indent_is n c rest s.column
 
 -- ---- breaks of a value

@@ -1,7 +1,6 @@
 -- Layouts that stay in their line, by how many bytes they write.
-use Rattle.std.proofs.Common.{◌≡◌, ℕ, suc, ◌+◌, ◌*◌, ◌<◌, ◌≤◌, Bool, true, false, not, ◌&&◌, ◌==◌, nat_lt, List, [], ◌∷◌, ◌++◌, length, refl, sym, ap, subst, ◌∙◌, inl, inr, arith, append-nil, append_assoc, encode_utf8, encode_utf8_all}
+use Rattle.std.proofs.Common.{◌≡◌, ℕ, suc, ◌+◌, ◌*◌, ◌<◌, ◌≤◌, Bool, true, false, not, ◌&&◌, ◌==◌, nat_lt, List, [], ◌∷◌, ◌++◌, length, refl, sym, ap, subst, ◌∙◌, inl, inr, arith, append-nil, append_assoc, encode_utf8, encode_utf8_all, length-append}
 use Rattle.std.proofs.lemmas.Bool.{cases_Bool, cases_lt, cases_eq, true≢false, and_parts, not-true, and_from}
-use Rattle.std.proofs.lemmas.List.{length-append}
 use Rattle.std.proofs.lemmas.Str.{encodes-append}
 use Rattle.std.specs.Str.{all_scalars}
 use lib.Utf8.{scalar}
@@ -187,9 +186,6 @@ two_bytes c u =
       ]
     ]
 
-four_bytes : (c : ℕ) → 65536 ≤ c → 4 ≤ length (encode_utf8 c)
-four_bytes c u = subst (λ (bs : List ℕ). 4 ≤ length bs) (sym (encode_4 c u)) (omega arith)
-
 escape_length : (c : ℕ) → length (escape_text c) ≤ 4 * length (encode_utf8 c)
 escape_length c =
     let P : List ℕ → Type 0 = λ bs. length bs ≤ 4 * length (encode_utf8 c) in
@@ -200,7 +196,7 @@ escape_length c =
         | inl a ↦ subst P (sym (escape_by_2 c n a)) (omega (arith, some))
         | inr a ↦ elim (cases_lt c 65536) [
           | inl b ↦ let t = two_bytes c (omega (arith, a)) in subst P (sym (escape_by_4 c n a b)) (omega (arith, t))
-          | inr b ↦ let f = four_bytes c b in subst P (sym (escape_by_8 c n a b)) (omega (arith, f))
+          | inr b ↦ let f = (subst (λ (bs : List ℕ). 4 ≤ length bs) (sym (encode_4 c b)) (omega arith)) in subst P (sym (escape_by_8 c n a b)) (omega (arith, f))
         ]
       ]
     ]

@@ -1,11 +1,8 @@
 -- Simple keys, with their properties, stay in their line.
-use Rattle.std.proofs.Common.{◌≡◌, ℕ, suc, ◌+◌, ◌-◌, ◌*◌, ◌/◌, ◌%◌, ◌<◌, ◌≤◌, Bool, true, false, not, ◌&&◌, ◌||◌, ◌==◌, nat_le, nat_lt, List, [], ◌∷◌, ◌++◌, length, Option, Some, None, refl, sym, ap, subst, ◌∙◌, inl, inr, arith, encode_utf8_all, IsUtf8}
-use Rattle.std.specs.Prelude.{if◌then◌else◌}
+use Rattle.std.proofs.Common.{◌≡◌, ℕ, suc, ◌+◌, ◌-◌, ◌*◌, ◌/◌, ◌%◌, ◌<◌, ◌≤◌, Bool, true, false, not, ◌&&◌, ◌||◌, ◌==◌, nat_le, nat_lt, List, [], ◌∷◌, ◌++◌, length, Option, Some, None, refl, sym, ap, subst, ◌∙◌, inl, inr, arith, encode_utf8_all, IsUtf8, if◌then◌else◌, length-append, chars}
 use Rattle.std.proofs.lemmas.Bool.{cases_Bool, true≢false, and_parts, not-true, ne_eqb}
 use Rattle.std.proofs.lemmas.Bool.Decides.{nat_tests}
-use Rattle.std.proofs.lemmas.List.{length-append}
 use Rattle.std.proofs.lemmas.Str.{scalars-chars, encodes-chars}
-use Rattle.std.specs.Str.{chars}
 use Rattle.std.proofs.Math.Bool.{and-false}
 use Rattle.yaml_emit_laws_text.specs.scan_model.Classes.{is_alpha_byte, is_digit_byte, has_break}
 use Rattle.yaml_emit_laws_text.specs.scan_history.scan_words.Written.{are_alphas}
@@ -358,33 +355,23 @@ in_brackets : (b : Bool) (P : Bool → Type 0) → b ≡ true → P true → P b
 in_brackets true P e h = h
 in_brackets false P e h = absurd (true≢false (sym e))
 
-no_items : (p : Context) (n : ℕ) (c : Cursor) (b : Bool) → b ≡ true
-    → StaysNear (items_layout p b n true no_nodes) c 1
-unfolding items_layout
-no_items p n c b e = in_brackets b (λ k. StaysNear (items_layout p k n true no_nodes) c 1) e (near_close p.settings n 93 c refl)
-
-no_more : (p : Context) (n : ℕ) (c : Cursor) (b : Bool) → b ≡ true
-    → StaysNear (pairs_layout p b n true no_pairs) c 1
-unfolding pairs_layout
-no_more p n c b e = in_brackets b (λ k. StaysNear (pairs_layout p k n true no_pairs) c 1) e (near_close p.settings n 125 c refl)
-
 some_start : (p : Context) (q : Start) → is_simple_start p q false ≡ true → ⊥
 unfolding is_simple_start
 some_start p q h = true≢false (sym (and_parts (not p.settings.canonical) _ h).1)
 
 pub keys_near : SimpleKeysAreNear
-unfolding is_simple node_layout
+unfolding is_simple node_layout items_layout pairs_layout
 keys_near s o good (alias_node name) w simple flow n c = near_alias (context_of s o.directives) name w simple flow n c
 keys_near s o good (scalar_node x) (a, t, u) simple flow n c = near_scalar s o good x a t u simple flow n c
 keys_near s o good (sequence_node q no_nodes) (a, t, w) simple flow n c =
     let p = context_of s o.directives in
     let at = position flow n part.SimpleKey in
     let is = empty_flow s flow n q in
-    near_empty s o good q a t simple 91 93 (is_flow s at q true) is (indent_of s at true (is_flow s at q true)) (λ m. items_layout p (is_flow s at q true) m true no_nodes) (λ m d e. no_items p m d (is_flow s at q true) is) refl c
+    near_empty s o good q a t simple 91 93 (is_flow s at q true) is (indent_of s at true (is_flow s at q true)) (λ m. items_layout p (is_flow s at q true) m true no_nodes) (λ m d e. (in_brackets (is_flow s at q true) (λ k. StaysNear (items_layout p k m true no_nodes) d 1) is (near_close p.settings m 93 d refl))) refl c
 keys_near s o good (sequence_node q (node x xs)) w simple flow n c = absurd (some_start (context_of s o.directives) q simple)
 keys_near s o good (mapping_node q no_pairs) (a, t, w) simple flow n c =
     let p = context_of s o.directives in
     let at = position flow n part.SimpleKey in
     let is = empty_flow s flow n q in
-    near_empty s o good q a t simple 123 125 (is_flow s at q true) is (indent_of s at false (is_flow s at q true)) (λ m. pairs_layout p (is_flow s at q true) m true no_pairs) (λ m d e. no_more p m d (is_flow s at q true) is) refl c
+    near_empty s o good q a t simple 123 125 (is_flow s at q true) is (indent_of s at false (is_flow s at q true)) (λ m. pairs_layout p (is_flow s at q true) m true no_pairs) (λ m d e. (in_brackets (is_flow s at q true) (λ k. StaysNear (pairs_layout p k m true no_pairs) d 1) is (near_close p.settings m 125 d refl))) refl c
 keys_near s o good (mapping_node q (pair k v ps)) w simple flow n c = absurd (some_start (context_of s o.directives) q simple)

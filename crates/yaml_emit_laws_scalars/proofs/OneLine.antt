@@ -1,10 +1,8 @@
 -- Texts without breaks: characters of a value that has none, and places on one line.
-use Rattle.std.proofs.Common.{◌≡◌, ℕ, zero, suc, ◌+◌, ◌-◌, ◌/◌, ◌%◌, ◌<◌, ◌≤◌, Bool, true, false, not, ◌==◌, nat_le, nat_lt, List, [], ◌∷◌, ◌++◌, length, refl, sym, ap, subst, ◌∙◌, inl, inr, ◌⊎◌, arith, add-one, add-zero, encode_utf8, encode_utf8_all, IsUtf8}
+use Rattle.std.proofs.Common.{◌≡◌, ℕ, zero, suc, ◌+◌, ◌-◌, ◌/◌, ◌%◌, ◌<◌, ◌≤◌, Bool, true, false, not, ◌==◌, nat_le, nat_lt, List, [], ◌∷◌, ◌++◌, length, refl, sym, ap, subst, ◌∙◌, inl, inr, ◌⊎◌, arith, add-one, add-zero, encode_utf8, encode_utf8_all, IsUtf8, length-append, chars}
 use Rattle.std.proofs.lemmas.Bool.{cases_lt, true≢false, eqb-true, and_parts, not-true, or_parts}
 use Rattle.std.proofs.lemmas.Bool.Decides.{nat_tests}
-use Rattle.std.proofs.lemmas.List.{length-append}
 use Rattle.std.proofs.lemmas.Str.{encodes-chars}
-use Rattle.std.specs.Str.{chars}
 use Rattle.yaml_emit_laws_text.specs.scan_model.Marks.{byte, break_of, line_at}
 use Rattle.yaml_emit_laws_text.specs.scan_model.Classes.{is_break as breaks_at, any_below, has_break}
 use Rattle.yaml_emit_laws_text.proofs.MarksLemmas.{line_more}
@@ -33,10 +31,6 @@ unfolding break_of
 low_break b c d (inl e) = rw e refl
 low_break b c d (inr e) = rw e (bool_cases (c == 10) (λ f. rw f refl) (λ f. rw f refl))
 
-nel_break : (d : ℕ) → nat_lt 0 (break_of 0xC2 0x85 d) ≡ true
-unfolding break_of
-nel_break d = refl
-
 ls_break : nat_lt 0 (break_of 0xE2 0x80 0xA8) ≡ true
 unfolding break_of
 ls_break = refl
@@ -46,7 +40,8 @@ unfolding break_of
 ps_break = refl
 
 nel_here : (text : List ℕ) (p : ℕ) → Has text p (0xC2 ∷ 0x85 ∷ []) → breaks_at text p ≡ true
-nel_here text p (a, (b, u)) = rw (a, b) (nel_break _)
+unfolding break_of
+nel_here text p (a, (b, u)) = rw (a, b) refl
 
 wide_here : (text : List ℕ) (p d : ℕ) → nat_lt 0 (break_of 0xE2 0x80 d) ≡ true
     → Has text p (0xE2 ∷ 0x80 ∷ d ∷ []) → breaks_at text p ≡ true

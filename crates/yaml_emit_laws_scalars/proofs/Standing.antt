@@ -1,19 +1,24 @@
 -- How the bytes of a plain scalar are read, one by one.
-use Rattle.std.proofs.Common.{◌≡◌, ◌≢◌, ℕ, zero, suc, ◌+◌, ◌-◌, ◌/◌, ◌%◌, ◌<◌, ◌≤◌, Bool, true, false, ◌&&◌, ◌==◌, nat_lt, List, [], ◌∷◌, ◌++◌, length, Result, Ok, refl, sym, ap, subst, ◌∙◌, inl, inr, arith, append_assoc, encode_utf8}
-use Rattle.std.proofs.lemmas.Bool.{cases_lt, true≢false, ne_eqb}
+use Rattle.std.proofs.Common.{◌≡◌, ◌≢◌, ℕ, zero, suc, ◌+◌, ◌-◌, ◌/◌, ◌%◌, ◌<◌, ◌≤◌, Bool, true, false, ◌&&◌, ◌==◌, nat_lt, List, [], ◌∷◌, ◌++◌, length, Result, Ok, refl, sym, ap, subst, ◌∙◌, inl, inr, arith, append_assoc, encode_utf8, ◌||◌, not}
+use Rattle.std.proofs.lemmas.Bool.{cases_lt, true≢false, ne_eqb, not-true, and_parts}
 use Rattle.std.proofs.lemmas.Bool.Decides.{nat_tests}
 use Rattle.std.proofs.Math.Bool.{and-false}
-use Rattle.yaml_emit_laws_text.specs.scan_model.Marks.{byte, break_width, ends_break, starts, column_at, is_blank, is_blank_or_end}
+use Rattle.yaml_emit_laws_text.specs.scan_model.Marks.{byte, break_width, ends_break, starts, column_at, is_blank, is_blank_or_end, break_of}
 use Rattle.yaml_emit_laws_text.specs.scan_model.Wrong.{Wrong}
 use Rattle.yaml_emit_laws_text.specs.scan_history.scan_scalars.Pieces.{Piece, Kept, Blank, Break}
-use Rattle.yaml_emit_laws_text.specs.scan_history.scan_scalars.Plain.{is_bracket, after_white, leads, PlainSpot, Takes, spot_at, ends_at, Words, is_nothing, with_piece, words_from, follows, words}
-use Rattle.yaml_emit_laws_text.proofs.PlainLemmas.{leads-text, white-text, spot_kept}
+use Rattle.yaml_emit_laws_text.specs.scan_history.scan_scalars.Plain.{is_bracket, after_white, leads, PlainSpot, Takes, spot_at, ends_at, Words, is_nothing, with_piece, words_from, follows, words, Ends}
+use Rattle.yaml_emit_laws_text.proofs.PlainLemmas.{leads-text, white-text, spot_kept, spot_break, spot_blank, spot_ends}
 use Rattle.yaml_emit_laws_text.proofs.MarksLemmas.{within}
 use Rattle.yaml_emit_laws_text.proofs.HasLemmas.{Has}
 use Rattle.yaml_emit_laws_text.proofs.Chars.{encode_1, encode_2, encode_3, encode_4}
 use Rattle.yaml_emit_laws_text.proofs.Values.{keeps}
 use Rattle.yaml_emit_laws_text.proofs.Bytes.{low_end, low_break, first_end, second_end, third_end, later_break, two_break, three_break, four_break, high_blank}
 use Rattle.yaml_emit_laws_text.proofs.QuotedReading.{ends_2, ends_1, in_line, column_more}
+use Rattle.yaml_emit_laws_text.specs.scan_model.Breaks.{feed_at}
+use Rattle.yaml_emit_laws_text.specs.scan_history.scan_words.Written.{are_gap, has_break}
+use Rattle.yaml_emit_laws_text.proofs.RunsLemmas.{space_parts}
+use Rattle.yaml_emit_laws_text.specs.scan_laws_texts.PlainLaws.{ends_plain}
+use Rattle.yaml_emit_laws_text.proofs.GapsRead.{cr_width, byte_cases}
 
 -- ---- readings, from the right
 
@@ -62,35 +67,29 @@ break_sealed : (bytes : List ℕ) (q e place : ℕ) (broke : Bool) (ps : List Pi
 break_sealed bytes q e place broke [] h = absurd (true≢false h)
 break_sealed bytes q e place broke (x ∷ xs) h = refl
 
+-- a piece in front of what is read
+read_piece : (flow : Bool) (level : ℕ) (text : List ℕ) (p q : ℕ) (x : Piece) (ps : List Piece)
+    (e place : ℕ) (broke : Bool) → spot_at flow level text p ≡ Takes x q → p < q → q ≤ length text
+    → with_piece x q (sealed ps e place broke) ≡ sealed (x ∷ ps) e place broke
+    → Read flow level text q ps e place broke → Read flow level text p (x ∷ ps) e place broke
+read_piece flow level text p q x ps e place broke s more i one r =
+    let at = r.at in
+    let inside = r.inside i in
+    record { here = λ h. absurd (true≢false (sym h)); at = omega (arith, at, more); inside = λ l. inside; gives = step_gives flow level text p q place x (sealed ps e place broke) (sealed (x ∷ ps) e place broke) s more at r.gives one }
+
 pub read_kept : (flow : Bool) (level : ℕ) (text : List ℕ) (p : ℕ) (bytes : List ℕ) (ps : List Piece)
     (e place : ℕ) (broke : Bool) → spot_at flow level text p ≡ Takes (Kept bytes) (p + 1)
     → p < length text
     → Read flow level text (p + 1) ps e place broke
     → Read flow level text p (Kept bytes ∷ ps) e place broke
-read_kept flow level text p bytes ps e place broke s i r =
-    let at = r.at in
-    let inside = r.inside (omega (arith, i)) in
-    record {
-      here = λ h. absurd (true≢false (sym h));
-      at = omega (arith, at);
-      inside = λ l. inside;
-      gives = step_gives flow level text p (p + 1) place (Kept bytes) (sealed ps e place broke) (sealed (Kept bytes ∷ ps) e place broke) s (omega arith) at r.gives (kept_sealed bytes (p + 1) e place broke ps r.here);
-    }
+read_kept flow level text p bytes ps e place broke s i r = read_piece flow level text p (p + 1) (Kept bytes) ps e place broke s (omega arith) (omega (arith, i)) (kept_sealed bytes (p + 1) e place broke ps r.here) r
 
 pub read_blank : (flow : Bool) (level : ℕ) (text : List ℕ) (p b : ℕ) (ps : List Piece) (e place : ℕ)
     (broke : Bool) → spot_at flow level text p ≡ Takes (Blank b) (p + 1) → p < length text
     → is_nothing ps ≡ false
     → Read flow level text (p + 1) ps e place broke
     → Read flow level text p (Blank b ∷ ps) e place broke
-read_blank flow level text p b ps e place broke s i some r =
-    let at = r.at in
-    let inside = r.inside (omega (arith, i)) in
-    record {
-      here = λ h. absurd (true≢false (sym h));
-      at = omega (arith, at);
-      inside = λ l. inside;
-      gives = step_gives flow level text p (p + 1) place (Blank b) (sealed ps e place broke) (sealed (Blank b ∷ ps) e place broke) s (omega arith) at r.gives (blank_sealed b (p + 1) e place broke ps some);
-    }
+read_blank flow level text p b ps e place broke s i some r = read_piece flow level text p (p + 1) (Blank b) ps e place broke s (omega arith) (omega (arith, i)) (blank_sealed b (p + 1) e place broke ps some) r
 
 pub read_break : (flow : Bool) (level : ℕ) (text : List ℕ) (p q : ℕ) (bytes : List ℕ)
     (ps : List Piece) (e place : ℕ) (broke : Bool)
@@ -98,15 +97,7 @@ pub read_break : (flow : Bool) (level : ℕ) (text : List ℕ) (p q : ℕ) (byte
     → is_nothing ps ≡ false
     → Read flow level text q ps e place broke
     → Read flow level text p (Break bytes ∷ ps) e place broke
-read_break flow level text p q bytes ps e place broke s more i some r =
-    let at = r.at in
-    let inside = r.inside i in
-    record {
-      here = λ h. absurd (true≢false (sym h));
-      at = omega (arith, at, more);
-      inside = λ l. inside;
-      gives = step_gives flow level text p q place (Break bytes) (sealed ps e place broke) (sealed (Break bytes ∷ ps) e place broke) s more at r.gives (break_sealed bytes q e place broke ps some);
-    }
+read_break flow level text p q bytes ps e place broke s more i some r = read_piece flow level text p q (Break bytes) ps e place broke s more i (break_sealed bytes q e place broke ps some) r
 
 -- ---- where a byte stands
 
@@ -170,10 +161,6 @@ through_both flow level text p q r qs rs a b = record {
 pub through_at : (flow : Bool) (level : ℕ) (text : List ℕ) (p q r : ℕ) (qs : List Piece) → q ≡ r
     → Through flow level text p qs q → Through flow level text p qs r
 through_at flow level text p q r qs e t = subst (λ k. Through flow level text p qs k) e t
-
-through_none : (flow : Bool) (level : ℕ) (text : List ℕ) (p : ℕ) → InLine level text p 0
-    → Through flow level text p [] p
-through_none flow level text p s = record { reads = λ ps e place broke r. r; stand = s }
 
 pub positive : (b : ℕ) → (b == 0) ≡ false → 0 < b
 positive b h = grind (arith, nat_tests)
@@ -241,7 +228,7 @@ one_at flow level text p c l nf nr (h, t) = record {
   starts = low_starts c l;
   low = λ k. refl;
   high = λ k. absurd (omega arith);
-  tail = λ s. through_none flow level text (p + 1) s;
+  tail = λ s. (record { reads = λ ps e place broke r. r; stand = s });
 }
 
 two_at : (flow : Bool) (level : ℕ) (text : List ℕ) (p c a b : ℕ) → 128 ≤ c → 192 ≤ a → a < 224
@@ -336,3 +323,120 @@ char_at flow level text p c s =
         ]
       ]
     ]
+
+-- ==== The gap behind a plain scalar, and the end that it comes before.
+
+-- no word more: what is left ends at the place
+abbrev pub none_to : ℕ → Bool → Words
+none_to place broke = record { pieces = []; end = place; place = place; broke = broke }
+
+-- what holds where a plain scalar ends
+pub record Stops (flow : Bool) (level : ℕ) (text : List ℕ) (p : ℕ) : Type 0 where
+  pub blank : is_blank (byte text p) ≡ false
+  pub width : break_width text p ≡ 0
+  pub ends : ends_at flow level text p ≡ true
+
+pub stops : (flow : Bool) (level : ℕ) (text : List ℕ) (p : ℕ) → ends_plain flow level text p ≡ true
+    → Stops flow level text p
+unfolding ends_plain
+stops flow level text p h =
+    let (blank, more) = and_parts (not (is_blank (byte text p))) (not (nat_lt 0 (break_width text p)) && ends_at flow level text p) h in
+    let (width, ends) = and_parts (not (nat_lt 0 (break_width text p))) (ends_at flow level text p) more in
+    record { blank = not-true (is_blank (byte text p)) blank; width = (grind (arith, nat_tests)); ends = ends }
+
+pub no_tab : (b : ℕ) (x : Bool) → b ≡ 32 → (b == 9 && x) ≡ false
+no_tab b x h = grind (arith, nat_tests)
+
+pub space_blank : (b : ℕ) → b ≡ 32 → is_blank b ≡ true
+space_blank b h = grind (arith, nat_tests)
+
+with_space : (n : ℕ) (flow : Bool) (level : ℕ) (text : List ℕ) (p e : ℕ) (broke : Bool)
+    → byte text p ≡ 32 → words n flow level text (p + 1) ≡ Ok (none_to e broke)
+    → words (suc n) flow level text p ≡ Ok (none_to e broke)
+with_space n flow level text p e broke h rest =
+    let parts = space_parts (byte text p) (byte text (p + 1)) (byte text (p + 2)) h in
+    words_next n flow level text p (Takes (Blank (byte text p)) (p + 1)) (spot_blank flow level text p parts.1 (space_blank (byte text p) h) (no_tab (byte text p) (leads text p && nat_lt (column_at text p) level) h))
+    ∙ ap (λ (r : Result Words Wrong). words_from (Blank (byte text p)) (p + 1) r) rest
+
+with_width : (n : ℕ) (flow : Bool) (level : ℕ) (text : List ℕ) (p w e : ℕ) (broke : Bool)
+    → break_width text p ≡ suc w → words n flow level text (p + suc w) ≡ Ok (none_to e broke)
+    → words (suc n) flow level text p ≡ Ok (none_to e true)
+with_width n flow level text p w e broke h rest =
+    let some : 0 < break_width text p = omega (arith, h) in
+    let q = p + break_width text p in
+    let more : words n flow level text q ≡ Ok (none_to e broke) = ap (λ k. words n flow level text (p + k)) h ∙ rest in
+    words_next n flow level text p (Takes (Break (feed_at text p)) q) (spot_break flow level text p some) ∙ ap (λ (r : Result Words Wrong). words_from (Break (feed_at text p)) q r) more
+
+crlf_width : (d : ℕ) → break_of 13 10 d ≡ 2
+unfolding break_of
+crlf_width d = refl
+
+no_feed : (b c d : ℕ) → break_of b c d ≡ 0 → b ≢ 10
+unfolding break_of
+no_feed b c d h = grind (arith, nat_tests)
+
+-- gaps of at most k bytes are taken
+abbrev Reads : ℕ → Type 0
+Reads k = (n : ℕ) (flow : Bool) (level : ℕ) (text : List ℕ) (p : ℕ) (gap : List ℕ) → length gap ≤ k → length gap < n → Has text p gap → are_gap gap ≡ true → Stops flow level text (p + length gap)
+    → words n flow level text p ≡ Ok (none_to (p + length gap) (has_break gap))
+
+single : (k : ℕ) → Reads k → (n : ℕ) (flow : Bool) (level : ℕ) (text : List ℕ) (p : ℕ) (bs : List ℕ)
+    → length bs ≤ k → length bs < n → break_width text p ≡ 1 → Has text (p + 1) bs
+    → are_gap bs ≡ true
+    → Stops flow level text (p + 1 + length bs)
+    → words (suc n) flow level text p ≡ Ok (none_to (p + 1 + length bs) true)
+single k all n flow level text p bs few room width h are stop =
+    with_width n flow level text p 0 (p + 1 + length bs) (has_break bs) width (all n flow level text (p + 1) bs few room h are stop)
+
+returns : (k : ℕ) → Reads k
+    → (n : ℕ) (flow : Bool) (level : ℕ) (text : List ℕ) (p : ℕ) (bs : List ℕ) → length bs ≤ k
+    → length bs < n → byte text p ≡ 13 → Has text (p + 1) bs → are_gap bs ≡ true
+    → Stops flow level text (p + 1 + length bs)
+    → words (suc n) flow level text p ≡ Ok (none_to (p + 1 + length bs) true)
+returns k all n flow level text p [] few room e h are stop =
+    let z : p + 1 + 0 ≡ p + 1 = omega arith in
+    let here = subst (λ q. Stops flow level text q) z stop in
+    let width : break_width text p ≡ 1 = rw e (cr_width (byte text (p + 1)) (byte text (p + 2)) (no_feed _ _ _ here.width)) in
+    single k all n flow level text p [] few room width h are stop
+returns k all n flow level text p (c ∷ cs) few room e (f, h) are stop =
+    let (front, back) = and_parts (c == 32 || (c == 10 || c == 13)) (are_gap cs) are in
+    let two : p + 1 + 1 ≡ p + 2 = omega arith in
+    let far : Has text (p + 2) cs = rw two at h in
+    let end : p + 1 + suc (length cs) ≡ p + 2 + length cs = omega arith in
+    elim (byte_cases c front) [
+      | inl s ↦
+          let width : break_width text p ≡ 1 = rw e (cr_width (byte text (p + 1)) (byte text (p + 2)) (omega (arith, f, s))) in
+          single k all n flow level text p (c ∷ cs) few room width (f, h) are stop
+      | inr (inr s) ↦
+          let width : break_width text p ≡ 1 = rw e (cr_width (byte text (p + 1)) (byte text (p + 2)) (omega (arith, f, s))) in
+          single k all n flow level text p (c ∷ cs) few room width (f, h) are stop
+      | inr (inl s) ↦
+          let width : break_width text p ≡ 2 = rw (e, f, s) (crlf_width (byte text (p + 2))) in
+          let after = subst (λ q. Stops flow level text q) end stop in
+          rw end (with_width n flow level text p 1 (p + 2 + length cs) (has_break cs) width (all n flow level text (p + 2) cs (omega arith) (omega arith) far back after))
+    ]
+
+reads : (k : ℕ) → Reads k
+unfolding break_of
+reads k zero flow level text p gap few room h are stop = absurd (omega arith)
+reads k (suc n) flow level text p [] few room h are stop =
+    let z : p + 0 ≡ p = omega arith in
+    let here = subst (λ q. Stops flow level text q) z stop in
+    rw z (words_next n flow level text p Ends (spot_ends flow level text p here.width here.blank here.ends))
+reads zero (suc n) flow level text p (b ∷ bs) few room h are stop = absurd (omega arith)
+reads (suc k) (suc n) flow level text p (b ∷ bs) few room (e, h) are stop =
+    let (front, back) = and_parts (b == 32 || (b == 10 || b == 13)) (are_gap bs) are in
+    let end : p + suc (length bs) ≡ p + 1 + length bs = omega arith in
+    let after = subst (λ q. Stops flow level text q) end stop in
+    elim (byte_cases b front) [
+      | inl s ↦ rw (s, end) (with_space n flow level text p (p + 1 + length bs) (has_break bs) (e ∙ s) (reads k n flow level text (p + 1) bs (omega arith) (omega arith) h back after))
+      | inr (inl s) ↦
+          let width : break_width text p ≡ 1 = rw (e, s) refl in
+          rw (s, end) (single k (reads k) n flow level text p bs (omega arith) (omega arith) width h back after)
+      | inr (inr s) ↦ rw (s, end) (returns k (reads k) n flow level text p bs (omega arith) (omega arith) (e ∙ s) h back after)
+    ]
+
+pub gap_words : (n : ℕ) (flow : Bool) (level : ℕ) (text : List ℕ) (p : ℕ) (gap : List ℕ)
+    → length gap < n → Has text p gap → are_gap gap ≡ true → Stops flow level text (p + length gap)
+    → words n flow level text p ≡ Ok (none_to (p + length gap) (has_break gap))
+gap_words n flow level text p gap room h are stop = reads (length gap) n flow level text p gap (omega arith) room h are stop

@@ -1,25 +1,52 @@
 -- Bytes that stop a plain scalar.
-use Rattle.std.proofs.Common.{◌≡◌, ℕ, zero, suc, ◌+◌, ◌<◌, Bool, true, false, not, ◌&&◌, ◌||◌, ◌==◌, nat_lt, List, [], ◌∷◌, ◌++◌, length, Option, Some, None, replicate, refl, sym, ap, subst, ◌∙◌, inl, inr, arith, encode_utf8_all}
-use Rattle.std.proofs.lemmas.Bool.{true≢false, eqb-true, or_cases, or_left, or_right, and_parts, not-true, or_parts, ne_eqb}
+use Rattle.std.proofs.Common.{◌≡◌, ℕ, zero, suc, ◌+◌, ◌<◌, Bool, true, false, not, ◌&&◌, ◌||◌, ◌==◌, nat_lt, List, [], ◌∷◌, ◌++◌, length, Option, Some, None, replicate, refl, sym, ap, subst, ◌∙◌, inl, inr, arith, encode_utf8_all, ◌≢◌, ◌/◌, ◌%◌, ◌≤◌, Result, append_assoc, chars}
+use Rattle.std.proofs.lemmas.Bool.{true≢false, eqb-true, or_cases, or_left, or_right, and_parts, not-true, or_parts, ne_eqb, cases_lt}
 use Rattle.std.proofs.lemmas.List.{get_or_past}
 use Rattle.yaml_emit_laws_text.specs.scan_model.Marks.{byte, break_of, break_width, column_at, is_blank, is_blank_or_end}
 use Rattle.yaml_emit_laws_text.specs.scan_model.Breaks.{is_document_indicator}
 use Rattle.yaml_emit_laws_text.specs.scan_history.scan_words.Written.{are_gap}
-use Rattle.yaml_emit_laws_text.specs.scan_history.scan_scalars.Plain.{is_bracket, after_white, leads, ends_at}
+use Rattle.yaml_emit_laws_text.specs.scan_history.scan_scalars.Plain.{is_bracket, after_white, leads, ends_at, PlainText}
 use Rattle.yaml_emit_laws_text.proofs.PlainLemmas.{lead_break}
 use Rattle.yaml_emit_laws_text.proofs.MarksLemmas.{past_break}
 use Rattle.yaml_emit_laws_text.specs.scan_laws_texts.PlainLaws.{ends_plain}
 use Rattle.yaml_emit_laws_text.specs.emit_text.declared.LineBreak.{LineBreak}
 use Rattle.yaml_emit_laws_text.specs.emit_text.declared.LineBreak.TheVariants.{Lf, Cr, CrLf}
-use Rattle.yaml_emit_laws_text.specs.emit_text.Quoted.{first}
+use Rattle.yaml_emit_laws_text.specs.emit_text.Quoted.{first, is_printable}
 use Rattle.yaml_emit_laws_text.specs.emit_text.Spelling.{break_text}
 use Rattle.yaml_emit_laws_text.specs.emit_text.Style.{behind}
-use Rattle.yaml_emit_laws_text.specs.Walk.{Has, Left}
+use Rattle.yaml_emit_laws_text.specs.Walk.{Has, Left, bytes}
 use Rattle.yaml_emit_laws_text.proofs.Places.{has_front, has_at, left_first, left_more, left_rest}
 use Rattle.yaml_emit_laws_text.proofs.Values.{cond_true, cond_false}
-use Rattle.yaml_emit_laws_scalars.specs.Stops.{is_gap_byte, white_of, begins_white, begins_mark, stops_line, stops_here, one_more, column_behind, stops_plain_at, StopsEndPlain, PlainGoesOn, StopsBehindLines}
+use Rattle.yaml_emit_laws_scalars.specs.Stops.{is_gap_byte, white_of, begins_white, begins_mark, stops_line, stops_here, one_more, column_behind, stops_plain_at, StopsEndPlain, PlainGoesOn, StopsBehindLines, begins_solid, WhatStopsPlain, CharactersAreSolid}
 use Rattle.yaml_emit_laws_scalars.proofs.PlainParts.{spaced}
-use Rattle.yaml_emit_laws_text.proofs.Single.{bool_cases}
+use Rattle.yaml_emit_laws_text.proofs.Single.{bool_cases, line_is, after_blanks, line_start}
+use Rattle.std.proofs.lemmas.Bool.Decides.{nat_tests}
+use Rattle.std.proofs.Math.Bool.{and-false, or-true}
+use lib.Utf8.{scalar, scalar_cases}
+use Rattle.yaml_emit_laws_text.specs.emit_text.Text.{is_break}
+use Rattle.yaml_emit_laws_text.proofs.Chars.{encode_1, encode_2, encode_3, encode_4}
+use Rattle.yaml_emit_laws_text.proofs.Bytes.{low_break, two_break, three_break, four_break}
+use Rattle.yaml_emit_laws_scalars.proofs.PlainStart.{bracket_45, bracket_46, plain_back}
+use Rattle.std.proofs.lemmas.Str.{encode_ascii, encodes-chars}
+use Rattle.yaml_emit_laws_text.specs.scan_history.declared.kind.Kind.TheVariants as kinds
+use Rattle.yaml_emit_laws_text.specs.scan_history.Words.{indicator_of, plainly, valued, word_at}
+use Rattle.yaml_emit_laws_text.specs.emit_text.declared.Page.{Page}
+use Rattle.yaml_emit_laws_text.specs.emit_text.Layout.{Layout, ◌▹◌, when, gap, after_text, line}
+use Rattle.yaml_emit_laws_text.specs.emit_text.Scalars.{flow_body, plain}
+use Rattle.yaml_emit_laws_text.specs.scan_model.Wrong.{Wrong}
+use Rattle.yaml_emit_laws_text.specs.scan_model.declared.yaml_scalar_style_t.TheVariants.{YAML_SINGLE_QUOTED_SCALAR_STYLE}
+use Rattle.yaml_emit_laws_text.specs.scan_model.Tokens as tokens
+use Rattle.yaml_emit_laws_text.proofs.Escapes.{AreLow, low_encodes, spaces_low}
+use Rattle.yaml_emit_laws_text.proofs.Back.{spaced_by}
+use Rattle.yaml_emit_laws_scalars.proofs.Lines.{blanks_column, blanks_kept}
+use Rattle.yaml_emit_laws_text.specs.emit_text.declared.Cursor.{Cursor}
+use Rattle.yaml_emit_laws_text.specs.QuotedLaws.{SingleSpellingReads}
+use Rattle.yaml_emit_laws_text.specs.ReadBack.{between_single}
+use Rattle.yaml_emit_laws_text.proofs.Steps.{Sign, sign_begins, sign_kind}
+use Rattle.yaml_emit_laws_text.proofs.Words.{sign, front_encodes}
+use Rattle.yaml_emit_laws_scalars.specs.StandsLaws.{ScalarsAreWords, LinesStopPlain, IsBehind, PlainHasGap, PlainStands, SingleStands}
+use Rattle.yaml_emit_laws_scalars.proofs.Single.{single_back}
+use Rattle.yaml_emit_laws_text.proofs.TextLines.{left_byte}
 
 -- ---- bytes that are left
 
@@ -155,19 +182,6 @@ here_ends flow level at text p b bs l gap here h =
 
 -- ---- white before it
 
-end_ends : (flow : Bool) (level : ℕ) (text : List ℕ) (p : ℕ) → byte text p ≡ 0
-    → ends_plain flow level text p ≡ true
-unfolding break_of
-end_ends flow level text p z = ends_by flow level text p (rw z refl) (rw z refl) (zero_ends flow level text p z)
-
-feed_one : (b c d : ℕ) → b ≡ 10 → break_of b c d ≡ 1
-unfolding break_of
-feed_one b c d e = rw e refl
-
-return_one : (b c d : ℕ) → b ≡ 13 → (c == 10) ≡ false → break_of b c d ≡ 1
-unfolding break_of
-return_one b c d e f = rw (e, f) refl
-
 line_begins : (text : List ℕ) (p : ℕ) → break_width text p ≡ 1
     → (column_at text (p + 1) ≡ 0) × (leads text (p + 1) ≡ true)
 line_begins text p w =
@@ -187,13 +201,14 @@ at_space text p (Some n) e h =
 
 at_next : (text : List ℕ) (p b : ℕ) (at : Option ℕ) → byte text p ≡ b → is_gap_byte b ≡ true
     → At text p at → At text (p + 1) (column_behind b at)
+unfolding break_of
 at_next text p b at e h here =
     bool_cases (b == 32)
     (λ s. subst (λ o. At text (p + 1) o) (sym (cond_true (b == 32) (one_more at) (Some 0) s)) (at_space text p at (e ∙ eqb-true b 32 s) here))
     (λ s. subst (λ o. At text (p + 1) o) (sym (cond_false (b == 32) (one_more at) (Some 0) s))
     (λ g. elim (or_cases (b == 10) (b == 13) (sym (ap (λ t. t || (b == 10 || b == 13)) s) ∙ h)) [
-      | inl f ↦ line_begins text p (feed_one (byte text p) (byte text (p + 1)) (byte text (p + 2)) (e ∙ eqb-true b 10 f))
-      | inr f ↦ line_begins text p (return_one (byte text p) (byte text (p + 1)) (byte text (p + 2)) (e ∙ eqb-true b 13 f) (ne_eqb (byte text (p + 1)) 10 g))
+      | inl f ↦ line_begins text p (rw (e ∙ eqb-true b 10 f) refl)
+      | inr f ↦ line_begins text p (rw ((e ∙ eqb-true b 13 f), (ne_eqb (byte text (p + 1)) 10 g)) refl)
     ]))
 
 -- the white, and what is known of it
@@ -206,14 +221,6 @@ none_white : (bs : List ℕ) → bs ≡ [] → white_of bs ≡ []
 unfolding white_of
 none_white [] e = refl
 none_white (b ∷ bs) e = cc
-
-no_white : (b : ℕ) (bs : List ℕ) → is_gap_byte b ≡ false → white_of (b ∷ bs) ≡ []
-unfolding white_of
-no_white b bs e = cond_false (is_gap_byte b) (b ∷ white_of bs) [] e
-
-some_white : (b : ℕ) (bs : List ℕ) → is_gap_byte b ≡ true → white_of (b ∷ bs) ≡ b ∷ white_of bs
-unfolding white_of
-some_white b bs e = cond_true (is_gap_byte b) (b ∷ white_of bs) [] e
 
 stop_white : (flow : Bool) (level : ℕ) (at : Option ℕ) (b : ℕ) (bs : List ℕ) → is_gap_byte b ≡ true
     → stops_plain_at flow level at (b ∷ bs) ≡ stops_plain_at flow level (column_behind b at) bs
@@ -237,8 +244,9 @@ part_none flow level text p bs e h =
 
 part_more : (flow : Bool) (level : ℕ) (text : List ℕ) (p b : ℕ) (bs : List ℕ) → is_gap_byte b ≡ true
     → byte text p ≡ b → Parted flow level text (p + 1) bs → Parted flow level text p (b ∷ bs)
+unfolding white_of
 part_more flow level text p b bs g e r =
-    let w = some_white b bs g in
+    let w = cond_true (is_gap_byte b) (b ∷ white_of bs) [] g in
     let far : p + 1 + length (white_of bs) ≡ p + suc (length (white_of bs)) = omega arith in
     record {
       has = subst (λ (xs : List ℕ). Has text p xs) (sym w) (e, r.has);
@@ -249,12 +257,13 @@ part_more flow level text p b bs g e r =
 parted : (flow : Bool) (level : ℕ) (at : Option ℕ) (text : List ℕ) (p : ℕ) (bs : List ℕ)
     → Left text p bs → At text p at → stops_plain_at flow level at bs ≡ true
     → Parted flow level text p bs
-parted flow level at text p [] l here h = part_none flow level text p [] (none_white [] refl) (end_ends flow level text p (past_end text p l.ends))
+unfolding break_of white_of
+parted flow level at text p [] l here h = part_none flow level text p [] (none_white [] refl) (ends_by flow level text p (rw (past_end text p l.ends) refl) (rw (past_end text p l.ends) refl) (zero_ends flow level text p (past_end text p l.ends)))
 parted flow level at text p (b ∷ bs) l here h =
     let e = left_first text p b bs l in
     bool_cases (is_gap_byte b)
     (λ g. part_more flow level text p b bs g e (parted flow level (column_behind b at) text (p + 1) bs (left_more text p b bs l) (at_next text p b at e g here) (sym (stop_white flow level at b bs g) ∙ h)))
-    (λ g. part_none flow level text p (b ∷ bs) (no_white b bs g) (here_ends flow level at text p b bs l g here (sym (stop_other flow level at b bs g) ∙ h)))
+    (λ g. part_none flow level text p (b ∷ bs) (cond_false (is_gap_byte b) (b ∷ white_of bs) [] g) (here_ends flow level at text p b bs l g here (sym (stop_other flow level at b bs g) ∙ h)))
 
 pub stops_end : StopsEndPlain
 stops_end flow level text p bs l h = let r = parted flow level None text p bs l tt h in (has_at text p (white_of bs) r.has, r.are, r.ends)
@@ -298,3 +307,223 @@ line_stops flow level n bs CrLf at =
 
 pub behind_lines : StopsBehindLines
 behind_lines flow level n bs = (line_stops flow level n bs, line_spaces flow level n bs)
+
+-- ==== What stops a plain scalar, clause by clause.
+
+-- a bracket is no white
+record Bracket (b : ℕ) : Type 0 where
+  gap : is_gap_byte b ≡ false
+  tab : (b == 9) ≡ false
+  width : (c d : ℕ) → break_of b c d ≡ 0
+
+bracket : (b : ℕ) → is_bracket b ≡ true → Bracket b
+unfolding is_bracket break_of
+bracket b h = record { gap = grind (arith, nat_tests); tab = grind (arith, nat_tests); width = λ c d. grind (arith, nat_tests) }
+
+bracket_stops : (level : ℕ) (at : Option ℕ) (b : ℕ) (bs : List ℕ) → is_bracket b ≡ true
+    → stops_plain_at true level at (b ∷ bs) ≡ true
+bracket_stops level at b bs h =
+    let k = bracket b h in
+    let here : stops_here true level at b bs ≡ true = rw (k.tab, k.width (first bs) (first (behind bs)), h) (or-true (b == 58 && begins_white bs)) in
+    stop_other true level at b bs k.gap ∙ here
+
+colon_width : (c d : ℕ) → break_of 58 c d ≡ 0
+unfolding break_of
+colon_width c d = refl
+
+colon_stops : (flow : Bool) (level : ℕ) (at : Option ℕ) (bs : List ℕ) → begins_white bs ≡ true
+    → stops_plain_at flow level at (58 ∷ bs) ≡ true
+colon_stops flow level at bs h =
+    let here : stops_here flow level at 58 bs ≡ true = rw (colon_width (first bs) (first (behind bs)), h) refl in
+    stop_other flow level at 58 bs refl ∙ here
+
+dash_width : (c d : ℕ) → break_of 45 c d ≡ 0
+unfolding break_of
+dash_width c d = refl
+
+dot_width : (c d : ℕ) → break_of 46 c d ≡ 0
+unfolding break_of
+dot_width c d = refl
+
+dashes_stop : (flow : Bool) (level : ℕ) (bs : List ℕ) → begins_white bs ≡ true
+    → stops_plain_at flow level (Some 0) (45 ∷ 45 ∷ 45 ∷ bs) ≡ true
+dashes_stop flow level bs h =
+    let here : stops_here flow level (Some 0) 45 (45 ∷ 45 ∷ bs) ≡ true = rw (dash_width 45 45, bracket_45, and-false flow, h) refl in
+    stop_other flow level (Some 0) 45 (45 ∷ 45 ∷ bs) refl ∙ here
+
+dots_stop : (flow : Bool) (level : ℕ) (bs : List ℕ) → begins_white bs ≡ true
+    → stops_plain_at flow level (Some 0) (46 ∷ 46 ∷ 46 ∷ bs) ≡ true
+dots_stop flow level bs h =
+    let here : stops_here flow level (Some 0) 46 (46 ∷ 46 ∷ bs) ≡ true = rw (dot_width 46 46, bracket_46, and-false flow, h) refl in
+    stop_other flow level (Some 0) 46 (46 ∷ 46 ∷ bs) refl ∙ here
+
+solid_stops : (level n : ℕ) (bs : List ℕ) → n < level → begins_solid bs ≡ true
+    → stops_plain_at false level (Some n) bs ≡ true
+solid_stops level n [] l h = absurd (true≢false (sym h))
+solid_stops level n (b ∷ bs) l h =
+    let gap = not-true (is_gap_byte b) (and_parts (not (is_gap_byte b)) _ h).0 in
+    let front = (and_parts (not (is_gap_byte b)) _ h).1 in
+    let less : nat_lt n level ≡ true = grind (arith, nat_tests) in
+    let here : stops_here false level (Some n) b bs ≡ true = rw (front, less) (ends (b == 58 && begins_white bs) (n == 0 && begins_mark b bs)) in
+    stop_other false level (Some n) b bs gap ∙ here
+  where
+    ends : (a c : Bool) → (true && (a || (false || (c || true)))) ≡ true
+    ends true c = refl
+    ends false true = refl
+    ends false false = refl
+
+pub what_stops : WhatStopsPlain
+unfolding stops_plain_at
+what_stops flow level at = (
+  refl,
+  λ b bs h. bracket_stops level at b bs h,
+  λ bs h. colon_stops flow level at bs h,
+  λ bs h. (dashes_stop flow level bs h, dots_stop flow level bs h),
+  λ n bs l h. solid_stops level n bs l h,
+)
+
+-- ---- characters
+
+solid_by : (b : ℕ) (bs : List ℕ) → (b == 32) ≡ false → (b == 10) ≡ false → (b == 13) ≡ false
+    → (b == 9) ≡ false → break_of b (first bs) (first (behind bs)) ≡ 0
+    → begins_solid (b ∷ bs) ≡ true
+solid_by b bs s f r t w = rw (s, f, r, t, w) refl
+
+apart_break : (c k : ℕ) → is_break c ≡ false → is_break k ≡ true → c ≢ k
+apart_break c k h i e = true≢false (sym i ∙ ap (λ t. is_break t) (sym e) ∙ h)
+
+pub chars_solid : CharactersAreSolid
+chars_solid x bs s p calm space =
+    let P : List ℕ → Type 0 = λ ys. begins_solid (ys ++ bs) ≡ true in
+    let feed : x ≢ 10 = apart_break x 10 calm refl in
+    let return : x ≢ 13 = apart_break x 13 calm refl in
+    let next_line : x ≢ 0x85 = apart_break x 0x85 calm refl in
+    let line : x ≢ 0x2028 = apart_break x 0x2028 calm refl in
+    let paragraph : x ≢ 0x2029 = apart_break x 0x2029 calm refl in
+    let tab : (x == 9) ≡ false = ne_eqb x 9 (λ e. true≢false (sym p ∙ ap (λ k. is_printable k) e)) in
+    let top = scalar_top x s in
+    elim (cases_lt x 128) [
+      | inl u ↦ subst P (sym (encode_1 x u)) (solid_by x bs space (ne_eqb x 10 feed) (ne_eqb x 13 return) tab (low_break x (first bs) (first (behind bs)) u feed return))
+      | inr u ↦ elim (cases_lt x 2048) [
+        | inl v ↦
+            let a = 192 + x / 64 in
+            let b = 128 + x % 64 in
+            let no_end : a ≡ 0xC2 → b ≡ 0x85 → ⊥ = λ e f. next_line (omega (arith, e, f)) in
+            subst P (sym (encode_2 x u v)) (high_solid a (b ∷ bs) (omega arith) (two_break a b (first bs) (omega arith) (omega arith) no_end))
+        | inr v ↦ elim (cases_lt x 65536) [
+          | inl w ↦
+              let a = 224 + x / 4096 in
+              let b = 128 + x / 64 % 64 in
+              let d = 128 + x % 64 in
+              let no_line : a ≡ 0xE2 → b ≡ 0x80 → d ≡ 0xA8 → ⊥ = λ e f g. line (omega (arith, e, f, g)) in
+              let no_paragraph : a ≡ 0xE2 → b ≡ 0x80 → d ≡ 0xA9 → ⊥ = λ e f g. paragraph (omega (arith, e, f, g)) in
+              subst P (sym (encode_3 x v w)) (high_solid a (b ∷ d ∷ bs) (omega arith) (three_break a b d (omega arith) (omega arith) no_line no_paragraph))
+          | inr w ↦
+              let a = 240 + x / 262144 in
+              subst P (sym (encode_4 x w)) (high_solid a ((128 + x / 4096 % 64) ∷ (128 + x / 64 % 64) ∷ (128 + x % 64) ∷ bs) (omega arith) (four_break a (128 + x / 4096 % 64) (128 + x / 64 % 64) (omega arith)))
+        ]
+      ]
+    ]
+  where
+    scalar_top : (c : ℕ) → scalar c ≡ true → c < 1114112
+    scalar_top c h = elim (scalar_cases c h) [ inl a ↦ omega arith | inr a ↦ a.1 ]
+
+    high_solid : (b : ℕ) (bs : List ℕ) → 128 ≤ b → break_of b (first bs) (first (behind bs)) ≡ 0
+        → begins_solid (b ∷ bs) ≡ true
+    high_solid b bs h w = solid_by b bs (ne_eqb b 32 (λ e. omega (arith, e, h))) (ne_eqb b 10 (λ e. omega (arith, e, h))) (ne_eqb b 13 (λ e. omega (arith, e, h))) (ne_eqb b 9 (λ e. omega (arith, e, h))) w
+
+-- ==== Scalars in a text that goes on as a layout writes it.
+
+-- ---- plain
+
+gap_by : (page : Page) (flow : Bool) (value cs : List ℕ) → encode_utf8_all cs ≡ value
+    → 0 < length value → plain page flow cs ≡ (gap ▹ (flow_body page false 32 cs ▹ after_text))
+gap_by page flow value [] e some = let z : length value ≡ 0 = ap (λ (bs : List ℕ). length bs) (sym e) in absurd (omega (arith, some, z))
+gap_by page flow value (x ∷ xs) e some = ap (λ (b : Bool). when b gap ▹ (flow_body page false 32 (x ∷ xs) ▹ after_text)) (or-true flow)
+
+pub has_gap : PlainHasGap
+has_gap page flow value u some = gap_by page flow value (chars value) (encodes-chars value u) some
+
+pub stands : PlainStands
+stands page flow level c value u some may deep far rest stop text p l =
+    let a : Layout = flow_body page false 32 (chars value) ▹ after_text in
+    let back = plain_back page flow level c value u some may deep far in
+    let fine : IsBehind back.behind c = record { bare = back.bare; white = back.white; column = back.column; kept = back.kept } in
+    let own = encode_utf8_all back.letters in
+    let tail = bytes (rest back.behind) in
+    let all : bytes ((flow_body page false 32 (chars value) ▹ after_text) c rest) ≡ own ++ tail = ap (λ t. bytes t) (back.written rest) ∙ front_encodes back.letters (rest back.behind) in
+    let m = subst (λ (bs : List ℕ). Left text p bs) all l in
+    record {
+      goes = record { own = own; behind = back.behind; fine = fine; left = left_rest text p own tail m };
+      says = goes_on flow level (flow_body page false 32 (chars value) ▹ after_text) c value back text p tail m (stop back.behind fine);
+    }
+
+-- ---- single quoted
+
+single_sign : Sign 39
+single_sign = sign 39 refl refl refl refl refl refl refl refl refl refl
+
+-- A single quote begins a single quoted scalar.
+pub single_kind : (flow alone : Bool) → indicator_of flow alone 39 ≡ Some kinds.SingleQuoted
+unfolding indicator_of
+single_kind flow alone = refl
+
+pub quoted_stands : SingleSpellingReads → SingleStands
+quoted_stands law page c value u deep may rest none text p l =
+    let back = single_back law page c value u (λ e. deep) (λ e. deep) may in
+    let fine : IsBehind back.behind c = record { bare = back.bare; white = back.white; column = back.column; kept = back.kept } in
+    let own = encode_utf8_all back.letters in
+    let tail = bytes (rest back.behind) in
+    let all : bytes (between_single page (chars value) c rest) ≡ own ++ tail = ap (λ t. bytes t) (back.written rest) ∙ front_encodes back.letters (rest back.behind) in
+    let m = subst (λ (bs : List ℕ). Left text p bs) all l in
+    let far = left_rest text p own tail m in
+    let here = (subst (λ (bs : List ℕ). Has text p bs) (ap (λ (ys : List ℕ). encode_utf8_all ys) back.begins ∙ ap (λ (bs : List ℕ). bs ++ encode_utf8_all back.inside) (encode_ascii 39 (omega arith))) (has_front text p own tail m.has)).0 in
+    record {
+      goes = record { own = own; behind = back.behind; fine = fine; left = far };
+      begins = sign_begins text p 39 single_sign here;
+      kind = λ flow. sign_kind flow text p 39 kinds.SingleQuoted single_sign here (single_kind flow);
+      read = back.read text p (has_at text p own (has_front text p own tail m.has)) (λ e. none back.behind fine (sym (left_byte text (p + length own) tail far) ∙ e));
+    }
+
+-- ---- words
+
+pub are_words : ScalarsAreWords
+unfolding word_at
+are_words flow level text p value = (
+  λ bytes gap r. refl ∙ ap (λ (x : Result PlainText Wrong). plainly x) r.read,
+  λ end r. refl ∙ ap (λ (x : Result (List ℕ × ℕ) Wrong). valued (λ v. tokens.scalar v YAML_SINGLE_QUOTED_SCALAR_STYLE) x) r,
+)
+
+-- ---- lines
+
+-- A break and its indentation are low bytes.
+pub break_low : (b : LineBreak) (n : ℕ) → AreLow (break_text b ++ replicate n 32)
+break_low Lf n = (omega arith, spaces_low n)
+break_low Cr n = (omega arith, spaces_low n)
+break_low CrLf n = (omega arith, (omega arith, spaces_low n))
+
+-- Behind blanks a line that was bare is bare.
+pub blanks_bare : (n : ℕ) (c : Cursor) → c.bare ≡ true → (after_blanks n c).bare ≡ true
+blanks_bare zero c e = e
+blanks_bare (suc n) c e = blanks_bare n (spaced_by c) e
+
+-- Behind blanks the cursor stands behind white, if it did.
+pub blanks_white : (n : ℕ) (c : Cursor) → c.white ≡ true → (after_blanks n c).white ≡ true
+blanks_white zero c e = e
+blanks_white (suc n) c e = blanks_white n (spaced_by c) refl
+
+pub lines_up : LinesStopPlain
+lines_up flow level b n c rest bare =
+    let e = after_blanks n (line_start c) in
+    let tail = bytes (rest e) in
+    let all : bytes (line b n c rest) ≡ break_text b ++ (replicate n 32 ++ tail) =
+    ap (λ t. bytes t) (line_is b n c rest bare) ∙ front_encodes (break_text b ++ replicate n 32) (rest e)
+    ∙ ap (λ (bs : List ℕ). bs ++ tail) (low_encodes (break_text b ++ replicate n 32) (break_low b n)) ∙ append_assoc (break_text b) (replicate n 32) tail in
+    record {
+      behind = e;
+      fine = record { bare = blanks_bare n (line_start c) refl; white = blanks_white n (line_start c) refl; column = blanks_column n (line_start c) ∙ none_more n; kept = blanks_kept n (line_start c) };
+      same = ap (λ (bs : List ℕ). stops_plain_at flow level None bs) all ∙ (behind_lines flow level n tail).0 b None;
+    }
+  where
+    none_more : (n : ℕ) → 0 + n ≡ n
+    none_more n = omega arith

@@ -202,10 +202,6 @@ no_turn_means : (quote : Bool) → turn_means [] ≡ []
 unfolding turn_means
 no_turn_means quote = refl
 
-front_none : (t : Cursor) (rest : Rest) → in_front [] (rest t) ≡ rest t
-unfolding in_front
-front_none t rest = refl
-
 fold_stands : (quote : Bool) (t : LineTurn) (ts : List LineTurn) → may_turn t ts ≡ true
     → MayStand (quote_byte quote) (fold t ts)
 fold_stands quote t ts h = h
@@ -387,13 +383,14 @@ left_other page quote before x xs c last no_blank no_turn ends p other r =
 
 left_end : (page : Page) (quote : Bool) (before : ℕ) (c : Cursor) (last : QuotedPart)
     → is_break before ≡ false → Left page quote before c last []
+unfolding in_front
 left_end page quote before c last inside = record {
   parts = [];
   letters = [];
   behind = c;
   right = right_none (quote_byte quote);
   next = refl;
-  text = λ rest. end_is page quote before c rest false inside ∙ sym (front_none c rest);
+  text = λ rest. end_is page quote before c rest false inside ∙ sym refl;
   bytes = sym (no_spellings quote);
   means = no_meaning quote;
   ones = λ f l. tt;

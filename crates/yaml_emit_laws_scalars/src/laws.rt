@@ -6,6 +6,7 @@ ghost use Rattle.yaml_emit_laws_scalars.specs.StandsLaws.{LinesStopPlain, PlainH
 ghost use Rattle.yaml_emit_laws_scalars.specs.SingleLaws.{SingleLinesAreReadBack};
 ghost use Rattle.yaml_emit_laws_scalars.specs.Stops.{CharactersAreSolid, PlainGoesOn, StopsBehindLines, StopsEndPlain, WhatStopsPlain};
 ghost use Rattle.yaml_emit_laws_scalars.specs.StylesLaws.{PagesIndent, StylesAreAllowed};
+ghost use Rattle.yaml_emit_laws_text.specs.QuotedLaws.{SingleIsReadBack};
 
 use yaml_emit_laws_text::single_spelling_reads;
 
@@ -17,6 +18,13 @@ pub fn plain_is_read_back()
 /// What an emitter writes for a value between single quotes, with line breaks too, is read as the value.
 pub fn single_lines_are_read_back()
     ensures { SingleLinesAreReadBack }
+{
+    single_spelling_reads();
+}
+
+/// What an emitter writes for a value of one line between single quotes is read as the value, unless a single quote stands behind.
+pub fn single_is_read_back()
+    ensures { SingleIsReadBack }
 {
     single_spelling_reads();
 }

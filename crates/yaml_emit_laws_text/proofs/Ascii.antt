@@ -1,11 +1,10 @@
 -- What is written for tags and directives is ASCII.
-use Rattle.std.proofs.Common.{◌≡◌, inl, inr, ℕ, ◌/◌, ◌%◌, ◌<◌, Bool, true, false, nat_lt, List, [], ◌∷◌, ◌++◌, refl, ap, subst, arith}
+use Rattle.std.proofs.Common.{◌≡◌, inl, inr, ℕ, ◌/◌, ◌%◌, ◌<◌, Bool, true, false, nat_lt, List, [], ◌∷◌, ◌++◌, refl, ap, subst, arith, IsUtf8}
 use Rattle.std.proofs.lemmas.Bool.Decides.{nat_tests}
 use Rattle.yaml_scan_scalars.specs.scan_model.Classes.{is_alpha_byte, is_digit_byte}
 use Rattle.yaml_scan_laws_texts.specs.scan_history.scan_words.Uris.{is_punctuation, is_wide_punctuation}
 use Rattle.yaml_scan_laws_texts.specs.scan_history.scan_words.Written as written
 use Rattle.yaml_scan_laws_texts.specs.scan_history.scan_words.Written.{are_alphas, UriPiece, raw, escape, capital, is_kept, IsUri}
-use Rattle.std.specs.Str.{IsUtf8}
 use Rattle.std.proofs.lemmas.Bool.{and_from, and_parts}
 use Rattle.yaml_emit_layout.specs.parse_model.Events.{TagDirective}
 use Rattle.yaml_emit_layout.specs.emit_tags.Tags.{Split, shorthand, verbatim, spelled, uri_text}

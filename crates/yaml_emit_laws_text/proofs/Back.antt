@@ -1,17 +1,16 @@
 -- What an emitter writes between double quotes is read back.
-use Rattle.std.proofs.Common.{◌≡◌, ℕ, suc, ◌+◌, ◌<◌, Bool, true, false, ◌&&◌, ◌==◌, not, List, [], ◌∷◌, ◌++◌, length, Result, Ok, refl, sym, ap, subst, ◌∙◌, inl, inr, arith, append_assoc, append-nil, encode_utf8, encode_utf8_all, IsUtf8}
-use Rattle.std.specs.Prelude.{if◌then◌else◌}
+use Rattle.std.proofs.Common.{◌≡◌, ℕ, suc, ◌+◌, ◌<◌, Bool, true, false, ◌&&◌, ◌==◌, not, List, [], ◌∷◌, ◌++◌, length, Result, Ok, refl, sym, ap, subst, ◌∙◌, inl, inr, arith, append_assoc, append-nil, encode_utf8, encode_utf8_all, IsUtf8, if◌then◌else◌}
 use Rattle.std.proofs.lemmas.Bool.{cases_Bool}
 use Rattle.std.proofs.lemmas.Str.{encode_ascii, encodes-append, encodes-chars, scalars-chars}
 use Rattle.std.specs.Str.{all_scalars, chars}
 use lib.Utf8.{encode as encode_char}
-use Rattle.yaml_scan_scalars.specs.scan_model.Marks.{byte}
-use Rattle.yaml_scan_scalars.specs.scan_model.Wrong.{Wrong}
+use Rattle.yaml_emit_laws_text.specs.scan_history.scan_model.Marks.{byte}
+use Rattle.yaml_emit_laws_text.specs.scan_history.scan_model.Wrong.{Wrong}
 use Rattle.yaml_scan_scalars.specs.Quoted.{double_quoted_at}
-use Rattle.yaml_emit_text.specs.declared.Cursor.{Cursor}
-use Rattle.yaml_emit_text.specs.declared.Encoding.TheVariants.{Utf8}
-use Rattle.yaml_emit_text.specs.Text.{Item, letter, char_bytes, encode}
-use Rattle.yaml_emit_text.specs.Layout.{Layout, ◌▹◌, choose, char, nothing_more, is_past}
+use Rattle.yaml_emit_laws_text.specs.emit_layout.emit_text.declared.Cursor.{Cursor}
+use Rattle.yaml_emit_layout.specs.emit_text.declared.Encoding.TheVariants.{Utf8}
+use Rattle.yaml_emit_layout.specs.emit_text.Text.{Item, letter, char_bytes, encode}
+use Rattle.yaml_emit_laws_text.specs.emit_layout.emit_text.Layout.{Layout, ◌▹◌, choose, char, nothing_more, is_past}
 use Rattle.yaml_emit_text.specs.declared.page.Page.{Page}
 use Rattle.yaml_emit_text.specs.Quoted.{is_empty, may_fold, fold as fold_layout, escaped, quoted_char, quoted_body, double_quoted}
 use Rattle.yaml_emit_text.specs.Spelling as emitted
@@ -88,12 +87,9 @@ front_encodes [] t = refl
 front_encodes (x ∷ xs) t =
     ap (λ b. b ++ encode Utf8 (in_front xs t)) (char_encodes x) ∙ ap (λ b. encode_utf8 x ++ b) (front_encodes xs t) ∙ sym (append_assoc (encode_utf8 x) (encode_utf8_all xs) (encode Utf8 t))
 
-nothing_encodes : encode Utf8 [] ≡ []
-unfolding encode
-nothing_encodes = refl
-
 alone_encodes : (xs : List ℕ) → encode Utf8 (in_front xs []) ≡ encode_utf8_all xs
-alone_encodes xs = front_encodes xs [] ∙ ap (λ b. encode_utf8_all xs ++ b) nothing_encodes ∙ append-nil (encode_utf8_all xs)
+unfolding encode
+alone_encodes xs = front_encodes xs [] ∙ ap (λ b. encode_utf8_all xs ++ b) refl ∙ append-nil (encode_utf8_all xs)
 
 between : (xs bs : List ℕ) → encode_utf8_all xs ≡ bs
     → encode_utf8_all (34 ∷ (xs ++ 34 ∷ [])) ≡ 34 ∷ (bs ++ 34 ∷ [])
@@ -153,18 +149,15 @@ read_white a c value text p b h =
     ap (λ q. double_quoted_at text q) here
     ∙ reads_as value value (double_quoted_at text p) p _ _ (b.read text p (subst (λ (t : List ℕ). HasAt text p t) all h)) refl (ap (λ (t : List ℕ). length t) (sym all))
 
-space_encodes : (t : List Item) → encode Utf8 (letter 32 ∷ t) ≡ 32 ∷ encode Utf8 t
-unfolding encode
-space_encodes t = ap (λ b. b ++ encode Utf8 t) (char_encodes 32 ∙ encode_ascii 32 (omega arith))
-
 read_spaced : (a : Layout) (c d : Cursor) (value text : List ℕ) (p : ℕ)
     → ValueIsReadBack double_quoted_at a d value
     → HasAt text p (encode Utf8 (letter 32 ∷ a d nothing_more))
     → double_quoted_at text (p + 1) ≡ Ok
     (value, p + length (encode Utf8 (letter 32 ∷ a d nothing_more)))
+unfolding encode
 read_spaced a c d value text p b h =
     let all : encode Utf8 (letter 32 ∷ a d nothing_more) ≡ 32 ∷ encode_utf8_all b.letters =
-    space_encodes (a d nothing_more) ∙ ap (λ (t : List ℕ). 32 ∷ t) (ap (encode Utf8) (b.written nothing_more) ∙ alone_encodes b.letters) in
+    (ap (λ b. b ++ encode Utf8 (a d nothing_more)) (char_encodes 32 ∙ encode_ascii 32 (omega arith))) ∙ ap (λ (t : List ℕ). 32 ∷ t) (ap (encode Utf8) (b.written nothing_more) ∙ alone_encodes b.letters) in
     let r = b.read text (p + 1) (stands_behind text p 32 (encode_utf8_all b.letters) (subst (λ (t : List ℕ). HasAt text p t) all h)) in
     let n = length (encode_utf8_all b.letters) in
     let same : p + 1 + n ≡ p + suc n = omega arith in

@@ -1,10 +1,9 @@
 -- Bytes of quoted text: which end no line, and which digits spell a number.
-use Rattle.std.proofs.Common.{◌≡◌, ◌≢◌, ℕ, suc, ◌+◌, ◌*◌, ◌<◌, ◌≤◌, Bool, true, false, ◌&&◌, ◌==◌, nat_le, List, [], ◌∷◌, length, Option, Some, None, refl, sym, ap, subst, ◌∙◌, inl, inr, ◌⊎◌, arith, add-zero}
-use Rattle.std.specs.Prelude.{option_and_then}
+use Rattle.std.proofs.Common.{◌≡◌, ◌≢◌, ℕ, suc, ◌+◌, ◌*◌, ◌<◌, ◌≤◌, true, false, ◌&&◌, ◌==◌, nat_le, List, [], ◌∷◌, length, Option, Some, None, refl, sym, ap, subst, ◌∙◌, inl, inr, ◌⊎◌, arith, add-zero, option_and_then}
 use Rattle.std.proofs.lemmas.Bool.{cases_lt, cases_eq, ne_eqb}
 use Rattle.std.proofs.lemmas.Bool.Decides.{nat_tests}
 use Rattle.std.proofs.Math.Bool.{and-false}
-use Rattle.yaml_scan_scalars.specs.scan_model.Marks.{byte, break_of, ends_of, is_blank}
+use Rattle.yaml_emit_laws_text.specs.scan_history.scan_model.Marks.{byte, break_of, ends_of, is_blank}
 use Rattle.yaml_scan_scalars.specs.Quoted.{hex_digit, hex_value, hex_len, simple_escape}
 use Rattle.yaml_emit_laws_text.specs.Spelling.{number_behind}
 use Rattle.yaml_scan_laws_texts.proofs.HasLemmas.{Has}
@@ -77,28 +76,16 @@ unfolding hex_digit
 no_high_digit d h =
     rw (is_from 48 d (omega arith), is_past d 57 (omega arith), is_from 65 d (omega arith), is_past d 70 (omega arith), is_from 97 d (omega arith), is_past d 102 (omega arith)) refl
 
-no_feed_digit : hex_digit 10 ≡ None
-unfolding hex_digit
-no_feed_digit = refl
-
-no_return_digit : hex_digit 13 ≡ None
-unfolding hex_digit
-no_return_digit = refl
-
 none_some : {A : Type 0} (r : Option A) (x : A) → r ≡ None → r ≡ Some x → ⊥
 none_some r x e f = cc (sym e ∙ f)
 
 pub digit_calm : (d v : ℕ) → hex_digit d ≡ Some v → Calm d
+unfolding hex_digit
 digit_calm d v h = record {
   low = elim (cases_lt d 128) [ inl l ↦ l | inr l ↦ absurd (none_some (hex_digit d) v (no_high_digit d l) h) ];
-  no_feed = λ e. none_some (hex_digit d) v (ap (λ k. hex_digit k) e ∙ no_feed_digit) h;
-  no_return = λ e. none_some (hex_digit d) v (ap (λ k. hex_digit k) e ∙ no_return_digit) h;
+  no_feed = λ e. none_some (hex_digit d) v (ap (λ k. hex_digit k) e) h;
+  no_return = λ e. none_some (hex_digit d) v (ap (λ k. hex_digit k) e) h;
 }
-
-hex_more : (text : List ℕ) (p k v d : ℕ) → hex_value text p k ≡ Some v
-    → hex_digit (byte text (p + k)) ≡ Some d → hex_value text p (suc k) ≡ Some (v * 16 + d)
-unfolding hex_value
-hex_more text p k v d h e = rw (h, e) refl
 
 pub hex_start : (text : List ℕ) (p : ℕ) → hex_value text p 0 ≡ Some 0
 unfolding hex_value
@@ -131,22 +118,15 @@ first_by : (v w d : ℕ) (ds : List ℕ) (r : Option ℕ) → hex_digit d ≡ r
 first_by v w d ds None e h = absurd (cc)
 first_by v w d ds (Some low) e h = record { low = low; is = e; rest = h }
 
-first_digit : (v w d : ℕ) (ds : List ℕ) → number_behind v (d ∷ ds) ≡ Some w → FirstDigit v w d ds
-unfolding number_behind
-first_digit v w d ds h = first_by v w d ds (hex_digit d) refl h
-
-no_digits : (v w : ℕ) → number_behind v [] ≡ Some w → v ≡ w
-unfolding number_behind
-no_digits v w h = cc
-
 pub digits : (text : List ℕ) (p k v w : ℕ) (ds : List ℕ) → hex_value text p k ≡ Some v
     → Has text (p + k) ds → number_behind v ds ≡ Some w → Digits text p k w ds
-digits text p k v w [] e h n = record { calm = tt; value = rw add-zero (e ∙ ap (λ x. Some x) (no_digits v w n)) }
+unfolding hex_value number_behind
+digits text p k v w [] e h n = record { calm = tt; value = rw add-zero (e ∙ ap (λ x. Some x) cc) }
 digits text p k v w (d ∷ ds) e (b, h) n =
-    let f = first_digit v w d ds n in
+    let f = first_by v w d ds (hex_digit d) refl n in
     let here : hex_digit (byte text (p + k)) ≡ Some f.low = ap (λ x. hex_digit x) b ∙ f.is in
     more_digits text p k w d ds (digit_calm d f.low f.is)
-    (digits text p (suc k) (v * 16 + f.low) w ds (hex_more text p k v f.low e here) (next_digit text p k ds h) f.rest)
+    (digits text p (suc k) (v * 16 + f.low) w ds (rw (e, here) refl) (next_digit text p k ds h) f.rest)
 
 -- ---- letters
 

@@ -1,6 +1,5 @@
 -- Characters in UTF-8.
-use Rattle.std.proofs.Common.{◌≡◌, ℕ, ◌+◌, ◌/◌, ◌%◌, ◌<◌, ◌≤◌, [], ◌∷◌, refl, encode_utf8, arith}
-use Rattle.std.proofs.lemmas.Bool.{lt-ltb, le-ltb}
+use Rattle.std.proofs.Common.{◌≡◌, ℕ, ◌+◌, ◌/◌, ◌%◌, ◌<◌, ◌≤◌, [], ◌∷◌, refl, encode_utf8, arith, lt-ltb, le-ltb}
 use lib.Utf8.{encode}
 
 -- UTF-8 of a character below 128.

@@ -1,15 +1,15 @@
 -- Layouts that mark no indentation as too deep, and those that do by one test.
 use Rattle.std.proofs.Common.{◌≡◌, ℕ, zero, suc, ◌+◌, ◌-◌, Bool, true, false, ◌||◌, ◌==◌, nat_lt, List, [], ◌∷◌, refl, ap, ◌∙◌, inl, inr}
 use Rattle.std.proofs.lemmas.Bool.{cases_Bool}
-use Rattle.yaml_emit_layout.specs.emit_text.declared.Cursor.{Cursor}
+use Rattle.yaml_emit_laws_text.specs.emit_layout.emit_text.declared.Cursor.{Cursor}
 use Rattle.yaml_emit_layout.specs.emit_text.declared.Page.{Page}
 use Rattle.yaml_emit_layout.specs.emit_text.declared.Encoding.{Encoding}
 use Rattle.yaml_emit_layout.specs.emit_text.declared.Encoding.TheVariants.{Utf8, Utf16Le, Utf16Be}
-use Rattle.yaml_emit_layout.specs.emit_text.declared.LineBreak.{LineBreak}
-use Rattle.yaml_emit_layout.specs.emit_text.declared.LineBreak.TheVariants.{Lf, Cr, CrLf}
+use Rattle.yaml_emit_laws_text.specs.emit_layout.emit_text.declared.LineBreak.{LineBreak}
+use Rattle.yaml_emit_laws_text.specs.emit_layout.emit_text.declared.LineBreak.TheVariants.{Lf, Cr, CrLf}
 use Rattle.yaml_emit_layout.specs.emit_text.Text.{Item, letter, is_deep}
-use Rattle.yaml_emit_layout.specs.emit_text.Layout.{Rest, Layout, ◌▹◌, stay, choose, when, char, letters, blank, blanks, break, new_line, is_white, gap, word, indicator, opener, must_break, indent_to, line, is_past, keep, order_mark}
-use Rattle.yaml_emit_layout.specs.emit_text.Quoted.{needs_escape, escape_text, first, may_fold, fold, escaped, quoted_char, quoted_body, double_quoted}
+use Rattle.yaml_emit_laws_text.specs.emit_layout.emit_text.Layout.{Rest, Layout, ◌▹◌, stay, choose, when, char, letters, blank, blanks, break, new_line, is_white, gap, word, indicator, opener, must_break, indent_to, line, is_past, keep, order_mark}
+use Rattle.yaml_emit_text.specs.Quoted.{needs_escape, escape_text, first, may_fold, fold, escaped, quoted_char, quoted_body, double_quoted}
 use Rattle.yaml_emit_layout.specs.Nodes.{MOST, deep_if, checked}
 
 -- Whatever follows: where what follows is marked or not wherever it begins, so is the whole, or it is marked here.
@@ -101,12 +101,9 @@ unfolding is_deep
 opener_calm x = calms gap (λ c rest. letter x ∷ rest (record { column = c.column + 1; white = true; bare = false; kept = c.kept })) gap_calm
     (λ m rest h c. h (record { column = c.column + 1; white = true; bare = false; kept = c.kept }))
 
-pub indent_calm : (n : ℕ) → Calm (indent_to n)
-indent_calm n m rest h c = blanks_calm (n - c.column) m rest h c
-
 pub line_calm : (b : LineBreak) (n : ℕ) → Calm (line b n)
 unfolding line
-line_calm b n = calms (choose (must_break n) (new_line b) stay) (indent_to n) (choose_calm (must_break n) (new_line b) stay (new_line_calm b) stay_calm) (indent_calm n)
+line_calm b n = calms (choose (must_break n) (new_line b) stay) (indent_to n) (choose_calm (must_break n) (new_line b) stay (new_line_calm b) stay_calm) (λ m rest h c. blanks_calm (n - c.column) m rest h c)
 
 -- ---- double quoted text
 

@@ -1,8 +1,7 @@
 -- What is marked, by depths.
-use Rattle.std.proofs.Common.{◌≡◌, ℕ, zero, suc, ◌+◌, ◌*◌, ◌<◌, true, true≢false, ◌||◌, nat_lt, List, [], ◌∷◌, sym, ◌∙◌, subst, inl, inr, arith}
+use Rattle.std.proofs.Common.{◌≡◌, ℕ, zero, suc, ◌+◌, ◌*◌, ◌<◌, true, true≢false, ◌||◌, nat_lt, List, [], ◌∷◌, sym, ◌∙◌, subst, inl, inr, arith, suc-mul}
 use Rattle.std.proofs.lemmas.Bool.{or_left, or_right, or_cases}
 use Rattle.std.proofs.lemmas.Bool.Decides.{nat_tests}
-use Rattle.std.proofs.Math.Nat.{suc-mul}
 use Rattle.yaml_emit_layout.specs.Content.{Node, alias_node, scalar_node, sequence_node, mapping_node, Nodes, no_nodes, node, Pairs, no_pairs, pair, Document}
 use Rattle.yaml_emit_layout.specs.Nodes.{MOST}
 use Rattle.yaml_emit_laws_text.specs.Depths.{StandsAt, ItemStandsAt, PartStandsAt, RootStandsAt, IsTooDeep}

@@ -39,13 +39,10 @@ unfoldable events_mark : ℕ → ℕ → List Event → Bool
 events_mark i m [] = false
 events_mark i m (e ∷ es) = mark_at m e || events_mark i (behind i m e) es
 
-back : (i m : ℕ) → m + i - i ≡ m
-back i m = omega (arith)
-
 -- behind a collection the indentation is what it was
 closed : (i m : ℕ) (d : Bool) (es : List Event)
     → (d || events_mark i (m + i - i) es) ≡ (d || events_mark i m es)
-closed i m d es = ap (λ n. d || events_mark i n es) (back i m)
+closed i m d es = ap (λ n. d || events_mark i n es) (omega (arith))
 
 mutual
   unfolding events_mark node_events items_events pairs_events node_marks items_marks pairs_marks

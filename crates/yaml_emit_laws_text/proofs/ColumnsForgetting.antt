@@ -1,10 +1,9 @@
 -- A line comes first, and forgets the one before it.
-use Rattle.std.proofs.Common.{◌≡◌, ℕ, Bool, true, false, true≢false, List, [], ◌∷◌, refl, sym}
-use Rattle.yaml_emit_layout.specs.emit_text.declared.Settings.{Settings}
-use Rattle.yaml_emit_layout.specs.emit_text.declared.LineBreak.{LineBreak}
-use Rattle.yaml_emit_layout.specs.emit_text.declared.LineBreak.TheVariants.{Lf, Cr, CrLf}
-use Rattle.yaml_emit_layout.specs.emit_text.Layout.{Layout, ◌▹◌, line}
-use Rattle.yaml_emit_layout.specs.Content.{no_nodes, node, no_pairs, pair, Document}
+use Rattle.std.proofs.Common.{◌≡◌, ℕ, true, false, true≢false, List, [], ◌∷◌, refl, sym}
+use Rattle.yaml_emit_laws_text.specs.emit_layout.emit_text.declared.LineBreak.{LineBreak}
+use Rattle.yaml_emit_laws_text.specs.emit_layout.emit_text.declared.LineBreak.TheVariants.{Lf, Cr, CrLf}
+use Rattle.yaml_emit_laws_text.specs.emit_layout.emit_text.Layout.{Layout, ◌▹◌, line}
+use Rattle.yaml_emit_layout.specs.Content.{no_nodes, node, no_pairs, pair}
 use Rattle.yaml_emit_layout.specs.Nodes.{Context, context_of, items_layout, pairs_layout, before_item, before_key, closer, end_layout}
 use Rattle.yaml_emit_layout.specs.ToCome.{Frame, items_left, pairs_left, value_left, frame_layout, frames_layout, layout, ending_layout}
 use Rattle.yaml_emit_laws_text.specs.Forgetting.{is_block, are_block, Forgets}
@@ -28,11 +27,6 @@ frames_forget p more h (pairs_left false n fresh no_pairs ∷ fs) w = frames_for
 frames_forget p more h (pairs_left false n fresh (pair k v ps) ∷ fs) w = λ c d rest. line_forgets p.settings.line_break n c d _
 frames_forget p more h (value_left flow n simple v ps ∷ fs) w = absurd (true≢false (sym w))
 
-ending_forgets : (s : Settings) (implicit : Bool) (ds : List Document)
-    → Forgets (ending_layout s implicit ds)
-unfolding end_layout
-ending_forgets s implicit ds c d rest = line_forgets s.line_break 0 c d _
-
 pub forget : BlocksForgetColumns
-unfolding layout
-forget s directives fs implicit ds w = frames_forget (context_of s directives) (ending_layout s implicit ds) (ending_forgets s implicit ds) fs w
+unfolding layout end_layout
+forget s directives fs implicit ds w = frames_forget (context_of s directives) (ending_layout s implicit ds) (λ c d rest. line_forgets s.line_break 0 c d _) fs w

@@ -1,16 +1,15 @@
 -- Where canonical layout marks an indentation as too deep.
-use Rattle.std.proofs.Common.{◌≡◌, ℕ, ◌+◌, ◌-◌, Bool, true, false, not, ◌||◌, ◌&&◌, nat_lt, List, [], ◌∷◌, Option, Some, None, refl, ap, ◌∙◌, codes}
-use Rattle.std.specs.Str.{chars}
+use Rattle.std.proofs.Common.{◌≡◌, ℕ, ◌+◌, ◌-◌, Bool, true, false, not, ◌||◌, ◌&&◌, nat_lt, List, [], ◌∷◌, Option, Some, None, refl, ap, ◌∙◌, codes, chars}
 use Rattle.std.proofs.Math.Bool.{or-false}
 use Rattle.yaml_emit_layout.specs.scan_model.declared.yaml_version_directive_t.{yaml_version_directive_t}
 use Rattle.yaml_emit_layout.specs.parse_model.Events.{TagDirective}
-use Rattle.yaml_emit_layout.specs.emit_text.declared.Settings.{Settings}
+use Rattle.yaml_emit_laws_text.specs.emit_layout.emit_text.declared.Settings.{Settings}
 use Rattle.yaml_emit_layout.specs.emit_text.declared.Style.TheVariants as style
 use Rattle.yaml_emit_layout.specs.emit_text.Scalars.{scalar_text}
 use Rattle.yaml_emit_layout.specs.emit_tags.Tags.{tag_spelling, uri_text}
-use Rattle.yaml_emit_layout.specs.emit_text.Quoted.{double_quoted}
+use Rattle.yaml_emit_text.specs.Quoted.{double_quoted}
 use Rattle.yaml_emit_layout.specs.emit_text.Text.{is_deep}
-use Rattle.yaml_emit_layout.specs.emit_text.Layout.{Layout, ◌▹◌, stay, choose, when, char, word, opener, keep, order_mark, nothing_more, start, written}
+use Rattle.yaml_emit_laws_text.specs.emit_layout.emit_text.Layout.{Layout, ◌▹◌, stay, choose, when, char, word, opener, keep, order_mark, nothing_more, start, written}
 use Rattle.yaml_emit_layout.specs.declared.level.Part.TheVariants as part
 use Rattle.yaml_emit_layout.specs.declared.level.NodePosition.{NodePosition}
 use Rattle.yaml_emit_layout.specs.Content.{Scalar, Node, alias_node, scalar_node, sequence_node, mapping_node, Nodes, no_nodes, node, Pairs, no_pairs, pair, Opening, Document}
@@ -202,18 +201,10 @@ start_calm s first unended o =
     (calms (version_text s o.version) directed (version_calm s o.version)
     (calms (directives_text s o.directives) marked (directives_calm s o.directives) (when_calm (is_marked s first o) (dashes s) (dashes_calm s)))))
 
-end_calm : (s : Settings) (implicit : Bool) → Calm (end_layout s implicit)
-unfolding end_layout
-end_calm s implicit = calms (line_at s 0) (when (not implicit) (dots s)) (line_at_calm s 0) (when_calm (not implicit) (dots s) (dots_calm s))
-
-stop_calm : (s : Settings) (unended : Bool) → Calm (stop_layout s unended)
-unfolding stop_layout
-stop_calm s unended = when_calm unended (choose is_kept (dots s) stay) (choose_calm is_kept (dots s) stay (dots_calm s) stay_calm)
-
 documents_are : (s : Settings) (first unended : Bool) (ds : List Document)
     → Marks (documents_marks s.indent ds) (documents_layout (form s) first unended ds)
-unfolding documents_layout documents_marks
-documents_are s first unended [] = stop_calm (form s) unended
+unfolding documents_layout documents_marks end_layout stop_layout
+documents_are s first unended [] = when_calm unended (choose is_kept (dots (form s)) stay) (choose_calm is_kept (dots (form s)) stay (dots_calm (form s)) stay_calm)
 documents_are s first unended (d ∷ ds) =
     let m = node_marks s.indent s.indent d.root in
     let more = documents_marks s.indent ds in
@@ -221,7 +212,7 @@ documents_are s first unended (d ∷ ds) =
     let ended = end_layout (form s) d.implicit_end in
     let left = documents_layout (form s) false d.implicit_end ds in
     calm_then (m || more) (start_layout (form s) first unended d.opening) (root ▹ (ended ▹ left)) (start_calm (form s) first unended d.opening)
-    (both m more root (ended ▹ left) (node_is s d.opening.directives root_position d.root) (calm_then more ended left (end_calm (form s) d.implicit_end) (documents_are s false d.implicit_end ds)))
+    (both m more root (ended ▹ left) (node_is s d.opening.directives root_position d.root) (calm_then more ended left (calms (line_at (form s) 0) (when (not d.implicit_end) (dots (form s))) (line_at_calm (form s) 0) (when_calm (not d.implicit_end) (dots (form s)) (dots_calm (form s)))) (documents_are s false d.implicit_end ds)))
 
 stream_marks : (s : Settings) (ds : List Document)
     → Marks (documents_marks s.indent ds) (stream_layout (form s) ds)
@@ -229,12 +220,9 @@ unfolding stream_layout
 stream_marks s ds =
     calm_then (documents_marks s.indent ds) (order_mark s.encoding) (documents_layout (form s) true false ds) (mark_calm s.encoding) (documents_are s true false ds)
 
-form_is : (s : Settings) → s.canonical ≡ true → s ≡ form s
-form_is s e = ap (λ (c : Bool). record s { canonical = c }) e
-
 -- what the whole text marks
 pub written_marks : (s : Settings) (ds : List Document) → s.canonical ≡ true
     → is_deep (written (stream_layout s ds)) ≡ documents_marks s.indent ds
 unfolding is_deep
 written_marks s ds e =
-    ap (λ (z : Settings). is_deep (written (stream_layout z ds))) (form_is s e) ∙ stream_marks s ds false nothing_more (λ c. refl) start ∙ or-false (documents_marks s.indent ds)
+    ap (λ (z : Settings). is_deep (written (stream_layout z ds))) (ap (λ (c : Bool). record s { canonical = c }) e) ∙ stream_marks s ds false nothing_more (λ c. refl) start ∙ or-false (documents_marks s.indent ds)

@@ -12,9 +12,6 @@ unfolding AllMark AllHold
 marked [] h = tt
 marked (r ∷ rs) h = (written_marks (canonical r.indent) (documents_of r.roots) refl ∙ h.0, marked rs h.1)
 
-all_mark : AllMark rows
-unfolding AllMark documents_of node_marks items_marks pairs_marks documents_marks
-all_mark = (refl, (refl, (refl, (refl, (refl, (refl, (refl, (refl, (refl, (refl, (refl, (refl, (refl, (refl, (refl, (refl, tt))))))))))))))))
-
 pub rows_hold : RowsHold
-rows_hold = marked rows all_mark
+unfolding AllMark documents_of node_marks items_marks pairs_marks documents_marks
+rows_hold = marked rows (refl, (refl, (refl, (refl, (refl, (refl, (refl, (refl, (refl, (refl, (refl, (refl, (refl, (refl, (refl, (refl, tt))))))))))))))))

@@ -1,11 +1,11 @@
 -- Whether a line is bare behind a layout, by whether it was in front of it.
 use Rattle.std.proofs.Common.{◌≡◌, ℕ, zero, suc, ◌-◌, Bool, true, false, not, List, [], ◌∷◌, Option, Some, None, refl, ap, inl, inr}
 use Rattle.std.proofs.lemmas.Bool.{cases_Bool}
-use Rattle.yaml_emit_layout.specs.emit_text.declared.Cursor.{Cursor}
-use Rattle.yaml_emit_layout.specs.emit_text.declared.LineBreak.{LineBreak}
-use Rattle.yaml_emit_layout.specs.emit_text.declared.LineBreak.TheVariants.{Lf, Cr, CrLf}
+use Rattle.yaml_emit_laws_text.specs.emit_layout.emit_text.declared.Cursor.{Cursor}
+use Rattle.yaml_emit_laws_text.specs.emit_layout.emit_text.declared.LineBreak.{LineBreak}
+use Rattle.yaml_emit_laws_text.specs.emit_layout.emit_text.declared.LineBreak.TheVariants.{Lf, Cr, CrLf}
 use Rattle.yaml_emit_layout.specs.emit_text.Text.{letter}
-use Rattle.yaml_emit_layout.specs.emit_text.Layout.{Rest, Layout, ◌▹◌, stay, choose, char, letters, blank, blanks, is_white, gap, word, indicator, new_line, must_break, indent_to, line}
+use Rattle.yaml_emit_laws_text.specs.emit_layout.emit_text.Layout.{Rest, Layout, ◌▹◌, stay, choose, char, letters, blank, blanks, is_white, gap, word, indicator, new_line, must_break, indent_to, line}
 use Rattle.yaml_emit_layout.specs.declared.level.Part.TheVariants as part
 use Rattle.yaml_emit_layout.specs.emit_tags.Tags.{tag_spelling}
 use Rattle.yaml_emit_layout.specs.Content.{Start, Nodes, sequence_node}
@@ -92,13 +92,6 @@ tag_leads x p (Some t) = word_leads x (tag_spelling p.directives t)
 abbrev behind_properties : Bool → Context → Option (List ℕ) → Option (List ℕ) → Bool
 behind_properties x p anchor tag = behind_if (behind_if x (marked anchor)) (spelled p tag)
 
-properties_lead : (x : Bool) (p : Context) (anchor tag : Option (List ℕ))
-    → Leads x (behind_properties x p anchor tag) (properties_text p anchor tag)
-properties_lead x p anchor tag = leads_on x _ _ (anchor_text anchor) (tag_text p tag) (anchor_leads x anchor) (tag_leads _ p tag)
-
-indicator_leads : (x : Bool) (i : ℕ) → Leads x x (indicator i)
-indicator_leads x i = leads_on x x x gap _ (gap_leads x) (λ k l h c w. ap (λ t. letter i ∷ t) (h _ w))
-
 new_line_leads : (x : Bool) (b : LineBreak) → Leads x true (new_line b)
 new_line_leads x Lf k l h c w = ap (λ t. letter 10 ∷ t) (h _ refl)
 new_line_leads x Cr k l h c w = ap (λ t. letter 13 ∷ t) (h _ refl)
@@ -122,7 +115,7 @@ value_leads : (x : Bool) (p : Context) (n : ℕ) (simple : Bool)
     → Leads x (not simple) (before_value p.settings false n simple)
 unfolding before_value
 value_leads x p n true = char_leads x 58
-value_leads x p n false = leads_on x true true (line p.settings.line_break n) (indicator 58) (line_leads x p.settings.line_break n) (indicator_leads true 58)
+value_leads x p n false = leads_on x true true (line p.settings.line_break n) (indicator 58) (line_leads x p.settings.line_break n) (leads_on true true true gap _ (gap_leads true) (λ k l h c w. ap (λ t. letter 58 ∷ t) (h _ w)))
 
 abbrev bare_at : Context → Bool → Start → Bool
 bare_at p simple q = behind_properties (not simple) p q.anchor (start_tag p.settings.canonical q)
@@ -131,18 +124,18 @@ abbrev indent_at : Context → ℕ → Bool → Start → ℕ
 indent_at p n simple q = block_indent_in p.settings (Some n) (not (bare_at p simple q))
 
 value_stands : (p : Context) (n : ℕ) (simple : Bool) (q : Start) (items : Nodes)
-    → is_flow p.settings (position false n part.Value) q (are_none items) ≡ false
-    → (c : Cursor) (rest : Rest)
+    → is_flow p.settings (position false n part.Value) q (are_none items) ≡ false → (c : Cursor)
+    (rest : Rest)
     → (before_value p.settings false n simple ▹ node_layout p (position false n part.Value)
     (sequence_node q items)) c rest
     ≡ (before_value p.settings false n simple ▹ properties_text p q.anchor
-    (start_tag p.settings.canonical q)
-    ▹ checked (indent_at p n simple q) ▹ items_layout p false (indent_at p n simple q) true items) c rest
+    (start_tag p.settings.canonical q) ▹ checked (indent_at p n simple q) ▹ items_layout p false
+    (indent_at p n simple q) true items) c rest
 unfolding node_layout
 value_stands p n simple q items w c rest =
     rw w (leads_on c.bare (not simple) (bare_at p simple q) (before_value p.settings false n simple)
     (properties_text p q.anchor (start_tag p.settings.canonical q))
-    (value_leads c.bare p n simple) (properties_lead (not simple) p q.anchor (start_tag p.settings.canonical q))
+    (value_leads c.bare p n simple) (leads_on (not simple) _ _ (anchor_text q.anchor) (tag_text p (start_tag p.settings.canonical q)) (anchor_leads (not simple) q.anchor) (tag_leads _ p (start_tag p.settings.canonical q)))
     _ _ (λ e b. rw b refl) c refl)
 
 pub values : ValuesStandByKeys

@@ -1,31 +1,29 @@
 -- The lines of directives are words.
-use Rattle.std.proofs.Common.{◌≡◌, ℕ, ◌+◌, ◌<◌, ◌||◌, nat_lt, Bool, true, false, List, [], ◌∷◌, ◌++◌, length, Option, Some, None, Result, Ok, refl, sym, ap, subst, ◌∙◌, inl, inr, arith, append_assoc}
-use Rattle.std.specs.Prelude.{ℤ, pos, codes, if◌then◌else◌}
-use Rattle.std.specs.Ordering.{int_eq}
+use Rattle.std.proofs.Common.{◌≡◌, ℕ, ◌+◌, ◌<◌, ◌||◌, nat_lt, Bool, true, false, List, [], ◌∷◌, ◌++◌, length, Option, Some, None, Result, Ok, refl, sym, ap, subst, ◌∙◌, inl, inr, arith, append_assoc, ℤ, pos, codes, if◌then◌else◌, int_eq}
 use Rattle.std.specs.Cmp.{signed_Decides}
 use Rattle.std.proofs.lemmas.Bool.{cases_Bool, and_parts}
 use Rattle.yaml_emit_laws_text.specs.scan_history.scan_model.Marks.{byte, break_of, break_width, column_at}
-use Rattle.yaml_emit_laws_text.specs.scan_history.scan_model.Classes.{is_break}
+use Rattle.yaml_scan_scalars.specs.scan_model.Classes.{is_break}
 use Rattle.yaml_emit_laws_text.specs.scan_history.scan_model.Wrong.{Wrong}
-use Rattle.yaml_emit_laws_text.specs.scan_history.scan_words.Directives as directives
-use Rattle.yaml_emit_laws_text.specs.scan_history.scan_words.Directives.{Said, DirectiveText, directive_at}
-use Rattle.yaml_emit_laws_text.specs.scan_history.scan_words.Written.{begins_lexeme}
+use Rattle.yaml_scan_laws_texts.specs.scan_history.scan_words.Directives as directives
+use Rattle.yaml_scan_laws_texts.specs.scan_history.scan_words.Directives.{Said, DirectiveText, directive_at}
+use Rattle.yaml_scan_laws_texts.specs.scan_history.scan_words.Written.{begins_lexeme}
 use Rattle.yaml_emit_laws_text.specs.scan_history.scan_words.Laws.{GapReads}
 use Rattle.yaml_emit_laws_text.specs.scan_history.declared.kind.Kind.{Kind}
 use Rattle.yaml_emit_laws_text.specs.scan_history.declared.kind.Kind.TheVariants as kinds
 use Rattle.yaml_emit_laws_text.specs.scan_history.Words.{WordText, kind_at, word_at, body_said, directed}
 use Rattle.yaml_emit_laws_text.specs.scan_model.Tokens as tokens
-use Rattle.yaml_emit_laws_text.specs.scan_model.declared.yaml_version_directive_t.{yaml_version_directive_t}
-use Rattle.yaml_emit_laws_text.specs.emit_layout.parse_model.Events.{TagDirective}
+use Rattle.yaml_emit_layout.specs.scan_model.declared.yaml_version_directive_t.{yaml_version_directive_t}
+use Rattle.yaml_emit_layout.specs.parse_model.Events.{TagDirective}
 use Rattle.yaml_emit_laws_text.specs.emit_layout.emit_text.declared.Cursor.{Cursor}
 use Rattle.yaml_emit_laws_text.specs.emit_layout.emit_text.declared.Settings.{Settings}
 use Rattle.yaml_emit_laws_text.specs.emit_layout.emit_text.declared.LineBreak.{LineBreak}
-use Rattle.yaml_emit_laws_text.specs.emit_layout.emit_text.Text.{encode, char_bytes}
+use Rattle.yaml_emit_layout.specs.emit_text.Text.{encode, char_bytes}
 use Rattle.yaml_emit_laws_text.specs.emit_layout.emit_text.Layout.{Layout, Rest, ◌▹◌, blank, letters, word, line}
-use Rattle.yaml_emit_laws_text.specs.emit_layout.emit_tags.Tags.{uri_text}
-use Rattle.yaml_emit_laws_text.specs.emit_layout.Content.{Opening}
-use Rattle.yaml_emit_laws_text.specs.emit_layout.Grammar.{is_version, version_problem, directives_problem}
-use Rattle.yaml_emit_laws_text.specs.emit_layout.Nodes.{version_word, version_text, directive_text, directives_text}
+use Rattle.yaml_emit_layout.specs.emit_tags.Tags.{uri_text}
+use Rattle.yaml_emit_layout.specs.Content.{Opening}
+use Rattle.yaml_emit_layout.specs.Grammar.{is_version, version_problem, directives_problem}
+use Rattle.yaml_emit_layout.specs.Nodes.{version_word, version_text, directive_text, directives_text}
 use Rattle.yaml_emit_laws_text.specs.Canonical.{version_kinds, directives_kinds}
 use Rattle.yaml_emit_laws_text.specs.Bodies.{version_bodies, directives_bodies}
 use Rattle.yaml_scan_laws_texts.specs.WordsLaws.{VersionReads}
@@ -72,9 +70,6 @@ pub said_directive : (r : Result DirectiveText Wrong) (d : DirectiveText) → r 
     })
 said_directive r d e = rw e refl
 
-not_feed : (x : ℕ) → x ≡ 37 → x ≡ 10 → ⊥
-not_feed x e f = omega (arith, e, f)
-
 -- From a line's start the layout writes `%`, these bytes and the line's end.
 pub record WritesLine (a : Layout) (b : LineBreak) (xs : List ℕ) (kept : Bool) : Type 0 where
   pub behind : Cursor
@@ -98,7 +93,7 @@ line_lands law a b xs said written reads rest calm kept text p ws s l =
     let q = p + length (37 ∷ xs) in
     let o : Left text q tail = left_rest text p (37 ∷ xs) tail m in
     let broken = line_broken b text w.behind q rest w.bare calm o in
-    let column = s.column refl (λ e. not_feed (byte text p) h e) in
+    let column = s.column refl (λ e. (omega (arith, h, e))) in
     let place = q + break_width text q in
     let read = reads text p (has_front text p (37 ∷ xs) tail m.has) broken.is in
     let here : WordText = record { body = body_said said; end = q; reached = place; broke = false } in
@@ -211,9 +206,6 @@ handle_spaced more low c white =
       kept = r.kept;
     }
 
-handles : (xs : List ℕ) → IsMarked xs → (c : Cursor) → c.white ≡ false → Handles xs c
-handles xs h c white = subst (λ (ys : List ℕ). Handles ys c) (sym h.begins) (handle_spaced h.more h.ascii c white)
-
 abbrev pub tag_line : LineBreak → List ℕ → List ℕ → Layout
 tag_line b handle uri = word (codes "%TAG") ▹ (word handle ▹ (word uri ▹ line b 0))
 
@@ -223,7 +215,7 @@ pub tag_writes : (b : LineBreak) (handle uri : List ℕ) → IsMarked handle →
     → WritesLine (tag_line b handle uri) b (84 ∷ 65 ∷ 71 ∷ 32 ∷ (handle ++ (32 ∷ uri))) kept
 tag_writes b handle uri marked low kept =
     let c : Cursor = record { column = 4; white = false; bare = false; kept = kept } in
-    let h = handles handle marked c refl in
+    let h = subst (λ (ys : List ℕ). Handles ys c) (sym marked.begins) (handle_spaced marked.more marked.ascii c refl) in
     let u = spaces uri low h.behind h.white h.bare in
     record {
       behind = u.behind;

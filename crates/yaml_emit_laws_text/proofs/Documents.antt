@@ -1,14 +1,13 @@
 -- The words of documents.
-use Rattle.std.proofs.Common.{◌≡◌, ℕ, ◌+◌, ◌<◌, ◌&&◌, not, nat_lt, Bool, true, false, List, [], ◌∷◌, ◌++◌, length, map, reverse, Some, Ok, refl, sym, ap, subst, ◌∙◌, arith, get_or, append_assoc, append-nil}
-use Rattle.std.specs.Prelude.{if◌then◌else◌}
+use Rattle.std.proofs.Common.{◌≡◌, ℕ, ◌+◌, ◌<◌, ◌&&◌, not, nat_lt, Bool, true, false, List, [], ◌∷◌, ◌++◌, length, map, reverse, Some, Ok, refl, sym, ap, subst, ◌∙◌, arith, get_or, append_assoc, append-nil, if◌then◌else◌}
 use Rattle.std.proofs.lemmas.List.{get_or_past, reverse-append}
-use Rattle.yaml_emit_laws_text.specs.scan_model.declared.yaml_encoding_t.{yaml_encoding_t}
+use Rattle.yaml_emit_layout.specs.scan_model.declared.yaml_encoding_t.{yaml_encoding_t}
 use Rattle.yaml_emit_laws_text.specs.scan_model.Tokens as tokens
 use Rattle.yaml_emit_laws_text.specs.scan_model.Tokens.{Token, TokenBody}
 use Rattle.yaml_emit_laws_text.specs.scan_history.scan_model.Marks.{byte, break_of, column_at, is_blank_or_end}
 use Rattle.yaml_emit_laws_text.specs.scan_history.scan_words.Between.{Gap}
 use Rattle.yaml_emit_laws_text.specs.scan_history.scan_words.Indicators.{is_document_start, is_document_end}
-use Rattle.yaml_emit_laws_text.specs.scan_history.scan_words.Written.{begins_lexeme}
+use Rattle.yaml_scan_laws_texts.specs.scan_history.scan_words.Written.{begins_lexeme}
 use Rattle.yaml_emit_laws_text.specs.scan_history.scan_words.Laws.{GapReads, AnchorReads}
 use Rattle.yaml_emit_laws_text.specs.scan_history.declared.kind.Kind.{Kind}
 use Rattle.yaml_emit_laws_text.specs.scan_history.declared.kind.Kind.TheVariants as kinds
@@ -21,10 +20,10 @@ use Rattle.yaml_emit_laws_text.specs.emit_layout.emit_text.declared.Cursor.{Curs
 use Rattle.yaml_emit_laws_text.specs.emit_layout.emit_text.declared.Settings.{Settings}
 use Rattle.yaml_emit_laws_text.specs.emit_layout.emit_text.declared.LineBreak.{LineBreak}
 use Rattle.yaml_emit_laws_text.specs.emit_layout.emit_text.declared.LineBreak.TheVariants.{Lf, Cr, CrLf}
-use Rattle.yaml_emit_laws_text.specs.emit_layout.emit_text.Text.{letter, encode, char_bytes}
-use Rattle.yaml_emit_laws_text.specs.emit_layout.emit_text.Layout.{Layout, Rest, ◌▹◌, keep, stay, when, letters, word, line, blanks, new_line, must_break, indent_to, start, nothing_more}
-use Rattle.yaml_emit_laws_text.specs.emit_layout.Content.{Opening, Document, Node}
-use Rattle.yaml_emit_laws_text.specs.emit_layout.Nodes.{is_directed, dots, dashes, root_position, context_of, version_text, directives_text, start_layout, end_layout, stop_layout, documents_layout, node_layout}
+use Rattle.yaml_emit_layout.specs.emit_text.Text.{letter, encode, char_bytes}
+use Rattle.yaml_emit_laws_text.specs.emit_layout.emit_text.Layout.{Layout, Rest, ◌▹◌, keep, when, letters, word, line, blanks, new_line, must_break, indent_to, nothing_more}
+use Rattle.yaml_emit_layout.specs.Content.{Opening, Document, Node}
+use Rattle.yaml_emit_layout.specs.Nodes.{is_directed, dots, dashes, root_position, context_of, version_text, directives_text, start_layout, end_layout, stop_layout, documents_layout, node_layout}
 use Rattle.yaml_emit_laws_text.specs.CanonicalLaws.{CanonicalWordsAreRead}
 use Rattle.yaml_emit_laws_text.specs.QuotedLaws.{QuotedIsReadBack}
 use Rattle.yaml_emit_laws_text.specs.Canonical.{put_if, node_kinds, version_kinds, directives_kinds, opening_kinds, documents_kinds}
@@ -89,15 +88,12 @@ three x e kept rest = rw e refl
 abbrev pub behind_three : Bool → Cursor
 behind_three kept = record { column = 3; white = false; bare = false; kept = kept }
 
-feed_blank : (text : List ℕ) (q : ℕ) → byte text q ≡ 10 → is_blank_or_end text q ≡ true
-feed_blank text q h = rw (h, line_break) refl
-
 return_blank : (text : List ℕ) (q : ℕ) → byte text q ≡ 13 → is_blank_or_end text q ≡ true
 return_blank text q h = rw (h, some_break) refl
 
 broken_blank : (b : LineBreak) (text : List ℕ) (c : Cursor) (q : ℕ) (k : Rest)
     → Left text q (bytes (new_line b c k)) → is_blank_or_end text q ≡ true
-broken_blank Lf text c q k l = feed_blank text q (left_first text q 10 _ (left_letter text q 10 (k (at_line c.kept)) refl l))
+broken_blank Lf text c q k l = rw ((left_first text q 10 _ (left_letter text q 10 (k (at_line c.kept)) refl l)), line_break) refl
 broken_blank Cr text c q k l = return_blank text q (left_first text q 13 _ (left_letter text q 13 (k (at_line c.kept)) refl l))
 broken_blank CrLf text c q k l = return_blank text q (left_first text q 13 _ (left_letter text q 13 (letter 10 ∷ k (at_line c.kept)) refl l))
 
@@ -124,25 +120,13 @@ pub record Thrice (x : ℕ) (k : Kind) (body : TokenBody) : Type 0 where
   pub flat : depth_after k 0 ≡ 0
   pub no_feed : x ≡ 10 → ⊥
 
-dash_kind : (text : List ℕ) (p : ℕ) → byte text p ≡ 45 → byte text (p + 1) ≡ 45
-    → byte text (p + 2) ≡ 45 → is_blank_or_end text (p + 3) ≡ true → column_at text p ≡ 0
-    → kind_at false text p ≡ Some kinds.DocumentStart
-unfolding kind_at is_document_start
-dash_kind text p a b c e z = rw (a, b, c, e, z) refl
-
-dot_kind : (text : List ℕ) (p : ℕ) → byte text p ≡ 46 → byte text (p + 1) ≡ 46
-    → byte text (p + 2) ≡ 46 → is_blank_or_end text (p + 3) ≡ true → column_at text p ≡ 0
-    → kind_at false text p ≡ Some kinds.DocumentEnd
-unfolding kind_at is_document_start is_document_end
-dot_kind text p a b c e z = rw (a, b, c, e, z) refl
-
 -- `---` at a line's start is DOCUMENT-START.
 pub thrice_dash : Thrice 45 kinds.DocumentStart tokens.document_start
-unfolding break_of word_at
+unfolding break_of word_at kind_at is_document_start
 thrice_dash = record {
   low = refl;
   begins = λ text p h. sign_starts text p 45 h refl refl refl refl (λ c d. refl);
-  kind = dash_kind;
+  kind = λ text p a b c e z. rw (a, b, c, e, z) refl;
   said = λ text p. refl;
   more = refl;
   flat = refl;
@@ -151,11 +135,11 @@ thrice_dash = record {
 
 -- `...` at a line's start is DOCUMENT-END.
 pub thrice_dot : Thrice 46 kinds.DocumentEnd tokens.document_end
-unfolding break_of word_at
+unfolding break_of word_at kind_at is_document_start is_document_end
 thrice_dot = record {
   low = refl;
   begins = λ text p h. sign_starts text p 46 h refl refl refl refl (λ c d. refl);
-  kind = dot_kind;
+  kind = λ text p a b c e z. rw (a, b, c, e, z) refl;
   said = λ text p. refl;
   more = refl;
   flat = refl;
@@ -192,22 +176,15 @@ both_land a b K L B C w v rest kept text p ws s l =
     let h = v rest g.kept text g.place g.words g.stage g.left in
     record { kept = h.kept; place = h.place; words = h.words; stage = h.stage; left = h.left; kinds = h.kinds ∙ ap (λ (ks : List Kind). L ks) g.kinds; bodies = λ bs. h.bodies bs ∙ g.bodies (C bs) }
 
-nothing_lands : LinesWalk stay (λ ks. ks) (λ bs. bs)
-nothing_lands rest kept text p ws s l = record { kept = kept; place = p; words = ws; stage = s; left = l; kinds = refl; bodies = λ bs. refl }
-
 -- a line at the start of a line is none
 no_line_lands : (b : LineBreak) → LinesWalk (line b 0) (λ ks. ks) (λ bs. bs)
 unfolding line blanks
 no_line_lands b rest kept text p ws s l = record { kept = kept; place = p; words = ws; stage = s; left = l; kinds = refl; bodies = λ bs. refl }
 
-dots_land : GapReads → (s : Settings)
-    → LinesWalk (dots s) (λ ks. kinds.DocumentEnd ∷ ks) (λ bs. tokens.document_end ∷ bs)
-dots_land law s = thrice_lands law 46 kinds.DocumentEnd tokens.document_end thrice_dot s.line_break
-
 dots_if : GapReads → (s : Settings) (b : Bool)
     → LinesWalk (when b (dots s)) (λ ks. put_if b kinds.DocumentEnd ks) (λ bs. end_bodies b bs)
-dots_if law s true = dots_land law s
-dots_if law s false = nothing_lands
+dots_if law s true = thrice_lands law 46 kinds.DocumentEnd tokens.document_end thrice_dot s.line_break
+dots_if law s false = λ rest kept text p ws s l. record { kept = kept; place = p; words = ws; stage = s; left = l; kinds = refl; bodies = λ bs. refl }
 
 dashes_land : GapReads → (s : Settings)
     → LinesWalk (dashes (canonical_settings s)) (λ ks. kinds.DocumentStart ∷ ks)
@@ -286,12 +263,6 @@ pub end_kind : (text : List ℕ) (p : ℕ) → byte text p ≡ 0
 unfolding kind_at
 end_kind text p h = rw h refl
 
-pub end_word : (text : List ℕ) (p : ℕ)
-    → word_at kinds.StreamEnd false 0 text p
-    ≡ Ok (record { body = tokens.stream_end; end = p; reached = p; broke = false })
-unfolding word_at
-end_word text p = refl
-
 -- A lexeme begins where the text ends: STREAM-END.
 pub end_begins : (text : List ℕ) (p : ℕ) → byte text p ≡ 0 → begins_lexeme text p ≡ true
 unfolding break_of
@@ -300,7 +271,7 @@ end_begins text p h = sign_starts text p 0 h refl refl refl refl (λ c d. refl)
 ended : GapReads → (text : List ℕ) (c : Cursor) (p : ℕ) (ws : List Word) → WordStage text c p ws 0
     → Left text p (bytes [])
     → Ended text (kinds.StreamEnd ∷ word_kinds ws) ws (tokens.stream_end ∷ [])
-unfolding WordsStand
+unfolding WordsStand word_at
 ended law text c p ws s l =
     let h = lexemes text ws in
     let zero_byte = end_zero text p l in
@@ -312,7 +283,7 @@ ended law text c p ws s l =
         record {
           place = ap (λ (x : Gap). x.place) g ∙ s.from;
           kind = ap (λ n. kind_at (nat_lt 0 n) text p) s.deep ∙ end_kind text p zero_byte;
-          said = ap (λ n. word_at kinds.StreamEnd (nat_lt 0 n) 0 text p) s.deep ∙ end_word text p;
+          said = ap (λ n. word_at kinds.StreamEnd (nat_lt 0 n) 0 text p) s.deep;
         },
         s.stand,
       );
@@ -373,10 +344,6 @@ has_all text before (x ∷ rest) e =
     length_one [] x = refl
     length_one (y ∷ xs) x = let e = length_one xs x in omega arith
 
-pub first_stage : (text : List ℕ) → WordStage text start 0 [] 0
-unfolding WordsStand lexemes column_at
-first_stage text = record { stand = tt; gap = []; from = refl; stands = tt; blank = refl; deep = refl; column = λ z n. refl; plain = refl }
-
 told_reversed : (text : List ℕ) (ws : List Word) (bs : List TokenBody)
     → told ws bs ≡ map (λ (t : Token). t.body) (map (token_of text) (reverse ws)) ++ bs
 told_reversed text [] bs = refl
@@ -397,10 +364,11 @@ text_walked : CanonicalWordsAreRead → GapReads → AnchorReads → QuotedIsRea
     → (x : yaml_encoding_t) (ds : List Document) → AreWritable ds
     → IsReadAs (record { encoding = x; text = text_of_documents (canonical_settings s) ds })
     (tokens.stream_start x ∷ documents_bodies false ds)
+unfolding WordsStand lexemes column_at
 text_walked words law names quoted mark s some opens x ds good =
     let text = text_of_documents (canonical_settings s) ds in
     let whole : Left text 0 text = record { has = has_all text [] text refl; ends = omega arith } in
-    let e = documents_end law names quoted mark s some opens ds good true false false text 0 [] (first_stage text) whole in
+    let e = documents_end law names quoted mark s some opens ds good true false false text 0 [] (record { stand = tt; gap = []; from = refl; stands = tt; blank = refl; deep = refl; column = λ z n. refl; plain = refl }) whole in
     let stream : SpelledText = record { encoding = x; text = text } in
     record {
       tokens = first_token stream ∷ map (token_of text) (reverse e.words);

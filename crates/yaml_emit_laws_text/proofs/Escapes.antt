@@ -5,12 +5,12 @@ use Rattle.std.proofs.lemmas.Bool.Decides.{nat_tests}
 use Rattle.std.proofs.lemmas.Str.{encode_ascii, encodes-append}
 use lib.Utf8.{scalar, encode}
 use Rattle.yaml_scan_scalars.specs.Quoted.{hex_digit, hex_len, simple_escape}
-use Rattle.yaml_emit_text.specs.declared.LineBreak.{LineBreak}
-use Rattle.yaml_emit_text.specs.declared.LineBreak.TheVariants.{Lf, Cr, CrLf}
+use Rattle.yaml_emit_laws_text.specs.emit_layout.emit_text.declared.LineBreak.{LineBreak}
+use Rattle.yaml_emit_laws_text.specs.emit_layout.emit_text.declared.LineBreak.TheVariants.{Lf, Cr, CrLf}
 use Rattle.yaml_emit_text.specs.Quoted.{escape_letter, escape_text, hex_4, hex_8}
-use Rattle.yaml_emit_text.specs.Hex.{hex_2, hex_digit as digit_of}
+use Rattle.yaml_emit_layout.specs.emit_text.Hex.{hex_2, hex_digit as digit_of}
 use Rattle.yaml_emit_text.specs.Spelling as emitted
-use Rattle.yaml_emit_laws_text.specs.Spelling.{LineEnd, feed, return, return_feed, turn_bytes, turn_means, may_turn, QuotedPart, raw, named, numbered, fold, spelled, meant, spelling, meaning, number_behind, may_be_raw, MayStand, is_raw_blank, is_fold, is_turn, may_follow, may_be_next, IsSpelling}
+use Rattle.yaml_emit_laws_text.specs.Spelling.{LineEnd, feed, return, return_feed, turn_bytes, turn_means, may_turn, QuotedPart, raw, named, numbered, fold, spelled, meant, spelling, meaning, number_behind, may_be_raw, MayStand, is_raw_blank, is_fold, is_turn, may_be_next, IsSpelling}
 use Rattle.yaml_emit_laws_text.proofs.Bytes.{AreCalm, calm_from, digit_calm, named_is}
 use Rattle.yaml_emit_laws_text.proofs.Pieces.{top_of}
 
@@ -38,9 +38,6 @@ high_digit n h = omega arith
 low_digit : (n : ℕ) → n % 16 < 16
 low_digit n = omega arith
 
-two_digits : (v n : ℕ) → (v * 16 + n / 16) * 16 + n % 16 ≡ v * 256 + n
-two_digits v n = omega arith
-
 number_more : (v d n : ℕ) (rest : List ℕ) → hex_digit d ≡ Some n
     → number_behind v (d ∷ rest) ≡ number_behind (v * 16 + n) rest
 unfolding number_behind
@@ -55,7 +52,7 @@ number_2 : (v n : ℕ) (rest : List ℕ) → n < 256
 number_2 v n rest h =
     number_more v (digit_of (n / 16)) (n / 16) (digit_of (n % 16) ∷ rest) (digit_back (n / 16) (high_digit n h))
     ∙ number_more (v * 16 + n / 16) (digit_of (n % 16)) (n % 16) rest (digit_back (n % 16) (low_digit n))
-    ∙ ap (λ k. number_behind k rest) (two_digits v n)
+    ∙ ap (λ k. number_behind k rest) (omega arith)
 
 two_is : (c : ℕ) → c < 256 → number_behind 0 (hex_2 c) ≡ Some c
 two_is c h =
@@ -67,18 +64,13 @@ four_is c h =
     let e : (0 * 256 + c / 256) * 256 + c % 256 ≡ c = omega arith in
     number_2 0 (c / 256) (hex_2 (c % 256)) (omega arith) ∙ number_2 (0 * 256 + c / 256) (c % 256) [] (omega arith) ∙ number_end _ ∙ ap (λ k. Some k) e
 
-eight_digits : (c : ℕ) → c < 1114112
-    → (((0 * 256 + c / 65536 / 256) * 256 + c / 65536 % 256) * 256 + c % 65536 / 256) * 256 + c %
-    65536 % 256 ≡ c
-eight_digits c l = omega arith
-
 eight_is : (c : ℕ) → c < 1114112 → number_behind 0 (hex_8 c) ≡ Some c
 eight_is c h =
     number_2 0 (c / 65536 / 256) (hex_2 (c / 65536 % 256) ++ hex_4 (c % 65536)) (omega arith)
     ∙ number_2 (0 * 256 + c / 65536 / 256) (c / 65536 % 256) (hex_4 (c % 65536)) (omega arith)
     ∙ number_2 ((0 * 256 + c / 65536 / 256) * 256 + c / 65536 % 256) (c % 65536 / 256) (hex_2 (c % 65536 % 256)) (omega arith)
     ∙ number_2 (((0 * 256 + c / 65536 / 256) * 256 + c / 65536 % 256) * 256 + c % 65536 / 256) (c % 65536 % 256) [] (omega arith)
-    ∙ number_end _ ∙ ap (λ k. Some k) (eight_digits c h)
+    ∙ number_end _ ∙ ap (λ k. Some k) (omega arith)
 
 two_calm : (n : ℕ) (xs : List ℕ) → n < 256 → AreCalm xs → AreCalm (hex_2 n ++ xs)
 two_calm n xs h a =
@@ -221,11 +213,6 @@ record PartOf (x : emitted.SpelledPart) : Type 0 where
   turns : is_turn part ≡ emitted.is_fold x
   blank : is_raw_blank part ≡ emitted.is_raw_blank x
 
-raw_test : (s a b d e f z q k : Bool) → s ≡ true → a ≡ false → b ≡ false → d ≡ false → e ≡ false
-    → f ≡ false → z ≡ false → q ≡ false → k ≡ false
-    → (s && not ((a || (b || (d || (e || f)))) || (z || (q || k)))) ≡ true
-raw_test s a b d e f z q k g h i j l m n o p = rw (g, h, i, j, l, m, n, o, p) refl
-
 raw_may : (c : ℕ) → emitted.may_stand (emitted.raw c) ≡ true → may_be_raw 34 c ≡ true
 raw_may c h =
     let s = (and_parts (scalar c) _ h).0 in
@@ -242,7 +229,7 @@ raw_may c h =
     let t28 = (or_parts _ (c == 0x2028) t29).0 in
     let p85 = (or_parts _ (c == 0x85) t28).1 in
     let t85 = (or_parts _ (c == 0x85) t28).0 in
-    raw_test (scalar c) (c == 10) (c == 13) (c == 0x85) (c == 0x2028) (c == 0x2029) (c == 0) (c == 34) (c == 92) s (or_parts (c == 10) _ t85).0 (or_parts _ (c == 13) t85).1 p85 p28 p29 z q k
+    (rw (s, ((or_parts (c == 10) _ t85).0), ((or_parts _ (c == 13) t85).1), p85, p28, p29, z, q, k) refl)
 
 escape_named : (c : ℕ) → escape_letter c ≢ 0 → PartOf (emitted.escape c)
 escape_named c n =
@@ -327,10 +314,6 @@ escape_calm c s =
       ]
     ]
 
-space_named : simple_escape 32 ≡ Some (32 ∷ [])
-unfolding simple_escape
-space_named = refl
-
 abbrev pub end_of : LineBreak → LineEnd
 end_of Lf = feed
 end_of Cr = return
@@ -357,17 +340,13 @@ fold_means Lf n = refl
 fold_means Cr n = refl
 fold_means CrLf n = refl
 
-fold_may : (b : LineBreak) (n : ℕ) → nat_lt 0 n ≡ true
-    → MayStand 34 (fold (record { end = end_of b; spaces = n }) [])
-unfolding may_turn
-fold_may b n h = h
-
 part_of : (x : emitted.SpelledPart) → emitted.may_stand x ≡ true → PartOf x
+unfolding simple_escape may_turn
 part_of (emitted.raw c) s = record { part = raw c; stand = raw_may c s; bytes = append-nil (encode_utf8 c); means = refl; folds = refl; turns = refl; blank = refl }
 part_of (emitted.escape c) s = escape_part c s
 part_of emitted.escaped_space s = record {
   part = named 32 (32 ∷ []);
-  stand = (refl, space_named);
+  stand = (refl, refl);
   bytes = low_encodes (92 ∷ 32 ∷ []) (omega arith, (omega arith, tt));
   means = sym space_encodes;
   folds = refl;
@@ -376,7 +355,7 @@ part_of emitted.escaped_space s = record {
 }
 part_of (emitted.fold b n) s = record {
   part = fold (record { end = end_of b; spaces = n }) [];
-  stand = fold_may b n s;
+  stand = s;
   bytes = fold_bytes b n;
   means = fold_means b n ∙ sym space_encodes;
   folds = refl;
@@ -400,12 +379,6 @@ follow_test fq bp true false h = h
 follow_test fq bp false true h = h
 follow_test fq bp false false h = h
 
-follow_is : (x y : emitted.SpelledPart) (p q : QuotedPart) → emitted.may_follow x y ≡ true
-    → is_turn p ≡ emitted.is_fold x → is_raw_blank p ≡ emitted.is_raw_blank x
-    → is_fold q ≡ emitted.is_fold y → is_raw_blank q ≡ emitted.is_raw_blank y
-    → may_follow p q ≡ true
-follow_is x y p q h a b d e = rw (a, b, d, e) (follow_test (emitted.is_fold y) (emitted.is_raw_blank x) (emitted.is_fold x) (emitted.is_raw_blank y) h)
-
 pub parts_of : (before : emitted.SpelledPart) (xs : List emitted.SpelledPart)
     → emitted.IsSpelling before xs → PartsOf before xs
 unfolding emitted.IsSpelling emitted.spelling emitted.meaning IsSpelling spelling meaning
@@ -418,5 +391,5 @@ parts_of before (x ∷ xs) (follow, stand, more) =
       right = (one.stand, rest.next one.part one.turns one.blank, rest.right);
       bytes = encodes-append (emitted.spelled x) (emitted.spelling xs) ∙ ap (λ t. t ++ encode_utf8_all (emitted.spelling xs)) one.bytes ∙ ap (λ t. spelled one.part ++ t) rest.bytes;
       means = ap (λ t. t ++ meaning rest.parts) one.means ∙ ap (λ t. encode_utf8 (emitted.meant x) ++ t) rest.means;
-      next = λ p a b. follow_is before x p one.part follow a b one.folds one.blank;
+      next = λ p a b. (rw (a, b, one.folds, one.blank) (follow_test (emitted.is_fold x) (emitted.is_raw_blank before) (emitted.is_fold before) (emitted.is_raw_blank x) follow));
     }

@@ -4,13 +4,13 @@ use Rattle.yaml_emit_laws_text.specs.scan_model.Tokens.{TokenBody}
 use Rattle.yaml_emit_laws_text.specs.scan_model.Tokens as tokens
 use Rattle.yaml_emit_laws_text.specs.scan_history.declared.kind.Kind.{Kind}
 use Rattle.yaml_emit_laws_text.specs.scan_history.declared.kind.Kind.TheVariants as kinds
-use Rattle.yaml_emit_laws_text.specs.emit_layout.parse_model.Events.{TagDirective}
+use Rattle.yaml_emit_layout.specs.parse_model.Events.{TagDirective}
 use Rattle.yaml_emit_laws_text.specs.emit_layout.emit_text.declared.Cursor.{Cursor}
 use Rattle.yaml_emit_laws_text.specs.emit_layout.emit_text.declared.Settings.{Settings}
 use Rattle.yaml_emit_laws_text.specs.emit_layout.emit_text.Layout.{Layout, Rest, word, ◌▹◌}
-use Rattle.yaml_emit_laws_text.specs.emit_layout.emit_tags.Tags.{tag_spelling, split_tag}
-use Rattle.yaml_emit_laws_text.specs.emit_layout.Content.{Opening}
-use Rattle.yaml_emit_laws_text.specs.emit_layout.Nodes.{Context, version_text, directives_text}
+use Rattle.yaml_emit_layout.specs.emit_tags.Tags.{tag_spelling, split_tag}
+use Rattle.yaml_emit_layout.specs.Content.{Opening}
+use Rattle.yaml_emit_layout.specs.Nodes.{Context, version_text, directives_text}
 use Rattle.yaml_emit_laws_text.specs.scan_laws_texts.KeysTexts.{Word, word_kinds}
 use Rattle.yaml_emit_laws_text.specs.Canonical.{version_kinds, directives_kinds}
 use Rattle.yaml_emit_laws_text.specs.Bodies.{tag_body, version_bodies, directives_bodies}

@@ -1,13 +1,10 @@
 -- What is written for a tag is read and resolved to it.
-use Rattle.std.proofs.Common.{◌≡◌, inl, inr, ℕ, suc, ◌+◌, ◌-◌, ◌<◌, Bool, true, false, not, ◌==◌, nat_lt, if◌then◌else◌, List, [], ◌∷◌, ◌++◌, length, take, drop, get_or, Option, Some, None, refl, sym, ap, subst, ◌∙◌, arith, rules, length-drop}
+use Rattle.std.proofs.Common.{◌≡◌, inl, inr, ℕ, suc, ◌+◌, ◌-◌, ◌<◌, Bool, true, false, not, ◌==◌, nat_lt, if◌then◌else◌, List, [], ◌∷◌, ◌++◌, length, take, drop, get_or, Option, Some, None, refl, sym, ap, subst, ◌∙◌, arith, rules, length-drop, take-suc, encode_utf8_all, codes, IsUtf8, chars, bytes_eq}
 use Rattle.std.proofs.lemmas.Bool.{cases_Bool, not-false, eqb-true, and_parts, ltb-true}
 use Rattle.std.proofs.lemmas.Bool.Decides.{nat_tests}
 use Rattle.std.proofs.lemmas.List.{take_all, append_cancel_left}
 use Rattle.std.proofs.lemmas.Str.{IsUtf8-from_ascii, IsUtf8-append, chars-append, scalars-chars, encodes-chars, encodes-append}
-use Rattle.std.proofs.Math.Seq.{take-suc}
 use Rattle.std.specs.List.{list_all}
-use Rattle.std.specs.Prelude.{encode_utf8_all, codes}
-use Rattle.std.specs.Str.{IsUtf8, chars, bytes_eq}
 use lib.Utf8.{scalar, scalars}
 use Rattle.yaml_scan_scalars.specs.scan_model.Classes.{is_alpha_byte}
 use Rattle.yaml_scan_laws_texts.specs.scan_history.scan_words.Tags.{may_end_tag}
@@ -108,17 +105,6 @@ fine_append (x ∷ xs) ys (own, a) b = (own, fine_append xs ys a b)
 fine_unless : (ds : List TagDirective) (d : TagDirective) → Fine d → AllFine (unless_defined ds d)
 fine_unless ds d f = elim (cases_Bool (defines ds d.handle)) [ inl t ↦ rw t tt | inr t ↦ rw t (f, tt) ]
 
-primary_right : handle_problem primary.handle ≡ None
-unfolding handle_problem
-primary_right = refl
-
-secondary_right : handle_problem secondary.handle ≡ None
-unfolding handle_problem
-secondary_right = refl
-
-primary_utf8 : IsUtf8 primary.prefix
-primary_utf8 = IsUtf8-from_ascii (codes "!") (search rules)
-
 secondary_utf8 : IsUtf8 secondary.prefix
 secondary_utf8 =
     IsUtf8-append (codes "tag:") _ (IsUtf8-from_ascii (codes "tag:") (search rules)) (IsUtf8-append (codes "yaml") _ (IsUtf8-from_ascii (codes "yaml") (search rules))
@@ -126,9 +112,10 @@ secondary_utf8 =
     (IsUtf8-from_ascii (codes "2:") (search rules)))))
 
 fine_defaults : (ds : List TagDirective) → AllFine (defaults ds)
+unfolding handle_problem
 fine_defaults ds =
-    fine_append (unless_defined ds primary) (unless_defined ds secondary) (fine_unless ds primary (primary_right, primary_utf8))
-    (fine_unless ds secondary (secondary_right, secondary_utf8))
+    fine_append (unless_defined ds primary) (unless_defined ds secondary) (fine_unless ds primary (refl, (IsUtf8-from_ascii (codes "!") (search rules))))
+    (fine_unless ds secondary (refl, secondary_utf8))
 
 -- the directive that is found is fine, and begins the tag
 fine_found : (ds : List TagDirective) (tag : List ℕ) (d : TagDirective) → AllFine ds

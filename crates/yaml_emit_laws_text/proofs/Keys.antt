@@ -1,13 +1,12 @@
 -- A simple key in double quotes stays in its line.
-use Rattle.std.proofs.Common.{◌≡◌, ℕ, suc, ◌+◌, Bool, true, false, not, ◌&&◌, ◌==◌, List, [], ◌∷◌, ◌++◌, length, refl, sym, ap, subst, ◌∙◌, inl, inr, arith, IsUtf8}
+use Rattle.std.proofs.Common.{◌≡◌, ℕ, suc, ◌+◌, Bool, true, false, not, ◌&&◌, ◌==◌, List, [], ◌∷◌, ◌++◌, length, refl, sym, ap, subst, ◌∙◌, inl, inr, arith, IsUtf8, length-append}
 use Rattle.std.proofs.lemmas.Bool.{cases_Bool, or_parts, ne_eqb, and_from}
-use Rattle.std.proofs.lemmas.List.{length-append}
 use Rattle.std.proofs.lemmas.Str.{scalars-chars}
 use Rattle.std.specs.Str.{all_scalars, chars}
 use lib.Utf8.{scalar}
-use Rattle.yaml_emit_text.specs.declared.Cursor.{Cursor}
-use Rattle.yaml_emit_text.specs.Text.{letter, is_break}
-use Rattle.yaml_emit_text.specs.Layout.{Layout, Rest, ◌▹◌, char, letters}
+use Rattle.yaml_emit_laws_text.specs.emit_layout.emit_text.declared.Cursor.{Cursor}
+use Rattle.yaml_emit_layout.specs.emit_text.Text.{letter, is_break}
+use Rattle.yaml_emit_laws_text.specs.emit_layout.emit_text.Layout.{Layout, Rest, ◌▹◌, char, letters}
 use Rattle.yaml_emit_text.specs.declared.page.Page.{Page}
 use Rattle.yaml_emit_text.specs.Quoted.{needs_escape, escape_text, escaped, quoted_char, quoted_body}
 use Rattle.yaml_emit_text.specs.Spelling.{in_front}

@@ -1,12 +1,11 @@
 -- All parts of a spelling are read, and what they mean.
-use Rattle.std.proofs.Common.{◌≡◌, ℕ, zero, suc, ◌+◌, ◌<◌, ◌≤◌, true, false, ◌==◌, List, [], ◌∷◌, ◌++◌, length, Result, Ok, Err, refl, sym, ap, subst, ◌∙◌, inl, inr, arith, append_assoc, encode_utf8}
+use Rattle.std.proofs.Common.{◌≡◌, ℕ, zero, suc, ◌+◌, ◌<◌, ◌≤◌, true, false, ◌==◌, List, [], ◌∷◌, ◌++◌, length, Result, Ok, Err, refl, sym, ap, subst, ◌∙◌, inl, inr, arith, append_assoc, encode_utf8, length-append}
 use Rattle.std.proofs.lemmas.Bool.{cases_Bool, and_parts, not-true, or_parts, ne_eqb, eqb-false}
 use Rattle.std.proofs.lemmas.Bool.Decides.{nat_tests}
-use Rattle.std.proofs.lemmas.List.{length-append}
 use lib.Utf8.{scalar}
-use Rattle.yaml_scan_scalars.specs.scan_model.Marks.{byte, starts, column_at, is_blank}
+use Rattle.yaml_emit_laws_text.specs.scan_history.scan_model.Marks.{byte, starts, column_at, is_blank}
 use Rattle.yaml_scan_scalars.specs.scan_model.Breaks.{is_document_indicator}
-use Rattle.yaml_scan_scalars.specs.scan_model.Wrong.{Wrong}
+use Rattle.yaml_emit_laws_text.specs.scan_history.scan_model.Wrong.{Wrong}
 use Rattle.yaml_scan_scalars.specs.Pieces.{Piece, Kept, Blank, value}
 use Rattle.yaml_scan_scalars.specs.Quoted.{QuotedSpot, Closing, Pieces, Bad, quote_at, standing_at, with_front, followed, pieces, valued, quoted_at, double_quoted_at, single_quoted_at}
 use Rattle.yaml_emit_laws_text.specs.Stands.{HasAt}
@@ -14,7 +13,8 @@ use Rattle.yaml_emit_laws_text.specs.Spelling.{QuotedPart, raw, doubled, named, 
 use Rattle.yaml_emit_laws_text.proofs.Chars.{encode_1}
 use Rattle.yaml_emit_laws_text.proofs.Values.{read_as, all_read_as, read_blank, read_kept, spelling_value}
 use Rattle.yaml_emit_laws_text.proofs.Bytes.{same_test, IsQuote, quote_some, calm_end, calm_from}
-use Rattle.yaml_emit_laws_text.proofs.QuotedReading.{has, Read, Through, through_one, in_line, column_more, column_start, blank_through, Raw, raw_through}
+use Rattle.yaml_scan_laws_texts.proofs.HasLemmas.{has}
+use Rattle.yaml_emit_laws_text.proofs.QuotedReading.{Read, Through, through_one, in_line, column_more, column_start, blank_through, Raw, raw_through}
 use Rattle.yaml_emit_laws_text.proofs.Turns.{named_through, numbered_through, fold_through, joint_through}
 use Rattle.yaml_scan_laws_texts.proofs.MarksLemmas.{within}
 use Rattle.yaml_emit_laws_text.proofs.Pieces.{top_of}
@@ -44,9 +44,6 @@ raw_is quote c h =
       top = top_of c s;
     }
 
-blank_small : (b : ℕ) → is_blank b ≡ true → b < 128
-blank_small b h = grind (arith, nat_tests)
-
 raw_part : (quote : ℕ) (text : List ℕ) (p c : ℕ) → IsQuote quote → may_be_raw quote c ≡ true
     → 0 < column_at text p → Has text p (encode_utf8 c)
     → Through quote text p (read_as (raw c)) (p + length (encode_utf8 c))
@@ -56,7 +53,7 @@ raw_part quote text p c q s col h =
       | inl k ↦
           let P : List ℕ → Type 0 = λ bs. Has text p bs → Through quote text p (Blank c ∷ []) (p + length bs) in
           subst (λ (qs : List Piece). Through quote text p qs (p + length (encode_utf8 c))) (sym (read_blank c k))
-          (subst P (sym (encode_1 c (blank_small c k))) (λ t. blank_through quote text p c q col k t.0) h)
+          (subst P (sym (encode_1 c (grind (arith, nat_tests)))) (λ t. blank_through quote text p c q col k t.0) h)
     ]
 
 -- two single quotes
@@ -167,27 +164,20 @@ quoted_reads quote ps text p q s at k =
     let all : length (spelling ps ++ quote ∷ []) ≡ length (spelling ps) + 1 = length-append (spelling ps) (quote ∷ []) in
     valued_ok (pieces (length text) quote text (p + 1)) (all_read_as ps) (meaning ps) _ _ (more_fuel r.fuel (length text) quote text (p + 1) _ (omega arith) r.gives) (spelling_value quote ps s) (omega (arith, all))
 
-double_closing : (text : List ℕ) (p : ℕ) → quote_at 34 text p ≡ Closing
-unfolding quote_at
-double_closing text p = refl
-
-single_closing : (text : List ℕ) (p : ℕ) → (byte text (p + 1) == 39) ≡ false
-    → quote_at 39 text p ≡ Closing
-unfolding quote_at
-single_closing text p n = rw n refl
-
 -- A spelling between double quotes reads back as what its parts mean.
 pub spelling_reads : (parts : List QuotedPart) (text : List ℕ) (p : ℕ) → IsSpelling 34 parts
     → HasAt text p (quoted 34 parts)
     → double_quoted_at text p ≡ Ok (meaning parts, p + length (quoted 34 parts))
-spelling_reads parts text p s at = quoted_reads 34 parts text p (inl refl) s at (double_closing text _)
+unfolding quote_at
+spelling_reads parts text p s at = quoted_reads 34 parts text p (inl refl) s at refl
 
 -- A spelling between single quotes reads back as what its parts mean, unless one quote more follows.
 pub single_spelling_reads : (parts : List QuotedPart) (text : List ℕ) (p : ℕ) → IsSpelling 39 parts
     → HasAt text p (quoted 39 parts)
     → (byte text (p + length (quoted 39 parts)) ≡ 39 → ⊥)
     → single_quoted_at text p ≡ Ok (meaning parts, p + length (quoted 39 parts))
+unfolding quote_at
 single_spelling_reads parts text p s at n =
     let all : length (spelling parts ++ 39 ∷ []) ≡ length (spelling parts) + 1 = length-append (spelling parts) (39 ∷ []) in
     let same : p + 1 + length (spelling parts) + 1 ≡ p + length (quoted 39 parts) = omega (arith, all) in
-    quoted_reads 39 parts text p (inr refl) s at (single_closing text _ (ne_eqb _ 39 (λ e. n (sym (ap (λ k. byte text k) same) ∙ e))))
+    quoted_reads 39 parts text p (inr refl) s at (rw (ne_eqb _ 39 (λ e. n (sym (ap (λ k. byte text k) same) ∙ e))) refl)

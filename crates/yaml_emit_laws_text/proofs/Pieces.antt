@@ -1,9 +1,7 @@
 -- The URIs that an emitter writes, as pieces.
-use Rattle.std.proofs.Common.{◌≡◌, inl, inr, ℕ, suc, ◌+◌, ◌-◌, ◌/◌, ◌%◌, ◌<◌, ◌≤◌, Bool, true, false, ◌&&◌, ◌||◌, ◌==◌, nat_lt, nat_le, if◌then◌else◌, List, [], ◌∷◌, ◌++◌, length, Ok, refl, sym, ap, subst, ◌∙◌, arith, encode_utf8}
+use Rattle.std.proofs.Common.{◌≡◌, inl, inr, ℕ, suc, ◌+◌, ◌-◌, ◌/◌, ◌%◌, ◌<◌, ◌≤◌, Bool, true, false, ◌&&◌, ◌||◌, ◌==◌, nat_lt, nat_le, if◌then◌else◌, List, [], ◌∷◌, ◌++◌, length, Ok, refl, sym, ap, subst, ◌∙◌, arith, encode_utf8, encode_utf8_all, IsUtf8}
 use Rattle.std.proofs.lemmas.Bool.{cases_Bool, cases_lt, and_parts}
 use Rattle.std.proofs.lemmas.Bool.Decides.{nat_tests}
-use Rattle.std.specs.Prelude.{encode_utf8_all}
-use Rattle.std.specs.Str.{IsUtf8}
 use lib.Utf8.{scalar, scalars}
 use Rattle.std.proofs.Math.Utf8.{scalar_cases}
 use Rattle.yaml_scan_scalars.specs.scan_model.Classes.{is_alpha_byte, is_digit_byte}
@@ -11,7 +9,7 @@ use Rattle.yaml_scan_laws_texts.specs.scan_history.scan_words.Uris.{is_punctuati
 use Rattle.yaml_scan_laws_texts.specs.scan_history.scan_words.Written as written
 use Rattle.yaml_scan_laws_texts.specs.scan_history.scan_words.Written.{UriPiece, raw, escape, capital, piece_text, piece_byte, uri_bytes, is_kept, IsUri, has_no_mark}
 use Rattle.yaml_emit_layout.specs.emit_text.Hex.{hex_digit, hex_2}
-use Rattle.yaml_emit_layout.specs.emit_tags.Tags.{suffix_keeps, prefix_keeps, keeps_byte, uri_byte, uri_text}
+use Rattle.yaml_emit_layout.specs.emit_tags.Tags.{suffix_keeps, keeps_byte, uri_byte, uri_text}
 use Rattle.yaml_emit_laws_text.proofs.Chars.{encode_4, encode_3, encode_1, encode_2}
 
 -- a byte as an emitter writes it
@@ -83,35 +81,20 @@ unmarked (b ∷ bs) = unmarked_by (suffix_keeps b) b (pieces_of false bs) (mark_
 
 -- What is raw is kept, and escapes spell whole characters.
 
-kept_suffix : (b : ℕ) → suffix_keeps b ≡ true → (is_alpha_byte b || is_punctuation b) ≡ true
-unfolding suffix_keeps is_alpha_byte is_digit_byte is_punctuation
-kept_suffix b e = grind (arith, nat_tests)
-
-kept_prefix : (b : ℕ) → prefix_keeps b ≡ true
-    → (is_alpha_byte b || (is_punctuation b || is_wide_punctuation b)) ≡ true
-unfolding suffix_keeps is_alpha_byte is_digit_byte is_punctuation is_wide_punctuation
-kept_prefix b e = grind (arith, nat_tests)
-
 with_false : (a s w : Bool) → (a || s) ≡ true → (a || (s || (false && w))) ≡ true
 with_false true s w e = refl
 with_false false true w e = refl
 with_false false false w e = absurd (cc)
 
 kept_is : (wide : Bool) (b : ℕ) → keeps_byte wide b ≡ true → is_kept wide b ≡ true
-kept_is true b e = kept_prefix b e
-kept_is false b e = with_false (is_alpha_byte b) (is_punctuation b) (is_wide_punctuation b) (kept_suffix b e)
-
-high_suffix : (b : ℕ) → 128 ≤ b → suffix_keeps b ≡ false
-unfolding suffix_keeps
-high_suffix b h = grind (arith, nat_tests)
-
-high_prefix : (b : ℕ) → 128 ≤ b → prefix_keeps b ≡ false
-unfolding suffix_keeps
-high_prefix b h = grind (arith, nat_tests)
+unfolding suffix_keeps is_alpha_byte is_digit_byte is_punctuation is_wide_punctuation
+kept_is true b e = grind (arith, nat_tests)
+kept_is false b e = with_false (is_alpha_byte b) (is_punctuation b) (is_wide_punctuation b) (grind (arith, nat_tests))
 
 high_escaped : (wide : Bool) (b : ℕ) → 128 ≤ b → keeps_byte wide b ≡ false
-high_escaped true b h = high_prefix b h
-high_escaped false b h = high_suffix b h
+unfolding suffix_keeps
+high_escaped true b h = grind (arith, nat_tests)
+high_escaped false b h = grind (arith, nat_tests)
 
 due_low : (b : ℕ) → b < 128 → due_behind b 0 ≡ Ok 0
 unfolding due_behind

@@ -4,61 +4,28 @@ use Rattle.std.proofs.lemmas.Bool.{cases_lt}
 use Rattle.std.proofs.lemmas.Bool.Decides.{nat_tests}
 use Rattle.std.specs.Char.{IsScalar}
 use Rattle.std.proofs.Math.Utf8.{scalar_cases}
-use Rattle.yaml_emit_layout.specs.scan_model.Classes.{is_printable_by, is_special}
-use Rattle.yaml_emit_layout.specs.scan_model.Classes as bytes
+use Rattle.yaml_scan_scalars.specs.scan_model.Classes.{is_printable_by, is_special}
+use Rattle.yaml_scan_scalars.specs.scan_model.Classes as bytes
 use Rattle.yaml_emit_text.specs.Quoted.{is_printable}
 use Rattle.yaml_emit_laws_text.specs.Printing.{PrintableIsOfCharacters}
 use Rattle.yaml_emit_laws_text.proofs.Chars.{encode_4, encode_3, encode_1, encode_2}
-
-one : (c d e : ℕ) → c < 128 → is_printable_by c d e ≡ is_printable c
-unfolding is_printable_by
-one c d e h = grind (arith, nat_tests)
-
-two : (q s e : ℕ) → 2 ≤ q → q < 32 → s < 64
-    → is_printable_by (192 + q) (128 + s) e ≡ is_printable (64 * q + s)
-unfolding is_printable_by
-two q s e a b h = grind (arith, nat_tests)
-
-three_low : (q r s : ℕ) → q < 13 → r < 64 → s < 64 → 2048 ≤ 4096 * q + 64 * r + s
-    → is_printable_by (224 + q) (128 + r) (128 + s) ≡ is_printable (4096 * q + 64 * r + s)
-unfolding is_printable_by
-three_low q r s a b h g = grind (arith, nat_tests)
-
-three_near : (r s : ℕ) → r < 32 → s < 64
-    → is_printable_by 237 (128 + r) (128 + s) ≡ is_printable (53248 + 64 * r + s)
-unfolding is_printable_by
-three_near r s b h = grind (arith, nat_tests)
-
-three_private : (r s : ℕ) → r < 64 → s < 64
-    → is_printable_by 238 (128 + r) (128 + s) ≡ is_printable (57344 + 64 * r + s)
-unfolding is_printable_by
-three_private r s b h = grind (arith, nat_tests)
-
-three_last : (r s : ℕ) → r < 64 → s < 64
-    → is_printable_by 239 (128 + r) (128 + s) ≡ is_printable (61440 + 64 * r + s)
-unfolding is_printable_by is_special
-three_last r s b h = grind (arith, nat_tests)
-
-four : (q d e c : ℕ) → q ≤ 4 → 65536 ≤ c → c < 1114112
-    → is_printable_by (240 + q) d e ≡ is_printable c
-unfolding is_printable_by
-four q d e c a b h = grind (arith, nat_tests)
 
 -- by the three parts of its number
 three : (q r s : ℕ) → q < 16 → r < 64 → s < 64 → 2048 ≤ 4096 * q + 64 * r + s
     → (4096 * q + 64 * r + s < 55296) ⊎ (57344 ≤ 4096 * q + 64 * r + s)
     → is_printable_by (224 + q) (128 + r) (128 + s) ≡ is_printable (4096 * q + 64 * r + s)
+unfolding is_printable_by is_special
 three q r s a b h g scalar =
     elim (cases_lt q 13) [
-      | inl low ↦ three_low q r s low b h g
+      | inl low ↦ (grind (arith, nat_tests))
       | inr past ↦ elim (cases_lt q 14) [
         | inl at ↦
             let is : q ≡ 13 = omega (arith, past, at) in
             let near : r < 32 = elim scalar [ inl below ↦ omega (arith, is, below) | inr above ↦ absurd (omega (arith, is, above, b, h)) ] in
-            rw is (three_near r s near h)
+            rw is (grind (arith, nat_tests))
         | inr more ↦ elim (cases_lt q 15) [
-          | inl at ↦ let is : q ≡ 14 = omega (arith, more, at) in rw is (three_private r s b h)
-          | inr last ↦ let is : q ≡ 15 = omega (arith, last, a) in rw is (three_last r s b h)
+          | inl at ↦ let is : q ≡ 14 = omega (arith, more, at) in rw is (grind (arith, nat_tests))
+          | inr last ↦ let is : q ≡ 15 = omega (arith, last, a) in rw is (grind (arith, nat_tests))
         ]
       ]
     ]
@@ -68,11 +35,12 @@ bounds c e = elim (scalar_cases c e) [ inl low ↦ (inl low, omega (arith, low))
 
 two_bytes : (c : ℕ) (rest : List ℕ) → 128 ≤ c → c < 2048
     → bytes.is_printable (encode_utf8 c ++ rest) 0 ≡ is_printable c
+unfolding is_printable_by
 two_bytes c rest a b =
     let q : ℕ = c / 64 in
     let s : ℕ = c % 64 in
     let same : 64 * q + s ≡ c = omega arith in
-    rw (encode_2 c a b) (two q s _ (omega arith) (omega arith) (omega arith) ∙ ap is_printable same)
+    rw (encode_2 c a b) ((grind (arith, nat_tests)) ∙ ap is_printable same)
 
 three_bytes : (c : ℕ) (rest : List ℕ) → 2048 ≤ c → c < 65536 → (c < 55296) ⊎ (57344 ≤ c)
     → bytes.is_printable (encode_utf8 c ++ rest) 0 ≡ is_printable c
@@ -85,15 +53,16 @@ three_bytes c rest a b scalar =
     rw (encode_3 c a b) (three q r s (omega arith) (omega arith) (omega arith) (omega (arith, same)) is ∙ ap is_printable same)
 
 pub printable : PrintableIsOfCharacters
+unfolding is_printable_by
 printable c rest e =
     let (scalar, top) = bounds c e in
     elim (cases_lt c 128) [
-      | inl ascii ↦ rw (encode_1 c ascii) (one c _ _ ascii)
+      | inl ascii ↦ rw (encode_1 c ascii) (grind (arith, nat_tests))
       | inr past ↦ elim (cases_lt c 2048) [
         | inl short ↦ two_bytes c rest past short
         | inr more ↦ elim (cases_lt c 65536) [
           | inl low ↦ three_bytes c rest more low scalar
-          | inr high ↦ rw (encode_4 c high) (four (c / 262144) _ _ c (omega arith) high top)
+          | inr high ↦ rw (encode_4 c high) (grind (arith, nat_tests))
         ]
       ]
     ]

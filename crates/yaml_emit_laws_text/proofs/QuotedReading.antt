@@ -1,23 +1,16 @@
 -- How characters that stand for themselves are read inside the quotes.
-use Rattle.std.proofs.Common.{◌≡◌, ◌≢◌, ℕ, suc, ◌+◌, ◌-◌, ◌/◌, ◌%◌, ◌<◌, ◌≤◌, true, false, ◌&&◌, ◌==◌, List, [], ◌∷◌, ◌++◌, length, Ok, refl, sym, ap, subst, ◌∙◌, inl, inr, arith, add-one, add-zero, append_assoc, encode_utf8}
+use Rattle.std.proofs.Common.{◌≡◌, ◌≢◌, ℕ, suc, ◌+◌, ◌-◌, ◌/◌, ◌%◌, ◌<◌, ◌≤◌, true, false, ◌&&◌, ◌==◌, List, [], ◌∷◌, ◌++◌, length, Ok, refl, sym, ap, subst, ◌∙◌, inl, inr, arith, add-one, append_assoc, encode_utf8}
 use Rattle.std.proofs.lemmas.Bool.{cases_lt, ne_eqb}
 use Rattle.std.proofs.lemmas.Bool.Decides.{nat_tests}
 use Rattle.std.proofs.Math.Bool.{and-false}
-use Rattle.yaml_scan_scalars.specs.scan_model.Marks.{byte, ends_of, break_width, ends_break, starts, column_at, is_blank}
+use Rattle.yaml_emit_laws_text.specs.scan_history.scan_model.Marks.{byte, ends_of, break_width, ends_break, starts, column_at, is_blank}
 use Rattle.yaml_scan_scalars.specs.scan_model.Breaks.{is_document_indicator}
 use Rattle.yaml_scan_scalars.specs.Pieces.{Piece, Kept, Blank}
 use Rattle.yaml_scan_scalars.specs.Quoted.{Pieces, standing_at, pieces}
-use Rattle.yaml_emit_laws_text.specs.Stands.{HasAt}
 use Rattle.yaml_emit_laws_text.proofs.Chars.{encode_1, encode_2, encode_3, encode_4}
 use Rattle.yaml_emit_laws_text.proofs.Values.{keeps}
 use Rattle.yaml_emit_laws_text.proofs.Bytes.{IsQuote, no_quote, no_slash, low_end, low_break, Calm, calm_end, calm_break, calm_from, first_end, second_end, third_end, later_break, two_break, three_break, four_break, high_blank}
 use Rattle.yaml_scan_laws_texts.proofs.HasLemmas.{Has}
-
-pub has : (text : List ℕ) (p : ℕ) (xs : List ℕ) → HasAt text p xs → Has text p xs
-has text p [] h = tt
-has text p (x ∷ xs) h =
-    let first : byte text (p + 0) ≡ x = h 0 (omega arith) in
-    (rw add-zero at first, has text (p + 1) xs (λ k l. let e : p + 1 + k ≡ p + suc k = omega arith in ap (λ q. byte text q) e ∙ h (suc k) (omega arith)))
 
 -- ---- readings, from the right
 
@@ -93,17 +86,12 @@ pub record Ordinary (quote b : ℕ) : Type 0 where
   pub no_slash : (quote == 34 && b == 92) ≡ false
   pub no_blank : is_blank b ≡ false
 
-kept_standing : (quote : ℕ) (text : List ℕ) (p b : ℕ) → is_document_indicator text p ≡ false
-    → byte text p ≡ b → break_width text p ≡ 0 → Ordinary quote b
-    → standing_at quote text p ≡ Pieces (Kept (b ∷ []) ∷ []) (p + 1)
-unfolding standing_at
-kept_standing quote text p b i e z o = rw (i, z, e, o.no_end, o.no_quote, o.no_blank, o.no_slash) refl
-
 pub stays : (quote : ℕ) (text : List ℕ) (p b : ℕ) → 0 < column_at text p → byte text p ≡ b
     → ends_break text p ≡ false → break_width text p ≡ 0 → Ordinary quote b
     → Through quote text p (Kept (b ∷ []) ∷ []) (p + 1)
+unfolding standing_at
 stays quote text p b c e f z o =
-    through_one quote text p (p + 1) (Kept (b ∷ []) ∷ []) (kept_standing quote text p b (in_line text p c) e z o) (omega arith) (column_more text p f c)
+    through_one quote text p (p + 1) (Kept (b ∷ []) ∷ []) (rw ((in_line text p c), z, e, o.no_end, o.no_quote, o.no_blank, o.no_slash) refl) (omega arith) (column_more text p f c)
 
 blank_standing : (quote : ℕ) (text : List ℕ) (p b : ℕ) → is_document_indicator text p ≡ false
     → byte text p ≡ b → break_width text p ≡ 0 → (b == 0) ≡ false → (b == quote) ≡ false

@@ -1,11 +1,8 @@
 -- Handles and suffixes resolve to their tags.
-use Rattle.std.proofs.Common.{◌≡◌, inl, inr, ℕ, Bool, true, false, ◌||◌, ◌==◌, nat_lt, cond, if◌then◌else◌, List, [], ◌∷◌, ◌++◌, length, take, drop, Option, Some, None, refl, sym, ap, subst, ◌∙◌}
+use Rattle.std.proofs.Common.{◌≡◌, inl, inr, ℕ, Bool, true, false, ◌||◌, ◌==◌, nat_lt, cond, if◌then◌else◌, List, [], ◌∷◌, ◌++◌, length, take, drop, Option, Some, None, refl, sym, ap, subst, ◌∙◌, take-append-drop, option_map, bytes_eq}
 use Rattle.std.proofs.lemmas.Bool.{cases_Bool, or_cases, true≢false, and_parts}
-use Rattle.std.proofs.lemmas.List.{take-append-drop}
 use Rattle.std.proofs.lemmas.Slice.Eq.{bytes_eq-Decides}
 use Rattle.std.specs.List.{list_any}
-use Rattle.std.specs.Prelude.{option_map}
-use Rattle.std.specs.Str.{bytes_eq}
 use Rattle.yaml_emit_layout.specs.parse_model.Events.{TagDirective}
 use Rattle.yaml_parse_grammar.specs.Resolve as reader
 use Rattle.yaml_parse_grammar.specs.Resolve.{resolved, or_default, default_prefix}
@@ -88,14 +85,11 @@ handle_none before d ds e =
       | inl t ↦ let bad = rw t at handle in absurd (cc)
     ]
 
-none_defined : (h : List ℕ) → defines [] h ≡ true → ⊥
-unfolding defines
-none_defined h e = cc
-
 -- a handle of the directives before is none of those that follow
 apart : (before ds : List TagDirective) (h : List ℕ) → directives_problem before ds ≡ None
     → list_any (has_handle h) before ≡ true → defines ds h ≡ true → ⊥
-apart before [] h e f t = none_defined h t
+unfolding defines
+apart before [] h e f t = cc
 apart before (d ∷ ds) h e f t =
     elim (or_cases (bytes_eq d.handle h) (defines ds h) (sym (defines_one d ds h) ∙ t)) [
       | inr more ↦ apart (before ++ d ∷ []) ds h (rest_none before d ds e) (any_left (has_handle h) before (d ∷ []) f) more
@@ -178,10 +172,6 @@ own_of before (x ∷ ds) tag d e f =
           own_more before x ds tag d e (own_of (before ++ x ∷ []) ds tag d (rest_none before x ds e) more)
     ]
 
-own_found : (ds : List TagDirective) (tag : List ℕ) (d : TagDirective) → Own ds tag d
-    → Found ds tag d
-own_found ds tag d own = record { begins = own.begins; named = own.named; reads = ap (λ (o : Option (List ℕ)). or_default o d.handle) own.reads }
-
 -- a handle that no directive defines
 reads_none : (ds : List TagDirective) (h : List ℕ) → defines ds h ≡ false
     → reader.directive_for h ds ≡ None
@@ -231,10 +221,6 @@ one_found ds tag d named prefix =
       ]
     ]
 
-defaults_found : (ds : List TagDirective) (tag : List ℕ)
-    → FoundAny ds tag (directive_for (defaults ds) tag)
-defaults_found ds tag = unless_found ds tag primary (unless_defined ds secondary) refl refl (one_found ds tag secondary refl refl)
-
 or_more : Option TagDirective → Option TagDirective → Option TagDirective
 or_more (Some d) more = Some d
 or_more None more = more
@@ -265,7 +251,7 @@ found : (ds : List TagDirective) (tag : List ℕ) → directives_problem [] ds �
 found ds tag e =
     let P : Option TagDirective → Type 0 = λ o. FoundAny ds tag o in
     subst P (sym (finds_more ds (defaults ds) tag))
-    (found_or ds tag (directive_for ds tag) (directive_for (defaults ds) tag) (λ d f. own_found ds tag d (own_of [] ds tag d e f)) (defaults_found ds tag))
+    (found_or ds tag (directive_for ds tag) (directive_for (defaults ds) tag) (λ d f. (record { begins = (own_of [] ds tag d e f).begins; named = (own_of [] ds tag d e f).named; reads = ap (λ (o : Option (List ℕ)). or_default o d.handle) (own_of [] ds tag d e f).reads })) (unless_found ds tag primary (unless_defined ds secondary) refl refl (one_found ds tag secondary refl refl)))
 
 -- Tags.
 

@@ -4,7 +4,7 @@ use Rattle.std.proofs.lemmas.Bool.{cases_Bool, ltb-true, lt-ltb, and_from}
 use Rattle.yaml_emit_layout.specs.emit_text.declared.Encoding.{Encoding}
 use Rattle.yaml_emit_layout.specs.emit_text.declared.Encoding.TheVariants.{Utf8, Utf16Le, Utf16Be}
 use Rattle.yaml_emit_layout.specs.emit_text.Text.{char_bytes}
-use Rattle.yaml_emit_layout.specs.emit_text.Quoted.{needs_escape, escape_letter, escape_text, hex_4, hex_8}
+use Rattle.yaml_emit_text.specs.Quoted.{needs_escape, escape_letter, escape_text, hex_4, hex_8}
 use Rattle.yaml_emit_layout.specs.emit_text.Hex.{hex_digit, hex_2}
 use Rattle.yaml_emit_laws_text.specs.Sizes.{unit, text_bytes, most_of_escape}
 use Rattle.yaml_emit_laws_text.specs.ColumnsLaws.{EscapesAreShort}

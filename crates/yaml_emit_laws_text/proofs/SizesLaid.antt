@@ -1,34 +1,32 @@
 -- Pretty text has no more bytes than its nodes, lines and texts tell either.
-use Rattle.std.proofs.Common.{◌≡◌, ℕ, ◌+◌, ◌*◌, ◌<◌, ◌≤◌, Bool, true, false, true≢false, not, ◌&&◌, ◌||◌, ◌==◌, nat_lt, nat_le, if◌then◌else◌, List, [], ◌∷◌, length, Option, Some, None, refl, sym, subst, ap, arith, inl, inr, le_refl, mul-le-mul_left, mul-le-mul_right, ◌∙◌}
+use Rattle.std.proofs.Common.{◌≡◌, ℕ, ◌+◌, ◌*◌, ◌<◌, ◌≤◌, Bool, true, false, true≢false, not, ◌&&◌, ◌||◌, ◌==◌, nat_lt, nat_le, if◌then◌else◌, List, [], ◌∷◌, length, Option, Some, None, refl, sym, arith, inl, inr, le_refl, mul-le-mul_left, mul-le-mul_right, ◌∙◌, chars}
 use Rattle.std.proofs.lemmas.Bool.{cases_Bool, lt-ltb, leb-true, leb-false, ltb-true, and_parts}
-use Rattle.std.specs.Str.{chars}
 use Rattle.yaml_emit_layout.specs.scan_model.declared.yaml_scalar_style_t.{yaml_scalar_style_t}
-use Rattle.yaml_emit_layout.specs.scan_model.declared.yaml_scalar_style_t.TheVariants as asked
+use Rattle.yaml_emit_laws_text.specs.scan_model.declared.yaml_scalar_style_t.TheVariants as asked
 use Rattle.yaml_emit_layout.specs.parse_model.Events.{TagDirective}
 use Rattle.yaml_emit_layout.specs.emit_text.declared.Encoding.{Encoding}
-use Rattle.yaml_emit_layout.specs.emit_text.declared.LineBreak.{LineBreak}
-use Rattle.yaml_emit_layout.specs.emit_text.declared.Settings.{Settings}
-use Rattle.yaml_emit_layout.specs.emit_text.declared.Cursor.{Cursor}
+use Rattle.yaml_emit_laws_text.specs.emit_layout.emit_text.declared.LineBreak.{LineBreak}
+use Rattle.yaml_emit_laws_text.specs.emit_layout.emit_text.declared.Settings.{Settings}
+use Rattle.yaml_emit_laws_text.specs.emit_layout.emit_text.declared.Cursor.{Cursor}
 use Rattle.yaml_emit_layout.specs.emit_text.declared.page.Chomp.{Chomp}
 use Rattle.yaml_emit_layout.specs.emit_text.declared.page.Chomp.TheVariants as chomping
 use Rattle.yaml_emit_layout.specs.emit_text.declared.Style.{Style}
 use Rattle.yaml_emit_layout.specs.emit_text.declared.Style.TheVariants as style
 use Rattle.yaml_emit_layout.specs.emit_text.Text.{is_break, encode}
-use Rattle.yaml_emit_layout.specs.emit_text.Style.{allowed, plain_fits, taken}
-use Rattle.yaml_emit_layout.specs.emit_text.Quoted.{first, is_empty}
+use Rattle.yaml_emit_text.specs.Style.{allowed, plain_fits, taken}
+use Rattle.yaml_emit_text.specs.Quoted.{first, is_empty}
 use Rattle.yaml_emit_layout.specs.emit_text.Scalars.{value_break, cuts_at, cut, text_char, flow_char, flow_body, plain, single_quoted, adds_break, cuts_block, line_blank, block_text, block_char, block_body, chomp, chomp_mark, digit_char, block_header, block, scalar_text}
-use Rattle.yaml_emit_layout.specs.emit_text.Layout.{Layout, ◌▹◌, stay, when, char, new_line, gap, word, indicator, opener, line, keep, is_past, after_text, after_block, order_mark, nothing_more, start, written}
-use Rattle.yaml_emit_layout.specs.emit_text.Text.{letter}
+use Rattle.yaml_emit_laws_text.specs.emit_layout.emit_text.Layout.{Layout, ◌▹◌, stay, when, char, new_line, gap, word, opener, line, keep, is_past, after_text, after_block, order_mark, nothing_more, start, written}
 use Rattle.yaml_emit_layout.specs.declared.level.Part.TheVariants as part
 use Rattle.yaml_emit_layout.specs.declared.level.NodePosition.{NodePosition}
 use Rattle.yaml_emit_layout.specs.Content.{Scalar, Start, Node, alias_node, scalar_node, sequence_node, mapping_node, Nodes, no_nodes, node, Pairs, no_pairs, pair, Document}
 use Rattle.yaml_emit_layout.specs.Grammar.{has, kept_if, scalar_tag, start_tag}
-use Rattle.yaml_emit_layout.specs.Nodes.{Context, context_of, root_position, position, deeper, checked, properties_text, is_plain, style_of, mark_text, page_at, scalar_layout, is_simple, is_flow, are_none, are_no_pairs, block_indent_in, indent_of, indented, is_of_mapping, comma, turned, before_item, question, before_key, before_value, closer, key_part, node_layout, items_layout, pairs_layout, start_layout, end_layout, stop_layout, documents_layout, stream_layout}
+use Rattle.yaml_emit_layout.specs.Nodes.{Context, context_of, root_position, position, deeper, checked, properties_text, is_plain, style_of, mark_text, page_at, scalar_layout, is_simple, is_flow, are_none, are_no_pairs, block_indent_in, indent_of, indented, is_of_mapping, before_item, before_key, before_value, closer, key_part, node_layout, items_layout, pairs_layout, start_layout, end_layout, stop_layout, documents_layout, stream_layout}
 use Rattle.yaml_emit_laws_text.specs.Sizes.{unit, ascii, larger, properties_bytes, tag_bytes, most_of_quoted, most_of_char, most_of_value, most_of_line, most_of_node, most_of_items, most_of_pairs, directives_bytes, most_of_documents, most_bytes}
 use Rattle.yaml_emit_laws_text.specs.ColumnsLaws.{SizesAreByContent}
-use Rattle.yaml_emit_laws_text.proofs.SizesCounting.{size, AtMost, joined, widened, stay_most, when_most, choose_most, keep_most, put_most, char_most, break_most, unit_size, ascii_most, gap_most, ascii_word_most, opener_most, new_line_most, line_most, mark_most, checked_most}
+use Rattle.yaml_emit_laws_text.proofs.SizesCounting.{size, AtMost, joined, widened, stay_most, when_most, choose_most, keep_most, char_most, break_most, ascii_most, gap_most, ascii_word_most, opener_most, new_line_most, mark_most, checked_most}
 use Rattle.yaml_emit_laws_text.proofs.SizesEscapes.{raw_most}
-use Rattle.yaml_emit_laws_text.proofs.SizesLemmas.{Takes, properties_most, alias_most, quoted_most, start_most, end_most, stop_most, canonical_size}
+use Rattle.yaml_emit_laws_text.proofs.SizesLemmas.{Takes, set, at_set, before_item_most, before_key_most, before_value_most, closer_most, line_at_most, properties_most, alias_most, quoted_most, quoted_scalar_most, start_most, end_most, stop_most}
 
 abbrev easy : Settings → Settings
 easy s = record s { canonical = false }
@@ -120,9 +118,6 @@ run_most s b false x f =
 first_of : (a b : Bool) → (a && b) ≡ true → a ≡ true
 first_of true b e = refl
 first_of false b e = cc
-
-line_at_most : (s : Settings) (n : ℕ) → Takes s (ascii s (n + 2)) (line s.line_break n)
-line_at_most s n = line_most s.encoding s.line_break n
 
 cut_most : (s : Settings) (at : NodePosition) (x : ℕ)
     → Takes s (ascii s (deeper (easy s) at.around + 4)) (cut (page_at (easy s) at) x)
@@ -381,11 +376,19 @@ tag_less s ds true None = le_refl _
 tag_less s ds true (Some t) = omega arith
 tag_less s ds false tag = le_refl _
 
-scalar_most : (s : Settings) (ds : List TagDirective) (at : NodePosition) (x : Scalar)
-    → Takes s (most_of_node (at_easy s ds) (deeper (easy s) at.around) (scalar_node x))
-    (scalar_layout (at_easy s ds) at x)
+start_less : (canonical : Bool) (s : Settings) (ds : List TagDirective) (q : Start)
+    → tag_bytes (at_set canonical s ds) (start_tag canonical q)
+    ≤ tag_bytes (at_set canonical s ds) (start_tag true q)
+start_less true s ds q = le_refl _
+start_less false s ds q = tag_less s ds q.implicit q.tag
+
+scalar_most : (canonical : Bool) (s : Settings) (ds : List TagDirective) (at : NodePosition)
+    (x : Scalar)
+    → Takes s (most_of_node (at_set canonical s ds) (deeper s at.around) (scalar_node x))
+    (scalar_layout (at_set canonical s ds) at x)
 unfolding scalar_layout style_of most_of_node
-scalar_most s ds at x =
+scalar_most true s ds at x = quoted_scalar_most s ds at x
+scalar_most false s ds at x =
     let p = at_easy s ds in
     let n = deeper (easy s) at.around in
     let k = most_of_value (easy s) n (chars x.value) in
@@ -403,60 +406,6 @@ scalar_most s ds at x =
     (omega arith))
     (omega (arith, less))
 
--- ---- what stands between nodes
-
-indicator_most : (x : Encoding) (i : ℕ) → nat_lt i 128 ≡ true → AtMost x (unit x * 2) (indicator i)
-indicator_most x i e =
-    joined x (unit x) (unit x) (unit x * 2) gap (λ c rest. letter i ∷ rest (record { column = c.column + 1; white = false; bare = c.bare; kept = c.kept })) (gap_most x)
-    (λ m rest h c. put_most x i (unit x) m (rest (record { column = c.column + 1; white = false; bare = c.bare; kept = c.kept })) (unit_size x i e) (h (record { column = c.column + 1; white = false; bare = c.bare; kept = c.kept })))
-    (omega arith)
-
-turned_most : (s : Settings) (n : ℕ) → Takes s (ascii s (n + 2)) (turned (easy s) n)
-unfolding turned
-turned_most s n = choose_most s.encoding (ascii s (n + 2)) (is_past s.width) (line s.line_break n) stay (line_at_most s n) (stay_most s.encoding (ascii s (n + 2)))
-
-parted_most : (s : Settings) (n : ℕ) (fresh : Bool)
-    → Takes s (ascii s (n + 3)) (comma fresh ▹ turned (easy s) n)
-parted_most s n fresh = joined s.encoding (unit s.encoding) (ascii s (n + 2)) (ascii s (n + 3)) (comma fresh) (turned (easy s) n) (when_most s.encoding (unit s.encoding) (not fresh) (char 44) (ascii_most s.encoding 44 refl)) (turned_most s n) (omega arith)
-
-before_item_most : (s : Settings) (flow : Bool) (n : ℕ) (fresh : Bool)
-    → Takes s (most_of_line s n) (before_item (easy s) flow n fresh)
-unfolding before_item
-before_item_most s true n fresh = widened s.encoding (ascii s (n + 3)) (most_of_line s n) (comma fresh ▹ turned (easy s) n) (parted_most s n fresh) (omega arith)
-before_item_most s false n fresh = joined s.encoding (ascii s (n + 2)) (ascii s 2) (most_of_line s n) (line s.line_break n) (indicator 45) (line_at_most s n) (indicator_most s.encoding 45 refl) (omega arith)
-
-question_most : (s : Settings) (flow : Bool) → Takes s (ascii s 2) (question flow)
-question_most s true = ascii_word_most s.encoding (63 ∷ []) (ascii s 2) refl (omega arith)
-question_most s false = indicator_most s.encoding 63 refl
-
-before_key_most : (s : Settings) (flow : Bool) (n : ℕ) (fresh simple : Bool)
-    → Takes s (most_of_line s n) (before_key (easy s) flow n fresh simple)
-unfolding before_key
-before_key_most s true n fresh simple =
-    joined s.encoding (ascii s (n + 3)) (ascii s 2) (most_of_line s n) (comma fresh ▹ turned (easy s) n) (when (not simple) (question true)) (parted_most s n fresh)
-    (when_most s.encoding (ascii s 2) (not simple) (question true) (question_most s true)) (omega arith)
-before_key_most s false n fresh simple =
-    joined s.encoding (ascii s (n + 2)) (ascii s 2) (most_of_line s n) (line s.line_break n) (when (not simple) (question false)) (line_at_most s n)
-    (when_most s.encoding (ascii s 2) (not simple) (question false) (question_most s false)) (omega arith)
-
-before_value_most : (s : Settings) (flow : Bool) (n : ℕ) (simple : Bool)
-    → Takes s (most_of_line s n) (before_value (easy s) flow n simple)
-unfolding before_value
-before_value_most s true n true = widened s.encoding (unit s.encoding) (most_of_line s n) (char 58) (ascii_most s.encoding 58 refl) (omega arith)
-before_value_most s false n true = widened s.encoding (unit s.encoding) (most_of_line s n) (char 58) (ascii_most s.encoding 58 refl) (omega arith)
-before_value_most s true n false =
-    joined s.encoding (ascii s (n + 2)) (ascii s 2) (most_of_line s n) (turned (easy s) n) (word (58 ∷ [])) (turned_most s n)
-    (ascii_word_most s.encoding (58 ∷ []) (ascii s 2) refl (omega arith)) (omega arith)
-before_value_most s false n false =
-    joined s.encoding (ascii s (n + 2)) (ascii s 2) (most_of_line s n) (line s.line_break n) (indicator 58) (line_at_most s n) (indicator_most s.encoding 58 refl) (omega arith)
-
-closer_most : (s : Settings) (flow : Bool) (n : ℕ) (fresh : Bool) (i : ℕ) → nat_lt i 128 ≡ true
-    → Takes s (most_of_line s n) (closer (easy s) flow n fresh i)
-unfolding closer
-closer_most s true n fresh i e =
-    joined s.encoding 0 (unit s.encoding) (most_of_line s n) stay (char i) (stay_most s.encoding 0) (ascii_most s.encoding i e) (omega arith)
-closer_most s false n fresh i e = stay_most s.encoding (most_of_line s n)
-
 -- ---- nodes
 
 -- at an indentation that is found, whatever it is
@@ -464,30 +413,31 @@ indented_most : (x : Encoding) (k : ℕ) (f : Cursor → ℕ) (g : ℕ → Layou
     → ((c : Cursor) → AtMost x k (g (f c))) → AtMost x k (indented f g)
 indented_most x k f g h m rest w c = h c m rest w c
 
-block_indent_most : (s : Settings) (around : Option ℕ) (keeps : Bool)
-    → block_indent_in (easy s) around keeps ≤ deeper (easy s) around
-block_indent_most s None keeps = omega arith
-block_indent_most s (Some n) true = omega arith
-block_indent_most s (Some n) false = le_refl _
+block_indent_most : (canonical : Bool) (s : Settings) (around : Option ℕ) (keeps : Bool)
+    → block_indent_in (set canonical s) around keeps ≤ deeper (set canonical s) around
+block_indent_most canonical s None keeps = omega arith
+block_indent_most canonical s (Some n) true = omega arith
+block_indent_most canonical s (Some n) false = le_refl _
 
-indent_most : (s : Settings) (at : NodePosition) (sequence flow : Bool) (c : Cursor)
-    → indent_of (easy s) at sequence flow c ≤ deeper (easy s) at.around
-indent_most s at sequence true c = le_refl _
-indent_most s at sequence false c = block_indent_most s at.around (sequence && (is_of_mapping at.part && not c.bare))
+indent_most : (canonical : Bool) (s : Settings) (at : NodePosition) (sequence flow : Bool)
+    (c : Cursor) → indent_of (set canonical s) at sequence flow c ≤ deeper
+    (set canonical s) at.around
+indent_most canonical s at sequence true c = le_refl _
+indent_most canonical s at sequence false c = block_indent_most canonical s at.around (sequence && (is_of_mapping at.part && not c.bare))
 
-opened_most : (s : Settings) (ds : List TagDirective) (q : Start) (flow : Bool) (i k : ℕ)
-    (f : Cursor → ℕ) (held : ℕ → Layout) → nat_lt i 128 ≡ true
-    → ((c : Cursor) → Takes s k (held (f c)))
-    → Takes s (properties_bytes (at_easy s ds) q.anchor (start_tag true q) + ascii s 2 + k)
-    (properties_text (at_easy s ds) q.anchor (start_tag false q) ▹
-    (when flow (opener i) ▹ indented f (λ n. checked n ▹ held n)))
-opened_most s ds q flow i k f held e h =
-    let p = at_easy s ds in
-    let props = properties_bytes p q.anchor (start_tag false q) in
+opened_most : (canonical : Bool) (s : Settings) (ds : List TagDirective) (q : Start) (flow : Bool)
+    (i k : ℕ) (f : Cursor → ℕ) (held : ℕ → Layout) → nat_lt i 128 ≡ true
+    → ((c : Cursor) → Takes s k (held (f c))) → Takes s
+    (properties_bytes (at_set canonical s ds) q.anchor (start_tag true q) + ascii s 2 + k)
+    (properties_text (at_set canonical s ds) q.anchor (start_tag canonical q) ▹ (when flow
+    (opener i) ▹ indented f (λ n. checked n ▹ held n)))
+opened_most canonical s ds q flow i k f held e h =
+    let p = at_set canonical s ds in
+    let props = properties_bytes p q.anchor (start_tag canonical q) in
     let whole = properties_bytes p q.anchor (start_tag true q) in
-    let less = tag_less s ds q.implicit q.tag in
+    let less = start_less canonical s ds q in
     let found = indented f (λ n. checked n ▹ held n) in
-    joined s.encoding props (ascii s 2 + k) (whole + ascii s 2 + k) (properties_text p q.anchor (start_tag false q)) (when flow (opener i) ▹ found) (properties_most s ds q.anchor (start_tag false q))
+    joined s.encoding props (ascii s 2 + k) (whole + ascii s 2 + k) (properties_text p q.anchor (start_tag canonical q)) (when flow (opener i) ▹ found) (properties_most s ds q.anchor (start_tag canonical q))
     (joined s.encoding (ascii s 2) k (ascii s 2 + k) (when flow (opener i)) found (when_most s.encoding (ascii s 2) flow (opener i) (opener_most s.encoding i e))
     (indented_most s.encoding k f (λ n. checked n ▹ held n) (λ c. joined s.encoding 0 k k (checked (f c)) (held (f c)) (checked_most s.encoding 0 (f c)) (h c) (omega arith))) (le_refl _))
     (omega (arith, less))
@@ -495,100 +445,90 @@ opened_most s ds q flow i k f held e h =
 mutual
   unfolding node_layout items_layout pairs_layout most_of_node most_of_items most_of_pairs
 
-  node_is : (s : Settings) (ds : List TagDirective) (at : NodePosition) (n : ℕ) (x : Node)
-      → deeper (easy s) at.around ≤ n
-      → Takes s (most_of_node (at_easy s ds) n x) (node_layout (at_easy s ds) at x)
-  node_is s ds at n (alias_node name) w = alias_most s at name
-  node_is s ds at n (scalar_node x) w =
-      let m = deeper (easy s) at.around in
-      widened s.encoding (most_of_node (at_easy s ds) m (scalar_node x)) (most_of_node (at_easy s ds) n (scalar_node x)) (scalar_layout (at_easy s ds) at x) (scalar_most s ds at x)
-      (omega (arith, value_grows (easy s) m n (chars x.value) w))
-  node_is s ds at n (sequence_node q items) w =
-      let flow = is_flow (easy s) at q (are_none items) in
-      opened_most s ds q flow 91 (most_of_items (at_easy s ds) n items) (indent_of (easy s) at true flow) (λ m. items_layout (at_easy s ds) flow m true items) refl
-      (λ c. items_are s ds flow (indent_of (easy s) at true flow c) n true items (omega (arith, w, indent_most s at true flow c)))
-  node_is s ds at n (mapping_node q pairs) w =
-      let flow = is_flow (easy s) at q (are_no_pairs pairs) in
-      opened_most s ds q flow 123 (most_of_pairs (at_easy s ds) n pairs) (indent_of (easy s) at false flow) (λ m. pairs_layout (at_easy s ds) flow m true pairs) refl
-      (λ c. pairs_are s ds flow (indent_of (easy s) at false flow c) n true pairs (omega (arith, w, indent_most s at false flow c)))
+  node_is : (canonical : Bool) (s : Settings) (ds : List TagDirective) (at : NodePosition) (n : ℕ)
+      (x : Node) → deeper (set canonical s) at.around ≤ n → Takes s
+      (most_of_node (at_set canonical s ds) n x) (node_layout (at_set canonical s ds) at x)
+  node_is canonical s ds at n (alias_node name) w = alias_most s at name
+  node_is canonical s ds at n (scalar_node x) w =
+      let m = deeper (set canonical s) at.around in
+      widened s.encoding (most_of_node (at_set canonical s ds) m (scalar_node x)) (most_of_node (at_set canonical s ds) n (scalar_node x)) (scalar_layout (at_set canonical s ds) at x) (scalar_most canonical s ds at x)
+      (omega (arith, value_grows (set canonical s) m n (chars x.value) w))
+  node_is canonical s ds at n (sequence_node q items) w =
+      let flow = is_flow (set canonical s) at q (are_none items) in
+      opened_most canonical s ds q flow 91 (most_of_items (at_set canonical s ds) n items) (indent_of (set canonical s) at true flow) (λ m. items_layout (at_set canonical s ds) flow m true items) refl
+      (λ c. items_are canonical s ds flow (indent_of (set canonical s) at true flow c) n true items (omega (arith, w, indent_most canonical s at true flow c)))
+  node_is canonical s ds at n (mapping_node q pairs) w =
+      let flow = is_flow (set canonical s) at q (are_no_pairs pairs) in
+      opened_most canonical s ds q flow 123 (most_of_pairs (at_set canonical s ds) n pairs) (indent_of (set canonical s) at false flow) (λ m. pairs_layout (at_set canonical s ds) flow m true pairs) refl
+      (λ c. pairs_are canonical s ds flow (indent_of (set canonical s) at false flow c) n true pairs (omega (arith, w, indent_most canonical s at false flow c)))
 
-  items_are : (s : Settings) (ds : List TagDirective) (flow : Bool) (m n : ℕ) (fresh : Bool)
-      (ns : Nodes) → m ≤ n
-      → Takes s (most_of_items (at_easy s ds) n ns) (items_layout (at_easy s ds) flow m fresh ns)
-  items_are s ds flow m n fresh no_nodes w = widened s.encoding (most_of_line s m) (most_of_line s n) (closer (easy s) flow m fresh 93) (closer_most s flow m fresh 93 refl) (line_grows s m n w)
-  items_are s ds flow m n fresh (node x xs) w =
-      let p = at_easy s ds in
+  items_are : (canonical : Bool) (s : Settings) (ds : List TagDirective) (flow : Bool) (m n : ℕ)
+      (fresh : Bool) (ns : Nodes) → m ≤ n → Takes s (most_of_items (at_set canonical s ds) n ns)
+      (items_layout (at_set canonical s ds) flow m fresh ns)
+  items_are canonical s ds flow m n fresh no_nodes w = widened s.encoding (most_of_line s m) (most_of_line s n) (closer (set canonical s) flow m fresh 93) (closer_most canonical s flow m fresh 93 refl) (line_grows s m n w)
+  items_are canonical s ds flow m n fresh (node x xs) w =
+      let p = at_set canonical s ds in
       let a = node_layout p (position flow m part.Item) x in
       let more = items_layout p flow m false xs in
       let i = most_of_node p (n + s.indent) x in
       let j = most_of_items p n xs in
       let l = most_of_line s n in
-      joined s.encoding l (i + j) (l + i + j) (before_item (easy s) flow m fresh) (a ▹ more) (widened s.encoding (most_of_line s m) l (before_item (easy s) flow m fresh) (before_item_most s flow m fresh) (line_grows s m n w))
-      (joined s.encoding i j (i + j) a more (node_is s ds (position flow m part.Item) (n + s.indent) x (omega (arith, w))) (items_are s ds flow m n false xs w) (le_refl _)) (omega arith)
+      joined s.encoding l (i + j) (l + i + j) (before_item (set canonical s) flow m fresh) (a ▹ more) (widened s.encoding (most_of_line s m) l (before_item (set canonical s) flow m fresh) (before_item_most canonical s flow m fresh) (line_grows s m n w))
+      (joined s.encoding i j (i + j) a more (node_is canonical s ds (position flow m part.Item) (n + s.indent) x (omega (arith, w))) (items_are canonical s ds flow m n false xs w) (le_refl _)) (omega arith)
 
-  pairs_are : (s : Settings) (ds : List TagDirective) (flow : Bool) (m n : ℕ) (fresh : Bool)
-      (ps : Pairs) → m ≤ n
-      → Takes s (most_of_pairs (at_easy s ds) n ps) (pairs_layout (at_easy s ds) flow m fresh ps)
-  pairs_are s ds flow m n fresh no_pairs w = widened s.encoding (most_of_line s m) (most_of_line s n) (closer (easy s) flow m fresh 125) (closer_most s flow m fresh 125 refl) (line_grows s m n w)
-  pairs_are s ds flow m n fresh (pair k v ps) w =
-      let p = at_easy s ds in
+  pairs_are : (canonical : Bool) (s : Settings) (ds : List TagDirective) (flow : Bool) (m n : ℕ)
+      (fresh : Bool) (ps : Pairs) → m ≤ n → Takes s (most_of_pairs (at_set canonical s ds) n ps)
+      (pairs_layout (at_set canonical s ds) flow m fresh ps)
+  pairs_are canonical s ds flow m n fresh no_pairs w = widened s.encoding (most_of_line s m) (most_of_line s n) (closer (set canonical s) flow m fresh 125) (closer_most canonical s flow m fresh 125 refl) (line_grows s m n w)
+  pairs_are canonical s ds flow m n fresh (pair k v ps) w =
+      let p = at_set canonical s ds in
       let simple = is_simple p k in
       let key = node_layout p (position flow m (key_part simple)) k in
       let value = node_layout p (position flow m part.Value) v in
       let more = pairs_layout p flow m false ps in
-      let colon = before_value (easy s) flow m simple in
+      let colon = before_value (set canonical s) flow m simple in
       let i = most_of_node p (n + s.indent) k in
       let j = most_of_node p (n + s.indent) v in
       let q = most_of_pairs p n ps in
       let l = most_of_line s n in
-      joined s.encoding l (i + (l + (j + q))) (l + i + l + j + q) (before_key (easy s) flow m fresh simple) (key ▹ (colon ▹ (value ▹ more)))
-      (widened s.encoding (most_of_line s m) l (before_key (easy s) flow m fresh simple) (before_key_most s flow m fresh simple) (line_grows s m n w))
-      (joined s.encoding i (l + (j + q)) (i + (l + (j + q))) key (colon ▹ (value ▹ more)) (node_is s ds (position flow m (key_part simple)) (n + s.indent) k (omega (arith, w)))
-      (joined s.encoding l (j + q) (l + (j + q)) colon (value ▹ more) (widened s.encoding (most_of_line s m) l colon (before_value_most s flow m simple) (line_grows s m n w))
-      (joined s.encoding j q (j + q) value more (node_is s ds (position flow m part.Value) (n + s.indent) v (omega (arith, w))) (pairs_are s ds flow m n false ps w) (le_refl _)) (le_refl _)) (le_refl _))
+      joined s.encoding l (i + (l + (j + q))) (l + i + l + j + q) (before_key (set canonical s) flow m fresh simple) (key ▹ (colon ▹ (value ▹ more)))
+      (widened s.encoding (most_of_line s m) l (before_key (set canonical s) flow m fresh simple) (before_key_most canonical s flow m fresh simple) (line_grows s m n w))
+      (joined s.encoding i (l + (j + q)) (i + (l + (j + q))) key (colon ▹ (value ▹ more)) (node_is canonical s ds (position flow m (key_part simple)) (n + s.indent) k (omega (arith, w)))
+      (joined s.encoding l (j + q) (l + (j + q)) colon (value ▹ more) (widened s.encoding (most_of_line s m) l colon (before_value_most canonical s flow m simple) (line_grows s m n w))
+      (joined s.encoding j q (j + q) value more (node_is canonical s ds (position flow m part.Value) (n + s.indent) v (omega (arith, w))) (pairs_are canonical s ds flow m n false ps w) (le_refl _)) (le_refl _)) (le_refl _))
       (omega arith)
 
 -- ---- documents
 
-documents_are : (s : Settings) (first unended : Bool) (ds : List Document)
-    → Takes s (ascii s 6 + most_of_documents (easy s) ds)
-    (documents_layout (easy s) first unended ds)
+documents_are : (canonical : Bool) (s : Settings) (first unended : Bool) (ds : List Document)
+    → Takes s (ascii s 6 + most_of_documents (set canonical s) ds)
+    (documents_layout (set canonical s) first unended ds)
 unfolding documents_layout most_of_documents
-documents_are s first unended [] = widened s.encoding (ascii s 6) (ascii s 6 + 0) (stop_layout (easy s) unended) (stop_most (easy s) unended) (omega arith)
-documents_are s first unended (d ∷ ds) =
+documents_are canonical s first unended [] = widened s.encoding (ascii s 6) (ascii s 6 + 0) (stop_layout (set canonical s) unended) (stop_most (set canonical s) unended) (omega arith)
+documents_are canonical s first unended (d ∷ ds) =
     let x = s.encoding in
-    let t = directives_bytes (easy s) d.opening.directives in
-    let n = most_of_node (at_easy s d.opening.directives) s.indent d.root in
-    let m = most_of_documents (easy s) ds in
-    let root = node_layout (at_easy s d.opening.directives) root_position d.root in
-    let ended = end_layout (easy s) d.implicit_end in
-    let left = documents_layout (easy s) false d.implicit_end ds in
-    joined x (ascii s 26 + t) (n + (ascii s 8 + (ascii s 6 + m))) (ascii s 6 + (ascii s 34 + t + n + m)) (start_layout (easy s) first unended d.opening) (root ▹ (ended ▹ left))
-    (start_most (easy s) first unended d.opening)
-    (joined x n (ascii s 8 + (ascii s 6 + m)) (n + (ascii s 8 + (ascii s 6 + m))) root (ended ▹ left) (node_is s d.opening.directives root_position s.indent d.root (le_refl _))
-    (joined x (ascii s 8) (ascii s 6 + m) (ascii s 8 + (ascii s 6 + m)) ended left (end_most (easy s) d.implicit_end) (documents_are s false d.implicit_end ds) (le_refl _)) (le_refl _))
+    let t = directives_bytes (set canonical s) d.opening.directives in
+    let n = most_of_node (at_set canonical s d.opening.directives) s.indent d.root in
+    let m = most_of_documents (set canonical s) ds in
+    let root = node_layout (at_set canonical s d.opening.directives) root_position d.root in
+    let ended = end_layout (set canonical s) d.implicit_end in
+    let left = documents_layout (set canonical s) false d.implicit_end ds in
+    joined x (ascii s 26 + t) (n + (ascii s 8 + (ascii s 6 + m))) (ascii s 6 + (ascii s 34 + t + n + m)) (start_layout (set canonical s) first unended d.opening) (root ▹ (ended ▹ left))
+    (start_most (set canonical s) first unended d.opening)
+    (joined x n (ascii s 8 + (ascii s 6 + m)) (n + (ascii s 8 + (ascii s 6 + m))) root (ended ▹ left) (node_is canonical s d.opening.directives root_position s.indent d.root (le_refl _))
+    (joined x (ascii s 8) (ascii s 6 + m) (ascii s 8 + (ascii s 6 + m)) ended left (end_most (set canonical s) d.implicit_end) (documents_are canonical s false d.implicit_end ds) (le_refl _)) (le_refl _))
     (omega arith)
 
-stream_most : (s : Settings) (ds : List Document)
-    → Takes s (most_bytes (easy s) ds) (stream_layout (easy s) ds)
+stream_most : (canonical : Bool) (s : Settings) (ds : List Document)
+    → Takes s (most_bytes (set canonical s) ds) (stream_layout (set canonical s) ds)
 unfolding stream_layout
-stream_most s ds =
-    joined s.encoding (unit s.encoding) (ascii s 6 + most_of_documents (easy s) ds) (most_bytes (easy s) ds) (order_mark s.encoding) (documents_layout (easy s) true false ds)
-    (mark_most s.encoding) (documents_are s true false ds) (omega arith)
+stream_most canonical s ds =
+    joined s.encoding (unit s.encoding) (ascii s 6 + most_of_documents (set canonical s) ds) (most_bytes (set canonical s) ds) (order_mark s.encoding) (documents_layout (set canonical s) true false ds)
+    (mark_most s.encoding) (documents_are canonical s true false ds) (omega arith)
 
-easy_size : (s : Settings) (ds : List Document)
-    → size s.encoding (written (stream_layout (easy s) ds)) ≤ most_bytes (easy s) ds
-unfolding encode
-easy_size s ds =
-    let i : size s.encoding (written (stream_layout (easy s) ds)) ≤ most_bytes (easy s) ds + 0 = stream_most s ds 0 nothing_more (λ c. (le_refl _)) start in
-    omega arith
-
-easy_is : (s : Settings) → s.canonical ≡ false → easy s ≡ s
-easy_is s e = ap (λ (c : Bool). record s { canonical = c }) (sym e)
-
+-- of the whole text
 pub by_content : SizesAreByContent
+unfolding encode
 by_content s ds =
-    elim (cases_Bool s.canonical) [
-      | inl e ↦ canonical_size s e ds
-      | inr e ↦ subst (λ (z : Settings). size z.encoding (written (stream_layout z ds)) ≤ most_bytes z ds) (easy_is s e) (easy_size s ds)
-    ]
+    let i : size s.encoding (written (stream_layout s ds)) ≤ most_bytes s ds + 0 = stream_most s.canonical s ds 0 nothing_more (λ c. le_refl _) start in
+    omega arith

@@ -1,36 +1,39 @@
 -- Canonical text has no more bytes than its nodes, lines and texts tell; what of it pretty text has too.
-use Rattle.std.proofs.Common.{◌≡◌, ℕ, ◌+◌, ◌-◌, ◌*◌, ◌≤◌, Bool, true, false, not, ◌&&◌, ◌==◌, nat_lt, List, [], ◌∷◌, length, Option, Some, None, pos, refl, sym, subst, ap, codes, arith, inl, inr, le_refl, mul-le-mul_left, sub-le}
+use Rattle.std.proofs.Common.{◌≡◌, ℕ, ◌+◌, ◌-◌, ◌*◌, ◌≤◌, Bool, true, false, not, ◌&&◌, ◌==◌, nat_lt, List, [], ◌∷◌, length, Option, Some, None, pos, refl, sym, subst, codes, arith, inl, inr, le_refl, mul-le-mul_left, sub-le, int_eq, chars}
 use Rattle.std.proofs.lemmas.Bool.{cases_Bool, eqb-true}
-use Rattle.std.specs.Ordering.{int_eq}
-use Rattle.std.specs.Str.{chars}
 use Rattle.yaml_emit_layout.specs.scan_model.declared.yaml_version_directive_t.{yaml_version_directive_t}
 use Rattle.yaml_emit_layout.specs.parse_model.Events.{TagDirective}
-use Rattle.yaml_emit_layout.specs.emit_text.declared.Settings.{Settings}
+use Rattle.yaml_emit_laws_text.specs.emit_layout.emit_text.declared.Settings.{Settings}
 use Rattle.yaml_emit_layout.specs.emit_text.declared.Style.TheVariants as style
 use Rattle.yaml_emit_layout.specs.emit_text.Scalars.{scalar_text}
 use Rattle.yaml_emit_layout.specs.emit_tags.Tags.{tag_spelling, uri_text}
-use Rattle.yaml_emit_layout.specs.emit_text.Quoted.{needs_escape, escape_text, first, is_empty, may_fold, fold, escaped, quoted_char, quoted_body, double_quoted}
-use Rattle.yaml_emit_layout.specs.emit_text.Text.{char_bytes, encode}
-use Rattle.yaml_emit_layout.specs.emit_text.Layout.{Layout, ◌▹◌, stay, choose, when, char, letters, blanks, new_line, gap, word, opener, keep, is_past, order_mark, nothing_more, start, written}
+use Rattle.yaml_emit_text.specs.Quoted.{needs_escape, escape_text, first, is_empty, may_fold, fold, escaped, quoted_char, quoted_body, double_quoted}
+use Rattle.yaml_emit_layout.specs.emit_text.Text.{char_bytes, letter}
+use Rattle.yaml_emit_laws_text.specs.emit_layout.emit_text.Layout.{Layout, ◌▹◌, stay, choose, when, char, letters, blanks, new_line, gap, word, keep, is_past, indicator, line}
 use Rattle.yaml_emit_layout.specs.declared.level.Part.TheVariants as part
 use Rattle.yaml_emit_layout.specs.declared.level.NodePosition.{NodePosition}
-use Rattle.yaml_emit_layout.specs.Content.{Scalar, Node, alias_node, scalar_node, sequence_node, mapping_node, Nodes, no_nodes, node, Pairs, no_pairs, pair, Opening, Document}
-use Rattle.yaml_emit_layout.specs.Grammar.{has, scalar_tag, start_tag}
-use Rattle.yaml_emit_layout.specs.Nodes.{Context, context_of, root_position, position, is_simple_part, deeper, checked, line_at, anchor_text, tag_text, properties_text, mark_text, style_of, page_at, scalar_layout, alias_layout, comma, turned, before_item, question, before_key, before_value, closer, key_part, is_simple, node_layout, items_layout, pairs_layout, dots, version_word, version_text, directive_text, directives_text, is_directed, dashes, is_marked, start_layout, end_layout, is_kept, stop_layout, documents_layout, stream_layout}
-use Rattle.yaml_emit_laws_text.specs.Sizes.{unit, ascii, text_bytes, anchor_bytes, tag_bytes, properties_bytes, most_of_quoted, most_of_char, most_of_value, most_of_line, most_of_node, most_of_items, most_of_pairs, directives_bytes, most_of_documents, most_bytes}
-use Rattle.yaml_emit_laws_text.proofs.SizesCounting.{size, AtMost, joined, widened, stay_most, when_most, choose_most, keep_most, char_most, letters_most, ascii_most, blanks_most, gap_most, word_most, ascii_word_most, opener_most, new_line_most, line_most, mark_most, checked_most}
+use Rattle.yaml_emit_layout.specs.Content.{Scalar, scalar_node, Opening}
+use Rattle.yaml_emit_layout.specs.Grammar.{has, scalar_tag}
+use Rattle.yaml_emit_layout.specs.Nodes.{Context, context_of, is_simple_part, deeper, checked, line_at, anchor_text, tag_text, properties_text, mark_text, style_of, page_at, scalar_layout, alias_layout, comma, turned, before_item, question, before_key, before_value, closer, dots, version_word, version_text, directive_text, directives_text, is_directed, dashes, is_marked, start_layout, end_layout, is_kept, stop_layout}
+use Rattle.yaml_emit_laws_text.specs.Sizes.{unit, ascii, text_bytes, anchor_bytes, tag_bytes, properties_bytes, most_of_quoted, most_of_char, most_of_value, most_of_line, most_of_node, directives_bytes}
+use Rattle.yaml_emit_laws_text.proofs.SizesCounting.{AtMost, joined, widened, stay_most, when_most, choose_most, keep_most, char_most, letters_most, ascii_most, blanks_most, gap_most, word_most, ascii_word_most, new_line_most, line_most, checked_most, put_most, unit_size}
+use Rattle.yaml_emit_layout.specs.emit_text.declared.Encoding.{Encoding}
 
-abbrev form : Settings → Settings
-form s = record s { canonical = true }
+-- in either form
+abbrev pub set : Bool → Settings → Settings
+set canonical s = record s { canonical = canonical }
+
+abbrev pub at_set : Bool → Settings → List TagDirective → Context
+at_set canonical s ds = context_of (set canonical s) ds
 
 abbrev at_form : Settings → List TagDirective → Context
-at_form s ds = context_of (form s) ds
+at_form s ds = at_set true s ds
 
 -- layouts under settings
 abbrev pub Takes : Settings → ℕ → Layout → Type 0
 Takes s n a = AtMost s.encoding n a
 
-line_at_most : (s : Settings) (n : ℕ) → Takes s (ascii s (n + 2)) (line_at s n)
+pub line_at_most : (s : Settings) (n : ℕ) → Takes s (ascii s (n + 2)) (line_at s n)
 line_at_most s n = line_most s.encoding s.line_break n
 
 -- ---- properties
@@ -155,134 +158,95 @@ quoted_most s z at value f =
     (joined x u (k + u) (u + (k + u)) (char 34) (body ▹ char 34) (ascii_most x 34 refl) (joined x k u (k + u) body (char 34) (body_most s z at 32 value f) (ascii_most x 34 refl) (le_refl _)) (le_refl _))
     (omega arith)
 
-scalar_most : (s : Settings) (ds : List TagDirective) (at : NodePosition) (x : Scalar)
+-- A scalar in canonical form.
+pub quoted_scalar_most : (s : Settings) (ds : List TagDirective) (at : NodePosition) (x : Scalar)
     → Takes s (most_of_node (at_form s ds) (deeper s at.around) (scalar_node x))
     (scalar_layout (at_form s ds) at x)
 unfolding scalar_layout style_of scalar_text most_of_node
-scalar_most s ds at x =
+quoted_scalar_most s ds at x =
     let p = at_form s ds in
     let n = deeper s at.around in
-    let k = most_of_value (form s) n (chars x.value) in
-    let text = double_quoted (page_at (form s) at) (chars x.value) in
+    let k = most_of_value (set true s) n (chars x.value) in
+    let text = double_quoted (page_at (set true s) at) (chars x.value) in
     let mark = mark_text p x style.Double in
     let props = properties_bytes p x.anchor (scalar_tag true x) in
     joined s.encoding props (ascii s 5 + k) (props + ascii s 5 + k) (properties_text p x.anchor (scalar_tag true x)) (mark ▹ (checked n ▹ text)) (properties_most s ds x.anchor (scalar_tag true x))
     (joined s.encoding (ascii s 2) (ascii s 3 + k) (ascii s 5 + k) mark (checked n ▹ text)
     (when_most s.encoding (ascii s 2) (not (has (scalar_tag true x)) && (not x.quoted && true)) (word (33 ∷ [])) (ascii_word_most s.encoding (33 ∷ []) (ascii s 2) refl (omega arith)))
-    (joined s.encoding 0 (ascii s 3 + k) (ascii s 3 + k) (checked n) text (checked_most s.encoding 0 n) (quoted_most (form s) (form s) at (chars x.value) (λ c. le_refl _)) (omega arith))
+    (joined s.encoding 0 (ascii s 3 + k) (ascii s 3 + k) (checked n) text (checked_most s.encoding 0 n) (quoted_most (set true s) (set true s) at (chars x.value) (λ c. le_refl _)) (omega arith))
     (omega arith))
     (omega arith)
 
 -- ---- what stands between nodes
 
-turned_most : (s : Settings) (n : ℕ) → Takes s (ascii s (n + 2)) (turned (form s) n)
-unfolding turned
-turned_most s n = line_at_most s n
-
-comma_most : (s : Settings) (fresh : Bool) → Takes s (unit s.encoding) (comma fresh)
-comma_most s fresh = when_most s.encoding (unit s.encoding) (not fresh) (char 44) (ascii_most s.encoding 44 refl)
-
-parted_most : (s : Settings) (n : ℕ) (fresh : Bool)
-    → Takes s (ascii s (n + 3)) (comma fresh ▹ turned (form s) n)
-parted_most s n fresh = joined s.encoding (unit s.encoding) (ascii s (n + 2)) (ascii s (n + 3)) (comma fresh) (turned (form s) n) (comma_most s fresh) (turned_most s n) (omega arith)
-
-before_item_most : (s : Settings) (n : ℕ) (fresh : Bool)
-    → Takes s (most_of_line s n) (before_item (form s) true n fresh)
-unfolding before_item
-before_item_most s n fresh = widened s.encoding (ascii s (n + 3)) (most_of_line s n) (comma fresh ▹ turned (form s) n) (parted_most s n fresh) (omega arith)
-
-before_key_most : (s : Settings) (n : ℕ) (fresh simple : Bool)
-    → Takes s (most_of_line s n) (before_key (form s) true n fresh simple)
-unfolding before_key
-before_key_most s n fresh simple =
-    joined s.encoding (ascii s (n + 3)) (ascii s 2) (most_of_line s n) (comma fresh ▹ turned (form s) n) (when (not simple) (question true)) (parted_most s n fresh)
-    (when_most s.encoding (ascii s 2) (not simple) (question true) (ascii_word_most s.encoding (63 ∷ []) (ascii s 2) refl (omega arith)))
+indicator_most : (x : Encoding) (i : ℕ) → nat_lt i 128 ≡ true → AtMost x (unit x * 2) (indicator i)
+indicator_most x i e =
+    joined x (unit x) (unit x) (unit x * 2) gap (λ c rest. letter i ∷ rest (record { column = c.column + 1; white = false; bare = c.bare; kept = c.kept })) (gap_most x)
+    (λ m rest h c. put_most x i (unit x) m (rest (record { column = c.column + 1; white = false; bare = c.bare; kept = c.kept })) (unit_size x i e) (h (record { column = c.column + 1; white = false; bare = c.bare; kept = c.kept })))
     (omega arith)
 
-before_value_most : (s : Settings) (n : ℕ) (simple : Bool)
-    → Takes s (most_of_line s n) (before_value (form s) true n simple)
+turned_most : (canonical : Bool) (s : Settings) (n : ℕ) → Takes s (ascii s (n + 2))
+    (turned (set canonical s) n)
+unfolding turned
+turned_most true s n = line_at_most s n
+turned_most false s n = choose_most s.encoding (ascii s (n + 2)) (is_past s.width) (line s.line_break n) stay (line_at_most s n) (stay_most s.encoding (ascii s (n + 2)))
+
+parted_most : (canonical : Bool) (s : Settings) (n : ℕ) (fresh : Bool)
+    → Takes s (ascii s (n + 3)) (comma fresh ▹ turned (set canonical s) n)
+parted_most canonical s n fresh = joined s.encoding (unit s.encoding) (ascii s (n + 2)) (ascii s (n + 3)) (comma fresh) (turned (set canonical s) n) (when_most s.encoding (unit s.encoding) (not fresh) (char 44) (ascii_most s.encoding 44 refl)) (turned_most canonical s n) (omega arith)
+
+-- What stands before an item.
+pub before_item_most : (canonical : Bool) (s : Settings) (flow : Bool) (n : ℕ) (fresh : Bool)
+    → Takes s (most_of_line s n) (before_item (set canonical s) flow n fresh)
+unfolding before_item
+before_item_most canonical s true n fresh = widened s.encoding (ascii s (n + 3)) (most_of_line s n) (comma fresh ▹ turned (set canonical s) n) (parted_most canonical s n fresh) (omega arith)
+before_item_most canonical s false n fresh = joined s.encoding (ascii s (n + 2)) (ascii s 2) (most_of_line s n) (line s.line_break n) (indicator 45) (line_at_most s n) (indicator_most s.encoding 45 refl) (omega arith)
+
+question_most : (s : Settings) (flow : Bool) → Takes s (ascii s 2) (question flow)
+question_most s true = ascii_word_most s.encoding (63 ∷ []) (ascii s 2) refl (omega arith)
+question_most s false = indicator_most s.encoding 63 refl
+
+-- What stands before a key.
+pub before_key_most : (canonical : Bool) (s : Settings) (flow : Bool) (n : ℕ) (fresh simple : Bool)
+    → Takes s (most_of_line s n) (before_key (set canonical s) flow n fresh simple)
+unfolding before_key
+before_key_most canonical s true n fresh simple =
+    joined s.encoding (ascii s (n + 3)) (ascii s 2) (most_of_line s n) (comma fresh ▹ turned (set canonical s) n) (when (not simple) (question true)) (parted_most canonical s n fresh)
+    (when_most s.encoding (ascii s 2) (not simple) (question true) (question_most s true)) (omega arith)
+before_key_most canonical s false n fresh simple =
+    joined s.encoding (ascii s (n + 2)) (ascii s 2) (most_of_line s n) (line s.line_break n) (when (not simple) (question false)) (line_at_most s n)
+    (when_most s.encoding (ascii s 2) (not simple) (question false) (question_most s false)) (omega arith)
+
+-- What stands before a value.
+pub before_value_most : (canonical : Bool) (s : Settings) (flow : Bool) (n : ℕ) (simple : Bool)
+    → Takes s (most_of_line s n) (before_value (set canonical s) flow n simple)
 unfolding before_value
-before_value_most s n true = widened s.encoding (unit s.encoding) (most_of_line s n) (char 58) (ascii_most s.encoding 58 refl) (omega arith)
-before_value_most s n false =
-    joined s.encoding (ascii s (n + 2)) (ascii s 2) (most_of_line s n) (turned (form s) n) (word (58 ∷ [])) (turned_most s n)
+before_value_most canonical s true n true = widened s.encoding (unit s.encoding) (most_of_line s n) (char 58) (ascii_most s.encoding 58 refl) (omega arith)
+before_value_most canonical s false n true = widened s.encoding (unit s.encoding) (most_of_line s n) (char 58) (ascii_most s.encoding 58 refl) (omega arith)
+before_value_most canonical s true n false =
+    joined s.encoding (ascii s (n + 2)) (ascii s 2) (most_of_line s n) (turned (set canonical s) n) (word (58 ∷ [])) (turned_most canonical s n)
     (ascii_word_most s.encoding (58 ∷ []) (ascii s 2) refl (omega arith)) (omega arith)
+before_value_most canonical s false n false =
+    joined s.encoding (ascii s (n + 2)) (ascii s 2) (most_of_line s n) (line s.line_break n) (indicator 58) (line_at_most s n) (indicator_most s.encoding 58 refl) (omega arith)
 
 outer_line_most : (s : Settings) (n : ℕ)
-    → Takes s (ascii s (n + 3)) (char 44 ▹ line_at (form s) (n - s.indent))
+    → Takes s (ascii s (n + 3)) (char 44 ▹ line_at (set true s) (n - s.indent))
 outer_line_most s n =
     let u = unit s.encoding in
     let j : u * (n - s.indent) ≤ u * n = mul-le-mul_left u (sub-le n s.indent) in
-    joined s.encoding u (ascii s ((n - s.indent) + 2)) (ascii s (n + 3)) (char 44) (line_at (form s) (n - s.indent)) (ascii_most s.encoding 44 refl) (line_at_most s (n - s.indent)) (omega arith)
+    joined s.encoding u (ascii s ((n - s.indent) + 2)) (ascii s (n + 3)) (char 44) (line_at (set true s) (n - s.indent)) (ascii_most s.encoding 44 refl) (line_at_most s (n - s.indent)) (omega arith)
 
-closer_most : (s : Settings) (n : ℕ) (fresh : Bool) (i : ℕ) → nat_lt i 128 ≡ true
-    → Takes s (most_of_line s n) (closer (form s) true n fresh i)
+-- What closes a collection.
+pub closer_most : (canonical : Bool) (s : Settings) (flow : Bool) (n : ℕ) (fresh : Bool) (i : ℕ)
+    → nat_lt i 128 ≡ true → Takes s (most_of_line s n) (closer (set canonical s) flow n fresh i)
 unfolding closer
-closer_most s n fresh i e =
-    let due = char 44 ▹ line_at (form s) (n - s.indent) in
+closer_most true s true n fresh i e =
+    let due = char 44 ▹ line_at (set true s) (n - s.indent) in
     joined s.encoding (ascii s (n + 3)) (unit s.encoding) (most_of_line s n) (when (not fresh) due) (char i) (when_most s.encoding (ascii s (n + 3)) (not fresh) due (outer_line_most s n))
     (ascii_most s.encoding i e) (omega arith)
-
--- ---- nodes
-
--- what opens a collection, and what it holds
-opened_most : (s : Settings) (ds : List TagDirective) (anchor tag : Option (List ℕ)) (i n k : ℕ)
-    (held : Layout) → nat_lt i 128 ≡ true → Takes s k held
-    → Takes s (properties_bytes (at_form s ds) anchor tag + ascii s 2 + k)
-    (properties_text (at_form s ds) anchor tag ▹ (opener i ▹ (checked n ▹ held)))
-opened_most s ds anchor tag i n k held e h =
-    let props = properties_bytes (at_form s ds) anchor tag in
-    joined s.encoding props (ascii s 2 + k) (props + ascii s 2 + k) (properties_text (at_form s ds) anchor tag) (opener i ▹ (checked n ▹ held)) (properties_most s ds anchor tag)
-    (joined s.encoding (ascii s 2) k (ascii s 2 + k) (opener i) (checked n ▹ held) (opener_most s.encoding i e)
-    (joined s.encoding 0 k k (checked n) held (checked_most s.encoding 0 n) h (omega arith)) (le_refl _))
-    (omega arith)
-
-mutual
-  unfolding node_layout items_layout pairs_layout most_of_node most_of_items most_of_pairs
-
-  node_is : (s : Settings) (ds : List TagDirective) (at : NodePosition) (n : Node)
-      → Takes s (most_of_node (at_form s ds) (deeper (form s) at.around) n)
-      (node_layout (at_form s ds) at n)
-  node_is s ds at (alias_node name) = alias_most s at name
-  node_is s ds at (scalar_node x) = scalar_most s ds at x
-  node_is s ds at (sequence_node q items) =
-      let n = deeper (form s) at.around in
-      opened_most s ds q.anchor (start_tag true q) 91 n (most_of_items (at_form s ds) n items) (items_layout (at_form s ds) true n true items) refl (items_are s ds n true items)
-  node_is s ds at (mapping_node q pairs) =
-      let n = deeper (form s) at.around in
-      opened_most s ds q.anchor (start_tag true q) 123 n (most_of_pairs (at_form s ds) n pairs) (pairs_layout (at_form s ds) true n true pairs) refl (pairs_are s ds n true pairs)
-
-  items_are : (s : Settings) (ds : List TagDirective) (n : ℕ) (fresh : Bool) (ns : Nodes)
-      → Takes s (most_of_items (at_form s ds) n ns) (items_layout (at_form s ds) true n fresh ns)
-  items_are s ds n fresh no_nodes = closer_most s n fresh 93 refl
-  items_are s ds n fresh (node x xs) =
-      let p = at_form s ds in
-      let a = node_layout p (position true n part.Item) x in
-      let more = items_layout p true n false xs in
-      let i = most_of_node p (n + s.indent) x in
-      let j = most_of_items p n xs in
-      let l = most_of_line s n in
-      joined s.encoding l (i + j) (l + i + j) (before_item (form s) true n fresh) (a ▹ more) (before_item_most s n fresh)
-      (joined s.encoding i j (i + j) a more (node_is s ds (position true n part.Item) x) (items_are s ds n false xs) (le_refl _)) (omega arith)
-
-  pairs_are : (s : Settings) (ds : List TagDirective) (n : ℕ) (fresh : Bool) (ps : Pairs)
-      → Takes s (most_of_pairs (at_form s ds) n ps) (pairs_layout (at_form s ds) true n fresh ps)
-  pairs_are s ds n fresh no_pairs = closer_most s n fresh 125 refl
-  pairs_are s ds n fresh (pair k v ps) =
-      let p = at_form s ds in
-      let simple = is_simple p k in
-      let key = node_layout p (position true n (key_part simple)) k in
-      let value = node_layout p (position true n part.Value) v in
-      let more = pairs_layout p true n false ps in
-      let colon = before_value (form s) true n simple in
-      let i = most_of_node p (n + s.indent) k in
-      let j = most_of_node p (n + s.indent) v in
-      let m = most_of_pairs p n ps in
-      let l = most_of_line s n in
-      joined s.encoding l (i + (l + (j + m))) (l + i + l + j + m) (before_key (form s) true n fresh simple) (key ▹ (colon ▹ (value ▹ more))) (before_key_most s n fresh simple)
-      (joined s.encoding i (l + (j + m)) (i + (l + (j + m))) key (colon ▹ (value ▹ more)) (node_is s ds (position true n (key_part simple)) k)
-      (joined s.encoding l (j + m) (l + (j + m)) colon (value ▹ more) (before_value_most s n simple)
-      (joined s.encoding j m (j + m) value more (node_is s ds (position true n part.Value) v) (pairs_are s ds n false ps) (le_refl _)) (le_refl _)) (le_refl _))
-      (omega arith)
+closer_most false s true n fresh i e =
+    joined s.encoding 0 (unit s.encoding) (most_of_line s n) stay (char i) (stay_most s.encoding 0) (ascii_most s.encoding i e) (omega arith)
+closer_most canonical s false n fresh i e = stay_most s.encoding (most_of_line s n)
 
 -- ---- documents
 
@@ -357,44 +321,3 @@ pub stop_most : (s : Settings) (unended : Bool) → Takes s (ascii s 6) (stop_la
 unfolding stop_layout
 stop_most s unended =
     when_most s.encoding (ascii s 6) unended (choose is_kept (dots s) stay) (choose_most s.encoding (ascii s 6) is_kept (dots s) stay (dots_most s) (stay_most s.encoding (ascii s 6)))
-
-documents_are : (s : Settings) (first unended : Bool) (ds : List Document)
-    → Takes s (ascii s 6 + most_of_documents (form s) ds)
-    (documents_layout (form s) first unended ds)
-unfolding documents_layout most_of_documents
-documents_are s first unended [] = widened s.encoding (ascii s 6) (ascii s 6 + 0) (stop_layout (form s) unended) (stop_most (form s) unended) (omega arith)
-documents_are s first unended (d ∷ ds) =
-    let x = s.encoding in
-    let t = directives_bytes (form s) d.opening.directives in
-    let n = most_of_node (at_form s d.opening.directives) s.indent d.root in
-    let m = most_of_documents (form s) ds in
-    let root = node_layout (at_form s d.opening.directives) root_position d.root in
-    let ended = end_layout (form s) d.implicit_end in
-    let left = documents_layout (form s) false d.implicit_end ds in
-    joined x (ascii s 26 + t) (n + (ascii s 8 + (ascii s 6 + m))) (ascii s 6 + (ascii s 34 + t + n + m)) (start_layout (form s) first unended d.opening) (root ▹ (ended ▹ left))
-    (start_most (form s) first unended d.opening)
-    (joined x n (ascii s 8 + (ascii s 6 + m)) (n + (ascii s 8 + (ascii s 6 + m))) root (ended ▹ left) (node_is s d.opening.directives root_position d.root)
-    (joined x (ascii s 8) (ascii s 6 + m) (ascii s 8 + (ascii s 6 + m)) ended left (end_most (form s) d.implicit_end) (documents_are s false d.implicit_end ds) (le_refl _)) (le_refl _))
-    (omega arith)
-
-stream_most : (s : Settings) (ds : List Document)
-    → Takes s (most_bytes (form s) ds) (stream_layout (form s) ds)
-unfolding stream_layout
-stream_most s ds =
-    joined s.encoding (unit s.encoding) (ascii s 6 + most_of_documents (form s) ds) (most_bytes (form s) ds) (order_mark s.encoding) (documents_layout (form s) true false ds)
-    (mark_most s.encoding) (documents_are s true false ds) (omega arith)
-
--- of the whole text
-form_size : (s : Settings) (ds : List Document)
-    → size s.encoding (written (stream_layout (form s) ds)) ≤ most_bytes (form s) ds
-unfolding encode
-form_size s ds =
-    let i : size s.encoding (written (stream_layout (form s) ds)) ≤ most_bytes (form s) ds + 0 = stream_most s ds 0 nothing_more (λ c. (le_refl _)) start in
-    omega arith
-
-form_is : (s : Settings) → s.canonical ≡ true → form s ≡ s
-form_is s e = ap (λ (c : Bool). record s { canonical = c }) (sym e)
-
-pub canonical_size : (s : Settings) → s.canonical ≡ true → (ds : List Document)
-    → size s.encoding (written (stream_layout s ds)) ≤ most_bytes s ds
-canonical_size s e ds = subst (λ (z : Settings). size z.encoding (written (stream_layout z ds)) ≤ most_bytes z ds) (form_is s e) (form_size s ds)

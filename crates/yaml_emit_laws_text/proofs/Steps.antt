@@ -1,13 +1,12 @@
 -- Gaps, lines and words, one after another.
-use Rattle.std.proofs.Common.{◌≡◌, ◌≢◌, ℕ, zero, suc, ◌+◌, ◌-◌, ◌==◌, ◌&&◌, ◌||◌, nat_lt, Bool, true, false, List, [], ◌∷◌, ◌++◌, length, Some, Ok, refl, ap, subst, ◌∙◌, inl, inr, arith, add-zero}
-use Rattle.std.specs.Prelude.{if◌then◌else◌}
+use Rattle.std.proofs.Common.{◌≡◌, ◌≢◌, ℕ, zero, suc, ◌+◌, ◌-◌, ◌==◌, ◌&&◌, ◌||◌, nat_lt, Bool, true, false, List, [], ◌∷◌, ◌++◌, length, Some, Ok, refl, ap, subst, ◌∙◌, inl, inr, arith, add-zero, if◌then◌else◌}
 use Rattle.std.proofs.lemmas.Bool.{cases_Bool}
 use Rattle.std.proofs.lemmas.Bool.Decides.{nat_tests}
 use Rattle.std.proofs.Math.Bool.{and-false}
 use Rattle.yaml_emit_laws_text.specs.scan_history.scan_model.Marks.{byte, break_of, ends_of}
 use Rattle.yaml_emit_laws_text.specs.scan_history.scan_words.Between.{Gap}
 use Rattle.yaml_emit_laws_text.specs.scan_history.scan_words.Indicators.{is_document_start, is_document_end}
-use Rattle.yaml_emit_laws_text.specs.scan_history.scan_words.Written.{are_gap, begins_lexeme}
+use Rattle.yaml_scan_laws_texts.specs.scan_history.scan_words.Written.{are_gap, begins_lexeme}
 use Rattle.yaml_emit_laws_text.specs.scan_history.scan_words.Laws.{GapReads}
 use Rattle.yaml_emit_laws_text.specs.scan_history.declared.kind.Kind.{Kind}
 use Rattle.yaml_emit_laws_text.specs.scan_history.Kinds.{depth_after, is_end}
@@ -19,9 +18,9 @@ use Rattle.yaml_emit_laws_text.specs.scan_model.Tokens.{TokenBody}
 use Rattle.yaml_emit_laws_text.specs.emit_layout.emit_text.declared.Cursor.{Cursor}
 use Rattle.yaml_emit_laws_text.specs.emit_layout.emit_text.declared.LineBreak.{LineBreak}
 use Rattle.yaml_emit_laws_text.specs.emit_layout.emit_text.declared.LineBreak.TheVariants.{Lf, Cr, CrLf}
-use Rattle.yaml_emit_laws_text.specs.emit_layout.emit_text.Text.{Item, letter, encode, char_bytes}
+use Rattle.yaml_emit_layout.specs.emit_text.Text.{Item, letter, encode, char_bytes}
 use Rattle.yaml_emit_laws_text.specs.emit_layout.emit_text.Layout.{Layout, Rest, ◌▹◌, gap, blank, line, blanks, new_line, indent_to, must_break}
-use Rattle.yaml_emit_laws_text.specs.emit_layout.Nodes.{checked, deep_if, MOST}
+use Rattle.yaml_emit_layout.specs.Nodes.{checked, deep_if, MOST}
 use Rattle.yaml_emit_laws_text.specs.Walk.{Left, Starts, WordStage, bytes, GoesBehindWords, Walks}
 use Rattle.yaml_emit_laws_text.proofs.Places.{has_both, has_at, left_first, left_more}
 use Rattle.yaml_scan_laws_texts.proofs.MarksLemmas.{column_end}
@@ -117,17 +116,14 @@ blanks_here (suc n) text c p ws d rest s l =
     let t = gap_byte text c (record { column = c.column + 1; white = true; bare = c.bare; kept = c.kept }) p 32 ws d refl (left_first text p 32 _ m) (λ z. absurd (not_start c.column z)) refl s in
     blanks_here n text _ (p + 1) ws d rest t (left_more text p 32 _ m)
 
-feed_ends : (x y c : ℕ) → ends_of x y 10 c ≡ true
-unfolding ends_of
-feed_ends x y c = refl
-
 return_ends : (x y c : ℕ) → c ≢ 10 → ends_of x y 13 c ≡ true
 unfolding ends_of
 return_ends x y c h = let e : (c == 10) ≡ false = grind (arith, nat_tests) in rw e refl
 
 -- A line starts behind a line feed.
 pub behind_feed : (text : List ℕ) (p : ℕ) → byte text p ≡ 10 → Starts text (p + 1)
-behind_feed text p h n = column_end text p (rw h (feed_ends _ _ _))
+unfolding ends_of
+behind_feed text p h n = column_end text p (rw h refl)
 
 -- A line starts behind a carriage return.
 pub behind_return : (text : List ℕ) (p : ℕ) → byte text p ≡ 13 → Starts text (p + 1)

@@ -1,7 +1,6 @@
 -- Directives that are written are read.
-use Rattle.std.proofs.Common.{◌≡◌, ℕ, ◌+◌, true, List, ◌∷◌, ◌++◌, length, Ok, ap, subst, ◌∙◌, arith}
-use Rattle.std.specs.Prelude.{codes}
-use Rattle.yaml_scan_scalars.specs.scan_model.Marks.{break_width}
+use Rattle.std.proofs.Common.{◌≡◌, ℕ, ◌+◌, true, List, ◌∷◌, ◌++◌, length, Ok, ap, subst, ◌∙◌, arith, codes}
+use Rattle.yaml_emit_laws_text.specs.scan_history.scan_model.Marks.{break_width}
 use Rattle.yaml_scan_scalars.specs.scan_model.Classes.{is_break}
 use Rattle.yaml_scan_laws_texts.specs.scan_history.scan_words.Directives as directives
 use Rattle.yaml_scan_laws_texts.specs.scan_history.scan_words.Directives.{directive_at}

@@ -1,6 +1,5 @@
 -- Spelled tags are read.
-use Rattle.std.proofs.Common.{◌≡◌, inl, inr, ℕ, suc, ◌+◌, ◌<◌, Bool, true, false, List, [], ◌∷◌, ◌++◌, length, Ok, refl, sym, ap, subst, ◌∙◌, arith, append_assoc, length-append}
-use Rattle.std.specs.Str.{IsUtf8}
+use Rattle.std.proofs.Common.{◌≡◌, inl, inr, ℕ, suc, ◌+◌, ◌<◌, Bool, true, false, List, [], ◌∷◌, ◌++◌, length, Ok, refl, sym, ap, subst, ◌∙◌, arith, append_assoc, length-append, IsUtf8}
 use Rattle.yaml_scan_laws_texts.specs.scan_history.scan_words.Tags.{TagText, tag_at, may_end_tag}
 use Rattle.yaml_scan_laws_texts.specs.scan_history.scan_words.Written as written
 use Rattle.yaml_scan_laws_texts.specs.scan_history.scan_words.Written.{HasAt, are_alphas, uri_bytes}
@@ -62,13 +61,6 @@ verbatim_text uri = 33 ∷ 60 ∷ (uri ++ bracket)
 bare_length : (uri : List ℕ) → length (bare_text uri) ≡ suc (length uri)
 bare_length uri = refl
 
-named_length : (name uri : List ℕ)
-    → length (named_text name uri) ≡ suc (length name + suc (length uri))
-named_length name uri = ap suc (length-append name (bare_text uri))
-
-verbatim_length : (uri : List ℕ) → length (verbatim_text uri) ≡ suc (suc (length uri + 1))
-verbatim_length uri = ap (λ (n : ℕ). suc (suc n)) (length-append uri bracket)
-
 bare_read : (suffix : List ℕ) → IsUtf8 suffix → 0 < length suffix
     → ReadsBehind bare_handle suffix (bare_text (uri_text false suffix))
 bare_read suffix utf8 some flow text p h stop =
@@ -85,7 +77,7 @@ named_read : (name suffix : List ℕ) → are_alphas name ≡ true → IsUtf8 su
 named_read name suffix alphas utf8 some flow text p h stop =
     let s = spelt false suffix some in
     let long = s.long in
-    let one = named_length name (uri_text false suffix) in
+    let one = ap suc (length-append name (bare_text (uri_text false suffix))) in
     let e : p + length (named_text name (uri_text false suffix)) ≡ p + 2 + length name + length (written.uri_text (pieces_of false suffix)) = omega (arith, long, one) in
     let there = subst (λ (x : List ℕ). HasAt text p (named_text name x)) (sym s.text) h in
     named_is_read flow text p name (pieces_of false suffix) there alphas s.some (text_uri false suffix utf8) (ends_so flow text _ _ e stop)
@@ -96,21 +88,18 @@ verbatim_read : (tag : List ℕ) → IsUtf8 tag → 0 < length tag
 verbatim_read tag utf8 some flow text p h stop =
     let s = spelt true tag some in
     let long = s.long in
-    let one = verbatim_length (uri_text true tag) in
+    let one = ap (λ (n : ℕ). suc (suc n)) (length-append (uri_text true tag) bracket) in
     let e : p + length (verbatim_text (uri_text true tag)) ≡ p + 3 + length (written.uri_text (pieces_of true tag)) = omega (arith, long, one) in
     let there = subst (λ (x : List ℕ). HasAt text p (verbatim_text x)) (sym s.text) h in
     verbatim_is_read flow text p (pieces_of true tag) there s.some (text_uri true tag utf8) (ends_so flow text _ _ e stop)
     ∙ ap (λ (t : TagText). Ok t) (tag_same [] (uri_bytes (pieces_of true tag)) tag _ _ s.bytes (sym e))
-
-named_grouped : (name uri : List ℕ) → named_text name uri ≡ named_handle name ++ uri
-named_grouped name uri = ap bare_text (sym (append_assoc name bare_handle uri))
 
 shorthand_read : (handle suffix : List ℕ) → IsShaped handle → IsUtf8 suffix → 0 < length suffix
     → ReadsBehind handle suffix (handle ++ uri_text false suffix)
 shorthand_read handle suffix (inl e) utf8 some =
     subst (λ (h : List ℕ). ReadsBehind h suffix (h ++ uri_text false suffix)) (sym e) (bare_read suffix utf8 some)
 shorthand_read handle suffix (inr (name, e, alphas)) utf8 some =
-    let read = subst (λ (x : List ℕ). ReadsBehind (named_handle name) suffix x) (named_grouped name (uri_text false suffix)) (named_read name suffix alphas utf8 some) in
+    let read = subst (λ (x : List ℕ). ReadsBehind (named_handle name) suffix x) (ap bare_text (sym (append_assoc name bare_handle (uri_text false suffix)))) (named_read name suffix alphas utf8 some) in
     subst (λ (h : List ℕ). ReadsBehind h suffix (h ++ uri_text false suffix)) (sym e) read
 
 -- A tag that is written by handle and suffix reads back as these.

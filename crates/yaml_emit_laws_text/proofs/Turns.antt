@@ -1,11 +1,10 @@
 -- How escapes and ends of lines are read inside the quotes.
-use Rattle.std.proofs.Common.{◌≡◌, ◌≢◌, ℕ, zero, suc, ◌+◌, ◌<◌, true, false, ◌&&◌, ◌==◌, nat_lt, List, [], ◌∷◌, ◌++◌, length, replicate, Some, refl, sym, ap, subst, ◌∙◌, inl, inr, arith, add-zero, append_assoc, append-nil, encode_utf8}
+use Rattle.std.proofs.Common.{◌≡◌, ◌≢◌, ℕ, zero, suc, ◌+◌, ◌<◌, true, false, ◌&&◌, ◌==◌, nat_lt, List, [], ◌∷◌, ◌++◌, length, replicate, Some, refl, sym, ap, subst, ◌∙◌, inl, inr, arith, add-zero, append_assoc, append-nil, encode_utf8, length-append}
 use Rattle.std.proofs.lemmas.Bool.Decides.{nat_tests}
-use Rattle.std.proofs.lemmas.List.{length-append}
 use Rattle.std.proofs.lemmas.Bool.{and_parts, not-true, lt-ltb}
 use lib.Utf8.{scalar, scalar_cases}
-use Rattle.yaml_scan_scalars.specs.scan_model.Marks.{byte, break_of, break_width, column_at}
-use Rattle.yaml_scan_scalars.specs.scan_model.Breaks.{break_value, is_document_indicator}
+use Rattle.yaml_emit_laws_text.specs.scan_history.scan_model.Marks.{byte, break_of, break_width, column_at}
+use Rattle.yaml_scan_scalars.specs.scan_model.Breaks.{break_value}
 use Rattle.yaml_scan_scalars.specs.Pieces.{Piece, Kept, Blank, Break}
 use Rattle.yaml_scan_scalars.specs.Quoted.{Pieces, hex_value, hex_len, simple_escape, is_scalar, escape_at, standing_at}
 use Rattle.yaml_emit_laws_text.specs.Spelling.{LineEnd, feed, return, return_feed, next_line, line_separator, paragraph_separator, end_bytes, end_means, LineTurn, turn_bytes, is_return, is_feed_end, may_turn, number_behind}
@@ -117,22 +116,11 @@ end_some next_line = omega arith
 end_some line_separator = omega arith
 end_some paragraph_separator = omega arith
 
-break_standing : (quote : ℕ) (text : List ℕ) (p b n : ℕ) (bs : List ℕ)
-    → is_document_indicator text p ≡ false → byte text p ≡ b → (b == 0) ≡ false
-    → (b == quote) ≡ false → break_width text p ≡ n → nat_lt 0 n ≡ true → break_value text p ≡ bs
-    → standing_at quote text p ≡ Pieces (Break bs ∷ []) (p + n)
-unfolding standing_at
-break_standing quote text p b n bs i e z q w some v = rw (i, w, v, e, z, q, some) refl
-
 end_standing : (quote : ℕ) (text : List ℕ) (p : ℕ) (e : LineEnd) → IsQuote quote → EndAt text p e
     → standing_at quote text p ≡ Pieces (Break (end_means e) ∷ []) (p + length (end_bytes e))
+unfolding standing_at
 end_standing quote text p e q a =
-    break_standing quote text p a.first (length (end_bytes e)) (end_means e) (no_mark text p a.first a.is a.no_dash a.no_dot) a.is a.some (no_quote quote a.first q a.no_double a.no_single) a.width (lt-ltb 0 (length (end_bytes e)) (end_some e)) a.read
-
-joint_standing : (text : List ℕ) (p n : ℕ) → break_width text (p + 1) ≡ n → nat_lt 0 n ≡ true
-    → escape_at text p ≡ Pieces (Kept [] ∷ Break [] ∷ []) (p + 1 + n)
-unfolding escape_at
-joint_standing text p n w some = rw (w, some) refl
+    (rw ((no_mark text p a.first a.is a.no_dash a.no_dot), a.width, a.read, a.is, a.some, (no_quote quote a.first q a.no_double a.no_single), (lt-ltb 0 (length (end_bytes e)) (end_some e))) refl)
 
 -- CR has no LF behind it
 spaces_first : (text : List ℕ) (p n : ℕ) (xs : List ℕ) → Has text p (replicate (suc n) 32 ++ xs)
@@ -273,12 +261,12 @@ fold_through quote text p t ts q m h =
 pub joint_through : (text : List ℕ) (p : ℕ) (t : LineTurn) (ts : List LineTurn)
     → 0 < column_at text p → may_turn t ts ≡ true → Has text p (92 ∷ turn_bytes (t ∷ ts))
     → Through 34 text p (Kept [] ∷ turn_read [] t ts) (p + length (92 ∷ turn_bytes (t ∷ ts)))
-unfolding turn_bytes
+unfolding turn_bytes escape_at
 joint_through text p t ts c m (e, h) =
     let some = end_some t.end in
     let at = turn_at text (p + 1) t ts m h in
     let all : length (end_bytes t.end ++ after_end t ts) ≡ length (end_bytes t.end) + length (after_end t ts) = length-append (end_bytes t.end) (after_end t ts) in
-    let st = backslash text p c e ∙ joint_standing text p (length (end_bytes t.end)) at.width (lt-ltb 0 (length (end_bytes t.end)) some) in
+    let st = backslash text p c e ∙ (rw (at.width, (lt-ltb 0 (length (end_bytes t.end)) some)) refl) in
     through_at 34 text p (p + 1 + length (end_bytes t.end) + length (after_end t ts)) _ _ (omega (arith, all))
     (first_through 34 text p (p + 1 + length (end_bytes t.end)) (Kept [] ∷ Break [] ∷ []) t ts (inl refl) m st (omega (arith, some))
     (has_rest text (p + 1) (end_bytes t.end) (after_end t ts) h))

@@ -1,10 +1,9 @@
 -- What a spelling is read as, piece by piece, has the value that it means.
-use Rattle.std.proofs.Common.{◌≡◌, ℕ, zero, suc, ◌<◌, Bool, true, false, cond, List, [], ◌∷◌, ◌++◌, map, refl, sym, ap, subst, ◌∙◌, inl, inr, arith, append_assoc, encode_utf8, replicate}
-use Rattle.std.specs.Prelude.{if◌then◌else◌}
+use Rattle.std.proofs.Common.{◌≡◌, ℕ, zero, suc, Bool, true, false, cond, List, [], ◌∷◌, ◌++◌, map, refl, sym, ap, subst, ◌∙◌, inl, inr, arith, append_assoc, encode_utf8, replicate, if◌then◌else◌}
 use Rattle.std.proofs.lemmas.Bool.{cases_Bool, cases_lt}
 use Rattle.std.proofs.lemmas.Str.{encode_ascii}
 use Rattle.std.proofs.lemmas.Bool.Decides.{nat_tests}
-use Rattle.yaml_scan_scalars.specs.scan_model.Marks.{is_blank}
+use Rattle.yaml_emit_laws_text.specs.scan_history.scan_model.Marks.{is_blank}
 use Rattle.yaml_scan_scalars.specs.Pieces.{Piece, Kept, Blank, Break, Line, lines, is_empty, gap, Rest, rest_of, folded, value}
 use Rattle.yaml_scan_scalars.proofs.FoldingLemmas.{value-kept, rest_of-blank}
 use Rattle.yaml_emit_laws_text.specs.Spelling.{end_means, LineTurn, turn_means, QuotedPart, raw, doubled, named, numbered, fold, joint, meant, meaning, IsSpelling, may_follow, may_be_next, is_raw_blank, is_fold, is_turn}
@@ -68,9 +67,6 @@ folded_blank b l (next ∷ ls) h =
       | inr e ↦ rw e refl
     ]
 
-value_blank : (b : ℕ) (ps : List Piece) → IsFirm ps → value (Blank b ∷ ps) ≡ b ∷ value ps
-value_blank b ps h = folded_blank b (lines ps).first (lines ps).others h
-
 -- the pieces begin with one that stays
 record Front (ps : List Piece) : Type 0 where
   bytes : List ℕ
@@ -98,9 +94,6 @@ encoded_front c =
       ]
     ]
 
-keeps_front : (bs : List ℕ) → SomeBytes bs → Front (keeps bs)
-keeps_front bs s = record { bytes = s.byte ∷ []; rest = keeps s.rest; is = ap (λ (t : List ℕ). keeps t) s.is }
-
 -- A blank that is written as it is reads as a blank.
 pub read_blank : (c : ℕ) → is_blank c ≡ true → read_as (raw c) ≡ Blank c ∷ []
 read_blank c e = cond_true (is_blank c) (Blank c ∷ []) (keeps (encode_utf8 c)) e
@@ -113,7 +106,7 @@ front_same : (ps qs : List Piece) → ps ≡ qs → Front qs → Front ps
 front_same ps qs e f = record { bytes = f.bytes; rest = f.rest; is = e ∙ f.is }
 
 part_front : (p : QuotedPart) → is_fold p ≡ false → is_raw_blank p ≡ false → Front (read_as p)
-part_front (raw c) f b = front_same _ _ (read_kept c b) (keeps_front (encode_utf8 c) (encoded_front c))
+part_front (raw c) f b = front_same _ _ (read_kept c b) (record { bytes = (encoded_front c).byte ∷ []; rest = keeps (encoded_front c).rest; is = ap (λ (t : List ℕ). keeps t) (encoded_front c).is })
 part_front doubled f b = record { bytes = 39 ∷ []; rest = []; is = refl }
 part_front (named k bytes) f b = record { bytes = bytes; rest = []; is = refl }
 part_front (numbered k digits c) f b = record { bytes = encode_utf8 c; rest = []; is = refl }
@@ -122,9 +115,6 @@ part_front (joint t ts) f b = record { bytes = []; rest = turn_read [] t ts; is 
 
 firm_front : (ps qs : List Piece) → Front ps → IsFirm (ps ++ qs)
 firm_front ps qs f = subst (λ (t : List Piece). IsFirm (t ++ qs)) (sym f.is) (λ e. absurd (cc))
-
-firm_blank : (b : ℕ) (ps : List Piece) → IsFirm ps → IsFirm (Blank b ∷ ps)
-firm_blank b ps h = h
 
 follow_blank : (p q : QuotedPart) → is_raw_blank p ≡ true → may_follow p q ≡ true
     → is_fold q ≡ false
@@ -148,7 +138,7 @@ firm quote p (q ∷ ps) b next (stand, later, more) =
   where
     firm_raw : (q : QuotedPart) → is_raw_blank q ≡ true → IsFirm (all_read_as ps)
         → IsFirm (read_as q ++ all_read_as ps)
-    firm_raw (raw c) e h = subst (λ (t : List Piece). IsFirm (t ++ all_read_as ps)) (sym (read_blank c e)) (firm_blank c (all_read_as ps) h)
+    firm_raw (raw c) e h = subst (λ (t : List Piece). IsFirm (t ++ all_read_as ps)) (sym (read_blank c e)) (h)
     firm_raw doubled e h = absurd (cc)
     firm_raw (named k bytes) e h = absurd (cc)
     firm_raw (numbered k digits c) e h = absurd (cc)
@@ -214,24 +204,17 @@ gap_joint (b ∷ bs) = refl
 
 -- ---- all parts
 
-blank_small : (c : ℕ) → is_blank c ≡ true → c < 128
-blank_small c h = grind (arith, nat_tests)
-
-raw_value : (c : ℕ) (ps : List Piece) → is_blank c ≡ false
-    → value (read_as (raw c) ++ ps) ≡ encode_utf8 c ++ value ps
-raw_value c ps e = ap (λ (t : List Piece). value (t ++ ps)) (read_kept c e) ∙ value_keeps (encode_utf8 c) ps
-
 blank_value : (c : ℕ) (ps : List Piece) → is_blank c ≡ true → IsFirm ps
     → value (read_as (raw c) ++ ps) ≡ encode_utf8 c ++ value ps
 blank_value c ps e f =
-    ap (λ (t : List Piece). value (t ++ ps)) (read_blank c e) ∙ value_blank c ps f ∙ ap (λ (t : List ℕ). t ++ value ps) (sym (encode_ascii c (blank_small c e)))
+    ap (λ (t : List Piece). value (t ++ ps)) (read_blank c e) ∙ (folded_blank c (lines ps).first (lines ps).others f) ∙ ap (λ (t : List ℕ). t ++ value ps) (sym (encode_ascii c (grind (arith, nat_tests))))
 
 part_value : (quote : ℕ) (p : QuotedPart) (ps : List QuotedPart) → may_be_next p ps ≡ true
     → IsSpelling quote ps → value (read_as p ++ all_read_as ps) ≡ meant p ++ value (all_read_as ps)
 part_value quote (raw c) ps next h =
     elim (cases_Bool (is_blank c)) [
       | inl e ↦ blank_value c (all_read_as ps) e (firm quote (raw c) ps e next h)
-      | inr e ↦ raw_value c (all_read_as ps) e
+      | inr e ↦ (ap (λ (t : List Piece). value (t ++ (all_read_as ps))) (read_kept c e) ∙ value_keeps (encode_utf8 c) (all_read_as ps))
     ]
 part_value quote doubled ps next h = value-kept [] (39 ∷ []) (all_read_as ps)
 part_value quote (named b bytes) ps next h = value-kept [] bytes (all_read_as ps)

@@ -1,19 +1,17 @@
 -- The words of canonical layout.
-use Rattle.std.proofs.Common.{◌≡◌, ℕ, suc, ◌+◌, ◌-◌, ◌<◌, ◌==◌, nat_lt, Bool, true, false, List, [], ◌∷◌, ◌++◌, length, Some, Result, Ok, refl, sym, ap, subst, ◌∙◌, inl, inr, ◌⊎◌, arith, append_assoc, IsUtf8, encode_utf8, encode_utf8_all}
-use Rattle.std.specs.Str.{chars}
+use Rattle.std.proofs.Common.{◌≡◌, ℕ, suc, ◌+◌, ◌-◌, ◌<◌, ◌==◌, nat_lt, Bool, true, false, List, [], ◌∷◌, ◌++◌, length, Some, Result, Ok, refl, sym, ap, subst, ◌∙◌, inl, inr, ◌⊎◌, arith, append_assoc, IsUtf8, encode_utf8, encode_utf8_all, chars}
 use Rattle.std.proofs.lemmas.Bool.{cases_Bool, and_parts}
 use Rattle.std.proofs.lemmas.Bool.Decides.{nat_tests}
 use Rattle.std.proofs.lemmas.Str.{encode_ascii}
 use Rattle.std.proofs.Math.Bool.{or-true}
 use lib.Utf8.{encode as encode_char}
 use Rattle.yaml_emit_laws_text.specs.scan_history.scan_model.Marks.{byte, break_of}
-use Rattle.yaml_emit_laws_text.specs.scan_history.scan_model.Classes.{is_alpha_byte}
 use Rattle.yaml_emit_laws_text.specs.scan_history.scan_model.Wrong.{Wrong}
 use Rattle.yaml_emit_laws_text.specs.scan_history.scan_model.declared.problem.Context.TheVariants as contexts
 use Rattle.yaml_emit_laws_text.specs.scan_history.scan_words.Anchors.{anchor_at, may_end_name}
-use Rattle.yaml_emit_laws_text.specs.scan_history.scan_words.Written.{are_alphas}
+use Rattle.yaml_scan_laws_texts.specs.scan_history.scan_words.Written.{are_alphas}
 use Rattle.yaml_emit_laws_text.specs.scan_history.scan_words.Laws.{GapReads, AnchorReads}
-use Rattle.yaml_emit_laws_text.specs.scan_history.scan_scalars.Quoted.{double_quoted_at}
+use Rattle.yaml_scan_scalars.specs.Quoted.{double_quoted_at}
 use Rattle.yaml_emit_laws_text.specs.scan_history.declared.kind.Kind.{Kind}
 use Rattle.yaml_emit_laws_text.specs.scan_history.declared.kind.Kind.TheVariants as kinds
 use Rattle.yaml_emit_laws_text.specs.scan_history.Kinds.{depth_after, is_end}
@@ -22,18 +20,19 @@ use Rattle.yaml_emit_laws_text.specs.scan_model.declared.yaml_scalar_style_t.The
 use Rattle.yaml_emit_laws_text.specs.scan_model.Tokens as tokens
 use Rattle.yaml_emit_laws_text.specs.scan_model.Tokens.{TokenBody}
 use Rattle.yaml_emit_laws_text.specs.emit_layout.emit_text.declared.Cursor.{Cursor}
-use Rattle.yaml_emit_laws_text.specs.emit_layout.emit_text.declared.Page.{Page}
-use Rattle.yaml_emit_laws_text.specs.emit_layout.emit_text.Text.{Item, letter, encode, char_bytes}
+use Rattle.yaml_emit_layout.specs.emit_text.declared.Page.{Page}
+use Rattle.yaml_emit_layout.specs.emit_text.Text.{Item, letter, encode, char_bytes}
 use Rattle.yaml_emit_laws_text.specs.emit_layout.emit_text.Layout.{Layout, Rest, ◌▹◌, char, letters, word, opener}
-use Rattle.yaml_emit_laws_text.specs.emit_layout.emit_text.Quoted.{double_quoted}
-use Rattle.yaml_emit_laws_text.specs.emit_layout.emit_text.Spelling.{in_front}
+use Rattle.yaml_emit_text.specs.Quoted.{double_quoted}
+use Rattle.yaml_emit_text.specs.Spelling.{in_front}
+use Rattle.yaml_emit_laws_text.specs.TagsLaws.{are_ascii}
 use Rattle.yaml_emit_laws_text.specs.ReadBack.{between_quotes}
 use Rattle.yaml_emit_laws_text.specs.QuotedLaws.{QuotedIsReadBack}
-use Rattle.yaml_emit_laws_text.specs.Walk.{Left, bytes, Walks, first, parts, Parts}
+use Rattle.yaml_emit_laws_text.specs.Walk.{Has, Left, WordStage, bytes, Walks, first, parts, Parts}
 use Rattle.yaml_emit_laws_text.proofs.Forms.{BeginsBlank}
 use Rattle.yaml_emit_laws_text.proofs.Places.{has_front, has_at, left_first, left_more, left_rest}
 use Rattle.yaml_emit_laws_text.proofs.Steps.{Sign, sign_begins, sign_kind, push, word_of, left_letter, walks_gap, letter_low}
-use Rattle.yaml_emit_laws_text.proofs.Ascii.{alpha_ascii}
+use Rattle.yaml_emit_laws_text.proofs.Ascii.{alphas_ascii}
 
 -- ---- words of one byte
 
@@ -144,50 +143,43 @@ mapping_opens law d c rest =
 pub inside : (d : ℕ) → nat_lt 0 (suc d) ≡ true
 inside d = grind (arith, nat_tests)
 
-pub key_indicator : (flow alone : Bool) → flow ≡ true
-    → indicator_of flow alone 63 ≡ Some kinds.KeyMark
-unfolding indicator_of
-key_indicator flow alone e = rw e refl
-
-pub value_indicator : (flow alone : Bool) → flow ≡ true
-    → indicator_of flow alone 58 ≡ Some kinds.ValueMark
-unfolding indicator_of
-value_indicator flow alone e = rw e refl
-
 pub key_walks : GapReads → (d : ℕ) (c : Cursor) (rest : Rest)
     → Walks (word (63 ∷ [])) (λ ks. kinds.KeyMark ∷ ks) (λ bs. tokens.key ∷ bs) (suc d) (suc d) c
     rest
-unfolding word_at letters
+unfolding word_at letters indicator_of
 key_walks law d c rest =
     walks_gap (char 63) (λ ks. kinds.KeyMark ∷ ks) (λ bs. tokens.key ∷ bs) (suc d) (suc d) c rest
-    (λ c. letter_walks law 63 kinds.KeyMark tokens.key (suc d) lettered_on (sign 63 refl refl refl refl refl refl refl refl refl refl) (λ a. key_indicator (nat_lt 0 (suc d)) a (inside d)) (λ t p. refl) refl (λ c z. more_than c.column z) (λ c. refl) (λ c. refl) c rest)
+    (λ c. letter_walks law 63 kinds.KeyMark tokens.key (suc d) lettered_on (sign 63 refl refl refl refl refl refl refl refl refl refl) (λ a. (rw (inside d) refl)) (λ t p. refl) refl (λ c z. more_than c.column z) (λ c. refl) (λ c. refl) c rest)
 
 pub value_walks : GapReads → (d : ℕ) (c : Cursor) (rest : Rest)
     → Walks (word (58 ∷ [])) (λ ks. kinds.ValueMark ∷ ks) (λ bs. tokens.value ∷ bs) (suc d) (suc d)
     c rest
-unfolding word_at letters
+unfolding word_at letters indicator_of
 value_walks law d c rest =
     walks_gap (char 58) (λ ks. kinds.ValueMark ∷ ks) (λ bs. tokens.value ∷ bs) (suc d) (suc d) c rest
-    (λ c. letter_walks law 58 kinds.ValueMark tokens.value (suc d) lettered_on (sign 58 refl refl refl refl refl refl refl refl refl refl) (λ a. value_indicator (nat_lt 0 (suc d)) a (inside d)) (λ t p. refl) refl (λ c z. more_than c.column z) (λ c. refl) (λ c. refl) c rest)
+    (λ c. letter_walks law 58 kinds.ValueMark tokens.value (suc d) lettered_on (sign 58 refl refl refl refl refl refl refl refl refl refl) (λ a. (rw (inside d) refl)) (λ t p. refl) refl (λ c z. more_than c.column z) (λ c. refl) (λ c. refl) c rest)
 
 -- ---- names
 
 -- letters in ASCII, and the cursor behind them
-record Lettered (xs : List ℕ) (c : Cursor) (rest : Rest) : Type 0 where
-  behind : Cursor
-  same : bytes (letters xs c rest) ≡ xs ++ bytes (rest behind)
-  bare : c.bare ≡ false → behind.bare ≡ false
-  column : (c.column ≡ 0 → ⊥) → behind.column ≡ 0 → ⊥
-  kept : behind.kept ≡ c.kept
+pub record Letters (xs : List ℕ) (c : Cursor) : Type 0 where
+  pub behind : Cursor
+  pub same : (rest : Rest) → bytes (letters xs c rest) ≡ xs ++ bytes (rest behind)
+  pub white : c.white ≡ false → behind.white ≡ false
+  pub bare : c.bare ≡ false → behind.bare ≡ false
+  pub column : (c.column ≡ 0 → ⊥) → behind.column ≡ 0 → ⊥
+  pub kept : behind.kept ≡ c.kept
 
-lettered : (xs : List ℕ) → are_alphas xs ≡ true → (c : Cursor) (rest : Rest) → Lettered xs c rest
+-- Letters in ASCII are written as they are.
+pub letters_are : (xs : List ℕ) → are_ascii xs ≡ true → (c : Cursor) → Letters xs c
 unfolding letters
-lettered [] are c rest = record { behind = c; same = refl; bare = λ e. e; column = λ h z. h z; kept = refl }
-lettered (x ∷ xs) are c rest =
-    let r = lettered xs (and_parts (is_alpha_byte x) (are_alphas xs) are).1 (lettered_on c) rest in
+letters_are [] are c = record { behind = c; same = λ rest. refl; white = λ e. e; bare = λ e. e; column = λ h z. h z; kept = refl }
+letters_are (x ∷ xs) are c =
+    let r = letters_are xs (and_parts (nat_lt x 128) (are_ascii xs) are).1 (lettered_on c) in
     record {
       behind = r.behind;
-      same = letter_low x (letters xs (lettered_on c) rest) (alpha_ascii x (and_parts (is_alpha_byte x) (are_alphas xs) are).0) ∙ ap (λ (t : List ℕ). x ∷ t) r.same;
+      same = λ rest. letter_low x (letters xs (lettered_on c) rest) (and_parts (nat_lt x 128) (are_ascii xs) are).0 ∙ ap (λ (t : List ℕ). x ∷ t) (r.same rest);
+      white = λ e. r.white refl;
       bare = λ e. r.bare refl;
       column = λ h. r.column (λ z. more_than c.column z);
       kept = r.kept;
@@ -229,11 +221,6 @@ named f r name q e = rw e refl
 alias_sign : Sign 42
 alias_sign = sign 42 refl refl refl refl refl refl refl refl refl refl
 
-alias_word : (flow : Bool) (text : List ℕ) (p : ℕ)
-    → word_at kinds.Alias flow 0 text p ≡ valued tokens.alias (anchor_at contexts.Alias text p)
-unfolding word_at
-alias_word flow text p = refl
-
 -- A `*` begins an alias.
 pub alias_kind : (flow alone : Bool) → indicator_of flow alone 42 ≡ Some kinds.Alias
 unfolding indicator_of
@@ -243,14 +230,14 @@ alias_kind flow alone = refl
 pub alias_walks : GapReads → AnchorReads → (name : List ℕ) → 0 < length name
     → are_alphas name ≡ true → (d : ℕ) (c : Cursor) (rest : Rest) → Parts rest
     → Walks (word (42 ∷ name)) (λ ks. kinds.Alias ∷ ks) (λ bs. tokens.alias name ∷ bs) d d c rest
-unfolding letters
+unfolding letters word_at
 alias_walks law names name some are d c rest ends =
     walks_gap (letters (42 ∷ name)) (λ ks. kinds.Alias ∷ ks) (λ bs. tokens.alias name ∷ bs) d d c rest
     (λ c text p ws stage l.
-    let r = lettered name are (lettered_on c) rest in
+    let r = letters_are name (alphas_ascii name are) (lettered_on c) in
     let m = left_letter text p 42 (letters name (lettered_on c) rest) refl l in
     let h = left_first text p 42 (bytes (letters name (lettered_on c) rest)) m in
-    let n = subst (λ (bs : List ℕ). Left text (p + 1) bs) r.same (left_more text p 42 (bytes (letters name (lettered_on c) rest)) m) in
+    let n = subst (λ (bs : List ℕ). Left text (p + 1) bs) (r.same rest) (left_more text p 42 (bytes (letters name (lettered_on c) rest)) m) in
     let o = left_rest text (p + 1) name (bytes (rest r.behind)) n in
     let e = ends r.behind (r.bare refl) in
     let stop = parts_end text (p + 1 + length name) (first (bytes (rest r.behind))) (left_zero text (p + 1 + length name) (bytes (rest r.behind)) o e) e in
@@ -262,7 +249,7 @@ alias_walks law names name some are d c rest ends =
       place = q;
       words = word_of kinds.Alias p said ∷ ws;
       stage = push law text c r.behind p ws d kinds.Alias said stage (sign_begins text p 42 alias_sign h) (sign_kind (nat_lt 0 d) text p 42 kinds.Alias alias_sign h (λ a. alias_kind (nat_lt 0 d) a))
-          (alias_word (nat_lt 0 d) text p ∙ named tokens.alias (anchor_at contexts.Alias text p) name q reads) refl (r.column (λ z. more_than c.column z)) r.kept;
+          (refl ∙ named tokens.alias (anchor_at contexts.Alias text p) name q reads) refl (r.column (λ z. more_than c.column z)) r.kept;
       left = o;
       kinds = refl;
       bodies = λ bs. refl;
@@ -286,27 +273,42 @@ space_ends : (text : List ℕ) (p : ℕ) → byte text p ≡ 32 → may_end_name
 unfolding may_end_name
 space_ends text p h = rw h refl
 
-record Letters (xs : List ℕ) (c : Cursor) : Type 0 where
-  behind : Cursor
-  same : (rest : Rest) → bytes (letters xs c rest) ≡ xs ++ bytes (rest behind)
-  bare : c.bare ≡ false → behind.bare ≡ false
-  white : c.white ≡ false → behind.white ≡ false
-  column : (c.column ≡ 0 → ⊥) → behind.column ≡ 0 → ⊥
-  kept : behind.kept ≡ c.kept
-
-letters_are : (xs : List ℕ) → are_alphas xs ≡ true → (c : Cursor) → Letters xs c
+-- A word in ASCII that its first byte tells stands before a space.
+pub word_walks : GapReads → (byte0 : ℕ) → Sign byte0 → (kind : Kind) → is_end kind ≡ false
+    → ((d : ℕ) → depth_after kind d ≡ d)
+    → ((flow alone : Bool) → indicator_of flow alone byte0 ≡ Some kind)
+    → (more : List ℕ) → are_ascii more ≡ true → (body : TokenBody)
+    → ((flow : Bool) (text : List ℕ) (p : ℕ) → Has text p (byte0 ∷ more)
+    → byte text (p + length (byte0 ∷ more)) ≡ 32
+    → word_at kind flow 0 text p
+    ≡ Ok (record {
+      body = body;
+      end = p + length (byte0 ∷ more);
+      reached = p + length (byte0 ∷ more);
+      broke = false;
+    }))
+    → (b : Layout) (K : List Kind → List Kind) (B : List TokenBody → List TokenBody) (d e : ℕ)
+    (rest : Rest) → BeginsBlank b rest → ((c : Cursor) → Walks b K B d e c rest) → (c : Cursor)
+    → Walks (word (byte0 ∷ more) ▹ b) (λ ks. K (kind ∷ ks)) (λ bs. body ∷ B bs) d e c rest
 unfolding letters
-letters_are [] are c = record { behind = c; same = λ rest. refl; bare = λ e. e; white = λ e. e; column = λ h z. h z; kept = refl }
-letters_are (x ∷ xs) are c =
-    let r = letters_are xs (and_parts (is_alpha_byte x) (are_alphas xs) are).1 (lettered_on c) in
-    record {
-      behind = r.behind;
-      same = λ rest. letter_low x (letters xs (lettered_on c) rest) (alpha_ascii x (and_parts (is_alpha_byte x) (are_alphas xs) are).0) ∙ ap (λ (t : List ℕ). x ∷ t) (r.same rest);
-      bare = λ e. r.bare refl;
-      white = λ e. r.white refl;
-      column = λ h. r.column (λ z. more_than c.column z);
-      kept = r.kept;
-    }
+word_walks law byte0 s kind goes level is more low body reads b K B d e rest spaced w c =
+    walks_gap (letters (byte0 ∷ more) ▹ b) (λ ks. K (kind ∷ ks)) (λ bs. body ∷ B bs) d e c rest
+    (λ c text p ws stage l.
+    let xs = byte0 ∷ more in
+    let r = letters_are more low (lettered_on c) in
+    let k : Rest = λ x. b x rest in
+    let same : bytes (letters xs c k) ≡ xs ++ bytes (k r.behind) = letter_low byte0 (letters more (lettered_on c) k) s.low ∙ ap (λ (t : List ℕ). byte0 ∷ t) (r.same k) in
+    let m = subst (λ (bs : List ℕ). Left text p bs) same l in
+    let h = left_first text p byte0 (more ++ bytes (k r.behind)) m in
+    let o = left_rest text p xs (bytes (k r.behind)) m in
+    let blank = spaced r.behind (r.white refl) in
+    let q = p + length xs in
+    let space = left_first text q 32 blank.more (subst (λ (bs : List ℕ). Left text q bs) blank.same o) in
+    let said : WordText = record { body = body; end = q; reached = q; broke = false } in
+    let next = push law text c r.behind p ws d kind said stage (sign_begins text p byte0 s h) (sign_kind (nat_lt 0 d) text p byte0 kind s h (λ a. is (nat_lt 0 d) a))
+    (reads (nat_lt 0 d) text p (has_front text p xs (bytes (k r.behind)) m.has) space) goes (r.column (λ z. more_than c.column z)) r.kept in
+    let g = w r.behind text q (word_of kind p said ∷ ws) (subst (λ (i : ℕ). WordStage text r.behind q (word_of kind p said ∷ ws) i) (level d) next) o in
+    record { behind = g.behind; place = g.place; words = g.words; stage = g.stage; left = g.left; kinds = g.kinds; bodies = λ bs. g.bodies bs; bare = g.bare })
 
 -- an anchor before what begins with a space
 pub anchor_walks : GapReads → AnchorReads → (name : List ℕ) → 0 < length name
@@ -316,25 +318,15 @@ pub anchor_walks : GapReads → AnchorReads → (name : List ℕ) → 0 < length
     → BeginsBlank b rest → ((c : Cursor) → Walks b K B d e c rest) → (c : Cursor)
     → Walks (word (38 ∷ name) ▹ b) (λ ks. K (kinds.Anchor ∷ ks)) (λ bs. tokens.anchor name ∷ B bs) d
     e c rest
-unfolding letters
 anchor_walks law names name some are b K B d e rest spaced w c =
-    walks_gap (letters (38 ∷ name) ▹ b) (λ ks. K (kinds.Anchor ∷ ks)) (λ bs. tokens.anchor name ∷ B bs) d e c rest
-    (λ c text p ws stage l.
-    let r = letters_are name are (lettered_on c) in
-    let k : Rest = λ x. b x rest in
-    let m = left_letter text p 38 (letters name (lettered_on c) k) refl l in
-    let h = left_first text p 38 (bytes (letters name (lettered_on c) k)) m in
-    let n = subst (λ (bs : List ℕ). Left text (p + 1) bs) (r.same k) (left_more text p 38 (bytes (letters name (lettered_on c) k)) m) in
-    let o = left_rest text (p + 1) name (bytes (k r.behind)) n in
-    let blank = spaced r.behind (r.white refl) in
+    word_walks law 38 anchor_sign kinds.Anchor refl (λ d. refl) anchor_kind name (alphas_ascii name are) (tokens.anchor name)
+    (λ flow text p has space.
+    let (h, inner) = has in
     let q = p + 1 + length name in
-    let stop = space_ends text q (left_first text q 32 blank.more (subst (λ (bs : List ℕ). Left text q bs) blank.same o)) in
-    let said : WordText = record { body = tokens.anchor name; end = q; reached = q; broke = false } in
-    let reads = names contexts.Anchor text p name (has_at text (p + 1) name (has_front text (p + 1) name (bytes (k r.behind)) n.has)) some are stop in
-    let stage2 = push law text c r.behind p ws d kinds.Anchor said stage (sign_begins text p 38 anchor_sign h) (sign_kind (nat_lt 0 d) text p 38 kinds.Anchor anchor_sign h (λ a. anchor_kind (nat_lt 0 d) a))
-    (anchor_word (nat_lt 0 d) text p ∙ named tokens.anchor (anchor_at contexts.Anchor text p) name q reads) refl (r.column (λ z. more_than c.column z)) r.kept in
-    let g = w r.behind text q (word_of kinds.Anchor p said ∷ ws) stage2 o in
-    record { behind = g.behind; place = g.place; words = g.words; stage = g.stage; left = g.left; kinds = g.kinds; bodies = λ bs. g.bodies bs; bare = g.bare })
+    let far : p + suc (length name) ≡ q = omega arith in
+    let reads = names contexts.Anchor text p name (has_at text (p + 1) name inner) some are (space_ends text q (subst (λ (i : ℕ). byte text i ≡ 32) far space)) in
+    subst (λ (i : ℕ). word_at kinds.Anchor flow 0 text p ≡ Ok (record { body = tokens.anchor name; end = i; reached = i; broke = false })) (sym far)
+    (anchor_word flow text p ∙ named tokens.anchor (anchor_at contexts.Anchor text p) name q reads)) b K B d e rest spaced w c
 
 -- ---- double quoted scalars
 
@@ -342,28 +334,18 @@ anchor_walks law names name some are b K B d e rest spaced w c =
 pub quote_sign : Sign 34
 quote_sign = sign 34 refl refl refl refl refl refl refl refl refl refl
 
-pub quote_word : (flow : Bool) (text : List ℕ) (p : ℕ)
-    → word_at kinds.DoubleQuoted flow 0 text p
-    ≡ valued (λ v. tokens.scalar v YAML_DOUBLE_QUOTED_SCALAR_STYLE) (double_quoted_at text p)
-unfolding word_at
-quote_word flow text p = refl
-
 -- A double quote begins a double quoted scalar.
 pub quote_kind : (flow alone : Bool) → indicator_of flow alone 34 ≡ Some kinds.DoubleQuoted
 unfolding indicator_of
 quote_kind flow alone = refl
 
-char_encodes : (c : ℕ) (t : List Item) → bytes (letter c ∷ t) ≡ encode_utf8 c ++ bytes t
-unfolding encode char_bytes encode_char
-char_encodes c t = refl
-
 -- A text in front of a layout's items is its UTF-8.
 pub front_encodes : (xs : List ℕ) (t : List Item)
     → bytes (in_front xs t) ≡ encode_utf8_all xs ++ bytes t
-unfolding in_front
+unfolding in_front encode char_bytes encode_char
 front_encodes [] t = refl
 front_encodes (x ∷ xs) t =
-    char_encodes x (in_front xs t) ∙ ap (λ b. encode_utf8 x ++ b) (front_encodes xs t) ∙ sym (append_assoc (encode_utf8 x) (encode_utf8_all xs) (bytes t))
+    refl ∙ ap (λ b. encode_utf8 x ++ b) (front_encodes xs t) ∙ sym (append_assoc (encode_utf8 x) (encode_utf8_all xs) (bytes t))
 
 -- A double quote in front of a text is its own byte.
 pub quote_first : (xs : List ℕ) → encode_utf8_all (34 ∷ xs) ≡ 34 ∷ encode_utf8_all xs
@@ -373,6 +355,7 @@ pub quoted_walks : GapReads → QuotedIsReadBack → (page : Page) (value : List
     → 0 < page.indentation → (d : ℕ) (c : Cursor) (rest : Rest)
     → Walks (double_quoted page (chars value)) (λ ks. kinds.DoubleQuoted ∷ ks)
     (λ bs. tokens.scalar value YAML_DOUBLE_QUOTED_SCALAR_STYLE ∷ bs) d d c rest
+unfolding word_at
 quoted_walks law quoted page value utf8 deep d c rest =
     walks_gap (between_quotes page (chars value)) (λ ks. kinds.DoubleQuoted ∷ ks) (λ bs. tokens.scalar value YAML_DOUBLE_QUOTED_SCALAR_STYLE ∷ bs) d d c rest
     (λ c text p ws stage l.
@@ -389,7 +372,7 @@ quoted_walks law quoted page value utf8 deep d c rest =
       place = q;
       words = word_of kinds.DoubleQuoted p said ∷ ws;
       stage = push law text c r.behind p ws d kinds.DoubleQuoted said stage (sign_begins text p 34 quote_sign h) (sign_kind (nat_lt 0 d) text p 34 kinds.DoubleQuoted quote_sign h (λ a. quote_kind (nat_lt 0 d) a))
-          (quote_word (nat_lt 0 d) text p ∙ named (λ v. tokens.scalar v YAML_DOUBLE_QUOTED_SCALAR_STYLE) (double_quoted_at text p) value q (r.read text p (has_at text p bs (has_front text p bs (bytes (rest r.behind)) m.has)))) refl r.column r.kept;
+          (refl ∙ named (λ v. tokens.scalar v YAML_DOUBLE_QUOTED_SCALAR_STYLE) (double_quoted_at text p) value q (r.read text p (has_at text p bs (has_front text p bs (bytes (rest r.behind)) m.has)))) refl r.column r.kept;
       left = left_rest text p bs (bytes (rest r.behind)) m;
       kinds = refl;
       bodies = λ bs. refl;

@@ -16,7 +16,7 @@ pub use columns_laws::{
 };
 pub use quoted_laws::{
     keys_stay_in_line, printable_is_of_characters, quoted_is_read_back, quoted_text_is_read_back,
-    single_is_read_back, single_spelling_reads, spelling_reads,
+    single_spelling_reads, spelling_reads,
 };
 pub use tags_laws::{
     directives_are_read, readable_directives_are_ascii, readable_tags_are_ascii,

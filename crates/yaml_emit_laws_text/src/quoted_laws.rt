@@ -1,7 +1,7 @@
 //! Each function's contract is a law. A body cites a law of a lower crate.
 
 ghost use Rattle.yaml_emit_laws_text.specs.Printing.{PrintableIsOfCharacters};
-ghost use Rattle.yaml_emit_laws_text.specs.QuotedLaws.{KeysStayInLine, QuotedIsReadBack, QuotedTextIsReadBack, SingleIsReadBack, SingleSpellingReads, SpellingReads};
+ghost use Rattle.yaml_emit_laws_text.specs.QuotedLaws.{KeysStayInLine, QuotedIsReadBack, QuotedTextIsReadBack, SingleSpellingReads, SpellingReads};
 
 use yaml_emit_text::quoted_spells;
 
@@ -28,11 +28,6 @@ pub fn quoted_text_is_read_back()
 {
     quoted_spells();
 }
-
-/// What an emitter writes for a value of one line between single quotes is read as the value, unless a single quote stands behind.
-pub fn single_is_read_back()
-    ensures { SingleIsReadBack }
-{}
 
 /// As a simple key, double quoted text stays in its line.
 pub fn keys_stay_in_line()

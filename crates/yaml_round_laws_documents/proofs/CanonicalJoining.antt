@@ -1,7 +1,7 @@
 -- Bytes of canonical text are decoded to it.
 use Rattle.std.proofs.Common.{◌≡◌, ℕ, Bool, true, false, List, ◌∷◌, drop, Ok, sym, ap, subst, ◌∙◌}
-use Rattle.yaml_emit_laws_text.specs.scan_model.declared.yaml_encoding_t.{yaml_encoding_t}
-use Rattle.yaml_emit_laws_text.specs.scan_model.declared.yaml_encoding_t.TheVariants.{YAML_ANY_ENCODING, YAML_UTF8_ENCODING, YAML_UTF16LE_ENCODING, YAML_UTF16BE_ENCODING}
+use Rattle.yaml_round_laws_documents.specs.emit_laws_text.scan_model.declared.yaml_encoding_t.{yaml_encoding_t}
+use Rattle.yaml_round_laws_documents.specs.emit_laws_text.scan_model.declared.yaml_encoding_t.TheVariants.{YAML_ANY_ENCODING, YAML_UTF8_ENCODING, YAML_UTF16LE_ENCODING, YAML_UTF16BE_ENCODING}
 use Rattle.yaml_emit_laws_text.specs.scan_history.scan_decode.Encodings.{encoding_of, mark_length}
 use Rattle.yaml_emit_laws_text.specs.scan_history.scan_decode.Decoding.{decoded_text}
 use Rattle.yaml_emit_laws_text.specs.scan_history.scan_decode.Spelling.{Spells, spellings}

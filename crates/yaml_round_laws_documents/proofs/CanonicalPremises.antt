@@ -1,7 +1,6 @@
 -- What a parser asks of directives, and that those that may be written have it.
-use Rattle.std.proofs.Common.{◌≡◌, ℕ, true, false, List, [], ◌∷◌, ◌++◌, Option, Some, None, refl}
+use Rattle.std.proofs.Common.{◌≡◌, ℕ, true, false, List, [], ◌∷◌, ◌++◌, Option, Some, None, refl, bytes_eq}
 use Rattle.std.specs.List.{list_any}
-use Rattle.std.specs.Str.{bytes_eq}
 use Rattle.std.proofs.lemmas.Bool.{or_parts}
 use Rattle.yaml_round_content.specs.parse_model.declared.yaml_version_directive_t.{yaml_version_directive_t}
 use Rattle.yaml_round_content.specs.parse_model.Events.{TagDirective}

@@ -1,12 +1,11 @@
 -- Which characters canonical text is made of: each is one that a stream may hold.
-use Rattle.std.proofs.Common.{◌≡◌, ◌⊎◌, inl, inr, ℕ, zero, suc, ◌+◌, ◌/◌, ◌%◌, ◌<◌, ◌≤◌, Bool, true, false, not, ◌&&◌, ◌||◌, ◌==◌, nat_lt, nat_le, List, [], ◌∷◌, ◌++◌, drop, refl, sym, subst, arith, encode_utf8, encode_utf8_all}
-use Rattle.std.specs.Prelude.{if◌then◌else◌, IsUtf8}
+use Rattle.std.proofs.Common.{◌≡◌, ◌⊎◌, inl, inr, ℕ, zero, suc, ◌+◌, ◌/◌, ◌%◌, ◌<◌, ◌≤◌, Bool, true, false, not, ◌&&◌, ◌||◌, ◌==◌, nat_lt, nat_le, List, [], ◌∷◌, ◌++◌, drop, refl, sym, subst, arith, encode_utf8, encode_utf8_all, if◌then◌else◌, IsUtf8}
 use Rattle.std.specs.List.{AllPass, list_all}
 use Rattle.std.proofs.lemmas.List.Elements.{All-nil, All-cons}
 use Rattle.std.proofs.lemmas.Bool.{cases_Bool, cases_lt, and_parts, or_parts, not-false, eqb-true, ltb-true}
 use Rattle.std.proofs.lemmas.Bool.Decides.{nat_tests}
 use lib.Utf8.{scalar, scalars, encode}
-use Rattle.yaml_emit_laws_text.specs.scan_model.Classes.{is_alpha_byte, is_digit_byte}
+use Rattle.yaml_round_laws_documents.specs.emit_laws_text.scan_model.Classes.{is_alpha_byte, is_digit_byte}
 use Rattle.yaml_emit_laws_text.specs.scan_history.scan_decode.Characters.{is_allowed}
 use Rattle.yaml_emit_laws_text.specs.emit_text.Text.{is_break}
 use Rattle.yaml_emit_laws_text.specs.emit_text.Quoted.{is_printable, needs_escape, escape_letter, escape_text, hex_4, hex_8}
@@ -103,9 +102,6 @@ two_fit n h = (hex_fits (n / 16) (omega arith), (hex_fits (n % 16) (omega arith)
 four_fit : (n : ℕ) → n < 65536 → AllFit (hex_4 n)
 four_fit n h = all_append (hex_2 (n / 0x100)) (hex_2 (n % 0x100)) (two_fit (n / 0x100) (omega arith)) (two_fit (n % 0x100) (omega arith))
 
-eight_fit : (n : ℕ) → n < 1114112 → AllFit (hex_8 n)
-eight_fit n h = all_append (hex_4 (n / 0x1_0000)) (hex_4 (n % 0x1_0000)) (four_fit (n / 0x1_0000) (omega arith)) (four_fit (n % 0x1_0000) (omega arith))
-
 -- ---- escapes
 
 abbrev FitsIf : ℕ → Type 0
@@ -117,9 +113,6 @@ choice false x y f g = g
 
 plain_letter : (n : ℕ) → 32 ≤ n → n ≤ 126 → FitsIf n
 plain_letter n low high e = graphic n low high
-
-no_letter : FitsIf 0
-no_letter e = absurd (cc)
 
 letter_fits : (c : ℕ) → FitsIf (escape_letter c)
 unfolding escape_letter
@@ -138,7 +131,7 @@ letter_fits c =
     (choice (c == 0x85) 78 _ (plain_letter 78 (omega arith) (omega arith))
     (choice (c == 0xA0) 95 _ (plain_letter 95 (omega arith) (omega arith))
     (choice (c == 0x2028) 76 _ (plain_letter 76 (omega arith) (omega arith))
-    (choice (c == 0x2029) 80 0 (plain_letter 80 (omega arith) (omega arith)) no_letter))))))))))))))
+    (choice (c == 0x2029) 80 0 (plain_letter 80 (omega arith) (omega arith)) (λ e. absurd cc)))))))))))))))
 
 -- by what is known where a test holds, and where it doesn't
 pub fit_by : (b : Bool) (x y : List ℕ) → (b ≡ true → AllFit x) → (b ≡ false → AllFit y)
@@ -153,7 +146,7 @@ escape_fits c h =
     fit_by (not (escape_letter c == 0)) (92 ∷ escape_letter c ∷ []) _ (λ e. (slash, (letter_fits c (off_of (escape_letter c == 0) e), tt)))
     (λ _. fit_by (nat_lt c 0x100) (92 ∷ 120 ∷ hex_2 c) _ (λ e. (slash, (graphic 120 (omega arith) (omega arith), two_fit c (ltb-true c 0x100 e))))
     (λ _. fit_by (nat_lt c 0x1_0000) (92 ∷ 117 ∷ hex_4 c) (92 ∷ 85 ∷ hex_8 c) (λ e. (slash, (graphic 117 (omega arith) (omega arith), four_fit c (ltb-true c 0x1_0000 e))))
-    (λ _. (slash, (graphic 85 (omega arith) (omega arith), eight_fit c h)))))
+    (λ _. (slash, (graphic 85 (omega arith) (omega arith), (all_append (hex_4 (c / 0x1_0000)) (hex_4 (c % 0x1_0000)) (four_fit (c / 0x1_0000) (omega arith)) (four_fit (c % 0x1_0000) (omega arith))))))))
   where
     off_of : (b : Bool) → not b ≡ true → b ≡ false
     off_of true e = absurd (cc)

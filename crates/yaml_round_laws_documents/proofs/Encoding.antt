@@ -1,8 +1,6 @@
 -- A layout's bytes spell its characters.
-use Rattle.std.proofs.Common.{◌≡◌, ℕ, ◌+◌, ◌-◌, ◌/◌, ◌%◌, Bool, true, false, nat_lt, List, [], ◌∷◌, ◌++◌, refl, ap, ◌∙◌, encode_utf8, encode_utf8_all}
-use Rattle.std.specs.Prelude.{if◌then◌else◌}
-use lib.Utf8.{encode as encode_char}
-use Rattle.yaml_emit_laws_text.specs.scan_model.declared.yaml_encoding_t.TheVariants.{YAML_UTF8_ENCODING, YAML_UTF16LE_ENCODING, YAML_UTF16BE_ENCODING}
+use Rattle.std.proofs.Common.{◌≡◌, ℕ, ◌+◌, ◌-◌, ◌/◌, ◌%◌, Bool, true, false, nat_lt, List, [], ◌∷◌, ◌++◌, refl, ap, ◌∙◌, encode_utf8, encode_utf8_all, if◌then◌else◌}
+use Rattle.yaml_round_laws_documents.specs.emit_laws_text.scan_model.declared.yaml_encoding_t.TheVariants.{YAML_UTF8_ENCODING, YAML_UTF16LE_ENCODING, YAML_UTF16BE_ENCODING}
 use Rattle.yaml_emit_laws_text.specs.scan_history.scan_decode.Spelling.{spelling, spellings, units_bytes}
 use Rattle.yaml_emit_laws_text.specs.scan_history.scan_decode.declared.utf16.ByteOrder.TheVariants.{LowFirst, HighFirst}
 use Rattle.yaml_emit_laws_text.specs.emit_text.declared.Encoding.TheVariants.{Utf8, Utf16Le, Utf16Be}
@@ -28,26 +26,18 @@ pub high_units : (b : Bool) (c x y : ℕ)
 high_units true c x y = refl
 high_units false c x y = refl
 
-pub char_le : (c : ℕ) → char_bytes Utf16Le c ≡ spelling YAML_UTF16LE_ENCODING c
-unfolding char_bytes
-char_le c = low_units (nat_lt c 0x1_0000) c (0xD800 + (c - 0x1_0000) / 0x400) (0xDC00 + (c - 0x1_0000) % 0x400)
-
-pub char_be : (c : ℕ) → char_bytes Utf16Be c ≡ spelling YAML_UTF16BE_ENCODING c
-unfolding char_bytes
-char_be c = high_units (nat_lt c 0x1_0000) c (0xD800 + (c - 0x1_0000) / 0x400) (0xDC00 + (c - 0x1_0000) % 0x400)
-
 -- The same in UTF-16, low byte first.
 pub bytes_le : (t : List Item) → encode Utf16Le t ≡ spellings YAML_UTF16LE_ENCODING (shown t)
-unfolding encode shown
+unfolding encode shown char_bytes
 bytes_le [] = refl
-bytes_le (letter c ∷ t) = ap (λ (b : List ℕ). b ++ encode Utf16Le t) (char_le c) ∙ ap (λ (b : List ℕ). spelling YAML_UTF16LE_ENCODING c ++ b) (bytes_le t)
+bytes_le (letter c ∷ t) = ap (λ (b : List ℕ). b ++ encode Utf16Le t) (low_units (nat_lt c 0x1_0000) c (0xD800 + (c - 0x1_0000) / 0x400) (0xDC00 + (c - 0x1_0000) % 0x400)) ∙ ap (λ (b : List ℕ). spelling YAML_UTF16LE_ENCODING c ++ b) (bytes_le t)
 bytes_le (deep ∷ t) = bytes_le t
 
 -- The same in UTF-16, high byte first.
 pub bytes_be : (t : List Item) → encode Utf16Be t ≡ spellings YAML_UTF16BE_ENCODING (shown t)
-unfolding encode shown
+unfolding encode shown char_bytes
 bytes_be [] = refl
-bytes_be (letter c ∷ t) = ap (λ (b : List ℕ). b ++ encode Utf16Be t) (char_be c) ∙ ap (λ (b : List ℕ). spelling YAML_UTF16BE_ENCODING c ++ b) (bytes_be t)
+bytes_be (letter c ∷ t) = ap (λ (b : List ℕ). b ++ encode Utf16Be t) (high_units (nat_lt c 0x1_0000) c (0xD800 + (c - 0x1_0000) / 0x400) (0xDC00 + (c - 0x1_0000) % 0x400)) ∙ ap (λ (b : List ℕ). spelling YAML_UTF16BE_ENCODING c ++ b) (bytes_be t)
 bytes_be (deep ∷ t) = bytes_be t
 
 -- UTF-8 spells characters as its bytes.

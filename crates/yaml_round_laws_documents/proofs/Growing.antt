@@ -1,12 +1,8 @@
 -- Trees from the bodies of tokens.
-use Rattle.std.proofs.Common.{◌≡◌, ℕ, Bool, true, false, not, ◌&&◌, List, [], ◌∷◌, length, Option, Some, None, refl, sym, ap, subst, ◌∙◌, codes, ◌||◌}
-use Rattle.std.specs.Prelude.{if◌then◌else◌}
-use Rattle.std.specs.Str.{bytes_eq}
+use Rattle.std.proofs.Common.{◌≡◌, ℕ, Bool, true, false, not, ◌&&◌, List, [], ◌∷◌, length, Option, Some, None, refl, sym, ap, subst, ◌∙◌, codes, ◌||◌, if◌then◌else◌, bytes_eq}
 use Rattle.yaml_round_content.specs.parse_model.declared.yaml_mark_t.{yaml_mark_t}
 use Rattle.yaml_round_content.specs.parse_model.declared.yaml_scalar_style_t.{yaml_scalar_style_t}
 use Rattle.yaml_round_content.specs.parse_model.declared.yaml_scalar_style_t.TheVariants.{YAML_DOUBLE_QUOTED_SCALAR_STYLE}
-use Rattle.yaml_round_content.specs.parse_model.declared.yaml_sequence_style_t.TheVariants.{YAML_FLOW_SEQUENCE_STYLE}
-use Rattle.yaml_round_content.specs.parse_model.declared.yaml_mapping_style_t.TheVariants.{YAML_FLOW_MAPPING_STYLE}
 use Rattle.yaml_emit_laws_text.specs.scan_model.Tokens.{Token, TokenBody}
 use Rattle.yaml_emit_laws_text.specs.scan_model.Tokens as token
 use Rattle.yaml_round_content.specs.parse_model.Events.{EventBody, TagDirective}
@@ -18,12 +14,12 @@ use Rattle.yaml_round_content.specs.parse_grammar.declared.name.Brackets.{Bracke
 use Rattle.yaml_round_content.specs.parse_grammar.declared.name.Brackets.TheVariants as brackets
 use Rattle.yaml_round_content.specs.parse_grammar.Items.{RawEvent, Shape, Properties, node_at}
 use Rattle.yaml_round_content.specs.parse_grammar.Items as item
-use Rattle.yaml_round_content.specs.parse_grammar.Trees.{Span, token_at, PropertyTokens, Given, spell_properties, spell_node, spell_content, spell_items, spell_more, spell_colon, properties_of, Items, More, end_items, single, comma, there, colon}
-use Rattle.yaml_round_content.specs.parse_grammar.TreeSteps.{items_node, items_content, items_items}
+use Rattle.yaml_round_content.specs.parse_grammar.Trees.{Span, token_at, PropertyTokens, Given, spell_properties, spell_node, spell_content, spell_items, spell_more, properties_of, Items, More, end_items, end_more, single, comma, there, colon, opening, closing, flow_shape, end_event}
+use Rattle.yaml_round_content.specs.parse_grammar.TreeSteps.{items_node, items_content, items_items, items_more}
 use Rattle.yaml_round_content.specs.parse_grammar.Trees as trees
-use Rattle.yaml_round_content.specs.parse_grammar.Resolve.{Directives, Reading, Settled, gave, settle, read_on, reading, resolved, with_resolved, node_event, is_missing}
+use Rattle.yaml_round_content.specs.parse_grammar.Resolve.{Directives, Reading, Settled, gave, settle, read_on, reading, resolved, with_resolved, node_event}
 use Rattle.yaml_emit_laws_text.specs.emit_layout.emit_tags.Tags.{Split, shorthand, verbatim, split_tag}
-use Rattle.yaml_emit_laws_text.specs.emit_layout.Content.{Scalar, Start, Node, alias_node, scalar_node, sequence_node, mapping_node, Nodes, no_nodes, node, Pairs, no_pairs, pair}
+use Rattle.yaml_emit_laws_text.specs.emit_layout.Content.{Scalar, Node, alias_node, scalar_node, sequence_node, mapping_node, Nodes, no_nodes, node, Pairs, no_pairs, pair}
 use Rattle.yaml_emit_laws_text.specs.emit_layout.Grammar.{has}
 use Rattle.yaml_emit_laws_text.specs.TagsLaws.{resolved_split}
 use Rattle.yaml_emit_laws_text.specs.Bodies.{tag_body, anchor_bodies, tag_bodies, mark_bodies, node_bodies, items_bodies, pairs_bodies}
@@ -55,9 +51,6 @@ take (t ∷ ts) b bs e =
 
 -- ---- one item
 
-same_says : (r : Reading) → SaysTree (λ es. es) r r
-same_says r = record { events = refl; ending = refl }
-
 -- What two readings have in front is put together.
 pub both_say : (R Q : List EventBody → List EventBody) (r q p : Reading) → SaysTree R r q
     → SaysTree Q q p
@@ -73,6 +66,62 @@ pub step_says : (g : Given) (gs : List Given) (f : Option Fault) (D : Directives
     → settle g.0 D ≡ gave b D → SaysTree (λ es. b ∷ es) (reading (g ∷ gs) f D) (reading gs f D)
 unfolding reading
 step_says g gs f D b e = on_says (settle g.0 D) b D g.0 g.1 (λ x. reading gs f x) e
+
+-- ---- what the first tokens of a list say
+
+abbrev pub Reads : Type 0
+Reads = List EventBody → List EventBody
+
+-- Tokens in front of a rest are spelled so, and these events are read of them, whatever follows.
+pub record Said (ds : List TagDirective) (R : Reads) (ts rest : List Token) (spell : List Token → List Token) (items : List Token → List Given → List Given) : Type 0 where
+  pub same : ts ≡ spell rest
+  pub gives : (more : List Token) (gs : List Given) (f : Option Fault) (D : Directives)
+      → D.tags ≡ ds → SaysTree R (reading (items more gs) f D) (reading gs f D)
+
+-- A token without an event.
+pub silent : (ds : List TagDirective) {ts : List Token} {b : TokenBody} {bs : List TokenBody}
+    (t : Taken ts b bs)
+    → Said ds (λ es. es) ts t.rest (λ ts. token_at b t.span ∷ ts) (λ more gs. gs)
+silent ds t = record { same = t.same; gives = λ more gs f D h. (record { events = refl; ending = refl }) }
+
+-- A token whose item settles as an event.
+pub tells : (ds : List TagDirective) {ts : List Token} {b : TokenBody} {bs : List TokenBody}
+    (t : Taken ts b bs) (i : RawEvent) (e : EventBody)
+    → ((D : Directives) → D.tags ≡ ds → settle i D ≡ gave e D)
+    → Said ds (λ es. e ∷ es) ts t.rest (λ ts. token_at b t.span ∷ ts)
+    (λ more gs. (i, length more) ∷ gs)
+tells ds t i e settles = record { same = t.same; gives = λ more gs f D h. step_says (i, length more) gs f D e (settles D h) }
+
+-- Some behind others.
+pub also : {ds : List TagDirective} {R Q : Reads} {ts us rest : List Token}
+    {s q : List Token → List Token} {i j : List Token → List Given → List Given}
+    → Said ds R ts us s i → Said ds Q us rest q j
+    → Said ds (λ es. R (Q es)) ts rest (λ ts. s (q ts)) (λ more gs. i (q more) (j more gs))
+also {ds} {R} {Q} {ts} {us} {rest} {s} {q} {i} {j} a b = record {
+  same = a.same ∙ ap (λ (ts : List Token). s ts) b.same;
+  gives = λ more gs f D h. both_say R Q _ (reading (j more gs) f D) (reading gs f D) (a.gives (q more) (j more gs) f D h) (b.gives more gs f D h);
+}
+
+-- The tokens begin with a part of a tree, of which the events are read, whatever follows.
+pub record Spelt (T : Type 0) (spell : T → List Token → List Token) (items : T → List Token → List Given → List Given) (ds : List TagDirective) (R : Reads) (ts : List Token) (bs : List TokenBody) : Type 0 where
+  pub tree : T
+  pub rest : List Token
+  pub left : token_bodies rest ≡ bs
+  pub said : Said ds R ts rest (spell tree) (items tree)
+
+-- what follows an opening bracket
+abbrev pub Filled : Brackets → List TagDirective → Reads → List Token → List TokenBody → Type 0
+Filled b = Spelt Items (λ (i : Items) (rest : List Token). spell_items b i rest) (λ (i : Items) (rest : List Token) (more : List Given). items_items b i rest more)
+
+-- what follows an item or a pair in brackets
+abbrev pub Followed : Brackets → List TagDirective → Reads → List Token → List TokenBody → Type 0
+Followed b = Spelt More (λ (i : More) (rest : List Token). spell_more b i rest) (λ (i : More) (rest : List Token) (more : List Given). items_more b i rest more)
+
+-- A node is part of a tree.
+pub grown : {w : Wants} {ds : List TagDirective} {R : Reads} {ts : List Token} {bs : List TokenBody}
+    (g : Grown w ds R ts bs) → Said ds R ts g.rest (λ rest. spell_node g.tree rest)
+    (λ rest more. items_node g.tree rest more)
+grown g = record { same = g.same; gives = g.gives }
 
 -- ---- properties
 
@@ -261,14 +310,106 @@ pub dress_gives : (w : Wants) (d : Option PropertyTokens) (c : trees.Content w) 
 dress_gives w None c rest more = refl
 dress_gives w (Some d) c rest more = refl
 
--- what follows the first token of a content is grown
-record Filled (b : Brackets) (ds : List TagDirective) (R : List EventBody → List EventBody) (ts : List Token) (bs : List TokenBody) : Type 0 where
-  items : Items
-  rest : List Token
-  same : ts ≡ spell_items b items rest
-  left : token_bodies rest ≡ bs
-  gives : (more : List Token) (gs : List Given) (f : Option Fault) (D : Directives) → D.tags ≡ ds
-      → SaysTree R (reading (items_items b items more gs) f D) (reading gs f D)
+-- ---- contents
+
+-- The tokens begin with a content of that shape: whatever its properties settle to stands in front of the events in it.
+pub record Contained (w : Wants) (ds : List TagDirective) (shape : Shape) (R : Reads) (ts : List Token) (bs : List TokenBody) : Type 0 where
+  pub tree : trees.Content w
+  pub rest : List Token
+  pub left : token_bodies rest ≡ bs
+  pub said : (o : Option Properties) (b : EventBody)
+      → ((from to : yaml_mark_t) (D : Directives) → D.tags ≡ ds → settle (node_at o shape from to) D
+      ≡ gave b D)
+      → Said ds (λ es. b ∷ R es) ts rest (λ rest. spell_content tree rest)
+      (λ rest more. items_content tree o rest more)
+
+-- A content in its properties is a node.
+pub dressed_named : (w : Wants) (ds : List TagDirective) (anchor : Option (List ℕ))
+    (tag : Option Named) → IsNamed ds tag → (shape : Shape) (R : Reads) (cs bs : List TokenBody)
+    → ((us : List Token) → token_bodies us ≡ cs → Contained w ds shape R us bs)
+    → (ts : List Token) → token_bodies ts ≡ anchor_bodies anchor (named_bodies tag cs)
+    → Grown w ds (λ es. node_event anchor (full_of tag) shape ∷ R es) ts bs
+dressed_named w ds anchor tag h shape R cs bs inner ts e =
+    let d = with_properties ds anchor tag h ts cs e in
+    let c = inner d.rest d.left in
+    let b = node_event anchor (full_of tag) shape in
+    let a = c.said (properties_if d.only_properties) b (λ from to D same. d.gives shape from to D same) in
+    record {
+      tree = with_dress d.only_properties c.tree;
+      rest = c.rest;
+      same = d.same ∙ ap (λ (y : List Token). spell_if d.only_properties y) a.same ∙ sym (dress_spells w d.only_properties c.tree c.rest);
+      left = c.left;
+      gives = λ more gs f D same. subst (λ (y : List Given). SaysTree (λ es. b ∷ R es) (reading y f D) (reading gs f D)) (sym (dress_gives w d.only_properties c.tree more gs)) (a.gives more gs f D same);
+    }
+
+-- So is a collection, by its tag.
+pub dressed : (w : Wants) (ds : List TagDirective) → Resolves ds
+    → (anchor tag : Option (List ℕ)) (shape : Shape) (R : Reads) (cs bs : List TokenBody)
+    → ((us : List Token) → token_bodies us ≡ cs → Contained w ds shape R us bs)
+    → (ts : List Token) → token_bodies ts ≡ anchor_bodies anchor (tag_bodies ds tag cs)
+    → Grown w ds (λ es. node_event anchor tag shape ∷ R es) ts bs
+dressed w ds r anchor tag shape R cs bs inner ts e =
+    let named = e ∙ ap (λ (y : List TokenBody). anchor_bodies anchor y) (tag_bodies_are ds tag cs) in
+    let P : Option (List ℕ) → Type 0 = λ t. Grown w ds (λ es. node_event anchor t shape ∷ R es) ts bs in
+    subst P (full_is ds tag) (dressed_named w ds anchor (tag_named ds tag) (tag_is_named ds r tag) shape R cs bs inner ts named)
+
+-- A scalar's token.
+pub scalar_contained : (w : Wants) (ds : List TagDirective) (value : List ℕ)
+    (s : yaml_scalar_style_t) (bs : List TokenBody) (us : List Token)
+    → token_bodies us ≡ token.scalar value s ∷ bs
+    → Contained w ds (item.scalar value s) (λ es. es) us bs
+scalar_contained w ds value s bs us e =
+    let t = take us (token.scalar value s) bs e in
+    record { tree = trees.scalar t.span value s; rest = t.rest; left = t.left; said = λ o b settles. tells ds t (node_at o (item.scalar value s) t.span.from t.span.to) b (settles t.span.from t.span.to) }
+
+-- What stands in brackets.
+pub bracketed : (b : Brackets) (w : Wants) (ds : List TagDirective) (R : Reads) (us : List Token)
+    (cs bs : List TokenBody) → ((ts : List Token) → token_bodies ts ≡ cs → Filled b ds R ts bs)
+    → token_bodies us ≡ opening b ∷ cs → Contained w ds (flow_shape b) R us bs
+bracketed b w ds R us cs bs inner e =
+    let t = take us (opening b) cs e in
+    let i = inner t.rest t.left in
+    let first : (o : Option Properties) → RawEvent = λ o. node_at o (flow_shape b) t.span.from t.span.to in
+    record { tree = trees.flow b t.span i.tree; rest = i.rest; left = i.left; said = λ o x settles. also (tells ds t (first o) x (settles t.span.from t.span.to)) i.said }
+
+end_settles : (b : Brackets) (from to : yaml_mark_t) (D : Directives)
+    → settle (trees.event_at (end_event b) from to) D ≡ gave (end_event b) D
+end_settles brackets.Sequence from to D = refl
+end_settles brackets.Mapping from to D = refl
+
+-- Nothing stands before a closing bracket.
+pub brackets_end : (b : Brackets) (ds : List TagDirective) (ts : List Token) (bs : List TokenBody)
+    → token_bodies ts ≡ closing b ∷ bs → Filled b ds (λ es. end_event b ∷ es) ts bs
+brackets_end b ds ts bs e =
+    let t = take ts (closing b) bs e in
+    record { tree = end_items t.span; rest = t.rest; left = t.left; said = tells ds t (trees.event_at (end_event b) t.span.from t.span.to) (end_event b) (λ D h. end_settles b t.span.from t.span.to D) }
+
+-- So it is behind an item or a pair.
+pub brackets_done : (b : Brackets) (ds : List TagDirective) (ts : List Token) (bs : List TokenBody)
+    → token_bodies ts ≡ closing b ∷ bs → Followed b ds (λ es. end_event b ∷ es) ts bs
+brackets_done b ds ts bs e =
+    let t = take ts (closing b) bs e in
+    record { tree = end_more t.span; rest = t.rest; left = t.left; said = tells ds t (trees.event_at (end_event b) t.span.from t.span.to) (end_event b) (λ D h. end_settles b t.span.from t.span.to D) }
+
+-- A comma is followed by what stands behind it.
+pub comma_follows : (b : Brackets) (ds : List TagDirective) (R : Reads) (cs bs : List TokenBody)
+    → ((ts : List Token) → token_bodies ts ≡ cs → Filled b ds R ts bs)
+    → (ts : List Token) → token_bodies ts ≡ token.flow_entry ∷ cs → Followed b ds R ts bs
+comma_follows b ds R cs bs fill ts e =
+    let t = take ts token.flow_entry cs e in
+    let i = fill t.rest t.left in
+    record { tree = comma t.span i.tree; rest = i.rest; left = i.left; said = also (silent ds t) i.said }
+
+-- An alias is a node.
+pub alias_grown : (w : Wants) (ds : List TagDirective) (name : List ℕ) (ts : List Token)
+    (bs : List TokenBody) → token_bodies ts ≡ token.alias name ∷ bs
+    → Grown w ds (λ es. event.alias name ∷ es) ts bs
+alias_grown w ds name ts bs e =
+    let t = take ts (token.alias name) bs e in
+    let a = tells ds t (trees.event_at (event.alias name) t.span.from t.span.to) (event.alias name) (λ D h. refl) in
+    record { tree = trees.alias t.span name; rest = t.rest; same = a.same; left = t.left; gives = a.gives }
+
+-- ---- nodes
 
 scalar_grown : (ds : List TagDirective) → Resolves ds → (w : Wants) (x : Scalar) → IsNoMark x.tag
     → (ts : List Token) (bs : List TokenBody) → token_bodies ts ≡ node_bodies ds (scalar_node x) bs
@@ -276,125 +417,17 @@ scalar_grown : (ds : List TagDirective) → Resolves ds → (w : Wants) (x : Sca
 unfolding node_bodies node_reads
 scalar_grown ds r w x fine ts bs e =
     let tail = token.scalar x.value YAML_DOUBLE_QUOTED_SCALAR_STYLE ∷ bs in
-    let e2 = e ∙ ap (λ (y : List TokenBody). anchor_bodies x.anchor y) (scalar_bodies_are ds x.tag x.quoted tail) in
-    let d = with_properties ds x.anchor (scalar_named ds x.tag x.quoted) (scalar_is_named ds r x.tag x.quoted) ts tail e2 in
-    let t = take d.rest (token.scalar x.value YAML_DOUBLE_QUOTED_SCALAR_STYLE) bs d.left in
-    let c : trees.Content w = trees.scalar t.span x.value YAML_DOUBLE_QUOTED_SCALAR_STYLE in
-    record {
-      tree = with_dress d.only_properties c;
-      rest = t.rest;
-      same = d.same ∙ ap (λ (y : List Token). spell_if d.only_properties y) t.same ∙ sym (dress_spells w d.only_properties c t.rest);
-      left = t.left;
-      gives = λ more gs f D same.
-          let P : List Given → Type 0 = λ y. SaysTree (λ es. scalar_reads x.anchor x.tag x.value x.quoted ∷ es) (reading y f D) (reading gs f D) in
-          subst P (sym (dress_gives w d.only_properties c more gs))
-          (step_says (node_at (properties_if d.only_properties) (item.scalar x.value YAML_DOUBLE_QUOTED_SCALAR_STYLE) t.span.from t.span.to, length more) gs f D (scalar_reads x.anchor x.tag x.value x.quoted)
-          (d.gives (item.scalar x.value YAML_DOUBLE_QUOTED_SCALAR_STYLE) t.span.from t.span.to D same ∙ ap (λ (b : EventBody). gave b D) (scalar_event_is ds x.anchor x.tag x.value x.quoted fine)));
-    }
+    let named = e ∙ ap (λ (y : List TokenBody). anchor_bodies x.anchor y) (scalar_bodies_are ds x.tag x.quoted tail) in
+    subst (λ (b : EventBody). Grown w ds (λ es. b ∷ es) ts bs) (scalar_event_is ds x.anchor x.tag x.value x.quoted fine)
+    (dressed_named w ds x.anchor (scalar_named ds x.tag x.quoted) (scalar_is_named ds r x.tag x.quoted) (item.scalar x.value YAML_DOUBLE_QUOTED_SCALAR_STYLE) (λ es. es) tail bs (scalar_contained w ds x.value YAML_DOUBLE_QUOTED_SCALAR_STYLE bs) ts named)
 
-sequence_grown : (ds : List TagDirective) → Resolves ds → (w : Wants) (q : Start) (ns : Nodes)
-    → ((ts : List Token) (bs : List TokenBody) → token_bodies ts
-    ≡ items_bodies ds ns (token.flow_sequence_end ∷ bs)
-    → Filled brackets.Sequence ds (λ es. items_reads ns (event.sequence_end ∷ es)) ts bs)
+collection_grown : (ds : List TagDirective) → Resolves ds → (w : Wants) (b : Brackets)
+    (anchor tag : Option (List ℕ)) (R : Reads) (inside : List TokenBody → List TokenBody)
+    → ((ts : List Token) (bs : List TokenBody) → token_bodies ts ≡ inside bs → Filled b ds R ts bs)
     → (ts : List Token) (bs : List TokenBody)
-    → token_bodies ts ≡ node_bodies ds (sequence_node q ns) bs
-    → Grown w ds (node_reads (sequence_node q ns)) ts bs
-unfolding node_bodies node_reads
-sequence_grown ds r w q ns inner ts bs e =
-    let tail = token.flow_sequence_start ∷ items_bodies ds ns (token.flow_sequence_end ∷ bs) in
-    let e2 = e ∙ ap (λ (y : List TokenBody). anchor_bodies q.anchor y) (tag_bodies_are ds q.tag tail) in
-    let d = with_properties ds q.anchor (tag_named ds q.tag) (tag_is_named ds r q.tag) ts tail e2 in
-    let t = take d.rest token.flow_sequence_start (items_bodies ds ns (token.flow_sequence_end ∷ bs)) d.left in
-    let i = inner t.rest bs t.left in
-    let c : trees.Content w = trees.flow brackets.Sequence t.span i.items in
-    let start = event.sequence_start q.anchor q.tag (is_missing q.tag) YAML_FLOW_SEQUENCE_STYLE in
-    record {
-      tree = with_dress d.only_properties c;
-      rest = i.rest;
-      same = d.same ∙ ap (λ (y : List Token). spell_if d.only_properties y) (t.same ∙ ap (λ (y : List Token). token_at token.flow_sequence_start t.span ∷ y) i.same) ∙ sym (dress_spells w d.only_properties c i.rest);
-      left = i.left;
-      gives = λ more gs f D same.
-          let P : List Given → Type 0 = λ y. SaysTree (λ es. start ∷ items_reads ns (event.sequence_end ∷ es)) (reading y f D) (reading gs f D) in
-          let shape = item.sequence YAML_FLOW_SEQUENCE_STYLE in
-          subst P (sym (dress_gives w d.only_properties c more gs))
-          (both_say (λ es. start ∷ es) (λ es. items_reads ns (event.sequence_end ∷ es)) _ (reading (items_items brackets.Sequence i.items more gs) f D) (reading gs f D)
-          (step_says (node_at (properties_if d.only_properties) shape t.span.from t.span.to, length (spell_items brackets.Sequence i.items more)) (items_items brackets.Sequence i.items more gs) f D start
-          (d.gives shape t.span.from t.span.to D same ∙ ap (λ (o : Option (List ℕ)). gave (node_event q.anchor o shape) D) (full_is ds q.tag)))
-          (i.gives more gs f D same));
-    }
-
-mapping_grown : (ds : List TagDirective) → Resolves ds → (w : Wants) (q : Start) (ps : Pairs)
-    → ((ts : List Token) (bs : List TokenBody) → token_bodies ts
-    ≡ pairs_bodies ds ps (token.flow_mapping_end ∷ bs)
-    → Filled brackets.Mapping ds (λ es. pairs_reads ps (event.mapping_end ∷ es)) ts bs)
-    → (ts : List Token) (bs : List TokenBody)
-    → token_bodies ts ≡ node_bodies ds (mapping_node q ps) bs
-    → Grown w ds (node_reads (mapping_node q ps)) ts bs
-unfolding node_bodies node_reads
-mapping_grown ds r w q ps inner ts bs e =
-    let tail = token.flow_mapping_start ∷ pairs_bodies ds ps (token.flow_mapping_end ∷ bs) in
-    let e2 = e ∙ ap (λ (y : List TokenBody). anchor_bodies q.anchor y) (tag_bodies_are ds q.tag tail) in
-    let d = with_properties ds q.anchor (tag_named ds q.tag) (tag_is_named ds r q.tag) ts tail e2 in
-    let t = take d.rest token.flow_mapping_start (pairs_bodies ds ps (token.flow_mapping_end ∷ bs)) d.left in
-    let i = inner t.rest bs t.left in
-    let c : trees.Content w = trees.flow brackets.Mapping t.span i.items in
-    let start = event.mapping_start q.anchor q.tag (is_missing q.tag) YAML_FLOW_MAPPING_STYLE in
-    record {
-      tree = with_dress d.only_properties c;
-      rest = i.rest;
-      same = d.same ∙ ap (λ (y : List Token). spell_if d.only_properties y) (t.same ∙ ap (λ (y : List Token). token_at token.flow_mapping_start t.span ∷ y) i.same) ∙ sym (dress_spells w d.only_properties c i.rest);
-      left = i.left;
-      gives = λ more gs f D same.
-          let P : List Given → Type 0 = λ y. SaysTree (λ es. start ∷ pairs_reads ps (event.mapping_end ∷ es)) (reading y f D) (reading gs f D) in
-          let shape = item.mapping YAML_FLOW_MAPPING_STYLE in
-          subst P (sym (dress_gives w d.only_properties c more gs))
-          (both_say (λ es. start ∷ es) (λ es. pairs_reads ps (event.mapping_end ∷ es)) _ (reading (items_items brackets.Mapping i.items more gs) f D) (reading gs f D)
-          (step_says (node_at (properties_if d.only_properties) shape t.span.from t.span.to, length (spell_items brackets.Mapping i.items more)) (items_items brackets.Mapping i.items more gs) f D start
-          (d.gives shape t.span.from t.span.to D same ∙ ap (λ (o : Option (List ℕ)). gave (node_event q.anchor o shape) D) (full_is ds q.tag)))
-          (i.gives more gs f D same));
-    }
-
-alias_grown : (ds : List TagDirective) (w : Wants) (name : List ℕ) (ts : List Token)
-    (bs : List TokenBody) → token_bodies ts ≡ node_bodies ds (alias_node name) bs
-    → Grown w ds (node_reads (alias_node name)) ts bs
-unfolding node_bodies node_reads
-alias_grown ds w name ts bs e =
-    let t = take ts (token.alias name) bs e in
-    record {
-      tree = trees.alias t.span name;
-      rest = t.rest;
-      same = t.same;
-      left = t.left;
-      gives = λ more gs f D same. step_says (trees.event_at (event.alias name) t.span.from t.span.to, length more) gs f D (event.alias name) refl;
-    }
-
-items_end : (ds : List TagDirective) (ts : List Token) (bs : List TokenBody)
-    → token_bodies ts ≡ items_bodies ds no_nodes (token.flow_sequence_end ∷ bs)
-    → Filled brackets.Sequence ds (λ es. items_reads no_nodes (event.sequence_end ∷ es)) ts bs
-unfolding items_bodies items_reads
-items_end ds ts bs e =
-    let t = take ts token.flow_sequence_end bs e in
-    record {
-      items = end_items t.span;
-      rest = t.rest;
-      same = t.same;
-      left = t.left;
-      gives = λ more gs f D same. step_says (trees.event_at event.sequence_end t.span.from t.span.to, length more) gs f D event.sequence_end refl;
-    }
-
-pairs_end : (ds : List TagDirective) (ts : List Token) (bs : List TokenBody)
-    → token_bodies ts ≡ pairs_bodies ds no_pairs (token.flow_mapping_end ∷ bs)
-    → Filled brackets.Mapping ds (λ es. pairs_reads no_pairs (event.mapping_end ∷ es)) ts bs
-unfolding pairs_bodies pairs_reads
-pairs_end ds ts bs e =
-    let t = take ts token.flow_mapping_end bs e in
-    record {
-      items = end_items t.span;
-      rest = t.rest;
-      same = t.same;
-      left = t.left;
-      gives = λ more gs f D same. step_says (trees.event_at event.mapping_end t.span.from t.span.to, length more) gs f D event.mapping_end refl;
-    }
+    → token_bodies ts ≡ anchor_bodies anchor (tag_bodies ds tag (opening b ∷ inside bs))
+    → Grown w ds (λ es. node_event anchor tag (flow_shape b) ∷ R es) ts bs
+collection_grown ds r w b anchor tag R inside fill ts bs e = dressed w ds r anchor tag (flow_shape b) R (opening b ∷ inside bs) bs (λ us x. bracketed b w ds R us (inside bs) bs (λ vs y. fill vs bs y) x) ts e
 
 abbrev NodeGrows : List TagDirective → Node → Type 0
 NodeGrows ds n = (w : Wants) (ts : List Token) (bs : List TokenBody) → token_bodies ts ≡ node_bodies ds n bs → Grown w ds (node_reads n) ts bs
@@ -412,16 +445,7 @@ item_grows ds x xs one more_items ts bs e =
     let n = one Flow ts (token.flow_entry ∷ items_bodies ds xs (token.flow_sequence_end ∷ bs)) e in
     let k = take n.rest token.flow_entry (items_bodies ds xs (token.flow_sequence_end ∷ bs)) n.left in
     let i = more_items k.rest bs k.left in
-    let others : More = comma k.span i.items in
-    record {
-      items = single n.tree others;
-      rest = i.rest;
-      same = n.same ∙ ap (λ (y : List Token). spell_node n.tree y) (k.same ∙ ap (λ (y : List Token). token_at token.flow_entry k.span ∷ y) i.same);
-      left = i.left;
-      gives = λ more gs f D same.
-          both_say (node_reads x) (λ es. items_reads xs (event.sequence_end ∷ es)) _ (reading (items_items brackets.Sequence i.items more gs) f D) (reading gs f D)
-          (n.gives (spell_more brackets.Sequence others more) (items_items brackets.Sequence i.items more gs) f D same) (i.gives more gs f D same);
-    }
+    record { tree = single n.tree (comma k.span i.tree); rest = i.rest; left = i.left; said = also (grown n) (also (silent ds k) i.said) }
 
 pair_grows : (ds : List TagDirective) (k v : Node) (ps : Pairs) → NodeGrows ds k → NodeGrows ds v
     → PairsGrow ds ps → PairsGrow ds (pair k v ps)
@@ -434,39 +458,30 @@ pair_grows ds k v ps key value more_pairs ts bs e =
     let b = value Flow c.rest (token.flow_entry ∷ tail) c.left in
     let o = take b.rest token.flow_entry tail b.left in
     let i = more_pairs o.rest bs o.left in
-    let others : More = comma o.span i.items in
     record {
-      items = trees.pair q.span (there a.tree) (colon c.span (there b.tree)) others;
+      tree = trees.pair q.span (there a.tree) (colon c.span (there b.tree)) (comma o.span i.tree);
       rest = i.rest;
-      same = q.same
-          ∙ ap (λ (y : List Token). token_at token.key q.span ∷ y)
-          (a.same
-          ∙ ap (λ (y : List Token). spell_node a.tree y)
-          (c.same ∙ ap (λ (y : List Token). token_at token.value c.span ∷ y) (b.same ∙ ap (λ (y : List Token). spell_node b.tree y) (o.same ∙ ap (λ (y : List Token). token_at token.flow_entry o.span ∷ y) i.same))));
       left = i.left;
-      gives = λ more gs f D same.
-          let rest = items_items brackets.Mapping i.items more gs in
-          let behind_value = items_node b.tree (spell_more brackets.Mapping others more) rest in
-          both_say (node_reads k) (λ es. node_reads v (pairs_reads ps (event.mapping_end ∷ es))) _ (reading behind_value f D) (reading gs f D)
-          (a.gives (spell_colon (colon c.span (there b.tree)) (spell_more brackets.Mapping others more)) behind_value f D same)
-          (both_say (node_reads v) (λ es. pairs_reads ps (event.mapping_end ∷ es)) _ (reading rest f D) (reading gs f D) (b.gives (spell_more brackets.Mapping others more) rest f D same) (i.gives more gs f D same));
+      said = also (silent ds q) (also (grown a) (also (silent ds c) (also (grown b) (also (silent ds o) i.said))));
     }
 
 mutual
+  unfolding node_bodies node_reads items_bodies items_reads pairs_bodies pairs_reads
+
   node_grows : (ds : List TagDirective) → Resolves ds → (n : Node) → HasNoMark n → NodeGrows ds n
-  node_grows ds r (alias_node name) fine = λ w. alias_grown ds w name
+  node_grows ds r (alias_node name) fine = λ w. alias_grown w ds name
   node_grows ds r (scalar_node x) fine = λ w. scalar_grown ds r w x fine
-  node_grows ds r (sequence_node q items) fine = λ w. sequence_grown ds r w q items (items_grow ds r items fine)
-  node_grows ds r (mapping_node q pairs) fine = λ w. mapping_grown ds r w q pairs (pairs_grow ds r pairs fine)
+  node_grows ds r (sequence_node q items) fine = λ w. collection_grown ds r w brackets.Sequence q.anchor q.tag (λ es. items_reads items (event.sequence_end ∷ es)) (λ bs. items_bodies ds items (token.flow_sequence_end ∷ bs)) (items_grow ds r items fine)
+  node_grows ds r (mapping_node q pairs) fine = λ w. collection_grown ds r w brackets.Mapping q.anchor q.tag (λ es. pairs_reads pairs (event.mapping_end ∷ es)) (λ bs. pairs_bodies ds pairs (token.flow_mapping_end ∷ bs)) (pairs_grow ds r pairs fine)
 
   items_grow : (ds : List TagDirective) → Resolves ds → (ns : Nodes) → HaveNoMark ns
       → ItemsGrow ds ns
-  items_grow ds r no_nodes fine = items_end ds
+  items_grow ds r no_nodes fine = λ ts bs e. brackets_end brackets.Sequence ds ts bs e
   items_grow ds r (node x xs) (fx, fine) = item_grows ds x xs (node_grows ds r x fx) (items_grow ds r xs fine)
 
   pairs_grow : (ds : List TagDirective) → Resolves ds → (ps : Pairs) → PairsHaveNoMark ps
       → PairsGrow ds ps
-  pairs_grow ds r no_pairs fine = pairs_end ds
+  pairs_grow ds r no_pairs fine = λ ts bs e. brackets_end brackets.Mapping ds ts bs e
   pairs_grow ds r (pair k v ps) (fk, fv, fine) = pair_grows ds k v ps (node_grows ds r k fk) (node_grows ds r v fv) (pairs_grow ds r ps fine)
 
 pub nodes_grown : (ds : List TagDirective) → Resolves ds → (w : Wants) (n : Node) → HasNoMark n

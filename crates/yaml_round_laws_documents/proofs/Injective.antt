@@ -31,10 +31,6 @@ begins (scalar_node x) es = refl
 begins (sequence_node q items) es = refl
 begins (mapping_node q pairs) es = refl
 
-same_kind : (m n : Node) (x y : List Event) → node_events m x ≡ node_events n y
-    → node_kind m ≡ node_kind n
-same_kind m n x y e = sym (begins m x) ∙ ap (λ (es : List Event). first_kind es) e ∙ begins n y
-
 no_kind : (n : Node) → node_kind n ≡ 0 → ⊥
 no_kind (alias_node name) e = absurd (cc)
 no_kind (scalar_node x) e = absurd (cc)
@@ -47,7 +43,7 @@ not_end n x y b z e = no_kind n (sym (begins n y) ∙ sym (ap (λ (es : List Eve
 
 apart_kinds : (m n : Node) (j k : ℕ) → node_kind m ≡ j → node_kind n ≡ k → (j ≡ k → ⊥)
     → (x y : List Event) → node_events m x ≡ node_events n y → ⊥
-apart_kinds m n j k a b d x y e = d (sym a ∙ same_kind m n x y e ∙ b)
+apart_kinds m n j k a b d x y e = d (sym a ∙ (sym (begins m x) ∙ ap (λ (es : List Event). first_kind es) e ∙ begins n y) ∙ b)
 
 -- ---- parts
 
@@ -133,9 +129,6 @@ unfolding pairs_events
 pairs_none no_pairs x y e = (refl, rest_same event.mapping_end event.mapping_end x y e)
 pairs_none (pair k v ps) x y e = absurd (not_end k x (node_events v (pairs_events ps (event.mapping_end ∷ y))) event.mapping_end refl e)
 
-pair_same : (k l v w : Node) (m n : Pairs) → k ≡ l → v ≡ w → m ≡ n → pair k v m ≡ pair l w n
-pair_same k l v w m n e f g = ap (λ (z : Node). pair z v m) e ∙ ap (λ (z : Node). pair l z m) f ∙ ap (λ (z : Pairs). pair l w z) g
-
 pairs_more : (k v : Node) (ps : Pairs) → Known k → Known v → PairsKnown ps
     → PairsKnown (pair k v ps)
 unfolding pairs_events
@@ -144,7 +137,7 @@ pairs_more k v ps key value more (pair l w qs) x y e =
     let (i, r) = key l (node_events v (pairs_events ps (event.mapping_end ∷ x))) (node_events w (pairs_events qs (event.mapping_end ∷ y))) e in
     let (j, s) = value w (pairs_events ps (event.mapping_end ∷ x)) (pairs_events qs (event.mapping_end ∷ y)) r in
     let (h, z) = more qs x y s in
-    (pair_same k l v w ps qs i j h, z)
+    ((ap (λ (z : Node). pair z v ps) i ∙ ap (λ (z : Node). pair l z ps) j ∙ ap (λ (z : Pairs). pair l w z) h), z)
 
 mutual
   node_known : (m : Node) → Known m

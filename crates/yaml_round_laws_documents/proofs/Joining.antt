@@ -3,7 +3,7 @@ use Rattle.std.proofs.Common.{◌≡◌, ℕ, ◌<◌, ◌&&◌, nat_le, if◌th
 use Rattle.std.proofs.lemmas.Bool.Decides.{nat_tests}
 use Rattle.yaml_round_laws_documents.specs.emit_laws_text.scan_model.declared.yaml_encoding_t.{yaml_encoding_t}
 use Rattle.yaml_round_laws_documents.specs.emit_laws_text.scan_model.declared.yaml_encoding_t.TheVariants.{YAML_ANY_ENCODING}
-use Rattle.yaml_round_laws_documents.specs.scan_decode.Decoding.{decoded_text}
+use Rattle.yaml_emit_laws_text.specs.scan_history.scan_decode.Decoding.{decoded_text}
 use Rattle.yaml_round_laws_documents.specs.emit_laws_text.scan_history.Remaining.{Remaining}
 use Rattle.yaml_round_laws_documents.specs.emit_laws_text.scan_history.Scanned.{scanned, scanned_in}
 use Rattle.yaml_round_laws_documents.specs.emit_laws_text.emit_layout.emit_text.Settings.{settled, settled_indent}

@@ -1,6 +1,5 @@
 -- Layouts that write characters which a stream may hold.
-use Rattle.std.proofs.Common.{ℕ, zero, suc, ◌+◌, ◌-◌, Bool, true, false, List, [], ◌∷◌}
-use Rattle.std.specs.Prelude.{if◌then◌else◌}
+use Rattle.std.proofs.Common.{ℕ, zero, suc, ◌+◌, ◌-◌, Bool, true, false, List, [], ◌∷◌, if◌then◌else◌}
 use Rattle.yaml_emit_laws_text.specs.emit_text.declared.Cursor.{Cursor}
 use Rattle.yaml_emit_laws_text.specs.emit_text.declared.LineBreak.{LineBreak}
 use Rattle.yaml_emit_laws_text.specs.emit_text.declared.LineBreak.TheVariants.{Lf, Cr, CrLf}
@@ -90,13 +89,10 @@ word_tame xs fs = both gap (letters xs) gap_tame (letters_tame xs fs)
 pub opener_tame : (x : ℕ) → Fits x → Tame (opener x)
 opener_tame x f = both gap (λ c rest. letter x ∷ rest (record { column = c.column + 1; white = true; bare = false; kept = c.kept })) gap_tame (λ c rest h. letter_allowed x (rest _) f (h _))
 
-indent_tame : (n : ℕ) → Tame (indent_to n)
-indent_tame n c rest h = blanks_tame (n - c.column) c rest h
-
 -- A line with its indentation is tame.
 pub line_tame : (b : LineBreak) (n : ℕ) → Tame (line b n)
 unfolding line
-line_tame b n = both (choose (must_break n) (new_line b) stay) (indent_to n) (choose_tame (must_break n) (new_line b) stay (new_line_tame b) stay_tame) (indent_tame n)
+line_tame b n = both (choose (must_break n) (new_line b) stay) (indent_to n) (choose_tame (must_break n) (new_line b) stay (new_line_tame b) stay_tame) (λ c rest h. blanks_tame (n - c.column) c rest h)
 
 -- To keep or not to keep breaks is tame.
 pub keep_tame : (b : Bool) → Tame (keep b)

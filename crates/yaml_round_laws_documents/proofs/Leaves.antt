@@ -1,11 +1,9 @@
 -- Handles, tags, directives and quoted scalars.
-use Rattle.std.proofs.Common.{◌≡◌, ℕ, ◌-◌, ◌<◌, Bool, true, false, not, ◌&&◌, ◌==◌, List, [], ◌∷◌, ◌++◌, length, take, drop, get_or, Option, Some, None, refl, sym, ap, subst, ◌∙◌, arith}
-use Rattle.std.specs.Prelude.{if◌then◌else◌, IsUtf8, codes}
+use Rattle.std.proofs.Common.{◌≡◌, ℕ, ◌-◌, ◌<◌, Bool, true, false, not, ◌&&◌, ◌==◌, List, [], ◌∷◌, ◌++◌, length, take, drop, get_or, Option, Some, None, refl, sym, ap, subst, ◌∙◌, arith, if◌then◌else◌, IsUtf8, codes, chars}
 use Rattle.std.specs.List.{list_all}
-use Rattle.std.specs.Str.{chars}
 use Rattle.std.proofs.lemmas.Str.{scalars-chars}
 use Rattle.std.proofs.lemmas.Bool.{and_parts, eqb-true, not-false}
-use Rattle.yaml_emit_laws_text.specs.scan_model.Classes.{is_alpha_byte}
+use Rattle.yaml_round_laws_documents.specs.emit_laws_text.scan_model.Classes.{is_alpha_byte}
 use Rattle.yaml_emit_laws_text.specs.scan_model.declared.yaml_version_directive_t.{yaml_version_directive_t}
 use Rattle.yaml_round_content.specs.parse_model.Events.{TagDirective}
 use Rattle.yaml_emit_laws_text.specs.emit_text.declared.Settings.{Settings}
@@ -135,13 +133,10 @@ tame_by : (b : Bool) (x y : Layout) → (b ≡ true → Tame x) → (b ≡ false
 tame_by true x y f g = f refl
 tame_by false x y f g = g refl
 
-slash : Fits 92
-slash = graphic 92 (omega arith) (omega arith)
-
 fold_tame : (page : Page) (rest : List ℕ) → Tame (fold page rest)
 fold_tame page rest =
     both (new_line page.line_break) (blanks page.indentation ▹ when (first rest == 32) (char 92)) (new_line_tame page.line_break)
-    (both (blanks page.indentation) (when (first rest == 32) (char 92)) (blanks_tame page.indentation) (when_tame (first rest == 32) (char 92) (char_tame 92 slash)))
+    (both (blanks page.indentation) (when (first rest == 32) (char 92)) (blanks_tame page.indentation) (when_tame (first rest == 32) (char 92) (char_tame 92 (graphic 92 (omega arith) (omega arith)))))
 
 escaped_tame : (unicode : Bool) (x : ℕ) → x < 1114112 → Tame (escaped unicode x)
 escaped_tame unicode x h = tame_by (needs_escape unicode x) (letters (escape_text x)) (char x) (λ _. letters_tame (escape_text x) (escape_fits x h)) (λ e. char_tame x (raw_fits unicode x e))

@@ -1,8 +1,7 @@
 -- What tells the encoding: canonical text in UTF-8 begins with no mark.
-use Rattle.std.proofs.Common.{◌≡◌, ℕ, ◌<◌, true, false, List, [], ◌∷◌, drop, Option, Some, None, refl, arith}
-use Rattle.std.specs.Prelude.{nat_eq}
+use Rattle.std.proofs.Common.{◌≡◌, ℕ, ◌<◌, true, false, List, [], ◌∷◌, drop, Option, Some, None, refl, arith, nat_eq}
 use Rattle.std.proofs.lemmas.Bool.Decides.{nat_tests}
-use Rattle.yaml_emit_laws_text.specs.scan_model.declared.yaml_encoding_t.TheVariants.{YAML_ANY_ENCODING, YAML_UTF8_ENCODING, YAML_UTF16LE_ENCODING, YAML_UTF16BE_ENCODING}
+use Rattle.yaml_round_laws_documents.specs.emit_laws_text.scan_model.declared.yaml_encoding_t.TheVariants.{YAML_ANY_ENCODING, YAML_UTF8_ENCODING, YAML_UTF16LE_ENCODING, YAML_UTF16BE_ENCODING}
 use Rattle.yaml_emit_laws_text.specs.scan_model.declared.yaml_version_directive_t.{yaml_version_directive_t}
 use Rattle.yaml_emit_laws_text.specs.scan_history.scan_decode.Encodings.{encoding_of, mark_length}
 use Rattle.yaml_round_content.specs.parse_model.Events.{TagDirective}
@@ -39,14 +38,10 @@ begins s (Some v) ds rest = omega arith
 begins s None (d ∷ ds) rest = omega arith
 begins s None [] rest = omega arith
 
-nothing_begins : BeginsLow (encode Utf8 [])
-unfolding encode
-nothing_begins = tt
-
 pub text_begins : (s : Settings) (ds : List Document)
     → BeginsLow (encode Utf8 (written (documents_layout (canonically s) true false ds)))
-unfolding documents_layout stop_layout start_layout
-text_begins s [] = nothing_begins
+unfolding documents_layout stop_layout start_layout encode
+text_begins s [] = tt
 text_begins s (d ∷ ds) = begins s d.opening.version d.opening.directives _
 
 -- ---- UTF-16

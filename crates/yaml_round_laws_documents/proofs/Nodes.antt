@@ -1,6 +1,5 @@
 -- The canonical layout of documents.
-use Rattle.std.proofs.Common.{ℕ, ◌-◌, Bool, true, false, not, ◌&&◌, nat_lt, List, [], ◌∷◌, Option, arith}
-use Rattle.std.specs.Str.{chars}
+use Rattle.std.proofs.Common.{ℕ, ◌-◌, Bool, true, false, not, ◌&&◌, nat_lt, List, [], ◌∷◌, Option, arith, chars}
 use Rattle.yaml_round_content.specs.parse_model.Events.{TagDirective}
 use Rattle.yaml_emit_laws_text.specs.emit_text.declared.Settings.{Settings}
 use Rattle.yaml_emit_laws_text.specs.emit_text.Layout.{◌▹◌, stay, choose, when, char, word, opener, keep}
@@ -38,9 +37,6 @@ pub properties_tame : (p : Context) → TagsFit p.directives → (anchor tag : O
     → IsNameOption anchor → IsTextOption tag → Tame (properties_text p anchor tag)
 properties_tame p fit anchor tag ha ht = both (anchor_text anchor) (tag_text p tag) (anchor_tame anchor ha) (tag_tame p fit tag ht)
 
-marked_tame : (b : Bool) → Tame (when b (word (33 ∷ [])))
-marked_tame b = when_tame b (word (33 ∷ [])) (word_tame (33 ∷ []) (graphic 33 (omega arith) (omega arith), tt))
-
 -- ---- leaves
 
 abbrev NodeTame : Settings → List TagDirective → Node → Type 0
@@ -60,7 +56,7 @@ scalar_tame s ds fit x (ha, ht, hv) at =
     let p = context s ds in
     let page = page_at p.settings at in
     both (properties_text p x.anchor x.tag) _ (properties_tame p fit x.anchor x.tag ha ht)
-    (both _ _ (marked_tame _)
+    (both _ _ (when_tame _ (word (33 ∷ [])) (word_tame (33 ∷ []) (graphic 33 (omega arith) (omega arith), tt)))
     (both (checked (deeper p.settings at.around)) (double_quoted page (chars x.value)) (checked_tame (deeper p.settings at.around)) (quoted_tame page x.value hv)))
 
 -- ---- collections
@@ -198,19 +194,11 @@ start_tame s first unended d ds (right, prefixes, root, more) =
     (both (version_text s o.version) (directives_text (canonically s) o.directives ▹ dashes (canonically s)) (version_tame s o.version)
     (both (directives_text (canonically s) o.directives) (dashes (canonically s)) (directives_tame (canonically s) o.directives fit prefixes) (dashes_tame s))))
 
-end_tame : (s : Settings) (implicit : Bool) → Tame (end_layout (canonically s) implicit)
-unfolding end_layout
-end_tame s implicit = both (line_at s 0) (when (not implicit) (dots s)) (line_tame s.line_break 0) (when_tame (not implicit) (dots s) (dots_tame s))
-
-stop_tame : (s : Settings) (unended : Bool) → Tame (stop_layout (canonically s) unended)
-unfolding stop_layout
-stop_tame s unended = when_tame unended (choose is_kept (dots s) stay) (choose_tame is_kept (dots s) stay (dots_tame s) stay_tame)
-
 document_tame : (s : Settings) (first unended : Bool) (d : Document) (ds : List Document)
     → DocumentsAreSpellable (d ∷ ds)
     → Tame (documents_layout (canonically s) false d.implicit_end ds)
     → Tame (documents_layout (canonically s) first unended (d ∷ ds))
-unfolding documents_layout
+unfolding documents_layout end_layout
 document_tame s first unended d ds (right, prefixes, root, more) rest =
     let z = canonically s in
     let o = d.opening in
@@ -218,10 +206,10 @@ document_tame s first unended d ds (right, prefixes, root, more) rest =
     let body = node_layout (context s o.directives) root_position d.root in
     both (start_layout z first unended o) (body ▹ (end_layout z d.implicit_end ▹ documents_layout z false d.implicit_end ds)) (start_tame s first unended d ds (right, prefixes, root, more))
     (both body (end_layout z d.implicit_end ▹ documents_layout z false d.implicit_end ds) (node_tame s o.directives fit d.root root root_position)
-    (both (end_layout z d.implicit_end) (documents_layout z false d.implicit_end ds) (end_tame s d.implicit_end) rest))
+    (both (end_layout z d.implicit_end) (documents_layout z false d.implicit_end ds) (both (line_at s 0) (when (not d.implicit_end) (dots s)) (line_tame s.line_break 0) (when_tame (not d.implicit_end) (dots s) (dots_tame s))) rest))
 
 pub documents_tame : (s : Settings) (first unended : Bool) (ds : List Document)
     → DocumentsAreSpellable ds → Tame (documents_layout (canonically s) first unended ds)
-unfolding documents_layout
-documents_tame s first unended [] h = stop_tame s unended
+unfolding documents_layout stop_layout
+documents_tame s first unended [] h = when_tame unended (choose is_kept (dots s) stay) (choose_tame is_kept (dots s) stay (dots_tame s) stay_tame)
 documents_tame s first unended (d ∷ ds) (right, prefixes, root, more) = document_tame s first unended d ds (right, prefixes, root, more) (documents_tame s false d.implicit_end ds more)

@@ -1,14 +1,13 @@
 -- What each half of reading back asks of a content's documents, from what may be written.
-use Rattle.std.proofs.Common.{◌≡◌, inl, inr, ℕ, Bool, false, ◌&&◌, List, [], ◌∷◌, Option, Some, None, refl, sym, ap, ◌∙◌, codes}
+use Rattle.std.proofs.Common.{◌≡◌, inl, inr, ℕ, Bool, false, ◌&&◌, List, [], ◌∷◌, Option, Some, None, refl, sym, ap, ◌∙◌, codes, IsUtf8, bytes_eq}
 use Rattle.std.specs.List.{list_all}
-use Rattle.std.specs.Str.{IsUtf8, bytes_eq}
 use Rattle.std.proofs.lemmas.Bool.{cases_Bool}
 use Rattle.std.proofs.lemmas.Slice.Eq.{bytes_eq-Decides}
 use Rattle.yaml_round_laws_documents.specs.emit_laws_text.scan_model.Classes.{is_alpha_byte}
 use Rattle.yaml_round_laws_documents.specs.emit_laws_text.scan_history.scan_words.Written.{are_alphas}
-use Rattle.yaml_round_laws_documents.specs.parse_grammar.parse_model.Events.{TagDirective}
-use Rattle.yaml_round_laws_documents.specs.emit_laws_text.emit_layout.Content.{Opening}
-use Rattle.yaml_round_laws_documents.specs.emit_laws_text.emit_layout.Grammar.{opening_problem}
+use Rattle.yaml_round_content.specs.parse_model.Events.{TagDirective}
+use Rattle.yaml_emit_laws_text.specs.emit_layout.Content.{Opening}
+use Rattle.yaml_emit_laws_text.specs.emit_layout.Grammar.{opening_problem}
 use Rattle.yaml_round_content.specs.Said.{ScalarMark, untagged, tagged, Node, alias, scalar, sequence, mapping, Nodes, no_nodes, node, Pairs, no_pairs, pair, Document}
 use Rattle.yaml_round_content.specs.Canon.{written_scalar, written_node, written_nodes, written_pairs, written_document, written_documents}
 use Rattle.yaml_emit_laws_text.specs.TagsLaws.{HaveUtf8, WrittenTagsAreReadable}

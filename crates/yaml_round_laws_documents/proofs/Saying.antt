@@ -1,15 +1,14 @@
 -- The events that are read of a content's canonical documents say the content.
-use Rattle.std.proofs.Common.{◌≡◌, inl, inr, ℕ, Bool, true, false, not, ◌&&◌, ◌==◌, List, [], ◌∷◌, length, map, Option, Some, refl, ap, ◌∙◌, codes, arith, sym}
-use Rattle.std.specs.Str.{bytes_eq}
+use Rattle.std.proofs.Common.{◌≡◌, inl, inr, ℕ, Bool, true, false, not, ◌&&◌, ◌==◌, List, [], ◌∷◌, length, map, Option, Some, refl, ap, ◌∙◌, codes, arith, sym, bytes_eq}
 use Rattle.std.proofs.lemmas.Bool.{cases_Bool, eqb-true, and_parts, true≢false}
 use Rattle.std.proofs.lemmas.Slice.Eq.{bytes_eq-Decides}
 use Rattle.yaml_round_laws_documents.specs.emit_laws_text.scan_model.declared.yaml_scalar_style_t.TheVariants.{YAML_DOUBLE_QUOTED_SCALAR_STYLE}
 use Rattle.yaml_round_laws_documents.specs.emit_laws_text.scan_model.declared.yaml_sequence_style_t.TheVariants.{YAML_ANY_SEQUENCE_STYLE}
 use Rattle.yaml_round_laws_documents.specs.emit_laws_text.scan_model.declared.yaml_mapping_style_t.TheVariants.{YAML_ANY_MAPPING_STYLE}
 use Rattle.yaml_round_laws_documents.specs.emit_laws_text.scan_model.declared.yaml_encoding_t.TheVariants.{YAML_ANY_ENCODING}
-use Rattle.yaml_round_laws_documents.specs.parse_grammar.parse_model.Events.{EventBody}
-use Rattle.yaml_round_laws_documents.specs.parse_grammar.parse_model.Events as event
-use Rattle.yaml_round_laws_documents.specs.parse_grammar.Resolve.{Told}
+use Rattle.yaml_round_content.specs.parse_model.Events.{EventBody}
+use Rattle.yaml_round_content.specs.parse_model.Events as event
+use Rattle.yaml_round_content.specs.parse_grammar.Resolve.{Told}
 use Rattle.yaml_round_content.specs.Normalize.{is_lone_mark, normalize_scalar, normalize_body}
 use Rattle.yaml_round_content.specs.Content.{content_of}
 use Rattle.yaml_round_content.specs.Events.{contents}

@@ -2,11 +2,11 @@
 use Rattle.std.proofs.Common.{ℕ, List, [], ◌∷◌, Option, All}
 use Rattle.std.proofs.lemmas.List.Elements.{All-nil, All-cons}
 use Rattle.yaml_round_laws_documents.specs.emit_laws_text.scan_model.declared.yaml_encoding_t.{yaml_encoding_t}
-use Rattle.yaml_round_laws_documents.specs.emit_laws_text.scan_model.Faults.{Fault}
+use Rattle.yaml_emit_laws_text.specs.scan_model.Faults.{Fault}
 use Rattle.yaml_round_laws_documents.specs.parse_grammar.parse_model.Nodes as model
 use Rattle.yaml_round_content.specs.parse_laws_trees.parse_document.Documents.{Document, IsDocument}
 use Rattle.yaml_round_content.specs.parse_laws_trees.parse_loader.Order.{IsInPreorder}
-use Rattle.yaml_round_laws_documents.specs.parse_grammar.Resolve.{Told}
+use Rattle.yaml_round_content.specs.parse_grammar.Resolve.{Told}
 use Rattle.yaml_round_content.specs.parse_laws_trees.parse_loader.Loading.{Loading, LoadStep, goes_on, loaded, refused, nothing_loaded, step}
 use Rattle.yaml_round_content.specs.emit_laws_dumps.StreamsLaws.{RightDocument, AreRight, AreRightTold, RightFed}
 use Rattle.yaml_round_content.specs.parse_laws_trees.parse_loader.Sound.{IsLoading}
@@ -75,10 +75,7 @@ unfolding load_all
 all_right [] f l h r = tt
 all_right (g ∷ gs) f l h r = on_right (step g.0 l) (load_all gs f) (steps g.0 l h.0 r) (λ m s. all_right gs f m h.1 s)
 
-told_right : (from : yaml_encoding_t) (input : List ℕ) → AreRightTold (events_of from input)
-unfolding read
-told_right from input = inputs_load_right from input
-
 pub documents_right : (from : yaml_encoding_t) (input : List ℕ)
     → AreRight (loads_of from input).documents
-documents_right from input = all_right (events_of from input) (ending_of from input) nothing_loaded (told_right from input) empty_right
+unfolding read
+documents_right from input = all_right (events_of from input) (ending_of from input) nothing_loaded (inputs_load_right from input) empty_right

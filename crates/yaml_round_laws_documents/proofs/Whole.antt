@@ -1,12 +1,11 @@
 -- The laws of loaded documents and of their texts, joined from the laws beneath.
 use Rattle.std.proofs.Common.{◌≡◌, ℕ, List, map, Option, Some, None, Ok, sym, ap, subst, ◌∙◌}
 use Rattle.yaml_round_laws_documents.specs.emit_laws_text.scan_model.declared.yaml_encoding_t.TheVariants.{YAML_ANY_ENCODING}
-use Rattle.yaml_round_laws_documents.specs.emit_laws_text.scan_model.Faults.{Fault}
+use Rattle.yaml_emit_laws_text.specs.scan_model.Faults.{Fault}
 use Rattle.yaml_round_content.specs.parse_laws_trees.parse_document.Documents.{Document}
 use Rattle.yaml_round_content.specs.parse_laws_trees.parse_loader.Loading.{nothing_loaded}
 use Rattle.yaml_round_content.proofs.Loads.{loads_document}
 use Rattle.yaml_round_content.proofs.Visited.{numbered_in_order}
-use Rattle.yaml_round_content.specs.emit_laws_dumps.DumpsLaws.{DumpsNumberBack}
 use Rattle.yaml_round_content.proofs.Apart.{apart_all, again_all}
 use Rattle.yaml_round_content.proofs.Again.{again_turns}
 use Rattle.yaml_round_content.proofs.Back.{numbered_back}
@@ -64,11 +63,8 @@ all_writable = loaded_writable all_load input_utf8
 
 -- ---- what a dump says
 
-dumps_number : DumpsNumberBack
-dumps_number = number_back again_all again_turns (numbers_found apart_all) numbered_back
-
 dumps_load : DumpsLoadBack
-dumps_load = dumps_loaded content_said content_is_loaded (trees.numbered_back dumps_number) loads_of_contents
+dumps_load = dumps_loaded content_said content_is_loaded (trees.numbered_back (number_back again_all again_turns (numbers_found apart_all) numbered_back)) loads_of_contents
 
 -- ---- texts
 

@@ -1,25 +1,19 @@
 -- What a document says that an input loads may be written.
-use Rattle.std.proofs.Common.{subst, ◌≡◌, ◌<◌, ℕ, zero, suc, ℤ, pos, negsuc, Bool, true, false, ◌==◌, if◌then◌else◌, List, [], ◌∷◌, length, Option, Some, None, IsUtf8, refl, ap, codes, arith, sym, ◌∙◌}
-use Rattle.std.specs.Prelude.{slice_get}
+use Rattle.std.proofs.Common.{◌≡◌, ◌<◌, ℕ, zero, suc, ℤ, pos, negsuc, Bool, true, false, ◌==◌, if◌then◌else◌, List, [], ◌∷◌, length, Some, None, IsUtf8, refl, ap, codes, arith, sym, ◌∙◌, slice_get, true≢false}
 use Rattle.std.specs.List.{list_all}
 use Rattle.std.proofs.lemmas.Str.{IsUtf8-nil}
 use Rattle.std.proofs.lemmas.Bool.Decides.{nat_tests}
-use Rattle.std.proofs.lemmas.Bool.{true≢false}
+use Rattle.yaml_round_content.proofs.Contents.{root_holds}
 use Rattle.yaml_round_laws_documents.specs.emit_laws_text.scan_model.Classes.{is_alpha_byte}
-use Rattle.yaml_round_laws_documents.specs.parse_grammar.parse_model.declared.yaml_node_pair_t.{yaml_node_pair_t}
 use Rattle.yaml_round_laws_documents.specs.parse_grammar.parse_model.Constructors.{AreUtf8}
-use Rattle.yaml_round_laws_documents.specs.parse_grammar.parse_model.Events.{TagDirective}
+use Rattle.yaml_round_content.specs.parse_model.Events.{TagDirective}
 use Rattle.yaml_round_laws_documents.specs.parse_grammar.parse_model.Nodes as model
-use Rattle.yaml_round_content.specs.parse_laws_trees.parse_document.Documents.{IsSoundBody, AreSound, str_tag, seq_tag, map_tag}
+use Rattle.yaml_round_content.specs.parse_laws_trees.parse_document.Documents.{IsSoundBody, AreSound, str_tag}
 use Rattle.yaml_round_content.specs.parse_laws_trees.parse_document.Documents as documents
 use Rattle.yaml_round_content.specs.parse_laws_trees.parse_loader.Numbering.{is_bang}
 use Rattle.yaml_round_laws_documents.specs.emit_laws_text.emit_layout.declared.Problem.{Problem}
 use Rattle.yaml_round_laws_documents.specs.emit_laws_text.emit_layout.declared.Problem.TheVariants as problem
-use Rattle.yaml_round_laws_documents.specs.emit_laws_text.emit_layout.Content as emit
-use Rattle.yaml_round_laws_documents.specs.emit_laws_text.emit_layout.Content.{is_flow_sequence, is_flow_mapping}
-use Rattle.yaml_round_content.specs.emit_laws_dumps.emit_graph.Graph.{Met, is_met, meet, body_at, tag_at, body_of_id, tag_of_id, number_at, numbers, name_of, anchor_of, graph_start, none_met, graph_root, graph_content}
-use Rattle.yaml_round_content.specs.emit_laws_dumps.emit_graph.Onward.{items_by, pairs_by, node_by, content_by, itself, root_onward}
-use Rattle.yaml_round_content.proofs.ContentJoining.{root_joined}
+use Rattle.yaml_round_content.specs.emit_laws_dumps.emit_graph.Graph.{body_at, tag_at, body_of_id, tag_of_id, name_of, anchor_of, graph_root, graph_content}
 use Rattle.yaml_round_content.specs.emit_laws_dumps.StreamsLaws.{AreTagged, RightDocument, AreRight}
 use Rattle.yaml_round_content.proofs.Sound.{str_utf8}
 use Rattle.yaml_round_content.proofs.Naming.{name_right}
@@ -99,70 +93,21 @@ fine_id nodes h (pos zero) = str_fine
 fine_id nodes h (pos (suc k)) = h k
 fine_id nodes h (negsuc k) = str_fine
 
--- ---- the walk: what may be written stays so, whatever is made of it
-
-record KeepsNode (rest : emit.Node → Met → emit.Node) : Type 0 where
-  goes : (v : emit.Node) (m : Met) → IsWritable (tree_of v) → IsWritable (tree_of (rest v m))
-
-record KeepsNodes (rest : emit.Nodes → Met → emit.Node) : Type 0 where
-  goes : (vs : emit.Nodes) (m : Met) → AreItemsWritable (trees_of vs)
-      → IsWritable (tree_of (rest vs m))
-
-record KeepsPairs (rest : emit.Pairs → Met → emit.Node) : Type 0 where
-  goes : (ps : emit.Pairs) (m : Met) → ArePairsWritable (pair_trees_of ps)
-      → IsWritable (tree_of (rest ps m))
-
-record Visits (visit : ℤ → (emit.Node → Met → emit.Node) → Met → emit.Node) : Type 0 where
-  goes : (id : ℤ) (rest : emit.Node → Met → emit.Node) (met : Met) → KeepsNode rest
-      → IsWritable (tree_of (visit id rest met))
-
-module _ (visit : ℤ → (emit.Node → Met → emit.Node) → Met → emit.Node) (w : Visits visit) where
-  items_written : (ids : List ℤ) (rest : emit.Nodes → Met → emit.Node) (met : Met) → KeepsNodes rest
-      → IsWritable (tree_of (items_by visit ids rest met))
-  unfolding items_by
-  items_written [] rest met k = k.goes emit.no_nodes met tt
-  items_written (id ∷ ids) rest met k = w.goes id _ met record {
-    goes = λ v m a. items_written ids _ m record { goes = λ vs n b. k.goes (emit.node v vs) n (a, b) };
-  }
-
-  pairs_written : (ps : List yaml_node_pair_t) (rest : emit.Pairs → Met → emit.Node) (met : Met)
-      → KeepsPairs rest → IsWritable (tree_of (pairs_by visit ps rest met))
-  unfolding pairs_by
-  pairs_written [] rest met k = k.goes emit.no_pairs met tt
-  pairs_written (p ∷ ps) rest met k = w.goes p.key _ met record {
-    goes = λ x m a. w.goes p.value _ m record {
-      goes = λ v n b. pairs_written ps _ n record { goes = λ vs o c. k.goes (emit.pair x v vs) o (a, b, c) };
-    };
-  }
-
-  made_written : (anchor : Option (List ℕ)) (tag : List ℕ) (body : model.NodeBody)
-      (rest : emit.Node → Met → emit.Node) (met : Met) → IsAnchor anchor → IsFine tag body
-      → KeepsNode rest
-      → IsWritable (tree_of (node_by visit anchor tag body rest met))
-  made_written anchor tag model.no rest met a f k = k.goes _ met (a, ((f.some, f.utf8), f.other), IsUtf8-nil)
-  made_written anchor tag (model.scalar value style) rest met a f k = k.goes _ met (a, ((f.some, f.utf8), f.other), f.text)
-  made_written anchor tag (model.sequence items style) rest met a f k =
-      items_written items (λ vs. rest (emit.sequence_node (graph_start anchor tag seq_tag (is_flow_sequence style)) vs)) met record { goes = λ vs m b. k.goes _ m (a, (f.some, f.utf8), b) }
-  made_written anchor tag (model.mapping pairs style) rest met a f k =
-      pairs_written pairs (λ vs. rest (emit.mapping_node (graph_start anchor tag map_tag (is_flow_mapping style)) vs)) met record { goes = λ ps m b. k.goes _ m (a, (f.some, f.utf8), b) }
-
-either_written : (b : Bool) (x y : emit.Node) → IsWritable (tree_of x) → IsWritable (tree_of y)
-    → IsWritable (tree_of (if b then x else y))
-either_written true x y h k = h
-either_written false x y h k = k
-
-content_written : (n : ℕ) (table : List ℕ) (nodes : List model.Node) → FineNodes nodes
-    → Visits (content_by n table nodes)
-unfolding content_by
-content_written zero table nodes h = record { goes = λ id rest met k. k.goes (emit.alias_node (name_of (number_at table id))) met (name_writable (number_at table id)) }
-content_written (suc n) table nodes h = record {
-  goes = λ id rest met k. either_written (is_met met id) _ _ (k.goes (emit.alias_node (name_of (number_at table id))) met (name_writable (number_at table id)))
-      (made_written (content_by n table nodes) (content_written n table nodes h) (anchor_of (number_at table id)) (tag_of_id nodes id) (body_of_id nodes id) rest (meet met id) (anchor_writable (number_at table id)) (fine_id nodes h id) k);
-}
+-- ---- the walk
 
 root_written : (nodes : List model.Node) → FineNodes nodes → IsWritable (tree_of (graph_root nodes))
-unfolding root_onward
-root_written nodes h = subst (λ (v : emit.Node). IsWritable (tree_of v)) (root_joined nodes) ((content_written (suc (length nodes)) (numbers nodes) nodes h).goes (pos 1) itself (none_met nodes) record { goes = λ v m r. r })
+root_written nodes h = root_holds (λ v. IsWritable (tree_of v)) (λ vs. AreItemsWritable (trees_of vs)) (λ ps. ArePairsWritable (pair_trees_of ps)) (λ anchor tag body. IsAnchor anchor × IsFine tag body)
+    (record {
+      alias = λ n. name_writable n;
+      none = tt;
+      more = λ v vs a b. (a, b);
+      empty = tt;
+      another = λ k v ps a b c. (a, b, c);
+      bare = λ anchor tag f. (f.0, ((f.1.some, f.1.utf8), f.1.other), IsUtf8-nil);
+      scalar = λ anchor tag value style f. (f.0, ((f.1.some, f.1.utf8), f.1.other), f.1.text);
+      sequence = λ anchor tag items style f vs b. (f.0, (f.1.some, f.1.utf8), b);
+      mapping = λ anchor tag pairs style f ps b. (f.0, (f.1.some, f.1.utf8), b);
+    }) nodes (λ k id. (anchor_writable k, fine_id nodes h id))
 
 -- ---- documents
 

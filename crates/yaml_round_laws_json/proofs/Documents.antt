@@ -1,25 +1,107 @@
--- Trees of documents.
-use Rattle.std.proofs.Common.{◌≡◌, Bool, true, false, List, [], ◌∷◌, None, refl, sym, ap, ◌∙◌}
-use Rattle.yaml_round_laws_documents.specs.parse_grammar.parse_model.declared.yaml_encoding_t.{yaml_encoding_t}
-use Rattle.yaml_round_laws_documents.specs.parse_grammar.parse_model.Tokens.{Token}
+-- Trees from the bodies of tokens.
+use Rattle.std.proofs.Common.{◌≡◌, true, false, List, [], ◌∷◌, None, Bool, refl, sym, ap, ◌∙◌, subst}
+use Rattle.yaml_round_laws_documents.specs.parse_grammar.parse_model.Tokens.{Token, TokenBody}
 use Rattle.yaml_round_laws_documents.specs.parse_grammar.parse_model.Tokens as token
-use Rattle.yaml_round_laws_documents.specs.parse_grammar.parse_model.Events.{EventBody}
 use Rattle.yaml_round_laws_documents.specs.parse_grammar.parse_model.Events as event
-use Rattle.yaml_round_laws_documents.specs.parse_grammar.declared.name.Wants.TheVariants.{Block}
-use Rattle.yaml_round_laws_documents.specs.parse_grammar.Trees.{Span, token_at, Given, spell_node, spell_ends, there, no_first, first}
-use Rattle.yaml_round_laws_documents.specs.parse_grammar.TreeSteps.{items_node, items_ends, items_documents, items}
+use Rattle.yaml_round_laws_documents.specs.parse_grammar.declared.name.Wants.{Wants}
+use Rattle.yaml_round_laws_documents.specs.parse_grammar.declared.name.Wants.TheVariants.{Flow, Block}
+use Rattle.yaml_round_laws_documents.specs.parse_grammar.declared.name.Brackets.{Brackets}
+use Rattle.yaml_round_laws_documents.specs.parse_grammar.declared.name.Brackets.TheVariants as brackets
+use Rattle.yaml_round_laws_documents.specs.parse_grammar.Items as item
+use Rattle.yaml_round_laws_documents.specs.parse_grammar.Trees.{opening, flow_shape, single, there, colon, Span, token_at, Given, spell_node, spell_ends, no_first, first}
 use Rattle.yaml_round_laws_documents.specs.parse_grammar.Trees as trees
+use Rattle.yaml_round_laws_documents.specs.parse_grammar.Resolve.{node_event, no_directives, gave, settle, Reading, reading}
+use Rattle.yaml_emit_laws_text.specs.emit_layout.Content.{Scalar, Node, alias_node, scalar_node, sequence_node, mapping_node, Nodes, no_nodes, node, Pairs, no_pairs, pair, Document}
+use Rattle.yaml_emit_laws_text.specs.PrettyBodies.{json_bodies, json_items, json_pairs, start_bodies, stop_bodies, document_bodies, comma_bodies}
+use Rattle.yaml_round_laws_documents.specs.TreeLaws.{token_bodies, Grown, event_bodies, SaysTree, parsed_of}
+use Rattle.yaml_round_laws_documents.proofs.Growing.{Reads, Filled, Followed, take, silent, also, grown, alias_grown, scalar_contained, dressed_named, bracketed, brackets_end, brackets_done, comma_follows}
+use Rattle.yaml_round_laws_json.proofs.EventsRead.{json_reads, json_items_reads, json_pairs_reads, document_reads}
+use Rattle.yaml_round_laws_documents.specs.parse_grammar.parse_model.declared.yaml_encoding_t.{yaml_encoding_t}
+use Rattle.yaml_round_laws_documents.specs.parse_grammar.parse_model.Events.{EventBody}
+use Rattle.yaml_round_laws_documents.specs.parse_grammar.TreeSteps.{items_node, items_ends, items_documents, items}
 use Rattle.yaml_round_laws_documents.specs.parse_grammar.Machine.{Outcome}
-use Rattle.yaml_round_laws_documents.specs.parse_grammar.Resolve.{no_directives, gave, settle, Reading, reading}
 use Rattle.yaml_round_laws_documents.specs.parse_grammar.Remaining.{reading_of}
 use Rattle.yaml_round_laws_documents.proofs.CompleteStream.{stream_runs}
-use Rattle.yaml_emit_laws_text.specs.emit_layout.Content.{Document}
-use Rattle.yaml_emit_laws_text.specs.PrettyBodies.{json_bodies, start_bodies, stop_bodies, document_bodies}
-use Rattle.yaml_round_laws_documents.specs.TreeLaws.{token_bodies, event_bodies, SaysTree, parsed_of}
-use Rattle.yaml_round_laws_documents.proofs.Growing.{take}
 use Rattle.yaml_round_laws_documents.proofs.Documents.{item_says, no_spans, ends_say}
-use Rattle.yaml_round_laws_json.proofs.EventsRead.{json_reads, document_reads}
-use Rattle.yaml_round_laws_json.proofs.Growing.{node_grows}
+use Rattle.yaml_round_laws_documents.proofs.Passing.{Spell, passes}
+use Rattle.yaml_round_laws_adapted.specs.Adapted.{adapted}
+use Rattle.yaml_round_laws_documents.specs.Adapting.{without_fault}
+
+abbrev NodeGrows : Node → Type 0
+NodeGrows n = (w : Wants) (ts : List Token) (bs : List TokenBody) → token_bodies ts ≡ json_bodies n bs → Grown w [] (json_reads n) ts bs
+
+abbrev ItemsFill : Nodes → Type 0
+ItemsFill ns = (ts : List Token) (bs : List TokenBody) → token_bodies ts ≡ json_items true ns (token.flow_sequence_end ∷ bs) → Filled brackets.Sequence [] (λ es. json_items_reads ns (event.sequence_end ∷ es)) ts bs
+
+abbrev ItemsFollow : Nodes → Type 0
+ItemsFollow ns = (ts : List Token) (bs : List TokenBody) → token_bodies ts ≡ json_items false ns (token.flow_sequence_end ∷ bs) → Followed brackets.Sequence [] (λ es. json_items_reads ns (event.sequence_end ∷ es)) ts bs
+
+abbrev PairsFill : Pairs → Type 0
+PairsFill ps = (ts : List Token) (bs : List TokenBody) → token_bodies ts ≡ json_pairs true ps (token.flow_mapping_end ∷ bs) → Filled brackets.Mapping [] (λ es. json_pairs_reads ps (event.mapping_end ∷ es)) ts bs
+
+abbrev PairsFollow : Pairs → Type 0
+PairsFollow ps = (ts : List Token) (bs : List TokenBody) → token_bodies ts ≡ json_pairs false ps (token.flow_mapping_end ∷ bs) → Followed brackets.Mapping [] (λ es. json_pairs_reads ps (event.mapping_end ∷ es)) ts bs
+
+-- ---- nodes
+
+scalar_grows : (x : Scalar) → NodeGrows (scalar_node x)
+unfolding json_bodies json_reads
+scalar_grows x w ts bs e = dressed_named w [] None None tt (item.scalar x.value x.style) (λ es. es) (token.scalar x.value x.style ∷ bs) bs (scalar_contained w [] x.value x.style bs) ts e
+
+collection_grows : (b : Brackets) (R : Reads) (inside : List TokenBody → List TokenBody)
+    → ((ts : List Token) (bs : List TokenBody) → token_bodies ts ≡ inside bs → Filled b [] R ts bs)
+    → (w : Wants) (ts : List Token) (bs : List TokenBody) → token_bodies ts ≡ opening b ∷ inside bs
+    → Grown w [] (λ es. node_event None None (flow_shape b) ∷ R es) ts bs
+collection_grows b R inside fill w ts bs e = dressed_named w [] None None tt (flow_shape b) R (opening b ∷ inside bs) bs (λ us x. bracketed b w [] R us (inside bs) bs (λ vs y. fill vs bs y) x) ts e
+
+-- ---- items and pairs
+
+item_fills : (x : Node) (xs : Nodes) → NodeGrows x → ItemsFollow xs → ItemsFill (node x xs)
+unfolding json_items json_items_reads
+item_fills x xs one others ts bs e =
+    let n = one Flow ts (json_items false xs (token.flow_sequence_end ∷ bs)) e in
+    let i = others n.rest bs n.left in
+    record { tree = single n.tree i.tree; rest = i.rest; left = i.left; said = also (grown n) i.said }
+
+pair_fills : (k v : Node) (ps : Pairs) → NodeGrows k → NodeGrows v → PairsFollow ps
+    → PairsFill (pair k v ps)
+unfolding json_pairs json_pairs_reads
+pair_fills k v ps key value others ts bs e =
+    let tail = json_pairs false ps (token.flow_mapping_end ∷ bs) in
+    let q = take ts token.key (json_bodies k (token.value ∷ json_bodies v tail)) e in
+    let a = key Flow q.rest (token.value ∷ json_bodies v tail) q.left in
+    let c = take a.rest token.value (json_bodies v tail) a.left in
+    let b = value Flow c.rest tail c.left in
+    let i = others b.rest bs b.left in
+    record { tree = trees.pair q.span (there a.tree) (colon c.span (there b.tree)) i.tree; rest = i.rest; left = i.left; said = also (silent [] q) (also (grown a) (also (silent [] c) (also (grown b) i.said))) }
+
+mutual
+  unfolding json_bodies json_reads json_items json_items_reads json_pairs json_pairs_reads
+
+  pub node_grows : (n : Node) (w : Wants) (ts : List Token) (bs : List TokenBody)
+      → token_bodies ts ≡ json_bodies n bs → Grown w [] (json_reads n) ts bs
+  node_grows (alias_node name) = λ w ts bs e. alias_grown w [] name ts bs e
+  node_grows (scalar_node x) = scalar_grows x
+  node_grows (sequence_node q items) = collection_grows brackets.Sequence (λ es. json_items_reads items (event.sequence_end ∷ es)) (λ bs. json_items true items (token.flow_sequence_end ∷ bs)) (items_fill items)
+  node_grows (mapping_node q pairs) = collection_grows brackets.Mapping (λ es. json_pairs_reads pairs (event.mapping_end ∷ es)) (λ bs. json_pairs true pairs (token.flow_mapping_end ∷ bs)) (pairs_fill pairs)
+
+  items_fill : (ns : Nodes) → ItemsFill ns
+  items_fill no_nodes = λ ts bs e. brackets_end brackets.Sequence [] ts bs e
+  items_fill (node x xs) = item_fills x xs (node_grows x) (items_follow xs)
+
+  items_follow : (ns : Nodes) → ItemsFollow ns
+  items_follow no_nodes = λ ts bs e. brackets_done brackets.Sequence [] ts bs e
+  items_follow (node x xs) = λ ts bs e. comma_follows brackets.Sequence [] (λ es. json_items_reads (node x xs) (event.sequence_end ∷ es)) (json_items true (node x xs) (token.flow_sequence_end ∷ bs)) bs (λ us. item_fills x xs (node_grows x) (items_follow xs) us bs) ts e
+
+  pairs_fill : (ps : Pairs) → PairsFill ps
+  pairs_fill no_pairs = λ ts bs e. brackets_end brackets.Mapping [] ts bs e
+  pairs_fill (pair k v ps) = pair_fills k v ps (node_grows k) (node_grows v) (pairs_follow ps)
+
+  pairs_follow : (ps : Pairs) → PairsFollow ps
+  pairs_follow no_pairs = λ ts bs e. brackets_done brackets.Mapping [] ts bs e
+  pairs_follow (pair k v ps) = λ ts bs e. comma_follows brackets.Mapping [] (λ es. json_pairs_reads (pair k v ps) (event.mapping_end ∷ es)) (json_pairs true (pair k v ps) (token.flow_mapping_end ∷ bs)) bs (λ us. pair_fills k v ps (node_grows k) (node_grows v) (pairs_follow ps) us bs) ts e
+
+-- ==== Trees of documents.
 
 -- the end of the document, and of the stream
 record Stopped (implicit : Bool) (ts : List Token) : Type 0 where
@@ -144,3 +226,49 @@ started false x d is ts e =
 pub tokens_parsed : (x : yaml_encoding_t) (d : Document) (ts : List Token)
     → token_bodies ts ≡ token.stream_start x ∷ document_bodies d → Parsed x d ts
 tokens_parsed x d ts e = started d.opening.implicit x d refl ts e
+
+-- ==== The bodies of documents shaped as JSON spell texts.
+
+comma_spells : (fresh : Bool) (bs : List TokenBody) → Spell bs → Spell (comma_bodies fresh bs)
+comma_spells true bs s = s
+comma_spells false bs s = (refl, s)
+
+mutual
+  unfolding json_bodies json_items json_pairs
+
+  node_spells : (n : Node) (bs : List TokenBody) → Spell bs → Spell (json_bodies n bs)
+  node_spells (alias_node name) bs s = (refl, s)
+  node_spells (scalar_node x) bs s = (refl, s)
+  node_spells (sequence_node q items) bs s = (refl, items_spell true items (token.flow_sequence_end ∷ bs) (refl, s))
+  node_spells (mapping_node q pairs) bs s = (refl, pairs_spell true pairs (token.flow_mapping_end ∷ bs) (refl, s))
+
+  items_spell : (fresh : Bool) (ns : Nodes) (bs : List TokenBody) → Spell bs
+      → Spell (json_items fresh ns bs)
+  items_spell fresh no_nodes bs s = s
+  items_spell fresh (node x xs) bs s = comma_spells fresh (json_bodies x (json_items false xs bs)) (node_spells x (json_items false xs bs) (items_spell false xs bs s))
+
+  pairs_spell : (fresh : Bool) (ps : Pairs) (bs : List TokenBody) → Spell bs
+      → Spell (json_pairs fresh ps bs)
+  pairs_spell fresh no_pairs bs s = s
+  pairs_spell fresh (pair k v ps) bs s =
+      let behind = json_pairs false ps bs in
+      let value = json_bodies v behind in
+      comma_spells fresh (token.key ∷ json_bodies k (token.value ∷ value)) (refl, node_spells k (token.value ∷ value) (refl, node_spells v behind (pairs_spell false ps bs s)))
+
+start_spells : (implicit : Bool) (bs : List TokenBody) → Spell bs → Spell (start_bodies implicit bs)
+start_spells true bs s = s
+start_spells false bs s = (refl, s)
+
+stop_spells : (implicit : Bool) (bs : List TokenBody) → Spell bs → Spell (stop_bodies implicit bs)
+stop_spells true bs s = s
+stop_spells false bs s = (refl, s)
+
+document_spells : (d : Document) → Spell (document_bodies d)
+document_spells d =
+    let last = stop_bodies d.implicit_end (token.stream_end ∷ []) in
+    start_spells d.opening.implicit (json_bodies d.root last) (node_spells d.root last (stop_spells d.implicit_end (token.stream_end ∷ []) (refl, tt)))
+
+pub tokens_pass : (x : yaml_encoding_t) (d : Document) (ts : List Token)
+    → token_bodies ts ≡ token.stream_start x ∷ document_bodies d
+    → adapted (without_fault ts) ≡ without_fault ts
+tokens_pass x d ts e = passes ts (subst Spell (sym e) (refl, document_spells d))

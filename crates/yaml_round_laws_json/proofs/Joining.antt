@@ -8,7 +8,7 @@ use Rattle.yaml_round_content.specs.scan_history.scan_decode.Spelling.{Spells}
 use Rattle.yaml_round_content.proofs.CompleteLemmas.{spells_decoded}
 use Rattle.yaml_round_content.specs.scan_history.Remaining.{Remaining}
 use Rattle.yaml_round_content.specs.scan_history.Scanned.{scanned, scanned_in}
-use Rattle.yaml_round_content.specs.parse_grammar.Resolve.{Told, Reading}
+use Rattle.yaml_round_laws_documents.specs.parse_grammar.Resolve.{Told, Reading}
 use Rattle.yaml_round_content.specs.Said.{HasContent}
 use Rattle.yaml_round_content.specs.Input.{events_of, read, parsed, tokens_of}
 use Rattle.yaml_round_content.proofs.Joining.{said_read, events_of_tree, one_reading}
@@ -19,27 +19,22 @@ use Rattle.yaml_round_laws_json.specs.Grammar.{Text, IsJsonText}
 use Rattle.yaml_round_laws_json.specs.Values.{json_value, json_content, json_document}
 use Rattle.yaml_round_laws_json.specs.Exceptions.{IsUsualText}
 use Rattle.yaml_round_laws_json.specs.Laws.{may_be_utf8, IsReadAsValue, JsonIsRead}
-use Rattle.yaml_round_laws_json.proofs.Bytes.{text_spells}
+use Rattle.yaml_round_laws_json.proofs.Strings.{text_spells}
 use Rattle.yaml_round_laws_json.proofs.Walk.{text_done}
-use Rattle.yaml_round_laws_json.proofs.Passing.{tokens_pass}
-use Rattle.yaml_round_laws_json.proofs.Documents.{tokens_parsed}
+use Rattle.yaml_round_laws_json.proofs.Documents.{tokens_pass, tokens_parsed}
 use Rattle.yaml_round_laws_json.proofs.Unique.{one_content}
 use Rattle.yaml_round_laws_json.proofs.Saying.{document_said, document_shown, document_shaped}
 
-read_is : (from : yaml_encoding_t) (input : List ℕ)
-    → read from input ≡ parsed (tokens_of from input)
-unfolding read
-read_is from input = refl
-
 spelled_read : (from : yaml_encoding_t) (input text : List ℕ) (t : Text) → Spells from input text
     → IsJsonText text t → IsUsualText t → IsReadAsValue from input (json_value t.value)
+unfolding read
 spelled_read from input text t spells is usual =
     let v = json_value t.value in
     let x = encoding_of from input in
     let r = text_done x text t is usual in
     let decoded : scanned from input ≡ scanned_in x (Ok text) = ap (λ (d : Result (List ℕ) Offence). scanned_in x d) (spells_decoded from input text spells) in
     let passed : tokens_of from input ≡ without_fault r.tokens = ap (λ (c : Remaining). adapted c) (decoded ∙ r.read) ∙ tokens_pass x (json_document v) r.tokens r.same in
-    let whole : read from input ≡ parsed_of r.tokens = read_is from input ∙ ap (λ (c : Remaining). parsed c) passed in
+    let whole : read from input ≡ parsed_of r.tokens = refl ∙ ap (λ (c : Remaining). parsed c) passed in
     let (bodies, ending) = tokens_parsed x (json_document v) r.tokens r.same in
     let same = ap (λ (y : Reading). map (λ (g : Told). g.0.body) y.events) whole ∙ bodies in
     let said : HasContent from input (json_content v ∷ []) = record { right = ap (λ (y : Reading). y.ending) whole ∙ ending; says = document_said (events_of from input) x v same } in

@@ -1,12 +1,12 @@
 -- What the events of a JSON text say: its value.
 use Rattle.std.proofs.Common.{◌≡◌, true, false, List, [], ◌∷◌, map, None, refl, ap, ◌∙◌, inl, inr}
 use Rattle.yaml_round_content.specs.scan_model.declared.yaml_encoding_t.{yaml_encoding_t}
-use Rattle.yaml_parse_grammar.specs.parse_model.Events.{EventBody}
-use Rattle.yaml_parse_grammar.specs.parse_model.Events as event
+use Rattle.yaml_round_laws_documents.specs.parse_grammar.parse_model.Events.{EventBody}
+use Rattle.yaml_round_laws_documents.specs.parse_grammar.parse_model.Events as event
 use Rattle.yaml_parse_grammar.specs.parse_model.declared.yaml_scalar_style_t.TheVariants.{YAML_DOUBLE_QUOTED_SCALAR_STYLE}
-use Rattle.yaml_parse_grammar.specs.parse_model.declared.yaml_sequence_style_t.TheVariants.{YAML_FLOW_SEQUENCE_STYLE}
-use Rattle.yaml_parse_grammar.specs.parse_model.declared.yaml_mapping_style_t.TheVariants.{YAML_FLOW_MAPPING_STYLE}
-use Rattle.yaml_parse_grammar.specs.Resolve.{Told, scalar_event}
+use Rattle.yaml_round_laws_documents.specs.parse_grammar.parse_model.declared.yaml_sequence_style_t.TheVariants.{YAML_FLOW_SEQUENCE_STYLE}
+use Rattle.yaml_round_laws_documents.specs.parse_grammar.parse_model.declared.yaml_mapping_style_t.TheVariants.{YAML_FLOW_MAPPING_STYLE}
+use Rattle.yaml_round_laws_documents.specs.parse_grammar.Resolve.{Told, scalar_event}
 use Rattle.yaml_round_content.specs.Normalize.{normalize_body}
 use Rattle.yaml_round_content.specs.Content.{content_of}
 use Rattle.yaml_round_content.specs.Events.{emitter_events, contents}
@@ -17,7 +17,7 @@ use Rattle.yaml_emit_laws_text.specs.Json.{IsJsonNode, AreJsonNodes, AreJsonPair
 use Rattle.yaml_round_laws_json.specs.Grammar.{Value, literal, number, string, empty_array, array, empty_object, object, Elements, last_element, element, Members, last_member, member, IsValue, AreElements, AreMembers}
 use Rattle.yaml_round_laws_json.specs.Values.{Json, bare, text, list, pairs, Jsons, nothing, one, JsonPairs, no_pairs, pair, json_value, json_elements, json_members, content, json_content, quoted_scalar, flow_start, json_node, json_nodes, json_pairs, json_document}
 use Rattle.yaml_round_laws_json.specs.Values as values
-use Rattle.yaml_round_laws_json.proofs.Numbers.{literal_plain, number_plain}
+use Rattle.yaml_round_laws_json.proofs.Strings.{literal_plain, number_plain}
 use Rattle.yaml_round_laws_json.proofs.EventsRead.{json_reads, json_items_reads, json_pairs_reads, document_reads}
 
 -- ---- as content

@@ -1,26 +1,36 @@
--- A walk over a JSON text, word by word: each word goes with the white behind it, up to the next word.
-use Rattle.std.proofs.Common.{◌≡◌, ℕ, ◌+◌, ◌-◌, ◌<◌, ◌≤◌, ◌==◌, ◌&&◌, ◌||◌, nat_lt, Bool, true, false, List, [], ◌∷◌, ◌++◌, length, Some, Result, Ok, refl, sym, ap, subst, ◌∙◌, inl, inr, ◌⊎◌, arith, append_assoc}
-use Rattle.std.specs.Prelude.{if◌then◌else◌}
-use Rattle.std.proofs.lemmas.Bool.{true≢false}
+-- Keys are near their `:`.
+use Rattle.std.proofs.Common.{◌≡◌, ℕ, ◌+◌, ◌<◌, ◌≤◌, ◌==◌, ◌&&◌, ◌||◌, not, Bool, true, false, List, [], ◌∷◌, ◌++◌, length, refl, sym, ap, subst, arith, append-nil, encode_utf8_all, ◌-◌, nat_lt, Some, Result, Ok, ◌∙◌, inl, inr, ◌⊎◌, append_assoc, if◌then◌else◌, true≢false}
+use Rattle.std.specs.List.{list_all}
+use Rattle.std.proofs.lemmas.Bool.{or_parts, and_parts}
 use Rattle.std.proofs.lemmas.Bool.Decides.{nat_tests}
+use Rattle.yaml_scan_history.specs.scan_model.Marks.{mark_at, byte, column_at, is_blank_or_end}
+use Rattle.yaml_scan_history.specs.scan_words.Written.{HasAt, begins_lexeme}
+use Rattle.yaml_scan_history.specs.History.{is_fresh, margin_at, indent}
+use Rattle.yaml_emit_laws_text.specs.emit_layout.emit_text.declared.Cursor.{Cursor}
+use Rattle.yaml_emit_laws_text.specs.emit_layout.emit_text.Text.{is_break as ends}
+use Rattle.yaml_emit_laws_text.specs.emit_layout.emit_text.Layout.{Layout}
+use Rattle.yaml_emit_laws_text.specs.emit_layout.emit_text.Spelling.{in_front}
+use Rattle.yaml_emit_laws_text.specs.ReadBack.{is_one_line}
+use Rattle.yaml_emit_laws_scalars.specs.KeysLaws.{StaysNear}
+use Rattle.yaml_emit_laws_text.proofs.Words.{front_encodes, quote_kind}
+use Rattle.yaml_emit_laws_scalars.proofs.OneLine.{near_fresh}
+use Rattle.yaml_round_laws_json.specs.Grammar.{is_white, are_white, Letter, string_bytes, AreLetters}
+use Rattle.yaml_round_laws_json.specs.Exceptions.{is_break, has_break, are_kept, is_near}
+use Rattle.yaml_round_laws_json.proofs.Strings.{Spelled, Passes, no_bytes, string_before, white_before, string_reads, is_solid, begins_solid}
 use Rattle.std.proofs.lemmas.List.{length-append, get_or_past}
 use Rattle.std.proofs.Math.Bool.{or-true}
 use Rattle.yaml_scan_history.specs.scan_model.declared.name.yaml_encoding_t.{yaml_encoding_t}
 use Rattle.yaml_scan_history.specs.scan_model.declared.name.yaml_scalar_style_t.TheVariants.{YAML_PLAIN_SCALAR_STYLE, YAML_DOUBLE_QUOTED_SCALAR_STYLE}
-use Rattle.yaml_scan_history.specs.scan_model.Marks.{byte, column_at, mark_at, is_blank_or_end}
-use Rattle.yaml_scan_history.specs.scan_model.Tokens as tokens
-use Rattle.yaml_scan_history.specs.scan_model.Tokens.{TokenBody}
+use Rattle.yaml_round_laws_documents.specs.parse_grammar.parse_model.Tokens as tokens
+use Rattle.yaml_round_laws_documents.specs.parse_grammar.parse_model.Tokens.{TokenBody}
 use Rattle.yaml_scan_history.specs.scan_model.Wrong.{Wrong}
 use Rattle.yaml_scan_history.specs.scan_words.Indicators.{is_document_start, is_document_end}
-use Rattle.yaml_scan_history.specs.scan_words.Written.{begins_lexeme}
-use Rattle.yaml_scan_history.specs.scan_scalars.Plain.{PlainText, plain_at, starts_plain}
-use Rattle.yaml_scan_history.specs.scan_scalars.Quoted.{double_quoted_at}
+use Rattle.yaml_scan_history.specs.scan_scalars.Plain.{PlainText, starts_plain}
 use Rattle.yaml_scan_history.proofs.HasLemmas.{Has, has, has_front}
 use Rattle.yaml_scan_history.specs.declared.kind.Kind.{Kind}
 use Rattle.yaml_scan_history.specs.declared.kind.Kind.TheVariants as kinds
 use Rattle.yaml_scan_history.specs.declared.lexeme.Opens.TheVariants as opening
 use Rattle.yaml_scan_history.specs.Kinds.{depth_after, allows_key, is_value}
-use Rattle.yaml_scan_history.specs.History.{is_fresh, margin_at, indent}
 use Rattle.yaml_scan_history.specs.Words.{WordText, indicator_of, kind_at, word_at, valued, plainly}
 use Rattle.yaml_scan_laws_levels.specs.Pushes.{IsRight, stays_level}
 use Rattle.yaml_scan_laws_levels.specs.Steps.{Comes, WordLeaves}
@@ -35,15 +45,64 @@ use Rattle.yaml_emit_laws_text.proofs.Places as places
 use Rattle.yaml_emit_laws_text.proofs.Places.{left_first, left_more, left_rest}
 use Rattle.yaml_emit_laws_text.proofs.Documents.{end_begins}
 use Rattle.yaml_scan_laws_texts.specs.Values.{is_plain_value}
-use Rattle.yaml_round_laws_json.specs.Grammar.{are_white, Letter, string_bytes, AreLetters}
 use Rattle.yaml_round_laws_json.specs.Values.{letters_mean}
-use Rattle.yaml_round_laws_json.specs.Exceptions.{has_break, are_kept, is_near}
 use Rattle.yaml_round_laws_json.proofs.Whites.{tabs_fit, may_then, white_leaves, word_leaves}
 use Rattle.yaml_round_laws_json.proofs.Plains.{IsStop, stops_at, plain_read, plain_begins}
-use Rattle.yaml_round_laws_json.proofs.Strings.{string_reads}
-use Rattle.yaml_round_laws_json.proofs.Numbers.{is_solid, begins_solid}
-use Rattle.yaml_round_laws_json.proofs.Near.{key_near}
-use Rattle.yaml_emit_laws_text.proofs.Words.{quote_kind}
+
+-- a character that ends no line
+abbrev goes_on : ℕ → Bool
+goes_on c = not (ends c)
+
+passes : Passes goes_on
+passes = record { printed = (λ b l h. grind (arith, nat_tests)); kept = λ c s h k. (grind (arith, nat_tests)) }
+
+blank_on : (b : ℕ) → is_white b ≡ true → is_break b ≡ false → goes_on b ≡ true
+blank_on b h k = grind (arith, nat_tests)
+
+white_on : (ws : List ℕ) → are_white ws ≡ true → has_break ws ≡ false → list_all goes_on ws ≡ true
+white_on [] h k = refl
+white_on (w ∷ ws) h k =
+    let (here, rest) = and_parts (is_white w) (are_white ws) h in
+    let (calm, more) = or_parts (is_break w) (has_break ws) k in
+    rw (blank_on w here calm) (white_on ws rest more)
+
+one_line : (cs : List ℕ) → list_all goes_on cs ≡ true → is_one_line cs ≡ true
+one_line [] h = refl
+one_line (c ∷ cs) h = let (here, rest) = and_parts (goes_on c) (list_all goes_on cs) h in rw here (one_line cs rest)
+
+-- a cursor, whichever
+start : Cursor
+start = record { column = 0; white = false; bare = false; kept = false }
+
+near_parts : (ls : List Letter) (ws : List ℕ) → is_near ls ws ≡ true
+    → (has_break ws ≡ false) × (length (string_bytes ls ++ ws) ≤ 1024)
+near_parts ls ws h = (grind (arith, nat_tests), grind (arith, nat_tests))
+
+-- few characters that end no line
+line_near : (cs text : List ℕ) (p : ℕ) → is_one_line cs ≡ true → length (encode_utf8_all cs) ≤ 1024
+    → HasAt text p (encode_utf8_all cs)
+    → is_fresh (mark_at text p) (mark_at text (p + length (encode_utf8_all cs))) ≡ true
+line_near cs text p inside few at =
+    let a : Layout = λ c rest. in_front cs (rest c) in
+    let stays : StaysNear a start 1024 = record { shown = cs; behind = start; written = λ rest. front_encodes cs (rest start); inside = inside; few = few } in
+    let z : p + 0 ≡ p = omega arith in
+    let F : ℕ → Type 0 = λ i. is_fresh (mark_at text i) (mark_at text (p + length (encode_utf8_all cs))) ≡ true in
+    subst F z (near_fresh a start 1024 (omega arith) stays text p at 0)
+
+pub key_near : (ls : List Letter) (ws : List ℕ) (text : List ℕ) (p : ℕ) → AreLetters ls
+    → are_kept ls ≡ true → are_white ws ≡ true → is_near ls ws ≡ true
+    → HasAt text p (string_bytes ls ++ ws)
+    → is_fresh (mark_at text p) (mark_at text (p + length (string_bytes ls ++ ws))) ≡ true
+key_near ls ws text p h k white near at =
+    let key = string_bytes ls ++ ws in
+    let (calm, few) = near_parts ls ws near in
+    let tail : Spelled goes_on ws = subst (λ (bs : List ℕ). Spelled goes_on bs) (append-nil ws) (white_before goes_on ws [] white (white_on ws white calm) (no_bytes goes_on)) in
+    let s = string_before goes_on passes ls ws h k tail in
+    let size : length (encode_utf8_all s.characters) ≡ length key = ap (λ (bs : List ℕ). length bs) s.is in
+    let F : List ℕ → Type 0 = λ bs. is_fresh (mark_at text p) (mark_at text (p + length bs)) ≡ true in
+    subst F s.is (line_near s.characters text p (one_line s.characters s.all) (omega (arith, size, few)) (subst (λ (bs : List ℕ). HasAt text p bs) (sym s.is) at))
+
+-- ==== A walk over a JSON text, word by word: each word goes with the white behind it, up to the next word.
 
 abbrev pub Tell : Type 0
 Tell = List TokenBody → List TokenBody
@@ -181,26 +240,6 @@ sign_stands : (b : ℕ) (k : Kind) (body : TokenBody) (d : ℕ) → IsSign b k b
     → (text : List ℕ) (p : ℕ) → byte text p ≡ b → Stands text p d k (sign body (p + 1))
 sign_stands b k body d is text p h = record { starts = solid_starts text p b h is.solid; kind = is.kind text p h; word = is.word text p }
 
-sequence_kind : (flow alone : Bool) → indicator_of flow alone 91 ≡ Some kinds.FlowSequenceStart
-unfolding indicator_of
-sequence_kind flow alone = refl
-
-mapping_kind : (flow alone : Bool) → indicator_of flow alone 123 ≡ Some kinds.FlowMappingStart
-unfolding indicator_of
-mapping_kind flow alone = refl
-
-sequence_end_kind : (flow alone : Bool) → indicator_of flow alone 93 ≡ Some kinds.FlowSequenceEnd
-unfolding indicator_of
-sequence_end_kind flow alone = refl
-
-mapping_end_kind : (flow alone : Bool) → indicator_of flow alone 125 ≡ Some kinds.FlowMappingEnd
-unfolding indicator_of
-mapping_end_kind flow alone = refl
-
-comma_kind : (flow alone : Bool) → indicator_of flow alone 44 ≡ Some kinds.FlowEntry
-unfolding indicator_of
-comma_kind flow alone = refl
-
 -- in brackets a `:` stands alone whatever follows
 colon_kind : (flow alone : Bool) → flow ≡ true → indicator_of flow alone 58 ≡ Some kinds.ValueMark
 unfolding indicator_of
@@ -211,21 +250,21 @@ opener_sign : (mapping : Bool) (d : ℕ)
     → IsSign (if mapping then 123 else 91)
     (if mapping then kinds.FlowMappingStart else kinds.FlowSequenceStart)
     (if mapping then tokens.flow_mapping_start else tokens.flow_sequence_start) d
-unfolding word_at
-opener_sign true d = record { solid = refl; kind = λ text p h. kind_by (nat_lt 0 d) text p 123 kinds.FlowMappingStart h refl refl refl refl (mapping_kind (nat_lt 0 d) (is_blank_or_end text (p + 1))); word = λ text p. refl }
-opener_sign false d = record { solid = refl; kind = λ text p h. kind_by (nat_lt 0 d) text p 91 kinds.FlowSequenceStart h refl refl refl refl (sequence_kind (nat_lt 0 d) (is_blank_or_end text (p + 1))); word = λ text p. refl }
+unfolding word_at indicator_of
+opener_sign true d = record { solid = refl; kind = λ text p h. kind_by (nat_lt 0 d) text p 123 kinds.FlowMappingStart h refl refl refl refl refl; word = λ text p. refl }
+opener_sign false d = record { solid = refl; kind = λ text p h. kind_by (nat_lt 0 d) text p 91 kinds.FlowSequenceStart h refl refl refl refl refl; word = λ text p. refl }
 
 closer_sign : (mapping : Bool) (d : ℕ)
     → IsSign (if mapping then 125 else 93)
     (if mapping then kinds.FlowMappingEnd else kinds.FlowSequenceEnd)
     (if mapping then tokens.flow_mapping_end else tokens.flow_sequence_end) d
-unfolding word_at
-closer_sign true d = record { solid = refl; kind = λ text p h. kind_by (nat_lt 0 d) text p 125 kinds.FlowMappingEnd h refl refl refl refl (mapping_end_kind (nat_lt 0 d) (is_blank_or_end text (p + 1))); word = λ text p. refl }
-closer_sign false d = record { solid = refl; kind = λ text p h. kind_by (nat_lt 0 d) text p 93 kinds.FlowSequenceEnd h refl refl refl refl (sequence_end_kind (nat_lt 0 d) (is_blank_or_end text (p + 1))); word = λ text p. refl }
+unfolding word_at indicator_of
+closer_sign true d = record { solid = refl; kind = λ text p h. kind_by (nat_lt 0 d) text p 125 kinds.FlowMappingEnd h refl refl refl refl refl; word = λ text p. refl }
+closer_sign false d = record { solid = refl; kind = λ text p h. kind_by (nat_lt 0 d) text p 93 kinds.FlowSequenceEnd h refl refl refl refl refl; word = λ text p. refl }
 
 comma_sign : (d : ℕ) → IsSign 44 kinds.FlowEntry tokens.flow_entry d
-unfolding word_at
-comma_sign d = record { solid = refl; kind = λ text p h. kind_by (nat_lt 0 d) text p 44 kinds.FlowEntry h refl refl refl refl (comma_kind (nat_lt 0 d) (is_blank_or_end text (p + 1))); word = λ text p. refl }
+unfolding word_at indicator_of
+comma_sign d = record { solid = refl; kind = λ text p h. kind_by (nat_lt 0 d) text p 44 kinds.FlowEntry h refl refl refl refl refl; word = λ text p. refl }
 
 colon_sign : (d : ℕ) → nat_lt 0 d ≡ true → IsSign 58 kinds.ValueMark tokens.value d
 unfolding word_at
@@ -307,22 +346,11 @@ comma_step x text ws bs d T a deep white solid =
 
 -- ---- literals and numbers
 
-plain_word : (flow : Bool) (text : List ℕ) (p : ℕ) (r : PlainText) → plain_at flow 0 text p ≡ Ok r
-    → word_at kinds.Plain flow 0 text p
-    ≡ Ok (record {
-      body = tokens.scalar r.value YAML_PLAIN_SCALAR_STYLE;
-      end = r.end;
-      reached =
-          r.place;
-      broke = r.broke;
-    })
-unfolding word_at
-plain_word flow text p r h = ap (λ (y : Result PlainText Wrong). plainly y) h
-
 pub plain_step : (x : yaml_encoding_t) (text value ws bs : List ℕ) (d : ℕ) (T : Tell)
     → is_plain_value value ≡ true → At x text (value ++ (ws ++ bs)) d T → are_white ws ≡ true
     → Behind d bs
     → At x text bs d (λ es. T (tokens.scalar value YAML_PLAIN_SCALAR_STYLE ∷ es))
+unfolding word_at
 plain_step x text value ws bs d T is a white next =
     let o = a.place in
     let p = o.at in
@@ -334,29 +362,23 @@ plain_step x text value ws bs d T is a white next =
     let stop : IsStop flow (byte text e) = subst (λ (f : Bool). IsStop f (byte text e)) (sym n) (behind_stops d bs text e next left) in
     let (starts, kind) = plain_begins flow text p value is (has_front text p value ws both) in
     let w : WordText = record { body = tokens.scalar value YAML_PLAIN_SCALAR_STYLE; end = p + length value; reached = e; broke = has_break ws } in
-    let stands : Stands text p o.depth kinds.Plain w = record { starts = starts; kind = kind; word = plain_word flow text p _ (plain_read flow text p value ws is both white (stops_at flow text e stop)) } in
+    let stands : Stands text p o.depth kinds.Plain w = record { starts = starts; kind = kind; word = (ap (λ (y : Result PlainText Wrong). plainly y) (plain_read flow text p value ws is both white (stops_at flow text e stop))) } in
     (step x text bs o.depth d T kinds.Plain w e _ o a.reads stands (omega arith) (or-true (nat_lt 0 o.depth)) refl (word_leaves text o.depth false w (behind_starts d bs text e next left)) a.deep left).1
 
 -- ---- strings
-
-quoted_word : (flow : Bool) (text : List ℕ) (p : ℕ) (value : List ℕ) (e : ℕ)
-    → double_quoted_at text p ≡ Ok (value, e)
-    → word_at kinds.DoubleQuoted flow 0 text p
-    ≡ Ok (sign (tokens.scalar value YAML_DOUBLE_QUOTED_SCALAR_STYLE) e)
-unfolding word_at
-quoted_word flow text p value e h = ap (λ (r : Result (List ℕ × ℕ) Wrong). valued (λ v. tokens.scalar v YAML_DOUBLE_QUOTED_SCALAR_STYLE) r) h
 
 string_stands : (ls : List Letter) (text rest : List ℕ) (p d : ℕ) → AreLetters ls
     → are_kept ls ≡ true → Left text p (string_bytes ls ++ rest)
     → Stands text p d kinds.DoubleQuoted
     (sign (tokens.scalar (letters_mean ls) YAML_DOUBLE_QUOTED_SCALAR_STYLE)
     (p + length (string_bytes ls)))
+unfolding word_at
 string_stands ls text rest p d h k l =
     let first = left_first text p 34 _ l in
     record {
       starts = solid_starts text p 34 first refl;
       kind = kind_by (nat_lt 0 d) text p 34 kinds.DoubleQuoted first refl refl refl refl (quote_kind (nat_lt 0 d) (is_blank_or_end text (p + 1)));
-      word = quoted_word (nat_lt 0 d) text p (letters_mean ls) (p + length (string_bytes ls)) (string_reads ls text p h k (places.has_at text p (string_bytes ls) (places.has_front text p (string_bytes ls) rest l.has)));
+      word = ap (λ (r : Result (List ℕ × ℕ) Wrong). valued (λ v. tokens.scalar v YAML_DOUBLE_QUOTED_SCALAR_STYLE) r) (string_reads ls text p h k (places.has_at text p (string_bytes ls) (places.has_front text p (string_bytes ls) rest l.has)));
     }
 
 pub string_step : (x : yaml_encoding_t) (text : List ℕ) (ls : List Letter) (ws bs : List ℕ) (d : ℕ)

@@ -4,8 +4,8 @@ use Rattle.std.proofs.lemmas.Bool.{true≢false, or_parts, and_parts}
 use Rattle.std.proofs.lemmas.Bool.Decides.{nat_tests}
 use Rattle.yaml_scan_history.specs.scan_model.declared.name.yaml_encoding_t.{yaml_encoding_t}
 use Rattle.yaml_scan_history.specs.scan_model.Marks.{byte}
-use Rattle.yaml_scan_history.specs.scan_model.Tokens as tokens
-use Rattle.yaml_scan_history.specs.scan_model.Tokens.{TokenBody}
+use Rattle.yaml_round_laws_documents.specs.parse_grammar.parse_model.Tokens as tokens
+use Rattle.yaml_round_laws_documents.specs.parse_grammar.parse_model.Tokens.{TokenBody}
 use Rattle.yaml_scan_history.specs.scan_words.Written.{are_gap}
 use Rattle.yaml_scan_history.proofs.HasLemmas.{has}
 use Rattle.yaml_scan_laws_levels.specs.Walks.{WalkState, Done}
@@ -17,11 +17,11 @@ use Rattle.yaml_emit_laws_text.proofs.Places as places
 use Rattle.yaml_emit_laws_text.proofs.Places.{left_rest}
 use Rattle.yaml_emit_laws_text.proofs.Documents.{end_begins}
 use Rattle.yaml_round_laws_json.specs.Grammar.{is_white, are_white, Value, literal, number, string, empty_array, array, empty_object, object, Elements, last_element, element, Members, last_member, member, literal_bytes, number_bytes, value_bytes, elements_bytes, members_bytes, IsValue, AreElements, AreMembers, Text, IsJsonText}
-use Rattle.yaml_round_laws_json.specs.Values.{Json, json_value, json_node, json_nodes, json_document}
+use Rattle.yaml_round_laws_json.specs.Values.{json_value, json_node, json_nodes, json_document}
 use Rattle.yaml_round_laws_json.specs.Values as values
 use Rattle.yaml_round_laws_json.specs.Exceptions.{is_bare, has_tab, has_tab_below, IsUsual, AreUsual, MembersAreUsual, IsUsualText}
 use Rattle.yaml_round_laws_json.proofs.Whites.{tabs_fit}
-use Rattle.yaml_round_laws_json.proofs.Numbers.{literal_plain, number_plain, value_begins, elements_begin, members_begin}
+use Rattle.yaml_round_laws_json.proofs.Strings.{literal_plain, number_plain, value_begins, elements_begin, members_begin}
 use Rattle.yaml_round_laws_json.proofs.Steps.{Tell, Behind, At, Ready, nothing_left, no_gap, opener_step, closer_step, comma_step, plain_step, string_step, key_step}
 
 flow_fits : (d : ℕ) (ws : List ℕ) → nat_lt 0 d ≡ true → tabs_fit (nat_lt 0 d) false ws ≡ true

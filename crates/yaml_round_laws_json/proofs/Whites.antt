@@ -204,12 +204,6 @@ leads (suc k) n flow allowed text p (b ∷ bs) few (e, h) are fits stop room =
           rw end (returns k (leads k) n flow allowed text p bs (omega (arith, few)) (e ∙ s) h back (fits_break flow allowed b bs breaks fits) after room)
     ]
 
-pub white_leads : (flow allowed : Bool) (text : List ℕ) (p : ℕ) (ws : List ℕ) → Has text p ws
-    → are_white ws ≡ true → tabs_fit flow allowed ws ≡ true
-    → begins_lexeme text (p + length ws) ≡ true
-    → (gap_at flow allowed text p).place ≡ p + length ws
-white_leads flow allowed text p ws h are fits stop = leads (length ws) (length text) flow allowed text p ws (omega arith) h are fits stop (omega arith)
-
 -- ---- behind a word
 
 -- no white stands where a lexeme begins
@@ -255,7 +249,7 @@ pub white_leaves : (text : List ℕ) (d : ℕ) (allows : Bool) (w : WordText) (w
     → tabs_fit (nat_lt 0 d) (allows || w.broke) ws ≡ true
     → begins_lexeme text (w.reached + length ws) ≡ true
     → WordLeaves text d allows w (w.reached + length ws) (may_then text d allows w) false
-white_leaves text d allows w ws h are fits stop = place_leaves text d allows w (w.reached + length ws) (white_leads (nat_lt 0 d) (allows || w.broke) text w.reached ws h are fits stop) stop
+white_leaves text d allows w ws h are fits stop = place_leaves text d allows w (w.reached + length ws) (leads (length ws) (length text) (nat_lt 0 d) (allows || w.broke) text w.reached ws (omega arith) h are fits stop (omega arith)) stop
 
 -- Behind one that has taken it.
 pub word_leaves : (text : List ℕ) (d : ℕ) (allows : Bool) (w : WordText)

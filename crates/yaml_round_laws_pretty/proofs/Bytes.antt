@@ -1,20 +1,17 @@
 -- Bytes of pretty text are decoded to it.
-use Rattle.std.proofs.Common.{◌≡◌, ℕ, ◌+◌, ◌/◌, ◌%◌, ◌<◌, Bool, true, false, ◌&&◌, nat_lt, if◌then◌else◌, List, [], ◌∷◌, ◌++◌, drop, refl, sym, ap, ◌∙◌, arith, inl, inr}
-use Rattle.std.specs.Prelude.{nat_eq}
+use Rattle.std.proofs.Common.{◌≡◌, ℕ, ◌+◌, ◌/◌, ◌%◌, ◌<◌, Bool, true, false, ◌&&◌, nat_lt, if◌then◌else◌, List, [], ◌∷◌, ◌++◌, drop, refl, sym, ap, ◌∙◌, arith, inl, inr, nat_eq}
 use Rattle.std.proofs.lemmas.Bool.{cases_Bool, ltb-true, and_parts, ne_eqb, eqb-true}
 use Rattle.std.proofs.lemmas.Bool.Decides.{nat_tests}
 use Rattle.yaml_round_laws_documents.specs.parse_grammar.parse_model.declared.yaml_encoding_t.TheVariants.{YAML_ANY_ENCODING, YAML_UTF8_ENCODING, YAML_UTF16LE_ENCODING, YAML_UTF16BE_ENCODING}
 use Rattle.yaml_round_laws_documents.specs.scan_decode.Characters.{is_allowed}
 use Rattle.yaml_round_laws_documents.specs.round_content.emit_text.Text.{Item, letter, deep, shown, char_bytes, encode}
-use Rattle.yaml_round_laws_documents.specs.emit_laws_text.emit_text.declared.Encoding.TheVariants.{Utf8}
+use Rattle.yaml_round_laws_documents.specs.emit_laws_text.emit_text.declared.Encoding.TheVariants.{Utf8, Utf16Le, Utf16Be}
 use Rattle.yaml_round_laws_documents.specs.round_content.emit_text.Layout.{Rest, order_mark, start, nothing_more}
 use Rattle.yaml_round_laws_documents.specs.emit_laws_text.emit_text.declared.Encoding.{Encoding}
-use Rattle.yaml_round_laws_documents.specs.emit_laws_text.emit_text.declared.Encoding.TheVariants.{Utf16Le, Utf16Be}
 use Rattle.yaml_round_laws_documents.specs.emit_laws_text.emit_layout.Nodes.{documents_layout, stream_layout}
 use Rattle.yaml_round_laws_documents.specs.scan_decode.Encodings.{encoding_of, mark_length}
 use Rattle.yaml_round_laws_documents.specs.BytesLaws.{encoding_named}
 use Rattle.yaml_round_laws_documents.proofs.CanonicalJoining.{Decodes, decoded}
-use Rattle.yaml_round_laws_documents.proofs.Characters.{Fits}
 use Rattle.yaml_round_laws_pretty.specs.Laws.{PrettyBytesDecode}
 use Rattle.yaml_round_laws_pretty.proofs.Layouts.{documents_tame}
 use Rattle.yaml_round_laws_documents.proofs.Layouts.{Allowed, nothing_allowed}
@@ -43,14 +40,6 @@ four_low c h = omega (arith, h)
 four_high : (c : ℕ) → 0xEF < 0xF0 + c / 0x4_0000
 four_high c = omega arith
 
-is_mark : (c : ℕ) → 0xEF ≡ 0xE0 + c / 0x1000 → 0xBB ≡ 0x80 + c / 0x40 % 0x40
-    → 0xBF ≡ 0x80 + c % 0x40 → c ≡ 0xFEFF
-is_mark c x y z = omega (arith, x, y, z)
-
-bound : (c : ℕ) → Fits c → c < 0x11_0000
-unfolding is_allowed
-bound c f = grind (arith, nat_tests)
-
 not_all : (c : ℕ) → NoMark c
     → (nat_eq 0xEF (0xE0 + c / 0x1000)
     && (nat_eq 0xBB (0x80 + c / 0x40 % 0x40) && nat_eq 0xBF (0x80 + c % 0x40))) ≡ false
@@ -60,7 +49,7 @@ not_all c h =
     let z = nat_eq 0xBF (0x80 + c % 0x40) in
     elim (cases_Bool (x && (y && z))) [
       | inr e ↦ e
-      | inl e ↦ absurd (h (is_mark c (eqb-true _ _ (and_parts x (y && z) e).0) (eqb-true _ _ (and_parts y z (and_parts x (y && z) e).1).0) (eqb-true _ _ (and_parts y z (and_parts x (y && z) e).1).1)))
+      | inl e ↦ absurd (h (omega (arith, (eqb-true _ _ (and_parts x (y && z) e).0), (eqb-true _ _ (and_parts y z (and_parts x (y && z) e).1).0), (eqb-true _ _ (and_parts y z (and_parts x (y && z) e).1).1))))
     ]
 
 told_by : (c : ℕ) (bs : List ℕ) → c < 0x11_0000 → NoMark c → (p q r : Bool) → nat_lt c 0x80 ≡ p
@@ -81,14 +70,10 @@ told_by c bs least h false false false x y z =
     let b = four_low c least in
     told_one (0xF0 + c / 0x4_0000) _ (off_by 0xFF _ (omega (arith, b))) (off_by 0xFE _ (omega (arith, b))) (above_by 0xEF _ (four_high c))
 
-told_char : (c : ℕ) (bs : List ℕ) → Fits c → NoMark c → Told (char_bytes Utf8 c ++ bs)
-unfolding char_bytes
-told_char c bs f h = told_by c bs (bound c f) h (nat_lt c 0x80) (nat_lt c 0x800) (nat_lt c 0x1_0000) refl refl refl
-
 told_items : (t : List Item) → Allowed t → Begins t → Told (encode Utf8 t)
-unfolding encode shown encoding_of mark_length
+unfolding encode shown encoding_of mark_length char_bytes is_allowed
 told_items [] a h = (refl, refl)
-told_items (letter c ∷ t) (f, fs) h = told_char c (encode Utf8 t) f h
+told_items (letter c ∷ t) (f, fs) h = told_by c (encode Utf8 t) (grind (arith, nat_tests)) h (nat_lt c 0x80) (nat_lt c 0x800) (nat_lt c 0x1_0000) refl refl refl
 told_items (deep ∷ t) a h = told_items t a h
 
 -- ---- joined

@@ -1,6 +1,5 @@
 -- What the events say that are read of pretty text.
-use Rattle.std.proofs.Common.{◌≡◌, ℕ, Bool, true, false, not, ◌&&◌, ◌||◌, ◌==◌, if◌then◌else◌, List, [], ◌∷◌, length, map, Option, Some, None, refl, ap, ◌∙◌}
-use Rattle.std.specs.Str.{chars}
+use Rattle.std.proofs.Common.{◌≡◌, ℕ, Bool, true, false, not, ◌&&◌, ◌||◌, ◌==◌, if◌then◌else◌, List, [], ◌∷◌, length, map, Option, Some, None, refl, ap, ◌∙◌, chars}
 use Rattle.std.proofs.lemmas.Bool.{false≢true}
 use Rattle.std.proofs.Math.Bool.{and-false}
 use Rattle.yaml_round_laws_documents.specs.parse_grammar.parse_model.declared.yaml_encoding_t.{yaml_encoding_t}
@@ -139,18 +138,6 @@ counts true quoted s e h = ap (λ (q : Bool). takes_mark q s || is_plain s) e �
     either false = refl
 counts false quoted s e h = ap (λ (q : Bool). takes_mark q s || is_plain s) e ∙ h refl
 
-untagged_same : (anchor : Option (List ℕ)) (value : List ℕ) (marked plain : Bool) (s : Style)
-    → (marked || is_plain s) ≡ plain
-    → content (scalar_reads anchor None value marked s)
-    ≡ event.scalar anchor None value plain false YAML_ANY_SCALAR_STYLE
-untagged_same anchor value marked plain s e = ap (λ (b : Bool). event.scalar anchor None value b false YAML_ANY_SCALAR_STYLE) e
-
-tagged_same : (anchor : Option (List ℕ)) (t value : List ℕ) (marked : Bool) (s : Style)
-    → IsNoMark (Some t)
-    → content (scalar_reads anchor (Some t) value marked s)
-    ≡ event.scalar anchor (Some t) value false false YAML_ANY_SCALAR_STYLE
-tagged_same anchor t value marked s h = ap (λ (b : Bool). content_of (normalize_scalar b anchor (Some t) value false false (style_named s))) (no_mark t value h)
-
 -- by the tag, and the one that is written
 scalar_by : (anchor tag written : Option (List ℕ)) (value : List ℕ) (plain quoted : Bool)
     (s : Style) → HasScalarFlags tag plain quoted → IsNoMark tag
@@ -161,10 +148,10 @@ scalar_by : (anchor tag written : Option (List ℕ)) (value : List ℕ) (plain q
 scalar_by anchor None written value plain quoted s flags fine w h =
     let none : written ≡ None = w ∙ kept_none (not (plain || quoted)) in
     let free : plain ≡ false → is_plain s ≡ false = λ e. h (ap (λ (o : Option (List ℕ)). has o || plain) none ∙ e) in
-    ap (λ (o : Option (List ℕ)). content (scalar_reads anchor o value (takes_mark quoted s) s)) none ∙ untagged_same anchor value (takes_mark quoted s) plain s (counts plain quoted s flags free)
+    ap (λ (o : Option (List ℕ)). content (scalar_reads anchor o value (takes_mark quoted s) s)) none ∙ (ap (λ (b : Bool). event.scalar anchor None value b false YAML_ANY_SCALAR_STYLE) (counts plain quoted s flags free))
 scalar_by anchor (Some t) written value plain quoted s (p, q) fine w h =
     let some : written ≡ Some t = w ∙ ap (λ (b : Bool). kept_tag false (b || quoted) (Some t)) p ∙ ap (λ (b : Bool). kept_tag false b (Some t)) q in
-    ap (λ (o : Option (List ℕ)). content (scalar_reads anchor o value (takes_mark quoted s) s)) some ∙ tagged_same anchor t value (takes_mark quoted s) s fine
+    ap (λ (o : Option (List ℕ)). content (scalar_reads anchor o value (takes_mark quoted s) s)) some ∙ (ap (λ (b : Bool). content_of (normalize_scalar b anchor (Some t) value false false (style_named s))) (no_mark t value fine))
 
 scalar_same : (p : Context) (flow : Bool) (q : Part) (x : emit.Scalar)
     → HasScalarFlags x.tag x.plain x.quoted → IsNoMark x.tag

@@ -28,10 +28,8 @@ use Rattle.yaml_emit_laws_pretty.specs.DocLaws.{PrettyTextIsRead}
 use Rattle.yaml_round_laws_pretty.specs.Laws.{PrettyReadsBack, PrettyIsLost, PrettyFollows}
 use Rattle.yaml_round_laws_pretty.proofs.Passing.{tokens_pass}
 use Rattle.yaml_round_laws_pretty.proofs.Saying.{tokens_say}
-use Rattle.yaml_round_laws_pretty.proofs.Lost.{is_told, tokens_lost}
-use Rattle.yaml_round_laws_pretty.proofs.InputFlags.{inputs_flags}
-use Rattle.yaml_round_laws_pretty.proofs.InputPremises.{inputs_parsable}
-use Rattle.yaml_round_laws_pretty.proofs.InputTexts.{layout_writable}
+use Rattle.yaml_round_laws_pretty.proofs.Documents.{is_told, tokens_lost}
+use Rattle.yaml_round_laws_pretty.proofs.InputTexts.{inputs_flags, inputs_parsable, layout_writable}
 use Rattle.yaml_round_laws_pretty.proofs.Bytes.{bytes_decode}
 use Rattle.yaml_round_laws_documents.proofs.Joining.{ending_is, contents_are}
 

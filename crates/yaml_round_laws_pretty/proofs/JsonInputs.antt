@@ -4,7 +4,7 @@ use Rattle.std.proofs.lemmas.Bool.{false≢true}
 use Rattle.std.proofs.Math.Bool.{and-false}
 use Rattle.yaml_round_laws_documents.specs.parse_grammar.parse_model.declared.yaml_encoding_t.{yaml_encoding_t}
 use Rattle.yaml_round_laws_documents.specs.parse_grammar.Resolve.{Told}
-use Rattle.yaml_round_laws_documents.specs.emit_laws_text.emit_layout.Content.{Event, stream_start, document_start, Scalar, Document, Node, alias_node, scalar_node, sequence_node, mapping_node, Opening, node_events, documents_events, stream_events}
+use Rattle.yaml_round_laws_documents.specs.emit_laws_text.emit_layout.Content.{Event, stream_start, document_start, Scalar, Node, alias_node, scalar_node, sequence_node, mapping_node, Opening, node_events, documents_events}
 use Rattle.yaml_round_laws_documents.specs.emit_laws_text.emit_layout.Nodes.{is_directed}
 use Rattle.yaml_round_laws_documents.specs.emit_laws_text.Json.{IsJsonScalar, IsJsonNode}
 use Rattle.yaml_round_laws_documents.specs.emit_laws_text.scan_laws_texts.Values.{is_plain_value}
@@ -31,12 +31,8 @@ root_begins x o (scalar_node v) es is = ap (λ (b : Bool). (o.implicit && not (i
 root_begins x o (sequence_node q items) es is = refl
 root_begins x o (mapping_node q pairs) es is = refl
 
-document_begins : (x : yaml_encoding_t) (d : Document) → IsJsonNode d.root
-    → begins_with_nothing (stream_events x (d ∷ [])) ≡ false
-unfolding documents_events
-document_begins x d is = root_begins x d.opening d.root _ is
-
 pub json_begins : JsonBeginsWithSomething
+unfolding documents_events
 json_begins from input json =
     let are = json.of_input.are ∙ sym (events_of_tree from input json.of_input.sentence) in
-    ap (λ (es : List Event). begins_with_nothing es) (ap (λ (es : List Told). emitter_events false es) (sym are) ∙ json.says) ∙ document_begins json.encoding json.document json.shaped.root
+    ap (λ (es : List Event). begins_with_nothing es) (ap (λ (es : List Told). emitter_events false es) (sym are) ∙ json.says) ∙ (root_begins json.encoding json.document.opening json.document.root _ json.shaped.root)

@@ -1,7 +1,5 @@
 -- Pretty text begins with no byte order mark.
-use Rattle.std.proofs.Common.{◌≡◌, ℕ, zero, suc, ◌-◌, ◌<◌, Bool, true, false, not, ◌&&◌, ◌||◌, ◌==◌, nat_lt, if◌then◌else◌, List, [], ◌∷◌, ◌++◌, length, Option, Some, None, refl, sym, ap, subst, ◌∙◌, arith, codes, inl, inr}
-use Rattle.std.specs.Prelude.{nat_eq}
-use Rattle.std.specs.Str.{chars}
+use Rattle.std.proofs.Common.{◌≡◌, ℕ, zero, suc, ◌-◌, ◌<◌, Bool, true, false, not, ◌&&◌, ◌||◌, ◌==◌, nat_lt, if◌then◌else◌, List, [], ◌∷◌, ◌++◌, length, Option, Some, None, refl, sym, ap, subst, ◌∙◌, arith, codes, inl, inr, nat_eq, chars}
 use Rattle.std.proofs.lemmas.Bool.{false≢true}
 use Rattle.yaml_round_laws_documents.specs.emit_laws_text.scan_model.declared.yaml_version_directive_t.{yaml_version_directive_t}
 use Rattle.yaml_round_laws_documents.specs.parse_grammar.parse_model.Events.{TagDirective}
@@ -14,7 +12,7 @@ use Rattle.yaml_round_laws_documents.specs.emit_laws_text.emit_text.declared.Lin
 use Rattle.yaml_round_laws_documents.specs.emit_laws_text.emit_text.declared.Settings.{Settings}
 use Rattle.yaml_round_laws_documents.specs.emit_laws_text.emit_text.declared.Style.{Style}
 use Rattle.yaml_round_laws_documents.specs.emit_laws_text.emit_text.declared.Style.TheVariants as style
-use Rattle.yaml_round_laws_documents.specs.round_content.emit_text.Text.{Item, letter, deep, shown, is_break}
+use Rattle.yaml_round_laws_documents.specs.round_content.emit_text.Text.{Item, letter, shown, is_break}
 use Rattle.yaml_round_laws_documents.specs.emit_laws_text.emit_text.Quoted.{is_printable, is_empty, quoted_body}
 use Rattle.yaml_round_laws_documents.specs.emit_laws_text.emit_text.Scalars.{value_break, cuts_at, cut, quote_char, text_char, flow_char, flow_body, block_header, chomp, chomp_mark, digit_mark, scalar_text}
 use Rattle.yaml_round_laws_documents.specs.round_content.emit_text.Layout.{Layout, Rest, ◌▹◌, stay, choose, when, char, letters, blank, blanks, break, new_line, gap, is_white, word, indicator, opener, must_break, indent_to, line, is_past, keep, after_text}
@@ -27,7 +25,7 @@ use Rattle.yaml_round_laws_documents.specs.emit_laws_text.TagsLaws.{HaveUtf8, Is
 use Rattle.yaml_round_laws_documents.specs.emit_laws_text.Writable as text
 use Rattle.yaml_emit_laws_pretty.proofs.Joining.{written_readable}
 use Rattle.yaml_round_laws_documents.proofs.Marks.{Told}
-use Rattle.yaml_round_laws_pretty.proofs.Fitting.{ArePrintable, Needs, style_needs}
+use Rattle.yaml_round_laws_pretty.proofs.Layouts.{ArePrintable, Needs, style_needs}
 
 -- ---- the first character isn't the mark
 
@@ -45,10 +43,6 @@ pub begins_letter : (x : ℕ) (t : List Item) → NoMark x → Begins (letter x 
 unfolding shown
 begins_letter x t h = h
 
-begins_deep : (t : List Item) → Begins t → Begins (deep ∷ t)
-unfolding shown
-begins_deep t h = h
-
 pub begins_nothing : Begins []
 unfolding shown
 begins_nothing = tt
@@ -56,11 +50,8 @@ begins_nothing = tt
 low : (x : ℕ) → x < 128 → NoMark x
 low x h e = omega (arith, h, e)
 
-mark_hidden : is_printable 0xFEFF ≡ false
-mark_hidden = refl
-
 printed : (x : ℕ) → is_printable x ≡ true → NoMark x
-printed x h e = false≢true (sym mark_hidden ∙ ap (λ (y : ℕ). is_printable y) (sym e) ∙ h)
+printed x h e = false≢true (sym refl ∙ ap (λ (y : ℕ). is_printable y) (sym e) ∙ h)
 
 -- what follows may begin so, or it doesn't matter
 abbrev Heads : Layout → Type 0
@@ -131,18 +122,13 @@ new_line_leads Lf = break_leads 10 (low 10 (omega arith))
 new_line_leads Cr = break_leads 13 (low 13 (omega arith))
 new_line_leads CrLf = leading (char 13) (break 10) (char_leads 13 (low 13 (omega arith)))
 
-indent_heads : (n : ℕ) → Heads (indent_to n)
-indent_heads n c rest r = blanks_heads (n - c.column) c rest r
-
 line_heads : (b : LineBreak) (n : ℕ) → Heads (line b n)
 unfolding line
-line_heads b n = both (choose (must_break n) (new_line b) stay) (indent_to n) (choose_heads (must_break n) (new_line b) stay (led (new_line b) (new_line_leads b)) stay_heads) (indent_heads n)
-
-keep_heads : (b : Bool) → Heads (keep b)
-keep_heads b c rest r = r _
+line_heads b n = both (choose (must_break n) (new_line b) stay) (indent_to n) (choose_heads (must_break n) (new_line b) stay (led (new_line b) (new_line_leads b)) stay_heads) (λ c rest r. blanks_heads (n - c.column) c rest r)
 
 deep_heads : (b : Bool) (t : List Item) → Begins t → Begins (deep_if b t)
-deep_heads true t h = begins_deep t h
+unfolding shown
+deep_heads true t h = h
 deep_heads false t h = h
 
 checked_heads : (n : ℕ) → Heads (checked n)
@@ -168,9 +154,6 @@ flow_heads page quote before (x ∷ xs) (h, hs) =
     (both (when (quote && x == 39) (char 39)) (char x) (when_heads (quote && x == 39) (char 39) tick) one))))
     (flow_heads page quote x xs hs)
 
-text_heads : Heads after_text
-text_heads c rest r = r _
-
 opened : (x : ℕ) (b : Layout) → NoMark x → Heads (gap ▹ (char x ▹ b))
 opened x b h = led (gap ▹ (char x ▹ b)) (behind gap (char x ▹ b) gap_heads (leading (char x) b (char_leads x h)))
 
@@ -189,7 +172,7 @@ scalar_heads : (page : Page) (digit : ℕ) (flow : Bool) (s : Style) (cs : List 
     → Needs s (ArePrintable cs) → Heads (scalar_text page digit flow s cs)
 unfolding scalar_text
 scalar_heads page digit flow style.Plain cs h =
-    both (when (flow || not (is_empty cs)) gap) (flow_body page false 32 cs ▹ after_text) (when_heads (flow || not (is_empty cs)) gap gap_heads) (both (flow_body page false 32 cs) after_text (flow_heads page false 32 cs h) text_heads)
+    both (when (flow || not (is_empty cs)) gap) (flow_body page false 32 cs ▹ after_text) (when_heads (flow || not (is_empty cs)) gap gap_heads) (both (flow_body page false 32 cs) after_text (flow_heads page false 32 cs h) (λ c rest r. r _))
 scalar_heads page digit flow style.Single cs h = opened 39 (flow_body page true 32 cs ▹ char 39) (low 39 (omega arith))
 scalar_heads page digit flow style.Double cs h = opened 34 (quoted_body page 32 cs ▹ char 34) (low 34 (omega arith))
 scalar_heads page digit flow style.Literal cs h = block_heads page digit false cs _
@@ -358,7 +341,7 @@ unfolding start_layout
 start_heads s fresh unended o =
     let dash = when (is_marked s fresh o) (dashes s) in
     both (when (unended && is_directed o) (dots s)) (keep false ▹ (version_text s o.version ▹ (directives_text s o.directives ▹ dash))) (when_heads (unended && is_directed o) (dots s) (led (dots s) (dots_leads s)))
-    (both (keep false) (version_text s o.version ▹ (directives_text s o.directives ▹ dash)) (keep_heads false)
+    (both (keep false) (version_text s o.version ▹ (directives_text s o.directives ▹ dash)) (λ c rest r. r _)
     (both (version_text s o.version) (directives_text s o.directives ▹ dash) (version_heads s o.version)
     (both (directives_text s o.directives) dash (directives_heads s o.directives) (when_heads (is_marked s fresh o) (dashes s) (led (dashes s) (dashes_leads s))))))
 
@@ -366,14 +349,10 @@ end_heads : (s : Settings) (implicit : Bool) → Heads (end_layout s implicit)
 unfolding end_layout
 end_heads s implicit = both (line_at s 0) (when (not implicit) (dots s)) (line_heads s.line_break 0) (when_heads (not implicit) (dots s) (led (dots s) (dots_leads s)))
 
-stop_heads : (s : Settings) (unended : Bool) → Heads (stop_layout s unended)
-unfolding stop_layout
-stop_heads s unended = when_heads unended (choose is_kept (dots s) stay) (choose_heads is_kept (dots s) stay (led (dots s) (dots_leads s)) stay_heads)
-
 pub documents_heads : (s : Settings) (fresh unended : Bool) (ds : List Document)
     → text.AreWritable ds → Heads (documents_layout s fresh unended ds)
-unfolding documents_layout
-documents_heads s fresh unended [] w = stop_heads s unended
+unfolding documents_layout stop_layout
+documents_heads s fresh unended [] w = when_heads unended (choose is_kept (dots s) stay) (choose_heads is_kept (dots s) stay (led (dots s) (dots_leads s)) stay_heads)
 documents_heads s fresh unended (d ∷ ds) ((right, utf8), root, more) =
     let body = node_layout (context_of s d.opening.directives) root_position d.root in
     both (start_layout s fresh unended d.opening) (body ▹ (end_layout s d.implicit_end ▹ documents_layout s false d.implicit_end ds)) (start_heads s fresh unended d.opening)

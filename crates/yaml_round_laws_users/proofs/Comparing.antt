@@ -1,6 +1,5 @@
 -- Comparing is an equivalence, since contents are compared by an equation.
-use Rattle.std.proofs.Common.{◌≡◌, ℕ, List, Result, Ok, Bool, true, false, IsTrue, refl, sym, subst}
-use Rattle.std.proofs.lemmas.Bool.{true≢false}
+use Rattle.std.proofs.Common.{◌≡◌, ℕ, List, Result, Ok, Bool, true, false, IsTrue, refl, sym, subst, true≢false}
 use Rattle.yaml_round.specs.declared.yaml_encoding_t.{yaml_encoding_t}
 use Rattle.yaml_emit_laws_text.specs.emit_layout.scan_model.Faults.{Fault}
 use Rattle.yaml_round.specs.round_laws_documents.round_content.Said.{Document}
@@ -20,13 +19,10 @@ pub turned : (a_from b_from : yaml_encoding_t) (a b : List ℕ) → SameContent 
     → SameContent b_from b a_from a
 turned a_from b_from a b h = record { content = h.content; first = h.second; second = h.first }
 
-own : (from : yaml_encoding_t) (a : List ℕ) → IsRight from a → SameContent from a from a
-unfolding IsRight
-own from a r = record { content = r.0; first = r.1; second = r.1 }
-
 pub equivalence : SameContentIsAnEquivalence
+unfolding IsRight
 equivalence = record {
-  reflexive = λ from a r. own from a r;
+  reflexive = λ from a r. (record { content = r.0; first = r.1; second = r.1 });
   symmetric = λ a_from b_from a b h. turned a_from b_from a b h;
   transitive = λ a_from b_from c_from a b c h k. record {
     content = h.content;

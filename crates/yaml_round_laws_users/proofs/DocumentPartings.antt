@@ -5,7 +5,7 @@ use Rattle.yaml_round.specs.declared.yaml_difference_t.{yaml_difference_t}
 use Rattle.yaml_round.specs.round_laws_documents.round_content.parse_model.Events.{EventBody, type_of}
 use Rattle.yaml_round.specs.round_laws_documents.round_content.parse_laws_trees.parse_document.Documents.{Document}
 use Rattle.yaml_round.specs.round_laws_documents.round_content.Agree.{AreAgreeing}
-use Rattle.yaml_round.specs.Input.{events_of}
+use Rattle.yaml_round_content.specs.Input.{events_of}
 use Rattle.yaml_round.specs.Loaded.{dumps_say, next_of, event_at, SameDocuments, IsDocumentsParting}
 use Rattle.yaml_round_laws_users.specs.Partings.{TellTheSame, DocumentDiffsAgree, turned}
 use Rattle.yaml_round_laws_users.proofs.Limits.{same_loading}
@@ -73,10 +73,6 @@ other_way a_from b_from a b d h = record {
   path = h.path;
 }
 
-same_turned : (a_from b_from : yaml_encoding_t) (a b : List ℕ)
-    → SameDocuments a_from a b_from b → SameDocuments b_from b a_from a
-same_turned a_from b_from a b s = record { first = s.second; second = s.first; first_loads = s.second_loads; second_loads = s.first_loads; agree = sym s.agree }
-
 not_apart : (a_from b_from : yaml_encoding_t) (a b : List ℕ) (d : yaml_difference_t)
     → SameDocuments a_from a b_from b → IsDocumentsParting a_from a b_from b d → ⊥
 not_apart a_from b_from a b d s h =
@@ -86,7 +82,7 @@ not_apart a_from b_from a b d s h =
 
 pub agree : DocumentDiffsAgree
 agree = record {
-  either = λ a_from b_from a b s. same_turned a_from b_from a b s;
+  either = λ a_from b_from a b s. (record { first = s.second; second = s.first; first_loads = s.second_loads; second_loads = s.first_loads; agree = sym s.agree });
   not_both = λ a_from b_from a b d s h. not_apart a_from b_from a b d s h;
   again = λ a_from b_from a b d e h k. once a_from b_from a b d e h k;
   turned = λ a_from b_from a b d e h k. once a_from b_from a b d (turned e) h (other_way a_from b_from a b e k);

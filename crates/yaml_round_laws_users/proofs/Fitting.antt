@@ -36,7 +36,7 @@ use Rattle.yaml_emit_laws_text.proofs.SizesLaid.{by_content}
 use Rattle.yaml_round_laws_sizes.specs.Laws.{most_of_input}
 use Rattle.yaml_round_laws_sizes.proofs.Joining.{contents_bounded, layouts_short}
 use Rattle.yaml_round_laws_sizes.proofs.Tally.{tallies_same}
-use Rattle.yaml_round_laws_users.specs.Sizes.{most_of_content, most_of_answer, most_of_dumps, LimitsOfContentSuffice, ReformatsFit, NormalFormsFit, ReloadsFitDocuments}
+use Rattle.yaml_round_laws_users.specs.Sizes.{most_of_answer, most_of_dumps, LimitsOfContentSuffice, ReformatsFit, NormalFormsFit, ReloadsFitDocuments}
 use Rattle.yaml_round_laws_users.proofs.Limits.{read_once, loaded_once, same_loading}
 
 not_columns : write_error ≡ too_deep → ⊥
@@ -46,10 +46,6 @@ past_size : (limit : ℕ) (bytes : List ℕ) (deep : Bool) → Passes limit byte
     → limit < length bytes
 past_size limit bytes deep (inl p) = p.1
 past_size limit bytes deep (inr p) = absurd (not_columns p.0)
-
-content_fits : (s : yaml_settings_t) (c : List Document)
-    → length (canon (requested_under s true) c) ≤ most_of_content s c
-content_fits s c = by_content (settled (requested_under s true) YAML_ANY_ENCODING) (written_documents c)
 
 -- the text is the content's, and longer than the limit
 text_passes : (from : yaml_encoding_t) (s : yaml_settings_t) (input : List ℕ) (c : List Document)
@@ -66,7 +62,7 @@ text_passes from s input c h k =
 pub fits_content : LimitsOfContentSuffice
 fits_content from s input c h few k =
     let long = text_passes from s input c h k in
-    absurd (omega (arith, few, long, content_fits s c))
+    absurd (omega (arith, few, long, (by_content (settled (requested_under s true) YAML_ANY_ENCODING) (written_documents c))))
 
 -- ---- by the input's length
 
@@ -152,10 +148,6 @@ normal_forms from s input c h few k =
 
 -- ---- reloading
 
-settled_is : (s : yaml_settings_t) (y : yaml_encoding_t)
-    → settled (requested_under s true) y ≡ settled (requested_under s true) YAML_ANY_ENCODING
-settled_is s y = ap (λ (x : Encoding). record (settled (requested_under s true) YAML_ANY_ENCODING) { encoding = x }) (coded s.encoding y)
-
 -- the mark of an end takes no more
 ended_bytes : (z : Settings) (ds : List documents.Document)
     → most_of_documents z (map graph_content (ended ds))
@@ -173,7 +165,7 @@ dumped_long s ds k =
     let long : s.limit < length (encode k.encoding k.whole) = past_size s.limit (encode k.encoding k.whole) (is_deep k.whole) k.passes in
     let short : length (encode z.encoding (written (stream_layout z h.documents))) ≤ most_bytes z h.documents = by_content z h.documents in
     let same = tallies_same z h.encoding YAML_ANY_ENCODING h.documents (map graph_content (ended ds)) (sym h.same) in
-    let is : most_bytes z (map graph_content ds) ≡ most_of_dumps s ds = ap (λ (y : Settings). most_bytes y (map graph_content ds)) (settled_is s h.encoding) in
+    let is : most_bytes z (map graph_content ds) ≡ most_of_dumps s ds = ap (λ (y : Settings). most_bytes y (map graph_content ds)) (ap (λ (x : Encoding). record (settled (requested_under s true) YAML_ANY_ENCODING) { encoding = x }) (coded s.encoding h.encoding)) in
     let text : length (encode k.encoding k.whole) ≡ length (encode z.encoding (written (stream_layout z h.documents))) = ap (λ (x : Encoding). length (encode x k.whole)) h.coded ∙ ap (λ (t : List Item). length (encode z.encoding t)) h.is in
     omega (arith, long, text, short, same, ended_bytes z ds, is)
 

@@ -2,11 +2,8 @@ mod Rewriting
 mod NormalForms
 mod Comparing
 mod Beginning
-mod Shaped
-mod Joining
 mod Loads
 mod Limits
-mod Readings
 mod Partings
 mod DocumentPartings
 mod Fitting

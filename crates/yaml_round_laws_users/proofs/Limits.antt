@@ -15,12 +15,12 @@ use Rattle.yaml_round.specs.emit.Emitter.{Passes, write_error, too_deep}
 use Rattle.yaml_round.specs.emit.emit_graph.Graph.{graph_content}
 use Rattle.yaml_emit_laws_text.specs.emit_layout.emit_text.declared.Encoding.{Encoding}
 use Rattle.yaml_emit_laws_text.specs.emit_layout.emit_text.declared.RequestedSettings.{RequestedSettings}
-use Rattle.yaml_round.specs.round_laws_documents.round_content.Input.{events_of}
+use Rattle.yaml_round_content.specs.Input.{events_of}
 use Rattle.yaml_round.specs.round_laws_documents.round_content.Loads.{loads_of}
 use Rattle.yaml_round.specs.round_laws_documents.round_content.Said.{Document}
 use Rattle.yaml_round.specs.round_laws_documents.round_content.Canon.{written_documents, canon_items, canon_encoding}
 use Rattle.yaml_round.specs.round_content.Reading.{PlainReading}
-use Rattle.yaml_round.specs.round_content.PlainLoading.{PlainLoading, unless_faulty}
+use Rattle.yaml_round.specs.round_laws_documents.round_content.PlainLoading.{PlainLoading, unless_faulty}
 use Rattle.yaml_round.specs.round_laws_documents.round_content.DumpsEvents.{trees_of_dumps}
 use Rattle.yaml_round.specs.round_laws_documents.Normal.{ended}
 use Rattle.yaml_round.specs.declared.yaml_settings_t.{yaml_settings_t}
@@ -76,10 +76,6 @@ pub read_once : (from : yaml_encoding_t) (input : List ℕ) (c : List Document) 
 unfolding IsFaulty
 read_once from input c f h k = let e : Ok c ≡ Err f = one_reading from input (Ok c) (Err f) h k in absurd cc
 
-content_deep : (s : yaml_settings_t) (c : List Document)
-    → is_deep (canon_items (requested_under s true) c) ≡ true → IsContentTooDeep s c
-content_deep s c deep = (by_depth (settled (requested_under s true) YAML_ANY_ENCODING) refl (written_documents c)).0 deep
-
 deep_content : (s : yaml_settings_t) (c : List Document) → IsContentTooDeep s c
     → is_deep (canon_items (requested_under s true) c) ≡ true
 deep_content s c deep = (by_depth (settled (requested_under s true) YAML_ANY_ENCODING) refl (written_documents c)).1 deep
@@ -90,7 +86,7 @@ long_deep from s input c h k =
     let w = requested_under s true in
     let past = subst (λ (es : List Told). IsPast w s.limit (emitter_events true es) too_deep) (events_are from input k.events k.of_input) k.past in
     let is = (layout_is_of_input w (canonical_under s) from input c (read_said from input c h) past.encoding past.whole past.stream).1 in
-    content_deep s c (ap (λ (t : List Item). is_deep t) (sym is) ∙ past_columns s.limit (encode past.encoding past.whole) (is_deep past.whole) past.passes)
+    ((by_depth (settled (requested_under s true) YAML_ANY_ENCODING) refl (written_documents c)).0 (ap (λ (t : List Item). is_deep t) (sym is) ∙ past_columns s.limit (encode past.encoding past.whole) (is_deep past.whole) past.passes))
 
 deep_long : (from : yaml_encoding_t) (s : yaml_settings_t) (input : List ℕ) (c : List Document)
     → PlainReading from input (Ok c) → IsContentTooDeep s c → IsTooLong from input s true too_deep

@@ -1,12 +1,9 @@
 -- What the first events of an input say of its tree.
-use Rattle.std.proofs.Common.{◌≡◌, ℕ, ℤ, ◌+◌, ◌==◌, ◌&&◌, not, if◌then◌else◌, Bool, true, false, List, [], ◌∷◌, ◌++◌, length, Option, Some, None, codes, refl, sym, ap, subst, ◌∙◌, inl, inr, arith}
-use Rattle.std.specs.Prelude.{slice_index, option_map}
-use Rattle.std.specs.Str.{bytes_eq}
+use Rattle.std.proofs.Common.{◌≡◌, ℕ, ℤ, ◌+◌, ◌==◌, ◌&&◌, not, if◌then◌else◌, Bool, true, false, List, [], ◌∷◌, ◌++◌, length, Option, Some, None, codes, refl, sym, ap, subst, ◌∙◌, inl, inr, arith, slice_index, option_map, bytes_eq}
 use Rattle.std.proofs.lemmas.Bool.{cases_Bool, true≢false}
 use Rattle.std.proofs.lemmas.Bool.Decides.{nat_tests}
 use Rattle.std.proofs.lemmas.Slice.Eq.{bytes_eq-Decides}
 use Rattle.std.proofs.Math.Bool.{and-false}
-use Rattle.yaml_round_content.specs.scan_model.declared.yaml_encoding_t.{yaml_encoding_t}
 use Rattle.yaml_round_content.specs.scan_model.declared.yaml_mark_t.{yaml_mark_t}
 use Rattle.yaml_round_content.specs.scan_model.declared.yaml_scalar_style_t.{yaml_scalar_style_t}
 use Rattle.yaml_round_content.specs.scan_model.declared.yaml_scalar_style_t.TheVariants.{YAML_PLAIN_SCALAR_STYLE}
@@ -14,27 +11,27 @@ use Rattle.yaml_round_content.specs.scan_model.declared.yaml_sequence_style_t.Th
 use Rattle.yaml_round_content.specs.scan_model.declared.yaml_mapping_style_t.TheVariants.{YAML_FLOW_MAPPING_STYLE, YAML_BLOCK_MAPPING_STYLE}
 use Rattle.yaml_round_content.specs.scan_model.declared.yaml_version_directive_t.{yaml_version_directive_t}
 use Rattle.yaml_round_content.specs.scan_model.Tokens.{Token}
-use Rattle.yaml_round_content.specs.parse_model.Events.{EventBody, TagDirective}
-use Rattle.yaml_round_content.specs.parse_model.Events as event
+use Rattle.yaml_round.specs.round_laws_documents.round_content.parse_model.Events.{EventBody, TagDirective}
+use Rattle.yaml_round.specs.round_laws_documents.round_content.parse_model.Events as event
 use Rattle.yaml_round_content.specs.parse_grammar.declared.Wants.{Wants}
 use Rattle.yaml_round_content.specs.parse_grammar.declared.Brackets.TheVariants as brackets
 use Rattle.yaml_round_content.specs.parse_grammar.Items.{RawEvent, Properties, Tag, Shape, item_at}
 use Rattle.yaml_round_content.specs.parse_grammar.Items as item
 use Rattle.yaml_round_content.specs.parse_grammar.Trees.{Given, TagToken, properties_of, spell_ends, spell_content, spell_documents}
 use Rattle.yaml_round_content.specs.parse_grammar.Trees as tree
-use Rattle.yaml_round_content.specs.parse_grammar.TreeSteps.{items, items_node, items_content, items_directives, items_documents, items_first}
-use Rattle.yaml_round_content.specs.parse_grammar.Resolve.{Directives, no_directives, Settled, refused, gave, noted, resolved, directive_for, with_resolved, with_tag, with_version, is_known_version, is_plain, node_event, Reading, read_on, reading}
+use Rattle.yaml_round_content.specs.parse_grammar.TreeSteps.{items_node, items_content, items_directives, items_documents, items_first}
+use Rattle.yaml_round.specs.round_laws_documents.round_content.parse_grammar.Resolve.{Directives, no_directives, Settled, refused, gave, noted, resolved, directive_for, with_resolved, with_tag, with_version, is_known_version, is_plain, node_event, Reading, read_on, reading}
 use Rattle.yaml_round_content.specs.scan_laws_texts.Spelled.{IsSome, AreSpelled}
 use Rattle.yaml_round_content.specs.round_laws_adapted.Adapted.{spells_text, cut}
 use Rattle.yaml_round_content.specs.scan_history.Scanned.{scanned}
 use Rattle.yaml_round_content.specs.Normalize.{is_lone_mark, normalize_scalar, normalize_body}
-use Rattle.yaml_round_content.specs.Events.{emitter_events}
+use Rattle.yaml_round.specs.round_content.Events.{emitter_events}
 use Rattle.yaml_round_content.specs.Input.{tokens_of, events_of}
 use Rattle.yaml_round_content.proofs.Inputs.{scanned_spelled}
-use Rattle.yaml_round_content.proofs.Joining.{read_is, tree_read}
+use Rattle.yaml_round.proofs.Joining.{read_is, tree_read}
 use Rattle.yaml_round_content.proofs.Spelling.{spelled_before}
-use Rattle.yaml_round_content.specs.emit_layout.Content as emit
-use Rattle.yaml_round_content.specs.emit_layout.Content.{emitter_event}
+use Rattle.yaml_round.specs.emit.Content as emit
+use Rattle.yaml_round.specs.emit.Content.{emitter_event}
 use Rattle.yaml_round_content.specs.emit_layout.Grammar.{has}
 use Rattle.yaml_round_beginning.specs.round_laws_normal.round_laws_pretty.Bodies.{is_bare, is_empty}
 use Rattle.yaml_round_beginning.specs.round_laws_normal.round_laws_pretty.Flags.{is_asked_plain}
@@ -263,18 +260,12 @@ properties_said (tree.anchor_tag a t) ts h = anchored (resolved [] t.handle t.su
 properties_said (tree.tag t) ts h = tag_alone t h.0.1
 properties_said (tree.tag_anchor t a) ts h = anchored (resolved [] t.handle t.suffix) a.name
 
-aliased : (name : List ℕ) (from to : yaml_mark_t) (left : ℕ) (gs : List Given)
-    → is_nothing_next (emitter_events false
-    (reading ((item_at (item.event (event.alias name)) from to, left) ∷ gs) None
-    no_directives).events) ≡ false
-unfolding reading
-aliased name from to left gs = refl
-
 root_next : {w : Wants} (n : tree.Node w) (rest : List Token) → Told (tree.spell_node n rest)
     → (more : List Given)
     → is_nothing_next (emitter_events false
     (reading (items_node n rest more) None no_directives).events) ≡ is_mark_node n
-root_next (tree.alias s name) rest h more = aliased name s.from s.to (length rest) more
+unfolding reading
+root_next (tree.alias s name) rest h more = refl
 root_next (tree.only_properties d) rest h more = node_next (properties_of d).anchor (properties_of d).tag item.empty (properties_of d).from (properties_of d).to _ more ∙ properties_said d rest h.1
 root_next (tree.with_properties d c) rest h more = dressed_there (properties_of d) c rest (behind_properties d (spell_content c rest) h.0) more
 root_next (tree.bare c) rest h more = bare_there c rest h.0 more
@@ -317,48 +308,23 @@ directed [] rest from to left gs d = refl
 directed (tree.version s x y ∷ ds) rest from to left gs d = quiet_on (with_version d.version d.tags x y s.from) _ _ _ (version_quiet d.version d.tags x y s.from) (λ e. directed ds rest from to left gs e)
 directed (tree.handle s name prefix ∷ ds) rest from to left gs d = quiet_on (with_tag (directive_for name d.tags) d name prefix s.from) _ _ _ (handle_quiet (directive_for name d.tags) d name prefix s.from) (λ e. directed ds rest from to left gs e)
 
-ended : (left : ℕ) (from to : yaml_mark_t)
-    → opens_with_nothing (emitter_events false
-    (reading ((item_at (item.event event.stream_end) from to, left) ∷ []) None
-    no_directives).events) ≡ false
-unfolding reading
-ended left from to = refl
-
 documents_open : (ds : tree.Documents) (rest : List Token)
     → opens_with_nothing (emitter_events false
     (reading (items_documents ds rest) None no_directives).events) ≡ false
-documents_open (tree.end_stream s) rest = ended (length rest) s.from s.to
+unfolding reading
+documents_open (tree.end_stream s) rest = refl
 documents_open (tree.document ds s root ends more) rest = directed ds _ _ s.to _ _ no_directives
 
 -- ---- the stream
-
-opened : (from to : yaml_mark_t) (left : ℕ) (gs : List Given)
-    → opens_with_nothing (emitter_events false
-    (reading ((item_at (item.document true) from to, left) ∷ gs) None no_directives).events)
-    ≡ is_nothing_next (emitter_events false (reading gs None no_directives).events)
-unfolding reading
-opened from to left gs = refl
-
-started : (x : yaml_encoding_t) (from to : yaml_mark_t) (left : ℕ) (gs : List Given)
-    → nothing_comes known.Start (emitter_events false
-    (reading ((item_at (item.event (event.stream_start x)) from to, left) ∷ gs) None
-    no_directives).events) ≡ opens_with_nothing
-    (emitter_events false (reading gs None no_directives).events)
-unfolding reading
-started x from to left gs = refl
 
 first_opens : (f : tree.First) (docs : tree.Documents) (rest : List Token)
     → Told (tree.spell_first f (spell_documents docs rest))
     → opens_with_nothing (emitter_events false
     (reading (items_first f (spell_documents docs rest) (items_documents docs rest)) None
     no_directives).events) ≡ begins_with_mark f
+unfolding reading
 first_opens tree.no_first docs rest h = documents_open docs rest
-first_opens (tree.first n ends) docs rest h = opened _ _ _ _ ∙ root_next n (spell_ends ends (spell_documents docs rest)) h _
-
-stream_comes : (t : tree.Stream) (rest : List Token) → Told (tree.spell t rest)
-    → nothing_comes known.Start (emitter_events false
-    (reading (items t rest) None no_directives).events) ≡ begins_with_mark t.first
-stream_comes t rest h = started t.encoding t.start.from t.start.to _ _ ∙ first_opens t.first t.documents rest (h.0.1, h.1.1)
+first_opens (tree.first n ends) docs rest h = refl ∙ root_next n (spell_ends ends (spell_documents docs rest)) h _
 
 -- ---- inputs
 
@@ -371,14 +337,12 @@ cut_spelled fault (t ∷ ts) h =
       | inr e ↦ rw e tt
     ]
 
-tokens_told : (from : yaml_encoding_t) (input : List ℕ) → Told (tokens_of from input).tokens
-tokens_told from input = (tokens_full from input, cut_spelled (scanned from input).fault (scanned from input).tokens (scanned_spelled from input))
-
 pub mark : BeginningIsAMark
+unfolding reading
 mark from input b =
     let ts = (tokens_of from input).tokens in
     let own = (tokens_of from input).fault in
-    let told : Told (tree.spell b.tree b.rest) = subst Told (b.same ∙ spelled_before b.tree b.rest) (tokens_told from input) in
+    let told : Told (tree.spell b.tree b.rest) = subst Told (b.same ∙ spelled_before b.tree b.rest) ((tokens_full from input, cut_spelled (scanned from input).fault (scanned from input).tokens (scanned_spelled from input))) in
     sym (from_start (emitter_events false (events_of from input)))
     ∙ ap (λ (r : Reading). nothing_comes known.Start (emitter_events false r.events)) (read_is from input ∙ tree_read ts own b)
-    ∙ stream_comes b.tree b.rest told
+    ∙ (refl ∙ first_opens b.tree.first b.tree.documents b.rest (told.0.1, told.1.1))

@@ -6,7 +6,7 @@ use Rattle.yaml_round_content.specs.scan_model.declared.yaml_scalar_style_t.{yam
 use Rattle.yaml_round_content.specs.scan_model.declared.yaml_scalar_style_t.TheVariants as styles
 use Rattle.yaml_round_content.specs.scan_model.Tokens as token
 use Rattle.yaml_round_content.specs.scan_model.Tokens.{Token, TokenBody, block_end}
-use Rattle.yaml_round_content.specs.scan_model.Faults.{Fault}
+use Rattle.yaml_emit_laws_text.specs.emit_layout.scan_model.Faults.{Fault}
 use Rattle.yaml_round_content.specs.scan_history.scan_model.Wrong.{Wrong}
 use Rattle.yaml_round_content.specs.scan_history.scan_model.Marks.{byte}
 use Rattle.yaml_round_content.specs.scan_history.scan_scalars.Pieces.{Line, Kept, lines, folded}

@@ -26,9 +26,6 @@ tails a b x y e = cc
 firsts : {A : Type 0} (a b : A) (x y : List A) → a ∷ x ≡ b ∷ y → a ≡ b
 firsts a b x y e = cc
 
-joined : (a b : EventBody) (x y : List EventBody) → a ≡ b → x ≡ y → a ∷ x ≡ b ∷ y
-joined a b x y p q = cc
-
 nothing_said : (a : EventBody) (x : List EventBody) → [] ≡ a ∷ x → ⊥
 nothing_said a x e = absurd (cc)
 
@@ -64,7 +61,7 @@ one_position (b ∷ bs) (o ∷ os) (n ∷ ns) (m ∷ ms) x y x' y' xs ys xs' ys'
     let r = one_position bs os ns ms x y x' y' xs ys xs' ys'
     (tails b n (bs ++ x ∷ xs) (ns ++ x' ∷ xs') p) (tails o m (os ++ y ∷ ys) (ms ++ y' ∷ ys') q)
     (tails (say b) (say o) (contents bs) (contents os) a) (tails (say n) (say m) (contents ns) (contents ms) a') d d' in
-    (joined (say b) (say n) (contents bs) (contents ns) (ap (λ (t : Told). say t) (firsts b n (bs ++ x ∷ xs) (ns ++ x' ∷ xs') p)) r.0, r.1, r.2)
+    (cc, r.1, r.2)
 
 -- ---- inputs
 
@@ -77,9 +74,6 @@ not_same a_from b_from a b d h s =
     ∙ sym (ap contents (events_are b_from b (h.other_before ++ h.other_next ∷ h.other_behind) h.of_second)) ∙ second
     ∙ ap (λ (x : List EventBody). x ++ say h.other_next ∷ contents h.other_behind) (sym h.alike) in
     h.differ (behind_front (contents h.before) (say h.next) (say h.other_next) (contents h.behind) (contents h.other_behind) e)
-
-told_true : (same : Bool) → IsTrue same → same ≡ true
-told_true same t = t
 
 told_false : (same : Bool) → (IsTrue same → ⊥) → same ≡ false
 told_false true n = absurd (n refl)
@@ -127,7 +121,7 @@ other_way a_from b_from a b d h = record {
 pub agree : DiffsAgree
 agree = record {
   either = λ a_from b_from a b s. comparing.turned a_from b_from a b s;
-  nothing = λ a_from b_from a b same c s. told_true same (c.told.1 s);
+  nothing = λ a_from b_from a b same c s. (c.told.1 s);
   something = λ a_from b_from a b same d c h. told_false same (λ t. not_same a_from b_from a b d h (c.told.0 t));
   again = λ a_from b_from a b d e h k. once a_from b_from a b d e h k;
   turned = λ a_from b_from a b d e h k. once a_from b_from a b d (turned e) h (other_way a_from b_from a b e k);

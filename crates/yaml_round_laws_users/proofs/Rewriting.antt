@@ -1,6 +1,5 @@
 -- From normal forms, and pretty texts that read back, to answers of two calls.
-use Rattle.std.proofs.Common.{◌≡◌, inl, inr, ℕ, true, List, Some, None, Result, Ok, Err, sym, ap, subst, ◌∙◌, arith}
-use Rattle.std.proofs.lemmas.Bool.{true≢false}
+use Rattle.std.proofs.Common.{◌≡◌, inl, inr, ℕ, true, List, Some, None, Result, Ok, Err, sym, ap, subst, ◌∙◌, arith, true≢false, Bool, false}
 use Rattle.yaml_round.specs.declared.yaml_encoding_t.{yaml_encoding_t}
 use Rattle.yaml_round.specs.declared.yaml_encoding_t.TheVariants.{YAML_ANY_ENCODING}
 use Rattle.yaml_emit_laws_text.specs.emit_layout.scan_model.Faults.{Fault}
@@ -8,7 +7,7 @@ use Rattle.yaml_round.specs.emit.Text.{Item, encode, is_deep}
 use Rattle.yaml_round.specs.emit.Within.{Fits}
 use Rattle.yaml_round.specs.emit.Emitter.{Passes}
 use Rattle.yaml_emit_laws_text.specs.emit_layout.emit_text.declared.Encoding.{Encoding}
-use Rattle.yaml_round.specs.round_laws_documents.round_content.Input.{ending_of, events_of}
+use Rattle.yaml_round_content.specs.Input.{ending_of, events_of}
 use Rattle.yaml_round.specs.round_laws_documents.round_content.Said.{Document, HasContent}
 use Rattle.yaml_round.specs.round_laws_documents.round_content.parse_grammar.Resolve.{Told}
 use Rattle.yaml_round.specs.round_content.Reading.{PlainReading}
@@ -18,13 +17,16 @@ use Rattle.yaml_round.specs.declared.yaml_form_t.{yaml_form_t}
 use Rattle.yaml_round.specs.declared.yaml_form_t.TheVariants.{Canonical, Pretty}
 use Rattle.yaml_round.specs.Reading.{emitter_events}
 use Rattle.yaml_round.specs.Writing.{requested_under}
-use Rattle.yaml_round.specs.Answers.{IsReformatted, IsNormalForm, IsFaulty, IsTooLong, IsLayout, IsPast, SameContent, canonical_text}
+use Rattle.yaml_round.specs.Answers.{IsReformatted, IsNormalForm, IsFaulty, IsTooLong, IsLayout, IsPast, SameContent, canonical_text, IsCanonicalDue}
 use Rattle.yaml_round.proofs.Normal.{canonical_under, text_is, text_fits, laid_of}
 use Rattle.yaml_round.proofs.Plain.{faulty_ending, events_are}
 use Rattle.yaml_round.proofs.Joining.{read_said}
 use Rattle.yaml_round.proofs.ReadBack.{layout_is_of_input}
 use Rattle.yaml_round_laws_users.proofs.Comparing.{one_content, turned, equivalence}
-use Rattle.yaml_round_laws_users.specs.Laws.{AnswersReadBack, SettingsDoNotMatter, CanonicalAnswersTellContents, RewritingIsStill, asking}
+use Rattle.yaml_round_laws_users.specs.Laws.{AnswersReadBack, SettingsDoNotMatter, CanonicalAnswersTellContents, RewritingIsStill, asking, JsonStaysPretty}
+use Rattle.yaml_round.specs.round_laws_documents.KeptLaws.{IsJsonInput}
+use Rattle.yaml_round.proofs.JsonInputs.{json_begins}
+use Rattle.yaml_round_laws_users.proofs.Beginning.{begins_so}
 
 -- ---- reading back
 
@@ -114,3 +116,16 @@ still_from from s input text (Err f) n k =
 
 pub still : RewritingIsStill
 still from s input text result h k = still_from from s input text result (normal_of from s input text h) k
+
+-- ==== Inputs shaped as JSON are answered in pretty form: they begin with something.
+
+never_due : (b : Bool) → b ≡ false → (from : yaml_encoding_t) (s : yaml_settings_t) (input : List ℕ)
+    → IsJsonInput from input → IsCanonicalDue b from s input → ⊥
+never_due true e from s input is due = true≢false e
+never_due false e from s input is due = true≢false (sym (begins_so from input due.0) ∙ json_begins from input is)
+
+pub shaped_stay : JsonStaysPretty
+unfolding IsReformatted
+shaped_stay from s input (Ok (text, Canonical)) e is h = never_due s.canonical e from s input is h.0
+shaped_stay from s input (Ok (text, Pretty)) e is h = h.1.0
+shaped_stay from s input (Err fault) e is h = elim h [ inl f ↦ inl f | inr k ↦ elim k [ inl p ↦ inr p.1 | inr d ↦ absurd (never_due s.canonical e from s input is d.0) ] ]

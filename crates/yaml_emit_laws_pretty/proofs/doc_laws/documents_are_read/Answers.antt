@@ -1,4 +1,4 @@
-use Rattle.yaml_emit_laws_pretty.proofs.DocText.{documents_read}
+use Rattle.yaml_emit_laws_pretty.proofs.DocDirectives.{documents_read}
 use Rattle.yaml_emit_laws_pretty.proofs.doc_laws.documents_are_read.Goals as goal
 
 pub returns : goal.returns

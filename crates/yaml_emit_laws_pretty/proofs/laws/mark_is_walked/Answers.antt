@@ -1,4 +1,4 @@
-use Rattle.yaml_emit_laws_pretty.proofs.Entries.{mark_on}
+use Rattle.yaml_emit_laws_pretty.proofs.Lining.{mark_on}
 use Rattle.yaml_emit_laws_pretty.proofs.laws.mark_is_walked.Goals as goal
 
 pub returns : goal.returns

@@ -1,4 +1,4 @@
-use Rattle.yaml_emit_laws_pretty.proofs.Plains.{plain_on}
+use Rattle.yaml_emit_laws_pretty.proofs.SpokenWords.{plain_on}
 use Rattle.yaml_emit_laws_pretty.proofs.laws.plain_is_walked.Goals as goal
 
 pub returns : goal.returns

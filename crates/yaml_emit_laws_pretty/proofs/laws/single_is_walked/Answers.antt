@@ -1,4 +1,4 @@
-use Rattle.yaml_emit_laws_pretty.proofs.Singles.{single_on}
+use Rattle.yaml_emit_laws_pretty.proofs.SpokenWords.{single_on}
 use Rattle.yaml_emit_laws_pretty.proofs.laws.single_is_walked.Goals as goal
 
 pub returns : goal.returns

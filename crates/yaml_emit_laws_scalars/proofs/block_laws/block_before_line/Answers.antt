@@ -1,5 +1,4 @@
-use Rattle.yaml_emit_laws_scalars.proofs.BlockWhole.{block_back}
-use Rattle.yaml_emit_laws_scalars.proofs.BlockBehind.{block_before_line}
+use Rattle.yaml_emit_laws_scalars.proofs.BlockWhole.{block_back, block_before_line}
 use Rattle.yaml_emit_laws_scalars.proofs.block_laws.block_before_line.Goals as goal
 
 pub returns : goal.returns

@@ -1,4 +1,4 @@
-use Rattle.yaml_emit_laws_scalars.proofs.Solid.{chars_solid}
+use Rattle.yaml_emit_laws_scalars.proofs.Stopping.{chars_solid}
 use Rattle.yaml_emit_laws_scalars.proofs.laws.characters_are_solid.Goals as goal
 
 pub returns : goal.returns

@@ -1,4 +1,4 @@
-use Rattle.yaml_emit_laws_scalars.proofs.Stands.{has_gap}
+use Rattle.yaml_emit_laws_scalars.proofs.Stopping.{has_gap}
 use Rattle.yaml_emit_laws_scalars.proofs.laws.plain_has_a_gap.Goals as goal
 
 pub returns : goal.returns

@@ -1,4 +1,4 @@
-use Rattle.yaml_emit_laws_scalars.proofs.Stands.{stands}
+use Rattle.yaml_emit_laws_scalars.proofs.Stopping.{stands}
 use Rattle.yaml_emit_laws_scalars.proofs.laws.plain_stands.Goals as goal
 
 pub returns : goal.returns

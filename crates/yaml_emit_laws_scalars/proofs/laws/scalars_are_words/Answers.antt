@@ -1,4 +1,4 @@
-use Rattle.yaml_emit_laws_scalars.proofs.Stands.{are_words}
+use Rattle.yaml_emit_laws_scalars.proofs.Stopping.{are_words}
 use Rattle.yaml_emit_laws_scalars.proofs.laws.scalars_are_words.Goals as goal
 
 pub returns : goal.returns

@@ -1,4 +1,4 @@
-use Rattle.yaml_emit_laws_scalars.proofs.Stands.{quoted_stands}
+use Rattle.yaml_emit_laws_scalars.proofs.Stopping.{quoted_stands}
 use Rattle.yaml_emit_laws_scalars.proofs.laws.single_stands.Goals as goal
 
 pub returns : goal.returns

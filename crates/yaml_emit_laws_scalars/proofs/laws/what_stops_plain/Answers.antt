@@ -1,4 +1,4 @@
-use Rattle.yaml_emit_laws_scalars.proofs.Solid.{what_stops}
+use Rattle.yaml_emit_laws_scalars.proofs.Stopping.{what_stops}
 use Rattle.yaml_emit_laws_scalars.proofs.laws.what_stops_plain.Goals as goal
 
 pub returns : goal.returns

@@ -1,4 +1,4 @@
-use Rattle.yaml_round_laws_pretty.proofs.InputFlags.{inputs_flags}
+use Rattle.yaml_round_laws_pretty.proofs.InputTexts.{inputs_flags}
 use Rattle.yaml_round_laws_pretty.proofs.input_laws.inputs_have_reader_flags.Goals as goal
 
 pub returns : goal.returns

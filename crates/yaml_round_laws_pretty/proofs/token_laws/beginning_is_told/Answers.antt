@@ -1,4 +1,4 @@
-use Rattle.yaml_round_laws_pretty.proofs.Lost.{is_told}
+use Rattle.yaml_round_laws_pretty.proofs.Documents.{is_told}
 use Rattle.yaml_round_laws_pretty.proofs.token_laws.beginning_is_told.Goals as goal
 
 pub returns : goal.returns

@@ -1,4 +1,4 @@
-use Rattle.yaml_round_laws_users.proofs.Readings.{reads_back, tells}
+use Rattle.yaml_round_laws_users.proofs.NormalForms.{reads_back, tells}
 use Rattle.yaml_round_laws_users.proofs.plain.canonical_text_is_the_contents.Goals as goal
 
 pub returns : goal.returns

@@ -1,4 +1,4 @@
-use Rattle.yaml_round_laws_users.proofs.Readings.{pretty_back, pretty_lost}
+use Rattle.yaml_round_laws_users.proofs.NormalForms.{pretty_back, pretty_lost}
 use Rattle.yaml_round_laws_users.proofs.plain.pretty_text_reads_back.Goals as goal
 
 pub returns : goal.returns

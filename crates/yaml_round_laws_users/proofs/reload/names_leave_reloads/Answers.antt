@@ -1,4 +1,4 @@
-use Rattle.yaml_round_laws_users.proofs.Joining.{names}
+use Rattle.yaml_round_laws_users.proofs.Loads.{names}
 use Rattle.yaml_round_laws_users.proofs.reload.names_leave_reloads.Goals as goal
 
 pub returns : goal.returns

@@ -19,7 +19,7 @@ pub use Rattle.yaml_parse_laws_trees.proofs.Rules
 pub use Rattle.yaml_parse_laws_trees.proofs.Single
 pub use Rattle.yaml_parse_laws_trees.proofs.Throughout
 pub use Rattle.yaml_parse_laws_trees.proofs.Utf8
-pub use Rattle.yaml_parse_laws_trees.proofs.Voice
+pub use Rattle.yaml_parse_laws_trees.proofs.EventsToGive
 pub use Rattle.yaml_parse_laws_trees.proofs.AllGiven
 pub use Rattle.yaml_parse_laws_trees.proofs.ByStep
 pub use Rattle.yaml_parse_laws_trees.proofs.LoadingEnding as Ending

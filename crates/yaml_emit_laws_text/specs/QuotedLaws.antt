@@ -61,5 +61,5 @@ SingleIsReadBack = (page : Page) (c : Cursor) (value : List ℕ) → IsUtf8 valu
     → (page.cuts ≡ true → 0 < page.indentation)
     → (allowed page.unicode (chars value)).single ≡ true → is_one_line (chars value) ≡ true
     → ValueIsReadBackBefore (λ b. b ≡ ascii.apostrophe → ⊥) single_quoted_at
-      (between_single page (chars value)) c
+    (between_single page (chars value)) c
     value

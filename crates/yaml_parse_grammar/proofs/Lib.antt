@@ -3,7 +3,7 @@ pub mod Rules
 pub mod Throughout
 pub mod Complete
 pub mod CompleteStream
-pub mod Voice
+pub mod EventsToGive
 pub mod Single
 pub mod Utf8
 pub mod Standing

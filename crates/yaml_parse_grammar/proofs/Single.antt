@@ -9,7 +9,7 @@ use Rattle.yaml_parse_grammar.specs.States as state
 use Rattle.yaml_parse_grammar.specs.Machine.{context_of, ending_at, left_where_stopped, unasked_at_stop}
 use Rattle.yaml_parse_grammar.proofs.Complete.{giving, carry_with_item, step_take, optional_takes}
 use Rattle.yaml_parse_grammar.proofs.Rules.{MayOpen, open_rule, opens_first, none_opens}
-use Rattle.yaml_parse_grammar.proofs.Voice.{takes_a_token}
+use Rattle.yaml_parse_grammar.proofs.EventsToGive.{takes_a_token}
 
 -- ---- the end of a list
 

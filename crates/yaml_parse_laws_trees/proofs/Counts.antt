@@ -6,7 +6,7 @@ use Rattle.yaml_parse_grammar.specs.parse_model.Tokens as token
 use Rattle.yaml_parse_grammar.specs.declared.name.Brackets.TheVariants as brackets
 use Rattle.yaml_parse_grammar.specs.Items as item
 use Rattle.yaml_parse_grammar.specs.States as state
-use Rattle.yaml_parse_grammar.proofs.Voice.{takes_a_token}
+use Rattle.yaml_parse_grammar.proofs.EventsToGive.{takes_a_token}
 use Rattle.yaml_parse_grammar.proofs.Rules.{MayLeave, leave_rule, none_opens}
 
 -- ---- what a state may still give as it is left

@@ -16,7 +16,7 @@ use Rattle.yaml_parse_laws_trees.proofs.Refusing.{StopsWith, top_stops}
 use Rattle.yaml_parse_laws_trees.proofs.Settling.{Done, bad, fine, read_all, none_agree}
 use Rattle.yaml_parse_laws_trees.proofs.Properties.{PropsTop}
 use Rattle.yaml_parse_laws_trees.proofs.Stepping.{Dirs, StepRead, IsFine}
-use Rattle.yaml_parse_laws_trees.proofs.Going.{Stacked, FedKept, fed_kept, FedProps, fed_props}
+use Rattle.yaml_parse_laws_trees.proofs.StacksBehind.{Stacked, FedKept, fed_kept, FedProps, fed_props}
 use Rattle.yaml_parse_laws_trees.proofs.Tagging.{Step, step_read}
 use Rattle.yaml_parse_laws_trees.proofs.Taking.{stack_solid, Takes, takes, Stops, stops_at_none, ending_of, front_read, last_read, number_of, front_number, last_number}
 use Rattle.yaml_parse_laws_trees.proofs.Clean.{Clean, Unfinished, FirstAt, no_fault, free, handle_first, token_first, no_sentence, no_whole_sentence}

@@ -13,7 +13,7 @@ use Rattle.yaml_parse_laws_trees.proofs.FaultsStanding.{other, told, Plain}
 use Rattle.yaml_parse_laws_trees.proofs.Settling.{Done, bad, fine, then_read, read_all}
 use Rattle.yaml_parse_loader.specs.Loading.{Open, next, place_of, filled}
 use Rattle.yaml_parse_document.specs.Documents.{change_place}
-use Rattle.yaml_parse_laws_trees.proofs.Faring.{Fared, ended, onward, unless_empty, then_fed, then_load, load_items}
+use Rattle.yaml_parse_laws_trees.proofs.ItemsLoaded.{Fared, ended, onward, unless_empty, then_fed, then_load, load_items}
 
 -- ---- names
 

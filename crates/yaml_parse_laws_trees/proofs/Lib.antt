@@ -19,7 +19,7 @@ mod Keeping
 pub mod Settling
 pub mod Properties
 pub mod Stepping
-pub mod Going
+pub mod StacksBehind
 pub mod Tagging
 pub mod Clean
 pub mod Taking
@@ -33,10 +33,10 @@ mod GivenRows
 mod Placing
 pub mod Unique
 mod Ends
-mod Faring
+mod ItemsLoaded
 mod Fitting
 mod LoadingTaking
-mod Feeding
+mod StacksFit
 pub mod LoadingEnding
 mod Rows
 pub mod Falling
@@ -52,7 +52,7 @@ pub use Rattle.yaml_parse_grammar.proofs.Rules
 pub use Rattle.yaml_parse_grammar.proofs.Throughout
 pub use Rattle.yaml_parse_grammar.proofs.Single
 pub use Rattle.yaml_parse_grammar.proofs.Utf8
-pub use Rattle.yaml_parse_grammar.proofs.Voice
+pub use Rattle.yaml_parse_grammar.proofs.EventsToGive
 -- the laws beneath, for crates that name this one alone
 pub use Rattle.yaml_parse_document.proofs.Sound as LoadingSound
 pub use Rattle.yaml_parse_loader.proofs.Keeps

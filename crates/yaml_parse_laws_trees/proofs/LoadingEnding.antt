@@ -14,9 +14,9 @@ use Rattle.yaml_parse_laws_trees.proofs.Ends.{fault_of_loads, faults_alike}
 use Rattle.yaml_parse_laws_trees.specs.Laws.{LoadsEndInFault, FaultEndsLoads, loads_end}
 use Rattle.yaml_parse_laws_trees.proofs.Placing.{Anchored, loadable, parser_first, alias_first}
 use Rattle.yaml_parse_laws_trees.proofs.Unique.{one_load_fault}
-use Rattle.yaml_parse_laws_trees.proofs.Faring.{Fared, ended, load_items, fared_fault, ends_in, front_loads, last_loads}
+use Rattle.yaml_parse_laws_trees.proofs.ItemsLoaded.{Fared, ended, load_items, fared_fault, ends_in, front_loads, last_loads}
 use Rattle.yaml_parse_laws_trees.proofs.Fitting.{Fits, Alike, AtAlias, Steps, FedLoads}
-use Rattle.yaml_parse_laws_trees.proofs.Feeding.{stack_sits, fed_loads}
+use Rattle.yaml_parse_laws_trees.proofs.StacksFit.{stack_sits, fed_loads}
 
 -- ---- a fault at a token
 

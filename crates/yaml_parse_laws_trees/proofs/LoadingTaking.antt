@@ -18,7 +18,7 @@ use Rattle.yaml_parse_laws_trees.specs.parse_grammar.Machine.{taken, tag_at}
 use Rattle.yaml_parse_laws_trees.specs.parse_grammar.Resolve as resolve
 use Rattle.yaml_parse_laws_trees.proofs.FaultsStanding.{Plain}
 use Rattle.yaml_parse_laws_trees.specs.Aliases.{undefined}
-use Rattle.yaml_parse_laws_trees.proofs.Faring.{onward, then_fed}
+use Rattle.yaml_parse_laws_trees.proofs.ItemsLoaded.{onward, then_fed}
 use Rattle.yaml_parse_laws_trees.proofs.Fitting.{known, Rooted, is_named, Owes, Names, Held, held, NoneNamed, Fits, fits_below, Added, added_names, Passes, node_passes, anchor_in, placed_passes, closed_fits, whole, FedLoads, AtAlias, loads_on, loads_given}
 use Rattle.yaml_parse_grammar.proofs.Rules.{take_rule, was_take}
 use Rattle.yaml_parse_laws_trees.proofs.Properties.{tok}

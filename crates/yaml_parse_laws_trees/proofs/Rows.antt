@@ -9,7 +9,7 @@ use Rattle.yaml_parse_loader.specs.Numbering.{undefined_alias}
 use Rattle.yaml_parse_loader.specs.Loading.{attach}
 use Rattle.yaml_parse_laws_trees.specs.Rows.{alias_rows, parser_rows, right_rows, AllHold, RowsHold}
 use Rattle.yaml_parse_laws_trees.proofs.Ends.{fault_on, fault_of_loads}
-use Rattle.yaml_parse_laws_trees.proofs.Faring.{ends_in}
+use Rattle.yaml_parse_laws_trees.proofs.ItemsLoaded.{ends_in}
 use Rattle.yaml_parse_laws_trees.proofs.LoadingEnding.{steps_end_in_fault}
 
 abbrev AllLoad : List FaultRow → Type 0

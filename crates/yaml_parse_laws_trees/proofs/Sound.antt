@@ -5,7 +5,7 @@ use Rattle.yaml_parse_laws_trees.proofs.Words.{Token, type_of, no_token, Fault, 
 use Rattle.yaml_parse_laws_trees.specs.parse_grammar.Items as item
 use Rattle.yaml_parse_laws_trees.specs.parse_grammar.States as state
 use Rattle.yaml_parse_laws_trees.proofs.CompleteStream.{stream_runs}
-use Rattle.yaml_parse_laws_trees.proofs.Voice.{takes_a_token}
+use Rattle.yaml_parse_laws_trees.proofs.EventsToGive.{takes_a_token}
 use Rattle.yaml_parse_laws_trees.proofs.Turns.{items_given}
 use Rattle.yaml_parse_laws_trees.specs.SoundLaws.{AcceptedAreTrees, AcceptedAreSentences, SentencesAreAccepted}
 use Rattle.yaml_parse_laws_trees.proofs.Left.{Left, Over, over_both, leaving, taking, opening}

@@ -5,7 +5,7 @@ use Rattle.yaml_parse_laws_trees.specs.parse_grammar.parse_model.declared.yaml_t
 use Rattle.yaml_parse_laws_trees.specs.parse_grammar.Items as item
 use Rattle.yaml_parse_laws_trees.specs.parse_grammar.States as state
 use Rattle.yaml_parse_laws_trees.specs.parse_grammar.Resolve as resolve
-use Rattle.yaml_parse_laws_trees.proofs.Voice.{takes_a_token}
+use Rattle.yaml_parse_laws_trees.proofs.EventsToGive.{takes_a_token}
 use Rattle.yaml_parse_laws_trees.proofs.Left.{Left, Over, over_both, leaving, taking, opening}
 use Rattle.yaml_parse_laws_trees.proofs.Settling.{Done, bad, fine, then_read, read_all}
 use Rattle.yaml_parse_grammar.proofs.Rules.{MayLeave, leave_rule, none_opens}

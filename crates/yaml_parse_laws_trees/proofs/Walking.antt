@@ -6,7 +6,7 @@ use Rattle.yaml_parse_laws_trees.proofs.SoundStanding.{AllStood, FedStood, feed_
 use Rattle.yaml_parse_laws_trees.proofs.Closing.{Empty}
 use Rattle.yaml_parse_laws_trees.proofs.FaultsStanding.{Last, last_of, Topped, Nested, open_in}
 use Rattle.yaml_parse_laws_trees.proofs.Taking.{stack_solid, Takes, takes}
-use Rattle.yaml_parse_laws_trees.proofs.Going.{Stacked, FedKept, fed_kept}
+use Rattle.yaml_parse_laws_trees.proofs.StacksBehind.{Stacked, FedKept, fed_kept}
 use Rattle.yaml_parse_laws_trees.proofs.Ending.{runs_fed}
 use Rattle.yaml_parse_laws_trees.proofs.Refusal.{not_none}
 

@@ -1,7 +1,7 @@
 mod Words
 pub mod Front
 pub mod Moves
-pub mod Going
+pub mod TurnResults
 pub mod Ways
 pub mod Turning
 pub mod Texts

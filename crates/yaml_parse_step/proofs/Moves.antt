@@ -6,7 +6,7 @@ use Rattle.yaml_parse_grammar.specs.declared.problem.ParseProblem.{ParseProblem}
 use Rattle.yaml_parse_grammar.specs.Items as item
 use Rattle.yaml_parse_grammar.specs.Machine.{context_of}
 use Rattle.yaml_parse_grammar.proofs.Complete.{giving, leaves_at}
-use Rattle.yaml_parse_grammar.proofs.Voice.{Voiced, TakenSpeaks, taken_speaks, left_voiced, takes_a_token, stands_above}
+use Rattle.yaml_parse_grammar.proofs.EventsToGive.{Voiced, TakenSpeaks, taken_speaks, left_voiced, takes_a_token, stands_above}
 use Rattle.yaml_parse_grammar.proofs.Single.{refuses, takes, takes_silently, opens, refuses_stops, takes_stops, leaves_stops, opens_stops}
 use Rattle.yaml_parse_core.specs.declared.told.Told.{Told}
 use Rattle.yaml_parse_core.specs.declared.told.Implied.{Implied}

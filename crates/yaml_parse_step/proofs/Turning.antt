@@ -6,7 +6,7 @@ use Rattle.yaml_parse_grammar.specs.Trees.{Stream, spell}
 use Rattle.yaml_parse_grammar.specs.Resolve.{refused, settle_body, resolved, read_on, reading, Reading, unasked_on}
 use Rattle.yaml_parse_grammar.specs.Remaining.{held_of}
 use Rattle.yaml_parse_grammar.proofs.CompleteStream.{nothing_runs, stream_runs}
-use Rattle.yaml_parse_grammar.proofs.Voice.{speaks, reading_speaks, not_noted}
+use Rattle.yaml_parse_grammar.proofs.EventsToGive.{speaks, reading_speaks, not_noted}
 use Rattle.yaml_parse_laws_trees.proofs.Turns.{items_given}
 use Rattle.yaml_parse_laws_trees.proofs.Falling.{has_more}
 use Rattle.yaml_parse_step.specs.Steps.{IsDone, IsTurnRefused, IsOver, KeptOverTurns}

@@ -7,6 +7,6 @@ pub mod NormalExact
 pub mod Offsets
 pub mod Rows
 pub mod PartingExact
-pub mod Going
+pub mod EmittedPieces
 pub mod Dumping
 pub mod Loading

@@ -2,7 +2,7 @@ use Rattle.std.proofs.Common.{Some, subst}
 use Rattle.yaml_parse_step.proofs.Words.{Token, token_of, fault_of, event_of, implied_item, owned_properties, owned_states_by, directives_of, ComesTo, Turned, WentOn}
 use Rattle.yaml_parse_core.specs.Seen as kinds
 use Rattle.yaml_parse_step.proofs.Moves.{implied_moves}
-use Rattle.yaml_parse_step.proofs.Going.{went_on, went_of}
+use Rattle.yaml_parse_step.proofs.TurnResults.{went_on, went_of}
 use Rattle.yaml_parse_step.proofs.step.leave.Goals as goal
 
 pub returns : goal.returns

@@ -3,7 +3,7 @@ use Rattle.yaml_parse_step.proofs.Words.{Token, token_of, fault_of, event_of, it
 use Rattle.yaml_parse_grammar.specs.Items as item
 use Rattle.yaml_parse_core.specs.Seen as kinds
 use Rattle.yaml_parse_step.proofs.Moves.{opened_moves}
-use Rattle.yaml_parse_step.proofs.Going.{went_on, went_of}
+use Rattle.yaml_parse_step.proofs.TurnResults.{went_on, went_of}
 use Rattle.yaml_parse_step.proofs.step.open_document.Goals as goal
 
 pub returns : goal.returns

@@ -1,6 +1,6 @@
 use Rattle.std.proofs.Common.{◌≡◌, None, subst}
 use Rattle.yaml_parse_step.proofs.Words.{Token, event_of, node_event, placed, node_item, shape_at, owned_properties, owned_states_by, directives_of}
-use Rattle.yaml_parse_step.proofs.Going.{went_node}
+use Rattle.yaml_parse_step.proofs.TurnResults.{went_node}
 use Rattle.yaml_parse_step.proofs.step.tell.Goals as goal
 
 pub returns : goal.returns

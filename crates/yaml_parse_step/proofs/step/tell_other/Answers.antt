@@ -2,7 +2,7 @@ use Rattle.std.proofs.Common.{None, subst}
 use Rattle.yaml_parse_step.proofs.Words.{Token, token_of, fault_of, event_of, told_item, owned_properties, owned_states_by, directives_of, Turned, WentOn}
 use Rattle.yaml_parse_core.specs.Seen as kinds
 use Rattle.yaml_parse_step.proofs.Moves.{told_moves}
-use Rattle.yaml_parse_step.proofs.Going.{went_on, went_of}
+use Rattle.yaml_parse_step.proofs.TurnResults.{went_on, went_of}
 use Rattle.yaml_parse_step.proofs.step.tell_other.Goals as goal
 
 pub returns : goal.returns

@@ -2,7 +2,7 @@
 use Rattle.std.proofs.Common.{refl}
 use Rattle.yaml_parse.specs.Faults.{fault_of}
 use Rattle.yaml_round_records.specs.Onward.{onward_of}
-use Rattle.yaml_round_answers.proofs.Going.{on_told, on_refused}
+use Rattle.yaml_round_answers.proofs.EmittedPieces.{on_told, on_refused}
 use Rattle.yaml_round_answers.proofs.onward.answered.Goals as goal
 
 pub returns-in-Ok-clause-told : goal.returns-in-Ok-clause-told

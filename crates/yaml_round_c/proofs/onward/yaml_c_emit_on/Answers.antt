@@ -4,7 +4,7 @@ use mir.Val.{SFits}
 use Rattle.std.proofs.Common.{◌∙◌, rules}
 use Rattle.std.proofs.lemmas.Int.{to_z-of_z}
 use Rattle.std.proofs.Math.Logic.{⊎_map}
-use Rattle.yaml_round_calls.proofs.Going.{onward_exact}
+use Rattle.yaml_round_calls.proofs.EmittedPieces.{onward_exact}
 use Rattle.yaml_round_c.proofs.onward.yaml_c_emit_on.Goals as goal
 
 pub returns-clause-told : goal.returns-clause-told

@@ -1,6 +1,6 @@
 -- Reading on behind a machine of which the same is to come.
-use Rattle.std.proofs.Common.{◌≡◌, ℕ, Bool, true, false, List, length, refl, sym, ap, subst, ◌∙◌, inl, inr, arith, Option, Some, Result, Ok, Err}
-use Rattle.std.proofs.lemmas.Bool.{cases_lt}
+use Rattle.std.proofs.Common.{◌≡◌, ◌<◌, ◌+◌, ℕ, Bool, true, false, List, length, refl, sym, ap, subst, ◌∙◌, inl, inr, arith, Option, Some, Result, Ok, Err}
+use Rattle.std.proofs.lemmas.Bool.{cases_lt, cases_Bool}
 use Rattle.yaml_scan_model.specs.declared.name.yaml_encoding_t.{yaml_encoding_t}
 use Rattle.yaml_scan_model.specs.declared.fault.yaml_origin_t.TheVariants.{Scanner, Reader}
 use Rattle.yaml_scan_model.specs.declared.problem.ScanError.{ScanError}
@@ -122,6 +122,19 @@ some_is o f g e h = cc
 
 pub fresh_plain : (m : Machine) (f : Fault) → TellsUtf8 m f → PlainIsTold m f
 fresh_plain m f tells g utf8 is = some_is (decoding_fault m.setting m.input.now) f g (tells utf8) is
+
+-- before the input is decoded no lexeme is read
+pub fresh_none : (m : Machine) → IsMachine m → m.started ≡ false
+    → m.dropped + length m.waiting.items ≡ 0
+fresh_none m i off = let long : length m.waiting.items ≡ 0 = ap length (i.begun off) in omega (arith, long, i.fresh off)
+
+-- an input of which a lexeme was read is decoded
+pub read_started : (m : Machine) → IsMachine m → 0 < m.dropped + length m.waiting.items
+    → m.started ≡ true
+read_started m i some = elim (cases_Bool m.started) [
+  | inl on ↦ on
+  | inr off ↦ absurd (omega (arith, some, fresh_none m i off))
+]
 
 -- where the input isn't decoded yet
 pub fresh_lacks : (m : Machine) (f : Fault) → IsMachine m → m.started ≡ false

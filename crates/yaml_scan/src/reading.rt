@@ -136,6 +136,7 @@ pub(crate) fn put_shown(slot: &mut yaml_token_t, shown: &mut yaml_token_t)
 }
 
 /// Reads on until the next token is known, or there is none. What is to come stays.
+// That no lexeme was read is asked here, and not for each lexeme; a text of which one was is decoded.
 // Inlined: mostly the next token is known.
 #[inline(always)]
 fn read_on(machine: &mut Machine, spares: &mut Spares, fault: &mut yaml_fault_t) -> Sought
@@ -145,8 +146,24 @@ fn read_on(machine: &mut Machine, spares: &mut Spares, fault: &mut yaml_fault_t)
     if machine.has_token() {
         return Sought::Known;
     }
+    if machine.is_new() {
+        return fill_new(machine, spares, fault);
+    }
+    fill_further(machine, spares, fault)
+}
+
+/// Reads the first lexeme, and on, where none was read yet. Where the input isn't decoded, it is first.
+// Out of line and cold: it is called once.
+#[cold]
+#[inline(never)]
+fn fill_new(machine: &mut Machine, spares: &mut Spares, fault: &mut yaml_fault_t) -> Sought
+    requires stands { IsMachine machine.old }
+    requires sought { is_ready machine.old ≡ false }
+    requires none { machine.old.dropped + length machine.old.waiting.items ≡ 0 }
+    ensures { ReadsOn machine.old machine.new (fault_of fault.new) result }
+{
     if machine.started {
-        return fill(machine, spares, fault);
+        return fill_first(machine, spares, fault);
     }
     begin(machine, spares, fault)
 }
@@ -161,27 +178,12 @@ fn begin(machine: &mut Machine, spares: &mut Spares, fault: &mut yaml_fault_t) -
     ensures { ReadsOn machine.old machine.new (fault_of fault.new) result }
 {
     match machine.start() {
-        Ok(()) => fill(machine, spares, fault),
+        Ok(()) => fill_first(machine, spares, fault),
         Err(refused) => {
             *fault = refused;
             Sought::Refused
         }
     }
-}
-
-/// Reads on in the decoded text until the next token is known, or there is none. It isn't known yet.
-// Inlined: a look whether a lexeme was read. Asked here, it isn't asked for each lexeme.
-#[inline(always)]
-fn fill(machine: &mut Machine, spares: &mut Spares, fault: &mut yaml_fault_t) -> Sought
-    requires stands { IsMachine machine.old }
-    requires started { machine.old.started ≡ true }
-    requires sought { is_ready machine.old ≡ false }
-    ensures { ReadsOn machine.old machine.new (fault_of fault.new) result }
-{
-    if machine.is_new() {
-        return fill_first(machine, spares, fault);
-    }
-    fill_further(machine, spares, fault)
 }
 
 /// Reads the first lexeme, and on in the decoded text.
@@ -225,7 +227,7 @@ fn fill_further(machine: &mut Machine, spares: &mut Spares, fault: &mut yaml_fau
         if !read_one_more(machine, &mut spot, spares, fault) {
             return Sought::Refused;
         }
-        let known = machine.has_token();
+        let known = machine.has_token_waiting();
         if known {
             return Sought::Known;
         }

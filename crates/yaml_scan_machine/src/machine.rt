@@ -175,6 +175,16 @@ impl<'a> Machine<'a> {
         }
     }
 
+    /// Whether the next token is known, whatever follows, where a lexeme waits.
+    // Inlined: two comparisons, asked for each lexeme.
+    #[inline(always)]
+    pub fn has_token_waiting(&self) -> bool
+        requires { 0 < length self.now.waiting.items }
+        ensures { result ≡ is_ready self.now }
+    {
+        self.dropped < self.settled || self.given < self.waiting.index(0).ends
+    }
+
     /// Takes the next token: it is the first one that was to come, and the rest is left.
     pub fn take_token(&mut self) -> yaml_token_t
         requires stands { IsMachine self.old }

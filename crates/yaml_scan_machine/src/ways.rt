@@ -1,7 +1,8 @@
 //! Ways for the kinds of lexemes. The kinds that are met most have a way of their own, which is the general one with its
 //! kind known: so the compiler leaves out of it what the kind doesn't ask for. Those of indicators and plain scalars are inlined:
 //! a call would cost a quarter of an indicator's. The others are out of line, or all would be kept in one frame whose parts are
-//! set to zero for each lexeme.
+//! set to zero for each lexeme. These are lent a copy of the lexeme's place, which is made where they are called: a place that
+//! itself is lent to a call lies in memory, and is written there for each lexeme.
 
 ghost use Rattle.yaml_scan_model.specs.Faults.{fault_of};
 ghost use Rattle.yaml_scan_history.specs.declared.kind.Kind.TheVariants as kinds;
@@ -90,9 +91,25 @@ impl<'a> Machine<'a> {
     }
 
     /// Reads a double quoted scalar.
+    // Inlined, with a copy of the place: see above.
+    #[inline(always)]
+    fn double_quoted(
+        &mut self,
+        spot: &LexemeSpot,
+        spares: &mut Spares,
+        fault: &mut yaml_fault_t,
+    ) -> bool
+        requires { MayReadAt self.old kinds.DoubleQuoted spot.now }
+        ensures { Steps self.old self.new (fault_of fault.new) result }
+    {
+        let lent = *spot;
+        self.read_double_quoted(&lent, spares, fault)
+    }
+
+    /// Reads a double quoted scalar, which stands at a place that is lent.
     // Out of line: it is met less often.
     #[inline(never)]
-    fn double_quoted(
+    fn read_double_quoted(
         &mut self,
         spot: &LexemeSpot,
         spares: &mut Spares,
@@ -180,9 +197,25 @@ impl<'a> Machine<'a> {
     }
 
     /// Reads a single quoted scalar.
+    // Inlined, with a copy of the place: see above.
+    #[inline(always)]
+    fn single_quoted(
+        &mut self,
+        spot: &LexemeSpot,
+        spares: &mut Spares,
+        fault: &mut yaml_fault_t,
+    ) -> bool
+        requires { MayReadAt self.old kinds.SingleQuoted spot.now }
+        ensures { Steps self.old self.new (fault_of fault.new) result }
+    {
+        let lent = *spot;
+        self.read_single_quoted(&lent, spares, fault)
+    }
+
+    /// Reads a single quoted scalar, which stands at a place that is lent.
     // Out of line: it is met less often.
     #[inline(never)]
-    fn single_quoted(
+    fn read_single_quoted(
         &mut self,
         spot: &LexemeSpot,
         spares: &mut Spares,
@@ -195,9 +228,25 @@ impl<'a> Machine<'a> {
     }
 
     /// Reads an anchor.
+    // Inlined, with a copy of the place: see above.
+    #[inline(always)]
+    fn anchor(&mut self, spot: &LexemeSpot, spares: &mut Spares, fault: &mut yaml_fault_t) -> bool
+        requires { MayReadAt self.old kinds.Anchor spot.now }
+        ensures { Steps self.old self.new (fault_of fault.new) result }
+    {
+        let lent = *spot;
+        self.read_anchor(&lent, spares, fault)
+    }
+
+    /// Reads an anchor, which stands at a place that is lent.
     // Out of line: it is met less often.
     #[inline(never)]
-    fn anchor(&mut self, spot: &LexemeSpot, spares: &mut Spares, fault: &mut yaml_fault_t) -> bool
+    fn read_anchor(
+        &mut self,
+        spot: &LexemeSpot,
+        spares: &mut Spares,
+        fault: &mut yaml_fault_t,
+    ) -> bool
         requires { MayReadAt self.old kinds.Anchor spot.now }
         ensures { Steps self.old self.new (fault_of fault.new) result }
     {
@@ -205,9 +254,25 @@ impl<'a> Machine<'a> {
     }
 
     /// Reads an alias.
+    // Inlined, with a copy of the place: see above.
+    #[inline(always)]
+    fn alias(&mut self, spot: &LexemeSpot, spares: &mut Spares, fault: &mut yaml_fault_t) -> bool
+        requires { MayReadAt self.old kinds.Alias spot.now }
+        ensures { Steps self.old self.new (fault_of fault.new) result }
+    {
+        let lent = *spot;
+        self.read_alias(&lent, spares, fault)
+    }
+
+    /// Reads an alias, which stands at a place that is lent.
     // Out of line: it is met less often.
     #[inline(never)]
-    fn alias(&mut self, spot: &LexemeSpot, spares: &mut Spares, fault: &mut yaml_fault_t) -> bool
+    fn read_alias(
+        &mut self,
+        spot: &LexemeSpot,
+        spares: &mut Spares,
+        fault: &mut yaml_fault_t,
+    ) -> bool
         requires { MayReadAt self.old kinds.Alias spot.now }
         ensures { Steps self.old self.new (fault_of fault.new) result }
     {
@@ -215,9 +280,20 @@ impl<'a> Machine<'a> {
     }
 
     /// Reads a tag.
+    // Inlined, with a copy of the place: see above.
+    #[inline(always)]
+    fn tag(&mut self, spot: &LexemeSpot, spares: &mut Spares, fault: &mut yaml_fault_t) -> bool
+        requires { MayReadAt self.old kinds.Tag spot.now }
+        ensures { Steps self.old self.new (fault_of fault.new) result }
+    {
+        let lent = *spot;
+        self.read_tag(&lent, spares, fault)
+    }
+
+    /// Reads a tag, which stands at a place that is lent.
     // Out of line: it is met less often.
     #[inline(never)]
-    fn tag(&mut self, spot: &LexemeSpot, spares: &mut Spares, fault: &mut yaml_fault_t) -> bool
+    fn read_tag(&mut self, spot: &LexemeSpot, spares: &mut Spares, fault: &mut yaml_fault_t) -> bool
         requires { MayReadAt self.old kinds.Tag spot.now }
         ensures { Steps self.old self.new (fault_of fault.new) result }
     {
@@ -225,10 +301,27 @@ impl<'a> Machine<'a> {
     }
 
     /// Reads a lexeme of any kind, in the general way.
+    // Inlined, with a copy of the place: see above.
+    #[inline(always)]
+    pub(crate) fn of_rare(
+        &mut self,
+        kind: Kind,
+        spot: &LexemeSpot,
+        spares: &mut Spares,
+        fault: &mut yaml_fault_t,
+    ) -> bool
+        requires { MayReadAt self.old kind spot.now }
+        ensures { Steps self.old self.new (fault_of fault.new) result }
+    {
+        let lent = *spot;
+        self.read_rare(kind, &lent, spares, fault)
+    }
+
+    /// Reads a lexeme of any kind, in the general way, at a place that is lent.
     // Out of line, as above. Cold: a way that hands over to it mostly goes on itself.
     #[cold]
     #[inline(never)]
-    pub(crate) fn of_rare(
+    fn read_rare(
         &mut self,
         kind: Kind,
         spot: &LexemeSpot,

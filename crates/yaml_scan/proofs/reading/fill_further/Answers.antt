@@ -14,7 +14,7 @@ steps-preserved c =
       same = goes_same c.steps.machine c.read_one_more.new.machine on ∙ i.same;
       started = on.started ∙ i.started;
       reads = reads_both c.args.machine.now c.steps.machine c.read_one_more.new.machine (same_left c.args.machine.now c.steps.machine c.requires.started i.started i.same) i.reads (reads_more c.steps.machine c.read_one_more.new.machine i.stands i.sought on);
-      sought = sym c.has_token-known.ensures ∙ c.if-known.false;
+      sought = sym c.has_token_waiting-known.ensures ∙ c.if-known.false;
       some = omega (arith, on.dropped, on.further);
     }
 
@@ -33,6 +33,11 @@ pub read_one_more-requires-clause-may : goal.read_one_more-requires-clause-may
 read_one_more-requires-clause-may c =
     let i = c.steps.invariant in
     record { stands = i.stands; started = i.started; sought = i.sought; more = c.if-machine.false }
+
+pub has_token_waiting-known-requires : goal.has_token_waiting-known-requires
+has_token_waiting-known-requires c =
+    let (stands, on) = steps_on c.steps.machine c.read_one_more.new.machine (fault_of c.read_one_more.new.fault) c.read_one_more.result c.if-not-read_one_more.false c.read_one_more.ensures in
+    omega (arith, on.further)
 
 pub returns-then-not-read_one_more : goal.returns-then-not-read_one_more
 returns-then-not-read_one_more c =
@@ -54,6 +59,6 @@ returns-then-known c =
     record {
       stands = stands;
       left = left_is c.read_one_more.new.machine (on.started ∙ i.started) ∙ goes_same c.steps.machine c.read_one_more.new.machine on ∙ i.same ∙ sym (left_is c.args.machine.now c.requires.started);
-      ready = sym c.has_token-known.ensures ∙ c.if-known.true;
+      ready = sym c.has_token_waiting-known.ensures ∙ c.if-known.true;
       reads = reads_both c.args.machine.now c.steps.machine c.read_one_more.new.machine (same_left c.args.machine.now c.steps.machine c.requires.started i.started i.same) i.reads (reads_more c.steps.machine c.read_one_more.new.machine i.stands i.sought on);
     }

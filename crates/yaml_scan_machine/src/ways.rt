@@ -4,6 +4,7 @@
 //! set to zero for each lexeme. These are lent a copy of the lexeme's place, which is made where they are called: a place that
 //! itself is lent to a call lies in memory, and is written there for each lexeme.
 
+ghost use Rattle.std.specs.Prelude.{◌≡◌};
 ghost use Rattle.yaml_scan_model.specs.Faults.{fault_of};
 ghost use Rattle.yaml_scan_history.specs.declared.kind.Kind.TheVariants as kinds;
 
@@ -13,7 +14,7 @@ use crate::readings::{
     AliasReading, AnchorReading, DoubleQuotedReading, PlainReading, SingleQuotedReading, TagReading,
 };
 use yaml_scan_history::Kind;
-use yaml_scan_model::{Spares, yaml_fault_t};
+use yaml_scan_model::{Spares, mark_again, yaml_fault_t};
 
 impl<'a> Machine<'a> {
     ghost use Rattle.yaml_scan_machine.specs.Stood.{MayReadAt, Steps};
@@ -102,7 +103,7 @@ impl<'a> Machine<'a> {
         requires { MayReadAt self.old kinds.DoubleQuoted spot.now }
         ensures { Steps self.old self.new (fault_of fault.new) result }
     {
-        let lent = *spot;
+        let lent = spot_again(spot);
         self.read_double_quoted(&lent, spares, fault)
     }
 
@@ -208,7 +209,7 @@ impl<'a> Machine<'a> {
         requires { MayReadAt self.old kinds.SingleQuoted spot.now }
         ensures { Steps self.old self.new (fault_of fault.new) result }
     {
-        let lent = *spot;
+        let lent = spot_again(spot);
         self.read_single_quoted(&lent, spares, fault)
     }
 
@@ -234,7 +235,7 @@ impl<'a> Machine<'a> {
         requires { MayReadAt self.old kinds.Anchor spot.now }
         ensures { Steps self.old self.new (fault_of fault.new) result }
     {
-        let lent = *spot;
+        let lent = spot_again(spot);
         self.read_anchor(&lent, spares, fault)
     }
 
@@ -260,7 +261,7 @@ impl<'a> Machine<'a> {
         requires { MayReadAt self.old kinds.Alias spot.now }
         ensures { Steps self.old self.new (fault_of fault.new) result }
     {
-        let lent = *spot;
+        let lent = spot_again(spot);
         self.read_alias(&lent, spares, fault)
     }
 
@@ -286,7 +287,7 @@ impl<'a> Machine<'a> {
         requires { MayReadAt self.old kinds.Tag spot.now }
         ensures { Steps self.old self.new (fault_of fault.new) result }
     {
-        let lent = *spot;
+        let lent = spot_again(spot);
         self.read_tag(&lent, spares, fault)
     }
 
@@ -313,7 +314,7 @@ impl<'a> Machine<'a> {
         requires { MayReadAt self.old kind spot.now }
         ensures { Steps self.old self.new (fault_of fault.new) result }
     {
-        let lent = *spot;
+        let lent = spot_again(spot);
         self.read_rare(kind, &lent, spares, fault)
     }
 
@@ -333,5 +334,19 @@ impl<'a> Machine<'a> {
     {
         let required = self.required();
         self.step_by(&kind, *spot, required, spares, fault)
+    }
+}
+
+/// A place once more, number by number: of one that is copied whole the gap behind its numbers would be set to zero for each
+/// token.
+// Inlined: some moves.
+#[inline(always)]
+fn spot_again(spot: &LexemeSpot) -> LexemeSpot
+    ensures { result ≡ spot.now }
+{
+    LexemeSpot {
+        mark: mark_again(&spot.mark),
+        allowed: spot.allowed,
+        required: spot.required,
     }
 }

@@ -27,7 +27,7 @@ Written by `tools/proved.py` from `crates/CRATE/README.md`; not by hand.
 
 `docs/WHAT-IS-PROVED.md` has the same in short, member by member, and what the clauses leave open ('Less than that'), which holds here too. `docs/MEANING.md` has the definitions that these statements rest on, `tools/closure.py CALL` those below one call.
 
-Proved with `rattle-kit-13f`, logic `dac8208d650f15bf` (`rt version`; `rattle-kit-13b` has the same logic). 'Proved' says what the contracts say, and no more; want of memory is an answer that each clause allows beside, told with nothing else in it and of one of the layers that the clause lists. Every function of every crate is proved safe (no index out of range, no overflow, no use after free) and to end, for all inputs.
+Proved with `rattle-kit-13b`, logic `dac8208d650f15bf` (`rt version`; `rattle-kit-13f` has the same logic). 'Proved' says what the contracts say, and no more; want of memory is an answer that each clause allows beside, told with nothing else in it and of one of the layers that the clause lists. Every function of every crate is proved safe (no index out of range, no overflow, no use after free) and to end, for all inputs.
 
 An item is a function, a method (`TYPE::METHOD`), a type or a trait of the crate's `src`; a law is a function without code, whose clause is the statement, or a file of `specs` or `proofs` that states it. The crates stand in the order of `crates.txt`, by member, the lowest first; the member's own crate (`yaml_scan` of the first) hands out what callers need of the others.
 """

@@ -1,6 +1,8 @@
 # make run: formats FILE, or a small text where none is named, with the proved program where it is built and newer than
 #   the sources, else with the engine built without proofs, which is kept in out/unproved.
-# make test: the gate, `rt ci`. Its checks hand no memory back before they end, which spares the system's work for it.
+# make test: the gate, `rt ci`. Its checks hand no memory back before they end, which spares the system's work for it, and each
+#   has one job, since each further job loads what the check stands on once more: as many run side by side as there are
+#   processors, as far as memory holds, or as RT_JOBS says.
 # make program: proves and builds crates/yaml_cli/out/yaml_cli, and says how far it is.
 # make install: puts the proved program into PREFIX/bin, and its man page and completions below PREFIX/share, below DESTDIR
 #   where that is set.
@@ -36,7 +38,7 @@ run:
 
 test:
 	@tools/kit.sh 'make test'
-	MIMALLOC_PURGE_DELAY=-1 rt ci
+	MIMALLOC_PURGE_DELAY=-1 RT_JOBS=$${RT_JOBS:-$$(python3 tools/lanes.py)} rt ci
 
 program:
 	@tools/program.py

@@ -1,4 +1,7 @@
-"""Proves crates side by side, those with the longest chain of others behind them first; used by `program.py` and `base.py`."""
+"""Proves crates side by side, those with the longest chain of others behind them first; used by `program.py` and `base.py`.
+
+    python3 tools/lanes.py     prints how many checks this machine holds side by side, as `make test` asks
+"""
 import contextlib
 import hashlib
 import importlib.machinery
@@ -284,3 +287,7 @@ class Lanes:
                     self.begin(pool)
                 self.end()
         return not self.failed
+
+
+if __name__ == "__main__":
+    print(processors())

@@ -25,11 +25,11 @@ use std::alloc::Global;
 use std::marker::Model;
 use yaml_parse_core::{finish, fresh, is_between, none_waiting};
 use yaml_parse_model::{
-    yaml_event_body_t, yaml_event_t, yaml_parser_t_prefix, yaml_token_source_t,
+    TokenSlot, yaml_event_body_t, yaml_event_t, yaml_parser_t_prefix, yaml_token_source_t,
 };
 use yaml_parse_resolve::{Directives, TagDirectives};
 use yaml_parse_step::{Step, StepBuffers, take_turn, yaml_found_t};
-use yaml_scan_model::{yaml_fault_t, yaml_mark_t, yaml_memory_fault, yaml_origin_t, yaml_token_t};
+use yaml_scan_model::{yaml_fault_t, yaml_mark_t, yaml_memory_fault, yaml_origin_t};
 
 /// A parser of the tokens of a source.
 #[derive(Drop)]
@@ -129,7 +129,7 @@ pub fn yaml_parser_initialize<S: yaml_token_source_t>(
     Ok(yaml_parser_t {
         buffers: StepBuffers {
             machine: fresh(alloc, waiting.from),
-            token: yaml_token_t::empty(),
+            token: TokenSlot::empty(alloc),
             is_held: false,
             waiting,
             directives: Directives {

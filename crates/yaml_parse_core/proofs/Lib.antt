@@ -1,3 +1,2 @@
 pub mod Stacks
 pub mod Nodes
-pub mod Bodies

@@ -2,7 +2,7 @@
 use Rattle.std.proofs.Common.{◌≡◌, ◌∙◌, ◌++◌, List, ℕ, Bool, true, false, if◌then◌else◌, ◌||◌, None, Some, refl, sym, ap, subst}
 use Rattle.std.proofs.lemmas.Bool.{false≢true}
 use Rattle.yaml_parse_model.specs.declared.yaml_mark_t.{yaml_mark_t}
-use Rattle.yaml_parse_core.specs.Extra.{Extra}
+use Rattle.yaml_parse_model.specs.Slots.{Extra, body_by}
 use Rattle.yaml_parse_model.specs.declared.yaml_token_type_t.{yaml_token_type_t}
 use Rattle.yaml_parse_model.specs.declared.yaml_token_type_t.TheVariants as kind
 use Rattle.yaml_parse_model.specs.Tokens.{Token, type_of}
@@ -23,7 +23,7 @@ use Rattle.yaml_parse_grammar.specs.declared.name.Choice.TheVariants.{Refuse, Ta
 use Rattle.yaml_parse_core.specs.Seen.{Seen}
 use Rattle.yaml_parse_core.specs.Seen as turn
 use Rattle.yaml_parse_core.specs.declared.told.Shape.{Shape}
-use Rattle.yaml_parse_core.specs.Views.{Around, await_of, is_begun, body_by, token_at, named_item, implied_item}
+use Rattle.yaml_parse_core.specs.Views.{Around, await_of, is_begun, token_at, named_item, implied_item}
 use Rattle.yaml_parse_core.specs.Turns.{Contents, Nodes, Turns, TurnsOn, Takes, LeavesOut, context_if}
 
 -- the kind isn't that of a property or an alias

@@ -7,13 +7,6 @@ use Rattle.yaml_parse_model.specs.declared.yaml_encoding_t.TheVariants.{YAML_ANY
 use Rattle.yaml_parse_model.specs.Tokens.{TokenBody}
 use Rattle.yaml_parse_model.specs.Tokens as token
 
--- a scalar's style, a stream's encoding, a version
-pub record Extra : Type 0 where
-  pub style : yaml_scalar_style_t
-  pub encoding : yaml_encoding_t
-  pub major : ℤ
-  pub minor : ℤ
-
 abbrev pub value_in : TokenBody → List ℕ
 value_in (token.scalar x st) = x
 value_in b = []

@@ -2,11 +2,9 @@
 use Rattle.std.specs.Prelude.{ℕ, Bool, true, false, List, [], ◌∷◌, ◌++◌, reverse, Option, Some, None}
 use Rattle.yaml_parse_model.specs.declared.yaml_mark_t.{yaml_mark_t}
 use Rattle.yaml_parse_model.specs.declared.yaml_token_type_t.{yaml_token_type_t}
-use Rattle.yaml_parse_model.specs.declared.yaml_token_type_t.TheVariants as kind
 use Rattle.yaml_parse_model.specs.declared.yaml_sequence_style_t.TheVariants.{YAML_BLOCK_SEQUENCE_STYLE}
 use Rattle.yaml_parse_model.specs.declared.yaml_mapping_style_t.TheVariants.{YAML_BLOCK_MAPPING_STYLE}
 use Rattle.yaml_parse_model.specs.Tokens.{Token, TokenBody}
-use Rattle.yaml_parse_model.specs.Tokens as token
 use Rattle.yaml_parse_model.specs.Events as event
 use Rattle.yaml_parse_grammar.specs.declared.name.Wants.TheVariants.{Flow, Block}
 use Rattle.yaml_parse_grammar.specs.declared.name.Brackets.TheVariants as brackets
@@ -17,7 +15,8 @@ use Rattle.yaml_parse_grammar.specs.Items as item
 use Rattle.yaml_parse_grammar.specs.Trees.{flow_shape}
 use Rattle.yaml_parse_grammar.specs.States.{State}
 use Rattle.yaml_parse_grammar.specs.States as state
-use Rattle.yaml_parse_core.specs.Extra.{Extra, value_in, style_in, name_in, encoding_in, major_in, minor_in, handle_in, prefix_in}
+use Rattle.yaml_parse_model.specs.Slots.{Extra, body_by}
+use Rattle.yaml_parse_core.specs.Extra.{value_in, style_in, name_in, encoding_in, major_in, minor_in, handle_in, prefix_in}
 use Rattle.yaml_parse_core.specs.declared.level.Await.{Await}
 use Rattle.yaml_parse_core.specs.declared.level.Await.TheVariants as await
 use Rattle.yaml_parse_core.specs.declared.level.Level.{Level}
@@ -31,31 +30,6 @@ use Rattle.yaml_parse_core.specs.declared.told.Implied.{Implied}
 use Rattle.yaml_parse_core.specs.declared.told.Implied.TheVariants as implied
 use Rattle.yaml_parse_core.specs.declared.told.Waiting.{Waiting}
 use Rattle.yaml_parse_core.specs.declared.machine.Machine.{Machine}
-
--- the body of a token of that kind, with those texts
-abbrev pub body_by : yaml_token_type_t → List ℕ → List ℕ → Extra → TokenBody
-body_by kind.YAML_NO_TOKEN x y st = token.no
-body_by kind.YAML_STREAM_START_TOKEN x y st = token.stream_start st.encoding
-body_by kind.YAML_STREAM_END_TOKEN x y st = token.stream_end
-body_by kind.YAML_VERSION_DIRECTIVE_TOKEN x y st = token.version_directive st.major st.minor
-body_by kind.YAML_TAG_DIRECTIVE_TOKEN x y st = token.tag_directive x y
-body_by kind.YAML_DOCUMENT_START_TOKEN x y st = token.document_start
-body_by kind.YAML_DOCUMENT_END_TOKEN x y st = token.document_end
-body_by kind.YAML_BLOCK_SEQUENCE_START_TOKEN x y st = token.block_sequence_start
-body_by kind.YAML_BLOCK_MAPPING_START_TOKEN x y st = token.block_mapping_start
-body_by kind.YAML_BLOCK_END_TOKEN x y st = token.block_end
-body_by kind.YAML_FLOW_SEQUENCE_START_TOKEN x y st = token.flow_sequence_start
-body_by kind.YAML_FLOW_SEQUENCE_END_TOKEN x y st = token.flow_sequence_end
-body_by kind.YAML_FLOW_MAPPING_START_TOKEN x y st = token.flow_mapping_start
-body_by kind.YAML_FLOW_MAPPING_END_TOKEN x y st = token.flow_mapping_end
-body_by kind.YAML_BLOCK_ENTRY_TOKEN x y st = token.block_entry
-body_by kind.YAML_FLOW_ENTRY_TOKEN x y st = token.flow_entry
-body_by kind.YAML_KEY_TOKEN x y st = token.key
-body_by kind.YAML_VALUE_TOKEN x y st = token.value
-body_by kind.YAML_ALIAS_TOKEN x y st = token.alias x
-body_by kind.YAML_ANCHOR_TOKEN x y st = token.anchor x
-body_by kind.YAML_TAG_TOKEN x y st = token.tag x y
-body_by kind.YAML_SCALAR_TOKEN x y st = token.scalar x st.style
 
 abbrev pub token_at : TokenBody → yaml_mark_t → yaml_mark_t → Token
 token_at b start end = record { body = b; start_mark = start; end_mark = end }

@@ -1,8 +1,8 @@
 //! Tokens that own their texts, as a caller's source gives them.
 
 ghost use Rattle.std.specs.Prelude.{◌≡◌, true, ℕ, List};
-ghost use Rattle.yaml_parse_model.specs.Tokens.{body_of, type_of, token_of};
-ghost use Rattle.yaml_parse_core.specs.Owned.{text_in, other_in, extra_in, owned_properties, owned_states, owned_states_by};
+ghost use Rattle.yaml_parse_model.specs.Slots.{extra_of, token_in_slot};
+ghost use Rattle.yaml_parse_core.specs.Owned.{owned_properties, owned_states, owned_states_by};
 ghost use Rattle.yaml_parse_core.specs.Views.{around_by};
 ghost use Rattle.yaml_parse_core.specs.Seen.{seen};
 ghost use Rattle.yaml_parse_core.specs.Turns.{keeps, TurnsOn};
@@ -12,16 +12,16 @@ use crate::token::yaml_lent_token_t;
 use crate::told::Waiting;
 use crate::turning::turn;
 use std::mem;
-use yaml_parse_model::{yaml_mark_t, yaml_token_body_t, yaml_token_t, yaml_token_type_t};
+use yaml_parse_model::{TokenSlot, yaml_mark_t, yaml_token_type_t};
 
-impl yaml_lent_token_t for yaml_token_t {
+impl yaml_lent_token_t for TokenSlot {
     type Place = yaml_mark_t;
 
     type Text = Vec<u8>;
 
-    ghost kind = { λ t. type_of (body_of t.body) };
+    ghost kind = { λ t. t.body.kind };
 
-    ghost extra = { λ t. extra_in (body_of t.body) };
+    ghost extra = { λ t. extra_of t.body };
 
     ghost from = { λ t. t.start_mark };
 
@@ -31,14 +31,14 @@ impl yaml_lent_token_t for yaml_token_t {
 
     ghost bytes = { λ s x. x.items };
 
-    ghost text = { λ s t. text_in (body_of t.body) };
+    ghost text = { λ s t. t.body.text.items };
 
-    ghost other = { λ s t. other_in (body_of t.body) };
+    ghost other = { λ s t. t.body.other.items };
 
     // Inlined: each of the five is a read or a swap in the machine's turn.
     #[inline(always)]
     fn kind(&self) -> yaml_token_type_t {
-        self.type_()
+        self.body.kind
     }
 
     // Inlined: see `kind`.
@@ -56,38 +56,13 @@ impl yaml_lent_token_t for yaml_token_t {
     // Inlined: see `kind`.
     #[inline(always)]
     fn take_text(&mut self, place: &mut Vec<u8>) {
-        match &mut self.body {
-            yaml_token_body_t::Anchor { value } => mem::swap(value, place),
-            yaml_token_body_t::Tag { handle, .. } => mem::swap(handle, place),
-            _ => take_other_text(&mut self.body, place),
-        }
+        mem::swap(&mut self.body.text, place);
     }
 
     // Inlined: see `kind`.
     #[inline(always)]
     fn take_other(&mut self, place: &mut Vec<u8>) {
-        match &mut self.body {
-            yaml_token_body_t::Tag { suffix, .. } => mem::swap(suffix, place),
-            yaml_token_body_t::TagDirective { prefix, .. } => mem::swap(prefix, place),
-            _ => place.clear(),
-        }
-    }
-}
-
-// The text of a token that is no property.
-// Out of line: the machine takes none.
-#[inline(never)]
-fn take_other_text(body: &mut yaml_token_body_t, place: &mut Vec<u8>)
-    ensures text { place.new.items ≡ text_in (body_of body.old) }
-    ensures other { other_in (body_of body.new) ≡ other_in (body_of body.old) }
-{
-    match body {
-        yaml_token_body_t::Scalar { value, .. } => mem::swap(value, place),
-        yaml_token_body_t::Alias { value } => mem::swap(value, place),
-        yaml_token_body_t::Anchor { value } => mem::swap(value, place),
-        yaml_token_body_t::Tag { handle, .. } => mem::swap(handle, place),
-        yaml_token_body_t::TagDirective { handle, .. } => mem::swap(handle, place),
-        _ => place.clear(),
+        mem::swap(&mut self.body.other, place);
     }
 }
 
@@ -97,9 +72,9 @@ fn take_other_text(body: &mut yaml_token_body_t, place: &mut Vec<u8>)
 pub fn turn_owned(
     machine: &mut Machine<yaml_mark_t>,
     waiting: &mut Waiting<Vec<u8>, yaml_mark_t>,
-    token: &mut yaml_token_t,
+    token: &mut TokenSlot,
 ) -> Turn
-    ensures turns { TurnsOn (owned_states machine.old waiting.old) (token_of token.old)
+    ensures turns { TurnsOn (owned_states machine.old waiting.old) (token_in_slot token.old)
         (seen result)
         (around_by (λ m. m) machine.new (owned_properties waiting.new))
         (owned_states_by machine.new) }

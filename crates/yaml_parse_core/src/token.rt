@@ -2,7 +2,7 @@
 
 ghost use Rattle.std.specs.Prelude.{◌≡◌, ℕ, List};
 ghost use Rattle.yaml_parse_model.specs.declared.yaml_mark_t.{yaml_mark_t};
-ghost use Rattle.yaml_parse_core.specs.Extra.{Extra};
+ghost use Rattle.yaml_parse_model.specs.Slots.{Extra};
 ghost use Rattle.yaml_parse_model.specs.declared.yaml_token_type_t.{yaml_token_type_t};
 
 use yaml_parse_model::yaml_token_type_t;

@@ -7,3 +7,4 @@ pub mod Source
 pub mod TextView
 pub use Rattle.yaml_scan_model.specs.Tokens
 pub use Rattle.yaml_scan_model.specs.Faults
+pub use Rattle.yaml_scan_slot.specs.Slots

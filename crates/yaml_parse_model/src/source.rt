@@ -2,10 +2,12 @@
 
 ghost use Rattle.std.specs.Prelude.{List, Option, IfOk, IfErr, ⊤};
 ghost use Rattle.yaml_scan_model.specs.Tokens.{Token, token_of};
+ghost use Rattle.yaml_scan_slot.specs.Slots.{token_in_slot};
 ghost use Rattle.yaml_scan_model.specs.Faults.{Fault, fault_of};
 ghost use Rattle.yaml_parse_model.specs.Source.{GivesToken, GivesFault, GivesInto, Answer, answer_of, answer_in};
 
 use yaml_scan_model::{yaml_fault_t, yaml_token_t};
+use yaml_scan_slot::TokenSlot;
 
 /// A source of tokens. Its meaning is the finite list of tokens to come, whose texts are UTF-8, and the fault that
 /// ends the list, if any. Behind both it answers the empty token. Where a growth is refused it answers
@@ -30,15 +32,15 @@ pub trait yaml_token_source_t: Drop {
 
     /// The same in a slot that is lent (true), or the fault in the other one (false). A slot that isn't filled may hold
     /// anything afterwards. A source whose tokens can be put there at once has a body of its own for it.
-    fn next_token_into(&mut self, token: &mut yaml_token_t, fault: &mut yaml_fault_t) -> bool
+    fn next_token_into(&mut self, token: &mut TokenSlot, fault: &mut yaml_fault_t) -> bool
         ensures gives { GivesInto result (to_come self.old) (fault_to_come self.old)
-            (token_of token.new) (fault_of fault.new) (to_come self.new) (fault_to_come self.new) }
-        ensures own { own_step self.old (answer_in result (token_of token.new) (fault_of fault.new))
-            self.new }
+            (token_in_slot token.new) (fault_of fault.new) (to_come self.new) (fault_to_come self.new) }
+        ensures own { own_step self.old (answer_in result (token_in_slot token.new)
+            (fault_of fault.new)) self.new }
     {
         match self.next_token() {
             Ok(given) => {
-                *token = given;
+                token.put(given);
                 true
             }
             Err(refused) => {

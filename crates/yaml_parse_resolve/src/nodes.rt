@@ -1,7 +1,7 @@
 //! The events of nodes, written from the token that tells their content.
 
 ghost use Rattle.std.specs.Prelude.{◌≡◌, [], None};
-ghost use Rattle.yaml_parse_model.specs.Tokens.{token_of, body_of as token_body};
+ghost use Rattle.yaml_parse_model.specs.Slots.{body_in_slot, token_in_slot};
 ghost use Rattle.yaml_parse_model.specs.Events.{body_of, event_of};
 ghost use Rattle.yaml_parse_model.specs.declared.yaml_scalar_style_t.TheVariants.{YAML_ANY_SCALAR_STYLE};
 ghost use Rattle.yaml_parse_grammar.specs.Items as item;
@@ -14,8 +14,8 @@ use crate::scalars::{bare, named};
 use crate::slots::{start_mapping, start_named_mapping, start_named_sequence, start_sequence};
 use yaml_parse_core::{Shape, Waiting};
 use yaml_parse_model::{
-    mark_again, yaml_event_body_t, yaml_event_t, yaml_mapping_style_t, yaml_mark_t,
-    yaml_scalar_style_t, yaml_sequence_style_t, yaml_token_body_t, yaml_token_t,
+    BodySlot, TokenSlot, mark_again, yaml_event_body_t, yaml_event_t, yaml_mapping_style_t,
+    yaml_mark_t, yaml_scalar_style_t, yaml_sequence_style_t, yaml_token_type_t,
 };
 
 // The scalar of a token that is taken.
@@ -23,14 +23,16 @@ use yaml_parse_model::{
 #[inline(always)]
 fn tell_scalar(
     waiting: &mut Waiting<Vec<u8>, yaml_mark_t>,
-    token: &mut yaml_token_body_t,
+    token: &mut BodySlot,
     event: &mut yaml_event_body_t,
 )
     ensures { body_of event.new ≡ node_event None None
-        (item.scalar (value_in (token_body token.old)) (style_in (token_body token.old))) }
+        (item.scalar (value_in (body_in_slot token.old)) (style_in (body_in_slot token.old))) }
 {
-    match token {
-        yaml_token_body_t::Scalar { value, style } => bare(waiting, value, *style, event),
+    match token.kind {
+        yaml_token_type_t::YAML_SCALAR_TOKEN => {
+            bare(waiting, &mut token.text, token.style, event);
+        }
         _ => tell_no_scalar(waiting, event),
     }
 }
@@ -55,7 +57,7 @@ fn tell_no_scalar(waiting: &mut Waiting<Vec<u8>, yaml_mark_t>, event: &mut yaml_
 #[inline(never)]
 fn tell_sequence(
     waiting: &mut Waiting<Vec<u8>, yaml_mark_t>,
-    token: &mut yaml_token_body_t,
+    token: &mut BodySlot,
     style: yaml_sequence_style_t,
     event: &mut yaml_event_body_t,
 )
@@ -71,11 +73,7 @@ fn tell_sequence(
 // The same, where the slot holds other texts.
 // Out of line: mostly it holds none, or a scalar's.
 #[inline(never)]
-fn sequence_over(
-    token: &mut yaml_token_body_t,
-    style: yaml_sequence_style_t,
-    event: &mut yaml_event_body_t,
-)
+fn sequence_over(token: &mut BodySlot, style: yaml_sequence_style_t, event: &mut yaml_event_body_t)
     ensures { body_of event.new ≡ node_event None None (item.sequence style) }
 {
     vacate_full(event, token);
@@ -87,7 +85,7 @@ fn sequence_over(
 #[inline(never)]
 fn tell_mapping(
     waiting: &mut Waiting<Vec<u8>, yaml_mark_t>,
-    token: &mut yaml_token_body_t,
+    token: &mut BodySlot,
     style: yaml_mapping_style_t,
     event: &mut yaml_event_body_t,
 )
@@ -103,11 +101,7 @@ fn tell_mapping(
 // The same, where the slot holds other texts.
 // Out of line: mostly it holds none, or a scalar's.
 #[inline(never)]
-fn mapping_over(
-    token: &mut yaml_token_body_t,
-    style: yaml_mapping_style_t,
-    event: &mut yaml_event_body_t,
-)
+fn mapping_over(token: &mut BodySlot, style: yaml_mapping_style_t, event: &mut yaml_event_body_t)
     ensures { body_of event.new ≡ node_event None None (item.mapping style) }
 {
     vacate_full(event, token);
@@ -120,11 +114,11 @@ fn mapping_over(
 pub fn tell_node(
     shape: Shape,
     waiting: &mut Waiting<Vec<u8>, yaml_mark_t>,
-    token: &mut yaml_token_t,
+    token: &mut TokenSlot,
     event: &mut yaml_event_t,
 )
     ensures { event_of event.new ≡ placed (node_event None None
-        (shape_at shape (token_of token.old).body)) (node_item shape (token_of token.old)) }
+        (shape_at shape (token_in_slot token.old).body)) (node_item shape (token_in_slot token.old)) }
 {
     event.start_mark = mark_again(&token.start_mark);
     event.end_mark = mark_again(&token.end_mark);
@@ -162,15 +156,17 @@ pub fn tell_node(
 #[inline(always)]
 fn tell_named_scalar(
     waiting: &mut Waiting<Vec<u8>, yaml_mark_t>,
-    token: &mut yaml_token_body_t,
+    token: &mut BodySlot,
     event: &mut yaml_event_body_t,
 )
     ensures { body_of event.new ≡ node_event (text_if waiting.old.has_anchor
         waiting.old.anchor.items) (text_if waiting.old.has_tag waiting.old.handle.items)
-        (item.scalar (value_in (token_body token.old)) (style_in (token_body token.old))) }
+        (item.scalar (value_in (body_in_slot token.old)) (style_in (body_in_slot token.old))) }
 {
-    match token {
-        yaml_token_body_t::Scalar { value, style } => named(waiting, value, *style, event),
+    match token.kind {
+        yaml_token_type_t::YAML_SCALAR_TOKEN => {
+            named(waiting, &mut token.text, token.style, event);
+        }
         _ => tell_no_named_scalar(waiting, event),
     }
 }
@@ -195,7 +191,7 @@ fn tell_no_named_scalar(waiting: &mut Waiting<Vec<u8>, yaml_mark_t>, event: &mut
 // A sequence begins behind properties.
 fn tell_named_sequence(
     waiting: &mut Waiting<Vec<u8>, yaml_mark_t>,
-    token: &mut yaml_token_body_t,
+    token: &mut BodySlot,
     style: yaml_sequence_style_t,
     event: &mut yaml_event_body_t,
 )
@@ -210,7 +206,7 @@ fn tell_named_sequence(
 // A mapping begins behind properties.
 fn tell_named_mapping(
     waiting: &mut Waiting<Vec<u8>, yaml_mark_t>,
-    token: &mut yaml_token_body_t,
+    token: &mut BodySlot,
     style: yaml_mapping_style_t,
     event: &mut yaml_event_body_t,
 )
@@ -228,12 +224,12 @@ fn tell_named_mapping(
 pub(crate) fn tell_named(
     shape: Shape,
     waiting: &mut Waiting<Vec<u8>, yaml_mark_t>,
-    token: &mut yaml_token_body_t,
+    token: &mut BodySlot,
     event: &mut yaml_event_body_t,
 )
     ensures { body_of event.new ≡ node_event (text_if waiting.old.has_anchor
         waiting.old.anchor.items) (text_if waiting.old.has_tag waiting.old.handle.items)
-        (shape_at shape (token_body token.old)) }
+        (shape_at shape (body_in_slot token.old)) }
 {
     match shape {
         Shape::Scalar => tell_named_scalar(waiting, token, event),

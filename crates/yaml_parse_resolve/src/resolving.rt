@@ -1,7 +1,7 @@
 //! What items come to: tags in full, directives noted, and the events.
 
 ghost use Rattle.std.specs.Prelude.{◌≡◌, ◌++◌, ℕ, List, [], Option, None, Some, true, false, option_map, OnOk};
-ghost use Rattle.yaml_parse_model.specs.Tokens.{token_of, body_of as token_body};
+ghost use Rattle.yaml_parse_model.specs.Slots.{token_in_slot};
 ghost use Rattle.yaml_parse_model.specs.Events.{body_of, event_of};
 ghost use Rattle.yaml_parse_model.specs.Events as told;
 ghost use Rattle.yaml_parse_model.specs.Faults.{fault_of, memory_fault};
@@ -24,8 +24,8 @@ use std::alloc::{AllocError, Global};
 use yaml_parse_core::{Implied, Shape, Waiting};
 use yaml_parse_grammar::{ParseFault, ParseProblem};
 use yaml_parse_model::{
-    copy_directives, mark_again, moved, yaml_event_body_t, yaml_event_t, yaml_fault_t, yaml_mark_t,
-    yaml_memory_fault, yaml_origin_t, yaml_token_t, yaml_version_directive_t,
+    TokenSlot, copy_directives, mark_again, moved, yaml_event_body_t, yaml_event_t, yaml_fault_t,
+    yaml_mark_t, yaml_memory_fault, yaml_origin_t, yaml_version_directive_t,
 };
 use yaml_scan_model::{SHORT, put_short};
 
@@ -308,12 +308,12 @@ pub fn settle_named(
     tags: &TagDirectives,
     shape: Shape,
     waiting: &mut Waiting<Vec<u8>, yaml_mark_t>,
-    token: &mut yaml_token_t,
+    token: &mut TokenSlot,
     event: &mut yaml_event_t,
     fault: &mut yaml_fault_t,
 ) -> Settled
     ensures { (ds : DirectivesSpec) → ds.tags ≡ tags.now → ComesTo (named_item shape
-        (owned_properties waiting.old) (token_of token.old)) ds result (event_of event.new)
+        (owned_properties waiting.old) (token_in_slot token.old)) ds result (event_of event.new)
         (fault_of fault.new) ds }
 {
     event.start_mark = mark_again(&waiting.from);

@@ -3,10 +3,10 @@
 ghost use Rattle.std.specs.Prelude.{◌≡◌, None, Some, false, true, vec_capacity};
 ghost use Rattle.yaml_parse_model.specs.Events.{text_of};
 ghost use Rattle.yaml_parse_core.specs.Views.{text_if};
-ghost use Rattle.yaml_parse_resolve.specs.Bare.{HasNoText, OwnsNothing};
+ghost use Rattle.yaml_parse_resolve.specs.Bare.{OwnsNothing};
 
 use std::mem;
-use yaml_parse_model::{moved, yaml_event_body_t, yaml_scalar_style_t, yaml_token_body_t};
+use yaml_parse_model::{BodySlot, moved, yaml_event_body_t};
 
 /// Whether a slot of events holds no text.
 // Inlined: a look at the kind.
@@ -57,7 +57,7 @@ fn forget_bare(event: yaml_event_body_t)
 /// text into its room.
 // Inlined: mostly a comparison of the kind.
 #[inline(always)]
-pub fn vacate(earlier: &mut yaml_event_body_t, slot: &mut yaml_token_body_t)
+pub fn vacate(earlier: &mut yaml_event_body_t, slot: &mut BodySlot)
     ensures { OwnsNothing earlier.new }
 {
     if is_bare(earlier) {
@@ -69,7 +69,7 @@ pub fn vacate(earlier: &mut yaml_event_body_t, slot: &mut yaml_token_body_t)
 /// The same, of a slot of events that holds a text.
 // Inlined: a comparison of the kind, and some moves.
 #[inline(always)]
-pub fn vacate_full(earlier: &mut yaml_event_body_t, slot: &mut yaml_token_body_t)
+pub fn vacate_full(earlier: &mut yaml_event_body_t, slot: &mut BodySlot)
     ensures { OwnsNothing earlier.new }
 {
     match *earlier {
@@ -111,7 +111,7 @@ pub fn clears(earlier: &mut yaml_event_body_t, room: &mut Vec<u8>) -> bool
 // The same, of another event than a scalar without properties.
 // Out of line: mostly it is such a one.
 #[inline(never)]
-fn vacate_rare(earlier: &mut yaml_event_body_t, slot: &mut yaml_token_body_t)
+fn vacate_rare(earlier: &mut yaml_event_body_t, slot: &mut BodySlot)
     ensures { OwnsNothing earlier.new }
 {
     match earlier {
@@ -148,71 +148,28 @@ pub fn taken(anchor: &mut Option<Vec<u8>>, tag: &mut Option<Vec<u8>>) -> Option<
 /// Has the slot of a token that is taken hold both texts, where there are two.
 // Inlined: some moves.
 #[inline(always)]
-pub fn hand_over_both(text: Vec<u8>, other: Option<Vec<u8>>, slot: &mut yaml_token_body_t) {
+pub fn hand_over_both(text: Vec<u8>, other: Option<Vec<u8>>, slot: &mut BodySlot) {
     match other {
         None => hand_over(text, slot),
         Some(second) => {
-            *slot = yaml_token_body_t::Tag {
-                handle: text,
-                suffix: second,
-            };
+            slot.text = text;
+            slot.other = second;
         }
     }
 }
 
-// Has the slot of a token that is taken hold the text, if that has room. Where the slot has one, that is let go.
+// Has the slot of a token that is taken hold the text, if that has room, in the place that is free. Where both have one, the
+// second's is let go.
 // Inlined: some moves.
 #[inline(always)]
-fn hand_over(text: Vec<u8>, slot: &mut yaml_token_body_t) {
+fn hand_over(text: Vec<u8>, slot: &mut BodySlot) {
     if text.capacity() == 0 {
         return;
     }
-    if has_text(slot) {
-        put_text(text, slot);
+    if slot.text.capacity() == 0 {
+        slot.text = text;
     } else {
-        forget_kind(mem::replace(slot, kept(text)));
-    }
-}
-
-// Whether the slot of a token is of a kind that has a text.
-// Inlined: a look at the kind.
-#[inline(always)]
-fn has_text(slot: &yaml_token_body_t) -> bool
-    ensures { result ≡ false → HasNoText slot.now }
-{
-    match slot {
-        yaml_token_body_t::TagDirective { .. } => true,
-        yaml_token_body_t::Alias { .. } => true,
-        yaml_token_body_t::Anchor { .. } => true,
-        yaml_token_body_t::Tag { .. } => true,
-        yaml_token_body_t::Scalar { .. } => true,
-        _ => false,
-    }
-}
-
-// Lets go of a token that has no text: its drop would look at its kind once more.
-// Inlined: it does nothing.
-#[inline(always)]
-fn forget_kind(token: yaml_token_body_t)
-    requires { HasNoText token }
-{
-    mem::forget(token);
-}
-
-// A text in the slot of a token, in the place of others.
-// Out of line: the slot of an indicator has none.
-#[inline(never)]
-fn put_text(text: Vec<u8>, slot: &mut yaml_token_body_t) {
-    *slot = kept(text);
-}
-
-// A token that keeps a text.
-// Inlined: it is built in its slot.
-#[inline(always)]
-fn kept(text: Vec<u8>) -> yaml_token_body_t {
-    yaml_token_body_t::Scalar {
-        value: text,
-        style: yaml_scalar_style_t::YAML_PLAIN_SCALAR_STYLE,
+        slot.other = text;
     }
 }
 

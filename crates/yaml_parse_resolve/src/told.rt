@@ -1,7 +1,7 @@
 //! What tokens tell but nodes: where collections, documents and the stream begin and end, aliases, directives.
 
 ghost use Rattle.std.specs.Prelude.{◌≡◌, []};
-ghost use Rattle.yaml_parse_model.specs.Tokens.{token_of, body_of as token_body};
+ghost use Rattle.yaml_parse_model.specs.Slots.{body_in_slot, token_in_slot};
 ghost use Rattle.yaml_parse_model.specs.Events.{body_of, event_of};
 ghost use Rattle.yaml_parse_model.specs.Events as told;
 ghost use Rattle.yaml_parse_model.specs.Faults.{fault_of};
@@ -16,17 +16,17 @@ use crate::slots::{end_mapping, end_sequence, put, put_alias};
 use std::alloc::Global;
 use yaml_parse_core::Told;
 use yaml_parse_model::{
-    mark_again, yaml_encoding_t, yaml_event_body_t, yaml_event_t, yaml_fault_t, yaml_mark_t,
-    yaml_token_body_t, yaml_token_t,
+    BodySlot, TokenSlot, mark_again, yaml_encoding_t, yaml_event_body_t, yaml_event_t,
+    yaml_fault_t, yaml_mark_t, yaml_token_type_t,
 };
 
 // A stream's start.
 #[inline(never)]
-fn start_stream(token: &yaml_token_body_t, event: &mut yaml_event_body_t)
-    ensures { body_of event.new ≡ told.stream_start (encoding_in (token_body token.now)) }
+fn start_stream(token: &BodySlot, event: &mut yaml_event_body_t)
+    ensures { body_of event.new ≡ told.stream_start (encoding_in (body_in_slot token.now)) }
 {
-    let encoding = match *token {
-        yaml_token_body_t::StreamStart { encoding } => encoding,
+    let encoding = match token.kind {
+        yaml_token_type_t::YAML_STREAM_START_TOKEN => token.encoding,
         _ => yaml_encoding_t::YAML_ANY_ENCODING,
     };
     put(event, yaml_event_body_t::StreamStart { encoding });
@@ -34,17 +34,15 @@ fn start_stream(token: &yaml_token_body_t, event: &mut yaml_event_body_t)
 
 // The version of a `%YAML` directive.
 #[inline(never)]
-fn tell_version(
-    directives: &mut Directives,
-    token: &yaml_token_t,
-    fault: &mut yaml_fault_t,
-) -> Settled
+fn tell_version(directives: &mut Directives, token: &TokenSlot, fault: &mut yaml_fault_t) -> Settled
     ensures { Notes (with_version directives.old.version directives.old.tags
-        (major_in (token_of token.now).body) (minor_in (token_of token.now).body)
+        (major_in (token_in_slot token.now).body) (minor_in (token_in_slot token.now).body)
         token.now.start_mark) result (fault_of fault.new) (directives_of directives.new) }
 {
-    match token.body {
-        yaml_token_body_t::VersionDirective { major, minor } => {
+    match token.body.kind {
+        yaml_token_type_t::YAML_VERSION_DIRECTIVE_TOKEN => {
+            let major = token.body.major;
+            let minor = token.body.minor;
             note_version(directives, major, minor, token.start_mark, fault)
         }
         _ => note_version(directives, 0, 0, token.start_mark, fault),
@@ -53,20 +51,22 @@ fn tell_version(
 
 // The texts of a `%TAG` directive.
 #[inline(never)]
-fn tell_tag(
-    directives: &mut Directives,
-    token: &mut yaml_token_t,
-    fault: &mut yaml_fault_t,
-) -> Settled
-    ensures { Notes (with_tag (directive_for (handle_in (token_of token.old).body)
-        directives.old.tags) (directives_of directives.old) (handle_in (token_of token.old).body)
-        (prefix_in (token_of token.old).body) token.old.start_mark) result (fault_of fault.new)
+fn tell_tag(directives: &mut Directives, token: &mut TokenSlot, fault: &mut yaml_fault_t) -> Settled
+    ensures { Notes (with_tag (directive_for (handle_in (token_in_slot token.old).body)
+        directives.old.tags) (directives_of directives.old) (handle_in (token_in_slot token.old).body)
+        (prefix_in (token_in_slot token.old).body) token.old.start_mark) result (fault_of fault.new)
         (directives_of directives.new) }
 {
     let at = token.start_mark;
-    match &mut token.body {
-        yaml_token_body_t::TagDirective { handle, prefix } => {
-            note_tag(directives, handle, prefix, at, fault)
+    match token.body.kind {
+        yaml_token_type_t::YAML_TAG_DIRECTIVE_TOKEN => {
+            note_tag(
+                directives,
+                &mut token.body.text,
+                &mut token.body.other,
+                at,
+                fault,
+            )
         }
         _ => note_no_tag(directives, at, fault),
     }
@@ -87,11 +87,11 @@ fn note_no_tag(directives: &mut Directives, at: yaml_mark_t, fault: &mut yaml_fa
 // An alias. The room of a text that the slot has from an earlier event is left in the token.
 // Inlined: the token's kind is known.
 #[inline(always)]
-fn tell_alias(alloc: Global, token: &mut yaml_token_body_t, event: &mut yaml_event_body_t)
-    ensures { body_of event.new ≡ told.alias (name_in (token_body token.old)) }
+fn tell_alias(alloc: Global, token: &mut BodySlot, event: &mut yaml_event_body_t)
+    ensures { body_of event.new ≡ told.alias (name_in (body_in_slot token.old)) }
 {
-    match token {
-        yaml_token_body_t::Alias { value } => put_alias(event, value),
+    match token.kind {
+        yaml_token_type_t::YAML_ALIAS_TOKEN => put_alias(event, &mut token.text),
         _ => tell_no_alias(alloc, event),
     }
 }
@@ -109,7 +109,7 @@ fn tell_no_alias(alloc: Global, event: &mut yaml_event_body_t)
 // A sequence ends.
 // Out of line: in line the addresses of the slot's parts would be put aside in front of the loop over turns, for each event.
 #[inline(never)]
-fn tell_sequence_end(token: &mut yaml_token_body_t, event: &mut yaml_event_body_t)
+fn tell_sequence_end(token: &mut BodySlot, event: &mut yaml_event_body_t)
     ensures { body_of event.new ≡ told.sequence_end }
 {
     if is_bare(event) {
@@ -122,7 +122,7 @@ fn tell_sequence_end(token: &mut yaml_token_body_t, event: &mut yaml_event_body_
 // The same, where the slot holds a text.
 // Out of line: so no register is put aside where it holds none.
 #[inline(never)]
-fn sequence_end_over(token: &mut yaml_token_body_t, event: &mut yaml_event_body_t)
+fn sequence_end_over(token: &mut BodySlot, event: &mut yaml_event_body_t)
     ensures { body_of event.new ≡ told.sequence_end }
 {
     vacate_full(event, token);
@@ -132,7 +132,7 @@ fn sequence_end_over(token: &mut yaml_token_body_t, event: &mut yaml_event_body_
 // A mapping ends.
 // Out of line: see `tell_sequence_end`.
 #[inline(never)]
-fn tell_mapping_end(token: &mut yaml_token_body_t, event: &mut yaml_event_body_t)
+fn tell_mapping_end(token: &mut BodySlot, event: &mut yaml_event_body_t)
     ensures { body_of event.new ≡ told.mapping_end }
 {
     if is_bare(event) {
@@ -145,7 +145,7 @@ fn tell_mapping_end(token: &mut yaml_token_body_t, event: &mut yaml_event_body_t
 // The same, where the slot holds a text.
 // Out of line: so no register is put aside where it holds none.
 #[inline(never)]
-fn mapping_end_over(token: &mut yaml_token_body_t, event: &mut yaml_event_body_t)
+fn mapping_end_over(token: &mut BodySlot, event: &mut yaml_event_body_t)
     ensures { body_of event.new ≡ told.mapping_end }
 {
     vacate_full(event, token);
@@ -159,11 +159,11 @@ pub fn settle_told(
     directives: &mut Directives,
     told: Told,
     opener: &yaml_mark_t,
-    token: &mut yaml_token_t,
+    token: &mut TokenSlot,
     event: &mut yaml_event_t,
     fault: &mut yaml_fault_t,
 ) -> Settled
-    ensures { ComesTo (told_item told opener.now (token_of token.old))
+    ensures { ComesTo (told_item told opener.now (token_in_slot token.old))
         (directives_of directives.old) result (event_of event.new) (fault_of fault.new)
         (directives_of directives.new) }
 {

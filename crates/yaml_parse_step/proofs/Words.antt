@@ -26,6 +26,7 @@ pub use Rattle.yaml_parse_step.specs.Steps.{GivesItem, GivesNoItem, HasNoFront, 
 pub use Rattle.yaml_parse_step.specs.declared.step.Step.{Step}
 pub use Rattle.yaml_parse_step.specs.declared.step.StepBuffers.{StepBuffers}
 pub use Rattle.yaml_scan_model.specs.Faults.{Fault, IsMemoryFault, fault_of, memory_fault, scan_layers}
-pub use Rattle.yaml_scan_model.specs.Tokens.{Token, no_token, token_of, type_of}
+pub use Rattle.yaml_scan_model.specs.Tokens.{Token, no_token, type_of}
+pub use Rattle.yaml_parse_model.specs.Slots.{token_in_slot}
 pub use Rattle.yaml_scan_model.specs.declared.yaml_mark_t.{yaml_mark_t}
 pub use Rattle.yaml_scan_model.specs.declared.yaml_origin_t.TheVariants.{Parser}

@@ -2,7 +2,8 @@
 use Rattle.std.specs.Prelude.{◌≡◌, ◌⊎◌, ◌+◌, ◌<◌, ◌≤◌, ◌++◌, ℕ, List, [], ◌∷◌, length, Option, Some, None, Bool, true, false}
 use Rattle.yaml_scan_model.specs.declared.yaml_origin_t.TheVariants.{Parser}
 use Rattle.yaml_scan_model.specs.declared.yaml_mark_t.{yaml_mark_t}
-use Rattle.yaml_scan_model.specs.Tokens.{Token, no_token, token_of, type_of}
+use Rattle.yaml_scan_model.specs.Tokens.{Token, no_token, type_of}
+use Rattle.yaml_parse_model.specs.Slots.{token_in_slot}
 use Rattle.yaml_scan_model.specs.Faults.{Fault, memory_fault, IsMemoryFault, parse_layers, scan_layers}
 use Rattle.yaml_parse_model.specs.Source.{HasMore}
 use Rattle.yaml_parse_grammar.specs.declared.name.Choice.TheVariants.{Take}
@@ -31,7 +32,7 @@ held_if true t = Some t
 
 -- the token that is still to be taken
 abbrev pub peeked_of : StepBuffers → Option Token
-peeked_of d = held_if d.is_held (token_of d.token)
+peeked_of d = held_if d.is_held (token_in_slot d.token)
 
 -- what may come, the topmost first
 abbrev pub states_in : StepBuffers → List State

@@ -1,7 +1,8 @@
 //! One step of a parser: a token is taken, or a state is left before it.
 
 ghost use Rattle.std.specs.Prelude.{◌≡◌, true, false, List, Option, None};
-ghost use Rattle.yaml_scan_model.specs.Tokens.{Token, token_of};
+ghost use Rattle.yaml_scan_model.specs.Tokens.{Token};
+ghost use Rattle.yaml_parse_model.specs.Slots.{token_in_slot};
 ghost use Rattle.yaml_scan_model.specs.Faults.{Fault, fault_of};
 ghost use Rattle.yaml_parse_model.specs.Events.{Event, event_of};
 ghost use Rattle.yaml_parse_core.specs.Seen.{seen};
@@ -22,12 +23,12 @@ ghost use Rattle.yaml_parse_step.specs.Turned.{turned};
 
 use yaml_parse_core::{Implied, Machine, Shape, Told, Turn, Waiting, finish, is_over, turn_owned};
 use yaml_parse_grammar::ParseProblem;
-use yaml_parse_model::{yaml_event_t, yaml_token_source_t};
+use yaml_parse_model::{TokenSlot, yaml_event_t, yaml_token_source_t};
 use yaml_parse_resolve::{
     Directives, Settled, lack_memory, refuse, settle_implied, settle_named, settle_opened,
     settle_told, tell_node,
 };
-use yaml_scan_model::{yaml_fault_t, yaml_mark_t, yaml_token_t};
+use yaml_scan_model::{yaml_fault_t, yaml_mark_t};
 
 /// What a step gives: an item, or with tags and directives resolved an event, or a fault, each in its slot; nothing; or nothing any
 /// more.
@@ -46,7 +47,7 @@ pub struct StepBuffers {
     /// What may come.
     pub machine: Machine<yaml_mark_t>,
     /// The token that was asked for last.
-    pub token: yaml_token_t,
+    pub token: TokenSlot,
     /// It is still to be taken.
     pub is_held: bool,
     /// The properties that wait for their node.
@@ -58,13 +59,13 @@ pub struct StepBuffers {
 // The source's next token, where none was asked for before, or else its fault.
 fn ask<S: yaml_token_source_t>(
     source: &mut S,
-    token: &mut yaml_token_t,
+    token: &mut TokenSlot,
     fault: &mut yaml_fault_t,
 ) -> bool
     ensures front { HasFront result None (S.to_come source.old) (S.fault_to_come source.old)
-        (token_of token.new) (S.to_come source.new) (S.fault_to_come source.new)
+        (token_in_slot token.new) (S.to_come source.new) (S.fault_to_come source.new)
         (fault_of fault.new) }
-    ensures utf8 { result ≡ true → HasUtf8 (token_of token.new).body }
+    ensures utf8 { result ≡ true → HasUtf8 (token_in_slot token.new).body }
 {
     source.next_token_into(token, fault)
 }
@@ -76,10 +77,10 @@ fn front<S: yaml_token_source_t>(
     fault: &mut yaml_fault_t,
 ) -> bool
     ensures front { HasFront result (peeked_of buffers.old) (S.to_come source.old)
-        (S.fault_to_come source.old) (token_of buffers.new.token) (S.to_come source.new)
+        (S.fault_to_come source.old) (token_in_slot buffers.new.token) (S.to_come source.new)
         (S.fault_to_come source.new) (fault_of fault.new) }
     ensures utf8 { IsUtf8Token (peeked_of buffers.old) → result ≡ true
-        → HasUtf8 (token_of buffers.new.token).body }
+        → HasUtf8 (token_in_slot buffers.new.token).body }
     ensures same { buffers.new ≡ record buffers.old { token = buffers.new.token } }
 {
     if buffers.is_held {
@@ -124,7 +125,7 @@ fn settled(buffers: &mut StepBuffers, settled: Settled) -> Step
 #[inline(always)]
 fn tell(shape: Shape, buffers: &mut StepBuffers, event: &mut yaml_event_t) -> Step
     ensures { (s : List State) (t : Token) (f : Fault) → Turned buffers.old s t (kinds.node shape)
-        → token_of buffers.old.token ≡ t → WentOn s t buffers.old result (event_of event.new) f
+        → token_in_slot buffers.old.token ≡ t → WentOn s t buffers.old result (event_of event.new) f
         buffers.new }
 {
     buffers.is_held = false;
@@ -142,7 +143,7 @@ fn step_named(
     fault: &mut yaml_fault_t,
 ) -> Step
     ensures { (s : List State) (t : Token) → Turned buffers.old s t (kinds.named shape)
-        → token_of buffers.old.token ≡ t → WentOn s t buffers.old result (event_of event.new)
+        → token_in_slot buffers.old.token ≡ t → WentOn s t buffers.old result (event_of event.new)
         (fault_of fault.new) buffers.new }
 {
     buffers.is_held = false;
@@ -167,7 +168,7 @@ fn tell_other(
     fault: &mut yaml_fault_t,
 ) -> Step
     ensures { (s : List State) (t : Token) → Turned buffers.old s t (kinds.given told)
-        → token_of buffers.old.token ≡ t → WentOn s t buffers.old result (event_of event.new)
+        → token_in_slot buffers.old.token ≡ t → WentOn s t buffers.old result (event_of event.new)
         (fault_of fault.new) buffers.new }
 {
     buffers.is_held = false;
@@ -192,7 +193,7 @@ fn tell_rare(
     fault: &mut yaml_fault_t,
 ) -> Step
     ensures { (s : List State) (t : Token) → Turned buffers.old s t (kinds.given told)
-        → token_of buffers.old.token ≡ t → WentOn s t buffers.old result (event_of event.new)
+        → token_in_slot buffers.old.token ≡ t → WentOn s t buffers.old result (event_of event.new)
         (fault_of fault.new) buffers.new }
 {
     tell_other(told, buffers, event, fault)
@@ -223,7 +224,7 @@ fn leave(
     fault: &mut yaml_fault_t,
 ) -> Step
     ensures { (s : List State) (t : Token) → Turned buffers.old s t (kinds.left implied)
-        → token_of buffers.old.token ≡ t → WentOn s t buffers.old result (event_of event.new)
+        → token_in_slot buffers.old.token ≡ t → WentOn s t buffers.old result (event_of event.new)
         (fault_of fault.new) buffers.new }
 {
     buffers.is_held = true;
@@ -248,7 +249,7 @@ fn open_document(
     fault: &mut yaml_fault_t,
 ) -> Step
     ensures { (s : List State) (t : Token) → Turned buffers.old s t (kinds.opened)
-        → token_of buffers.old.token ≡ t → WentOn s t buffers.old result (event_of event.new)
+        → token_in_slot buffers.old.token ≡ t → WentOn s t buffers.old result (event_of event.new)
         (fault_of fault.new) buffers.new }
 {
     buffers.is_held = true;
@@ -263,7 +264,7 @@ fn open_document(
 fn refused(problem: ParseProblem, buffers: &mut StepBuffers, fault: &mut yaml_fault_t) -> Step
     ensures { (s : List State) (t : Token) (e : Event)
         → Turned buffers.old s t (kinds.refused problem)
-        → token_of buffers.old.token ≡ t → WentOn s t buffers.old result e (fault_of fault.new)
+        → token_in_slot buffers.old.token ≡ t → WentOn s t buffers.old result e (fault_of fault.new)
         buffers.new }
 {
     let at = buffers.token.start_mark;
@@ -288,7 +289,7 @@ fn going(
     fault: &mut yaml_fault_t,
 ) -> Step
     ensures { (s : List State) (t : Token) → Turned buffers.old s t (seen turn)
-        → (keeps (seen turn) ≡ true → token_of buffers.old.token ≡ t)
+        → (keeps (seen turn) ≡ true → token_in_slot buffers.old.token ≡ t)
         → WentOn s t buffers.old result (event_of event.new) (fault_of fault.new) buffers.new }
 {
     match turn {
@@ -347,7 +348,7 @@ fn going(
 // Inlined into its one caller.
 #[inline(always)]
 fn moving(buffers: &mut StepBuffers, event: &mut yaml_event_t, fault: &mut yaml_fault_t) -> Step
-    ensures { WentOn (states_in buffers.old) (token_of buffers.old.token) buffers.old result
+    ensures { WentOn (states_in buffers.old) (token_in_slot buffers.old.token) buffers.old result
         (event_of event.new) (fault_of fault.new) buffers.new }
 {
     let turn = turn_owned(

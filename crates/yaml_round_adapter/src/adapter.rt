@@ -1,20 +1,21 @@
 //! The adapter.
 
 ghost use Rattle.std.specs.Prelude.{◌≡◌, true, false};
-ghost use Rattle.yaml_scan.specs.Tokens.{token_of, no_token};
+ghost use Rattle.yaml_scan.specs.Tokens.{no_token};
+ghost use Rattle.yaml_scan.specs.Slots.{token_in_slot};
 ghost use Rattle.yaml_scan.specs.Faults.{fault_of};
 ghost use Rattle.yaml_scan.specs.Session.{HoldsLittle, begun};
 ghost use Rattle.yaml_scan.specs.Scanned.{scanned};
 ghost use Rattle.yaml_round_adapter.specs.Adapted.{adapted, spells_text};
 ghost use Rattle.yaml_round_adapter.specs.Adapter.{Checks, Adapts, IsStep, is_tag, remaining_of};
 
-use crate::refusal::{has_plain_suffix, yaml_tag_fault, yaml_token_spells_text};
+use crate::refusal::{has_plain_suffix, slot_spells_text, yaml_tag_fault};
 use std::alloc::Global;
 use std::marker::Model;
 use yaml_parse_model::yaml_token_source_t;
 use yaml_scan::{
-    yaml_encoding_t, yaml_fault_t, yaml_memory_fault, yaml_origin_t, yaml_parser_scan_into,
-    yaml_parser_t, yaml_token_body_t, yaml_token_t,
+    TokenSlot, yaml_encoding_t, yaml_fault_t, yaml_memory_fault, yaml_origin_t,
+    yaml_parser_scan_into, yaml_parser_t, yaml_token_t, yaml_token_type_t,
 };
 
 /// An input's tokens as a parser takes them: those of its session, up to the first tag that isn't UTF-8.
@@ -54,8 +55,8 @@ impl<'a> yaml_adapter_t<'a> {
 // Whether the token's tag, if it has one, is UTF-8; where it isn't, its fault is put into the slot.
 // Inlined: mostly a look at the kind.
 #[inline(always)]
-fn checked(token: &yaml_token_t, fault: &mut yaml_fault_t) -> bool
-    ensures { Checks (token_of token.now) result (fault_of fault.new) }
+fn checked(token: &TokenSlot, fault: &mut yaml_fault_t) -> bool
+    ensures { Checks (token_in_slot token.now) result (fault_of fault.new) }
 {
     if carries_tag(token) {
         return checked_tag(token, fault);
@@ -67,8 +68,8 @@ fn checked(token: &yaml_token_t, fault: &mut yaml_fault_t) -> bool
 // Each of the two kinds is asked for by itself: a match on both would be told by ranges of kinds, a scalar's last.
 // Inlined: two comparisons.
 #[inline(always)]
-fn carries_tag(token: &yaml_token_t) -> bool
-    ensures { result ≡ false → spells_text (token_of token.now).body ≡ true }
+fn carries_tag(token: &TokenSlot) -> bool
+    ensures { result ≡ false → spells_text (token_in_slot token.now).body ≡ true }
 {
     if is_tag(token) {
         return true;
@@ -79,11 +80,11 @@ fn carries_tag(token: &yaml_token_t) -> bool
 // Whether a token is a tag.
 // Inlined: a look at the kind.
 #[inline(always)]
-fn is_tag(token: &yaml_token_t) -> bool
-    ensures { result ≡ is_tag (token_of token.now).body }
+fn is_tag(token: &TokenSlot) -> bool
+    ensures { result ≡ is_tag (token_in_slot token.now).body }
 {
-    match token.body {
-        yaml_token_body_t::Tag { .. } => true,
+    match token.body.kind {
+        yaml_token_type_t::YAML_TAG_TOKEN => true,
         _ => false,
     }
 }
@@ -91,12 +92,12 @@ fn is_tag(token: &yaml_token_t) -> bool
 // Whether a token that is no tag is a directive's.
 // Inlined: a look at the kind.
 #[inline(always)]
-fn is_tag_directive(token: &yaml_token_t) -> bool
-    ensures { result ≡ false → is_tag (token_of token.now).body ≡ false
-        → spells_text (token_of token.now).body ≡ true }
+fn is_tag_directive(token: &TokenSlot) -> bool
+    ensures { result ≡ false → is_tag (token_in_slot token.now).body ≡ false
+        → spells_text (token_in_slot token.now).body ≡ true }
 {
-    match token.body {
-        yaml_token_body_t::TagDirective { .. } => true,
+    match token.body.kind {
+        yaml_token_type_t::YAML_TAG_DIRECTIVE_TOKEN => true,
         _ => false,
     }
 }
@@ -104,8 +105,8 @@ fn is_tag_directive(token: &yaml_token_t) -> bool
 // The same of a token that has a tag.
 // Out of line: few have one.
 #[inline(never)]
-fn checked_tag(token: &yaml_token_t, fault: &mut yaml_fault_t) -> bool
-    ensures { Checks (token_of token.now) result (fault_of fault.new) }
+fn checked_tag(token: &TokenSlot, fault: &mut yaml_fault_t) -> bool
+    ensures { Checks (token_in_slot token.now) result (fault_of fault.new) }
 {
     if has_plain_suffix(token) {
         return true;
@@ -116,10 +117,10 @@ fn checked_tag(token: &yaml_token_t, fault: &mut yaml_fault_t) -> bool
 // The same of a tag that isn't ASCII alone, or of a directive.
 // Out of line: few are such, and in line the room of its fault would be set to zero for each tag.
 #[inline(never)]
-fn checked_rare(token: &yaml_token_t, fault: &mut yaml_fault_t) -> bool
-    ensures { Checks (token_of token.now) result (fault_of fault.new) }
+fn checked_rare(token: &TokenSlot, fault: &mut yaml_fault_t) -> bool
+    ensures { Checks (token_in_slot token.now) result (fault_of fault.new) }
 {
-    if yaml_token_spells_text(token) {
+    if slot_spells_text(token) {
         return true;
     }
     *fault = yaml_tag_fault(token.start_mark);
@@ -131,10 +132,10 @@ fn checked_rare(token: &yaml_token_t, fault: &mut yaml_fault_t) -> bool
 #[inline(always)]
 fn scan_checked(
     session: &mut yaml_parser_t,
-    token: &mut yaml_token_t,
+    token: &mut TokenSlot,
     fault: &mut yaml_fault_t,
 ) -> bool
-    ensures adapts { Adapts session.old session.new result (token_of token.new)
+    ensures adapts { Adapts session.old session.new result (token_in_slot token.new)
         (fault_of fault.new) }
     ensures little { HoldsLittle session.new }
 {
@@ -148,10 +149,10 @@ fn scan_checked(
 // Puts the empty token into a slot.
 // Out of line: it is put there behind a fault alone.
 #[inline(never)]
-fn put_empty(token: &mut yaml_token_t)
-    ensures { token_of token.new ≡ no_token }
+fn put_empty(token: &mut TokenSlot)
+    ensures { token_in_slot token.new ≡ no_token }
 {
-    *token = yaml_token_t::empty();
+    token.clear();
 }
 
 impl<'a> yaml_token_source_t for yaml_adapter_t<'a> {
@@ -162,10 +163,10 @@ impl<'a> yaml_token_source_t for yaml_adapter_t<'a> {
     ghost own_step = { IsStep };
 
     fn next_token(&mut self) -> Result<yaml_token_t, yaml_fault_t> {
-        let mut token = yaml_token_t::empty();
+        let mut token = TokenSlot::empty(self.session.allocator());
         let mut fault = yaml_memory_fault(yaml_origin_t::Adapter);
         if self.next_token_into(&mut token, &mut fault) {
-            return Ok(token);
+            return Ok(token.take());
         }
         drop(token);
         Err(fault)
@@ -173,7 +174,7 @@ impl<'a> yaml_token_source_t for yaml_adapter_t<'a> {
 
     // Inlined: the parser calls it at one place, for each token. So is what it calls, or that would stay a call.
     #[inline(always)]
-    fn next_token_into(&mut self, token: &mut yaml_token_t, fault: &mut yaml_fault_t) -> bool {
+    fn next_token_into(&mut self, token: &mut TokenSlot, fault: &mut yaml_fault_t) -> bool {
         if self.over {
             put_empty(token);
             return true;

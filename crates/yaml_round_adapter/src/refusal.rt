@@ -3,12 +3,14 @@
 ghost use Rattle.std.specs.Prelude.{◌≡◌, ◌<◌, ◌↔◌, IsTrue, EachIndex, slice_index, true};
 ghost use Rattle.std.specs.Str.{is_utf8};
 ghost use Rattle.yaml_scan.specs.Tokens.{token_of};
+ghost use Rattle.yaml_scan.specs.Slots.{token_in_slot};
 ghost use Rattle.yaml_scan.specs.Faults.{fault_of};
 ghost use Rattle.yaml_round_adapter.specs.Adapted.{spells_text, tag_fault};
 
 use simdutf8::is_utf8;
 use yaml_scan::{
-    yaml_error_type_t, yaml_fault_t, yaml_mark_t, yaml_origin_t, yaml_token_body_t, yaml_token_t,
+    TokenSlot, yaml_error_type_t, yaml_fault_t, yaml_mark_t, yaml_origin_t, yaml_token_body_t,
+    yaml_token_t, yaml_token_type_t,
 };
 
 // Whether all bytes are ASCII.
@@ -30,12 +32,23 @@ fn is_plain_text(bytes: &[u8]) -> bool
 /// Whether a token is a tag whose suffix is UTF-8 at sight. Of another token, and of another suffix, nothing is said.
 // Inlined into its one caller.
 #[inline(always)]
-pub(crate) fn has_plain_suffix(token: &yaml_token_t) -> bool
-    ensures { result ≡ true → spells_text (token_of token.now).body ≡ true }
+pub(crate) fn has_plain_suffix(token: &TokenSlot) -> bool
+    ensures { result ≡ true → spells_text (token_in_slot token.now).body ≡ true }
 {
-    match &token.body {
-        yaml_token_body_t::Tag { suffix, .. } => is_plain_text(suffix),
+    match token.body.kind {
+        yaml_token_type_t::YAML_TAG_TOKEN => is_plain_text(&token.body.other),
         _ => false,
+    }
+}
+
+/// Whether the suffix of a tag in a slot, or a directive's prefix, is UTF-8.
+pub(crate) fn slot_spells_text(token: &TokenSlot) -> bool
+    ensures { result ≡ spells_text (token_in_slot token.now).body }
+{
+    match token.body.kind {
+        yaml_token_type_t::YAML_TAG_DIRECTIVE_TOKEN => is_text(&token.body.other),
+        yaml_token_type_t::YAML_TAG_TOKEN => is_text(&token.body.other),
+        _ => true,
     }
 }
 

@@ -1,5 +1,6 @@
 pub use Rattle.yaml_scan_model.specs.Tokens
 pub use Rattle.yaml_scan_model.specs.Faults
+pub use Rattle.yaml_scan_slot.specs.Slots
 pub use Rattle.yaml_scan_model.specs.Classes
 pub use Rattle.yaml_scan_model.specs.Marks
 pub mod Found

@@ -22,3 +22,4 @@ pub use yaml_scan_model::{
     yaml_token_body_t, yaml_token_delete, yaml_token_t, yaml_token_type_t,
     yaml_version_directive_t,
 };
+pub use yaml_scan_slot::TokenSlot;

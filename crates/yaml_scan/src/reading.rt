@@ -1,8 +1,8 @@
 //! Reading on until the next token is known, or there is none.
 
 ghost use Rattle.std.specs.Prelude.{◌≡◌, ◌+◌, ◌<◌, [], true, false, length};
-ghost use Rattle.yaml_scan_model.specs.Tokens.{token_of, body_of, no_token};
-ghost use Rattle.yaml_scan_machine.specs.scan_queue.Bare.{is_bare};
+ghost use Rattle.yaml_scan_model.specs.Tokens.{token_of, no_token};
+ghost use Rattle.yaml_scan_slot.specs.Slots.{token_in_slot};
 ghost use Rattle.yaml_scan_model.specs.Faults.{fault_of};
 ghost use Rattle.yaml_scan_machine.specs.State.{IsMachine, is_ready};
 ghost use Rattle.yaml_scan_machine.specs.Stood.{MayRead, Steps};
@@ -10,7 +10,8 @@ ghost use Rattle.yaml_scan.specs.Found.{Comes, ReadsOn};
 
 use std::mem;
 use yaml_scan_machine::{LexemeSpot, Machine};
-use yaml_scan_model::{Spares, moved, yaml_fault_t, yaml_token_body_t, yaml_token_t};
+use yaml_scan_model::{Spares, yaml_fault_t, yaml_token_t};
+use yaml_scan_slot::TokenSlot;
 
 /// What reading on came to: the next token is known, or there is none, or a fault stands in the slot that was lent.
 #[derive(Clone, Copy)]
@@ -20,23 +21,22 @@ pub(crate) enum Sought {
     Refused,
 }
 
-/// Takes the next token into a slot that holds no text, the empty one where none is to come; or puts the fault into the other slot.
+/// Takes the next token into a slot, the empty one where none is to come; or puts the fault into the other slot.
 // Inlined: mostly the next token is known.
 #[inline(always)]
 pub(crate) fn next_into(
     machine: &mut Machine,
     spares: &mut Spares,
-    token: &mut yaml_token_t,
+    token: &mut TokenSlot,
     fault: &mut yaml_fault_t,
 ) -> Sought
-    requires stands { IsMachine machine.old }
-    requires bare { is_bare (token_of token.old).body ≡ true }
-    ensures { Comes machine.old machine.new (token_of token.old) (token_of token.new)
+    requires { IsMachine machine.old }
+    ensures { Comes machine.old machine.new (token_in_slot token.old) (token_in_slot token.new)
         (fault_of fault.new) result }
 {
     match read_on(machine, spares, fault) {
         Sought::Known => {
-            machine.take_token_into(token);
+            machine.take_token_into(token, spares);
             Sought::Known
         }
         Sought::Nothing => {
@@ -47,92 +47,33 @@ pub(crate) fn next_into(
     }
 }
 
-/// Lets go of the texts that a slot holds, and keeps the room of one. An empty text without room may be left.
-// Inlined: mostly a look at the kind.
-#[inline(always)]
-pub(crate) fn take_back(slot: &mut yaml_token_body_t, spares: &mut Spares)
-    ensures { is_bare (body_of slot.new) ≡ true }
-{
-    match slot {
-        yaml_token_body_t::Scalar { value, .. } => spares.keep(moved(value)),
-        _ => {
-            if has_text(slot) {
-                let_go(slot, spares);
-            }
-        }
-    }
-}
-
-/// Whether a slot is of a kind that has a text.
-// Inlined: a look at the kind.
-#[inline(always)]
-fn has_text(slot: &yaml_token_body_t) -> bool
-    ensures { result ≡ false → is_bare (body_of slot.now) ≡ true }
-{
-    match slot {
-        yaml_token_body_t::Scalar { .. } => true,
-        yaml_token_body_t::Alias { .. } => true,
-        yaml_token_body_t::Anchor { .. } => true,
-        yaml_token_body_t::Tag { .. } => true,
-        yaml_token_body_t::TagDirective { .. } => true,
-        _ => false,
-    }
-}
-
-/// Lets go of what a slot holds, and keeps the room of a name, and that of both texts of a tag.
-// Inlined: out of line each name paid for registers that a tag alone needs.
-#[inline(always)]
-fn let_go(slot: &mut yaml_token_body_t, spares: &mut Spares)
-    ensures { is_bare (body_of slot.new) ≡ true }
-{
-    match slot {
-        yaml_token_body_t::Alias { value } => spares.keep(moved(value)),
-        yaml_token_body_t::Anchor { value } => spares.keep(moved(value)),
-        yaml_token_body_t::Tag { handle, suffix } => {
-            spares.keep(moved(handle));
-            spares.keep(moved(suffix));
-        }
-        _ => clear(slot),
-    }
-}
-
-/// Lets go of what a slot holds.
-// Out of line: mostly it is a name, or a tag.
+/// Puts a token into a place of one.
+// Out of line: mostly the reader does it, and what the place had is let go by a look at each kind of token.
 #[inline(never)]
-fn clear(slot: &mut yaml_token_body_t)
-    ensures { is_bare (body_of slot.new) ≡ true }
+pub(crate) fn put_over(place: &mut yaml_token_t, token: yaml_token_t)
+    ensures { place.new ≡ token }
 {
-    *slot = yaml_token_body_t::No;
-}
-
-/// Puts a token into a slot.
-// Out of line: mostly the reader does it, and what the slot had is let go by a look at each kind of token.
-#[inline(never)]
-pub(crate) fn put_over(slot: &mut yaml_token_t, token: yaml_token_t)
-    ensures { slot.new ≡ token }
-{
-    *slot = token;
+    *place = token;
 }
 
 /// Puts the empty token into a slot.
-// Out of line: in line the room of an empty token would be set to zero for each token. Cold: it is put there behind the last
-// token, so a token that is known is asked for first.
+// Out of line and cold: it is put there behind the last token, so a token that is known is asked for first.
 #[cold]
 #[inline(never)]
-pub(crate) fn put_empty(slot: &mut yaml_token_t)
-    ensures { token_of slot.new ≡ no_token }
+pub(crate) fn put_empty(slot: &mut TokenSlot)
+    ensures { token_in_slot slot.new ≡ no_token }
 {
-    *slot = yaml_token_t::empty();
+    slot.clear();
 }
 
 /// Puts a token that was put aside into a slot, and leaves the empty one.
-// Out of line: as above.
+// Out of line: mostly none was put aside.
 #[inline(never)]
-pub(crate) fn put_shown(slot: &mut yaml_token_t, shown: &mut yaml_token_t)
-    ensures given { token_of slot.new ≡ token_of shown.old }
+pub(crate) fn put_shown(slot: &mut TokenSlot, shown: &mut yaml_token_t)
+    ensures given { token_in_slot slot.new ≡ token_of shown.old }
     ensures left { token_of shown.new ≡ no_token }
 {
-    *slot = mem::replace(shown, yaml_token_t::empty());
+    slot.put(mem::replace(shown, yaml_token_t::empty()));
 }
 
 /// Reads on until the next token is known, or there is none. What is to come stays.

@@ -5,19 +5,21 @@ ghost use Rattle.std.specs.Borrow.{sem, follows_so};
 ghost use mir.Syntax.{named};
 ghost use mathlib.Core.Option.{none};
 ghost use Rattle.yaml_scan_model.specs.Tokens.{token_of};
+ghost use Rattle.yaml_scan_slot.specs.Slots.{token_in_slot};
 ghost use Rattle.yaml_scan_model.specs.Faults.{fault_of};
 ghost use Rattle.yaml_scan_model.specs.Rooms.{KeepsFew, rooms_of};
 ghost use Rattle.yaml_scan.specs.contracts.session.yaml_parser_t.{the_row};
 ghost use Rattle.yaml_scan.specs.Session.{HasFirst, ReadsNeeded, Scans, ScansInto, Looks, Shows, Peeks, HoldsLittle, begun, behind_first, is_settled};
 ghost use Rattle.yaml_scan.specs.SessionView.{IsWhole, view_of};
 
-use crate::reading::{Sought, next_into, put_empty, put_over, put_shown, take_back};
+use crate::reading::{Sought, next_into, put_empty, put_over, put_shown};
 use std::alloc::Global;
 use std::marker::Model;
 use yaml_scan_machine::Machine;
 use yaml_scan_model::{
     Spares, yaml_encoding_t, yaml_fault_t, yaml_memory_fault, yaml_origin_t, yaml_token_t,
 };
+use yaml_scan_slot::TokenSlot;
 
 /// The tokens of an input that are still to come, and the fault that ends them. At most 1,025 lexemes that were read wait, and
 /// at most 64 spare texts are kept.
@@ -61,6 +63,11 @@ impl<'a> yaml_parser_t<'a> {
             spares: Spares::new(alloc),
         }
     }
+
+    /// The allocator that the session keeps.
+    pub fn allocator(&self) -> Global {
+        *self.spares.allocator()
+    }
 }
 
 /// The next token: the empty one behind the end or a fault.
@@ -72,10 +79,10 @@ pub fn yaml_parser_scan(parser: &mut yaml_parser_t) -> Result<yaml_token_t, yaml
     ensures scans { Scans parser.old parser.new result }
     ensures few { HoldsLittle parser.new }
 {
-    let mut token = yaml_token_t::empty();
+    let mut token = TokenSlot::empty(parser.allocator());
     let mut fault = yaml_memory_fault(yaml_origin_t::Scanner);
     if yaml_parser_scan_into(parser, &mut token, &mut fault) {
-        return Ok(token);
+        return Ok(token.take());
     }
     drop(token);
     Err(fault)
@@ -87,10 +94,10 @@ pub fn yaml_parser_scan(parser: &mut yaml_parser_t) -> Result<yaml_token_t, yaml
 #[inline(always)]
 pub fn yaml_parser_scan_into(
     parser: &mut yaml_parser_t,
-    token: &mut yaml_token_t,
+    token: &mut TokenSlot,
     fault: &mut yaml_fault_t,
 ) -> bool
-    ensures scans { ScansInto parser.old parser.new result (token_of token.new)
+    ensures scans { ScansInto parser.old parser.new result (token_in_slot token.new)
         (fault_of fault.new) }
     ensures few { HoldsLittle parser.new }
 {
@@ -103,7 +110,6 @@ pub fn yaml_parser_scan_into(
         put_shown(token, &mut parser.shown);
         return true;
     }
-    take_back(&mut token.body, &mut parser.spares);
     match next_into(&mut parser.machine, &mut parser.spares, token, fault) {
         Sought::Known => true,
         Sought::Nothing => true,
@@ -150,9 +156,11 @@ fn put_aside(
     if *aside {
         return Ok(());
     }
+    let mut slot = TokenSlot::empty(*spares.allocator());
     let mut fault = yaml_memory_fault(yaml_origin_t::Scanner);
-    match next_into(machine, spares, shown, &mut fault) {
+    match next_into(machine, spares, &mut slot, &mut fault) {
         Sought::Known => {
+            put_over(shown, slot.take());
             *aside = true;
             Ok(())
         }
@@ -193,7 +201,7 @@ pub fn yaml_parser_skip(parser: &mut yaml_parser_t)
         put_over(&mut parser.shown, yaml_token_t::empty());
         return;
     }
-    drop(parser.machine.take_token());
+    drop(parser.machine.take_token(&mut parser.spares));
 }
 
 /// The fault that was answered, if one was.

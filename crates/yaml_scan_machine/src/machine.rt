@@ -13,10 +13,11 @@ use std::alloc::{AllocError, Global};
 use yaml_scan_decode::{stream_encoding, yaml_decode, yaml_text_t};
 use yaml_scan_history::{Kind, Lexeme, Opens};
 use yaml_scan_model::{
-    ScanError, yaml_encoding_t, yaml_fault_t, yaml_mark_t, yaml_memory_fault, yaml_origin_t,
+    ScanError, Spares, yaml_encoding_t, yaml_fault_t, yaml_mark_t, yaml_memory_fault, yaml_origin_t,
     yaml_token_t,
 };
 use yaml_scan_queue::Queue;
+use yaml_scan_slot::TokenSlot;
 
 /// The state between two lexemes.
 #[derive(Drop)]
@@ -61,7 +62,7 @@ impl<'a> Machine<'a> {
     ghost use Rattle.yaml_scan_history.specs.Remaining.{nothing, offline};
     ghost use Rattle.yaml_scan_laws_order.specs.Fronts.{GivesFirst};
     ghost use Rattle.yaml_scan_model.specs.Tokens.{token_of};
-    ghost use Rattle.yaml_scan_queue.specs.Bare.{is_bare};
+    ghost use Rattle.yaml_scan_slot.specs.Slots.{token_in_slot};
 
     /// The state before the first lexeme of an input.
     pub fn new(alloc: Global, input: &'a [u8], setting: yaml_encoding_t) -> Machine<'a>
@@ -186,30 +187,29 @@ impl<'a> Machine<'a> {
     }
 
     /// Takes the next token: it is the first one that was to come, and the rest is left.
-    pub fn take_token(&mut self) -> yaml_token_t
+    pub fn take_token(&mut self, spares: &mut Spares) -> yaml_token_t
         requires stands { IsMachine self.old }
         requires ready { is_ready self.old ≡ true }
         ensures stands { IsMachine self.new }
         ensures gives { GivesFirst (left_in self.old) (token_of result) (left_in self.new) }
         ensures keeps { KeepsInput self.old self.new }
     {
-        let mut token = yaml_token_t::empty();
-        self.take_token_into(&mut token);
-        token
+        let mut token = TokenSlot::empty(self.alloc);
+        self.take_token_into(&mut token, spares);
+        token.take()
     }
 
-    /// Takes the next token, in a slot that is lent and holds no text.
+    /// Takes the next token, in a slot that is lent.
     // Inlined: it is a part of the way of each token.
     #[inline(always)]
-    pub fn take_token_into(&mut self, slot: &mut yaml_token_t)
+    pub fn take_token_into(&mut self, slot: &mut TokenSlot, spares: &mut Spares)
         requires stands { IsMachine self.old }
         requires ready { is_ready self.old ≡ true }
-        requires bare { is_bare (token_of slot.old).body ≡ true }
         ensures stands { IsMachine self.new }
-        ensures gives { GivesFirst (left_in self.old) (token_of slot.new) (left_in self.new) }
+        ensures gives { GivesFirst (left_in self.old) (token_in_slot slot.new) (left_in self.new) }
         ensures keeps { KeepsInput self.old self.new }
     {
-        if self.waiting.pop_token(self.given, slot) {
+        if self.waiting.pop_token(self.given, slot, spares) {
             self.dropped += 1;
             self.given = 0;
         } else {

@@ -10,7 +10,7 @@ use crate::word::Reading;
 use std::alloc::AllocError;
 use yaml_scan_history::Kind;
 use yaml_scan_model::{ScanError, Spares, yaml_fault_t, yaml_mark_t};
-use yaml_scan_queue::Waiting;
+use yaml_scan_queue::ReadLexeme;
 
 impl<'a> Machine<'a> {
     ghost use Rattle.yaml_scan_machine.specs.State.{IsShort, IsMachine, ReadsOneMore, is_ready};
@@ -136,12 +136,11 @@ impl<'a> Machine<'a> {
         let number = self.count();
         self.keys.put(lexeme, number)?;
         self.waiting.reserve()?;
-        self.waiting.push_back_reserved(Waiting {
+        self.waiting.push_back_reserved(ReadLexeme {
             start: lexeme.start,
             end: lexeme.end,
             ends,
             opens: opens_here(opens, found),
-            key: false,
             body,
         });
         self.place = lexeme.reached;

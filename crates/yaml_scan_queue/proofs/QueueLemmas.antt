@@ -1,13 +1,9 @@
 -- The part of a row of slots that holds what waits, and the slots beside it.
-use Rattle.std.proofs.Common.{◌≡◌, ◌≢◌, ℕ, ◌+◌, ◌-◌, ◌<◌, ◌≤◌, List, [], ◌∷◌, ◌++◌, length, take, drop, get_or, get_or-set_other, get_or-set_same, Option, Some, None, refl, ap, sym, subst, ◌∙◌, inl, inr, arith, true}
+use Rattle.std.proofs.Common.{◌≡◌, ℕ, zero, suc, ◌+◌, ◌-◌, ◌<◌, ◌≤◌, List, [], ◌∷◌, ◌++◌, length, take, drop, get_or, Option, Some, None, refl, ap, sym, ◌∙◌, arith}
 use Rattle.std.proofs.Math.ListN.{set}
 use Rattle.std.proofs.Math.Seq.{take-set-lt}
-use Rattle.std.proofs.lemmas.Bool.{cases_lt}
-use Rattle.std.proofs.lemmas.List.{get_or-drop, get_or-take, get_or_default, get_or_append_left, get_or_push, take-append-le, drop-take, drop-set-add, drop-set-lt, drop-drop, drop_all, length-take-le, length-drop, length-set, length_push}
+use Rattle.std.proofs.lemmas.List.{get_or-drop, get_or-take, get_or_default, take-append-le, drop-append-le, drop-take, drop-set-add, drop-set-lt, drop-drop, drop_all, length-take-le, length-drop}
 use Rattle.yaml_scan_queue.specs.declared.waiting.Waiting.{Waiting}
-use Rattle.yaml_scan_model.specs.Tokens.{body_of}
-use Rattle.yaml_scan_queue.specs.Bare.{is_bare}
-use Rattle.yaml_scan_queue.specs.Queue.{AreEmpty}
 
 pub part_length : {X : Type 0} → (xs : List X) (f l : ℕ) → l ≤ length xs
     → length (drop f (take l xs)) ≡ l - f
@@ -62,48 +58,18 @@ part_turn xs f l le most =
     let sum : f + (l - f) ≡ l = omega arith in
     take-append-le (l - f) (drop f xs) (take f xs) (omega (arith, length-drop f xs)) ∙ sym (drop-take f (l - f) xs) ∙ ap (λ (n : ℕ). drop f (take n xs)) sum
 
--- A slot without a text is put behind the row.
-pub empty_grow : (xs zs : List Waiting) (f l : ℕ) (b : Waiting) → zs ≡ xs ++ b ∷ [] → f ≤ l
-    → l ≤ length xs → is_bare (body_of b.body) ≡ true → AreEmpty f l xs → AreEmpty f l zs
-empty_grow xs zs f l b is low most none e =
-    subst (λ (ws : List Waiting). AreEmpty f l ws) (sym is) (
-      (λ k w lt. ap (λ (x : Waiting). is_bare (body_of x.body))
-          (get_or_append_left xs (b ∷ []) w k (omega (arith, lt, low, most))) ∙ e.0 k w lt),
-      (λ k w far lt. elim (cases_lt k (length xs)) [
-        | inl near ↦ ap (λ (x : Waiting). is_bare (body_of x.body)) (get_or_append_left xs (b ∷ []) w k near) ∙ e.1 k w far near
-        | inr end ↦
-            let at : length xs ≡ k = omega (arith, lt, end, length_push xs b) in
-            ap (λ (x : Waiting). is_bare (body_of x.body)) (get_or_push xs b w k at) ∙ none
-      ]),
-    )
+put_last : (xs : List Waiting) (l : ℕ) (y : Waiting) → l < length xs
+    → take (suc l) (set xs l y) ≡ take l xs ++ y ∷ []
+put_last [] l y lt = absurd (omega (arith, lt))
+put_last (x ∷ xs) zero y lt = refl
+put_last (x ∷ xs) (suc l) y lt = ap (λ (zs : List Waiting). x ∷ zs) (put_last xs l y (omega (arith, lt)))
 
--- The first lexeme is taken, and what stands in its slot has no text.
-pub empty_pop : (ws : List Waiting) (f l : ℕ) (y : Waiting) → f < l → l ≤ length ws
-    → is_bare (body_of y.body) ≡ true → AreEmpty f l ws → AreEmpty (f + 1) l (set ws f y)
-empty_pop ws f l y low most bare e =
-    let long : length (set ws f y) ≡ length ws = length-set ws f y in (
-      (λ k w lt. elim (cases_lt k f) [
-        | inl less ↦
-            let ne : k ≢ f = λ same. absurd (omega (arith, same, less)) in
-            ap (λ (x : Waiting). is_bare (body_of x.body)) (get_or-set_other ws f k y w ne) ∙ e.0 k w less
-        | inr past ↦
-            let same : k ≡ f = omega (arith, lt, past) in
-            ap (λ j. is_bare (body_of (get_or (set ws f y) j w).body)) same ∙ ap (λ (x : Waiting). is_bare (body_of x.body)) (get_or-set_same ws f y w (omega (arith, low, most))) ∙ bare
-      ]),
-      (λ k w far short.
-          let ne : k ≢ f = λ same. absurd (omega (arith, same, low, far)) in
-          ap (λ (x : Waiting). is_bare (body_of x.body)) (get_or-set_other ws f k y w ne) ∙ e.1 k w far (omega (arith, short, long))),
-    )
-
--- Where no lexeme is left, no slot has a text.
-pub empty_all : (ws : List Waiting) (f l : ℕ) → f + 1 ≡ l → AreEmpty (f + 1) l ws → AreEmpty 0 0 ws
-empty_all ws f l last e = (
-  (λ k w lt. absurd (omega (arith, lt))),
-  (λ k w far short. elim (cases_lt k l) [
-    | inl near ↦ e.0 k w (omega (arith, last, near))
-    | inr past ↦ e.1 k w past short
-  ]),
-)
+-- a lexeme more stands behind the others, where the slot behind them is filled
+pub part_put : (xs : List Waiting) (f l : ℕ) (y : Waiting) (items : List Waiting)
+    → drop f (take l xs) ≡ items → f ≤ l → l < length xs
+    → drop f (take (l + 1) (set xs l y)) ≡ items ++ y ∷ []
+part_put xs f l y items is low lt =
+    ap (λ (n : ℕ). drop f (take n (set xs l y))) {x = l + 1} {y = suc l} (omega arith) ∙ ap (λ (zs : List Waiting). drop f zs) (put_last xs l y lt) ∙ drop-append-le f (take l xs) (y ∷ []) (omega (arith, low, length-take-le l xs (omega (arith, lt)))) ∙ ap (λ (zs : List Waiting). zs ++ y ∷ []) is
 
 -- what is no value is none
 pub none_left : {A : Type 0} (o : Option A) → ((x : A) → o ≡ Some x → ⊥) → o ≡ None

@@ -1,9 +1,11 @@
 -- What is kept of a lexeme that waits, and what a later `:` makes of it.
-use Rattle.std.specs.Prelude.{ℕ, Bool, true}
+use Rattle.std.specs.Prelude.{ℕ, ◌≡◌, ◌++◌, ◌∷◌, [], Bool, true, false, List}
 use Rattle.yaml_scan_model.specs.declared.record.yaml_mark_t.{yaml_mark_t}
 use Rattle.yaml_scan_model.specs.Tokens.{TokenBody, body_of}
 use Rattle.yaml_scan_history.specs.declared.lexeme.Opens.{Opens}
+use Rattle.yaml_scan_slot.specs.Slots.{body_in_slot}
 use Rattle.yaml_scan_queue.specs.declared.waiting.Waiting.{Waiting}
+use Rattle.yaml_scan_queue.specs.declared.waiting.ReadLexeme.{ReadLexeme}
 
 -- what a lexeme's tokens are made of
 pub record KeptLexeme : Type 0 where
@@ -21,9 +23,26 @@ kept_of w = record {
   ends = w.ends;
   opens = w.opens;
   key = w.key;
-  body = body_of w.body;
+  body = body_in_slot w.body;
 }
 
 -- It becomes a key, and opens that.
 abbrev pub keyed : Opens → Waiting → Waiting
 keyed opens w = record w { opens = opens; key = true }
+
+-- the same of a lexeme that was just read: its `:` hasn't come
+abbrev pub kept_in_read : ReadLexeme → KeptLexeme
+kept_in_read r = record {
+  start = r.start;
+  end = r.end;
+  ends = r.ends;
+  opens = r.opens;
+  key = false;
+  body = body_of r.body;
+}
+
+-- one lexeme more waits behind the others, of which that is kept
+pub record Pushes (old : List Waiting) (r : ReadLexeme) (new : List Waiting) : Type 0 where
+  pub waiting : Waiting
+  pub kept : kept_of waiting ≡ kept_in_read r
+  pub items : new ≡ old ++ waiting ∷ []

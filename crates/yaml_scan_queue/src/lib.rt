@@ -5,4 +5,4 @@ mod queue;
 mod waiting;
 
 pub use queue::Queue;
-pub use waiting::{Before, Waiting};
+pub use waiting::{Before, ReadLexeme, Waiting};

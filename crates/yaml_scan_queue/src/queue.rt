@@ -1,21 +1,22 @@
 //! The list of the lexemes that wait. It grows at its back alone.
 
 ghost use Rattle.std.specs.Prelude.{◌≡◌, ◌++◌, ◌∷◌, [], ◌<◌, ◌↔◌, OnOk, IfSome, IsSome, true, false, length, drop, slice_index_or, slice_set};
-ghost use Rattle.yaml_scan_model.specs.Tokens.{body_of};
-ghost use Rattle.yaml_scan_queue.specs.Bare.{is_bare, is_kind};
+ghost use Rattle.yaml_scan_slot.specs.Slots.{body_in_slot, extra_of};
+ghost use Rattle.yaml_scan_queue.specs.Bare.{is_kind};
 ghost use Rattle.yaml_scan_queue.specs.Hands.{Hands};
 ghost use Rattle.yaml_scan_queue.specs.Line.{Grows};
-ghost use Rattle.yaml_scan_queue.specs.Waits.{keyed};
+ghost use Rattle.yaml_scan_queue.specs.Waits.{Pushes, kept_of, kept_in_read, keyed};
 
-use crate::waiting::Waiting;
+use crate::waiting::{ReadLexeme, Waiting};
 use std::alloc::{AllocError, Global};
 use std::marker::Model;
 use std::mem;
 use yaml_scan_history::Opens;
-use yaml_scan_model::{mark_again, moved, yaml_token_body_t, yaml_token_t};
+use yaml_scan_model::{Spares, mark_again, moved, yaml_token_type_t};
+use yaml_scan_slot::{BodySlot, TokenSlot};
 
-/// A row of slots, of which those from `first` to `last` hold the lexemes that wait. The others are used again: the body
-/// of none of them has a text, but for an empty one without room, so that nothing is to be let go where one is filled.
+/// A row of slots, of which those from `first` to `last` hold the lexemes that wait. The others are used again. A text goes out of
+/// its slot with its token, so that mostly nothing is to be let go where a slot is filled.
 #[derive(Drop)]
 pub struct Queue {
     slots: Vec<Waiting>,
@@ -111,19 +112,20 @@ impl Queue {
             return Ok(());
         }
         self.slots.reserve(1)?;
-        self.slots.push_reserved(Waiting::blank());
+        let alloc = *self.slots.allocator();
+        self.slots.push_reserved(Waiting::blank(alloc));
         Ok(())
     }
 
     /// Puts a lexeme into the free slot.
     // Inlined: the lexeme is built in its slot.
     #[inline(always)]
-    pub fn push_back_reserved(&mut self, waiting: Waiting)
+    pub fn push_back_reserved(&mut self, read: ReadLexeme)
         requires { self.old.free ≡ true }
-        ensures items { self.new.items ≡ self.old.items ++ waiting ∷ [] }
+        ensures items { Pushes self.old.items read self.new.items }
         ensures slots { self.new.slots ≡ self.old.slots }
     {
-        put_waiting(&mut self.slots[self.last], waiting);
+        put_read(&mut self.slots[self.last], read);
         self.last += 1;
     }
 
@@ -140,15 +142,14 @@ impl Queue {
         None
     }
 
-    /// Hands out the next token of the first lexeme, of whose tokens so many were given, into a slot that holds no text:
-    /// whether it is the lexeme's own, with which the lexeme is taken.
+    /// Hands out the next token of the first lexeme, of whose tokens so many were given, into a slot: whether it is the lexeme's own,
+    /// with which the lexeme is taken. The room of the slot's earlier text is kept where a text comes in its place.
     // The lexeme is looked up once, and its marks are read where they lie: of one that was taken out they would be copied
     // with all that it has.
     // Inlined: it is called at one place, for each token.
     #[inline(always)]
-    pub fn pop_token(&mut self, given: usize, slot: &mut yaml_token_t) -> bool
-        requires some { 0 < length self.old.items }
-        requires bare { is_bare (body_of slot.old.body) ≡ true }
+    pub fn pop_token(&mut self, given: usize, slot: &mut TokenSlot, spares: &mut Spares) -> bool
+        requires { 0 < length self.old.items }
         ensures { (w : Waiting) → Hands given (slice_index_or self.old.items 0 w) self.old self.new
             slot.new result }
     {
@@ -157,11 +158,11 @@ impl Queue {
         slot.start_mark = mark_again(&first.start);
         if let Some(before) = first.before(given) {
             slot.end_mark = mark_again(&first.start);
-            put_body(&mut slot.body, before.body());
+            slot.body.kind = before.kind();
             return false;
         }
         slot.end_mark = mark_again(&first.end);
-        hand_out(&mut self.slots[at].body, &mut slot.body);
+        hand_out(&mut self.slots[at].body, &mut slot.body, spares);
         if at + 1 == self.last {
             self.first = 0;
             self.last = 0;
@@ -172,168 +173,140 @@ impl Queue {
     }
 }
 
-/// Moves a body to a place that holds no text, and leaves none there, or an empty one.
-// Of a bare kind the kind alone is written, and of a scalar its text is moved: a body that is read whole before its place
-// is emptied would go by way of the stack.
+/// Moves a body from one slot to another. The room of a text that the other one had is kept where a text comes in its place.
+// Of a bare kind that is all that is written.
 // Inlined: it is called at one place, for each token.
 #[inline(always)]
-fn hand_out(from: &mut yaml_token_body_t, to: &mut yaml_token_body_t)
-    requires { is_bare (body_of to.old) ≡ true }
-    ensures to { to.new ≡ from.old }
-    ensures from { is_bare (body_of from.new) ≡ true }
+fn hand_out(from: &mut BodySlot, to: &mut BodySlot, spares: &mut Spares)
+    ensures { body_in_slot to.new ≡ body_in_slot from.old }
 {
-    if is_kind(from) {
-        put_body(to, kind(from));
+    let kind = from.kind;
+    to.kind = kind;
+    if is_kind(kind) {
         return;
     }
-    match from {
-        yaml_token_body_t::Scalar { value, style } => {
-            let text = moved(value);
-            put_body(
-                to,
-                yaml_token_body_t::Scalar {
-                    value: text,
-                    style: *style,
-                },
-            );
+    match kind {
+        yaml_token_type_t::YAML_SCALAR_TOKEN => {
+            to.style = from.style;
+            hand_one(from, to, spares);
         }
-        _ => hand_out_name(from, to),
+        _ => hand_out_name(from, to, spares),
     }
 }
 
-/// Moves a body that is neither a kind nor a scalar to a place that holds no text, and leaves none there, or an empty one.
-// Out of line: mostly it is a kind or a scalar, and in line its arms would be asked for beside a scalar's, by one jump.
+/// Moves what a body that is neither of a bare kind nor a scalar carries, but its kind, from one slot to another.
+// Out of line: mostly it is of a bare kind or a scalar.
 #[inline(never)]
-fn hand_out_name(from: &mut yaml_token_body_t, to: &mut yaml_token_body_t)
-    requires { is_bare (body_of to.old) ≡ true }
-    ensures to { to.new ≡ from.old }
-    ensures from { is_bare (body_of from.new) ≡ true }
+fn hand_out_name(from: &mut BodySlot, to: &mut BodySlot, spares: &mut Spares)
+    requires { to.old.kind ≡ from.old.kind }
+    ensures { body_in_slot to.new ≡ body_in_slot from.old }
 {
-    match from {
-        yaml_token_body_t::Alias { value } => {
-            let text = moved(value);
-            put_body(to, yaml_token_body_t::Alias { value: text });
-        }
-        yaml_token_body_t::Anchor { value } => {
-            let text = moved(value);
-            put_body(to, yaml_token_body_t::Anchor { value: text });
-        }
-        yaml_token_body_t::Tag { handle, suffix } => {
-            let first = moved(handle);
-            let second = moved(suffix);
-            put_body(
-                to,
-                yaml_token_body_t::Tag {
-                    handle: first,
-                    suffix: second,
-                },
-            );
-        }
-        _ => exchange(from, to),
+    match from.kind {
+        yaml_token_type_t::YAML_ALIAS_TOKEN => hand_one(from, to, spares),
+        yaml_token_type_t::YAML_ANCHOR_TOKEN => hand_one(from, to, spares),
+        yaml_token_type_t::YAML_TAG_TOKEN => hand_both(from, to, spares),
+        _ => hand_out_rest(from, to, spares),
     }
 }
 
-/// Moves a body to a place that holds no text, and leaves none there.
+/// Moves what a body carries, but its kind, from one slot to another.
 // Out of line: mostly it is a name, or less.
 #[inline(never)]
-fn exchange(from: &mut yaml_token_body_t, to: &mut yaml_token_body_t)
-    requires { is_bare (body_of to.old) ≡ true }
-    ensures to { to.new ≡ from.old }
-    ensures from { is_bare (body_of from.new) ≡ true }
+fn hand_out_rest(from: &mut BodySlot, to: &mut BodySlot, spares: &mut Spares)
+    requires { to.old.kind ≡ from.old.kind }
+    ensures { body_in_slot to.new ≡ body_in_slot from.old }
 {
-    mem::swap(to, from);
-    put_body(from, yaml_token_body_t::No);
+    to.style = from.style;
+    to.encoding = from.encoding;
+    to.major = from.major;
+    to.minor = from.minor;
+    hand_both(from, to, spares);
 }
 
-/// Whether a body is a kind and nothing else.
+/// Moves the first text, and keeps the room of both that the other slot had.
+// Inlined: some moves.
+#[inline(always)]
+fn hand_one(from: &mut BodySlot, to: &mut BodySlot, spares: &mut Spares)
+    ensures text { to.new.text.items ≡ from.old.text.items }
+    ensures kind { to.new.kind ≡ to.old.kind }
+    ensures style { to.new.style ≡ to.old.style }
+{
+    hand_text(&mut from.text, &mut to.text, spares);
+    if to.other.capacity() != 0 {
+        give_back(&mut to.other, spares);
+    }
+}
+
+/// Moves both texts, and keeps the room of both that the other slot had.
+// Inlined: some moves.
+#[inline(always)]
+fn hand_both(from: &mut BodySlot, to: &mut BodySlot, spares: &mut Spares)
+    ensures text { to.new.text.items ≡ from.old.text.items }
+    ensures other { to.new.other.items ≡ from.old.other.items }
+    ensures kind { to.new.kind ≡ to.old.kind }
+    ensures extra { extra_of to.new ≡ extra_of to.old }
+{
+    hand_text(&mut from.text, &mut to.text, spares);
+    hand_text(&mut from.other, &mut to.other, spares);
+}
+
+/// Keeps the room of a text that is done with.
+// Out of line: mostly there is none.
+#[inline(never)]
+fn give_back(text: &mut Vec<u8>, spares: &mut Spares) {
+    spares.keep(moved(text));
+}
+
+/// Moves a text from one place to another, and keeps the room of the one that stood there.
+// Inlined: some moves.
+#[inline(always)]
+fn hand_text(from: &mut Vec<u8>, to: &mut Vec<u8>, spares: &mut Spares)
+    ensures { to.new.items ≡ from.old.items }
+{
+    spares.keep(mem::replace(to, moved(from)));
+}
+
+/// Whether a kind says all of its token.
 // Inlined: a comparison.
 #[inline(always)]
-fn is_kind(body: &yaml_token_body_t) -> bool
-    ensures { result ≡ is_kind (body_of body.now) }
+fn is_kind(kind: yaml_token_type_t) -> bool
+    ensures { result ≡ is_kind kind }
 {
-    match body {
-        yaml_token_body_t::DocumentStart => true,
-        yaml_token_body_t::DocumentEnd => true,
-        yaml_token_body_t::BlockSequenceStart => true,
-        yaml_token_body_t::BlockMappingStart => true,
-        yaml_token_body_t::BlockEnd => true,
-        yaml_token_body_t::FlowSequenceStart => true,
-        yaml_token_body_t::FlowSequenceEnd => true,
-        yaml_token_body_t::FlowMappingStart => true,
-        yaml_token_body_t::FlowMappingEnd => true,
-        yaml_token_body_t::BlockEntry => true,
-        yaml_token_body_t::FlowEntry => true,
-        yaml_token_body_t::Key => true,
-        yaml_token_body_t::Value => true,
+    match kind {
+        yaml_token_type_t::YAML_DOCUMENT_START_TOKEN => true,
+        yaml_token_type_t::YAML_DOCUMENT_END_TOKEN => true,
+        yaml_token_type_t::YAML_BLOCK_SEQUENCE_START_TOKEN => true,
+        yaml_token_type_t::YAML_BLOCK_MAPPING_START_TOKEN => true,
+        yaml_token_type_t::YAML_BLOCK_END_TOKEN => true,
+        yaml_token_type_t::YAML_FLOW_SEQUENCE_START_TOKEN => true,
+        yaml_token_type_t::YAML_FLOW_SEQUENCE_END_TOKEN => true,
+        yaml_token_type_t::YAML_FLOW_MAPPING_START_TOKEN => true,
+        yaml_token_type_t::YAML_FLOW_MAPPING_END_TOKEN => true,
+        yaml_token_type_t::YAML_BLOCK_ENTRY_TOKEN => true,
+        yaml_token_type_t::YAML_FLOW_ENTRY_TOKEN => true,
+        yaml_token_type_t::YAML_KEY_TOKEN => true,
+        yaml_token_type_t::YAML_VALUE_TOKEN => true,
         _ => false,
     }
 }
 
-/// A body that is a kind and nothing else, once more.
-// Inlined: it is the number of the kind.
-#[inline(always)]
-fn kind(body: &yaml_token_body_t) -> yaml_token_body_t
-    requires { is_kind (body_of body.now) ≡ true }
-    ensures { result ≡ body.now }
-{
-    match body {
-        yaml_token_body_t::DocumentStart => yaml_token_body_t::DocumentStart,
-        yaml_token_body_t::DocumentEnd => yaml_token_body_t::DocumentEnd,
-        yaml_token_body_t::BlockSequenceStart => yaml_token_body_t::BlockSequenceStart,
-        yaml_token_body_t::BlockMappingStart => yaml_token_body_t::BlockMappingStart,
-        yaml_token_body_t::BlockEnd => yaml_token_body_t::BlockEnd,
-        yaml_token_body_t::FlowSequenceStart => yaml_token_body_t::FlowSequenceStart,
-        yaml_token_body_t::FlowSequenceEnd => yaml_token_body_t::FlowSequenceEnd,
-        yaml_token_body_t::FlowMappingStart => yaml_token_body_t::FlowMappingStart,
-        yaml_token_body_t::FlowMappingEnd => yaml_token_body_t::FlowMappingEnd,
-        yaml_token_body_t::BlockEntry => yaml_token_body_t::BlockEntry,
-        yaml_token_body_t::FlowEntry => yaml_token_body_t::FlowEntry,
-        yaml_token_body_t::Key => yaml_token_body_t::Key,
-        yaml_token_body_t::Value => yaml_token_body_t::Value,
-        _ => yaml_token_body_t::No,
-    }
-}
-
-/// Puts a lexeme into a slot that holds no text, field by field: of one that is moved whole the gaps between the fields are
-/// set too.
+/// Puts a lexeme into a slot, field by field: of one that is moved whole the gaps between the fields are set too.
 // Inlined: some stores.
 #[inline(always)]
-fn put_waiting(slot: &mut Waiting, waiting: Waiting)
-    requires { is_bare (body_of slot.old.body) ≡ true }
-    ensures { slot.new ≡ waiting }
+fn put_read(slot: &mut Waiting, read: ReadLexeme)
+    ensures { kept_of slot.new ≡ kept_in_read read }
 {
-    let Waiting {
+    let ReadLexeme {
         start,
         end,
         ends,
         opens,
-        key,
         body,
-    } = waiting;
+    } = read;
     slot.start = mark_again(&start);
     slot.end = mark_again(&end);
     slot.ends = ends;
     slot.opens = opens;
-    slot.key = key;
-    put_body(&mut slot.body, body);
-}
-
-/// Puts a body to a place that holds no text.
-// No hint: what it calls is inlined into it first, and then it is small enough to be inlined anywhere. With one it would be
-// copied before that, and `replace` would stay a call.
-fn put_body(to: &mut yaml_token_body_t, body: yaml_token_body_t)
-    requires { is_bare (body_of to.old) ≡ true }
-    ensures { to.new ≡ body }
-{
-    forget_bare(mem::replace(to, body));
-}
-
-/// Lets go of a body without a text, or with an empty one that was left without room. It owns nothing: its drop would look
-/// at each kind of body.
-// Inlined: it does nothing.
-#[inline(always)]
-fn forget_bare(body: yaml_token_body_t)
-    requires { is_bare (body_of body) ≡ true }
-{
-    mem::forget(body);
+    slot.key = false;
+    slot.body.put(body);
 }

@@ -1,15 +1,16 @@
 //! The lexemes that wait, and the tokens that they are spelled out in.
 
-ghost use Rattle.std.specs.Prelude.{◌≡◌, ◌&&◌, ◌==◌, if◌then◌else◌, true, Some, None, option_map, ℕ};
-ghost use Rattle.yaml_scan_model.specs.Tokens.{body_of};
-ghost use Rattle.yaml_scan_queue.specs.Bare.{is_bare};
+ghost use Rattle.std.specs.Prelude.{◌≡◌, ◌&&◌, ◌==◌, if◌then◌else◌, true, Some, None, option_map, ℕ, List};
+ghost use Rattle.yaml_scan_slot.specs.Slots.{Extra, body_by};
 ghost use Rattle.yaml_scan_queue.specs.Front.{front_at, key_count, opens_number, start_at};
 ghost use Rattle.yaml_scan_model.specs.Tokens.{key};
 ghost use Rattle.yaml_scan_queue.specs.Fronted.{token_before};
 ghost use Rattle.yaml_scan_queue.specs.Waits.{kept_of, keyed};
 
+use std::alloc::Global;
 use yaml_scan_history::Opens;
-use yaml_scan_model::{yaml_mark_t, yaml_token_body_t};
+use yaml_scan_model::{yaml_mark_t, yaml_token_body_t, yaml_token_type_t};
+use yaml_scan_slot::BodySlot;
 
 /// A lexeme that was read and not yet taken: what its tokens are made of.
 #[derive(Drop)]
@@ -24,14 +25,26 @@ pub struct Waiting {
     /// Its `:` has come.
     pub key: bool,
     /// What its own token carries.
+    pub body: BodySlot,
+}
+
+/// A lexeme that was just read, before it waits. Its `:` hasn't come.
+#[derive(Drop)]
+pub struct ReadLexeme {
+    /// Its own token's marks.
+    pub start: yaml_mark_t,
+    pub end: yaml_mark_t,
+    /// How many block levels it closes.
+    pub ends: usize,
+    /// The level that it opens.
+    pub opens: Opens,
+    /// What its own token carries.
     pub body: yaml_token_body_t,
 }
 
 impl Waiting {
-    /// What a free slot of the list holds.
-    pub fn blank() -> Waiting
-        ensures { is_bare (body_of result.body) ≡ true }
-    {
+    /// What a new slot of the list holds.
+    pub fn blank(alloc: Global) -> Waiting {
         let zero = yaml_mark_t {
             index: 0,
             line: 0,
@@ -43,7 +56,7 @@ impl Waiting {
             ends: 0,
             opens: Opens::Nothing,
             key: false,
-            body: yaml_token_body_t::No,
+            body: BodySlot::empty(alloc),
         }
     }
 
@@ -82,15 +95,15 @@ pub enum Before {
 }
 
 impl Before {
-    /// That token.
-    pub fn body(self) -> yaml_token_body_t
-        ensures { body_of result ≡ token_before self }
+    /// That token's kind.
+    pub fn kind(self) -> yaml_token_type_t
+        ensures { (x y : List ℕ) → (e : Extra) → body_by result x y e ≡ token_before self }
     {
         match self {
-            Before::BlockEnd => yaml_token_body_t::BlockEnd,
-            Before::BlockSequenceStart => yaml_token_body_t::BlockSequenceStart,
-            Before::BlockMappingStart => yaml_token_body_t::BlockMappingStart,
-            Before::Key => yaml_token_body_t::Key,
+            Before::BlockEnd => yaml_token_type_t::YAML_BLOCK_END_TOKEN,
+            Before::BlockSequenceStart => yaml_token_type_t::YAML_BLOCK_SEQUENCE_START_TOKEN,
+            Before::BlockMappingStart => yaml_token_type_t::YAML_BLOCK_MAPPING_START_TOKEN,
+            Before::Key => yaml_token_type_t::YAML_KEY_TOKEN,
         }
     }
 }

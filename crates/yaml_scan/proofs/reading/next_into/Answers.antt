@@ -1,6 +1,6 @@
 use Rattle.std.proofs.Common.{subst, refl}
 use Rattle.yaml_scan_history.specs.Remaining.{Remaining}
-use Rattle.yaml_scan_model.specs.Tokens.{token_of}
+use Rattle.yaml_scan_slot.specs.Slots.{token_in_slot}
 use Rattle.yaml_scan_machine.specs.scan_laws_order.Fronts.{GivesFirst}
 use Rattle.yaml_scan_machine.specs.Left.{left_in}
 use Rattle.yaml_scan.proofs.FoundLemmas.{reads_both, reads_none}
@@ -15,7 +15,7 @@ take_token_into-requires-clause-ready c = c.in-Known.ensures.ready
 pub returns-in-Known : goal.returns-in-Known
 returns-in-Known c = record {
   stands = c.take_token_into.ensures.stands;
-  first = subst (λ (r : Remaining). GivesFirst r (token_of c.take_token_into.new.slot) (left_in c.take_token_into.new.self)) c.in-Known.ensures.left c.take_token_into.ensures.gives;
+  first = subst (λ (r : Remaining). GivesFirst r (token_in_slot c.take_token_into.new.slot) (left_in c.take_token_into.new.self)) c.in-Known.ensures.left c.take_token_into.ensures.gives;
   reads = reads_both c.args.machine.now c.read_on.new.machine c.take_token_into.new.self c.in-Known.ensures.left c.in-Known.ensures.reads (reads_none c.read_on.new.machine c.take_token_into.new.self c.take_token_into.ensures.keeps);
 }
 

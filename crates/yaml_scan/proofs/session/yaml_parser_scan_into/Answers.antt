@@ -1,5 +1,6 @@
 use Rattle.std.proofs.Common.{sym, refl, ◌∙◌, true}
 use Rattle.yaml_scan_model.specs.Tokens.{token_of}
+use Rattle.yaml_scan_slot.specs.Slots.{token_in_slot}
 use Rattle.yaml_scan_model.specs.Rooms.{rooms_of}
 use Rattle.yaml_scan_model.proofs.RoomsLemmas.{few_kept}
 use Rattle.yaml_scan.proofs.SessionLemmas.{none_some, takes_over, takes_held, takes_own, takes_none, refuses, whole_taken, whole_idle, whole_refused}
@@ -8,7 +9,7 @@ use Rattle.yaml_scan.proofs.session.yaml_parser_scan_into.Goals as goal
 pub returns-then-is_some-clause-scans : goal.returns-then-is_some-clause-scans
 returns-then-is_some-clause-scans c =
     let s = c.parser.inside in
-    rw (← c.parser.view_is) (takes_over (rooms_of s.spares) (rooms_of s.spares) s.fault s.aside (token_of s.shown) (token_of c.put_empty.new.slot) s.machine (sym c.is_some.ensures ∙ c.if-is_some.true) c.put_empty.ensures)
+    rw (← c.parser.view_is) (takes_over (rooms_of s.spares) (rooms_of s.spares) s.fault s.aside (token_of s.shown) (token_in_slot c.put_empty.new.slot) s.machine (sym c.is_some.ensures ∙ c.if-is_some.true) c.put_empty.ensures)
 
 pub invariant_of-parser : goal.invariant_of-parser
 invariant_of-parser c =
@@ -20,14 +21,14 @@ returns-then-parser-clause-scans c =
     let s = c.parser.inside in
     rw (← c.parser.view_is, c.put_shown.ensures.given) (takes_held (rooms_of s.spares) (rooms_of s.spares) s.fault s.aside (token_of s.shown) (token_of c.put_shown.new.shown) s.machine (sym c.is_some.ensures ∙ c.if-is_some.false) c.if-parser.true)
 
-pub next_into-requires-clause-stands : goal.next_into-requires-clause-stands
-next_into-requires-clause-stands c = c.parser.invariant.machine (c.parser.invariant.free c.if-parser.false)
+pub next_into-requires : goal.next_into-requires
+next_into-requires c = c.parser.invariant.machine (c.parser.invariant.free c.if-parser.false)
 
 pub returns-in-Known-clause-scans : goal.returns-in-Known-clause-scans
 returns-in-Known-clause-scans c =
     let s = c.parser.inside in
     let n = c.next_into.new.machine in
-    rw (← c.parser.view_is) (takes_own (rooms_of s.spares) (rooms_of c.next_into.new.spares) s.fault s.aside (token_of s.shown) (token_of c.next_into.new.token) s.machine n (none_some s.fault (c.parser.invariant.free c.if-parser.false)) c.if-parser.false c.in-Known.ensures)
+    rw (← c.parser.view_is) (takes_own (rooms_of s.spares) (rooms_of c.next_into.new.spares) s.fault s.aside (token_of s.shown) (token_in_slot c.next_into.new.token) s.machine n (none_some s.fault (c.parser.invariant.free c.if-parser.false)) c.if-parser.false c.in-Known.ensures)
 
 pub invariant_of-parser-in-Known : goal.invariant_of-parser-in-Known
 invariant_of-parser-in-Known c =
@@ -38,7 +39,7 @@ pub returns-in-Nothing-clause-scans : goal.returns-in-Nothing-clause-scans
 returns-in-Nothing-clause-scans c =
     let s = c.parser.inside in
     let n = c.next_into.new.machine in
-    rw (← c.parser.view_is) (takes_none (rooms_of s.spares) (rooms_of c.next_into.new.spares) s.fault s.aside (token_of s.shown) (token_of c.next_into.new.token) s.machine n (none_some s.fault (c.parser.invariant.free c.if-parser.false)) c.if-parser.false c.in-Nothing.ensures)
+    rw (← c.parser.view_is) (takes_none (rooms_of s.spares) (rooms_of c.next_into.new.spares) s.fault s.aside (token_of s.shown) (token_in_slot c.next_into.new.token) s.machine n (none_some s.fault (c.parser.invariant.free c.if-parser.false)) c.if-parser.false c.in-Nothing.ensures)
 
 pub invariant_of-parser-in-Nothing : goal.invariant_of-parser-in-Nothing
 invariant_of-parser-in-Nothing c =

@@ -14,7 +14,7 @@ pub returns-then-parser-clause-rest : goal.returns-then-parser-clause-rest
 returns-then-parser-clause-rest c =
     let s = c.parser.inside in
     let ready = ap (λ (v : View). is_settled v) c.parser.view_is ∙ c.requires in
-    rw (← c.parser.view_is) (left_held s.fault s.aside (token_of s.shown) (token_of c.put_over.new.slot) (left_in s.machine) (ready_fault s.machine s.fault (token_of s.shown) s.aside ready) c.if-parser.true)
+    rw (← c.parser.view_is) (left_held s.fault s.aside (token_of s.shown) (token_of c.put_over.new.place) (left_in s.machine) (ready_fault s.machine s.fault (token_of s.shown) s.aside ready) c.if-parser.true)
 
 pub take_token-requires-clause-stands : goal.take_token-requires-clause-stands
 take_token-requires-clause-stands c =
@@ -38,7 +38,7 @@ pub invariant_of-parser : goal.invariant_of-parser
 invariant_of-parser c =
     let s = c.parser.inside in
     let ready = ap (λ (v : View). is_settled v) c.parser.view_is ∙ c.requires in
-    whole_idle s.fault s.aside s.machine s.shown c.put_over.new.slot (none_some s.fault (ready_fault s.machine s.fault (token_of s.shown) s.aside ready)) c.parser.invariant (ap (λ (t : yaml_token_t). token_of t) c.put_over.ensures ∙ c.empty.ensures)
+    whole_idle s.fault s.aside s.machine s.shown c.put_over.new.place (none_some s.fault (ready_fault s.machine s.fault (token_of s.shown) s.aside ready)) c.parser.invariant (ap (λ (t : yaml_token_t). token_of t) c.put_over.ensures ∙ c.empty.ensures)
 
 pub invariant_of-parser-2 : goal.invariant_of-parser-2
 invariant_of-parser-2 c =
@@ -55,15 +55,15 @@ pub returns-then-parser-clause-few : goal.returns-then-parser-clause-few
 returns-then-parser-clause-few c = (c.parser.invariant.short, few_kept c.parser.inside.spares)
 
 pub returns-clause-few : goal.returns-clause-few
-returns-clause-few c = (c.take_token.ensures.stands.short, few_kept c.parser.inside.spares)
+returns-clause-few c = (c.take_token.ensures.stands.short, few_kept c.take_token.new.spares)
 
 pub returns-then-parser-clause-reads : goal.returns-then-parser-clause-reads
 returns-then-parser-clause-reads c =
     let s = c.parser.inside in
-    rw (← c.parser.view_is) (same_reads (view_by s.machine s.fault (token_of s.shown) s.aside (rooms_of s.spares)) (view_by s.machine s.fault (token_of c.put_over.new.slot) false (rooms_of s.spares)) refl refl refl)
+    rw (← c.parser.view_is) (same_reads (view_by s.machine s.fault (token_of s.shown) s.aside (rooms_of s.spares)) (view_by s.machine s.fault (token_of c.put_over.new.place) false (rooms_of s.spares)) refl refl refl)
 
 pub returns-clause-reads : goal.returns-clause-reads
 returns-clause-reads c =
     let s = c.parser.inside in
     let ready = ap (λ (v : View). is_settled v) c.parser.view_is ∙ c.requires in
-    rw (← c.parser.view_is) (own_reads (rooms_of s.spares) (rooms_of s.spares) s.fault s.fault s.aside s.aside (token_of s.shown) (token_of s.shown) s.machine c.take_token.new.self (none_some s.fault (ready_fault s.machine s.fault (token_of s.shown) s.aside ready)) c.if-parser.false (reads_none s.machine c.take_token.new.self c.take_token.ensures.keeps))
+    rw (← c.parser.view_is) (own_reads (rooms_of s.spares) (rooms_of c.take_token.new.spares) s.fault s.fault s.aside s.aside (token_of s.shown) (token_of s.shown) s.machine c.take_token.new.self (none_some s.fault (ready_fault s.machine s.fault (token_of s.shown) s.aside ready)) c.if-parser.false (reads_none s.machine c.take_token.new.self c.take_token.ensures.keeps))

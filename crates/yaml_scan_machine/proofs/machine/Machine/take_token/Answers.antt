@@ -1,7 +1,8 @@
-use Rattle.std.proofs.Common.{ap}
+use Rattle.std.proofs.Common.{sym, subst}
 use Rattle.yaml_scan_model.specs.Tokens.{Token}
-use Rattle.yaml_scan_queue.specs.Bare.{is_bare}
+use Rattle.yaml_scan_laws_order.specs.Fronts.{GivesFirst}
+use Rattle.yaml_scan_machine.specs.Left.{left_in}
 use Rattle.yaml_scan_machine.proofs.machine.Machine.take_token.Goals as goal
 
-pub take_token_into-requires-clause-bare : goal.take_token_into-requires-clause-bare
-take_token_into-requires-clause-bare c = ap (λ (t : Token). is_bare t.body) c.empty-token.ensures
+pub returns-clause-gives : goal.returns-clause-gives
+returns-clause-gives c = subst (λ (t : Token). GivesFirst (left_in c.args.self.now) t (left_in c.take_token_into.new.self)) (sym c.take.ensures) c.take_token_into.ensures.gives

@@ -1,7 +1,8 @@
 use Rattle.std.proofs.Common.{◌≡◌, Bool, List, [], ◌∷◌, sym, ap, subst, ◌∙◌, arith, ◌+◌, length, get_or, Some, true, refl}
 use Rattle.std.specs.Prelude.{map}
 use Rattle.yaml_scan_decode.specs.DecodedText.{text_bytes}
-use Rattle.yaml_scan_model.specs.Tokens.{Token, TokenBody, body_of, token_of}
+use Rattle.yaml_scan_model.specs.Tokens.{Token, TokenBody}
+use Rattle.yaml_scan_slot.specs.Slots.{body_in_slot, token_in_slot}
 use Rattle.yaml_scan_history.specs.Remaining.{remaining}
 use Rattle.yaml_scan_laws_order.specs.Fronts.{GivesFirst}
 use Rattle.yaml_scan_machine.specs.Left.{left_in}
@@ -19,8 +20,8 @@ use Rattle.yaml_scan_machine.proofs.TakeLemmas.{first_waits, popped_waits, gives
 use Rattle.yaml_scan_machine.proofs.ComesLemmas.{left_gives, ready_started}
 use Rattle.yaml_scan_machine.proofs.machine.Machine.take_token_into.Goals as goal
 
-pub pop_token-requires-clause-some : goal.pop_token-requires-clause-some
-pop_token-requires-clause-some c =
+pub pop_token-requires : goal.pop_token-requires
+pop_token-requires c =
     let m = c.args.self.now in
     let (front, rest, items) = first_waits m.dropped m.settled m.given m.waiting.items c.requires.ready in
     let len : length m.waiting.items ≡ length rest + 1 = ap (λ (ws : List Waiting). length ws) items ∙ omega arith in
@@ -33,7 +34,7 @@ overflow_add-self-else-pop_token c =
     let here : get_or m.waiting.items 0 front ≡ front = ap (λ (ws : List Waiting). get_or ws 0 front) items in
     let first : Hands m.given front m.waiting c.pop_token.new.self c.pop_token.new.slot c.pop_token.result = subst (λ (w : Waiting). Hands m.given w m.waiting c.pop_token.new.self c.pop_token.new.slot c.pop_token.result) here (c.pop_token.ensures front) in
     let hands : IsInFront m.given front m.waiting c.pop_token.new.self c.pop_token.new.slot = subst (λ (b : Bool). Hands m.given front m.waiting c.pop_token.new.self c.pop_token.new.slot b) c.if-pop_token.false first in
-    let room = given_room m front rest (body_of c.pop_token.new.slot.body) c.requires.stands items hands.some in
+    let room = given_room m front rest (body_in_slot c.pop_token.new.slot.body) c.requires.stands items hands.some in
     omega (arith, room)
 
 pub returns-else-pop_token-clause-stands : goal.returns-else-pop_token-clause-stands
@@ -43,7 +44,7 @@ returns-else-pop_token-clause-stands c =
     let here : get_or m.waiting.items 0 front ≡ front = ap (λ (ws : List Waiting). get_or ws 0 front) items in
     let first : Hands m.given front m.waiting c.pop_token.new.self c.pop_token.new.slot c.pop_token.result = subst (λ (w : Waiting). Hands m.given w m.waiting c.pop_token.new.self c.pop_token.new.slot c.pop_token.result) here (c.pop_token.ensures front) in
     let hands : IsInFront m.given front m.waiting c.pop_token.new.self c.pop_token.new.slot = subst (λ (b : Bool). Hands m.given front m.waiting c.pop_token.new.self c.pop_token.new.slot b) c.if-pop_token.false first in
-    subst (λ (q : Line). IsMachine record m { waiting = q; given = m.given + 1 }) (sym hands.same) (stands_more m front rest (body_of c.pop_token.new.slot.body) c.requires.stands items c.requires.ready hands.some)
+    subst (λ (q : Line). IsMachine record m { waiting = q; given = m.given + 1 }) (sym hands.same) (stands_more m front rest (body_in_slot c.pop_token.new.slot.body) c.requires.stands items c.requires.ready hands.some)
 
 pub returns-else-pop_token-clause-gives : goal.returns-else-pop_token-clause-gives
 returns-else-pop_token-clause-gives c =
@@ -52,13 +53,13 @@ returns-else-pop_token-clause-gives c =
     let here : get_or m.waiting.items 0 front ≡ front = ap (λ (ws : List Waiting). get_or ws 0 front) items in
     let first : Hands m.given front m.waiting c.pop_token.new.self c.pop_token.new.slot c.pop_token.result = subst (λ (w : Waiting). Hands m.given w m.waiting c.pop_token.new.self c.pop_token.new.slot c.pop_token.result) here (c.pop_token.ensures front) in
     let hands : IsInFront m.given front m.waiting c.pop_token.new.self c.pop_token.new.slot = subst (λ (b : Bool). Hands m.given front m.waiting c.pop_token.new.self c.pop_token.new.slot b) c.if-pop_token.false first in
-    let b = body_of c.pop_token.new.slot.body in
+    let b = body_in_slot c.pop_token.new.slot.body in
     let (tokens, fault) = gives_front m front rest b c.requires.stands items c.requires.ready hands.some in
     let on = ready_started m c.requires.stands c.requires.ready in
     let t = fronted (own_token (kept_of front)) (Some b) in
-    let is : token_of c.pop_token.new.slot ≡ t = rw (hands.start, hands.end) refl in
+    let is : token_in_slot c.pop_token.new.slot ≡ t = rw (hands.start, hands.end) refl in
     let gives : GivesFirst (left_in m) t (left_in record m { given = m.given + 1 }) = left_gives m record m { given = m.given + 1 } t on on (tokens, fault) in
-    subst (λ (q : Line). GivesFirst (left_in m) (token_of c.pop_token.new.slot) (left_in record m { waiting = q; given = m.given + 1 })) (sym hands.same) (subst (λ (t : Token). GivesFirst (left_in m) t (left_in record m { given = m.given + 1 })) (sym is) gives)
+    subst (λ (q : Line). GivesFirst (left_in m) (token_in_slot c.pop_token.new.slot) (left_in record m { waiting = q; given = m.given + 1 })) (sym hands.same) (subst (λ (t : Token). GivesFirst (left_in m) t (left_in record m { given = m.given + 1 })) (sym is) gives)
 
 pub returns-then-pop_token-clause-stands : goal.returns-then-pop_token-clause-stands
 returns-then-pop_token-clause-stands c =
@@ -105,11 +106,11 @@ returns-then-pop_token-clause-gives c =
     let ready : ready_in m.dropped m.settled m.given (front ∷ rest) ≡ true = ap (λ (ws : List Waiting). ready_in m.dropped m.settled m.given ws) (sym items) ∙ c.requires.ready in
     let low = own_settled m.dropped m.settled m.given front rest ready none in
     let given : TokenBody → Token = λ b. record { body = b; start_mark = front.start; end_mark = front.end } in
-    let own : own_token (kept_of front) ≡ given (body_of c.pop_token.new.slot.body) = ap given (ap body_of (sym hands.body)) in
-    let is : token_of c.pop_token.new.slot ≡ given (body_of c.pop_token.new.slot.body) = rw (hands.start, hands.end) refl in
+    let own : own_token (kept_of front) ≡ given (body_in_slot c.pop_token.new.slot.body) = ap given (sym hands.body) in
+    let is : token_in_slot c.pop_token.new.slot ≡ given (body_in_slot c.pop_token.new.slot.body) = rw (hands.start, hands.end) refl in
     let (tokens, fault) = gives_own m front rest c.requires.stands items low none in
     let on = ready_started m c.requires.stands c.requires.ready in
-    left_gives m record m { waiting = c.pop_token.new.self; dropped = m.dropped + 1; given = 0 } (token_of c.pop_token.new.slot) on on (tokens ∙ ap (λ (t : Token). t ∷ (remaining (stream_of m) (m.dropped + 1) 0).tokens) (own ∙ sym is), fault)
+    left_gives m record m { waiting = c.pop_token.new.self; dropped = m.dropped + 1; given = 0 } (token_in_slot c.pop_token.new.slot) on on (tokens ∙ ap (λ (t : Token). t ∷ (remaining (stream_of m) (m.dropped + 1) 0).tokens) (own ∙ sym is), fault)
 
 pub returns-else-pop_token-clause-keeps : goal.returns-else-pop_token-clause-keeps
 returns-else-pop_token-clause-keeps c =

@@ -2,7 +2,7 @@ use Rattle.std.proofs.Common.{◌≡◌, ap, ◌∙◌, ◌-◌, List, [], ◌�
 use Rattle.std.proofs.lemmas.List.{length_push}
 use Rattle.yaml_scan_queue.specs.Line.{Line}
 use Rattle.yaml_scan_queue.specs.declared.waiting.Waiting.{Waiting}
-use Rattle.yaml_scan_queue.proofs.QueueLemmas.{part_turn, empty_grow}
+use Rattle.yaml_scan_queue.proofs.QueueLemmas.{part_turn}
 use Rattle.yaml_scan_queue.proofs.queue.Queue.grow.Goals as goal
 
 pub returns-then-self-clause-items : goal.returns-then-self-clause-items
@@ -17,5 +17,4 @@ invariant_of-self-2 c =
     record {
       first = c.self.invariant.first;
       last = omega (arith, c.self.invariant.last, ap (λ (ws : List Waiting). length ws) is, length_push q.slots.items c.blank.result);
-      empty = empty_grow q.slots.items c.push_reserved.new.self.items q.first q.last c.blank.result is c.self.invariant.first c.self.invariant.last c.blank.ensures c.self.invariant.empty;
     }

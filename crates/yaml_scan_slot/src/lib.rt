@@ -1,0 +1,6 @@
+//! Slots in which tokens stand: flat, so that one of a bare kind is a byte that is written.
+#![tactic(auto)]
+
+mod slot;
+
+pub use slot::{BodySlot, TokenSlot};

@@ -1,5 +1,8 @@
--- The characters that have a meaning of their own, by name.
+-- The characters that have a meaning of their own, by name, and letters of escapes.
 use Rattle.std.specs.Prelude.{ℕ}
+
+abbrev pub backspace : ℕ
+backspace = 8
 
 abbrev pub tab : ℕ
 tab = 9
@@ -58,6 +61,9 @@ dot = 46
 abbrev pub slash : ℕ
 slash = 47
 
+abbrev pub digit_zero : ℕ
+digit_zero = 48
+
 abbrev pub colon : ℕ
 colon = 58
 
@@ -93,6 +99,18 @@ underscore = 95
 
 abbrev pub grave : ℕ
 grave = 96
+
+abbrev pub small_b : ℕ
+small_b = 98
+
+abbrev pub small_n : ℕ
+small_n = 110
+
+abbrev pub small_r : ℕ
+small_r = 114
+
+abbrev pub small_t : ℕ
+small_t = 116
 
 abbrev pub open_brace : ℕ
 open_brace = 123

@@ -144,7 +144,8 @@ fn kept_length(text: &[u8]) -> usize
     count
 }
 
-// Puts the kept bytes in front, and the byte behind them; the answer is the rest.
+// Puts the kept bytes in front, and the byte behind them; the answer is the rest. Where none is kept, as in an empty line, no copy is
+// called.
 fn put_run<'a>(line: &mut Vec<u8>, left: &'a [u8]) -> &'a [u8]
     requires some { 0 < length left.now }
     requires room { vec_len line.old + 2 * length left.now ≤ vec_capacity line.old }
@@ -154,6 +155,10 @@ fn put_run<'a>(line: &mut Vec<u8>, left: &'a [u8]) -> &'a [u8]
         + 2 * length left.now }
     ensures room { vec_capacity line.old ≤ vec_capacity line.new }
 {
+    if !is_kept(left[0]) {
+        put_byte(line, left[0]);
+        return &left[1..];
+    }
     let count = kept_length(left);
     put_many(line, &left[..count]);
     if count == left.len() {

@@ -6,8 +6,10 @@ ghost use Rattle.yaml_round_lines.specs.EventLine.{escaped_byte, escaped};
 
 use yaml_scan_model::{SHORT, put_many};
 
-// So many bytes are looked at together; the kept bytes of a shorter text are counted byte by byte.
+// So many bytes are looked at together, and then half as many; the kept bytes of a shorter text are counted byte by byte.
 const CHUNK: usize = 16;
+
+const HALF: usize = 8;
 
 // Puts a backslash and a letter.
 fn put_escape(line: &mut Vec<u8>, indicator: u8)
@@ -129,12 +131,35 @@ fn kept_chunks(text: &[u8]) -> usize
     count
 }
 
+// Whether half a chunk stands there, of kept bytes alone.
+// Inlined: see `is_kept_run`.
+#[inline(always)]
+fn is_kept_half(text: &[u8], at: usize) -> bool
+    requires { at ≤ length text.now }
+    ensures { result ≡ true → (at + HALF ≤ length text.now) × (kept_run HALF text.now at ≡ true) }
+{
+    text.len() - at >= HALF && is_kept_run(text, at, HALF)
+}
+
+// The same, and half a chunk more where it is kept: so fewer bytes are looked at one by one.
+fn kept_halves(text: &[u8]) -> usize
+    ensures kept { escaped (take result text.now) ≡ take result text.now }
+    ensures inside { result ≤ length text.now }
+{
+    let count = kept_chunks(text);
+    if is_kept_half(text, count) {
+        count + HALF
+    } else {
+        count
+    }
+}
+
 // How many bytes in front are kept.
 fn kept_length(text: &[u8]) -> usize
     ensures kept { escaped (take result text.now) ≡ take result text.now }
     ensures inside { result ≤ length text.now }
 {
-    let mut count = kept_chunks(text);
+    let mut count = kept_halves(text);
     'bytes: while count < text.len() {
         if !is_kept(text[count]) {
             return count;

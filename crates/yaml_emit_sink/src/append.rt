@@ -9,7 +9,7 @@ use crate::bytes::bytes_of;
 use crate::cursor::{Cursor, Status};
 use crate::settings::Encoding;
 use std::alloc::AllocError;
-use yaml_types::{push_each, push_near};
+use yaml_types::{put_each, put_near};
 
 // These bytes, as far as the limit and the memory allow, and what becomes of the output.
 pub(crate) fn append(output: &mut Vec<u8>, limit: u64, bytes: &[u8]) -> Status
@@ -55,8 +55,8 @@ fn append_byte(output: &mut Vec<u8>, limit: u64, byte: u8) -> Status
     }
 }
 
-// So many spaces more.
-fn extend_blanks(output: &mut Vec<u8>, count: usize) -> Result<(), AllocError>
+// So many spaces more; refused, the output stays as it is.
+fn push_blanks(output: &mut Vec<u8>, count: usize) -> Result<(), AllocError>
     requires { length output.old.items + count < 2 ^ 64 }
     ensures room { vec_capacity output.old ≤ vec_capacity output.new }
     ensures ok { OnOk result (output.new.items ≡ output.old.items ++ replicate count 32) }
@@ -78,12 +78,12 @@ pub(crate) fn append_blanks(output: &mut Vec<u8>, limit: u64, count: u64) -> Sta
 {
     let room = limit - output.len() as u64;
     if count <= room {
-        match extend_blanks(output, count as usize) {
+        match push_blanks(output, count as usize) {
             Ok(()) => Status::Going,
             Err(_) => Status::Starved,
         }
     } else {
-        match extend_blanks(output, room as usize) {
+        match push_blanks(output, room as usize) {
             Ok(()) => Status::Full,
             Err(_) => Status::Starved,
         }
@@ -93,34 +93,34 @@ pub(crate) fn append_blanks(output: &mut Vec<u8>, limit: u64, count: u64) -> Sta
 // A line feed and few spaces.
 const LINE: [u8; 9] = *b"\n        ";
 
-// The most spaces that are appended at once behind a line feed.
+// The most spaces that are put at once behind a line feed.
 const BLANKS: [u8; 128] = [b' '; 128];
 
 // A line feed and many spaces, for which there is room.
-fn append_deep(output: &mut Vec<u8>, count: u64)
+fn put_deep_line(output: &mut Vec<u8>, count: u64)
     requires inside { vec_len output.old + (1 + count) ≤ vec_capacity output.old }
     requires few { count ≤ 128 }
     ensures items { output.new.items ≡ output.old.items ++ 10 ∷ replicate count 32 }
     ensures room { vec_capacity output.old ≤ vec_capacity output.new }
 {
     output.push_reserved(b'\n');
-    push_near(output, &BLANKS[..count as usize]);
+    put_near(output, &BLANKS[..count as usize]);
 }
 
 // A line feed and so many spaces, for which there is room: the numbers that are met most are known one by one.
-pub(crate) fn append_line(output: &mut Vec<u8>, count: u64)
+pub(crate) fn put_fresh_line(output: &mut Vec<u8>, count: u64)
     requires inside { vec_len output.old + (1 + count) ≤ vec_capacity output.old }
     requires few { count ≤ 128 }
     ensures items { output.new.items ≡ output.old.items ++ 10 ∷ replicate count 32 }
     ensures room { vec_capacity output.old ≤ vec_capacity output.new }
 {
     match count {
-        0 => push_each(output, &LINE[..1]),
-        2 => push_each(output, &LINE[..3]),
-        4 => push_each(output, &LINE[..5]),
-        6 => push_each(output, &LINE[..7]),
-        8 => push_each(output, &LINE[..9]),
-        _ => append_deep(output, count),
+        0 => put_each(output, &LINE[..1]),
+        2 => put_each(output, &LINE[..3]),
+        4 => put_each(output, &LINE[..5]),
+        6 => put_each(output, &LINE[..7]),
+        8 => put_each(output, &LINE[..9]),
+        _ => put_deep_line(output, count),
     }
 }
 

@@ -5,7 +5,6 @@ mod append;
 mod bytes;
 mod cursor;
 mod hex;
-mod joined;
 mod laws;
 mod narrow;
 mod settings;

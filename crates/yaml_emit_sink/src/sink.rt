@@ -6,15 +6,15 @@ ghost use Rattle.std.specs.Vec.{vec_capacity};
 mod around;
 
 use crate::append::{
-    append, append_blanks, append_char, append_line, blanked, byte_of, indented, is_roomy,
-    lettered, moved,
+    append, append_blanks, append_char, blanked, byte_of, indented, is_roomy, lettered, moved,
+    put_fresh_line,
 };
 use crate::cursor::{Cursor, Status};
 use crate::narrow::is_long_ascii;
 use crate::settings::{Encoding, LineBreak};
 use std::alloc::{AllocError, Global};
 use std::marker::Model;
-use yaml_types::{push_each, push_near};
+use yaml_types::{put_each, put_near};
 
 /// An output: bytes up to a limit, the cursor, and whether it goes on. Once it has stopped, nothing more is written, and it
 /// stays stopped.
@@ -319,7 +319,7 @@ impl Sink {
             return;
         }
         if has_room(&self.output, self.fast_limit, text.len() as u64) {
-            push_near(&mut self.output, text);
+            put_near(&mut self.output, text);
             lettered(&mut self.cursor, text.len() as u64);
         } else {
             self.put_far(text);
@@ -401,7 +401,7 @@ impl Sink {
         ensures { Puts self.old self.new (letters text.now) }
     {
         if has_room(&self.output, self.fast_limit, text.len() as u64) {
-            push_each(&mut self.output, text);
+            put_each(&mut self.output, text);
             lettered(&mut self.cursor, text.len() as u64);
         } else {
             self.put_far(text);
@@ -472,7 +472,7 @@ impl Sink {
         ensures { Puts self.old self.new (fresh line_break indent) }
     {
         if is_brief(&self.output, self.fast_limit, line_break, indent) {
-            append_line(&mut self.output, indent);
+            put_fresh_line(&mut self.output, indent);
             indented(&mut self.cursor, indent);
         } else {
             self.put_long_line(line_break, indent);

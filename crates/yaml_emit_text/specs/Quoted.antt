@@ -22,21 +22,21 @@ needs_escape unicode c =
 -- the letter that stands for a character behind a backslash, or 0
 unfoldable pub escape_letter : ℕ → ℕ
 escape_letter c =
-    if c == 0x00 then 48
-    else if c == 0x07 then 97
-    else if c == 0x08 then 98
-    else if c == 0x09 then 116
-    else if c == 0x0A then 110
-    else if c == 0x0B then 118
-    else if c == 0x0C then 102
-    else if c == 0x0D then 114
-    else if c == 0x1B then 101
+    if c == ascii.null then ascii.digit_zero
+    else if c == ascii.bell then ascii.small_a
+    else if c == ascii.backspace then ascii.small_b
+    else if c == ascii.tab then ascii.small_t
+    else if c == ascii.line_feed then ascii.small_n
+    else if c == ascii.vertical_tab then ascii.small_v
+    else if c == ascii.form_feed then ascii.small_f
+    else if c == ascii.carriage_return then ascii.small_r
+    else if c == ascii.escape then ascii.small_e
     else if c == ascii.quote then ascii.quote
     else if c == ascii.backslash then ascii.backslash
-    else if c == 0x85 then 78
-    else if c == 0xA0 then 95
-    else if c == 0x2028 then 76
-    else if c == 0x2029 then 80
+    else if c == 0x85 then ascii.capital_n
+    else if c == 0xA0 then ascii.underscore
+    else if c == 0x2028 then ascii.capital_l
+    else if c == 0x2029 then ascii.capital_p
     else 0
 
 abbrev pub hex_4 : ℕ → List ℕ
@@ -49,9 +49,9 @@ hex_8 n = hex_4 (n / 0x1_0000) ++ hex_4 (n % 0x1_0000)
 unfoldable pub escape_text : ℕ → List ℕ
 escape_text c =
     if not (escape_letter c == 0) then ascii.backslash ∷ escape_letter c ∷ []
-    else if nat_lt c 0x100 then ascii.backslash ∷ 120 ∷ hex_2 c
-    else if nat_lt c 0x1_0000 then ascii.backslash ∷ 117 ∷ hex_4 c
-    else ascii.backslash ∷ 85 ∷ hex_8 c
+    else if nat_lt c 0x100 then ascii.backslash ∷ ascii.small_x ∷ hex_2 c
+    else if nat_lt c 0x1_0000 then ascii.backslash ∷ ascii.small_u ∷ hex_4 c
+    else ascii.backslash ∷ ascii.capital_u ∷ hex_8 c
 
 -- the first character, 0 at the end
 abbrev pub first : List ℕ → ℕ

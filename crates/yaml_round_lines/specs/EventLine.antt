@@ -11,11 +11,11 @@ use Rattle.yaml_parse_model.specs.Events as event
 unfoldable pub escaped_byte : ℕ → List ℕ
 escaped_byte b =
     if b == ascii.backslash then ascii.backslash ∷ ascii.backslash ∷ []
-    else if b == 0 then ascii.backslash ∷ 48 ∷ []
-    else if b == 8 then ascii.backslash ∷ 98 ∷ []
-    else if b == ascii.tab then ascii.backslash ∷ 116 ∷ []
-    else if b == ascii.line_feed then ascii.backslash ∷ 110 ∷ []
-    else if b == ascii.carriage_return then ascii.backslash ∷ 114 ∷ []
+    else if b == 0 then ascii.backslash ∷ ascii.digit_zero ∷ []
+    else if b == ascii.backspace then ascii.backslash ∷ ascii.small_b ∷ []
+    else if b == ascii.tab then ascii.backslash ∷ ascii.small_t ∷ []
+    else if b == ascii.line_feed then ascii.backslash ∷ ascii.small_n ∷ []
+    else if b == ascii.carriage_return then ascii.backslash ∷ ascii.small_r ∷ []
     else b ∷ []
 
 abbrev pub escaped : List ℕ → List ℕ

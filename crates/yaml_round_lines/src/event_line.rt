@@ -1,18 +1,24 @@
 //! The line that tells an event.
 
-ghost use Rattle.std.specs.Prelude.{◌≡◌, ◌+◌, ◌*◌, ◌<◌, ◌≤◌, ◌++◌, [], ◌∷◌, true, length, codes, vec_len, vec_capacity, OnOk};
+ghost use Rattle.std.specs.Prelude.{◌≡◌, ◌+◌, ◌*◌, ◌^◌, ◌<◌, ◌≤◌, ◌++◌, [], ◌∷◌, true, length, codes, vec_len, vec_capacity, OnOk};
 ghost use Rattle.yaml_parse_model.specs.Events.{event_of, text_of};
-ghost use Rattle.yaml_scan_model.specs.Ends.{IsShort};
+ghost use Rattle.yaml_scan_model.specs.Ends.{IsShort, given_length};
 ghost use Rattle.yaml_round_lines.specs.Runs.{IsPlain, IsPlainGiven};
 ghost use Rattle.yaml_round_lines.specs.EventLine.{escaped, anchor_part, tag_part, indicator_of, mark_part, event_line};
 
-use crate::runs::{is_plain, push_runs};
+use crate::runs::{is_plain, put_runs};
 use std::alloc::AllocError;
 use yaml_parse_model::{yaml_event_body_t, yaml_event_t};
-use yaml_scan_model::{SHORT, is_short, moved, push_each, put_short, yaml_scalar_style_t};
+use yaml_scan_model::{
+    SHORT, is_short, put_back, put_between, put_each, put_near, put_short, with_room,
+    yaml_scalar_style_t,
+};
 
-// What the line of a node takes at most whose texts are short.
-const ROOM: usize = 13 + 3 * SHORT;
+// What the line of a node takes at most beside its texts.
+const BESIDE: usize = 12;
+
+// What it takes at most where the texts are short: twice of a tag and of a value.
+const ROOM: usize = BESIDE + 5 * SHORT;
 
 fn style_indicator(style: yaml_scalar_style_t) -> u8
     ensures { result ≡ indicator_of style }
@@ -27,91 +33,32 @@ fn style_indicator(style: yaml_scalar_style_t) -> u8
     }
 }
 
-// Adds the line's end.
-fn push_end(line: &mut Vec<u8>) -> Result<(), AllocError>
-    ensures { OnOk result (line.new.items ≡ line.old.items ++ 10 ∷ []) }
+// How many bytes a text has, where there is one.
+fn length_of(text: &Option<Vec<u8>>) -> usize
+    ensures is { result ≡ given_length text.now }
+    ensures small { result < 2 ^ 63 }
 {
-    line.push(b'\n')?;
-    Ok(())
-}
-
-// Adds the line of an event that its word alone tells: its room is made at once.
-// Inlined: some stores, for words of a fixed length.
-#[inline(always)]
-fn push_word(line: &mut Vec<u8>, word: &[u8]) -> Result<(), AllocError>
-    requires { length word.now < 16 }
-    ensures { OnOk result (line.new.items ≡ line.old.items ++ (word.now ++ 10 ∷ [])) }
-{
-    line.reserve(word.len() + 1)?;
-    push_each(line, word);
-    line.push_reserved(b'\n');
-    Ok(())
-}
-
-// Adds a text of any length, and the byte that ends it.
-// Out of line: most texts are short, and have no byte that is escaped.
-#[inline(never)]
-fn push_long(line: &mut Vec<u8>, text: &[u8], end: u8) -> Result<(), AllocError>
-    ensures { OnOk result (line.new.items ≡ line.old.items ++ (escaped text.now ++ end ∷ [])) }
-{
-    push_runs(line, text)?;
-    line.push(end)?;
-    Ok(())
-}
-
-// Adds a space, an indicator, a text and the byte that ends it.
-fn push_text(line: &mut Vec<u8>, indicator: u8, text: &[u8], end: u8) -> Result<(), AllocError>
-    ensures { OnOk result (line.new.items ≡ line.old.items
-        ++ (32 ∷ indicator ∷ (escaped text.now ++ end ∷ []))) }
-{
-    line.reserve(2)?;
-    line.push_reserved(b' ');
-    line.push_reserved(indicator);
-    push_long(line, text, end)
-}
-
-// Adds a word, and a name behind it.
-// Inlined: some stores, for a word of a fixed length, and a call.
-#[inline(always)]
-fn push_name(line: &mut Vec<u8>, word: &[u8], name: &[u8]) -> Result<(), AllocError>
-    requires { length word.now < 16 }
-    ensures { OnOk result (line.new.items ≡ line.old.items ++ (word.now ++ name.now)) }
-{
-    line.reserve(word.len())?;
-    push_each(line, word);
-    line.extend_from_slice(name)?;
-    Ok(())
-}
-
-// Adds an anchor, if there is one.
-// Inlined into its one caller.
-#[inline(always)]
-fn push_anchor(line: &mut Vec<u8>, anchor: &Option<Vec<u8>>) -> Result<(), AllocError>
-    ensures { OnOk result (line.new.items ≡ line.old.items ++ anchor_part (text_of anchor.now)) }
-{
-    match anchor {
-        Some(anchor) => push_name(line, b" &", anchor),
-        None => Ok(()),
+    match text {
+        None => 0,
+        Some(text) => text.len(),
     }
 }
 
-// Adds a tag, if there is one.
-// Inlined into its one caller.
-#[inline(always)]
-fn push_tag(line: &mut Vec<u8>, tag: &Option<Vec<u8>>) -> Result<(), AllocError>
-    ensures { OnOk result (line.new.items ≡ line.old.items ++ tag_part (text_of tag.now)) }
+// Makes room for so many bytes, and for a text of so many that may all be escaped.
+fn reserve_twice(line: &mut Vec<u8>, beside: usize, escaped: usize) -> Result<(), AllocError>
+    ensures items { line.new.items ≡ line.old.items }
+    ensures room { OnOk result (vec_len line.new + (beside + 2 * escaped) ≤ vec_capacity line.new) }
 {
-    match tag {
-        Some(tag) => push_text(line, b'<', tag, b'>'),
-        None => Ok(()),
-    }
+    line.reserve(escaped.saturating_mul(2).saturating_add(beside))?;
+    Ok(())
 }
 
 // Whether a tag that may be left out is plain.
 // Inlined: see `is_kept_run`.
 #[inline(always)]
 fn is_plain_tag(tag: &Option<Vec<u8>>) -> bool
-    ensures { result ≡ true → IsPlainGiven (text_of tag.now) }
+    ensures plain { result ≡ true → IsPlainGiven (text_of tag.now) }
+    ensures short { result ≡ true → IsShort tag.now }
 {
     match tag {
         None => true,
@@ -119,94 +66,141 @@ fn is_plain_tag(tag: &Option<Vec<u8>>) -> bool
     }
 }
 
-// Puts a short anchor, if there is one.
-// Inlined: some stores.
+// Whether a node's texts are plain, and its anchor is short.
+// Inlined: see `is_kept_run`.
 #[inline(always)]
-fn put_anchor(line: &mut Vec<u8>, anchor: &Option<Vec<u8>>)
-    requires short { IsShort anchor.now }
-    requires room { vec_len line.old + (SHORT + 2) ≤ vec_capacity line.old }
+fn are_plain(anchor: &Option<Vec<u8>>, tag: &Option<Vec<u8>>) -> bool
+    ensures { result ≡ true → (IsShort anchor.now × IsShort tag.now)
+        × IsPlainGiven (text_of tag.now) }
+{
+    is_short(anchor) && is_plain_tag(tag)
+}
+
+// Puts a name, by few moves where it is short.
+// Inlined: the way is known.
+#[inline(always)]
+fn put_name(line: &mut Vec<u8>, name: &[u8], short: bool)
+    requires short { short ≡ true → length name.now ≤ SHORT }
+    requires room { vec_len line.old + length name.now ≤ vec_capacity line.old }
+    ensures items { line.new.items ≡ line.old.items ++ name.now }
+    ensures len { vec_len line.new ≤ vec_len line.old + length name.now }
+    ensures room { vec_capacity line.old ≤ vec_capacity line.new }
+{
+    if short {
+        put_short(line, name);
+    } else {
+        put_near(line, name);
+    }
+}
+
+// Puts the bytes of a tag or a value, by few moves where it is plain.
+// Inlined: the way is known.
+#[inline(always)]
+fn put_escaped(line: &mut Vec<u8>, text: &[u8], plain: bool)
+    requires plain { plain ≡ true → IsPlain text.now }
+    requires room { vec_len line.old + 2 * length text.now ≤ vec_capacity line.old }
+    ensures items { line.new.items ≡ line.old.items ++ escaped text.now }
+    ensures len { vec_len line.new ≤ vec_len line.old + 2 * length text.now }
+    ensures room { vec_capacity line.old ≤ vec_capacity line.new }
+{
+    if plain {
+        put_short(line, text);
+    } else {
+        put_runs(line, text);
+    }
+}
+
+// Puts a text behind a space and an indicator, and a byte that ends it.
+// Inlined: some stores, and a call where the text isn't plain.
+#[inline(always)]
+fn put_part(line: &mut Vec<u8>, indicator: u8, text: &[u8], end: u8, plain: bool)
+    requires plain { plain ≡ true → IsPlain text.now }
+    requires room { vec_len line.old + (2 * length text.now + 3) ≤ vec_capacity line.old }
+    ensures items { line.new.items ≡ line.old.items
+        ++ (32 ∷ indicator ∷ (escaped text.now ++ end ∷ [])) }
+    ensures len { vec_len line.new ≤ vec_len line.old + (2 * length text.now + 3) }
+    ensures room { vec_capacity line.old ≤ vec_capacity line.new }
+{
+    line.push_reserved(b' ');
+    line.push_reserved(indicator);
+    put_escaped(line, text, plain);
+    line.push_reserved(end);
+}
+
+// Puts an anchor, if there is one.
+// Inlined: some stores, and a call where it isn't short.
+#[inline(always)]
+fn put_anchor(line: &mut Vec<u8>, anchor: &Option<Vec<u8>>, short: bool)
+    requires short { short ≡ true → IsShort anchor.now }
+    requires room { vec_len line.old + (given_length anchor.now + 2) ≤ vec_capacity line.old }
     ensures items { line.new.items ≡ line.old.items ++ anchor_part (text_of anchor.now) }
-    ensures len { vec_len line.new ≤ vec_len line.old + (SHORT + 2) }
-    ensures room { vec_capacity line.new ≡ vec_capacity line.old }
+    ensures len { vec_len line.new ≤ vec_len line.old + (given_length anchor.now + 2) }
+    ensures room { vec_capacity line.old ≤ vec_capacity line.new }
 {
     match anchor {
         None => {}
         Some(anchor) => {
-            push_each(line, b" &");
-            put_short(line, anchor);
+            put_each(line, b" &");
+            put_name(line, anchor, short);
         }
     }
 }
 
-// Puts a plain text behind a space and an indicator, and a byte that ends it.
-// Inlined: some stores.
+// Puts a tag, if there is one.
+// Inlined: see `put_part`.
 #[inline(always)]
-fn put_plain(line: &mut Vec<u8>, indicator: u8, text: &[u8], end: u8)
-    requires plain { IsPlain text.now }
-    requires room { vec_len line.old + (SHORT + 3) ≤ vec_capacity line.old }
-    ensures items { line.new.items ≡ line.old.items
-        ++ (32 ∷ indicator ∷ (escaped text.now ++ end ∷ [])) }
-    ensures len { vec_len line.new ≤ vec_len line.old + (SHORT + 3) }
-    ensures room { vec_capacity line.new ≡ vec_capacity line.old }
-{
-    line.push_reserved(b' ');
-    line.push_reserved(indicator);
-    put_short(line, text);
-    line.push_reserved(end);
-}
-
-// Puts a plain tag, if there is one.
-// Inlined: some stores.
-#[inline(always)]
-fn put_tag(line: &mut Vec<u8>, tag: &Option<Vec<u8>>)
-    requires plain { IsPlainGiven (text_of tag.now) }
-    requires room { vec_len line.old + (SHORT + 3) ≤ vec_capacity line.old }
+fn put_tag(line: &mut Vec<u8>, tag: &Option<Vec<u8>>, plain: bool)
+    requires plain { plain ≡ true → IsPlainGiven (text_of tag.now) }
+    requires room { vec_len line.old + (2 * given_length tag.now + 3) ≤ vec_capacity line.old }
     ensures items { line.new.items ≡ line.old.items ++ tag_part (text_of tag.now) }
-    ensures len { vec_len line.new ≤ vec_len line.old + (SHORT + 3) }
-    ensures room { vec_capacity line.new ≡ vec_capacity line.old }
+    ensures len { vec_len line.new ≤ vec_len line.old + (2 * given_length tag.now + 3) }
+    ensures room { vec_capacity line.old ≤ vec_capacity line.new }
 {
     match tag {
         None => {}
-        Some(tag) => put_plain(line, b'<', tag, b'>'),
+        Some(tag) => put_part(line, b'<', tag, b'>', plain),
     }
 }
 
-// Puts a node's word, and its anchor and its tag, which are short and plain.
-// Inlined: some stores.
+// Puts a node's word, its anchor and its tag, by few moves where they are short and plain.
+// Inlined: see `put_part`.
 #[inline(always)]
-fn put_node(line: &mut Vec<u8>, word: &[u8; 4], anchor: &Option<Vec<u8>>, tag: &Option<Vec<u8>>)
-    requires anchor { IsShort anchor.now }
-    requires tag { IsPlainGiven (text_of tag.now) }
-    requires room { vec_len line.old + (2 * SHORT + 9) ≤ vec_capacity line.old }
-    ensures items { line.new.items ≡ line.old.items
-        ++ (word.now ++ (anchor_part (text_of anchor.now) ++ tag_part (text_of tag.now))) }
-    ensures len { vec_len line.new ≤ vec_len line.old + (2 * SHORT + 9) }
-    ensures room { vec_capacity line.new ≡ vec_capacity line.old }
-{
-    push_each(line, word);
-    put_anchor(line, anchor);
-    put_tag(line, tag);
-}
-
-// Adds a node's word, its anchor and its tag.
-// Out of line: it is called for three kinds of nodes.
-#[inline(never)]
-fn push_node(
+fn put_node(
     line: &mut Vec<u8>,
     word: &[u8; 4],
     anchor: &Option<Vec<u8>>,
     tag: &Option<Vec<u8>>,
-) -> Result<(), AllocError>
-    ensures { OnOk result (line.new.items ≡ line.old.items
-        ++ (word.now ++ (anchor_part (text_of anchor.now) ++ tag_part (text_of tag.now)))) }
+    plain: bool,
+)
+    requires short { plain ≡ true → IsShort anchor.now }
+    requires plain { plain ≡ true → IsPlainGiven (text_of tag.now) }
+    requires room { vec_len line.old + (given_length anchor.now + 2 * given_length tag.now + 9)
+        ≤ vec_capacity line.old }
+    ensures items { line.new.items ≡ line.old.items
+        ++ (word.now ++ (anchor_part (text_of anchor.now) ++ tag_part (text_of tag.now))) }
+    ensures len { vec_len line.new ≤ vec_len line.old
+        + (given_length anchor.now + 2 * given_length tag.now + 9) }
+    ensures room { vec_capacity line.old ≤ vec_capacity line.new }
 {
-    line.reserve(4)?;
-    push_each(line, word);
-    push_anchor(line, anchor)?;
-    push_tag(line, tag)
+    put_each(line, word);
+    put_anchor(line, anchor, plain);
+    put_tag(line, tag, plain);
 }
 
-// Adds the line of a scalar of any length.
+// Pushes the line of an event that its word alone tells.
+// Inlined: some stores, for words of a fixed length.
+#[inline(always)]
+fn push_word(line: &mut Vec<u8>, word: &[u8]) -> Result<(), AllocError>
+    requires { length word.now < 16 }
+    ensures { OnOk result (line.new.items ≡ line.old.items ++ (word.now ++ 10 ∷ [])) }
+{
+    line.reserve(word.len() + 1)?;
+    put_each(line, word);
+    line.push_reserved(b'\n');
+    Ok(())
+}
+
+// Pushes the line of a scalar of any length.
 // Out of line: most are short, and have no byte that is escaped.
 #[inline(never)]
 fn push_long_scalar(
@@ -220,11 +214,17 @@ fn push_long_scalar(
         ++ (codes "=VAL" ++ (anchor_part (text_of anchor.now) ++ tag_part (text_of tag.now))
         ++ 32 ∷ indicator_of style ∷ (escaped value.now ++ 10 ∷ []))) }
 {
-    push_node(line, b"=VAL", anchor, tag)?;
-    push_text(line, style_indicator(style), value, b'\n')
+    reserve_twice(
+        line,
+        BESIDE + length_of(anchor),
+        length_of(tag) + value.len(),
+    )?;
+    put_node(line, b"=VAL", anchor, tag, false);
+    put_part(line, style_indicator(style), value, b'\n', false);
+    Ok(())
 }
 
-// Adds the line of a scalar whose texts are plain: its room is made at once.
+// Pushes the line of a scalar whose texts are plain.
 // Inlined into its one caller.
 #[inline(always)]
 fn push_plain_scalar(
@@ -234,31 +234,21 @@ fn push_plain_scalar(
     value: &[u8],
     style: yaml_scalar_style_t,
 ) -> Result<(), AllocError>
-    requires anchor { IsShort anchor.now }
+    requires short { IsShort anchor.now × IsShort tag.now }
     requires tag { IsPlainGiven (text_of tag.now) }
     requires value { IsPlain value.now }
     ensures { OnOk result (line.new.items ≡ line.old.items
         ++ (codes "=VAL" ++ (anchor_part (text_of anchor.now) ++ tag_part (text_of tag.now))
         ++ 32 ∷ indicator_of style ∷ (escaped value.now ++ 10 ∷ []))) }
 {
-    line.reserve(ROOM)?;
-    let mut own = moved(line);
-    put_node(&mut own, b"=VAL", anchor, tag);
-    put_plain(&mut own, style_indicator(style), value, b'\n');
-    *line = own;
+    let mut own = with_room(line, ROOM)?;
+    put_node(&mut own, b"=VAL", anchor, tag, true);
+    put_part(&mut own, style_indicator(style), value, b'\n', true);
+    put_back(line, own);
     Ok(())
 }
 
-// Whether a node's texts are plain, and its anchor is short.
-// Inlined: see `is_kept_run`.
-#[inline(always)]
-fn are_plain(anchor: &Option<Vec<u8>>, tag: &Option<Vec<u8>>) -> bool
-    ensures { result ≡ true → IsShort anchor.now × IsPlainGiven (text_of tag.now) }
-{
-    is_short(anchor) && is_plain_tag(tag)
-}
-
-// Adds the line of a scalar.
+// Pushes the line of a scalar.
 // Out of line: see `push_alias`.
 #[inline(never)]
 fn push_scalar(
@@ -280,7 +270,7 @@ fn push_scalar(
     push_long_scalar(line, anchor, tag, value, style)
 }
 
-// Adds the line of a collection's start, of any length.
+// Pushes the line of a collection's start, of any length.
 // Out of line: most are short, and have no byte that is escaped.
 #[inline(never)]
 fn push_long_start(
@@ -293,11 +283,13 @@ fn push_long_start(
         ++ (word.now ++ (anchor_part (text_of anchor.now) ++ tag_part (text_of tag.now))
         ++ 10 ∷ [])) }
 {
-    push_node(line, word, anchor, tag)?;
-    push_end(line)
+    reserve_twice(line, BESIDE + length_of(anchor), length_of(tag))?;
+    put_node(line, word, anchor, tag, false);
+    line.push_reserved(b'\n');
+    Ok(())
 }
 
-// Adds the line of a collection's start whose texts are plain: its room is made at once.
+// Pushes the line of a collection's start whose texts are plain.
 // Inlined into its one caller.
 #[inline(always)]
 fn push_plain_start(
@@ -306,21 +298,20 @@ fn push_plain_start(
     anchor: &Option<Vec<u8>>,
     tag: &Option<Vec<u8>>,
 ) -> Result<(), AllocError>
-    requires anchor { IsShort anchor.now }
+    requires short { IsShort anchor.now × IsShort tag.now }
     requires tag { IsPlainGiven (text_of tag.now) }
     ensures { OnOk result (line.new.items ≡ line.old.items
         ++ (word.now ++ (anchor_part (text_of anchor.now) ++ tag_part (text_of tag.now))
         ++ 10 ∷ [])) }
 {
-    line.reserve(ROOM)?;
-    let mut own = moved(line);
-    put_node(&mut own, word, anchor, tag);
+    let mut own = with_room(line, ROOM)?;
+    put_node(&mut own, word, anchor, tag, true);
     own.push_reserved(b'\n');
-    *line = own;
+    put_back(line, own);
     Ok(())
 }
 
-// Adds the line of a collection's start.
+// Pushes the line of a collection's start.
 // Out of line: see `push_alias`.
 #[inline(never)]
 fn push_start(
@@ -339,65 +330,40 @@ fn push_start(
     push_long_start(line, word, anchor, tag)
 }
 
-// Adds the line of an alias of any length.
-// Out of line: most are short.
-#[inline(never)]
-fn push_long_alias(line: &mut Vec<u8>, name: &[u8]) -> Result<(), AllocError>
-    ensures { OnOk result (line.new.items ≡ line.old.items ++ (codes "=ALI *" ++ name.now ++ 10 ∷ [])) }
-{
-    push_name(line, b"=ALI *", name)?;
-    push_end(line)
-}
-
-// Adds the line of an alias that is short: its room is made at once.
-// Inlined into its one caller.
-#[inline(always)]
-fn push_short_alias(line: &mut Vec<u8>, name: &[u8]) -> Result<(), AllocError>
-    requires { length name.now ≤ SHORT }
-    ensures { OnOk result (line.new.items ≡ line.old.items ++ (codes "=ALI *" ++ name.now ++ 10 ∷ [])) }
-{
-    line.reserve(ROOM)?;
-    let mut own = moved(line);
-    push_each(&mut own, b"=ALI *");
-    put_short(&mut own, name);
-    own.push_reserved(b'\n');
-    *line = own;
-    Ok(())
-}
-
-// Adds the line of an alias.
+// Pushes the line of an alias.
 // Out of line, as each arm of the function that calls it: LLVM looks at a hundred uses of the line at most to see that
 // nobody keeps it, and reads its place again behind each byte where it can't.
 #[inline(never)]
 fn push_alias(line: &mut Vec<u8>, name: &[u8]) -> Result<(), AllocError>
     ensures { OnOk result (line.new.items ≡ line.old.items ++ (codes "=ALI *" ++ name.now ++ 10 ∷ [])) }
 {
-    if name.len() <= SHORT {
-        return push_short_alias(line, name);
-    }
-    push_long_alias(line, name)
+    line.reserve(name.len() + 7)?;
+    put_between(line, b"=ALI *", name, b"\n");
+    Ok(())
 }
 
-// Adds the line of a document's start or end: a word, and a mark where it isn't left out.
+// Pushes the line of a document's start or end: a word, and a mark where it isn't left out.
 // Out of line: see `push_alias`.
 #[inline(never)]
 fn push_document(
     line: &mut Vec<u8>,
-    word: &[u8],
+    word: &[u8; 4],
     implicit: bool,
-    mark: &[u8],
+    mark: &[u8; 4],
 ) -> Result<(), AllocError>
     ensures { OnOk result (line.new.items ≡ line.old.items
         ++ (word.now ++ mark_part implicit mark.now ++ 10 ∷ [])) }
 {
-    line.extend_from_slice(word)?;
+    line.reserve(9)?;
+    put_each(line, word);
     if !implicit {
-        line.extend_from_slice(mark)?;
+        put_each(line, mark);
     }
-    push_end(line)
+    line.push_reserved(b'\n');
+    Ok(())
 }
 
-// Adds the line of a scalar without properties that isn't plain.
+// Pushes the line of a scalar without properties that isn't plain.
 // Out of line: most are short, and have no byte that is escaped.
 #[inline(never)]
 fn push_long_bare(
@@ -408,13 +374,13 @@ fn push_long_bare(
     ensures { OnOk result (line.new.items ≡ line.old.items
         ++ (codes "=VAL " ++ indicator_of style ∷ (escaped value.now ++ 10 ∷ []))) }
 {
-    line.reserve(6)?;
-    push_each(line, b"=VAL ");
-    line.push_reserved(style_indicator(style));
-    push_long(line, value, b'\n')
+    reserve_twice(line, 7, value.len())?;
+    put_each(line, b"=VAL");
+    put_part(line, style_indicator(style), value, b'\n', false);
+    Ok(())
 }
 
-// Adds the line of a plain scalar without properties: its room is made at once.
+// Pushes the line of a plain scalar without properties.
 // Inlined: most scalars are such.
 #[inline(always)]
 fn push_plain_bare(
@@ -426,15 +392,14 @@ fn push_plain_bare(
     ensures { OnOk result (line.new.items ≡ line.old.items
         ++ (codes "=VAL " ++ indicator_of style ∷ (escaped value.now ++ 10 ∷ []))) }
 {
-    line.reserve(SHORT + 7)?;
-    let mut own = moved(line);
-    push_each(&mut own, b"=VAL");
-    put_plain(&mut own, style_indicator(style), value, b'\n');
-    *line = own;
+    let mut own = with_room(line, 2 * SHORT + 7)?;
+    put_each(&mut own, b"=VAL");
+    put_part(&mut own, style_indicator(style), value, b'\n', true);
+    put_back(line, own);
     Ok(())
 }
 
-// Adds the line of a scalar without properties.
+// Pushes the line of a scalar without properties.
 // Inlined: most scalars are such.
 #[inline(always)]
 fn push_bare(line: &mut Vec<u8>, value: &[u8], style: yaml_scalar_style_t) -> Result<(), AllocError>
@@ -447,17 +412,17 @@ fn push_bare(line: &mut Vec<u8>, value: &[u8], style: yaml_scalar_style_t) -> Re
     push_long_bare(line, value, style)
 }
 
-// Adds the line of an event that its word alone tells, and that is rare.
+// Pushes the line of an event that its word alone tells, and that is rare.
 // Out of line: see `push_alias`.
 #[inline(never)]
 fn push_rare(line: &mut Vec<u8>, word: &[u8]) -> Result<(), AllocError>
+    requires { length word.now < 16 }
     ensures { OnOk result (line.new.items ≡ line.old.items ++ (word.now ++ 10 ∷ [])) }
 {
-    line.extend_from_slice(word)?;
-    push_end(line)
+    push_word(line, word)
 }
 
-// Adds the line of any event.
+// Pushes the line of any event.
 // Inlined into its one caller, so that the kind is looked at once.
 #[inline(always)]
 fn push_any(line: &mut Vec<u8>, event: &yaml_event_t) -> Result<(), AllocError>
@@ -465,7 +430,7 @@ fn push_any(line: &mut Vec<u8>, event: &yaml_event_t) -> Result<(), AllocError>
         (event_of event.now).body) }
 {
     match &event.body {
-        yaml_event_body_t::No => push_end(line),
+        yaml_event_body_t::No => push_rare(line, b""),
         yaml_event_body_t::StreamStart { .. } => push_rare(line, b"+STR"),
         yaml_event_body_t::StreamEnd => push_rare(line, b"-STR"),
         yaml_event_body_t::DocumentStart { implicit, .. } => push_document(
@@ -493,7 +458,7 @@ fn push_any(line: &mut Vec<u8>, event: &yaml_event_t) -> Result<(), AllocError>
     }
 }
 
-/// Adds the line that tells an event, with a line feed at its end: `+STR`, `-STR`, `+DOC` (` ---` where it is explicit),
+/// Pushes the line that tells an event, with a line feed at its end: `+STR`, `-STR`, `+DOC` (` ---` where it is explicit),
 /// `-DOC` (` ...` where it is explicit), `=ALI *name`, `+SEQ`, `-SEQ`, `+MAP`, `-MAP`, `=VAL`; behind a node's word its
 /// ` &anchor` and ` <tag>`, behind `=VAL` a space, the style's indicator (`: ' " | >`) and the value. In tags and values a
 /// backslash, 00, 08, 09, 0A and 0D are escaped. Behind an error what stands in the line counts for nothing.

@@ -1,50 +1,55 @@
-//! The bytes of tags and values: runs that are added as they are, and those that are escaped.
+//! The bytes of tags and values: runs that are put as they are, and those that are escaped.
 
-ghost use Rattle.std.specs.Prelude.{◌≡◌, ◌+◌, ◌<◌, ◌≤◌, ◌++◌, ◌∷◌, [], true, length, take, OnOk, IfOk};
+ghost use Rattle.std.specs.Prelude.{◌≡◌, ◌+◌, ◌*◌, ◌<◌, ◌≤◌, ◌++◌, ◌∷◌, [], true, length, take, vec_len, vec_capacity};
 ghost use Rattle.yaml_round_lines.specs.Runs.{is_kept, kept_run, IsPlain};
 ghost use Rattle.yaml_round_lines.specs.EventLine.{escaped_byte, escaped};
 
-use std::alloc::AllocError;
-use yaml_scan_model::SHORT;
+use yaml_scan_model::{SHORT, put_many};
 
-// So many bytes are looked at together; the kept bytes of a shorter text are added byte by byte.
+// So many bytes are looked at together, and then half as many; the kept bytes of a shorter text are counted byte by byte.
 const CHUNK: usize = 16;
 
-// Adds a backslash and a letter.
-fn push_escape(line: &mut Vec<u8>, indicator: u8) -> Result<(), AllocError>
-    ensures { OnOk result (line.new.items ≡ line.old.items ++ (92 ∷ indicator ∷ [])) }
+const HALF: usize = 8;
+
+// Puts a backslash and a letter.
+fn put_escape(line: &mut Vec<u8>, indicator: u8)
+    requires { vec_len line.old + 2 ≤ vec_capacity line.old }
+    ensures items { line.new.items ≡ line.old.items ++ (92 ∷ indicator ∷ []) }
+    ensures len { vec_len line.new ≤ vec_len line.old + 2 }
+    ensures room { vec_capacity line.new ≡ vec_capacity line.old }
 {
-    line.push(b'\\')?;
-    line.push(indicator)?;
-    Ok(())
+    line.push_reserved(b'\\');
+    line.push_reserved(indicator);
 }
 
-// Adds a byte of a tag or a value.
-// Inlined: one byte, mostly with room.
+// Puts a byte of a tag or a value.
+// Inlined: mostly one byte.
 #[inline(always)]
 #[tactic(auto, unfolding(crate::specs::EventLine::escaped_byte))]
-fn push_byte(line: &mut Vec<u8>, byte: u8) -> Result<(), AllocError>
-    ensures { OnOk result (line.new.items ≡ line.old.items ++ escaped_byte byte) }
+fn put_byte(line: &mut Vec<u8>, byte: u8)
+    requires { vec_len line.old + 2 ≤ vec_capacity line.old }
+    ensures items { line.new.items ≡ line.old.items ++ escaped_byte byte }
+    ensures len { vec_len line.new ≤ vec_len line.old + 2 }
+    ensures room { vec_capacity line.new ≡ vec_capacity line.old }
 {
     if byte == b'\\' {
-        push_escape(line, b'\\')
+        put_escape(line, b'\\');
     } else if byte == 0 {
-        push_escape(line, b'0')
+        put_escape(line, b'0');
     } else if byte == 8 {
-        push_escape(line, b'b')
+        put_escape(line, b'b');
     } else if byte == b'\t' {
-        push_escape(line, b't')
+        put_escape(line, b't');
     } else if byte == b'\n' {
-        push_escape(line, b'n')
+        put_escape(line, b'n');
     } else if byte == b'\r' {
-        push_escape(line, b'r')
+        put_escape(line, b'r');
     } else {
-        line.push(byte)?;
-        Ok(())
+        line.push_reserved(byte);
     }
 }
 
-// Whether the byte is surely added as it is.
+// Whether the byte is surely put as it is.
 #[tactic(auto, unfolding(crate::specs::Runs::is_kept))]
 fn is_kept(byte: u8) -> bool
     ensures { result ≡ is_kept byte }
@@ -126,12 +131,35 @@ fn kept_chunks(text: &[u8]) -> usize
     count
 }
 
+// Whether half a chunk stands there, of kept bytes alone.
+// Inlined: see `is_kept_run`.
+#[inline(always)]
+fn is_kept_half(text: &[u8], at: usize) -> bool
+    requires { at ≤ length text.now }
+    ensures { result ≡ true → (at + HALF ≤ length text.now) × (kept_run HALF text.now at ≡ true) }
+{
+    text.len() - at >= HALF && is_kept_run(text, at, HALF)
+}
+
+// The same, and half a chunk more where it is kept: so fewer bytes are looked at one by one.
+fn kept_halves(text: &[u8]) -> usize
+    ensures kept { escaped (take result text.now) ≡ take result text.now }
+    ensures inside { result ≤ length text.now }
+{
+    let count = kept_chunks(text);
+    if is_kept_half(text, count) {
+        count + HALF
+    } else {
+        count
+    }
+}
+
 // How many bytes in front are kept.
 fn kept_length(text: &[u8]) -> usize
     ensures kept { escaped (take result text.now) ≡ take result text.now }
     ensures inside { result ≤ length text.now }
 {
-    let mut count = kept_chunks(text);
+    let mut count = kept_halves(text);
     'bytes: while count < text.len() {
         if !is_kept(text[count]) {
             return count;
@@ -141,31 +169,41 @@ fn kept_length(text: &[u8]) -> usize
     count
 }
 
-// Adds the kept bytes in front, and the byte behind them; the answer is the rest.
-fn push_run<'a>(line: &mut Vec<u8>, left: &'a [u8]) -> Result<&'a [u8], AllocError>
-    requires { 0 < length left.now }
-    ensures text { IfOk result (λ rest. line.new.items ++ escaped rest.now ≡ line.old.items
-        ++ escaped left.now) }
-    ensures shorter { IfOk result (λ rest. length rest.now < length left.now) }
+// Puts the kept bytes in front, and the byte behind them; the answer is the rest. Where none is kept, as in an empty line, no copy is
+// called.
+fn put_run<'a>(line: &mut Vec<u8>, left: &'a [u8]) -> &'a [u8]
+    requires some { 0 < length left.now }
+    requires room { vec_len line.old + 2 * length left.now ≤ vec_capacity line.old }
+    ensures text { line.new.items ++ escaped result.now ≡ line.old.items ++ escaped left.now }
+    ensures shorter { length result.now < length left.now }
+    ensures len { vec_len line.new + 2 * length result.now ≤ vec_len line.old
+        + 2 * length left.now }
+    ensures room { vec_capacity line.old ≤ vec_capacity line.new }
 {
-    let count = kept_length(left);
-    line.extend_from_slice(&left[..count])?;
-    if count == left.len() {
-        return Ok(&left[count..]);
+    if !is_kept(left[0]) {
+        put_byte(line, left[0]);
+        return &left[1..];
     }
-    push_byte(line, left[count])?;
-    Ok(&left[count + 1..])
+    let count = kept_length(left);
+    put_many(line, &left[..count]);
+    if count == left.len() {
+        return &left[count..];
+    }
+    put_byte(line, left[count]);
+    &left[count + 1..]
 }
 
-/// Adds the text of a tag or a value, by runs of kept bytes.
+/// Puts the text of a tag or a value, by runs of kept bytes: each byte takes two at most.
 // Out of line: most texts are short, and have no byte that is escaped.
 #[inline(never)]
-pub(crate) fn push_runs(line: &mut Vec<u8>, text: &[u8]) -> Result<(), AllocError>
-    ensures { OnOk result (line.new.items ≡ line.old.items ++ escaped text.now) }
+pub(crate) fn put_runs(line: &mut Vec<u8>, text: &[u8])
+    requires { vec_len line.old + 2 * length text.now ≤ vec_capacity line.old }
+    ensures items { line.new.items ≡ line.old.items ++ escaped text.now }
+    ensures len { vec_len line.new ≤ vec_len line.old + 2 * length text.now }
+    ensures room { vec_capacity line.old ≤ vec_capacity line.new }
 {
     let mut left = text;
     'runs: while !left.is_empty() {
-        left = push_run(line, left)?;
+        left = put_run(line, left);
     }
-    Ok(())
 }

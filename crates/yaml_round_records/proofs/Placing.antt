@@ -43,7 +43,7 @@ part_stands old text more s at len = rw (at, len, long old text more, middle old
 
 pub puts_holds : (old text new : List ℕ) (s : yaml_c_span) → PutsText old text new s
     → HoldsText new s text
-puts_holds old text new s p more = rw p.bytes (part_stands old text more s p.at p.len)
+puts_holds old text new s p more = rw p.bytes (part_stands old text more s (ap (λ z. z.at) p.span) (ap (λ z. z.len) p.span))
 
 pub puts_grows : (old text new : List ℕ) (s : yaml_c_span) → PutsText old text new s → Grows old new
 puts_grows old text new s p = record { more = text; is = p.bytes }

@@ -20,11 +20,14 @@ pub record Grows {X : Type 0} (old new : List X) : Type 0 where
   pub more : List X
   pub is : new ≡ old ++ more
 
+-- a text that stands there
+abbrev pub span_at : ℕ → List ℕ → yaml_c_span
+span_at n text = record { at = n; len = length text }
+
 -- a text stands at the end
 pub record PutsText (old text new : List ℕ) (s : yaml_c_span) : Type 0 where
   pub bytes : new ≡ old ++ text
-  pub at : s.at ≡ length old
-  pub len : s.len ≡ length text
+  pub span : s ≡ span_at (length old) text
 
 -- Whatever follows, the span names the text.
 abbrev pub HoldsText : List ℕ → yaml_c_span → List ℕ → Type 0

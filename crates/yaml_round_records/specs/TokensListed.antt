@@ -14,6 +14,7 @@ use Rattle.yaml_scan.specs.Left.{IsTold}
 use Rattle.yaml_round_records.specs.declared.record.yaml_c_mark.{yaml_c_mark}
 use Rattle.yaml_round_records.specs.declared.record.yaml_c_span.{yaml_c_span}
 use Rattle.yaml_round_records.specs.Records.{mark_told}
+use Rattle.yaml_round_records.specs.Listing.{span_at}
 use Rattle.yaml_round_records.specs.declared.token_record.yaml_c_token.{yaml_c_token}
 use Rattle.yaml_round_records.specs.declared.token_listing.TokenListing.{TokenListing}
 
@@ -34,10 +35,6 @@ style_number style.YAML_LITERAL_SCALAR_STYLE = pos 4
 style_number style.YAML_FOLDED_SCALAR_STYLE = pos 5
 
 -- ---- records
-
--- a text that stands there
-abbrev pub span_at : ℕ → List ℕ → yaml_c_span
-span_at n text = record { at = n; len = length text }
 
 abbrev pub no_span : yaml_c_span
 no_span = record { at = 0; len = 0 }
@@ -130,11 +127,6 @@ EndsListed c (Err f) l = IsMemoryFault scan_layers (fault_of f)
     ⊎ ((c.fault ≡ Some (fault_of f)) × ListsTokens c.tokens l)
 
 -- ---- one token
-
--- a text was put behind the others
-pub record Puts (old text new : List ℕ) (s : yaml_c_span) : Type 0 where
-  pub bytes : new ≡ old ++ text
-  pub span : s ≡ span_at (length old) text
 
 -- a token's texts were put behind the others, and its record was made
 pub record MakesRecord (old : List ℕ) (t : Token) (new : List ℕ) (r : yaml_c_token) : Type 0 where

@@ -24,7 +24,7 @@ fn collect_by<S: yaml_token_source_t>(
             yaml_found_t::Refused => return Err(*fault),
             yaml_found_t::End => return Ok(()),
             yaml_found_t::Event => {
-                if listing.add(event).is_err() {
+                if listing.push(event).is_err() {
                     return Err(yaml_memory_fault(yaml_origin_t::Parser));
                 }
             }

@@ -52,8 +52,8 @@ fn plain(kind: i32, event: &yaml_event_t) -> yaml_c_event
     }
 }
 
-// Puts a text behind the others.
-fn put(bytes: &mut Vec<u8>, text: &[u8]) -> Result<yaml_c_span, AllocError>
+// Pushes a text behind the others; the answer is where it stands.
+pub(crate) fn push_text(bytes: &mut Vec<u8>, text: &[u8]) -> Result<yaml_c_span, AllocError>
     ensures { IfOk result (λ s. PutsText bytes.old.items text.now bytes.new.items s) }
 {
     let at = bytes.len() as u64;
@@ -64,9 +64,9 @@ fn put(bytes: &mut Vec<u8>, text: &[u8]) -> Result<yaml_c_span, AllocError>
     })
 }
 
-// Puts a text that may be left out, and tells by a flag whether it is there.
+// Pushes a text that may be left out, and tells by a flag whether it is there.
 #[tactic(auto, using(crate::proofs::Placing::put_some, crate::proofs::Placing::put_none))]
-fn put_optional(
+fn push_optional(
     bytes: &mut Vec<u8>,
     text: &Option<Vec<u8>>,
 ) -> Result<(i32, yaml_c_span), AllocError>
@@ -75,14 +75,14 @@ fn put_optional(
 {
     match text {
         Some(text) => {
-            let span = put(bytes, text)?;
+            let span = push_text(bytes, text)?;
             Ok((1, span))
         }
         None => Ok((0, NOTHING)),
     }
 }
 
-// Puts the properties of a node into a record.
+// Pushes a node's properties behind the other texts, and has them in its record.
 fn with_properties(
     bytes: &mut Vec<u8>,
     base: yaml_c_event,
@@ -92,8 +92,8 @@ fn with_properties(
     ensures { IfOk result (PutsProperties bytes.old.items base (text_of anchor.now)
         (text_of tag.now) bytes.new.items) }
 {
-    let first = put_optional(bytes, anchor)?;
-    let second = put_optional(bytes, tag)?;
+    let first = push_optional(bytes, anchor)?;
+    let second = push_optional(bytes, tag)?;
     let mut record = base;
     record.has_anchor = first.0;
     record.anchor = first.1;
@@ -111,7 +111,7 @@ fn alias_record(
     ensures { IfOk result (PutsAnchor bytes.old.items base anchor.now bytes.new.items) }
 {
     let mut record = base;
-    record.anchor = put(bytes, anchor)?;
+    record.anchor = push_text(bytes, anchor)?;
     Ok(record)
 }
 
@@ -127,11 +127,11 @@ fn scalar_record(
         value.now bytes.new.items) }
 {
     let mut record = with_properties(bytes, base, anchor, tag)?;
-    record.value = put(bytes, value)?;
+    record.value = push_text(bytes, value)?;
     Ok(record)
 }
 
-// Puts a directive's texts behind the others.
+// Pushes a directive's texts behind the others.
 fn directive_record(
     bytes: &mut Vec<u8>,
     directive: &yaml_tag_directive_t,
@@ -139,8 +139,8 @@ fn directive_record(
     ensures { IfOk result (PutsDirective bytes.old.items (directive_of directive.now)
         bytes.new.items) }
 {
-    let handle = put(bytes, &directive.handle)?;
-    let prefix = put(bytes, &directive.prefix)?;
+    let handle = push_text(bytes, &directive.handle)?;
+    let prefix = push_text(bytes, &directive.prefix)?;
     Ok(yaml_c_directive { handle, prefix })
 }
 
@@ -158,8 +158,8 @@ impl Listing {
     }
 }
 
-// Puts directives behind the others.
-pub(crate) fn put_directives(
+// Pushes directives behind the others.
+pub(crate) fn push_directives(
     listing: &mut Listing,
     directives: &[yaml_tag_directive_t],
 ) -> Result<yaml_c_span, AllocError>
@@ -187,7 +187,7 @@ fn document_record(
         listing.new) }
 {
     let mut record = base;
-    record.directives = put_directives(listing, directives)?;
+    record.directives = push_directives(listing, directives)?;
     Ok(record)
 }
 
@@ -364,8 +364,8 @@ fn record_of(listing: &mut Listing, event: &yaml_event_t) -> Result<yaml_c_event
 }
 
 impl Listing {
-    /// Puts an event behind the others.
-    pub fn add(&mut self, event: &yaml_event_t) -> Result<(), AllocError>
+    /// Pushes an event behind the others.
+    pub fn push(&mut self, event: &yaml_event_t) -> Result<(), AllocError>
         ensures { IfOk result (λ _. AddsRecord self.old (event_of event.now) self.new) }
     {
         let record = record_of(self, event)?;

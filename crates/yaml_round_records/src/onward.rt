@@ -9,7 +9,7 @@ ghost use Rattle.yaml_round_records.specs.Onward.{most_on, StartsAt, IsStandBy, 
 
 use crate::emitter::{Asked, emitter_under, fault_in, give_all, requested_of};
 use crate::event::all_directives;
-use crate::listing::{Listing, put_directives};
+use crate::listing::{Listing, push_directives};
 use crate::number::{flag, is_set};
 use crate::record::{yaml_c_directive, yaml_c_event};
 use crate::standing::{
@@ -176,7 +176,7 @@ fn somewhere(alloc: Global, emitter: &yaml_emitter_t) -> Result<StandRecords, Al
     ensures { IfOk result (TellsStand emitter.now) }
 {
     let mut listing = Listing::new(alloc);
-    put_directives(&mut listing, yaml_emitter_directives(emitter))?;
+    push_directives(&mut listing, yaml_emitter_directives(emitter))?;
     let stand = yaml_emitter_stand(emitter);
     let levels = levels_told(
         alloc,

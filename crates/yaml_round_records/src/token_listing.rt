@@ -4,9 +4,10 @@ ghost use Rattle.std.specs.Prelude.{◌≡◌, [], ◌++◌, length, pos, IfOk};
 ghost use Rattle.yaml_scan.specs.Tokens.{token_of};
 ghost use Rattle.yaml_scan.specs.Scanned.{scanned};
 ghost use Rattle.yaml_scan.specs.Session.{HasFirst};
-ghost use Rattle.yaml_round_records.specs.TokensListed.{ListsTokens, EndsListed, ListsNext, Puts, MakesRecord, Adds, with_value, with_both};
+ghost use Rattle.yaml_round_records.specs.TokensListed.{ListsTokens, EndsListed, ListsNext, MakesRecord, Adds, with_value, with_both};
 
-use crate::record::{mark_told, yaml_c_mark, yaml_c_span};
+use crate::listing::push_text;
+use crate::record::{mark_told, yaml_c_mark};
 use crate::token_record::{encoding_number, plain, style_number, yaml_c_token};
 use std::alloc::{AllocError, Global};
 use yaml_scan::{
@@ -34,25 +35,13 @@ impl TokenListing {
     }
 }
 
-// Puts a text behind the others.
-fn put(bytes: &mut Vec<u8>, text: &[u8]) -> Result<yaml_c_span, AllocError>
-    ensures { IfOk result (λ s. Puts bytes.old.items text.now bytes.new.items s) }
-{
-    let at = bytes.len() as u64;
-    bytes.extend_from_slice(text)?;
-    Ok(yaml_c_span {
-        at,
-        len: text.len() as u64,
-    })
-}
-
 // A record with a text.
 fn named(bytes: &mut Vec<u8>, base: yaml_c_token, text: &[u8]) -> Result<yaml_c_token, AllocError>
     ensures put { IfOk result (λ _. bytes.new.items ≡ bytes.old.items ++ text.now) }
     ensures is { IfOk result (λ r. r ≡ with_value (length bytes.old.items) text.now base) }
 {
     let mut record = base;
-    record.value = put(bytes, text)?;
+    record.value = push_text(bytes, text)?;
     Ok(record)
 }
 
@@ -68,8 +57,8 @@ fn named_twice(
         base) }
 {
     let mut record = base;
-    record.handle = put(bytes, handle)?;
-    record.value = put(bytes, text)?;
+    record.handle = push_text(bytes, handle)?;
+    record.value = push_text(bytes, text)?;
     Ok(record)
 }
 
@@ -132,8 +121,8 @@ fn record_of(bytes: &mut Vec<u8>, token: &yaml_token_t) -> Result<yaml_c_token, 
 }
 
 impl TokenListing {
-    /// Puts a token behind the others.
-    pub fn add(&mut self, token: &yaml_token_t) -> Result<(), AllocError>
+    /// Pushes a token behind the others.
+    pub fn push(&mut self, token: &yaml_token_t) -> Result<(), AllocError>
         ensures { IfOk result (λ _. Adds self.old (token_of token.now) self.new) }
     {
         let record = record_of(&mut self.bytes, token)?;
@@ -149,7 +138,7 @@ fn list_next(session: &mut yaml_parser_t, listing: &mut TokenListing) -> Result<
 {
     match yaml_parser_scan(session) {
         Ok(token) => {
-            if listing.add(&token).is_err() {
+            if listing.push(&token).is_err() {
                 return Err(yaml_memory_fault(yaml_origin_t::Scanner));
             }
             Ok(())

@@ -23,9 +23,10 @@ pub use record::{
     mark_again, yaml_mark_t, yaml_simple_key_t, yaml_tag_directive_t, yaml_version_directive_t,
 };
 pub use run::{is_text, leap, skip_blanks, skip_spaces, skip_text};
-pub use spares::{copied, copied_whole, moved, room};
+pub use spares::{copied, copied_whole, room};
 pub use token::{yaml_token_body_t, yaml_token_t};
 pub use yaml_types::{
-    DEFAULT_WIDTH, SHORT, is_short, push_each, push_near, put_short, stands_in_front,
-    yaml_memory_fault, yaml_parser_state_t, yaml_token_delete,
+    DEFAULT_WIDTH, SHORT, is_short, moved, put_back, put_between, put_each, put_many, put_near,
+    put_short, stands_in_front, with_room, yaml_memory_fault, yaml_parser_state_t,
+    yaml_token_delete,
 };

@@ -1,12 +1,11 @@
 //! Texts that were let go, in whose room later ones are made.
 
-ghost use Rattle.std.specs.Prelude.{◌≡◌, ◌+◌, ◌≤◌, [], IfOk, length, vec_capacity};
+ghost use Rattle.std.specs.Prelude.{◌≡◌, ◌+◌, ◌≤◌, [], IfOk, length};
 ghost use Rattle.yaml_scan_model.specs.Spares.{HoldsAt};
 
 use crate::keeping::Spares;
 use std::alloc::{AllocError, Global};
-use std::mem;
-use yaml_types::{push_each, sixteen_at};
+use yaml_types::put_sixteen;
 
 /// The least room that is made: what the smallest block of common allocators holds.
 const LEAST_ROOM: usize = 24;
@@ -35,7 +34,7 @@ pub fn copied(
     if copy.capacity() < CHUNK {
         return copied_apart(spares, bytes);
     }
-    push_each(&mut copy, &sixteen_at(text, from));
+    put_sixteen(&mut copy, text, from);
     copy.truncate(count);
     Ok(copy)
 }
@@ -86,16 +85,4 @@ fn cleared(alloc: Global, text: Vec<u8>, count: usize) -> Result<Vec<u8>, AllocE
     let mut text = text;
     text.clear();
     Ok(text)
-}
-
-/// The text, of which an empty one without room is left.
-// Inlined: some moves.
-#[inline(always)]
-pub fn moved(text: &mut Vec<u8>) -> Vec<u8>
-    ensures text { result ≡ text.old }
-    ensures none { text.new.items ≡ [] }
-    ensures left { vec_capacity text.new ≡ 0 }
-{
-    let alloc = *text.allocator();
-    mem::replace(text, Vec::new(alloc))
 }

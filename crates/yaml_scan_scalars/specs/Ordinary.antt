@@ -1,5 +1,6 @@
 -- Runs of bytes that stand for themselves.
 use Rattle.std.specs.Prelude.{ℕ, zero, suc, ◌+◌, ◌-◌, ◌<◌, ◌≤◌, ◌≡◌, ◌==◌, Bool, true, not, ◌&&◌, ◌||◌, if◌then◌else◌, nat_le, nat_lt, List, [], ◌∷◌, ◌++◌, length, take, drop}
+use Rattle.yaml_scan_model.specs.Ascii as ascii
 use Rattle.yaml_scan_model.specs.Marks.{Place, byte}
 use Rattle.yaml_scan_scalars.specs.Pieces.{Piece, Kept, Blank}
 
@@ -7,9 +8,11 @@ use Rattle.yaml_scan_scalars.specs.Pieces.{Piece, Kept, Blank}
 -- do as well, as a dash that is not at a line's start.
 unfoldable pub is_ordinary : ℕ → Bool
 is_ordinary b =
-    ((nat_le 40 b && nat_le b 43) || ((nat_le 47 b && nat_le b 57)
-    || ((nat_le 59 b && nat_le b 62)
-    || ((nat_le 64 b && nat_le b 90) || (nat_le 94 b && nat_le b 122)))))
+    ((nat_le ascii.open_paren b && nat_le b ascii.plus)
+    || ((nat_le ascii.slash b && nat_le b ascii.digit_nine)
+    || ((nat_le ascii.semicolon b && nat_le b ascii.greater)
+    || ((nat_le ascii.at b && nat_le b ascii.capital_z)
+    || (nat_le ascii.caret b && nat_le b ascii.small_z)))))
     || ((nat_le 0x80 b && nat_le b 0x84)
     || ((nat_le 0x86 b && nat_le b 0xA7)
     || ((nat_le 0xAA b && nat_le b 0xC1)
@@ -21,7 +24,7 @@ is_narrow b = nat_lt b 128 && is_ordinary b
 
 -- a space stands there, before an ordinary byte of ASCII
 abbrev pub is_spaced : List ℕ → ℕ → Bool
-is_spaced text p = byte text p == 32 && is_narrow (byte text (p + 1))
+is_spaced text p = byte text p == ascii.space && is_narrow (byte text (p + 1))
 
 -- the byte there stands for itself: an ordinary one, or a space before such a one
 unfoldable pub in_run : List ℕ → ℕ → Bool

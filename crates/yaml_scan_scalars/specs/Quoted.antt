@@ -28,9 +28,9 @@ in_escape problem p = Bad record {
 -- the value of a hexadecimal digit
 unfoldable pub hex_digit : ℕ → Option ℕ
 hex_digit b =
-    if nat_le 48 b && nat_le b 57 then Some (b - 48)
-    else if nat_le 65 b && nat_le b 70 then Some (b - 55)
-    else if nat_le 97 b && nat_le b 102 then Some (b - 87)
+    if nat_le ascii.digit_zero b && nat_le b ascii.digit_nine then Some (b - ascii.digit_zero)
+    else if nat_le ascii.capital_a b && nat_le b ascii.capital_f then Some (b - 55)
+    else if nat_le ascii.small_a b && nat_le b ascii.small_f then Some (b - 87)
     else None
 
 -- the number that n hexadecimal digits spell, or none where one of them is no digit
@@ -50,25 +50,27 @@ coded p q (Some c) = if is_scalar c then Pieces (Kept (encode_utf8 c) ∷ []) q
 
 -- how many digits follow `x`, `u` and `U`
 unfoldable pub hex_len : ℕ → ℕ
-hex_len b = if b == 0x78 then 2 else if b == 0x75 then 4 else if b == 0x55 then 8 else 0
+hex_len b = if b == ascii.small_x then 2 else if b == ascii.small_u then 4
+    else if b == ascii.capital_u then 8 else 0
 
 -- the bytes that a letter stands for behind a backslash
 unfoldable pub simple_escape : ℕ → Option (List ℕ)
 simple_escape b =
-    if b == 0x30 then Some (0 ∷ [])
-    else if b == 0x61 then Some (7 ∷ [])
-    else if b == 0x62 then Some (8 ∷ [])
-    else if b == 0x74 || b == ascii.tab then Some (ascii.tab ∷ [])
-    else if b == 0x6E then Some (ascii.line_feed ∷ [])
-    else if b == 0x76 then Some (11 ∷ [])
-    else if b == 0x66 then Some (12 ∷ [])
-    else if b == 0x72 then Some (ascii.carriage_return ∷ [])
-    else if b == 0x65 then Some (0x1B ∷ [])
-    else if b == 0x20 || (b == 0x22 || (b == 0x2F || b == 0x5C)) then Some (b ∷ [])
-    else if b == 0x4E then Some (0xC2 ∷ 0x85 ∷ [])
-    else if b == 0x5F then Some (0xC2 ∷ 0xA0 ∷ [])
-    else if b == 0x4C then Some (0xE2 ∷ 0x80 ∷ 0xA8 ∷ [])
-    else if b == 0x50 then Some (0xE2 ∷ 0x80 ∷ 0xA9 ∷ [])
+    if b == ascii.digit_zero then Some (ascii.null ∷ [])
+    else if b == ascii.small_a then Some (ascii.bell ∷ [])
+    else if b == ascii.small_b then Some (ascii.backspace ∷ [])
+    else if b == ascii.small_t || b == ascii.tab then Some (ascii.tab ∷ [])
+    else if b == ascii.small_n then Some (ascii.line_feed ∷ [])
+    else if b == ascii.small_v then Some (ascii.vertical_tab ∷ [])
+    else if b == ascii.small_f then Some (ascii.form_feed ∷ [])
+    else if b == ascii.small_r then Some (ascii.carriage_return ∷ [])
+    else if b == ascii.small_e then Some (ascii.escape ∷ [])
+    else if b == ascii.space || (b == ascii.quote || (b == ascii.slash || b == ascii.backslash))
+    then Some (b ∷ [])
+    else if b == ascii.capital_n then Some (0xC2 ∷ 0x85 ∷ [])
+    else if b == ascii.underscore then Some (0xC2 ∷ 0xA0 ∷ [])
+    else if b == ascii.capital_l then Some (0xE2 ∷ 0x80 ∷ 0xA8 ∷ [])
+    else if b == ascii.capital_p then Some (0xE2 ∷ 0x80 ∷ 0xA9 ∷ [])
     else None
 
 abbrev pub escaped : ℕ → Option (List ℕ) → QuotedSpot

@@ -49,11 +49,12 @@ then_at more (Ok x) = more x.0 x.1
 then_at more (Err w) = Err w
 
 abbrev pub is_yaml : List ℕ → ℕ → Bool
-is_yaml text p = byte text p == 89
-    && (byte text (p + 1) == 65 && (byte text (p + 2) == 77 && byte text (p + 3) == 76))
+is_yaml text p = byte text p == ascii.capital_y && (byte text (p + 1) == ascii.capital_a
+    && (byte text (p + 2) == ascii.capital_m && byte text (p + 3) == ascii.capital_l))
 
 abbrev pub is_tag : List ℕ → ℕ → Bool
-is_tag text p = byte text p == 84 && (byte text (p + 1) == 65 && byte text (p + 2) == 71)
+is_tag text p = byte text p == ascii.capital_t
+    && (byte text (p + 1) == ascii.capital_a && byte text (p + 2) == ascii.capital_g)
 
 -- the name from one place to another
 abbrev pub name_between : List ℕ → ℕ → ℕ → Result (DirectiveName × ℕ) Wrong
@@ -80,7 +81,7 @@ name_at text p = name_between text (p + 1) (run_end runs.Alphas text (p + 1))
 -- the number that n digits there spell
 unfoldable pub decimal : List ℕ → ℕ → ℕ → ℕ
 decimal text p zero = 0
-decimal text p (suc n) = decimal text p n * 10 + (byte text (p + n) - 48)
+decimal text p (suc n) = decimal text p n * 10 + (byte text (p + n) - ascii.digit_zero)
 
 -- the number from one place to another
 abbrev pub number_between : List ℕ → ℕ → ℕ → Result (ℕ × ℕ) Wrong

@@ -30,9 +30,9 @@ is_uri wide text p = is_alpha text p
 -- the value of a hexadecimal digit
 unfoldable pub hex_digit : ℕ → Option ℕ
 hex_digit b =
-    if nat_le 48 b && nat_le b 57 then Some (b - 48)
-    else if nat_le 65 b && nat_le b 70 then Some (b - 55)
-    else if nat_le 97 b && nat_le b 102 then Some (b - 87)
+    if nat_le ascii.digit_zero b && nat_le b ascii.digit_nine then Some (b - ascii.digit_zero)
+    else if nat_le ascii.capital_a b && nat_le b ascii.capital_f then Some (b - 55)
+    else if nat_le ascii.small_a b && nat_le b ascii.small_f then Some (b - 87)
     else None
 
 abbrev pub octet_of : Option ℕ → Option ℕ → Option ℕ

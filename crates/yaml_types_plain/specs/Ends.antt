@@ -12,7 +12,11 @@ unfoldable pub same_run : ℕ → List ℕ → ℕ → List ℕ → ℕ → Bool
 same_run zero a p b q = true
 same_run (suc n) a p b q = same_run n a p b q && slice_index a (p + n) == slice_index b (q + n)
 
+-- how many bytes a text has, where there is one
+abbrev pub given_length : Option (Vec ℕ Global) → ℕ
+given_length None = 0
+given_length (Some text) = length text.items
+
 -- there is none, or it is short
 abbrev pub IsShort : Option (Vec ℕ Global) → Type 0
-IsShort None = Unit {0}
-IsShort (Some text) = length text.items ≤ 32
+IsShort text = given_length text ≤ 32

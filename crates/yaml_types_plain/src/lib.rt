@@ -1,13 +1,14 @@
 //! The plain types that all members have: libyaml's enums, directives, marks and located faults, with what is derived of them; bytes that are
-//! put behind a text; and short texts, which are put so by few moves, and looked for in front of others. No must-fail edit stands here, so
+//! put behind a text, which has room for them and may be lifted out of its place meanwhile; and short texts, which are put so by few
+//! moves, and looked for in front of others. No must-fail edit stands here, so
 //! that all of this is proved once.
 #![tactic(auto)]
 
 mod directive;
 mod event_name;
 mod fault;
+mod lifting;
 mod name;
-mod pushing;
 mod putting;
 mod record;
 mod standing;
@@ -19,9 +20,11 @@ pub use event_name::{
     yaml_break_t, yaml_event_type_t, yaml_mapping_style_t, yaml_node_type_t, yaml_sequence_style_t,
 };
 pub use fault::{yaml_fault_t, yaml_origin_t};
+pub use lifting::{moved, put_back, with_room};
 pub use name::{yaml_encoding_t, yaml_error_type_t, yaml_scalar_style_t, yaml_token_type_t};
-pub use pushing::{push_each, push_near};
-pub use putting::{BRIEF, SHORT, is_short, put_brief, put_short, sixteen_at};
+pub use putting::{
+    SHORT, is_short, put_between, put_each, put_many, put_near, put_short, put_sixteen,
+};
 pub use record::{yaml_mark_t, yaml_simple_key_t};
 pub use standing::stands_in_front;
 pub use state::yaml_parser_state_t;

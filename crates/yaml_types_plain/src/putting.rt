@@ -1,15 +1,62 @@
-//! Short texts, put behind bytes that have room for them.
+//! Bytes that are put behind a text. What is put has room, which a clause asks for: so it can't fail.
 
 ghost use Rattle.std.specs.Prelude.{◌≡◌, ◌+◌, ◌-◌, ◌≤◌, ◌++◌, true, length, vec_len, vec_capacity};
 ghost use Rattle.yaml_types_plain.specs.Ends.{bytes_at, IsShort};
 
-use crate::pushing::push_each;
+use crate::lifting::{moved, put_back};
 
-/// Texts of at most so many bytes are brief: two loads and two stores of up to eight bytes put one.
-pub const BRIEF: usize = 16;
+// Texts of at most so many bytes are brief: two loads and two stores of up to eight bytes put one.
+const BRIEF: usize = 16;
 
 /// Texts of at most so many bytes are short.
 pub const SHORT: usize = 32;
+
+/// Puts these bytes behind a text, one by one.
+// Inlined: where their number is known, they are stored with no test between.
+#[inline(always)]
+pub fn put_each(text: &mut Vec<u8>, bytes: &[u8])
+    requires { vec_len text.old + length bytes.now ≤ vec_capacity text.old }
+    ensures items { text.new.items ≡ text.old.items ++ bytes.now }
+    ensures len { vec_len text.new ≡ vec_len text.old + length bytes.now }
+    ensures room { vec_capacity text.new ≡ vec_capacity text.old }
+{
+    for byte in bytes {
+        text.push_reserved(*byte);
+    }
+}
+
+/// Puts these bytes, which may be many, behind a text.
+// Out of line: what a copy needs would take registers from the few bytes beside it.
+#[inline(never)]
+pub fn put_many(text: &mut Vec<u8>, bytes: &[u8])
+    requires { vec_len text.old + length bytes.now ≤ vec_capacity text.old }
+    ensures items { text.new.items ≡ text.old.items ++ bytes.now }
+    ensures len { vec_len text.new ≡ vec_len text.old + length bytes.now }
+    ensures room { vec_capacity text.old ≤ vec_capacity text.new }
+{
+    // There is room, so that it isn't refused.
+    let _ = text.extend_from_slice(bytes);
+}
+
+/// Puts these bytes behind a text: up to eight take less time than a copy, one by one with their number known.
+pub fn put_near(text: &mut Vec<u8>, bytes: &[u8])
+    requires { vec_len text.old + length bytes.now ≤ vec_capacity text.old }
+    ensures items { text.new.items ≡ text.old.items ++ bytes.now }
+    ensures len { vec_len text.new ≡ vec_len text.old + length bytes.now }
+    ensures room { vec_capacity text.old ≤ vec_capacity text.new }
+{
+    match bytes.len() {
+        1 => put_each(text, &bytes[..1]),
+        2 => put_each(text, &bytes[..2]),
+        3 => put_each(text, &bytes[..3]),
+        4 => put_each(text, &bytes[..4]),
+        5 => put_each(text, &bytes[..5]),
+        6 => put_each(text, &bytes[..6]),
+        7 => put_each(text, &bytes[..7]),
+        8 => put_each(text, &bytes[..8]),
+        _ => put_many(text, bytes),
+    }
+}
 
 // Two bytes of a text.
 // Inlined: one load.
@@ -53,11 +100,11 @@ fn eight_at(text: &[u8], at: usize) -> [u8; 8]
     ]
 }
 
-/// Sixteen bytes of a text.
+// Sixteen bytes of a text.
 // Inlined: one load.
 #[inline(always)]
 #[tactic(auto, unfolding(crate::specs::Ends::bytes_at))]
-pub fn sixteen_at(text: &[u8], at: usize) -> [u8; 16]
+fn sixteen_at(text: &[u8], at: usize) -> [u8; 16]
     requires { at + 16 ≤ length text.now }
     ensures { result ≡ bytes_at 16 text.now at }
 {
@@ -81,6 +128,19 @@ pub fn sixteen_at(text: &[u8], at: usize) -> [u8; 16]
     ]
 }
 
+/// Puts the sixteen bytes of another text that stand at a place behind a text.
+// Inlined: one load and one store.
+#[inline(always)]
+pub fn put_sixteen(bytes: &mut Vec<u8>, text: &[u8], at: usize)
+    requires inside { at + 16 ≤ length text.now }
+    requires room { vec_len bytes.old + 16 ≤ vec_capacity bytes.old }
+    ensures items { bytes.new.items ≡ bytes.old.items ++ bytes_at 16 text.now at }
+    ensures len { vec_len bytes.new ≡ vec_len bytes.old + 16 }
+    ensures room { vec_capacity bytes.new ≡ vec_capacity bytes.old }
+{
+    put_each(bytes, &sixteen_at(text, at));
+}
+
 // Puts a text that is made of a front and an end of the same length, which may have bytes in common.
 // Inlined: two stores, where their length is known.
 #[inline(always)]
@@ -97,9 +157,9 @@ fn put_ends(bytes: &mut Vec<u8>, text: &[u8], front: &[u8], end: &[u8])
     ensures room { vec_capacity bytes.new ≡ vec_capacity bytes.old }
 {
     let from = bytes.len();
-    push_each(bytes, front);
+    put_each(bytes, front);
     bytes.truncate(from + (text.len() - front.len()));
-    push_each(bytes, end);
+    put_each(bytes, end);
 }
 
 /// Whether a text that may be left out is short.
@@ -114,10 +174,10 @@ pub fn is_short(text: &Option<Vec<u8>>) -> bool
     }
 }
 
-/// Puts a brief text behind bytes that have room for it.
+// Puts a brief text behind bytes.
 // Inlined: two comparisons, two loads and two stores, where the bytes are the caller's own.
 #[inline(always)]
-pub fn put_brief(bytes: &mut Vec<u8>, text: &[u8])
+fn put_brief(bytes: &mut Vec<u8>, text: &[u8])
     requires brief { length text.now ≤ BRIEF }
     requires room { vec_len bytes.old + length text.now ≤ vec_capacity bytes.old }
     ensures items { bytes.new.items ≡ bytes.old.items ++ text.now }
@@ -127,7 +187,7 @@ pub fn put_brief(bytes: &mut Vec<u8>, text: &[u8])
     let count = text.len();
     if count < 4 {
         if count < 2 {
-            push_each(bytes, text);
+            put_each(bytes, text);
         } else {
             put_ends(bytes, text, &two_at(text, 0), &two_at(text, count - 2));
         }
@@ -138,7 +198,7 @@ pub fn put_brief(bytes: &mut Vec<u8>, text: &[u8])
     }
 }
 
-/// Puts a short text behind bytes that have room for it.
+/// Puts a short text behind bytes.
 // Inlined: two loads and two stores, where the bytes are the caller's own.
 #[inline(always)]
 pub fn put_short(bytes: &mut Vec<u8>, text: &[u8])
@@ -158,5 +218,52 @@ pub fn put_short(bytes: &mut Vec<u8>, text: &[u8])
             &sixteen_at(text, 0),
             &sixteen_at(text, count - 16),
         );
+    }
+}
+
+// Puts some bytes, a brief text and some more.
+// Inlined: some stores, where the numbers of the first and the last are known.
+#[inline(always)]
+fn put_brief_between(bytes: &mut Vec<u8>, front: &[u8], text: &[u8], end: &[u8])
+    requires brief { length text.now ≤ BRIEF }
+    requires room { vec_len bytes.old + (length front.now + length text.now + length end.now)
+        ≤ vec_capacity bytes.old }
+    ensures items { bytes.new.items ≡ bytes.old.items ++ (front.now ++ (text.now ++ end.now)) }
+    ensures room { vec_capacity bytes.old ≤ vec_capacity bytes.new }
+{
+    let mut own = moved(bytes);
+    put_each(&mut own, front);
+    put_brief(&mut own, text);
+    put_each(&mut own, end);
+    put_back(bytes, own);
+}
+
+// The same where the text isn't brief.
+// Out of line: then the bytes stay in registers where it is.
+#[inline(never)]
+fn put_long_between(bytes: &mut Vec<u8>, front: &[u8], text: &[u8], end: &[u8])
+    requires { vec_len bytes.old + (length front.now + length text.now + length end.now)
+        ≤ vec_capacity bytes.old }
+    ensures items { bytes.new.items ≡ bytes.old.items ++ (front.now ++ (text.now ++ end.now)) }
+    ensures room { vec_capacity bytes.old ≤ vec_capacity bytes.new }
+{
+    put_each(bytes, front);
+    put_near(bytes, text);
+    put_each(bytes, end);
+}
+
+/// Puts some bytes, a text and some more.
+// Inlined: the numbers of the first and the last are known.
+#[inline(always)]
+pub fn put_between(bytes: &mut Vec<u8>, front: &[u8], text: &[u8], end: &[u8])
+    requires { vec_len bytes.old + (length front.now + length text.now + length end.now)
+        ≤ vec_capacity bytes.old }
+    ensures items { bytes.new.items ≡ bytes.old.items ++ (front.now ++ (text.now ++ end.now)) }
+    ensures room { vec_capacity bytes.old ≤ vec_capacity bytes.new }
+{
+    if text.len() <= BRIEF {
+        put_brief_between(bytes, front, text, end);
+    } else {
+        put_long_between(bytes, front, text, end);
     }
 }

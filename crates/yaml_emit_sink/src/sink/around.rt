@@ -3,7 +3,7 @@ ghost use Rattle.std.specs.Prelude.{◌≡◌, ◌<◌, ◌≤◌, ◌∷◌, �
 
 use super::{Sink, has_room};
 use crate::append::lettered;
-use crate::joined::append_joined;
+use yaml_types::put_between;
 
 impl Sink {
     ghost use Rattle.std.specs.Str.{IsAscii};
@@ -32,7 +32,7 @@ impl Sink {
     {
         let count = (front.len() + text.len() + end.len()) as u64;
         if has_room(&self.output, self.fast_limit, count) {
-            append_joined(&mut self.output, front, text, end);
+            put_between(&mut self.output, front, text, end);
             lettered(&mut self.cursor, count);
         } else {
             self.put_parts(front, text, end);

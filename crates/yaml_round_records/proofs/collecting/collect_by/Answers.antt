@@ -9,5 +9,5 @@ events-init g c = record { ending = refl; collected = none_collected _ _ c.requi
 pub events-preserved : goal.events-preserved
 events-preserved g c = record {
   ending = c.in-Event.ensures.finds.ending ∙ c.events.invariant.ending;
-  collected = one_collected _ _ _ _ _ _ c.events.invariant.collected c.in-Event.ensures.finds.events (it_holds _ c.add.result c.add.ensures c.if-is_err.ensures.value);
+  collected = one_collected _ _ _ _ _ _ c.events.invariant.collected c.in-Event.ensures.finds.events (it_holds _ c.push.result c.push.ensures c.if-is_err.ensures.value);
 }

@@ -10,4 +10,4 @@ returns-then-has_room c =
     let some = some_letters _ (sym c.is_empty.ensures ∙ c.if-is_empty.false) in
     let near = c.has_room.ensures c.if-has_room.true some in
     let fast = c.self.invariant.fast_limit (omega (arith, near, some)) in
-    rw (← c.self.view_is) (puts_near _ _ _ c.requires some fast.1.0 fast.1.1 refl refl refl c.push_near.ensures.items (omega (arith, near, fast.0)) c.lettered.ensures)
+    rw (← c.self.view_is) (puts_near _ _ _ c.requires some fast.1.0 fast.1.1 refl refl refl c.put_near.ensures.items (omega (arith, near, fast.0)) c.lettered.ensures)

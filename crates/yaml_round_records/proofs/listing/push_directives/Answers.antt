@@ -1,7 +1,7 @@
 -- Each directive is added behind the others.
 use Rattle.std.proofs.Common.{refl, rules}
 use Rattle.yaml_round_records.proofs.Directing.{none_put, next_put, last_put}
-use Rattle.yaml_round_records.proofs.listing.put_directives.Goals as goal
+use Rattle.yaml_round_records.proofs.listing.push_directives.Goals as goal
 
 pub loop-directive-init : goal.loop-directive-init
 loop-directive-init c = record { at = search rules; adds = none_put c.args.listing.now }

@@ -2,7 +2,7 @@
 use Rattle.std.proofs.Common.{◌≡◌, length, map, take}
 use Rattle.yaml_parse.specs.Events.{directive_of}
 use Rattle.yaml_round_records.specs.Listing.{AddsDirectives}
-use Rattle.yaml_round_records.proofs.listing.put_directives.Given as goal
+use Rattle.yaml_round_records.proofs.listing.push_directives.Given as goal
 
 abbrev pub invariant-loop-directive : goal.invariant-loop-directive
 invariant-loop-directive l = record {

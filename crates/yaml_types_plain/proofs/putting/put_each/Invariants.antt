@@ -1,7 +1,7 @@
 -- What was added is the front, and as much room is left as the rest takes.
 use Rattle.std.proofs.Common.{◌≡◌, ◌+◌, ◌++◌, take}
 use Rattle.std.specs.Vec.{vec_len, vec_capacity}
-use Rattle.yaml_types_plain.proofs.pushing.push_each.Given as goal
+use Rattle.yaml_types_plain.proofs.putting.put_each.Given as goal
 
 abbrev pub invariant-loop-byte : goal.invariant-loop-byte
 invariant-loop-byte l =

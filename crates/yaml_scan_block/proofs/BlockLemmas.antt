@@ -1,24 +1,12 @@
 -- Block scalars' lines, a step at a time.
 use Rattle.std.proofs.Common.{◌≡◌, ◌≢◌, ℕ, zero, suc, ◌+◌, ◌-◌, ◌<◌, ◌≤◌, ◌==◌, nat_lt, ◌&&◌, ◌||◌, true, false, not, List, refl, inl, inr, ◌⊎◌, arith}
 use Rattle.std.specs.Prelude.{slice_range}
-use Rattle.std.proofs.lemmas.Bool.Decides.{nat_tests}
-use Rattle.std.proofs.lemmas.Bool.{lt-ltb}
-use Rattle.yaml_scan_model.specs.Marks.{byte, break_width, column_at, ends_break}
-use Rattle.yaml_scan_model.specs.Breaks.{break_value, feed_at}
-use Rattle.yaml_scan_model.specs.Runs.{is_text, line_end}
-use Rattle.yaml_scan_model.proofs.MarksLemmas.{column_more}
-use Rattle.yaml_scan_model.proofs.BreaksLemmas.{no_end-blank}
-use Rattle.yaml_scan_model.proofs.RunsLemmas.{past_some}
-use Rattle.yaml_scan_block.specs.Value.{Empty, Words}
-use Rattle.yaml_scan_block.specs.Lines.{spaces, spot_behind, Stops, Line, Tab}
-
-space_end : (text : List ℕ) (p : ℕ) → byte text p ≡ 32 → ends_break text p ≡ false
-space_end text p h = no_end-blank _ _ _ _ (rw h refl)
+use Rattle.yaml_scan_block.proofs.Words.{nat_tests, lt-ltb, byte, break_width, column_at, break_value, feed_at, is_text, line_end, column_more, no_end-blank, past_some, Empty, Words, spaces, spot_behind, Stops, Line, Tab}
 
 -- A space moves the column on by one.
 pub space_column : (text : List ℕ) (p : ℕ) → byte text p ≡ 32
     → column_at text (p + 1) ≡ column_at text p + 1
-space_column text p h = column_more text p (space_end text p h) (rw h refl)
+space_column text p h = column_more text p (no_end-blank _ _ _ _ (rw h refl)) (rw h refl)
 
 spaces_more : (n : ℕ) (text : List ℕ) (p : ℕ) → byte text p ≡ 32
     → spaces (suc n) text p ≡ suc (spaces n text (p + 1))
@@ -39,8 +27,7 @@ pub space_step : (c : ℕ) (text : List ℕ) (p : ℕ) → byte text p ≡ 32 �
     ≡ p + 1 + spaces (c - column_at text (p + 1)) text (p + 1)
 space_step c text p h l =
     let d : c - column_at text p ≡ suc (c - (column_at text p + 1)) = omega (arith, l) in
-    let more = spaces_more (c - (column_at text p + 1)) text p h in
-    rw (d, space_column text p h) (omega (arith, more))
+    rw (d, space_column text p h) (omega (arith, spaces_more (c - (column_at text p + 1)) text p h))
 
 tests : (b col c : ℕ) → (b == 32 && nat_lt col c) ≡ true → (b ≡ 32) × (col < c)
 tests b col c h = (grind (arith, nat_tests), grind (arith, nat_tests))

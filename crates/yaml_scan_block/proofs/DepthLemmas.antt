@@ -1,15 +1,7 @@
 -- The column of a block scalar's text, a line at a time.
 use Rattle.std.proofs.Common.{◌≡◌, ◌≢◌, ℕ, zero, suc, ◌+◌, ◌-◌, ◌<◌, ◌≤◌, ◌==◌, false, List, length, Result, Ok, Err, refl, sym, ap, ◌∙◌, arith}
-use Rattle.std.proofs.lemmas.Bool.Decides.{nat_tests}
-use Rattle.std.proofs.lemmas.Bool.{eq-eqb, ne_eqb, lt-ltb}
+use Rattle.yaml_scan_block.proofs.Words.{nat_tests, eq-eqb, ne_eqb, lt-ltb, byte, break_width, column_at, past_spaces, is_space_there, Wrong, past_break, past-le, in_block, larger, larger_of, deepest, column_of}
 use Rattle.yaml_scan_model.specs.declared.problem.Problem.TheVariants as problems
-use Rattle.yaml_scan_model.specs.Marks.{byte, break_width, column_at}
-use Rattle.yaml_scan_model.specs.Runs.{past_spaces, is_space_there}
-use Rattle.yaml_scan_model.specs.Wrong.{Wrong}
-use Rattle.yaml_scan_model.proofs.MarksLemmas.{past_break}
-use Rattle.yaml_scan_model.proofs.RunsLemmas.{past-le}
-use Rattle.yaml_scan_block.specs.Lines.{in_block}
-use Rattle.yaml_scan_block.specs.Block.{larger, larger_of, deepest, column_of}
 
 pub larger_zero : (b : ℕ) → larger 0 b ≡ b
 unfolding larger
@@ -19,13 +11,9 @@ pub larger_start : (r : Result ℕ Wrong) → r ≡ larger_of 0 r
 larger_start (Ok b) = ap (λ x. Ok x) (sym (larger_zero b))
 larger_start (Err w) = refl
 
-larger_both : (a b c : ℕ) → larger a (larger b c) ≡ larger (larger a b) c
-unfolding larger
-larger_both a b c = grind (arith, nat_tests)
-
 larger_more : (a b : ℕ) (r : Result ℕ Wrong)
     → larger_of a (larger_of b r) ≡ larger_of (larger a b) r
-larger_more a b (Ok c) = ap (λ x. Ok x) (larger_both a b c)
+larger_more a b (Ok c) = ap (λ x. Ok x) (unfold larger in grind (arith, nat_tests))
 larger_more a b (Err w) = refl
 
 pub depth_tab : (n : ℕ) (text : List ℕ) (p d : ℕ) → byte text (past_spaces text p) ≡ 9
@@ -56,8 +44,7 @@ pub depth_more : (n : ℕ) (text : List ℕ) (p d : ℕ) (whole : Result ℕ Wro
     (deepest (suc m) text (past_spaces text p + break_width text (past_spaces text p))))
 depth_more zero text p d whole room eq-eqb h w =
     let le = past-le is_space_there (length text) text p in
-    let end = past_break text (past_spaces text p) w in
-    absurd (omega (arith, end.inside))
+    absurd (omega (arith, (past_break text (past_spaces text p) w).inside))
 depth_more (suc n) text p d whole room eq-eqb h w =
     let le = past-le is_space_there (length text) text p in (
       n,

@@ -1,22 +1,8 @@
 -- Headers of block scalars, a byte at a time.
 use Rattle.std.proofs.Common.{◌≡◌, ◌≢◌, ℕ, ◌+◌, ◌<◌, Bool, true, false, List, if◌then◌else◌, Ok, Err, refl, arith}
-use Rattle.std.proofs.lemmas.Bool.Decides.{nat_tests}
-use Rattle.std.proofs.lemmas.Bool.{eq-eqb, ne_eqb}
+use Rattle.yaml_scan_block.proofs.Words.{nat_tests, eq-eqb, ne_eqb, byte, break_of, break_width, is_text, no_break, in_block, is_chomping, indicators, digit_place, chomping_place, digit_of, chomp_of, header_end, header_at}
 use Rattle.yaml_scan_model.specs.declared.problem.Problem.TheVariants as problems
-use Rattle.yaml_scan_model.specs.Marks.{byte, break_of, break_width}
 use Rattle.yaml_scan_model.specs.Classes.{is_digit_byte}
-use Rattle.yaml_scan_model.specs.Runs.{is_text}
-use Rattle.yaml_scan_model.proofs.MarksLemmas.{no_break}
-use Rattle.yaml_scan_block.specs.Lines.{in_block}
-use Rattle.yaml_scan_block.specs.Header.{is_chomping, indicators, digit_place, chomping_place, digit_of, chomp_of, header_end, header_at}
-
-chomping_bounds : (b : ℕ) → is_chomping b ≡ true → (42 < b) × (b < 58)
-unfolding is_chomping
-chomping_bounds b h = (grind (arith, nat_tests), grind (arith, nat_tests))
-
-first_bounds : (b c : ℕ) → indicators b c ≢ 0 → (42 < b) × (b < 58)
-unfolding indicators is_chomping is_digit_byte
-first_bounds b c h = (grind (arith, nat_tests), grind (arith, nat_tests))
 
 second_bounds : (b c : ℕ) → indicators b c ≢ 0 → indicators b c ≢ 1 → (42 < c) × (c < 58)
 unfolding indicators is_chomping is_digit_byte
@@ -30,10 +16,10 @@ between : (b c d : ℕ) → (42 < b) × (b < 58) → (0 < b) × (break_of b c d 
 between b c d (h, k) = (omega arith, no_break b c d (omega arith) (omega arith) (omega arith) (omega arith))
 
 pub chomping_parts : (b c d : ℕ) → is_chomping b ≡ true → (0 < b) × (break_of b c d ≡ 0)
-chomping_parts b c d h = between b c d (chomping_bounds b h)
+chomping_parts b c d h = between b c d (unfold is_chomping in (grind (arith, nat_tests), grind (arith, nat_tests)))
 
 pub first_parts : (b c d e : ℕ) → indicators b c ≢ 0 → (0 < b) × (break_of b d e ≡ 0)
-first_parts b c d e h = between b d e (first_bounds b c h)
+first_parts b c d e h = between b d e (unfold indicators is_chomping is_digit_byte in (grind (arith, nat_tests), grind (arith, nat_tests)))
 
 pub second_parts : (b c d e : ℕ) → indicators b c ≢ 0 → indicators b c ≢ 1
     → (0 < c) × (break_of c d e ≡ 0)

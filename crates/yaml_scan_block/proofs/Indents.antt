@@ -1,15 +1,7 @@
 -- Where runs end, and the deepest indentation of the lines in front.
 use Rattle.std.proofs.Common.{◌≡◌, ◌≢◌, ℕ, zero, suc, ◌+◌, ◌<◌, ◌≤◌, ◌==◌, Bool, true, false, List, length, Result, Ok, Err, refl, sym, ap, subst, ◌∙◌, inl, inr, ◌⊎◌, arith}
-use Rattle.std.proofs.lemmas.Bool.Decides.{nat_tests}
+use Rattle.yaml_scan_block.proofs.Words.{nat_tests, byte, break_width, is_blank, past, is_blank_there, is_space_there, is_text, past_spaces, Wrong, within, past_break, no_break, past_more, past_stop, text_parts, in_block, larger, larger_of, deepest, EndsBlockRun, RunsEnd, RunEndsOnce, LeadsTo, at_once, behind_blank, indent_at, Deepest, DeepestIs, DeepestIsOne}
 use Rattle.yaml_scan_model.specs.declared.problem.Problem.TheVariants as problems
-use Rattle.yaml_scan_model.specs.Marks.{byte, break_width, is_blank}
-use Rattle.yaml_scan_model.specs.Runs.{past, is_blank_there, is_space_there, is_text, past_spaces}
-use Rattle.yaml_scan_model.specs.Wrong.{Wrong}
-use Rattle.yaml_scan_model.proofs.MarksLemmas.{within, past_break, no_break}
-use Rattle.yaml_scan_model.proofs.RunsLemmas.{past_more, past_stop, text_parts}
-use Rattle.yaml_scan_block.specs.Lines.{in_block}
-use Rattle.yaml_scan_block.specs.Block.{larger, larger_of, deepest}
-use Rattle.yaml_scan_block.specs.Unbounded.{EndsBlockRun, RunsEnd, RunEndsOnce, LeadsTo, at_once, behind_blank, indent_at, Deepest, DeepestIs, DeepestIsOne}
 use Rattle.yaml_scan_block.proofs.DepthLemmas.{larger_zero, larger_start, depth_tab, depth_done, depth_more, spaces-le}
 
 -- ---- runs
@@ -158,10 +150,7 @@ found_by d text p n (inr e) (inl z) room fuel =
     (sym (larger_start (deepest (suc n) text p) ∙ depth_done n text p 0 e z ∙ ap (λ (c : ℕ). Ok c) (larger_zero (indent_at text p))))
     (one_line text p e z)
 found_by zero text p n (inr e) (inr w) room fuel =
-    let le = spaces-le text p in
-    let end = past_break text (past_spaces text p) w in
-    let inside = end.inside in
-    absurd (omega (arith, le, inside, room))
+    absurd (omega (arith, spaces-le text p, (past_break text (past_spaces text p) w).inside, room))
 found_by (suc d) text p n (inr e) (inr w) room fuel =
     let le = spaces-le text p in
     let (m, left, same) = depth_more n text p 0 (deepest (suc n) text p) fuel (larger_start (deepest (suc n) text p)) e w in
@@ -186,11 +175,8 @@ same_line text p q r (behind_blank x y w l) (behind_blank z u v m) e f = same_li
 
 both : (text : List ℕ) (p : ℕ) (r s : Result ℕ Wrong) → Deepest text p r → Deepest text p s → r ≡ s
 both text p (Ok c) (Ok d) a b =
-    let x = a.most b.line b.led in
-    let y = b.most a.line a.led in
-    let u = a.reached in
     let v = b.reached in
-    ap (λ (k : ℕ). Ok k) (omega (arith, x, y, u, v))
+    ap (λ (k : ℕ). Ok k) (omega (arith, a.most b.line b.led, b.most a.line a.led, a.reached, v))
 both text p (Ok c) (Err w) a b = absurd (a.no_tab b.line b.led b.tab)
 both text p (Err w) (Ok c) a b = absurd (b.no_tab a.line a.led a.tab)
 both text p (Err w) (Err x) a b = ap (λ (z : Wrong). Err z) (a.told ∙ ap (λ (q : ℕ). in_block problems.TabForSpace (past_spaces text q)) (same_line text p a.line b.line a.led b.led a.tab b.tab) ∙ sym b.told)

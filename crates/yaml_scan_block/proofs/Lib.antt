@@ -1,3 +1,4 @@
+mod Words
 pub mod StackingLemmas
 pub mod BlockLemmas
 pub mod LinesLemmas

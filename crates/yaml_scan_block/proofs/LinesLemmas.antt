@@ -1,17 +1,7 @@
 -- Block scalars, a line at a time.
 use Rattle.std.proofs.Common.{◌≡◌, ℕ, suc, ◌<◌, true, false, List, [], ◌∷◌, length, Result, Ok, Err, refl, ap}
-use Rattle.yaml_scan_model.specs.Marks.{Place, mark_at}
-use Rattle.yaml_scan_model.specs.declared.record.yaml_mark_t.{yaml_mark_t}
-use Rattle.yaml_scan_block.specs.declared.header.Chomp.{Chomp}
-use Rattle.yaml_scan_block.specs.declared.stacking.Stacking.{Stacking}
-use Rattle.yaml_scan_model.specs.declared.problem.ScanError.{ScanError}
+use Rattle.yaml_scan_block.proofs.Words.{Place, mark_at, yaml_mark_t, Chomp, Stacking, ScanError, Wrong, IsMemory, BlockLine, LineSpot, Stops, Line, Tab, Lines, with_line, line_then, lines_from, line_spot, block_with, BlockText, stacked, LineSteps, ReadsLines}
 use Rattle.yaml_scan_model.specs.declared.problem.ScanError.TheVariants as errors
-use Rattle.yaml_scan_model.specs.Wrong.{Wrong, IsMemory}
-use Rattle.yaml_scan_block.specs.Value.{BlockLine}
-use Rattle.yaml_scan_block.specs.Lines.{LineSpot, Stops, Line, Tab, Lines, with_line, line_then, lines_from, line_spot}
-use Rattle.yaml_scan_block.specs.Block.{block_with, BlockText}
-use Rattle.yaml_scan_block.specs.Stacked.{stacked}
-use Rattle.yaml_scan_block.specs.Readings.{LineSteps, ReadsLines}
 
 front : (f g : List BlockLine → List ℕ) (l : BlockLine) (r : Result Lines Wrong)
     → ((ls : List BlockLine) → g ls ≡ f (l ∷ ls)) → block_with f (with_line l r) ≡ block_with g r

@@ -1,20 +1,8 @@
 -- Block scalars, from their header, their column and their lines.
 use Rattle.std.proofs.Common.{◌≡◌, ℕ, suc, ◌+◌, ◌==◌, Bool, List, [], length, Result, Ok, Err, refl, ap, ◌∙◌, ◌⊎◌, inl, inr, arith}
-use Rattle.yaml_scan_model.specs.declared.record.yaml_mark_t.{yaml_mark_t}
-use Rattle.yaml_scan_model.specs.declared.problem.ScanError.{ScanError}
-use Rattle.yaml_scan_model.specs.Marks.{Place, byte, break_of, mark_at}
-use Rattle.yaml_scan_model.specs.Wrong.{Wrong}
-use Rattle.yaml_scan_model.proofs.MarksLemmas.{no_break}
+use Rattle.yaml_scan_block.proofs.Words.{yaml_mark_t, ScanError, Place, byte, break_of, mark_at, Wrong, no_break, Chomp, Stacking, BlockLine, block_value, Lines, lines_from, HeaderText, header_at, BlockText, block_at, block_with, column_of, style_at, stacked, ReadsHeader, ReadsLines, ReadsBlock, FindsColumn}
 use Rattle.yaml_scan_block.specs.declared.block.Block.{Block}
 use Rattle.yaml_scan_block.specs.declared.header.Header.{Header}
-use Rattle.yaml_scan_block.specs.declared.header.Chomp.{Chomp}
-use Rattle.yaml_scan_block.specs.declared.stacking.Stacking.{Stacking}
-use Rattle.yaml_scan_block.specs.Value.{BlockLine, block_value}
-use Rattle.yaml_scan_block.specs.Lines.{Lines, lines_from}
-use Rattle.yaml_scan_block.specs.Header.{HeaderText, header_at}
-use Rattle.yaml_scan_block.specs.Block.{BlockText, block_at, block_with, column_of, style_at}
-use Rattle.yaml_scan_block.specs.Stacked.{stacked}
-use Rattle.yaml_scan_block.specs.Readings.{ReadsHeader, ReadsLines, ReadsBlock, FindsColumn}
 
 -- a header that was read
 pub record IsHeader (text : List ℕ) (place : Place) (h : Header) (r : Result HeaderText Wrong) : Type 0 where

@@ -1,15 +1,7 @@
 -- Block scalars' values, a line at a time.
 use Rattle.std.proofs.Common.{◌≡◌, ℕ, Bool, true, false, not, ◌&&◌, List, [], ◌∷◌, ◌++◌, length, ◌<◌, refl, sym, ◌∙◌, append_assoc, append-nil, arith}
-use Rattle.yaml_scan_block.specs.Value.{Texts, BlockLine, Empty, Words, texts_of, value_with, behind_text, between, starts_blank, space_or}
-use Rattle.yaml_scan_model.specs.Breaks.{is_feed}
-use Rattle.yaml_scan_block.specs.Stacked.{stacked_with, glued}
-use Rattle.yaml_scan_block.specs.declared.header.Chomp.{Chomp}
+use Rattle.yaml_scan_block.proofs.Words.{BlockLine, Empty, Words, texts_of, behind_text, between, starts_blank, space_or, is_feed, stacked_with, glued, Chomp}
 use Rattle.yaml_scan_block.specs.declared.header.Chomp.TheVariants as chomps
-
-pub stack_start : (folded : Bool) (chomp : Chomp) (g : Texts)
-    → stacked_with folded [] false false [] [] chomp g ≡ value_with folded chomp g.lead g.lines
-unfolding stacked_with
-stack_start folded chomp g = refl
 
 -- An empty line is put behind those before it.
 pub stack_empty : (folded : Bool) (done : List ℕ) (any blank : Bool) (feed empties b : List ℕ)
@@ -55,13 +47,6 @@ pub stack_end : (folded : Bool) (done : List ℕ) (blank : Bool) (feed empties :
 unfolding stacked_with
 stack_end folded done blank feed empties chomp = rw (append-nil empties) refl
 
-pub stack_none : (folded : Bool) (done : List ℕ) (blank : Bool) (feed empties : List ℕ)
-    (chomp : Chomp)
-    → stacked_with folded done false blank feed empties chomp (texts_of []) ≡ done
-    ++ value_with folded chomp empties []
-unfolding stacked_with
-stack_none folded done blank feed empties chomp = rw (append-nil empties) refl
-
 -- A fold with breaks is these, and no space.
 pub space_or_some : (xs : List ℕ) → 0 < length xs → space_or xs ≡ xs
 space_or_some [] h = absurd (omega arith)
@@ -76,8 +61,3 @@ pub stack_strip : (folded : Bool) (done : List ℕ) (any blank : Bool) (feed emp
 unfolding stacked_with
 stack_strip folded done true blank feed empties = sym (append-nil done)
 stack_strip folded done false blank feed empties = sym (append-nil done)
-
-pub stack_clip_none : (folded : Bool) (done : List ℕ) (blank : Bool) (feed empties : List ℕ)
-    → done ≡ stacked_with folded done false blank feed empties chomps.Clip (texts_of [])
-unfolding stacked_with
-stack_clip_none folded done blank feed empties = sym (append-nil done)

@@ -1,16 +1,7 @@
 -- The bound on steps is never met.
 use Rattle.std.proofs.Common.{◌≡◌, ℕ, zero, suc, ◌+◌, ◌-◌, ◌<◌, ◌≤◌, ◌==◌, ◌&&◌, ◌||◌, not, nat_lt, Bool, true, false, List, length, Result, refl, sym, ap, subst, ◌∙◌, inl, inr, arith}
-use Rattle.std.proofs.lemmas.Bool.{cases_Bool}
-use Rattle.std.proofs.lemmas.Bool.Decides.{nat_tests}
-use Rattle.yaml_scan_model.specs.Marks.{byte, break_of, break_width, column_at}
-use Rattle.yaml_scan_model.specs.Wrong.{Wrong}
-use Rattle.yaml_scan_model.proofs.MarksLemmas.{within}
-use Rattle.yaml_scan_block.specs.Lines.{spaces, LineSpot, Stops, Line, Tab, spot_behind, line_spot, Lines, with_line, line_then, lines_from}
-use Rattle.yaml_scan_block.specs.Unbounded.{AreLinesFrom, stops, goes_on, has_tab, LinesAre, LinesAreOne}
+use Rattle.yaml_scan_block.proofs.Words.{cases_Bool, nat_tests, byte, break_of, break_width, column_at, Wrong, within, spaces, LineSpot, Stops, Line, Tab, spot_behind, line_spot, Lines, with_line, line_then, lines_from, AreLinesFrom, stops, goes_on, has_tab, LinesAre, LinesAreOne, ltb-true}
 use Rattle.yaml_scan_block.proofs.BlockLemmas.{text_long}
-
-less_of : (b : ℕ) → nat_lt 0 b ≡ true → 0 < b
-less_of b h = grind (arith, nat_tests)
 
 none_of : (b : ℕ) → nat_lt 0 b ≡ false → b ≡ 0
 none_of b h = grind (arith, nat_tests)
@@ -36,7 +27,7 @@ behind_moves c text p q le =
       | inl a ↦ rw a tt
       | inr a ↦ elim (cases_Bool (nat_lt 0 (break_width text q))) [
         | inl b ↦
-            let w = less_of (break_width text q) b in
+            let w = ltb-true 0 (break_width text q) b in
             let inside = within text q (break_first (byte text q) (byte text (q + 1)) (byte text (q + 2)) w) in
             rw (a, b) (omega (arith, w, le), omega (arith, inside, le))
         | inr b ↦ elim (cases_Bool (byte text q == 0 || not (column_at text q == c))) [
@@ -44,8 +35,7 @@ behind_moves c text p q le =
           | inr d ↦
               let some = some_byte (byte text q) (not (column_at text q == c)) d in
               let long = text_long text q (omega (arith, some)) (none_of (break_width text q) b) in
-              let inside = within text q some in
-              rw (a, b, d) (omega (arith, long, le), omega (arith, inside, le))
+              rw (a, b, d) (omega (arith, long, le), omega (arith, within text q some, le))
         ]
       ]
     ]

@@ -1,37 +1,102 @@
--- A text begins with the stream's start, and ends with its end.
-use Rattle.std.proofs.Common.{◌≡◌, ◌≢◌, ℕ, ◌+◌, ◌-◌, ◌==◌, ◌&&◌, not, nat_lt, cond, Bool, true, false, List, [], ◌∷◌, ◌++◌, length, flat_map, Option, Some, None, Result, Ok, refl, sym, ap, ◌∙◌, arith}
-use Rattle.std.proofs.lemmas.List.{append-nil}
-use Rattle.std.proofs.Math.Bool.{and-false}
-use Rattle.yaml_scan_laws_order.specs.scan_model.declared.record.yaml_mark_t.{yaml_mark_t}
-use Rattle.yaml_scan_laws_order.specs.scan_model.Marks.{mark_at}
-use Rattle.yaml_scan_laws_order.specs.scan_model.Tokens.{Token, TokenBody, stream_end}
-use Rattle.yaml_scan_laws_order.specs.scan_model.Faults.{Fault}
-use Rattle.yaml_scan_laws_order.specs.scan_model.Wrong.{Wrong}
-use Rattle.yaml_scan_laws_order.specs.scan_words.Between.{Gap}
-use Rattle.yaml_scan_laws_order.specs.scan_history.declared.kind.Kind.{Kind}
-use Rattle.yaml_scan_laws_order.specs.scan_history.declared.kind.Kind.TheVariants as kinds
-use Rattle.yaml_scan_laws_order.specs.scan_history.declared.lexeme.Lexeme.{Lexeme}
-use Rattle.yaml_scan_laws_order.specs.scan_history.declared.lexeme.Entry.{Entry}
+-- What entries say; a text begins with the stream's start, and ends with its end.
+use Rattle.std.proofs.Common.{◌≡◌, ℕ, zero, suc, Bool, true, false, List, [], ◌∷◌, ◌++◌, map, replicate, flat_map, refl, sym, ap, ◌∙◌, append_assoc, ◌≢◌, ◌+◌, ◌-◌, ◌==◌, ◌&&◌, not, nat_lt, cond, length, Option, Some, None, Result, Ok, arith}
+use Rattle.yaml_scan_laws_levels.proofs.Words.{append_cancel_left, flat_map-append, Token, TokenBody, block_end, key, Lexeme, Entry, Opens, margin_at, start_of, as_key, SpelledText, body_in, before, spell, start_tokens, own_tokens, entry, bodies_of, told, start_bodies, WordTells, LevelTells, KeyTells, append-nil, and-false, yaml_mark_t, mark_at, stream_end, Wrong, Gap, Kind, depth, reached, placed, candidate, fresh, indent, left_by, levels, entries, WordText, kind_at, word_at, Next, Read, Ends, first_lexeme, begun, gap_behind, allowed_behind, misplaced, missed, lost_by, level_in, next, extended, history, not_allowed, unless_wrong, unless_lost, of_kind, unless_missed, behind, all, handed_out, handed, kept_of, fault_in, Remaining, remaining, offline, Came, Rises, Front, Idle, InTime, StartStands, end_at, EndIsRead}
 use Rattle.yaml_scan_laws_order.specs.scan_history.declared.lexeme.Opens.TheVariants as opening
-use Rattle.yaml_scan_laws_order.specs.scan_history.History.{depth, reached, placed, candidate, fresh, indent, left_by, levels, entries}
-use Rattle.yaml_scan_laws_order.specs.scan_history.Words.{WordText, kind_at, word_at}
-use Rattle.yaml_scan_laws_order.specs.scan_history.Next.{Next, Read, Ends, first_lexeme, begun, gap_behind, allowed_behind, misplaced, missed, lost_by, level_in, next, extended, history}
-use Rattle.yaml_scan_laws_order.specs.scan_history.Stepwise.{not_allowed, unless_wrong, unless_lost, of_kind, unless_missed, behind}
-use Rattle.yaml_scan_laws_order.specs.scan_history.Remaining.{SpelledText, body_in, spell, all, handed_out, handed, kept_of, fault_in, Remaining, remaining, offline}
+use Rattle.yaml_scan_laws_order.specs.scan_model.Faults.{Fault}
+use Rattle.yaml_scan_laws_order.specs.scan_history.declared.kind.Kind.TheVariants as kinds
 use Rattle.yaml_scan_laws_order.proofs.HistoryForward.{last_is_all}
-use Rattle.yaml_scan_laws_levels.specs.Fronts.{Came, Rises, Front, IsFree, Idle, InTime, entry}
-use Rattle.yaml_scan_laws_levels.specs.Tokens.{bodies_of, told}
-use Rattle.yaml_scan_laws_levels.specs.Ends.{StartStands, end_at, EndIsRead}
-use Rattle.yaml_scan_laws_levels.proofs.Levels.{left_outside}
-use Rattle.yaml_scan_laws_levels.proofs.Reading.{unless_so, came_some, tested_read, fresh_in_time, lost_none}
-use Rattle.yaml_scan_laws_levels.proofs.Pushing.{free_push, free_in_time, came_push}
-use Rattle.yaml_scan_laws_levels.proofs.Telling.{word_tells}
+use Rattle.yaml_scan_laws_levels.proofs.Pushing.{left_outside, unless_so, came_some, tested_read, fresh_in_time, lost_none, free_push, free_in_time, came_push}
+
+abbrev said : List Token → List TokenBody
+said ts = map (λ (t : Token). t.body) ts
+
+said_more : (ts us : List Token) → said (ts ++ us) ≡ said ts ++ said us
+said_more [] us = refl
+said_more (t ∷ ts) us = ap (λ (bs : List TokenBody). t.body ∷ bs) (said_more ts us)
+
+pub bodies_more : (s : SpelledText) (es fs : List Entry)
+    → bodies_of s (es ++ fs) ≡ bodies_of s es ++ bodies_of s fs
+bodies_more s es fs = ap (λ (ts : List Token). said ts) (flat_map-append (spell s) es fs) ∙ said_more (flat_map (spell s) es) (flat_map (spell s) fs)
+
+ends_say : (n : ℕ) (l : Lexeme) → said (replicate n (before block_end l)) ≡ replicate n block_end
+ends_say zero l = refl
+ends_say (suc n) l = ap (λ (bs : List TokenBody). block_end ∷ bs) (ends_say n l)
+
+abbrev key_said : Bool → List TokenBody → List TokenBody
+key_said true bs = key ∷ bs
+key_said false bs = bs
+
+start_say : (s : SpelledText) (l : Lexeme) (n : ℕ) (what : Opens) (k : Bool) (bs : List TokenBody)
+    → let e : Entry = record { lexeme = l; ends = n; opens = what; key = k } in
+    said (start_tokens what l) ++ (said (own_tokens s e) ++ bs) ≡ start_bodies what (key_said k (body_in s l ∷ bs))
+start_say s l n opening.Nothing true bs = refl
+start_say s l n opening.Nothing false bs = refl
+start_say s l n opening.Sequence true bs = refl
+start_say s l n opening.Sequence false bs = refl
+start_say s l n opening.Mapping true bs = refl
+start_say s l n opening.Mapping false bs = refl
+
+spell_says : (s : SpelledText) (l : Lexeme) (n : ℕ) (what : Opens) (k : Bool) (bs : List TokenBody)
+    → let e : Entry = record { lexeme = l; ends = n; opens = what; key = k } in
+    said (spell s e) ++ bs ≡ replicate n block_end ++ start_bodies what (key_said k (body_in s l ∷ bs))
+spell_says s l n what k bs =
+    let e : Entry = record { lexeme = l; ends = n; opens = what; key = k } in
+    let ends = replicate n (before block_end l) in
+    ap (λ (xs : List TokenBody). xs ++ bs) (said_more (ends ++ start_tokens what l) (own_tokens s e) ∙ ap (λ (xs : List TokenBody). xs ++ said (own_tokens s e)) (said_more ends (start_tokens what l)))
+    ∙ append_assoc (said ends ++ said (start_tokens what l)) (said (own_tokens s e)) bs
+    ∙ append_assoc (said ends) (said (start_tokens what l)) (said (own_tokens s e) ++ bs)
+    ∙ ap (λ (xs : List TokenBody). xs ++ (said (start_tokens what l) ++ (said (own_tokens s e) ++ bs))) (ends_say n l)
+    ∙ ap (λ (xs : List TokenBody). replicate n block_end ++ xs) (start_say s l n what k bs)
+
+-- one entry before others
+entry_says : (s : SpelledText) (l : Lexeme) (n : ℕ) (what : Opens) (k : Bool) (rest : List Entry)
+    (bs : List TokenBody)
+    → let e : Entry = record { lexeme = l; ends = n; opens = what; key = k } in
+    bodies_of s (e ∷ rest) ++ bs ≡ replicate n block_end ++ start_bodies what (key_said k (body_in s l ∷ (bodies_of s rest ++ bs)))
+entry_says s l n what k rest bs =
+    let e : Entry = record { lexeme = l; ends = n; opens = what; key = k } in
+    ap (λ (xs : List TokenBody). xs ++ bs) (said_more (spell s e) (flat_map (spell s) rest))
+    ∙ append_assoc (said (spell s e)) (bodies_of s rest) bs
+    ∙ spell_says s l n what k (bodies_of s rest ++ bs)
+
+-- what stands behind entries
+behind_says : (s : SpelledText) (done : List Entry) (l : Lexeme) (n : ℕ) (what : Opens) (k : Bool)
+    (rest : List Entry) (bs : List TokenBody)
+    → let e : Entry = record { lexeme = l; ends = n; opens = what; key = k } in
+    told s (done ++ e ∷ rest) 0 bs ≡ told s done n (start_bodies what (key_said k (body_in s l ∷ (bodies_of s rest ++ bs))))
+behind_says s done l n what k rest bs =
+    let e : Entry = record { lexeme = l; ends = n; opens = what; key = k } in
+    ap (λ (xs : List TokenBody). xs ++ bs) (bodies_more s done (e ∷ rest))
+    ∙ append_assoc (bodies_of s done) (bodies_of s (e ∷ rest)) bs
+    ∙ ap (λ (xs : List TokenBody). bodies_of s done ++ xs) (entry_says s l n what k rest bs)
+
+pub word_tells : WordTells
+word_tells s es l n what bs = behind_says s es l n what false [] bs
+
+one_more : (n : ℕ) (bs : List TokenBody)
+    → replicate (suc n) block_end ++ bs ≡ replicate n block_end ++ block_end ∷ bs
+one_more zero bs = refl
+one_more (suc n) bs = ap (λ (xs : List TokenBody). block_end ∷ xs) (one_more n bs)
+
+pub level_tells : LevelTells
+level_tells s es n bs = ap (λ (xs : List TokenBody). bodies_of s es ++ xs) (one_more n bs)
+
+-- what a key's words say
+key_says : (s : SpelledText) (done : List Entry) (l : Lexeme) (n : ℕ) (rest : List Entry)
+    (K : List TokenBody → List TokenBody) (bs : List TokenBody)
+    → told s (done ++ entry l n opening.Nothing ∷ rest) 0 bs ≡ told s done n (K bs)
+    → body_in s l ∷ (bodies_of s rest ++ bs) ≡ K bs
+key_says s done l n rest K bs e =
+    append_cancel_left (replicate n block_end) _ (K bs) (append_cancel_left (bodies_of s done) _ (replicate n block_end ++ K bs) (sym (behind_says s done l n opening.Nothing false rest bs) ∙ e))
+
+pub key_tells : KeyTells
+key_tells s ms done l n rest v K says bs =
+    let what = start_of l.depth (margin_at l.start.column) ms opening.Mapping in
+    word_tells s (done ++ as_key ms (entry l n opening.Nothing) ∷ rest) v 0 opening.Nothing bs
+    ∙ behind_says s done l n what true rest (body_in s v ∷ bs)
+    ∙ ap (λ (xs : List TokenBody). told s done n (start_bodies what (key ∷ xs))) (key_says s done l n rest K (body_in s v ∷ bs) (says (body_in s v ∷ bs)))
 
 -- ---- the start
-
-nothing_free : (e : ℕ) → IsFree (candidate e [])
-unfolding candidate
-nothing_free e = tt
 
 start_front : (text : List ℕ)
     → Front text (first_lexeme ∷ []) 0 [] (entry first_lexeme 0 opening.Nothing ∷ [])
@@ -41,7 +106,7 @@ start_front text = record { came = refl; going = refl; depth = refl; levels = re
 pub start_stands : StartStands
 start_stands text = record {
   front = start_front text;
-  idle = λ e. free_push first_lexeme [] e (nothing_free e) refl;
+  idle = λ e. free_push first_lexeme [] e (unfold candidate in tt) refl;
   told = λ x bs. refl;
 }
 

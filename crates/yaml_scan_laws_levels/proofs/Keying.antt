@@ -1,25 +1,10 @@
 -- Keys of one word or several are held, and marked by their `:`.
 use Rattle.std.proofs.Common.{◌≡◌, ◌⊎◌, ℕ, zero, suc, ◌-◌, ◌<◌, ◌==◌, ◌&&◌, ◌||◌, not, nat_lt, cond, Bool, true, false, List, [], ◌∷◌, ◌++◌, length, Option, Some, None, refl, sym, ap, subst, ◌∙◌, inl, inr, arith}
-use Rattle.std.proofs.lemmas.Bool.{cases_Bool, eq-eqb}
-use Rattle.std.proofs.lemmas.Bool.Decides.{nat_tests}
-use Rattle.std.proofs.Math.Bool.{and-false}
-use Rattle.yaml_scan_laws_order.specs.scan_model.declared.record.yaml_mark_t.{yaml_mark_t}
-use Rattle.yaml_scan_laws_order.specs.scan_model.Marks.{column_at, mark_at}
-use Rattle.yaml_scan_laws_order.specs.scan_history.declared.kind.Kind.{Kind}
+use Rattle.yaml_scan_laws_levels.proofs.Words.{cases_Bool, eq-eqb, nat_tests, and-false, yaml_mark_t, column_at, mark_at, Kind, Lexeme, Entry, Opens, depth_after, may_be_key, cancels, is_value, is_start, is_outside, Candidate, candidate, fresh, has, is_fresh, margin_at, indent, left_by, opens_at, opened, level_of, marked, mark_key, as_key, level_in, length-entries, IsFree, Idle, InTime, Holds, entry, read_at}
 use Rattle.yaml_scan_laws_order.specs.scan_history.declared.kind.Kind.TheVariants as kinds
-use Rattle.yaml_scan_laws_order.specs.scan_history.declared.lexeme.Lexeme.{Lexeme}
-use Rattle.yaml_scan_laws_order.specs.scan_history.declared.lexeme.Entry.{Entry}
-use Rattle.yaml_scan_laws_order.specs.scan_history.declared.lexeme.Opens.{Opens}
 use Rattle.yaml_scan_laws_order.specs.scan_history.declared.lexeme.Opens.TheVariants as opening
-use Rattle.yaml_scan_laws_order.specs.scan_history.Kinds.{depth_after, may_be_key, cancels, is_value, is_start, is_outside}
-use Rattle.yaml_scan_laws_order.specs.scan_history.History.{Candidate, candidate, fresh, has, is_fresh, margin_at, indent, left_by, opens_at, opened, level_of, marked, mark_key, as_key}
-use Rattle.yaml_scan_laws_order.specs.scan_history.Next.{level_in}
-use Rattle.yaml_scan_laws_order.proofs.HistoryLemmas.{length-entries}
-use Rattle.yaml_scan_laws_levels.specs.Fronts.{IsFree, Idle, InTime, Holds, entry, read_at}
 use Rattle.yaml_scan_laws_levels.specs.Keys.{KeyBegins, IsInKey, KeyGoesOn, KeyEnds}
-use Rattle.yaml_scan_laws_levels.proofs.Levels.{opened_rises, stays_right}
-use Rattle.yaml_scan_laws_levels.proofs.Reading.{met_is_read}
-use Rattle.yaml_scan_laws_levels.proofs.Pushing.{goes_on, free_push, free_in_time, required_not, opens_by, front_push, front_same, meets_level, lone_marks, calm_opens, calm_levels, stays_inside, stays_calm, stays_placed, level_is, body_met}
+use Rattle.yaml_scan_laws_levels.proofs.Pushing.{opened_rises, stays_right, met_is_read, goes_on, free_push, free_in_time, required_not, opens_by, front_push, front_same, meets_level, lone_marks, calm_opens, calm_levels, stays_inside, stays_calm, stays_placed, level_is, body_met}
 
 -- ---- the candidates behind one lexeme more
 
@@ -35,11 +20,6 @@ kept_more : (same saved cancel below : Bool) (o rest : Option Candidate)
     → cond same (cond saved o (cond cancel None rest)) (cond below None rest) ≡ rest
 kept_more same saved cancel below o rest (inl (e, f, g)) = rw (e, f, g) refl
 kept_more same saved cancel below o rest (inr (e, f)) = rw (e, f) refl
-
-cancelled_more : (same saved cancel below : Bool) (o rest : Option Candidate) → same ≡ true
-    → saved ≡ false → cancel ≡ true
-    → cond same (cond saved o (cond cancel None rest)) (cond below None rest) ≡ None
-cancelled_more same saved cancel below o rest e f g = rw (e, f, g) refl
 
 other_more : (same saved cancel below : Bool) (o rest : Option Candidate) → same ≡ false
     → IsFree rest → IsFree (cond same (cond saved o (cond cancel None rest)) (cond below None rest))
@@ -69,15 +49,11 @@ kept_slot l h d (inr e) = kept_more (l.depth == d) l.saved (cancels l.kind) (nat
 pub cancelled_slot : (l : Lexeme) (h : List Lexeme) (d : ℕ) → l.depth ≡ d → l.saved ≡ false
     → cancels l.kind ≡ true → candidate d (l ∷ h) ≡ None
 unfolding candidate
-cancelled_slot l h d e f g = cancelled_more (l.depth == d) l.saved (cancels l.kind) (nat_lt l.depth d) (Some (record { number = length h; lexeme = l })) (candidate d h) (eq-eqb l.depth d e) f g
-
-some_in_time : (o : Option Candidate) (c : Candidate) (m : yaml_mark_t) → o ≡ Some c
-    → is_fresh c.lexeme.start m ≡ true → InTime o m
-some_in_time o c m e f = let P : Option Candidate → Type 0 = λ x. InTime x m in subst P (sym e) (inr f)
+cancelled_slot l h d e f g = rw ((eq-eqb l.depth d e), f, g) refl
 
 holds_in_time : (h : List Lexeme) (d : ℕ) (c : Candidate) (m : yaml_mark_t) → Holds h d c
     → is_fresh c.lexeme.start m ≡ true → InTime (candidate 0 h) m
-holds_in_time h zero c m holds e = some_in_time (candidate 0 h) c m holds.slot e
+holds_in_time h zero c m holds e = let P : Option Candidate → Type 0 = λ x. InTime x m in subst P (sym holds.slot) (inr e)
 holds_in_time h (suc d) c m holds e = free_in_time (candidate 0 h) m (holds.others 0 (λ x. omega (arith, x)))
 
 -- ---- a key begins
@@ -151,14 +127,11 @@ unlost false false value e f g = cc
 unlost true cancel value e f g = cc
 unlost false true value e f g = cc
 
-apart_less : (d e : ℕ) → d < e → d ≡ e → ⊥
-apart_less d e x y = omega (arith, x, y)
-
 free_in : (h : List Lexeme) (k : Kind) (d e : ℕ) (a : Bool) (c : Candidate) → Holds h d c
     → IsInKey k d e a → ((a && may_be_key k) || (cancels k && not (is_value k))) ≡ true
     → IsFree (candidate e h)
 free_in h k d e a c holds (inl (x, y, z)) g = absurd (unlost (a && may_be_key k) (cancels k) (is_value k) y z g)
-free_in h k d e a c holds (inr x) g = holds.others e (apart_less d e x)
+free_in h k d e a c holds (inr x) g = holds.others e (λ y. omega (arith, x, y))
 
 pub kept_in : (l : Lexeme) (h : List Lexeme) (k : Kind) (d e : ℕ) (a : Bool) → l.kind ≡ k
     → l.depth ≡ e → l.saved ≡ (a && may_be_key k) → IsInKey k d e a

@@ -1,15 +1,12 @@
-pub mod Levels
-pub mod Reading
+mod Words
 pub mod Pushing
 pub mod Keying
-pub mod Telling
 pub mod Ending
 pub mod Whites
 pub mod Slotting
 pub mod Stepping
 pub mod Walking
-pub mod RowOfBlocks
-pub mod RowOfKeys
+pub mod TextsInRow
 pub mod Signing
 pub mod LookingBack
 -- what it stands on, for crates of laws that name this one alone

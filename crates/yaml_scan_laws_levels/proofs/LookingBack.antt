@@ -1,25 +1,9 @@
 -- What looking back gives is what marking entries gives.
 use Rattle.std.proofs.Common.{◌≡◌, ℕ, zero, suc, ◌+◌, ◌-◌, ◌<◌, ◌≤◌, ◌==◌, ◌&&◌, not, nat_lt, cond, Bool, true, false, List, [], ◌∷◌, ◌++◌, length, take, drop, flat_map, Option, Some, None, Result, Ok, Err, refl, sym, ap, ◌∙◌, inl, inr, ◌⊎◌, arith, append_assoc, length-append}
-use Rattle.std.proofs.lemmas.Bool.{cases_Bool, cases_lt, and_parts}
-use Rattle.std.proofs.lemmas.Bool.Decides.{nat_tests}
-use Rattle.std.proofs.lemmas.Grind.{flat_map-append}
-use Rattle.std.proofs.lemmas.List.{append-nil}
-use Rattle.std.proofs.Math.Bool.{and-false}
+use Rattle.yaml_scan_laws_levels.proofs.Words.{cases_Bool, cases_lt, and_parts, nat_tests, flat_map-append, append-nil, and-false, Token, Wrong, Kind, Lexeme, Entry, Opens, may_be_key, cancels, is_value, is_start, is_end, Candidate, candidate, has_number, found_by, first_open, indent, inside, level_of, opens_at, opens_of, margin_at, start_of, entry_of, as_key, mark_key, marked, keyed, entries, WordText, Next, Read, Fails, Ends, next, first_fault_or, coming, faults, stale_before, no_start, place_behind, kind_behind, with_end, begun_behind, word_behind, lexeme_behind, extended, history, SpelledText, spell, front_ends, handed_out, handed, kept_of, all, fault_in, Remaining, remaining, candidate-more, candidate_below, fresh_is, eq-eqb}
 use Rattle.yaml_scan_laws_order.specs.scan_model.declared.problem.ScanFault.{ScanFault}
-use Rattle.yaml_scan_laws_order.specs.scan_model.Tokens.{Token}
-use Rattle.yaml_scan_laws_order.specs.scan_model.Wrong.{Wrong}
-use Rattle.yaml_scan_laws_order.specs.scan_history.declared.kind.Kind.{Kind}
 use Rattle.yaml_scan_laws_order.specs.scan_history.declared.kind.Kind.TheVariants as kinds
-use Rattle.yaml_scan_laws_order.specs.scan_history.declared.lexeme.Lexeme.{Lexeme}
-use Rattle.yaml_scan_laws_order.specs.scan_history.declared.lexeme.Entry.{Entry}
-use Rattle.yaml_scan_laws_order.specs.scan_history.declared.lexeme.Opens.{Opens}
 use Rattle.yaml_scan_laws_order.specs.scan_history.declared.lexeme.Opens.TheVariants as opening
-use Rattle.yaml_scan_laws_order.specs.scan_history.Kinds.{may_be_key, cancels, is_value, is_start, is_end}
-use Rattle.yaml_scan_laws_order.specs.scan_history.History.{Candidate, candidate, has_number, found_by, first_open, indent, inside, level_of, opens_at, opens_of, margin_at, start_of, entry_of, as_key, mark_key, marked, keyed, entries}
-use Rattle.yaml_scan_laws_order.specs.scan_history.Words.{WordText}
-use Rattle.yaml_scan_laws_order.specs.scan_history.Next.{Next, Read, Fails, Ends, next, first_fault_or, coming, faults, stale_before, no_start, place_behind, kind_behind, with_end, begun_behind, word_behind, lexeme_behind, extended, history}
-use Rattle.yaml_scan_laws_order.specs.scan_history.Remaining.{SpelledText, spell, front_ends, handed_out, handed, kept_of, all, fault_in, Remaining, remaining}
-use Rattle.yaml_scan_laws_order.proofs.HistoryLemmas.{candidate-more, candidate_below, fresh_is}
 use Rattle.yaml_scan_laws_levels.specs.LookBack.{finds, is_key, opens_level, number_or, begins_with, level_at, closes, end_tokens, tokens_of, tokens_before, lost_from, OfflineLooksBack}
 use Rattle.yaml_scan_laws_levels.proofs.Pushing.{start_no_key}
 
@@ -100,8 +84,7 @@ is_key_none : (n : ℕ) (h : List Lexeme) → length h ≤ n → is_key n h ≡ 
 unfolding is_key
 is_key_none n [] le = refl
 is_key_none n (l ∷ h) le =
-    let no = finds_none l h n (omega (arith, le)) in
-    rw no (is_key_none n h (omega (arith, le)))
+    rw (finds_none l h n (omega (arith, le))) (is_key_none n h (omega (arith, le)))
 
 or_below : (o : Option Candidate) (n : ℕ) → ((c : Candidate) → o ≡ Some c → c.number < n)
     → number_or o n ≤ n
@@ -125,14 +108,10 @@ level_none : (n : ℕ) (h : List Lexeme) → length h ≤ n → level_at n h ≡
 unfolding level_at
 level_none n [] le = refl
 level_none n (l ∷ h) le =
-    let low = begins_below l h in
-    let far : (begins_with l h == n) ≡ false = grind (arith, nat_tests, low, le) in
+    let far : (begins_with l h == n) ≡ false = grind (arith, nat_tests, begins_below l h, le) in
     other_level n l h (and_none (opens_level l h) (begins_with l h == n) far) ∙ level_none n h (omega (arith, le))
 
 -- ---- the newest lexeme
-
-eq_self : (n : ℕ) → (n == n) ≡ true
-eq_self n = grind (arith, nat_tests)
 
 own_by : (o : Option Candidate) (l : Lexeme) (ls : List ℕ) (n : ℕ)
     → ((c : Candidate) → o ≡ Some c → c.number < n)
@@ -141,7 +120,7 @@ own_by : (o : Option Candidate) (l : Lexeme) (ls : List ℕ) (n : ℕ)
     && cond (is_value l.kind) (number_or o n) n == n) (level_of l.kind) opening.Nothing
     ≡ opens_of o l ls
 own_by None l ls n f =
-    let here = eq_self n in
+    let here = eq-eqb n n refl in
     elim (cases_Bool (is_start l.kind)) [
       | inr s ↦ rw s refl
       | inl s ↦ elim (cases_Bool (is_value l.kind)) [
@@ -156,9 +135,8 @@ own_by None l ls n f =
       ]
     ]
 own_by (Some c) l ls n f =
-    let here = eq_self n in
-    let low = f c refl in
-    let far : (c.number == n) ≡ false = grind (arith, nat_tests, low) in
+    let here = eq-eqb n n refl in
+    let far : (c.number == n) ≡ false = grind (arith, nat_tests, f c refl) in
     elim (cases_Bool (is_start l.kind)) [
       | inr s ↦ rw s refl
       | inl s ↦ elim (cases_Bool (is_value l.kind)) [
@@ -180,8 +158,7 @@ own_level l h =
 own_key : (l : Lexeme) (h : List Lexeme) → is_key (length h) (l ∷ h) ≡ false
 unfolding is_key
 own_key l h =
-    let no = finds_none l h (length h) (omega arith) in
-    rw no (is_key_none (length h) h (omega arith))
+    rw (finds_none l h (length h) (omega arith)) (is_key_none (length h) h (omega arith))
 
 -- ---- the lexeme that a `:` finds
 
@@ -202,17 +179,13 @@ value_starts : (k : Kind) → is_value k ≡ true → (is_start k ≡ true) × (
 value_starts kinds.ValueMark e = (refl, refl)
 value_starts k e = absurd (cc)
 
-first_chosen : (a b : Bool) (x y z : Option Candidate) → a ≡ true → b ≡ true
-    → cond a (cond b x y) z ≡ x
-first_chosen a b x y z p q = rw (p, q) refl
-
 saved_found : (d : ℕ) (y : Lexeme) (t : List Lexeme) (c : Candidate) → (y.depth == d) ≡ true
     → y.saved ≡ true → candidate d (y ∷ t) ≡ Some c
     → let own : Candidate = record { number = length t; lexeme = y } in own ≡ c
 unfolding candidate
 saved_found d y t c same saved e =
     let own : Candidate = record { number = length t; lexeme = y } in
-    let is : Some own ≡ Some c = sym (first_chosen (y.depth == d) y.saved (Some own) _ _ same saved) ∙ e in
+    let is : Some own ≡ Some c = sym (rw (same, saved) refl) ∙ e in
     cc
 
 -- no other level begins with it
@@ -305,9 +278,6 @@ all_left l h none at (x ∷ t) le =
     ap (λ (es : List Entry). es ++ entry_told h x t ∷ []) before
     ∙ ap (λ (e : Entry). entries_told (l ∷ h) t ++ e ∷ []) (entry_is x (closes x t) _ _ _ _ (sym opens) (sym key))
 
-eq_suc : (n m : ℕ) → (suc n == suc m) ≡ (n == m)
-eq_suc n m = grind (arith, nat_tests)
-
 mark_last : (ls : List ℕ) (es : List Entry) (e : Entry) (n : ℕ)
     → mark_key ls (es ++ e ∷ []) n ≡ mark_key ls es n ++ cond (n == length es) (as_key ls e) e ∷ []
 unfolding mark_key
@@ -316,14 +286,13 @@ mark_last ls [] e (suc n) = let far : (suc n == 0) ≡ false = grind (arith, nat
 mark_last ls (x ∷ es) e zero = let far : (0 == suc (length es)) ≡ false = grind (arith, nat_tests) in rw far refl
 mark_last ls (x ∷ es) e (suc n) =
     ap (λ (r : List Entry). x ∷ r) (mark_last ls es e n)
-    ∙ ap (λ (b : Bool). x ∷ (mark_key ls es n ++ cond b (as_key ls e) e ∷ [])) (sym (eq_suc n (length es)))
+    ∙ ap (λ (b : Bool). x ∷ (mark_key ls es n ++ cond b (as_key ls e) e ∷ [])) (sym (grind (arith, nat_tests)))
 
 length_told : (whole h : List Lexeme) → length (entries_told whole h) ≡ length h
 length_told whole [] = refl
 length_told whole (l ∷ h) =
-    let before = length_told whole h in
     let more = length-append (entries_told whole h) (entry_told whole l h ∷ []) in
-    omega (arith, before, more)
+    omega (arith, length_told whole h, more)
 
 opens_there : (l : Lexeme) (h : List Lexeme) (c : Candidate) (o : Option Candidate) (ls : List ℕ)
     → is_value l.kind ≡ true → o ≡ Some c → c.lexeme.depth ≡ l.depth
@@ -336,7 +305,7 @@ opens_there l h c None ls v e d = absurd (cc)
 opens_there l h c (Some x) ls v e d =
     let same : x ≡ c = cc in
     let (starts, maps) = value_starts l.kind v in
-    let here = eq_self c.number in
+    let here = eq-eqb c.number c.number refl in
     elim (cases_Bool (not (nat_lt 0 l.depth) && nat_lt (indent ls) (margin_at c.lexeme.start.column))) [
       | inl r ↦ rw (same, starts, maps, v, here, d, r) refl
       | inr r ↦ rw (same, starts, maps, v, here, d, r) refl
@@ -349,7 +318,7 @@ key_there : (l : Lexeme) (h : List Lexeme) (c : Candidate) → is_value l.kind �
 unfolding level_at is_key
 key_there l h c v f a d =
     let none = unlevelled l.depth h c (fresh_is _ _ c f) a in
-    let here = eq_self c.number in
+    let here = eq-eqb c.number c.number refl in
     (rw none (opens_there l h c (found_by l h) (inside l h) v f d), rw (v, f, here) refl)
 
 -- a `:` marks the one that it finds

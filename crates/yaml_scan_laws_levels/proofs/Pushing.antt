@@ -1,26 +1,223 @@
--- What is known behind one lexeme more.
-use Rattle.std.proofs.Common.{◌≡◌, ◌⊎◌, ℕ, ◌+◌, ◌-◌, ◌≤◌, ◌==◌, ◌&&◌, ◌||◌, not, nat_lt, cond, Bool, true, false, List, [], ◌∷◌, ◌++◌, length, Option, Some, None, Result, Ok, refl, sym, ap, subst, ◌∙◌, inl, inr, arith}
-use Rattle.std.proofs.lemmas.Bool.{cases_Bool, not-true, and_parts}
-use Rattle.std.proofs.lemmas.Bool.Decides.{nat_tests}
-use Rattle.yaml_scan_laws_order.specs.scan_model.declared.record.yaml_mark_t.{yaml_mark_t}
-use Rattle.yaml_scan_laws_order.specs.scan_model.Marks.{column_at, mark_at}
-use Rattle.yaml_scan_laws_order.specs.scan_history.declared.kind.Kind.{Kind}
+-- Levels that close and open, what stands behind lexemes, and what is known behind one more.
+use Rattle.std.proofs.Common.{◌≡◌, ◌⊎◌, ℕ, ◌-◌, ◌<◌, ◌≤◌, nat_lt, nat_le, cond, Bool, true, false, List, [], ◌∷◌, ◌++◌, length, refl, ap, ◌∙◌, inl, inr, arith, ◌&&◌, ◌||◌, not, Option, Some, None, Result, Ok, ◌+◌, ◌==◌, sym, subst}
+use Rattle.std.specs.Prelude.{filter}
+use Rattle.yaml_scan_laws_levels.proofs.Words.{cases_Bool, nat_tests, Kind, is_outside, indent, left_by, opened, margin_at, Rises, InsideLeaves, RightLeaves, LeftCloses, yaml_mark_t, column_at, mark_at, Wrong, Gap, Lexeme, cancels, is_value, is_start, is_end, depth, reached, ended, Candidate, candidate, fresh, is_fresh, has, placed, levels, WordText, kind_at, word_at, Next, Read, Ends, begun, finished, gap_behind, allowed_behind, misplaced, missed, lost_by, level_in, kind_behind, coming, next, no_colon, not_allowed, tested, unless_wrong, unless_lost, of_kind, unless_missed, behind, Came, IsFree, InTime, read_at, MetIsRead, not-true, and_parts, Entry, Opens, depth_after, may_be_key, opens_at, start_of, level_of, marked, entries, SpelledText, body_of_word, body_by, Says, Front, Idle, Meets, entry, IsPlaced, stays_level, WordIsRead, MarkIsRead, OuterIsRead, ltb-true}
+use Rattle.yaml_scan_laws_order.proofs.StepwiseLemmas.{stepwise}
+use Rattle.yaml_scan_laws_order.proofs.NextForward.{placed_same}
 use Rattle.yaml_scan_laws_order.specs.scan_history.declared.kind.Kind.TheVariants as kinds
-use Rattle.yaml_scan_laws_order.specs.scan_history.declared.lexeme.Lexeme.{Lexeme}
-use Rattle.yaml_scan_laws_order.specs.scan_history.declared.lexeme.Entry.{Entry}
-use Rattle.yaml_scan_laws_order.specs.scan_history.declared.lexeme.Opens.{Opens}
 use Rattle.yaml_scan_laws_order.specs.scan_history.declared.lexeme.Opens.TheVariants as opening
-use Rattle.yaml_scan_laws_order.specs.scan_history.Kinds.{depth_after, may_be_key, cancels, is_value, is_start, is_outside, is_end}
-use Rattle.yaml_scan_laws_order.specs.scan_history.History.{depth, Candidate, candidate, fresh, has, margin_at, indent, left_by, opens_at, opened, levels, start_of, level_of, marked, entries}
-use Rattle.yaml_scan_laws_order.specs.scan_history.Words.{WordText, word_at}
-use Rattle.yaml_scan_laws_order.specs.scan_history.Next.{Read, level_in, next}
-use Rattle.yaml_scan_laws_order.specs.scan_history.Remaining.{SpelledText, body_of_word, body_by}
-use Rattle.yaml_scan_laws_order.specs.scan_model.Wrong.{Wrong}
 use Rattle.yaml_scan_laws_order.proofs.WordForward.{FitsAny, kind_fits}
-use Rattle.yaml_scan_laws_levels.specs.Fronts.{Says, Came, Rises, Front, IsFree, Idle, InTime, Meets, entry, read_at}
-use Rattle.yaml_scan_laws_levels.specs.Pushes.{IsPlaced, stays_level, WordIsRead, MarkIsRead, OuterIsRead}
-use Rattle.yaml_scan_laws_levels.proofs.Levels.{left_outside, opened_rises, stays_right}
-use Rattle.yaml_scan_laws_levels.proofs.Reading.{met_is_read}
+
+low : (b c : ℕ) (cs : List ℕ) → Rises b (c ∷ cs) → c ≤ indent (c ∷ cs)
+unfolding Rises indent
+low b c [] r = omega arith
+low b c (d ∷ cs) (e, (f, r)) = let g = low c d cs (f, r) in omega (arith, f, g)
+
+pub rises_front : (b : ℕ) (ls more : List ℕ) → Rises b (ls ++ more) → Rises b ls
+unfolding Rises
+rises_front b [] more r = tt
+rises_front b (c ∷ ls) more (e, r) = (e, rises_front c ls more r)
+
+passes : (x m : ℕ) → x ≤ m → nat_le x m ≡ true
+passes x m e = grind (arith, nat_tests)
+
+stops : (x m : ℕ) → m < x → nat_le x m ≡ false
+stops x m e = grind (arith, nat_tests)
+
+weaker : (a b : ℕ) (ms : List ℕ) → a ≤ b → Rises b ms → Rises a ms
+unfolding Rises
+weaker a b [] e r = tt
+weaker a b (m ∷ ms) e (f, r) = (omega (arith, e, f), r)
+
+-- all that rise from m on are above it
+pub none_passes : (m : ℕ) (ms : List ℕ) → Rises m ms → filter (λ x. nat_le x m) ms ≡ []
+unfolding Rises
+none_passes m [] r = refl
+none_passes m (x ∷ xs) (e, r) = rw (stops x m e) (none_passes m xs (weaker m x xs (omega (arith, e)) r))
+
+pub cuts : (m b : ℕ) (ls more : List ℕ) → Rises b (ls ++ more) → indent ls ≤ m → Rises m more
+    → filter (λ x. nat_le x m) (ls ++ more) ≡ ls
+unfolding Rises indent
+cuts m b [] more r e above = none_passes m more above
+cuts m b (c ∷ []) more (f, r) e above = rw (passes c m e) (ap (λ (xs : List ℕ). c ∷ xs) (none_passes m more above))
+cuts m b (c ∷ d ∷ ls) more (f, r) e above =
+    let under : c ≤ m = omega (arith, low b c (d ∷ ls) (f, rises_front c (d ∷ ls) more r), e) in
+    rw (passes c m under) (ap (λ (xs : List ℕ). c ∷ xs) (cuts m c (d ∷ ls) more r e above))
+
+rises_all : (m b : ℕ) (ls : List ℕ) → Rises b ls → indent ls ≤ m → filter (λ x. nat_le x m) ls ≡ ls
+unfolding Rises indent
+rises_all m b [] r e = refl
+rises_all m b (c ∷ []) (f, r) e = rw (passes c m e) refl
+rises_all m b (c ∷ d ∷ ls) (f, r) e =
+    let under : c ≤ m = omega (arith, low b c (d ∷ ls) (f, r), e) in
+    rw (passes c m under) (ap (λ (xs : List ℕ). c ∷ xs) (rises_all m c (d ∷ ls) r e))
+
+left_block : (k : Kind) (c : ℕ) (ms : List ℕ) → is_outside k ≡ false
+    → left_by k 0 c ms ≡ filter (λ x. nat_le x (margin_at c)) ms
+left_block k c ms e = rw e refl
+
+pub left_outside : (k : Kind) (c : ℕ) (ms : List ℕ) → is_outside k ≡ true → Rises 0 ms
+    → left_by k 0 c ms ≡ []
+left_outside k c ms e r = rw e (none_passes 0 ms r)
+
+more_length : (ls more : List ℕ) → length (ls ++ more) - length ls ≡ length more
+more_length [] more = omega arith
+more_length (c ∷ ls) more = let e = more_length ls more in omega (arith, e)
+
+pub inside_leaves : InsideLeaves
+inside_leaves d c ms r e = record { left = λ k out. (rw e refl); closed = omega arith; rises = r }
+
+pub right_leaves : RightLeaves
+right_leaves c ms r e = record { left = λ k out. left_block k c ms out ∙ rises_all (margin_at c) 0 ms r e; closed = omega arith; rises = r }
+
+pub left_closes : LeftCloses
+left_closes c ls more r e above = record {
+  left = λ k out. left_block k c (ls ++ more) out ∙ cuts (margin_at c) 0 ls more r e above;
+  closed = more_length ls more;
+  rises = rises_front 0 ls more r;
+}
+
+push_rises : (b : ℕ) (ls : List ℕ) (m : ℕ) → Rises b ls → b < m → indent ls < m
+    → Rises b (ls ++ m ∷ [])
+unfolding Rises indent
+push_rises b [] m r e f = (e, tt)
+push_rises b (c ∷ []) m (g, r) e f = (g, (f, tt))
+push_rises b (c ∷ d ∷ ls) m (g, r) e f =
+    (g, push_rises c (d ∷ ls) m r (omega (arith, low b c (d ∷ ls) (g, r), f)) f)
+
+pub opened_rises : (may : Bool) (m : ℕ) (ls : List ℕ) → Rises 0 ls → Rises 0 (opened may m ls)
+opened_rises false m ls r = r
+opened_rises true m ls r = elim (cases_Bool (nat_lt (indent ls) m)) [
+  | inl e ↦ rw e (let f = ltb-true (indent ls) m e in push_rises 0 ls m r (omega (arith, f)) f)
+  | inr e ↦ rw e r
+]
+
+right_by : (deep out : Bool) (k : Kind) (c : ℕ) (ms : List ℕ) → out ≡ false → Rises 0 ms
+    → (deep ≡ true) ⊎ (indent ms ≤ c)
+    → cond deep ms (filter (λ x. nat_le x (cond out 0 (margin_at c))) ms) ≡ ms
+right_by true out k c ms e r i = refl
+right_by false false k c ms e r (inl i) = absurd (cc)
+right_by false false k c ms e r (inr i) = rises_all (margin_at c) 0 ms r (omega (arith, i))
+right_by false true k c ms e r i = absurd (cc)
+
+pub stays_right : (k : Kind) (d c : ℕ) (ms : List ℕ) → is_outside k ≡ false → Rises 0 ms
+    → (nat_lt 0 d ≡ true) ⊎ (indent ms ≤ c) → left_by k d c ms ≡ ms
+stays_right k d c ms e r i = right_by (nat_lt 0 d) (is_outside k) k c ms e r i
+
+pub unless_so : (b : Bool) (x y : Next) → b ≡ false → cond b x y ≡ y
+unless_so false x y e = refl
+unless_so true x y e = absurd (cc)
+
+-- ---- candidates in time
+
+missed_free : (c : Candidate) (m : yaml_mark_t)
+    → (c.lexeme.required ≡ false) ⊎ (is_fresh c.lexeme.start m ≡ true) → missed (Some c) m ≡ None
+missed_free c m (inl e) = rw e refl
+missed_free c m (inr e) = elim (cases_Bool c.lexeme.required) [ inl x ↦ rw (x, e) refl | inr x ↦ rw x refl ]
+
+missed_none : (o : Option Candidate) (m : yaml_mark_t) → InTime o m → missed o m ≡ None
+missed_none None m t = refl
+missed_none (Some c) m t = missed_free c m t
+
+pub fresh_in_time : (o : Option Candidate) (at m : yaml_mark_t) → InTime o m
+    → missed (fresh o at) m ≡ None
+fresh_in_time None at m t = refl
+fresh_in_time (Some c) at m t =
+    elim (cases_Bool (is_fresh c.lexeme.start at)) [ inl x ↦ rw x (missed_free c m t) | inr x ↦ rw x refl ]
+
+lost_free : (saved cancel : Bool) (required : Bool) (start : yaml_mark_t)
+    → ((saved || cancel) ≡ true → required ≡ false)
+    → cond (required && (saved || cancel)) (Some start) None ≡ None
+lost_free saved cancel required start f = elim (cases_Bool (saved || cancel)) [ inl x ↦ let e = f x in rw e refl | inr x ↦ elim (cases_Bool required) [ inl r ↦ rw (r, x) refl | inr r ↦ rw r refl ] ]
+
+pub lost_none : (l : Lexeme) (o : Option Candidate) (at : yaml_mark_t)
+    → ((l.saved || (cancels l.kind && not (is_value l.kind))) ≡ true → IsFree o)
+    → lost_by l (fresh o at) ≡ None
+lost_none l None at f = refl
+lost_none l (Some c) at f =
+    elim (cases_Bool (is_fresh c.lexeme.start at)) [
+      | inl x ↦ rw x (lost_free l.saved (cancels l.kind && not (is_value l.kind)) c.lexeme.required c.lexeme.start f)
+      | inr x ↦ rw x refl
+    ]
+
+-- ---- places
+
+in_place : (flow a start taken : Bool)
+    → (start ≡ false) ⊎ ((flow ≡ true) ⊎ ((a ≡ true) ⊎ (taken ≡ true)))
+    → ((not flow && not a) && (start && not taken)) ≡ false
+in_place flow a false taken p = elim (cases_Bool (not flow && not a)) [ inl x ↦ rw x refl | inr x ↦ rw x refl ]
+in_place true a true taken p = refl
+in_place false true true taken p = refl
+in_place false false true true p = refl
+in_place false false true false (inl e) = absurd (cc)
+in_place false false true false (inr (inl e)) = absurd (cc)
+in_place false false true false (inr (inr (inl e))) = absurd (cc)
+in_place false false true false (inr (inr (inr e))) = absurd (cc)
+
+-- ---- the step
+
+finished_is : (text : List ℕ) (l : Lexeme) (w : WordText) → is_end l.kind ≡ false
+    → finished text l w ≡ record l {
+      end = mark_at text w.end;
+      reached = mark_at text w.reached;
+      broke = w.broke;
+    }
+finished_is text l w e = rw e refl
+
+pub tested_read : (l : Lexeme) (h : List Lexeme) → InTime (candidate 0 (l ∷ h)) l.reached
+    → tested l h ≡ Read l
+tested_read l h u =
+    ap (λ o. elim o as (λ _. Next) [ Some start ↦ no_colon start l.reached | None ↦ Read l ]) (missed_none (candidate 0 (l ∷ h)) l.reached u)
+
+-- behind a gap that ends at a place, where a key may begin or not
+of_place : (text : List ℕ) (gap : Gap) (h : List Lexeme) (k : Kind) (q : ℕ) (a : Bool)
+    (w : WordText) → gap.place ≡ q → allowed_behind h gap ≡ a → is_end k ≡ false
+    → let m = mark_at text q in let b = begun k m a h in let l = read_at text h k q a w in
+    kind_at (nat_lt 0 (depth h)) text q ≡ Some k
+    → word_at k (nat_lt 0 (depth h)) (level_in k (column_at text q) h) text q ≡ Ok w
+    → misplaced k m a h ≡ false
+    → missed (fresh (candidate 0 h) (reached h)) m ≡ None
+    → lost_by b (fresh (candidate (depth h) h) m) ≡ None
+    → InTime (candidate 0 (l ∷ h)) l.reached
+    → behind text gap h ≡ Read l
+of_place text gap h k q a w place allowed goes kind said placed_so none lost time =
+    let m = mark_at text q in
+    let b = begun k m a h in
+    ap (λ (p : ℕ). unless_missed (missed (fresh (candidate 0 h) (reached h)) (mark_at text p)) text gap h) place
+    ∙ ap (λ (o : Option yaml_mark_t). unless_missed o text gap h) none
+    ∙ ap (λ (p : ℕ). of_kind (kind_at (nat_lt 0 (depth h)) text p) text gap h) place
+    ∙ ap (λ (o : Option Kind). of_kind o text gap h) kind
+    ∙ ap (λ (p : ℕ). cond (misplaced k (mark_at text p) (allowed_behind h gap) h) (not_allowed k (mark_at text p))
+    (unless_lost (lost_by (begun k (placed k (mark_at text p)) (allowed_behind h gap) h) (fresh (candidate (depth h) h) (mark_at text p))) text p (begun k (placed k (mark_at text p)) (allowed_behind h gap) h) h)) place
+    ∙ ap (λ (x : Bool). cond (misplaced k m x h) (not_allowed k m) (unless_lost (lost_by (begun k (placed k m) x h) (fresh (candidate (depth h) h) m)) text q (begun k (placed k m) x h) h)) allowed
+    ∙ unless_so (misplaced k m a h) (not_allowed k m) _ placed_so
+    ∙ ap (λ (s : yaml_mark_t). unless_lost (lost_by (begun k s a h) (fresh (candidate (depth h) h) m)) text q (begun k s a h) h) (placed_same k m goes)
+    ∙ ap (λ (o : Option yaml_mark_t). unless_lost o text q b h) lost
+    ∙ ap (λ (r : Result WordText Wrong). unless_wrong r text b h) said
+    ∙ ap (λ (x : Lexeme). tested x h) (finished_is text b w goes)
+    ∙ tested_read (read_at text h k q a w) h time
+
+pub came_some : (text : List ℕ) (h : List Lexeme) → Came text h → ended h ≡ false
+    → next text h ≡ behind text (gap_behind text h) h
+unfolding Came next
+came_some text [] came e = absurd came
+came_some text (l ∷ h) came e = unless_so (is_end l.kind) Ends (coming (kind_behind text (l ∷ h)) text (l ∷ h)) e ∙ stepwise text (l ∷ h)
+
+pub met_is_read : MetIsRead
+met_is_read text h d ms es k q a w f goes meets is_placed due free time =
+    let m = mark_at text q in
+    let b = begun k m a h in
+    let kind : kind_at (nat_lt 0 (depth h)) text q ≡ Some k = ap (λ (n : ℕ). kind_at (nat_lt 0 n) text q) f.depth ∙ meets.kind in
+    let word : word_at k (nat_lt 0 (depth h)) (level_in k (column_at text q) h) text q ≡ Ok w =
+    ap (λ (n : ℕ). word_at k (nat_lt 0 n) (indent (left_by k n (column_at text q) (levels h))) text q) f.depth
+    ∙ ap (λ (x : List ℕ). word_at k (nat_lt 0 d) (indent (left_by k d (column_at text q) x)) text q) f.levels ∙ meets.word in
+    let stands : misplaced k m a h ≡ false =
+    ap (λ (n : ℕ). (not (nat_lt 0 n) && not a) && (is_start k && not (is_value k && has (fresh (candidate n h) m)))) f.depth
+    ∙ in_place (nat_lt 0 d) a (is_start k) (is_value k && has (fresh (candidate d h) m)) is_placed in
+    let lost : lost_by b (fresh (candidate (depth h) h) m) ≡ None =
+    ap (λ (n : ℕ). lost_by b (fresh (candidate n h) m)) f.depth ∙ lost_none b (candidate d h) m free in
+    came_some text h f.came f.going
+    ∙ of_place text (gap_behind text h) h k q a w meets.place meets.allowed goes kind word stands (fresh_in_time (candidate 0 h) (reached h) m due) lost time
 
 -- ---- kinds
 

@@ -1,23 +1,11 @@
 -- Where candidates stand, levels that open, and columns behind white.
-use Rattle.std.proofs.Common.{◌≡◌, ◌⊎◌, ℕ, suc, ◌+◌, ◌-◌, ◌<◌, ◌≤◌, ◌==◌, ◌||◌, not, nat_lt, nat_le, cond, Bool, true, false, List, [], ◌∷◌, ◌++◌, length, Option, Some, None, refl, sym, ap, ◌∙◌, inl, inr, arith}
+use Rattle.std.proofs.Common.{◌≡◌, ◌⊎◌, ℕ, suc, ◌+◌, ◌-◌, ◌<◌, ◌≤◌, ◌==◌, ◌||◌, nat_lt, nat_le, cond, Bool, true, false, List, [], ◌∷◌, ◌++◌, length, Option, Some, None, refl, sym, ap, ◌∙◌, inl, inr, arith}
 use Rattle.std.specs.Prelude.{if◌then◌else◌}
-use Rattle.std.proofs.lemmas.Bool.{cases_Bool, and_parts}
-use Rattle.std.proofs.lemmas.Bool.Decides.{nat_tests}
-use Rattle.yaml_scan_laws_order.specs.scan_model.Marks.{byte, ends_of, ends_break, starts, line_at, column_at, mark_at}
-use Rattle.yaml_scan_laws_order.specs.scan_words.Written.{are_gap, has_break, begins_lexeme}
-use Rattle.yaml_scan_laws_order.specs.scan_history.declared.lexeme.Lexeme.{Lexeme}
-use Rattle.yaml_scan_laws_order.specs.scan_history.declared.lexeme.Opens.{Opens}
+use Rattle.yaml_scan_laws_levels.proofs.Words.{cases_Bool, and_parts, nat_tests, byte, ends_of, ends_break, starts, line_at, column_at, mark_at, are_gap, has_break, begins_lexeme, Lexeme, Opens, cancels, Candidate, candidate, fresh, indent, opened, start_of, line_at-grows, read_at, IsGap, StartsBy, Started, StartedGoesOn, LaterIsLone, BreakEndsLine, NearBefore, SlotsGoOn, NoneIsLone, LevelOpens, column_behind, WhiteColumns, LetterColumns, byte_cases}
 use Rattle.yaml_scan_laws_order.specs.scan_history.declared.lexeme.Opens.TheVariants as opening
-use Rattle.yaml_scan_laws_order.specs.scan_history.Kinds.{cancels}
-use Rattle.yaml_scan_laws_order.specs.scan_history.History.{Candidate, candidate, fresh, indent, opened, start_of}
 use Rattle.yaml_scan_laws_order.proofs.MarksLemmas.{line_more, line_end, column_more, column_end}
-use Rattle.yaml_scan_laws_order.proofs.MarksForward.{line_at-grows}
-use Rattle.yaml_scan_laws_levels.specs.Fronts.{read_at}
-use Rattle.yaml_scan_laws_levels.specs.White.{IsGap}
-use Rattle.yaml_scan_laws_levels.specs.Slots.{StartsBy, Started, StartedGoesOn, LaterIsLone, BreakEndsLine, NearBefore, SlotsGoOn, NoneIsLone, LevelOpens, column_behind, WhiteColumns, LetterColumns}
 use Rattle.yaml_scan_laws_levels.proofs.Keying.{kept_in, cancelled_slot}
 use Rattle.yaml_scan_laws_levels.proofs.Whites.{has_first, has_rest, no_white}
-use Rattle.yaml_scan_laws_order.proofs.GapsRead.{byte_cases}
 
 -- ---- candidates on earlier lines
 
@@ -37,12 +25,8 @@ started_more : (l : Lexeme) (h : List Lexeme) (n m : ℕ) → Started h n → n 
 unfolding candidate
 started_more l h n m s e f = λ i. starts_more (l.depth == i) l.saved (cancels l.kind) (nat_lt l.depth i) (record { number = length h; lexeme = l }) (candidate i h) n m f e (s i)
 
-started_nothing : (n : ℕ) → Started [] n
-unfolding candidate
-started_nothing n = λ i. tt
-
 pub started_goes_on : StartedGoesOn
-started_goes_on = record { nothing = started_nothing; more = started_more }
+started_goes_on = record { nothing = (unfold candidate in λ n. λ i. tt); more = started_more }
 
 later : (o : Option Candidate) (text : List ℕ) (q n : ℕ) → StartsBy o n → n < line_at text q
     → fresh o (mark_at text q) ≡ None
@@ -67,17 +51,10 @@ return_ends : (x y c : ℕ) → (c == 10) ≡ false → ends_of x y 13 c ≡ tru
 unfolding ends_of
 return_ends x y c e = rw e refl
 
-printed_ends : (x y b c : ℕ) → 31 < b → b < 127 → ends_of x y b c ≡ false
-unfolding ends_of
-printed_ends x y b c e f = grind (arith, nat_tests)
-
-starts_low : (b : ℕ) → b < 127 → starts b ≡ true
-starts_low b e = grind (arith, nat_tests)
-
 pub letter_columns : LetterColumns
 letter_columns text p b e low high =
-    let ends : ends_break text p ≡ false = ap (λ (x : ℕ). ends_of (byte text (p - 2)) (byte text (p - 1)) x (byte text (p + 1))) e ∙ printed_ends (byte text (p - 2)) (byte text (p - 1)) b (byte text (p + 1)) low high in
-    let first : starts (byte text p) ≡ true = ap (λ (x : ℕ). starts x) e ∙ starts_low b high in
+    let ends : ends_break text p ≡ false = ap (λ (x : ℕ). ends_of (byte text (p - 2)) (byte text (p - 1)) x (byte text (p + 1))) e ∙ (unfold ends_of in grind (arith, nat_tests)) in
+    let first : starts (byte text p) ≡ true = ap (λ (x : ℕ). starts x) e ∙ (grind (arith, nat_tests)) in
     (column_more text p ends first, line_more text p ends)
 
 rest_gap : (text : List ℕ) (p b : ℕ) (bs : List ℕ) → IsGap text p (b ∷ bs) → IsGap text (p + 1) bs
@@ -125,8 +102,7 @@ later_line : (text : List ℕ) (p : ℕ) (bs : List ℕ)
 later_line text p bs e =
     let z : p + 1 + length bs ≡ p + suc (length bs) = omega arith in
     let same : line_at text (p + 1 + length bs) ≡ line_at text (p + suc (length bs)) = ap (λ (n : ℕ). line_at text n) z in
-    let low = line_at-grows text p (p + 1) (omega arith) in
-    omega (arith, e, same, low)
+    omega (arith, e, same, line_at-grows text p (p + 1) (omega arith))
 
 breaks_line : (text : List ℕ) (p : ℕ) (gap : List ℕ) → IsGap text p gap → has_break gap ≡ true
     → line_at text p < line_at text (p + length gap)
@@ -186,11 +162,6 @@ white_columns text p gap g = white_column text p gap (column_at text p) g (inl r
 
 -- ---- one depth's candidate
 
-opened_more : (same saved cancel : Bool) (o rest : Option Candidate) → same ≡ false
-    → cond same (cond saved o (cond cancel None rest)) (cond true None rest) ≡ None
-opened_more false saved cancel o rest e = refl
-opened_more true saved cancel o rest e = absurd (cc)
-
 opened_slot : (l : Lexeme) (h : List Lexeme) (e : ℕ) → l.depth < e → candidate e (l ∷ h) ≡ None
 unfolding candidate
 opened_slot l h e f =
@@ -221,9 +192,5 @@ level_old : (m : ℕ) (ls : List ℕ) (what : Opens) → m ≤ indent ls
     → (opened true m ls ≡ ls) × (start_of 0 m ls what ≡ opening.Nothing)
 level_old m ls what e = let t : nat_lt (indent ls) m ≡ false = grind (arith, nat_tests) in (rw t refl, rw t refl)
 
-level_inside : (d m : ℕ) (ls : List ℕ) (what : Opens) → nat_lt 0 d ≡ true
-    → (opened (not (nat_lt 0 d)) m ls ≡ ls) × (start_of d m ls what ≡ opening.Nothing)
-level_inside d m ls what e = (rw e refl, rw e refl)
-
 pub level_opens : LevelOpens
-level_opens = record { opens = level_new; stays = level_old; inside = level_inside; last = level_last }
+level_opens = record { opens = level_new; stays = level_old; inside = (λ d m ls what e. (rw e refl, rw e refl)); last = level_last }

@@ -1,21 +1,7 @@
 -- One lexeme more behind lexemes at a place.
 use Rattle.std.proofs.Common.{◌≡◌, ℕ, ◌+◌, ◌≤◌, ◌==◌, ◌&&◌, ◌||◌, not, nat_lt, Bool, true, false, List, [], ◌∷◌, length, Option, refl, sym, ap, subst, ◌∙◌, arith}
-use Rattle.std.proofs.Math.Bool.{or-false}
-use Rattle.yaml_scan_laws_order.specs.scan_model.Marks.{line_at, mark_at}
-use Rattle.yaml_scan_laws_order.specs.scan_history.declared.kind.Kind.{Kind}
+use Rattle.yaml_scan_laws_levels.proofs.Words.{or-false, line_at, mark_at, Kind, Lexeme, Entry, depth_after, may_be_key, allows_key, is_value, is_outside, is_end, depth, Candidate, candidate, fresh, has, indent, WordText, first_lexeme, line_at-grows, Front, Meets, read_at, IsLone, White, Started, Stands, Comes, WordLeaves, WordsLeave, may_begin, StartSteps, WhiteSteps, WordSteps, MarkSteps, OuterSteps, KeyStarts, KeySteps, KeyStops}
 use Rattle.yaml_scan_laws_order.specs.scan_history.declared.kind.Kind.TheVariants as kinds
-use Rattle.yaml_scan_laws_order.specs.scan_history.declared.lexeme.Lexeme.{Lexeme}
-use Rattle.yaml_scan_laws_order.specs.scan_history.declared.lexeme.Entry.{Entry}
-use Rattle.yaml_scan_laws_order.specs.scan_history.Kinds.{depth_after, may_be_key, allows_key, is_value, is_outside, is_end}
-use Rattle.yaml_scan_laws_order.specs.scan_history.History.{depth, Candidate, candidate, fresh, has, indent}
-use Rattle.yaml_scan_laws_order.specs.scan_history.Words.{WordText}
-use Rattle.yaml_scan_laws_order.specs.scan_history.Next.{first_lexeme}
-use Rattle.yaml_scan_laws_order.proofs.MarksForward.{line_at-grows}
-use Rattle.yaml_scan_laws_levels.specs.Fronts.{Front, Meets, read_at}
-use Rattle.yaml_scan_laws_levels.specs.Pushes.{IsLone}
-use Rattle.yaml_scan_laws_levels.specs.White.{White}
-use Rattle.yaml_scan_laws_levels.specs.Slots.{Started}
-use Rattle.yaml_scan_laws_levels.specs.Steps.{Stands, Comes, WordLeaves, WordsLeave, may_begin, StartSteps, WhiteSteps, WordSteps, MarkSteps, OuterSteps, KeyStarts, KeySteps, KeyStops}
 use Rattle.yaml_scan_laws_levels.proofs.Pushing.{word_is_read, mark_is_read, outer_is_read}
 use Rattle.yaml_scan_laws_levels.proofs.Keying.{key_begins, key_goes_on, key_ends, still_fresh}
 use Rattle.yaml_scan_laws_levels.proofs.Whites.{white_begins, white_goes_on, white_is_taken, white_is_over, white_is_passed, key_is_allowed}

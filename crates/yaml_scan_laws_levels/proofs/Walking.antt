@@ -1,35 +1,14 @@
 -- A walk goes on, lexeme by lexeme.
 use Rattle.std.proofs.Common.{◌≡◌, ℕ, ◌+◌, ◌==◌, ◌&&◌, ◌||◌, not, nat_lt, Bool, true, false, List, [], ◌∷◌, ◌++◌, length, flat_map, None, refl, sym, ap, subst, ◌∙◌, inl, inr, arith, append_assoc}
-use Rattle.std.proofs.lemmas.Bool.Decides.{nat_tests}
-use Rattle.std.proofs.lemmas.List.{append-nil}
-use Rattle.std.proofs.lemmas.Bool.{and_parts}
-use Rattle.std.proofs.Math.Bool.{and-false}
-use Rattle.yaml_scan_laws_order.specs.scan_model.declared.record.yaml_mark_t.{yaml_mark_t}
+use Rattle.yaml_scan_laws_levels.proofs.Words.{nat_tests, append-nil, and_parts, and-false, yaml_mark_t, line_at, column_at, mark_at, TokenBody, stream_end, block_end, key, Kind, Lexeme, Entry, Opens, depth_after, allows_key, is_value, depth, Candidate, candidate, is_fresh, margin_at, indent, opened, start_of, level_of, WordText, first_lexeme, SpelledText, spell, Rises, LeavesLevels, Meets, Says, entry, read_at, IsRight, IsLone, stays_level, told, start_bodies, Stands, Comes, WordLeaves, may_begin, end_at, WalkSays, Content, Key, WalkGoes, WalkState, Clear, LeaveClear, Outside, DeeperLeaves, WalkReads, ClosesAt, LevelsPart, WalkEnds, WalkStarts, WalkWhite, WalkWord, WalkMark, WalkOuter, WalkStops, WalkKeyStarts, WalkKeyGoes, WalkKeyStops, WalkAsks, WalkAnswers}
 use Rattle.yaml_scan_laws_order.specs.scan_model.declared.name.yaml_encoding_t.{yaml_encoding_t}
-use Rattle.yaml_scan_laws_order.specs.scan_model.Marks.{line_at, column_at, mark_at}
-use Rattle.yaml_scan_laws_order.specs.scan_model.Tokens.{TokenBody, stream_end, block_end, key}
-use Rattle.yaml_scan_laws_order.specs.scan_history.declared.kind.Kind.{Kind}
 use Rattle.yaml_scan_laws_order.specs.scan_history.declared.kind.Kind.TheVariants as kinds
-use Rattle.yaml_scan_laws_order.specs.scan_history.declared.lexeme.Lexeme.{Lexeme}
-use Rattle.yaml_scan_laws_order.specs.scan_history.declared.lexeme.Entry.{Entry}
-use Rattle.yaml_scan_laws_order.specs.scan_history.declared.lexeme.Opens.{Opens}
 use Rattle.yaml_scan_laws_order.specs.scan_history.declared.lexeme.Opens.TheVariants as opening
-use Rattle.yaml_scan_laws_order.specs.scan_history.Kinds.{depth_after, allows_key, is_value}
-use Rattle.yaml_scan_laws_order.specs.scan_history.History.{depth, Candidate, candidate, is_fresh, margin_at, indent, opened, start_of, level_of}
-use Rattle.yaml_scan_laws_order.specs.scan_history.Words.{WordText}
-use Rattle.yaml_scan_laws_order.specs.scan_history.Next.{first_lexeme}
-use Rattle.yaml_scan_laws_order.specs.scan_history.Remaining.{SpelledText, spell}
-use Rattle.yaml_scan_laws_levels.specs.Fronts.{Rises, LeavesLevels, Meets, Says, entry, read_at}
-use Rattle.yaml_scan_laws_levels.specs.Pushes.{IsRight, IsLone, stays_level}
-use Rattle.yaml_scan_laws_levels.specs.Tokens.{told, start_bodies}
-use Rattle.yaml_scan_laws_levels.specs.Steps.{Stands, Comes, WordLeaves, may_begin}
-use Rattle.yaml_scan_laws_levels.specs.Ends.{end_at}
-use Rattle.yaml_scan_laws_levels.specs.Walks.{WalkSays, Content, Key, WalkGoes, WalkState, Clear, LeaveClear, Outside, DeeperLeaves, WalkReads, ClosesAt, LevelsPart, WalkEnds, behind, WalkStarts, WalkWhite, WalkWord, WalkMark, WalkOuter, WalkStops, WalkKeyStarts, WalkKeyGoes, WalkKeyStops, WalkAsks, WalkAnswers}
-use Rattle.yaml_scan_laws_levels.proofs.Levels.{rises_front, left_closes, inside_leaves}
-use Rattle.yaml_scan_laws_levels.proofs.Telling.{word_tells, level_tells, key_tells}
+use Rattle.yaml_scan_laws_levels.specs.Walks.{behind}
+use Rattle.yaml_scan_laws_levels.proofs.Pushing.{rises_front, left_closes, inside_leaves}
+use Rattle.yaml_scan_laws_levels.proofs.Ending.{word_tells, level_tells, key_tells, start_stands, end_is_read}
 use Rattle.yaml_scan_laws_levels.proofs.Slotting.{later_is_lone, none_is_lone, slots_go_on}
 use Rattle.yaml_scan_laws_levels.proofs.Stepping.{start_steps, white_steps, word_steps, mark_steps, outer_steps, key_starts, key_steps, key_stops}
-use Rattle.yaml_scan_laws_levels.proofs.Ending.{start_stands, end_is_read}
 
 -- ---- depths without candidates
 
@@ -201,15 +180,13 @@ walk_mark x text o ls more new what T k gap w e then wide r flat c start may clo
 
 pub walk_outer : WalkOuter
 walk_outer x text o more T k gap w e then wide r flat c outer leaves =
-    let q = o.at + length gap in
-    let l = read_at text r.lexemes k q (may_begin o.now o.broken gap) w in
+    let l = read_at text r.lexemes k (o.at + length gap) (may_begin o.now o.broken gap) w in
     let n = length more in
-    let es = r.entries ++ entry l n opening.Nothing ∷ [] in
     let s = depth_same text o.at o.line r.lexemes o.depth 0 more r.entries o.now o.broken r.stands flat in
     let (t, idle) = outer_steps text o.at o.line r.lexemes more r.entries o.now o.broken k gap w e then wide s r.idle c outer leaves in
     record {
       lexemes = l ∷ r.lexemes;
-      entries = es;
+      entries = r.entries ++ entry l n opening.Nothing ∷ [];
       stands = t.stands;
       idle = idle;
       clear = none_clear (l ∷ r.lexemes);
@@ -221,8 +198,7 @@ walk_stops x text o more T gap w e r flat c =
     let q = o.at + length gap in
     let a = may_begin o.now o.broken gap in
     let h = r.lexemes in
-    let l = end_at text h q a in
-    let es = r.entries ++ entry l (length more) opening.Nothing ∷ [] in
+    let es = r.entries ++ entry (end_at text h q a) (length more) opening.Nothing ∷ [] in
     let s = depth_same text o.at o.line h o.depth 0 more r.entries o.now o.broken r.stands flat in
     let meets : Meets text h 0 0 kinds.StreamEnd q a w = record { place = s.white.place gap c.behind; allowed = s.white.allowed gap c.behind; kind = c.kind; word = c.word } in
     let (tells, last) = end_is_read x text h more r.entries q a w s.front r.idle meets in

@@ -1,20 +1,7 @@
 -- The white behind lexemes.
 use Rattle.std.proofs.Common.{◌≡◌, ℕ, zero, suc, ◌+◌, ◌-◌, ◌<◌, ◌≤◌, ◌==◌, ◌&&◌, ◌||◌, not, nat_lt, Bool, true, false, List, [], ◌∷◌, ◌++◌, length, get_or, refl, sym, ap, subst, ◌∙◌, inl, inr, ◌⊎◌, arith}
-use Rattle.std.proofs.lemmas.Bool.{cases_Bool, and_parts, not-true}
-use Rattle.std.proofs.lemmas.Bool.Decides.{nat_tests}
-use Rattle.std.proofs.lemmas.List.{append-nil}
-use Rattle.yaml_scan_laws_order.specs.scan_model.Marks.{byte, break_of, break_width, mark_at}
-use Rattle.yaml_scan_laws_order.specs.scan_model.Classes.{is_bom}
-use Rattle.yaml_scan_laws_order.specs.scan_words.Between.{Gap, gap_at}
-use Rattle.yaml_scan_laws_order.specs.scan_words.Written.{HasAt, are_gap, has_break, begins_lexeme}
-use Rattle.yaml_scan_laws_order.specs.scan_history.declared.kind.Kind.{Kind}
+use Rattle.yaml_scan_laws_levels.proofs.Words.{cases_Bool, and_parts, not-true, nat_tests, append-nil, byte, break_of, break_width, mark_at, is_bom, Gap, gap_at, HasAt, are_gap, has_break, begins_lexeme, Kind, Lexeme, allows_key, is_value, reached, depth, in_flow, candidate, fresh, has, key_allowed, gap_behind, allowed_behind, gap_is_read, IsGap, WhiteBegins, WhiteGoesOn, WhiteIsTaken, WhiteIsOver, WhiteIsPassed, WhiteMeets, KeyIsAllowed}
 use Rattle.yaml_scan_laws_order.specs.scan_history.declared.kind.Kind.TheVariants as kinds
-use Rattle.yaml_scan_laws_order.specs.scan_history.declared.lexeme.Lexeme.{Lexeme}
-use Rattle.yaml_scan_laws_order.specs.scan_history.Kinds.{allows_key, is_value}
-use Rattle.yaml_scan_laws_order.specs.scan_history.History.{reached, depth, in_flow, candidate, fresh, has, key_allowed}
-use Rattle.yaml_scan_laws_order.specs.scan_history.Next.{gap_behind, allowed_behind}
-use Rattle.yaml_scan_laws_order.proofs.GapsRead.{gap_is_read}
-use Rattle.yaml_scan_laws_levels.specs.White.{IsGap, WhiteBegins, WhiteGoesOn, WhiteIsTaken, WhiteIsOver, WhiteIsPassed, WhiteMeets, KeyIsAllowed}
 
 -- ---- gaps of several parts
 

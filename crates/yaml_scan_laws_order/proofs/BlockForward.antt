@@ -1,18 +1,12 @@
 -- Block scalars end behind their start, inside the text.
 use Rattle.std.proofs.Common.{◌≡◌, ℕ, zero, suc, ◌+◌, ◌-◌, ◌<◌, ◌≤◌, ◌==◌, ◌&&◌, ◌||◌, not, nat_lt, Bool, true, List, length, Result, Ok, Err, inl, inr, ◌⊎◌, arith}
-use Rattle.std.proofs.lemmas.Bool.{cases_Bool, cases_lt, eqb-true}
-use Rattle.std.proofs.lemmas.Bool.Decides.{nat_tests}
-use Rattle.yaml_scan_history.specs.scan_model.Marks.{byte, break_width, column_at, is_blank}
+use Rattle.yaml_scan_laws_order.proofs.Words.{cases_Bool, cases_lt, eqb-true, nat_tests, byte, break_width, column_at, is_blank, Wrong, within, past_break, IsFrom, Lands, BlockText, column_of, block_with, block_lines, block_behind, block_at}
 use Rattle.yaml_scan_history.specs.scan_model.Classes.{is_digit_byte}
 use Rattle.yaml_scan_history.specs.scan_model.Runs.{past, is_blank_there, is_text, past_blanks, line_end}
-use Rattle.yaml_scan_history.specs.scan_model.Wrong.{Wrong}
-use Rattle.yaml_scan_history.proofs.MarksLemmas.{within, past_break}
 use Rattle.yaml_scan_history.proofs.RunsLemmas.{past-le, text_parts}
-use Rattle.yaml_scan_history.proofs.PlacesLemmas.{IsFrom, Lands}
 use Rattle.yaml_scan_history.specs.scan_block.Value.{BlockLine, block_value}
 use Rattle.yaml_scan_history.specs.scan_block.Lines.{spaces, LineSpot, Stops, Line, Tab, spot_behind, line_spot, Lines, with_line, line_then, lines_from}
 use Rattle.yaml_scan_history.specs.scan_block.Header.{HeaderText, is_chomping, indicators, digit_place, past_comment, header_end, header_at}
-use Rattle.yaml_scan_history.specs.scan_block.Block.{BlockText, column_of, block_with, block_lines, block_behind, block_at}
 
 past-inside : (kind : List ℕ → ℕ → Bool) (n : ℕ) (text : List ℕ) (p : ℕ)
     → ((q : ℕ) → kind text q ≡ true → 0 < byte text q) → p ≤ length text
@@ -106,8 +100,7 @@ spaces-inside (suc n) text p l =
       | inl h ↦
           let b : byte text p ≡ 32 = eqb-true _ _ h in
           let here = within text p (omega (arith, b)) in
-          let more = spaces-inside n text (p + 1) (omega (arith, here)) in
-          rw h (omega (arith, more))
+          rw h (omega (arith, spaces-inside n text (p + 1) (omega (arith, here))))
       | inr h ↦ rw h (omega (arith, l))
     ]
 

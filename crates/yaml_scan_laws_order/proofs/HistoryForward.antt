@@ -1,18 +1,9 @@
 -- Histories go forward, and end.
 use Rattle.std.proofs.Common.{◌≡◌, ◌≢◌, ℕ, zero, suc, ◌+◌, ◌-◌, ◌<◌, ◌≤◌, ◌&&◌, nat_lt, Bool, true, false, List, [], ◌∷◌, ◌++◌, length, take, refl, sym, ap, subst, ◌∙◌, inl, inr, ◌⊎◌, arith, append_assoc}
-use Rattle.std.proofs.lemmas.Bool.{cases_Bool, cases_lt}
-use Rattle.yaml_scan_history.specs.scan_model.declared.record.yaml_mark_t.{yaml_mark_t}
-use Rattle.yaml_scan_history.specs.scan_model.Marks.{mark_at, line_at}
-use Rattle.yaml_scan_history.specs.declared.kind.Kind.{Kind}
-use Rattle.yaml_scan_history.specs.declared.lexeme.Lexeme.{Lexeme}
-use Rattle.yaml_scan_history.specs.Kinds.{is_end}
-use Rattle.yaml_scan_history.specs.History.{reached, placed, entries, first_open}
-use Rattle.yaml_scan_history.specs.Next.{Next, Read, Fails, Ends, first_lexeme, next, extended, history}
-use Rattle.yaml_scan_history.specs.Remaining.{all, handed}
+use Rattle.yaml_scan_laws_order.proofs.Words.{cases_Bool, cases_lt, yaml_mark_t, mark_at, line_at, Kind, Lexeme, is_end, reached, placed, entries, first_open, Next, Read, Fails, Ends, first_lexeme, next, extended, history, all, handed, stays, take-handed, TakesBytes, StandsIn, column_at}
 use Rattle.yaml_scan_history.specs.Laws.{Upto, GoesForward}
-use Rattle.yaml_scan_history.proofs.HistoryLemmas.{stays, take-handed}
-use Rattle.yaml_scan_laws_order.specs.Standing.{TakesBytes, Takes, StandsIn}
-use Rattle.yaml_scan_laws_order.proofs.MarksForward.{line_at-grows, mark_start}
+use Rattle.yaml_scan_laws_order.specs.Standing.{Takes}
+use Rattle.yaml_scan_laws_order.proofs.MarksForward.{line_at-grows}
 use Rattle.yaml_scan_laws_order.proofs.NextForward.{Follows, ReadsBehind, next_reads}
 
 -- the newest lexeme reaches a place of the text, and the ones before it are no more than the bytes before that place
@@ -65,7 +56,7 @@ pub takes_bytes : (text : List ℕ) (l : Lexeme) → StandsIn text l → is_end 
 takes_bytes text l t e = subst (λ b. Takes b text l) e t
 
 first_stands : (text : List ℕ) → Reaches text first_lexeme []
-first_stands text = record { inside = omega arith; mark = λ e. mark_start text; few = λ e. omega arith; count = omega arith }
+first_stands text = record { inside = omega arith; mark = λ e. (unfold line_at column_at in refl); few = λ e. omega arith; count = omega arith }
 
 read_stands : (text : List ℕ) (h : List Lexeme) (l : Lexeme) → Stands text h → next text h ≡ Read l
     → Reaches text l h
@@ -104,19 +95,17 @@ placed_line : (text : List ℕ) (l : Lexeme) (ended : Bool) → Takes ended text
     → line_at text l.start.index ≤ l.start.line
 placed_line text l false t = let same = ap (λ (m : yaml_mark_t). m.line) t.start in omega (arith, same)
 placed_line text l true t =
-    let same = ap (λ (m : yaml_mark_t). m.line) t.start in
     let more = moved_line l.kind (mark_at text l.start.index) in
-    omega (arith, same, more)
+    omega (arith, ap (λ (m : yaml_mark_t). m.line) t.start, more)
 
 placed_reached : (text : List ℕ) (l : Lexeme) (ended : Bool) → Takes ended text l
     → Upto l.start l.reached
 placed_reached text l true t = rw t.reached (omega arith, omega arith)
 placed_reached text l false t =
     let forward : l.start.index ≤ l.reached.index = omega (arith, t.some, t.order) in
-    let grown = line_at-grows text l.start.index l.reached.index forward in
     let first = ap (λ (m : yaml_mark_t). m.line) t.start in
     let last = ap (λ (m : yaml_mark_t). m.line) t.reached in
-    (forward, omega (arith, grown, first, last))
+    (forward, omega (arith, line_at-grows text l.start.index l.reached.index forward, first, last))
 
 pub read_forward : (text : List ℕ) (h : List Lexeme) (l : Lexeme) → Stands text h
     → next text h ≡ Read l → Upto (reached h) l.start × Upto l.start l.reached
@@ -168,17 +157,13 @@ room_of : (text : List ℕ) (h : List Lexeme) (l : Lexeme) → Stands text h →
     → length h ≤ length text + 1
 room_of text [] l s e = omega arith
 room_of text (x ∷ h) l s e =
-    let before = s.few (not_ended text x h l e) in
-    let inside = s.inside in
-    omega (arith, before, inside)
+    omega (arith, s.few (not_ended text x h l e), s.inside)
 
 -- a step that reads is one of at most two more than the text has bytes
 pub steps_below : (text : List ℕ) (n : ℕ) (l : Lexeme) → next text (history text n) ≡ Read l
     → n < length text + 2
 steps_below text n l e =
-    let count = reads_count text n l e in
-    let room = room_of text (history text n) l (history_stands text n) e in
-    omega (arith, count, room)
+    omega (arith, reads_count text n l e, room_of text (history text n) l (history_stands text n) e)
 
 -- Behind the whole history no lexeme is read.
 pub all_ends : (text : List ℕ) (l : Lexeme) → next text (all text) ≢ Read l

@@ -1,3 +1,4 @@
+mod Words
 pub mod MarksForward
 pub mod QuotedForward
 pub mod PlainForward
@@ -6,7 +7,6 @@ pub mod WordForward
 pub mod NextForward
 pub mod HistoryForward
 pub mod HeldForward
-pub mod OuterForward
 pub mod RemainingForward
 pub mod StreamForward
 -- what it stands on, for crates of laws that name this one alone

@@ -1,20 +1,9 @@
 -- The next lexeme stands behind the ones before it.
 use Rattle.std.proofs.Common.{◌≡◌, ℕ, ◌≤◌, ◌&&◌, nat_lt, true, false, List, ◌∷◌, length, Option, Some, None, Result, Ok, Err, refl, sym, ap, subst, ◌∙◌, inl, inr, arith}
-use Rattle.std.proofs.lemmas.Bool.{cases_Bool}
-use Rattle.yaml_scan_history.specs.scan_model.declared.record.yaml_mark_t.{yaml_mark_t}
-use Rattle.yaml_scan_history.specs.scan_model.Marks.{mark_at}
-use Rattle.yaml_scan_history.specs.scan_model.Wrong.{Wrong}
+use Rattle.yaml_scan_laws_order.proofs.Words.{cases_Bool, yaml_mark_t, mark_at, Wrong, gap_place, Kind, Lexeme, is_end, placed, depth, key_allowed, candidate, fresh, WordText, kind_at, word_at, Next, Read, Fails, Ends, begun, finished, allowed_behind, misplaced, missed, lost_by, next, StandsIn}
 use Rattle.yaml_scan_history.specs.scan_words.Between.{Gap, gap_at}
-use Rattle.yaml_scan_history.proofs.PlacesLemmas.{gap_place}
-use Rattle.yaml_scan_history.specs.declared.kind.Kind.{Kind}
-use Rattle.yaml_scan_history.specs.declared.lexeme.Lexeme.{Lexeme}
-use Rattle.yaml_scan_history.specs.Kinds.{is_end}
-use Rattle.yaml_scan_history.specs.History.{placed, depth, key_allowed, candidate, fresh}
-use Rattle.yaml_scan_history.specs.Words.{WordText, kind_at, word_at}
-use Rattle.yaml_scan_history.specs.Next.{Next, Read, Fails, Ends, begun, finished, allowed_behind, misplaced, missed, lost_by, next}
 use Rattle.yaml_scan_history.specs.Stepwise.{no_colon, tested, unless_wrong, unless_lost, of_kind, unless_missed}
 use Rattle.yaml_scan_history.proofs.StepwiseLemmas.{stepwise}
-use Rattle.yaml_scan_laws_order.specs.Standing.{StandsIn}
 use Rattle.yaml_scan_laws_order.proofs.WordForward.{Fits, FitsAny, kind_fits, LandsWord, IsWordFrom, word_lands}
 
 -- a lexeme behind a place

@@ -1,11 +1,7 @@
 -- Plain scalars, and the white behind them, end behind their start, inside the text.
 use Rattle.std.proofs.Common.{ℕ, zero, suc, ◌+◌, ◌<◌, ◌≤◌, ◌==◌, ◌&&◌, ◌||◌, nat_lt, Bool, List, [], ◌∷◌, length, Result, Ok, Err, inl, inr, arith}
-use Rattle.std.proofs.lemmas.Bool.{cases_Bool, ltb-true}
-use Rattle.yaml_scan_history.specs.scan_model.Marks.{byte, break_width, column_at, is_blank}
-use Rattle.yaml_scan_history.specs.scan_model.Wrong.{Wrong}
-use Rattle.yaml_scan_history.proofs.MarksLemmas.{within, past_break}
-use Rattle.yaml_scan_history.specs.scan_scalars.Pieces.{Piece, Kept, Blank, Break}
-use Rattle.yaml_scan_history.specs.scan_scalars.Plain.{is_bracket, leads, PlainSpot, Ends, Takes, Faulty, ends_at, spot_at, Words, is_nothing, with_piece, words_from, follows, words, PlainText, plain_with, plain_text, plain_at}
+use Rattle.yaml_scan_laws_order.proofs.Words.{cases_Bool, ltb-true, byte, break_width, column_at, is_blank, Wrong, within, past_break, Piece, Kept, Blank, Break, is_bracket, leads, PlainSpot, Takes, Faulty, ends_at, spot_at, Words, is_nothing, with_piece, words_from, follows, words, PlainText, plain_with, plain_text, plain_at}
+use Rattle.yaml_scan_history.specs.scan_scalars.Plain.{Ends}
 use Rattle.yaml_scan_history.proofs.PlainLemmas.{not_ended, blank_inside}
 
 abbrev Fits : List ℕ → ℕ → PlainSpot → Type 0
@@ -20,14 +16,12 @@ spot_fits flow level text p =
     elim (cases_Bool (nat_lt 0 (break_width text p))) [
       | inl h ↦
           let some = ltb-true _ _ h in
-          let past = past_break text p some in
-          rw h (omega (arith, some), past.inside)
+          rw h (omega (arith, some), (past_break text p some).inside)
       | inr h ↦ elim (cases_Bool (is_blank (byte text p))) [
         | inl i ↦
-            let here = blank_inside text p i in
             elim (cases_Bool (byte text p == 9 && (leads text p && nat_lt (column_at text p) level))) [
               | inl j ↦ rw (h, i, j) tt
-              | inr j ↦ rw (h, i, j) (omega arith, omega (arith, here))
+              | inr j ↦ rw (h, i, j) (omega arith, omega (arith, blank_inside text p i))
             ]
         | inr i ↦ elim (cases_Bool (ends_at flow level text p)) [
           | inl j ↦ rw (h, i, j) tt

@@ -1,17 +1,10 @@
 -- Quoted scalars end behind their start, inside the text.
 use Rattle.std.proofs.Common.{◌≡◌, ℕ, zero, suc, ◌+◌, ◌*◌, ◌<◌, ◌≤◌, ◌==◌, ◌&&◌, nat_lt, false, List, length, Option, Some, None, option_and_then, option_map, Result, Ok, Err, inl, inr, arith}
-use Rattle.std.proofs.lemmas.Bool.{cases_Bool, ltb-true, eqb-true, and_parts}
-use Rattle.std.proofs.lemmas.Bool.Decides.{nat_tests}
-use Rattle.yaml_scan_history.specs.scan_model.Marks.{byte, break_width, is_blank}
+use Rattle.yaml_scan_laws_order.proofs.Words.{cases_Bool, ltb-true, eqb-true, and_parts, nat_tests, byte, break_width, is_blank, Wrong, within, past_break, behind_bytes, Lands, Piece, value, QuotedSpot, Closing, Pieces, Bad, hex_digit, hex_value, is_scalar, coded, hex_len, simple_escape, escaped, escape_at, quote_at, standing_at, with_front, followed, pieces, quoted_at}
 use Rattle.yaml_scan_history.specs.scan_model.Breaks.{is_document_indicator}
-use Rattle.yaml_scan_history.specs.scan_model.Wrong.{Wrong}
-use Rattle.yaml_scan_history.proofs.MarksLemmas.{within, past_break}
-use Rattle.yaml_scan_history.specs.scan_words.Readings.{behind_bytes}
-use Rattle.yaml_scan_history.proofs.PlacesLemmas.{Lands}
-use Rattle.yaml_scan_history.specs.scan_scalars.Pieces.{Piece, value}
-use Rattle.yaml_scan_history.specs.scan_scalars.Quoted.{QuotedSpot, Closing, Pieces, Bad, hex_digit, hex_value, is_scalar, coded, hex_len, simple_escape, escaped, escape_at, quote_at, standing_at, with_front, followed, pieces, valued, quoted_at}
+use Rattle.yaml_scan_history.specs.scan_scalars.Quoted.{valued}
 
-some_of : (b : ℕ) → (b == 0) ≡ false → 0 < b
+pub some_of : (b : ℕ) → (b == 0) ≡ false → 0 < b
 some_of b h = grind (arith, nat_tests)
 
 -- there is a value
@@ -42,8 +35,7 @@ unfolding hex_value
 hex_inside zero text p h s = absurd (omega arith)
 hex_inside (suc n) text p h s =
     let digit = last_digit (hex_value text p n) (hex_digit (byte text (p + n))) s in
-    let here = within text (p + n) (digit_some (byte text (p + n)) digit) in
-    omega (arith, here)
+    omega (arith, within text (p + n) (digit_some (byte text (p + n)) digit))
 
 -- what stands at the place ends behind it, inside the text
 abbrev Fits : List ℕ → ℕ → QuotedSpot → Type 0
@@ -89,8 +81,7 @@ quote_fits quote text p l =
     elim (cases_Bool (quote == 39 && byte text (p + 1) == 39)) [
       | inl h ↦
           let b : byte text (p + 1) ≡ 39 = eqb-true _ _ (and_parts (quote == 39) (byte text (p + 1) == 39) h).1 in
-          let here = within text (p + 1) (omega (arith, b)) in
-          rw h (omega arith, omega (arith, here))
+          rw h (omega arith, omega (arith, within text (p + 1) (omega (arith, b))))
       | inr h ↦ rw h l
     ]
 
@@ -108,8 +99,7 @@ standing_fits quote text p =
               | inr j ↦ elim (cases_Bool (nat_lt 0 (break_width text p))) [
                 | inl k ↦
                     let some = ltb-true _ _ k in
-                    let past = past_break text p some in
-                    rw (h, i, j, k) (omega (arith, some), past.inside)
+                    rw (h, i, j, k) (omega (arith, some), (past_break text p some).inside)
                 | inr k ↦ elim (cases_Bool (is_blank (byte text p))) [
                   | inl l ↦ rw (h, i, j, k, l) (omega arith, omega (arith, here))
                   | inr l ↦ elim (cases_Bool (quote == 34 && byte text p == 92)) [

@@ -1,21 +1,9 @@
 -- What comes first of what is to come.
 use Rattle.std.proofs.Common.{◌≡◌, ◌≢◌, ℕ, zero, suc, ◌+◌, ◌-◌, ◌<◌, ◌≤◌, true, false, cond, List, [], ◌∷◌, ◌++◌, length, take, drop, get_or, Option, Some, None, refl, sym, ap, subst, ◌∙◌, inl, inr, append_assoc, append-nil, length-append, arith}
-use Rattle.std.proofs.lemmas.Bool.{cases_lt}
+use Rattle.yaml_scan_laws_order.proofs.Words.{cases_lt, flat_map, ScanFault, Fault, scanner_fault, Token, block_end, no_token, Lexeme, Entry, is_value, entries, first_open, mark_key, marked, keyed, found_by, inside, entry_of, Next, Read, Fails, Ends, next, history, SpelledText, all, handed, handed_out, before, start_tokens, end_tokens, own_tokens, spell, front_ends, kept_of, fault_in, Remaining, nothing, remaining, length-entries, first_open-le, length-keyed, take-history}
 use Rattle.std.proofs.lemmas.List.{drop_more, get_or_append_left, get_or-take, length-take, length-take-le, length-replicate, get_or-replicate}
 use Rattle.std.proofs.Math.ListN.{drop_of_length-le}
 use Rattle.std.specs.Prelude.{replicate}
-use Rattle.std.specs.List.{flat_map}
-use Rattle.yaml_scan_history.specs.scan_model.declared.problem.ScanFault.{ScanFault}
-use Rattle.yaml_scan_history.specs.scan_model.Faults.{Fault}
-use Rattle.yaml_scan_history.specs.scan_model.Problems.{scanner_fault}
-use Rattle.yaml_scan_history.specs.scan_model.Tokens.{Token, block_end, no_token}
-use Rattle.yaml_scan_history.specs.declared.lexeme.Lexeme.{Lexeme}
-use Rattle.yaml_scan_history.specs.declared.lexeme.Entry.{Entry}
-use Rattle.yaml_scan_history.specs.Kinds.{is_value}
-use Rattle.yaml_scan_history.specs.History.{entries, first_open, mark_key, marked, keyed, found_by, inside, entry_of}
-use Rattle.yaml_scan_history.specs.Next.{Next, Read, Fails, Ends, next, history}
-use Rattle.yaml_scan_history.specs.Remaining.{SpelledText, all, handed, handed_out, before, start_tokens, end_tokens, own_tokens, spell, front_ends, kept_of, fault_in, Remaining, nothing, remaining}
-use Rattle.yaml_scan_history.proofs.HistoryLemmas.{length-entries, first_open-le, length-keyed, take-history}
 use Rattle.yaml_scan_laws_order.specs.Fronts.{GivesFirst}
 use Rattle.yaml_scan_laws_order.proofs.HistoryForward.{goes_forward, settled_stays, last_is_all, all_ends, stays_all, history_grows}
 
@@ -66,8 +54,7 @@ pub handed_end : (text : List ℕ) (n : ℕ) → next text (history text n) ≡ 
     → handed text ≡ entries (history text n)
 unfolding handed
 handed_end text n e =
-    let whole = last_is_all text n (λ l. never_read (next text (history text n)) l e) in
-    rw (whole, e) refl
+    rw (last_is_all text n (λ l. never_read (next text (history text n)) l e), e) refl
 
 -- all of them at the end
 pub known_ended : (text : List ℕ) (n m : ℕ) → next text (history text n) ≡ Ends
@@ -82,8 +69,7 @@ pub known_next : (text : List ℕ) (n k : ℕ) (e : Entry) → Known text n (suc
     → drop k (handed text) ≡ get_or (entries (history text n)) k e ∷ drop (k + 1) (handed text)
 known_next text n k e known =
     let h = history text n in
-    let few = known.few in
-    let long : suc k ≤ length (entries h) = omega (arith, few, length-entries h) in
+    let long : suc k ≤ length (entries h) = omega (arith, known.few, length-entries h) in
     let whole : length (take (suc k) (handed text)) ≡ suc k = ap length known.same ∙ length-take-le (suc k) (entries h) long in
     let inside = shorter (suc k) (handed text) whole in
     let there : get_or (handed text) k e ≡ get_or (entries h) k e =

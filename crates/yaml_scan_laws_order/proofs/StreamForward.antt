@@ -1,37 +1,16 @@
 -- How the tokens of a text begin and end.
 use Rattle.std.proofs.Common.{◌≡◌, ◌≢◌, ℕ, zero, suc, ◌+◌, ◌<◌, Bool, true, false, cond, if◌then◌else◌, nat_lt, List, [], ◌∷◌, ◌++◌, length, take, drop, get_or, Some, None, Result, Ok, Err, refl, sym, ap, subst, ◌∙◌, inl, inr, append_assoc, append-nil, arith}
-use Rattle.std.proofs.lemmas.Bool.{cases_Bool, true≢false}
+use Rattle.yaml_scan_laws_order.proofs.Words.{cases_Bool, true≢false, flat_map, ScanFault, Token, TokenBody, stream_start, stream_end, block_end, zero_mark, no_token, Fault, scanner_fault, Wrong, yaml_scalar_style_t, anchor_at, TagText, tag_at, Said, DirectiveText, directive_at, double_quoted_at, single_quoted_at, PlainText, plain_at, BlockText, block_at, style_at, Kind, Lexeme, Entry, is_end, is_value, ended, entries, levels, candidate, first_open, mark_key, marked, keyed, found_by, inside, entry_of, word_at, valued, tagged, body_said, directed, blocked, plainly, Next, Read, Fails, Ends, first_lexeme, next, history, SpelledText, body_of_word, body_by, token_in, before, start_tokens, end_tokens, own_tokens, spell, all, handed, front_ends, fault_in, remaining, offline}
 use Rattle.std.proofs.lemmas.Grind.{flat_map-append}
 use Rattle.std.proofs.lemmas.List.Elements.{All-nil, All-cons, All-append, All-replicate}
 use Rattle.std.specs.Prelude.{All}
-use Rattle.std.specs.List.{flat_map}
-use Rattle.yaml_scan_history.specs.scan_model.declared.problem.ScanFault.{ScanFault}
 use Rattle.yaml_scan_history.specs.scan_model.Tokens as tokens
-use Rattle.yaml_scan_history.specs.scan_model.Tokens.{Token, TokenBody, stream_start, stream_end, block_end, zero_mark, no_token}
-use Rattle.yaml_scan_history.specs.scan_model.Faults.{Fault}
-use Rattle.yaml_scan_history.specs.scan_model.Problems.{scanner_fault}
-use Rattle.yaml_scan_history.specs.scan_model.Wrong.{Wrong}
-use Rattle.yaml_scan_history.specs.scan_model.declared.name.yaml_scalar_style_t.{yaml_scalar_style_t}
 use Rattle.yaml_scan_history.specs.scan_model.declared.name.yaml_scalar_style_t.TheVariants as styles
 use Rattle.yaml_scan_history.specs.scan_model.declared.problem.Context.TheVariants as contexts
-use Rattle.yaml_scan_history.specs.scan_words.Anchors.{anchor_at}
-use Rattle.yaml_scan_history.specs.scan_words.Tags.{TagText, tag_at}
 use Rattle.yaml_scan_history.specs.scan_words.Directives as directives
-use Rattle.yaml_scan_history.specs.scan_words.Directives.{Said, DirectiveText, directive_at}
-use Rattle.yaml_scan_history.specs.scan_scalars.Quoted.{double_quoted_at, single_quoted_at}
-use Rattle.yaml_scan_history.specs.scan_scalars.Plain.{PlainText, plain_at}
-use Rattle.yaml_scan_history.specs.scan_block.Block.{BlockText, block_at, style_at}
-use Rattle.yaml_scan_history.specs.declared.kind.Kind.{Kind}
 use Rattle.yaml_scan_history.specs.declared.kind.Kind.TheVariants as kinds
-use Rattle.yaml_scan_history.specs.declared.lexeme.Lexeme.{Lexeme}
-use Rattle.yaml_scan_history.specs.declared.lexeme.Entry.{Entry}
 use Rattle.yaml_scan_history.specs.declared.lexeme.Opens.{Opens}
 use Rattle.yaml_scan_history.specs.declared.lexeme.Opens.TheVariants as opening
-use Rattle.yaml_scan_history.specs.Kinds.{is_end, is_value}
-use Rattle.yaml_scan_history.specs.History.{ended, entries, levels, candidate, first_open, mark_key, marked, keyed, found_by, inside, entry_of}
-use Rattle.yaml_scan_history.specs.Words.{word_at, valued, tagged, body_said, directed, blocked, plainly}
-use Rattle.yaml_scan_history.specs.Next.{Next, Read, Fails, Ends, first_lexeme, next, history}
-use Rattle.yaml_scan_history.specs.Remaining.{SpelledText, body_of_word, body_by, token_in, before, start_tokens, end_tokens, own_tokens, spell, all, handed, front_ends, fault_in, remaining, offline}
 use Rattle.yaml_scan_laws_order.proofs.NextForward.{ReadsBehind, next_reads}
 use Rattle.yaml_scan_laws_order.proofs.HistoryForward.{Stands, history_stands, all_ends}
 use Rattle.yaml_scan_laws_order.proofs.HeldForward.{Chain, history_chain}
@@ -235,18 +214,6 @@ failed_pool s h c e =
     All-append IsOtherToken (flat_map (spell s) (take (first_open h h) (entries h))) (front_ends (drop (first_open h h) (entries h)))
     (pool_other s (take (first_open h h) (entries h)) (take_no_end (first_open h h) (entries h) (entries_no_end s.text h c e))) (kept_other h (drop (first_open h h) (entries h)))
 
-ended_tokens : (s : SpelledText) → next s.text (all s.text) ≡ Ends
-    → (offline s).tokens ≡ flat_map (spell s) (entries (all s.text)) ++ []
-unfolding remaining handed
-ended_tokens s e = rw e refl
-
-failed_tokens : (s : SpelledText) (p : ScanFault) → next s.text (all s.text) ≡ Fails p
-    → let h = all s.text in
-    (offline s).tokens ≡ flat_map (spell s) (take (first_open h h) (entries h))
-    ++ front_ends (drop (first_open h h) (entries h))
-unfolding remaining handed
-failed_tokens s p e = rw e refl
-
 fault_none : (x : Next) → fault_in x ≡ None → ((l : Lexeme) → x ≢ Read l) → x ≡ Ends
 fault_none (Read l) e never = absurd (never l refl)
 fault_none (Fails p) e never = let bad : Some (scanner_fault p) ≡ None = e in absurd cc
@@ -262,6 +229,11 @@ pub fault_next : (s : SpelledText) → (offline s).fault ≡ fault_in (next s.te
 unfolding remaining
 fault_next s = refl
 
+ended_tokens : (s : SpelledText) → next s.text (all s.text) ≡ Ends
+    → (offline s).tokens ≡ flat_map (spell s) (entries (all s.text)) ++ []
+unfolding remaining handed
+ended_tokens s e = rw e refl
+
 -- a text without fault ends in STREAM-END, and has none before
 pub stream_ends : (s : SpelledText) → (offline s).fault ≡ None
     → (front : List Token) × (last : Token)
@@ -272,6 +244,13 @@ stream_ends s e =
     let w = whole_pool s (all s.text) (chain_all s.text) (ends_ended s.text (all s.text) (stands_all s.text) over) in
     (w.front, w.last, ended_tokens s over ∙ w.are, w.end, all_differ w.front w.others)
 
+failed_tokens : (s : SpelledText) (p : ScanFault) → next s.text (all s.text) ≡ Fails p
+    → let h = all s.text in
+    (offline s).tokens ≡ flat_map (spell s) (take (first_open h h) (entries h))
+    ++ front_ends (drop (first_open h h) (entries h))
+unfolding remaining handed
+failed_tokens s p e = rw e refl
+
 -- one with a fault has none
 pub fault_ends_none : (s : SpelledText) (f : Fault) → (offline s).fault ≡ Some f
     → All (λ t. t.body ≢ stream_end) (offline s).tokens
@@ -279,10 +258,6 @@ fault_ends_none s f e =
     let (p, fails) = fault_some (next s.text (all s.text)) f (sym (fault_next s) ∙ e) in
     let others = failed_pool s (all s.text) (chain_all s.text) (fails_open s.text (all s.text) p fails) in
     all_differ (offline s).tokens (subst (λ ts. All IsOtherToken ts) (sym (failed_tokens s p fails)) others)
-
-first_known : (text : List ℕ) → 0 < first_open (history text 1) (history text 1)
-unfolding history next first_open candidate
-first_known text = omega arith
 
 abbrev any_entry : Entry
 any_entry = entry_of first_lexeme []
@@ -293,6 +268,10 @@ first_spelled : (s : SpelledText)
 unfolding history next entries levels candidate
 first_spelled s = refl
 
+first_known : (text : List ℕ) → 0 < first_open (history text 1) (history text 1)
+unfolding history next first_open candidate
+first_known text = omega arith
+
 -- the first token is STREAM-START
 pub stream_starts : (s : SpelledText)
     → (rest : List Token) × ((offline s).tokens
@@ -300,6 +279,5 @@ pub stream_starts : (s : SpelledText)
     ∷ rest)
 stream_starts s =
     let (gives, done) = settled_comes s 1 0 0 any_entry no_token (first_known s.text) in
-    let one = ap length (first_spelled s) in
-    let (front, fault) = gives (omega (arith, one)) in
+    let (front, fault) = gives (omega (arith, ap length (first_spelled s))) in
     ((remaining s 0 (0 + 1)).tokens, front ∙ ap (λ (ts : List Token). get_or ts 0 no_token ∷ (remaining s 0 (0 + 1)).tokens) (first_spelled s))

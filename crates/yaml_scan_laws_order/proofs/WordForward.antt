@@ -1,34 +1,15 @@
 -- Lexemes of every kind end behind their start, inside the text.
-use Rattle.std.proofs.Common.{◌≡◌, ℕ, ◌+◌, ◌<◌, ◌≤◌, ◌==◌, ◌&&◌, ◌||◌, not, nat_lt, Bool, true, false, if◌then◌else◌, List, length, Option, Some, None, Result, Ok, Err, inl, inr, arith}
-use Rattle.std.proofs.lemmas.Bool.{cases_Bool, true≢false, ltb-true}
-use Rattle.std.proofs.lemmas.Bool.Decides.{nat_tests}
-use Rattle.yaml_scan_history.specs.scan_model.declared.name.yaml_scalar_style_t.{yaml_scalar_style_t}
+use Rattle.std.proofs.Common.{◌≡◌, ℕ, ◌+◌, ◌<◌, ◌≤◌, ◌==◌, ◌&&◌, ◌||◌, not, Bool, true, false, if◌then◌else◌, List, length, Option, Some, None, Result, Ok, Err, inl, inr, arith}
+use Rattle.yaml_scan_laws_order.proofs.Words.{cases_Bool, true≢false, nat_tests, yaml_scalar_style_t, TokenBody, byte, column_at, is_blank_or_end, Wrong, within, behind_bytes, anchor_at, TagText, tag_end, tag_at, ValueText, value_end, value_at, line_place, line_end_at, with_line, Lands, line_end_place, anchor_place, tag_place, value_place, double_quoted_at, single_quoted_at, PlainText, starts_plain, plain_at, BlockText, block_at, style_at, Kind, is_end, indicator_of, or_plain, kind_at, WordText, carrying, valued, tagged, directed, blocked, plainly, word_at}
 use Rattle.yaml_scan_history.specs.scan_model.declared.name.yaml_scalar_style_t.TheVariants as styles
 use Rattle.yaml_scan_history.specs.scan_model.declared.problem.Context.TheVariants as contexts
 use Rattle.yaml_scan_history.specs.scan_model.Tokens as tokens
-use Rattle.yaml_scan_history.specs.scan_model.Tokens.{TokenBody}
-use Rattle.yaml_scan_history.specs.scan_model.Marks.{byte, break_width, column_at, is_blank_or_end}
-use Rattle.yaml_scan_history.specs.scan_model.Wrong.{Wrong}
-use Rattle.yaml_scan_history.proofs.MarksLemmas.{within, past_break}
-use Rattle.yaml_scan_history.specs.scan_words.Readings.{behind_bytes}
 use Rattle.yaml_scan_history.specs.scan_words.Indicators.{is_document_start, is_document_end}
-use Rattle.yaml_scan_history.specs.scan_words.Anchors.{anchor_at}
-use Rattle.yaml_scan_history.specs.scan_words.Tags.{TagText, tag_end, tag_at}
-use Rattle.yaml_scan_history.specs.scan_words.Directives.{ValueText, value_end, value_at, line_place, comment_end, break_end, line_end_at, with_line, finished}
-use Rattle.yaml_scan_history.proofs.PlacesLemmas.{IsFrom, Lands, run_place, anchor_place, tag_place, value_place}
-use Rattle.yaml_scan_history.specs.scan_scalars.Quoted.{double_quoted_at, single_quoted_at}
-use Rattle.yaml_scan_history.specs.scan_scalars.Plain.{PlainText, starts_plain, plain_at}
-use Rattle.yaml_scan_history.specs.scan_block.Block.{BlockText, block_at, style_at}
-use Rattle.yaml_scan_history.specs.declared.kind.Kind.{Kind}
+use Rattle.yaml_scan_history.specs.scan_words.Directives.{finished}
 use Rattle.yaml_scan_history.specs.declared.kind.Kind.TheVariants as kinds
-use Rattle.yaml_scan_history.specs.Kinds.{is_end}
-use Rattle.yaml_scan_history.specs.Words.{indicator_of, or_plain, kind_at, WordText, carrying, valued, tagged, directed, blocked, plainly, word_at}
-use Rattle.yaml_scan_laws_order.proofs.QuotedForward.{quoted_place}
+use Rattle.yaml_scan_laws_order.proofs.QuotedForward.{quoted_place, some_of}
 use Rattle.yaml_scan_laws_order.proofs.PlainForward.{LandsPlain, plain_place}
 use Rattle.yaml_scan_laws_order.proofs.BlockForward.{LandsBlock, block_place}
-
-some_of : (b : ℕ) → (b == 0) ≡ false → 0 < b
-some_of b h = grind (arith, nat_tests)
 
 -- what a kind tells of the text where it stands
 abbrev pub Fits : Kind → List ℕ → ℕ → Type 0
@@ -144,36 +125,6 @@ blocked_lands : (text : List ℕ) (p : ℕ) (style : yaml_scalar_style_t) (r : R
     → LandsBlock text (p + 1) r → LandsWord text p (blocked style r)
 blocked_lands text p style (Ok x) h = record { end = omega (arith, h.end); place = h.place; inside = h.inside }
 blocked_lands text p style (Err w) h = tt
-
-comment_place : (text : List ℕ) (p : ℕ) → p ≤ length text → IsFrom text p (comment_end text p)
-comment_place text p l =
-    elim (cases_Bool (byte text p == 35)) [
-      | inl h ↦ rw h (run_place _ text p l)
-      | inr h ↦ rw h record { forward = omega arith; inside = l }
-    ]
-
-break_place : (text : List ℕ) (o p : ℕ) → o ≤ p → p ≤ length text
-    → Lands line_place text o (break_end text p)
-break_place text o p f l =
-    elim (cases_Bool (nat_lt 0 (break_width text p))) [
-      | inl h ↦
-          let past = past_break text p (ltb-true _ _ h) in
-          rw h record { forward = omega (arith, f); inside = past.inside }
-      | inr h ↦ elim (cases_Bool (byte text p == 0)) [
-        | inl i ↦ rw (h, i) record { forward = f; inside = l }
-        | inr i ↦ rw (h, i) tt
-      ]
-    ]
-
-behind_place : (text : List ℕ) (p q : ℕ) → IsFrom text p q
-    → Lands line_place text p (break_end text (comment_end text q))
-behind_place text p q f =
-    let comment = comment_place text q f.inside in
-    break_place text p (comment_end text q) (omega (arith, f.forward, comment.forward)) comment.inside
-
-line_end_place : (text : List ℕ) (p : ℕ) → p ≤ length text
-    → Lands line_place text p (line_end_at text p)
-line_end_place text p l = behind_place text p _ (run_place _ text p l)
 
 line_lands : (text : List ℕ) (p : ℕ) (v : ValueText) (r : Result ℕ Wrong) → p < v.end
     → Lands line_place text v.end r → LandsWord text p (directed (with_line v r))

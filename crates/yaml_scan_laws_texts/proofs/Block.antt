@@ -1,15 +1,10 @@
 -- The value of a block scalar is UTF-8, and the text may be cut behind it.
 use Rattle.std.proofs.Common.{◌≡◌, ℕ, zero, suc, ◌+◌, ◌-◌, ◌≤◌, ◌==◌, ◌&&◌, ◌||◌, not, nat_lt, Bool, true, false, List, [], ◌∷◌, length, Result, Ok, Err, refl, true≢false, inl, inr, arith, IsUtf8}
-use Rattle.std.proofs.lemmas.Bool.{cases_Bool, cases_lt, ltb-true, eqb-true}
-use Rattle.std.proofs.lemmas.Str.{IsUtf8-nil, IsUtf8-append}
-use Rattle.yaml_scan_laws_order.specs.scan_model.Marks.{byte, break_width, column_at}
-use Rattle.yaml_scan_laws_order.specs.scan_model.Breaks.{feed_at, is_feed}
+use Rattle.yaml_scan_laws_texts.proofs.Words.{cases_Bool, cases_lt, ltb-true, eqb-true, IsUtf8-nil, IsUtf8-append, byte, break_width, column_at, feed_at, is_feed, Wrong, BlockText, column_of, block_with, block_lines, block_behind, block_at}
 use Rattle.yaml_scan_laws_order.specs.scan_model.Runs.{past, is_text, line_end}
-use Rattle.yaml_scan_laws_order.specs.scan_model.Wrong.{Wrong}
 use Rattle.yaml_scan_laws_order.specs.scan_block.Value.{BlockLine, Empty, Words, TextLine, Texts, add_line, texts_of, starts_blank, space_or, between, at_end, behind_text, value_with, block_value}
 use Rattle.yaml_scan_laws_order.specs.scan_block.Lines.{spaces, LineSpot, Stops, Line, Tab, spot_behind, line_spot, Lines, with_line, line_then, lines_from}
 use Rattle.yaml_scan_laws_order.specs.scan_block.Header.{HeaderText, chomp_of, digit_place, chomping_place, header_end, header_at}
-use Rattle.yaml_scan_laws_order.specs.scan_block.Block.{BlockText, column_of, block_with, block_lines, block_behind, block_at}
 use Rattle.yaml_scan_laws_texts.proofs.Whole.{IsWhole, whole_past, whole_ascii, whole_after, whole_before, whole_behind, ascii_utf8, break_utf8, slice_utf8}
 
 -- Values.
@@ -105,9 +100,6 @@ past_whole (suc n) text p t l =
       | inr e ↦ rw e (stop_whole text p t e)
     ]
 
-line_end_whole : (text : List ℕ) (p : ℕ) → IsUtf8 text → IsWhole text (line_end text p)
-line_end_whole text p t = past_whole (length text) text p t (omega arith)
-
 -- behind a break, or where none is
 pub step_whole : (text : List ℕ) (p : ℕ) → IsUtf8 text → IsWhole text p
     → IsWhole text (p + break_width text p)
@@ -140,9 +132,8 @@ spaces_whole (suc n) text p t w =
     elim (cases_Bool (byte text p == 32)) [
       | inl h ↦
           let b : byte text p ≡ 32 = eqb-true _ _ h in
-          let more = spaces_whole n text (p + 1) t (whole_after text p t (omega (arith, b))) in
           let e : p + 1 + spaces n text (p + 1) ≡ p + suc (spaces n text (p + 1)) = omega arith in
-          rw h (rw e at more)
+          rw h (rw e at (spaces_whole n text (p + 1) t (whole_after text p t (omega (arith, b)))))
       | inr h ↦ let e : p + 0 ≡ p = omega arith in rw h (rw e w)
     ]
 
@@ -169,7 +160,7 @@ spot_fits c text q t w =
         | inr i ↦ elim (cases_Bool (byte text q == 0 || not (column_at text q == c))) [
           | inl j ↦ rw (h, i, j) w
           | inr j ↦
-              let end = line_end_whole text q t in
+              let end = past_whole (length text) text q t (omega arith) in
               rw (h, i, j) ((slice_utf8 text q (line_end text q) t w end, feed_utf8 text (line_end text q) t), step_whole text (line_end text q) t end)
         ]
       ]

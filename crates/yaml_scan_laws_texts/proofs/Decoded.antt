@@ -1,9 +1,7 @@
 -- Decoded texts are UTF-8.
 use Rattle.std.proofs.Common.{◌≡◌, ℕ, true, List, [], ◌∷◌, refl, sym, IsUtf8}
-use Rattle.std.specs.Char.{IsScalar}
-use Rattle.std.specs.List.{AllPass}
+use Rattle.yaml_scan_laws_texts.proofs.Words.{IsScalar, AllPass, All-head, All-tail}
 use Rattle.std.specs.Str.{all_scalars}
-use Rattle.std.proofs.lemmas.List.Elements.{All-head, All-tail}
 use Rattle.yaml_scan_laws_order.specs.scan_model.declared.name.yaml_encoding_t.{yaml_encoding_t}
 use Rattle.yaml_scan_laws_order.specs.scan_history.scan_decode.Characters.{is_allowed}
 use Rattle.yaml_scan_laws_order.specs.scan_history.scan_decode.Spelling.{Spells}
@@ -13,8 +11,7 @@ are_scalars : (cs : List ℕ) → AllPass is_allowed cs → all_scalars cs ≡ t
 are_scalars [] h = refl
 are_scalars (c ∷ cs) h =
     let own : IsScalar c = allowed_scalar c (All-head (λ x. is_allowed x ≡ true) c cs h) in
-    let rest = are_scalars cs (All-tail (λ x. is_allowed x ≡ true) c cs h) in
-    rw (own, rest) refl
+    rw (own, are_scalars cs (All-tail (λ x. is_allowed x ≡ true) c cs h)) refl
 
 pub spelled_utf8 : (setting : yaml_encoding_t) (bytes text : List ℕ) → Spells setting bytes text
     → IsUtf8 text

@@ -1,21 +1,12 @@
 -- Directives that are written.
 use Rattle.std.proofs.Common.{◌≡◌, ℕ, suc, ◌+◌, ◌-◌, ◌<◌, ◌==◌, nat_lt, true, false, List, [], ◌∷◌, ◌++◌, length, slice_range, Ok, Err, refl, sym, ap, subst, ◌∙◌, inl, inr, arith, add-zero, length-append}
 use Rattle.std.specs.Prelude.{codes, if◌then◌else◌}
-use Rattle.std.proofs.lemmas.Bool.Decides.{nat_tests}
+use Rattle.yaml_scan_laws_texts.proofs.Words.{nat_tests, byte, break_width, is_alpha_byte, is_digit_byte, is_digit, is_break, within, belongs, run_end, version, tag, then_at, decimal, number_between, number_at, minor_at, version_at, handle_at, prefix_ended, prefix_at, with_prefix, tag_directive_at, value_at, directive_at, is_uri, some_uri_at, Has, has_front, has_rest, range_reads, run_stop, alphas_run, no_alpha_at, uri_range, uri_is_read}
 use Rattle.yaml_scan_laws_order.specs.scan_model.declared.problem.Context.TheVariants as contexts
 use Rattle.yaml_scan_laws_order.specs.scan_model.declared.problem.Problem.TheVariants as problems
-use Rattle.yaml_scan_laws_order.specs.scan_model.Marks.{byte, break_width}
-use Rattle.yaml_scan_laws_order.specs.scan_model.Classes.{is_alpha_byte, is_digit_byte, is_blank, is_digit, is_break}
-use Rattle.yaml_scan_laws_order.proofs.MarksLemmas.{within}
-use Rattle.yaml_scan_words.specs.Runs.{belongs, run_end}
-use Rattle.yaml_scan_words.specs.Directives.{version, tag, then_at, decimal, number_between, number_at, minor_at, version_at, handle_at, prefix_ended, prefix_at, with_prefix, tag_directive_at, value_at, directive_at}
-use Rattle.yaml_scan_words.specs.Uris.{is_uri, some_uri_at}
+use Rattle.yaml_scan_laws_order.specs.scan_model.Classes.{is_blank}
 use Rattle.yaml_scan_words.specs.Written.{HasAt, are_alphas, UriPiece, raw, escape, uri_text, uri_bytes, IsUri}
-use Rattle.yaml_scan_words.proofs.HasLemmas.{Has, has, has_front, has_rest, range_reads}
-use Rattle.yaml_scan_words.proofs.RunsLemmas.{run_stop}
-use Rattle.yaml_scan_words.proofs.NamesRead.{alphas_run, no_alpha_at}
-use Rattle.yaml_scan_words.proofs.UrisLemmas.{uri_range}
-use Rattle.yaml_scan_words.proofs.UrisRead.{uri_is_read}
+use Rattle.yaml_scan_words.proofs.HasLemmas.{has}
 use Rattle.yaml_scan_laws_texts.specs.WordsLaws.{IsHandle, directive_text}
 use Rattle.yaml_scan_laws_texts.proofs.Lines.{one_run, blank_is, no_blank, digit_is, dot_no_digit, space_no_alpha, space_ends, break_ends, break_no_digit, break_no_uri, line_ends}
 
@@ -71,16 +62,13 @@ number_by run text p here stop =
     let count : p + 1 - p ≡ 1 = omega arith in
     rw (one_run run text p here stop, some, short, count) refl
 
-one_decimal : (text : List ℕ) (p d : ℕ) → byte text p ≡ 48 + d → decimal text p 1 ≡ d
-unfolding decimal
-one_decimal text p d h = rw (add-zero, h) (omega arith)
-
 one_digit : (text : List ℕ) (p d : ℕ) → d < 10 → byte text p ≡ 48 + d
     → is_digit text (p + 1) ≡ false → number_at text p ≡ Ok (d, p + 1)
 unfolding belongs
 one_digit text p d small h stop =
     let first : number_at text p ≡ Ok (decimal text p 1, p + 1) = number_by _ text p (digit_is text p (48 + d) h (omega arith) (omega (arith, small))) stop in
-    first ∙ ap (λ n. Ok (n, p + 1)) (one_decimal text p d h)
+    let one : decimal text p 1 ≡ d = unfold decimal in rw (add-zero, h) (omega arith) in
+    first ∙ ap (λ n. Ok (n, p + 1)) one
 
 version_by : (run : _) (text : List ℕ) (p : ℕ) → belongs run text p ≡ true
     → belongs run text (p + 1) ≡ false
@@ -238,9 +226,8 @@ tag_here text p handle pieces space h shaped some is stop =
     let spaced = handle_spaced text p space (no_blank text (p + 1) 33 mark (omega arith) (omega arith)) in
     let front = has_front text (p + 1) handle (32 ∷ uri_text pieces) h in
     let (part, uri) = has_rest text (p + 1) handle (32 ∷ uri_text pieces) h in
-    let first = handle_read text (p + 1) handle shaped front part in
     let last = prefix_read text (p + 1 + length handle) pieces part some uri is stop in
-    spaced ∙ rw (first, last) refl
+    spaced ∙ rw (handle_read text (p + 1) handle shaped front part, last) refl
 
 -- A `%TAG` line reads back as its handle and prefix.
 pub tag_directive_is_read : (text : List ℕ) (p : ℕ) (handle : List ℕ) (pieces : List UriPiece)

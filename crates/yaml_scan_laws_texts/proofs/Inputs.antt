@@ -4,7 +4,7 @@ use Rattle.yaml_scan_laws_order.specs.scan_model.declared.yaml_encoding_t.{yaml_
 use Rattle.yaml_scan_laws_order.specs.scan_history.scan_decode.Encodings.{encoding_of}
 use Rattle.yaml_scan_laws_order.specs.scan_history.scan_decode.Decoding.{decoded_text}
 use Rattle.yaml_scan_laws_order.specs.scan_history.Scanned.{scanned_in, scanned}
-use Rattle.yaml_scan_laws_texts.specs.Spelled.{AreSpelled}
+use Rattle.yaml_scan_laws_texts.proofs.Words.{AreSpelled}
 use Rattle.yaml_scan_laws_texts.proofs.TokensSpelled.{remaining_spelled}
 
 -- of a decoded text, or of none

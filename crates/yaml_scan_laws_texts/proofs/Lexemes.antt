@@ -1,25 +1,58 @@
 -- Each lexeme of a text in UTF-8 starts and is left where the text may be cut, and carries UTF-8.
-use Rattle.std.proofs.Common.{◌≡◌, ℕ, zero, suc, nat_lt, List, [], ◌∷◌, Option, Some, None, Result, Ok, Err, sym, subst, inl, inr, IsUtf8}
-use Rattle.std.proofs.lemmas.Bool.{cases_Bool}
-use Rattle.yaml_scan_laws_order.specs.scan_model.declared.record.yaml_mark_t.{yaml_mark_t}
-use Rattle.yaml_scan_laws_order.specs.scan_model.Marks.{mark_at}
-use Rattle.yaml_scan_laws_order.specs.scan_model.Wrong.{Wrong}
-use Rattle.yaml_scan_words.specs.Between.{Gap, gap_at}
-use Rattle.yaml_scan_laws_order.specs.scan_history.declared.kind.Kind.{Kind}
+use Rattle.std.proofs.Common.{◌≡◌, ℕ, zero, suc, ◌+◌, ◌<◌, ◌≤◌, ◌==◌, ◌&&◌, ◌||◌, not, nat_lt, Bool, true, List, length, refl, inl, inr, arith, IsUtf8, [], ◌∷◌, Option, Some, None, Result, Ok, Err, sym, subst}
+use Rattle.yaml_scan_laws_texts.proofs.Words.{cases_Bool, ltb-true, eqb-true, and_parts, not-false, nat_tests, byte, break_width, is_bom, is_breakz, belongs, run_within, step_at, is_skipped, gap_within, gap_at, comment_end, yaml_mark_t, mark_at, Wrong, Kind, Lexeme, is_end, placed, depth, key_allowed, candidate, fresh, WordText, kind_at, word_at, Next, Read, Fails, Ends, begun, finished, allowed_behind, misplaced, missed, lost_by, next, extended, history, no_colon, tested, unless_wrong, unless_lost, of_kind, unless_missed, stepwise, SpelledText, body_of_word, body_by, body_in, HasTexts, placed_index, with_end}
+use Rattle.yaml_scan_words.proofs.BetweenLemmas.{bom_bytes}
+use Rattle.yaml_scan_laws_texts.proofs.Whole.{IsWhole, whole_past, whole_ascii, whole_after, whole_before, whole_behind, whole_bom}
+use Rattle.yaml_scan_words.specs.Between.{Gap}
 use Rattle.yaml_scan_laws_order.specs.scan_history.declared.kind.Kind.TheVariants as kinds
-use Rattle.yaml_scan_laws_order.specs.scan_history.declared.lexeme.Lexeme.{Lexeme}
-use Rattle.yaml_scan_laws_order.specs.scan_history.Kinds.{is_end}
-use Rattle.yaml_scan_laws_order.specs.scan_history.History.{placed, depth, key_allowed, candidate, fresh}
-use Rattle.yaml_scan_laws_order.specs.scan_history.Words.{WordText, kind_at, word_at}
-use Rattle.yaml_scan_laws_order.specs.scan_history.Next.{Next, Read, Fails, Ends, begun, finished, allowed_behind, misplaced, missed, lost_by, next, extended, history}
-use Rattle.yaml_scan_laws_order.specs.scan_history.Stepwise.{no_colon, tested, unless_wrong, unless_lost, of_kind, unless_missed}
-use Rattle.yaml_scan_laws_order.proofs.StepwiseLemmas.{stepwise}
-use Rattle.yaml_scan_laws_order.specs.scan_history.Remaining.{SpelledText, body_of_word, body_by, body_in}
-use Rattle.yaml_scan_laws_texts.specs.Utf8Texts.{HasTexts}
-use Rattle.yaml_scan_laws_texts.proofs.Whole.{IsWhole}
 use Rattle.yaml_scan_laws_texts.proofs.Utf8Words.{Fits, FitsAny, kind_fits, HasWord, word_utf8}
-use Rattle.yaml_scan_laws_texts.proofs.Gaps.{gap_at_whole}
-use Rattle.yaml_scan_laws_order.proofs.NextForward.{placed_index, with_end}
+
+-- at the end or before a break
+stop_whole : (text : List ℕ) (p : ℕ) → IsUtf8 text → is_breakz text p ≡ true → IsWhole text p
+stop_whole text p t h =
+    elim (cases_Bool (nat_lt 0 (break_width text p))) [
+      | inl b ↦ whole_before text p t (ltb-true _ _ b)
+      | inr b ↦ let z : (byte text p == 0) ≡ true = rw b at h in let same = eqb-true _ _ z in whole_ascii text p t (omega (arith, same))
+    ]
+
+-- the end of a run that holds all but breaks
+run_whole : (run : _) (text : List ℕ) → IsUtf8 text
+    → ((p : ℕ) → belongs run text p ≡ not (is_breakz text p)) → (n p : ℕ) → length text ≤ p + n
+    → IsWhole text (run_within n run text p)
+unfolding run_within
+run_whole run text t is zero p l = whole_past text p (omega (arith, l))
+run_whole run text t is (suc n) p l =
+    elim (cases_Bool (belongs run text p)) [
+      | inl e ↦ rw e (run_whole run text t is n (p + 1) (omega (arith, l)))
+      | inr e ↦ rw e (stop_whole text p t (not-false (is_breakz text p) (rw (is p) at e)))
+    ]
+
+-- the end of the comment there
+comment_whole : (text : List ℕ) (p : ℕ) → IsUtf8 text → (byte text p == 35) ≡ true
+    → IsWhole text (comment_end text p)
+unfolding belongs
+comment_whole text p t h = rw h (run_whole _ text t (λ q. refl) (length text) p (omega arith))
+
+gap_whole : (n : ℕ) (flow allowed : Bool) (text : List ℕ) (p : ℕ) → IsUtf8 text → IsWhole text p
+    → IsWhole text (gap_within n flow allowed text p).place
+unfolding gap_within step_at
+gap_whole zero flow allowed text p t w = w
+gap_whole (suc n) flow allowed text p t w =
+    elim (cases_Bool (p == 0 && is_bom text p)) [
+      | inl h ↦
+          let (a, b, c) = bom_bytes text p (and_parts (p == 0) (is_bom text p) h).1 in
+          rw h (gap_whole n flow allowed text (p + 3) t (whole_bom text p t a b c))
+      | inr h ↦ elim (cases_Bool (is_skipped (flow || not allowed) text p)) [
+        | inl i ↦ rw (h, i) (gap_whole n flow allowed text (p + 1) t (whole_after text p t (grind (arith, nat_tests))))
+        | inr i ↦ elim (cases_Bool (byte text p == 35)) [
+          | inl j ↦ rw (h, i, j) (gap_whole n flow allowed text _ t (rw j at (comment_whole text p t j)))
+          | inr j ↦ elim (cases_Bool (nat_lt 0 (break_width text p))) [
+            | inl k ↦ rw (h, i, j, k) (gap_whole n flow (allowed || not flow) text (p + break_width text p) t (whole_behind text p t (ltb-true _ _ k)))
+            | inr k ↦ rw (h, i, j, k) w
+          ]
+        ]
+      ]
+    ]
 
 -- A lexeme carries UTF-8, but for what escapes spell, and is left where the text may be cut.
 pub record Carries (s : SpelledText) (l : Lexeme) : Type 0 where
@@ -118,7 +151,7 @@ next_carries s (x ∷ h) t (c, cs) =
     elim (cases_Bool (is_end x.kind)) [
       | inl e ↦ rw e tt
       | inr e ↦ rw e (subst (CarriesAny s) (sym (stepwise s.text (x ∷ h))) (missed_carries (missed (fresh (candidate 0 (x ∷ h)) x.reached) (mark_at s.text gap.place)) s gap (x ∷ h) t
-          (gap_at_whole flow (key_allowed (x ∷ h)) s.text x.reached.index t c.place)))
+          (gap_whole (length s.text) flow (key_allowed (x ∷ h)) s.text x.reached.index t c.place)))
     ]
 
 extended_carry : (s : SpelledText) (x : Next) (h : List Lexeme) → CarriesAny s x → AllCarry s h

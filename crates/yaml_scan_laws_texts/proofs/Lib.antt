@@ -1,20 +1,16 @@
-pub mod MadeLemmas
+mod Words
 pub mod FreeLemmas
 pub mod StepLemmas
 pub mod TextLemmas
-pub mod Names
 pub mod NamesWords
-pub mod Starts
 mod Throughout
 pub mod TokensSpelled
 pub mod Inputs
 pub mod Whole
-pub mod Values
 pub mod Quoted
 pub mod Plain
 pub mod Block
 pub mod Utf8Words
-pub mod Gaps
 pub mod Lexemes
 pub mod TokensUtf8
 pub mod Decoded

@@ -1,19 +1,9 @@
 -- What stands at the end of a word, and runs of one byte or none.
 use Rattle.std.proofs.Common.{◌≡◌, ◌≢◌, ℕ, ◌+◌, ◌<◌, ◌≤◌, ◌==◌, ◌&&◌, ◌||◌, nat_lt, Bool, true, false, List, [], ◌∷◌, length, Ok, refl, ◌∙◌, inl, inr, arith, add-zero}
-use Rattle.std.proofs.lemmas.Bool.{cases_Bool, eqb-true}
-use Rattle.std.proofs.lemmas.Bool.Decides.{nat_tests}
+use Rattle.yaml_scan_laws_texts.proofs.Words.{cases_Bool, eqb-true, nat_tests, byte, break_of, break_width, is_blank_byte, is_blank_or_end, is_alpha_byte, is_digit_byte, is_digit, is_break, belongs, run_end, is_punctuation, is_wide_punctuation, is_uri, name_end, parts_at, tag_at, line_end_at, belongs_inside, run_more, run_stop, no_alpha_at, uri_range, uri_is_read}
 use Rattle.std.proofs.Math.Bool.{or-true}
 use Rattle.yaml_scan_laws_order.specs.scan_model.declared.problem.Context.TheVariants as contexts
-use Rattle.yaml_scan_laws_order.specs.scan_model.Marks.{byte, break_of, break_width, is_blank as is_blank_byte, is_blank_or_end}
-use Rattle.yaml_scan_laws_order.specs.scan_model.Classes.{is_alpha_byte, is_digit_byte, is_blank, is_digit, is_break}
-use Rattle.yaml_scan_words.specs.Runs.{belongs, run_end}
-use Rattle.yaml_scan_words.specs.Uris.{is_punctuation, is_wide_punctuation, is_uri}
-use Rattle.yaml_scan_words.specs.Tags.{name_end, parts_at, tag_at}
-use Rattle.yaml_scan_words.specs.Directives.{comment_end, break_end, line_end_at}
-use Rattle.yaml_scan_words.proofs.RunsLemmas.{belongs_inside, run_more, run_stop}
-use Rattle.yaml_scan_words.proofs.NamesRead.{no_alpha_at}
-use Rattle.yaml_scan_words.proofs.UrisLemmas.{uri_range}
-use Rattle.yaml_scan_words.proofs.UrisRead.{uri_is_read}
+use Rattle.yaml_scan_laws_order.specs.scan_model.Classes.{is_blank}
 
 -- ---- runs, of a kind that the goal tells
 
@@ -39,28 +29,16 @@ no_blank text p b h space tab =
     let t : (b == 9) ≡ false = grind (arith, nat_tests) in
     rw (h, s, t) refl
 
-digit_test : (b : ℕ) → 48 ≤ b → b ≤ 57 → is_digit_byte b ≡ true
-unfolding is_digit_byte
-digit_test b low high = grind (arith, nat_tests)
-
 pub digit_is : (text : List ℕ) (p b : ℕ) → byte text p ≡ b → 48 ≤ b → b ≤ 57
     → is_digit text p ≡ true
-digit_is text p b h low high = rw h (digit_test b low high)
-
-dot_test : is_digit_byte 46 ≡ false
-unfolding is_digit_byte
-dot_test = refl
+digit_is text p b h low high = rw h (unfold is_digit_byte in grind (arith, nat_tests))
 
 pub dot_no_digit : (text : List ℕ) (p : ℕ) → byte text p ≡ 46 → is_digit text p ≡ false
-dot_no_digit text p h = rw h dot_test
-
-space_test : is_alpha_byte 32 ≡ false
-unfolding is_alpha_byte is_digit_byte
-space_test = refl
+dot_no_digit text p h = rw h (unfold is_digit_byte in refl)
 
 pub space_no_alpha : (text : List ℕ) (p : ℕ) → byte text p ≡ 32
     → is_alpha_byte (byte text p) ≡ false
-space_no_alpha text p h = rw h space_test
+space_no_alpha text p h = rw h (unfold is_alpha_byte is_digit_byte in refl)
 
 pub space_ends : (text : List ℕ) (p : ℕ) → byte text p ≡ 32 → is_blank_or_end text p ≡ true
 space_ends text p h = rw h refl
@@ -122,16 +100,11 @@ no_hash text p h =
       | inr e ↦ e
     ]
 
-line_by : (run : _) (text : List ℕ) (p : ℕ) → belongs run text p ≡ false
-    → (byte text p == 35) ≡ false → is_break text p ≡ true
-    → break_end text (comment_end text (run_end run text p)) ≡ Ok (p + break_width text p)
-line_by run text p blank hash h = rw (no_run run text p blank, hash, h) refl
-
 -- the line of a directive ends behind its break
 pub line_ends : (text : List ℕ) (p : ℕ) → is_break text p ≡ true
     → line_end_at text p ≡ Ok (p + break_width text p)
 unfolding belongs
-line_ends text p h = line_by _ text p (break_no_blank text p h) (no_hash text p h) h
+line_ends text p h = rw (no_run _ text p (break_no_blank text p h), (no_hash text p h), h) refl
 
 -- ---- `!` alone
 

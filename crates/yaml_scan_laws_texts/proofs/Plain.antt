@@ -1,35 +1,15 @@
 -- The value of a plain scalar is UTF-8, and the text may be cut behind it.
 use Rattle.std.proofs.Common.{◌≡◌, ℕ, zero, suc, ◌+◌, ◌<◌, ◌==◌, ◌&&◌, ◌||◌, nat_lt, if◌then◌else◌, Bool, true, false, List, [], ◌∷◌, ◌++◌, length, drop, Result, Ok, Err, refl, sym, true≢false, inl, inr, arith, IsUtf8}
-use Rattle.std.proofs.lemmas.Bool.{cases_Bool, ltb-true, and_parts, or_cases}
-use Rattle.std.proofs.lemmas.Bool.Decides.{nat_tests}
-use Rattle.yaml_scan_laws_order.specs.scan_model.Marks.{byte, break_width, column_at, is_blank, is_blank_or_end}
-use Rattle.yaml_scan_laws_order.specs.scan_model.Breaks.{is_document_indicator}
-use Rattle.yaml_scan_laws_order.specs.scan_model.Wrong.{Wrong}
-use Rattle.yaml_scan_laws_order.proofs.MarksLemmas.{within}
-use Rattle.yaml_scan_laws_order.specs.scan_scalars.Pieces.{Piece, Kept, Blank, Break}
-use Rattle.yaml_scan_laws_order.specs.scan_scalars.Plain.{is_bracket, after_white, leads, PlainSpot, Ends, Takes, Faulty, ends_at, spot_at, Words, is_nothing, with_piece, words_from, follows, words, PlainText, plain_with, plain_text, plain_at}
+use Rattle.yaml_scan_laws_texts.proofs.Words.{cases_Bool, ltb-true, and_parts, or_cases, nat_tests, byte, break_width, column_at, is_blank, is_blank_or_end, is_document_indicator, Wrong, within, Piece, Kept, Blank, Break, is_bracket, after_white, leads, PlainSpot, Takes, Faulty, ends_at, spot_at, Words, is_nothing, with_piece, words_from, follows, words, PlainText, plain_with, plain_text, plain_at}
+use Rattle.yaml_scan_laws_order.specs.scan_scalars.Plain.{Ends}
 use Rattle.yaml_scan_laws_order.proofs.PlainLemmas.{not_ended}
-use Rattle.yaml_scan_laws_texts.proofs.Whole.{IsWhole, whole_ascii, whole_after, whole_before, whole_behind, leads_whole, blank_small, cut, break_utf8, indicator_small}
-use Rattle.yaml_scan_laws_texts.proofs.Values.{Goes, value_utf8}
+use Rattle.yaml_scan_laws_texts.proofs.Whole.{IsWhole, whole_ascii, whole_after, whole_before, whole_behind, leads_whole, blank_small, cut, break_utf8, indicator_small, Goes, value_utf8}
 use Rattle.yaml_scan_laws_texts.proofs.Quoted.{Waits, kept_waits}
-
-small_zero : (b : ℕ) → (b == 0) ≡ true → b < 128
-small_zero b h = grind (arith, nat_tests)
-
-small_hash : (b : ℕ) (w : Bool) → (b == 35 && w) ≡ true → b < 128
-small_hash b w h = grind (arith, nat_tests)
-
-small_colon : (b : ℕ) (w : Bool) → (b == 58 && w) ≡ true → b < 128
-small_colon b w h = grind (arith, nat_tests)
-
-small_bracket : (b : ℕ) → is_bracket b ≡ true → b < 128
-unfolding is_bracket
-small_bracket b h = grind (arith, nat_tests)
 
 last_whole : (flow : Bool) (level : ℕ) (text : List ℕ) (p : ℕ) → IsUtf8 text
     → (if flow then is_bracket (byte text p) else leads text p && nat_lt (column_at text p) level)
     ≡ true → IsWhole text p
-last_whole true level text p t h = whole_ascii text p t (small_bracket (byte text p) h)
+last_whole true level text p t h = whole_ascii text p t (unfold is_bracket in grind (arith, nat_tests))
 last_whole false level text p t h = leads_whole text p t (and_parts (leads text p) (nat_lt (column_at text p) level) h).0
 
 -- where a plain scalar ends
@@ -39,13 +19,13 @@ unfolding ends_at
 ends_whole flow level text p t h =
     elim (or_cases (byte text p == 0 || is_document_indicator text p) _ h) [
       | inl a ↦ elim (or_cases (byte text p == 0) (is_document_indicator text p) a) [
-        | inl z ↦ whole_ascii text p t (small_zero (byte text p) z)
+        | inl z ↦ whole_ascii text p t (grind (arith, nat_tests))
         | inr i ↦ whole_ascii text p t (indicator_small text p i)
       ]
       | inr a ↦ elim (or_cases (byte text p == 35 && after_white text p) _ a) [
-        | inl b ↦ whole_ascii text p t (small_hash (byte text p) (after_white text p) b)
+        | inl b ↦ whole_ascii text p t (grind (arith, nat_tests))
         | inr b ↦ elim (or_cases (byte text p == 58 && is_blank_or_end text (p + 1)) _ b) [
-          | inl c ↦ whole_ascii text p t (small_colon (byte text p) (is_blank_or_end text (p + 1)) c)
+          | inl c ↦ whole_ascii text p t (grind (arith, nat_tests))
           | inr c ↦ last_whole flow level text p t c
         ]
       ]

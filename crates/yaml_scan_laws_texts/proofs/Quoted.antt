@@ -1,21 +1,11 @@
 -- The value of a quoted scalar is UTF-8, and so is what stands behind it.
 use Rattle.std.proofs.Common.{◌≡◌, ℕ, zero, suc, ◌+◌, ◌<◌, ◌==◌, ◌&&◌, nat_lt, if◌then◌else◌, ◌||◌, Bool, true, false, List, [], ◌∷◌, ◌++◌, length, drop, Option, Some, None, Result, Ok, Err, refl, inl, inr, arith, IsUtf8, append-nil, append_assoc}
-use Rattle.std.specs.Char.{encode_utf8, IsScalar}
-use Rattle.std.proofs.lemmas.Bool.{cases_Bool, ltb-true, eqb-true, and_parts}
-use Rattle.std.proofs.lemmas.Bool.Decides.{nat_tests}
-use Rattle.std.proofs.lemmas.List.{drop_more}
-use Rattle.std.proofs.lemmas.Str.{IsUtf8-nil, IsUtf8-append, IsUtf8-encode}
-use Rattle.yaml_scan_laws_order.specs.scan_model.Marks.{byte, break_width, is_blank}
-use Rattle.yaml_scan_laws_order.specs.scan_model.Breaks.{break_value, is_document_indicator}
-use Rattle.yaml_scan_laws_order.specs.scan_model.Wrong.{Wrong}
-use Rattle.yaml_scan_laws_order.proofs.MarksLemmas.{within}
-use Rattle.yaml_scan_laws_order.specs.scan_scalars.Pieces.{Piece, Kept, Blank, Break, value}
-use Rattle.yaml_scan_laws_order.specs.scan_scalars.Quoted.{QuotedSpot, Closing, Pieces, Bad, hex_digit, hex_value, is_scalar, coded, hex_len, simple_escape, escaped, escape_at, quote_at, standing_at, with_front, followed, pieces, valued, quoted_at}
-use Rattle.yaml_scan_laws_texts.proofs.Whole.{IsWhole, whole_ascii, whole_after, whole_before, whole_behind, blank_small, ascii_utf8, cut, break_utf8, nel_char, nbsp_char, ls_char, ps_char}
-use Rattle.yaml_scan_laws_texts.proofs.Values.{Goes, value_utf8}
+use Rattle.yaml_scan_laws_texts.proofs.Words.{encode_utf8, IsScalar, cases_Bool, ltb-true, eqb-true, and_parts, nat_tests, drop_more, IsUtf8-nil, IsUtf8-append, IsUtf8-encode, byte, break_width, is_blank, break_value, is_document_indicator, Wrong, within, Piece, Kept, Blank, Break, value, QuotedSpot, Closing, Pieces, Bad, hex_digit, hex_value, is_scalar, coded, hex_len, simple_escape, escaped, escape_at, quote_at, standing_at, with_front, followed, pieces, quoted_at}
+use Rattle.yaml_scan_laws_order.specs.scan_scalars.Quoted.{valued}
+use Rattle.yaml_scan_laws_texts.proofs.Whole.{IsWhole, whole_ascii, whole_after, whole_before, whole_behind, blank_small, ascii_utf8, cut, break_utf8, nel_char, nbsp_char, ls_char, ps_char, Goes, value_utf8}
 use Rattle.yaml_scan_laws_order.proofs.QuotedForward.{last_digit}
 
-some_of : (b : ℕ) → (b == 0) ≡ false → 0 < b
+pub some_of : (b : ℕ) → (b == 0) ≡ false → 0 < b
 some_of b h = grind (arith, nat_tests)
 
 -- Bytes that wait, and the text from a place on, are UTF-8 together.
@@ -95,9 +85,6 @@ hex_whole (suc n) text p u h s =
     let e : p + n + 1 ≡ p + suc n = omega arith in
     rw e at (whole_after text (p + n) u (digit_small (byte text (p + n)) (last_digit (hex_value text p n) (hex_digit (byte text (p + n))) s)))
 
-there_of : {A : Type 0} (o : Option A) (c : A) → o ≡ Some c → IsThere o
-there_of o c e = rw e tt
-
 -- what a letter stands for, and the letter
 abbrev IsSimple : ℕ → Option (List ℕ) → Type 0
 IsSimple b None = Unit {0}
@@ -117,12 +104,6 @@ one_char false b c bytes o s l e h = h
 pub is_small : (b c : ℕ) → c < 128 → (b == c) ≡ true → b < 128
 is_small b c l h = grind (arith, nat_tests)
 
-tab_small : (b : ℕ) → (b == 0x74 || b == 9) ≡ true → b < 128
-tab_small b h = grind (arith, nat_tests)
-
-same_small : (b : ℕ) → (b == 0x20 || (b == 0x22 || (b == 0x2F || b == 0x5C))) ≡ true → b < 128
-same_small b h = grind (arith, nat_tests)
-
 same_byte : (test : Bool) (b : ℕ) (o : Option (List ℕ)) → (test ≡ true → b < 128) → IsSimple b o
     → IsSimple b (if test then Some (b ∷ []) else o)
 same_byte true b o s h = (ascii_utf8 b (s refl), s refl)
@@ -134,13 +115,13 @@ simple_is b =
     one_byte (b == 0x30) b 0 _ (is_small b 0x30 (omega arith)) (omega arith)
     (one_byte (b == 0x61) b 7 _ (is_small b 0x61 (omega arith)) (omega arith)
     (one_byte (b == 0x62) b 8 _ (is_small b 0x62 (omega arith)) (omega arith)
-    (one_byte (b == 0x74 || b == 9) b 9 _ (tab_small b) (omega arith)
+    (one_byte (b == 0x74 || b == 9) b 9 _ (λ h. grind (arith, nat_tests)) (omega arith)
     (one_byte (b == 0x6E) b 10 _ (is_small b 0x6E (omega arith)) (omega arith)
     (one_byte (b == 0x76) b 11 _ (is_small b 0x76 (omega arith)) (omega arith)
     (one_byte (b == 0x66) b 12 _ (is_small b 0x66 (omega arith)) (omega arith)
     (one_byte (b == 0x72) b 13 _ (is_small b 0x72 (omega arith)) (omega arith)
     (one_byte (b == 0x65) b 0x1B _ (is_small b 0x65 (omega arith)) (omega arith)
-    (same_byte (b == 0x20 || (b == 0x22 || (b == 0x2F || b == 0x5C))) b _ (same_small b)
+    (same_byte (b == 0x20 || (b == 0x22 || (b == 0x2F || b == 0x5C))) b _ (λ h. grind (arith, nat_tests))
     (one_char (b == 0x4E) b 0x85 (0xC2 ∷ 0x85 ∷ []) _ (is_small b 0x4E (omega arith)) refl nel_char
     (one_char (b == 0x5F) b 0xA0 (0xC2 ∷ 0xA0 ∷ []) _ (is_small b 0x5F (omega arith)) refl nbsp_char
     (one_char (b == 0x4C) b 0x2028 (0xE2 ∷ 0x80 ∷ 0xA8 ∷ []) _ (is_small b 0x4C (omega arith)) refl ls_char
@@ -161,7 +142,7 @@ escape_fits u text p t a =
       | inr h ↦ elim (cases_Bool (nat_lt 0 (hex_len (byte text (p + 1))))) [
         | inl i ↦
             let n = hex_len (byte text (p + 1)) in
-            rw (h, i) (coded_fits u text p (p + 2) (p + 2 + n) (hex_value text (p + 2) n) a (λ c e. hex_whole n text (p + 2) t (ltb-true _ _ i) (there_of _ c e)))
+            rw (h, i) (coded_fits u text p (p + 2) (p + 2 + n) (hex_value text (p + 2) n) a (λ c e. hex_whole n text (p + 2) t (ltb-true _ _ i) (rw e tt)))
         | inr i ↦ rw (h, i) (escaped_fits u text p (simple_escape (byte text (p + 1))) t a (simple_is (byte text (p + 1))))
       ]
     ]
@@ -178,9 +159,6 @@ quote_fits u text quote p t a s =
       | inr h ↦ rw h (a, whole_after text p t s)
     ]
 
-back_slash : (quote b : ℕ) → (quote == 34 && b == 92) ≡ true → b < 128
-back_slash quote b h = grind (arith, nat_tests)
-
 standing_fits : (u text : List ℕ) (quote p : ℕ) → quote < 128 → IsUtf8 text → Waits u text p
     → Fits u text p (standing_at quote text p)
 unfolding standing_at
@@ -191,8 +169,7 @@ standing_fits u text quote p small t w =
         | inl i ↦ rw (h, i) tt
         | inr i ↦ elim (cases_Bool (byte text p == quote)) [
           | inl j ↦
-              let same = eqb-true _ _ j in
-              let s : byte text p < 128 = omega (arith, same, small) in
+              let s : byte text p < 128 = omega (arith, eqb-true _ _ j, small) in
               rw (h, i, j) (quote_fits u text quote p t (cut u (drop p text) w (whole_ascii text p t s)) s)
           | inr j ↦ elim (cases_Bool (nat_lt 0 (break_width text p))) [
             | inl k ↦
@@ -204,7 +181,7 @@ standing_fits u text quote p small t w =
                   let s = blank_small (byte text p) l in
                   rw (h, i, j, k, l) (blank_fits u text (byte text p) (p + 1) (cut u (drop p text) w (whole_ascii text p t s)) s (whole_after text p t s))
               | inr l ↦ elim (cases_Bool (quote == 34 && byte text p == 92)) [
-                | inl m ↦ rw (h, i, j, k, l, m) (escape_fits u text p t (cut u (drop p text) w (whole_ascii text p t (back_slash quote (byte text p) m))))
+                | inl m ↦ rw (h, i, j, k, l, m) (escape_fits u text p t (cut u (drop p text) w (whole_ascii text p t (grind (arith, nat_tests)))))
                 | inr m ↦
                     let here = within text p (some_of (byte text p) i) in
                     rw (h, i, j, k, l, m) record { waiting = u ++ byte text p ∷ []; waits = kept_waits u text p here w; goes = λ ps f. f (u ++ byte text p ∷ []) (kept_waits u text p here w) }

@@ -1,28 +1,9 @@
 -- A step behind key-free lexemes, and what comes of them.
 use Rattle.std.proofs.Common.{◌≡◌, ℕ, zero, suc, ◌+◌, ◌==◌, ◌&&◌, ◌||◌, not, nat_lt, if◌then◌else◌, cond, Bool, true, false, List, [], ◌∷◌, ◌++◌, length, map, reverse, drop, flat_map, Option, Some, None, Result, Ok, Err, refl, sym, ap, subst, ◌∙◌, inl, inr}
-use Rattle.std.proofs.lemmas.Bool.{cases_Bool}
-use Rattle.std.proofs.lemmas.List.{append-nil, drop-map}
-use Rattle.yaml_scan_laws_order.specs.scan_model.declared.record.yaml_mark_t.{yaml_mark_t}
-use Rattle.yaml_scan_laws_order.specs.scan_model.Tokens.{Token}
+use Rattle.yaml_scan_laws_texts.proofs.Words.{cases_Bool, append-nil, drop-map, yaml_mark_t, Token, mark_at, Wrong, Gap, Kind, Lexeme, Entry, cancels, is_value, is_start, is_end, depth, reached, ended, Candidate, candidate, fresh, is_fresh, has, placed, entries, WordText, kind_at, word_at, Next, Read, Fails, Ends, first_lexeme, begun, finished, allowed_behind, misplaced, missed, lost_by, kind_behind, coming, next, extended, history, no_colon, not_allowed, tested, unless_wrong, unless_lost, of_kind, unless_missed, behind, stepwise, SpelledText, token_in, spell, all, handed_out, handed, kept_of, fault_in, Remaining, remaining, asked, is_key_free, is_level_free, kinds_of, gap_in, lexeme_of}
 use Rattle.yaml_scan_laws_order.specs.scan_model.Faults.{Fault}
-use Rattle.yaml_scan_laws_order.specs.scan_model.Marks.{mark_at}
-use Rattle.yaml_scan_laws_order.specs.scan_model.Wrong.{Wrong}
-use Rattle.yaml_scan_laws_order.specs.scan_words.Between.{Gap}
-use Rattle.yaml_scan_laws_order.specs.scan_history.declared.kind.Kind.{Kind}
 use Rattle.yaml_scan_laws_order.specs.scan_history.declared.kind.Kind.TheVariants as kinds
-use Rattle.yaml_scan_laws_order.specs.scan_history.declared.lexeme.Lexeme.{Lexeme}
-use Rattle.yaml_scan_laws_order.specs.scan_history.declared.lexeme.Entry.{Entry}
-use Rattle.yaml_scan_laws_order.specs.scan_history.Kinds.{cancels, is_value, is_start, is_end}
-use Rattle.yaml_scan_laws_order.specs.scan_history.History.{depth, reached, ended, Candidate, candidate, fresh, is_fresh, has, placed, entries}
-use Rattle.yaml_scan_laws_order.specs.scan_history.Words.{WordText, kind_at, word_at}
-use Rattle.yaml_scan_laws_order.specs.scan_history.Next.{Next, Read, Fails, Ends, first_lexeme, begun, finished, allowed_behind, misplaced, missed, lost_by, kind_behind, coming, next, extended, history}
-use Rattle.yaml_scan_laws_order.specs.scan_history.Stepwise.{no_colon, not_allowed, tested, unless_wrong, unless_lost, of_kind, unless_missed, behind}
-use Rattle.yaml_scan_laws_order.proofs.StepwiseLemmas.{stepwise}
-use Rattle.yaml_scan_laws_order.specs.scan_history.Remaining.{SpelledText, token_in, spell, all, handed_out, handed, kept_of, fault_in, Remaining, remaining}
-use Rattle.yaml_scan_laws_texts.specs.KeyFree.{asked, is_key_free, is_level_free, kinds_of}
-use Rattle.yaml_scan_laws_texts.specs.KeysLaws.{gap_in, lexeme_of}
-use Rattle.yaml_scan_laws_texts.proofs.MadeLemmas.{is_plain, AllMade, Whole, whole_word, begun_made, finished_made, history_made}
-use Rattle.yaml_scan_laws_texts.proofs.FreeLemmas.{level_head, level_rest, depth_is, starts_none, no_levels, bare, entries_bare, bare_tokens}
+use Rattle.yaml_scan_laws_texts.proofs.FreeLemmas.{is_plain, AllMade, Whole, whole_word, begun_made, finished_made, history_made, level_head, level_rest, depth_is, starts_none, no_levels, bare, entries_bare, bare_tokens}
 
 -- What comes.
 

@@ -1,28 +1,12 @@
 -- Texts of key-free words.
 use Rattle.std.proofs.Common.{◌≡◌, ◌≢◌, ℕ, suc, ◌&&◌, not, nat_lt, if◌then◌else◌, Bool, true, false, List, [], ◌∷◌, ◌++◌, length, map, reverse, Option, Some, None, Result, Ok, refl, sym, ap, subst, ◌∙◌}
-use Rattle.std.proofs.lemmas.Bool.{and_parts, not-true}
-use Rattle.std.proofs.lemmas.List.{reverse-append}
-use Rattle.std.specs.List.{list_all}
-use Rattle.yaml_scan_laws_order.specs.scan_model.Tokens.{Token, TokenBody}
-use Rattle.yaml_scan_laws_order.specs.scan_model.Marks.{mark_at}
-use Rattle.yaml_scan_laws_order.specs.scan_model.Wrong.{Wrong}
-use Rattle.yaml_scan_laws_order.specs.scan_history.declared.kind.Kind.{Kind}
+use Rattle.yaml_scan_laws_texts.proofs.Words.{and_parts, not-true, reverse-append, list_all, Token, TokenBody, mark_at, Wrong, Kind, Lexeme, is_end, depth, ended, placed, WordText, kind_at, word_at, Next, Read, Ends, kind_behind, coming, next, extended, history, SpelledText, body_of_word, body_by, token_in, all, Remaining, offline, asked_after, asked, fits, is_key_free, keeps_level, is_level_free, kinds_of, gap_in, end_in, lexeme_of, placed_index}
 use Rattle.yaml_scan_laws_order.specs.scan_history.declared.kind.Kind.TheVariants as kinds
-use Rattle.yaml_scan_laws_order.specs.scan_history.declared.lexeme.Lexeme.{Lexeme}
-use Rattle.yaml_scan_laws_order.specs.scan_history.Kinds.{is_end}
-use Rattle.yaml_scan_laws_order.specs.scan_history.History.{depth, ended, placed}
-use Rattle.yaml_scan_laws_order.specs.scan_history.Words.{WordText, kind_at, word_at}
-use Rattle.yaml_scan_laws_order.specs.scan_history.Next.{Next, Read, Ends, kind_behind, coming, next, extended, history}
-use Rattle.yaml_scan_laws_order.specs.scan_history.Remaining.{SpelledText, body_of_word, body_by, token_in, all, Remaining, offline}
 use Rattle.yaml_scan_laws_order.proofs.HistoryForward.{last_is_all}
 use Rattle.yaml_scan_laws_order.proofs.WordForward.{FitsAny, kind_fits}
-use Rattle.yaml_scan_laws_texts.specs.KeyFree.{asked_after, asked, fits, is_key_free, keeps_level, is_level_free, kinds_of}
-use Rattle.yaml_scan_laws_texts.specs.KeysLaws.{gap_in, end_in, lexeme_of}
 use Rattle.yaml_scan_laws_texts.specs.KeysTexts.{Word, lexemes, StandsBehind, WordsStand, word_kinds, token_of, first_token, ReachEnd}
-use Rattle.yaml_scan_laws_texts.proofs.MadeLemmas.{AllMade, history_made}
-use Rattle.yaml_scan_laws_texts.proofs.FreeLemmas.{level_free, level_rest}
+use Rattle.yaml_scan_laws_texts.proofs.FreeLemmas.{AllMade, history_made, level_free, level_rest}
 use Rattle.yaml_scan_laws_texts.proofs.StepLemmas.{remaining_bare, step_reads}
-use Rattle.yaml_scan_laws_order.proofs.NextForward.{placed_index}
 
 -- the stream's start changes nothing
 
@@ -45,12 +29,6 @@ level_first text [] = refl
 level_first text (w ∷ ws) =
     ap (λ (qs : List Bool). keeps_level w.kind qs && is_level_free (kinds_of (lexemes text ws))) (asked_first text ws) ∙ ap (λ (b : Bool). keeps_level w.kind (asked (word_kinds ws)) && b) (level_first text ws)
 
-level_with : (text : List ℕ) (w : Word) (ws : List Word)
-    → is_level_free (w.kind ∷ word_kinds ws) ≡ true
-    → is_level_free (w.kind ∷ kinds_of (lexemes text ws)) ≡ true
-unfolding lexemes
-level_with text w ws free = level_first text (w ∷ ws) ∙ free
-
 -- none of the words ends the stream
 abbrev GoOn : List Word → Type 0
 GoOn ws = list_all (λ (x : Word). not (is_end x.kind)) ws ≡ true
@@ -59,9 +37,6 @@ goes_on : (text : List ℕ) (ws : List Word) → GoOn ws → ended (lexemes text
 unfolding lexemes
 goes_on text [] g = refl
 goes_on text (w ∷ ws) g = not-true (is_end w.kind) (and_parts (not (is_end w.kind)) (list_all (λ (x : Word). not (is_end x.kind)) ws) g).0
-
-goes_behind : (w : Word) (ws : List Word) → GoOn (w ∷ ws) → GoOn ws
-goes_behind w ws g = (and_parts (not (is_end w.kind)) (list_all (λ (x : Word). not (is_end x.kind)) ws) g).1
 
 -- as many steps as there are words, and the first, read them
 words_history : (text : List ℕ) (w : Word) (ws : List Word) → WordsStand text (w ∷ ws)
@@ -80,7 +55,7 @@ words_history text w ws (stands, more) free on before =
     let kind = ap (λ p. kind_at (nat_lt 0 (depth h)) text p) stands.place ∙ stands.kind in
     let said = ap (λ p. word_at w.kind (nat_lt 0 (depth h)) 0 text p) stands.place ∙ stands.said in
     ap (λ (x : List Lexeme). extended (next text x) x) before
-    ∙ ap (λ (x : Next). extended x h) (reads w.kind w.said made (level_with text w ws free) (goes_on text ws on) kind said)
+    ∙ ap (λ (x : Next). extended x h) (reads w.kind w.said made (unfold lexemes in level_first text (w ∷ ws) ∙ free) (goes_on text ws on) kind said)
 
 read_so_far : (text : List ℕ) (ws : List Word) → WordsStand text ws
     → is_level_free (word_kinds ws) ≡ true → GoOn ws
@@ -88,7 +63,7 @@ read_so_far : (text : List ℕ) (ws : List Word) → WordsStand text ws
 unfolding history next lexemes WordsStand
 read_so_far text [] stand free on = refl
 read_so_far text (w ∷ ws) (stands, more) free on =
-    let rest = goes_behind w ws on in
+    let rest : GoOn ws = (and_parts (not (is_end w.kind)) (list_all (λ (x : Word). not (is_end x.kind)) ws) on).1 in
     words_history text w ws (stands, more) free rest (read_so_far text ws more (level_rest w.kind (word_kinds ws) free) rest)
 
 -- nothing comes behind the end

@@ -1,15 +1,10 @@
 -- What each lexeme carries, each token that is handed out says.
 use Rattle.std.proofs.Common.{ℕ, zero, suc, ◌+◌, List, [], ◌∷◌, ◌++◌, length, take, drop, replicate, Option, Some, None, inl, inr, flat_map}
-use Rattle.std.proofs.lemmas.Bool.{cases_Bool}
-use Rattle.yaml_scan_laws_order.specs.scan_model.Tokens.{Token, block_end, block_sequence_start, block_mapping_start, key, TokenBody}
+use Rattle.yaml_scan_laws_texts.proofs.Words.{cases_Bool, Token, block_end, block_sequence_start, block_mapping_start, key, TokenBody, is_value, Candidate, first_open, found_by, inside, entry_of, mark_key, marked, keyed, entries, Next, Read, Fails, Ends, next, history, SpelledText, body_in, before, start_tokens, end_tokens, own_tokens, spell, all, handed_out, handed, front_ends, kept_of, remaining}
 use Rattle.yaml_scan_laws_order.specs.scan_history.declared.Lexeme.{Lexeme}
 use Rattle.yaml_scan_laws_order.specs.scan_history.declared.Entry.{Entry}
 use Rattle.yaml_scan_laws_order.specs.scan_history.declared.Opens.{Opens}
 use Rattle.yaml_scan_laws_order.specs.scan_history.declared.Opens.TheVariants as opening
-use Rattle.yaml_scan_laws_order.specs.scan_history.Kinds.{is_value}
-use Rattle.yaml_scan_laws_order.specs.scan_history.History.{Candidate, first_open, found_by, inside, entry_of, mark_key, marked, keyed, entries}
-use Rattle.yaml_scan_laws_order.specs.scan_history.Next.{Next, Read, Fails, Ends, next, history}
-use Rattle.yaml_scan_laws_order.specs.scan_history.Remaining.{SpelledText, body_in, before, start_tokens, end_tokens, own_tokens, spell, all, handed_out, handed, front_ends, kept_of, remaining}
 
 -- each of the lexemes carries so
 abbrev pub Carry : (TokenBody → Type 0) → SpelledText → List Lexeme → Type 0

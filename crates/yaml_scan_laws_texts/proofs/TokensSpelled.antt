@@ -1,17 +1,142 @@
--- The tokens that are handed out are well spelled.
-use Rattle.std.proofs.Common.{ℕ, nat_lt, List, [], ◌∷◌, Result, Ok, Err}
-use Rattle.yaml_scan_laws_order.specs.scan_model.Tokens.{Token}
-use Rattle.yaml_scan_laws_order.specs.scan_model.Wrong.{Wrong}
+-- Each tag of a text starts with `!`; the tokens that are handed out are well spelled.
+use Rattle.std.proofs.Common.{◌≡◌, ℕ, zero, suc, ◌+◌, ◌==◌, ◌&&◌, ◌||◌, not, nat_lt, if◌then◌else◌, Bool, true, false, List, [], ◌∷◌, Option, Some, None, Result, Ok, Err, refl, sym, subst, inl, inr}
+use Rattle.yaml_scan_laws_texts.proofs.Words.{cases_Bool, eqb-true, byte, mark_at, column_at, is_blank_or_end, Wrong, gap_at, is_document_start, is_document_end, starts_plain, is_end, placed, depth, key_allowed, candidate, fresh, indicator_of, or_plain, kind_at, WordText, word_at, Next, Read, Fails, Ends, begun, finished, allowed_behind, misplaced, missed, lost_by, next, extended, history, no_colon, tested, unless_wrong, unless_lost, of_kind, unless_missed, stepwise, placed_index, Token, SpelledText, body_of_word, body_by, remaining, IsSpelled, AreSpelled}
+use Rattle.yaml_scan_laws_order.specs.scan_model.declared.yaml_mark_t.{yaml_mark_t}
+use Rattle.yaml_scan_words.specs.Between.{Gap}
 use Rattle.yaml_scan_laws_order.specs.scan_history.declared.Kind.{Kind}
 use Rattle.yaml_scan_laws_order.specs.scan_history.declared.Kind.TheVariants as kinds
 use Rattle.yaml_scan_laws_order.specs.scan_history.declared.Lexeme.{Lexeme}
-use Rattle.yaml_scan_laws_order.specs.scan_history.Words.{WordText, word_at}
-use Rattle.yaml_scan_laws_order.specs.scan_history.Next.{history}
-use Rattle.yaml_scan_laws_order.specs.scan_history.Remaining.{SpelledText, body_of_word, body_by, remaining}
-use Rattle.yaml_scan_laws_texts.specs.Spelled.{IsSpelled, AreSpelled}
 use Rattle.yaml_scan_laws_texts.proofs.NamesWords.{Marked, HasWord, word_spelled}
-use Rattle.yaml_scan_laws_texts.proofs.Starts.{AllStart, history_starts}
 use Rattle.yaml_scan_laws_texts.proofs.Throughout.{Carry, Say, remaining_says}
+
+-- Kinds.
+
+abbrev MarkedAny : Option Kind → List ℕ → ℕ → Type 0
+MarkedAny None text p = Unit {0}
+MarkedAny (Some k) text p = Marked k text p
+
+pick : (text : List ℕ) (p : ℕ) (test : Bool) (k : Kind) (rest : Option Kind)
+    → (test ≡ true → Marked k text p) → MarkedAny rest text p
+    → MarkedAny (if test then Some k else rest) text p
+pick text p true k rest f g = f refl
+pick text p false k rest f g = g
+
+indicator_marked : (flow alone : Bool) (text : List ℕ) (p : ℕ)
+    → MarkedAny (indicator_of flow alone (byte text p)) text p
+unfolding indicator_of
+indicator_marked flow alone text p =
+    let b = byte text p in
+    pick text p (b == 91) kinds.FlowSequenceStart _ (λ h. tt)
+    (pick text p (b == 123) kinds.FlowMappingStart _ (λ h. tt)
+    (pick text p (b == 93) kinds.FlowSequenceEnd _ (λ h. tt)
+    (pick text p (b == 125) kinds.FlowMappingEnd _ (λ h. tt)
+    (pick text p (b == 44) kinds.FlowEntry _ (λ h. tt)
+    (pick text p (b == 45 && alone) kinds.BlockEntry _ (λ h. tt)
+    (pick text p (b == 63 && (flow || alone)) kinds.KeyMark _ (λ h. tt)
+    (pick text p (b == 58 && (flow || alone)) kinds.ValueMark _ (λ h. tt)
+    (pick text p (b == 42) kinds.Alias _ (λ h. tt)
+    (pick text p (b == 38) kinds.Anchor _ (λ h. tt)
+    (pick text p (b == 33) kinds.Tag _ (eqb-true b 33)
+    (pick text p (b == 124 && not flow) kinds.Literal _ (λ h. tt)
+    (pick text p (b == 62 && not flow) kinds.Folded _ (λ h. tt)
+    (pick text p (b == 39) kinds.SingleQuoted _ (λ h. tt)
+    (pick text p (b == 34) kinds.DoubleQuoted None (λ h. tt) tt))))))))))))))
+
+plain_marked : (o : Option Kind) (starts : Bool) (text : List ℕ) (p : ℕ) → MarkedAny o text p
+    → MarkedAny (or_plain o starts) text p
+plain_marked (Some k) starts text p m = m
+plain_marked None true text p m = tt
+plain_marked None false text p m = tt
+
+kind_marked : (flow : Bool) (text : List ℕ) (p : ℕ) → MarkedAny (kind_at flow text p) text p
+unfolding kind_at
+kind_marked flow text p =
+    let alone = is_blank_or_end text (p + 1) in
+    pick text p (byte text p == 0) kinds.StreamEnd _ (λ h. tt)
+    (pick text p (byte text p == 37 && column_at text p == 0) kinds.Directive _ (λ h. tt)
+    (pick text p (is_document_start text p) kinds.DocumentStart _ (λ h. tt)
+    (pick text p (is_document_end text p) kinds.DocumentEnd _ (λ h. tt)
+    (plain_marked (indicator_of flow alone (byte text p)) (starts_plain flow text p) text p (indicator_marked flow alone text p)))))
+
+-- Lexemes.
+
+-- a lexeme that is a tag starts with `!`
+abbrev pub Starts : List ℕ → Lexeme → Type 0
+Starts text l = Marked l.kind text l.start.index
+
+abbrev StartsAny : List ℕ → Next → Type 0
+StartsAny text (Read l) = Starts text l
+StartsAny text (Fails f) = Unit {0}
+StartsAny text Ends = Unit {0}
+
+finished_starts : (text : List ℕ) (l : Lexeme) (w : WordText) → Starts text l
+    → Starts text (finished text l w)
+finished_starts text l w s =
+    elim (cases_Bool (is_end l.kind)) [
+      | inl e ↦ rw e s
+      | inr e ↦ rw e s
+    ]
+
+tested_starts : (text : List ℕ) (l : Lexeme) (h : List Lexeme) → Starts text l
+    → StartsAny text (tested l h)
+tested_starts text l h s =
+    elim (missed (candidate 0 (l ∷ h)) l.reached) as (λ o. StartsAny text (elim o as (λ _. Next) [ Some start ↦ no_colon start l.reached | None ↦ Read l ])) [
+      | Some start ↦ tt
+      | None ↦ s
+    ]
+
+wrong_starts : (text : List ℕ) (r : Result WordText Wrong) (l : Lexeme) (h : List Lexeme)
+    → Starts text l → StartsAny text (unless_wrong r text l h)
+wrong_starts text (Ok w) l h s = tested_starts text (finished text l w) h (finished_starts text l w s)
+wrong_starts text (Err w) l h s = tt
+
+lost_starts : (o : Option yaml_mark_t) (text : List ℕ) (p : ℕ) (l : Lexeme) (h : List Lexeme)
+    → Starts text l → StartsAny text (unless_lost o text p l h)
+lost_starts (Some start) text p l h s = tt
+lost_starts None text p l h s = wrong_starts text (word_at l.kind (nat_lt 0 l.depth) l.level text p) l h s
+
+kind_starts : (o : Option Kind) (text : List ℕ) (gap : Gap) (h : List Lexeme)
+    → MarkedAny o text gap.place → StartsAny text (of_kind o text gap h)
+kind_starts None text gap h m = tt
+kind_starts (Some k) text gap h m =
+    let start = mark_at text gap.place in
+    let l = begun k (placed k start) (allowed_behind h gap) h in
+    let own : Marked k text (placed k start).index = subst (λ q. Marked k text q) (sym (placed_index k start)) m in
+    elim (cases_Bool (misplaced k start (allowed_behind h gap) h)) [
+      | inl e ↦ rw e tt
+      | inr e ↦ rw e (lost_starts (lost_by l (fresh (candidate (depth h) h) start)) text gap.place l h own)
+    ]
+
+missed_starts : (o : Option yaml_mark_t) (text : List ℕ) (gap : Gap) (h : List Lexeme)
+    → StartsAny text (unless_missed o text gap h)
+missed_starts (Some start) text gap h = tt
+missed_starts None text gap h = kind_starts (kind_at (nat_lt 0 (depth h)) text gap.place) text gap h (kind_marked (nat_lt 0 (depth h)) text gap.place)
+
+next_starts : (text : List ℕ) (h : List Lexeme) → StartsAny text (next text h)
+unfolding next
+next_starts text [] = tt
+next_starts text (l ∷ h) =
+    let gap = gap_at (nat_lt 0 (depth (l ∷ h))) (key_allowed (l ∷ h)) text l.reached.index in
+    elim (cases_Bool (is_end l.kind)) [
+      | inl e ↦ rw e tt
+      | inr e ↦ rw e (subst (StartsAny text) (sym (stepwise text (l ∷ h))) (missed_starts (missed (fresh (candidate 0 (l ∷ h)) l.reached) (mark_at text gap.place)) text gap (l ∷ h)))
+    ]
+
+abbrev pub AllStart : List ℕ → List Lexeme → Type 0
+AllStart text [] = Unit {0}
+AllStart text (l ∷ h) = Starts text l × AllStart text h
+
+extended_start : (text : List ℕ) (x : Next) (h : List Lexeme) → StartsAny text x → AllStart text h
+    → AllStart text (extended x h)
+extended_start text (Read l) h s all = (s, all)
+extended_start text (Fails f) h s all = all
+extended_start text Ends h s all = all
+
+-- the lexemes of each step
+pub history_starts : (text : List ℕ) (n : ℕ) → AllStart text (history text n)
+unfolding history
+history_starts text zero = tt
+history_starts text (suc n) = extended_start text (next text (history text n)) (history text n) (next_starts text (history text n)) (history_starts text n)
 
 word_body : (r : Result WordText Wrong) → HasWord r → IsSpelled (body_of_word r)
 word_body (Ok w) h = h

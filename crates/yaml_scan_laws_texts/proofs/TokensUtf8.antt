@@ -1,11 +1,6 @@
 -- The tokens that are handed out carry UTF-8, but for what escapes spell.
 use Rattle.std.proofs.Common.{ℕ, List, [], ◌∷◌, IsUtf8, All}
-use Rattle.std.proofs.lemmas.List.Elements.{All-nil, All-cons}
-use Rattle.yaml_scan_laws_order.specs.scan_model.Tokens.{Token}
-use Rattle.yaml_scan_laws_order.specs.scan_history.declared.lexeme.Lexeme.{Lexeme}
-use Rattle.yaml_scan_laws_order.specs.scan_history.Next.{history}
-use Rattle.yaml_scan_laws_order.specs.scan_history.Remaining.{SpelledText, remaining}
-use Rattle.yaml_scan_laws_texts.specs.Utf8Texts.{HasTexts}
+use Rattle.yaml_scan_laws_texts.proofs.Words.{All-nil, All-cons, Token, Lexeme, history, SpelledText, remaining, HasTexts}
 use Rattle.yaml_scan_laws_texts.proofs.Lexemes.{AllCarry, history_carry}
 use Rattle.yaml_scan_laws_texts.proofs.Throughout.{Carry, Say, remaining_says}
 

@@ -1,31 +1,15 @@
 -- What each lexeme carries is UTF-8, but for what escapes spell, and the text may be cut behind it.
 use Rattle.std.proofs.Common.{◌≡◌, ℕ, ◌+◌, ◌<◌, ◌==◌, ◌&&◌, ◌||◌, not, nat_lt, if◌then◌else◌, Bool, true, false, List, length, slice_range, Option, Some, None, Result, Ok, Err, refl, inl, inr, arith, IsUtf8}
-use Rattle.std.proofs.lemmas.Bool.{cases_Bool, ltb-true, eqb-true, or_cases, not-false, or_parts}
-use Rattle.std.proofs.lemmas.Bool.Decides.{nat_tests}
-use Rattle.std.proofs.lemmas.Str.{IsUtf8-nil}
+use Rattle.yaml_scan_laws_texts.proofs.Words.{cases_Bool, ltb-true, eqb-true, or_cases, not-false, or_parts, nat_tests, IsUtf8-nil, yaml_scalar_style_t, TokenBody, byte, break_width, column_at, is_blank, is_blank_or_end, Wrong, within, is_document_start, is_document_end, is_name_end, may_end_name, name_between, anchor_at, some_uri_at, uri_at, TagText, bracketed, name_end, with_handle, bare, parts_at, may_end_tag, ValueText, then_at, directive_name_between, handle_between, handle_at, prefix_at, with_prefix, named_value_at, value_at, break_end, line_end_at, with_line, single_quoted_at, double_quoted_at, PlainText, plain_at, starts_plain, BlockText, block_at, style_at, Kind, indicator_of, or_plain, kind_at, WordText, carrying, valued, tagged, body_said, directed, blocked, plainly, word_at, HasTexts}
 use Rattle.yaml_scan_laws_order.specs.scan_model.declared.problem.Context.{Context}
 use Rattle.yaml_scan_laws_order.specs.scan_model.declared.problem.Context.TheVariants as contexts
-use Rattle.yaml_scan_laws_order.specs.scan_model.declared.name.yaml_scalar_style_t.{yaml_scalar_style_t}
 use Rattle.yaml_scan_laws_order.specs.scan_model.declared.name.yaml_scalar_style_t.TheVariants as styles
 use Rattle.yaml_scan_laws_order.specs.scan_model.Tokens as tokens
-use Rattle.yaml_scan_laws_order.specs.scan_model.Tokens.{TokenBody}
-use Rattle.yaml_scan_laws_order.specs.scan_model.Marks.{byte, break_width, column_at, is_blank, is_blank_or_end}
-use Rattle.yaml_scan_laws_order.specs.scan_model.Wrong.{Wrong}
-use Rattle.yaml_scan_laws_order.proofs.MarksLemmas.{within}
-use Rattle.yaml_scan_words.specs.Indicators.{is_document_start, is_document_end}
-use Rattle.yaml_scan_words.specs.Anchors.{is_name_end, may_end_name, name_between, anchor_at}
-use Rattle.yaml_scan_words.specs.Uris.{some_uri_at, uri_at}
-use Rattle.yaml_scan_words.specs.Tags.{TagText, bracketed, name_end, with_handle, bare, parts_at, may_end_tag, ended}
-use Rattle.yaml_scan_words.specs.Directives.{ValueText, then_at, name_between as directive_name_between, handle_between, handle_at, prefix_at, with_prefix, named_value_at, value_at, break_end, line_end_at, with_line, finished}
-use Rattle.yaml_scan_laws_order.specs.scan_scalars.Quoted.{single_quoted_at, double_quoted_at}
-use Rattle.yaml_scan_laws_order.specs.scan_scalars.Plain.{PlainText, plain_at, starts_plain}
-use Rattle.yaml_scan_laws_order.specs.scan_block.Block.{BlockText, block_at, style_at}
-use Rattle.yaml_scan_laws_order.specs.scan_history.declared.kind.Kind.{Kind}
+use Rattle.yaml_scan_words.specs.Tags.{ended}
+use Rattle.yaml_scan_words.specs.Directives.{finished}
 use Rattle.yaml_scan_laws_order.specs.scan_history.declared.kind.Kind.TheVariants as kinds
-use Rattle.yaml_scan_laws_order.specs.scan_history.Words.{indicator_of, or_plain, kind_at, WordText, carrying, valued, tagged, body_said, directed, blocked, plainly, word_at}
-use Rattle.yaml_scan_laws_texts.specs.Utf8Texts.{HasTexts}
 use Rattle.yaml_scan_laws_texts.proofs.Whole.{IsWhole, whole_ascii, whole_after, whole_before, whole_behind, blank_small, ascii_utf8, slice_utf8}
-use Rattle.yaml_scan_laws_texts.proofs.Quoted.{HasQuoted, quoted_utf8, is_small}
+use Rattle.yaml_scan_laws_texts.proofs.Quoted.{HasQuoted, quoted_utf8, is_small, some_of}
 use Rattle.yaml_scan_laws_texts.proofs.Plain.{HasPlain, plain_utf8}
 use Rattle.yaml_scan_laws_texts.proofs.Block.{HasBlock, block_utf8}
 use Rattle.yaml_scan_laws_texts.proofs.NamesWords.{HasSaid, value_said}
@@ -42,26 +26,20 @@ end_whole text p t h =
       | inr b ↦ whole_before text p t (ltb-true _ _ b)
     ]
 
-name_end_small : (b : ℕ) → is_name_end b ≡ true → b < 128
-name_end_small b h = grind (arith, nat_tests)
-
 name_whole : (text : List ℕ) (p : ℕ) → IsUtf8 text → may_end_name text p ≡ true → IsWhole text p
 unfolding may_end_name
 name_whole text p t h =
     elim (or_cases (is_blank_or_end text p) (is_name_end (byte text p)) h) [
       | inl a ↦ end_whole text p t a
-      | inr b ↦ whole_ascii text p t (name_end_small (byte text p) b)
+      | inr b ↦ whole_ascii text p t (grind (arith, nat_tests))
     ]
-
-comma_small : (flow : Bool) (b : ℕ) → (flow && b == 44) ≡ true → b < 128
-comma_small flow b h = grind (arith, nat_tests)
 
 tag_end_whole : (flow : Bool) (text : List ℕ) (p : ℕ) → IsUtf8 text → may_end_tag flow text p ≡ true
     → IsWhole text p
 tag_end_whole flow text p t h =
     elim (or_cases (is_blank_or_end text p) (flow && byte text p == 44) h) [
       | inl a ↦ end_whole text p t a
-      | inr b ↦ whole_ascii text p t (comma_small flow (byte text p) b)
+      | inr b ↦ whole_ascii text p t (grind (arith, nat_tests))
     ]
 
 -- what a lexeme carries, and the place behind it
@@ -296,9 +274,6 @@ start_fits text p h = third_small (column_at text p) (byte text p) (byte text (p
 end_fits : (text : List ℕ) (p : ℕ) → is_document_end text p ≡ true → byte text (p + 2) < 128
 unfolding is_document_end
 end_fits text p h = third_small (column_at text p) (byte text p) (byte text (p + 1)) (byte text (p + 2)) 46 (is_blank_or_end text (p + 3)) h (omega arith)
-
-some_of : (b : ℕ) → (b == 0) ≡ false → 0 < b
-some_of b h = grind (arith, nat_tests)
 
 -- the kind of what stands there fits
 pub kind_fits : (flow : Bool) (text : List ℕ) (p : ℕ) → FitsAny (kind_at flow text p) text p

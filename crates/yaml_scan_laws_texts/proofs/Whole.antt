@@ -1,14 +1,6 @@
--- Places where a text in UTF-8 may be cut.
-use Rattle.std.proofs.Common.{◌≡◌, ℕ, zero, suc, ◌+◌, ◌-◌, ◌<◌, ◌≤◌, ◌==◌, ◌&&◌, ◌||◌, Bool, true, List, [], ◌∷◌, ◌++◌, length, drop, refl, ◌∙◌, ap, inl, inr, ◌⊎◌, arith, IsUtf8, slice_range, take_at, take_all, length-drop, IsAscii}
-use Rattle.std.specs.Char.{encode_utf8}
-use Rattle.std.proofs.lemmas.List.{drop_all, drop_more}
-use Rattle.std.proofs.lemmas.Bool.{cases_Bool, cases_lt}
-use Rattle.std.proofs.lemmas.Bool.Decides.{nat_tests}
-use Rattle.std.proofs.lemmas.Str.{IsUtf8-nil, IsUtf8-drop, IsUtf8-take, IsUtf8-between, IsUtf8-past_char, IsUtf8-from_ascii, IsUtf8-encode, IsCharBoundary-after_ascii, IsCharBoundary-from_drop, IsCharBoundary-at_seam}
-use Rattle.yaml_scan_laws_order.specs.scan_model.Marks.{byte, break_of, ends_of, break_width, ends_break, is_blank, column_at, is_blank_or_end}
-use Rattle.yaml_scan_laws_order.specs.scan_model.Breaks.{break_value, is_document_indicator}
-use Rattle.yaml_scan_laws_order.proofs.MarksLemmas.{within, widths}
-use Rattle.yaml_scan_laws_order.specs.scan_scalars.Plain.{leads}
+-- Places where a text in UTF-8 may be cut, and values whose pieces go together.
+use Rattle.std.proofs.Common.{◌≡◌, ℕ, zero, suc, ◌+◌, ◌-◌, ◌<◌, ◌≤◌, ◌==◌, ◌&&◌, ◌||◌, Bool, true, List, [], ◌∷◌, ◌++◌, length, drop, refl, ◌∙◌, ap, inl, inr, ◌⊎◌, arith, IsUtf8, slice_range, take_at, take_all, length-drop, IsAscii, append-nil, append_assoc}
+use Rattle.yaml_scan_laws_texts.proofs.Words.{encode_utf8, drop_all, drop_more, cases_Bool, cases_lt, nat_tests, IsUtf8-nil, IsUtf8-drop, IsUtf8-take, IsUtf8-between, IsUtf8-past_char, IsUtf8-from_ascii, IsUtf8-encode, IsCharBoundary-after_ascii, IsCharBoundary-from_drop, IsCharBoundary-at_seam, byte, break_of, ends_of, break_width, ends_break, is_blank, column_at, is_blank_or_end, break_value, is_document_indicator, within, widths, leads, IsUtf8-append, is_feed, Piece, Kept, Blank, Break, Line, lines, is_empty, text, trim_end, trim_start, gap, rest_of, folded, value}
 
 -- a character begins there, or the text has ended
 abbrev pub IsWhole : List ℕ → ℕ → Type 0
@@ -28,11 +20,8 @@ whole_at text p u b =
       | inr past ↦ whole_past text p past
     ]
 
-pub ascii_begins : (b : ℕ) → b < 128 → Begins b
-ascii_begins b h m = absurd (omega (arith, h, m))
-
 pub whole_ascii : (text : List ℕ) (p : ℕ) → IsUtf8 text → byte text p < 128 → IsWhole text p
-whole_ascii text p u b = whole_at text p u (ascii_begins (byte text p) b)
+whole_ascii text p u b = whole_at text p u (λ m. absurd (omega (arith, b, m)))
 
 pub whole_after : (text : List ℕ) (p : ℕ) → IsUtf8 text → byte text p < 128 → IsWhole text (p + 1)
 whole_after text p u b =
@@ -58,10 +47,6 @@ three_there text p h =
     let f = drop_more text (p + 2) 0 here in
     let g = drop_more text (p + 1) 0 (omega (arith, here)) in
     drop_more text p 0 (omega (arith, here)) ∙ ap (λ xs. byte text p ∷ xs) ((rw a at g) ∙ ap (λ xs. byte text (p + 1) ∷ xs) (rw b at f))
-
-one_is : (b c d : ℕ) → break_of b c d ≡ 1 → b < 128
-unfolding break_of
-one_is b c d h = grind (arith, nat_tests)
 
 two_is : (b c d : ℕ) → break_of b c d ≡ 2 → ((b < 128) × (c < 128)) ⊎ ((b ≡ 0xC2) × (c ≡ 0x85))
 unfolding break_of
@@ -92,10 +77,6 @@ pub nbsp_char : 0xC2 ∷ 0xA0 ∷ [] ≡ encode_utf8 0xA0
 unfolding encode_utf8
 nbsp_char = refl
 
-bom_char : 0xEF ∷ 0xBB ∷ 0xBF ∷ [] ≡ encode_utf8 0xFEFF
-unfolding encode_utf8
-bom_char = refl
-
 leads_by : (b c : ℕ) → b ≡ c → 192 ≤ c → Begins b
 leads_by b c e h m = omega (arith, e, h)
 
@@ -116,10 +97,10 @@ whole_mark text p b1 b2 b3 c u e f g some lead same =
 
 pub whole_bom : (text : List ℕ) (p : ℕ) → IsUtf8 text → byte text p ≡ 0xEF
     → byte text (p + 1) ≡ 0xBB → byte text (p + 2) ≡ 0xBF → IsWhole text (p + 3)
-whole_bom text p u e f g = whole_mark text p 0xEF 0xBB 0xBF 0xFEFF u e f g (omega arith) (omega arith) bom_char
+whole_bom text p u e f g = whole_mark text p 0xEF 0xBB 0xBF 0xFEFF u e f g (omega arith) (omega arith) (unfold encode_utf8 in refl)
 
 behind_one : (text : List ℕ) (p : ℕ) → IsUtf8 text → break_width text p ≡ 1 → IsWhole text (p + 1)
-behind_one text p u h = whole_after text p u (one_is (byte text p) (byte text (p + 1)) (byte text (p + 2)) h)
+behind_one text p u h = whole_after text p u (unfold break_of in grind (arith, nat_tests))
 
 behind_two : (text : List ℕ) (p : ℕ) → IsUtf8 text → break_width text p ≡ 2 → IsWhole text (p + 2)
 behind_two text p u h =
@@ -206,15 +187,12 @@ leads_whole text (suc p) u h =
       | inr b ↦ rw e (ends_whole text p u (rw b at h))
     ]
 
-take_past : (text : List ℕ) (i j : ℕ) → length text < j → slice_range text i j ≡ drop i text
-take_past text i j h = take_all (j - i) (drop i text) (rw (length-drop i text) (omega (arith, h)))
-
 -- the bytes between two places where the text may be cut
 pub slice_utf8 : (text : List ℕ) (i j : ℕ) → IsUtf8 text → IsWhole text i → IsWhole text j
     → IsUtf8 (slice_range text i j)
 slice_utf8 text i j u a b =
     elim (cases_lt (length text) j) [
-      | inl past ↦ rw (take_past text i j past) a
+      | inl past ↦ rw (take_all (j - i) (drop i text) (rw (length-drop i text) (omega (arith, past)))) a
       | inr in_ ↦ elim (cases_lt j i) [
         | inl back ↦ let e : j - i ≡ 0 = omega (arith, back) in rw e IsUtf8-nil
         | inr on ↦ IsUtf8-between text i j u (omega (arith, on)) (IsCharBoundary-from_drop text i (omega (arith, on, in_)) a) (IsCharBoundary-from_drop text j (omega (arith, in_)) b)
@@ -261,3 +239,84 @@ indicator_small text p h =
       | inl e ↦ omega (arith, e)
       | inr e ↦ omega (arith, e)
     ]
+
+-- Behind bytes that wait for the rest of a character, these pieces bring it: what is kept up to the next blank or break is
+-- UTF-8.
+abbrev pub Goes : List ℕ → List Piece → Type 0
+Goes u [] = IsUtf8 u
+Goes u (Kept bytes ∷ ps) = Goes (u ++ bytes) ps
+Goes u (Blank b ∷ ps) = IsUtf8 u × (b < 128) × Goes [] ps
+Goes u (Break bytes ∷ ps) = IsUtf8 u × IsUtf8 bytes × Goes [] ps
+
+abbrev AreLines : List (List ℕ × Line) → Type 0
+AreLines [] = Unit {0}
+AreLines (next ∷ ls) = IsUtf8 next.0 × Goes [] next.1 × AreLines ls
+
+lines_go : (u : List ℕ) (ps : List Piece) → Goes u ps
+    → Goes u (lines ps).first × AreLines (lines ps).others
+lines_go u [] h = (h, tt)
+lines_go u (Kept bytes ∷ ps) h = lines_go (u ++ bytes) ps h
+lines_go u (Blank b ∷ ps) (a, s, h) = let (f, o) = lines_go [] ps h in ((a, s, f), o)
+lines_go u (Break bytes ∷ ps) (a, s, h) = let (f, o) = lines_go [] ps h in (a, (s, f, o))
+
+text_goes : (u : List ℕ) (l : Line) → Goes u l → IsUtf8 (u ++ text l)
+text_goes u [] h = rw (append-nil u) h
+text_goes u (Kept bytes ∷ l) h = rw (append_assoc u bytes (text l)) at (text_goes (u ++ bytes) l h)
+text_goes u (Blank b ∷ l) (a, s, h) = IsUtf8-append u (b ∷ text l) a (IsUtf8-append (b ∷ []) (text l) (ascii_utf8 b s) (text_goes [] l h))
+text_goes u (Break bytes ∷ l) (a, s, h) = IsUtf8-append u (bytes ++ text l) a (IsUtf8-append bytes (text l) s (text_goes [] l h))
+
+trim_end_goes : (u : List ℕ) (l : Line) → Goes u l → Goes u (trim_end l)
+trim_end_goes u [] h = h
+trim_end_goes u (Kept bytes ∷ l) h = trim_end_goes (u ++ bytes) l h
+trim_end_goes u (Break bytes ∷ l) (a, s, h) = (a, s, trim_end_goes [] l h)
+trim_end_goes u (Blank b ∷ l) (a, s, h) =
+    elim (cases_Bool (is_empty l)) [
+      | inl e ↦ rw e a
+      | inr e ↦ rw e (a, s, trim_end_goes [] l h)
+    ]
+
+trim_start_goes : (l : Line) → Goes [] l → Goes [] (trim_start l)
+trim_start_goes [] h = h
+trim_start_goes (Kept bytes ∷ l) h = h
+trim_start_goes (Break bytes ∷ l) h = h
+trim_start_goes (Blank b ∷ l) (a, s, h) = trim_start_goes l h
+
+gap_utf8 : (first breaks : List ℕ) → IsUtf8 first → IsUtf8 breaks → IsUtf8 (gap first breaks)
+gap_utf8 first [] a b =
+    elim (cases_Bool (is_feed first)) [
+      | inl e ↦ rw e (ascii_utf8 32 (omega arith))
+      | inr e ↦ rw e a
+    ]
+gap_utf8 first (x ∷ xs) a b =
+    elim (cases_Bool (is_feed first)) [
+      | inl e ↦ rw e b
+      | inr e ↦ rw e (IsUtf8-append first (x ∷ xs) a b)
+    ]
+
+joined_utf8 : (xs ys zs : List ℕ) → IsUtf8 xs → IsUtf8 ys → IsUtf8 zs → IsUtf8 (xs ++ ys ++ zs)
+joined_utf8 xs ys zs a b c = IsUtf8-append (xs ++ ys) zs (IsUtf8-append xs ys a b) c
+
+rest_goes : (l : Line) (ls : List (List ℕ × Line)) → Goes [] l → AreLines ls
+    → IsUtf8 (rest_of l ls).breaks × IsUtf8 (rest_of l ls).value
+rest_goes l [] h a = (IsUtf8-nil, text_goes [] (trim_start l) (trim_start_goes l h))
+rest_goes l (next ∷ ls) h (a, b, c) =
+    let (breaks, value) = rest_goes next.1 ls b c in
+    elim (cases_Bool (is_empty l)) [
+      | inl e ↦ rw e (IsUtf8-append next.0 _ a breaks, value)
+      | inr e ↦ rw e (
+        IsUtf8-nil,
+        joined_utf8 _ _ _ (text_goes [] (trim_end (trim_start l)) (trim_end_goes [] (trim_start l) (trim_start_goes l h)))
+            (gap_utf8 next.0 _ a breaks) value,
+      )
+    ]
+
+folded_goes : (l : Line) (ls : List (List ℕ × Line)) → Goes [] l → AreLines ls
+    → IsUtf8 (folded l ls)
+folded_goes l [] h a = text_goes [] l h
+folded_goes l (next ∷ ls) h (a, b, c) =
+    let (breaks, value) = rest_goes next.1 ls b c in
+    joined_utf8 _ _ _ (text_goes [] (trim_end l) (trim_end_goes [] l h)) (gap_utf8 next.0 _ a breaks) value
+
+-- the value of pieces that go together
+pub value_utf8 : (ps : List Piece) → Goes [] ps → IsUtf8 (value ps)
+value_utf8 ps h = let (f, o) = lines_go [] ps h in folded_goes (lines ps).first (lines ps).others f o

@@ -1,39 +1,13 @@
 -- The law of windows behind a line `...`.
 use Rattle.std.proofs.Common.{◌≡◌, ℕ, suc, ◌+◌, ◌-◌, true, false, List, [], ◌∷◌, ◌++◌, map, length, Option, Some, None, option_map, refl, sym, ap, subst, ◌∙◌, inl, inr, arith, ◌≤◌, nat_lt, take, drop, ◌⊎◌, add_assoc}
-use Rattle.std.proofs.lemmas.Bool.{cases_lt, cases_Bool}
-use Rattle.std.proofs.lemmas.List.{append_assoc, append-nil, length-append, same_from_push}
-use Rattle.std.specs.List.{flat_map}
-use Rattle.std.proofs.lemmas.Option.{none-some, same_Some}
-use Rattle.yaml_scan_history.specs.scan_model.declared.name.yaml_encoding_t.{yaml_encoding_t}
-use Rattle.yaml_scan_history.specs.scan_model.declared.record.yaml_mark_t.{yaml_mark_t}
-use Rattle.yaml_scan_history.specs.scan_model.declared.problem.ScanFault.{ScanFault}
-use Rattle.yaml_scan_history.specs.scan_model.Faults.{Fault}
-use Rattle.yaml_scan_history.specs.scan_model.Marks.{byte, line_at, mark_at}
-use Rattle.yaml_scan_history.specs.scan_model.Classes.{is_bom}
+use Rattle.yaml_scan_laws_windows.proofs.Shared.{cases_lt, cases_Bool, append_assoc, append-nil, length-append, same_from_push, flat_map, none-some, same_Some, yaml_encoding_t, yaml_mark_t, ScanFault, Fault, byte, line_at, mark_at, is_bom, Token, gap_within, gap_at, Kind, Lexeme, depth_after, is_end, is_outside, is_start, reached, depth, in_flow, ended, key_allowed, candidate, levels, entries, open_at, first_open, entry_of, kind_at, word_at, Next, Read, Fails, Ends, first_lexeme, gap_behind, kind_behind, next, extended, history, place_behind, missed, stale_before, coming, first_fault_or, no_start, SpelledText, token_in, spell, all, fault_in, Remaining, handed, remaining, body_by, front_ends, gap_place, all_ends, last_is_all, stream_starts, stream_ends, fault_next, IsCut, is_white, IsEndLine, IsEndCut, moved_mark, moved_token, moved_fault, moved_next, scan_of, EndedWindowsAreScanned, flat_map-append, scanner_fault, length-entries, take-length, drop-length}
 use Rattle.yaml_scan_history.specs.scan_model.Tokens as tokens
-use Rattle.yaml_scan_history.specs.scan_model.Tokens.{Token}
-use Rattle.yaml_scan_history.specs.scan_words.Between.{gap_within, gap_at}
-use Rattle.yaml_scan_history.specs.declared.kind.Kind.{Kind}
 use Rattle.yaml_scan_history.specs.declared.kind.Kind.TheVariants as kinds
-use Rattle.yaml_scan_history.specs.declared.lexeme.Lexeme.{Lexeme}
-use Rattle.yaml_scan_history.specs.Kinds.{depth_after, is_end, is_outside, is_start}
-use Rattle.yaml_scan_history.specs.History.{reached, depth, in_flow, ended, key_allowed, candidate, levels, entries, open_at, first_open, entry_of}
-use Rattle.yaml_scan_history.specs.Words.{kind_at, word_at}
-use Rattle.yaml_scan_history.specs.Next.{Next, Read, Fails, Ends, first_lexeme, gap_behind, kind_behind, next, extended, history, place_behind, missed, stale_before, coming, first_fault_or, no_start}
-use Rattle.yaml_scan_history.specs.Remaining.{SpelledText, token_in, spell, all, fault_in, Remaining, handed, remaining, body_by, front_ends}
-use Rattle.yaml_scan_history.proofs.PlacesLemmas.{gap_place}
-use Rattle.yaml_scan_laws_order.proofs.HistoryForward.{all_ends, last_is_all}
-use Rattle.yaml_scan_laws_order.proofs.StreamForward.{stream_starts, stream_ends, fault_next}
-use Rattle.yaml_scan_laws_windows.specs.Cuts.{IsCut, is_white, IsEndLine, IsEndCut}
-use Rattle.yaml_scan_laws_windows.specs.Moved.{moved_mark, moved_token, moved_fault, moved_next}
-use Rattle.yaml_scan_laws_windows.specs.Laws.{scan_of, EndedWindowsAreScanned}
 use Rattle.yaml_scan_laws_windows.proofs.Words.{end_kind}
 use Rattle.yaml_scan_laws_windows.proofs.Cutting.{byte_right, byte_past, rest_lines}
-use Rattle.yaml_scan_laws_windows.proofs.Stepping.{has_read, read_kind}
-use Rattle.yaml_scan_laws_windows.proofs.Fronts.{next_open, next_over, history_more}
+use Rattle.yaml_scan_laws_windows.proofs.Fronts.{has_read, read_kind, next_open, next_over, history_more}
 use Rattle.yaml_scan_laws_windows.proofs.BehindBreak.{front_line, front_mark}
-use Rattle.yaml_scan_laws_windows.proofs.Marking.{end_mark, mark_lexeme, none_left}
-use Rattle.yaml_scan_laws_windows.proofs.Turning.{mark_there, starts}
+use Rattle.yaml_scan_laws_windows.proofs.Turning.{end_mark, mark_lexeme, none_left, mark_there, starts}
 use Rattle.yaml_scan_laws_windows.proofs.Depths.{read_deep}
 use Rattle.yaml_scan_laws_windows.proofs.Rests.{whole}
 use Rattle.yaml_scan_laws_windows.proofs.Joining.{told, offline_told, parted}
@@ -41,11 +15,7 @@ use Rattle.yaml_scan_laws_windows.proofs.Windows.{windows_are_scanned, made, unc
 use Rattle.yaml_scan_laws_windows.proofs.Failing.{some_none, end_late, colon_index, fails_same, fails_not}
 use Rattle.yaml_scan_laws_windows.proofs.Refused.{refused_fronts_are_scanned, ends_not, ends_reads}
 use Rattle.yaml_scan_laws_windows.proofs.Ending.{white_kind, line_long, whole_end, line_base, line_ground, start_history, line_cut, line_history}
-use Rattle.std.proofs.lemmas.Grind.{flat_map-append}
-use Rattle.yaml_scan_history.specs.scan_model.Problems.{scanner_fault}
-use Rattle.yaml_scan_history.proofs.HistoryLemmas.{length-entries}
 use Rattle.yaml_scan_laws_windows.proofs.Opening.{Begun, begun_over, closings, outer_spelled, outer_entries, none_open, fault_none, coming_goes}
-use Rattle.std.proofs.Math.Seq.{take-length, drop-length}
 
 -- ---- a text without fault goes on to its end
 
@@ -130,16 +100,16 @@ stream_token x t = token_in (record { encoding = x; text = t }) first_lexeme
 abbrev dots_token : yaml_encoding_t → List ℕ → Token
 dots_token x t = token_in (record { encoding = x; text = t }) (mark_lexeme kinds.DocumentEnd t 0)
 
-start_told : (s : SpelledText)
-    → flat_map (spell s) (entries (first_lexeme ∷ [])) ≡ token_in s first_lexeme ∷ []
-unfolding entries levels candidate
-start_told s = refl
-
 -- what is told of a line and of what stands behind it
 record Lined (x : yaml_encoding_t) (line b : List ℕ) (behind : List Token) : Type 0 where
   pub are : (scan_of x (line ++ b)).tokens
       ≡ stream_token x (line ++ b) ∷ dots_token x (line ++ b) ∷ map (moved_token (length line) (line_at (line ++ b) (length line))) behind
   pub fault : (scan_of x (line ++ b)).fault ≡ option_map (moved_fault (length line) (line_at (line ++ b) (length line))) (scan_of x b).fault
+
+start_told : (s : SpelledText)
+    → flat_map (spell s) (entries (first_lexeme ∷ [])) ≡ token_in s first_lexeme ∷ []
+unfolding entries levels candidate
+start_told s = refl
 
 lined : (x : yaml_encoding_t) (line b : List ℕ) → IsEndLine line → is_bom b 0 ≡ false
     → (gap_at false false line 3).place ≡ length line
@@ -193,9 +163,8 @@ dots_same : (x : yaml_encoding_t) (line b : List ℕ) → IsEndLine line
     → dots_token x (line ++ b) ≡ dots_token x line
 unfolding word_at
 dots_same x line b e =
-    let long = line_long line e in
     let start = front_mark line b e.feed 0 (omega arith) in
-    let end = front_mark line b e.feed 3 (omega (arith, long)) in
+    let end = front_mark line b e.feed 3 (omega (arith, line_long line e)) in
     ap (λ (m : yaml_mark_t). record { body = tokens.document_end; start_mark = m; end_mark = mark_at (line ++ b) 3 }) start
     ∙ ap (λ (m : yaml_mark_t). record { body = tokens.document_end; start_mark = mark_at line 0; end_mark = m }) end
 

@@ -1,14 +1,6 @@
 -- What stands behind LF is alike in the whole.
 use Rattle.std.proofs.Common.{◌≡◌, ℕ, zero, suc, ◌+◌, ◌-◌, ◌<◌, ◌≤◌, ◌==◌, true, false, List, ◌++◌, length, refl, sym, ap, ◌∙◌, inl, inr, arith}
-use Rattle.std.proofs.lemmas.Bool.{cases_lt}
-use Rattle.std.proofs.lemmas.Bool.Decides.{nat_tests}
-use Rattle.std.proofs.lemmas.List.{length_push}
-use Rattle.yaml_scan_history.specs.scan_model.Marks.{byte, ends_of, ends_break, line_at, column_at, mark_at}
-use Rattle.yaml_scan_history.specs.scan_model.Classes.{is_bom}
-use Rattle.yaml_scan_history.proofs.MarksLemmas.{column_end}
-use Rattle.yaml_scan_laws_windows.specs.Alike.{Alike}
-use Rattle.yaml_scan_laws_windows.specs.Cuts.{EndsIn}
-use Rattle.yaml_scan_laws_windows.specs.Moved.{moved_mark}
+use Rattle.yaml_scan_laws_windows.proofs.Shared.{cases_lt, nat_tests, length_push, byte, ends_of, ends_break, line_at, column_at, mark_at, is_bom, column_end, Alike, EndsIn, moved_mark, ne_eqb}
 use Rattle.yaml_scan_laws_windows.proofs.Cutting.{byte_left, byte_right, behind_alike, bom_by, last_is, columns_by, lines_by}
 
 pub feed_long : (a : List ℕ) → EndsIn a 10 → 0 < length a
@@ -61,9 +53,8 @@ fed_ends a b feed (suc (suc p)) =
 -- what follows LF begins at column 0
 pub fed_column : (a b : List ℕ) → EndsIn a 10 → column_at (a ++ b) (length a) ≡ 0
 fed_column a b feed =
-    let some = feed_long a feed in
     let p = length a - 1 in
-    let back : p + 1 ≡ length a = omega (arith, some) in
+    let back : p + 1 ≡ length a = omega (arith, feed_long a feed) in
     let ended : ends_break (a ++ b) p ≡ true =
     fed_end (byte (a ++ b) (p - 2)) (byte (a ++ b) (p - 1)) (byte (a ++ b) p) (byte (a ++ b) (p + 1)) (before_rest a b p feed back) in
     rw (← back) (column_end (a ++ b) p ended)
@@ -71,17 +62,13 @@ fed_column a b feed =
 pub fed_marks : (a b : List ℕ) → EndsIn a 10 → (q : ℕ)
     → mark_at (a ++ b) (length a + q) ≡ moved_mark (length a) (line_at (a ++ b) (length a)) (mark_at b q)
 fed_marks a b feed q =
-    let lines = lines_by a b (fed_ends a b feed) q in
     let columns = columns_by a b (fed_column a b feed) (fed_ends a b feed) q in
-    rw (lines, columns) refl
+    rw (lines_by a b (fed_ends a b feed) q, columns) refl
 
 -- what stands behind LF stands so in the whole, but for U+FEFF
 pub fed_alike : (a b : List ℕ) → EndsIn a 10 → is_bom b 0 ≡ false
     → Alike b (a ++ b) (length a) (suc (length b))
-fed_alike a b feed none = behind_alike a b (fed_column a b feed) (fed_ends a b feed) (bom_by a b (let off = some_not (length a) (feed_long a feed) in rw (off, none) refl))
-  where
-    some_not : (n : ℕ) → 0 < n → (n + 0 == 0) ≡ false
-    some_not n l = grind (arith, nat_tests)
+fed_alike a b feed none = behind_alike a b (fed_column a b feed) (fed_ends a b feed) (bom_by a b (let off = ne_eqb (length a + 0) 0 (omega (arith, feed_long a feed)) in rw (off, none) refl))
 
 -- ---- in front of LF
 

@@ -1,24 +1,12 @@
 -- Block scalars are the same in both texts.
 use Rattle.std.proofs.Common.{add-zero, ◌≡◌, ℕ, zero, suc, ◌+◌, ◌-◌, ◌<◌, ◌≤◌, ◌==◌, ◌&&◌, ◌||◌, nat_lt, if◌then◌else◌, Bool, true, false, not, List, length, slice_range, Result, Ok, Err, refl, ap, ◌∙◌, inl, inr, arith, add_assoc}
-use Rattle.std.proofs.lemmas.Bool.{cases_Bool, cases_lt, eqb-true, ltb-true}
-use Rattle.std.proofs.lemmas.Bool.Decides.{nat_tests}
+use Rattle.yaml_scan_laws_windows.proofs.Shared.{cases_Bool, cases_lt, eqb-true, ltb-true, nat_tests, byte, break_width, column_at, is_blank_or_end, feed_at, is_document_indicator, is_digit_byte, is_text, past_blanks, past_spaces, line_end, Wrong, larger, larger_of, depth_behind, deepest, column_of, BlockText, block_with, block_lines, block_behind, block_at, within, break_inside, past_stop, past_some, text_parts, Alike, is_onward}
 use Rattle.yaml_scan_history.specs.scan_model.declared.problem.Problem.TheVariants as problems
-use Rattle.yaml_scan_history.specs.scan_model.Marks.{byte, break_width, column_at, is_blank_or_end}
-use Rattle.yaml_scan_history.specs.scan_model.Breaks.{feed_at, is_document_indicator}
-use Rattle.yaml_scan_history.specs.scan_model.Classes.{is_digit_byte}
-use Rattle.yaml_scan_history.specs.scan_model.Runs.{is_text, past_blanks, past_spaces, line_end}
-use Rattle.yaml_scan_history.specs.scan_model.Wrong.{Wrong}
 use Rattle.yaml_scan_history.specs.scan_block.Value.{BlockLine, Words, block_value}
 use Rattle.yaml_scan_history.specs.scan_block.Lines.{in_block, spaces, LineSpot, Stops, Line, Tab, spot_behind, line_spot, Lines, with_line, lines_from}
 use Rattle.yaml_scan_history.specs.scan_block.Header.{HeaderText, is_chomping, chomp_of, digit_of, digit_place, chomping_place, indicators, past_comment, header_end, header_at}
-use Rattle.yaml_scan_history.specs.scan_block.Block.{larger, larger_of, depth_behind, deepest, column_of, BlockText, block_with, block_lines, block_behind, block_at}
-use Rattle.yaml_scan_history.proofs.MarksLemmas.{within}
-use Rattle.yaml_scan_history.proofs.BetweenLemmas.{break_inside}
-use Rattle.yaml_scan_history.proofs.RunsLemmas.{past_stop, past_some, text_parts}
-use Rattle.yaml_scan_laws_windows.specs.Alike.{Alike, is_onward}
 use Rattle.yaml_scan_laws_windows.proofs.Bytes.{IsQuiet, quiet_edge, quiet_break, width_alike, next_byte, column_alike}
-use Rattle.yaml_scan_laws_windows.proofs.Running.{RunsAlike, blanks_alike, spaces_alike, lines_alike, text_alike, range_alike}
-use Rattle.yaml_scan_laws_windows.proofs.Moving.{moved_by, At, at_step, at_break}
+use Rattle.yaml_scan_laws_windows.proofs.Gaps.{RunsAlike, blanks_alike, spaces_alike, lines_alike, text_alike, range_alike, moved_by, At, at_step, at_break, ReadAlike, PlaceAlike}
 use Rattle.yaml_scan_laws_windows.proofs.Plains.{value_alike}
 use Rattle.yaml_scan_laws_windows.proofs.Names.{short_at, long_at}
 
@@ -57,11 +45,6 @@ indicators_alike t u d m p a l =
       ]
     ]
 
--- a place within, in both texts
-record PlaceAlike (d m q r : ℕ) : Type 0 where
-  pub same : r ≡ d + q
-  pub inside : q < m
-
 digit_alike : (t u : List ℕ) (d m p : ℕ) → Alike t u d m → p < m
     → PlaceAlike d m (digit_place t p) (digit_place u (d + p))
 digit_alike t u d m p a l =
@@ -91,10 +74,6 @@ comment_alike t u d m p a l =
       | inr h ↦ rw (h, test ∙ h) record { same = refl; inside = l }
     ]
 
-end_from : (t u : List ℕ) (d m q r : ℕ) → Alike t u d m → PlaceAlike d m q r
-    → PlaceAlike d m (past_comment t q) (past_comment u r)
-end_from t u d m q r a h = let same = h.same in rw same (comment_alike t u d m q a h.inside)
-
 blanks_from : (t u : List ℕ) (d m q r : ℕ) → Alike t u d m → PlaceAlike d m q r
     → PlaceAlike d m (past_blanks t q) (past_blanks u r)
 blanks_from t u d m q r a h =
@@ -107,18 +86,13 @@ header_end_alike t u d m p a l =
     let (same, inside) = indicators_alike t u d m p a l in
     let start : PlaceAlike d m (p + indicators (byte t p) (byte t (p + 1))) (d + p + indicators (byte u (d + p)) (byte u (d + p + 1))) =
     record { same = omega (arith, same); inside = inside } in
-    end_from t u d m _ _ a (blanks_from t u d m _ _ a start)
+    (let same = (blanks_from t u d m _ _ a start).same in rw same (comment_alike t u d m _ a (blanks_from t u d m _ _ a start).inside))
 
 abbrev moved_header : ℕ → HeaderText → HeaderText
 moved_header d h = record { chomp = h.chomp; digit = h.digit; place = d + h.place }
 
-abbrev HeaderIn : ℕ → List ℕ → List ℕ → ℕ → Result HeaderText Wrong → Type 0
-HeaderIn m t u d (Ok h) = At t u d m h.place
-HeaderIn m t u d (Err w) = Unit {0}
-
-record HeadersAlike (t u : List ℕ) (d m : ℕ) (r s : Result HeaderText Wrong) : Type 0 where
-  pub same : s ≡ moved_by (moved_header d) d r
-  pub placed : HeaderIn m t u d r
+abbrev HeadersAlike : List ℕ → List ℕ → ℕ → ℕ → (r s : Result HeaderText Wrong) → Type 0
+HeadersAlike t u d m r s = ReadAlike (λ (h : HeaderText). At t u d m h.place) (moved_header d) d r s
 
 at_width : (t u : List ℕ) (d m p : ℕ) → Alike t u d m → p < m → At t u d m (p + break_width t p)
 at_width t u d m p a l =
@@ -203,8 +177,7 @@ spaces_there t u d m p a at =
           let inside = run.inside in
           record { same = run.same; order = run.order; at = record { inside = omega (arith, inside); short = short_at t u d m _ a inside; long = long_at t u d m _ a inside } }
       | inr past ↦
-          let inside = at.inside in
-          let e : p ≡ m = omega (arith, inside, past) in
+          let e : p ≡ m = omega (arith, at.inside, past) in
           let mine : (byte t p == 32) ≡ false = quiet_space (byte t p) (inl (rw e a.edge)) in
           let others : (byte u (d + p) == 32) ≡ false = quiet_space (byte u (d + p)) (rw e (quiet_edge t u d m a)) in
           rw (past_stop _ (length t) t p mine, past_stop _ (length u) u (d + p) others)
@@ -269,16 +242,8 @@ abbrev Right : Result ℕ Wrong → Type 0
 Right (Ok c) = 0 < c
 Right (Err w) = Unit {0}
 
-larger_some : (a b : ℕ) → 0 < a → 0 < larger a b
-unfolding larger
-larger_some a b h = grind (arith, nat_tests)
-
-larger_one : (level : ℕ) → 0 < larger level 1
-unfolding larger
-larger_one level = grind (arith, nat_tests)
-
 larger_right : (a : ℕ) (r : Result ℕ Wrong) → 0 < a → Right (larger_of a r)
-larger_right a (Ok b) h = larger_some a b h
+larger_right a (Ok b) h = unfold larger in grind (arith, nat_tests)
 larger_right a (Err w) h = tt
 
 digit_some : (digit : ℕ) → (digit == 0) ≡ false → 0 < digit
@@ -288,7 +253,7 @@ column_right : (level : ℕ) (t : List ℕ) (digit p : ℕ) → Right (column_of
 unfolding column_of
 column_right level t digit p =
     elim (cases_Bool (digit == 0)) [
-      | inl h ↦ rw h (larger_right (larger level 1) (deepest (suc (length t)) t p) (larger_one level))
+      | inl h ↦ rw h (larger_right (larger level 1) (deepest (suc (length t)) t p) (unfold larger in grind (arith, nat_tests)))
       | inr h ↦ let some = digit_some digit h in rw h (omega (arith, some))
     ]
 
@@ -420,13 +385,8 @@ line_there c t u d m p a at right =
 abbrev moved_lines : ℕ → Lines → Lines
 moved_lines d x = record { lines = x.lines; end = d + x.end; place = d + x.place }
 
-abbrev LinesIn : ℕ → Result Lines Wrong → Type 0
-LinesIn m (Ok x) = x.place ≤ m
-LinesIn m (Err w) = Unit {0}
-
-record LinesAlike (d m : ℕ) (r s : Result Lines Wrong) : Type 0 where
-  pub same : s ≡ moved_by (moved_lines d) d r
-  pub placed : LinesIn m r
+abbrev LinesAlike : ℕ → ℕ → Result Lines Wrong → Result Lines Wrong → Type 0
+LinesAlike d m r s = ReadAlike (λ (x : Lines). x.place ≤ m) (moved_lines d) d r s
 
 lined_alike : (d m : ℕ) (l : BlockLine) (r s : Result Lines Wrong) → LinesAlike d m r s
     → LinesAlike d m (with_line l r) (with_line l s)
@@ -454,13 +414,8 @@ lines_by (suc k) c t u d m end p (suc n) (suc o) (Line l q) a right at room fuel
 abbrev pub moved_block : ℕ → BlockText → BlockText
 moved_block d x = record { value = x.value; end = d + x.end; place = d + x.place }
 
-abbrev pub BlockIn : ℕ → Result BlockText Wrong → Type 0
-BlockIn m (Ok x) = x.place ≤ m
-BlockIn m (Err w) = Unit {0}
-
-pub record BlocksAlike (d m : ℕ) (r s : Result BlockText Wrong) : Type 0 where
-  pub same : s ≡ moved_by (moved_block d) d r
-  pub placed : BlockIn m r
+abbrev pub BlocksAlike : ℕ → ℕ → Result BlockText Wrong → Result BlockText Wrong → Type 0
+BlocksAlike d m r s = ReadAlike (λ (x : BlockText). x.place ≤ m) (moved_block d) d r s
 
 block_from : (d m : ℕ) (f : List BlockLine → List ℕ) (r s : Result Lines Wrong) → LinesAlike d m r s
     → BlocksAlike d m (block_with f r) (block_with f s)

@@ -1,11 +1,6 @@
 -- What is told by bytes: breaks, columns, indicators.
 use Rattle.std.proofs.Common.{add_assoc, ◌≡◌, ℕ, zero, suc, ◌+◌, ◌<◌, ◌≤◌, ◌==◌, ◌&&◌, ◌||◌, Bool, true, false, List, refl, sym, ap, ◌∙◌, inl, inr, ◌⊎◌, arith}
-use Rattle.std.proofs.lemmas.Bool.{cases_Bool, cases_lt, and_parts, eqb-true}
-use Rattle.std.proofs.lemmas.Bool.Decides.{nat_tests}
-use Rattle.yaml_scan_history.specs.scan_model.Marks.{byte, break_of, break_width, line_at, column_at, is_blank_or_end}
-use Rattle.yaml_scan_history.specs.scan_model.Breaks.{is_document_indicator}
-use Rattle.yaml_scan_history.specs.scan_words.Indicators.{is_thrice, is_document_start, is_document_end}
-use Rattle.yaml_scan_laws_windows.specs.Alike.{Alike, is_onward}
+use Rattle.yaml_scan_laws_windows.proofs.Shared.{cases_Bool, cases_lt, and_parts, eqb-true, nat_tests, byte, break_of, break_width, line_at, column_at, is_blank_or_end, is_document_indicator, is_thrice, is_document_start, is_document_end, Alike, is_onward}
 
 -- what doesn't go on is the end, LF or CR
 pub off_cases : (b : ℕ) → is_onward b ≡ false → (b ≡ 0) ⊎ ((b ≡ 10) ⊎ (b ≡ 13))
@@ -25,22 +20,13 @@ off_break b (inr z) = rw z refl
 abbrev pub IsQuiet : ℕ → Type 0
 IsQuiet b = (b ≡ 0) ⊎ ((b ≡ 45) ⊎ (b ≡ 46))
 
-quiet_first : (a : Bool) (b c d : ℕ) (z : Bool)
-    → (a && (((b == 45 && c == 45) && d == 45) || ((b == 46 && c == 46) && d == 46)) && z) ≡ true
-    → IsQuiet b
-quiet_first a b c d z h =
-    elim (cases_Bool (b == 45)) [
-      | inl e ↦ inr (inl (grind (arith, nat_tests)))
-      | inr e ↦ inr (inr (grind (arith, nat_tests)))
-    ]
-
 -- what stands in the other text where this one ends
 pub quiet_edge : (t u : List ℕ) (d m : ℕ) → Alike t u d m → IsQuiet (byte u (d + m))
 unfolding is_document_indicator
 quiet_edge t u d m a =
     elim a.stops [
       | inl z ↦ inl z
-      | inr i ↦ quiet_first (column_at u (d + m) == 0) (byte u (d + m)) (byte u (d + m + 1)) (byte u (d + m + 2)) (is_blank_or_end u (d + m + 3)) i
+      | inr i ↦ elim (cases_Bool (byte u (d + m) == 45)) [ inl e ↦ inr (inl (grind (arith, nat_tests))) | inr e ↦ inr (inr (grind (arith, nat_tests))) ]
     ]
 
 -- behind a byte that goes on, the next one
@@ -155,8 +141,7 @@ thrice_within t u d m p x a l o h =
     let one = a.onward p l (ap is_onward (eqb-true _ _ first) ∙ o) in
     let two = a.onward (p + 1) one (ap is_onward (eqb-true _ _ second) ∙ o) in
     let more : p + 2 < m = omega (arith, two) in
-    let three = a.onward (p + 2) more (ap is_onward (eqb-true _ _ third) ∙ o) in
-    omega (arith, three)
+    omega (arith, a.onward (p + 2) more (ap is_onward (eqb-true _ _ third) ∙ o))
 
 pub thrice_alike : (t u : List ℕ) (d m p x : ℕ) → Alike t u d m → p < m → is_onward x ≡ true
     → ((byte u (d + p) == x && byte u (d + p + 1) == x) && byte u (d + p + 2) == x)

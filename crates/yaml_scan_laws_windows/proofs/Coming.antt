@@ -1,22 +1,8 @@
 -- What comes next is the same in both texts.
 use Rattle.std.proofs.Common.{◌≡◌, ℕ, ◌+◌, ◌<◌, ◌≤◌, ◌&&◌, ◌||◌, nat_lt, if◌then◌else◌, Bool, true, false, not, List, [], ◌∷◌, ◌++◌, length, Option, Some, None, Result, Ok, Err, refl, sym, ap, ◌∙◌, inl, inr, arith}
-use Rattle.std.proofs.lemmas.Bool.{cases_Bool}
-use Rattle.yaml_scan_history.specs.scan_model.declared.record.yaml_mark_t.{yaml_mark_t}
-use Rattle.yaml_scan_history.specs.scan_model.declared.problem.ScanFault.{ScanFault}
-use Rattle.yaml_scan_history.specs.scan_model.Marks.{line_at, mark_at}
-use Rattle.yaml_scan_history.specs.scan_model.Wrong.{Wrong}
-use Rattle.yaml_scan_history.specs.scan_words.Between.{Gap}
-use Rattle.yaml_scan_history.specs.declared.kind.Kind.{Kind}
-use Rattle.yaml_scan_history.specs.declared.lexeme.Lexeme.{Lexeme}
-use Rattle.yaml_scan_history.specs.Kinds.{cancels, is_value, is_start, is_end}
-use Rattle.yaml_scan_history.specs.History.{reached, depth, in_flow, Candidate, candidate, is_fresh, fresh, open_at, has, levels, key_allowed, placed}
-use Rattle.yaml_scan_history.specs.Words.{WordText, kind_at}
-use Rattle.yaml_scan_history.specs.Next.{Read, Fails, gap_behind, place_behind, kind_behind, allowed_behind, begun, finished, begun_behind, word_behind, with_end, lexeme_behind, missed, lost_by, misplaced, colon_missing_of, no_start, not_allowed_there, stale_before, indicator_misplaced, candidate_lost, wrong_in, text_wrong, stale_after, first_fault_or, coming}
-use Rattle.yaml_scan_laws_windows.specs.Alike.{Alike}
-use Rattle.yaml_scan_laws_windows.specs.Moved.{moved_mark, moved_lexeme, moved_scan_fault, moved_next}
+use Rattle.yaml_scan_laws_windows.proofs.Shared.{cases_Bool, yaml_mark_t, ScanFault, line_at, mark_at, Wrong, Gap, Kind, Lexeme, cancels, is_value, is_start, is_end, reached, depth, in_flow, Candidate, candidate, is_fresh, fresh, open_at, has, levels, key_allowed, placed, WordText, kind_at, Read, Fails, gap_behind, place_behind, kind_behind, allowed_behind, begun, finished, begun_behind, word_behind, with_end, lexeme_behind, missed, lost_by, misplaced, colon_missing_of, no_start, not_allowed_there, stale_before, indicator_misplaced, candidate_lost, wrong_in, text_wrong, stale_after, first_fault_or, coming, Alike, moved_mark, moved_lexeme, moved_scan_fault, moved_next}
 use Rattle.yaml_scan_laws_windows.proofs.Bytes.{column_alike, line_alike}
-use Rattle.yaml_scan_laws_windows.proofs.Gaps.{GapsAlike, gap_alike}
-use Rattle.yaml_scan_laws_windows.proofs.Moving.{moved_by}
+use Rattle.yaml_scan_laws_windows.proofs.Gaps.{GapsAlike, gap_alike, moved_by}
 use Rattle.yaml_scan_laws_windows.proofs.Words.{kind_alike, moved_word}
 use Rattle.yaml_scan_laws_windows.proofs.Histories.{Bases, moved_lexemes, moved_found, depth_on, length_on, candidate_on, near_moved, fresh_moved, has_moved, levels_on, allowed_on, candidate_moved}
 
@@ -165,11 +151,6 @@ kind_there t u d m n k H G x l =
     ∙ ap (λ (e : ℕ). kind_at (nat_lt 0 e) u (d + (gap_behind t H).place)) x.same_depth
     ∙ kind_alike t u d m (gap_behind t H).place (in_flow H) x.alike l
 
-begun_moved : (d n : ℕ) (k : Kind) (m : yaml_mark_t) (a : Bool) (H G : List Lexeme)
-    → depth G ≡ depth H → levels G ≡ levels H
-    → begun k (moved_mark d n m) a G ≡ moved_lexeme d n (begun k m a H)
-begun_moved d n k m a H G e f = rw (e, f) refl
-
 pub begun_there : (t u : List ℕ) (d m n k : ℕ) (H G : List Lexeme) → Pair t u d m n k H G
     → (x : Kind)
     → begun_behind x u G ≡ moved_lexeme d n (begun_behind x t H)
@@ -177,7 +158,7 @@ begun_there t u d m n k H G p x =
     let start = ap (placed x) (place_there t u d m n k H G p) ∙ placed_moved d n x (place_behind t H) in
     ap (λ (a : yaml_mark_t). begun x a (allowed_behind G (gap_behind u G)) G) start
     ∙ ap (λ (a : Bool). begun x (moved_mark d n (placed x (place_behind t H))) a G) p.allowed
-    ∙ begun_moved d n x (placed x (place_behind t H)) (allowed_behind H (gap_behind t H)) H G p.same_depth p.same_levels
+    ∙ (rw (p.same_depth, p.same_levels) refl)
 
 -- ---- the word there
 

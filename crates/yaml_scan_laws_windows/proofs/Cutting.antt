@@ -1,15 +1,6 @@
 -- Both parts of a text are alike in it.
-use Rattle.std.proofs.Common.{zero-add, ◌≡◌, ℕ, zero, suc, ◌+◌, ◌-◌, ◌<◌, ◌≤◌, ◌==◌, ◌&&◌, ◌||◌, Bool, true, false, List, [], ◌∷◌, ◌++◌, length, refl, sym, ap, ◌∙◌, inl, inr, ◌⊎◌, arith}
-use Rattle.std.proofs.lemmas.Bool.{cases_Bool, cases_lt, eqb-true, true≢false}
-use Rattle.std.proofs.lemmas.Bool.Decides.{nat_tests}
-use Rattle.std.proofs.lemmas.List.{get_or_append_left, get_or-append-add, get_or_past, get_or_push, length-append, length_push}
-use Rattle.std.proofs.Math.Bool.{and-false}
-use Rattle.yaml_scan_history.specs.scan_model.Marks.{byte, ends_of, ends_break, line_at, column_at, is_blank_or_end}
-use Rattle.yaml_scan_history.specs.scan_model.Classes.{is_bom}
-use Rattle.yaml_scan_history.specs.scan_model.Breaks.{is_document_indicator}
-use Rattle.yaml_scan_history.proofs.MarksLemmas.{within, column_end, start_column}
-use Rattle.yaml_scan_laws_windows.specs.Alike.{Alike, is_onward}
-use Rattle.yaml_scan_laws_windows.specs.Cuts.{EndsLine, IsCut}
+use Rattle.std.proofs.Common.{zero-add, ◌≡◌, ℕ, zero, suc, ◌+◌, ◌-◌, ◌<◌, ◌≤◌, ◌==◌, ◌&&◌, ◌||◌, true, false, List, [], ◌∷◌, ◌++◌, length, refl, sym, ap, ◌∙◌, inl, inr, ◌⊎◌, arith}
+use Rattle.yaml_scan_laws_windows.proofs.Shared.{cases_Bool, cases_lt, eqb-true, true≢false, nat_tests, get_or_append_left, get_or-append-add, get_or_past, get_or_push, length-append, length_push, and-false, byte, ends_of, ends_break, line_at, column_at, is_bom, is_document_indicator, within, column_end, start_column, Alike, is_onward, EndsLine, IsCut, ne_eqb}
 use Rattle.yaml_scan_laws_windows.proofs.Bytes.{and_alike, indicator_alike, onward_some, off_break}
 
 pub byte_left : (a b : List ℕ) (p : ℕ) → p < length a → byte (a ++ b) p ≡ byte a p
@@ -23,18 +14,9 @@ byte_past a p l = get_or_past a p 0 l
 
 -- ---- the first byte of the rest
 
-mark_cases : (c z : Bool) (b x y : ℕ)
-    → ((c && (((b == 45 && x == 45) && y == 45) || ((b == 46 && x == 46) && y == 46))) && z) ≡ true
-    → (b ≡ 45) ⊎ (b ≡ 46)
-mark_cases c z b x y h =
-    elim (cases_Bool (b == 45)) [
-      | inl e ↦ inl (eqb-true _ _ e)
-      | inr e ↦ inr (grind (arith, nat_tests))
-    ]
-
 pub first_mark : (b : List ℕ) → is_document_indicator b 0 ≡ true → (byte b 0 ≡ 45) ⊎ (byte b 0 ≡ 46)
 unfolding is_document_indicator
-first_mark b h = mark_cases (column_at b 0 == 0) (is_blank_or_end b 3) (byte b 0) (byte b 1) (byte b 2) h
+first_mark b h = elim (cases_Bool (byte b 0 == 45)) [ inl e ↦ inl (eqb-true _ _ e) | inr e ↦ inr (grind (arith, nat_tests)) ]
 
 -- ---- the last byte of the front
 
@@ -53,10 +35,6 @@ last_byte a p (inr (inr (xs, is))) e = inr (last_is a xs p 13 is e)
 not_feed : (b c : ℕ) → (b ≡ 45) ⊎ (b ≡ 46) → (b == 10) ≡ false
 not_feed b c (inl z) = rw z refl
 not_feed b c (inr z) = rw z refl
-
-feed_same : (x y b c e : ℕ) → (c == 10) ≡ (e == 10) → ends_of x y b c ≡ ends_of x y b e
-unfolding ends_of
-feed_same x y b c e h = rw h refl
 
 pub line_ended : (x y b c : ℕ) → (b ≡ 10) ⊎ (b ≡ 13) → (c == 10) ≡ false → ends_of x y b c ≡ true
 unfolding ends_of
@@ -157,15 +135,7 @@ pub bom_by : (a b : List ℕ)
     → (length a + p == 0 && is_bom (a ++ b) (length a + p)) ≡ (p == 0 && is_bom b p)
 bom_by a b h zero = h
 bom_by a b h (suc p) =
-    let later : (length a + suc p == 0) ≡ false = not_zero (length a) p in
-    let sooner : (suc p == 0) ≡ false = some_not_zero p in
-    rw (later, sooner) refl
-  where
-    not_zero : (n p : ℕ) → (n + suc p == 0) ≡ false
-    not_zero n p = grind (arith, nat_tests)
-
-    some_not_zero : (p : ℕ) → (suc p == 0) ≡ false
-    some_not_zero p = grind (arith, nat_tests)
+    rw (ne_eqb (length a + suc p) 0 (omega arith), ne_eqb (suc p) 0 (omega arith)) refl
 
 rest_bom : (a b : List ℕ) → IsCut a b
     → (length a + 0 == 0 && is_bom (a ++ b) (length a + 0)) ≡ is_bom b 0
@@ -182,7 +152,6 @@ pub behind_alike : (a b : List ℕ) → column_at (a ++ b) (length a) ≡ 0
     → ((p : ℕ) → (length a + p == 0 && is_bom (a ++ b) (length a + p)) ≡ (p == 0 && is_bom b p))
     → Alike b (a ++ b) (length a) (suc (length b))
 behind_alike a b column ends bom =
-    let long = length-append a b in
     record {
       bytes = λ p l. byte_right a b p;
       onward = λ p l on. let here = within b p (onward_some _ on) in omega (arith, here);
@@ -191,7 +160,7 @@ behind_alike a b column ends bom =
       column = column;
       ends = λ p l. ends p;
       short = omega arith;
-      long = omega (arith, long);
+      long = omega (arith, length-append a b);
       covers = omega arith;
       bom = λ p l. bom p;
     }
@@ -221,7 +190,7 @@ front_ends : (a b : List ℕ) → IsCut a b → (p : ℕ) → p < length a
     → ends_break (a ++ b) (0 + p) ≡ ends_break a p
 front_ends a b cut p l =
     rw (zero-add p, byte_left a b p l, byte_left a b (p - 1) (omega (arith, l)), byte_left a b (p - 2) (omega (arith, l)))
-    (feed_same (byte a (p - 2)) (byte a (p - 1)) (byte a p) (byte (a ++ b) (p + 1)) (byte a (p + 1)) (front_next a b cut p l))
+    (unfold ends_of in rw (front_next a b cut p l) refl)
 
 front_onward : (a b : List ℕ) → IsCut a b → (p : ℕ) → p < length a → is_onward (byte a p) ≡ true
     → p + 1 < length a
@@ -251,7 +220,6 @@ front_bom a b cut p l =
 -- The front stands in the whole.
 pub front_alike : (a b : List ℕ) → IsCut a b → Alike a (a ++ b) 0 (length a)
 front_alike a b cut =
-    let long = length-append a b in
     let rest = rest_alike a b cut in
     let at : is_document_indicator (a ++ b) (length a + 0) ≡ true = indicator_alike b (a ++ b) (length a) (suc (length b)) 0 rest (omega arith) ∙ cut.mark in
     let e : 0 + length a ≡ length a + 0 = omega arith in
@@ -263,7 +231,7 @@ front_alike a b cut =
       column = sym (start_column (a ++ b));
       ends = λ p l. front_ends a b cut p l;
       short = omega arith;
-      long = omega (arith, long);
+      long = omega (arith, length-append a b);
       covers = omega arith;
       bom = λ p l. front_bom a b cut p l;
     }

@@ -1,12 +1,7 @@
 -- Each lexeme stands at the depth that those before it leave.
 use Rattle.std.proofs.Common.{◌≡◌, ℕ, zero, suc, ◌+◌, List, [], ◌∷◌, length, refl, sym, ap, ◌∙◌}
-use Rattle.yaml_scan_history.specs.declared.lexeme.Lexeme.{Lexeme}
-use Rattle.yaml_scan_history.specs.History.{depth}
-use Rattle.yaml_scan_history.specs.Next.{Next, Read, Fails, Ends, begun_behind, word_behind, next, extended, history}
-use Rattle.yaml_scan_history.specs.Remaining.{all}
-use Rattle.yaml_scan_laws_order.proofs.HistoryForward.{first_is, not_ended}
-use Rattle.yaml_scan_laws_windows.proofs.Stepping.{has_read, kept}
-use Rattle.yaml_scan_laws_windows.proofs.Fronts.{next_open}
+use Rattle.yaml_scan_laws_windows.proofs.Shared.{Lexeme, depth, Next, Read, Fails, Ends, begun_behind, word_behind, next, extended, history, all, first_is, not_ended}
+use Rattle.yaml_scan_laws_windows.proofs.Fronts.{has_read, kept, next_open}
 
 abbrev pub AllDeep : List Lexeme → Type 0
 AllDeep [] = Unit {0}

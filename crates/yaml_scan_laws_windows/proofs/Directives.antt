@@ -1,19 +1,10 @@
 -- Directives are the same in both texts.
 use Rattle.std.proofs.Common.{◌≡◌, ℕ, zero, suc, ◌+◌, ◌-◌, ◌<◌, ◌≤◌, ◌==◌, ◌&&◌, nat_lt, Bool, true, false, List, Result, Ok, Err, refl, ap, ◌∙◌, inl, inr, arith, add_assoc}
-use Rattle.std.proofs.lemmas.Bool.{cases_Bool, eqb-true}
-use Rattle.std.proofs.lemmas.Bool.Decides.{nat_tests}
+use Rattle.yaml_scan_laws_windows.proofs.Shared.{cases_Bool, eqb-true, nat_tests, byte, break_width, is_blank, is_blank_or_end, Wrong, belongs, some_uri_at, name_end, ValueText, value_end, DirectiveText, then_at, is_yaml, is_tag, decimal, number_between, number_at, with_major, minor_at, version_at, handle_between, handle_at, prefix_ended, prefix_at, with_prefix, tag_directive_at, named_value_at, value_at, comment_end, break_end, line_end_at, with_line, directive_at, Alike, is_onward}
 use Rattle.yaml_scan_history.specs.scan_model.declared.problem.Context.TheVariants as contexts
-use Rattle.yaml_scan_history.specs.scan_model.Marks.{byte, break_width, is_blank, is_blank_or_end}
-use Rattle.yaml_scan_history.specs.scan_model.Wrong.{Wrong}
-use Rattle.yaml_scan_history.specs.scan_words.Runs.{belongs}
-use Rattle.yaml_scan_history.specs.scan_words.Uris.{some_uri_at}
-use Rattle.yaml_scan_history.specs.scan_words.Tags.{name_end}
-use Rattle.yaml_scan_history.specs.scan_words.Directives.{ValueText, value_end, DirectiveText, then_at, is_yaml, is_tag, name_between, decimal, number_between, number_at, with_major, minor_at, version_at, handle_between, handle_at, prefix_ended, prefix_at, with_prefix, tag_directive_at, named_value_at, value_at, comment_end, break_end, line_end_at, with_line, finished, directive_at}
-use Rattle.yaml_scan_laws_windows.specs.Alike.{Alike, is_onward}
+use Rattle.yaml_scan_history.specs.scan_words.Directives.{name_between, finished}
 use Rattle.yaml_scan_laws_windows.proofs.Bytes.{width_alike, end_alike, and_alike, onward_some}
-use Rattle.yaml_scan_laws_windows.proofs.Running.{range_alike}
-use Rattle.yaml_scan_laws_windows.proofs.Gaps.{break_within}
-use Rattle.yaml_scan_laws_windows.proofs.Moving.{moved_by, at_step}
+use Rattle.yaml_scan_laws_windows.proofs.Gaps.{range_alike, break_within, at_step, ReadAlike, PlaceAlike}
 use Rattle.yaml_scan_laws_windows.proofs.Names.{Alike_in, PairAlike, Run_in, run_in, some_uri_alike, letter_onward, moved_equal}
 
 -- ---- numbers
@@ -236,18 +227,8 @@ values_alike t u d m p a l on =
 abbrev moved_place : ℕ → ℕ → ℕ
 moved_place d q = d + q
 
-abbrev PlaceIn : ℕ → Result ℕ Wrong → Type 0
-PlaceIn m (Ok q) = q ≤ m
-PlaceIn m (Err w) = Unit {0}
-
-record PlacesAlike (d m : ℕ) (r s : Result ℕ Wrong) : Type 0 where
-  pub same : s ≡ moved_by (moved_place d) d r
-  pub placed : PlaceIn m r
-
--- a place within, in both texts
-record PlaceAlike (d m q r : ℕ) : Type 0 where
-  pub same : r ≡ d + q
-  pub inside : q < m
+abbrev PlacesAlike : ℕ → ℕ → Result ℕ Wrong → Result ℕ Wrong → Type 0
+PlacesAlike d m r s = ReadAlike (λ q. q ≤ m) (moved_place d) d r s
 
 run_placed : (t u : List ℕ) (d m p q r : ℕ) → Run_in t u d m p q r → PlaceAlike d m q r
 run_placed t u d m p q r run = record { same = run.same; inside = run.inside }
@@ -293,13 +274,8 @@ line_alike t u d m p a l = line_from t u d m p _ _ a (run_in t u d m p _ a (λ x
 abbrev pub moved_directive : ℕ → DirectiveText → DirectiveText
 moved_directive d x = record { said = x.said; end = d + x.end; place = d + x.place }
 
-abbrev pub DirectiveIn : ℕ → Result DirectiveText Wrong → Type 0
-DirectiveIn m (Ok x) = x.place ≤ m
-DirectiveIn m (Err w) = Unit {0}
-
-pub record DirectivesAlike (d m : ℕ) (r s : Result DirectiveText Wrong) : Type 0 where
-  pub same : s ≡ moved_by (moved_directive d) d r
-  pub placed : DirectiveIn m r
+abbrev pub DirectivesAlike : ℕ → ℕ → (r s : Result DirectiveText Wrong) → Type 0
+DirectivesAlike d m r s = ReadAlike (λ (x : DirectiveText). x.place ≤ m) (moved_directive d) d r s
 
 lined_alike : (d m : ℕ) (v : ValueText) (r s : Result ℕ Wrong) → PlacesAlike d m r s
     → DirectivesAlike d m (with_line v r) (with_line (moved_value d v) s)

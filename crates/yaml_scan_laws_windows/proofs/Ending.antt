@@ -1,30 +1,15 @@
 -- Behind a line `...` the whole goes on as a stream that begins there.
 use Rattle.std.proofs.Common.{◌≡◌, ℕ, zero, suc, ◌+◌, ◌<◌, ◌≤◌, ◌==◌, ◌&&◌, ◌||◌, nat_lt, not, Bool, true, false, List, [], ◌∷◌, ◌++◌, length, None, refl, sym, ap, subst, ◌∙◌, inl, inr, ◌⊎◌, arith}
-use Rattle.std.proofs.lemmas.Bool.{cases_Bool, cases_lt, and_parts, eqb-true, true≢false}
-use Rattle.std.proofs.lemmas.Bool.Decides.{nat_tests}
-use Rattle.std.proofs.lemmas.List.{length-append}
-use Rattle.std.proofs.Math.Bool.{or-true}
-use Rattle.yaml_scan_history.specs.scan_model.Marks.{byte, break_of, break_width, line_at, column_at, is_blank, is_blank_or_end}
-use Rattle.yaml_scan_history.specs.scan_model.Classes.{is_bom}
-use Rattle.yaml_scan_history.specs.scan_model.Breaks.{is_document_indicator}
+use Rattle.yaml_scan_laws_windows.proofs.Shared.{cases_Bool, cases_lt, and_parts, eqb-true, true≢false, nat_tests, length-append, or-true, byte, break_of, break_width, line_at, column_at, is_blank, is_blank_or_end, is_bom, is_document_indicator, is_document_end, step_at, Gap, with_break, gap_within, gap_at, within, start_column, past_break, Lexeme, candidate, levels, kind_at, first_lexeme, gap_behind, allowed_behind, next, history, EndsIn, EndsLine, IsCut, is_white, IsEndLine, ne_eqb, lt-ltb, ltb-true}
 use Rattle.yaml_scan_history.specs.scan_model.Tokens as tokens
-use Rattle.yaml_scan_history.specs.scan_words.Indicators.{is_document_end}
-use Rattle.yaml_scan_history.specs.scan_words.Between.{step_at, Gap, with_break, gap_within, gap_at}
-use Rattle.yaml_scan_history.proofs.MarksLemmas.{within, start_column, past_break}
 use Rattle.yaml_scan_history.specs.declared.kind.Kind.TheVariants as kinds
-use Rattle.yaml_scan_history.specs.declared.lexeme.Lexeme.{Lexeme}
-use Rattle.yaml_scan_history.specs.History.{candidate, levels}
-use Rattle.yaml_scan_history.specs.Words.{kind_at}
-use Rattle.yaml_scan_history.specs.Next.{first_lexeme, gap_behind, allowed_behind, next, history}
-use Rattle.yaml_scan_laws_windows.specs.Cuts.{EndsIn, EndsLine, IsCut, is_white, IsEndLine}
 use Rattle.yaml_scan_laws_windows.proofs.Gaps.{is_passed, gap_passes, gap_breaks, gap_stops, left_step, gap_by}
 use Rattle.yaml_scan_laws_windows.proofs.Words.{break_byte, blank_kind, break_kind}
 use Rattle.yaml_scan_laws_windows.proofs.Cutting.{byte_left}
 use Rattle.yaml_scan_laws_windows.proofs.BehindBreak.{feed_last, fed_marks, fed_alike}
 use Rattle.yaml_scan_laws_windows.proofs.Histories.{Bases}
 use Rattle.yaml_scan_laws_windows.proofs.Fronts.{next_open}
-use Rattle.yaml_scan_laws_windows.proofs.Marking.{end_mark}
-use Rattle.yaml_scan_laws_windows.proofs.Turning.{MarkStands, finishes}
+use Rattle.yaml_scan_laws_windows.proofs.Turning.{end_mark, MarkStands, finishes}
 use Rattle.yaml_scan_laws_windows.proofs.Rests.{mark_candidate, mark_levels, rest_base, rest_begins, Ground}
 
 -- ---- bytes of the line
@@ -71,8 +56,7 @@ line_long line e =
     elim (cases_lt 3 (length line)) [
       | inl l ↦ omega (arith, l)
       | inr l ↦
-          let last = feed_last line 2 e.feed (omega (arith, third, l)) in
-          absurd (omega (arith, last, three))
+          absurd (omega (arith, feed_last line 2 e.feed (omega (arith, third, l)), three))
     ]
 
 white_end : (t : List ℕ) (p : ℕ) → is_white (byte t p) ≡ true → is_blank_or_end t p ≡ true
@@ -110,21 +94,13 @@ passed_blank : (t : List ℕ) (p : ℕ) (tabs : Bool) → 3 ≤ p
     → (is_passed tabs t p ≡ true) × ((step_at tabs t p).place ≡ p + 1)
 unfolding step_at
 passed_blank t p tabs far h =
-    let off : (p == 0) ≡ false = not_zero p far in
-    rw (off, h) (refl, refl)
-  where
-    not_zero : (p : ℕ) → 3 ≤ p → (p == 0) ≡ false
-    not_zero p l = grind (arith, nat_tests)
+    rw (ne_eqb p 0 (omega (arith, far)), h) (refl, refl)
 
 passed_none : (t : List ℕ) (p : ℕ) (tabs : Bool) → 3 ≤ p
     → (byte t p == 32 || (tabs && byte t p == 9)) ≡ false
     → (byte t p == 35) ≡ false → is_passed tabs t p ≡ false
 passed_none t p tabs far h k =
-    let off : (p == 0) ≡ false = not_zero p far in
-    rw (off, h, k) refl
-  where
-    not_zero : (p : ℕ) → 3 ≤ p → (p == 0) ≡ false
-    not_zero p l = grind (arith, nat_tests)
+    rw (ne_eqb p 0 (omega (arith, far)), h, k) refl
 
 white_hash : (b : ℕ) → is_white b ≡ true → (b == 35) ≡ false
 white_hash b h = grind (arith, nat_tests)
@@ -134,10 +110,6 @@ break_skipped b true (inl z) = rw z refl
 break_skipped b false (inl z) = rw z refl
 break_skipped b true (inr z) = rw z refl
 break_skipped b false (inr z) = rw z refl
-
-blank_width : (b c e : ℕ) → is_blank b ≡ true → break_of b c e ≡ 0
-unfolding break_of
-blank_width b c e h = grind (arith, nat_tests)
 
 -- a break is as wide in the whole
 whole_width : (line b : List ℕ) (p : ℕ) → EndsIn line 10 → p < length line
@@ -151,8 +123,7 @@ whole_width line b p feed l (inr z) =
     elim (cases_lt (p + 1) (length line)) [
       | inl more ↦ rw (here, z, byte_left line b (p + 1) more) refl
       | inr past ↦
-          let last = feed_last line p feed (omega (arith, l, past)) in
-          absurd (omega (arith, last, z))
+          absurd (omega (arith, feed_last line p feed (omega (arith, l, past)), z))
     ]
 
 -- a step over a blank
@@ -203,12 +174,10 @@ tab_stops : (n : ℕ) (line : List ℕ) (p : ℕ) → 3 ≤ p → p < length lin
     → is_blank (byte line p) ≡ true
     → (byte line p == 32) ≡ false → (gap_within n false true line p).place ≡ length line → ⊥
 tab_stops n line p far l blank tab there =
-    let none = blank_width (byte line p) (byte line (p + 1)) (byte line (p + 2)) blank in
+    let none : break_of (byte line p) (byte line (p + 1)) (byte line (p + 2)) ≡ 0 = unfold break_of in grind (arith, nat_tests) in
     let over : nat_lt 0 (break_width line p) ≡ false = rw none refl in
     let off = passed_none line p (false || not true) far (skipped (byte line p) tab) (white_hash (byte line p) (rw blank refl)) in
-    let stops = gap_stops n false true line p off over in
-    let here = ap (λ (g : Gap). g.place) stops in
-    omega (arith, here, there, l)
+    omega (arith, ap (λ (g : Gap). g.place) (gap_stops n false true line p off over), there, l)
   where
     skipped : (b : ℕ) → (b == 32) ≡ false → (b == 32 || ((false || not true) && b == 9)) ≡ false
     skipped b h = rw h refl
@@ -250,7 +219,7 @@ cross (suc k) line b e allowed p n o far l room fuel more there =
         | inr z ↦
             let wide = break_byte (byte line p) (byte line (p + 1)) (byte line (p + 2)) z in
             let off = passed_none line p (false || not allowed) far kept (white_hash (byte line p) white) in
-            let some = some_width (break_width line p) wide in
+            let some = ltb-true 0 (break_width line p) wide in
             let inside = (past_break line p some).inside in
             let next : (gap_within x false (allowed || true) line (p + break_width line p)).place ≡ length line =
             ap (λ (g : Gap). g.place) (sym (gap_breaks x false allowed line p off wide)) ∙ here in
@@ -267,9 +236,6 @@ cross (suc k) line b e allowed p n o far l room fuel more there =
     feed_not c true z h = true≢false (sym h ∙ break_skipped c true (inl z))
     feed_not c false z h = true≢false (sym h ∙ break_skipped c false (inl z))
 
-    some_width : (w : ℕ) → nat_lt 0 w ≡ true → 0 < w
-    some_width w h = grind (arith, nat_tests)
-
 -- ---- the ground behind it
 
 abbrev pub line_base : List ℕ → List Lexeme
@@ -281,16 +247,7 @@ line_mark t h = record { kind = kinds.DocumentEnd; body = tokens.document_end; i
 first_candidate : (e : ℕ) → candidate e (first_lexeme ∷ []) ≡ None
 unfolding candidate
 first_candidate zero = refl
-first_candidate (suc e) =
-    let off : (0 == suc e) ≡ false = not_zero e in
-    let on : nat_lt 0 (suc e) ≡ true = some e in
-    rw (off, on) refl
-  where
-    not_zero : (e : ℕ) → (0 == suc e) ≡ false
-    not_zero e = grind (arith, nat_tests)
-
-    some : (e : ℕ) → nat_lt 0 (suc e) ≡ true
-    some e = grind (arith, nat_tests)
+first_candidate (suc e) = rw (ne_eqb 0 (suc e) (omega arith), lt-ltb 0 (suc e) (omega arith)) refl
 
 first_levels : levels (first_lexeme ∷ []) ≡ []
 unfolding levels
@@ -305,22 +262,22 @@ line_bases t d n = record {
   count = refl;
 }
 
+pub start_gap : (t : List ℕ) → gap_behind t (first_lexeme ∷ []) ≡ gap_at false true t 0
+unfolding candidate
+start_gap t = refl
+
 line_gap : (t : List ℕ) → gap_behind t (line_base t) ≡ gap_at false false t 3
 unfolding candidate
 line_gap t = refl
 
-pub start_gap : (t : List ℕ) → gap_behind t (first_lexeme ∷ []) ≡ gap_at false true t 0
+line_allowed : (t : List ℕ) (g : Gap) → allowed_behind (line_base t) (with_break true g) ≡ true
 unfolding candidate
-start_gap t = refl
+line_allowed t g = refl
 
 start_allowed : (t : List ℕ)
     → allowed_behind (first_lexeme ∷ []) (gap_behind t (first_lexeme ∷ [])) ≡ true
 unfolding candidate
 start_allowed t = refl
-
-line_allowed : (t : List ℕ) (g : Gap) → allowed_behind (line_base t) (with_break true g) ≡ true
-unfolding candidate
-line_allowed t g = refl
 
 pub line_ground : (line b : List ℕ) → IsEndLine line → is_bom b 0 ≡ false
     → (gap_at false false line 3).place ≡ length line

@@ -1,30 +1,12 @@
 -- A front with a fault: the whole has the same tokens, and a fault there.
 use Rattle.std.proofs.Common.{◌≡◌, ◌≢◌, ℕ, ◌+◌, ◌<◌, ◌≤◌, ◌==◌, ◌&&◌, nat_lt, nat_le, not, Bool, true, false, List, [], ◌∷◌, ◌++◌, length, Option, Some, None, Result, Ok, Err, refl, sym, ap, subst, ◌∙◌, inl, inr, arith, ◌⊎◌}
-use Rattle.std.proofs.lemmas.Bool.{cases_Bool, cases_lt}
-use Rattle.std.proofs.lemmas.Bool.Decides.{nat_tests}
-use Rattle.std.proofs.lemmas.Option.{none-some, same_Some}
-use Rattle.yaml_scan_history.specs.scan_model.declared.record.yaml_mark_t.{yaml_mark_t}
-use Rattle.yaml_scan_history.specs.scan_model.declared.problem.ScanFault.{ScanFault}
-use Rattle.yaml_scan_history.specs.scan_model.Marks.{byte, line_at, mark_at}
-use Rattle.yaml_scan_history.specs.scan_model.Wrong.{Wrong}
-use Rattle.yaml_scan_history.specs.declared.kind.Kind.{Kind}
+use Rattle.yaml_scan_laws_windows.proofs.Shared.{cases_Bool, cases_lt, nat_tests, none-some, same_Some, yaml_mark_t, ScanFault, byte, line_at, mark_at, Wrong, Kind, Lexeme, is_end, reached, depth, in_flow, Candidate, candidate, is_fresh, fresh, placed, WordText, word_at, Next, Read, Fails, gap_behind, place_behind, allowed_behind, kind_behind, begun_behind, word_behind, lexeme_behind, missed, lost_by, stale_before, indicator_misplaced, candidate_lost, wrong_in, text_wrong, stale_after, colon_missing_of, first_fault_or, coming, next, Stands, line_at-grows, IsCut, moved_scan_fault, moved_next, le-ltb}
 use Rattle.yaml_scan_history.specs.declared.kind.Kind.TheVariants as kinds
-use Rattle.yaml_scan_history.specs.declared.lexeme.Lexeme.{Lexeme}
-use Rattle.yaml_scan_history.specs.Kinds.{is_end}
-use Rattle.yaml_scan_history.specs.History.{reached, depth, in_flow, Candidate, candidate, is_fresh, fresh, placed}
-use Rattle.yaml_scan_history.specs.Words.{WordText, word_at}
-use Rattle.yaml_scan_history.specs.Next.{Next, Read, Fails, gap_behind, place_behind, allowed_behind, kind_behind, begun_behind, word_behind, lexeme_behind, missed, lost_by, stale_before, indicator_misplaced, candidate_lost, wrong_in, text_wrong, stale_after, colon_missing_of, first_fault_or, coming, next}
-use Rattle.yaml_scan_laws_order.proofs.HistoryForward.{Stands}
-use Rattle.yaml_scan_laws_order.proofs.MarksForward.{line_at-grows}
-use Rattle.yaml_scan_laws_windows.specs.Cuts.{IsCut}
-use Rattle.yaml_scan_laws_windows.specs.Moved.{moved_scan_fault, moved_next}
-use Rattle.yaml_scan_laws_windows.proofs.Moving.{moved_wrong, moved_by}
+use Rattle.yaml_scan_laws_windows.proofs.Gaps.{moved_wrong, moved_by}
 use Rattle.yaml_scan_laws_windows.proofs.Words.{moved_word, end_kind, WordCarried}
 use Rattle.yaml_scan_laws_windows.proofs.Coming.{moved_fault, mark_alike, Said, place_there, kind_there, stale_there, misplaced_there, lost_there, coming_there}
-use Rattle.yaml_scan_laws_windows.proofs.Stepping.{word_there, word_inside, clean}
-use Rattle.yaml_scan_laws_windows.proofs.Fronts.{mark_zero, front_pair, next_open}
-use Rattle.yaml_scan_laws_windows.proofs.Marking.{IsMark, IsFree, and_false, lost_none, mark_word, mark_lies}
-use Rattle.yaml_scan_laws_windows.proofs.Turning.{mark_stands, stands_there, free_of, colon_none, end_begun, end_mark_placed, mark_there}
+use Rattle.yaml_scan_laws_windows.proofs.Fronts.{word_there, word_inside, clean, mark_zero, front_pair, next_open}
+use Rattle.yaml_scan_laws_windows.proofs.Turning.{IsMark, IsFree, and_false, lost_none, mark_word, mark_lies, mark_stands, stands_there, free_of, colon_none, end_begun, end_mark_placed, mark_there}
 
 -- ---- the stream's end
 
@@ -60,15 +42,7 @@ missed_before (Some c) m n l k h =
 pub outer_same : (l : Lexeme) (H : List Lexeme) → (l.depth == 0) ≡ false
     → candidate 0 (l ∷ H) ≡ candidate 0 H
 unfolding candidate
-outer_same l H deep = let low : nat_lt l.depth 0 ≡ false = never l.depth in rw (deep, low) refl
-  where
-    never : (n : ℕ) → nat_lt n 0 ≡ false
-    never n = grind (arith, nat_tests)
-
-end_candidate : (t : List ℕ) (H : List Lexeme) → (depth H == 0) ≡ true
-    → candidate 0 (begun_behind kinds.StreamEnd t H ∷ H) ≡ None
-unfolding candidate
-end_candidate t H e = rw (e, and_false (allowed_behind H (gap_behind t H))) refl
+outer_same l H deep = rw (deep, le-ltb l.depth 0 (omega arith)) refl
 
 end_text : (t : List ℕ) (H : List Lexeme) → text_wrong kinds.StreamEnd t H ≡ None
 unfolding word_at
@@ -82,6 +56,11 @@ reads_end : (t : List ℕ) (H : List Lexeme) → stale_before t H ≡ None
     → stale_after (lexeme_behind kinds.StreamEnd t H) H ≡ None
     → coming (Some kinds.StreamEnd) t H ≡ Read (lexeme_behind kinds.StreamEnd t H)
 reads_end t H a c f = rw (a, end_misplaced t H, c, end_text t H, f) refl
+
+end_candidate : (t : List ℕ) (H : List Lexeme) → (depth H == 0) ≡ true
+    → candidate 0 (begun_behind kinds.StreamEnd t H ∷ H) ≡ None
+unfolding candidate
+end_candidate t H e = rw (e, and_false (allowed_behind H (gap_behind t H))) refl
 
 -- where a mark is read in the whole, the front's end is read
 end_reads : (a b : List ℕ) → IsCut a b → (H : List Lexeme)
@@ -188,7 +167,6 @@ meets a b H cut inside on = by (kind_behind a H) refl
     bad : (y : Kind) → kind_behind a H ≡ Some y → (w : Wrong) → word_behind y a H ≡ Err w
         → WordCarried (a ++ b) 0 (length a) (word_behind y a H) (word_behind y (a ++ b) H) → Meets
     bad y k w is (inr torn) =
-        let place = ap (λ (v : Wrong). v.place) (err_same torn.mine is) in
         inr record {
           kind = y;
           mine = k;
@@ -197,7 +175,7 @@ meets a b H cut inside on = by (kind_behind a H) refl
           other = torn.other;
           said = is;
           says = torn.others;
-          far = omega (arith, place, torn.place);
+          far = omega (arith, ap (λ (v : Wrong). v.place) (err_same torn.mine is), torn.place);
           further = omega (arith, torn.there);
         }
     bad y k w is (inl same) =
@@ -335,8 +313,7 @@ fails_there a b cut x h stands f e more low =
       ]
       | inr past ↦
           let (at, none) = at_end a b H cut stands.inside past in
-          let index = end_late a H f (ap (λ o. coming o a H) (sym none) ∙ here) in
-          absurd (omega (arith, index, at, low))
+          absurd (omega (arith, end_late a H f (ap (λ o. coming o a H) (sym none) ∙ here), at, low))
     ]
 
 -- ---- and where that of the whole does

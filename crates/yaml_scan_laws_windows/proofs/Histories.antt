@@ -1,14 +1,6 @@
 -- What lexemes decide, where they stand on others that decide the same.
 use Rattle.std.proofs.Common.{◌≡◌, ℕ, ◌+◌, ◌==◌, ◌&&◌, ◌||◌, nat_lt, nat_le, not, List, [], ◌∷◌, ◌++◌, map, length, Option, Some, None, refl, ap, ◌∙◌, inl, inr, arith}
-use Rattle.std.proofs.lemmas.Bool.{cases_Bool}
-use Rattle.std.proofs.lemmas.Bool.Decides.{nat_tests}
-use Rattle.std.proofs.lemmas.List.{length-append, length-map}
-use Rattle.yaml_scan_history.specs.scan_model.declared.record.yaml_mark_t.{yaml_mark_t}
-use Rattle.yaml_scan_history.specs.declared.kind.Kind.{Kind}
-use Rattle.yaml_scan_history.specs.declared.lexeme.Lexeme.{Lexeme}
-use Rattle.yaml_scan_history.specs.Kinds.{cancels, is_start, allows_key}
-use Rattle.yaml_scan_history.specs.History.{depth, Candidate, candidate, is_fresh, fresh, found_by, has, opens_at, opened, left_by, levels, key_allowed}
-use Rattle.yaml_scan_laws_windows.specs.Moved.{moved_mark, moved_lexeme}
+use Rattle.yaml_scan_laws_windows.proofs.Shared.{cases_Bool, nat_tests, length-append, length-map, yaml_mark_t, Kind, Lexeme, cancels, is_start, allows_key, depth, Candidate, candidate, is_fresh, fresh, found_by, has, opens_at, opened, left_by, levels, key_allowed, moved_mark, moved_lexeme}
 
 -- Two lists of lexemes that decide the same of what stands on them behind another one: no candidate is open in either, and the
 -- second one has k more.
@@ -64,15 +56,12 @@ pub candidate_on : (d n k e : ℕ) (h b c : List Lexeme) → Bases d n k b c
 candidate_on d n k e [] b c s = rw (s.mine e, s.others e) refl
 candidate_on d n k e (l ∷ h) b c s = candidate_moved d n k e l (h ++ b) (moved_lexemes d n h ++ c) (length_on d n k h b c s) (candidate_on d n k e h b c s)
 
-line_moved : (n x y : ℕ) → nat_le (n + x) (n + y) ≡ nat_le x y
-line_moved n x y = grind (arith, nat_tests)
-
-far_moved : (d x y : ℕ) → nat_le (d + x) (d + y + 1024) ≡ nat_le x (y + 1024)
-far_moved d x y = grind (arith, nat_tests)
-
 pub near_moved : (d n : ℕ) (start place : yaml_mark_t)
     → is_fresh (moved_mark d n start) (moved_mark d n place) ≡ is_fresh start place
-near_moved d n start place = rw (line_moved n place.line start.line, far_moved d place.index start.index) refl
+near_moved d n start place =
+    let line : nat_le (n + place.line) (n + start.line) ≡ nat_le place.line start.line = grind (arith, nat_tests) in
+    let far : nat_le (d + place.index) (d + start.index + 1024) ≡ nat_le place.index (start.index + 1024) = grind (arith, nat_tests) in
+    rw (line, far) refl
 
 pub fresh_moved : (d n k : ℕ) (o : Option Candidate) (place : yaml_mark_t)
     → fresh (moved_found d n k o) (moved_mark d n place) ≡ moved_found d n k (fresh o place)

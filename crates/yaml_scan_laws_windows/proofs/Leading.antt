@@ -1,27 +1,10 @@
 -- A text that leads to a directive has its token first, or a fault in its place.
 use Rattle.std.proofs.Common.{◌≡◌, ◌≢◌, ℕ, suc, ◌+◌, nat_lt, false, List, [], ◌∷◌, ◌++◌, length, Option, Some, None, Result, Ok, Err, refl, sym, ap, subst, ◌∙◌, arith}
-use Rattle.std.specs.List.{flat_map}
-use Rattle.std.proofs.lemmas.Option.{same_Some}
-use Rattle.std.proofs.Math.Bool.{and-false}
-use Rattle.yaml_scan_history.specs.scan_model.declared.name.yaml_encoding_t.{yaml_encoding_t}
-use Rattle.yaml_scan_history.specs.scan_model.declared.problem.ScanFault.{ScanFault}
-use Rattle.yaml_scan_history.specs.scan_model.Faults.{Fault}
+use Rattle.yaml_scan_laws_windows.proofs.Shared.{flat_map, same_Some, and-false, yaml_encoding_t, ScanFault, Fault, Token, TokenBody, Wrong, Said, DirectiveText, directive_at, Lexeme, candidate, levels, entries, first_open, WordText, body_said, directed, kind_at, word_at, Next, Read, Fails, Ends, first_lexeme, gap_behind, allowed_behind, kind_behind, begun_behind, word_behind, next, extended, history, SpelledText, body_of_word, body_by, body_in, token_in, spell, all, fault_in, all_ends, last_is_all, history_grows, LeadsToDirective, scan_of, fault_next, cancels}
 use Rattle.yaml_scan_history.specs.scan_model.Tokens as tokens
-use Rattle.yaml_scan_history.specs.scan_model.Tokens.{Token, TokenBody}
-use Rattle.yaml_scan_history.specs.scan_model.Wrong.{Wrong}
 use Rattle.yaml_scan_history.specs.scan_words.Directives as directives
-use Rattle.yaml_scan_history.specs.scan_words.Directives.{Said, DirectiveText, directive_at}
 use Rattle.yaml_scan_history.specs.declared.kind.Kind.TheVariants as kinds
-use Rattle.yaml_scan_history.specs.declared.lexeme.Lexeme.{Lexeme}
-use Rattle.yaml_scan_history.specs.History.{candidate, levels, entries, first_open}
-use Rattle.yaml_scan_history.specs.Words.{WordText, body_said, directed, kind_at, word_at}
-use Rattle.yaml_scan_history.specs.Next.{Next, Read, Fails, Ends, first_lexeme, gap_behind, allowed_behind, kind_behind, begun_behind, word_behind, next, extended, history}
-use Rattle.yaml_scan_history.specs.Remaining.{SpelledText, body_of_word, body_by, body_in, token_in, spell, all, fault_in}
-use Rattle.yaml_scan_laws_order.proofs.HistoryForward.{all_ends, last_is_all, history_grows}
-use Rattle.yaml_scan_laws_windows.specs.Cuts.{LeadsToDirective}
-use Rattle.yaml_scan_laws_windows.specs.Laws.{scan_of}
-use Rattle.yaml_scan_laws_windows.proofs.Stepping.{HasRead, has_read, read_kind, kept}
-use Rattle.yaml_scan_laws_windows.proofs.Fronts.{lexeme_zero, next_open, history_more}
+use Rattle.yaml_scan_laws_windows.proofs.Fronts.{HasRead, has_read, read_kind, kept, lexeme_zero, next_open, history_more}
 use Rattle.yaml_scan_laws_windows.proofs.Histories.{Bases}
 use Rattle.yaml_scan_laws_windows.proofs.Depths.{read_deep}
 use Rattle.yaml_scan_laws_windows.proofs.Rests.{word_of, AllCarry, no_candidates}
@@ -29,9 +12,7 @@ use Rattle.yaml_scan_laws_windows.proofs.Joining.{told, offline_told, parted}
 use Rattle.yaml_scan_laws_windows.proofs.Opening.{coming_goes, all_is}
 use Rattle.yaml_scan_laws_windows.proofs.Windows.{uncons}
 use Rattle.yaml_scan_laws_windows.proofs.Ending.{start_history}
-use Rattle.yaml_scan_laws_order.proofs.StreamForward.{fault_next}
 use Rattle.yaml_scan_laws_windows.proofs.Failing.{some_none, fails_not}
-use Rattle.yaml_scan_history.specs.Kinds.{cancels}
 
 -- ---- the token of a directive
 

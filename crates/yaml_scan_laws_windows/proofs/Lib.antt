@@ -1,7 +1,6 @@
+mod Shared
 mod Bytes
-mod Running
 mod Gaps
-mod Moving
 mod Plains
 mod Quotes
 mod Names
@@ -11,14 +10,11 @@ mod Words
 mod Cutting
 mod Histories
 mod Coming
-mod Stepping
 pub mod BehindBreak
 mod Fronts
-mod Marking
 mod Turning
 mod Rests
 pub mod Depths
-mod Entering
 mod Joining
 pub mod Windows
 mod Failing

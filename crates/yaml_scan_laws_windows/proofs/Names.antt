@@ -1,22 +1,13 @@
 -- Anchors, URIs, tags and directives are the same in both texts.
 use Rattle.std.proofs.Common.{◌≡◌, ℕ, zero, suc, ◌+◌, ◌<◌, ◌≤◌, ◌==◌, ◌&&◌, ◌||◌, nat_lt, if◌then◌else◌, Bool, true, false, not, List, [], ◌∷◌, length, slice_range, Option, Some, None, Result, Ok, Err, refl, ap, ◌∙◌, inl, inr, ◌⊎◌, arith, add_assoc}
-use Rattle.std.proofs.lemmas.Bool.{cases_Bool, eqb-true}
-use Rattle.std.proofs.lemmas.Bool.Decides.{nat_tests}
+use Rattle.yaml_scan_laws_windows.proofs.Shared.{cases_Bool, eqb-true, nat_tests, byte, is_alpha_byte, is_digit_byte, Wrong, belongs, run_end, is_name_end, may_end_name, name_between, anchor_at, is_punctuation, is_wide_punctuation, is_uri, octet_of, octet_at, UriSpot, Spells, escape_spot, octet_spot, due_behind, with_bytes, uri_within, uri_at, filled, some_uri_at, TagText, tag_end, bracketed, verbatim_at, name_end, with_handle, bare, bare_at, parts_at, may_end_tag, tag_at, run_place, Alike, is_onward}
 use Rattle.yaml_scan_history.specs.scan_model.declared.problem.Problem.{Problem}
 use Rattle.yaml_scan_history.specs.scan_model.declared.problem.Context.{Context}
 use Rattle.yaml_scan_history.specs.scan_model.declared.problem.Context.TheVariants as contexts
-use Rattle.yaml_scan_history.specs.scan_model.Marks.{byte}
-use Rattle.yaml_scan_history.specs.scan_model.Classes.{is_alpha_byte, is_digit_byte}
-use Rattle.yaml_scan_history.specs.scan_model.Wrong.{Wrong}
-use Rattle.yaml_scan_history.specs.scan_words.Runs.{belongs, run_end}
-use Rattle.yaml_scan_history.specs.scan_words.Anchors.{is_name_end, may_end_name, name_between, anchor_at}
-use Rattle.yaml_scan_history.specs.scan_words.Uris.{is_punctuation, is_wide_punctuation, is_uri, hex_digit, octet_of, octet_at, UriSpot, Spells, Ends, Faulty, escape_spot, octet_spot, due_behind, spot_at, with_bytes, uri_within, uri_at, filled, some_uri_at}
-use Rattle.yaml_scan_history.specs.scan_words.Tags.{TagText, tag_end, bracketed, verbatim_at, name_end, with_handle, bare, bare_at, parts_at, may_end_tag, ended, tag_at}
-use Rattle.yaml_scan_history.proofs.PlacesLemmas.{run_place}
-use Rattle.yaml_scan_laws_windows.specs.Alike.{Alike, is_onward}
+use Rattle.yaml_scan_history.specs.scan_words.Uris.{hex_digit, Ends, Faulty, spot_at}
+use Rattle.yaml_scan_history.specs.scan_words.Tags.{ended}
 use Rattle.yaml_scan_laws_windows.proofs.Bytes.{end_alike, next_byte, off_cases, onward_some, or_alike}
-use Rattle.yaml_scan_laws_windows.proofs.Running.{run_alike, range_alike}
-use Rattle.yaml_scan_laws_windows.proofs.Moving.{moved_by, at_step}
+use Rattle.yaml_scan_laws_windows.proofs.Gaps.{run_alike, range_alike, moved_by, at_step}
 use Rattle.yaml_scan_laws_windows.proofs.Plains.{left_step, byte_at}
 use Rattle.yaml_scan_laws_windows.proofs.Quotes.{moved_pair}
 
@@ -73,11 +64,6 @@ run_in t u d m p run a like l =
     let here = run_place run t p (omega (arith, l, a.short)) in
     let there = run_place run u (d + p) (omega (arith, l, a.long)) in
     record { order = runs.order; inside = runs.inside; same = runs.same; short = here.inside; long = omega (arith, runs.same, there.inside) }
-
-amp_onward : (b : ℕ) → (b ≡ 38) ⊎ (b ≡ 42) → is_onward b ≡ true
-unfolding is_onward
-amp_onward b (inl h) = rw h refl
-amp_onward b (inr h) = rw h refl
 
 anchor_from : (context : Context) (t u : List ℕ) (d m p q r : ℕ) → Alike t u d m
     → Run_in t u d m p q r
@@ -171,10 +157,6 @@ octet_spots t u d m p due (Some b) h x y = go (due_behind b due)
     go (Ok next) = let e : d + p + 3 ≡ d + (p + 3) = omega arith in rw e record { same = refl; lies = (h, omega arith, x, y) }
     go (Err problem) = record { same = refl; lies = tt }
 
-percent_onward : (b : ℕ) → b ≡ 37 → is_onward b ≡ true
-unfolding is_onward
-percent_onward b h = rw h refl
-
 pub letter_onward : (b : ℕ) → 32 < b → is_onward b ≡ true
 unfolding is_onward
 letter_onward b h = grind (arith, nat_tests)
@@ -192,7 +174,7 @@ unfolding spot_at
 spot_alike wide due t u d m p a l =
     elim (cases_Bool (byte t p == 37)) [
       | inl h ↦
-          let on = percent_onward (byte t p) (eqb-true _ _ h) in
+          let on : is_onward (byte t p) ≡ true = unfold is_onward in rw (eqb-true _ _ h) refl in
           let (same, lies) = octet_alike t u d m p a l on in
           let (here, there) = byte_at t u d m p a l (onward_some _ on) in
           rw (a.bytes p l, h, same) (octet_spots t u d m p due (octet_at t p) lies here there)
@@ -223,19 +205,6 @@ unfolding uri_within
 uri_more context wide t u d m due p n o b next q e f step =
     rw (e, f) (bytes_alike d m (b ∷ []) (uri_within n context wide next t q) (uri_within o context wide next u (d + q)) step)
 
-uri_over : (context : Context) (wide : Bool) (t u : List ℕ) (d m due p n o q : ℕ) → q < m
-    → spot_at wide due t p ≡ Ends q → spot_at wide due u (d + p) ≡ Ends (d + q)
-    → Told context wide t u d m due p (suc n) (suc o)
-unfolding uri_within
-uri_over context wide t u d m due p n o q l e f = rw (e, f) record { same = refl; ends = l }
-
-uri_fails : (context : Context) (wide : Bool) (t u : List ℕ) (d m due p n o : ℕ) (problem : Problem)
-    (q : ℕ)
-    → spot_at wide due t p ≡ Faulty problem q → spot_at wide due u (d + p) ≡ Faulty problem (d + q)
-    → Told context wide t u d m due p (suc n) (suc o)
-unfolding uri_within
-uri_fails context wide t u d m due p n o problem q e f = rw (e, f) record { same = refl; ends = tt }
-
 pub short_at : (t u : List ℕ) (d m p : ℕ) → Alike t u d m → p < m → p ≤ length t
 short_at t u d m p a l = let short = a.short in omega (arith, l, short)
 
@@ -250,11 +219,11 @@ uri_by : (k : ℕ) (context : Context) (wide : Bool) (t u : List ℕ) (d m due p
 uri_by k context wide t u d m due p n o (Ends q) a l room fuel more e f =
     let (x, en) = left_step p n (length t) fuel (short_at t u d m p a l) in
     let (y, eo) = left_step (d + p) o (length u) more (long_at t u d m p a l) in
-    rw (en, eo) (uri_over context wide t u d m due p x y q f.lies e f.same)
+    rw (en, eo) (unfold uri_within in rw (e, f.same) record { same = refl; ends = f.lies })
 uri_by k context wide t u d m due p n o (Faulty problem q) a l room fuel more e f =
     let (x, en) = left_step p n (length t) fuel (short_at t u d m p a l) in
     let (y, eo) = left_step (d + p) o (length u) more (long_at t u d m p a l) in
-    rw (en, eo) (uri_fails context wide t u d m due p x y problem q e f.same)
+    rw (en, eo) (unfold uri_within in rw (e, f.same) record { same = refl; ends = tt })
 uri_by zero context wide t u d m due p n o (Spells b next q) a l room fuel more e f =
     let (at, further, mine, others) = f.lies in absurd (omega (arith, room, mine))
 uri_by (suc k) context wide t u d m due p n o (Spells b next q) a l room fuel more e f =

@@ -1,45 +1,16 @@
 -- A front without fault, whatever brackets it leaves open: the whole begins with its tokens, and a mark in its end's place.
 use Rattle.std.proofs.Common.{◌≡◌, ℕ, zero, suc, ◌+◌, ◌-◌, ◌<◌, ◌≤◌, ◌==◌, ◌&&◌, nat_lt, nat_le, if◌then◌else◌, true, false, List, [], ◌∷◌, ◌++◌, take, drop, filter, replicate, length, Option, Some, None, refl, sym, ap, subst, ◌∙◌, inl, inr, arith, ◌≢◌, map}
-use Rattle.std.proofs.lemmas.Bool.{cases_Bool, true≢false}
-use Rattle.std.proofs.lemmas.Bool.Decides.{nat_tests}
-use Rattle.std.proofs.lemmas.Grind.{flat_map-append}
-use Rattle.std.proofs.lemmas.List.{append-nil, append_assoc, same_from_push, take-append-drop}
-use Rattle.std.specs.List.{flat_map}
-use Rattle.std.proofs.lemmas.Option.{none-some, same_Some}
-use Rattle.yaml_scan_history.specs.scan_model.declared.name.yaml_encoding_t.{yaml_encoding_t}
-use Rattle.yaml_scan_history.specs.scan_model.declared.record.yaml_mark_t.{yaml_mark_t}
-use Rattle.yaml_scan_history.specs.scan_model.declared.problem.ScanFault.{ScanFault}
-use Rattle.yaml_scan_history.specs.scan_model.Marks.{byte, ends_break, line_at, mark_at}
+use Rattle.yaml_scan_laws_windows.proofs.Shared.{cases_Bool, true≢false, nat_tests, flat_map-append, append-nil, append_assoc, same_from_push, take-append-drop, flat_map, none-some, same_Some, yaml_encoding_t, yaml_mark_t, ScanFault, byte, ends_break, line_at, mark_at, Token, TokenBody, block_end, is_document_start, is_document_end, Kind, Lexeme, is_outside, is_start, is_value, is_end, cancels, depth_after, depth, in_flow, ended, Candidate, candidate, is_fresh, fresh, open_at, first_open, levels, entry_of, entries, placed, word_at, Next, Read, Fails, Ends, gap_behind, place_behind, kind_behind, begun_behind, word_behind, lexeme_behind, missed, lost_by, colon_missing_of, stale_before, indicator_misplaced, candidate_lost, text_wrong, stale_after, coming, next, extended, history, first_fault_or, no_start, first_lexeme, SpelledText, body_by, token_in, start_tokens, end_tokens, spell, all, handed, kept_of, remaining, fault_in, body_in, length-entries, Stands, history_stands, first_is, not_ended, all_ends, settled_stays, line_at-grows, IsCut, scan_of, fault_next, moved_token, moved_lexeme, take-length, le-ltb, offline}
 use Rattle.yaml_scan_history.specs.scan_model.Tokens as tokens
-use Rattle.yaml_scan_history.specs.scan_model.Tokens.{Token, TokenBody, block_end}
-use Rattle.yaml_scan_history.specs.scan_words.Indicators.{is_document_start, is_document_end}
-use Rattle.yaml_scan_history.specs.declared.kind.Kind.{Kind}
 use Rattle.yaml_scan_history.specs.declared.kind.Kind.TheVariants as kinds
-use Rattle.yaml_scan_history.specs.declared.lexeme.Lexeme.{Lexeme}
-use Rattle.yaml_scan_history.specs.Kinds.{is_outside, is_start, is_value, is_end, cancels, depth_after}
-use Rattle.yaml_scan_history.specs.History.{depth, in_flow, ended, Candidate, candidate, is_fresh, fresh, open_at, first_open, levels, entry_of, entries, placed}
-use Rattle.yaml_scan_history.specs.Words.{word_at}
-use Rattle.yaml_scan_history.specs.Next.{Next, Read, Fails, Ends, gap_behind, place_behind, kind_behind, begun_behind, word_behind, lexeme_behind, missed, lost_by, colon_missing_of, stale_before, indicator_misplaced, candidate_lost, text_wrong, stale_after, coming, next, extended, history, first_fault_or, no_start, first_lexeme}
-use Rattle.yaml_scan_history.specs.Remaining.{SpelledText, body_by, token_in, start_tokens, end_tokens, spell, all, handed, kept_of, remaining, offline, fault_in, body_in}
-use Rattle.yaml_scan_history.proofs.HistoryLemmas.{length-entries}
-use Rattle.yaml_scan_laws_order.proofs.HistoryForward.{Stands, history_stands, first_is, not_ended, all_ends, settled_stays}
-use Rattle.yaml_scan_laws_order.proofs.MarksForward.{line_at-grows}
-use Rattle.yaml_scan_laws_windows.specs.Cuts.{IsCut}
-use Rattle.yaml_scan_laws_windows.specs.Laws.{scan_of}
 use Rattle.yaml_scan_laws_windows.proofs.Cutting.{byte_past, last_byte, line_ended}
 use Rattle.yaml_scan_laws_windows.proofs.Coming.{moved_fault, place_there, stale_there}
-use Rattle.yaml_scan_laws_windows.proofs.Stepping.{has_read, read_kind, read_within, front_said, kept}
-use Rattle.yaml_scan_laws_windows.proofs.Fronts.{mark_zero, front_pair, next_open, history_more, EndsAt, reads_before, front_history, end_step, lexeme_zero}
-use Rattle.yaml_scan_laws_windows.proofs.Marking.{IsFree, mark_lexeme, mark_behind, MarkLies, mark_lies, mark_comes}
-use Rattle.yaml_scan_laws_windows.proofs.Turning.{MarkStands, free_of, colon_none, end_begun, end_mark_placed, end_byte, end_is, end_place, mark_there, start_stands, end_stands, stands_there}
+use Rattle.yaml_scan_laws_windows.proofs.Fronts.{has_read, read_kind, read_within, front_said, kept, mark_zero, front_pair, next_open, history_more, EndsAt, reads_before, front_history, end_step, lexeme_zero}
+use Rattle.yaml_scan_laws_windows.proofs.Turning.{IsFree, mark_lexeme, mark_behind, MarkLies, mark_lies, mark_comes, MarkStands, free_of, colon_none, end_begun, end_mark_placed, end_byte, end_is, end_place, mark_there, start_stands, end_stands, stands_there}
 use Rattle.yaml_scan_laws_windows.proofs.Rests.{AllCarry, carries}
-use Rattle.yaml_scan_laws_windows.proofs.Joining.{offline_told, told, spells_moved}
+use Rattle.yaml_scan_laws_windows.proofs.Joining.{offline_told, told, spells_moved, moved_entry, entered}
 use Rattle.yaml_scan_laws_windows.proofs.Failing.{after_none, some_none, outer_same}
-use Rattle.yaml_scan_laws_order.proofs.StreamForward.{fault_next}
-use Rattle.yaml_scan_laws_windows.specs.Moved.{moved_token, moved_lexeme}
 use Rattle.yaml_scan_laws_windows.proofs.Histories.{Bases, moved_lexemes}
-use Rattle.yaml_scan_laws_windows.proofs.Entering.{moved_entry, entered}
-use Rattle.std.proofs.Math.Seq.{take-length}
 
 -- ---- without a fault the stream's end is read
 
@@ -68,10 +39,7 @@ coming_goes (Some k) t h e =
 
 pub first_goes : (t : List ℕ) → next t [] ≡ Ends → ⊥
 unfolding next
-first_goes t e = read_ends first_lexeme e
-  where
-    read_ends : (l : Lexeme) → Read l ≡ Ends → ⊥
-    read_ends l e = cc
+first_goes t e = let reads : Read first_lexeme ≡ Ends = e in cc
 
 pub ends_ended : (t : List ℕ) (h : List Lexeme) → next t h ≡ Ends → ended h ≡ true
 ends_ended t [] e = absurd (first_goes t e)
@@ -167,10 +135,9 @@ last_line a b cut q l =
     let none : byte a (p + 1) ≡ 0 = byte_past a (p + 1) (omega (arith, push)) in
     let ended : ends_break a p ≡ true =
     line_ended (byte a (p - 2)) (byte a (p - 1)) (byte a p) (byte a (p + 1)) last (ap (λ c. c == 10) none) in
-    let grown = line_at-grows a q p (omega (arith, l)) in
     let more : line_at a (suc p) ≡ line_at a p + 1 = line_more a p ended in
     let same : line_at a (length a) ≡ line_at a (suc p) = ap (line_at a) (sym back) in
-    omega (arith, grown, more, same)
+    omega (arith, line_at-grows a q p (omega (arith, l)), more, same)
 
 read_early : (a b : List ℕ) → IsCut a b → (H : List Lexeme) → Stands a H → (l : Lexeme)
     → next a H ≡ Read l → is_end l.kind ≡ false → l.saved ≡ true → l.start.line < line_at a (length a)
@@ -183,9 +150,8 @@ read_early a b cut (x ∷ h) stands l e more saved =
     let goes : is_end r.kind ≡ false = ap is_end (sym (read_kind a H l r)) ∙ more in
     let start : l.start ≡ placed r.kind (place_behind a H) = ap (λ (y : Lexeme). y.start) (sym r.clean.is) ∙ (kept a (begun_behind r.kind a H) (word_behind r.kind a H)).start in
     let at : placed r.kind (place_behind a H) ≡ place_behind a H = rw goes refl in
-    let low = last_line a b cut (gap_behind a H).place within in
     let line = ap (λ (m : yaml_mark_t). m.line) (start ∙ at) in
-    omega (arith, low, line)
+    omega (arith, last_line a b cut (gap_behind a H).place within, line)
 
 all_early : (a b : List ℕ) → IsCut a b → (n : ℕ) (E : Lexeme) → EndsAt a n E → (j : ℕ) → j ≤ n
     → AllEarly (line_at a (length a)) (history a j)
@@ -205,9 +171,7 @@ candidate_early line (l ∷ h) a e c is =
       | inl i ↦ elim (cases_Bool l.saved) [
         | inl s ↦
             let same = same_Some _ _ (rw (i, s) at is) in
-            let line_is = ap (λ (y : Candidate). y.lexeme.start.line) same in
-            let low = a.0 s in
-            omega (arith, low, line_is)
+            omega (arith, a.0 s, ap (λ (y : Candidate). y.lexeme.start.line) same)
         | inr s ↦ elim (cases_Bool (cancels l.kind)) [
           | inl x ↦ absurd (none-some _ (rw (i, s, x) at is))
           | inr x ↦ candidate_early line h a.1 e c (rw (i, s, x) at is)
@@ -246,11 +210,7 @@ pub none_open : (H h : List Lexeme) → ((e : ℕ) → open_at e H ≡ None) →
 unfolding first_open
 none_open H [] shut = refl
 none_open H (l ∷ h) shut =
-    let before = none_open H h shut in
-    rw (before, shut l.depth, not_less (length h)) refl
-  where
-    not_less : (n : ℕ) → nat_lt n n ≡ false
-    not_less n = grind (arith, nat_tests)
+    rw (none_open H h shut, shut l.depth, le-ltb (length h) (length h) (omega arith)) refl
 
 -- ---- the mark there
 
@@ -362,11 +322,6 @@ handed_first t n H is shut =
     settled ∙ ap (λ h. take (length H) (entries h)) is ∙ ap (λ k. take k (entries H)) (sym (length-entries H)) ∙ take-length (entries H) in
     sym (take-append-drop (length H) (handed t)) ∙ ap (λ z. z ++ drop (length H) (handed t)) took
 
-all_tokens : (s : SpelledText)
-    → (offline s).tokens ≡ flat_map (spell s) (handed s.text) ++ kept_of (next s.text (all s.text)) (all s.text)
-unfolding remaining
-all_tokens s = refl
-
 -- ---- the law
 
 -- what the whole has up to a mark: its tokens, and its lexemes
@@ -392,6 +347,11 @@ pub record Begun (x : yaml_encoding_t) (a b : List ℕ) (K : Kind) (body : Token
   pub end : mark.end_mark ≡ mark_at (a ++ b) (length a + 3)
   pub over : last.body ≡ tokens.stream_end
 
+all_tokens : (s : SpelledText)
+    → (offline s).tokens ≡ flat_map (spell s) (handed s.text) ++ kept_of (next s.text (all s.text)) (all s.text)
+unfolding remaining
+all_tokens s = refl
+
 begun_at : (x : yaml_encoding_t) (a b : List ℕ) → IsCut a b → (m : MarkStands b 0)
     → (j : ℕ) (E : Lexeme) → EndsAt a j E → all a ≡ E ∷ history a j → next a (all a) ≡ Ends
     → (y : Lexeme) (h : List Lexeme) → history a j ≡ y ∷ h
@@ -412,8 +372,7 @@ begun_at x a b cut m j E at is over y h same front last are =
     let steps : history W (suc j) ≡ M ∷ H =
     history_more W j ∙ ap (λ z. extended (next W z) z) (front_history a b cut j E at j (omega arith) ∙ same) ∙ ap (λ z. extended z H) r.reads in
     let line_same : line_at a (length a) ≡ line_at W (length a) = ap (λ (k : yaml_mark_t). k.line) (mark_there a b cut) in
-    let below = r.below in
-    let low : line_at a (length a) ≤ M.reached.line = omega (arith, below, line_same) in
+    let low : line_at a (length a) ≤ M.reached.line = omega (arith, r.below, line_same) in
     let all_low : AllEarly (line_at a (length a)) (M ∷ H) = (λ saved. absurd (true≢false (sym saved ∙ r.lies.saved)), early) in
     let shut : (e : ℕ) → open_at e (M ∷ H) ≡ None = λ e. none_fresh (line_at a (length a)) (candidate e (M ∷ H)) M.reached low (λ c k. candidate_early (line_at a (length a)) (M ∷ H) all_low e c k) in
     let rest = drop (length (M ∷ H)) (handed W) in

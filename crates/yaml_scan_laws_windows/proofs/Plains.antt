@@ -1,16 +1,9 @@
 -- Plain scalars are the same in both texts.
 use Rattle.std.proofs.Common.{◌≡◌, ℕ, zero, suc, ◌+◌, ◌-◌, ◌<◌, ◌≤◌, ◌==◌, ◌&&◌, ◌||◌, nat_lt, if◌then◌else◌, Bool, true, false, not, List, [], ◌∷◌, length, Result, Ok, Err, refl, sym, ap, ◌∙◌, inl, inr, ◌⊎◌, arith, add_assoc}
-use Rattle.std.proofs.lemmas.Bool.{cases_Bool, cases_lt, eqb-true, ltb-true, true≢false}
-use Rattle.std.proofs.lemmas.Bool.Decides.{nat_tests}
-use Rattle.yaml_scan_history.specs.scan_model.Marks.{byte, break_of, break_width, column_at, is_blank}
-use Rattle.yaml_scan_history.specs.scan_model.Breaks.{break_value, is_document_indicator}
-use Rattle.yaml_scan_history.specs.scan_model.Wrong.{Wrong}
-use Rattle.yaml_scan_history.specs.scan_scalars.Pieces.{Piece, Kept, Blank, Break}
-use Rattle.yaml_scan_history.specs.scan_scalars.Plain.{is_bracket, is_indicator_byte, starts_plain, after_white, leads, PlainSpot, Ends, Takes, Faulty, ends_at, spot_at, Words, is_nothing, with_piece, words_from, words, PlainText, plain_with, plain_text, plain_at}
-use Rattle.yaml_scan_history.proofs.MarksLemmas.{within}
-use Rattle.yaml_scan_laws_windows.specs.Alike.{Alike, is_onward}
+use Rattle.yaml_scan_laws_windows.proofs.Shared.{cases_Bool, cases_lt, eqb-true, ltb-true, true≢false, nat_tests, byte, break_of, break_width, column_at, is_blank, break_value, is_document_indicator, Wrong, Piece, Kept, Blank, Break, is_bracket, is_indicator_byte, starts_plain, after_white, leads, PlainSpot, Takes, Faulty, ends_at, spot_at, Words, is_nothing, with_piece, words_from, words, PlainText, plain_with, plain_text, plain_at, within, Alike, is_onward}
+use Rattle.yaml_scan_history.specs.scan_scalars.Plain.{Ends}
 use Rattle.yaml_scan_laws_windows.proofs.Bytes.{IsQuiet, quiet_edge, quiet_break, width_alike, end_alike, next_byte, next_end, column_alike, indicator_alike, and_alike, or_alike}
-use Rattle.yaml_scan_laws_windows.proofs.Moving.{moved_wrong, moved_by, At, at_step, at_break}
+use Rattle.yaml_scan_laws_windows.proofs.Gaps.{moved_wrong, moved_by, At, at_step, at_break, OkIs, ReadAlike}
 
 three_onward : (b c e : ℕ) → break_of b c e ≡ 3 → (is_onward b ≡ true) × (is_onward c ≡ true)
 unfolding break_of is_onward
@@ -249,8 +242,7 @@ from_moved d q x (Err e) = refl
 
 -- the words are the same, and end within
 abbrev pub PlacedIn : ℕ → Result Words Wrong → Type 0
-PlacedIn m (Ok w) = w.place ≤ m
-PlacedIn m (Err e) = Unit {0}
+PlacedIn m r = OkIs (λ (w : Words). w.place ≤ m) r
 
 from_placed : (m q : ℕ) (x : Piece) (r : Result Words Wrong) → PlacedIn m r
     → PlacedIn m (words_from x q r)
@@ -267,9 +259,8 @@ from_placed m q (Break b) (Ok w) h =
     ]
 from_placed m q x (Err e) h = tt
 
-record WordsAlike (d m : ℕ) (r s : Result Words Wrong) : Type 0 where
-  pub same : s ≡ moved_by (moved_words d) d r
-  pub placed : PlacedIn m r
+abbrev WordsAlike : ℕ → ℕ → Result Words Wrong → Result Words Wrong → Type 0
+WordsAlike d m r s = ReadAlike (λ (w : Words). w.place ≤ m) (moved_words d) d r s
 
 abbrev Told : List ℕ → List ℕ → ℕ → ℕ → Bool → ℕ → ℕ → ℕ → ℕ → Type 0
 Told t u d m flow level p n o = WordsAlike d m (words n flow level t p) (words o flow level u (d + p))
@@ -353,8 +344,7 @@ plain_moved d (Ok w) = refl
 plain_moved d (Err e) = refl
 
 abbrev pub PlainIn : ℕ → Result PlainText Wrong → Type 0
-PlainIn m (Ok x) = x.place ≤ m
-PlainIn m (Err e) = Unit {0}
+PlainIn m r = OkIs (λ (x : PlainText). x.place ≤ m) r
 
 plain_in : (m : ℕ) (r : Result Words Wrong) → PlacedIn m r → PlainIn m (plain_with plain_text r)
 plain_in m (Ok w) h = h

@@ -1,17 +1,11 @@
 -- Quoted scalars are the same in both texts, unless they are open where the first one ends.
 use Rattle.std.proofs.Common.{◌≡◌, ◌≢◌, ℕ, zero, suc, ◌+◌, ◌*◌, ◌<◌, ◌≤◌, ◌==◌, ◌&&◌, ◌||◌, nat_lt, Bool, true, false, List, length, Option, Some, None, option_and_then, option_map, Result, Ok, Err, refl, sym, ap, subst, ◌∙◌, inl, inr, ◌⊎◌, arith, add_assoc}
-use Rattle.std.proofs.lemmas.Bool.{cases_Bool, cases_lt, and_parts, eqb-true, ltb-true}
-use Rattle.std.proofs.lemmas.Bool.Decides.{nat_tests}
+use Rattle.yaml_scan_laws_windows.proofs.Shared.{cases_Bool, cases_lt, and_parts, eqb-true, ltb-true, nat_tests, byte, break_width, column_at, is_blank, is_blank_or_end, is_document_indicator, Wrong, Piece, value, QuotedSpot, Closing, Pieces, Bad, hex_digit, hex_value, hex_len, is_scalar, coded, simple_escape, escaped, escape_at, quote_at, standing_at, with_front, pieces, quoted_at, in_quotes, Alike, is_onward, none-some}
 use Rattle.yaml_scan_history.specs.scan_model.declared.problem.Problem.TheVariants as problems
 use Rattle.yaml_scan_history.specs.scan_model.declared.problem.Context.TheVariants as contexts
-use Rattle.yaml_scan_history.specs.scan_model.Marks.{byte, break_width, column_at, is_blank, is_blank_or_end}
-use Rattle.yaml_scan_history.specs.scan_model.Breaks.{is_document_indicator}
-use Rattle.yaml_scan_history.specs.scan_model.Wrong.{Wrong}
-use Rattle.yaml_scan_history.specs.scan_scalars.Pieces.{Piece, value}
-use Rattle.yaml_scan_history.specs.scan_scalars.Quoted.{QuotedSpot, Closing, Pieces, Bad, hex_digit, hex_value, hex_len, is_scalar, coded, simple_escape, escaped, escape_at, quote_at, standing_at, with_front, pieces, valued, quoted_at, in_quotes}
-use Rattle.yaml_scan_laws_windows.specs.Alike.{Alike, is_onward}
+use Rattle.yaml_scan_history.specs.scan_scalars.Quoted.{valued}
 use Rattle.yaml_scan_laws_windows.proofs.Bytes.{width_alike, next_byte, indicator_alike, off_cases, onward_some}
-use Rattle.yaml_scan_laws_windows.proofs.Moving.{moved_wrong, moved_by, At, at_step, at_break}
+use Rattle.yaml_scan_laws_windows.proofs.Gaps.{moved_wrong, moved_by, At, at_step, at_break, OkIs}
 use Rattle.yaml_scan_laws_windows.proofs.Plains.{value_alike, left_step, byte_at}
 
 abbrev pub moved_standing : ℕ → QuotedSpot → QuotedSpot
@@ -53,11 +47,8 @@ digit_in t u d m p h a l None e = tt
 digit_in t u d m p h a l (Some v) e =
     elim (cases_Bool (is_onward (byte t p))) [
       | inl on ↦ (a.onward p l on, at_step t u d m p a l (onward_some _ on))
-      | inr off ↦ absurd (some_none v (e ∙ no_digit (byte t p) off))
+      | inr off ↦ absurd (none-some v (sym (e ∙ no_digit (byte t p) off)))
     ]
-  where
-    some_none : (v : ℕ) → Some v ≡ None → ⊥
-    some_none v e = cc
 
 hex_step : (t u : List ℕ) (d m p : ℕ) (v w : Option ℕ) → Alike t u d m → w ≡ v
     → HexIn t u d m p v
@@ -129,9 +120,8 @@ escape_alike t u d m p a l slash =
           elim (cases_Bool (nat_lt 0 (hex_len (byte t (p + 1))))) [
             | inl i ↦
                 let some = long_onward (byte t (p + 1)) (ltb-true _ _ i) in
-                let most = a.onward (p + 1) more some in
                 let e : p + 1 + 1 ≡ p + 2 = omega arith in
-                let second : p + 2 < m = omega (arith, most) in
+                let second : p + 2 < m = omega (arith, a.onward (p + 1) more some) in
                 let at : At t u d m (p + 2) = rw (← e) (at_step t u d m (p + 1) a more (onward_some _ some)) in
                 let n = hex_len (byte t (p + 1)) in
                 let (same, lies) = hex_alike n t u d m (p + 2) a second at in
@@ -179,7 +169,7 @@ closes_alike t u d m p quote a l on =
           rw (h, same ∙ h, f) record { same = refl; lies = (at, omega arith, here, there) }
     ]
 
-pub zero_false : (b : ℕ) → (b == 0) ≡ false → 0 < b
+zero_false : (b : ℕ) → (b == 0) ≡ false → 0 < b
 zero_false b h = grind (arith, nat_tests)
 
 stands_alike : (t u : List ℕ) (d m quote p : ℕ) → Alike t u d m → p < m → IsQuote quote
@@ -248,8 +238,7 @@ torn_by f u d m r s errs t = record {
 }
 
 abbrev pub PairIn : {A : Type 0} → ℕ → Result (A × ℕ) Wrong → Type 0
-PairIn m (Ok x) = x.1 ≤ m
-PairIn m (Err w) = Unit {0}
+PairIn m r = OkIs (λ x. x.1 ≤ m) r
 
 record PiecesAlike (u : List ℕ) (d m : ℕ) (r s : Result (List Piece × ℕ) Wrong) : Type 0 where
   pub carried : Carried u d m (moved_pair d) r s
@@ -288,11 +277,6 @@ end_stands : (quote : ℕ) (u : List ℕ) (p : ℕ) → byte u p ≡ 0
 unfolding standing_at
 end_stands quote u p h = rw (end_no_mark u p h, h) refl
 
-mark_standing : (quote : ℕ) (u : List ℕ) (p : ℕ) → is_document_indicator u p ≡ true
-    → standing_at quote u p ≡ in_quotes problems.DocumentIndicator p
-unfolding standing_at
-mark_standing quote u p h = rw h refl
-
 -- where the first text ends, either ends, or a mark of documents stands in the other
 record Tears (u : List ℕ) (d m : ℕ) (s r : QuotedSpot) : Type 0 where
   pub mark : is_document_indicator u (d + m) ≡ true
@@ -306,6 +290,11 @@ record Tears (u : List ℕ) (d m : ℕ) (s r : QuotedSpot) : Type 0 where
 abbrev Spotted : List ℕ → List ℕ → ℕ → ℕ → ℕ → QuotedSpot → QuotedSpot → Type 0
 Spotted t u d m p s r = StandsAlike t u d m p s r ⊎ Tears u d m s r
 
+mark_standing : (quote : ℕ) (u : List ℕ) (p : ℕ) → is_document_indicator u p ≡ true
+    → standing_at quote u p ≡ in_quotes problems.DocumentIndicator p
+unfolding standing_at
+mark_standing quote u p h = rw h refl
+
 stands_there : (t u : List ℕ) (d m quote p : ℕ) → Alike t u d m → p ≤ m → IsQuote quote
     → Spotted t u d m p (standing_at quote t p) (standing_at quote u (d + p))
 stands_there t u d m quote p a l q =
@@ -317,8 +306,7 @@ stands_there t u d m quote p a l q =
           elim a.stops [
             | inl z ↦
                 let there : byte u (d + p) ≡ 0 = rw e z in
-                let others = end_stands quote u (d + p) there in
-                inl (rw (mine, others) record { same = refl; lies = tt })
+                inl (rw (mine, end_stands quote u (d + p) there) record { same = refl; lies = tt })
             | inr i ↦ inr record {
               mark = i;
               wrong = record { problem = problems.EndOfStream; context = contexts.QuotedScalar; place = p };
@@ -333,19 +321,6 @@ stands_there t u d m quote p a l q =
 
 abbrev Told : List ℕ → List ℕ → ℕ → ℕ → ℕ → ℕ → ℕ → ℕ → Type 0
 Told t u d m quote p n o = PiecesAlike u d m (pieces n quote t p) (pieces o quote u (d + p))
-
-pieces_closed : (t u : List ℕ) (d m quote p n o : ℕ) → At t u d m (p + 1)
-    → standing_at quote t p ≡ Closing → standing_at quote u (d + p) ≡ Closing
-    → Told t u d m quote p (suc n) (suc o)
-unfolding pieces
-pieces_closed t u d m quote p n o at e f =
-    rw (e, f, add_assoc d p 1) record { carried = inl refl; placed = at.inside }
-
-pieces_bad : (t u : List ℕ) (d m quote p n o : ℕ) (w : Wrong)
-    → standing_at quote t p ≡ Bad w → standing_at quote u (d + p) ≡ Bad (moved_wrong d w)
-    → Told t u d m quote p (suc n) (suc o)
-unfolding pieces
-pieces_bad t u d m quote p n o w e f = rw (e, f) record { carried = inl refl; placed = tt }
 
 pieces_torn : (t u : List ℕ) (d m quote p n o : ℕ)
     → (x : Tears u d m (standing_at quote t p) (standing_at quote u (d + p)))
@@ -375,11 +350,11 @@ pieces_by k t u d m quote p n o s a q here room fuel more e (inr f) =
 pieces_by k t u d m quote p n o Closing a q here room fuel more e (inl f) =
     let (x, en) = left_step p n (length t) fuel here.short in
     let (y, eo) = left_step (d + p) o (length u) more here.long in
-    rw (en, eo) (pieces_closed t u d m quote p x y f.lies e f.same)
+    rw (en, eo) (unfold pieces in rw (e, f.same, add_assoc d p 1) record { carried = inl refl; placed = f.lies.inside })
 pieces_by k t u d m quote p n o (Bad w) a q here room fuel more e (inl f) =
     let (x, en) = left_step p n (length t) fuel here.short in
     let (y, eo) = left_step (d + p) o (length u) more here.long in
-    rw (en, eo) (pieces_bad t u d m quote p x y w e f.same)
+    rw (en, eo) (unfold pieces in rw (e, f.same) record { carried = inl refl; placed = tt })
 pieces_by zero t u d m quote p n o (Pieces ps r) a q here room fuel more e (inl f) =
     let (at, further, mine, others) = f.lies in absurd (omega (arith, room, mine))
 pieces_by (suc k) t u d m quote p n o (Pieces ps r) a q here room fuel more e (inl f) =

@@ -1,28 +1,12 @@
 -- A front with a fault: the whole has the same lexemes and tokens.
 use Rattle.std.proofs.Common.{◌≡◌, ◌≢◌, ℕ, zero, suc, ◌<◌, false, List, [], ◌∷◌, ◌++◌, map, length, Some, refl, sym, ap, subst, ◌∙◌, inl, inr, ◌⊎◌}
-use Rattle.std.proofs.lemmas.Bool.{cases_Bool}
-use Rattle.std.proofs.lemmas.List.{append-nil}
-use Rattle.yaml_scan_history.specs.scan_model.declared.name.yaml_encoding_t.{yaml_encoding_t}
-use Rattle.yaml_scan_history.specs.scan_model.declared.problem.ScanFault.{ScanFault}
-use Rattle.yaml_scan_history.specs.scan_model.Faults.{Fault}
-use Rattle.yaml_scan_history.specs.scan_model.Problems.{scanner_fault}
-use Rattle.yaml_scan_history.specs.declared.lexeme.Lexeme.{Lexeme}
-use Rattle.yaml_scan_history.specs.Kinds.{is_end}
-use Rattle.yaml_scan_history.specs.Next.{Next, Read, Fails, Ends, kind_behind, next, extended, step, history}
-use Rattle.std.specs.List.{flat_map}
-use Rattle.std.proofs.lemmas.Option.{same_Some}
-use Rattle.yaml_scan_history.specs.Remaining.{SpelledText, spell, all, fault_in}
-use Rattle.yaml_scan_laws_order.proofs.HistoryForward.{Stands, history_stands, last_is_all}
-use Rattle.yaml_scan_laws_windows.specs.Cuts.{IsCut}
-use Rattle.yaml_scan_laws_windows.specs.Moved.{moved_token}
-use Rattle.yaml_scan_laws_windows.specs.Laws.{scan_of, RefusedFrontsAreScanned}
+use Rattle.yaml_scan_laws_windows.proofs.Shared.{cases_Bool, append-nil, yaml_encoding_t, ScanFault, Fault, scanner_fault, Lexeme, is_end, Next, Read, Fails, Ends, kind_behind, next, extended, step, history, flat_map, same_Some, SpelledText, spell, all, fault_in, Stands, history_stands, last_is_all, IsCut, moved_token, scan_of, RefusedFrontsAreScanned, fault_next}
 use Rattle.yaml_scan_laws_windows.proofs.Fronts.{next_open, next_over, history_more, front_next}
 use Rattle.yaml_scan_laws_windows.proofs.Rests.{AllCarry}
 use Rattle.yaml_scan_laws_windows.proofs.Joining.{told, offline_told, parted}
 use Rattle.yaml_scan_laws_windows.proofs.Opening.{coming_goes, front_carried, lexemes_zero, tokens_zero, no_bases, no_entries, all_is}
 use Rattle.yaml_scan_laws_windows.proofs.Windows.{made}
 use Rattle.yaml_scan_laws_windows.proofs.Failing.{some_none, fails_not, reads_not, fails_same, fails_there, fails_back}
-use Rattle.yaml_scan_laws_order.proofs.StreamForward.{fault_next}
 
 -- ---- all of the front's lexemes are all of the whole's
 
@@ -45,8 +29,7 @@ ends_reads e = cc
 end_never : (a : List ℕ) (f : ScanFault) → next a (all a) ≡ Fails f → (j : ℕ)
     → next a (history a j) ≡ Ends → ⊥
 end_never a f fails j e =
-    let same = last_is_all a j (λ l r. ends_reads (sym e ∙ r)) in
-    ends_not (sym e ∙ ap (next a) (sym same) ∙ fails)
+    ends_not (sym e ∙ ap (next a) (sym (last_is_all a j (λ l r. ends_reads (sym e ∙ r)))) ∙ fails)
 
 step_open : (a : List ℕ) (f : ScanFault) → next a (all a) ≡ Fails f → (j : ℕ) (l : Lexeme)
     → next a (history a j) ≡ Read l → is_end l.kind ≡ false
@@ -105,10 +88,6 @@ failing t x h more never = by (next t (x ∷ h)) refl
     by (Fails g) e = (g, e)
     by Ends e = absurd (coming_goes (kind_behind t (x ∷ h)) t (x ∷ h) (sym (next_open t x h more) ∙ e))
 
-first_fails : (t : List ℕ) (f : ScanFault) → next t [] ≢ Fails f
-unfolding next
-first_fails t f e = fails_not (sym e)
-
 -- a front with a fault, and the whole's
 pub record Failing (x : yaml_encoding_t) (a b : List ℕ) (f : ScanFault) : Type 0 where
   pub all_same : all (a ++ b) ≡ all a
@@ -116,6 +95,10 @@ pub record Failing (x : yaml_encoding_t) (a b : List ℕ) (f : ScanFault) : Type
   pub fault : ScanFault
   pub fails : next (a ++ b) (all a) ≡ Fails fault
   pub same : (f.problem_mark.index < length a) ⊎ (fault.problem_mark.index < length a) → fault ≡ f
+
+first_fails : (t : List ℕ) (f : ScanFault) → next t [] ≢ Fails f
+unfolding next
+first_fails t f e = fails_not (sym e)
 
 pub front_fails : (x : yaml_encoding_t) (a b : List ℕ) → IsCut a b → (f : ScanFault)
     → next a (all a) ≡ Fails f → Failing x a b f

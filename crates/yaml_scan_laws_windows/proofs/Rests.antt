@@ -1,37 +1,16 @@
 -- The lexemes of the rest are the last ones of the whole, moved.
 use Rattle.std.proofs.Common.{◌≡◌, ℕ, zero, suc, ◌+◌, ◌-◌, ◌<◌, ◌≤◌, ◌==◌, ◌&&◌, nat_lt, true, false, List, [], ◌∷◌, ◌++◌, length, Some, None, Result, Ok, Err, refl, sym, ap, subst, ◌∙◌, inl, inr, ◌⊎◌, ◌≢◌, arith}
-use Rattle.std.proofs.lemmas.Bool.{cases_Bool}
-use Rattle.std.proofs.lemmas.Bool.Decides.{nat_tests}
-use Rattle.yaml_scan_history.specs.scan_model.declared.name.yaml_encoding_t.{yaml_encoding_t}
-use Rattle.yaml_scan_history.specs.scan_model.declared.record.yaml_mark_t.{yaml_mark_t}
-use Rattle.yaml_scan_history.specs.scan_model.Tokens.{TokenBody}
-use Rattle.yaml_scan_history.specs.scan_model.Marks.{byte, line_at, column_at, mark_at}
-use Rattle.yaml_scan_history.specs.scan_model.Wrong.{Wrong}
-use Rattle.yaml_scan_history.specs.declared.kind.Kind.{Kind}
+use Rattle.yaml_scan_laws_windows.proofs.Shared.{cases_Bool, yaml_encoding_t, yaml_mark_t, TokenBody, byte, line_at, column_at, mark_at, Wrong, Kind, Lexeme, is_end, cancels, reached, depth, in_flow, candidate, has, found_by, levels, key_allowed, WordText, kind_at, word_at, Next, Read, Fails, Ends, first_lexeme, gap_behind, kind_behind, begun_behind, word_behind, lexeme_behind, coming, next, extended, step, history, SpelledText, body_of_word, body_by, body_in, all, gap_place, Stands, history_stands, not_ended, all_ends, stays_all, last_is_all, Alike, IsCut, moved_mark, moved_lexeme, moved_next, ne_eqb, lt-ltb, stale_before}
 use Rattle.yaml_scan_history.specs.declared.kind.Kind.TheVariants as kinds
-use Rattle.yaml_scan_history.specs.declared.lexeme.Lexeme.{Lexeme}
-use Rattle.yaml_scan_history.specs.Kinds.{is_end, cancels}
-use Rattle.yaml_scan_history.specs.History.{reached, depth, in_flow, candidate, has, found_by, levels, key_allowed}
-use Rattle.yaml_scan_history.specs.Words.{WordText, kind_at, word_at}
-use Rattle.yaml_scan_history.specs.Next.{Next, Read, Fails, Ends, first_lexeme, gap_behind, kind_behind, begun_behind, word_behind, lexeme_behind, stale_before, coming, next, extended, step, history}
-use Rattle.yaml_scan_history.specs.Remaining.{SpelledText, body_of_word, body_by, body_in, all}
-use Rattle.yaml_scan_history.proofs.PlacesLemmas.{gap_place}
-use Rattle.yaml_scan_laws_order.proofs.HistoryForward.{Stands, history_stands, not_ended, all_ends, stays_all, last_is_all}
-use Rattle.yaml_scan_laws_windows.specs.Alike.{Alike}
-use Rattle.yaml_scan_laws_windows.specs.Cuts.{IsCut}
-use Rattle.yaml_scan_laws_windows.specs.Moved.{moved_mark, moved_lexeme, moved_next}
 use Rattle.yaml_scan_laws_windows.proofs.Bytes.{IsQuiet}
-use Rattle.yaml_scan_laws_windows.proofs.Gaps.{quiet_gap}
-use Rattle.yaml_scan_laws_windows.proofs.Moving.{moved_by}
+use Rattle.yaml_scan_laws_windows.proofs.Gaps.{quiet_gap, moved_by}
 use Rattle.yaml_scan_laws_windows.proofs.Quotes.{end_no_mark}
 use Rattle.yaml_scan_laws_windows.proofs.Words.{moved_word}
 use Rattle.yaml_scan_laws_windows.proofs.Cutting.{first_mark, rest_columns, rest_lines, rest_alike, rest_end}
 use Rattle.yaml_scan_laws_windows.proofs.Histories.{Bases, moved_lexemes}
 use Rattle.yaml_scan_laws_windows.proofs.Coming.{Pair, abreast, pair_on, Said, lexeme_there}
-use Rattle.yaml_scan_laws_windows.proofs.Stepping.{rest_said, rest_comes, HasRead, has_read, read_kind, kept}
-use Rattle.yaml_scan_laws_windows.proofs.Fronts.{next_open, next_over, history_more}
-use Rattle.yaml_scan_laws_windows.proofs.Marking.{IsMark, mark_lexeme, mark_reads, none_left}
-use Rattle.yaml_scan_laws_windows.proofs.Turning.{MarkStands}
+use Rattle.yaml_scan_laws_windows.proofs.Fronts.{rest_said, rest_comes, HasRead, has_read, read_kind, kept, next_open, next_over, history_more}
+use Rattle.yaml_scan_laws_windows.proofs.Turning.{IsMark, mark_lexeme, mark_reads, none_left, MarkStands}
 
 -- ---- what lexemes carry
 
@@ -94,12 +73,12 @@ first_gap : (a b : List ℕ) → IsCut a b → (gap_behind b (first_lexeme ∷ [
 unfolding candidate
 first_gap a b cut = ap (λ (g : _). g.place) (quiet_gap (length b) false true b 0 (quiet_mark (byte b 0) (first_mark b cut.mark)))
 
+abbrev pub rest_base : Kind → List ℕ → List Lexeme
+rest_base K b = mark_lexeme K b 0 ∷ first_lexeme ∷ []
+
 stale_first : (b : List ℕ) → stale_before b (first_lexeme ∷ []) ≡ None
 unfolding candidate
 stale_first b = refl
-
-abbrev pub rest_base : Kind → List ℕ → List Lexeme
-rest_base K b = mark_lexeme K b 0 ∷ first_lexeme ∷ []
 
 first_reads : (a b : List ℕ) → IsCut a b → (m : MarkStands b 0)
     → next b (first_lexeme ∷ []) ≡ Read (mark_lexeme m.kind b 0)
@@ -129,13 +108,7 @@ pub no_candidates : (l : Lexeme) (H : List Lexeme) → l.depth ≡ 0 → l.saved
     → cancels l.kind ≡ true → (e : ℕ) → candidate e (l ∷ H) ≡ None
 unfolding candidate
 no_candidates l H z s c zero = rw (z, s, c) refl
-no_candidates l H z s c (suc e) = rw (z, not_zero e, some e) refl
-  where
-    not_zero : (e : ℕ) → (0 == suc e) ≡ false
-    not_zero e = grind (arith, nat_tests)
-
-    some : (e : ℕ) → nat_lt 0 (suc e) ≡ true
-    some e = grind (arith, nat_tests)
+no_candidates l H z s c (suc e) = rw (z, ne_eqb 0 (suc e) (omega arith), lt-ltb 0 (suc e) (omega arith)) refl
 
 pub mark_candidate : (K : Kind) (body : TokenBody) → IsMark K body → (t : List ℕ) (p : ℕ)
     (H : List Lexeme) (e : ℕ) → candidate e (mark_lexeme K t p ∷ H) ≡ None
@@ -335,9 +308,8 @@ pub whole : (x : yaml_encoding_t) (a b : List ℕ) (k : ℕ) (B C : List Lexeme)
     → (i : ℕ) → history b i ≡ B → (n : ℕ) → history (a ++ b) n ≡ C → Whole x a b B C
 whole x a b k B C base i begins n e =
     let j = length b + 2 in
-    let far = further_is j i in
     let g = grown x a b k B C base i begins n e j in
-    let mine = sym (stays_all b (further j i) (omega (arith, far))) ∙ g.mine in
+    let mine = sym (stays_all b (further j i) (omega (arith, further_is j i))) ∙ g.mine in
     let stands : Stands b (g.lexemes ++ B) = subst (Stands b) g.mine (history_stands b (further j i)) in
     let comes = rest_next a b k B C base g.lexemes stands ∙ ap (λ h. moved_next (length a) (line_at (a ++ b) (length a)) (next b h)) (sym mine) in
     let never = moved_never (length a) (line_at (a ++ b) (length a)) (next b (all b)) (all_ends b) in

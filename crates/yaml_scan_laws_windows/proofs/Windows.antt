@@ -1,28 +1,10 @@
 -- The law of windows, for a scanner.
 use Rattle.std.proofs.Common.{◌≡◌, ℕ, ◌-◌, true, List, [], ◌∷◌, ◌++◌, map, length, Option, None, option_map, refl, sym, ap, ◌∙◌, add-zero}
-use Rattle.std.proofs.lemmas.List.{append-nil, append_assoc}
-use Rattle.std.specs.List.{flat_map}
-use Rattle.yaml_scan_history.specs.scan_model.declared.name.yaml_encoding_t.{yaml_encoding_t}
-use Rattle.yaml_scan_history.specs.scan_model.declared.record.yaml_mark_t.{yaml_mark_t}
-use Rattle.yaml_scan_history.specs.scan_model.Tokens.{stream_start, document_start, stream_end, Token, TokenBody}
-use Rattle.yaml_scan_history.specs.scan_model.Faults.{Fault}
-use Rattle.yaml_scan_history.specs.scan_model.Marks.{line_at, mark_at}
-use Rattle.yaml_scan_history.specs.scan_words.Indicators.{is_document_start}
-use Rattle.yaml_scan_history.specs.declared.kind.Kind.{Kind}
+use Rattle.yaml_scan_laws_windows.proofs.Shared.{append-nil, append_assoc, flat_map, yaml_encoding_t, yaml_mark_t, stream_start, document_start, stream_end, Token, TokenBody, Fault, line_at, mark_at, is_document_start, Kind, depth, candidate, levels, entries, word_at, Next, Read, Fails, Ends, first_lexeme, next, SpelledText, body_by, token_in, spell, all, fault_in, Remaining, offline, all_ends, IsCut, moved_mark, moved_token, moved_fault, moved_next, scan_of, WindowsAreScanned, joined, fault_next}
 use Rattle.yaml_scan_history.specs.declared.kind.Kind.TheVariants as kinds
-use Rattle.yaml_scan_history.specs.History.{depth, candidate, levels, entries}
-use Rattle.yaml_scan_history.specs.Words.{word_at}
-use Rattle.yaml_scan_history.specs.Next.{Next, Read, Fails, Ends, first_lexeme, next}
-use Rattle.yaml_scan_history.specs.Remaining.{SpelledText, body_by, token_in, spell, all, fault_in, Remaining, offline}
-use Rattle.yaml_scan_laws_order.proofs.HistoryForward.{all_ends}
-use Rattle.yaml_scan_laws_windows.specs.Cuts.{IsCut}
-use Rattle.yaml_scan_laws_windows.specs.Moved.{moved_mark, moved_token, moved_fault, moved_next}
-use Rattle.yaml_scan_laws_windows.specs.Laws.{scan_of, WindowsAreScanned, joined}
-use Rattle.yaml_scan_laws_windows.proofs.Marking.{IsMark, mark_lexeme}
-use Rattle.yaml_scan_laws_windows.proofs.Turning.{MarkStands, mark_stands, mark_there, start_stands}
+use Rattle.yaml_scan_laws_windows.proofs.Turning.{IsMark, mark_lexeme, MarkStands, mark_stands, mark_there, start_stands}
 use Rattle.yaml_scan_laws_windows.proofs.Rests.{rest_base, whole_base, rest_begins, rest_bases, rest_ground, rest_marks, whole}
 use Rattle.yaml_scan_laws_windows.proofs.Joining.{told, offline_told, parted}
-use Rattle.yaml_scan_laws_order.proofs.StreamForward.{fault_next}
 use Rattle.yaml_scan_laws_windows.proofs.Opening.{Begun, begun_by, fault_none}
 
 -- ---- the tokens where the rest begins

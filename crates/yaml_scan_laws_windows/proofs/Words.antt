@@ -1,35 +1,18 @@
 -- Lexemes of every kind are the same in both texts.
 use Rattle.std.proofs.Common.{◌≡◌, ℕ, ◌+◌, ◌<◌, ◌==◌, ◌&&◌, nat_lt, if◌then◌else◌, Bool, true, false, List, Some, None, Result, Ok, Err, refl, sym, ap, ◌∙◌, inl, inr, ◌⊎◌, arith}
-use Rattle.std.proofs.lemmas.Bool.{cases_Bool, true≢false}
-use Rattle.std.proofs.Math.Bool.{or-true}
-use Rattle.std.proofs.lemmas.Option.{none-some, same_Some}
+use Rattle.yaml_scan_laws_windows.proofs.Shared.{cases_Bool, true≢false, or-true, none-some, same_Some, TokenBody, byte, break_of, break_width, column_at, is_blank, is_blank_or_end, Wrong, is_document_start, is_document_end, anchor_at, TagText, tag_at, DirectiveText, directive_at, double_quoted_at, single_quoted_at, PlainText, starts_plain, plain_at, BlockText, block_at, style_at, Kind, is_end, indicator_of, kind_at, WordText, carrying, valued, tagged, directed, blocked, plainly, word_at, Alike, is_onward, blank_cases}
 use Rattle.yaml_scan_history.specs.scan_model.declared.name.yaml_scalar_style_t.{yaml_scalar_style_t}
 use Rattle.yaml_scan_history.specs.scan_model.declared.name.yaml_scalar_style_t.TheVariants as styles
 use Rattle.yaml_scan_history.specs.scan_model.declared.problem.Context.TheVariants as contexts
 use Rattle.yaml_scan_history.specs.scan_model.Tokens as tokens
-use Rattle.yaml_scan_history.specs.scan_model.Tokens.{TokenBody}
-use Rattle.yaml_scan_history.specs.scan_model.Marks.{byte, break_of, break_width, column_at, is_blank, is_blank_or_end}
-use Rattle.yaml_scan_history.specs.scan_model.Wrong.{Wrong}
-use Rattle.yaml_scan_history.specs.scan_words.Indicators.{is_document_start, is_document_end}
-use Rattle.yaml_scan_history.specs.scan_words.Anchors.{anchor_at}
-use Rattle.yaml_scan_history.specs.scan_words.Tags.{TagText, tag_at}
-use Rattle.yaml_scan_history.specs.scan_words.Directives.{DirectiveText, directive_at}
-use Rattle.yaml_scan_history.specs.scan_scalars.Quoted.{double_quoted_at, single_quoted_at}
-use Rattle.yaml_scan_history.specs.scan_scalars.Plain.{PlainText, starts_plain, plain_at}
-use Rattle.yaml_scan_history.specs.scan_block.Block.{BlockText, block_at, style_at}
-use Rattle.yaml_scan_history.specs.declared.kind.Kind.{Kind}
 use Rattle.yaml_scan_history.specs.declared.kind.Kind.TheVariants as kinds
-use Rattle.yaml_scan_history.specs.Kinds.{is_end}
-use Rattle.yaml_scan_history.specs.Words.{indicator_of, kind_at, WordText, carrying, valued, tagged, directed, blocked, plainly, word_at}
-use Rattle.yaml_scan_laws_windows.specs.Alike.{Alike, is_onward}
 use Rattle.yaml_scan_laws_windows.proofs.Bytes.{column_alike, start_alike, finish_alike, next_end, off_cases, off_break, onward_some}
-use Rattle.yaml_scan_laws_windows.proofs.Moving.{moved_by}
+use Rattle.yaml_scan_laws_windows.proofs.Gaps.{moved_by}
 use Rattle.yaml_scan_laws_windows.proofs.Plains.{moved_plain, plain_alike, starts_alike}
 use Rattle.yaml_scan_laws_windows.proofs.Quotes.{Carried, torn_by, moved_pair, quoted_alike}
 use Rattle.yaml_scan_laws_windows.proofs.Names.{moved_tag, anchor_alike, tag_alike}
 use Rattle.yaml_scan_laws_windows.proofs.Directives.{moved_directive, directive_alike}
 use Rattle.yaml_scan_laws_windows.proofs.Blocks.{moved_block, block_alike}
-use Rattle.yaml_scan_history.proofs.WordsRunsLemmas.{blank_cases}
 
 -- ---- kinds
 
@@ -65,12 +48,10 @@ kind_alike t u d m p flow a l =
     let column = column_alike t u d m p a (omega (arith, l)) in
     let zero : (byte u (d + p) == 0) ≡ (byte t p == 0) = ap (λ b. b == 0) b in
     let percent : (byte u (d + p) == 37 && column_at u (d + p) == 0) ≡ (byte t p == 37 && column_at t p == 0) = rw (column, b) refl in
-    let start = start_alike t u d m p a l in
-    let finish = finish_alike t u d m p a l in
     let plain = starts_alike t u d m p flow a l in
     let indicator : indicator_of flow (is_blank_or_end u (d + p + 1)) (byte u (d + p)) ≡ indicator_of flow (is_blank_or_end t (p + 1)) (byte t p) =
     ap (λ x. indicator_of flow (is_blank_or_end u (d + p + 1)) x) b ∙ indicators_alike flow (is_blank_or_end t (p + 1)) (is_blank_or_end u (d + p + 1)) (byte t p) (λ on. next_end t u d m p a l on) in
-    rw (zero, percent, start, finish, indicator, plain) refl
+    rw (zero, percent, start_alike t u d m p a l, finish_alike t u d m p a l, indicator, plain) refl
 
 pub break_byte : (b c e : ℕ) → (b ≡ 10) ⊎ (b ≡ 13) → nat_lt 0 (break_of b c e) ≡ true
 unfolding break_of
@@ -138,11 +119,6 @@ blank_indicator flow alone b h =
     by_tab true = refl
     by_tab false = refl
 
-blank_plain : (flow : Bool) (t : List ℕ) (p : ℕ) → is_blank (byte t p) ≡ true
-    → starts_plain flow t p ≡ false
-unfolding starts_plain
-blank_plain flow t p h = rw h refl
-
 -- no lexeme starts at a blank
 pub blank_kind : (flow : Bool) (t : List ℕ) (p : ℕ) → is_blank (byte t p) ≡ true
     → kind_at flow t p ≡ None
@@ -152,7 +128,8 @@ blank_kind flow t p h =
     let percent : (byte t p == 37) ≡ false = other (byte t p) 37 h refl refl in
     let dash : (byte t p == 45) ≡ false = other (byte t p) 45 h refl refl in
     let dot : (byte t p == 46) ≡ false = other (byte t p) 46 h refl refl in
-    rw (zero, percent, not_start t p dash, not_finish t p dot, blank_indicator flow (is_blank_or_end t (p + 1)) (byte t p) h, blank_plain flow t p h) refl
+    let plain : starts_plain flow t p ≡ false = unfold starts_plain in rw h refl in
+    rw (zero, percent, not_start t p dash, not_finish t p dot, blank_indicator flow (is_blank_or_end t (p + 1)) (byte t p) h, plain) refl
   where
     other : (b n : ℕ) → is_blank b ≡ true → (32 == n) ≡ false → (9 == n) ≡ false → (b == n) ≡ false
     other b n h x y = elim (blank_cases b h) [

@@ -1,9 +1,7 @@
 -- The number that hexadecimal digits spell, from either end.
 use Rattle.std.proofs.Common.{◌≡◌, ℕ, zero, suc, ◌+◌, ◌*◌, ◌^◌, ◌<◌, List, [], ◌∷◌, length, Option, Some, None, option_and_then, option_map, refl, sym, ap, ◌∙◌, arith, add-zero}
 use Rattle.std.proofs.Math.Nat.{mul_assoc, pow-suc}
-use Rattle.yaml_scan_model.specs.Marks.{byte}
-use Rattle.yaml_scan_scalars.specs.Quoted.{hex_digit, hex_value}
-use Rattle.yaml_scan_scalars.specs.Unbounded.{no_digits, digit, number_of, DigitsAreRead, DigitsStandThere, OneIsNoDigit}
+use Rattle.yaml_scan_scalars.proofs.Words.{byte, hex_digit, hex_value, no_digits, digit, number_of, DigitsAreRead, DigitsStandThere, OneIsNoDigit}
 
 -- a number and a digit behind it
 abbrev with_digit : Option ℕ → Option ℕ → Option ℕ

@@ -1,18 +1,11 @@
 -- Escapes, a digit at a time.
 use Rattle.std.proofs.Common.{◌≡◌, ℕ, zero, suc, ◌+◌, ◌-◌, ◌*◌, ◌<◌, ◌≤◌, true, List, Some, None, nat_lt, refl, arith, add-one, add-zero, add-suc}
-use Rattle.std.proofs.lemmas.Bool.Decides.{nat_tests}
-use Rattle.yaml_scan_model.specs.Marks.{byte, break_width}
-use Rattle.yaml_scan_scalars.specs.Quoted.{hex_digit, hex_value, hex_len, simple_escape, escape_at, coded}
+use Rattle.yaml_scan_scalars.proofs.Words.{nat_tests, byte, break_width, hex_digit, hex_value, hex_len, simple_escape, escape_at, coded}
 
 pub hex_more : (text : List ℕ) (p k v d : ℕ) → hex_value text p k ≡ Some v
     → hex_digit (byte text (p + k)) ≡ Some d → hex_value text p (k + 1) ≡ Some (v * 16 + d)
 unfolding hex_value
 hex_more text p k v d h e = rw (add-one, h, e) refl
-
-pub hex_stop : (text : List ℕ) (p k v : ℕ) → hex_value text p k ≡ Some v
-    → hex_digit (byte text (p + k)) ≡ None → hex_value text p (k + 1) ≡ None
-unfolding hex_value
-hex_stop text p k v h e = rw (add-one, h, e) refl
 
 pub hex_none : (text : List ℕ) (p k m : ℕ) → hex_value text p k ≡ None
     → hex_value text p (k + m) ≡ None
@@ -24,7 +17,7 @@ pub hex_refused : (text : List ℕ) (p k n v : ℕ) → hex_value text p k ≡ S
     → hex_digit (byte text (p + k)) ≡ None → k < n → hex_value text p n ≡ None
 hex_refused text p k n v h e l =
     let all : k + 1 + (n - (k + 1)) ≡ n = omega arith in
-    rw all at (hex_none text p (k + 1) (n - (k + 1)) (hex_stop text p k v h e))
+    rw all at (hex_none text p (k + 1) (n - (k + 1)) (unfold hex_value in rw (add-one, h, e) refl))
 
 -- what k digits spell at most, and one more
 abbrev pub hex_limit : ℕ → ℕ

@@ -1,9 +1,6 @@
 -- Folding, a piece at a time.
 use Rattle.std.proofs.Common.{◌≡◌, ℕ, ◌<◌, true, false, List, [], ◌∷◌, ◌++◌, length, map, refl, sym, ap, ◌∙◌, arith, append_assoc, append-nil}
-use Rattle.yaml_scan_scalars.specs.Pieces.{Piece, Kept, Blank, Break, Line, lines, is_empty, text, trim_end, gap, rest_of, folded, value}
-use Rattle.yaml_scan_model.specs.Breaks.{is_feed}
-use Rattle.yaml_scan_scalars.specs.Resume.{behind, resumed}
-use Rattle.yaml_scan_scalars.specs.declared.folding.Gap.{Gap}
+use Rattle.yaml_scan_scalars.proofs.Words.{Piece, Kept, Blank, Break, Line, lines, is_empty, text, trim_end, gap, rest_of, folded, value, is_feed, behind, resumed, Gap}
 use Rattle.yaml_scan_scalars.specs.declared.folding.Gap.TheVariants as gaps
 
 abbrev pub blanks_of : List ℕ → List Piece
@@ -178,9 +175,3 @@ end done blanks gaps.Kept = refl
 pub end_line : (done : List ℕ) → resumed done [] gaps.Line [] ≡ done
 unfolding resumed
 end_line done = append-nil done
-
-pub blank_gap : (done blanks : List ℕ) (g : Gap) (b : ℕ) (ps : List Piece) → (g ≡ gaps.Line → ⊥)
-    → resumed done blanks g ps ≡ resumed done blanks g (Blank b ∷ ps)
-blank_gap done blanks gaps.Line b ps h = absurd (h refl)
-blank_gap done blanks gaps.Feed b ps h = blank_feed done blanks b ps
-blank_gap done blanks gaps.Kept b ps h = blank_kept done blanks b ps

@@ -1,3 +1,4 @@
+mod Words
 pub mod FoldingLemmas
 pub mod EscapeLemmas
 pub mod QuotedLemmas

@@ -1,22 +1,8 @@
 -- Scalars of one run.
 use Rattle.std.proofs.Common.{◌≡◌, ◌≢◌, ℕ, zero, suc, nat_lt, ◌+◌, ◌-◌, ◌<◌, ◌≤◌, ◌==◌, ◌&&◌, ◌||◌, not, Bool, true, false, List, [], ◌∷◌, ◌++◌, length, Result, Ok, refl, sym, ap, subst, ◌∙◌, ◌⊎◌, inl, inr, arith}
-use Rattle.std.proofs.lemmas.List.{append-nil}
-use Rattle.std.proofs.lemmas.Bool.{cases_Bool}
-use Rattle.std.proofs.lemmas.Bool.Decides.{nat_tests}
-use Rattle.yaml_scan_model.specs.declared.record.yaml_mark_t.{yaml_mark_t}
-use Rattle.yaml_scan_model.specs.declared.problem.ScanError.{ScanError}
-use Rattle.yaml_scan_model.specs.Wrong.{Wrong}
+use Rattle.yaml_scan_scalars.proofs.Words.{append-nil, cases_Bool, nat_tests, yaml_mark_t, ScanError, Wrong, ReadsPlain, Place, byte, mark_at, column_at, break_of, break_width, is_blank, is_blank_or_end, past, past_spaces, is_space_there, is_document_indicator, no_break, within, Piece, Kept, value, bytes_at, run_pieces, ends_kept, IsRun, Closing, pieces, quote_at, quoted_at, standing_at, valued, Ends, Words, PlainText, is_bracket, with_run, words_from, words, plain_with, plain_text, plain_at, spot_at, ends_at, leads, after_white}
 use Rattle.yaml_scan_scalars.specs.declared.scalar.PlainScalar.{PlainScalar}
-use Rattle.yaml_scan_scalars.specs.Joined.{ReadsPlain}
-use Rattle.yaml_scan_model.specs.Marks.{Place, byte, mark_at, column_at, break_of, break_width, is_blank, is_blank_or_end}
-use Rattle.yaml_scan_model.specs.Runs.{past, past_spaces, is_space_there}
 use Rattle.yaml_scan_model.proofs.RunsLemmas.{past_more, past_stop, space_parts}
-use Rattle.yaml_scan_model.specs.Breaks.{is_document_indicator}
-use Rattle.yaml_scan_model.proofs.MarksLemmas.{no_break, within}
-use Rattle.yaml_scan_scalars.specs.Pieces.{Piece, Kept, value}
-use Rattle.yaml_scan_scalars.specs.Ordinary.{bytes_at, run_pieces, ends_kept, IsRun}
-use Rattle.yaml_scan_scalars.specs.Quoted.{Closing, pieces, quote_at, quoted_at, standing_at, valued}
-use Rattle.yaml_scan_scalars.specs.Plain.{Ends, Words, PlainText, is_bracket, with_run, words_from, words, plain_with, plain_text, plain_at, spot_at, ends_at, leads, after_white}
 use Rattle.yaml_scan_scalars.proofs.PlainLemmas.{spot_ends, spot_blank, spot_break, lead_break, leads-blank}
 use Rattle.yaml_scan_scalars.proofs.PlainRunLemmas.{with_run_is, words_run}
 use Rattle.yaml_scan_scalars.proofs.QuotedLemmas.{standing_quote, quote_some}
@@ -30,18 +16,13 @@ unfolding is_document_indicator
 quote_no_mark quote text p e (inl q) = no_mark (byte text p) _ _ _ _ (omega arith) (omega arith)
 quote_no_mark quote text p e (inr q) = no_mark (byte text p) _ _ _ _ (omega arith) (omega arith)
 
-quote_closes : (quote : ℕ) (text : List ℕ) (p : ℕ)
-    → (quote == 39 && byte text (p + 1) == 39) ≡ false → quote_at quote text p ≡ Closing
-unfolding quote_at
-quote_closes quote text p h = rw h refl
-
 pieces_close : (n quote : ℕ) (text : List ℕ) (p : ℕ) → byte text p ≡ quote
     → (quote ≡ 34) ⊎ (quote ≡ 39) → (quote == 39 && byte text (p + 1) == 39) ≡ false
     → pieces (suc n) quote text p ≡ Ok ([], p + 1)
 unfolding pieces
 pieces_close n quote text p e q d =
     let some = quote_some quote (byte text p) e q in
-    let here : standing_at quote text p ≡ Closing = standing_quote quote text p (quote_no_mark quote text p e q) (omega arith) e ∙ quote_closes quote text p d in
+    let here : standing_at quote text p ≡ Closing = standing_quote quote text p (quote_no_mark quote text p e q) (omega arith) e ∙ (unfold quote_at in rw d refl) in
     rw here refl
 
 run_value : (bs : List ℕ) → ends_kept bs ≡ true → value (run_pieces bs ++ []) ≡ bs
@@ -116,10 +97,6 @@ pub plain_one : (flow : Bool) (level : ℕ) (text : List ℕ) (p : ℕ) (place :
 plain_one flow level text p place inside calm first run ends =
     plain_then flow level text p place.at place.at false place inside calm first run (λ n room. words_end n flow level text place.at ends)
 
-colon_test : (b : ℕ) (mark white blank rest : Bool) → b ≡ 58 → blank ≡ true
-    → ((b == 0 || mark) || ((b == 35 && white) || ((b == 58 && blank) || rest))) ≡ true
-colon_test b mark white blank rest e h = grind (arith, nat_tests)
-
 colon_is : (b : ℕ) → b ≡ 58 → is_blank b ≡ false
 colon_is b e = grind (arith, nat_tests)
 
@@ -128,7 +105,7 @@ pub colon_ends : (flow : Bool) (level : ℕ) (text : List ℕ) (p : ℕ) → byt
 unfolding ends_at
 colon_ends flow level text p e h =
     spot_ends flow level text p (no_break (byte text p) _ _ (omega arith) (omega arith) (omega arith) (omega arith)) (colon_is (byte text p) e)
-    (colon_test (byte text p) _ _ _ _ e h)
+    (grind (arith, nat_tests))
 
 bracket_test : (x y z k : Bool) → k ≡ true → (x || (y || (z || k))) ≡ true
 bracket_test x y z k h = grind (arith, nat_tests)
@@ -195,9 +172,6 @@ nothing_at q broke = record { pieces = []; end = q; place = q; broke = broke }
 abbrev Over : ℕ → List ℕ → ℕ → Type 0
 Over level text q = leads text q ≡ true → (m : ℕ) → length text ≤ q + m → words (suc m) false level text q ≡ Ok (nothing_at q false)
 
-tab_test : (b : ℕ) (x : Bool) → b ≡ 32 → (b == 9 && x) ≡ false
-tab_test b x h = grind (arith, nat_tests)
-
 space_is : (b : ℕ) → b ≡ 32 → is_blank b ≡ true
 space_is b h = grind (arith, nat_tests)
 
@@ -206,7 +180,7 @@ words_space : (n level : ℕ) (text : List ℕ) (p q : ℕ) → byte text p ≡ 
     → words (suc n) false level text p ≡ Ok (nothing_at q false)
 unfolding words
 words_space n level text p q b h =
-    let here = spot_blank false level text p (space_parts (byte text p) _ _ b).1 (space_is (byte text p) b) (tab_test (byte text p) _ b) in
+    let here = spot_blank false level text p (space_parts (byte text p) _ _ b).1 (space_is (byte text p) b) (grind (arith, nat_tests)) in
     rw (here, h) refl
 
 same_space : (b : ℕ) → (b == 32) ≡ true → b ≡ 32

@@ -1,25 +1,10 @@
 -- Plain scalars, a step at a time.
 use Rattle.std.proofs.Common.{◌≡◌, ℕ, zero, suc, ◌+◌, ◌-◌, ◌<◌, ◌≤◌, Bool, true, false, List, [], ◌∷◌, length, take, Result, Ok, Err, refl, sym, ap, ◌∙◌, inl, inr, ◌==◌, nat_lt, ◌||◌, ◌&&◌, not, if◌then◌else◌, arith, add-one}
-use Rattle.std.proofs.lemmas.Bool.{cases_lt, true≢false, lt-ltb}
-use Rattle.std.proofs.lemmas.Bool.Decides.{nat_tests}
-use Rattle.std.proofs.lemmas.List.{take_all}
+use Rattle.yaml_scan_scalars.proofs.Words.{cases_lt, true≢false, lt-ltb, nat_tests, take_all, Piece, Kept, Blank, Break, value, resume, Place, byte, mark_at, break_width, ends_break, is_blank, column_at, yaml_mark_t, Folding, Joining, ScanError, feed_at, Wrong, IsMemory, PlainSpot, Ends, Takes, Faulty, in_plain, Words, is_bracket, with_piece, words_from, follows, words, starts_plain, plain_with, PlainText, spot_at, ends_at, leads, after_white, is_nothing, joined, IsJoining, Steps, ReadsPlain, within, past_break, end_not_blank, last_of}
 use Rattle.std.proofs.Math.Bool.{or-false, or-true}
-use Rattle.yaml_scan_scalars.specs.Pieces.{Piece, Kept, Blank, Break, value}
-use Rattle.yaml_scan_scalars.specs.Resume.{resume}
-use Rattle.yaml_scan_model.specs.Marks.{Place, byte, mark_at, break_width, ends_break, is_blank, column_at}
-use Rattle.yaml_scan_model.specs.declared.record.yaml_mark_t.{yaml_mark_t}
-use Rattle.yaml_scan_scalars.specs.declared.folding.Folding.{Folding}
 use Rattle.yaml_scan_scalars.specs.declared.folding.Gap.TheVariants as gaps
-use Rattle.yaml_scan_scalars.specs.declared.joining.Joining.{Joining}
 use Rattle.yaml_scan_model.specs.declared.problem.Problem.TheVariants as problems
-use Rattle.yaml_scan_model.specs.declared.problem.ScanError.{ScanError}
 use Rattle.yaml_scan_model.specs.declared.problem.ScanError.TheVariants as errors
-use Rattle.yaml_scan_model.specs.Breaks.{feed_at}
-use Rattle.yaml_scan_model.specs.Wrong.{Wrong, IsMemory}
-use Rattle.yaml_scan_scalars.specs.Plain.{PlainSpot, Ends, Takes, Faulty, in_plain, Words, is_bracket, with_piece, words_from, follows, words, starts_plain, plain_with, plain_text, PlainText, spot_at, ends_at, leads, after_white, is_nothing}
-use Rattle.yaml_scan_scalars.specs.Joined.{joined, IsJoining, Steps, ReadsPlain}
-use Rattle.yaml_scan_model.proofs.MarksLemmas.{within, past_break}
-use Rattle.yaml_scan_model.proofs.BreaksLemmas.{end_not_blank, last_of}
 use Rattle.yaml_scan_scalars.proofs.FoldingLemmas.{end_line}
 
 blank_parts : (old : Joining) (f : Folding) (b q e place : ℕ) (broke : Bool) (ps : List Piece)
@@ -133,11 +118,6 @@ pub leads-text : (text : List ℕ) (p : ℕ) → is_blank (byte text p) ≡ fals
 unfolding leads
 leads-text text p h e = rw (add-one, h, e) refl
 
-leads-end : (text : List ℕ) (p : ℕ) → is_blank (byte text p) ≡ false → ends_break text p ≡ true
-    → leads text (p + 1) ≡ true
-unfolding leads
-leads-end text p h e = rw (add-one, h, e) refl
-
 pub white-suc : (text : List ℕ) (p : ℕ)
     → after_white text (p + 1) ≡ (is_blank (byte text p) || ends_break text p)
 white-suc text p = let z : p + 1 - 1 ≡ p = omega arith in rw z refl
@@ -162,7 +142,7 @@ lead_break text p h =
     let l = last_of text p h in
     let past = past_break text p h in
     let b = end_not_blank _ _ _ _ l.ends in
-    let le : leads text (p + break_width text p) ≡ true = rw l.next (leads-end text l.byte_at b l.ends) in
+    let le : leads text (p + break_width text p) ≡ true = rw l.next (unfold leads in rw (add-one, b, l.ends) refl) in
     let wh : after_white text (p + break_width text p) ≡ true = rw l.next (white-suc text l.byte_at ∙ rw (b, l.ends) refl) in
     record { leading = sym le; white = sym wh; further = omega arith; inside = omega (arith, past.inside) }
 
@@ -220,11 +200,8 @@ not_ended flow level text p h =
       | inr l ↦ let z : byte text p ≡ 0 = omega arith in absurd (true≢false (rw z at h))
     ]
 
-some_blank : (b : ℕ) → is_blank b ≡ true → 0 < b
-some_blank b h = grind (arith, nat_tests)
-
 pub blank_inside : (text : List ℕ) (p : ℕ) → is_blank (byte text p) ≡ true → p < length text
-blank_inside text p h = within text p (some_blank (byte text p) h)
+blank_inside text p h = within text p (grind (arith, nat_tests))
 
 -- a byte that is no blank and ends no break leads nothing
 pub lead_text : (text : List ℕ) (p : ℕ) → is_blank (byte text p) ≡ false → ends_break text p ≡ false
@@ -334,17 +311,7 @@ first_of : (b : Bool) (x : Bool) → (not b && x) ≡ true → b ≡ false
 first_of true x h = absurd (true≢false (sym h))
 first_of false x h = refl
 
-white_parts : (b w : ℕ) → ((is_blank b || b == 0) || nat_lt 0 w) ≡ false
-    → (is_blank b ≡ false) × (0 < b) × (w ≡ 0)
-white_parts b w h = (grind (arith, nat_tests), grind (arith, nat_tests), grind (arith, nat_tests))
-
 pub plain_start : (flow : Bool) (text : List ℕ) (p : ℕ) → starts_plain flow text p ≡ true
     → (is_blank (byte text p) ≡ false) × (0 < byte text p) × (break_width text p ≡ 0)
 unfolding starts_plain
-plain_start flow text p h = white_parts (byte text p) (break_width text p) (first_of _ _ h)
-
-pub plain_first : (j : Joining) (x : Piece) (q : ℕ) (r : Result Words Wrong)
-    → ((w : Words) → joined j w ≡ plain_text (with_piece x q w))
-    → plain_with plain_text (words_from x q r) ≡ plain_with (joined j) r
-plain_first j x q (Ok w) h = rw (h w) refl
-plain_first j x q (Err e) h = refl
+plain_start flow text p h = (grind (arith, nat_tests), grind (arith, nat_tests), grind (arith, nat_tests))

@@ -1,24 +1,12 @@
 -- Runs of ordinary bytes in plain scalars.
 use Rattle.std.proofs.Common.{◌≡◌, ◌≢◌, ℕ, zero, suc, ◌+◌, ◌-◌, ◌<◌, ◌≤◌, ◌==◌, ◌&&◌, if◌then◌else◌, Bool, true, false, List, [], ◌∷◌, ◌++◌, length, Result, Ok, Err, refl, sym, ap, ◌∙◌, inl, inr, ◌⊎◌, arith}
-use Rattle.std.proofs.lemmas.Bool.{cases_Bool, ne_eqb}
-use Rattle.std.proofs.lemmas.Bool.Decides.{nat_tests}
-use Rattle.yaml_scan_model.specs.Marks.{Place, byte, ends_break, is_blank}
-use Rattle.yaml_scan_model.specs.Wrong.{Wrong}
+use Rattle.yaml_scan_scalars.proofs.Words.{cases_Bool, ne_eqb, nat_tests, Place, byte, ends_break, is_blank, Wrong, Joining, Piece, Kept, value, is_ordinary, in_run, bytes_at, piece_of, run_pieces, ends_kept, starts_kept, IsRun, Takes, Words, is_bracket, is_nothing, with_piece, with_run, words_from, words, plain_with, plain_text, plain_at, spot_at, ends_at, leads, after_white, joined, TookFirst, TookWords}
 use Rattle.yaml_scan_scalars.specs.declared.folding.Gap.TheVariants as gaps
-use Rattle.yaml_scan_scalars.specs.declared.joining.Joining.{Joining}
-use Rattle.yaml_scan_scalars.specs.Pieces.{Piece, Kept, value}
-use Rattle.yaml_scan_scalars.specs.Ordinary.{is_ordinary, in_run, bytes_at, piece_of, run_pieces, ends_kept, starts_kept, IsRun}
-use Rattle.yaml_scan_scalars.specs.Plain.{Takes, Words, is_bracket, is_nothing, with_piece, with_run, words_from, words, plain_with, plain_text, plain_at, spot_at, ends_at, leads, after_white}
-use Rattle.yaml_scan_scalars.specs.Joined.{joined, TookFirst, TookWords}
 use Rattle.yaml_scan_scalars.proofs.RunLemmas.{ordinary_is, ordinary_no_break, ordinary_ends_none, ordinary_no_mark, run_parts, space_is, space_no_break, bytes_none, bytes_more, ends_bytes, resume_run, value_run, same_or, few}
 use Rattle.yaml_scan_scalars.proofs.FoldingLemmas.{value-kept}
 use Rattle.yaml_scan_scalars.proofs.PlainLemmas.{spot_kept, spot_blank, lead_text, leads-blank}
 
 -- many pieces or one
-
-some_run : (text : List ℕ) (p d : ℕ) (ps : List Piece)
-    → is_nothing (run_pieces (bytes_at text p (suc d)) ++ ps) ≡ false
-some_run text p d ps = rw (bytes_more text p d) refl
 
 with_piece_some : (b q e place : ℕ) (broke : Bool) (qs : List Piece) → is_nothing qs ≡ false
     → with_piece (piece_of b) q (record { pieces = qs; end = e; place = place; broke = broke })
@@ -27,16 +15,6 @@ with_piece_some b q e place broke qs h = elim (cases_Bool (b == 32)) [
   | inl s ↦ rw (s, h) refl
   | inr n ↦ rw (n, h) refl
 ]
-
-with_piece_kept : (b q : ℕ) (w : Words) → (b == 32) ≡ false
-    → with_piece (piece_of b) q w ≡ record {
-      pieces = piece_of b ∷ w.pieces;
-      end = if is_nothing w.pieces then q else w.end;
-      place =
-          w.place;
-      broke = w.broke;
-    }
-with_piece_kept b q w h = rw h refl
 
 pub with_run_is : (text : List ℕ) (p d : ℕ) (w : Words) → (byte text (p + d) == 32) ≡ false
     → with_run text p (suc d) w ≡ record {
@@ -50,14 +28,14 @@ pub with_run_is : (text : List ℕ) (p d : ℕ) (w : Words) → (byte text (p + 
 with_run_is text p zero w h =
     let e : p + 1 ≡ p + suc zero = omega arith in
     let z : p + 0 ≡ p = omega arith in
-    rw (bytes_more text p 0, bytes_none text (p + 1)) (with_piece_kept (byte text p) (p + 1) w (rw z at h))
+    rw (bytes_more text p 0, bytes_none text (p + 1)) (rw (rw z at h) refl)
 with_run_is text p (suc d) w h =
     let e : p + suc (suc d) ≡ p + 1 + suc d = omega arith in
     let f : p + suc d ≡ p + 1 + d = omega arith in
     let more = with_run_is text (p + 1) d w (rw f at h) in
     let qs = run_pieces (bytes_at text (p + 1) (suc d)) ++ w.pieces in
     ap (λ x. with_piece (piece_of (byte text p)) (p + 1) x) more
-    ∙ with_piece_some (byte text p) (p + 1) (if is_nothing w.pieces then p + 1 + suc d else w.end) w.place w.broke qs (some_run text (p + 1) d w.pieces)
+    ∙ with_piece_some (byte text p) (p + 1) (if is_nothing w.pieces then p + 1 + suc d else w.end) w.place w.broke qs (rw (bytes_more text (p + 1) d) refl)
     ∙ rw (bytes_more text p (suc d), e) refl
 
 joined_parts : (j : Joining) (bs : List ℕ) (e place : ℕ) (broke : Bool) (ps : List Piece)
@@ -107,14 +85,11 @@ ends_ordinary false level text p h l =
     let some = o.some in
     rw (ordinary_no_mark text p h, ne_eqb (byte text p) 0 (omega arith), ne_eqb (byte text p) 35 o.no_hash, ne_eqb (byte text p) 58 o.no_colon, l) refl
 
-no_colon_test : (flow : Bool) (b : ℕ) (x : Bool) → b ≢ 58 → (flow && (b == 58 && x)) ≡ false
-no_colon_test flow b x h = grind (arith, nat_tests)
-
 spot_ordinary : (flow : Bool) (level : ℕ) (text : List ℕ) (p : ℕ) → is_ordinary (byte text p) ≡ true
     → leads text p ≡ false → spot_at flow level text p ≡ Takes (piece_of (byte text p)) (p + 1)
 spot_ordinary flow level text p h l =
     let o = ordinary_is (byte text p) h in
-    rw o.no_space (spot_kept flow level text p (ordinary_no_break _ _ _ h) o.no_blank (ends_ordinary flow level text p h l) (no_colon_test flow (byte text p) _ o.no_colon))
+    rw o.no_space (spot_kept flow level text p (ordinary_no_break _ _ _ h) o.no_blank (ends_ordinary flow level text p h l) (grind (arith, nat_tests)))
 
 spot_space : (flow : Bool) (level : ℕ) (text : List ℕ) (p : ℕ) → byte text p ≡ 32
     → spot_at flow level text p ≡ Takes (piece_of (byte text p)) (p + 1)
@@ -138,8 +113,7 @@ pub behind_first : (text : List ℕ) (p : ℕ) (place : Place) → is_blank (byt
     → ends_break text p ≡ false → IsRun text (p + 1) place
     → (false ≡ leads text place.at) × (false ≡ after_white text place.at)
 behind_first text p place b e run =
-    let after = run.after in
-    elim (same_or (p + 1) place.at after) [
+    elim (same_or (p + 1) place.at run.after) [
       | inl s ↦ rw s (lead_text text p b e)
       | inr l ↦ calm_behind text (p + 1) place run l
     ]

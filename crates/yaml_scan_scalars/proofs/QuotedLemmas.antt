@@ -1,18 +1,8 @@
 -- Quoted scalars, a step at a time.
 use Rattle.std.proofs.Common.{◌≡◌, ◌≢◌, ℕ, zero, suc, ◌+◌, ◌<◌, ◌≤◌, true, false, List, [], ◌∷◌, ◌++◌, length, Result, Ok, Err, refl, ap, inl, inr, ◌⊎◌, ◌==◌, ◌&&◌, arith}
-use Rattle.std.proofs.lemmas.Bool.Decides.{nat_tests}
-use Rattle.std.proofs.lemmas.Bool.{ne_eqb, lt-ltb}
-use Rattle.yaml_scan_model.specs.declared.record.yaml_mark_t.{yaml_mark_t}
-use Rattle.yaml_scan_model.specs.declared.problem.ScanError.{ScanError}
+use Rattle.yaml_scan_scalars.proofs.Words.{nat_tests, ne_eqb, lt-ltb, yaml_mark_t, ScanError, Place, byte, mark_at, break_of, break_width, is_blank, feed_at, is_document_indicator, Wrong, IsMemory, no_break, within, Piece, Kept, Blank, Break, Took, Reads, QuotedSpot, Closing, Pieces, Bad, in_quotes, with_front, followed, pieces, valued, quote_at, standing_at, escape_at, eq-eqb}
 use Rattle.yaml_scan_model.specs.declared.problem.ScanError.TheVariants as errors
 use Rattle.yaml_scan_model.specs.declared.problem.Problem.TheVariants as problems
-use Rattle.yaml_scan_model.specs.Marks.{Place, byte, mark_at, break_of, break_width, is_blank}
-use Rattle.yaml_scan_model.specs.Breaks.{feed_at, is_document_indicator}
-use Rattle.yaml_scan_model.specs.Wrong.{Wrong, IsMemory}
-use Rattle.yaml_scan_model.proofs.MarksLemmas.{no_break, within}
-use Rattle.yaml_scan_scalars.specs.Pieces.{Piece, Kept, Blank, Break}
-use Rattle.yaml_scan_scalars.specs.Readings.{Took, Reads}
-use Rattle.yaml_scan_scalars.specs.Quoted.{QuotedSpot, Closing, Pieces, Bad, in_quotes, with_front, followed, pieces, valued, quote_at, standing_at, escape_at}
 
 pub front : (old new : List Piece → List ℕ) (qs : List Piece) (r : Result (List Piece × ℕ) Wrong)
     → ((ps : List Piece) → new ps ≡ old (qs ++ ps)) → valued old (with_front qs r) ≡ valued new r
@@ -93,11 +83,6 @@ pub turn_refused : (text : List ℕ) (quote a p n : ℕ) (old new : List Piece �
 unfolding pieces
 turn_refused text quote a p n old new place e h = refused text a p old new place e (standing_at quote text p) (pieces n quote text) h
 
-pub valued-same : (f g : List Piece → List ℕ) (r : Result (List Piece × ℕ) Wrong)
-    → ((ps : List Piece) → f ps ≡ g ps) → valued g r ≡ valued f r
-valued-same f g (Ok x) h = rw (h x.0) refl
-valued-same f g (Err e) h = refl
-
 -- quotes are no breaks
 
 pub quote_some : (quote b : ℕ) → b ≡ quote → (quote ≡ 34) ⊎ (quote ≡ 39) → 0 < b
@@ -124,15 +109,12 @@ pub standing_end : (quote : ℕ) (text : List ℕ) (p : ℕ) → is_document_ind
 unfolding standing_at
 standing_end quote text p h e = rw (h, e) refl
 
-same : (b n : ℕ) → b ≡ n → (b == n) ≡ true
-same b n h = grind (arith, nat_tests)
-
 pub standing_quote : (quote : ℕ) (text : List ℕ) (p : ℕ) → is_document_indicator text p ≡ false
     → byte text p ≢ 0 → byte text p ≡ quote → standing_at quote text p ≡ quote_at quote text p
 unfolding standing_at
 standing_quote quote text p h z e =
     let f : (byte text p == 0) ≡ false = ne_eqb (byte text p) 0 z in
-    let g : (byte text p == quote) ≡ true = same (byte text p) quote e in
+    let g : (byte text p == quote) ≡ true = eq-eqb (byte text p) quote e in
     rw (h, f, g) refl
 
 pub standing_break : (quote : ℕ) (text : List ℕ) (p : ℕ) → is_document_indicator text p ≡ false

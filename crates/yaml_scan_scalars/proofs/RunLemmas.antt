@@ -1,19 +1,7 @@
 -- Runs of ordinary bytes.
-use Rattle.std.proofs.Common.{◌≡◌, ◌≢◌, ℕ, zero, suc, ◌+◌, ◌-◌, ◌<◌, ◌≤◌, ◌==◌, ◌&&◌, ◌||◌, Bool, true, false, List, [], ◌∷◌, ◌++◌, length, take, drop, Result, Ok, Err, refl, sym, ap, ◌∙◌, inl, inr, ◌⊎◌, not, append_assoc, arith}
-use Rattle.std.proofs.lemmas.Bool.{cases_Bool, or_right, not-true}
-use Rattle.std.proofs.lemmas.Bool.Decides.{nat_tests}
-use Rattle.std.proofs.lemmas.List.{drop_more}
-use Rattle.yaml_scan_model.specs.Marks.{Place, byte, break_of, ends_of, is_blank}
-use Rattle.yaml_scan_model.specs.Breaks.{is_document_indicator}
-use Rattle.yaml_scan_model.specs.Wrong.{Wrong}
-use Rattle.yaml_scan_model.proofs.MarksLemmas.{no_break, within}
-use Rattle.yaml_scan_scalars.specs.declared.folding.Folding.{Folding}
-use Rattle.yaml_scan_scalars.specs.declared.folding.Gap.{Gap}
+use Rattle.std.proofs.Common.{◌≡◌, ◌≢◌, ℕ, zero, suc, ◌+◌, ◌-◌, ◌<◌, ◌≤◌, ◌==◌, ◌&&◌, ◌||◌, Bool, true, false, List, [], ◌∷◌, ◌++◌, length, take, drop, Result, Ok, Err, refl, sym, ap, ◌∙◌, inl, inr, ◌⊎◌, append_assoc, arith}
+use Rattle.yaml_scan_scalars.proofs.Words.{cases_Bool, or_right, not-true, nat_tests, drop_more, Place, byte, break_of, ends_of, is_blank, is_document_indicator, Wrong, no_break, within, Folding, Gap, Piece, Kept, Blank, Line, lines, is_empty, folded, value, resume, resumed, is_ordinary, is_narrow, is_spaced, in_run, bytes_at, piece_of, run_pieces, starts_kept, ends_kept, IsRun, TookRun, Pieces, with_front, pieces, valued, standing_at}
 use Rattle.yaml_scan_scalars.specs.declared.folding.Gap.TheVariants as gaps
-use Rattle.yaml_scan_scalars.specs.Pieces.{Piece, Kept, Blank, Line, lines, is_empty, folded, value}
-use Rattle.yaml_scan_scalars.specs.Resume.{resume, resumed}
-use Rattle.yaml_scan_scalars.specs.Ordinary.{is_ordinary, is_narrow, is_spaced, in_run, bytes_at, piece_of, run_pieces, starts_kept, ends_kept, IsRun, TookRun}
-use Rattle.yaml_scan_scalars.specs.Quoted.{Pieces, with_front, pieces, valued, standing_at}
 use Rattle.yaml_scan_scalars.proofs.FoldingLemmas.{value-kept, blanks_of, keep_line, keep_feed, keep_kept}
 use Rattle.yaml_scan_scalars.proofs.QuotedLemmas.{standing_kept, standing_blank, front}
 
@@ -100,8 +88,7 @@ unfolding bytes_at
 slice_bytes text p zero h = refl
 slice_bytes text p (suc d) h =
     let l : p < length text = omega arith in
-    let more = slice_bytes text (p + 1) d (omega arith) in
-    rw (drop_more text p 0 l, more) refl
+    rw (drop_more text p 0 l, slice_bytes text (p + 1) d (omega arith)) refl
 
 pub bytes_none : (text : List ℕ) (p : ℕ) → bytes_at text p 0 ≡ []
 unfolding bytes_at
@@ -120,7 +107,7 @@ bytes_long text p (suc d) = let more = bytes_long text (p + 1) d in omega arith
 pub run_start : (text : List ℕ) (p : ℕ) → IsRun text p (record { text = text; at = p })
 run_start text p = record { same = refl; after = omega arith; each = λ k h l. absurd (omega arith); last = λ l. absurd (omega arith) }
 
-last_or : (k n : ℕ) → k < n + 1 → (k < n) ⊎ (k ≡ n)
+pub last_or : (k n : ℕ) → k < n + 1 → (k < n) ⊎ (k ≡ n)
 last_or k n h = grind arith
 
 pub each_more : (text : List ℕ) (p q : ℕ) → ((k : ℕ) → p ≤ k → k < q → in_run text k ≡ true)
@@ -139,7 +126,7 @@ run_more text p place r h =
     let e : place.at + 1 - 1 ≡ place.at = omega arith in
     record { same = r.same; after = omega arith; each = each_more text p place.at r.each (ordinary_in text place.at h); last = λ l. rw e h }
 
-less_or : (k n : ℕ) → (k < n) ⊎ (n ≤ k)
+pub less_or : (k n : ℕ) → (k < n) ⊎ (n ≤ k)
 less_or k n = grind arith
 
 pub same_or : (p q : ℕ) → p ≤ q → (q ≡ p) ⊎ (p < q)
@@ -150,7 +137,6 @@ pub run_join : (text : List ℕ) (p : ℕ) (place last : Place) → IsRun text p
     → IsRun place.text place.at last → IsRun text p last
 run_join text p place last r s =
     let after = r.after in
-    let more = s.after in
     record {
       same = s.same ∙ r.same;
       after = omega arith;
@@ -158,7 +144,7 @@ run_join text p place last r s =
         | inl l ↦ r.each k a l
         | inr g ↦ rw r.same at (s.each k g b)
       ];
-      last = λ b. elim (same_or place.at last.at more) [
+      last = λ b. elim (same_or place.at last.at s.after) [
         | inl e ↦ rw e (r.last (omega arith))
         | inr l ↦ rw r.same at (s.last l)
       ];
@@ -168,8 +154,7 @@ run_join text p place last r s =
 pub run_inside : (text : List ℕ) (p : ℕ) (place : Place) → IsRun text p place
     → (place.at ≡ p) ⊎ (place.at ≤ length text)
 run_inside text p place r =
-    let after = r.after in
-    elim (same_or p place.at after) [
+    elim (same_or p place.at r.after) [
       | inl e ↦ inl e
       | inr l ↦
           let last = ordinary_is (byte text (place.at - 1)) (r.last l) in
@@ -225,8 +210,7 @@ ends_bytes text p (suc d) h =
 pub run_ends : (text : List ℕ) (p : ℕ) (place : Place) → IsRun text p place
     → ends_kept (bytes_at text p (place.at - p)) ≡ true
 run_ends text p place run =
-    let after = run.after in
-    elim (same_or p place.at after) [
+    elim (same_or p place.at run.after) [
       | inl e ↦ let z : place.at - p ≡ 0 = omega arith in rw (z, bytes_none text p) refl
       | inr l ↦
           let d : place.at - p ≡ suc (place.at - 1 - p) = omega arith in
@@ -238,8 +222,7 @@ run_ends text p place run =
 pub first_last : (text : List ℕ) (p : ℕ) (place : Place) → IsRun text (p + 1) place
     → (byte text p == 32) ≡ false → (byte text (p + (place.at - (p + 1))) == 32) ≡ false
 first_last text p place run h =
-    let after = run.after in
-    elim (same_or (p + 1) place.at after) [
+    elim (same_or (p + 1) place.at run.after) [
       | inl s ↦ let e : p + (place.at - (p + 1)) ≡ p = omega arith in rw e h
       | inr l ↦
           let e : p + (place.at - (p + 1)) ≡ place.at - 1 = omega arith in
@@ -290,8 +273,7 @@ pub value_run : (bs : List ℕ) (ps : List Piece) → ends_kept bs ≡ true
     → value (run_pieces bs ++ ps) ≡ bs ++ value ps
 value_run [] ps h = refl
 value_run (b ∷ []) ps h =
-    let n = not-true (b == 32) h in
-    rw n (value-kept [] (b ∷ []) ps)
+    rw (not-true (b == 32) h) (value-kept [] (b ∷ []) ps)
 value_run (b ∷ c ∷ bs) ps h =
     let more = value_run (c ∷ bs) ps h in
     elim (cases_Bool (b == 32)) [

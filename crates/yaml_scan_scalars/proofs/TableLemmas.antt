@@ -1,12 +1,8 @@
 -- The table of ordinary bytes, and the marks behind a run of them.
 use Rattle.std.proofs.Common.{◌≡◌, ℕ, zero, suc, ◌+◌, ◌<◌, ◌≤◌, if◌then◌else◌, Bool, true, false, ◌&&◌, ◌||◌, ◌==◌, ◌-◌, ◌∙◌, List, length, nat_lt, refl, sym, inl, inr, ◌⊎◌, arith}
-use Rattle.std.proofs.lemmas.Bool.Decides.{nat_tests}
+use Rattle.yaml_scan_scalars.proofs.Words.{nat_tests, cases_Bool, cases_eq, cases_lt, and_parts, true≢false, or_cases, or_parts, byte, break_of, ends_break, splits_break, starts, line_at, column_at, within, end_next, split_next, line_more, column_more, column_same, is_ordinary, is_narrow, is_spaced, in_run, IsRun}
 use Rattle.std.specs.Bool.{beq}
-use Rattle.std.proofs.lemmas.Bool.{cases_Bool, cases_eq, cases_lt, and_parts, true≢false, or_cases, or_parts}
-use Rattle.yaml_scan_model.specs.Marks.{byte, break_of, ends_break, splits_break, starts, line_at, column_at}
-use Rattle.yaml_scan_model.proofs.MarksLemmas.{within, end_next, split_next, line_more, column_more, column_same}
-use Rattle.yaml_scan_scalars.specs.Ordinary.{is_ordinary, is_narrow, is_spaced, in_run, IsRun}
-use Rattle.yaml_scan_scalars.proofs.RunLemmas.{ordinary_is, ordinary_no_break, space_no_break, ordinary_in, spaced_in, run_parts}
+use Rattle.yaml_scan_scalars.proofs.RunLemmas.{ordinary_is, ordinary_no_break, space_no_break, ordinary_in, spaced_in, run_parts, last_or, less_or}
 
 -- the two tests agree below n
 unfoldable pub agree_below : (ℕ → Bool) → (ℕ → Bool) → ℕ → Bool
@@ -51,16 +47,12 @@ pub behind : (text : List ℕ) (p : ℕ) → is_ordinary (byte text p) ≡ true
     → splits_break text p ≡ false → Behind text p
 behind text p o whole = behind_none text p (ordinary_no_break (byte text p) (byte text (p + 1)) (byte text (p + 2)) o) whole
 
-pub ordinary_end : is_ordinary 0 ≡ false
-unfolding is_ordinary
-ordinary_end = refl
-
 -- behind the end
 pub past_ordinary : (text : List ℕ) (p : ℕ) → length text ≤ p → is_ordinary (byte text p) ≡ false
 past_ordinary text p h =
     elim (cases_lt 0 (byte text p)) [
       | inl some ↦ let inside = within text p some in absurd (omega arith)
-      | inr none ↦ let z : byte text p ≡ 0 = omega arith in rw z ordinary_end
+      | inr none ↦ let z : byte text p ≡ 0 = omega arith in rw z (unfold is_ordinary in refl)
     ]
 
 -- an ordinary byte of ASCII
@@ -75,15 +67,11 @@ narrow_is b h =
     let (low, ordinary) = and_parts (nat_lt b 128) (is_ordinary b) h in
     record { ordinary = ordinary; low = low }
 
-narrow_end : is_narrow 0 ≡ false
-unfolding is_narrow is_ordinary
-narrow_end = refl
-
 pub past_narrow : (text : List ℕ) (p : ℕ) → length text ≤ p → is_narrow (byte text p) ≡ false
 past_narrow text p h =
     elim (cases_lt 0 (byte text p)) [
       | inl some ↦ let inside = within text p some in absurd (omega arith)
-      | inr none ↦ let z : byte text p ≡ 0 = omega arith in rw z narrow_end
+      | inr none ↦ let z : byte text p ≡ 0 = omega arith in rw z (unfold is_narrow is_ordinary in refl)
     ]
 
 pub one_at_most : (b : Bool) → (if b then 1 else 0) ≤ 1
@@ -147,14 +135,11 @@ run_of text p q after each stops = record {
 
 -- narrow bytes, one after another
 
-narrow_last : (k n : ℕ) → k < n + 1 → (k < n) ⊎ (k ≡ n)
-narrow_last k n h = grind arith
-
 pub narrow_more : (text : List ℕ) (p q : ℕ)
     → ((k : ℕ) → p ≤ k → k < q → is_narrow (byte text k) ≡ true) → is_narrow (byte text q) ≡ true
     → (k : ℕ) → p ≤ k → k < q + 1 → is_narrow (byte text k) ≡ true
 narrow_more text p q r h k a b =
-    elim (narrow_last k q b) [
+    elim (last_or k q b) [
       | inl l ↦ r k a l
       | inr e ↦ rw e h
     ]
@@ -176,23 +161,19 @@ span_by (suc d) text p q h each whole =
     let b = behind_none text p here.none whole in
     let next : column_at text (p + 1) ≡ column_at text p + 1 = rw here.low at b.column in
     let s = span_by d text (p + 1) q (omega arith) (λ k a c. each k (omega arith) c) b.whole in
-    let column = s.column in
-    record { line = s.line ∙ b.line; column = omega (arith, column, next, h); whole = s.whole }
+    record { line = s.line ∙ b.line; column = omega (arith, s.column, next, h); whole = s.whole }
 
 pub spanned : (text : List ℕ) (p q : ℕ) → p ≤ q
     → ((k : ℕ) → p ≤ k → k < q → is_narrow (byte text k) ≡ true) → splits_break text p ≡ false
     → Spanned text p q
 spanned text p q after each whole = span_by (q - p) text p q (omega arith) each whole
 
-narrow_or : (k n : ℕ) → (k < n) ⊎ (n ≤ k)
-narrow_or k n = grind arith
-
 -- a run, and narrow bytes behind it
 pub each_past : (text : List ℕ) (p q r : ℕ) → ((k : ℕ) → p ≤ k → k < q → in_run text k ≡ true)
     → ((k : ℕ) → q ≤ k → k < r → is_narrow (byte text k) ≡ true)
     → (k : ℕ) → p ≤ k → k < r → in_run text k ≡ true
 each_past text p q r h n k a b =
-    elim (narrow_or k q) [
+    elim (less_or k q) [
       | inl l ↦ h k a l
       | inr m ↦ (passes_narrow text k (n k m b)).each
     ]

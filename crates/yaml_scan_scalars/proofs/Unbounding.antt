@@ -1,15 +1,6 @@
 -- The bound on steps is never met.
 use Rattle.std.proofs.Common.{◌≡◌, ℕ, zero, suc, ◌+◌, ◌-◌, ◌<◌, ◌≤◌, ◌==◌, ◌&&◌, ◌||◌, nat_lt, Bool, true, false, List, length, Option, Some, None, Result, refl, sym, ap, subst, ◌∙◌, inl, inr, arith}
-use Rattle.std.proofs.lemmas.Bool.{cases_Bool}
-use Rattle.std.proofs.lemmas.Bool.Decides.{nat_tests}
-use Rattle.yaml_scan_model.specs.Marks.{byte, break_of, break_width, column_at, is_blank}
-use Rattle.yaml_scan_model.specs.Breaks.{is_document_indicator}
-use Rattle.yaml_scan_model.specs.Wrong.{Wrong}
-use Rattle.yaml_scan_model.proofs.MarksLemmas.{within}
-use Rattle.yaml_scan_scalars.specs.Pieces.{Piece, value}
-use Rattle.yaml_scan_scalars.specs.Quoted.{QuotedSpot, Closing, Pieces, Bad, is_scalar, coded, hex_len, hex_value, simple_escape, escaped, escape_at, quote_at, standing_at, with_front, followed, pieces, valued}
-use Rattle.yaml_scan_scalars.specs.Plain.{PlainSpot, Ends, Takes, Faulty, spot_at, ends_at, leads, is_bracket, Words, words_from, follows, words, plain_with, plain_text}
-use Rattle.yaml_scan_scalars.specs.Unbounded.{IsQuotedFrom, closes, goes_on, is_bad, QuotedIs, QuotedIsOne, IsPlainFrom, ends, takes, is_faulty, plain_behind, PlainIs, PlainIsOne}
+use Rattle.yaml_scan_scalars.proofs.Words.{cases_Bool, nat_tests, byte, break_of, break_width, column_at, is_blank, is_document_indicator, Wrong, within, Piece, value, QuotedSpot, Closing, Pieces, Bad, is_scalar, coded, hex_len, hex_value, simple_escape, escaped, escape_at, quote_at, standing_at, with_front, followed, pieces, valued, PlainSpot, Ends, Takes, Faulty, spot_at, ends_at, leads, is_bracket, Words, words_from, follows, words, plain_with, plain_text, IsQuotedFrom, closes, goes_on, is_bad, QuotedIs, QuotedIsOne, IsPlainFrom, ends, takes, is_faulty, plain_behind, PlainIs, PlainIsOne, ltb-true}
 
 is_there : (b : ℕ) → (b == 0) ≡ false → 0 < b
 is_there b h = grind (arith, nat_tests)
@@ -55,9 +46,6 @@ quote_moves quote text p g =
       | inr x ↦ rw x tt
     ]
 
-less_of : (b : ℕ) → nat_lt 0 b ≡ true → 0 < b
-less_of b h = grind (arith, nat_tests)
-
 standing_moves : (quote : ℕ) (text : List ℕ) (p : ℕ) → Moves text p (standing_at quote text p)
 unfolding standing_at
 standing_moves quote text p =
@@ -70,7 +58,7 @@ standing_moves quote text p =
             elim (cases_Bool (byte text p == quote)) [
               | inl c ↦ rw (a, b, c) (quote_moves quote text p g)
               | inr c ↦ elim (cases_Bool (nat_lt 0 (break_width text p))) [
-                | inl d ↦ let w = less_of (break_width text p) d in rw (a, b, c, d) (omega (arith, w), g)
+                | inl d ↦ let w = ltb-true 0 (break_width text p) d in rw (a, b, c, d) (omega (arith, w), g)
                 | inr d ↦ other a b c d g
               ]
             ]
@@ -158,7 +146,7 @@ unfolding spot_at
 spot_moves flow level text p =
     elim (cases_Bool (nat_lt 0 (break_width text p))) [
       | inl a ↦
-          let w = less_of (break_width text p) a in
+          let w = ltb-true 0 (break_width text p) a in
           rw a (omega (arith, w), within text p (break_first (byte text p) (byte text (p + 1)) (byte text (p + 2)) w))
       | inr a ↦ elim (cases_Bool (is_blank (byte text p))) [
         | inl b ↦ elim (cases_Bool (byte text p == 9 && (leads text p && nat_lt (column_at text p) level))) [

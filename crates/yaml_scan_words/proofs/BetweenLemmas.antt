@@ -1,19 +1,9 @@
 -- Gaps between lexemes, a step at a time.
 use Rattle.std.proofs.Common.{◌≡◌, ℕ, zero, suc, ◌+◌, ◌<◌, ◌≤◌, ◌==◌, ◌&&◌, ◌||◌, nat_lt, if◌then◌else◌, Bool, true, false, not, List, length, refl, sym, ap, ◌∙◌, inl, inr, ◌⊎◌, arith}
-use Rattle.std.proofs.lemmas.Bool.{cases_Bool, and_parts, eqb-true, ltb-true}
-use Rattle.std.proofs.lemmas.Bool.Decides.{nat_tests}
-use Rattle.yaml_scan_model.specs.Marks.{byte, break_of, break_width}
-use Rattle.yaml_scan_model.specs.Classes.{is_bom}
-use Rattle.yaml_scan_model.proofs.MarksLemmas.{no_break, within}
+use Rattle.yaml_scan_words.proofs.Words.{cases_Bool, and_parts, eqb-true, ltb-true, nat_tests, byte, break_of, break_width, is_bom, no_break, within, belongs, run_end, GapStep, step_at, is_skipped, Gap, with_break, gap_within}
 use Rattle.yaml_scan_words.specs.declared.between.GapSpot.TheVariants as gap_spots
 use Rattle.yaml_scan_words.specs.declared.run.Run.TheVariants as runs
-use Rattle.yaml_scan_words.specs.Runs.{belongs, run_end}
 use Rattle.yaml_scan_words.proofs.RunsLemmas.{run_further}
-use Rattle.yaml_scan_words.specs.Between.{GapStep, step_at, is_skipped, Gap, with_break, gap_within}
-
-bom_parts : (a b c : ℕ) → (a == 0xEF && (b == 0xBB && c == 0xBF)) ≡ true
-    → (a ≡ 0xEF) × (b ≡ 0xBB) × (c ≡ 0xBF)
-bom_parts a b c h = (grind (arith, nat_tests), grind (arith, nat_tests), grind (arith, nat_tests))
 
 break_first : (b c d : ℕ) → 0 < break_of b c d → 0 < b
 unfolding break_of
@@ -22,12 +12,11 @@ break_first b c d h = grind (arith, nat_tests)
 pub break_inside : (text : List ℕ) (p : ℕ) → 0 < break_width text p → p < length text
 break_inside text p h = within text p (break_first _ _ _ h)
 
-hash_line : (b w : ℕ) → b ≡ 35 → w ≡ 0 → not (nat_lt 0 w || b == 0) ≡ true
-hash_line b w h k = rw (h, k) refl
-
 hash_belongs : (text : List ℕ) (p : ℕ) → byte text p ≡ 35 → belongs runs.Line text p ≡ true
 unfolding belongs
-hash_belongs text p h = hash_line _ _ h (no_break _ _ _ (omega arith) (omega arith) (omega arith) (omega arith))
+hash_belongs text p h =
+    let none : break_width text p ≡ 0 = no_break _ _ _ (omega arith) (omega arith) (omega arith) (omega arith) in
+    rw (none, h) refl
 
 blank_lexeme : (p q : ℕ)
     → ◌≡◌ {A = GapStep} (record { standing = gap_spots.Blank; place = p })
@@ -49,9 +38,6 @@ not_skipped : (b : ℕ) (tabs : Bool) → (nat_lt 32 b && (nat_lt b 128 && not (
 not_skipped b true h = grind (arith, nat_tests)
 not_skipped b false h = grind (arith, nat_tests)
 
-not_hash : (b : ℕ) → (nat_lt 32 b && (nat_lt b 128 && not (b == 35))) ≡ true → (b == 35) ≡ false
-not_hash b h = grind (arith, nat_tests)
-
 within_ascii : (b : ℕ) → (nat_lt 32 b && (nat_lt b 128 && not (b == 35))) ≡ true
     → (32 < b) × (b < 128)
 within_ascii b h = (grind (arith, nat_tests), grind (arith, nat_tests))
@@ -62,25 +48,19 @@ no_width b c d h =
     let (low, high) = within_ascii b h in
     no_break b c d (omega arith) (omega arith) (omega arith) (omega arith)
 
-last_step : (a b c : Bool) (w : ℕ) (v x y z u : GapStep) → a ≡ false → b ≡ false → c ≡ false → w ≡ 0
-    → (if a then v else if b then x else if c then y else if nat_lt 0 w then z else u) ≡ u
-last_step a b c w v x y z u h i j k = rw (h, i, j, k) refl
-
 --- these bytes begin a lexeme
 pub lexeme_here : (tabs : Bool) (text : List ℕ) (p : ℕ)
     → (nat_lt 32 (byte text p) && (nat_lt (byte text p) 128 && not (byte text p == 35))) ≡ true
     → step_at tabs text p ≡ record { standing = gap_spots.Lexeme; place = p }
 unfolding step_at
 lexeme_here tabs text p h =
-    last_step _ _ _ _ _ _ _ _ _ (not_first (byte text p) (byte text (p + 1)) (byte text (p + 2)) (p == 0) h) (not_skipped (byte text p) tabs h) (not_hash (byte text p) h) (no_width (byte text p) (byte text (p + 1)) (byte text (p + 2)) h)
+    let hash : (byte text p == 35) ≡ false = grind (arith, nat_tests) in
+    rw (not_first (byte text p) (byte text (p + 1)) (byte text (p + 2)) (p == 0) h, not_skipped (byte text p) tabs h, hash, no_width (byte text p) (byte text (p + 1)) (byte text (p + 2)) h) refl
 
 space_first : (b c d : ℕ) (first : Bool) → b ≡ 32
     → (first && (b == 0xEF && (c == 0xBB && d == 0xBF))) ≡ false
 space_first b c d true h = rw h refl
 space_first b c d false h = refl
-
-space_skipped : (b : ℕ) (tabs : Bool) → b ≡ 32 → (b == 32 || (tabs && b == 9)) ≡ true
-space_skipped b tabs h = rw h refl
 
 -- a space is passed
 pub space_here : (tabs : Bool) (text : List ℕ) (p : ℕ) → byte text p ≡ 32
@@ -88,7 +68,7 @@ pub space_here : (tabs : Bool) (text : List ℕ) (p : ℕ) → byte text p ≡ 3
 unfolding step_at
 space_here tabs text p h =
     let first : (p == 0 && is_bom text p) ≡ false = space_first (byte text p) (byte text (p + 1)) (byte text (p + 2)) (p == 0) h in
-    let skips : is_skipped tabs text p ≡ true = space_skipped (byte text p) tabs h in
+    let skips : is_skipped tabs text p ≡ true = rw h refl in
     rw (first, skips) refl
 
 -- a space is a byte, and no break
@@ -99,7 +79,7 @@ space_byte text p e = (omega arith, no_break _ _ _ (omega arith) (omega arith) (
 -- the bytes of U+FEFF
 pub bom_bytes : (text : List ℕ) (p : ℕ) → is_bom text p ≡ true
     → (byte text p ≡ 0xEF) × (byte text (p + 1) ≡ 0xBB) × (byte text (p + 2) ≡ 0xBF)
-bom_bytes text p h = bom_parts _ _ _ h
+bom_bytes text p h = (grind (arith, nat_tests), grind (arith, nat_tests), grind (arith, nat_tests))
 
 skipped_cases : (b : ℕ) (tabs : Bool) → (b == 32 || (tabs && b == 9)) ≡ true → (b ≡ 32) ⊎ (b ≡ 9)
 skipped_cases b true h = grind (arith, nat_tests)

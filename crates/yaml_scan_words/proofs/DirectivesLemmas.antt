@@ -1,22 +1,15 @@
 -- Directives, a part at a time.
 use Rattle.std.proofs.Common.{◌≡◌, ℕ, zero, suc, ◌+◌, ◌-◌, ◌*◌, ◌<◌, ◌≤◌, ◌==◌, nat_lt, true, false, ℤ, pos, List, length, Result, Ok, Err, refl, ◌∙◌, arith, add-one}
-use Rattle.std.proofs.lemmas.Bool.Decides.{nat_tests}
+use Rattle.yaml_scan_words.proofs.Words.{nat_tests, Place, byte, mark_at, is_digit_byte, Wrong, IsMemory, DirectiveName, belongs, run_within, run_end, ReadsAs, IsBytes, behind_bytes, ValueText, value_end, directive_place, name_behind, number_behind, line_place, decimal, number_at, minor_at, prefix_at, with_prefix, then_at, named_value_at, line_end_at, with_line, finished}
 use Rattle.std.specs.Global.{Vec}
 use Rattle.yaml_scan_model.specs.declared.record.yaml_mark_t.{yaml_mark_t}
 use Rattle.yaml_scan_model.specs.declared.problem.Context.TheVariants as contexts
 use Rattle.yaml_scan_model.specs.declared.problem.Problem.TheVariants as problems
 use Rattle.yaml_scan_model.specs.declared.problem.ScanError.{ScanError}
 use Rattle.yaml_scan_model.specs.declared.problem.ScanError.TheVariants as errors
-use Rattle.yaml_scan_model.specs.Marks.{Place, byte, mark_at}
-use Rattle.yaml_scan_model.specs.Classes.{is_digit_byte}
-use Rattle.yaml_scan_model.specs.Wrong.{Wrong, IsMemory}
 use Rattle.yaml_scan_words.specs.declared.run.Run.TheVariants as runs
 use Rattle.yaml_scan_words.specs.declared.word.Directive.{Directive}
 use Rattle.yaml_scan_words.specs.declared.word.DirectiveWord.{DirectiveWord}
-use Rattle.yaml_scan_words.specs.declared.directives.DirectiveName.{DirectiveName}
-use Rattle.yaml_scan_words.specs.Runs.{belongs, run_within, run_end}
-use Rattle.yaml_scan_words.specs.Readings.{ReadsAs, IsBytes, behind_bytes}
-use Rattle.yaml_scan_words.specs.Directives.{ValueText, value_end, directive_place, name_behind, number_behind, line_place, decimal, number_at, minor_at, prefix_at, with_prefix, then_at, named_value_at, line_end_at, with_line, finished}
 use Rattle.yaml_scan_words.specs.declared.word.Directive.TheVariants as said
 use Rattle.yaml_scan_words.specs.DirectivesGiven.{IsSaid, IsName, IsNumber, IsEnd, IsDirective, Says}
 use Rattle.yaml_scan_words.proofs.RunsLemmas.{run_more, run_stop, run_within-ge}

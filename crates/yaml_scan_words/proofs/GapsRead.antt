@@ -1,13 +1,8 @@
 -- Gaps that are written.
 use Rattle.std.proofs.Common.{◌≡◌, ◌≢◌, ℕ, zero, suc, ◌+◌, ◌<◌, ◌≤◌, ◌==◌, ◌&&◌, ◌||◌, nat_lt, Bool, true, false, not, List, [], ◌∷◌, length, refl, ap, ◌∙◌, inl, inr, ◌⊎◌, arith}
-use Rattle.std.proofs.lemmas.Bool.{ne_eqb, lt-ltb, not-true, and_parts}
-use Rattle.std.proofs.lemmas.Bool.Decides.{nat_tests}
-use Rattle.yaml_scan_model.specs.Marks.{byte, break_of, break_width}
-use Rattle.yaml_scan_model.specs.Classes.{is_bom}
+use Rattle.yaml_scan_words.proofs.Words.{ne_eqb, lt-ltb, not-true, and_parts, nat_tests, byte, break_of, break_width, is_bom, step_at, is_skipped, with_break, gap_within, gap_at, HasAt, are_gap, has_break, begins_lexeme}
 use Rattle.yaml_scan_words.specs.declared.between.GapSpot.TheVariants as gap_spots
-use Rattle.yaml_scan_words.specs.Between.{step_at, is_skipped, with_break, gap_within, gap_at}
 use Rattle.yaml_scan_words.proofs.BetweenLemmas.{gap_blank, gap_break, gap_stop}
-use Rattle.yaml_scan_words.specs.Written.{HasAt, are_gap, has_break, begins_lexeme}
 use Rattle.yaml_scan_words.proofs.HasLemmas.{Has, has}
 
 not_first : (first : Bool) (a b c : ℕ) → a ≢ 0xEF

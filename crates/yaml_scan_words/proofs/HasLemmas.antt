@@ -1,9 +1,7 @@
 -- Texts that have some bytes.
 use Rattle.std.proofs.Common.{◌≡◌, ℕ, zero, suc, ◌+◌, ◌-◌, ◌<◌, ◌≤◌, List, [], ◌∷◌, ◌++◌, length, get_or, take, drop, slice_range, refl, ap, subst, ◌∙◌, arith, add-zero, length-take, length-drop}
-use Rattle.std.proofs.lemmas.List.{get_or-take, get_or-drop}
+use Rattle.yaml_scan_words.proofs.Words.{get_or-take, get_or-drop, byte, HasAt}
 use Rattle.std.proofs.lemmas.Grind.{same_number_lists}
-use Rattle.yaml_scan_model.specs.Marks.{byte}
-use Rattle.yaml_scan_words.specs.Written.{HasAt}
 
 -- the text has these bytes from the place on, by recursion
 abbrev pub Has : List ℕ → ℕ → List ℕ → Type 0

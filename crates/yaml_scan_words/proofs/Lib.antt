@@ -1,3 +1,4 @@
+mod Words
 pub mod RanksLemmas
 pub mod RunsLemmas
 pub mod PrintedLemmas

@@ -1,14 +1,7 @@
 -- Names that are written.
 use Rattle.std.proofs.Common.{◌≡◌, ℕ, suc, ◌+◌, ◌<◌, ◌≤◌, ◌==◌, ◌||◌, true, false, List, [], ◌∷◌, length, Ok, refl, sym, ◌∙◌, inl, inr, arith}
-use Rattle.std.proofs.lemmas.Bool.{cases_Bool, true≢false, and_parts}
-use Rattle.std.proofs.lemmas.Bool.Decides.{nat_tests}
-use Rattle.yaml_scan_model.specs.declared.problem.Context.{Context}
-use Rattle.yaml_scan_model.specs.Marks.{byte, break_of, is_blank, is_blank_or_end}
-use Rattle.yaml_scan_model.specs.Classes.{is_alpha_byte, is_digit_byte}
+use Rattle.yaml_scan_words.proofs.Words.{cases_Bool, true≢false, and_parts, nat_tests, Context, byte, break_of, is_blank, is_blank_or_end, is_alpha_byte, is_digit_byte, belongs, run_within, run_end, anchor_at, may_end_name, HasAt, are_alphas, is_name_end, break_width}
 use Rattle.yaml_scan_words.specs.declared.run.Run.TheVariants as runs
-use Rattle.yaml_scan_words.specs.Runs.{belongs, run_within, run_end}
-use Rattle.yaml_scan_words.specs.Anchors.{anchor_at, is_name_end, may_end_name}
-use Rattle.yaml_scan_words.specs.Written.{HasAt, are_alphas}
 use Rattle.yaml_scan_words.proofs.RunsLemmas.{belongs_inside, run_more, run_stop}
 use Rattle.yaml_scan_words.proofs.HasLemmas.{Has, has, range_reads}
 
@@ -48,14 +41,6 @@ alphas_inside (b ∷ bs) text p (e, h) are l =
     let rest = alphas_inside bs text (p + 1) h back (omega arith) in
     omega arith
 
-break_alpha : (b c d : ℕ) → is_alpha_byte b ≡ true → break_of b c d ≡ 0
-unfolding break_of is_alpha_byte is_digit_byte
-break_alpha b c d h = grind (arith, nat_tests)
-
-end_alpha : (b : ℕ) → is_alpha_byte b ≡ true → is_name_end b ≡ false
-unfolding is_alpha_byte is_digit_byte
-end_alpha b h = grind (arith, nat_tests)
-
 blank_alpha : (b : ℕ) → is_alpha_byte b ≡ true → (is_blank b || b == 0) ≡ false
 unfolding is_alpha_byte is_digit_byte
 blank_alpha b h = grind (arith, nat_tests)
@@ -63,12 +48,16 @@ blank_alpha b h = grind (arith, nat_tests)
 -- an alpha is no blank, no break and not the end
 pub alpha_goes_on : (text : List ℕ) (p : ℕ) → is_alpha_byte (byte text p) ≡ true
     → is_blank_or_end text p ≡ false
-alpha_goes_on text p h = rw (blank_alpha (byte text p) h, break_alpha (byte text p) (byte text (p + 1)) (byte text (p + 2)) h) refl
+alpha_goes_on text p h =
+    let none : break_width text p ≡ 0 = unfold break_of is_alpha_byte is_digit_byte in grind (arith, nat_tests) in
+    rw (blank_alpha (byte text p) h, none) refl
 
 alpha_ends_none : (text : List ℕ) (p : ℕ) → is_alpha_byte (byte text p) ≡ true
     → may_end_name text p ≡ false
 unfolding may_end_name
-alpha_ends_none text p h = rw (alpha_goes_on text p h, end_alpha (byte text p) h) refl
+alpha_ends_none text p h =
+    let end : is_name_end (byte text p) ≡ false = unfold is_alpha_byte is_digit_byte in grind (arith, nat_tests) in
+    rw (alpha_goes_on text p h, end) refl
 
 name_stops : (text : List ℕ) (p : ℕ) → may_end_name text p ≡ true
     → belongs runs.Alphas text p ≡ false

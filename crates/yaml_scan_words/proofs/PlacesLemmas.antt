@@ -1,26 +1,10 @@
 -- Where lexemes and gaps end: behind their start, and inside the text.
 use Rattle.std.proofs.Common.{◌≡◌, ℕ, zero, suc, ◌+◌, ◌-◌, ◌<◌, ◌≤◌, ◌==◌, ◌&&◌, ◌||◌, nat_lt, Bool, true, false, not, List, [], ◌∷◌, length, Option, Some, None, IsSome, Result, Ok, Err, refl, inl, inr, arith}
-use Rattle.std.proofs.lemmas.Bool.{cases_Bool, eqb-true, ltb-true}
-use Rattle.yaml_scan_model.specs.declared.problem.Context.{Context}
+use Rattle.yaml_scan_words.proofs.Words.{cases_Bool, eqb-true, ltb-true, Context, Problem, byte, break_width, is_blank_or_end, is_bom, Wrong, within, past_break, GapSpot, Run, belongs, run_end, step_at, is_skipped, Gap, gap_behind, gap_within, gap_at, behind_bytes, anchor_at, name_between, may_end_name, is_uri, octet_at, due_behind, UriSpot, Spells, Ends, Faulty, escape_spot, octet_spot, spot_at, with_bytes, uri_from, uri_within, uri_at, filled, some_uri_at, TagText, tag_end, bracketed, verbatim_at, name_end, with_handle, named_at, bare, parts_at, may_end_tag, ended, tag_at, DirectiveName, value_end, name_behind, number_behind, line_place, then_at, is_yaml, is_tag, directive_name_between, name_at, number_between, number_at, with_major, minor_at, version_at, handle_between, handle_at, prefix_ended, prefix_at, with_prefix, tag_directive_at, named_value_at, value_at, comment_end, break_end, line_end_at}
 use Rattle.yaml_scan_model.specs.declared.problem.Context.TheVariants as contexts
-use Rattle.yaml_scan_model.specs.declared.problem.Problem.{Problem}
-use Rattle.yaml_scan_model.specs.Marks.{byte, break_width, is_blank_or_end}
-use Rattle.yaml_scan_model.specs.Classes.{is_bom}
-use Rattle.yaml_scan_model.specs.Wrong.{Wrong}
-use Rattle.yaml_scan_model.proofs.MarksLemmas.{within, past_break}
-use Rattle.yaml_scan_words.specs.declared.between.GapSpot.{GapSpot}
 use Rattle.yaml_scan_words.specs.declared.between.GapSpot.TheVariants as gap_spots
-use Rattle.yaml_scan_words.specs.declared.run.Run.{Run}
 use Rattle.yaml_scan_words.specs.declared.run.Run.TheVariants as runs
-use Rattle.yaml_scan_words.specs.Runs.{belongs, run_end}
-use Rattle.yaml_scan_words.specs.Between.{step_at, is_skipped, Gap, gap_behind, gap_within, gap_at}
-use Rattle.yaml_scan_words.specs.Readings.{behind_bytes}
-use Rattle.yaml_scan_words.specs.Anchors.{anchor_at, name_between, may_end_name}
-use Rattle.yaml_scan_words.specs.Uris.{is_uri, octet_at, due_behind, UriSpot, Spells, Ends, Faulty, escape_spot, octet_spot, spot_at, with_bytes, uri_from, uri_within, uri_at, filled, some_uri_at}
-use Rattle.yaml_scan_words.specs.Tags.{TagText, tag_end, bracketed, verbatim_at, name_end, with_handle, named_at, bare, parts_at, may_end_tag, ended, tag_at}
-use Rattle.yaml_scan_words.specs.declared.directives.DirectiveName.{DirectiveName}
 use Rattle.yaml_scan_words.specs.declared.directives.DirectiveName.TheVariants as names
-use Rattle.yaml_scan_words.specs.Directives.{ValueText, value_end, directive_place, name_behind, number_behind, line_place, then_at, is_yaml, is_tag, name_between as directive_name_between, name_at, number_between, number_at, with_major, minor_at, version_at, handle_between, handle_at, prefix_ended, prefix_at, with_prefix, tag_directive_at, named_value_at, value_at, comment_end, break_end, line_end_at, with_line, finished, directive_at}
 use Rattle.yaml_scan_words.proofs.RunsLemmas.{run_within-ge, run_within-le}
 use Rattle.yaml_scan_words.proofs.BetweenLemmas.{bom_bytes, bom_first, skipped_here}
 use Rattle.yaml_scan_words.proofs.UrisLemmas.{uri_range, octet_digits}
@@ -90,6 +74,19 @@ abbrev pub Lands : {Y : Type 0} → (Y → ℕ) → List ℕ → ℕ → Result 
 Lands end text p (Ok y) = IsFrom text p (end y)
 Lands end text p (Err w) = Unit {0}
 
+lands_further : {Y : Type 0} (end : Y → ℕ) (text : List ℕ) (o p : ℕ) (r : Result Y Wrong) → o ≤ p
+    → Lands end text p r → Lands end text o r
+lands_further end text o p (Ok y) l h = further text o p (end y) l h
+lands_further end text o p (Err w) l h = tt
+
+-- what is read and then looked at by f, which hands on what is wrong
+lands_by : {X Y : Type 0} (from : X → ℕ) (end : Y → ℕ) (text : List ℕ) (p : ℕ)
+    (f : Result X Wrong → Result Y Wrong) (r : Result X Wrong)
+    → ((x : X) → IsFrom text p (from x) → Lands end text p (f (Ok x)))
+    → ((w : Wrong) → Lands end text p (f (Err w))) → Lands from text p r → Lands end text p (f r)
+lands_by from end text p f (Ok x) h k i = h x i
+lands_by from end text p f (Err w) h k i = k w
+
 name_place : (context : Context) (text : List ℕ) (o p q : ℕ) → IsFrom text o q
     → Lands behind_bytes text o (name_between context text p q)
 name_place context text o p q f =
@@ -142,22 +139,12 @@ spot_placed wide due text p l =
       ]
     ]
 
-bytes_place : (text : List ℕ) (p : ℕ) (bytes : List ℕ) (r : Result (List ℕ × ℕ) Wrong)
-    → Lands behind_bytes text p r → Lands behind_bytes text p (with_bytes bytes r)
-bytes_place text p bytes (Ok u) h = h
-bytes_place text p bytes (Err w) h = tt
-
-lands_further : {Y : Type 0} (end : Y → ℕ) (text : List ℕ) (o p : ℕ) (r : Result Y Wrong) → o ≤ p
-    → Lands end text p r → Lands end text o r
-lands_further end text o p (Ok y) l h = further text o p (end y) l h
-lands_further end text o p (Err w) l h = tt
-
 uri_from-place : (more : ℕ → ℕ → Result (List ℕ × ℕ) Wrong) (context : Context) (text : List ℕ)
     (p : ℕ) (s : UriSpot)
     → ((due q : ℕ) → q ≤ length text → Lands behind_bytes text q (more due q)) → Placed text p s
     → Lands behind_bytes text p (uri_from more context s)
 uri_from-place more context text p (Spells b due q) rest f =
-    lands_further behind_bytes text p q (with_bytes (b ∷ []) (more due q)) f.forward (bytes_place text q (b ∷ []) (more due q) (rest due q f.inside))
+    lands_further behind_bytes text p q (with_bytes (b ∷ []) (more due q)) f.forward (lands_by behind_bytes behind_bytes text q (with_bytes (b ∷ [])) (more due q) (λ u h. h) (λ w. tt) (rest due q f.inside))
 uri_from-place more context text p (Ends q) rest f = f
 uri_from-place more context text p (Faulty problem q) rest f = tt
 
@@ -198,11 +185,6 @@ bracketed_place text p (Ok u) h =
     ]
 bracketed_place text p (Err w) h = tt
 
-handle_place : (text : List ℕ) (p : ℕ) (handle : List ℕ) (r : Result (List ℕ × ℕ) Wrong)
-    → Lands behind_bytes text p r → Lands tag_end text p (with_handle handle r)
-handle_place text p handle (Ok u) h = h
-handle_place text p handle (Err w) h = tt
-
 bare_place : (text : List ℕ) (p : ℕ) (r : Result (List ℕ × ℕ) Wrong) → Lands behind_bytes text p r
     → Lands tag_end text p (bare r)
 bare_place text p (Ok u) h =
@@ -227,7 +209,7 @@ parts_place text p l =
             let b : byte text (name_end text p) ≡ 33 = eqb-true _ _ i in
             let here = within text (name_end text p) (omega (arith, b)) in
             rw (h, i) (lands_further tag_end text (p + 1) (name_end text p + 1) (named_at text p) (omega (arith, name.forward))
-            (handle_place text (name_end text p + 1) _ (some_uri_at contexts.TagUri false text (name_end text p + 1)) (some_uri_place contexts.TagUri false text (name_end text p + 1) (omega (arith, here)))))
+            (lands_by behind_bytes tag_end text (name_end text p + 1) (with_handle _) (some_uri_at contexts.TagUri false text (name_end text p + 1)) (λ u h. h) (λ w. tt) (some_uri_place contexts.TagUri false text (name_end text p + 1) (omega (arith, here)))))
         | inr i ↦ rw (h, i) (bare_place text (p + 1) (uri_at contexts.TagUri false text (p + 1)) (uri_place contexts.TagUri false text (p + 1) (omega arith)))
       ]
     ]
@@ -274,11 +256,6 @@ number_place text p q f =
       ]
     ]
 
-major_place : (text : List ℕ) (p major : ℕ) (r : Result (ℕ × ℕ) Wrong)
-    → Lands number_behind text p r → Lands value_end text p (with_major major r)
-major_place text p major (Ok x) h = h
-major_place text p major (Err w) h = tt
-
 minor_place : (text : List ℕ) (major q : ℕ) → Lands value_end text q (minor_at text major q)
 minor_place text major q =
     elim (cases_Bool (byte text q == 46)) [
@@ -286,14 +263,9 @@ minor_place text major q =
           let b : byte text q ≡ 46 = eqb-true _ _ h in
           let here = within text q (omega (arith, b)) in
           rw h (lands_further value_end text q (q + 1) (with_major major (number_at text (q + 1))) (omega arith)
-          (major_place text (q + 1) major (number_at text (q + 1)) (number_place text (q + 1) (run_end runs.Digits text (q + 1)) (run_place runs.Digits text (q + 1) (omega (arith, here))))))
+          (lands_by number_behind value_end text (q + 1) (with_major major) (number_at text (q + 1)) (λ x h. h) (λ w. tt) (number_place text (q + 1) (run_end runs.Digits text (q + 1)) (run_place runs.Digits text (q + 1) (omega (arith, here))))))
       | inr h ↦ rw h tt
     ]
-
-version_behind : (text : List ℕ) (p : ℕ) (r : Result (ℕ × ℕ) Wrong) → Lands number_behind text p r
-    → Lands value_end text p (then_at (minor_at text) r)
-version_behind text p (Ok x) h = lands_further value_end text p x.1 (minor_at text x.0 x.1) h.forward (minor_place text x.0 x.1)
-version_behind text p (Err w) h = tt
 
 version_place : (text : List ℕ) (p : ℕ) → p ≤ length text
     → Lands value_end text p (version_at text p)
@@ -301,7 +273,8 @@ version_place text p l =
     let blanks = run_place runs.Blanks text p l in
     let q = run_end runs.Blanks text p in
     lands_further value_end text p q (version_at text p) blanks.forward
-    (version_behind text q (number_at text q) (number_place text q (run_end runs.Digits text q) (run_place runs.Digits text q blanks.inside)))
+    (lands_by number_behind value_end text q (then_at (minor_at text)) (number_at text q)
+    (λ x h. lands_further value_end text q x.1 (minor_at text x.0 x.1) h.forward (minor_place text x.0 x.1)) (λ w. tt) (number_place text q (run_end runs.Digits text q) (run_place runs.Digits text q blanks.inside)))
 
 handle_between_place : (text : List ℕ) (p q : ℕ) → IsFrom text (p + 1) q
     → Lands behind_bytes text p (handle_between text p q)
@@ -347,39 +320,27 @@ prefix_place text p l =
       | inr h ↦ rw h tt
     ]
 
-with_prefix_place : (text : List ℕ) (p : ℕ) (handle : List ℕ) (r : Result (List ℕ × ℕ) Wrong)
-    → Lands behind_bytes text p r → Lands value_end text p (with_prefix handle r)
-with_prefix_place text p handle (Ok x) h = h
-with_prefix_place text p handle (Err w) h = tt
-
-tag_behind : (text : List ℕ) (p : ℕ) (r : Result (List ℕ × ℕ) Wrong) → Lands behind_bytes text p r
-    → Lands value_end text p (then_at (λ handle q. with_prefix handle (prefix_at text q)) r)
-tag_behind text p (Ok x) h =
-    lands_further value_end text p x.1 (with_prefix x.0 (prefix_at text x.1)) h.forward
-    (with_prefix_place text x.1 x.0 (prefix_at text x.1) (prefix_place text x.1 h.inside))
-tag_behind text p (Err w) h = tt
-
 tag_directive_place : (text : List ℕ) (p : ℕ) → p ≤ length text
     → Lands value_end text p (tag_directive_at text p)
 tag_directive_place text p l =
     let blanks = run_place runs.Blanks text p l in
     let q = run_end runs.Blanks text p in
-    lands_further value_end text p q (tag_directive_at text p) blanks.forward (tag_behind text q (handle_at text q) (tag_handle_place text q))
+    lands_further value_end text p q (tag_directive_at text p) blanks.forward
+    (lands_by behind_bytes value_end text q (then_at (λ handle x. with_prefix handle (prefix_at text x))) (handle_at text q)
+    (λ x h. lands_further value_end text q x.1 (with_prefix x.0 (prefix_at text x.1)) h.forward
+    (lands_by behind_bytes value_end text x.1 (with_prefix x.0) (prefix_at text x.1) (λ y i. i) (λ w. tt) (prefix_place text x.1 h.inside)))
+    (λ w. tt) (tag_handle_place text q))
 
 named_place : (text : List ℕ) (name : DirectiveName) (q : ℕ) → q ≤ length text
     → Lands value_end text q (named_value_at text name q)
 named_place text names.Yaml q l = version_place text q l
 named_place text names.Tag q l = tag_directive_place text q l
 
-value_behind : (text : List ℕ) (p : ℕ) (r : Result (DirectiveName × ℕ) Wrong)
-    → Lands name_behind text p r → Lands value_end text p (then_at (named_value_at text) r)
-value_behind text p (Ok x) h = lands_further value_end text p x.1 (named_value_at text x.0 x.1) h.forward (named_place text x.0 x.1 h.inside)
-value_behind text p (Err w) h = tt
-
 pub value_place : (text : List ℕ) (p : ℕ) → p < length text
     → Lands value_end text (p + 1) (value_at text p)
 value_place text p l =
-    value_behind text (p + 1) (name_at text p) (directive_name_place text (p + 1) (p + 1) (run_end runs.Alphas text (p + 1)) (run_place runs.Alphas text (p + 1) (omega arith)))
+    lands_by name_behind value_end text (p + 1) (then_at (named_value_at text)) (name_at text p)
+    (λ x h. lands_further value_end text (p + 1) x.1 (named_value_at text x.0 x.1) h.forward (named_place text x.0 x.1 h.inside)) (λ w. tt) (directive_name_place text (p + 1) (p + 1) (run_end runs.Alphas text (p + 1)) (run_place runs.Alphas text (p + 1) (omega arith)))
 
 comment_place : (text : List ℕ) (p : ℕ) → p ≤ length text → IsFrom text p (comment_end text p)
 comment_place text p l =
@@ -400,27 +361,11 @@ break_place text p l =
       ]
     ]
 
-line_end_place : (text : List ℕ) (p : ℕ) → p ≤ length text
+-- a directive's line ends behind its start, inside the text
+pub line_end_place : (text : List ℕ) (p : ℕ) → p ≤ length text
     → Lands line_place text p (line_end_at text p)
 line_end_place text p l =
     let blanks = run_place runs.Blanks text p l in
     let q = run_end runs.Blanks text p in
     let comment = comment_place text q blanks.inside in
     lands_further line_place text p (comment_end text q) (line_end_at text p) (omega (arith, blanks.forward, comment.forward)) (break_place text (comment_end text q) comment.inside)
-
-with_line_place : (text : List ℕ) (p : ℕ) (v : ValueText) (r : Result ℕ Wrong)
-    → Lands line_place text p r → Lands directive_place text p (with_line v r)
-with_line_place text p v (Ok q) h = h
-with_line_place text p v (Err w) h = tt
-
-finished_place : (text : List ℕ) (p : ℕ) (r : Result ValueText Wrong) → Lands value_end text p r
-    → Lands directive_place text p (finished text r)
-finished_place text p (Ok v) h =
-    lands_further directive_place text p v.end (with_line v (line_end_at text v.end)) h.forward
-    (with_line_place text v.end v (line_end_at text v.end) (line_end_place text v.end h.inside))
-finished_place text p (Err w) h = tt
-
--- a directive's line ends behind its first byte, inside the text
-pub directive_line_place : (text : List ℕ) (p : ℕ) → p < length text
-    → Lands directive_place text (p + 1) (directive_at text p)
-directive_line_place text p l = finished_place text (p + 1) (value_at text p) (value_place text p l)

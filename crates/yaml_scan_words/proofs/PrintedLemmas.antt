@@ -1,21 +1,11 @@
 -- Runs of printed bytes: printed ASCII but the space.
 use Rattle.std.proofs.Common.{◌≡◌, ℕ, zero, suc, ◌+◌, ◌<◌, ◌≤◌, Bool, true, List, length, inl, inr, arith}
-use Rattle.std.proofs.lemmas.Bool.{cases_Bool, cases_lt}
-use Rattle.std.proofs.lemmas.Bool.Decides.{nat_tests}
-use Rattle.yaml_scan_model.specs.Marks.{byte}
-use Rattle.yaml_scan_model.specs.Classes.{is_alpha_byte, is_digit_byte}
+use Rattle.yaml_scan_words.proofs.Words.{cases_Bool, cases_lt, nat_tests, byte, is_alpha_byte, is_digit_byte, belongs, run_within, run_end, is_uri}
 use Rattle.yaml_scan_words.specs.declared.run.Run.TheVariants as runs
-use Rattle.yaml_scan_words.specs.Runs.{belongs, run_within, run_end}
-use Rattle.yaml_scan_words.specs.Uris.{is_uri}
 
 pub alpha_range : (b : ℕ) → is_alpha_byte b ≡ true → (32 < b) × (b < 127)
 unfolding is_alpha_byte is_digit_byte
 alpha_range b h = (grind (arith, nat_tests), grind (arith, nat_tests))
-
-alpha_printed : (text : List ℕ) (p : ℕ) → belongs runs.Alphas text p ≡ true
-    → (32 < byte text p) × (byte text p < 127)
-unfolding belongs
-alpha_printed text p h = alpha_range (byte text p) h
 
 -- the bytes of a run of alphas
 within_printed : (n : ℕ) (text : List ℕ) (p k : ℕ) → p ≤ k → k < run_within n runs.Alphas text p
@@ -28,21 +18,17 @@ within_printed (suc n) text p k after before =
           let less : k < run_within n runs.Alphas text (p + 1) = rw e at before in
           elim (cases_lt p k) [
             | inl more ↦ within_printed n text (p + 1) k (omega arith) less
-            | inr here ↦ let same : k ≡ p = omega arith in rw same (alpha_printed text p e)
+            | inr here ↦ let same : k ≡ p = omega arith in rw same (unfold belongs in alpha_range (byte text p) e)
           ]
       | inr e ↦ let less : k < p = rw e at before in absurd (omega arith)
     ]
-
-pub run_printed : (text : List ℕ) (p k : ℕ) → p ≤ k → k < run_end runs.Alphas text p
-    → (32 < byte text k) × (byte text k < 127)
-run_printed text p k after before = within_printed (length text) text p k after before
 
 -- an indicator and the alphas that follow it
 pub name_printed : (text : List ℕ) (p k : ℕ) → (32 < byte text p) × (byte text p < 127) → p ≤ k
     → k < run_end runs.Alphas text (p + 1) → (32 < byte text k) × (byte text k < 127)
 name_printed text p k first_printed after before =
     elim (cases_lt p k) [
-      | inl more ↦ run_printed text (p + 1) k (omega arith) before
+      | inl more ↦ (within_printed (length text) text (p + 1) k (omega arith) before)
       | inr here ↦ let same : k ≡ p = omega arith in rw same first_printed
     ]
 

@@ -1,13 +1,7 @@
 -- Runs, a byte at a time.
 use Rattle.std.proofs.Common.{◌≡◌, ℕ, zero, suc, ◌+◌, ◌-◌, ◌<◌, ◌≤◌, ◌==◌, nat_lt, ◌||◌, true, false, not, List, length, refl, ◌∙◌, inl, inr, ◌⊎◌, arith}
-use Rattle.std.proofs.lemmas.Bool.{cases_Bool}
-use Rattle.std.proofs.lemmas.Bool.Decides.{nat_tests}
-use Rattle.yaml_scan_model.specs.Marks.{byte, break_width, is_blank}
-use Rattle.yaml_scan_model.specs.Classes.{is_alpha_byte, is_digit_byte}
-use Rattle.yaml_scan_model.proofs.MarksLemmas.{no_break, within}
-use Rattle.yaml_scan_words.specs.declared.run.Run.{Run}
+use Rattle.yaml_scan_words.proofs.Words.{cases_Bool, nat_tests, byte, break_width, is_blank, is_alpha_byte, is_digit_byte, no_break, within, Run, belongs, run_within, run_end}
 use Rattle.yaml_scan_words.specs.declared.run.Run.TheVariants as runs
-use Rattle.yaml_scan_words.specs.Runs.{belongs, run_within, run_end}
 
 digit_range : (b : ℕ) → is_digit_byte b ≡ true → (48 ≤ b) × (b ≤ 57)
 unfolding is_digit_byte

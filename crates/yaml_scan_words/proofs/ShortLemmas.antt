@@ -1,26 +1,14 @@
 -- Tags in a short form without escapes.
 use Rattle.std.proofs.Common.{◌≡◌, ℕ, zero, suc, ◌+◌, ◌-◌, ◌<◌, ◌≤◌, ◌==◌, ◌&&◌, Bool, true, false, not, List, [], ◌∷◌, length, take, drop, slice_range, Ok, refl, sym, inl, inr, ◌⊎◌, arith}
-use Rattle.std.proofs.lemmas.Bool.{cases_Bool, cases_lt, true≢false, eqb-true}
-use Rattle.std.proofs.lemmas.Bool.Decides.{nat_tests}
-use Rattle.std.proofs.lemmas.List.{length-drop, length-take-le}
+use Rattle.yaml_scan_words.proofs.Words.{cases_Bool, cases_lt, true≢false, eqb-true, nat_tests, length-drop, length-take-le, byte, within, belongs, run_within, is_uri, uri_at, name_end, handle_end, parts_at, may_end_tag, tag_at, ne_eqb}
 use Rattle.yaml_scan_model.specs.declared.problem.Context.TheVariants as contexts
-use Rattle.yaml_scan_model.specs.Marks.{byte}
-use Rattle.yaml_scan_model.proofs.MarksLemmas.{within}
 use Rattle.yaml_scan_words.specs.declared.run.Run.TheVariants as runs
-use Rattle.yaml_scan_words.specs.Runs.{belongs, run_within}
-use Rattle.yaml_scan_words.specs.Uris.{is_uri, uri_at}
-use Rattle.yaml_scan_words.specs.Tags.{name_end, handle_end, parts_at, may_end_tag, tag_at}
 use Rattle.yaml_scan_words.specs.TagsGiven.{IsShort}
 use Rattle.yaml_scan_words.proofs.RunsLemmas.{run_within-ge}
 use Rattle.yaml_scan_words.proofs.PrintedLemmas.{name_printed}
 use Rattle.yaml_scan_words.proofs.UrisLemmas.{uri_range, uri_plain}
 use Rattle.yaml_scan_words.proofs.HasLemmas.{range_reads}
 use Rattle.yaml_scan_words.proofs.TagsRead.{ends_other}
-
-alpha_kept : (text : List ℕ) (p : ℕ) → belongs runs.Alphas text p ≡ true
-    → is_uri false text p ≡ true
-unfolding belongs
-alpha_kept text p h = rw h refl
 
 -- a URI holds the alphas of a run as they are
 within_kept : (n : ℕ) (text : List ℕ) (p k : ℕ) → p ≤ k → k < run_within n runs.Alphas text p
@@ -33,7 +21,7 @@ within_kept (suc n) text p k after before =
           let less : k < run_within n runs.Alphas text (p + 1) = rw e at before in
           elim (cases_lt p k) [
             | inl more ↦ within_kept n text (p + 1) k (omega arith) less
-            | inr here ↦ let same : k ≡ p = omega arith in rw same (alpha_kept text p e)
+            | inr here ↦ let same : k ≡ p = omega arith in rw same (unfold belongs in rw e refl)
           ]
       | inr e ↦ let less : k < p = rw e at before in absurd (omega arith)
     ]
@@ -97,18 +85,6 @@ handle_forward text p =
       | inr (none, e) ↦ omega arith
     ]
 
-named_short : (flow : Bool) (text : List ℕ) (p q m : ℕ) → (byte text (p + 1) == 60) ≡ false
-    → (byte text (name_end text p) == 33) ≡ true → m ≡ name_end text p + 1
-    → uri_at contexts.TagUri false text m ≡ Ok (slice_range text m q, q)
-    → (length (slice_range text m q) == 0) ≡ false → may_end_tag flow text q ≡ true
-    → tag_at flow text p ≡ Ok record {
-      handle = slice_range text p m;
-      suffix = slice_range text m q;
-      end = q;
-    }
-unfolding parts_at
-named_short flow text p q m angle mark e = rw e (λ read some ends. rw (angle, mark, read, some, ends) refl)
-
 bare_short : (flow : Bool) (text : List ℕ) (p q m : ℕ) → (byte text (p + 1) == 60) ≡ false
     → (byte text (name_end text p) == 33) ≡ false → m ≡ p + 1 → slice_range text p (p + 1) ≡ 33 ∷ []
     → uri_at contexts.TagUri false text m ≡ Ok (slice_range text m q, q)
@@ -129,8 +105,17 @@ three true b c h = absurd (true≢false (sym h))
 apart : (a b : ℕ) → a ≤ b → (a == b) ≡ false → a < b
 apart a b low h = grind (arith, nat_tests)
 
-none_zero : (n : ℕ) → 0 < n → (n == 0) ≡ false
-none_zero n h = grind (arith, nat_tests)
+named_short : (flow : Bool) (text : List ℕ) (p q m : ℕ) → (byte text (p + 1) == 60) ≡ false
+    → (byte text (name_end text p) == 33) ≡ true → m ≡ name_end text p + 1
+    → uri_at contexts.TagUri false text m ≡ Ok (slice_range text m q, q)
+    → (length (slice_range text m q) == 0) ≡ false → may_end_tag flow text q ≡ true
+    → tag_at flow text p ≡ Ok record {
+      handle = slice_range text p m;
+      suffix = slice_range text m q;
+      end = q;
+    }
+unfolding parts_at
+named_short flow text p q m angle mark e = rw e (λ read some ends. rw (angle, mark, read, some, ends) refl)
 
 -- a short form is a handle, and a suffix behind it
 pub short_tag : (flow : Bool) (text : List ℕ) (p q : ℕ) → byte text p ≡ 33 → IsShort text p q
@@ -150,7 +135,7 @@ short_tag flow text p q first s h =
     let inside = within text (q - 1) (omega arith) in
     let read = uri_plain contexts.TagUri false text m q s.forward s.kept (λ e. ends_other flow text q 37 ends e (omega arith) (omega arith) (omega arith)) s.stop in
     let count : length (take (q - m) (drop m text)) ≡ q - m = length-take-le (q - m) (drop m text) (omega (arith, length-drop m text)) in
-    let some : (length (slice_range text m q) == 0) ≡ false = none_zero _ (omega (arith, count)) in
+    let some = ne_eqb (length (slice_range text m q)) 0 (omega (arith, count)) in
     let here = within text p (omega arith) in
     elim (handle_cases text p) [
       | inl (mark, e) ↦ named_short flow text p q m angle mark e read some ends

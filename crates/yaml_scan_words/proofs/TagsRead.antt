@@ -1,16 +1,8 @@
 -- Tags that are written.
 use Rattle.std.proofs.Common.{◌≡◌, ◌≢◌, ℕ, suc, ◌+◌, ◌<◌, ◌≤◌, ◌==◌, ◌&&◌, ◌||◌, Bool, true, false, not, List, [], ◌∷◌, ◌++◌, length, slice_range, Ok, refl, sym, ◌∙◌, inl, inr, append_assoc, arith, length-append}
-use Rattle.std.proofs.lemmas.Bool.{cases_Bool, true≢false, or_cases, and_parts, eqb-true, ne_eqb}
-use Rattle.std.proofs.lemmas.Bool.Decides.{nat_tests}
+use Rattle.yaml_scan_words.proofs.Words.{cases_Bool, true≢false, or_cases, and_parts, eqb-true, ne_eqb, nat_tests, byte, break_width, is_alpha_byte, is_digit_byte, no_break, within, belongs, run_within, is_punctuation, is_wide_punctuation, is_uri, name_end, parts_at, may_end_tag, tag_at, HasAt, are_alphas, UriPiece, raw, escape, uri_text, uri_bytes, is_kept, IsUri, has_no_mark, is_blank}
 use Rattle.yaml_scan_model.specs.declared.problem.Context.TheVariants as contexts
-use Rattle.yaml_scan_model.specs.Marks.{byte, break_width, is_blank}
-use Rattle.yaml_scan_model.specs.Classes.{is_alpha_byte, is_digit_byte}
-use Rattle.yaml_scan_model.proofs.MarksLemmas.{no_break, within}
 use Rattle.yaml_scan_words.specs.declared.run.Run.TheVariants as runs
-use Rattle.yaml_scan_words.specs.Runs.{belongs, run_within}
-use Rattle.yaml_scan_words.specs.Uris.{is_punctuation, is_wide_punctuation, is_uri}
-use Rattle.yaml_scan_words.specs.Tags.{name_end, parts_at, may_end_tag, tag_at}
-use Rattle.yaml_scan_words.specs.Written.{HasAt, are_alphas, UriPiece, raw, escape, uri_text, uri_bytes, is_kept, IsUri, has_no_mark}
 use Rattle.yaml_scan_words.proofs.RunsLemmas.{run_more, run_stop}
 use Rattle.yaml_scan_words.proofs.UrisLemmas.{uri_range}
 use Rattle.yaml_scan_words.proofs.HasLemmas.{Has, has, has_front, has_rest, range_reads}
@@ -21,23 +13,16 @@ alpha_none : (b : ℕ) → is_alpha_byte b ≡ true → (b ≢ 44) × (b ≢ 60)
 unfolding is_alpha_byte is_digit_byte
 alpha_none b h = (grind (arith, nat_tests), grind (arith, nat_tests), grind (arith, nat_tests), grind (arith, nat_tests))
 
-punctuation_none : (b : ℕ) → is_punctuation b ≡ true → (b ≢ 44) × (b ≢ 60)
-unfolding is_punctuation
-punctuation_none b h = (grind (arith, nat_tests), grind (arith, nat_tests))
-
 -- what is kept in a shorthand tag is neither `,` nor `<`
 kept_none : (b : ℕ) → is_kept false b ≡ true → (b ≢ 44) × (b ≢ 60)
 kept_none b h =
     elim (or_cases (is_alpha_byte b) (is_punctuation b || false) h) [
       | inl a ↦ let (comma, angle, low, high) = alpha_none b a in (comma, angle)
       | inr more ↦ elim (or_cases (is_punctuation b) false more) [
-        | inl s ↦ punctuation_none b s
+        | inl s ↦ unfold is_punctuation in (grind (arith, nat_tests), grind (arith, nat_tests))
         | inr w ↦ absurd (true≢false (sym w))
       ]
     ]
-
-blank_none : (b : ℕ) → 32 < b → (is_blank b || b == 0) ≡ false
-blank_none b h = grind (arith, nat_tests)
 
 comma_none : (flow : Bool) (b : ℕ) → b ≢ 44 → (flow && b == 44) ≡ false
 comma_none true b h = grind (arith, nat_tests)
@@ -48,7 +33,8 @@ goes_on : (flow : Bool) (text : List ℕ) (p : ℕ) → 32 < byte text p → byt
     → byte text p ≢ 44 → may_end_tag flow text p ≡ false
 goes_on flow text p low high comma =
     let none : break_width text p ≡ 0 = no_break _ _ _ (omega arith) (omega arith) (omega arith) (omega arith) in
-    rw (blank_none (byte text p) low, none, comma_none flow (byte text p) comma) refl
+    let blank : (is_blank (byte text p) || byte text p == 0) ≡ false = grind (arith, nat_tests) in
+    rw (blank, none, comma_none flow (byte text p) comma) refl
 
 pub ends_other : (flow : Bool) (text : List ℕ) (p b : ℕ) → may_end_tag flow text p ≡ true
     → byte text p ≡ b → 32 < b → b < 127 → b ≢ 44 → ⊥
@@ -77,10 +63,6 @@ alpha_stops flow text p h =
           absurd (ends_other flow text p (byte text p) h refl low high comma)
       | inr a ↦ no_alpha_at text p a
     ]
-
-percent_alpha : is_alpha_byte 37 ≡ false
-unfolding is_alpha_byte is_digit_byte
-percent_alpha = refl
 
 mark_alpha : is_alpha_byte 33 ≡ false
 unfolding is_alpha_byte is_digit_byte
@@ -111,7 +93,7 @@ unmarked (raw b ∷ pieces) n text p (e, h) free mark stop room =
           rw (run_stop n runs.Alphas text p none, e) (unequal b 33 first)
     ]
 unmarked (escape b ∷ pieces) n text p (e, h) free mark stop room =
-    let none : belongs runs.Alphas text p ≡ false = no_alpha_at text p (rw e percent_alpha) in
+    let none : belongs runs.Alphas text p ≡ false = no_alpha_at text p (rw e (unfold is_alpha_byte is_digit_byte in refl)) in
     rw (run_stop n runs.Alphas text p none, e) (omega arith)
 
 some_bytes : (pieces : List UriPiece) → 0 < length pieces → (length (uri_bytes pieces) == 0) ≡ false
@@ -196,8 +178,7 @@ pub named_is_read : (flow : Bool) (text : List ℕ) (p : ℕ) (name : List ℕ) 
     }
 unfolding parts_at
 named_is_read flow text p name pieces h are some is stop =
-    let whole = has text p (33 ∷ (name ++ (33 ∷ uri_text pieces))) h in
-    let (mark, all) = whole in
+    let (mark, all) = has text p (33 ∷ (name ++ (33 ∷ uri_text pieces))) h in
     let q = p + 1 + length name in
     let here = within text p (omega (arith, mark)) in
     let front = has_front text (p + 1) name (33 ∷ uri_text pieces) all in

@@ -1,15 +1,9 @@
 -- The bound on steps is never met.
 use Rattle.std.proofs.Common.{◌≡◌, ℕ, zero, suc, ◌+◌, ◌≤◌, Bool, true, false, not, ◌||◌, List, [], ◌∷◌, ◌++◌, length, Result, refl, sym, ap, subst, ◌∙◌, inl, inr, ◌⊎◌, arith}
-use Rattle.yaml_scan_model.specs.declared.problem.Context.{Context}
-use Rattle.yaml_scan_model.specs.Wrong.{Wrong}
-use Rattle.yaml_scan_words.specs.declared.between.GapSpot.{GapSpot}
+use Rattle.yaml_scan_words.proofs.Words.{Context, Wrong, GapSpot, GapStep, Gap, with_break, step_at, gap_within, UriSpot, Spells, Ends, Faulty, spot_at, with_bytes, uri_within, Run, belongs, run_within}
 use Rattle.yaml_scan_words.specs.declared.between.GapSpot.TheVariants as gap_spots
-use Rattle.yaml_scan_words.specs.Between.{GapStep, Gap, with_break, step_at, gap_within}
-use Rattle.yaml_scan_words.specs.Uris.{UriSpot, Spells, Ends, Faulty, spot_at, with_bytes, uri_within}
 use Rattle.yaml_scan_words.proofs.BetweenLemmas.{gap_blank, gap_break, gap_stop}
 use Rattle.yaml_scan_words.proofs.UrisLemmas.{uri_more, uri_done, uri_bad, no_bytes}
-use Rattle.yaml_scan_words.specs.declared.run.Run.{Run}
-use Rattle.yaml_scan_words.specs.Runs.{belongs, run_within}
 use Rattle.yaml_scan_words.proofs.RunsLemmas.{belongs_inside, run_more, run_stop, run_to}
 use Rattle.yaml_scan_words.specs.Unbounded.{EndsRun, RunEnds, RunEndIsOne, LeadsOverGap, arrives, passes_blank, passes_break, GapLeads, GapIsOne, IsUriAt, spells_byte, ends_there, is_faulty, UriIs, UriIsOne}
 

@@ -1,24 +1,7 @@
 -- URIs, a byte at a time.
 use Rattle.std.proofs.Common.{◌≡◌, ℕ, zero, suc, ◌+◌, ◌<◌, ◌≤◌, ◌==◌, ◌&&◌, ◌||◌, nat_lt, Bool, true, false, List, [], ◌∷◌, ◌++◌, length, take, drop, slice_range, Option, Some, None, IsSome, Result, Ok, Err, refl, sym, ap, ◌∙◌, ◌-◌, inl, inr, append_assoc, append-nil, arith}
-use Rattle.std.proofs.lemmas.Bool.{cases_Bool, true≢false, or_cases, and_parts, eqb-true}
-use Rattle.std.proofs.lemmas.Bool.Decides.{nat_tests}
-use Rattle.std.proofs.lemmas.List.{drop_more}
-use Rattle.yaml_scan_model.specs.declared.problem.Context.{Context}
-use Rattle.yaml_scan_model.specs.declared.problem.Problem.{Problem}
-use Rattle.yaml_scan_model.specs.Marks.{byte}
-use Rattle.yaml_scan_model.specs.Classes.{is_alpha_byte, is_digit_byte}
-use Rattle.yaml_scan_model.specs.Wrong.{Wrong}
-use Rattle.yaml_scan_model.proofs.MarksLemmas.{within}
-use Rattle.yaml_scan_words.specs.Uris.{is_punctuation, is_wide_punctuation, is_uri, hex_digit, octet_of, octet_at, due_behind, UriSpot, Spells, Ends, Faulty, escape_spot, octet_spot, spot_at, with_bytes, uri_from, uri_within, uri_at}
+use Rattle.yaml_scan_words.proofs.Words.{cases_Bool, true≢false, or_cases, eqb-true, nat_tests, drop_more, Context, Problem, byte, is_alpha_byte, is_digit_byte, Wrong, within, is_punctuation, is_wide_punctuation, is_uri, hex_digit, octet_of, octet_at, due_behind, UriSpot, Spells, Ends, Faulty, escape_spot, octet_spot, spot_at, with_bytes, uri_from, uri_within, uri_at}
 use Rattle.yaml_scan_words.proofs.PrintedLemmas.{alpha_range}
-
-punctuation_range : (b : ℕ) → is_punctuation b ≡ true → (32 < b) × (b < 127)
-unfolding is_punctuation
-punctuation_range b h = (grind (arith, nat_tests), grind (arith, nat_tests))
-
-wide_range : (b : ℕ) → is_wide_punctuation b ≡ true → (32 < b) × (b < 127)
-unfolding is_wide_punctuation
-wide_range b h = (grind (arith, nat_tests), grind (arith, nat_tests))
 
 digit_range : (b : ℕ) → IsSome (hex_digit b) → (32 < b) × (b < 127)
 unfolding hex_digit
@@ -31,8 +14,8 @@ uri_range wide text p h =
     elim (or_cases (is_alpha_byte (byte text p)) (is_punctuation (byte text p) || (wide && is_wide_punctuation (byte text p))) h) [
       | inl a ↦ alpha_range (byte text p) a
       | inr more ↦ elim (or_cases (is_punctuation (byte text p)) (wide && is_wide_punctuation (byte text p)) more) [
-        | inl s ↦ punctuation_range (byte text p) s
-        | inr w ↦ wide_range (byte text p) (and_parts wide (is_wide_punctuation (byte text p)) w).1
+        | inl s ↦ (unfold is_punctuation in (grind (arith, nat_tests), grind (arith, nat_tests)))
+        | inr w ↦ (unfold is_wide_punctuation in (grind (arith, nat_tests), grind (arith, nat_tests)))
       ]
     ]
 
@@ -119,27 +102,15 @@ pub no_bytes : (r : Result (List ℕ × ℕ) Wrong) → r ≡ with_bytes [] r
 no_bytes (Ok u) = refl
 no_bytes (Err w) = refl
 
-alpha_no_mark : (b : ℕ) → is_alpha_byte b ≡ true → (b == 37) ≡ false
-unfolding is_alpha_byte is_digit_byte
-alpha_no_mark b h = grind (arith, nat_tests)
-
-punctuation_no_mark : (b : ℕ) → is_punctuation b ≡ true → (b == 37) ≡ false
-unfolding is_punctuation
-punctuation_no_mark b h = grind (arith, nat_tests)
-
-wide_no_mark : (b : ℕ) → is_wide_punctuation b ≡ true → (b == 37) ≡ false
-unfolding is_wide_punctuation
-wide_no_mark b h = grind (arith, nat_tests)
-
 -- what a URI holds as it is, begins no escape
 kept_no_mark : (wide : Bool) (text : List ℕ) (p : ℕ) → is_uri wide text p ≡ true
     → (byte text p == 37) ≡ false
 kept_no_mark wide text p h =
     elim (or_cases (is_alpha_byte (byte text p)) (is_punctuation (byte text p) || (wide && is_wide_punctuation (byte text p))) h) [
-      | inl a ↦ alpha_no_mark (byte text p) a
+      | inl a ↦ (unfold is_alpha_byte is_digit_byte in grind (arith, nat_tests))
       | inr more ↦ elim (or_cases (is_punctuation (byte text p)) (wide && is_wide_punctuation (byte text p)) more) [
-        | inl s ↦ punctuation_no_mark (byte text p) s
-        | inr w ↦ wide_no_mark (byte text p) (and_parts wide (is_wide_punctuation (byte text p)) w).1
+        | inl s ↦ (unfold is_punctuation in grind (arith, nat_tests))
+        | inr w ↦ (unfold is_wide_punctuation in grind (arith, nat_tests))
       ]
     ]
 

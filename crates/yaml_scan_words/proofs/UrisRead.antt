@@ -1,12 +1,6 @@
 -- URIs that are written.
 use Rattle.std.proofs.Common.{◌≡◌, ◌≢◌, ℕ, suc, ◌+◌, ◌*◌, ◌/◌, ◌%◌, ◌<◌, ◌≤◌, ◌==◌, ◌&&◌, ◌||◌, Bool, true, false, List, [], ◌∷◌, length, Some, Ok, refl, ap, ◌∙◌, inl, inr, arith}
-use Rattle.std.proofs.lemmas.Bool.{cases_Bool, true≢false, or_cases, and_parts}
-use Rattle.std.proofs.lemmas.Bool.Decides.{nat_tests}
-use Rattle.yaml_scan_model.specs.declared.problem.Context.{Context}
-use Rattle.yaml_scan_model.specs.Marks.{byte}
-use Rattle.yaml_scan_model.specs.Classes.{is_alpha_byte, is_digit_byte}
-use Rattle.yaml_scan_words.specs.Uris.{is_punctuation, is_wide_punctuation, is_uri, hex_digit, octet_at, due_behind, Spells, Ends, spot_at, with_bytes, uri_within, uri_at}
-use Rattle.yaml_scan_words.specs.Written.{UriPiece, raw, escape, capital, uri_text, uri_bytes, is_kept, IsUri}
+use Rattle.yaml_scan_words.proofs.Words.{cases_Bool, true≢false, or_cases, nat_tests, Context, byte, is_alpha_byte, is_digit_byte, is_punctuation, is_wide_punctuation, is_uri, hex_digit, octet_at, Spells, Ends, spot_at, with_bytes, uri_within, uri_at, UriPiece, raw, escape, capital, uri_text, uri_bytes, is_kept, IsUri, due_behind}
 use Rattle.yaml_scan_words.proofs.UrisLemmas.{uri_more, no_bytes}
 use Rattle.yaml_scan_words.proofs.HasLemmas.{Has}
 
@@ -14,26 +8,14 @@ capital_digit : (d : ℕ) → d < 16 → hex_digit (capital d) ≡ Some d
 unfolding hex_digit capital
 capital_digit d h = grind (arith, nat_tests)
 
-kept_alpha : (b : ℕ) → is_alpha_byte b ≡ true → b ≢ 37
-unfolding is_alpha_byte is_digit_byte
-kept_alpha b h = grind (arith, nat_tests)
-
-kept_punctuation : (b : ℕ) → is_punctuation b ≡ true → b ≢ 37
-unfolding is_punctuation
-kept_punctuation b h = grind (arith, nat_tests)
-
-kept_wide : (b : ℕ) → is_wide_punctuation b ≡ true → b ≢ 37
-unfolding is_wide_punctuation
-kept_wide b h = grind (arith, nat_tests)
-
 -- what is kept is no `%`
 pub kept_plain : (wide : Bool) (b : ℕ) → is_kept wide b ≡ true → b ≢ 37
 kept_plain wide b h =
     elim (or_cases (is_alpha_byte b) (is_punctuation b || (wide && is_wide_punctuation b)) h) [
-      | inl a ↦ kept_alpha b a
+      | inl a ↦ (unfold is_alpha_byte is_digit_byte in grind (arith, nat_tests))
       | inr more ↦ elim (or_cases (is_punctuation b) (wide && is_wide_punctuation b) more) [
-        | inl s ↦ kept_punctuation b s
-        | inr w ↦ kept_wide b (and_parts wide (is_wide_punctuation b) w).1
+        | inl s ↦ (unfold is_punctuation in grind (arith, nat_tests))
+        | inr w ↦ (unfold is_wide_punctuation in grind (arith, nat_tests))
       ]
     ]
 

@@ -1,11 +1,5 @@
 use Rattle.std.proofs.Common.{◌≡◌, ◌+◌, ◌==◌, List, suc, length, refl, Ok, Err}
-use Rattle.std.proofs.lemmas.Result.{err_from_is_err_and}
-use Rattle.yaml_scan_model.specs.Marks.{byte}
-use Rattle.yaml_scan_block.specs.Value.{BlockLine, block_value}
-use Rattle.yaml_scan_block.specs.Lines.{lines_from}
-use Rattle.yaml_scan_block.specs.Header.{header_at}
-use Rattle.yaml_scan_block.specs.Block.{block_with}
-use Rattle.yaml_scan_block.specs.Stacked.{stacked}
+use Rattle.yaml_scan_block.proofs.Words.{err_from_is_err_and, byte, BlockLine, block_value, lines_from, header_at, block_with, stacked}
 use Rattle.yaml_scan_block.proofs.ScalarLemmas.{header_read, column_read, block_found, lines_read, block_refused, block_read, indicator_no_break}
 use Rattle.yaml_scan_block.proofs.block.block_scalar.Goals as goal
 

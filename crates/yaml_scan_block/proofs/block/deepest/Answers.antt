@@ -1,7 +1,5 @@
 use Rattle.std.proofs.Common.{◌≡◌, ◌≢◌, sym, ◌∙◌, refl, ap, length, arith}
-use Rattle.yaml_scan_model.specs.Marks.{byte, break_width, column_at}
-use Rattle.yaml_scan_model.specs.Runs.{past_spaces}
-use Rattle.yaml_scan_model.proofs.MarksLemmas.{past_break}
+use Rattle.yaml_scan_block.proofs.Words.{byte, break_width, column_at, past_spaces, past_break}
 use Rattle.yaml_scan_block.proofs.DepthLemmas.{larger_start, depth_tab, depth_done, depth_more, spaces-le}
 use Rattle.yaml_scan_block.proofs.block.deepest.Goals as goal
 
@@ -34,8 +32,7 @@ lines-smaller c =
     let q = rw c.lines.invariant.text at c.skip_spaces.ensures in
     let w : break_width text (past_spaces text c.lines.ahead.at) ≢ 0 = rw (c.break_width.ensures, q) at c.if-break_width-eq0.false in
     let le = spaces-le text c.lines.ahead.at in
-    let past = past_break text (past_spaces text c.lines.ahead.at) (omega arith) in
-    let inside = past.inside in
+    let inside = (past_break text (past_spaces text c.lines.ahead.at) (omega arith)).inside in
     rw (c.skip_break.ensures, q, c.lines.invariant.text) (omega arith)
 
 pub lines-preserved : goal.lines-preserved

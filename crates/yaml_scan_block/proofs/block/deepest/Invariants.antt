@@ -1,5 +1,5 @@
 use Rattle.std.proofs.Common.{◌≡◌, ◌+◌, ◌-◌, ◌≤◌, ℕ, suc, length}
-use Rattle.yaml_scan_block.specs.Block.{deepest, larger_of}
+use Rattle.yaml_scan_block.proofs.Words.{deepest, larger_of}
 use Rattle.yaml_scan_block.proofs.block.deepest.Given as goal
 
 abbrev pub invariant-lines : goal.invariant-lines

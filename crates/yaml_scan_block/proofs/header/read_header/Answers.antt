@@ -1,7 +1,5 @@
 use Rattle.std.proofs.Common.{◌≡◌, ◌≢◌, sym, ◌∙◌, refl, true, false, arith}
-use Rattle.yaml_scan_model.specs.Marks.{byte}
-use Rattle.yaml_scan_model.specs.Runs.{is_text}
-use Rattle.yaml_scan_block.specs.Header.{digit_place, chomping_place, header_end}
+use Rattle.yaml_scan_block.proofs.Words.{byte, is_text, digit_place, chomping_place, header_end}
 use Rattle.yaml_scan_block.proofs.HeaderLemmas.{digit_there, chomping_there, zero_header, wrong_header, whole_header}
 use Rattle.yaml_scan_block.proofs.header.read_header.Goals as goal
 

@@ -1,6 +1,5 @@
 use Rattle.std.proofs.Common.{◌≡◌, ◌≢◌, ◌+◌, refl, arith}
-use Rattle.yaml_scan_model.specs.Marks.{byte}
-use Rattle.yaml_scan_block.specs.Header.{indicators}
+use Rattle.yaml_scan_block.proofs.Words.{byte, indicators}
 use Rattle.yaml_scan_block.proofs.HeaderLemmas.{first_parts, second_parts, second_two}
 use Rattle.yaml_scan_block.proofs.header.skip_indicators.Goals as goal
 

@@ -1,6 +1,5 @@
 use Rattle.std.proofs.Common.{◌≡◌, sym, ◌∙◌, true}
-use Rattle.yaml_scan_model.specs.Marks.{byte}
-use Rattle.yaml_scan_block.specs.Header.{is_chomping}
+use Rattle.yaml_scan_block.proofs.Words.{byte, is_chomping}
 use Rattle.yaml_scan_block.proofs.HeaderLemmas.{chomping_parts}
 use Rattle.yaml_scan_block.proofs.header.zero_digit.Goals as goal
 

@@ -1,12 +1,6 @@
 use Rattle.std.proofs.Common.{refl, arith, ◌∙◌, sym, ◌≡◌, ◌≢◌, ◌<◌, ◌==◌, ◌&&◌, nat_lt, ap, true, false, length}
-use Rattle.std.proofs.lemmas.Result.{err_from_is_err_and}
-use Rattle.yaml_scan_model.specs.Marks.{byte, break_width, column_at}
-use Rattle.yaml_scan_model.specs.Breaks.{break_value}
-use Rattle.yaml_scan_model.proofs.BreaksLemmas.{feed_some}
-use Rattle.yaml_scan_model.specs.Runs.{is_text}
-use Rattle.yaml_scan_model.proofs.RunsLemmas.{past-le}
+use Rattle.yaml_scan_block.proofs.Words.{err_from_is_err_and, byte, break_width, column_at, break_value, feed_some, is_text, past-le, past_break, within}
 use Rattle.yaml_scan_block.proofs.BlockLemmas.{tab_spot, empty_spot, end_spot, text_spot, stop_end, stop_short, no_stop, text_long}
-use Rattle.yaml_scan_model.proofs.MarksLemmas.{past_break, within}
 use Rattle.yaml_scan_block.proofs.lines.behind.Goals as goal
 
 pub returns-then-is_tab_before : goal.returns-then-is_tab_before
@@ -66,9 +60,8 @@ returns-in_err-line c = λ p le.
     let nul : byte text q ≢ 0 = omega (arith, b, c.if-here-eq0.false) in
     let m : c.mark-2.result.column ≡ column_at text q = ap (λ k. k.column) c.mark-2.ensures in
     let col : column_at text q ≡ c.args.column = omega (arith, m, c.if-mark-column.false) in
-    let w = text_spot c.args.column text q t z (no_stop _ _ _ nul col) in
     let e = err_from_is_err_and c.from_residual-in_err-line.result c.from_residual-in_err-line.ensures.1 in
-    rw (e.1, e.2, w) tt
+    rw (e.1, e.2, text_spot c.args.column text q t z (no_stop _ _ _ nul col)) tt
 
 pub since-requires : goal.since-requires
 since-requires c =
@@ -86,10 +79,9 @@ returns c = λ p le.
     let m : c.mark-2.result.column ≡ column_at text q = ap (λ k. k.column) c.mark-2.ensures in
     let col : column_at text q ≡ c.args.column = omega (arith, m, c.if-mark-column.false) in
     let w = text_spot c.args.column text q t z (no_stop _ _ _ nul col) in
-    let inside = within text q (omega (arith, nul)) in
     let f = rw c.skip_text.ensures at c.feed-2.ensures in
     let v = rw (c.skip_text.ensures, c.place-from.ensures) at c.since.ensures in
     let l = rw (f, v) at c.in_ok-line.ensures in
     let place = rw c.skip_text.ensures at c.skip_last_break.ensures in
     let long = text_long text q nul z in
-    rw w (place, l, omega (arith, le, long), omega (arith, le, inside))
+    rw w (place, l, omega (arith, le, long), omega (arith, le, within text q (omega (arith, nul))))

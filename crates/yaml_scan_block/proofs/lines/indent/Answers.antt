@@ -1,8 +1,6 @@
 use Rattle.std.proofs.Common.{refl, arith, ◌∙◌, sym, ◌≡◌, ◌+◌, ◌-◌}
-use Rattle.yaml_scan_model.specs.Marks.{column_at}
-use Rattle.yaml_scan_block.specs.Lines.{spaces}
+use Rattle.yaml_scan_block.proofs.Words.{column_at, spaces, no_break}
 use Rattle.yaml_scan_block.proofs.BlockLemmas.{space_tests, space_step, space_stop, space_column}
-use Rattle.yaml_scan_model.proofs.MarksLemmas.{no_break}
 use Rattle.yaml_scan_block.proofs.lines.indent.Goals as goal
 
 pub skip-requires-clause-no_break : goal.skip-requires-clause-no_break
@@ -13,8 +11,7 @@ skip-requires-clause-no_break c =
 pub spaces-smaller : goal.spaces-smaller
 spaces-smaller c =
     let (b, l) = space_tests c.args.column c.spaces.reader.text c.spaces.reader.at (sym c.is_space_before.ensures ∙ c.spaces-test.true) in
-    let col = space_column c.spaces.reader.text c.spaces.reader.at b in
-    rw (c.skip.ensures, col) (omega (arith, l))
+    rw (c.skip.ensures, space_column c.spaces.reader.text c.spaces.reader.at b) (omega (arith, l))
 
 pub spaces-preserved : goal.spaces-preserved
 spaces-preserved c =

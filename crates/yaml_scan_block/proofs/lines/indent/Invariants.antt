@@ -1,6 +1,5 @@
 use Rattle.std.proofs.Common.{◌≡◌, ◌+◌, ◌-◌}
-use Rattle.yaml_scan_model.specs.Marks.{column_at}
-use Rattle.yaml_scan_block.specs.Lines.{spaces}
+use Rattle.yaml_scan_block.proofs.Words.{column_at, spaces}
 use Rattle.yaml_scan_block.proofs.lines.indent.Given as goal
 
 abbrev pub invariant-spaces : goal.invariant-spaces

@@ -1,7 +1,5 @@
 use Rattle.std.proofs.Common.{refl, arith, ◌∙◌, ◌≡◌, ◌-◌, true, false, suc, length, Ok}
-use Rattle.std.proofs.lemmas.Result.{err_from_is_err_and}
-use Rattle.yaml_scan_block.specs.Lines.{line_spot}
-use Rattle.yaml_scan_block.specs.Readings.{LineSteps}
+use Rattle.yaml_scan_block.proofs.Words.{err_from_is_err_and, line_spot, LineSteps}
 use Rattle.yaml_scan_block.proofs.LinesLemmas.{lines_more, lines_done, lines_refused}
 use Rattle.yaml_scan_block.proofs.lines.read_lines.Goals as goal
 

@@ -1,9 +1,5 @@
 use Rattle.std.proofs.Common.{◌≡◌, ◌+◌, ◌-◌, ◌≤◌, ℕ, suc, length}
-use Rattle.yaml_scan_model.specs.Marks.{mark_at}
-use Rattle.yaml_scan_block.specs.declared.header.Chomp.{Chomp}
-use Rattle.yaml_scan_block.specs.Lines.{lines_from}
-use Rattle.yaml_scan_block.specs.Block.{block_with}
-use Rattle.yaml_scan_block.specs.Stacked.{stacked}
+use Rattle.yaml_scan_block.proofs.Words.{mark_at, Chomp, lines_from, block_with, stacked}
 use Rattle.yaml_scan_block.proofs.lines.read_lines.Given as goal
 
 abbrev pub invariant-lines : goal.invariant-lines

@@ -1,4 +1,4 @@
-use Rattle.yaml_scan_laws_levels.proofs.Levels.{inside_leaves}
+use Rattle.yaml_scan_laws_levels.proofs.Pushing.{inside_leaves}
 use Rattle.yaml_scan_laws_levels.proofs.pushes.inside_leaves.Goals as goal
 
 pub returns : goal.returns

@@ -1,4 +1,4 @@
-use Rattle.yaml_scan_laws_levels.proofs.Levels.{left_closes}
+use Rattle.yaml_scan_laws_levels.proofs.Pushing.{left_closes}
 use Rattle.yaml_scan_laws_levels.proofs.pushes.left_closes.Goals as goal
 
 pub returns : goal.returns

@@ -1,4 +1,4 @@
-use Rattle.yaml_scan_laws_levels.proofs.Reading.{met_is_read}
+use Rattle.yaml_scan_laws_levels.proofs.Pushing.{met_is_read}
 use Rattle.yaml_scan_laws_levels.proofs.pushes.met_is_read.Goals as goal
 
 pub returns : goal.returns

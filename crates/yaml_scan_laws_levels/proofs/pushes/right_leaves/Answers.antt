@@ -1,4 +1,4 @@
-use Rattle.yaml_scan_laws_levels.proofs.Levels.{right_leaves}
+use Rattle.yaml_scan_laws_levels.proofs.Pushing.{right_leaves}
 use Rattle.yaml_scan_laws_levels.proofs.pushes.right_leaves.Goals as goal
 
 pub returns : goal.returns

@@ -1,4 +1,4 @@
-use Rattle.yaml_scan_laws_levels.proofs.RowOfBlocks.{blocks_are_read}
+use Rattle.yaml_scan_laws_levels.proofs.TextsInRow.{blocks_are_read}
 use Rattle.yaml_scan_laws_levels.proofs.rows.blocks_are_read.Goals as goal
 
 pub returns : goal.returns

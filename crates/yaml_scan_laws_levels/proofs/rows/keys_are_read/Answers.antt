@@ -1,4 +1,4 @@
-use Rattle.yaml_scan_laws_levels.proofs.RowOfKeys.{keys_are_read}
+use Rattle.yaml_scan_laws_levels.proofs.TextsInRow.{keys_are_read}
 use Rattle.yaml_scan_laws_levels.proofs.rows.keys_are_read.Goals as goal
 
 pub returns : goal.returns

@@ -1,5 +1,4 @@
-use Rattle.yaml_scan_laws_texts.proofs.FreeLemmas.{no_candidate}
-use Rattle.yaml_scan_laws_texts.proofs.MadeLemmas.{history_made}
+use Rattle.yaml_scan_laws_texts.proofs.FreeLemmas.{no_candidate, history_made}
 use Rattle.yaml_scan_laws_texts.proofs.keys_laws.asked_have_no_candidate.Goals as goal
 
 pub returns : goal.returns

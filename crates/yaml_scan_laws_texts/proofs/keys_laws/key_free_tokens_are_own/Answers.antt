@@ -1,5 +1,4 @@
-use Rattle.yaml_scan_laws_texts.proofs.FreeLemmas.{own_tokens_are}
-use Rattle.yaml_scan_laws_texts.proofs.MadeLemmas.{history_made}
+use Rattle.yaml_scan_laws_texts.proofs.FreeLemmas.{own_tokens_are, history_made}
 use Rattle.yaml_scan_laws_texts.proofs.keys_laws.key_free_tokens_are_own.Goals as goal
 
 pub returns : goal.returns

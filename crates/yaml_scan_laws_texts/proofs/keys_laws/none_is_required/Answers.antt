@@ -1,5 +1,5 @@
 use Rattle.yaml_scan_laws_texts.proofs.StepLemmas.{none_required}
-use Rattle.yaml_scan_laws_texts.proofs.MadeLemmas.{history_made}
+use Rattle.yaml_scan_laws_texts.proofs.FreeLemmas.{history_made}
 use Rattle.yaml_scan_laws_texts.proofs.keys_laws.none_is_required.Goals as goal
 
 pub returns : goal.returns

@@ -1,6 +1,6 @@
 use Rattle.yaml_scan_laws_texts.proofs.StepLemmas.{step_reads}
 use Rattle.std.proofs.Common.{suc}
-use Rattle.yaml_scan_laws_texts.proofs.MadeLemmas.{history_made}
+use Rattle.yaml_scan_laws_texts.proofs.FreeLemmas.{history_made}
 use Rattle.yaml_scan_laws_texts.proofs.keys_laws.word_is_read.Goals as goal
 
 pub returns : goal.returns

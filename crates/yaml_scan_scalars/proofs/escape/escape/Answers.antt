@@ -1,7 +1,5 @@
 use Rattle.std.proofs.Common.{arith, ◌≡◌, ◌+◌, None}
-use Rattle.yaml_scan_scalars.specs.Quoted.{hex_len, simple_escape}
-use Rattle.yaml_scan_model.specs.Marks.{byte, break_width}
-use Rattle.yaml_scan_model.proofs.MarksLemmas.{no_break, within}
+use Rattle.yaml_scan_scalars.proofs.Words.{hex_len, simple_escape, byte, break_width, no_break, within}
 use Rattle.yaml_scan_scalars.proofs.EscapeLemmas.{hex_len-zero, simple_escape-zero, not_zero, escape_code}
 use Rattle.yaml_scan_scalars.proofs.escape.escape.Goals as goal
 
@@ -23,10 +21,9 @@ returns-then-len-gt0 c =
     let w : c.break_width.result ≡ break_width text (p + 1) = rw c.skip.ensures at c.break_width.ensures in
     let none : break_width text (p + 1) ≡ 0 = omega (arith, w) in
     let inside = within text p (omega (arith, c.requires)) in
-    let some = c.if-len-gt0.true in
     let place = rw (c.skip.ensures, y) at c.skip-then-len-gt0.ensures in
     let took = rw place at c.coded.ensures in
-    rw (escape_code text p none (rw len at some), ← len) (took p (omega arith) inside)
+    rw (escape_code text p none (rw len at c.if-len-gt0.true), ← len) (took p (omega arith) inside)
 
 pub skip-requires-2-clause-inside : goal.skip-requires-2-clause-inside
 skip-requires-2-clause-inside c =

@@ -1,5 +1,5 @@
 use Rattle.std.proofs.Common.{arith}
-use Rattle.yaml_scan_model.proofs.MarksLemmas.{no_break_between}
+use Rattle.yaml_scan_scalars.proofs.Words.{no_break_between}
 use Rattle.yaml_scan_scalars.proofs.escape.hex_digit.Goals as goal
 
 pub returns-in-48-to-57-clause-plain : goal.returns-in-48-to-57-clause-plain

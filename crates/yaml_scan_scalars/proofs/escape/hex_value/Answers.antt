@@ -1,6 +1,5 @@
 use Rattle.std.proofs.Common.{refl, arith, ◌∙◌, sym, ◌≡◌, ◌+◌, None, Some}
-use Rattle.yaml_scan_scalars.specs.Quoted.{hex_digit}
-use Rattle.yaml_scan_model.specs.Marks.{byte}
+use Rattle.yaml_scan_scalars.proofs.Words.{hex_digit, byte}
 use Rattle.yaml_scan_scalars.proofs.EscapeLemmas.{hex_more, hex_refused, hex_room, hex_limit-more}
 use Rattle.yaml_scan_scalars.proofs.escape.hex_value.Goals as goal
 use Rattle.yaml_scan_scalars.proofs.Digits.{none_read}
@@ -18,8 +17,7 @@ returns-in_err-digit-clause-value c =
 
 pub overflow_mul-value : goal.overflow_mul-value
 overflow_mul-value c =
-    let room = hex_room c.loop-k.k (omega arith) in
-    omega (arith, room, c.loop-k.invariant.small)
+    omega (arith, hex_room c.loop-k.k (omega arith), c.loop-k.invariant.small)
 
 pub overflow_add-value : goal.overflow_add-value
 overflow_add-value c =

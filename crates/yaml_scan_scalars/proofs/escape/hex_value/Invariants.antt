@@ -1,5 +1,5 @@
 use Rattle.std.proofs.Common.{◌≡◌, ◌+◌, ◌<◌, Some}
-use Rattle.yaml_scan_scalars.specs.Quoted.{hex_value}
+use Rattle.yaml_scan_scalars.proofs.Words.{hex_value}
 use Rattle.yaml_scan_scalars.proofs.EscapeLemmas.{hex_limit}
 use Rattle.yaml_scan_scalars.proofs.escape.hex_value.Given as goal
 

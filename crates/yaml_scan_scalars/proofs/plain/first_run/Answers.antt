@@ -1,7 +1,5 @@
 use Rattle.std.proofs.Common.{◌∙◌, ◌+◌, arith}
-use Rattle.yaml_scan_model.proofs.MarksLemmas.{within}
-use Rattle.yaml_scan_scalars.specs.Ordinary.{IsRun}
-use Rattle.yaml_scan_model.proofs.SparesLemmas.{holds_slice}
+use Rattle.yaml_scan_scalars.proofs.Words.{within, IsRun, holds_slice}
 use Rattle.yaml_scan_scalars.proofs.RunLemmas.{first_slice}
 use Rattle.yaml_scan_scalars.proofs.plain.first_run.Goals as goal
 

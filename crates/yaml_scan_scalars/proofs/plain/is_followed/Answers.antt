@@ -1,5 +1,5 @@
 use Rattle.std.proofs.Common.{◌∙◌, ap, sym}
-use Rattle.yaml_scan_scalars.specs.Plain.{is_bracket}
+use Rattle.yaml_scan_scalars.proofs.Words.{is_bracket}
 use Rattle.yaml_scan_scalars.proofs.OneRunLemmas.{colon_ends, bracket_ends}
 use Rattle.yaml_scan_scalars.proofs.plain.is_followed.Goals as goal
 

@@ -1,7 +1,5 @@
 use Rattle.std.proofs.Common.{◌≡◌, ◌+◌, ◌-◌, suc, arith, ◌∙◌, sym, true, false, refl, ℕ, Ok}
-use Rattle.std.proofs.lemmas.Result.{err_from_is_err_and}
-use Rattle.yaml_scan_scalars.specs.Plain.{spot_at}
-use Rattle.yaml_scan_scalars.specs.Joined.{Steps, TookFirst, TookWords}
+use Rattle.yaml_scan_scalars.proofs.Words.{err_from_is_err_and, spot_at, Steps, TookFirst, TookWords}
 use Rattle.yaml_scan_scalars.proofs.PlainLemmas.{lead_text, turn_more, turn_done, turn_refused}
 use Rattle.yaml_scan_scalars.proofs.PlainRunLemmas.{plain_run, plain_first_run, first_text, behind_first}
 use Rattle.yaml_scan_scalars.proofs.RunLemmas.{first_last}

@@ -1,6 +1,5 @@
 use Rattle.std.proofs.Common.{◌≡◌, ◌+◌, ◌-◌, ◌≤◌, ℕ, suc, length}
-use Rattle.yaml_scan_scalars.specs.Plain.{words, plain_with, plain_at}
-use Rattle.yaml_scan_scalars.specs.Joined.{joined, IsJoining}
+use Rattle.yaml_scan_scalars.proofs.Words.{words, plain_with, plain_at, joined, IsJoining}
 use Rattle.yaml_scan_scalars.proofs.plain.join_runs.Given as goal
 
 abbrev pub invariant-pieces : goal.invariant-pieces

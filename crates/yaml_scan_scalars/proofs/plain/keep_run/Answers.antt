@@ -1,6 +1,5 @@
 use Rattle.std.proofs.Common.{◌≡◌, ◌∙◌, ◌+◌, ◌-◌, ◌<◌, sym, refl, length, arith}
-use Rattle.std.proofs.lemmas.Bool.Decides.{nat_tests}
-use Rattle.yaml_scan_scalars.specs.Ordinary.{bytes_at}
+use Rattle.yaml_scan_scalars.proofs.Words.{nat_tests, bytes_at}
 use Rattle.yaml_scan_scalars.proofs.RunLemmas.{run_start, run_none, run_some, ordinary_is}
 use Rattle.yaml_scan_scalars.proofs.PlainRunLemmas.{joined_run, calm_behind}
 use Rattle.yaml_scan_scalars.proofs.plain.keep_run.Goals as goal

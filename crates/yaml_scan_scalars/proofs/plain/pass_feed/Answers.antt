@@ -1,7 +1,5 @@
 use Rattle.std.proofs.Common.{◌≡◌, ℕ, List, length, ap, refl, arith}
-use Rattle.yaml_scan_model.specs.declared.record.yaml_mark_t.{yaml_mark_t}
-use Rattle.yaml_scan_model.specs.Marks.{break_width, line_at}
-use Rattle.yaml_scan_model.proofs.MarksLemmas.{past_break, line_at-le, within}
+use Rattle.yaml_scan_scalars.proofs.Words.{yaml_mark_t, break_width, line_at, past_break, line_at-le, within}
 use Rattle.yaml_scan_scalars.proofs.OneRunLemmas.{feed_width, feed_breaks}
 use Rattle.yaml_scan_scalars.proofs.plain.pass_feed.Goals as goal
 

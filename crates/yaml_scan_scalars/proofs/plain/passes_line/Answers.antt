@@ -1,8 +1,5 @@
 use Rattle.std.proofs.Common.{◌≡◌, ◌∙◌, ◌+◌, ◌<◌, ℕ, ap, sym, arith}
-use Rattle.std.proofs.lemmas.Bool.{ltb-true}
-use Rattle.yaml_scan_model.specs.declared.record.yaml_mark_t.{yaml_mark_t}
-use Rattle.yaml_scan_model.specs.Marks.{Place, byte, break_width, column_at}
-use Rattle.yaml_scan_model.specs.Runs.{past_spaces}
+use Rattle.yaml_scan_scalars.proofs.Words.{ltb-true, yaml_mark_t, Place, byte, break_width, column_at, past_spaces}
 use Rattle.yaml_scan_scalars.proofs.OneRunLemmas.{line_ends}
 use Rattle.yaml_scan_scalars.proofs.plain.passes_line.Goals as goal
 

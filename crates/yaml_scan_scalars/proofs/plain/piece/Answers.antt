@@ -1,10 +1,5 @@
 use Rattle.std.proofs.Common.{refl, arith, ◌∙◌, sym, ◌≡◌, ◌+◌, ◌<◌, ◌==◌, ◌&&◌, true, false, nat_lt, ◌||◌}
-use Rattle.std.proofs.lemmas.Bool.{true≢false}
-use Rattle.std.proofs.lemmas.Result.{err_from_is_err_and}
-use Rattle.yaml_scan_model.specs.Marks.{byte, break_width, is_blank, column_at}
-use Rattle.yaml_scan_model.proofs.BreaksLemmas.{feed_some, value_long}
-use Rattle.yaml_scan_scalars.specs.Plain.{leads, ends_at, is_bracket}
-use Rattle.yaml_scan_model.proofs.MarksLemmas.{within}
+use Rattle.yaml_scan_scalars.proofs.Words.{true≢false, err_from_is_err_and, byte, break_width, is_blank, column_at, feed_some, value_long, leads, ends_at, is_bracket, within}
 use Rattle.yaml_scan_scalars.proofs.PlainLemmas.{blank_inside, lead_text, spot_break, spot_blank, spot_tab, spot_ends, spot_colon, spot_kept, not_ended, lead_break, leads-blank, white-blank}
 use Rattle.yaml_scan_scalars.proofs.plain.piece.Goals as goal
 

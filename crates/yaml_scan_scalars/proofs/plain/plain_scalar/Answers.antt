@@ -1,6 +1,5 @@
 use Rattle.std.proofs.Common.{◌∙◌, ap, sym, true, false}
-use Rattle.yaml_scan_model.specs.Marks.{Place}
-use Rattle.yaml_scan_model.proofs.MarksLemmas.{within}
+use Rattle.yaml_scan_scalars.proofs.Words.{Place, within}
 use Rattle.yaml_scan_scalars.proofs.PlainLemmas.{plain_start, lead_text}
 use Rattle.yaml_scan_scalars.proofs.OneRunLemmas.{own_mark, no_space, plain_one, plain_then, reads_in, line_in, run_whole}
 use Rattle.yaml_scan_scalars.proofs.plain.plain_scalar.Goals as goal

@@ -1,10 +1,5 @@
 use Rattle.std.proofs.Common.{refl, arith, ◌∙◌, ◌≡◌, ◌+◌, ◌-◌, inl, ◌++◌, ap, true, false, ℕ, List, Ok}
-use Rattle.std.proofs.lemmas.Result.{err_from_is_err_and}
-use Rattle.yaml_scan_scalars.specs.Pieces.{Piece, value}
-use Rattle.yaml_scan_scalars.specs.Resume.{resume}
-use Rattle.yaml_scan_scalars.specs.Quoted.{standing_at}
-use Rattle.yaml_scan_scalars.specs.Readings.{Took}
-use Rattle.yaml_scan_scalars.specs.Ordinary.{TookRun, bytes_at, run_pieces}
+use Rattle.yaml_scan_scalars.proofs.Words.{err_from_is_err_and, Piece, value, resume, standing_at, Took, TookRun, bytes_at, run_pieces}
 use Rattle.yaml_scan_scalars.proofs.QuotedLemmas.{turn_more, turn_done, turn_refused}
 use Rattle.yaml_scan_scalars.proofs.RunLemmas.{quoted_run, run_ends}
 use Rattle.yaml_scan_scalars.proofs.OneRunLemmas.{quoted_first}

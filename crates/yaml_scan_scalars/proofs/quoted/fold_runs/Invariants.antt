@@ -1,6 +1,5 @@
 use Rattle.std.proofs.Common.{◌≡◌, ◌+◌, ◌-◌, ◌≤◌, ℕ, suc, length}
-use Rattle.yaml_scan_scalars.specs.Resume.{resume}
-use Rattle.yaml_scan_scalars.specs.Quoted.{pieces, valued, quoted_at}
+use Rattle.yaml_scan_scalars.proofs.Words.{resume, pieces, valued, quoted_at}
 use Rattle.yaml_scan_scalars.proofs.quoted.fold_runs.Given as goal
 
 abbrev pub invariant-pieces : goal.invariant-pieces

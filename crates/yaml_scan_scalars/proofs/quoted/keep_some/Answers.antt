@@ -1,5 +1,5 @@
 use Rattle.std.proofs.Common.{◌≡◌, ◌∙◌, ◌<◌, length, arith}
-use Rattle.std.proofs.lemmas.Bool.Decides.{nat_tests}
+use Rattle.yaml_scan_scalars.proofs.Words.{nat_tests}
 use Rattle.yaml_scan_scalars.proofs.RunLemmas.{resume_bytes, resume_none}
 use Rattle.yaml_scan_scalars.proofs.quoted.keep_some.Goals as goal
 

@@ -1,8 +1,5 @@
 use Rattle.std.proofs.Common.{refl, arith, ◌∙◌, sym, ◌≡◌, ◌≢◌, ◌<◌, ◌==◌, ◌&&◌, true, false}
-use Rattle.std.proofs.lemmas.Result.{err_from_is_err_and}
-use Rattle.yaml_scan_model.specs.Marks.{byte, break_width, is_blank}
-use Rattle.yaml_scan_model.specs.Breaks.{is_document_indicator}
-use Rattle.yaml_scan_model.proofs.BreaksLemmas.{feed_some, value_long}
+use Rattle.yaml_scan_scalars.proofs.Words.{err_from_is_err_and, byte, break_width, is_blank, is_document_indicator, feed_some, value_long}
 use Rattle.yaml_scan_scalars.proofs.QuotedLemmas.{standing_indicator, standing_end, standing_quote, standing_break, standing_blank, standing_escape, standing_kept, inside}
 use Rattle.yaml_scan_scalars.proofs.quoted.piece.Goals as goal
 

@@ -1,6 +1,5 @@
 use Rattle.std.proofs.Common.{◌+◌, ◌∙◌, sym}
-use Rattle.yaml_scan_model.proofs.MarksLemmas.{within}
-use Rattle.yaml_scan_scalars.specs.Ordinary.{IsRun}
+use Rattle.yaml_scan_scalars.proofs.Words.{within, IsRun}
 use Rattle.yaml_scan_scalars.proofs.QuotedLemmas.{quote_no_break, quote_some}
 use Rattle.yaml_scan_scalars.proofs.OneRunLemmas.{own_mark, closes_both, quoted_one, some_quote, run_whole}
 use Rattle.yaml_scan_scalars.proofs.quoted.quoted.Goals as goal
@@ -10,8 +9,7 @@ pass_byte-requires-clause-no_break c = quote_no_break c.args.quote _ _ _ c.requi
 
 pub one_run-requires-clause-closing : goal.one_run-requires-clause-closing
 one_run-requires-clause-closing c =
-    let both = closes_both _ _ _ (sym c.closes.ensures ∙ c.if-closes.true) in
-    some_quote _ _ both.0 c.requires.quote
+    some_quote _ _ (closes_both _ _ _ (sym c.closes.ensures ∙ c.if-closes.true)).0 c.requires.quote
 
 pub one_run-requires-clause-stands : goal.one_run-requires-clause-stands
 one_run-requires-clause-stands c =

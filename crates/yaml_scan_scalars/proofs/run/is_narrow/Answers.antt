@@ -1,6 +1,5 @@
 use Rattle.std.proofs.Common.{◌≡◌, ℕ, ◌<◌, true, nat_eq, get_or, List, refl, arith}
-use Rattle.yaml_scan_scalars.specs.declared.run.TheConstants.{ORDINARY}
-use Rattle.yaml_scan_scalars.specs.Ordinary.{is_ordinary, is_narrow}
+use Rattle.yaml_scan_scalars.proofs.Words.{ORDINARY, is_ordinary, is_narrow}
 use Rattle.yaml_scan_scalars.proofs.TableLemmas.{agree_below, agree_at}
 use Rattle.yaml_scan_scalars.proofs.run.is_narrow.Goals as goal
 

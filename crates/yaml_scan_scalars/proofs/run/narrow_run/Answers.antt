@@ -1,8 +1,5 @@
 use Rattle.std.proofs.Common.{◌≡◌, ◌+◌, ◌<◌, ◌≤◌, true, length, ◌∙◌, sym, ap, ℕ, List, arith}
-use Rattle.yaml_scan_model.specs.declared.record.yaml_mark_t.{yaml_mark_t}
-use Rattle.yaml_scan_model.specs.Marks.{byte, line_at, column_at}
-use Rattle.yaml_scan_scalars.specs.Ordinary.{is_narrow}
-use Rattle.yaml_scan_model.proofs.MarksLemmas.{within, column_at-le}
+use Rattle.yaml_scan_scalars.proofs.Words.{yaml_mark_t, byte, line_at, column_at, is_narrow, within, column_at-le}
 use Rattle.yaml_scan_scalars.proofs.RunLemmas.{each_more}
 use Rattle.yaml_scan_scalars.proofs.TableLemmas.{behind_none, passes, run_of, spanned, each_past}
 use Rattle.yaml_scan_scalars.proofs.run.narrow_run.Goals as goal

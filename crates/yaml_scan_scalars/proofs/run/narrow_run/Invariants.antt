@@ -1,6 +1,5 @@
 use Rattle.std.proofs.Common.{◌≡◌, ◌+◌, ◌-◌, ◌≤◌, ◌<◌, ℕ, length, true, false}
-use Rattle.yaml_scan_model.specs.Marks.{line_at, column_at, splits_break}
-use Rattle.yaml_scan_scalars.specs.Ordinary.{in_run}
+use Rattle.yaml_scan_scalars.proofs.Words.{line_at, column_at, splits_break, in_run}
 use Rattle.yaml_scan_scalars.proofs.run.narrow_run.Given as goal
 
 abbrev pub invariant-bytes : goal.invariant-bytes

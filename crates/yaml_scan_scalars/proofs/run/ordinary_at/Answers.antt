@@ -1,5 +1,5 @@
 use Rattle.std.proofs.Common.{◌∙◌, sym, arith}
-use Rattle.std.proofs.lemmas.Bool.{le-ltb}
+use Rattle.yaml_scan_scalars.proofs.Words.{le-ltb}
 use Rattle.yaml_scan_scalars.proofs.TableLemmas.{past_ordinary}
 use Rattle.yaml_scan_scalars.proofs.run.ordinary_at.Goals as goal
 

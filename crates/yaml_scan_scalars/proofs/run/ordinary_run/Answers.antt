@@ -1,5 +1,5 @@
 use Rattle.std.proofs.Common.{◌∙◌}
-use Rattle.yaml_scan_model.proofs.SparesLemmas.{holds_slice}
+use Rattle.yaml_scan_scalars.proofs.Words.{holds_slice}
 use Rattle.yaml_scan_scalars.proofs.RunLemmas.{run_slice}
 use Rattle.yaml_scan_scalars.proofs.run.ordinary_run.Goals as goal
 

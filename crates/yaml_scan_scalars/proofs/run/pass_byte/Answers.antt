@@ -1,7 +1,5 @@
 use Rattle.std.proofs.Common.{◌≡◌, ◌≤◌, ℕ, List, length, refl, ap, if◌then◌else◌, arith}
-use Rattle.yaml_scan_model.specs.declared.record.yaml_mark_t.{yaml_mark_t}
-use Rattle.yaml_scan_model.specs.Marks.{byte, starts, column_at}
-use Rattle.yaml_scan_model.proofs.MarksLemmas.{within, column_at-le}
+use Rattle.yaml_scan_scalars.proofs.Words.{yaml_mark_t, byte, starts, column_at, within, column_at-le}
 use Rattle.yaml_scan_scalars.proofs.TableLemmas.{behind_none, one_at_most}
 use Rattle.yaml_scan_scalars.proofs.run.pass_byte.Goals as goal
 
@@ -13,11 +11,10 @@ overflow_add-mark-2 c =
     let text = c.args.reader.now.text in
     let p = c.args.reader.now.at in
     let column : c.stop-here.result.column ≡ column_at text p = ap (λ (x : yaml_mark_t). x.column) c.stop-here.ensures.mark in
-    let le = column_at-le text p in
     let inside = within text p c.requires.some in
     let now : length c.text-text.result.now ≡ length text = ap (λ (xs : List ℕ). length xs) c.text-text.ensures in
     let some : c.begun.result ≤ 1 = rw c.begun.ensures (one_at_most _) in
-    omega (arith, column, le, inside, now, some)
+    omega (arith, column, column_at-le text p, inside, now, some)
 
 pub resume-requires-clause-inside : goal.resume-requires-clause-inside
 resume-requires-clause-inside c =

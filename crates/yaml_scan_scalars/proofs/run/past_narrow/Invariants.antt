@@ -1,6 +1,5 @@
 use Rattle.std.proofs.Common.{◌≡◌, ◌+◌, ◌-◌, ◌≤◌, ◌<◌, ℕ, true}
-use Rattle.yaml_scan_model.specs.Marks.{byte}
-use Rattle.yaml_scan_scalars.specs.Ordinary.{is_narrow}
+use Rattle.yaml_scan_scalars.proofs.Words.{byte, is_narrow}
 use Rattle.yaml_scan_scalars.proofs.run.past_narrow.Given as goal
 
 abbrev pub invariant-bytes : goal.invariant-bytes

@@ -1,5 +1,5 @@
 use Rattle.std.proofs.Common.{◌∙◌, sym, arith}
-use Rattle.std.proofs.lemmas.Bool.{le-ltb}
+use Rattle.yaml_scan_scalars.proofs.Words.{le-ltb}
 use Rattle.yaml_scan_scalars.proofs.TableLemmas.{past_spaced}
 use Rattle.yaml_scan_scalars.proofs.run.spaced_at.Goals as goal
 

@@ -1,7 +1,5 @@
 use Rattle.std.proofs.Common.{◌≡◌, ◌+◌, ◌≤◌, length, ◌∙◌, sym, ap, true, ℕ, List, if◌then◌else◌, arith}
-use Rattle.yaml_scan_model.specs.Marks.{byte, starts, column_at}
-use Rattle.yaml_scan_model.proofs.MarksLemmas.{within, column_at-le}
-use Rattle.yaml_scan_scalars.specs.Ordinary.{is_ordinary}
+use Rattle.yaml_scan_scalars.proofs.Words.{byte, starts, column_at, within, column_at-le, is_ordinary}
 use Rattle.yaml_scan_scalars.proofs.RunLemmas.{run_more, ordinary_is}
 use Rattle.yaml_scan_scalars.proofs.TableLemmas.{behind, one_at_most}
 use Rattle.yaml_scan_scalars.proofs.run.wide_run.Goals as goal
@@ -16,27 +14,24 @@ overflow_add-column c =
     let text = c.args.reader.now.text in
     let o : is_ordinary (byte text c.bytes.end) ≡ true = rw c.text-text.ensures at (sym c.ordinary_at.ensures ∙ c.bytes-test.true) in
     let inside = within text c.bytes.end (ordinary_is _ o).some in
-    let le = column_at-le text c.bytes.end in
     let now : length c.text-text.result.now ≡ length text = ap (λ (xs : List ℕ). length xs) c.text-text.ensures in
     let some : c.begun-column.result ≤ 1 = rw c.begun-column.ensures (one_at_most _) in
-    omega (arith, le, some, inside, now, c.bytes.invariant.column)
+    omega (arith, column_at-le text c.bytes.end, some, inside, now, c.bytes.invariant.column)
 
 pub bytes-smaller : goal.bytes-smaller
 bytes-smaller c =
     let o : is_ordinary (byte c.args.reader.now.text c.bytes.end) ≡ true = rw c.text-text.ensures at (sym c.ordinary_at.ensures ∙ c.bytes-test.true) in
-    let inside = within c.args.reader.now.text c.bytes.end (ordinary_is _ o).some in
-    omega (arith, inside)
+    omega (arith, within c.args.reader.now.text c.bytes.end (ordinary_is _ o).some)
 
 pub bytes-preserved : goal.bytes-preserved
 bytes-preserved c =
     let text = c.args.reader.now.text in
     let o : is_ordinary (byte text c.bytes.end) ≡ true = rw c.text-text.ensures at (sym c.ordinary_at.ensures ∙ c.bytes-test.true) in
-    let inside = within text c.bytes.end (ordinary_is _ o).some in
     let b = behind text c.bytes.end o c.bytes.invariant.whole in
     let begun : c.begun-column.result ≡ (if starts (byte text c.bytes.end) then 1 else 0) = rw c.text-text.ensures at c.begun-column.ensures in
     record {
       run = run_more text c.args.reader.now.at (record { text = text; at = c.bytes.end }) c.bytes.invariant.run o;
-      inside = omega (arith, inside);
+      inside = omega (arith, within text c.bytes.end (ordinary_is _ o).some);
       line = c.bytes.invariant.line ∙ sym b.line;
       column = ap (λ (k : ℕ). k + c.begun-column.result) c.bytes.invariant.column ∙ ap (λ (k : ℕ). column_at text c.bytes.end + k) begun ∙ sym b.column;
       whole = b.whole;

@@ -1,5 +1,5 @@
 use Rattle.std.proofs.Common.{◌≤◌, ◌<◌, length, ◌+◌, arith, inl, inr}
-use Rattle.yaml_scan_model.specs.Marks.{byte}
+use Rattle.yaml_scan_words.proofs.Words.{byte}
 use Rattle.yaml_scan_words.specs.declared.run.Run.TheVariants as runs
 use Rattle.yaml_scan_words.proofs.RunsLemmas.{run_within-ge}
 use Rattle.yaml_scan_words.proofs.PrintedLemmas.{name_printed}

@@ -1,6 +1,5 @@
 use Rattle.std.proofs.Common.{◌≡◌, ◌||◌, not, ℕ, List, Bool, true, false, refl, sym, ◌∙◌}
-use Rattle.yaml_scan_model.specs.Marks.{byte}
-use Rattle.yaml_scan_words.specs.Anchors.{may_end_name}
+use Rattle.yaml_scan_words.proofs.Words.{byte, may_end_name}
 use Rattle.yaml_scan_words.proofs.anchors.is_wrong.Goals as goal
 
 space_ends : (text : List ℕ) (p : ℕ) → byte text p ≡ 32 → may_end_name text p ≡ true

@@ -1,5 +1,5 @@
 use Rattle.std.proofs.Common.{◌≡◌, ◌&&◌, ◌==◌, not, nat_lt, true, ◌∙◌, sym}
-use Rattle.yaml_scan_model.specs.Marks.{byte}
+use Rattle.yaml_scan_words.proofs.Words.{byte}
 use Rattle.yaml_scan_words.proofs.BetweenLemmas.{lexeme_here, space_here, space_byte, skipped_here, bom_first}
 use Rattle.yaml_scan_words.proofs.between.pass_one.Goals as goal
 

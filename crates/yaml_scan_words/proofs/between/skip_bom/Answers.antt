@@ -1,5 +1,5 @@
 use Rattle.std.proofs.Common.{◌≡◌, ◌+◌, arith}
-use Rattle.yaml_scan_model.proofs.MarksLemmas.{no_break}
+use Rattle.yaml_scan_words.proofs.Words.{no_break}
 use Rattle.yaml_scan_words.proofs.BetweenLemmas.{bom_bytes}
 use Rattle.yaml_scan_words.proofs.between.skip_bom.Goals as goal
 

@@ -1,6 +1,6 @@
 use Rattle.std.proofs.Common.{◌≡◌, length, ◌||◌, not, ◌∙◌, refl, arith}
 use Rattle.yaml_scan_words.specs.declared.between.GapSpot.TheVariants as gap_spots
-use Rattle.yaml_scan_words.specs.Between.{step_at, gap_at, gap_within}
+use Rattle.yaml_scan_words.proofs.Words.{step_at, gap_at, gap_within}
 use Rattle.yaml_scan_words.proofs.BetweenLemmas.{gap_blank, gap_break, gap_stop, behind_blank, behind_break, break_last}
 use Rattle.yaml_scan_words.proofs.between.skip_gap.Goals as goal
 

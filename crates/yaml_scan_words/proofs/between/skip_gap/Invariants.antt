@@ -1,5 +1,5 @@
 use Rattle.std.proofs.Common.{◌≡◌, ◌≤◌, ℕ, length, ◌+◌, ◌-◌}
-use Rattle.yaml_scan_words.specs.Between.{gap_at, gap_within, with_break}
+use Rattle.yaml_scan_words.proofs.Words.{gap_at, gap_within, with_break}
 use Rattle.yaml_scan_words.proofs.between.skip_gap.Given as goal
 
 abbrev pub invariant-gap : goal.invariant-gap

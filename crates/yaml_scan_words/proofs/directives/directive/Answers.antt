@@ -1,6 +1,4 @@
-use Rattle.std.proofs.lemmas.Result.{err_from_is_err_and}
-use Rattle.yaml_scan_model.specs.Marks.{mark_at}
-use Rattle.yaml_scan_words.specs.Directives.{value_at}
+use Rattle.yaml_scan_words.proofs.Words.{err_from_is_err_and, mark_at, value_at}
 use Rattle.yaml_scan_words.proofs.DirectivesLemmas.{value_refused, end_refused, end_given}
 use Rattle.yaml_scan_words.proofs.directives.directive.Goals as goal
 

@@ -1,6 +1,5 @@
-use Rattle.std.proofs.lemmas.Result.{err_from_is_err_and}
+use Rattle.yaml_scan_words.proofs.Words.{err_from_is_err_and, name_at}
 use Rattle.yaml_scan_words.specs.declared.directives.DirectiveName.TheVariants as names
-use Rattle.yaml_scan_words.specs.Directives.{name_at}
 use Rattle.yaml_scan_words.proofs.DirectivesLemmas.{name_refused, name_given}
 use Rattle.yaml_scan_words.proofs.directives.directive_value.Goals as goal
 

@@ -1,4 +1,4 @@
-use Rattle.yaml_scan_words.specs.Written.{uri_text}
+use Rattle.yaml_scan_words.proofs.Words.{uri_text}
 use Rattle.yaml_scan_words.proofs.HasLemmas.{has}
 use Rattle.yaml_scan_words.proofs.UrisRead.{uri_is_read}
 use Rattle.yaml_scan_words.proofs.laws.uri_reads.Goals as goal

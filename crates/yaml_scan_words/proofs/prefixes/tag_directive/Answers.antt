@@ -1,7 +1,5 @@
-use Rattle.std.proofs.lemmas.Result.{err_from_is_err_and}
-use Rattle.yaml_scan_words.specs.Directives.{handle_at}
+use Rattle.yaml_scan_words.proofs.Words.{err_from_is_err_and, handle_at, run_end}
 use Rattle.yaml_scan_words.specs.declared.run.Run.TheVariants as runs
-use Rattle.yaml_scan_words.specs.Runs.{run_end}
 use Rattle.yaml_scan_words.proofs.DirectivesLemmas.{handle_refused, tag_refused, tag_given}
 use Rattle.yaml_scan_words.proofs.prefixes.tag_directive.Goals as goal
 

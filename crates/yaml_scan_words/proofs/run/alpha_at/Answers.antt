@@ -1,5 +1,5 @@
 use Rattle.std.proofs.Common.{◌∙◌, sym, arith}
-use Rattle.std.proofs.lemmas.Bool.{le-ltb}
+use Rattle.yaml_scan_words.proofs.Words.{le-ltb}
 use Rattle.yaml_scan_words.proofs.RunsLemmas.{past_alphas}
 use Rattle.yaml_scan_words.proofs.run.alpha_at.Goals as goal
 

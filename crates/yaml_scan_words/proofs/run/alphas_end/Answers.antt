@@ -1,6 +1,6 @@
 use Rattle.std.proofs.Common.{◌≡◌, ◌+◌, length, ◌∙◌, sym, arith, true, false}
 use Rattle.yaml_scan_words.specs.declared.run.Run.TheVariants as runs
-use Rattle.yaml_scan_words.specs.Runs.{belongs}
+use Rattle.yaml_scan_words.proofs.Words.{belongs}
 use Rattle.yaml_scan_words.proofs.RunsLemmas.{belongs_inside, run_more, run_stop, run_to}
 use Rattle.yaml_scan_words.proofs.run.alphas_end.Goals as goal
 

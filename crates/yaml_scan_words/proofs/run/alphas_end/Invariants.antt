@@ -1,6 +1,6 @@
 use Rattle.std.proofs.Common.{◌≡◌, ◌≤◌, ℕ, length, ◌+◌, ◌-◌}
 use Rattle.yaml_scan_words.specs.declared.run.Run.TheVariants as runs
-use Rattle.yaml_scan_words.specs.Runs.{run_end, run_within}
+use Rattle.yaml_scan_words.proofs.Words.{run_end, run_within}
 use Rattle.yaml_scan_words.proofs.run.alphas_end.Given as goal
 
 abbrev pub invariant-bytes : goal.invariant-bytes

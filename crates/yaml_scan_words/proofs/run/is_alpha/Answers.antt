@@ -1,6 +1,5 @@
 use Rattle.std.proofs.Common.{◌≡◌, ℕ, ◌<◌, true, nat_eq, get_or, List, refl, arith}
-use Rattle.yaml_scan_model.specs.Classes.{is_alpha_byte, is_digit_byte}
-use Rattle.yaml_scan_words.specs.declared.run.TheConstants.{RANKS}
+use Rattle.yaml_scan_words.proofs.Words.{is_alpha_byte, is_digit_byte, RANKS}
 use Rattle.yaml_scan_words.proofs.RanksLemmas.{agree_below, agree_at}
 use Rattle.yaml_scan_words.proofs.run.is_alpha.Goals as goal
 

@@ -1,6 +1,6 @@
 use Rattle.std.proofs.Common.{◌≡◌, ◌+◌, ◌-◌, ◌≤◌, ◌<◌, ℕ, true}
 use Rattle.yaml_scan_words.specs.declared.run.Run.TheVariants as runs
-use Rattle.yaml_scan_words.specs.Runs.{belongs}
+use Rattle.yaml_scan_words.proofs.Words.{belongs}
 use Rattle.yaml_scan_words.proofs.run.past_alphas.Given as goal
 
 abbrev pub invariant-bytes : goal.invariant-bytes

@@ -1,5 +1,5 @@
 use Rattle.std.proofs.Common.{arith}
-use Rattle.yaml_scan_model.proofs.MarksLemmas.{no_break}
+use Rattle.yaml_scan_words.proofs.Words.{no_break}
 use Rattle.yaml_scan_words.proofs.run.skip_indicator.Goals as goal
 
 pub skip-requires-clause-no_break : goal.skip-requires-clause-no_break

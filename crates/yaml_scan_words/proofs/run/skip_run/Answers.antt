@@ -1,5 +1,5 @@
 use Rattle.std.proofs.Common.{◌≡◌, length, ◌∙◌, sym, refl, arith, true, false}
-use Rattle.yaml_scan_words.specs.Runs.{belongs}
+use Rattle.yaml_scan_words.proofs.Words.{belongs}
 use Rattle.yaml_scan_words.proofs.RunsLemmas.{belongs_here, belongs_inside, run_more, run_stop}
 use Rattle.yaml_scan_words.proofs.run.skip_run.Goals as goal
 

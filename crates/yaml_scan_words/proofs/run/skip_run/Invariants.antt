@@ -1,5 +1,5 @@
 use Rattle.std.proofs.Common.{◌≡◌, ◌≤◌, ℕ, length, ◌+◌, ◌-◌}
-use Rattle.yaml_scan_words.specs.Runs.{run_end, run_within}
+use Rattle.yaml_scan_words.proofs.Words.{run_end, run_within}
 use Rattle.yaml_scan_words.proofs.run.skip_run.Given as goal
 
 abbrev pub invariant-bytes : goal.invariant-bytes

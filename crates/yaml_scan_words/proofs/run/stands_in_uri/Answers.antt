@@ -1,8 +1,5 @@
 use Rattle.std.proofs.Common.{◌≡◌, ℕ, ◌<◌, Bool, true, false, nat_le, get_or, List, refl, arith}
-use Rattle.yaml_scan_model.specs.Classes.{is_alpha_byte, is_digit_byte}
-use Rattle.yaml_scan_words.specs.Uris.{is_punctuation, is_wide_punctuation}
-use Rattle.yaml_scan_words.specs.Written.{is_kept}
-use Rattle.yaml_scan_words.specs.declared.run.TheConstants.{RANKS}
+use Rattle.yaml_scan_words.proofs.Words.{is_alpha_byte, is_digit_byte, is_punctuation, is_wide_punctuation, is_kept, RANKS}
 use Rattle.yaml_scan_words.proofs.RanksLemmas.{agree_below, agree_at}
 use Rattle.yaml_scan_words.proofs.run.stands_in_uri.Goals as goal
 

@@ -1,6 +1,5 @@
 use Rattle.std.proofs.Common.{◌≡◌, ◌≤◌, ◌<◌, ◌⊎◌, ℕ, true, false}
-use Rattle.yaml_scan_words.specs.Uris.{is_uri}
-use Rattle.yaml_scan_words.specs.Tags.{name_end, handle_end}
+use Rattle.yaml_scan_words.proofs.Words.{is_uri, name_end, handle_end}
 use Rattle.yaml_scan_words.proofs.ShortLemmas.{short_by}
 use Rattle.yaml_scan_words.proofs.tags.suffix_end.Goals as goal
 

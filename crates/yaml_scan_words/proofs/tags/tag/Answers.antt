@@ -1,6 +1,5 @@
 use Rattle.std.proofs.Common.{◌≡◌, ◌+◌, ◌==◌, ◌&&◌, not, true, slice_range, refl, sym, ◌∙◌, arith}
-use Rattle.yaml_scan_model.specs.Marks.{byte}
-use Rattle.yaml_scan_words.specs.Tags.{handle_end, may_end_tag}
+use Rattle.yaml_scan_words.proofs.Words.{byte, handle_end, may_end_tag}
 use Rattle.yaml_scan_words.proofs.ShortLemmas.{short_printed, short_tag, handle_forward}
 use Rattle.yaml_scan_words.proofs.tags.tag.Goals as goal
 

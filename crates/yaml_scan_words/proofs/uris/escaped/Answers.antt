@@ -1,5 +1,5 @@
 use Rattle.std.proofs.Common.{◌≡◌, length, ◌∙◌, refl, arith}
-use Rattle.yaml_scan_words.specs.Uris.{spot_at, Spells, Ends, Faulty}
+use Rattle.yaml_scan_words.proofs.Words.{spot_at, Spells, Ends, Faulty}
 use Rattle.yaml_scan_words.proofs.UrisLemmas.{uri_more, uri_done, uri_bad}
 use Rattle.yaml_scan_words.proofs.uris.escaped.Goals as goal
 

@@ -1,5 +1,5 @@
 use Rattle.std.proofs.Common.{◌≡◌, ◌≤◌, ℕ, suc, length, ◌+◌, ◌-◌}
-use Rattle.yaml_scan_words.specs.Uris.{uri_at, uri_within, with_bytes}
+use Rattle.yaml_scan_words.proofs.Words.{uri_at, uri_within, with_bytes}
 use Rattle.yaml_scan_words.proofs.uris.escaped.Given as goal
 
 abbrev pub invariant-bytes : goal.invariant-bytes

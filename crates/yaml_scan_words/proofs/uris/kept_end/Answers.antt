@@ -1,5 +1,5 @@
 use Rattle.std.proofs.Common.{◌∙◌, sym, arith}
-use Rattle.yaml_scan_model.proofs.MarksLemmas.{within}
+use Rattle.yaml_scan_words.proofs.Words.{within}
 use Rattle.yaml_scan_words.proofs.UrisLemmas.{uri_range}
 use Rattle.yaml_scan_words.proofs.PrintedLemmas.{kept_more}
 use Rattle.yaml_scan_words.proofs.uris.kept_end.Goals as goal

@@ -1,5 +1,5 @@
 use Rattle.std.proofs.Common.{◌≡◌, ◌≤◌, ◌<◌, ℕ, length, ◌-◌, true}
-use Rattle.yaml_scan_words.specs.Uris.{is_uri}
+use Rattle.yaml_scan_words.proofs.Words.{is_uri}
 use Rattle.yaml_scan_words.proofs.uris.kept_end.Given as goal
 
 abbrev pub invariant-bytes : goal.invariant-bytes

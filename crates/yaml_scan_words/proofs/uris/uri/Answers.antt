@@ -1,8 +1,6 @@
 use Rattle.std.proofs.Common.{◌≡◌, ◌≤◌, ◌<◌, ℕ, true, false, slice_range, refl, arith}
-use Rattle.yaml_scan_words.specs.Uris.{is_uri, uri_at, with_bytes}
+use Rattle.yaml_scan_words.proofs.Words.{is_uri, uri_at, with_bytes, byte, ReadsAs, IsBytes, behind_bytes}
 use Rattle.yaml_scan_words.proofs.UrisLemmas.{uri_range, uri_behind, uri_plain}
-use Rattle.yaml_scan_model.specs.Marks.{byte}
-use Rattle.yaml_scan_words.specs.Readings.{ReadsAs, IsBytes, behind_bytes}
 use Rattle.yaml_scan_words.proofs.uris.uri.Goals as goal
 
 pub leap-requires-clause-forward : goal.leap-requires-clause-forward

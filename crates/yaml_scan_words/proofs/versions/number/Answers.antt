@@ -1,9 +1,7 @@
 use Rattle.std.proofs.Common.{◌≡◌, length, ◌+◌, ◌-◌, ◌∙◌, sym, refl, arith, true, false}
-use Rattle.std.proofs.lemmas.Int.{to_z_pos}
+use Rattle.yaml_scan_words.proofs.Words.{to_z_pos, byte, belongs}
 use mir.Syntax.{w32}
-use Rattle.yaml_scan_model.specs.Marks.{byte}
 use Rattle.yaml_scan_words.specs.declared.run.Run.TheVariants as runs
-use Rattle.yaml_scan_words.specs.Runs.{belongs}
 use Rattle.yaml_scan_words.proofs.RunsLemmas.{run_more, digit_printed}
 use Rattle.yaml_scan_words.proofs.DirectivesLemmas.{limit-more, limit-room, digit_here, decimal_none, decimal_more, number_long, number_none, number_done}
 use Rattle.yaml_scan_words.proofs.versions.number.Goals as goal
@@ -52,7 +50,6 @@ digits-preserved c =
     let text = c.args.reader.now.text in
     let p = c.args.reader.now.at + c.digits.count in
     let here : belongs runs.Digits text p ≡ true = rw (c.text.ensures, c.place.ensures, c.digits.invariant.text, c.digits.invariant.place) at (sym c.belongs.ensures ∙ c.digits-test.true) in
-    let digit = digit_here text p here in
     let value : c.digit.result ≡ byte text p - 48 = rw (c.here.ensures, c.digits.invariant.text, c.digits.invariant.place) at c.digit.ensures in
     let (n, room, same) = c.digits.invariant.rest in
     let (m, left, rest) = run_more n runs.Digits text p here room in
@@ -62,7 +59,7 @@ digits-preserved c =
       place = omega (arith, c.digits.invariant.place);
       value = decimal_more text c.args.reader.now.at c.digits.count c.digits.value c.digits.invariant.value;
       few = omega (arith, c.digits.invariant.few, c.if-count-eq9.false);
-      small = omega (arith, c.digits.invariant.small, digit);
+      small = omega (arith, c.digits.invariant.small, digit_here text p here);
       rest = (m, left, same ∙ rest);
     }
 

@@ -1,7 +1,6 @@
 use Rattle.std.proofs.Common.{◌≡◌, ◌≤◌, ◌<◌, ℕ, length, ◌+◌, ◌-◌}
 use Rattle.yaml_scan_words.specs.declared.run.Run.TheVariants as runs
-use Rattle.yaml_scan_words.specs.Runs.{run_end, run_within}
-use Rattle.yaml_scan_words.specs.Directives.{decimal}
+use Rattle.yaml_scan_words.proofs.Words.{run_end, run_within, decimal}
 use Rattle.yaml_scan_words.proofs.DirectivesLemmas.{limit}
 use Rattle.yaml_scan_words.proofs.versions.number.Given as goal
 

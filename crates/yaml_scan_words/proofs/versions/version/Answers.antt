@@ -1,11 +1,8 @@
+use Rattle.yaml_scan_words.proofs.Words.{to_z-of_z, err_from_is_err_and, number_at, run_end}
 use mir.Syntax.{w32}
 use mir.Val.{SFits, to_z, of_z}
 use Rattle.std.proofs.Common.{◌≡◌, rules}
-use Rattle.std.proofs.lemmas.Int.{to_z-of_z}
-use Rattle.std.proofs.lemmas.Result.{err_from_is_err_and}
-use Rattle.yaml_scan_words.specs.Directives.{number_at}
 use Rattle.yaml_scan_words.specs.declared.run.Run.TheVariants as runs
-use Rattle.yaml_scan_words.specs.Runs.{run_end}
 use Rattle.yaml_scan_words.proofs.DirectivesLemmas.{major_refused, major_given}
 use Rattle.yaml_scan_words.proofs.versions.version.Goals as goal
 

@@ -1,5 +1,5 @@
 use Rattle.std.proofs.Common.{arith, ◌∙◌, sym, ◌++◌, ap, append_assoc}
-use Rattle.std.proofs.lemmas.Bool.Decides.{nat_tests}
+use Rattle.yaml_scan_block.proofs.Words.{nat_tests}
 use Rattle.yaml_scan_block.proofs.StackingLemmas.{glue_first, glue_kept, glue_folded, space_or_some, space_or_none}
 use Rattle.yaml_scan_block.proofs.stacking.Stacking.glue.Goals as goal
 

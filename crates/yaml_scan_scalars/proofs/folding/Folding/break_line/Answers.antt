@@ -1,6 +1,5 @@
 use Rattle.std.proofs.Common.{◌≡◌, true, arith}
-use Rattle.std.proofs.lemmas.Bool.Decides.{nat_tests}
-use Rattle.yaml_scan_model.specs.Breaks.{is_feed}
+use Rattle.yaml_scan_scalars.proofs.Words.{nat_tests, is_feed}
 use Rattle.yaml_scan_scalars.proofs.FoldingLemmas.{break_feed, break_more}
 use Rattle.yaml_scan_scalars.proofs.folding.Folding.break_line.Goals as goal
 use Rattle.yaml_scan_scalars.proofs.folding.Folding.break_line.Goals.{in_default-via-in-Line+else-bytes-eq10, in_default-via-in_default}

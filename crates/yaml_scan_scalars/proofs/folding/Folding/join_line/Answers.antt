@@ -1,5 +1,5 @@
 use Rattle.std.proofs.Common.{◌∙◌, [], ◌∷◌}
-use Rattle.yaml_scan_scalars.specs.Pieces.{Break}
+use Rattle.yaml_scan_scalars.proofs.Words.{Break}
 use Rattle.yaml_scan_scalars.proofs.FoldingLemmas.{join_line}
 use Rattle.yaml_scan_scalars.proofs.folding.Folding.join_line.Goals as goal
 

@@ -1,5 +1,5 @@
 use Rattle.std.proofs.Common.{◌∙◌, [], ◌∷◌}
-use Rattle.yaml_scan_scalars.specs.Pieces.{Kept}
+use Rattle.yaml_scan_scalars.proofs.Words.{Kept}
 use Rattle.yaml_scan_scalars.proofs.FoldingLemmas.{keep_line, resume_start}
 use Rattle.yaml_scan_scalars.proofs.folding.Folding.of_bytes.Goals as goal
 

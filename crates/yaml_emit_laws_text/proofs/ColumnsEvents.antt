@@ -1,9 +1,6 @@
 -- What is marked is told by the events.
 use Rattle.std.proofs.Common.{◌≡◌, ℕ, ◌+◌, ◌-◌, Bool, false, ◌||◌, nat_lt, List, [], ◌∷◌, refl, ap, sym, ◌∙◌, arith}
-use Rattle.yaml_emit_layout.specs.scan_model.declared.yaml_encoding_t.{yaml_encoding_t}
-use Rattle.yaml_emit_layout.specs.Content.{Node, alias_node, scalar_node, sequence_node, mapping_node, Nodes, no_nodes, node, Pairs, no_pairs, pair, Document, Event, no_event, stream_start, stream_end, document_start, document_end, alias, scalar, sequence_start, sequence_end, mapping_start, mapping_end, node_events, items_events, pairs_events, documents_events, stream_events}
-use Rattle.yaml_emit_layout.specs.Nodes.{MOST}
-use Rattle.yaml_emit_laws_text.specs.ColumnsLaws.{EventsTellColumns}
+use Rattle.yaml_emit_laws_text.proofs.Shared.{yaml_encoding_t, Node, alias_node, scalar_node, sequence_node, mapping_node, Nodes, no_nodes, node, Pairs, no_pairs, pair, Document, Event, no_event, stream_start, stream_end, document_start, document_end, alias, scalar, sequence_start, sequence_end, mapping_start, mapping_end, node_events, items_events, pairs_events, documents_events, stream_events, MOST, EventsTellColumns}
 use Rattle.yaml_emit_laws_text.proofs.ColumnsCalm.{or_assoc}
 use Rattle.yaml_emit_laws_text.proofs.ColumnsMarks.{node_marks, items_marks, pairs_marks, documents_marks}
 use Rattle.yaml_emit_laws_text.proofs.ColumnsDepths.{too_deep, deep_marked}

@@ -1,13 +1,8 @@
 -- A line comes first, and forgets the one before it.
 use Rattle.std.proofs.Common.{◌≡◌, ℕ, true, false, true≢false, List, [], ◌∷◌, refl, sym}
-use Rattle.yaml_emit_laws_text.specs.emit_layout.emit_text.declared.LineBreak.{LineBreak}
-use Rattle.yaml_emit_laws_text.specs.emit_layout.emit_text.declared.LineBreak.TheVariants.{Lf, Cr, CrLf}
-use Rattle.yaml_emit_laws_text.specs.emit_layout.emit_text.Layout.{Layout, ◌▹◌, line}
-use Rattle.yaml_emit_layout.specs.Content.{no_nodes, node, no_pairs, pair}
-use Rattle.yaml_emit_layout.specs.Nodes.{Context, context_of, items_layout, pairs_layout, before_item, before_key, closer, end_layout}
+use Rattle.yaml_emit_laws_text.proofs.Shared.{LineBreak, Lf, Cr, CrLf, Layout, ◌▹◌, line, no_nodes, node, no_pairs, pair, Context, context_of, items_layout, pairs_layout, before_item, before_key, closer, end_layout, BlocksForgetColumns}
 use Rattle.yaml_emit_layout.specs.ToCome.{Frame, items_left, pairs_left, value_left, frame_layout, frames_layout, layout, ending_layout}
 use Rattle.yaml_emit_laws_text.specs.Forgetting.{is_block, are_block, Forgets}
-use Rattle.yaml_emit_laws_text.specs.ColumnsLaws.{BlocksForgetColumns}
 
 line_forgets : (b : LineBreak) (n : ℕ) → Forgets (line b n)
 unfolding line

@@ -1,15 +1,6 @@
 -- Layouts of at most so many bytes, whatever follows.
 use Rattle.std.proofs.Common.{◌≡◌, ℕ, zero, suc, ◌+◌, ◌-◌, ◌*◌, ◌<◌, ◌≤◌, Bool, true, false, ◌&&◌, nat_lt, List, [], ◌∷◌, length, refl, arith, length-append, inl, inr, le_refl, mul-suc, mul-le-mul_left, sub-le}
-use Rattle.std.proofs.lemmas.Bool.{cases_Bool, ltb-true, lt-ltb, and_parts}
-use Rattle.yaml_emit_laws_text.specs.emit_layout.emit_text.declared.Cursor.{Cursor}
-use Rattle.yaml_emit_layout.specs.emit_text.declared.Encoding.{Encoding}
-use Rattle.yaml_emit_layout.specs.emit_text.declared.Encoding.TheVariants.{Utf8, Utf16Le, Utf16Be}
-use Rattle.yaml_emit_laws_text.specs.emit_layout.emit_text.declared.LineBreak.{LineBreak}
-use Rattle.yaml_emit_laws_text.specs.emit_layout.emit_text.declared.LineBreak.TheVariants.{Lf, Cr, CrLf}
-use Rattle.yaml_emit_layout.specs.emit_text.Text.{Item, letter, char_bytes, encode}
-use Rattle.yaml_emit_laws_text.specs.emit_layout.emit_text.Layout.{Rest, Layout, ◌▹◌, stay, choose, when, char, letters, blank, blanks, break, new_line, is_white, gap, word, opener, must_break, indent_to, line, keep, order_mark}
-use Rattle.yaml_emit_layout.specs.Nodes.{MOST, deep_if, checked}
-use Rattle.yaml_emit_laws_text.specs.Sizes.{unit, text_bytes}
+use Rattle.yaml_emit_laws_text.proofs.Shared.{cases_Bool, ltb-true, lt-ltb, and_parts, Cursor, Encoding, Utf8, Utf16Le, Utf16Be, LineBreak, Lf, Cr, CrLf, Item, letter, char_bytes, encode, Rest, Layout, ◌▹◌, stay, choose, when, char, letters, blank, blanks, break, new_line, is_white, gap, word, opener, must_break, indent_to, line, keep, order_mark, MOST, deep_if, checked, unit, text_bytes}
 
 abbrev pub size : Encoding → List Item → ℕ
 size x t = length (encode x t)

@@ -1,12 +1,9 @@
 -- What a spelling is read as, piece by piece, has the value that it means.
 use Rattle.std.proofs.Common.{◌≡◌, ℕ, zero, suc, Bool, true, false, cond, List, [], ◌∷◌, ◌++◌, map, refl, sym, ap, subst, ◌∙◌, inl, inr, arith, append_assoc, encode_utf8, replicate, if◌then◌else◌}
-use Rattle.std.proofs.lemmas.Bool.{cases_Bool, cases_lt}
-use Rattle.std.proofs.lemmas.Str.{encode_ascii}
-use Rattle.std.proofs.lemmas.Bool.Decides.{nat_tests}
-use Rattle.yaml_emit_laws_text.specs.scan_history.scan_model.Marks.{is_blank}
-use Rattle.yaml_scan_scalars.specs.Pieces.{Piece, Kept, Blank, Break, Line, lines, is_empty, gap, Rest, rest_of, folded, value}
+use Rattle.yaml_emit_laws_text.proofs.Shared.{cases_Bool, cases_lt, encode_ascii, nat_tests, is_blank, Piece, Kept, Blank, Break, Line, lines, rest_of, folded, value, end_means, LineTurn, turn_means, QuotedPart, raw, doubled, named, numbered, joint, meant, meaning, IsSpelling, may_follow, may_be_next, is_raw_blank, is_fold, is_turn}
+use Rattle.yaml_scan_scalars.specs.Pieces.{is_empty, gap, Rest}
 use Rattle.yaml_scan_scalars.proofs.FoldingLemmas.{value-kept, rest_of-blank}
-use Rattle.yaml_emit_laws_text.specs.Spelling.{end_means, LineTurn, turn_means, QuotedPart, raw, doubled, named, numbered, fold, joint, meant, meaning, IsSpelling, may_follow, may_be_next, is_raw_blank, is_fold, is_turn}
+use Rattle.yaml_emit_laws_text.specs.Spelling.{fold}
 use Rattle.yaml_emit_laws_text.proofs.Chars.{encode_1, encode_2, encode_3, encode_4}
 
 -- The first of two where the test holds.

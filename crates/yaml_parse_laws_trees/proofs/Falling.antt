@@ -1,8 +1,6 @@
 -- The numbers of tokens that are not asked for fall from event to event.
 use Rattle.std.proofs.Common.{◌≡◌, ◌≤◌, ◌+◌, ℕ, List, [], ◌∷◌, ◌++◌, length, map, Option, Some, None, refl, arith}
-use Rattle.yaml_parse_laws_trees.proofs.Words.{Token, no_token, Fault, HasMore, RawEvent, State, Given, Fed, stop, go, feed, Outcome, finished, carry, ending_at, run, left_where_stopped, unasked_at_stop, Directives, Settled, refused, gave, noted, settle, Reading, read_on, reading, unasked_at_fault, reading_of, AreFalling}
-use Rattle.yaml_parse_grammar.specs.Resolve.{unasked_on}
-use Rattle.yaml_parse_grammar.specs.Remaining.{next_unasked}
+use Rattle.yaml_parse_laws_trees.proofs.Words.{Token, no_token, Fault, HasMore, RawEvent, State, Given, Fed, stop, go, feed, Outcome, finished, carry, ending_at, run, left_where_stopped, unasked_at_stop, Directives, Settled, refused, gave, noted, settle, Reading, read_on, reading, unasked_at_fault, reading_of, AreFalling, unasked_on, next_unasked}
 
 -- ---- something is to come
 

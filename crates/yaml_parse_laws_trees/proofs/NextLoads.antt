@@ -1,18 +1,13 @@
 -- What a load comes to by content is what it comes to by the loader's steps.
 use Rattle.std.proofs.Common.{◌≡◌, ◌⊎◌, ◌<◌, ◌≤◌, ◌+◌, ℕ, suc, ℤ, inl, inr, Bool, true, false, ◌||◌, cond, List, [], ◌∷◌, ◌++◌, length, Option, Some, None, Result, Ok, refl, sym, ap, subst, ◌∙◌, arith}
-use Rattle.std.proofs.lemmas.List.{append-nil}
+use Rattle.yaml_parse_laws_trees.proofs.Words.{append-nil, nat_cmp, slice_cmp, nat_list_cmp_total, yaml_mark_t, Fault, IsMemoryFault, HasMore, Event, EventBody, Document, Told, ParserRemaining, Anchors, is_same, spanning, Contents, alias, scalar, sequence, mapping, no_items, item, no_pairs, pair, events, item_events, pair_events, DocumentContent, document_events, document_of, Loading, LoadStep, goes_on, loaded, nothing_loaded, named, closed, aliased, step, load, behind, told_events, left_behind, names_behind, wrong_alias, or_later, first_wrong, IsOutside, AreOutside, NoneNext, LoadsByContent, one_more, ended, scan_layers, step_body, is_among, and_anchor, unless_known, NextLoad, next_document, next_fault, next_none, IsLoadOf, IsNextLoad, GivesLoad, load_unasked, IsRefusalOf, RefusesNext, LoadIsNext, RefusalIsNext, AreLoadsByContent}
 use Rattle.std.specs.FinMap as map
-use Rattle.std.specs.Ordering.{nat_cmp}
-use Rattle.std.specs.Cmp.Lexicographic.{slice_cmp, nat_list_cmp_total}
-use Rattle.yaml_parse_laws_trees.proofs.Words.{yaml_mark_t, Fault, IsMemoryFault, HasMore, Event, EventBody, Document, Told, ParserRemaining, Anchors, is_same, spanning, Contents, alias, scalar, sequence, mapping, no_items, item, no_pairs, pair, events, item_events, pair_events, DocumentContent, document_events, document_of, Loading, LoadStep, goes_on, loaded, nothing_loaded, named, closed, aliased, step, load, behind, told_events, left_behind, names_behind, wrong_alias, or_later, first_wrong, IsOutside, AreOutside, NoneNext, LoadsByContent, one_more, ended}
-use Rattle.yaml_parse_laws_trees.specs.parse_grammar.parse_model.Faults.{scan_layers}
 use Rattle.yaml_parse_laws_trees.specs.parse_grammar.parse_model.Events as event
 use Rattle.yaml_parse_laws_trees.specs.parse_grammar.parse_model.Prefix.{no_fault}
 use Rattle.yaml_parse_loader.specs.Numbering.{Content, Pairs}
-use Rattle.yaml_parse_loader.specs.Loading.{Open, refused, step_body, turn}
+use Rattle.yaml_parse_loader.specs.Loading.{Open, refused, turn}
 use Rattle.yaml_parse_loader.specs.Loading as loading
 use Rattle.yaml_parse_loader.proofs.Loads as numbering
-use Rattle.yaml_parse_laws_trees.specs.NextLoad.{is_among, and_anchor, unless_known, NextLoad, next_document, next_fault, next_none, IsLoadOf, IsNextLoad, GivesLoad, load_unasked, IsRefusalOf, RefusesNext, LoadIsNext, RefusalIsNext, AreLoadsByContent}
 use Rattle.yaml_parse_laws_trees.specs.NextLoad as next
 use Rattle.yaml_parse_laws_trees.proofs.ByStep as told
 use Rattle.yaml_parse_laws_trees.proofs.ByStep.{Loads, load_on, behind_all, loads, loads_of, unasked_on, unasked_at_refusal, unasked_of, unasked_by, answer_unasked, LoadGives, LoadRefuses}

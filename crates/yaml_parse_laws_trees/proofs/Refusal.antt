@@ -1,10 +1,8 @@
 -- Where a list of tokens is refused: at the first token that no tree goes on with.
 use Rattle.std.proofs.Common.{◌≡◌, ◌⊎◌, inl, inr, ℕ, List, [], ◌∷◌, ◌++◌, length, map, Option, Some, None, refl, ap, sym, subst, ◌∙◌}
-use Rattle.std.proofs.lemmas.List.{append_assoc}
-use Rattle.yaml_parse_laws_trees.proofs.Words.{yaml_mark_t, Token, type_of, no_token, zero_mark, Fault, Choice, Refuse, Take, Leave, Open, RawEvent, State, Given, Stream, spell, items, choice_at, left_at, Fed, stop, go, with_item, turn, feed, Outcome, finished, carry, ending_at, run, initial, bare, BeginsWithItems, TreeGoesOn, RefusedAt, RunsOut}
+use Rattle.yaml_parse_laws_trees.proofs.Words.{append_assoc, yaml_mark_t, Token, type_of, no_token, zero_mark, Fault, Choice, Refuse, Take, Leave, Open, RawEvent, State, Given, Stream, spell, items, choice_at, left_at, Fed, stop, go, with_item, turn, feed, Outcome, finished, carry, ending_at, run, initial, bare, BeginsWithItems, TreeGoesOn, RefusedAt, RunsOut, TreeGoesOnGiving, StandsAtLoad, FaultsStandAtFirst, FrontsAreNotRefused}
 use Rattle.yaml_parse_laws_trees.proofs.CompleteStream.{stream_runs, nothing_runs}
 use Rattle.yaml_parse_laws_trees.proofs.Turns.{items_given}
-use Rattle.yaml_parse_laws_trees.specs.SoundLaws.{TreeGoesOnGiving, StandsAtLoad, FaultsStandAtFirst, FrontsAreNotRefused}
 use Rattle.yaml_parse_laws_trees.proofs.Left.{Over}
 use Rattle.yaml_parse_laws_trees.proofs.Sound.{FedLeft, feed_left}
 use Rattle.yaml_parse_laws_trees.proofs.SoundStanding.{AllStood, FedStood, feed_stood}

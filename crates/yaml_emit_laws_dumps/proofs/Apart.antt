@@ -1,13 +1,7 @@
 -- The numbers of a dump are apart.
 use Rattle.std.proofs.Common.{◌≡◌, ◌≢◌, ◌<◌, ◌≤◌, ◌==◌, ℕ, zero, suc, Bool, true, false, List, [], ◌∷◌, length, get_or, Option, Some, None, refl, sym, ap, subst, ◌∙◌, inl, inr, arith, set, replicate}
-use Rattle.std.proofs.lemmas.Bool.{cases_Bool, cases_eq}
-use Rattle.std.proofs.lemmas.Bool.Decides.{nat_tests}
-use Rattle.yaml_emit_graph.specs.declared.Turn.{Turn}
-use Rattle.yaml_emit_graph.specs.declared.Turn.TheVariants.{First, Again, Leave}
-use Rattle.yaml_emit_graph.specs.Graph.{place_at, Numbering, next_number, again_at, numbered_by, numbered, none_numbered}
+use Rattle.yaml_emit_laws_dumps.proofs.Words.{cases_Bool, cases_eq, nat_tests, Turn, First, Again, Leave, place_at, Numbering, next_number, again_at, numbered_by, numbered, none_numbered, AreApart, MeetsAgain, NumbersAreApart, MetAgainAreNumbered}
 use Rattle.yaml_emit_graph.specs.Numbers.{counted}
-use Rattle.yaml_emit_laws_dumps.specs.Dumps.{AreApart, MeetsAgain}
-use Rattle.yaml_emit_laws_dumps.specs.DumpsLaws.{NumbersAreApart, MetAgainAreNumbered}
 
 -- ---- a list with one number set
 

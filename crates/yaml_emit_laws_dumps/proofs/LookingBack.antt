@@ -1,15 +1,11 @@
 -- What is expected is told by the events that came.
 use Rattle.std.proofs.Common.{◌≡◌, ℕ, zero, suc, Bool, true, false, not, ◌||◌, List, [], ◌∷◌, Option, Some, None, refl, sym, ap, ◌∙◌}
-use Rattle.yaml_emit_graph.specs.emit_layout.declared.Problem.{Problem}
-use Rattle.yaml_emit_graph.specs.emit_layout.declared.Expected.{Expected}
+use Rattle.yaml_emit_laws_dumps.proofs.Words.{Problem, Expected, Event, no_event, stream_start, stream_end, document_start, document_end, alias, scalar, sequence_start, sequence_end, mapping_start, mapping_end, or_else, event_problem, last_problem, ends_phase, node_problem, place_problem, problem_by, Due, item_due, key_due, value_due, Progress, at_place, first_progress, inside, behind_node, outer_due, progress_after, level_due, problem_in, first_refusal}
 use Rattle.yaml_emit_graph.specs.emit_layout.declared.Expected.TheVariants as at
 use Rattle.yaml_emit_graph.specs.emit_layout.declared.Problem.TheVariants as problem
 use Rattle.yaml_emit_graph.specs.emit_layout.declared.Level.{Level}
 use Rattle.yaml_emit_graph.specs.emit_layout.declared.Phase.{Phase}
 use Rattle.yaml_emit_graph.specs.emit_layout.declared.Phase.TheVariants.{Items, Keys, Value}
-use Rattle.yaml_emit_graph.specs.emit_layout.Content.{Event, no_event, stream_start, stream_end, document_start, document_end, alias, scalar, sequence_start, sequence_end, mapping_start, mapping_end}
-use Rattle.yaml_emit_graph.specs.emit_layout.Grammar.{or_else, event_problem, last_problem, ends_phase, node_problem, place_problem, problem_by}
-use Rattle.yaml_emit_graph.specs.emit_layout.Progress.{Due, item_due, key_due, value_due, Progress, at_place, first_progress, inside, behind_node, outer_due, progress_after, level_due, problem_in, first_refusal}
 use Rattle.yaml_emit_laws_dumps.specs.LookBack.{Collection, in_sequence, in_mapping, met, innermost, begins_document, ends_stream, unless_so, wrong_in, wrong_place, wrong_behind, first_wrong, RefusalLooksBack}
 
 -- what the collection that so many are inside of is due, where an odd number of nodes more has come in it

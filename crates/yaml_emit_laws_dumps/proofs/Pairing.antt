@@ -1,14 +1,7 @@
 -- A mapping's keys and values, two by two: what is said of the items that they are together holds of the pairs.
 use Rattle.std.proofs.Common.{◌≡◌, ◌+◌, ℕ, ℤ, List, [], ◌∷◌, ◌++◌, length, Result, Ok, Err, refl, ap, ◌∙◌}
-use Rattle.yaml_emit_graph.specs.emit_layout.parse_model.declared.yaml_node_pair_t.{yaml_node_pair_t}
-use Rattle.yaml_emit_graph.specs.emit_layout.scan_model.Faults.{Fault}
-use Rattle.yaml_emit_graph.specs.emit_layout.parse_model.Nodes.{Node}
-use Rattle.yaml_parse_loader.specs.Numbering.{Anchored, Numbered, ◌>>=◌, number, number_items, number_pairs}
-use Rattle.yaml_parse_loader.specs.Order.{pair_numbers}
+use Rattle.yaml_emit_laws_dumps.proofs.Words.{yaml_node_pair_t, Fault, Node, Anchored, Numbered, ◌>>=◌, number, number_items, number_pairs, pair_numbers, Met, items_by, pairs_by, as_content, as_contents, as_pairs, AreAsMany}
 use Rattle.yaml_emit_graph.specs.emit_layout.Content as emit
-use Rattle.yaml_emit_graph.specs.Graph.{Met}
-use Rattle.yaml_emit_graph.specs.Onward.{items_by, pairs_by}
-use Rattle.yaml_emit_laws_dumps.specs.Dumps.{as_content, as_contents, as_pairs, AreAsMany}
 
 abbrev pub paired : emit.Nodes → emit.Pairs
 paired emit.no_nodes = emit.no_pairs

@@ -1,19 +1,10 @@
 -- A style that is taken is allowed.
 use Rattle.std.proofs.Common.{◌≡◌, Bool, true, false, not, ◌&&◌, ◌||◌, ◌==◌, length, sym, subst, ℕ, ◌<◌, ◌≤◌, Option, Some, None, arith, if◌then◌else◌, chars}
-use Rattle.std.proofs.lemmas.Bool.{and_parts, not-true, or_parts}
-use Rattle.yaml_emit_laws_text.specs.scan_model.declared.yaml_scalar_style_t.{yaml_scalar_style_t}
+use Rattle.yaml_emit_laws_scalars.proofs.Words.{and_parts, not-true, or_parts, yaml_scalar_style_t, Allowed, Style, allowed, taken, plain_fits, single_or, block_or, plain_or, NodePosition, Scalar, scalar_tag, Context, is_simple_part, style_of, deeper, Settings, bool_cases}
 use Rattle.yaml_emit_laws_text.specs.scan_model.declared.yaml_scalar_style_t.TheVariants as asked
-use Rattle.yaml_emit_laws_text.specs.emit_text.declared.Allowed.{Allowed}
-use Rattle.yaml_emit_laws_text.specs.emit_text.declared.Style.{Style}
 use Rattle.yaml_emit_laws_text.specs.emit_text.declared.Style.TheVariants as style
-use Rattle.yaml_emit_laws_text.specs.emit_text.Style.{allowed, taken, plain_fits, single_or, block_or, plain_or}
-use Rattle.yaml_emit_laws_text.specs.emit_layout.declared.level.NodePosition.{NodePosition}
-use Rattle.yaml_emit_laws_text.specs.emit_layout.Content.{Scalar}
-use Rattle.yaml_emit_laws_text.specs.emit_layout.Grammar.{has, scalar_tag}
-use Rattle.yaml_emit_laws_text.specs.emit_layout.Nodes.{Context, is_simple_part, style_of, deeper}
+use Rattle.yaml_emit_laws_text.specs.emit_layout.Grammar.{has}
 use Rattle.yaml_emit_laws_scalars.specs.StylesLaws.{StylesAreAllowed, level_of, PagesIndent}
-use Rattle.yaml_emit_laws_text.specs.emit_text.declared.Settings.{Settings}
-use Rattle.yaml_emit_laws_text.proofs.Single.{bool_cases}
 
 -- what a style has to be allowed
 abbrev Fits : Allowed → Bool → Bool → Style → Type 0

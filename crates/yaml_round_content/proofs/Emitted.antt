@@ -1,14 +1,11 @@
 -- An event that is expected is one that the emitter's grammar takes, normalized or not.
 use Rattle.std.proofs.Common.{◌≡◌, inl, inr, ℕ, Bool, true, false, not, ◌||◌, List, [], ◌∷◌, Option, Some, None, refl, sym, ap, subst, ◌∙◌}
 use Rattle.yaml_emit_laws_dumps.specs.parse_model.declared.yaml_scalar_style_t.{yaml_scalar_style_t}
-use Rattle.yaml_round_content.proofs.Words.{EventBody, Problem, Expected, emitter_event, or_else, anchor_problem, tag_problem, kept_if, event_problem, last_problem, Due, item_due, key_due, value_due, Progress, inside, behind_node, outer_due, progress_after, problem_in, IsNormalized, IsNormalizing}
+use Rattle.yaml_round_content.proofs.Words.{EventBody, Problem, Expected, emitter_event, or_else, anchor_problem, tag_problem, kept_if, event_problem, last_problem, Due, item_due, key_due, value_due, Progress, inside, behind_node, outer_due, progress_after, problem_in, IsNormalized, IsNormalizing, begins_node, node_problem, place_problem, problem_by, level_due, or_both}
 use Rattle.yaml_emit_laws_dumps.specs.parse_model.Events as event
 use Rattle.yaml_emit_laws_dumps.specs.emit_layout.declared.Expected.TheVariants as at
 use Rattle.yaml_emit_laws_dumps.specs.emit_layout.Content.{Event}
-use Rattle.yaml_emit_laws_dumps.specs.emit_layout.Grammar.{begins_node, node_problem, place_problem, problem_by}
-use Rattle.yaml_emit_laws_dumps.specs.emit_layout.Progress.{level_due}
 use Rattle.yaml_round_content.proofs.Stacks.{between, Expects, moved_by}
-use Rattle.yaml_emit_laws_dumps.proofs.Passing.{or_both}
 
 -- ---- without the flags of the place between documents
 

@@ -29,8 +29,7 @@ loads (g ∷ gs) f l = load_on (step g.0 l) (loads gs f) gs g.1
 -- fault behind all.
 abbrev pub unasked_on : LoadStep → ℕ → (Loading → ℕ) → ℕ
 unasked_on (goes_on l) left go = go l
-unasked_on (loaded d) left go = left
-unasked_on (refused f) left go = left
+unasked_on _ left go = left
 
 unfoldable pub unasked_at_refusal : List Told → ℕ → Loading → ℕ
 unasked_at_refusal [] behind l = behind

@@ -19,9 +19,8 @@ sort_of _ = None
 
 abbrev node_sort : {w : Wants} → Node w → Option Bool
 node_sort (tree.alias p name) = Some true
-node_sort (tree.only_properties d) = Some false
-node_sort (tree.with_properties d c) = Some false
 node_sort (tree.bare c) = None
+node_sort _ = Some false
 
 properties_sorted : (d : PropertyTokens) (ts : List Token)
     → sort_of (kind_of (spell_properties d ts)) ≡ Some false
@@ -369,12 +368,11 @@ directives_same (tree.handle s a b ∷ ds) (tree.handle t c d ∷ es) p q x y h 
     let v : (tree.handle s a b ≡ tree.handle t c d) × (begin ds p x ≡ begin es q y) = handle_same s t a b c d _ _ h in
     let r : (ds ≡ es) × (p ≡ q) × (x ≡ y) = directives_same ds es p q x y v.1 in
     (both (λ (z : Directive) (zs : List Directive). z ∷ zs) (tree.handle s a b) (tree.handle t c d) ds es v.0 r.0, r.1, r.2)
-directives_same [] (tree.version t c d ∷ es) p q x y h = absurd (apart _ _ h (λ k. cc))
 directives_same [] (tree.handle t c d ∷ es) p q x y h = absurd (apart _ _ h (λ k. cc))
 directives_same (tree.version s a b ∷ ds) [] p q x y h = absurd (apart _ _ h (λ k. cc))
 directives_same (tree.handle s a b ∷ ds) [] p q x y h = absurd (apart _ _ h (λ k. cc))
 directives_same (tree.version s a b ∷ ds) (tree.handle t c d ∷ es) p q x y h = absurd (apart _ _ h (λ k. cc))
-directives_same (tree.handle s a b ∷ ds) (tree.version t c d ∷ es) p q x y h = absurd (apart _ _ h (λ k. cc))
+directives_same _ (tree.version t c d ∷ es) p q x y h = absurd (apart _ _ h (λ k. cc))
 
 no_document_end : (d : Documents) (ts : List Token)
     → kind_of (spell_documents d ts) ≡ kind.YAML_DOCUMENT_END_TOKEN → ⊥

@@ -67,9 +67,8 @@ stop_within (t ∷ ts) s n h = stop_on (length ts) n (feed s t) (λ s'. unasked_
 next_on : (c : Settled) (i : RawEvent) (left n : ℕ) (k : Directives → Reading) (u : Directives → ℕ)
     → left ≤ n → ((ds : Directives) → next_unasked (k ds).events (u ds) ≤ n)
     → next_unasked (read_on c i left k).events (unasked_on c left u) ≤ n
-next_on (refused e) i left n k u l h = l
-next_on (gave body ds) i left n k u l h = l
 next_on (noted ds) i left n k u l h = h ds
+next_on _ i left n k u l h = l
 
 next_read : (gs : List Given) (f : Option Fault) (m n : ℕ) (ds : Directives) → Within n gs → m ≤ n
     → next_unasked (reading gs f ds).events (unasked_at_fault gs m ds) ≤ n

@@ -132,8 +132,7 @@ shape_goes : (anchor tag : Option (List ℕ)) (shape : Shape) (i : RawEvent) (l 
 shape_goes anchor tag item.empty i l = scalar_goes anchor tag [] true true _ i l
 shape_goes anchor None (item.scalar value style) i l = scalar_goes anchor None value true true style i l
 shape_goes anchor (Some tag) (item.scalar value style) i l = tagged_goes (bytes_eq tag (codes "!")) anchor tag value style i l
-shape_goes anchor tag (item.sequence style) i l = (_, λ k. refl, record { anchors = refl; rooted = rooted_push l.document.nodes _ })
-shape_goes anchor tag (item.mapping style) i l = (_, λ k. refl, record { anchors = refl; rooted = rooted_push l.document.nodes _ })
+shape_goes anchor tag _ i l = (_, λ k. refl, record { anchors = refl; rooted = rooted_push l.document.nodes _ })
 
 resolved_passes : (o : Option (List ℕ)) (anchor : Option (List ℕ)) (shape : Shape)
     (from at : yaml_mark_t) (ds : Directives) (i : RawEvent) (l : Loading)

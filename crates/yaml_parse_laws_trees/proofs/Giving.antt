@@ -1,5 +1,5 @@
 -- The machine gives the events of a list, and a list has no others.
-use Rattle.std.proofs.Common.{◌≡◌, ◌⊎◌, inl, inr, ◌+◌, ◌-◌, ◌≤◌, ℕ, suc, Bool, true, false, ◌||◌, List, [], ◌∷◌, ◌++◌, length, Option, Some, None, refl, ap, sym, subst, ◌∙◌, arith, append_assoc, append-nil, le_refl}
+use Rattle.std.proofs.Common.{◌≡◌, ◌⊎◌, inl, inr, ◌+◌, ◌-◌, ℕ, suc, Bool, true, false, ◌||◌, List, [], ◌∷◌, ◌++◌, length, Option, Some, None, refl, ap, sym, subst, ◌∙◌, arith, append_assoc, append-nil, le_refl}
 use Rattle.yaml_parse_laws_trees.proofs.Words.{true≢false, false≢true, or_cases, yaml_mark_t, Token, no_token, zero_mark, Fault, RawEvent, State, Stream, spell, Given, next, items, Fed, stop, go, feed, Outcome, run, initial, Told, reading, no_directives, reading_of, TreeGoesOn, bare, RefusedAt, RunsOut, first_items, but_last, EndsAt, last_leaves_open, BeginsWith, EventsOfTokens, events_run, given_of, BeginsWithTree, IsLongest, LongestFront, events_of, events_of_front, events_at_next, has_fault, gives_no_more, GivesAt, HasFront, ListHasFront, EventsAreOne, RunGivesEvents, EventsAreRun, RunGivesLeast}
 use Rattle.yaml_parse_laws_trees.proofs.CompleteStream.{stream_runs, nothing_runs}
 use Rattle.yaml_parse_laws_trees.proofs.Left.{Over}

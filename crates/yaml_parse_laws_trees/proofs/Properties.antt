@@ -81,12 +81,11 @@ no_anchor_before handle at (t ∷ past) b e = no_anchor t.body e
     no_anchor _ e = refl
 
 plain_props : (s : List State) (past : List Token) → Plain s → PropsTop s past
-plain_props [] past h = tt
 plain_props (state.with_properties w p ∷ s) past h = unlike h.0
   where
     unlike : property ≡ other → PropsOf p.anchor p.tag p.from past
     unlike e = cc
-plain_props (_ ∷ s) past h = tt
+plain_props _ past h = tt
 
 content_props : (w : Wants) (p : Option Properties) (start end : yaml_mark_t) (b : TokenBody)
     (s : List State) (past : List Token) → Plain s

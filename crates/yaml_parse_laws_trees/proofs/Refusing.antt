@@ -136,11 +136,10 @@ plain_turn : (c : Choice) (x : State) (t : Token) (s : List State) (fed : Fed)
     → StopsWith (stuck (open_in s) t.start_mark) fed
     → StopsWith (stuck (open_in (x ∷ s)) t.start_mark) (turn c x t s fed)
 plain_turn (Refuse p o) x t s fed h e k = h ∙ ap (λ (l : Last). told_fault l (open_in (x ∷ s)) t.start_mark) e
-plain_turn Take x t s fed h e k = tt
 plain_turn Leave x t s fed h e k =
     subst (λ (gs : List Sign). StopsWith (stuck gs t.start_mark) (with_item (left_at x t.start_mark) fed)) (sym h)
     (stops_with (stuck (open_in s) t.start_mark) (left_at x t.start_mark) fed k)
-plain_turn Open x t s fed h e k = tt
+plain_turn _ x t s fed h e k = tt
 
 pub plain_stops : (s : List State) (t : Token) → Plain s → Nested s
     → StopsWith (stuck (open_in s) t.start_mark) (feed s t)
@@ -187,11 +186,10 @@ top_turn : (c : Choice) (x : State) (t : Token) (s : List State) (fed : Fed)
     → StopsWith (stuck (open_in s) t.start_mark) fed
     → StopsWith (told_fault (told x) (open_in (x ∷ s)) t.start_mark) (turn c x t s fed)
 top_turn (Refuse p o) x t s fed h w k = h
-top_turn Take x t s fed h w k = tt
 top_turn Leave x t s fed h w k =
     subst (λ (gs : List Sign). StopsWith (told_fault (told x) gs t.start_mark) (with_item (left_at x t.start_mark) fed)) (sym h)
     (stops_with (told_fault (told x) (open_in s) t.start_mark) (left_at x t.start_mark) fed (passed_on (told x) (open_in s) t.start_mark fed (w refl).0 (w refl).1 k))
-top_turn Open x t s fed h w k = tt
+top_turn _ x t s fed h w k = tt
 
 -- A stack that refuses a token tells what its topmost state does.
 pub top_stops : (x : State) (s : List State) (t : Token) → Plain s → Nested (x ∷ s) → Stood x s

@@ -210,10 +210,9 @@ pub mute_stepped : (x : State) (s : List State) (t : Token) (past : List Token) 
     → Agree (document_directives past) ds
     → Agree (directives_before past) no_directives → Stepped past ds t (feed (x ∷ s) t)
 unfolding feed
-mute_stepped x [] t past ds (at_end p q) m pl n a b = at_end_stepped x [] t past ds p q b
 mute_stepped x [] t past ds (deeper i j) m pl n a b = absurd j
-mute_stepped x (y ∷ s) t past ds (at_end p q) m pl n a b = at_end_stepped x (y ∷ s) t past ds p q b
 mute_stepped x (y ∷ s) t past ds (deeper i j) m pl n a b =
     mute_turn (choice_at x (type_of t.body)) x t (y ∷ s) (feed (y ∷ s) t) past ds refl (tells x (type_of t.body) (open_in (y ∷ s)) t.start_mark n.0) i (m i)
     (λ e. inside_kept x t (y ∷ s) e i pl n j) a
     (mute_stepped y s t past ds (within y s j) (λ k. plain_mute y pl.0 k) pl.1 n.1 a b)
+mute_stepped x e t past ds (at_end p q) m pl n a b = at_end_stepped x e t past ds p q b

@@ -170,10 +170,9 @@ node_next (tree.bare c) rest = content_next c rest
 
 properties_part : (d : PropertyTokens) (rest : List Token) (more : List Given)
     → Part [] (properties_turns d) rest (spell_properties d rest) more more
-properties_part (tree.anchor a) rest more = asked _ (nothing rest more)
 properties_part (tree.anchor_tag a t) rest more = asked _ (asked _ (nothing rest more))
-properties_part (tree.tag t) rest more = asked _ (nothing rest more)
 properties_part (tree.tag_anchor t a) rest more = asked _ (asked _ (nothing rest more))
+properties_part _ rest more = asked _ (nothing rest more)
 
 -- an event of its own token
 own_event : (e : RawEvent) (t : Token) (rest : List Token) (more : List Given)

@@ -330,8 +330,7 @@ pub fold_means : (b : LineBreak) (n : ℕ)
     → meant (fold (record { end = end_of b; spaces = n }) []) ≡ 32 ∷ []
 unfolding turn_means
 fold_means Lf n = refl
-fold_means Cr n = refl
-fold_means CrLf n = refl
+fold_means _ n = refl
 
 part_of : (x : emitted.SpelledPart) → emitted.may_stand x ≡ true → PartOf x
 unfolding simple_escape may_turn

@@ -293,9 +293,7 @@ blocked_most s at digit folded v =
 abbrev is_block : Style → Bool
 is_block style.Literal = true
 is_block style.Folded = true
-is_block style.Plain = false
-is_block style.Single = false
-is_block style.Double = false
+is_block _ = false
 
 -- nothing at all has no block
 none_in_blocks : (unicode : Bool) (a : yaml_scalar_style_t) (untagged flow simple empty : Bool)

@@ -209,13 +209,12 @@ before_key_most canonical s false n fresh simple =
 pub before_value_most : (canonical : Bool) (s : Settings) (flow : Bool) (n : ℕ) (simple : Bool)
     → Takes s (most_of_line s n) (before_value (set canonical s) flow n simple)
 unfolding before_value
-before_value_most canonical s true n true = widened s.encoding (unit s.encoding) (most_of_line s n) (char 58) (ascii_most s.encoding 58 refl) (omega arith)
-before_value_most canonical s false n true = widened s.encoding (unit s.encoding) (most_of_line s n) (char 58) (ascii_most s.encoding 58 refl) (omega arith)
 before_value_most canonical s true n false =
     joined s.encoding (ascii s (n + 2)) (ascii s 2) (most_of_line s n) (turned (set canonical s) n) (word (58 ∷ [])) (turned_most canonical s n)
     (ascii_word_most s.encoding (58 ∷ []) (ascii s 2) refl (omega arith)) (omega arith)
 before_value_most canonical s false n false =
     joined s.encoding (ascii s (n + 2)) (ascii s 2) (most_of_line s n) (line s.line_break n) (indicator 58) (line_at_most s n) (indicator_most s.encoding 58 refl) (omega arith)
+before_value_most canonical s _ n true = widened s.encoding (unit s.encoding) (most_of_line s n) (char 58) (ascii_most s.encoding 58 refl) (omega arith)
 
 outer_line_most : (s : Settings) (n : ℕ)
     → Takes s (ascii s (n + 3)) (char 44 ▹ line_at (set true s) (n - s.indent))

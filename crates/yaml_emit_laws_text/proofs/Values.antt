@@ -116,11 +116,7 @@ firm_front ps qs f = subst (λ (t : List Piece). IsFirm (t ++ qs)) (sym f.is) (�
 follow_blank : (p q : QuotedPart) → is_raw_blank p ≡ true → may_follow p q ≡ true
     → is_fold q ≡ false
 follow_blank p (fold t ts) b f = let g = rw b at f in absurd (cc)
-follow_blank p (raw c) b f = refl
-follow_blank p doubled b f = refl
-follow_blank p (named k bytes) b f = refl
-follow_blank p (numbered k digits c) b f = refl
-follow_blank p (joint t ts) b f = refl
+follow_blank p _ b f = refl
 
 -- what follows a raw blank
 firm : (quote : ℕ) (p : QuotedPart) (ps : List QuotedPart) → is_raw_blank p ≡ true

@@ -65,8 +65,7 @@ mark_of x s h =
 break_encodes : (b : LineBreak) → encode_utf8_all (mark_text b own) ≡ mark_bytes b own
 unfolding encode
 break_encodes Lf = refl
-break_encodes Cr = refl
-break_encodes CrLf = refl
+break_encodes _ = refl
 
 pub text_encodes : (b : LineBreak) (m : LineMark) → encode_utf8_all (mark_text b m) ≡ mark_bytes b m
 unfolding encode
@@ -178,8 +177,7 @@ no_text_there b w h = grind (arith, nat_tests)
 break_begins : (b : LineBreak) (text : List ℕ) (p : ℕ) → Has text p (break_text b)
     → 0 < break_width text p → Begins text p
 break_begins Lf text p (e, h) w = let (a, c, d, f, g, i, j) = begins_at (byte text p) e in record { no_digit = a; no_chomp = c; no_blank = d; no_comment = f; no_zero = g; clip = i; none = j; no_text = no_text_there (byte text p) (break_width text p) w }
-break_begins Cr text p (e, h) w = let (a, c, d, f, g, i, j) = begins_too (byte text p) e in record { no_digit = a; no_chomp = c; no_blank = d; no_comment = f; no_zero = g; clip = i; none = j; no_text = no_text_there (byte text p) (break_width text p) w }
-break_begins CrLf text p (e, h) w = let (a, c, d, f, g, i, j) = begins_too (byte text p) e in record { no_digit = a; no_chomp = c; no_blank = d; no_comment = f; no_zero = g; clip = i; none = j; no_text = no_text_there (byte text p) (break_width text p) w }
+break_begins _ text p (e, h) w = let (a, c, d, f, g, i, j) = begins_too (byte text p) e in record { no_digit = a; no_chomp = c; no_blank = d; no_comment = f; no_zero = g; clip = i; none = j; no_text = no_text_there (byte text p) (break_width text p) w }
 
 -- the byte there is a digit's
 record IsDigit (b d : ℕ) : Type 0 where

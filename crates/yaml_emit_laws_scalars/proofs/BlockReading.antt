@@ -255,9 +255,8 @@ pub left_of : (text : List ℕ) (q n k : ℕ) → StandsLeft text q n k → Left
 left_of text q n k h = record { fewer = h.fewer; spaces = has text q (replicate k 32) h.spaces; no_space = h.behind.no_space; no_tab = h.behind.no_tab; no_break = h.behind.no_break }
 
 space_feed : (b : LineBreak) (x : ℕ) → x ≢ 10 → NoFeed b x
-space_feed Lf x h = tt
 space_feed Cr x h = h
-space_feed CrLf x h = tt
+space_feed _ x h = tt
 
 left_feed : (b : LineBreak) (text : List ℕ) (q n k : ℕ) → Left text q n k → NoFeed b (byte text q)
 left_feed b text q n zero l = space_feed b (byte text q) (subst (λ r. byte text r ≢ 10) (add-zero q) (stop_feed text (q + 0) l.no_break))

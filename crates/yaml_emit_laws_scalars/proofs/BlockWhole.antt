@@ -141,12 +141,11 @@ taken_block : (a : Allowed) (s : yaml_scalar_style_t) (untagged flow simple empt
     → IsBlock (taken a s untagged flow simple empty)
     → (a.block ≡ true) × (flow ≡ false) × (simple ≡ false)
 unfolding taken
-taken_block a asked.YAML_ANY_SCALAR_STYLE untagged flow simple empty h = absurd (plain_not a untagged flow simple empty h)
-taken_block a asked.YAML_PLAIN_SCALAR_STYLE untagged flow simple empty h = absurd (plain_not a untagged flow simple empty h)
 taken_block a asked.YAML_SINGLE_QUOTED_SCALAR_STYLE untagged flow simple empty h = absurd (single_not a h)
 taken_block a asked.YAML_DOUBLE_QUOTED_SCALAR_STYLE untagged flow simple empty h = absurd h
 taken_block a asked.YAML_LITERAL_SCALAR_STYLE untagged flow simple empty h = block_by a flow simple style.Literal h
 taken_block a asked.YAML_FOLDED_SCALAR_STYLE untagged flow simple empty h = block_by a flow simple style.Folded h
+taken_block a _ untagged flow simple empty h = absurd (plain_not a untagged flow simple empty h)
 
 pretty_block : (canonical : Bool) (s : Style) → IsBlock (if canonical then style.Double else s)
     → (canonical ≡ false) × IsBlock s
@@ -257,13 +256,11 @@ chomp_is : (k : Chomp) (c : Cursor) (rest : Rest)
     → chomp_mark k c rest ≡ in_front (chomp_text k) (rest (after_chomp k c))
 unfolding in_front
 chomp_is chomping.Strip c rest = refl
-chomp_is chomping.Clip c rest = refl
-chomp_is chomping.Keep c rest = refl
+chomp_is _ c rest = refl
 
 chomp_kept : (k : Chomp) (c : Cursor) → (after_chomp k c).kept ≡ is_keep k
 chomp_kept chomping.Strip c = refl
-chomp_kept chomping.Clip c = refl
-chomp_kept chomping.Keep c = refl
+chomp_kept _ c = refl
 
 abbrev header_text : Bool → ℕ → Chomp → LineBreak → List ℕ
 header_text shown d k b = digit_text shown d ++ (chomp_text k ++ break_text b)
@@ -336,8 +333,6 @@ column_first : (b : LineBreak) (level n x : ℕ) (ls : List BodyLine) (text : Li
     → Has text p (body_bytes b n ls)
     → column_of level text 0 p ≡ Ok n
 unfolding body_bytes
-column_first b level n x [] text p l some c f e i h = absurd f
-column_first b level n x (bare m ∷ ls) text p l some c f e i h = absurd f
 column_first b level n x (full y ys m ∷ ls) text p l some c f e (j, i) h =
     let words = encode_utf8_all (y ∷ ys) in
     let spaces = replicate n 32 in
@@ -349,6 +344,7 @@ column_first b level n x (full y ys m ∷ ls) text p l some c f e (j, i) h =
     let long = length_more y ys in
     let (space, tab) = no_blank (byte text (p + n)) (blank_here text (p + n) words long w ∙ text_blank y ys ∙ ap (λ z. is_blank z) (sym f) ∙ e) in
     column_by_text level n text p l some c sp space tab (text_here text (p + n) words long (chars_text text (p + n) (y ∷ ys) j w))
+column_first b level n x _ text p l some c f e i h = absurd f
 
 column_is : (b : LineBreak) (shown : Bool) (level n digit : ℕ) (cs : List ℕ) (ls : List BodyLine)
     (text : List ℕ) (p : ℕ) → Allows cs → is_shown cs ≡ shown → 0 < digit → (level - 1) + digit ≡ n

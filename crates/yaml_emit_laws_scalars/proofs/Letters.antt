@@ -1,6 +1,6 @@
 -- What is written for a character inside a plain or single quoted scalar is a part of a spelling.
 use Rattle.std.proofs.Common.{◌≡◌, ℕ, ◌+◌, ◌<◌, Bool, true, false, ◌&&◌, ◌||◌, ◌==◌, List, [], ◌∷◌, ◌++◌, replicate, refl, sym, ap, ◌∙◌, inl, inr, ◌⊎◌, arith, append-nil, encode_utf8, encode_utf8_all}
-use Rattle.yaml_emit_laws_scalars.proofs.Words.{true≢false, lt-ltb, eqb-true, and_parts, or_parts, ne_eqb, eqb-false, encode_ascii, is_blank, Cursor, LineBreak, Lf, Cr, CrLf, letter, is_break, Layout, Rest, when, char, line, is_past, Page, is_printable, first, cuts_at, text_char, in_front, break_text, may_turn, QuotedPart, raw, doubled, fold, may_be_raw, MayStand, spelled, meant, is_raw_blank, is_turn, may_follow, cond_true, cond_false, low_encodes, end_of, fold_bytes, fold_means, space_encodes, moved_by, blank_follows, fold_follows, other_follows, line_is, bool_cases, after_blanks, line_start, cut_needs, not_start}
+use Rattle.yaml_emit_laws_scalars.proofs.Words.{true≢false, lt-ltb, eqb-true, and_parts, or_parts, ne_eqb, eqb-false, encode_ascii, is_blank, Cursor, LineBreak, Lf, letter, is_break, Layout, Rest, when, char, line, is_past, Page, is_printable, first, cuts_at, text_char, in_front, break_text, may_turn, QuotedPart, raw, doubled, fold, may_be_raw, MayStand, spelled, meant, is_raw_blank, is_turn, may_follow, cond_true, cond_false, low_encodes, end_of, fold_bytes, fold_means, space_encodes, moved_by, blank_follows, fold_follows, other_follows, line_is, bool_cases, after_blanks, line_start, cut_needs, not_start}
 use lib.Utf8.{scalar}
 use Rattle.yaml_emit_laws_scalars.proofs.Lines.{blanks_column, blanks_kept}
 use Rattle.yaml_emit_laws_scalars.proofs.PlainParts.{IsOne, is_plain_end}
@@ -101,8 +101,7 @@ pub record Behind (before : ℕ) (c : Cursor) (last : QuotedPart) (value : List 
 
 own_plain : (b : LineBreak) → is_plain_end (end_of b) ≡ true
 own_plain Lf = refl
-own_plain Cr = refl
-own_plain CrLf = refl
+own_plain _ = refl
 
 lined_column : (n : ℕ) (c : Cursor) → 0 < n → (after_blanks n (line_start c)).column ≡ 0 → ⊥
 lined_column n c some z = let e = blanks_column n (line_start c) in omega (arith, some, z, e)

@@ -67,13 +67,11 @@ pub record BreakOf (b : LineBreak) (x : ℕ) : Type 0 where
 
 pub own_fits : (b : LineBreak) → (is_return (end_of b) && is_feed_end (end_of b)) ≡ false
 own_fits Lf = refl
-own_fits Cr = refl
-own_fits CrLf = refl
+own_fits _ = refl
 
 pub own_means : (b : LineBreak) → end_means (end_of b) ≡ 10 ∷ []
 own_means Lf = refl
-own_means Cr = refl
-own_means CrLf = refl
+own_means _ = refl
 
 pub own_bytes : (b : LineBreak) → encode_utf8_all (break_text b) ≡ end_bytes (end_of b)
 own_bytes Lf = low_encodes (10 ∷ []) (omega arith, tt)

@@ -138,11 +138,9 @@ kept_writable false tag h = tt
 -- ---- styles of keys
 
 abbrev is_key_style : Style → Bool
-is_key_style style.Plain = true
-is_key_style style.Single = true
-is_key_style style.Double = true
 is_key_style style.Literal = false
 is_key_style style.Folded = false
+is_key_style _ = true
 
 abbrev or_double : Bool → Style → Style
 or_double b s = if b then s else style.Double
@@ -164,12 +162,11 @@ block_key false flow s = refl
 taken_key : (a : Allowed) (s : yaml_scalar_style_t) (untagged flow empty : Bool)
     → is_key_style (taken a s untagged flow true empty) ≡ true
 unfolding taken
-taken_key a asked.YAML_ANY_SCALAR_STYLE untagged flow empty = plain_key a untagged flow empty
-taken_key a asked.YAML_PLAIN_SCALAR_STYLE untagged flow empty = plain_key a untagged flow empty
 taken_key a asked.YAML_SINGLE_QUOTED_SCALAR_STYLE untagged flow empty = single_key a
 taken_key a asked.YAML_DOUBLE_QUOTED_SCALAR_STYLE untagged flow empty = refl
 taken_key a asked.YAML_LITERAL_SCALAR_STYLE untagged flow empty = block_key a.block flow style.Literal
 taken_key a asked.YAML_FOLDED_SCALAR_STYLE untagged flow empty = block_key a.block flow style.Folded
+taken_key a _ untagged flow empty = plain_key a untagged flow empty
 
 style_key : (p : Context) (flow : Bool) (n : ℕ) (x : Scalar)
     → is_key_style (style_of p (position flow n part.SimpleKey) x) ≡ true
@@ -211,8 +208,7 @@ near_text page digit flow style.Double value c k g u l =
     let cs = chars value in
     let same : length (encode_utf8_all cs) ≡ length value = ap (λ (bs : List ℕ). length bs) (encodes-chars value u) in
     near_most _ c (4 * length (encode_utf8_all cs) + 3) (4 * length value + 3) (omega (arith, same)) (near_between (quoted_body page 32 cs) 34 c (4 * length (encode_utf8_all cs)) (omega arith) (omega arith) (λ d. near_body page 32 cs d g (scalars-chars value u)))
-near_text page digit flow style.Literal value c k g u l = absurd (true≢false (sym k))
-near_text page digit flow style.Folded value c k g u l = absurd (true≢false (sym k))
+near_text page digit flow _ value c k g u l = absurd (true≢false (sym k))
 
 near_mark : (p : Context) (x : Scalar) (s : Style) (c : Cursor) → StaysNear (mark_text p x s) c 2
 near_mark p x s c = near_when (not (has (scalar_tag p.settings.canonical x)) && (not x.quoted && not (is_plain s))) (word (33 ∷ [])) c 2 (λ e. near_word (33 ∷ []) c (calm_from 33 (omega arith) (omega arith), tt))

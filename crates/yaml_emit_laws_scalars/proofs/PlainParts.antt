@@ -284,11 +284,8 @@ some_part n x (raw c) ps e =
       | inl b ↦ subst (λ (t : List Piece). is_nothing (t ++ ps) ≡ false) (sym (raw_blank c b)) refl
       | inr b ↦ let s = encoded c in subst (λ (t : List Piece). is_nothing (t ++ ps) ≡ false) (sym (raw_kept c b)) (subst (λ (t : List ℕ). is_nothing (keeps t ++ ps) ≡ false) (sym s.is) refl)
     ]
-some_part n x doubled ps e = absurd e
-some_part n x (named b bytes) ps e = absurd e
-some_part n x (numbered b digits c) ps e = absurd e
 some_part n x (fold t ts) ps e = refl
-some_part n x (joint t ts) ps e = absurd e
+some_part n x _ ps e = absurd e
 
 some_parts : (n : ℕ) (ps : List QuotedPart) (x : ℕ) (xs : List ℕ) → Spells n ps (x ∷ xs)
     → is_nothing (all_read_as ps) ≡ false
@@ -408,9 +405,6 @@ parts_read flow level m text p before (raw c ∷ ps) (x ∷ xs) deep (e, s) (g, 
           (subst (λ k. ReadsOn flow level text p k (keeps (encode_utf8 x) ++ all_read_as ps)) (append_long p (encode_utf8 x) (spelling ps))
           (λ place broke r. one.reads (all_read_as ps) (q + length (spelling ps)) place broke (more place broke r))))
     ]
-parts_read flow level m text p before (doubled ∷ ps) (x ∷ xs) deep (e, s) g l st h = absurd e
-parts_read flow level m text p before (named i bytes ∷ ps) (x ∷ xs) deep (e, s) g l st h = absurd e
-parts_read flow level m text p before (numbered i digits c ∷ ps) (x ∷ xs) deep (e, s) g l st h = absurd e
 parts_read flow level m text p before (fold t [] ∷ ps) (x ∷ xs) deep (e, s) (g, gs) l st h =
     let x32 = e.0 in
     let n = suc m in
@@ -431,7 +425,7 @@ parts_read flow level m text p before (fold t (u ∷ us) ∷ ps) (x ∷ xs) deep
   where
     no_more : (u : LineTurn) (us : List LineTurn) → u ∷ us ≡ [] → ⊥
     no_more u us e = cc
-parts_read flow level m text p before (joint t ts ∷ ps) (x ∷ xs) deep (e, s) g l st h = absurd e
+parts_read flow level m text p before _ (x ∷ xs) deep (e, s) g l st h = absurd e
 
 -- ---- the gap behind
 

@@ -1,6 +1,6 @@
 -- Where a text has a plain scalar's parts, a plain scalar begins.
 use Rattle.std.proofs.Common.{◌≡◌, ◌≢◌, ℕ, suc, ◌+◌, ◌%◌, ◌<◌, ◌≤◌, Bool, true, false, not, ◌&&◌, ◌||◌, ◌==◌, nat_lt, List, [], ◌∷◌, ◌++◌, length, replicate, Some, None, refl, sym, ap, subst, ◌∙◌, inl, inr, ◌⊎◌, nat_le, arith, append_assoc, encode_utf8, ◌-◌, Result, Ok, encode_utf8_all}
-use Rattle.yaml_emit_laws_scalars.proofs.Words.{cases_lt, true≢false, and_parts, eqb-true, or_parts, ne_eqb, eq-eqb, or_right, not-true, eqb-false, nat_tests, or-true, and-false, byte, break_width, ends_break, is_blank, is_blank_or_end, is_bom, are_gap, begins_lexeme, HasAt, has_break, is_thrice, is_document_start, is_document_end, is_bracket, is_indicator_byte, starts_plain, after_white, PlainText, indicator_of, kind_at, Has, has_front, has_rest, has, first, is_printable, behind, is_indicator, is_white, ends_word, somewhere, is_special, is_break_space, is_not_plain, is_not_flow, last_or, ends_in_space, starts_badly, allowed, LineEnd, feed, return, return_feed, next_line, line_separator, paragraph_separator, end_bytes, LineTurn, turn_bytes, QuotedPart, raw, doubled, named, numbered, fold, joint, spelling, meaning, IsSpelling, encode_1, encode_2, encode_3, encode_4, calm_end, calm_from, column_start, bool_cases, encodes-chars, scalars-chars, all_scalars, chars, Wrong, ends_plain, Cursor, Page, is_break, ◌▹◌, after_text, flow_body, is_one_line}
+use Rattle.yaml_emit_laws_scalars.proofs.Words.{cases_lt, true≢false, and_parts, eqb-true, or_parts, ne_eqb, eq-eqb, or_right, not-true, eqb-false, nat_tests, or-true, and-false, byte, break_width, ends_break, is_blank, is_blank_or_end, is_bom, are_gap, begins_lexeme, HasAt, has_break, is_thrice, is_document_start, is_document_end, is_bracket, is_indicator_byte, starts_plain, after_white, PlainText, indicator_of, kind_at, Has, has_front, has_rest, has, first, is_printable, behind, is_indicator, is_white, ends_word, somewhere, is_special, is_break_space, is_not_plain, is_not_flow, last_or, ends_in_space, starts_badly, allowed, LineEnd, feed, return, return_feed, next_line, line_separator, paragraph_separator, end_bytes, LineTurn, turn_bytes, QuotedPart, raw, doubled, fold, spelling, meaning, IsSpelling, encode_1, encode_2, encode_3, encode_4, calm_end, calm_from, column_start, bool_cases, encodes-chars, scalars-chars, all_scalars, chars, Wrong, ends_plain, Cursor, Page, is_break, ◌▹◌, after_text, flow_body, is_one_line}
 use Rattle.yaml_emit_laws_text.specs.scan_history.declared.kind.Kind.TheVariants as kinds
 use Rattle.yaml_emit_laws_scalars.proofs.Standing.{InLine, stand_behind, Stays, not_ended, char_at, Stops, Plainly, stops}
 use Rattle.yaml_emit_laws_scalars.proofs.PlainParts.{is_plain_end, Spells, AreGood, firm, when_is, colon_next, Good, said, gap_read, scalar_read}
@@ -111,14 +111,11 @@ next_is flow level n text r b before (raw c ∷ ps) (x ∷ xs) gap which here (i
     let at = char_at flow level text (r + 1) x g.plainly (subst (λ k. Has text (r + 1) (encode_utf8 k)) i (has_front text (r + 1) (encode_utf8 c) (spelling ps) h)) in
     let f = firm flow level text (r + 1) x (encode_utf8 x) at in
     f.same b (dash_small b which).0 next
-next_is flow level n text r b before (doubled ∷ ps) (x ∷ xs) gap which here (i, s) g h e next = absurd i
-next_is flow level n text r b before (named j bytes ∷ ps) (x ∷ xs) gap which here (i, s) g h e next = absurd i
-next_is flow level n text r b before (numbered j digits c ∷ ps) (x ∷ xs) gap which here (i, s) g h e next = absurd i
 next_is flow level n text r b before (fold t ts ∷ ps) (x ∷ xs) gap which here (i, s) g h e next =
     let low = fold_low text (r + 1) t ts (spelling ps) i.3 h in
     let d = (dash_small b which).1 in
     absurd (omega (arith, low, d, next))
-next_is flow level n text r b before (joint t ts ∷ ps) (x ∷ xs) gap which here (i, s) g h e next = absurd i
+next_is flow level n text r b before _ (x ∷ xs) gap which here (i, s) g h e next = absurd i
 
 -- a part of a character that is no space
 pub record RawFirst (n x : ℕ) (ps : List QuotedPart) (xs : List ℕ) : Type 0 where
@@ -130,11 +127,8 @@ pub raw_first : (n x : ℕ) (ps : List QuotedPart) (xs : List ℕ) → x ≢ 32 
     → RawFirst n x ps xs
 raw_first n x [] xs m s = absurd s
 raw_first n x (raw c ∷ ps) xs m (e, s) = record { rest = ps; is = ap (λ k. raw k ∷ ps) e; spells = s }
-raw_first n x (doubled ∷ ps) xs m (e, s) = absurd e
-raw_first n x (named j bytes ∷ ps) xs m (e, s) = absurd e
-raw_first n x (numbered j digits c ∷ ps) xs m (e, s) = absurd e
 raw_first n x (fold t ts ∷ ps) xs m (e, s) = absurd (m e.0)
-raw_first n x (joint t ts ∷ ps) xs m (e, s) = absurd e
+raw_first n x _ xs m (e, s) = absurd e
 
 raw_spelling : (x : ℕ) (ps : List QuotedPart) → spelling (raw x ∷ ps) ≡ encode_utf8 x ++ spelling ps
 unfolding spelling

@@ -63,8 +63,6 @@ At text p (Some n) = (byte text p ≡ 10 → ⊥) → (column_at text p ≡ n) �
 mark_here : (text : List ℕ) (p a : ℕ) (bs : List ℕ) → Left text p (a ∷ bs) → column_at text p ≡ 0
     → begins_mark a bs ≡ true → is_document_indicator text p ≡ true
 unfolding is_document_indicator
-mark_here text p a [] l c h = absurd (true≢false (sym h))
-mark_here text p a (b ∷ []) l c h = absurd (true≢false (sym h))
 mark_here text p a (b ∷ d ∷ bs) l c h =
     let l1 = left_more text p a (b ∷ d ∷ bs) l in
     let l2 = left_more text (p + 1) b (d ∷ bs) l1 in
@@ -74,6 +72,7 @@ mark_here text p a (b ∷ d ∷ bs) l c h =
     let marks = (and_parts _ (begins_white bs) h).0 in
     let white = white_next text (p + 1 + 1 + 1) bs l3 (and_parts (((a == 45 && b == 45) && d == 45) || ((a == 46 && b == 46) && d == 46)) (begins_white bs) h).1 in
     rw (c, two, three, left_first text p a _ l, left_first text (p + 1) b _ l1, left_first text (p + 1 + 1) d bs l2, marks, white) refl
+mark_here text p a _ l c h = absurd (true≢false (sym h))
 
 colon_ends : (flow : Bool) (level : ℕ) (text : List ℕ) (p : ℕ) → byte text p ≡ 58
     → is_blank_or_end text (p + 1) ≡ true → ends_at flow level text p ≡ true
@@ -465,9 +464,8 @@ are_words flow level text p value = (
 
 -- A break and its indentation are low bytes.
 pub break_low : (b : LineBreak) (n : ℕ) → AreLow (break_text b ++ replicate n 32)
-break_low Lf n = (omega arith, spaces_low n)
-break_low Cr n = (omega arith, spaces_low n)
 break_low CrLf n = (omega arith, (omega arith, spaces_low n))
+break_low _ n = (omega arith, spaces_low n)
 
 -- Behind blanks a line that was bare is bare.
 pub blanks_bare : (n : ℕ) (c : Cursor) → c.bare ≡ true → (after_blanks n c).bare ≡ true

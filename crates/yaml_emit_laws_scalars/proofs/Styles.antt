@@ -37,12 +37,11 @@ block_is a flow simple s f =
 taken_fits : (a : Allowed) (s : yaml_scalar_style_t) (untagged flow simple empty : Bool)
     → Fits a flow simple (taken a s untagged flow simple empty)
 unfolding taken
-taken_fits a asked.YAML_ANY_SCALAR_STYLE untagged flow simple empty = plain_is a untagged flow simple empty
-taken_fits a asked.YAML_PLAIN_SCALAR_STYLE untagged flow simple empty = plain_is a untagged flow simple empty
 taken_fits a asked.YAML_SINGLE_QUOTED_SCALAR_STYLE untagged flow simple empty = single_fits a flow simple
 taken_fits a asked.YAML_DOUBLE_QUOTED_SCALAR_STYLE untagged flow simple empty = tt
 taken_fits a asked.YAML_LITERAL_SCALAR_STYLE untagged flow simple empty = block_is a flow simple style.Literal (λ h. h)
 taken_fits a asked.YAML_FOLDED_SCALAR_STYLE untagged flow simple empty = block_is a flow simple style.Folded (λ h. h)
+taken_fits a _ untagged flow simple empty = plain_is a untagged flow simple empty
 
 style_fits : (p : Context) (at : NodePosition) (x : Scalar)
     → Fits (allowed p.settings.unicode (chars x.value)) at.flow (is_simple_part at.part)

@@ -60,8 +60,7 @@ record One (nodes : List Node) (table : List ℕ) (f seen between : ℕ) (n : No
 none_visited : (nodes : List Node) (a b : ℕ) (ids : List ℤ) → ids ≡ []
     → VisitsInPreorder nodes a ids b → a ≡ b
 none_visited nodes a b ids e (done seen) = refl
-none_visited nodes a b ids e (again seen k after more h v) = absurd (cc)
-none_visited nodes a b ids e (first seen between after more n at v w) = absurd (cc)
+none_visited nodes a b ids e _ = absurd (cc)
 
 tag_kept : (tag default : List ℕ) → is_bang tag ≡ false → loaded_tag (Some tag) default ≡ tag
 tag_kept tag default h = rw h refl

@@ -5,7 +5,7 @@ use Rattle.yaml_emit_graph.specs.emit_layout.scan_model.declared.yaml_mark_t.{ya
 use Rattle.yaml_emit_graph.specs.emit_layout.parse_model.Events as event
 use Rattle.yaml_emit_graph.specs.emit_layout.parse_model.Nodes as model
 use Rattle.yaml_parse_laws_trees.specs.parse_grammar.Resolve.{Told}
-use Rattle.yaml_parse_laws_trees.specs.NextLoad.{NextLoad, next_document, next_fault, next_none}
+use Rattle.yaml_parse_laws_trees.specs.NextLoad.{NextLoad, next_document}
 use Rattle.yaml_parse_laws_trees.proofs.ByStep.{Loads, load_on, behind_all, loads}
 use Rattle.yaml_parse_laws_trees.proofs.ByStep as load
 use Rattle.yaml_parse_laws_trees.proofs.NextLoads.{IsOf, load_is}
@@ -124,8 +124,7 @@ all_right (g ∷ gs) f l h r = turn_right (step g.0 l) (loads gs f) gs g.1 (step
 
 next_right : (n : NextLoad) (r : Loads) (u : ℕ) → IsOf n r u → RightLoads r → RightLoad n
 next_right (next_document d left count) r u e h = subst RightLoads e h
-next_right (next_fault f count) r u e h = tt
-next_right next_none r u e h = tt
+next_right _ r u e h = tt
 
 pub loads_right : LoadsAreRight
 loads_right gs f unasked n h k = next_right n _ _ (load_is gs f unasked n k) (all_right gs f nothing_loaded h empty_right)

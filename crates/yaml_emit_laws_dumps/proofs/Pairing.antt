@@ -64,10 +64,9 @@ AreEven (emit.node k (emit.node v vs)) = AreEven vs
 are_even : (vs : emit.Nodes) (ps : List yaml_node_pair_t) → AreAsMany vs (pair_numbers ps)
     → AreEven vs
 are_even emit.no_nodes [] h = tt
-are_even emit.no_nodes (p ∷ ps) h = absurd h
 are_even (emit.node k vs) [] h = absurd h
-are_even (emit.node k emit.no_nodes) (p ∷ ps) h = absurd h
 are_even (emit.node k (emit.node v vs)) (p ∷ ps) h = are_even vs ps h
+are_even _ (p ∷ ps) h = absurd h
 
 numbered_by_two : (vs : emit.Nodes) (count : ℕ) (before : Anchored) → AreEven vs
     → number_pairs (as_pairs (paired vs)) count before

@@ -94,19 +94,15 @@ close_sequence : (due : List Due) (es : List Event)
     → From (progress_after (record { place = at.Node; due = due }) sequence_end) es
     → GoesOn at.Node due (sequence_end ∷ es)
 unfolding progress_after items_events
-close_sequence [] es h k = absurd (cc)
 close_sequence (item_due ∷ due) es h k = record { nodes = no_nodes; rest = es; same = refl; goes = from_inside due es k }
-close_sequence (key_due ∷ due) es h k = absurd (cc)
-close_sequence (value_due ∷ due) es h k = absurd (cc)
+close_sequence _ es h k = absurd (cc)
 
 close_mapping : (due : List Due) (es : List Event) → node_problem (level_due due) mapping_end ≡ None
     → From (progress_after (record { place = at.Node; due = due }) mapping_end) es
     → GoesOn at.Node due (mapping_end ∷ es)
 unfolding progress_after pairs_events
-close_mapping [] es h k = absurd (cc)
-close_mapping (item_due ∷ due) es h k = absurd (cc)
 close_mapping (key_due ∷ due) es h k = record { pairs = no_pairs; rest = es; same = refl; goes = from_inside due es k }
-close_mapping (value_due ∷ due) es h k = absurd (cc)
+close_mapping _ es h k = absurd (cc)
 
 at_node : (due : List Due) (e : Event) (es : List Event) → node_problem (level_due due) e ≡ None
     → From (progress_after (record { place = at.Node; due = due }) e) es
@@ -165,8 +161,7 @@ closing (at.Documents first unended) due = stream_end ∷ []
 closing at.Node [] = scalar empty_text ∷ closing_document
 closing at.Node (d ∷ due) = closing_inside (d ∷ due)
 closing at.DocumentEnd due = closing_document
-closing at.End due = []
-closing (at.Refused p) due = []
+closing _ due = []
 
 ends : Ending closing_document
 unfolding documents_events

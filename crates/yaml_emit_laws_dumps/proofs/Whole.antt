@@ -62,11 +62,10 @@ root_back : (d : Document) (items : emit.Nodes) (y : Numbered (List ℤ))
     → number_items (as_contents items) 0 [] ≡ Ok y
     → document_of (as_document (graph_content d)) ≡ Ok (with_nodes d y.nodes)
 unfolding number_items
-root_back d emit.no_nodes y many same gives = absurd many
 root_back d (emit.node v emit.no_nodes) y many same gives =
     ap (λ (w : emit.Node). number (as_content w) 0 [] >>= λ r. Ok (with_nodes d r.nodes)) (root_is d.nodes v same)
     ∙ one_item d (number (as_content v) 0 []) y gives
-root_back d (emit.node v (emit.node w vs)) y many same gives = absurd many
+root_back d _ y many same gives = absurd many
 
 take_all : (ns : List Node) → take (length ns) ns ≡ ns
 take_all [] = refl

@@ -65,12 +65,11 @@ pick false q r true v w h = inr refl
 pick false q r false v w h = absurd (false≢true h)
 
 pub mark_first : (a : ℕ) (bs : List ℕ) → begins_mark a bs ≡ true → (a ≡ 45) ⊎ (a ≡ 46)
-mark_first a [] h = absurd (false≢true h)
-mark_first a (b ∷ []) h = absurd (false≢true h)
 mark_first a (b ∷ c ∷ bs) h = elim (pick (a == 45) (b == 45) (c == 45) (a == 46) (b == 46) (c == 46) (and_parts (((a == 45 && b == 45) && c == 45) || ((a == 46 && b == 46) && c == 46)) (begins_white bs) h).0) [
   | inl e ↦ inl (eqb-true a 45 e)
   | inr e ↦ inr (eqb-true a 46 e)
 ]
+mark_first a _ h = absurd (false≢true h)
 
 pub outer_calm : (bs : List ℕ) → is_outer bs ≡ true → first bs ≡ 10 → ⊥
 outer_calm [] h e = omega (arith, e)
@@ -130,19 +129,16 @@ break_stops : (level : ℕ) (b : LineBreak) (bs : List ℕ)
     → stops_plain_at false level None (break_text b ++ bs) ≡ stops_plain_at false level (Some 0) bs
 unfolding stops_plain_at
 break_stops level Lf bs = refl
-break_stops level Cr bs = refl
-break_stops level CrLf bs = refl
+break_stops level _ bs = refl
 
 break_calm : (b : LineBreak) (bs : List ℕ) → no_comment (break_text b ++ bs) ≡ no_comment bs
 unfolding no_comment
 break_calm Lf bs = refl
-break_calm Cr bs = refl
-break_calm CrLf bs = refl
+break_calm _ bs = refl
 
 pub break_white : (b : LineBreak) (bs : List ℕ) → begins_white (break_text b ++ bs) ≡ true
 break_white Lf bs = refl
-break_white Cr bs = refl
-break_white CrLf bs = refl
+break_white _ bs = refl
 
 pub line_white : (b : LineBreak) (c : Cursor) (rest : Rest) → c.bare ≡ false
     → begins_white (bytes (line b 0 c rest)) ≡ true

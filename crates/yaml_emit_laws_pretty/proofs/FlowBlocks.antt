@@ -302,8 +302,6 @@ node_brackets : WordLaws → KeysAreWalkedIn → PropertiesAreWalked → (s : Se
     → (around : Option ℕ) (q : Part) (bare : Bool)
     → NodeWalks (prettily s d.directives) around q bare y
 unfolding node_kept
-node_brackets laws keys law s d is (alias_node name) good flow around q bare = absurd (false≢true flow)
-node_brackets laws keys law s d is (scalar_node v) good flow around q bare = absurd (false≢true flow)
 node_brackets laws keys law s d is (sequence_node o items) (anchor, tag, all) flow around q bare =
     let p = prettily s d.directives in
     let m = deeper (pretty s) around in
@@ -320,6 +318,7 @@ node_brackets laws keys law s d is (mapping_node o pairs) (anchor, tag, all) flo
     bracketed law s d is around q bare (mapping_node o pairs) o.anchor (start_tag false o) anchor (kept_good (not o.implicit) o.tag tag) true (checked m ▹ pairs_layout p true m true pairs) (λ bs. pairs_bodies p true true pairs (tokens.flow_mapping_end ∷ bs))
     (λ ls rest level. body_checked m (pairs_layout p true m true pairs) (λ bs. pairs_bodies p true true pairs (tokens.flow_mapping_end ∷ bs)) ls rest (first_pairs_in laws keys s d is pairs all m ls (omega (arith, level, up)) rest))
     (mapping_laid s d.directives around q o pairs flow) (mapping_told p q bare o pairs flow) (λ kept. (sym (ap (λ (b : Bool). pairs_kept (prettily s d.directives) b pairs kept) flow ∙ pairs_keep laws.styles s d.directives pairs kept)))
+node_brackets laws keys law s d is _ good flow around q bare = absurd (false≢true flow)
 
 pretty_context : (s : Settings) (ds : List TagDirective) → s.canonical ≡ false
     → prettily s ds ≡ context_of s ds

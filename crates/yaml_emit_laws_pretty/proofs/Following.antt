@@ -1,6 +1,6 @@
 -- What follows a node: a line, and something that is neither white nor a comment.
 use Rattle.std.proofs.Common.{◌≡◌, ℕ, ◌+◌, ◌≤◌, ◌==◌, ◌&&◌, ◌||◌, not, nat_lt, true, false, List, [], ◌∷◌, ◌++◌, zero, suc, refl, ap, subst, ◌∙◌, arith, replicate, append_assoc, None}
-use Rattle.yaml_emit_laws_pretty.proofs.Words.{nat_tests, Cursor, LineBreak, Lf, Cr, CrLf, Rest, line, break_text, bytes, first, front_encodes, stops_plain_at, begins_white, begins_solid, behind_lines, what_stops, break_low, blanks_bare, blanks_white, break_of, begins_blank, Follows, NoFeed, no_comment, ShowsNode, Ending, ShownEnds, blanks_column, line_is, after_blanks, line_start}
+use Rattle.yaml_emit_laws_pretty.proofs.Words.{nat_tests, Cursor, LineBreak, Lf, Rest, line, break_text, bytes, first, front_encodes, stops_plain_at, begins_white, begins_solid, behind_lines, what_stops, break_low, blanks_bare, blanks_white, break_of, begins_blank, Follows, NoFeed, no_comment, ShowsNode, Ending, ShownEnds, blanks_column, line_is, after_blanks, line_start}
 use Rattle.yaml_emit_laws_text.proofs.Escapes.{low_encodes}
 use Rattle.yaml_emit_laws_pretty.proofs.DocStarts.{break_white}
 
@@ -13,8 +13,7 @@ pub line_calm : (b : LineBreak) (n : ℕ) (bs : List ℕ)
     → no_comment (break_text b ++ (replicate n 32 ++ bs)) ≡ no_comment bs
 unfolding no_comment
 line_calm Lf n bs = spaces_calm n bs
-line_calm Cr n bs = spaces_calm n bs
-line_calm CrLf n bs = spaces_calm n bs
+line_calm _ n bs = spaces_calm n bs
 
 start_column : (n : ℕ) (e : Cursor) → (after_blanks n (line_start e)).column ≡ n
 start_column n e = let z = blanks_column n (line_start e) in omega (arith, z)

@@ -23,10 +23,9 @@ end_bytes (squares b) = if b then 32 ∷ (91 ∷ 93 ∷ []) else 91 ∷ 93 ∷ [
 end_bytes (curlies b) = if b then 32 ∷ (123 ∷ 125 ∷ []) else 123 ∷ 125 ∷ []
 
 abbrev pub end_bodies : KeyEnd → List TokenBody → List TokenBody
-end_bodies at_once bs = bs
-end_bodies spaced bs = bs
 end_bodies (squares b) bs = tokens.flow_sequence_start ∷ tokens.flow_sequence_end ∷ bs
 end_bodies (curlies b) bs = tokens.flow_mapping_start ∷ tokens.flow_mapping_end ∷ bs
+end_bodies _ bs = bs
 
 -- brackets alone stand at a key's start
 abbrev pub StartsEnd : KeyEnd → Bool → Type 0
@@ -90,8 +89,6 @@ ends_first : (k : KeyEnd) (b : Bool) → StartsEnd k b
     → ClosesAt d (column_at text (o + front b)) ls more → Frame text d (o + front b) end cs ls
     → o + length (end_bytes k) ≤ end → Left text o (end_bytes k ++ tail)
     → KeyRuns x text (o + length (end_bytes k)) d (o + front b) cs ls T (λ bs. end_bodies k bs)
-ends_first at_once b none d ls tail x text o line end broken cs more T reads closes f few l = absurd none
-ends_first spaced b none d ls tail x text o line end broken cs more T reads closes f few l = absurd none
 ends_first (squares s) b same d ls tail x text o line end broken cs more T reads closes f few l = by s (sym same) few l
   where
     by : (s : Bool) → b ≡ s → o + length (end_bytes (squares s)) ≤ end
@@ -120,6 +117,7 @@ ends_first (curlies s) b same d ls tail x text o line end broken cs more T reads
         (subst (λ i. ClosesAt d (column_at text i) ls more) same closes) (subst (λ i. Frame text d i end cs ls) same f) (omega (arith, few, two)) g.left in
         subst (λ i. KeyRuns x text (o + length (end_bytes (curlies s))) d i cs ls T (λ bs. tokens.flow_mapping_start ∷ tokens.flow_mapping_end ∷ bs)) (sym same)
         (subst (λ i. KeyRuns x text i d (o + front s) cs ls T (λ bs. tokens.flow_mapping_start ∷ tokens.flow_mapping_end ∷ bs)) two r)
+ends_first _ b none d ls tail x text o line end broken cs more T reads closes f few l = absurd none
 
 -- ---- all words of a key
 

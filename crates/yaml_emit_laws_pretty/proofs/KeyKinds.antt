@@ -177,12 +177,11 @@ block_empty false flow s e = refl
 taken_empty : (a : Allowed) (s : yaml_scalar_style_t) (untagged flow : Bool)
     → is_plain (taken a s untagged flow true true) ≡ false
 unfolding taken
-taken_empty a asked.YAML_ANY_SCALAR_STYLE untagged flow = plain_empty a untagged flow
-taken_empty a asked.YAML_PLAIN_SCALAR_STYLE untagged flow = plain_empty a untagged flow
 taken_empty a asked.YAML_SINGLE_QUOTED_SCALAR_STYLE untagged flow = is_plain_single a
 taken_empty a asked.YAML_DOUBLE_QUOTED_SCALAR_STYLE untagged flow = refl
 taken_empty a asked.YAML_LITERAL_SCALAR_STYLE untagged flow = block_empty a.block flow style.Literal refl
 taken_empty a asked.YAML_FOLDED_SCALAR_STYLE untagged flow = block_empty a.block flow style.Folded refl
+taken_empty a _ untagged flow = plain_empty a untagged flow
 
 empty_style : (p : Context) (flow : Bool) (n : ℕ) (x : Scalar) → p.settings.canonical ≡ false
     → x.value ≡ [] → style_of p (position flow n part.SimpleKey) x ≡ style.Plain → ⊥

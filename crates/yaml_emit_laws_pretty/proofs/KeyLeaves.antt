@@ -1,6 +1,6 @@
 -- A plain key begins with neither white nor a comment: the text that it writes is read as a plain scalar, so a lexeme begins with it.
 use Rattle.std.proofs.Common.{◌≡◌, ℕ, ◌+◌, ◌==◌, ◌&&◌, ◌||◌, not, nat_lt, Bool, true, false, List, [], ◌∷◌, ◌++◌, length, refl, subst, arith, append_assoc, if◌then◌else◌, ◌<◌, ◌≤◌, Some, sym, ap, ◌∙◌, inl, inr, length-append}
-use Rattle.yaml_emit_laws_pretty.proofs.Words.{nat_tests, not-true, and_parts, false≢true, byte, break_of, column_at, line_at, begins_lexeme, Has, Left, bytes, begins_solid, is_gap_byte, no_comment, Lined, length_more, letter_low, yaml_encoding_t, TokenBody, indent, margin_at, opened, start_of, Opens, Cursor, Settings, Style, Rest, ◌▹◌, char, Opening, Scalar, Node, alias_node, scalar_node, sequence_node, mapping_node, no_nodes, node, no_pairs, pair, Context, context_of, position, style_of, is_simple, node_layout, IsWritable, line_at-grows, Rises, start_bodies, WalkReads, ClosesAt, Outside, printed_begins, level_opens, keys_near, node_bodies, node_kept, items_kept, pairs_kept, scalar_kept, style_at, KeysAreWalkedIn, IsPretty, PartedBehind, SimpleKeysAreWalked, block_position, Spoken, spoken_bytes, all_bytes, AllFit}
+use Rattle.yaml_emit_laws_pretty.proofs.Words.{nat_tests, not-true, and_parts, false≢true, byte, break_of, column_at, line_at, begins_lexeme, Has, Left, bytes, begins_solid, is_gap_byte, no_comment, Lined, length_more, letter_low, yaml_encoding_t, TokenBody, indent, margin_at, opened, start_of, Opens, Cursor, Settings, Style, Rest, ◌▹◌, char, Opening, Scalar, Node, scalar_node, sequence_node, mapping_node, node, pair, Context, context_of, position, style_of, is_simple, node_layout, IsWritable, line_at-grows, Rises, start_bodies, WalkReads, ClosesAt, Outside, printed_begins, level_opens, keys_near, node_bodies, node_kept, items_kept, pairs_kept, scalar_kept, style_at, KeysAreWalkedIn, IsPretty, PartedBehind, SimpleKeysAreWalked, block_position, Spoken, spoken_bytes, all_bytes, AllFit}
 use Rattle.yaml_emit_laws_text.specs.emit_layout.scan_model.Tokens as tokens
 use Rattle.yaml_emit_laws_text.specs.scan_history.declared.lexeme.Opens.TheVariants as opening
 use Rattle.yaml_emit_laws_text.specs.emit_layout.emit_text.declared.Style.TheVariants as style
@@ -169,12 +169,10 @@ style_kept law p x kept _ same = refl
 key_kept : Scalars → (p : Context) (k : Node) → is_simple p k ≡ true → (kept : Bool)
     → node_kept p false part.SimpleKey k kept ≡ kept
 unfolding node_kept items_kept pairs_kept
-key_kept law p (alias_node name) simple kept = refl
 key_kept law p (scalar_node x) simple kept = style_kept law p x kept (style_at p false part.SimpleKey x) refl
-key_kept law p (sequence_node q no_nodes) simple kept = refl
 key_kept law p (sequence_node q (node x xs)) simple kept = absurd (some_items p q x xs simple)
-key_kept law p (mapping_node q no_pairs) simple kept = refl
 key_kept law p (mapping_node q (pair k v ps)) simple kept = absurd (some_pairs p q k v ps simple)
+key_kept law p _ simple kept = refl
 
 pub keys_walk : Scalars → SimpleKeysAreWalked
 keys_walk law s d good k w simple = record {

@@ -1,6 +1,6 @@
 -- A block scalar and the line behind it.
 use Rattle.std.proofs.Common.{◌≡◌, ℕ, ◌+◌, ◌-◌, ◌<◌, ◌≤◌, ◌&&◌, ◌||◌, not, nat_lt, Bool, true, false, List, [], ◌∷◌, length, suc, Option, Some, None, Result, Ok, refl, sym, ap, subst, ◌∙◌, inl, inr, arith, if◌then◌else◌, IsUtf8, chars}
-use Rattle.yaml_emit_laws_pretty.proofs.Words.{cases_Bool, cases_lt, false≢true, or_left, yaml_encoding_t, TokenBody, byte, line_at, column_at, Wrong, indent, depth_after, allows_key, is_end, is_value, WordText, kind_at, word_at, Kind, Cursor, Page, Rest, ◌▹◌, gap, blank, line, Layout, when, word, char, chomp, scalar_text, Part, Scalar, Opening, alias_node, scalar_node, sequence_node, mapping_node, Context, style_of, deeper, page_at, context_of, MOST, checked, is_plain, is_simple_part, properties_text, anchor_text, tag_text, alias_layout, scalar_layout, node_layout, Left, bytes, first, has_at, left_first, left_more, left_letter, letter_low, deep_bytes, from_indicator, keeps_all, read_style, margin_round, block_style, behind_line, BlockPassed, line_at-grows, stays_level, Comes, WordLeaves, WalkState, WalkReads, LeaveClear, behind, printed_begins, letter_columns, words_leave, walk_white, walk_word, is_keep, style_at, takes_mark, scalar_bodies, scalar_kept, node_bodies, node_kept, NodeStage, LinedUp, PlainIsWalked, SingleIsWalked, Ending, block_position, column_round, NodeWalks, IsPretty, LeavesAreWalked, BlockScalarsAreWalked, is_block, low_starts, LineBreak, Settings, Style, double_quoted, has, scalar_tag, anchor_bodies, tag_bodies, mark_bodies, QuotedIsReadBack, between_quotes, between_single, IsWritable, anchor_is_read, begins_white, PlainHasGap, StylesAreAllowed, kept_writable}
+use Rattle.yaml_emit_laws_pretty.proofs.Words.{cases_Bool, cases_lt, false≢true, or_left, yaml_encoding_t, TokenBody, byte, line_at, column_at, Wrong, indent, depth_after, allows_key, is_end, is_value, WordText, kind_at, word_at, Kind, Cursor, Page, Rest, ◌▹◌, gap, blank, line, Layout, when, word, char, chomp, scalar_text, Part, Scalar, Opening, alias_node, scalar_node, Context, style_of, deeper, page_at, context_of, MOST, checked, is_plain, is_simple_part, properties_text, anchor_text, tag_text, alias_layout, scalar_layout, node_layout, Left, bytes, first, has_at, left_first, left_more, left_letter, letter_low, deep_bytes, from_indicator, keeps_all, read_style, margin_round, block_style, behind_line, BlockPassed, line_at-grows, stays_level, Comes, WordLeaves, WalkState, WalkReads, LeaveClear, behind, printed_begins, letter_columns, words_leave, walk_white, walk_word, is_keep, style_at, takes_mark, scalar_bodies, scalar_kept, node_bodies, node_kept, NodeStage, LinedUp, PlainIsWalked, SingleIsWalked, Ending, block_position, column_round, NodeWalks, IsPretty, LeavesAreWalked, BlockScalarsAreWalked, is_block, low_starts, LineBreak, Settings, Style, double_quoted, has, scalar_tag, anchor_bodies, tag_bodies, mark_bodies, QuotedIsReadBack, between_quotes, between_single, IsWritable, anchor_is_read, begins_white, PlainHasGap, StylesAreAllowed, kept_writable}
 use Rattle.yaml_emit_laws_text.specs.emit_layout.scan_model.Tokens as tokens
 use Rattle.yaml_emit_laws_text.specs.scan_history.declared.kind.Kind.TheVariants as kinds
 use Rattle.yaml_emit_laws_text.specs.emit_layout.emit_text.declared.Chomp.{Chomp}
@@ -136,8 +136,7 @@ word_on k is x text c d o ls T b e w m rest s right here low high hash kind word
 
 keep_same : (c : Chomp) → keeps_all c ≡ is_keep c
 keep_same chomping.Keep = refl
-keep_same chomping.Clip = refl
-keep_same chomping.Strip = refl
+keep_same _ = refl
 
 below : (p : Context) (around : Option ℕ) (m : ℕ) → m ≤ column_round around → 0 < p.settings.indent
     → m < deeper p.settings around
@@ -331,9 +330,7 @@ block_lines s o pretty around q v u style.Folded some is ls c m after level up e
     let least = pretty.least in
     let most = pretty.most in
     block_line p around q v true (omega (arith, least)) (omega (arith, most)) u (position_style p around q v ∙ is) ls c m after level up ending x text w T st right l
-block_lines s o pretty around q v u style.Plain some is ls c m after level up ending x text w T st right l = absurd (false≢true some)
-block_lines s o pretty around q v u style.Single some is ls c m after level up ending x text w T st right l = absurd (false≢true some)
-block_lines s o pretty around q v u style.Double some is ls c m after level up ending x text w T st right l = absurd (false≢true some)
+block_lines s o pretty around q v u _ some is ls c m after level up ending x text w T st right l = absurd (false≢true some)
 
 -- ---- scalars with their properties
 
@@ -426,16 +423,14 @@ style_lines : PlainIsWalked → SingleIsWalked → QuotedIsReadBack → StylesAr
 style_lines plains singles doubles styles s o pretty around q v u style.Plain is none = plain_lines plains styles s o pretty around q v u is
 style_lines plains singles doubles styles s o pretty around q v u style.Single is none = single_lines singles styles s o pretty around q v u is
 style_lines plains singles doubles styles s o pretty around q v u style.Double is none = double_lines doubles s o pretty around q v u
-style_lines plains singles doubles styles s o pretty around q v u style.Literal is none = absurd (false≢true (sym none))
-style_lines plains singles doubles styles s o pretty around q v u style.Folded is none = absurd (false≢true (sym none))
+style_lines plains singles doubles styles s o pretty around q v u _ is none = absurd (false≢true (sym none))
 
 pub leaves_on : PlainIsWalked → SingleIsWalked → QuotedIsReadBack → StylesAreAllowed → PlainHasGap
     → LeavesAreWalked
 leaves_on plains singles doubles styles gaps s o pretty (alias_node name) fine around q bare whole leaf none = alias_walks s o pretty around q bare name fine whole
 leaves_on plains singles doubles styles gaps s o pretty (scalar_node v) (anchor, tag, u) around q bare whole leaf none =
     scalar_walks gaps s o pretty around q bare v (anchor, tag, u) (style_lines plains singles doubles styles s o pretty around q v u (style_at (context_of s o.directives) false q v) refl none)
-leaves_on plains singles doubles styles gaps s o pretty (sequence_node a items) fine around q bare whole leaf none = absurd (false≢true leaf)
-leaves_on plains singles doubles styles gaps s o pretty (mapping_node a pairs) fine around q bare whole leaf none = absurd (false≢true leaf)
+leaves_on plains singles doubles styles gaps s o pretty _ fine around q bare whole leaf none = absurd (false≢true leaf)
 
 pub blocks_on : PlainHasGap → BlockScalarsAreWalked
 blocks_on gaps s o pretty v (anchor, tag, u) around q bare whole some =

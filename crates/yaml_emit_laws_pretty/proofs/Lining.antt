@@ -57,19 +57,16 @@ indicator_bytes b rest e low white =
 mark_solid : (k : BareIndicator) (bs : List ℕ) → begins_solid (mark_byte k ∷ bs) ≡ true
 unfolding break_of
 mark_solid Entry bs = refl
-mark_solid Question bs = refl
-mark_solid Answer bs = refl
+mark_solid _ bs = refl
 
 mark_calm : (k : BareIndicator) (bs : List ℕ) → no_comment (mark_byte k ∷ bs) ≡ true
 unfolding no_comment
 mark_calm Entry bs = refl
-mark_calm Question bs = refl
-mark_calm Answer bs = refl
+mark_calm _ bs = refl
 
 pub mark_small : (k : BareIndicator) → nat_lt (mark_byte k) 128 ≡ true
 mark_small Entry = refl
-mark_small Question = refl
-mark_small Answer = refl
+mark_small _ = refl
 
 pub mark_shows : (k : BareIndicator) (n : ℕ) (rest : Rest)
     → ShowsNode n (λ e. indicator (mark_byte k) e rest)
@@ -167,21 +164,18 @@ mark_comes Answer = signs_come.colon
 mark_prints : (k : BareIndicator) → (32 < mark_byte k) × (mark_byte k < 127) × (mark_byte k ≡ 35
     → ⊥)
 mark_prints Entry = (omega arith, omega arith, λ y. omega (arith, y))
-mark_prints Question = (omega arith, omega arith, λ y. omega (arith, y))
-mark_prints Answer = (omega arith, omega arith, λ y. omega (arith, y))
+mark_prints _ = (omega arith, omega arith, λ y. omega (arith, y))
 
 mark_starts : (k : BareIndicator)
     → (is_start (mark_kind k) ≡ true) × (level_of (mark_kind k) ≡ mark_level k)
     × (allows_key (mark_kind k) true false ≡ true)
 mark_starts Entry = (refl, refl, refl)
-mark_starts Question = (refl, refl, refl)
-mark_starts Answer = (refl, refl, refl)
+mark_starts _ = (refl, refl, refl)
 
 lone_at : (k : BareIndicator) (text : List ℕ) (o : WalkState) (q : ℕ) → q ≡ o.at → IsLone k text o
     → is_value (mark_kind k) ≡ true → o.line < line_at text q
-lone_at Entry text o q e l v = absurd (false≢true v)
-lone_at Question text o q e l v = absurd (false≢true v)
 lone_at Answer text o q e l v = subst (λ n. o.line < line_at text n) (sym e) l
+lone_at _ text o q e l v = absurd (false≢true v)
 
 pub mark_on : MarkIsWalked
 mark_on k x text n kept ls more new what T rest here lone low rises opens starts parted =

@@ -52,9 +52,7 @@ not_simple : (s : Settings) (ds : List TagDirective) (n : Node)
     → is_simple (canonically s ds) n ≡ false
 unfolding is_simple is_simple_scalar is_simple_alias is_simple_start
 not_simple s ds (alias_node name) = refl
-not_simple s ds (scalar_node x) = refl
-not_simple s ds (sequence_node q items) = refl
-not_simple s ds (mapping_node q pairs) = refl
+not_simple s ds _ = refl
 
 mutual
   unfolding node_layout items_layout pairs_layout

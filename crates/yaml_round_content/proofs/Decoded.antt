@@ -1,7 +1,7 @@
 -- What an input decodes to is UTF-8, and so are the texts of the tokens that a parser takes.
 use Rattle.std.proofs.Common.{◌≡◌, ℕ, zero, suc, ◌+◌, ◌-◌, ◌*◌, Bool, true, false, not, ◌&&◌, ◌||◌, ◌==◌, nat_lt, if◌then◌else◌, List, length, Result, Ok, Err, refl, IsUtf8, All}
 use Rattle.std.specs.Char.{IsScalar}
-use Rattle.yaml_round_content.proofs.Words.{all_scalars, All-nil, yaml_encoding_t, YAML_ANY_ENCODING, YAML_UTF8_ENCODING, YAML_UTF16LE_ENCODING, YAML_UTF16BE_ENCODING, Token, scanned_in, tokens_of, adapted, Offence, encoding_of, mark_length, is_allowed, decoded_text, width_of, between, is_low_surrogate, is_high_surrogate, is_trailing, allowed_at, valued_at, least_code, sequence_of, utf8_code, utf8_of, utf16_of, character_at, led_by, characters, in_utf8, decoded_characters}
+use Rattle.yaml_round_content.proofs.Words.{all_scalars, All-nil, yaml_encoding_t, YAML_UTF16LE_ENCODING, YAML_UTF16BE_ENCODING, Token, scanned_in, tokens_of, adapted, Offence, encoding_of, mark_length, is_allowed, decoded_text, width_of, between, is_low_surrogate, is_high_surrogate, is_trailing, allowed_at, valued_at, least_code, sequence_of, utf8_code, utf8_of, utf16_of, character_at, led_by, characters, in_utf8, decoded_characters}
 use Rattle.yaml_round_content.specs.parse_model.Source as source
 use Rattle.yaml_round_content.proofs.AdaptedLemmas.{adapted_utf8}
 use Rattle.yaml_round_content.specs.scan_history.scan_decode.declared.offence.Character.{Character}
@@ -53,10 +53,9 @@ utf16_stands left p u v =
 
 character_stands : (e : yaml_encoding_t) (bytes : List ℕ) (p : ℕ)
     → MayStand (character_at e bytes p)
-character_stands YAML_ANY_ENCODING bytes p = utf8_stands _ p _ _ _ _
-character_stands YAML_UTF8_ENCODING bytes p = utf8_stands _ p _ _ _ _
 character_stands YAML_UTF16LE_ENCODING bytes p = utf16_stands _ p _ _
 character_stands YAML_UTF16BE_ENCODING bytes p = utf16_stands _ p _ _
+character_stands _ bytes p = utf8_stands _ p _ _ _ _
 
 -- ---- a text
 

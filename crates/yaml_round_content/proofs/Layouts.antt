@@ -136,10 +136,9 @@ mutual
 
   behind_node : (n : emit.Node) (es : List emit.Event) → AreImplicit (emit.node_events n es)
       → AreImplicit es
-  behind_node (emit.alias_node name) es (h, hs) = hs
-  behind_node (emit.scalar_node x) es (h, hs) = hs
   behind_node (emit.sequence_node q items) es (h, hs) = (behind_items items (emit.sequence_end ∷ es) hs).1
   behind_node (emit.mapping_node q pairs) es (h, hs) = (behind_pairs pairs (emit.mapping_end ∷ es) hs).1
+  behind_node _ es (h, hs) = hs
 
   behind_items : (ns : emit.Nodes) (es : List emit.Event) → AreImplicit (emit.items_events ns es)
       → AreImplicit es

@@ -4,7 +4,7 @@ use Rattle.yaml_round_content.proofs.Words.{told_by, load_of, Token, Fault, Even
 use Rattle.yaml_round_content.proofs.TreesEnding.{fault_ends}
 use Rattle.yaml_round_content.specs.parse_laws_trees.parse_document.Documents as documents
 use Rattle.yaml_parse_loader.specs.Loading.{refused}
-use Rattle.yaml_round_content.specs.parse_laws_trees.NextLoad.{NextLoad, next_document, next_fault, next_none}
+use Rattle.yaml_round_content.specs.parse_laws_trees.NextLoad.{NextLoad, next_fault}
 use Rattle.yaml_round_content.proofs.ByStep as parse
 use Rattle.yaml_round_content.proofs.NextLoads.{IsOf, load_is}
 use Rattle.yaml_round_content.proofs.Joining.{tree_read, read_is}
@@ -80,8 +80,7 @@ first_on : (c : LoadStep) (gs : List Told) (f : Option Fault) (n : ℕ)
     → ((m : Loading) → load_all gs f m ≡ by_first (parse.loads gs f m) f)
     → load_on c (load_all gs f) ≡ by_first (parse.load_on c (parse.loads gs f) gs n) f
 first_on (goes_on m) gs f n h = h m
-first_on (loaded d) gs f n h = refl
-first_on (refused e) gs f n h = refl
+first_on _ gs f n h = refl
 
 one_more : (gs : List Told) (f : Option Fault) (l : Loading)
     → load_all gs f l ≡ by_first (parse.loads gs f l) f
@@ -91,9 +90,8 @@ one_more (g ∷ gs) f l = first_on (step g.0 l) gs f g.1 (λ m. one_more gs f m)
 
 as_next : (n : NextLoad) (r : parse.Loads) (u : ℕ) (f : Option Fault) → IsOf n r u
     → by_first r f ≡ by_next n f
-as_next (next_document e left count) r u f h = ap (λ (x : parse.Loads). by_first x f) h
 as_next (next_fault e count) r u f h = ap (λ (x : parse.Loads). by_first x f) h.0
-as_next next_none r u f h = ap (λ (x : parse.Loads). by_first x f) h
+as_next _ r u f h = ap (λ (x : parse.Loads). by_first x f) h
 
 pub one_by_one : LoadsAreOneByOne
 one_by_one gs f unasked n h = one_more gs f nothing_loaded ∙ as_next n _ _ f (load_is gs f unasked n h)

@@ -2,7 +2,7 @@
 use Rattle.std.proofs.Common.{◌≡◌, true, List, [], ◌∷◌, ◌++◌, Option, Some, None, refl, sym, ap, subst, ◌∙◌, append_assoc}
 use Rattle.yaml_emit_laws_dumps.specs.parse_model.declared.yaml_mark_t.{yaml_mark_t}
 use Rattle.yaml_emit_laws_dumps.specs.parse_model.declared.yaml_token_type_t.{yaml_token_type_t}
-use Rattle.yaml_round_content.proofs.Words.{Token, type_of, Wants, Root, Choice, Refuse, Take, Leave, RawEvent, Properties, Shape, item_at, node_at, State, choice_at, taken_at, left_at, Fed, stop, go, with_item, given_by, feed, Due, item_due, key_due, value_due, Progress, at_place, inside, behind_node, TokenBody, IndentlessEntry, documents_taken, content_taken, node_taken, wants_of}
+use Rattle.yaml_round_content.proofs.Words.{value_due, Token, type_of, Wants, Root, Choice, Refuse, Take, Leave, RawEvent, Properties, Shape, item_at, node_at, State, choice_at, taken_at, left_at, Fed, stop, go, with_item, given_by, feed, Due, item_due, key_due, Progress, at_place, inside, behind_node, TokenBody, IndentlessEntry, documents_taken, content_taken, node_taken, wants_of}
 use Rattle.yaml_emit_laws_dumps.specs.parse_model.Tokens as token
 use Rattle.yaml_emit_laws_dumps.specs.parse_grammar.declared.Wants.TheVariants.{Flow, Block}
 use Rattle.yaml_emit_laws_dumps.specs.parse_grammar.declared.Brackets.TheVariants as brackets

@@ -49,8 +49,7 @@ node_right anchor None item.empty = refl
 node_right anchor (Some tag) item.empty = empty_right tag
 node_right anchor None (item.scalar value style) = flags_differ (is_plain style)
 node_right anchor (Some tag) (item.scalar value style) = tagged_right (bytes_eq tag (codes "!")) anchor tag value style refl
-node_right anchor tag (item.sequence style) = tt
-node_right anchor tag (item.mapping style) = tt
+node_right anchor tag _ = tt
 
 -- ---- the events of an input
 

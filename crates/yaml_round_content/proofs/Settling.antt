@@ -153,8 +153,7 @@ node_own canonical anchor None item.empty a t = (names_right (canonical || not t
 node_own canonical anchor (Some tag) item.empty a t = (names_right (canonical || not false) anchor (Some tag) a t, refl)
 node_own canonical anchor None (item.scalar value style) a t = (names_right _ anchor None a t, one_flag (is_plain style))
 node_own canonical anchor (Some tag) (item.scalar value style) a t = tagged_own (bytes_eq tag (codes "!")) canonical anchor tag value style a t
-node_own canonical anchor tag (item.sequence style) a t = (names_right _ anchor tag a t, refl)
-node_own canonical anchor tag (item.mapping style) a t = (names_right _ anchor tag a t, refl)
+node_own canonical anchor tag _ a t = (names_right _ anchor tag a t, refl)
 
 -- a tag in full isn't empty, since its suffix isn't
 some_behind : (n m : ℕ) → (m == 0) ≡ false → (n + m == 0) ≡ false

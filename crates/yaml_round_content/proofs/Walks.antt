@@ -1,5 +1,5 @@
 -- What a document says looks at no style and no mark.
-use Rattle.std.proofs.Common.{◌≡◌, ℕ, zero, suc, ℤ, pos, negsuc, Bool, true, false, List, [], ◌∷◌, length, map, replicate, Option, Some, refl, sym, ap, ◌∙◌}
+use Rattle.std.proofs.Common.{◌≡◌, ℕ, zero, suc, ℤ, pos, Bool, true, false, List, [], ◌∷◌, length, map, replicate, Option, Some, refl, sym, ap, ◌∙◌}
 use Rattle.yaml_round_content.proofs.Words.{slice_get, if◌then◌else◌, length-map, yaml_node_pair_t, zero_mark, graph_content, Node, Nodes, Pairs, Document, node, pair, sequence, mapping, tree_of, trees_of, pair_trees_of, document_tree, CoreNode, Core, core_body, core_node, core_of, Met, is_met, meet, body_at, tag_at, body_of_id, tag_of_id, none_met, turns, none_numbered, numbers, number_at, document_trees, AgreeingSayTheSame}
 use Rattle.std.proofs.Math.Path.{fun_ext}
 use Rattle.yaml_round_content.specs.parse_model.Nodes as model
@@ -47,14 +47,12 @@ got_tag (n ∷ ns) zero = refl
 got_tag (n ∷ ns) (suc k) = got_tag ns k
 
 bare_body : (ns : List model.Node) (id : ℤ) → body_of_id (bare ns) id ≡ core_body (body_of_id ns id)
-bare_body ns (pos zero) = refl
 bare_body ns (pos (suc k)) = got_body ns k
-bare_body ns (negsuc k) = refl
+bare_body ns _ = refl
 
 bare_tag : (ns : List model.Node) (id : ℤ) → tag_of_id (bare ns) id ≡ tag_of_id ns id
-bare_tag ns (pos zero) = refl
 bare_tag ns (pos (suc k)) = got_tag ns k
-bare_tag ns (negsuc k) = refl
+bare_tag ns _ = refl
 
 -- ---- the walk
 
@@ -130,10 +128,9 @@ module _ (u v : Making) (same : SameMaking u v) where
   made_same : (anchor : Option (List ℕ)) (tag : List ℕ) (b : model.NodeBody)
       (r s : emit.Node → Met → emit.Node) (m : Met) → SameNode r s
       → tree_of (node_by u anchor tag b r m) ≡ tree_of (node_by v anchor tag (core_body b) s m)
-  made_same anchor tag model.no r s m h = h.goes _ _ m refl
-  made_same anchor tag (model.scalar value style) r s m h = h.goes _ _ m refl
   made_same anchor tag (model.sequence items style) r s m h = items_same items _ _ m record { goes = λ x y n e. h.goes _ _ n (ap (λ (t : Nodes). sequence anchor (Some tag) t) e) }
   made_same anchor tag (model.mapping pairs style) r s m h = pairs_same pairs _ _ m record { goes = λ x y n e. h.goes _ _ n (ap (λ (t : Pairs). mapping anchor (Some tag) t) e) }
+  made_same anchor tag _ r s m h = h.goes _ _ m refl
 
 either_same : (b : Bool) (x y z w : emit.Node) → tree_of x ≡ tree_of z → tree_of y ≡ tree_of w
     → tree_of (if b then x else y) ≡ tree_of (if b then z else w)

@@ -1,5 +1,5 @@
 -- What a document says that an input loads may be written.
-use Rattle.std.proofs.Common.{◌≡◌, ◌<◌, ℕ, zero, suc, ℤ, pos, negsuc, Bool, true, false, ◌==◌, if◌then◌else◌, List, [], ◌∷◌, length, Some, None, IsUtf8, refl, ap, codes, arith, sym, ◌∙◌, slice_get, true≢false}
+use Rattle.std.proofs.Common.{◌≡◌, ◌<◌, ℕ, zero, suc, ℤ, pos, Bool, true, false, ◌==◌, if◌then◌else◌, List, [], ◌∷◌, length, Some, None, IsUtf8, refl, ap, codes, arith, sym, ◌∙◌, slice_get, true≢false}
 use Rattle.yaml_round_laws_documents.proofs.Words.{list_all, IsUtf8-nil, nat_tests, root_holds, is_alpha_byte, TagDirective, IsSoundBody, AreSound, str_tag, is_bang, body_at, tag_at, body_of_id, tag_of_id, name_of, graph_root, graph_content, RightDocument, AreRight, loads_of, tree_of, trees_of, pair_trees_of, document_tree, InputsHaveUtf8, IsName, IsAnchor, IsWritable, AreItemsWritable, ArePairsWritable, HavePrefixes, IsWritableDocument, AreWritable, IsLoadedDocument, trees_of_dumps, AreLoadedDocuments, AllLoadDocuments, LoadedAreWritable}
 use Rattle.yaml_round_laws_documents.specs.parse_grammar.parse_model.Constructors.{AreUtf8}
 use Rattle.yaml_round_laws_documents.specs.parse_grammar.parse_model.Nodes as model
@@ -48,10 +48,8 @@ record IsFine (tag : List ℕ) (body : model.NodeBody) : Type 0 where
   text : IsText body
 
 text_of : (count : ℕ) (b : model.NodeBody) → IsSoundBody count b → IsText b
-text_of count model.no h = tt
 text_of count (model.scalar value style) h = h
-text_of count (model.sequence items style) h = tt
-text_of count (model.mapping pairs style) h = tt
+text_of count _ h = tt
 
 no_bang : (t : List ℕ) → is_bang t ≡ false → t ≡ codes "!" → ⊥
 no_bang t h e = true≢false (sym (ap is_bang e) ∙ h)
@@ -71,9 +69,8 @@ fine_at count (n ∷ ns) (suc k) s t b = fine_at count ns k s.1 t.1 b
 
 fine_id : (nodes : List model.Node) → FineNodes nodes → (id : ℤ)
     → IsFine (tag_of_id nodes id) (body_of_id nodes id)
-fine_id nodes h (pos zero) = str_fine
 fine_id nodes h (pos (suc k)) = h k
-fine_id nodes h (negsuc k) = str_fine
+fine_id nodes h _ = str_fine
 
 -- ---- the walk
 

@@ -1,17 +1,8 @@
 -- What a derivation of visits meets again is met again by the walk of a dump.
 use Rattle.std.proofs.Common.{◌≡◌, ◌<◌, ◌≤◌, ◌+◌, ℕ, zero, suc, ℤ, pos, Bool, true, false, List, [], ◌∷◌, length, Some, refl, ap, subst, ◌∙◌, inl, inr, arith, slice_get, if◌then◌else◌, Option}
-use Rattle.std.proofs.lemmas.Option.{slice_get_within}
-use Rattle.yaml_emit_graph.specs.emit_layout.parse_model.declared.yaml_node_pair_t.{yaml_node_pair_t}
-use Rattle.yaml_emit_graph.specs.emit_layout.parse_model.Nodes.{Node, NodeBody}
+use Rattle.yaml_emit_laws_dumps.proofs.Words.{slice_get_within, yaml_node_pair_t, Node, NodeBody, VisitsInPreorder, IsInPreorder, done, again, first, children, pair_numbers, Turn, First, Again, Leave, Met, is_met, meet, pair_ids, is_collection, body_at, Rest, over, visits, nothing_left, turns_onward, turns_joined, AgainsAre, MeetsAgain, met_so, AgainsAreTurns}
 use Rattle.yaml_emit_graph.specs.emit_layout.parse_model.Nodes as model
-use Rattle.yaml_parse_loader.specs.Order.{VisitsInPreorder, IsInPreorder, done, again, first, children, pair_numbers}
-use Rattle.yaml_emit_graph.specs.declared.Turn.{Turn}
-use Rattle.yaml_emit_graph.specs.declared.Turn.TheVariants.{First, Again, Leave}
-use Rattle.yaml_emit_graph.specs.Graph.{Met, is_met, meet, pair_ids, is_collection, body_at}
-use Rattle.yaml_emit_graph.specs.Onward.{Rest, over, inside, visits, nothing_left, turns_onward}
-use Rattle.yaml_emit_graph.proofs.Joining.{turns_joined}
-use Rattle.yaml_emit_laws_dumps.specs.Dumps.{AgainsAre, MeetsAgain, met_so}
-use Rattle.yaml_emit_laws_dumps.specs.DumpsLaws.{AgainsAreTurns}
+use Rattle.yaml_emit_graph.specs.Onward.{inside}
 use Rattle.yaml_emit_laws_dumps.proofs.Marks.{met_old, met_new, meets, none_yet}
 
 -- ---- how many nodes are visited

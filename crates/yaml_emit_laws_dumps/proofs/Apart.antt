@@ -1,13 +1,7 @@
 -- The numbers of a dump are apart.
 use Rattle.std.proofs.Common.{◌≡◌, ◌≢◌, ◌<◌, ◌≤◌, ◌==◌, ℕ, zero, suc, Bool, true, false, List, [], ◌∷◌, length, get_or, Option, Some, None, refl, sym, ap, subst, ◌∙◌, inl, inr, arith, set, replicate}
-use Rattle.std.proofs.lemmas.Bool.{cases_Bool, cases_eq}
-use Rattle.std.proofs.lemmas.Bool.Decides.{nat_tests}
-use Rattle.yaml_emit_graph.specs.declared.Turn.{Turn}
-use Rattle.yaml_emit_graph.specs.declared.Turn.TheVariants.{First, Again, Leave}
-use Rattle.yaml_emit_graph.specs.Graph.{place_at, Numbering, next_number, again_at, numbered_by, numbered, none_numbered}
+use Rattle.yaml_emit_laws_dumps.proofs.Words.{cases_Bool, cases_eq, nat_tests, Turn, Again, place_at, Numbering, next_number, again_at, numbered_by, numbered, none_numbered, AreApart, MeetsAgain, NumbersAreApart, MetAgainAreNumbered}
 use Rattle.yaml_emit_graph.specs.Numbers.{counted}
-use Rattle.yaml_emit_laws_dumps.specs.Dumps.{AreApart, MeetsAgain}
-use Rattle.yaml_emit_laws_dumps.specs.DumpsLaws.{NumbersAreApart, MetAgainAreNumbered}
 
 -- ---- a list with one number set
 
@@ -95,9 +89,8 @@ again_apart None s a = a
 again_apart (Some k) s a = next_apart s k a
 
 turn_apart : (t : Turn) (s : Numbering) → AreApart s → AreApart (numbered_by t s)
-turn_apart (First id) s a = a
 turn_apart (Again id) s a = again_apart (place_at id) s a
-turn_apart (Leave id) s a = a
+turn_apart _ s a = a
 
 turns_apart : (ts : List Turn) (s : Numbering) → AreApart s → AreApart (numbered s ts)
 unfolding numbered
@@ -149,9 +142,8 @@ again_keeps None s k has = has
 again_keeps (Some j) s k has = next_keeps s j k has
 
 turn_keeps : (t : Turn) (s : Numbering) (k : ℕ) → Has k s → Has k (numbered_by t s)
-turn_keeps (First id) s k has = has
 turn_keeps (Again id) s k has = again_keeps (place_at id) s k has
-turn_keeps (Leave id) s k has = has
+turn_keeps _ s k has = has
 
 turns_keep : (ts : List Turn) (s : Numbering) (k : ℕ) → Has k s → Has k (numbered s ts)
 unfolding numbered
@@ -167,9 +159,8 @@ again_length None s = refl
 again_length (Some k) s = ap (λ (x : Numbering). length x.table) (next_is s k) ∙ next_length_by (get_or s.table k 1 == 0) s k
 
 turn_length : (t : Turn) (s : Numbering) → length (numbered_by t s).table ≡ length s.table
-turn_length (First id) s = refl
 turn_length (Again id) s = again_length (place_at id) s
-turn_length (Leave id) s = refl
+turn_length _ s = refl
 
 again_numbered : (ts : List Turn) (s : Numbering) (k : ℕ) → k < length s.table → MeetsAgain k ts
     → Has k (numbered s ts)
@@ -217,9 +208,8 @@ again_counts None s c = c
 again_counts (Some k) s c = let P : Numbering → Type 0 = λ x. Counts x in subst P (sym (next_is s k)) (next_counts_by (get_or s.table k 1 == 0) s k refl c)
 
 turn_counts : (t : Turn) (s : Numbering) → Counts s → Counts (numbered_by t s)
-turn_counts (First id) s c = c
 turn_counts (Again id) s c = again_counts (place_at id) s c
-turn_counts (Leave id) s c = c
+turn_counts _ s c = c
 
 turns_count : (ts : List Turn) (s : Numbering) → Counts s → Counts (numbered s ts)
 unfolding numbered

@@ -1,28 +1,14 @@
 -- Visits, written and numbered again.
 use Rattle.std.proofs.Common.{◌≡◌, ◌<◌, ◌≤◌, ◌+◌, ℕ, zero, suc, ℤ, pos, Bool, true, false, List, [], ◌∷◌, ◌++◌, length, map, take, Option, Some, Result, Ok, refl, sym, ap, subst, ◌∙◌, arith, append_assoc, append-nil, length-append, slice_get, if◌then◌else◌}
-use Rattle.std.proofs.lemmas.Option.{slice_get_within}
-use Rattle.std.proofs.lemmas.List.{map-append}
+use Rattle.yaml_emit_laws_dumps.proofs.Words.{slice_get_within, map-append, yaml_sequence_style_t, yaml_mapping_style_t, yaml_node_pair_t, Fault, Node, NodeBody, map_tag, seq_tag, str_tag, Head, Content, Contents, Numbered, ◌>>=◌, Anchored, and_node, alias_number, number, number_items, number_pairs, is_bang, loaded_tag, VisitsInPreorder, done, again, first, children, pair_numbers, is_flow_sequence, is_flow_mapping, Met, is_met, meet, number_at, name_of, anchor_of, body_at, tag_at, graph_scalar, graph_start, node_by, items_by, content_by, core_body, core_node, nowhere, head_of, as_content, as_contents, as_pairs, met_so, before_at, AgainsAre, IsNumbered, HasKind, AreLoadedNodes, NumbersBack, NamesAreFound, VisitsNumberBack}
 use Rattle.yaml_emit_graph.specs.emit_layout.parse_model.declared.yaml_scalar_style_t.{yaml_scalar_style_t}
 use Rattle.yaml_emit_graph.specs.emit_layout.parse_model.declared.yaml_scalar_style_t.TheVariants.{YAML_ANY_SCALAR_STYLE}
-use Rattle.yaml_emit_graph.specs.emit_layout.parse_model.declared.yaml_sequence_style_t.{yaml_sequence_style_t}
 use Rattle.yaml_emit_graph.specs.emit_layout.parse_model.declared.yaml_sequence_style_t.TheVariants.{YAML_ANY_SEQUENCE_STYLE}
-use Rattle.yaml_emit_graph.specs.emit_layout.parse_model.declared.yaml_mapping_style_t.{yaml_mapping_style_t}
 use Rattle.yaml_emit_graph.specs.emit_layout.parse_model.declared.yaml_mapping_style_t.TheVariants.{YAML_ANY_MAPPING_STYLE}
-use Rattle.yaml_emit_graph.specs.emit_layout.parse_model.declared.yaml_node_pair_t.{yaml_node_pair_t}
 use Rattle.yaml_emit_graph.specs.emit_layout.scan_model.Tokens.{zero_mark}
-use Rattle.yaml_emit_graph.specs.emit_layout.scan_model.Faults.{Fault}
-use Rattle.yaml_emit_graph.specs.emit_layout.parse_model.Nodes.{Node, NodeBody}
 use Rattle.yaml_emit_graph.specs.emit_layout.parse_model.Nodes as model
-use Rattle.yaml_parse_laws_trees.specs.parse_document.Documents.{map_tag, seq_tag, str_tag}
-use Rattle.yaml_parse_loader.specs.Numbering.{Head, Content, Contents, Numbered, ◌>>=◌, Anchored, and_node, alias_number, number, number_items, number_pairs, is_bang, loaded_tag}
 use Rattle.yaml_parse_loader.specs.Numbering as numbering
-use Rattle.yaml_parse_loader.specs.Order.{VisitsInPreorder, done, again, first, children, pair_numbers}
 use Rattle.yaml_emit_graph.specs.emit_layout.Content as emit
-use Rattle.yaml_emit_graph.specs.emit_layout.Content.{is_flow_sequence, is_flow_mapping}
-use Rattle.yaml_emit_graph.specs.Graph.{Met, is_met, meet, number_at, name_of, anchor_of, body_at, tag_at, graph_scalar, graph_start}
-use Rattle.yaml_emit_graph.specs.Onward.{node_by, items_by, content_by}
-use Rattle.yaml_emit_laws_dumps.specs.Dumps.{core_body, core_node, nowhere, head_of, as_content, as_contents, as_pairs, met_so, before_at, AgainsAre, IsNumbered, HasKind, AreLoadedNodes, NumbersBack}
-use Rattle.yaml_emit_laws_dumps.specs.DumpsLaws.{NamesAreFound, VisitsNumberBack}
 use Rattle.yaml_emit_laws_dumps.proofs.Marks.{met_old, met_new, meets}
 use Rattle.yaml_emit_laws_dumps.proofs.Pairing.{paired, pairs_written, paired_numbers}
 
@@ -74,8 +60,7 @@ record One (nodes : List Node) (table : List ℕ) (f seen between : ℕ) (n : No
 none_visited : (nodes : List Node) (a b : ℕ) (ids : List ℤ) → ids ≡ []
     → VisitsInPreorder nodes a ids b → a ≡ b
 none_visited nodes a b ids e (done seen) = refl
-none_visited nodes a b ids e (again seen k after more h v) = absurd (cc)
-none_visited nodes a b ids e (first seen between after more n at v w) = absurd (cc)
+none_visited nodes a b ids e _ = absurd (cc)
 
 tag_kept : (tag default : List ℕ) → is_bang tag ≡ false → loaded_tag (Some tag) default ≡ tag
 tag_kept tag default h = rw h refl

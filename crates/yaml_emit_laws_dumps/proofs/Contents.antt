@@ -1,21 +1,11 @@
 -- Nothing is wrong with the events of what a document says.
-use Rattle.std.proofs.Common.{subst, ◌≡◌, ◌<◌, ℕ, zero, suc, ℤ, pos, negsuc, Bool, true, false, List, [], ◌∷◌, length, map, Option, Some, None, refl, inl, inr, arith, slice_get}
-use Rattle.std.proofs.lemmas.Bool.{cases_Bool}
+use Rattle.std.proofs.Common.{subst, ◌≡◌, ◌<◌, ℕ, zero, suc, ℤ, pos, Bool, true, false, List, [], ◌∷◌, length, map, Option, Some, None, refl, inl, inr, arith, slice_get}
+use Rattle.yaml_emit_laws_dumps.proofs.Words.{cases_Bool, YAML_ANY_SCALAR_STYLE, yaml_sequence_style_t, yaml_mapping_style_t, yaml_node_pair_t, seq_tag, map_tag, alias_node, scalar_node, sequence_node, mapping_node, Nodes, no_nodes, node, Pairs, no_pairs, pair, Event, document_start, document_end, sequence_end, mapping_end, is_flow_sequence, is_flow_mapping, node_events, items_events, pairs_events, documents_events, kept_if, anchor_problem, tag_problem, event_problem, last_problem, own_problems, Met, is_met, meet, body_of_id, tag_at, tag_of_id, number_at, numbers, name_of, anchor_of, graph_scalar, graph_start, graph_root, graph_content, none_met, dumped, items_by, pairs_by, node_by, content_by, itself, root_onward, root_joined, AreTagged, RightDocument, AreRight, DumpsAreRight, DumpedStreamsAreRight}
 use Rattle.yaml_emit_graph.specs.emit_layout.scan_model.declared.yaml_scalar_style_t.{yaml_scalar_style_t}
-use Rattle.yaml_emit_graph.specs.emit_layout.scan_model.declared.yaml_scalar_style_t.TheVariants.{YAML_ANY_SCALAR_STYLE}
-use Rattle.yaml_emit_graph.specs.emit_layout.parse_model.declared.yaml_sequence_style_t.{yaml_sequence_style_t}
-use Rattle.yaml_emit_graph.specs.emit_layout.parse_model.declared.yaml_mapping_style_t.{yaml_mapping_style_t}
-use Rattle.yaml_emit_graph.specs.emit_layout.parse_model.declared.yaml_node_pair_t.{yaml_node_pair_t}
 use Rattle.yaml_emit_graph.specs.emit_layout.parse_model.Nodes as model
-use Rattle.yaml_parse_laws_trees.specs.parse_document.Documents.{seq_tag, map_tag}
 use Rattle.yaml_parse_laws_trees.specs.parse_document.Documents as documents
 use Rattle.yaml_emit_graph.specs.emit_layout.declared.Problem.TheVariants as problem
-use Rattle.yaml_emit_graph.specs.emit_layout.Content.{Node, alias_node, scalar_node, sequence_node, mapping_node, Nodes, no_nodes, node, Pairs, no_pairs, pair, Event, document_start, document_end, sequence_end, mapping_end, is_flow_sequence, is_flow_mapping, node_events, items_events, pairs_events, documents_events}
-use Rattle.yaml_emit_graph.specs.emit_layout.Grammar.{kept_if, anchor_problem, tag_problem, event_problem, last_problem, own_problems}
-use Rattle.yaml_emit_graph.specs.Graph.{Met, is_met, meet, body_of_id, tag_at, tag_of_id, number_at, numbers, name_of, anchor_of, graph_scalar, graph_start, graph_root, graph_content, none_met, dumped}
-use Rattle.yaml_emit_graph.specs.Onward.{items_by, pairs_by, node_by, content_by, itself, root_onward}
-use Rattle.yaml_emit_graph.proofs.Joining.{root_joined}
-use Rattle.yaml_emit_laws_dumps.specs.StreamsLaws.{AreTagged, RightDocument, AreRight, DumpsAreRight, DumpedStreamsAreRight}
+use Rattle.yaml_emit_graph.specs.emit_layout.Content.{Node}
 use Rattle.yaml_emit_laws_dumps.proofs.Passing.{or_none}
 use Rattle.yaml_emit_laws_dumps.proofs.Naming.{not_zero, name_right, anchor_right}
 
@@ -140,9 +130,8 @@ found_tagged (n ∷ ns) zero h = h.0
 found_tagged (n ∷ ns) (suc k) h = found_tagged ns k h.1
 
 tagged : (nodes : List model.Node) (id : ℤ) → AreTagged nodes → 0 < length (tag_of_id nodes id)
-tagged nodes (pos zero) h = omega arith
 tagged nodes (pos (suc k)) h = found_tagged nodes k h
-tagged nodes (negsuc k) h = omega arith
+tagged nodes _ h = omega arith
 
 root_right : (canonical : Bool) (nodes : List model.Node) → AreTagged nodes
     → RightNode canonical (graph_root nodes)

@@ -2,13 +2,8 @@
 use Rattle.std.proofs.Common.{◌≡◌, ◌<◌, ◌^◌, ◌==◌, ℕ, zero, suc, ℤ, pos, Bool, true, false, List, ◌++◌, length, get_or, drop, Some, None, refl, sym, ap, ◌∙◌, inl, inr, arith, decimal, if◌then◌else◌, cond, codes}
 use Rattle.std.specs.Cmp.Lexicographic.{bytes_decides, texts_ties}
 use Rattle.std.specs.Str.Parse.{digits_value}
-use Rattle.std.proofs.lemmas.Bool.{cases_Bool, cases_eq}
-use Rattle.std.proofs.lemmas.Bool.Decides.{nat_tests}
+use Rattle.yaml_emit_laws_dumps.proofs.Words.{cases_Bool, cases_eq, nat_tests, Anchored, is_same, last_with, and_node, name_of, anchor_of, number_at, IsNumbered, before_at, NamesAreApart}
 use Rattle.std.proofs.lemmas.Fmt.{decimal_is_IsNumeral}
-use Rattle.yaml_parse_loader.specs.Numbering.{Anchored, is_same, last_with, and_node}
-use Rattle.yaml_emit_graph.specs.Graph.{name_of, anchor_of, number_at}
-use Rattle.yaml_emit_laws_dumps.specs.Dumps.{IsNumbered, before_at}
-use Rattle.yaml_emit_laws_dumps.specs.DumpsLaws.{NamesAreApart}
 
 -- ---- names
 

@@ -1,3 +1,4 @@
+mod Words
 pub mod Passing
 mod LookingBack
 pub mod Naming

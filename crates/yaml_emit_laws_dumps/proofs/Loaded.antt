@@ -1,13 +1,8 @@
 -- Numbered content: each node has a kind, and none has the tag `!`.
 use Rattle.std.proofs.Common.{◌≡◌, ◌+◌, ℕ, suc, ℤ, pos, Bool, true, false, List, [], ◌∷◌, ◌++◌, length, Option, Some, None, Result, Ok, Err, IfOk, refl, subst, cond, zero}
 use Rattle.yaml_emit_graph.specs.emit_layout.parse_model.declared.yaml_mark_t.{yaml_mark_t}
-use Rattle.yaml_emit_graph.specs.emit_layout.scan_model.Faults.{Fault}
-use Rattle.yaml_emit_graph.specs.emit_layout.parse_model.Nodes.{Node}
-use Rattle.yaml_parse_laws_trees.specs.parse_document.Documents.{Document, str_tag, seq_tag, map_tag}
-use Rattle.yaml_parse_loader.specs.Numbering.{Content, Contents, Pairs, alias, scalar, sequence, mapping, no_items, item, no_pairs, pair, ◌>>=◌, Anchored, Numbered, and_node, last_with, alias_number, number, number_items, number_pairs, is_bang, loaded_tag, DocumentContent, document_of}
-use Rattle.yaml_parse_loader.specs.Order.{IsInPreorder}
-use Rattle.yaml_emit_laws_dumps.specs.Dumps.{IsLoadedNode, AreLoadedNodes, IsLoadedDocument}
-use Rattle.yaml_emit_laws_dumps.specs.DumpsLaws.{DocumentsAreLoaded}
+use Rattle.yaml_emit_laws_dumps.proofs.Words.{Fault, Node, Document, str_tag, seq_tag, map_tag, Content, Contents, sequence, mapping, no_items, item, ◌>>=◌, Anchored, Numbered, and_node, last_with, alias_number, number, number_items, number_pairs, is_bang, loaded_tag, DocumentContent, document_of, IsInPreorder, IsLoadedNode, AreLoadedNodes, IsLoadedDocument, DocumentsAreLoaded}
+use Rattle.yaml_parse_loader.specs.Numbering.{Pairs, alias, scalar, no_pairs, pair}
 use Rattle.yaml_parse_loader.proofs.Visited.{good_then, Good}
 
 abbrev All : List Node → Type 0

@@ -1,23 +1,16 @@
 -- What is loaded of right events is right.
 use Rattle.std.proofs.Common.{◌≡◌, ◌<◌, ℕ, zero, suc, subst, Bool, true, false, List, [], ◌∷◌, ◌++◌, length, Option, Some, None, refl, arith, ◌==◌, cond, if◌then◌else◌}
-use Rattle.std.proofs.lemmas.Bool.Decides.{nat_tests}
+use Rattle.yaml_emit_laws_dumps.proofs.Words.{nat_tests, Fault, Document, with_node, change_place, str_tag, seq_tag, map_tag, no_document, loaded_tag, is_bang, Open, Loading, LoadStep, goes_on, loaded, refused, nothing_loaded, step, step_body, aliased, closed, filled, Problem, or_else, anchor_problem, tag_problem, directives_problem, event_problem, last_problem, AreTagged, RightDocument, MayTag, RightBody, AreRightTold, RightFed, RightLoad, TakenAreRight, StepsKeepRight, LoadsAreRight}
 use Rattle.yaml_emit_graph.specs.emit_layout.scan_model.declared.yaml_mark_t.{yaml_mark_t}
-use Rattle.yaml_emit_graph.specs.emit_layout.scan_model.Faults.{Fault}
 use Rattle.yaml_emit_graph.specs.emit_layout.parse_model.Events as event
 use Rattle.yaml_emit_graph.specs.emit_layout.parse_model.Nodes as model
-use Rattle.yaml_parse_laws_trees.specs.parse_document.Documents.{Document, with_node, change_place, str_tag, seq_tag, map_tag, no_document}
 use Rattle.yaml_parse_laws_trees.specs.parse_grammar.Resolve.{Told}
-use Rattle.yaml_parse_loader.specs.Numbering.{loaded_tag, is_bang}
-use Rattle.yaml_parse_loader.specs.Loading.{Open, Loading, LoadStep, goes_on, loaded, refused, nothing_loaded, step, step_body, aliased, closed, filled}
-use Rattle.yaml_parse_laws_trees.specs.NextLoad.{NextLoad, next_document, next_fault, next_none}
+use Rattle.yaml_parse_laws_trees.specs.NextLoad.{NextLoad, next_document}
 use Rattle.yaml_parse_laws_trees.proofs.ByStep.{Loads, load_on, behind_all, loads}
 use Rattle.yaml_parse_laws_trees.proofs.ByStep as load
 use Rattle.yaml_parse_laws_trees.proofs.NextLoads.{IsOf, load_is}
 use Rattle.std.specs.FinMap as map
-use Rattle.yaml_emit_graph.specs.emit_layout.declared.Problem.{Problem}
 use Rattle.yaml_emit_graph.specs.emit_layout.declared.Problem.TheVariants as problem
-use Rattle.yaml_emit_graph.specs.emit_layout.Grammar.{or_else, anchor_problem, tag_problem, directives_problem, event_problem, last_problem}
-use Rattle.yaml_emit_laws_dumps.specs.StreamsLaws.{AreTagged, RightDocument, MayTag, RightBody, AreRightTold, RightFed, RightLoad, TakenAreRight, StepsKeepRight, LoadsAreRight}
 use Rattle.yaml_emit_laws_dumps.proofs.Passing.{or_both}
 
 -- ---- events that an emitter takes
@@ -131,8 +124,7 @@ all_right (g ∷ gs) f l h r = turn_right (step g.0 l) (loads gs f) gs g.1 (step
 
 next_right : (n : NextLoad) (r : Loads) (u : ℕ) → IsOf n r u → RightLoads r → RightLoad n
 next_right (next_document d left count) r u e h = subst RightLoads e h
-next_right (next_fault f count) r u e h = tt
-next_right next_none r u e h = tt
+next_right _ r u e h = tt
 
 pub loads_right : LoadsAreRight
 loads_right gs f unasked n h k = next_right n _ _ (load_is gs f unasked n k) (all_right gs f nothing_loaded h empty_right)

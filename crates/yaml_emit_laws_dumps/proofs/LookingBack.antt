@@ -1,15 +1,11 @@
 -- What is expected is told by the events that came.
 use Rattle.std.proofs.Common.{◌≡◌, ℕ, zero, suc, Bool, true, false, not, ◌||◌, List, [], ◌∷◌, Option, Some, None, refl, sym, ap, ◌∙◌}
-use Rattle.yaml_emit_graph.specs.emit_layout.declared.Problem.{Problem}
-use Rattle.yaml_emit_graph.specs.emit_layout.declared.Expected.{Expected}
+use Rattle.yaml_emit_laws_dumps.proofs.Words.{Problem, Expected, Event, no_event, stream_start, stream_end, document_start, document_end, alias, scalar, sequence_start, sequence_end, mapping_start, mapping_end, or_else, event_problem, last_problem, ends_phase, node_problem, place_problem, problem_by, Due, item_due, key_due, value_due, Progress, at_place, first_progress, inside, behind_node, outer_due, progress_after, level_due, problem_in, first_refusal}
 use Rattle.yaml_emit_graph.specs.emit_layout.declared.Expected.TheVariants as at
 use Rattle.yaml_emit_graph.specs.emit_layout.declared.Problem.TheVariants as problem
 use Rattle.yaml_emit_graph.specs.emit_layout.declared.Level.{Level}
 use Rattle.yaml_emit_graph.specs.emit_layout.declared.Phase.{Phase}
-use Rattle.yaml_emit_graph.specs.emit_layout.declared.Phase.TheVariants.{Items, Keys, Value}
-use Rattle.yaml_emit_graph.specs.emit_layout.Content.{Event, no_event, stream_start, stream_end, document_start, document_end, alias, scalar, sequence_start, sequence_end, mapping_start, mapping_end}
-use Rattle.yaml_emit_graph.specs.emit_layout.Grammar.{or_else, event_problem, last_problem, ends_phase, node_problem, place_problem, problem_by}
-use Rattle.yaml_emit_graph.specs.emit_layout.Progress.{Due, item_due, key_due, value_due, Progress, at_place, first_progress, inside, behind_node, outer_due, progress_after, level_due, problem_in, first_refusal}
+use Rattle.yaml_emit_graph.specs.emit_layout.declared.Phase.TheVariants.{Items}
 use Rattle.yaml_emit_laws_dumps.specs.LookBack.{Collection, in_sequence, in_mapping, met, innermost, begins_document, ends_stream, unless_so, wrong_in, wrong_place, wrong_behind, first_wrong, RefusalLooksBack}
 
 -- what the collection that so many are inside of is due, where an odd number of nodes more has come in it
@@ -114,51 +110,23 @@ inside_place (value_due ∷ ds) e = at_value e
 start_place : HasPlace first_progress []
 unfolding place_problem
 start_place no_event = refl
-start_place (stream_start x) = refl
-start_place stream_end = refl
-start_place (document_start o) = refl
-start_place (document_end implicit) = refl
-start_place (alias name) = refl
-start_place (scalar x) = refl
-start_place (sequence_start p) = refl
-start_place sequence_end = refl
-start_place (mapping_start p) = refl
-start_place mapping_end = refl
+start_place _ = refl
 
 documents_place : (first unended : Bool) (e : Event)
     → place_problem (at.Documents first unended) None e
     ≡ unless_so (begins_document e || ends_stream e) problem.ExpectedDocumentStartOrStreamEnd
 unfolding place_problem
 documents_place first unended no_event = refl
-documents_place first unended (stream_start x) = refl
-documents_place first unended stream_end = refl
-documents_place first unended (document_start o) = refl
-documents_place first unended (document_end implicit) = refl
-documents_place first unended (alias name) = refl
-documents_place first unended (scalar x) = refl
-documents_place first unended (sequence_start p) = refl
-documents_place first unended sequence_end = refl
-documents_place first unended (mapping_start p) = refl
-documents_place first unended mapping_end = refl
+documents_place first unended _ = refl
 
 root_place : (past : List Event) (d : _) → HasPlace (at_place at.Node) (document_start d ∷ past)
 unfolding place_problem
 root_place past d no_event = refl
-root_place past d (stream_start x) = refl
-root_place past d stream_end = refl
-root_place past d (document_start o) = refl
-root_place past d (document_end implicit) = refl
-root_place past d (alias name) = refl
-root_place past d (scalar x) = refl
-root_place past d (sequence_start p) = refl
-root_place past d sequence_end = refl
-root_place past d (mapping_start p) = refl
-root_place past d mapping_end = refl
+root_place past d _ = refl
 
 ends_none : (p : Phase) → ends_phase p no_event ≡ false
 ends_none (Items fresh) = refl
-ends_none (Keys fresh) = refl
-ends_none (Value simple) = refl
+ends_none _ = refl
 
 -- no event is none
 none_misplaced : (place : Expected) (top : Option Level) → place_problem place top no_event ≡ None
@@ -216,12 +184,11 @@ step_fits h past (stream_start x) f r = record { place = documents_place true fa
 step_fits h past stream_end f r = record { place = (λ e. refl); due = λ n even. refl }
 step_fits h past (document_start o) f r = record { place = root_place past o; due = λ n even. refl }
 step_fits h past (document_end implicit) f r = record { place = documents_place false implicit; due = λ n even. refl }
-step_fits h past (alias name) f r = node_fits h past f (alias name) (λ n even. refl) (λ e. refl)
-step_fits h past (scalar x) f r = node_fits h past f (scalar x) (λ n even. refl) (λ e. refl)
 step_fits h past (sequence_start p) f r = inside_fits (item_due ∷ behind_node h.due) (sequence_start p) past (sequence_due h past p f) (λ e. refl)
 step_fits h past (mapping_start p) f r = inside_fits (key_due ∷ behind_node h.due) (mapping_start p) past (mapping_due h past p f) (λ e. refl)
 step_fits h past sequence_end f r = end_fits h past f sequence_end (λ n even. refl) (λ e. refl)
 step_fits h past mapping_end f r = end_fits h past f mapping_end (λ n even. refl) (λ e. refl)
+step_fits h past x f r = node_fits h past f x (λ n even. refl) (λ e. refl)
 
 -- ---- the first refusal
 

@@ -1,9 +1,6 @@
 -- The marks of the nodes that a walk has met, where these are the first ones.
 use Rattle.std.proofs.Common.{◌≡◌, ◌<◌, ◌-◌, ℕ, zero, suc, pos, true, false, List, ◌∷◌, ◌++◌, length, refl, ap, ◌∙◌, arith, replicate, set}
-use Rattle.std.proofs.lemmas.List.{length-replicate, get_or-replicate, get_or_append_left, get_or-append_right}
-use Rattle.yaml_emit_graph.specs.emit_layout.parse_model.Nodes.{Node}
-use Rattle.yaml_emit_graph.specs.Graph.{Met, is_met, meet, none_met}
-use Rattle.yaml_emit_laws_dumps.specs.Dumps.{met_so}
+use Rattle.yaml_emit_laws_dumps.proofs.Words.{length-replicate, get_or-replicate, get_or_append_left, get_or-append_right, Node, Met, is_met, meet, none_met, met_so}
 
 pub met_old : (nodes : List Node) (seen k : ℕ) → k < seen
     → is_met (met_so nodes seen) (pos (suc k)) ≡ true

@@ -2,13 +2,9 @@
 use Rattle.std.proofs.Common.{◌≡◌, ◌<◌, ℕ, zero, suc, ◌%◌, ◌/◌, Bool, true, false, List, [], ◌∷◌, ◌++◌, length, Some, None, refl, ◌∙◌, inl, inr, arith, length-append, decimal, ◌==◌, if◌then◌else◌}
 use Rattle.std.specs.List.{list_all}
 use Rattle.std.specs.Fmt.{digits, digits_onto, digit_glyph}
-use Rattle.std.proofs.lemmas.Bool.{cases_Bool}
-use Rattle.std.proofs.lemmas.Bool.Decides.{nat_tests}
+use Rattle.yaml_emit_laws_dumps.proofs.Words.{cases_Bool, nat_tests, Problem, name_problem, anchor_problem, lead, name_of, anchor_of}
 use Rattle.std.proofs.lemmas.List.Folds.{list_all-append}
 use Rattle.yaml_emit_graph.specs.emit_layout.scan_model.Classes.{is_digit_byte, is_alpha_byte}
-use Rattle.yaml_emit_graph.specs.emit_layout.declared.Problem.{Problem}
-use Rattle.yaml_emit_graph.specs.emit_layout.Grammar.{name_problem, anchor_problem}
-use Rattle.yaml_emit_graph.specs.Graph.{lead, name_of, anchor_of}
 
 -- ---- digits
 

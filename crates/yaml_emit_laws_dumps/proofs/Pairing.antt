@@ -1,14 +1,7 @@
 -- A mapping's keys and values, two by two: what is said of the items that they are together holds of the pairs.
 use Rattle.std.proofs.Common.{◌≡◌, ◌+◌, ℕ, ℤ, List, [], ◌∷◌, ◌++◌, length, Result, Ok, Err, refl, ap, ◌∙◌}
-use Rattle.yaml_emit_graph.specs.emit_layout.parse_model.declared.yaml_node_pair_t.{yaml_node_pair_t}
-use Rattle.yaml_emit_graph.specs.emit_layout.scan_model.Faults.{Fault}
-use Rattle.yaml_emit_graph.specs.emit_layout.parse_model.Nodes.{Node}
-use Rattle.yaml_parse_loader.specs.Numbering.{Anchored, Numbered, ◌>>=◌, number, number_items, number_pairs}
-use Rattle.yaml_parse_loader.specs.Order.{pair_numbers}
+use Rattle.yaml_emit_laws_dumps.proofs.Words.{yaml_node_pair_t, Fault, Node, Anchored, Numbered, ◌>>=◌, number, number_items, number_pairs, pair_numbers, Met, items_by, pairs_by, as_content, as_contents, as_pairs, AreAsMany}
 use Rattle.yaml_emit_graph.specs.emit_layout.Content as emit
-use Rattle.yaml_emit_graph.specs.Graph.{Met}
-use Rattle.yaml_emit_graph.specs.Onward.{items_by, pairs_by}
-use Rattle.yaml_emit_laws_dumps.specs.Dumps.{as_content, as_contents, as_pairs, AreAsMany}
 
 abbrev pub paired : emit.Nodes → emit.Pairs
 paired emit.no_nodes = emit.no_pairs
@@ -71,10 +64,9 @@ AreEven (emit.node k (emit.node v vs)) = AreEven vs
 are_even : (vs : emit.Nodes) (ps : List yaml_node_pair_t) → AreAsMany vs (pair_numbers ps)
     → AreEven vs
 are_even emit.no_nodes [] h = tt
-are_even emit.no_nodes (p ∷ ps) h = absurd h
 are_even (emit.node k vs) [] h = absurd h
-are_even (emit.node k emit.no_nodes) (p ∷ ps) h = absurd h
 are_even (emit.node k (emit.node v vs)) (p ∷ ps) h = are_even vs ps h
+are_even _ (p ∷ ps) h = absurd h
 
 numbered_by_two : (vs : emit.Nodes) (count : ℕ) (before : Anchored) → AreEven vs
     → number_pairs (as_pairs (paired vs)) count before

@@ -2,17 +2,12 @@
 use Rattle.std.proofs.Common.{◌≡◌, Bool, true, false, List, [], ◌∷◌, ◌++◌, Option, Some, None, refl, sym, ap, ◌∙◌, subst, append-nil}
 use Rattle.yaml_emit_graph.specs.emit_layout.scan_model.declared.yaml_encoding_t.{yaml_encoding_t}
 use Rattle.yaml_emit_graph.specs.emit_layout.scan_model.declared.yaml_encoding_t.TheVariants.{YAML_ANY_ENCODING}
-use Rattle.yaml_emit_graph.specs.emit_layout.scan_model.declared.yaml_scalar_style_t.TheVariants.{YAML_ANY_SCALAR_STYLE}
+use Rattle.yaml_emit_laws_dumps.proofs.Words.{YAML_ANY_SCALAR_STYLE, Problem, Expected, Scalar, alias_node, scalar_node, sequence_node, mapping_node, Nodes, no_nodes, node, Pairs, no_pairs, pair, Event, stream_start, stream_end, document_start, document_end, alias, scalar, sequence_start, sequence_end, mapping_start, mapping_end, node_events, items_events, pairs_events, documents_events, stream_events, or_else, event_problem, last_problem, node_problem, place_problem, problem_by, own_problem, own_problems, Due, item_due, key_due, value_due, Progress, inside, behind_node, first_progress, progress_after, level_due, problem_in, first_refusal, progress_behind, RightStream, PassedAreStreams, PassedAreFronts, RightStreamsHaveTexts}
 use Rattle.yaml_emit_graph.specs.emit_layout.emit_text.Layout.{written}
 use Rattle.yaml_emit_graph.specs.emit_layout.emit_text.Settings.{settled}
 use Rattle.yaml_emit_graph.specs.emit_layout.Nodes.{stream_layout}
-use Rattle.yaml_emit_graph.specs.emit_layout.declared.Problem.{Problem}
-use Rattle.yaml_emit_graph.specs.emit_layout.declared.Expected.{Expected}
 use Rattle.yaml_emit_graph.specs.emit_layout.declared.Expected.TheVariants as at
-use Rattle.yaml_emit_graph.specs.emit_layout.Content.{Scalar, Node, alias_node, scalar_node, sequence_node, mapping_node, Nodes, no_nodes, node, Pairs, no_pairs, pair, Document, Event, stream_start, stream_end, document_start, document_end, alias, scalar, sequence_start, sequence_end, mapping_start, mapping_end, node_events, items_events, pairs_events, documents_events, stream_events}
-use Rattle.yaml_emit_graph.specs.emit_layout.Grammar.{or_else, event_problem, last_problem, node_problem, place_problem, problem_by, own_problem, own_problems}
-use Rattle.yaml_emit_graph.specs.emit_layout.Progress.{Due, item_due, key_due, value_due, Progress, inside, behind_node, first_progress, progress_after, level_due, problem_in, first_refusal}
-use Rattle.yaml_emit_laws_dumps.specs.StreamsLaws.{progress_behind, RightStream, PassedAreStreams, PassedAreFronts, RightStreamsHaveTexts}
+use Rattle.yaml_emit_graph.specs.emit_layout.Content.{Node, Document}
 
 -- ---- what goes on from a place to the end of a stream
 
@@ -99,19 +94,15 @@ close_sequence : (due : List Due) (es : List Event)
     → From (progress_after (record { place = at.Node; due = due }) sequence_end) es
     → GoesOn at.Node due (sequence_end ∷ es)
 unfolding progress_after items_events
-close_sequence [] es h k = absurd (cc)
 close_sequence (item_due ∷ due) es h k = record { nodes = no_nodes; rest = es; same = refl; goes = from_inside due es k }
-close_sequence (key_due ∷ due) es h k = absurd (cc)
-close_sequence (value_due ∷ due) es h k = absurd (cc)
+close_sequence _ es h k = absurd (cc)
 
 close_mapping : (due : List Due) (es : List Event) → node_problem (level_due due) mapping_end ≡ None
     → From (progress_after (record { place = at.Node; due = due }) mapping_end) es
     → GoesOn at.Node due (mapping_end ∷ es)
 unfolding progress_after pairs_events
-close_mapping [] es h k = absurd (cc)
-close_mapping (item_due ∷ due) es h k = absurd (cc)
 close_mapping (key_due ∷ due) es h k = record { pairs = no_pairs; rest = es; same = refl; goes = from_inside due es k }
-close_mapping (value_due ∷ due) es h k = absurd (cc)
+close_mapping _ es h k = absurd (cc)
 
 at_node : (due : List Due) (e : Event) (es : List Event) → node_problem (level_due due) e ≡ None
     → From (progress_after (record { place = at.Node; due = due }) e) es
@@ -170,8 +161,7 @@ closing (at.Documents first unended) due = stream_end ∷ []
 closing at.Node [] = scalar empty_text ∷ closing_document
 closing at.Node (d ∷ due) = closing_inside (d ∷ due)
 closing at.DocumentEnd due = closing_document
-closing at.End due = []
-closing (at.Refused p) due = []
+closing _ due = []
 
 ends : Ending closing_document
 unfolding documents_events

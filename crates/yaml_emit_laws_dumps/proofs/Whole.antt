@@ -1,19 +1,9 @@
 -- A dump of a loaded document is numbered as the document is.
 use Rattle.std.proofs.Common.{◌≡◌, ◌<◌, ℕ, suc, ℤ, pos, List, [], ◌∷◌, ◌++◌, length, map, take, Result, Ok, Err, refl, sym, ap, ◌∙◌, arith, append-nil}
-use Rattle.yaml_emit_graph.specs.emit_layout.scan_model.Faults.{Fault}
+use Rattle.yaml_emit_laws_dumps.proofs.Words.{Fault, Node, Document, Loading, load, behind, Numbered, ◌>>=◌, number, number_items, DocumentContent, document_of, document_events, VisitsInPreorder, done, again, first, Met, Numbering, numbered, none_numbered, numbers, turns, graph_root, graph_content, items_by, content_by, itself, root_onward, root_joined, core_node, core_document, as_content, as_contents, as_document, AgainsAre, MeetsAgain, IsNumbered, AreAsMany, before_at, met_so, NumbersBack, NumbersAreApart, MetAgainAreNumbered, AgainsAreTurns, VisitsNumberBack, NumbersAreFound, DumpsNumberBack, DumpsLoadBack}
 use Rattle.yaml_emit_graph.specs.emit_layout.parse_model.Events.{Event}
-use Rattle.yaml_emit_graph.specs.emit_layout.parse_model.Nodes.{Node}
-use Rattle.yaml_parse_laws_trees.specs.parse_document.Documents.{Document}
-use Rattle.yaml_parse_loader.specs.Loading.{Loading, load, behind}
 use Rattle.yaml_parse_loader.specs.Loading as loading
-use Rattle.yaml_parse_loader.specs.Numbering.{Numbered, ◌>>=◌, number, number_items, DocumentContent, document_of, document_events}
-use Rattle.yaml_parse_loader.specs.Order.{VisitsInPreorder, done, again, first}
 use Rattle.yaml_emit_graph.specs.emit_layout.Content as emit
-use Rattle.yaml_emit_graph.specs.Graph.{Met, Numbering, numbered, none_numbered, numbers, turns, graph_root, graph_content}
-use Rattle.yaml_emit_graph.specs.Onward.{items_by, content_by, itself, root_onward}
-use Rattle.yaml_emit_graph.proofs.Joining.{root_joined}
-use Rattle.yaml_emit_laws_dumps.specs.Dumps.{core_node, core_document, as_content, as_contents, as_document, AgainsAre, MeetsAgain, IsNumbered, AreAsMany, before_at, met_so, NumbersBack}
-use Rattle.yaml_emit_laws_dumps.specs.DumpsLaws.{NumbersAreApart, MetAgainAreNumbered, AgainsAreTurns, VisitsNumberBack, NumbersAreFound, DumpsNumberBack, DumpsLoadBack}
 use Rattle.yaml_emit_laws_dumps.proofs.Apart.{given_most}
 use Rattle.yaml_emit_laws_dumps.proofs.Finding.{found}
 use Rattle.yaml_emit_laws_dumps.proofs.Marks.{none_yet}
@@ -72,11 +62,10 @@ root_back : (d : Document) (items : emit.Nodes) (y : Numbered (List ℤ))
     → number_items (as_contents items) 0 [] ≡ Ok y
     → document_of (as_document (graph_content d)) ≡ Ok (with_nodes d y.nodes)
 unfolding number_items
-root_back d emit.no_nodes y many same gives = absurd many
 root_back d (emit.node v emit.no_nodes) y many same gives =
     ap (λ (w : emit.Node). number (as_content w) 0 [] >>= λ r. Ok (with_nodes d r.nodes)) (root_is d.nodes v same)
     ∙ one_item d (number (as_content v) 0 []) y gives
-root_back d (emit.node v (emit.node w vs)) y many same gives = absurd many
+root_back d _ y many same gives = absurd many
 
 take_all : (ns : List Node) → take (length ns) ns ≡ ns
 take_all [] = refl

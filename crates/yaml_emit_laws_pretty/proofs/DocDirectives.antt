@@ -1,59 +1,18 @@
 -- The lines of directives are walked.
 use Rattle.std.proofs.Common.{◌≡◌, ◌⊎◌, ℕ, ◌+◌, ◌<◌, ◌||◌, nat_lt, Bool, true, false, List, [], ◌∷◌, ◌++◌, length, Option, Some, None, refl, sym, ap, subst, ◌∙◌, inl, inr, arith, ℤ, pos, codes, if◌then◌else◌, int_eq, ◌&&◌, not}
 use Rattle.std.specs.Cmp.{signed_Decides}
-use Rattle.std.proofs.lemmas.Bool.{cases_Bool, lt-ltb, and_parts, true≢false, false≢true}
-use Rattle.yaml_emit_laws_text.specs.emit_layout.scan_model.declared.yaml_encoding_t.{yaml_encoding_t}
-use Rattle.yaml_emit_laws_text.specs.scan_history.scan_model.Marks.{byte, break_width, column_at}
-use Rattle.yaml_emit_laws_text.specs.scan_history.scan_model.Classes.{is_break}
+use Rattle.yaml_emit_laws_pretty.proofs.Words.{cases_Bool, lt-ltb, and_parts, true≢false, false≢true, yaml_encoding_t, byte, break_width, column_at, is_break, HasAt, are_gap, begins_lexeme, WordText, kind_at, word_at, body_said, TokenBody, yaml_version_directive_t, TagDirective, Cursor, Settings, LineBreak, Lf, Cr, CrLf, letter, encode, char_bytes, Layout, Rest, ◌▹◌, letters, word, line, blanks, must_break, new_line, indent_to, keep, when, nothing_more, uri_text, Opening, Document, Node, alias_node, is_version, version_problem, directives_problem, version_word, version_text, directive_text, directives_text, is_directed, is_marked, dots, dashes, start_layout, Context, context_of, root_position, node_layout, end_layout, stop_layout, documents_layout, version_bodies, directives_bodies, end_bodies, VersionReads, IsReadableDirective, AreReadable, WrittenDirectivesAreReadable, ReadableDirectivesAreAscii, DirectivesAreRead, IsWritableOpening, AreWritable, Left, bytes, first, has_front, has_at, left_first, left_more, left_rest, left_letter, behind_feed, behind_return, IsGap, Comes, behind, WalkState, Done, printed_begins, marks_come, words_leave, walk_white, walk_outer, walk_starts, walk_stops, walk_says, return_width, both_width, feed_width, left_byte, none_all, at_line, behind_three, end_zero, end_begins, has_all, pretty, same_settings, begins_white, opening_bodies, node_bodies, node_kept, root_bodies, is_root_kept, documents_bodies, stream_bodies, NodeStage, NoFeed, indent, DocumentsAreRead}
 use Rattle.yaml_emit_laws_text.specs.scan_history.scan_words.Directives as directives
 use Rattle.yaml_emit_laws_text.specs.scan_history.scan_words.Directives.{Said, directive_at}
-use Rattle.yaml_emit_laws_text.specs.scan_history.scan_words.Written.{HasAt, are_gap, begins_lexeme}
 use Rattle.yaml_emit_laws_text.specs.scan_history.declared.kind.Kind.TheVariants as kinds
-use Rattle.yaml_emit_laws_text.specs.scan_history.Words.{WordText, kind_at, word_at, body_said}
 use Rattle.yaml_emit_laws_text.specs.emit_layout.scan_model.Tokens as tokens
-use Rattle.yaml_emit_laws_text.specs.emit_layout.scan_model.Tokens.{TokenBody}
-use Rattle.yaml_emit_laws_text.specs.emit_layout.scan_model.declared.yaml_version_directive_t.{yaml_version_directive_t}
-use Rattle.yaml_emit_laws_text.specs.emit_layout.parse_model.Events.{TagDirective}
-use Rattle.yaml_emit_laws_text.specs.emit_layout.emit_text.declared.Cursor.{Cursor}
-use Rattle.yaml_emit_laws_text.specs.emit_layout.emit_text.declared.Settings.{Settings}
-use Rattle.yaml_emit_laws_text.specs.emit_layout.emit_text.declared.LineBreak.{LineBreak}
-use Rattle.yaml_emit_laws_text.specs.emit_layout.emit_text.declared.LineBreak.TheVariants.{Lf, Cr, CrLf}
-use Rattle.yaml_emit_laws_text.specs.emit_layout.emit_text.Text.{letter, encode, char_bytes}
-use Rattle.yaml_emit_laws_text.specs.emit_layout.emit_text.Layout.{Layout, Rest, ◌▹◌, letters, word, line, blanks, must_break, new_line, indent_to, keep, when, nothing_more}
-use Rattle.yaml_emit_laws_text.specs.emit_layout.emit_tags.Tags.{uri_text}
-use Rattle.yaml_emit_laws_text.specs.emit_layout.Content.{Opening, Document, Node, alias_node, scalar_node, sequence_node, mapping_node}
-use Rattle.yaml_emit_laws_text.specs.emit_layout.Grammar.{is_version, version_problem, directives_problem}
-use Rattle.yaml_emit_laws_text.specs.emit_layout.Nodes.{version_word, version_text, directive_text, directives_text, is_directed, is_marked, dots, dashes, start_layout, Context, context_of, root_position, node_layout, end_layout, stop_layout, documents_layout}
-use Rattle.yaml_emit_laws_text.specs.Bodies.{version_bodies, directives_bodies, end_bodies}
-use Rattle.yaml_scan_laws_texts.specs.WordsLaws.{VersionReads}
-use Rattle.yaml_emit_laws_text.specs.TagsLaws.{IsReadableDirective, AreReadable, WrittenDirectivesAreReadable, ReadableDirectivesAreAscii, DirectivesAreRead}
-use Rattle.yaml_emit_laws_text.specs.Writable.{IsWritableOpening, AreWritable}
-use Rattle.yaml_emit_laws_text.specs.Walk.{Left, bytes, first}
-use Rattle.yaml_emit_laws_text.proofs.Places.{has_front, has_at, left_first, left_more, left_rest}
-use Rattle.yaml_emit_laws_text.proofs.Steps.{left_letter, behind_feed, behind_return}
-use Rattle.yaml_scan_laws_levels.specs.White.{IsGap}
-use Rattle.yaml_scan_laws_levels.specs.Steps.{Comes}
-use Rattle.yaml_scan_laws_levels.specs.Walks.{behind, WalkState, Done}
-use Rattle.yaml_scan_laws_levels.proofs.Signing.{printed_begins, marks_come}
-use Rattle.yaml_scan_laws_levels.proofs.Stepping.{words_leave}
-use Rattle.yaml_scan_laws_levels.proofs.Walking.{walk_white, walk_outer, walk_starts, walk_stops, walk_says}
 use Rattle.yaml_emit_laws_pretty.proofs.Lining.{no_gap, white_stands}
 use Rattle.yaml_emit_laws_pretty.proofs.DocStarts.{OnLine, at_start, AtLine, from_lined, outer_calm, root_ending, dashes_walk, dots_walk, dashes_are, RootsWalk, behind_root, from_root, root_white, root_ends, nothing_outer}
-use Rattle.yaml_emit_laws_text.proofs.TextLines.{return_width, both_width, feed_width, left_byte}
 use Rattle.yaml_emit_laws_text.proofs.Resolving.{or_first}
-use Rattle.yaml_emit_laws_text.proofs.Joining.{none_all}
 use Rattle.yaml_emit_laws_text.proofs.Directives.{percent_kind, directive_word, percent_begins, ReadsLine, version_line, said_directive, WritesLine, version_writes, tag_front, tag_writes}
-use Rattle.yaml_emit_laws_text.proofs.Forms.{at_line}
 use Rattle.yaml_emit_laws_text.specs.PrettyBodies.{start_bodies}
-use Rattle.yaml_emit_laws_text.proofs.Documents.{behind_three, end_zero, end_begins, has_all}
-use Rattle.yaml_emit_laws_text.proofs.Prettily.{pretty, same_settings}
-use Rattle.yaml_emit_laws_scalars.specs.Stops.{begins_white}
-use Rattle.yaml_emit_laws_pretty.specs.Bodies.{opening_bodies, node_bodies, node_kept, root_bodies, is_root_kept, documents_bodies, stream_bodies}
-use Rattle.yaml_emit_laws_pretty.specs.Walk.{NodeStage, NoFeed}
-use Rattle.yaml_emit_laws_text.specs.scan_history.History.{indent}
 use Rattle.yaml_emit_laws_text.specs.emit_layout.declared.level.Part.TheVariants as part
 use Rattle.yaml_emit_laws_text.specs.TextLaws.{text_of_documents, IsReadAs}
-use Rattle.yaml_emit_laws_pretty.specs.DocLaws.{DocumentsAreRead}
 
 -- ---- the break that ends a directive
 
@@ -437,9 +396,7 @@ item_bodies_same : (p : Context) (flow bare : Bool) (n : Node) (bs : List TokenB
     → node_bodies p flow part.Item bare n bs ≡ node_bodies p flow part.Item true n bs
 unfolding node_bodies
 item_bodies_same p flow bare (alias_node name) bs = refl
-item_bodies_same p flow bare (scalar_node v) bs = refl
-item_bodies_same p flow bare (sequence_node q items) bs = refl
-item_bodies_same p flow bare (mapping_node q pairs) bs = refl
+item_bodies_same p flow bare _ bs = refl
 
 says_as : (x : yaml_encoding_t) (text : List ℕ) (after : Rest) (kept : Bool)
     (T U : List TokenBody → List TokenBody) → ((bs : List TokenBody) → T bs ≡ U bs)

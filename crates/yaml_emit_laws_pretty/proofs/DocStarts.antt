@@ -1,43 +1,10 @@
 -- The start of a line outside of all levels, and what may stand there behind a root.
 use Rattle.std.proofs.Common.{◌≡◌, ◌⊎◌, ℕ, ◌==◌, ◌&&◌, ◌||◌, Bool, true, false, List, [], ◌∷◌, ◌++◌, Some, None, refl, sym, ap, subst, ◌∙◌, inl, inr, arith, if◌then◌else◌, not, Option, ◌+◌, nat_lt}
-use Rattle.std.proofs.lemmas.Bool.{false≢true, eqb-true, and_parts}
-use Rattle.yaml_emit_laws_text.specs.emit_layout.scan_model.declared.yaml_encoding_t.{yaml_encoding_t}
-use Rattle.yaml_emit_laws_text.specs.emit_layout.scan_model.Tokens.{TokenBody}
-use Rattle.yaml_emit_laws_text.specs.scan_history.scan_model.Marks.{column_at, break_of, byte, is_blank_or_end}
-use Rattle.yaml_emit_laws_text.specs.emit_layout.emit_text.declared.Cursor.{Cursor}
-use Rattle.yaml_emit_laws_text.specs.emit_layout.emit_text.declared.LineBreak.{LineBreak}
-use Rattle.yaml_emit_laws_text.specs.emit_layout.emit_text.declared.LineBreak.TheVariants.{Lf, Cr, CrLf}
-use Rattle.yaml_emit_laws_text.specs.emit_layout.emit_text.Layout.{Rest, line, blanks, must_break, new_line, indent_to, when, nothing_more, word}
-use Rattle.yaml_emit_laws_text.specs.emit_layout.emit_text.Spelling.{break_text}
-use Rattle.yaml_emit_laws_text.specs.Walk.{Left, bytes, first}
-use Rattle.yaml_emit_laws_text.proofs.Steps.{letter_low}
-use Rattle.yaml_scan_laws_levels.specs.Walks.{WalkState, WalkReads, behind}
-use Rattle.yaml_emit_laws_scalars.specs.Stops.{begins_white, begins_mark, stops_plain_at}
-use Rattle.yaml_emit_laws_scalars.specs.BlockPassing.{begins_white as begins_blank}
-use Rattle.yaml_emit_laws_pretty.specs.Walk.{NodeStage, Lined, NoFeed, no_comment}
-use Rattle.yaml_emit_laws_pretty.specs.Nodes.{Ending, NodeWalks}
+use Rattle.yaml_emit_laws_pretty.proofs.Words.{false≢true, eqb-true, and_parts, yaml_encoding_t, TokenBody, column_at, break_of, byte, is_blank_or_end, Cursor, LineBreak, Lf, Cr, CrLf, Rest, line, blanks, must_break, new_line, indent_to, when, nothing_more, word, break_text, Left, bytes, first, letter_low, WalkState, WalkReads, behind, begins_white, begins_mark, stops_plain_at, begins_blank, NodeStage, Lined, NoFeed, no_comment, Ending, NodeWalks, at_line, yaml_version_directive_t, TagDirective, Settings, encode, Opening, Document, Node, dots, dashes, context_of, root_position, node_layout, directives_text, start_layout, end_layout, stop_layout, documents_layout, IsWritable, IsWritableOpening, AreWritable, three, behind_three, Thrice, thrice_dash, thrice_dot, line_blank, pretty, Kind, allows_key, is_outside, is_end, WordText, kind_at, word_at, left_first, left_more, line_at-grows, Comes, words_leave, walk_outer}
 use Rattle.yaml_emit_laws_pretty.proofs.Lining.{line_on, no_gap}
-use Rattle.yaml_emit_laws_text.proofs.Forms.{at_line}
-use Rattle.yaml_emit_laws_text.specs.emit_layout.scan_model.declared.yaml_version_directive_t.{yaml_version_directive_t}
-use Rattle.yaml_emit_laws_text.specs.emit_layout.parse_model.Events.{TagDirective}
-use Rattle.yaml_emit_laws_text.specs.emit_layout.emit_text.declared.Settings.{Settings}
-use Rattle.yaml_emit_laws_text.specs.emit_layout.emit_text.Text.{encode}
 use Rattle.yaml_emit_laws_text.specs.emit_layout.declared.level.Part.TheVariants as part
-use Rattle.yaml_emit_laws_text.specs.emit_layout.Content.{Opening, Document, Node}
-use Rattle.yaml_emit_laws_text.specs.emit_layout.Nodes.{dots, dashes, context_of, root_position, node_layout, directives_text, start_layout, end_layout, stop_layout, documents_layout}
-use Rattle.yaml_emit_laws_text.specs.Writable.{IsWritable, IsWritableOpening, AreWritable}
-use Rattle.yaml_emit_laws_text.proofs.Documents.{three, behind_three, Thrice, thrice_dash, thrice_dot, line_blank}
-use Rattle.yaml_emit_laws_text.proofs.Prettily.{pretty}
 use Rattle.yaml_emit_laws_text.specs.emit_layout.scan_model.Tokens as tokens
-use Rattle.yaml_emit_laws_text.specs.scan_history.declared.kind.Kind.{Kind}
 use Rattle.yaml_emit_laws_text.specs.scan_history.declared.kind.Kind.TheVariants as kinds
-use Rattle.yaml_emit_laws_text.specs.scan_history.Kinds.{allows_key, is_outside, is_end}
-use Rattle.yaml_emit_laws_text.specs.scan_history.Words.{WordText, kind_at, word_at}
-use Rattle.yaml_emit_laws_text.proofs.Places.{left_first, left_more}
-use Rattle.yaml_scan_laws_levels.proofs.MarksForward.{line_at-grows}
-use Rattle.yaml_scan_laws_levels.specs.Steps.{Comes}
-use Rattle.yaml_scan_laws_levels.proofs.Stepping.{words_leave}
-use Rattle.yaml_scan_laws_levels.proofs.Walking.{walk_outer}
 
 pub at_start : (e : Cursor) (kept : Bool) → e.bare ≡ true → e.white ≡ true → e.column ≡ 0
     → e.kept ≡ kept → e ≡ at_line kept
@@ -98,12 +65,11 @@ pick false q r true v w h = inr refl
 pick false q r false v w h = absurd (false≢true h)
 
 pub mark_first : (a : ℕ) (bs : List ℕ) → begins_mark a bs ≡ true → (a ≡ 45) ⊎ (a ≡ 46)
-mark_first a [] h = absurd (false≢true h)
-mark_first a (b ∷ []) h = absurd (false≢true h)
 mark_first a (b ∷ c ∷ bs) h = elim (pick (a == 45) (b == 45) (c == 45) (a == 46) (b == 46) (c == 46) (and_parts (((a == 45 && b == 45) && c == 45) || ((a == 46 && b == 46) && c == 46)) (begins_white bs) h).0) [
   | inl e ↦ inl (eqb-true a 45 e)
   | inr e ↦ inr (eqb-true a 46 e)
 ]
+mark_first a _ h = absurd (false≢true h)
 
 pub outer_calm : (bs : List ℕ) → is_outer bs ≡ true → first bs ≡ 10 → ⊥
 outer_calm [] h e = omega (arith, e)
@@ -163,19 +129,16 @@ break_stops : (level : ℕ) (b : LineBreak) (bs : List ℕ)
     → stops_plain_at false level None (break_text b ++ bs) ≡ stops_plain_at false level (Some 0) bs
 unfolding stops_plain_at
 break_stops level Lf bs = refl
-break_stops level Cr bs = refl
-break_stops level CrLf bs = refl
+break_stops level _ bs = refl
 
 break_calm : (b : LineBreak) (bs : List ℕ) → no_comment (break_text b ++ bs) ≡ no_comment bs
 unfolding no_comment
 break_calm Lf bs = refl
-break_calm Cr bs = refl
-break_calm CrLf bs = refl
+break_calm _ bs = refl
 
 pub break_white : (b : LineBreak) (bs : List ℕ) → begins_white (break_text b ++ bs) ≡ true
 break_white Lf bs = refl
-break_white Cr bs = refl
-break_white CrLf bs = refl
+break_white _ bs = refl
 
 pub line_white : (b : LineBreak) (c : Cursor) (rest : Rest) → c.bare ≡ false
     → begins_white (bytes (line b 0 c rest)) ≡ true

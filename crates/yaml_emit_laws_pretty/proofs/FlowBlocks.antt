@@ -1,39 +1,11 @@
 -- All nodes in brackets, and collections in brackets at positions of a block.
 use Rattle.std.proofs.Common.{◌≡◌, ℕ, ◌+◌, ◌&&◌, not, nat_lt, Bool, true, false, List, [], ◌∷◌, refl, subst, ◌∙◌, arith, chars, true≢false, ◌≤◌, ◌||◌, sym, ap, inl, inr, None, Some, Option}
 use Rattle.yaml_emit_laws_text.specs.emit_layout.scan_model.Tokens as tokens
-use Rattle.yaml_emit_laws_text.specs.emit_layout.scan_model.Tokens.{TokenBody}
-use Rattle.yaml_emit_laws_text.specs.emit_layout.parse_model.Events.{TagDirective}
-use Rattle.yaml_emit_laws_text.specs.emit_layout.emit_text.declared.Settings.{Settings}
-use Rattle.yaml_emit_laws_text.specs.emit_layout.emit_text.declared.Style.{Style}
+use Rattle.yaml_emit_laws_pretty.proofs.Words.{TokenBody, TagDirective, Settings, Style, letter, Layout, Rest, ◌▹◌, when, char, opener, letters, word, line, scalar_text, deep_bytes, Part, Scalar, Start, Opening, Node, alias_node, scalar_node, sequence_node, mapping_node, Nodes, no_nodes, node, Pairs, no_pairs, pair, has, start_tag, scalar_tag, Context, position, checked, MOST, is_simple, is_simple_part, is_plain, key_part, style_of, page_at, node_layout, alias_layout, scalar_layout, items_layout, pairs_layout, context_of, deeper, indented, indent_of, are_none, are_no_pairs, properties_text, Left, bytes, IsWritable, AreItemsWritable, ArePairsWritable, IsWritableOpening, IsWritableAnchor, IsWritableTag, StylesAreAllowed, place, style_at, scalar_kept, node_bodies, items_bodies, pairs_bodies, node_kept, items_kept, pairs_kept, is_flow_at, keeps, sequence_opens, sequence_closes, mapping_opens, mapping_closes, IsPretty, NodeWalks, PropertiesAreWalked, block_position, is_bracketed, KeysAreWalkedIn, BracketsFollow, pretty_of, pretty, false≢true, yaml_encoding_t, column_at, indent, Cursor, anchor_bodies, tag_bodies, WalkState, Outside, begins_white, margin_round, NodeStage, GoesBehindNode}
 use Rattle.yaml_emit_laws_text.specs.emit_layout.emit_text.declared.Style.TheVariants as style
-use Rattle.yaml_emit_laws_text.specs.emit_layout.emit_text.Text.{letter}
-use Rattle.yaml_emit_laws_text.specs.emit_layout.emit_text.Layout.{Layout, Rest, ◌▹◌, when, char, opener, letters, word, line}
-use Rattle.yaml_emit_laws_text.specs.emit_layout.emit_text.Scalars.{scalar_text}
-use Rattle.yaml_emit_laws_text.proofs.Steps.{deep_bytes}
-use Rattle.yaml_emit_laws_text.specs.emit_layout.declared.level.Part.{Part}
 use Rattle.yaml_emit_laws_text.specs.emit_layout.declared.level.Part.TheVariants as part
-use Rattle.yaml_emit_laws_text.specs.emit_layout.Content.{Scalar, Start, Opening, Node, alias_node, scalar_node, sequence_node, mapping_node, Nodes, no_nodes, node, Pairs, no_pairs, pair}
-use Rattle.yaml_emit_laws_text.specs.emit_layout.Grammar.{has, start_tag, scalar_tag}
-use Rattle.yaml_emit_laws_text.specs.emit_layout.Nodes.{Context, position, checked, MOST, is_simple, is_simple_part, is_plain, key_part, style_of, page_at, node_layout, alias_layout, scalar_layout, items_layout, pairs_layout, context_of, deeper, indented, indent_of, are_none, are_no_pairs, properties_text}
-use Rattle.yaml_emit_laws_text.specs.Walk.{Left, bytes}
-use Rattle.yaml_emit_laws_text.specs.Writable.{IsWritable, AreItemsWritable, ArePairsWritable, IsWritableOpening, IsWritableAnchor, IsWritableTag}
-use Rattle.yaml_emit_laws_scalars.specs.StylesLaws.{StylesAreAllowed}
-use Rattle.yaml_emit_laws_pretty.specs.Bodies.{place, style_at, scalar_kept, node_bodies, items_bodies, pairs_bodies, node_kept, items_kept, pairs_kept, is_flow_at, keeps, sequence_opens, sequence_closes, mapping_opens, mapping_closes}
-use Rattle.yaml_emit_laws_pretty.specs.Nodes.{IsPretty, NodeWalks, PropertiesAreWalked, block_position, is_bracketed}
-use Rattle.yaml_emit_laws_pretty.specs.Flows.{KeysAreWalkedIn, BracketsFollow}
 use Rattle.yaml_emit_laws_pretty.proofs.FlowItems.{WordLaws, properties_in, kept_good, scalar_in, alias_in, NodeIn, BodyIn, KeyIn, FirstItems, MoreItems, FirstPairs, MorePairs, items_none, items_closed, items_first, items_more, pairs_none, pairs_closed, pairs_first, pairs_more, bracket_in, opened_in}
 use Rattle.yaml_emit_laws_pretty.proofs.FlowSigns.{prettily, Spaced, gap_spaced, checked_spaced, properties_spaced, mark_spaced, text_spaced, space_parts, opening_of, opens}
-use Rattle.yaml_emit_laws_text.proofs.Prettily.{pretty as pretty_of, pretty}
-use Rattle.std.proofs.lemmas.Bool.{false≢true}
-use Rattle.yaml_emit_laws_text.specs.emit_layout.scan_model.declared.yaml_encoding_t.{yaml_encoding_t}
-use Rattle.yaml_emit_laws_text.specs.scan_history.scan_model.Marks.{column_at}
-use Rattle.yaml_emit_laws_text.specs.scan_history.History.{indent}
-use Rattle.yaml_emit_laws_text.specs.emit_layout.emit_text.declared.Cursor.{Cursor}
-use Rattle.yaml_emit_laws_text.specs.Bodies.{anchor_bodies, tag_bodies}
-use Rattle.yaml_scan_laws_levels.specs.Walks.{WalkState, Outside}
-use Rattle.yaml_emit_laws_scalars.specs.Stops.{begins_white}
-use Rattle.yaml_emit_laws_scalars.specs.BlockLaws.{margin_round}
-use Rattle.yaml_emit_laws_pretty.specs.Walk.{NodeStage, GoesBehindNode}
 use Rattle.yaml_emit_laws_pretty.proofs.Lining.{line_ends}
 use Rattle.yaml_emit_laws_pretty.proofs.SpokenWords.{bare_off}
 
@@ -330,8 +302,6 @@ node_brackets : WordLaws → KeysAreWalkedIn → PropertiesAreWalked → (s : Se
     → (around : Option ℕ) (q : Part) (bare : Bool)
     → NodeWalks (prettily s d.directives) around q bare y
 unfolding node_kept
-node_brackets laws keys law s d is (alias_node name) good flow around q bare = absurd (false≢true flow)
-node_brackets laws keys law s d is (scalar_node v) good flow around q bare = absurd (false≢true flow)
 node_brackets laws keys law s d is (sequence_node o items) (anchor, tag, all) flow around q bare =
     let p = prettily s d.directives in
     let m = deeper (pretty s) around in
@@ -348,6 +318,7 @@ node_brackets laws keys law s d is (mapping_node o pairs) (anchor, tag, all) flo
     bracketed law s d is around q bare (mapping_node o pairs) o.anchor (start_tag false o) anchor (kept_good (not o.implicit) o.tag tag) true (checked m ▹ pairs_layout p true m true pairs) (λ bs. pairs_bodies p true true pairs (tokens.flow_mapping_end ∷ bs))
     (λ ls rest level. body_checked m (pairs_layout p true m true pairs) (λ bs. pairs_bodies p true true pairs (tokens.flow_mapping_end ∷ bs)) ls rest (first_pairs_in laws keys s d is pairs all m ls (omega (arith, level, up)) rest))
     (mapping_laid s d.directives around q o pairs flow) (mapping_told p q bare o pairs flow) (λ kept. (sym (ap (λ (b : Bool). pairs_kept (prettily s d.directives) b pairs kept) flow ∙ pairs_keep laws.styles s d.directives pairs kept)))
+node_brackets laws keys law s d is _ good flow around q bare = absurd (false≢true flow)
 
 pretty_context : (s : Settings) (ds : List TagDirective) → s.canonical ≡ false
     → prettily s ds ≡ context_of s ds

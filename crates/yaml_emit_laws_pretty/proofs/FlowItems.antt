@@ -1,50 +1,12 @@
 -- Collections in brackets: items, pairs, and what opens and closes them.
 use Rattle.std.proofs.Common.{◌≡◌, ℕ, ◌+◌, ◌≤◌, not, nat_lt, Bool, true, false, List, [], ◌∷◌, refl, sym, ap, subst, ◌∙◌, inl, inr, arith, ◌<◌, ◌&&◌, ◌||◌, length, None, Some, IsUtf8, Option, true≢false}
-use Rattle.std.specs.Str.{chars}
-use Rattle.std.proofs.lemmas.Bool.{cases_Bool}
-use Rattle.std.proofs.lemmas.Bool.Decides.{nat_tests}
-use Rattle.yaml_emit_laws_text.specs.emit_layout.scan_model.declared.yaml_encoding_t.{yaml_encoding_t}
+use Rattle.yaml_emit_laws_pretty.proofs.Words.{chars, cases_Bool, nat_tests, yaml_encoding_t, TokenBody, TagDirective, column_at, indent, Cursor, Settings, letter, Layout, Rest, ◌▹◌, when, char, letters, word, opener, wrap, Part, Node, Nodes, no_nodes, node, Pairs, no_pairs, pair, Scalar, Opening, alias_node, scalar_node, position, is_simple_part, is_simple, key_part, turned, before_item, before_key, before_value, closer, node_layout, items_layout, pairs_layout, Context, checked, MOST, is_plain, style_of, tag_text, anchor_text, properties_text, page_at, alias_layout, scalar_layout, Left, bytes, first, left_letter, deep_bytes, IsRight, WalkState, WalkReads, Outside, node_bodies, items_bodies, pairs_bodies, style_named, IsClear, GoesIn, WalksIn, FollowsIn, KeyWalksIn, lettered_on, AnchorReads, Style, double_quoted, plain, single_quoted, scalar_text, allowed, tag_spelling, split_tag, has, kept_if, scalar_tag, anchor_bodies, tag_bodies, tag_body, mark_bodies, QuotedIsReadBack, SplitTagsAreRead, WrittenTagsAreReadable, ReadableTagsAreAscii, LoneMarkReads, IsWritableAnchor, IsWritableTag, IsWritableName, IsWritableOpening, PlainIsReadBack, may_be_plain, SingleLinesAreReadBack, PlainHasGap, ScalarsAreWords, StylesAreAllowed, ends_name}
 use Rattle.yaml_emit_laws_text.specs.emit_layout.scan_model.Tokens as tokens
-use Rattle.yaml_emit_laws_text.specs.emit_layout.scan_model.Tokens.{TokenBody}
-use Rattle.yaml_emit_laws_text.specs.emit_layout.parse_model.Events.{TagDirective}
-use Rattle.yaml_emit_laws_text.specs.scan_history.scan_model.Marks.{column_at}
-use Rattle.yaml_emit_laws_text.specs.scan_history.History.{indent}
-use Rattle.yaml_emit_laws_text.specs.emit_layout.emit_text.declared.Cursor.{Cursor}
-use Rattle.yaml_emit_laws_text.specs.emit_layout.emit_text.declared.Settings.{Settings}
-use Rattle.yaml_emit_laws_text.specs.emit_layout.emit_text.Text.{letter}
-use Rattle.yaml_emit_laws_text.specs.emit_layout.emit_text.Layout.{Layout, Rest, ◌▹◌, when, char, letters, word, opener, wrap}
-use Rattle.yaml_emit_laws_text.specs.emit_layout.declared.level.Part.{Part}
 use Rattle.yaml_emit_laws_text.specs.emit_layout.declared.level.Part.TheVariants as part
-use Rattle.yaml_emit_laws_text.specs.emit_layout.Content.{Node, Nodes, no_nodes, node, Pairs, no_pairs, pair, Scalar, Opening, alias_node, scalar_node}
-use Rattle.yaml_emit_laws_text.specs.emit_layout.Nodes.{position, is_simple_part, is_simple, key_part, turned, before_item, before_key, before_value, closer, node_layout, items_layout, pairs_layout, Context, checked, MOST, is_plain, style_of, tag_text, anchor_text, properties_text, page_at, alias_layout, scalar_layout}
-use Rattle.yaml_emit_laws_text.specs.Walk.{Left, bytes, first}
-use Rattle.yaml_emit_laws_text.proofs.Steps.{left_letter, deep_bytes}
-use Rattle.yaml_scan_laws_levels.specs.Pushes.{IsRight}
-use Rattle.yaml_scan_laws_levels.specs.Walks.{WalkState, WalkReads, Outside}
-use Rattle.yaml_emit_laws_pretty.specs.Bodies.{node_bodies, items_bodies, pairs_bodies, style_named}
-use Rattle.yaml_emit_laws_pretty.specs.Flows.{IsClear, GoesIn, WalksIn, FollowsIn, KeyWalksIn}
 use Rattle.yaml_emit_laws_pretty.proofs.FlowSteps.{Space, space_on, clear_same, word_walks, both}
 use Rattle.yaml_emit_laws_pretty.proofs.FlowSigns.{wrap_in, behind_gap, gap_left, gap_kept, comma_on, opener_on, closer_on, question_on, answer_on, opening_of, opens, prettily, Spaced, space_parts, items_follow_in, pairs_follow_in, answer_follows, gap_spaced, text_spaced, checked_spaced, mark_spaced}
 use Rattle.yaml_emit_laws_pretty.proofs.KeySteps.{deeper_out}
-use Rattle.yaml_emit_laws_text.proofs.Words.{lettered_on}
-use Rattle.yaml_emit_laws_text.specs.scan_history.scan_words.Laws.{AnchorReads}
-use Rattle.yaml_emit_laws_text.specs.emit_layout.emit_text.declared.Style.{Style}
 use Rattle.yaml_emit_laws_text.specs.emit_layout.emit_text.declared.Style.TheVariants as style
-use Rattle.yaml_emit_laws_text.specs.emit_layout.emit_text.Quoted.{double_quoted}
-use Rattle.yaml_emit_laws_text.specs.emit_layout.emit_text.Scalars.{plain, single_quoted, scalar_text}
-use Rattle.yaml_emit_laws_text.specs.emit_layout.emit_text.Style.{allowed}
-use Rattle.yaml_emit_laws_text.specs.emit_layout.emit_tags.Tags.{tag_spelling, split_tag}
-use Rattle.yaml_emit_laws_text.specs.emit_layout.Grammar.{has, kept_if, scalar_tag}
-use Rattle.yaml_emit_laws_text.specs.Bodies.{anchor_bodies, tag_bodies, tag_body, mark_bodies}
-use Rattle.yaml_emit_laws_text.specs.QuotedLaws.{QuotedIsReadBack}
-use Rattle.yaml_emit_laws_text.specs.TagsLaws.{SplitTagsAreRead, WrittenTagsAreReadable, ReadableTagsAreAscii}
-use Rattle.yaml_scan_laws_texts.specs.WordsLaws.{LoneMarkReads}
-use Rattle.yaml_emit_laws_text.specs.Writable.{IsWritableAnchor, IsWritableTag, IsWritableName, IsWritableOpening}
-use Rattle.yaml_emit_laws_scalars.specs.PlainLaws.{PlainIsReadBack, may_be_plain}
-use Rattle.yaml_emit_laws_scalars.specs.SingleLaws.{SingleLinesAreReadBack}
-use Rattle.yaml_emit_laws_scalars.specs.StandsLaws.{PlainHasGap, ScalarsAreWords}
-use Rattle.yaml_emit_laws_scalars.specs.StylesLaws.{StylesAreAllowed}
-use Rattle.yaml_emit_laws_pretty.specs.Spoken.{ends_name}
 use Rattle.yaml_emit_laws_pretty.proofs.SpokenWords.{anchor_word, alias_word, tag_word, mark_word, double_word, single_word, plain_word}
 use Rattle.yaml_emit_laws_pretty.proofs.SpokenLayouts.{anchor_says, alias_says, tag_says, mark_says, double_says, single_says, plain_says}
 

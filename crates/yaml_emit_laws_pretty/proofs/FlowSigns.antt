@@ -1,51 +1,11 @@
 -- What follows nodes in brackets, and what they begin with.
 use Rattle.std.proofs.Common.{◌≡◌, ℕ, ◌+◌, ◌==◌, ◌||◌, nat_lt, Bool, true, false, List, [], ◌∷◌, ◌++◌, refl, sym, ap, subst, ◌∙◌, inl, inr, arith, replicate, None, Some, if◌then◌else◌, Option, ◌-◌, ◌&&◌, not, length, zero, suc, append_assoc}
-use Rattle.std.proofs.lemmas.Bool.{cases_Bool, or_left, or_right, false≢true}
-use Rattle.std.proofs.lemmas.Bool.Decides.{nat_tests}
-use Rattle.yaml_emit_laws_text.specs.scan_history.scan_scalars.Plain.{is_bracket}
-use Rattle.yaml_emit_laws_text.specs.emit_layout.emit_text.declared.Cursor.{Cursor}
-use Rattle.yaml_emit_laws_text.specs.emit_layout.emit_text.declared.LineBreak.{LineBreak}
-use Rattle.yaml_emit_laws_text.specs.emit_layout.emit_text.declared.Settings.{Settings}
-use Rattle.yaml_emit_laws_text.specs.emit_layout.emit_text.declared.Page.{Page}
-use Rattle.yaml_emit_laws_text.specs.emit_layout.emit_text.declared.Style.{Style}
+use Rattle.yaml_emit_laws_pretty.proofs.Words.{cases_Bool, or_left, or_right, false≢true, nat_tests, is_bracket, Cursor, LineBreak, Settings, Page, Style, Layout, Rest, ◌▹◌, when, gap, blank, char, letters, word, line, wrap, is_past, new_line, after_text, after_block, break_text, scalar_text, flow_body, block_body, digit_mark, chomp_mark, chomp, quoted_body, tag_spelling, TagDirective, Nodes, no_nodes, node, Pairs, no_pairs, pair, Context, checked, MOST, properties_text, items_layout, pairs_layout, before_item, before_key, closer, bytes, first, Left, letter_low, deep_bytes, left_letter, stops_plain_at, begins_white, behind_lines, what_stops, blanks_white, no_comment, ends_name, FollowsIn, IsClear, PartedBehind, lettered_on, after_blanks, line_start, pretty, yaml_encoding_t, TokenBody, column_at, indent, are_gap, has_break, Lf, has_at, has_front, left_rest, IsRight, sign, WalkState, WalkReads, Outside, behind, signs_come, words_leave, walk_white, walk_word, walk_asks, walk_answers, deeper_leaves, blanks_kept}
 use Rattle.yaml_emit_laws_text.specs.emit_layout.emit_text.declared.Style.TheVariants as style
-use Rattle.yaml_emit_laws_text.specs.emit_layout.emit_text.Layout.{Layout, Rest, ◌▹◌, when, gap, blank, char, letters, word, line, wrap, is_past, new_line, after_text, after_block}
-use Rattle.yaml_emit_laws_text.specs.emit_layout.emit_text.Spelling.{break_text}
-use Rattle.yaml_emit_laws_text.specs.emit_layout.emit_text.Scalars.{scalar_text, flow_body, block_body, digit_mark, chomp_mark, chomp}
-use Rattle.yaml_emit_laws_text.specs.emit_layout.emit_text.Quoted.{quoted_body}
-use Rattle.yaml_emit_laws_text.specs.emit_layout.emit_tags.Tags.{tag_spelling}
-use Rattle.yaml_emit_laws_text.specs.emit_layout.parse_model.Events.{TagDirective}
-use Rattle.yaml_emit_laws_text.specs.emit_layout.Content.{Nodes, no_nodes, node, Pairs, no_pairs, pair}
-use Rattle.yaml_emit_laws_text.specs.emit_layout.Nodes.{Context, checked, MOST, properties_text, items_layout, pairs_layout, before_item, before_key, closer}
-use Rattle.yaml_emit_laws_text.specs.Walk.{bytes, first, Left}
-use Rattle.yaml_emit_laws_text.proofs.Steps.{letter_low, deep_bytes, left_letter}
-use Rattle.yaml_emit_laws_scalars.specs.Stops.{stops_plain_at, begins_white}
-use Rattle.yaml_emit_laws_scalars.proofs.Stopping.{behind_lines, what_stops, blanks_white}
-use Rattle.yaml_emit_laws_pretty.specs.Walk.{no_comment}
-use Rattle.yaml_emit_laws_pretty.specs.Spoken.{ends_name}
-use Rattle.yaml_emit_laws_pretty.specs.Flows.{FollowsIn, IsClear}
-use Rattle.yaml_emit_laws_pretty.specs.Nodes.{PartedBehind}
 use Rattle.yaml_emit_laws_pretty.proofs.Following.{line_bytes, line_calm}
-use Rattle.yaml_emit_laws_text.proofs.Words.{lettered_on}
-use Rattle.yaml_emit_laws_text.proofs.Single.{after_blanks, line_start}
-use Rattle.yaml_emit_laws_text.proofs.Prettily.{pretty}
 use Rattle.yaml_emit_laws_pretty.proofs.DocStarts.{break_white}
-use Rattle.yaml_emit_laws_text.specs.emit_layout.scan_model.declared.yaml_encoding_t.{yaml_encoding_t}
 use Rattle.yaml_emit_laws_text.specs.emit_layout.scan_model.Tokens as tokens
-use Rattle.yaml_emit_laws_text.specs.emit_layout.scan_model.Tokens.{TokenBody}
-use Rattle.yaml_emit_laws_text.specs.scan_history.scan_model.Marks.{column_at}
-use Rattle.yaml_emit_laws_text.specs.scan_history.History.{indent}
 use Rattle.yaml_emit_laws_text.specs.scan_history.declared.kind.Kind.TheVariants as kinds
-use Rattle.yaml_emit_laws_text.specs.scan_history.scan_words.Written.{are_gap, has_break}
-use Rattle.yaml_emit_laws_text.specs.emit_layout.emit_text.declared.LineBreak.TheVariants.{Lf, Cr, CrLf}
-use Rattle.yaml_emit_laws_text.proofs.Places.{has_at, has_front, left_rest}
-use Rattle.yaml_scan_laws_levels.specs.Pushes.{IsRight}
-use Rattle.yaml_scan_laws_levels.specs.Signs.{sign}
-use Rattle.yaml_scan_laws_levels.specs.Walks.{WalkState, WalkReads, Outside, behind}
-use Rattle.yaml_scan_laws_levels.proofs.Signing.{signs_come}
-use Rattle.yaml_scan_laws_levels.proofs.Stepping.{words_leave}
-use Rattle.yaml_scan_laws_levels.proofs.Walking.{walk_white, walk_word, walk_asks, walk_answers, deeper_leaves}
-use Rattle.yaml_emit_laws_scalars.proofs.Lines.{blanks_kept}
 use Rattle.yaml_emit_laws_pretty.proofs.Lining.{sign_next, white_stands}
 use Rattle.yaml_emit_laws_pretty.proofs.FlowSteps.{leave_clear}
 
@@ -235,8 +195,7 @@ spaces_gap (suc n) = spaces_gap n
 
 break_gap : (b : LineBreak) (n : ℕ) → are_gap (break_text b ++ replicate n 32) ≡ true
 break_gap Lf n = spaces_gap n
-break_gap Cr n = spaces_gap n
-break_gap CrLf n = spaces_gap n
+break_gap _ n = spaces_gap n
 
 line_in : (b : LineBreak) (n : ℕ) (x : yaml_encoding_t) (text : List ℕ) (c : Cursor) (rest : Rest)
     (o : WalkState) (cs ls : List ℕ) (T : List TokenBody → List TokenBody) → c.bare ≡ false

@@ -1,25 +1,7 @@
 -- White and words in brackets.
 use Rattle.std.proofs.Common.{◌≡◌, ℕ, ◌+◌, ◌≤◌, ◌==◌, ◌&&◌, ◌||◌, nat_lt, Bool, true, false, List, [], ◌∷◌, ◌++◌, length, Some, Ok, refl, sym, ap, subst, ◌∙◌, inl, inr, arith, append_assoc, if◌then◌else◌}
-use Rattle.std.proofs.lemmas.Bool.{false≢true, or_right}
-use Rattle.yaml_emit_laws_text.specs.emit_layout.scan_model.declared.yaml_encoding_t.{yaml_encoding_t}
-use Rattle.yaml_emit_laws_text.specs.emit_layout.scan_model.Tokens.{TokenBody}
-use Rattle.yaml_emit_laws_text.specs.scan_history.scan_model.Marks.{column_at}
-use Rattle.yaml_emit_laws_text.specs.scan_history.History.{indent}
-use Rattle.yaml_emit_laws_text.specs.scan_history.Kinds.{depth_after, allows_key, cancels, is_value, may_be_key}
-use Rattle.yaml_emit_laws_text.specs.scan_history.Words.{WordText, kind_at, word_at}
-use Rattle.yaml_emit_laws_text.specs.scan_history.declared.kind.Kind.{Kind}
+use Rattle.yaml_emit_laws_pretty.proofs.Words.{false≢true, or_right, yaml_encoding_t, TokenBody, column_at, indent, depth_after, allows_key, cancels, is_value, may_be_key, WordText, kind_at, word_at, Kind, Cursor, Layout, Rest, ◌▹◌, Left, bytes, has_at, left_first, left_more, left_rest, stays_level, Comes, WordLeaves, WalkState, WalkReads, LeaveClear, Outside, behind, letter_columns, walk_white, walk_word, deeper_leaves, is_text, Fits, Spoken, SaysTokens, IsClear, WalksIn}
 use Rattle.yaml_emit_laws_text.specs.scan_history.declared.kind.Kind.TheVariants as kinds
-use Rattle.yaml_emit_laws_text.specs.emit_layout.emit_text.declared.Cursor.{Cursor}
-use Rattle.yaml_emit_laws_text.specs.emit_layout.emit_text.Layout.{Layout, Rest, ◌▹◌}
-use Rattle.yaml_emit_laws_text.specs.Walk.{Left, bytes}
-use Rattle.yaml_emit_laws_text.proofs.Places.{has_at, left_first, left_more, left_rest}
-use Rattle.yaml_scan_laws_levels.specs.Pushes.{stays_level}
-use Rattle.yaml_scan_laws_levels.specs.Steps.{Comes, WordLeaves}
-use Rattle.yaml_scan_laws_levels.specs.Walks.{WalkState, WalkReads, LeaveClear, Outside, behind}
-use Rattle.yaml_scan_laws_levels.proofs.Slotting.{letter_columns}
-use Rattle.yaml_scan_laws_levels.proofs.Walking.{walk_white, walk_word, deeper_leaves}
-use Rattle.yaml_emit_laws_pretty.specs.Spoken.{is_text, Fits, Spoken, SaysTokens}
-use Rattle.yaml_emit_laws_pretty.specs.Flows.{IsClear, WalksIn}
 use Rattle.yaml_emit_laws_pretty.proofs.Lining.{no_gap}
 
 -- ---- kinds

@@ -1,22 +1,7 @@
 -- What follows a node: a line, and something that is neither white nor a comment.
 use Rattle.std.proofs.Common.{◌≡◌, ℕ, ◌+◌, ◌≤◌, ◌==◌, ◌&&◌, ◌||◌, not, nat_lt, true, false, List, [], ◌∷◌, ◌++◌, zero, suc, refl, ap, subst, ◌∙◌, arith, replicate, append_assoc, None}
-use Rattle.std.proofs.lemmas.Bool.Decides.{nat_tests}
-use Rattle.yaml_emit_laws_text.specs.emit_layout.emit_text.declared.Cursor.{Cursor}
-use Rattle.yaml_emit_laws_text.specs.emit_layout.emit_text.declared.LineBreak.{LineBreak}
-use Rattle.yaml_emit_laws_text.specs.emit_layout.emit_text.declared.LineBreak.TheVariants.{Lf, Cr, CrLf}
-use Rattle.yaml_emit_laws_text.specs.emit_layout.emit_text.Layout.{Rest, line}
-use Rattle.yaml_emit_laws_text.specs.emit_layout.emit_text.Spelling.{break_text}
-use Rattle.yaml_emit_laws_text.specs.Walk.{bytes, first}
+use Rattle.yaml_emit_laws_pretty.proofs.Words.{nat_tests, Cursor, LineBreak, Lf, Rest, line, break_text, bytes, first, front_encodes, stops_plain_at, begins_white, begins_solid, behind_lines, what_stops, break_low, blanks_bare, blanks_white, break_of, begins_blank, Follows, NoFeed, no_comment, ShowsNode, Ending, ShownEnds, blanks_column, line_is, after_blanks, line_start}
 use Rattle.yaml_emit_laws_text.proofs.Escapes.{low_encodes}
-use Rattle.yaml_emit_laws_text.proofs.Words.{front_encodes}
-use Rattle.yaml_emit_laws_scalars.specs.Stops.{stops_plain_at, begins_white, begins_solid}
-use Rattle.yaml_emit_laws_scalars.proofs.Stopping.{behind_lines, what_stops, break_low, blanks_bare, blanks_white}
-use Rattle.yaml_emit_laws_text.specs.scan_history.scan_model.Marks.{break_of}
-use Rattle.yaml_emit_laws_scalars.specs.BlockPassing.{begins_white as begins_blank}
-use Rattle.yaml_emit_laws_pretty.specs.Walk.{Follows, NoFeed, no_comment}
-use Rattle.yaml_emit_laws_pretty.specs.Nodes.{ShowsNode, Ending, ShownEnds}
-use Rattle.yaml_emit_laws_scalars.proofs.Lines.{blanks_column}
-use Rattle.yaml_emit_laws_text.proofs.Single.{line_is, after_blanks, line_start}
 use Rattle.yaml_emit_laws_pretty.proofs.DocStarts.{break_white}
 
 spaces_calm : (n : ℕ) (bs : List ℕ) → no_comment (replicate n 32 ++ bs) ≡ no_comment bs
@@ -28,8 +13,7 @@ pub line_calm : (b : LineBreak) (n : ℕ) (bs : List ℕ)
     → no_comment (break_text b ++ (replicate n 32 ++ bs)) ≡ no_comment bs
 unfolding no_comment
 line_calm Lf n bs = spaces_calm n bs
-line_calm Cr n bs = spaces_calm n bs
-line_calm CrLf n bs = spaces_calm n bs
+line_calm _ n bs = spaces_calm n bs
 
 start_column : (n : ℕ) (e : Cursor) → (after_blanks n (line_start e)).column ≡ n
 start_column n e = let z = blanks_column n (line_start e) in omega (arith, z)

@@ -1,34 +1,13 @@
 -- What a simple key writes: words, then what stands between them and its `:`. Such a key is walked, at any depth.
 use Rattle.std.proofs.Common.{◌≡◌, ◌⊎◌, ℕ, suc, ◌+◌, ◌-◌, ◌<◌, ◌≤◌, ◌&&◌, not, nat_lt, nat_le, Bool, true, false, List, [], ◌∷◌, ◌++◌, length, refl, sym, ap, subst, ◌∙◌, inl, inr, arith, append_assoc, length-append, encode_utf8_all, if◌then◌else◌, append-nil}
-use Rattle.std.proofs.lemmas.Bool.Decides.{nat_tests}
-use Rattle.yaml_emit_laws_text.specs.emit_layout.scan_model.declared.yaml_encoding_t.{yaml_encoding_t}
+use Rattle.yaml_emit_laws_pretty.proofs.Words.{nat_tests, yaml_encoding_t, TokenBody, byte, column_at, line_at, mark_at, starts, indent, is_fresh, margin_at, opened, start_of, Opens, Cursor, Layout, Rest, ◌▹◌, char, encode, Has, Left, bytes, first, has_at, has_front, left_first, left_more, left_rest, letter_low, IsRight, start_bodies, WalkState, WalkReads, ClosesAt, Outside, walk_says, letter_columns, near_before, begins_white, white_of, Spoken, spoken_bytes, all_bytes, all_bodies, AllFit, SaysTokens, Fits, has, AreCalm, low_starts}
 use Rattle.yaml_emit_laws_text.specs.emit_layout.scan_model.Tokens as tokens
-use Rattle.yaml_emit_laws_text.specs.emit_layout.scan_model.Tokens.{TokenBody}
-use Rattle.yaml_emit_laws_text.specs.scan_history.scan_model.Marks.{byte, column_at, line_at, mark_at, starts}
-use Rattle.yaml_emit_laws_text.specs.scan_history.History.{indent, is_fresh, margin_at, opened, start_of}
 use Rattle.yaml_emit_laws_text.specs.scan_history.declared.kind.Kind.TheVariants as kinds
-use Rattle.yaml_emit_laws_text.specs.scan_history.declared.lexeme.Opens.{Opens}
 use Rattle.yaml_emit_laws_text.specs.scan_history.declared.lexeme.Opens.TheVariants as opening
-use Rattle.yaml_emit_laws_text.specs.emit_layout.emit_text.declared.Cursor.{Cursor}
-use Rattle.yaml_emit_laws_text.specs.emit_layout.emit_text.Layout.{Layout, Rest, ◌▹◌, char}
-use Rattle.yaml_emit_laws_text.specs.emit_layout.emit_text.Text.{encode}
-use Rattle.yaml_emit_laws_text.specs.Walk.{Has, Left, bytes, first}
-use Rattle.yaml_emit_laws_text.proofs.Places.{has_at, has_front, left_first, left_more, left_rest}
-use Rattle.yaml_emit_laws_text.proofs.Steps.{letter_low}
-use Rattle.yaml_scan_laws_levels.specs.Pushes.{IsRight}
-use Rattle.yaml_scan_laws_levels.specs.Tokens.{start_bodies}
-use Rattle.yaml_scan_laws_levels.specs.Walks.{WalkState, WalkReads, ClosesAt, Outside}
-use Rattle.yaml_scan_laws_levels.proofs.Walking.{walk_says}
-use Rattle.yaml_scan_laws_levels.proofs.Slotting.{letter_columns, near_before}
-use Rattle.yaml_emit_laws_scalars.specs.Stops.{begins_white, white_of}
 use Rattle.yaml_emit_laws_scalars.specs.KeysLaws.{StaysNear}
 use Rattle.yaml_emit_laws_scalars.proofs.OneLine.{near_fresh}
-use Rattle.yaml_emit_laws_pretty.specs.Spoken.{Spoken, spoken_bytes, all_bytes, all_bodies, AllFit, SaysTokens, Fits}
 use Rattle.yaml_emit_laws_pretty.proofs.KeySteps.{columns_grow, Frame, KeyFit, KeyRuns, front, spot_at, key_words, key_front, key_begun, key_space, key_colon, square, curly, brackets_first, brackets_more}
-use Rattle.yaml_emit_laws_text.specs.emit_layout.Grammar.{has}
-use Rattle.yaml_emit_laws_text.proofs.Bytes.{AreCalm}
 use Rattle.yaml_emit_laws_pretty.proofs.LeafProps.{Dress, Moved, Leads, NonePlain}
-use Rattle.yaml_emit_laws_scalars.proofs.Standing.{low_starts}
 
 -- what stands between a key's words and its `:`: nothing, the space behind an alias, or a pair of brackets, by the space in front
 pub data KeyEnd : Type 0 where
@@ -44,10 +23,9 @@ end_bytes (squares b) = if b then 32 ∷ (91 ∷ 93 ∷ []) else 91 ∷ 93 ∷ [
 end_bytes (curlies b) = if b then 32 ∷ (123 ∷ 125 ∷ []) else 123 ∷ 125 ∷ []
 
 abbrev pub end_bodies : KeyEnd → List TokenBody → List TokenBody
-end_bodies at_once bs = bs
-end_bodies spaced bs = bs
 end_bodies (squares b) bs = tokens.flow_sequence_start ∷ tokens.flow_sequence_end ∷ bs
 end_bodies (curlies b) bs = tokens.flow_mapping_start ∷ tokens.flow_mapping_end ∷ bs
+end_bodies _ bs = bs
 
 -- brackets alone stand at a key's start
 abbrev pub StartsEnd : KeyEnd → Bool → Type 0
@@ -111,8 +89,6 @@ ends_first : (k : KeyEnd) (b : Bool) → StartsEnd k b
     → ClosesAt d (column_at text (o + front b)) ls more → Frame text d (o + front b) end cs ls
     → o + length (end_bytes k) ≤ end → Left text o (end_bytes k ++ tail)
     → KeyRuns x text (o + length (end_bytes k)) d (o + front b) cs ls T (λ bs. end_bodies k bs)
-ends_first at_once b none d ls tail x text o line end broken cs more T reads closes f few l = absurd none
-ends_first spaced b none d ls tail x text o line end broken cs more T reads closes f few l = absurd none
 ends_first (squares s) b same d ls tail x text o line end broken cs more T reads closes f few l = by s (sym same) few l
   where
     by : (s : Bool) → b ≡ s → o + length (end_bytes (squares s)) ≤ end
@@ -141,6 +117,7 @@ ends_first (curlies s) b same d ls tail x text o line end broken cs more T reads
         (subst (λ i. ClosesAt d (column_at text i) ls more) same closes) (subst (λ i. Frame text d i end cs ls) same f) (omega (arith, few, two)) g.left in
         subst (λ i. KeyRuns x text (o + length (end_bytes (curlies s))) d i cs ls T (λ bs. tokens.flow_mapping_start ∷ tokens.flow_mapping_end ∷ bs)) (sym same)
         (subst (λ i. KeyRuns x text i d (o + front s) cs ls T (λ bs. tokens.flow_mapping_start ∷ tokens.flow_mapping_end ∷ bs)) two r)
+ends_first _ b none d ls tail x text o line end broken cs more T reads closes f few l = absurd none
 
 -- ---- all words of a key
 

@@ -1,57 +1,21 @@
 -- Simple keys of every kind: scalars in the three styles that a key can have, aliases, and empty collections, with their properties.
 use Rattle.std.proofs.Common.{◌≡◌, ◌⊎◌, ℕ, ◌+◌, ◌-◌, ◌<◌, ◌≤◌, ◌==◌, ◌&&◌, ◌||◌, not, nat_lt, Bool, true, false, List, [], ◌∷◌, ◌++◌, length, Some, None, refl, sym, ap, subst, ◌∙◌, inl, inr, arith, encode_utf8_all, IsUtf8, if◌then◌else◌, chars}
-use Rattle.std.proofs.lemmas.Bool.{cases_Bool, false≢true}
-use Rattle.std.proofs.lemmas.Str.{encode_ascii}
-use Rattle.std.proofs.Math.Bool.{and-false}
+use Rattle.yaml_emit_laws_pretty.proofs.Words.{cases_Bool, false≢true, encode_ascii, and-false, TokenBody, starts, kind_at, Cursor, Settings, Style, Layout, Rest, ◌▹◌, when, char, word, blank, opener, line, letter, scalar_text, allowed, taken, plain_fits, single_or, Part, Opening, Scalar, Start, Node, alias_node, scalar_node, sequence_node, mapping_node, Nodes, no_nodes, node, Pairs, no_pairs, pair, has, scalar_tag, start_tag, Context, context_of, position, style_of, is_plain, is_flow, is_simple, is_simple_start, anchor_text, tag_text, properties_text, page_at, deeper, checked, MOST, indented, indent_of, scalar_layout, alias_layout, closer, node_layout, items_layout, pairs_layout, anchor_bodies, tag_bodies, mark_bodies, Left, bytes, first, IsWritable, IsWritableAnchor, IsWritableTag, quoted_is_back, letter_low, deep_bytes, anchor_is_read, begins_white, may_be_plain, SingleLinesAreReadBack, PlainHasGap, ScalarsAreWords, StylesAreAllowed, plain_back, what_stops, IsGap, signs_come, printed_begins, place, style_at, is_empty, is_nothing, style_named, takes_mark, value_bodies, scalar_bodies, node_bodies, sequence_opens, sequence_closes, mapping_opens, mapping_closes, items_bodies, pairs_bodies, keeps, IsPretty, Spoken, Fits, all_bytes, kept_writable, low_starts}
 use Rattle.yaml_emit_laws_text.specs.emit_layout.scan_model.Tokens as tokens
-use Rattle.yaml_emit_laws_text.specs.emit_layout.scan_model.Tokens.{TokenBody}
 use Rattle.yaml_emit_laws_text.specs.emit_layout.scan_model.declared.yaml_scalar_style_t.{yaml_scalar_style_t}
 use Rattle.yaml_emit_laws_text.specs.emit_layout.scan_model.declared.yaml_scalar_style_t.TheVariants as asked
-use Rattle.yaml_emit_laws_text.specs.scan_history.scan_model.Marks.{starts}
 use Rattle.yaml_emit_laws_text.specs.scan_history.declared.kind.Kind.TheVariants as kinds
-use Rattle.yaml_emit_laws_text.specs.scan_history.Words.{kind_at}
 use Rattle.yaml_emit_laws_text.specs.emit_layout.emit_text.declared.Allowed.{Allowed}
-use Rattle.yaml_emit_laws_text.specs.emit_layout.emit_text.declared.Cursor.{Cursor}
-use Rattle.yaml_emit_laws_text.specs.emit_layout.emit_text.declared.Settings.{Settings}
-use Rattle.yaml_emit_laws_text.specs.emit_layout.emit_text.declared.Style.{Style}
 use Rattle.yaml_emit_laws_text.specs.emit_layout.emit_text.declared.Style.TheVariants as style
-use Rattle.yaml_emit_laws_text.specs.emit_layout.emit_text.Layout.{Layout, Rest, ◌▹◌, when, char, word, blank, opener, line}
-use Rattle.yaml_emit_laws_text.specs.emit_layout.emit_text.Text.{letter}
-use Rattle.yaml_emit_laws_text.specs.emit_layout.emit_text.Scalars.{scalar_text}
-use Rattle.yaml_emit_laws_text.specs.emit_layout.emit_text.Style.{allowed, taken, plain_fits, single_or}
 use Rattle.yaml_emit_laws_text.specs.emit_layout.declared.level.NodePosition.{NodePosition}
-use Rattle.yaml_emit_laws_text.specs.emit_layout.declared.level.Part.{Part}
 use Rattle.yaml_emit_laws_text.specs.emit_layout.declared.level.Part.TheVariants as part
-use Rattle.yaml_emit_laws_text.specs.emit_layout.Content.{Opening, Scalar, Start, Node, alias_node, scalar_node, sequence_node, mapping_node, Nodes, no_nodes, node, Pairs, no_pairs, pair}
-use Rattle.yaml_emit_laws_text.specs.emit_layout.Grammar.{has, scalar_tag, start_tag}
-use Rattle.yaml_emit_laws_text.specs.emit_layout.Nodes.{Context, context_of, position, style_of, is_plain, is_flow, is_simple, is_simple_start, anchor_text, tag_text, properties_text, page_at, deeper, checked, MOST, indented, indent_of, scalar_layout, alias_layout, closer, node_layout, items_layout, pairs_layout}
-use Rattle.yaml_emit_laws_text.specs.Bodies.{anchor_bodies, tag_bodies, mark_bodies}
-use Rattle.yaml_emit_laws_text.specs.Walk.{Left, bytes, first}
-use Rattle.yaml_emit_laws_text.specs.Writable.{IsWritable, IsWritableAnchor, IsWritableTag}
-use Rattle.yaml_emit_laws_text.proofs.QuotedWhole.{quoted_is_back}
-use Rattle.yaml_emit_laws_text.proofs.Steps.{letter_low, deep_bytes}
-use Rattle.yaml_scan_laws_texts.proofs.NamesRead.{anchor_is_read}
-use Rattle.yaml_emit_laws_scalars.specs.Stops.{begins_white}
-use Rattle.yaml_emit_laws_scalars.specs.PlainLaws.{may_be_plain}
-use Rattle.yaml_emit_laws_scalars.specs.SingleLaws.{SingleLinesAreReadBack}
-use Rattle.yaml_emit_laws_scalars.specs.StandsLaws.{PlainHasGap, ScalarsAreWords}
-use Rattle.yaml_emit_laws_scalars.specs.StylesLaws.{StylesAreAllowed}
-use Rattle.yaml_emit_laws_scalars.proofs.PlainStart.{plain_back}
-use Rattle.yaml_emit_laws_scalars.proofs.Stopping.{what_stops}
-use Rattle.yaml_scan_laws_levels.specs.White.{IsGap}
-use Rattle.yaml_scan_laws_levels.proofs.Signing.{signs_come, printed_begins}
-use Rattle.yaml_emit_laws_pretty.specs.Bodies.{place, style_at, is_empty, is_nothing, style_named, takes_mark, value_bodies, scalar_bodies, node_bodies, sequence_opens, sequence_closes, mapping_opens, mapping_closes, items_bodies, pairs_bodies, keeps}
-use Rattle.yaml_emit_laws_pretty.specs.Nodes.{IsPretty}
-use Rattle.yaml_emit_laws_pretty.specs.Spoken.{Spoken, Fits, all_bytes}
 use Rattle.yaml_emit_laws_pretty.proofs.Lining.{no_gap}
 use Rattle.yaml_emit_laws_pretty.proofs.SpokenWords.{alias_word, double_word, single_word, plain_word}
 use Rattle.yaml_emit_laws_pretty.proofs.SpokenLayouts.{alias_says, double_says, single_says, plain_says}
 use Rattle.yaml_emit_laws_pretty.proofs.KeySteps.{letters_start}
 use Rattle.yaml_emit_laws_pretty.proofs.KeyForms.{KeyForm, KeyEnd, spaced, squares, curlies, end_bytes, end_bodies, StartsEnd, LeadsKey, plains_none, calm_starts, fits_moved, form_words, form_as, LastWord}
 use Rattle.yaml_emit_laws_pretty.proofs.LeafProps.{Dress, Moved, Leads, has_some, dress_all}
-use Rattle.yaml_emit_laws_scalars.proofs.NearKeys.{kept_writable}
 use Rattle.yaml_emit_laws_pretty.proofs.FlowSigns.{opening_of, colon_calm, behind_gap}
-use Rattle.yaml_emit_laws_scalars.proofs.Standing.{low_starts}
 
 -- ---- scalars
 
@@ -213,12 +177,11 @@ block_empty false flow s e = refl
 taken_empty : (a : Allowed) (s : yaml_scalar_style_t) (untagged flow : Bool)
     → is_plain (taken a s untagged flow true true) ≡ false
 unfolding taken
-taken_empty a asked.YAML_ANY_SCALAR_STYLE untagged flow = plain_empty a untagged flow
-taken_empty a asked.YAML_PLAIN_SCALAR_STYLE untagged flow = plain_empty a untagged flow
 taken_empty a asked.YAML_SINGLE_QUOTED_SCALAR_STYLE untagged flow = is_plain_single a
 taken_empty a asked.YAML_DOUBLE_QUOTED_SCALAR_STYLE untagged flow = refl
 taken_empty a asked.YAML_LITERAL_SCALAR_STYLE untagged flow = block_empty a.block flow style.Literal refl
 taken_empty a asked.YAML_FOLDED_SCALAR_STYLE untagged flow = block_empty a.block flow style.Folded refl
+taken_empty a _ untagged flow = plain_empty a untagged flow
 
 empty_style : (p : Context) (flow : Bool) (n : ℕ) (x : Scalar) → p.settings.canonical ≡ false
     → x.value ≡ [] → style_of p (position flow n part.SimpleKey) x ≡ style.Plain → ⊥

@@ -1,40 +1,11 @@
 -- A plain key begins with neither white nor a comment: the text that it writes is read as a plain scalar, so a lexeme begins with it.
 use Rattle.std.proofs.Common.{◌≡◌, ℕ, ◌+◌, ◌==◌, ◌&&◌, ◌||◌, not, nat_lt, Bool, true, false, List, [], ◌∷◌, ◌++◌, length, refl, subst, arith, append_assoc, if◌then◌else◌, ◌<◌, ◌≤◌, Some, sym, ap, ◌∙◌, inl, inr, length-append}
-use Rattle.std.proofs.lemmas.Bool.Decides.{nat_tests}
-use Rattle.std.proofs.lemmas.Bool.{not-true, and_parts, false≢true}
-use Rattle.yaml_emit_laws_text.specs.scan_history.scan_model.Marks.{byte, break_of, column_at, line_at}
-use Rattle.yaml_emit_laws_text.specs.scan_history.scan_words.Written.{begins_lexeme}
-use Rattle.yaml_emit_laws_text.specs.Walk.{Has, Left, bytes}
-use Rattle.yaml_emit_laws_scalars.specs.Stops.{begins_solid, is_gap_byte}
-use Rattle.yaml_emit_laws_pretty.specs.Walk.{no_comment, Lined}
-use Rattle.yaml_emit_laws_text.proofs.Steps.{length_more, letter_low}
-use Rattle.yaml_emit_laws_text.specs.emit_layout.scan_model.declared.yaml_encoding_t.{yaml_encoding_t}
+use Rattle.yaml_emit_laws_pretty.proofs.Words.{nat_tests, not-true, and_parts, false≢true, byte, break_of, column_at, line_at, begins_lexeme, Has, Left, bytes, begins_solid, is_gap_byte, no_comment, Lined, length_more, letter_low, yaml_encoding_t, TokenBody, indent, margin_at, opened, start_of, Opens, Cursor, Settings, Style, Rest, ◌▹◌, char, Opening, Scalar, Node, scalar_node, sequence_node, mapping_node, node, pair, Context, context_of, position, style_of, is_simple, node_layout, IsWritable, line_at-grows, Rises, start_bodies, WalkReads, ClosesAt, Outside, printed_begins, level_opens, keys_near, node_bodies, node_kept, items_kept, pairs_kept, scalar_kept, style_at, KeysAreWalkedIn, IsPretty, PartedBehind, SimpleKeysAreWalked, block_position, Spoken, spoken_bytes, all_bytes, AllFit}
 use Rattle.yaml_emit_laws_text.specs.emit_layout.scan_model.Tokens as tokens
-use Rattle.yaml_emit_laws_text.specs.emit_layout.scan_model.Tokens.{TokenBody}
-use Rattle.yaml_emit_laws_text.specs.scan_history.History.{indent, margin_at, opened, start_of}
-use Rattle.yaml_emit_laws_text.specs.scan_history.declared.lexeme.Opens.{Opens}
 use Rattle.yaml_emit_laws_text.specs.scan_history.declared.lexeme.Opens.TheVariants as opening
-use Rattle.yaml_emit_laws_text.specs.emit_layout.emit_text.declared.Cursor.{Cursor}
-use Rattle.yaml_emit_laws_text.specs.emit_layout.emit_text.declared.Settings.{Settings}
-use Rattle.yaml_emit_laws_text.specs.emit_layout.emit_text.declared.Style.{Style}
 use Rattle.yaml_emit_laws_text.specs.emit_layout.emit_text.declared.Style.TheVariants as style
-use Rattle.yaml_emit_laws_text.specs.emit_layout.emit_text.Layout.{Rest, ◌▹◌, char}
 use Rattle.yaml_emit_laws_text.specs.emit_layout.declared.level.Part.TheVariants as part
-use Rattle.yaml_emit_laws_text.specs.emit_layout.Content.{Opening, Scalar, Node, alias_node, scalar_node, sequence_node, mapping_node, no_nodes, node, no_pairs, pair}
-use Rattle.yaml_emit_laws_text.specs.emit_layout.Nodes.{Context, context_of, position, style_of, is_simple, node_layout}
-use Rattle.yaml_emit_laws_text.specs.Writable.{IsWritable}
-use Rattle.yaml_scan_laws_levels.proofs.MarksForward.{line_at-grows}
-use Rattle.yaml_scan_laws_levels.specs.Fronts.{Rises}
-use Rattle.yaml_scan_laws_levels.specs.Tokens.{start_bodies}
-use Rattle.yaml_scan_laws_levels.specs.Walks.{WalkReads, ClosesAt, Outside}
-use Rattle.yaml_scan_laws_levels.proofs.Signing.{printed_begins}
-use Rattle.yaml_scan_laws_levels.proofs.Slotting.{level_opens}
-use Rattle.yaml_emit_laws_scalars.proofs.NearKeys.{keys_near}
-use Rattle.yaml_emit_laws_pretty.specs.Bodies.{node_bodies, node_kept, items_kept, pairs_kept, scalar_kept, style_at}
-use Rattle.yaml_emit_laws_pretty.specs.Flows.{KeysAreWalkedIn}
 use Rattle.yaml_emit_laws_pretty.specs.KeyLaws.{Keyed}
-use Rattle.yaml_emit_laws_pretty.specs.Nodes.{IsPretty, PartedBehind, SimpleKeysAreWalked, block_position}
-use Rattle.yaml_emit_laws_pretty.specs.Spoken.{Spoken, spoken_bytes, all_bytes, AllFit}
 use Rattle.yaml_emit_laws_pretty.proofs.KeyForms.{KeyForm, KeyEnd, at_once, spaced, squares, curlies, end_bytes, LeadsKey, behind_colon, key_done}
 use Rattle.yaml_emit_laws_pretty.proofs.KeyKinds.{Scalars, key_form, some_items, some_pairs}
 use Rattle.yaml_emit_laws_pretty.proofs.KeySteps.{front, spot_at}
@@ -198,12 +169,10 @@ style_kept law p x kept _ same = refl
 key_kept : Scalars → (p : Context) (k : Node) → is_simple p k ≡ true → (kept : Bool)
     → node_kept p false part.SimpleKey k kept ≡ kept
 unfolding node_kept items_kept pairs_kept
-key_kept law p (alias_node name) simple kept = refl
 key_kept law p (scalar_node x) simple kept = style_kept law p x kept (style_at p false part.SimpleKey x) refl
-key_kept law p (sequence_node q no_nodes) simple kept = refl
 key_kept law p (sequence_node q (node x xs)) simple kept = absurd (some_items p q x xs simple)
-key_kept law p (mapping_node q no_pairs) simple kept = refl
 key_kept law p (mapping_node q (pair k v ps)) simple kept = absurd (some_pairs p q k v ps simple)
+key_kept law p _ simple kept = refl
 
 pub keys_walk : Scalars → SimpleKeysAreWalked
 keys_walk law s d good k w simple = record {

@@ -1,35 +1,10 @@
 -- Columns don't fall in a line, and rise behind text.
 use Rattle.std.proofs.Common.{◌≡◌, ℕ, ◌+◌, ◌-◌, ◌<◌, ◌≤◌, Bool, true, false, List, [], ◌∷◌, length, zero, suc, refl, sym, ap, subst, ◌∙◌, inl, inr, arith, encode_utf8, encode_utf8_all, add-zero, if◌then◌else◌, ◌==◌, ◌&&◌, ◌||◌, not, nat_lt, ◌++◌, append_assoc, length-append}
-use Rattle.std.proofs.lemmas.Bool.{cases_Bool, cases_lt, false≢true, or_right}
+use Rattle.yaml_emit_laws_pretty.proofs.Words.{cases_Bool, cases_lt, false≢true, or_right, byte, column_at, line_at, starts, ends_break, ends_of, mark_at, Has, Left, AreCalm, calm_end, line_more, has_front, has_at, left_first, left_more, left_rest, line_at-grows, high_starts, low_starts, nat_tests, yaml_encoding_t, TokenBody, indent, is_fresh, margin_at, opened, start_of, depth_after, may_be_key, cancels, is_value, allows_key, WordText, kind_at, word_at, Kind, Opens, IsRight, stays_level, Comes, WordLeaves, SignComes, sign, start_bodies, WalkState, WalkReads, ReadsKey, ClosesAt, Outside, behind, signs_come, words_leave, walk_white, walk_key_starts, walk_key_goes, walk_key_stops, walk_says, deeper_leaves, begins_white, white_of, is_text, Fits, WordStands, Spoken, spoken_bytes, all_bytes, all_bodies, AllFit}
 use Rattle.yaml_emit_laws_text.proofs.Chars.{encode_1, encode_2, encode_3, encode_4}
-use Rattle.yaml_emit_laws_text.specs.scan_history.scan_model.Marks.{byte, column_at, line_at, starts, ends_break, ends_of, mark_at}
-use Rattle.yaml_emit_laws_text.specs.Walk.{Has, Left}
-use Rattle.yaml_emit_laws_text.proofs.Bytes.{AreCalm, calm_end}
-use Rattle.yaml_emit_laws_text.proofs.MarksLemmas.{line_more}
-use Rattle.yaml_emit_laws_text.proofs.Places.{has_front, has_at, left_first, left_more, left_rest}
-use Rattle.yaml_scan_laws_levels.proofs.MarksForward.{line_at-grows}
-use Rattle.yaml_emit_laws_scalars.proofs.Standing.{high_starts, low_starts}
-use Rattle.std.proofs.lemmas.Bool.Decides.{nat_tests}
-use Rattle.yaml_emit_laws_text.specs.emit_layout.scan_model.declared.yaml_encoding_t.{yaml_encoding_t}
 use Rattle.yaml_emit_laws_text.specs.emit_layout.scan_model.Tokens as tokens
-use Rattle.yaml_emit_laws_text.specs.emit_layout.scan_model.Tokens.{TokenBody}
-use Rattle.yaml_emit_laws_text.specs.scan_history.History.{indent, is_fresh, margin_at, opened, start_of}
-use Rattle.yaml_emit_laws_text.specs.scan_history.Kinds.{depth_after, may_be_key, cancels, is_value, allows_key}
-use Rattle.yaml_emit_laws_text.specs.scan_history.Words.{WordText, kind_at, word_at}
-use Rattle.yaml_emit_laws_text.specs.scan_history.declared.kind.Kind.{Kind}
 use Rattle.yaml_emit_laws_text.specs.scan_history.declared.kind.Kind.TheVariants as kinds
-use Rattle.yaml_emit_laws_text.specs.scan_history.declared.lexeme.Opens.{Opens}
 use Rattle.yaml_emit_laws_text.specs.scan_history.declared.lexeme.Opens.TheVariants as opening
-use Rattle.yaml_scan_laws_levels.specs.Pushes.{IsRight, stays_level}
-use Rattle.yaml_scan_laws_levels.specs.Steps.{Comes, WordLeaves}
-use Rattle.yaml_scan_laws_levels.specs.Signs.{SignComes, sign}
-use Rattle.yaml_scan_laws_levels.specs.Tokens.{start_bodies}
-use Rattle.yaml_scan_laws_levels.specs.Walks.{WalkState, WalkReads, ReadsKey, ClosesAt, Outside, behind}
-use Rattle.yaml_scan_laws_levels.proofs.Signing.{signs_come}
-use Rattle.yaml_scan_laws_levels.proofs.Stepping.{words_leave}
-use Rattle.yaml_scan_laws_levels.proofs.Walking.{walk_white, walk_key_starts, walk_key_goes, walk_key_stops, walk_says, deeper_leaves}
-use Rattle.yaml_emit_laws_scalars.specs.Stops.{begins_white, white_of}
-use Rattle.yaml_emit_laws_pretty.specs.Spoken.{is_text, Fits, WordStands, Spoken, spoken_bytes, all_bytes, all_bodies, AllFit}
 use Rattle.yaml_emit_laws_pretty.proofs.Lining.{no_gap, sign_next, white_stands}
 
 column_step : (text : List ℕ) (q : ℕ) → line_at text (suc q) ≤ line_at text q

@@ -1,66 +1,20 @@
 -- A block scalar and the line behind it.
 use Rattle.std.proofs.Common.{◌≡◌, ℕ, ◌+◌, ◌-◌, ◌<◌, ◌≤◌, ◌&&◌, ◌||◌, not, nat_lt, Bool, true, false, List, [], ◌∷◌, length, suc, Option, Some, None, Result, Ok, refl, sym, ap, subst, ◌∙◌, inl, inr, arith, if◌then◌else◌, IsUtf8, chars}
-use Rattle.std.proofs.lemmas.Bool.{cases_Bool, cases_lt, false≢true, or_left}
-use Rattle.yaml_emit_laws_text.specs.emit_layout.scan_model.declared.yaml_encoding_t.{yaml_encoding_t}
+use Rattle.yaml_emit_laws_pretty.proofs.Words.{cases_Bool, cases_lt, false≢true, or_left, yaml_encoding_t, TokenBody, byte, line_at, column_at, Wrong, indent, depth_after, allows_key, is_end, is_value, WordText, kind_at, word_at, Kind, Cursor, Page, Rest, ◌▹◌, gap, blank, line, Layout, when, word, char, chomp, scalar_text, Part, Scalar, Opening, alias_node, scalar_node, Context, style_of, deeper, page_at, context_of, MOST, checked, is_plain, is_simple_part, properties_text, anchor_text, tag_text, alias_layout, scalar_layout, node_layout, Left, bytes, first, has_at, left_first, left_more, left_letter, letter_low, deep_bytes, from_indicator, keeps_all, read_style, margin_round, block_style, behind_line, BlockPassed, line_at-grows, stays_level, Comes, WordLeaves, WalkState, WalkReads, LeaveClear, behind, printed_begins, letter_columns, words_leave, walk_white, walk_word, is_keep, style_at, takes_mark, scalar_bodies, scalar_kept, node_bodies, node_kept, NodeStage, LinedUp, PlainIsWalked, SingleIsWalked, Ending, block_position, column_round, NodeWalks, IsPretty, LeavesAreWalked, BlockScalarsAreWalked, is_block, low_starts, LineBreak, Settings, Style, double_quoted, has, scalar_tag, anchor_bodies, tag_bodies, mark_bodies, QuotedIsReadBack, between_quotes, between_single, IsWritable, anchor_is_read, begins_white, PlainHasGap, StylesAreAllowed, kept_writable}
 use Rattle.yaml_emit_laws_text.specs.emit_layout.scan_model.Tokens as tokens
-use Rattle.yaml_emit_laws_text.specs.emit_layout.scan_model.Tokens.{TokenBody}
-use Rattle.yaml_emit_laws_text.specs.scan_history.scan_model.Marks.{byte, line_at, column_at}
-use Rattle.yaml_emit_laws_text.specs.scan_history.scan_model.Wrong.{Wrong}
-use Rattle.yaml_emit_laws_text.specs.scan_history.History.{indent}
-use Rattle.yaml_emit_laws_text.specs.scan_history.Kinds.{depth_after, allows_key, is_end, is_value}
-use Rattle.yaml_emit_laws_text.specs.scan_history.Words.{WordText, kind_at, word_at}
-use Rattle.yaml_emit_laws_text.specs.scan_history.declared.kind.Kind.{Kind}
 use Rattle.yaml_emit_laws_text.specs.scan_history.declared.kind.Kind.TheVariants as kinds
-use Rattle.yaml_emit_laws_text.specs.emit_layout.emit_text.declared.Cursor.{Cursor}
-use Rattle.yaml_emit_laws_text.specs.emit_layout.emit_text.declared.Page.{Page}
 use Rattle.yaml_emit_laws_text.specs.emit_layout.emit_text.declared.Chomp.{Chomp}
 use Rattle.yaml_emit_laws_text.specs.emit_layout.emit_text.declared.Chomp.TheVariants as chomping
-use Rattle.yaml_emit_laws_text.specs.emit_layout.emit_text.Layout.{Rest, ◌▹◌, gap, blank, line, Layout, when, word, char}
-use Rattle.yaml_emit_laws_text.specs.emit_layout.emit_text.Scalars.{chomp, scalar_text}
-use Rattle.yaml_emit_laws_text.specs.emit_layout.declared.level.Part.{Part}
-use Rattle.yaml_emit_laws_text.specs.emit_layout.Content.{Scalar, Opening, alias_node, scalar_node, sequence_node, mapping_node}
-use Rattle.yaml_emit_laws_text.specs.emit_layout.Nodes.{Context, style_of, deeper, page_at, context_of, MOST, checked, is_plain, is_simple_part, properties_text, anchor_text, tag_text, alias_layout, scalar_layout, node_layout}
-use Rattle.yaml_emit_laws_text.specs.Walk.{Left, bytes, first}
-use Rattle.yaml_emit_laws_text.proofs.Places.{has_at, left_first, left_more}
-use Rattle.yaml_emit_laws_text.proofs.Steps.{left_letter, letter_low, deep_bytes}
-use Rattle.yaml_emit_laws_scalars.specs.BlockLaws.{from_indicator, is_keep as keeps_all, read_style, margin_round, block_style}
-use Rattle.yaml_emit_laws_scalars.specs.BlockPassing.{behind_line, BlockPassed}
 use Rattle.yaml_emit_laws_scalars.proofs.BlockWhole.{block_back, block_at_position}
 use Rattle.yaml_emit_laws_scalars.proofs.BlockHeader.{block_is_passed}
-use Rattle.yaml_scan_laws_levels.proofs.MarksForward.{line_at-grows}
 use Rattle.yaml_scan_laws_levels.proofs.WordForward.{Fits, LandsWord, IsWordFrom, word_lands}
-use Rattle.yaml_scan_laws_levels.specs.Pushes.{stays_level}
-use Rattle.yaml_scan_laws_levels.specs.Steps.{Comes, WordLeaves}
-use Rattle.yaml_scan_laws_levels.specs.Walks.{WalkState, WalkReads, LeaveClear, behind}
-use Rattle.yaml_scan_laws_levels.proofs.Signing.{printed_begins}
-use Rattle.yaml_scan_laws_levels.proofs.Slotting.{letter_columns}
-use Rattle.yaml_scan_laws_levels.proofs.Stepping.{words_leave}
-use Rattle.yaml_scan_laws_levels.proofs.Walking.{walk_white, walk_word}
-use Rattle.yaml_emit_laws_pretty.specs.Bodies.{is_keep, style_at, takes_mark, scalar_bodies, scalar_kept, node_bodies, node_kept}
-use Rattle.yaml_emit_laws_pretty.specs.Walk.{NodeStage, LinedUp, PlainIsWalked, SingleIsWalked}
-use Rattle.yaml_emit_laws_pretty.specs.Nodes.{Ending, block_position, column_round, NodeWalks, IsPretty, LeavesAreWalked, BlockScalarsAreWalked, is_block}
 use Rattle.yaml_emit_laws_pretty.proofs.Lining.{no_gap, line_ends, up_says, word_begins_white}
 use Rattle.yaml_emit_laws_pretty.proofs.KeySteps.{columns_grow}
-use Rattle.yaml_emit_laws_scalars.proofs.Standing.{low_starts}
-use Rattle.yaml_emit_laws_text.specs.emit_layout.emit_text.declared.LineBreak.{LineBreak}
-use Rattle.yaml_emit_laws_text.specs.emit_layout.emit_text.declared.Settings.{Settings}
-use Rattle.yaml_emit_laws_text.specs.emit_layout.emit_text.declared.Style.{Style}
 use Rattle.yaml_emit_laws_text.specs.emit_layout.emit_text.declared.Style.TheVariants as style
-use Rattle.yaml_emit_laws_text.specs.emit_layout.emit_text.Quoted.{double_quoted}
-use Rattle.yaml_emit_laws_text.specs.emit_layout.Grammar.{has, scalar_tag}
-use Rattle.yaml_emit_laws_text.specs.Bodies.{anchor_bodies, tag_bodies, mark_bodies}
-use Rattle.yaml_emit_laws_text.specs.QuotedLaws.{QuotedIsReadBack}
-use Rattle.yaml_emit_laws_text.specs.ReadBack.{between_quotes, between_single}
-use Rattle.yaml_emit_laws_text.specs.Writable.{IsWritable}
-use Rattle.yaml_scan_laws_texts.proofs.NamesRead.{anchor_is_read}
-use Rattle.yaml_emit_laws_scalars.specs.Stops.{begins_white}
-use Rattle.yaml_emit_laws_scalars.specs.StandsLaws.{PlainHasGap}
-use Rattle.yaml_emit_laws_scalars.specs.StylesLaws.{StylesAreAllowed}
 use Rattle.yaml_emit_laws_pretty.proofs.Following.{line_bytes}
 use Rattle.yaml_emit_laws_pretty.proofs.SpokenWords.{plain_walks, plain_white, alias_word, double_word}
 use Rattle.yaml_emit_laws_pretty.proofs.SpokenLayouts.{alias_says, double_says}
 use Rattle.yaml_emit_laws_pretty.proofs.LeafProps.{dressed, word_walks}
-use Rattle.yaml_emit_laws_scalars.proofs.NearKeys.{kept_writable}
 use Rattle.yaml_emit_laws_pretty.proofs.FlowSigns.{white_ends, space_parts, behind_gap}
 use Rattle.yaml_emit_laws_pretty.proofs.DocStarts.{break_white}
 
@@ -182,8 +136,7 @@ word_on k is x text c d o ls T b e w m rest s right here low high hash kind word
 
 keep_same : (c : Chomp) → keeps_all c ≡ is_keep c
 keep_same chomping.Keep = refl
-keep_same chomping.Clip = refl
-keep_same chomping.Strip = refl
+keep_same _ = refl
 
 below : (p : Context) (around : Option ℕ) (m : ℕ) → m ≤ column_round around → 0 < p.settings.indent
     → m < deeper p.settings around
@@ -377,9 +330,7 @@ block_lines s o pretty around q v u style.Folded some is ls c m after level up e
     let least = pretty.least in
     let most = pretty.most in
     block_line p around q v true (omega (arith, least)) (omega (arith, most)) u (position_style p around q v ∙ is) ls c m after level up ending x text w T st right l
-block_lines s o pretty around q v u style.Plain some is ls c m after level up ending x text w T st right l = absurd (false≢true some)
-block_lines s o pretty around q v u style.Single some is ls c m after level up ending x text w T st right l = absurd (false≢true some)
-block_lines s o pretty around q v u style.Double some is ls c m after level up ending x text w T st right l = absurd (false≢true some)
+block_lines s o pretty around q v u _ some is ls c m after level up ending x text w T st right l = absurd (false≢true some)
 
 -- ---- scalars with their properties
 
@@ -472,16 +423,14 @@ style_lines : PlainIsWalked → SingleIsWalked → QuotedIsReadBack → StylesAr
 style_lines plains singles doubles styles s o pretty around q v u style.Plain is none = plain_lines plains styles s o pretty around q v u is
 style_lines plains singles doubles styles s o pretty around q v u style.Single is none = single_lines singles styles s o pretty around q v u is
 style_lines plains singles doubles styles s o pretty around q v u style.Double is none = double_lines doubles s o pretty around q v u
-style_lines plains singles doubles styles s o pretty around q v u style.Literal is none = absurd (false≢true (sym none))
-style_lines plains singles doubles styles s o pretty around q v u style.Folded is none = absurd (false≢true (sym none))
+style_lines plains singles doubles styles s o pretty around q v u _ is none = absurd (false≢true (sym none))
 
 pub leaves_on : PlainIsWalked → SingleIsWalked → QuotedIsReadBack → StylesAreAllowed → PlainHasGap
     → LeavesAreWalked
 leaves_on plains singles doubles styles gaps s o pretty (alias_node name) fine around q bare whole leaf none = alias_walks s o pretty around q bare name fine whole
 leaves_on plains singles doubles styles gaps s o pretty (scalar_node v) (anchor, tag, u) around q bare whole leaf none =
     scalar_walks gaps s o pretty around q bare v (anchor, tag, u) (style_lines plains singles doubles styles s o pretty around q v u (style_at (context_of s o.directives) false q v) refl none)
-leaves_on plains singles doubles styles gaps s o pretty (sequence_node a items) fine around q bare whole leaf none = absurd (false≢true leaf)
-leaves_on plains singles doubles styles gaps s o pretty (mapping_node a pairs) fine around q bare whole leaf none = absurd (false≢true leaf)
+leaves_on plains singles doubles styles gaps s o pretty _ fine around q bare whole leaf none = absurd (false≢true leaf)
 
 pub blocks_on : PlainHasGap → BlockScalarsAreWalked
 blocks_on gaps s o pretty v (anchor, tag, u) around q bare whole some =

@@ -1,49 +1,12 @@
 -- Words as content, one behind the other: at any depth.
 use Rattle.std.proofs.Common.{◌≡◌, ℕ, ◌+◌, ◌≤◌, ◌&&◌, ◌||◌, nat_lt, Bool, true, false, List, [], ◌∷◌, ◌++◌, length, suc, refl, sym, subst, ◌∙◌, arith, append_assoc, length-append, if◌then◌else◌, ◌/◌, ◌%◌, ◌<◌, not, Option, Some, None, ap, inl, inr, append-nil}
-use Rattle.std.proofs.lemmas.Bool.{false≢true, cases_Bool}
-use Rattle.yaml_emit_laws_text.specs.emit_layout.scan_model.declared.yaml_encoding_t.{yaml_encoding_t}
-use Rattle.yaml_emit_laws_text.specs.emit_layout.scan_model.Tokens.{TokenBody}
-use Rattle.yaml_emit_laws_text.specs.scan_history.scan_model.Marks.{column_at, line_at}
-use Rattle.yaml_emit_laws_text.specs.scan_history.History.{indent}
-use Rattle.yaml_emit_laws_text.specs.scan_history.Words.{WordText}
-use Rattle.yaml_emit_laws_text.specs.scan_history.declared.kind.Kind.{Kind}
-use Rattle.yaml_emit_laws_text.specs.Walk.{Left, bytes, first}
-use Rattle.yaml_emit_laws_text.proofs.Places.{has_at, left_first, left_more, left_rest, has_front}
-use Rattle.yaml_scan_laws_levels.proofs.MarksForward.{line_at-grows}
-use Rattle.yaml_scan_laws_levels.specs.Pushes.{IsRight}
-use Rattle.yaml_scan_laws_levels.specs.Walks.{WalkReads, LeaveClear, Outside, WalkState}
-use Rattle.yaml_scan_laws_levels.proofs.Walking.{walk_white, walk_word, deeper_leaves, walk_says}
-use Rattle.yaml_emit_laws_pretty.specs.Spoken.{is_text, Fits, Spoken, spoken_bytes, all_bytes, all_bodies, AllFit, SaysTokens}
+use Rattle.yaml_emit_laws_pretty.proofs.Words.{false≢true, cases_Bool, yaml_encoding_t, TokenBody, column_at, line_at, indent, WordText, Kind, Left, bytes, first, has_at, left_first, left_more, left_rest, has_front, line_at-grows, IsRight, WalkReads, LeaveClear, Outside, WalkState, walk_white, walk_word, deeper_leaves, walk_says, is_text, Fits, Spoken, spoken_bytes, all_bytes, all_bodies, AllFit, SaysTokens, nat_tests, Cursor, Settings, Layout, Rest, ◌▹◌, stay, when, letters, word, blank, keeps_byte, uri_byte, uri_text, Split, shorthand, verbatim, spelled, split_tag, Opening, context_of, anchor_text, tag_text, anchor_bodies, tag_bodies, mark_bodies, IsReadable, IsWritableAnchor, IsWritableTag, IsWritableOpening, spelled_ascii, AreCalm, calm_from, written_readable, letter_low, split_read, lettered_on, lone_mark_is_read, anchor_is_read, begins_white, kept_above, calm_all, Above, above_append, alphas_calm, digit_above, handle_above, marked_ascii, has, letter_columns, NodeStage, Walks, IsPretty, PropertiesAreWalked}
 use Rattle.yaml_emit_laws_pretty.proofs.KeySteps.{texty, stands_comes, stands_leaves, spot_at, front, calm_columns}
 use Rattle.yaml_emit_laws_pretty.proofs.FlowSteps.{off_or}
-use Rattle.std.proofs.lemmas.Bool.Decides.{nat_tests}
 use Rattle.yaml_emit_laws_text.specs.scan_history.declared.kind.Kind.TheVariants as kinds
-use Rattle.yaml_emit_laws_text.specs.emit_layout.emit_text.declared.Cursor.{Cursor}
-use Rattle.yaml_emit_laws_text.specs.emit_layout.emit_text.declared.Settings.{Settings}
 use Rattle.yaml_emit_laws_text.specs.emit_layout.emit_text.Hex.{hex_2}
-use Rattle.yaml_emit_laws_text.specs.emit_layout.emit_text.Layout.{Layout, Rest, ◌▹◌, stay, when, letters, word, blank}
-use Rattle.yaml_emit_laws_text.specs.emit_layout.emit_tags.Tags.{keeps_byte, uri_byte, uri_text, Split, shorthand, verbatim, spelled, split_tag}
-use Rattle.yaml_emit_laws_text.specs.emit_layout.Content.{Opening}
-use Rattle.yaml_emit_laws_text.specs.emit_layout.Nodes.{context_of, anchor_text, tag_text}
-use Rattle.yaml_emit_laws_text.specs.Bodies.{anchor_bodies, tag_bodies, mark_bodies}
-use Rattle.yaml_emit_laws_text.specs.TagsLaws.{IsReadable}
-use Rattle.yaml_emit_laws_text.specs.Writable.{IsWritableAnchor, IsWritableTag, IsWritableOpening}
-use Rattle.yaml_emit_laws_text.proofs.Ascii.{spelled_ascii}
-use Rattle.yaml_emit_laws_text.proofs.Bytes.{AreCalm, calm_from}
-use Rattle.yaml_emit_laws_text.proofs.Joining.{written_readable}
-use Rattle.yaml_emit_laws_text.proofs.Steps.{letter_low}
-use Rattle.yaml_emit_laws_text.proofs.TagsReading.{split_read}
 use Rattle.yaml_emit_laws_text.proofs.Values.{cond_true, cond_false}
-use Rattle.yaml_emit_laws_text.proofs.Words.{lettered_on}
-use Rattle.yaml_scan_laws_texts.proofs.Lines.{lone_mark_is_read}
-use Rattle.yaml_scan_laws_texts.proofs.NamesRead.{anchor_is_read}
-use Rattle.yaml_emit_laws_scalars.specs.Stops.{begins_white}
 use Rattle.yaml_emit_laws_pretty.proofs.SpokenWords.{anchor_word, tag_word, mark_word, bare_off}
-use Rattle.yaml_emit_laws_scalars.proofs.NearKeys.{kept_above, calm_all, Above, above_append, alphas_calm, digit_above, handle_above, marked_ascii}
-use Rattle.yaml_emit_laws_text.specs.emit_layout.Grammar.{has}
-use Rattle.yaml_scan_laws_levels.proofs.Slotting.{letter_columns}
-use Rattle.yaml_emit_laws_pretty.specs.Walk.{NodeStage, Walks}
-use Rattle.yaml_emit_laws_pretty.specs.Nodes.{IsPretty, PropertiesAreWalked}
 
 -- words of text leave the depths without candidates so, where a key may begin as it may now
 abbrev pub ClearFor : Bool → ℕ → List ℕ → Type 0

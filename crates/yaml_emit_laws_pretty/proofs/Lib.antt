@@ -1,3 +1,4 @@
+mod Words
 pub mod Lining
 pub mod KeySteps
 pub mod SpokenWords

@@ -1,40 +1,8 @@
 -- Lines between nodes, and the indicators behind them.
 use Rattle.std.proofs.Common.{◌≡◌, ℕ, ◌-◌, ◌+◌, ◌<◌, ◌==◌, ◌&&◌, ◌||◌, not, nat_lt, Bool, true, false, List, [], ◌∷◌, ◌++◌, zero, suc, refl, ap, ◌∙◌, inl, inr, arith, if◌then◌else◌, sym, subst, ◌≤◌}
-use Rattle.std.proofs.lemmas.Bool.{cases_Bool, false≢true, or_left, or_right, not-false, ltb-false, eq-eqb}
-use Rattle.std.proofs.lemmas.Bool.Decides.{nat_tests}
-use Rattle.yaml_emit_laws_text.specs.emit_layout.scan_model.declared.yaml_encoding_t.{yaml_encoding_t}
+use Rattle.yaml_emit_laws_pretty.proofs.Words.{cases_Bool, false≢true, or_left, or_right, not-false, ltb-false, eq-eqb, nat_tests, yaml_encoding_t, TokenBody, break_of, byte, column_at, line_at, is_blank_or_end, ends_of, ends_break, Cursor, LineBreak, Lf, Cr, CrLf, Rest, blank, blanks, line, letters, indicator, must_break, new_line, indent_to, word, letter, Item, bytes, Left, first, letter_low, left_letter, behind_return, walk_ends, walk_says, walk_mark, walk_white, begins_white, begins_solid, LinedUp, BareIndicator, Entry, Question, Answer, mark_byte, no_comment, mark_body, mark_level, IsLone, MarkIsWalked, NodeStage, NoFeed, Lined, LineIsWalked, LineEndsNode, ShowsNode, indent, margin_at, opened, start_of, level_of, is_start, is_value, allows_key, Kind, begins_lexeme, left_first, left_more, has_at, line_at-grows, Rises, IsGap, WalkState, ClosesAt, behind, sign, MarkComes, WordLeaves, signs_come, printed_begins, letter_columns, feed_line, words_leave, left_byte, column_end, line_end, line_start}
 use Rattle.yaml_emit_laws_text.specs.emit_layout.scan_model.Tokens as tokens
-use Rattle.yaml_emit_laws_text.specs.emit_layout.scan_model.Tokens.{TokenBody}
-use Rattle.yaml_emit_laws_text.specs.scan_history.scan_model.Marks.{break_of, byte, column_at, line_at, is_blank_or_end, ends_of, ends_break}
-use Rattle.yaml_emit_laws_text.specs.emit_layout.emit_text.declared.Cursor.{Cursor}
-use Rattle.yaml_emit_laws_text.specs.emit_layout.emit_text.declared.LineBreak.{LineBreak}
-use Rattle.yaml_emit_laws_text.specs.emit_layout.emit_text.declared.LineBreak.TheVariants.{Lf, Cr, CrLf}
-use Rattle.yaml_emit_laws_text.specs.emit_layout.emit_text.Layout.{Rest, blank, blanks, line, letters, indicator, must_break, new_line, indent_to, word}
-use Rattle.yaml_emit_laws_text.specs.emit_layout.emit_text.Text.{letter, Item}
-use Rattle.yaml_emit_laws_text.specs.Walk.{bytes, Left, first}
-use Rattle.yaml_emit_laws_text.proofs.Steps.{letter_low, left_letter, behind_return}
-use Rattle.yaml_scan_laws_levels.proofs.Walking.{walk_ends, walk_says, walk_mark, walk_white}
-use Rattle.yaml_emit_laws_scalars.specs.Stops.{begins_white, begins_solid}
-use Rattle.yaml_emit_laws_pretty.specs.Walk.{LinedUp, BareIndicator, Entry, Question, Answer, mark_byte, no_comment, mark_body, mark_level, IsLone, MarkIsWalked, NodeStage, NoFeed, Lined, LineIsWalked, LineEndsNode}
-use Rattle.yaml_emit_laws_pretty.specs.Nodes.{ShowsNode}
-use Rattle.yaml_emit_laws_text.specs.scan_history.History.{indent, margin_at, opened, start_of, level_of}
-use Rattle.yaml_emit_laws_text.specs.scan_history.Kinds.{is_start, is_value, allows_key}
-use Rattle.yaml_emit_laws_text.specs.scan_history.declared.kind.Kind.{Kind}
 use Rattle.yaml_emit_laws_text.specs.scan_history.declared.kind.Kind.TheVariants as kinds
-use Rattle.yaml_emit_laws_text.specs.scan_history.scan_words.Written.{begins_lexeme}
-use Rattle.yaml_emit_laws_text.proofs.Places.{left_first, left_more, has_at}
-use Rattle.yaml_scan_laws_levels.proofs.MarksForward.{line_at-grows}
-use Rattle.yaml_scan_laws_levels.specs.Fronts.{Rises}
-use Rattle.yaml_scan_laws_levels.specs.White.{IsGap}
-use Rattle.yaml_scan_laws_levels.specs.Walks.{WalkState, ClosesAt, behind}
-use Rattle.yaml_scan_laws_levels.specs.Signs.{sign, MarkComes}
-use Rattle.yaml_scan_laws_levels.specs.Steps.{WordLeaves}
-use Rattle.yaml_scan_laws_levels.proofs.Signing.{signs_come, printed_begins}
-use Rattle.yaml_scan_laws_levels.proofs.Slotting.{letter_columns, feed_line}
-use Rattle.yaml_scan_laws_levels.proofs.Stepping.{words_leave}
-use Rattle.yaml_emit_laws_text.proofs.TextLines.{left_byte}
-use Rattle.yaml_emit_laws_text.proofs.MarksLemmas.{column_end, line_end}
-use Rattle.yaml_emit_laws_text.proofs.Single.{line_start}
 
 -- ---- white
 
@@ -89,19 +57,16 @@ indicator_bytes b rest e low white =
 mark_solid : (k : BareIndicator) (bs : List ℕ) → begins_solid (mark_byte k ∷ bs) ≡ true
 unfolding break_of
 mark_solid Entry bs = refl
-mark_solid Question bs = refl
-mark_solid Answer bs = refl
+mark_solid _ bs = refl
 
 mark_calm : (k : BareIndicator) (bs : List ℕ) → no_comment (mark_byte k ∷ bs) ≡ true
 unfolding no_comment
 mark_calm Entry bs = refl
-mark_calm Question bs = refl
-mark_calm Answer bs = refl
+mark_calm _ bs = refl
 
 pub mark_small : (k : BareIndicator) → nat_lt (mark_byte k) 128 ≡ true
 mark_small Entry = refl
-mark_small Question = refl
-mark_small Answer = refl
+mark_small _ = refl
 
 pub mark_shows : (k : BareIndicator) (n : ℕ) (rest : Rest)
     → ShowsNode n (λ e. indicator (mark_byte k) e rest)
@@ -199,21 +164,18 @@ mark_comes Answer = signs_come.colon
 mark_prints : (k : BareIndicator) → (32 < mark_byte k) × (mark_byte k < 127) × (mark_byte k ≡ 35
     → ⊥)
 mark_prints Entry = (omega arith, omega arith, λ y. omega (arith, y))
-mark_prints Question = (omega arith, omega arith, λ y. omega (arith, y))
-mark_prints Answer = (omega arith, omega arith, λ y. omega (arith, y))
+mark_prints _ = (omega arith, omega arith, λ y. omega (arith, y))
 
 mark_starts : (k : BareIndicator)
     → (is_start (mark_kind k) ≡ true) × (level_of (mark_kind k) ≡ mark_level k)
     × (allows_key (mark_kind k) true false ≡ true)
 mark_starts Entry = (refl, refl, refl)
-mark_starts Question = (refl, refl, refl)
-mark_starts Answer = (refl, refl, refl)
+mark_starts _ = (refl, refl, refl)
 
 lone_at : (k : BareIndicator) (text : List ℕ) (o : WalkState) (q : ℕ) → q ≡ o.at → IsLone k text o
     → is_value (mark_kind k) ≡ true → o.line < line_at text q
-lone_at Entry text o q e l v = absurd (false≢true v)
-lone_at Question text o q e l v = absurd (false≢true v)
 lone_at Answer text o q e l v = subst (λ n. o.line < line_at text n) (sym e) l
+lone_at _ text o q e l v = absurd (false≢true v)
 
 pub mark_on : MarkIsWalked
 mark_on k x text n kept ls more new what T rest here lone low rises opens starts parted =

@@ -1,34 +1,10 @@
 -- Block collections with their properties.
 use Rattle.std.proofs.Common.{◌≡◌, ℕ, ◌+◌, ◌<◌, ◌≤◌, ◌&&◌, ◌||◌, not, nat_lt, Bool, true, false, List, [], ◌∷◌, refl, sym, ap, subst, ◌∙◌, arith, Option, Some, None, inl, inr}
-use Rattle.std.proofs.Math.Bool.{and-false, and-true}
-use Rattle.yaml_emit_laws_text.specs.emit_layout.scan_model.declared.yaml_encoding_t.{yaml_encoding_t}
+use Rattle.yaml_emit_laws_pretty.proofs.Words.{and-false, and-true, yaml_encoding_t, TokenBody, TagDirective, column_at, indent, Cursor, Settings, Layout, Rest, ◌▹◌, when, line, opener, Part, Start, Opening, Node, Nodes, node, Pairs, pair, sequence_node, mapping_node, alias_node, scalar_node, no_nodes, no_pairs, start_tag, Context, context_of, MOST, is_of_mapping, is_flow, checked, indented, indent_of, block_indent_in, properties_text, tag_text, node_layout, items_layout, pairs_layout, before_item, before_key, is_simple_part, anchor_bodies, tag_bodies, Left, bytes, IsWritableAnchor, IsWritableTag, IsWritable, AreItemsWritable, ArePairsWritable, deep_bytes, WalkState, begins_white, margin_round, keeps, is_bare, is_flow_at, node_bodies, items_bodies, pairs_bodies, sequence_opens, sequence_closes, mapping_opens, mapping_closes, node_kept, items_kept, pairs_kept, style_at, NodeStage, LinedUp, Ending, NodeWalks, IsPretty, PropertiesAreWalked, PartedBehind, block_position, column_round, is_place, NodesAreWalked, LeavesAreWalked, BlockScalarsAreWalked, is_block, BracketsAreWalked, SimpleKeysAreWalked, kept_writable, cases_Bool}
 use Rattle.yaml_emit_laws_text.specs.emit_layout.scan_model.Tokens as tokens
-use Rattle.yaml_emit_laws_text.specs.emit_layout.scan_model.Tokens.{TokenBody}
-use Rattle.yaml_emit_laws_text.specs.emit_layout.parse_model.Events.{TagDirective}
-use Rattle.yaml_emit_laws_text.specs.scan_history.scan_model.Marks.{column_at}
-use Rattle.yaml_emit_laws_text.specs.scan_history.History.{indent}
-use Rattle.yaml_emit_laws_text.specs.emit_layout.emit_text.declared.Cursor.{Cursor}
-use Rattle.yaml_emit_laws_text.specs.emit_layout.emit_text.declared.Settings.{Settings}
-use Rattle.yaml_emit_laws_text.specs.emit_layout.emit_text.Layout.{Layout, Rest, ◌▹◌, when, line, opener}
-use Rattle.yaml_emit_laws_text.specs.emit_layout.declared.level.Part.{Part}
 use Rattle.yaml_emit_laws_text.specs.emit_layout.declared.level.Part.TheVariants as part
-use Rattle.yaml_emit_laws_text.specs.emit_layout.Content.{Start, Opening, Node, Nodes, node, Pairs, pair, sequence_node, mapping_node, alias_node, scalar_node, no_nodes, no_pairs}
-use Rattle.yaml_emit_laws_text.specs.emit_layout.Grammar.{start_tag}
-use Rattle.yaml_emit_laws_text.specs.emit_layout.Nodes.{Context, context_of, MOST, is_of_mapping, is_flow, checked, indented, indent_of, block_indent_in, properties_text, tag_text, node_layout, items_layout, pairs_layout, before_item, before_key, is_simple_part}
-use Rattle.yaml_emit_laws_text.specs.Bodies.{anchor_bodies, tag_bodies}
-use Rattle.yaml_emit_laws_text.specs.Walk.{Left, bytes}
-use Rattle.yaml_emit_laws_text.specs.Writable.{IsWritableAnchor, IsWritableTag, IsWritable, AreItemsWritable, ArePairsWritable}
-use Rattle.yaml_emit_laws_text.proofs.Steps.{deep_bytes}
-use Rattle.yaml_scan_laws_levels.specs.Walks.{WalkState}
-use Rattle.yaml_emit_laws_scalars.specs.Stops.{begins_white}
-use Rattle.yaml_emit_laws_scalars.specs.BlockLaws.{margin_round}
-use Rattle.yaml_emit_laws_pretty.specs.Bodies.{keeps, is_bare, is_flow_at, node_bodies, items_bodies, pairs_bodies, sequence_opens, sequence_closes, mapping_opens, mapping_closes, node_kept, items_kept, pairs_kept, style_at}
-use Rattle.yaml_emit_laws_pretty.specs.Walk.{NodeStage, LinedUp}
-use Rattle.yaml_emit_laws_pretty.specs.Nodes.{Ending, NodeWalks, IsPretty, PropertiesAreWalked, PartedBehind, block_position, column_round, is_place, NodesAreWalked, LeavesAreWalked, BlockScalarsAreWalked, is_block, BracketsAreWalked, SimpleKeysAreWalked}
 use Rattle.yaml_emit_laws_pretty.proofs.Lining.{line_begins_white, word_begins_white, up_says}
-use Rattle.yaml_emit_laws_pretty.proofs.NodePairs.{MoreItems, sequence_walks, loose_walks, more_none, more_item, PairWalks, PairsWalk, mapping_walks}
-use Rattle.yaml_emit_laws_scalars.proofs.NearKeys.{kept_writable}
-use Rattle.std.proofs.lemmas.Bool.{cases_Bool}
+use Rattle.yaml_emit_laws_pretty.proofs.NodePairs.{BlockWalks, MoreItems, sequence_walks, loose_walks, more_none, more_item, PairWalks, PairsWalk, mapping_walks}
 
 -- ---- properties, or none
 
@@ -219,15 +195,10 @@ pub record BothWalk (p : Context) (k v : Node) (ps : Pairs) : Type 0 where
 
 pairs_on : (p : Context) (around : Option ℕ) (k v : Node) (ps : Pairs) → 1 < p.settings.indent
     → BothWalk p k v ps
-    → (x : yaml_encoding_t) (text : List ℕ) (c : Cursor) (o : WalkState) (ls : List ℕ) (m : ℕ)
-    (after : Rest) (T : List TokenBody → List TokenBody)
-    → NodeStage x text c o ls [] T → indent ls ≡ margin_round around → m ≤ column_round around
-    → Ending p.settings.line_break m (indent ls) after
-    → Left text o.at (bytes (pairs_layout p false (block_indent_in p.settings around false) true
-    (pair k v ps) c (λ e. line p.settings.line_break m e after)))
-    → LinedUp x text after m (pairs_kept p false (pair k v ps) c.kept) ls
-    (λ bs. T (tokens.block_mapping_start
-    ∷ pairs_bodies p false true (pair k v ps) (tokens.block_end ∷ bs)))
+    → BlockWalks p (λ ls. indent ls ≡ margin_round around) (column_round around)
+    (pairs_layout p false (block_indent_in p.settings around false) true (pair k v ps))
+    (pairs_kept p false (pair k v ps)) (λ bs. tokens.block_mapping_start
+    ∷ pairs_bodies p false true (pair k v ps) (tokens.block_end ∷ bs))
 pairs_on p None k v ps deep walk x text c o ls m after T s level up ending l = mapping_walks p 0 k v ps (walk.first 0) (walk.others 0) x text c o ls m after T s (omega (arith, level)) up ending l
 pairs_on p (Some n) k v ps deep walk x text c o ls m after T s level up ending l =
     let i = n + p.settings.indent in

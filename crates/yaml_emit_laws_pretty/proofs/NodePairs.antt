@@ -1,30 +1,32 @@
 -- Block sequences, item by item, each up to the line behind it.
 use Rattle.std.proofs.Common.{◌≡◌, ℕ, ◌+◌, ◌<◌, ◌≤◌, Bool, true, false, List, [], ◌∷◌, ◌++◌, refl, sym, ap, subst, ◌∙◌, arith, Some, not, inl, inr}
-use Rattle.yaml_emit_laws_text.specs.emit_layout.scan_model.declared.yaml_encoding_t.{yaml_encoding_t}
+use Rattle.yaml_emit_laws_pretty.proofs.Words.{Layout, yaml_encoding_t, TokenBody, indent, opened, start_of, Opens, Cursor, Rest, line, indicator, ◌▹◌, when, char, Node, Nodes, no_nodes, node, Pairs, no_pairs, pair, Context, position, node_layout, items_layout, before_item, closer, is_simple, key_part, question, pairs_layout, before_key, before_value, Left, bytes, Rises, start_bodies, WalkState, level_opens, levels_part, begins_white, node_bodies, items_bodies, node_kept, items_kept, pairs_bodies, pairs_kept, NodeStage, Lined, LinedUp, Entry, Question, Answer, Ending, NodeWalks, ShowsNode, KeyWalks, cases_Bool, column_at}
 use Rattle.yaml_emit_laws_text.specs.emit_layout.scan_model.Tokens as tokens
-use Rattle.yaml_emit_laws_text.specs.emit_layout.scan_model.Tokens.{TokenBody}
-use Rattle.yaml_emit_laws_text.specs.scan_history.History.{indent, opened, start_of}
-use Rattle.yaml_emit_laws_text.specs.scan_history.declared.lexeme.Opens.{Opens}
 use Rattle.yaml_emit_laws_text.specs.scan_history.declared.lexeme.Opens.TheVariants as opening
-use Rattle.yaml_emit_laws_text.specs.emit_layout.emit_text.declared.Cursor.{Cursor}
-use Rattle.yaml_emit_laws_text.specs.emit_layout.emit_text.Layout.{Rest, line, indicator, ◌▹◌, when, char}
 use Rattle.yaml_emit_laws_text.specs.emit_layout.declared.level.Part.TheVariants as part
-use Rattle.yaml_emit_laws_text.specs.emit_layout.Content.{Node, Nodes, no_nodes, node, Pairs, no_pairs, pair}
-use Rattle.yaml_emit_laws_text.specs.emit_layout.Nodes.{Context, position, node_layout, items_layout, before_item, closer, is_simple, key_part, question, pairs_layout, before_key, before_value}
-use Rattle.yaml_emit_laws_text.specs.Walk.{Left, bytes}
-use Rattle.yaml_scan_laws_levels.specs.Fronts.{Rises}
-use Rattle.yaml_scan_laws_levels.specs.Tokens.{start_bodies}
-use Rattle.yaml_scan_laws_levels.specs.Walks.{WalkState}
-use Rattle.yaml_scan_laws_levels.proofs.Slotting.{level_opens}
-use Rattle.yaml_scan_laws_levels.proofs.Walking.{levels_part}
-use Rattle.yaml_emit_laws_scalars.specs.Stops.{begins_white}
-use Rattle.yaml_emit_laws_pretty.specs.Bodies.{node_bodies, items_bodies, node_kept, items_kept, pairs_bodies, pairs_kept}
-use Rattle.yaml_emit_laws_pretty.specs.Walk.{NodeStage, Lined, LinedUp, Entry, Question, Answer}
-use Rattle.yaml_emit_laws_pretty.specs.Nodes.{Ending, NodeWalks, ShowsNode, KeyWalks}
 use Rattle.yaml_emit_laws_pretty.proofs.Lining.{line_on, mark_on, mark_shows, up_ends}
 use Rattle.yaml_emit_laws_pretty.proofs.Following.{shown_ends, shows_no_feed, ending_up}
-use Rattle.std.proofs.lemmas.Bool.{cases_Bool}
-use Rattle.yaml_emit_laws_text.specs.scan_history.scan_model.Marks.{column_at}
+
+-- ---- a block, line by line
+
+-- From the line at which `shown` begins to the one behind the block: where the line leaves a level or opens one, `said` comes, and the
+-- last block scalar in it is told by `keeps`.
+abbrev pub LinesOn : Context → ℕ → Opens → (ℕ → Rest → Rest) → (Bool → Bool)
+    → (List TokenBody → List TokenBody) → Type 0
+LinesOn p n begun shown keeps said = (x : yaml_encoding_t) (text : List ℕ) (kept : Bool) (now more new : List ℕ) (what : Opens) (m : ℕ) (after : Rest) (T : List TokenBody → List TokenBody)
+    → Lined x text (shown m after) n kept now more T → indent now ≤ n + 1 → Rises (n + 1) more
+    → opened true (n + 1) now ≡ new → start_of 0 (n + 1) now begun ≡ what → indent new ≡ n + 1
+    → m ≤ n → Ending p.settings.line_break m (n + 1) after
+    → LinedUp x text after m (keeps kept) new (λ bs. T (start_bodies what (said bs)))
+
+-- From where a block begins, in levels that satisfy `Round`, to the line behind it.
+abbrev pub BlockWalks : Context → (List ℕ → Type 0) → ℕ → Layout → (Bool → Bool)
+    → (List TokenBody → List TokenBody) → Type 0
+BlockWalks p Round most held keeps said = (x : yaml_encoding_t) (text : List ℕ) (c : Cursor) (o : WalkState) (ls : List ℕ) (m : ℕ) (after : Rest) (T : List TokenBody → List TokenBody)
+    → NodeStage x text c o ls [] T → Round ls → m ≤ most
+    → Ending p.settings.line_break m (indent ls) after
+    → Left text o.at (bytes (held c (λ e. line p.settings.line_break m e after)))
+    → LinedUp x text after m (keeps c.kept) ls (λ bs. T (said bs))
 
 -- ---- what follows an item: a line at the sequence's column, or the one behind the sequence
 
@@ -65,14 +67,8 @@ MoreItems p n xs = (x : yaml_encoding_t) (text : List ℕ) (kept : Bool) (now : 
 
 pub item_on : (p : Context) (n : ℕ) (y : Node) (xs : Nodes) → NodeWalks p (Some n) part.Item true y
     → MoreItems p n xs
-    → (x : yaml_encoding_t) (text : List ℕ) (kept : Bool) (now more new : List ℕ) (what : Opens)
-    (m : ℕ) (after : Rest) (T : List TokenBody → List TokenBody)
-    → Lined x text (items_after p n m after (node y xs)) n kept now more T → indent now ≤ n + 1
-    → Rises (n + 1) more → opened true (n + 1) now ≡ new
-    → start_of 0 (n + 1) now opening.Sequence ≡ what → indent new ≡ n + 1 → m ≤ n
-    → Ending p.settings.line_break m (n + 1) after
-    → LinedUp x text after m (items_kept p false (node y xs) kept) new
-    (λ bs. T (start_bodies what (items_bodies p false false (node y xs) bs)))
+    → LinesOn p n opening.Sequence (λ m after. items_after p n m after (node y xs))
+    (items_kept p false (node y xs)) (items_bodies p false false (node y xs))
 unfolding items_kept items_bodies
 item_on p n y xs walk others x text kept now more new what m after T here low rises opens starts last up ending =
     let b = p.settings.line_break in
@@ -122,15 +118,9 @@ none_rise b = tt
 -- one with a level of its own
 pub sequence_walks : (p : Context) (n : ℕ) (y : Node) (xs : Nodes)
     → NodeWalks p (Some n) part.Item true y → MoreItems p n xs
-    → (x : yaml_encoding_t) (text : List ℕ) (c : Cursor) (o : WalkState) (ls : List ℕ) (m : ℕ)
-    (after : Rest) (T : List TokenBody → List TokenBody)
-    → NodeStage x text c o ls [] T → indent ls < n + 1 → m ≤ n
-    → Ending p.settings.line_break m (indent ls) after
-    → Left text o.at (bytes (items_layout p false n true (node y xs) c
-    (λ e. line p.settings.line_break m e after)))
-    → LinedUp x text after m (items_kept p false (node y xs) c.kept) ls
-    (λ bs. T (tokens.block_sequence_start
-    ∷ items_bodies p false true (node y xs) (tokens.block_end ∷ bs)))
+    → BlockWalks p (λ ls. indent ls < n + 1) n (items_layout p false n true (node y xs))
+    (items_kept p false (node y xs)) (λ bs. tokens.block_sequence_start
+    ∷ items_bodies p false true (node y xs) (tokens.block_end ∷ bs))
 unfolding items_bodies
 sequence_walks p n y xs walk others x text c o ls m after T s low up ending l =
     let (opens, starts) = level_opens.opens (n + 1) ls opening.Sequence low in
@@ -142,14 +132,8 @@ sequence_walks p n y xs walk others x text c o ls m after T s low up ending l =
 -- one that keeps the indentation round it
 pub loose_walks : (p : Context) (n : ℕ) (y : Node) (xs : Nodes)
     → NodeWalks p (Some n) part.Item true y → MoreItems p n xs
-    → (x : yaml_encoding_t) (text : List ℕ) (c : Cursor) (o : WalkState) (ls : List ℕ) (m : ℕ)
-    (after : Rest) (T : List TokenBody → List TokenBody)
-    → NodeStage x text c o ls [] T → indent ls ≡ n + 1 → m ≤ n
-    → Ending p.settings.line_break m (indent ls) after
-    → Left text o.at (bytes (items_layout p false n true (node y xs) c
-    (λ e. line p.settings.line_break m e after)))
-    → LinedUp x text after m (items_kept p false (node y xs) c.kept) ls
-    (λ bs. T (items_bodies p false true (node y xs) bs))
+    → BlockWalks p (λ ls. indent ls ≡ n + 1) n (items_layout p false n true (node y xs))
+    (items_kept p false (node y xs)) (items_bodies p false true (node y xs))
 unfolding items_bodies
 loose_walks p n y xs walk others x text c o ls m after T s last up ending l =
     let (opens, starts) = level_opens.stays (n + 1) ls opening.Sequence (omega (arith, last)) in
@@ -281,14 +265,8 @@ pair_kept p k v ps simple kept = pairs_kept p false ps (node_kept p false part.V
 
 simple_on : (p : Context) (n : ℕ) (k v : Node) (ps : Pairs) → is_simple p k ≡ true
     → PairWalks p n k v → PairsWalk p n ps → MorePairs p n ps
-    → (x : yaml_encoding_t) (text : List ℕ) (kept : Bool) (now more new : List ℕ) (what : Opens)
-    (m : ℕ) (after : Rest) (T : List TokenBody → List TokenBody)
-    → Lined x text (simple_rest p n m after k v ps) n kept now more T → indent now ≤ n + 1
-    → Rises (n + 1) more → opened true (n + 1) now ≡ new
-    → start_of 0 (n + 1) now opening.Mapping ≡ what → indent new ≡ n + 1 → m ≤ n
-    → Ending p.settings.line_break m (n + 1) after
-    → LinedUp x text after m (pair_kept p k v ps true kept) new
-    (λ bs. T (start_bodies what (pair_said p k v ps true bs)))
+    → LinesOn p n opening.Mapping (λ m after. simple_rest p n m after k v ps)
+    (pair_kept p k v ps true) (pair_said p k v ps true)
 simple_on p n k v ps is walk all others x text kept now more new what m after T here low rises opens starts last up ending =
     let V = value_rest p n m after v ps in
     let key = walk.simple is in
@@ -302,14 +280,8 @@ simple_on p n k v ps is walk all others x text kept now more new what m after T 
 
 asked_on : (p : Context) (n : ℕ) (k v : Node) (ps : Pairs) → PairWalks p n k v → PairsWalk p n ps
     → MorePairs p n ps
-    → (x : yaml_encoding_t) (text : List ℕ) (kept : Bool) (now more new : List ℕ) (what : Opens)
-    (m : ℕ) (after : Rest) (T : List TokenBody → List TokenBody)
-    → Lined x text (λ d. indicator 63 d (asked_rest p n m after k v ps)) n kept now more T
-    → indent now ≤ n + 1 → Rises (n + 1) more → opened true (n + 1) now ≡ new
-    → start_of 0 (n + 1) now opening.Mapping ≡ what → indent new ≡ n + 1 → m ≤ n
-    → Ending p.settings.line_break m (n + 1) after
-    → LinedUp x text after m (pair_kept p k v ps false kept) new
-    (λ bs. T (start_bodies what (pair_said p k v ps false bs)))
+    → LinesOn p n opening.Mapping (λ m after d. indicator 63 d (asked_rest p n m after k v ps))
+    (pair_kept p k v ps false) (pair_said p k v ps false)
 asked_on p n k v ps walk all others x text kept now more new what m after T here low rises opens starts last up ending =
     let b = p.settings.line_break in
     let V = value_rest p n m after v ps in
@@ -331,14 +303,8 @@ asked_on p n k v ps walk all others x text kept now more new what m after T here
 
 pub pair_on : (p : Context) (n : ℕ) (k v : Node) (ps : Pairs) → PairWalks p n k v → PairsWalk p n ps
     → MorePairs p n ps
-    → (x : yaml_encoding_t) (text : List ℕ) (kept : Bool) (now more new : List ℕ) (what : Opens)
-    (m : ℕ) (after : Rest) (T : List TokenBody → List TokenBody)
-    → Lined x text (pairs_after p n m after (pair k v ps)) n kept now more T → indent now ≤ n + 1
-    → Rises (n + 1) more → opened true (n + 1) now ≡ new
-    → start_of 0 (n + 1) now opening.Mapping ≡ what → indent new ≡ n + 1 → m ≤ n
-    → Ending p.settings.line_break m (n + 1) after
-    → LinedUp x text after m (pairs_kept p false (pair k v ps) kept) new
-    (λ bs. T (start_bodies what (pairs_bodies p false false (pair k v ps) bs)))
+    → LinesOn p n opening.Mapping (λ m after. pairs_after p n m after (pair k v ps))
+    (pairs_kept p false (pair k v ps)) (pairs_bodies p false false (pair k v ps))
 unfolding pairs_kept pairs_bodies
 pair_on p n k v ps walk all others x text kept now more new what m after T here low rises opens starts last up ending = elim (cases_Bool (is_simple p k)) [
   | inl e ↦ subst (λ b. LinedUp x text after m (pair_kept p k v ps b kept) new (λ bs. T (start_bodies what (pair_said p k v ps b bs)))) (sym e)
@@ -377,15 +343,9 @@ mapping_line p n k v ps walk x text c o ls m after T s l =
 
 pub mapping_walks : (p : Context) (n : ℕ) (k v : Node) (ps : Pairs) → PairWalks p n k v
     → PairsWalk p n ps
-    → (x : yaml_encoding_t) (text : List ℕ) (c : Cursor) (o : WalkState) (ls : List ℕ) (m : ℕ)
-    (after : Rest) (T : List TokenBody → List TokenBody)
-    → NodeStage x text c o ls [] T → indent ls < n + 1 → m ≤ n
-    → Ending p.settings.line_break m (indent ls) after
-    → Left text o.at (bytes (pairs_layout p false n true (pair k v ps) c
-    (λ e. line p.settings.line_break m e after)))
-    → LinedUp x text after m (pairs_kept p false (pair k v ps) c.kept) ls
-    (λ bs. T (tokens.block_mapping_start
-    ∷ pairs_bodies p false true (pair k v ps) (tokens.block_end ∷ bs)))
+    → BlockWalks p (λ ls. indent ls < n + 1) n (pairs_layout p false n true (pair k v ps))
+    (pairs_kept p false (pair k v ps)) (λ bs. tokens.block_mapping_start
+    ∷ pairs_bodies p false true (pair k v ps) (tokens.block_end ∷ bs))
 unfolding pairs_bodies
 mapping_walks p n k v ps walk all x text c o ls m after T s low up ending l =
     let (opens, starts) = level_opens.opens (n + 1) ls opening.Mapping low in

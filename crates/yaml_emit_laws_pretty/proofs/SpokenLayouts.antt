@@ -1,33 +1,7 @@
 -- What layouts of single words say: names, tags, and scalars in the three styles of a line.
 use Rattle.std.proofs.Common.{◌≡◌, ℕ, ◌+◌, ◌<◌, ◌≤◌, not, nat_lt, Bool, true, false, List, [], ◌∷◌, ◌++◌, length, Some, refl, sym, ap, subst, ◌∙◌, encode_utf8_all, if◌then◌else◌, IsUtf8, chars, append-nil}
-use Rattle.std.proofs.lemmas.Bool.{and_parts}
-use Rattle.yaml_emit_laws_text.specs.scan_history.scan_words.Laws.{AnchorReads}
-use Rattle.yaml_emit_laws_text.specs.scan_history.scan_scalars.Quoted.{double_quoted_at}
-use Rattle.yaml_emit_laws_text.specs.emit_layout.emit_text.declared.Cursor.{Cursor}
-use Rattle.yaml_emit_laws_text.specs.emit_layout.emit_text.declared.Page.{Page}
-use Rattle.yaml_emit_laws_text.specs.emit_layout.emit_text.Text.{Item, letter}
-use Rattle.yaml_emit_laws_text.specs.emit_layout.emit_text.Layout.{Layout, Rest, ◌▹◌, letters, word, gap, blank, after_text}
-use Rattle.yaml_emit_laws_text.specs.emit_layout.emit_text.Quoted.{double_quoted}
-use Rattle.yaml_emit_laws_text.specs.emit_layout.emit_text.Scalars.{flow_body, plain, single_quoted}
-use Rattle.yaml_emit_laws_text.specs.emit_layout.emit_text.Style.{allowed}
-use Rattle.yaml_emit_laws_text.specs.emit_layout.emit_text.Spelling.{in_front}
-use Rattle.yaml_emit_laws_text.specs.emit_layout.emit_tags.Tags.{tag_spelling, split_tag}
-use Rattle.yaml_emit_laws_text.specs.emit_layout.Content.{Opening}
-use Rattle.yaml_emit_laws_text.specs.ReadBack.{ValueIsReadBack, between_quotes, between_single}
-use Rattle.yaml_emit_laws_text.specs.QuotedLaws.{QuotedIsReadBack}
-use Rattle.yaml_emit_laws_text.specs.TagsLaws.{SplitTagsAreRead, WrittenTagsAreReadable, ReadableTagsAreAscii, are_ascii}
-use Rattle.yaml_scan_laws_texts.specs.WordsLaws.{LoneMarkReads}
-use Rattle.yaml_emit_laws_text.specs.Walk.{bytes}
-use Rattle.yaml_emit_laws_text.specs.Writable.{IsWritableName, IsWritableOpening, IsWritableTag}
-use Rattle.yaml_emit_laws_text.proofs.Steps.{letter_low}
-use Rattle.yaml_emit_laws_text.proofs.Words.{front_encodes, lettered_on}
-use Rattle.yaml_emit_laws_scalars.specs.PlainLaws.{PlainIsReadBack, may_be_plain}
-use Rattle.yaml_emit_laws_scalars.specs.SingleLaws.{SingleLinesAreReadBack}
-use Rattle.yaml_emit_laws_scalars.specs.StandsLaws.{PlainHasGap, ScalarsAreWords}
-use Rattle.yaml_emit_laws_pretty.specs.Spoken.{Spoken, SaysTokens}
-use Rattle.yaml_emit_laws_text.proofs.Tags.{letters_are}
+use Rattle.yaml_emit_laws_pretty.proofs.Words.{and_parts, AnchorReads, double_quoted_at, Cursor, Page, Item, letter, Layout, Rest, ◌▹◌, letters, word, gap, blank, after_text, double_quoted, flow_body, plain, single_quoted, allowed, in_front, tag_spelling, split_tag, Opening, ValueIsReadBack, between_quotes, between_single, QuotedIsReadBack, SplitTagsAreRead, WrittenTagsAreReadable, ReadableTagsAreAscii, are_ascii, LoneMarkReads, bytes, IsWritableName, IsWritableOpening, IsWritableTag, letter_low, front_encodes, lettered_on, PlainIsReadBack, may_be_plain, SingleLinesAreReadBack, PlainHasGap, ScalarsAreWords, Spoken, SaysTokens, letters_are, alphas_ascii}
 use Rattle.yaml_emit_laws_pretty.proofs.SpokenWords.{anchor_word, alias_word, tag_word, mark_word, double_word, single_word, plain_word}
-use Rattle.yaml_emit_laws_text.proofs.Ascii.{alphas_ascii}
 use Rattle.yaml_emit_laws_pretty.proofs.FlowSigns.{behind_gap}
 
 -- a layout writes these bytes from a cursor on, whatever follows

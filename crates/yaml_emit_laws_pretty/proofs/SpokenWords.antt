@@ -1,65 +1,17 @@
 -- Plain scalars as content, empty ones too.
 use Rattle.std.proofs.Common.{◌≡◌, ℕ, ◌+◌, ◌<◌, ◌≤◌, Bool, true, false, List, [], ◌∷◌, refl, ap, subst, ◌∙◌, arith, if◌then◌else◌, IsUtf8, ◌==◌, ◌&&◌, ◌||◌, not, nat_lt, length, zero, suc, sym, inl, inr, ◌++◌, Some, Result, Ok, encode_utf8, encode_utf8_all}
-use Rattle.std.specs.Str.{chars}
-use Rattle.std.proofs.lemmas.Bool.{false≢true, cases_Bool, or_left, or_right, and_parts, or_cases}
-use Rattle.yaml_emit_laws_text.specs.emit_layout.scan_model.declared.yaml_encoding_t.{yaml_encoding_t}
-use Rattle.yaml_emit_laws_text.specs.emit_layout.scan_model.Tokens.{TokenBody}
-use Rattle.yaml_emit_laws_text.specs.scan_history.History.{indent}
-use Rattle.yaml_emit_laws_text.specs.emit_layout.emit_text.declared.Cursor.{Cursor}
-use Rattle.yaml_emit_laws_text.specs.emit_layout.emit_text.declared.Page.{Page}
+use Rattle.yaml_emit_laws_pretty.proofs.Words.{chars, false≢true, cases_Bool, or_left, or_right, and_parts, or_cases, yaml_encoding_t, TokenBody, indent, Cursor, Page, Layout, Rest, ◌▹◌, blank, after_text, gap, Item, flow_body, plain, Left, bytes, first, letter_low, left_letter, Sign, sign_begins, sign_kind, walk_says, walk_white, walk_word, begins_white, white_of, is_gap_byte, PlainHasGap, PlainStands, ScalarsAreWords, SingleStands, may_be_plain, PlainIsBack, scalar_bodies, GoesBehindNode, Walks, Follows, PlainIsWalked, NodeStage, no_comment, SingleIsWalked, byte, column_at, is_blank, break_width, is_blank_or_end, depth_after, WordText, kind_at, word_at, indicator_of, valued, tagged, has_break, begins_lexeme, has_at, left_first, left_more, has_front, left_rest, nat_tests, ends_at, is_bom, line_at-grows, Comes, WordLeaves, WalkState, LeaveClear, behind, WalkReads, letter_columns, words_leave, stops_end, goes_on, single_kind, left_byte, encode_ascii, AnchorReads, double_quoted_at, Kind, ValueIsReadBack, between_quotes, between_single, Wrong, Split, spelled, split_tag, Opening, tag_body, SplitTagsAreRead, WrittenTagsAreReadable, IsReadable, ReadableTagsAreAscii, LoneMarkReads, IsWritableName, IsWritableOpening, IsWritableTag, named, quote_sign, quote_kind, quote_first, alias_kind, anchor_kind, SingleIsBack, Spoken, Behind, WordStands, Fits, is_text, ends_name, mark_kind, said_tag, text_is, allowed}
 use Rattle.yaml_emit_laws_text.specs.emit_layout.emit_text.declared.Style.TheVariants as style
-use Rattle.yaml_emit_laws_text.specs.emit_layout.emit_text.Layout.{Layout, Rest, ◌▹◌, blank, after_text, gap}
-use Rattle.yaml_emit_laws_text.specs.emit_layout.emit_text.Text.{Item}
-use Rattle.yaml_emit_laws_text.specs.emit_layout.emit_text.Scalars.{flow_body, plain}
-use Rattle.yaml_emit_laws_text.specs.Walk.{Left, bytes, first}
-use Rattle.yaml_emit_laws_text.proofs.Steps.{letter_low, left_letter, Sign, sign_begins, sign_kind}
-use Rattle.yaml_scan_laws_levels.proofs.Walking.{walk_says, walk_white, walk_word}
-use Rattle.yaml_emit_laws_scalars.specs.Stops.{begins_white, white_of, is_gap_byte}
-use Rattle.yaml_emit_laws_scalars.specs.StandsLaws.{PlainHasGap, PlainStands, ScalarsAreWords, SingleStands}
-use Rattle.yaml_emit_laws_scalars.specs.PlainLaws.{may_be_plain, PlainIsBack}
-use Rattle.yaml_emit_laws_pretty.specs.Bodies.{scalar_bodies}
-use Rattle.yaml_emit_laws_pretty.specs.Walk.{GoesBehindNode, Walks, Follows, PlainIsWalked, NodeStage, no_comment, SingleIsWalked}
 use Rattle.yaml_emit_laws_text.specs.emit_layout.scan_model.declared.yaml_scalar_style_t.TheVariants.{YAML_PLAIN_SCALAR_STYLE, YAML_SINGLE_QUOTED_SCALAR_STYLE, YAML_DOUBLE_QUOTED_SCALAR_STYLE}
 use Rattle.yaml_emit_laws_text.specs.emit_layout.scan_model.Tokens as tokens
-use Rattle.yaml_emit_laws_text.specs.scan_history.scan_model.Marks.{byte, column_at, is_blank, break_width, is_blank_or_end}
-use Rattle.yaml_emit_laws_text.specs.scan_history.Kinds.{depth_after}
-use Rattle.yaml_emit_laws_text.specs.scan_history.Words.{WordText, kind_at, word_at, indicator_of, valued, tagged}
 use Rattle.yaml_emit_laws_text.specs.scan_history.declared.kind.Kind.TheVariants as kinds
-use Rattle.yaml_emit_laws_text.specs.scan_history.scan_words.Written.{has_break, begins_lexeme}
-use Rattle.yaml_emit_laws_text.proofs.Places.{has_at, left_first, left_more, has_front, left_rest}
-use Rattle.std.proofs.lemmas.Bool.Decides.{nat_tests}
 use Rattle.yaml_scan_laws_texts.specs.PlainLaws.{ends_plain}
-use Rattle.yaml_emit_laws_text.specs.scan_history.scan_scalars.Plain.{ends_at}
-use Rattle.yaml_emit_laws_text.specs.scan_history.scan_model.Classes.{is_bom}
-use Rattle.yaml_scan_laws_levels.proofs.MarksForward.{line_at-grows}
-use Rattle.yaml_scan_laws_levels.specs.Steps.{Comes, WordLeaves}
-use Rattle.yaml_scan_laws_levels.specs.Walks.{WalkState, LeaveClear, behind, WalkReads}
-use Rattle.yaml_scan_laws_levels.proofs.Slotting.{letter_columns}
-use Rattle.yaml_scan_laws_levels.proofs.Stepping.{words_leave}
-use Rattle.yaml_emit_laws_scalars.proofs.Stopping.{stops_end, goes_on, single_kind}
 use Rattle.yaml_emit_laws_pretty.proofs.Lining.{line_on_to, no_gap, white_stands}
-use Rattle.yaml_emit_laws_text.proofs.TextLines.{left_byte}
-use Rattle.std.proofs.lemmas.Str.{encode_ascii}
 use Rattle.yaml_emit_laws_text.specs.scan_history.scan_model.declared.problem.Context.{Context}
 use Rattle.yaml_emit_laws_text.specs.scan_history.scan_model.declared.problem.Context.TheVariants as contexts
 use Rattle.yaml_emit_laws_text.specs.scan_history.scan_words.Anchors.{anchor_at, may_end_name}
 use Rattle.yaml_emit_laws_text.specs.scan_history.scan_words.Tags.{TagText, tag_at, may_end_tag}
-use Rattle.yaml_emit_laws_text.specs.scan_history.scan_words.Laws.{AnchorReads}
-use Rattle.yaml_emit_laws_text.specs.scan_history.scan_scalars.Quoted.{double_quoted_at}
-use Rattle.yaml_emit_laws_text.specs.scan_history.declared.kind.Kind.{Kind}
-use Rattle.yaml_emit_laws_text.specs.ReadBack.{ValueIsReadBack, between_quotes, between_single}
-use Rattle.yaml_emit_laws_text.specs.scan_history.scan_model.Wrong.{Wrong}
-use Rattle.yaml_emit_laws_text.specs.emit_layout.emit_tags.Tags.{Split, spelled, split_tag}
-use Rattle.yaml_emit_laws_text.specs.emit_layout.Content.{Opening}
-use Rattle.yaml_emit_laws_text.specs.Bodies.{tag_body}
-use Rattle.yaml_emit_laws_text.specs.TagsLaws.{SplitTagsAreRead, WrittenTagsAreReadable, IsReadable, ReadableTagsAreAscii}
-use Rattle.yaml_scan_laws_texts.specs.WordsLaws.{LoneMarkReads}
-use Rattle.yaml_emit_laws_text.specs.Writable.{IsWritableName, IsWritableOpening, IsWritableTag}
-use Rattle.yaml_emit_laws_text.proofs.Words.{sign, named, quote_sign, quote_kind, quote_first, alias_kind, anchor_kind}
-use Rattle.yaml_emit_laws_scalars.specs.SingleLaws.{SingleIsBack}
-use Rattle.yaml_emit_laws_pretty.specs.Spoken.{Spoken, Behind, WordStands, Fits, is_text, ends_name}
-use Rattle.yaml_emit_laws_text.proofs.Tags.{mark_kind, said_tag, text_is}
-use Rattle.yaml_emit_laws_text.specs.emit_layout.emit_text.Style.{allowed}
+use Rattle.yaml_emit_laws_text.proofs.Words.{sign}
 
 -- ---- the same tokens, the same layout
 

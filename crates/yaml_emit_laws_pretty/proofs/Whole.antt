@@ -1,20 +1,10 @@
 -- The law of pretty text, joined from the laws beneath.
-use Rattle.yaml_scan_laws_texts.proofs.NamesRead.{anchor_is_read}
-use Rattle.yaml_scan_laws_texts.proofs.Lines.{lone_mark_is_read}
+use Rattle.yaml_emit_laws_pretty.proofs.Words.{anchor_is_read, lone_mark_is_read, quoted_is_back, split_read, written_readable, written_directives, spelled_ascii, directive_ascii, plain_back, has_gap, stands, are_words, quoted_stands, NodesAreWalked, LeavesAreWalked, BlockScalarsAreWalked, BracketsAreWalked, PropertiesAreWalked, KeysAreWalkedIn, PrettyTextIsRead}
 use Rattle.yaml_scan_laws_texts.proofs.Directives.{version_is_read}
-use Rattle.yaml_emit_laws_text.proofs.QuotedWhole.{quoted_is_back}
 use Rattle.yaml_emit_laws_text.proofs.Parts.{single_spelling_reads}
-use Rattle.yaml_emit_laws_text.proofs.TagsReading.{split_read}
-use Rattle.yaml_emit_laws_text.proofs.Joining.{written_readable, written_directives}
-use Rattle.yaml_emit_laws_text.proofs.Ascii.{spelled_ascii, directive_ascii}
 use Rattle.yaml_emit_laws_text.proofs.TagsLines.{directive_read}
 use Rattle.yaml_emit_laws_scalars.proofs.Single.{single_back}
-use Rattle.yaml_emit_laws_scalars.proofs.PlainStart.{plain_back}
 use Rattle.yaml_emit_laws_scalars.proofs.Styles.{styles_allowed}
-use Rattle.yaml_emit_laws_scalars.proofs.Stopping.{has_gap, stands, are_words, quoted_stands}
-use Rattle.yaml_emit_laws_pretty.specs.Nodes.{NodesAreWalked, LeavesAreWalked, BlockScalarsAreWalked, BracketsAreWalked, PropertiesAreWalked}
-use Rattle.yaml_emit_laws_pretty.specs.Flows.{KeysAreWalkedIn}
-use Rattle.yaml_emit_laws_pretty.specs.DocLaws.{PrettyTextIsRead}
 use Rattle.yaml_emit_laws_pretty.proofs.SpokenWords.{plain_on, single_on}
 use Rattle.yaml_emit_laws_pretty.proofs.LeafNodes.{leaves_on, blocks_on}
 use Rattle.yaml_emit_laws_pretty.proofs.LeafProps.{properties_on}

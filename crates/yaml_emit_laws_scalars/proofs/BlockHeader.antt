@@ -1,40 +1,12 @@
 -- Breaks at the ends of lines, and characters between them.
 use Rattle.std.proofs.Common.{◌≡◌, ◌≢◌, ℕ, ◌+◌, ◌<◌, ◌≤◌, true, false, ◌||◌, ◌==◌, List, [], ◌∷◌, ◌++◌, length, refl, sym, ap, ◌∙◌, inl, inr, arith, encode_utf8, encode_utf8_all, Bool, not, nat_lt, Ok, subst, add-zero, ◌-◌, get_or}
-use Rattle.std.proofs.lemmas.Bool.{cases_lt, cases_eq, ne_eqb, or_parts, eqb-false}
+use Rattle.yaml_emit_laws_scalars.proofs.Words.{cases_lt, cases_eq, ne_eqb, or_parts, eqb-false, byte, break_of, break_width, is_blank, column_at, break_value, is_feed, starts_blank, Has, has_front, has_at, LineBreak, Lf, Cr, CrLf, is_break, Item, is_printable, encode_1, encode_2, encode_3, encode_4, high_blank, LineMark, own, separator, paragraph, mark_char, mark_text, mark_bytes, mark_means, NoWhite, nat_tests, past_break, is_text, is_blank_there, past_blanks, is_digit_byte, past_stop, is_chomping, chomp_at, digit_of, digit_place, chomping_place, indicators, past_comment, header_end, header_at, break_text, cond_true, cond_false, Chomping, get_or_past, Cursor, Rest, page_at, Left, bytes, margin_round, BlockAndLineRead, BlockAtPosition, left_rest, front_encodes}
 use lib.Utf8.{encode}
-use Rattle.yaml_emit_laws_text.specs.scan_model.Marks.{byte, break_of, break_width, is_blank, column_at}
-use Rattle.yaml_emit_laws_text.specs.scan_model.Breaks.{break_value, is_feed}
-use Rattle.yaml_scan_block.specs.Value.{starts_blank}
-use Rattle.yaml_emit_laws_text.proofs.HasLemmas.{Has, has_front, has_at}
-use Rattle.yaml_emit_laws_text.specs.emit_text.declared.LineBreak.{LineBreak}
-use Rattle.yaml_emit_laws_text.specs.emit_text.declared.LineBreak.TheVariants.{Lf, Cr, CrLf}
-use Rattle.yaml_emit_laws_text.specs.emit_text.Text.{is_break, Item}
-use Rattle.yaml_emit_laws_text.specs.emit_text.Quoted.{is_printable}
-use Rattle.yaml_emit_laws_text.proofs.Chars.{encode_1, encode_2, encode_3, encode_4}
-use Rattle.yaml_emit_laws_text.proofs.Bytes.{high_blank}
-use Rattle.yaml_emit_laws_scalars.specs.BlockLines.{LineMark, own, separator, paragraph, mark_char, mark_text, mark_bytes, mark_means, NoWhite}
-use Rattle.std.proofs.lemmas.Bool.Decides.{nat_tests}
-use Rattle.yaml_emit_laws_text.proofs.MarksLemmas.{past_break}
-use Rattle.yaml_emit_laws_text.specs.scan_model.Runs.{is_text, is_blank_there, past_blanks}
-use Rattle.yaml_emit_laws_text.specs.scan_model.Classes.{is_digit_byte}
-use Rattle.yaml_emit_laws_text.proofs.RunsLemmas.{past_stop}
-use Rattle.yaml_scan_block.specs.Header.{is_chomping, chomp_of as chomp_at, digit_of, digit_place, chomping_place, indicators, past_comment, header_end, header_at}
 use Rattle.yaml_scan_block.proofs.HeaderLemmas.{whole_header}
-use Rattle.yaml_emit_laws_text.specs.emit_text.Spelling.{break_text}
-use Rattle.yaml_emit_laws_text.proofs.Values.{cond_true, cond_false}
-use Rattle.yaml_emit_laws_text.specs.emit_text.declared.page.Chomp.{Chomp as Chomping}
 use Rattle.yaml_emit_laws_text.specs.emit_text.declared.page.Chomp.TheVariants as chomping
 use Rattle.yaml_emit_laws_scalars.proofs.BlockWaiting.{read_chomp}
-use Rattle.std.proofs.lemmas.List.{get_or_past}
-use Rattle.yaml_emit_laws_text.specs.emit_text.declared.Cursor.{Cursor}
-use Rattle.yaml_emit_laws_text.specs.emit_text.Layout.{Rest}
-use Rattle.yaml_emit_laws_text.specs.emit_layout.Nodes.{page_at}
 use Rattle.yaml_emit_laws_text.specs.emit_text.declared.page.Page.{Page}
-use Rattle.yaml_emit_laws_text.specs.Walk.{Left, bytes}
-use Rattle.yaml_emit_laws_scalars.specs.BlockLaws.{margin_round, BlockAndLineRead, BlockAtPosition}
 use Rattle.yaml_emit_laws_scalars.specs.BlockPassing.{begins_white, behind_line, BlockPassed, BlockIsPassed}
-use Rattle.yaml_emit_laws_text.proofs.Places.{left_rest}
-use Rattle.yaml_emit_laws_text.proofs.Words.{front_encodes}
 
 -- behind CR no LF may stand
 abbrev pub NoFeed : LineBreak → ℕ → Type 0
@@ -93,8 +65,7 @@ mark_of x s h =
 break_encodes : (b : LineBreak) → encode_utf8_all (mark_text b own) ≡ mark_bytes b own
 unfolding encode
 break_encodes Lf = refl
-break_encodes Cr = refl
-break_encodes CrLf = refl
+break_encodes _ = refl
 
 pub text_encodes : (b : LineBreak) (m : LineMark) → encode_utf8_all (mark_text b m) ≡ mark_bytes b m
 unfolding encode
@@ -206,8 +177,7 @@ no_text_there b w h = grind (arith, nat_tests)
 break_begins : (b : LineBreak) (text : List ℕ) (p : ℕ) → Has text p (break_text b)
     → 0 < break_width text p → Begins text p
 break_begins Lf text p (e, h) w = let (a, c, d, f, g, i, j) = begins_at (byte text p) e in record { no_digit = a; no_chomp = c; no_blank = d; no_comment = f; no_zero = g; clip = i; none = j; no_text = no_text_there (byte text p) (break_width text p) w }
-break_begins Cr text p (e, h) w = let (a, c, d, f, g, i, j) = begins_too (byte text p) e in record { no_digit = a; no_chomp = c; no_blank = d; no_comment = f; no_zero = g; clip = i; none = j; no_text = no_text_there (byte text p) (break_width text p) w }
-break_begins CrLf text p (e, h) w = let (a, c, d, f, g, i, j) = begins_too (byte text p) e in record { no_digit = a; no_chomp = c; no_blank = d; no_comment = f; no_zero = g; clip = i; none = j; no_text = no_text_there (byte text p) (break_width text p) w }
+break_begins _ text p (e, h) w = let (a, c, d, f, g, i, j) = begins_too (byte text p) e in record { no_digit = a; no_chomp = c; no_blank = d; no_comment = f; no_zero = g; clip = i; none = j; no_text = no_text_there (byte text p) (break_width text p) w }
 
 -- the byte there is a digit's
 record IsDigit (b d : ℕ) : Type 0 where

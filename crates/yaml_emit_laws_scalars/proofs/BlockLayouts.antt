@@ -1,22 +1,9 @@
 -- What the layout of a block scalar's body writes for a character.
 use Rattle.std.proofs.Common.{◌≡◌, ℕ, zero, suc, Bool, true, false, not, ◌&&◌, ◌==◌, nat_lt, List, [], ◌∷◌, ◌++◌, replicate, refl, sym, ap, ◌∙◌, arith}
-use Rattle.std.proofs.lemmas.Bool.Decides.{nat_tests}
-use Rattle.yaml_emit_laws_text.specs.emit_text.declared.Cursor.{Cursor}
-use Rattle.yaml_emit_laws_text.specs.emit_text.declared.LineBreak.{LineBreak}
-use Rattle.yaml_emit_laws_text.specs.emit_text.declared.LineBreak.TheVariants.{Lf, Cr, CrLf}
-use Rattle.yaml_emit_laws_text.specs.emit_text.Text.{letter, is_break}
-use Rattle.yaml_emit_laws_text.specs.emit_text.Layout.{Layout, Rest, when, char, blanks, new_line, line, indent_to, must_break, is_past}
+use Rattle.yaml_emit_laws_scalars.proofs.Words.{nat_tests, Cursor, LineBreak, Lf, letter, is_break, Layout, Rest, when, char, blanks, new_line, line, indent_to, must_break, is_past, first, value_break, adds_break, cuts_block, line_blank, block_text, block_char, behind_breaks, in_front, break_text, cond_true, cond_false, front_append, moved_by, spaced_by, LineMark, own, separator, paragraph, mark_char, mark_text, blanks_are, after_blanks, from_start, broken, at_line}
 use Rattle.yaml_emit_laws_text.specs.emit_text.declared.page.Page.{Page}
-use Rattle.yaml_emit_laws_text.specs.emit_text.Quoted.{first}
-use Rattle.yaml_emit_laws_text.specs.emit_text.Scalars.{value_break, adds_break, cuts_block, line_blank, block_text, block_char, behind_breaks}
 use Rattle.yaml_emit_laws_text.specs.emit_text.Style.{is_blank}
-use Rattle.yaml_emit_laws_text.specs.emit_text.Spelling.{in_front, break_text}
-use Rattle.yaml_emit_laws_text.proofs.Values.{cond_true, cond_false}
-use Rattle.yaml_emit_laws_text.proofs.Back.{front_append, moved_by, spaced_by}
-use Rattle.yaml_emit_laws_scalars.specs.BlockLines.{LineMark, own, separator, paragraph, mark_char, mark_text}
 use Rattle.yaml_emit_laws_scalars.proofs.BlockHeader.{mark_breaks}
-use Rattle.yaml_emit_laws_text.proofs.Single.{blanks_are, after_blanks, from_start, broken}
-use Rattle.yaml_emit_laws_text.proofs.Forms.{at_line}
 
 pub blanks_kept : (n : ℕ) (c : Cursor) → (after_blanks n c).kept ≡ c.kept
 blanks_kept zero c = refl
@@ -26,8 +13,7 @@ pub new_line_is : (b : LineBreak) (c : Cursor) (rest : Rest)
     → new_line b c rest ≡ in_front (break_text b) (rest (at_line c.kept))
 unfolding in_front
 new_line_is Lf c rest = refl
-new_line_is Cr c rest = refl
-new_line_is CrLf c rest = refl
+new_line_is _ c rest = refl
 
 indent_is : (n : ℕ) (kept : Bool) (rest : Rest)
     → indent_to n (at_line kept) rest

@@ -1,18 +1,14 @@
 -- A block scalar that stands behind the gap is the next lexeme.
 use Rattle.std.proofs.Common.{◌≡◌, ℕ, ◌+◌, ◌<◌, Bool, true, false, not, ◌&&◌, ◌==◌, nat_lt, List, [], ◌∷◌, length, Option, Some, None, Ok, refl, ap, ◌∙◌, arith}
-use Rattle.std.proofs.Math.Bool.{and-false}
-use Rattle.yaml_emit_laws_text.specs.scan_model.Marks.{mark_at}
+use Rattle.yaml_emit_laws_scalars.proofs.Words.{and-false, mark_at, WordText, kind_at, word_at, cond_false, kind_of, read_style, BlockStands}
 use Rattle.yaml_emit_laws_text.specs.scan_model.Tokens.{scalar}
 use Rattle.yaml_emit_laws_text.specs.scan_model.declared.problem.ScanFault.{ScanFault}
 use Rattle.yaml_emit_laws_text.specs.scan_history.declared.kind.Kind.{Kind}
 use Rattle.yaml_emit_laws_text.specs.scan_history.declared.lexeme.Lexeme.{Lexeme}
 use Rattle.yaml_emit_laws_text.specs.scan_history.Kinds.{cancels, is_end}
 use Rattle.yaml_emit_laws_text.specs.scan_history.History.{depth, in_flow, ended, candidate, levels, entries}
-use Rattle.yaml_emit_laws_text.specs.scan_history.Words.{WordText, kind_at, word_at}
 use Rattle.yaml_emit_laws_text.specs.scan_history.Next.{Next, Read, next, gap_behind, place_behind, kind_behind, allowed_behind, level_in, begun_behind, word_behind, with_end, lexeme_behind, misplaced, stale_before, indicator_misplaced, candidate_lost, text_wrong, stale_after, wrong_in, missed, colon_missing_of, first_fault_or, coming}
 use Rattle.yaml_emit_laws_text.specs.scan_history.Remaining.{body_of_word}
-use Rattle.yaml_emit_laws_text.proofs.Values.{cond_false}
-use Rattle.yaml_emit_laws_scalars.specs.BlockLaws.{kind_of, read_style, BlockStands}
 use Rattle.yaml_emit_laws_scalars.specs.BlockLexemes.{BlockIsNext}
 
 -- the lexeme

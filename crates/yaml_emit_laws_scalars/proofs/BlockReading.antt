@@ -1,25 +1,7 @@
 -- Lines of a block scalar that stand in a text are read.
 use Rattle.std.proofs.Common.{◌≡◌, ◌≢◌, ℕ, zero, suc, ◌+◌, ◌-◌, ◌/◌, ◌%◌, ◌<◌, ◌≤◌, true, false, not, ◌&&◌, ◌||◌, ◌==◌, nat_lt, List, [], ◌∷◌, ◌++◌, length, replicate, slice_range, Result, Ok, refl, sym, ap, subst, ◌∙◌, inl, inr, arith, add-zero, encode_utf8, encode_utf8_all, length-append}
-use Rattle.std.proofs.lemmas.Bool.{cases_lt, and_parts, not-true, eqb-false}
-use Rattle.std.proofs.lemmas.Bool.Decides.{nat_tests}
-use Rattle.std.proofs.lemmas.Str.{encode_ascii, encodes-append}
-use Rattle.yaml_emit_laws_text.specs.scan_model.Marks.{byte, break_of, break_width, column_at}
-use Rattle.yaml_emit_laws_text.specs.scan_model.Breaks.{break_value, feed_at}
-use Rattle.yaml_emit_laws_text.specs.scan_model.Runs.{is_text, line_end}
-use Rattle.yaml_emit_laws_text.specs.scan_model.Wrong.{Wrong}
-use Rattle.yaml_emit_laws_text.proofs.MarksLemmas.{within, past_break}
-use Rattle.yaml_emit_laws_text.proofs.RunsLemmas.{InRun, run_start, run_more, run_done, text_parts}
-use Rattle.yaml_emit_laws_text.proofs.HasLemmas.{Has, has, has_front, has_rest, range_reads}
-use Rattle.yaml_scan_block.specs.Value.{BlockLine, Empty, Words}
-use Rattle.yaml_scan_block.specs.Lines.{spaces, Line, spot_behind, line_spot, Lines, with_line, line_then, lines_from}
+use Rattle.yaml_emit_laws_scalars.proofs.Words.{cases_lt, and_parts, not-true, eqb-false, nat_tests, encode_ascii, encodes-append, byte, break_of, break_width, column_at, break_value, feed_at, is_text, line_end, Wrong, within, past_break, InRun, run_start, run_more, run_done, text_parts, Has, has, has_front, has_rest, range_reads, BlockLine, Empty, Words, spaces, Line, spot_behind, line_spot, Lines, with_line, line_then, lines_from, LineBreak, Lf, Cr, CrLf, is_break, cond_true, encode_1, encode_2, encode_3, encode_4, low_break, two_break, three_break, four_break, later_break, LineMark, own, separator, paragraph, mark_text, mark_bytes, mark_means, BodyLine, bare, full, line_text, body_text, line_bytes, body_bytes, read_line, read_lines, are_inside, AreInside, StandsLeft}
 use Rattle.yaml_scan_block.proofs.BlockLemmas.{space_column, empty_spot, end_spot, text_spot, stop_short, no_stop}
-use Rattle.yaml_emit_laws_text.specs.emit_text.declared.LineBreak.{LineBreak}
-use Rattle.yaml_emit_laws_text.specs.emit_text.declared.LineBreak.TheVariants.{Lf, Cr, CrLf}
-use Rattle.yaml_emit_laws_text.specs.emit_text.Text.{is_break}
-use Rattle.yaml_emit_laws_text.proofs.Values.{cond_true}
-use Rattle.yaml_emit_laws_text.proofs.Chars.{encode_1, encode_2, encode_3, encode_4}
-use Rattle.yaml_emit_laws_text.proofs.Bytes.{low_break, two_break, three_break, four_break, later_break}
-use Rattle.yaml_emit_laws_scalars.specs.BlockLines.{LineMark, own, separator, paragraph, mark_text, mark_bytes, mark_means, BodyLine, bare, full, line_text, body_text, line_bytes, body_bytes, read_line, read_lines, are_inside, AreInside, StandsLeft}
 use Rattle.yaml_emit_laws_scalars.proofs.BlockHeader.{NoFeed, breaks, text_encodes, no_text_there}
 
 -- ---- bytes of a text
@@ -273,9 +255,8 @@ pub left_of : (text : List ℕ) (q n k : ℕ) → StandsLeft text q n k → Left
 left_of text q n k h = record { fewer = h.fewer; spaces = has text q (replicate k 32) h.spaces; no_space = h.behind.no_space; no_tab = h.behind.no_tab; no_break = h.behind.no_break }
 
 space_feed : (b : LineBreak) (x : ℕ) → x ≢ 10 → NoFeed b x
-space_feed Lf x h = tt
 space_feed Cr x h = h
-space_feed CrLf x h = tt
+space_feed _ x h = tt
 
 left_feed : (b : LineBreak) (text : List ℕ) (q n k : ℕ) → Left text q n k → NoFeed b (byte text q)
 left_feed b text q n zero l = space_feed b (byte text q) (subst (λ r. byte text r ≢ 10) (add-zero q) (stop_feed text (q + 0) l.no_break))

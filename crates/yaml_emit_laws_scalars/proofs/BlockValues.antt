@@ -1,27 +1,11 @@
 -- The body of a block scalar is lines, and they are read as the value: by its characters.
 use Rattle.std.proofs.Common.{◌≡◌, ℕ, Bool, true, false, not, ◌&&◌, ◌==◌, List, [], ◌∷◌, ◌++◌, replicate, refl, sym, ap, subst, ◌∙◌, arith, append-nil, append_assoc, encode_utf8, encode_utf8_all}
-use Rattle.std.proofs.lemmas.Str.{encode_ascii}
-use Rattle.std.proofs.lemmas.Bool.{false≢true, true≢false, eqb-true, and_from, and_parts, not-true, ne_eqb}
-use Rattle.std.proofs.Math.Bool.{and-false}
-use Rattle.yaml_scan_block.specs.Header.{chomp_of as chomp_at}
-use Rattle.yaml_scan_block.specs.Value.{BlockLine, Words, texts_of, starts_blank, between, at_end, behind_text}
-use Rattle.yaml_scan_block.specs.Stacked.{stacked_with}
-use Rattle.yaml_scan_block.proofs.StackingLemmas.{stack_empty}
-use Rattle.yaml_emit_laws_text.specs.emit_text.declared.Cursor.{Cursor}
+use Rattle.yaml_emit_laws_scalars.proofs.Words.{encode_ascii, false≢true, true≢false, eqb-true, and_from, and_parts, not-true, ne_eqb, and-false, chomp_at, BlockLine, Words, texts_of, starts_blank, between, at_end, behind_text, stacked_with, stack_empty, Cursor, letter, is_break, Rest, is_past, is_printable, first, last_or, behind_breaks, adds_break, cuts_block, line_blank, block_body, chomp, in_front, break_text, front_append, moved_by, LineMark, own, mark_char, mark_text, mark_means, BodyLine, bare, full, body_text, read_lines, are_inside, AreInside, closing, bool_cases, after_blanks, at_line}
 use Rattle.yaml_emit_laws_text.specs.emit_text.declared.page.Page.{Page}
-use Rattle.yaml_emit_laws_text.specs.emit_text.Text.{letter, is_break}
-use Rattle.yaml_emit_laws_text.specs.emit_text.Layout.{Rest, is_past}
-use Rattle.yaml_emit_laws_text.specs.emit_text.Quoted.{is_printable, first}
-use Rattle.yaml_emit_laws_text.specs.emit_text.Style.{is_blank, last_or}
-use Rattle.yaml_emit_laws_text.specs.emit_text.Scalars.{behind_breaks, adds_break, cuts_block, line_blank, block_body, chomp}
-use Rattle.yaml_emit_laws_text.specs.emit_text.Spelling.{in_front, break_text}
-use Rattle.yaml_emit_laws_text.proofs.Back.{front_append, moved_by}
-use Rattle.yaml_emit_laws_scalars.specs.BlockLines.{LineMark, own, mark_char, mark_text, mark_means, BodyLine, bare, full, body_text, read_lines, are_inside, AreInside, closing}
+use Rattle.yaml_emit_laws_text.specs.emit_text.Style.{is_blank}
 use Rattle.yaml_emit_laws_scalars.proofs.BlockHeader.{mark_breaks, mark_encodes, mark_some, mark_feed, mark_of, text_blank}
 use Rattle.yaml_emit_laws_scalars.proofs.BlockLayouts.{blanks_kept, break_is, none_added, first_is, char_is, cut_is, blank_break, blank_first, blank_in}
 use Rattle.yaml_emit_laws_scalars.proofs.BlockWaiting.{read_chomp, Waits, owed, stacked_so, waits_end, waits_text, waits_break, break_owed}
-use Rattle.yaml_emit_laws_text.proofs.Single.{bool_cases, after_blanks}
-use Rattle.yaml_emit_laws_text.proofs.Forms.{at_line}
 
 -- ---- characters of a value
 

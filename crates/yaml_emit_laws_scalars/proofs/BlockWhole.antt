@@ -1,51 +1,16 @@
 -- A block scalar and the line behind it, and both at a position of a layout.
 use Rattle.std.proofs.Common.{◌≡◌, ℕ, zero, suc, ◌+◌, ◌-◌, ◌<◌, ◌≤◌, Bool, true, false, not, ◌&&◌, ◌||◌, ◌==◌, List, ◌++◌, length, replicate, Option, Some, None, refl, sym, ap, subst, ◌∙◌, arith, append_assoc, encode_utf8_all, if◌then◌else◌, chars, length-append, ◌≢◌, Ok, add-zero, nat_lt, [], ◌∷◌, Result, encode_utf8}
-use Rattle.std.proofs.lemmas.Str.{encodes-append, encode_ascii, encodes-chars}
-use Rattle.yaml_emit_laws_text.specs.scan_history.scan_words.Written.{HasAt}
-use Rattle.yaml_emit_laws_text.proofs.HasLemmas.{has, has_front, has_rest, has_at, Has}
-use Rattle.yaml_emit_laws_text.specs.emit_text.declared.Cursor.{Cursor}
-use Rattle.yaml_emit_laws_text.specs.emit_text.declared.LineBreak.{LineBreak}
+use Rattle.yaml_emit_laws_scalars.proofs.Words.{encodes-append, encode_ascii, encodes-chars, HasAt, has, has_front, has_rest, has_at, Has, Cursor, LineBreak, Style, Rest, line, when, char, new_line, after_block, allowed, plain_fits, single_or, block_or, plain_or, taken, somewhere, is_special, ends_in_space, last_or, chomp, ends_in_break, digit_char, chomp_mark, block_body, scalar_text, in_front, break_text, yaml_scalar_style_t, NodePosition, Scalar, is_some, scalar_tag, Context, is_simple_part, deeper, style_of, page_at, front_append, moved_by, closing, NoWhite, own, mark_bytes, BodyLine, bare, full, body_text, body_bytes, read_lines, AreInside, StandsLeft, is_keep, BlockStands, BlockReads, BlockIsReadBack, BlockBeforeLine, margin_round, block_style, BlockIsChosen, BlockAtPosition, from_indicator, kind_of, read_style, BlockIsLaidOut, after_blanks, special_left, at_line, nat_tests, byte, break_width, column_at, is_blank, is_space_there, InRun, run_start, run_more, run_done, no_space, text_parts, false≢true, true≢false, not-true, or_parts, eqb-false, Wrong, is_document_start, is_document_end, indicator_of, kind_at, blocked, word_at, starts_blank, block_value, stacked_with, chomp_at, Lines, lines_from, Chomp, letter, is_break, is_printable, first, cond_true}
 use Rattle.yaml_emit_laws_text.specs.emit_text.declared.page.Page.{Page}
 use Rattle.yaml_emit_laws_text.specs.emit_text.declared.page.Allowed.{Allowed}
-use Rattle.yaml_emit_laws_text.specs.emit_text.declared.Style.{Style}
 use Rattle.yaml_emit_laws_text.specs.emit_text.declared.Style.TheVariants as style
-use Rattle.yaml_emit_laws_text.specs.emit_text.Layout.{Rest, line, when, char, new_line, after_block}
-use Rattle.yaml_emit_laws_text.specs.emit_text.Style.{allowed, plain_fits, single_or, block_or, plain_or, taken, somewhere, is_special, ends_in_space, last_or}
-use Rattle.yaml_emit_laws_text.specs.emit_text.Scalars.{chomp, ends_in_break, digit_char, chomp_mark, block_body, scalar_text}
-use Rattle.yaml_emit_laws_text.specs.emit_text.Spelling.{in_front, break_text}
-use Rattle.yaml_emit_laws_text.specs.scan_model.declared.yaml_scalar_style_t.{yaml_scalar_style_t}
 use Rattle.yaml_emit_laws_text.specs.scan_model.declared.yaml_scalar_style_t.TheVariants as asked
-use Rattle.yaml_emit_laws_text.specs.emit_layout.declared.level.NodePosition.{NodePosition}
-use Rattle.yaml_emit_laws_text.specs.emit_layout.Content.{Scalar}
-use Rattle.yaml_emit_laws_text.specs.emit_layout.Grammar.{has as is_some, scalar_tag}
-use Rattle.yaml_emit_laws_text.specs.emit_layout.Nodes.{Context, is_simple_part, deeper, style_of, page_at}
-use Rattle.yaml_emit_laws_text.proofs.Back.{front_append, moved_by}
-use Rattle.yaml_emit_laws_scalars.specs.BlockLines.{closing, NoWhite, own, mark_bytes, BodyLine, bare, full, body_text, body_bytes, read_lines, AreInside, StandsLeft}
-use Rattle.yaml_emit_laws_scalars.specs.BlockLaws.{is_keep, BlockStands, BlockReads, BlockIsReadBack, BlockBeforeLine, margin_round, block_style, BlockIsChosen, BlockAtPosition, from_indicator, kind_of, read_style, BlockIsLaidOut}
 use Rattle.yaml_emit_laws_scalars.proofs.BlockLayouts.{line_is, start_is, new_line_is}
 use Rattle.yaml_emit_laws_scalars.proofs.BlockReading.{spaces_encode, length_spaces, spaces_column, left_of, next_feed, length_more, AllText, chars_text, body_reads, body_column, body_encodes}
-use Rattle.yaml_emit_laws_text.proofs.Single.{after_blanks, special_left}
-use Rattle.yaml_emit_laws_text.proofs.Forms.{at_line}
-use Rattle.std.proofs.lemmas.Bool.Decides.{nat_tests}
-use Rattle.yaml_emit_laws_text.specs.scan_model.Marks.{byte, break_width, column_at, is_blank}
-use Rattle.yaml_emit_laws_text.specs.scan_model.Runs.{is_space_there}
-use Rattle.yaml_emit_laws_text.proofs.RunsLemmas.{InRun, run_start, run_more, run_done, no_space, text_parts}
 use Rattle.yaml_scan_block.specs.Block.{larger, column_of, BlockText, block_with, block_at, style_at}
 use Rattle.yaml_scan_block.proofs.DepthLemmas.{depth_done, column_given, column_found}
-use Rattle.std.proofs.lemmas.Bool.{false≢true, true≢false, not-true, or_parts, eqb-false}
-use Rattle.yaml_emit_laws_text.specs.scan_model.Wrong.{Wrong}
-use Rattle.yaml_emit_laws_text.specs.scan_history.scan_words.Indicators.{is_document_start, is_document_end}
-use Rattle.yaml_emit_laws_text.specs.scan_history.Words.{indicator_of, kind_at, blocked, word_at}
-use Rattle.yaml_scan_block.specs.Value.{starts_blank, block_value}
-use Rattle.yaml_scan_block.specs.Stacked.{stacked_with}
-use Rattle.yaml_scan_block.specs.Header.{chomp_of as chomp_at}
-use Rattle.yaml_scan_block.specs.Lines.{Lines, lines_from}
 use Rattle.yaml_scan_block.proofs.ScalarLemmas.{block_found}
-use Rattle.yaml_emit_laws_text.specs.emit_text.declared.page.Chomp.{Chomp}
 use Rattle.yaml_emit_laws_text.specs.emit_text.declared.page.Chomp.TheVariants as chomping
-use Rattle.yaml_emit_laws_text.specs.emit_text.Text.{letter, is_break}
-use Rattle.yaml_emit_laws_text.specs.emit_text.Quoted.{is_printable, first}
-use Rattle.yaml_emit_laws_text.proofs.Values.{cond_true}
 use Rattle.yaml_emit_laws_scalars.proofs.BlockHeader.{text_encodes, text_blank, digit_text, digit_value, chomp_text, header_reads}
 use Rattle.yaml_emit_laws_scalars.proofs.BlockWaiting.{read_chomp, Waits}
 use Rattle.yaml_emit_laws_scalars.proofs.BlockValues.{AreGood, HasFirst, Begins, Starts, starts, unblank}
@@ -176,12 +141,11 @@ taken_block : (a : Allowed) (s : yaml_scalar_style_t) (untagged flow simple empt
     → IsBlock (taken a s untagged flow simple empty)
     → (a.block ≡ true) × (flow ≡ false) × (simple ≡ false)
 unfolding taken
-taken_block a asked.YAML_ANY_SCALAR_STYLE untagged flow simple empty h = absurd (plain_not a untagged flow simple empty h)
-taken_block a asked.YAML_PLAIN_SCALAR_STYLE untagged flow simple empty h = absurd (plain_not a untagged flow simple empty h)
 taken_block a asked.YAML_SINGLE_QUOTED_SCALAR_STYLE untagged flow simple empty h = absurd (single_not a h)
 taken_block a asked.YAML_DOUBLE_QUOTED_SCALAR_STYLE untagged flow simple empty h = absurd h
 taken_block a asked.YAML_LITERAL_SCALAR_STYLE untagged flow simple empty h = block_by a flow simple style.Literal h
 taken_block a asked.YAML_FOLDED_SCALAR_STYLE untagged flow simple empty h = block_by a flow simple style.Folded h
+taken_block a _ untagged flow simple empty h = absurd (plain_not a untagged flow simple empty h)
 
 pretty_block : (canonical : Bool) (s : Style) → IsBlock (if canonical then style.Double else s)
     → (canonical ≡ false) × IsBlock s
@@ -292,13 +256,11 @@ chomp_is : (k : Chomp) (c : Cursor) (rest : Rest)
     → chomp_mark k c rest ≡ in_front (chomp_text k) (rest (after_chomp k c))
 unfolding in_front
 chomp_is chomping.Strip c rest = refl
-chomp_is chomping.Clip c rest = refl
-chomp_is chomping.Keep c rest = refl
+chomp_is _ c rest = refl
 
 chomp_kept : (k : Chomp) (c : Cursor) → (after_chomp k c).kept ≡ is_keep k
 chomp_kept chomping.Strip c = refl
-chomp_kept chomping.Clip c = refl
-chomp_kept chomping.Keep c = refl
+chomp_kept _ c = refl
 
 abbrev header_text : Bool → ℕ → Chomp → LineBreak → List ℕ
 header_text shown d k b = digit_text shown d ++ (chomp_text k ++ break_text b)
@@ -371,8 +333,6 @@ column_first : (b : LineBreak) (level n x : ℕ) (ls : List BodyLine) (text : Li
     → Has text p (body_bytes b n ls)
     → column_of level text 0 p ≡ Ok n
 unfolding body_bytes
-column_first b level n x [] text p l some c f e i h = absurd f
-column_first b level n x (bare m ∷ ls) text p l some c f e i h = absurd f
 column_first b level n x (full y ys m ∷ ls) text p l some c f e (j, i) h =
     let words = encode_utf8_all (y ∷ ys) in
     let spaces = replicate n 32 in
@@ -384,6 +344,7 @@ column_first b level n x (full y ys m ∷ ls) text p l some c f e (j, i) h =
     let long = length_more y ys in
     let (space, tab) = no_blank (byte text (p + n)) (blank_here text (p + n) words long w ∙ text_blank y ys ∙ ap (λ z. is_blank z) (sym f) ∙ e) in
     column_by_text level n text p l some c sp space tab (text_here text (p + n) words long (chars_text text (p + n) (y ∷ ys) j w))
+column_first b level n x _ text p l some c f e i h = absurd f
 
 column_is : (b : LineBreak) (shown : Bool) (level n digit : ℕ) (cs : List ℕ) (ls : List BodyLine)
     (text : List ℕ) (p : ℕ) → Allows cs → is_shown cs ≡ shown → 0 < digit → (level - 1) + digit ≡ n

@@ -1,26 +1,9 @@
 -- What is written for a character inside a plain or single quoted scalar is a part of a spelling.
 use Rattle.std.proofs.Common.{◌≡◌, ℕ, ◌+◌, ◌<◌, Bool, true, false, ◌&&◌, ◌||◌, ◌==◌, List, [], ◌∷◌, ◌++◌, replicate, refl, sym, ap, ◌∙◌, inl, inr, ◌⊎◌, arith, append-nil, encode_utf8, encode_utf8_all}
-use Rattle.std.proofs.lemmas.Bool.{true≢false, lt-ltb, eqb-true, and_parts, or_parts, ne_eqb, eqb-false}
-use Rattle.std.proofs.lemmas.Str.{encode_ascii}
+use Rattle.yaml_emit_laws_scalars.proofs.Words.{true≢false, lt-ltb, eqb-true, and_parts, or_parts, ne_eqb, eqb-false, encode_ascii, is_blank, Cursor, LineBreak, Lf, letter, is_break, Layout, Rest, when, char, line, is_past, Page, is_printable, first, cuts_at, text_char, in_front, break_text, may_turn, QuotedPart, raw, doubled, fold, may_be_raw, MayStand, spelled, meant, is_raw_blank, is_turn, may_follow, cond_true, cond_false, low_encodes, end_of, fold_bytes, fold_means, space_encodes, moved_by, blank_follows, fold_follows, other_follows, line_is, bool_cases, after_blanks, line_start, cut_needs, not_start}
 use lib.Utf8.{scalar}
-use Rattle.yaml_emit_laws_text.specs.scan_model.Marks.{is_blank}
-use Rattle.yaml_emit_laws_text.specs.emit_text.declared.Cursor.{Cursor}
-use Rattle.yaml_emit_laws_text.specs.emit_text.declared.LineBreak.{LineBreak}
-use Rattle.yaml_emit_laws_text.specs.emit_text.declared.LineBreak.TheVariants.{Lf, Cr, CrLf}
-use Rattle.yaml_emit_laws_text.specs.emit_text.Text.{letter, is_break}
-use Rattle.yaml_emit_laws_text.specs.emit_text.Layout.{Layout, Rest, when, char, line, is_past}
-use Rattle.yaml_emit_laws_text.specs.emit_text.declared.Page.{Page}
-use Rattle.yaml_emit_laws_text.specs.emit_text.Quoted.{is_printable, first}
-use Rattle.yaml_emit_laws_text.specs.emit_text.Scalars.{cuts_at, text_char}
-use Rattle.yaml_emit_laws_text.specs.emit_text.Spelling.{in_front, break_text}
-use Rattle.yaml_emit_laws_text.specs.Spelling.{may_turn, QuotedPart, raw, doubled, fold, may_be_raw, MayStand, spelled, meant, is_raw_blank, is_turn, may_follow}
-use Rattle.yaml_emit_laws_text.proofs.Values.{cond_true, cond_false}
-use Rattle.yaml_emit_laws_text.proofs.Escapes.{low_encodes, end_of, fold_bytes, fold_means, space_encodes}
-use Rattle.yaml_emit_laws_text.proofs.Back.{moved_by}
 use Rattle.yaml_emit_laws_scalars.proofs.Lines.{blanks_column, blanks_kept}
 use Rattle.yaml_emit_laws_scalars.proofs.PlainParts.{IsOne, is_plain_end}
-use Rattle.yaml_emit_laws_text.proofs.Single.{blank_follows, fold_follows, other_follows, line_is, bool_cases, after_blanks, line_start, cut_needs}
-use Rattle.yaml_emit_laws_text.proofs.Steps.{not_start}
 
 -- ---- characters
 
@@ -118,8 +101,7 @@ pub record Behind (before : ℕ) (c : Cursor) (last : QuotedPart) (value : List 
 
 own_plain : (b : LineBreak) → is_plain_end (end_of b) ≡ true
 own_plain Lf = refl
-own_plain Cr = refl
-own_plain CrLf = refl
+own_plain _ = refl
 
 lined_column : (n : ℕ) (c : Cursor) → 0 < n → (after_blanks n (line_start c)).column ≡ 0 → ⊥
 lined_column n c some z = let e = blanks_column n (line_start c) in omega (arith, some, z, e)

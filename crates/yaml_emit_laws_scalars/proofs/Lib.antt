@@ -1,3 +1,4 @@
+mod Words
 pub mod Standing
 pub mod PlainParts
 pub mod Lines

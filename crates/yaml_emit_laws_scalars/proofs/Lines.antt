@@ -1,22 +1,7 @@
 -- Lines and breaks that a layout writes inside a scalar.
 use Rattle.std.proofs.Common.{◌≡◌, ℕ, zero, suc, ◌+◌, ◌-◌, Bool, true, false, not, ◌&&◌, ◌||◌, ◌==◌, nat_lt, List, [], ◌∷◌, ◌++◌, replicate, refl, sym, ap, subst, ◌∙◌, inl, inr, ◌⊎◌, arith, append-nil, encode_utf8, encode_utf8_all, true≢false, eqb-true, ne_eqb}
-use Rattle.std.proofs.lemmas.Bool.Decides.{nat_tests}
-use Rattle.std.proofs.Math.Bool.{and-false}
+use Rattle.yaml_emit_laws_scalars.proofs.Words.{nat_tests, and-false, Cursor, LineBreak, Lf, Cr, CrLf, is_break, Rest, blanks, new_line, line, indent_to, must_break, is_printable, value_break, in_front, break_text, LineEnd, line_separator, paragraph_separator, end_bytes, end_means, is_return, is_feed_end, encode_1, encode_3, cond_false, low_encodes, end_of, spaced_by, new_line_is, blanks_are, bool_cases, after_blanks, line_start}
 use Rattle.yaml_emit_laws_text.specs.scan_history.scan_scalars.Pieces.{gap}
-use Rattle.yaml_emit_laws_text.specs.emit_text.declared.Cursor.{Cursor}
-use Rattle.yaml_emit_laws_text.specs.emit_text.declared.LineBreak.{LineBreak}
-use Rattle.yaml_emit_laws_text.specs.emit_text.declared.LineBreak.TheVariants.{Lf, Cr, CrLf}
-use Rattle.yaml_emit_laws_text.specs.emit_text.Text.{is_break}
-use Rattle.yaml_emit_laws_text.specs.emit_text.Layout.{Rest, blanks, new_line, line, indent_to, must_break}
-use Rattle.yaml_emit_laws_text.specs.emit_text.Quoted.{is_printable}
-use Rattle.yaml_emit_laws_text.specs.emit_text.Scalars.{value_break}
-use Rattle.yaml_emit_laws_text.specs.emit_text.Spelling.{in_front, break_text}
-use Rattle.yaml_emit_laws_text.specs.Spelling.{LineEnd, line_separator, paragraph_separator, end_bytes, end_means, is_return, is_feed_end}
-use Rattle.yaml_emit_laws_text.proofs.Chars.{encode_1, encode_3}
-use Rattle.yaml_emit_laws_text.proofs.Values.{cond_false}
-use Rattle.yaml_emit_laws_text.proofs.Escapes.{low_encodes, end_of}
-use Rattle.yaml_emit_laws_text.proofs.Back.{spaced_by}
-use Rattle.yaml_emit_laws_text.proofs.Single.{new_line_is, blanks_are, bool_cases, after_blanks, line_start}
 
 -- ---- lines
 
@@ -82,13 +67,11 @@ pub record BreakOf (b : LineBreak) (x : ℕ) : Type 0 where
 
 pub own_fits : (b : LineBreak) → (is_return (end_of b) && is_feed_end (end_of b)) ≡ false
 own_fits Lf = refl
-own_fits Cr = refl
-own_fits CrLf = refl
+own_fits _ = refl
 
 pub own_means : (b : LineBreak) → end_means (end_of b) ≡ 10 ∷ []
 own_means Lf = refl
-own_means Cr = refl
-own_means CrLf = refl
+own_means _ = refl
 
 pub own_bytes : (b : LineBreak) → encode_utf8_all (break_text b) ≡ end_bytes (end_of b)
 own_bytes Lf = low_encodes (10 ∷ []) (omega arith, tt)

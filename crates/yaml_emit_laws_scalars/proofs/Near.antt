@@ -1,28 +1,8 @@
 -- Layouts that stay in their line, by how many bytes they write.
 use Rattle.std.proofs.Common.{◌≡◌, ℕ, suc, ◌+◌, ◌*◌, ◌<◌, ◌≤◌, Bool, true, false, not, ◌&&◌, ◌==◌, nat_lt, List, [], ◌∷◌, ◌++◌, length, refl, sym, ap, subst, ◌∙◌, inl, inr, arith, append-nil, append_assoc, encode_utf8, encode_utf8_all, length-append}
-use Rattle.std.proofs.lemmas.Bool.{cases_Bool, cases_lt, cases_eq, true≢false, and_parts, not-true, and_from}
-use Rattle.std.proofs.lemmas.Str.{encodes-append}
-use Rattle.std.specs.Str.{all_scalars}
+use Rattle.yaml_emit_laws_scalars.proofs.Words.{cases_Bool, cases_lt, cases_eq, true≢false, and_parts, not-true, and_from, encodes-append, all_scalars, Cursor, Page, letter, is_break, Layout, Rest, ◌▹◌, stay, when, char, letters, blank, gap, word, opener, after_text, line, needs_escape, escape_letter, escape_text, escaped, quoted_char, quoted_body, first, is_empty, cuts_at, quote_char, text_char, flow_char, flow_body, in_front, MOST, checked, is_one_line, bytes, encode_1, encode_2, encode_3, encode_4, cond_true, cond_false, AreCalm, escape_by_letter, escape_by_2, escape_by_4, escape_by_8, escape_calm, front_one, char_escaped, moved_by, spaced_by, deep_bytes, front_encodes, StaysNear}
 use lib.Utf8.{scalar}
-use Rattle.yaml_emit_laws_text.specs.emit_text.declared.Cursor.{Cursor}
-use Rattle.yaml_emit_laws_text.specs.emit_text.declared.Page.{Page}
-use Rattle.yaml_emit_laws_text.specs.emit_text.Text.{letter, is_break}
-use Rattle.yaml_emit_laws_text.specs.emit_text.Layout.{Layout, Rest, ◌▹◌, stay, when, char, letters, blank, gap, word, opener, after_text, line}
-use Rattle.yaml_emit_laws_text.specs.emit_text.Quoted.{needs_escape, escape_letter, escape_text, escaped, quoted_char, quoted_body, first, is_empty}
-use Rattle.yaml_emit_laws_text.specs.emit_text.Scalars.{cuts_at, quote_char, text_char, flow_char, flow_body}
-use Rattle.yaml_emit_laws_text.specs.emit_text.Spelling.{in_front}
-use Rattle.yaml_emit_laws_text.specs.emit_layout.Nodes.{MOST, checked}
-use Rattle.yaml_emit_laws_text.specs.ReadBack.{is_one_line}
-use Rattle.yaml_emit_laws_text.specs.Walk.{bytes}
-use Rattle.yaml_emit_laws_text.proofs.Chars.{encode_1, encode_2, encode_3, encode_4}
-use Rattle.yaml_emit_laws_text.proofs.Values.{cond_true, cond_false}
-use Rattle.yaml_emit_laws_text.proofs.Bytes.{AreCalm}
-use Rattle.yaml_emit_laws_text.proofs.Escapes.{escape_by_letter, escape_by_2, escape_by_4, escape_by_8, escape_calm}
-use Rattle.yaml_emit_laws_text.proofs.Back.{front_one, char_escaped, moved_by, spaced_by}
 use Rattle.yaml_emit_laws_text.proofs.Keys.{line_append, calm_line, raw_inside}
-use Rattle.yaml_emit_laws_text.proofs.Steps.{deep_bytes}
-use Rattle.yaml_emit_laws_text.proofs.Words.{front_encodes}
-use Rattle.yaml_emit_laws_scalars.specs.KeysLaws.{StaysNear}
 
 abbrev pub size : List ℕ → ℕ
 size xs = length (encode_utf8_all xs)

@@ -1,41 +1,20 @@
 -- Simple keys, with their properties, stay in their line.
 use Rattle.std.proofs.Common.{◌≡◌, ℕ, suc, ◌+◌, ◌-◌, ◌*◌, ◌/◌, ◌%◌, ◌<◌, ◌≤◌, Bool, true, false, not, ◌&&◌, ◌||◌, ◌==◌, nat_le, nat_lt, List, [], ◌∷◌, ◌++◌, length, Option, Some, None, refl, sym, ap, subst, ◌∙◌, inl, inr, arith, encode_utf8_all, IsUtf8, if◌then◌else◌, length-append, chars}
-use Rattle.std.proofs.lemmas.Bool.{cases_Bool, true≢false, and_parts, not-true, ne_eqb}
-use Rattle.std.proofs.lemmas.Bool.Decides.{nat_tests}
-use Rattle.std.proofs.lemmas.Str.{scalars-chars, encodes-chars}
-use Rattle.std.proofs.Math.Bool.{and-false}
-use Rattle.yaml_emit_laws_text.specs.scan_model.Classes.{is_alpha_byte, is_digit_byte, has_break}
-use Rattle.yaml_emit_laws_text.specs.scan_history.scan_words.Written.{are_alphas}
-use Rattle.yaml_emit_laws_text.specs.scan_model.declared.yaml_scalar_style_t.{yaml_scalar_style_t}
+use Rattle.yaml_emit_laws_scalars.proofs.Words.{cases_Bool, true≢false, and_parts, not-true, ne_eqb, nat_tests, scalars-chars, encodes-chars, and-false, is_alpha_byte, is_digit_byte, are_alphas, yaml_scalar_style_t, Cursor, Page, Settings, Allowed, Style, is_break, Layout, ◌▹◌, stay, when, char, gap, word, opener, after_text, line, is_empty, quoted_body, flow_body, scalar_text, allowed, taken, plain_fits, single_or, Scalar, Start, alias_node, scalar_node, sequence_node, mapping_node, no_nodes, node, no_pairs, pair, Opening, kept_if, scalar_tag, start_tag, Context, context_of, position, deeper, checked, anchor_text, tag_text, properties_text, is_plain, style_of, page_at, scalar_layout, alias_layout, text_size, written_size, properties_size, is_simple_scalar, is_simple_alias, is_simple_start, is_simple, is_flow, indent_of, indented, closer, node_layout, items_layout, pairs_layout, is_one_line, cond_true, cond_false, AreCalm, calm_from, StaysNear, SimpleKeysAreNear, bool_cases}
+use Rattle.yaml_emit_laws_text.specs.scan_model.Classes.{has_break}
 use Rattle.yaml_emit_laws_text.specs.scan_model.declared.yaml_scalar_style_t.TheVariants as asked
-use Rattle.yaml_emit_laws_text.specs.emit_text.declared.Cursor.{Cursor}
-use Rattle.yaml_emit_laws_text.specs.emit_text.declared.Page.{Page}
-use Rattle.yaml_emit_laws_text.specs.emit_text.declared.Settings.{Settings}
-use Rattle.yaml_emit_laws_text.specs.emit_text.declared.Allowed.{Allowed}
-use Rattle.yaml_emit_laws_text.specs.emit_text.declared.Style.{Style}
 use Rattle.yaml_emit_laws_text.specs.emit_text.declared.Style.TheVariants as style
 use Rattle.yaml_emit_laws_text.specs.emit_text.Hex.{hex_2, hex_digit}
-use Rattle.yaml_emit_laws_text.specs.emit_text.Text.{is_break}
-use Rattle.yaml_emit_laws_text.specs.emit_text.Layout.{Layout, ◌▹◌, stay, when, char, gap, word, opener, after_text, line}
-use Rattle.yaml_emit_laws_text.specs.emit_text.Quoted.{is_empty, quoted_body}
-use Rattle.yaml_emit_laws_text.specs.emit_text.Scalars.{flow_body, scalar_text}
-use Rattle.yaml_emit_laws_text.specs.emit_text.Style.{allowed, taken, plain_fits, single_or}
 use Rattle.yaml_emit_laws_text.specs.emit_layout.emit_tags.Tags.{suffix_keeps, keeps_byte, uri_byte, uri_text, Split, shorthand, verbatim, spelled, split_tag, tag_spelling, split_size}
 use Rattle.yaml_emit_laws_text.specs.emit_layout.declared.level.Part.TheVariants as part
-use Rattle.yaml_emit_laws_text.specs.emit_layout.Content.{Scalar, Start, alias_node, scalar_node, sequence_node, mapping_node, no_nodes, node, no_pairs, pair, Opening}
-use Rattle.yaml_emit_laws_text.specs.emit_layout.Grammar.{has, kept_if, scalar_tag, start_tag}
-use Rattle.yaml_emit_laws_text.specs.emit_layout.Nodes.{Context, context_of, position, deeper, checked, anchor_text, tag_text, properties_text, is_plain, style_of, mark_text, page_at, scalar_layout, alias_layout, text_size, written_size, properties_size, is_simple_scalar, is_simple_alias, is_simple_start, is_simple, is_flow, indent_of, indented, closer, node_layout, items_layout, pairs_layout}
-use Rattle.yaml_emit_laws_text.specs.ReadBack.{is_one_line}
+use Rattle.yaml_emit_laws_text.specs.emit_layout.Grammar.{has}
+use Rattle.yaml_emit_laws_text.specs.emit_layout.Nodes.{mark_text}
 use Rattle.yaml_emit_laws_text.specs.TagsLaws.{IsShaped, IsReadable, are_ascii, IsMarked}
 use Rattle.yaml_emit_laws_text.specs.Writable.{IsWritableName, IsWritableAnchor, IsWritableTag, IsWritableOpening}
-use Rattle.yaml_emit_laws_text.proofs.Values.{cond_true, cond_false}
-use Rattle.yaml_emit_laws_text.proofs.Bytes.{AreCalm, calm_from}
 use Rattle.yaml_emit_laws_text.proofs.Joining.{written_readable}
 use Rattle.yaml_emit_laws_text.proofs.Ascii.{spelled_ascii}
-use Rattle.yaml_emit_laws_scalars.specs.KeysLaws.{StaysNear, SimpleKeysAreNear}
 use Rattle.yaml_emit_laws_scalars.proofs.Near.{near_on, near_most, near_to, near_when, near_sign, near_gap, near_word, near_checked, near_after, near_opener, near_flow, near_body}
 use Rattle.yaml_emit_laws_scalars.proofs.OneLine.{no_breaks}
-use Rattle.yaml_emit_laws_text.proofs.Single.{bool_cases}
 
 -- ---- bytes above the controls
 
@@ -159,11 +138,9 @@ kept_writable false tag h = tt
 -- ---- styles of keys
 
 abbrev is_key_style : Style → Bool
-is_key_style style.Plain = true
-is_key_style style.Single = true
-is_key_style style.Double = true
 is_key_style style.Literal = false
 is_key_style style.Folded = false
+is_key_style _ = true
 
 abbrev or_double : Bool → Style → Style
 or_double b s = if b then s else style.Double
@@ -185,12 +162,11 @@ block_key false flow s = refl
 taken_key : (a : Allowed) (s : yaml_scalar_style_t) (untagged flow empty : Bool)
     → is_key_style (taken a s untagged flow true empty) ≡ true
 unfolding taken
-taken_key a asked.YAML_ANY_SCALAR_STYLE untagged flow empty = plain_key a untagged flow empty
-taken_key a asked.YAML_PLAIN_SCALAR_STYLE untagged flow empty = plain_key a untagged flow empty
 taken_key a asked.YAML_SINGLE_QUOTED_SCALAR_STYLE untagged flow empty = single_key a
 taken_key a asked.YAML_DOUBLE_QUOTED_SCALAR_STYLE untagged flow empty = refl
 taken_key a asked.YAML_LITERAL_SCALAR_STYLE untagged flow empty = block_key a.block flow style.Literal
 taken_key a asked.YAML_FOLDED_SCALAR_STYLE untagged flow empty = block_key a.block flow style.Folded
+taken_key a _ untagged flow empty = plain_key a untagged flow empty
 
 style_key : (p : Context) (flow : Bool) (n : ℕ) (x : Scalar)
     → is_key_style (style_of p (position flow n part.SimpleKey) x) ≡ true
@@ -232,8 +208,7 @@ near_text page digit flow style.Double value c k g u l =
     let cs = chars value in
     let same : length (encode_utf8_all cs) ≡ length value = ap (λ (bs : List ℕ). length bs) (encodes-chars value u) in
     near_most _ c (4 * length (encode_utf8_all cs) + 3) (4 * length value + 3) (omega (arith, same)) (near_between (quoted_body page 32 cs) 34 c (4 * length (encode_utf8_all cs)) (omega arith) (omega arith) (λ d. near_body page 32 cs d g (scalars-chars value u)))
-near_text page digit flow style.Literal value c k g u l = absurd (true≢false (sym k))
-near_text page digit flow style.Folded value c k g u l = absurd (true≢false (sym k))
+near_text page digit flow _ value c k g u l = absurd (true≢false (sym k))
 
 near_mark : (p : Context) (x : Scalar) (s : Style) (c : Cursor) → StaysNear (mark_text p x s) c 2
 near_mark p x s c = near_when (not (has (scalar_tag p.settings.canonical x)) && (not x.quoted && not (is_plain s))) (word (33 ∷ [])) c 2 (λ e. near_word (33 ∷ []) c (calm_from 33 (omega arith) (omega arith), tt))

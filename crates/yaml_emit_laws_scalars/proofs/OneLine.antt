@@ -1,19 +1,7 @@
 -- Texts without breaks: characters of a value that has none, and places on one line.
 use Rattle.std.proofs.Common.{◌≡◌, ℕ, zero, suc, ◌+◌, ◌-◌, ◌/◌, ◌%◌, ◌<◌, ◌≤◌, Bool, true, false, not, ◌==◌, nat_le, nat_lt, List, [], ◌∷◌, ◌++◌, length, refl, sym, ap, subst, ◌∙◌, inl, inr, ◌⊎◌, arith, add-one, add-zero, encode_utf8, encode_utf8_all, IsUtf8, length-append, chars}
-use Rattle.std.proofs.lemmas.Bool.{cases_lt, true≢false, eqb-true, and_parts, not-true, or_parts}
-use Rattle.std.proofs.lemmas.Bool.Decides.{nat_tests}
-use Rattle.std.proofs.lemmas.Str.{encodes-chars}
-use Rattle.yaml_emit_laws_text.specs.scan_model.Marks.{byte, break_of, line_at}
-use Rattle.yaml_emit_laws_text.specs.scan_model.Classes.{is_break as breaks_at, any_below, has_break}
-use Rattle.yaml_emit_laws_text.proofs.MarksLemmas.{line_more}
-use Rattle.yaml_emit_laws_text.proofs.HasLemmas.{Has, has, has_front, has_rest}
-use Rattle.yaml_emit_laws_text.specs.emit_text.Text.{is_break}
-use Rattle.yaml_emit_laws_text.specs.ReadBack.{is_one_line}
-use Rattle.yaml_emit_laws_text.proofs.Chars.{encode_1, encode_2, encode_3, encode_4}
-use Rattle.yaml_emit_laws_text.proofs.Bytes.{low_end, first_end, second_end, third_end}
-use Rattle.yaml_emit_laws_scalars.specs.KeysLaws.{NearIsFresh}
-use Rattle.yaml_emit_laws_text.proofs.QuotedReading.{ends_2, ends_1}
-use Rattle.yaml_emit_laws_text.proofs.Single.{bool_cases}
+use Rattle.yaml_emit_laws_scalars.proofs.Words.{cases_lt, true≢false, eqb-true, and_parts, not-true, or_parts, nat_tests, encodes-chars, byte, break_of, line_at, breaks_at, any_below, line_more, Has, has, has_front, has_rest, is_break, is_one_line, encode_1, encode_2, encode_3, encode_4, low_end, first_end, second_end, third_end, NearIsFresh, ends_2, ends_1, bool_cases}
+use Rattle.yaml_emit_laws_text.specs.scan_model.Classes.{has_break}
 
 -- ---- a value without breaks
 

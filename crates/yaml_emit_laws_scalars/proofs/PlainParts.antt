@@ -1,26 +1,8 @@
 -- How a plain scalar's parts are read: characters, single spaces and folds.
 use Rattle.std.proofs.Common.{◌≡◌, ◌≢◌, ℕ, zero, suc, ◌+◌, ◌<◌, ◌≤◌, Bool, true, false, ◌&&◌, ◌==◌, nat_lt, List, [], ◌∷◌, ◌++◌, length, replicate, refl, sym, ap, subst, ◌∙◌, inl, inr, arith, add-zero, encode_utf8, ◌||◌, Result, Ok, append-nil, length-append}
-use Rattle.std.proofs.lemmas.Bool.{cases_Bool, cases_lt, true≢false, le-ltb, ne_eqb, and_parts}
-use Rattle.std.proofs.lemmas.Bool.Decides.{nat_tests}
-use Rattle.std.proofs.Math.Bool.{and-false}
-use Rattle.yaml_emit_laws_text.specs.scan_model.Marks.{byte, break_of, break_width, ends_break, column_at, is_blank, is_blank_or_end, starts}
-use Rattle.yaml_emit_laws_text.specs.scan_model.Breaks.{break_value, feed_at}
-use Rattle.yaml_emit_laws_text.specs.scan_history.scan_scalars.Pieces.{Piece, Kept, Blank, Break, value as value_of}
-use Rattle.yaml_emit_laws_text.specs.scan_history.scan_scalars.Plain.{is_bracket, after_white, leads, Takes, spot_at, is_nothing, Words, with_piece, words_from, PlainText, plain_with, plain_text, plain_at}
-use Rattle.yaml_emit_laws_text.proofs.PlainLemmas.{leads-blank, white-blank, spot_blank, spot_break, lead_break, blank_inside}
-use Rattle.yaml_emit_laws_text.proofs.MarksLemmas.{past_break, column_more, within}
-use Rattle.yaml_emit_laws_text.proofs.HasLemmas.{Has, has_front, has_rest}
-use Rattle.yaml_emit_laws_text.specs.emit_text.Quoted.{first}
-use Rattle.yaml_emit_laws_text.specs.emit_text.Style.{last_or}
-use Rattle.yaml_emit_laws_text.specs.Spelling.{LineEnd, feed, return, return_feed, next_line, line_separator, paragraph_separator, end_bytes, end_means, QuotedPart, raw, doubled, named, numbered, fold, joint, spelling, LineTurn, turn_bytes, meaning, IsSpelling}
-use Rattle.yaml_emit_laws_text.proofs.Chars.{encode_1, encode_2, encode_3, encode_4}
-use Rattle.yaml_emit_laws_text.proofs.Values.{keeps, blanks_of, read_as, all_read_as, read_kept as raw_kept, read_blank as raw_blank, turns_read, spelling_value}
-use Rattle.yaml_emit_laws_text.proofs.Bytes.{calm_end, calm_break, calm_from}
+use Rattle.yaml_emit_laws_scalars.proofs.Words.{cases_Bool, cases_lt, true≢false, le-ltb, ne_eqb, and_parts, nat_tests, and-false, byte, break_of, break_width, ends_break, column_at, is_blank, is_blank_or_end, starts, break_value, feed_at, Piece, Kept, Blank, Break, value_of, is_bracket, after_white, leads, Takes, spot_at, is_nothing, with_piece, words_from, PlainText, plain_with, plain_text, plain_at, leads-blank, white-blank, spot_blank, spot_break, lead_break, blank_inside, past_break, column_more, within, Has, has_front, has_rest, first, last_or, LineEnd, feed, return, return_feed, next_line, line_separator, paragraph_separator, end_bytes, end_means, QuotedPart, raw, doubled, named, numbered, fold, joint, spelling, LineTurn, turn_bytes, meaning, IsSpelling, encode_1, encode_2, encode_3, encode_4, keeps, blanks_of, read_as, all_read_as, raw_kept, raw_blank, turns_read, spelling_value, calm_end, calm_break, calm_from, column_on, column_start, Wrong, are_gap, has_break, space_encodes}
+use Rattle.yaml_emit_laws_text.specs.scan_history.scan_scalars.Plain.{Words}
 use Rattle.yaml_emit_laws_scalars.proofs.Standing.{Read, read_blank, read_break, InLine, Stays, Through, CharAt, Plainly, char_at, through_byte, through_both, no_tab, space_blank, sealed, stand_behind, kept_sealed, positive, Stops, gap_words}
-use Rattle.yaml_emit_laws_text.proofs.QuotedReading.{column_more as column_on, column_start}
-use Rattle.yaml_emit_laws_text.specs.scan_model.Wrong.{Wrong}
-use Rattle.yaml_emit_laws_text.specs.scan_history.scan_words.Written.{are_gap, has_break}
-use Rattle.yaml_emit_laws_text.proofs.Escapes.{space_encodes}
 
 -- ---- what the parts say
 
@@ -302,11 +284,8 @@ some_part n x (raw c) ps e =
       | inl b ↦ subst (λ (t : List Piece). is_nothing (t ++ ps) ≡ false) (sym (raw_blank c b)) refl
       | inr b ↦ let s = encoded c in subst (λ (t : List Piece). is_nothing (t ++ ps) ≡ false) (sym (raw_kept c b)) (subst (λ (t : List ℕ). is_nothing (keeps t ++ ps) ≡ false) (sym s.is) refl)
     ]
-some_part n x doubled ps e = absurd e
-some_part n x (named b bytes) ps e = absurd e
-some_part n x (numbered b digits c) ps e = absurd e
 some_part n x (fold t ts) ps e = refl
-some_part n x (joint t ts) ps e = absurd e
+some_part n x _ ps e = absurd e
 
 some_parts : (n : ℕ) (ps : List QuotedPart) (x : ℕ) (xs : List ℕ) → Spells n ps (x ∷ xs)
     → is_nothing (all_read_as ps) ≡ false
@@ -426,9 +405,6 @@ parts_read flow level m text p before (raw c ∷ ps) (x ∷ xs) deep (e, s) (g, 
           (subst (λ k. ReadsOn flow level text p k (keeps (encode_utf8 x) ++ all_read_as ps)) (append_long p (encode_utf8 x) (spelling ps))
           (λ place broke r. one.reads (all_read_as ps) (q + length (spelling ps)) place broke (more place broke r))))
     ]
-parts_read flow level m text p before (doubled ∷ ps) (x ∷ xs) deep (e, s) g l st h = absurd e
-parts_read flow level m text p before (named i bytes ∷ ps) (x ∷ xs) deep (e, s) g l st h = absurd e
-parts_read flow level m text p before (numbered i digits c ∷ ps) (x ∷ xs) deep (e, s) g l st h = absurd e
 parts_read flow level m text p before (fold t [] ∷ ps) (x ∷ xs) deep (e, s) (g, gs) l st h =
     let x32 = e.0 in
     let n = suc m in
@@ -449,7 +425,7 @@ parts_read flow level m text p before (fold t (u ∷ us) ∷ ps) (x ∷ xs) deep
   where
     no_more : (u : LineTurn) (us : List LineTurn) → u ∷ us ≡ [] → ⊥
     no_more u us e = cc
-parts_read flow level m text p before (joint t ts ∷ ps) (x ∷ xs) deep (e, s) g l st h = absurd e
+parts_read flow level m text p before _ (x ∷ xs) deep (e, s) g l st h = absurd e
 
 -- ---- the gap behind
 

@@ -1,36 +1,10 @@
 -- Where a text has a plain scalar's parts, a plain scalar begins.
 use Rattle.std.proofs.Common.{◌≡◌, ◌≢◌, ℕ, suc, ◌+◌, ◌%◌, ◌<◌, ◌≤◌, Bool, true, false, not, ◌&&◌, ◌||◌, ◌==◌, nat_lt, List, [], ◌∷◌, ◌++◌, length, replicate, Some, None, refl, sym, ap, subst, ◌∙◌, inl, inr, ◌⊎◌, nat_le, arith, append_assoc, encode_utf8, ◌-◌, Result, Ok, encode_utf8_all}
-use Rattle.std.proofs.lemmas.Bool.{cases_lt, true≢false, and_parts, eqb-true, or_parts, ne_eqb, eq-eqb, or_right, not-true, eqb-false}
-use Rattle.std.proofs.lemmas.Bool.Decides.{nat_tests}
-use Rattle.std.proofs.Math.Bool.{or-true, and-false}
-use Rattle.yaml_emit_laws_text.specs.scan_model.Marks.{byte, break_width, ends_break, is_blank, is_blank_or_end}
-use Rattle.yaml_emit_laws_text.specs.scan_model.Classes.{is_bom}
-use Rattle.yaml_emit_laws_text.specs.scan_history.scan_words.Written.{are_gap, begins_lexeme, HasAt, has_break}
-use Rattle.yaml_emit_laws_text.specs.scan_history.scan_words.Indicators.{is_thrice, is_document_start, is_document_end}
-use Rattle.yaml_emit_laws_text.specs.scan_history.scan_scalars.Plain.{is_bracket, is_indicator_byte, starts_plain, after_white, PlainText}
+use Rattle.yaml_emit_laws_scalars.proofs.Words.{cases_lt, true≢false, and_parts, eqb-true, or_parts, ne_eqb, eq-eqb, or_right, not-true, eqb-false, nat_tests, or-true, and-false, byte, break_width, ends_break, is_blank, is_blank_or_end, is_bom, are_gap, begins_lexeme, HasAt, has_break, is_thrice, is_document_start, is_document_end, is_bracket, is_indicator_byte, starts_plain, after_white, PlainText, indicator_of, kind_at, Has, has_front, has_rest, has, first, is_printable, behind, is_indicator, is_white, ends_word, somewhere, is_special, is_break_space, is_not_plain, is_not_flow, last_or, ends_in_space, starts_badly, allowed, LineEnd, feed, return, return_feed, next_line, line_separator, paragraph_separator, end_bytes, LineTurn, turn_bytes, QuotedPart, raw, doubled, fold, spelling, meaning, IsSpelling, encode_1, encode_2, encode_3, encode_4, calm_end, calm_from, column_start, bool_cases, encodes-chars, scalars-chars, all_scalars, chars, Wrong, ends_plain, Cursor, Page, is_break, ◌▹◌, after_text, flow_body, is_one_line}
 use Rattle.yaml_emit_laws_text.specs.scan_history.declared.kind.Kind.TheVariants as kinds
-use Rattle.yaml_emit_laws_text.specs.scan_history.Words.{indicator_of, kind_at}
-use Rattle.yaml_emit_laws_text.proofs.HasLemmas.{Has, has_front, has_rest, has}
-use Rattle.yaml_emit_laws_text.specs.emit_text.Quoted.{first, is_printable}
-use Rattle.yaml_emit_laws_text.specs.emit_text.Style.{behind, is_indicator, is_blank as is_white, ends_word, somewhere, is_special, is_break_space, is_not_plain, is_not_flow, last_or, ends_in_space, starts_badly, allowed}
-use Rattle.yaml_emit_laws_text.specs.Spelling.{LineEnd, feed, return, return_feed, next_line, line_separator, paragraph_separator, end_bytes, LineTurn, turn_bytes, QuotedPart, raw, doubled, named, numbered, fold, joint, spelling, meaning, IsSpelling}
-use Rattle.yaml_emit_laws_text.proofs.Chars.{encode_1, encode_2, encode_3, encode_4}
-use Rattle.yaml_emit_laws_text.proofs.Bytes.{calm_end, calm_from}
 use Rattle.yaml_emit_laws_scalars.proofs.Standing.{InLine, stand_behind, Stays, not_ended, char_at, Stops, Plainly, stops}
 use Rattle.yaml_emit_laws_scalars.proofs.PlainParts.{is_plain_end, Spells, AreGood, firm, when_is, colon_next, Good, said, gap_read, scalar_read}
-use Rattle.yaml_emit_laws_text.proofs.QuotedReading.{column_start}
-use Rattle.yaml_emit_laws_text.proofs.Single.{bool_cases}
-use Rattle.std.proofs.lemmas.Str.{encodes-chars, scalars-chars}
-use Rattle.std.specs.Str.{all_scalars, chars}
 use lib.Utf8.{scalar}
-use Rattle.yaml_emit_laws_text.specs.scan_model.Wrong.{Wrong}
-use Rattle.yaml_emit_laws_text.specs.scan_laws_texts.PlainLaws.{ends_plain}
-use Rattle.yaml_emit_laws_text.specs.emit_text.declared.Cursor.{Cursor}
-use Rattle.yaml_emit_laws_text.specs.emit_text.declared.Page.{Page}
-use Rattle.yaml_emit_laws_text.specs.emit_text.Text.{is_break}
-use Rattle.yaml_emit_laws_text.specs.emit_text.Layout.{◌▹◌, after_text}
-use Rattle.yaml_emit_laws_text.specs.emit_text.Scalars.{flow_body}
-use Rattle.yaml_emit_laws_text.specs.ReadBack.{is_one_line}
 use Rattle.yaml_emit_laws_scalars.specs.PlainLaws.{IsReadPlain, PlainIsBack, may_be_plain, PlainIsReadBack}
 use Rattle.yaml_emit_laws_scalars.proofs.Letters.{Shows, AllShow}
 use Rattle.yaml_emit_laws_scalars.proofs.Writing.{deep_all, left}
@@ -137,14 +111,11 @@ next_is flow level n text r b before (raw c ∷ ps) (x ∷ xs) gap which here (i
     let at = char_at flow level text (r + 1) x g.plainly (subst (λ k. Has text (r + 1) (encode_utf8 k)) i (has_front text (r + 1) (encode_utf8 c) (spelling ps) h)) in
     let f = firm flow level text (r + 1) x (encode_utf8 x) at in
     f.same b (dash_small b which).0 next
-next_is flow level n text r b before (doubled ∷ ps) (x ∷ xs) gap which here (i, s) g h e next = absurd i
-next_is flow level n text r b before (named j bytes ∷ ps) (x ∷ xs) gap which here (i, s) g h e next = absurd i
-next_is flow level n text r b before (numbered j digits c ∷ ps) (x ∷ xs) gap which here (i, s) g h e next = absurd i
 next_is flow level n text r b before (fold t ts ∷ ps) (x ∷ xs) gap which here (i, s) g h e next =
     let low = fold_low text (r + 1) t ts (spelling ps) i.3 h in
     let d = (dash_small b which).1 in
     absurd (omega (arith, low, d, next))
-next_is flow level n text r b before (joint t ts ∷ ps) (x ∷ xs) gap which here (i, s) g h e next = absurd i
+next_is flow level n text r b before _ (x ∷ xs) gap which here (i, s) g h e next = absurd i
 
 -- a part of a character that is no space
 pub record RawFirst (n x : ℕ) (ps : List QuotedPart) (xs : List ℕ) : Type 0 where
@@ -156,11 +127,8 @@ pub raw_first : (n x : ℕ) (ps : List QuotedPart) (xs : List ℕ) → x ≢ 32 
     → RawFirst n x ps xs
 raw_first n x [] xs m s = absurd s
 raw_first n x (raw c ∷ ps) xs m (e, s) = record { rest = ps; is = ap (λ k. raw k ∷ ps) e; spells = s }
-raw_first n x (doubled ∷ ps) xs m (e, s) = absurd e
-raw_first n x (named j bytes ∷ ps) xs m (e, s) = absurd e
-raw_first n x (numbered j digits c ∷ ps) xs m (e, s) = absurd e
 raw_first n x (fold t ts ∷ ps) xs m (e, s) = absurd (m e.0)
-raw_first n x (joint t ts ∷ ps) xs m (e, s) = absurd e
+raw_first n x _ xs m (e, s) = absurd e
 
 raw_spelling : (x : ℕ) (ps : List QuotedPart) → spelling (raw x ∷ ps) ≡ encode_utf8 x ++ spelling ps
 unfolding spelling

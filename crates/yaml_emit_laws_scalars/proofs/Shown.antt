@@ -1,13 +1,8 @@
 -- What an emitter finds in a value whose style it allows.
 use Rattle.std.proofs.Common.{◌≡◌, ℕ, Bool, true, false, ◌&&◌, ◌==◌, List, [], ◌∷◌, refl}
-use Rattle.std.proofs.lemmas.Bool.{and_parts, not-true, or_parts}
-use Rattle.std.specs.Str.{all_scalars}
+use Rattle.yaml_emit_laws_scalars.proofs.Words.{and_parts, not-true, or_parts, all_scalars, is_break, first, somewhere, is_special, is_break_space, allowed, shown_first}
 use lib.Utf8.{scalar}
-use Rattle.yaml_emit_laws_text.specs.emit_text.Text.{is_break}
-use Rattle.yaml_emit_laws_text.specs.emit_text.Quoted.{first}
-use Rattle.yaml_emit_laws_text.specs.emit_text.Style.{somewhere, is_special, is_break_space, allowed}
 use Rattle.yaml_emit_laws_scalars.proofs.Letters.{AllShow}
-use Rattle.yaml_emit_laws_text.proofs.Single.{shown_first}
 
 pub all_show : (unicode : Bool) (before : ℕ) (xs : List ℕ)
     → somewhere (is_special unicode) before xs ≡ false → somewhere is_break_space before xs ≡ false

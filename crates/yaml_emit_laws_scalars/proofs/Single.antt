@@ -1,24 +1,11 @@
 -- What an emitter writes between single quotes is read back, in lines or in one.
 use Rattle.std.proofs.Common.{◌≡◌, ℕ, ◌+◌, ◌<◌, true, List, [], ◌∷◌, ◌++◌, length, Ok, refl, sym, ap, subst, ◌∙◌, encode_utf8_all, IsUtf8, false, true≢false, chars}
-use Rattle.std.proofs.lemmas.Str.{encodes-chars, scalars-chars}
-use Rattle.yaml_emit_laws_text.specs.scan_model.Marks.{byte}
-use Rattle.yaml_emit_laws_text.specs.scan_history.scan_words.Written.{HasAt}
+use Rattle.yaml_emit_laws_scalars.proofs.Words.{encodes-chars, scalars-chars, byte, HasAt, Cursor, Page, letter, char, in_front, allowed, doubled, spelling, meaning, quoted, between_single, is_one_line, SingleSpellingReads, front_append, front_one, front_more, moved_by, not_start}
 use Rattle.yaml_emit_laws_text.specs.scan_history.scan_scalars.Quoted.{single_quoted_at}
-use Rattle.yaml_emit_laws_text.specs.emit_text.declared.Cursor.{Cursor}
-use Rattle.yaml_emit_laws_text.specs.emit_text.declared.Page.{Page}
-use Rattle.yaml_emit_laws_text.specs.emit_text.Text.{letter}
-use Rattle.yaml_emit_laws_text.specs.emit_text.Layout.{char}
-use Rattle.yaml_emit_laws_text.specs.emit_text.Spelling.{in_front}
-use Rattle.yaml_emit_laws_text.specs.emit_text.Style.{allowed}
-use Rattle.yaml_emit_laws_text.specs.Spelling.{doubled, spelling, meaning, quoted}
-use Rattle.yaml_emit_laws_text.specs.ReadBack.{between_single, is_one_line}
-use Rattle.yaml_emit_laws_text.specs.QuotedLaws.{SingleSpellingReads}
-use Rattle.yaml_emit_laws_text.proofs.Back.{front_append, front_one, front_more, moved_by}
 use Rattle.yaml_emit_laws_scalars.specs.SingleLaws.{SingleIsBack}
 use Rattle.yaml_emit_laws_scalars.proofs.Letters.{Behind}
 use Rattle.yaml_emit_laws_scalars.proofs.Writing.{left}
 use Rattle.yaml_emit_laws_scalars.proofs.Shown.{single_show}
-use Rattle.yaml_emit_laws_text.proofs.Steps.{not_start}
 use Rattle.yaml_emit_laws_text.proofs.Single.{between}
 
 -- before the first character

@@ -1,49 +1,16 @@
 -- Bytes that stop a plain scalar.
 use Rattle.std.proofs.Common.{◌≡◌, ℕ, zero, suc, ◌+◌, ◌<◌, Bool, true, false, not, ◌&&◌, ◌||◌, ◌==◌, nat_lt, List, [], ◌∷◌, ◌++◌, length, Option, Some, None, replicate, refl, sym, ap, subst, ◌∙◌, inl, inr, arith, encode_utf8_all, ◌≢◌, ◌/◌, ◌%◌, ◌≤◌, Result, append_assoc, chars}
-use Rattle.std.proofs.lemmas.Bool.{true≢false, eqb-true, or_cases, or_left, or_right, and_parts, not-true, or_parts, ne_eqb, cases_lt}
-use Rattle.std.proofs.lemmas.List.{get_or_past}
-use Rattle.yaml_emit_laws_text.specs.scan_model.Marks.{byte, break_of, break_width, column_at, is_blank, is_blank_or_end}
-use Rattle.yaml_emit_laws_text.specs.scan_model.Breaks.{is_document_indicator}
-use Rattle.yaml_emit_laws_text.specs.scan_history.scan_words.Written.{are_gap}
-use Rattle.yaml_emit_laws_text.specs.scan_history.scan_scalars.Plain.{is_bracket, after_white, leads, ends_at, PlainText}
-use Rattle.yaml_emit_laws_text.proofs.PlainLemmas.{lead_break}
-use Rattle.yaml_emit_laws_text.proofs.MarksLemmas.{past_break}
-use Rattle.yaml_emit_laws_text.specs.scan_laws_texts.PlainLaws.{ends_plain}
-use Rattle.yaml_emit_laws_text.specs.emit_text.declared.LineBreak.{LineBreak}
-use Rattle.yaml_emit_laws_text.specs.emit_text.declared.LineBreak.TheVariants.{Lf, Cr, CrLf}
-use Rattle.yaml_emit_laws_text.specs.emit_text.Quoted.{first, is_printable}
-use Rattle.yaml_emit_laws_text.specs.emit_text.Spelling.{break_text}
-use Rattle.yaml_emit_laws_text.specs.emit_text.Style.{behind}
-use Rattle.yaml_emit_laws_text.specs.Walk.{Has, Left, bytes}
-use Rattle.yaml_emit_laws_text.proofs.Places.{has_front, has_at, left_first, left_more, left_rest}
-use Rattle.yaml_emit_laws_text.proofs.Values.{cond_true, cond_false}
+use Rattle.yaml_emit_laws_scalars.proofs.Words.{true≢false, eqb-true, or_cases, or_left, or_right, and_parts, not-true, or_parts, ne_eqb, cases_lt, get_or_past, byte, break_of, break_width, column_at, is_blank, is_blank_or_end, is_document_indicator, are_gap, is_bracket, after_white, leads, ends_at, PlainText, lead_break, past_break, ends_plain, LineBreak, Lf, Cr, CrLf, first, is_printable, break_text, behind, Left, bytes, left_first, left_more, left_rest, cond_true, cond_false, bool_cases, line_is, after_blanks, line_start, nat_tests, and-false, or-true, is_break, encode_1, encode_2, encode_3, encode_4, low_break, two_break, three_break, four_break, encode_ascii, encodes-chars, indicator_of, plainly, valued, word_at, Page, Layout, ◌▹◌, when, gap, after_text, line, flow_body, plain, Wrong, AreLow, low_encodes, spaces_low, spaced_by, Cursor, SingleSpellingReads, between_single, Sign, sign_begins, sign_kind, sign, front_encodes}
+use Rattle.yaml_emit_laws_text.specs.Walk.{Has}
+use Rattle.yaml_emit_laws_text.proofs.Places.{has_front, has_at}
 use Rattle.yaml_emit_laws_scalars.specs.Stops.{is_gap_byte, white_of, begins_white, begins_mark, stops_line, stops_here, one_more, column_behind, stops_plain_at, StopsEndPlain, PlainGoesOn, StopsBehindLines, begins_solid, WhatStopsPlain, CharactersAreSolid}
 use Rattle.yaml_emit_laws_scalars.proofs.PlainParts.{spaced}
-use Rattle.yaml_emit_laws_text.proofs.Single.{bool_cases, line_is, after_blanks, line_start}
-use Rattle.std.proofs.lemmas.Bool.Decides.{nat_tests}
-use Rattle.std.proofs.Math.Bool.{and-false, or-true}
 use lib.Utf8.{scalar, scalar_cases}
-use Rattle.yaml_emit_laws_text.specs.emit_text.Text.{is_break}
-use Rattle.yaml_emit_laws_text.proofs.Chars.{encode_1, encode_2, encode_3, encode_4}
-use Rattle.yaml_emit_laws_text.proofs.Bytes.{low_break, two_break, three_break, four_break}
 use Rattle.yaml_emit_laws_scalars.proofs.PlainStart.{bracket_45, bracket_46, plain_back}
-use Rattle.std.proofs.lemmas.Str.{encode_ascii, encodes-chars}
 use Rattle.yaml_emit_laws_text.specs.scan_history.declared.kind.Kind.TheVariants as kinds
-use Rattle.yaml_emit_laws_text.specs.scan_history.Words.{indicator_of, plainly, valued, word_at}
-use Rattle.yaml_emit_laws_text.specs.emit_text.declared.Page.{Page}
-use Rattle.yaml_emit_laws_text.specs.emit_text.Layout.{Layout, ◌▹◌, when, gap, after_text, line}
-use Rattle.yaml_emit_laws_text.specs.emit_text.Scalars.{flow_body, plain}
-use Rattle.yaml_emit_laws_text.specs.scan_model.Wrong.{Wrong}
 use Rattle.yaml_emit_laws_text.specs.scan_model.declared.yaml_scalar_style_t.TheVariants.{YAML_SINGLE_QUOTED_SCALAR_STYLE}
 use Rattle.yaml_emit_laws_text.specs.scan_model.Tokens as tokens
-use Rattle.yaml_emit_laws_text.proofs.Escapes.{AreLow, low_encodes, spaces_low}
-use Rattle.yaml_emit_laws_text.proofs.Back.{spaced_by}
 use Rattle.yaml_emit_laws_scalars.proofs.Lines.{blanks_column, blanks_kept}
-use Rattle.yaml_emit_laws_text.specs.emit_text.declared.Cursor.{Cursor}
-use Rattle.yaml_emit_laws_text.specs.QuotedLaws.{SingleSpellingReads}
-use Rattle.yaml_emit_laws_text.specs.ReadBack.{between_single}
-use Rattle.yaml_emit_laws_text.proofs.Steps.{Sign, sign_begins, sign_kind}
-use Rattle.yaml_emit_laws_text.proofs.Words.{sign, front_encodes}
 use Rattle.yaml_emit_laws_scalars.specs.StandsLaws.{ScalarsAreWords, LinesStopPlain, IsBehind, PlainHasGap, PlainStands, SingleStands}
 use Rattle.yaml_emit_laws_scalars.proofs.Single.{single_back}
 use Rattle.yaml_emit_laws_text.proofs.TextLines.{left_byte}
@@ -96,8 +63,6 @@ At text p (Some n) = (byte text p ≡ 10 → ⊥) → (column_at text p ≡ n) �
 mark_here : (text : List ℕ) (p a : ℕ) (bs : List ℕ) → Left text p (a ∷ bs) → column_at text p ≡ 0
     → begins_mark a bs ≡ true → is_document_indicator text p ≡ true
 unfolding is_document_indicator
-mark_here text p a [] l c h = absurd (true≢false (sym h))
-mark_here text p a (b ∷ []) l c h = absurd (true≢false (sym h))
 mark_here text p a (b ∷ d ∷ bs) l c h =
     let l1 = left_more text p a (b ∷ d ∷ bs) l in
     let l2 = left_more text (p + 1) b (d ∷ bs) l1 in
@@ -107,6 +72,7 @@ mark_here text p a (b ∷ d ∷ bs) l c h =
     let marks = (and_parts _ (begins_white bs) h).0 in
     let white = white_next text (p + 1 + 1 + 1) bs l3 (and_parts (((a == 45 && b == 45) && d == 45) || ((a == 46 && b == 46) && d == 46)) (begins_white bs) h).1 in
     rw (c, two, three, left_first text p a _ l, left_first text (p + 1) b _ l1, left_first text (p + 1 + 1) d bs l2, marks, white) refl
+mark_here text p a _ l c h = absurd (true≢false (sym h))
 
 colon_ends : (flow : Bool) (level : ℕ) (text : List ℕ) (p : ℕ) → byte text p ≡ 58
     → is_blank_or_end text (p + 1) ≡ true → ends_at flow level text p ≡ true
@@ -498,9 +464,8 @@ are_words flow level text p value = (
 
 -- A break and its indentation are low bytes.
 pub break_low : (b : LineBreak) (n : ℕ) → AreLow (break_text b ++ replicate n 32)
-break_low Lf n = (omega arith, spaces_low n)
-break_low Cr n = (omega arith, spaces_low n)
 break_low CrLf n = (omega arith, (omega arith, spaces_low n))
+break_low _ n = (omega arith, spaces_low n)
 
 -- Behind blanks a line that was bare is bare.
 pub blanks_bare : (n : ℕ) (c : Cursor) → c.bare ≡ true → (after_blanks n c).bare ≡ true

@@ -1,19 +1,10 @@
 -- A style that is taken is allowed.
 use Rattle.std.proofs.Common.{◌≡◌, Bool, true, false, not, ◌&&◌, ◌||◌, ◌==◌, length, sym, subst, ℕ, ◌<◌, ◌≤◌, Option, Some, None, arith, if◌then◌else◌, chars}
-use Rattle.std.proofs.lemmas.Bool.{and_parts, not-true, or_parts}
-use Rattle.yaml_emit_laws_text.specs.scan_model.declared.yaml_scalar_style_t.{yaml_scalar_style_t}
+use Rattle.yaml_emit_laws_scalars.proofs.Words.{and_parts, not-true, or_parts, yaml_scalar_style_t, Allowed, Style, allowed, taken, plain_fits, single_or, block_or, plain_or, NodePosition, Scalar, scalar_tag, Context, is_simple_part, style_of, deeper, Settings, bool_cases}
 use Rattle.yaml_emit_laws_text.specs.scan_model.declared.yaml_scalar_style_t.TheVariants as asked
-use Rattle.yaml_emit_laws_text.specs.emit_text.declared.Allowed.{Allowed}
-use Rattle.yaml_emit_laws_text.specs.emit_text.declared.Style.{Style}
 use Rattle.yaml_emit_laws_text.specs.emit_text.declared.Style.TheVariants as style
-use Rattle.yaml_emit_laws_text.specs.emit_text.Style.{allowed, taken, plain_fits, single_or, block_or, plain_or}
-use Rattle.yaml_emit_laws_text.specs.emit_layout.declared.level.NodePosition.{NodePosition}
-use Rattle.yaml_emit_laws_text.specs.emit_layout.Content.{Scalar}
-use Rattle.yaml_emit_laws_text.specs.emit_layout.Grammar.{has, scalar_tag}
-use Rattle.yaml_emit_laws_text.specs.emit_layout.Nodes.{Context, is_simple_part, style_of, deeper}
+use Rattle.yaml_emit_laws_text.specs.emit_layout.Grammar.{has}
 use Rattle.yaml_emit_laws_scalars.specs.StylesLaws.{StylesAreAllowed, level_of, PagesIndent}
-use Rattle.yaml_emit_laws_text.specs.emit_text.declared.Settings.{Settings}
-use Rattle.yaml_emit_laws_text.proofs.Single.{bool_cases}
 
 -- what a style has to be allowed
 abbrev Fits : Allowed → Bool → Bool → Style → Type 0
@@ -46,12 +37,11 @@ block_is a flow simple s f =
 taken_fits : (a : Allowed) (s : yaml_scalar_style_t) (untagged flow simple empty : Bool)
     → Fits a flow simple (taken a s untagged flow simple empty)
 unfolding taken
-taken_fits a asked.YAML_ANY_SCALAR_STYLE untagged flow simple empty = plain_is a untagged flow simple empty
-taken_fits a asked.YAML_PLAIN_SCALAR_STYLE untagged flow simple empty = plain_is a untagged flow simple empty
 taken_fits a asked.YAML_SINGLE_QUOTED_SCALAR_STYLE untagged flow simple empty = single_fits a flow simple
 taken_fits a asked.YAML_DOUBLE_QUOTED_SCALAR_STYLE untagged flow simple empty = tt
 taken_fits a asked.YAML_LITERAL_SCALAR_STYLE untagged flow simple empty = block_is a flow simple style.Literal (λ h. h)
 taken_fits a asked.YAML_FOLDED_SCALAR_STYLE untagged flow simple empty = block_is a flow simple style.Folded (λ h. h)
+taken_fits a _ untagged flow simple empty = plain_is a untagged flow simple empty
 
 style_fits : (p : Context) (at : NodePosition) (x : Scalar)
     → Fits (allowed p.settings.unicode (chars x.value)) at.flow (is_simple_part at.part)

@@ -1,25 +1,9 @@
 -- What is written for a value inside a plain or single quoted scalar is a spelling of it.
 use Rattle.std.proofs.Common.{◌≡◌, ℕ, zero, suc, ◌<◌, Bool, true, false, not, ◌&&◌, ◌==◌, List, [], ◌∷◌, ◌++◌, replicate, refl, sym, ap, ◌∙◌, inl, inr, arith, append-nil, append_assoc, encode_utf8, encode_utf8_all}
-use Rattle.std.proofs.lemmas.Bool.{true≢false, lt-ltb, eqb-true, and_parts, eqb-false}
-use Rattle.std.proofs.lemmas.Str.{encode_ascii, encodes-append}
-use Rattle.std.proofs.Math.Bool.{and-false}
-use Rattle.yaml_emit_laws_text.specs.emit_text.declared.Cursor.{Cursor}
-use Rattle.yaml_emit_laws_text.specs.emit_text.declared.LineBreak.{LineBreak}
-use Rattle.yaml_emit_laws_text.specs.emit_text.Text.{is_break}
-use Rattle.yaml_emit_laws_text.specs.emit_text.Layout.{Layout, Rest, when, new_line, line}
-use Rattle.yaml_emit_laws_text.specs.emit_text.declared.Page.{Page}
-use Rattle.yaml_emit_laws_text.specs.emit_text.Quoted.{is_printable, first}
-use Rattle.yaml_emit_laws_text.specs.emit_text.Scalars.{value_break, flow_char, flow_body}
-use Rattle.yaml_emit_laws_text.specs.emit_text.Spelling.{in_front, break_text}
-use Rattle.yaml_emit_laws_text.specs.Spelling.{LineEnd, end_bytes, end_means, is_return, is_feed_end, LineTurn, turn_bytes, turn_means, may_turn, QuotedPart, fold, MayStand, spelled, meant, spelling, meaning, is_raw_blank, is_turn, may_be_next, IsSpelling}
-use Rattle.yaml_emit_laws_text.specs.ReadBack.{is_one_line}
-use Rattle.yaml_emit_laws_text.proofs.Values.{cond_true, cond_false}
-use Rattle.yaml_emit_laws_text.proofs.Escapes.{end_of, space_encodes}
-use Rattle.yaml_emit_laws_text.proofs.Back.{front_append}
+use Rattle.yaml_emit_laws_scalars.proofs.Words.{true≢false, lt-ltb, eqb-true, and_parts, eqb-false, encode_ascii, encodes-append, and-false, Cursor, LineBreak, is_break, Layout, Rest, when, new_line, line, Page, is_printable, first, value_break, flow_char, flow_body, in_front, break_text, LineEnd, end_bytes, end_means, is_return, is_feed_end, LineTurn, turn_bytes, turn_means, may_turn, QuotedPart, fold, MayStand, spelled, meant, spelling, meaning, is_raw_blank, is_turn, may_be_next, IsSpelling, is_one_line, cond_true, cond_false, end_of, space_encodes, front_append, new_line_is, fold_follows, bool_cases, after_blanks, line_start}
 use Rattle.yaml_emit_laws_scalars.proofs.Lines.{blanks_column, blanks_kept, Starts, start_is, break_is, own_fits, own_means, own_bytes}
 use Rattle.yaml_emit_laws_scalars.proofs.PlainParts.{Spells}
 use Rattle.yaml_emit_laws_scalars.proofs.Letters.{AllShow, quote_byte, seat, Step, step, Behind}
-use Rattle.yaml_emit_laws_text.proofs.Single.{new_line_is, fold_follows, bool_cases, after_blanks, line_start}
 
 -- ---- all characters
 

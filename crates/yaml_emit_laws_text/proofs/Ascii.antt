@@ -1,14 +1,8 @@
 -- What is written for tags and directives is ASCII.
 use Rattle.std.proofs.Common.{◌≡◌, inl, inr, ℕ, ◌/◌, ◌%◌, ◌<◌, Bool, true, false, nat_lt, List, [], ◌∷◌, ◌++◌, refl, ap, subst, arith, IsUtf8}
-use Rattle.std.proofs.lemmas.Bool.Decides.{nat_tests}
-use Rattle.yaml_scan_scalars.specs.scan_model.Classes.{is_alpha_byte, is_digit_byte}
-use Rattle.yaml_scan_laws_texts.specs.scan_history.scan_words.Uris.{is_punctuation, is_wide_punctuation}
+use Rattle.yaml_emit_laws_text.proofs.Shared.{nat_tests, is_alpha_byte, is_digit_byte, is_punctuation, is_wide_punctuation, are_alphas, UriPiece, escape, capital, is_kept, IsUri, and_from, and_parts, TagDirective, Split, shorthand, verbatim, spelled, uri_text, IsShaped, IsReadable, are_ascii, IsMarked, IsReadableDirective}
 use Rattle.yaml_scan_laws_texts.specs.scan_history.scan_words.Written as written
-use Rattle.yaml_scan_laws_texts.specs.scan_history.scan_words.Written.{are_alphas, UriPiece, raw, escape, capital, is_kept, IsUri}
-use Rattle.std.proofs.lemmas.Bool.{and_from, and_parts}
-use Rattle.yaml_emit_layout.specs.parse_model.Events.{TagDirective}
-use Rattle.yaml_emit_layout.specs.emit_tags.Tags.{Split, shorthand, verbatim, spelled, uri_text}
-use Rattle.yaml_emit_laws_text.specs.TagsLaws.{IsShaped, IsReadable, are_ascii, IsMarked, IsReadableDirective}
+use Rattle.yaml_scan_laws_texts.specs.scan_history.scan_words.Written.{raw}
 use Rattle.yaml_emit_laws_text.proofs.Pieces.{pieces_of, text_is, text_uri}
 
 append_ascii : (xs ys : List ℕ) → are_ascii xs ≡ true → are_ascii ys ≡ true

@@ -1,23 +1,9 @@
 -- What an emitter writes between double quotes is read back.
 use Rattle.std.proofs.Common.{◌≡◌, ℕ, suc, ◌+◌, ◌<◌, Bool, true, false, ◌&&◌, ◌==◌, not, List, [], ◌∷◌, ◌++◌, length, Result, Ok, refl, sym, ap, subst, ◌∙◌, inl, inr, arith, append_assoc, append-nil, encode_utf8, encode_utf8_all, IsUtf8, if◌then◌else◌}
-use Rattle.std.proofs.lemmas.Bool.{cases_Bool}
-use Rattle.std.proofs.lemmas.Str.{encode_ascii, encodes-append, encodes-chars, scalars-chars}
-use Rattle.std.specs.Str.{all_scalars, chars}
+use Rattle.yaml_emit_laws_text.proofs.Shared.{cases_Bool, encode_ascii, encodes-append, encodes-chars, scalars-chars, all_scalars, chars, byte, Wrong, double_quoted_at, Cursor, Utf8, Item, letter, char_bytes, encode, Layout, ◌▹◌, choose, char, nothing_more, is_past, Page, is_empty, may_fold, fold_layout, escaped, quoted_char, quoted_body, double_quoted, in_front, WritesSpelling, QuotedSpells, spelling, meaning, quoted, ValueIsReadBack, between_quotes, gap_width}
 use lib.Utf8.{encode as encode_char}
-use Rattle.yaml_emit_laws_text.specs.scan_history.scan_model.Marks.{byte}
-use Rattle.yaml_emit_laws_text.specs.scan_history.scan_model.Wrong.{Wrong}
-use Rattle.yaml_scan_scalars.specs.Quoted.{double_quoted_at}
-use Rattle.yaml_emit_laws_text.specs.emit_layout.emit_text.declared.Cursor.{Cursor}
-use Rattle.yaml_emit_layout.specs.emit_text.declared.Encoding.TheVariants.{Utf8}
-use Rattle.yaml_emit_layout.specs.emit_text.Text.{Item, letter, char_bytes, encode}
-use Rattle.yaml_emit_laws_text.specs.emit_layout.emit_text.Layout.{Layout, ◌▹◌, choose, char, nothing_more, is_past}
-use Rattle.yaml_emit_text.specs.declared.page.Page.{Page}
-use Rattle.yaml_emit_text.specs.Quoted.{is_empty, may_fold, fold as fold_layout, escaped, quoted_char, quoted_body, double_quoted}
 use Rattle.yaml_emit_text.specs.Spelling as emitted
-use Rattle.yaml_emit_text.specs.Spelling.{in_front, WritesSpelling, QuotedSpells}
 use Rattle.yaml_emit_laws_text.specs.Stands.{HasAt}
-use Rattle.yaml_emit_laws_text.specs.Spelling.{spelling, meaning, quoted}
-use Rattle.yaml_emit_laws_text.specs.ReadBack.{ValueIsReadBack, between_quotes, gap_width}
 use Rattle.yaml_emit_laws_text.proofs.Values.{cond_false}
 use Rattle.yaml_emit_laws_text.proofs.Parts.{spelling_reads}
 use Rattle.yaml_emit_laws_text.proofs.Escapes.{low_encodes, parts_of}

@@ -1,11 +1,6 @@
 -- Bytes of quoted text: which end no line, and which digits spell a number.
 use Rattle.std.proofs.Common.{◌≡◌, ◌≢◌, ℕ, suc, ◌+◌, ◌*◌, ◌<◌, ◌≤◌, true, false, ◌&&◌, ◌==◌, nat_le, List, [], ◌∷◌, length, Option, Some, None, refl, sym, ap, subst, ◌∙◌, inl, inr, ◌⊎◌, arith, add-zero, option_and_then}
-use Rattle.std.proofs.lemmas.Bool.{cases_lt, cases_eq, ne_eqb}
-use Rattle.std.proofs.lemmas.Bool.Decides.{nat_tests}
-use Rattle.std.proofs.Math.Bool.{and-false}
-use Rattle.yaml_emit_laws_text.specs.scan_history.scan_model.Marks.{byte, break_of, ends_of, is_blank}
-use Rattle.yaml_scan_scalars.specs.Quoted.{hex_digit, hex_value, hex_len, simple_escape}
-use Rattle.yaml_emit_laws_text.specs.Spelling.{number_behind}
+use Rattle.yaml_emit_laws_text.proofs.Shared.{cases_lt, cases_eq, ne_eqb, nat_tests, and-false, byte, break_of, ends_of, is_blank, hex_digit, hex_value, hex_len, simple_escape, number_behind}
 use Rattle.yaml_scan_laws_texts.proofs.HasLemmas.{Has}
 
 -- ---- tests

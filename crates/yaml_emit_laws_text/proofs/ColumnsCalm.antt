@@ -1,16 +1,8 @@
 -- Layouts that mark no indentation as too deep, and those that do by one test.
 use Rattle.std.proofs.Common.{◌≡◌, ℕ, zero, suc, ◌+◌, ◌-◌, Bool, true, false, ◌||◌, ◌==◌, nat_lt, List, [], ◌∷◌, refl, ap, ◌∙◌, inl, inr}
-use Rattle.std.proofs.lemmas.Bool.{cases_Bool}
-use Rattle.yaml_emit_laws_text.specs.emit_layout.emit_text.declared.Cursor.{Cursor}
+use Rattle.yaml_emit_laws_text.proofs.Shared.{cases_Bool, Cursor, Encoding, Utf8, LineBreak, Lf, Cr, CrLf, Item, letter, is_deep, Rest, Layout, ◌▹◌, stay, choose, when, char, letters, blank, blanks, break, new_line, is_white, gap, word, indicator, opener, must_break, indent_to, line, is_past, keep, order_mark, needs_escape, escape_text, may_fold, fold, escaped, quoted_char, quoted_body, double_quoted, MOST, deep_if, checked}
 use Rattle.yaml_emit_layout.specs.emit_text.declared.Page.{Page}
-use Rattle.yaml_emit_layout.specs.emit_text.declared.Encoding.{Encoding}
-use Rattle.yaml_emit_layout.specs.emit_text.declared.Encoding.TheVariants.{Utf8, Utf16Le, Utf16Be}
-use Rattle.yaml_emit_laws_text.specs.emit_layout.emit_text.declared.LineBreak.{LineBreak}
-use Rattle.yaml_emit_laws_text.specs.emit_layout.emit_text.declared.LineBreak.TheVariants.{Lf, Cr, CrLf}
-use Rattle.yaml_emit_layout.specs.emit_text.Text.{Item, letter, is_deep}
-use Rattle.yaml_emit_laws_text.specs.emit_layout.emit_text.Layout.{Rest, Layout, ◌▹◌, stay, choose, when, char, letters, blank, blanks, break, new_line, is_white, gap, word, indicator, opener, must_break, indent_to, line, is_past, keep, order_mark}
-use Rattle.yaml_emit_text.specs.Quoted.{needs_escape, escape_text, first, may_fold, fold, escaped, quoted_char, quoted_body, double_quoted}
-use Rattle.yaml_emit_layout.specs.Nodes.{MOST, deep_if, checked}
+use Rattle.yaml_emit_text.specs.Quoted.{first}
 
 -- Whatever follows: where what follows is marked or not wherever it begins, so is the whole, or it is marked here.
 abbrev pub Marks : Bool → Layout → Type 0
@@ -67,8 +59,7 @@ keep_calm b m rest h c = h _
 pub mark_calm : (x : Encoding) → Calm (order_mark x)
 unfolding is_deep
 mark_calm Utf8 m rest h c = h _
-mark_calm Utf16Le m rest h c = h _
-mark_calm Utf16Be m rest h c = h _
+mark_calm _ m rest h c = h _
 
 pub letters_calm : (t : List ℕ) → Calm (letters t)
 unfolding letters

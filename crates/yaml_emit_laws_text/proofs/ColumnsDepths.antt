@@ -1,11 +1,7 @@
 -- What is marked, by depths.
 use Rattle.std.proofs.Common.{◌≡◌, ℕ, zero, suc, ◌+◌, ◌*◌, ◌<◌, true, true≢false, ◌||◌, nat_lt, List, [], ◌∷◌, sym, ◌∙◌, subst, inl, inr, arith, suc-mul}
-use Rattle.std.proofs.lemmas.Bool.{or_left, or_right, or_cases}
-use Rattle.std.proofs.lemmas.Bool.Decides.{nat_tests}
-use Rattle.yaml_emit_layout.specs.Content.{Node, alias_node, scalar_node, sequence_node, mapping_node, Nodes, no_nodes, node, Pairs, no_pairs, pair, Document}
-use Rattle.yaml_emit_layout.specs.Nodes.{MOST}
+use Rattle.yaml_emit_laws_text.proofs.Shared.{or_left, or_right, or_cases, nat_tests, Node, alias_node, scalar_node, sequence_node, mapping_node, Nodes, no_nodes, node, Pairs, no_pairs, pair, Document, MOST, ColumnsAreByDepth}
 use Rattle.yaml_emit_laws_text.specs.Depths.{StandsAt, ItemStandsAt, PartStandsAt, RootStandsAt, IsTooDeep}
-use Rattle.yaml_emit_laws_text.specs.ColumnsLaws.{ColumnsAreByDepth}
 use Rattle.yaml_emit_laws_text.proofs.ColumnsMarks.{node_marks, items_marks, pairs_marks, documents_marks, written_marks}
 
 -- Below an indentation of m, one is past the columns at some depth of those at which P says that a node stands.

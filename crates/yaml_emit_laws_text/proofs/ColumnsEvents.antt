@@ -1,39 +1,23 @@
 -- What is marked is told by the events.
 use Rattle.std.proofs.Common.{◌≡◌, ℕ, ◌+◌, ◌-◌, Bool, false, ◌||◌, nat_lt, List, [], ◌∷◌, refl, ap, sym, ◌∙◌, arith}
-use Rattle.yaml_emit_layout.specs.scan_model.declared.yaml_encoding_t.{yaml_encoding_t}
-use Rattle.yaml_emit_layout.specs.Content.{Node, alias_node, scalar_node, sequence_node, mapping_node, Nodes, no_nodes, node, Pairs, no_pairs, pair, Document, Event, no_event, stream_start, stream_end, document_start, document_end, alias, scalar, sequence_start, sequence_end, mapping_start, mapping_end, node_events, items_events, pairs_events, documents_events, stream_events}
-use Rattle.yaml_emit_layout.specs.Nodes.{MOST}
-use Rattle.yaml_emit_laws_text.specs.ColumnsLaws.{EventsTellColumns}
+use Rattle.yaml_emit_laws_text.proofs.Shared.{yaml_encoding_t, Node, sequence_node, mapping_node, Nodes, no_nodes, node, Pairs, no_pairs, pair, Document, Event, document_end, scalar, sequence_start, sequence_end, mapping_start, mapping_end, node_events, items_events, pairs_events, documents_events, stream_events, MOST, EventsTellColumns}
 use Rattle.yaml_emit_laws_text.proofs.ColumnsCalm.{or_assoc}
 use Rattle.yaml_emit_laws_text.proofs.ColumnsMarks.{node_marks, items_marks, pairs_marks, documents_marks}
 use Rattle.yaml_emit_laws_text.proofs.ColumnsDepths.{too_deep, deep_marked}
 
 abbrev mark_at : ℕ → Event → Bool
-mark_at m no_event = false
-mark_at m (stream_start x) = false
-mark_at m stream_end = false
-mark_at m (document_start o) = false
-mark_at m (document_end implicit) = false
-mark_at m (alias name) = false
 mark_at m (scalar x) = nat_lt MOST m
 mark_at m (sequence_start q) = nat_lt MOST m
-mark_at m sequence_end = false
 mark_at m (mapping_start q) = nat_lt MOST m
-mark_at m mapping_end = false
+mark_at m _ = false
 
 -- the indentation of the next node
 abbrev behind : ℕ → ℕ → Event → ℕ
-behind i m no_event = m
-behind i m (stream_start x) = m
-behind i m stream_end = m
-behind i m (document_start o) = m
-behind i m (document_end implicit) = m
-behind i m (alias name) = m
-behind i m (scalar x) = m
 behind i m (sequence_start q) = m + i
 behind i m sequence_end = m - i
 behind i m (mapping_start q) = m + i
 behind i m mapping_end = m - i
+behind i m _ = m
 
 unfoldable events_mark : ℕ → ℕ → List Event → Bool
 events_mark i m [] = false
@@ -49,14 +33,13 @@ mutual
 
   of_node : (i m : ℕ) (n : Node) (es : List Event)
       → events_mark i m (node_events n es) ≡ (node_marks i m n || events_mark i m es)
-  of_node i m (alias_node name) es = refl
-  of_node i m (scalar_node x) es = refl
   of_node i m (sequence_node q items) es =
       ap (λ b. nat_lt MOST m || b) (of_items i (m + i) items (sequence_end ∷ es) ∙ closed i m (items_marks i (m + i) items) es)
       ∙ or_assoc (nat_lt MOST m) (items_marks i (m + i) items) (events_mark i m es)
   of_node i m (mapping_node q pairs) es =
       ap (λ b. nat_lt MOST m || b) (of_pairs i (m + i) pairs (mapping_end ∷ es) ∙ closed i m (pairs_marks i (m + i) pairs) es)
       ∙ or_assoc (nat_lt MOST m) (pairs_marks i (m + i) pairs) (events_mark i m es)
+  of_node i m _ es = refl
 
   of_items : (i m : ℕ) (ns : Nodes) (es : List Event)
       → events_mark i m (items_events ns es) ≡ (items_marks i m ns || events_mark i m es)

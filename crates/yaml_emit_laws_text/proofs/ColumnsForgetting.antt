@@ -1,19 +1,13 @@
 -- A line comes first, and forgets the one before it.
 use Rattle.std.proofs.Common.{◌≡◌, ℕ, true, false, true≢false, List, [], ◌∷◌, refl, sym}
-use Rattle.yaml_emit_laws_text.specs.emit_layout.emit_text.declared.LineBreak.{LineBreak}
-use Rattle.yaml_emit_laws_text.specs.emit_layout.emit_text.declared.LineBreak.TheVariants.{Lf, Cr, CrLf}
-use Rattle.yaml_emit_laws_text.specs.emit_layout.emit_text.Layout.{Layout, ◌▹◌, line}
-use Rattle.yaml_emit_layout.specs.Content.{no_nodes, node, no_pairs, pair}
-use Rattle.yaml_emit_layout.specs.Nodes.{Context, context_of, items_layout, pairs_layout, before_item, before_key, closer, end_layout}
+use Rattle.yaml_emit_laws_text.proofs.Shared.{LineBreak, Lf, Layout, ◌▹◌, line, no_nodes, node, no_pairs, pair, Context, context_of, items_layout, pairs_layout, before_item, before_key, closer, end_layout, BlocksForgetColumns}
 use Rattle.yaml_emit_layout.specs.ToCome.{Frame, items_left, pairs_left, value_left, frame_layout, frames_layout, layout, ending_layout}
 use Rattle.yaml_emit_laws_text.specs.Forgetting.{is_block, are_block, Forgets}
-use Rattle.yaml_emit_laws_text.specs.ColumnsLaws.{BlocksForgetColumns}
 
 line_forgets : (b : LineBreak) (n : ℕ) → Forgets (line b n)
 unfolding line
 line_forgets Lf n c d rest x y k = rw x (rw y (rw k refl))
-line_forgets Cr n c d rest x y k = rw x (rw y (rw k refl))
-line_forgets CrLf n c d rest x y k = rw x (rw y (rw k refl))
+line_forgets _ n c d rest x y k = rw x (rw y (rw k refl))
 
 frames_forget : (p : Context) (more : Layout) → Forgets more → (fs : List Frame)
     → are_block fs ≡ true → Forgets (frames_layout p fs ▹ more)

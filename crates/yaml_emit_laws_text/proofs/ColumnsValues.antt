@@ -1,17 +1,7 @@
 -- Whether a line is bare behind a layout, by whether it was in front of it.
 use Rattle.std.proofs.Common.{◌≡◌, ℕ, zero, suc, ◌-◌, Bool, true, false, not, List, [], ◌∷◌, Option, Some, None, refl, ap, inl, inr}
-use Rattle.std.proofs.lemmas.Bool.{cases_Bool}
-use Rattle.yaml_emit_laws_text.specs.emit_layout.emit_text.declared.Cursor.{Cursor}
-use Rattle.yaml_emit_laws_text.specs.emit_layout.emit_text.declared.LineBreak.{LineBreak}
-use Rattle.yaml_emit_laws_text.specs.emit_layout.emit_text.declared.LineBreak.TheVariants.{Lf, Cr, CrLf}
-use Rattle.yaml_emit_layout.specs.emit_text.Text.{letter}
-use Rattle.yaml_emit_laws_text.specs.emit_layout.emit_text.Layout.{Rest, Layout, ◌▹◌, stay, choose, char, letters, blank, blanks, is_white, gap, word, indicator, new_line, must_break, indent_to, line}
+use Rattle.yaml_emit_laws_text.proofs.Shared.{cases_Bool, Cursor, LineBreak, Lf, Cr, CrLf, letter, Rest, Layout, ◌▹◌, stay, choose, char, letters, blank, blanks, is_white, gap, word, indicator, new_line, must_break, indent_to, line, tag_spelling, Start, Nodes, sequence_node, start_tag, Context, position, is_flow, are_none, anchor_text, tag_text, properties_text, checked, block_indent_in, before_value, node_layout, items_layout, ValuesStandByKeys}
 use Rattle.yaml_emit_layout.specs.declared.level.Part.TheVariants as part
-use Rattle.yaml_emit_layout.specs.emit_tags.Tags.{tag_spelling}
-use Rattle.yaml_emit_layout.specs.Content.{Start, Nodes, sequence_node}
-use Rattle.yaml_emit_layout.specs.Grammar.{start_tag}
-use Rattle.yaml_emit_layout.specs.Nodes.{Context, position, is_flow, are_none, anchor_text, tag_text, properties_text, checked, block_indent_in, before_value, node_layout, items_layout}
-use Rattle.yaml_emit_laws_text.specs.ColumnsLaws.{ValuesStandByKeys}
 
 -- from lines that are bare or not, to such
 abbrev Leads : Bool → Bool → Layout → Type 0

@@ -1,35 +1,10 @@
 -- The lines of directives are words.
 use Rattle.std.proofs.Common.{◌≡◌, ℕ, ◌+◌, ◌<◌, ◌||◌, nat_lt, Bool, true, false, List, [], ◌∷◌, ◌++◌, length, Option, Some, None, Result, Ok, refl, sym, ap, subst, ◌∙◌, inl, inr, arith, append_assoc, ℤ, pos, codes, if◌then◌else◌, int_eq}
 use Rattle.std.specs.Cmp.{signed_Decides}
-use Rattle.std.proofs.lemmas.Bool.{cases_Bool, and_parts}
-use Rattle.yaml_emit_laws_text.specs.scan_history.scan_model.Marks.{byte, break_of, break_width, column_at}
-use Rattle.yaml_scan_scalars.specs.scan_model.Classes.{is_break}
-use Rattle.yaml_emit_laws_text.specs.scan_history.scan_model.Wrong.{Wrong}
+use Rattle.yaml_emit_laws_text.proofs.Shared.{cases_Bool, and_parts, byte, break_of, break_width, column_at, is_break, Wrong, Said, DirectiveText, directive_at, begins_lexeme, GapReads, Kind, WordText, kind_at, word_at, body_said, directed, yaml_version_directive_t, TagDirective, Cursor, Settings, LineBreak, encode, char_bytes, Layout, Rest, ◌▹◌, blank, letters, word, line, uri_text, Opening, is_version, version_problem, directives_problem, version_word, version_text, directive_text, directives_text, version_kinds, directives_kinds, version_bodies, directives_bodies, VersionReads, are_ascii, IsMarked, IsReadableDirective, AreReadable, WrittenDirectivesAreReadable, ReadableDirectivesAreAscii, DirectivesAreRead, IsWritableOpening, Has, Left, bytes, first}
 use Rattle.yaml_scan_laws_texts.specs.scan_history.scan_words.Directives as directives
-use Rattle.yaml_scan_laws_texts.specs.scan_history.scan_words.Directives.{Said, DirectiveText, directive_at}
-use Rattle.yaml_scan_laws_texts.specs.scan_history.scan_words.Written.{begins_lexeme}
-use Rattle.yaml_emit_laws_text.specs.scan_history.scan_words.Laws.{GapReads}
-use Rattle.yaml_emit_laws_text.specs.scan_history.declared.kind.Kind.{Kind}
 use Rattle.yaml_emit_laws_text.specs.scan_history.declared.kind.Kind.TheVariants as kinds
-use Rattle.yaml_emit_laws_text.specs.scan_history.Words.{WordText, kind_at, word_at, body_said, directed}
 use Rattle.yaml_emit_laws_text.specs.scan_model.Tokens as tokens
-use Rattle.yaml_emit_layout.specs.scan_model.declared.yaml_version_directive_t.{yaml_version_directive_t}
-use Rattle.yaml_emit_layout.specs.parse_model.Events.{TagDirective}
-use Rattle.yaml_emit_laws_text.specs.emit_layout.emit_text.declared.Cursor.{Cursor}
-use Rattle.yaml_emit_laws_text.specs.emit_layout.emit_text.declared.Settings.{Settings}
-use Rattle.yaml_emit_laws_text.specs.emit_layout.emit_text.declared.LineBreak.{LineBreak}
-use Rattle.yaml_emit_layout.specs.emit_text.Text.{encode, char_bytes}
-use Rattle.yaml_emit_laws_text.specs.emit_layout.emit_text.Layout.{Layout, Rest, ◌▹◌, blank, letters, word, line}
-use Rattle.yaml_emit_layout.specs.emit_tags.Tags.{uri_text}
-use Rattle.yaml_emit_layout.specs.Content.{Opening}
-use Rattle.yaml_emit_layout.specs.Grammar.{is_version, version_problem, directives_problem}
-use Rattle.yaml_emit_layout.specs.Nodes.{version_word, version_text, directive_text, directives_text}
-use Rattle.yaml_emit_laws_text.specs.Canonical.{version_kinds, directives_kinds}
-use Rattle.yaml_emit_laws_text.specs.Bodies.{version_bodies, directives_bodies}
-use Rattle.yaml_scan_laws_texts.specs.WordsLaws.{VersionReads}
-use Rattle.yaml_emit_laws_text.specs.TagsLaws.{are_ascii, IsMarked, IsReadableDirective, AreReadable, WrittenDirectivesAreReadable, ReadableDirectivesAreAscii, DirectivesAreRead}
-use Rattle.yaml_emit_laws_text.specs.Writable.{IsWritableOpening}
-use Rattle.yaml_emit_laws_text.specs.Walk.{Has, Left, bytes, first}
 use Rattle.yaml_emit_laws_text.proofs.Forms.{at_line, LinesWalkTo, NoFeed, DirectivesWalk}
 use Rattle.yaml_emit_laws_text.proofs.Places.{has_front, has_at, left_first, left_rest}
 use Rattle.yaml_emit_laws_text.proofs.Steps.{sign_starts, letter_low, push_to, word_of}

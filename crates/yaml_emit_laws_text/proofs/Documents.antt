@@ -1,36 +1,9 @@
 -- The words of documents.
 use Rattle.std.proofs.Common.{◌≡◌, ℕ, ◌+◌, ◌<◌, ◌&&◌, not, nat_lt, Bool, true, false, List, [], ◌∷◌, ◌++◌, length, map, reverse, Some, Ok, refl, sym, ap, subst, ◌∙◌, arith, get_or, append_assoc, append-nil, if◌then◌else◌}
-use Rattle.std.proofs.lemmas.List.{get_or_past, reverse-append}
-use Rattle.yaml_emit_layout.specs.scan_model.declared.yaml_encoding_t.{yaml_encoding_t}
+use Rattle.yaml_emit_laws_text.proofs.Shared.{get_or_past, reverse-append, yaml_encoding_t, Token, TokenBody, byte, break_of, column_at, is_blank_or_end, Gap, is_document_start, is_document_end, begins_lexeme, GapReads, AnchorReads, Kind, depth_after, is_end, reached, depth, key_allowed, WordText, kind_at, word_at, SpelledText, Word, lexemes, WordsStand, word_kinds, token_of, first_token, Cursor, Settings, LineBreak, Lf, Cr, CrLf, letter, encode, char_bytes, Layout, Rest, ◌▹◌, keep, when, letters, word, line, blanks, new_line, must_break, indent_to, nothing_more, Opening, Document, Node, is_directed, dots, dashes, root_position, context_of, version_text, directives_text, start_layout, end_layout, stop_layout, documents_layout, node_layout, QuotedIsReadBack, put_if, node_kinds, version_kinds, directives_kinds, opening_kinds, documents_kinds, node_bodies, version_bodies, directives_bodies, end_bodies, opening_bodies, documents_bodies, Has, Left, WordStage, told, bytes, first, IsWritable, IsWritableOpening, AreWritable, text_of_documents, IsReadAs}
 use Rattle.yaml_emit_laws_text.specs.scan_model.Tokens as tokens
-use Rattle.yaml_emit_laws_text.specs.scan_model.Tokens.{Token, TokenBody}
-use Rattle.yaml_emit_laws_text.specs.scan_history.scan_model.Marks.{byte, break_of, column_at, is_blank_or_end}
-use Rattle.yaml_emit_laws_text.specs.scan_history.scan_words.Between.{Gap}
-use Rattle.yaml_emit_laws_text.specs.scan_history.scan_words.Indicators.{is_document_start, is_document_end}
-use Rattle.yaml_scan_laws_texts.specs.scan_history.scan_words.Written.{begins_lexeme}
-use Rattle.yaml_emit_laws_text.specs.scan_history.scan_words.Laws.{GapReads, AnchorReads}
-use Rattle.yaml_emit_laws_text.specs.scan_history.declared.kind.Kind.{Kind}
 use Rattle.yaml_emit_laws_text.specs.scan_history.declared.kind.Kind.TheVariants as kinds
-use Rattle.yaml_emit_laws_text.specs.scan_history.Kinds.{depth_after, is_end}
-use Rattle.yaml_emit_laws_text.specs.scan_history.History.{reached, depth, key_allowed}
-use Rattle.yaml_emit_laws_text.specs.scan_history.Words.{WordText, kind_at, word_at}
-use Rattle.yaml_emit_laws_text.specs.scan_history.Remaining.{SpelledText}
-use Rattle.yaml_emit_laws_text.specs.scan_laws_texts.KeysTexts.{Word, lexemes, WordsStand, word_kinds, token_of, first_token}
-use Rattle.yaml_emit_laws_text.specs.emit_layout.emit_text.declared.Cursor.{Cursor}
-use Rattle.yaml_emit_laws_text.specs.emit_layout.emit_text.declared.Settings.{Settings}
-use Rattle.yaml_emit_laws_text.specs.emit_layout.emit_text.declared.LineBreak.{LineBreak}
-use Rattle.yaml_emit_laws_text.specs.emit_layout.emit_text.declared.LineBreak.TheVariants.{Lf, Cr, CrLf}
-use Rattle.yaml_emit_layout.specs.emit_text.Text.{letter, encode, char_bytes}
-use Rattle.yaml_emit_laws_text.specs.emit_layout.emit_text.Layout.{Layout, Rest, ◌▹◌, keep, when, letters, word, line, blanks, new_line, must_break, indent_to, nothing_more}
-use Rattle.yaml_emit_layout.specs.Content.{Opening, Document, Node}
-use Rattle.yaml_emit_layout.specs.Nodes.{is_directed, dots, dashes, root_position, context_of, version_text, directives_text, start_layout, end_layout, stop_layout, documents_layout, node_layout}
 use Rattle.yaml_emit_laws_text.specs.CanonicalLaws.{CanonicalWordsAreRead}
-use Rattle.yaml_emit_laws_text.specs.QuotedLaws.{QuotedIsReadBack}
-use Rattle.yaml_emit_laws_text.specs.Canonical.{put_if, node_kinds, version_kinds, directives_kinds, opening_kinds, documents_kinds}
-use Rattle.yaml_emit_laws_text.specs.Bodies.{node_bodies, version_bodies, directives_bodies, end_bodies, opening_bodies, documents_bodies}
-use Rattle.yaml_emit_laws_text.specs.Walk.{Has, Left, WordStage, told, bytes, first}
-use Rattle.yaml_emit_laws_text.specs.Writable.{IsWritable, IsWritableOpening, AreWritable}
-use Rattle.yaml_emit_laws_text.specs.TextLaws.{text_of_documents, IsReadAs}
 use Rattle.yaml_emit_laws_text.proofs.Forms.{canonical_settings, TagWalks, MarkWalks, at_line, LinesWalk, NoFeed, DirectivesWalk}
 use Rattle.yaml_emit_laws_text.proofs.Places.{has_at, left_first, left_more}
 use Rattle.yaml_emit_laws_text.proofs.Steps.{gap_byte, left_letter, behind_feed, behind_return, sign_starts, push, word_of}

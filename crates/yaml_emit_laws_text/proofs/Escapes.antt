@@ -1,16 +1,9 @@
 -- The parts of what an emitter writes between double quotes, as a reader's parts.
 use Rattle.std.proofs.Common.{◌≡◌, ◌≢◌, ℕ, zero, suc, ◌+◌, ◌*◌, ◌/◌, ◌%◌, ◌<◌, ◌≤◌, Bool, true, false, not, ◌&&◌, ◌||◌, ◌==◌, nat_lt, nat_le, List, [], ◌∷◌, ◌++◌, length, replicate, Some, refl, sym, ap, subst, ◌∙◌, inl, inr, arith, append-nil, encode_utf8, encode_utf8_all}
-use Rattle.std.proofs.lemmas.Bool.{cases_lt, cases_eq, and_parts, not-true, or_parts, ne_eqb}
-use Rattle.std.proofs.lemmas.Bool.Decides.{nat_tests}
-use Rattle.std.proofs.lemmas.Str.{encode_ascii, encodes-append}
+use Rattle.yaml_emit_laws_text.proofs.Shared.{cases_lt, cases_eq, and_parts, not-true, or_parts, ne_eqb, nat_tests, encode_ascii, encodes-append, hex_digit, hex_len, simple_escape, LineBreak, Lf, Cr, CrLf, escape_letter, escape_text, hex_4, hex_8, hex_2, digit_of, LineEnd, feed, return, return_feed, turn_bytes, turn_means, may_turn, QuotedPart, raw, named, numbered, meant, spelling, meaning, number_behind, may_be_raw, MayStand, is_raw_blank, is_fold, is_turn, may_be_next, IsSpelling}
 use lib.Utf8.{scalar, encode}
-use Rattle.yaml_scan_scalars.specs.Quoted.{hex_digit, hex_len, simple_escape}
-use Rattle.yaml_emit_laws_text.specs.emit_layout.emit_text.declared.LineBreak.{LineBreak}
-use Rattle.yaml_emit_laws_text.specs.emit_layout.emit_text.declared.LineBreak.TheVariants.{Lf, Cr, CrLf}
-use Rattle.yaml_emit_text.specs.Quoted.{escape_letter, escape_text, hex_4, hex_8}
-use Rattle.yaml_emit_layout.specs.emit_text.Hex.{hex_2, hex_digit as digit_of}
 use Rattle.yaml_emit_text.specs.Spelling as emitted
-use Rattle.yaml_emit_laws_text.specs.Spelling.{LineEnd, feed, return, return_feed, turn_bytes, turn_means, may_turn, QuotedPart, raw, named, numbered, fold, spelled, meant, spelling, meaning, number_behind, may_be_raw, MayStand, is_raw_blank, is_fold, is_turn, may_be_next, IsSpelling}
+use Rattle.yaml_emit_laws_text.specs.Spelling.{fold, spelled}
 use Rattle.yaml_emit_laws_text.proofs.Bytes.{AreCalm, calm_from, digit_calm, named_is}
 use Rattle.yaml_emit_laws_text.proofs.Pieces.{top_of}
 
@@ -337,8 +330,7 @@ pub fold_means : (b : LineBreak) (n : ℕ)
     → meant (fold (record { end = end_of b; spaces = n }) []) ≡ 32 ∷ []
 unfolding turn_means
 fold_means Lf n = refl
-fold_means Cr n = refl
-fold_means CrLf n = refl
+fold_means _ n = refl
 
 part_of : (x : emitted.SpelledPart) → emitted.may_stand x ≡ true → PartOf x
 unfolding simple_escape may_turn

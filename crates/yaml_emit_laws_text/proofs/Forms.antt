@@ -1,21 +1,8 @@
 -- Forms of what is shown on the way: words before a space, and lines.
 use Rattle.std.specs.Prelude.{◌≡◌, ℕ, Bool, true, false, List, [], ◌∷◌, Some}
-use Rattle.yaml_emit_laws_text.specs.scan_model.Tokens.{TokenBody}
+use Rattle.yaml_emit_laws_text.proofs.Shared.{TokenBody, Kind, TagDirective, Cursor, Settings, Layout, Rest, word, ◌▹◌, tag_spelling, split_tag, Opening, Context, version_text, directives_text, Word, word_kinds, version_kinds, directives_kinds, tag_body, version_bodies, directives_bodies, IsWritableTag, bytes, first, Left, WordStage, told, Walks}
 use Rattle.yaml_emit_laws_text.specs.scan_model.Tokens as tokens
-use Rattle.yaml_emit_laws_text.specs.scan_history.declared.kind.Kind.{Kind}
 use Rattle.yaml_emit_laws_text.specs.scan_history.declared.kind.Kind.TheVariants as kinds
-use Rattle.yaml_emit_layout.specs.parse_model.Events.{TagDirective}
-use Rattle.yaml_emit_laws_text.specs.emit_layout.emit_text.declared.Cursor.{Cursor}
-use Rattle.yaml_emit_laws_text.specs.emit_layout.emit_text.declared.Settings.{Settings}
-use Rattle.yaml_emit_laws_text.specs.emit_layout.emit_text.Layout.{Layout, Rest, word, ◌▹◌}
-use Rattle.yaml_emit_layout.specs.emit_tags.Tags.{tag_spelling, split_tag}
-use Rattle.yaml_emit_layout.specs.Content.{Opening}
-use Rattle.yaml_emit_layout.specs.Nodes.{Context, version_text, directives_text}
-use Rattle.yaml_emit_laws_text.specs.scan_laws_texts.KeysTexts.{Word, word_kinds}
-use Rattle.yaml_emit_laws_text.specs.Canonical.{version_kinds, directives_kinds}
-use Rattle.yaml_emit_laws_text.specs.Bodies.{tag_body, version_bodies, directives_bodies}
-use Rattle.yaml_emit_laws_text.specs.Writable.{IsWritableTag}
-use Rattle.yaml_emit_laws_text.specs.Walk.{bytes, first, Left, WordStage, told, Walks}
 
 -- settings in canonical form, and a context of them
 abbrev pub canonically : Settings → List TagDirective → Context

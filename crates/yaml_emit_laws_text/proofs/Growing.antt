@@ -1,20 +1,10 @@
 -- Canonical words are key-free.
 use Rattle.std.proofs.Common.{◌≡◌, ℕ, Bool, true, false, not, ◌&&◌, List, [], ◌∷◌, map, reverse, Option, Some, None, refl, ap, ◌∙◌}
-use Rattle.std.specs.List.{list_all}
-use Rattle.std.proofs.lemmas.Bool.{and_from}
-use Rattle.yaml_emit_laws_text.specs.scan_history.declared.kind.Kind.{Kind}
+use Rattle.yaml_emit_laws_text.proofs.Shared.{list_all, and_from, Kind, is_end, SpelledText, offline, yaml_version_directive_t, TagDirective, Word, WordsStand, word_kinds, token_of, first_token, ReachEnd, Scalar, Node, alias_node, scalar_node, sequence_node, mapping_node, Nodes, no_nodes, node, Pairs, no_pairs, pair, Opening, Document, has, scalar_tag, start_tag, is_directed, put_if, properties_kinds, node_kinds, items_kinds, pairs_kinds, version_kinds, directives_kinds, opening_kinds, documents_kinds, stream_kinds}
 use Rattle.yaml_emit_laws_text.specs.scan_history.declared.kind.Kind.TheVariants as kinds
-use Rattle.yaml_emit_laws_text.specs.scan_history.Kinds.{is_end}
-use Rattle.yaml_emit_laws_text.specs.scan_history.Remaining.{SpelledText, offline}
-use Rattle.yaml_emit_layout.specs.scan_model.declared.yaml_version_directive_t.{yaml_version_directive_t}
-use Rattle.yaml_emit_layout.specs.parse_model.Events.{TagDirective}
 use Rattle.yaml_scan_laws_texts.specs.KeyFree.{asked_after, asked, fits, is_key_free}
-use Rattle.yaml_emit_laws_text.specs.scan_laws_texts.KeysTexts.{Word, WordsStand, word_kinds, token_of, first_token, ReachEnd}
 use Rattle.yaml_scan_laws_texts.proofs.TextLemmas.{words_read}
-use Rattle.yaml_emit_layout.specs.Content.{Scalar, Node, alias_node, scalar_node, sequence_node, mapping_node, Nodes, no_nodes, node, Pairs, no_pairs, pair, Opening, Document}
-use Rattle.yaml_emit_layout.specs.Grammar.{has, scalar_tag, start_tag}
-use Rattle.yaml_emit_layout.specs.Nodes.{is_directed}
-use Rattle.yaml_emit_laws_text.specs.Canonical.{put_if, properties_kinds, is_marked, node_kinds, items_kinds, pairs_kinds, version_kinds, directives_kinds, opening_kinds, documents_kinds, stream_kinds}
+use Rattle.yaml_emit_laws_text.specs.Canonical.{is_marked}
 
 abbrev GoOn : List Kind → Type 0
 GoOn ks = list_all (λ (k : Kind). not (is_end k)) ks ≡ true

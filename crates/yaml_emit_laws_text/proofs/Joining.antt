@@ -1,21 +1,8 @@
 -- What is written for a tag is read and resolved to it.
 use Rattle.std.proofs.Common.{◌≡◌, inl, inr, ℕ, suc, ◌+◌, ◌-◌, ◌<◌, Bool, true, false, not, ◌==◌, nat_lt, if◌then◌else◌, List, [], ◌∷◌, ◌++◌, length, take, drop, get_or, Option, Some, None, refl, sym, ap, subst, ◌∙◌, arith, rules, length-drop, take-suc, encode_utf8_all, codes, IsUtf8, chars, bytes_eq}
-use Rattle.std.proofs.lemmas.Bool.{cases_Bool, not-false, eqb-true, and_parts, ltb-true}
-use Rattle.std.proofs.lemmas.Bool.Decides.{nat_tests}
-use Rattle.std.proofs.lemmas.List.{take_all, append_cancel_left}
-use Rattle.std.proofs.lemmas.Str.{IsUtf8-from_ascii, IsUtf8-append, chars-append, scalars-chars, encodes-chars, encodes-append}
-use Rattle.std.specs.List.{list_all}
+use Rattle.yaml_emit_laws_text.proofs.Shared.{cases_Bool, not-false, eqb-true, and_parts, ltb-true, nat_tests, take_all, append_cancel_left, IsUtf8-from_ascii, IsUtf8-append, chars-append, scalars-chars, encodes-chars, encodes-append, list_all, is_alpha_byte, may_end_tag, HasAt, are_alphas, TagDirective, resolved, has_shorter_prefix, directive_for, defines, primary, secondary, unless_defined, defaults, in_force, Split, shorthand, verbatim, split_by, split_tag, spelled, tag_spelling, Problem, Opening, or_else, between, inner_problem, ends_problem, handle_problem, prefix_problem, twice_problem, directive_problem, directives_problem, version_problem, opening_problem, resolved_split, IsShaped, IsReadable, HaveUtf8, IsTagReadBack, AreReadable}
 use lib.Utf8.{scalar, scalars}
-use Rattle.yaml_scan_scalars.specs.scan_model.Classes.{is_alpha_byte}
-use Rattle.yaml_scan_laws_texts.specs.scan_history.scan_words.Tags.{may_end_tag}
-use Rattle.yaml_scan_laws_texts.specs.scan_history.scan_words.Written.{HasAt, are_alphas}
-use Rattle.yaml_emit_layout.specs.parse_model.Events.{TagDirective}
-use Rattle.yaml_parse_grammar.specs.Resolve.{resolved}
-use Rattle.yaml_emit_layout.specs.emit_tags.Tags.{has_shorter_prefix, directive_for, defines, primary, secondary, unless_defined, defaults, in_force, Split, shorthand, verbatim, split_by, split_tag, spelled, tag_spelling}
-use Rattle.yaml_emit_layout.specs.declared.problem.Problem.{Problem}
-use Rattle.yaml_emit_layout.specs.Content.{Opening}
-use Rattle.yaml_emit_layout.specs.Grammar.{or_else, between, inner_problem, ends_problem, handle_problem, prefix_problem, twice_problem, directive_problem, directives_problem, version_problem, opening_problem}
-use Rattle.yaml_emit_laws_text.specs.TagsLaws.{resolved_split, IsShaped, IsReadable, tag_text, HaveUtf8, IsTagReadBack, AreReadable}
+use Rattle.yaml_emit_laws_text.specs.TagsLaws.{tag_text}
 use Rattle.yaml_emit_laws_text.proofs.Resolving.{or_first, or_second, whole, tags_resolve, some_is}
 use Rattle.yaml_emit_laws_text.proofs.TagsReading.{split_read}
 

@@ -1,14 +1,7 @@
 -- Quoted text leaves the cursor's mark of kept breaks.
 use Rattle.std.proofs.Common.{◌≡◌, ℕ, zero, suc, ◌+◌, Bool, true, false, ◌==◌, List, [], ◌∷◌, refl, sym, ap, ◌∙◌, inl, inr, if◌then◌else◌}
-use Rattle.std.proofs.lemmas.Bool.{cases_Bool}
-use Rattle.yaml_emit_laws_text.specs.emit_layout.emit_text.declared.Cursor.{Cursor}
-use Rattle.yaml_emit_laws_text.specs.emit_layout.emit_text.declared.LineBreak.{LineBreak}
-use Rattle.yaml_emit_laws_text.specs.emit_layout.emit_text.declared.LineBreak.TheVariants.{Lf, Cr, CrLf}
-use Rattle.yaml_emit_layout.specs.emit_text.Text.{Item, deep, is_deep}
-use Rattle.yaml_emit_laws_text.specs.emit_layout.emit_text.Layout.{Layout, Rest, ◌▹◌, stay, choose, when, char, letters, blank, blanks, break, new_line, is_past}
-use Rattle.yaml_emit_text.specs.declared.page.Page.{Page}
-use Rattle.yaml_emit_text.specs.Quoted.{needs_escape, escape_text, first, may_fold, fold, escaped, quoted_char, quoted_body}
-use Rattle.yaml_emit_text.specs.Spelling.{in_front}
+use Rattle.yaml_emit_laws_text.proofs.Shared.{cases_Bool, Cursor, LineBreak, Lf, Cr, CrLf, Item, deep, is_deep, Layout, Rest, ◌▹◌, stay, choose, when, char, letters, blank, blanks, break, new_line, is_past, Page, needs_escape, escape_text, may_fold, fold, escaped, quoted_char, quoted_body, in_front}
+use Rattle.yaml_emit_text.specs.Quoted.{first}
 
 -- What follows is marked or not by whether the cursor there keeps breaks; a layout that leaves `kept` hands the mark on.
 abbrev Leaves : Layout → Type 0

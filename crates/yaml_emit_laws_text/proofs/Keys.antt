@@ -1,16 +1,8 @@
 -- A simple key in double quotes stays in its line.
 use Rattle.std.proofs.Common.{◌≡◌, ℕ, suc, ◌+◌, Bool, true, false, not, ◌&&◌, ◌==◌, List, [], ◌∷◌, ◌++◌, length, refl, sym, ap, subst, ◌∙◌, inl, inr, arith, IsUtf8, length-append}
-use Rattle.std.proofs.lemmas.Bool.{cases_Bool, or_parts, ne_eqb, and_from}
-use Rattle.std.proofs.lemmas.Str.{scalars-chars}
-use Rattle.std.specs.Str.{all_scalars, chars}
+use Rattle.yaml_emit_laws_text.proofs.Shared.{cases_Bool, or_parts, ne_eqb, and_from, scalars-chars, all_scalars, chars, Cursor, letter, Layout, Rest, ◌▹◌, char, letters, Page, needs_escape, escape_text, escaped, quoted_char, quoted_body, in_front, is_one_line, StaysInLine, between_quotes}
 use lib.Utf8.{scalar}
-use Rattle.yaml_emit_laws_text.specs.emit_layout.emit_text.declared.Cursor.{Cursor}
-use Rattle.yaml_emit_layout.specs.emit_text.Text.{letter, is_break}
-use Rattle.yaml_emit_laws_text.specs.emit_layout.emit_text.Layout.{Layout, Rest, ◌▹◌, char, letters}
-use Rattle.yaml_emit_text.specs.declared.page.Page.{Page}
-use Rattle.yaml_emit_text.specs.Quoted.{needs_escape, escape_text, escaped, quoted_char, quoted_body}
-use Rattle.yaml_emit_text.specs.Spelling.{in_front}
-use Rattle.yaml_emit_laws_text.specs.ReadBack.{is_one_line, StaysInLine, between_quotes}
+use Rattle.yaml_emit_layout.specs.emit_text.Text.{is_break}
 use Rattle.yaml_emit_laws_text.proofs.Values.{cond_true, cond_false}
 use Rattle.yaml_emit_laws_text.proofs.Bytes.{Calm, AreCalm}
 use Rattle.yaml_emit_laws_text.proofs.Escapes.{escape_calm}

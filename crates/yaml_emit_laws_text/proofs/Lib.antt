@@ -1,3 +1,4 @@
+mod Shared
 pub mod Chars
 pub mod Values
 pub mod Bytes

@@ -1,31 +1,10 @@
 -- The words of a node, and of what it holds.
 use Rattle.std.proofs.Common.{◌≡◌, ℕ, suc, ◌+◌, ◌-◌, ◌<◌, ◌&&◌, not, nat_lt, Bool, true, false, List, [], ◌∷◌, Option, Some, None, refl, sym, ap, subst, ◌∙◌, arith, if◌then◌else◌, chars}
-use Rattle.yaml_emit_laws_text.specs.scan_history.scan_words.Laws.{GapReads, AnchorReads}
-use Rattle.yaml_emit_laws_text.specs.scan_history.declared.kind.Kind.{Kind}
+use Rattle.yaml_emit_laws_text.proofs.Shared.{GapReads, AnchorReads, Kind, YAML_DOUBLE_QUOTED_SCALAR_STYLE, TokenBody, TagDirective, Cursor, Settings, LineBreak, Lf, Cr, CrLf, Layout, Rest, ◌▹◌, gap, blank, char, letters, word, when, stay, opener, line, new_line, must_break, indent_to, tag_spelling, double_quoted, scalar_text, NodePosition, Opening, Scalar, Start, Node, alias_node, scalar_node, sequence_node, mapping_node, Nodes, no_nodes, node, Pairs, no_pairs, pair, has, Context, context_of, is_simple_part, position, key_part, deeper, checked, MOST, anchor_text, tag_text, page_at, style_of, scalar_layout, alias_layout, is_simple, is_simple_scalar, is_simple_alias, is_simple_start, turned, before_item, before_key, before_value, closer, node_layout, items_layout, pairs_layout, put_if, properties_kinds, node_kinds, items_kinds, pairs_kinds, anchor_bodies, tag_bodies, mark_bodies, node_bodies, items_bodies, pairs_bodies, bytes, Walks, first, parts, Parts, IsWritableOpening, IsWritableAnchor, IsWritableTag, IsWritable, AreItemsWritable, ArePairsWritable, QuotedIsReadBack, NodesAreWords}
 use Rattle.yaml_emit_laws_text.specs.scan_history.declared.kind.Kind.TheVariants as kinds
-use Rattle.yaml_emit_laws_text.specs.scan_model.declared.yaml_scalar_style_t.TheVariants.{YAML_DOUBLE_QUOTED_SCALAR_STYLE}
 use Rattle.yaml_emit_laws_text.specs.scan_model.Tokens as tokens
-use Rattle.yaml_emit_laws_text.specs.scan_model.Tokens.{TokenBody}
-use Rattle.yaml_emit_layout.specs.parse_model.Events.{TagDirective}
-use Rattle.yaml_emit_laws_text.specs.emit_layout.emit_text.declared.Cursor.{Cursor}
-use Rattle.yaml_emit_laws_text.specs.emit_layout.emit_text.declared.Settings.{Settings}
-use Rattle.yaml_emit_laws_text.specs.emit_layout.emit_text.declared.LineBreak.{LineBreak}
-use Rattle.yaml_emit_laws_text.specs.emit_layout.emit_text.declared.LineBreak.TheVariants.{Lf, Cr, CrLf}
-use Rattle.yaml_emit_laws_text.specs.emit_layout.emit_text.Layout.{Layout, Rest, ◌▹◌, gap, blank, char, letters, word, when, stay, opener, line, new_line, must_break, indent_to}
-use Rattle.yaml_emit_layout.specs.emit_tags.Tags.{tag_spelling}
-use Rattle.yaml_emit_text.specs.Quoted.{double_quoted}
-use Rattle.yaml_emit_layout.specs.emit_text.Scalars.{scalar_text}
-use Rattle.yaml_emit_layout.specs.declared.level.NodePosition.{NodePosition}
 use Rattle.yaml_emit_layout.specs.declared.level.Part.TheVariants as part
-use Rattle.yaml_emit_layout.specs.Content.{Opening, Scalar, Start, Node, alias_node, scalar_node, sequence_node, mapping_node, Nodes, no_nodes, node, Pairs, no_pairs, pair}
-use Rattle.yaml_emit_layout.specs.Grammar.{has}
-use Rattle.yaml_emit_layout.specs.Nodes.{Context, context_of, is_simple_part, position, key_part, deeper, checked, MOST, anchor_text, tag_text, page_at, style_of, scalar_layout, alias_layout, is_simple, is_simple_scalar, is_simple_alias, is_simple_start, turned, before_item, before_key, before_value, closer, node_layout, items_layout, pairs_layout}
-use Rattle.yaml_emit_laws_text.specs.Canonical.{put_if, properties_kinds, is_marked, node_kinds, items_kinds, pairs_kinds}
-use Rattle.yaml_emit_laws_text.specs.Bodies.{anchor_bodies, tag_bodies, mark_bodies, node_bodies, items_bodies, pairs_bodies}
-use Rattle.yaml_emit_laws_text.specs.Walk.{bytes, Walks, first, parts, Parts}
-use Rattle.yaml_emit_laws_text.specs.Writable.{IsWritableOpening, IsWritableAnchor, IsWritableTag, IsWritable, AreItemsWritable, ArePairsWritable}
-use Rattle.yaml_emit_laws_text.specs.QuotedLaws.{QuotedIsReadBack}
-use Rattle.yaml_emit_laws_text.specs.TextLaws.{NodesAreWords}
+use Rattle.yaml_emit_laws_text.specs.Canonical.{is_marked}
 use Rattle.yaml_emit_laws_text.proofs.Forms.{canonically, BeginsBlank, TagWalks, MarkWalks}
 use Rattle.yaml_emit_laws_text.proofs.Steps.{walks_line, walks_checked, both, deep_bytes, letter_low}
 use Rattle.yaml_emit_laws_text.proofs.Words.{comma_walks, sequence_closes, mapping_closes, sequence_opens, mapping_opens, key_walks, value_walks, alias_walks, anchor_walks, quoted_walks}
@@ -178,9 +157,7 @@ not_simple : (s : Settings) (ds : List TagDirective) (n : Node)
     → is_simple (canonically s ds) n ≡ false
 unfolding is_simple is_simple_scalar is_simple_alias is_simple_start
 not_simple s ds (alias_node name) = refl
-not_simple s ds (scalar_node x) = refl
-not_simple s ds (sequence_node q items) = refl
-not_simple s ds (mapping_node q pairs) = refl
+not_simple s ds _ = refl
 
 -- ---- collections
 

@@ -1,24 +1,16 @@
 -- All parts of a spelling are read, and what they mean.
 use Rattle.std.proofs.Common.{◌≡◌, ℕ, zero, suc, ◌+◌, ◌<◌, ◌≤◌, true, false, ◌==◌, List, [], ◌∷◌, ◌++◌, length, Result, Ok, Err, refl, sym, ap, subst, ◌∙◌, inl, inr, arith, append_assoc, encode_utf8, length-append}
-use Rattle.std.proofs.lemmas.Bool.{cases_Bool, and_parts, not-true, or_parts, ne_eqb, eqb-false}
-use Rattle.std.proofs.lemmas.Bool.Decides.{nat_tests}
+use Rattle.yaml_emit_laws_text.proofs.Shared.{cases_Bool, and_parts, not-true, or_parts, ne_eqb, eqb-false, nat_tests, byte, starts, column_at, is_blank, is_document_indicator, Wrong, Piece, Kept, Blank, value, QuotedSpot, Closing, Pieces, Bad, quote_at, standing_at, with_front, followed, pieces, valued, quoted_at, double_quoted_at, single_quoted_at, QuotedPart, raw, doubled, named, numbered, joint, spelling, meaning, is_line_end, may_be_raw, MayStand, IsSpelling, quoted, within, has_rest, has_front}
 use lib.Utf8.{scalar}
-use Rattle.yaml_emit_laws_text.specs.scan_history.scan_model.Marks.{byte, starts, column_at, is_blank}
-use Rattle.yaml_scan_scalars.specs.scan_model.Breaks.{is_document_indicator}
-use Rattle.yaml_emit_laws_text.specs.scan_history.scan_model.Wrong.{Wrong}
-use Rattle.yaml_scan_scalars.specs.Pieces.{Piece, Kept, Blank, value}
-use Rattle.yaml_scan_scalars.specs.Quoted.{QuotedSpot, Closing, Pieces, Bad, quote_at, standing_at, with_front, followed, pieces, valued, quoted_at, double_quoted_at, single_quoted_at}
 use Rattle.yaml_emit_laws_text.specs.Stands.{HasAt}
-use Rattle.yaml_emit_laws_text.specs.Spelling.{QuotedPart, raw, doubled, named, numbered, fold, joint, spelled, spelling, meaning, is_line_end, may_be_raw, MayStand, IsSpelling, quoted}
+use Rattle.yaml_emit_laws_text.specs.Spelling.{fold, spelled}
 use Rattle.yaml_emit_laws_text.proofs.Chars.{encode_1}
 use Rattle.yaml_emit_laws_text.proofs.Values.{read_as, all_read_as, read_blank, read_kept, spelling_value}
 use Rattle.yaml_emit_laws_text.proofs.Bytes.{same_test, IsQuote, quote_some, calm_end, calm_from}
-use Rattle.yaml_scan_laws_texts.proofs.HasLemmas.{has}
+use Rattle.yaml_scan_laws_texts.proofs.HasLemmas.{has, Has}
 use Rattle.yaml_emit_laws_text.proofs.QuotedReading.{Read, Through, through_one, in_line, column_more, column_start, blank_through, Raw, raw_through}
 use Rattle.yaml_emit_laws_text.proofs.Turns.{named_through, numbered_through, fold_through, joint_through}
-use Rattle.yaml_scan_laws_texts.proofs.MarksLemmas.{within}
 use Rattle.yaml_emit_laws_text.proofs.Pieces.{top_of}
-use Rattle.yaml_scan_laws_texts.proofs.HasLemmas.{has_rest, Has, has_front}
 
 -- ---- characters
 

@@ -1,15 +1,10 @@
 -- The URIs that an emitter writes, as pieces.
 use Rattle.std.proofs.Common.{◌≡◌, inl, inr, ℕ, suc, ◌+◌, ◌-◌, ◌/◌, ◌%◌, ◌<◌, ◌≤◌, Bool, true, false, ◌&&◌, ◌||◌, ◌==◌, nat_lt, nat_le, if◌then◌else◌, List, [], ◌∷◌, ◌++◌, length, Ok, refl, sym, ap, subst, ◌∙◌, arith, encode_utf8, encode_utf8_all, IsUtf8}
-use Rattle.std.proofs.lemmas.Bool.{cases_Bool, cases_lt, and_parts}
-use Rattle.std.proofs.lemmas.Bool.Decides.{nat_tests}
+use Rattle.yaml_emit_laws_text.proofs.Shared.{cases_Bool, cases_lt, and_parts, nat_tests, scalar_cases, is_alpha_byte, is_digit_byte, is_punctuation, is_wide_punctuation, due_behind, UriPiece, escape, capital, piece_text, piece_byte, uri_bytes, is_kept, IsUri, has_no_mark, hex_2, suffix_keeps, keeps_byte, uri_byte, uri_text}
 use lib.Utf8.{scalar, scalars}
-use Rattle.std.proofs.Math.Utf8.{scalar_cases}
-use Rattle.yaml_scan_scalars.specs.scan_model.Classes.{is_alpha_byte, is_digit_byte}
-use Rattle.yaml_scan_laws_texts.specs.scan_history.scan_words.Uris.{is_punctuation, is_wide_punctuation, due_behind}
 use Rattle.yaml_scan_laws_texts.specs.scan_history.scan_words.Written as written
-use Rattle.yaml_scan_laws_texts.specs.scan_history.scan_words.Written.{UriPiece, raw, escape, capital, piece_text, piece_byte, uri_bytes, is_kept, IsUri, has_no_mark}
-use Rattle.yaml_emit_layout.specs.emit_text.Hex.{hex_digit, hex_2}
-use Rattle.yaml_emit_layout.specs.emit_tags.Tags.{suffix_keeps, keeps_byte, uri_byte, uri_text}
+use Rattle.yaml_scan_laws_texts.specs.scan_history.scan_words.Written.{raw}
+use Rattle.yaml_emit_layout.specs.emit_text.Hex.{hex_digit}
 use Rattle.yaml_emit_laws_text.proofs.Chars.{encode_4, encode_3, encode_1, encode_2}
 
 -- a byte as an emitter writes it

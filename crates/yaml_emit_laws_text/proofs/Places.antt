@@ -1,7 +1,6 @@
 -- Bytes that are left of a text.
 use Rattle.std.proofs.Common.{◌≡◌, ℕ, suc, ◌+◌, List, [], ◌∷◌, ◌++◌, length, subst, arith, add-zero}
-use Rattle.yaml_emit_laws_text.specs.scan_history.scan_model.Marks.{byte}
-use Rattle.yaml_emit_laws_text.specs.Walk.{Has, Left}
+use Rattle.yaml_emit_laws_text.proofs.Shared.{byte, Has, Left}
 pub use Rattle.yaml_scan_laws_texts.proofs.HasLemmas.{has_at, has_front, has_rest}
 
 -- Texts one behind the other stand as one.

@@ -1,12 +1,8 @@
 -- The bytes of a character are printable where its code point is.
 use Rattle.std.proofs.Common.{◌≡◌, ℕ, ◌+◌, ◌*◌, ◌/◌, ◌%◌, ◌<◌, ◌≤◌, List, ◌++◌, sym, ap, subst, ◌∙◌, inl, inr, ◌⊎◌, arith, encode_utf8}
-use Rattle.std.proofs.lemmas.Bool.{cases_lt}
-use Rattle.std.proofs.lemmas.Bool.Decides.{nat_tests}
+use Rattle.yaml_emit_laws_text.proofs.Shared.{cases_lt, nat_tests, scalar_cases, is_printable_by, is_special, is_printable}
 use Rattle.std.specs.Char.{IsScalar}
-use Rattle.std.proofs.Math.Utf8.{scalar_cases}
-use Rattle.yaml_scan_scalars.specs.scan_model.Classes.{is_printable_by, is_special}
 use Rattle.yaml_scan_scalars.specs.scan_model.Classes as bytes
-use Rattle.yaml_emit_text.specs.Quoted.{is_printable}
 use Rattle.yaml_emit_laws_text.specs.Printing.{PrintableIsOfCharacters}
 use Rattle.yaml_emit_laws_text.proofs.Chars.{encode_4, encode_3, encode_1, encode_2}
 

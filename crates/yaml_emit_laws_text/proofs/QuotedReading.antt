@@ -1,12 +1,6 @@
 -- How characters that stand for themselves are read inside the quotes.
 use Rattle.std.proofs.Common.{◌≡◌, ◌≢◌, ℕ, suc, ◌+◌, ◌-◌, ◌/◌, ◌%◌, ◌<◌, ◌≤◌, true, false, ◌&&◌, ◌==◌, List, [], ◌∷◌, ◌++◌, length, Ok, refl, sym, ap, subst, ◌∙◌, inl, inr, arith, add-one, append_assoc, encode_utf8}
-use Rattle.std.proofs.lemmas.Bool.{cases_lt, ne_eqb}
-use Rattle.std.proofs.lemmas.Bool.Decides.{nat_tests}
-use Rattle.std.proofs.Math.Bool.{and-false}
-use Rattle.yaml_emit_laws_text.specs.scan_history.scan_model.Marks.{byte, ends_of, break_width, ends_break, starts, column_at, is_blank}
-use Rattle.yaml_scan_scalars.specs.scan_model.Breaks.{is_document_indicator}
-use Rattle.yaml_scan_scalars.specs.Pieces.{Piece, Kept, Blank}
-use Rattle.yaml_scan_scalars.specs.Quoted.{Pieces, standing_at, pieces}
+use Rattle.yaml_emit_laws_text.proofs.Shared.{cases_lt, ne_eqb, nat_tests, and-false, byte, ends_of, break_width, ends_break, starts, column_at, is_blank, is_document_indicator, Piece, Kept, Blank, Pieces, standing_at, pieces}
 use Rattle.yaml_emit_laws_text.proofs.Chars.{encode_1, encode_2, encode_3, encode_4}
 use Rattle.yaml_emit_laws_text.proofs.Values.{keeps}
 use Rattle.yaml_emit_laws_text.proofs.Bytes.{IsQuote, no_quote, no_slash, low_end, low_break, Calm, calm_end, calm_break, calm_from, first_end, second_end, third_end, later_break, two_break, three_break, four_break, high_blank}

@@ -1,16 +1,8 @@
 -- Handles and suffixes resolve to their tags.
 use Rattle.std.proofs.Common.{◌≡◌, inl, inr, ℕ, Bool, true, false, ◌||◌, ◌==◌, nat_lt, cond, if◌then◌else◌, List, [], ◌∷◌, ◌++◌, length, take, drop, Option, Some, None, refl, sym, ap, subst, ◌∙◌, take-append-drop, option_map, bytes_eq}
-use Rattle.std.proofs.lemmas.Bool.{cases_Bool, or_cases, true≢false, and_parts}
+use Rattle.yaml_emit_laws_text.proofs.Shared.{cases_Bool, or_cases, true≢false, and_parts, list_any, TagDirective, resolved, or_default, default_prefix, has_shorter_prefix, directive_for, defines, primary, secondary, unless_defined, defaults, in_force, split_by, split_tag, Problem, Opening, or_else, handle_problem, prefix_problem, has_handle, twice_problem, directive_problem, directives_problem, version_problem, opening_problem, resolved_split}
 use Rattle.std.proofs.lemmas.Slice.Eq.{bytes_eq-Decides}
-use Rattle.std.specs.List.{list_any}
-use Rattle.yaml_emit_layout.specs.parse_model.Events.{TagDirective}
 use Rattle.yaml_parse_grammar.specs.Resolve as reader
-use Rattle.yaml_parse_grammar.specs.Resolve.{resolved, or_default, default_prefix}
-use Rattle.yaml_emit_layout.specs.emit_tags.Tags.{has_shorter_prefix, directive_for, defines, primary, secondary, unless_defined, defaults, in_force, split_by, split_tag}
-use Rattle.yaml_emit_layout.specs.declared.problem.Problem.{Problem}
-use Rattle.yaml_emit_layout.specs.Content.{Opening}
-use Rattle.yaml_emit_layout.specs.Grammar.{or_else, handle_problem, prefix_problem, has_handle, twice_problem, directive_problem, directives_problem, version_problem, opening_problem}
-use Rattle.yaml_emit_laws_text.specs.TagsLaws.{resolved_split}
 
 -- Tests.
 

@@ -1,18 +1,9 @@
 -- What an emitter writes between single quotes in one line, or cuts at spaces, is read back.
 use Rattle.std.proofs.Common.{◌≡◌, ℕ, zero, suc, ◌+◌, ◌-◌, Bool, true, false, not, ◌&&◌, ◌||◌, ◌==◌, nat_lt, nat_le, List, [], ◌∷◌, ◌++◌, replicate, refl, sym, ap, ◌∙◌, arith, encode_utf8_all}
-use Rattle.std.proofs.lemmas.Str.{encode_ascii, encodes-append}
-use Rattle.std.proofs.lemmas.Bool.{and_parts, not-true, or_parts, eqb-true}
-use Rattle.yaml_emit_laws_text.specs.emit_layout.emit_text.declared.Cursor.{Cursor}
-use Rattle.yaml_emit_laws_text.specs.emit_layout.emit_text.declared.LineBreak.{LineBreak}
-use Rattle.yaml_emit_laws_text.specs.emit_layout.emit_text.declared.LineBreak.TheVariants.{Lf, Cr, CrLf}
-use Rattle.yaml_emit_layout.specs.emit_text.Text.{letter, is_break}
-use Rattle.yaml_emit_laws_text.specs.emit_layout.emit_text.Layout.{Rest, blanks, new_line, line, indent_to, must_break}
-use Rattle.yaml_emit_text.specs.declared.page.Page.{Page}
-use Rattle.yaml_emit_text.specs.Quoted.{is_printable, first}
-use Rattle.yaml_emit_layout.specs.emit_text.Scalars.{cuts_at}
-use Rattle.yaml_emit_text.specs.Spelling.{in_front, break_text}
+use Rattle.yaml_emit_laws_text.proofs.Shared.{encode_ascii, encodes-append, and_parts, not-true, or_parts, eqb-true, Cursor, LineBreak, Lf, letter, Rest, blanks, new_line, line, indent_to, must_break, Page, is_printable, cuts_at, in_front, break_text, QuotedPart, is_raw_blank, is_fold, is_turn, may_follow}
+use Rattle.yaml_emit_layout.specs.emit_text.Text.{is_break}
+use Rattle.yaml_emit_text.specs.Quoted.{first}
 use Rattle.yaml_emit_text.specs.Style.{is_special}
-use Rattle.yaml_emit_laws_text.specs.Spelling.{QuotedPart, is_raw_blank, is_fold, is_turn, may_follow}
 use Rattle.yaml_emit_laws_text.proofs.Values.{cond_true}
 use Rattle.yaml_emit_laws_text.proofs.Escapes.{low_encodes}
 use Rattle.yaml_emit_laws_text.proofs.Back.{front_append, spaced_by}
@@ -38,8 +29,7 @@ pub new_line_is : (b : LineBreak) (c : Cursor) (rest : Rest)
     → new_line b c rest ≡ in_front (break_text b) (rest (line_start c))
 unfolding in_front
 new_line_is Lf c rest = refl
-new_line_is Cr c rest = refl
-new_line_is CrLf c rest = refl
+new_line_is _ c rest = refl
 
 -- Nothing less is the same.
 pub from_start : (n : ℕ) → n - 0 ≡ n

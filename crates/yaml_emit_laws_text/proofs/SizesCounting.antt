@@ -1,15 +1,6 @@
 -- Layouts of at most so many bytes, whatever follows.
 use Rattle.std.proofs.Common.{◌≡◌, ℕ, zero, suc, ◌+◌, ◌-◌, ◌*◌, ◌<◌, ◌≤◌, Bool, true, false, ◌&&◌, nat_lt, List, [], ◌∷◌, length, refl, arith, length-append, inl, inr, le_refl, mul-suc, mul-le-mul_left, sub-le}
-use Rattle.std.proofs.lemmas.Bool.{cases_Bool, ltb-true, lt-ltb, and_parts}
-use Rattle.yaml_emit_laws_text.specs.emit_layout.emit_text.declared.Cursor.{Cursor}
-use Rattle.yaml_emit_layout.specs.emit_text.declared.Encoding.{Encoding}
-use Rattle.yaml_emit_layout.specs.emit_text.declared.Encoding.TheVariants.{Utf8, Utf16Le, Utf16Be}
-use Rattle.yaml_emit_laws_text.specs.emit_layout.emit_text.declared.LineBreak.{LineBreak}
-use Rattle.yaml_emit_laws_text.specs.emit_layout.emit_text.declared.LineBreak.TheVariants.{Lf, Cr, CrLf}
-use Rattle.yaml_emit_layout.specs.emit_text.Text.{Item, letter, char_bytes, encode}
-use Rattle.yaml_emit_laws_text.specs.emit_layout.emit_text.Layout.{Rest, Layout, ◌▹◌, stay, choose, when, char, letters, blank, blanks, break, new_line, is_white, gap, word, opener, must_break, indent_to, line, keep, order_mark}
-use Rattle.yaml_emit_layout.specs.Nodes.{MOST, deep_if, checked}
-use Rattle.yaml_emit_laws_text.specs.Sizes.{unit, text_bytes}
+use Rattle.yaml_emit_laws_text.proofs.Shared.{cases_Bool, ltb-true, lt-ltb, and_parts, Cursor, Encoding, Utf8, LineBreak, Lf, Cr, CrLf, Item, letter, char_bytes, encode, Rest, Layout, ◌▹◌, stay, choose, when, char, letters, blank, blanks, break, new_line, is_white, gap, word, opener, must_break, indent_to, line, keep, order_mark, MOST, deep_if, checked, unit, text_bytes}
 
 abbrev pub size : Encoding → List Item → ℕ
 size x t = length (encode x t)
@@ -69,8 +60,7 @@ letters_most x (i ∷ t) =
 pub unit_size : (x : Encoding) (i : ℕ) → nat_lt i 128 ≡ true → length (char_bytes x i) ≤ unit x
 unfolding char_bytes
 unit_size Utf8 i e = rw e (le_refl _)
-unit_size Utf16Le i e = let less : i < 128 = ltb-true i 128 e in let w : nat_lt i 0x1_0000 ≡ true = lt-ltb i 0x1_0000 (omega arith) in rw w (le_refl _)
-unit_size Utf16Be i e = let less : i < 128 = ltb-true i 128 e in let w : nat_lt i 0x1_0000 ≡ true = lt-ltb i 0x1_0000 (omega arith) in rw w (le_refl _)
+unit_size _ i e = let less : i < 128 = ltb-true i 128 e in let w : nat_lt i 0x1_0000 ≡ true = lt-ltb i 0x1_0000 (omega arith) in rw w (le_refl _)
 
 pub ascii_most : (x : Encoding) (i : ℕ) → nat_lt i 128 ≡ true → AtMost x (unit x) (char i)
 ascii_most x i e = char_most x i (unit x) (unit_size x i e)
@@ -135,8 +125,7 @@ line_most x b n =
 pub mark_most : (x : Encoding) → AtMost x (unit x) (order_mark x)
 unfolding char_bytes
 mark_most Utf8 m rest h c = stay_most Utf8 1 m rest h c
-mark_most Utf16Le m rest h c = put_most Utf16Le 0xFEFF 2 m (rest c) (le_refl _) (h c)
-mark_most Utf16Be m rest h c = put_most Utf16Be 0xFEFF 2 m (rest c) (le_refl _) (h c)
+mark_most e m rest h c = put_most e 0xFEFF 2 m (rest c) (le_refl _) (h c)
 
 -- a mark for columns takes no byte
 marked_size : (x : Encoding) (d : Bool) (t : List Item) → size x (deep_if d t) ≤ size x t

@@ -1,29 +1,16 @@
 -- Pretty text has no more bytes than its nodes, lines and texts tell either.
 use Rattle.std.proofs.Common.{◌≡◌, ℕ, ◌+◌, ◌*◌, ◌<◌, ◌≤◌, Bool, true, false, true≢false, not, ◌&&◌, ◌||◌, ◌==◌, nat_lt, nat_le, if◌then◌else◌, List, [], ◌∷◌, length, Option, Some, None, refl, sym, arith, inl, inr, le_refl, mul-le-mul_left, mul-le-mul_right, ◌∙◌, chars}
-use Rattle.std.proofs.lemmas.Bool.{cases_Bool, lt-ltb, leb-true, leb-false, ltb-true, and_parts}
+use Rattle.yaml_emit_laws_text.proofs.Shared.{cases_Bool, lt-ltb, leb-true, leb-false, ltb-true, and_parts, TagDirective, Encoding, LineBreak, Settings, Cursor, encode, is_empty, value_break, cuts_at, cut, text_char, flow_char, flow_body, plain, single_quoted, adds_break, cuts_block, line_blank, block_text, block_char, block_body, chomp, chomp_mark, digit_char, block_header, block, scalar_text, Layout, ◌▹◌, stay, when, char, new_line, gap, word, opener, line, keep, is_past, after_text, after_block, order_mark, nothing_more, start, written, NodePosition, Scalar, Start, Node, alias_node, scalar_node, sequence_node, mapping_node, Nodes, no_nodes, node, Pairs, no_pairs, pair, Document, has, kept_if, scalar_tag, start_tag, Context, context_of, root_position, position, deeper, checked, properties_text, is_plain, style_of, mark_text, page_at, scalar_layout, is_simple, is_flow, are_none, are_no_pairs, block_indent_in, indent_of, indented, is_of_mapping, before_item, before_key, before_value, closer, key_part, node_layout, items_layout, pairs_layout, start_layout, end_layout, stop_layout, documents_layout, stream_layout, unit, ascii, larger, properties_bytes, tag_bytes, most_of_quoted, most_of_char, most_of_value, most_of_line, most_of_node, most_of_items, most_of_pairs, directives_bytes, most_of_documents, most_bytes, SizesAreByContent}
 use Rattle.yaml_emit_layout.specs.scan_model.declared.yaml_scalar_style_t.{yaml_scalar_style_t}
 use Rattle.yaml_emit_laws_text.specs.scan_model.declared.yaml_scalar_style_t.TheVariants as asked
-use Rattle.yaml_emit_layout.specs.parse_model.Events.{TagDirective}
-use Rattle.yaml_emit_layout.specs.emit_text.declared.Encoding.{Encoding}
-use Rattle.yaml_emit_laws_text.specs.emit_layout.emit_text.declared.LineBreak.{LineBreak}
-use Rattle.yaml_emit_laws_text.specs.emit_layout.emit_text.declared.Settings.{Settings}
-use Rattle.yaml_emit_laws_text.specs.emit_layout.emit_text.declared.Cursor.{Cursor}
 use Rattle.yaml_emit_layout.specs.emit_text.declared.page.Chomp.{Chomp}
 use Rattle.yaml_emit_layout.specs.emit_text.declared.page.Chomp.TheVariants as chomping
 use Rattle.yaml_emit_layout.specs.emit_text.declared.Style.{Style}
 use Rattle.yaml_emit_layout.specs.emit_text.declared.Style.TheVariants as style
-use Rattle.yaml_emit_layout.specs.emit_text.Text.{is_break, encode}
+use Rattle.yaml_emit_layout.specs.emit_text.Text.{is_break}
 use Rattle.yaml_emit_text.specs.Style.{allowed, plain_fits, taken}
-use Rattle.yaml_emit_text.specs.Quoted.{first, is_empty}
-use Rattle.yaml_emit_layout.specs.emit_text.Scalars.{value_break, cuts_at, cut, text_char, flow_char, flow_body, plain, single_quoted, adds_break, cuts_block, line_blank, block_text, block_char, block_body, chomp, chomp_mark, digit_char, block_header, block, scalar_text}
-use Rattle.yaml_emit_laws_text.specs.emit_layout.emit_text.Layout.{Layout, ◌▹◌, stay, when, char, new_line, gap, word, opener, line, keep, is_past, after_text, after_block, order_mark, nothing_more, start, written}
+use Rattle.yaml_emit_text.specs.Quoted.{first}
 use Rattle.yaml_emit_layout.specs.declared.level.Part.TheVariants as part
-use Rattle.yaml_emit_layout.specs.declared.level.NodePosition.{NodePosition}
-use Rattle.yaml_emit_layout.specs.Content.{Scalar, Start, Node, alias_node, scalar_node, sequence_node, mapping_node, Nodes, no_nodes, node, Pairs, no_pairs, pair, Document}
-use Rattle.yaml_emit_layout.specs.Grammar.{has, kept_if, scalar_tag, start_tag}
-use Rattle.yaml_emit_layout.specs.Nodes.{Context, context_of, root_position, position, deeper, checked, properties_text, is_plain, style_of, mark_text, page_at, scalar_layout, is_simple, is_flow, are_none, are_no_pairs, block_indent_in, indent_of, indented, is_of_mapping, before_item, before_key, before_value, closer, key_part, node_layout, items_layout, pairs_layout, start_layout, end_layout, stop_layout, documents_layout, stream_layout}
-use Rattle.yaml_emit_laws_text.specs.Sizes.{unit, ascii, larger, properties_bytes, tag_bytes, most_of_quoted, most_of_char, most_of_value, most_of_line, most_of_node, most_of_items, most_of_pairs, directives_bytes, most_of_documents, most_bytes}
-use Rattle.yaml_emit_laws_text.specs.ColumnsLaws.{SizesAreByContent}
 use Rattle.yaml_emit_laws_text.proofs.SizesCounting.{size, AtMost, joined, widened, stay_most, when_most, choose_most, keep_most, char_most, break_most, ascii_most, gap_most, ascii_word_most, opener_most, new_line_most, mark_most, checked_most}
 use Rattle.yaml_emit_laws_text.proofs.SizesEscapes.{raw_most}
 use Rattle.yaml_emit_laws_text.proofs.SizesLemmas.{Takes, set, at_set, before_item_most, before_key_most, before_value_most, closer_most, line_at_most, properties_most, alias_most, quoted_most, quoted_scalar_most, start_most, end_most, stop_most}
@@ -306,9 +293,7 @@ blocked_most s at digit folded v =
 abbrev is_block : Style → Bool
 is_block style.Literal = true
 is_block style.Folded = true
-is_block style.Plain = false
-is_block style.Single = false
-is_block style.Double = false
+is_block _ = false
 
 -- nothing at all has no block
 none_in_blocks : (unicode : Bool) (a : yaml_scalar_style_t) (untagged flow simple empty : Bool)

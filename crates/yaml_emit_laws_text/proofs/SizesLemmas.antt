@@ -1,23 +1,11 @@
 -- Canonical text has no more bytes than its nodes, lines and texts tell; what of it pretty text has too.
 use Rattle.std.proofs.Common.{◌≡◌, ℕ, ◌+◌, ◌-◌, ◌*◌, ◌≤◌, Bool, true, false, not, ◌&&◌, ◌==◌, nat_lt, List, [], ◌∷◌, length, Option, Some, None, pos, refl, sym, subst, codes, arith, inl, inr, le_refl, mul-le-mul_left, sub-le, int_eq, chars}
-use Rattle.std.proofs.lemmas.Bool.{cases_Bool, eqb-true}
-use Rattle.yaml_emit_layout.specs.scan_model.declared.yaml_version_directive_t.{yaml_version_directive_t}
-use Rattle.yaml_emit_layout.specs.parse_model.Events.{TagDirective}
-use Rattle.yaml_emit_laws_text.specs.emit_layout.emit_text.declared.Settings.{Settings}
+use Rattle.yaml_emit_laws_text.proofs.Shared.{cases_Bool, eqb-true, yaml_version_directive_t, TagDirective, Settings, scalar_text, tag_spelling, uri_text, needs_escape, escape_text, is_empty, may_fold, fold, escaped, quoted_char, quoted_body, double_quoted, char_bytes, letter, Layout, ◌▹◌, stay, choose, when, char, letters, blanks, new_line, gap, word, keep, is_past, indicator, line, NodePosition, Scalar, scalar_node, Opening, has, scalar_tag, Context, context_of, is_simple_part, deeper, checked, line_at, anchor_text, tag_text, properties_text, mark_text, style_of, page_at, scalar_layout, alias_layout, comma, turned, before_item, question, before_key, before_value, closer, dots, version_word, version_text, directive_text, directives_text, is_directed, dashes, is_marked, start_layout, end_layout, stop_layout, unit, ascii, text_bytes, anchor_bytes, tag_bytes, properties_bytes, most_of_quoted, most_of_char, most_of_value, most_of_line, most_of_node, directives_bytes, Encoding}
 use Rattle.yaml_emit_layout.specs.emit_text.declared.Style.TheVariants as style
-use Rattle.yaml_emit_layout.specs.emit_text.Scalars.{scalar_text}
-use Rattle.yaml_emit_layout.specs.emit_tags.Tags.{tag_spelling, uri_text}
-use Rattle.yaml_emit_text.specs.Quoted.{needs_escape, escape_text, first, is_empty, may_fold, fold, escaped, quoted_char, quoted_body, double_quoted}
-use Rattle.yaml_emit_layout.specs.emit_text.Text.{char_bytes, letter}
-use Rattle.yaml_emit_laws_text.specs.emit_layout.emit_text.Layout.{Layout, ◌▹◌, stay, choose, when, char, letters, blanks, new_line, gap, word, keep, is_past, indicator, line}
+use Rattle.yaml_emit_text.specs.Quoted.{first}
 use Rattle.yaml_emit_layout.specs.declared.level.Part.TheVariants as part
-use Rattle.yaml_emit_layout.specs.declared.level.NodePosition.{NodePosition}
-use Rattle.yaml_emit_layout.specs.Content.{Scalar, scalar_node, Opening}
-use Rattle.yaml_emit_layout.specs.Grammar.{has, scalar_tag}
-use Rattle.yaml_emit_layout.specs.Nodes.{Context, context_of, is_simple_part, deeper, checked, line_at, anchor_text, tag_text, properties_text, mark_text, style_of, page_at, scalar_layout, alias_layout, comma, turned, before_item, question, before_key, before_value, closer, dots, version_word, version_text, directive_text, directives_text, is_directed, dashes, is_marked, start_layout, end_layout, is_kept, stop_layout}
-use Rattle.yaml_emit_laws_text.specs.Sizes.{unit, ascii, text_bytes, anchor_bytes, tag_bytes, properties_bytes, most_of_quoted, most_of_char, most_of_value, most_of_line, most_of_node, directives_bytes}
+use Rattle.yaml_emit_layout.specs.Nodes.{is_kept}
 use Rattle.yaml_emit_laws_text.proofs.SizesCounting.{AtMost, joined, widened, stay_most, when_most, choose_most, keep_most, char_most, letters_most, ascii_most, blanks_most, gap_most, word_most, ascii_word_most, new_line_most, line_most, checked_most, put_most, unit_size}
-use Rattle.yaml_emit_layout.specs.emit_text.declared.Encoding.{Encoding}
 
 -- in either form
 abbrev pub set : Bool → Settings → Settings
@@ -221,13 +209,12 @@ before_key_most canonical s false n fresh simple =
 pub before_value_most : (canonical : Bool) (s : Settings) (flow : Bool) (n : ℕ) (simple : Bool)
     → Takes s (most_of_line s n) (before_value (set canonical s) flow n simple)
 unfolding before_value
-before_value_most canonical s true n true = widened s.encoding (unit s.encoding) (most_of_line s n) (char 58) (ascii_most s.encoding 58 refl) (omega arith)
-before_value_most canonical s false n true = widened s.encoding (unit s.encoding) (most_of_line s n) (char 58) (ascii_most s.encoding 58 refl) (omega arith)
 before_value_most canonical s true n false =
     joined s.encoding (ascii s (n + 2)) (ascii s 2) (most_of_line s n) (turned (set canonical s) n) (word (58 ∷ [])) (turned_most canonical s n)
     (ascii_word_most s.encoding (58 ∷ []) (ascii s 2) refl (omega arith)) (omega arith)
 before_value_most canonical s false n false =
     joined s.encoding (ascii s (n + 2)) (ascii s 2) (most_of_line s n) (line s.line_break n) (indicator 58) (line_at_most s n) (indicator_most s.encoding 58 refl) (omega arith)
+before_value_most canonical s _ n true = widened s.encoding (unit s.encoding) (most_of_line s n) (char 58) (ascii_most s.encoding 58 refl) (omega arith)
 
 outer_line_most : (s : Settings) (n : ℕ)
     → Takes s (ascii s (n + 3)) (char 44 ▹ line_at (set true s) (n - s.indent))

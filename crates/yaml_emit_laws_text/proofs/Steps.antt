@@ -1,29 +1,8 @@
 -- Gaps, lines and words, one after another.
 use Rattle.std.proofs.Common.{◌≡◌, ◌≢◌, ℕ, zero, suc, ◌+◌, ◌-◌, ◌==◌, ◌&&◌, ◌||◌, nat_lt, Bool, true, false, List, [], ◌∷◌, ◌++◌, length, Some, Ok, refl, ap, subst, ◌∙◌, inl, inr, arith, add-zero, if◌then◌else◌}
-use Rattle.std.proofs.lemmas.Bool.{cases_Bool}
-use Rattle.std.proofs.lemmas.Bool.Decides.{nat_tests}
-use Rattle.std.proofs.Math.Bool.{and-false}
-use Rattle.yaml_emit_laws_text.specs.scan_history.scan_model.Marks.{byte, break_of, ends_of}
-use Rattle.yaml_emit_laws_text.specs.scan_history.scan_words.Between.{Gap}
-use Rattle.yaml_emit_laws_text.specs.scan_history.scan_words.Indicators.{is_document_start, is_document_end}
-use Rattle.yaml_scan_laws_texts.specs.scan_history.scan_words.Written.{are_gap, begins_lexeme}
-use Rattle.yaml_emit_laws_text.specs.scan_history.scan_words.Laws.{GapReads}
-use Rattle.yaml_emit_laws_text.specs.scan_history.declared.kind.Kind.{Kind}
-use Rattle.yaml_emit_laws_text.specs.scan_history.Kinds.{depth_after, is_end}
-use Rattle.yaml_emit_laws_text.specs.scan_history.History.{reached, depth, key_allowed}
-use Rattle.yaml_emit_laws_text.specs.scan_history.Words.{WordText, indicator_of, kind_at, word_at}
+use Rattle.yaml_emit_laws_text.proofs.Shared.{cases_Bool, nat_tests, and-false, byte, break_of, ends_of, Gap, is_document_start, is_document_end, are_gap, begins_lexeme, GapReads, Kind, depth_after, is_end, reached, depth, key_allowed, WordText, indicator_of, kind_at, word_at, Word, lexemes, WordsStand, word_kinds, TokenBody, Cursor, LineBreak, Lf, Cr, CrLf, Item, letter, encode, char_bytes, Layout, Rest, ◌▹◌, gap, blank, line, blanks, new_line, indent_to, must_break, checked, deep_if, MOST, Left, Starts, WordStage, bytes, GoesBehindWords, Walks, column_end}
 use Rattle.yaml_emit_laws_text.specs.scan_laws_texts.KeysLaws.{gap_in, end_in}
-use Rattle.yaml_emit_laws_text.specs.scan_laws_texts.KeysTexts.{Word, lexemes, WordsStand, word_kinds}
-use Rattle.yaml_emit_laws_text.specs.scan_model.Tokens.{TokenBody}
-use Rattle.yaml_emit_laws_text.specs.emit_layout.emit_text.declared.Cursor.{Cursor}
-use Rattle.yaml_emit_laws_text.specs.emit_layout.emit_text.declared.LineBreak.{LineBreak}
-use Rattle.yaml_emit_laws_text.specs.emit_layout.emit_text.declared.LineBreak.TheVariants.{Lf, Cr, CrLf}
-use Rattle.yaml_emit_layout.specs.emit_text.Text.{Item, letter, encode, char_bytes}
-use Rattle.yaml_emit_laws_text.specs.emit_layout.emit_text.Layout.{Layout, Rest, ◌▹◌, gap, blank, line, blanks, new_line, indent_to, must_break}
-use Rattle.yaml_emit_layout.specs.Nodes.{checked, deep_if, MOST}
-use Rattle.yaml_emit_laws_text.specs.Walk.{Left, Starts, WordStage, bytes, GoesBehindWords, Walks}
 use Rattle.yaml_emit_laws_text.proofs.Places.{has_both, has_at, left_first, left_more}
-use Rattle.yaml_scan_laws_texts.proofs.MarksLemmas.{column_end}
 
 -- ---- a byte of a gap
 

@@ -1,20 +1,9 @@
 -- Tags as words.
 use Rattle.std.proofs.Common.{◌≡◌, ℕ, ◌+◌, Bool, false, List, [], ◌∷◌, length, Some, Result, Ok, refl, sym, ap, subst, ◌∙◌}
-use Rattle.yaml_emit_laws_text.specs.scan_history.scan_model.Marks.{byte}
-use Rattle.yaml_emit_laws_text.specs.scan_history.scan_model.Wrong.{Wrong}
-use Rattle.yaml_scan_laws_texts.specs.scan_history.scan_words.Tags.{TagText, tag_at}
-use Rattle.yaml_emit_laws_text.specs.scan_history.scan_words.Laws.{GapReads}
+use Rattle.yaml_emit_laws_text.proofs.Shared.{byte, Wrong, TagText, tag_at, GapReads, indicator_of, word_at, tagged, ◌▹◌, word, Split, shorthand, verbatim, spelled, split_tag, Opening, LoneMarkReads, SplitTagsAreRead, WrittenTagsAreReadable, ReadableTagsAreAscii, tag_body, IsWritableOpening, Has, Walks}
 use Rattle.yaml_emit_laws_text.specs.scan_history.declared.kind.Kind.TheVariants as kinds
-use Rattle.yaml_emit_laws_text.specs.scan_history.Words.{indicator_of, word_at, tagged}
 use Rattle.yaml_emit_laws_text.specs.scan_model.Tokens as tokens
-use Rattle.yaml_emit_laws_text.specs.emit_layout.emit_text.Layout.{◌▹◌, word}
-use Rattle.yaml_emit_layout.specs.emit_tags.Tags.{Split, shorthand, verbatim, spelled, split_tag}
-use Rattle.yaml_emit_layout.specs.Content.{Opening}
-use Rattle.yaml_scan_laws_texts.specs.WordsLaws.{LoneMarkReads}
-use Rattle.yaml_emit_laws_text.specs.TagsLaws.{SplitTagsAreRead, WrittenTagsAreReadable, ReadableTagsAreAscii, tag_text}
-use Rattle.yaml_emit_laws_text.specs.Bodies.{tag_body}
-use Rattle.yaml_emit_laws_text.specs.Writable.{IsWritableOpening}
-use Rattle.yaml_emit_laws_text.specs.Walk.{Has, Walks}
+use Rattle.yaml_emit_laws_text.specs.TagsLaws.{tag_text}
 use Rattle.yaml_emit_laws_text.proofs.Forms.{TagWalks, MarkWalks}
 use Rattle.yaml_emit_laws_text.proofs.Places.{has_at}
 use Rattle.yaml_emit_laws_text.proofs.Steps.{Sign}

@@ -1,14 +1,8 @@
 -- Directives that are written are read.
 use Rattle.std.proofs.Common.{◌≡◌, ℕ, ◌+◌, true, List, ◌∷◌, ◌++◌, length, Ok, ap, subst, ◌∙◌, arith, codes}
-use Rattle.yaml_emit_laws_text.specs.scan_history.scan_model.Marks.{break_width}
-use Rattle.yaml_scan_scalars.specs.scan_model.Classes.{is_break}
+use Rattle.yaml_emit_laws_text.proofs.Shared.{break_width, is_break, directive_at, HasAt, tag_directive_is_read, TagDirective, IsReadableDirective, directive_bytes}
 use Rattle.yaml_scan_laws_texts.specs.scan_history.scan_words.Directives as directives
-use Rattle.yaml_scan_laws_texts.specs.scan_history.scan_words.Directives.{directive_at}
 use Rattle.yaml_scan_laws_texts.specs.scan_history.scan_words.Written as written
-use Rattle.yaml_scan_laws_texts.specs.scan_history.scan_words.Written.{HasAt}
-use Rattle.yaml_scan_laws_texts.proofs.Directives.{tag_directive_is_read}
-use Rattle.yaml_emit_layout.specs.parse_model.Events.{TagDirective}
-use Rattle.yaml_emit_laws_text.specs.TagsLaws.{IsReadableDirective, directive_bytes}
 use Rattle.yaml_emit_laws_text.proofs.Pieces.{pieces_of, text_is, bytes_are, many_are, text_uri}
 
 -- A readable directive's line reads back as its handle and prefix.

@@ -1,11 +1,9 @@
 -- Spelled tags are read.
 use Rattle.std.proofs.Common.{◌≡◌, inl, inr, ℕ, suc, ◌+◌, ◌<◌, Bool, true, false, List, [], ◌∷◌, ◌++◌, length, Ok, refl, sym, ap, subst, ◌∙◌, arith, append_assoc, length-append, IsUtf8}
-use Rattle.yaml_scan_laws_texts.specs.scan_history.scan_words.Tags.{TagText, tag_at, may_end_tag}
+use Rattle.yaml_emit_laws_text.proofs.Shared.{TagText, tag_at, may_end_tag, HasAt, are_alphas, uri_bytes, Split, shorthand, verbatim, spelled, uri_text, IsShaped, IsReadable}
 use Rattle.yaml_scan_laws_texts.specs.scan_history.scan_words.Written as written
-use Rattle.yaml_scan_laws_texts.specs.scan_history.scan_words.Written.{HasAt, are_alphas, uri_bytes}
 use Rattle.yaml_scan_laws_texts.proofs.TagsRead.{bare_is_read, verbatim_is_read, named_is_read}
-use Rattle.yaml_emit_layout.specs.emit_tags.Tags.{Split, shorthand, verbatim, spelled, uri_text}
-use Rattle.yaml_emit_laws_text.specs.TagsLaws.{IsShaped, IsReadable, tag_text}
+use Rattle.yaml_emit_laws_text.specs.TagsLaws.{tag_text}
 use Rattle.yaml_emit_laws_text.proofs.Pieces.{pieces_of, text_is, bytes_are, many_are, unmarked, text_uri}
 
 -- a tag is read there up to the end of a text

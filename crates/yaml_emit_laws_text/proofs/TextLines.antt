@@ -1,15 +1,6 @@
 -- The break behind a directive, which belongs to its word.
 use Rattle.std.proofs.Common.{◌≡◌, ℕ, ◌+◌, ◌==◌, nat_lt, Bool, true, false, List, [], ◌∷◌, refl, sym, ap, subst, ◌∙◌, arith, if◌then◌else◌}
-use Rattle.std.proofs.lemmas.Bool.Decides.{nat_tests}
-use Rattle.std.proofs.lemmas.List.{get_or_past}
-use Rattle.yaml_emit_laws_text.specs.scan_history.scan_model.Marks.{byte, break_of, break_width}
-use Rattle.yaml_scan_scalars.specs.scan_model.Classes.{is_break}
-use Rattle.yaml_emit_laws_text.specs.emit_layout.emit_text.declared.Cursor.{Cursor}
-use Rattle.yaml_emit_laws_text.specs.emit_layout.emit_text.declared.LineBreak.{LineBreak}
-use Rattle.yaml_emit_laws_text.specs.emit_layout.emit_text.declared.LineBreak.TheVariants.{Lf, Cr, CrLf}
-use Rattle.yaml_emit_layout.specs.emit_text.Text.{letter}
-use Rattle.yaml_emit_laws_text.specs.emit_layout.emit_text.Layout.{Rest, line, blanks, new_line, must_break, indent_to}
-use Rattle.yaml_emit_laws_text.specs.Walk.{Left, Starts, bytes, first}
+use Rattle.yaml_emit_laws_text.proofs.Shared.{nat_tests, get_or_past, byte, break_of, break_width, is_break, Cursor, LineBreak, Lf, Cr, CrLf, letter, Rest, line, blanks, new_line, must_break, indent_to, Left, Starts, bytes, first}
 use Rattle.yaml_emit_laws_text.proofs.Forms.{at_line, NoFeed}
 use Rattle.yaml_emit_laws_text.proofs.Places.{left_first, left_more}
 use Rattle.yaml_emit_laws_text.proofs.Steps.{left_letter, behind_feed, behind_return}

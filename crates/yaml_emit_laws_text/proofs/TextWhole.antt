@@ -2,14 +2,13 @@
 use Rattle.yaml_scan_laws_texts.proofs.GapsRead.{gap_is_read}
 use Rattle.yaml_scan_laws_texts.proofs.NamesRead.{anchor_is_read}
 use Rattle.yaml_scan_laws_texts.proofs.Lines.{lone_mark_is_read}
-use Rattle.yaml_scan_laws_texts.proofs.Directives.{version_is_read}
+use Rattle.yaml_emit_laws_text.proofs.Shared.{version_is_read, CanonicalTextIsRead}
 use Rattle.yaml_emit_laws_text.proofs.Growing.{canonical_read}
 use Rattle.yaml_emit_laws_text.proofs.QuotedWhole.{quoted_is_back}
 use Rattle.yaml_emit_laws_text.proofs.TagsReading.{split_read}
 use Rattle.yaml_emit_laws_text.proofs.Joining.{written_readable, written_directives}
 use Rattle.yaml_emit_laws_text.proofs.Ascii.{spelled_ascii, directive_ascii}
 use Rattle.yaml_emit_laws_text.proofs.TagsLines.{directive_read}
-use Rattle.yaml_emit_laws_text.specs.TextLaws.{CanonicalTextIsRead}
 use Rattle.yaml_emit_laws_text.proofs.Documents.{text_read}
 use Rattle.yaml_emit_laws_text.proofs.Directives.{directives_walk}
 use Rattle.yaml_emit_laws_text.proofs.Tags.{mark_walks, tag_walks}

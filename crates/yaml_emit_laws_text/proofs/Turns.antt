@@ -1,17 +1,11 @@
 -- How escapes and ends of lines are read inside the quotes.
 use Rattle.std.proofs.Common.{◌≡◌, ◌≢◌, ℕ, zero, suc, ◌+◌, ◌<◌, true, false, ◌&&◌, ◌==◌, nat_lt, List, [], ◌∷◌, ◌++◌, length, replicate, Some, refl, sym, ap, subst, ◌∙◌, inl, inr, arith, add-zero, append_assoc, append-nil, encode_utf8, length-append}
-use Rattle.std.proofs.lemmas.Bool.Decides.{nat_tests}
-use Rattle.std.proofs.lemmas.Bool.{and_parts, not-true, lt-ltb}
+use Rattle.yaml_emit_laws_text.proofs.Shared.{nat_tests, and_parts, not-true, lt-ltb, byte, break_of, break_width, column_at, break_value, Piece, Kept, Blank, Break, Pieces, hex_value, hex_len, simple_escape, is_scalar, escape_at, standing_at, LineEnd, feed, return, return_feed, next_line, line_separator, paragraph_separator, end_bytes, end_means, LineTurn, turn_bytes, is_return, is_feed_end, may_turn, number_behind, has_rest, has_front}
 use lib.Utf8.{scalar, scalar_cases}
-use Rattle.yaml_emit_laws_text.specs.scan_history.scan_model.Marks.{byte, break_of, break_width, column_at}
-use Rattle.yaml_scan_scalars.specs.scan_model.Breaks.{break_value}
-use Rattle.yaml_scan_scalars.specs.Pieces.{Piece, Kept, Blank, Break}
-use Rattle.yaml_scan_scalars.specs.Quoted.{Pieces, hex_value, hex_len, simple_escape, is_scalar, escape_at, standing_at}
-use Rattle.yaml_emit_laws_text.specs.Spelling.{LineEnd, feed, return, return_feed, next_line, line_separator, paragraph_separator, end_bytes, end_means, LineTurn, turn_bytes, is_return, is_feed_end, may_turn, number_behind}
 use Rattle.yaml_emit_laws_text.proofs.Values.{blanks_of, turns_read, turn_read}
 use Rattle.yaml_emit_laws_text.proofs.Bytes.{IsQuote, no_quote, Calm, AreCalm, calm_end, calm_break, calm_from, hex_start, digits, named_is, number_calm}
 use Rattle.yaml_emit_laws_text.proofs.QuotedReading.{Read, Through, read_step, through_one, through_at, in_line, no_mark, column_more, space_standing, space_column}
-use Rattle.yaml_scan_laws_texts.proofs.HasLemmas.{has_rest, Has, has_front}
+use Rattle.yaml_scan_laws_texts.proofs.HasLemmas.{Has}
 
 -- ---- escapes
 

@@ -1,12 +1,9 @@
 -- What a spelling is read as, piece by piece, has the value that it means.
 use Rattle.std.proofs.Common.{◌≡◌, ℕ, zero, suc, Bool, true, false, cond, List, [], ◌∷◌, ◌++◌, map, refl, sym, ap, subst, ◌∙◌, inl, inr, arith, append_assoc, encode_utf8, replicate, if◌then◌else◌}
-use Rattle.std.proofs.lemmas.Bool.{cases_Bool, cases_lt}
-use Rattle.std.proofs.lemmas.Str.{encode_ascii}
-use Rattle.std.proofs.lemmas.Bool.Decides.{nat_tests}
-use Rattle.yaml_emit_laws_text.specs.scan_history.scan_model.Marks.{is_blank}
-use Rattle.yaml_scan_scalars.specs.Pieces.{Piece, Kept, Blank, Break, Line, lines, is_empty, gap, Rest, rest_of, folded, value}
+use Rattle.yaml_emit_laws_text.proofs.Shared.{cases_Bool, cases_lt, encode_ascii, nat_tests, is_blank, Piece, Kept, Blank, Break, Line, lines, rest_of, folded, value, end_means, LineTurn, turn_means, QuotedPart, raw, doubled, named, numbered, joint, meant, meaning, IsSpelling, may_follow, may_be_next, is_raw_blank, is_fold, is_turn}
+use Rattle.yaml_scan_scalars.specs.Pieces.{is_empty, gap, Rest}
 use Rattle.yaml_scan_scalars.proofs.FoldingLemmas.{value-kept, rest_of-blank}
-use Rattle.yaml_emit_laws_text.specs.Spelling.{end_means, LineTurn, turn_means, QuotedPart, raw, doubled, named, numbered, fold, joint, meant, meaning, IsSpelling, may_follow, may_be_next, is_raw_blank, is_fold, is_turn}
+use Rattle.yaml_emit_laws_text.specs.Spelling.{fold}
 use Rattle.yaml_emit_laws_text.proofs.Chars.{encode_1, encode_2, encode_3, encode_4}
 
 -- The first of two where the test holds.
@@ -119,11 +116,7 @@ firm_front ps qs f = subst (λ (t : List Piece). IsFirm (t ++ qs)) (sym f.is) (�
 follow_blank : (p q : QuotedPart) → is_raw_blank p ≡ true → may_follow p q ≡ true
     → is_fold q ≡ false
 follow_blank p (fold t ts) b f = let g = rw b at f in absurd (cc)
-follow_blank p (raw c) b f = refl
-follow_blank p doubled b f = refl
-follow_blank p (named k bytes) b f = refl
-follow_blank p (numbered k digits c) b f = refl
-follow_blank p (joint t ts) b f = refl
+follow_blank p _ b f = refl
 
 -- what follows a raw blank
 firm : (quote : ℕ) (p : QuotedPart) (ps : List QuotedPart) → is_raw_blank p ≡ true

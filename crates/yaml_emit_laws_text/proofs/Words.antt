@@ -1,34 +1,13 @@
 -- The words of canonical layout.
 use Rattle.std.proofs.Common.{◌≡◌, ℕ, suc, ◌+◌, ◌-◌, ◌<◌, ◌==◌, nat_lt, Bool, true, false, List, [], ◌∷◌, ◌++◌, length, Some, Result, Ok, refl, sym, ap, subst, ◌∙◌, inl, inr, ◌⊎◌, arith, append_assoc, IsUtf8, encode_utf8, encode_utf8_all, chars}
-use Rattle.std.proofs.lemmas.Bool.{cases_Bool, and_parts}
-use Rattle.std.proofs.lemmas.Bool.Decides.{nat_tests}
-use Rattle.std.proofs.lemmas.Str.{encode_ascii}
-use Rattle.std.proofs.Math.Bool.{or-true}
+use Rattle.yaml_emit_laws_text.proofs.Shared.{cases_Bool, and_parts, nat_tests, encode_ascii, or-true, byte, break_of, Wrong, are_alphas, GapReads, AnchorReads, double_quoted_at, Kind, depth_after, is_end, WordText, indicator_of, word_at, YAML_DOUBLE_QUOTED_SCALAR_STYLE, TokenBody, Cursor, Item, letter, encode, char_bytes, Layout, Rest, ◌▹◌, char, letters, word, opener, double_quoted, in_front, are_ascii, between_quotes, QuotedIsReadBack, Has, Left, WordStage, bytes, Walks, first, parts, Parts}
 use lib.Utf8.{encode as encode_char}
-use Rattle.yaml_emit_laws_text.specs.scan_history.scan_model.Marks.{byte, break_of}
-use Rattle.yaml_emit_laws_text.specs.scan_history.scan_model.Wrong.{Wrong}
 use Rattle.yaml_emit_laws_text.specs.scan_history.scan_model.declared.problem.Context.TheVariants as contexts
 use Rattle.yaml_emit_laws_text.specs.scan_history.scan_words.Anchors.{anchor_at, may_end_name}
-use Rattle.yaml_scan_laws_texts.specs.scan_history.scan_words.Written.{are_alphas}
-use Rattle.yaml_emit_laws_text.specs.scan_history.scan_words.Laws.{GapReads, AnchorReads}
-use Rattle.yaml_scan_scalars.specs.Quoted.{double_quoted_at}
-use Rattle.yaml_emit_laws_text.specs.scan_history.declared.kind.Kind.{Kind}
 use Rattle.yaml_emit_laws_text.specs.scan_history.declared.kind.Kind.TheVariants as kinds
-use Rattle.yaml_emit_laws_text.specs.scan_history.Kinds.{depth_after, is_end}
-use Rattle.yaml_emit_laws_text.specs.scan_history.Words.{WordText, indicator_of, word_at, valued}
-use Rattle.yaml_emit_laws_text.specs.scan_model.declared.yaml_scalar_style_t.TheVariants.{YAML_DOUBLE_QUOTED_SCALAR_STYLE}
+use Rattle.yaml_emit_laws_text.specs.scan_history.Words.{valued}
 use Rattle.yaml_emit_laws_text.specs.scan_model.Tokens as tokens
-use Rattle.yaml_emit_laws_text.specs.scan_model.Tokens.{TokenBody}
-use Rattle.yaml_emit_laws_text.specs.emit_layout.emit_text.declared.Cursor.{Cursor}
 use Rattle.yaml_emit_layout.specs.emit_text.declared.Page.{Page}
-use Rattle.yaml_emit_layout.specs.emit_text.Text.{Item, letter, encode, char_bytes}
-use Rattle.yaml_emit_laws_text.specs.emit_layout.emit_text.Layout.{Layout, Rest, ◌▹◌, char, letters, word, opener}
-use Rattle.yaml_emit_text.specs.Quoted.{double_quoted}
-use Rattle.yaml_emit_text.specs.Spelling.{in_front}
-use Rattle.yaml_emit_laws_text.specs.TagsLaws.{are_ascii}
-use Rattle.yaml_emit_laws_text.specs.ReadBack.{between_quotes}
-use Rattle.yaml_emit_laws_text.specs.QuotedLaws.{QuotedIsReadBack}
-use Rattle.yaml_emit_laws_text.specs.Walk.{Has, Left, WordStage, bytes, Walks, first, parts, Parts}
 use Rattle.yaml_emit_laws_text.proofs.Forms.{BeginsBlank}
 use Rattle.yaml_emit_laws_text.proofs.Places.{has_front, has_at, left_first, left_more, left_rest}
 use Rattle.yaml_emit_laws_text.proofs.Steps.{Sign, sign_begins, sign_kind, push, word_of, left_letter, walks_gap, letter_low}

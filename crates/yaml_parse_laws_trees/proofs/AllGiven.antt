@@ -1,19 +1,15 @@
 -- What a stack of states gives, of any tokens and under any directives, is a front of the events of contents.
 use Rattle.std.proofs.Common.{◌≡◌, ℕ, Bool, true, false, if◌then◌else◌, List, [], ◌∷◌, ◌++◌, map, length, Option, Some, None, refl, ap, subst, ◌∙◌}
-use Rattle.std.specs.Str.{bytes_eq}
+use Rattle.yaml_parse_laws_trees.proofs.Words.{bytes_eq, yaml_mark_t, yaml_scalar_style_t, yaml_version_directive_t, Token, type_of, no_token, zero_mark, Fault, Event, EventBody, TagDirective, RawEvent, RawEventBody, Shape, item_at, State, Taken, Given, choice_at, taken_at, left_at, Fed, stop, go, with_item, given_by, turn, feed, Outcome, finished, carry, ending_at, run, wants_of, Directives, Settled, refused, gave, noted, settle, with_version, with_tag, with_resolved, is_known_version, directive_for, resolved, node_event, Reading, Told, placed, read_on, reading, reading_of, IsStack, spanning, DocumentContent, document_events, told_events, IsOutside, AreOutside, LoadsByContent, contents_events, settle_body, is_between, leave_rule}
 use Rattle.std.specs.Prelude.{codes, ℤ}
-use Rattle.yaml_parse_laws_trees.proofs.Words.{yaml_mark_t, yaml_scalar_style_t, yaml_version_directive_t, Token, type_of, no_token, zero_mark, Fault, Event, EventBody, TagDirective, RawEvent, RawEventBody, Shape, item_at, State, Taken, Given, choice_at, taken_at, left_at, Fed, stop, go, with_item, given_by, turn, feed, Outcome, finished, carry, ending_at, run, wants_of, Directives, Settled, refused, gave, noted, settle, with_version, with_tag, with_resolved, is_known_version, directive_for, resolved, node_event, Reading, Told, placed, read_on, reading, reading_of, IsStack, spanning, DocumentContent, document_events, told_events, IsOutside, AreOutside, LoadsByContent, contents_events}
 use Rattle.yaml_parse_laws_trees.specs.parse_grammar.parse_model.Events as event
 use Rattle.yaml_parse_laws_trees.specs.parse_grammar.declared.Site.TheVariants.{Root}
 use Rattle.yaml_parse_laws_trees.specs.parse_grammar.declared.Choice.{Choice}
 use Rattle.yaml_parse_laws_trees.specs.parse_grammar.declared.Choice.TheVariants.{Refuse, Take, Leave, Open}
 use Rattle.yaml_parse_laws_trees.specs.parse_grammar.Items as item
 use Rattle.yaml_parse_laws_trees.specs.parse_grammar.States as state
-use Rattle.yaml_parse_laws_trees.specs.parse_grammar.Resolve.{settle_body}
-use Rattle.yaml_parse_laws_trees.specs.parse_grammar.Remaining.{is_between}
 use Rattle.yaml_parse_laws_trees.proofs.ByContent.{by_content}
 use Rattle.yaml_parse_laws_trees.proofs.ToGive.{at_span, documents_before, Node, Documents, Stream, ToGive, Over, over_both, IsScalar, IsOf, FitsBody, Fits, FitsIf, document_more, node_fits, taking_fits, leaving_fits, opening_fits, Has, state_has, stack_has}
-use Rattle.yaml_parse_grammar.proofs.Rules.{leave_rule}
 
 -- ---- settled items
 

@@ -1,16 +1,12 @@
 -- What a stack gives at a token that it refuses: nothing where a node or a document must come, and else what it gives at an end.
 use Rattle.std.proofs.Common.{◌≡◌, ◌⊎◌, inl, inr, Bool, true, false, List, [], ◌∷◌, ◌++◌, Option, Some, None, refl, ap, sym, subst, ◌∙◌}
-use Rattle.yaml_parse_laws_trees.proofs.Words.{yaml_mark_t, yaml_token_type_t, Token, TokenBody, type_of, Brackets, Choice, Refuse, Take, Leave, Open, RawEvent, State, choice_at, documents_taken, taken_at, left_at, Fed, stop, go, with_item, given_by, turn, feed, is_end, last_leaves_open}
+use Rattle.yaml_parse_laws_trees.proofs.Words.{yaml_mark_t, yaml_token_type_t, Token, TokenBody, type_of, Brackets, Choice, Refuse, Take, Leave, Open, RawEvent, State, choice_at, documents_taken, taken_at, left_at, Fed, stop, go, with_item, given_by, turn, feed, is_end, last_leaves_open, entries_taken, pairs_taken, more_taken, leaves_open, MayLeave, leave_rule, refuse_rule, opens_first, was_take, false≢true, true≢false}
 use Rattle.yaml_parse_laws_trees.specs.parse_grammar.parse_model.Tokens as token
 use Rattle.yaml_parse_laws_trees.specs.parse_grammar.States as state
-use Rattle.yaml_parse_laws_trees.specs.parse_grammar.Machine.{entries_taken, pairs_taken, more_taken}
 use Rattle.yaml_parse_laws_trees.proofs.SoundStanding.{Goes, Closed, Stood}
 use Rattle.yaml_parse_laws_trees.proofs.Closing.{IsLight, light_leaves}
 use Rattle.yaml_parse_laws_trees.proofs.FaultsStanding.{Last, nothing, asking, property, directive, other, last_of, told, Plain}
-use Rattle.yaml_parse_laws_trees.specs.Given.{leaves_open}
 use Rattle.yaml_parse_laws_trees.proofs.Walking.{last_behind}
-use Rattle.yaml_parse_grammar.proofs.Rules.{MayLeave, leave_rule, refuse_rule, opens_first, was_take}
-use Rattle.std.proofs.lemmas.Bool.{false≢true, true≢false}
 
 -- ---- which last tokens leave a node or a document open
 
@@ -66,9 +62,8 @@ goes_none i (go is s) h = tt
 none_turn : (c : Choice) (x : State) (t : Token) (s : List State) (fed : Fed)
     → (c ≡ Leave → Goes fed) → GivesNone (turn c x t s fed)
 none_turn (Refuse p o) x t s fed h = refl
-none_turn Take x t s fed h = tt
 none_turn Leave x t s fed h = goes_none (left_at x t.start_mark) fed (h refl)
-none_turn Open x t s fed h = tt
+none_turn _ x t s fed h = tt
 
 pub none_given : (x : State) (s : List State) (t : Token) → open_behind (told x) ≡ true → Stood x s
     → GivesNone (feed (x ∷ s) t)
@@ -164,11 +159,10 @@ light_turn : (c : Choice) (x : State) (t u : Token) (s : List State) (a b : Fed)
     → Alike a b
     → Alike (turn c x t s a) (turn (choice_at x (type_of u.body)) x u s b)
 light_turn (Refuse p o) x t u s a b l c e m h = absurd (l (refuse_rule x (type_of t.body) p o c))
-light_turn Take x t u s a b l c e m h = tt
 light_turn Leave x t u s a b l c e m h =
     subst (λ (d : Choice). Alike (with_item (left_at x t.start_mark) a) (turn d x u s b)) (sym (light_leaves x u.body l e))
     (alike_with (left_at x t.start_mark) (left_at x u.start_mark) a b (ap (left_at x) m) h)
-light_turn Open x t u s a b l c e m h = tt
+light_turn _ x t u s a b l c e m h = tt
 
 given_one : (i : Option RawEvent) (above s : List State) → HasItem i
     → AlikeStopped [] (given_by (record { item = i; above = above }) s)
@@ -186,9 +180,8 @@ heavy_turn : (c : Choice) (x : State) (t u : Token) (s : List State) (a b : Fed)
     → choice_at x (type_of t.body) ≡ c → is_end u.body ≡ true
     → Alike (turn c x t s a) (turn (choice_at x (type_of u.body)) x u s b)
 heavy_turn (Refuse p o) x t u s a b h c e = heavy_end (choice_at x (type_of u.body)) x u s b h refl e
-heavy_turn Take x t u s a b h c e = tt
 heavy_turn Leave x t u s a b h c e = absurd (heavy_stays x (type_of t.body) h (leave_rule x (type_of t.body) c))
-heavy_turn Open x t u s a b h c e = tt
+heavy_turn _ x t u s a b h c e = tt
 
 sorted_turn : (x : State) (t u : Token) (s : List State) (a b : Fed) → IsLight x ⊎ IsHeavy x
     → is_end u.body ≡ true → u.start_mark ≡ t.start_mark → Alike a b

@@ -1,12 +1,11 @@
 -- Each load of a front of a stream of documents is one that content says.
 use Rattle.std.proofs.Common.{◌≡◌, ℕ, true, List, [], ◌∷◌, ◌++◌, Option, Some, None, Result, Ok, Err, refl, sym, ap, subst, ◌∙◌, append_assoc, inl, inr}
-use Rattle.yaml_parse_laws_trees.proofs.Words.{Fault, zero_mark, Event, Document, Told, spanning, Contents, alias, scalar, sequence, mapping, no_items, item, no_pairs, pair, events, item_events, pair_events, DocumentContent, document_events, document_of, Loading, LoadStep, goes_on, loaded, nothing_loaded, step, load, behind, told_events, left_behind, names_behind, wrong_alias, or_later, first_wrong, IsOutside, AreOutside, NoneNext, LoadsByContent, one_more, ended, contents_events}
+use Rattle.yaml_parse_laws_trees.proofs.Words.{Fault, zero_mark, Event, Document, Told, spanning, Contents, alias, sequence, mapping, no_items, item, no_pairs, pair, events, item_events, pair_events, DocumentContent, document_events, document_of, Loading, LoadStep, goes_on, loaded, nothing_loaded, step, load, behind, told_events, left_behind, names_behind, wrong_alias, or_later, first_wrong, IsOutside, AreOutside, NoneNext, LoadsByContent, one_more, ended, contents_events, FrontsLoadByContent}
 use Rattle.yaml_parse_laws_trees.specs.parse_grammar.parse_model.Events as event
 use Rattle.yaml_parse_loader.specs.Numbering.{Span, Content, Pairs}
 use Rattle.yaml_parse_loader.specs.Loading.{refused, turn}
 use Rattle.yaml_parse_loader.specs.Loading as loading
 use Rattle.yaml_parse_loader.proofs.Loads as numbering
-use Rattle.yaml_parse_laws_trees.specs.NextLoad.{FrontsLoadByContent}
 use Rattle.yaml_parse_laws_trees.specs.NextLoad as next
 use Rattle.yaml_parse_laws_trees.proofs.NextLoads.{AreInner, Knows, Inner, start_event, end_event, started_by, knows_nothing, inner_step, inner_front, no_rest}
 
@@ -14,10 +13,9 @@ use Rattle.yaml_parse_laws_trees.proofs.NextLoads.{AreInner, Knows, Inner, start
 
 mutual
   events_more : (c : Content) (xs ys : List Event) → events c (xs ++ ys) ≡ events c xs ++ ys
-  events_more (alias name at) xs ys = refl
-  events_more (scalar h value plain quoted style) xs ys = refl
   events_more (sequence h implicit style items at) xs ys = ap (λ (z : List Event). spanning (event.sequence_start h.anchor h.tag implicit style) h.start_mark h.end_mark ∷ z) (items_more items (spanning event.sequence_end at.start_mark at.end_mark ∷ xs) ys)
   events_more (mapping h implicit style pairs at) xs ys = ap (λ (z : List Event). spanning (event.mapping_start h.anchor h.tag implicit style) h.start_mark h.end_mark ∷ z) (pairs_more pairs (spanning event.mapping_end at.start_mark at.end_mark ∷ xs) ys)
+  events_more _ xs ys = refl
 
   items_more : (cs : Contents) (xs ys : List Event)
       → item_events cs (xs ++ ys) ≡ item_events cs xs ++ ys

@@ -1,12 +1,9 @@
 -- What a load gives, by the loader's steps: how it is proved.
 use Rattle.std.proofs.Common.{◌≡◌, ◌⊎◌, ℕ, List, [], ◌∷◌, Option, Some, None}
-use Rattle.yaml_parse_laws_trees.proofs.Words.{Fault, IsMemoryFault, Document, Told, ParserRemaining, Loading, LoadStep, goes_on, loaded, nothing_loaded, step, told_events, left_behind, AreFalling}
-use Rattle.yaml_parse_laws_trees.specs.parse_grammar.parse_model.Faults.{load_layers}
+use Rattle.yaml_parse_laws_trees.proofs.Words.{Fault, IsMemoryFault, Document, Told, ParserRemaining, Loading, LoadStep, goes_on, loaded, nothing_loaded, step, told_events, left_behind, AreFalling, load_layers, IsFinished, Loaded, GivesDocument, GivesNoDocument}
 use Rattle.yaml_parse_document.specs.Documents.{no_document}
-use Rattle.yaml_parse_laws_trees.specs.parse_grammar.Remaining.{IsFinished}
-use Rattle.yaml_parse_loader.specs.Loading.{refused, Loaded}
+use Rattle.yaml_parse_loader.specs.Loading.{refused}
 use Rattle.yaml_parse_loader.specs.Loading as loading
-use Rattle.yaml_parse_laws_trees.specs.NextLoad.{GivesDocument, GivesNoDocument}
 
 -- What events come to that a loader is fed, and the fault behind them: the document that ends first, the events that are
 -- left and the number of tokens that are not asked for then; or the fault that comes first; or neither.
@@ -32,8 +29,7 @@ loads (g ∷ gs) f l = load_on (step g.0 l) (loads gs f) gs g.1
 -- fault behind all.
 abbrev pub unasked_on : LoadStep → ℕ → (Loading → ℕ) → ℕ
 unasked_on (goes_on l) left go = go l
-unasked_on (loaded d) left go = left
-unasked_on (refused f) left go = left
+unasked_on _ left go = left
 
 unfoldable pub unasked_at_refusal : List Told → ℕ → Loading → ℕ
 unasked_at_refusal [] behind l = behind

@@ -1,8 +1,6 @@
 -- Where no fault stands at the tokens that were read.
 use Rattle.std.proofs.Common.{◌≡◌, ◌⊎◌, inl, inr, ℕ, ◌<◌, ◌+◌, List, [], ◌∷◌, ◌++◌, length, Option, Some, None, refl, ap, sym, subst, ◌∙◌, arith}
-use Rattle.std.proofs.lemmas.Bool.{cases_order}
-use Rattle.yaml_parse_laws_trees.proofs.Words.{Token, Fault, Stream, spell, TreeGoesOn, followed_by, directive_fault, handle_fault, Rank, of_handle, of_token, ComesBefore, WrongToken, grammar, directive, FaultAt, StandsIn, IsOfLeastPlace, BeginsWithSentence}
-use Rattle.yaml_parse_laws_trees.specs.Places.{FaultPlace, RanksBefore, IsFree}
+use Rattle.yaml_parse_laws_trees.proofs.Words.{cases_order, Token, Fault, Stream, spell, TreeGoesOn, followed_by, directive_fault, handle_fault, Rank, of_handle, of_token, ComesBefore, WrongToken, grammar, directive, FaultAt, StandsIn, IsOfLeastPlace, BeginsWithSentence, FaultPlace, RanksBefore, IsFree}
 use Rattle.yaml_parse_laws_trees.proofs.Cuts.{SameCut, same_cut, IsNoFront, Reaches, reaches, followed_length, head_same}
 
 abbrev pub NoFault : List Token → Token → Type 0

@@ -1,6 +1,6 @@
 -- Tokens that close all that is open. What is given at a refused token is given at these too.
 use Rattle.std.proofs.Common.{◌≡◌, true, List, [], ◌∷◌, None, refl, ap, subst, ◌∙◌}
-use Rattle.yaml_parse_laws_trees.proofs.Words.{yaml_mark_t, YAML_ANY_ENCODING, yaml_token_type_t, Token, TokenBody, type_of, Site, Choice, Refuse, Take, Leave, Open, RawEvent, State, Span, closing, token_at, choice_at, left_at, Fed, stop, go, with_item, turn, feed, Outcome, run, bare, BeginsWithItems, is_end, EndsAt}
+use Rattle.yaml_parse_laws_trees.proofs.Words.{yaml_mark_t, YAML_ANY_ENCODING, yaml_token_type_t, Token, TokenBody, type_of, Site, Choice, Refuse, Leave, RawEvent, State, Span, closing, token_at, choice_at, left_at, Fed, stop, go, with_item, turn, feed, Outcome, run, bare, BeginsWithItems, is_end, EndsAt, MayLeave, MayRefuse, leave_rule, false≢true}
 use Rattle.yaml_parse_laws_trees.specs.parse_grammar.parse_model.Tokens as token
 use Rattle.yaml_parse_laws_trees.specs.parse_grammar.declared.name.Brackets.TheVariants as brackets
 use Rattle.yaml_parse_laws_trees.specs.parse_grammar.States as state
@@ -8,8 +8,6 @@ use Rattle.yaml_parse_laws_trees.specs.parse_grammar.Trees as tree
 use Rattle.yaml_parse_laws_trees.proofs.Complete.{leaves_at}
 use Rattle.yaml_parse_laws_trees.proofs.Left.{Left, Over, properties_alone}
 use Rattle.yaml_parse_laws_trees.proofs.SoundStanding.{Goes, Fits, Closed, Stood, AllStood}
-use Rattle.yaml_parse_grammar.proofs.Rules.{MayLeave, MayRefuse, leave_rule}
-use Rattle.std.proofs.lemmas.Bool.{false≢true}
 
 -- ---- tokens that close all that is open
 
@@ -169,9 +167,8 @@ turn_begins : (c : Choice) (x : State) (t : Token) (s : List State)
     → choice_at x (type_of t.body) ≡ c → Stood x s → StopBegins t.start_mark s (feed s t)
     → StopBegins t.start_mark (x ∷ s) (turn c x t s (feed s t))
 turn_begins (Refuse p o) x t s e h b = record { others = bare (run (closers t.start_mark (x ∷ s)) (x ∷ s) None).items; same = refl }
-turn_begins Take x t s e h b = tt
 turn_begins Leave x t s e h b = leave_begins x t s (feed s t) refl e h b
-turn_begins Open x t s e h b = tt
+turn_begins _ x t s e h b = tt
 
 pub feed_begins : (s : List State) (t : Token) → AllStood s → StopBegins t.start_mark s (feed s t)
 unfolding feed

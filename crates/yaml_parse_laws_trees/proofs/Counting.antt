@@ -74,9 +74,8 @@ none_from m b ts t s = none_carried (length (t ∷ ts)) m b (length ts) (feed s 
 -- ---- all but the last
 
 pub but_one : (xs : List Given) (x : Given) → but_last (xs ++ x ∷ []) ≡ xs
-but_one [] x = refl
-but_one (y ∷ []) x = refl
 but_one (y ∷ z ∷ xs) x = ap (λ (w : List Given). y ∷ w) (but_one (z ∷ xs) x)
+but_one _ x = refl
 
 -- ---- what they mean
 

@@ -1,13 +1,11 @@
 -- Two trees whose tokens begin alike are equal.
 use Rattle.std.proofs.Common.{◌≡◌, ℕ, ℤ, Bool, true, false, List, [], ◌∷◌, Option, Some, None, refl, ap, sym, subst, ◌∙◌}
-use Rattle.yaml_parse_laws_trees.proofs.Words.{yaml_encoding_t, yaml_scalar_style_t, yaml_token_type_t, Token, type_of, Wants, Flow, Block, Side, Key, Value, Root, Entry, IndentlessEntry, BlockPair, FlowPair, Brackets, Span, token_at, PropertyTokens, spell_properties, closing, Node, Content, Maybe, Colon, Items, More, Entries, Others, Pairs, Directive, Documents, First, Stream, spell_node, spell_content, spell_maybe, spell_colon, spell_items, spell_more, spell_entries, spell_others, spell_pairs, spell_directives, spell_ends, spell_documents, spell_first, starts_node}
+use Rattle.yaml_parse_laws_trees.proofs.Words.{yaml_encoding_t, yaml_scalar_style_t, yaml_token_type_t, Token, type_of, Wants, Flow, Block, Side, Key, Value, Root, Entry, IndentlessEntry, BlockPair, FlowPair, Brackets, Span, token_at, PropertyTokens, spell_properties, closing, Node, Content, Maybe, Colon, Items, More, Entries, Others, Pairs, Directive, Documents, First, Stream, spell_node, spell_content, spell_maybe, spell_colon, spell_items, spell_more, spell_entries, spell_others, spell_pairs, spell_directives, spell_ends, spell_documents, spell_first, starts_node, Ends, Starts, node_starts, follows_ends, more_ends, colon_follows, entries_follow, pairs_follow, block_colon_follows, others_follow, TokensHaveOneTree}
 use Rattle.yaml_parse_grammar.specs.parse_model.declared.yaml_token_type_t.TheVariants as kind
 use Rattle.yaml_parse_grammar.specs.parse_model.Tokens as token
 use Rattle.yaml_parse_grammar.specs.declared.name.Brackets.TheVariants as brackets
 use Rattle.yaml_parse_grammar.specs.Trees as tree
-use Rattle.yaml_parse_grammar.proofs.Complete.{Ends, Starts, node_starts, follows_ends, more_ends, colon_follows, entries_follow, pairs_follow, block_colon_follows, others_follow}
 use Rattle.yaml_parse_grammar.proofs.CompleteStream.{documents_follow, root_follows}
-use Rattle.yaml_parse_laws_trees.specs.CountsLaws.{TokensHaveOneTree}
 use Rattle.yaml_parse_laws_trees.proofs.CountsFirst.{kind_of, apart, both, three, four, span_same, body_same, rest_same, not_both, no_node, ends_plain, content_plain, properties_same}
 
 -- ---- which tree begins so
@@ -21,9 +19,8 @@ sort_of _ = None
 
 abbrev node_sort : {w : Wants} → Node w → Option Bool
 node_sort (tree.alias p name) = Some true
-node_sort (tree.only_properties d) = Some false
-node_sort (tree.with_properties d c) = Some false
 node_sort (tree.bare c) = None
+node_sort _ = Some false
 
 properties_sorted : (d : PropertyTokens) (ts : List Token)
     → sort_of (kind_of (spell_properties d ts)) ≡ Some false
@@ -371,12 +368,11 @@ directives_same (tree.handle s a b ∷ ds) (tree.handle t c d ∷ es) p q x y h 
     let v : (tree.handle s a b ≡ tree.handle t c d) × (begin ds p x ≡ begin es q y) = handle_same s t a b c d _ _ h in
     let r : (ds ≡ es) × (p ≡ q) × (x ≡ y) = directives_same ds es p q x y v.1 in
     (both (λ (z : Directive) (zs : List Directive). z ∷ zs) (tree.handle s a b) (tree.handle t c d) ds es v.0 r.0, r.1, r.2)
-directives_same [] (tree.version t c d ∷ es) p q x y h = absurd (apart _ _ h (λ k. cc))
 directives_same [] (tree.handle t c d ∷ es) p q x y h = absurd (apart _ _ h (λ k. cc))
 directives_same (tree.version s a b ∷ ds) [] p q x y h = absurd (apart _ _ h (λ k. cc))
 directives_same (tree.handle s a b ∷ ds) [] p q x y h = absurd (apart _ _ h (λ k. cc))
 directives_same (tree.version s a b ∷ ds) (tree.handle t c d ∷ es) p q x y h = absurd (apart _ _ h (λ k. cc))
-directives_same (tree.handle s a b ∷ ds) (tree.version t c d ∷ es) p q x y h = absurd (apart _ _ h (λ k. cc))
+directives_same _ (tree.version t c d ∷ es) p q x y h = absurd (apart _ _ h (λ k. cc))
 
 no_document_end : (d : Documents) (ts : List Token)
     → kind_of (spell_documents d ts) ≡ kind.YAML_DOCUMENT_END_TOKEN → ⊥

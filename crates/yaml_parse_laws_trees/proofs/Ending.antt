@@ -1,14 +1,11 @@
 -- The machine ends in the fault of the list.
 use Rattle.std.proofs.Common.{◌≡◌, ◌-◌, ◌+◌, inl, inr, ℕ, suc, List, [], ◌∷◌, ◌++◌, length, Option, Some, None, refl, ap, sym, subst, ◌∙◌, arith}
-use Rattle.yaml_parse_laws_trees.proofs.Words.{Token, no_token, zero_mark, Fault, RawEvent, State, IsStack, Stream, spell, Fed, stop, go, feed, Outcome, finished, carry, run, initial, left_where_stopped, unasked_at_stop, Directives, no_directives, reading, unasked_at_fault, reading_of, TreeGoesOn, followed_by, opened, grammar_fault, directive_fault, handle_fault, of_handle, of_token, WrongToken, grammar, directive, StandsIn, BeginsWithSentence, with_end, FaultOfTokens}
+use Rattle.yaml_parse_laws_trees.proofs.Words.{Token, no_token, zero_mark, Fault, RawEvent, State, IsStack, Stream, spell, Fed, stop, go, feed, Outcome, finished, carry, run, initial, left_where_stopped, unasked_at_stop, Directives, no_directives, reading, unasked_at_fault, reading_of, TreeGoesOn, followed_by, opened, grammar_fault, directive_fault, handle_fault, of_handle, of_token, WrongToken, grammar, directive, StandsIn, BeginsWithSentence, with_end, FaultOfTokens, unasked_of, IsToldWith, EndsInFault, FaultEnds, FaultIsToldAtPlace}
 use Rattle.yaml_parse_laws_trees.specs.parse_grammar.States as state
-use Rattle.yaml_parse_laws_trees.specs.parse_grammar.Remaining.{unasked_of}
 use Rattle.yaml_parse_laws_trees.proofs.CompleteStream.{stream_runs, nothing_runs}
 use Rattle.yaml_parse_laws_trees.proofs.Left.{Over}
 use Rattle.yaml_parse_laws_trees.proofs.SoundStanding.{AllStood, FedStood, feed_stood}
 use Rattle.yaml_parse_laws_trees.proofs.Closing.{closers, Empty, all_close}
-use Rattle.yaml_parse_laws_trees.specs.Places.{IsToldWith}
-use Rattle.yaml_parse_laws_trees.specs.FaultsLaws.{EndsInFault, FaultEnds, FaultIsToldAtPlace}
 use Rattle.yaml_parse_laws_trees.proofs.FaultsUnique.{one_fault}
 use Rattle.yaml_parse_laws_trees.proofs.Cuts.{followed_on, followed_length}
 use Rattle.yaml_parse_laws_trees.proofs.FaultsStanding.{Sign, signs_of, signs_behind, signs_on, open_in, Last, last_in, told, Plain, Nested, told_fault, grammar_told}

@@ -1,7 +1,6 @@
 -- The events of items that begin alike begin alike.
 use Rattle.std.proofs.Common.{◌≡◌, ℕ, List, [], ◌∷◌, ◌++◌, Option, refl, ap, sym, subst}
-use Rattle.yaml_parse_laws_trees.proofs.Words.{Fault, Event, RawEvent, Given, Directives, Settled, refused, gave, noted, settle, Reading, placed, read_on, reading, bare}
-use Rattle.yaml_parse_laws_trees.specs.SoundLaws.{told, BeginsWithEvents, EventsBeginAsItems}
+use Rattle.yaml_parse_laws_trees.proofs.Words.{Fault, Event, RawEvent, Given, Directives, Settled, refused, gave, noted, settle, Reading, placed, read_on, reading, bare, told, BeginsWithEvents, EventsBeginAsItems}
 
 head_same : (a b : RawEvent) (x y : List RawEvent) → a ∷ x ≡ b ∷ y → a ≡ b
 head_same a b x y h = cc

@@ -1,8 +1,6 @@
 -- The numbers of tokens that are not asked for fall from event to event.
 use Rattle.std.proofs.Common.{◌≡◌, ◌≤◌, ◌+◌, ℕ, List, [], ◌∷◌, ◌++◌, length, map, Option, Some, None, refl, arith}
-use Rattle.yaml_parse_laws_trees.proofs.Words.{Token, no_token, Fault, HasMore, RawEvent, State, Given, Fed, stop, go, feed, Outcome, finished, carry, ending_at, run, left_where_stopped, unasked_at_stop, Directives, Settled, refused, gave, noted, settle, Reading, read_on, reading, unasked_at_fault, reading_of, AreFalling}
-use Rattle.yaml_parse_grammar.specs.Resolve.{unasked_on}
-use Rattle.yaml_parse_grammar.specs.Remaining.{next_unasked}
+use Rattle.yaml_parse_laws_trees.proofs.Words.{Token, no_token, Fault, HasMore, RawEvent, State, Given, Fed, stop, go, feed, Outcome, finished, carry, ending_at, run, left_where_stopped, unasked_at_stop, Directives, Settled, refused, gave, noted, settle, Reading, read_on, reading, unasked_at_fault, reading_of, AreFalling, unasked_on, next_unasked}
 
 -- ---- something is to come
 
@@ -69,9 +67,8 @@ stop_within (t ∷ ts) s n h = stop_on (length ts) n (feed s t) (λ s'. unasked_
 next_on : (c : Settled) (i : RawEvent) (left n : ℕ) (k : Directives → Reading) (u : Directives → ℕ)
     → left ≤ n → ((ds : Directives) → next_unasked (k ds).events (u ds) ≤ n)
     → next_unasked (read_on c i left k).events (unasked_on c left u) ≤ n
-next_on (refused e) i left n k u l h = l
-next_on (gave body ds) i left n k u l h = l
 next_on (noted ds) i left n k u l h = h ds
+next_on _ i left n k u l h = l
 
 next_read : (gs : List Given) (f : Option Fault) (m n : ℕ) (ds : Directives) → Within n gs → m ≤ n
     → next_unasked (reading gs f ds).events (unasked_at_fault gs m ds) ≤ n

@@ -1,7 +1,6 @@
 -- The rows, by running the machine.
 use Rattle.std.proofs.Common.{◌≡◌, List, [], ◌∷◌, Option, refl, subst}
-use Rattle.yaml_parse_laws_trees.proofs.Words.{Fault, problem_text_of, context_text_of, context_place, feed, run, initial, no_directives, reading, directive_for, reading_of, FaultOfTokens, FaultRow}
-use Rattle.yaml_parse_laws_trees.specs.FaultsRows.{grammar_rows, directive_rows, other_rows, AllHold, RowsHold}
+use Rattle.yaml_parse_laws_trees.proofs.Words.{Fault, problem_text_of, context_text_of, context_place, feed, run, initial, no_directives, reading, directive_for, reading_of, FaultOfTokens, FaultRow, grammar_rows, directive_rows, other_rows, AllHold, RowsHold}
 use Rattle.yaml_parse_laws_trees.proofs.Ending.{ends_in_fault}
 
 abbrev AllRun : List FaultRow → Type 0

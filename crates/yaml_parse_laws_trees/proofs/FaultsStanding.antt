@@ -1,10 +1,8 @@
 -- What a stack of states knows of the tokens that were read: which collections are open, and which token was last.
 use Rattle.std.proofs.Common.{◌≡◌, Bool, true, false, if◌then◌else◌, List, [], ◌∷◌, refl, ap}
-use Rattle.yaml_parse_laws_trees.proofs.Words.{yaml_mark_t, Token, TokenBody, Fault, Wants, Flow, Block, State, opening, wants_of, opened, grammar_fault}
+use Rattle.yaml_parse_laws_trees.proofs.Words.{yaml_mark_t, Token, TokenBody, Fault, Wants, Flow, Block, State, opening, wants_of, opened, grammar_fault, opens, closes, surrounding, opens_brackets, in_brackets, asks_for_node, no_node, no_document, no_part, not_going_on}
 use Rattle.yaml_parse_laws_trees.specs.parse_grammar.parse_model.Tokens as token
 use Rattle.yaml_parse_laws_trees.specs.parse_grammar.States as state
-use Rattle.yaml_parse_laws_trees.specs.LookBack.{opens, closes, surrounding, opens_brackets, in_brackets, asks_for_node}
-use Rattle.yaml_parse_laws_trees.specs.Wrong.{no_node, no_document, no_part, not_going_on}
 
 -- ---- open collections
 

@@ -1,9 +1,6 @@
 -- A list of tokens has one fault at most.
 use Rattle.std.proofs.Common.{◌≡◌, ◌⊎◌, inl, inr, ℕ, ◌<◌, List, ◌∷◌, Option, Some, None, refl, ap, sym, subst, ◌∙◌}
-use Rattle.std.proofs.lemmas.Bool.{cases_order}
-use Rattle.yaml_parse_laws_trees.proofs.Words.{Token, Fault, directive_fault, handle_fault, Rank, of_handle, of_token, ComesBefore, WrongToken, grammar, directive, FaultAt, StandsIn, IsOfLeastPlace, with_end}
-use Rattle.yaml_parse_laws_trees.specs.Places.{IsOwn}
-use Rattle.yaml_parse_laws_trees.specs.FaultsLaws.{FaultIsOne}
+use Rattle.yaml_parse_laws_trees.proofs.Words.{cases_order, Token, Fault, directive_fault, handle_fault, Rank, of_handle, of_token, ComesBefore, WrongToken, grammar, directive, FaultAt, StandsIn, IsOfLeastPlace, with_end, IsOwn, FaultIsOne}
 use Rattle.yaml_parse_laws_trees.proofs.Cuts.{SameCut, same_cut, head_same}
 
 pub same_some : (x : Option Fault) (e f : Fault) → x ≡ Some e → x ≡ Some f → e ≡ f

@@ -1,9 +1,7 @@
 -- What the document in the making knows of the tokens that were read: their anchors, and whether there is a root.
 use Rattle.std.proofs.Common.{◌≡◌, ℕ, suc, ℤ, zero, Bool, true, false, if◌then◌else◌, ◌||◌, List, [], ◌∷◌, ◌++◌, Option, Some, None, is_some, cond, codes, refl, ap, sym, subst, ◌∙◌}
 use Rattle.std.specs.FinMap as map
-use Rattle.std.specs.Str.{bytes_eq}
-use Rattle.std.specs.Cmp.Lexicographic.{nat_list_cmp_total}
-use Rattle.yaml_parse_laws_trees.proofs.Words.{yaml_mark_t, yaml_scalar_style_t, Token, Fault, EventBody, RawEvent, Properties, Tag, Shape, item_at, node_at, State, Fed, stop, go, with_item, given_by, Directives, Settled, gave, noted, settle, placed, node_event, with_resolved, resolved, Anchors, is_same, Loading, named, closed, step, has_anchor, alias_fault}
+use Rattle.yaml_parse_laws_trees.proofs.Words.{bytes_eq, nat_list_cmp_total, yaml_mark_t, yaml_scalar_style_t, Token, Fault, EventBody, RawEvent, Properties, Tag, Shape, item_at, node_at, State, Fed, stop, go, with_item, given_by, Directives, Settled, gave, noted, settle, placed, node_event, with_resolved, resolved, Anchors, is_same, Loading, named, closed, step, has_anchor, alias_fault, place_of, filled, change_place}
 use Rattle.yaml_parse_laws_trees.specs.parse_grammar.parse_model.Nodes.{Node}
 use Rattle.yaml_parse_laws_trees.specs.parse_grammar.parse_model.Events as event
 use Rattle.yaml_parse_laws_trees.specs.parse_grammar.Items as item
@@ -11,8 +9,7 @@ use Rattle.yaml_parse_laws_trees.specs.parse_grammar.States as state
 use Rattle.yaml_parse_laws_trees.specs.parse_grammar.Resolve as resolve
 use Rattle.yaml_parse_laws_trees.proofs.FaultsStanding.{other, told, Plain}
 use Rattle.yaml_parse_laws_trees.proofs.Settling.{Done, bad, fine, then_read, read_all}
-use Rattle.yaml_parse_loader.specs.Loading.{Open, next, place_of, filled}
-use Rattle.yaml_parse_document.specs.Documents.{change_place}
+use Rattle.yaml_parse_loader.specs.Loading.{Open, next}
 use Rattle.yaml_parse_laws_trees.proofs.ItemsLoaded.{Fared, ended, onward, unless_empty, then_fed, then_load, load_items}
 
 -- ---- names
@@ -135,8 +132,7 @@ shape_goes : (anchor tag : Option (List ℕ)) (shape : Shape) (i : RawEvent) (l 
 shape_goes anchor tag item.empty i l = scalar_goes anchor tag [] true true _ i l
 shape_goes anchor None (item.scalar value style) i l = scalar_goes anchor None value true true style i l
 shape_goes anchor (Some tag) (item.scalar value style) i l = tagged_goes (bytes_eq tag (codes "!")) anchor tag value style i l
-shape_goes anchor tag (item.sequence style) i l = (_, λ k. refl, record { anchors = refl; rooted = rooted_push l.document.nodes _ })
-shape_goes anchor tag (item.mapping style) i l = (_, λ k. refl, record { anchors = refl; rooted = rooted_push l.document.nodes _ })
+shape_goes anchor tag _ i l = (_, λ k. refl, record { anchors = refl; rooted = rooted_push l.document.nodes _ })
 
 resolved_passes : (o : Option (List ℕ)) (anchor : Option (List ℕ)) (shape : Shape)
     (from at : yaml_mark_t) (ds : Directives) (i : RawEvent) (l : Loading)

@@ -1,9 +1,6 @@
 -- The machine gives the events of a list, and a list has no others.
-use Rattle.std.proofs.Common.{◌≡◌, ◌⊎◌, inl, inr, ◌+◌, ◌-◌, ◌≤◌, ℕ, suc, Bool, true, false, ◌||◌, List, [], ◌∷◌, ◌++◌, length, Option, Some, None, refl, ap, sym, subst, ◌∙◌, arith, append_assoc, append-nil, le_refl}
-use Rattle.std.proofs.lemmas.Bool.{true≢false, false≢true, or_cases}
-use Rattle.yaml_parse_laws_trees.proofs.Words.{yaml_mark_t, Token, no_token, zero_mark, Fault, RawEvent, State, Stream, spell, Given, next, items, Fed, stop, go, feed, Outcome, run, initial, Told, reading, no_directives, reading_of, TreeGoesOn, bare, RefusedAt, RunsOut, first_items, but_last, EndsAt, last_leaves_open, BeginsWith, EventsOfTokens, events_run}
-use Rattle.yaml_parse_laws_trees.specs.parse_grammar.TreeEvents.{given_of}
-use Rattle.yaml_parse_laws_trees.specs.SoundLaws.{BeginsWithTree}
+use Rattle.std.proofs.Common.{◌≡◌, ◌⊎◌, inl, inr, ◌+◌, ◌-◌, ℕ, suc, Bool, true, false, ◌||◌, List, [], ◌∷◌, ◌++◌, length, Option, Some, None, refl, ap, sym, subst, ◌∙◌, arith, append_assoc, append-nil, le_refl}
+use Rattle.yaml_parse_laws_trees.proofs.Words.{true≢false, false≢true, or_cases, yaml_mark_t, Token, no_token, zero_mark, Fault, RawEvent, State, Stream, spell, Given, next, items, Fed, stop, go, feed, Outcome, run, initial, Told, reading, no_directives, reading_of, TreeGoesOn, bare, RefusedAt, RunsOut, first_items, but_last, EndsAt, last_leaves_open, BeginsWith, EventsOfTokens, events_run, given_of, BeginsWithTree, IsLongest, LongestFront, events_of, events_of_front, events_at_next, has_fault, gives_no_more, GivesAt, HasFront, ListHasFront, EventsAreOne, RunGivesEvents, EventsAreRun, RunGivesLeast}
 use Rattle.yaml_parse_laws_trees.proofs.CompleteStream.{stream_runs, nothing_runs}
 use Rattle.yaml_parse_laws_trees.proofs.Left.{Over}
 use Rattle.yaml_parse_laws_trees.proofs.Closing.{closers, Empty, all_close, closers_end}
@@ -14,8 +11,6 @@ use Rattle.yaml_parse_laws_trees.proofs.FaultsStanding.{Last, nothing, last_of, 
 use Rattle.yaml_parse_laws_trees.proofs.Taking.{stack_solid, Stops, stops_at_none}
 use Rattle.yaml_parse_laws_trees.proofs.Ending.{runs_fed, runs_out}
 use Rattle.yaml_parse_laws_trees.proofs.Turns.{items_given}
-use Rattle.yaml_parse_laws_trees.specs.Given.{IsLongest, LongestFront, events_of, events_of_front, events_at_next, has_fault, gives_no_more, GivesAt}
-use Rattle.yaml_parse_laws_trees.specs.GivenLaws.{HasFront, ListHasFront, EventsAreOne, RunGivesEvents, EventsAreRun, RunGivesLeast}
 use Rattle.yaml_parse_laws_trees.proofs.Walking.{raised, numbered, before, Knows, knows_step, takes_step, Unfinished, last_behind, Walked, walk}
 use Rattle.yaml_parse_laws_trees.proofs.Behind.{open_behind, front_open, GivesNone, none_given, OneMore, Alike, feed_alike, closed_top}
 use Rattle.yaml_parse_laws_trees.proofs.Counting.{front_items, token_items, none_from, but_one, any_ending, more_begin}

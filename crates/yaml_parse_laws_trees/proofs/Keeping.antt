@@ -1,14 +1,10 @@
 -- Taking a token inside a document: what is open, which token was last, and how the states stand.
-use Rattle.std.proofs.Common.{◌≡◌, true, false, ◌||◌, List, [], ◌∷◌, ◌++◌, Option, Some, None, refl, sym, subst}
-use Rattle.std.proofs.lemmas.List.{append_assoc}
-use Rattle.yaml_parse_laws_trees.proofs.Words.{yaml_mark_t, Token, TokenBody, type_of, Wants, Flow, Block, Brackets, Take, Properties, State, IsInner, IsInside, starts_content, starts_node, wants_of, choice_at, content_taken, node_taken, lone_below, taken_at, is_directive}
+use Rattle.std.proofs.Common.{◌≡◌, true, false, List, [], ◌∷◌, ◌++◌, Option, Some, None, refl, sym, subst}
+use Rattle.yaml_parse_laws_trees.proofs.Words.{append_assoc, yaml_mark_t, Token, TokenBody, type_of, Wants, Flow, Block, Brackets, Take, Properties, State, IsInner, IsInside, starts_content, starts_node, wants_of, choice_at, content_taken, node_taken, lone_below, taken_at, is_directive, starts_document, take_rule, was_take, false≢true}
 use Rattle.yaml_parse_laws_trees.specs.parse_grammar.parse_model.Tokens as token
 use Rattle.yaml_parse_laws_trees.specs.parse_grammar.declared.name.Brackets.TheVariants as brackets
 use Rattle.yaml_parse_laws_trees.specs.parse_grammar.States as state
-use Rattle.yaml_parse_laws_trees.specs.LookBack.{starts_document}
 use Rattle.yaml_parse_laws_trees.proofs.FaultsStanding.{Sign, signs_behind, open_in, bracketed, last_of, Plain, Topped, plain_topped, is_flow, Nested}
-use Rattle.yaml_parse_grammar.proofs.Rules.{take_rule, was_take}
-use Rattle.std.proofs.lemmas.Bool.{false≢true}
 
 -- the states behind a token, by what was open before it
 pub record Kept (b : TokenBody) (at : yaml_mark_t) (gs : List Sign) (s : List State) : Type 0 where

@@ -1,15 +1,12 @@
 -- What a state still waits for: the tokens of part of a tree, and what follows them.
 use Rattle.std.proofs.Common.{◌≡◌, ℕ, Bool, true, false, if◌then◌else◌, ◌||◌, List, [], ◌∷◌, ◌++◌, Option, Some, None, refl, sym, ap, subst, ◌∙◌}
-use Rattle.std.proofs.lemmas.Bool.{false≢true}
-use Rattle.yaml_parse_laws_trees.proofs.Words.{yaml_mark_t, yaml_token_type_t, Token, TokenBody, type_of, Wants, Flow, Block, Brackets, Root, Refuse, Take, Open, ParseProblem, Properties, Tag, State, Span, token_at, AnchorToken, TagToken, anchor_token, tag_token, PropertyTokens, spell_properties, Node, Content, Maybe, Colon, Items, More, Entries, Others, Pairs, Directive, Documents, First, Stream, spell_node, spell_content, spell_maybe, spell_colon, spell_items, spell_more, spell_entries, spell_others, spell_pairs, spell_directives, spell_ends, spell_documents, spell_first, spell, starts_content, starts_node, wants_of, parts_documents, joins, choice_at, documents_taken, content_taken, node_taken, with_properties_taken, lone_below, taken_at}
+use Rattle.yaml_parse_laws_trees.proofs.Words.{false≢true, yaml_mark_t, yaml_token_type_t, Token, TokenBody, type_of, Wants, Flow, Block, Brackets, Root, Refuse, Take, Open, ParseProblem, Properties, Tag, State, Span, token_at, AnchorToken, TagToken, anchor_token, tag_token, PropertyTokens, spell_properties, Node, Content, Maybe, Colon, Items, More, Entries, Others, Pairs, Directive, Documents, First, Stream, spell_node, spell_content, spell_maybe, spell_colon, spell_items, spell_more, spell_entries, spell_others, spell_pairs, spell_directives, spell_ends, spell_documents, spell_first, spell, starts_content, starts_node, wants_of, parts_documents, joins, choice_at, documents_taken, content_taken, node_taken, with_properties_taken, lone_below, taken_at, items_taken, MayLeave, take_rule, opens_first, was_take}
 use Rattle.yaml_parse_laws_trees.specs.parse_grammar.parse_model.Tokens as token
 use Rattle.yaml_parse_laws_trees.specs.parse_grammar.declared.name.Brackets.TheVariants as brackets
 use Rattle.yaml_parse_laws_trees.specs.parse_grammar.declared.problem.ParseProblem.TheVariants as problem
 use Rattle.yaml_parse_laws_trees.specs.parse_grammar.States as state
 use Rattle.yaml_parse_laws_trees.specs.parse_grammar.Trees as tree
-use Rattle.yaml_parse_laws_trees.specs.parse_grammar.Machine.{items_taken}
 use Rattle.yaml_parse_laws_trees.proofs.Single.{opens_node}
-use Rattle.yaml_parse_grammar.proofs.Rules.{MayLeave, take_rule, opens_first, was_take}
 
 -- tokens that a tree of a kind spells, in front of others
 pub record Spelled (T : Type 0) (spelling : T → List Token → List Token) (P : List Token → Type 0) (ts : List Token) : Type 0 where

@@ -1,6 +1,6 @@
 -- Loads end in the fault of the list.
 use Rattle.std.proofs.Common.{◌≡◌, inl, inr, ℕ, List, [], ◌∷◌, ◌++◌, length, Option, Some, None, refl, ap, sym, subst, ◌∙◌}
-use Rattle.yaml_parse_laws_trees.proofs.Words.{Token, no_token, Fault, RawEvent, State, Stream, spell, Fed, stop, go, feed, Outcome, finished, carry, run, initial, Directives, no_directives, Reading, reading, reading_of, followed_by, handle_fault, directive, StandsIn, with_end, FaultOfTokens, Loading, nothing_loaded, alias_fault, IsFirstIn, IsLoadable, FaultOfLoading}
+use Rattle.yaml_parse_laws_trees.proofs.Words.{Token, no_token, Fault, RawEvent, State, Stream, spell, Fed, stop, go, feed, Outcome, finished, carry, run, initial, Directives, no_directives, Reading, reading, reading_of, followed_by, handle_fault, directive, StandsIn, with_end, FaultOfTokens, Loading, nothing_loaded, alias_fault, IsFirstIn, IsLoadable, FaultOfLoading, LoadsEndInFault, FaultEndsLoads, loads_end}
 use Rattle.yaml_parse_laws_trees.specs.parse_grammar.States as state
 use Rattle.yaml_parse_laws_trees.proofs.CompleteStream.{nothing_runs}
 use Rattle.yaml_parse_laws_trees.proofs.Cuts.{Reaches, reaches, followed_on, head_same}
@@ -11,7 +11,6 @@ use Rattle.yaml_parse_laws_trees.proofs.Taking.{stack_solid, Stops, stops_at_non
 use Rattle.yaml_parse_laws_trees.proofs.Clean.{Clean, Unfinished, FirstAt, no_fault, free, no_whole_sentence}
 use Rattle.yaml_parse_laws_trees.proofs.Ending.{At, at_start, step_at, Found, found_handle, found_token, found_first, stopped, taken_goes, taken_on, taken_at, sentence_tree, runs_fed, runs_out, ends_in_fault, no_stop}
 use Rattle.yaml_parse_laws_trees.proofs.Ends.{fault_of_loads, faults_alike}
-use Rattle.yaml_parse_laws_trees.specs.Laws.{LoadsEndInFault, FaultEndsLoads, loads_end}
 use Rattle.yaml_parse_laws_trees.proofs.Placing.{Anchored, loadable, parser_first, alias_first}
 use Rattle.yaml_parse_laws_trees.proofs.Unique.{one_load_fault}
 use Rattle.yaml_parse_laws_trees.proofs.ItemsLoaded.{Fared, ended, load_items, fared_fault, ends_in, front_loads, last_loads}

@@ -1,10 +1,7 @@
 -- One token: what the states give is loaded, and fits the tokens from then on.
 use Rattle.std.proofs.Common.{◌≡◌, ℕ, ℤ, Bool, true, false, if◌then◌else◌, ◌||◌, List, [], ◌∷◌, ◌++◌, Option, Some, None, is_some, refl, ap, sym, subst, ◌∙◌, append_assoc}
 use Rattle.std.specs.FinMap as map
-use Rattle.std.specs.Ordering.{nat_cmp}
-use Rattle.std.specs.Cmp.Lexicographic.{slice_cmp}
-use Rattle.std.proofs.lemmas.Bool.{false≢true}
-use Rattle.yaml_parse_laws_trees.proofs.Words.{yaml_mark_t, yaml_version_directive_t, Token, TokenBody, type_of, Fault, TagDirective, Wants, Flow, Block, Key, Value, Brackets, Root, Entry, IndentlessEntry, BlockPair, FlowPair, Refuse, Take, Leave, ParseProblem, RawEvent, Properties, Tag, Shape, item_at, node_at, State, event_at, starts_content, starts_node, wants_of, choice_at, documents_taken, content_taken, node_taken, with_properties_taken, lone_below, taken_at, Fed, go, given_by, Directives, noted, with_version, with_tag, directive_for, is_known_version, Loading, nothing_loaded, aliased, has_anchor, alias_fault}
+use Rattle.yaml_parse_laws_trees.proofs.Words.{nat_cmp, slice_cmp, false≢true, yaml_mark_t, yaml_version_directive_t, Token, TokenBody, type_of, Fault, TagDirective, Wants, Flow, Block, Key, Value, Brackets, Root, Entry, IndentlessEntry, BlockPair, FlowPair, Refuse, Take, Leave, ParseProblem, RawEvent, Properties, Tag, Shape, item_at, node_at, State, event_at, starts_content, starts_node, wants_of, choice_at, documents_taken, content_taken, node_taken, with_properties_taken, lone_below, taken_at, Fed, go, given_by, Directives, noted, with_version, with_tag, directive_for, is_known_version, Loading, nothing_loaded, aliased, has_anchor, alias_fault, flow_shape, taken, tag_at, undefined, take_rule, was_take}
 use Rattle.yaml_parse_laws_trees.specs.parse_grammar.parse_model.declared.yaml_sequence_style_t.TheVariants.{YAML_BLOCK_SEQUENCE_STYLE}
 use Rattle.yaml_parse_laws_trees.specs.parse_grammar.parse_model.declared.yaml_mapping_style_t.TheVariants.{YAML_BLOCK_MAPPING_STYLE, YAML_FLOW_MAPPING_STYLE}
 use Rattle.yaml_parse_laws_trees.specs.parse_grammar.parse_model.Tokens as token
@@ -13,14 +10,10 @@ use Rattle.yaml_parse_laws_trees.specs.parse_grammar.declared.name.Brackets.TheV
 use Rattle.yaml_parse_laws_trees.specs.parse_grammar.declared.problem.ParseProblem.TheVariants as problem
 use Rattle.yaml_parse_laws_trees.specs.parse_grammar.Items as item
 use Rattle.yaml_parse_laws_trees.specs.parse_grammar.States as state
-use Rattle.yaml_parse_laws_trees.specs.parse_grammar.Trees.{flow_shape}
-use Rattle.yaml_parse_laws_trees.specs.parse_grammar.Machine.{taken, tag_at}
 use Rattle.yaml_parse_laws_trees.specs.parse_grammar.Resolve as resolve
 use Rattle.yaml_parse_laws_trees.proofs.FaultsStanding.{Plain}
-use Rattle.yaml_parse_laws_trees.specs.Aliases.{undefined}
 use Rattle.yaml_parse_laws_trees.proofs.ItemsLoaded.{onward, then_fed}
 use Rattle.yaml_parse_laws_trees.proofs.Fitting.{known, Rooted, is_named, Owes, Names, Held, held, NoneNamed, Fits, fits_below, Added, added_names, Passes, node_passes, anchor_in, placed_passes, closed_fits, whole, FedLoads, AtAlias, loads_on, loads_given}
-use Rattle.yaml_parse_grammar.proofs.Rules.{take_rule, was_take}
 use Rattle.yaml_parse_laws_trees.proofs.Properties.{tok}
 
 -- ---- nodes

@@ -1,18 +1,13 @@
 -- What a load comes to by content is what it comes to by the loader's steps.
 use Rattle.std.proofs.Common.{◌≡◌, ◌⊎◌, ◌<◌, ◌≤◌, ◌+◌, ℕ, suc, ℤ, inl, inr, Bool, true, false, ◌||◌, cond, List, [], ◌∷◌, ◌++◌, length, Option, Some, None, Result, Ok, refl, sym, ap, subst, ◌∙◌, arith}
-use Rattle.std.proofs.lemmas.List.{append-nil}
+use Rattle.yaml_parse_laws_trees.proofs.Words.{append-nil, nat_cmp, slice_cmp, nat_list_cmp_total, yaml_mark_t, Fault, IsMemoryFault, HasMore, Event, EventBody, Document, Told, ParserRemaining, Anchors, is_same, spanning, Contents, alias, scalar, sequence, mapping, no_items, item, no_pairs, pair, events, item_events, pair_events, DocumentContent, document_events, document_of, Loading, LoadStep, goes_on, loaded, nothing_loaded, named, closed, aliased, step, load, behind, told_events, left_behind, names_behind, wrong_alias, or_later, first_wrong, IsOutside, AreOutside, NoneNext, LoadsByContent, one_more, ended, scan_layers, step_body, is_among, and_anchor, unless_known, NextLoad, next_document, next_fault, next_none, IsLoadOf, IsNextLoad, GivesLoad, load_unasked, IsRefusalOf, RefusesNext, LoadIsNext, RefusalIsNext, AreLoadsByContent}
 use Rattle.std.specs.FinMap as map
-use Rattle.std.specs.Ordering.{nat_cmp}
-use Rattle.std.specs.Cmp.Lexicographic.{slice_cmp, nat_list_cmp_total}
-use Rattle.yaml_parse_laws_trees.proofs.Words.{yaml_mark_t, Fault, IsMemoryFault, HasMore, Event, EventBody, Document, Told, ParserRemaining, Anchors, is_same, spanning, Contents, alias, scalar, sequence, mapping, no_items, item, no_pairs, pair, events, item_events, pair_events, DocumentContent, document_events, document_of, Loading, LoadStep, goes_on, loaded, nothing_loaded, named, closed, aliased, step, load, behind, told_events, left_behind, names_behind, wrong_alias, or_later, first_wrong, IsOutside, AreOutside, NoneNext, LoadsByContent, one_more, ended}
-use Rattle.yaml_parse_laws_trees.specs.parse_grammar.parse_model.Faults.{scan_layers}
 use Rattle.yaml_parse_laws_trees.specs.parse_grammar.parse_model.Events as event
 use Rattle.yaml_parse_laws_trees.specs.parse_grammar.parse_model.Prefix.{no_fault}
 use Rattle.yaml_parse_loader.specs.Numbering.{Content, Pairs}
-use Rattle.yaml_parse_loader.specs.Loading.{Open, refused, step_body, turn}
+use Rattle.yaml_parse_loader.specs.Loading.{Open, refused, turn}
 use Rattle.yaml_parse_loader.specs.Loading as loading
 use Rattle.yaml_parse_loader.proofs.Loads as numbering
-use Rattle.yaml_parse_laws_trees.specs.NextLoad.{is_among, and_anchor, unless_known, NextLoad, next_document, next_fault, next_none, IsLoadOf, IsNextLoad, GivesLoad, load_unasked, IsRefusalOf, RefusesNext, LoadIsNext, RefusalIsNext, AreLoadsByContent}
 use Rattle.yaml_parse_laws_trees.specs.NextLoad as next
 use Rattle.yaml_parse_laws_trees.proofs.ByStep as told
 use Rattle.yaml_parse_laws_trees.proofs.ByStep.{Loads, load_on, behind_all, loads, loads_of, unasked_on, unasked_at_refusal, unasked_of, unasked_by, answer_unasked, LoadGives, LoadRefuses}
@@ -46,10 +41,9 @@ inner_last e (x ∷ z ∷ xs) y ys p = absurd (cc)
 
 mutual
   inner_content : (c : Content) (rest : List Event) → InnerFronts rest → InnerFronts (events c rest)
-  inner_content (alias name at) rest h = inner_more _ rest tt h
-  inner_content (scalar head value plain quoted style) rest h = inner_more _ rest tt h
   inner_content (sequence head implicit style items at) rest h = inner_more _ _ tt (inner_items items _ (inner_more _ rest tt h))
   inner_content (mapping head implicit style pairs at) rest h = inner_more _ _ tt (inner_pairs pairs _ (inner_more _ rest tt h))
+  inner_content _ rest h = inner_more _ rest tt h
 
   inner_items : (cs : Contents) (rest : List Event) → InnerFronts rest
       → InnerFronts (item_events cs rest)
@@ -334,9 +328,8 @@ load_is gs own behind n h = next_is (record { events = gs; ending = own; ending_
 
 gives_of : (n : NextLoad) (r : Loads) (u : ℕ) (d : Document) (old new : ParserRemaining)
     → IsOf n r u → LoadGives r d old new → GivesLoad n d old new
-gives_of (next_document e left count) r u d old new p h = subst (λ (x : Loads). LoadGives x d old new) p h
 gives_of (next_fault f count) r u d old new p h = subst (λ (x : Loads). LoadGives x d old new) p.0 h
-gives_of next_none r u d old new p h = subst (λ (x : Loads). LoadGives x d old new) p h
+gives_of _ r u d old new p h = subst (λ (x : Loads). LoadGives x d old new) p h
 
 pub load_is_next : (old new : ParserRemaining) (d : Document) → LoadGives (loads_of old) d old new
     → LoadIsNext old d new
@@ -350,9 +343,8 @@ refusal_of next_none r u m f p q v = let s : told.nothing ≡ told.faulty f = sy
 
 unasked_is : (n : NextLoad) (r : Loads) (u : ℕ) (old : ParserRemaining) → IsOf n r u
     → unasked_by r u (left_behind old.events old.unasked) ≡ load_unasked n old
-unasked_is (next_document e left count) r u old p = ap (λ (x : Loads). unasked_by x u (left_behind old.events old.unasked)) p
 unasked_is (next_fault f count) r u old p = ap (λ (x : Loads). unasked_by x u (left_behind old.events old.unasked)) p.0 ∙ p.1
-unasked_is next_none r u old p = ap (λ (x : Loads). unasked_by x u (left_behind old.events old.unasked)) p
+unasked_is _ r u old p = ap (λ (x : Loads). unasked_by x u (left_behind old.events old.unasked)) p
 
 pub refusal_is_next : (old new : ParserRemaining) (f : Fault) → LoadRefuses f old new
     → HasMore old.events old.ending
@@ -380,9 +372,8 @@ next_load own behind gs (ended hs h) = record { load = next_none; is = h }
 
 gives_steps : (n : NextLoad) (r : Loads) (u : ℕ) (d : Document) (old new : ParserRemaining)
     → IsOf n r u → GivesLoad n d old new → LoadGives r d old new
-gives_steps (next_document e left count) r u d old new p h = subst (λ (x : Loads). LoadGives x d old new) (sym p) h
 gives_steps (next_fault f count) r u d old new p h = absurd h
-gives_steps next_none r u d old new p h = subst (λ (x : Loads). LoadGives x d old new) (sym p) h
+gives_steps _ r u d old new p h = subst (λ (x : Loads). LoadGives x d old new) (sym p) h
 
 pub load_gives : (old new : ParserRemaining) (d : Document) → AreLoadsByContent old
     → LoadIsNext old d new → LoadGives (loads_of old) d old new
@@ -392,9 +383,8 @@ load_gives old new d h k =
 
 refuses_steps : (n : NextLoad) (r : Loads) (u m : ℕ) (f : Fault) → IsOf n r u → IsRefusalOf n f m
     → (r ≡ told.faulty f) × (m ≡ u)
-refuses_steps (next_document e left count) r u m f p h = absurd h
 refuses_steps (next_fault g count) r u m f p h = (p.0 ∙ ap told.faulty (sym h.0), h.1 ∙ sym p.1)
-refuses_steps next_none r u m f p h = absurd h
+refuses_steps _ r u m f p h = absurd h
 
 pub load_refuses : (old new : ParserRemaining) (f : Fault) → AreLoadsByContent old
     → RefusalIsNext old f new → LoadRefuses f old new

@@ -1,7 +1,6 @@
 -- The first fault of a list, where nothing is wrong with the tokens that were read.
 use Rattle.std.proofs.Common.{◌≡◌, ◌⊎◌, inl, inr, ℕ, ◌<◌, ◌+◌, List, [], ◌∷◌, length, Some, None, refl, ap, sym, subst, ◌∙◌, arith}
-use Rattle.std.proofs.lemmas.Bool.{cases_order}
-use Rattle.yaml_parse_laws_trees.proofs.Words.{Token, Fault, followed_by, alias_fault, LoadRank, of_parser, of_alias, LoadRanksBefore, LoadFaultAt, IsFirstIn, IsLoadable}
+use Rattle.yaml_parse_laws_trees.proofs.Words.{cases_order, Token, Fault, followed_by, alias_fault, LoadRank, of_parser, of_alias, LoadRanksBefore, LoadFaultAt, IsFirstIn, IsLoadable}
 use Rattle.yaml_parse_laws_trees.proofs.Cuts.{SameCut, same_cut, followed_length, head_same}
 use Rattle.yaml_parse_laws_trees.proofs.Clean.{Clean, none_earlier, FirstAt, some_none}
 

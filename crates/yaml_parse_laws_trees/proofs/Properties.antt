@@ -1,16 +1,12 @@
 -- The properties that a state holds are the last tokens.
 use Rattle.std.proofs.Common.{◌≡◌, ℕ, true, false, ◌||◌, List, [], ◌∷◌, ◌++◌, Option, Some, None, refl, sym, subst, ◌∙◌}
-use Rattle.std.proofs.lemmas.List.{append_assoc}
-use Rattle.yaml_parse_laws_trees.proofs.Words.{yaml_mark_t, Token, TokenBody, type_of, Fault, Wants, Flow, Block, Brackets, Take, RawEvent, Properties, Tag, Shape, item_at, State, joins, starts_content, choice_at, documents_taken, content_taken, node_taken, with_properties_taken, lone_below, taken_at, Directives, settle, directive_for, NodeTag, ended_tag, has_handle, tag_fault}
+use Rattle.yaml_parse_laws_trees.proofs.Words.{append_assoc, yaml_mark_t, Token, TokenBody, type_of, Fault, Wants, Flow, Block, Brackets, Take, RawEvent, Properties, Tag, Shape, item_at, State, joins, starts_content, choice_at, documents_taken, content_taken, node_taken, with_properties_taken, lone_below, taken_at, Directives, settle, directive_for, NodeTag, ended_tag, has_handle, tag_fault, tag_behind, tag_before_anchor, unless_joined, take_rule, false≢true, true≢false}
 use Rattle.yaml_parse_laws_trees.specs.parse_grammar.parse_model.Tokens as token
 use Rattle.yaml_parse_laws_trees.specs.parse_grammar.declared.name.Brackets.TheVariants as brackets
 use Rattle.yaml_parse_laws_trees.specs.parse_grammar.Items as item
 use Rattle.yaml_parse_laws_trees.specs.parse_grammar.States as state
-use Rattle.yaml_parse_laws_trees.specs.LookBack.{tag_behind, tag_before_anchor, unless_joined}
 use Rattle.yaml_parse_laws_trees.proofs.FaultsStanding.{asking, property, other, last_of, last_in, told, Plain}
 use Rattle.yaml_parse_laws_trees.proofs.Settling.{Done, then_read, by_fault, tag_in, resolved_done, prefix_known, Agree}
-use Rattle.yaml_parse_grammar.proofs.Rules.{take_rule}
-use Rattle.std.proofs.lemmas.Bool.{false≢true, true≢false}
 
 -- ---- the tag among the last tokens
 
@@ -85,12 +81,11 @@ no_anchor_before handle at (t ∷ past) b e = no_anchor t.body e
     no_anchor _ e = refl
 
 plain_props : (s : List State) (past : List Token) → Plain s → PropsTop s past
-plain_props [] past h = tt
 plain_props (state.with_properties w p ∷ s) past h = unlike h.0
   where
     unlike : property ≡ other → PropsOf p.anchor p.tag p.from past
     unlike e = cc
-plain_props (_ ∷ s) past h = tt
+plain_props _ past h = tt
 
 content_props : (w : Wants) (p : Option Properties) (start end : yaml_mark_t) (b : TokenBody)
     (s : List State) (past : List Token) → Plain s

@@ -1,10 +1,8 @@
 -- Where a list of tokens is refused: at the first token that no tree goes on with.
 use Rattle.std.proofs.Common.{◌≡◌, ◌⊎◌, inl, inr, ℕ, List, [], ◌∷◌, ◌++◌, length, map, Option, Some, None, refl, ap, sym, subst, ◌∙◌}
-use Rattle.std.proofs.lemmas.List.{append_assoc}
-use Rattle.yaml_parse_laws_trees.proofs.Words.{yaml_mark_t, Token, type_of, no_token, zero_mark, Fault, Choice, Refuse, Take, Leave, Open, RawEvent, State, Given, Stream, spell, items, choice_at, left_at, Fed, stop, go, with_item, turn, feed, Outcome, finished, carry, ending_at, run, initial, bare, BeginsWithItems, TreeGoesOn, RefusedAt, RunsOut}
+use Rattle.yaml_parse_laws_trees.proofs.Words.{append_assoc, yaml_mark_t, Token, type_of, no_token, zero_mark, Fault, Choice, Refuse, Leave, RawEvent, State, Given, Stream, spell, items, choice_at, left_at, Fed, stop, go, with_item, turn, feed, Outcome, finished, carry, ending_at, run, initial, bare, BeginsWithItems, TreeGoesOn, RefusedAt, RunsOut, TreeGoesOnGiving, StandsAtLoad, FaultsStandAtFirst, FrontsAreNotRefused}
 use Rattle.yaml_parse_laws_trees.proofs.CompleteStream.{stream_runs, nothing_runs}
 use Rattle.yaml_parse_laws_trees.proofs.Turns.{items_given}
-use Rattle.yaml_parse_laws_trees.specs.SoundLaws.{TreeGoesOnGiving, StandsAtLoad, FaultsStandAtFirst, FrontsAreNotRefused}
 use Rattle.yaml_parse_laws_trees.proofs.Left.{Over}
 use Rattle.yaml_parse_laws_trees.proofs.Sound.{FedLeft, feed_left}
 use Rattle.yaml_parse_laws_trees.proofs.SoundStanding.{AllStood, FedStood, feed_stood}
@@ -24,9 +22,8 @@ stops_with at i (go is s) h = tt
 turn_stops : (c : Choice) (x : State) (t : Token) (s : List State) (below : Fed)
     → StopsAt t.start_mark below → StopsAt t.start_mark (turn c x t s below)
 turn_stops (Refuse p o) x t s below h = record { kind = refl; origin = refl; place = refl }
-turn_stops Take x t s below h = tt
 turn_stops Leave x t s below h = stops_with t.start_mark (left_at x t.start_mark) below h
-turn_stops Open x t s below h = tt
+turn_stops _ x t s below h = tt
 
 feed_stops : (s : List State) (t : Token) → StopsAt t.start_mark (feed s t)
 unfolding feed

@@ -1,17 +1,15 @@
 -- A state that refuses a token tells the fault of the grammar.
 use Rattle.std.proofs.Common.{◌≡◌, Bool, true, false, if◌then◌else◌, ◌||◌, List, [], ◌∷◌, Option, Some, None, refl, ap, sym, subst, ◌∙◌}
-use Rattle.yaml_parse_laws_trees.proofs.Words.{yaml_mark_t, yaml_token_type_t, Token, type_of, Fault, Wants, Flow, Block, Brackets, Choice, Refuse, Take, Leave, Open, ParseProblem, problem_text_of, context_text_of, context_place, Site, RawEvent, State, starts_content, starts_node, wants_of, parts_documents, follows, joins, choice_at, left_at, Fed, stop, go, with_item, turn, feed, grammar_fault}
+use Rattle.yaml_parse_laws_trees.proofs.Words.{yaml_mark_t, yaml_token_type_t, Token, type_of, Fault, Wants, Flow, Block, Brackets, Choice, Refuse, Take, Leave, Open, ParseProblem, problem_text_of, context_text_of, context_place, Site, RawEvent, State, starts_content, starts_node, wants_of, parts_documents, follows, joins, choice_at, left_at, Fed, stop, go, with_item, turn, feed, grammar_fault, parser_fault, no_end, context_of, MayLeave, leave_rule}
 use Rattle.yaml_parse_laws_trees.specs.parse_grammar.parse_model.declared.yaml_token_type_t.TheVariants as kind
 use Rattle.yaml_parse_laws_trees.specs.parse_grammar.parse_model.Tokens as token
 use Rattle.yaml_parse_laws_trees.specs.parse_grammar.declared.name.Brackets.TheVariants as brackets
 use Rattle.yaml_parse_laws_trees.specs.parse_grammar.declared.problem.ParseProblem.TheVariants as problem
-use Rattle.yaml_parse_laws_trees.specs.parse_grammar.Problems.{parser_fault}
 use Rattle.yaml_parse_laws_trees.specs.parse_grammar.States as state
-use Rattle.yaml_parse_laws_trees.specs.parse_grammar.Machine.{closes, no_node, no_end, context_of}
+use Rattle.yaml_parse_laws_trees.specs.parse_grammar.Machine.{closes, no_node}
 use Rattle.yaml_parse_laws_trees.proofs.SoundStanding.{Goes, Stood}
 use Rattle.yaml_parse_laws_trees.specs.Wrong as wrong
 use Rattle.yaml_parse_laws_trees.proofs.FaultsStanding.{Sign, put, open_in, bracketed, stuck, Last, nothing, asking, property, directive, other, told, Plain, is_flow, Placed, Nested, told_fault}
-use Rattle.yaml_parse_grammar.proofs.Rules.{MayLeave, leave_rule}
 
 -- where a choice refuses, that is the fault; where it leaves, the state has no collection; a document opens at the first state alone
 abbrev pub Tells : Choice → State → List Sign → yaml_mark_t → Type 0
@@ -138,11 +136,10 @@ plain_turn : (c : Choice) (x : State) (t : Token) (s : List State) (fed : Fed)
     → StopsWith (stuck (open_in s) t.start_mark) fed
     → StopsWith (stuck (open_in (x ∷ s)) t.start_mark) (turn c x t s fed)
 plain_turn (Refuse p o) x t s fed h e k = h ∙ ap (λ (l : Last). told_fault l (open_in (x ∷ s)) t.start_mark) e
-plain_turn Take x t s fed h e k = tt
 plain_turn Leave x t s fed h e k =
     subst (λ (gs : List Sign). StopsWith (stuck gs t.start_mark) (with_item (left_at x t.start_mark) fed)) (sym h)
     (stops_with (stuck (open_in s) t.start_mark) (left_at x t.start_mark) fed k)
-plain_turn Open x t s fed h e k = tt
+plain_turn _ x t s fed h e k = tt
 
 pub plain_stops : (s : List State) (t : Token) → Plain s → Nested s
     → StopsWith (stuck (open_in s) t.start_mark) (feed s t)
@@ -189,11 +186,10 @@ top_turn : (c : Choice) (x : State) (t : Token) (s : List State) (fed : Fed)
     → StopsWith (stuck (open_in s) t.start_mark) fed
     → StopsWith (told_fault (told x) (open_in (x ∷ s)) t.start_mark) (turn c x t s fed)
 top_turn (Refuse p o) x t s fed h w k = h
-top_turn Take x t s fed h w k = tt
 top_turn Leave x t s fed h w k =
     subst (λ (gs : List Sign). StopsWith (told_fault (told x) gs t.start_mark) (with_item (left_at x t.start_mark) fed)) (sym h)
     (stops_with (told_fault (told x) (open_in s) t.start_mark) (left_at x t.start_mark) fed (passed_on (told x) (open_in s) t.start_mark fed (w refl).0 (w refl).1 k))
-top_turn Open x t s fed h w k = tt
+top_turn _ x t s fed h w k = tt
 
 -- A stack that refuses a token tells what its topmost state does.
 pub top_stops : (x : State) (s : List State) (t : Token) → Plain s → Nested (x ∷ s) → Stood x s

@@ -1,12 +1,7 @@
 -- The rows, by loading them.
 use Rattle.std.proofs.Common.{◌≡◌, ℤ, pos, List, [], ◌∷◌, Option, Some, codes, refl, ap, subst}
 use Rattle.std.specs.FinMap as map
-use Rattle.std.specs.Ordering.{nat_cmp}
-use Rattle.std.specs.Cmp.Lexicographic.{slice_cmp, nat_list_cmp_total}
-use Rattle.yaml_parse_laws_trees.proofs.Words.{yaml_mark_t, Fault, problem_text_of, context_text_of, context_place, feed, run, initial, no_directives, reading, directive_for, reading_of, FaultRow, Loading, nothing_loaded, aliased, FaultOfLoading}
-use Rattle.yaml_parse_laws_trees.specs.FaultsRows.{column}
-use Rattle.yaml_parse_loader.specs.Numbering.{undefined_alias}
-use Rattle.yaml_parse_loader.specs.Loading.{attach}
+use Rattle.yaml_parse_laws_trees.proofs.Words.{nat_cmp, slice_cmp, nat_list_cmp_total, yaml_mark_t, Fault, problem_text_of, context_text_of, context_place, feed, run, initial, no_directives, reading, directive_for, reading_of, FaultRow, Loading, nothing_loaded, aliased, FaultOfLoading, column, undefined_alias, attach}
 use Rattle.yaml_parse_laws_trees.specs.Rows.{alias_rows, parser_rows, right_rows, AllHold, RowsHold}
 use Rattle.yaml_parse_laws_trees.proofs.Ends.{fault_on, fault_of_loads}
 use Rattle.yaml_parse_laws_trees.proofs.ItemsLoaded.{ends_in}

@@ -1,7 +1,6 @@
 -- How many events have come by the time that each is given.
 use Rattle.std.proofs.Common.{◌≡◌, ◌≤◌, ◌+◌, ◌*◌, ℕ, List, [], ◌∷◌, ◌++◌, length, map, Option, Some, None, subst, arith}
-use Rattle.yaml_parse_laws_trees.proofs.Words.{Token, no_token, Fault, RawEvent, State, Given, Fed, stop, go, feed, Outcome, finished, carry, ending_at, run, initial, Directives, Settled, refused, gave, noted, settle, Reading, read_on, reading}
-use Rattle.yaml_parse_laws_trees.specs.CountsLaws.{AtMostFourSoFar, EventsAreFewSoFar}
+use Rattle.yaml_parse_laws_trees.proofs.Words.{Token, no_token, Fault, RawEvent, State, Given, Fed, stop, go, feed, Outcome, finished, carry, ending_at, run, initial, Directives, Settled, refused, gave, noted, settle, Reading, read_on, reading, AtMostFourSoFar, EventsAreFewSoFar}
 use Rattle.yaml_parse_laws_trees.proofs.Counts.{all_owe, owed, feed_owed, given, end_given}
 
 -- ---- items

@@ -1,15 +1,13 @@
 -- What the machine accepts begins with the tokens of a tree.
 use Rattle.std.proofs.Common.{◌≡◌, ℕ, true, List, [], ◌∷◌, length, Option, Some, None, refl, ap, sym, subst, ◌∙◌}
 use Rattle.yaml_parse_laws_trees.specs.parse_grammar.parse_model.declared.yaml_token_type_t.TheVariants as kind
-use Rattle.yaml_parse_laws_trees.proofs.Words.{Token, type_of, no_token, Fault, Root, Choice, Refuse, Take, Leave, Open, RawEvent, item_at, State, Given, items, choice_at, taken_at, left_at, Fed, stop, go, with_item, given_by, turn, feed, Outcome, finished, carry, ending_at, run, initial, Directives, Settled, refused, gave, noted, settle, Reading, read_on, reading, no_directives, reading_of}
+use Rattle.yaml_parse_laws_trees.proofs.Words.{Token, type_of, no_token, Fault, Root, Choice, Refuse, Take, Leave, Open, RawEvent, item_at, State, Given, items, choice_at, taken_at, left_at, Fed, stop, go, with_item, given_by, turn, feed, Outcome, finished, carry, ending_at, run, initial, Directives, Settled, refused, gave, noted, settle, Reading, read_on, reading, no_directives, reading_of, AcceptedAreTrees, AcceptedAreSentences, SentencesAreAccepted, leave_rule, none_opens}
 use Rattle.yaml_parse_laws_trees.specs.parse_grammar.Items as item
 use Rattle.yaml_parse_laws_trees.specs.parse_grammar.States as state
 use Rattle.yaml_parse_laws_trees.proofs.CompleteStream.{stream_runs}
 use Rattle.yaml_parse_laws_trees.proofs.EventsToGive.{takes_a_token}
 use Rattle.yaml_parse_laws_trees.proofs.Turns.{items_given}
-use Rattle.yaml_parse_laws_trees.specs.SoundLaws.{AcceptedAreTrees, AcceptedAreSentences, SentencesAreAccepted}
 use Rattle.yaml_parse_laws_trees.proofs.Left.{Left, Over, over_both, leaving, taking, opening}
-use Rattle.yaml_parse_grammar.proofs.Rules.{leave_rule, none_opens}
 
 -- ---- a stack at a token
 

@@ -1,14 +1,11 @@
 -- What stands below a state: after a left-out node nothing is refused, and below a state that leaves something waits to be closed.
 use Rattle.std.proofs.Common.{◌≡◌, ◌⊎◌, inl, inr, true, List, [], ◌∷◌, ◌++◌, Option, Some, None, refl, sym, subst}
-use Rattle.std.proofs.lemmas.List.{append_assoc}
-use Rattle.yaml_parse_laws_trees.proofs.Words.{yaml_mark_t, yaml_token_type_t, Token, TokenBody, type_of, Wants, Flow, Block, Side, Key, Value, Brackets, Site, Root, Entry, IndentlessEntry, BlockPair, FlowPair, Choice, Refuse, Take, Leave, Open, RawEvent, Properties, item_at, State, wants_of, follows, choice_at, documents_taken, content_taken, node_taken, lone_below, taken_at, left_at, Fed, stop, go, with_item, given_by, turn, feed}
+use Rattle.yaml_parse_laws_trees.proofs.Words.{append_assoc, yaml_mark_t, yaml_token_type_t, Token, TokenBody, type_of, Wants, Flow, Block, Side, Key, Value, Brackets, Site, Root, Entry, IndentlessEntry, BlockPair, FlowPair, Choice, Refuse, Take, Leave, Open, RawEvent, Properties, item_at, State, wants_of, follows, choice_at, documents_taken, content_taken, node_taken, lone_below, taken_at, left_at, Fed, stop, go, with_item, given_by, turn, feed, was_take, false≢true}
 use Rattle.yaml_parse_laws_trees.specs.parse_grammar.parse_model.declared.yaml_token_type_t.TheVariants as kind
 use Rattle.yaml_parse_laws_trees.specs.parse_grammar.parse_model.Tokens as token
 use Rattle.yaml_parse_laws_trees.specs.parse_grammar.declared.name.Brackets.TheVariants as brackets
 use Rattle.yaml_parse_laws_trees.specs.parse_grammar.Items as item
 use Rattle.yaml_parse_laws_trees.specs.parse_grammar.States as state
-use Rattle.yaml_parse_grammar.proofs.Rules.{was_take}
-use Rattle.std.proofs.lemmas.Bool.{false≢true}
 
 -- ---- nothing is refused
 

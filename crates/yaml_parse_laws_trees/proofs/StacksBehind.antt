@@ -123,12 +123,11 @@ at_end_kept x s t p q =
 inside_fed : (x : State) (s : List State) (t : Token) → Within x s → Plain s → Nested (x ∷ s)
     → FedKept t.body t.start_mark (open_in (x ∷ s)) (feed (x ∷ s) t)
 unfolding feed
-inside_fed x [] t (at_end p q) pl n = at_end_kept x [] t p q
 inside_fed x [] t (deeper i j) pl n = absurd j
-inside_fed x (y ∷ s) t (at_end p q) pl n = at_end_kept x (y ∷ s) t p q
 inside_fed x (y ∷ s) t (deeper i j) pl n =
     inside_turn (choice_at x (type_of t.body)) x t (y ∷ s) (feed (y ∷ s) t) refl (tells x (type_of t.body) (open_in (y ∷ s)) t.start_mark n.0) i
     (λ e. inside_kept x t (y ∷ s) e i pl n j) (inside_fed y s t (within y s j) pl.1 n.1)
+inside_fed x e t (at_end p q) pl n = at_end_kept x e t p q
 
 -- between documents one state stands alone
 alone_fed : (x : State) (s : List State) (t : Token) → s ≡ []

@@ -1,13 +1,12 @@
 -- One token: what a stack gives is loaded, and the stack behind it fits the tokens from then on.
-use Rattle.std.proofs.Common.{◌≡◌, ℕ, true, List, [], ◌∷◌, None, refl, sym, subst}
-use Rattle.yaml_parse_laws_trees.proofs.Words.{yaml_mark_t, yaml_token_type_t, Token, type_of, Block, Root, Choice, Refuse, Take, Leave, Open, item_at, blank, State, IsInside, IsStack, choice_at, taken_at, left_at, Fed, with_item, given_by, turn, feed, Directives, settle, Loading, nothing_loaded}
+use Rattle.std.proofs.Common.{◌≡◌, true, List, [], ◌∷◌, None, refl, sym, subst}
+use Rattle.yaml_parse_laws_trees.proofs.Words.{yaml_mark_t, yaml_token_type_t, Token, type_of, Block, Root, Choice, Refuse, Take, Leave, Open, item_at, blank, State, IsInside, IsStack, choice_at, taken_at, left_at, Fed, with_item, given_by, turn, feed, Directives, settle, Loading, nothing_loaded, MayLeave, leave_rule, opens_first}
 use Rattle.yaml_parse_laws_trees.specs.parse_grammar.Items as item
 use Rattle.yaml_parse_laws_trees.specs.parse_grammar.States as state
 use Rattle.yaml_parse_laws_trees.proofs.Single.{opens_node}
 use Rattle.yaml_parse_laws_trees.proofs.FaultsStanding.{Plain}
 use Rattle.yaml_parse_laws_trees.proofs.Fitting.{Names, NoneNamed, Fits, fits_below, Added, added_names, Passes, passes_on, node_passes, closed_fits, whole, FedLoads, loads_with}
 use Rattle.yaml_parse_laws_trees.proofs.LoadingTaking.{SitsAt, Started, start_passes, node_loads, taken_loads}
-use Rattle.yaml_parse_grammar.proofs.Rules.{MayLeave, leave_rule, opens_first}
 
 -- ---- stacks
 

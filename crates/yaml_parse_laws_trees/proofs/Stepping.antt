@@ -1,11 +1,10 @@
 -- One token: what the stack gives is read, and the directives agree with the tokens from then on.
 use Rattle.std.proofs.Common.{◌≡◌, Bool, true, false, if◌then◌else◌, List, [], ◌∷◌, ◌++◌, Option, Some, None, refl, ap, sym, subst}
-use Rattle.yaml_parse_laws_trees.proofs.Words.{yaml_mark_t, Token, TokenBody, type_of, Choice, Refuse, Take, Leave, Open, RawEvent, item_at, State, IsInner, IsInside, choice_at, taken_at, left_at, Fed, stop, go, with_item, given_by, turn, feed, Directives, no_directives, directives_before, document_directives, is_directive, directive_fault}
+use Rattle.yaml_parse_laws_trees.proofs.Words.{yaml_mark_t, Token, TokenBody, type_of, Choice, Refuse, Take, Leave, Open, RawEvent, item_at, State, IsInner, IsInside, choice_at, taken_at, left_at, Fed, stop, go, with_item, given_by, turn, feed, Directives, no_directives, directives_before, document_directives, is_directive, directive_fault, InsideAt}
 use Rattle.yaml_parse_laws_trees.specs.parse_grammar.parse_model.Tokens as token
 use Rattle.yaml_parse_laws_trees.specs.parse_grammar.parse_model.Events as event
 use Rattle.yaml_parse_laws_trees.specs.parse_grammar.Items as item
 use Rattle.yaml_parse_laws_trees.specs.parse_grammar.States as state
-use Rattle.yaml_parse_laws_trees.specs.parse_grammar.Stacks.{InsideAt}
 use Rattle.yaml_parse_laws_trees.proofs.FaultsStanding.{Sign, open_in, directive, other, last_of, last_in, told, Plain, Nested}
 use Rattle.yaml_parse_laws_trees.proofs.Refusing.{Tells, tells}
 use Rattle.yaml_parse_laws_trees.proofs.Keeping.{KeptInside, inside_kept}
@@ -211,10 +210,9 @@ pub mute_stepped : (x : State) (s : List State) (t : Token) (past : List Token) 
     → Agree (document_directives past) ds
     → Agree (directives_before past) no_directives → Stepped past ds t (feed (x ∷ s) t)
 unfolding feed
-mute_stepped x [] t past ds (at_end p q) m pl n a b = at_end_stepped x [] t past ds p q b
 mute_stepped x [] t past ds (deeper i j) m pl n a b = absurd j
-mute_stepped x (y ∷ s) t past ds (at_end p q) m pl n a b = at_end_stepped x (y ∷ s) t past ds p q b
 mute_stepped x (y ∷ s) t past ds (deeper i j) m pl n a b =
     mute_turn (choice_at x (type_of t.body)) x t (y ∷ s) (feed (y ∷ s) t) past ds refl (tells x (type_of t.body) (open_in (y ∷ s)) t.start_mark n.0) i (m i)
     (λ e. inside_kept x t (y ∷ s) e i pl n j) a
     (mute_stepped y s t past ds (within y s j) (λ k. plain_mute y pl.0 k) pl.1 n.1 a b)
+mute_stepped x e t past ds (at_end p q) m pl n a b = at_end_stepped x e t past ds p q b

@@ -1,8 +1,7 @@
 -- One token, behind properties too: the fault of a handle comes first.
 use Rattle.std.proofs.Common.{◌≡◌, Bool, true, false, if◌then◌else◌, ◌||◌, List, [], ◌∷◌, ◌++◌, Option, Some, None, refl, ap, sym, subst, ◌∙◌}
-use Rattle.yaml_parse_laws_trees.proofs.Words.{yaml_mark_t, Token, TokenBody, type_of, Fault, Wants, Take, Leave, RawEvent, Properties, State, IsInner, IsInside, IsStack, joins, starts_content, choice_at, with_properties_taken, Fed, stop, go, with_item, given_by, turn, feed, Directives, no_directives, settle, NodeTag, directives_before, document_directives, ended_tag, handle_fault, tag_fault}
+use Rattle.yaml_parse_laws_trees.proofs.Words.{yaml_mark_t, Token, TokenBody, type_of, Fault, Wants, Take, Leave, RawEvent, Properties, State, IsInner, IsInside, IsStack, joins, starts_content, choice_at, with_properties_taken, Fed, stop, go, with_item, given_by, turn, feed, Directives, no_directives, settle, NodeTag, directives_before, document_directives, ended_tag, handle_fault, tag_fault, properties_alone, false≢true}
 use Rattle.yaml_parse_laws_trees.specs.parse_grammar.parse_model.Tokens as token
-use Rattle.yaml_parse_laws_trees.specs.parse_grammar.Items.{properties_alone}
 use Rattle.yaml_parse_laws_trees.specs.parse_grammar.Items as item
 use Rattle.yaml_parse_laws_trees.specs.parse_grammar.States as state
 use Rattle.yaml_parse_laws_trees.proofs.FaultsStanding.{open_in, nothing, property, directive, other, last_of, last_in, told, Plain, Nested}
@@ -10,7 +9,6 @@ use Rattle.yaml_parse_laws_trees.proofs.Keeping.{inside_kept}
 use Rattle.yaml_parse_laws_trees.proofs.Settling.{Done, bad, fine, then_read, read_all, IsMute, Agree, tag_in, by_fault}
 use Rattle.yaml_parse_laws_trees.proofs.Properties.{PropsOf, PropsTop, ended, joined, props_read, HasFault, content_read}
 use Rattle.yaml_parse_laws_trees.proofs.Stepping.{Dirs, StepRead, Stepped, Within, within, mute_stepped, no_directives_before, none_before, inside_read, stream_stepped, first_stepped, documents_stepped, directives_stepped, plain_mute}
-use Rattle.std.proofs.lemmas.Bool.{false≢true}
 
 -- the step, by the fault of a handle that the token meets
 abbrev pub Step : List Token → Directives → Token → Option Fault → Fed → Type 0

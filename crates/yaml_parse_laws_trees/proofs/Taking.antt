@@ -1,6 +1,6 @@
 -- What a stack waits for, with a token in front; and the reading of what a step gives.
 use Rattle.std.proofs.Common.{◌≡◌, ℕ, true, List, [], ◌∷◌, ◌++◌, map, Option, Some, None, refl, sym, subst}
-use Rattle.yaml_parse_laws_trees.proofs.Words.{yaml_token_type_t, Token, type_of, no_token, Fault, Root, Choice, Refuse, Take, Leave, Open, RawEvent, item_at, State, IsInside, IsStack, Given, choice_at, taken_at, left_at, Fed, stop, go, with_item, given_by, turn, feed, Directives, Settled, refused, gave, noted, settle, Reading, reading, unasked_at_fault}
+use Rattle.yaml_parse_laws_trees.proofs.Words.{yaml_token_type_t, Token, type_of, no_token, Fault, Root, Choice, Refuse, Take, Leave, Open, RawEvent, item_at, State, IsInside, IsStack, Given, choice_at, taken_at, left_at, Fed, stop, go, with_item, given_by, turn, feed, Directives, Settled, refused, gave, noted, settle, Reading, reading, unasked_at_fault, MayLeave, leave_rule, none_opens}
 use Rattle.yaml_parse_laws_trees.specs.parse_grammar.parse_model.declared.yaml_token_type_t.TheVariants as kind
 use Rattle.yaml_parse_laws_trees.specs.parse_grammar.Items as item
 use Rattle.yaml_parse_laws_trees.specs.parse_grammar.States as state
@@ -8,7 +8,6 @@ use Rattle.yaml_parse_laws_trees.specs.parse_grammar.Resolve as resolve
 use Rattle.yaml_parse_laws_trees.proofs.EventsToGive.{takes_a_token}
 use Rattle.yaml_parse_laws_trees.proofs.Left.{Left, Over, over_both, leaving, taking, opening}
 use Rattle.yaml_parse_laws_trees.proofs.Settling.{Done, bad, fine, then_read, read_all}
-use Rattle.yaml_parse_grammar.proofs.Rules.{MayLeave, leave_rule, none_opens}
 
 -- ---- a state that never leaves is at the bottom
 

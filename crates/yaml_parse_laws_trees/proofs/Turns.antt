@@ -1,15 +1,11 @@
 -- The events of a tree in the form that computes are its events beside the numbers that its turns tell.
 use Rattle.std.proofs.Common.{◌≡◌, ℕ, ◌+◌, ◌-◌, true, List, [], ◌∷◌, ◌++◌, length, zip, Option, Some, None, refl, ap, sym, ◌∙◌, arith}
-use Rattle.std.proofs.lemmas.List.{append_assoc, append-nil}
-use Rattle.yaml_parse_laws_trees.proofs.Words.{yaml_mark_t, Token, Wants, Side, Key, Value, Brackets, Site, Root, Entry, IndentlessEntry, BlockPair, FlowPair, RawEvent, Properties, blank, item_at, Span, PropertyTokens, Node, Content, Maybe, Colon, Items, More, Entries, Others, Pairs, Directive, Documents, First, Stream, Given, next, event_at, spell_properties, spell_node, spell_content, spell_maybe, spell_colon, spell_items, spell_more, spell_entries, spell_others, spell_pairs, spell_directives, spell_ends, spell_documents, spell_first, spell, items}
+use Rattle.yaml_parse_laws_trees.proofs.Words.{append_assoc, append-nil, yaml_mark_t, Token, Wants, Side, Key, Value, Brackets, Site, Root, Entry, IndentlessEntry, BlockPair, FlowPair, RawEvent, Properties, blank, item_at, Span, PropertyTokens, Node, Content, Maybe, Colon, Items, More, Entries, Others, Pairs, Directive, Documents, First, Stream, Given, next, event_at, spell_properties, spell_node, spell_content, spell_maybe, spell_colon, spell_items, spell_more, spell_entries, spell_others, spell_pairs, spell_directives, spell_ends, spell_documents, spell_first, spell, items, mark_at, content_start, node_start, colon_start, more_start, entries_start, others_start, pairs_start, ends_start, documents_start, pair_opens, pair_closes, lone_value, node_events, content_events, maybe_events, colon_events, items_events, more_events, entries_events, others_events, pairs_events, directives_events, ends_events, documents_events, first_events, tree_events, Turn, asks, gives, gives_at_next, properties_turns, pair_opens_turns, pair_closes_turns, lone_turns, node_turns, content_turns, maybe_turns, colon_turns, items_turns, more_turns, entries_turns, others_turns, pairs_turns, directives_turns, each_asks, ends_turns, documents_turns, first_turns, tree_turns, tokens_in, unasked, pair_start, pair_end, lone, items_node, items_content, items_maybe, items_colon, items_items, items_more, items_entries, items_others, items_pairs, items_directives, items_ends, items_documents, items_first, ItemsAreGiven, TurnsFitTree}
 use Rattle.yaml_parse_grammar.specs.parse_model.Events as event
 use Rattle.yaml_parse_grammar.specs.declared.name.Brackets.TheVariants as brackets
 use Rattle.yaml_parse_grammar.specs.Items as item
-use Rattle.yaml_parse_grammar.specs.Trees.{mark_at}
 use Rattle.yaml_parse_grammar.specs.Trees as tree
-use Rattle.yaml_parse_grammar.specs.TreeEvents.{content_start, node_start, colon_start, more_start, entries_start, others_start, pairs_start, ends_start, documents_start, pair_opens, pair_closes, lone_value, node_events, content_events, maybe_events, colon_events, items_events, more_events, entries_events, others_events, pairs_events, directives_events, ends_events, documents_events, first_events, tree_events, Turn, asks, gives, gives_at_next, properties_turns, pair_opens_turns, pair_closes_turns, lone_turns, node_turns, content_turns, maybe_turns, colon_turns, items_turns, more_turns, entries_turns, others_turns, pairs_turns, directives_turns, each_asks, ends_turns, documents_turns, first_turns, tree_turns, tokens_in, unasked}
-use Rattle.yaml_parse_grammar.specs.TreeSteps.{behind, pair_start, pair_end, lone, items_node, items_content, items_maybe, items_colon, items_items, items_more, items_entries, items_others, items_pairs, items_directives, items_ends, items_documents, items_first}
-use Rattle.yaml_parse_laws_trees.specs.CountsLaws.{ItemsAreGiven, TurnsFitTree}
+use Rattle.yaml_parse_grammar.specs.TreeSteps.{behind}
 
 -- ---- events and numbers apart
 
@@ -174,10 +170,9 @@ node_next (tree.bare c) rest = content_next c rest
 
 properties_part : (d : PropertyTokens) (rest : List Token) (more : List Given)
     → Part [] (properties_turns d) rest (spell_properties d rest) more more
-properties_part (tree.anchor a) rest more = asked _ (nothing rest more)
 properties_part (tree.anchor_tag a t) rest more = asked _ (asked _ (nothing rest more))
-properties_part (tree.tag t) rest more = asked _ (nothing rest more)
 properties_part (tree.tag_anchor t a) rest more = asked _ (asked _ (nothing rest more))
+properties_part _ rest more = asked _ (nothing rest more)
 
 -- an event of its own token
 own_event : (e : RawEvent) (t : Token) (rest : List Token) (more : List Given)

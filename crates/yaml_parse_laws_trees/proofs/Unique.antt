@@ -1,13 +1,10 @@
 -- A list of tokens has one fault of loading at most.
 use Rattle.std.proofs.Common.{◌≡◌, ◌⊎◌, inl, inr, ℕ, ◌<◌, List, [], ◌∷◌, Option, Some, None, refl, ap, sym, subst, ◌∙◌}
-use Rattle.std.proofs.lemmas.Bool.{cases_order}
-use Rattle.yaml_parse_laws_trees.proofs.Words.{Token, Fault, Stream, spell, of_handle, of_token, BeginsWithSentence, with_end, alias_fault, LoadRank, of_parser, of_alias, LoadRanksBefore, LoadFaultAt, IsFirstIn}
+use Rattle.yaml_parse_laws_trees.proofs.Words.{cases_order, Token, Fault, Stream, spell, of_handle, of_token, BeginsWithSentence, with_end, alias_fault, LoadRank, of_parser, of_alias, LoadRanksBefore, LoadFaultAt, IsFirstIn, LoadStandsIn, FirstOf, LoadsSentence, IsLoadOwn, LoadsUnfinished, LoadFaultIsOne}
 use Rattle.yaml_parse_laws_trees.proofs.CountsUnique.{one_tree}
 use Rattle.yaml_parse_laws_trees.proofs.Cuts.{SameCut, same_cut, head_same}
 use Rattle.yaml_parse_laws_trees.proofs.Spelling.{spelled_before}
 use Rattle.yaml_parse_laws_trees.proofs.FaultsUnique.{one_at, same_some}
-use Rattle.yaml_parse_laws_trees.specs.Faults.{LoadStandsIn, FirstOf, LoadsSentence, IsLoadOwn, LoadsUnfinished}
-use Rattle.yaml_parse_laws_trees.specs.Laws.{LoadFaultIsOne}
 
 -- one fault at each place
 one_here : (past : List Token) (t : Token) (r : LoadRank) (e f : Fault) → LoadFaultAt past t r e

@@ -1,15 +1,11 @@
 -- What an input decodes to is UTF-8, and so are the texts of the tokens that a parser takes.
 use Rattle.std.proofs.Common.{◌≡◌, ℕ, zero, suc, ◌+◌, ◌-◌, ◌*◌, Bool, true, false, not, ◌&&◌, ◌||◌, ◌==◌, nat_lt, if◌then◌else◌, List, length, Result, Ok, Err, refl, IsUtf8, All}
 use Rattle.std.specs.Char.{IsScalar}
-use Rattle.std.specs.Str.{all_scalars}
-use Rattle.std.proofs.lemmas.List.Elements.{All-nil}
-use Rattle.yaml_round_content.proofs.Words.{yaml_encoding_t, YAML_ANY_ENCODING, YAML_UTF8_ENCODING, YAML_UTF16LE_ENCODING, YAML_UTF16BE_ENCODING, Token, scanned_in, tokens_of, adapted, Offence, encoding_of, mark_length, is_allowed, decoded_text}
-use Rattle.yaml_round_content.specs.scan_model.Classes.{width_of}
+use Rattle.yaml_round_content.proofs.Words.{all_scalars, All-nil, yaml_encoding_t, YAML_UTF16LE_ENCODING, YAML_UTF16BE_ENCODING, Token, scanned_in, tokens_of, adapted, Offence, encoding_of, mark_length, is_allowed, decoded_text, width_of, between, is_low_surrogate, is_high_surrogate, is_trailing, allowed_at, valued_at, least_code, sequence_of, utf8_code, utf8_of, utf16_of, character_at, led_by, characters, in_utf8, decoded_characters}
 use Rattle.yaml_round_content.specs.parse_model.Source as source
 use Rattle.yaml_round_content.proofs.AdaptedLemmas.{adapted_utf8}
 use Rattle.yaml_round_content.specs.scan_history.scan_decode.declared.offence.Character.{Character}
-use Rattle.yaml_round_content.specs.scan_history.scan_decode.Characters.{between, is_low_surrogate, is_high_surrogate, is_trailing, allowed_at, valued_at, least_code, sequence_of, utf8_code, utf8_of, utf16_of, character_at}
-use Rattle.yaml_round_content.specs.scan_history.scan_decode.Decoding.{before, led_by, characters, in_utf8, decoded_characters}
+use Rattle.yaml_round_content.specs.scan_history.scan_decode.Decoding.{before}
 use Rattle.yaml_round_content.proofs.SpellingLemmas.{allowed_scalar}
 
 -- ---- a character
@@ -57,10 +53,9 @@ utf16_stands left p u v =
 
 character_stands : (e : yaml_encoding_t) (bytes : List ℕ) (p : ℕ)
     → MayStand (character_at e bytes p)
-character_stands YAML_ANY_ENCODING bytes p = utf8_stands _ p _ _ _ _
-character_stands YAML_UTF8_ENCODING bytes p = utf8_stands _ p _ _ _ _
 character_stands YAML_UTF16LE_ENCODING bytes p = utf16_stands _ p _ _
 character_stands YAML_UTF16BE_ENCODING bytes p = utf16_stands _ p _ _
+character_stands _ bytes p = utf8_stands _ p _ _ _ _
 
 -- ---- a text
 
@@ -101,9 +96,6 @@ is_text : (r : Result (List ℕ) Offence) → AreScalars r → IsText (in_utf8 r
 is_text (Ok cs) h = (cs, (h, refl))
 is_text (Err o) h = tt
 
-decoded_is_text : (from : yaml_encoding_t) (input : List ℕ) → IsText (decoded_text from input)
-decoded_is_text from input = is_text (decoded_characters from input) (are_scalars (length input) (encoding_of from input) input (mark_length from input))
-
 -- ---- tokens
 
 utf8_in : (encoding : yaml_encoding_t) (r : Result (List ℕ) Offence) → IsText r
@@ -113,4 +105,4 @@ utf8_in encoding (Err o) h = All-nil (λ (t : Token). source.HasUtf8 t.body)
 
 pub tokens_utf8 : (from : yaml_encoding_t) (input : List ℕ)
     → All (λ (t : Token). source.HasUtf8 t.body) (tokens_of from input).tokens
-tokens_utf8 from input = utf8_in (encoding_of from input) (decoded_text from input) (decoded_is_text from input)
+tokens_utf8 from input = utf8_in (encoding_of from input) (decoded_text from input) (is_text (decoded_characters from input) (are_scalars (length input) (encoding_of from input) input (mark_length from input)))

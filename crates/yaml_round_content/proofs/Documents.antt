@@ -1,7 +1,6 @@
 -- The directives of a document, as they are read.
 use Rattle.std.proofs.Common.{◌≡◌, ℕ, ℤ, Bool, true, false, if◌then◌else◌, List, [], ◌∷◌, ◌++◌, Option, Some, None, refl, ap, sym, ◌∙◌}
-use Rattle.std.proofs.lemmas.List.{append_assoc, append-nil}
-use Rattle.yaml_round_content.proofs.Words.{yaml_mark_t, yaml_version_directive_t, Token, Fault, TagDirective, RawEvent, Given, Directive, items_directives, Directives, Reading, read_on, reading, directive_for, with_version, with_tag, is_known_version, tags_in, version_in}
+use Rattle.yaml_round_content.proofs.Words.{append_assoc, append-nil, yaml_mark_t, yaml_version_directive_t, Token, Fault, TagDirective, RawEvent, Given, Directive, items_directives, Directives, Reading, read_on, reading, directive_for, with_version, with_tag, is_known_version, tags_in, version_in}
 use Rattle.yaml_round_content.specs.parse_grammar.declared.ParseProblem.TheVariants as problem
 use Rattle.yaml_round_content.specs.parse_grammar.Problems.{parser_fault}
 use Rattle.yaml_round_content.specs.parse_grammar.Trees as tree
@@ -56,9 +55,6 @@ handle_behind : (o : Option (List ℕ)) (D : Directives) (handle prefix : List �
 handle_behind (Some x) D handle prefix at i left k to h r = absurd (not_none _ r)
 handle_behind None D handle prefix at i left k to h r = h r
 
-first_version : (v w y : Option yaml_version_directive_t) → v ≡ None → w ≡ first_some v w
-first_version v w y p = ap (λ (z : Option yaml_version_directive_t). first_some z w) (sym p)
-
 pub directives_read : (ds : List Directive) (rest : List Token) (gs : List Given) (f : Option Fault)
     (v : Option yaml_version_directive_t) (tags : List TagDirective) → Behind ds rest gs f v tags
 unfolding reading
@@ -67,7 +63,7 @@ directives_read [] rest gs f v tags =
 directives_read (tree.version s major minor ∷ ds) rest gs f v tags =
     λ e. version_behind (is_known_version major minor) v tags major minor s.from _ _ (λ D. reading (items_directives ds rest gs) f D) _ refl
     (λ p k. directives_read ds rest gs f (Some (record { major = major; minor = minor })) tags k
-    ∙ ap (λ (z : Option yaml_version_directive_t). reading gs f (directives z (tags ++ tags_in ds))) (first_version v (Some (record { major = major; minor = minor })) None p))
+    ∙ ap (λ (z : Option yaml_version_directive_t). reading gs f (directives z (tags ++ tags_in ds))) (ap (λ (z : Option yaml_version_directive_t). first_some z (Some (record { major = major; minor = minor }))) (sym p)))
     e
 directives_read (tree.handle s name prefix ∷ ds) rest gs f v tags =
     λ e. handle_behind (directive_for name tags) (directives v tags) name prefix s.from _ _ (λ D. reading (items_directives ds rest gs) f D) _

@@ -1,24 +1,18 @@
 -- An event that is expected is one that the emitter's grammar takes, normalized or not.
 use Rattle.std.proofs.Common.{◌≡◌, inl, inr, ℕ, Bool, true, false, not, ◌||◌, List, [], ◌∷◌, Option, Some, None, refl, sym, ap, subst, ◌∙◌}
 use Rattle.yaml_emit_laws_dumps.specs.parse_model.declared.yaml_scalar_style_t.{yaml_scalar_style_t}
-use Rattle.yaml_round_content.proofs.Words.{EventBody, Problem, Expected, emitter_event, or_else, anchor_problem, tag_problem, kept_if, event_problem, last_problem, Due, item_due, key_due, value_due, Progress, inside, behind_node, outer_due, progress_after, problem_in, IsNormalized, IsNormalizing}
+use Rattle.yaml_round_content.proofs.Words.{EventBody, Problem, Expected, emitter_event, or_else, anchor_problem, tag_problem, kept_if, event_problem, last_problem, Due, item_due, key_due, Progress, inside, behind_node, outer_due, progress_after, problem_in, IsNormalized, IsNormalizing, begins_node, node_problem, place_problem, problem_by, level_due, or_both}
 use Rattle.yaml_emit_laws_dumps.specs.parse_model.Events as event
 use Rattle.yaml_emit_laws_dumps.specs.emit_layout.declared.Expected.TheVariants as at
 use Rattle.yaml_emit_laws_dumps.specs.emit_layout.Content.{Event}
-use Rattle.yaml_emit_laws_dumps.specs.emit_layout.Grammar.{begins_node, node_problem, place_problem, problem_by}
-use Rattle.yaml_emit_laws_dumps.specs.emit_layout.Progress.{level_due}
 use Rattle.yaml_round_content.proofs.Stacks.{between, Expects, moved_by}
-use Rattle.yaml_emit_laws_dumps.proofs.Passing.{or_both}
 
 -- ---- without the flags of the place between documents
 
 abbrev pub plain_place : Expected → Expected
-plain_place at.StreamStart = at.StreamStart
 plain_place (at.Documents first unended) = between
-plain_place at.Node = at.Node
-plain_place at.DocumentEnd = at.DocumentEnd
-plain_place at.End = at.End
 plain_place (at.Refused p) = at.Refused p
+plain_place e = e
 
 abbrev pub plain : Progress → Progress
 plain h = record { place = plain_place h.place; due = h.due }
@@ -56,17 +50,13 @@ node_there (d ∷ ds) e k = rw k refl
 
 items_end : (ds : List Due) → ds ≡ item_due ∷ outer_due ds
     → node_problem (level_due ds) (emitter_event event.sequence_end) ≡ None
-items_end [] e = absurd (cc)
 items_end (item_due ∷ ds) e = refl
-items_end (key_due ∷ ds) e = absurd (cc)
-items_end (value_due ∷ ds) e = absurd (cc)
+items_end _ e = absurd (cc)
 
 pairs_end : (ds : List Due) → ds ≡ key_due ∷ outer_due ds
     → node_problem (level_due ds) (emitter_event event.mapping_end) ≡ None
-pairs_end [] e = absurd (cc)
-pairs_end (item_due ∷ ds) e = absurd (cc)
 pairs_end (key_due ∷ ds) e = refl
-pairs_end (value_due ∷ ds) e = absurd (cc)
+pairs_end _ e = absurd (cc)
 
 at_the_place : (p q : Expected) (ds : List Due) (e : Event) → p ≡ q → IsTaken q ds e
     → IsTaken p ds e

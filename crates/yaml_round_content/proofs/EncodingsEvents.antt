@@ -1,12 +1,11 @@
 -- Tokens that are alike make events that say the same.
 use Rattle.std.proofs.Common.{◌≡◌, ◌⊎◌, inl, inr, ℕ, true, List, [], ◌∷◌, ◌++◌, length, map, Option, Some, None, refl, sym, ap, subst}
-use Rattle.yaml_round_content.proofs.Words.{yaml_encoding_t, YAML_ANY_ENCODING, yaml_mark_t, Token, type_of, Fault, EventBody, RawEvent, State, Choice, Refuse, Take, Leave, Given, event_at, item_at, Root, Fed, stop, go, choice_at, taken_at, left_at, with_item, given_by, turn, feed, Outcome, carry, run, Directives, Settled, refused, gave, noted, settle, Reading, read_on, reading, contents, normalize_body, content_of}
+use Rattle.yaml_round_content.proofs.Words.{yaml_encoding_t, YAML_ANY_ENCODING, yaml_mark_t, Token, type_of, Fault, EventBody, RawEvent, State, Choice, Refuse, Take, Leave, Given, event_at, item_at, Root, Fed, stop, go, choice_at, taken_at, left_at, with_item, given_by, feed, Outcome, carry, run, Directives, Settled, refused, gave, noted, settle, Reading, read_on, reading, contents, normalize_body, content_of, Taken, taken, at_end}
 use Rattle.yaml_emit_laws_dumps.specs.parse_model.Events as event
-use Rattle.yaml_emit_laws_dumps.specs.parse_grammar.States.{Taken}
 use Rattle.yaml_emit_laws_dumps.specs.parse_grammar.States as state
 use Rattle.yaml_emit_laws_dumps.specs.parse_grammar.declared.Choice.TheVariants.{Open}
 use Rattle.yaml_emit_laws_dumps.specs.parse_grammar.Items as item
-use Rattle.yaml_emit_laws_dumps.specs.parse_grammar.Machine.{taken, at_end}
+use Rattle.yaml_emit_laws_dumps.specs.parse_grammar.Machine.{turn}
 use Rattle.yaml_round_content.proofs.EncodingsTokens.{start, IsAlike, AreAlike}
 
 -- ---- items

@@ -1,8 +1,6 @@
 -- Two spellings of one text are read alike.
 use Rattle.std.proofs.Common.{◌≡◌, ℕ, List, Option, Result, sym, ap, subst}
-use Rattle.yaml_round_content.proofs.Words.{yaml_encoding_t, Offence, encoding_of, Fault, Spells, scanned_in, Remaining, offline, adapted, run, initial, Reading, reading, no_directives, read, EncodingsDoNotMatter}
-use Rattle.yaml_round_laws_adapted.proofs.CompleteLemmas.{spells_decoded}
-use Rattle.yaml_round_content.specs.Input.{parsed}
+use Rattle.yaml_round_content.proofs.Words.{yaml_encoding_t, Offence, encoding_of, Fault, Spells, scanned_in, Remaining, offline, adapted, run, initial, Reading, reading, no_directives, read, EncodingsDoNotMatter, spells_decoded, parsed}
 use Rattle.yaml_round_content.proofs.EncodingsTokens.{spelled, Resembles, adapted_alike}
 use Rattle.yaml_round_content.proofs.EncodingsEvents.{SaysAlike, IsLikeOutcome, run_alike, read_alike}
 

@@ -1,10 +1,7 @@
 -- What characters spell, in an encoding that is named or behind its mark.
 use Rattle.std.proofs.Common.{◌≡◌, ℕ, ◌||◌, Bool, true, false, if◌then◌else◌, List, ◌++◌, drop, refl, sym, ap, ◌∙◌, encode_utf8_all}
-use Rattle.std.specs.List.{AllPass}
-use Rattle.yaml_round_content.proofs.Words.{yaml_encoding_t, YAML_ANY_ENCODING, YAML_UTF8_ENCODING, YAML_UTF16LE_ENCODING, YAML_UTF16BE_ENCODING, is_allowed, encoding_of, mark_length, Spells, EncodingsDoNotMatter}
-use Rattle.yaml_round_laws_adapted.specs.scan_laws_texts.scan_history.scan_decode.Encodings.{begins_low_first, begins_high_first, begins_utf8}
-use Rattle.yaml_round_laws_adapted.specs.scan_laws_texts.scan_history.scan_decode.Spelling.{spellings}
-use Rattle.yaml_round_content.specs.EncodingsLaws.{CharactersAreEnough, IsNamed, mark_of}
+use Rattle.yaml_round_content.proofs.Words.{AllPass, yaml_encoding_t, YAML_ANY_ENCODING, YAML_UTF8_ENCODING, YAML_UTF16LE_ENCODING, YAML_UTF16BE_ENCODING, is_allowed, encoding_of, mark_length, Spells, EncodingsDoNotMatter, begins_low_first, begins_high_first, begins_utf8, spellings, CharactersAreEnough, IsNamed}
+use Rattle.yaml_round_content.specs.EncodingsLaws.{mark_of}
 
 named_spells : (cs : List ℕ) → AllPass is_allowed cs → (x : yaml_encoding_t) → IsNamed x
     → Spells x (spellings x cs) (encode_utf8_all cs)

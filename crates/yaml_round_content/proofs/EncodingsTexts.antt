@@ -1,12 +1,8 @@
 -- What bytes say is what the text says that they spell.
 use Rattle.std.proofs.Common.{◌≡◌, ℕ, ◌<◌, List, [], Some, Result, Ok, Err, All, get_or, length, refl, sym, ap, subst, inl, inr, arith}
-use Rattle.std.proofs.lemmas.Bool.{cases_lt}
-use Rattle.std.proofs.lemmas.List.{get_or_past}
-use Rattle.std.proofs.lemmas.List.Elements.{All-get_or}
-use Rattle.yaml_round_content.proofs.Words.{yaml_encoding_t, Fault, Offence, encoding_of, decoded_text, Remaining, scanned_in, adapted, TokensRead}
+use Rattle.yaml_round_content.proofs.Words.{cases_lt, get_or_past, All-get_or, yaml_encoding_t, Fault, Offence, encoding_of, decoded_text, Remaining, scanned_in, adapted, TokensRead, spells_decoded, decoded_spells}
 use Rattle.yaml_round_laws_adapted.specs.scan_laws_texts.scan_history.scan_model.declared.yaml_error_type_t.TheVariants.{YAML_READER_ERROR}
 use Rattle.yaml_round_laws_adapted.specs.scan_laws_texts.scan_history.scan_decode.Offences.{reader_fault}
-use Rattle.yaml_round_laws_adapted.proofs.CompleteLemmas.{spells_decoded, decoded_spells}
 use Rattle.yaml_round_content.specs.EncodingsTexts.{TokensAreOfText, NoTextHasNoToken, ReadingIsOfText}
 
 pub of_text : TokensAreOfText

@@ -1,8 +1,7 @@
 -- A content is known by what it says.
 use Rattle.std.proofs.Common.{◌≡◌, ℕ, true, List, [], ◌∷◌, Option, Some, None, refl, sym, ap, ◌∙◌}
-use Rattle.yaml_round_content.proofs.Words.{yaml_version_directive_t, EventBody, TagDirective, untagged, tagged, Node, alias, scalar, sequence, mapping, Nodes, no_nodes, node, Pairs, no_pairs, pair, Document, node_says, items_say, pairs_say, documents_say}
+use Rattle.yaml_round_content.proofs.Words.{yaml_version_directive_t, EventBody, TagDirective, untagged, tagged, Node, alias, scalar, sequence, mapping, Nodes, no_nodes, node, Pairs, no_pairs, pair, Document, node_says, items_say, pairs_say, documents_say, SaysIsInjective}
 use Rattle.yaml_round_content.specs.parse_model.Events as event
-use Rattle.yaml_round_content.specs.ContentLaws.{SaysIsInjective}
 
 abbrev Text : Type 0
 Text = Option (List ℕ)
@@ -27,7 +26,6 @@ behind_node n (at_value a t f key ∷ s) es k = k (in_mapping a t (λ ps. f (pai
 
 -- the node with whose events they begin, and the events behind it
 read : List EventBody → List Begun → Read
-read [] s = None
 read (event.alias name ∷ es) s = behind_node (alias name) s es (λ z. read es z)
 read (event.scalar a None value plain quoted style ∷ es) s = behind_node (scalar a (untagged plain) value) s es (λ z. read es z)
 read (event.scalar a (Some t) value plain quoted style ∷ es) s = behind_node (scalar a (tagged t) value) s es (λ z. read es z)
@@ -35,7 +33,7 @@ read (event.sequence_start a t implicit style ∷ es) s = read es (in_sequence a
 read (event.mapping_start a t implicit style ∷ es) s = read es (in_mapping a t (λ ps. ps) ∷ s)
 read (event.sequence_end ∷ es) (in_sequence a t f ∷ s) = behind_node (sequence a t (f no_nodes)) s es (λ z. read es z)
 read (event.mapping_end ∷ es) (in_mapping a t f ∷ s) = behind_node (mapping a t (f no_pairs)) s es (λ z. read es z)
-read (_ ∷ es) s = None
+read _ s = None
 
 mutual
   unfolding node_says items_say pairs_say read

@@ -1,18 +1,13 @@
 -- The canonical layout of a stream is that of its content.
 use Rattle.std.proofs.Common.{◌≡◌, ℕ, Bool, true, false, not, List, [], ◌∷◌, Option, Some, None, refl, sym, ap, subst, ◌∙◌}
-use Rattle.std.proofs.Math.Bool.{or-true}
-use Rattle.yaml_round_content.proofs.Words.{yaml_encoding_t, YAML_ANY_ENCODING, yaml_scalar_style_t, YAML_ANY_SCALAR_STYLE, EventBody, TagDirective, Told, Settings, Layout, ◌▹◌, node_layout, RightStream, is_lone_mark, normalize_scalar, normalize_body, emitter_events, events_of, Document, written_node, written_nodes, written_pairs, AreFlagged, LayoutIsOfContent, ContentIsLaidOut}
+use Rattle.yaml_round_content.proofs.Words.{or-true, yaml_encoding_t, YAML_ANY_ENCODING, yaml_scalar_style_t, YAML_ANY_SCALAR_STYLE, EventBody, Told, Settings, Layout, ◌▹◌, node_layout, RightStream, is_lone_mark, normalize_scalar, normalize_body, emitter_events, events_of, Document, written_node, written_nodes, written_pairs, AreFlagged, LayoutIsOfContent, ContentIsLaidOut, order_mark, written, root_position, start_layout, end_layout, documents_layout, stream_layout, written_scalar, written_documents, canon_items, IsSet, IsFlaggedScalar}
 use Rattle.yaml_round_content.specs.parse_model.Events as event
 use Rattle.yaml_round_content.specs.emit_text.declared.Encoding.{Encoding}
 use Rattle.yaml_round_content.specs.emit_text.declared.RequestedSettings.{RequestedSettings}
 use Rattle.yaml_round_content.specs.emit_text.Settings.{settled, settled_encoding}
 use Rattle.yaml_round_content.specs.emit_text.Text.{Item}
-use Rattle.yaml_round_content.specs.emit_text.Layout.{order_mark, written}
 use Rattle.yaml_round_content.specs.emit_layout.Streams.{IsStream}
 use Rattle.yaml_round_content.specs.emit_layout.Content as emit
-use Rattle.yaml_round_content.specs.emit_layout.Nodes.{root_position, start_layout, end_layout, documents_layout, stream_layout}
-use Rattle.yaml_round_content.specs.Canon.{written_scalar, written_documents, canon_items}
-use Rattle.yaml_round_content.specs.ContentLaws.{IsSet, IsFlaggedScalar}
 use Rattle.yaml_round_content.proofs.Injective.{says_injective}
 use Rattle.yaml_round_content.proofs.Trees.{mark_of, tree_of, trees_of, pair_trees_of, document_trees, stream_trees}
 use Rattle.yaml_round_content.proofs.ContentInputs.{input_stream}
@@ -110,11 +105,6 @@ mutual
       ∙ ap (λ (y : emit.Node). emit.pair (written_node (tree_of k)) y (bare_pairs ps)) (node_written v hv)
       ∙ ap (λ (y : emit.Pairs). emit.pair (written_node (tree_of k)) (written_node (tree_of v)) y) (pairs_written ps hs)
 
-root_same : (s : Settings) (ds : List TagDirective) (n : emit.Node) → NodeFlagged n
-    → node_layout (canonically s ds) root_position n
-    ≡ node_layout (canonically s ds) root_position (written_node (tree_of n))
-root_same s ds n h = node_same s ds n root_position ∙ ap (λ (y : emit.Node). node_layout (canonically s ds) root_position y) (node_written n h)
-
 -- ---- documents
 
 -- every end is implicit
@@ -146,10 +136,9 @@ mutual
 
   behind_node : (n : emit.Node) (es : List emit.Event) → AreImplicit (emit.node_events n es)
       → AreImplicit es
-  behind_node (emit.alias_node name) es (h, hs) = hs
-  behind_node (emit.scalar_node x) es (h, hs) = hs
   behind_node (emit.sequence_node q items) es (h, hs) = (behind_items items (emit.sequence_end ∷ es) hs).1
   behind_node (emit.mapping_node q pairs) es (h, hs) = (behind_pairs pairs (emit.mapping_end ∷ es) hs).1
+  behind_node _ es (h, hs) = hs
 
   behind_items : (ns : emit.Nodes) (es : List emit.Event) → AreImplicit (emit.items_events ns es)
       → AreImplicit es
@@ -189,7 +178,7 @@ document_same s first unended d ds flagged end more =
     let o = d.opening in
     let begun = start_layout z first unended o in
     ap (λ (b : Bool). begun ▹ (node_layout (canonically s o.directives) root_position d.root ▹ (end_layout z b ▹ documents_layout z false b ds))) end
-    ∙ ap (λ (a : Layout). begun ▹ (a ▹ (end_layout z true ▹ documents_layout z false true ds))) (root_same s o.directives d.root flagged)
+    ∙ ap (λ (a : Layout). begun ▹ (a ▹ (end_layout z true ▹ documents_layout z false true ds))) (node_same s o.directives d.root root_position ∙ ap (λ (y : emit.Node). node_layout (canonically s o.directives) root_position y) (node_written d.root flagged))
     ∙ ap (λ (a : Layout). begun ▹ (node_layout (canonically s o.directives) root_position (written_node (tree_of d.root)) ▹ (end_layout z true ▹ a))) more
 
 documents_same : (s : Settings) (first unended : Bool) (ds : List emit.Document) → Normalize ds

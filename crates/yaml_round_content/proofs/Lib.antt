@@ -9,11 +9,11 @@ pub mod Settling
 pub mod Whole
 pub mod StreamsInputs
 pub mod Injective
-mod Trees
+pub mod Trees
 pub mod ContentInputs
 mod Bare
 pub mod Layouts
-mod Saying
+pub mod Saying
 mod Documents
 pub mod Joining
 mod Rows

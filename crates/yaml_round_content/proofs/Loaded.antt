@@ -1,5 +1,5 @@
 -- What an input loads is its plain loading.
-use Rattle.std.proofs.Common.{◌≡◌, ℕ, List, Option, Some, None, Ok, Err, ap, sym, subst, ◌∙◌}
+use Rattle.std.proofs.Common.{◌≡◌, List, Option, Some, None, Ok, Err, ap, sym, subst, ◌∙◌}
 use Rattle.std.proofs.lemmas.Option.{same_Some}
 use Rattle.yaml_round_content.proofs.Words.{Token, Fault, Reading, BeginsWithSentence, nothing_loaded, tokens_of, Loads, load_all, loads_of, tree_documents, numbered, read_of}
 use Rattle.yaml_round_content.specs.parse_laws_trees.parse_document.Documents.{Document}

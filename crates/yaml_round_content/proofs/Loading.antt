@@ -1,12 +1,10 @@
 -- The events of a content load its documents as they are numbered.
 use Rattle.std.proofs.Common.{◌≡◌, List, [], ◌∷◌, Option, Some, None, Result, Ok, Err, IfOk, refl, ap, ◌∙◌}
-use Rattle.yaml_round_content.proofs.Words.{Fault, Event, DocumentContent, document_of, Loading, LoadStep, goes_on, loaded, nothing_loaded, step, load, behind, Document, Loads, no_more, in_front, load_on, load_all, IsLoadedDocument, loader_content, content_events, told_by, load_of, load_each, AreLoadedDocuments, ContentIsLoaded, ContentLoadsDocuments}
+use Rattle.yaml_round_content.proofs.Words.{Fault, Event, DocumentContent, document_of, Loading, LoadStep, goes_on, loaded, nothing_loaded, step, load, behind, Document, Loads, no_more, in_front, load_on, load_all, IsLoadedDocument, loader_content, content_events, told_by, load_of, load_each, AreLoadedDocuments, ContentIsLoaded, ContentLoadsDocuments, document_events, turn, DocumentsAreLoaded}
 use Rattle.yaml_round_content.specs.parse_model.Nodes as model
 use Rattle.yaml_round_content.specs.parse_laws_trees.parse_document.Documents as documents
-use Rattle.yaml_parse_loader.specs.Numbering.{document_events}
-use Rattle.yaml_parse_loader.specs.Loading.{refused, turn}
+use Rattle.yaml_parse_loader.specs.Loading.{refused}
 use Rattle.yaml_parse_loader.specs.Loading as loading
-use Rattle.yaml_emit_laws_dumps.specs.DumpsLaws.{DocumentsAreLoaded}
 
 -- ---- the first document of events
 
@@ -50,7 +48,8 @@ fault_told (x ∷ es) l f g e = fault_turn (step x l) es f g (λ m h. fault_told
 abbrev pub LoadsDocuments : Type 0
 LoadsDocuments = (d : DocumentContent) (rest : List Event) (l : Loading) → load (document_events d rest) l ≡ behind (document_of d) (λ e. loading.document e rest)
 
-by_number : (r : Result documents.Document Fault) (es rest : List Event) (l : Loading)
+-- the first of several documents by its number, and the rest by theirs
+pub by_number : (r : Result documents.Document Fault) (es rest : List Event) (l : Loading)
     (more : Loads) → load es l ≡ behind r (λ e. loading.document e rest)
     → load_all (told_by rest) None nothing_loaded ≡ more
     → load_all (told_by es) None l ≡ load_of r more

@@ -1,15 +1,10 @@
 -- What is loaded doesn't depend on the names of anchors.
 use Rattle.std.proofs.Common.{◌≡◌, ℕ, suc, ℤ, pos, Bool, true, false, cond, List, [], ◌∷◌, ◌++◌, length, Option, Some, None, refl, sym, ap, subst, ◌∙◌, inl, inr}
-use Rattle.std.proofs.lemmas.Slice.Eq.{bytes_eq-Decides}
+use Rattle.yaml_round_content.proofs.Words.{bytes_eq-Decides, bytes_eq, nat_cmp, eq_by_cmp, slice_cmp, nat_list_cmp_total, YAML_ANY_SEQUENCE_STYLE, YAML_ANY_MAPPING_STYLE, EventBody, Open, open_sequence, open_mapping, attach, named, nothing_loaded, contents, load_all, ScalarMark, untagged, tagged, Node, alias, scalar, sequence, mapping, Nodes, no_nodes, node, Pairs, no_pairs, pair, Document, scalar_says, node_says, items_say, pairs_say, documents_say, Core, CoreNode, LoadsOfRenamed}
 use Rattle.std.proofs.lemmas.Map.Text.{is_eq-slice_cmp}
-use Rattle.std.specs.Str.{bytes_eq}
-use Rattle.std.specs.Ordering.{nat_cmp, eq_by_cmp}
-use Rattle.std.specs.Cmp.Lexicographic.{slice_cmp, nat_list_cmp_total}
 use Rattle.std.specs.FinMap as map
-use Rattle.yaml_round_content.proofs.Words.{YAML_ANY_SEQUENCE_STYLE, YAML_ANY_MAPPING_STYLE, EventBody, Open, open_sequence, open_mapping, attach, named, nothing_loaded, contents, load_all, ScalarMark, untagged, tagged, Node, alias, scalar, sequence, mapping, Nodes, no_nodes, node, Pairs, no_pairs, pair, Document, scalar_says, node_says, items_say, pairs_say, documents_say, Core, CoreNode}
 use Rattle.yaml_round_content.specs.parse_model.Events as event
 use Rattle.yaml_round_content.specs.Renamed.{Renaming, renamed_anchor, renamed_node, renamed_items, renamed_pairs, renamed, IsAnchorName, HasName, ItemsHaveName, PairsHaveName, AreOneToOne}
-use Rattle.yaml_round_content.specs.DumpsLoads.{LoadsOfRenamed}
 use Rattle.yaml_round_content.proofs.Core.{Anchors, CoreLoading, CoreLoads, core_leaf, core_open, core_closed, core_aliased, core_nothing, core_in_front, core_on, core_loads, is_fault}
 use Rattle.yaml_round_content.proofs.DumpsContents.{loads_said, faults_alike, alike}
 

@@ -1,23 +1,17 @@
 -- What is loaded of events that are documents' is their numbering.
-use Rattle.std.proofs.Common.{◌≡◌, ℕ, List, [], ◌∷◌, map, Option, Some, None, Result, Ok, Err, refl, ap, sym, ◌∙◌}
-use Rattle.yaml_round_content.proofs.Words.{Token, Fault, Event, Span, Stream, items, Reading, Told, reading, no_directives, BeginsWithSentence, DocumentContent, document_of, Loading, LoadStep, goes_on, loaded, nothing_loaded, step, load, behind, tokens_of, Loads, no_more, in_front, load_on, load_all, tree_documents, numbered, placed_events, tree_events, events_told, read_of, end_of}
+use Rattle.std.proofs.Common.{◌≡◌, ℕ, List, [], ◌∷◌, Option, Some, None, Result, Ok, Err, refl, ap, sym, ◌∙◌}
+use Rattle.yaml_round_content.proofs.Words.{told_by, load_of, Token, Fault, Event, Span, Stream, Reading, Told, DocumentContent, document_of, Loading, LoadStep, goes_on, loaded, nothing_loaded, step, tokens_of, Loads, no_more, in_front, load_on, load_all, tree_documents, numbered, placed_events, tree_events, events_told, read_of, end_of, numbered_one, EventsArePlaced, LoadsAreNumbered, InputsAreNumbered, by_next, LoadsAreOneByOne}
 use Rattle.yaml_round_content.proofs.TreesEnding.{fault_ends}
 use Rattle.yaml_round_content.specs.parse_laws_trees.parse_document.Documents as documents
-use Rattle.yaml_parse_loader.specs.Loading.{refused, turn}
-use Rattle.yaml_parse_loader.specs.Loading as loading
-use Rattle.yaml_round_content.specs.parse_laws_trees.NextLoad.{NextLoad, next_document, next_fault, next_none}
+use Rattle.yaml_parse_loader.specs.Loading.{refused}
+use Rattle.yaml_round_content.specs.parse_laws_trees.NextLoad.{NextLoad, next_fault}
 use Rattle.yaml_round_content.proofs.ByStep as parse
 use Rattle.yaml_round_content.proofs.NextLoads.{IsOf, load_is}
-use Rattle.yaml_round_content.specs.TreeDocuments.{numbered_one}
-use Rattle.yaml_round_content.specs.Loading.{EventsArePlaced, LoadsAreNumbered, InputsAreNumbered, by_next, LoadsAreOneByOne}
 use Rattle.yaml_round_content.proofs.Joining.{tree_read, read_is}
 use Rattle.yaml_round_content.proofs.Placed.{tree_reads}
-use Rattle.yaml_round_content.proofs.Loading.{LoadsDocuments}
+use Rattle.yaml_round_content.proofs.Loading.{LoadsDocuments, by_number}
 
 -- ---- the first document of events; how many tokens aren't asked for counts for nothing
-
-abbrev bare : List Event → List Told
-bare es = map (λ (e : Event). (e, 0)) es
 
 on_alike : (c : LoadStep) (p q : Loading → Loads) → ((l : Loading) → p l ≡ q l)
     → load_on c p ≡ load_on c q
@@ -26,77 +20,37 @@ on_alike (loaded d) p q h = ap (λ (x : Loads). in_front d.nodes d x) (h nothing
 on_alike (refused f) p q h = refl
 
 counts_aside : (gs : List Told) (f : Option Fault) (l : Loading)
-    → load_all gs f l ≡ load_all (bare (events_told gs)) f l
+    → load_all gs f l ≡ load_all (told_by (events_told gs)) f l
 unfolding load_all
 counts_aside [] f l = refl
-counts_aside (g ∷ gs) f l = on_alike (step g.0 l) (load_all gs f) (load_all (bare (events_told gs)) f) (λ m. counts_aside gs f m)
-
-document_turn : (fed : LoadStep) (es : List Event) (f : Option Fault) (d : documents.Document)
-    (rest : List Event)
-    → ((m : Loading) → load es m ≡ loading.document d rest → load_all (bare es) f m
-    ≡ in_front d.nodes d (load_all (bare rest) f nothing_loaded))
-    → turn fed (load es) es ≡ loading.document d rest
-    → load_on fed (load_all (bare es) f)
-    ≡ in_front d.nodes d (load_all (bare rest) f nothing_loaded)
-document_turn (goes_on m) es f d rest next e = next m e
-document_turn (loaded c) es f d rest next e =
-    let p : c ≡ d = cc in
-    let q : es ≡ rest = cc in
-    ap (λ (x : documents.Document). in_front x.nodes x (load_all (bare es) f nothing_loaded)) p ∙ ap (λ (xs : List Event). in_front d.nodes d (load_all (bare xs) f nothing_loaded)) q
-document_turn (refused g) es f d rest next e = absurd (cc)
-
-document_told : (es : List Event) (l : Loading) (f : Option Fault) (d : documents.Document)
-    (rest : List Event) → load es l ≡ loading.document d rest
-    → load_all (bare es) f l ≡ in_front d.nodes d (load_all (bare rest) f nothing_loaded)
-unfolding load load_all
-document_told [] l f d rest e = absurd (cc)
-document_told (x ∷ es) l f d rest e = document_turn (step x l) es f d rest (λ m h. document_told es m f d rest h) e
-
-fault_turn : (fed : LoadStep) (es : List Event) (f : Option Fault) (g : Fault)
-    → ((m : Loading) → load es m ≡ loading.faulty g → load_all (bare es) f m ≡ no_more (Some g))
-    → turn fed (load es) es ≡ loading.faulty g
-    → load_on fed (load_all (bare es) f) ≡ no_more (Some g)
-fault_turn (goes_on m) es f g next e = next m e
-fault_turn (loaded c) es f g next e = absurd (cc)
-fault_turn (refused h) es f g next e = let p : h ≡ g = cc in ap (λ (x : Fault). no_more (Some x)) p
-
-fault_told : (es : List Event) (l : Loading) (f : Option Fault) (g : Fault)
-    → load es l ≡ loading.faulty g → load_all (bare es) f l ≡ no_more (Some g)
-unfolding load load_all
-fault_told [] l f g e = absurd (cc)
-fault_told (x ∷ es) l f g e = fault_turn (step x l) es f g (λ m h. fault_told es m f g h) e
+counts_aside (g ∷ gs) f l = on_alike (step g.0 l) (load_all gs f) (load_all (told_by (events_told gs)) f) (λ m. counts_aside gs f m)
 
 -- ---- documents
 
-by_number : (r : Result documents.Document Fault) (es rest : List Event) (l : Loading)
-    (more : Loads) → load es l ≡ behind r (λ e. loading.document e rest)
-    → load_all (bare rest) None nothing_loaded ≡ more
-    → load_all (bare es) None l ≡ numbered_one r more
-by_number (Ok d) es rest l more e h = document_told es l None d rest e ∙ ap (λ (x : Loads). in_front d.nodes d x) h
-by_number (Err g) es rest l more e h = fault_told es l None g e
+numbered_is : (r : Result documents.Document Fault) (more : Loads)
+    → load_of r more ≡ numbered_one r more
+numbered_is (Ok d) more = refl
+numbered_is (Err f) more = refl
 
 each_numbered : LoadsDocuments → (ds : List DocumentContent) (s : Span)
-    → load_all (bare (placed_events ds s)) None nothing_loaded ≡ numbered ds
+    → load_all (told_by (placed_events ds s)) None nothing_loaded ≡ numbered ds
 unfolding load_all
 each_numbered loads [] s = refl
 each_numbered loads (d ∷ ds) s =
     by_number (document_of d) (placed_events (d ∷ ds) s) (placed_events ds s) nothing_loaded (numbered ds) (loads d (placed_events ds s) nothing_loaded) (each_numbered loads ds s)
+    ∙ numbered_is (document_of d) (numbered ds)
 
 -- ---- a source
 
-right_of : (ts : List Token) (own : Option Fault) (b : BeginsWithSentence ts)
-    → (reading (items b.tree b.rest) None no_directives).ending ≡ None
-right_of ts own b = ap (λ (r : Reading). r.ending) (sym (tree_read ts own b)) ∙ fault_ends ts own None b
-
 pub events_placed : EventsArePlaced
-events_placed ts own b = ap (λ (r : Reading). events_told r.events) (tree_read ts own b) ∙ tree_reads b.tree b.rest (right_of ts own b)
+events_placed ts own b = ap (λ (r : Reading). events_told r.events) (tree_read ts own b) ∙ tree_reads b.tree b.rest (ap (λ (r : Reading). r.ending) (sym (tree_read ts own b)) ∙ fault_ends ts own None b)
 
 start_aside : (t : Stream) (es : List Event) (rest : List Token) → es ≡ tree_events t rest
-    → load_all (bare es) None nothing_loaded
-    ≡ load_all (bare (placed_events (tree_documents t rest) (end_of t.documents))) None
+    → load_all (told_by es) None nothing_loaded
+    ≡ load_all (told_by (placed_events (tree_documents t rest) (end_of t.documents))) None
     nothing_loaded
 unfolding load_all
-start_aside t es rest e = ap (λ (xs : List Event). load_all (bare xs) None nothing_loaded) e
+start_aside t es rest e = ap (λ (xs : List Event). load_all (told_by xs) None nothing_loaded) e
 
 pub loads_numbered : LoadsDocuments → LoadsAreNumbered
 loads_numbered loads ts own b =
@@ -126,8 +80,7 @@ first_on : (c : LoadStep) (gs : List Told) (f : Option Fault) (n : ℕ)
     → ((m : Loading) → load_all gs f m ≡ by_first (parse.loads gs f m) f)
     → load_on c (load_all gs f) ≡ by_first (parse.load_on c (parse.loads gs f) gs n) f
 first_on (goes_on m) gs f n h = h m
-first_on (loaded d) gs f n h = refl
-first_on (refused e) gs f n h = refl
+first_on _ gs f n h = refl
 
 one_more : (gs : List Told) (f : Option Fault) (l : Loading)
     → load_all gs f l ≡ by_first (parse.loads gs f l) f
@@ -137,9 +90,8 @@ one_more (g ∷ gs) f l = first_on (step g.0 l) gs f g.1 (λ m. one_more gs f m)
 
 as_next : (n : NextLoad) (r : parse.Loads) (u : ℕ) (f : Option Fault) → IsOf n r u
     → by_first r f ≡ by_next n f
-as_next (next_document e left count) r u f h = ap (λ (x : parse.Loads). by_first x f) h
 as_next (next_fault e count) r u f h = ap (λ (x : parse.Loads). by_first x f) h.0
-as_next next_none r u f h = ap (λ (x : parse.Loads). by_first x f) h
+as_next _ r u f h = ap (λ (x : parse.Loads). by_first x f) h
 
 pub one_by_one : LoadsAreOneByOne
 one_by_one gs f unasked n h = one_more gs f nothing_loaded ∙ as_next n _ _ f (load_is gs f unasked n h)

@@ -2,16 +2,14 @@
 use Rattle.std.proofs.Common.{◌≡◌, true, List, [], ◌∷◌, ◌++◌, Option, Some, None, refl, sym, ap, subst, ◌∙◌, append_assoc}
 use Rattle.yaml_emit_laws_dumps.specs.parse_model.declared.yaml_mark_t.{yaml_mark_t}
 use Rattle.yaml_emit_laws_dumps.specs.parse_model.declared.yaml_token_type_t.{yaml_token_type_t}
-use Rattle.yaml_round_content.proofs.Words.{Token, type_of, Wants, Root, Choice, Refuse, Take, Leave, RawEvent, Properties, Shape, item_at, node_at, State, choice_at, taken_at, left_at, Fed, stop, go, with_item, given_by, turn, feed, Due, item_due, key_due, value_due, Progress, at_place, inside, behind_node}
-use Rattle.yaml_emit_laws_dumps.specs.parse_model.Tokens.{TokenBody}
+use Rattle.yaml_round_content.proofs.Words.{value_due, Token, type_of, Wants, Root, Choice, Refuse, Take, Leave, RawEvent, Properties, Shape, item_at, node_at, State, choice_at, taken_at, left_at, Fed, stop, go, with_item, given_by, feed, Due, item_due, key_due, Progress, at_place, inside, behind_node, TokenBody, IndentlessEntry, documents_taken, content_taken, node_taken, wants_of}
 use Rattle.yaml_emit_laws_dumps.specs.parse_model.Tokens as token
 use Rattle.yaml_emit_laws_dumps.specs.parse_grammar.declared.Wants.TheVariants.{Flow, Block}
 use Rattle.yaml_emit_laws_dumps.specs.parse_grammar.declared.Brackets.TheVariants as brackets
-use Rattle.yaml_emit_laws_dumps.specs.parse_grammar.declared.Site.TheVariants.{IndentlessEntry}
 use Rattle.yaml_emit_laws_dumps.specs.parse_grammar.declared.Choice.TheVariants.{Open}
 use Rattle.yaml_emit_laws_dumps.specs.parse_grammar.Items as item
 use Rattle.yaml_emit_laws_dumps.specs.parse_grammar.States as state
-use Rattle.yaml_emit_laws_dumps.specs.parse_grammar.Machine.{documents_taken, content_taken, node_taken, wants_of}
+use Rattle.yaml_emit_laws_dumps.specs.parse_grammar.Machine.{turn}
 use Rattle.yaml_emit_laws_dumps.specs.emit_layout.declared.Expected.TheVariants as at
 use Rattle.yaml_emit_laws_dumps.proofs.Rules.{MayLeave, leave_rule, opens_first, was_take}
 use Rattle.yaml_round_content.proofs.Stacks.{between, dues, shape_of, node_shape, AreRight, IsPlaced, moved_kind, moved, Leads}
@@ -120,10 +118,6 @@ taken_leads_by (state.more brackets.Sequence o) start end _ s c h = ((refl, refl
 taken_leads_by (state.more brackets.Mapping o) start end _ s c h = ((refl, refl), (sym h.0, h.1))
 taken_leads_by _ start end _ s c h = absurd (was_take _ c)
 
-taken_leads : (x : State) (t : Token) (s : List State) → choice_at x (type_of t.body) ≡ Take
-    → AreRight (x ∷ s) → Leads (shape_of (x ∷ s)) (taken_at x t).item ((taken_at x t).above ++ s)
-taken_leads x t s c h = taken_leads_by x t.start_mark t.end_mark t.body s c h
-
 -- ---- leaving a state
 
 left_leads : (x : State) (k : yaml_token_type_t) (start : yaml_mark_t) (s : List State)
@@ -186,7 +180,7 @@ turn_leads : (c : Choice) (x : State) (t : Token) (s : List State) (below : Fed)
     → choice_at x (type_of t.body) ≡ c → AreRight (x ∷ s) → FedLeads (shape_of s) below
     → FedLeads (shape_of (x ∷ s)) (turn c x t s below)
 turn_leads (Refuse p o) x t s below c h k = tt
-turn_leads Take x t s below c h k = given_leads (shape_of (x ∷ s)) (taken_at x t).item (taken_at x t).above s (taken_leads x t s c h)
+turn_leads Take x t s below c h k = given_leads (shape_of (x ∷ s)) (taken_at x t).item (taken_at x t).above s (taken_leads_by x t.start_mark t.end_mark t.body s c h)
 turn_leads Leave x t s below c h k =
     let l : Leads (shape_of (x ∷ s)) (Some (left_at x t.start_mark)) s = left_leads x (type_of t.body) t.start_mark s (leave_rule x (type_of t.body) c) h in
     with_leads (shape_of (x ∷ s)) (left_at x t.start_mark) below l.0 (subst (λ (z : Progress). FedLeads z below) (sym l.1.0) k)

@@ -1,15 +1,9 @@
 -- The events of a tree say its content.
 use Rattle.std.proofs.Common.{◌≡◌, ◌⊎◌, inl, inr, ℕ, Bool, true, false, if◌then◌else◌, ◌&&◌, ◌==◌, List, [], ◌∷◌, ◌++◌, length, map, Option, Some, None, option_map, codes, arith, refl, ap, sym, subst, ◌∙◌}
-use Rattle.std.specs.Str.{bytes_eq}
-use Rattle.std.proofs.lemmas.Bool.{cases_Bool, eqb-true, and_parts, true≢false}
-use Rattle.std.proofs.lemmas.Slice.Eq.{bytes_eq-Decides}
-use Rattle.yaml_round_content.proofs.Words.{yaml_mark_t, yaml_scalar_style_t, YAML_PLAIN_SCALAR_STYLE, Token, Fault, Event, EventBody, TagDirective, Wants, Side, Site, Properties, properties_of, spell_documents, resolved, directive_for, or_default, is_lone_mark, normalize_scalar, normalize_body, content_of, scalar_says, node_says, items_say, pairs_say, documents_say, stream_says, untagged, tagged, in_full, tag_of, anchor_of, is_plain, tags_in, tree_content, begins, placed_scalar, placed_empty, placed_node, placed_content, placed_maybe, placed_colon, placed_items, placed_more_items, placed_parts, placed_more_parts, placed_entries, placed_others, placed_pairs, placed_documents, placed_first, end_of, placed_events, tree_events, spanning, events, item_events, pair_events}
+use Rattle.yaml_round_content.proofs.Words.{bytes_eq, cases_Bool, eqb-true, and_parts, true≢false, bytes_eq-Decides, yaml_mark_t, yaml_scalar_style_t, YAML_PLAIN_SCALAR_STYLE, Token, Fault, Event, EventBody, TagDirective, Wants, Side, Site, Properties, properties_of, spell_documents, resolved, directive_for, or_default, is_lone_mark, normalize_scalar, normalize_body, content_of, scalar_says, node_says, items_say, pairs_say, documents_say, stream_says, untagged, tagged, in_full, tag_of, anchor_of, is_plain, tags_in, tree_content, begins, placed_scalar, placed_empty, placed_node, placed_content, placed_maybe, placed_colon, placed_items, placed_more_items, placed_parts, placed_more_parts, placed_entries, placed_others, placed_pairs, placed_documents, placed_first, end_of, placed_events, tree_events, spanning, events, item_events, pair_events, default_prefix, prefix_of, mark_of, empty, node_of, with_content, maybe_of, colon_of, items_of, more_items_of, parts_of, more_parts_of, entries_of, others_of, pairs_of, documents_of, behind_first, head}
 use Rattle.yaml_round_content.specs.parse_model.Events as event
 use Rattle.yaml_round_content.specs.parse_grammar.declared.Brackets.TheVariants as brackets
 use Rattle.yaml_round_content.specs.parse_grammar.Trees as tree
-use Rattle.yaml_round_content.specs.parse_grammar.Resolve.{default_prefix}
-use Rattle.yaml_round_content.specs.TreeContent.{prefix_of, mark_of, empty, node_of, with_content, maybe_of, colon_of, items_of, more_items_of, parts_of, more_parts_of, entries_of, others_of, pairs_of, documents_of, behind_first}
-use Rattle.yaml_round_content.specs.TreeDocuments.{head}
 use Rattle.yaml_parse_loader.specs.Numbering.{scalar}
 
 -- those events say that
@@ -34,7 +28,9 @@ is_mark [] value e = absurd (none (and_parts (length value == 0) false (and_part
 is_mark (a ∷ []) value e = ap (λ (b : ℕ). b ∷ []) (eqb-true a 33 (and_parts (length value == 0 && true) (a == 33) e).1)
 is_mark (a ∷ b ∷ t) value e = absurd (long a b t (and_parts (length value == 0) (length (a ∷ b ∷ t) == 1) (and_parts (length value == 0 && length (a ∷ b ∷ t) == 1) _ e).0).1)
 
-no_mark : (t value : List ℕ) → bytes_eq t (codes "!") ≡ false → is_lone_mark (Some t) value ≡ false
+-- A tag that is no `!` is no lone mark.
+pub no_mark : (t value : List ℕ) → bytes_eq t (codes "!") ≡ false
+    → is_lone_mark (Some t) value ≡ false
 no_mark t value e =
     elim (cases_Bool (is_lone_mark (Some t) value)) [
       | inr h ↦ h

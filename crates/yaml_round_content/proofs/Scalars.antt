@@ -1,9 +1,6 @@
 -- The flags of a scalar that an item settles to, and its tag: it is `!` only where the scalar is empty.
 use Rattle.std.proofs.Common.{◌≡◌, ℕ, Bool, true, false, not, if◌then◌else◌, List, [], Option, Some, None, codes, refl, inl, inr, sym, ◌∙◌}
-use Rattle.std.specs.Str.{bytes_eq}
-use Rattle.std.proofs.lemmas.Bool.{cases_Bool, true≢false}
-use Rattle.std.proofs.lemmas.Slice.Eq.{bytes_eq-Decides}
-use Rattle.yaml_round_content.proofs.Words.{yaml_encoding_t, yaml_scalar_style_t, EventBody, Shape, run, initial, no_directives, node_event, Told, is_lone_mark, tokens_of, events_of, read}
+use Rattle.yaml_round_content.proofs.Words.{bytes_eq, cases_Bool, true≢false, bytes_eq-Decides, yaml_encoding_t, yaml_scalar_style_t, EventBody, Shape, run, initial, no_directives, node_event, Told, is_lone_mark, tokens_of, events_of, read}
 use Rattle.yaml_round_content.specs.parse_model.Events as event
 use Rattle.yaml_round_content.specs.parse_grammar.Items as item
 use Rattle.yaml_round_content.specs.parse_grammar.Resolve.{is_plain}
@@ -52,8 +49,7 @@ node_right anchor None item.empty = refl
 node_right anchor (Some tag) item.empty = empty_right tag
 node_right anchor None (item.scalar value style) = flags_differ (is_plain style)
 node_right anchor (Some tag) (item.scalar value style) = tagged_right (bytes_eq tag (codes "!")) anchor tag value style refl
-node_right anchor tag (item.sequence style) = tt
-node_right anchor tag (item.mapping style) = tt
+node_right anchor tag _ = tt
 
 -- ---- the events of an input
 

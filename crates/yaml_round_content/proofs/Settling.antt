@@ -1,17 +1,14 @@
 -- What an item settles to: an event in its place in which nothing is wrong, or directives.
 use Rattle.std.proofs.Common.{◌≡◌, ℕ, ◌+◌, ℤ, Bool, true, false, not, ◌||◌, ◌==◌, if◌then◌else◌, List, [], ◌∷◌, ◌++◌, length, Option, Some, None, option_map, codes, refl, ap, ◌∙◌, arith, length-append}
-use Rattle.std.proofs.lemmas.Bool.Decides.{nat_tests}
-use Rattle.std.specs.Str.{bytes_eq}
+use Rattle.yaml_round_content.proofs.Words.{nat_tests, bytes_eq, IsSome, IsName, IsHandle, EventBody, TagDirective, RawEventBody, Kind, Directives, no_directives, Settled, refused, gave, noted, settle_body, resolved, directive_for, or_default, with_resolved, with_tag, with_version, is_known_version, behind_event, node_event, Problem, emitter_event, or_else, name_problem, anchor_problem, tag_problem, kept_if, event_problem, directives_problem, last_problem, Progress, progress_after, IsNormalizing, version_problem}
 use Rattle.yaml_emit_laws_dumps.specs.parse_model.declared.yaml_mark_t.{yaml_mark_t}
 use Rattle.yaml_emit_laws_dumps.specs.parse_model.declared.yaml_scalar_style_t.{yaml_scalar_style_t}
 use Rattle.yaml_emit_laws_dumps.specs.parse_model.declared.yaml_version_directive_t.{yaml_version_directive_t}
-use Rattle.yaml_round_content.proofs.Words.{IsSome, IsName, IsHandle, EventBody, TagDirective, RawEventBody, Kind, Directives, no_directives, Settled, refused, gave, noted, settle_body, resolved, directive_for, or_default, with_resolved, with_tag, with_version, is_known_version, behind_event, node_event, Problem, emitter_event, or_else, name_problem, anchor_problem, tag_problem, kept_if, event_problem, directives_problem, last_problem, Progress, progress_after, IsNormalizing}
 use Rattle.yaml_emit_laws_dumps.specs.parse_model.Events as event
 use Rattle.yaml_emit_laws_dumps.specs.parse_grammar.Items as item
 use Rattle.yaml_emit_laws_dumps.specs.parse_grammar.Resolve.{is_plain}
 use Rattle.yaml_emit_laws_dumps.specs.emit_layout.declared.Problem.TheVariants as problem
 use Rattle.yaml_emit_laws_dumps.specs.emit_layout.declared.Expected.TheVariants as at
-use Rattle.yaml_emit_laws_dumps.specs.emit_layout.Grammar.{version_problem}
 use Rattle.yaml_round_content.proofs.Stacks.{Expects, moved_by, moved_kind, IsPlaced, moved}
 use Rattle.yaml_round_content.proofs.Spellings.{IsNamed, IsWhole, IsSpelledItem}
 use Rattle.yaml_round_content.proofs.Emitted.{plain, IsTaken, IsOwn, or_none, normalized_taken, normalized_leads}
@@ -156,8 +153,7 @@ node_own canonical anchor None item.empty a t = (names_right (canonical || not t
 node_own canonical anchor (Some tag) item.empty a t = (names_right (canonical || not false) anchor (Some tag) a t, refl)
 node_own canonical anchor None (item.scalar value style) a t = (names_right _ anchor None a t, one_flag (is_plain style))
 node_own canonical anchor (Some tag) (item.scalar value style) a t = tagged_own (bytes_eq tag (codes "!")) canonical anchor tag value style a t
-node_own canonical anchor tag (item.sequence style) a t = (names_right _ anchor tag a t, refl)
-node_own canonical anchor tag (item.mapping style) a t = (names_right _ anchor tag a t, refl)
+node_own canonical anchor tag _ a t = (names_right _ anchor tag a t, refl)
 
 -- a tag in full isn't empty, since its suffix isn't
 some_behind : (n m : ℕ) → (m == 0) ≡ false → (n + m == 0) ≡ false

@@ -82,22 +82,20 @@ Expects h event.mapping_end = (h.place ≡ at.Node) × (h.due ≡ key_due ∷ ou
 -- what it leads to
 abbrev pub moved_by : Progress → EventBody → Progress
 moved_by h event.no = h
-moved_by h (event.stream_start encoding) = at_place between
 moved_by h event.stream_end = at_place at.End
 moved_by h (event.document_start version directives implicit) = at_place at.Node
-moved_by h (event.document_end implicit) = at_place between
 moved_by h (event.alias name) = inside (behind_node h.due)
 moved_by h (event.scalar anchor tag value plain quoted style) = inside (behind_node h.due)
 moved_by h (event.sequence_start anchor tag implicit style) = inside (item_due ∷ behind_node h.due)
 moved_by h event.sequence_end = inside (outer_due h.due)
 moved_by h (event.mapping_start anchor tag implicit style) = inside (key_due ∷ behind_node h.due)
 moved_by h event.mapping_end = inside (outer_due h.due)
+moved_by h _ = at_place between
 
 abbrev pub moved_kind : Progress → Kind → Progress
-moved_kind h item.empty = inside (behind_node h.due)
-moved_kind h (item.scalar value style) = inside (behind_node h.due)
 moved_kind h (item.sequence style) = inside (item_due ∷ behind_node h.due)
 moved_kind h (item.mapping style) = inside (key_due ∷ behind_node h.due)
+moved_kind h _ = inside (behind_node h.due)
 
 -- the same of an item; a directive gives no event, and moves nothing
 abbrev pub IsPlaced : Progress → RawEventBody → Type 0
@@ -109,10 +107,9 @@ IsPlaced h (item.node anchor tag kind) = h.place ≡ at.Node
 
 abbrev pub moved : Progress → RawEventBody → Progress
 moved h (item.event body) = moved_by h body
-moved h (item.version_directive major minor) = h
-moved h (item.tag_directive handle prefix) = h
 moved h (item.document implicit) = at_place at.Node
 moved h (item.node anchor tag kind) = moved_kind h kind
+moved h _ = h
 
 -- an item or none comes in its right place, and leads to that stack
 abbrev pub Leads : Progress → Option RawEvent → List State → Type 0

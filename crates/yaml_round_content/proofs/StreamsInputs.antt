@@ -1,21 +1,14 @@
 -- The events of an input.
 use Rattle.std.proofs.Common.{◌≡◌, ℕ, Bool, true, List, [], ◌∷◌, None}
 use Rattle.yaml_emit_laws_dumps.specs.parse_model.declared.yaml_encoding_t.{yaml_encoding_t}
-use Rattle.yaml_round_content.proofs.Words.{scanned, AreSpelled, EventBody, Told, emitter_event, own_problem, own_problems, first_progress, adapted, IsNormalizing, emitter_events_by}
+use Rattle.yaml_round_content.proofs.Words.{scanned, EventBody, Told, emitter_event, own_problem, own_problems, first_progress, adapted, IsNormalizing, emitter_events_by, AreRightTold, streams, fronts, own_right, or_both, IsRightReading, parsed_input, InputsAreStreams, InputsAreFronts, InputsLoadRight}
 use Rattle.yaml_round_laws_adapted.proofs.Inputs.{scanned_spelled}
-use Rattle.yaml_emit_laws_dumps.specs.StreamsLaws.{AreRightTold}
-use Rattle.yaml_emit_laws_dumps.proofs.Passing.{streams, fronts, own_right, or_both}
 use Rattle.yaml_emit_laws_dumps.proofs.Loading.{taken}
-use Rattle.yaml_round_content.specs.StreamsLaws.{IsRightReading, parsed_input, InputsAreStreams, InputsAreFronts, InputsLoadRight}
 use Rattle.yaml_round_content.proofs.Tokens.{cut_spelled}
 use Rattle.yaml_round_content.proofs.Emitted.{unchanged}
 use Rattle.yaml_round_content.proofs.Whole.{parsed_is_right}
 
 -- ---- its tokens
-
-adapted_spelled : (from : yaml_encoding_t) (input : List ℕ)
-    → AreSpelled (adapted (scanned from input)).tokens
-adapted_spelled from input = cut_spelled (scanned from input).fault (scanned from input).tokens (scanned_spelled from input)
 
 -- ---- its events
 
@@ -23,7 +16,7 @@ input_right : (normalize : EventBody → EventBody) → IsNormalizing normalize
     → (from : yaml_encoding_t) (input : List ℕ) (canonical : Bool)
     → IsRightReading canonical (emitter_events_by normalize (parsed_input from input).events)
     (parsed_input from input).ending
-input_right normalize e from input canonical = parsed_is_right normalize e (adapted (scanned from input)).tokens (adapted_spelled from input) (adapted (scanned from input)).fault canonical
+input_right normalize e from input canonical = parsed_is_right normalize e (adapted (scanned from input)).tokens (cut_spelled (scanned from input).fault (scanned from input).tokens (scanned_spelled from input)) (adapted (scanned from input)).fault canonical
 
 pub inputs_are_streams : InputsAreStreams
 inputs_are_streams normalize e from input canonical n =

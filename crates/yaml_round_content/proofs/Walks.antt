@@ -1,19 +1,15 @@
 -- What a document says looks at no style and no mark.
-use Rattle.std.proofs.Common.{◌≡◌, ℕ, zero, suc, ℤ, pos, negsuc, Bool, true, false, List, [], ◌∷◌, length, map, replicate, Option, Some, refl, sym, ap, ◌∙◌}
-use Rattle.std.specs.Prelude.{slice_get, if◌then◌else◌}
+use Rattle.std.proofs.Common.{◌≡◌, ℕ, zero, suc, ℤ, pos, Bool, true, false, List, [], ◌∷◌, length, map, replicate, Option, Some, refl, sym, ap, ◌∙◌}
+use Rattle.yaml_round_content.proofs.Words.{slice_get, if◌then◌else◌, length-map, yaml_node_pair_t, zero_mark, graph_content, Node, Nodes, Pairs, Document, node, pair, sequence, mapping, tree_of, trees_of, pair_trees_of, document_tree, CoreNode, Core, core_body, core_node, core_of, Met, is_met, meet, body_at, tag_at, body_of_id, tag_of_id, none_met, turns, none_numbered, numbers, number_at, document_trees, AgreeingSayTheSame}
 use Rattle.std.proofs.Math.Path.{fun_ext}
-use Rattle.std.proofs.lemmas.List.{length-map}
-use Rattle.yaml_round_content.proofs.Words.{yaml_node_pair_t, zero_mark, graph_content, Node, Nodes, Pairs, Document, node, pair, sequence, mapping, tree_of, trees_of, pair_trees_of, document_tree, CoreNode, Core, core_body, core_node, core_of}
 use Rattle.yaml_round_content.specs.parse_model.Nodes as model
 use Rattle.yaml_round_content.specs.parse_laws_trees.parse_document.Documents as documents
 use Rattle.yaml_round_content.specs.emit_layout.Content as emit
 use Rattle.yaml_round_content.specs.emit_laws_dumps.emit_graph.declared.Turn.{Turn}
 use Rattle.yaml_round_content.specs.emit_laws_dumps.emit_graph.declared.Turn.TheVariants.{First, Again}
-use Rattle.yaml_round_content.specs.emit_laws_dumps.emit_graph.Graph.{Met, is_met, meet, body_at, tag_at, body_of_id, tag_of_id, none_met, turns, none_numbered, numbered, numbers, number_at, anchor_of, graph_root}
+use Rattle.yaml_round_content.specs.emit_laws_dumps.emit_graph.Graph.{numbered, anchor_of}
 use Rattle.yaml_round_content.specs.emit_laws_dumps.emit_graph.Onward.{Rest, inside, visits, nothing_left, items_by, pairs_by, node_by, content_by, itself, turns_onward, root_onward}
 use Rattle.yaml_round_content.proofs.ContentJoining.{turns_joined, root_joined}
-use Rattle.yaml_round_content.specs.Trees.{document_trees}
-use Rattle.yaml_round_content.specs.DumpsLoads.{AgreeingSayTheSame}
 
 -- ---- a document of its core: the styles are the ones that stand for any, and the marks are zero
 
@@ -51,14 +47,12 @@ got_tag (n ∷ ns) zero = refl
 got_tag (n ∷ ns) (suc k) = got_tag ns k
 
 bare_body : (ns : List model.Node) (id : ℤ) → body_of_id (bare ns) id ≡ core_body (body_of_id ns id)
-bare_body ns (pos zero) = refl
 bare_body ns (pos (suc k)) = got_body ns k
-bare_body ns (negsuc k) = refl
+bare_body ns _ = refl
 
 bare_tag : (ns : List model.Node) (id : ℤ) → tag_of_id (bare ns) id ≡ tag_of_id ns id
-bare_tag ns (pos zero) = refl
 bare_tag ns (pos (suc k)) = got_tag ns k
-bare_tag ns (negsuc k) = refl
+bare_tag ns _ = refl
 
 -- ---- the walk
 
@@ -134,10 +128,9 @@ module _ (u v : Making) (same : SameMaking u v) where
   made_same : (anchor : Option (List ℕ)) (tag : List ℕ) (b : model.NodeBody)
       (r s : emit.Node → Met → emit.Node) (m : Met) → SameNode r s
       → tree_of (node_by u anchor tag b r m) ≡ tree_of (node_by v anchor tag (core_body b) s m)
-  made_same anchor tag model.no r s m h = h.goes _ _ m refl
-  made_same anchor tag (model.scalar value style) r s m h = h.goes _ _ m refl
   made_same anchor tag (model.sequence items style) r s m h = items_same items _ _ m record { goes = λ x y n e. h.goes _ _ n (ap (λ (t : Nodes). sequence anchor (Some tag) t) e) }
   made_same anchor tag (model.mapping pairs style) r s m h = pairs_same pairs _ _ m record { goes = λ x y n e. h.goes _ _ n (ap (λ (t : Pairs). mapping anchor (Some tag) t) e) }
+  made_same anchor tag _ r s m h = h.goes _ _ m refl
 
 either_same : (b : Bool) (x y z w : emit.Node) → tree_of x ≡ tree_of z → tree_of y ≡ tree_of w
     → tree_of (if b then x else y) ≡ tree_of (if b then z else w)
@@ -162,9 +155,6 @@ making_onward ns =
     ∙ ap (λ (k : ℕ). tree_of (content_by (suc k) (numbers (bare ns)) ns (pos 1) itself (replicate k false))) (length_bare ns)
     ∙ (making_same (suc (length (bare ns))) (numbers (bare ns)) ns).goes (pos 1) itself itself (none_met (bare ns)) record { goes = λ v w m e. e }
 
-root_same : (ns : List model.Node) → tree_of (graph_root ns) ≡ tree_of (graph_root (bare ns))
-root_same ns = ap tree_of (sym (root_joined ns)) ∙ making_onward ns ∙ ap tree_of (root_joined (bare ns))
-
 -- ---- documents
 
 -- what a document says, by its core
@@ -172,7 +162,7 @@ abbrev said_of : Core → Document
 said_of c = document_tree (graph_content (dressed c))
 
 said_same : (d : documents.Document) → document_tree (graph_content d) ≡ said_of (core_of d)
-said_same d = ap (λ (n : Node). let e : Document = record { version = d.version; directives = d.directives; root = n } in e) (root_same d.nodes)
+said_same d = ap (λ (n : Node). let e : Document = record { version = d.version; directives = d.directives; root = n } in e) (ap tree_of (sym (root_joined d.nodes)) ∙ making_onward d.nodes ∙ ap tree_of (root_joined (bare d.nodes)))
 
 all_said : (ds : List documents.Document)
     → document_trees (map graph_content ds) ≡ map said_of (map core_of ds)

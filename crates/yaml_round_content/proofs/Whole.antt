@@ -1,10 +1,7 @@
 -- The events of a list of well spelled tokens, from the first to the last.
 use Rattle.std.proofs.Common.{◌≡◌, Bool, List, [], ◌∷◌, Option, None, refl, sym, ap, subst, ◌∙◌}
-use Rattle.yaml_round_content.proofs.Words.{Fault, EventBody, Given, run, initial, Directives, no_directives, Settled, refused, gave, noted, settle, Reading, read_on, reading, emitter_event, Progress, first_progress, progress_after, problem_in, IsNormalizing, emitter_events_by}
+use Rattle.yaml_round_content.proofs.Words.{Fault, EventBody, Given, run, initial, Directives, no_directives, Settled, refused, gave, noted, settle, Reading, read_on, reading, emitter_event, Progress, first_progress, progress_after, problem_in, IsNormalizing, emitter_events_by, first_refusal, progress_behind, ParsedIsRight}
 use Rattle.yaml_emit_laws_dumps.specs.emit_layout.declared.Expected.TheVariants as at
-use Rattle.yaml_emit_laws_dumps.specs.emit_layout.Progress.{first_refusal}
-use Rattle.yaml_emit_laws_dumps.specs.StreamsLaws.{progress_behind}
-use Rattle.yaml_round_content.specs.StreamsLaws.{ParsedIsRight}
 use Rattle.yaml_round_content.proofs.Stacks.{moved}
 use Rattle.yaml_round_content.proofs.Runs.{GivenPlaced, moved_given, GivenSpelled, stream_places, stream_spelled}
 use Rattle.yaml_round_content.proofs.Emitted.{plain, plain_same, not_end, or_none, normalized_own, no_problem}

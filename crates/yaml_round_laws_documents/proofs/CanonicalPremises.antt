@@ -1,16 +1,7 @@
 -- What a parser asks of directives, and that those that may be written have it.
 use Rattle.std.proofs.Common.{◌≡◌, ℕ, true, false, List, [], ◌∷◌, ◌++◌, Option, Some, None, refl, bytes_eq}
-use Rattle.std.specs.List.{list_any}
-use Rattle.std.proofs.lemmas.Bool.{or_parts}
+use Rattle.yaml_round_laws_documents.proofs.Words.{list_any, or_parts, TagDirective, is_known_version, directive_for, split_tag, Opening, or_else, is_version, version_problem, handle_problem, prefix_problem, has_handle, twice_problem, directive_problem, directives_problem, opening_problem, resolved_split, or_first, none_true, or_second, none_all}
 use Rattle.yaml_round_content.specs.parse_model.declared.yaml_version_directive_t.{yaml_version_directive_t}
-use Rattle.yaml_round_content.specs.parse_model.Events.{TagDirective}
-use Rattle.yaml_round_content.specs.parse_grammar.Resolve.{is_known_version, directive_for}
-use Rattle.yaml_emit_laws_text.specs.emit_layout.emit_tags.Tags.{split_tag}
-use Rattle.yaml_emit_laws_text.specs.emit_layout.Content.{Opening}
-use Rattle.yaml_emit_laws_text.specs.emit_layout.Grammar.{or_else, is_version, version_problem, handle_problem, prefix_problem, has_handle, twice_problem, directive_problem, directives_problem, opening_problem}
-use Rattle.yaml_emit_laws_text.specs.TagsLaws.{resolved_split}
-use Rattle.yaml_emit_laws_text.proofs.Resolving.{or_first, none_true, or_second}
-use Rattle.yaml_emit_laws_text.proofs.Joining.{none_all}
 
 -- under the directives each tag is resolved as it was
 abbrev pub Resolves : List TagDirective → Type 0

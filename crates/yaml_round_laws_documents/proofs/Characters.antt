@@ -1,16 +1,9 @@
 -- Which characters canonical text is made of: each is one that a stream may hold.
 use Rattle.std.proofs.Common.{◌≡◌, ◌⊎◌, inl, inr, ℕ, zero, suc, ◌+◌, ◌/◌, ◌%◌, ◌<◌, ◌≤◌, Bool, true, false, not, ◌&&◌, ◌||◌, ◌==◌, nat_lt, nat_le, List, [], ◌∷◌, ◌++◌, drop, refl, sym, subst, arith, encode_utf8, encode_utf8_all, if◌then◌else◌, IsUtf8}
-use Rattle.std.specs.List.{AllPass, list_all}
-use Rattle.std.proofs.lemmas.List.Elements.{All-nil, All-cons}
-use Rattle.std.proofs.lemmas.Bool.{cases_Bool, cases_lt, and_parts, or_parts, not-false, eqb-true, ltb-true}
-use Rattle.std.proofs.lemmas.Bool.Decides.{nat_tests}
+use Rattle.yaml_round_laws_documents.proofs.Words.{AllPass, list_all, All-nil, All-cons, cases_Bool, cases_lt, and_parts, or_parts, not-false, eqb-true, ltb-true, nat_tests, is_alpha_byte, is_digit_byte, is_break, is_printable, needs_escape, escape_letter, escape_text, hex_4, hex_8, suffix_keeps, prefix_keeps, keeps_byte, uri_byte, uri_text}
 use lib.Utf8.{scalar, scalars, encode}
-use Rattle.yaml_round_laws_documents.specs.emit_laws_text.scan_model.Classes.{is_alpha_byte, is_digit_byte}
 use Rattle.yaml_emit_laws_text.specs.scan_history.scan_decode.Characters.{is_allowed}
-use Rattle.yaml_emit_laws_text.specs.emit_text.Text.{is_break}
-use Rattle.yaml_emit_laws_text.specs.emit_text.Quoted.{is_printable, needs_escape, escape_letter, escape_text, hex_4, hex_8}
 use Rattle.yaml_emit_laws_text.specs.emit_text.Hex.{hex_digit, hex_2}
-use Rattle.yaml_emit_laws_text.specs.emit_layout.emit_tags.Tags.{suffix_keeps, prefix_keeps, keeps_byte, uri_byte, uri_text}
 use Rattle.yaml_emit_laws_text.proofs.Pieces.{top_of}
 
 abbrev pub Fits : ℕ → Type 0

@@ -1,29 +1,15 @@
 -- Trees of documents.
 use Rattle.std.proofs.Common.{◌≡◌, ℕ, Bool, true, false, not, ◌&&◌, ◌||◌, List, [], ◌∷◌, ◌++◌, length, Option, Some, None, refl, sym, ap, ◌∙◌, append_assoc, append-nil}
-use Rattle.yaml_round_content.specs.parse_model.declared.yaml_mark_t.{yaml_mark_t}
+use Rattle.yaml_round_laws_documents.proofs.Words.{yaml_mark_t, Token, TokenBody, EventBody, TagDirective, Fault, Block, Span, token_at, Given, spell_node, spell_directives, spell_ends, spell_documents, there, no_first, items_node, items_directives, items_ends, items_documents, items, Directives, no_directives, Reading, Settled, gave, noted, settle, read_on, reading, with_version, with_tag, is_known_version, Opening, Document, is_directed, opening_problem, node_bodies, version_bodies, directives_bodies, end_bodies, documents_bodies, node_reads, begins_directed, documents_reads, token_bodies, event_bodies, SaysTree, HasNoMark, AreParsable, parsed_of, NodesAreParsed, CanonicalTokensAreParsed, tags_resolve}
 use Rattle.yaml_round_content.specs.parse_model.declared.yaml_version_directive_t.{yaml_version_directive_t}
-use Rattle.yaml_emit_laws_text.specs.scan_model.Tokens.{Token, TokenBody}
 use Rattle.yaml_emit_laws_text.specs.scan_model.Tokens as token
-use Rattle.yaml_round_content.specs.parse_model.Events.{EventBody, TagDirective}
 use Rattle.yaml_round_content.specs.parse_model.Events as event
-use Rattle.yaml_emit_laws_text.specs.scan_model.Faults.{Fault}
-use Rattle.yaml_round_content.specs.parse_grammar.declared.name.Wants.TheVariants.{Block}
 use Rattle.yaml_round_content.specs.parse_grammar.Items as item
-use Rattle.yaml_round_content.specs.parse_grammar.Trees.{Span, token_at, Given, spell_node, spell_directives, spell_ends, spell_documents, there, no_first}
-use Rattle.yaml_round_content.specs.parse_grammar.TreeSteps.{items_node, items_directives, items_ends, items_documents, items}
 use Rattle.yaml_round_content.specs.parse_grammar.Trees as trees
 use Rattle.yaml_round_content.specs.parse_grammar.Machine.{Outcome}
-use Rattle.yaml_round_content.specs.parse_grammar.Resolve.{Directives, no_directives, Reading, Settled, gave, noted, settle, read_on, reading, with_version, with_tag, is_known_version}
 use Rattle.yaml_round_content.specs.parse_grammar.Remaining.{reading_of}
 use Rattle.yaml_round_content.proofs.CompleteStream.{stream_runs}
-use Rattle.yaml_emit_laws_text.specs.emit_layout.Content.{Opening, Document}
-use Rattle.yaml_emit_laws_text.specs.emit_layout.Nodes.{is_directed}
-use Rattle.yaml_emit_laws_text.specs.emit_layout.Grammar.{opening_problem}
-use Rattle.yaml_emit_laws_text.specs.Bodies.{node_bodies, version_bodies, directives_bodies, end_bodies, documents_bodies}
-use Rattle.yaml_round_laws_documents.specs.Reads.{node_reads, begins_directed, documents_reads}
-use Rattle.yaml_round_laws_documents.specs.TreeLaws.{token_bodies, event_bodies, SaysTree, HasNoMark, AreParsable, parsed_of, NodesAreParsed, CanonicalTokensAreParsed}
 use Rattle.yaml_round_laws_documents.proofs.CanonicalPremises.{IsFineVersion, AreFineTags, Resolves, fine_version, fine_tags}
-use Rattle.yaml_emit_laws_text.proofs.Resolving.{tags_resolve}
 use Rattle.yaml_round_laws_documents.proofs.Growing.{take, nodes_grown, on_says}
 
 -- Where nothing is wrong with a document's start, its directives resolve.

@@ -1,10 +1,7 @@
 -- A layout's bytes spell its characters.
 use Rattle.std.proofs.Common.{◌≡◌, ℕ, ◌+◌, ◌-◌, ◌/◌, ◌%◌, Bool, true, false, nat_lt, List, [], ◌∷◌, ◌++◌, refl, ap, ◌∙◌, encode_utf8, encode_utf8_all, if◌then◌else◌}
-use Rattle.yaml_round_laws_documents.specs.emit_laws_text.scan_model.declared.yaml_encoding_t.TheVariants.{YAML_UTF8_ENCODING, YAML_UTF16LE_ENCODING, YAML_UTF16BE_ENCODING}
-use Rattle.yaml_emit_laws_text.specs.scan_history.scan_decode.Spelling.{spelling, spellings, units_bytes}
+use Rattle.yaml_round_laws_documents.proofs.Words.{YAML_UTF8_ENCODING, YAML_UTF16LE_ENCODING, YAML_UTF16BE_ENCODING, spelling, spellings, units_bytes, Utf8, Utf16Le, Utf16Be, Item, letter, deep, char_bytes, unit_bytes, encode, shown}
 use Rattle.yaml_emit_laws_text.specs.scan_history.scan_decode.declared.utf16.ByteOrder.TheVariants.{LowFirst, HighFirst}
-use Rattle.yaml_emit_laws_text.specs.emit_text.declared.Encoding.TheVariants.{Utf8, Utf16Le, Utf16Be}
-use Rattle.yaml_emit_laws_text.specs.emit_text.Text.{Item, letter, deep, char_bytes, unit_bytes, encode, shown}
 use Rattle.yaml_emit_laws_text.proofs.Back.{char_encodes}
 
 -- In UTF-8 a text is what is shown of it.

@@ -1,27 +1,10 @@
 -- The documents of any input are as loading makes them: they are those of a content, as far as the input goes.
 use Rattle.std.proofs.Common.{◌≡◌, ◌++◌, ℕ, Bool, true, false, List, [], ◌∷◌, map, Option, None, refl, sym, ap, ◌∙◌}
-use Rattle.yaml_round_laws_documents.specs.emit_laws_text.scan_model.declared.yaml_encoding_t.TheVariants.{YAML_ANY_ENCODING}
-use Rattle.yaml_round_laws_documents.specs.emit_laws_text.scan_model.declared.yaml_sequence_style_t.TheVariants.{YAML_ANY_SEQUENCE_STYLE}
-use Rattle.yaml_round_laws_documents.specs.emit_laws_text.scan_model.declared.yaml_mapping_style_t.TheVariants.{YAML_ANY_MAPPING_STYLE}
-use Rattle.yaml_round_content.specs.parse_model.Events.{Event, EventBody}
+use Rattle.yaml_round_laws_documents.proofs.Words.{YAML_ANY_ENCODING, YAML_ANY_SEQUENCE_STYLE, YAML_ANY_MAPPING_STYLE, Event, EventBody, nothing_loaded, events, item_events, pair_events, events_of, ending_of, contents, ScalarMark, untagged, tagged, alias, scalar, sequence, mapping, scalar_says, node_says, items_say, pairs_say, documents_say, stream_says, written_node, written_nodes, written_pairs, InputsSayFronts, Loads, loads_of, Core, CoreNode, core_of, on_same, loads_said, as_content, as_contents, as_pairs, unplaced, content_events, told_by, events_saying, load_each, AreLoadedDocuments, ContentIsLoaded, ContentLoadsDocuments, document_loaded, AllLoadDocuments}
 use Rattle.yaml_round_content.specs.parse_model.Events as event
 use Rattle.yaml_round_content.specs.parse_laws_trees.parse_document.Documents as documents
-use Rattle.yaml_round_content.specs.parse_laws_trees.parse_loader.Loading.{nothing_loaded}
-use Rattle.yaml_round_content.specs.parse_laws_trees.parse_loader.Numbering.{events, item_events, pair_events}
-use Rattle.yaml_round_content.specs.Input.{events_of, ending_of}
-use Rattle.yaml_round_content.specs.Events.{contents}
-use Rattle.yaml_round_content.specs.Said.{ScalarMark, untagged, tagged, Node, alias, scalar, sequence, mapping, Nodes, no_nodes, node, Pairs, no_pairs, pair, Document, scalar_says, node_says, items_say, pairs_say, documents_say, stream_says}
-use Rattle.yaml_round_content.specs.Canon.{written_node, written_nodes, written_pairs}
-use Rattle.yaml_round_content.specs.ContentLaws.{InputsSayFronts}
-use Rattle.yaml_round_content.specs.Loads.{Loads, loads_of}
-use Rattle.yaml_round_content.specs.Agree.{Core, CoreNode, core_of}
+use Rattle.yaml_round_content.specs.Said.{Node, Nodes, no_nodes, node, Pairs, no_pairs, pair, Document}
 use Rattle.yaml_round_content.proofs.Core.{CoreLoading, CoreFed, core_goes_on, core_loaded, core_refused, CoreLoads, core_step, core_nothing, core_in_front, core_on, core_loads, is_fault, bodies, load_cores}
-use Rattle.yaml_round_content.proofs.DumpsContents.{on_same, loads_said}
-use Rattle.yaml_round_content.specs.emit_laws_dumps.Dumps.{as_content, as_contents, as_pairs}
-use Rattle.yaml_round_content.specs.DumpsEvents.{unplaced, content_events, told_by, events_saying, load_each, AreLoadedDocuments}
-use Rattle.yaml_round_content.specs.DumpsLaws.{ContentIsLoaded, ContentLoadsDocuments}
-use Rattle.yaml_round_content.proofs.Agreeing.{document_loaded}
-use Rattle.yaml_round_laws_documents.specs.Laws.{AllLoadDocuments}
 
 -- ---- the events of a content load what the content says, flags aside
 

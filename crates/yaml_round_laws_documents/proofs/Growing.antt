@@ -1,30 +1,16 @@
 -- Trees from the bodies of tokens.
 use Rattle.std.proofs.Common.{◌≡◌, ℕ, Bool, true, false, not, ◌&&◌, List, [], ◌∷◌, length, Option, Some, None, refl, sym, ap, subst, ◌∙◌, codes, ◌||◌, if◌then◌else◌, bytes_eq}
-use Rattle.yaml_round_content.specs.parse_model.declared.yaml_mark_t.{yaml_mark_t}
+use Rattle.yaml_round_laws_documents.proofs.Words.{yaml_mark_t, Token, TokenBody, EventBody, TagDirective, Fault, Flow, Span, token_at, PropertyTokens, Given, spell_properties, spell_node, spell_content, spell_items, spell_more, properties_of, Items, More, end_items, end_more, single, comma, there, colon, opening, closing, flow_shape, end_event, items_node, items_content, items_items, items_more, Directives, Reading, Settled, gave, settle, read_on, reading, resolved, with_resolved, node_event, Split, shorthand, verbatim, split_tag, Scalar, Node, alias_node, scalar_node, sequence_node, mapping_node, Nodes, no_nodes, node, Pairs, no_pairs, pair, has, resolved_split, tag_body, anchor_bodies, tag_bodies, mark_bodies, node_bodies, items_bodies, pairs_bodies, scalar_reads, node_reads, items_reads, pairs_reads, token_bodies, SaysTree, IsNoMark, HasNoMark, HaveNoMark, PairsHaveNoMark, Grown}
 use Rattle.yaml_round_content.specs.parse_model.declared.yaml_scalar_style_t.{yaml_scalar_style_t}
 use Rattle.yaml_round_content.specs.parse_model.declared.yaml_scalar_style_t.TheVariants.{YAML_DOUBLE_QUOTED_SCALAR_STYLE}
-use Rattle.yaml_emit_laws_text.specs.scan_model.Tokens.{Token, TokenBody}
 use Rattle.yaml_emit_laws_text.specs.scan_model.Tokens as token
-use Rattle.yaml_round_content.specs.parse_model.Events.{EventBody, TagDirective}
 use Rattle.yaml_round_content.specs.parse_model.Events as event
-use Rattle.yaml_emit_laws_text.specs.scan_model.Faults.{Fault}
 use Rattle.yaml_round_content.specs.parse_grammar.declared.name.Wants.{Wants}
-use Rattle.yaml_round_content.specs.parse_grammar.declared.name.Wants.TheVariants.{Flow}
 use Rattle.yaml_round_content.specs.parse_grammar.declared.name.Brackets.{Brackets}
 use Rattle.yaml_round_content.specs.parse_grammar.declared.name.Brackets.TheVariants as brackets
 use Rattle.yaml_round_content.specs.parse_grammar.Items.{RawEvent, Shape, Properties, node_at}
 use Rattle.yaml_round_content.specs.parse_grammar.Items as item
-use Rattle.yaml_round_content.specs.parse_grammar.Trees.{Span, token_at, PropertyTokens, Given, spell_properties, spell_node, spell_content, spell_items, spell_more, properties_of, Items, More, end_items, end_more, single, comma, there, colon, opening, closing, flow_shape, end_event}
-use Rattle.yaml_round_content.specs.parse_grammar.TreeSteps.{items_node, items_content, items_items, items_more}
 use Rattle.yaml_round_content.specs.parse_grammar.Trees as trees
-use Rattle.yaml_round_content.specs.parse_grammar.Resolve.{Directives, Reading, Settled, gave, settle, read_on, reading, resolved, with_resolved, node_event}
-use Rattle.yaml_emit_laws_text.specs.emit_layout.emit_tags.Tags.{Split, shorthand, verbatim, split_tag}
-use Rattle.yaml_emit_laws_text.specs.emit_layout.Content.{Scalar, Node, alias_node, scalar_node, sequence_node, mapping_node, Nodes, no_nodes, node, Pairs, no_pairs, pair}
-use Rattle.yaml_emit_laws_text.specs.emit_layout.Grammar.{has}
-use Rattle.yaml_emit_laws_text.specs.TagsLaws.{resolved_split}
-use Rattle.yaml_emit_laws_text.specs.Bodies.{tag_body, anchor_bodies, tag_bodies, mark_bodies, node_bodies, items_bodies, pairs_bodies}
-use Rattle.yaml_round_laws_documents.specs.Reads.{scalar_reads, node_reads, items_reads, pairs_reads}
-use Rattle.yaml_round_laws_documents.specs.TreeLaws.{token_bodies, SaysTree, IsNoMark, HasNoMark, HaveNoMark, PairsHaveNoMark, Grown}
 use Rattle.yaml_round_laws_documents.proofs.CanonicalPremises.{Resolves}
 
 -- ---- one token

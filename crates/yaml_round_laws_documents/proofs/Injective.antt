@@ -27,15 +27,11 @@ node_kind (mapping_node q pairs) = 4
 begins : (n : Node) (es : List Event) → first_kind (node_events n es) ≡ node_kind n
 unfolding node_events
 begins (alias_node name) es = refl
-begins (scalar_node x) es = refl
-begins (sequence_node q items) es = refl
-begins (mapping_node q pairs) es = refl
+begins _ es = refl
 
 no_kind : (n : Node) → node_kind n ≡ 0 → ⊥
 no_kind (alias_node name) e = absurd (cc)
-no_kind (scalar_node x) e = absurd (cc)
-no_kind (sequence_node q items) e = absurd (cc)
-no_kind (mapping_node q pairs) e = absurd (cc)
+no_kind _ e = absurd (cc)
 
 -- a node is none of the events that end one
 not_end : (n : Node) (x y : List Event) (b : Event) → kind b ≡ 0 → b ∷ x ≡ node_events n y → ⊥

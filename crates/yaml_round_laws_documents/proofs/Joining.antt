@@ -1,24 +1,9 @@
 -- Canonical bytes decode to a text of words, whose tokens pass the adapter and are parsed as the content.
 use Rattle.std.proofs.Common.{◌≡◌, ℕ, ◌<◌, ◌&&◌, nat_le, if◌then◌else◌, List, Ok, refl, sym, ap, ◌∙◌, ℤ, pos, negsuc, arith}
-use Rattle.std.proofs.lemmas.Bool.Decides.{nat_tests}
-use Rattle.yaml_round_laws_documents.specs.emit_laws_text.scan_model.declared.yaml_encoding_t.{yaml_encoding_t}
-use Rattle.yaml_round_laws_documents.specs.emit_laws_text.scan_model.declared.yaml_encoding_t.TheVariants.{YAML_ANY_ENCODING}
-use Rattle.yaml_emit_laws_text.specs.scan_history.scan_decode.Decoding.{decoded_text}
-use Rattle.yaml_round_laws_documents.specs.emit_laws_text.scan_history.Remaining.{Remaining}
+use Rattle.yaml_round_laws_documents.proofs.Words.{nat_tests, yaml_encoding_t, YAML_ANY_ENCODING, decoded_text, Remaining, adapted, contents, events_of, ending_of, read, parsed, tokens_of, stream_says, written_documents, canon, canon_encoding, SaysIsInjective, WrittenTagsAreReadable, CanonicalBytesDecode, encoding_named, canonical_text, CanonicalTokensPass, without_fault, CanonicalTokensSayContent, CanonIsScanned, CanonReadsBack, CanonTellsContents}
 use Rattle.yaml_round_laws_documents.specs.emit_laws_text.scan_history.Scanned.{scanned, scanned_in}
 use Rattle.yaml_round_laws_documents.specs.emit_laws_text.emit_layout.emit_text.Settings.{settled, settled_indent}
-use Rattle.yaml_round_laws_documents.specs.round_laws_adapted.Adapted.{adapted}
-use Rattle.yaml_round_content.specs.Events.{contents}
-use Rattle.yaml_round_content.specs.Input.{events_of, ending_of, read, parsed, tokens_of}
-use Rattle.yaml_round_content.specs.Said.{stream_says}
-use Rattle.yaml_round_content.specs.Canon.{written_documents, canon, canon_encoding}
-use Rattle.yaml_round_content.specs.ContentLaws.{SaysIsInjective}
-use Rattle.yaml_emit_laws_text.specs.TagsLaws.{WrittenTagsAreReadable}
 use Rattle.yaml_emit_laws_text.specs.TextLaws.{CanonicalTextIsRead}
-use Rattle.yaml_round_laws_documents.specs.BytesLaws.{CanonicalBytesDecode, encoding_named, canonical_text}
-use Rattle.yaml_round_laws_documents.specs.Adapting.{CanonicalTokensPass, without_fault}
-use Rattle.yaml_round_laws_documents.specs.CanonicalTokens.{CanonicalTokensSayContent}
-use Rattle.yaml_round_laws_documents.specs.Back.{CanonIsScanned, CanonReadsBack, CanonTellsContents}
 use Rattle.yaml_round_laws_documents.proofs.Premises.{are_writable, are_spellable, have_texts, are_parsable}
 
 -- ---- scanned

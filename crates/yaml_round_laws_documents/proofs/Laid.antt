@@ -1,22 +1,11 @@
 -- For the dumps of loaded documents the canonical text of what they say is laid out.
 use Rattle.std.proofs.Common.{◌≡◌, ℕ, Bool, true, List, [], ◌∷◌, map, Option, None, refl, sym, ap, subst, ◌∙◌}
-use Rattle.yaml_round_laws_documents.specs.emit_laws_text.scan_model.declared.yaml_encoding_t.TheVariants.{YAML_ANY_ENCODING}
+use Rattle.yaml_round_laws_documents.proofs.Words.{YAML_ANY_ENCODING, YAML_ANY_SCALAR_STYLE, Layout, written, own_problems, graph_scalar, graph_root, graph_content, AreRight, document_tree, canon_items, loads_of, trees_of_dumps, NodeFlagged, NodesFlagged, PairsFlagged, Normalize, normal_layout, dumped_streams, root_holds}
 use Rattle.yaml_round_laws_documents.specs.emit_laws_text.scan_model.declared.yaml_scalar_style_t.{yaml_scalar_style_t}
-use Rattle.yaml_round_laws_documents.specs.emit_laws_text.scan_model.declared.yaml_scalar_style_t.TheVariants.{YAML_ANY_SCALAR_STYLE}
 use Rattle.yaml_round_laws_documents.specs.parse_grammar.parse_model.Nodes as model
 use Rattle.yaml_round_content.specs.parse_laws_trees.parse_document.Documents.{Document}
-use Rattle.yaml_emit_laws_text.specs.emit_text.Layout.{Layout, written}
 use Rattle.yaml_emit_laws_text.specs.emit_layout.Content as emit
-use Rattle.yaml_emit_laws_text.specs.emit_layout.Grammar.{own_problems}
-use Rattle.yaml_round_content.specs.emit_laws_dumps.emit_graph.Graph.{graph_scalar, graph_root, graph_content}
-use Rattle.yaml_round_content.specs.emit_laws_dumps.StreamsLaws.{AreRight}
 use Rattle.yaml_round_content.specs.Said as content
-use Rattle.yaml_round_content.specs.Trees.{document_tree}
-use Rattle.yaml_round_content.specs.Canon.{canon_items}
-use Rattle.yaml_round_content.specs.Loads.{loads_of}
-use Rattle.yaml_round_content.specs.DumpsEvents.{trees_of_dumps}
-use Rattle.yaml_round_content.proofs.Layouts.{NodeFlagged, NodesFlagged, PairsFlagged, Normalize, normal_layout}
-use Rattle.yaml_round_content.proofs.Contents.{dumped_streams, root_holds}
 use Rattle.yaml_round_laws_documents.specs.Normal.{ended, dump_events, DumpsAreLaidOut}
 use Rattle.yaml_round_laws_documents.proofs.Sound.{documents_right}
 

@@ -3,8 +3,7 @@ use Rattle.std.proofs.Common.{ℕ, zero, suc, ◌+◌, ◌-◌, Bool, true, fals
 use Rattle.yaml_emit_laws_text.specs.emit_text.declared.Cursor.{Cursor}
 use Rattle.yaml_emit_laws_text.specs.emit_text.declared.LineBreak.{LineBreak}
 use Rattle.yaml_emit_laws_text.specs.emit_text.declared.LineBreak.TheVariants.{Lf, Cr, CrLf}
-use Rattle.yaml_emit_laws_text.specs.emit_text.Text.{Item, letter, deep, shown}
-use Rattle.yaml_emit_laws_text.specs.emit_text.Layout.{Layout, Rest, ◌▹◌, stay, choose, when, char, letters, blank, blanks, break, new_line, gap, is_white, word, opener, must_break, indent_to, line, keep}
+use Rattle.yaml_round_laws_documents.proofs.Words.{Item, letter, deep, shown, Layout, Rest, ◌▹◌, stay, choose, when, char, letters, blank, blanks, break, new_line, gap, is_white, word, opener, must_break, indent_to, line, keep}
 use Rattle.yaml_round_laws_documents.proofs.Characters.{Fits, AllFit, is_32, feed_fits, return_fits}
 
 abbrev pub Allowed : List Item → Type 0

@@ -1,23 +1,11 @@
 -- Handles, tags, directives and quoted scalars.
 use Rattle.std.proofs.Common.{◌≡◌, ℕ, ◌-◌, ◌<◌, Bool, true, false, not, ◌&&◌, ◌==◌, List, [], ◌∷◌, ◌++◌, length, take, drop, get_or, Option, Some, None, refl, sym, ap, subst, ◌∙◌, arith, if◌then◌else◌, IsUtf8, codes, chars}
-use Rattle.std.specs.List.{list_all}
-use Rattle.std.proofs.lemmas.Str.{scalars-chars}
-use Rattle.std.proofs.lemmas.Bool.{and_parts, eqb-true, not-false}
-use Rattle.yaml_round_laws_documents.specs.emit_laws_text.scan_model.Classes.{is_alpha_byte}
-use Rattle.yaml_emit_laws_text.specs.scan_model.declared.yaml_version_directive_t.{yaml_version_directive_t}
-use Rattle.yaml_round_content.specs.parse_model.Events.{TagDirective}
-use Rattle.yaml_emit_laws_text.specs.emit_text.declared.Settings.{Settings}
+use Rattle.yaml_round_laws_documents.proofs.Words.{list_all, scalars-chars, and_parts, eqb-true, not-false, is_alpha_byte, yaml_version_directive_t, TagDirective, Settings, Layout, ◌▹◌, choose, when, char, letters, blanks, new_line, gap, word, is_past, needs_escape, escape_text, first, is_empty, may_fold, fold, escaped, quoted_char, quoted_body, double_quoted, has_shorter_prefix, defines, primary, secondary, unless_defined, defaults, in_force, split_by, spelled, tag_spelling, uri_text, or_else, between, inner_problem, ends_problem, handle_problem, prefix_problem, twice_problem, directive_problem, directives_problem, Context, anchor_text, tag_text, version_word, version_text, directive_text, directives_text, line_at, IsNameOption, IsTextOption, or_first, or_second, none_all, if_none, last_rest, long_rest}
 use Rattle.yaml_emit_laws_text.specs.emit_text.declared.page.Page.{Page}
-use Rattle.yaml_emit_laws_text.specs.emit_text.Layout.{Layout, ◌▹◌, choose, when, char, letters, blanks, new_line, gap, word, is_past}
-use Rattle.yaml_emit_laws_text.specs.emit_text.Quoted.{needs_escape, escape_text, first, is_empty, may_fold, fold, escaped, quoted_char, quoted_body, double_quoted}
-use Rattle.yaml_emit_laws_text.specs.emit_layout.emit_tags.Tags.{has_shorter_prefix, directive_for, defines, primary, secondary, unless_defined, defaults, in_force, split_by, spelled, tag_spelling, uri_text}
-use Rattle.yaml_emit_laws_text.specs.emit_layout.Grammar.{or_else, between, inner_problem, ends_problem, handle_problem, prefix_problem, twice_problem, directive_problem, directives_problem}
-use Rattle.yaml_emit_laws_text.specs.emit_layout.Nodes.{Context, anchor_text, tag_text, version_word, version_text, directive_text, directives_text, line_at}
-use Rattle.yaml_round_laws_documents.specs.BytesLaws.{IsNameOption, IsTextOption, HavePrefixes}
+use Rattle.yaml_emit_laws_text.specs.emit_layout.emit_tags.Tags.{directive_for}
+use Rattle.yaml_round_laws_documents.specs.BytesLaws.{HavePrefixes}
 use Rattle.yaml_round_laws_documents.proofs.Characters.{Fits, AllFit, AreChars, AreBytes, all_append, graphic, is_32, names_fit, escape_fits, raw_fits, uri_fits, bytes_drop, utf8_bytes, scalars_below}
 use Rattle.yaml_round_laws_documents.proofs.Layouts.{Tame, both, stay_tame, choose_tame, when_tame, char_tame, letters_tame, blanks_tame, new_line_tame, gap_tame, word_tame, line_tame}
-use Rattle.yaml_emit_laws_text.proofs.Resolving.{or_first, or_second}
-use Rattle.yaml_emit_laws_text.proofs.Joining.{none_all, if_none, last_rest, long_rest}
 
 -- ---- handles
 

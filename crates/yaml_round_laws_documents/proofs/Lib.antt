@@ -1,3 +1,4 @@
+mod Words
 pub mod Saying
 pub mod Premises
 pub mod Joining
@@ -40,3 +41,5 @@ pub use Rattle.yaml_round_content.proofs.Utf8
 pub use Rattle.yaml_round_content.proofs.Injective as ContentInjective
 pub use Rattle.yaml_round_content.proofs.WritableContents
 pub use Rattle.yaml_round_content.proofs.Naming
+pub use Rattle.yaml_round_content.proofs.Saying as ContentSaying
+pub use Rattle.yaml_round_content.proofs.Trees as ContentTrees

@@ -1,16 +1,6 @@
 -- What tells the encoding: canonical text in UTF-8 begins with no mark.
 use Rattle.std.proofs.Common.{◌≡◌, ℕ, ◌<◌, true, false, List, [], ◌∷◌, drop, Option, Some, None, refl, arith, nat_eq}
-use Rattle.std.proofs.lemmas.Bool.Decides.{nat_tests}
-use Rattle.yaml_round_laws_documents.specs.emit_laws_text.scan_model.declared.yaml_encoding_t.TheVariants.{YAML_ANY_ENCODING, YAML_UTF8_ENCODING, YAML_UTF16LE_ENCODING, YAML_UTF16BE_ENCODING}
-use Rattle.yaml_emit_laws_text.specs.scan_model.declared.yaml_version_directive_t.{yaml_version_directive_t}
-use Rattle.yaml_emit_laws_text.specs.scan_history.scan_decode.Encodings.{encoding_of, mark_length}
-use Rattle.yaml_round_content.specs.parse_model.Events.{TagDirective}
-use Rattle.yaml_emit_laws_text.specs.emit_text.declared.Encoding.TheVariants.{Utf8, Utf16Le, Utf16Be}
-use Rattle.yaml_emit_laws_text.specs.emit_text.declared.Settings.{Settings}
-use Rattle.yaml_emit_laws_text.specs.emit_text.Text.{Item, letter, char_bytes, encode}
-use Rattle.yaml_emit_laws_text.specs.emit_text.Layout.{Rest, ◌▹◌, letters, blanks, line, start, written}
-use Rattle.yaml_emit_laws_text.specs.emit_layout.Content.{Document}
-use Rattle.yaml_emit_laws_text.specs.emit_layout.Nodes.{version_text, directives_text, dashes, start_layout, stop_layout, documents_layout}
+use Rattle.yaml_round_laws_documents.proofs.Words.{nat_tests, YAML_ANY_ENCODING, YAML_UTF8_ENCODING, YAML_UTF16LE_ENCODING, YAML_UTF16BE_ENCODING, yaml_version_directive_t, encoding_of, mark_length, TagDirective, Utf8, Utf16Le, Utf16Be, Settings, Item, letter, char_bytes, encode, Rest, ◌▹◌, letters, blanks, line, start, written, Document, version_text, directives_text, dashes, start_layout, stop_layout, documents_layout}
 use Rattle.yaml_round_laws_documents.proofs.Nodes.{canonically}
 
 -- the first byte, if there is one, is ASCII

@@ -1,21 +1,13 @@
 -- The canonical layout of documents.
 use Rattle.std.proofs.Common.{ℕ, ◌-◌, Bool, true, false, not, ◌&&◌, nat_lt, List, [], ◌∷◌, Option, arith, chars}
-use Rattle.yaml_round_content.specs.parse_model.Events.{TagDirective}
-use Rattle.yaml_emit_laws_text.specs.emit_text.declared.Settings.{Settings}
-use Rattle.yaml_emit_laws_text.specs.emit_text.Layout.{◌▹◌, stay, choose, when, char, word, opener, keep}
-use Rattle.yaml_emit_laws_text.specs.emit_text.Quoted.{double_quoted}
+use Rattle.yaml_round_laws_documents.proofs.Words.{TagDirective, Settings, ◌▹◌, stay, choose, when, char, word, opener, keep, double_quoted, Document, Scalar, Start, Node, alias_node, scalar_node, sequence_node, mapping_node, Nodes, no_nodes, node, Pairs, no_pairs, pair, version_problem, directives_problem, Context, MOST, is_kept, is_simple, is_simple_part, key_part, root_position, position, deeper, page_at, checked, deep_if, line_at, anchor_text, tag_text, properties_text, style_of, scalar_layout, alias_layout, turned, before_item, question, before_key, before_value, closer, node_layout, items_layout, pairs_layout, dots, is_directed, version_text, directives_text, dashes, start_layout, end_layout, stop_layout, documents_layout, Item, IsNameOption, IsTextOption, IsSpellable, AreSpellable, PairsAreSpellable, DocumentsAreSpellable, or_second}
 use Rattle.yaml_emit_laws_text.specs.emit_text.Scalars.{scalar_text}
 use Rattle.yaml_emit_laws_text.specs.emit_layout.declared.level.NodePosition.{NodePosition}
 use Rattle.yaml_emit_laws_text.specs.emit_layout.declared.level.Part.TheVariants as part
-use Rattle.yaml_emit_laws_text.specs.emit_layout.Content.{Document, Scalar, Start, Node, alias_node, scalar_node, sequence_node, mapping_node, Nodes, no_nodes, node, Pairs, no_pairs, pair}
-use Rattle.yaml_emit_laws_text.specs.emit_layout.Grammar.{version_problem, directives_problem}
-use Rattle.yaml_emit_laws_text.specs.emit_layout.Nodes.{Context, MOST, is_kept, is_simple, is_simple_part, key_part, root_position, position, deeper, page_at, checked, deep_if, line_at, anchor_text, tag_text, properties_text, style_of, scalar_layout, alias_layout, comma, turned, before_item, question, before_key, before_value, closer, node_layout, items_layout, pairs_layout, dots, is_directed, version_text, directives_text, dashes, start_layout, end_layout, stop_layout, documents_layout}
-use Rattle.yaml_emit_laws_text.specs.emit_text.Text.{Item}
-use Rattle.yaml_round_laws_documents.specs.BytesLaws.{IsNameOption, IsTextOption, IsSpellable, AreSpellable, PairsAreSpellable, DocumentsAreSpellable}
+use Rattle.yaml_emit_laws_text.specs.emit_layout.Nodes.{comma}
 use Rattle.yaml_round_laws_documents.proofs.Characters.{Fits, graphic, names_fit}
 use Rattle.yaml_round_laws_documents.proofs.Layouts.{Allowed, Tame, deep_allowed, both, stay_tame, choose_tame, when_tame, char_tame, word_tame, opener_tame, line_tame, keep_tame}
 use Rattle.yaml_round_laws_documents.proofs.Leaves.{TagsFit, handles_fit, tags_fit, anchor_tame, tag_tame, quoted_tame, version_tame, directives_tame}
-use Rattle.yaml_emit_laws_text.proofs.Resolving.{or_second}
 
 -- the settings with canonical form
 abbrev pub canonically : Settings → Settings

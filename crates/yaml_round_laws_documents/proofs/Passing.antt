@@ -1,21 +1,8 @@
 -- The bodies of canonical documents spell texts.
 use Rattle.std.proofs.Common.{◌≡◌, ℕ, Bool, true, false, not, ◌&&◌, List, [], ◌∷◌, Option, Some, None, refl, sym, ap, subst}
-use Rattle.std.proofs.lemmas.Str.{is_utf8-from_IsUtf8}
-use Rattle.yaml_emit_laws_text.specs.scan_model.Tokens.{Token, TokenBody}
+use Rattle.yaml_round_laws_documents.proofs.Words.{is_utf8-from_IsUtf8, Token, TokenBody, Remaining, yaml_version_directive_t, TagDirective, Split, shorthand, verbatim, split_tag, Document, Scalar, Start, Node, alias_node, scalar_node, sequence_node, mapping_node, Nodes, no_nodes, node, Pairs, no_pairs, pair, is_directed, YAML_DOUBLE_QUOTED_SCALAR_STYLE, IsReadable, HaveUtf8, spells_text, cut, with_token, tag_body, anchor_bodies, tag_bodies, mark_bodies, node_bodies, items_bodies, pairs_bodies, version_bodies, directives_bodies, end_bodies, documents_bodies, token_bodies, IsReadableTag, IsTagged, AreTagged, PairsAreTagged, HaveTexts, without_fault, CanonicalTokensPass}
 use Rattle.yaml_emit_laws_text.specs.scan_model.Tokens as token
-use Rattle.yaml_round_laws_documents.specs.emit_laws_text.scan_history.Remaining.{Remaining}
-use Rattle.yaml_emit_laws_text.specs.scan_model.declared.yaml_version_directive_t.{yaml_version_directive_t}
-use Rattle.yaml_round_content.specs.parse_model.Events.{TagDirective}
-use Rattle.yaml_emit_laws_text.specs.emit_layout.emit_tags.Tags.{Split, shorthand, verbatim, split_tag}
-use Rattle.yaml_emit_laws_text.specs.emit_layout.Content.{Document, Scalar, Start, Node, alias_node, scalar_node, sequence_node, mapping_node, Nodes, no_nodes, node, Pairs, no_pairs, pair}
-use Rattle.yaml_emit_laws_text.specs.emit_layout.Nodes.{is_directed}
-use Rattle.yaml_round_laws_documents.specs.emit_laws_text.scan_model.declared.yaml_scalar_style_t.TheVariants.{YAML_DOUBLE_QUOTED_SCALAR_STYLE}
 use Rattle.yaml_emit_laws_text.specs.Canonical.{is_marked}
-use Rattle.yaml_emit_laws_text.specs.TagsLaws.{IsReadable, HaveUtf8}
-use Rattle.yaml_round_laws_documents.specs.round_laws_adapted.Adapted.{spells_text, cut, with_token}
-use Rattle.yaml_emit_laws_text.specs.Bodies.{tag_body, anchor_bodies, tag_bodies, mark_bodies, node_bodies, items_bodies, pairs_bodies, version_bodies, directives_bodies, end_bodies, documents_bodies}
-use Rattle.yaml_round_laws_documents.specs.TreeLaws.{token_bodies}
-use Rattle.yaml_round_laws_documents.specs.Adapting.{IsReadableTag, IsTagged, AreTagged, PairsAreTagged, HaveTexts, without_fault, CanonicalTokensPass}
 
 abbrev pub Spell : List TokenBody → Type 0
 Spell [] = Unit {0}

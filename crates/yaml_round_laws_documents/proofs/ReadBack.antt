@@ -1,17 +1,12 @@
 -- The laws of canonical text, joined from the laws beneath.
-use Rattle.yaml_round_laws_documents.specs.emit_laws_text.scan_model.declared.yaml_encoding_t.TheVariants.{YAML_ANY_ENCODING}
-use Rattle.yaml_round_content.specs.Canon.{canon}
-use Rattle.yaml_round_content.specs.WritableLaws.{LayoutIsOfInputsContent, InputsContentIsLaidOut}
+use Rattle.yaml_round_laws_documents.proofs.Words.{YAML_ANY_ENCODING, canon, LayoutIsOfInputsContent, InputsContentIsLaidOut, layouts_of_content, content_laid_out, written_readable, CanonIsScanned, CanonReadsBack, CanonTellsContents, CanonicalReadsBack, CanonTellsInputs, CanonIsLaidOutAgain}
 use Rattle.yaml_round_content.proofs.Injective.{says_injective}
-use Rattle.yaml_round_content.proofs.Layouts.{layouts_of_content, content_laid_out}
 use Rattle.yaml_round_content.proofs.Flags.{layout_of_input, input_laid_out}
 use Rattle.yaml_round_content.proofs.WritableContents.{are_writable}
-use Rattle.yaml_emit_laws_text.proofs.Joining.{written_readable}
 use Rattle.yaml_emit_laws_text.proofs.TextWhole.{text_is_read}
 use Rattle.yaml_round_laws_documents.proofs.CanonicalJoining.{bytes_decode}
 use Rattle.yaml_round_laws_documents.proofs.Passing.{tokens_pass}
 use Rattle.yaml_round_laws_documents.proofs.Saying.{tokens_say}
-use Rattle.yaml_round_laws_documents.specs.Back.{CanonIsScanned, CanonReadsBack, CanonTellsContents, CanonicalReadsBack, CanonTellsInputs, CanonIsLaidOutAgain}
 use Rattle.yaml_round_laws_documents.proofs.Joining.{canon_scanned, canon_read_back, canon_tells}
 
 -- ---- of contents

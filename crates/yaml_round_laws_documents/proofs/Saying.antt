@@ -1,48 +1,17 @@
 -- The events that are read of a content's canonical documents say the content.
-use Rattle.std.proofs.Common.{◌≡◌, inl, inr, ℕ, Bool, true, false, not, ◌&&◌, ◌==◌, List, [], ◌∷◌, length, map, Option, Some, refl, ap, ◌∙◌, codes, arith, sym, bytes_eq}
-use Rattle.std.proofs.lemmas.Bool.{cases_Bool, eqb-true, and_parts, true≢false}
-use Rattle.std.proofs.lemmas.Slice.Eq.{bytes_eq-Decides}
-use Rattle.yaml_round_laws_documents.specs.emit_laws_text.scan_model.declared.yaml_scalar_style_t.TheVariants.{YAML_DOUBLE_QUOTED_SCALAR_STYLE}
-use Rattle.yaml_round_laws_documents.specs.emit_laws_text.scan_model.declared.yaml_sequence_style_t.TheVariants.{YAML_ANY_SEQUENCE_STYLE}
-use Rattle.yaml_round_laws_documents.specs.emit_laws_text.scan_model.declared.yaml_mapping_style_t.TheVariants.{YAML_ANY_MAPPING_STYLE}
-use Rattle.yaml_round_laws_documents.specs.emit_laws_text.scan_model.declared.yaml_encoding_t.TheVariants.{YAML_ANY_ENCODING}
-use Rattle.yaml_round_content.specs.parse_model.Events.{EventBody}
+use Rattle.std.proofs.Common.{◌≡◌, ℕ, Bool, true, false, not, List, [], ◌∷◌, map, Option, Some, refl, ap, ◌∙◌}
+use Rattle.yaml_round_laws_documents.proofs.Words.{YAML_DOUBLE_QUOTED_SCALAR_STYLE, YAML_ANY_SEQUENCE_STYLE, YAML_ANY_MAPPING_STYLE, YAML_ANY_ENCODING, EventBody, Told, contents, ScalarMark, untagged, tagged, alias, scalar, sequence, mapping, scalar_says, node_says, items_say, pairs_say, documents_say, written_scalar, written_node, written_nodes, written_pairs, written_documents, scalar_reads, node_reads, items_reads, pairs_reads, documents_reads, begins_directed, IsNoMark, HasNoMark, HaveNoMark, PairsHaveNoMark, AreParsable, parsed_of, CanonicalTokensSayContent}
 use Rattle.yaml_round_content.specs.parse_model.Events as event
-use Rattle.yaml_round_content.specs.parse_grammar.Resolve.{Told}
-use Rattle.yaml_round_content.specs.Normalize.{is_lone_mark, normalize_scalar, normalize_body}
+use Rattle.yaml_round_content.specs.Normalize.{normalize_scalar, normalize_body}
 use Rattle.yaml_round_content.specs.Content.{content_of}
-use Rattle.yaml_round_content.specs.Events.{contents}
-use Rattle.yaml_round_content.specs.Said.{ScalarMark, untagged, tagged, Node, alias, scalar, sequence, mapping, Nodes, no_nodes, node, Pairs, no_pairs, pair, Document, scalar_says, node_says, items_say, pairs_say, documents_say}
-use Rattle.yaml_round_content.specs.Canon.{written_scalar, written_node, written_nodes, written_pairs, written_documents}
-use Rattle.yaml_round_laws_documents.specs.Reads.{scalar_reads, node_reads, items_reads, pairs_reads, documents_reads, begins_directed}
-use Rattle.yaml_round_laws_documents.specs.TreeLaws.{IsNoMark, HasNoMark, HaveNoMark, PairsHaveNoMark, AreParsable, parsed_of}
+use Rattle.yaml_round_content.specs.Said.{Node, Nodes, no_nodes, node, Pairs, no_pairs, pair, Document}
 use Rattle.yaml_round_laws_documents.proofs.Documents.{tokens_parsed}
-use Rattle.yaml_round_laws_documents.specs.CanonicalTokens.{CanonicalTokensSayContent}
+use Rattle.yaml_round_content.proofs.Saying.{no_mark}
 
 abbrev says : EventBody → EventBody
 says b = content_of (normalize_body true b)
 
 -- ---- scalars
-
-pub long : (a b : ℕ) (t : List ℕ) → (length (a ∷ b ∷ t) == 1) ≡ true → ⊥
-long a b t e = let h = eqb-true (length (a ∷ b ∷ t)) 1 e in omega (arith, h)
-
-pub is_mark : (t value : List ℕ) → is_lone_mark (Some t) value ≡ true → t ≡ 33 ∷ []
-is_mark [] value e = absurd (none (and_parts (length value == 0) false (and_parts (length value == 0 && false) _ e).0).1)
-  where
-    none : false ≡ true → ⊥
-    none h = absurd (cc)
-is_mark (a ∷ []) value e = ap (λ (b : ℕ). b ∷ []) (eqb-true a 33 (and_parts (length value == 0 && true) (a == 33) e).1)
-is_mark (a ∷ b ∷ t) value e = absurd (long a b t (and_parts (length value == 0) (length (a ∷ b ∷ t) == 1) (and_parts (length value == 0 && length (a ∷ b ∷ t) == 1) _ e).0).1)
-
--- A tag that is no `!` is no lone mark.
-pub no_mark : (t value : List ℕ) → bytes_eq t (codes "!") ≡ false
-    → is_lone_mark (Some t) value ≡ false
-no_mark t value e =
-    elim (cases_Bool (is_lone_mark (Some t) value)) [
-      | inr h ↦ h
-      | inl h ↦ absurd (true≢false (sym ((bytes_eq-Decides t (codes "!")).1 (is_mark t value h)) ∙ e))
-    ]
 
 scalar_said : (anchor : Option (List ℕ)) (mark : ScalarMark) (value : List ℕ)
     → IsNoMark (written_scalar anchor mark value).tag

@@ -1,23 +1,13 @@
 -- Every document that an input loads is sound.
 use Rattle.std.proofs.Common.{ℕ, List, [], ◌∷◌, Option, All}
-use Rattle.std.proofs.lemmas.List.Elements.{All-nil, All-cons}
-use Rattle.yaml_round_laws_documents.specs.emit_laws_text.scan_model.declared.yaml_encoding_t.{yaml_encoding_t}
-use Rattle.yaml_emit_laws_text.specs.scan_model.Faults.{Fault}
+use Rattle.yaml_round_laws_documents.proofs.Words.{All-nil, All-cons, yaml_encoding_t, Fault, IsDocument, Told, Loading, LoadStep, goes_on, loaded, refused, nothing_loaded, step, RightDocument, AreRight, AreRightTold, RightFed, events_of, ending_of, read, Loads, in_front, load_on, load_all, loads_of, HaveUtf8Texts, InputsHaveUtf8, AreLoadedDocuments, AllLoadDocuments, LoadedAreSound}
 use Rattle.yaml_round_laws_documents.specs.parse_grammar.parse_model.Nodes as model
-use Rattle.yaml_round_content.specs.parse_laws_trees.parse_document.Documents.{Document, IsDocument}
+use Rattle.yaml_round_content.specs.parse_laws_trees.parse_document.Documents.{Document}
 use Rattle.yaml_round_content.specs.parse_laws_trees.parse_loader.Order.{IsInPreorder}
-use Rattle.yaml_round_content.specs.parse_grammar.Resolve.{Told}
-use Rattle.yaml_round_content.specs.parse_laws_trees.parse_loader.Loading.{Loading, LoadStep, goes_on, loaded, refused, nothing_loaded, step}
-use Rattle.yaml_round_content.specs.emit_laws_dumps.StreamsLaws.{RightDocument, AreRight, AreRightTold, RightFed}
 use Rattle.yaml_round_content.specs.parse_laws_trees.parse_loader.Sound.{IsLoading}
 use Rattle.yaml_round_content.proofs.Keeps.{FedSound, nothing_sound, step_sound}
-use Rattle.yaml_round_content.specs.Input.{events_of, ending_of, read}
-use Rattle.yaml_round_content.specs.Loads.{Loads, in_front, load_on, load_all, loads_of}
 use Rattle.yaml_round_content.proofs.ContentLoading.{steps, empty_right}
 use Rattle.yaml_round_content.proofs.StreamsInputs.{inputs_load_right}
-use Rattle.yaml_round_content.specs.WritableLaws.{HaveUtf8Texts, InputsHaveUtf8}
-use Rattle.yaml_round_content.specs.DumpsEvents.{AreLoadedDocuments}
-use Rattle.yaml_round_laws_documents.specs.Laws.{AllLoadDocuments, LoadedAreSound}
 
 abbrev pub AreDocuments : List Document → Type 0
 AreDocuments [] = Unit {0}

@@ -1,9 +1,7 @@
 -- The laws of loaded documents and of their texts, joined from the laws beneath.
 use Rattle.std.proofs.Common.{◌≡◌, ℕ, List, map, Option, Some, None, Ok, sym, ap, subst, ◌∙◌}
-use Rattle.yaml_round_laws_documents.specs.emit_laws_text.scan_model.declared.yaml_encoding_t.TheVariants.{YAML_ANY_ENCODING}
-use Rattle.yaml_emit_laws_text.specs.scan_model.Faults.{Fault}
+use Rattle.yaml_round_laws_documents.proofs.Words.{YAML_ANY_ENCODING, Fault, nothing_loaded, HasContent, events_of, ending_of, Loads, load_all, loads_of, canon, core_of, AreAgreeing, loads_of_contents, trees_of_dumps, AreNumerable, ContentIsLoaded, DumpsLoadBack, dumps_loaded, AllLoadDocuments, LoadedAreSound, LoadedAreWritable}
 use Rattle.yaml_round_content.specs.parse_laws_trees.parse_document.Documents.{Document}
-use Rattle.yaml_round_content.specs.parse_laws_trees.parse_loader.Loading.{nothing_loaded}
 use Rattle.yaml_round_content.proofs.Loads.{loads_document}
 use Rattle.yaml_round_content.proofs.Visited.{numbered_in_order}
 use Rattle.yaml_round_content.proofs.Apart.{apart_all, again_all}
@@ -12,24 +10,14 @@ use Rattle.yaml_round_content.proofs.Back.{numbered_back}
 use Rattle.yaml_round_content.proofs.DumpsLoaded.{loaded}
 use Rattle.yaml_round_content.proofs.DumpsWhole.{numbers_found, number_back}
 use Rattle.yaml_round_content.specs.Said as content
-use Rattle.yaml_round_content.specs.Said.{HasContent}
-use Rattle.yaml_round_content.specs.Input.{events_of, ending_of}
-use Rattle.yaml_round_content.specs.Loads.{Loads, load_all, loads_of}
-use Rattle.yaml_round_content.specs.Canon.{canon}
 use Rattle.yaml_round_content.proofs.ContentInputs.{say_fronts}
 use Rattle.yaml_round_content.proofs.Utf8.{input_utf8}
 use Rattle.yaml_round_laws_documents.proofs.ReadBack.{reads_back}
-use Rattle.yaml_round_content.specs.Agree.{core_of, AreAgreeing}
-use Rattle.yaml_round_content.proofs.DumpsContents.{loads_of_contents}
 use Rattle.yaml_round_content.proofs.Names.{loads_of_renamings}
 use Rattle.yaml_round_content.proofs.Walks.{agreeing_said}
-use Rattle.yaml_round_content.specs.DumpsEvents.{trees_of_dumps, AreNumerable}
-use Rattle.yaml_round_content.specs.DumpsLaws.{ContentIsLoaded, DumpsLoadBack}
 use Rattle.yaml_round_content.proofs.DumpsSaying.{content_said}
 use Rattle.yaml_round_content.proofs.Loading.{content_loaded, documents_loaded}
 use Rattle.yaml_round_content.proofs.DumpsTrees as trees
-use Rattle.yaml_round_content.proofs.Agreeing.{dumps_loaded}
-use Rattle.yaml_round_laws_documents.specs.Laws.{AllLoadDocuments, LoadedAreSound, LoadedAreWritable}
 use Rattle.yaml_round_content.specs.PlainLoading.{unless_faulty}
 use Rattle.yaml_round_content.proofs.Loaded.{loading_loads}
 use Rattle.yaml_round_laws_documents.specs.Normal.{

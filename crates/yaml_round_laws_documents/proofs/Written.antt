@@ -1,29 +1,14 @@
 -- What a document says that an input loads may be written.
-use Rattle.std.proofs.Common.{◌≡◌, ◌<◌, ℕ, zero, suc, ℤ, pos, negsuc, Bool, true, false, ◌==◌, if◌then◌else◌, List, [], ◌∷◌, length, Some, None, IsUtf8, refl, ap, codes, arith, sym, ◌∙◌, slice_get, true≢false}
-use Rattle.std.specs.List.{list_all}
-use Rattle.std.proofs.lemmas.Str.{IsUtf8-nil}
-use Rattle.std.proofs.lemmas.Bool.Decides.{nat_tests}
-use Rattle.yaml_round_content.proofs.Contents.{root_holds}
-use Rattle.yaml_round_laws_documents.specs.emit_laws_text.scan_model.Classes.{is_alpha_byte}
+use Rattle.std.proofs.Common.{◌≡◌, ◌<◌, ℕ, zero, suc, ℤ, pos, Bool, true, false, ◌==◌, if◌then◌else◌, List, [], ◌∷◌, length, Some, None, IsUtf8, refl, ap, codes, arith, sym, ◌∙◌, slice_get, true≢false}
+use Rattle.yaml_round_laws_documents.proofs.Words.{list_all, IsUtf8-nil, nat_tests, root_holds, is_alpha_byte, TagDirective, IsSoundBody, AreSound, str_tag, is_bang, body_at, tag_at, body_of_id, tag_of_id, name_of, graph_root, graph_content, RightDocument, AreRight, loads_of, tree_of, trees_of, pair_trees_of, document_tree, InputsHaveUtf8, IsName, IsAnchor, IsWritable, AreItemsWritable, ArePairsWritable, HavePrefixes, IsWritableDocument, AreWritable, IsLoadedDocument, trees_of_dumps, AreLoadedDocuments, AllLoadDocuments, LoadedAreWritable}
 use Rattle.yaml_round_laws_documents.specs.parse_grammar.parse_model.Constructors.{AreUtf8}
-use Rattle.yaml_round_content.specs.parse_model.Events.{TagDirective}
 use Rattle.yaml_round_laws_documents.specs.parse_grammar.parse_model.Nodes as model
-use Rattle.yaml_round_content.specs.parse_laws_trees.parse_document.Documents.{IsSoundBody, AreSound, str_tag}
 use Rattle.yaml_round_content.specs.parse_laws_trees.parse_document.Documents as documents
-use Rattle.yaml_round_content.specs.parse_laws_trees.parse_loader.Numbering.{is_bang}
 use Rattle.yaml_round_laws_documents.specs.emit_laws_text.emit_layout.declared.Problem.{Problem}
 use Rattle.yaml_round_laws_documents.specs.emit_laws_text.emit_layout.declared.Problem.TheVariants as problem
-use Rattle.yaml_round_content.specs.emit_laws_dumps.emit_graph.Graph.{body_at, tag_at, body_of_id, tag_of_id, name_of, anchor_of, graph_root, graph_content}
-use Rattle.yaml_round_content.specs.emit_laws_dumps.StreamsLaws.{AreTagged, RightDocument, AreRight}
+use Rattle.yaml_round_content.specs.emit_laws_dumps.StreamsLaws.{AreTagged}
 use Rattle.yaml_round_content.proofs.Sound.{str_utf8}
 use Rattle.yaml_round_content.proofs.Naming.{name_right}
-use Rattle.yaml_round_content.specs.Loads.{loads_of}
-use Rattle.yaml_round_content.specs.Trees.{tree_of, trees_of, pair_trees_of, document_tree}
-use Rattle.yaml_round_content.specs.WritableLaws.{InputsHaveUtf8}
-use Rattle.yaml_round_content.specs.Writable.{IsName, IsAnchor, IsWritable, AreItemsWritable, ArePairsWritable, HavePrefixes, IsWritableDocument, AreWritable}
-use Rattle.yaml_round_content.specs.emit_laws_dumps.Dumps.{IsLoadedDocument}
-use Rattle.yaml_round_content.specs.DumpsEvents.{trees_of_dumps, AreLoadedDocuments}
-use Rattle.yaml_round_laws_documents.specs.Laws.{AllLoadDocuments, LoadedAreWritable}
 use Rattle.yaml_round_laws_documents.proofs.Sound.{AreDocuments, documents_sound, documents_right}
 
 -- ---- names
@@ -47,9 +32,6 @@ anchor_if : (b : Bool) (n : ℕ) → IsAnchor (if b then None else Some (name_of
 anchor_if true n = tt
 anchor_if false n = name_writable n
 
-anchor_writable : (n : ℕ) → IsAnchor (anchor_of n)
-anchor_writable n = anchor_if (n == 0) n
-
 -- ---- the nodes of a document
 
 abbrev IsText : model.NodeBody → Type 0
@@ -66,10 +48,8 @@ record IsFine (tag : List ℕ) (body : model.NodeBody) : Type 0 where
   text : IsText body
 
 text_of : (count : ℕ) (b : model.NodeBody) → IsSoundBody count b → IsText b
-text_of count model.no h = tt
 text_of count (model.scalar value style) h = h
-text_of count (model.sequence items style) h = tt
-text_of count (model.mapping pairs style) h = tt
+text_of count _ h = tt
 
 no_bang : (t : List ℕ) → is_bang t ≡ false → t ≡ codes "!" → ⊥
 no_bang t h e = true≢false (sym (ap is_bang e) ∙ h)
@@ -89,9 +69,8 @@ fine_at count (n ∷ ns) (suc k) s t b = fine_at count ns k s.1 t.1 b
 
 fine_id : (nodes : List model.Node) → FineNodes nodes → (id : ℤ)
     → IsFine (tag_of_id nodes id) (body_of_id nodes id)
-fine_id nodes h (pos zero) = str_fine
 fine_id nodes h (pos (suc k)) = h k
-fine_id nodes h (negsuc k) = str_fine
+fine_id nodes h _ = str_fine
 
 -- ---- the walk
 
@@ -107,7 +86,7 @@ root_written nodes h = root_holds (λ v. IsWritable (tree_of v)) (λ vs. AreItem
       scalar = λ anchor tag value style f. (f.0, ((f.1.some, f.1.utf8), f.1.other), f.1.text);
       sequence = λ anchor tag items style f vs b. (f.0, (f.1.some, f.1.utf8), b);
       mapping = λ anchor tag pairs style f ps b. (f.0, (f.1.some, f.1.utf8), b);
-    }) nodes (λ k id. (anchor_writable k, fine_id nodes h id))
+    }) nodes (λ k id. ((anchor_if (k == 0) k), fine_id nodes h id))
 
 -- ---- documents
 

@@ -1,6 +1,6 @@
 -- Trees from the bodies of tokens.
 use Rattle.std.proofs.Common.{◌≡◌, true, false, List, [], ◌∷◌, None, Bool, refl, sym, ap, ◌∙◌, subst}
-use Rattle.yaml_round_laws_documents.specs.parse_grammar.parse_model.Tokens.{Token, TokenBody}
+use Rattle.yaml_round_laws_json.proofs.Words.{Token, TokenBody, node_event, no_directives, gave, settle, Reading, reading, Scalar, Node, alias_node, scalar_node, sequence_node, mapping_node, Nodes, no_nodes, node, Pairs, Document, json_bodies, json_items, json_pairs, start_bodies, stop_bodies, document_bodies, comma_bodies, token_bodies, Grown, event_bodies, SaysTree, parsed_of, EventBody, adapted, without_fault}
 use Rattle.yaml_round_laws_documents.specs.parse_grammar.parse_model.Tokens as token
 use Rattle.yaml_round_laws_documents.specs.parse_grammar.parse_model.Events as event
 use Rattle.yaml_round_laws_documents.specs.parse_grammar.declared.name.Wants.{Wants}
@@ -10,22 +10,16 @@ use Rattle.yaml_round_laws_documents.specs.parse_grammar.declared.name.Brackets.
 use Rattle.yaml_round_laws_documents.specs.parse_grammar.Items as item
 use Rattle.yaml_round_laws_documents.specs.parse_grammar.Trees.{opening, flow_shape, single, there, colon, Span, token_at, Given, spell_node, spell_ends, no_first, first}
 use Rattle.yaml_round_laws_documents.specs.parse_grammar.Trees as trees
-use Rattle.yaml_round_laws_documents.specs.parse_grammar.Resolve.{node_event, no_directives, gave, settle, Reading, reading}
-use Rattle.yaml_emit_laws_text.specs.emit_layout.Content.{Scalar, Node, alias_node, scalar_node, sequence_node, mapping_node, Nodes, no_nodes, node, Pairs, no_pairs, pair, Document}
-use Rattle.yaml_emit_laws_text.specs.PrettyBodies.{json_bodies, json_items, json_pairs, start_bodies, stop_bodies, document_bodies, comma_bodies}
-use Rattle.yaml_round_laws_documents.specs.TreeLaws.{token_bodies, Grown, event_bodies, SaysTree, parsed_of}
+use Rattle.yaml_emit_laws_text.specs.emit_layout.Content.{no_pairs, pair}
 use Rattle.yaml_round_laws_documents.proofs.Growing.{Reads, Filled, Followed, take, silent, also, grown, alias_grown, scalar_contained, dressed_named, bracketed, brackets_end, brackets_done, comma_follows}
 use Rattle.yaml_round_laws_json.proofs.EventsRead.{json_reads, json_items_reads, json_pairs_reads, document_reads}
 use Rattle.yaml_round_laws_documents.specs.parse_grammar.parse_model.declared.yaml_encoding_t.{yaml_encoding_t}
-use Rattle.yaml_round_laws_documents.specs.parse_grammar.parse_model.Events.{EventBody}
 use Rattle.yaml_round_laws_documents.specs.parse_grammar.TreeSteps.{items_node, items_ends, items_documents, items}
 use Rattle.yaml_round_laws_documents.specs.parse_grammar.Machine.{Outcome}
 use Rattle.yaml_round_laws_documents.specs.parse_grammar.Remaining.{reading_of}
 use Rattle.yaml_round_laws_documents.proofs.CompleteStream.{stream_runs}
 use Rattle.yaml_round_laws_documents.proofs.Documents.{item_says, no_spans, ends_say}
 use Rattle.yaml_round_laws_documents.proofs.Passing.{Spell, passes}
-use Rattle.yaml_round_laws_adapted.specs.Adapted.{adapted}
-use Rattle.yaml_round_laws_documents.specs.Adapting.{without_fault}
 
 abbrev NodeGrows : Node → Type 0
 NodeGrows n = (w : Wants) (ts : List Token) (bs : List TokenBody) → token_bodies ts ≡ json_bodies n bs → Grown w [] (json_reads n) ts bs
@@ -237,10 +231,9 @@ mutual
   unfolding json_bodies json_items json_pairs
 
   node_spells : (n : Node) (bs : List TokenBody) → Spell bs → Spell (json_bodies n bs)
-  node_spells (alias_node name) bs s = (refl, s)
-  node_spells (scalar_node x) bs s = (refl, s)
   node_spells (sequence_node q items) bs s = (refl, items_spell true items (token.flow_sequence_end ∷ bs) (refl, s))
   node_spells (mapping_node q pairs) bs s = (refl, pairs_spell true pairs (token.flow_mapping_end ∷ bs) (refl, s))
+  node_spells _ bs s = (refl, s)
 
   items_spell : (fresh : Bool) (ns : Nodes) (bs : List TokenBody) → Spell bs
       → Spell (json_items fresh ns bs)

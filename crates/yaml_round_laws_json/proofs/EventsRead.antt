@@ -1,11 +1,8 @@
 -- The events that are read of a document shaped as JSON.
 use Rattle.std.specs.Prelude.{true, List, [], ◌∷◌, None}
-use Rattle.yaml_round_laws_documents.specs.parse_grammar.parse_model.declared.yaml_sequence_style_t.TheVariants.{YAML_FLOW_SEQUENCE_STYLE}
-use Rattle.yaml_round_laws_documents.specs.parse_grammar.parse_model.declared.yaml_mapping_style_t.TheVariants.{YAML_FLOW_MAPPING_STYLE}
-use Rattle.yaml_round_laws_documents.specs.parse_grammar.parse_model.Events.{EventBody}
+use Rattle.yaml_round_laws_json.proofs.Words.{YAML_FLOW_SEQUENCE_STYLE, YAML_FLOW_MAPPING_STYLE, EventBody, scalar_event, Document, Node, alias_node, scalar_node, sequence_node, mapping_node, Nodes, no_nodes, node, Pairs}
 use Rattle.yaml_round_laws_documents.specs.parse_grammar.parse_model.Events as event
-use Rattle.yaml_round_laws_documents.specs.parse_grammar.Resolve.{scalar_event}
-use Rattle.yaml_emit_laws_text.specs.emit_layout.Content.{Document, Node, alias_node, scalar_node, sequence_node, mapping_node, Nodes, no_nodes, node, Pairs, no_pairs, pair}
+use Rattle.yaml_emit_laws_text.specs.emit_layout.Content.{no_pairs, pair}
 
 -- without anchors and tags
 unfoldable mutual

@@ -1,24 +1,12 @@
 -- A JSON text is decoded, scanned, passed on and parsed as its value.
 use Rattle.std.proofs.Common.{◌≡◌, ℕ, true, List, [], ◌∷◌, map, Result, Ok, refl, ap, ◌∙◌}
-use Rattle.yaml_round_content.specs.scan_model.declared.yaml_encoding_t.{yaml_encoding_t}
-use Rattle.yaml_round_content.specs.scan_model.declared.yaml_encoding_t.TheVariants.{YAML_UTF8_ENCODING}
+use Rattle.yaml_round_laws_json.proofs.Words.{yaml_encoding_t, YAML_UTF8_ENCODING, encoding_of, Spells, Told, Reading, HasContent, adapted, without_fault, parsed_of, Text, IsJsonText, json_value, json_content, json_document, IsUsualText, may_be_utf8, IsReadAsValue, JsonIsRead}
 use Rattle.yaml_round_content.specs.scan_history.scan_decode.declared.offence.Offence.{Offence}
-use Rattle.yaml_round_content.specs.scan_history.scan_decode.Encodings.{encoding_of}
-use Rattle.yaml_round_content.specs.scan_history.scan_decode.Spelling.{Spells}
 use Rattle.yaml_round_content.proofs.CompleteLemmas.{spells_decoded}
 use Rattle.yaml_round_content.specs.scan_history.Remaining.{Remaining}
 use Rattle.yaml_round_content.specs.scan_history.Scanned.{scanned, scanned_in}
-use Rattle.yaml_round_laws_documents.specs.parse_grammar.Resolve.{Told, Reading}
-use Rattle.yaml_round_content.specs.Said.{HasContent}
 use Rattle.yaml_round_content.specs.Input.{events_of, read, parsed, tokens_of}
 use Rattle.yaml_round_content.proofs.Joining.{said_read, events_of_tree, one_reading}
-use Rattle.yaml_round_laws_adapted.specs.Adapted.{adapted}
-use Rattle.yaml_round_laws_documents.specs.Adapting.{without_fault}
-use Rattle.yaml_round_laws_documents.specs.TreeLaws.{parsed_of}
-use Rattle.yaml_round_laws_json.specs.Grammar.{Text, IsJsonText}
-use Rattle.yaml_round_laws_json.specs.Values.{json_value, json_content, json_document}
-use Rattle.yaml_round_laws_json.specs.Exceptions.{IsUsualText}
-use Rattle.yaml_round_laws_json.specs.Laws.{may_be_utf8, IsReadAsValue, JsonIsRead}
 use Rattle.yaml_round_laws_json.proofs.Strings.{text_spells}
 use Rattle.yaml_round_laws_json.proofs.Walk.{text_done}
 use Rattle.yaml_round_laws_json.proofs.Documents.{tokens_pass, tokens_parsed}

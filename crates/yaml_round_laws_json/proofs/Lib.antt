@@ -1,3 +1,4 @@
+mod Words
 mod Whites
 mod Plains
 mod EventsRead

@@ -1,27 +1,13 @@
 -- The white behind a plain scalar, with tabs, where no level is open, and the end that it comes before.
 use Rattle.std.proofs.Common.{◌≡◌, ◌≢◌, ℕ, zero, suc, ◌+◌, ◌<◌, ◌≤◌, ◌==◌, ◌&&◌, nat_lt, Bool, true, false, List, [], ◌∷◌, length, Result, Ok, refl, sym, ap, subst, ◌∙◌, inl, inr, arith, ◌-◌, ne_eqb, ◌||◌, ◌++◌, Some, None, ◌⊎◌, add-zero}
-use Rattle.std.proofs.lemmas.Bool.{true≢false, cases_Bool, and_parts, or_cases, or_left, or_right}
-use Rattle.std.proofs.lemmas.Bool.Decides.{nat_tests}
-use Rattle.yaml_scan_history.specs.scan_model.Marks.{byte, break_of, break_width, column_at, is_blank, ends_of, ends_break, starts, is_blank_or_end}
+use Rattle.yaml_round_laws_json.proofs.Words.{true≢false, cases_Bool, and_parts, or_cases, or_left, or_right, nat_tests, byte, break_of, break_width, column_at, is_blank, ends_of, ends_break, starts, is_blank_or_end, Wrong, Has, leads, PlainSpot, Ends, Takes, spot_at, ends_at, Words, words_from, follows, words, is_bracket, is_indicator_byte, starts_plain, after_white, with_piece, PlainText, plain_with, plain_text, plain_at, is_white, are_white, has_break, cr_width, is_letter_or_digit, is_value_byte, first, begins_value, is_plain_value, list_all, and-false, begins_lexeme, is_document_start, is_document_end, indicator_of, kind_at}
 use Rattle.yaml_scan_history.specs.scan_model.Breaks.{feed_at, is_document_indicator}
-use Rattle.yaml_scan_history.specs.scan_model.Wrong.{Wrong}
-use Rattle.yaml_scan_history.proofs.HasLemmas.{Has}
 use Rattle.yaml_scan_history.proofs.RunsLemmas.{space_parts}
 use Rattle.yaml_scan_history.specs.scan_scalars.Pieces.{Blank, Break, Kept, Piece, Lines, lines, split_one, text as line_text, folded}
-use Rattle.yaml_scan_history.specs.scan_scalars.Plain.{leads, PlainSpot, Ends, Takes, spot_at, ends_at, Words, words_from, follows, words, is_bracket, is_indicator_byte, starts_plain, after_white, with_piece, PlainText, plain_with, plain_text, plain_at}
 use Rattle.yaml_scan_history.proofs.PlainLemmas.{spot_break, spot_blank, spot_ends, leads-text, spot_kept}
-use Rattle.yaml_round_laws_json.specs.Grammar.{is_white, are_white}
-use Rattle.yaml_round_laws_json.specs.Exceptions.{has_break}
 use Rattle.yaml_round_laws_json.proofs.Whites.{byte_cases, lf_width, crlf_width}
-use Rattle.yaml_scan_history.proofs.GapsRead.{cr_width}
 use Rattle.yaml_scan_history.proofs.MarksLemmas.{no_break_between, column_more, within}
-use Rattle.yaml_scan_laws_texts.specs.Values.{is_letter_or_digit, is_value_byte, first, begins_value, is_plain_value}
-use Rattle.std.specs.List.{list_all}
-use Rattle.std.proofs.Math.Bool.{and-false}
-use Rattle.yaml_scan_history.specs.scan_words.Written.{begins_lexeme}
-use Rattle.yaml_scan_history.specs.scan_words.Indicators.{is_document_start, is_document_end}
 use Rattle.yaml_scan_history.specs.declared.kind.Kind.TheVariants as kinds
-use Rattle.yaml_scan_history.specs.Words.{indicator_of, kind_at}
 
 -- no word more: what is left ends at the place
 abbrev pub none_to : ℕ → Bool → Words
@@ -296,8 +282,7 @@ read_by : (flow : Bool) (text : List ℕ) (p : ℕ) (value gap : List ℕ) → b
       value = value;
       end = p + length value;
       place = p + length value + length gap;
-      broke =
-          has_break gap;
+      broke = has_break gap;
     })
 read_by flow text p [] gap begins all h are stop = absurd (cc)
 read_by flow text p (b ∷ bs) gap begins all (e, h) are stop =
@@ -322,8 +307,7 @@ pub plain_read : (flow : Bool) (text : List ℕ) (p : ℕ) (value gap : List ℕ
       value = value;
       end = p + length value;
       place = p + length value + length gap;
-      broke =
-          has_break gap;
+      broke = has_break gap;
     })
 unfolding is_plain_value
 plain_read flow text p value gap is h are ends =

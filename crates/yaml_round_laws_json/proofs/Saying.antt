@@ -1,21 +1,14 @@
 -- What the events of a JSON text say: its value.
 use Rattle.std.proofs.Common.{◌≡◌, true, false, List, [], ◌∷◌, map, None, refl, ap, ◌∙◌, inl, inr}
-use Rattle.yaml_round_content.specs.scan_model.declared.yaml_encoding_t.{yaml_encoding_t}
-use Rattle.yaml_round_laws_documents.specs.parse_grammar.parse_model.Events.{EventBody}
+use Rattle.yaml_round_laws_json.proofs.Words.{yaml_encoding_t, EventBody, YAML_FLOW_SEQUENCE_STYLE, YAML_FLOW_MAPPING_STYLE, Told, scalar_event, node_says, items_say, pairs_say, documents_say, stream_says, emitter_event, node_events, items_events, pairs_events, documents_events, stream_events, Value, literal, number, string, array, object, Elements, last_element, element, Members, last_member, member, IsValue, AreElements, AreMembers, Json, list, pairs, Jsons, nothing, one, JsonPairs, no_pairs, pair, json_value, json_elements, json_members, content, json_content, quoted_scalar, flow_start, json_node, json_nodes, json_document}
 use Rattle.yaml_round_laws_documents.specs.parse_grammar.parse_model.Events as event
 use Rattle.yaml_parse_grammar.specs.parse_model.declared.yaml_scalar_style_t.TheVariants.{YAML_DOUBLE_QUOTED_SCALAR_STYLE}
-use Rattle.yaml_round_laws_documents.specs.parse_grammar.parse_model.declared.yaml_sequence_style_t.TheVariants.{YAML_FLOW_SEQUENCE_STYLE}
-use Rattle.yaml_round_laws_documents.specs.parse_grammar.parse_model.declared.yaml_mapping_style_t.TheVariants.{YAML_FLOW_MAPPING_STYLE}
-use Rattle.yaml_round_laws_documents.specs.parse_grammar.Resolve.{Told, scalar_event}
 use Rattle.yaml_round_content.specs.Normalize.{normalize_body}
 use Rattle.yaml_round_content.specs.Content.{content_of}
 use Rattle.yaml_round_content.specs.Events.{emitter_events, contents}
-use Rattle.yaml_round_content.specs.Said.{node_says, items_say, pairs_say, documents_say, stream_says}
-use Rattle.yaml_emit_laws_text.specs.emit_layout.Content.{emitter_event, node_events, items_events, pairs_events, documents_events, stream_events}
 use Rattle.yaml_emit_laws_text.specs.emit_layout.Content as emit
 use Rattle.yaml_emit_laws_text.specs.Json.{IsJsonNode, AreJsonNodes, AreJsonPairs, IsJsonDocument}
-use Rattle.yaml_round_laws_json.specs.Grammar.{Value, literal, number, string, empty_array, array, empty_object, object, Elements, last_element, element, Members, last_member, member, IsValue, AreElements, AreMembers}
-use Rattle.yaml_round_laws_json.specs.Values.{Json, bare, text, list, pairs, Jsons, nothing, one, JsonPairs, no_pairs, pair, json_value, json_elements, json_members, content, json_content, quoted_scalar, flow_start, json_node, json_nodes, json_pairs, json_document}
+use Rattle.yaml_round_laws_json.specs.Values.{json_pairs}
 use Rattle.yaml_round_laws_json.specs.Values as values
 use Rattle.yaml_round_laws_json.proofs.Strings.{literal_plain, number_plain}
 use Rattle.yaml_round_laws_json.proofs.EventsRead.{json_reads, json_items_reads, json_pairs_reads, document_reads}
@@ -30,10 +23,9 @@ mutual
 
   node_said : (v : Json) (es : List EventBody)
       → map said (json_reads (json_node v) es) ≡ node_says (content v) (map said es)
-  node_said (bare v) es = refl
-  node_said (text v) es = refl
   node_said (list vs) es = ap (λ (bs : List EventBody). said (event.sequence_start None None true YAML_FLOW_SEQUENCE_STYLE) ∷ bs) (elements_said vs (event.sequence_end ∷ es))
   node_said (pairs ps) es = ap (λ (bs : List EventBody). said (event.mapping_start None None true YAML_FLOW_MAPPING_STYLE) ∷ bs) (pairs_said ps (event.mapping_end ∷ es))
+  node_said _ es = refl
 
   elements_said : (vs : Jsons) (es : List EventBody)
       → map said (json_items_reads (json_nodes vs) es)
@@ -69,10 +61,9 @@ mutual
 
   node_shown : (v : Json) (es : List EventBody)
       → map shown (json_reads (json_node v) es) ≡ node_events (json_node v) (map shown es)
-  node_shown (bare v) es = refl
-  node_shown (text v) es = refl
   node_shown (list vs) es = ap (λ (bs : List emit.Event). emit.sequence_start flow_start ∷ bs) (elements_shown vs (event.sequence_end ∷ es))
   node_shown (pairs ps) es = ap (λ (bs : List emit.Event). emit.mapping_start flow_start ∷ bs) (pairs_shown ps (event.mapping_end ∷ es))
+  node_shown _ es = refl
 
   elements_shown : (vs : Jsons) (es : List EventBody)
       → map shown (json_items_reads (json_nodes vs) es)
@@ -105,10 +96,9 @@ mutual
   node_shaped (literal l) h = inr (record { anchor = refl; tag = refl; plain = refl; style = refl; value = literal_plain l })
   node_shaped (number n) h = inr (record { anchor = refl; tag = refl; plain = refl; style = refl; value = number_plain n h })
   node_shaped (string ls) h = inl (record { anchor = refl; tag = refl; plain = refl; quoted = refl; style = refl })
-  node_shaped (empty_array w) h = (record { anchor = refl; tag = refl; flow = refl }, tt)
   node_shaped (array w elements) (hw, h) = (record { anchor = refl; tag = refl; flow = refl }, elements_shaped elements h)
-  node_shaped (empty_object w) h = (record { anchor = refl; tag = refl; flow = refl }, tt)
   node_shaped (object w members) (hw, h) = (record { anchor = refl; tag = refl; flow = refl }, members_shaped members h)
+  node_shaped _ h = (record { anchor = refl; tag = refl; flow = refl }, tt)
 
   elements_shaped : (elements : Elements) → AreElements elements
       → AreJsonNodes (json_nodes (json_elements elements))

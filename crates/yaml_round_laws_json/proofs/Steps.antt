@@ -1,11 +1,6 @@
 -- Keys are near their `:`.
 use Rattle.std.proofs.Common.{◌≡◌, ℕ, ◌+◌, ◌<◌, ◌≤◌, ◌==◌, ◌&&◌, ◌||◌, not, Bool, true, false, List, [], ◌∷◌, ◌++◌, length, refl, sym, ap, subst, arith, append-nil, encode_utf8_all, ◌-◌, nat_lt, Some, Result, Ok, ◌∙◌, inl, inr, ◌⊎◌, append_assoc, if◌then◌else◌, true≢false}
-use Rattle.std.specs.List.{list_all}
-use Rattle.std.proofs.lemmas.Bool.{or_parts, and_parts}
-use Rattle.std.proofs.lemmas.Bool.Decides.{nat_tests}
-use Rattle.yaml_scan_history.specs.scan_model.Marks.{mark_at, byte, column_at, is_blank_or_end}
-use Rattle.yaml_scan_history.specs.scan_words.Written.{HasAt, begins_lexeme}
-use Rattle.yaml_scan_history.specs.History.{is_fresh, margin_at, indent}
+use Rattle.yaml_round_laws_json.proofs.Words.{list_all, or_parts, and_parts, nat_tests, mark_at, byte, column_at, is_blank_or_end, HasAt, begins_lexeme, is_fresh, margin_at, indent, is_white, are_white, Letter, string_bytes, AreLetters, is_break, has_break, are_kept, is_near, or-true, TokenBody, Wrong, is_document_start, is_document_end, PlainText, starts_plain, Has, has, has_front, WordText, indicator_of, kind_at, word_at, valued, plainly, Comes, WordLeaves, IsGap, WalkState, WalkReads, LeaveClear, behind, printed_begins, chain, no_start, no_end, no_percent, walk_word, walk_key_starts, walk_key_stops, Left, left_first, left_more, left_rest, end_begins, is_plain_value, letters_mean}
 use Rattle.yaml_emit_laws_text.specs.emit_layout.emit_text.declared.Cursor.{Cursor}
 use Rattle.yaml_emit_laws_text.specs.emit_layout.emit_text.Text.{is_break as ends}
 use Rattle.yaml_emit_laws_text.specs.emit_layout.emit_text.Layout.{Layout}
@@ -14,38 +9,19 @@ use Rattle.yaml_emit_laws_text.specs.ReadBack.{is_one_line}
 use Rattle.yaml_emit_laws_scalars.specs.KeysLaws.{StaysNear}
 use Rattle.yaml_emit_laws_text.proofs.Words.{front_encodes, quote_kind}
 use Rattle.yaml_emit_laws_scalars.proofs.OneLine.{near_fresh}
-use Rattle.yaml_round_laws_json.specs.Grammar.{is_white, are_white, Letter, string_bytes, AreLetters}
-use Rattle.yaml_round_laws_json.specs.Exceptions.{is_break, has_break, are_kept, is_near}
 use Rattle.yaml_round_laws_json.proofs.Strings.{Spelled, Passes, no_bytes, string_before, white_before, string_reads, is_solid, begins_solid}
 use Rattle.std.proofs.lemmas.List.{length-append, get_or_past}
-use Rattle.std.proofs.Math.Bool.{or-true}
 use Rattle.yaml_scan_history.specs.scan_model.declared.name.yaml_encoding_t.{yaml_encoding_t}
 use Rattle.yaml_scan_history.specs.scan_model.declared.name.yaml_scalar_style_t.TheVariants.{YAML_PLAIN_SCALAR_STYLE, YAML_DOUBLE_QUOTED_SCALAR_STYLE}
 use Rattle.yaml_round_laws_documents.specs.parse_grammar.parse_model.Tokens as tokens
-use Rattle.yaml_round_laws_documents.specs.parse_grammar.parse_model.Tokens.{TokenBody}
-use Rattle.yaml_scan_history.specs.scan_model.Wrong.{Wrong}
-use Rattle.yaml_scan_history.specs.scan_words.Indicators.{is_document_start, is_document_end}
-use Rattle.yaml_scan_history.specs.scan_scalars.Plain.{PlainText, starts_plain}
-use Rattle.yaml_scan_history.proofs.HasLemmas.{Has, has, has_front}
 use Rattle.yaml_scan_history.specs.declared.kind.Kind.{Kind}
 use Rattle.yaml_scan_history.specs.declared.kind.Kind.TheVariants as kinds
 use Rattle.yaml_scan_history.specs.declared.lexeme.Opens.TheVariants as opening
 use Rattle.yaml_scan_history.specs.Kinds.{depth_after, allows_key, is_value}
-use Rattle.yaml_scan_history.specs.Words.{WordText, indicator_of, kind_at, word_at, valued, plainly}
 use Rattle.yaml_scan_laws_levels.specs.Pushes.{IsRight, stays_level}
-use Rattle.yaml_scan_laws_levels.specs.Steps.{Comes, WordLeaves}
-use Rattle.yaml_scan_laws_levels.specs.White.{IsGap}
 use Rattle.yaml_scan_laws_levels.specs.Signs.{sign}
-use Rattle.yaml_scan_laws_levels.specs.Walks.{WalkState, WalkReads, LeaveClear, behind}
-use Rattle.yaml_scan_laws_levels.proofs.Signing.{printed_begins, chain, no_start, no_end, no_percent}
 use Rattle.yaml_scan_laws_levels.proofs.Slotting.{near_before, level_opens}
-use Rattle.yaml_scan_laws_levels.proofs.Walking.{walk_word, walk_key_starts, walk_key_stops}
-use Rattle.yaml_emit_laws_text.specs.Walk.{Left}
 use Rattle.yaml_emit_laws_text.proofs.Places as places
-use Rattle.yaml_emit_laws_text.proofs.Places.{left_first, left_more, left_rest}
-use Rattle.yaml_emit_laws_text.proofs.Documents.{end_begins}
-use Rattle.yaml_scan_laws_texts.specs.Values.{is_plain_value}
-use Rattle.yaml_round_laws_json.specs.Values.{letters_mean}
 use Rattle.yaml_round_laws_json.proofs.Whites.{tabs_fit, may_then, white_leaves, word_leaves}
 use Rattle.yaml_round_laws_json.proofs.Plains.{IsStop, stops_at, plain_read, plain_begins}
 

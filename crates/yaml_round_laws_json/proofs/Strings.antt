@@ -1,29 +1,16 @@
 -- Literals and numbers are plain values, and what values begin with.
 use Rattle.std.proofs.Common.{◌≡◌, ℕ, ◌==◌, ◌&&◌, ◌||◌, not, nat_lt, Bool, true, false, List, [], ◌∷◌, ◌++◌, Option, None, Some, refl, sym, arith, if◌then◌else◌, ◌+◌, ◌<◌, ◌≤◌, nat_le, ap, subst, inl, inr, append_assoc, encode_utf8, encode_utf8_all, drop, ◌∙◌, append-nil, nat_eq, ◌-◌, ◌*◌, length, Ok, option_and_then}
-use Rattle.std.specs.List.{list_all}
-use Rattle.std.proofs.lemmas.Bool.{true≢false, and_parts, cases_Bool}
-use Rattle.std.proofs.lemmas.Bool.Decides.{nat_tests}
-use Rattle.yaml_scan_laws_texts.specs.Values.{is_letter_or_digit, is_value_byte, begins_value, is_plain_value}
-use Rattle.yaml_round_laws_json.specs.Grammar.{Literal, named_false, named_null, named_true, literal_bytes, Sign, no_sign, plus, minus, sign_bytes, Exponent, Number, fraction_bytes, exponent_bytes, number_bytes, is_digit, are_digits, is_whole, IsFraction, IsExponent, IsNumber, Value, literal, number, string, empty_array, array, empty_object, object, Elements, last_element, element, Members, last_member, member, value_bytes, elements_bytes, members_bytes, IsValue, AreElements, is_white, are_white, Short, quote, backslash, slash, backspace, form_feed, line_feed, carriage_return, tab, short_byte, HexDigit, hex_byte, Letter, raw, short, coded, letter_bytes, letters_bytes, string_bytes, IsLetter, AreLetters, AreMembers, Text, IsJsonText, short_means, code}
+use Rattle.yaml_round_laws_json.proofs.Words.{list_all, true≢false, and_parts, cases_Bool, nat_tests, is_letter_or_digit, is_value_byte, begins_value, is_plain_value, Literal, named_false, named_null, named_true, literal_bytes, Sign, no_sign, plus, minus, sign_bytes, Exponent, Number, fraction_bytes, exponent_bytes, number_bytes, is_digit, are_digits, is_whole, IsFraction, IsExponent, IsNumber, Value, literal, number, string, empty_array, array, empty_object, object, Elements, last_element, element, Members, last_member, member, value_bytes, elements_bytes, members_bytes, IsValue, AreElements, is_white, are_white, Short, quote, backslash, slash, backspace, form_feed, line_feed, carriage_return, tab, short_byte, HexDigit, hex_byte, Letter, raw, short, coded, letter_bytes, letters_bytes, string_bytes, IsLetter, AreLetters, AreMembers, Text, IsJsonText, short_means, code, is_refused, ends_line, is_kept, are_kept, IsUsual, AreUsual, MembersAreUsual, IsUsualText, yaml_encoding_t, YAML_ANY_ENCODING, YAML_UTF8_ENCODING, encoding_of, mark_length, begins_low_first, begins_high_first, begins_utf8, Spells, spellings, may_be_utf8, and-false, HasAt, letter_means, letters_mean}
 use lib.Utf8.{scalar}
 use Rattle.yaml_emit_laws_text.proofs.Chars.{encode_1}
-use Rattle.yaml_round_laws_json.specs.Exceptions.{is_refused, ends_line, is_kept, are_kept, IsUsual, AreUsual, MembersAreUsual, IsUsualText}
 use Rattle.std.proofs.lemmas.List.Sums.{AllPass-from_list_all}
 use Rattle.std.proofs.Math.Utf8.{scalar_cases}
-use Rattle.yaml_round_content.specs.scan_model.declared.yaml_encoding_t.{yaml_encoding_t}
-use Rattle.yaml_round_content.specs.scan_model.declared.yaml_encoding_t.TheVariants.{YAML_ANY_ENCODING, YAML_UTF8_ENCODING, YAML_UTF16LE_ENCODING, YAML_UTF16BE_ENCODING}
 use Rattle.yaml_round_content.specs.scan_history.scan_decode.Characters.{is_allowed}
-use Rattle.yaml_round_content.specs.scan_history.scan_decode.Encodings.{encoding_of, mark_length, begins_low_first, begins_high_first, begins_utf8}
-use Rattle.yaml_round_content.specs.scan_history.scan_decode.Spelling.{Spells, spellings}
-use Rattle.yaml_round_laws_json.specs.Laws.{may_be_utf8}
 use Rattle.yaml_round_laws_documents.proofs.Encoding.{bytes_utf8}
-use Rattle.std.proofs.Math.Bool.{and-false}
-use Rattle.yaml_scan_history.specs.scan_words.Written.{HasAt}
 use Rattle.yaml_scan_history.specs.scan_scalars.Quoted.{hex_digit, hex_len, simple_escape, double_quoted_at}
 use Rattle.yaml_emit_laws_text.specs.Spelling.{QuotedPart, spelled, meant, spelling, meaning, number_behind, MayStand, is_raw_blank, is_fold, is_turn, may_be_next, IsSpelling, quoted}
 use Rattle.yaml_emit_laws_text.specs.Spelling as part
 use Rattle.yaml_emit_laws_text.proofs.Parts.{spelling_reads}
-use Rattle.yaml_round_laws_json.specs.Values.{letter_means, letters_mean}
 
 pub literal_plain : (l : Literal) → is_plain_value (literal_bytes l) ≡ true
 unfolding is_plain_value is_letter_or_digit is_value_byte
@@ -145,11 +132,7 @@ pub value_begins : (v : Value) → IsValue v → (bs : List ℕ) → begins_soli
 unfolding value_bytes
 value_begins (literal l) h bs = plain_solid (literal_bytes l) bs (literal_plain l)
 value_begins (number n) h bs = plain_solid (number_bytes n) bs (number_plain n h)
-value_begins (string ls) h bs = refl
-value_begins (empty_array w) h bs = refl
-value_begins (array w elements) h bs = refl
-value_begins (empty_object w) h bs = refl
-value_begins (object w members) h bs = refl
+value_begins _ h bs = refl
 
 pub elements_begin : (elements : Elements) → AreElements elements → (bs : List ℕ)
     → begins_solid (elements_bytes elements bs) ≡ true
@@ -365,8 +348,7 @@ told : (from : yaml_encoding_t) → may_be_utf8 from ≡ true → (bs : List ℕ
 unfolding mark_length encoding_of
 told YAML_ANY_ENCODING may bs h = any_told bs h
 told YAML_UTF8_ENCODING may bs h = (refl, refl)
-told YAML_UTF16LE_ENCODING may bs h = absurd (true≢false (sym may))
-told YAML_UTF16BE_ENCODING may bs h = absurd (true≢false (sym may))
+told _ may bs h = absurd (true≢false (sym may))
 
 -- In UTF-8 the bytes spell themselves.
 pub text_spells : (from : yaml_encoding_t) → may_be_utf8 from ≡ true → (bytes : List ℕ) (t : Text)
@@ -461,14 +443,12 @@ parts_of (l ∷ ls) = part_of l ∷ parts_of ls
 part_spelled : (l : Letter) → spelled (part_of l) ≡ letter_bytes l
 unfolding part_of
 part_spelled (raw c) = refl
-part_spelled (short s) = refl
-part_spelled (coded a b c d) = refl
+part_spelled _ = refl
 
 part_meant : (l : Letter) → meant (part_of l) ≡ letter_means l
 unfolding part_of
 part_meant (raw c) = refl
-part_meant (short s) = refl
-part_meant (coded a b c d) = refl
+part_meant _ = refl
 
 parts_spelled : (ls : List Letter) → spelling (parts_of ls) ≡ letters_bytes ls
 unfolding spelling parts_of
@@ -508,14 +488,12 @@ part_stands (coded a b c d) (ha, hb, hc, hd) k =
 no_turn : (l : Letter) → is_turn (part_of l) ≡ false
 unfolding part_of
 no_turn (raw c) = refl
-no_turn (short s) = refl
-no_turn (coded a b c d) = refl
+no_turn _ = refl
 
 no_fold : (l : Letter) → is_fold (part_of l) ≡ false
 unfolding part_of
 no_fold (raw c) = refl
-no_fold (short s) = refl
-no_fold (coded a b c d) = refl
+no_fold _ = refl
 
 next_follows : (l : Letter) (ls : List Letter) → may_be_next (part_of l) (parts_of ls) ≡ true
 unfolding parts_of

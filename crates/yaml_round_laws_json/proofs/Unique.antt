@@ -1,19 +1,17 @@
 -- A content is that of one value.
 use Rattle.std.proofs.Common.{◌≡◌, ℕ, true, false, List, [], ◌∷◌, Result, Ok, refl, ap, ◌∙◌, arith}
 use Rattle.yaml_round_content.specs.scan_model.Faults.{Fault}
-use Rattle.yaml_round_content.specs.Said.{untagged, tagged}
+use Rattle.yaml_round_laws_json.proofs.Words.{untagged, Json, bare, text, list, pairs, Jsons, nothing, one, JsonPairs, no_pairs, pair, content, contents, pair_contents, json_content}
 use Rattle.yaml_round_content.specs.Said as said
-use Rattle.yaml_round_laws_json.specs.Values.{Json, bare, text, list, pairs, Jsons, nothing, one, JsonPairs, no_pairs, pair, content, contents, pair_contents, json_content}
 
 -- ---- parts of contents
 
 kind_of : said.Node → ℕ
-kind_of (said.alias name) = 4
 kind_of (said.scalar anchor (untagged true) value) = 0
 kind_of (said.scalar anchor (untagged false) value) = 1
-kind_of (said.scalar anchor (tagged t) value) = 4
 kind_of (said.sequence anchor tag items) = 2
 kind_of (said.mapping anchor tag rows) = 3
+kind_of _ = 4
 
 value_of : said.Node → List ℕ
 value_of (said.scalar anchor mark value) = value
@@ -62,7 +60,6 @@ mutual
 
   one_value : (v w : Json) → content v ≡ content w → v ≡ w
   one_value (bare a) (bare b) e = ap bare (ap value_of e)
-  one_value (bare a) (text b) e = let h = ap kind_of e in absurd (omega (arith, h))
   one_value (bare a) (list ws) e = let h = ap kind_of e in absurd (omega (arith, h))
   one_value (bare a) (pairs qs) e = let h = ap kind_of e in absurd (omega (arith, h))
   one_value (text a) (bare b) e = let h = ap kind_of e in absurd (omega (arith, h))
@@ -70,13 +67,12 @@ mutual
   one_value (text a) (list ws) e = let h = ap kind_of e in absurd (omega (arith, h))
   one_value (text a) (pairs qs) e = let h = ap kind_of e in absurd (omega (arith, h))
   one_value (list vs) (bare b) e = let h = ap kind_of e in absurd (omega (arith, h))
-  one_value (list vs) (text b) e = let h = ap kind_of e in absurd (omega (arith, h))
   one_value (list vs) (list ws) e = ap list (one_list vs ws (ap items_of e))
   one_value (list vs) (pairs qs) e = let h = ap kind_of e in absurd (omega (arith, h))
   one_value (pairs ps) (bare b) e = let h = ap kind_of e in absurd (omega (arith, h))
-  one_value (pairs ps) (text b) e = let h = ap kind_of e in absurd (omega (arith, h))
   one_value (pairs ps) (list ws) e = let h = ap kind_of e in absurd (omega (arith, h))
   one_value (pairs ps) (pairs qs) e = ap pairs (one_row ps qs (ap pairs_of e))
+  one_value _ (text b) e = let h = ap kind_of e in absurd (omega (arith, h))
 
   one_list : (vs ws : Jsons) → contents vs ≡ contents ws → vs ≡ ws
   one_list nothing nothing e = refl

@@ -1,25 +1,10 @@
 -- A JSON text is walked: its tokens are those of its value.
 use Rattle.std.proofs.Common.{◌≡◌, ℕ, ◌+◌, ◌==◌, ◌||◌, not, nat_lt, Bool, true, false, List, [], ◌∷◌, ◌++◌, length, refl, sym, ap, subst, ◌∙◌, inl, inr, arith, append-nil}
-use Rattle.std.proofs.lemmas.Bool.{true≢false, or_parts, and_parts}
-use Rattle.std.proofs.lemmas.Bool.Decides.{nat_tests}
+use Rattle.yaml_round_laws_json.proofs.Words.{true≢false, or_parts, and_parts, nat_tests, byte, TokenBody, are_gap, has, WalkState, Done, marks_come, walk_starts, walk_white, walk_stops, walk_says, Left, json_bodies, json_items, json_pairs, document_bodies, left_rest, end_begins, is_white, are_white, Value, literal, number, string, empty_array, array, empty_object, object, Elements, last_element, element, Members, last_member, member, literal_bytes, number_bytes, value_bytes, elements_bytes, members_bytes, IsValue, AreElements, AreMembers, Text, IsJsonText, json_value, json_node, json_nodes, json_document, is_bare, has_tab, has_tab_below, IsUsual, AreUsual, MembersAreUsual, IsUsualText}
 use Rattle.yaml_scan_history.specs.scan_model.declared.name.yaml_encoding_t.{yaml_encoding_t}
-use Rattle.yaml_scan_history.specs.scan_model.Marks.{byte}
 use Rattle.yaml_round_laws_documents.specs.parse_grammar.parse_model.Tokens as tokens
-use Rattle.yaml_round_laws_documents.specs.parse_grammar.parse_model.Tokens.{TokenBody}
-use Rattle.yaml_scan_history.specs.scan_words.Written.{are_gap}
-use Rattle.yaml_scan_history.proofs.HasLemmas.{has}
-use Rattle.yaml_scan_laws_levels.specs.Walks.{WalkState, Done}
-use Rattle.yaml_scan_laws_levels.proofs.Signing.{marks_come}
-use Rattle.yaml_scan_laws_levels.proofs.Walking.{walk_starts, walk_white, walk_stops, walk_says}
-use Rattle.yaml_emit_laws_text.specs.Walk.{Left}
-use Rattle.yaml_emit_laws_text.specs.PrettyBodies.{json_bodies, json_items, json_pairs, document_bodies}
 use Rattle.yaml_emit_laws_text.proofs.Places as places
-use Rattle.yaml_emit_laws_text.proofs.Places.{left_rest}
-use Rattle.yaml_emit_laws_text.proofs.Documents.{end_begins}
-use Rattle.yaml_round_laws_json.specs.Grammar.{is_white, are_white, Value, literal, number, string, empty_array, array, empty_object, object, Elements, last_element, element, Members, last_member, member, literal_bytes, number_bytes, value_bytes, elements_bytes, members_bytes, IsValue, AreElements, AreMembers, Text, IsJsonText}
-use Rattle.yaml_round_laws_json.specs.Values.{json_value, json_node, json_nodes, json_document}
 use Rattle.yaml_round_laws_json.specs.Values as values
-use Rattle.yaml_round_laws_json.specs.Exceptions.{is_bare, has_tab, has_tab_below, IsUsual, AreUsual, MembersAreUsual, IsUsualText}
 use Rattle.yaml_round_laws_json.proofs.Whites.{tabs_fit}
 use Rattle.yaml_round_laws_json.proofs.Strings.{literal_plain, number_plain, value_begins, elements_begin, members_begin}
 use Rattle.yaml_round_laws_json.proofs.Steps.{Tell, Behind, At, Ready, nothing_left, no_gap, opener_step, closer_step, comma_step, plain_step, string_step, key_step}

@@ -1,22 +1,11 @@
 -- The white of JSON, with tabs, between lexemes.
 use Rattle.std.proofs.Common.{◌≡◌, ◌≢◌, ℕ, zero, suc, ◌+◌, ◌<◌, ◌≤◌, ◌==◌, ◌&&◌, ◌||◌, not, nat_lt, Bool, true, false, List, [], ◌∷◌, length, refl, sym, ap, subst, ◌∙◌, inl, inr, ◌⊎◌, arith}
-use Rattle.std.proofs.lemmas.Bool.{true≢false, cases_Bool, and_parts, ne_eqb, lt-ltb}
-use Rattle.std.proofs.lemmas.Bool.Decides.{nat_tests}
-use Rattle.yaml_scan_history.specs.scan_model.Marks.{byte, break_of, break_width}
+use Rattle.yaml_round_laws_json.proofs.Words.{true≢false, cases_Bool, and_parts, ne_eqb, lt-ltb, nat_tests, byte, break_of, break_width, are_gap, begins_lexeme, Has, depth, in_flow, key_allowed, WordText, IsGap, WordLeaves, is_white, are_white, is_break, has_tab, has_tab_below, lexeme_parts, break_parts, no_bom, no_skip, cr_width, some_width}
 use Rattle.yaml_scan_history.specs.scan_model.Classes.{is_bom}
 use Rattle.yaml_scan_history.specs.scan_words.Between.{step_at, is_skipped, Gap, gap_within, gap_at}
-use Rattle.yaml_scan_history.specs.scan_words.Written.{are_gap, begins_lexeme}
 use Rattle.yaml_scan_history.proofs.BetweenLemmas.{gap_blank, gap_break, gap_stop}
-use Rattle.yaml_scan_history.proofs.HasLemmas.{Has}
-use Rattle.yaml_scan_history.specs.History.{depth, in_flow, key_allowed}
-use Rattle.yaml_scan_history.specs.Words.{WordText}
 use Rattle.yaml_scan_history.specs.Next.{gap_behind}
-use Rattle.yaml_scan_laws_levels.specs.White.{IsGap}
-use Rattle.yaml_scan_laws_levels.specs.Steps.{WordLeaves}
 use Rattle.yaml_scan_laws_levels.proofs.Whites.{no_white, has_first}
-use Rattle.yaml_round_laws_json.specs.Grammar.{is_white, are_white}
-use Rattle.yaml_round_laws_json.specs.Exceptions.{is_break, has_tab, has_tab_below}
-use Rattle.yaml_scan_history.proofs.GapsRead.{lexeme_parts, break_parts, no_bom, no_skip, cr_width, some_width}
 
 -- ---- one step
 
@@ -113,14 +102,13 @@ no_less (b ∷ bs) h =
 
 fits_break : (flow allowed : Bool) (b : ℕ) (bs : List ℕ) → is_break b ≡ true
     → tabs_fit flow allowed (b ∷ bs) ≡ true → tabs_fit flow (allowed || not flow) bs ≡ true
-fits_break true true b bs e h = refl
-fits_break true false b bs e h = refl
 fits_break false true b bs e h = less (b == 9) (has_tab bs) h
   where
     less : (x y : Bool) → not (x || y) ≡ true → not y ≡ true
     less false y h = h
     less true y h = absurd (true≢false (sym h))
 fits_break false false b bs e h = rw e at h
+fits_break true _ b bs e h = refl
 
 -- ---- gaps
 

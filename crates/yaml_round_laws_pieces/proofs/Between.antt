@@ -1,18 +1,7 @@
 -- A document's start forgets whether breaks were kept.
 use Rattle.std.proofs.Common.{◌≡◌, ℕ, Bool, true, false, ◌&&◌, List, [], ◌∷◌, refl, Option, Some, None}
-use Rattle.yaml_emit_text.specs.declared.Cursor.{Cursor}
-use Rattle.yaml_emit_text.specs.declared.Settings.{Settings}
-use Rattle.yaml_emit_text.specs.declared.LineBreak.{LineBreak}
-use Rattle.yaml_emit_text.specs.declared.LineBreak.TheVariants.{Lf, Cr, CrLf}
-use Rattle.yaml_emit_text.specs.Layout.{Rest, Layout, ◌▹◌, when, word, letters, blanks, line, keep, nothing_more}
-use Rattle.yaml_emit_layout.specs.declared.Problem.{Problem}
+use Rattle.yaml_round_laws_pieces.proofs.Words.{Cursor, Settings, LineBreak, Lf, Cr, CrLf, Rest, Layout, ◌▹◌, when, word, letters, blanks, line, keep, nothing_more, Problem, Opening, Event, document_start, is_directed, dots, version_text, directives_text, is_marked, dashes, start_layout, State, placed, piece, next, problem_at, opens_empty, text_at, depth_at, is_ready, let_out, unless, laid, DocumentsStandByEnds}
 use Rattle.yaml_emit_layout.specs.declared.Expected.TheVariants as at
-use Rattle.yaml_emit_layout.specs.Content.{Opening, Event, document_start}
-use Rattle.yaml_emit_layout.specs.Nodes.{is_directed, dots, version_text, directives_text, is_marked, dashes, start_layout}
-use Rattle.yaml_emit_layout.specs.State.{State, placed, piece, next, problem_at, opens_empty, text_at, depth_at}
-use Rattle.yaml_emit_held.specs.Held.{is_ready}
-use Rattle.yaml_emit_held.specs.Judged.{let_out, unless, laid}
-use Rattle.yaml_round_laws_pieces.specs.Laws.{DocumentsStandByEnds}
 
 abbrev cursor : ℕ → Bool → Bool → Bool → Cursor
 cursor column white bare kept = record { column = column; white = white; bare = bare; kept = kept }

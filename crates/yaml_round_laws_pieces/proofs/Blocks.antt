@@ -1,21 +1,6 @@
 -- A line comes first, and forgets the one before it; or a collection ends, and its surroundings go on.
 use Rattle.std.proofs.Common.{◌≡◌, ℕ, Bool, true, false, true≢false, not, ◌&&◌, List, [], ◌∷◌, refl, sym, Option, Some, None}
-use Rattle.yaml_emit_text.specs.declared.Cursor.{Cursor}
-use Rattle.yaml_emit_text.specs.declared.Settings.{Settings}
-use Rattle.yaml_emit_text.specs.declared.LineBreak.{LineBreak}
-use Rattle.yaml_emit_text.specs.declared.LineBreak.TheVariants.{Lf, Cr, CrLf}
-use Rattle.yaml_emit_text.specs.Layout.{Rest, Layout, line, nothing_more}
-use Rattle.yaml_emit_layout.specs.parse_model.Events.{TagDirective}
-use Rattle.yaml_emit_layout.specs.declared.Level.{Level}
-use Rattle.yaml_emit_layout.specs.declared.Problem.{Problem}
-use Rattle.yaml_emit_layout.specs.declared.Phase.{Phase}
-use Rattle.yaml_emit_layout.specs.declared.Phase.TheVariants.{Items, Keys, Value}
-use Rattle.yaml_emit_layout.specs.Content.{Event, no_event, stream_start, stream_end, document_start, document_end, alias, scalar, sequence_start, sequence_end, mapping_start, mapping_end}
-use Rattle.yaml_emit_layout.specs.Grammar.{or_else, problem_by, place_problem, last_problem}
-use Rattle.yaml_emit_layout.specs.Nodes.{before_item, before_key, closer, end_layout}
-use Rattle.yaml_emit_layout.specs.State.{State, among, piece, next, next_at, problem_at, opens_empty, text_at, depth_at, top_of, place_at}
-use Rattle.yaml_emit_held.specs.Judged.{let_out, unless, laid, refused_at}
-use Rattle.yaml_round_laws_pieces.specs.Laws.{is_between, are_between, BlocksStandByLevels}
+use Rattle.yaml_round_laws_pieces.proofs.Words.{Cursor, Settings, LineBreak, Lf, Rest, Layout, line, nothing_more, TagDirective, Level, Problem, Phase, Items, Keys, Value, Event, document_end, alias, scalar, sequence_start, sequence_end, mapping_start, mapping_end, or_else, problem_by, place_problem, last_problem, before_item, before_key, closer, end_layout, State, among, piece, next, next_at, problem_at, opens_empty, text_at, depth_at, top_of, place_at, let_out, unless, laid, refused_at, is_between, are_between, BlocksStandByLevels}
 
 -- both lines have text, behind block scalars that both keep their breaks or both don't
 record Lined (c d : Cursor) : Type 0 where
@@ -27,8 +12,7 @@ line_same : (b : LineBreak) (n : ℕ) (c d : Cursor) (rest : Rest) → Lined c d
     → line b n c rest ≡ line b n d rest
 unfolding line
 line_same Lf n c d rest h = rw h.first (rw h.second (rw h.kept refl))
-line_same Cr n c d rest h = rw h.first (rw h.second (rw h.kept refl))
-line_same CrLf n c d rest h = rw h.first (rw h.second (rw h.kept refl))
+line_same _ n c d rest h = rw h.first (rw h.second (rw h.kept refl))
 
 never : (p q : Option Problem) (x : Problem) → or_else p (or_else (Some x) q) ≡ None → ⊥
 never None q x h = cc
@@ -50,16 +34,7 @@ root_same : (s : Settings) (g : List TagDirective) (e : Event) (b : Bool) (c d :
     (k : State → Rest) → Lined c d → problem_at s (among g []) e ≡ None → Same s g [] e b c d k
 unfolding problem_by place_problem text_at depth_at end_layout
 root_same s g (document_end implicit) b c d k h p = line_same s.line_break 0 c d _ h
-root_same s g no_event b c d k h p = absurd (never _ (last_problem no_event) _ p)
-root_same s g (stream_start x) b c d k h p = absurd (never _ (last_problem (stream_start x)) _ p)
-root_same s g stream_end b c d k h p = absurd (never _ (last_problem stream_end) _ p)
-root_same s g (document_start o) b c d k h p = absurd (never _ (last_problem (document_start o)) _ p)
-root_same s g (alias name) b c d k h p = absurd (never _ (last_problem (alias name)) _ p)
-root_same s g (scalar x) b c d k h p = absurd (never _ (last_problem (scalar x)) _ p)
-root_same s g (sequence_start q) b c d k h p = absurd (never _ (last_problem (sequence_start q)) _ p)
-root_same s g sequence_end b c d k h p = absurd (never _ (last_problem sequence_end) _ p)
-root_same s g (mapping_start q) b c d k h p = absurd (never _ (last_problem (mapping_start q)) _ p)
-root_same s g mapping_end b c d k h p = absurd (never _ (last_problem mapping_end) _ p)
+root_same s g e b c d k h p = absurd (never _ (last_problem e) _ p)
 
 abbrev items : ℕ → Bool → Level
 items n fresh = record { phase = Items fresh; flow = false; indent = n }
@@ -77,12 +52,7 @@ items_same s g n fresh ls (scalar x) b c d k h r p = line_same s.line_break n c 
 items_same s g n fresh ls (sequence_start q) b c d k h r p = line_same s.line_break n c d _ h
 items_same s g n fresh ls (mapping_start q) b c d k h r p = line_same s.line_break n c d _ h
 items_same s g n fresh ls sequence_end b c d k h r p = r
-items_same s g n fresh ls no_event b c d k h r p = absurd (never _ (last_problem no_event) _ p)
-items_same s g n fresh ls (stream_start x) b c d k h r p = absurd (never _ (last_problem (stream_start x)) _ p)
-items_same s g n fresh ls stream_end b c d k h r p = absurd (never _ (last_problem stream_end) _ p)
-items_same s g n fresh ls (document_start o) b c d k h r p = absurd (never _ (last_problem (document_start o)) _ p)
-items_same s g n fresh ls (document_end implicit) b c d k h r p = absurd (never _ (last_problem (document_end implicit)) _ p)
-items_same s g n fresh ls mapping_end b c d k h r p = absurd (never _ (last_problem mapping_end) _ p)
+items_same s g n fresh ls e b c d k h r p = absurd (never _ (last_problem e) _ p)
 
 keys_same : (s : Settings) (g : List TagDirective) (n : ℕ) (fresh : Bool) (ls : List Level)
     (e : Event) (b : Bool) (c d : Cursor) (k : State → Rest) → Lined c d
@@ -94,12 +64,7 @@ keys_same s g n fresh ls (scalar x) b c d k h r p = line_same s.line_break n c d
 keys_same s g n fresh ls (sequence_start q) b c d k h r p = line_same s.line_break n c d _ h
 keys_same s g n fresh ls (mapping_start q) b c d k h r p = line_same s.line_break n c d _ h
 keys_same s g n fresh ls mapping_end b c d k h r p = r
-keys_same s g n fresh ls no_event b c d k h r p = absurd (never _ (last_problem no_event) _ p)
-keys_same s g n fresh ls (stream_start x) b c d k h r p = absurd (never _ (last_problem (stream_start x)) _ p)
-keys_same s g n fresh ls stream_end b c d k h r p = absurd (never _ (last_problem stream_end) _ p)
-keys_same s g n fresh ls (document_start o) b c d k h r p = absurd (never _ (last_problem (document_start o)) _ p)
-keys_same s g n fresh ls (document_end implicit) b c d k h r p = absurd (never _ (last_problem (document_end implicit)) _ p)
-keys_same s g n fresh ls sequence_end b c d k h r p = absurd (never _ (last_problem sequence_end) _ p)
+keys_same s g n fresh ls e b c d k h r p = absurd (never _ (last_problem e) _ p)
 
 -- those behind an event are laid out from the state that it leads to
 later : Settings → List Event → State → Rest

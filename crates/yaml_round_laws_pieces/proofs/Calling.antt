@@ -1,12 +1,6 @@
 -- Calls one behind another.
 use Rattle.std.proofs.Common.{◌≡◌, ℕ, suc, ◌+◌, List, [], ◌∷◌, ◌++◌, length, refl, sym, ap, ◌∙◌, arith, append_assoc, append-nil, length-append}
-use Rattle.yaml_emit_text.specs.declared.Encoding.{Encoding}
-use Rattle.yaml_emit_text.specs.declared.Settings.{Settings}
-use Rattle.yaml_emit_text.specs.Text.{encode}
-use Rattle.yaml_emit_text.specs.Layout.{nothing_more}
-use Rattle.yaml_emit_layout.specs.Content.{Event}
-use Rattle.yaml_emit_held.specs.Judged.{let_out, laid, refusal_behind, text_from}
-use Rattle.yaml_round_laws_pieces.specs.Pieces.{Stand, first_stand, added, joined}
+use Rattle.yaml_round_laws_pieces.proofs.Words.{Encoding, Settings, encode, nothing_more, Event, let_out, laid, refusal_behind, text_from, Stand, first_stand, added, joined}
 use Rattle.yaml_round_laws_pieces.specs.Calls.{LeadsIn, taken_up, Calls, no_call, call, CallsAreWholes}
 
 -- where events wait, what is given behind them is what is given with them
@@ -30,12 +24,6 @@ waits_in : (x : Encoding) (s : Settings) (a b : Stand) (es : List Event) → Lea
     → encode x (added s b []) ≡ []
 waits_in x s a b es l = no_more (encode x (added s a es)) (encode x (added s b [])) (sym (ap (λ (z : List Event). encode x (added s a z)) (append-nil es)) ∙ l.bytes [])
 
--- one call, and those behind it
-one_more : (x : Encoding) (s : Settings) (a b : Stand) (es more : List Event) (texts : List ℕ)
-    → LeadsIn x s a es b → texts ≡ encode x (added s b more)
-    → encode x (added s a es) ++ texts ≡ encode x (added s a (es ++ more))
-one_more x s a b es more texts l h = ap (λ z. encode x (added s a es) ++ z) h ∙ sym (l.bytes more)
-
 calls_join : (x : Encoding) (s : Settings) (a : Stand) (pieces : List (List Event))
     (texts : List (List ℕ)) (b : Stand) → Calls x s a pieces texts b
     → encode x (added s a []) ≡ [] → joined texts ≡ encode x (added s a (joined pieces))
@@ -43,7 +31,7 @@ unfolding joined
 calls_join x s _ _ _ _ (no_call a) h = sym h
 calls_join x s _ _ _ _ (call a b c es pieces texts l k) h =
     let m = taken_leads x s a b es l in
-    one_more x s a b es (joined pieces) (joined texts) m (calls_join x s b pieces texts c k (waits_in x s a b es m))
+    (ap (λ z. encode x (added s a es) ++ z) (calls_join x s b pieces texts c k (waits_in x s a b es m)) ∙ sym (m.bytes (joined pieces)))
 
 calls_refuse : (x : Encoding) (s : Settings) (a : Stand) (pieces : List (List Event))
     (texts : List (List ℕ)) (b : Stand) (more : List Event) → Calls x s a pieces texts b

@@ -1,24 +1,12 @@
 -- So is what is written for an event.
 use Rattle.std.proofs.Common.{ℕ, ◌-◌, Bool, true, false, not, ◌&&◌, if◌then◌else◌, List, [], ◌∷◌, Option, Some, None}
-use Rattle.std.specs.Prelude.{codes}
+use Rattle.yaml_round_laws_pieces.proofs.Words.{codes, Cursor, Settings, Layout, ◌▹◌, stay, choose, when, char, word, indicator, opener, keep, scalar_text, TagDirective, Level, Phase, Items, Keys, Value, Scalar, Start, Opening, Event, no_event, stream_start, stream_end, document_start, document_end, alias, scalar, sequence_start, sequence_end, mapping_start, mapping_end, scalar_tag, start_tag, Context, is_simple_part, deeper, checked, line_at, wrap_at, anchor_text, tag_text, properties_text, style_of, mark_text, page_at, scalar_layout, alias_layout, is_flow, indent_of, indented, comma, turned, before_item, question, before_key, before_value, closer, dots, version_word, version_text, directive_text, directives_text, is_directed, dashes, is_marked, start_layout, end_layout, is_kept, stop_layout, is_simple_event, position_of, before_at, before_node, stop_at, start_at, is_fresh, closer_at, start_text, depth_text, text_at, depth_at, piece_at}
 use Rattle.std.specs.Str.{chars}
-use Rattle.yaml_emit_text.specs.declared.Cursor.{Cursor}
-use Rattle.yaml_emit_text.specs.declared.Settings.{Settings}
-use Rattle.yaml_emit_text.specs.Layout.{Layout, ◌▹◌, stay, choose, when, char, word, indicator, opener, keep}
-use Rattle.yaml_emit_text.specs.Scalars.{scalar_text}
 use Rattle.yaml_emit_layout.specs.scan_model.declared.yaml_version_directive_t.{yaml_version_directive_t}
-use Rattle.yaml_emit_layout.specs.parse_model.Events.{TagDirective}
 use Rattle.yaml_emit_layout.specs.emit_tags.Tags.{tag_spelling, uri_text}
 use Rattle.yaml_emit_layout.specs.declared.NodePosition.{NodePosition}
-use Rattle.yaml_emit_layout.specs.declared.Level.{Level}
-use Rattle.yaml_emit_layout.specs.declared.Phase.{Phase}
-use Rattle.yaml_emit_layout.specs.declared.Phase.TheVariants.{Items, Keys, Value}
 use Rattle.yaml_emit_layout.specs.declared.Expected.{Expected}
 use Rattle.yaml_emit_layout.specs.declared.Expected.TheVariants as at
-use Rattle.yaml_emit_layout.specs.Content.{Scalar, Start, Opening, Event, no_event, stream_start, stream_end, document_start, document_end, alias, scalar, sequence_start, sequence_end, mapping_start, mapping_end}
-use Rattle.yaml_emit_layout.specs.Grammar.{scalar_tag, start_tag}
-use Rattle.yaml_emit_layout.specs.Nodes.{Context, is_simple_part, deeper, checked, line_at, wrap_at, anchor_text, tag_text, properties_text, style_of, mark_text, page_at, scalar_layout, alias_layout, is_flow, indent_of, indented, comma, turned, before_item, question, before_key, before_value, closer, dots, version_word, version_text, directive_text, directives_text, is_directed, dashes, is_marked, start_layout, end_layout, is_kept, stop_layout}
-use Rattle.yaml_emit_layout.specs.State.{is_simple_event, position_of, before_at, before_node, stop_at, start_at, is_fresh, closer_at, start_text, depth_text, text_at, depth_at, piece_at}
 use Rattle.yaml_round_laws_pieces.proofs.Regular.{Written, Regular, both, stay_regular, when_regular, if_regular, choose_regular, char_regular, keep_regular, mark_regular, word_regular, indicator_regular, opener_regular, line_regular, wrap_regular, checked_regular, scalar_text_regular}
 
 -- ---- nodes
@@ -170,20 +158,12 @@ ending_regular s implicit = both (line_at s 0) (when (not implicit) (dots s)) (a
 
 stop_regular : (s : Settings) (place : Expected) → Regular (stop_at s place)
 unfolding stop_layout
-stop_regular s at.StreamStart = stay_regular
 stop_regular s (at.Documents first unended) = when_regular unended (choose is_kept (dots s) stay) (choose_regular is_kept (dots s) stay (dots_regular s) stay_regular)
-stop_regular s at.Node = stay_regular
-stop_regular s at.DocumentEnd = stay_regular
-stop_regular s at.End = stay_regular
-stop_regular s (at.Refused p) = stay_regular
+stop_regular s _ = stay_regular
 
 begin_regular : (s : Settings) (place : Expected) (o : Opening) → Regular (start_at s place o)
-begin_regular s at.StreamStart o = stay_regular
 begin_regular s (at.Documents first unended) o = opening_regular s first unended o
-begin_regular s at.Node o = stay_regular
-begin_regular s at.DocumentEnd o = stay_regular
-begin_regular s at.End o = stay_regular
-begin_regular s (at.Refused p) o = stay_regular
+begin_regular s _ o = stay_regular
 
 -- ---- events
 
@@ -215,15 +195,7 @@ deep_regular : (p : Context) (top : Option Level) (e : Event) (empty : Bool)
 unfolding depth_at
 deep_regular p top (sequence_start q) empty = depth_regular p (position_of top (is_simple_event p (sequence_start q) empty)) true q empty
 deep_regular p top (mapping_start q) empty = depth_regular p (position_of top (is_simple_event p (mapping_start q) empty)) false q empty
-deep_regular p top no_event empty = stay_regular
-deep_regular p top (stream_start x) empty = stay_regular
-deep_regular p top stream_end empty = stay_regular
-deep_regular p top (document_start o) empty = stay_regular
-deep_regular p top (document_end implicit) empty = stay_regular
-deep_regular p top (alias name) empty = stay_regular
-deep_regular p top (scalar v) empty = stay_regular
-deep_regular p top sequence_end empty = stay_regular
-deep_regular p top mapping_end empty = stay_regular
+deep_regular p top _ empty = stay_regular
 
 pub piece_regular : (p : Context) (place : Expected) (top : Option Level) (e : Event) (empty : Bool)
     → Regular (piece_at p place top e empty)

@@ -1,12 +1,7 @@
 -- Pieces one behind another, and what stands in for what was written.
 use Rattle.std.proofs.Common.{◌≡◌, suc, ◌+◌, List, [], ◌∷◌, ◌++◌, length, refl, sym, ap, ◌∙◌, arith, append_assoc, append-nil, length-append, map}
-use Rattle.yaml_emit_text.specs.declared.Encoding.{Encoding}
-use Rattle.yaml_emit_text.specs.declared.Settings.{Settings}
-use Rattle.yaml_emit_text.specs.Text.{Item, letter, deep, char_bytes, encode}
-use Rattle.yaml_emit_layout.specs.Content.{Event}
-use Rattle.yaml_emit_held.specs.Judged.{let_out, laid}
-use Rattle.yaml_round_laws_pieces.specs.Pieces.{Stand, first_stand, added, whole, LeadsToStand, joined, Cuts, no_piece, piece}
-use Rattle.yaml_round_laws_pieces.specs.Laws.{CuttingsAreWholes, CutsAreThere, FrontsAreShown, StandInsStand}
+use Rattle.yaml_round_laws_pieces.proofs.Words.{Encoding, Settings, Item, letter, deep, char_bytes, encode, Event, let_out, laid, Stand, first_stand, added, whole, LeadsToStand, joined, Cuts, no_piece, CuttingsAreWholes, CutsAreThere, FrontsAreShown, StandInsStand}
+use Rattle.yaml_round_laws_pieces.specs.Pieces.{piece}
 use Rattle.yaml_round_laws_pieces.proofs.Leading.{there}
 
 encode_both : (x : Encoding) (s t : List Item) → encode x (s ++ t) ≡ encode x s ++ encode x t
@@ -28,9 +23,6 @@ no_more xs (y ∷ ys) h =
     let k : length xs ≡ length xs + suc (length ys) = ap length h ∙ length-append xs (y ∷ ys) in
     absurd (omega arith)
 
-waits : (s : Settings) (a b : Stand) (es : List Event) → LeadsToStand s a es b → added s b [] ≡ []
-waits s a b es l = no_more (added s a es) (added s b []) (sym (ap (added s a) (append-nil es)) ∙ l.texts [])
-
 -- of one piece, and those behind it
 one_more : (s : Settings) (a b : Stand) (es more : List Event) (texts : List Item)
     → LeadsToStand s a es b
@@ -41,7 +33,7 @@ joined_texts : (s : Settings) (a : Stand) (pieces : List (List Event)) (texts : 
     → Cuts s a pieces texts → added s a [] ≡ [] → joined texts ≡ added s a (joined pieces)
 unfolding joined
 joined_texts s _ _ _ (no_piece a) h = sym h
-joined_texts s _ _ _ (piece a b es pieces texts l k) h = one_more s a b es (joined pieces) (joined texts) l (joined_texts s b pieces texts k (waits s a b es l))
+joined_texts s _ _ _ (piece a b es pieces texts l k) h = one_more s a b es (joined pieces) (joined texts) l (joined_texts s b pieces texts k (no_more (added s a es) (added s b []) (sym (ap (added s a) (append-nil es)) ∙ l.texts [])))
 
 first_waits : (s : Settings) → added s first_stand [] ≡ []
 unfolding let_out laid

@@ -1,27 +1,14 @@
 -- What is written for events that begin a stream is a front of its layout; a wrong event adds nothing.
 use Rattle.std.proofs.Common.{◌≡◌, Bool, true, false, not, List, [], ◌∷◌, ◌++◌, refl, sym, ap, ◌∙◌, append_assoc, append-nil, Option, Some, None}
 use Rattle.std.proofs.Math.Path.{fun_ext}
-use Rattle.yaml_emit_text.specs.declared.Cursor.{Cursor}
-use Rattle.yaml_emit_text.specs.declared.Settings.{Settings}
-use Rattle.yaml_emit_text.specs.Text.{Item}
-use Rattle.yaml_emit_text.specs.Layout.{Rest, start, nothing_more, written}
-use Rattle.yaml_emit_layout.specs.declared.Problem.{Problem}
+use Rattle.yaml_round_laws_pieces.proofs.Words.{Cursor, Settings, Item, Rest, start, nothing_more, written, Problem, Document, Event, sequence_start, sequence_end, mapping_start, mapping_end, stream_events, or_else, event_problem, last_problem, place_problem, problem_by, own_problems, stream_layout, context_of, Progress, problem_in, progress_after, first_refusal, State, placed, piece, next, problem_at, opens_empty, top_of, is_ready, let_out, laid, shape_of, same_problem, shape_next, or_none, unless_none, unless_some, first_out, whole}
 use Rattle.yaml_emit_layout.specs.declared.Expected.TheVariants as at
-use Rattle.yaml_emit_layout.specs.Content.{Document, Event, no_event, stream_start, stream_end, document_start, document_end, alias, scalar, sequence_start, sequence_end, mapping_start, mapping_end, stream_events}
-use Rattle.yaml_emit_layout.specs.Grammar.{or_else, event_problem, last_problem, place_problem, problem_by, own_problems}
-use Rattle.yaml_emit_layout.specs.Nodes.{stream_layout, context_of}
-use Rattle.yaml_emit_layout.specs.Progress.{Progress, problem_in, progress_after, first_refusal}
-use Rattle.yaml_emit_layout.specs.State.{State, placed, piece, next, problem_at, opens_empty, top_of}
 use Rattle.yaml_emit_layout.specs.ToCome.{ToCome, stream, events}
 use Rattle.yaml_emit_layout.specs.ToCome as come
 use Rattle.yaml_emit_layout.proofs.LeadsOn.{goes}
-use Rattle.yaml_emit_held.specs.Held.{is_ready}
-use Rattle.yaml_emit_held.specs.Judged.{let_out, laid, shape_of}
-use Rattle.yaml_emit_held.proofs.Judging.{same_problem, shape_next, or_none, unless_none, unless_some, first_out}
 use Rattle.yaml_emit_machine.proofs.Ending.{nothing_held}
 use Rattle.yaml_emit_machine.proofs.Grammatical.{first_right, right_there}
 use Rattle.yaml_emit_machine.proofs.LaidOut.{streams_are_laid}
-use Rattle.yaml_round_laws_pieces.specs.Pieces.{whole}
 use Rattle.yaml_round_laws_pieces.specs.Layouts.{all_written, BeginsStream, StreamsAreLayouts, FrontsAreOfLayouts, stays_open, AllIsOfLayouts, WrongAddNothing}
 use Rattle.yaml_round_laws_pieces.proofs.Regular.{Written}
 use Rattle.yaml_round_laws_pieces.proofs.Events.{piece_regular}
@@ -86,30 +73,12 @@ opens_by_first : (e f : Event) (es more : List Event)
     → opens_empty e (f ∷ es ++ more) ≡ opens_empty e (f ∷ es)
 unfolding opens_empty
 opens_by_first (sequence_start p) f es more = refl
-opens_by_first (mapping_start p) f es more = refl
-opens_by_first no_event f es more = refl
-opens_by_first (stream_start x) f es more = refl
-opens_by_first stream_end f es more = refl
-opens_by_first (document_start o) f es more = refl
-opens_by_first (document_end implicit) f es more = refl
-opens_by_first (alias name) f es more = refl
-opens_by_first (scalar x) f es more = refl
-opens_by_first sequence_end f es more = refl
-opens_by_first mapping_end f es more = refl
+opens_by_first _ f es more = refl
 
 opens_none : (e : Event) → opens_empty e [] ≡ false
 unfolding opens_empty
 opens_none (sequence_start p) = refl
-opens_none (mapping_start p) = refl
-opens_none no_event = refl
-opens_none (stream_start x) = refl
-opens_none stream_end = refl
-opens_none (document_start o) = refl
-opens_none (document_end implicit) = refl
-opens_none (alias name) = refl
-opens_none (scalar x) = refl
-opens_none sequence_end = refl
-opens_none mapping_end = refl
+opens_none _ = refl
 
 not_so : (b : Bool) → not b ≡ true → b ≡ false
 not_so true h = cc
@@ -182,10 +151,8 @@ wrong_closes_none : (canonical : Bool) (h : Progress) (e f : Event) (more : List
     → problem_in canonical (progress_after h e) f ≡ Some x → opens_empty e (f ∷ more) ≡ false
 unfolding opens_empty
 wrong_closes_none canonical h (sequence_start p) sequence_end more x w = let right = end_in_sequence canonical h p in absurd (cc)
-wrong_closes_none canonical h (sequence_start p) f more x w = refl
 wrong_closes_none canonical h (mapping_start p) mapping_end more x w = let right = end_in_mapping canonical h p in absurd (cc)
-wrong_closes_none canonical h (mapping_start p) f more x w = refl
-wrong_closes_none canonical h e f more x w = refl
+wrong_closes_none canonical h _ f more x w = refl
 
 opens_alike_wrong : (canonical : Bool) (h : Progress) (e : Event) (es : List Event) (f : Event)
     (more : List Event) (x : Problem)

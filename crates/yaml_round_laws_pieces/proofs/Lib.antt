@@ -1,3 +1,4 @@
+mod Words
 mod Regular
 mod Events
 mod Leading

@@ -1,21 +1,14 @@
 -- A layout writes some text, whatever follows, and goes on where it ends.
 use Rattle.std.proofs.Common.{◌≡◌, ℕ, zero, suc, ◌+◌, ◌-◌, Bool, true, false, not, ◌&&◌, ◌||◌, ◌==◌, nat_lt, if◌then◌else◌, List, [], ◌∷◌, ◌++◌, refl, sym, ap, ◌∙◌, append_assoc, inl, inr}
 use Rattle.std.proofs.lemmas.Bool.{cases_Bool}
-use Rattle.yaml_emit_text.specs.declared.Cursor.{Cursor}
+use Rattle.yaml_round_laws_pieces.proofs.Words.{Cursor, Encoding, LineBreak, Lf, Cr, CrLf, Item, letter, deep, is_break, Rest, Layout, ◌▹◌, stay, choose, when, char, letters, blank, blanks, break, new_line, is_white, gap, word, indicator, opener, must_break, indent_to, line, is_past, wrap, keep, after_text, after_block, order_mark, value_break, cuts_at, cut, quote_char, text_char, flow_char, flow_body, plain, single_quoted, adds_break, cuts_block, line_blank, block_text, block_char, block_body, chomp, chomp_mark, digit_char, digit_mark, block_header, block, scalar_text, MOST, deep_if, checked}
 use Rattle.yaml_emit_text.specs.declared.Page.{Page}
 use Rattle.yaml_emit_text.specs.declared.Style.{Style}
 use Rattle.yaml_emit_text.specs.declared.Style.TheVariants as style
 use Rattle.yaml_emit_text.specs.declared.Chomp.{Chomp}
 use Rattle.yaml_emit_text.specs.declared.Chomp.TheVariants as chomping
-use Rattle.yaml_emit_text.specs.declared.Encoding.{Encoding}
-use Rattle.yaml_emit_text.specs.declared.Encoding.TheVariants.{Utf8, Utf16Le, Utf16Be}
-use Rattle.yaml_emit_text.specs.declared.LineBreak.{LineBreak}
-use Rattle.yaml_emit_text.specs.declared.LineBreak.TheVariants.{Lf, Cr, CrLf}
-use Rattle.yaml_emit_text.specs.Text.{Item, letter, deep, is_break}
-use Rattle.yaml_emit_text.specs.Layout.{Rest, Layout, ◌▹◌, stay, choose, when, char, letters, blank, blanks, break, new_line, is_white, gap, word, indicator, opener, must_break, indent_to, line, is_past, wrap, keep, after_text, after_block, order_mark}
+use Rattle.yaml_emit_text.specs.declared.Encoding.TheVariants.{Utf8}
 use Rattle.yaml_emit_text.specs.Quoted.{needs_escape, escape_text, first, is_empty, may_fold, fold, escaped, quoted_char, quoted_body, double_quoted}
-use Rattle.yaml_emit_text.specs.Scalars.{value_break, cuts_at, cut, quote_char, text_char, flow_char, flow_body, plain, single_quoted, adds_break, cuts_block, line_blank, block_text, block_char, block_body, chomp, chomp_mark, digit_char, digit_mark, block_header, block, scalar_text}
-use Rattle.yaml_emit_layout.specs.Nodes.{MOST, deep_if, checked}
 
 -- what it writes from there, and where it ends
 pub record Written (a : Layout) (c : Cursor) : Type 0 where
@@ -75,8 +68,7 @@ after_block_regular c = record { text = []; behind = _; is = λ rest. refl }
 
 pub mark_regular : (x : Encoding) → Regular (order_mark x)
 mark_regular Utf8 c = record { text = []; behind = c; is = λ rest. refl }
-mark_regular Utf16Le c = record { text = letter 0xFEFF ∷ []; behind = c; is = λ rest. refl }
-mark_regular Utf16Be c = record { text = letter 0xFEFF ∷ []; behind = c; is = λ rest. refl }
+mark_regular _ c = record { text = letter 0xFEFF ∷ []; behind = c; is = λ rest. refl }
 
 pub letters_regular : (t : List ℕ) → Regular (letters t)
 unfolding letters
@@ -135,15 +127,12 @@ fold_regular page rest =
     both (new_line page.line_break) (blanks page.indentation ▹ when (first rest == 32) (char 92)) (new_line_regular page.line_break)
     (both (blanks page.indentation) (when (first rest == 32) (char 92)) (blanks_regular page.indentation) (when_regular (first rest == 32) (char 92) (char_regular 92)))
 
-escaped_regular : (unicode : Bool) (x : ℕ) → Regular (escaped unicode x)
-escaped_regular unicode x = if_regular (needs_escape unicode x) (letters (escape_text x)) (char x) (letters_regular (escape_text x)) (char_regular x)
-
 quoted_char_regular : (page : Page) (before x : ℕ) (rest : List ℕ)
     → Regular (quoted_char page before x rest)
 unfolding quoted_char
 quoted_char_regular page before x rest =
     if_regular (may_fold page before x rest) (choose (is_past page.width) (fold page rest) (char x)) (escaped page.unicode x)
-    (choose_regular (is_past page.width) (fold page rest) (char x) (fold_regular page rest) (char_regular x)) (escaped_regular page.unicode x)
+    (choose_regular (is_past page.width) (fold page rest) (char x) (fold_regular page rest) (char_regular x)) (if_regular (needs_escape page.unicode x) (letters (escape_text x)) (char x) (letters_regular (escape_text x)) (char_regular x))
 
 quoted_body_regular : (page : Page) (before : ℕ) (xs : List ℕ)
     → Regular (quoted_body page before xs)
@@ -164,12 +153,9 @@ value_break_regular b x = if_regular (x == 10) (new_line b) (break x) (new_line_
 cut_regular : (page : Page) (x : ℕ) → Regular (cut page x)
 cut_regular page x = choose_regular (is_past page.width) (line page.line_break page.indentation) (char x) (line_regular page.line_break page.indentation) (char_regular x)
 
-quote_char_regular : (quote : Bool) (x : ℕ) → Regular (quote_char quote x)
-quote_char_regular quote x = both (when (quote && x == 39) (char 39)) (char x) (when_regular (quote && x == 39) (char 39) (char_regular 39)) (char_regular x)
-
 text_char_regular : (page : Page) (quote cuts : Bool) (x : ℕ)
     → Regular (text_char page quote cuts x)
-text_char_regular page quote cuts x = if_regular cuts (cut page x) (quote_char quote x) (cut_regular page x) (quote_char_regular quote x)
+text_char_regular page quote cuts x = if_regular cuts (cut page x) (quote_char quote x) (cut_regular page x) (both (when (quote && x == 39) (char 39)) (char x) (when_regular (quote && x == 39) (char 39) (char_regular 39)) (char_regular x))
 
 behind_break_regular : (page : Page) (b : Bool)
     → Regular (when b (line page.line_break page.indentation))
@@ -229,15 +215,12 @@ chomp_regular chomping.Strip = both (char 45) (keep false) (char_regular 45) (ke
 chomp_regular chomping.Clip = keep_regular false
 chomp_regular chomping.Keep = both (char 43) (keep true) (char_regular 43) (keep_regular true)
 
-digit_regular : (digit : ℕ) (value : List ℕ) → Regular (digit_mark digit value)
-digit_regular digit value = when_regular (first value == 32 || is_break (first value)) (char (digit_char digit)) (char_regular (digit_char digit))
-
 header_regular : (digit : ℕ) (folded : Bool) (value : List ℕ)
     → Regular (block_header digit folded value)
 header_regular digit folded value =
     both gap (char (if folded then 62 else 124) ▹ (digit_mark digit value ▹ chomp_mark (chomp true true value))) gap_regular
     (both (char (if folded then 62 else 124)) (digit_mark digit value ▹ chomp_mark (chomp true true value)) (char_regular (if folded then 62 else 124))
-    (both (digit_mark digit value) (chomp_mark (chomp true true value)) (digit_regular digit value) (chomp_regular (chomp true true value))))
+    (both (digit_mark digit value) (chomp_mark (chomp true true value)) (when_regular (first value == 32 || is_break (first value)) (char (digit_char digit)) (char_regular (digit_char digit))) (chomp_regular (chomp true true value))))
 
 block_regular : (page : Page) (digit : ℕ) (folded : Bool) (value : List ℕ)
     → Regular (block page digit folded value)

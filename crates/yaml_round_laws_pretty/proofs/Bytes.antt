@@ -1,20 +1,11 @@
 -- Bytes of pretty text are decoded to it.
 use Rattle.std.proofs.Common.{◌≡◌, ℕ, ◌+◌, ◌/◌, ◌%◌, ◌<◌, Bool, true, false, ◌&&◌, nat_lt, if◌then◌else◌, List, [], ◌∷◌, ◌++◌, drop, refl, sym, ap, ◌∙◌, arith, inl, inr, nat_eq}
-use Rattle.std.proofs.lemmas.Bool.{cases_Bool, ltb-true, and_parts, ne_eqb, eqb-true}
-use Rattle.std.proofs.lemmas.Bool.Decides.{nat_tests}
-use Rattle.yaml_round_laws_documents.specs.parse_grammar.parse_model.declared.yaml_encoding_t.TheVariants.{YAML_ANY_ENCODING, YAML_UTF8_ENCODING, YAML_UTF16LE_ENCODING, YAML_UTF16BE_ENCODING}
+use Rattle.yaml_round_laws_pretty.proofs.Words.{cases_Bool, ltb-true, and_parts, ne_eqb, eqb-true, nat_tests, YAML_ANY_ENCODING, YAML_UTF8_ENCODING, YAML_UTF16LE_ENCODING, YAML_UTF16BE_ENCODING, Item, letter, deep, shown, char_bytes, encode, Rest, order_mark, start, nothing_more, Encoding, documents_layout, stream_layout, encoding_of, mark_length, encoding_named, PrettyBytesDecode, nothing_allowed}
 use Rattle.yaml_round_laws_documents.specs.scan_decode.Characters.{is_allowed}
-use Rattle.yaml_round_laws_documents.specs.round_content.emit_text.Text.{Item, letter, deep, shown, char_bytes, encode}
 use Rattle.yaml_round_laws_documents.specs.emit_laws_text.emit_text.declared.Encoding.TheVariants.{Utf8, Utf16Le, Utf16Be}
-use Rattle.yaml_round_laws_documents.specs.round_content.emit_text.Layout.{Rest, order_mark, start, nothing_more}
-use Rattle.yaml_round_laws_documents.specs.emit_laws_text.emit_text.declared.Encoding.{Encoding}
-use Rattle.yaml_round_laws_documents.specs.emit_laws_text.emit_layout.Nodes.{documents_layout, stream_layout}
-use Rattle.yaml_round_laws_documents.specs.scan_decode.Encodings.{encoding_of, mark_length}
-use Rattle.yaml_round_laws_documents.specs.BytesLaws.{encoding_named}
 use Rattle.yaml_round_laws_documents.proofs.CanonicalJoining.{Decodes, decoded}
-use Rattle.yaml_round_laws_pretty.specs.Laws.{PrettyBytesDecode}
 use Rattle.yaml_round_laws_pretty.proofs.Layouts.{documents_tame}
-use Rattle.yaml_round_laws_documents.proofs.Layouts.{Allowed, nothing_allowed}
+use Rattle.yaml_round_laws_documents.proofs.Layouts.{Allowed}
 use Rattle.yaml_round_laws_documents.proofs.Marks.{Told, low_told, low_behind, high_told, high_behind}
 use Rattle.yaml_round_laws_pretty.proofs.Marks.{NoMark, Begins, begins_nothing, told_one, told_three, documents_heads}
 use Rattle.yaml_round_laws_documents.proofs.Encoding.{bytes_le, bytes_be, bytes_8, bytes_utf8}

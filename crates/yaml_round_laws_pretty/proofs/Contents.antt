@@ -1,51 +1,18 @@
 -- What the events say that are read of pretty text.
 use Rattle.std.proofs.Common.{◌≡◌, ℕ, Bool, true, false, not, ◌&&◌, ◌||◌, ◌==◌, if◌then◌else◌, List, [], ◌∷◌, length, map, Option, Some, None, refl, ap, ◌∙◌, chars}
-use Rattle.std.proofs.lemmas.Bool.{false≢true}
-use Rattle.std.proofs.Math.Bool.{and-false}
-use Rattle.yaml_round_laws_documents.specs.parse_grammar.parse_model.declared.yaml_encoding_t.{yaml_encoding_t}
-use Rattle.yaml_round_laws_documents.specs.parse_grammar.parse_model.declared.yaml_encoding_t.TheVariants.{YAML_ANY_ENCODING}
-use Rattle.yaml_round_laws_documents.specs.parse_grammar.parse_model.declared.yaml_scalar_style_t.{yaml_scalar_style_t}
+use Rattle.yaml_round_laws_pretty.proofs.Words.{false≢true, and-false, yaml_encoding_t, YAML_ANY_ENCODING, yaml_scalar_style_t, YAML_ANY_SEQUENCE_STYLE, YAML_ANY_MAPPING_STYLE, EventBody, Told, normalize_body, normalize_scalar, is_lone_mark, emitter_events, contents, Settings, Style, Allowed, allowed, taken, plain_fits, single_or, plain_or, Part, has, kept_if, kept_tag, scalar_tag, start_tag, Context, style_of, is_plain, is_simple, is_simple_part, key_part, are_none, are_no_pairs, IsNoMark, HasNoMark, HaveNoMark, PairsHaveNoMark, AreParsable, style_at, is_flow_at, style_named, takes_mark, scalar_reads, node_reads, items_reads, pairs_reads, documents_reads, HasScalarFlags, HasStartFlags, HasFlags, HaveFlags, PairsHaveFlags, HaveReaderFlags}
 use Rattle.yaml_round_laws_documents.specs.parse_grammar.parse_model.declared.yaml_scalar_style_t.TheVariants as asked
 use Rattle.yaml_round_laws_documents.specs.parse_grammar.parse_model.declared.yaml_scalar_style_t.TheVariants.{YAML_ANY_SCALAR_STYLE}
-use Rattle.yaml_round_laws_documents.specs.parse_grammar.parse_model.declared.yaml_sequence_style_t.TheVariants.{YAML_ANY_SEQUENCE_STYLE}
-use Rattle.yaml_round_laws_documents.specs.parse_grammar.parse_model.declared.yaml_mapping_style_t.TheVariants.{YAML_ANY_MAPPING_STYLE}
-use Rattle.yaml_round_laws_documents.specs.parse_grammar.parse_model.Events.{EventBody}
 use Rattle.yaml_round_laws_documents.specs.parse_grammar.parse_model.Events as event
-use Rattle.yaml_round_laws_documents.specs.parse_grammar.Resolve.{Told}
-use Rattle.yaml_round_laws_documents.specs.round_content.Normalize.{normalize_body, normalize_scalar, is_lone_mark}
 use Rattle.yaml_round_laws_documents.specs.round_content.Content.{content_of, counts_as_plain}
-use Rattle.yaml_round_laws_documents.specs.round_content.Events.{emitter_events, contents}
-use Rattle.yaml_round_laws_documents.specs.emit_laws_text.emit_text.declared.Settings.{Settings}
-use Rattle.yaml_round_laws_documents.specs.emit_laws_text.emit_text.declared.Style.{Style}
 use Rattle.yaml_round_laws_documents.specs.emit_laws_text.emit_text.declared.Style.TheVariants as style
-use Rattle.yaml_round_laws_documents.specs.emit_laws_text.emit_text.declared.Allowed.{Allowed}
-use Rattle.yaml_round_laws_documents.specs.emit_laws_text.emit_text.Style.{allowed, taken, plain_fits, single_or, plain_or}
-use Rattle.yaml_round_laws_documents.specs.emit_laws_text.emit_layout.declared.level.Part.{Part}
 use Rattle.yaml_round_laws_documents.specs.emit_laws_text.emit_layout.declared.level.Part.TheVariants as part
 use Rattle.yaml_round_laws_documents.specs.emit_laws_text.emit_layout.Content as emit
-use Rattle.yaml_round_laws_documents.specs.emit_laws_text.emit_layout.Grammar.{has, kept_if, kept_tag, scalar_tag, start_tag}
-use Rattle.yaml_round_laws_documents.specs.emit_laws_text.emit_layout.Nodes.{Context, style_of, is_plain, is_simple, is_simple_part, key_part, are_none, are_no_pairs}
-use Rattle.yaml_round_laws_documents.specs.TreeLaws.{IsNoMark, HasNoMark, HaveNoMark, PairsHaveNoMark, AreParsable}
-use Rattle.yaml_emit_laws_pretty.specs.Bodies.{style_at, is_flow_at, style_named, takes_mark}
-use Rattle.yaml_round_laws_pretty.specs.Reads.{scalar_reads, node_reads, items_reads, pairs_reads, documents_reads}
-use Rattle.yaml_round_laws_pretty.specs.Flags.{HasScalarFlags, HasStartFlags, HasFlags, HaveFlags, PairsHaveFlags, HaveReaderFlags}
-use Rattle.yaml_round_laws_documents.proofs.Saying.{no_mark}
+use Rattle.yaml_round_laws_documents.proofs.ContentSaying.{no_mark}
+-- `says` is what an emitter's event says
+pub use Rattle.yaml_round_laws_documents.proofs.ContentTrees.{core as says}
 
 -- ---- what events say (as in `yaml_round_laws_documents`)
-
--- what an emitter's event says
-abbrev pub says : emit.Event → EventBody
-says emit.no_event = event.no
-says (emit.stream_start encoding) = event.stream_start YAML_ANY_ENCODING
-says emit.stream_end = event.stream_end
-says (emit.document_start o) = event.document_start o.version o.directives true
-says (emit.document_end implicit) = event.document_end true
-says (emit.alias name) = event.alias name
-says (emit.scalar x) = event.scalar x.anchor x.tag x.value (counts_as_plain x.tag x.plain) false YAML_ANY_SCALAR_STYLE
-says (emit.sequence_start q) = event.sequence_start q.anchor q.tag true YAML_ANY_SEQUENCE_STYLE
-says emit.sequence_end = event.sequence_end
-says (emit.mapping_start q) = event.mapping_start q.anchor q.tag true YAML_ANY_MAPPING_STYLE
-says emit.mapping_end = event.mapping_end
 
 abbrev pub content : EventBody → EventBody
 content b = content_of (normalize_body true b)
@@ -103,12 +70,11 @@ block_not_plain false s e = refl
 taken_not_plain : (a : Allowed) (k : yaml_scalar_style_t) (flow simple empty : Bool)
     → is_plain (taken a k false flow simple empty) ≡ false
 unfolding taken
-taken_not_plain a asked.YAML_ANY_SCALAR_STYLE flow simple empty = or_not_plain a flow simple empty
-taken_not_plain a asked.YAML_PLAIN_SCALAR_STYLE flow simple empty = or_not_plain a flow simple empty
 taken_not_plain a asked.YAML_SINGLE_QUOTED_SCALAR_STYLE flow simple empty = single_not_plain a.single
 taken_not_plain a asked.YAML_DOUBLE_QUOTED_SCALAR_STYLE flow simple empty = refl
 taken_not_plain a asked.YAML_LITERAL_SCALAR_STYLE flow simple empty = block_not_plain (a.block && not (flow || simple)) style.Literal refl
 taken_not_plain a asked.YAML_FOLDED_SCALAR_STYLE flow simple empty = block_not_plain (a.block && not (flow || simple)) style.Folded refl
+taken_not_plain a _ flow simple empty = or_not_plain a flow simple empty
 
 style_by : (canonical untagged : Bool) (a : Allowed) (k : yaml_scalar_style_t)
     (flow simple empty : Bool) → untagged ≡ false

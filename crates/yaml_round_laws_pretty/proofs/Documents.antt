@@ -1,46 +1,20 @@
 -- Trees of documents.
 use Rattle.std.proofs.Common.{◌≡◌, Bool, true, false, not, ◌&&◌, ◌||◌, List, [], ◌∷◌, length, Option, Some, None, refl, sym, ap, ◌∙◌, ℕ, ◌==◌, if◌then◌else◌, map, subst, arith}
-use Rattle.std.proofs.Math.Bool.{or-true, and-false, and-true}
-use Rattle.yaml_round_laws_documents.specs.parse_grammar.parse_model.declared.yaml_encoding_t.{yaml_encoding_t}
+use Rattle.yaml_round_laws_pretty.proofs.Words.{or-true, and-false, and-true, yaml_encoding_t, Token, TokenBody, EventBody, TagDirective, Root, Span, token_at, Given, spell_node, spell_maybe, spell_directives, spell_ends, spell_documents, no_first, items_node, items_maybe, items_ends, items_documents, items, behind, Outcome, run, feed, Directives, no_directives, Reading, reading, Told, Settings, Opening, Document, Event, document_end, scalar, Scalar, Node, scalar_node, node_events, documents_events, stream_events, has_version, has_directives, is_directed, is_marked, style_of, is_plain, opening_problem, has, kept_tag, scalar_tag, version_bodies, directives_bodies, end_bodies, anchor_bodies, tag_bodies, mark_bodies, start_bodies, token_bodies, event_bodies, SaysTree, HasNoMark, AreParsable, parsed_of, take, context_in, root_bodies, is_root_kept, is_left_out, has_dots, opening_bodies, documents_bodies, starts_with_nothing, style_at, takes_mark, is_bare, is_nothing, scalar_bodies, node_bodies, root_reads, documents_reads, stream_reads, PrettyTokensAreParsed, BeginningIsTold, PrettyTokensAreLost, fine_version, fine_tags, false≢true, YAML_ANY_ENCODING, yaml_scalar_style_t, emitter_events, contents, Style, allowed, taken, HasScalarFlags, HasFlags, HaveReaderFlags, is_asked_plain, says_nothing, begins_with_nothing}
 use Rattle.yaml_round_laws_documents.specs.parse_grammar.parse_model.declared.yaml_version_directive_t.{yaml_version_directive_t}
-use Rattle.yaml_round_laws_documents.specs.round_content.parse_model.Tokens.{Token, TokenBody}
 use Rattle.yaml_round_laws_documents.specs.round_content.parse_model.Tokens as token
-use Rattle.yaml_round_laws_documents.specs.parse_grammar.parse_model.Events.{EventBody, TagDirective}
 use Rattle.yaml_round_laws_documents.specs.parse_grammar.parse_model.Events as event
-use Rattle.yaml_round_laws_documents.specs.parse_grammar.declared.name.Site.TheVariants.{Root}
 use Rattle.yaml_round_laws_documents.specs.parse_grammar.Items as item
-use Rattle.yaml_round_laws_documents.specs.parse_grammar.Trees.{Span, token_at, Given, spell_node, spell_maybe, spell_directives, spell_ends, spell_documents, no_first}
-use Rattle.yaml_round_laws_documents.specs.parse_grammar.TreeSteps.{items_node, items_maybe, items_ends, items_documents, items, behind}
 use Rattle.yaml_round_laws_documents.specs.parse_grammar.Trees as trees
-use Rattle.yaml_round_laws_documents.specs.parse_grammar.Machine.{Outcome, run, feed}
-use Rattle.yaml_round_laws_documents.specs.parse_grammar.Resolve.{Directives, no_directives, Reading, reading, Told}
 use Rattle.yaml_round_laws_documents.specs.parse_grammar.Remaining.{reading_of}
 use Rattle.yaml_round_laws_documents.proofs.CompleteStream.{stream_runs}
-use Rattle.yaml_round_laws_documents.specs.emit_laws_text.emit_text.declared.Settings.{Settings}
 use Rattle.yaml_round_laws_documents.specs.emit_laws_text.emit_layout.declared.level.Part.TheVariants as part
-use Rattle.yaml_round_laws_documents.specs.emit_laws_text.emit_layout.Content.{Opening, Document, Event, document_end, scalar, Scalar, Node, alias_node, scalar_node, sequence_node, mapping_node, node_events, documents_events, stream_events}
-use Rattle.yaml_round_laws_documents.specs.emit_laws_text.emit_layout.Nodes.{has_version, has_directives, is_directed, is_marked, style_of, is_plain}
-use Rattle.yaml_round_laws_documents.specs.emit_laws_text.emit_layout.Grammar.{opening_problem, has, kept_tag, scalar_tag}
-use Rattle.yaml_round_laws_documents.specs.emit_laws_text.Bodies.{version_bodies, directives_bodies, end_bodies, anchor_bodies, tag_bodies, mark_bodies}
-use Rattle.yaml_round_laws_documents.specs.emit_laws_text.PrettyBodies.{start_bodies}
-use Rattle.yaml_round_laws_documents.specs.TreeLaws.{token_bodies, event_bodies, SaysTree, HasNoMark, AreParsable, parsed_of}
-use Rattle.yaml_round_laws_documents.proofs.Growing.{take}
 use Rattle.yaml_round_laws_documents.proofs.Documents.{version_directed, item_says, no_spans, ends_say, resolving}
-use Rattle.yaml_emit_laws_pretty.specs.Bodies.{context_in, root_bodies, is_root_kept, is_left_out, has_dots, opening_bodies, documents_bodies, starts_with_nothing, style_at, takes_mark, is_bare, is_empty, is_nothing, scalar_bodies, node_bodies}
-use Rattle.yaml_round_laws_pretty.specs.Reads.{root_reads, documents_reads, stream_reads}
-use Rattle.yaml_round_laws_pretty.specs.TokenLaws.{PrettyTokensAreParsed, BeginningIsTold, PrettyTokensAreLost}
+use Rattle.yaml_emit_laws_pretty.specs.Bodies.{is_empty}
 use Rattle.yaml_round_laws_pretty.proofs.Nodes.{nodes_grown, maybes_grown}
-use Rattle.yaml_round_laws_documents.proofs.CanonicalPremises.{fine_version, fine_tags}
 use Rattle.std.specs.Str.{chars}
-use Rattle.std.proofs.lemmas.Bool.{false≢true}
-use Rattle.yaml_round_laws_documents.specs.parse_grammar.parse_model.declared.yaml_encoding_t.TheVariants.{YAML_ANY_ENCODING}
-use Rattle.yaml_round_laws_documents.specs.parse_grammar.parse_model.declared.yaml_scalar_style_t.{yaml_scalar_style_t}
 use Rattle.yaml_round_laws_documents.specs.parse_grammar.parse_model.declared.yaml_scalar_style_t.TheVariants as asked
-use Rattle.yaml_round_laws_documents.specs.round_content.Events.{emitter_events, contents}
-use Rattle.yaml_round_laws_documents.specs.emit_laws_text.emit_text.declared.Style.{Style}
 use Rattle.yaml_round_laws_documents.specs.emit_laws_text.emit_text.declared.Style.TheVariants as style
-use Rattle.yaml_round_laws_documents.specs.emit_laws_text.emit_text.Style.{allowed, taken}
-use Rattle.yaml_round_laws_pretty.specs.Flags.{HasScalarFlags, HasFlags, HaveReaderFlags, is_asked_plain, says_nothing, begins_with_nothing}
 use Rattle.yaml_round_laws_pretty.proofs.Contents.{says, content, contents_said, contents_by, documents_same}
 
 -- events, and the end without a fault
@@ -377,13 +351,11 @@ told_root : (s : Settings) → s.canonical ≡ false
     → HaveReaderFlags (d ∷ ds)
     → begins_with_nothing (stream_events x (d ∷ ds)) ≡ starts_with_nothing s (d ∷ ds)
 unfolding documents_events node_events style_of
-told_root s pretty x d ds (alias_node name) is (f, fs) = rw is (sym (and-false _))
-told_root s pretty x d ds (sequence_node o items) is (f, fs) = rw is (sym (and-false _))
-told_root s pretty x d ds (mapping_node o pairs) is (f, fs) = rw is (sym (and-false _))
 told_root s pretty x d ds (scalar_node v) is (f, fs) =
     let flags : HasScalarFlags v.tag v.plain v.quoted = subst (λ (m : Node). HasFlags m) is f in
     rw is (told_opening s.canonical (d.opening.implicit && not (is_directed d.opening)) (says_nothing v) pretty
     ∙ ap (λ (b : Bool). not (is_marked s true d.opening) && b) (told_scalar s.canonical s.unicode pretty v.anchor v.tag (scalar_tag false v) (written_is v.tag v.plain v.quoted flags) v.value v.plain v.style))
+told_root s pretty x d ds _ is (f, fs) = rw is (sym (and-false _))
 
 pub is_told : BeginningIsTold
 unfolding documents_events
@@ -403,19 +375,14 @@ nothing_stands ds style.Plain None None [] false bs none = refl
 nothing_stands ds style.Plain None (Some t) [] quoted bs none = absurd (false≢true none)
 nothing_stands ds style.Plain (Some a) tag [] quoted bs none = absurd (false≢true none)
 nothing_stands ds style.Plain anchor tag (c ∷ cs) quoted bs none = absurd (false≢true none)
-nothing_stands ds style.Single anchor tag value quoted bs none = absurd (false≢true none)
-nothing_stands ds style.Double anchor tag value quoted bs none = absurd (false≢true none)
-nothing_stands ds style.Literal anchor tag value quoted bs none = absurd (false≢true none)
-nothing_stands ds style.Folded anchor tag value quoted bs none = absurd (false≢true none)
+nothing_stands ds _ anchor tag value quoted bs none = absurd (false≢true none)
 
 root_stands : (s : Settings) (d : Document) (bs : List TokenBody) (n : Node) → d.root ≡ n
     → is_left_out (context_in s d) false part.Item n ≡ true
     → node_bodies (context_in s d) false part.Item true n bs ≡ bs
 unfolding node_bodies
-root_stands s d bs (alias_node name) is none = absurd (false≢true none)
-root_stands s d bs (sequence_node o items) is none = absurd (false≢true none)
-root_stands s d bs (mapping_node o pairs) is none = absurd (false≢true none)
 root_stands s d bs (scalar_node v) is none = nothing_stands d.opening.directives (style_at (context_in s d) false part.Item v) v.anchor (scalar_tag false v) v.value v.quoted bs none
+root_stands s d bs _ is none = absurd (false≢true none)
 
 -- such a root has one event
 abbrev HasOneEvent : Node → Type 0
@@ -423,10 +390,8 @@ HasOneEvent n = (v : Scalar) × (n ≡ scalar_node v)
 
 root_one : (s : Settings) (d : Document) (n : Node)
     → is_left_out (context_in s d) false part.Item n ≡ true → HasOneEvent n
-root_one s d (alias_node name) none = absurd (false≢true none)
-root_one s d (sequence_node o items) none = absurd (false≢true none)
-root_one s d (mapping_node o pairs) none = absurd (false≢true none)
 root_one s d (scalar_node v) none = (v, refl)
+root_one s d _ none = absurd (false≢true none)
 
 -- a `...` where a document must come is refused
 abbrev Refused : List Token → Type 0

@@ -1,40 +1,23 @@
 -- The flags and tags of an input's normalized events.
 use Rattle.std.proofs.Common.{◌≡◌, ℕ, Bool, true, false, not, if◌then◌else◌, List, [], ◌∷◌, Option, Some, None, codes, refl, subst, inl, inr, sym, ◌∙◌, bytes_eq, ap, ◌==◌, length, IsUtf8}
-use Rattle.std.proofs.lemmas.Bool.{cases_Bool, true≢false}
+use Rattle.yaml_round_laws_pretty.proofs.Words.{cases_Bool, true≢false, yaml_encoding_t, yaml_scalar_style_t, EventBody, TagDirective, Shape, run, initial, no_directives, is_missing, node_event, Told, reading, is_lone_mark, normalize_scalar, normalize_body, emitter_events, tokens_of, events_of, read, has, event_problem, last_problem, own_problem, own_problems, opening_problem, or_else, name_problem, anchor_problem, tag_problem, scalar_tag, start_tag, IsNoMark, HasNoMark, HaveNoMark, PairsHaveNoMark, AreParsable, HasScalarFlags, HasStartFlags, HasFlags, HaveFlags, PairsHaveFlags, HaveReaderFlags, HaveNoMarks, InputsHaveReaderFlags, InputsAreParsable, or_first, or_second, HaveUtf8, written_readable, IsReadableTag, IsTagged, AreTagged, PairsAreTagged, HaveTexts, InputsLayoutIsWritable}
 use Rattle.std.proofs.lemmas.Slice.Eq.{bytes_eq-Decides}
-use Rattle.yaml_round_laws_documents.specs.parse_grammar.parse_model.declared.yaml_encoding_t.{yaml_encoding_t}
-use Rattle.yaml_round_laws_documents.specs.parse_grammar.parse_model.declared.yaml_scalar_style_t.{yaml_scalar_style_t}
-use Rattle.yaml_round_laws_documents.specs.parse_grammar.parse_model.Events.{EventBody, TagDirective}
 use Rattle.yaml_round_laws_documents.specs.parse_grammar.parse_model.Events as event
-use Rattle.yaml_round_laws_documents.specs.parse_grammar.Items.{Shape}
 use Rattle.yaml_round_laws_documents.specs.parse_grammar.Items as item
-use Rattle.yaml_round_laws_documents.specs.parse_grammar.Machine.{run, initial}
-use Rattle.yaml_round_laws_documents.specs.parse_grammar.Resolve.{no_directives, is_plain, is_missing, node_event, Told, reading}
-use Rattle.yaml_round_laws_documents.specs.round_content.Normalize.{is_lone_mark, normalize_scalar, normalize_body}
-use Rattle.yaml_round_laws_documents.specs.round_content.Events.{emitter_events}
-use Rattle.yaml_round_laws_documents.specs.round_content.Input.{tokens_of, events_of, read}
+use Rattle.yaml_round_laws_documents.specs.parse_grammar.Resolve.{is_plain}
 use Rattle.yaml_round_laws_documents.proofs.Throughout.{EventsAre, reading_is}
 use Rattle.yaml_round_laws_documents.proofs.Tokens.{tokens_spelled}
 use Rattle.yaml_round_laws_documents.proofs.Spellings.{IsWhole, IsSpelledItem}
 use Rattle.yaml_round_laws_documents.proofs.Runs.{stream_spelled}
 use Rattle.yaml_round_laws_documents.specs.emit_laws_text.emit_layout.Content as emit
-use Rattle.yaml_round_laws_documents.specs.emit_laws_text.emit_layout.Grammar.{has, event_problem, last_problem, own_problem, own_problems, opening_problem, or_else, name_problem, anchor_problem, tag_problem, scalar_tag, start_tag}
-use Rattle.yaml_round_laws_documents.specs.TreeLaws.{IsNoMark, HasNoMark, HaveNoMark, PairsHaveNoMark, AreParsable}
-use Rattle.yaml_round_laws_pretty.specs.Flags.{HasScalarFlags, HasStartFlags, HasFlags, HaveFlags, PairsHaveFlags, HaveReaderFlags}
-use Rattle.yaml_round_laws_pretty.specs.InputLaws.{HaveNoMarks, InputsHaveReaderFlags, InputsAreParsable}
-use Rattle.yaml_emit_laws_pretty.proofs.Resolving.{or_first, or_second}
 use Rattle.std.specs.List.{list_all}
 use Rattle.yaml_round_laws_documents.specs.parse_grammar.parse_model.Constructors.{IsUtf8Option, AreUtf8, HasUtf8}
 use Rattle.yaml_round_laws_documents.specs.round_content.scan_model.Classes.{is_alpha_byte}
 use Rattle.yaml_round_laws_documents.specs.emit_laws_text.emit_layout.declared.problem.Problem.{Problem}
-use Rattle.yaml_round_laws_documents.specs.emit_laws_text.TagsLaws.{HaveUtf8}
 use Rattle.yaml_round_laws_documents.specs.emit_laws_text.Writable as text
-use Rattle.yaml_emit_laws_pretty.proofs.Joining.{written_readable}
 use Rattle.yaml_round_laws_documents.specs.round_content.WritableLaws.{HaveUtf8Texts}
 use Rattle.yaml_round_laws_documents.proofs.Utf8.{input_utf8}
 use Rattle.yaml_round_laws_documents.specs.BytesLaws as bytes
-use Rattle.yaml_round_laws_documents.specs.Adapting.{IsReadableTag, IsTagged, AreTagged, PairsAreTagged, HaveTexts}
-use Rattle.yaml_round_laws_pretty.specs.Laws.{InputsLayoutIsWritable}
 use Rattle.yaml_round_laws_pretty.proofs.Contents.{start_by}
 use Rattle.yaml_round_laws_pretty.proofs.Documents.{written_is}
 use Rattle.yaml_round_laws_documents.proofs.Premises.{alphas_are}
@@ -92,8 +75,7 @@ flags_of_node anchor None item.empty = (refl, tt)
 flags_of_node anchor (Some tag) item.empty = tagged (is_lone_mark (Some tag) []) anchor tag [] _ (empty_no_mark tag)
 flags_of_node anchor None (item.scalar value style) = (flags_differ (is_plain style), tt)
 flags_of_node anchor (Some tag) (item.scalar value style) = named (bytes_eq tag (codes "!")) anchor tag value style refl
-flags_of_node anchor tag (item.sequence style) = missing tag
-flags_of_node anchor tag (item.mapping style) = missing tag
+flags_of_node anchor tag _ = missing tag
 
 -- ---- the events of an input
 

@@ -1,31 +1,15 @@
 -- Pretty text reads back exactly where the input doesn't begin with nothing, by the law of text.
 use Rattle.std.proofs.Common.{◌≡◌, ℕ, ◌≤◌, false, ◌&&◌, nat_le, if◌then◌else◌, List, ◌∷◌, Ok, sym, ap, ◌∙◌, ℤ, pos, negsuc, arith}
-use Rattle.std.proofs.lemmas.Bool.Decides.{nat_tests}
-use Rattle.yaml_round_laws_documents.specs.parse_grammar.parse_model.declared.yaml_encoding_t.{yaml_encoding_t}
-use Rattle.yaml_round_laws_documents.specs.parse_grammar.parse_model.declared.yaml_encoding_t.TheVariants.{YAML_ANY_ENCODING}
-use Rattle.yaml_round_laws_documents.specs.round_content.parse_model.Tokens.{Token}
+use Rattle.yaml_round_laws_pretty.proofs.Words.{nat_tests, yaml_encoding_t, YAML_ANY_ENCODING, Token, Item, encode, written, Encoding, Event, stream_layout, emitter_events, contents, events_of, ending_of, read, parsed, tokens_of, canonical_bytes, canonical_text, encoding_named, token_bodies, parsed_of, without_fault, stream_bodies, starts_with_nothing, begins_with_nothing, PrettyReadsBack, PrettyIsLost, PrettyFollows}
 use Rattle.yaml_round_laws_documents.specs.round_content.parse_model.Tokens as token
 use Rattle.yaml_round_laws_documents.specs.scan_decode.Decoding.{decoded_text}
 use Rattle.yaml_round_laws_documents.specs.emit_laws_text.scan_history.Remaining.{Remaining}
 use Rattle.yaml_round_laws_documents.specs.emit_laws_text.scan_history.Scanned.{scanned, scanned_in}
 use Rattle.yaml_round_laws_documents.specs.round_content.emit_text.Settings.{settled, settled_indent}
-use Rattle.yaml_round_laws_documents.specs.round_content.emit_text.Text.{Item, encode}
-use Rattle.yaml_round_laws_documents.specs.round_content.emit_text.Layout.{written}
-use Rattle.yaml_round_laws_documents.specs.emit_laws_text.emit_text.declared.Encoding.{Encoding}
 use Rattle.yaml_round_laws_documents.specs.emit_laws_text.emit_text.declared.RequestedSettings.{RequestedSettings}
-use Rattle.yaml_round_laws_documents.specs.emit_laws_text.emit_layout.Content.{Event}
-use Rattle.yaml_round_laws_documents.specs.emit_laws_text.emit_layout.Nodes.{stream_layout}
 use Rattle.yaml_round_laws_documents.specs.emit_laws_text.emit_layout.Streams.{IsStream}
-use Rattle.yaml_round_laws_documents.specs.round_content.Events.{emitter_events, contents}
-use Rattle.yaml_round_laws_documents.specs.round_content.Input.{events_of, ending_of, read, parsed, tokens_of}
 use Rattle.yaml_round_laws_documents.specs.round_laws_adapted.Adapted.{adapted}
-use Rattle.yaml_round_laws_documents.specs.BytesLaws.{canonical_bytes, canonical_text, encoding_named}
-use Rattle.yaml_round_laws_documents.specs.TreeLaws.{token_bodies, parsed_of}
-use Rattle.yaml_round_laws_documents.specs.Adapting.{without_fault}
-use Rattle.yaml_emit_laws_pretty.specs.Bodies.{stream_bodies, starts_with_nothing}
-use Rattle.yaml_round_laws_pretty.specs.Flags.{begins_with_nothing}
 use Rattle.yaml_emit_laws_pretty.specs.DocLaws.{PrettyTextIsRead}
-use Rattle.yaml_round_laws_pretty.specs.Laws.{PrettyReadsBack, PrettyIsLost, PrettyFollows}
 use Rattle.yaml_round_laws_pretty.proofs.Passing.{tokens_pass}
 use Rattle.yaml_round_laws_pretty.proofs.Saying.{tokens_say}
 use Rattle.yaml_round_laws_pretty.proofs.Documents.{is_told, tokens_lost}

@@ -1,18 +1,10 @@
 -- Inputs shaped as JSON don't begin with nothing.
 use Rattle.std.proofs.Common.{◌≡◌, ℕ, Bool, true, false, not, ◌&&◌, List, [], ◌∷◌, refl, sym, ap, ◌∙◌, inl, inr}
-use Rattle.std.proofs.lemmas.Bool.{false≢true}
-use Rattle.std.proofs.Math.Bool.{and-false}
-use Rattle.yaml_round_laws_documents.specs.parse_grammar.parse_model.declared.yaml_encoding_t.{yaml_encoding_t}
-use Rattle.yaml_round_laws_documents.specs.parse_grammar.Resolve.{Told}
-use Rattle.yaml_round_laws_documents.specs.emit_laws_text.emit_layout.Content.{Event, stream_start, document_start, Scalar, Node, alias_node, scalar_node, sequence_node, mapping_node, Opening, node_events, documents_events}
-use Rattle.yaml_round_laws_documents.specs.emit_laws_text.emit_layout.Nodes.{is_directed}
+use Rattle.yaml_round_laws_pretty.proofs.Words.{false≢true, and-false, yaml_encoding_t, Told, Event, stream_start, document_start, Scalar, Node, scalar_node, Opening, node_events, documents_events, is_directed, emitter_events, is_bare, is_asked_plain, says_nothing, begins_with_nothing, JsonBeginsWithSomething}
 use Rattle.yaml_round_laws_documents.specs.emit_laws_text.Json.{IsJsonScalar, IsJsonNode}
 use Rattle.yaml_round_laws_documents.specs.emit_laws_text.scan_laws_texts.Values.{is_plain_value}
-use Rattle.yaml_round_laws_documents.specs.round_content.Events.{emitter_events}
 use Rattle.yaml_round_laws_documents.proofs.ReadingJoining.{events_of_tree}
-use Rattle.yaml_emit_laws_pretty.specs.Bodies.{is_bare, is_empty}
-use Rattle.yaml_round_laws_pretty.specs.Flags.{is_asked_plain, says_nothing, begins_with_nothing}
-use Rattle.yaml_round_laws_pretty.specs.InputLaws.{JsonBeginsWithSomething}
+use Rattle.yaml_emit_laws_pretty.specs.Bodies.{is_empty}
 
 some_value : (value : List ℕ) → is_plain_value value ≡ true → is_empty value ≡ false
 unfolding is_plain_value
@@ -26,10 +18,8 @@ scalar_says x (inr is) = ap (λ (e : Bool). is_bare x.anchor x.tag && (e && (x.p
 root_begins : (x : yaml_encoding_t) (o : Opening) (n : Node) (es : List Event) → IsJsonNode n
     → begins_with_nothing (stream_start x ∷ document_start o ∷ node_events n es) ≡ false
 unfolding node_events
-root_begins x o (alias_node name) es is = refl
 root_begins x o (scalar_node v) es is = ap (λ (b : Bool). (o.implicit && not (is_directed o)) && b) (scalar_says v is) ∙ and-false (o.implicit && not (is_directed o))
-root_begins x o (sequence_node q items) es is = refl
-root_begins x o (mapping_node q pairs) es is = refl
+root_begins x o _ es is = refl
 
 pub json_begins : JsonBeginsWithSomething
 unfolding documents_events

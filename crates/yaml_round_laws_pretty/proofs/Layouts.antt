@@ -1,35 +1,15 @@
 -- The pretty layout writes characters that a stream may hold.
 use Rattle.std.proofs.Common.{◌≡◌, ℕ, ◌+◌, ◌<◌, Bool, true, false, not, ◌&&◌, ◌||◌, ◌==◌, nat_lt, if◌then◌else◌, List, [], ◌∷◌, refl, arith, IsUtf8, chars, length, Option}
-use Rattle.std.proofs.lemmas.Bool.Decides.{nat_tests}
-use Rattle.std.proofs.lemmas.Bool.{or_parts, and_parts, not-true}
-use Rattle.yaml_round_laws_documents.specs.parse_grammar.parse_model.declared.yaml_scalar_style_t.{yaml_scalar_style_t}
+use Rattle.yaml_round_laws_pretty.proofs.Words.{nat_tests, or_parts, and_parts, not-true, yaml_scalar_style_t, Page, LineBreak, Style, Allowed, is_break, Item, somewhere, is_special, is_break_space, is_not_plain, is_not_flow, ends_in_space, starts_badly, allowed_text, allowed, plain_fits, single_or, plain_or, taken, is_printable, first, is_empty, value_break, cuts_at, cut, quote_char, text_char, flow_char, flow_body, adds_break, cuts_block, line_blank, block_text, block_char, block_body, chomp, chomp_mark, digit_char, block, scalar_text, Layout, ◌▹◌, when, char, break, new_line, gap, line, is_past, keep, after_text, after_block, stay, choose, word, indicator, opener, Tame, both, stay_tame, choose_tame, when_tame, char_tame, new_line_tame, gap_tame, line_tame, keep_tame, break_tame, letter_allowed, word_tame, opener_tame, Cursor, Settings, NodePosition, Document, Scalar, Start, Node, alias_node, scalar_node, sequence_node, mapping_node, Nodes, no_nodes, node, Pairs, no_pairs, pair, has, kept_tag, scalar_tag, start_tag, version_problem, directives_problem, Context, context_of, is_kept, is_plain, is_simple, is_simple_part, key_part, root_position, position, deeper, page_at, checked, line_at, wrap_at, properties_text, style_of, mark_text, scalar_layout, alias_layout, is_flow, indent_of, indented, are_none, are_no_pairs, comma, turned, before_item, question, before_key, before_value, closer, node_layout, items_layout, pairs_layout, dots, is_directed, is_marked, version_text, directives_text, dashes, start_layout, end_layout, stop_layout, documents_layout, IsNameOption, IsTextOption, IsSpellable, AreSpellable, PairsAreSpellable, DocumentsAreSpellable, or_second}
 use Rattle.yaml_round_laws_documents.specs.parse_grammar.parse_model.declared.yaml_scalar_style_t.TheVariants as asked
-use Rattle.yaml_round_laws_documents.specs.emit_laws_text.emit_text.declared.Page.{Page}
-use Rattle.yaml_round_laws_documents.specs.emit_laws_text.emit_text.declared.LineBreak.{LineBreak}
-use Rattle.yaml_round_laws_documents.specs.emit_laws_text.emit_text.declared.Style.{Style}
 use Rattle.yaml_round_laws_documents.specs.emit_laws_text.emit_text.declared.Style.TheVariants as style
-use Rattle.yaml_round_laws_documents.specs.emit_laws_text.emit_text.declared.Allowed.{Allowed}
 use Rattle.yaml_round_laws_documents.specs.emit_laws_text.emit_text.declared.Chomp.{Chomp}
 use Rattle.yaml_round_laws_documents.specs.emit_laws_text.emit_text.declared.Chomp.TheVariants as chomping
-use Rattle.yaml_round_laws_documents.specs.round_content.emit_text.Text.{is_break, Item}
-use Rattle.yaml_round_laws_documents.specs.emit_laws_text.emit_text.Style.{somewhere, is_special, is_break_space, is_not_plain, is_not_flow, ends_in_space, starts_badly, allowed_text, allowed, plain_fits, single_or, plain_or, taken}
-use Rattle.yaml_round_laws_documents.specs.emit_laws_text.emit_text.Quoted.{is_printable, first, is_empty}
-use Rattle.yaml_round_laws_documents.specs.emit_laws_text.emit_text.Scalars.{value_break, cuts_at, cut, quote_char, text_char, flow_char, flow_body, adds_break, cuts_block, line_blank, block_text, block_char, block_body, chomp, chomp_mark, digit_char, block, scalar_text}
-use Rattle.yaml_round_laws_documents.specs.round_content.emit_text.Layout.{Layout, ◌▹◌, when, char, break, new_line, gap, line, is_past, keep, after_text, after_block, stay, choose, word, indicator, opener}
 use Rattle.yaml_round_laws_documents.proofs.Characters.{Fits, graphic, printed, is_32, names_fit}
-use Rattle.yaml_round_laws_documents.proofs.Layouts.{Tame, both, stay_tame, choose_tame, when_tame, char_tame, new_line_tame, gap_tame, line_tame, keep_tame, break_tame, letter_allowed, word_tame, opener_tame}
 use Rattle.yaml_round_laws_documents.proofs.Leaves.{quoted_tame, TagsFit, handles_fit, tags_fit, version_tame, directives_tame}
 use Rattle.yaml_emit_laws_pretty.proofs.Single.{shown_first}
-use Rattle.yaml_round_laws_documents.specs.emit_laws_text.emit_text.declared.Cursor.{Cursor}
-use Rattle.yaml_round_laws_documents.specs.emit_laws_text.emit_text.declared.Settings.{Settings}
 use Rattle.yaml_round_laws_documents.specs.emit_laws_text.emit_layout.declared.level.Part.TheVariants as part
-use Rattle.yaml_round_laws_documents.specs.emit_laws_text.emit_layout.declared.level.NodePosition.{NodePosition}
-use Rattle.yaml_round_laws_documents.specs.emit_laws_text.emit_layout.Content.{Document, Scalar, Start, Node, alias_node, scalar_node, sequence_node, mapping_node, Nodes, no_nodes, node, Pairs, no_pairs, pair}
-use Rattle.yaml_round_laws_documents.specs.emit_laws_text.emit_layout.Grammar.{has, kept_tag, scalar_tag, start_tag, version_problem, directives_problem}
-use Rattle.yaml_round_laws_documents.specs.emit_laws_text.emit_layout.Nodes.{Context, context_of, is_kept, is_plain, is_simple, is_simple_part, key_part, root_position, position, deeper, page_at, checked, line_at, wrap_at, properties_text, style_of, mark_text, scalar_layout, alias_layout, is_flow, indent_of, indented, are_none, are_no_pairs, comma, turned, before_item, question, before_key, before_value, closer, node_layout, items_layout, pairs_layout, dots, is_directed, is_marked, version_text, directives_text, dashes, start_layout, end_layout, stop_layout, documents_layout}
-use Rattle.yaml_round_laws_documents.specs.BytesLaws.{IsNameOption, IsTextOption, IsSpellable, AreSpellable, PairsAreSpellable, DocumentsAreSpellable}
 use Rattle.yaml_round_laws_documents.proofs.Nodes.{dots_tame, properties_tame, checked_tame, comma_tame}
-use Rattle.yaml_emit_laws_pretty.proofs.Resolving.{or_second}
 
 -- ---- characters that are printed
 
@@ -90,12 +70,11 @@ needs_taken : (a : Allowed) (P : Type 0) → Clear a P
     → (k : yaml_scalar_style_t) (untagged flow simple empty : Bool)
     → Needs (taken a k untagged flow simple empty) P
 unfolding taken
-needs_taken a P h asked.YAML_ANY_SCALAR_STYLE untagged flow simple empty = needs_plain a P h untagged flow simple empty
-needs_taken a P h asked.YAML_PLAIN_SCALAR_STYLE untagged flow simple empty = needs_plain a P h untagged flow simple empty
 needs_taken a P h asked.YAML_SINGLE_QUOTED_SCALAR_STYLE untagged flow simple empty = needs_single a P h
 needs_taken a P h asked.YAML_DOUBLE_QUOTED_SCALAR_STYLE untagged flow simple empty = tt
 needs_taken a P h asked.YAML_LITERAL_SCALAR_STYLE untagged flow simple empty = needs_if (a.block && not (flow || simple)) style.Literal P (λ e. h.block (and_parts a.block (not (flow || simple)) e).0)
 needs_taken a P h asked.YAML_FOLDED_SCALAR_STYLE untagged flow simple empty = needs_if (a.block && not (flow || simple)) style.Folded P (λ e. h.block (and_parts a.block (not (flow || simple)) e).0)
+needs_taken a P h _ untagged flow simple empty = needs_plain a P h untagged flow simple empty
 
 clear_text : (unicode : Bool) (cs : List ℕ) → Clear (allowed_text unicode cs) (ArePrintable cs)
 clear_text unicode cs =

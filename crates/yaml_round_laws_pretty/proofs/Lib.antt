@@ -1,3 +1,4 @@
+mod Words
 mod Nodes
 pub mod Documents
 pub mod Passing

@@ -1,29 +1,12 @@
 -- Pretty text begins with no byte order mark.
 use Rattle.std.proofs.Common.{◌≡◌, ℕ, zero, suc, ◌-◌, ◌<◌, Bool, true, false, not, ◌&&◌, ◌||◌, ◌==◌, nat_lt, if◌then◌else◌, List, [], ◌∷◌, ◌++◌, length, Option, Some, None, refl, sym, ap, subst, ◌∙◌, arith, codes, inl, inr, nat_eq, chars}
-use Rattle.std.proofs.lemmas.Bool.{false≢true}
+use Rattle.yaml_round_laws_pretty.proofs.Words.{false≢true, TagDirective, encoding_of, mark_length, Cursor, Page, LineBreak, Settings, Style, Item, letter, shown, is_break, is_printable, is_empty, quoted_body, value_break, cuts_at, cut, quote_char, text_char, flow_char, flow_body, block_header, chomp, chomp_mark, digit_mark, scalar_text, Layout, Rest, ◌▹◌, stay, choose, when, char, letters, blank, blanks, break, new_line, gap, is_white, word, indicator, opener, must_break, indent_to, line, is_past, keep, after_text, NodePosition, Opening, Document, Scalar, Start, Node, alias_node, scalar_node, sequence_node, mapping_node, Nodes, no_nodes, node, Pairs, no_pairs, pair, has, kept_tag, scalar_tag, start_tag, opening_problem, Context, context_of, MOST, is_kept, is_plain, is_simple, is_simple_part, key_part, root_position, position, deeper, page_at, checked, deep_if, line_at, anchor_text, tag_text, properties_text, style_of, mark_text, scalar_layout, alias_layout, is_flow, indent_of, indented, are_none, are_no_pairs, before_item, before_key, before_value, closer, node_layout, items_layout, pairs_layout, dots, is_directed, is_marked, version_text, directive_text, directives_text, dashes, start_layout, end_layout, stop_layout, documents_layout, HaveUtf8, IsReadable, written_readable}
 use Rattle.yaml_round_laws_documents.specs.emit_laws_text.scan_model.declared.yaml_version_directive_t.{yaml_version_directive_t}
-use Rattle.yaml_round_laws_documents.specs.parse_grammar.parse_model.Events.{TagDirective}
 use Rattle.yaml_round_laws_documents.specs.round_content.emit_layout.emit_tags.Tags.{Split, shorthand, verbatim, spelled, split_tag, tag_spelling, uri_text}
-use Rattle.yaml_round_laws_documents.specs.scan_decode.Encodings.{encoding_of, mark_length}
-use Rattle.yaml_round_laws_documents.specs.emit_laws_text.emit_text.declared.Cursor.{Cursor}
-use Rattle.yaml_round_laws_documents.specs.emit_laws_text.emit_text.declared.Page.{Page}
-use Rattle.yaml_round_laws_documents.specs.emit_laws_text.emit_text.declared.LineBreak.{LineBreak}
 use Rattle.yaml_round_laws_documents.specs.emit_laws_text.emit_text.declared.LineBreak.TheVariants.{Lf, Cr, CrLf}
-use Rattle.yaml_round_laws_documents.specs.emit_laws_text.emit_text.declared.Settings.{Settings}
-use Rattle.yaml_round_laws_documents.specs.emit_laws_text.emit_text.declared.Style.{Style}
 use Rattle.yaml_round_laws_documents.specs.emit_laws_text.emit_text.declared.Style.TheVariants as style
-use Rattle.yaml_round_laws_documents.specs.round_content.emit_text.Text.{Item, letter, shown, is_break}
-use Rattle.yaml_round_laws_documents.specs.emit_laws_text.emit_text.Quoted.{is_printable, is_empty, quoted_body}
-use Rattle.yaml_round_laws_documents.specs.emit_laws_text.emit_text.Scalars.{value_break, cuts_at, cut, quote_char, text_char, flow_char, flow_body, block_header, chomp, chomp_mark, digit_mark, scalar_text}
-use Rattle.yaml_round_laws_documents.specs.round_content.emit_text.Layout.{Layout, Rest, ◌▹◌, stay, choose, when, char, letters, blank, blanks, break, new_line, gap, is_white, word, indicator, opener, must_break, indent_to, line, is_past, keep, after_text}
 use Rattle.yaml_round_laws_documents.specs.emit_laws_text.emit_layout.declared.level.Part.TheVariants as part
-use Rattle.yaml_round_laws_documents.specs.emit_laws_text.emit_layout.declared.level.NodePosition.{NodePosition}
-use Rattle.yaml_round_laws_documents.specs.emit_laws_text.emit_layout.Content.{Opening, Document, Scalar, Start, Node, alias_node, scalar_node, sequence_node, mapping_node, Nodes, no_nodes, node, Pairs, no_pairs, pair}
-use Rattle.yaml_round_laws_documents.specs.emit_laws_text.emit_layout.Grammar.{has, kept_tag, scalar_tag, start_tag, opening_problem}
-use Rattle.yaml_round_laws_documents.specs.emit_laws_text.emit_layout.Nodes.{Context, context_of, MOST, is_kept, is_plain, is_simple, is_simple_part, key_part, root_position, position, deeper, page_at, checked, deep_if, line_at, anchor_text, tag_text, properties_text, style_of, mark_text, scalar_layout, alias_layout, is_flow, indent_of, indented, are_none, are_no_pairs, before_item, before_key, before_value, closer, node_layout, items_layout, pairs_layout, dots, is_directed, is_marked, version_text, directive_text, directives_text, dashes, start_layout, end_layout, stop_layout, documents_layout}
-use Rattle.yaml_round_laws_documents.specs.emit_laws_text.TagsLaws.{HaveUtf8, IsReadable}
 use Rattle.yaml_round_laws_documents.specs.emit_laws_text.Writable as text
-use Rattle.yaml_emit_laws_pretty.proofs.Joining.{written_readable}
 use Rattle.yaml_round_laws_documents.proofs.Marks.{Told}
 use Rattle.yaml_round_laws_pretty.proofs.Layouts.{ArePrintable, Needs, style_needs}
 

@@ -1,39 +1,19 @@
 -- Properties in front of a content, and nodes that have nothing else.
 use Rattle.std.proofs.Common.{◌≡◌, ℕ, Bool, true, false, not, ◌&&◌, ◌||◌, List, [], ◌∷◌, Option, Some, None, refl, sym, ap, subst, ◌∙◌, codes, bytes_eq}
-use Rattle.std.proofs.lemmas.Bool.{false≢true, true≢false}
+use Rattle.yaml_round_laws_pretty.proofs.Words.{false≢true, true≢false, Token, TokenBody, EventBody, TagDirective, node_at, RawEvent, Properties, PropertyTokens, Given, spell_maybe, properties_of, spell_entries, spell_others, spell_pairs, single, colon, end_entries, entry, no_others, other, end_pairs, block_pair, items_maybe, behind, items_entries, items_others, items_pairs, Directives, gave, settle, node_event, is_missing, Style, has, scalar_tag, start_tag, anchor_bodies, tag_bodies, mark_bodies, token_bodies, IsNoMark, Grown, HasNoMark, HaveNoMark, PairsHaveNoMark, Spelt, grown, dressed_named, scalar_contained, step_says, tagged_event, spell_if, properties_if, Named, IsNamed, named_bodies, full_of, some_tokens, some_named, with_properties, tag_named, tag_is_named, tag_bodies_are, full_is, bang, Reads, Filled, Followed, Contained, take, silent, tells, also, alias_grown, dressed, bracketed, brackets_end, brackets_done, comma_follows, style_named, takes_mark, is_bare, is_nothing, scalar_bodies, style_at, is_flow_at, keeps, sequence_opens, sequence_closes, mapping_opens, mapping_closes, node_bodies, items_bodies, pairs_bodies, is_left_out, scalar_reads, sequence_style, mapping_style, node_reads, items_reads, pairs_reads, Resolves, YAML_FLOW_SEQUENCE_STYLE, YAML_BLOCK_SEQUENCE_STYLE, YAML_FLOW_MAPPING_STYLE, YAML_BLOCK_MAPPING_STYLE, Entry, IndentlessEntry, BlockPair, FlowPair, Part, Scalar, Start, Node, alias_node, scalar_node, sequence_node, mapping_node, Nodes, no_nodes, node, Pairs, no_pairs, pair, Context, is_simple, is_of_mapping, key_part, are_none, are_no_pairs}
 use Rattle.yaml_round_laws_documents.specs.parse_grammar.parse_model.declared.yaml_mark_t.{yaml_mark_t}
-use Rattle.yaml_round_laws_documents.specs.round_content.parse_model.Tokens.{Token, TokenBody}
 use Rattle.yaml_round_laws_documents.specs.round_content.parse_model.Tokens as token
-use Rattle.yaml_round_laws_documents.specs.parse_grammar.parse_model.Events.{EventBody, TagDirective}
 use Rattle.yaml_round_laws_documents.specs.parse_grammar.declared.name.Wants.{Wants}
 use Rattle.yaml_round_laws_documents.specs.parse_grammar.declared.name.Site.{Site}
-use Rattle.yaml_round_laws_documents.specs.parse_grammar.Items.{node_at, RawEvent, Properties}
 use Rattle.yaml_round_laws_documents.specs.parse_grammar.Items as item
-use Rattle.yaml_round_laws_documents.specs.parse_grammar.Trees.{PropertyTokens, Given, spell_maybe, properties_of, spell_entries, spell_others, spell_pairs, single, colon, end_entries, entry, no_others, other, end_pairs, block_pair}
-use Rattle.yaml_round_laws_documents.specs.parse_grammar.TreeSteps.{items_maybe, behind, items_entries, items_others, items_pairs}
 use Rattle.yaml_round_laws_documents.specs.parse_grammar.Trees as trees
-use Rattle.yaml_round_laws_documents.specs.parse_grammar.Resolve.{Directives, gave, settle, node_event, is_missing}
-use Rattle.yaml_round_laws_documents.specs.emit_laws_text.emit_text.declared.Style.{Style}
 use Rattle.yaml_round_laws_documents.specs.emit_laws_text.emit_text.declared.Style.TheVariants as style
-use Rattle.yaml_round_laws_documents.specs.emit_laws_text.emit_layout.Grammar.{has, scalar_tag, start_tag}
-use Rattle.yaml_round_laws_documents.specs.emit_laws_text.Bodies.{anchor_bodies, tag_bodies, mark_bodies}
-use Rattle.yaml_round_laws_documents.specs.TreeLaws.{token_bodies, IsNoMark, Grown, HasNoMark, HaveNoMark, PairsHaveNoMark}
-use Rattle.yaml_round_laws_documents.proofs.Growing.{Spelt, grown, dressed_named, scalar_contained, step_says, tagged_event, spell_if, properties_if, Named, IsNamed, named_bodies, full_of, some_tokens, some_named, with_properties, tag_named, tag_is_named, tag_bodies_are, full_is, bang, Reads, Filled, Followed, Contained, take, silent, tells, also, alias_grown, dressed, bracketed, brackets_end, brackets_done, comma_follows}
-use Rattle.yaml_emit_laws_pretty.specs.Bodies.{style_named, takes_mark, is_bare, is_nothing, scalar_bodies, style_at, is_flow_at, keeps, sequence_opens, sequence_closes, mapping_opens, mapping_closes, node_bodies, items_bodies, pairs_bodies, is_left_out}
-use Rattle.yaml_round_laws_pretty.specs.Reads.{scalar_reads, sequence_style, mapping_style, node_reads, items_reads, pairs_reads}
-use Rattle.yaml_round_laws_documents.proofs.CanonicalPremises.{Resolves}
-use Rattle.yaml_round_laws_documents.specs.parse_grammar.parse_model.declared.yaml_sequence_style_t.TheVariants.{YAML_FLOW_SEQUENCE_STYLE, YAML_BLOCK_SEQUENCE_STYLE}
-use Rattle.yaml_round_laws_documents.specs.parse_grammar.parse_model.declared.yaml_mapping_style_t.TheVariants.{YAML_FLOW_MAPPING_STYLE, YAML_BLOCK_MAPPING_STYLE}
 use Rattle.yaml_round_laws_documents.specs.parse_grammar.parse_model.Events as event
 use Rattle.yaml_round_laws_documents.specs.parse_grammar.declared.name.Wants.TheVariants.{Flow, Block}
 use Rattle.yaml_round_laws_documents.specs.parse_grammar.declared.name.Side.{Side}
 use Rattle.yaml_round_laws_documents.specs.parse_grammar.declared.name.Side.TheVariants.{Key, Value}
 use Rattle.yaml_round_laws_documents.specs.parse_grammar.declared.name.Brackets.TheVariants as brackets
-use Rattle.yaml_round_laws_documents.specs.parse_grammar.declared.name.Site.TheVariants.{Entry, IndentlessEntry, BlockPair, FlowPair}
-use Rattle.yaml_round_laws_documents.specs.emit_laws_text.emit_layout.declared.level.Part.{Part}
 use Rattle.yaml_round_laws_documents.specs.emit_laws_text.emit_layout.declared.level.Part.TheVariants as part
-use Rattle.yaml_round_laws_documents.specs.emit_laws_text.emit_layout.Content.{Scalar, Start, Node, alias_node, scalar_node, sequence_node, mapping_node, Nodes, no_nodes, node, Pairs, no_pairs, pair}
-use Rattle.yaml_round_laws_documents.specs.emit_laws_text.emit_layout.Nodes.{Context, is_simple, is_of_mapping, key_part, are_none, are_no_pairs}
 use Rattle.yaml_round_laws_pretty.proofs.Contents.{and_left}
 
 abbrev pub MaybeGrown : Wants → Site → yaml_mark_t → List TagDirective
@@ -206,9 +186,8 @@ scalar_left_out w at before ds false style.Folded anchor tag value quoted none b
 
 abbrev side_of : Part → Option Side
 side_of part.Item = None
-side_of part.Key = Some Key
-side_of part.SimpleKey = Some Key
 side_of part.Value = Some Value
+side_of _ = Some Key
 
 abbrev pub wants : Bool → Part → Wants
 wants true q = Flow
@@ -395,9 +374,7 @@ mapping_grows p r o ps fill pairs flow q bare some ts bs e =
 
 flow_there : (p : Context) (n : Node) (q : Part) → is_left_out p true q n ≡ false
 flow_there p (alias_node name) q = refl
-flow_there p (scalar_node x) q = refl
-flow_there p (sequence_node o ns) q = refl
-flow_there p (mapping_node o ps) q = refl
+flow_there p _ q = refl
 
 item_fills : (p : Context) (x : Node) (xs : Nodes) → NodeGrows p x → ItemsFollow p xs
     → ItemsFill p (node x xs)

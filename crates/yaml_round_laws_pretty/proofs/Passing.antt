@@ -1,21 +1,9 @@
 -- The bodies of pretty text spell texts.
 use Rattle.std.proofs.Common.{ℕ, Bool, true, false, not, ◌&&◌, List, [], ◌∷◌, Option, refl, sym, subst}
-use Rattle.yaml_round_laws_documents.specs.round_content.parse_model.Tokens.{TokenBody}
+use Rattle.yaml_round_laws_pretty.proofs.Words.{TokenBody, TagDirective, Settings, Style, Part, Scalar, Start, Document, Node, alias_node, scalar_node, sequence_node, mapping_node, Nodes, no_nodes, node, Pairs, no_pairs, pair, has, kept_tag, scalar_tag, start_tag, Context, is_simple, key_part, are_none, are_no_pairs, is_directed, is_marked, mark_bodies, directives_bodies, end_bodies, comma_bodies, start_bodies, IsReadableTag, IsTagged, AreTagged, PairsAreTagged, HaveTexts, style_at, is_flow_at, takes_mark, keeps, is_nothing, value_bodies, scalar_bodies, sequence_opens, sequence_closes, mapping_opens, mapping_closes, item_bodies, pair_bodies, node_bodies, items_bodies, pairs_bodies, context_in, root_bodies, is_root_kept, opening_bodies, documents_bodies, PrettyTokensPass}
 use Rattle.yaml_round_laws_documents.specs.round_content.parse_model.Tokens as token
-use Rattle.yaml_round_laws_documents.specs.parse_grammar.parse_model.Events.{TagDirective}
-use Rattle.yaml_round_laws_documents.specs.emit_laws_text.emit_text.declared.Settings.{Settings}
-use Rattle.yaml_round_laws_documents.specs.emit_laws_text.emit_text.declared.Style.{Style}
-use Rattle.yaml_round_laws_documents.specs.emit_laws_text.emit_layout.declared.level.Part.{Part}
 use Rattle.yaml_round_laws_documents.specs.emit_laws_text.emit_layout.declared.level.Part.TheVariants as part
-use Rattle.yaml_round_laws_documents.specs.emit_laws_text.emit_layout.Content.{Scalar, Start, Document, Node, alias_node, scalar_node, sequence_node, mapping_node, Nodes, no_nodes, node, Pairs, no_pairs, pair}
-use Rattle.yaml_round_laws_documents.specs.emit_laws_text.emit_layout.Grammar.{has, kept_tag, scalar_tag, start_tag}
-use Rattle.yaml_round_laws_documents.specs.emit_laws_text.emit_layout.Nodes.{Context, is_simple, key_part, are_none, are_no_pairs, is_directed, is_marked}
-use Rattle.yaml_round_laws_documents.specs.emit_laws_text.Bodies.{mark_bodies, directives_bodies, end_bodies}
-use Rattle.yaml_round_laws_documents.specs.emit_laws_text.PrettyBodies.{comma_bodies, start_bodies}
-use Rattle.yaml_round_laws_documents.specs.Adapting.{IsReadableTag, IsTagged, AreTagged, PairsAreTagged, HaveTexts}
 use Rattle.yaml_round_laws_documents.proofs.Passing.{Spell, passes, directives_spell, mark_spells, version_spells, end_spells, properties_spell}
-use Rattle.yaml_emit_laws_pretty.specs.Bodies.{style_at, is_flow_at, takes_mark, keeps, is_nothing, value_bodies, scalar_bodies, sequence_opens, sequence_closes, mapping_opens, mapping_closes, item_bodies, pair_bodies, node_bodies, items_bodies, pairs_bodies, context_in, root_bodies, is_root_kept, opening_bodies, documents_bodies}
-use Rattle.yaml_round_laws_pretty.specs.TokenLaws.{PrettyTokensPass}
 
 -- ---- properties
 

@@ -1,9 +1,6 @@
 -- Tokens of pretty text say what events do.
 use Rattle.std.proofs.Common.{List, map, sym, ap, ◌∙◌}
-use Rattle.yaml_round_laws_documents.specs.parse_grammar.parse_model.Events.{EventBody}
-use Rattle.yaml_round_laws_documents.specs.emit_laws_text.emit_layout.Content.{Event}
-use Rattle.yaml_round_laws_documents.specs.TreeLaws.{parsed_of}
-use Rattle.yaml_round_laws_pretty.specs.TokenLaws.{PrettyTokensSayDocuments}
+use Rattle.yaml_round_laws_pretty.proofs.Words.{EventBody, Event, parsed_of, PrettyTokensSayDocuments}
 use Rattle.yaml_round_laws_pretty.proofs.Contents.{says, content, contents_said, contents_by, stream_same}
 use Rattle.yaml_round_laws_pretty.proofs.Documents.{tokens_parsed}
 

@@ -1,23 +1,9 @@
 -- The tokens of a tree weigh what the canonical text of its content takes, by a weight for each kind of token.
 use Rattle.std.proofs.Common.{◌≡◌, ℕ, ◌+◌, ◌≤◌, Bool, true, List, [], ◌∷◌, codes, Option, Some, None, refl, arith, inl, inr, le_refl}
-use Rattle.std.proofs.lemmas.Bool.{cases_Bool}
-use Rattle.std.proofs.lemmas.Str.{chars-nil}
-use Rattle.std.specs.Str.{chars, bytes_eq}
-use Rattle.yaml_scan_history.specs.scan_model.Tokens.{Token}
+use Rattle.yaml_round_laws_sizes.proofs.Words.{cases_Bool, chars-nil, chars, bytes_eq, Token, Wants, Properties, PropertyTokens, token_at, properties_of, spell_properties, spell_node, spell_content, spell_maybe, spell_colon, spell_items, spell_more, spell_entries, spell_others, spell_pairs, spell_directives, spell_ends, spell_documents, spell_first, spell, TagDirective, Encoding, Settings, scalar_node, context_of, ascii, text_bytes, anchor_bytes, tag_bytes, most_of_value, most_of_line, directives_bytes, tag_of, anchor_of, is_plain, mark_of, empty, node_of, with_content, maybe_of, colon_of, items_of, more_items_of, parts_of, more_parts_of, entries_of, others_of, pairs_of, tags_in, documents_of, behind_first, tree_content, written_scalar, written_node, written_nodes, written_pairs, written_documents}
 use Rattle.yaml_scan_history.specs.scan_model.Tokens as token
-use Rattle.yaml_parse_grammar.specs.declared.Wants.{Wants}
 use Rattle.yaml_parse_grammar.specs.declared.Brackets.TheVariants as brackets
-use Rattle.yaml_parse_grammar.specs.Items.{Properties}
 use Rattle.yaml_parse_grammar.specs.Trees as tree
-use Rattle.yaml_parse_grammar.specs.Trees.{PropertyTokens, token_at, closing, properties_of, spell_properties, spell_node, spell_content, spell_maybe, spell_colon, spell_items, spell_more, spell_entries, spell_others, spell_pairs, spell_directives, spell_ends, spell_documents, spell_first, spell}
-use Rattle.yaml_emit_laws_text.specs.emit_layout.parse_model.Events.{TagDirective}
-use Rattle.yaml_emit_laws_text.specs.emit_layout.emit_text.declared.Encoding.{Encoding}
-use Rattle.yaml_emit_laws_text.specs.emit_layout.emit_text.declared.Settings.{Settings}
-use Rattle.yaml_emit_laws_text.specs.emit_layout.Content.{scalar_node}
-use Rattle.yaml_emit_laws_text.specs.emit_layout.Nodes.{context_of}
-use Rattle.yaml_emit_laws_text.specs.Sizes.{ascii, text_bytes, anchor_bytes, tag_bytes, most_of_value, most_of_line, directives_bytes}
-use Rattle.yaml_round_content.specs.TreeContent.{tag_of, anchor_of, is_plain, mark_of, empty, node_of, with_content, maybe_of, colon_of, items_of, more_items_of, parts_of, more_parts_of, entries_of, others_of, pairs_of, tags_in, documents_of, behind_first, tree_content}
-use Rattle.yaml_round_content.specs.Canon.{written_scalar, written_node, written_nodes, written_pairs, written_documents}
 use Rattle.yaml_round_laws_sizes.proofs.Weights.{Weight, weigh}
 use Rattle.yaml_round_laws_sizes.proofs.Trees.{node_grows, maybe_grows, ends_grow}
 use Rattle.yaml_round_laws_sizes.proofs.Flat.{flat_node, flat_items, flat_pairs, flat_documents}

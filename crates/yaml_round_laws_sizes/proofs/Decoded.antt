@@ -1,22 +1,10 @@
 -- The text that an input spells is UTF-8, and as long as the input at most, or twice as long where that is UTF-16.
-use Rattle.std.proofs.Common.{◌≡◌, ℕ, zero, suc, ◌+◌, ◌-◌, ◌*◌, ◌<◌, ◌≤◌, true, not, nat_lt, List, length, drop, Result, Ok, Err, refl, ap, ◌∙◌, arith, inl, inr, length-append, IsUtf8, mul-le-mul_left, sub-le}
-use Rattle.std.proofs.lemmas.Bool.{cases_Bool, ltb-true, ltb-false}
+use Rattle.std.proofs.Common.{not, ◌≡◌, ℕ, zero, suc, ◌+◌, ◌-◌, ◌*◌, ◌<◌, ◌≤◌, true, nat_lt, List, length, drop, Result, Ok, Err, refl, ap, ◌∙◌, arith, inl, inr, length-append, IsUtf8, mul-le-mul_left, sub-le}
+use Rattle.yaml_round_laws_sizes.proofs.Words.{is_high_surrogate, is_low_surrogate, is_allowed, cases_Bool, ltb-true, ltb-false, length-encode, len_utf8_bounds, encode_utf8, encode_utf8_all, IsScalar, all_scalars, yaml_encoding_t, YAML_UTF16LE_ENCODING, YAML_UTF16BE_ENCODING, Offence, Character, allowed_at, utf8_at, unit_at, utf16_of, character_at, before, led_by, characters, decoded_characters, encoding_of, mark_length, text_times}
 use Rattle.std.proofs.lemmas.List.{length-drop}
-use Rattle.std.proofs.lemmas.Str.{length-encode, len_utf8_bounds}
-use Rattle.std.specs.Prelude.{encode_utf8, encode_utf8_all}
-use Rattle.std.specs.Char.{IsScalar}
-use Rattle.std.specs.Str.{all_scalars}
-use Rattle.yaml_scan_history.specs.scan_model.declared.yaml_encoding_t.{yaml_encoding_t}
-use Rattle.yaml_scan_history.specs.scan_model.declared.yaml_encoding_t.TheVariants.{YAML_ANY_ENCODING, YAML_UTF8_ENCODING, YAML_UTF16LE_ENCODING, YAML_UTF16BE_ENCODING}
-use Rattle.yaml_scan_decode.specs.declared.offence.Offence.{Offence}
-use Rattle.yaml_scan_decode.specs.declared.offence.Character.{Character}
 use Rattle.yaml_scan_decode.specs.declared.utf16.ByteOrder.TheVariants.{LowFirst, HighFirst}
-use Rattle.yaml_scan_decode.specs.Characters.{is_allowed, is_low_surrogate, is_high_surrogate, allowed_at, utf8_at, unit_at, utf16_of, character_at}
-use Rattle.yaml_scan_decode.specs.Decoding.{before, led_by, characters, decoded_characters}
-use Rattle.yaml_scan_decode.specs.Encodings.{encoding_of, mark_length}
 use Rattle.yaml_scan_decode.proofs.DecodeLemmas.{utf8_stands}
 use Rattle.yaml_scan_history.proofs.SpellingLemmas.{allowed_scalar}
-use Rattle.yaml_round_laws_sizes.specs.Laws.{text_times}
 
 -- a character that stands there: one of Unicode, and so long at most
 record Spelt (n k p : ℕ) (c : Character) : Type 0 where
@@ -73,10 +61,9 @@ utf16_spelt n p u v l =
 
 spelt_at : (x : yaml_encoding_t) (bytes : List ℕ) (p : ℕ) → p < length bytes
     → SpeltAny (length bytes) (text_times x) p (character_at x bytes p)
-spelt_at YAML_ANY_ENCODING bytes p l = utf8_spelt bytes p (utf8_at bytes p) l refl
-spelt_at YAML_UTF8_ENCODING bytes p l = utf8_spelt bytes p (utf8_at bytes p) l refl
 spelt_at YAML_UTF16LE_ENCODING bytes p l = utf16_spelt (length bytes) p (unit_at LowFirst bytes p) (unit_at LowFirst bytes (p + 2)) l
 spelt_at YAML_UTF16BE_ENCODING bytes p l = utf16_spelt (length bytes) p (unit_at HighFirst bytes p) (unit_at HighFirst bytes (p + 2)) l
+spelt_at _ bytes p l = utf8_spelt bytes p (utf8_at bytes p) l refl
 
 -- ---- texts
 

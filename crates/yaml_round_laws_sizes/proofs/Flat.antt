@@ -1,13 +1,8 @@
 -- What canonical text takes at most, where every line is indented alike: as much as the deepest one.
 use Rattle.std.proofs.Common.{ℕ, suc, ◌+◌, ◌*◌, ◌≤◌, true, List, [], ◌∷◌, arith, inl, inr, le_refl, suc-mul}
-use Rattle.std.specs.Str.{chars}
-use Rattle.yaml_emit_laws_text.specs.emit_layout.emit_text.declared.Settings.{Settings}
-use Rattle.yaml_emit_laws_text.specs.emit_layout.Content.{Node, alias_node, scalar_node, sequence_node, mapping_node, Nodes, no_nodes, node, Pairs, no_pairs, pair, Document}
+use Rattle.yaml_round_laws_sizes.proofs.Words.{chars, Settings, alias_node, scalar_node, sequence_node, mapping_node, no_nodes, node, no_pairs, pair, Context, context_of, StandsAt, ItemStandsAt, PartStandsAt, RootStandsAt, value_grows, line_grows, ascii, text_bytes, properties_bytes, most_of_value, most_of_line, most_of_node, most_of_items, most_of_pairs, directives_bytes, most_of_documents}
+use Rattle.yaml_emit_laws_text.specs.emit_layout.Content.{Node, Nodes, Pairs, Document}
 use Rattle.yaml_emit_laws_text.specs.emit_layout.Grammar.{scalar_tag, start_tag}
-use Rattle.yaml_emit_laws_text.specs.emit_layout.Nodes.{Context, context_of}
-use Rattle.yaml_emit_laws_text.specs.Depths.{StandsAt, ItemStandsAt, PartStandsAt, RootStandsAt}
-use Rattle.yaml_emit_laws_text.proofs.SizesLaid.{value_grows, line_grows}
-use Rattle.yaml_emit_laws_text.specs.Sizes.{ascii, text_bytes, properties_bytes, most_of_value, most_of_line, most_of_node, most_of_items, most_of_pairs, directives_bytes, most_of_documents}
 
 abbrev mutual
   pub flat_node : Context → ℕ → Node → ℕ

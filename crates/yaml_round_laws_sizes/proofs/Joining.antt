@@ -1,35 +1,14 @@
 -- The laws: tokens of an input, and the tree that they are.
 use Rattle.std.proofs.Common.{◌≡◌, ℕ, ◌+◌, ◌*◌, ◌/◌, ◌<◌, ◌≤◌, Bool, true, false, ◌&&◌, nat_le, List, [], ◌++◌, length, Result, Ok, Err, pos, refl, ap, subst, ◌∙◌, arith, inl, inr, IsUtf8, le_refl, mul-le-mul_left, mul-le-mul_right, mul_assoc}
-use Rattle.std.proofs.lemmas.Bool.{cases_Bool, leb-true}
-use Rattle.std.proofs.lemmas.Str.{length-le-encodes}
-use Rattle.std.specs.Prelude.{encode_utf8_all, ℤ, negsuc}
-use Rattle.yaml_round_content.specs.scan_model.declared.yaml_encoding_t.{yaml_encoding_t}
-use Rattle.yaml_round_content.specs.scan_model.declared.yaml_encoding_t.TheVariants.{YAML_ANY_ENCODING}
-use Rattle.yaml_round_content.specs.scan_model.Tokens.{Token}
-use Rattle.yaml_round_content.specs.scan_history.scan_decode.declared.offence.Offence.{Offence}
-use Rattle.yaml_round_content.specs.scan_history.scan_decode.Decoding.{in_utf8, decoded_characters}
-use Rattle.yaml_round_content.specs.scan_history.scan_decode.Encodings.{encoding_of}
-use Rattle.yaml_round_content.specs.scan_history.Remaining.{SpelledText, offline}
+use Rattle.yaml_round_laws_sizes.proofs.Words.{cases_Bool, leb-true, length-le-encodes, encode_utf8_all, ℤ, negsuc, yaml_encoding_t, YAML_ANY_ENCODING, Token, Offence, in_utf8, decoded_characters, encoding_of, SpelledText, offline, Settings, encode, is_deep, MOST, stream_layout, Stream, spell, Document, tree_content, written_documents, canon_items, adapted, RootStandsAt, unit, ascii, most_of_documents, most_bytes, by_content, text_times, most_of_read, DepthsTakeBytes, DeepInputsAreLong, ShortInputsKeepColumns, CanonicalTextsAreBounded, ContentsAreBounded, CanonicalTextsAreShort, LayoutsAreShort}
 use Rattle.yaml_round_content.specs.scan_history.Scanned.{scanned_in}
-use Rattle.yaml_round_content.specs.emit_text.declared.Settings.{Settings}
 use Rattle.yaml_round_content.specs.emit_text.Settings.{settled, settled_indent}
-use Rattle.yaml_round_content.specs.emit_text.Text.{encode, is_deep}
 use Rattle.yaml_round_content.specs.emit_text.Layout.{written}
 use Rattle.yaml_round_content.specs.Input.{events_of}
 use Rattle.yaml_round_content.proofs.Joining.{read_said}
-use Rattle.yaml_round_content.specs.emit_layout.Nodes.{MOST, stream_layout}
-use Rattle.yaml_round_content.specs.parse_grammar.Trees.{Stream, spell}
-use Rattle.yaml_round_content.specs.Said.{Document}
 use Rattle.yaml_round_content.specs.Reading.{HaveContent}
-use Rattle.yaml_round_content.specs.TreeContent.{tree_content}
-use Rattle.yaml_round_content.specs.Canon.{written_documents, canon_items}
-use Rattle.yaml_round_laws_adapted.specs.Adapted.{adapted}
 use Rattle.yaml_scan_laws_texts.proofs.TokensUtf8.{remaining_sound}
-use Rattle.yaml_emit_laws_text.specs.Depths.{RootStandsAt}
-use Rattle.yaml_emit_laws_text.specs.Sizes.{unit, ascii, most_of_documents, most_bytes}
 use Rattle.yaml_emit_laws_text.proofs.ColumnsDepths.{by_depth}
-use Rattle.yaml_emit_laws_text.proofs.SizesLaid.{by_content}
-use Rattle.yaml_round_laws_sizes.specs.Laws.{text_times, most_of_read, DepthsTakeBytes, DeepInputsAreLong, ShortInputsKeepColumns, CanonicalTextsAreBounded, ContentsAreBounded, CanonicalTextsAreShort, LayoutsAreShort}
 use Rattle.yaml_round_laws_sizes.proofs.Leads.{Few, few_decoded, leads_few}
 use Rattle.yaml_round_laws_sizes.proofs.Tokens.{count, count_append, tokens_few, cut_most}
 use Rattle.yaml_round_laws_sizes.proofs.Trees.{tree_deep}

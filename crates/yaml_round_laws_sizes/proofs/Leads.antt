@@ -1,15 +1,7 @@
 -- How many characters begin before a place: at most as many as an input has bytes.
 use Rattle.std.proofs.Common.{◌≡◌, ℕ, zero, suc, ◌+◌, ◌/◌, ◌%◌, ◌-◌, ◌<◌, ◌≤◌, Bool, true, false, nat_lt, nat_le, List, [], ◌∷◌, ◌++◌, length, Result, Ok, Err, refl, subst, arith, inl, inr, le_refl}
-use Rattle.std.proofs.lemmas.Bool.{cases_Bool, ltb-true, leb-true}
-use Rattle.std.specs.Prelude.{encode_utf8, encode_utf8_all}
+use Rattle.yaml_round_laws_sizes.proofs.Words.{cases_Bool, ltb-true, leb-true, encode_utf8, encode_utf8_all, yaml_encoding_t, encoding_of, mark_length, Offence, Character, character_at, before, led_by, characters, decoded_characters, byte, starts}
 use lib.Utf8.{encode as encode_char}
-use Rattle.yaml_scan_history.specs.scan_model.declared.yaml_encoding_t.{yaml_encoding_t}
-use Rattle.yaml_scan_history.specs.scan_decode.Encodings.{encoding_of, mark_length}
-use Rattle.yaml_scan_history.specs.scan_decode.declared.offence.Offence.{Offence}
-use Rattle.yaml_scan_history.specs.scan_decode.declared.offence.Character.{Character}
-use Rattle.yaml_scan_history.specs.scan_decode.Characters.{character_at}
-use Rattle.yaml_scan_history.specs.scan_decode.Decoding.{before, led_by, characters, decoded_characters}
-use Rattle.yaml_scan_history.specs.scan_model.Marks.{byte, starts}
 
 abbrev pub one_if : Bool → ℕ
 one_if true = 1

@@ -1,31 +1,17 @@
 -- What tokens cost is told by the lengths of what they carry, where that is UTF-8, and by how many tags there are.
 use Rattle.std.proofs.Common.{◌≡◌, ℕ, ◌+◌, ◌*◌, ◌<◌, ◌≤◌, true, false, ◌==◌, nat_lt, nat_le, List, [], ◌∷◌, ◌++◌, length, Option, refl, subst, arith, inl, inr, IsUtf8, All, le_refl, mul-le-mul_left}
-use Rattle.std.proofs.lemmas.Bool.{cases_Bool, ltb-true, lt-ltb, and_parts}
+use Rattle.yaml_round_laws_sizes.proofs.Words.{cases_Bool, ltb-true, lt-ltb, and_parts, encodes-chars, scalars-chars, length-le-encodes, IsUtf8-from_is_utf8, IsScalar, chars, Fault, Token, TokenBody, Encoding, Utf8, Settings, char_bytes, hex_2, suffix_keeps, uri_byte, uri_text, unit, larger, text_bytes, most_of_quoted, most_of_char, most_of_escape, most_of_value, spells_text, cut, ascii_grows}
 use Rattle.std.proofs.lemmas.List.Elements.{All-head, All-tail}
-use Rattle.std.proofs.lemmas.Str.{encodes-chars, scalars-chars, length-le-encodes, IsUtf8-from_is_utf8}
 use Rattle.std.proofs.Math.Utf8.{scalar_cases}
-use Rattle.std.specs.Char.{IsScalar}
-use Rattle.std.specs.Str.{chars}
 use lib.Utf8.{scalar, scalars, encode, encodes}
-use Rattle.yaml_scan_history.specs.scan_model.Faults.{Fault}
-use Rattle.yaml_scan_history.specs.scan_model.Tokens.{Token, TokenBody}
 use Rattle.yaml_scan_history.specs.scan_model.Tokens as token
-use Rattle.yaml_emit_laws_text.specs.emit_layout.emit_text.declared.Encoding.{Encoding}
-use Rattle.yaml_emit_laws_text.specs.emit_layout.emit_text.declared.Encoding.TheVariants.{Utf8, Utf16Le, Utf16Be}
-use Rattle.yaml_emit_laws_text.specs.emit_layout.emit_text.declared.Settings.{Settings}
-use Rattle.yaml_emit_laws_text.specs.emit_layout.emit_text.Text.{char_bytes}
-use Rattle.yaml_emit_laws_text.specs.emit_layout.emit_text.Hex.{hex_2}
-use Rattle.yaml_emit_laws_text.specs.emit_layout.emit_tags.Tags.{suffix_keeps, uri_byte, uri_text}
-use Rattle.yaml_emit_laws_text.specs.Sizes.{unit, larger, text_bytes, most_of_quoted, most_of_char, most_of_escape, most_of_value}
 use Rattle.yaml_emit_laws_text.proofs.SizesCounting.{ascii_bytes}
 use Rattle.yaml_emit_laws_text.proofs.SizesEscapes.{raw_most, two_small, short}
-use Rattle.yaml_round_laws_adapted.specs.Adapted.{spells_text, cut}
 use Rattle.yaml_round_content.specs.scan_laws_texts.Utf8Texts.{HasTexts}
 use Rattle.yaml_round_laws_sizes.proofs.Weights.{Weight, weigh}
 use Rattle.yaml_round_laws_sizes.proofs.Spellings.{uri_bytes, text_append}
 use Rattle.yaml_round_laws_sizes.proofs.Costs.{broad, cost, lends}
 use Rattle.yaml_round_laws_sizes.proofs.Prices.{by_length, marks}
-use Rattle.yaml_emit_laws_text.proofs.SizesLaid.{ascii_grows}
 
 -- ---- texts
 
@@ -66,9 +52,6 @@ encodes_small (c ∷ cs) h =
     let (own, rest) = and_parts (scalar c) (scalars cs) h in
     small_append (encode c) (encodes cs) (encode_small c (scalar_bound c own)) (encodes_small cs rest)
 
-utf8_small : (bs : List ℕ) → IsUtf8 bs → AreSmall bs
-utf8_small bs u = subst AreSmall (encodes-chars bs u) (encodes_small (chars bs) (scalars-chars bs u))
-
 kept_most : (x : Encoding) (b : ℕ) → b < 256 → length (char_bytes x b) ≤ 2 * unit x
 unfolding char_bytes
 kept_most Utf8 b w =
@@ -76,8 +59,7 @@ kept_most Utf8 b w =
       | inl e ↦ rw e (omega arith)
       | inr e ↦ let f : nat_lt b 0x800 ≡ true = lt-ltb b 0x800 (omega (arith, w)) in rw e (rw f (omega arith))
     ]
-kept_most Utf16Le b w = let f : nat_lt b 0x1_0000 ≡ true = lt-ltb b 0x1_0000 (omega (arith, w)) in rw f (omega arith)
-kept_most Utf16Be b w = let f : nat_lt b 0x1_0000 ≡ true = lt-ltb b 0x1_0000 (omega (arith, w)) in rw f (omega arith)
+kept_most _ b w = let f : nat_lt b 0x1_0000 ≡ true = lt-ltb b 0x1_0000 (omega (arith, w)) in rw f (omega arith)
 
 byte_most : (x : Encoding) (b : ℕ) → b < 256 → text_bytes x (uri_byte false b) ≤ 3 * unit x
 unfolding text_bytes
@@ -93,7 +75,7 @@ uri_most x [] f = omega arith
 uri_most x (b ∷ bs) f = omega (arith, text_append x (uri_byte false b) (uri_text false bs), byte_most x b f.0, uri_most x bs f.1)
 
 pub utf8_most : (x : Encoding) (bs : List ℕ) → IsUtf8 bs → uri_bytes x bs ≤ 3 * unit x * length bs
-utf8_most x bs u = uri_most x bs (utf8_small bs u)
+utf8_most x bs u = uri_most x bs (subst AreSmall (encodes-chars bs u) (encodes_small (chars bs) (scalars-chars bs u)))
 
 -- ---- values
 
@@ -118,11 +100,7 @@ quoted_most s i c w =
     ]
 
 larger_most : (a b n : ℕ) → a ≤ n → b ≤ n → larger a b ≤ n
-larger_most a b n w v =
-    elim (cases_Bool (nat_le a b)) [
-      | inl e ↦ rw e v
-      | inr e ↦ rw e w
-    ]
+larger_most a b n w v = elim (cases_Bool (nat_le a b)) [ inl e ↦ rw e v | inr e ↦ rw e w ]
 
 char_most : (s : Settings) (i c : ℕ) → c < 1114112 → most_of_char s i c ≤ broad s i
 char_most s i c w =
@@ -139,14 +117,11 @@ value_most s i (c ∷ cs) h =
     let (own, rest) = and_parts (scalar c) (scalars cs) h in
     omega (arith, char_most s i c (scalar_bound c own), value_most s i cs rest)
 
-chars_few : (v : List ℕ) → IsUtf8 v → length (chars v) ≤ length v
-chars_few v u = subst (λ z. length (chars v) ≤ length z) (encodes-chars v u) (length-le-encodes (chars v))
-
 scalar_most : (s : Settings) (i : ℕ) (v : List ℕ) → IsUtf8 v
     → most_of_value s i (chars v) ≤ broad s i * length v
 scalar_most s i v u =
     let a = value_most s i (chars v) (scalars-chars v u) in
-    let b : broad s i * length (chars v) ≤ broad s i * length v = mul-le-mul_left (broad s i) (chars_few v u) in
+    let b : broad s i * length (chars v) ≤ broad s i * length v = mul-le-mul_left (broad s i) (subst (λ z. length (chars v) ≤ length z) (encodes-chars v u) (length-le-encodes (chars v))) in
     omega (arith, a, b)
 
 -- ---- tokens

@@ -1,14 +1,8 @@
 -- Indicators, and the blanks behind those of blocks, take a character each.
 use Rattle.std.proofs.Common.{◌≡◌, ℕ, zero, suc, ◌+◌, ◌<◌, ◌≤◌, Bool, true, false, not, ◌&&◌, ◌||◌, ◌==◌, nat_lt, if◌then◌else◌, List, [], ◌∷◌, Option, Some, None, refl, sym, ap, subst, ◌∙◌, arith, inl, inr, le_refl}
-use Rattle.std.proofs.lemmas.Bool.{cases_Bool, ltb-false, ne_eqb, or_parts}
-use Rattle.yaml_scan_history.specs.scan_model.Marks.{byte, starts, column_at, break_of, is_blank_or_end}
+use Rattle.yaml_round_laws_sizes.proofs.Words.{cases_Bool, ltb-false, ne_eqb, or_parts, byte, starts, column_at, break_of, is_blank_or_end, starts_plain, Kind, Lexeme, is_end, kind_at, indicator_of, or_plain}
 use Rattle.yaml_scan_history.specs.scan_words.Indicators.{is_thrice, is_document_start, is_document_end}
-use Rattle.yaml_scan_history.specs.scan_scalars.Plain.{starts_plain}
-use Rattle.yaml_scan_history.specs.declared.kind.Kind.{Kind}
 use Rattle.yaml_scan_history.specs.declared.kind.Kind.TheVariants as kinds
-use Rattle.yaml_scan_history.specs.declared.lexeme.Lexeme.{Lexeme}
-use Rattle.yaml_scan_history.specs.Kinds.{is_end}
-use Rattle.yaml_scan_history.specs.Words.{kind_at, indicator_of, or_plain}
 use Rattle.yaml_round_laws_sizes.proofs.Leads.{one_if, one_most}
 
 -- an indicator of levels
@@ -141,10 +135,7 @@ black text p e =
 pub blank_white : (text : List ℕ) (p : ℕ) → is_blank_or_end text p ≡ true
     → white (byte text p) ≡ true
 blank_white text p e =
-    elim (cases_Bool (white (byte text p))) [
-      | inl w ↦ w
-      | inr w ↦ let n = black text p w in cc
-    ]
+    elim (cases_Bool (white (byte text p))) [ inl w ↦ w | inr w ↦ let n = black text p w in cc ]
 
 -- a white byte is none that isn't
 unlike : (b n : ℕ) → white b ≡ true → white n ≡ false → (b == n) ≡ false

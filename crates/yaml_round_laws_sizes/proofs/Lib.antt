@@ -1,3 +1,4 @@
+mod Words
 mod Leads
 mod Lexemes
 mod Paying

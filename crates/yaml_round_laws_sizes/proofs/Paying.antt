@@ -1,22 +1,10 @@
 -- The lexemes of a text are worth no more than the characters that begin in it, and one.
 use Rattle.std.proofs.Common.{◌≡◌, ℕ, zero, suc, ◌+◌, ◌<◌, ◌≤◌, Bool, true, false, not, List, [], ◌∷◌, length, Option, Some, None, Result, Ok, Err, refl, ap, subst, ◌∙◌, arith, inl, inr}
-use Rattle.std.proofs.lemmas.Bool.{cases_Bool}
+use Rattle.yaml_round_laws_sizes.proofs.Words.{cases_Bool, cond_both, ScanFault, Wrong, byte, starts, is_blank_or_end, Kind, Lexeme, is_end, depth, in_flow, Next, Read, Fails, Ends, first_lexeme, begun_behind, with_end, gap_behind, place_behind, kind_behind, word_behind, lexeme_behind, first_fault_or, stale_before, no_start, faults, coming, next, extended, history, WordText, word_at, all, Stands, history_stands, stand_in, not_ended, first_is, takes_bytes, placed_index}
 use Rattle.yaml_scan_history.specs.scan_model.declared.record.yaml_mark_t.{yaml_mark_t}
-use Rattle.yaml_scan_history.specs.scan_model.declared.problem.ScanFault.{ScanFault}
-use Rattle.yaml_scan_history.specs.scan_model.Wrong.{Wrong}
-use Rattle.yaml_scan_history.specs.scan_model.Marks.{byte, starts, is_blank_or_end}
-use Rattle.yaml_scan_history.specs.declared.kind.Kind.{Kind}
 use Rattle.yaml_scan_history.specs.declared.kind.Kind.TheVariants as kinds
-use Rattle.yaml_scan_history.specs.declared.lexeme.Lexeme.{Lexeme}
-use Rattle.yaml_scan_history.specs.Kinds.{is_end}
-use Rattle.yaml_scan_history.specs.History.{depth, in_flow}
-use Rattle.yaml_scan_history.specs.Next.{Next, Read, Fails, Ends, first_lexeme, begun_behind, with_end, gap_behind, place_behind, kind_behind, word_behind, lexeme_behind, first_fault_or, stale_before, no_start, faults, coming, next, extended, history}
-use Rattle.yaml_scan_history.specs.Words.{WordText, word_at}
-use Rattle.yaml_scan_history.specs.Remaining.{all}
-use Rattle.yaml_scan_laws_order.proofs.HistoryForward.{Stands, history_stands, stand_in, not_ended, first_is, takes_bytes}
 use Rattle.yaml_round_laws_sizes.proofs.Leads.{one_if, leads, leads_grow}
 use Rattle.yaml_round_laws_sizes.proofs.Lexemes.{own, apart, apart_least, worth, worths, white_starts, blank_white, begins, followed, not_blank}
-use Rattle.yaml_scan_laws_order.proofs.NextForward.{placed_index}
 
 -- what is known of a lexeme that was read
 pub record Telling (text : List ℕ) (l : Lexeme) : Type 0 where
@@ -35,17 +23,17 @@ first_tells text [] x t = t
 first_tells text (Some p ∷ ps) x t = tt
 first_tells text (None ∷ ps) x t = first_tells text ps x t
 
-record Keeps (a b : Lexeme) : Type 0 where
-  kind : a.kind ≡ b.kind
-  depth : a.depth ≡ b.depth
-  start : a.start ≡ b.start
+-- A lexeme that ends where its word does is what it was.
+pub record Keeps (a b : Lexeme) : Type 0 where
+  pub kind : a.kind ≡ b.kind
+  pub depth : a.depth ≡ b.depth
+  pub start : a.start ≡ b.start
 
-ended_keeps : (text : List ℕ) (l : Lexeme) (r : Result WordText Wrong) → Keeps (with_end text l r) l
+pub ended_keeps : (text : List ℕ) (l : Lexeme) (r : Result WordText Wrong)
+    → Keeps (with_end text l r) l
 ended_keeps text l (Ok w) =
-    elim (cases_Bool (is_end l.kind)) [
-      | inl e ↦ rw e (record { kind = refl; depth = refl; start = refl })
-      | inr e ↦ rw e (record { kind = refl; depth = refl; start = refl })
-    ]
+    cond_both _ _ _ (λ k. Keeps k l) (λ _. record { kind = refl; depth = refl; start = refl })
+    (λ _. record { kind = refl; depth = refl; start = refl })
 ended_keeps text l (Err w) = record { kind = refl; depth = refl; start = refl }
 
 -- the place behind an indicator of blocks is the next one
@@ -148,8 +136,7 @@ step_paid : (text : List ℕ) (h : List Lexeme) (x : Next) → Stands text h →
     → next text h ≡ x → ArePaid text (extended x h)
 step_paid text [] (Read l) s p e = rw (← first_is text l e) (first_paid text)
 step_paid text (y ∷ h) (Read l) s p e = read_paid text y h l s p e
-step_paid text h (Fails f) s p e = p
-step_paid text h Ends s p e = p
+step_paid text h _ s p e = p
 
 history_paid : (text : List ℕ) (n : ℕ) → ArePaid text (history text n)
 unfolding history

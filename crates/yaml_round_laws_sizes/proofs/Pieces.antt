@@ -1,12 +1,6 @@
 -- The values of scalars have no more bytes than what was read of them: pieces between quotes and of plain scalars, lines of block scalars.
 use Rattle.std.proofs.Common.{◌≡◌, ℕ, zero, suc, ◌+◌, ◌-◌, ◌<◌, ◌≤◌, Bool, true, false, not, ◌&&◌, ◌==◌, List, [], ◌∷◌, ◌++◌, length, take, drop, refl, arith, inl, inr, le_refl, length-append}
-use Rattle.std.proofs.lemmas.Bool.{cases_Bool, eqb-true}
-use Rattle.std.specs.List.{slice_range}
-use Rattle.yaml_scan_history.specs.scan_model.Marks.{break_width}
-use Rattle.yaml_scan_history.specs.scan_model.Breaks.{break_value, is_feed}
-use Rattle.yaml_scan_history.specs.scan_scalars.Pieces.{Piece, Kept, Blank, Break, Line, Lines, split_one, lines, is_empty, text, trim_end, trim_start, gap, rest_of, folded, value}
-use Rattle.yaml_scan_history.specs.scan_block.Header.{chomp_of}
-use Rattle.yaml_scan_history.specs.scan_block.Value.{BlockLine, Empty, Words, TextLine, Texts, add_line, texts_of, starts_blank, space_or, between, at_end, behind_text, value_with, block_value}
+use Rattle.yaml_round_laws_sizes.proofs.Words.{cases_Bool, eqb-true, slice_range, break_width, break_value, is_feed, Piece, Kept, Blank, Break, Line, Lines, split_one, lines, is_empty, text, trim_end, trim_start, gap, rest_of, folded, value, chomp_of, BlockLine, Empty, Words, TextLine, Texts, add_line, texts_of, starts_blank, space_or, between, at_end, behind_text, value_with, block_value}
 
 -- ---- between quotes, and plain
 
@@ -32,8 +26,7 @@ lines_size ls = pieces_size ls.first + others_size ls.others
 
 split_size : (p : Piece) (ls : Lines) → lines_size (split_one p ls) ≡ piece_size p + lines_size ls
 split_size (Kept bytes) ls = omega arith
-split_size (Blank b) ls = omega arith
-split_size (Break bytes) ls = omega arith
+split_size _ ls = omega arith
 
 lines_are : (ps : List Piece) → lines_size (lines ps) ≡ pieces_size ps
 lines_are [] = refl
@@ -56,19 +49,14 @@ end_size (Blank b ∷ l) =
     ]
 
 start_size : (l : Line) → pieces_size (trim_start l) ≤ pieces_size l
-start_size [] = le_refl _
 start_size (Blank b ∷ l) = omega (arith, start_size l)
-start_size (Kept bytes ∷ l) = le_refl _
-start_size (Break bytes ∷ l) = le_refl _
+start_size _ = le_refl _
 
 gap_size : (first rest : List ℕ) → length (gap first rest) ≤ length first + length rest
 gap_size [] [] = omega arith
 gap_size [] (c ∷ cs) = omega arith
 gap_size (b ∷ bs) [] =
-    elim (cases_Bool (is_feed (b ∷ bs))) [
-      | inl e ↦ rw e (omega arith)
-      | inr e ↦ rw e (omega arith)
-    ]
+    elim (cases_Bool (is_feed (b ∷ bs))) [ inl e ↦ rw e (omega arith) | inr e ↦ rw e (omega arith) ]
 gap_size (b ∷ bs) (c ∷ cs) =
     elim (cases_Bool (is_feed (b ∷ bs))) [
       | inl e ↦ rw e (omega arith)

@@ -1,29 +1,16 @@
 -- What the tokens of a text cost, by the lengths of what they carry: so much for each byte of the text, and once more.
 use Rattle.std.proofs.Common.{◌≡◌, ℕ, zero, suc, ◌+◌, ◌-◌, ◌*◌, ◌<◌, ◌≤◌, Bool, true, false, true≢false, not, ◌&&◌, nat_lt, List, [], ◌∷◌, length, Option, Some, None, Result, Ok, Err, refl, sym, ap, subst, ◌∙◌, arith, inl, inr, le_refl, mul-le-mul_left, mul-le-mul_right, mul-add}
-use Rattle.std.proofs.lemmas.Bool.{cases_Bool}
-use Rattle.yaml_scan_history.specs.scan_model.declared.problem.ScanFault.{ScanFault}
-use Rattle.yaml_scan_history.specs.scan_model.Tokens.{TokenBody}
+use Rattle.yaml_round_laws_sizes.proofs.Words.{cases_Bool, ScanFault, TokenBody, Wrong, is_blank_or_end, Kind, Lexeme, Opens, is_end, is_value, depth, indent, start_of, Next, Read, Fails, Ends, first_lexeme, begun_behind, with_end, place_behind, kind_behind, word_behind, lexeme_behind, first_fault_or, stale_before, no_start, faults, coming, next, extended, history, WordText, word_at, SpelledText, body_of_word, body_by, body_in, all, offline, Stands, history_stands, stand_in, not_ended, first_is, takes_bytes, placed_index}
 use Rattle.yaml_scan_history.specs.scan_model.Tokens as token
-use Rattle.yaml_scan_history.specs.scan_model.Wrong.{Wrong}
-use Rattle.yaml_scan_history.specs.scan_model.Marks.{is_blank_or_end}
-use Rattle.yaml_scan_history.specs.declared.kind.Kind.{Kind}
 use Rattle.yaml_scan_history.specs.declared.kind.Kind.TheVariants as kinds
-use Rattle.yaml_scan_history.specs.declared.lexeme.Lexeme.{Lexeme}
-use Rattle.yaml_scan_history.specs.declared.lexeme.Opens.{Opens}
 use Rattle.yaml_scan_history.specs.declared.lexeme.Opens.TheVariants as opening
-use Rattle.yaml_scan_history.specs.Kinds.{is_end, is_value}
-use Rattle.yaml_scan_history.specs.History.{depth, indent, start_of}
-use Rattle.yaml_scan_history.specs.Next.{Next, Read, Fails, Ends, first_lexeme, begun_behind, with_end, place_behind, kind_behind, word_behind, lexeme_behind, first_fault_or, stale_before, no_start, faults, coming, next, extended, history}
-use Rattle.yaml_scan_history.specs.Words.{WordText, word_at}
-use Rattle.yaml_scan_history.specs.Remaining.{SpelledText, body_of_word, body_by, body_in, all, offline}
 use Rattle.yaml_scan_laws_order.specs.Standing.{Takes}
-use Rattle.yaml_scan_laws_order.proofs.HistoryForward.{Stands, history_stands, stand_in, not_ended, first_is, takes_bytes}
 use Rattle.yaml_round_laws_sizes.proofs.Leads.{one_if}
 use Rattle.yaml_round_laws_sizes.proofs.Lexemes.{outside, apart, apart_least}
-use Rattle.yaml_round_laws_sizes.proofs.Paying.{Telling, Tells, next_tells, no_blank}
+use Rattle.yaml_round_laws_sizes.proofs.Paying.{Telling, Tells, next_tells, no_blank, ended_keeps}
 use Rattle.yaml_round_laws_sizes.proofs.Spans.{Spans, WordSpans, word_spans}
 use Rattle.yaml_round_laws_sizes.proofs.Weights.{Weight, weigh, start_weight, outer, mapping_most, taken, opens_by, ArePaid, prices, tokens_weigh}
-use Rattle.yaml_scan_laws_order.proofs.NextForward.{placed_index}
+use Rattle.yaml_scan_history.specs.scan_model.declared.record.yaml_mark_t.{yaml_mark_t}
 
 -- ---- what is known of a lexeme
 
@@ -77,34 +64,8 @@ ended_reach text b (Err x) e = refl
 ended_word : (text : List ℕ) (b : Lexeme) (r : Result WordText Wrong)
     → word_of text (with_end text b r) ≡ word_of text b
 ended_word text b (Ok w) =
-    elim (cases_Bool (is_end b.kind)) [
-      | inl e ↦ rw e refl
-      | inr e ↦ rw e refl
-    ]
+    elim (cases_Bool (is_end b.kind)) [ inl e ↦ rw e refl | inr e ↦ rw e refl ]
 ended_word text b (Err x) = refl
-
-ended_start : (text : List ℕ) (b : Lexeme) (r : Result WordText Wrong)
-    → (with_end text b r).start.index ≡ b.start.index
-ended_start text b (Ok w) =
-    elim (cases_Bool (is_end b.kind)) [
-      | inl e ↦ rw e refl
-      | inr e ↦ rw e refl
-    ]
-ended_start text b (Err x) = refl
-
-ended_kind : (text : List ℕ) (b : Lexeme) (r : Result WordText Wrong)
-    → (with_end text b r).kind ≡ b.kind
-ended_kind text b (Ok w) =
-    elim (cases_Bool (is_end b.kind)) [
-      | inl e ↦ rw e refl
-      | inr e ↦ rw e refl
-    ]
-ended_kind text b (Err x) = refl
-
-begun_word : (k : Kind) (text : List ℕ) (h : List Lexeme)
-    → word_of text (begun_behind k text h) ≡ word_behind k text h
-begun_word k text h =
-    ap (λ p. word_at k (nat_lt 0 (depth h)) (begun_behind k text h).level text p) (placed_index k (place_behind text h))
 
 reach_is : (k : Kind) (text : List ℕ) (h : List Lexeme) → is_end k ≡ false
     → (lexeme_behind k text h).reached.index
@@ -112,8 +73,8 @@ reach_is : (k : Kind) (text : List ℕ) (h : List Lexeme) → is_end k ≡ false
 reach_is k text h e =
     let b = begun_behind k text h in
     let r = word_behind k text h in
-    let word : word_of text (lexeme_behind k text h) ≡ r = ended_word text b r ∙ begun_word k text h in
-    let start : (lexeme_behind k text h).start.index ≡ b.start.index = ended_start text b r in
+    let word : word_of text (lexeme_behind k text h) ≡ r = ended_word text b r ∙ (ap (λ p. word_at k (nat_lt 0 (depth h)) (begun_behind k text h).level text p) (placed_index k (place_behind text h))) in
+    let start : (lexeme_behind k text h).start.index ≡ b.start.index = ap (λ (m : yaml_mark_t). m.index) (ended_keeps text b r).start in
     let end : (lexeme_behind k text h).reached.index ≡ reached_or r b.start.index = ended_reach text b r e in
     rw word (rw start end)
 
@@ -122,7 +83,7 @@ lexeme_spans : (k : Kind) (s : SpelledText) (h : List Lexeme)
     (body_in s (lexeme_behind k s.text h))
 lexeme_spans k s h =
     let l = lexeme_behind k s.text h in
-    let kind : l.kind ≡ k = ended_kind s.text (begun_behind k s.text h) (word_behind k s.text h) in
+    let kind : l.kind ≡ k = (ended_keeps s.text (begun_behind k s.text h) (word_behind k s.text h)).kind in
     body_spans l.kind s l l.reached.index (λ e. reach_is k s.text h (ap is_end (sym kind) ∙ e))
 
 abbrev SpansNext : SpelledText → Next → Type 0
@@ -229,8 +190,7 @@ step_taken : (s : SpelledText) (h : List Lexeme) (x : Next) → Stands s.text h 
     → next s.text h ≡ x → AreTaken s (extended x h)
 step_taken s [] (Read l) st p e = rw (← first_is s.text l e) (first_taken s, tt)
 step_taken s (y ∷ h) (Read l) st p e = (read_taken s y h l st p.0 e, p)
-step_taken s h (Fails f) st p e = p
-step_taken s h Ends st p e = p
+step_taken s h _ st p e = p
 
 history_taken : (s : SpelledText) (n : ℕ) → AreTaken s (history s.text n)
 unfolding history
@@ -424,15 +384,9 @@ no_start_marks k d margin found levels = by (opens_by k d margin found levels)
 
 no_key_marks : (k : Kind) (found : Bool) (d : ℕ) → taken marks k found d ≡ 0
 no_key_marks k found zero =
-    elim (cases_Bool (is_value k && found)) [
-      | inl e ↦ rw e refl
-      | inr e ↦ rw e refl
-    ]
+    elim (cases_Bool (is_value k && found)) [ inl e ↦ rw e refl | inr e ↦ rw e refl ]
 no_key_marks k found (suc d) =
-    elim (cases_Bool (is_value k && found)) [
-      | inl e ↦ rw e refl
-      | inr e ↦ rw e refl
-    ]
+    elim (cases_Bool (is_value k && found)) [ inl e ↦ rw e refl | inr e ↦ rw e refl ]
 
 end_marks : (s : SpelledText) (l : Lexeme) → marks (body_by kinds.StreamEnd s l) ≡ 0
 unfolding word_at

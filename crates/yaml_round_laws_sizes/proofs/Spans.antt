@@ -1,28 +1,16 @@
 -- What a lexeme carries is no longer than what it takes of the text: names and tags as long at most, values one and a half times.
-use Rattle.std.proofs.Common.{ℕ, zero, suc, ◌+◌, ◌-◌, ◌*◌, ◌≤◌, Bool, true, false, not, ◌&&◌, ◌||◌, ◌==◌, nat_lt, if◌then◌else◌, List, [], ◌∷◌, length, Option, Some, None, Result, Ok, Err, arith, inl, inr, le_refl}
-use Rattle.std.proofs.lemmas.Bool.{cases_Bool}
-use Rattle.std.specs.List.{slice_range}
+use Rattle.std.proofs.Common.{◌&&◌, ◌||◌, not, ℕ, zero, suc, ◌+◌, ◌-◌, ◌*◌, ◌≤◌, Bool, true, false, ◌==◌, nat_lt, if◌then◌else◌, List, [], ◌∷◌, length, Option, Some, None, Result, Ok, Err, arith, inl, inr, le_refl}
+use Rattle.yaml_round_laws_sizes.proofs.Words.{is_yaml, is_tag, may_end_tag, is_blank_or_end, may_end_name, cases_Bool, slice_range, TokenBody, byte, break_width, Wrong, name_between, anchor_at, TagText, bracketed, name_end, with_handle, bare, parts_at, ended, tag_at, Said, ValueText, then_at, directive_name_between, number_at, with_major, minor_at, handle_between, handle_at, prefix_ended, prefix_at, with_prefix, tag_directive_at, named_value_at, value_at, comment_end, break_end, line_end_at, with_line_end, finished, double_quoted_at, single_quoted_at, PlainText, plain_at, BlockText, block_at, style_at, Kind, WordText, valued, tagged, body_said, directed, blocked, plainly, word_at}
 use Rattle.yaml_scan_history.specs.scan_model.declared.name.yaml_scalar_style_t.{yaml_scalar_style_t}
 use Rattle.yaml_scan_history.specs.scan_model.declared.name.yaml_scalar_style_t.TheVariants as styles
 use Rattle.yaml_scan_history.specs.scan_model.declared.problem.Context.{Context}
 use Rattle.yaml_scan_history.specs.scan_model.declared.problem.Context.TheVariants as contexts
 use Rattle.yaml_scan_history.specs.scan_model.declared.problem.Problem.{Problem}
 use Rattle.yaml_scan_history.specs.scan_model.Tokens as token
-use Rattle.yaml_scan_history.specs.scan_model.Tokens.{TokenBody}
-use Rattle.yaml_scan_history.specs.scan_model.Marks.{byte, break_width, is_blank_or_end}
-use Rattle.yaml_scan_history.specs.scan_model.Wrong.{Wrong}
-use Rattle.yaml_scan_history.specs.scan_words.Anchors.{may_end_name, name_between, anchor_at}
 use Rattle.yaml_scan_history.specs.scan_words.Uris.{is_uri, octet_at, due_behind, UriSpot, Spells, Ends, Faulty, escape_spot, octet_spot, spot_at, with_bytes, uri_from, uri_within, uri_at, filled, some_uri_at}
-use Rattle.yaml_scan_history.specs.scan_words.Tags.{TagText, bracketed, name_end, with_handle, bare, parts_at, may_end_tag, ended, tag_at}
 use Rattle.yaml_scan_history.proofs.WordsRunsLemmas.{run_within-ge}
-use Rattle.yaml_scan_history.specs.scan_words.Directives.{Said, ValueText, DirectiveText, then_at, is_yaml, is_tag, name_between as directive_name_between, name_at, number_at, with_major, minor_at, version_at, handle_between, handle_at, prefix_ended, prefix_at, with_prefix, tag_directive_at, named_value_at, value_at, comment_end, break_end, line_end_at, with_line as with_line_end, finished, directive_at}
 use Rattle.yaml_scan_history.specs.scan_words.Directives as directives
-use Rattle.yaml_scan_history.specs.scan_scalars.Quoted.{double_quoted_at, single_quoted_at}
-use Rattle.yaml_scan_history.specs.scan_scalars.Plain.{PlainText, plain_at}
-use Rattle.yaml_scan_history.specs.scan_block.Block.{BlockText, block_at, style_at}
-use Rattle.yaml_scan_history.specs.declared.kind.Kind.{Kind}
 use Rattle.yaml_scan_history.specs.declared.kind.Kind.TheVariants as kinds
-use Rattle.yaml_scan_history.specs.Words.{WordText, valued, tagged, body_said, directed, blocked, plainly, word_at}
 use Rattle.yaml_round_laws_sizes.proofs.Pieces.{slice_size}
 use Rattle.yaml_round_laws_sizes.proofs.Values.{ValueSpent, quoted_spent, PlainSpent, plain_spent, BlockSpent, block_spent}
 
@@ -43,6 +31,11 @@ Spans p q _ = Unit {0}
 abbrev NameSpent : ℕ → Result (List ℕ × ℕ) Wrong → Type 0
 NameSpent p (Ok x) = length x.0 + p ≤ x.1
 NameSpent p (Err w) = Unit {0}
+
+name_if : (b : Bool) (p : ℕ) (r : Result (List ℕ × ℕ) Wrong) (w : Wrong) → NameSpent p r
+    → NameSpent p (if b then r else Err w)
+name_if true p r w f = f
+name_if false p r w f = tt
 
 name_spent : (context : Context) (text : List ℕ) (p q : ℕ) → p ≤ q
     → NameSpent p (name_between context text p q)
@@ -105,10 +98,7 @@ within_uri (suc n) context wide due text p =
 filled_uri : (context : Context) (p : ℕ) (r : Result (List ℕ × ℕ) Wrong) → NameSpent p r
     → NameSpent p (filled context r)
 filled_uri context p (Ok u) f =
-    elim (cases_Bool (length u.0 == 0)) [
-      | inl e ↦ rw e tt
-      | inr e ↦ rw e f
-    ]
+    elim (cases_Bool (length u.0 == 0)) [ inl e ↦ rw e tt | inr e ↦ rw e f ]
 filled_uri context p (Err w) f = tt
 
 uri_spent : (context : Context) (wide : Bool) (text : List ℕ) (p : ℕ)
@@ -126,10 +116,7 @@ TagSpent p (Err w) = Unit {0}
 bracketed_spent : (text : List ℕ) (p q : ℕ) (r : Result (List ℕ × ℕ) Wrong) → p ≤ q → NameSpent q r
     → TagSpent p (bracketed text r)
 bracketed_spent text p q (Ok u) w f =
-    elim (cases_Bool (byte text u.1 == 62)) [
-      | inl e ↦ rw e (omega (arith, w, f))
-      | inr e ↦ rw e tt
-    ]
+    elim (cases_Bool (byte text u.1 == 62)) [ inl e ↦ rw e (omega (arith, w, f)) | inr e ↦ rw e tt ]
 bracketed_spent text p q (Err e) w f = tt
 
 handle_spent : (p q : ℕ) (handle : List ℕ) (r : Result (List ℕ × ℕ) Wrong) → length handle + p ≤ q
@@ -162,14 +149,8 @@ parts_spent text p =
 ended_spent : (flow : Bool) (text : List ℕ) (p : ℕ) (r : Result TagText Wrong) → TagSpent p r
     → TagSpent p (ended flow text r)
 ended_spent flow text p (Ok t) f =
-    elim (cases_Bool (may_end_tag flow text t.end)) [
-      | inl e ↦ rw e f
-      | inr e ↦ rw e tt
-    ]
+    elim (cases_Bool (may_end_tag flow text t.end)) [ inl e ↦ rw e f | inr e ↦ rw e tt ]
 ended_spent flow text p (Err w) f = tt
-
-tag_spent : (flow : Bool) (text : List ℕ) (p : ℕ) → TagSpent p (tag_at flow text p)
-tag_spent flow text p = ended_spent flow text p (parts_at text p) (parts_spent text p)
 
 -- ---- directives
 
@@ -201,20 +182,12 @@ handle_spent_at text p =
 ended_prefix : (text : List ℕ) (p : ℕ) (r : Result (List ℕ × ℕ) Wrong) → NameSpent p r
     → NameSpent p (prefix_ended text r)
 ended_prefix text p (Ok x) f =
-    elim (cases_Bool (is_blank_or_end text x.1)) [
-      | inl e ↦ rw e f
-      | inr e ↦ rw e tt
-    ]
+    elim (cases_Bool (is_blank_or_end text x.1)) [ inl e ↦ rw e f | inr e ↦ rw e tt ]
 ended_prefix text p (Err w) f = tt
 
 named_further : (p q : ℕ) (r : Result (List ℕ × ℕ) Wrong) → p ≤ q → NameSpent q r → NameSpent p r
 named_further p q (Ok x) w f = omega (arith, w, f)
 named_further p q (Err e) w f = tt
-
-name_if : (b : Bool) (p : ℕ) (r : Result (List ℕ × ℕ) Wrong) (w : Wrong) → NameSpent p r
-    → NameSpent p (if b then r else Err w)
-name_if true p r w f = f
-name_if false p r w f = tt
 
 prefix_spent : (text : List ℕ) (p : ℕ) → NameSpent p (prefix_at text p)
 prefix_spent text p =
@@ -283,10 +256,7 @@ break_from : (text : List ℕ) (o p : ℕ) → o ≤ p → LineFrom o (break_end
 break_from text o p w =
     elim (cases_Bool (nat_lt 0 (break_width text p))) [
       | inl e ↦ rw e (omega (arith, w))
-      | inr e ↦ elim (cases_Bool (byte text p == 0)) [
-        | inl f ↦ rw (e, f) w
-        | inr f ↦ rw (e, f) tt
-      ]
+      | inr e ↦ elim (cases_Bool (byte text p == 0)) [ inl f ↦ rw (e, f) w | inr f ↦ rw (e, f) tt ]
     ]
 
 comment_from : (text : List ℕ) (p : ℕ) → p ≤ comment_end text p
@@ -298,9 +268,6 @@ comment_from text p =
 
 line_from : (text : List ℕ) (p q : ℕ) → p ≤ q → LineFrom p (break_end text (comment_end text q))
 line_from text p q w = break_from text p (comment_end text q) (omega (arith, w, comment_from text q))
-
-line_end_from : (text : List ℕ) (p : ℕ) → LineFrom p (line_end_at text p)
-line_end_from text p = line_from text p _ (run_within-ge (length text) _ text p)
 
 -- ---- words
 
@@ -320,7 +287,7 @@ line_spans p v (Err e) f w = tt
 
 finished_spans : (text : List ℕ) (p : ℕ) (r : Result ValueText Wrong) → SaidSpent p r
     → WordSpans p (directed (finished text r))
-finished_spans text p (Ok v) f = line_spans p v (line_end_at text v.end) f (line_end_from text v.end)
+finished_spans text p (Ok v) f = line_spans p v (line_end_at text v.end) f (line_from text v.end _ (run_within-ge (length text) _ text v.end))
 finished_spans text p (Err w) f = tt
 
 alias_spans : (p : ℕ) (r : Result (List ℕ × ℕ) Wrong) → NameSpent (p + 1) r
@@ -357,7 +324,7 @@ unfolding word_at
 word_spans kinds.Directive flow level text p = finished_spans text p (value_at text p) (value_said text p)
 word_spans kinds.Alias flow level text p = alias_spans p (anchor_at contexts.Alias text p) (anchor_spent contexts.Alias text p)
 word_spans kinds.Anchor flow level text p = anchor_spans p (anchor_at contexts.Anchor text p) (anchor_spent contexts.Anchor text p)
-word_spans kinds.Tag flow level text p = tagged_spans p (tag_at flow text p) (tag_spent flow text p)
+word_spans kinds.Tag flow level text p = tagged_spans p (tag_at flow text p) (ended_spent flow text p (parts_at text p) (parts_spent text p))
 word_spans kinds.Literal flow level text p = blocked_spans (style_at text p) p (block_at level text p) (block_spent level text p)
 word_spans kinds.Folded flow level text p = blocked_spans (style_at text p) p (block_at level text p) (block_spent level text p)
 word_spans kinds.SingleQuoted flow level text p = quoted_spans styles.YAML_SINGLE_QUOTED_SCALAR_STYLE p (single_quoted_at text p) (quoted_spent 39 text p)

@@ -1,17 +1,6 @@
 -- How long a tag is spelled: by its parts as the input has them, and by the directives of its document.
 use Rattle.std.proofs.Common.{◌≡◌, ℕ, zero, suc, ◌+◌, ◌*◌, ◌≤◌, true, false, ◌==◌, List, [], ◌∷◌, ◌++◌, length, drop, codes, Option, Some, None, refl, arith, inl, inr, le_refl}
-use Rattle.std.proofs.lemmas.Bool.{cases_Bool, eqb-true}
-use Rattle.std.specs.Str.{bytes_eq}
-use Rattle.yaml_emit_laws_text.specs.emit_layout.parse_model.Events.{TagDirective}
-use Rattle.yaml_emit_laws_text.specs.emit_layout.emit_text.declared.Encoding.{Encoding}
-use Rattle.yaml_emit_laws_text.specs.emit_layout.emit_text.declared.Encoding.TheVariants.{Utf8, Utf16Le, Utf16Be}
-use Rattle.yaml_emit_laws_text.specs.emit_layout.emit_text.declared.Settings.{Settings}
-use Rattle.yaml_emit_laws_text.specs.emit_layout.emit_text.Text.{char_bytes}
-use Rattle.yaml_emit_laws_text.specs.emit_layout.emit_text.Hex.{hex_digit, hex_2}
-use Rattle.yaml_emit_laws_text.specs.emit_layout.emit_tags.Tags.{has_shorter_prefix, directive_for, defines, primary, secondary, unless_defined, defaults, in_force, suffix_keeps, uri_byte, uri_text, spelled, split_by, tag_spelling}
-use Rattle.yaml_emit_laws_text.specs.emit_layout.Nodes.{context_of}
-use Rattle.yaml_emit_laws_text.specs.Sizes.{unit, ascii, text_bytes, tag_bytes}
-use Rattle.yaml_round_content.specs.TreeContent.{prefix_of, in_full}
+use Rattle.yaml_round_laws_sizes.proofs.Words.{cases_Bool, eqb-true, bytes_eq, TagDirective, Encoding, Utf8, Utf16Le, Utf16Be, Settings, char_bytes, hex_digit, hex_2, has_shorter_prefix, directive_for, defines, primary, secondary, unless_defined, defaults, in_force, suffix_keeps, uri_byte, uri_text, spelled, split_by, tag_spelling, context_of, unit, ascii, text_bytes, tag_bytes, prefix_of, in_full}
 
 -- a text of a tag, with its escapes
 abbrev pub uri_bytes : Encoding → List ℕ → ℕ
@@ -41,26 +30,22 @@ sign_less : (x : Encoding) (c : ℕ) (t : List ℕ) → length (char_bytes x c) 
     → text_bytes x (c ∷ []) ≤ text_bytes x (37 ∷ t)
 unfolding text_bytes char_bytes
 sign_less Utf8 c t e = omega (arith, e)
-sign_less Utf16Le c t e = omega (arith, e)
-sign_less Utf16Be c t e = omega (arith, e)
+sign_less _ c t e = omega (arith, e)
 
 comma_unit : (x : Encoding) → length (char_bytes x 44) ≡ unit x
 unfolding char_bytes
 comma_unit Utf8 = refl
-comma_unit Utf16Le = refl
-comma_unit Utf16Be = refl
+comma_unit _ = refl
 
 open_unit : (x : Encoding) → length (char_bytes x 91) ≡ unit x
 unfolding char_bytes
 open_unit Utf8 = refl
-open_unit Utf16Le = refl
-open_unit Utf16Be = refl
+open_unit _ = refl
 
 close_unit : (x : Encoding) → length (char_bytes x 93) ≡ unit x
 unfolding char_bytes
 close_unit Utf8 = refl
-close_unit Utf16Le = refl
-close_unit Utf16Be = refl
+close_unit _ = refl
 
 sign_unit : (x : Encoding) (c n : ℕ) → (c == n) ≡ true → length (char_bytes x n) ≡ unit x
     → length (char_bytes x c) ≡ unit x
@@ -108,14 +93,12 @@ handles_append x (d ∷ ds) es = omega (arith, handles_append x ds es)
 primary_bytes : (x : Encoding) → text_bytes x primary.handle ≡ unit x
 unfolding text_bytes char_bytes
 primary_bytes Utf8 = refl
-primary_bytes Utf16Le = refl
-primary_bytes Utf16Be = refl
+primary_bytes _ = refl
 
 secondary_bytes : (x : Encoding) → text_bytes x secondary.handle ≡ 2 * unit x
 unfolding text_bytes char_bytes
 secondary_bytes Utf8 = refl
-secondary_bytes Utf16Le = refl
-secondary_bytes Utf16Be = refl
+secondary_bytes _ = refl
 
 unless_most : (x : Encoding) (ds : List TagDirective) (d : TagDirective)
     → handles_bytes x (unless_defined ds d) ≤ text_bytes x d.handle
@@ -183,8 +166,7 @@ spelling_most x ds tag =
 yaml_bytes : (x : Encoding) → uri_bytes x (codes "tag:yaml.org,2002:") ≡ 20 * unit x
 unfolding text_bytes char_bytes uri_text suffix_keeps hex_digit
 yaml_bytes Utf8 = refl
-yaml_bytes Utf16Le = refl
-yaml_bytes Utf16Be = refl
+yaml_bytes _ = refl
 
 prefix_most : (x : Encoding) (ds : List TagDirective) (handle : List ℕ)
     → uri_bytes x (prefix_of ds handle) ≤ prefixes_bytes x ds + 20 * unit x + uri_bytes x handle

@@ -1,36 +1,25 @@
 -- What a text has at most is told by the events of a stream, their styles and flags aside: so by what an input says, in either form.
 use Rattle.std.proofs.Common.{◌≡◌, ℕ, zero, suc, ◌+◌, ◌-◌, Bool, true, List, [], ◌∷◌, length, map, refl, sym, ap, ◌∙◌, arith, inl, inr}
-use Rattle.std.proofs.lemmas.Bool.{cases_Bool}
-use Rattle.std.specs.Str.{chars}
-use Rattle.yaml_round_content.specs.scan_model.declared.yaml_encoding_t.{yaml_encoding_t}
-use Rattle.yaml_round_content.specs.parse_model.Events.{EventBody, TagDirective}
+use Rattle.yaml_round_laws_sizes.proofs.Words.{untagged, cases_Bool, chars, yaml_encoding_t, EventBody, TagDirective, Settings, Event, emitter_event, document_start, document_end, alias, scalar, sequence_start, sequence_end, mapping_start, mapping_end, node_events, items_events, pairs_events, documents_events, stream_events, context_of, Node, Nodes, Pairs, Document, node_says, items_say, pairs_say, documents_say, stream_says, written_node, written_nodes, written_pairs, written_documents, ascii, text_bytes, properties_bytes, most_of_value, most_of_line, most_of_node, most_of_items, most_of_pairs, directives_bytes, most_of_documents, most_bytes}
 use Rattle.yaml_round_content.specs.parse_model.Events as event
 use Rattle.yaml_round_content.specs.parse_grammar.Resolve.{Told}
-use Rattle.yaml_round_content.specs.emit_text.declared.Settings.{Settings}
 use Rattle.yaml_round_content.specs.emit_layout.Content as emit
-use Rattle.yaml_round_content.specs.emit_layout.Content.{Event, emitter_event, no_event, stream_start, stream_end, document_start, document_end, alias, scalar, sequence_start, sequence_end, mapping_start, mapping_end, node_events, items_events, pairs_events, documents_events, stream_events}
-use Rattle.yaml_round_content.specs.emit_layout.Nodes.{context_of}
 use Rattle.yaml_round_content.specs.Normalize.{is_lone_mark, normalize_body}
 use Rattle.yaml_round_content.specs.Content.{content_of}
 use Rattle.yaml_round_content.specs.Events.{emitter_events, contents}
-use Rattle.yaml_round_content.specs.Said.{ScalarMark, untagged, tagged, Node, Nodes, Pairs, Document, scalar_says, node_says, items_say, pairs_say, documents_say, stream_says}
+use Rattle.yaml_round_content.specs.Said.{tagged}
 use Rattle.yaml_round_content.specs.Said as content
-use Rattle.yaml_round_content.specs.Canon.{written_node, written_nodes, written_pairs, written_documents}
-use Rattle.yaml_emit_laws_text.specs.Sizes.{ascii, text_bytes, properties_bytes, most_of_value, most_of_line, most_of_node, most_of_items, most_of_pairs, directives_bytes, most_of_documents, most_bytes}
 
 -- what an event takes, a line before each node and behind each collection, where nodes are indented by n; of a document w besides
 abbrev tally_of : Settings → ℕ → List TagDirective → ℕ → Event → ℕ
-tally_of s w ds n no_event = 0
-tally_of s w ds n (stream_start x) = 0
-tally_of s w ds n stream_end = 0
 tally_of s w ds n (document_start o) = w + ascii s 34 + directives_bytes s o.directives
-tally_of s w ds n (document_end implicit) = 0
 tally_of s w ds n (alias name) = most_of_line s (n - s.indent) + ascii s 3 + text_bytes s.encoding name
 tally_of s w ds n (scalar x) = most_of_line s (n - s.indent) + properties_bytes (context_of s ds) x.anchor x.tag + ascii s 5 + most_of_value s n (chars x.value)
 tally_of s w ds n (sequence_start q) = most_of_line s (n - s.indent) + properties_bytes (context_of s ds) q.anchor q.tag + ascii s 2
 tally_of s w ds n sequence_end = most_of_line s (n - s.indent)
 tally_of s w ds n (mapping_start q) = most_of_line s (n - s.indent) + properties_bytes (context_of s ds) q.anchor q.tag + ascii s 2
 tally_of s w ds n mapping_end = most_of_line s (n - s.indent)
+tally_of s w ds n _ = 0
 
 -- the indentation of the next node
 abbrev indent_behind : ℕ → ℕ → Event → ℕ
@@ -70,10 +59,9 @@ mutual
       (es : List Event)
       → tally s w ds n (node_events x es)
       ≡ most_of_line s (n - s.indent) + most_of_node (context_of s ds) n x + tally s w ds n es
-  node_tally s w ds n (emit.alias_node name) es = omega arith
-  node_tally s w ds n (emit.scalar_node x) es = omega arith
   node_tally s w ds n (emit.sequence_node q items) es = omega (arith, items_tally s w ds n items (sequence_end ∷ es), closed s w ds n es)
   node_tally s w ds n (emit.mapping_node q pairs) es = omega (arith, pairs_tally s w ds n pairs (mapping_end ∷ es), closed s w ds n es)
+  node_tally s w ds n _ es = omega arith
 
   items_tally : (s : Settings) (w : ℕ) (ds : List TagDirective) (n : ℕ) (xs : emit.Nodes)
       (es : List Event)

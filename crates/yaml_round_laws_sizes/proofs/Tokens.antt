@@ -1,28 +1,13 @@
 -- The tokens by which levels are told weigh no more than the lexemes of a text are worth.
 use Rattle.std.proofs.Common.{◌≡◌, ℕ, zero, suc, ◌+◌, ◌≤◌, Bool, true, false, not, ◌&&◌, nat_lt, List, [], ◌∷◌, ◌++◌, length, Option, Result, Ok, Err, refl, arith, inl, inr}
-use Rattle.std.proofs.lemmas.Bool.{cases_Bool}
-use Rattle.yaml_scan_history.specs.scan_model.Faults.{Fault}
-use Rattle.yaml_scan_history.specs.scan_model.Tokens.{Token, TokenBody}
+use Rattle.yaml_round_laws_sizes.proofs.Words.{cases_Bool, Fault, Token, TokenBody, Wrong, anchor_at, TagText, tag_at, Said, DirectiveText, directive_at, double_quoted_at, single_quoted_at, PlainText, plain_at, BlockText, block_at, style_at, Kind, Lexeme, indent, start_of, word_at, body_said, valued, tagged, directed, blocked, plainly, SpelledText, body_of_word, body_by, all, offline, cut}
 use Rattle.yaml_scan_history.specs.scan_model.Tokens as token
-use Rattle.yaml_scan_history.specs.scan_model.Wrong.{Wrong}
 use Rattle.yaml_scan_history.specs.scan_model.declared.yaml_scalar_style_t.{yaml_scalar_style_t}
 use Rattle.yaml_scan_history.specs.scan_model.declared.yaml_scalar_style_t.TheVariants as styles
 use Rattle.yaml_scan_history.specs.scan_model.declared.problem.Context.TheVariants as contexts
-use Rattle.yaml_scan_history.specs.scan_words.Anchors.{anchor_at}
-use Rattle.yaml_scan_history.specs.scan_words.Tags.{TagText, tag_at}
-use Rattle.yaml_scan_history.specs.scan_words.Directives.{Said, DirectiveText, directive_at}
 use Rattle.yaml_scan_history.specs.scan_words.Directives as directives
-use Rattle.yaml_scan_history.specs.scan_scalars.Quoted.{double_quoted_at, single_quoted_at}
-use Rattle.yaml_scan_history.specs.scan_scalars.Plain.{PlainText, plain_at}
-use Rattle.yaml_scan_history.specs.scan_block.Block.{BlockText, block_at, style_at}
-use Rattle.yaml_scan_history.specs.declared.kind.Kind.{Kind}
 use Rattle.yaml_scan_history.specs.declared.kind.Kind.TheVariants as kinds
-use Rattle.yaml_scan_history.specs.declared.lexeme.Lexeme.{Lexeme}
 use Rattle.yaml_scan_history.specs.declared.lexeme.Opens.TheVariants as opening
-use Rattle.yaml_scan_history.specs.History.{indent, start_of}
-use Rattle.yaml_scan_history.specs.Words.{word_at, body_said, valued, tagged, directed, blocked, plainly}
-use Rattle.yaml_scan_history.specs.Remaining.{SpelledText, body_of_word, body_by, all, offline}
-use Rattle.yaml_round_laws_adapted.specs.Adapted.{cut}
 use Rattle.yaml_round_laws_sizes.proofs.Leads.{leads}
 use Rattle.yaml_round_laws_sizes.proofs.Lexemes.{own, outside, apart, worth, worths}
 use Rattle.yaml_round_laws_sizes.proofs.Paying.{all_paid}

@@ -1,35 +1,24 @@
 -- The tokens of a tree weigh one and a half times the depth of each node of its content at least.
 use Rattle.std.proofs.Common.{◌≡◌, ℕ, zero, suc, ◌+◌, ◌*◌, ◌≤◌, List, [], ◌∷◌, Option, Some, None, arith, inl, inr, le_refl}
-use Rattle.yaml_scan_history.specs.scan_model.Tokens.{Token}
+use Rattle.yaml_round_laws_sizes.proofs.Words.{Token, Wants, Properties, PropertyTokens, token_at, closing, properties_of, spell_properties, spell_node, spell_content, spell_maybe, spell_colon, spell_items, spell_more, spell_entries, spell_others, spell_pairs, spell_directives, spell_ends, spell_documents, spell_first, spell, TagDirective, node_of, with_content, maybe_of, colon_of, items_of, more_items_of, parts_of, more_parts_of, entries_of, others_of, pairs_of, tags_in, documents_of, behind_first, tree_content, written_node, written_nodes, written_pairs, written_documents, StandsAt, ItemStandsAt, PartStandsAt, RootStandsAt}
 use Rattle.yaml_scan_history.specs.scan_model.Tokens as token
-use Rattle.yaml_parse_grammar.specs.declared.Wants.{Wants}
 use Rattle.yaml_parse_grammar.specs.declared.Brackets.{Brackets}
 use Rattle.yaml_parse_grammar.specs.declared.Brackets.TheVariants as brackets
-use Rattle.yaml_parse_grammar.specs.Items.{Properties}
 use Rattle.yaml_parse_grammar.specs.Trees as tree
-use Rattle.yaml_parse_grammar.specs.Trees.{PropertyTokens, token_at, closing, properties_of, spell_properties, spell_node, spell_content, spell_maybe, spell_colon, spell_items, spell_more, spell_entries, spell_others, spell_pairs, spell_directives, spell_ends, spell_documents, spell_first, spell}
-use Rattle.yaml_round_content.specs.parse_model.Events.{TagDirective}
-use Rattle.yaml_round_content.specs.TreeContent.{node_of, with_content, maybe_of, colon_of, items_of, more_items_of, parts_of, more_parts_of, entries_of, others_of, pairs_of, tags_in, documents_of, behind_first, tree_content}
-use Rattle.yaml_round_content.specs.Canon.{written_node, written_nodes, written_pairs, written_documents}
-use Rattle.yaml_emit_laws_text.specs.Depths.{StandsAt, ItemStandsAt, PartStandsAt, RootStandsAt}
 use Rattle.yaml_round_laws_sizes.proofs.Tokens.{count, weight}
 use Rattle.yaml_round_laws_sizes.proofs.Weights.{Weight, weigh}
 
 properties_count : (d : PropertyTokens) (rest : List Token)
     → count (spell_properties d rest) ≡ count rest
 properties_count (tree.anchor a) rest = omega arith
-properties_count (tree.anchor_tag a t) rest = omega arith
-properties_count (tree.tag t) rest = omega arith
-properties_count (tree.tag_anchor t a) rest = omega arith
+properties_count _ rest = omega arith
 
 -- ---- tokens in front of others
 
 properties_grow : (w : Weight) (d : PropertyTokens) (rest : List Token)
     → weigh w rest ≤ weigh w (spell_properties d rest)
 properties_grow w (tree.anchor a) rest = omega arith
-properties_grow w (tree.anchor_tag a t) rest = omega arith
-properties_grow w (tree.tag t) rest = omega arith
-properties_grow w (tree.tag_anchor t a) rest = omega arith
+properties_grow w _ rest = omega arith
 
 mutual
   pub node_grows : (w : Weight) {k : Wants} (n : tree.Node k) (rest : List Token)

@@ -1,18 +1,9 @@
 -- The values of scalars are one and a half times as long at most as what a scanner reads of them.
-use Rattle.std.proofs.Common.{ℕ, zero, suc, ◌+◌, ◌-◌, ◌*◌, ◌<◌, ◌≤◌, Bool, true, false, not, ◌&&◌, ◌||◌, ◌==◌, nat_lt, if◌then◌else◌, List, [], ◌∷◌, length, Option, Some, None, Result, Ok, Err, arith, inl, inr, le_refl}
-use Rattle.std.proofs.lemmas.Bool.{cases_Bool, ltb-true}
-use Rattle.yaml_scan_history.specs.scan_model.Marks.{byte, break_width, column_at, is_blank}
-use Rattle.yaml_scan_history.specs.scan_model.Breaks.{feed_at, is_document_indicator}
+use Rattle.std.proofs.Common.{◌&&◌, not, ℕ, zero, suc, ◌+◌, ◌-◌, ◌*◌, ◌<◌, ◌≤◌, Bool, true, false, ◌||◌, ◌==◌, nat_lt, if◌then◌else◌, List, [], ◌∷◌, length, Option, Some, None, Result, Ok, Err, arith, inl, inr, le_refl}
+use Rattle.yaml_round_laws_sizes.proofs.Words.{is_document_indicator, is_bracket, leads, ends_at, is_blank, is_scalar, cases_Bool, ltb-true, byte, break_width, column_at, feed_at, Wrong, Piece, Kept, Blank, Break, value, QuotedSpot, Closing, Pieces, Bad, hex_value, coded, hex_len, simple_escape, escaped, escape_at, quote_at, standing_at, with_front, followed, pieces, valued_pieces, quoted_at, PlainSpot, PlainEnds, Takes, PlainFaulty, plain_spot_at, PlainWords, is_nothing, with_piece, words_from, follows, words, PlainText, plain_with, plain_text, plain_at, BlockLine, block_value, indicators, chomp_of, digit_of, digit_place, chomping_place, past_comment, header_end, header_at, BlockText, column_of, block_with, block_lines, block_at}
 use Rattle.yaml_scan_history.specs.scan_model.Runs.{is_blank_there, is_text, past_blanks, line_end}
-use Rattle.yaml_scan_history.specs.scan_model.Wrong.{Wrong}
 use Rattle.yaml_scan_history.proofs.RunsLemmas.{past-le}
-use Rattle.yaml_scan_history.specs.scan_scalars.Pieces.{Piece, Kept, Blank, Break, value}
-use Rattle.yaml_scan_history.specs.scan_scalars.Quoted.{QuotedSpot, Closing, Pieces, Bad, hex_value, is_scalar, coded, hex_len, simple_escape, escaped, escape_at, quote_at, standing_at, with_front, followed, pieces, valued as valued_pieces, quoted_at}
-use Rattle.yaml_scan_history.specs.scan_scalars.Plain.{is_bracket, leads, PlainSpot, Ends as PlainEnds, Takes, Faulty as PlainFaulty, ends_at, spot_at as plain_spot_at, Words as PlainWords, is_nothing, with_piece, words_from, follows, words, PlainText, plain_with, plain_text, plain_at}
-use Rattle.yaml_scan_history.specs.scan_block.Value.{BlockLine, block_value}
 use Rattle.yaml_scan_history.specs.scan_block.Lines.{spaces, LineSpot, Stops, Line, Tab, spot_behind, line_spot, Lines, with_line, line_then, lines_from}
-use Rattle.yaml_scan_history.specs.scan_block.Header.{indicators, chomp_of, digit_of, digit_place, chomping_place, past_comment, header_end, header_at}
-use Rattle.yaml_scan_history.specs.scan_block.Block.{BlockText, column_of, block_with, block_lines, block_at}
 use Rattle.yaml_round_laws_sizes.proofs.Pieces.{piece_size, pieces_size, pieces_append, value_size, break_size, line_size, block_size, block_value_size, slice_size}
 use Rattle.yaml_round_laws_sizes.proofs.Decoded.{char_size}
 

@@ -1,23 +1,12 @@
 -- What tokens weigh, by any weight of which no end has one, is paid by the lexemes of a text, where each pays for its own.
 use Rattle.std.proofs.Common.{◌≡◌, ℕ, zero, suc, ◌+◌, ◌<◌, ◌≤◌, ◌⊎◌, Bool, true, false, not, ◌&&◌, ◌==◌, nat_lt, if◌then◌else◌, List, [], ◌∷◌, ◌++◌, length, take, drop, Option, Some, None, refl, sym, ap, subst, ◌∙◌, arith, inl, inr, le_refl}
-use Rattle.std.proofs.lemmas.Bool.{cases_Bool, lt-ltb, eqb-true}
-use Rattle.std.specs.Prelude.{replicate}
-use Rattle.std.specs.List.{flat_map}
-use Rattle.yaml_scan_history.specs.scan_model.Faults.{Fault}
-use Rattle.yaml_scan_history.specs.scan_model.Tokens.{Token, TokenBody}
+use Rattle.yaml_round_laws_sizes.proofs.Words.{cases_Bool, lt-ltb, eqb-true, replicate, flat_map, Fault, Token, TokenBody, Kind, Lexeme, Opens, is_value, is_start, Candidate, candidate, entries, mark_key, marked, keyed, found_by, inside, entry_of, as_key, first_open, indent, margin_at, start_of, level_of, opens_of, has, Next, Fails, next, SpelledText, body_in, start_tokens, end_tokens, own_tokens, all, handed_out, handed, front_ends, kept_of, remaining, offline, spells_text, cut}
 use Rattle.yaml_scan_history.specs.scan_model.Tokens as token
-use Rattle.yaml_scan_history.specs.declared.kind.Kind.{Kind}
 use Rattle.yaml_scan_history.specs.declared.kind.Kind.TheVariants as kinds
-use Rattle.yaml_scan_history.specs.declared.lexeme.Lexeme.{Lexeme}
 use Rattle.yaml_scan_history.specs.declared.lexeme.Entry.{Entry}
-use Rattle.yaml_scan_history.specs.declared.lexeme.Opens.{Opens}
 use Rattle.yaml_scan_history.specs.declared.lexeme.Opens.TheVariants as opening
-use Rattle.yaml_scan_history.specs.Kinds.{is_value, is_start}
-use Rattle.yaml_scan_history.specs.History.{Candidate, candidate, entries, mark_key, marked, keyed, found_by, inside, entry_of, as_key, first_open, indent, margin_at, start_of, level_of, opens_of, has}
-use Rattle.yaml_scan_history.specs.Next.{Next, Read, Fails, Ends, next}
-use Rattle.yaml_scan_history.specs.Remaining.{SpelledText, body_in, before, start_tokens, end_tokens, own_tokens, spell, all, handed_out, handed, front_ends, kept_of, remaining, offline}
+use Rattle.yaml_scan_history.specs.Remaining.{before, spell}
 use Rattle.yaml_scan_history.proofs.HistoryLemmas.{candidate-more, candidate_below, length-keyed, length-entries, fresh_is}
-use Rattle.yaml_round_laws_adapted.specs.Adapted.{spells_text, cut}
 
 abbrev pub Weight : Type 0
 Weight = TokenBody → ℕ
@@ -52,16 +41,12 @@ ends_weigh w free (suc n) l = omega (arith, free, ends_weigh w free n l)
 
 starts_weigh : (w : Weight) (o : Opens) (l : Lexeme) → weigh w (start_tokens o l) ≡ start_weight w o
 starts_weigh w opening.Nothing l = refl
-starts_weigh w opening.Sequence l = omega arith
-starts_weigh w opening.Mapping l = omega arith
+starts_weigh w _ l = omega arith
 
 own_weigh : (w : Weight) (s : SpelledText) (e : Entry)
     → weigh w (own_tokens s e) ≡ key_weight w e.key + w (body_in s e.lexeme)
 own_weigh w s e =
-    elim (cases_Bool e.key) [
-      | inl k ↦ rw k (omega arith)
-      | inr k ↦ rw k (omega arith)
-    ]
+    elim (cases_Bool e.key) [ inl k ↦ rw k (omega arith) | inr k ↦ rw k (omega arith) ]
 
 spell_weigh : (w : Weight) → EndsAreFree w → (s : SpelledText) (e : Entry)
     → weigh w (spell s e) ≡ start_weight w e.opens + key_weight w e.key + w (body_in s e.lexeme)
@@ -280,8 +265,7 @@ drop_most w (suc n) (t ∷ ts) = omega (arith, drop_most w n ts)
 handed_most : (w : Weight) (s : SpelledText) (x : Next) (h : List Lexeme)
     → total w s (handed_out x h) ≤ total w s (entries h)
 handed_most w s (Fails p) h = take_most w s (first_open h h) (entries h)
-handed_most w s Ends h = le_refl _
-handed_most w s (Read l) h = le_refl _
+handed_most w s _ h = le_refl _
 
 front_weigh : (w : Weight) → EndsAreFree w → (es : List Entry) → weigh w (front_ends es) ≡ 0
 front_weigh w free [] = refl
@@ -289,8 +273,7 @@ front_weigh w free (e ∷ es) = ends_weigh w free e.ends e.lexeme
 
 kept_weigh : (w : Weight) → EndsAreFree w → (x : Next) (h : List Lexeme) → weigh w (kept_of x h) ≡ 0
 kept_weigh w free (Fails p) h = front_weigh w free (drop (first_open h h) (entries h))
-kept_weigh w free Ends h = refl
-kept_weigh w free (Read l) h = refl
+kept_weigh w free _ h = refl
 
 -- ---- the text
 

@@ -1,13 +1,11 @@
 -- A text's tokens leave as many brackets open as its lexemes do.
 use Rattle.std.proofs.Common.{◌≡◌, ℕ, zero, suc, nat_lt, List, [], ◌∷◌, ◌++◌, replicate, Option, Some, None, Result, Ok, Err, refl, sym, ap, ◌∙◌, inl, inr}
-use Rattle.std.proofs.lemmas.Bool.{cases_Bool}
+use Rattle.yaml_round_laws_windows.proofs.Words.{cases_Bool, yaml_encoding_t, Token, TokenBody, block_end, depth, Candidate, found_by, inside, entry_of, mark_key, marked, keyed, entries, SpelledText, body_of_word, body_by, before, start_tokens, end_tokens, own_tokens, spell, all, scan_of, ended_told, depth_after, depth_behind}
 use Rattle.std.specs.List.{flat_map}
-use Rattle.yaml_round_content.specs.scan_model.declared.yaml_encoding_t.{yaml_encoding_t}
 use Rattle.yaml_round_content.specs.scan_model.declared.yaml_scalar_style_t.{yaml_scalar_style_t}
 use Rattle.yaml_round_content.specs.scan_model.declared.yaml_scalar_style_t.TheVariants as styles
 use Rattle.yaml_round_content.specs.scan_model.declared.Context.TheVariants as contexts
 use Rattle.yaml_round_content.specs.scan_model.Tokens as tokens
-use Rattle.yaml_round_content.specs.scan_model.Tokens.{Token, TokenBody, block_end}
 use Rattle.yaml_round_content.specs.scan_model.Wrong.{Wrong}
 use Rattle.yaml_round_content.specs.scan_history.scan_words.Anchors.{anchor_at}
 use Rattle.yaml_round_content.specs.scan_history.scan_words.Tags.{TagText, tag_at}
@@ -24,13 +22,8 @@ use Rattle.yaml_round_content.specs.scan_history.declared.Opens.{Opens}
 use Rattle.yaml_round_content.specs.scan_history.declared.Opens.TheVariants as opening
 use Rattle.yaml_round_content.specs.scan_history.Kinds.{is_value}
 use Rattle.yaml_round_content.specs.scan_history.Kinds as by_kind
-use Rattle.yaml_round_content.specs.scan_history.History.{depth, Candidate, found_by, inside, entry_of, mark_key, marked, keyed, entries}
 use Rattle.yaml_round_content.specs.scan_history.Words.{word_at, valued, tagged, body_said, directed, blocked, plainly}
-use Rattle.yaml_round_content.specs.scan_history.Remaining.{SpelledText, body_of_word, body_by, before, start_tokens, end_tokens, own_tokens, spell, all}
-use Rattle.yaml_scan_laws_windows.specs.Laws.{scan_of}
 use Rattle.yaml_scan_laws_windows.proofs.Depths.{AllDeep, all_deep}
-use Rattle.yaml_scan_laws_windows.proofs.Windows.{ended_told}
-use Rattle.yaml_parse_laws_windows.specs.Depths.{depth_after, depth_behind}
 
 -- Tokens behind others go on from their depth.
 pub behind_both : (ts us : List Token) (n : ℕ)
@@ -93,17 +86,13 @@ ends_flat (suc k) l n = ends_flat k l n
 
 starts_flat : (o : Opens) (l : Lexeme) (n : ℕ) → depth_behind (start_tokens o l) n ≡ n
 starts_flat opening.Nothing l n = refl
-starts_flat opening.Sequence l n = refl
-starts_flat opening.Mapping l n = refl
+starts_flat _ l n = refl
 
 own_deep : (s : SpelledText) (e : Entry) (n : ℕ)
     → depth_behind (own_tokens s e) n ≡ by_kind.depth_after e.lexeme.kind n
 own_deep s e n =
     let is = body_deep e.lexeme.kind s e.lexeme n in
-    elim (cases_Bool e.key) [
-      | inl k ↦ rw k is
-      | inr k ↦ rw k is
-    ]
+    elim (cases_Bool e.key) [ inl k ↦ rw k is | inr k ↦ rw k is ]
 
 spell_deep : (s : SpelledText) (e : Entry) (n : ℕ)
     → depth_behind (spell s e) n ≡ by_kind.depth_after e.lexeme.kind n

@@ -1,24 +1,8 @@
 -- A front that is refused in front of its end is refused so in the whole.
 use Rattle.std.proofs.Common.{◌≡◌, ◌≢◌, ℕ, ◌<◌, true, List, [], ◌∷◌, ◌++◌, length, Option, Some, None, refl, sym, ap, subst, ◌∙◌, inl, inr, arith}
-use Rattle.std.proofs.lemmas.List.{append-nil}
-use Rattle.yaml_round_content.specs.scan_model.declared.yaml_encoding_t.{yaml_encoding_t}
-use Rattle.yaml_round_content.specs.scan_model.Faults.{Fault}
-use Rattle.yaml_round_content.specs.scan_history.Remaining.{Remaining}
-use Rattle.yaml_round_content.specs.scan_history.scan_words.Indicators.{is_document_start}
+use Rattle.yaml_round_laws_windows.proofs.Words.{append-nil, yaml_encoding_t, Fault, Remaining, is_document_start, parser_fault, Reading, spells_text, cut, IsCut, scan_of, refused_fronts_are_scanned, begun, stream_ends, parse_of, refused_fronts_stay, refused_tokens_stay, tokens_in, reading_in, EarlyFaultsAreRead}
 use Rattle.yaml_round_content.specs.parse_grammar.declared.ParseProblem.TheVariants.{NoDocumentStart}
-use Rattle.yaml_round_content.specs.parse_grammar.Problems.{parser_fault}
-use Rattle.yaml_round_content.specs.parse_grammar.Resolve.{Reading}
-use Rattle.yaml_round_content.specs.round_laws_adapted.Adapted.{spells_text, cut}
-use Rattle.yaml_scan_laws_windows.specs.Cuts.{IsCut}
-use Rattle.yaml_scan_laws_windows.specs.Laws.{scan_of}
-use Rattle.yaml_scan_laws_windows.proofs.Refused.{refused_fronts_are_scanned}
-use Rattle.yaml_scan_laws_windows.proofs.Opening.{begun}
-use Rattle.yaml_scan_laws_windows.proofs.OrderLaws.{stream_ends}
-use Rattle.yaml_parse_laws_windows.specs.Laws.{parse_of}
 use Rattle.yaml_parse_laws_windows.specs.Laws as parse
-use Rattle.yaml_parse_laws_windows.proofs.Refusing.{refused_fronts_stay}
-use Rattle.yaml_parse_laws_windows.proofs.Staying.{refused_tokens_stay}
-use Rattle.yaml_round_laws_windows.specs.Laws.{tokens_in, reading_in, EarlyFaultsAreRead}
 use Rattle.yaml_round_laws_windows.proofs.Joining.{AllSpell, cut_same, cut_behind, behind_tokens, passed, go_on, read_to, cut_marked, spell_push, spell_or}
 
 -- it is refused so, behind the same events

@@ -1,27 +1,10 @@
 -- A front that ends in a line `...` and is refused in front of it is refused so in the whole.
 use Rattle.std.proofs.Common.{◌≡◌, ℕ, ◌+◌, ◌<◌, List, [], ◌∷◌, ◌++◌, length, Option, Some, None, refl, sym, ap, subst, ◌∙◌, inl, inr, arith}
-use Rattle.std.proofs.lemmas.List.{append-nil, append_assoc, length-append}
-use Rattle.yaml_round_content.specs.scan_model.declared.yaml_encoding_t.{yaml_encoding_t}
-use Rattle.yaml_round_content.specs.scan_model.declared.yaml_mark_t.{yaml_mark_t}
-use Rattle.yaml_round_content.specs.scan_model.Faults.{Fault}
-use Rattle.yaml_round_content.specs.scan_model.Marks.{mark_at}
-use Rattle.yaml_round_content.specs.scan_model.Tokens.{Token, TokenBody}
+use Rattle.yaml_round_laws_windows.proofs.Words.{append-nil, append_assoc, length-append, yaml_encoding_t, yaml_mark_t, Fault, mark_at, Token, TokenBody, Remaining, Reading, spells_text, cut, EndsIn, IsCut, IsEndLine, scan_of, refused_fronts_are_scanned, begun_over, TailSo, line_tail, stream_ends, parse_of, GoOn, ended_fronts_stay, refused_tokens_stay, tokens_in, reading_in, EndedFaultsAreRead}
 use Rattle.yaml_round_content.specs.scan_model.Tokens as token
-use Rattle.yaml_round_content.specs.scan_history.Remaining.{Remaining}
-use Rattle.yaml_round_content.specs.parse_grammar.Resolve.{Reading}
-use Rattle.yaml_round_content.specs.round_laws_adapted.Adapted.{spells_text, cut}
-use Rattle.yaml_scan_laws_windows.specs.Cuts.{EndsIn, IsCut, IsEndLine}
-use Rattle.yaml_scan_laws_windows.specs.Laws.{scan_of}
 use Rattle.yaml_scan_laws_windows.proofs.BehindBreak.{front_mark}
-use Rattle.yaml_scan_laws_windows.proofs.Refused.{refused_fronts_are_scanned}
 use Rattle.yaml_scan_laws_windows.proofs.Ending.{line_long, whole_end, line_cut}
-use Rattle.yaml_scan_laws_windows.proofs.Opening.{begun_over}
-use Rattle.yaml_scan_laws_windows.proofs.Behind.{TailSo, line_tail}
-use Rattle.yaml_scan_laws_windows.proofs.OrderLaws.{stream_ends}
-use Rattle.yaml_parse_laws_windows.specs.Laws.{parse_of, GoOn}
 use Rattle.yaml_parse_laws_windows.specs.Laws as parse
-use Rattle.yaml_parse_laws_windows.proofs.Staying.{ended_fronts_stay, refused_tokens_stay}
-use Rattle.yaml_round_laws_windows.specs.Laws.{tokens_in, reading_in, EndedFaultsAreRead}
 use Rattle.yaml_round_laws_windows.proofs.Joining.{AllSpell, cut_same, cut_behind, go_on, read_to, spell_push, spell_or}
 
 -- one text is refused as another one is, behind the same events

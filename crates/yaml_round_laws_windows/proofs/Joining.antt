@@ -1,41 +1,15 @@
 -- The law of windows.
 use Rattle.std.proofs.Common.{◌≡◌, ◌≢◌, ℕ, true, List, [], ◌∷◌, ◌++◌, map, length, Option, Some, None, option_map, refl, sym, ap, subst, ◌∙◌, inl, inr, ◌⊎◌}
-use Rattle.std.proofs.lemmas.Bool.{cases_Bool}
-use Rattle.std.proofs.lemmas.List.{append_assoc, same_from_push}
+use Rattle.yaml_round_laws_windows.proofs.Words.{cases_Bool, append_assoc, same_from_push, yaml_encoding_t, yaml_mark_t, Fault, line_at, Token, TokenBody, stream_start, stream_end, document_start, zero_mark, Remaining, all, depth, is_document_start, feed, run, initial, Reading, no_directives, placed, IsCut, IsEndCut, LeadsToDirective, Event, spells_text, with_token, cut, scan_of, moved_mark, moved_token, moved_fault, windows_are_scanned, at_cut, ended_front, ended_windows_are_scanned, stream_starts, stream_ends, parse_of, GoOn, depth_after, depth_behind, items_of, Plain, plain, seen, parse_plain, step_items, Front, front_of, front_events, windows_are_parsed, brackets_are_closed, body_at, end_at, refused_fronts_stay, moved_event, IsMovedEnd, tokens_in, reading_in, IsAccepted, WindowsAreRead, WindowsAreAccepted, ReadingsAreFramed, AwaitsDocument, RefusedFrontsAreRead}
 use Rattle.std.proofs.lemmas.List.Elements.{All-head, All-tail}
 use Rattle.std.specs.Prelude.{All}
-use Rattle.yaml_round_content.specs.scan_model.declared.yaml_encoding_t.{yaml_encoding_t}
-use Rattle.yaml_round_content.specs.scan_model.declared.yaml_mark_t.{yaml_mark_t}
-use Rattle.yaml_round_content.specs.scan_model.Faults.{Fault}
-use Rattle.yaml_round_content.specs.scan_model.Marks.{line_at}
-use Rattle.yaml_round_content.specs.scan_model.Tokens.{Token, TokenBody, stream_start, stream_end, document_start, zero_mark}
 use Rattle.yaml_round_content.specs.scan_model.Tokens as token
-use Rattle.yaml_round_content.specs.scan_history.Remaining.{Remaining, all}
-use Rattle.yaml_round_content.specs.scan_history.History.{depth}
-use Rattle.yaml_round_content.specs.scan_history.scan_words.Indicators.{is_document_start}
 use Rattle.yaml_round_content.specs.parse_grammar.Trees.{event_at}
 use Rattle.yaml_round_content.specs.parse_grammar.States as state
-use Rattle.yaml_round_content.specs.parse_grammar.Machine.{feed, run, initial}
-use Rattle.yaml_round_content.specs.parse_grammar.Resolve.{Reading, no_directives, placed}
-use Rattle.yaml_scan_laws_windows.specs.Cuts.{IsCut, IsEndCut, LeadsToDirective}
-use Rattle.yaml_round_content.specs.parse_model.Events.{Event}
 use Rattle.yaml_round_content.specs.parse_model.Events as event
-use Rattle.yaml_round_content.specs.round_laws_adapted.Adapted.{spells_text, with_token, cut}
-use Rattle.yaml_scan_laws_windows.specs.Laws.{scan_of}
-use Rattle.yaml_scan_laws_windows.specs.Moved.{moved_mark, moved_token, moved_fault}
-use Rattle.yaml_scan_laws_windows.proofs.Windows.{windows_are_scanned, at_cut}
-use Rattle.yaml_scan_laws_windows.proofs.Behind.{ended_front, ended_windows_are_scanned}
 use Rattle.yaml_scan_laws_windows.proofs.Leading.{IsDirective, LeadsSo, leads_so}
-use Rattle.yaml_scan_laws_windows.proofs.OrderLaws.{stream_starts, stream_ends}
-use Rattle.yaml_parse_laws_windows.specs.Laws.{parse_of, GoOn}
 use Rattle.yaml_parse_laws_windows.specs.Laws as parse
-use Rattle.yaml_parse_laws_windows.specs.Depths.{depth_after, depth_behind}
-use Rattle.yaml_parse_laws_windows.proofs.Following.{items_of, Plain, plain, seen, parse_plain, step_items, Front, front_of, front_events, windows_are_parsed, brackets_are_closed, body_at}
-use Rattle.yaml_parse_laws_windows.proofs.Parting.{end_at}
-use Rattle.yaml_parse_laws_windows.proofs.Refusing.{refused_fronts_stay}
 use Rattle.yaml_parse_laws_windows.proofs.Beginning.{directives_are_parsed}
-use Rattle.yaml_round_laws_windows.specs.Moved.{moved_event, IsMovedEnd}
-use Rattle.yaml_round_laws_windows.specs.Laws.{tokens_in, reading_in, IsAccepted, WindowsAreRead, WindowsAreAccepted, ReadingsAreFramed, AwaitsDocument, RefusedFrontsAreRead}
 use Rattle.yaml_round_laws_windows.proofs.Depths.{behind_both, told_deep}
 use Rattle.yaml_round_laws_windows.proofs.Readings.{moved_tokens, IsMovedPlain, moved_as, refused_moved, ended_moved}
 

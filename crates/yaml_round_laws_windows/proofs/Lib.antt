@@ -1,3 +1,4 @@
+mod Words
 mod Machine
 mod Readings
 mod Depths

@@ -1,10 +1,8 @@
 -- A stack does to a moved token what it does to the token, moved.
 use Rattle.std.proofs.Common.{◌≡◌, ℕ, Bool, true, false, ◌||◌, if◌then◌else◌, List, [], ◌∷◌, ◌++◌, map, Option, Some, None, refl, sym, ap, subst, ◌∙◌, inl, inr}
-use Rattle.std.proofs.lemmas.List.{map-append}
-use Rattle.yaml_round_content.specs.scan_model.declared.yaml_mark_t.{yaml_mark_t}
+use Rattle.yaml_round_laws_windows.proofs.Words.{map-append, yaml_mark_t, Token, TokenBody, type_of, context_place, parser_fault, RawEvent, RawEventBody, Tag, Properties, item_at, State, Taken, joins, follows, starts_node, starts_content, parts_documents, wants_of, no_node, choice_at, documents_taken, content_taken, node_taken, with_properties_taken, lone_below, items_taken, more_taken, stream_taken, entries_taken, pairs_taken, taken_at, left_at, Fed, stop, go, with_item, given_by, context_of, turn, feed, moved_mark, moved_token, IsMovedMark, IsMovedFault}
 use Rattle.yaml_round_content.specs.parse_model.declared.yaml_token_type_t.{yaml_token_type_t}
 use Rattle.yaml_round_content.specs.parse_model.declared.yaml_token_type_t.TheVariants as kind
-use Rattle.yaml_round_content.specs.parse_model.Tokens.{Token, TokenBody, type_of}
 use Rattle.yaml_round_content.specs.parse_model.Tokens as token
 use Rattle.yaml_round_content.specs.parse_grammar.declared.Brackets.{Brackets}
 use Rattle.yaml_round_content.specs.parse_grammar.declared.Brackets.TheVariants as brackets
@@ -15,14 +13,8 @@ use Rattle.yaml_round_content.specs.parse_grammar.declared.ParseProblem.TheVaria
 use Rattle.yaml_round_content.specs.parse_grammar.declared.Site.TheVariants.{Root, Entry, IndentlessEntry, BlockPair, FlowPair}
 use Rattle.yaml_round_content.specs.parse_grammar.declared.Wants.{Wants}
 use Rattle.yaml_round_content.specs.parse_grammar.declared.Wants.TheVariants.{Flow, Block}
-use Rattle.yaml_round_content.specs.parse_grammar.Problems.{context_place, parser_fault}
-use Rattle.yaml_round_content.specs.parse_grammar.Items.{RawEvent, RawEventBody, Tag, Properties, item_at}
 use Rattle.yaml_round_content.specs.parse_grammar.Items as item
-use Rattle.yaml_round_content.specs.parse_grammar.States.{State, Taken}
 use Rattle.yaml_round_content.specs.parse_grammar.States as state
-use Rattle.yaml_round_content.specs.parse_grammar.Machine.{joins, follows, starts_node, starts_content, parts_documents, wants_of, no_node, choice_at, documents_taken, content_taken, node_taken, with_properties_taken, lone_below, items_taken, more_taken, stream_taken, entries_taken, pairs_taken, taken_at, left_at, Fed, stop, go, with_item, given_by, context_of, turn, feed}
-use Rattle.yaml_scan_laws_windows.specs.Moved.{moved_mark, moved_token}
-use Rattle.yaml_round_laws_windows.specs.Moved.{IsMovedMark, IsMovedFault}
 
 abbrev pub moved_tag : ℕ → ℕ → Option Tag → Option Tag
 moved_tag d n None = None
@@ -166,9 +158,7 @@ moved_opener d n (Some m) = Some (moved_mark d n m)
 
 abbrev moved_choice : ℕ → ℕ → Choice → Choice
 moved_choice d n (Refuse p o) = Refuse p (moved_opener d n o)
-moved_choice d n Take = Take
-moved_choice d n Leave = Leave
-moved_choice d n Open = Open
+moved_choice d n e = e
 
 joins_moved : (d n : ℕ) (p : Properties) (k : yaml_token_type_t) → joins (moved_properties d n p) k
     ≡ joins p k

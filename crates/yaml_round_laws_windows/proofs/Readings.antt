@@ -1,23 +1,10 @@
 -- Tokens have the same events where they are moved, moved, and end in the same fault, or in none.
 use Rattle.std.proofs.Common.{◌≡◌, ℕ, List, [], ◌∷◌, ◌++◌, map, Option, Some, None, refl, sym, ap, subst, ◌∙◌, inl, inr}
-use Rattle.std.proofs.lemmas.Bool.{cases_Bool}
-use Rattle.yaml_round_content.specs.scan_model.declared.yaml_mark_t.{yaml_mark_t}
-use Rattle.yaml_round_content.specs.scan_model.Faults.{Fault}
-use Rattle.yaml_round_content.specs.parse_model.Tokens.{Token}
-use Rattle.yaml_round_content.specs.parse_model.Events.{Event}
+use Rattle.yaml_round_laws_windows.proofs.Words.{cases_Bool, yaml_mark_t, Fault, Token, Event, RawEvent, RawEventBody, Shape, Directives, Settled, refused, gave, noted, settle, settle_body, resolved, with_resolved, is_known_version, with_version, with_tag, directive_for, placed, State, Fed, stop, go, feed, run, moved_mark, moved_token, moved_fault, GoOn, end_at, parts, items_of, Plain, told_by, plain, read_of, went, halted, moved_event, IsMovedFault, IsMovedEnd}
 use Rattle.yaml_round_content.specs.parse_grammar.declared.ParseProblem.TheVariants as problem
-use Rattle.yaml_round_content.specs.parse_grammar.Items.{RawEvent, RawEventBody, Shape}
 use Rattle.yaml_round_content.specs.parse_grammar.Items as item
-use Rattle.yaml_round_content.specs.parse_grammar.Resolve.{Directives, Settled, refused, gave, noted, settle, settle_body, resolved, with_resolved, is_known_version, with_version, with_tag, directive_for, placed}
-use Rattle.yaml_round_content.specs.parse_grammar.States.{State}
-use Rattle.yaml_round_content.specs.parse_grammar.Machine.{Fed, stop, go, feed, run}
-use Rattle.yaml_scan_laws_windows.specs.Moved.{moved_mark, moved_token, moved_fault}
-use Rattle.yaml_parse_laws_windows.specs.Laws.{GoOn}
 use Rattle.yaml_parse_laws_windows.proofs.Grounding.{Stands}
 use Rattle.yaml_parse_laws_windows.proofs.Noting.{with_event, then_through, through, Fine, stands_feed}
-use Rattle.yaml_parse_laws_windows.proofs.Parting.{end_at, parts}
-use Rattle.yaml_parse_laws_windows.proofs.Following.{items_of, Plain, told_by, plain, read_of, went, halted}
-use Rattle.yaml_round_laws_windows.specs.Moved.{moved_event, IsMovedFault, IsMovedEnd}
 use Rattle.yaml_round_laws_windows.proofs.Machine.{moved_state, moved_item, moved_body, IsMovedFed, fault_moved, feed_moved}
 
 abbrev pub moved_tokens : ℕ → ℕ → List Token → List Token
@@ -81,13 +68,11 @@ handle_so d n None ds handle prefix a = refl
 
 settled_so : (d n : ℕ) (b : RawEventBody) (from : yaml_mark_t) (ds : Directives)
     → IsSettledSo d n (settle_body b from ds) (settle_body (moved_body d n b) (moved_mark d n from) ds)
-settled_so d n (item.event body) from ds = refl
 settled_so d n (item.version_directive major minor) from ds = version_so d n ds.version ds.tags major minor from
 settled_so d n (item.tag_directive handle prefix) from ds = handle_so d n (directive_for handle ds.tags) ds handle prefix from
-settled_so d n (item.document implicit) from ds = refl
-settled_so d n (item.node anchor None shape) from ds = refl
 settled_so d n (item.node anchor (Some tag) shape) from ds =
     resolved_so d n (resolved ds.tags tag.handle tag.suffix) anchor shape from tag.mark ds
+settled_so d n _ from ds = refl
 
 -- Items in front, the same where they are moved: only where all of them settle the others count.
 front_moved : (d n : ℕ) (is : List RawEvent) (ds : Directives) (js ks : List RawEvent)

@@ -1,13 +1,6 @@
 /* Events are made and deleted, tokens deleted. */
 #include "layer.h"
 
-/* Most nodes have no anchor and no tag. */
-static inline void free_if(void *block)
-{
-    if (block)
-        free(block);
-}
-
 void layer_free_directives(yaml_tag_directive_t *start, yaml_tag_directive_t *end)
 {
     for (yaml_tag_directive_t *it = start; it != end; it++) {
@@ -17,14 +10,8 @@ void layer_free_directives(yaml_tag_directive_t *start, yaml_tag_directive_t *en
     free(start);
 }
 
-void layer_free_texts(const yaml_event_t *event)
+void layer_free_other_texts(const yaml_event_t *event)
 {
-    if (event->type == YAML_SCALAR_EVENT) {
-        free_if(event->data.scalar.anchor);
-        free_if(event->data.scalar.tag);
-        free(event->data.scalar.value);
-        return;
-    }
     switch (event->type) {
     case YAML_DOCUMENT_START_EVENT:
         free(event->data.document_start.version_directive);
@@ -32,13 +19,9 @@ void layer_free_texts(const yaml_event_t *event)
         break;
     case YAML_ALIAS_EVENT: free(event->data.alias.anchor); break;
     case YAML_SEQUENCE_START_EVENT:
-        free_if(event->data.sequence_start.anchor);
-        free_if(event->data.sequence_start.tag);
+        layer_free_names(event->data.sequence_start.anchor, event->data.sequence_start.tag);
         break;
-    case YAML_MAPPING_START_EVENT:
-        free_if(event->data.mapping_start.anchor);
-        free_if(event->data.mapping_start.tag);
-        break;
+    case YAML_MAPPING_START_EVENT: layer_free_names(event->data.mapping_start.anchor, event->data.mapping_start.tag); break;
     default: break;
     }
 }
@@ -88,8 +71,7 @@ static inline int made(yaml_event_t *event, int is_well)
 
 static int copied(yaml_char_t **to, const yaml_char_t *text)
 {
-    size_t len = strlen((const char *)text);
-    return layer_is_utf8(text, len) && (*to = layer_copy(text, len)) != NULL;
+    return layer_copy_utf8(to, text, strlen((const char *)text));
 }
 
 /* A copy of a text that may be missing. */
@@ -174,7 +156,7 @@ yaml_scalar_event_initialize(yaml_event_t *event, const yaml_char_t *anchor, con
     event->data.scalar.quoted_implicit = quoted_implicit;
     event->data.scalar.style = style;
     return made(event, copied_if(&event->data.scalar.anchor, anchor) && copied_if(&event->data.scalar.tag, tag)
-                           && layer_is_utf8(value, len) && (event->data.scalar.value = layer_copy(value, len)) != NULL);
+                           && layer_copy_utf8(&event->data.scalar.value, value, len));
 }
 
 YAML_DECLARE(int)

@@ -24,6 +24,16 @@ int yaml_queue_extend(void **start, void **head, void **tail, void **end);
 int yaml_parser_update_buffer(yaml_parser_t *parser, size_t length);
 int yaml_parser_fetch_more_tokens(yaml_parser_t *parser);
 
+/* What isn't called for most events stands by itself, so that what is has fewer registers to keep. */
+#if defined(__GNUC__)
+#define LAYER_RARE __attribute__((noinline))
+#else
+#define LAYER_RARE
+#endif
+
+/* Of what follows nothing is seen from outside, so that the compiler may do without calls of it. */
+#pragma GCC visibility push(hidden)
+
 /* ---- memory */
 
 /* Copies bytes to where others are. Most texts are short: those are copied without a call, by two steps that may meet. */
@@ -56,6 +66,38 @@ static inline yaml_char_t *layer_copy(const void *text, size_t len)
         copy[len] = 0;
     }
     return copy;
+}
+
+/* All bytes of a text of fewer than eight, one upon another. */
+static inline uint64_t layer_few(const uint8_t *text, size_t len)
+{
+    uint32_t first, last;
+    if (len < sizeof first)
+        return len ? (uint64_t)(text[0] | text[len / 2] | text[len - 1]) : 0;
+    memcpy(&first, text, sizeof first);
+    memcpy(&last, text + len - sizeof last, sizeof last);
+    return first | last;
+}
+
+/* As layer_move of a short text, of at most 32 bytes; all its bytes, one upon another. */
+static inline uint64_t layer_move_short(uint8_t *to, const uint8_t *from, size_t len)
+{
+    uint64_t words[4] = {0, 0, 0, 0};
+    if (len >= 16) {
+        memcpy(words, from, 16);
+        memcpy(words + 2, from + len - 16, 16);
+        memcpy(to, words, 16);
+        memcpy(to + len - 16, words + 2, 16);
+    } else if (len >= 8) {
+        memcpy(words, from, 8);
+        memcpy(words + 1, from + len - 8, 8);
+        memcpy(to, words, 8);
+        memcpy(to + len - 8, words + 1, 8);
+    } else {
+        layer_move(to, from, len);
+        words[0] = layer_few(from, len);
+    }
+    return (words[0] | words[1]) | (words[2] | words[3]);
 }
 
 /* Bytes that grow. */
@@ -98,17 +140,6 @@ void *layer_grown(void *block, size_t len, size_t item, size_t *room);
         }                                                                                              \
     } while (0)
 
-/* All bytes of a text of fewer than eight, one upon another. */
-static inline uint64_t layer_few(const uint8_t *text, size_t len)
-{
-    uint32_t first, last;
-    if (len < sizeof first)
-        return len ? (uint64_t)(text[0] | text[len / 2] | text[len - 1]) : 0;
-    memcpy(&first, text, sizeof first);
-    memcpy(&last, text + len - sizeof last, sizeof last);
-    return first | last;
-}
-
 /* Whether all bytes are ASCII. They are looked at by eight, the last ones with some of those before. */
 static inline int layer_is_ascii(const uint8_t *text, size_t len)
 {
@@ -131,6 +162,19 @@ static inline int layer_is_utf8(const yaml_char_t *text, size_t len)
     return layer_is_ascii(text, len) || layer_is_wide(text, len);
 }
 
+/* A copy, as layer_copy makes it. 0: memory was refused, or the text isn't UTF-8, and the copy is to be freed. */
+static inline int layer_copy_utf8(yaml_char_t **to, const yaml_char_t *text, size_t len)
+{
+    yaml_char_t *copy = *to = malloc(len + 1);
+    if (!copy)
+        return 0;
+    copy[len] = 0;
+    if (len <= 32)
+        return !(layer_move_short(copy, text, len) & UINT64_C(0x8080808080808080)) || layer_is_wide(text, len);
+    memcpy(copy, text, len);
+    return layer_is_utf8(text, len);
+}
+
 /* No event. It is cleared part by part: compilers clear the whole of such a size by an instruction that takes longer. */
 static inline void layer_clear(yaml_event_t *event)
 {
@@ -142,8 +186,27 @@ static inline void layer_clear(yaml_event_t *event)
 
 /* Frees directives, and the list of them. */
 void layer_free_directives(yaml_tag_directive_t *start, yaml_tag_directive_t *end);
+/* Frees a node's anchor and tag, which most have none of. */
+static inline void layer_free_names(yaml_char_t *anchor, yaml_char_t *tag)
+{
+    if (anchor)
+        free(anchor);
+    if (tag)
+        free(tag);
+}
+
+/* Frees the texts of an event that isn't a scalar's. */
+void layer_free_other_texts(const yaml_event_t *event);
 /* Frees an event's texts. */
-void layer_free_texts(const yaml_event_t *event);
+static inline void layer_free_texts(const yaml_event_t *event)
+{
+    if (event->type == YAML_SCALAR_EVENT) {
+        layer_free_names(event->data.scalar.anchor, event->data.scalar.tag);
+        free(event->data.scalar.value);
+    } else if (event->type != YAML_SEQUENCE_END_EVENT && event->type != YAML_MAPPING_END_EVENT) {
+        layer_free_other_texts(event);
+    }
+}
 
 /* ---- the layer's own state, which hangs on a pointer that no client has a use for */
 
@@ -208,6 +271,7 @@ typedef struct {
     size_t next; /* the event or the token that comes next, and behind which none is to come */
     size_t end;
     int last; /* the kind of the event that was handed out last */
+    yaml_c_event missed; /* one that the core doesn't tell */
     char *problem;
     char *context;
     yaml_char_t *shown; /* what libyaml's buffer shows */
@@ -280,5 +344,7 @@ static inline size_t layer_events_len(const layer_writing *w)
 {
     return w->events.len / sizeof(yaml_c_event);
 }
+
+#pragma GCC visibility pop
 
 #endif

@@ -51,7 +51,7 @@ static int is_past_keys(const walk *w, const yaml_c_event *it)
 }
 
 /* A node has come. Whether the input may be cut behind it, as far as that tells. */
-static int node_came(walk *w)
+static inline int node_came(walk *w)
 {
     if (!w->depth || w->depth > LAYER_OPENS)
         return 0;
@@ -61,8 +61,10 @@ static int node_came(walk *w)
 }
 
 /* Whether the input may be cut behind this event. */
-static int goes_on(walk *w, const layer_reading *reading, const yaml_c_event *it)
+static inline int goes_on(walk *w, const layer_reading *reading, const yaml_c_event *it)
 {
+    if (it->kind == YAML_C_SCALAR_EVENT)
+        return node_came(w);
     switch (it->kind) {
     case YAML_C_DOCUMENT_START_EVENT:
         w->depth = 0;
@@ -72,8 +74,7 @@ static int goes_on(walk *w, const layer_reading *reading, const yaml_c_event *it
     case YAML_C_MAPPING_START_EVENT: open_at(w, reading, it); return 0;
     case YAML_C_SEQUENCE_END_EVENT:
     case YAML_C_MAPPING_END_EVENT: w->depth -= w->depth != 0; return node_came(w);
-    case YAML_C_ALIAS_EVENT:
-    case YAML_C_SCALAR_EVENT: return node_came(w);
+    case YAML_C_ALIAS_EVENT: return node_came(w);
     default: return 0;
     }
 }

@@ -24,7 +24,7 @@ LAYER_RARE static int put_names(layer_writing *w, yaml_c_event *record, const ya
 /* A node's properties. A tag that isn't written isn't kept: the core's definitions don't look at it either (kept_tag). */
 static inline int put_properties(layer_writing *w, yaml_c_event *record, const yaml_char_t *anchor, const yaml_char_t *tag)
 {
-    const yaml_char_t *written = w->is_canonical | !(record->implicit | record->quoted_implicit) ? tag : NULL;
+    const yaml_char_t *written = (w->is_canonical | !(record->implicit | record->quoted_implicit)) ? tag : NULL;
     return (!anchor && !written) || put_names(w, record, anchor, written);
 }
 

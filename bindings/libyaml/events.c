@@ -71,7 +71,8 @@ static inline int made(yaml_event_t *event, int is_well)
 
 static int copied(yaml_char_t **to, const yaml_char_t *text)
 {
-    return layer_copy_utf8(to, text, strlen((const char *)text));
+    size_t len = strlen((const char *)text);
+    return layer_is_utf8(text, len) && (*to = layer_copy(text, len)) != NULL;
 }
 
 /* A copy of a text that may be missing. */
@@ -156,7 +157,7 @@ yaml_scalar_event_initialize(yaml_event_t *event, const yaml_char_t *anchor, con
     event->data.scalar.quoted_implicit = quoted_implicit;
     event->data.scalar.style = style;
     return made(event, copied_if(&event->data.scalar.anchor, anchor) && copied_if(&event->data.scalar.tag, tag)
-                           && layer_copy_utf8(&event->data.scalar.value, value, len));
+                           && layer_is_utf8(value, len) && (event->data.scalar.value = layer_copy(value, len)) != NULL);
 }
 
 YAML_DECLARE(int)

@@ -68,38 +68,6 @@ static inline yaml_char_t *layer_copy(const void *text, size_t len)
     return copy;
 }
 
-/* All bytes of a text of fewer than eight, one upon another. */
-static inline uint64_t layer_few(const uint8_t *text, size_t len)
-{
-    uint32_t first, last;
-    if (len < sizeof first)
-        return len ? (uint64_t)(text[0] | text[len / 2] | text[len - 1]) : 0;
-    memcpy(&first, text, sizeof first);
-    memcpy(&last, text + len - sizeof last, sizeof last);
-    return first | last;
-}
-
-/* As layer_move of a short text, of at most 32 bytes; all its bytes, one upon another. */
-static inline uint64_t layer_move_short(uint8_t *to, const uint8_t *from, size_t len)
-{
-    uint64_t words[4] = {0, 0, 0, 0};
-    if (len >= 16) {
-        memcpy(words, from, 16);
-        memcpy(words + 2, from + len - 16, 16);
-        memcpy(to, words, 16);
-        memcpy(to + len - 16, words + 2, 16);
-    } else if (len >= 8) {
-        memcpy(words, from, 8);
-        memcpy(words + 1, from + len - 8, 8);
-        memcpy(to, words, 8);
-        memcpy(to + len - 8, words + 1, 8);
-    } else {
-        layer_move(to, from, len);
-        words[0] = layer_few(from, len);
-    }
-    return (words[0] | words[1]) | (words[2] | words[3]);
-}
-
 /* Bytes that grow. */
 typedef struct {
     uint8_t *at;
@@ -140,6 +108,17 @@ void *layer_grown(void *block, size_t len, size_t item, size_t *room);
         }                                                                                              \
     } while (0)
 
+/* All bytes of a text of fewer than eight, one upon another. */
+static inline uint64_t layer_few(const uint8_t *text, size_t len)
+{
+    uint32_t first, last;
+    if (len < sizeof first)
+        return len ? (uint64_t)(text[0] | text[len / 2] | text[len - 1]) : 0;
+    memcpy(&first, text, sizeof first);
+    memcpy(&last, text + len - sizeof last, sizeof last);
+    return first | last;
+}
+
 /* Whether all bytes are ASCII. They are looked at by eight, the last ones with some of those before. */
 static inline int layer_is_ascii(const uint8_t *text, size_t len)
 {
@@ -160,19 +139,6 @@ int layer_is_wide(const yaml_char_t *text, size_t len);
 static inline int layer_is_utf8(const yaml_char_t *text, size_t len)
 {
     return layer_is_ascii(text, len) || layer_is_wide(text, len);
-}
-
-/* A copy, as layer_copy makes it. 0: memory was refused, or the text isn't UTF-8, and the copy is to be freed. */
-static inline int layer_copy_utf8(yaml_char_t **to, const yaml_char_t *text, size_t len)
-{
-    yaml_char_t *copy = *to = malloc(len + 1);
-    if (!copy)
-        return 0;
-    copy[len] = 0;
-    if (len <= 32)
-        return !(layer_move_short(copy, text, len) & UINT64_C(0x8080808080808080)) || layer_is_wide(text, len);
-    memcpy(copy, text, len);
-    return layer_is_utf8(text, len);
 }
 
 /* No event. It is cleared part by part: compilers clear the whole of such a size by an instruction that takes longer. */

@@ -55,7 +55,7 @@ trap 'rm -rf "$work"' EXIT
 objects=()
 for file in "$source"/*.c; do
     objects+=("$work/$(basename "$file" .c).o")
-    $compiler -std=c11 -fPIC -Wall -Wextra ${CFLAGS:--O2} -I "$source" -I "$top/bindings/c" -c -o "${objects[-1]}" "$file"
+    $compiler -std=c11 -fPIC -Wall -Wextra ${CFLAGS:--O2 -fno-plt} -I "$source" -I "$top/bindings/c" -c -o "${objects[-1]}" "$file"
 done
 # The commit is noted in .comment, since a symbol for it would be one more than libyaml has.
 commit=$(git -C "$top" describe --always --dirty 2>/dev/null || echo unknown)

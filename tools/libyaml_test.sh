@@ -8,11 +8,12 @@
 #
 # By itself: symbols, soname and layouts; events, tokens and texts of the vectors' inputs, and of two broken ones of each, beside
 # the proved core's own, also from a reader of single bytes, with flushes, and cut at each place where that can be; that documents
-# and output come in time; the symbols that no header declares; each allocation refused in turn; all these inputs under
-# AddressSanitizer and UBSan, with readers and writers that fail, and calls in orders made by chance. Beside Debian's libyaml: at which events an emitter refuses
-# streams made by chance, and all answers for each file, by a C program and by the bindings of Python, Ruby, Perl, Lua, PHP and
-# Prolog, where bindings/libyaml/tests/expected.txt lists what differs and why; a difference that isn't there fails, and so does
-# one that is there and isn't seen.
+# and output come in time; that 20 MB take little room, and many brackets little time and no stack; the symbols that no header
+# declares; each allocation refused in turn; all these inputs under AddressSanitizer and UBSan, with readers and writers that fail,
+# and calls in orders made by chance. Beside Debian's libyaml: at which events an emitter refuses streams made by chance, and all
+# answers for each file, by a C program and by the bindings of Python, Ruby, Perl, Lua, PHP and Prolog, where
+# bindings/libyaml/tests/expected.txt lists what differs and why; a difference that isn't there fails, and so does one that is
+# there and isn't seen.
 set -u
 top=$(cd "$(dirname "$0")/.." && pwd)
 core=$(realpath -m "${LIBRARY:-$top/out/library}")/libyaml_c.a
@@ -103,6 +104,7 @@ alone() {
     compile in_pieces against_core.c $small "$source"/*.c "$core" &&
         judges 'in small pieces' "$work/in_pieces" "$work"/inputs/given/* "$work"/inputs/broken/*
     compile promptly promptly.c -L "$library" -lyaml -Wl,-rpath,"$library" && judges promptly "$work/promptly"
+    compile large large.c -L "$library" -lyaml -Wl,-rpath,"$library" && judges large bash -c "ulimit -s 256; exec $work/large"
     compile undeclared undeclared.c -L "$library" -lyaml -Wl,-rpath,"$library" && judges undeclared "$work/undeclared"
     compile refuse refuse.c "$library/libyaml.a" $heap && judges refuse "$work/refuse"
     compile refuse refuse.c $small "$source"/*.c "$core" $heap && judges 'refuse, in small pieces' "$work/refuse"

@@ -150,7 +150,7 @@ static int write_out(yaml_emitter_t *emitter, yaml_c_answer *answer)
 }
 
 /* Lays out what is kept, and has it written. */
-static int lay_out(yaml_emitter_t *emitter, layer_writing *w)
+LAYER_RARE static int lay_out(yaml_emitter_t *emitter, layer_writing *w)
 {
     yaml_c_answer answer;
     yaml_c_stand behind;
@@ -260,7 +260,7 @@ static inline enum due due_in_document(layer_writing *w, const yaml_event_t *eve
 }
 
 /* Likewise between documents. */
-static enum due due_between(layer_writing *w, const yaml_event_t *event)
+LAYER_RARE static enum due due_between(layer_writing *w, const yaml_event_t *event)
 {
     if (event->type == YAML_STREAM_END_EVENT)
         w->place = LAYER_BEHIND_STREAM;
@@ -275,7 +275,7 @@ static enum due due_between(layer_writing *w, const yaml_event_t *event)
 }
 
 /* What libyaml settles in its structure as a stream begins, and some clients read. */
-static void settle(yaml_emitter_t *emitter, yaml_encoding_t encoding)
+LAYER_RARE static void settle(yaml_emitter_t *emitter, yaml_encoding_t encoding)
 {
     if (!emitter->encoding)
         emitter->encoding = encoding ? encoding : YAML_UTF8_ENCODING;

@@ -1,13 +1,6 @@
 /* Events are made and deleted, tokens deleted. */
 #include "layer.h"
 
-/* Most nodes have no anchor and no tag. */
-static inline void free_if(void *block)
-{
-    if (block)
-        free(block);
-}
-
 void layer_free_directives(yaml_tag_directive_t *start, yaml_tag_directive_t *end)
 {
     for (yaml_tag_directive_t *it = start; it != end; it++) {
@@ -17,14 +10,8 @@ void layer_free_directives(yaml_tag_directive_t *start, yaml_tag_directive_t *en
     free(start);
 }
 
-void layer_free_texts(const yaml_event_t *event)
+void layer_free_other_texts(const yaml_event_t *event)
 {
-    if (event->type == YAML_SCALAR_EVENT) {
-        free_if(event->data.scalar.anchor);
-        free_if(event->data.scalar.tag);
-        free(event->data.scalar.value);
-        return;
-    }
     switch (event->type) {
     case YAML_DOCUMENT_START_EVENT:
         free(event->data.document_start.version_directive);
@@ -32,13 +19,9 @@ void layer_free_texts(const yaml_event_t *event)
         break;
     case YAML_ALIAS_EVENT: free(event->data.alias.anchor); break;
     case YAML_SEQUENCE_START_EVENT:
-        free_if(event->data.sequence_start.anchor);
-        free_if(event->data.sequence_start.tag);
+        layer_free_names(event->data.sequence_start.anchor, event->data.sequence_start.tag);
         break;
-    case YAML_MAPPING_START_EVENT:
-        free_if(event->data.mapping_start.anchor);
-        free_if(event->data.mapping_start.tag);
-        break;
+    case YAML_MAPPING_START_EVENT: layer_free_names(event->data.mapping_start.anchor, event->data.mapping_start.tag); break;
     default: break;
     }
 }

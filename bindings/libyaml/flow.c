@@ -51,7 +51,7 @@ static int is_past_keys(const walk *w, const yaml_c_event *it)
 }
 
 /* A node has come. Whether the input may be cut behind it, as far as that tells. */
-static int node_came(walk *w)
+static inline int node_came(walk *w)
 {
     if (!w->depth || w->depth > LAYER_OPENS)
         return 0;
@@ -61,8 +61,10 @@ static int node_came(walk *w)
 }
 
 /* Whether the input may be cut behind this event. */
-static int goes_on(walk *w, const layer_reading *reading, const yaml_c_event *it)
+static inline int goes_on(walk *w, const layer_reading *reading, const yaml_c_event *it)
 {
+    if (it->kind == YAML_C_SCALAR_EVENT)
+        return node_came(w);
     switch (it->kind) {
     case YAML_C_DOCUMENT_START_EVENT:
         w->depth = 0;
@@ -72,8 +74,7 @@ static int goes_on(walk *w, const layer_reading *reading, const yaml_c_event *it
     case YAML_C_MAPPING_START_EVENT: open_at(w, reading, it); return 0;
     case YAML_C_SEQUENCE_END_EVENT:
     case YAML_C_MAPPING_END_EVENT: w->depth -= w->depth != 0; return node_came(w);
-    case YAML_C_ALIAS_EVENT:
-    case YAML_C_SCALAR_EVENT: return node_came(w);
+    case YAML_C_ALIAS_EVENT: return node_came(w);
     default: return 0;
     }
 }
@@ -83,9 +84,19 @@ static int is_end(const yaml_c_event *it)
     return it->kind == YAML_C_SEQUENCE_END_EVENT || it->kind == YAML_C_MAPPING_END_EVENT;
 }
 
+/* Keeps what is open at a cut. */
+static void keep_opens(layer_reading *reading, const walk *w)
+{
+    for (size_t i = 0; i < w->depth; i++) {
+        reading->opens[i].start = w->opens[i].start;
+        reading->opens[i].is_mapping = w->opens[i].is_mapping;
+    }
+    reading->opens_len = w->depth;
+}
+
 /* The last cut but for a few: all among the last events are looked at, and some in front of them. Its number of events in front,
- * and what is open there; 0: there is none. */
-static size_t last_cut(walk *open, layer_reading *reading)
+ * and what is open there is kept; 0: there is none. */
+static size_t last_cut(layer_reading *reading)
 {
     const yaml_c_event *events = reading->parsed.events;
     size_t len = reading->parsed.events_len, last = 0;
@@ -93,7 +104,7 @@ static size_t last_cut(walk *open, layer_reading *reading)
     for (size_t i = 0; i + 1 < len; i++)
         if (goes_on(&w, reading, &events[i]) && (i + 64 >= len || i >= last + 256 || !last) && !is_end(&events[i + 1])
             && is_past_keys(&w, &events[i + 1]) && events[i].end.index + reading->mark_len > reading->stand_in) {
-            *open = w;
+            keep_opens(reading, &w);
             last = i + 1;
         }
     reading->is_uncut = !last && w.depth > 64 * LAYER_OPENS; /* it is too deep to be looked at again and again */
@@ -102,15 +113,9 @@ static size_t last_cut(walk *open, layer_reading *reading)
 
 int layer_cut_in_flow(layer_reading *reading)
 {
-    walk w;
-    size_t len = last_cut(&w, reading);
+    size_t len = last_cut(reading);
     if (!len)
         return 0;
-    for (size_t i = 0; i < w.depth; i++) {
-        reading->opens[i].start = w.opens[i].start;
-        reading->opens[i].is_mapping = w.opens[i].is_mapping;
-    }
-    reading->opens_len = w.depth;
     reading->end = len;
     reading->root = reading->parsed.events[len - 1].end;
     reading->len = reading->root.index + reading->mark_len - reading->stand_in;

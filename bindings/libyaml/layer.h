@@ -24,6 +24,16 @@ int yaml_queue_extend(void **start, void **head, void **tail, void **end);
 int yaml_parser_update_buffer(yaml_parser_t *parser, size_t length);
 int yaml_parser_fetch_more_tokens(yaml_parser_t *parser);
 
+/* What isn't called for most events stands by itself, so that what is has fewer registers to keep. */
+#if defined(__GNUC__)
+#define LAYER_RARE __attribute__((noinline))
+#else
+#define LAYER_RARE
+#endif
+
+/* Of what follows nothing is seen from outside, so that the compiler may do without calls of it. */
+#pragma GCC visibility push(hidden)
+
 /* ---- memory */
 
 /* Copies bytes to where others are. Most texts are short: those are copied without a call, by two steps that may meet. */
@@ -142,8 +152,27 @@ static inline void layer_clear(yaml_event_t *event)
 
 /* Frees directives, and the list of them. */
 void layer_free_directives(yaml_tag_directive_t *start, yaml_tag_directive_t *end);
+/* Frees a node's anchor and tag, which most have none of. */
+static inline void layer_free_names(yaml_char_t *anchor, yaml_char_t *tag)
+{
+    if (anchor)
+        free(anchor);
+    if (tag)
+        free(tag);
+}
+
+/* Frees the texts of an event that isn't a scalar's. */
+void layer_free_other_texts(const yaml_event_t *event);
 /* Frees an event's texts. */
-void layer_free_texts(const yaml_event_t *event);
+static inline void layer_free_texts(const yaml_event_t *event)
+{
+    if (event->type == YAML_SCALAR_EVENT) {
+        layer_free_names(event->data.scalar.anchor, event->data.scalar.tag);
+        free(event->data.scalar.value);
+    } else if (event->type != YAML_SEQUENCE_END_EVENT && event->type != YAML_MAPPING_END_EVENT) {
+        layer_free_other_texts(event);
+    }
+}
 
 /* ---- the layer's own state, which hangs on a pointer that no client has a use for */
 
@@ -208,6 +237,7 @@ typedef struct {
     size_t next; /* the event or the token that comes next, and behind which none is to come */
     size_t end;
     int last; /* the kind of the event that was handed out last */
+    yaml_c_event missed; /* one that the core doesn't tell */
     char *problem;
     char *context;
     yaml_char_t *shown; /* what libyaml's buffer shows */
@@ -280,5 +310,7 @@ static inline size_t layer_events_len(const layer_writing *w)
 {
     return w->events.len / sizeof(yaml_c_event);
 }
+
+#pragma GCC visibility pop
 
 #endif

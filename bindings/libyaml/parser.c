@@ -61,12 +61,14 @@ static const yaml_c_event *last_root(const yaml_c_parsed *parsed)
     return at > 0 && at < parsed->events_len ? &parsed->events[at] : NULL;
 }
 
-/* Whether the events end with those of a root in which the input can be cut: of a block collection at column 0, that and its
- * document have nothing that a stand-in hasn't. */
-static int ends_in_root(const layer_reading *reading)
+/* Whether the events end with those of a root in which the input can be cut, whose beginning is kept: of a block collection at
+ * column 0, that and its document have nothing that a stand-in hasn't. */
+static int ends_in_root(layer_reading *reading)
 {
     const yaml_c_event *root = last_root(&reading->parsed), *end = reading->parsed.events + reading->parsed.events_len;
     int kind = reading->cut_in == LAYER_SEQUENCE ? YAML_C_SEQUENCE_START_EVENT : YAML_C_MAPPING_START_EVENT;
+    if (root)
+        reading->root = root->start;
     return root && end - root >= 4 && root->kind == kind && root->style == YAML_C_BLOCK_STYLE && root->start.column == 0
            && !root->has_anchor && !root->has_tag && !root[-1].has_version && !root[-1].directives.len && end[-3].kind == kind + 1
            && end[-2].implicit;
@@ -86,18 +88,19 @@ static void take_events(layer_reading *reading)
         reading->lines = parsed->events[len - 1].start.line;
         reading->chars = parsed->events[len - 1].start.character;
         reading->end -= reading->cut_in ? 3 : 1;
-        if (reading->cut_in)
-            reading->root = last_root(parsed)->start;
     }
     reading->events = (yaml_c_event *)parsed->events;
     parsed->events_len = 0;
 }
 
+/* So many events are kept together, and some more. */
+enum { LAYER_FEW_EVENTS = 1 << 15 };
+
 /* Of a long document gives memory back each time that half of the events are done. A refusal changes nothing. */
-static void give_back(layer_reading *reading)
+LAYER_RARE static void give_back(layer_reading *reading)
 {
     size_t left = reading->end - reading->next;
-    if (left < 1 << 15 || reading->next < left)
+    if (left < LAYER_FEW_EVENTS || reading->next < left)
         return;
     memmove(reading->events, reading->events + reading->next, left * sizeof *reading->events);
     reading->next = 0;
@@ -246,15 +249,19 @@ static int tag_copied(const layer_reading *reading, const yaml_c_event *it, yaml
     return it->has_tag == 2 ? (*tag = layer_copy("!", 1)) != NULL : copied(reading, tag, it->tag);
 }
 
-/* The anchor and the tag of a node, which most have none of. */
-static inline int properties_copied(const layer_reading *reading, const yaml_c_event *it, yaml_char_t **anchor, yaml_char_t **tag)
+/* The anchor and the tag of a node that has one of them. */
+LAYER_RARE static int names_copied(const layer_reading *reading, const yaml_c_event *it, yaml_char_t **anchor, yaml_char_t **tag)
 {
-    if (!(it->has_anchor | it->has_tag))
-        return 1;
     return (!it->has_anchor || copied(reading, anchor, it->anchor)) && (!it->has_tag || tag_copied(reading, it, tag));
 }
 
-static int scalar_made(const layer_reading *reading, const yaml_c_event *it, yaml_event_t *event)
+/* The anchor and the tag of a node, which most have none of. */
+static inline int properties_copied(const layer_reading *reading, const yaml_c_event *it, yaml_char_t **anchor, yaml_char_t **tag)
+{
+    return !(it->has_anchor | it->has_tag) || names_copied(reading, it, anchor, tag);
+}
+
+static inline int scalar_made(const layer_reading *reading, const yaml_c_event *it, yaml_event_t *event)
 {
     event->data.scalar.length = it->value.len;
     event->data.scalar.plain_implicit = it->implicit;
@@ -264,7 +271,7 @@ static int scalar_made(const layer_reading *reading, const yaml_c_event *it, yam
            && copied(reading, &event->data.scalar.value, it->value);
 }
 
-static int directives_made(const layer_reading *reading, yaml_c_span span, yaml_event_t *event)
+LAYER_RARE static int directives_made(const layer_reading *reading, yaml_c_span span, yaml_event_t *event)
 {
     if (!span.len)
         return 1;
@@ -281,7 +288,7 @@ static int directives_made(const layer_reading *reading, yaml_c_span span, yaml_
     return 1;
 }
 
-static int document_start_made(const layer_reading *reading, const yaml_c_event *it, yaml_event_t *event)
+LAYER_RARE static int document_start_made(const layer_reading *reading, const yaml_c_event *it, yaml_event_t *event)
 {
     event->data.document_start.implicit = it->implicit;
     if (it->has_version) {
@@ -296,14 +303,15 @@ static int document_start_made(const layer_reading *reading, const yaml_c_event 
 }
 
 /* Fills what the event's kind has. 0: memory was refused. */
-static int made(const layer_reading *reading, const yaml_c_event *it, yaml_event_t *event)
+static inline int made(const layer_reading *reading, const yaml_c_event *it, int kind, yaml_event_t *event)
 {
-    switch (it->kind) {
+    if (kind == YAML_C_SCALAR_EVENT)
+        return scalar_made(reading, it, event);
+    switch (kind) {
     case YAML_C_STREAM_START_EVENT: event->data.stream_start.encoding = (yaml_encoding_t)it->encoding; return 1;
     case YAML_C_DOCUMENT_START_EVENT: return document_start_made(reading, it, event);
     case YAML_C_DOCUMENT_END_EVENT: event->data.document_end.implicit = it->implicit; return 1;
     case YAML_C_ALIAS_EVENT: return copied(reading, &event->data.alias.anchor, it->anchor);
-    case YAML_C_SCALAR_EVENT: return scalar_made(reading, it, event);
     case YAML_C_SEQUENCE_START_EVENT:
         event->data.sequence_start.implicit = it->implicit;
         event->data.sequence_start.style = (yaml_sequence_style_t)it->style;
@@ -325,27 +333,28 @@ static int misses_start(const layer_reading *reading)
 }
 
 /* Makes the event of a record. 0: memory was refused. */
-static int hand_out(yaml_parser_t *parser, layer_reading *reading, const yaml_c_event *it, yaml_event_t *event)
+static inline int hand_out(yaml_parser_t *parser, layer_reading *reading, const yaml_c_event *it, yaml_event_t *event)
 {
-    event->type = (yaml_event_type_t)it->kind;
+    int kind = it->kind;
+    event->type = (yaml_event_type_t)kind;
     memset(&event->data, 0, sizeof event->data);
-    if (!made(reading, it, event)) {
+    if (!made(reading, it, kind, event)) {
         yaml_event_delete(event);
         return layer_no_memory(parser);
     }
     event->start_mark = layer_mark(reading, &it->start);
-    event->end_mark = layer_mark(reading, &it->end);
-    parser->mark = event->end_mark;
+    parser->mark = event->end_mark = layer_mark(reading, &it->end);
     parser->stream_start_produced = 1;
-    parser->stream_end_produced = it->kind == YAML_C_STREAM_END_EVENT;
-    reading->last = it->kind;
+    parser->stream_end_produced = kind == YAML_C_STREAM_END_EVENT;
+    reading->last = kind;
     return 1;
 }
 
-/* The next event, where none is at hand; in front of a fault also the document's start that the core doesn't tell, which is put
- * there. NULL: there is none, and the parser tells why. */
-static const yaml_c_event *read_on(yaml_parser_t *parser, layer_reading *reading, yaml_c_event *missed)
+/* The next event, where none is at hand; in front of a fault also the document's start that the core doesn't tell. NULL: there is
+ * none, and the parser tells why. */
+LAYER_RARE static const yaml_c_event *read_on(yaml_parser_t *parser, layer_reading *reading)
 {
+    yaml_c_event *missed = &reading->missed;
     if (!layer_read(parser, reading, LAYER_EVENTS))
         return NULL;
     if (reading->next < reading->end)
@@ -365,17 +374,21 @@ YAML_DECLARE(int) yaml_parser_parse(yaml_parser_t *parser, yaml_event_t *event)
 {
     assert(parser && event);
     layer_reading *reading = LAYER_STATE(layer_reading, parser);
-    yaml_c_event missed;
+    const yaml_c_event *it;
     if (parser->error || parser->stream_end_produced) {
         layer_clear(event);
         return 1;
     }
-    int is_there = reading->asked == LAYER_EVENTS && reading->next < reading->end;
-    if (is_there)
-        give_back(reading);
-    const yaml_c_event *it = is_there ? &reading->events[reading->next++] : read_on(parser, reading, &missed);
-    if (it)
-        return hand_out(parser, reading, it, event);
-    layer_clear(event);
-    return 0;
+    if (reading->asked == LAYER_EVENTS && reading->next < reading->end) {
+        if (reading->end >= 2 * LAYER_FEW_EVENTS)
+            give_back(reading);
+        it = &reading->events[reading->next++];
+    } else {
+        it = read_on(parser, reading);
+        if (!it) {
+            layer_clear(event);
+            return 0;
+        }
+    }
+    return hand_out(parser, reading, it, event);
 }

@@ -14,7 +14,7 @@ static inline int put_if(layer_writing *w, yaml_c_span *span, const yaml_char_t 
     return !text || put(w, span, text, strlen((const char *)text));
 }
 
-static int put_names(layer_writing *w, yaml_c_event *record, const yaml_char_t *anchor, const yaml_char_t *tag)
+LAYER_RARE static int put_names(layer_writing *w, yaml_c_event *record, const yaml_char_t *anchor, const yaml_char_t *tag)
 {
     record->has_anchor = anchor != NULL;
     record->has_tag = tag != NULL;
@@ -24,11 +24,11 @@ static int put_names(layer_writing *w, yaml_c_event *record, const yaml_char_t *
 /* A node's properties. A tag that isn't written isn't kept: the core's definitions don't look at it either (kept_tag). */
 static inline int put_properties(layer_writing *w, yaml_c_event *record, const yaml_char_t *anchor, const yaml_char_t *tag)
 {
-    const yaml_char_t *written = w->is_canonical | !(record->implicit | record->quoted_implicit) ? tag : NULL;
+    const yaml_char_t *written = (w->is_canonical | !(record->implicit | record->quoted_implicit)) ? tag : NULL;
     return (!anchor && !written) || put_names(w, record, anchor, written);
 }
 
-static int put_document_start(layer_writing *w, yaml_c_event *record, const yaml_event_t *event)
+LAYER_RARE static int put_document_start(layer_writing *w, yaml_c_event *record, const yaml_event_t *event)
 {
     const yaml_version_directive_t *version = event->data.document_start.version_directive;
     const yaml_tag_directive_t *it = event->data.document_start.tag_directives.start;
@@ -59,7 +59,7 @@ static inline int put_scalar(layer_writing *w, yaml_c_event *record, const yaml_
            && put(w, &record->value, event->data.scalar.value, event->data.scalar.length);
 }
 
-static int put_alias(layer_writing *w, yaml_c_event *record, const yaml_char_t *anchor)
+LAYER_RARE static int put_alias(layer_writing *w, yaml_c_event *record, const yaml_char_t *anchor)
 {
     record->anchor.at = record->anchor.len = 0;
     return put_if(w, &record->anchor, anchor);

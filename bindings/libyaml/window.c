@@ -80,10 +80,18 @@ static size_t cut_before(const uint8_t *text, size_t mark)
     return 0;
 }
 
+/* A place no further on, which is that less a multiple of three: what isn't looked at again has no dash at every third byte. */
+static size_t back_to_dash(const uint8_t *text, size_t at, size_t from)
+{
+    while (at >= from + 12 && text[at - 3] != '-' && text[at - 6] != '-' && text[at - 9] != '-' && text[at - 12] != '-')
+        at -= 12;
+    return at;
+}
+
 /* Of three dashes every third byte is one: where none stands there, no document begins within two bytes of it. */
 size_t layer_last_cut(const uint8_t *text, size_t len, size_t from)
 {
-    for (size_t at = len; at >= from + 3; at -= 3)
+    for (size_t at = back_to_dash(text, len, from); at >= from + 3; at = back_to_dash(text, at - 3, from))
         for (size_t k = 0; k < 3 && text[at - 3] == '-'; k++) {
             size_t mark = at - 3 > k ? at - 3 - k : 0;
             if (mark > from && text[mark - 1] == '\n' && is_document_start(text, len, mark)) {

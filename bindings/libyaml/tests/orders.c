@@ -92,6 +92,7 @@ static int write_some(void *data, unsigned char *buffer, size_t size)
     (void)data;
     for (size_t i = 0; i < size; i++)
         all ^= buffer[i];
+    (void)all;
     return !(may_fail && !any(6));
 }
 
@@ -184,6 +185,7 @@ static void look(const yaml_parser_t *parser)
     if (parser->error == YAML_MEMORY_ERROR)
         return;
     all += *parser->buffer.pointer + strlen(parser->problem) + (parser->context ? strlen(parser->context) : 0);
+    (void)all;
 }
 
 static void ask(yaml_parser_t *parser, int kind)

@@ -3,7 +3,7 @@
 use crate::engine::{Difference, Engine, Side};
 use crate::fault::{FAILED, UNJUDGED, run_failed, shown, unread};
 use crate::file::{STANDARD, Streams, Unread, flushed, whole_of, write_answer};
-use crate::order::{Measure, Order};
+use crate::order::{Does, Measure, Order};
 use crate::places::{Source, push_difference};
 use std::alloc::Global;
 use std::io::{Read, Write};
@@ -34,7 +34,7 @@ fn pair_of<'a>(order: &Order<'_, 'a>) -> Pair<'a> {
         first,
         second,
         is_itself: first == STANDARD && second == STANDARD,
-        shows: order.name == "diff",
+        shows: matches!(order.does, Does::Diff),
     }
 }
 
@@ -55,29 +55,33 @@ fn fault_of(why: &Unread) -> yaml_run_fault_t {
     }
 }
 
+// Tells why a file of two wasn't read; answers the status.
+fn unread_side<E: Write>(
+    alloc: Global,
+    errors: &mut E,
+    shows: bool,
+    name: &str,
+    side: Side,
+    why: &Unread,
+) -> u8 {
+    if shows {
+        unread(errors, false, name, why)
+    } else {
+        run_failed(alloc, errors, input_name(side), &fault_of(why))
+    }
+}
+
 // Reads a file of two. Where it couldn't be read that is told, and its status is the answer.
 fn read_side<H: Files + AllocGlobal, R: Read, W, E: Write>(
     rt: &H,
-    pair: &Pair<'_>,
+    shows: bool,
+    name: &str,
     side: Side,
     streams: &mut Streams<R, W, E>,
 ) -> Result<Vec<u8>, u8> {
-    let name = match side {
-        Side::First => pair.first,
-        Side::Second => pair.second,
-    };
     match whole_of(rt, name, streams) {
         Ok(bytes) => Ok(bytes),
-        Err(why) if pair.shows => {
-            unread(&mut streams.errors, name, &why);
-            Err(UNJUDGED)
-        }
-        Err(why) => Err(run_failed(
-            rt.alloc(),
-            &mut streams.errors,
-            input_name(side),
-            &fault_of(&why),
-        )),
+        Err(why) => Err(unread_side(rt.alloc(), &mut streams.errors, shows, name, side, &why)),
     }
 }
 
@@ -133,7 +137,7 @@ fn tell_diff<G: Engine, R, W: Write, E: Write>(
                 Side::First => first,
                 Side::Second => second,
             };
-            shown(alloc, &mut streams.errors, source, &fault);
+            let _ = shown(alloc, &mut streams.errors, false, source, &fault);
             UNJUDGED
         }
     }
@@ -176,7 +180,7 @@ fn compare_with<G: Engine, H: Files + AllocGlobal, R: Read, W: Write, E: Write>(
     if pair.is_itself {
         return compare_texts(engine, rt.alloc(), pair, first, first, streams);
     }
-    match read_side(rt, pair, Side::Second, streams) {
+    match read_side(rt, pair.shows, pair.second, Side::Second, streams) {
         Ok(second) => compare_texts(engine, rt.alloc(), pair, first, second.as_slice(), streams),
         Err(status) => status,
     }
@@ -190,7 +194,7 @@ pub(crate) fn compare<G: Engine, H: Files + AllocGlobal, R: Read, W: Write, E: W
     streams: &mut Streams<R, W, E>,
 ) -> u8 {
     let pair = pair_of(order);
-    match read_side(rt, &pair, Side::First, streams) {
+    match read_side(rt, pair.shows, pair.first, Side::First, streams) {
         Ok(first) => compare_with(engine, rt, &pair, first.as_slice(), streams),
         Err(status) => status,
     }

@@ -7,10 +7,15 @@ use crate::places::{Source, push_fault};
 use std::alloc::Global;
 use std::io::Write;
 use yaml_round_device::{yaml_fault_line, yaml_run_fault_t};
-use yaml_types::yaml_fault_t;
+use yaml_types::{yaml_error_type_t, yaml_fault_t};
 
 /// How many bytes an input may have.
 pub const INPUT_LIMIT: u64 = 1_073_741_824;
+
+// What is told of one that has more, by a run and of a file.
+const INPUT_TOO_LONG: &'static str = "input is longer than 1073741824 bytes";
+
+const TOO_LONG: &'static str = "longer than 1073741824 bytes";
 
 /// The status where a command was refused or failed.
 pub(crate) const FAILED: u8 = 1;
@@ -36,44 +41,59 @@ pub(crate) fn run_failed<E: Write>(
     input: &str,
     fault: &yaml_run_fault_t,
 ) -> u8 {
-    let _ = match fault {
-        yaml_run_fault_t::Read => writeln!(errors, "yaml_cli: cannot read the input"),
-        yaml_run_fault_t::TooLong => writeln!(
-            errors,
-            "yaml_cli: input is longer than {INPUT_LIMIT} bytes"
-        ),
-        yaml_run_fault_t::Write { written } => writeln!(
-            errors,
-            "yaml_cli: write failed after {written} bytes"
-        ),
+    let what = match fault {
+        yaml_run_fault_t::Read => "cannot read the input",
+        yaml_run_fault_t::TooLong => INPUT_TOO_LONG,
+        yaml_run_fault_t::Write { written } => {
+            let _ = writeln!(errors, "yaml_cli: write failed after {written} bytes");
+            return FAILED;
+        }
         yaml_run_fault_t::Yaml(fault) => {
             tell_fault(alloc, errors, input, fault);
-            Ok(())
+            return FAILED;
         }
     };
+    let _ = writeln!(errors, "yaml_cli: {what}");
     FAILED
 }
 
-/// Tells why a file wasn't read.
-pub(crate) fn unread<E: Write>(errors: &mut E, name: &str, why: &Unread) {
-    let _ = match why {
-        Unread::Failed(error) => writeln!(errors, "yaml_cli: {name}: {error}"),
-        Unread::TooLong => writeln!(errors, "yaml_cli: {name}: longer than {INPUT_LIMIT} bytes"),
-        Unread::Short => writeln!(errors, "yaml_cli: {name}: out of memory"),
-        Unread::Unlisted(what) => writeln!(errors, "yaml_cli: {name}: {what}"),
+/// Tells why a file wasn't read, unless `quiet`; answers the status.
+pub(crate) fn unread<E: Write>(errors: &mut E, quiet: bool, name: &str, why: &Unread) -> u8 {
+    if quiet {
+        return UNJUDGED;
+    }
+    let what = match why {
+        Unread::Failed(error) => {
+            let _ = writeln!(errors, "yaml_cli: {name}: {error}");
+            return UNJUDGED;
+        }
+        Unread::TooLong => TOO_LONG,
+        Unread::Short => "out of memory",
+        Unread::Unlisted(what) => *what,
     };
+    let _ = writeln!(errors, "yaml_cli: {name}: {what}");
+    UNJUDGED
 }
 
-/// Shows the fault of a file. Of want of memory, where there is none for the line either, only the status tells.
+/// Shows the fault of a file, unless `quiet`; answers the status. Of want of memory, where there is none for the line either, only
+/// the status tells.
 pub(crate) fn shown<E: Write>(
     alloc: Global,
     errors: &mut E,
+    quiet: bool,
     source: Source<'_>,
     fault: &yaml_fault_t,
-) {
-    let mut text = String::new(alloc);
-    if push_fault(&mut text, source, fault).is_ok() {
-        let _ = write!(errors, "{text}");
+) -> u8 {
+    if !quiet {
+        let mut text = String::new(alloc);
+        if push_fault(&mut text, source, fault).is_ok() {
+            let _ = write!(errors, "{text}");
+        }
+    }
+    if fault.kind == yaml_error_type_t::YAML_MEMORY_ERROR {
+        UNJUDGED
+    } else {
+        FAILED
     }
 }
 

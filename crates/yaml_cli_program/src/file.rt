@@ -24,6 +24,8 @@ pub(crate) struct Streams<R, W, E> {
     pub(crate) errors: E,
     // Where each piece of what is read lies first.
     piece: Vec<u8>,
+    /// The output takes no more names, so that no further file is judged.
+    pub(crate) stopped: bool,
 }
 
 impl<R, W, E> Streams<R, W, E> {
@@ -33,6 +35,7 @@ impl<R, W, E> Streams<R, W, E> {
             output,
             errors,
             piece: Vec::new(alloc),
+            stopped: false,
         }
     }
 }

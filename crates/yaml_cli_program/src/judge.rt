@@ -2,50 +2,23 @@
 //! what is wrong with one doesn't keep the next from being judged.
 
 use crate::engine::Engine;
-use crate::fault::{FAILED, UNJUDGED, shown, unread};
+use crate::fault::{FAILED, shown, unread};
 use crate::file::{STANDARD, Streams, Unread, flushed, whole_of};
 use crate::order::{Judging, Order};
 use crate::places::Source;
 use std::alloc::Global;
 use std::io::{Read, Write};
 use std::rt::Files;
-use yaml_types::{yaml_error_type_t, yaml_fault_t};
-
-/// The status that a file gives by itself; as an error where no further one is to be judged.
-type Verdict = Result<u8, u8>;
-
-// Tells why a file, or a list of files, wasn't read.
-fn unread_of<E: Write>(errors: &mut E, judging: &Judging, name: &str, why: &Unread) -> u8 {
-    if !judging.quiet {
-        unread(errors, name, why);
-    }
-    UNJUDGED
-}
-
-// Tells the fault of a file.
-fn refused<E: Write>(
-    alloc: Global,
-    errors: &mut E,
-    judging: &Judging,
-    source: Source<'_>,
-    fault: &yaml_fault_t,
-) -> u8 {
-    if !judging.quiet {
-        shown(alloc, errors, source, fault);
-    }
-    if fault.kind == yaml_error_type_t::YAML_MEMORY_ERROR {
-        UNJUDGED
-    } else {
-        FAILED
-    }
-}
 
 // Names a file that isn't as it was asked for.
-fn name_file<R, W: Write, E: Write>(name: &str, streams: &mut Streams<R, W, E>) -> Verdict {
+fn name_file<R, W: Write, E: Write>(name: &str, streams: &mut Streams<R, W, E>) -> u8 {
     let written = writeln!(streams.output, "{name}");
     match flushed(written, streams) {
-        0 => Ok(FAILED),
-        status => Err(status),
+        0 => FAILED,
+        status => {
+            streams.stopped = true;
+            status
+        }
     }
 }
 
@@ -62,7 +35,7 @@ fn write_normal<G: Engine, R, W: Write, E: Write>(
             let written = streams.output.write_all(text.as_slice());
             flushed(written, streams)
         }
-        Err(fault) => refused(alloc, &mut streams.errors, judging, source, &fault),
+        Err(fault) => shown(alloc, &mut streams.errors, judging.quiet, source, &fault),
     }
 }
 
@@ -72,15 +45,15 @@ fn judge_text<G: Engine, R, W: Write, E: Write>(
     order: &Order<'_, '_>,
     source: Source<'_>,
     streams: &mut Streams<R, W, E>,
-) -> Verdict {
+) -> u8 {
     let judging = &order.judging;
     if !order.judges {
-        return Ok(write_normal(engine, alloc, judging, source, streams));
+        return write_normal(engine, alloc, judging, source, streams);
     }
     match engine.judge(alloc, judging, source.input) {
-        Ok(true) => Ok(0),
+        Ok(true) => 0,
         Ok(false) => name_file(source.name, streams),
-        Err(fault) => Ok(refused(alloc, &mut streams.errors, judging, source, &fault)),
+        Err(fault) => shown(alloc, &mut streams.errors, judging.quiet, source, &fault),
     }
 }
 
@@ -90,7 +63,7 @@ fn judge_file<G: Engine, H: Files + AllocGlobal, R: Read, W: Write, E: Write>(
     order: &Order<'_, '_>,
     name: &str,
     streams: &mut Streams<R, W, E>,
-) -> Verdict {
+) -> u8 {
     match whole_of(rt, name, streams) {
         Ok(input) => {
             let input = input.as_slice();
@@ -103,7 +76,7 @@ fn judge_file<G: Engine, H: Files + AllocGlobal, R: Read, W: Write, E: Write>(
                 streams,
             )
         }
-        Err(why) => Ok(unread_of(&mut streams.errors, &order.judging, name, &why)),
+        Err(why) => unread(&mut streams.errors, order.judging.quiet, name, &why),
     }
 }
 
@@ -113,15 +86,16 @@ fn judge_files<G: Engine, H: Files + AllocGlobal, R: Read, W: Write, E: Write>(
     order: &Order<'_, '_>,
     files: &[&str],
     streams: &mut Streams<R, W, E>,
-) -> Verdict {
+) -> u8 {
     let mut worst = 0;
     for name in files {
-        match judge_file(engine, rt, order, name, streams) {
-            Ok(status) => worst = status.max(worst),
-            Err(status) => return Err(status),
+        let status = judge_file(engine, rt, order, name, streams);
+        if streams.stopped {
+            return status;
         }
+        worst = status.max(worst);
     }
-    Ok(worst)
+    worst
 }
 
 // The same of files that a list names, each name ended by a zero byte; answers the status.
@@ -135,22 +109,23 @@ fn judge_names<G: Engine, H: Files + AllocGlobal, R: Read, W: Write, E: Write>(
     let mut worst = 0;
     for name in names.split('\0') {
         if !name.is_empty() {
-            match judge_file(engine, rt, order, name, streams) {
-                Ok(status) => worst = status.max(worst),
-                Err(status) => return status,
+            let status = judge_file(engine, rt, order, name, streams);
+            if streams.stopped {
+                return status;
             }
+            worst = status.max(worst);
         }
     }
     worst
 }
 
 // The names of a list, or why there are none.
-fn names_of(text: &[u8]) -> Result<&str, &'static str> {
+fn names_of(text: &[u8]) -> Result<&str, Unread> {
     let Ok(names) = str::from_utf8(text) else {
-        return Err("a name isn't UTF-8");
+        return Err(Unread::Unlisted("a name isn't UTF-8"));
     };
     if names.trim_matches('\0').is_empty() {
-        return Err("no file is named");
+        return Err(Unread::Unlisted("no file is named"));
     }
     Ok(names)
 }
@@ -165,10 +140,7 @@ fn judge_list<G: Engine, H: Files + AllocGlobal, R: Read, W: Write, E: Write>(
 ) -> u8 {
     match names_of(text) {
         Ok(names) => judge_names(engine, rt, order, names, streams),
-        Err(what) => {
-            let why = Unread::Unlisted(what);
-            unread_of(&mut streams.errors, &order.judging, list, &why)
-        }
+        Err(why) => unread(&mut streams.errors, order.judging.quiet, list, &why),
     }
 }
 
@@ -181,7 +153,7 @@ fn judge_listed<G: Engine, H: Files + AllocGlobal, R: Read, W: Write, E: Write>(
 ) -> u8 {
     match whole_of(rt, list, streams) {
         Ok(text) => judge_list(engine, rt, order, list, text.as_slice(), streams),
-        Err(why) => unread_of(&mut streams.errors, &order.judging, list, &why),
+        Err(why) => unread(&mut streams.errors, order.judging.quiet, list, &why),
     }
 }
 
@@ -199,11 +171,11 @@ pub(crate) fn judge_all<G: Engine, H: Files + AllocGlobal, R: Read, W: Write, E:
     } else {
         order.files
     };
-    match judge_files(engine, rt, order, files, streams) {
-        Ok(status) => match list {
-            Some(list) => judge_listed(engine, rt, order, list, streams).max(status),
-            None => status,
-        },
-        Err(status) => status,
+    let status = judge_files(engine, rt, order, files, streams);
+    match list {
+        Some(list) if !streams.stopped => {
+            judge_listed(engine, rt, order, list, streams).max(status)
+        }
+        _ => status,
     }
 }

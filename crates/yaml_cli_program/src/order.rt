@@ -48,11 +48,22 @@ pub struct Measure {
     pub documents: bool,
 }
 
+/// What a command does.
+#[derive(Clone, Copy)]
+pub(crate) enum Does {
+    /// It rewrites a file, or judges files by that.
+    Run(yaml_command_t),
+    /// It writes the normal form of a file, or judges files by that.
+    Norm,
+    Same,
+    Diff,
+    Check,
+}
+
 /// What the program is told to do.
 #[derive(Clone, Copy)]
 pub(crate) struct Order<'o, 'a> {
-    /// The command.
-    pub(crate) name: &'a str,
+    pub(crate) does: Does,
     /// What stands behind it.
     pub(crate) told: &'o ArgMatches<'a>,
     /// The files; standard input where there are none.
@@ -72,42 +83,49 @@ pub(crate) enum Wrong<'a> {
     Extra { command: &'a str, word: &'a str },
 }
 
-// A word that the command doesn't have is as where it is left out.
-
-fn break_in<'a>(told: &ArgMatches<'a>) -> Result<yaml_break_t, Wrong<'a>> {
-    match told.get_str("break").unwrap_or("lf") {
-        "lf" => Ok(yaml_break_t::YAML_LN_BREAK),
-        "cr" => Ok(yaml_break_t::YAML_CR_BREAK),
-        "crlf" => Ok(yaml_break_t::YAML_CRLN_BREAK),
-        word => Err(Wrong::Unknown {
-            what: "break",
-            word,
-        }),
+/// What the rows have for the word.
+pub(crate) fn row_of<T: Copy>(rows: &[(&'static str, T)], word: &str) -> Option<T> {
+    for row in rows {
+        if row.0 == word {
+            return Some(row.1);
+        }
     }
+    None
 }
 
-fn encoding_in<'a>(told: &ArgMatches<'a>) -> Result<yaml_output_encoding_t, Wrong<'a>> {
-    match told.get_str("encoding").unwrap_or("utf8") {
-        "utf8" => Ok(yaml_output_encoding_t::Utf8),
-        "utf16le" => Ok(yaml_output_encoding_t::Utf16Le),
-        "utf16be" => Ok(yaml_output_encoding_t::Utf16Be),
-        word => Err(Wrong::Unknown {
-            what: "encoding",
-            word,
-        }),
-    }
-}
+const BREAKS: [(&'static str, yaml_break_t); 3] = [
+    ("lf", yaml_break_t::YAML_LN_BREAK),
+    ("cr", yaml_break_t::YAML_CR_BREAK),
+    ("crlf", yaml_break_t::YAML_CRLN_BREAK),
+];
 
-fn from_in<'a>(told: &ArgMatches<'a>) -> Result<yaml_encoding_t, Wrong<'a>> {
-    match told.get_str("from").unwrap_or("auto") {
-        "auto" => Ok(yaml_encoding_t::YAML_ANY_ENCODING),
-        "utf8" => Ok(yaml_encoding_t::YAML_UTF8_ENCODING),
-        "utf16le" => Ok(yaml_encoding_t::YAML_UTF16LE_ENCODING),
-        "utf16be" => Ok(yaml_encoding_t::YAML_UTF16BE_ENCODING),
-        word => Err(Wrong::Unknown {
-            what: "input encoding",
-            word,
-        }),
+const ENCODINGS: [(&'static str, yaml_output_encoding_t); 3] = [
+    ("utf8", yaml_output_encoding_t::Utf8),
+    ("utf16le", yaml_output_encoding_t::Utf16Le),
+    ("utf16be", yaml_output_encoding_t::Utf16Be),
+];
+
+const INPUT_ENCODINGS: [(&'static str, yaml_encoding_t); 4] = [
+    ("auto", yaml_encoding_t::YAML_ANY_ENCODING),
+    ("utf8", yaml_encoding_t::YAML_UTF8_ENCODING),
+    ("utf16le", yaml_encoding_t::YAML_UTF16LE_ENCODING),
+    ("utf16be", yaml_encoding_t::YAML_UTF16BE_ENCODING),
+];
+
+// What the rows have for the word of an option; the usual one where the command doesn't have it.
+fn option_in<'a, T: Copy>(
+    told: &ArgMatches<'a>,
+    option: &str,
+    what: &'static str,
+    rows: &[(&'static str, T)],
+    usual: T,
+) -> Result<T, Wrong<'a>> {
+    let Some(word) = told.get_str(option) else {
+        return Ok(usual);
+    };
+    match row_of(rows, word) {
+        Some(value) => Ok(value),
+        None => Err(Wrong::Unknown { what, word }),
     }
 }
 
@@ -126,21 +144,32 @@ fn numbers_in(told: &ArgMatches<'_>) -> yaml_settings_t {
 
 // The break is judged first, then the encoding, then how the input is encoded.
 fn manner_in<'a>(told: &ArgMatches<'a>) -> Result<Manner, Wrong<'a>> {
-    let line_break = break_in(told)?;
-    let encoding = encoding_in(told)?;
-    let from = from_in(told)?;
+    let usual = numbers_in(told);
+    let line_break = option_in(told, "break", "break", &BREAKS, usual.line_break)?;
+    let encoding = option_in(told, "encoding", "encoding", &ENCODINGS, usual.encoding)?;
+    let any = yaml_encoding_t::YAML_ANY_ENCODING;
+    let from = option_in(told, "from", "input encoding", &INPUT_ENCODINGS, any)?;
     let settings = yaml_settings_t {
         encoding,
         line_break,
-        ..numbers_in(told)
+        ..usual
     };
     Ok(Manner { from, settings })
 }
 
-fn question_of(name: &str) -> Question {
-    match name {
-        "fmt" => Question::HasForm,
-        "norm" => Question::IsNormal,
+const COMMANDS: [(&'static str, Does); 6] = [
+    ("fmt", Does::Run(yaml_command_t::Fmt)),
+    ("docs", Does::Run(yaml_command_t::Docs)),
+    ("events", Does::Run(yaml_command_t::Events)),
+    ("norm", Does::Norm),
+    ("same", Does::Same),
+    ("diff", Does::Diff),
+];
+
+fn question_of(does: Does) -> Question {
+    match does {
+        Does::Run(_) => Question::HasForm,
+        Does::Norm => Question::IsNormal,
         _ => Question::Loads,
     }
 }
@@ -151,7 +180,8 @@ pub(crate) fn order_in<'o, 'a>(
     name: &'a str,
     told: &'o ArgMatches<'a>,
 ) -> Result<Order<'o, 'a>, Wrong<'a>> {
-    let judges = name == "check" || told.get_flag("check");
+    let does = row_of(&COMMANDS, name).unwrap_or(Does::Check);
+    let judges = matches!(does, Does::Check) || told.get_flag("check");
     let files = told.get_strs("files").unwrap_or(&[]);
     if let Some(word) = files.get(1) {
         if !judges {
@@ -162,12 +192,12 @@ pub(crate) fn order_in<'o, 'a>(
         }
     }
     let judging = Judging {
-        question: question_of(name),
+        question: question_of(does),
         manner: manner_in(told)?,
         quiet: told.get_flag("quiet"),
     };
     Ok(Order {
-        name,
+        does,
         told,
         files,
         judges,

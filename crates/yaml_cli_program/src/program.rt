@@ -5,7 +5,7 @@ use crate::engine::{Ended, Engine};
 use crate::fault::{FAILED, run_failed, told_wrong};
 use crate::file::{READ_AHEAD, STANDARD, Streams};
 use crate::judge::judge_all;
-use crate::order::{Order, Task, order_in};
+use crate::order::{Does, Order, Task, order_in};
 use crate::words::{matches_of, tell};
 use clap::ArgMatches;
 use std::alloc::Global;
@@ -83,12 +83,10 @@ fn obey<G: Engine, H: Files + AllocGlobal, R: Read, W: Write, E: Write>(
     order: &Order<'_, '_>,
     streams: &mut Streams<R, W, E>,
 ) -> u8 {
-    match order.name {
-        "fmt" if !order.judges => run_file(engine, rt, yaml_command_t::Fmt, order, streams),
-        "docs" => run_file(engine, rt, yaml_command_t::Docs, order, streams),
-        "events" => run_file(engine, rt, yaml_command_t::Events, order, streams),
-        "same" | "diff" => compare(engine, rt, order, streams),
-        "norm" if !order.judges => judge_all(engine, rt, order, streams).min(FAILED),
+    match order.does {
+        Does::Run(command) if !order.judges => run_file(engine, rt, command, order, streams),
+        Does::Same | Does::Diff => compare(engine, rt, order, streams),
+        Does::Norm if !order.judges => judge_all(engine, rt, order, streams).min(FAILED),
         _ => judge_all(engine, rt, order, streams),
     }
 }
@@ -109,19 +107,6 @@ fn follow<G: Engine, H: Files + AllocGlobal, R: Read, W: Write, E: Write>(
     }
 }
 
-// Does what the words say. Answers the status.
-fn obey_words<G: Engine, H: Files + AllocGlobal, S: AsStr, R: Read, W: Write, E: Write>(
-    engine: &G,
-    rt: &H,
-    words: &[S],
-    streams: &mut Streams<R, W, E>,
-) -> u8 {
-    match matches_of(rt.alloc(), words) {
-        Ok(matches) => follow(engine, rt, &matches, streams),
-        Err(error) => tell(&error, streams),
-    }
-}
-
 /// Does what the words say, the program's name first, by `engine`, over `input`, `output` and `errors`; files are opened
 /// through `rt`. Answers the status: 0, 1 where a command was refused or failed, 2 where a word is wrong. A refusal is a line
 /// on `errors`; nothing is written to `output` then, but for a front of the text where writing itself fails.
@@ -134,5 +119,8 @@ pub fn main_by<G: Engine, H: Files + AllocGlobal, S: AsStr, R: Read, W: Write, E
     errors: &mut E,
 ) -> u8 {
     let mut streams = Streams::new(rt.alloc(), input, output, errors);
-    obey_words(engine, rt, words, &mut streams)
+    match matches_of(rt.alloc(), words) {
+        Ok(matches) => follow(engine, rt, &matches, &mut streams),
+        Err(error) => tell(&error, &mut streams),
+    }
 }

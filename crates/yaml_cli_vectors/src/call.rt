@@ -1,11 +1,12 @@
 //! The calls that lines name.
 
 use crate::engine::{self, Asked, Compared, Made};
-use crate::reading::{self, Source, next_tokens, parse_calls, parse_line, scan};
+use crate::input::Input;
+use crate::lines::{Reply, tokens};
+use crate::reading::{Wanted, next_tokens, parse_input, parse_tokens, scan};
 use crate::writing::{Given, emit_limits, emit_line, emit_pieces};
 use crate::{checks, limits, lookup, program, read_all, run};
 use serde_json::Value;
-use yaml_cli_vector_lines::{Reply, tokens};
 
 // What a line calls.
 #[derive(Clone, Copy)]
@@ -19,11 +20,13 @@ enum Call {
     // A session over an input: its tokens, or by calls.
     Scan { by_calls: bool },
     NextTokens,
+    // A parser of an input.
+    Parse(Wanted),
     // A parser of tokens.
-    Parse(Source, reading::Asked),
+    ParseTokens(Wanted),
     // A parser of tokens, or of an input, by calls.
     ParseCalls,
-    // An emitter.
+    // An emitter of what the line lists.
     Emit(Given),
     EmitLimits,
     EmitPieces,
@@ -51,21 +54,12 @@ const CALLS: [(&'static str, Call); 32] = [
     ("scan", Call::Scan { by_calls: false }),
     ("scan_calls", Call::Scan { by_calls: true }),
     ("next_tokens", Call::NextTokens),
-    ("parse", Call::Parse(Source::Input, reading::Asked::Events)),
-    (
-        "parse_tokens",
-        Call::Parse(Source::Tokens, reading::Asked::Events),
-    ),
-    (
-        "load",
-        Call::Parse(Source::Input, reading::Asked::Documents),
-    ),
-    (
-        "load_tokens",
-        Call::Parse(Source::Tokens, reading::Asked::Documents),
-    ),
+    ("parse", Call::Parse(Wanted::Events)),
+    ("parse_tokens", Call::ParseTokens(Wanted::Events)),
+    ("load", Call::Parse(Wanted::Documents)),
+    ("load_tokens", Call::ParseTokens(Wanted::Documents)),
     ("parse_calls", Call::ParseCalls),
-    ("emit", Call::Emit(Given::Input)),
+    ("emit", Call::Parse(Wanted::Text)),
     ("emit_events", Call::Emit(Given::Events)),
     ("emit_calls", Call::Emit(Given::Calls)),
     ("dump", Call::Emit(Given::Document)),
@@ -81,42 +75,45 @@ const CALLS: [(&'static str, Call); 32] = [
     ("check", Call::Check),
 ];
 
-// What calls of a parser, one after another, answer: of the line's tokens, or of its input.
-fn answer_calls(reply: &mut Reply, line: &Value) {
-    if line.get("tokens").is_some() {
-        parse_line(reply, line, Source::Tokens, reading::Asked::Calls);
-    } else {
-        parse_calls::answer(reply, line);
+// What a call answers on the line's input.
+fn answer_input(reply: &mut Reply, line: &Value, call: Call, input: Input<'_>) {
+    match call {
+        Call::Ask(asked) => engine::ask(reply, line, asked, input),
+        Call::Make(made) => engine::make(reply, line, made, input),
+        Call::Compare(compared) => engine::compare(reply, line, compared, input),
+        Call::Scan { by_calls } => scan::answer(reply, line, by_calls, input),
+        Call::NextTokens => next_tokens::answer(reply, line, input),
+        Call::Parse(wanted) => parse_input(reply, line, wanted, input),
+        Call::LeastLimit => limits::least_limit(reply, line, input),
+        Call::Lookup => lookup::answer(reply, line, input),
+        Call::Run => run::run(reply, line, input),
+        _ => parse_input(reply, line, Wanted::Calls, input),
     }
 }
 
-// What a call of a member below the engine answers on the line, or a check.
-fn answer_member(reply: &mut Reply, line: &Value, call: Call) {
-    match call {
-        Call::Scan { by_calls } => scan::answer(reply, line, by_calls),
-        Call::NextTokens => next_tokens::answer(reply, line),
-        Call::Parse(source, asked) => parse_line(reply, line, source, asked),
-        Call::ParseCalls => answer_calls(reply, line),
-        Call::Emit(given) => emit_line(reply, line, given),
-        Call::EmitLimits => emit_limits::answer(reply, line),
-        Call::EmitPieces => emit_pieces::answer(reply, line),
-        Call::Tokens => tokens(reply, line),
-        _ => checks::answer(reply, line),
-    }
+// One function owns the input of all calls that have one.
+fn ask_input(reply: &mut Reply, line: &Value, call: Call) {
+    let from = reply.encoding(line, "from");
+    let text = reply.input(line, "input");
+    let text = text.as_slice();
+    answer_input(reply, line, call, Input { text, from });
 }
 
 /// What the call that the line names answers; the reply keeps the fault where it only refuses.
 pub fn answer(rt: &HostRuntime, reply: &mut Reply, line: &Value) {
     match reply.choice(line, "call", &CALLS, Call::Check) {
-        Call::Ask(asked) => engine::ask(reply, line, asked),
-        Call::Make(made) => engine::make(reply, line, made),
-        Call::Compare(compared) => engine::compare(reply, line, compared),
-        Call::LeastLimit => limits::least_limit(reply, line),
-        Call::Lookup => lookup::answer(reply, line),
-        Call::Run => run::run(reply, line),
+        Call::ParseTokens(wanted) => parse_tokens(reply, line, wanted),
+        Call::ParseCalls if line.get("tokens").is_some() => {
+            parse_tokens(reply, line, Wanted::Calls)
+        }
+        Call::Emit(given) => emit_line(reply, line, given),
+        Call::EmitLimits => emit_limits::answer(reply, line),
+        Call::EmitPieces => emit_pieces::answer(reply, line),
         Call::Main => program::run(rt, reply, line),
         Call::ReadAll => read_all::answer(reply, line),
         Call::Told => engine::told(reply, line),
-        call => answer_member(reply, line, call),
+        Call::Tokens => tokens(reply, line),
+        Call::Check => checks::answer(reply, line),
+        call => ask_input(reply, line, call),
     }
 }

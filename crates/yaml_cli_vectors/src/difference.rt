@@ -1,6 +1,6 @@
 //! Where two inputs part, as a line has it.
 
-use yaml_cli_vector_lines::{Part, Reply};
+use crate::lines::{Part, Reply};
 use yaml_round::{yaml_difference_t, yaml_step_t};
 use yaml_scan::{yaml_event_type_t, yaml_mark_t};
 

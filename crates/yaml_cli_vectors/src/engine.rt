@@ -2,10 +2,10 @@
 //! decoder's.
 
 use crate::difference::put_difference;
-use crate::given::given_of;
-use crate::text::{put_answer, put_made};
+use crate::input::{Input, settings};
+use crate::lines::{Part, Reply, own_fault};
+use crate::text::{put_answer, put_made, put_text};
 use serde_json::Value;
-use yaml_cli_vector_lines::{Part, Reply, own_fault};
 use yaml_round::{
     yaml_check, yaml_diff, yaml_diff_documents, yaml_difference_t, yaml_events, yaml_fault_line,
     yaml_fault_t, yaml_normalize, yaml_reformat, yaml_reload, yaml_same, yaml_settings_t,
@@ -26,43 +26,35 @@ pub enum Asked {
     FaultLine,
 }
 
-fn put_loads(reply: &mut Reply, loads: Result<(), yaml_fault_t>) {
-    match loads {
-        Ok(()) => reply.answer(Part::Flag(true)),
-        Err(fault) => reply.fault(fault),
-    }
-}
-
 /// The line that tells the fault.
 pub fn put_line(reply: &mut Reply, fault: &yaml_fault_t) {
-    match yaml_fault_line(reply.alloc(), fault) {
+    match yaml_fault_line(reply.alloc, fault) {
         Ok(text) => reply.put(Part::Bytes(text.as_slice())),
         Err(fault) => reply.fault(fault),
     }
 }
 
 fn put_fault_line(reply: &mut Reply, fault: Option<yaml_fault_t>) {
-    reply.put(Part::Object);
     reply.put(Part::Name("answer"));
     match fault {
         Some(fault) => put_line(reply, &fault),
         None => reply.put(Part::Null),
     }
-    reply.put(Part::EndObject);
 }
 
-/// What the line's input answers, or its fault.
-pub fn ask(reply: &mut Reply, line: &Value, asked: Asked) {
-    let from = reply.encoding(line, "from");
-    let input = reply.input(line, "input");
-    let (alloc, text) = (reply.alloc(), input.as_slice());
+/// What the input answers, or its fault.
+pub fn ask(reply: &mut Reply, line: &Value, asked: Asked, input: Input<'_>) {
+    let (alloc, text, from) = (reply.alloc, input.text, input.from);
     match asked {
         Asked::Decode => match yaml_decode(alloc, text, from) {
-            Ok(text) => put_answer(reply, line, text.as_slice(), None),
+            Ok(text) => put_text(reply, line, text.as_slice()),
             Err(fault) => reply.fault(fault),
         },
         Asked::Events => put_made(reply, line, yaml_events(alloc, text, from)),
-        Asked::Loads => put_loads(reply, yaml_check(alloc, text, from)),
+        Asked::Loads => {
+            reply.done(yaml_check(alloc, text, from).err());
+            reply.field("answer", Part::Flag(true));
+        }
         Asked::FaultLine => {
             let made = yaml_reformat(alloc, text, from, &yaml_settings_t::new());
             put_fault_line(reply, made.err());
@@ -81,23 +73,17 @@ pub enum Made {
     Reloaded,
 }
 
-/// What is made of the line's input under its settings.
-pub fn make(reply: &mut Reply, line: &Value, wanted: Made) {
-    let given = given_of(reply, line);
-    let (alloc, input, settings) = (reply.alloc(), given.input.as_slice(), &given.settings);
+/// What is made of the input under the line's settings.
+pub fn make(reply: &mut Reply, line: &Value, wanted: Made, input: Input<'_>) {
+    let settings = settings(reply, line);
+    let (alloc, text, from) = (reply.alloc, input.text, input.from);
     match wanted {
-        Made::Reformatted => match yaml_reformat(alloc, input, given.from, settings) {
+        Made::Reformatted => match yaml_reformat(alloc, text, from, &settings) {
             Ok((text, form)) => put_answer(reply, line, text.as_slice(), Some(form)),
             Err(fault) => reply.fault(fault),
         },
-        Made::Normalized => {
-            put_made(
-                reply,
-                line,
-                yaml_normalize(alloc, input, given.from, settings),
-            )
-        }
-        Made::Reloaded => { put_made(reply, line, yaml_reload(alloc, input, given.from, settings)) }
+        Made::Normalized => put_made(reply, line, yaml_normalize(alloc, text, from, &settings)),
+        Made::Reloaded => put_made(reply, line, yaml_reload(alloc, text, from, &settings)),
     }
 }
 
@@ -113,25 +99,21 @@ fn put_side(reply: &mut Reply, line: &Value, side: yaml_side_t, fault: &yaml_fau
 
 // Puts whether two inputs are the same, or which of them is refused.
 fn put_same(reply: &mut Reply, line: &Value, same: Result<bool, (yaml_side_t, yaml_fault_t)>) {
-    reply.put(Part::Object);
     match same {
         Ok(same) => reply.field("answer", Part::Flag(same)),
         Err((side, fault)) => put_side(reply, line, side, &fault),
     }
-    reply.put(Part::EndObject);
 }
 
 type Parted = Result<Option<yaml_difference_t>, (yaml_side_t, yaml_fault_t)>;
 
 // Puts where two inputs part, or which of them is refused.
 fn put_parted(reply: &mut Reply, line: &Value, parted: Parted) {
-    reply.put(Part::Object);
     match &parted {
         Ok(None) => reply.field("answer", Part::Null),
         Ok(Some(difference)) => put_difference(reply, difference),
         Err((side, fault)) => put_side(reply, line, *side, fault),
     }
-    reply.put(Part::EndObject);
 }
 
 /// How two inputs are compared.
@@ -145,13 +127,11 @@ pub enum Compared {
     DiffDocuments,
 }
 
-/// What comparing the line's inputs answers, or the side that is refused and its fault.
-pub fn compare(reply: &mut Reply, line: &Value, compared: Compared) {
-    let from = reply.encoding(line, "from");
+/// What comparing the input with the line's second one answers, or the side that is refused and its fault.
+pub fn compare(reply: &mut Reply, line: &Value, compared: Compared, input: Input<'_>) {
     let from2 = reply.encoding(line, "from2");
-    let first = reply.input(line, "input");
-    let second = reply.input(line, "input2");
-    let (alloc, first, second) = (reply.alloc(), first.as_slice(), second.as_slice());
+    let text = reply.input(line, "input2");
+    let (alloc, first, from, second) = (reply.alloc, input.text, input.from, text.as_slice());
     match compared {
         Compared::Same => put_same(reply, line, yaml_same(alloc, first, from, second, from2)),
         Compared::Diff => put_parted(reply, line, yaml_diff(alloc, first, from, second, from2)),

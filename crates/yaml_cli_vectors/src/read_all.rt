@@ -1,27 +1,10 @@
 //! The call `read_all`: an input that is read to its end.
 
+use crate::lines::{Part, Reply, ScriptedReader};
 use crate::run::refusal_word;
 use crate::text::put_text;
 use serde_json::Value;
-use std::alloc::Global;
-use std::io::Read;
-use yaml_cli_vector_lines::{Part, Reply, ScriptedReader, Step, steps_of};
-use yaml_round::{yaml_read_all, yaml_run_fault_t, yaml_std_input_t};
-
-type Answered = Result<Vec<u8>, yaml_run_fault_t>;
-
-fn read_to_end<R: Read>(alloc: Global, reader: &mut R, limit: u64) -> Answered {
-    let mut input = yaml_std_input_t::new(reader);
-    yaml_read_all(alloc, &mut input, limit)
-}
-
-// The bytes, or why there are none.
-fn put_read(reply: &mut Reply, line: &Value, read: &Answered) {
-    match read {
-        Ok(text) => put_text(reply, line, text.as_slice()),
-        Err(fault) => reply.field("refused", Part::Word(refusal_word(fault))),
-    }
-}
+use yaml_round::{yaml_read_all, yaml_std_input_t};
 
 // How many bytes the reader was asked for, where the line wants that.
 fn put_sizes(reply: &mut Reply, line: &Value, sizes: &[usize]) {
@@ -34,19 +17,14 @@ fn put_sizes(reply: &mut Reply, line: &Value, sizes: &[usize]) {
     }
 }
 
-fn put_all(reply: &mut Reply, line: &Value, bytes: &[u8], steps: &[Step], limit: u64) {
-    let mut reader = ScriptedReader::new(reply.alloc(), bytes, steps);
-    let read = read_to_end(reply.alloc(), &mut reader, limit);
-    reply.put(Part::Object);
-    put_read(reply, line, &read);
-    put_sizes(reply, line, reader.sizes.as_slice());
-    reply.put(Part::EndObject);
-}
-
-/// What is read of the line's input, which comes as its steps say, under its limit.
+/// What is read of the line's input, which comes as its steps say, under its limit; or why there are no bytes.
 pub fn answer(reply: &mut Reply, line: &Value) {
     let limit = reply.count(line, "input_limit");
-    let input = reply.input(line, "input");
-    let reads = steps_of(reply, line, "reads");
-    put_all(reply, line, input.as_slice(), reads.as_slice(), limit);
+    let mut reader = ScriptedReader::of(reply, line);
+    let mut source = yaml_std_input_t::new(&mut reader);
+    match yaml_read_all(reply.alloc, &mut source, limit) {
+        Ok(text) => put_text(reply, line, text.as_slice()),
+        Err(fault) => reply.field("refused", Part::Word(refusal_word(&fault))),
+    }
+    put_sizes(reply, line, reader.sizes.as_slice());
 }

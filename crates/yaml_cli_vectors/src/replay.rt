@@ -2,37 +2,27 @@
 
 use crate::call::answer;
 use crate::engine::put_line;
+use crate::lines::{Outcome, Part, Reply, VectorError, compare, json_error};
 use serde_json::Value;
 use std::alloc::Global;
-use yaml_cli_vector_lines::{Outcome, Part, Reply, VectorError, compare, json_error};
 use yaml_scan::yaml_fault_t;
 
 // The fault, and the line that tells it where the vector wants that.
-fn put_refusal(reply: &mut Reply, line: &Value, fault: &yaml_fault_t) {
-    reply.put(Part::Object);
+fn refusal(alloc: Global, line: &Value, fault: &yaml_fault_t) -> Result<Vec<u8>, VectorError> {
+    let mut reply = Reply::new(alloc);
     reply.name_fault(line, fault);
     if line.get("fault_line").is_some() {
         reply.put(Part::Name("fault_line"));
-        put_line(reply, fault);
+        put_line(&mut reply, fault);
     }
-    reply.put(Part::EndObject);
-}
-
-fn refusal(alloc: Global, line: &Value, fault: &yaml_fault_t) -> Result<Vec<u8>, VectorError> {
-    let mut reply = Reply::new(alloc);
-    put_refusal(&mut reply, line, fault);
-    reply.finish()
-}
-
-fn answered(rt: &HostRuntime, line: &Value) -> Result<Vec<u8>, VectorError> {
-    let mut reply = Reply::new(rt.alloc());
-    answer(rt, &mut reply, line);
     reply.finish()
 }
 
 // What the call answers on the line, its refusal too.
 fn whole_answer(rt: &HostRuntime, line: &Value) -> Result<Vec<u8>, VectorError> {
-    match answered(rt, line) {
+    let mut reply = Reply::new(rt.alloc());
+    answer(rt, &mut reply, line);
+    match reply.finish() {
         Err(VectorError::Fault(fault)) => refusal(rt.alloc(), line, &fault),
         answer => answer,
     }

@@ -1,9 +1,9 @@
 //! The call `run`: a run of a command over memory.
 
-use crate::given::{Given, given_of};
+use crate::input::{Input, settings};
+use crate::lines::{Part, Reply};
 use crate::text::put_answer;
 use serde_json::Value;
-use yaml_cli_vector_lines::Reply;
 use yaml_round::{
     yaml_command_t, yaml_form_t, yaml_run, yaml_run_fault_t, yaml_std_input_t, yaml_std_output_t,
 };
@@ -28,20 +28,21 @@ type Ended = Result<Option<yaml_form_t>, yaml_run_fault_t>;
 
 // The text that the command makes of the input, behind which stands its form.
 fn run_over(
-    output: &mut yaml_std_output_t<&mut Vec<u8>>,
+    text: &mut Vec<u8>,
     reply: &mut Reply,
-    given: &Given,
+    line: &Value,
     command: yaml_command_t,
-    limit: u64,
+    input: Input<'_>,
 ) -> Ended {
-    let mut input = yaml_std_input_t::new(given.input.as_slice());
+    let limit = reply.count(line, "input_limit");
+    let settings = settings(reply, line);
     yaml_run(
-        reply.alloc(),
-        &mut input,
-        output,
+        reply.alloc,
+        &mut yaml_std_input_t::new(input.text),
+        &mut yaml_std_output_t::new(text),
         command,
-        given.from,
-        &given.settings,
+        input.from,
+        &settings,
         limit,
     )
 }
@@ -50,27 +51,15 @@ fn put_ended(reply: &mut Reply, line: &Value, text: &[u8], ended: &Ended) {
     match ended {
         Ok(form) => put_answer(reply, line, text, *form),
         Err(yaml_run_fault_t::Yaml(fault)) => reply.fault(*fault),
-        Err(fault) => reply.refusal(refusal_word(fault)),
+        Err(fault) => reply.field("refused", Part::Word(refusal_word(fault))),
     }
-}
-
-fn put_run(reply: &mut Reply, line: &Value, given: &Given, command: yaml_command_t, limit: u64) {
-    let mut text = Vec::new(reply.alloc());
-    let ended = run_over(
-        &mut yaml_std_output_t::new(&mut text),
-        reply,
-        given,
-        command,
-        limit,
-    );
-    put_ended(reply, line, text.as_slice(), &ended);
 }
 
 /// The text that the line's command makes of its input, and the form that it has; `TooLong` where the input has more bytes
 /// than `input_limit`.
-pub fn run(reply: &mut Reply, line: &Value) {
+pub fn run(reply: &mut Reply, line: &Value, input: Input<'_>) {
     let command = reply.choice(line, "command", &COMMANDS, yaml_command_t::Fmt);
-    let limit = reply.count(line, "input_limit");
-    let given = given_of(reply, line);
-    put_run(reply, line, &given, command, limit);
+    let mut text = Vec::new(reply.alloc);
+    let ended = run_over(&mut text, reply, line, command, input);
+    put_ended(reply, line, text.as_slice(), &ended);
 }

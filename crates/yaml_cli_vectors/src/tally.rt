@@ -1,7 +1,7 @@
 //! How many lines passed, and what is told of those that failed.
 
+use crate::lines::{Outcome, VectorError};
 use std::io;
-use yaml_cli_vector_lines::{Outcome, VectorError};
 
 // How many lines that fail are shown.
 const SHOWN: u64 = 20;

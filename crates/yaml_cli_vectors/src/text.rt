@@ -1,7 +1,7 @@
 //! A text that a call answers, as the line wants it.
 
+use crate::lines::{Part, Reply};
 use serde_json::Value;
-use yaml_cli_vector_lines::{Part, Reply};
 use yaml_round::{yaml_fault_t, yaml_form_t};
 
 /// The text, or how many bytes it has where the line wants that.
@@ -15,20 +15,18 @@ pub fn put_text(reply: &mut Reply, line: &Value, text: &[u8]) {
 
 /// The text, and the form that it has, where it has one.
 pub fn put_answer(reply: &mut Reply, line: &Value, text: &[u8], form: Option<yaml_form_t>) {
-    reply.put(Part::Object);
     put_text(reply, line, text);
     match form {
         Some(yaml_form_t::Canonical) => reply.field("form", Part::Word("Canonical")),
         Some(yaml_form_t::Pretty) => reply.field("form", Part::Word("Pretty")),
         None => {}
     }
-    reply.put(Part::EndObject);
 }
 
 /// A text that has no form, or the fault in its place.
 pub fn put_made(reply: &mut Reply, line: &Value, made: Result<Vec<u8>, yaml_fault_t>) {
     match made {
-        Ok(text) => put_answer(reply, line, text.as_slice(), None),
+        Ok(text) => put_text(reply, line, text.as_slice()),
         Err(fault) => reply.fault(fault),
     }
 }

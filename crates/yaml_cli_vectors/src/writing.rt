@@ -3,7 +3,7 @@
 mod asked;
 mod course;
 mod dump;
-mod emit;
+pub mod emit;
 mod emit_calls;
 mod emit_events;
 pub mod emit_limits;

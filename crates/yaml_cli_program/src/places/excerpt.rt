@@ -54,15 +54,6 @@ fn push_blank(text: &mut String, c: char) -> Result<(), AllocError> {
     Ok(())
 }
 
-// The first column that is shown.
-fn first_shown(column: u64) -> u64 {
-    if column > BEFORE + FEW {
-        column - BEFORE
-    } else {
-        0
-    }
-}
-
 // Adds up to so many characters of the line, or what takes as many columns; answers whether the line goes on behind them.
 fn push_columns(
     text: &mut String,
@@ -89,14 +80,20 @@ pub(crate) fn push_excerpt(
     source: Source<'_>,
     place: yaml_mark_t,
 ) -> Result<(), AllocError> {
-    let column = first_shown(place.column);
+    // The first column that is shown.
+    let column = if place.column > BEFORE + FEW {
+        place.column - BEFORE
+    } else {
+        0
+    };
     let before = place.column.saturating_sub(column);
     let line = from_place(source, yaml_mark_t { column, ..place });
     let (cut, blank) = if column > 0 { (CUT, "   ") } else { ("", "") };
-    write!(text, "\n{cut}")?;
-    let goes_on = push_columns(text, line, before.saturating_add(BEHIND), true)?;
-    let rest = if goes_on { CUT } else { "" };
-    write!(text, "{rest}\n{blank}")?;
-    push_columns(text, line, before, false)?;
-    text.push_str("^\n")
+    let begun = write!(text, "\n{cut}");
+    let shown = push_columns(text, line, before.saturating_add(BEHIND), true);
+    let rest = if let Ok(true) = shown { CUT } else { "" };
+    let ended = write!(text, "{rest}\n{blank}");
+    let blanks = push_columns(text, line, before, false);
+    let caret = text.push_str("^\n");
+    begun.and(shown).and(ended).and(blanks).and(caret)
 }

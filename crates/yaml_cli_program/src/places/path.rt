@@ -38,9 +38,9 @@ fn push_named(path: &mut String, key: Chars<'_>) -> Result<(), AllocError> {
     } else {
         ("[\"", "\"]")
     };
-    path.push_str(open)?;
-    push_front(path, key)?;
-    path.push_str(close)
+    let begun = path.push_str(open);
+    let front = push_front(path, key);
+    begun.and(front).and(path.push_str(close))
 }
 
 // Whether a key has some characters, and none but letters, digits, `_`, `-` and what isn't ASCII and can be seen.

@@ -4,6 +4,7 @@ use super::chars::{Chars, Source};
 use super::excerpt::{push_excerpt, push_shown};
 use super::place::{from_place, place_of};
 use crate::engine::{Difference, Met};
+use crate::order::row_of;
 use std::alloc::AllocError;
 use yaml_round_device::headline;
 use yaml_types::{yaml_error_type_t, yaml_event_type_t, yaml_fault_t, yaml_mark_t};
@@ -28,9 +29,9 @@ fn push_char(text: &mut String, mut chars: Chars<'_>) -> Result<(), AllocError> 
     let Some(c) = chars.next_in_line() else {
         return Ok(());
     };
-    text.push_str(": '")?;
-    push_shown(text, c)?;
-    text.push('\'')
+    let begun = text.push_str(": '");
+    let shown = push_shown(text, c);
+    begun.and(shown).and(text.push('\''))
 }
 
 // Adds the alias or the tag that comes next.
@@ -45,27 +46,42 @@ fn push_word(text: &mut String, mut chars: Chars<'_>) -> Result<(), AllocError> 
     text.push_str("...")
 }
 
+// What is wrong at a problem's place.
+#[derive(Clone, Copy)]
+enum Thing {
+    Char,
+    // An alias or a tag.
+    Word,
+    // The fault's value: a character, a byte, or a unit of UTF-16.
+    Point,
+    Byte,
+    Unit,
+}
+
+const THINGS: [(&'static str, Thing); 10] = [
+    ("found character that cannot start any token", Thing::Char),
+    ("found undefined alias", Thing::Word),
+    ("found undefined tag handle", Thing::Word),
+    ("found a tag that is not UTF-8", Thing::Word),
+    ("control characters are not allowed", Thing::Point),
+    ("invalid Unicode character", Thing::Point),
+    ("invalid leading UTF-8 octet", Thing::Byte),
+    ("invalid trailing UTF-8 octet", Thing::Byte),
+    ("unexpected low surrogate area", Thing::Unit),
+    ("expected low surrogate area", Thing::Unit),
+];
+
 // Adds the character, the alias, the tag or the number that is wrong, where the problem is one of these; what stands at its place
 // is handed in.
 fn push_wrong(text: &mut String, chars: Chars<'_>, fault: &yaml_fault_t) -> Result<(), AllocError> {
     let value = fault.value;
-    match fault.problem {
-        "found character that cannot start any token" => push_char(text, chars),
-        "found undefined alias" | "found undefined tag handle" | "found a tag that is not UTF-8" =>
-            push_word(text, chars),
-        "control characters are not allowed" | "invalid Unicode character" => write!(
-            text,
-            ": U+{value:04X}"
-        ),
-        "invalid leading UTF-8 octet" | "invalid trailing UTF-8 octet" => write!(
-            text,
-            ": {value:02X}"
-        ),
-        "unexpected low surrogate area" | "expected low surrogate area" => write!(
-            text,
-            ": {value:04X}"
-        ),
-        _ => Ok(()),
+    match row_of(&THINGS, fault.problem) {
+        Some(Thing::Char) => push_char(text, chars),
+        Some(Thing::Word) => push_word(text, chars),
+        Some(Thing::Point) => write!(text, ": U+{value:04X}"),
+        Some(Thing::Byte) => write!(text, ": {value:02X}"),
+        Some(Thing::Unit) => write!(text, ": {value:04X}"),
+        None => Ok(()),
     }
 }
 
@@ -86,10 +102,13 @@ fn push_problem(
     place: yaml_mark_t,
     fault: &yaml_fault_t,
 ) -> Result<(), AllocError> {
-    push_place(text, source.name, place, headline(fault.kind))?;
-    write!(text, ": {}", fault.problem)?;
-    push_wrong(text, from_place(source, place), fault)?;
-    push_excerpt(text, source, place)
+    let placed = push_place(text, source.name, place, headline(fault.kind));
+    let told = write!(text, ": {}", fault.problem);
+    let wrong = push_wrong(text, from_place(source, place), fault);
+    placed
+        .and(told)
+        .and(wrong)
+        .and(push_excerpt(text, source, place))
 }
 
 // Adds a place, what stands there, and its source line.
@@ -99,8 +118,8 @@ fn push_label(
     place: yaml_mark_t,
     what: &str,
 ) -> Result<(), AllocError> {
-    push_place(text, source.name, place, what)?;
-    push_excerpt(text, source, place)
+    let placed = push_place(text, source.name, place, what);
+    placed.and(push_excerpt(text, source, place))
 }
 
 /// Adds the lines that tell a fault of a file's text: `NAME:LINE:COLUMN: K error: PROBLEM`, the source line with a caret under the
@@ -114,10 +133,10 @@ pub fn push_fault(
     let Some(place) = place_of(source, fault) else {
         return push_placeless(text, source.name, fault);
     };
-    push_problem(text, source, place, fault)?;
+    let problem = push_problem(text, source, place, fault);
     match fault.context {
-        Some(what) => push_label(text, source, fault.context_mark, what),
-        None => Ok(()),
+        Some(what) => problem.and(push_label(text, source, fault.context_mark, what)),
+        None => problem,
     }
 }
 
@@ -150,7 +169,7 @@ pub fn push_difference(
     let Some(path) = &difference.path else {
         return Err(AllocError);
     };
-    writeln!(text, "{path}")?;
-    push_met(text, first, difference.first)?;
-    push_met(text, second, difference.second)
+    let path = writeln!(text, "{path}");
+    let met = push_met(text, first, difference.first);
+    path.and(met).and(push_met(text, second, difference.second))
 }

@@ -1,7 +1,7 @@
 //! That an output stops for its own reason: a stopped one meets every clause.
 
+use crate::lines::{Part, Reply};
 use std::alloc::Global;
-use yaml_cli_vector_lines::{Part, Reply};
 use yaml_emit_text::{Sink, Status};
 
 // Puts one byte past the limit of three.
@@ -32,8 +32,8 @@ fn stops(alloc: Global, is_deep: bool) -> bool {
 
 /// An output that is full, and one that is too deep.
 pub(crate) fn an_output_stops(reply: &mut Reply) {
-    let full = stops(reply.alloc(), false);
-    let deep = stops(reply.alloc(), true);
+    let full = stops(reply.alloc, false);
+    let deep = stops(reply.alloc, true);
     reply.field("full", Part::Flag(full));
     reply.field("deep", Part::Flag(deep));
 }

@@ -1,22 +1,11 @@
 //! The call `scan_calls`: calls of a session, one after another.
 
+use crate::lines::{Part, Reply, put_token, show_token};
 use serde_json::Value;
-use yaml_cli_vector_lines::{Part, Reply, show_token};
 use yaml_scan::{
     yaml_parser_fault, yaml_parser_has_token, yaml_parser_peek, yaml_parser_scan, yaml_parser_skip,
     yaml_parser_t,
 };
-
-// Puts the token that is given, or the fault.
-fn put_given(reply: &mut Reply, line: &Value, session: &mut yaml_parser_t<'_>) {
-    match yaml_parser_scan(session) {
-        Ok(token) => {
-            show_token(reply, &token);
-            drop(token);
-        }
-        Err(fault) => reply.put_fault(line, &fault),
-    }
-}
 
 // Puts the token that is lent, or the fault.
 fn put_lent(reply: &mut Reply, line: &Value, session: &mut yaml_parser_t<'_>) {
@@ -35,21 +24,13 @@ fn put_skipped(reply: &mut Reply, session: &mut yaml_parser_t<'_>) {
     reply.put(Part::Flag(known));
 }
 
-// Puts the fault that the session keeps, or null.
-fn put_kept(reply: &mut Reply, line: &Value, session: &yaml_parser_t<'_>) {
-    match yaml_parser_fault(session) {
-        Some(fault) => reply.put_fault(line, fault),
-        None => reply.put(Part::Null),
-    }
-}
-
 fn put_call(reply: &mut Reply, line: &Value, word: &str, session: &mut yaml_parser_t<'_>) {
     match word {
-        "scan" => put_given(reply, line, session),
+        "scan" => put_token(reply, line, yaml_parser_scan(session)),
         "peek" => put_lent(reply, line, session),
         "skip" => put_skipped(reply, session),
         "has" => reply.put(Part::Flag(yaml_parser_has_token(session))),
-        "fault" => put_kept(reply, line, session),
+        "fault" => reply.put_told(line, yaml_parser_fault(session)),
         _ => reply.miss("calls"),
     }
 }
@@ -57,10 +38,10 @@ fn put_call(reply: &mut Reply, line: &Value, word: &str, session: &mut yaml_pars
 /// What the line's calls answer, of that session: a token that is given or lent, whether a token was known and is skipped, whether
 /// one is known, or the fault that is kept.
 pub fn put_calls(reply: &mut Reply, line: &Value, session: &mut yaml_parser_t<'_>) {
-    reply.begin_answers();
+    reply.field("answer", Part::List);
     for call in reply.list(line, "calls") {
         let word = reply.take(call.as_str(), "calls", "");
         put_call(reply, line, word, session);
     }
-    reply.end_answers();
+    reply.put(Part::EndList);
 }

@@ -1,8 +1,8 @@
 //! The call `dump`.
 
 use super::emitter::turn;
+use crate::lines::{Part, Reply, document_of, text_error};
 use serde_json::Value;
-use yaml_cli_vector_lines::{Part, Reply, document_of, text_error};
 use yaml_emit::{yaml_emitter_dump, yaml_emitter_output, yaml_emitter_t};
 use yaml_scan::yaml_fault_t;
 
@@ -12,7 +12,7 @@ pub fn dumped(
     fields: &Value,
     emitter: &mut yaml_emitter_t,
 ) -> Option<yaml_fault_t> {
-    match document_of(reply.alloc(), reply, fields) {
+    match document_of(reply.alloc, reply, fields) {
         Ok(document) => yaml_emitter_dump(emitter, document).err(),
         Err(fault) => {
             reply.refuse(text_error(fault));
@@ -28,5 +28,5 @@ pub fn answer(reply: &mut Reply, line: &Value, emitter: &mut yaml_emitter_t) {
     let fault = dumped(reply, fields, emitter);
     reply.done(fault);
     reply.done(turn(emitter));
-    reply.answer(Part::Bytes(yaml_emitter_output(emitter)));
+    reply.field("answer", Part::Bytes(yaml_emitter_output(emitter)));
 }

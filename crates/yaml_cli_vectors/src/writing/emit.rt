@@ -1,66 +1,52 @@
 //! The call `emit`.
 
-use super::emitter::flush;
-use crate::reading::{Reading, Source, reading_of};
+use super::emitter::{emitter_under, flush};
+use crate::lines::{Part, Reply, settings_of};
 use serde_json::Value;
-use yaml_cli_vector_lines::{Part, Reply};
-use yaml_emit::{yaml_emitter_emit_from, yaml_emitter_output, yaml_emitter_t};
-use yaml_parse::{
-    yaml_event_t, yaml_event_type_t, yaml_event_utf8, yaml_parser_delete, yaml_parser_parse,
-};
+use yaml_emit::{yaml_emitter_delete, yaml_emitter_emit_from, yaml_emitter_output, yaml_emitter_t};
+use yaml_parse::{yaml_event_type_t, yaml_parser_parse, yaml_parser_t, yaml_token_source_t};
 
-// Gives the event, whose texts are to be UTF-8, from where it stands. False for the empty one.
-fn give(reply: &mut Reply, event: &mut yaml_event_t, emitter: &mut yaml_emitter_t) -> bool {
-    if event.type_() == yaml_event_type_t::YAML_NO_EVENT {
-        return false;
-    }
-    if yaml_event_utf8(event) {
-        yaml_emitter_emit_from(emitter, event);
-    } else {
-        reply.miss("input");
-    }
-    true
-}
-
-// Gives the parser's next event. False behind the last.
-fn give_next(reply: &mut Reply, reading: &mut Reading, emitter: &mut yaml_emitter_t) -> bool {
-    match yaml_parser_parse(reading) {
-        Ok(mut event) => {
-            let is_some = give(reply, &mut event, emitter);
-            drop(event);
-            is_some
-        }
-        Err(fault) => {
-            reply.fault(fault);
-            false
-        }
-    }
-}
-
-fn give_all(reply: &mut Reply, reading: &mut Reading, emitter: &mut yaml_emitter_t) {
+// Puts what the emitter writes of the parser's events, each given from where it stands, up to the empty one. What is refused of
+// them is answered by the flush.
+fn put_all<S: yaml_token_source_t>(
+    reply: &mut Reply,
+    parser: &mut yaml_parser_t<S>,
+    emitter: &mut yaml_emitter_t,
+) {
     for _ in 0..u64::MAX {
-        if !give_next(reply, reading, emitter) {
-            break;
+        match yaml_parser_parse(parser) {
+            Ok(mut event) => {
+                let is_some = event.type_() != yaml_event_type_t::YAML_NO_EVENT;
+                if is_some {
+                    yaml_emitter_emit_from(emitter, &mut event);
+                }
+                drop(event);
+                if !is_some {
+                    break;
+                }
+            }
+            Err(fault) => {
+                reply.fault(fault);
+                break;
+            }
         }
     }
+    reply.done(flush(emitter));
+    reply.field("answer", Part::Bytes(yaml_emitter_output(emitter)));
 }
 
-// Gives the events of the line's input. What is refused of them is answered by the flush.
-fn give_input(reply: &mut Reply, line: &Value, emitter: &mut yaml_emitter_t) {
-    match reading_of(reply, line, Source::Input) {
-        Ok(mut reading) => {
-            give_all(reply, &mut reading, emitter);
-            yaml_parser_delete(reading);
+/// What an emitter under the line's settings writes of the parser's events.
+pub fn answer<S: yaml_token_source_t>(
+    reply: &mut Reply,
+    line: &Value,
+    parser: &mut yaml_parser_t<S>,
+) {
+    let settings = settings_of(reply, line);
+    match emitter_under(reply.alloc, &settings, settings.limit) {
+        Ok(mut emitter) => {
+            put_all(reply, parser, &mut emitter);
+            yaml_emitter_delete(emitter);
         }
         Err(fault) => reply.fault(fault),
-    }
-}
-
-/// What the emitter writes of the events of the line's input, as they are.
-pub fn answer(reply: &mut Reply, line: &Value, emitter: &mut yaml_emitter_t) {
-    give_input(reply, line, emitter);
-    match flush(emitter) {
-        None => reply.answer(Part::Bytes(yaml_emitter_output(emitter))),
-        Some(fault) => reply.fault(fault),
     }
 }

@@ -2,20 +2,10 @@
 
 use super::dump::dumped;
 use super::emitter::{flush, give_listed, turn};
+use crate::lines::{Part, Reply};
 use serde_json::Value;
-use yaml_cli_vector_lines::{Part, Reply};
 use yaml_emit::{yaml_emitter_opened, yaml_emitter_output, yaml_emitter_t};
 use yaml_scan::yaml_fault_t;
-
-fn give(reply: &mut Reply, call: &Value, emitter: &mut yaml_emitter_t) -> Option<yaml_fault_t> {
-    let event = reply.value(call, 1);
-    give_listed(reply, event, emitter)
-}
-
-fn dump(reply: &mut Reply, call: &Value, emitter: &mut yaml_emitter_t) -> Option<yaml_fault_t> {
-    let fields = reply.value(call, 1);
-    dumped(reply, fields, emitter)
-}
 
 // The fault that a call which writes answers.
 fn done(
@@ -25,27 +15,20 @@ fn done(
     emitter: &mut yaml_emitter_t,
 ) -> Option<yaml_fault_t> {
     match word {
-        "emit" => give(reply, call, emitter),
-        "dump" => dump(reply, call, emitter),
+        "emit" => {
+            let event = reply.value(call, 1);
+            give_listed(reply, event, emitter)
+        }
+        "dump" => {
+            let fields = reply.value(call, 1);
+            dumped(reply, fields, emitter)
+        }
         "turn" => turn(emitter),
         "flush" => flush(emitter),
         _ => {
             reply.miss("calls");
             None
         }
-    }
-}
-
-fn put_done(
-    reply: &mut Reply,
-    line: &Value,
-    word: &str,
-    call: &Value,
-    emitter: &mut yaml_emitter_t,
-) {
-    match done(reply, word, call, emitter) {
-        Some(fault) => reply.put_fault(line, &fault),
-        None => reply.put(Part::Null),
     }
 }
 
@@ -60,16 +43,19 @@ fn put_call(reply: &mut Reply, line: &Value, call: &Value, emitter: &mut yaml_em
         "opened" => reply.put(Part::Flag(yaml_emitter_opened(emitter))),
         "output" => reply.put(Part::Bytes(yaml_emitter_output(emitter))),
         "front" => put_front(reply, call, yaml_emitter_output(emitter)),
-        word => put_done(reply, line, word, call, emitter),
+        word => {
+            let fault = done(reply, word, call, emitter);
+            reply.put_told(line, fault.as_ref());
+        }
     }
 }
 
 /// What the line's calls answer: null or the fault where an event or a document is given, the stream is turned (opened, or
 /// closed where it was opened) or flushed; whether it is opened; the output, or whether it is a front of a text.
 pub fn answer(reply: &mut Reply, line: &Value, emitter: &mut yaml_emitter_t) {
-    reply.begin_answers();
+    reply.field("answer", Part::List);
     for call in reply.list(line, "calls") {
         put_call(reply, line, call, emitter);
     }
-    reply.end_answers();
+    reply.put(Part::EndList);
 }

@@ -3,10 +3,10 @@
 use super::course::Course;
 use super::emitter::{flush, give_listed};
 use super::flushed::put_flushes;
+use crate::lines::{Part, Reply};
 use serde_json::Value;
-use yaml_cli_vector_lines::{Part, Reply};
 use yaml_emit::{yaml_emitter_output, yaml_emitter_t};
-use yaml_scan::{yaml_error_type_t, yaml_fault_t};
+use yaml_scan::yaml_error_type_t;
 
 // Gives the events, with the flushes in mid-stream that the line has, until a fault comes, and puts what each of these showed.
 fn give_all(reply: &mut Reply, line: &Value, emitter: &mut yaml_emitter_t, course: &mut Course) {
@@ -27,17 +27,16 @@ fn is_whole(reply: &mut Reply, line: &Value) -> bool {
     }
 }
 
-// The number of the refused call where the event is refused, else the output.
-fn put_where(reply: &mut Reply, fault: &yaml_fault_t, number: u64, text: &[u8]) {
-    if fault.kind == yaml_error_type_t::YAML_EMITTER_ERROR {
-        reply.field("call_number", Part::Count(number));
-    } else {
-        reply.field("output", Part::Bytes(text));
+// What became of the events, behind a last flush: the text, and whether the events end the stream; or the fault, and where it came:
+// the number of the refused call where the event is refused, else the output. No line wants `kept`: a call behind the fault answered
+// something else, or wrote.
+fn put_course(reply: &mut Reply, line: &Value, emitter: &mut yaml_emitter_t, course: &mut Course) {
+    let fault = flush(emitter);
+    let text = yaml_emitter_output(emitter);
+    course.take(fault, text.len());
+    if !course.kept {
+        reply.field("kept", Part::Flag(false));
     }
-}
-
-// The text, and whether the events end the stream; or the fault, and where it came.
-fn put_end(reply: &mut Reply, line: &Value, course: &Course, text: &[u8]) {
     match &course.fault {
         None => {
             let whole = is_whole(reply, line);
@@ -46,21 +45,13 @@ fn put_end(reply: &mut Reply, line: &Value, course: &Course, text: &[u8]) {
         }
         Some(fault) => {
             reply.name_fault(line, fault);
-            put_where(reply, fault, course.number, text);
+            if fault.kind == yaml_error_type_t::YAML_EMITTER_ERROR {
+                reply.field("call_number", Part::Count(course.number));
+            } else {
+                reply.field("output", Part::Bytes(text));
+            }
         }
     }
-}
-
-// What became of the events, behind a last flush. No line wants `kept`: a call behind the fault answered something else, or
-// wrote.
-fn put_course(reply: &mut Reply, line: &Value, emitter: &mut yaml_emitter_t, course: &mut Course) {
-    let fault = flush(emitter);
-    let text = yaml_emitter_output(emitter);
-    course.take(fault, text.len());
-    if !course.kept {
-        reply.field("kept", Part::Flag(false));
-    }
-    put_end(reply, line, course, text);
 }
 
 /// What the emitter answers on the line's events: the text, and whether the events end the stream; or the fault, with the
@@ -68,10 +59,8 @@ fn put_course(reply: &mut Reply, line: &Value, emitter: &mut yaml_emitter_t, cou
 /// and to write nothing.
 pub fn answer(reply: &mut Reply, line: &Value, emitter: &mut yaml_emitter_t) {
     let mut course = Course::new();
-    reply.put(Part::Object);
     reply.field("flushed", Part::List);
     give_all(reply, line, emitter, &mut course);
     reply.put(Part::EndList);
     put_course(reply, line, emitter, &mut course);
-    reply.put(Part::EndObject);
 }

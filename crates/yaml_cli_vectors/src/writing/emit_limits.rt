@@ -1,48 +1,29 @@
 //! The call `emit_limits`.
 
 use super::emit_pieces::written;
+use crate::lines::{Part, Reply, Settings, settings_of};
 use serde_json::Value;
-use yaml_cli_vector_lines::{Part, Reply, Settings, settings_of};
 use yaml_scan::{yaml_error_type_t, yaml_fault_t};
-
-// Whether that is the text up to the limit, with the fault of a full output.
-fn is_cut(whole: &[u8], limit: usize, text: &[u8], fault: Option<yaml_fault_t>) -> bool {
-    match (whole.get(..limit), fault) {
-        (Some(front), Some(fault)) => {
-            fault.kind == yaml_error_type_t::YAML_WRITER_ERROR && text == front
-        }
-        _ => false,
-    }
-}
 
 // Whether that is the front of the text that fits the limit, with the fault of a full output where that isn't all.
 fn is_front(whole: &[u8], limit: usize, text: &[u8], fault: Option<yaml_fault_t>) -> bool {
-    if limit < whole.len() {
-        is_cut(whole, limit, text, fault)
-    } else {
-        fault.is_none() && text == whole
-    }
-}
-
-fn has_front(
-    reply: &mut Reply,
-    line: &Value,
-    settings: &Settings,
-    whole: &[u8],
-    limit: usize,
-) -> bool {
-    let settings = Settings {
-        limit: limit as u64,
-        ..*settings
+    let is_cut = limit < whole.len();
+    let is_told = match fault {
+        Some(fault) => is_cut && fault.kind == yaml_error_type_t::YAML_WRITER_ERROR,
+        None => !is_cut,
     };
-    let cut = written(reply, line, &settings, usize::MAX);
-    is_front(whole, limit, cut.text.as_slice(), cut.fault)
+    is_told && text == whole.get(..limit).unwrap_or(whole)
 }
 
 // The first limit under which the output isn't the front of the text, which is asked up to two behind the text's end.
 fn wrong_limit(reply: &mut Reply, line: &Value, settings: &Settings, whole: &[u8]) -> Option<u64> {
     for limit in 0..whole.len().saturating_add(2) {
-        if !has_front(reply, line, settings, whole, limit) {
+        let settings = Settings {
+            limit: limit as u64,
+            ..*settings
+        };
+        let cut = written(reply, line, &settings, usize::MAX);
+        if !is_front(whole, limit, cut.text.as_slice(), cut.fault) {
             return Some(limit as u64);
         }
     }
@@ -58,8 +39,8 @@ pub fn answer(reply: &mut Reply, line: &Value) {
     let text = whole.text.as_slice();
     match fault {
         None => match wrong_limit(reply, line, &settings, text) {
-            None => reply.answer(Part::Bytes(text)),
-            Some(limit) => reply.answer(Part::Count(limit)),
+            None => reply.field("answer", Part::Bytes(text)),
+            Some(limit) => reply.field("answer", Part::Count(limit)),
         },
         Some(fault) => reply.fault(fault),
     }

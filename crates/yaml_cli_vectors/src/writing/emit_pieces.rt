@@ -4,13 +4,13 @@ ghost use Rattle.std.specs.Prelude.{◌≡◌, ◌≤◌, ◌<◌, ◌^◌, None
 ghost use Rattle.yaml_emit.specs.Judged.{refused_at};
 
 use super::emitter::{emitter_under, flush, give_listed};
+use crate::lines::{Part, Reply, Settings, settings_of};
 use serde_json::Value;
 use std::mem;
-use yaml_cli_vector_lines::{Part, Reply, Settings, settings_of};
 use yaml_emit::{
-    Expected, Level, RequestedSettings, yaml_emitter_directives, yaml_emitter_fresh,
-    yaml_emitter_into_output, yaml_emitter_outer, yaml_emitter_resume, yaml_emitter_stand,
-    yaml_emitter_stand_t, yaml_emitter_t,
+    Expected, Level, yaml_emitter_directives, yaml_emitter_fresh, yaml_emitter_into_output,
+    yaml_emitter_outer, yaml_emitter_resume, yaml_emitter_stand, yaml_emitter_stand_t,
+    yaml_emitter_t,
 };
 use yaml_parse::yaml_tag_directive_t;
 use yaml_scan::{yaml_error_type_t, yaml_fault_t};
@@ -35,21 +35,24 @@ pub struct Pieces {
 impl Pieces {
     fn new(reply: &Reply) -> Pieces {
         Pieces {
-            text: Vec::new(reply.alloc()),
+            text: Vec::new(reply.alloc),
             fault: None,
             taken: 0,
             stand: None,
-            around: Vec::new(reply.alloc()),
-            directives: Vec::new(reply.alloc()),
+            around: Vec::new(reply.alloc),
+            directives: Vec::new(reply.alloc),
         }
     }
 }
 
-// Where an emitter may go on: no event was refused there, and the line isn't too long.
-fn right_stand(stand: yaml_emitter_stand_t) -> Option<yaml_emitter_stand_t>
+// Where the last emitter stands, if one may go on there: no event was refused, and the line isn't too long.
+fn right_stand(pieces: &Pieces) -> Option<yaml_emitter_stand_t>
     ensures right { IfSome result (λ s. refused_at s.place ≡ None) }
     ensures column { IfSome result (λ s. s.cursor.column < 2 ^ 62) }
 {
+    let Some(stand) = pieces.stand else {
+        return None;
+    };
     if stand.cursor.column >= MOST {
         return None;
     }
@@ -63,17 +66,6 @@ fn right_stand(stand: yaml_emitter_stand_t) -> Option<yaml_emitter_stand_t>
     }
 }
 
-// Where the last emitter stands, if one may go on there.
-fn stand_of(pieces: &Pieces) -> Option<yaml_emitter_stand_t>
-    ensures right { IfSome result (λ s. refused_at s.place ≡ None) }
-    ensures column { IfSome result (λ s. s.cursor.column < 2 ^ 62) }
-{
-    match pieces.stand {
-        Some(stand) => right_stand(stand),
-        None => None,
-    }
-}
-
 // What is left of a limit.
 fn rest_of(limit: u64, text: &[u8]) -> u64
     ensures { result ≤ 2 ^ 62 }
@@ -82,37 +74,33 @@ fn rest_of(limit: u64, text: &[u8]) -> u64
     if rest <= MOST { rest } else { MOST }
 }
 
-fn requested(settings: &Settings) -> RequestedSettings {
-    RequestedSettings {
-        encoding: settings.encoding,
-        canonical: settings.canonical,
-        indent: settings.indent,
-        width: settings.width,
-        unicode: settings.unicode,
-        line_break: settings.line_break,
-    }
-}
-
 // An emitter that goes on where the last one stood, or that begins.
 fn next_emitter(
     reply: &Reply,
     settings: &Settings,
     pieces: &mut Pieces,
 ) -> Result<yaml_emitter_t, yaml_fault_t> {
-    let alloc = reply.alloc();
+    let alloc = reply.alloc;
     let limit = rest_of(settings.limit, pieces.text.as_slice());
-    match stand_of(pieces) {
+    match right_stand(pieces) {
         Some(stand) => {
             let around = mem::replace(&mut pieces.around, Vec::new(alloc));
             let directives = mem::replace(&mut pieces.directives, Vec::new(alloc));
-            yaml_emitter_resume(alloc, requested(settings), limit, stand, around, directives)
+            yaml_emitter_resume(alloc, settings.asked, limit, stand, around, directives)
         }
         None => emitter_under(alloc, settings, limit),
     }
 }
 
-// Copies the open collections and the directives.
-fn keep_lists(reply: &mut Reply, emitter: &yaml_emitter_t, pieces: &mut Pieces) {
+// Keeps where an emitter stands that was given the line's events up to there, with copies of the open collections and the
+// directives.
+fn keep_stand(reply: &mut Reply, emitter: &yaml_emitter_t, upto: usize, pieces: &mut Pieces) {
+    if yaml_emitter_fresh(emitter) {
+        return;
+    }
+    let stand = yaml_emitter_stand(emitter);
+    pieces.taken = upto.saturating_sub(stand.waiting as usize);
+    pieces.stand = Some(stand);
     for level in yaml_emitter_outer(emitter) {
         reply.push(&mut pieces.around, *level);
     }
@@ -124,17 +112,6 @@ fn keep_lists(reply: &mut Reply, emitter: &yaml_emitter_t, pieces: &mut Pieces) 
             yaml_tag_directive_t { handle, prefix },
         );
     }
-}
-
-// Keeps where an emitter stands that was given the line's events up to there.
-fn keep_stand(reply: &mut Reply, emitter: &yaml_emitter_t, upto: usize, pieces: &mut Pieces) {
-    if yaml_emitter_fresh(emitter) {
-        return;
-    }
-    let stand = yaml_emitter_stand(emitter);
-    pieces.taken = upto.saturating_sub(stand.waiting as usize);
-    pieces.stand = Some(stand);
-    keep_lists(reply, emitter, pieces);
 }
 
 // Gives the line's events up to there, from the first that wasn't taken, and keeps what became of them.
@@ -188,16 +165,12 @@ pub fn written(reply: &mut Reply, line: &Value, settings: &Settings, size: usize
             put_piece(reply, line, settings, upto, &mut pieces);
         }
     }
-    tell_starved(reply, &pieces);
-    pieces
-}
-
-// Want of memory is answered whichever pieces meet it.
-fn tell_starved(reply: &mut Reply, pieces: &Pieces) {
     match pieces.fault {
+        // Want of memory is answered whichever pieces meet it.
         Some(fault) if fault.kind == yaml_error_type_t::YAML_MEMORY_ERROR => reply.fault(fault),
         _ => {}
     }
+    pieces
 }
 
 // Whether a piece of so many events ends behind that event.
@@ -222,10 +195,10 @@ pub fn answer(reply: &mut Reply, line: &Value) {
     let settings = settings_of(reply, line);
     let whole = written(reply, line, &settings, usize::MAX);
     match wrong_size(reply, line, &settings, &whole) {
-        Some(size) => reply.answer(Part::Count(size)),
+        Some(size) => reply.field("answer", Part::Count(size)),
         None => match whole.fault {
             Some(fault) => reply.fault(fault),
-            None => reply.answer(Part::Bytes(whole.text.as_slice())),
+            None => reply.field("answer", Part::Bytes(whole.text.as_slice())),
         },
     }
 }

@@ -2,27 +2,27 @@
 
 ghost use Rattle.std.specs.Prelude.{◌≡◌, true};
 
+use crate::lines::{Reply, Settings, event_of, text_error};
 use serde_json::Value;
 use std::alloc::Global;
-use yaml_cli_vector_lines::{Reply, Settings, event_of, text_error};
 use yaml_emit::{
-    yaml_emitter_close, yaml_emitter_emit, yaml_emitter_flush, yaml_emitter_fresh,
-    yaml_emitter_initialize, yaml_emitter_open, yaml_emitter_opened, yaml_emitter_set_break,
-    yaml_emitter_set_canonical, yaml_emitter_set_encoding, yaml_emitter_set_indent,
-    yaml_emitter_set_unicode, yaml_emitter_set_width, yaml_emitter_t,
+    RequestedSettings, yaml_emitter_close, yaml_emitter_emit, yaml_emitter_flush,
+    yaml_emitter_fresh, yaml_emitter_initialize, yaml_emitter_open, yaml_emitter_opened,
+    yaml_emitter_set_break, yaml_emitter_set_canonical, yaml_emitter_set_encoding,
+    yaml_emitter_set_indent, yaml_emitter_set_unicode, yaml_emitter_set_width, yaml_emitter_t,
 };
 use yaml_parse::{yaml_event_t, yaml_event_utf8};
 use yaml_scan::yaml_fault_t;
 
-fn set(emitter: &mut yaml_emitter_t, settings: &Settings)
+fn set(emitter: &mut yaml_emitter_t, asked: &RequestedSettings)
     requires { emitter.old.fresh ≡ true }
 {
-    yaml_emitter_set_encoding(emitter, settings.encoding);
-    yaml_emitter_set_canonical(emitter, settings.canonical);
-    yaml_emitter_set_indent(emitter, settings.indent);
-    yaml_emitter_set_width(emitter, settings.width);
-    yaml_emitter_set_unicode(emitter, settings.unicode);
-    yaml_emitter_set_break(emitter, settings.line_break);
+    yaml_emitter_set_encoding(emitter, asked.encoding);
+    yaml_emitter_set_canonical(emitter, asked.canonical);
+    yaml_emitter_set_indent(emitter, asked.indent);
+    yaml_emitter_set_width(emitter, asked.width);
+    yaml_emitter_set_unicode(emitter, asked.unicode);
+    yaml_emitter_set_break(emitter, asked.line_break);
 }
 
 /// An emitter under these settings but for the limit, that was given nothing yet.
@@ -32,7 +32,7 @@ pub fn emitter_under(
     limit: u64,
 ) -> Result<yaml_emitter_t, yaml_fault_t> {
     let mut emitter = yaml_emitter_initialize(alloc, limit)?;
-    set(&mut emitter, settings);
+    set(&mut emitter, &settings.asked);
     Ok(emitter)
 }
 
@@ -57,7 +57,7 @@ pub fn give_listed(
     listed: &Value,
     emitter: &mut yaml_emitter_t,
 ) -> Option<yaml_fault_t> {
-    match event_of(reply.alloc(), reply, listed) {
+    match event_of(reply.alloc, reply, listed) {
         Ok(event) => give(reply, event, emitter),
         Err(fault) => {
             reply.refuse(text_error(fault));

@@ -1,8 +1,8 @@
 //! What flushes in mid-stream show.
 
 use super::emitter::flush;
+use crate::lines::{Part, Reply};
 use serde_json::Value;
-use yaml_cli_vector_lines::{Part, Reply};
 use yaml_emit::{yaml_emitter_output, yaml_emitter_t};
 
 // Whether the text is the front and, behind it, only what stands between nodes: blanks, breaks, and the indicators that part

@@ -1,16 +1,17 @@
 //! The answer to a line, while it is made.
 
-use crate::VectorError;
+use crate::lines::{Part, VectorError};
 use json::Writer;
 use std::alloc::{AllocError, Global};
-use yaml_scan_model::yaml_fault_t;
+use yaml_scan::yaml_fault_t;
 
-/// Reads fields of a line one after another, and writes the answer as JSON. The first error is kept, and `finish` answers it:
+/// Reads fields of a line one after another, and writes the answer, an object, as JSON. The first error is kept, and `finish` answers it:
 /// what is read of a field that is missing, and all that is written behind it, stand for nothing, so that the calls in between
 /// have no exits, which are dear to prove.
 #[derive(Drop)]
 pub struct Reply {
-    pub(crate) alloc: Global,
+    /// Where memory comes from.
+    pub alloc: Global,
     /// What the answer is written by.
     pub(crate) writer: Writer,
     wrong: Option<VectorError>,
@@ -19,16 +20,13 @@ pub struct Reply {
 impl Reply {
     /// Before the first field.
     pub fn new(alloc: Global) -> Reply {
-        Reply {
+        let mut reply = Reply {
             alloc,
             writer: Writer::new(Vec::new(alloc)),
             wrong: None,
-        }
-    }
-
-    /// Where memory comes from.
-    pub fn alloc(&self) -> Global {
-        self.alloc
+        };
+        reply.put(Part::Object);
+        reply
     }
 
     /// Keeps the error, unless there is one.
@@ -81,8 +79,9 @@ impl Reply {
         }
     }
 
-    /// What was written, unless there was an error.
-    pub fn finish(self) -> Result<Vec<u8>, VectorError> {
+    /// The object that was written, unless there was an error.
+    pub fn finish(mut self) -> Result<Vec<u8>, VectorError> {
+        self.put(Part::EndObject);
         match self.wrong {
             Some(error) => Err(error),
             None => Ok(self.writer.into_inner()),

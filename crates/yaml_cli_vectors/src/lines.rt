@@ -1,8 +1,6 @@
 //! Lines of test vectors: what a line says, read to settings, tokens, events and documents, and what a call answered, written
 //! as a line has it and compared with what the line wants. A line is an object of JSON; bytes stand in it as hexadecimal digits.
-#![tactic(auto)]
 
-mod checks;
 mod document;
 mod error;
 mod event;
@@ -18,17 +16,15 @@ mod token;
 mod wanted;
 mod words;
 
-pub use checks::{documents, refuses_texts};
 pub use document::show_document;
 pub use error::{VectorError, json_error, text_error};
-pub use event::show_event;
+pub use event::{put_event, show_event};
 pub use given::event_of;
 pub use made::document_of;
 pub use parts::Part;
 pub use reply::Reply;
-pub use scripted::{ScriptedReader, ScriptedWriter, Step, steps_of};
+pub use scripted::{ScriptedReader, ScriptedWriter};
 pub use setting::{Settings, settings_of};
-pub use shown::{OWN, own_fault};
-pub use token::{read_token, show_token, tokens};
+pub use shown::own_fault;
+pub use token::{put_token, read_token, show_token, tokens};
 pub use wanted::{Outcome, compare};
-pub use words::{ORIGINS, word_of};

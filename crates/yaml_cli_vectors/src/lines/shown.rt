@@ -1,9 +1,9 @@
-//! Faults, and answers of one value, as the lines write them.
+//! Faults, as the lines write them.
 
-use crate::words::{ORIGINS, word_of};
-use crate::{Part, Reply};
+use crate::lines::words::{ORIGINS, word_of};
+use crate::lines::{Part, Reply};
 use serde_json::Value;
-use yaml_scan_model::{yaml_error_type_t, yaml_fault_t, yaml_origin_t};
+use yaml_scan::{yaml_error_type_t, yaml_fault_t, yaml_origin_t};
 
 /// The problem of a fault that a line gives to its source. A fault's texts are the program's own, so this one stands for those
 /// of the line.
@@ -29,24 +29,23 @@ fn texts<'a>(line: &'a Value, fault: &yaml_fault_t) -> (Option<&'a str>, Option<
     }
 }
 
-fn kind(number: u64) -> Option<yaml_error_type_t> {
-    match number {
-        1 => Some(yaml_error_type_t::YAML_MEMORY_ERROR),
-        2 => Some(yaml_error_type_t::YAML_READER_ERROR),
-        3 => Some(yaml_error_type_t::YAML_SCANNER_ERROR),
-        4 => Some(yaml_error_type_t::YAML_PARSER_ERROR),
-        5 => Some(yaml_error_type_t::YAML_COMPOSER_ERROR),
-        6 => Some(yaml_error_type_t::YAML_WRITER_ERROR),
-        7 => Some(yaml_error_type_t::YAML_EMITTER_ERROR),
-        _ => None,
-    }
-}
+// The kinds of faults, by their numbers from 1.
+const KINDS: [yaml_error_type_t; 7] = [
+    yaml_error_type_t::YAML_MEMORY_ERROR,
+    yaml_error_type_t::YAML_READER_ERROR,
+    yaml_error_type_t::YAML_SCANNER_ERROR,
+    yaml_error_type_t::YAML_PARSER_ERROR,
+    yaml_error_type_t::YAML_COMPOSER_ERROR,
+    yaml_error_type_t::YAML_WRITER_ERROR,
+    yaml_error_type_t::YAML_EMITTER_ERROR,
+];
 
 /// The fault with those fields; `OWN` stands for its texts.
 pub fn own_fault(reply: &mut Reply, fields: &Value) -> yaml_fault_t {
-    let number = reply.count(fields, "kind");
+    let number = reply.count(fields, "kind").wrapping_sub(1);
+    let kind = KINDS.get(number as usize).copied();
     yaml_fault_t {
-        kind: reply.take(kind(number), "kind", yaml_error_type_t::YAML_NO_ERROR),
+        kind: reply.take(kind, "kind", yaml_error_type_t::YAML_NO_ERROR),
         problem: OWN,
         offset: reply.count(fields, "offset"),
         value: reply.number(fields, "value"),
@@ -79,17 +78,19 @@ impl Reply {
         self.put_fault(line, fault);
     }
 
-    /// An answer of one value.
-    pub fn answer(&mut self, value: Part<'_>) {
-        self.put(Part::Object);
-        self.field("answer", value);
-        self.put(Part::EndObject);
+    /// The end of a list, and the fault behind it where there is one.
+    pub fn end_list(&mut self, line: &Value, fault: Option<&yaml_fault_t>) {
+        self.put(Part::EndList);
+        if let Some(fault) = fault {
+            self.name_fault(line, fault);
+        }
     }
 
-    /// An answer that is a refusal, by that word.
-    pub fn refusal(&mut self, word: &str) {
-        self.put(Part::Object);
-        self.field("refused", Part::Word(word));
-        self.put(Part::EndObject);
+    /// The fault, null where there is none.
+    pub fn put_told(&mut self, line: &Value, fault: Option<&yaml_fault_t>) {
+        match fault {
+            Some(fault) => self.put_fault(line, fault),
+            None => self.put(Part::Null),
+        }
     }
 }

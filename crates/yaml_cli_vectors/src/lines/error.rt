@@ -1,7 +1,7 @@
 //! Why a line has no answer.
 
-use yaml_parse_model::yaml_text_fault_t;
-use yaml_scan_model::yaml_fault_t;
+use yaml_parse::yaml_text_fault_t;
+use yaml_scan::yaml_fault_t;
 
 /// Why a line can't be replayed, or the fault that its call answers.
 #[derive(Drop)]

@@ -1,10 +1,12 @@
 //! Documents, as the lines write them.
 
-use crate::event::{put_numbers, show_directives, show_version};
-use crate::words::{MAPPINGS, SCALARS, SEQUENCES, word_of};
-use crate::{Part, Reply};
-use yaml_parse_document::{yaml_document_get_node, yaml_document_t};
-use yaml_parse_model::{yaml_node_body_t, yaml_node_item_t, yaml_node_pair_t, yaml_node_t};
+use crate::lines::event::{put_numbers, show_directives, show_version};
+use crate::lines::words::{MAPPINGS, SCALARS, SEQUENCES, word_of};
+use crate::lines::{Part, Reply};
+use yaml_parse::{
+    yaml_document_get_node, yaml_document_t, yaml_node_body_t, yaml_node_item_t, yaml_node_pair_t,
+    yaml_node_t,
+};
 
 fn put_items(reply: &mut Reply, items: &[yaml_node_item_t]) {
     reply.put(Part::List);

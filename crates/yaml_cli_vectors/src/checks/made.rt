@@ -1,18 +1,17 @@
 //! Checks of events and documents: what the calls that a line names can't say. Each answers an object, in which every name is a
 //! thing that was asked and says whether it was right.
 
-use crate::{Part, Reply, document_of, event_of, json_error, text_error};
+use crate::lines::{Part, Reply, document_of, event_of, json_error, text_error};
 use serde_json::Value;
-use yaml_parse_document::{
+use yaml_parse::{
     yaml_document_delete, yaml_document_get_node, yaml_document_get_root_node,
-    yaml_document_set_end_implicit, yaml_document_t,
+    yaml_document_set_end_implicit, yaml_document_t, yaml_text_fault_t, yaml_version_directive_t,
 };
-use yaml_parse_model::{yaml_text_fault_t, yaml_version_directive_t};
-use yaml_scan_model::yaml_mark_t;
+use yaml_scan::yaml_mark_t;
 
 // An event, or a document, as a line writes it.
 fn written(reply: &mut Reply, text: &str) -> Value {
-    match Value::from_str(reply.alloc(), text) {
+    match Value::from_str(reply.alloc, text) {
         Ok(value) => value,
         Err(error) => {
             reply.refuse(json_error(&error));
@@ -22,32 +21,39 @@ fn written(reply: &mut Reply, text: &str) -> Value {
 }
 
 // Whether the event is refused for a text that isn't UTF-8.
-fn refuses(reply: &mut Reply, event: &str) -> bool {
-    let event = written(reply, event);
-    event_of(reply.alloc(), reply, &event).err() == Some(yaml_text_fault_t::NotUtf8)
+fn refuses(reply: &mut Reply, event: &Value) -> bool {
+    event_of(reply.alloc, reply, event).err() == Some(yaml_text_fault_t::NotUtf8)
 }
+
+// Puts whether each of the events is.
+fn put_refused(reply: &mut Reply, name: &str, events: &str) {
+    let events = written(reply, events);
+    let mut refused = true;
+    if let Some(events) = events.as_array() {
+        for event in events {
+            refused = refuses(reply, event) && refused;
+        }
+    }
+    reply.field(name, Part::Flag(refused));
+}
+
+const DIRECTIVES: &str = r#"[["DOCUMENT-START",0,null,[["21","ff"]],false]]"#;
+
+const ALIAS: &str = r#"[["ALIAS",0,0,0,0,"ff"]]"#;
+
+const SCALARS: &str = r#"[["SCALAR",0,0,0,0,"ff",null,"6b",true,true,"plain"],
+    ["SCALAR",0,0,0,0,null,"ff","6b",true,true,"plain"],
+    ["SCALAR",0,0,0,0,null,null,"ff",true,true,"plain"]]"#;
+
+const COLLECTIONS: &str = r#"[["SEQUENCE-START",0,0,0,false,"c080",null,0,0,0,"flow"],
+    ["MAPPING-START",0,0,0,true,null,"eda080",0,0,0,"block"]]"#;
 
 /// Texts that aren't UTF-8, in events of each kind.
 pub fn refuses_texts(reply: &mut Reply) {
-    let directives = refuses(reply, r#"["DOCUMENT-START",0,null,[["21","ff"]],false]"#);
-    let alias = refuses(reply, r#"["ALIAS",0,0,0,0,"ff"]"#);
-    let scalars = refuses(
-        reply,
-        r#"["SCALAR",0,0,0,0,"ff",null,"6b",true,true,"plain"]"#,
-    ) && refuses(
-        reply,
-        r#"["SCALAR",0,0,0,0,null,"ff","6b",true,true,"plain"]"#,
-    ) && refuses(
-        reply,
-        r#"["SCALAR",0,0,0,0,null,null,"ff",true,true,"plain"]"#,
-    );
-    let sequence = r#"["SEQUENCE-START",0,0,0,false,"c080",null,0,0,0,"flow"]"#;
-    let mapping = r#"["MAPPING-START",0,0,0,true,null,"eda080",0,0,0,"block"]"#;
-    let collections = refuses(reply, sequence) && refuses(reply, mapping);
-    reply.field("directives", Part::Flag(directives));
-    reply.field("alias", Part::Flag(alias));
-    reply.field("scalars", Part::Flag(scalars));
-    reply.field("collections", Part::Flag(collections));
+    put_refused(reply, "directives", DIRECTIVES);
+    put_refused(reply, "alias", ALIAS);
+    put_refused(reply, "scalars", SCALARS);
+    put_refused(reply, "collections", COLLECTIONS);
 }
 
 const ZERO: yaml_mark_t = yaml_mark_t {
@@ -87,7 +93,7 @@ fn is_made(document: &mut yaml_document_t) -> bool {
 // Whether the document is made as it is written; none where a text of it is refused.
 fn makes(reply: &mut Reply, text: &str) -> Option<bool> {
     let fields = written(reply, text);
-    match document_of(reply.alloc(), reply, &fields) {
+    match document_of(reply.alloc, reply, &fields) {
         Ok(mut document) => {
             let right = is_made(&mut document);
             yaml_document_delete(document);

@@ -1,24 +1,15 @@
 //! The settings that a line says.
 
-use crate::Reply;
-use crate::words::BREAKS;
+use crate::lines::Reply;
+use crate::lines::words::BREAKS;
 use serde_json::Value;
-use yaml_scan_model::{yaml_break_t, yaml_encoding_t};
+use yaml_emit::RequestedSettings;
+use yaml_scan::yaml_break_t;
 
 /// What an emitter and the engine are set to.
 #[derive(Clone, Copy)]
 pub struct Settings {
-    /// The encoding of the text.
-    pub encoding: yaml_encoding_t,
-    pub canonical: bool,
-    /// The columns of one level.
-    pub indent: i32,
-    /// The column past which lines are cut.
-    pub width: i32,
-    /// Whether characters above U+007F stand as they are.
-    pub unicode: bool,
-    /// What ends a line.
-    pub line_break: yaml_break_t,
+    pub asked: RequestedSettings,
     /// How many bytes the text may have.
     pub limit: u64,
 }
@@ -34,12 +25,14 @@ pub fn settings_of(reply: &mut Reply, line: &Value) -> Settings {
     let line_break = reply.choice(fields, "break", &BREAKS, yaml_break_t::YAML_ANY_BREAK);
     let limit = reply.count(fields, "limit");
     Settings {
-        encoding,
-        canonical,
-        indent,
-        width,
-        unicode,
-        line_break,
+        asked: RequestedSettings {
+            encoding,
+            canonical,
+            indent,
+            width,
+            unicode,
+            line_break,
+        },
         limit,
     }
 }

@@ -1,10 +1,10 @@
 //! The parts of an answer, as the lines write them.
 
-use crate::{Reply, VectorError};
+use crate::lines::{Reply, VectorError};
 use json::Writer;
 use std::alloc::{AllocError, Global};
 use std::str;
-use yaml_scan_model::yaml_mark_t;
+use yaml_scan::yaml_mark_t;
 
 /// A part of an answer.
 #[derive(Clone, Copy)]
@@ -80,18 +80,6 @@ impl Reply {
     pub fn field(&mut self, name: &str, value: Part<'_>) {
         self.put(Part::Name(name));
         self.put(value);
-    }
-
-    /// Begins the field `answer`, which is a list.
-    pub fn begin_answers(&mut self) {
-        self.put(Part::Object);
-        self.field("answer", Part::List);
-    }
-
-    /// Ends it, and the object with it.
-    pub fn end_answers(&mut self) {
-        self.put(Part::EndList);
-        self.put(Part::EndObject);
     }
 
     /// Puts a text that is UTF-8.

@@ -1,9 +1,9 @@
 //! The words of a line for the engine's names, as tables.
 
-use crate::Reply;
-use crate::field::FieldPlace;
+use crate::lines::Reply;
+use crate::lines::field::FieldPlace;
 use serde_json::Value;
-use yaml_scan_model::{
+use yaml_scan::{
     yaml_break_t, yaml_encoding_t, yaml_error_type_t, yaml_mapping_style_t, yaml_origin_t,
     yaml_scalar_style_t, yaml_sequence_style_t,
 };

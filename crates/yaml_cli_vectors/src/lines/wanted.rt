@@ -1,6 +1,6 @@
 //! What a line wants beside what its call answered.
 
-use crate::{VectorError, json_error};
+use crate::lines::{VectorError, json_error};
 use serde_json::Value;
 use std::alloc::Global;
 

@@ -1,11 +1,11 @@
 //! Events that a line lists: kind, encoding, version, directives, implicit, anchor, tag, value, plain and quoted implicit,
 //! style.
 
-use crate::Reply;
-use crate::words::{MAPPINGS, SCALARS, SEQUENCES};
+use crate::lines::Reply;
+use crate::lines::words::{MAPPINGS, SCALARS, SEQUENCES};
 use serde_json::Value;
 use std::alloc::Global;
-use yaml_parse_model::{
+use yaml_parse::{
     yaml_alias_event_initialize, yaml_document_end_event_initialize,
     yaml_document_start_event_initialize, yaml_event_t, yaml_mapping_end_event_initialize,
     yaml_mapping_start_event_initialize, yaml_scalar_event_initialize,
@@ -13,7 +13,7 @@ use yaml_parse_model::{
     yaml_stream_end_event_initialize, yaml_stream_start_event_initialize, yaml_tag_directive_t,
     yaml_text_fault_t, yaml_version_directive_t,
 };
-use yaml_scan_model::{
+use yaml_scan::{
     yaml_event_type_t, yaml_mapping_style_t, yaml_scalar_style_t, yaml_sequence_style_t,
 };
 
@@ -41,7 +41,7 @@ fn directive(reply: &mut Reply, directive: &Value, is_hex: bool) -> yaml_tag_dir
 
 /// Directives: of each the handle, in hexadecimal digits or as it is, and the prefix in hexadecimal digits.
 pub fn directives(reply: &mut Reply, listed: &[Value], is_hex: bool) -> Vec<yaml_tag_directive_t> {
-    let mut directives = Vec::new(reply.alloc());
+    let mut directives = Vec::new(reply.alloc);
     for listed in listed {
         let directive = directive(reply, listed, is_hex);
         reply.push(&mut directives, directive);
@@ -101,21 +101,6 @@ fn collection_start(alloc: Global, reply: &mut Reply, event: &Value, is_sequence
     }
 }
 
-// An event without texts, of that kind.
-fn plain(reply: &mut Reply, kind: yaml_event_type_t, event: &Value) -> yaml_event_t {
-    match kind {
-        yaml_event_type_t::YAML_STREAM_START_EVENT => {
-            yaml_stream_start_event_initialize(reply.encoding(event, 1))
-        }
-        yaml_event_type_t::YAML_DOCUMENT_END_EVENT => {
-            yaml_document_end_event_initialize(reply.flag(event, 4))
-        }
-        yaml_event_type_t::YAML_SEQUENCE_END_EVENT => yaml_sequence_end_event_initialize(),
-        yaml_event_type_t::YAML_MAPPING_END_EVENT => yaml_mapping_end_event_initialize(),
-        _ => yaml_stream_end_event_initialize(),
-    }
-}
-
 const KINDS: [(&'static str, yaml_event_type_t); 10] = [
     ("STREAM-START", yaml_event_type_t::YAML_STREAM_START_EVENT),
     ("STREAM-END", yaml_event_type_t::YAML_STREAM_END_EVENT),
@@ -143,6 +128,14 @@ pub fn event_of(alloc: Global, reply: &mut Reply, event: &Value) -> Made {
         yaml_event_type_t::YAML_SCALAR_EVENT => scalar(alloc, reply, event),
         yaml_event_type_t::YAML_SEQUENCE_START_EVENT => collection_start(alloc, reply, event, true),
         yaml_event_type_t::YAML_MAPPING_START_EVENT => collection_start(alloc, reply, event, false),
-        kind => Ok(plain(reply, kind, event)),
+        yaml_event_type_t::YAML_STREAM_START_EVENT => {
+            Ok(yaml_stream_start_event_initialize(reply.encoding(event, 1)))
+        }
+        yaml_event_type_t::YAML_DOCUMENT_END_EVENT => {
+            Ok(yaml_document_end_event_initialize(reply.flag(event, 4)))
+        }
+        yaml_event_type_t::YAML_SEQUENCE_END_EVENT => Ok(yaml_sequence_end_event_initialize()),
+        yaml_event_type_t::YAML_MAPPING_END_EVENT => Ok(yaml_mapping_end_event_initialize()),
+        _ => Ok(yaml_stream_end_event_initialize()),
     }
 }

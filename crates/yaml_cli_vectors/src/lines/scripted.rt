@@ -1,21 +1,20 @@
 //! A reader and a writer that do what a list of steps says.
 
-use crate::Reply;
+use crate::lines::Reply;
 use serde_json::Value;
-use std::alloc::Global;
 use std::io;
 use std::io::{ErrorKind, Read, Write};
 
-/// What a stream does at its next calls.
+// What a stream does at its next calls.
 #[derive(Clone, Copy)]
-pub enum Step {
-    /// So many bytes are given, over several calls where they do not fit. A writer takes as many at most, in one call.
+enum Step {
+    // So many bytes are given, over several calls where they do not fit. A writer takes as many at most, in one call.
     Bytes(usize),
-    /// So many calls in a row are interrupted.
+    // So many calls in a row are interrupted.
     Interrupted(usize),
-    /// A call gives or takes no byte.
+    // A call gives or takes no byte.
     Zero,
-    /// A call fails.
+    // A call fails.
     Failure,
 }
 
@@ -29,26 +28,22 @@ fn listed_step(reply: &mut Reply, listed: &Value) -> Step {
     }
 }
 
-/// The steps that the line lists there.
-pub fn steps_of(reply: &mut Reply, line: &Value, name: &'static str) -> Vec<Step> {
-    let mut steps = Vec::new(reply.alloc());
-    for listed in reply.list(line, name) {
-        let step = listed_step(reply, listed);
-        reply.push(&mut steps, step);
-    }
-    steps
-}
-
 // Where a stream stands in its steps.
 #[derive(Drop)]
-struct Script<'a> {
-    steps: &'a [Step],
+struct Script {
+    steps: Vec<Step>,
     at: usize,
     done: usize,
 }
 
-impl<'a> Script<'a> {
-    fn new(steps: &'a [Step]) -> Self {
+impl Script {
+    // Before the first of the steps that the line lists there.
+    fn of(reply: &mut Reply, line: &Value, name: &'static str) -> Script {
+        let mut steps = Vec::new(reply.alloc);
+        for listed in reply.list(line, name) {
+            let step = listed_step(reply, listed);
+            reply.push(&mut steps, step);
+        }
         Script {
             steps,
             at: 0,
@@ -94,53 +89,42 @@ impl<'a> Script<'a> {
     }
 }
 
-// So many of the bytes, or all.
-fn front(bytes: &[u8], most: usize) -> &[u8] {
-    match bytes.get(..most) {
-        Some(front) => front,
-        None => bytes,
-    }
-}
-
-// What stands behind so many of the bytes.
-fn behind(bytes: &[u8], count: usize) -> &[u8] {
-    match bytes.get(count..) {
-        Some(rest) => rest,
-        None => bytes,
-    }
-}
-
 /// Gives bytes, and is at its end after its steps.
 #[derive(Drop)]
-pub struct ScriptedReader<'a> {
-    rest: &'a [u8],
-    script: Script<'a>,
+pub struct ScriptedReader {
+    bytes: Vec<u8>,
+    // How many were given.
+    given: usize,
+    script: Script,
     /// How many bytes it was asked for, call by call.
     pub sizes: Vec<usize>,
 }
 
-impl<'a> ScriptedReader<'a> {
-    /// A reader that gives these bytes as the steps say.
-    pub fn new(alloc: Global, bytes: &'a [u8], steps: &'a [Step]) -> Self {
+impl ScriptedReader {
+    /// A reader that gives the line's input as the line's `reads` say.
+    pub fn of(reply: &mut Reply, line: &Value) -> ScriptedReader {
+        let bytes = reply.input(line, "input");
+        let script = Script::of(reply, line, "reads");
         ScriptedReader {
-            rest: bytes,
-            script: Script::new(steps),
-            sizes: Vec::new(alloc),
+            bytes,
+            given: 0,
+            script,
+            sizes: Vec::new(reply.alloc),
         }
     }
 }
 
-impl Read for ScriptedReader<'_> {
+impl Read for ScriptedReader {
     fn read(&mut self, buf: &mut [u8]) -> io::Result<usize> {
         self.sizes.push(buf.len())?;
         match self.script.next(Step::Zero) {
             Step::Bytes(all) => {
                 let left = all.saturating_sub(self.script.done);
-                let rest = self.rest;
-                let piece = front(rest, left);
+                let rest = self.bytes.get(self.given..).unwrap_or(b"");
+                let piece = rest.get(..left).unwrap_or(rest);
                 let count = piece.len().min(buf.len());
                 buf[..count].copy_from_slice(&piece[..count]);
-                self.rest = behind(rest, count);
+                self.given = self.given.saturating_add(count);
                 let done = self.script.done.saturating_add(count);
                 self.script.go_on(done, all);
                 Ok(count)
@@ -155,25 +139,30 @@ impl Read for ScriptedReader<'_> {
 
 /// Keeps what it is given. After its steps it takes all.
 #[derive(Drop)]
-pub struct ScriptedWriter<'a> {
-    script: Script<'a>,
+pub struct ScriptedWriter {
+    script: Script,
     flush_fails: bool,
     /// The bytes that were taken.
     pub received: Vec<u8>,
 }
 
-impl<'a> ScriptedWriter<'a> {
-    /// A writer that does what the steps say, and whose flushes fail or don't.
-    pub fn new(alloc: Global, steps: &'a [Step], flush_fails: bool) -> Self {
+impl ScriptedWriter {
+    /// A writer that does what the line's steps there say, and whose flushes fail or don't.
+    pub fn of(
+        reply: &mut Reply,
+        line: &Value,
+        name: &'static str,
+        flush_fails: bool,
+    ) -> ScriptedWriter {
         ScriptedWriter {
-            script: Script::new(steps),
+            script: Script::of(reply, line, name),
             flush_fails,
-            received: Vec::new(alloc),
+            received: Vec::new(reply.alloc),
         }
     }
 }
 
-impl Write for ScriptedWriter<'_> {
+impl Write for ScriptedWriter {
     fn write(&mut self, buf: &[u8]) -> io::Result<usize> {
         match self.script.next(Step::Bytes(buf.len())) {
             Step::Bytes(most) => {

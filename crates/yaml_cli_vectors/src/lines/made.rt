@@ -1,19 +1,18 @@
 //! The document that a line describes, made by the document's calls.
 
 ghost use Rattle.std.specs.Prelude.{IsTrue, IsSome};
-ghost use Rattle.yaml_parse_document.specs.Documents.{node_at, IsSequenceAt, IsMappingAt};
+ghost use Rattle.yaml_parse.specs.Documents.{node_at, IsSequenceAt, IsMappingAt};
 
-use crate::words::{MAPPINGS, SCALARS, SEQUENCES};
-use crate::{Reply, VectorError, given, text_error};
+use crate::lines::words::{MAPPINGS, SCALARS, SEQUENCES};
+use crate::lines::{Reply, VectorError, given, text_error};
 use serde_json::Value;
 use std::alloc::Global;
-use yaml_parse_document::{
+use yaml_parse::{
     yaml_document_add_mapping, yaml_document_add_scalar, yaml_document_add_sequence,
     yaml_document_append_mapping_pair, yaml_document_append_sequence_item, yaml_document_get_node,
-    yaml_document_initialize, yaml_document_t,
+    yaml_document_initialize, yaml_document_t, yaml_node_body_t, yaml_text_fault_t,
 };
-use yaml_parse_model::{yaml_node_body_t, yaml_text_fault_t};
-use yaml_scan_model::{yaml_mapping_style_t, yaml_scalar_style_t, yaml_sequence_style_t};
+use yaml_scan::{yaml_mapping_style_t, yaml_scalar_style_t, yaml_sequence_style_t};
 
 // A document without nodes.
 fn empty_document(

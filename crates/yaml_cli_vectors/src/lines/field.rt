@@ -1,9 +1,9 @@
 //! What a line says: the fields of an object and the items of a list, read.
 
-use crate::words::ENCODINGS;
-use crate::{Reply, VectorError};
+use crate::lines::words::ENCODINGS;
+use crate::lines::{Reply, VectorError};
 use serde_json::{Index, Value};
-use yaml_scan_model::{yaml_encoding_t, yaml_mark_t};
+use yaml_scan::{yaml_encoding_t, yaml_mark_t};
 
 /// Where a value stands in another: the name of a field, or the index of an item.
 pub trait FieldPlace: Index + Copy {
@@ -23,14 +23,6 @@ impl FieldPlace for usize {
     }
 }
 
-// Why digits spell no bytes.
-fn hex_error(error: hex::FromHexError, name: &'static str) -> VectorError {
-    match error {
-        hex::FromHexError::OutOfMemory => VectorError::Memory,
-        _ => VectorError::Field(name),
-    }
-}
-
 impl Reply {
     /// What stands there, else the line itself.
     pub fn value<'a, P: FieldPlace>(&mut self, line: &'a Value, place: P) -> &'a Value {
@@ -45,22 +37,25 @@ impl Reply {
 
     /// A copy of those bytes.
     pub fn copy(&mut self, bytes: &[u8]) -> Vec<u8> {
-        match Vec::from_slice(self.alloc(), bytes) {
+        match Vec::from_slice(self.alloc, bytes) {
             Ok(copied) => copied,
             Err(_) => {
                 self.refuse(VectorError::Memory);
-                Vec::new(self.alloc())
+                Vec::new(self.alloc)
             }
         }
     }
 
     /// The bytes there, in hexadecimal digits.
     pub fn bytes<P: FieldPlace>(&mut self, line: &Value, place: P) -> Vec<u8> {
-        match hex::decode(self.alloc(), self.text(line, place)) {
+        match hex::decode(self.alloc, self.text(line, place)) {
             Ok(bytes) => bytes,
             Err(error) => {
-                self.refuse(hex_error(error, place.name()));
-                Vec::new(self.alloc())
+                match error {
+                    hex::FromHexError::OutOfMemory => self.refuse(VectorError::Memory),
+                    _ => self.miss(place.name()),
+                }
+                Vec::new(self.alloc)
             }
         }
     }
@@ -89,7 +84,7 @@ impl Reply {
         if !self.value(line, name).is_array() {
             return self.bytes(line, name);
         }
-        let mut bytes = Vec::new(self.alloc());
+        let mut bytes = Vec::new(self.alloc);
         for piece in self.list(line, name) {
             self.push_piece(piece, &mut bytes);
         }

@@ -1,9 +1,11 @@
 //! Tokens, as the lines write them: kind, start mark, end mark, and what the token carries.
 
-use crate::words::{ENCODINGS, SCALARS, word_of};
-use crate::{Part, Reply};
+use crate::lines::words::{ENCODINGS, SCALARS, word_of};
+use crate::lines::{Part, Reply};
 use serde_json::Value;
-use yaml_scan_model::{yaml_scalar_style_t, yaml_token_body_t, yaml_token_t, yaml_token_type_t};
+use yaml_scan::{
+    yaml_fault_t, yaml_scalar_style_t, yaml_token_body_t, yaml_token_t, yaml_token_type_t,
+};
 
 // What tokens there are.
 const KINDS: [(&'static str, yaml_token_type_t); 22] = [
@@ -98,6 +100,17 @@ pub fn show_token(reply: &mut Reply, token: &yaml_token_t) {
     reply.put(Part::EndList);
 }
 
+/// Puts the token that was found, and lets it go, or the fault.
+pub fn put_token(reply: &mut Reply, line: &Value, found: Result<yaml_token_t, yaml_fault_t>) {
+    match found {
+        Ok(token) => {
+            show_token(reply, &token);
+            drop(token);
+        }
+        Err(fault) => reply.put_fault(line, &fault),
+    }
+}
+
 // The body of a token that carries nothing.
 fn plain_body(kind: yaml_token_type_t) -> yaml_token_body_t {
     match kind {
@@ -172,11 +185,11 @@ pub fn read_token(reply: &mut Reply, token: &Value) -> yaml_token_t {
 
 /// The call `tokens`: the line's tokens, read and written again.
 pub fn tokens(reply: &mut Reply, line: &Value) {
-    reply.begin_answers();
+    reply.field("answer", Part::List);
     for listed in reply.list(line, "tokens") {
         let token = read_token(reply, listed);
         show_token(reply, &token);
         drop(token);
     }
-    reply.end_answers();
+    reply.put(Part::EndList);
 }

@@ -80,7 +80,7 @@ FIRST = [
     ("a size refused one byte early, or one late", "yaml_round_device/size_refused_one_byte_early", "yaml_round/normal_form_refused_one_byte_early", "yaml_round/size_refused_one_byte_late"),
     ("a flush left out, an empty `put` that fails, reading on behind the limit", "yaml_round_device/finish_not_called", "yaml_round_device/empty_put_told_as_failed", "yaml_round_device/byte_past_the_limit"),
     ("for C: a place told of what isn't there, a fault without its line, two fields exchanged", "yaml_round_calls/absent_anchor_has_a_place", "yaml_round_calls/line_never_told", "yaml_round_calls/indent_and_width_exchanged"),
-    ("every fault told as want of memory by a caller", "yaml_cli_lookup/every_fault_told_as_want_of_memory"),
+    ("every fault told as want of memory by a caller", "lookup: a mapping with an undefined alias"),
 ]
 IMPLIED_HEAD = """
 ## What another edit implies
@@ -125,6 +125,8 @@ IMPLIED = [
     ("yaml_c_parse", "every event of the input has its record, the first one too", ["yaml_round/events_left_out", "yaml_round_calls/last_event_of_a_starved_front_left_out"], "`HasEvents` says of both calls which events an input has, and `SayEvents` of a parse and of a front that each of its events has its record"),
     ("yaml_c_front", "the events in front of a fault are handed out with it, the last one too", ["yaml_round_calls/last_event_of_a_starved_front_left_out"], "`SayFront` lets with want of memory through all that it lets through with another fault, and beside it only that nothing is handed out"),
     ("yaml_c_scan", "each token in front of the end or the fault has its record, the last one too", ["yaml_round_calls/last_token_of_a_starved_scan_left_out"], "the same of `Scans`"),
+    ("yaml_c_front", "the characters in front of a mark are counted, and not bytes, without the one that begins there; a tag that stands behind a node's end is none of it", ["yaml_round_calls/absent_anchor_has_a_place"], "`SayEvents` says each record whole, as what `event_counted` makes of one, and the records have these numbers from the calls of `yaml_round_places` alone: where one of these let another number through, so would that one"),
+    ("yaml_c_parse", "the characters in front of a fault's marks are counted so", ["yaml_round_calls/line_never_told"], "`TellsFaultBy`, which says each field of a fault's record, is one record for all calls; here it has the marks by `mark_counted`, and the code has the numbers from `characters_before` of `yaml_round_places` alone"),
 ]
 
 

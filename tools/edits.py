@@ -57,7 +57,7 @@ FIRST = [
     ("the tag `!` alone passed on", "yaml_parse/lone_mark_passed_on"),
     ("bytes of a tag that aren't UTF-8 left out or replaced", "yaml_round_adapter/tag_bytes_replaced"),
     ("tokens of a step that fails handed out", "yaml_scan/tokens_behind_a_fault", "scan: scans: a key without its colon"),
-    ("surrogates accepted", "yaml_scan_decode/surrogate_accepted", "yaml_scan_classes/printable_surrogate"),
+    ("surrogates accepted", "yaml_round_calls/offence_hidden", "decode: decoding: faults of UTF-8 10", "yaml_scan_classes/printable_surrogate"),
     ("lexemes read ahead of need; more spare texts kept, or larger ones", "yaml_scan/reads_ahead_of_need", "yaml_types/spare_text_number_65", "yaml_types/spare_text_of_257_bytes"),
     ("a token known where a later text may change it", "yaml_scan/has_token_where_none_is", "yaml_scan/token_known_once_peeked"),
     ("a source or a session that refuses again", "yaml_scan/memory_fault_behind_streams_end", "yaml_round_adapter/refuses_again"),
@@ -92,6 +92,9 @@ No edit turns these meanings at their own call. As the clauses stand, no body th
 """
 # The call, the meaning, the edits that imply it, and why they do.
 IMPLIED = [
+    ("yaml_decode", "in UTF-16LE the low byte of a unit comes first; no byte order mark is removed where an encoding is set", ["yaml_round_calls/decoded_as_utf8", "yaml_round_calls/mark_removed_with_set_encoding"], "the call for C names the definition that this call's clause names, `decoded_text`, and has the text from it alone: where this call let another text through, so would that one"),
+    ("yaml_decode", "each byte of UTF-8 is looked at; an offence's byte is counted with the removed mark", ["yaml_round_calls/offence_hidden"], "the same of the first offence, `decoding_fault`, whose fault is told in each field"),
+    ("yaml_text_t::as_slice", "a text that was written anew is shown", ["yaml_round_calls/decoded_as_utf8"], "the call for C has the text's bytes from this one alone: where it let an empty text through, so would that one"),
     ("yaml_parser_scan", "an alias is told as one", ["yaml_scan/value_ended_by_two_quotes"], "`Takes` says by one equation which token is given: its kind and its texts"),
     ("yaml_parser_scan_into", "a scan into a slot puts the next token there", ["yaml_round_adapter/next_token_is_the_empty_one"], "the adapter's clause follows from this call's alone: where this one let the empty token through, so would that one"),
     ("yaml_adapter_t::next_token_into", "want of memory is told of a layer that scans", ["yaml_round_adapter/tags_fault_told_as_memory"], "the clause of all sources lets want of memory of such a layer through, so what refuses it is `Stops`: the fault is as a whole the session's own, or its tag's"),

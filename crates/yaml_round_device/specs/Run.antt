@@ -6,8 +6,8 @@ use Rattle.yaml_types.specs.declared.yaml_origin_t.TheVariants.{Reader}
 use Rattle.yaml_round_device.specs.Counts.{counted}
 use Rattle.yaml_round_device.specs.declared.read_all.Cause.{Cause}
 use Rattle.yaml_round_device.specs.declared.read_all.Cause.TheVariants as cause
-use Rattle.yaml_round_plain.specs.declared.yaml_run_fault_t.{yaml_run_fault_t}
-use Rattle.yaml_round_plain.specs.declared.yaml_run_fault_t.TheVariants.{Read, TooLong, Yaml, Write}
+use Rattle.yaml_round_device.specs.declared.run_fault.yaml_run_fault_t.{yaml_run_fault_t}
+use Rattle.yaml_round_device.specs.declared.run_fault.yaml_run_fault_t.TheVariants.{Read, TooLong, Yaml, Write}
 use Rattle.yaml_types.specs.Faults.{Fault, fault_of, memory_fault, IsMemoryFault}
 
 -- these bytes are all that the input gave up to its end, and no more than the limit

@@ -4,7 +4,9 @@ ghost use Rattle.std.specs.Prelude.{◌≡◌, ℕ, List, Option, Bool, true, fa
 ghost use Rattle.std.specs.Io.KnownBytes.{Keeps, ReadConsumes, WriteAppends};
 ghost use Rattle.yaml_round_device.specs.Counts.{counted};
 
-use yaml_round_plain::yaml_device_fault_t;
+/// A device has failed. What it was isn't told.
+#[derive(Clone, Copy, PartialEq, Eq, Debug)]
+pub struct yaml_device_fault_t;
 
 /// What gives bytes. It means the bytes to come, where they are told, how many it has given, and whether it has failed.
 pub trait yaml_input_t {

@@ -5,8 +5,8 @@ ghost use Rattle.yaml_round_device.specs.Counts.{counted};
 ghost use Rattle.yaml_round_device.specs.Run.{GivesWholeInput, IsCause, IsReadFault, CausedBy, TakesFew};
 
 use crate::device::yaml_input_t;
+use crate::run_fault::yaml_run_fault_t;
 use std::alloc::Global;
-use yaml_round_plain::yaml_run_fault_t;
 use yaml_types::{yaml_memory_fault, yaml_origin_t};
 
 // How many bytes are asked for at most, but for the one that tells whether there are more.

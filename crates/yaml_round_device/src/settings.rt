@@ -1,9 +1,16 @@
-//! How a caller of the engine asks for a text.
+//! What a caller of the engine sets, and what it is told besides a text.
 
 ghost use Rattle.std.specs.Prelude.{◌≡◌};
 
-use yaml_round_plain::yaml_output_encoding_t;
 use yaml_types::{DEFAULT_WIDTH, yaml_break_t};
+
+/// How the bytes of the answer spell its characters. A UTF-16 text begins with U+FEFF.
+#[derive(Clone, Copy, PartialEq, Eq, Debug)]
+pub enum yaml_output_encoding_t {
+    Utf8,
+    Utf16Le,
+    Utf16Be,
+}
 
 /// How a text is written.
 #[derive(Clone, Copy, PartialEq, Eq, Debug)]
@@ -41,4 +48,22 @@ impl yaml_settings_t {
             limit: 1_099_511_627_776,
         }
     }
+}
+
+/// The form that an answer has.
+#[derive(Clone, Copy, PartialEq, Eq, Debug)]
+pub enum yaml_form_t {
+    Canonical,
+    Pretty,
+}
+
+/// What a run does with its input.
+#[derive(Clone, Copy, PartialEq, Eq, Debug)]
+pub enum yaml_command_t {
+    /// Writes the events again.
+    Fmt,
+    /// Writes the loaded documents again.
+    Docs,
+    /// Writes a line for each event.
+    Events,
 }

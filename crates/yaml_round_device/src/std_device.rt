@@ -4,9 +4,8 @@ ghost use Rattle.std.specs.Prelude.{◌≡◌, ◌≤◌, ◌<◌, true, false, 
 ghost use Rattle.std.specs.Io.KnownBytes.{Keeps, Consumes, Appends, IsAtEnd};
 ghost use Rattle.yaml_round_device.specs.StdDevices.{input_inner, input_given, input_failed, output_inner, output_failed, output_finished};
 
-use crate::device::{yaml_input_t, yaml_output_t};
+use crate::device::{yaml_device_fault_t, yaml_input_t, yaml_output_t};
 use std::io::{ErrorKind, Read, Write};
-use yaml_round_plain::yaml_device_fault_t;
 
 // How many times a call that is interrupted is made in all.
 const TRIES: u32 = 1000;

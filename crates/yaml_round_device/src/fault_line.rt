@@ -2,7 +2,7 @@
 
 ghost use Rattle.std.specs.Prelude.{◌≡◌, ◌++◌, IfOk, OnOk, IfErr, string_bytes};
 ghost use Rattle.yaml_types.specs.Faults.{fault_of, memory_fault};
-ghost use Rattle.yaml_round_plain.specs.FaultLine.{headline, place, bytes_place, context_part, problem_place_of, fault_line};
+ghost use Rattle.yaml_round_device.specs.FaultLine.{headline, place, bytes_place, context_part, problem_place_of, fault_line};
 
 use std::alloc::{AllocError, Global};
 use yaml_types::{yaml_error_type_t, yaml_fault_t, yaml_mark_t, yaml_memory_fault, yaml_origin_t};

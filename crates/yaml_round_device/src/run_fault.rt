@@ -2,10 +2,6 @@
 
 use yaml_types::yaml_fault_t;
 
-/// A device has failed. What it was isn't told.
-#[derive(Clone, Copy, PartialEq, Eq, Debug)]
-pub struct yaml_device_fault_t;
-
 /// Why a run, or the reading of an input, was refused.
 #[derive(Clone, Copy, PartialEq, Eq, Debug)]
 pub enum yaml_run_fault_t {

@@ -80,7 +80,7 @@ FIRST = [
     ("a size refused one byte early, or one late", "yaml_round_device/size_refused_one_byte_early", "yaml_round/normal_form_refused_one_byte_early", "yaml_round/size_refused_one_byte_late"),
     ("a flush left out, an empty `put` that fails, reading on behind the limit", "yaml_round_device/finish_not_called", "yaml_round_device/empty_put_told_as_failed", "yaml_round_device/byte_past_the_limit"),
     ("for C: a place told of what isn't there, a fault without its line, two fields exchanged", "yaml_round_calls/absent_anchor_has_a_place", "yaml_round_calls/line_never_told", "yaml_round_calls/indent_and_width_exchanged"),
-    ("every fault told as want of memory by a caller", "lookup: a mapping with an undefined alias"),
+    ("every fault told as want of memory by a caller", "yaml_cli_lookup/every_fault_told_as_want_of_memory"),
 ]
 IMPLIED_HEAD = """
 ## What another edit implies
@@ -93,8 +93,7 @@ No edit turns these meanings at their own call. As the clauses stand, no body th
 # The call, the meaning, the edits that imply it, and why they do.
 IMPLIED = [
     ("yaml_decode", "in UTF-16LE the low byte of a unit comes first; no byte order mark is removed where an encoding is set", ["yaml_round_calls/decoded_as_utf8", "yaml_round_calls/mark_removed_with_set_encoding"], "the call for C names the definition that this call's clause names, `decoded_text`, and has the text from it alone: where this call let another text through, so would that one"),
-    ("yaml_decode", "each byte of UTF-8 is looked at; an offence's byte is counted with the removed mark", ["yaml_round_calls/offence_hidden"], "the same of the first offence, `decoding_fault`, whose fault is told in each field"),
-    ("yaml_text_t::as_slice", "a text that was written anew is shown", ["yaml_round_calls/decoded_as_utf8"], "the call for C has the text's bytes from this one alone: where it let an empty text through, so would that one"),
+    ("yaml_decode", "an offence's byte is counted with the removed mark", ["yaml_round_calls/offence_hidden"], "the same of the first offence, `decoding_fault`, whose fault is told in each field"),
     ("yaml_parser_scan", "an alias is told as one", ["yaml_scan/value_ended_by_two_quotes"], "`Takes` says by one equation which token is given: its kind and its texts"),
     ("yaml_parser_scan_into", "a scan into a slot puts the next token there", ["yaml_round_adapter/next_token_is_the_empty_one"], "the adapter's clause follows from this call's alone: where this one let the empty token through, so would that one"),
     ("yaml_adapter_t::next_token_into", "want of memory is told of a layer that scans", ["yaml_round_adapter/tags_fault_told_as_memory"], "the clause of all sources lets want of memory of such a layer through, so what refuses it is `Stops`: the fault is as a whole the session's own, or its tag's"),
@@ -117,20 +116,9 @@ IMPLIED = [
     ("yaml_parser_parse", "a wrong token in a block sequence is told as such", ["yaml_parse/undefined_handle_before_the_next_fault"], "both calls promise `FaultOf`, which says the whole fault by one equation"),
     ("yaml_read_all", "an input is told as failed only where it has", ["yaml_round/refusal_told_as_a_failed_input"], "`yaml_run` hands its refusal on, and `FailsBy` says of `Read` what `IsReadFault` says"),
     ("yaml_write_all", "a failed finish is a failed write", ["yaml_round_device/finish_not_called"], "an output whose finish failed isn't finished either, which `finished` wants of each answer that is Ok"),
-    ("yaml_fault_line", "a fault's line tells its context", ["yaml_round_calls/line_never_told"], "`LineTold` names the definition that this call's clause names, `fault_line`, and the record has its line from this call alone"),
     ("yaml_fault_line", "want of memory names its layer", ["yaml_scan/scanners_memory_told_of_the_reader"], "`memory_fault` is one definition for all calls"),
     ("yaml_run", "the output is finished behind a whole answer", ["yaml_round_device/finish_not_called"], "`finished` is the clause of `yaml_write_all`, word for word"),
-    ("yaml_emitter_initialize", "a new emitter has the limit that is asked for", ["yaml_round/size_refused_one_byte_late"], "the engine knows of its emitter's limit what this call's clause says, and nothing else: where that let another limit through, a text might pass the one that is set"),
-    ("yaml_emitter_set_indent", "an indent is set as the indent", ["yaml_round_calls/indent_and_width_exchanged"], "what `Emits` says of the settings the call for C has from the setters' clauses alone"),
-    ("yaml_emitter_set_width", "a set width counts", ["yaml_round_calls/indent_and_width_exchanged"], "the same"),
     ("yaml_emitter_emit", "a fault is told at the call that lets its event out, and not later", ["yaml_emit/flush_always_right"], "`Answers` is the clause of both calls: behind either the answer is Ok only where the emitter has no fault"),
-    ("yaml_emitter_emit_from", "each given event is laid out", ["yaml_round_calls/first_event_left_out"], "the call for C gives each event by this call, and knows of it what `TakesEvents` says, which is the clause of `yaml_emitter_emit` too, word for word"),
-    ("yaml_emitter_into_output", "the text is handed out", ["yaml_round/another_injective_printer"], "the engine has the text that it answers from this call alone"),
-    ("yaml_emitter_resume", "an emitter that goes on has the limit that is asked for", ["yaml_round_calls/gone_on_without_a_limit"], "the call for C knows of that emitter's limit what this call's clause says, and nothing else"),
-    ("yaml_emitter_fresh", "whether an event was given", ["yaml_round_calls/stand_of_no_event_kept"], "the call for C tells the stand at which no event was given exactly where this call says that none was"),
-    ("yaml_emitter_stand", "it is told how many events wait", ["yaml_round_calls/stand_without_its_collections"], "`TellsAt` tells a stand whole: each number of its place, the collections round the innermost one and the directives; the call for C has them from this call and the next two alone"),
-    ("yaml_emitter_outer", "the collections round the innermost one are told", ["yaml_round_calls/stand_without_its_collections"], "the same"),
-    ("yaml_emitter_directives", "the directives of the document are told", ["yaml_round_calls/stand_without_its_collections"], "the same"),
     ("yaml_emitter_emit_early", "each event that is given early is laid out", ["yaml_emit/early_refusal_left_out"], "`GivesText` says of each event what it says of a wrong one: `first` and `lays`"),
     ("yaml_diff_documents", "each mark of a place of loaded documents is of its own input's event", ["yaml_round/second_mark_for_the_first"], "`TellsOf` is one record for both calls"),
     ("yaml_reformat", "a root with an anchor or a tag isn't nothing, nor one behind a `---`, nor that of a later document", ["yaml_round/canonical_unasked"], "canonical form comes unasked only where `begins_with_nothing`, one definition, which names all of these, says so of the input's events"),

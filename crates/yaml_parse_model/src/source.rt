@@ -34,7 +34,8 @@ pub trait yaml_token_source_t: Drop {
     /// anything afterwards. A source whose tokens can be put there at once has a body of its own for it.
     fn next_token_into(&mut self, token: &mut TokenSlot, fault: &mut yaml_fault_t) -> bool
         ensures gives { GivesInto result (to_come self.old) (fault_to_come self.old)
-            (token_in_slot token.new) (fault_of fault.new) (to_come self.new) (fault_to_come self.new) }
+            (token_in_slot token.new) (fault_of fault.new) (to_come self.new)
+            (fault_to_come self.new) }
         ensures own { own_step self.old (answer_in result (token_in_slot token.new)
             (fault_of fault.new)) self.new }
     {

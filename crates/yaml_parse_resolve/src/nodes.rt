@@ -118,7 +118,8 @@ pub fn tell_node(
     event: &mut yaml_event_t,
 )
     ensures { event_of event.new ≡ placed (node_event None None
-        (shape_at shape (token_in_slot token.old).body)) (node_item shape (token_in_slot token.old)) }
+        (shape_at shape (token_in_slot token.old).body))
+        (node_item shape (token_in_slot token.old)) }
 {
     event.start_mark = mark_again(&token.start_mark);
     event.end_mark = mark_again(&token.end_mark);

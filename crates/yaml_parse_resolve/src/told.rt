@@ -53,9 +53,9 @@ fn tell_version(directives: &mut Directives, token: &TokenSlot, fault: &mut yaml
 #[inline(never)]
 fn tell_tag(directives: &mut Directives, token: &mut TokenSlot, fault: &mut yaml_fault_t) -> Settled
     ensures { Notes (with_tag (directive_for (handle_in (token_in_slot token.old).body)
-        directives.old.tags) (directives_of directives.old) (handle_in (token_in_slot token.old).body)
-        (prefix_in (token_in_slot token.old).body) token.old.start_mark) result (fault_of fault.new)
-        (directives_of directives.new) }
+        directives.old.tags) (directives_of directives.old)
+        (handle_in (token_in_slot token.old).body) (prefix_in (token_in_slot token.old).body)
+        token.old.start_mark) result (fault_of fault.new) (directives_of directives.new) }
 {
     let at = token.start_mark;
     match token.body.kind {

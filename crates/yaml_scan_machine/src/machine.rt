@@ -13,8 +13,8 @@ use std::alloc::{AllocError, Global};
 use yaml_scan_decode::{stream_encoding, yaml_decode, yaml_text_t};
 use yaml_scan_history::{Kind, Lexeme, Opens};
 use yaml_scan_model::{
-    ScanError, Spares, yaml_encoding_t, yaml_fault_t, yaml_mark_t, yaml_memory_fault, yaml_origin_t,
-    yaml_token_t,
+    ScanError, Spares, yaml_encoding_t, yaml_fault_t, yaml_mark_t, yaml_memory_fault,
+    yaml_origin_t, yaml_token_t,
 };
 use yaml_scan_queue::Queue;
 use yaml_scan_slot::TokenSlot;

@@ -84,6 +84,7 @@ impl BodySlot {
     }
 
     /// Takes the body out.
+    // It is long: a row for each kind, and nothing besides.
     pub fn take(&mut self) -> yaml_token_body_t
         ensures { body_of result ≡ body_in_slot self.old }
     {

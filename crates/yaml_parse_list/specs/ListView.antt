@@ -2,7 +2,7 @@
 use Rattle.std.specs.Prelude.{List, Option, map, option_map, All}
 use Rattle.yaml_scan_model.specs.Tokens.{Token, token_of}
 use Rattle.yaml_scan_model.specs.Faults.{fault_of}
-use Rattle.yaml_parse.specs.Source.{HasUtf8}
+use Rattle.yaml_parse_model.specs.Source.{HasUtf8}
 use Rattle.yaml_parse_list.specs.List.{TokenList}
 use Rattle.yaml_parse_list.specs.declared.list.yaml_token_list_t.TheInside.{Inside}
 

@@ -3,12 +3,12 @@
 ghost use Rattle.std.specs.Prelude.{◌≡◌, ◌++◌, [], ◌∷◌, Some, None, OnOk, OnErr};
 ghost use Rattle.yaml_scan_model.specs.Tokens.{token_of};
 ghost use Rattle.yaml_scan_model.specs.Faults.{fault_of};
-ghost use Rattle.yaml_parse.specs.Source.{HasUtf8};
+ghost use Rattle.yaml_parse_model.specs.Source.{HasUtf8};
 
 use std::alloc::{AllocError, Global};
 use std::collections::VecDeque;
 use std::marker::Model;
-use yaml_parse::yaml_token_source_t;
+use yaml_parse_model::yaml_token_source_t;
 use yaml_scan_model::{yaml_fault_t, yaml_token_t};
 
 /// Tokens in order, and the fault that ends them, if any. Their texts are UTF-8.

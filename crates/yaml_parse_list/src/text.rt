@@ -2,7 +2,7 @@
 
 ghost use Rattle.std.specs.Prelude.{◌↔◌, IsTrue};
 ghost use Rattle.yaml_scan_model.specs.Tokens.{token_of};
-ghost use Rattle.yaml_parse.specs.Source.{HasUtf8};
+ghost use Rattle.yaml_parse_model.specs.Source.{HasUtf8};
 
 use simdutf8::is_utf8;
 use yaml_scan_model::{yaml_token_body_t, yaml_token_t};

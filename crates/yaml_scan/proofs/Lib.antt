@@ -1,7 +1,3 @@
-pub mod FoundLemmas
-mod MoreLemmas
-pub mod SettledLemmas
-mod ToldLemmas
 pub mod SessionLemmas
 -- its helpers, for crates of laws that name the member alone
 pub use Rattle.yaml_scan_decode.proofs.CompleteLemmas

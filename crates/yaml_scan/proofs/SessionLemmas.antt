@@ -15,9 +15,9 @@ use Rattle.yaml_scan_machine.specs.State.{IsShort, IsMachine, is_ready}
 use Rattle.yaml_scan_machine.specs.Left.{left_in}
 use Rattle.yaml_scan_machine.proofs.TakeLemmas.{ready_gives}
 use Rattle.yaml_scan.specs.Session.{View, HasFirst, ReadsNeeded, Takes, Lends, Refuses, ScansInto, MayAnswer, begun, first_of, behind_first, is_settled}
-use Rattle.yaml_scan.specs.Settled.{open_count}
-use Rattle.yaml_scan.specs.Found.{ReadsAsNeeded, Gives, Lacks, Denies, read_by}
-use Rattle.yaml_scan.proofs.SettledLemmas.{machine_tells}
+use Rattle.yaml_scan_machine.specs.Settled.{open_count}
+use Rattle.yaml_scan_machine.specs.Found.{ReadsAsNeeded, Gives, Lacks, Denies, read_by}
+use Rattle.yaml_scan_machine.proofs.SettledLemmas.{machine_tells}
 use Rattle.yaml_scan.specs.SessionView.{remaining_by, view_by, IsWhole}
 
 pub no_fault : (o : Option yaml_fault_t) → is_some o ≡ false → o ≡ None

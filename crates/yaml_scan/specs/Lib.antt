@@ -3,10 +3,10 @@ pub use Rattle.yaml_scan_model.specs.Faults
 pub use Rattle.yaml_scan_slot.specs.Slots
 pub use Rattle.yaml_scan_model.specs.Classes
 pub use Rattle.yaml_scan_model.specs.Marks
-pub mod Found
-pub mod Settled
 pub mod Session
 pub mod SessionView
+pub use Rattle.yaml_scan_machine.specs.Found
+pub use Rattle.yaml_scan_machine.specs.Settled
 pub use Rattle.yaml_scan_machine.specs.Left
 pub use Rattle.yaml_scan_history.specs.Scanned
 pub use Rattle.yaml_scan_history.specs.Remaining

@@ -14,7 +14,8 @@ use Rattle.yaml_scan_decode.specs.DecodedText.{decoding_fault}
 use Rattle.yaml_scan_history.specs.Remaining.{Remaining, nothing}
 use Rattle.yaml_scan_history.specs.Scanned.{scanned}
 use Rattle.yaml_scan_machine.specs.Left.{IsTold}
-use Rattle.yaml_scan.specs.Settled.{settles}
+use Rattle.yaml_scan_machine.specs.Found.{HasMore}
+use Rattle.yaml_scan_machine.specs.Settled.{settles}
 
 -- An input and the encoding that is set, and how many lexemes of its text were read; the tokens that are still to come and
 -- the fault that ends them, the fault that was answered, and how many lexemes wait: they were read, and not all their
@@ -71,12 +72,6 @@ behind_first c = record { tokens = others_of c.tokens; fault = c.fault }
 abbrev pub HasFirst : List Token → Type 0
 HasFirst [] = ⊥
 HasFirst (t ∷ ts) = Unit {0}
-
--- a token or a fault is to come
-abbrev pub HasMore : List Token → Option Fault → Type 0
-HasMore [] None = ⊥
-HasMore [] (Some f) = Unit {0}
-HasMore (t ∷ ts) fault = Unit {0}
 
 -- behind the last token a fault is answered, if one is to come
 abbrev pub MayAnswer : List Token → Option Fault → Type 0

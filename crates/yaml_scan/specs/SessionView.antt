@@ -12,7 +12,7 @@ use Rattle.yaml_scan.specs.declared.session.yaml_parser_t.TheInside.{Inside}
 use Rattle.yaml_scan_machine.specs.State.{IsShort, IsMachine}
 use Rattle.yaml_scan_machine.specs.Left.{left_in}
 use Rattle.yaml_scan.specs.Session.{View}
-use Rattle.yaml_scan.specs.Found.{read_by}
+use Rattle.yaml_scan_machine.specs.Found.{read_by}
 
 -- the token that was put aside, and then the others
 abbrev pub with_shown : Bool → Token → Remaining → Remaining

@@ -2,7 +2,6 @@
 #![tactic(auto)]
 
 mod laws;
-mod reading;
 mod session;
 
 pub use laws::settled_is_told;

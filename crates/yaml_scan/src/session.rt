@@ -12,10 +12,9 @@ ghost use Rattle.yaml_scan.specs.contracts.session.yaml_parser_t.{the_row};
 ghost use Rattle.yaml_scan.specs.Session.{HasFirst, ReadsNeeded, Scans, ScansInto, Looks, Shows, Peeks, HoldsLittle, begun, behind_first, is_settled};
 ghost use Rattle.yaml_scan.specs.SessionView.{IsWhole, view_of};
 
-use crate::reading::{Sought, next_into, put_empty, put_over, put_shown};
 use std::alloc::Global;
 use std::marker::Model;
-use yaml_scan_machine::Machine;
+use yaml_scan_machine::{Machine, Sought, next_into, put_empty, put_over, put_shown};
 use yaml_scan_model::{
     Spares, yaml_encoding_t, yaml_fault_t, yaml_memory_fault, yaml_origin_t, yaml_token_t,
 };

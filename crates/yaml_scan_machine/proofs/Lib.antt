@@ -1,21 +1,25 @@
-pub mod StandsLemmas
-pub mod LevelsLemmas
-pub mod WordLemmas
-pub mod SafeLemmas
-pub mod ReadLemmas
-pub mod StepLemmas
-pub mod MarkLemmas
+mod StandsLemmas
+mod LevelsLemmas
+mod WordLemmas
+mod SafeLemmas
+mod ReadLemmas
+mod StepLemmas
+mod MarkLemmas
 mod CandidatesLemmas
-pub mod KeysLemmas
-pub mod NextLemmas
-pub mod KindLemmas
-pub mod PushLemmas
-pub mod SpellLemmas
-pub mod FrontLemmas
-pub mod GivenLemmas
-pub mod GapLemmas
-pub mod ComesLemmas
+mod KeysLemmas
+mod NextLemmas
+mod KindLemmas
+mod PushLemmas
+mod SpellLemmas
+mod FrontLemmas
+mod GivenLemmas
+mod GapLemmas
+mod ComesLemmas
 pub mod TakeLemmas
-pub mod LetterLemmas
-pub mod IndicatorLemmas
-pub mod RowLemmas
+mod LetterLemmas
+mod IndicatorLemmas
+mod RowLemmas
+pub mod SettledLemmas
+pub mod ToldLemmas
+pub mod FoundLemmas
+mod MoreLemmas

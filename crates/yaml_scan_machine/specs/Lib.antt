@@ -9,6 +9,8 @@ pub mod Comes
 pub mod Left
 pub mod State
 pub mod Stood
+pub mod Settled
+pub mod Found
 -- what it stands on, for crates that name this one alone
 pub use Rattle.yaml_scan_words.specs as scan_words
 pub use Rattle.yaml_scan_scalars.specs as scan_scalars

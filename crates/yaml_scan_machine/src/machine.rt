@@ -129,7 +129,7 @@ impl<'a> Machine<'a> {
     }
 
     /// Decodes the input, once.
-    pub fn start(&mut self) -> Result<(), yaml_fault_t>
+    pub(crate) fn start(&mut self) -> Result<(), yaml_fault_t>
         requires { IsMachine self.old }
         ensures stands { OnOk result (IsMachine self.new) }
         ensures started { OnOk result (self.new.started ≡ true) }
@@ -156,7 +156,7 @@ impl<'a> Machine<'a> {
     /// Whether no lexeme was read yet.
     // Inlined: an addition and a comparison, asked for each lexeme.
     #[inline(always)]
-    pub fn is_new(&self) -> bool
+    pub(crate) fn is_new(&self) -> bool
         requires { IsMachine self.now }
         ensures none { result ≡ true → self.now.dropped + length self.now.waiting.items ≡ 0 }
         ensures some { result ≡ false → 0 < self.now.dropped + length self.now.waiting.items }
@@ -179,7 +179,7 @@ impl<'a> Machine<'a> {
     /// Whether the next token is known, whatever follows, where a lexeme waits.
     // Inlined: two comparisons, asked for each lexeme.
     #[inline(always)]
-    pub fn has_token_waiting(&self) -> bool
+    pub(crate) fn has_token_waiting(&self) -> bool
         requires { 0 < length self.now.waiting.items }
         ensures { result ≡ is_ready self.now }
     {
@@ -202,7 +202,7 @@ impl<'a> Machine<'a> {
     /// Takes the next token, in a slot that is lent.
     // Inlined: it is a part of the way of each token.
     #[inline(always)]
-    pub fn take_token_into(&mut self, slot: &mut TokenSlot, spares: &mut Spares)
+    pub(crate) fn take_token_into(&mut self, slot: &mut TokenSlot, spares: &mut Spares)
         requires stands { IsMachine self.old }
         requires ready { is_ready self.old ≡ true }
         ensures stands { IsMachine self.new }

@@ -2,12 +2,11 @@
 
 ghost use Rattle.yaml_scan_history.specs.declared.kind.Kind.TheVariants as kinds;
 
-use crate::word::{
-    Reading, Word, alias_word, anchor_word, any_word, double_word, plain_word, single_word,
-    tag_word,
-};
+use crate::word::{Reading, Word, any_word};
 use yaml_scan_history::Kind;
-use yaml_scan_model::{Reader, ScanError, Spares};
+use yaml_scan_model::{Context, Reader, ScanError, Spares, yaml_scalar_style_t, yaml_token_body_t};
+use yaml_scan_scalars::{double_quoted, plain_scalar, single_quoted};
+use yaml_scan_words::{anchor, tag};
 
 impl Reading for Kind {
     ghost reads = { λ k. k };
@@ -44,7 +43,7 @@ impl Reading for AliasReading {
         Kind::Alias
     }
 
-    // Inlined: it is called in the way of its kind.
+    // Inlined: in the way of its kind its answer isn't put together.
     #[inline(always)]
     #[tactic(auto, unfolding(yaml_scan_history::specs::Words::word_at))]
     fn word(
@@ -54,7 +53,12 @@ impl Reading for AliasReading {
         _flow: bool,
         _level: u64,
     ) -> Result<Word, ScanError> {
-        alias_word(spares, reader)
+        let read = anchor(spares, reader, Context::Alias)?;
+        Ok(Word {
+            body: yaml_token_body_t::Alias { value: read.value },
+            end: read.end_mark,
+            broke: false,
+        })
     }
 }
 
@@ -71,7 +75,7 @@ impl Reading for AnchorReading {
         Kind::Anchor
     }
 
-    // Inlined: it is called in the way of its kind.
+    // Inlined: in the way of its kind its answer isn't put together.
     #[inline(always)]
     #[tactic(auto, unfolding(yaml_scan_history::specs::Words::word_at))]
     fn word(
@@ -81,7 +85,12 @@ impl Reading for AnchorReading {
         _flow: bool,
         _level: u64,
     ) -> Result<Word, ScanError> {
-        anchor_word(spares, reader)
+        let read = anchor(spares, reader, Context::Anchor)?;
+        Ok(Word {
+            body: yaml_token_body_t::Anchor { value: read.value },
+            end: read.end_mark,
+            broke: false,
+        })
     }
 }
 
@@ -98,7 +107,7 @@ impl Reading for TagReading {
         Kind::Tag
     }
 
-    // Inlined: it is called in the way of its kind.
+    // Inlined: in the way of its kind its answer isn't put together.
     #[inline(always)]
     #[tactic(auto, unfolding(yaml_scan_history::specs::Words::word_at))]
     fn word(
@@ -108,7 +117,15 @@ impl Reading for TagReading {
         flow: bool,
         _level: u64,
     ) -> Result<Word, ScanError> {
-        tag_word(spares, reader, flow)
+        let read = tag(spares, reader, flow)?;
+        Ok(Word {
+            body: yaml_token_body_t::Tag {
+                handle: read.handle,
+                suffix: read.suffix,
+            },
+            end: read.end_mark,
+            broke: false,
+        })
     }
 }
 
@@ -125,7 +142,7 @@ impl Reading for SingleQuotedReading {
         Kind::SingleQuoted
     }
 
-    // Inlined: it is called in the way of its kind.
+    // Inlined: in the way of its kind its answer isn't put together.
     #[inline(always)]
     #[tactic(auto, unfolding(yaml_scan_history::specs::Words::word_at))]
     fn word(
@@ -135,7 +152,15 @@ impl Reading for SingleQuotedReading {
         _flow: bool,
         _level: u64,
     ) -> Result<Word, ScanError> {
-        single_word(spares, reader)
+        let value = single_quoted(spares, reader)?;
+        Ok(Word {
+            body: yaml_token_body_t::Scalar {
+                value,
+                style: yaml_scalar_style_t::YAML_SINGLE_QUOTED_SCALAR_STYLE,
+            },
+            end: reader.mark(),
+            broke: false,
+        })
     }
 }
 
@@ -152,7 +177,7 @@ impl Reading for DoubleQuotedReading {
         Kind::DoubleQuoted
     }
 
-    // Inlined: it is called in the way of its kind.
+    // Inlined: in the way of its kind its answer isn't put together.
     #[inline(always)]
     #[tactic(auto, unfolding(yaml_scan_history::specs::Words::word_at))]
     fn word(
@@ -162,7 +187,15 @@ impl Reading for DoubleQuotedReading {
         _flow: bool,
         _level: u64,
     ) -> Result<Word, ScanError> {
-        double_word(spares, reader)
+        let value = double_quoted(spares, reader)?;
+        Ok(Word {
+            body: yaml_token_body_t::Scalar {
+                value,
+                style: yaml_scalar_style_t::YAML_DOUBLE_QUOTED_SCALAR_STYLE,
+            },
+            end: reader.mark(),
+            broke: false,
+        })
     }
 }
 
@@ -179,7 +212,7 @@ impl Reading for PlainReading {
         Kind::Plain
     }
 
-    // Inlined: it is called in the way of its kind.
+    // Inlined: in the way of its kind its answer isn't put together.
     #[inline(always)]
     #[tactic(auto, unfolding(yaml_scan_history::specs::Words::word_at))]
     fn word(
@@ -189,6 +222,14 @@ impl Reading for PlainReading {
         flow: bool,
         level: u64,
     ) -> Result<Word, ScanError> {
-        plain_word(spares, reader, flow, level)
+        let read = plain_scalar(spares, reader, flow, level)?;
+        Ok(Word {
+            body: yaml_token_body_t::Scalar {
+                value: read.value,
+                style: yaml_scalar_style_t::YAML_PLAIN_SCALAR_STYLE,
+            },
+            end: read.end_mark,
+            broke: read.broke,
+        })
     }
 }

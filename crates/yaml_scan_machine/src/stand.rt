@@ -23,7 +23,7 @@ impl<'a> Machine<'a> {
     // The place is written where it is lent on: one that is answered goes by way of the stack.
     // Inlined: it is called at one place.
     #[inline(always)]
-    pub fn stand(&self, spot: &mut LexemeSpot, fault: &mut yaml_fault_t) -> Option<Kind>
+    pub(crate) fn stand(&self, spot: &mut LexemeSpot, fault: &mut yaml_fault_t) -> Option<Kind>
         requires stands { IsMachine self.now }
         requires more { self.now.ended ≡ false }
         requires some { 0 < self.now.dropped + length self.now.waiting.items }
@@ -51,7 +51,7 @@ impl<'a> Machine<'a> {
 
 impl LexemeSpot {
     /// A place that nothing is said of yet.
-    pub fn blank() -> LexemeSpot {
+    pub(crate) fn blank() -> LexemeSpot {
         let mark = yaml_mark_t {
             index: 0,
             line: 0,

@@ -22,7 +22,7 @@ impl<'a> Machine<'a> {
     /// Reads the first lexeme, the start of the stream; or puts the fault into the slot that was lent.
     // Out of line: it is called once.
     #[inline(never)]
-    pub fn begin(&mut self, fault: &mut yaml_fault_t) -> bool
+    pub(crate) fn begin(&mut self, fault: &mut yaml_fault_t) -> bool
         requires stands { IsMachine self.old }
         requires started { self.old.started ≡ true }
         requires sought { is_ready self.old ≡ false }

@@ -2,27 +2,23 @@
 
 ghost use Rattle.std.specs.Prelude.{Bool, ◌≡◌, ◌+◌, ◌<◌, ◌≤◌, ◌⊎◌, IfSome, None, option_map, true, false, length};
 ghost use Rattle.yaml_scan_model.specs.Marks.{byte, break_width, is_blank_or_end};
-ghost use Rattle.yaml_scan_scalars.specs.Plain as plains;
-ghost use Rattle.yaml_scan_model.specs.Tokens as tokens;
 ghost use Rattle.yaml_scan_model.specs.Tokens.{body_of};
-ghost use Rattle.yaml_scan_words.specs.Anchors.{anchor_at};
-ghost use Rattle.yaml_scan_words.specs.Tags.{tag_at};
 ghost use Rattle.yaml_scan_words.specs.Directives.{directive_at};
-ghost use Rattle.yaml_scan_scalars.specs.Quoted.{double_quoted_at, single_quoted_at};
 ghost use Rattle.yaml_scan_block.specs.Block.{block_at, style_at};
 ghost use Rattle.yaml_scan_history.specs.Words as spec;
 ghost use Rattle.yaml_scan_history.specs.declared.kind.Kind.{Kind};
 ghost use Rattle.yaml_scan_machine.specs.Stands.{Stands, IsThrice, Told, is_letter};
 ghost use Rattle.yaml_scan_machine.specs.Given.{IsWord, ReadsWord, IsSaid, indicator_at};
 
+use crate::readings::{
+    AliasReading, AnchorReading, DoubleQuotedReading, PlainReading, SingleQuotedReading, TagReading,
+};
 use std::alloc::Global;
 use yaml_scan_block::block_scalar;
 use yaml_scan_history::Kind;
-use yaml_scan_model::{
-    Context, Reader, ScanError, Spares, yaml_mark_t, yaml_scalar_style_t, yaml_token_body_t,
-};
-use yaml_scan_scalars::{double_quoted, plain_scalar, single_quoted, starts_plain};
-use yaml_scan_words::{Directive, anchor, directive, is_document_end, is_document_start, tag};
+use yaml_scan_model::{Reader, ScanError, Spares, yaml_mark_t, yaml_token_body_t};
+use yaml_scan_scalars::starts_plain;
+use yaml_scan_words::{Directive, directive, is_document_end, is_document_start};
 
 /// A lexeme's own token, and what its end says.
 #[derive(Drop)]
@@ -218,13 +214,13 @@ fn text_word(
         Kind::DocumentStart => Ok(document_mark(reader, yaml_token_body_t::DocumentStart)),
         Kind::DocumentEnd => Ok(document_mark(reader, yaml_token_body_t::DocumentEnd)),
         Kind::Directive => directive_word(spares, reader),
-        Kind::Alias => alias_word(spares, reader),
-        Kind::Anchor => anchor_word(spares, reader),
-        Kind::Tag => tag_word(spares, reader, flow),
+        Kind::Alias => AliasReading.word(spares, reader, flow, level),
+        Kind::Anchor => AnchorReading.word(spares, reader, flow, level),
+        Kind::Tag => TagReading.word(spares, reader, flow, level),
         Kind::Literal | Kind::Folded => block_word(*spares.allocator(), reader, level),
-        Kind::SingleQuoted => single_word(spares, reader),
-        Kind::DoubleQuoted => double_word(spares, reader),
-        Kind::Plain => plain_word(spares, reader, flow, level),
+        Kind::SingleQuoted => SingleQuotedReading.word(spares, reader, flow, level),
+        Kind::DoubleQuoted => DoubleQuotedReading.word(spares, reader, flow, level),
+        Kind::Plain => PlainReading.word(spares, reader, flow, level),
         _ => Ok(carrier(reader, yaml_token_body_t::StreamEnd)),
     }
 }
@@ -335,60 +331,6 @@ fn directive_body(directive: Directive) -> yaml_token_body_t
     }
 }
 
-// Inlined: in the way of its kind its answer isn't put together.
-#[inline(always)]
-pub(crate) fn alias_word(spares: &mut Spares, reader: &mut Reader) -> Result<Word, ScanError>
-    requires { byte reader.old.text reader.old.at ≡ 42 }
-    ensures { ReadsWord reader.old.text reader.old.at reader.new result
-        (spec.valued (λ v. tokens.alias v)
-        (anchor_at Context.Alias reader.old.text reader.old.at)) }
-{
-    let read = anchor(spares, reader, Context::Alias)?;
-    Ok(Word {
-        body: yaml_token_body_t::Alias { value: read.value },
-        end: read.end_mark,
-        broke: false,
-    })
-}
-
-// Inlined: in the way of its kind its answer isn't put together.
-#[inline(always)]
-pub(crate) fn anchor_word(spares: &mut Spares, reader: &mut Reader) -> Result<Word, ScanError>
-    requires { byte reader.old.text reader.old.at ≡ 38 }
-    ensures { ReadsWord reader.old.text reader.old.at reader.new result
-        (spec.valued (λ v. tokens.anchor v)
-        (anchor_at Context.Anchor reader.old.text reader.old.at)) }
-{
-    let read = anchor(spares, reader, Context::Anchor)?;
-    Ok(Word {
-        body: yaml_token_body_t::Anchor { value: read.value },
-        end: read.end_mark,
-        broke: false,
-    })
-}
-
-// Inlined: in the way of its kind its answer isn't put together.
-#[inline(always)]
-pub(crate) fn tag_word(
-    spares: &mut Spares,
-    reader: &mut Reader,
-    flow: bool,
-) -> Result<Word, ScanError>
-    requires { byte reader.old.text reader.old.at ≡ 33 }
-    ensures { ReadsWord reader.old.text reader.old.at reader.new result
-        (spec.tagged (tag_at flow reader.old.text reader.old.at)) }
-{
-    let read = tag(spares, reader, flow)?;
-    Ok(Word {
-        body: yaml_token_body_t::Tag {
-            handle: read.handle,
-            suffix: read.suffix,
-        },
-        end: read.end_mark,
-        broke: false,
-    })
-}
-
 // Out of line: it is rare.
 #[inline(never)]
 fn block_word(alloc: Global, reader: &mut Reader, level: u64) -> Result<Word, ScanError>
@@ -407,66 +349,5 @@ fn block_word(alloc: Global, reader: &mut Reader, level: u64) -> Result<Word, Sc
         },
         end: read.end_mark,
         broke: false,
-    })
-}
-
-// Inlined: in the way of its kind its answer isn't put together.
-#[inline(always)]
-pub(crate) fn single_word(spares: &mut Spares, reader: &mut Reader) -> Result<Word, ScanError>
-    requires { byte reader.old.text reader.old.at ≡ 39 }
-    ensures { ReadsWord reader.old.text reader.old.at reader.new result
-        (spec.valued (λ v. tokens.scalar v yaml_scalar_style_t.YAML_SINGLE_QUOTED_SCALAR_STYLE)
-        (single_quoted_at reader.old.text reader.old.at)) }
-{
-    let value = single_quoted(spares, reader)?;
-    Ok(Word {
-        body: yaml_token_body_t::Scalar {
-            value,
-            style: yaml_scalar_style_t::YAML_SINGLE_QUOTED_SCALAR_STYLE,
-        },
-        end: reader.mark(),
-        broke: false,
-    })
-}
-
-// Inlined: in the way of its kind its answer isn't put together.
-#[inline(always)]
-pub(crate) fn double_word(spares: &mut Spares, reader: &mut Reader) -> Result<Word, ScanError>
-    requires { byte reader.old.text reader.old.at ≡ 34 }
-    ensures { ReadsWord reader.old.text reader.old.at reader.new result
-        (spec.valued (λ v. tokens.scalar v yaml_scalar_style_t.YAML_DOUBLE_QUOTED_SCALAR_STYLE)
-        (double_quoted_at reader.old.text reader.old.at)) }
-{
-    let value = double_quoted(spares, reader)?;
-    Ok(Word {
-        body: yaml_token_body_t::Scalar {
-            value,
-            style: yaml_scalar_style_t::YAML_DOUBLE_QUOTED_SCALAR_STYLE,
-        },
-        end: reader.mark(),
-        broke: false,
-    })
-}
-
-// Inlined: in the way of its kind its answer isn't put together.
-#[inline(always)]
-pub(crate) fn plain_word(
-    spares: &mut Spares,
-    reader: &mut Reader,
-    flow: bool,
-    level: u64,
-) -> Result<Word, ScanError>
-    requires { plains.starts_plain flow reader.old.text reader.old.at ≡ true }
-    ensures { ReadsWord reader.old.text reader.old.at reader.new result
-        (spec.plainly (plains.plain_at flow level reader.old.text reader.old.at)) }
-{
-    let read = plain_scalar(spares, reader, flow, level)?;
-    Ok(Word {
-        body: yaml_token_body_t::Scalar {
-            value: read.value,
-            style: yaml_scalar_style_t::YAML_PLAIN_SCALAR_STYLE,
-        },
-        end: read.end_mark,
-        broke: read.broke,
     })
 }

@@ -1,4 +1,4 @@
-use Rattle.yaml_scan.proofs.ToldLemmas.{whatever_follows}
+use Rattle.yaml_scan_machine.proofs.ToldLemmas.{whatever_follows}
 use Rattle.yaml_scan.proofs.laws.settled_is_told.Goals as goal
 
 pub returns : goal.returns

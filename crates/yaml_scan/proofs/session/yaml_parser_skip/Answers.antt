@@ -6,7 +6,7 @@ use Rattle.yaml_scan_model.proofs.RoomsLemmas.{few_kept}
 use Rattle.yaml_scan_machine.specs.Left.{left_in}
 use Rattle.yaml_scan.specs.Session.{View, is_settled}
 use Rattle.yaml_scan.proofs.SessionLemmas.{none_some, ready_fault, ready_own, left_held, left_own, whole_idle, whole_taken, same_reads, own_reads}
-use Rattle.yaml_scan.proofs.FoundLemmas.{reads_none}
+use Rattle.yaml_scan_machine.proofs.FoundLemmas.{reads_none}
 use Rattle.yaml_scan.specs.SessionView.{view_by}
 use Rattle.yaml_scan.proofs.session.yaml_parser_skip.Goals as goal
 

@@ -2,7 +2,7 @@
 use Rattle.std.proofs.Common.{length, arith}
 use Rattle.yaml_scan_model.specs.Rooms.{rooms_of}
 use Rattle.yaml_scan_machine.specs.Left.{left_in}
-use Rattle.yaml_scan.specs.Found.{read_by}
+use Rattle.yaml_scan_machine.specs.Found.{read_by}
 use Rattle.yaml_scan.proofs.SessionLemmas.{begins}
 use Rattle.yaml_scan.proofs.session.yaml_parser_t.new.Goals as goal
 

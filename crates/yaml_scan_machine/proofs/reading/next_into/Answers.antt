@@ -1,10 +1,10 @@
 use Rattle.std.proofs.Common.{subst, refl}
 use Rattle.yaml_scan_history.specs.Remaining.{Remaining}
 use Rattle.yaml_scan_slot.specs.Slots.{token_in_slot}
-use Rattle.yaml_scan_machine.specs.scan_laws_order.Fronts.{GivesFirst}
+use Rattle.yaml_scan_laws_order.specs.Fronts.{GivesFirst}
 use Rattle.yaml_scan_machine.specs.Left.{left_in}
-use Rattle.yaml_scan.proofs.FoundLemmas.{reads_both, reads_none}
-use Rattle.yaml_scan.proofs.reading.next_into.Goals as goal
+use Rattle.yaml_scan_machine.proofs.FoundLemmas.{reads_both, reads_none}
+use Rattle.yaml_scan_machine.proofs.reading.next_into.Goals as goal
 
 pub take_token_into-requires-clause-stands : goal.take_token_into-requires-clause-stands
 take_token_into-requires-clause-stands c = c.in-Known.ensures.stands

@@ -20,8 +20,8 @@ use Rattle.yaml_scan_history.specs.Scanned.{scanned_in}
 use Rattle.yaml_scan_history.proofs.HistoryLemmas.{length-entries}
 use Rattle.yaml_scan_laws_order.proofs.RemainingForward.{Known, known_settled, known_ended, known_next, tokens_is, front_count, front_none, ends_token}
 use Rattle.yaml_scan_machine.specs.declared.machine.Machine.{Machine}
-use Rattle.yaml_scan_machine.specs.scan_queue.declared.waiting.Waiting.{Waiting}
-use Rattle.yaml_scan_machine.specs.scan_queue.Waits.{KeptLexeme, kept_of as waits_as}
+use Rattle.yaml_scan_queue.specs.declared.waiting.Waiting.{Waiting}
+use Rattle.yaml_scan_queue.specs.Waits.{KeptLexeme, kept_of as waits_as}
 use Rattle.yaml_scan_machine.specs.Taken.{given_in, front_count as count_in_front}
 use Rattle.yaml_scan_machine.specs.Comes.{to_come}
 use Rattle.yaml_scan_machine.specs.Left.{left_in}
@@ -31,7 +31,7 @@ use Rattle.yaml_scan_machine.proofs.MarkLemmas.{next_ended}
 use Rattle.yaml_scan_machine.proofs.SpellLemmas.{spell_length}
 use Rattle.yaml_scan_machine.proofs.GivenLemmas.{front_is, no_entry, given_few}
 use Rattle.yaml_scan_machine.proofs.ComesLemmas.{left_is, left_whole}
-use Rattle.yaml_scan.specs.Settled.{settled_tokens, open_of, open_count}
+use Rattle.yaml_scan_machine.specs.Settled.{settled_tokens, open_of, open_count}
 
 -- how many tokens lexemes are spelled out in
 abbrev count : SpelledText → List Entry → ℕ

@@ -6,16 +6,17 @@ ghost use Rattle.yaml_scan_slot.specs.Slots.{token_in_slot};
 ghost use Rattle.yaml_scan_model.specs.Faults.{fault_of};
 ghost use Rattle.yaml_scan_machine.specs.State.{IsMachine, is_ready};
 ghost use Rattle.yaml_scan_machine.specs.Stood.{MayRead, Steps};
-ghost use Rattle.yaml_scan.specs.Found.{Comes, ReadsOn};
+ghost use Rattle.yaml_scan_machine.specs.Found.{Comes, ReadsOn};
 
+use crate::machine::Machine;
+use crate::next::LexemeSpot;
 use std::mem;
-use yaml_scan_machine::{LexemeSpot, Machine};
 use yaml_scan_model::{Spares, yaml_fault_t, yaml_token_t};
 use yaml_scan_slot::TokenSlot;
 
 /// What reading on came to: the next token is known, or there is none, or a fault stands in the slot that was lent.
 #[derive(Clone, Copy)]
-pub(crate) enum Sought {
+pub enum Sought {
     Known,
     Nothing,
     Refused,
@@ -24,7 +25,7 @@ pub(crate) enum Sought {
 /// Takes the next token into a slot, the empty one where none is to come; or puts the fault into the other slot.
 // Inlined: mostly the next token is known.
 #[inline(always)]
-pub(crate) fn next_into(
+pub fn next_into(
     machine: &mut Machine,
     spares: &mut Spares,
     token: &mut TokenSlot,
@@ -50,7 +51,7 @@ pub(crate) fn next_into(
 /// Puts a token into a place of one.
 // Out of line: mostly the reader does it, and what the place had is let go by a look at each kind of token.
 #[inline(never)]
-pub(crate) fn put_over(place: &mut yaml_token_t, token: yaml_token_t)
+pub fn put_over(place: &mut yaml_token_t, token: yaml_token_t)
     ensures { place.new ≡ token }
 {
     *place = token;
@@ -60,7 +61,7 @@ pub(crate) fn put_over(place: &mut yaml_token_t, token: yaml_token_t)
 // Out of line and cold: it is put there behind the last token, so a token that is known is asked for first.
 #[cold]
 #[inline(never)]
-pub(crate) fn put_empty(slot: &mut TokenSlot)
+pub fn put_empty(slot: &mut TokenSlot)
     ensures { token_in_slot slot.new ≡ no_token }
 {
     slot.clear();
@@ -69,7 +70,7 @@ pub(crate) fn put_empty(slot: &mut TokenSlot)
 /// Puts a token that was put aside into a slot, and leaves the empty one.
 // Out of line: mostly none was put aside.
 #[inline(never)]
-pub(crate) fn put_shown(slot: &mut TokenSlot, shown: &mut yaml_token_t)
+pub fn put_shown(slot: &mut TokenSlot, shown: &mut yaml_token_t)
     ensures given { token_in_slot slot.new ≡ token_of shown.old }
     ensures left { token_of shown.new ≡ no_token }
 {

@@ -16,8 +16,8 @@ use Rattle.yaml_scan_history.proofs.HistoryLemmas.{length-entries}
 use Rattle.yaml_scan_laws_order.proofs.RemainingForward.{tokens_is, ends_token}
 use Rattle.yaml_scan_machine.specs.Shows.{settled_in}
 use Rattle.yaml_scan_machine.proofs.GivenLemmas.{no_entry}
-use Rattle.yaml_scan.specs.Settled.{settled_tokens, settled_behind}
-use Rattle.yaml_scan.proofs.SettledLemmas.{known_upto, settled_open}
+use Rattle.yaml_scan_machine.specs.Settled.{settled_tokens, settled_behind}
+use Rattle.yaml_scan_machine.proofs.SettledLemmas.{known_upto, settled_open}
 
 -- the BLOCK-END tokens in front of a lexeme come first
 ends_first : (s : SpelledText) (n j : ℕ) → let h = history s.text n in let f = settled_in h in

@@ -23,8 +23,8 @@ use Rattle.yaml_scan_history.specs.Scanned.{scanned, scanned_in}
 use Rattle.yaml_scan_laws_order.proofs.HistoryForward.{all_ends, stays_all, history_grows}
 use Rattle.yaml_scan_laws_order.proofs.RemainingForward.{SameEnds, entries_ends, fault_is, last_comes}
 use Rattle.yaml_scan_machine.specs.declared.machine.Machine.{Machine}
-use Rattle.yaml_scan_machine.specs.scan_queue.declared.waiting.Waiting.{Waiting}
-use Rattle.yaml_scan_machine.specs.scan_queue.Waits.{KeptLexeme, kept_of}
+use Rattle.yaml_scan_queue.specs.declared.waiting.Waiting.{Waiting}
+use Rattle.yaml_scan_queue.specs.Waits.{KeptLexeme, kept_of}
 use Rattle.yaml_scan_machine.specs.Comes.{to_come}
 use Rattle.yaml_scan_machine.specs.Left.{left_in}
 use Rattle.yaml_scan_machine.specs.Shows.{fields_of, read, history_of, stream_of}
@@ -33,7 +33,7 @@ use Rattle.yaml_scan_machine.specs.Taken.{given_in, front_count}
 use Rattle.yaml_scan_machine.proofs.ComesLemmas.{left_is, left_whole}
 use Rattle.yaml_scan_machine.proofs.SpellLemmas.{spell_length}
 use Rattle.yaml_scan_machine.proofs.GivenLemmas.{front_is, no_entry}
-use Rattle.yaml_scan.specs.Session.{HasMore}
+use Rattle.yaml_scan_machine.specs.Found.{HasMore}
 
 -- further lexemes leave how many levels a lexeme closes
 newer_ends : (newer h : List Lexeme) (k : ℕ) (e : Entry) → k < length h

@@ -20,12 +20,12 @@ use Rattle.yaml_scan_machine.specs.Comes.{to_come}
 use Rattle.yaml_scan_machine.proofs.ComesLemmas.{left_is, reader_wide}
 use Rattle.yaml_scan_machine.specs.State.{IsMachine, ReadsOneMore, KeepsInput, TellsUtf8, is_ready}
 use Rattle.yaml_scan_machine.specs.Stood.{IsRefused}
-use Rattle.yaml_scan.specs.declared.reading.Sought.{Sought}
-use Rattle.yaml_scan.specs.declared.reading.Sought.TheVariants as found
-use Rattle.yaml_scan.specs.Session.{HasMore}
-use Rattle.yaml_scan.specs.Settled.{settles}
-use Rattle.yaml_scan.specs.Found.{ReadsOn, ReadsAsNeeded, ReaderLacks, PlainIsTold, read_by}
-use Rattle.yaml_scan.proofs.SettledLemmas.{machine_tells}
+use Rattle.yaml_scan_machine.specs.declared.reading.Sought.{Sought}
+use Rattle.yaml_scan_machine.specs.declared.reading.Sought.TheVariants as found
+use Rattle.yaml_scan_machine.specs.Found.{HasMore}
+use Rattle.yaml_scan_machine.specs.Settled.{settles}
+use Rattle.yaml_scan_machine.specs.Found.{ReadsOn, ReadsAsNeeded, ReaderLacks, PlainIsTold, read_by}
+use Rattle.yaml_scan_machine.proofs.SettledLemmas.{machine_tells}
 
 -- whether n lexemes settle what comes next
 abbrev settles_in : Machine → ℕ → Bool

@@ -1,8 +1,8 @@
 use Rattle.std.proofs.Common.{◌∙◌}
 use Rattle.yaml_scan_model.specs.Faults.{fault_of}
-use Rattle.yaml_scan.proofs.FoundLemmas.{reads_behind, reads_none, fresh_none, fresh_lacks, fresh_plain}
-use Rattle.yaml_scan.proofs.MoreLemmas.{fresh_more}
-use Rattle.yaml_scan.proofs.reading.begin.Goals as goal
+use Rattle.yaml_scan_machine.proofs.FoundLemmas.{reads_behind, reads_none, fresh_none, fresh_lacks, fresh_plain}
+use Rattle.yaml_scan_machine.proofs.MoreLemmas.{fresh_more}
+use Rattle.yaml_scan_machine.proofs.reading.begin.Goals as goal
 
 pub fill_first-requires-clause-stands : goal.fill_first-requires-clause-stands
 fill_first-requires-clause-stands c = c.in-Ok.ensures.stands

@@ -1,9 +1,9 @@
 use Rattle.std.proofs.Common.{sym, ◌∙◌, arith}
 use Rattle.yaml_scan_model.specs.Faults.{fault_of}
 use Rattle.yaml_scan_machine.proofs.ComesLemmas.{end_machine, goes_same, left_is, told_refused, steps_on, steps_off}
-use Rattle.yaml_scan.proofs.FoundLemmas.{reads_both, reads_more, refused_lacks, same_left, decoded_plain}
-use Rattle.yaml_scan.proofs.MoreLemmas.{denied_more}
-use Rattle.yaml_scan.proofs.reading.fill_further.Goals as goal
+use Rattle.yaml_scan_machine.proofs.FoundLemmas.{reads_both, reads_more, refused_lacks, same_left, decoded_plain}
+use Rattle.yaml_scan_machine.proofs.MoreLemmas.{denied_more}
+use Rattle.yaml_scan_machine.proofs.reading.fill_further.Goals as goal
 
 pub steps-preserved : goal.steps-preserved
 steps-preserved c =

@@ -1,6 +1,6 @@
 use Rattle.std.proofs.Common.{refl, sym, ◌∙◌}
-use Rattle.yaml_scan.proofs.FoundLemmas.{reads_itself, read_started}
-use Rattle.yaml_scan.proofs.reading.read_on.Goals as goal
+use Rattle.yaml_scan_machine.proofs.FoundLemmas.{reads_itself, read_started}
+use Rattle.yaml_scan_machine.proofs.reading.read_on.Goals as goal
 
 pub returns-then-has_token : goal.returns-then-has_token
 returns-then-has_token c = record { stands = c.requires; left = refl; ready = sym c.has_token.ensures ∙ c.if-has_token.true; reads = reads_itself c.args.machine.now }

@@ -1,5 +1,5 @@
 -- What reading on came to.
-use Rattle.std.specs.Prelude.{ℕ, ◌+◌, ◌≡◌, ◌≢◌, ◌<◌, ◌≤◌, true, false, Some, length}
+use Rattle.std.specs.Prelude.{ℕ, ◌+◌, ◌≡◌, ◌≢◌, ◌<◌, ◌≤◌, true, false, List, [], ◌∷◌, Option, Some, None, length}
 use Rattle.yaml_scan_model.specs.Tokens.{Token, no_token}
 use Rattle.yaml_scan_model.specs.Faults.{Fault, memory_fault}
 use Rattle.yaml_scan_model.specs.declared.fault.yaml_origin_t.TheVariants.{Reader}
@@ -7,14 +7,13 @@ use Rattle.yaml_scan_model.specs.declared.name.yaml_encoding_t.TheVariants.{YAML
 use Rattle.yaml_scan_decode.specs.Encodings.{encoding_of}
 use Rattle.yaml_scan_decode.specs.DecodedText.{decoding_fault}
 use Rattle.yaml_scan_history.specs.Remaining.{nothing}
-use Rattle.yaml_scan_machine.specs.scan_laws_order.Fronts.{GivesFirst}
+use Rattle.yaml_scan_laws_order.specs.Fronts.{GivesFirst}
 use Rattle.yaml_scan_machine.specs.declared.machine.Machine.{Machine}
 use Rattle.yaml_scan_machine.specs.Left.{left_in, IsTold}
 use Rattle.yaml_scan_machine.specs.State.{IsShort, IsMachine, is_ready}
-use Rattle.yaml_scan.specs.Settled.{settles}
-use Rattle.yaml_scan.specs.Session.{HasMore}
-use Rattle.yaml_scan.specs.declared.reading.Sought.{Sought}
-use Rattle.yaml_scan.specs.declared.reading.Sought.TheVariants as found
+use Rattle.yaml_scan_machine.specs.Settled.{settles}
+use Rattle.yaml_scan_machine.specs.declared.reading.Sought.{Sought}
+use Rattle.yaml_scan_machine.specs.declared.reading.Sought.TheVariants as found
 
 -- how many lexemes were read
 abbrev pub read_by : Machine → ℕ
@@ -51,6 +50,12 @@ pub record Finishes (old new : Machine) : Type 0 where
   pub left : left_in old ≡ nothing
   pub none : left_in new ≡ nothing
   pub reads : ReadsAsNeeded old new
+
+-- a token or a fault is to come
+abbrev pub HasMore : List Token → Option Fault → Type 0
+HasMore [] None = ⊥
+HasMore [] (Some f) = Unit {0}
+HasMore (t ∷ ts) fault = Unit {0}
 
 -- A refusal tells the fault that is to come, where no token is, or that memory ran out; a token that is known isn't refused, nor
 -- is the end.

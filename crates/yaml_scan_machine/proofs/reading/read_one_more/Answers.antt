@@ -1,5 +1,5 @@
 use Rattle.std.proofs.Common.{refl}
-use Rattle.yaml_scan.proofs.reading.read_one_more.Goals as goal
+use Rattle.yaml_scan_machine.proofs.reading.read_one_more.Goals as goal
 
 pub stand-requires-clause-stands : goal.stand-requires-clause-stands
 stand-requires-clause-stands c = c.requires.may.stands

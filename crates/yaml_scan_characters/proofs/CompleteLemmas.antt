@@ -63,12 +63,14 @@ offence_in : (r : Result (List ℕ) Offence) (o : Offence) → outcome r ≡ Err
 offence_in (Ok cs) o h = cc
 offence_in (Err p) o h = cc
 
+-- where bytes in UTF-8 are read to an offence, it is their first one
 pub checked_offence : (s : yaml_encoding_t) (bytes : List ℕ) (o : Offence)
     → encoding_of s bytes ≡ YAML_UTF8_ENCODING
     → outcome (characters (length bytes) YAML_UTF8_ENCODING bytes (mark_length s bytes)) ≡ Err o
     → first_offence s bytes ≡ Some o
 checked_offence s bytes o e h = rw e (offence_in _ o h)
 
+-- as many as are left are all that is left
 pub take_rest : (l : List ℕ) (n : ℕ) → take (length l - n) (drop n l) ≡ drop n l
 take_rest l n = take_all (length l - n) (drop n l) (omega (arith, length-drop n l))
 
@@ -310,6 +312,7 @@ spelled_by s bytes text (Ok cs) are is h =
     let k = sound (length bytes) (encoding_of s bytes) bytes (mark_length s bytes) cs are (omega arith) is in
     record { characters = cs; allowed = k.0; spelled = k.1; is = cc }
 
+-- the bytes spell the text that is decoded
 pub decoded_spells : (s : yaml_encoding_t) (bytes text : List ℕ) → AreBytes bytes
     → decoded_text s bytes ≡ Ok text → Spells s bytes text
 decoded_spells s bytes text are h = spelled_by s bytes text (decoded_characters s bytes) are refl h
@@ -319,6 +322,7 @@ offended : (s : yaml_encoding_t) (bytes : List ℕ) (r : Result (List ℕ) Offen
 offended s bytes (Ok cs) o text e h = cc
 offended s bytes (Err p) o text e h = cc
 
+-- bytes with an offence spell no text
 pub offence_unspelled : (s : yaml_encoding_t) (bytes : List ℕ) (o : Offence)
     → first_offence s bytes ≡ Some o → (text : List ℕ) → Spells s bytes text → ⊥
 offence_unspelled s bytes o e text k = offended s bytes (decoded_characters s bytes) o text e (spells_decoded s bytes text k)

@@ -6,4 +6,6 @@ pub mod offence;
 pub mod utf16;
 
 pub use decode::{yaml_decode, yaml_text_t};
+pub use offence::{Character, Offence};
+pub use utf16::ByteOrder;
 pub use yaml_scan_characters::stream_encoding;

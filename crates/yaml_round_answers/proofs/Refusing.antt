@@ -9,7 +9,7 @@ use Rattle.yaml_round.specs.Answers.{IsRight, IsSideStarved, IsSideFaulty, IsSam
 use Rattle.yaml_round.specs.declared.yaml_side_t.{yaml_side_t}
 use Rattle.yaml_round.specs.declared.yaml_side_t.TheVariants.{First, Second}
 use Rattle.yaml_round_answers.specs.declared.answer.yaml_c_answer.{yaml_c_answer}
-use Rattle.yaml_round_places.specs.Places.{characters_before}
+use Rattle.yaml_round_records.specs.Characters.{characters_before}
 use Rattle.yaml_round_records.specs.declared.yaml_c_mark.{yaml_c_mark}
 use Rattle.yaml_round_records.specs.Counted.{mark_counted}
 use Rattle.yaml_round_answers.specs.Told.{TellsFault, TellsFaultIn, TellsMemory, TellsStarved, Refuses, RefusesIn, OrMemory, IsAnswered, side_number, Compares}

@@ -6,8 +6,7 @@ ghost use Rattle.yaml_round_answers.specs.Told.{TellsText, TellsFault, TellsMisu
 
 use std::alloc::Global;
 use yaml_round::{yaml_fault_line, yaml_fault_t};
-use yaml_round_places::characters_before;
-use yaml_round_records::{error_number, mark_told, yaml_c_mark};
+use yaml_round_records::{characters_before, error_number, mark_told, yaml_c_mark};
 
 /// An answer: a text, or a fault. `kind` is 0, the number of the fault's kind, or -1 where an argument means nothing.
 #[repr(C)]

@@ -1,4 +1,5 @@
 pub mod Checked
+pub mod Characters
 pub mod Building
 pub mod Leading
 pub mod Giving

@@ -9,6 +9,7 @@ pub mod Leading
 pub mod Standing
 pub mod Onward
 pub mod Listing
+pub mod Characters
 pub mod Counted
 pub mod TokensListed
 pub mod TokensCounted

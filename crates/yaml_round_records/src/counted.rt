@@ -1,16 +1,17 @@
 //! Records of an input's events in their text: the characters in front of their marks, and which tags were left out.
 
 ghost use Rattle.std.specs.Prelude.{◌≡◌, map};
-ghost use Rattle.yaml_round_places.specs.Places.{Counts};
+ghost use Rattle.yaml_round_records.specs.Characters.{Counts};
 ghost use Rattle.yaml_round_records.specs.Counted.{mark_counted, leaves_out_tag, event_counted};
 
+use crate::counting::Count;
 use crate::record::{yaml_c_event, yaml_c_mark};
-use yaml_round_places::{Count, has_tag};
+use crate::tag::has_tag;
 
 /// Counts the characters in front of a mark.
 // Inlined: mostly each character is a byte.
 #[inline(always)]
-pub fn count_mark(text: &[u8], count: &mut Count, mark: &mut yaml_c_mark)
+pub(crate) fn count_mark(text: &[u8], count: &mut Count, mark: &mut yaml_c_mark)
     requires { Counts text.now count.old }
     ensures counts { Counts text.now count.new }
     ensures is { mark.new ≡ mark_counted text.now mark.old }

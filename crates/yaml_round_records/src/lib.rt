@@ -4,6 +4,7 @@
 
 mod collecting;
 mod counted;
+mod counting;
 mod emitter;
 mod event;
 mod listing;
@@ -12,12 +13,14 @@ mod number;
 mod onward;
 mod record;
 mod standing;
+mod tag;
 mod token_counted;
 mod token_listing;
 mod token_record;
 
 pub use collecting::collect;
-pub use counted::{count_events, count_mark};
+pub use counted::count_events;
+pub use counting::characters_before;
 pub use emitter::{Asked, asked_of, emitted};
 pub use listing::Listing;
 pub use meaning::are_meant;

@@ -1,12 +1,12 @@
 //! Records of an input's tokens with the characters in front of their marks.
 
 ghost use Rattle.std.specs.Prelude.{◌≡◌, map};
-ghost use Rattle.yaml_round_places.specs.Places.{Counts};
+ghost use Rattle.yaml_round_records.specs.Characters.{Counts};
 ghost use Rattle.yaml_round_records.specs.TokensCounted.{token_counted};
 
 use crate::counted::count_mark;
+use crate::counting::Count;
 use crate::token_record::yaml_c_token;
-use yaml_round_places::Count;
 
 fn count_token(text: &[u8], count: &mut Count, token: &mut yaml_c_token)
     requires { Counts text.now count.old }

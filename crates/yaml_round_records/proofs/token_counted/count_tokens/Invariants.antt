@@ -1,6 +1,6 @@
 -- The first ones are counted, and the others are as they were.
 use Rattle.std.proofs.Common.{◌≡◌, ◌++◌, map, take, drop}
-use Rattle.yaml_round_places.specs.Places.{Counts}
+use Rattle.yaml_round_records.specs.Characters.{Counts}
 use Rattle.yaml_round_records.specs.TokensCounted.{token_counted}
 use Rattle.yaml_round_records.proofs.token_counted.count_tokens.Given as goal
 

@@ -1,9 +1,9 @@
 -- What stands between the two places is counted.
 use Rattle.std.proofs.Common.{◌∙◌, ap, arith}
-use Rattle.yaml_round_places.specs.declared.counting.Count.{Count}
-use Rattle.yaml_round_places.proofs.Characters.{off, went_on, went_back}
-use Rattle.yaml_round_places.proofs.counting.Count.go_to.Goals.{then-self-place, else-self-place}
-use Rattle.yaml_round_places.proofs.counting.Count.go_to.Goals as goal
+use Rattle.yaml_round_records.specs.declared.counting.Count.{Count}
+use Rattle.yaml_round_records.proofs.Characters.{off, went_on, went_back}
+use Rattle.yaml_round_records.proofs.counting.Count.go_to.Goals.{then-self-place, else-self-place}
+use Rattle.yaml_round_records.proofs.counting.Count.go_to.Goals as goal
 
 pub overflow_sub-self : goal.overflow_sub-self
 overflow_sub-self c = off _ c.args.place c.args.self.now.place _ _ (omega (arith, c.if-self-place.false)) c.requires.within c.requires.counts.is c.characters-else-self-place.ensures

@@ -3,7 +3,7 @@
 ghost use Rattle.std.specs.Prelude.{◌≡◌, drop, take};
 ghost use Rattle.yaml_scan_model.specs.Marks.{byte};
 ghost use Rattle.yaml_scan_words.specs.Between.{gap_at};
-ghost use Rattle.yaml_round_places.specs.Places.{behind_gap, stands_behind, begins_tag, has_tag};
+ghost use Rattle.yaml_round_records.specs.Characters.{behind_gap, stands_behind, begins_tag, has_tag};
 
 use yaml_scan_model::Reader;
 use yaml_scan_words::skip_gap;
@@ -54,7 +54,7 @@ fn begins_tag(part: &[u8], name: u64) -> bool
 
 /// Whether the node between two places in a text has a tag, which stands first or behind the anchor; `name` is the length of the
 /// anchor's name.
-pub fn has_tag(text: &[u8], start: u64, end: u64, name: u64) -> bool
+pub(crate) fn has_tag(text: &[u8], start: u64, end: u64, name: u64) -> bool
     ensures { result ≡ has_tag text.now start end name }
 {
     begins_tag(up_to(past(text, start), end.saturating_sub(start)), name)

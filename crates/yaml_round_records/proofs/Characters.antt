@@ -6,7 +6,7 @@ use Rattle.std.proofs.lemmas.List.Sums.{count_by-le-length, sum_by-append, sum_b
 use Rattle.std.proofs.lemmas.List.{length-take-le, length-drop, take-append-drop, take_min}
 use Rattle.std.proofs.Math.Seq.{take-append-add}
 use Rattle.yaml_scan_model.specs.Marks.{starts}
-use Rattle.yaml_round_places.specs.Places.{characters_before}
+use Rattle.yaml_round_records.specs.Characters.{characters_before}
 
 parted : (text : List ℕ) (a k : ℕ) → a ≤ length text
     → take (a + k) text ≡ take a text ++ take k (drop a text)

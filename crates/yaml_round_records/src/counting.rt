@@ -3,14 +3,14 @@
 ghost use Rattle.std.specs.Prelude.{◌≡◌, ◌≤◌, length, slice_range};
 ghost use Rattle.std.specs.List.{count_by};
 ghost use Rattle.yaml_scan_model.specs.Marks.{starts as starts_of};
-ghost use Rattle.yaml_round_places.specs.Places.{characters_before, Counts};
+ghost use Rattle.yaml_round_records.specs.Characters.{characters_before, Counts};
 
 use yaml_scan_model::starts;
 
 /// How many characters stand in front of a place in a text, from which the next one is counted. Where each character of the text is a
 /// byte, none is counted.
 #[derive(Drop)]
-pub struct Count {
+pub(crate) struct Count {
     /// Each character of the text is a byte.
     pub is_single: bool,
     pub place: usize,
@@ -33,7 +33,7 @@ fn characters(text: &[u8]) -> u64
 
 impl Count {
     /// The beginning of a text.
-    pub fn new(text: &[u8]) -> Count
+    pub(crate) fn new(text: &[u8]) -> Count
         ensures { Counts text.now result }
     {
         Count {
@@ -63,7 +63,7 @@ impl Count {
     /// How many characters of the text stand in front of a place; behind its end, all.
     // Inlined: mostly each character is a byte.
     #[inline(always)]
-    pub fn characters_before(&mut self, text: &[u8], place: u64) -> u64
+    pub(crate) fn characters_before(&mut self, text: &[u8], place: u64) -> u64
         requires { Counts text.now self.old }
         ensures counts { Counts text.now self.new }
         ensures is { result ≡ characters_before text.now place }

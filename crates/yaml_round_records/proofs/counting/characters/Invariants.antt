@@ -2,7 +2,7 @@
 use Rattle.std.proofs.Common.{◌≡◌, ◌≤◌, take}
 use Rattle.std.specs.List.{count_by}
 use Rattle.yaml_scan_model.specs.Marks.{starts as starts_of}
-use Rattle.yaml_round_places.proofs.counting.characters.Given as goal
+use Rattle.yaml_round_records.proofs.counting.characters.Given as goal
 
 abbrev pub invariant-loop-i : goal.invariant-loop-i
 invariant-loop-i l = record {

@@ -1,0 +1,9 @@
+pub mod Depths
+pub mod TokenLaws
+pub mod Moved
+pub mod WindowsLaws
+pub mod Grammar
+pub mod Values
+pub mod Exceptions
+pub mod JsonLaws
+pub mod SizesLaws

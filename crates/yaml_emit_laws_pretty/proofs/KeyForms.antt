@@ -4,8 +4,8 @@ use Rattle.yaml_emit_laws_pretty.proofs.Words.{nat_tests, yaml_encoding_t, Token
 use Rattle.yaml_emit_laws_text.specs.emit_layout.scan_model.Tokens as tokens
 use Rattle.yaml_emit_laws_text.specs.scan_history.declared.kind.Kind.TheVariants as kinds
 use Rattle.yaml_emit_laws_text.specs.scan_history.declared.lexeme.Opens.TheVariants as opening
-use Rattle.yaml_emit_laws_scalars.specs.KeysLaws.{StaysNear}
-use Rattle.yaml_emit_laws_scalars.proofs.OneLine.{near_fresh}
+use Rattle.yaml_emit_laws_pretty.specs.KeysLaws.{StaysNear}
+use Rattle.yaml_emit_laws_pretty.proofs.OneLine.{near_fresh}
 use Rattle.yaml_emit_laws_pretty.proofs.KeySteps.{columns_grow, Frame, KeyFit, KeyRuns, front, spot_at, key_words, key_front, key_begun, key_space, key_colon, square, curly, brackets_first, brackets_more}
 use Rattle.yaml_emit_laws_pretty.proofs.LeafProps.{Dress, Moved, Leads, NonePlain}
 

@@ -5,9 +5,9 @@ use Rattle.yaml_emit_laws_text.specs.emit_layout.scan_model.Tokens as tokens
 use Rattle.yaml_emit_laws_text.specs.scan_history.declared.kind.Kind.TheVariants as kinds
 use Rattle.yaml_emit_laws_text.specs.emit_layout.emit_text.declared.Chomp.{Chomp}
 use Rattle.yaml_emit_laws_text.specs.emit_layout.emit_text.declared.Chomp.TheVariants as chomping
-use Rattle.yaml_emit_laws_scalars.proofs.BlockWhole.{block_back, block_at_position}
-use Rattle.yaml_emit_laws_scalars.proofs.BlockHeader.{block_is_passed}
-use Rattle.yaml_scan_laws_levels.proofs.WordForward.{Fits, LandsWord, IsWordFrom, word_lands}
+use Rattle.yaml_emit_laws_pretty.proofs.BlockWhole.{block_back, block_at_position}
+use Rattle.yaml_emit_laws_pretty.proofs.BlockHeader.{block_is_passed}
+use Rattle.yaml_scan_laws_texts.proofs.WordForward.{Fits, LandsWord, IsWordFrom, word_lands}
 use Rattle.yaml_emit_laws_pretty.proofs.Lining.{no_gap, line_ends, up_says, word_begins_white}
 use Rattle.yaml_emit_laws_pretty.proofs.KeySteps.{columns_grow}
 use Rattle.yaml_emit_laws_text.specs.emit_layout.emit_text.declared.Style.TheVariants as style

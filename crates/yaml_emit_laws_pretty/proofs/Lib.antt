@@ -1,3 +1,24 @@
+mod ScalarWords
+pub mod Standing
+pub mod PlainParts
+pub mod Lines
+pub mod Letters
+pub mod Writing
+mod Shown
+pub mod SingleWritten
+pub mod PlainStart
+pub mod Stopping
+pub mod Near
+pub mod OneLine
+pub mod NearKeys
+pub mod Styles
+pub mod BlockHeader
+mod BlockLayouts
+mod BlockWaiting
+mod BlockValues
+mod BlockReading
+pub mod BlockWhole
+pub mod BlockLexemes
 mod Words
 pub mod Lining
 pub mod KeySteps

@@ -3,8 +3,8 @@ use Rattle.yaml_emit_laws_pretty.proofs.Words.{anchor_is_read, lone_mark_is_read
 use Rattle.yaml_scan_laws_texts.proofs.Directives.{version_is_read}
 use Rattle.yaml_emit_laws_text.proofs.Parts.{single_spelling_reads}
 use Rattle.yaml_emit_laws_text.proofs.TagsLines.{directive_read}
-use Rattle.yaml_emit_laws_scalars.proofs.Single.{single_back}
-use Rattle.yaml_emit_laws_scalars.proofs.Styles.{styles_allowed}
+use Rattle.yaml_emit_laws_pretty.proofs.SingleWritten.{single_back}
+use Rattle.yaml_emit_laws_pretty.proofs.Styles.{styles_allowed}
 use Rattle.yaml_emit_laws_pretty.proofs.SpokenWords.{plain_on, single_on}
 use Rattle.yaml_emit_laws_pretty.proofs.LeafNodes.{leaves_on, blocks_on}
 use Rattle.yaml_emit_laws_pretty.proofs.LeafProps.{properties_on}

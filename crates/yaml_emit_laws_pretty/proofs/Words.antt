@@ -12,19 +12,19 @@ pub use Rattle.yaml_emit_laws_pretty.specs.Nodes.{BlockScalarsAreWalked, Bracket
 pub use Rattle.yaml_emit_laws_pretty.specs.Spoken.{AllFit, Behind, Fits, SaysTokens, Spoken, WordStands, all_bodies, all_bytes, ends_name, is_text, spoken_bytes}
 pub use Rattle.yaml_emit_laws_pretty.specs.Walk.{Answer, BareIndicator, Entry, Follows, GoesBehindNode, IsLone, LineEndsNode, LineIsWalked, Lined, LinedUp, MarkIsWalked, NoFeed, NodeStage, PlainIsWalked, Question, SingleIsWalked, Walks, mark_body, mark_byte, mark_level}
 unfoldable pub use Rattle.yaml_emit_laws_pretty.specs.Walk.{no_comment}
-pub use Rattle.yaml_emit_laws_scalars.proofs.Lines.{blanks_column, blanks_kept}
-pub use Rattle.yaml_emit_laws_scalars.proofs.NearKeys.{Above, above_append, alphas_calm, calm_all, digit_above, handle_above, kept_above, kept_writable, keys_near, marked_ascii}
-pub use Rattle.yaml_emit_laws_scalars.proofs.PlainStart.{plain_back}
-pub use Rattle.yaml_emit_laws_scalars.proofs.Standing.{high_starts, low_starts}
-pub use Rattle.yaml_emit_laws_scalars.proofs.Stopping.{are_words, behind_lines, blanks_bare, blanks_white, break_low, goes_on, has_gap, quoted_stands, single_kind, stands, stops_end, what_stops}
-pub use Rattle.yaml_emit_laws_scalars.specs.BlockLaws.{block_style, from_indicator, is_keep as keeps_all, margin_round, read_style}
-pub use Rattle.yaml_emit_laws_scalars.specs.BlockPassing.{BlockPassed, begins_white as begins_blank, behind_line}
-pub use Rattle.yaml_emit_laws_scalars.specs.PlainLaws.{PlainIsBack, PlainIsReadBack, may_be_plain}
-pub use Rattle.yaml_emit_laws_scalars.specs.SingleLaws.{SingleIsBack, SingleLinesAreReadBack}
-pub use Rattle.yaml_emit_laws_scalars.specs.StandsLaws.{PlainHasGap, PlainStands, ScalarsAreWords, SingleStands}
-pub use Rattle.yaml_emit_laws_scalars.specs.Stops.{begins_mark, begins_solid, begins_white, is_gap_byte}
-unfoldable pub use Rattle.yaml_emit_laws_scalars.specs.Stops.{stops_plain_at, white_of}
-pub use Rattle.yaml_emit_laws_scalars.specs.StylesLaws.{StylesAreAllowed}
+pub use Rattle.yaml_emit_laws_pretty.proofs.Lines.{blanks_column, blanks_kept}
+pub use Rattle.yaml_emit_laws_pretty.proofs.NearKeys.{Above, above_append, alphas_calm, calm_all, digit_above, handle_above, kept_above, kept_writable, keys_near, marked_ascii}
+pub use Rattle.yaml_emit_laws_pretty.proofs.PlainStart.{plain_back}
+pub use Rattle.yaml_emit_laws_pretty.proofs.Standing.{high_starts, low_starts}
+pub use Rattle.yaml_emit_laws_pretty.proofs.Stopping.{are_words, behind_lines, blanks_bare, blanks_white, break_low, goes_on, has_gap, quoted_stands, single_kind, stands, stops_end, what_stops}
+pub use Rattle.yaml_emit_laws_pretty.specs.BlockLaws.{block_style, from_indicator, is_keep as keeps_all, margin_round, read_style}
+pub use Rattle.yaml_emit_laws_pretty.specs.BlockPassing.{BlockPassed, begins_white as begins_blank, behind_line}
+pub use Rattle.yaml_emit_laws_pretty.specs.PlainLaws.{PlainIsBack, PlainIsReadBack, may_be_plain}
+pub use Rattle.yaml_emit_laws_pretty.specs.SingleLaws.{SingleIsBack, SingleLinesAreReadBack}
+pub use Rattle.yaml_emit_laws_pretty.specs.StandsLaws.{PlainHasGap, PlainStands, ScalarsAreWords, SingleStands}
+pub use Rattle.yaml_emit_laws_pretty.specs.Stops.{begins_mark, begins_solid, begins_white, is_gap_byte}
+unfoldable pub use Rattle.yaml_emit_laws_pretty.specs.Stops.{stops_plain_at, white_of}
+pub use Rattle.yaml_emit_laws_pretty.specs.StylesLaws.{StylesAreAllowed}
 pub use Rattle.yaml_emit_laws_text.proofs.Ascii.{alphas_ascii, directive_ascii, spelled_ascii}
 pub use Rattle.yaml_emit_laws_text.proofs.Bytes.{AreCalm, calm_end, calm_from}
 pub use Rattle.yaml_emit_laws_text.proofs.Documents.{Thrice, behind_three, end_begins, end_zero, has_all, line_blank, three, thrice_dash, thrice_dot}
@@ -91,19 +91,19 @@ unfoldable pub use Rattle.yaml_emit_laws_text.specs.scan_history.scan_scalars.Pl
 pub use Rattle.yaml_emit_laws_text.specs.scan_history.scan_scalars.Quoted.{double_quoted_at}
 pub use Rattle.yaml_emit_laws_text.specs.scan_history.scan_words.Laws.{AnchorReads}
 pub use Rattle.yaml_emit_laws_text.specs.scan_history.scan_words.Written.{HasAt, are_gap, begins_lexeme, has_break}
-pub use Rattle.yaml_scan_laws_levels.proofs.MarksForward.{line_at-grows}
-pub use Rattle.yaml_scan_laws_levels.proofs.Signing.{marks_come, printed_begins, signs_come}
-pub use Rattle.yaml_scan_laws_levels.proofs.Slotting.{feed_line, letter_columns, level_opens, near_before}
-pub use Rattle.yaml_scan_laws_levels.proofs.Stepping.{words_leave}
-pub use Rattle.yaml_scan_laws_levels.proofs.Walking.{deeper_leaves, levels_part, walk_answers, walk_asks, walk_ends, walk_key_goes, walk_key_starts, walk_key_stops, walk_mark, walk_outer, walk_says, walk_starts, walk_stops, walk_white, walk_word}
-unfoldable pub use Rattle.yaml_scan_laws_levels.specs.Fronts.{Rises}
-pub use Rattle.yaml_scan_laws_levels.specs.Pushes.{IsRight, stays_level}
-pub use Rattle.yaml_scan_laws_levels.specs.Signs.{MarkComes, SignComes, sign}
-pub use Rattle.yaml_scan_laws_levels.specs.Steps.{Comes, WordLeaves}
-pub use Rattle.yaml_scan_laws_levels.specs.Tokens.{start_bodies}
-pub use Rattle.yaml_scan_laws_levels.specs.Walks.{ClosesAt, Done, ReadsKey, WalkReads, WalkState, behind}
-unfoldable pub use Rattle.yaml_scan_laws_levels.specs.Walks.{LeaveClear, Outside}
-pub use Rattle.yaml_scan_laws_levels.specs.White.{IsGap}
+pub use Rattle.yaml_scan_laws_texts.proofs.MarksForward.{line_at-grows}
+pub use Rattle.yaml_scan_laws_texts.proofs.Signing.{marks_come, printed_begins, signs_come}
+pub use Rattle.yaml_scan_laws_texts.proofs.Slotting.{feed_line, letter_columns, level_opens, near_before}
+pub use Rattle.yaml_scan_laws_texts.proofs.Stepping.{words_leave}
+pub use Rattle.yaml_scan_laws_texts.proofs.Walking.{deeper_leaves, levels_part, walk_answers, walk_asks, walk_ends, walk_key_goes, walk_key_starts, walk_key_stops, walk_mark, walk_outer, walk_says, walk_starts, walk_stops, walk_white, walk_word}
+unfoldable pub use Rattle.yaml_scan_laws_texts.specs.Fronts.{Rises}
+pub use Rattle.yaml_scan_laws_texts.specs.Pushes.{IsRight, stays_level}
+pub use Rattle.yaml_scan_laws_texts.specs.Signs.{MarkComes, SignComes, sign}
+pub use Rattle.yaml_scan_laws_texts.specs.Steps.{Comes, WordLeaves}
+pub use Rattle.yaml_scan_laws_texts.specs.Tokens.{start_bodies}
+pub use Rattle.yaml_scan_laws_texts.specs.Walks.{ClosesAt, Done, ReadsKey, WalkReads, WalkState, behind}
+unfoldable pub use Rattle.yaml_scan_laws_texts.specs.Walks.{LeaveClear, Outside}
+pub use Rattle.yaml_scan_laws_texts.specs.White.{IsGap}
 pub use Rattle.yaml_scan_laws_texts.proofs.Lines.{lone_mark_is_read}
 pub use Rattle.yaml_scan_laws_texts.proofs.NamesRead.{anchor_is_read}
 pub use Rattle.yaml_scan_laws_texts.specs.WordsLaws.{LoneMarkReads, VersionReads}

@@ -13,8 +13,8 @@ use Rattle.yaml_emit_laws_text.specs.emit_layout.Content.{Opening, Node}
 use Rattle.yaml_emit_laws_text.specs.emit_layout.Nodes.{Context, context_of, position, is_simple, node_layout}
 use Rattle.yaml_emit_laws_text.specs.Walk.{Left, bytes}
 use Rattle.yaml_emit_laws_text.specs.Writable.{IsWritable}
-use Rattle.yaml_scan_laws_levels.specs.Walks.{WalkState, WalkReads, Outside}
-use Rattle.yaml_emit_laws_scalars.specs.Stops.{stops_plain_at}
+use Rattle.yaml_scan_laws_texts.specs.Walks.{WalkState, WalkReads, Outside}
+use Rattle.yaml_emit_laws_pretty.specs.Stops.{stops_plain_at}
 use Rattle.yaml_emit_laws_pretty.specs.Bodies.{node_bodies}
 use Rattle.yaml_emit_laws_pretty.specs.Walk.{no_comment}
 use Rattle.yaml_emit_laws_pretty.specs.Nodes.{IsPretty, PartedBehind, PropertiesAreWalked, BracketsAreWalked}

@@ -6,7 +6,7 @@ use Rattle.yaml_emit_laws_text.specs.scan_history.scan_model.Marks.{column_at}
 use Rattle.yaml_emit_laws_text.specs.emit_layout.emit_text.declared.Cursor.{Cursor}
 use Rattle.yaml_emit_laws_text.specs.emit_layout.emit_text.Layout.{Rest}
 use Rattle.yaml_emit_laws_text.specs.Walk.{Left, bytes}
-use Rattle.yaml_scan_laws_levels.specs.Walks.{WalkState}
+use Rattle.yaml_scan_laws_texts.specs.Walks.{WalkState}
 use Rattle.yaml_emit_laws_pretty.specs.Walk.{NodeStage}
 
 -- Behind a key's `:`, in the levels that it leaves.

@@ -1,3 +1,13 @@
+pub mod PlainLaws
+pub mod SingleLaws
+pub mod Stops
+pub mod KeysLaws
+pub mod StylesLaws
+pub mod StandsLaws
+pub mod BlockLines
+pub mod BlockLaws
+pub mod BlockLexemes
+pub mod BlockPassing
 pub mod Bodies
 pub mod Walk
 pub mod KeyLaws

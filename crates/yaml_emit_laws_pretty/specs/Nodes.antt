@@ -23,12 +23,12 @@ use Rattle.yaml_emit_laws_text.specs.emit_layout.Nodes.{Context, context_of, is_
 use Rattle.yaml_emit_laws_text.specs.Bodies.{anchor_bodies, tag_bodies}
 use Rattle.yaml_emit_laws_text.specs.Walk.{Left, bytes}
 use Rattle.yaml_emit_laws_text.specs.Writable.{IsWritable, IsWritableAnchor, IsWritableTag, IsWritableOpening}
-use Rattle.yaml_scan_laws_levels.specs.Fronts.{Rises}
-use Rattle.yaml_scan_laws_levels.specs.Tokens.{start_bodies}
-use Rattle.yaml_scan_laws_levels.specs.Walks.{WalkState}
-use Rattle.yaml_emit_laws_scalars.specs.Stops.{begins_white, begins_solid}
-use Rattle.yaml_emit_laws_scalars.specs.BlockLaws.{margin_round}
-use Rattle.yaml_emit_laws_scalars.specs.BlockPassing.{begins_white as begins_blank}
+use Rattle.yaml_scan_laws_texts.specs.Fronts.{Rises}
+use Rattle.yaml_scan_laws_texts.specs.Tokens.{start_bodies}
+use Rattle.yaml_scan_laws_texts.specs.Walks.{WalkState}
+use Rattle.yaml_emit_laws_pretty.specs.Stops.{begins_white, begins_solid}
+use Rattle.yaml_emit_laws_pretty.specs.BlockLaws.{margin_round}
+use Rattle.yaml_emit_laws_pretty.specs.BlockPassing.{begins_white as begins_blank}
 use Rattle.yaml_emit_laws_pretty.specs.Bodies.{style_at, is_flow_at, node_bodies, node_kept}
 use Rattle.yaml_emit_laws_pretty.specs.Walk.{NodeStage, Lined, LinedUp, Follows, NoFeed, no_comment}
 use Rattle.yaml_emit_laws_pretty.specs.KeyLaws.{Keyed}

@@ -9,8 +9,8 @@ use Rattle.yaml_emit_laws_text.specs.scan_history.Words.{kind_at, word_at}
 use Rattle.yaml_emit_laws_text.specs.emit_layout.emit_text.declared.Cursor.{Cursor}
 use Rattle.yaml_emit_laws_text.specs.emit_layout.emit_text.Layout.{Layout, Rest}
 use Rattle.yaml_emit_laws_text.specs.Walk.{Left, bytes, first}
-use Rattle.yaml_scan_laws_levels.specs.Steps.{WordLeaves}
-use Rattle.yaml_emit_laws_scalars.specs.Stops.{stops_plain_at, begins_white, white_of}
+use Rattle.yaml_scan_laws_texts.specs.Steps.{WordLeaves}
+use Rattle.yaml_emit_laws_pretty.specs.Stops.{stops_plain_at, begins_white, white_of}
 use Rattle.yaml_emit_laws_pretty.specs.Walk.{no_comment}
 
 -- anchors, tags, aliases and scalars in a line

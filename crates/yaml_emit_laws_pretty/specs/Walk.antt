@@ -9,9 +9,9 @@ use Rattle.yaml_emit_laws_text.specs.emit_layout.emit_text.Scalars.{plain, singl
 use Rattle.yaml_emit_laws_text.specs.emit_layout.emit_text.Style.{allowed}
 use Rattle.yaml_emit_laws_text.specs.scan_history.declared.lexeme.Opens.{Opens}
 use Rattle.yaml_emit_laws_text.specs.scan_history.declared.lexeme.Opens.TheVariants as opening
-use Rattle.yaml_scan_laws_levels.specs.Fronts.{Rises}
-use Rattle.yaml_scan_laws_levels.specs.Tokens.{start_bodies}
-use Rattle.yaml_emit_laws_scalars.specs.PlainLaws.{may_be_plain}
+use Rattle.yaml_scan_laws_texts.specs.Fronts.{Rises}
+use Rattle.yaml_scan_laws_texts.specs.Tokens.{start_bodies}
+use Rattle.yaml_emit_laws_pretty.specs.PlainLaws.{may_be_plain}
 use Rattle.yaml_emit_laws_text.specs.emit_layout.scan_model.declared.yaml_encoding_t.{yaml_encoding_t}
 use Rattle.yaml_emit_laws_text.specs.emit_layout.scan_model.Tokens.{TokenBody}
 use Rattle.yaml_emit_laws_text.specs.scan_history.scan_model.Marks.{column_at, line_at}
@@ -20,8 +20,8 @@ use Rattle.yaml_emit_laws_text.specs.emit_layout.emit_text.declared.Cursor.{Curs
 use Rattle.yaml_emit_laws_text.specs.emit_layout.emit_text.declared.LineBreak.{LineBreak}
 use Rattle.yaml_emit_laws_text.specs.emit_layout.emit_text.Layout.{Layout, Rest, line, indicator}
 use Rattle.yaml_emit_laws_text.specs.Walk.{Left, bytes, first}
-use Rattle.yaml_scan_laws_levels.specs.Walks.{WalkState, WalkReads}
-use Rattle.yaml_emit_laws_scalars.specs.Stops.{stops_plain_at, begins_white, is_gap_byte}
+use Rattle.yaml_scan_laws_texts.specs.Walks.{WalkState, WalkReads}
+use Rattle.yaml_emit_laws_pretty.specs.Stops.{stops_plain_at, begins_white, is_gap_byte}
 
 -- The lexemes up to a cursor, with levels `ls` and beside them `more`, told T. Where the line is bare, a key may begin, and the cursor's
 -- column is the text's. The line from which keys may be looked for is that of the place or an earlier one.

@@ -2,7 +2,7 @@
 
 ghost use Rattle.yaml_emit_laws_pretty.specs.Flows.{BracketsFollow};
 
-use yaml_emit_laws_scalars::{
+use crate::{
     plain_has_a_gap, plain_is_read_back, scalars_are_words, single_lines_are_read_back,
     styles_are_allowed,
 };

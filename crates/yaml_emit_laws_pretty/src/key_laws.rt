@@ -3,9 +3,7 @@
 ghost use Rattle.yaml_emit_laws_pretty.specs.Flows.{KeysAreWalkedIn};
 ghost use Rattle.yaml_emit_laws_pretty.specs.Nodes.{SimpleKeysAreWalked};
 
-use yaml_emit_laws_scalars::{
-    plain_has_a_gap, scalars_are_words, single_lines_are_read_back, styles_are_allowed,
-};
+use crate::{plain_has_a_gap, scalars_are_words, single_lines_are_read_back, styles_are_allowed};
 
 /// A simple key and its `:` are walked in a block, whatever it is.
 pub fn simple_keys_are_walked()

@@ -3,7 +3,7 @@
 ghost use Rattle.yaml_emit_laws_pretty.specs.Walk.{LineEndsNode, LineIsWalked, MarkIsWalked, PlainIsWalked, SingleIsWalked};
 ghost use Rattle.yaml_emit_laws_pretty.specs.Nodes.{NodesFollow, ShownEnds};
 
-use yaml_emit_laws_scalars::{plain_has_a_gap, plain_stands, scalars_are_words, single_stands};
+use crate::{plain_has_a_gap, plain_stands, scalars_are_words, single_stands};
 
 /// A line leads to its column, by a break and spaces or by spaces alone.
 pub fn line_is_walked()

@@ -3,7 +3,7 @@
 ghost use Rattle.yaml_emit_laws_pretty.specs.Nodes.{BlockScalarsAreWalked, LeavesAreWalked, PropertiesAreWalked};
 
 use crate::laws::{plain_is_walked, single_is_walked};
-use yaml_emit_laws_scalars::{plain_has_a_gap, styles_are_allowed};
+use crate::{plain_has_a_gap, styles_are_allowed};
 use yaml_emit_laws_text::quoted_is_read_back;
 
 /// An anchor, a tag, or both are walked.

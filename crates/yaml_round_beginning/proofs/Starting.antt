@@ -4,7 +4,7 @@ use Rattle.std.proofs.Math.Bool.{and-false}
 use Rattle.yaml_emit_layout.specs.scan_model.declared.yaml_encoding_t.{yaml_encoding_t}
 use Rattle.yaml_emit_layout.specs.Content.{Event, Opening, no_event, stream_start, stream_end, document_start, document_end, alias, scalar, sequence_start, sequence_end, mapping_start, mapping_end}
 use Rattle.yaml_emit_layout.specs.Nodes.{is_directed}
-use Rattle.yaml_round_laws_normal.specs.round_laws_pretty.Flags.{begins_with_nothing}
+use Rattle.yaml_round_laws_documents.specs.Flags.{begins_with_nothing}
 use Rattle.yaml_round_beginning.specs.declared.beginning.Beginning.TheVariants as known
 use Rattle.yaml_round_beginning.specs.Beginning.{nothing_comes}
 

@@ -2,7 +2,7 @@
 use Rattle.std.specs.Prelude.{Bool, true, false, not, ◌&&◌, List, ◌∷◌}
 use Rattle.yaml_emit_layout.specs.Content.{Event, stream_start, document_start, scalar}
 use Rattle.yaml_emit_layout.specs.Nodes.{is_directed}
-use Rattle.yaml_round_laws_normal.specs.round_laws_pretty.Flags.{says_nothing}
+use Rattle.yaml_round_laws_documents.specs.Flags.{says_nothing}
 use Rattle.yaml_round_beginning.specs.declared.beginning.Beginning.{Beginning}
 use Rattle.yaml_round_beginning.specs.declared.beginning.Beginning.TheVariants as known
 

@@ -6,11 +6,11 @@ use Rattle.yaml_scan_model.specs.declared.yaml_version_directive_t.{yaml_version
 use Rattle.yaml_parse_model.specs.Events.{EventBody, TagDirective}
 use Rattle.yaml_emit_layout.specs.Content.{Event}
 use Rattle.yaml_emit_layout.specs.Nodes.{has_version, has_directives}
-use Rattle.yaml_round_laws_normal.specs.round_content.Content.{content_of}
-use Rattle.yaml_round_laws_normal.specs.round_content.emit_text.Style.{last_or}
-use Rattle.yaml_round_laws_normal.specs.Readable.{readable_style}
-use Rattle.yaml_round_laws_normal.specs.Restyled as restyled
-use Rattle.yaml_round_laws_normal.specs.Restyled.{mark_by, is_first, is_start, next_position, readable_event}
+use Rattle.yaml_round_laws_documents.specs.round_content.Content.{content_of}
+use Rattle.yaml_round_laws_documents.specs.round_content.emit_text.Style.{last_or}
+use Rattle.yaml_round_laws_documents.specs.Readable.{readable_style}
+use Rattle.yaml_round_laws_documents.specs.Restyled as restyled
+use Rattle.yaml_round_laws_documents.specs.Restyled.{mark_by, is_first, is_start, next_position, readable_event}
 use Rattle.yaml_round_beginning.specs.declared.styles.OpeningPosition.{OpeningPosition}
 use Rattle.yaml_round_beginning.specs.declared.styles.OpeningPosition.TheVariants as place
 

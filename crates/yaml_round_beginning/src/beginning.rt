@@ -5,8 +5,8 @@ ghost use Rattle.std.specs.Prelude.{◌≡◌, ◌||◌, ◌∷◌, [], List, no
 ghost use Rattle.yaml_parse_model.specs.Events.{event_of, text_of, directive_of};
 ghost use Rattle.yaml_emit_layout.specs.Content.{Event, emitter_event};
 ghost use Rattle.yaml_emit_layout.specs.Nodes.{has_version, has_directives};
-ghost use Rattle.yaml_round_laws_normal.specs.round_laws_pretty.Bodies.{is_bare};
-ghost use Rattle.yaml_round_laws_normal.specs.round_laws_pretty.Flags.{is_asked_plain};
+ghost use Rattle.yaml_round_laws_documents.specs.Bodies.{is_bare};
+ghost use Rattle.yaml_round_laws_documents.specs.Flags.{is_asked_plain};
 ghost use Rattle.yaml_round_beginning.specs.Beginning as spec;
 
 use yaml_parse_model::{yaml_event_body_t, yaml_event_t};

@@ -20,6 +20,24 @@ pub mod Growing
 pub mod Documents
 pub mod Passing
 mod Injective
+mod PrettyWords
+mod PrettyNodes
+pub mod PrettyDocuments
+pub mod PrettyPassing
+pub mod Contents
+mod PrettySaying
+mod InputTexts
+pub mod PrettyJoining
+pub mod Theorem
+pub mod JsonInputs
+mod PrettyLayouts
+mod PrettyMarks
+pub mod Bytes
+mod ReadablePremises
+mod ReadableSaying
+mod ReadableStarting
+pub mod ReadableJoining
+pub mod Restyling
 -- what they speak of, and the laws beneath, for crates that name this one alone
 pub use Rattle.yaml_round_content.proofs.Contents as DocumentsContents
 pub use Rattle.yaml_round_content.proofs.ContentLoading as Loading

@@ -8,7 +8,7 @@ use Rattle.yaml_round.specs.declared.yaml_form_t.TheVariants.{Canonical, Pretty}
 use Rattle.yaml_round.specs.round_laws_documents.round_content.parse_grammar.Resolve.{Told}
 use Rattle.yaml_round_content.specs.Input.{events_of}
 use Rattle.yaml_round.specs.Reading.{emitter_events}
-use Rattle.yaml_round_beginning.specs.round_laws_normal.round_laws_pretty.Flags.{begins_with_nothing}
+use Rattle.yaml_round_beginning.specs.round_laws_documents.Flags.{begins_with_nothing}
 use Rattle.yaml_round.specs.Writing.{requested_under}
 use Rattle.yaml_round.specs.Answers.{IsReformatted, IsCanonicalDue, IsLaidOut, BeginsWithNothing, ReadsBack}
 use Rattle.yaml_round.specs.round_laws_documents.Stays.{SaysInput}

@@ -30,12 +30,12 @@ use Rattle.yaml_round.proofs.Normal.{canonical_under}
 use Rattle.yaml_round.proofs.Plain.{events_are}
 use Rattle.yaml_round.proofs.Joining.{read_said}
 use Rattle.yaml_round.proofs.ReadBack.{layout_is_of_input}
-use Rattle.yaml_round_laws_normal.specs.Readable.{is_unmarked, readable_node, readable_nodes, readable_pairs, documents_from, readable_documents}
+use Rattle.yaml_round_laws_documents.specs.Readable.{is_unmarked, readable_node, readable_nodes, readable_pairs, documents_from, readable_documents}
 use Rattle.yaml_emit_laws_text.specs.Sizes.{most_of_node, most_of_items, most_of_pairs, most_of_documents, most_bytes}
 use Rattle.yaml_emit_laws_text.proofs.SizesLaid.{by_content}
-use Rattle.yaml_round_laws_sizes.specs.Laws.{most_of_input}
-use Rattle.yaml_round_laws_sizes.proofs.Joining.{contents_bounded, layouts_short}
-use Rattle.yaml_round_laws_sizes.proofs.Tally.{tallies_same}
+use Rattle.yaml_round_laws_inputs.specs.SizesLaws.{most_of_input}
+use Rattle.yaml_round_laws_inputs.proofs.SizesJoining.{contents_bounded, layouts_short}
+use Rattle.yaml_round_laws_inputs.proofs.Tally.{tallies_same}
 use Rattle.yaml_round_laws_users.specs.Sizes.{most_of_answer, most_of_dumps, LimitsOfContentSuffice, ReformatsFit, NormalFormsFit, ReloadsFitDocuments}
 use Rattle.yaml_round_laws_users.proofs.Limits.{read_once, loaded_once, same_loading}
 

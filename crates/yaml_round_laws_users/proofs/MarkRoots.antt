@@ -33,8 +33,8 @@ use Rattle.yaml_round_content.proofs.Spelling.{spelled_before}
 use Rattle.yaml_round.specs.emit.Content as emit
 use Rattle.yaml_round.specs.emit.Content.{emitter_event}
 use Rattle.yaml_round_content.specs.emit_layout.Grammar.{has}
-use Rattle.yaml_round_beginning.specs.round_laws_normal.round_laws_pretty.Bodies.{is_bare, is_empty}
-use Rattle.yaml_round_beginning.specs.round_laws_normal.round_laws_pretty.Flags.{is_asked_plain}
+use Rattle.yaml_round_beginning.specs.round_laws_documents.Bodies.{is_bare, is_empty}
+use Rattle.yaml_round_beginning.specs.round_laws_documents.Flags.{is_asked_plain}
 use Rattle.yaml_round_beginning.specs.declared.beginning.Beginning.TheVariants as known
 use Rattle.yaml_round_beginning.specs.Beginning.{is_nothing_next, opens_with_nothing, nothing_comes}
 use Rattle.yaml_round_beginning.proofs.Starting.{from_start}

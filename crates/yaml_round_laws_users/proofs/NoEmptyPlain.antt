@@ -30,8 +30,8 @@ use Rattle.yaml_round_content.specs.scan_history.scan_decode.Encodings.{encoding
 use Rattle.yaml_round_content.specs.scan_history.scan_decode.Decoding.{decoded_text}
 use Rattle.yaml_round_content.specs.round_laws_adapted.Adapted.{spells_text, cut}
 use Rattle.yaml_round_content.specs.Input.{tokens_of}
-use Rattle.yaml_round_beginning.specs.round_laws_normal.round_laws_pretty.Bodies.{is_empty}
-use Rattle.yaml_round_beginning.specs.round_laws_normal.round_laws_pretty.Flags.{is_asked_plain}
+use Rattle.yaml_round_beginning.specs.round_laws_documents.Bodies.{is_empty}
+use Rattle.yaml_round_beginning.specs.round_laws_documents.Flags.{is_asked_plain}
 
 -- ---- what a lexeme carries
 

@@ -21,7 +21,7 @@ use Rattle.yaml_round.specs.round_laws_documents.Stays.{SaysInput}
 use Rattle.yaml_round.specs.round_laws_documents.round_content.Canon.{canon}
 use Rattle.yaml_round.specs.round_content.Events.{emitter_events}
 use Rattle.yaml_round_content.specs.Input.{events_of}
-use Rattle.yaml_round_beginning.specs.round_laws_normal.round_laws_pretty.Flags.{begins_with_nothing}
+use Rattle.yaml_round_beginning.specs.round_laws_documents.Flags.{begins_with_nothing}
 use Rattle.yaml_round.proofs.ReadBack.{inputs_read_back, tells_inputs}
 use Rattle.yaml_round.proofs.Plain.{events_are}
 use Rattle.yaml_round.proofs.Theorem.{pretty_reads_back, pretty_is_lost}

@@ -7,7 +7,7 @@ use Rattle.yaml_round_content.specs.parse_grammar.Trees as tree
 use Rattle.yaml_round_content.specs.parse_laws_trees.Places.{BeginsWithSentence}
 use Rattle.yaml_round_content.specs.Events.{emitter_events}
 use Rattle.yaml_round_content.specs.Input.{tokens_of, events_of}
-use Rattle.yaml_round_beginning.specs.round_laws_normal.round_laws_pretty.Flags.{begins_with_nothing}
+use Rattle.yaml_round_beginning.specs.round_laws_documents.Flags.{begins_with_nothing}
 
 abbrev pub is_no_handle : List ℕ → Bool
 is_no_handle [] = true

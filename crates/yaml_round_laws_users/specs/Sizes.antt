@@ -16,7 +16,7 @@ use Rattle.yaml_round.specs.Answers.{IsTooLong, IsReformatted}
 use Rattle.yaml_round.specs.Readable.{IsReadableAnswer}
 use Rattle.yaml_round.specs.Reload.{IsReloaded}
 use Rattle.yaml_emit_laws_text.specs.Sizes.{most_bytes}
-use Rattle.yaml_round_laws_sizes.specs.Laws.{read_bytes, most_of_read}
+use Rattle.yaml_round_laws_inputs.specs.SizesLaws.{read_bytes, most_of_read}
 
 -- the most bytes of a content's canonical text under the settings of a call
 abbrev pub most_of_content : yaml_settings_t → List Document → ℕ

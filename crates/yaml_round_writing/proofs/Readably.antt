@@ -9,8 +9,8 @@ use Rattle.yaml_round_laws_documents.specs.round_content.Input.{events_of}
 use Rattle.yaml_round_laws_documents.specs.round_content.Said.{Document, HasContent}
 use Rattle.yaml_round_laws_documents.proofs.ContentInputs.{have_content}
 use Rattle.yaml_round_laws_documents.proofs.ReadingJoining.{said_read, read_said}
-use Rattle.yaml_round_beginning.specs.round_laws_normal.Restyled.{Before, readable_events}
-use Rattle.yaml_round_beginning.proofs.Joining.{is_read, tells_inputs}
+use Rattle.yaml_round_beginning.specs.round_laws_documents.Restyled.{Before, readable_events}
+use Rattle.yaml_round_beginning.proofs.ReadableJoining.{is_read, tells_inputs}
 use Rattle.yaml_round_beginning.proofs.Restyling.{laid_out}
 use Rattle.yaml_round_reading.specs.Reading.{contents}
 use Rattle.yaml_round_reading.specs.Answers.{IsRight}

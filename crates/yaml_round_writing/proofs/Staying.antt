@@ -7,7 +7,7 @@ use Rattle.yaml_emit.specs.Streams.{IsStream}
 use Rattle.yaml_emit.specs.Text.{encode}
 use Rattle.yaml_round_laws_documents.specs.Stays.{SaysInput}
 use Rattle.yaml_round_laws_documents.specs.round_content.Input.{events_of}
-use Rattle.yaml_round_beginning.specs.round_laws_normal.round_laws_pretty.Flags.{begins_with_nothing}
+use Rattle.yaml_round_beginning.specs.round_laws_documents.Flags.{begins_with_nothing}
 use Rattle.yaml_round_beginning.proofs.Theorem.{pretty_reads_back}
 use Rattle.yaml_round_device.specs.declared.yaml_settings_t.{yaml_settings_t}
 use Rattle.yaml_round_reading.specs.Reading.{emitter_events}

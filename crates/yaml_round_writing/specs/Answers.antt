@@ -22,7 +22,7 @@ use Rattle.yaml_parse.specs.Resolve.{Told}
 use Rattle.yaml_round_laws_documents.specs.round_content.Said.{Document}
 use Rattle.yaml_round_laws_documents.specs.round_content.Reading.{PlainReading, HasEvents}
 use Rattle.yaml_round_laws_documents.specs.round_content.Canon.{canon}
-use Rattle.yaml_round_beginning.specs.round_laws_normal.round_laws_pretty.Flags.{begins_with_nothing}
+use Rattle.yaml_round_beginning.specs.round_laws_documents.Flags.{begins_with_nothing}
 unfoldable pub use Rattle.yaml_round_reading.specs.Answers.{IsRight, IsFaulty}
 pub use Rattle.yaml_round_reading.specs.Answers.{SameContent, IsCompared, IsSideFaulty, IsSideStarved, IsSame, ReadsBack}
 

@@ -11,7 +11,7 @@ use Rattle.yaml_round_device.specs.declared.yaml_settings_t.{yaml_settings_t}
 use Rattle.yaml_round_laws_documents.specs.round_content.Said.{Document}
 use Rattle.yaml_round_laws_documents.specs.round_content.Reading.{PlainReading}
 use Rattle.yaml_round_laws_documents.specs.round_content.Canon.{canon_encoding}
-use Rattle.yaml_round_beginning.specs.round_laws_normal.Readable.{readable, readable_items}
+use Rattle.yaml_round_beginning.specs.round_laws_documents.Readable.{readable, readable_items}
 use Rattle.yaml_round_reading.specs.Answers.{IsFaulty}
 use Rattle.yaml_round_writing.specs.Writing.{requested_under}
 

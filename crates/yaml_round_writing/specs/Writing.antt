@@ -20,7 +20,7 @@ use Rattle.yaml_round_writing.specs.declared.writing.Form.{Form}
 use Rattle.yaml_round_writing.specs.declared.writing.Form.TheVariants as form
 use Rattle.yaml_round_device.specs.declared.yaml_output_encoding_t.{yaml_output_encoding_t}
 use Rattle.yaml_round_device.specs.declared.yaml_output_encoding_t.TheVariants.{Utf8, Utf16Le, Utf16Be}
-use Rattle.yaml_round_beginning.specs.round_laws_normal.Restyled.{readable_events}
+use Rattle.yaml_round_beginning.specs.round_laws_documents.Restyled.{readable_events}
 use Rattle.yaml_round_beginning.specs.Beginning.{nothing_comes}
 use Rattle.yaml_round_beginning.specs.Styles.{position_of}
 use Rattle.yaml_round_reading.specs.Reading.{contents, emitter_events, AreReal, IsFaultOf}

@@ -16,6 +16,42 @@ pub mod TokensUtf8
 pub mod Decoded
 pub mod Lines
 pub mod Directives
+mod LevelWords
+pub mod Pushing
+pub mod Keying
+pub mod Ending
+pub mod Whites
+pub mod Slotting
+pub mod Stepping
+pub mod Walking
+pub mod TextsInRow
+pub mod Signing
+pub mod LookingBack
+mod Shared
+mod Bytes
+mod Gaps
+mod Plains
+mod Quotes
+mod Names
+mod CutsDirectives
+mod Blocks
+mod CutsWords
+mod Cutting
+mod Histories
+mod Coming
+pub mod BehindBreak
+mod Fronts
+mod Turning
+mod Rests
+pub mod Depths
+mod CutsJoining
+pub mod Windows
+mod Failing
+pub mod Refused
+pub mod CutsEnding
+pub mod Behind
+pub mod Leading
+pub mod Opening
 -- what it stands on, for crates that name this one alone
 pub use Rattle.yaml_scan_laws_order.proofs.CompleteLemmas
 pub use Rattle.yaml_scan_laws_order.proofs.SpellingLemmas
@@ -24,3 +60,6 @@ pub use Rattle.yaml_scan_words.proofs.HasLemmas
 pub use Rattle.yaml_scan_words.proofs.GapsRead
 pub use Rattle.yaml_scan_words.proofs.NamesRead
 pub use Rattle.yaml_scan_words.proofs.TagsRead
+pub use Rattle.yaml_scan_laws_order.proofs.MarksForward
+pub use Rattle.yaml_scan_laws_order.proofs.WordForward
+pub use Rattle.yaml_scan_laws_order.proofs.StreamForward as OrderLaws

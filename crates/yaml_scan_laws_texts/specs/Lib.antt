@@ -8,5 +8,21 @@ pub mod Utf8Laws
 pub mod Values
 pub mod PlainLaws
 pub mod WordsLaws
+pub mod Fronts
+pub mod Pushes
+pub mod Keys
+pub mod Tokens
+pub mod Ends
+pub mod White
+pub mod Slots
+pub mod Steps
+pub mod Walks
+pub mod Rows
+pub mod Signs
+pub mod LookBack
+pub mod Alike
+pub mod Cuts
+pub mod Moved
+pub mod CutsLaws
 -- what it stands on, for crates that name this one alone
 pub use Rattle.yaml_scan_laws_order.specs.scan_history

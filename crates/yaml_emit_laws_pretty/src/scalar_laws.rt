@@ -1,0 +1,103 @@
+//! Each function's contract is a law. A body cites a law of a lower crate.
+
+ghost use Rattle.yaml_emit_laws_pretty.specs.KeysLaws.{NearIsFresh, SimpleKeysAreNear};
+ghost use Rattle.yaml_emit_laws_pretty.specs.PlainLaws.{PlainIsReadBack};
+ghost use Rattle.yaml_emit_laws_pretty.specs.StandsLaws.{LinesStopPlain, PlainHasGap, PlainStands, ScalarsAreWords, SingleStands};
+ghost use Rattle.yaml_emit_laws_pretty.specs.SingleLaws.{SingleLinesAreReadBack};
+ghost use Rattle.yaml_emit_laws_pretty.specs.Stops.{CharactersAreSolid, PlainGoesOn, StopsBehindLines, StopsEndPlain, WhatStopsPlain};
+ghost use Rattle.yaml_emit_laws_pretty.specs.StylesLaws.{PagesIndent, StylesAreAllowed};
+ghost use Rattle.yaml_emit_laws_text.specs.QuotedLaws.{SingleIsReadBack};
+
+use yaml_emit_laws_text::single_spelling_reads;
+
+/// What an emitter writes for a value that may be plain is read as that value, as one plain scalar.
+pub fn plain_is_read_back()
+    ensures { PlainIsReadBack }
+{}
+
+/// What an emitter writes for a value between single quotes, with line breaks too, is read as the value.
+pub fn single_lines_are_read_back()
+    ensures { SingleLinesAreReadBack }
+{
+    single_spelling_reads();
+}
+
+/// What an emitter writes for a value of one line between single quotes is read as the value, unless a single quote stands behind.
+pub fn single_is_read_back()
+    ensures { SingleIsReadBack }
+{
+    single_spelling_reads();
+}
+
+/// Bytes that stop a plain scalar begin with a gap, behind which a plain scalar ends.
+pub fn stops_end_plain()
+    ensures { StopsEndPlain }
+{}
+
+/// A text that goes on with what is written for a plain value, and then with bytes that stop it, has that scalar there.
+pub fn plain_goes_on()
+    ensures { PlainGoesOn }
+{}
+
+/// Whether bytes stop a plain scalar, behind lines and spaces.
+pub fn lines_lead_to_columns()
+    ensures { StopsBehindLines }
+{}
+
+/// What is written for a simple key ends no line, and has at most 530 bytes.
+pub fn simple_keys_are_near()
+    ensures { SimpleKeysAreNear }
+{}
+
+/// Wherever a text has it, its end is on the line of each of its places, and near them.
+pub fn near_is_fresh()
+    ensures { NearIsFresh }
+{}
+
+/// What stops a plain scalar: the end, closers and commas in brackets, `:` before white, document marks, and what stands left of
+/// the level.
+pub fn what_stops_plain()
+    ensures { WhatStopsPlain }
+{}
+
+/// A character that is printable, no space and no break stops a plain scalar left of the level.
+pub fn characters_are_solid()
+    ensures { CharactersAreSolid }
+{}
+
+/// A scalar is laid out plain, single quoted or as a block only where that is allowed.
+pub fn styles_are_allowed()
+    ensures { StylesAreAllowed }
+{}
+
+/// A plain scalar that isn't empty has the space in front that is due.
+pub fn plain_has_a_gap()
+    ensures { PlainHasGap }
+{}
+
+/// Where a text goes on as a plain value's layout, and then with what stops it, one plain scalar with that value stands.
+pub fn plain_stands()
+    ensures { PlainStands }
+{}
+
+/// Where a text goes on as a single quoted value's layout, one single quoted scalar with that value stands.
+pub fn single_stands()
+    ensures { SingleStands }
+{
+    single_spelling_reads();
+}
+
+/// Plain and single quoted scalars that are read are words, with their tokens.
+pub fn scalars_are_words()
+    ensures { ScalarsAreWords }
+{}
+
+/// A line of n columns behind text stops a plain scalar, if what comes does so at column n.
+pub fn lines_stop_plain()
+    ensures { LinesStopPlain }
+{}
+
+/// Pages indent new lines, and not left of the level.
+pub fn pages_indent()
+    ensures { PagesIndent }
+{}

@@ -1,5 +1,0 @@
-use Rattle.yaml_emit_laws_scalars.proofs.Stopping.{quoted_stands}
-use Rattle.yaml_emit_laws_scalars.proofs.laws.single_stands.Goals as goal
-
-pub returns : goal.returns
-returns c = quoted_stands c.single_spelling_reads.ensures

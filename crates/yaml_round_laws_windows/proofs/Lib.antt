@@ -1,7 +1,0 @@
-mod Words
-mod Machine
-mod Readings
-mod Depths
-mod Joining
-mod Early
-mod Ended

@@ -1,5 +1,0 @@
-use Rattle.yaml_round_laws_windows.proofs.Joining.{windows_are_read}
-use Rattle.yaml_round_laws_windows.proofs.laws.windows_are_read.Goals as goal
-
-pub returns : goal.returns
-returns c = windows_are_read

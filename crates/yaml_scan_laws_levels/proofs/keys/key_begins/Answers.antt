@@ -1,5 +1,0 @@
-use Rattle.yaml_scan_laws_levels.proofs.Keying.{key_begins}
-use Rattle.yaml_scan_laws_levels.proofs.keys.key_begins.Goals as goal
-
-pub returns : goal.returns
-returns c = key_begins

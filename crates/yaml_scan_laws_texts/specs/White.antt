@@ -1,0 +1,75 @@
+-- The white behind lexemes, seen from a place: before it, or behind it, lexemes may have taken
+-- some.
+use Rattle.std.specs.Prelude.{◌≡◌, ℕ, ◌+◌, ◌==◌, Bool, true, false, not, ◌&&◌, ◌||◌, nat_lt, List, ◌∷◌, length, Some, Ok}
+use Rattle.yaml_scan_laws_order.specs.scan_model.Marks.{mark_at}
+use Rattle.yaml_scan_laws_order.specs.scan_words.Written.{HasAt, are_gap, has_break, begins_lexeme}
+use Rattle.yaml_scan_laws_order.specs.scan_history.declared.kind.Kind.{Kind}
+use Rattle.yaml_scan_laws_order.specs.scan_history.declared.lexeme.Lexeme.{Lexeme}
+use Rattle.yaml_scan_laws_order.specs.scan_history.Kinds.{allows_key, is_value}
+use Rattle.yaml_scan_laws_order.specs.scan_history.History.{reached, depth, candidate, fresh, has, key_allowed}
+use Rattle.yaml_scan_laws_order.specs.scan_history.Words.{WordText, kind_at, word_at}
+use Rattle.yaml_scan_laws_order.specs.scan_history.Next.{gap_behind, allowed_behind}
+use Rattle.yaml_scan_laws_texts.specs.Fronts.{Meets, read_at}
+
+-- From the place on stands a gap, and then a lexeme or the end.
+pub record IsGap (text : List ℕ) (p : ℕ) (gap : List ℕ) : Type 0 where
+  pub has : HasAt text p gap
+  pub blank : are_gap gap ≡ true
+  pub ends : begins_lexeme text (p + length gap) ≡ true
+
+-- What stands behind the white there stands behind the lexemes: a key may begin there where `now`
+-- says so, or where a break stands in the white and `broken` says so.
+pub record White (text : List ℕ) (h : List Lexeme) (p : ℕ) (now broken : Bool) : Type 0 where
+  pub place : (gap : List ℕ) → IsGap text p gap → (gap_behind text h).place ≡ p + length gap
+  pub allowed : (gap : List ℕ) → IsGap text p gap
+      → allowed_behind h (gap_behind text h) ≡ (now || (has_break gap && broken))
+
+-- Where the last lexeme ends before the white, which all do but plain and block scalars.
+abbrev pub WhiteBegins : Type 0
+WhiteBegins = (text : List ℕ) (h : List Lexeme) (p : ℕ) (now : Bool) → (reached h).index ≡ p
+    → key_allowed h ≡ now → White text h p now (not (nat_lt 0 (depth h)))
+
+-- Further white.
+abbrev pub WhiteGoesOn : Type 0
+WhiteGoesOn = (text : List ℕ) (h : List Lexeme) (p : ℕ) (now broken : Bool) (white : List ℕ)
+    → White text h p now broken
+    → HasAt text p white → are_gap white ≡ true
+    → White text h (p + length white) (now || (has_break white && broken)) broken
+
+-- The last lexeme has taken the whole white with it, as plain scalars do.
+abbrev pub WhiteIsTaken : Type 0
+WhiteIsTaken = (text : List ℕ) (h : List Lexeme) (p : ℕ) (white : List ℕ) → IsGap text p white
+    → (reached h).index ≡ p + length white → key_allowed h ≡ has_break white
+    → White text h p false true
+
+-- The last lexeme has taken the whole white with it, and no break in it counts, as behind
+-- directives.
+abbrev pub WhiteIsOver : Type 0
+WhiteIsOver = (text : List ℕ) (h : List Lexeme) (p : ℕ) (now : Bool) (white : List ℕ)
+    → IsGap text p white
+    → (reached h).index ≡ p + length white → key_allowed h ≡ now → White text h p now false
+
+-- The last lexeme has taken some of the white, and a key may begin behind it, as behind block
+-- scalars.
+abbrev pub WhiteIsPassed : Type 0
+WhiteIsPassed = (text : List ℕ) (h : List Lexeme) (p : ℕ) (white : List ℕ) (broken : Bool)
+    → HasAt text p white
+    → are_gap white ≡ true → (reached h).index ≡ p + length white → key_allowed h ≡ true
+    → White text h p true broken
+
+-- What stands behind white.
+abbrev pub WhiteMeets : Type 0
+WhiteMeets = (text : List ℕ) (h : List Lexeme) (p d level : ℕ) (now broken : Bool) (gap : List ℕ)
+    (k : Kind)
+    (w : WordText) → White text h p now broken → IsGap text p gap → let q = p + length gap in
+    kind_at (nat_lt 0 d) text q ≡ Some k → word_at k (nat_lt 0 d) level text q ≡ Ok w
+    → Meets text h d level k q (now || (has_break gap && broken)) w
+
+-- Whether a key may begin behind a lexeme that was read so.
+abbrev pub KeyIsAllowed : Type 0
+KeyIsAllowed = (text : List ℕ) (h : List Lexeme) (d : ℕ) (k : Kind) (q : ℕ) (a found : Bool)
+    (w : WordText)
+    → depth h ≡ d → (is_value k ≡ true → has (fresh (candidate d h) (mark_at text q)) ≡ found)
+    → let l = read_at text h k q a w in
+    ((reached (l ∷ h)).index ≡ w.reached) × (key_allowed (l
+    ∷ h) ≡ (allows_key k (d == 0) found || w.broke))

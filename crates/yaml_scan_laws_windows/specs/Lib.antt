@@ -1,4 +1,0 @@
-pub mod Alike
-pub mod Cuts
-pub mod Moved
-pub mod Laws

@@ -2,12 +2,10 @@
 #![tactic(auto)]
 
 mod decode;
-mod encoding;
-mod laws;
-mod offence;
-mod utf16;
-mod utf8;
+pub mod offence;
+pub mod utf16;
 
 pub use decode::{yaml_decode, yaml_text_t};
-pub use encoding::stream_encoding;
-pub use laws::offences_are_told;
+pub use offence::{Character, Offence};
+pub use utf16::ByteOrder;
+pub use yaml_scan_characters::stream_encoding;

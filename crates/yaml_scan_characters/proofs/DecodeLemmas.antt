@@ -1,0 +1,348 @@
+-- Decoding, a character at a time: what a character that stands at a place tells.
+use Rattle.std.proofs.Common.{◌≡◌, ℕ, pos, zero, suc, ◌+◌, ◌-◌, ◌*◌, ◌/◌, ◌%◌, ◌<◌, ◌≤◌, Bool, true, false, not, ◌&&◌, ◌==◌, nat_lt, cond, List, [], ◌∷◌, ◌++◌, take, drop, length, Result, Ok, Err, refl, arith, add-one, add-zero, drop-cons}
+use Rattle.std.proofs.lemmas.Bool.Decides.{nat_tests}
+use Rattle.std.specs.Char.{encode_utf8}
+use Rattle.std.specs.Char.Escape.{encode_utf16}
+use Rattle.yaml_scan_model.specs.declared.name.yaml_encoding_t.{yaml_encoding_t}
+use Rattle.yaml_scan_model.specs.declared.name.yaml_encoding_t.TheVariants.{YAML_ANY_ENCODING, YAML_UTF8_ENCODING, YAML_UTF16LE_ENCODING, YAML_UTF16BE_ENCODING}
+use Rattle.yaml_scan_model.specs.Marks.{byte}
+use Rattle.yaml_scan_model.specs.Classes.{width_of}
+use Rattle.yaml_scan_characters.specs.declared.offence.ReaderProblem.TheVariants as problems
+use Rattle.yaml_scan_characters.specs.declared.offence.Offence.{Offence}
+use Rattle.yaml_scan_characters.specs.declared.offence.Character.{Character}
+use Rattle.yaml_scan_characters.specs.declared.utf16.ByteOrder.{ByteOrder}
+use Rattle.yaml_scan_characters.specs.declared.utf16.ByteOrder.TheVariants.{LowFirst, HighFirst}
+use Rattle.yaml_scan_characters.specs.Characters.{is_allowed, allowed_at, least_code, valued_at, is_trailing, leading_bits, utf8_code, sequence_of, utf8_of, utf8_at, unit_at, utf16_of, utf16_at, offends, no_value, is_low_surrogate, is_high_surrogate, character_at}
+use Rattle.yaml_scan_characters.specs.Spelling.{unit_bytes, units_bytes, spelling}
+
+-- a character has four bytes at most
+pub width_small : (b : ℕ) → width_of b ≤ 4
+unfolding width_of
+width_small b = grind (arith, nat_tests)
+
+-- a test whose success is an offence failed where a character stands
+passed : (t : Bool) (o : Offence) (r : Result Character Offence) (ch : Character)
+    → cond t (Err o) r ≡ Ok ch → (t ≡ false) × (r ≡ Ok ch)
+passed true o r ch h = cc
+passed false o r ch h = (refl, h)
+
+chosen : (t : Bool) (x ch : Character) (o : Offence) → cond t (Ok x) (Err o) ≡ Ok ch
+    → (t ≡ true) × (ch ≡ x)
+chosen true x ch o h = (refl, cc)
+chosen false x ch o h = cc
+
+allowed_gives : (p width code : ℕ) (ch : Character) → allowed_at p width code ≡ Ok ch
+    → (is_allowed code ≡ true) × (ch ≡ record { code = code; width = width })
+unfolding allowed_at
+allowed_gives p width code ch h = chosen (is_allowed code) _ ch _ h
+
+valued_gives : (p width code : ℕ) (ch : Character) → valued_at p width code ≡ Ok ch
+    → (nat_lt code (least_code width) ≡ false) × (is_allowed code ≡ true)
+    × (ch ≡ record { code = code; width = width })
+unfolding valued_at
+valued_gives p width code ch h =
+    let (long, h1) = passed _ _ _ ch h in
+    let (scalar, h2) = passed _ _ _ ch h1 in
+    let (allowed, e) = allowed_gives p width code ch h2 in
+    (long, allowed, e)
+
+-- what the first bytes spell
+bytes_1 : (b : ℕ) → width_of b ≡ 1 → encode_utf8 b ≡ b ∷ []
+unfolding width_of encode_utf8
+bytes_1 b h = grind (arith, nat_tests)
+
+two_bytes : (x y : ℕ) → 2 ≤ x → x < 32 → y < 64
+    → encode_utf8 (x * 64 + y) ≡ (192 + x) ∷ (128 + y) ∷ []
+unfolding encode_utf8
+two_bytes x y low high small =
+    let a : (x * 64 + y) / 64 ≡ x = omega arith in
+    let b : (x * 64 + y) % 64 ≡ y = omega arith in
+    grind (arith, nat_tests)
+
+three_bytes : (x y z : ℕ) → 2048 ≤ (x * 64 + y) * 64 + z → x < 16 → y < 64 → z < 64
+    → encode_utf8 ((x * 64 + y) * 64 + z) ≡ (224 + x) ∷ (128 + y) ∷ (128 + z) ∷ []
+unfolding encode_utf8
+three_bytes x y z low high small last =
+    let a : ((x * 64 + y) * 64 + z) / 4096 ≡ x = omega arith in
+    let b : ((x * 64 + y) * 64 + z) / 64 % 64 ≡ y = omega arith in
+    let c : ((x * 64 + y) * 64 + z) % 64 ≡ z = omega arith in
+    grind (arith, nat_tests)
+
+four_bytes : (x y z w : ℕ) → 65536 ≤ ((x * 64 + y) * 64 + z) * 64 + w → x < 8 → y < 64 → z < 64
+    → w < 64
+    → encode_utf8 (((x * 64 + y) * 64 + z) * 64 + w) ≡ (240 + x) ∷ (128 + y) ∷ (128 + z) ∷ (128 + w)
+    ∷ []
+unfolding encode_utf8
+four_bytes x y z w low high small less last =
+    let a : (((x * 64 + y) * 64 + z) * 64 + w) / 262144 ≡ x = omega arith in
+    let b : (((x * 64 + y) * 64 + z) * 64 + w) / 4096 % 64 ≡ y = omega arith in
+    let c : (((x * 64 + y) * 64 + z) * 64 + w) / 64 % 64 ≡ z = omega arith in
+    let d : (((x * 64 + y) * 64 + z) * 64 + w) % 64 ≡ w = omega arith in
+    grind (arith, nat_tests)
+
+-- drop one byte
+pub drop_one : (bytes : List ℕ) (p : ℕ) → p < length bytes
+    → drop p bytes ≡ byte bytes p ∷ drop (p + 1) bytes
+drop_one bytes p h = rw (add-one, drop-cons bytes p 0)
+
+-- those four bytes
+abbrev four : ℕ → ℕ → ℕ → ℕ → List ℕ
+four b c d e = b ∷ c ∷ d ∷ e ∷ []
+
+-- the character is spelled by the first of those bytes
+pub record Leads (left b c d e : ℕ) (ch : Character) : Type 0 where
+  pub some : 0 < ch.width
+  pub few : ch.width ≤ 4
+  pub inside : ch.width ≤ left
+  pub allowed : is_allowed ch.code ≡ true
+  pub spelled : encode_utf8 ch.code ≡ take ch.width (four b c d e)
+
+code_1 : (b c d e : ℕ) → width_of b ≡ 1 → encode_utf8 (utf8_code 1 b c d e) ≡ b ∷ []
+unfolding utf8_code leading_bits
+code_1 b c d e h = bytes_1 b h
+
+code_2 : (b c d e : ℕ) → width_of b ≡ 2 → is_trailing c ≡ true
+    → nat_lt (utf8_code 2 b c d e) (least_code 2) ≡ false
+    → encode_utf8 (utf8_code 2 b c d e) ≡ b ∷ c ∷ []
+unfolding utf8_code leading_bits width_of least_code
+code_2 b c d e h tc long =
+    let low : 192 ≤ b = grind (arith, nat_tests) in
+    let high : b < 224 = grind (arith, nat_tests) in
+    let from : 128 ≤ c = grind (arith, nat_tests) in
+    let below : c < 192 = grind (arith, nat_tests) in
+    let least : 128 ≤ (b - 192) * 64 + (c - 128) = grind (arith, nat_tests) in
+    let all = two_bytes (b - 192) (c - 128) (omega arith) (omega arith) (omega arith) in
+    let x : 192 + (b - 192) ≡ b = omega arith in
+    let y : 128 + (c - 128) ≡ c = omega arith in
+    cc
+
+code_3 : (b c d e : ℕ) → width_of b ≡ 3 → is_trailing c ≡ true → is_trailing d ≡ true
+    → nat_lt (utf8_code 3 b c d e) (least_code 3) ≡ false
+    → encode_utf8 (utf8_code 3 b c d e) ≡ b ∷ c ∷ d ∷ []
+unfolding utf8_code leading_bits width_of least_code
+code_3 b c d e h tc td long =
+    let low : 224 ≤ b = grind (arith, nat_tests) in
+    let high : b < 240 = grind (arith, nat_tests) in
+    let from : 128 ≤ c = grind (arith, nat_tests) in
+    let below : c < 192 = grind (arith, nat_tests) in
+    let from_d : 128 ≤ d = grind (arith, nat_tests) in
+    let below_d : d < 192 = grind (arith, nat_tests) in
+    let least : 2048 ≤ ((b - 224) * 64 + (c - 128)) * 64 + (d - 128) = grind (arith, nat_tests) in
+    let all = three_bytes (b - 224) (c - 128) (d - 128) least (omega arith) (omega arith) (omega arith) in
+    let x : 224 + (b - 224) ≡ b = omega arith in
+    let y : 128 + (c - 128) ≡ c = omega arith in
+    let z : 128 + (d - 128) ≡ d = omega arith in
+    cc
+
+code_4 : (b c d e : ℕ) → width_of b ≡ 4 → is_trailing c ≡ true → is_trailing d ≡ true
+    → is_trailing e ≡ true → nat_lt (utf8_code 4 b c d e) (least_code 4) ≡ false
+    → encode_utf8 (utf8_code 4 b c d e) ≡ b ∷ c ∷ d ∷ e ∷ []
+unfolding utf8_code leading_bits width_of least_code
+code_4 b c d e h tc td te long =
+    let low : 240 ≤ b = grind (arith, nat_tests) in
+    let high : b < 248 = grind (arith, nat_tests) in
+    let from : 128 ≤ c = grind (arith, nat_tests) in
+    let below : c < 192 = grind (arith, nat_tests) in
+    let from_d : 128 ≤ d = grind (arith, nat_tests) in
+    let below_d : d < 192 = grind (arith, nat_tests) in
+    let from_e : 128 ≤ e = grind (arith, nat_tests) in
+    let below_e : e < 192 = grind (arith, nat_tests) in
+    let least : 65536 ≤ (((b - 240) * 64 + (c - 128)) * 64 + (d - 128)) * 64 + (e - 128) = grind (arith, nat_tests) in
+    let all = four_bytes (b - 240) (c - 128) (d - 128) (e - 128) least (omega arith) (omega arith) (omega arith) (omega arith) in
+    let x : 240 + (b - 240) ≡ b = omega arith in
+    let y : 128 + (c - 128) ≡ c = omega arith in
+    let z : 128 + (d - 128) ≡ d = omega arith in
+    let w : 128 + (e - 128) ≡ e = omega arith in
+    cc
+
+trails : (c : ℕ) → (true && not (is_trailing c)) ≡ false → is_trailing c ≡ true
+trails c h = grind (arith, nat_tests)
+
+sequence_gives : (width p b c d e : ℕ) (ch : Character) → width_of b ≡ width → 0 < width → width ≤ 4
+    → sequence_of width p b c d e ≡ Ok ch
+    → (is_allowed ch.code ≡ true) × (ch.width ≡ width)
+    × (encode_utf8 ch.code ≡ take width (four b c d e))
+unfolding sequence_of
+sequence_gives width p b c d e ch w some few h =
+    let (s, h1) = passed _ _ _ ch h in
+    let (t, h2) = passed _ _ _ ch h1 in
+    let (u, h3) = passed _ _ _ ch h2 in
+    let (long, allowed, is) = valued_gives p width (utf8_code width b c d e) ch h3 in
+    rw is (allowed, refl, by width w some few s t u long)
+  where
+    by : (width : ℕ) → width_of b ≡ width → 0 < width → width ≤ 4
+        → (nat_lt 1 width && not (is_trailing c)) ≡ false
+        → (nat_lt 2 width && not (is_trailing d)) ≡ false
+        → (nat_lt 3 width && not (is_trailing e)) ≡ false
+        → nat_lt (utf8_code width b c d e) (least_code width) ≡ false
+        → encode_utf8 (utf8_code width b c d e) ≡ take width (four b c d e)
+    by zero w some few s t u long = absurd (omega arith)
+    by (suc zero) w some few s t u long = code_1 b c d e w
+    by (suc (suc zero)) w some few s t u long = code_2 b c d e w (trails c s) long
+    by (suc (suc (suc zero))) w some few s t u long = code_3 b c d e w (trails c s) (trails d t) long
+    by (suc (suc (suc (suc zero)))) w some few s t u long = code_4 b c d e w (trails c s) (trails d t) (trails e u) long
+    by (suc (suc (suc (suc (suc n))))) w some few s t u long = absurd (omega arith)
+
+utf8_gives : (left p b c d e : ℕ) (ch : Character) → utf8_of left p b c d e ≡ Ok ch
+    → Leads left b c d e ch
+unfolding utf8_of
+utf8_gives left p b c d e ch h =
+    let (leading, h1) = passed (width_of b == 0) _ _ ch h in
+    let (whole, h2) = passed (nat_lt left (width_of b)) _ _ ch h1 in
+    let some : 0 < width_of b = grind (arith, nat_tests) in
+    let (allowed, is, spelled) = sequence_gives (width_of b) p b c d e ch refl some (width_small b) h2 in
+    record { some = rw is some; few = rw is (width_small b); inside = grind (arith, nat_tests); allowed = allowed; spelled = rw is spelled }
+
+-- a character stands at a place, with bytes of its own
+pub record Stands (bytes : List ℕ) (p : ℕ) (ch : Character) (own : List ℕ) : Type 0 where
+  pub some : 0 < ch.width
+  pub inside : p + ch.width ≤ length bytes
+  pub allowed : is_allowed ch.code ≡ true
+  pub spelled : drop p bytes ≡ own ++ drop (p + ch.width) bytes
+
+front : (bytes : List ℕ) (p w : ℕ) → w ≤ 4 → p + w ≤ length bytes
+    → drop p bytes ≡ take w (four (byte bytes p) (byte bytes (p + 1)) (byte bytes (p + 2))
+    (byte bytes (p + 3))) ++ drop (p + w) bytes
+front bytes p zero few inside = rw add-zero refl
+front bytes p (suc zero) few inside = drop_one bytes p (omega arith)
+front bytes p (suc (suc zero)) few inside =
+    let a = drop_one bytes p (omega arith) in
+    let b = drop_one bytes (p + 1) (omega arith) in
+    let e : p + 1 + 1 ≡ p + 2 = omega arith in
+    cc
+front bytes p (suc (suc (suc zero))) few inside =
+    let a = drop_one bytes p (omega arith) in
+    let b = drop_one bytes (p + 1) (omega arith) in
+    let c = drop_one bytes (p + 2) (omega arith) in
+    let e : p + 1 + 1 ≡ p + 2 = omega arith in
+    let f : p + 2 + 1 ≡ p + 3 = omega arith in
+    cc
+front bytes p (suc (suc (suc (suc zero)))) few inside =
+    let a = drop_one bytes p (omega arith) in
+    let b = drop_one bytes (p + 1) (omega arith) in
+    let c = drop_one bytes (p + 2) (omega arith) in
+    let d = drop_one bytes (p + 3) (omega arith) in
+    let e : p + 1 + 1 ≡ p + 2 = omega arith in
+    let f : p + 2 + 1 ≡ p + 3 = omega arith in
+    let g : p + 3 + 1 ≡ p + 4 = omega arith in
+    cc
+front bytes p (suc (suc (suc (suc (suc n))))) few inside = absurd (omega arith)
+
+-- A character that UTF-8 has at a place stands there by its bytes.
+pub utf8_stands : (bytes : List ℕ) (p : ℕ) (ch : Character) → p < length bytes
+    → utf8_at bytes p ≡ Ok ch → Stands bytes p ch (encode_utf8 ch.code)
+utf8_stands bytes p ch in_bytes h =
+    let l = utf8_gives _ _ _ _ _ _ ch h in
+    let inside : p + ch.width ≤ length bytes = omega (arith, l.inside) in
+    record { some = l.some; inside = inside; allowed = l.allowed; spelled = rw l.spelled (front bytes p ch.width l.few inside) }
+
+-- every byte is one
+abbrev pub AreBytes : List ℕ → Type 0
+AreBytes bytes = (k : ℕ) → byte bytes k < 256
+
+unit_spelled : (order : ByteOrder) (bytes : List ℕ) (p : ℕ) → AreBytes bytes
+    → unit_bytes order (unit_at order bytes p) ≡ byte bytes p ∷ byte bytes (p + 1) ∷ []
+unfolding unit_at
+unit_spelled LowFirst bytes p are =
+    let b = are p in
+    let c = are (p + 1) in
+    let x : (byte bytes p + byte bytes (p + 1) * 256) % 256 ≡ byte bytes p = omega arith in
+    let y : (byte bytes p + byte bytes (p + 1) * 256) / 256 ≡ byte bytes (p + 1) = omega arith in
+    cc
+unit_spelled HighFirst bytes p are =
+    let b = are p in
+    let c = are (p + 1) in
+    let x : (byte bytes p * 256 + byte bytes (p + 1)) / 256 ≡ byte bytes p = omega arith in
+    let y : (byte bytes p * 256 + byte bytes (p + 1)) % 256 ≡ byte bytes (p + 1) = omega arith in
+    cc
+
+unit_small : (order : ByteOrder) (bytes : List ℕ) (p : ℕ) → AreBytes bytes
+    → unit_at order bytes p < 65536
+unfolding unit_at
+unit_small LowFirst bytes p are = omega (arith, are p, are (p + 1))
+unit_small HighFirst bytes p are = omega (arith, are p, are (p + 1))
+
+-- a unit of its own, or a pair of them
+data Units (left u v : ℕ) (ch : Character) : Type 0 where
+  one : 2 ≤ left → is_allowed ch.code ≡ true → ch ≡ record { code = u; width = 2 }
+      → Units left u v ch
+  pair : 4 ≤ left → is_allowed ch.code ≡ true → ch.width ≡ 4 → encode_utf16 ch.code ≡ u ∷ v ∷ []
+      → Units left u v ch
+
+pair_units : (u v : ℕ) → is_high_surrogate u ≡ true → is_low_surrogate v ≡ true
+    → encode_utf16 (0x1_0000 + (u - 0xD800) * 0x400 + (v - 0xDC00)) ≡ u ∷ v ∷ []
+pair_units u v high low =
+    let a : 0xD800 ≤ u = grind (arith, nat_tests) in
+    let b : u ≤ 0xDBFF = grind (arith, nat_tests) in
+    let c : 0xDC00 ≤ v = grind (arith, nat_tests) in
+    let d : v ≤ 0xDFFF = grind (arith, nat_tests) in
+    let e : 0x1_0000 + (u - 0xD800) * 0x400 + (v - 0xDC00) - 0x1_0000 ≡ (u - 0xD800) * 0x400 + (v - 0xDC00) = omega arith in
+    let f : 0xD800 + ((u - 0xD800) * 0x400 + (v - 0xDC00)) / 0x400 ≡ u = omega arith in
+    let g : 0xDC00 + ((u - 0xD800) * 0x400 + (v - 0xDC00)) % 0x400 ≡ v = omega arith in
+    grind (arith, nat_tests)
+
+one_unit : (u : ℕ) → u < 65536 → encode_utf16 u ≡ u ∷ []
+one_unit u h = grind (arith, nat_tests)
+
+utf16_gives : (left p u v : ℕ) (ch : Character) → utf16_of left p u v ≡ Ok ch → Units left u v ch
+unfolding utf16_of
+utf16_gives left p u v ch h =
+    let (whole, h1) = passed (nat_lt left 2) _ _ ch h in
+    let (free, h2) = passed (is_low_surrogate u) _ _ ch h1 in
+    by (is_high_surrogate u) refl h2
+  where
+    room : (n : ℕ) → nat_lt left n ≡ false → n ≤ left
+    room n e = grind (arith, nat_tests)
+
+    by : (t : Bool) → is_high_surrogate u ≡ t
+        → cond (not t) (allowed_at p 2 u)
+        (cond (nat_lt left 4) (offends problems.IncompletePair p no_value)
+        (cond (not (is_low_surrogate v)) (offends problems.ExpectedLowSurrogate (p + 2) (pos v))
+        (allowed_at p 4 (0x1_0000 + (u - 0xD800) * 0x400 + (v - 0xDC00))))) ≡ Ok ch
+        → Units left u v ch
+    by false e g =
+        let (whole, _) = passed (nat_lt left 2) _ _ ch h in
+        let (allowed, is) = allowed_gives p 2 u ch g in
+        one (room 2 whole) (rw is allowed) is
+    by true e g =
+        let (both, g1) = passed (nat_lt left 4) _ _ ch g in
+        let (second, g2) = passed (not (is_low_surrogate v)) _ _ ch g1 in
+        let low : is_low_surrogate v ≡ true = grind (arith, nat_tests) in
+        let (allowed, is) = allowed_gives p 4 _ ch g2 in
+        pair (room 4 both) (rw is allowed) (rw is refl) (rw is (pair_units u v e low))
+
+pub utf16_stands : (order : ByteOrder) (bytes : List ℕ) (p : ℕ) (ch : Character) → AreBytes bytes
+    → p < length bytes → utf16_at order bytes p ≡ Ok ch
+    → Stands bytes p ch (units_bytes order (encode_utf16 ch.code))
+utf16_stands order bytes p ch are in_bytes h = by (utf16_gives _ _ _ _ ch h)
+  where
+    by : Units (length bytes - p) (unit_at order bytes p) (unit_at order bytes (p + 2)) ch
+        → Stands bytes p ch (units_bytes order (encode_utf16 ch.code))
+    by (one left allowed is) =
+        let a = drop_one bytes p (omega arith) in
+        let b = drop_one bytes (p + 1) (omega arith) in
+        let e : p + 1 + 1 ≡ p + 2 = omega arith in
+        let here = unit_spelled order bytes p are in
+        let code : encode_utf16 ch.code ≡ unit_at order bytes p ∷ [] = rw is (one_unit _ (unit_small order bytes p are)) in
+        let width : ch.width ≡ 2 = rw is refl in
+        record { some = omega arith; inside = omega arith; allowed = allowed; spelled = rw (code, here, width) (cc) }
+    by (pair left allowed width code) =
+        let a = drop_one bytes p (omega arith) in
+        let b = drop_one bytes (p + 1) (omega arith) in
+        let c = drop_one bytes (p + 2) (omega arith) in
+        let d = drop_one bytes (p + 3) (omega arith) in
+        let e : p + 1 + 1 ≡ p + 2 = omega arith in
+        let f : p + 2 + 1 ≡ p + 3 = omega arith in
+        let g : p + 3 + 1 ≡ p + 4 = omega arith in
+        let here = unit_spelled order bytes p are in
+        let there = unit_spelled order bytes (p + 2) are in
+        record { some = omega arith; inside = omega arith; allowed = allowed; spelled = rw (code, here, there, width) (cc) }
+
+-- a character that stands in the bytes is spelled by them
+pub character_stands : (e : yaml_encoding_t) (bytes : List ℕ) (p : ℕ) (ch : Character)
+    → AreBytes bytes → p < length bytes → character_at e bytes p ≡ Ok ch
+    → Stands bytes p ch (spelling e ch.code)
+character_stands YAML_ANY_ENCODING bytes p ch are h e = utf8_stands bytes p ch h e
+character_stands YAML_UTF8_ENCODING bytes p ch are h e = utf8_stands bytes p ch h e
+character_stands YAML_UTF16LE_ENCODING bytes p ch are h e = utf16_stands LowFirst bytes p ch are h e
+character_stands YAML_UTF16BE_ENCODING bytes p ch are h e = utf16_stands HighFirst bytes p ch are h e

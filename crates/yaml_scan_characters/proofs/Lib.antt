@@ -1,0 +1,4 @@
+pub mod DecodeLemmas
+pub mod SpellingLemmas
+pub mod CompleteLemmas
+mod Rules

@@ -1,0 +1,124 @@
+//! Characters, and the first offence of bytes that spell none.
+
+ghost use Rattle.std.specs.Prelude.{◌≡◌, ◌<◌, ◌^◌, negsuc};
+ghost use Rattle.yaml_scan_model.specs.Faults.{fault_of};
+ghost use Rattle.yaml_scan_characters.specs.Characters.{is_allowed, allowed_at};
+ghost use Rattle.yaml_scan_characters.specs.Offences.{problem_text_of, reader_fault};
+
+use yaml_scan_model::{yaml_error_type_t, yaml_fault_t, yaml_mark_t, yaml_origin_t};
+
+/// What is wrong with the bytes.
+#[derive(Clone, Copy)]
+pub enum ReaderProblem {
+    InvalidLeadingOctet,
+    IncompleteSequence,
+    InvalidTrailingOctet,
+    InvalidLength,
+    InvalidCharacter,
+    IncompleteCharacter,
+    UnexpectedLowSurrogate,
+    IncompletePair,
+    ExpectedLowSurrogate,
+    ControlCharacter,
+}
+
+/// What is wrong, and where.
+#[derive(Clone, Copy)]
+pub struct Offence {
+    pub problem: ReaderProblem,
+    /// The byte of the whole input at which it stands, a removed mark counted.
+    pub offset: u64,
+    /// The byte, unit or character that is wrong, or -1.
+    pub value: i32,
+}
+
+/// A character, and how many bytes spell it.
+#[derive(Clone, Copy)]
+pub struct Character {
+    pub code: u32,
+    pub width: usize,
+}
+
+impl ReaderProblem {
+    /// The problem in libyaml's words.
+    #[tactic(auto, unfolding(crate::specs::Offences::problem_text_of))]
+    pub fn text(self) -> &'static str
+        ensures { result.now ≡ problem_text_of self }
+    {
+        match self {
+            ReaderProblem::InvalidLeadingOctet => "invalid leading UTF-8 octet",
+            ReaderProblem::IncompleteSequence => "incomplete UTF-8 octet sequence",
+            ReaderProblem::InvalidTrailingOctet => "invalid trailing UTF-8 octet",
+            ReaderProblem::InvalidLength => "invalid length of a UTF-8 sequence",
+            ReaderProblem::InvalidCharacter => "invalid Unicode character",
+            ReaderProblem::IncompleteCharacter => "incomplete UTF-16 character",
+            ReaderProblem::UnexpectedLowSurrogate => "unexpected low surrogate area",
+            ReaderProblem::IncompletePair => "incomplete UTF-16 surrogate pair",
+            ReaderProblem::ExpectedLowSurrogate => "expected low surrogate area",
+            ReaderProblem::ControlCharacter => "control characters are not allowed",
+        }
+    }
+}
+
+impl Offence {
+    /// The offence at that place, with no byte, unit or character to tell.
+    pub fn at(problem: ReaderProblem, place: usize) -> Offence
+        ensures { result ≡ record { problem = problem; offset = place; value = negsuc 0 } }
+    {
+        Offence {
+            problem,
+            offset: place as u64,
+            value: -1,
+        }
+    }
+
+    /// The fault as the port's calls answer it.
+    pub fn located(self) -> yaml_fault_t
+        ensures { fault_of result ≡ reader_fault self }
+    {
+        let zero = yaml_mark_t {
+            index: 0,
+            line: 0,
+            column: 0,
+        };
+        yaml_fault_t {
+            kind: yaml_error_type_t::YAML_READER_ERROR,
+            problem: self.problem.text(),
+            offset: self.offset,
+            value: self.value,
+            problem_mark: zero,
+            context: None,
+            context_mark: zero,
+            origin: yaml_origin_t::Reader,
+        }
+    }
+}
+
+/// Whether a stream may hold the character (YAML 1.1, 5.1).
+#[tactic(auto, unfolding(crate::specs::Characters::is_allowed))]
+fn is_allowed(code: u32) -> bool
+    ensures { result ≡ is_allowed code }
+{
+    match code {
+        0x09 | 0x0A | 0x0D | 0x85 => true,
+        0x20..=0x7E | 0xA0..=0xD7FF | 0xE000..=0xFFFD | 0x1_0000..=0x10_FFFF => true,
+        _ => false,
+    }
+}
+
+/// The character of that code, which so many bytes at that place spell, if a stream may hold it.
+#[tactic(auto, unfolding(crate::specs::Characters::allowed_at))]
+pub fn allowed_character(place: usize, width: usize, code: u32) -> Result<Character, Offence>
+    requires { code < 2 ^ 31 }
+    ensures { result ≡ allowed_at place width code }
+{
+    if is_allowed(code) {
+        Ok(Character { code, width })
+    } else {
+        Err(Offence {
+            problem: ReaderProblem::ControlCharacter,
+            offset: place as u64,
+            value: code as i32,
+        })
+    }
+}

@@ -2,7 +2,7 @@
 
 ghost use Rattle.yaml_emit_laws_dumps.specs.DumpsLaws.{AgainsAreTurns, DumpsLoadBack, DumpsNumberBack, DocumentsAreLoaded, MetAgainAreNumbered, NamesAreApart, NumbersAreApart, NumbersAreFound, VisitsNumberBack, WalksAreWhole};
 
-use yaml_parse_loader::{loads_documents, numbers_follow_visits};
+use yaml_parse_loader::numbers_follow_visits;
 
 /// No two nodes of a dump have one number.
 pub fn numbers_are_apart()
@@ -27,9 +27,7 @@ pub fn names_are_apart()
 /// The name of each node that has a number is found behind it.
 pub fn numbers_are_found()
     ensures { NumbersAreFound }
-{
-    numbers_are_apart();
-}
+{}
 
 /// The bound of a walk's depth is never used up.
 pub fn walks_are_whole()
@@ -52,17 +50,9 @@ pub fn documents_are_loaded()
 /// What a dump of a loaded document says is that document, styles and marks aside.
 pub fn dumps_number_back()
     ensures { DumpsNumberBack }
-{
-    met_again_are_numbered();
-    agains_are_turns();
-    numbers_are_found();
-    visits_number_back();
-}
+{}
 
 /// So the events that say it load that document.
 pub fn dumps_load_back()
     ensures { DumpsLoadBack }
-{
-    loads_documents();
-    dumps_number_back();
-}
+{}

@@ -3,24 +3,12 @@
 ghost use Rattle.yaml_emit_laws_pretty.specs.Flows.{KeysAreWalkedIn};
 ghost use Rattle.yaml_emit_laws_pretty.specs.Nodes.{SimpleKeysAreWalked};
 
-use crate::{plain_has_a_gap, scalars_are_words, single_lines_are_read_back, styles_are_allowed};
-
 /// A simple key and its `:` are walked in a block, whatever it is.
 pub fn simple_keys_are_walked()
     ensures { SimpleKeysAreWalked }
-{
-    plain_has_a_gap();
-    scalars_are_words();
-    single_lines_are_read_back();
-    styles_are_allowed();
-}
+{}
 
 /// A simple key and its `:` are walked in brackets, whatever it is.
 pub fn keys_are_walked_in()
     ensures { KeysAreWalkedIn }
-{
-    plain_has_a_gap();
-    scalars_are_words();
-    single_lines_are_read_back();
-    styles_are_allowed();
-}
+{}

@@ -3,8 +3,6 @@
 ghost use Rattle.yaml_emit_laws_pretty.specs.Walk.{LineEndsNode, LineIsWalked, MarkIsWalked, PlainIsWalked, SingleIsWalked};
 ghost use Rattle.yaml_emit_laws_pretty.specs.Nodes.{NodesFollow, ShownEnds};
 
-use crate::{plain_has_a_gap, plain_stands, scalars_are_words, single_stands};
-
 /// A line leads to its column, by a break and spaces or by spaces alone.
 pub fn line_is_walked()
     ensures { LineIsWalked }
@@ -28,19 +26,12 @@ pub fn shown_ends()
 /// A plain scalar is walked as content.
 pub fn plain_is_walked()
     ensures { PlainIsWalked }
-{
-    plain_has_a_gap();
-    plain_stands();
-    scalars_are_words();
-}
+{}
 
 /// A single quoted scalar is walked as content.
 pub fn single_is_walked()
     ensures { SingleIsWalked }
-{
-    single_stands();
-    scalars_are_words();
-}
+{}
 
 /// Block collections are walked, with their properties, where leaves, brackets, properties and simple keys are.
 pub fn nodes_follow()

@@ -1,4 +1,4 @@
-//! Each function's contract is a law. A body cites a law of a lower crate.
+//! Each function's contract is a law.
 
 ghost use Rattle.yaml_emit_laws_pretty.specs.KeysLaws.{NearIsFresh, SimpleKeysAreNear};
 ghost use Rattle.yaml_emit_laws_pretty.specs.PlainLaws.{PlainIsReadBack};
@@ -8,8 +8,6 @@ ghost use Rattle.yaml_emit_laws_pretty.specs.Stops.{CharactersAreSolid, PlainGoe
 ghost use Rattle.yaml_emit_laws_pretty.specs.StylesLaws.{PagesIndent, StylesAreAllowed};
 ghost use Rattle.yaml_emit_laws_text.specs.QuotedLaws.{SingleIsReadBack};
 
-use yaml_emit_laws_text::single_spelling_reads;
-
 /// What an emitter writes for a value that may be plain is read as that value, as one plain scalar.
 pub fn plain_is_read_back()
     ensures { PlainIsReadBack }
@@ -18,16 +16,12 @@ pub fn plain_is_read_back()
 /// What an emitter writes for a value between single quotes, with line breaks too, is read as the value.
 pub fn single_lines_are_read_back()
     ensures { SingleLinesAreReadBack }
-{
-    single_spelling_reads();
-}
+{}
 
 /// What an emitter writes for a value of one line between single quotes is read as the value, unless a single quote stands behind.
 pub fn single_is_read_back()
     ensures { SingleIsReadBack }
-{
-    single_spelling_reads();
-}
+{}
 
 /// Bytes that stop a plain scalar begin with a gap, behind which a plain scalar ends.
 pub fn stops_end_plain()
@@ -83,9 +77,7 @@ pub fn plain_stands()
 /// Where a text goes on as a single quoted value's layout, one single quoted scalar with that value stands.
 pub fn single_stands()
     ensures { SingleStands }
-{
-    single_spelling_reads();
-}
+{}
 
 /// Plain and single quoted scalars that are read are words, with their tokens.
 pub fn scalars_are_words()

@@ -95,6 +95,7 @@ reads_as : (xs ys : List ℕ) (reading : Result (List ℕ × ℕ) Wrong) (p n m 
     → reading ≡ Ok (xs, p + n) → xs ≡ ys → n ≡ m → reading ≡ Ok (ys, p + m)
 reads_as xs ys reading p n m r a b = r ∙ ap (λ v. Ok (v, p + n)) a ∙ ap (λ k. Ok (ys, p + k)) b
 
+-- what is written between double quotes for a value is read back as the value
 pub quoted_back : QuotedSpells → (page : Page) (c : Cursor) (value : List ℕ) → IsUtf8 value
     → (page.cuts ≡ true → 0 < page.indentation)
     → ValueIsReadBack double_quoted_at (between_quotes page (chars value)) c value

@@ -1,9 +1,7 @@
-//! Each function's contract is a law. A body cites a law of a lower crate.
+//! Each function's contract is a law.
 
 ghost use Rattle.yaml_emit_laws_text.specs.Printing.{PrintableIsOfCharacters};
 ghost use Rattle.yaml_emit_laws_text.specs.QuotedLaws.{KeysStayInLine, QuotedIsReadBack, QuotedTextIsReadBack, SingleSpellingReads, SpellingReads};
-
-use yaml_emit_text::quoted_spells;
 
 /// A spelling between double quotes is read as what it means, wherever it stands.
 pub fn spelling_reads()
@@ -18,16 +16,12 @@ pub fn single_spelling_reads()
 /// What an emitter writes for a value between double quotes is read as the value.
 pub fn quoted_is_read_back()
     ensures { QuotedIsReadBack }
-{
-    quoted_spells();
-}
+{}
 
 /// So is a double quoted scalar's text, behind the space in front.
 pub fn quoted_text_is_read_back()
     ensures { QuotedTextIsReadBack }
-{
-    quoted_spells();
-}
+{}
 
 /// As a simple key, double quoted text stays in its line.
 pub fn keys_stay_in_line()

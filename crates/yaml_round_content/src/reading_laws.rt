@@ -9,8 +9,6 @@ ghost use Rattle.yaml_round_content.specs.Reading.{EventsAreOfTree, InputsRead, 
 ghost use Rattle.yaml_round_content.specs.TreeTold.{EventsAreTold};
 ghost use Rattle.yaml_round_content.specs.Rows.{RowsHold};
 
-use yaml_parse_loader::loads_documents;
-
 /// Each input has a plain reading: a content, or a fault.
 pub fn each_input_has_a_reading()
     ensures { InputsRead }
@@ -66,16 +64,12 @@ pub fn events_are_placed()
 /// before it anchors.
 pub fn loads_are_numbered()
     ensures { LoadsAreNumbered }
-{
-    loads_documents();
-}
+{}
 
 /// So is what an input loads that the parser accepts.
 pub fn inputs_are_numbered()
     ensures { InputsAreNumbered }
-{
-    loads_documents();
-}
+{}
 
 /// The documents of events are those that `yaml_parser_load` gives, one after another, as content says each.
 pub fn loads_are_one_by_one()

@@ -1,4 +1,4 @@
-//! Each function's contract is a law. Bodies cite laws of lower crates.
+//! Each function's contract is a law.
 
 ghost use Rattle.yaml_round_content.specs.WritableLaws.{
   InputsAreFlagged,
@@ -8,8 +8,6 @@ ghost use Rattle.yaml_round_content.specs.WritableLaws.{
   LayoutIsOfInputsContent,
 };
 
-use crate::{content_is_laid_out, layout_is_of_content};
-
 /// Of an input's normalized events an untagged scalar is quoted-implicit exactly where it isn't plain-implicit.
 pub fn inputs_are_flagged()
     ensures { InputsAreFlagged }
@@ -18,16 +16,12 @@ pub fn inputs_are_flagged()
 /// What is laid out in canonical form for the events of an input is the layout of the input's content.
 pub fn layout_is_of_inputs_content()
     ensures { LayoutIsOfInputsContent }
-{
-    layout_is_of_content();
-}
+{}
 
 /// The layout of an input's content is laid out for the events of the input.
 pub fn inputs_content_is_laid_out()
     ensures { InputsContentIsLaidOut }
-{
-    content_is_laid_out();
-}
+{}
 
 /// The texts of an input's events are UTF-8.
 pub fn inputs_have_utf8()

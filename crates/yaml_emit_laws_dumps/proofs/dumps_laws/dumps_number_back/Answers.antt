@@ -1,5 +1,8 @@
-use Rattle.yaml_emit_laws_dumps.proofs.Whole.{number_back}
+use Rattle.yaml_emit_laws_dumps.proofs.Whole.{number_back, numbers_found}
+use Rattle.yaml_emit_laws_dumps.proofs.Again.{again_turns}
+use Rattle.yaml_emit_laws_dumps.proofs.Apart.{again_all, apart_all}
+use Rattle.yaml_emit_laws_dumps.proofs.Back.{numbered_back}
 use Rattle.yaml_emit_laws_dumps.proofs.dumps_laws.dumps_number_back.Goals as goal
 
 pub returns : goal.returns
-returns c = number_back c.met_again_are_numbered.ensures c.agains_are_turns.ensures c.numbers_are_found.ensures c.visits_number_back.ensures
+returns c = number_back again_all again_turns (numbers_found apart_all) numbered_back

@@ -1,17 +1,29 @@
 use Rattle.yaml_emit_laws_pretty.proofs.FlowBlocks.{brackets_walk}
+use Rattle.yaml_scan_laws_texts.proofs.NamesRead.{anchor_is_read}
+use Rattle.yaml_scan_laws_texts.proofs.Lines.{lone_mark_is_read}
+use Rattle.yaml_emit_laws_pretty.proofs.Stopping.{has_gap, are_words}
+use Rattle.yaml_emit_laws_pretty.proofs.PlainStart.{plain_back}
+use Rattle.yaml_emit_laws_text.proofs.QuotedSpelled.{quoted-spells}
+use Rattle.yaml_emit_laws_text.proofs.Back.{quoted_back}
+use Rattle.yaml_emit_laws_text.proofs.Ascii.{spelled_ascii}
+use Rattle.yaml_emit_laws_pretty.proofs.SingleWritten.{single_back}
+use Rattle.yaml_emit_laws_text.proofs.Parts.{single_spelling_reads}
+use Rattle.yaml_emit_laws_text.proofs.TagsReading.{split_read}
+use Rattle.yaml_emit_laws_pretty.proofs.Styles.{styles_allowed}
+use Rattle.yaml_emit_laws_text.proofs.Joining.{written_readable}
 use Rattle.yaml_emit_laws_pretty.proofs.flows.brackets_follow.Goals as goal
 
 pub returns : goal.returns
 returns c = brackets_walk record {
-  names = c.anchor_reads.ensures;
-  lone = c.lone_mark_reads.ensures;
-  split = c.split_tags_are_read.ensures;
-  ascii = c.readable_tags_are_ascii.ensures;
-  readable = c.written_tags_are_readable.ensures;
-  quoted = c.quoted_is_read_back.ensures;
-  singles = c.single_lines_are_read_back.ensures;
-  plains = c.plain_is_read_back.ensures;
-  gaps = c.plain_has_a_gap.ensures;
-  words = c.scalars_are_words.ensures;
-  styles = c.styles_are_allowed.ensures;
+  names = anchor_is_read;
+  lone = lone_mark_is_read;
+  split = split_read;
+  ascii = spelled_ascii;
+  readable = written_readable;
+  quoted = (quoted_back quoted-spells);
+  singles = (single_back single_spelling_reads);
+  plains = plain_back;
+  gaps = has_gap;
+  words = are_words;
+  styles = styles_allowed;
 }

@@ -1,5 +1,11 @@
 use Rattle.yaml_emit_laws_pretty.proofs.LeafNodes.{leaves_on}
+use Rattle.yaml_emit_laws_pretty.proofs.Stopping.{has_gap, are_words, stands, quoted_stands}
+use Rattle.yaml_emit_laws_pretty.proofs.SpokenWords.{plain_on, single_on}
+use Rattle.yaml_emit_laws_text.proofs.QuotedSpelled.{quoted-spells}
+use Rattle.yaml_emit_laws_text.proofs.Back.{quoted_back}
+use Rattle.yaml_emit_laws_text.proofs.Parts.{single_spelling_reads}
+use Rattle.yaml_emit_laws_pretty.proofs.Styles.{styles_allowed}
 use Rattle.yaml_emit_laws_pretty.proofs.leaf_laws.leaves_are_walked.Goals as goal
 
 pub returns : goal.returns
-returns c = leaves_on c.plain_is_walked.ensures c.single_is_walked.ensures c.quoted_is_read_back.ensures c.styles_are_allowed.ensures c.plain_has_a_gap.ensures
+returns c = leaves_on (plain_on has_gap stands are_words) (single_on (quoted_stands single_spelling_reads) are_words) (quoted_back quoted-spells) styles_allowed has_gap

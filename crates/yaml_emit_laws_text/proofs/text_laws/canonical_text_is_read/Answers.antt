@@ -1,13 +1,24 @@
 use Rattle.yaml_emit_laws_text.proofs.Documents.{text_read}
 use Rattle.yaml_emit_laws_text.proofs.Directives.{directives_walk}
 use Rattle.yaml_emit_laws_text.proofs.Tags.{mark_walks, tag_walks}
+use Rattle.yaml_scan_laws_texts.proofs.NamesRead.{anchor_is_read}
+use Rattle.yaml_emit_laws_text.proofs.Growing.{canonical_read}
+use Rattle.yaml_emit_laws_text.proofs.TagsLines.{directive_read}
+use Rattle.yaml_scan_laws_texts.proofs.GapsRead.{gap_is_read}
+use Rattle.yaml_scan_laws_texts.proofs.Lines.{lone_mark_is_read}
+use Rattle.yaml_emit_text.proofs.Spelled.{quoted-spells}
+use Rattle.yaml_emit_laws_text.proofs.Back.{quoted_back}
+use Rattle.yaml_emit_laws_text.proofs.Ascii.{directive_ascii, spelled_ascii}
+use Rattle.yaml_emit_laws_text.proofs.TagsReading.{split_read}
+use Rattle.yaml_scan_laws_texts.proofs.Directives.{version_is_read}
+use Rattle.yaml_emit_laws_text.proofs.Joining.{written_directives, written_readable}
 use Rattle.yaml_emit_laws_text.proofs.text_laws.canonical_text_is_read.Goals as goal
 
 pub returns : goal.returns
 returns c =
-    let gaps = c.gap_reads.ensures in
-    text_read c.canonical_words_are_read.ensures gaps c.anchor_reads.ensures c.quoted_is_read_back.ensures (mark_walks gaps c.lone_mark_reads.ensures)
+    let gaps = gap_is_read in
+    text_read canonical_read gaps anchor_is_read (quoted_back quoted-spells) (mark_walks gaps lone_mark_is_read)
     (λ s o right. (
-      directives_walk gaps c.version_reads.ensures c.directives_are_read.ensures c.readable_directives_are_ascii.ensures c.written_directives_are_readable.ensures s o right,
-      tag_walks gaps c.split_tags_are_read.ensures c.written_tags_are_readable.ensures c.readable_tags_are_ascii.ensures o right,
+      directives_walk gaps version_is_read directive_read directive_ascii written_directives s o right,
+      tag_walks gaps split_read written_readable spelled_ascii o right,
     ))

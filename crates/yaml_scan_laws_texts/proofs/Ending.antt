@@ -5,6 +5,7 @@ use Rattle.yaml_scan_laws_order.specs.scan_history.declared.lexeme.Opens.TheVari
 use Rattle.yaml_scan_laws_order.specs.scan_model.Faults.{Fault}
 use Rattle.yaml_scan_laws_order.specs.scan_history.declared.kind.Kind.TheVariants as kinds
 use Rattle.yaml_scan_laws_order.proofs.HistoryForward.{last_is_all}
+use Rattle.yaml_scan_laws_texts.proofs.StepLemmas.{remaining_of}
 use Rattle.yaml_scan_laws_texts.proofs.Pushing.{left_outside, unless_so, came_some, tested_read, fresh_in_time, lost_none, free_push, free_in_time, came_push}
 
 abbrev said : List Token → List TokenBody
@@ -159,11 +160,6 @@ came_all text h came ends =
     let so = came_history text h came in
     let last : next text (history text (length h)) ≡ Ends = ap (λ (x : List Lexeme). next text x) so ∙ ends in
     last_is_all text (length h) (λ l. no_read _ l last) ∙ so
-
-remaining_of : (ts us : List Token) (f : Option Fault) → ts ≡ us → f ≡ None
-    → let one : Remaining = record { tokens = ts; fault = f } in
-    one ≡ record { tokens = us; fault = None }
-remaining_of ts us f e g = rw (e, g) refl
 
 offline_ends : (s : SpelledText) (h : List Lexeme) → all s.text ≡ h → next s.text h ≡ Ends
     → offline s ≡ record { tokens = flat_map (spell s) (entries h); fault = None }

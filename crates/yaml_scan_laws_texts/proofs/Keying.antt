@@ -4,7 +4,7 @@ use Rattle.yaml_scan_laws_texts.proofs.LevelWords.{cases_Bool, eq-eqb, nat_tests
 use Rattle.yaml_scan_laws_order.specs.scan_history.declared.kind.Kind.TheVariants as kinds
 use Rattle.yaml_scan_laws_order.specs.scan_history.declared.lexeme.Opens.TheVariants as opening
 use Rattle.yaml_scan_laws_texts.specs.Keys.{KeyBegins, IsInKey, KeyGoesOn, KeyEnds}
-use Rattle.yaml_scan_laws_texts.proofs.Pushing.{opened_rises, stays_right, met_is_read, goes_on, free_push, free_in_time, required_not, opens_by, front_push, front_same, meets_level, lone_marks, calm_opens, calm_levels, stays_inside, stays_calm, stays_placed, level_is, body_met}
+use Rattle.yaml_scan_laws_texts.proofs.Pushing.{unkeyed, opened_rises, stays_right, met_is_read, goes_on, free_push, free_in_time, required_not, opens_by, front_push, front_same, meets_level, lone_marks, calm_opens, calm_levels, stays_inside, stays_calm, stays_placed, level_is, body_met}
 
 -- ---- the candidates behind one lexeme more
 
@@ -77,10 +77,6 @@ key_kind k e = absurd (cc)
 flag_off : (x y : Bool) → x ≡ false → (x && y) ≡ false
 flag_off false y e = refl
 flag_off true y e = absurd (cc)
-
-unkeyed : (v : Bool) (xs es : List Entry) → v ≡ false → cond v xs es ≡ es
-unkeyed false xs es e = refl
-unkeyed true xs es e = absurd (cc)
 
 number_same : (n m : ℕ) (l : Lexeme) → n ≡ m
     → let a : Candidate = record { number = n; lexeme = l } in

@@ -498,7 +498,7 @@ mark_is_read text h ms ls n es k q w f idle start meets leaves lone =
 all_less : (n : ℕ) → n - 0 ≡ n
 all_less n = omega arith
 
-unkeyed : (v : Bool) (xs es : List Entry) → v ≡ false → cond v xs es ≡ es
+pub unkeyed : (v : Bool) (xs es : List Entry) → v ≡ false → cond v xs es ≡ es
 unkeyed false xs es e = refl
 unkeyed true xs es e = absurd (cc)
 

@@ -7,7 +7,7 @@ use Rattle.yaml_scan_laws_texts.proofs.FreeLemmas.{is_plain, AllMade, Whole, who
 
 -- What comes.
 
-remaining_of : (ts us : List Token) (f : Option Fault) → ts ≡ us → f ≡ None
+pub remaining_of : (ts us : List Token) (f : Option Fault) → ts ≡ us → f ≡ None
     → let one : Remaining = record { tokens = ts; fault = f } in
     one ≡ record { tokens = us; fault = None }
 remaining_of ts us f e g = rw (e, g) refl

@@ -14,7 +14,7 @@ use Rattle.yaml_scan_decode.specs.DecodedText.{decoding_fault}
 use Rattle.yaml_scan_history.specs.Remaining.{Remaining, nothing}
 use Rattle.yaml_scan_history.specs.Scanned.{scanned}
 use Rattle.yaml_scan_machine.specs.Left.{IsTold}
-use Rattle.yaml_scan_machine.specs.Found.{HasMore}
+pub use Rattle.yaml_scan_machine.specs.Found.{HasMore}
 use Rattle.yaml_scan_machine.specs.Settled.{settles}
 
 -- An input and the encoding that is set, and how many lexemes of its text were read; the tokens that are still to come and

@@ -90,6 +90,7 @@ spelled_same s t (e ∷ es) h =
     ap (λ ts. ts ++ flat_map (spell t) es) (spell_same s t e (All-head (λ e. body_in t e.lexeme ≡ body_in s e.lexeme) e es h))
     ∙ ap (λ ts. spell s e ++ ts) (spelled_same s t es (All-tail (λ e. body_in t e.lexeme ≡ body_in s e.lexeme) e es h))
 
+-- whatever follows, what so many lexemes settle is told first
 pub whatever_follows : (s t : SpelledText) (n : ℕ) → history t.text n ≡ history s.text n
     → All (λ e. body_in t e.lexeme ≡ body_in s e.lexeme) (entries (history s.text n))
     → (rest : List Token) × ((offline t).tokens ≡ settled_tokens s n ++ rest)

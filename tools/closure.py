@@ -73,7 +73,7 @@ def print_tree(found, at=None, depth=0):
 
 def named(name):
     """The public calls or laws of a name; `Type::name` names a method."""
-    public = [it for it in repo.all_functions() if repo.is_public(it) or repo.is_law(it)]
+    public = [law for it in repo.all_functions() if repo.is_public(it) or repo.is_law(it) for law in repo.laws_of(it)]
     return [it for it in public if name in (it.name, it.label)]
 
 
@@ -87,11 +87,10 @@ def spec_named(name):
 
 def print_all():
     print(f"{'call or law':<48} {'definitions':>11}  crates  where")
-    for it in repo.all_functions():
-        if repo.is_public(it) or repo.is_law(it):
-            found = closure(roots_of(it))
-            crates = {of.crate for of, _ in found.values()}
-            print(f"{it.label:<48} {len(found):>11}  {len(crates):>6}  {it.path}:{it.line}")
+    for it in (law for of in repo.all_functions() if repo.is_public(of) or repo.is_law(of) for law in repo.laws_of(of)):
+        found = closure(roots_of(it))
+        crates = {of.crate for of, _ in found.values()}
+        print(f"{it.label:<48} {len(found):>11}  {len(crates):>6}  {it.path}:{it.line}")
 
 
 def main():

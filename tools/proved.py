@@ -29,7 +29,7 @@ Written by `tools/proved.py` from `crates/CRATE/README.md`; not by hand.
 
 Proved with `rattle-kit-13b`, logic `dac8208d650f15bf` (`rt version`; `rattle-kit-13f` has the same logic). 'Proved' says what the contracts say, and no more; want of memory is an answer that each clause allows beside, told with nothing else in it and of one of the layers that the clause lists. Every function of every crate is proved safe (no index out of range, no overflow, no use after free) and to end, for all inputs.
 
-An item is a function, a method (`TYPE::METHOD`), a type or a trait of the crate's `src`; a law is a function without code, whose clause is the statement, or a file of `specs` or `proofs` that states it. The crates stand in the order of `crates.txt`, by member, the lowest first; the member's own crate (`yaml_scan` of the first) hands out what callers need of the others.
+An item is a function, a method (`TYPE::METHOD`), a type or a trait of the crate's `src`; a law is a function without code, whose clause is the statement, or a named clause of such a function whose name begins with `laws_of_`, or a file of `specs` or `proofs` that states it. The crates stand in the order of `crates.txt`, by member, the lowest first; the member's own crate (`yaml_scan` of the first) hands out what callers need of the others.
 """
 
 
@@ -51,7 +51,7 @@ def known(crate):
     found.update(os.path.basename(it)[: -len(".antt")] for it in glob.glob(f"{repo.TOP}/crates/{crate}/[sp]*s/*.antt"))
     for path in repo.sources(crate):
         found.update(re.findall(r"^pub (?:trait|const) (\w+)", repo.read(path), re.M))
-        for it in repo.functions(path):
+        for it in (law for of in repo.functions(path) for law in repo.laws_of(of)):
             found.update((it.name, it.label))
     return found
 
@@ -76,7 +76,7 @@ def unnamed(crate, lines):
     if "_laws_" not in crate:
         return []
     named = items(lines)
-    laws = [it for path in repo.sources(crate) for it in repo.functions(path) if it.is_pub and it.contract()]
+    laws = [law for path in repo.sources(crate) for it in repo.functions(path) if it.is_pub and it.contract() for law in repo.laws_of(it)]
     return [it.label for it in laws if it.label not in named and it.name not in named]
 
 

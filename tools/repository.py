@@ -422,7 +422,26 @@ def is_public(it):
 
 def is_law(it):
     """Whether the function is a law: it takes nothing, does nothing, and its contract is a statement."""
-    return it.is_pub and not it.owner and bool(re.search(r"fn \w+\(\)\s+ensures", it.head))
+    return it.is_pub and not it.owner and bool(re.search(r"fn \w+\(\)\s+(?://[^\n]*\s+)*ensures", it.head))
+
+
+class Law:
+    """A law that is a named clause of a function of laws, `laws_of_` something, which has one for each."""
+
+    def __init__(self, it, name, clause):
+        self.name = self.label = name
+        self.crate, self.path, self.start, self.owner, self.is_pub = it.crate, it.path, it.start, None, True
+        self.line, self.head, self.clause = it.line + it.head[: clause.start()].count("\n"), "", clause[0]
+
+    def contract(self):
+        return [self.clause]
+
+
+def laws_of(it):
+    """The laws of a function: the named clauses of one that is called `laws_of_` something, or itself."""
+    is_many = is_law(it) and it.name.startswith("laws_of_")
+    named = [(match[1], match) for match in re.finditer(r"\bensures (\w+) (\{[^{}]*\})", it.head)] if is_many else []
+    return [Law(it, *found) for found in named] if named else [it]
 
 
 def all_functions():

@@ -4,39 +4,26 @@ ghost use Rattle.yaml_emit_laws_dumps.specs.DumpsLaws.{AgainsAreTurns, DumpsLoad
 
 use yaml_parse_loader::numbers_follow_visits;
 
-/// No two nodes of a dump have one number.
-pub fn numbers_are_apart()
-    ensures { NumbersAreApart }
-{}
-
-/// A node that is met again has a number.
-pub fn met_again_are_numbered()
-    ensures { MetAgainAreNumbered }
-{}
-
-/// What a derivation of visits meets again is met again by the walk of a dump.
-pub fn agains_are_turns()
-    ensures { AgainsAreTurns }
-{}
-
-/// No two numbers have one name.
-pub fn names_are_apart()
-    ensures { NamesAreApart }
-{}
-
-/// The name of each node that has a number is found behind it.
-pub fn numbers_are_found()
-    ensures { NumbersAreFound }
-{}
-
-/// The bound of a walk's depth is never used up.
-pub fn walks_are_whole()
-    ensures { WalksAreWhole }
-{}
-
-/// What is visited in preorder is numbered by its dump as it was.
-pub fn visits_number_back()
-    ensures { VisitsNumberBack }
+/// What dumped documents are numbered as, and what their events say.
+pub fn laws_of_dumps()
+    // No two nodes of a dump have one number.
+    ensures numbers_are_apart { NumbersAreApart }
+    // A node that is met again has a number.
+    ensures met_again_are_numbered { MetAgainAreNumbered }
+    // What a derivation of visits meets again is met again by the walk of a dump.
+    ensures agains_are_turns { AgainsAreTurns }
+    // No two numbers have one name.
+    ensures names_are_apart { NamesAreApart }
+    // The name of each node that has a number is found behind it.
+    ensures numbers_are_found { NumbersAreFound }
+    // The bound of a walk's depth is never used up.
+    ensures walks_are_whole { WalksAreWhole }
+    // What is visited in preorder is numbered by its dump as it was.
+    ensures visits_number_back { VisitsNumberBack }
+    // What a dump of a loaded document says is that document, styles and marks aside.
+    ensures dumps_number_back { DumpsNumberBack }
+    // So the events that say it load that document.
+    ensures dumps_load_back { DumpsLoadBack }
 {}
 
 /// Content that can be loaded is a document as loading makes it: its numbers follow the first visits, each node has a kind, and
@@ -46,13 +33,3 @@ pub fn documents_are_loaded()
 {
     numbers_follow_visits();
 }
-
-/// What a dump of a loaded document says is that document, styles and marks aside.
-pub fn dumps_number_back()
-    ensures { DumpsNumberBack }
-{}
-
-/// So the events that say it load that document.
-pub fn dumps_load_back()
-    ensures { DumpsLoadBack }
-{}

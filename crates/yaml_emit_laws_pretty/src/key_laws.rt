@@ -3,12 +3,10 @@
 ghost use Rattle.yaml_emit_laws_pretty.specs.Flows.{KeysAreWalkedIn};
 ghost use Rattle.yaml_emit_laws_pretty.specs.Nodes.{SimpleKeysAreWalked};
 
-/// A simple key and its `:` are walked in a block, whatever it is.
-pub fn simple_keys_are_walked()
-    ensures { SimpleKeysAreWalked }
-{}
-
-/// A simple key and its `:` are walked in brackets, whatever it is.
-pub fn keys_are_walked_in()
-    ensures { KeysAreWalkedIn }
+/// Simple keys are walked.
+pub fn laws_of_simple_keys()
+    // A simple key and its `:` are walked in a block, whatever it is.
+    ensures simple_keys_are_walked { SimpleKeysAreWalked }
+    // A simple key and its `:` are walked in brackets, whatever it is.
+    ensures keys_are_walked_in { KeysAreWalkedIn }
 {}

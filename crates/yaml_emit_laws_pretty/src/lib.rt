@@ -1,4 +1,6 @@
 //! Laws of pretty text: what a layout writes is walked, node by node, and read as its tokens. No code.
+//! Laws of scalars that pretty text has: plain ones with folds, single quoted ones with line breaks, literal and folded ones,
+//! and the texts of simple keys. No code.
 #![tactic(auto)]
 
 mod block_laws;
@@ -10,22 +12,11 @@ mod leaf_laws;
 mod scalar_laws;
 mod text_laws;
 
-pub use block_laws::{
-    block_at_position, block_before_line, block_is_laid_out, block_is_next, block_is_passed,
-    block_is_read_back,
-};
+pub use block_laws::laws_of_block_scalars;
 pub use doc_laws::documents_are_read;
 pub use flows::brackets_follow;
-pub use key_laws::{keys_are_walked_in, simple_keys_are_walked};
-pub use laws::{
-    line_ends_node, line_is_walked, mark_is_walked, nodes_follow, plain_is_walked, shown_ends,
-    single_is_walked,
-};
-pub use leaf_laws::{block_scalars_are_walked, leaves_are_walked, properties_are_walked};
-pub use scalar_laws::{
-    characters_are_solid, lines_lead_to_columns, lines_stop_plain, near_is_fresh, pages_indent,
-    plain_goes_on, plain_has_a_gap, plain_is_read_back, plain_stands, scalars_are_words,
-    simple_keys_are_near, single_is_read_back, single_lines_are_read_back, single_stands,
-    stops_end_plain, styles_are_allowed, what_stops_plain,
-};
-pub use text_laws::{nodes_are_walked, pretty_text_is_read};
+pub use key_laws::laws_of_simple_keys;
+pub use laws::laws_of_nodes;
+pub use leaf_laws::laws_of_leaves;
+pub use scalar_laws::{laws_of_scalars, single_is_read_back};
+pub use text_laws::laws_of_pretty_text;

@@ -3,12 +3,10 @@
 ghost use Rattle.yaml_emit_laws_pretty.specs.DocLaws.{PrettyTextIsRead};
 ghost use Rattle.yaml_emit_laws_pretty.specs.Nodes.{NodesAreWalked};
 
-/// All nodes that may be written are walked, at every position of a block.
-pub fn nodes_are_walked()
-    ensures { NodesAreWalked }
-{}
-
-/// The pretty text of documents that may be written is read as their tokens, without fault, whatever encoding is told.
-pub fn pretty_text_is_read()
-    ensures { PrettyTextIsRead }
+/// What pretty text is read as.
+pub fn laws_of_pretty_text()
+    // All nodes that may be written are walked, at every position of a block.
+    ensures nodes_are_walked { NodesAreWalked }
+    // The pretty text of documents that may be written is read as their tokens, without fault, whatever encoding is told.
+    ensures pretty_text_is_read { PrettyTextIsRead }
 {}

@@ -1,13 +1,11 @@
-//! Each function's contract is a law.
+//! Each clause is a law.
 
 ghost use Rattle.yaml_emit_laws_text.specs.CanonicalLaws.{CanonicalIsKeyFree, CanonicalWordsAreRead};
 
-/// In the words of every canonical stream each `:` stands behind a `?` of its own mapping, with only a node between.
-pub fn canonical_is_key_free()
-    ensures { CanonicalIsKeyFree }
-{}
-
-/// A text in which such words stand one behind another is read as their tokens, without fault.
-pub fn canonical_words_are_read()
-    ensures { CanonicalWordsAreRead }
+/// What canonical text is read as.
+pub fn laws_of_canonical_text()
+    // In the words of every canonical stream each `:` stands behind a `?` of its own mapping, with only a node between.
+    ensures canonical_is_key_free { CanonicalIsKeyFree }
+    // A text in which such words stand one behind another is read as their tokens, without fault.
+    ensures canonical_words_are_read { CanonicalWordsAreRead }
 {}

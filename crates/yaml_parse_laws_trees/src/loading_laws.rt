@@ -4,25 +4,17 @@
 ghost use Rattle.yaml_parse_laws_trees.specs.Laws.{FaultEndsLoads, LoadFaultIsOne, LoadsEndInFault};
 ghost use Rattle.yaml_parse_laws_trees.specs.Rows.{RowsHold};
 
-/// A list of tokens has one fault of loading at most: the one of the least place in it, or its own.
-pub fn a_list_has_one_fault_of_loading()
-    ensures { LoadFaultIsOne }
-{}
-
-/// Loads, one document after another, end in that fault: the first alias without an anchor before it
-/// in its document, or what the parser finds wrong at a lesser place; or in none, where each alias
-/// of a sentence has its anchor.
-pub fn loads_end_in_the_fault()
-    ensures { LoadsEndInFault }
-{}
-
-/// And whichever fault of loading a list has, loads end in it.
-pub fn the_fault_is_what_loads_end_in()
-    ensures { FaultEndsLoads }
-{}
-
-/// Lists with their faults of loading: aliases before anchors, of another document, before and at what
-/// the parser finds wrong.
-pub fn rows_of_faults_of_loading_hold()
-    ensures { RowsHold }
+/// The fault that loading ends in, said of tokens.
+pub fn laws_of_loading()
+    // A list of tokens has one fault of loading at most: the one of the least place in it, or its own.
+    ensures a_list_has_one_fault_of_loading { LoadFaultIsOne }
+    // Loads, one document after another, end in that fault: the first alias without an anchor before it
+    // in its document, or what the parser finds wrong at a lesser place; or in none, where each alias
+    // of a sentence has its anchor.
+    ensures loads_end_in_the_fault { LoadsEndInFault }
+    // And whichever fault of loading a list has, loads end in it.
+    ensures the_fault_is_what_loads_end_in { FaultEndsLoads }
+    // Lists with their faults of loading: aliases before anchors, of another document, before and at what
+    // the parser finds wrong.
+    ensures rows_of_faults_of_loading_hold { RowsHold }
 {}

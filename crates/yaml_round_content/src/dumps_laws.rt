@@ -23,14 +23,12 @@ pub fn content_loads_documents()
     documents_are_loaded();
 }
 
-/// What loaded documents say is numbered as they are, styles and marks aside.
-pub fn dumps_are_numbered_back()
-    ensures { DumpsAreNumberedBack }
-{}
-
-/// Events that say what loaded documents do load documents that agree with them, without a fault.
-pub fn dumps_load_back()
-    ensures { DumpsLoadBack }
+/// What contents load, and how it is numbered.
+pub fn laws_of_loads()
+    // What loaded documents say is numbered as they are, styles and marks aside.
+    ensures dumps_are_numbered_back { DumpsAreNumberedBack }
+    // Events that say what loaded documents do load documents that agree with them, without a fault.
+    ensures dumps_load_back { DumpsLoadBack }
 {}
 
 /// The documents of an input that is accepted are documents as loading makes them: their numbers follow the first visits from

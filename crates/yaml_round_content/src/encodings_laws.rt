@@ -3,16 +3,14 @@
 ghost use Rattle.yaml_round_content.specs.EncodingsLaws.{CharactersAreEnough, EncodingsDoNotMatter};
 ghost use Rattle.yaml_round_content.specs.EncodingsTexts.{NoTextHasNoToken, ReadingIsOfText, TokensAreOfText};
 
-/// Bytes that spell the same text, in UTF-8 or UTF-16, behind a byte order mark or without one, say the same, and where they are
-/// refused, they are so by the same fault at the same place.
-pub fn encodings_do_not_matter()
-    ensures { EncodingsDoNotMatter }
-{}
-
-/// So it is of characters that a stream may hold, spelled in any two encodings: named, told by their byte order marks, or UTF-8
-/// where none is named and no mark stands first.
-pub fn characters_are_enough()
-    ensures { CharactersAreEnough }
+/// Texts in each encoding.
+pub fn laws_of_encodings()
+    // Bytes that spell the same text, in UTF-8 or UTF-16, behind a byte order mark or without one, say the same, and where they are
+    // refused, they are so by the same fault at the same place.
+    ensures encodings_do_not_matter { EncodingsDoNotMatter }
+    // So it is of characters that a stream may hold, spelled in any two encodings: named, told by their byte order marks, or UTF-8
+    // where none is named and no mark stands first.
+    ensures characters_are_enough { CharactersAreEnough }
 {}
 
 /// What an input says is what the text says that its bytes spell; bytes that spell none are refused by the reader.

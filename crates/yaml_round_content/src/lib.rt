@@ -12,27 +12,13 @@ mod reading_laws;
 mod streams_laws;
 mod writable_laws;
 
-pub use content_laws::{
-    content_is_laid_out, inputs_have_content, inputs_say_fronts, layout_is_of_content,
-    says_is_injective,
-};
+pub use content_laws::laws_of_contents;
 pub use dumps_laws::{
-    content_is_loaded, content_is_said, content_loads_documents, dumps_are_numbered_back,
-    dumps_load_back, inputs_load_documents,
+    content_is_loaded, content_is_said, content_loads_documents, inputs_load_documents,
+    laws_of_loads,
 };
-pub use encodings_laws::{characters_are_enough, encodings_do_not_matter, texts_are_read};
-pub use loads::{agreeing_say_the_same, loads_of_content, loads_of_renamed};
-pub use reading_laws::{
-    a_source_has_one_loading, a_source_loads_its_loading, an_input_has_one_loading,
-    an_input_has_one_reading, an_input_loads_its_loading, each_input_has_a_reading,
-    events_are_of_the_tree, events_are_placed, events_are_told, inputs_are_numbered,
-    loads_are_numbered, loads_are_one_by_one, read_is_refused, read_is_said, refused_is_read,
-    rows_of_contents_hold, said_is_read, sources_load_by_content,
-    the_fault_of_loads_is_its_loading, the_loading_is_what_it_loads,
-    what_loads_without_fault_is_its_loading,
-};
-pub use streams_laws::{inputs_are_fronts, inputs_are_streams, inputs_load_right, parsed_is_right};
-pub use writable_laws::{
-    inputs_are_flagged, inputs_are_writable, inputs_content_is_laid_out, inputs_have_utf8,
-    layout_is_of_inputs_content,
-};
+pub use encodings_laws::{laws_of_encodings, texts_are_read};
+pub use loads::{laws_of_agreement, loads_of_content};
+pub use reading_laws::laws_of_readings;
+pub use streams_laws::laws_of_streams;
+pub use writable_laws::{inputs_are_writable, laws_of_writing};

@@ -7,12 +7,10 @@ pub fn loads_of_content()
     ensures { LoadsOfContent }
 {}
 
-/// So do events that say the same with each document's anchors under other names, no two names of one document becoming one.
-pub fn loads_of_renamed()
-    ensures { LoadsOfRenamed }
-{}
-
-/// Documents that agree say the same, as they are dumped.
-pub fn agreeing_say_the_same()
-    ensures { AgreeingSayTheSame }
+/// What loads of documents that agree are.
+pub fn laws_of_agreement()
+    // So do events that say the same with each document's anchors under other names, no two names of one document becoming one.
+    ensures loads_of_renamed { LoadsOfRenamed }
+    // Documents that agree say the same, as they are dumped.
+    ensures agreeing_say_the_same { AgreeingSayTheSame }
 {}

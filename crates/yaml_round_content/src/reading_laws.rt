@@ -9,112 +9,53 @@ ghost use Rattle.yaml_round_content.specs.Reading.{EventsAreOfTree, InputsRead, 
 ghost use Rattle.yaml_round_content.specs.TreeTold.{EventsAreTold};
 ghost use Rattle.yaml_round_content.specs.Rows.{RowsHold};
 
-/// Each input has a plain reading: a content, or a fault.
-pub fn each_input_has_a_reading()
-    ensures { InputsRead }
-{}
-
-/// And it has one alone.
-pub fn an_input_has_one_reading()
-    ensures { ReadingIsOne }
-{}
-
-/// An input that is refused is refused with the fault of its reading.
-pub fn refused_is_read()
-    ensures { RefusedIsRead }
-{}
-
-/// And one whose reading is a fault is refused with it.
-pub fn read_is_refused()
-    ensures { ReadIsRefused }
-{}
-
-/// What an accepted input says is the content of its reading.
-pub fn said_is_read()
-    ensures { SaidIsRead }
-{}
-
-/// And an input whose reading is a content says it.
-pub fn read_is_said()
-    ensures { ReadIsSaid }
-{}
-
-/// The events of an accepted input are those of its tree, their tags resolved.
-pub fn events_are_of_the_tree()
-    ensures { EventsAreOfTree }
-{}
-
-/// They are those that the tree tells: each tag in full by the directives of its own document.
-pub fn events_are_told()
-    ensures { EventsAreTold }
-{}
-
-/// Lists of tokens with their contents.
-pub fn rows_of_contents_hold()
-    ensures { RowsHold }
-{}
-
-/// Of every source: the events of tokens that begin with a sentence are the stream's start, those of the tree's documents,
-/// and its end.
-pub fn events_are_placed()
-    ensures { EventsArePlaced }
-{}
-
-/// Of every source: what such tokens load is the numbering of the tree's documents, up to the first alias that no node
-/// before it anchors.
-pub fn loads_are_numbered()
-    ensures { LoadsAreNumbered }
-{}
-
-/// So is what an input loads that the parser accepts.
-pub fn inputs_are_numbered()
-    ensures { InputsAreNumbered }
-{}
-
-/// The documents of events are those that `yaml_parser_load` gives, one after another, as content says each.
-pub fn loads_are_one_by_one()
-    ensures { LoadsAreOneByOne }
-{}
-
-/// Of every source: each load of its tokens, one after another, is one that content says, as the contract of `yaml_parser_load`
-/// does.
-pub fn sources_load_by_content()
-    ensures { SourcesLoadByContent }
-{}
-
-/// Of every source: what its tokens load is the documents of their tree, numbered, where they begin with a
-/// sentence in which each alias has its anchor; else the fault of loading them, the one of the least place.
-pub fn a_source_loads_its_loading()
-    ensures { SourcesLoad }
-{}
-
-/// Tokens have one loading alone.
-pub fn a_source_has_one_loading()
-    ensures { SourceLoadingIsOne }
-{}
-
-/// What an input loads is its plain loading: the documents of its tree, numbered, where it is a sentence
-/// in which each alias has its anchor; else the fault of loading its tokens, the one of the least place.
-pub fn an_input_loads_its_loading()
-    ensures { InputsLoad }
-{}
-
-/// It has one loading alone.
-pub fn an_input_has_one_loading()
-    ensures { LoadingIsOne }
-{}
-
-/// And its plain loading is what it loads.
-pub fn the_loading_is_what_it_loads()
-    ensures { LoadingIsLoads }
-{}
-
-/// By parts: where no fault ends an input's loads, their documents are its plain loading.
-pub fn what_loads_without_fault_is_its_loading()
-    ensures { FaultlessLoad }
-{}
-
-/// And a fault that ends them is its plain loading.
-pub fn the_fault_of_loads_is_its_loading()
-    ensures { FaultyLoad }
+/// The plain reading of an input, said of trees and of the fault of their tokens.
+pub fn laws_of_readings()
+    // Each input has a plain reading: a content, or a fault.
+    ensures each_input_has_a_reading { InputsRead }
+    // And it has one alone.
+    ensures an_input_has_one_reading { ReadingIsOne }
+    // An input that is refused is refused with the fault of its reading.
+    ensures refused_is_read { RefusedIsRead }
+    // And one whose reading is a fault is refused with it.
+    ensures read_is_refused { ReadIsRefused }
+    // What an accepted input says is the content of its reading.
+    ensures said_is_read { SaidIsRead }
+    // And an input whose reading is a content says it.
+    ensures read_is_said { ReadIsSaid }
+    // The events of an accepted input are those of its tree, their tags resolved.
+    ensures events_are_of_the_tree { EventsAreOfTree }
+    // They are those that the tree tells: each tag in full by the directives of its own document.
+    ensures events_are_told { EventsAreTold }
+    // Lists of tokens with their contents.
+    ensures rows_of_contents_hold { RowsHold }
+    // Of every source: the events of tokens that begin with a sentence are the stream's start, those of the tree's documents,
+    // and its end.
+    ensures events_are_placed { EventsArePlaced }
+    // Of every source: what such tokens load is the numbering of the tree's documents, up to the first alias that no node
+    // before it anchors.
+    ensures loads_are_numbered { LoadsAreNumbered }
+    // So is what an input loads that the parser accepts.
+    ensures inputs_are_numbered { InputsAreNumbered }
+    // The documents of events are those that `yaml_parser_load` gives, one after another, as content says each.
+    ensures loads_are_one_by_one { LoadsAreOneByOne }
+    // Of every source: each load of its tokens, one after another, is one that content says, as the contract of `yaml_parser_load`
+    // does.
+    ensures sources_load_by_content { SourcesLoadByContent }
+    // Of every source: what its tokens load is the documents of their tree, numbered, where they begin with a
+    // sentence in which each alias has its anchor; else the fault of loading them, the one of the least place.
+    ensures a_source_loads_its_loading { SourcesLoad }
+    // Tokens have one loading alone.
+    ensures a_source_has_one_loading { SourceLoadingIsOne }
+    // What an input loads is its plain loading: the documents of its tree, numbered, where it is a sentence
+    // in which each alias has its anchor; else the fault of loading its tokens, the one of the least place.
+    ensures an_input_loads_its_loading { InputsLoad }
+    // It has one loading alone.
+    ensures an_input_has_one_loading { LoadingIsOne }
+    // And its plain loading is what it loads.
+    ensures the_loading_is_what_it_loads { LoadingIsLoads }
+    // By parts: where no fault ends an input's loads, their documents are its plain loading.
+    ensures what_loads_without_fault_is_its_loading { FaultlessLoad }
+    // And a fault that ends them is its plain loading.
+    ensures the_fault_of_loads_is_its_loading { FaultyLoad }
 {}

@@ -18,49 +18,30 @@ ghost use Rattle.yaml_scan_laws_order.specs.Laws.{
 ghost use Rattle.yaml_scan_laws_order.specs.Streams.{StreamStarts, StreamEnds, FaultEndsNone};
 ghost use Rattle.yaml_scan_laws_order.specs.Fronts.{SettledComes, LastComes, EndsCome, FaultComes, EndComes};
 
-/// Each lexeme stands behind the ones before it: places and lines never go back.
-pub fn goes_forward()
-    ensures { GoesForward }
-{}
-
-/// A lexeme's marks are marks of the text. The stream's start and end take no byte, every other lexeme at least one.
-pub fn lexemes_stand()
-    ensures { LexemesStand }
-{}
-
-/// What stands before the earliest open candidate never changes, whatever follows.
-pub fn settled_stays()
-    ensures { SettledStays }
-{}
-
-/// A text has at most two lexemes more than bytes.
-pub fn are_few()
-    ensures { AreFew }
-{}
-
-/// While lexemes are read, each step reads one.
-pub fn steps_count()
-    ensures { StepsCount }
-{}
-
-/// No lexeme comes behind all of them.
-pub fn all_ends()
-    ensures { AllEnds }
-{}
-
-/// Where no lexeme comes, all are read.
-pub fn last_is_all()
-    ensures { LastIsAll }
-{}
-
-/// Steps behind the last one change nothing.
-pub fn stays_all()
-    ensures { StaysAll }
-{}
-
-/// A further step keeps the lexemes of the steps before it.
-pub fn history_grows()
-    ensures { HistoryGrows }
+/// The order of tokens, marks and fronts.
+pub fn laws_of_order()
+    // Each lexeme stands behind the ones before it: places and lines never go back.
+    ensures goes_forward { GoesForward }
+    // A lexeme's marks are marks of the text. The stream's start and end take no byte, every other lexeme at least one.
+    ensures lexemes_stand { LexemesStand }
+    // What stands before the earliest open candidate never changes, whatever follows.
+    ensures settled_stays { SettledStays }
+    // A text has at most two lexemes more than bytes.
+    ensures are_few { AreFew }
+    // While lexemes are read, each step reads one.
+    ensures steps_count { StepsCount }
+    // No lexeme comes behind all of them.
+    ensures all_ends { AllEnds }
+    // Where no lexeme comes, all are read.
+    ensures last_is_all { LastIsAll }
+    // Steps behind the last one change nothing.
+    ensures stays_all { StaysAll }
+    // A further step keeps the lexemes of the steps before it.
+    ensures history_grows { HistoryGrows }
+    // What waits is short: it begins on the line that is reached, at most 1,024 bytes before the place that is reached.
+    ensures held_is_short { HeldIsShort }
+    // The open candidate outside all brackets is the earliest open one.
+    ensures outer_is_first { OuterIsFirst }
 {}
 
 /// At most 1,025 lexemes wait for what follows: those from the earliest open candidate on. Where one more is read, at
@@ -68,16 +49,6 @@ pub fn history_grows()
 pub fn few_are_held()
     ensures all { FewAreHeld }
     ensures before { FewWait }
-{}
-
-/// What waits is short: it begins on the line that is reached, at most 1,024 bytes before the place that is reached.
-pub fn held_is_short()
-    ensures { HeldIsShort }
-{}
-
-/// The open candidate outside all brackets is the earliest open one.
-pub fn outer_is_first()
-    ensures { OuterIsFirst }
 {}
 
 /// What comes first of what is to come, where so much of the text is read: a token of the lexeme that is to be taken,

@@ -4,8 +4,4 @@
 
 mod laws;
 
-pub use laws::{
-    all_ends, are_few, few_are_held, fronts_come, goes_forward, held_is_short, history_grows,
-    last_is_all, lexemes_stand, outer_is_first, settled_stays, stays_all, steps_count,
-    stream_is_framed,
-};
+pub use laws::{few_are_held, fronts_come, laws_of_order, stream_is_framed};

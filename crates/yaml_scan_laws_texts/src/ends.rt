@@ -1,13 +1,11 @@
-//! Each function's contract is a law.
+//! Each clause is a law.
 
 ghost use Rattle.yaml_scan_laws_texts.specs.Ends.{StartStands, EndIsRead};
 
-/// What is known behind the stream's start.
-pub fn start_stands()
-    ensures { StartStands }
-{}
-
-/// The stream's end closes all levels, and all is told, without fault.
-pub fn end_is_read()
-    ensures { EndIsRead }
+/// Where a text starts and ends.
+pub fn laws_of_ends()
+    // What is known behind the stream's start.
+    ensures start_stands { StartStands }
+    // The stream's end closes all levels, and all is told, without fault.
+    ensures end_is_read { EndIsRead }
 {}

@@ -1,13 +1,11 @@
-//! Each function's contract is a law.
+//! Each clause is a law.
 
 ghost use Rattle.yaml_scan_laws_texts.specs.Rows.{BlocksAreRead, KeysAreRead};
 
-/// A small text with blocks, by the laws of walks.
-pub fn blocks_are_read()
-    ensures { BlocksAreRead }
-{}
-
-/// A small text with `?` and brackets, by the laws of walks.
-pub fn keys_are_read()
-    ensures { KeysAreRead }
+/// Small texts are read by the laws of walks.
+pub fn laws_of_rows()
+    // A small text with blocks, by the laws of walks.
+    ensures blocks_are_read { BlocksAreRead }
+    // A small text with `?` and brackets, by the laws of walks.
+    ensures keys_are_read { KeysAreRead }
 {}

@@ -1,23 +1,15 @@
-//! Each function's contract is a law.
+//! Each clause is a law.
 
 ghost use Rattle.yaml_scan_laws_texts.specs.Signs.{SignsCome, MarksCome, PrintedBegins, LevelIsOut};
 
-/// Words of one byte come where they stand.
-pub fn signs_come()
-    ensures { SignsCome }
-{}
-
-/// The marks of documents and the stream's end come where they stand.
-pub fn marks_come()
-    ensures { MarksCome }
-{}
-
-/// With a printed ASCII character that isn't `#` a lexeme begins.
-pub fn printed_begins()
-    ensures { PrintedBegins }
-{}
-
-/// All words but plain and block scalars are the same in every level.
-pub fn level_is_out()
-    ensures { LevelIsOut }
+/// Which word comes where a byte stands.
+pub fn laws_of_signs()
+    // Words of one byte come where they stand.
+    ensures signs_come { SignsCome }
+    // The marks of documents and the stream's end come where they stand.
+    ensures marks_come { MarksCome }
+    // With a printed ASCII character that isn't `#` a lexeme begins.
+    ensures printed_begins { PrintedBegins }
+    // All words but plain and block scalars are the same in every level.
+    ensures level_is_out { LevelIsOut }
 {}

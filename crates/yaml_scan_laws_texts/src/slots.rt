@@ -1,48 +1,25 @@
-//! Each function's contract is a law.
+//! Each clause is a law.
 
 ghost use Rattle.yaml_scan_laws_texts.specs.Slots.{StartedGoesOn, LaterIsLone, BreakEndsLine, NearBefore, SlotsGoOn, NoneIsLone, LevelOpens, WhiteColumns, LetterColumns};
 
-/// Candidates start on lines that are behind.
-pub fn started_goes_on()
-    ensures { StartedGoesOn }
-{}
-
-/// On a later line a `:` meets no candidate.
-pub fn later_is_lone()
-    ensures { LaterIsLone }
-{}
-
-/// A break in white ends a line.
-pub fn break_ends_line()
-    ensures { BreakEndsLine }
-{}
-
-/// What is near at a place is near before it.
-pub fn near_before()
-    ensures { NearBefore }
-{}
-
-/// A depth's candidate stays, or goes.
-pub fn slots_go_on()
-    ensures { SlotsGoOn }
-{}
-
-/// A `:` meets no candidate where there is none.
-pub fn none_is_lone()
-    ensures { NoneIsLone }
-{}
-
-/// Right of the innermost level one opens; else none does.
-pub fn level_opens()
-    ensures { LevelOpens }
-{}
-
-/// The column behind white.
-pub fn white_columns()
-    ensures { WhiteColumns }
-{}
-
-/// A printed ASCII character takes one column, on its line.
-pub fn letter_columns()
-    ensures { LetterColumns }
+/// Candidates and columns behind white.
+pub fn laws_of_slots()
+    // Candidates start on lines that are behind.
+    ensures started_goes_on { StartedGoesOn }
+    // On a later line a `:` meets no candidate.
+    ensures later_is_lone { LaterIsLone }
+    // A break in white ends a line.
+    ensures break_ends_line { BreakEndsLine }
+    // What is near at a place is near before it.
+    ensures near_before { NearBefore }
+    // A depth's candidate stays, or goes.
+    ensures slots_go_on { SlotsGoOn }
+    // A `:` meets no candidate where there is none.
+    ensures none_is_lone { NoneIsLone }
+    // Right of the innermost level one opens; else none does.
+    ensures level_opens { LevelOpens }
+    // The column behind white.
+    ensures white_columns { WhiteColumns }
+    // A printed ASCII character takes one column, on its line.
+    ensures letter_columns { LetterColumns }
 {}

@@ -1,9 +1,0 @@
-use Rattle.yaml_emit_laws_pretty.proofs.KeyLeaves.{keys_walk}
-use Rattle.yaml_emit_laws_pretty.proofs.Stopping.{has_gap, are_words}
-use Rattle.yaml_emit_laws_pretty.proofs.SingleWritten.{single_back}
-use Rattle.yaml_emit_laws_text.proofs.Parts.{single_spelling_reads}
-use Rattle.yaml_emit_laws_pretty.proofs.Styles.{styles_allowed}
-use Rattle.yaml_emit_laws_pretty.proofs.key_laws.simple_keys_are_walked.Goals as goal
-
-pub returns : goal.returns
-returns c = keys_walk (record { gaps = has_gap; words = are_words; singles = (single_back single_spelling_reads); styles = styles_allowed })

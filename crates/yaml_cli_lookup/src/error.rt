@@ -2,23 +2,18 @@
 
 ghost use Rattle.yaml_cli_lookup.specs.Errors.{IsErrorOf};
 
-use thiserror::Error;
 use yaml_scan::{yaml_error_type_t, yaml_fault_t};
 
 /// Why a key can't be looked up.
-#[derive(Debug, Drop, Error)]
+#[derive(Drop)]
 pub enum LookupError {
     /// The first document isn't read to its end: the fault that is met first, with its places.
-    #[error("{}", .0.problem)]
     Unreadable(yaml_fault_t),
     /// There is no document, or its root isn't a mapping.
-    #[error("the root is not a mapping")]
     NotAMapping,
     /// Memory was refused while the first document was read: the fault names the layer.
-    #[error("{}", .0.problem)]
     OutOfMemory(yaml_fault_t),
     /// Memory was refused for the copy of the value.
-    #[error("out of memory")]
     CopyRefused,
 }
 

@@ -9,7 +9,10 @@ ghost use Rattle.yaml_cli_lookup.specs.Lookup.{IsFirstMapping, IsDue, IsDueOf, I
 use crate::error::{LookupError, error_of};
 use crate::value::{has_mapping, value_of};
 use std::alloc::Global;
-use yaml_parse::{yaml_document_t, yaml_parser_delete, yaml_parser_initialize, yaml_parser_load};
+use yaml_parse::{
+    yaml_document_delete, yaml_document_t, yaml_parser_delete, yaml_parser_initialize,
+    yaml_parser_load,
+};
 use yaml_round_adapter::yaml_adapter_t;
 use yaml_scan::{yaml_encoding_t, yaml_fault_t};
 
@@ -21,10 +24,14 @@ fn first_document(
 ) -> Result<yaml_document_t, yaml_fault_t>
     ensures { Answers load_layers (λ d. d) (IsFirstDocument encoding input.now) result }
 {
-    let mut parser = yaml_parser_initialize(alloc, yaml_adapter_t::new(alloc, input, encoding))?;
-    let answer = yaml_parser_load(&mut parser);
-    yaml_parser_delete(parser);
-    answer
+    match yaml_parser_initialize(alloc, yaml_adapter_t::new(alloc, input, encoding)) {
+        Err(fault) => Err(fault),
+        Ok(mut parser) => {
+            let answer = yaml_parser_load(&mut parser);
+            yaml_parser_delete(parser);
+            answer
+        }
+    }
 }
 
 /// The first document of the input, whose root is a mapping. No document behind it is loaded.
@@ -43,6 +50,7 @@ pub fn load_mapping(
             if has_mapping(&document) {
                 Ok(document)
             } else {
+                yaml_document_delete(document);
                 Err(LookupError::NotAMapping)
             }
         }
@@ -76,6 +84,10 @@ pub fn lookup(
 {
     match load_mapping(alloc, input, encoding) {
         Err(error) => Err(error),
-        Ok(document) => copied(alloc, value_of(&document, key)),
+        Ok(document) => {
+            let found = copied(alloc, value_of(&document, key));
+            yaml_document_delete(document);
+            found
+        }
     }
 }

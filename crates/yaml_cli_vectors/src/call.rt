@@ -76,7 +76,7 @@ const CALLS: [(&'static str, Call); 32] = [
 ];
 
 // What a call answers on the line's input.
-fn answer_input(reply: &mut Reply, line: &Value, call: Call, input: Input<'_>) {
+fn answer_input(reply: &mut Reply, line: &Value, call: Call, input: &Input<'_>) {
     match call {
         Call::Ask(asked) => engine::ask(reply, line, asked, input),
         Call::Make(made) => engine::make(reply, line, made, input),
@@ -93,15 +93,15 @@ fn answer_input(reply: &mut Reply, line: &Value, call: Call, input: Input<'_>) {
 
 // One function owns the input of all calls that have one.
 fn ask_input(reply: &mut Reply, line: &Value, call: Call) {
-    let from = reply.encoding(line, "from");
-    let text = reply.input(line, "input");
+    let from = reply.encoding(line, "/from");
+    let text = reply.input(line, "/input");
     let text = text.as_slice();
-    answer_input(reply, line, call, Input { text, from });
+    answer_input(reply, line, call, &Input { text, from });
 }
 
 /// What the call that the line names answers; the reply keeps the fault where it only refuses.
 pub fn answer(rt: &HostRuntime, reply: &mut Reply, line: &Value) {
-    match reply.choice(line, "call", &CALLS, Call::Check) {
+    match reply.choice(line, "/call", &CALLS, Call::Check) {
         Call::ParseTokens(wanted) => parse_tokens(reply, line, wanted),
         Call::ParseCalls if line.get("tokens").is_some() => {
             parse_tokens(reply, line, Wanted::Calls)

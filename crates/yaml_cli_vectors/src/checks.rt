@@ -10,10 +10,10 @@ use serde_json::Value;
 /// Whether what the line names is right, thing by thing.
 pub fn answer(reply: &mut Reply, line: &Value) {
     reply.field("answer", Part::Object);
-    match reply.text(line, "of") {
+    match reply.text(line, "/of") {
         "an output stops" => output::an_output_stops(reply),
-        "constructors" => made::refuses_texts(reply),
-        "documents" => made::documents(reply),
+        "constructors" => made::refuses_texts(reply, line),
+        "documents" => made::documents(reply, line),
         _ => reply.miss("of"),
     }
     reply.put(Part::EndObject);

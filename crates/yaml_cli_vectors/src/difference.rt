@@ -12,7 +12,7 @@ fn put_step(reply: &mut Reply, step: &yaml_step_t) {
         yaml_step_t::Key(pair) => reply.field("key", Part::Count(*pair)),
         yaml_step_t::Value { pair, key } => {
             reply.field("value", Part::Count(*pair));
-            reply.field("text", Part::OptionalBytes(key.as_deref()));
+            reply.field_optional("text", key.as_deref());
         }
     }
     reply.put(Part::EndObject);

@@ -26,38 +26,35 @@ pub enum Asked {
     FaultLine,
 }
 
-/// The line that tells the fault.
-pub fn put_line(reply: &mut Reply, fault: &yaml_fault_t) {
+/// A field: the line that tells the fault.
+pub fn field_line(reply: &mut Reply, name: &str, fault: &yaml_fault_t) {
     match yaml_fault_line(reply.alloc, fault) {
-        Ok(text) => reply.put(Part::Bytes(text.as_slice())),
+        Ok(text) => reply.field_bytes(name, text.as_slice()),
         Err(fault) => reply.fault(fault),
     }
 }
 
-fn put_fault_line(reply: &mut Reply, fault: Option<yaml_fault_t>) {
-    reply.put(Part::Name("answer"));
-    match fault {
-        Some(fault) => put_line(reply, &fault),
-        None => reply.put(Part::Null),
-    }
-}
-
 /// What the input answers, or its fault.
-pub fn ask(reply: &mut Reply, line: &Value, asked: Asked, input: Input<'_>) {
-    let (alloc, text, from) = (reply.alloc, input.text, input.from);
+pub fn ask(reply: &mut Reply, line: &Value, asked: Asked, input: &Input<'_>) {
     match asked {
-        Asked::Decode => match yaml_decode(alloc, text, from) {
+        Asked::Decode => match yaml_decode(reply.alloc, input.text, input.from) {
             Ok(text) => put_text(reply, line, text.as_slice()),
             Err(fault) => reply.fault(fault),
         },
-        Asked::Events => put_made(reply, line, yaml_events(alloc, text, from)),
-        Asked::Loads => {
-            reply.done(yaml_check(alloc, text, from).err());
-            reply.field("answer", Part::Flag(true));
+        Asked::Events => {
+            let events = yaml_events(reply.alloc, input.text, input.from);
+            put_made(reply, line, events);
         }
+        Asked::Loads => match yaml_check(reply.alloc, input.text, input.from) {
+            Ok(()) => reply.field("answer", Part::Flag(true)),
+            Err(fault) => reply.fault(fault),
+        },
         Asked::FaultLine => {
-            let made = yaml_reformat(alloc, text, from, &yaml_settings_t::new());
-            put_fault_line(reply, made.err());
+            let usual = yaml_settings_t::new();
+            match yaml_reformat(reply.alloc, input.text, input.from, &usual).err() {
+                Some(fault) => field_line(reply, "answer", &fault),
+                None => reply.field("answer", Part::Null),
+            }
         }
     }
 }
@@ -74,16 +71,23 @@ pub enum Made {
 }
 
 /// What is made of the input under the line's settings.
-pub fn make(reply: &mut Reply, line: &Value, wanted: Made, input: Input<'_>) {
+pub fn make(reply: &mut Reply, line: &Value, wanted: Made, input: &Input<'_>) {
     let settings = settings(reply, line);
-    let (alloc, text, from) = (reply.alloc, input.text, input.from);
     match wanted {
-        Made::Reformatted => match yaml_reformat(alloc, text, from, &settings) {
-            Ok((text, form)) => put_answer(reply, line, text.as_slice(), Some(form)),
-            Err(fault) => reply.fault(fault),
-        },
-        Made::Normalized => put_made(reply, line, yaml_normalize(alloc, text, from, &settings)),
-        Made::Reloaded => put_made(reply, line, yaml_reload(alloc, text, from, &settings)),
+        Made::Reformatted => {
+            match yaml_reformat(reply.alloc, input.text, input.from, &settings) {
+                Ok((text, form)) => put_answer(reply, line, text.as_slice(), Some(form)),
+                Err(fault) => reply.fault(fault),
+            }
+        }
+        Made::Normalized => {
+            let normal = yaml_normalize(reply.alloc, input.text, input.from, &settings);
+            put_made(reply, line, normal);
+        }
+        Made::Reloaded => {
+            let reloaded = yaml_reload(reply.alloc, input.text, input.from, &settings);
+            put_made(reply, line, reloaded);
+        }
     }
 }
 
@@ -93,7 +97,7 @@ fn put_side(reply: &mut Reply, line: &Value, side: yaml_side_t, fault: &yaml_fau
         yaml_side_t::First => "First",
         yaml_side_t::Second => "Second",
     };
-    reply.field("side", Part::Word(word));
+    reply.field_word("side", word);
     reply.name_fault(line, fault);
 }
 
@@ -128,27 +132,30 @@ pub enum Compared {
 }
 
 /// What comparing the input with the line's second one answers, or the side that is refused and its fault.
-pub fn compare(reply: &mut Reply, line: &Value, compared: Compared, input: Input<'_>) {
-    let from2 = reply.encoding(line, "from2");
-    let text = reply.input(line, "input2");
-    let (alloc, first, from, second) = (reply.alloc, input.text, input.from, text.as_slice());
+pub fn compare(reply: &mut Reply, line: &Value, compared: Compared, input: &Input<'_>) {
+    let from2 = reply.encoding(line, "/from2");
+    let text = reply.input(line, "/input2");
+    let second = text.as_slice();
     match compared {
-        Compared::Same => put_same(reply, line, yaml_same(alloc, first, from, second, from2)),
-        Compared::Diff => put_parted(reply, line, yaml_diff(alloc, first, from, second, from2)),
+        Compared::Same => {
+            let same = yaml_same(reply.alloc, input.text, input.from, second, from2);
+            put_same(reply, line, same);
+        }
+        Compared::Diff => {
+            let parted = yaml_diff(reply.alloc, input.text, input.from, second, from2);
+            put_parted(reply, line, parted);
+        }
         Compared::DiffDocuments => {
-            put_parted(
-                reply,
-                line,
-                yaml_diff_documents(alloc, first, from, second, from2),
-            )
+            let parted = yaml_diff_documents(reply.alloc, input.text, input.from, second, from2);
+            put_parted(reply, line, parted);
         }
     }
 }
 
 /// The line that tells a fault with the line's fields, whose problem is `x`, met while `y` was being read, or nothing.
 pub fn told(reply: &mut Reply, line: &Value) {
-    let fields = reply.value(line, "own");
-    let context = if reply.flag(fields, "context") {
+    let fields = reply.value(line, "/own");
+    let context = if reply.flag(fields, "/context") {
         Some("y")
     } else {
         None
@@ -158,5 +165,5 @@ pub fn told(reply: &mut Reply, line: &Value) {
         context,
         ..own_fault(reply, fields)
     };
-    put_fault_line(reply, Some(fault));
+    field_line(reply, "answer", &fault);
 }

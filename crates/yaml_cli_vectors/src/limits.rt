@@ -6,7 +6,7 @@ use serde_json::Value;
 use yaml_round::{yaml_error_type_t, yaml_reformat, yaml_reload, yaml_settings_t};
 
 // Whether the call refuses that limit: tells that the text has more bytes. Any other refusal is kept.
-fn is_refused(reply: &mut Reply, of: &str, input: Input<'_>, settings: &yaml_settings_t) -> bool {
+fn is_refused(reply: &mut Reply, of: &str, input: &Input<'_>, settings: &yaml_settings_t) -> bool {
     let refused = match of {
         "reload" => yaml_reload(reply.alloc, input.text, input.from, settings).err(),
         _ => yaml_reformat(reply.alloc, input.text, input.from, settings).err(),
@@ -26,8 +26,8 @@ fn is_refused(reply: &mut Reply, of: &str, input: Input<'_>, settings: &yaml_set
 
 /// The least limit, below that of the settings, under which the call that the line names in `of` answers a text. Every smaller one
 /// refuses it.
-pub fn least_limit(reply: &mut Reply, line: &Value, input: Input<'_>) {
-    let of = reply.text(line, "of");
+pub fn least_limit(reply: &mut Reply, line: &Value, input: &Input<'_>) {
+    let of = reply.text(line, "/of");
     let settings = settings(reply, line);
     for limit in 0..settings.limit {
         if !is_refused(reply, of, input, &yaml_settings_t { limit, ..settings }) {

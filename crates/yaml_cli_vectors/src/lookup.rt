@@ -6,12 +6,12 @@ use serde_json::Value;
 use yaml_cli_lookup::{LookupError, lookup};
 
 /// The value of the line's key in its input; null where there is none.
-pub fn answer(reply: &mut Reply, line: &Value, input: Input<'_>) {
-    let key = reply.bytes(line, "key");
+pub fn answer(reply: &mut Reply, line: &Value, input: &Input<'_>) {
+    let key = reply.bytes(line, "/key");
     match lookup(reply.alloc, input.text, input.from, key.as_slice()) {
-        Ok(value) => reply.field("answer", Part::OptionalBytes(value.as_deref())),
+        Ok(value) => reply.field_optional("answer", value.as_deref()),
         Err(LookupError::Unreadable(fault)) => reply.fault(fault),
-        Err(LookupError::NotAMapping) => reply.field("refused", Part::Word("NotAMapping")),
+        Err(LookupError::NotAMapping) => reply.field_word("refused", "NotAMapping"),
         Err(_) => reply.refuse(VectorError::Memory),
     }
 }

@@ -6,8 +6,8 @@ use yaml_cli_main::yaml_main;
 
 fn words_of<'a>(reply: &mut Reply, line: &'a Value) -> Vec<&'a str> {
     let mut words = Vec::new(reply.alloc);
-    for listed in reply.list(line, "words") {
-        let word = reply.take(listed.as_str(), "words", "");
+    for listed in reply.list(line, "/words") {
+        let word = reply.text(listed, "");
         reply.push(&mut words, word);
     }
     words
@@ -15,19 +15,19 @@ fn words_of<'a>(reply: &mut Reply, line: &'a Value) -> Vec<&'a str> {
 
 // What stands there, or whether something does where the line wants that.
 fn put_text(reply: &mut Reply, line: &Value, name: &'static str, text: &[u8], is_utf8: bool) {
-    reply.put(Part::Name(name));
+    reply.put_name(name);
     match line.get(name) {
         Some(Value::Bool(_)) => reply.put(Part::Flag(!text.is_empty())),
         _ if is_utf8 => reply.put_utf8(text),
-        _ => reply.put(Part::Bytes(text)),
+        _ => reply.put_bytes(text),
     }
 }
 
 // The status, what was written, and what was told. One function owns the streams, and asks all there is to ask behind the run.
 fn put_run(rt: &HostRuntime, reply: &mut Reply, line: &Value, words: &[&str], unflushed: bool) {
     let mut input = ScriptedReader::of(reply, line);
-    let mut output = ScriptedWriter::of(reply, line, "writes", unflushed);
-    let mut errors = ScriptedWriter::of(reply, line, "tells", false);
+    let mut output = ScriptedWriter::of(reply, line, "/writes", unflushed);
+    let mut errors = ScriptedWriter::of(reply, line, "/tells", false);
     let status = yaml_main(rt, words, &mut input, &mut output, &mut errors);
     reply.field("status", Part::Count(u64::from(status)));
     put_text(reply, line, "output", output.received.as_slice(), false);
@@ -38,6 +38,6 @@ fn put_run(rt: &HostRuntime, reply: &mut Reply, line: &Value, words: &[&str], un
 pub fn run(rt: &HostRuntime, reply: &mut Reply, line: &Value) {
     let words = words_of(reply, line);
     // Whether the output's writer fails to pass on what it took.
-    let unflushed = reply.flag(line, "unflushed");
+    let unflushed = reply.flag(line, "/unflushed");
     put_run(rt, reply, line, words.as_slice(), unflushed);
 }

@@ -19,12 +19,12 @@ fn put_sizes(reply: &mut Reply, line: &Value, sizes: &[usize]) {
 
 /// What is read of the line's input, which comes as its steps say, under its limit; or why there are no bytes.
 pub fn answer(reply: &mut Reply, line: &Value) {
-    let limit = reply.count(line, "input_limit");
+    let limit = reply.count(line, "/input_limit");
     let mut reader = ScriptedReader::of(reply, line);
     let mut source = yaml_std_input_t::new(&mut reader);
     match yaml_read_all(reply.alloc, &mut source, limit) {
         Ok(text) => put_text(reply, line, text.as_slice()),
-        Err(fault) => reply.field("refused", Part::Word(refusal_word(&fault))),
+        Err(fault) => reply.field_word("refused", refusal_word(&fault)),
     }
     put_sizes(reply, line, reader.sizes.as_slice());
 }

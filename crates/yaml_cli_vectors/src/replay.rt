@@ -1,8 +1,8 @@
 //! A line, replayed by the call that it names.
 
 use crate::call::answer;
-use crate::engine::put_line;
-use crate::lines::{Outcome, Part, Reply, VectorError, compare, json_error};
+use crate::engine::field_line;
+use crate::lines::{Outcome, Reply, VectorError, compare, json_error};
 use serde_json::Value;
 use std::alloc::Global;
 use yaml_scan::yaml_fault_t;
@@ -12,8 +12,7 @@ fn refusal(alloc: Global, line: &Value, fault: &yaml_fault_t) -> Result<Vec<u8>,
     let mut reply = Reply::new(alloc);
     reply.name_fault(line, fault);
     if line.get("fault_line").is_some() {
-        reply.put(Part::Name("fault_line"));
-        put_line(&mut reply, fault);
+        field_line(&mut reply, "fault_line", fault);
     }
     reply.finish()
 }

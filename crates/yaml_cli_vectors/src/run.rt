@@ -32,9 +32,9 @@ fn run_over(
     reply: &mut Reply,
     line: &Value,
     command: yaml_command_t,
-    input: Input<'_>,
+    input: &Input<'_>,
 ) -> Ended {
-    let limit = reply.count(line, "input_limit");
+    let limit = reply.count(line, "/input_limit");
     let settings = settings(reply, line);
     yaml_run(
         reply.alloc,
@@ -51,14 +51,14 @@ fn put_ended(reply: &mut Reply, line: &Value, text: &[u8], ended: &Ended) {
     match ended {
         Ok(form) => put_answer(reply, line, text, *form),
         Err(yaml_run_fault_t::Yaml(fault)) => reply.fault(*fault),
-        Err(fault) => reply.field("refused", Part::Word(refusal_word(fault))),
+        Err(fault) => reply.field_word("refused", refusal_word(fault)),
     }
 }
 
 /// The text that the line's command makes of its input, and the form that it has; `TooLong` where the input has more bytes
 /// than `input_limit`.
-pub fn run(reply: &mut Reply, line: &Value, input: Input<'_>) {
-    let command = reply.choice(line, "command", &COMMANDS, yaml_command_t::Fmt);
+pub fn run(reply: &mut Reply, line: &Value, input: &Input<'_>) {
+    let command = reply.choice(line, "/command", &COMMANDS, yaml_command_t::Fmt);
     let mut text = Vec::new(reply.alloc);
     let ended = run_over(&mut text, reply, line, command, input);
     put_ended(reply, line, text.as_slice(), &ended);

@@ -9,7 +9,7 @@ pub fn put_text(reply: &mut Reply, line: &Value, text: &[u8]) {
     if line.get("length").is_some() {
         reply.field("length", Part::Count(text.len() as u64));
     } else {
-        reply.field("answer", Part::Bytes(text));
+        reply.field_bytes("answer", text);
     }
 }
 
@@ -17,8 +17,8 @@ pub fn put_text(reply: &mut Reply, line: &Value, text: &[u8]) {
 pub fn put_answer(reply: &mut Reply, line: &Value, text: &[u8], form: Option<yaml_form_t>) {
     put_text(reply, line, text);
     match form {
-        Some(yaml_form_t::Canonical) => reply.field("form", Part::Word("Canonical")),
-        Some(yaml_form_t::Pretty) => reply.field("form", Part::Word("Pretty")),
+        Some(yaml_form_t::Canonical) => reply.field_word("form", "Canonical"),
+        Some(yaml_form_t::Pretty) => reply.field_word("form", "Pretty"),
         None => {}
     }
 }

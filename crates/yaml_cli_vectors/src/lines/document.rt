@@ -38,7 +38,7 @@ fn words(node: &yaml_node_t) -> (&'static str, &'static str) {
 fn put_held(reply: &mut Reply, node: &yaml_node_t) {
     match &node.body {
         yaml_node_body_t::No => reply.put(Part::Null),
-        yaml_node_body_t::Scalar { value, .. } => reply.put(Part::Bytes(value.as_slice())),
+        yaml_node_body_t::Scalar { value, .. } => reply.put_bytes(value.as_slice()),
         yaml_node_body_t::Sequence { items, .. } => put_items(reply, items.as_slice()),
         yaml_node_body_t::Mapping { pairs, .. } => put_pairs(reply, pairs.as_slice()),
     }
@@ -48,10 +48,10 @@ fn put_held(reply: &mut Reply, node: &yaml_node_t) {
 fn put_node(reply: &mut Reply, node: &yaml_node_t) {
     let (kind, style) = words(node);
     reply.put(Part::List);
-    reply.put(Part::Word(kind));
-    reply.put(Part::Bytes(node.tag.as_slice()));
+    reply.put_word(kind);
+    reply.put_bytes(node.tag.as_slice());
     put_held(reply, node);
-    reply.put(Part::Word(style));
+    reply.put_word(style);
     reply.put(Part::Mark(node.start_mark));
     reply.put(Part::Mark(node.end_mark));
     reply.put(Part::EndList);
@@ -71,15 +71,15 @@ fn put_nodes(reply: &mut Reply, document: &yaml_document_t) {
 /// Puts the document as the lines write it.
 pub fn show_document(reply: &mut Reply, document: &yaml_document_t) {
     reply.put(Part::Object);
-    reply.put(Part::Name("version"));
+    reply.put_name("version");
     show_version(reply, document.version_directive());
-    reply.put(Part::Name("directives"));
+    reply.put_name("directives");
     show_directives(reply, document.tag_directives());
     reply.field("start_implicit", Part::Flag(document.start_implicit()));
     reply.field("end_implicit", Part::Flag(document.end_implicit()));
     reply.field("start_mark", Part::Mark(document.start_mark()));
     reply.field("end_mark", Part::Mark(document.end_mark()));
-    reply.put(Part::Name("nodes"));
+    reply.put_name("nodes");
     put_nodes(reply, document);
     reply.put(Part::EndObject);
 }

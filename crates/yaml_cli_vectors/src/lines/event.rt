@@ -38,7 +38,7 @@ pub fn show_directives(reply: &mut Reply, directives: &[yaml_tag_directive_t]) {
     for directive in directives {
         reply.put(Part::List);
         reply.put_utf8(directive.handle.as_slice());
-        reply.put(Part::Bytes(directive.prefix.as_slice()));
+        reply.put_bytes(directive.prefix.as_slice());
         reply.put(Part::EndList);
     }
     reply.put(Part::EndList);
@@ -49,7 +49,7 @@ pub fn show_directives(reply: &mut Reply, directives: &[yaml_tag_directive_t]) {
 fn put_carried(reply: &mut Reply, body: &yaml_event_body_t) {
     match body {
         yaml_event_body_t::StreamStart { encoding } => {
-            reply.put(Part::Word(word_of(&ENCODINGS, *encoding)))
+            reply.put_word(word_of(&ENCODINGS, *encoding))
         }
         yaml_event_body_t::DocumentStart {
             version_directive,
@@ -73,7 +73,7 @@ fn put_carried(reply: &mut Reply, body: &yaml_event_body_t) {
             ..
         } => {
             reply.put(Part::Flag(*implicit));
-            reply.put(Part::Word(word_of(&SEQUENCES, *style)))
+            reply.put_word(word_of(&SEQUENCES, *style))
         },
         yaml_event_body_t::MappingStart {
             implicit,
@@ -81,7 +81,7 @@ fn put_carried(reply: &mut Reply, body: &yaml_event_body_t) {
             ..
         } => {
             reply.put(Part::Flag(*implicit));
-            reply.put(Part::Word(word_of(&MAPPINGS, *style)))
+            reply.put_word(word_of(&MAPPINGS, *style))
         },
         _ => {}
     }

@@ -1,38 +1,21 @@
-//! What a line says: the fields of an object and the items of a list, read.
+//! What a line says: the fields of an object and the items of a list, read by their paths.
 
 use crate::lines::words::ENCODINGS;
 use crate::lines::{Reply, VectorError};
-use serde_json::{Index, Value};
+use serde_json::Value;
 use yaml_scan::{yaml_encoding_t, yaml_mark_t};
 
-/// Where a value stands in another: the name of a field, or the index of an item.
-pub trait FieldPlace: Index + Copy {
-    /// What an error tells of this place.
-    fn name(self) -> &'static str;
-}
-
-impl FieldPlace for &'static str {
-    fn name(self) -> &'static str {
-        self
-    }
-}
-
-impl FieldPlace for usize {
-    fn name(self) -> &'static str {
-        "item"
-    }
-}
-
+// A path is a pointer of JSON: `/settings/limit`, `/0`. An error tells it.
 impl Reply {
-    /// What stands there, else the line itself.
-    pub fn value<'a, P: FieldPlace>(&mut self, line: &'a Value, place: P) -> &'a Value {
-        self.take(line.get(place), place.name(), line)
+    /// What stands there, else the value itself.
+    pub fn value<'a>(&mut self, of: &'a Value, path: &'static str) -> &'a Value {
+        self.take(of.pointer(path), path, of)
     }
 
     /// The text there.
-    pub fn text<'a, P: FieldPlace>(&mut self, line: &'a Value, place: P) -> &'a str {
-        let text = self.value(line, place).as_str();
-        self.take(text, place.name(), "")
+    pub fn text<'a>(&mut self, of: &'a Value, path: &'static str) -> &'a str {
+        let text = self.value(of, path).as_str();
+        self.take(text, path, "")
     }
 
     /// A copy of those bytes.
@@ -47,13 +30,13 @@ impl Reply {
     }
 
     /// The bytes there, in hexadecimal digits.
-    pub fn bytes<P: FieldPlace>(&mut self, line: &Value, place: P) -> Vec<u8> {
-        match hex::decode(self.alloc, self.text(line, place)) {
+    pub fn bytes(&mut self, of: &Value, path: &'static str) -> Vec<u8> {
+        match hex::decode(self.alloc, self.text(of, path)) {
             Ok(bytes) => bytes,
             Err(error) => {
                 match error {
                     hex::FromHexError::OutOfMemory => self.refuse(VectorError::Memory),
-                    _ => self.miss(place.name()),
+                    _ => self.miss(path),
                 }
                 Vec::new(self.alloc)
             }
@@ -61,17 +44,17 @@ impl Reply {
     }
 
     /// The bytes there, in hexadecimal digits, or null.
-    pub fn optional_bytes<P: FieldPlace>(&mut self, line: &Value, place: P) -> Option<Vec<u8>> {
-        match line.get(place) {
+    pub fn optional_bytes(&mut self, of: &Value, path: &'static str) -> Option<Vec<u8>> {
+        match of.pointer(path) {
             Some(Value::Null) => None,
-            _ => Some(self.bytes(line, place)),
+            _ => Some(self.bytes(of, path)),
         }
     }
 
     // Adds a piece of an input: its bytes, and how often they stand there.
     fn push_piece(&mut self, piece: &Value, bytes: &mut Vec<u8>) {
-        let repeated = self.bytes(piece, 0);
-        for _ in 0..self.count(piece, 1) {
+        let repeated = self.bytes(piece, "/0");
+        for _ in 0..self.count(piece, "/1") {
             if bytes.extend_from_slice(repeated.as_slice()).is_err() {
                 self.refuse(VectorError::Memory);
                 break;
@@ -80,64 +63,61 @@ impl Reply {
     }
 
     /// The input there: bytes in hexadecimal digits, or a list of pieces, each with how often it is repeated.
-    pub fn input(&mut self, line: &Value, name: &'static str) -> Vec<u8> {
-        if !self.value(line, name).is_array() {
-            return self.bytes(line, name);
+    pub fn input(&mut self, of: &Value, path: &'static str) -> Vec<u8> {
+        if !self.value(of, path).is_array() {
+            return self.bytes(of, path);
         }
         let mut bytes = Vec::new(self.alloc);
-        for piece in self.list(line, name) {
+        for piece in self.list(of, path) {
             self.push_piece(piece, &mut bytes);
         }
         bytes
     }
 
     /// True or false there.
-    pub fn flag<P: FieldPlace>(&mut self, line: &Value, place: P) -> bool {
-        let flag = self.value(line, place).as_bool();
-        self.take(flag, place.name(), false)
+    pub fn flag(&mut self, of: &Value, path: &'static str) -> bool {
+        let flag = self.value(of, path).as_bool();
+        self.take(flag, path, false)
     }
 
     /// The number that isn't negative there.
-    pub fn count<P: FieldPlace>(&mut self, line: &Value, place: P) -> u64 {
-        let count = self.value(line, place).as_u64();
-        self.take(count, place.name(), 0)
+    pub fn count(&mut self, of: &Value, path: &'static str) -> u64 {
+        let count = self.value(of, path).as_u64();
+        self.take(count, path, 0)
     }
 
     /// The number of 32 bits there.
-    pub fn number<P: FieldPlace>(&mut self, line: &Value, place: P) -> i32 {
-        let number = match self.value(line, place).as_i64() {
+    pub fn number(&mut self, of: &Value, path: &'static str) -> i32 {
+        let number = match self.value(of, path).as_i64() {
             Some(number) => i32::try_from(number).ok(),
             None => None,
         };
-        self.take(number, place.name(), 0)
+        self.take(number, path, 0)
     }
 
     /// The list there.
-    pub fn list<'a, P: FieldPlace>(&mut self, line: &'a Value, place: P) -> &'a [Value] {
-        match self.value(line, place).as_array() {
+    pub fn list<'a>(&mut self, of: &'a Value, path: &'static str) -> &'a [Value] {
+        match self.value(of, path).as_array() {
             Some(list) => list.as_slice(),
             None => {
-                self.miss(place.name());
+                self.miss(path);
                 &[]
             }
         }
     }
 
     /// The mark there: index, line, column.
-    pub fn mark<P: FieldPlace>(&mut self, line: &Value, place: P) -> yaml_mark_t {
-        let mark = self.value(line, place);
-        let index = self.count(mark, 0);
-        let line = self.count(mark, 1);
-        let column = self.count(mark, 2);
+    pub fn mark(&mut self, of: &Value, path: &'static str) -> yaml_mark_t {
+        let mark = self.value(of, path);
         yaml_mark_t {
-            index,
-            line,
-            column,
+            index: self.count(mark, "/0"),
+            line: self.count(mark, "/1"),
+            column: self.count(mark, "/2"),
         }
     }
 
     /// The encoding there.
-    pub fn encoding<P: FieldPlace>(&mut self, line: &Value, place: P) -> yaml_encoding_t {
-        self.choice(line, place, &ENCODINGS, yaml_encoding_t::YAML_ANY_ENCODING)
+    pub fn encoding(&mut self, of: &Value, path: &'static str) -> yaml_encoding_t {
+        self.choice(of, path, &ENCODINGS, yaml_encoding_t::YAML_ANY_ENCODING)
     }
 }

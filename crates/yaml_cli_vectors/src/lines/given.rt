@@ -4,7 +4,6 @@
 use crate::lines::Reply;
 use crate::lines::words::{MAPPINGS, SCALARS, SEQUENCES};
 use serde_json::Value;
-use std::alloc::Global;
 use yaml_parse::{
     yaml_alias_event_initialize, yaml_document_end_event_initialize,
     yaml_document_start_event_initialize, yaml_event_t, yaml_mapping_end_event_initialize,
@@ -21,8 +20,8 @@ use yaml_scan::{
 pub fn version(reply: &mut Reply, value: Option<&Value>) -> Option<yaml_version_directive_t> {
     match value {
         Some(version) if version.is_array() => Some(yaml_version_directive_t {
-            major: reply.number(version, 0),
-            minor: reply.number(version, 1),
+            major: reply.number(version, "/0"),
+            minor: reply.number(version, "/1"),
         }),
         _ => None,
     }
@@ -30,12 +29,12 @@ pub fn version(reply: &mut Reply, value: Option<&Value>) -> Option<yaml_version_
 
 fn directive(reply: &mut Reply, directive: &Value, is_hex: bool) -> yaml_tag_directive_t {
     let handle = if is_hex {
-        reply.bytes(directive, 0)
+        reply.bytes(directive, "/0")
     } else {
-        let handle = reply.text(directive, 0);
+        let handle = reply.text(directive, "/0");
         reply.copy(handle.as_bytes())
     };
-    let prefix = reply.bytes(directive, 1);
+    let prefix = reply.bytes(directive, "/1");
     yaml_tag_directive_t { handle, prefix }
 }
 
@@ -52,29 +51,29 @@ pub fn directives(reply: &mut Reply, listed: &[Value], is_hex: bool) -> Vec<yaml
 /// An event, unless it is refused.
 pub type Made = Result<yaml_event_t, yaml_text_fault_t>;
 
-fn document_start(alloc: Global, reply: &mut Reply, event: &Value) -> Made {
+fn document_start(reply: &mut Reply, event: &Value) -> Made {
     let version = version(reply, event.get(2));
-    let implicit = reply.flag(event, 4);
-    let listed = reply.list(event, 3);
+    let implicit = reply.flag(event, "/4");
+    let listed = reply.list(event, "/3");
     let directives = directives(reply, listed, true);
-    yaml_document_start_event_initialize(alloc, version, directives.as_slice(), implicit)
+    yaml_document_start_event_initialize(reply.alloc, version, directives.as_slice(), implicit)
 }
 
-fn alias(alloc: Global, reply: &mut Reply, event: &Value) -> Made {
-    let anchor = reply.bytes(event, 5);
-    yaml_alias_event_initialize(alloc, anchor.as_slice())
+fn alias(reply: &mut Reply, event: &Value) -> Made {
+    let anchor = reply.bytes(event, "/5");
+    yaml_alias_event_initialize(reply.alloc, anchor.as_slice())
 }
 
-fn scalar(alloc: Global, reply: &mut Reply, event: &Value) -> Made {
-    let anchor = reply.optional_bytes(event, 5);
-    let tag = reply.optional_bytes(event, 6);
-    let value = reply.bytes(event, 7);
-    let plain_implicit = reply.flag(event, 8);
-    let quoted_implicit = reply.flag(event, 9);
+fn scalar(reply: &mut Reply, event: &Value) -> Made {
+    let anchor = reply.optional_bytes(event, "/5");
+    let tag = reply.optional_bytes(event, "/6");
+    let value = reply.bytes(event, "/7");
+    let plain_implicit = reply.flag(event, "/8");
+    let quoted_implicit = reply.flag(event, "/9");
     let any = yaml_scalar_style_t::YAML_ANY_SCALAR_STYLE;
-    let style = reply.choice(event, 10, &SCALARS, any);
+    let style = reply.choice(event, "/10", &SCALARS, any);
     yaml_scalar_event_initialize(
-        alloc,
+        reply.alloc,
         anchor.as_deref(),
         tag.as_deref(),
         value.as_slice(),
@@ -85,19 +84,19 @@ fn scalar(alloc: Global, reply: &mut Reply, event: &Value) -> Made {
 }
 
 // The start of a sequence or a mapping.
-fn collection_start(alloc: Global, reply: &mut Reply, event: &Value, is_sequence: bool) -> Made {
-    let implicit = reply.flag(event, 4);
-    let anchor = reply.optional_bytes(event, 5);
-    let tag = reply.optional_bytes(event, 6);
+fn collection_start(reply: &mut Reply, event: &Value, is_sequence: bool) -> Made {
+    let implicit = reply.flag(event, "/4");
+    let anchor = reply.optional_bytes(event, "/5");
+    let tag = reply.optional_bytes(event, "/6");
     let (anchor, tag) = (anchor.as_deref(), tag.as_deref());
     if is_sequence {
         let any = yaml_sequence_style_t::YAML_ANY_SEQUENCE_STYLE;
-        let style = reply.choice(event, 10, &SEQUENCES, any);
-        yaml_sequence_start_event_initialize(alloc, anchor, tag, implicit, style)
+        let style = reply.choice(event, "/10", &SEQUENCES, any);
+        yaml_sequence_start_event_initialize(reply.alloc, anchor, tag, implicit, style)
     } else {
         let any = yaml_mapping_style_t::YAML_ANY_MAPPING_STYLE;
-        let style = reply.choice(event, 10, &MAPPINGS, any);
-        yaml_mapping_start_event_initialize(alloc, anchor, tag, implicit, style)
+        let style = reply.choice(event, "/10", &MAPPINGS, any);
+        yaml_mapping_start_event_initialize(reply.alloc, anchor, tag, implicit, style)
     }
 }
 
@@ -121,18 +120,18 @@ const KINDS: [(&'static str, yaml_event_type_t); 10] = [
 ];
 
 /// The event that the line writes so.
-pub fn event_of(alloc: Global, reply: &mut Reply, event: &Value) -> Made {
-    match reply.choice(event, 0, &KINDS, yaml_event_type_t::YAML_NO_EVENT) {
-        yaml_event_type_t::YAML_DOCUMENT_START_EVENT => document_start(alloc, reply, event),
-        yaml_event_type_t::YAML_ALIAS_EVENT => alias(alloc, reply, event),
-        yaml_event_type_t::YAML_SCALAR_EVENT => scalar(alloc, reply, event),
-        yaml_event_type_t::YAML_SEQUENCE_START_EVENT => collection_start(alloc, reply, event, true),
-        yaml_event_type_t::YAML_MAPPING_START_EVENT => collection_start(alloc, reply, event, false),
+pub fn event_of(reply: &mut Reply, event: &Value) -> Made {
+    match reply.choice(event, "/0", &KINDS, yaml_event_type_t::YAML_NO_EVENT) {
+        yaml_event_type_t::YAML_DOCUMENT_START_EVENT => document_start(reply, event),
+        yaml_event_type_t::YAML_ALIAS_EVENT => alias(reply, event),
+        yaml_event_type_t::YAML_SCALAR_EVENT => scalar(reply, event),
+        yaml_event_type_t::YAML_SEQUENCE_START_EVENT => collection_start(reply, event, true),
+        yaml_event_type_t::YAML_MAPPING_START_EVENT => collection_start(reply, event, false),
         yaml_event_type_t::YAML_STREAM_START_EVENT => {
-            Ok(yaml_stream_start_event_initialize(reply.encoding(event, 1)))
+            Ok(yaml_stream_start_event_initialize(reply.encoding(event, "/1")))
         }
         yaml_event_type_t::YAML_DOCUMENT_END_EVENT => {
-            Ok(yaml_document_end_event_initialize(reply.flag(event, 4)))
+            Ok(yaml_document_end_event_initialize(reply.flag(event, "/4")))
         }
         yaml_event_type_t::YAML_SEQUENCE_END_EVENT => Ok(yaml_sequence_end_event_initialize()),
         yaml_event_type_t::YAML_MAPPING_END_EVENT => Ok(yaml_mapping_end_event_initialize()),

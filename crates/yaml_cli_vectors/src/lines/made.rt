@@ -6,7 +6,6 @@ ghost use Rattle.yaml_parse.specs.Documents.{node_at, IsSequenceAt, IsMappingAt}
 use crate::lines::words::{MAPPINGS, SCALARS, SEQUENCES};
 use crate::lines::{Reply, VectorError, given, text_error};
 use serde_json::Value;
-use std::alloc::Global;
 use yaml_parse::{
     yaml_document_add_mapping, yaml_document_add_scalar, yaml_document_add_sequence,
     yaml_document_append_mapping_pair, yaml_document_append_sequence_item, yaml_document_get_node,
@@ -15,18 +14,14 @@ use yaml_parse::{
 use yaml_scan::{yaml_mapping_style_t, yaml_scalar_style_t, yaml_sequence_style_t};
 
 // A document without nodes.
-fn empty_document(
-    alloc: Global,
-    reply: &mut Reply,
-    line: &Value,
-) -> Result<yaml_document_t, yaml_text_fault_t> {
+fn empty_document(reply: &mut Reply, line: &Value) -> Result<yaml_document_t, yaml_text_fault_t> {
     let version = given::version(reply, line.get("version"));
-    let start_implicit = reply.flag(line, "start_implicit");
-    let end_implicit = reply.flag(line, "end_implicit");
-    let listed = reply.list(line, "directives");
+    let start_implicit = reply.flag(line, "/start_implicit");
+    let end_implicit = reply.flag(line, "/end_implicit");
+    let listed = reply.list(line, "/directives");
     let directives = given::directives(reply, listed, false);
     yaml_document_initialize(
-        alloc,
+        reply.alloc,
         version,
         directives.as_slice(),
         start_implicit,
@@ -44,8 +39,8 @@ fn add_scalar(
     node: &Value,
 ) -> Added {
     let any = yaml_scalar_style_t::YAML_ANY_SCALAR_STYLE;
-    let style = reply.choice(node, 3, &SCALARS, any);
-    let value = reply.bytes(node, 2);
+    let style = reply.choice(node, "/3", &SCALARS, any);
+    let value = reply.bytes(node, "/2");
     yaml_document_add_scalar(document, tag, value.as_slice(), style)
 }
 
@@ -56,16 +51,16 @@ fn add(
     tag: Option<&[u8]>,
     node: &Value,
 ) -> Added {
-    match reply.text(node, 0) {
+    match reply.text(node, "/0") {
         "scalar" => add_scalar(document, reply, tag, node),
         "sequence" => {
             let any = yaml_sequence_style_t::YAML_ANY_SEQUENCE_STYLE;
-            let style = reply.choice(node, 3, &SEQUENCES, any);
+            let style = reply.choice(node, "/3", &SEQUENCES, any);
             yaml_document_add_sequence(document, tag, style)
         }
         "mapping" => {
             let any = yaml_mapping_style_t::YAML_ANY_MAPPING_STYLE;
-            let style = reply.choice(node, 3, &MAPPINGS, any);
+            let style = reply.choice(node, "/3", &MAPPINGS, any);
             yaml_document_add_mapping(document, tag, style)
         }
         _ => {
@@ -77,7 +72,7 @@ fn add(
 
 // The same with the tag that the node has, which may be null.
 fn add_node(document: &mut yaml_document_t, reply: &mut Reply, node: &Value) {
-    let tag = reply.optional_bytes(node, 1);
+    let tag = reply.optional_bytes(node, "/1");
     match add(document, reply, tag.as_deref(), node) {
         Ok(_) => {}
         Err(fault) => reply.refuse(text_error(fault)),
@@ -138,31 +133,29 @@ fn append_pair(document: &mut yaml_document_t, reply: &mut Reply, id: i32, key: 
 }
 
 // Appends an item, which is a number, or a pair, which is a list of two.
-fn append(document: &mut yaml_document_t, reply: &mut Reply, id: i32, held: &Value, at: usize) {
-    let listed = reply.value(held, at);
-    if listed.is_array() {
-        let key = reply.number(listed, 0);
-        let value = reply.number(listed, 1);
+fn append(document: &mut yaml_document_t, reply: &mut Reply, id: i32, held: &Value) {
+    if held.is_array() {
+        let key = reply.number(held, "/0");
+        let value = reply.number(held, "/1");
         append_pair(document, reply, id, key, value);
     } else {
-        let item = reply.number(held, at);
+        let item = reply.number(held, "");
         append_item(document, reply, id, item);
     }
 }
 
 // Adds what the node of that number holds.
 fn fill(document: &mut yaml_document_t, reply: &mut Reply, id: i32, node: &Value) {
-    if reply.text(node, 0) != "scalar" {
-        let held = reply.value(node, 2);
-        for at in 0..reply.list(node, 2).len() {
-            append(document, reply, id, held, at);
+    if reply.text(node, "/0") != "scalar" {
+        for held in reply.list(node, "/2") {
+            append(document, reply, id, held);
         }
     }
 }
 
 // Adds a scalar of bytes that are to be refused, by which no node is added.
 fn add_refused(document: &mut yaml_document_t, reply: &mut Reply, fields: &Value, id: i32) {
-    let value = reply.bytes(fields, "refused");
+    let value = reply.bytes(fields, "/refused");
     let style = yaml_scalar_style_t::YAML_ANY_SCALAR_STYLE;
     let added = yaml_document_add_scalar(document, None, value.as_slice(), style);
     if added != Err(yaml_text_fault_t::NotUtf8) || is_node(document, id) {
@@ -172,7 +165,7 @@ fn add_refused(document: &mut yaml_document_t, reply: &mut Reply, fields: &Value
 
 // Adds all nodes, then what they hold, and then a scalar that is refused where the line has one.
 fn fill_all(document: &mut yaml_document_t, reply: &mut Reply, fields: &Value) {
-    let nodes = reply.list(fields, "nodes");
+    let nodes = reply.list(fields, "/nodes");
     for node in nodes {
         add_node(document, reply, node);
     }
@@ -188,11 +181,10 @@ fn fill_all(document: &mut yaml_document_t, reply: &mut Reply, fields: &Value) {
 
 /// The document that the fields describe, unless it is refused.
 pub fn document_of(
-    alloc: Global,
     reply: &mut Reply,
     fields: &Value,
 ) -> Result<yaml_document_t, yaml_text_fault_t> {
-    match empty_document(alloc, reply, fields) {
+    match empty_document(reply, fields) {
         Ok(mut document) => {
             fill_all(&mut document, reply, fields);
             Ok(document)

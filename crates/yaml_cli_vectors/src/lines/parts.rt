@@ -1,14 +1,14 @@
 //! The parts of an answer, as the lines write them.
 
-use crate::lines::{Reply, VectorError};
+use crate::lines::Reply;
 use json::Writer;
-use std::alloc::{AllocError, Global};
+use std::alloc::AllocError;
 use std::str;
 use yaml_scan::yaml_mark_t;
 
-/// A part of an answer.
+/// A part of an answer that isn't a text: a value of a type with a lifetime is dear to prove, in each function that makes one.
 #[derive(Clone, Copy)]
-pub enum Part<'a> {
+pub enum Part {
     /// A list begins.
     List,
     /// It ends.
@@ -17,30 +17,14 @@ pub enum Part<'a> {
     Object,
     /// It ends.
     EndObject,
-    /// The name of the field that comes next.
-    Name(&'a str),
-    Word(&'a str),
-    /// A text, or null.
-    Text(Option<&'a str>),
     /// A number that isn't negative.
     Count(u64),
     /// A number of 32 bits.
     Number(i32),
     Flag(bool),
     Null,
-    /// Bytes, in hexadecimal digits.
-    Bytes(&'a [u8]),
-    /// The same, or null.
-    OptionalBytes(Option<&'a [u8]>),
     /// Index, line, column.
     Mark(yaml_mark_t),
-}
-
-fn write_bytes(writer: &mut Writer, alloc: Global, bytes: &[u8]) -> Result<(), AllocError> {
-    match hex::encode(alloc, bytes) {
-        Ok(digits) => writer.string(&digits),
-        Err(error) => Err(error),
-    }
 }
 
 fn write_mark(writer: &mut Writer, mark: yaml_mark_t) -> Result<(), AllocError> {
@@ -52,41 +36,79 @@ fn write_mark(writer: &mut Writer, mark: yaml_mark_t) -> Result<(), AllocError> 
     begun.and(index).and(line).and(column).and(ended)
 }
 
-fn write_part(writer: &mut Writer, alloc: Global, part: Part<'_>) -> Result<(), AllocError> {
+fn write_part(writer: &mut Writer, part: Part) -> Result<(), AllocError> {
     match part {
         Part::List => writer.begin_array(),
         Part::EndList => writer.end_array(),
         Part::Object => writer.begin_object(),
         Part::EndObject => writer.end_object(),
-        Part::Name(name) => writer.key(name),
-        Part::Word(word) | Part::Text(Some(word)) => writer.string(word),
         Part::Count(number) => writer.u64(number),
         Part::Number(number) => writer.i64(i64::from(number)),
         Part::Flag(flag) => writer.boolean(flag),
-        Part::Null | Part::Text(None) | Part::OptionalBytes(None) => writer.null(),
-        Part::Bytes(bytes) | Part::OptionalBytes(Some(bytes)) => write_bytes(writer, alloc, bytes),
+        Part::Null => writer.null(),
         Part::Mark(mark) => write_mark(writer, mark),
     }
 }
 
 impl Reply {
     /// Puts the part.
-    pub fn put(&mut self, part: Part<'_>) {
-        let done = write_part(&mut self.writer, self.alloc, part);
+    pub fn put(&mut self, part: Part) {
+        let done = write_part(&mut self.writer, part);
         self.room(done);
     }
 
-    /// Puts a field of an object; an object or a list begins there where the part says so.
-    pub fn field(&mut self, name: &str, value: Part<'_>) {
-        self.put(Part::Name(name));
-        self.put(value);
+    /// Puts the name of the field that comes next.
+    pub fn put_name(&mut self, name: &str) {
+        let done = self.writer.key(name);
+        self.room(done);
+    }
+
+    /// Puts a text.
+    pub fn put_word(&mut self, word: &str) {
+        let done = self.writer.string(word);
+        self.room(done);
     }
 
     /// Puts a text that is UTF-8.
     pub fn put_utf8(&mut self, text: &[u8]) {
         match str::from_utf8(text) {
-            Ok(text) => self.put(Part::Word(text)),
+            Ok(text) => self.put_word(text),
             Err(_) => self.miss("text"),
+        }
+    }
+
+    /// Puts bytes, in hexadecimal digits.
+    pub fn put_bytes(&mut self, bytes: &[u8]) {
+        let done = match hex::encode(self.alloc, bytes) {
+            Ok(digits) => self.writer.string(&digits),
+            Err(error) => Err(error),
+        };
+        self.room(done);
+    }
+
+    /// Puts a field of an object; an object or a list begins there where the part says so.
+    pub fn field(&mut self, name: &str, value: Part) {
+        self.put_name(name);
+        self.put(value);
+    }
+
+    /// Puts a field that is a text.
+    pub fn field_word(&mut self, name: &str, word: &str) {
+        self.put_name(name);
+        self.put_word(word);
+    }
+
+    /// Puts a field that is bytes.
+    pub fn field_bytes(&mut self, name: &str, bytes: &[u8]) {
+        self.put_name(name);
+        self.put_bytes(bytes);
+    }
+
+    /// The same, or null.
+    pub fn field_optional(&mut self, name: &str, bytes: Option<&[u8]>) {
+        match bytes {
+            Some(bytes) => self.field_bytes(name, bytes),
+            None => self.field(name, Part::Null),
         }
     }
 }

@@ -24,7 +24,7 @@ fn listed_step(reply: &mut Reply, listed: &Value) -> Step {
         (Some(count), _) => Step::Bytes(count as usize),
         (_, Some("zero")) => Step::Zero,
         (_, Some("failure")) => Step::Failure,
-        _ => Step::Interrupted(reply.count(listed, "interrupted") as usize),
+        _ => Step::Interrupted(reply.count(listed, "/interrupted") as usize),
     }
 }
 
@@ -38,9 +38,9 @@ struct Script {
 
 impl Script {
     // Before the first of the steps that the line lists there.
-    fn of(reply: &mut Reply, line: &Value, name: &'static str) -> Script {
+    fn of(reply: &mut Reply, line: &Value, path: &'static str) -> Script {
         let mut steps = Vec::new(reply.alloc);
-        for listed in reply.list(line, name) {
+        for listed in reply.list(line, path) {
             let step = listed_step(reply, listed);
             reply.push(&mut steps, step);
         }
@@ -103,8 +103,8 @@ pub struct ScriptedReader {
 impl ScriptedReader {
     /// A reader that gives the line's input as the line's `reads` say.
     pub fn of(reply: &mut Reply, line: &Value) -> ScriptedReader {
-        let bytes = reply.input(line, "input");
-        let script = Script::of(reply, line, "reads");
+        let bytes = reply.input(line, "/input");
+        let script = Script::of(reply, line, "/reads");
         ScriptedReader {
             bytes,
             given: 0,
@@ -151,11 +151,11 @@ impl ScriptedWriter {
     pub fn of(
         reply: &mut Reply,
         line: &Value,
-        name: &'static str,
+        path: &'static str,
         flush_fails: bool,
     ) -> ScriptedWriter {
         ScriptedWriter {
-            script: Script::of(reply, line, name),
+            script: Script::of(reply, line, path),
             flush_fails,
             received: Vec::new(reply.alloc),
         }

@@ -16,14 +16,14 @@ pub struct Settings {
 
 /// The field `settings` of the line.
 pub fn settings_of(reply: &mut Reply, line: &Value) -> Settings {
-    let fields = reply.value(line, "settings");
-    let encoding = reply.encoding(fields, "encoding");
-    let canonical = reply.flag(fields, "canonical");
-    let indent = reply.number(fields, "indent");
-    let width = reply.number(fields, "width");
-    let unicode = reply.flag(fields, "unicode");
-    let line_break = reply.choice(fields, "break", &BREAKS, yaml_break_t::YAML_ANY_BREAK);
-    let limit = reply.count(fields, "limit");
+    let encoding = reply.encoding(line, "/settings/encoding");
+    let canonical = reply.flag(line, "/settings/canonical");
+    let indent = reply.number(line, "/settings/indent");
+    let width = reply.number(line, "/settings/width");
+    let unicode = reply.flag(line, "/settings/unicode");
+    let any = yaml_break_t::YAML_ANY_BREAK;
+    let line_break = reply.choice(line, "/settings/break", &BREAKS, any);
+    let limit = reply.count(line, "/settings/limit");
     Settings {
         asked: RequestedSettings {
             encoding,

@@ -9,26 +9,6 @@ use yaml_scan::{yaml_error_type_t, yaml_fault_t, yaml_origin_t};
 /// of the line.
 pub const OWN: &str = "the source's own fault";
 
-// The text at that place of the line.
-fn own_text<'a>(line: &'a Value, path: &str) -> Option<&'a str> {
-    match line.pointer(path) {
-        Some(Value::String(text)) => Some(text.as_str()),
-        _ => None,
-    }
-}
-
-// The problem, and what was being read.
-fn texts<'a>(line: &'a Value, fault: &yaml_fault_t) -> (Option<&'a str>, Option<&'a str>) {
-    if fault.problem == OWN {
-        (
-            own_text(line, "/own/problem"),
-            own_text(line, "/own/context"),
-        )
-    } else {
-        (Some(fault.problem), fault.context)
-    }
-}
-
 // The kinds of faults, by their numbers from 1.
 const KINDS: [yaml_error_type_t; 7] = [
     yaml_error_type_t::YAML_MEMORY_ERROR,
@@ -42,39 +22,62 @@ const KINDS: [yaml_error_type_t; 7] = [
 
 /// The fault with those fields; `OWN` stands for its texts.
 pub fn own_fault(reply: &mut Reply, fields: &Value) -> yaml_fault_t {
-    let number = reply.count(fields, "kind").wrapping_sub(1);
+    let number = reply.count(fields, "/kind").wrapping_sub(1);
     let kind = KINDS.get(number as usize).copied();
     yaml_fault_t {
         kind: reply.take(kind, "kind", yaml_error_type_t::YAML_NO_ERROR),
         problem: OWN,
-        offset: reply.count(fields, "offset"),
-        value: reply.number(fields, "value"),
-        problem_mark: reply.mark(fields, "problem_mark"),
+        offset: reply.count(fields, "/offset"),
+        value: reply.number(fields, "/value"),
+        problem_mark: reply.mark(fields, "/problem_mark"),
         context: None,
-        context_mark: reply.mark(fields, "context_mark"),
-        origin: reply.choice(fields, "origin", &ORIGINS, yaml_origin_t::Reader),
+        context_mark: reply.mark(fields, "/context_mark"),
+        origin: reply.choice(fields, "/origin", &ORIGINS, yaml_origin_t::Reader),
     }
 }
 
 impl Reply {
+    // The text at that place of the line, or null.
+    fn put_own(&mut self, line: &Value, path: &str) {
+        match line.pointer(path) {
+            Some(Value::String(text)) => self.put_word(text.as_str()),
+            _ => self.put(Part::Null),
+        }
+    }
+
+    // The problem, and what was being read.
+    fn put_texts(&mut self, line: &Value, fault: &yaml_fault_t) {
+        let is_own = fault.problem == OWN;
+        self.put_name("problem");
+        if is_own {
+            self.put_own(line, "/own/problem");
+        } else {
+            self.put_word(fault.problem);
+        }
+        self.put_name("context");
+        match fault.context {
+            Some(context) => self.put_word(context),
+            None if is_own => self.put_own(line, "/own/context"),
+            None => self.put(Part::Null),
+        }
+    }
+
     /// A fault, with all its fields; the source's own one has the texts that the line gives it.
     pub fn put_fault(&mut self, line: &Value, fault: &yaml_fault_t) {
-        let (problem, context) = texts(line, fault);
         self.put(Part::Object);
-        self.field("problem", Part::Text(problem));
-        self.field("context", Part::Text(context));
+        self.put_texts(line, fault);
         self.field("kind", Part::Count(fault.kind as u64));
         self.field("offset", Part::Count(fault.offset));
         self.field("value", Part::Number(fault.value));
         self.field("problem_mark", Part::Mark(fault.problem_mark));
         self.field("context_mark", Part::Mark(fault.context_mark));
-        self.field("origin", Part::Word(word_of(&ORIGINS, fault.origin)));
+        self.field_word("origin", word_of(&ORIGINS, fault.origin));
         self.put(Part::EndObject);
     }
 
     /// The field `fault`.
     pub fn name_fault(&mut self, line: &Value, fault: &yaml_fault_t) {
-        self.put(Part::Name("fault"));
+        self.put_name("fault");
         self.put_fault(line, fault);
     }
 

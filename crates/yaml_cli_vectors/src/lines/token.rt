@@ -61,7 +61,7 @@ const KINDS: [(&'static str, yaml_token_type_t); 22] = [
 fn put_carried(reply: &mut Reply, body: &yaml_token_body_t) {
     match body {
         yaml_token_body_t::StreamStart { encoding } => {
-            reply.put(Part::Word(word_of(&ENCODINGS, *encoding)))
+            reply.put_word(word_of(&ENCODINGS, *encoding))
         }
         yaml_token_body_t::VersionDirective { major, minor } => {
             reply.put(Part::Number(*major));
@@ -75,16 +75,16 @@ fn put_carried(reply: &mut Reply, body: &yaml_token_body_t) {
             handle: first,
             suffix: second,
         } => {
-            reply.put(Part::Bytes(first.as_slice()));
-            reply.put(Part::Bytes(second.as_slice()))
+            reply.put_bytes(first.as_slice());
+            reply.put_bytes(second.as_slice())
         },
         yaml_token_body_t::Alias { value } | yaml_token_body_t::Anchor { value } => {
-            reply.put(Part::Bytes(value.as_slice()))
+            reply.put_bytes(value.as_slice())
         }
         yaml_token_body_t::Scalar { value, style } => {
             let word = word_of(&SCALARS, *style);
-            reply.put(Part::Bytes(value.as_slice()));
-            reply.put(Part::Word(word))
+            reply.put_bytes(value.as_slice());
+            reply.put_word(word)
         }
         _ => {}
     }
@@ -93,7 +93,7 @@ fn put_carried(reply: &mut Reply, body: &yaml_token_body_t) {
 /// Puts the token as the lines write it.
 pub fn show_token(reply: &mut Reply, token: &yaml_token_t) {
     reply.put(Part::List);
-    reply.put(Part::Word(word_of(&KINDS, token.type_())));
+    reply.put_word(word_of(&KINDS, token.type_()));
     reply.put(Part::Mark(token.start_mark));
     reply.put(Part::Mark(token.end_mark));
     put_carried(reply, &token.body);
@@ -135,31 +135,31 @@ fn plain_body(kind: yaml_token_type_t) -> yaml_token_body_t {
 fn body(reply: &mut Reply, kind: yaml_token_type_t, token: &Value) -> yaml_token_body_t {
     match kind {
         yaml_token_type_t::YAML_STREAM_START_TOKEN => yaml_token_body_t::StreamStart {
-            encoding: reply.encoding(token, 3),
+            encoding: reply.encoding(token, "/3"),
         },
         yaml_token_type_t::YAML_VERSION_DIRECTIVE_TOKEN => yaml_token_body_t::VersionDirective {
-            major: reply.number(token, 3),
-            minor: reply.number(token, 4),
+            major: reply.number(token, "/3"),
+            minor: reply.number(token, "/4"),
         },
         yaml_token_type_t::YAML_TAG_DIRECTIVE_TOKEN => yaml_token_body_t::TagDirective {
-            handle: reply.bytes(token, 3),
-            prefix: reply.bytes(token, 4),
+            handle: reply.bytes(token, "/3"),
+            prefix: reply.bytes(token, "/4"),
         },
         yaml_token_type_t::YAML_ALIAS_TOKEN => yaml_token_body_t::Alias {
-            value: reply.bytes(token, 3),
+            value: reply.bytes(token, "/3"),
         },
         yaml_token_type_t::YAML_ANCHOR_TOKEN => yaml_token_body_t::Anchor {
-            value: reply.bytes(token, 3),
+            value: reply.bytes(token, "/3"),
         },
         yaml_token_type_t::YAML_TAG_TOKEN => yaml_token_body_t::Tag {
-            handle: reply.bytes(token, 3),
-            suffix: reply.bytes(token, 4),
+            handle: reply.bytes(token, "/3"),
+            suffix: reply.bytes(token, "/4"),
         },
         yaml_token_type_t::YAML_SCALAR_TOKEN => yaml_token_body_t::Scalar {
-            value: reply.bytes(token, 3),
+            value: reply.bytes(token, "/3"),
             style: reply.choice(
                 token,
-                4,
+                "/4",
                 &SCALARS,
                 yaml_scalar_style_t::YAML_ANY_SCALAR_STYLE,
             ),
@@ -170,12 +170,12 @@ fn body(reply: &mut Reply, kind: yaml_token_type_t, token: &Value) -> yaml_token
 
 /// The token that the lines write so.
 pub fn read_token(reply: &mut Reply, token: &Value) -> yaml_token_t {
-    let kind = reply.choice(token, 0, &KINDS, yaml_token_type_t::YAML_NO_TOKEN);
+    let kind = reply.choice(token, "/0", &KINDS, yaml_token_type_t::YAML_NO_TOKEN);
     if kind == yaml_token_type_t::YAML_NO_TOKEN {
         reply.miss("token");
     }
-    let start_mark = reply.mark(token, 1);
-    let end_mark = reply.mark(token, 2);
+    let start_mark = reply.mark(token, "/1");
+    let end_mark = reply.mark(token, "/2");
     yaml_token_t {
         body: body(reply, kind, token),
         start_mark,
@@ -186,7 +186,7 @@ pub fn read_token(reply: &mut Reply, token: &Value) -> yaml_token_t {
 /// The call `tokens`: the line's tokens, read and written again.
 pub fn tokens(reply: &mut Reply, line: &Value) {
     reply.field("answer", Part::List);
-    for listed in reply.list(line, "tokens") {
+    for listed in reply.list(line, "/tokens") {
         let token = read_token(reply, listed);
         show_token(reply, &token);
         drop(token);

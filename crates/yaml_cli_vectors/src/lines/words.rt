@@ -1,7 +1,6 @@
 //! The words of a line for the engine's names, as tables.
 
 use crate::lines::Reply;
-use crate::lines::field::FieldPlace;
 use serde_json::Value;
 use yaml_scan::{
     yaml_break_t, yaml_encoding_t, yaml_error_type_t, yaml_mapping_style_t, yaml_origin_t,
@@ -86,14 +85,14 @@ fn value_of<T: Copy>(rows: &[(&'static str, T)], word: &str) -> Option<T> {
 
 impl Reply {
     /// What the rows have for the word there.
-    pub fn choice<T: Copy, P: FieldPlace>(
+    pub fn choice<T: Copy>(
         &mut self,
-        line: &Value,
-        place: P,
+        of: &Value,
+        path: &'static str,
         rows: &[(&'static str, T)],
         otherwise: T,
     ) -> T {
-        let word = self.text(line, place);
-        self.take(value_of(rows, word), place.name(), otherwise)
+        let word = self.text(of, path);
+        self.take(value_of(rows, word), path, otherwise)
     }
 }

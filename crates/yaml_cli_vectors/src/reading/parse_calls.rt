@@ -19,7 +19,7 @@ fn put_into<S: yaml_token_source_t>(
     match yaml_parser_parse_into(parser, &mut event, &mut fault) {
         yaml_found_t::Event => show_event(reply, &event),
         yaml_found_t::Refused => reply.put_fault(line, &fault),
-        yaml_found_t::End => reply.put(Part::Word("end")),
+        yaml_found_t::End => reply.put_word("end"),
     }
     drop(event);
 }
@@ -31,7 +31,7 @@ fn put_loaded<S: yaml_token_source_t>(
     parser: &mut yaml_parser_t<S>,
 ) {
     if !yaml_parser_between(parser) {
-        reply.put(Part::Word("not between"));
+        reply.put_word("not between");
         return;
     }
     match yaml_parser_load(parser) {
@@ -83,8 +83,8 @@ pub fn put_calls<S: yaml_token_source_t>(
     parser: &mut yaml_parser_t<S>,
 ) {
     reply.field("answer", Part::List);
-    for call in reply.list(line, "calls") {
-        let word = reply.take(call.as_str(), "calls", "");
+    for call in reply.list(line, "/calls") {
+        let word = reply.text(call, "");
         put_call(reply, line, word, parser);
     }
     reply.put(Part::EndList);

@@ -50,7 +50,7 @@ fn answer_of<S: yaml_token_source_t>(reply: &mut Reply, line: &Value, wanted: Wa
 }
 
 /// What a parser of the input gives, which reads it as it goes.
-pub fn parse_input(reply: &mut Reply, line: &Value, wanted: Wanted, input: Input<'_>) {
+pub fn parse_input(reply: &mut Reply, line: &Value, wanted: Wanted, input: &Input<'_>) {
     let adapter = yaml_adapter_t::new(reply.alloc, input.text, input.from);
     answer_of(reply, line, wanted, adapter);
 }
@@ -68,7 +68,7 @@ fn add(list: &mut yaml_token_list_t, reply: &mut Reply, token: yaml_token_t) {
 
 // Adds the tokens that the line lists, and ends the list with the line's own fault where it has one.
 fn add_listed(reply: &mut Reply, line: &Value, list: &mut yaml_token_list_t) {
-    for listed in reply.list(line, "tokens") {
+    for listed in reply.list(line, "/tokens") {
         let token = read_token(reply, listed);
         add(list, reply, token);
     }

@@ -32,7 +32,7 @@ fn put_tokens(reply: &mut Reply, line: &Value, session: &mut yaml_parser_t<'_>) 
 }
 
 /// The tokens of the input, and the fault behind them where there is one; or what the line's calls answer.
-pub fn answer(reply: &mut Reply, line: &Value, by_calls: bool, input: Input<'_>) {
+pub fn answer(reply: &mut Reply, line: &Value, by_calls: bool, input: &Input<'_>) {
     let mut session = yaml_parser_t::new(reply.alloc, input.text, input.from);
     if by_calls {
         put_calls(reply, line, &mut session);

@@ -39,8 +39,8 @@ fn put_call(reply: &mut Reply, line: &Value, word: &str, session: &mut yaml_pars
 /// one is known, or the fault that is kept.
 pub fn put_calls(reply: &mut Reply, line: &Value, session: &mut yaml_parser_t<'_>) {
     reply.field("answer", Part::List);
-    for call in reply.list(line, "calls") {
-        let word = reply.take(call.as_str(), "calls", "");
+    for call in reply.list(line, "/calls") {
+        let word = reply.text(call, "");
         put_call(reply, line, word, session);
     }
     reply.put(Part::EndList);

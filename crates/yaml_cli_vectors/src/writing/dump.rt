@@ -12,7 +12,7 @@ pub fn dumped(
     fields: &Value,
     emitter: &mut yaml_emitter_t,
 ) -> Option<yaml_fault_t> {
-    match document_of(reply.alloc, reply, fields) {
+    match document_of(reply, fields) {
         Ok(document) => yaml_emitter_dump(emitter, document).err(),
         Err(fault) => {
             reply.refuse(text_error(fault));
@@ -24,9 +24,9 @@ pub fn dumped(
 /// What open, dump and close write of the line's document. Behind a fault each call answers it again.
 pub fn answer(reply: &mut Reply, line: &Value, emitter: &mut yaml_emitter_t) {
     reply.done(turn(emitter));
-    let fields = reply.value(line, "document");
+    let fields = reply.value(line, "/document");
     let fault = dumped(reply, fields, emitter);
     reply.done(fault);
     reply.done(turn(emitter));
-    reply.field("answer", Part::Bytes(yaml_emitter_output(emitter)));
+    reply.field_bytes("answer", yaml_emitter_output(emitter));
 }

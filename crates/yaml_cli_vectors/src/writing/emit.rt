@@ -32,7 +32,7 @@ fn put_all<S: yaml_token_source_t>(
         }
     }
     reply.done(flush(emitter));
-    reply.field("answer", Part::Bytes(yaml_emitter_output(emitter)));
+    reply.field_bytes("answer", yaml_emitter_output(emitter));
 }
 
 /// What an emitter under the line's settings writes of the parser's events.

@@ -10,7 +10,7 @@ use yaml_scan::yaml_error_type_t;
 
 // Gives the events, with the flushes in mid-stream that the line has, until a fault comes, and puts what each of these showed.
 fn give_all(reply: &mut Reply, line: &Value, emitter: &mut yaml_emitter_t, course: &mut Course) {
-    for listed in reply.list(line, "events") {
+    for listed in reply.list(line, "/events") {
         let fault = give_listed(reply, listed, emitter);
         course.take(fault, yaml_emitter_output(emitter).len());
         if course.fault.is_none() {
@@ -21,8 +21,8 @@ fn give_all(reply: &mut Reply, line: &Value, emitter: &mut yaml_emitter_t, cours
 
 // Whether the last event that the line lists is the stream's end.
 fn is_whole(reply: &mut Reply, line: &Value) -> bool {
-    match reply.list(line, "events").last() {
-        Some(event) => reply.text(event, 0) == "STREAM-END",
+    match reply.list(line, "/events").last() {
+        Some(event) => reply.text(event, "/0") == "STREAM-END",
         None => false,
     }
 }
@@ -40,7 +40,7 @@ fn put_course(reply: &mut Reply, line: &Value, emitter: &mut yaml_emitter_t, cou
     match &course.fault {
         None => {
             let whole = is_whole(reply, line);
-            reply.field("answer", Part::Bytes(text));
+            reply.field_bytes("answer", text);
             reply.field("whole", Part::Flag(whole));
         }
         Some(fault) => {
@@ -48,7 +48,7 @@ fn put_course(reply: &mut Reply, line: &Value, emitter: &mut yaml_emitter_t, cou
             if fault.kind == yaml_error_type_t::YAML_EMITTER_ERROR {
                 reply.field("call_number", Part::Count(course.number));
             } else {
-                reply.field("output", Part::Bytes(text));
+                reply.field_bytes("output", text);
             }
         }
     }

@@ -39,7 +39,7 @@ pub fn answer(reply: &mut Reply, line: &Value) {
     let text = whole.text.as_slice();
     match fault {
         None => match wrong_limit(reply, line, &settings, text) {
-            None => reply.field("answer", Part::Bytes(text)),
+            None => reply.field_bytes("answer", text),
             Some(limit) => reply.field("answer", Part::Count(limit)),
         },
         Some(fault) => reply.fault(fault),

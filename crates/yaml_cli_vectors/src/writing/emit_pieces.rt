@@ -123,7 +123,7 @@ fn give(
     pieces: &mut Pieces,
 ) {
     let mut fault = None;
-    let events = reply.list(line, "events");
+    let events = reply.list(line, "/events");
     for listed in events.get(pieces.taken..upto).unwrap_or(&[]) {
         let answered = give_listed(reply, listed, emitter);
         if fault.is_none() {
@@ -159,7 +159,7 @@ fn put_piece(
 /// What is written of the line's events in pieces of so many, up to the first fault.
 pub fn written(reply: &mut Reply, line: &Value, settings: &Settings, size: usize) -> Pieces {
     let mut pieces = Pieces::new(reply);
-    let count = reply.list(line, "events").len();
+    let count = reply.list(line, "/events").len();
     for upto in 1..count.saturating_add(1) {
         if pieces.fault.is_none() && ends_piece(upto, size, count) {
             put_piece(reply, line, settings, upto, &mut pieces);
@@ -180,7 +180,7 @@ fn ends_piece(upto: usize, size: usize, count: usize) -> bool {
 
 // The least size of pieces whose text and fault aren't those of the whole.
 fn wrong_size(reply: &mut Reply, line: &Value, settings: &Settings, whole: &Pieces) -> Option<u64> {
-    for size in 1..reply.list(line, "events").len() {
+    for size in 1..reply.list(line, "/events").len() {
         let pieces = written(reply, line, settings, size);
         if pieces.text != whole.text || pieces.fault != whole.fault {
             return Some(size as u64);
@@ -198,7 +198,7 @@ pub fn answer(reply: &mut Reply, line: &Value) {
         Some(size) => reply.field("answer", Part::Count(size)),
         None => match whole.fault {
             Some(fault) => reply.fault(fault),
-            None => reply.field("answer", Part::Bytes(whole.text.as_slice())),
+            None => reply.field_bytes("answer", whole.text.as_slice()),
         },
     }
 }

@@ -57,7 +57,7 @@ pub fn give_listed(
     listed: &Value,
     emitter: &mut yaml_emitter_t,
 ) -> Option<yaml_fault_t> {
-    match event_of(reply.alloc, reply, listed) {
+    match event_of(reply, listed) {
         Ok(event) => give(reply, event, emitter),
         Err(fault) => {
             reply.refuse(text_error(fault));

@@ -26,9 +26,9 @@ fn is_close(text: &[u8], front: &[u8]) -> bool {
 // else those bytes but for what stands between nodes. How much of that a flush shows is open: in canonical form what parts two
 // nodes is written with the second, and a collection's opener with the collection.
 fn is_wanted(reply: &mut Reply, line: &Value, wanted: &Value, text: &[u8]) -> bool {
-    let want = reply.bytes(wanted, 1);
+    let want = reply.bytes(wanted, "/1");
     if wanted.get(2).is_some() {
-        let whole = reply.bytes(line, "answer");
+        let whole = reply.bytes(line, "/answer");
         text.starts_with(want.as_slice()) && whole.starts_with(text)
     } else {
         is_close(text, want.as_slice()) || is_close(want.as_slice(), text)
@@ -37,11 +37,11 @@ fn is_wanted(reply: &mut Reply, line: &Value, wanted: &Value, text: &[u8]) -> bo
 
 // What the line wants of a flush.
 fn put_wanted(reply: &mut Reply, wanted: &Value) {
-    let text = reply.text(wanted, 1);
-    reply.put(Part::Word(text));
+    let text = reply.text(wanted, "/1");
+    reply.put_word(text);
     if wanted.get(2).is_some() {
-        let least = reply.text(wanted, 2);
-        reply.put(Part::Word(least));
+        let least = reply.text(wanted, "/2");
+        reply.put_word(least);
     }
 }
 
@@ -50,21 +50,21 @@ fn put_flush(reply: &mut Reply, line: &Value, wanted: &Value, emitter: &mut yaml
     let fault = flush(emitter);
     let text = yaml_emitter_output(emitter);
     let is_right = is_wanted(reply, line, wanted, text) && fault.is_none();
-    let count = reply.count(wanted, 0);
+    let count = reply.count(wanted, "/0");
     reply.put(Part::List);
     reply.put(Part::Count(count));
     if is_right {
         put_wanted(reply, wanted);
     } else {
-        reply.put(Part::Bytes(text));
+        reply.put_bytes(text);
     }
     reply.put(Part::EndList);
 }
 
 /// Flushes behind that many events where the line has a flush there.
 pub fn put_flushes(reply: &mut Reply, line: &Value, count: u64, emitter: &mut yaml_emitter_t) {
-    for wanted in reply.list(line, "flushed") {
-        if reply.count(wanted, 0) == count {
+    for wanted in reply.list(line, "/flushed") {
+        if reply.count(wanted, "/0") == count {
             put_flush(reply, line, wanted, emitter);
         }
     }

@@ -10,7 +10,7 @@ pub returns-in-Err-clause-err : goal.returns-in-Err-clause-err
 returns-in-Err-clause-err c = load_due (IsFirstDocument c.args.encoding c.args.input.now) c.args.key.now c.in-Err.error c.in-Err.ensures.err
 
 pub returns-in-Ok-clause-ok : goal.returns-in-Ok-clause-ok
-returns-in-Ok-clause-ok c = found _ _ _ _ _ c.in-Ok.ensures.ok c.value_of.ensures c.copied.ensures.ok
+returns-in-Ok-clause-ok c = found _ _ _ _ _ c.in-Ok.ensures.ok c.value_of.ensures c.copied-found.ensures.ok
 
 pub returns-in-Ok-clause-err : goal.returns-in-Ok-clause-err
-returns-in-Ok-clause-err c = copy_due (IsFirstDocument c.args.encoding c.args.input.now) c.args.key.now _ _ _ c.in-Ok.ensures.ok c.value_of.ensures c.copied.ensures.err
+returns-in-Ok-clause-err c = copy_due (IsFirstDocument c.args.encoding c.args.input.now) c.args.key.now _ _ _ c.in-Ok.ensures.ok c.value_of.ensures c.copied-found.ensures.err

@@ -1,6 +1,7 @@
 -- The lines of a block scalar, as they are written and as they are read.
 use Rattle.std.specs.Prelude.{ℕ, ◌+◌, ◌<◌, ◌≡◌, ◌≢◌, Bool, true, not, ◌&&◌, ◌==◌, if◌then◌else◌, List, [], ◌∷◌, ◌++◌, replicate, encode_utf8_all}
 use Rattle.yaml_emit_laws_text.specs.scan_model.Ascii as ascii
+use Rattle.yaml_emit_laws_text.specs.scan_model.Points as points
 use Rattle.yaml_emit_laws_text.specs.scan_model.Marks.{byte, break_width}
 use Rattle.yaml_emit_laws_text.specs.scan_history.scan_words.Written.{HasAt}
 use Rattle.yaml_scan_block.specs.Value.{BlockLine, Empty, Words}
@@ -17,26 +18,26 @@ pub data LineMark : Type 0 where
 -- the character in the value
 abbrev pub mark_char : LineMark → ℕ
 mark_char own = ascii.line_feed
-mark_char separator = 0x2028
-mark_char paragraph = 0x2029
+mark_char separator = points.line_separator
+mark_char paragraph = points.paragraph_separator
 
 -- the characters that are written for it
 abbrev pub mark_text : LineBreak → LineMark → List ℕ
 mark_text b own = break_text b
-mark_text b separator = 0x2028 ∷ []
-mark_text b paragraph = 0x2029 ∷ []
+mark_text b separator = points.line_separator ∷ []
+mark_text b paragraph = points.paragraph_separator ∷ []
 
 -- their bytes
 abbrev pub mark_bytes : LineBreak → LineMark → List ℕ
 mark_bytes b own = break_text b
-mark_bytes b separator = 0xE2 ∷ 0x80 ∷ 0xA8 ∷ []
-mark_bytes b paragraph = 0xE2 ∷ 0x80 ∷ 0xA9 ∷ []
+mark_bytes b separator = points.line_separator_utf8
+mark_bytes b paragraph = points.paragraph_separator_utf8
 
 -- the bytes that it is read as
 abbrev pub mark_means : LineMark → List ℕ
 mark_means own = ascii.line_feed ∷ []
-mark_means separator = 0xE2 ∷ 0x80 ∷ 0xA8 ∷ []
-mark_means paragraph = 0xE2 ∷ 0x80 ∷ 0xA9 ∷ []
+mark_means separator = points.line_separator_utf8
+mark_means paragraph = points.paragraph_separator_utf8
 
 -- A line behind the header: one without a text, or the characters of a text, the first one and others; and its break.
 pub data BodyLine : Type 0 where

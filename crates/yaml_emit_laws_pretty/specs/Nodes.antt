@@ -1,6 +1,7 @@
 -- Nodes in a block: each is walked with the line behind it.
 use Rattle.std.specs.Prelude.{◌≡◌, ◌≤◌, ◌+◌, ℕ, Bool, true, false, not, ◌||◌, List, [], ◌∷◌, Option, Some, None}
 use Rattle.yaml_emit_laws_text.specs.emit_layout.scan_model.Ascii as ascii
+use Rattle.yaml_emit_laws_text.specs.emit_layout.scan_model.Indents.{least_indent, most_indent}
 use Rattle.yaml_emit_laws_text.specs.emit_layout.scan_model.declared.yaml_encoding_t.{yaml_encoding_t}
 use Rattle.yaml_emit_laws_text.specs.emit_layout.scan_model.Tokens as tokens
 use Rattle.yaml_emit_laws_text.specs.emit_layout.scan_model.Tokens.{TokenBody}
@@ -73,8 +74,8 @@ is_place (Some n) q = not (is_simple_part q)
 -- Settings of pretty form, and the directives of a document that may be written.
 pub record IsPretty (s : Settings) (d : Opening) : Type 0 where
   pub pretty : s.canonical ≡ false
-  pub least : 2 ≤ s.indent
-  pub most : s.indent ≤ 9
+  pub least : least_indent ≤ s.indent
+  pub most : s.indent ≤ most_indent
   pub fine : IsWritableOpening d
 
 -- A node at a position of a block, up to the line behind it, whose column isn't right of the innermost level: where a text goes on with the

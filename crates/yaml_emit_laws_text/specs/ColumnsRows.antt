@@ -1,6 +1,7 @@
 -- Trees by hand, with an indent and whether the columns are passed.
 use Rattle.std.specs.Prelude.{◌≡◌, ℕ, Bool, true, false, List, [], ◌∷◌, None, codes}
 use Rattle.yaml_emit_layout.specs.scan_model.declared.yaml_scalar_style_t.TheVariants.{YAML_ANY_SCALAR_STYLE}
+use Rattle.yaml_emit_layout.specs.scan_model.Widths.{default_width}
 use Rattle.yaml_emit_layout.specs.emit_text.declared.Settings.{Settings}
 use Rattle.yaml_emit_layout.specs.emit_text.declared.Encoding.TheVariants.{Utf8}
 use Rattle.yaml_emit_layout.specs.emit_text.declared.LineBreak.TheVariants.{Lf}
@@ -14,7 +15,7 @@ canonical indent = record {
   encoding = Utf8;
   canonical = true;
   indent = indent;
-  width = 80;
+  width = default_width;
   unicode = false;
   line_break = Lf;
 }

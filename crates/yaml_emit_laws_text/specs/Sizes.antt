@@ -1,6 +1,7 @@
 -- How many bytes a text has at most, in canonical and in pretty form, by what it says.
 use Rattle.std.specs.Prelude.{ℕ, ◌+◌, ◌*◌, true, ◌==◌, nat_lt, nat_le, if◌then◌else◌, List, [], ◌∷◌, length, Option, Some, None}
 use Rattle.std.specs.Str.{chars}
+use Rattle.yaml_emit_layout.specs.scan_model.Ascii.{space}
 use Rattle.yaml_emit_layout.specs.parse_model.Events.{TagDirective}
 use Rattle.yaml_emit_layout.specs.emit_text.declared.Settings.{Settings}
 use Rattle.yaml_emit_layout.specs.emit_text.declared.Encoding.{Encoding}
@@ -47,7 +48,7 @@ properties_bytes p anchor tag = anchor_bytes p.settings anchor + tag_bytes p tag
 -- characters, the indentation and a backslash; another character is written as it is, or escaped.
 abbrev pub most_of_quoted : Settings → ℕ → ℕ → ℕ
 most_of_quoted s n c =
-    if c == 32 then ascii s (n + 3)
+    if c == space then ascii s (n + 3)
     else if needs_escape s.unicode c then text_bytes s.encoding (escape_text c)
     else length (char_bytes s.encoding c)
 

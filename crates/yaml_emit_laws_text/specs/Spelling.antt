@@ -1,6 +1,7 @@
 -- How a value is spelled between quotes: characters as they are, escapes, and lines that are joined.
 use Rattle.std.specs.Prelude.{◌≡◌, ◌<◌, ℕ, ◌*◌, ◌+◌, Bool, true, false, not, ◌&&◌, ◌||◌, ◌==◌, nat_lt, List, [], ◌∷◌, ◌++◌, length, replicate, Option, Some, option_and_then, encode_utf8}
 use Rattle.yaml_scan_scalars.specs.scan_model.Ascii as ascii
+use Rattle.yaml_scan_scalars.specs.scan_model.Points as points
 use lib.Utf8.{scalar}
 use Rattle.yaml_scan_scalars.specs.scan_model.Marks.{is_blank}
 use Rattle.yaml_scan_scalars.specs.Pieces.{gap}
@@ -21,9 +22,9 @@ abbrev pub end_bytes : LineEnd → List ℕ
 end_bytes feed = ascii.line_feed ∷ []
 end_bytes return = ascii.carriage_return ∷ []
 end_bytes return_feed = ascii.carriage_return ∷ ascii.line_feed ∷ []
-end_bytes next_line = 0xC2 ∷ 0x85 ∷ []
-end_bytes line_separator = 0xE2 ∷ 0x80 ∷ 0xA8 ∷ []
-end_bytes paragraph_separator = 0xE2 ∷ 0x80 ∷ 0xA9 ∷ []
+end_bytes next_line = points.next_line_utf8
+end_bytes line_separator = points.line_separator_utf8
+end_bytes paragraph_separator = points.paragraph_separator_utf8
 
 -- LS and PS are read as themselves, the others as a line feed
 abbrev pub end_means : LineEnd → List ℕ
@@ -31,8 +32,8 @@ end_means feed = ascii.line_feed ∷ []
 end_means return = ascii.line_feed ∷ []
 end_means return_feed = ascii.line_feed ∷ []
 end_means next_line = ascii.line_feed ∷ []
-end_means line_separator = 0xE2 ∷ 0x80 ∷ 0xA8 ∷ []
-end_means paragraph_separator = 0xE2 ∷ 0x80 ∷ 0xA9 ∷ []
+end_means line_separator = points.line_separator_utf8
+end_means paragraph_separator = points.paragraph_separator_utf8
 
 -- The end of a line, and how many spaces begin the next one.
 pub record LineTurn : Type 0 where
@@ -110,7 +111,8 @@ number_behind n (d ∷ ds) = option_and_then (λ low. number_behind (n * 16 + lo
 -- LF, CR, NEL, LS and PS
 abbrev pub is_line_end : ℕ → Bool
 is_line_end c = c == ascii.line_feed
-    || (c == ascii.carriage_return || (c == 0x85 || (c == 0x2028 || c == 0x2029)))
+    || (c == ascii.carriage_return || (c == points.next_line
+    || (c == points.line_separator || c == points.paragraph_separator)))
 
 -- Raw characters are no ends of lines, not the quote and not 0, which ends a stream; in double quotes no backslashes.
 abbrev pub may_be_raw : ℕ → ℕ → Bool

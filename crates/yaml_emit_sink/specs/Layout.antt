@@ -1,6 +1,7 @@
 -- Layouts: what is written from a cursor on, with what follows at the cursor behind it.
 use Rattle.std.specs.Prelude.{ℕ, zero, suc, ◌+◌, ◌-◌, Bool, true, false, not, ◌&&◌, ◌||◌, ◌==◌, nat_lt, if◌then◌else◌, List, [], ◌∷◌}
 use Rattle.yaml_types.specs.Ascii as ascii
+use Rattle.yaml_types.specs.Points as points
 use Rattle.yaml_emit_sink.specs.declared.cursor.Cursor.{Cursor}
 use Rattle.yaml_emit_sink.specs.declared.settings.Encoding.{Encoding}
 use Rattle.yaml_emit_sink.specs.declared.settings.Encoding.TheVariants.{Utf8, Utf16Le, Utf16Be}
@@ -120,8 +121,8 @@ too_deep c rest = deep ∷ rest c
 -- the byte order mark, in UTF-16 alone; it takes no column
 abbrev pub order_mark : Encoding → Layout
 order_mark Utf8 c rest = rest c
-order_mark Utf16Le c rest = letter 0xFEFF ∷ rest c
-order_mark Utf16Be c rest = letter 0xFEFF ∷ rest c
+order_mark Utf16Le c rest = letter points.byte_order_mark ∷ rest c
+order_mark Utf16Be c rest = letter points.byte_order_mark ∷ rest c
 
 abbrev pub start : Cursor
 start = record { column = 0; white = true; bare = true; kept = false }

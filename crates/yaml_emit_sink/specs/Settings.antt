@@ -5,6 +5,7 @@ use Rattle.yaml_types.specs.declared.yaml_encoding_t.TheVariants as coding
 use Rattle.yaml_types.specs.declared.yaml_break_t.{yaml_break_t}
 use Rattle.yaml_types.specs.declared.yaml_break_t.TheVariants as ending
 use Rattle.yaml_types.specs.Widths.{default_width}
+use Rattle.yaml_types.specs.Indents.{least_indent, most_indent, default_indent}
 use Rattle.yaml_emit_sink.specs.declared.settings.Encoding.{Encoding}
 use Rattle.yaml_emit_sink.specs.declared.settings.Encoding.TheVariants.{Utf8, Utf16Le, Utf16Be}
 use Rattle.yaml_emit_sink.specs.declared.settings.LineBreak.{LineBreak}
@@ -14,8 +15,9 @@ use Rattle.yaml_emit_sink.specs.declared.settings.RequestedSettings.{RequestedSe
 
 -- 2 to 9, any other number means 2
 abbrev pub settled_indent : ℤ → ℕ
-settled_indent (pos n) = if nat_le 2 n && nat_le n 9 then n else 2
-settled_indent (negsuc n) = 2
+settled_indent (pos n) =
+    if nat_le least_indent n && nat_le n most_indent then n else default_indent
+settled_indent (negsuc n) = default_indent
 
 -- a negative width means no end of lines, and one up to twice the indent the default
 abbrev pub settled_width : ℤ → ℕ → ℕ

@@ -1,6 +1,7 @@
 -- A text to be written, and its bytes.
 use Rattle.std.specs.Prelude.{ℕ, ◌+◌, ◌/◌, ◌%◌, ◌-◌, Bool, true, false, ◌==◌, ◌||◌, nat_lt, if◌then◌else◌, List, [], ◌∷◌, ◌++◌}
 use Rattle.yaml_types.specs.Ascii as ascii
+use Rattle.yaml_types.specs.Points as points
 use Rattle.yaml_emit_sink.specs.declared.settings.Encoding.{Encoding}
 use Rattle.yaml_emit_sink.specs.declared.settings.Encoding.TheVariants.{Utf8, Utf16Le, Utf16Be}
 
@@ -67,4 +68,5 @@ shown (deep ∷ t) = shown t
 -- LF, CR, NEL, LS and PS end a line
 abbrev pub is_break : ℕ → Bool
 is_break c =
-    c == ascii.line_feed || c == ascii.carriage_return || c == 0x85 || c == 0x2028 || c == 0x2029
+    c == ascii.line_feed || c == ascii.carriage_return || c == points.next_line
+    || c == points.line_separator || c == points.paragraph_separator

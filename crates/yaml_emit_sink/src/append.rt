@@ -1,6 +1,7 @@
 //! Bytes at the end of the output.
 
 ghost use Rattle.std.specs.Prelude.{◌≡◌, ◌≢◌, ◌<◌, ◌≤◌, ◌+◌, ◌^◌, [], ◌∷◌, ◌++◌, length, replicate, if◌then◌else◌, IfSome, OnOk, OnErr, true};
+ghost use Rattle.yaml_types.specs.Ascii as ascii;
 ghost use Rattle.std.specs.Vec.{vec_len, vec_capacity};
 ghost use Rattle.yaml_emit_sink.specs.Appends.{AppendsBy, moved, indented, blanked, lettered};
 ghost use Rattle.yaml_emit_sink.specs.Text.{char_bytes};
@@ -59,7 +60,7 @@ fn append_byte(output: &mut Vec<u8>, limit: u64, byte: u8) -> Status
 fn push_blanks(output: &mut Vec<u8>, count: usize) -> Result<(), AllocError>
     requires { length output.old.items + count < 2 ^ 64 }
     ensures room { vec_capacity output.old ≤ vec_capacity output.new }
-    ensures ok { OnOk result (output.new.items ≡ output.old.items ++ replicate count 32) }
+    ensures ok { OnOk result (output.new.items ≡ output.old.items ++ replicate count ascii.space) }
     ensures err { OnErr result (output.new.items ≡ output.old.items) }
 {
     let wanted = output.len() + count;
@@ -69,7 +70,8 @@ fn push_blanks(output: &mut Vec<u8>, count: usize) -> Result<(), AllocError>
 // So many spaces, as far as the limit and the memory allow.
 pub(crate) fn append_blanks(output: &mut Vec<u8>, limit: u64, count: u64) -> Status
     requires { length output.old.items ≤ limit }
-    ensures bytes { AppendsBy result limit output.old.items output.new.items (replicate count 32) }
+    ensures bytes { AppendsBy result limit output.old.items output.new.items
+        (replicate count ascii.space) }
     ensures within { length output.new.items ≤ limit }
     ensures room { vec_capacity output.old ≤ vec_capacity output.new }
     ensures longer { length output.old.items ≤ length output.new.items }
@@ -100,7 +102,8 @@ const BLANKS: [u8; 128] = [b' '; 128];
 fn put_deep_line(output: &mut Vec<u8>, count: u64)
     requires inside { vec_len output.old + (1 + count) ≤ vec_capacity output.old }
     requires few { count ≤ 128 }
-    ensures items { output.new.items ≡ output.old.items ++ 10 ∷ replicate count 32 }
+    ensures items { output.new.items
+        ≡ output.old.items ++ ascii.line_feed ∷ replicate count ascii.space }
     ensures room { vec_capacity output.old ≤ vec_capacity output.new }
 {
     output.push_reserved(b'\n');
@@ -111,7 +114,8 @@ fn put_deep_line(output: &mut Vec<u8>, count: u64)
 pub(crate) fn put_fresh_line(output: &mut Vec<u8>, count: u64)
     requires inside { vec_len output.old + (1 + count) ≤ vec_capacity output.old }
     requires few { count ≤ 128 }
-    ensures items { output.new.items ≡ output.old.items ++ 10 ∷ replicate count 32 }
+    ensures items { output.new.items
+        ≡ output.old.items ++ ascii.line_feed ∷ replicate count ascii.space }
     ensures room { vec_capacity output.old ≤ vec_capacity output.new }
 {
     match count {

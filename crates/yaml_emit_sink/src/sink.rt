@@ -1,6 +1,8 @@
 //! The output, up to its limit.
 
 ghost use Rattle.std.specs.Prelude.{◌≡◌, ◌≢◌, ◌<◌, ◌≤◌, ℕ, ◌∷◌, [], ◌++◌, ◌+◌, ◌-◌, length, ◌^◌, false, true};
+ghost use Rattle.yaml_types.specs.Ascii as ascii;
+ghost use Rattle.yaml_types.specs.Points as points;
 ghost use Rattle.std.specs.Vec.{vec_capacity};
 
 mod around;
@@ -414,7 +416,7 @@ impl Sink {
     pub fn put_known_word(&mut self, text: &[u8], parted: &[u8])
         requires some { 0 < length text.now }
         requires ascii { IsAscii text.now }
-        requires parted { parted.now ≡ 32 ∷ text.now }
+        requires parted { parted.now ≡ ascii.space ∷ text.now }
         ensures { Puts self.old self.new (word text.now) }
     {
         if self.cursor().white {
@@ -514,7 +516,7 @@ impl Sink {
     }
 
     fn write_mark(&mut self)
-        ensures { Puts self.old self.new (λ c rest. letter 0xFEFF ∷ rest c) }
+        ensures { Puts self.old self.new (λ c rest. letter points.byte_order_mark ∷ rest c) }
     {
         if self.status.is_going() {
             self.status = append_char(&mut self.output, self.limit, self.encoding, '\u{FEFF}');

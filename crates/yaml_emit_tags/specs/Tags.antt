@@ -52,7 +52,9 @@ in_force ds = ds ++ defaults ds
 -- 0-9 A-Z a-z _ - ; / ? : @ & = + $ . ~ * ' ( )
 unfoldable pub suffix_keeps : ℕ → Bool
 suffix_keeps b =
-    (nat_le 48 b && nat_le b 57) || (nat_le 65 b && nat_le b 90) || (nat_le 97 b && nat_le b 122)
+    (nat_le ascii.digit_zero b && nat_le b ascii.digit_nine)
+    || (nat_le ascii.capital_a b && nat_le b ascii.capital_z)
+    || (nat_le ascii.small_a b && nat_le b ascii.small_z)
     || b == ascii.underscore || b == ascii.hyphen || b == ascii.semicolon || b == ascii.slash
     || b == ascii.question || b == ascii.colon || b == ascii.at || b == ascii.ampersand
     || b == ascii.equals

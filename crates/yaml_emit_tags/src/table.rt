@@ -1,5 +1,6 @@
 //! The tag directives of a document.
 ghost use Rattle.std.specs.Prelude.{◌≡◌, ◌<◌, ◌∷◌, [], Some, None, true, map, length, option_map, IfOk, IfSome};
+ghost use Rattle.yaml_scan_model.specs.Ascii as ascii;
 ghost use Rattle.yaml_parse_model.specs.Events.{directive_of};
 ghost use Rattle.yaml_emit_tags.specs.Prefixes.{IsNumber};
 ghost use Rattle.yaml_emit_tags.specs.TableView.{IsIndexed};
@@ -141,14 +142,14 @@ impl DirectiveTable {
 
     /// Whether one defines `!`.
     pub(crate) fn defines_primary(&self) -> bool
-        ensures { result ≡ defines self.now (33 ∷ []) }
+        ensures { result ≡ defines self.now (ascii.exclamation ∷ []) }
     {
         self.primary
     }
 
     /// Whether one defines `!!`.
     pub(crate) fn defines_secondary(&self) -> bool
-        ensures { result ≡ defines self.now (33 ∷ 33 ∷ []) }
+        ensures { result ≡ defines self.now (ascii.exclamation ∷ ascii.exclamation ∷ []) }
     {
         self.secondary
     }

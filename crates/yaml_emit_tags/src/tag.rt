@@ -1,6 +1,7 @@
 //! Tags (YAML 1.1, 7.1.2 and 3.2.1.2), anchors and aliases (3.2.2.2).
 
 ghost use Rattle.std.specs.List.{list_all};
+ghost use Rattle.yaml_scan_model.specs.Ascii as ascii;
 ghost use Rattle.std.specs.Prelude.{◌≡◌, ◌<◌, ◌≤◌, ℕ, ◌+◌, ◌∷◌, [], ◌++◌, map, length, drop, true, false, not, ◌&&◌, ◌||◌, ◌==◌, if◌then◌else◌, Option, Some, None, codes};
 ghost use Rattle.yaml_emit_sink.specs.Sink.{Puts};
 ghost use Rattle.yaml_emit_sink.specs.Layout.{◌▹◌, char, letters, gap, word};
@@ -178,7 +179,8 @@ fn put_verbatim(sink: &mut Sink, tag: &[u8])
 
 // A suffix behind `!`, at once where no byte of it is escaped.
 fn put_primary(sink: &mut Sink, suffix: &[u8])
-    ensures { Puts sink.old sink.new (word (spelled (shorthand (33 ∷ []) suffix.now))) }
+    ensures { Puts sink.old sink.new
+        (word (spelled (shorthand (ascii.exclamation ∷ []) suffix.now))) }
 {
     if are_kept(false, suffix) {
         sink.put_around(b"!", b" !", suffix, b"");
@@ -197,7 +199,8 @@ fn is_same(suffix: &[u8], other: &[u8]) -> bool
 
 // A suffix behind `!!`, at once where no byte of it is escaped.
 fn put_suffix(sink: &mut Sink, suffix: &[u8])
-    ensures { Puts sink.old sink.new (word (spelled (shorthand (33 ∷ 33 ∷ []) suffix.now))) }
+    ensures { Puts sink.old sink.new
+        (word (spelled (shorthand (ascii.exclamation ∷ ascii.exclamation ∷ []) suffix.now))) }
 {
     if are_kept(false, suffix) {
         sink.put_around(b"!!", b" !!", suffix, b"");
@@ -209,7 +212,8 @@ fn put_suffix(sink: &mut Sink, suffix: &[u8])
 // The same, where it isn't that of a text: of a sequence and a mapping the bytes are known too.
 #[tactic(auto, using(crate::proofs::Known::map_suffix, crate::proofs::Known::seq_suffix))]
 fn put_other_suffix(sink: &mut Sink, suffix: &[u8])
-    ensures { Puts sink.old sink.new (word (spelled (shorthand (33 ∷ 33 ∷ []) suffix.now))) }
+    ensures { Puts sink.old sink.new
+        (word (spelled (shorthand (ascii.exclamation ∷ ascii.exclamation ∷ []) suffix.now))) }
 {
     if is_same(suffix, b"map") {
         sink.put_known_word(b"!!map", b" !!map");
@@ -223,7 +227,8 @@ fn put_other_suffix(sink: &mut Sink, suffix: &[u8])
 // The same of every suffix.
 #[tactic(auto, using(crate::proofs::Known::str_suffix))]
 fn put_secondary(sink: &mut Sink, suffix: &[u8])
-    ensures { Puts sink.old sink.new (word (spelled (shorthand (33 ∷ 33 ∷ []) suffix.now))) }
+    ensures { Puts sink.old sink.new
+        (word (spelled (shorthand (ascii.exclamation ∷ ascii.exclamation ∷ []) suffix.now))) }
 {
     if is_same(suffix, b"str") {
         sink.put_known_word(b"!!str", b" !!str");
@@ -284,7 +289,7 @@ pub fn put_prefix(sink: &mut Sink, prefix: &[u8])
 
 /// `&` and a name, with a space in front where one is due.
 pub fn put_anchor(sink: &mut Sink, name: &[u8])
-    ensures { Puts sink.old sink.new (word (38 ∷ name.now)) }
+    ensures { Puts sink.old sink.new (word (ascii.ampersand ∷ name.now)) }
 {
     sink.put_gap();
     sink.put('&');
@@ -293,7 +298,7 @@ pub fn put_anchor(sink: &mut Sink, name: &[u8])
 
 /// `*` and a name, with a space in front where one is due.
 pub fn put_alias(sink: &mut Sink, name: &[u8])
-    ensures { Puts sink.old sink.new (word (42 ∷ name.now)) }
+    ensures { Puts sink.old sink.new (word (ascii.asterisk ∷ name.now)) }
 {
     sink.put_gap();
     sink.put('*');

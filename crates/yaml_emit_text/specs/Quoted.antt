@@ -1,6 +1,7 @@
 -- Double quoted text: escapes, and folds at the width.
 use Rattle.std.specs.Prelude.{ℕ, ◌/◌, ◌%◌, Bool, true, false, not, ◌==◌, ◌&&◌, ◌||◌, nat_lt, nat_le, if◌then◌else◌, List, [], ◌∷◌, ◌++◌}
 use Rattle.yaml_types.specs.Ascii as ascii
+use Rattle.yaml_types.specs.Points as points
 use Rattle.yaml_emit_text.specs.declared.page.Page.{Page}
 use Rattle.yaml_emit_sink.specs.Text.{is_break}
 use Rattle.yaml_emit_sink.specs.Hex.{hex_2}
@@ -9,8 +10,9 @@ use Rattle.yaml_emit_sink.specs.Layout.{Layout, ◌▹◌, stay, choose, when, c
 -- 0A, 20 to 7E, A0 to D7FF, E000 to FFFD without FEFF, 10000 to 10FFFF
 abbrev pub is_printable : ℕ → Bool
 is_printable c =
-    c == 0x0A || (nat_le 0x20 c && nat_le c 0x7E) || (nat_le 0xA0 c && nat_le c 0xD7FF)
-    || (nat_le 0xE000 c && nat_le c 0xFFFD && not (c == 0xFEFF))
+    c == ascii.line_feed || (nat_le ascii.space c && nat_le c ascii.tilde)
+    || (nat_le points.no_break_space c && nat_le c 0xD7FF)
+    || (nat_le 0xE000 c && nat_le c 0xFFFD && not (c == points.byte_order_mark))
     || (nat_le 0x1_0000 c && nat_le c 0x10_FFFF)
 
 -- what is not printable, or not ASCII with unicode off, a break, `"` or `\`
@@ -33,10 +35,10 @@ escape_letter c =
     else if c == ascii.escape then ascii.small_e
     else if c == ascii.quote then ascii.quote
     else if c == ascii.backslash then ascii.backslash
-    else if c == 0x85 then ascii.capital_n
-    else if c == 0xA0 then ascii.underscore
-    else if c == 0x2028 then ascii.capital_l
-    else if c == 0x2029 then ascii.capital_p
+    else if c == points.next_line then ascii.capital_n
+    else if c == points.no_break_space then ascii.underscore
+    else if c == points.line_separator then ascii.capital_l
+    else if c == points.paragraph_separator then ascii.capital_p
     else 0
 
 abbrev pub hex_4 : ℕ → List ℕ

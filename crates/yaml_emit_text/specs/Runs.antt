@@ -17,12 +17,13 @@ all_pass test column (b ∷ bs) = test column b && all_pass test (column + 1) bs
 -- from space to `~`, but for the two characters that are not written as they are; a space up to the width, where lines may be cut
 unfoldable pub runs_on : Bounds → ℕ → ℕ → Bool
 runs_on e column b =
-    nat_le 32 b && (nat_le b 126 && (not (b == e.quote)
+    nat_le ascii.space b && (nat_le b ascii.tilde && (not (b == e.quote)
     && (not (b == e.slash) && (not (b == ascii.space) || (not e.cuts || nat_le column e.width)))))
 
 -- it stands as it is between double quotes, at any column: from `!` to `~`, but `"` and `\`
 unfoldable pub is_solid : ℕ → Bool
-is_solid b = nat_le 33 b && (nat_le b 126 && (not (b == ascii.quote) && not (b == ascii.backslash)))
+is_solid b = nat_le ascii.exclamation b
+    && (nat_le b ascii.tilde && (not (b == ascii.quote) && not (b == ascii.backslash)))
 
 -- in double quotes
 abbrev pub quoted_bounds : Page → Bounds
@@ -44,8 +45,8 @@ block_bounds page folded = record { quote = 0; slash = 0; cuts = folded; width =
 
 -- from space to `~`, but for # , : ? [ ] { }: before another such one it says nothing against a style
 unfoldable pub is_calm : ℕ → Bool
-is_calm b = nat_le 32 b
-    && (nat_le b 126 && not (b == ascii.hash || b == ascii.comma || b == ascii.colon
+is_calm b = nat_le ascii.space b
+    && (nat_le b ascii.tilde && not (b == ascii.hash || b == ascii.comma || b == ascii.colon
     || b == ascii.question || b == ascii.open_bracket
     || b == ascii.close_bracket || b == ascii.open_brace || b == ascii.close_brace))
 

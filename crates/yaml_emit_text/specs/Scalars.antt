@@ -115,7 +115,7 @@ chomp_mark chomping.Keep = char ascii.plus ▹ keep true
 
 -- an indent of more than one digit means 2
 abbrev pub digit_char : ℕ → ℕ
-digit_char n = if nat_lt n 10 then 48 + n else 50
+digit_char n = if nat_lt n 10 then ascii.digit_zero + n else ascii.digit_two
 
 -- the digit of the indent, where the value begins with a space or a break
 abbrev pub digit_mark : ℕ → List ℕ → Layout

@@ -105,13 +105,13 @@ joined a b = record {
 -- The start of a value counts as a space for `#`, the end as 0 for `:`.
 abbrev pub allowed_text : Bool → List ℕ → Allowed
 allowed_text unicode value =
-    let special = somewhere (is_special unicode) 32 value in
-    let broken = somewhere is_break_space 32 value in
+    let special = somewhere (is_special unicode) ascii.space value in
+    let broken = somewhere is_break_space ascii.space value in
     let plain = not (special || broken || ends_in_space value || starts_badly value
-    || somewhere is_not_plain 32 value) in
+    || somewhere is_not_plain ascii.space value) in
     record {
       plain = plain;
-      flow_plain = plain && not (somewhere is_not_flow 32 value);
+      flow_plain = plain && not (somewhere is_not_flow ascii.space value);
       single = not (special || broken);
       block = not (special || ends_in_space value);
     }

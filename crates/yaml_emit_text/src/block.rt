@@ -1,6 +1,7 @@
 //! Literal and folded scalars (YAML 1.1, 9.2 and 9.3).
 
 ghost use Rattle.std.specs.Prelude.{◌≡◌, ◌≤◌, ◌+◌, length, IsUtf8, Bool, true, false, not, ◌&&◌, ◌||◌, ◌==◌, if◌then◌else◌};
+ghost use Rattle.yaml_types.specs.Ascii as ascii;
 ghost use Rattle.std.specs.Str.{chars};
 ghost use Rattle.yaml_emit_sink.specs.Sink.{Puts, Owes};
 ghost use Rattle.yaml_emit_sink.specs.Text.{is_break};
@@ -149,7 +150,8 @@ fn put_block_run_or<'a>(
 }
 
 fn put_block_body(sink: &mut Sink, page: Page, folded: bool, value: &str)
-    ensures { Puts sink.old sink.new (block_body page folded true 10 (chars value.now)) }
+    ensures { Puts sink.old sink.new
+        (block_body page folded true ascii.line_feed (chars value.now)) }
 {
     let mut before = '\n';
     let mut blank = true;
@@ -234,7 +236,7 @@ fn put_digit(sink: &mut Sink, digit: u64, value: &str)
 }
 
 fn opening(folded: bool) -> char
-    ensures { result ≡ (if folded then 62 else 124) }
+    ensures { result ≡ (if folded then ascii.greater else ascii.bar) }
 {
     if folded { '>' } else { '|' }
 }

@@ -1,6 +1,7 @@
 //! Plain and single quoted scalars (YAML 1.1, 9.1.3 and 9.1.2).
 
 ghost use Rattle.std.specs.Prelude.{◌≡◌, ◌≤◌, length, IsUtf8, false, not, ◌&&◌, ◌||◌, ◌==◌, if◌then◌else◌};
+ghost use Rattle.yaml_types.specs.Ascii as ascii;
 ghost use Rattle.std.specs.Str.{chars};
 ghost use Rattle.yaml_emit_sink.specs.Sink.{Puts, Owes};
 ghost use Rattle.yaml_emit_sink.specs.Text.{is_break};
@@ -163,7 +164,7 @@ fn put_flow_rest(sink: &mut Sink, page: Page, quote: bool, before: char, value: 
 // Inlined: whether it is quoted is known.
 #[inline(always)]
 pub(crate) fn put_flow_body(sink: &mut Sink, page: Page, quote: bool, value: &str)
-    ensures { Puts sink.old sink.new (flow_body page quote 32 (chars value.now)) }
+    ensures { Puts sink.old sink.new (flow_body page quote ascii.space (chars value.now)) }
 {
     let (before, left) = put_flow_run(sink, page, quote, ' ', value);
     if left.is_empty() {

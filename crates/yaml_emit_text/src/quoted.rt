@@ -1,6 +1,7 @@
 //! Double quoted scalars (YAML 1.1, 9.1.1), with escapes (5.6).
 
 ghost use Rattle.std.specs.Prelude.{◌≡◌, ◌<◌, ◌≤◌, ◌∷◌, [], length, IsUtf8, false, true, if◌then◌else◌};
+ghost use Rattle.yaml_types.specs.Ascii as ascii;
 ghost use Rattle.std.specs.Str.{chars};
 ghost use Rattle.yaml_emit_sink.specs.Sink.{Puts, Owes};
 ghost use Rattle.yaml_emit_sink.specs.Text.{is_break};
@@ -193,7 +194,7 @@ fn put_quoted_rest(sink: &mut Sink, page: Page, before: char, value: &str)
 // Inlined into its one caller.
 #[inline(always)]
 fn put_quoted_body(sink: &mut Sink, page: Page, value: &str)
-    ensures { Puts sink.old sink.new (quoted_body page 32 (chars value.now)) }
+    ensures { Puts sink.old sink.new (quoted_body page ascii.space (chars value.now)) }
 {
     let (before, left) = put_quoted_run(sink, page, ' ', value);
     if left.is_empty() {
@@ -206,7 +207,8 @@ fn put_quoted_body(sink: &mut Sink, page: Page, value: &str)
 // Inlined: mostly there is room, and it is a store or two.
 #[inline(always)]
 fn put_quote(sink: &mut Sink, marked: bool)
-    ensures { Puts sink.old sink.new (when marked (word (33 ∷ [])) ▹ (gap ▹ char 34)) }
+    ensures { Puts sink.old sink.new
+        (when marked (word (ascii.exclamation ∷ [])) ▹ (gap ▹ char ascii.quote)) }
 {
     if marked {
         sink.put_known_word(b"! \"", b" ! \"");
@@ -219,7 +221,8 @@ fn put_quote(sink: &mut Sink, marked: bool)
 // Out of line: few registers are needed, and the ways that call it stay small.
 #[inline(never)]
 pub fn put_opening_quote(sink: &mut Sink, marked: bool)
-    ensures { Puts sink.old sink.new (when marked (word (33 ∷ [])) ▹ (gap ▹ char 34)) }
+    ensures { Puts sink.old sink.new
+        (when marked (word (ascii.exclamation ∷ [])) ▹ (gap ▹ char ascii.quote)) }
 {
     put_quote(sink, marked);
 }
@@ -228,7 +231,8 @@ pub fn put_opening_quote(sink: &mut Sink, marked: bool)
 // Inlined: then what it is given needn't stand in memory.
 #[inline(always)]
 pub fn put_quoted_inside(sink: &mut Sink, page: Page, value: &str)
-    ensures { Puts sink.old sink.new (quoted_body page 32 (chars value.now) ▹ char 34) }
+    ensures { Puts sink.old sink.new
+        (quoted_body page ascii.space (chars value.now) ▹ char ascii.quote) }
 {
     put_quoted_body(sink, page, value);
     sink.put('"');

@@ -1,6 +1,7 @@
 //! Double quoted scalars of bytes that stand as they are, put at once.
 
 ghost use Rattle.std.specs.List.{list_all};
+ghost use Rattle.yaml_types.specs.Ascii as ascii;
 ghost use Rattle.std.specs.Prelude.{◌≡◌, ◌∷◌, [], true};
 ghost use Rattle.std.specs.Str.{chars};
 ghost use Rattle.yaml_emit_sink.specs.Sink.{Puts};
@@ -44,7 +45,7 @@ pub fn are_solid(value: &[u8]) -> bool
 #[inline(never)]
 pub fn put_solid(sink: &mut Sink, marked: bool, value: &[u8])
     requires { list_all is_solid value.now ≡ true }
-    ensures { (page : Page) → Puts sink.old sink.new (when marked (word (33 ∷ []))
+    ensures { (page : Page) → Puts sink.old sink.new (when marked (word (ascii.exclamation ∷ []))
         ▹ double_quoted page (chars value.now)) }
 {
     if marked {

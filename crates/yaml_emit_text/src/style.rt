@@ -1,6 +1,7 @@
 //! Which styles a value allows, and which one is taken.
 
 ghost use Rattle.std.specs.Prelude.{◌≡◌, ◌≤◌, ℕ, ◌∷◌, [], length, IsUtf8, Bool, false, true, not, ◌&&◌, ◌||◌, ◌==◌, if◌then◌else◌};
+ghost use Rattle.yaml_types.specs.Ascii as ascii;
 ghost use Rattle.std.specs.Str.{chars};
 ghost use Rattle.yaml_emit_sink.specs.Text.{is_break};
 ghost use Rattle.yaml_emit_text.specs.Quoted.{is_printable, first, is_empty};
@@ -180,10 +181,11 @@ fn past_calm(before: char, left: &str) -> (char, &str)
 
 // One look at a value: what was seen, and its last character. What stands in front of the rest of it says nothing.
 fn look(unicode: bool, value: &str, before: char, rest: &str) -> (Seen, char)
-    requires seen { looked unicode 32 (chars value.now) ≡ looked unicode before (chars rest.now) }
-    requires last { last_or 32 (chars value.now) ≡ last_or before (chars rest.now) }
-    ensures seen { result.0 ≡ looked unicode 32 (chars value.now) }
-    ensures last { result.1 ≡ last_or 32 (chars value.now) }
+    requires seen { looked unicode ascii.space (chars value.now)
+        ≡ looked unicode before (chars rest.now) }
+    requires last { last_or ascii.space (chars value.now) ≡ last_or before (chars rest.now) }
+    ensures seen { result.0 ≡ looked unicode ascii.space (chars value.now) }
+    ensures last { result.1 ≡ last_or ascii.space (chars value.now) }
 {
     // Named in the clauses alone.
     let _ = value;
@@ -257,7 +259,7 @@ fn allowed_by(all: Seen, spaced: bool, badly: bool) -> Allowed
 #[inline(always)]
 fn is_tame(value: &str, before: char, rest: &str) -> bool
     ensures none { result ≡ true → is_empty (chars rest.now) ≡ true }
-    ensures space { result ≡ true → (before == 32) ≡ false }
+    ensures space { result ≡ true → (before == ascii.space) ≡ false }
     ensures badly { result ≡ true → starts_badly (chars value.now) ≡ false }
 {
     is_empty(rest) && before != ' ' && begins_well(first(value))
@@ -266,8 +268,9 @@ fn is_tame(value: &str, before: char, rest: &str) -> bool
 // Out of line: the rare way beside the short one.
 #[inline(never)]
 fn allowed_looked(unicode: bool, value: &str, before: char, rest: &str) -> Allowed
-    requires seen { looked unicode 32 (chars value.now) ≡ looked unicode before (chars rest.now) }
-    requires last { last_or 32 (chars value.now) ≡ last_or before (chars rest.now) }
+    requires seen { looked unicode ascii.space (chars value.now)
+        ≡ looked unicode before (chars rest.now) }
+    requires last { last_or ascii.space (chars value.now) ≡ last_or before (chars rest.now) }
     ensures { result ≡ allowed_text unicode (chars value.now) }
 {
     let (all, last) = look(unicode, value, before, rest);

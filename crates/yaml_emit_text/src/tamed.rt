@@ -1,6 +1,7 @@
 //! Tame texts, which allow every style and are written as they are where they fit their line: most scalars are.
 
 ghost use Rattle.std.specs.Prelude.{◌≡◌, ◌<◌, ◌≤◌, ◌+◌, length, Bool, true, false, IsUtf8};
+ghost use Rattle.yaml_types.specs.Ascii as ascii;
 ghost use Rattle.std.specs.Str.{chars};
 ghost use Rattle.yaml_emit_sink.specs.Sink.{Puts};
 ghost use Rattle.yaml_emit_text.specs.Runs.{all_pass, calm};
@@ -82,7 +83,7 @@ fn is_within(width: u64, column: u64, count: u64) -> bool
 // Out of line: a text that passes the width may be broken.
 #[inline(never)]
 fn put_wide(sink: &mut Sink, page: Page, value: &str)
-    ensures { Puts sink.old sink.new (flow_body page false 32 (chars value.now)) }
+    ensures { Puts sink.old sink.new (flow_body page false ascii.space (chars value.now)) }
 {
     put_flow_body(sink, page, false, value);
 }
@@ -92,7 +93,7 @@ fn put_wide(sink: &mut Sink, page: Page, value: &str)
 #[inline(always)]
 fn put_whole(sink: &mut Sink, page: Page, value: &str)
     requires { IsTame value.now }
-    ensures { Puts sink.old sink.new (flow_body page false 32 (chars value.now)) }
+    ensures { Puts sink.old sink.new (flow_body page false ascii.space (chars value.now)) }
 {
     if is_within(page.width, sink.cursor().column, value.len() as u64) {
         sink.put_ascii(value.as_bytes());

@@ -162,6 +162,10 @@ IsSequenceAt d id = IsKindAt IsSequenceBody (node_at d.nodes id)
 abbrev pub IsMappingAt : Document → ℤ → Type 0
 IsMappingAt d id = IsKindAt IsMappingBody (node_at d.nodes id)
 
+-- how many entries a list of a document has at most
+abbrev pub most_entries : ℕ
+most_entries = 2147483647
+
 -- how many items or pairs a node holds
 abbrev pub item_count : NodeBody → ℕ
 item_count (node.sequence items style) = length items
@@ -171,9 +175,9 @@ abbrev pub pair_count : NodeBody → ℕ
 pair_count (node.mapping pairs style) = length pairs
 pair_count _ = zero
 
--- the node under a number has room for an entry more: it holds fewer than 2,147,483,647 of what is counted
+-- the node under a number has room for an entry more: it holds fewer than `most_entries` of what is counted
 abbrev pub HasRoomAt : (NodeBody → ℕ) → Document → ℤ → Type 0
-HasRoomAt count d id = IsKindAt (λ b. count b < 2147483647) (node_at d.nodes id)
+HasRoomAt count d id = IsKindAt (λ b. count b < most_entries) (node_at d.nodes id)
 
 -- an appending call changes one node, or finds no memory and changes nothing
 abbrev pub Appends : {A : Type 0} → Document → Document → Result A yaml_text_fault_t → Document

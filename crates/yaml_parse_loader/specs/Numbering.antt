@@ -3,6 +3,7 @@
 use Rattle.std.specs.Prelude.{ℕ, suc, ℤ, pos, ◌+◌, ◌==◌, Bool, false, cond, List, [], ◌∷◌, ◌++◌, length, Option, Some, None, Result, Ok, Err, codes}
 use Rattle.std.specs.Ordering.{nat_cmp, eq_by_cmp}
 use Rattle.std.specs.Cmp.Lexicographic.{slice_cmp}
+use Rattle.yaml_parse_model.specs.Ascii as ascii
 use Rattle.yaml_parse_model.specs.declared.yaml_mark_t.{yaml_mark_t}
 use Rattle.yaml_parse_model.specs.declared.yaml_version_directive_t.{yaml_version_directive_t}
 use Rattle.yaml_parse_model.specs.declared.yaml_scalar_style_t.{yaml_scalar_style_t}
@@ -79,7 +80,7 @@ abbrev mutual
 -- the tag `!`
 abbrev pub is_bang : List ℕ → Bool
 is_bang [] = false
-is_bang (c ∷ []) = c == 33
+is_bang (c ∷ []) = c == ascii.exclamation
 is_bang (c ∷ d ∷ more) = false
 
 -- no tag and `!` become the default tag

@@ -2,6 +2,7 @@
 use Rattle.std.specs.Prelude.{◌≤◌, ◌<◌, List, [], ◌∷◌, length, Some, None}
 use Rattle.yaml_parse_model.specs.Events.{EventBody}
 use Rattle.yaml_parse_model.specs.Events as event
+use Rattle.yaml_parse_document.specs.Documents.{most_entries}
 use Rattle.yaml_parse_document.specs.Sizes.{IsSized}
 use Rattle.yaml_parse_loader.specs.Loading.{Open, open_sequence, open_mapping, Loading}
 
@@ -9,9 +10,9 @@ use Rattle.yaml_parse_loader.specs.Loading.{Open, open_sequence, open_mapping, L
 
 -- an open collection takes one number more: a sequence as an item, a mapping as a key, or as the value that ends a pair
 abbrev pub HasRoom : Open → Type 0
-HasRoom (open_sequence place items) = length items < 2147483647
+HasRoom (open_sequence place items) = length items < most_entries
 HasRoom (open_mapping place pairs None) = Unit {0}
-HasRoom (open_mapping place pairs (Some key)) = length pairs < 2147483647
+HasRoom (open_mapping place pairs (Some key)) = length pairs < most_entries
 
 -- the innermost one does, if there is one
 abbrev pub HaveRoom : List Open → Type 0
@@ -20,7 +21,7 @@ HaveRoom (o ∷ os) = HasRoom o
 
 -- the document takes one node more, and the collection round it takes the node's number
 abbrev pub HasRoomForNode : Loading → Type 0
-HasRoomForNode l = (length l.document.nodes < 2147483647) × HaveRoom l.levels
+HasRoomForNode l = (length l.document.nodes < most_entries) × HaveRoom l.levels
 
 -- what an event needs
 abbrev pub HasRoomFor : EventBody → Loading → Type 0
@@ -33,8 +34,8 @@ HasRoomFor _ l = Unit {0}
 -- ---- what stays true
 
 abbrev pub IsSizedOpen : Open → Type 0
-IsSizedOpen (open_sequence place items) = length items ≤ 2147483647
-IsSizedOpen (open_mapping place pairs key) = length pairs ≤ 2147483647
+IsSizedOpen (open_sequence place items) = length items ≤ most_entries
+IsSizedOpen (open_mapping place pairs key) = length pairs ≤ most_entries
 
 abbrev pub AreSizedOpen : List Open → Type 0
 AreSizedOpen [] = Unit {0}

@@ -5,6 +5,7 @@ pub mod NodeTexts
 pub mod Prefix
 pub mod Source
 pub mod TextView
+pub use Rattle.yaml_scan_model.specs.Ascii
 pub use Rattle.yaml_scan_model.specs.Tokens
 pub use Rattle.yaml_scan_model.specs.Faults
 pub use Rattle.yaml_scan_slot.specs.Slots

@@ -1,6 +1,7 @@
 -- How a text is spelled in bytes is no part of what it says.
-use Rattle.std.specs.Prelude.{◌≡◌, ℕ, List, [], ◌∷◌, ◌++◌}
+use Rattle.std.specs.Prelude.{◌≡◌, ℕ, List, [], ◌++◌}
 use Rattle.std.specs.List.{AllPass}
+use Rattle.yaml_round_laws_adapted.specs.scan_laws_texts.scan_history.scan_model.Points as points
 use Rattle.yaml_round_laws_adapted.specs.scan_laws_texts.scan_history.scan_model.declared.yaml_encoding_t.{yaml_encoding_t}
 use Rattle.yaml_round_laws_adapted.specs.scan_laws_texts.scan_history.scan_model.declared.yaml_encoding_t.TheVariants.{YAML_ANY_ENCODING, YAML_UTF8_ENCODING, YAML_UTF16LE_ENCODING, YAML_UTF16BE_ENCODING}
 use Rattle.yaml_round_laws_adapted.specs.scan_laws_texts.scan_history.scan_decode.Characters.{is_allowed}
@@ -30,9 +31,9 @@ IsNamed YAML_UTF16BE_ENCODING = Unit {0}
 -- the byte order mark of an encoding
 abbrev pub mark_of : yaml_encoding_t → List ℕ
 mark_of YAML_ANY_ENCODING = []
-mark_of YAML_UTF8_ENCODING = 0xEF ∷ 0xBB ∷ 0xBF ∷ []
-mark_of YAML_UTF16LE_ENCODING = 0xFF ∷ 0xFE ∷ []
-mark_of YAML_UTF16BE_ENCODING = 0xFE ∷ 0xFF ∷ []
+mark_of YAML_UTF8_ENCODING = points.byte_order_mark_utf8
+mark_of YAML_UTF16LE_ENCODING = points.byte_order_mark_low_first
+mark_of YAML_UTF16BE_ENCODING = points.byte_order_mark_high_first
 
 -- Characters that a stream may hold, spelled in two encodings. Where none is named, a mark tells it,
 -- and without a mark it is UTF-8.

@@ -1,5 +1,6 @@
 -- The normal form that people read: a content's documents with styles that the content alone decides.
 use Rattle.std.specs.Prelude.{ℕ, ◌==◌, Bool, true, false, not, ◌&&◌, if◌then◌else◌, List, [], ◌∷◌, Option, Some, None}
+use Rattle.yaml_round_content.specs.scan_model.Ascii as ascii
 use Rattle.yaml_round_content.specs.scan_model.declared.yaml_encoding_t.TheVariants.{YAML_ANY_ENCODING}
 use Rattle.yaml_round_content.specs.scan_model.declared.yaml_scalar_style_t.{yaml_scalar_style_t}
 use Rattle.yaml_round_content.specs.scan_model.declared.yaml_scalar_style_t.TheVariants.{YAML_PLAIN_SCALAR_STYLE, YAML_SINGLE_QUOTED_SCALAR_STYLE, YAML_LITERAL_SCALAR_STYLE}
@@ -23,7 +24,7 @@ is_nothing anchor (b ∷ bs) = false
 
 -- it has a line break, and doesn't end in a space, which no block scalar may
 abbrev pub may_be_literal : List ℕ → Bool
-may_be_literal value = has_break value && not (last_or 0 value == 32)
+may_be_literal value = has_break value && not (last_or 0 value == ascii.space)
 
 -- literal, or else single quoted; the layout falls back to double quotes by its own rules
 abbrev pub quoted_style : List ℕ → yaml_scalar_style_t

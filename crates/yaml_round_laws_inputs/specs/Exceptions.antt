@@ -1,6 +1,7 @@
 -- What YAML 1.1 reads otherwise, or refuses, in a JSON text.
 use Rattle.std.specs.Prelude.{◌≡◌, ℕ, Bool, true, false, not, ◌&&◌, ◌||◌, ◌==◌, nat_le, if◌then◌else◌, List, [], ◌∷◌, ◌++◌, length}
 use Rattle.yaml_scan_history.specs.scan_model.Ascii as ascii
+use Rattle.yaml_scan_history.specs.scan_model.Points as points
 use Rattle.yaml_scan_history.specs.History.{key_bytes}
 use Rattle.yaml_round_laws_inputs.specs.Grammar.{Letter, raw, short, coded, code, string_bytes, Value, literal, number, string, empty_array, array, empty_object, object, Elements, last_element, element, Members, last_member, member, Text}
 
@@ -8,12 +9,14 @@ use Rattle.yaml_round_laws_inputs.specs.Grammar.{Letter, raw, short, coded, code
 
 -- DEL, C1 but NEL, U+FFFE and U+FFFF: no stream may hold them as they are
 abbrev pub is_refused : ℕ → Bool
-is_refused c = c == 0x7F || (((nat_le 0x80 c && nat_le c 0x9F) && not (c == 0x85))
+is_refused c = c == ascii.delete
+    || (((nat_le 0x80 c && nat_le c 0x9F) && not (c == points.next_line))
     || (c == 0xFFFE || c == 0xFFFF))
 
 -- NEL, LS and PS: as they are they end lines, which are folded
 abbrev pub ends_line : ℕ → Bool
-ends_line c = c == 0x85 || (c == 0x2028 || c == 0x2029)
+ends_line c =
+    c == points.next_line || (c == points.line_separator || c == points.paragraph_separator)
 
 -- half of a character beyond U+FFFF
 abbrev pub is_surrogate : ℕ → Bool

@@ -57,14 +57,15 @@ fraction_bytes (Some digits) = ascii.dot ∷ digits
 
 abbrev pub exponent_bytes : Option Exponent → List ℕ
 exponent_bytes None = []
-exponent_bytes (Some e) = (if e.capital then 69 else 101) ∷ (sign_bytes e.sign ++ e.digits)
+exponent_bytes (Some e) = (if e.capital then ascii.capital_e else ascii.small_e)
+    ∷ (sign_bytes e.sign ++ e.digits)
 
 abbrev pub number_bytes : Number → List ℕ
 number_bytes n = sign_bytes (if n.negative then minus else no_sign)
     ++ (n.whole ++ (fraction_bytes n.fraction ++ exponent_bytes n.exponent))
 
 abbrev pub is_digit : ℕ → Bool
-is_digit b = nat_le 48 b && nat_le b 57
+is_digit b = nat_le ascii.digit_zero b && nat_le b ascii.digit_nine
 
 -- one digit at least
 abbrev pub are_digits : List ℕ → Bool
@@ -75,7 +76,7 @@ are_digits (d ∷ ds) = is_digit d && list_all is_digit ds
 abbrev pub is_whole : List ℕ → Bool
 is_whole [] = false
 is_whole (d ∷ []) = is_digit d
-is_whole (d ∷ e ∷ ds) = (is_digit d && not (d == 48)) && list_all is_digit (e ∷ ds)
+is_whole (d ∷ e ∷ ds) = (is_digit d && not (d == ascii.digit_zero)) && list_all is_digit (e ∷ ds)
 
 abbrev pub IsFraction : Option (List ℕ) → Type 0
 IsFraction None = Unit {0}
@@ -103,24 +104,24 @@ pub data Short : Type 0 where
 
 -- `" \ / b f n r t`
 abbrev pub short_byte : Short → ℕ
-short_byte quote = 34
-short_byte backslash = 92
-short_byte slash = 47
-short_byte backspace = 98
-short_byte form_feed = 102
-short_byte line_feed = 110
-short_byte carriage_return = 114
-short_byte tab = 116
+short_byte quote = ascii.quote
+short_byte backslash = ascii.backslash
+short_byte slash = ascii.slash
+short_byte backspace = ascii.small_b
+short_byte form_feed = ascii.small_f
+short_byte line_feed = ascii.small_n
+short_byte carriage_return = ascii.small_r
+short_byte tab = ascii.small_t
 
 abbrev pub short_means : Short → ℕ
-short_means quote = 34
-short_means backslash = 92
-short_means slash = 47
-short_means backspace = 8
-short_means form_feed = 12
-short_means line_feed = 10
-short_means carriage_return = 13
-short_means tab = 9
+short_means quote = ascii.quote
+short_means backslash = ascii.backslash
+short_means slash = ascii.slash
+short_means backspace = ascii.backspace
+short_means form_feed = ascii.form_feed
+short_means line_feed = ascii.line_feed
+short_means carriage_return = ascii.carriage_return
+short_means tab = ascii.tab
 
 -- a hexadecimal digit below 16, whose letter is a capital or not
 pub record HexDigit : Type 0 where
@@ -128,8 +129,8 @@ pub record HexDigit : Type 0 where
   pub capital : Bool
 
 abbrev pub hex_byte : HexDigit → ℕ
-hex_byte d = if nat_lt d.value 10 then d.value + 48
-    else if d.capital then d.value + 55 else d.value + 87
+hex_byte d = if nat_lt d.value 10 then d.value + ascii.digit_zero
+    else if d.capital then d.value + ascii.capital_digit else d.value + ascii.small_digit
 
 -- A character of a string: as it is, behind a backslash, or behind `\u` by four digits.
 pub data Letter : Type 0 where
@@ -145,7 +146,7 @@ abbrev pub letter_bytes : Letter → List ℕ
 letter_bytes (raw c) = encode_utf8 c
 letter_bytes (short s) = ascii.backslash ∷ short_byte s ∷ []
 letter_bytes (coded a b c d) =
-    ascii.backslash ∷ 117 ∷ hex_byte a ∷ hex_byte b ∷ hex_byte c ∷ hex_byte d ∷ []
+    ascii.backslash ∷ ascii.small_u ∷ hex_byte a ∷ hex_byte b ∷ hex_byte c ∷ hex_byte d ∷ []
 
 abbrev pub letters_bytes : List Letter → List ℕ
 letters_bytes [] = []
@@ -157,7 +158,7 @@ string_bytes ls = ascii.quote ∷ (letters_bytes ls ++ ascii.quote ∷ [])
 -- from U+0020 on, but `"` and the backslash
 abbrev pub IsLetter : Letter → Type 0
 IsLetter (raw c) =
-    (scalar c && (nat_le 32 c && not (c == ascii.quote || c == ascii.backslash))) ≡ true
+    (scalar c && (nat_le ascii.space c && not (c == ascii.quote || c == ascii.backslash))) ≡ true
 IsLetter (short s) = Unit {0}
 IsLetter (coded a b c d) = (a.value < 16) × (b.value < 16) × (c.value < 16) × (d.value < 16)
 

@@ -26,7 +26,7 @@ chomp_of b =
 
 -- the digit's value, or 0
 unfoldable pub digit_of : ℕ → ℕ
-digit_of b = if is_digit_byte b then b - 48 else 0
+digit_of b = if is_digit_byte b then b - ascii.digit_zero else 0
 
 -- the place where a digit can stand, behind a chomping indicator there
 abbrev pub digit_place : List ℕ → ℕ → ℕ
@@ -55,7 +55,7 @@ header_end text p = past_comment text
 -- the header whose indicator stands before the place
 unfoldable pub header_at : List ℕ → ℕ → Result HeaderText Wrong
 header_at text p =
-    if byte text (digit_place text p) == 48
+    if byte text (digit_place text p) == ascii.digit_zero
     then Err (in_block problems.ZeroIndentation (digit_place text p))
     else if is_text text (header_end text p)
     then Err (in_block problems.NoCommentOrBreak (header_end text p))

@@ -1,6 +1,7 @@
 //! Block scalars (YAML 1.1, section 9.2).
 
 ghost use Rattle.std.specs.Prelude.{◌≡◌, ◌+◌, ◌<◌, ◌≤◌, ◌⊎◌, suc, length, if◌then◌else◌};
+ghost use Rattle.yaml_scan_model.specs.Ascii as ascii;
 ghost use Rattle.yaml_scan_model.specs.Marks.{byte};
 ghost use Rattle.yaml_scan_model.specs.declared.name.yaml_scalar_style_t.TheVariants as styles;
 ghost use Rattle.yaml_scan_block.specs.Block as spec;
@@ -25,8 +26,8 @@ pub struct Block {
 /// The block scalar whose indicator stands here. The level is the column of the innermost open block level and one, or 0
 /// where none is open. The reader is left where the scalar's lines stop, behind spaces that may follow its end.
 pub fn block_scalar(alloc: Global, reader: &mut Reader, level: u64) -> Result<Block, ScanError>
-    requires indicator { (byte reader.old.text reader.old.at ≡ 124)
-        ⊎ (byte reader.old.text reader.old.at ≡ 62) }
+    requires indicator { (byte reader.old.text reader.old.at ≡ ascii.bar)
+        ⊎ (byte reader.old.text reader.old.at ≡ ascii.greater) }
     requires level { level ≤ length reader.old.text + 1 }
     ensures { ReadsBlock reader.old.text reader.old.at reader.new result
         (spec.block_at level reader.old.text reader.old.at) }

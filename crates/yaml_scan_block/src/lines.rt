@@ -1,6 +1,7 @@
 //! The lines of block scalars (YAML 1.1, sections 9.2.2 and 9.2.3).
 
 ghost use Rattle.std.specs.Prelude.{◌≡◌, ◌+◌, ◌-◌, ◌≤◌, ◌&&◌, ◌==◌, nat_lt, ℕ, suc, length};
+ghost use Rattle.yaml_scan_model.specs.Ascii as ascii;
 ghost use Rattle.yaml_scan_model.specs.Marks.{byte, column_at};
 ghost use Rattle.yaml_scan_block.specs.Lines as spec;
 ghost use Rattle.yaml_scan_block.specs.Block.{block_with};
@@ -63,7 +64,7 @@ fn indent(reader: &mut Reader, column: u64)
 
 /// Whether a space stands here, before the column.
 fn is_space_before(reader: &Reader, column: u64) -> bool
-    ensures { result ≡ (byte reader.now.text reader.now.at == 32
+    ensures { result ≡ (byte reader.now.text reader.now.at == ascii.space
         && nat_lt (column_at reader.now.text reader.now.at) column) }
 {
     reader.here() == b' ' && reader.mark().column < column
@@ -71,7 +72,7 @@ fn is_space_before(reader: &Reader, column: u64) -> bool
 
 /// Whether a tab stands here, before the column.
 fn is_tab_before(reader: &Reader, column: u64) -> bool
-    ensures { result ≡ (byte reader.now.text reader.now.at == 9
+    ensures { result ≡ (byte reader.now.text reader.now.at == ascii.tab
         && nat_lt (column_at reader.now.text reader.now.at) column) }
 {
     reader.here() == b'\t' && reader.mark().column < column

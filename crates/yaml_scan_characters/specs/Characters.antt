@@ -1,5 +1,7 @@
 -- What stands at a place of the bytes: a character, or an offence.
 use Rattle.std.specs.Prelude.{ℕ, ℤ, pos, negsuc, ◌+◌, ◌-◌, ◌*◌, Bool, not, ◌&&◌, ◌||◌, ◌==◌, nat_lt, nat_le, if◌then◌else◌, List, length, Result, Ok, Err}
+use Rattle.yaml_scan_model.specs.Ascii as ascii
+use Rattle.yaml_scan_model.specs.Points as points
 use Rattle.yaml_scan_model.specs.declared.name.yaml_encoding_t.{yaml_encoding_t}
 use Rattle.yaml_scan_model.specs.declared.name.yaml_encoding_t.TheVariants.{YAML_ANY_ENCODING, YAML_UTF8_ENCODING, YAML_UTF16LE_ENCODING, YAML_UTF16BE_ENCODING}
 use Rattle.yaml_scan_model.specs.Marks.{byte}
@@ -18,9 +20,10 @@ between first last c = nat_le first c && nat_le c last
 -- a stream may hold the character (YAML 1.1, 5.1)
 unfoldable pub is_allowed : ℕ → Bool
 is_allowed c =
-    (c == 0x09 || (c == 0x0A || c == 0x0D))
-    || (between 0x20 0x7E c || (c == 0x85
-    || (between 0xA0 0xD7FF c || (between 0xE000 0xFFFD c || between 0x1_0000 0x10_FFFF c))))
+    (c == ascii.tab || (c == ascii.line_feed || c == ascii.carriage_return))
+    || (between ascii.space ascii.tilde c || (c == points.next_line
+    || (between points.no_break_space 0xD7FF c
+    || (between 0xE000 0xFFFD c || between 0x1_0000 0x10_FFFF c))))
 
 abbrev pub is_low_surrogate : ℕ → Bool
 is_low_surrogate c = between 0xDC00 0xDFFF c

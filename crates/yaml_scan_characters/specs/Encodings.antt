@@ -1,18 +1,19 @@
 -- The encoding of a stream, and the byte order mark that is removed (YAML 1.1, 5.2).
-use Rattle.std.specs.Prelude.{ℕ, Bool, ◌||◌, if◌then◌else◌, List, [], ◌∷◌, nat_eq}
+use Rattle.std.specs.Prelude.{ℕ, Bool, ◌||◌, if◌then◌else◌, List, nat_eq}
 use Rattle.std.specs.List.{starts_with}
+use Rattle.yaml_scan_model.specs.Points as points
 use Rattle.yaml_scan_model.specs.declared.name.yaml_encoding_t.{yaml_encoding_t}
 use Rattle.yaml_scan_model.specs.declared.name.yaml_encoding_t.TheVariants.{YAML_ANY_ENCODING, YAML_UTF8_ENCODING, YAML_UTF16LE_ENCODING, YAML_UTF16BE_ENCODING}
 
 -- U+FEFF in UTF-16, the low byte first, in UTF-16, the high byte first, and in UTF-8
 abbrev pub begins_low_first : List ℕ → Bool
-begins_low_first bytes = starts_with nat_eq bytes (0xFF ∷ 0xFE ∷ [])
+begins_low_first bytes = starts_with nat_eq bytes points.byte_order_mark_low_first
 
 abbrev pub begins_high_first : List ℕ → Bool
-begins_high_first bytes = starts_with nat_eq bytes (0xFE ∷ 0xFF ∷ [])
+begins_high_first bytes = starts_with nat_eq bytes points.byte_order_mark_high_first
 
 abbrev pub begins_utf8 : List ℕ → Bool
-begins_utf8 bytes = starts_with nat_eq bytes (0xEF ∷ 0xBB ∷ 0xBF ∷ [])
+begins_utf8 bytes = starts_with nat_eq bytes points.byte_order_mark_utf8
 
 -- the encoding of the bytes: the set one, else the one that a mark tells, else UTF-8
 unfoldable pub encoding_of : yaml_encoding_t → List ℕ → yaml_encoding_t

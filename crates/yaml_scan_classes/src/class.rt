@@ -1,6 +1,7 @@
 //! The classes of bytes: what stands at a place of a text. A place from the text's length on is past its end.
 
 ghost use Rattle.std.specs.Prelude.{◌≡◌, ◌+◌, ◌-◌, ◌<◌, pos, length, true};
+ghost use Rattle.yaml_types.specs.Ascii as ascii;
 ghost use Rattle.yaml_types.specs.Marks.{byte, break_width};
 ghost use Rattle.yaml_types.specs.Classes.{is_alpha, is_digit, is_hex, is_ascii, is_bom, is_space, is_tab, is_blank, is_break, is_crlf, is_z, is_breakz, is_blankz, is_printable, width, hex_value_of};
 ghost use Rattle.yaml_types.specs.Classes.{is_alpha_byte, is_digit_byte, is_hex_byte, is_special, is_printable_by, width_of};
@@ -79,7 +80,7 @@ fn hex_digit_of(byte: u8) -> u8
 #[tactic(auto, unfolding(yaml_types::specs::Classes::is_digit_byte))]
 pub fn AS_DIGIT(string: &[u8], place: usize) -> i32
     requires { is_digit string.now place ≡ true }
-    ensures { result ≡ pos (byte string.now place - 48) }
+    ensures { result ≡ pos (byte string.now place - ascii.digit_zero) }
 {
     i32::from(byte_here(string, place) - b'0')
 }

@@ -1,6 +1,6 @@
 -- Lexemes, and what earlier ones decide. A history has the newest lexeme first, so that to look back is to go
 -- down the list.
-use Rattle.std.specs.Prelude.{ℕ, zero, suc, ◌+◌, ◌-◌, Bool, true, false, not, ◌&&◌, ◌||◌, ◌==◌, nat_lt, nat_le, if◌then◌else◌, List, [], ◌∷◌, ◌++◌, length, filter, Option, Some, None}
+use Rattle.std.specs.Prelude.{ℕ, zero, suc, ◌+◌, ◌-◌, ◌*◌, Bool, true, false, not, ◌&&◌, ◌||◌, ◌==◌, nat_lt, nat_le, if◌then◌else◌, List, [], ◌∷◌, ◌++◌, length, filter, Option, Some, None}
 use Rattle.yaml_scan_model.specs.declared.record.yaml_mark_t.{yaml_mark_t}
 use Rattle.yaml_scan_model.specs.Tokens.{zero_mark}
 use Rattle.yaml_scan_history.specs.declared.kind.Kind.{Kind}
@@ -47,6 +47,13 @@ candidate d (l ∷ h) =
 -- how many bytes behind its start a key's `:` may stand
 abbrev pub key_bytes : ℕ
 key_bytes = 1024
+
+-- how many lexemes wait at most, and in how many slots
+abbrev pub most_waiting : ℕ
+most_waiting = key_bytes + 1
+
+abbrev pub most_slots : ℕ
+most_slots = 2 * key_bytes + 1
 
 -- the place is on its line and within `key_bytes` of the start
 abbrev pub is_fresh : yaml_mark_t → yaml_mark_t → Bool

@@ -14,7 +14,7 @@ use Rattle.yaml_scan_block.specs.Unbounded.{EndsBlockRun, IsTabbed}
 use Rattle.yaml_scan_words.specs.Anchors.{may_end_name}
 use Rattle.yaml_scan_words.specs.Uris.{UriSpot, Spells, Ends, Faulty, octet_at, spot_at, uri_at, some_uri_at}
 use Rattle.yaml_scan_words.specs.Tags.{TagText, parts_at, may_end_tag}
-use Rattle.yaml_scan_words.specs.Directives.{is_yaml, is_tag, value_at, ValueText, handle_at, comment_end}
+use Rattle.yaml_scan_words.specs.Directives.{is_yaml, is_tag, value_at, ValueText, handle_at, comment_end, most_digits}
 use Rattle.yaml_scan_scalars.specs.Quoted.{QuotedSpot, Bad, standing_at, hex_len, hex_value, is_scalar, simple_escape}
 use Rattle.yaml_scan_scalars.specs.Quoted as quoted
 use Rattle.yaml_scan_scalars.specs.Plain as plain
@@ -130,12 +130,12 @@ pub record DirectivesAreTold : Type 0 where
       → IsTold (word_at kinds.Directive flow level text p)
       (codes "while scanning a %YAML directive") (codes "did not find expected version number") r
   pub long_number : (flow : Bool) (level : ℕ) (text : List ℕ) (p r e : ℕ)
-      → IsYaml text p r → EndsBlockRun is_digit text r e → r + 9 < e
+      → IsYaml text p r → EndsBlockRun is_digit text r e → r + most_digits < e
       → IsTold (word_at kinds.Directive flow level text p)
       (codes "while scanning a %YAML directive") (codes "found extremely long version number")
-      (r + 9)
+      (r + most_digits)
   pub no_dot : (flow : Bool) (level : ℕ) (text : List ℕ) (p r e : ℕ)
-      → IsYaml text p r → EndsBlockRun is_digit text r e → r < e → e ≤ r + 9
+      → IsYaml text p r → EndsBlockRun is_digit text r e → r < e → e ≤ r + most_digits
       → byte text e ≢ ascii.dot
       → IsTold (word_at kinds.Directive flow level text p)
       (codes "while scanning a %YAML directive")
@@ -195,15 +195,15 @@ pub record QuotesAreTold : Type 0 where
   -- behind the `\` a letter that means nothing, fewer digits than it needs, or the code of no character
   pub letter : (text : List ℕ) (p : ℕ) → IsEscape text p → hex_len (byte text (p + 1)) ≡ 0
       → simple_escape (byte text (p + 1)) ≡ None
-      → IsStandingTold (standing_at 34 text p) (codes "while parsing a quoted scalar")
+      → IsStandingTold (standing_at ascii.quote text p) (codes "while parsing a quoted scalar")
       (codes "found unknown escape character") p
   pub digits : (text : List ℕ) (p : ℕ) → IsEscape text p → 0 < hex_len (byte text (p + 1))
       → hex_value text (p + 2) (hex_len (byte text (p + 1))) ≡ None
-      → IsStandingTold (standing_at 34 text p) (codes "while parsing a quoted scalar")
+      → IsStandingTold (standing_at ascii.quote text p) (codes "while parsing a quoted scalar")
       (codes "did not find expected hexdecimal number") (p + 2)
   pub code : (text : List ℕ) (p c : ℕ) → IsEscape text p → 0 < hex_len (byte text (p + 1))
       → hex_value text (p + 2) (hex_len (byte text (p + 1))) ≡ Some c → is_scalar c ≡ false
-      → IsStandingTold (standing_at 34 text p) (codes "while parsing a quoted scalar")
+      → IsStandingTold (standing_at ascii.quote text p) (codes "while parsing a quoted scalar")
       (codes "found invalid Unicode character escape code") (p + 2)
 
 -- ---- plain scalars
@@ -231,11 +231,11 @@ pub record PlainsAreTold : Type 0 where
 
 pub record BlocksAreTold : Type 0 where
   -- a `0` where the header has its digit
-  pub zero_digit : (text : List ℕ) (p : ℕ) → byte text (digit_place text p) ≡ 48
+  pub zero_digit : (text : List ℕ) (p : ℕ) → byte text (digit_place text p) ≡ ascii.digit_zero
       → IsTold (header_at text p) (codes "while scanning a block scalar")
       (codes "found an indentation indicator equal to 0") (digit_place text p)
   -- something else than a comment behind it
-  pub comment : (text : List ℕ) (p : ℕ) → byte text (digit_place text p) ≢ 48
+  pub comment : (text : List ℕ) (p : ℕ) → byte text (digit_place text p) ≢ ascii.digit_zero
       → is_text text (header_end text p) ≡ true
       → IsTold (header_at text p) (codes "while scanning a block scalar")
       (codes "did not find expected comment or line break") (header_end text p)

@@ -1,7 +1,7 @@
 -- What is known of the lexemes of every text.
 use Rattle.std.specs.Prelude.{ℕ, suc, ◌+◌, ◌≡◌, ◌≢◌, ◌<◌, ◌≤◌, Some, List, ◌++◌, length, take}
 use Rattle.yaml_scan_history.specs.declared.lexeme.Lexeme.{Lexeme}
-use Rattle.yaml_scan_history.specs.History.{key_bytes, reached, Candidate, candidate, fresh, entries, first_open}
+use Rattle.yaml_scan_history.specs.History.{key_bytes, most_waiting, reached, Candidate, candidate, fresh, entries, first_open}
 use Rattle.yaml_scan_history.specs.Next.{Read, next, history}
 use Rattle.yaml_scan_history.specs.Remaining.{all, handed}
 use Rattle.yaml_scan_history.specs.Laws as layout
@@ -60,12 +60,12 @@ HeldIsShort = (text : List ℕ) (n : ℕ) → first_open (history text n) (histo
 -- At most 1,025 lexemes stand from the earliest open candidate on.
 abbrev pub FewAreHeld : Type 0
 FewAreHeld = (text : List ℕ) (n : ℕ) → length (history text n) ≤ first_open (history text n)
-    (history text n) + 1025
+    (history text n) + most_waiting
 
 -- At most 1,024 of them wait where one more is read.
 abbrev pub FewWait : Type 0
 FewWait = (text : List ℕ) (n : ℕ) (l : Lexeme) → next text (history text n) ≡ Read l
-    → length (history text n) ≤ first_open (history text n) (history text n) + 1024
+    → length (history text n) ≤ first_open (history text n) (history text n) + key_bytes
 
 -- An open candidate outside all brackets is the earliest open one.
 abbrev pub OuterIsFirst : Type 0

@@ -55,7 +55,8 @@ pub record MarksCome : Type 0 where
 -- With a printed ASCII character that isn't `#` a lexeme begins.
 abbrev pub PrintedBegins : Type 0
 PrintedBegins =
-    (text : List ℕ) (p b : ℕ) → byte text p ≡ b → 32 < b → b < 127 → (b ≡ ascii.hash → ⊥)
+    (text : List ℕ) (p b : ℕ) → byte text p ≡ b → ascii.space < b → b < ascii.delete
+    → (b ≡ ascii.hash → ⊥)
     → begins_lexeme text p ≡ true
 
 -- what reads the level that it stands in

@@ -95,5 +95,6 @@ WhiteColumns = (text : List ℕ) (p : ℕ) (gap : List ℕ) → IsGap text p gap
 
 -- A printed ASCII character takes one column, on its line.
 abbrev pub LetterColumns : Type 0
-LetterColumns = (text : List ℕ) (p b : ℕ) → byte text p ≡ b → 31 < b → b < 127
+LetterColumns = (text : List ℕ) (p b : ℕ) → byte text p ≡ b → ascii.unit_separator < b
+    → b < ascii.delete
     → (column_at text (p + 1) ≡ column_at text p + 1) × (line_at text (p + 1) ≡ line_at text p)

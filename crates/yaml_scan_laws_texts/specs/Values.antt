@@ -6,7 +6,9 @@ use Rattle.yaml_scan_laws_order.specs.scan_model.Ascii as ascii
 -- 0-9 A-Z a-z
 unfoldable pub is_letter_or_digit : ℕ → Bool
 is_letter_or_digit b =
-    (nat_le 48 b && nat_le b 57) || ((nat_le 65 b && nat_le b 90) || (nat_le 97 b && nat_le b 122))
+    (nat_le ascii.digit_zero b && nat_le b ascii.digit_nine)
+    || ((nat_le ascii.capital_a b && nat_le b ascii.capital_z)
+    || (nat_le ascii.small_a b && nat_le b ascii.small_z))
 
 -- 0-9 A-Z a-z + - .
 unfoldable pub is_value_byte : ℕ → Bool

@@ -10,7 +10,7 @@ use Rattle.yaml_scan_words.specs.Written.{HasAt, are_alphas, UriPiece, uri_text,
 -- `%YAML 1.` and a digit, before a break: the directive takes the break with it
 abbrev pub VersionReads : Type 0
 VersionReads = (text : List ℕ) (p minor : ℕ) → minor < 10
-    → HasAt text p (codes "%YAML 1." ++ ((48 + minor) ∷ [])) → is_break text (p + 9) ≡ true
+    → HasAt text p (codes "%YAML 1." ++ ((ascii.digit_zero + minor) ∷ [])) → is_break text (p + 9) ≡ true
     → directive_at text p
     ≡ Ok record { said = version 1 minor; end = p + 9; place = p + 9 + break_width text (p + 9) }
 

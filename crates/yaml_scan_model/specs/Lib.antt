@@ -6,6 +6,8 @@ pub use Rattle.yaml_types.specs.Ends
 pub use Rattle.yaml_types.specs.Rooms
 pub use Rattle.yaml_types.specs.Widths
 pub use Rattle.yaml_types.specs.Ascii
+pub use Rattle.yaml_types.specs.Points
+pub use Rattle.yaml_types.specs.Indents
 pub mod Problems
 pub mod Breaks
 pub mod Runs

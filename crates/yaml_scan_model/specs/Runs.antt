@@ -32,7 +32,7 @@ line_end text p = past is_text (length text) text p
 
 -- a printed character of ASCII, or a space
 abbrev pub is_printed : ℕ → Bool
-is_printed b = nat_lt 31 b && nat_lt b 127
+is_printed b = nat_lt ascii.unit_separator b && nat_lt b ascii.delete
 
 -- the n bytes there are such
 unfoldable pub are_printed : ℕ → List ℕ → ℕ → Bool

@@ -1,6 +1,7 @@
 //! Runs of bytes of one kind.
 
 ghost use Rattle.std.specs.Prelude.{◌≡◌, ◌≤◌, ◌<◌, ℕ, true, false, length};
+ghost use Rattle.yaml_scan_model.specs.Ascii as ascii;
 ghost use Rattle.yaml_scan_model.specs.Marks.{byte};
 ghost use Rattle.yaml_scan_model.specs.Marks.{byte};
 ghost use Rattle.yaml_scan_model.specs.Runs as spec;
@@ -63,8 +64,9 @@ pub fn skip_text(reader: &mut Reader)
 #[inline(always)]
 pub fn leap(reader: &mut Reader, end: usize)
     requires forward { reader.old.at ≤ end }
-    requires low { (k : ℕ) → reader.old.at ≤ k → k < end → 31 < byte reader.old.text k }
-    requires high { (k : ℕ) → reader.old.at ≤ k → k < end → byte reader.old.text k < 127 }
+    requires low { (k : ℕ) → reader.old.at ≤ k → k < end
+        → ascii.unit_separator < byte reader.old.text k }
+    requires high { (k : ℕ) → reader.old.at ≤ k → k < end → byte reader.old.text k < ascii.delete }
     ensures { reader.new ≡ record { text = reader.old.text; at = end } }
 {
     let here = reader.stop();

@@ -44,7 +44,7 @@ pub record IsRun (text : List ℕ) (p : ℕ) (place : Place) : Type 0 where
 
 -- a byte of a run as a piece
 abbrev pub piece_of : ℕ → Piece
-piece_of b = if b == 32 then Blank b else Kept (b ∷ [])
+piece_of b = if b == ascii.space then Blank b else Kept (b ∷ [])
 
 -- each of the bytes as a piece
 abbrev pub run_pieces : List ℕ → List Piece
@@ -54,12 +54,12 @@ run_pieces (b ∷ bs) = piece_of b ∷ run_pieces bs
 -- the first byte is no space
 abbrev pub starts_kept : List ℕ → Bool
 starts_kept [] = true
-starts_kept (b ∷ bs) = not (b == 32)
+starts_kept (b ∷ bs) = not (b == ascii.space)
 
 -- the last byte is no space
 abbrev pub ends_kept : List ℕ → Bool
 ends_kept [] = true
-ends_kept (b ∷ []) = not (b == 32)
+ends_kept (b ∷ []) = not (b == ascii.space)
 ends_kept (b ∷ c ∷ bs) = ends_kept (c ∷ bs)
 
 -- the bytes of a run up to the place are taken; `old` and `new` give the value when pieces follow

@@ -70,8 +70,8 @@ spot_at flow level text p =
     else Takes (Blank (byte text p)) (p + 1))
     else if ends_at flow level text p then Ends
     else if flow && (byte text p == ascii.colon
-    && (is_bracket (byte text (p + 1)) || byte text (p + 1)
-    == 63)) then in_plain problems.UnexpectedColon p
+    && (is_bracket (byte text (p + 1)) || byte text (p + 1) == ascii.question))
+    then in_plain problems.UnexpectedColon p
     else Takes (Kept (byte text p ∷ [])) (p + 1)
 
 -- What follows a place inside the scalar: the pieces up to its last character, the place after that

@@ -1,6 +1,7 @@
 -- Double and single quoted scalars.
 use Rattle.std.specs.Prelude.{ℕ, zero, suc, ◌+◌, ◌*◌, ◌-◌, Bool, ◌&&◌, ◌||◌, ◌==◌, nat_lt, nat_le, if◌then◌else◌, List, [], ◌∷◌, ◌++◌, length, Option, Some, None, option_and_then, option_map, Result, Ok, Err, encode_utf8}
 use Rattle.yaml_scan_model.specs.Ascii as ascii
+use Rattle.yaml_scan_model.specs.Points as points
 use Rattle.yaml_scan_model.specs.declared.problem.Problem.{Problem}
 use Rattle.yaml_scan_model.specs.declared.problem.Problem.TheVariants as problems
 use Rattle.yaml_scan_model.specs.declared.problem.Context.TheVariants as contexts
@@ -29,8 +30,8 @@ in_escape problem p = Bad record {
 unfoldable pub hex_digit : ℕ → Option ℕ
 hex_digit b =
     if nat_le ascii.digit_zero b && nat_le b ascii.digit_nine then Some (b - ascii.digit_zero)
-    else if nat_le ascii.capital_a b && nat_le b ascii.capital_f then Some (b - 55)
-    else if nat_le ascii.small_a b && nat_le b ascii.small_f then Some (b - 87)
+    else if nat_le ascii.capital_a b && nat_le b ascii.capital_f then Some (b - ascii.capital_digit)
+    else if nat_le ascii.small_a b && nat_le b ascii.small_f then Some (b - ascii.small_digit)
     else None
 
 -- the number that n hexadecimal digits spell, or none where one of them is no digit
@@ -67,10 +68,10 @@ simple_escape b =
     else if b == ascii.small_e then Some (ascii.escape ∷ [])
     else if b == ascii.space || (b == ascii.quote || (b == ascii.slash || b == ascii.backslash))
     then Some (b ∷ [])
-    else if b == ascii.capital_n then Some (0xC2 ∷ 0x85 ∷ [])
-    else if b == ascii.underscore then Some (0xC2 ∷ 0xA0 ∷ [])
-    else if b == ascii.capital_l then Some (0xE2 ∷ 0x80 ∷ 0xA8 ∷ [])
-    else if b == ascii.capital_p then Some (0xE2 ∷ 0x80 ∷ 0xA9 ∷ [])
+    else if b == ascii.capital_n then Some points.next_line_utf8
+    else if b == ascii.underscore then Some points.no_break_space_utf8
+    else if b == ascii.capital_l then Some points.line_separator_utf8
+    else if b == ascii.capital_p then Some points.paragraph_separator_utf8
     else None
 
 abbrev pub escaped : ℕ → Option (List ℕ) → QuotedSpot

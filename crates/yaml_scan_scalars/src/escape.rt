@@ -1,6 +1,7 @@
 //! Escapes in double quoted scalars (YAML 1.1, section 5.6).
 
 ghost use Rattle.std.specs.Prelude.{◌≡◌, ◌+◌, ◌<◌, ◌≤◌, ℕ, length, option_map, IfSome, IsSome};
+ghost use Rattle.yaml_scan_model.specs.Ascii as ascii;
 ghost use Rattle.yaml_scan_model.specs.Marks.{byte, break_of};
 ghost use Rattle.yaml_scan_scalars.specs.Quoted as spec;
 ghost use Rattle.yaml_scan_scalars.specs.Readings.{Took};
@@ -29,7 +30,7 @@ pub(crate) fn escape(
     folding: &mut Folding,
     start: yaml_mark_t,
 ) -> Result<bool, ScanError>
-    requires { byte reader.old.text reader.old.at ≡ 92 }
+    requires { byte reader.old.text reader.old.at ≡ ascii.backslash }
     ensures { Took reader.old.text start reader.old.at (resume folding.old) (resume folding.new)
         reader.new result (spec.escape_at reader.old.text reader.old.at) }
 {

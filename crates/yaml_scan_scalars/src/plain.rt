@@ -1,6 +1,7 @@
 //! Plain scalars (YAML 1.1, section 9.1.3).
 
 ghost use Rattle.std.specs.Prelude.{◌≡◌, ◌+◌, ◌-◌, ◌||◌, ◌&&◌, ◌==◌, nat_lt, ◌<◌, ◌≤◌, ℕ, suc, true, false, [], length, OnOk, Ok};
+ghost use Rattle.yaml_scan_model.specs.Ascii as ascii;
 ghost use Rattle.yaml_scan_model.specs.Spares.{HoldsAt};
 ghost use Rattle.yaml_scan_model.specs.Marks.{byte, break_width, ends_break, is_blank, is_blank_or_end, mark_at};
 ghost use Rattle.yaml_scan_scalars.specs.Plain as spec;
@@ -137,7 +138,7 @@ fn passes_line(reader: &mut Reader, level: u64) -> bool
 // Inlined: two additions. A reader that is lent to a call out of line lies in memory.
 #[inline(always)]
 fn pass_feed(reader: &mut Reader)
-    requires { byte reader.old.text reader.old.at ≡ 10 }
+    requires { byte reader.old.text reader.old.at ≡ ascii.line_feed }
     ensures { reader.new ≡ record {
       text = reader.old.text;
       at = reader.old.at + break_width reader.old.text reader.old.at;
@@ -157,7 +158,7 @@ fn pass_feed(reader: &mut Reader)
 
 /// Whether the byte is surely no white, no break and no comment's sign.
 fn begins_word(byte: u8) -> bool
-    ensures low { result ≡ true → 33 < byte }
+    ensures low { result ≡ true → ascii.exclamation < byte }
     ensures high { result ≡ true → byte < 128 }
 {
     byte > b'#' && byte < 128 || byte == b'"'
@@ -346,14 +347,15 @@ fn is_bracket(byte: u8) -> bool
 
 /// Whether the byte is a tab in the indentation.
 fn is_bad_tab(byte: u8, broke: bool, column: u64, level: u64) -> bool
-    ensures { result ≡ (byte == 9 && (broke && nat_lt column level)) }
+    ensures { result ≡ (byte == ascii.tab && (broke && nat_lt column level)) }
 {
     byte == b'\t' && broke && column < level
 }
 
 /// Whether the byte is a colon that cannot stand in flow context before the next one.
 fn is_bad_colon(flow: bool, byte: u8, next: u8) -> bool
-    ensures { result ≡ (flow && (byte == 58 && (spec.is_bracket next || next == 63))) }
+    ensures { result ≡ (flow
+        && (byte == ascii.colon && (spec.is_bracket next || next == ascii.question))) }
 {
     flow && byte == b':' && (is_bracket(next) || next == b'?')
 }

@@ -1,6 +1,7 @@
 //! Double and single quoted scalars (YAML 1.1, sections 9.1.1 and 9.1.2).
 
 ghost use Rattle.std.specs.Prelude.{◌≡◌, ◌+◌, ◌-◌, ◌<◌, ◌&&◌, ◌==◌, ◌⊎◌, true, false, not, List, ◌++◌, length, OnOk, IfOk};
+ghost use Rattle.yaml_scan_model.specs.Ascii as ascii;
 ghost use Rattle.yaml_scan_model.specs.Spares.{HoldsAt};
 ghost use Rattle.yaml_scan_model.specs.Marks.{byte, mark_at};
 ghost use Rattle.yaml_scan_model.specs.declared.record.yaml_mark_t.{yaml_mark_t};
@@ -24,7 +25,7 @@ use yaml_scan_model::{
 // Inlined into the way of its kind.
 #[inline(always)]
 pub fn double_quoted(spares: &mut Spares, reader: &mut Reader) -> Result<Vec<u8>, ScanError>
-    requires { byte reader.old.text reader.old.at ≡ 34 }
+    requires { byte reader.old.text reader.old.at ≡ ascii.quote }
     ensures { Reads reader.old.text reader.old.at reader.new result
         (spec.double_quoted_at reader.old.text reader.old.at) }
 {
@@ -36,7 +37,7 @@ pub fn double_quoted(spares: &mut Spares, reader: &mut Reader) -> Result<Vec<u8>
 // Inlined into the way of its kind.
 #[inline(always)]
 pub fn single_quoted(spares: &mut Spares, reader: &mut Reader) -> Result<Vec<u8>, ScanError>
-    requires { byte reader.old.text reader.old.at ≡ 39 }
+    requires { byte reader.old.text reader.old.at ≡ ascii.apostrophe }
     ensures { Reads reader.old.text reader.old.at reader.new result
         (spec.single_quoted_at reader.old.text reader.old.at) }
 {
@@ -48,7 +49,7 @@ pub fn single_quoted(spares: &mut Spares, reader: &mut Reader) -> Result<Vec<u8>
 #[inline(always)]
 fn quoted(spares: &mut Spares, reader: &mut Reader, quote: u8) -> Result<Vec<u8>, ScanError>
     requires opened { byte reader.old.text reader.old.at ≡ quote }
-    requires quote { (quote ≡ 34) ⊎ (quote ≡ 39) }
+    requires quote { (quote ≡ ascii.quote) ⊎ (quote ≡ ascii.apostrophe) }
     ensures { Reads reader.old.text reader.old.at reader.new result
         (spec.quoted_at quote reader.old.text reader.old.at) }
 {
@@ -67,8 +68,9 @@ fn quoted(spares: &mut Spares, reader: &mut Reader, quote: u8) -> Result<Vec<u8>
 // Inlined: a look at a byte.
 #[inline(always)]
 fn closes(reader: &Reader, quote: u8) -> bool
-    ensures { result ≡ (byte reader.now.text reader.now.at == quote && not (quote == 39
-        && byte reader.now.text (reader.now.at + 1) == 39)) }
+    ensures { result ≡ (byte reader.now.text reader.now.at == quote
+        && not (quote == ascii.apostrophe
+        && byte reader.now.text (reader.now.at + 1) == ascii.apostrophe)) }
 {
     reader.here() == quote && !is_doubled(quote, reader.byte(1))
 }
@@ -83,8 +85,8 @@ fn one_run(
     from: usize,
     bytes: &[u8],
 ) -> Result<Vec<u8>, AllocError>
-    requires closing { (byte reader.old.text reader.old.at ≡ 34)
-        ⊎ (byte reader.old.text reader.old.at ≡ 39) }
+    requires closing { (byte reader.old.text reader.old.at ≡ ascii.quote)
+        ⊎ (byte reader.old.text reader.old.at ≡ ascii.apostrophe) }
     requires stands { HoldsAt reader.old.text from bytes.now }
     ensures value { IfOk result (λ v. v.items ≡ bytes.now) }
     ensures place { OnOk result (reader.new ≡ record {
@@ -110,7 +112,7 @@ fn many_runs(
     start: yaml_mark_t,
     quote: u8,
 ) -> Result<Vec<u8>, ScanError>
-    requires quote { (quote ≡ 34) ⊎ (quote ≡ 39) }
+    requires quote { (quote ≡ ascii.quote) ⊎ (quote ≡ ascii.apostrophe) }
     requires inside { start.index < length reader.old.text }
     requires start { start ≡ mark_at reader.old.text start.index }
     requires run { IsRun reader.old.text (start.index + 1) reader.old }
@@ -140,7 +142,7 @@ fn fold_runs(
     start: yaml_mark_t,
     quote: u8,
 ) -> Result<Vec<u8>, ScanError>
-    requires quote { (quote ≡ 34) ⊎ (quote ≡ 39) }
+    requires quote { (quote ≡ ascii.quote) ⊎ (quote ≡ ascii.apostrophe) }
     requires inside { start.index < length reader.old.text }
     requires start { start ≡ mark_at reader.old.text start.index }
     requires run { IsRun reader.old.text (start.index + 1) reader.old }
@@ -176,7 +178,7 @@ fn keep_run(reader: &mut Reader, folding: &mut Folding) -> Result<(), AllocError
 /// Whether a space that stands here is kept, or none stands here.
 fn keeps_space(reader: &Reader, folding: &Folding) -> bool
     ensures { result ≡ true → (folding.now.gap ≡ gaps.Line)
-        ⊎ ((byte reader.now.text reader.now.at == 32) ≡ false) }
+        ⊎ ((byte reader.now.text reader.now.at == ascii.space) ≡ false) }
 {
     folding.keeps_blanks() || reader.here() != b' '
 }
@@ -202,7 +204,7 @@ fn piece(
     quote: u8,
     start: yaml_mark_t,
 ) -> Result<bool, ScanError>
-    requires { (quote ≡ 34) ⊎ (quote ≡ 39) }
+    requires { (quote ≡ ascii.quote) ⊎ (quote ≡ ascii.apostrophe) }
     ensures { Took reader.old.text start reader.old.at (resume folding.old) (resume folding.new)
         reader.new result (spec.standing_at quote reader.old.text reader.old.at) }
 {
@@ -249,14 +251,14 @@ fn wrong_scalar(problem: Problem, start: yaml_mark_t, place: yaml_mark_t) -> Sca
 
 /// Whether the byte begins an escape between those quotes.
 fn is_escape(quote: u8, byte: u8) -> bool
-    ensures { result ≡ (quote == 34 && byte == 92) }
+    ensures { result ≡ (quote == ascii.quote && byte == ascii.backslash) }
 {
     quote == b'"' && byte == b'\\'
 }
 
 /// Whether single quotes follow one another.
 fn is_doubled(quote: u8, next: u8) -> bool
-    ensures { result ≡ (quote == 39 && next == 39) }
+    ensures { result ≡ (quote == ascii.apostrophe && next == ascii.apostrophe) }
 {
     quote == b'\'' && next == b'\''
 }
@@ -265,7 +267,7 @@ fn is_doubled(quote: u8, next: u8) -> bool
 #[tactic(auto, unfolding(crate::specs::Quoted::quote_at))]
 fn ending(reader: &mut Reader, folding: &mut Folding, quote: u8) -> Result<bool, ScanError>
     requires opened { byte reader.old.text reader.old.at ≡ quote }
-    requires quote { (quote ≡ 34) ⊎ (quote ≡ 39) }
+    requires quote { (quote ≡ ascii.quote) ⊎ (quote ≡ ascii.apostrophe) }
     ensures { (start : yaml_mark_t) → Took reader.old.text start reader.old.at (resume folding.old)
         (resume folding.new) reader.new result (spec.quote_at quote reader.old.text reader.old.at) }
 {

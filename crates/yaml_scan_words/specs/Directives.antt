@@ -83,6 +83,10 @@ unfoldable pub decimal : List ℕ → ℕ → ℕ → ℕ
 decimal text p zero = 0
 decimal text p (suc n) = decimal text p n * 10 + (byte text (p + n) - ascii.digit_zero)
 
+-- how many digits a version's number has at most
+abbrev pub most_digits : ℕ
+most_digits = 9
+
 -- the number from one place to another
 abbrev pub number_between : List ℕ → ℕ → ℕ → Result (ℕ × ℕ) Wrong
 number_between text p q =
@@ -91,10 +95,10 @@ number_between text p q =
       context = contexts.VersionDirective;
       place = q;
     }
-    else if nat_lt (p + 9) q then Err record {
+    else if nat_lt (p + most_digits) q then Err record {
       problem = problems.LongVersionNumber;
       context = contexts.VersionDirective;
-      place = p + 9;
+      place = p + most_digits;
     }
     else Ok (decimal text p (q - p), q)
 

@@ -31,8 +31,8 @@ is_uri wide text p = is_alpha text p
 unfoldable pub hex_digit : ℕ → Option ℕ
 hex_digit b =
     if nat_le ascii.digit_zero b && nat_le b ascii.digit_nine then Some (b - ascii.digit_zero)
-    else if nat_le ascii.capital_a b && nat_le b ascii.capital_f then Some (b - 55)
-    else if nat_le ascii.small_a b && nat_le b ascii.small_f then Some (b - 87)
+    else if nat_le ascii.capital_a b && nat_le b ascii.capital_f then Some (b - ascii.capital_digit)
+    else if nat_le ascii.small_a b && nat_le b ascii.small_f then Some (b - ascii.small_digit)
     else None
 
 abbrev pub octet_of : Option ℕ → Option ℕ → Option ℕ

@@ -39,7 +39,7 @@ pub data UriPiece : Type 0 where
 
 -- a hexadecimal digit in capitals
 unfoldable pub capital : ℕ → ℕ
-capital d = if nat_lt d 10 then d + 48 else d + 55
+capital d = if nat_lt d 10 then d + ascii.digit_zero else d + ascii.capital_digit
 
 abbrev pub piece_text : UriPiece → List ℕ
 piece_text (raw b) = b ∷ []

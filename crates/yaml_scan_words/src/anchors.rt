@@ -1,6 +1,7 @@
 //! Anchors and aliases.
 
 ghost use Rattle.std.specs.Prelude.{◌≡◌, ◌⊎◌, ◌||◌, ◌==◌, not};
+ghost use Rattle.yaml_scan_model.specs.Ascii as ascii;
 ghost use Rattle.yaml_scan_model.specs.Marks.{byte, mark_at, is_blank_or_end};
 ghost use Rattle.yaml_scan_words.specs.Anchors as spec;
 ghost use Rattle.yaml_scan_words.specs.Readings.{ReadsAs, IsNameWord, behind_bytes};
@@ -16,8 +17,8 @@ use yaml_scan_model::{Context, Problem, Reader, ScanError, Spares, leap, yaml_ma
 // Inlined into its two callers, each a call of its own.
 #[inline(always)]
 pub fn anchor(spares: &mut Spares, reader: &mut Reader, context: Context) -> Result<Word, ScanError>
-    requires { (byte reader.old.text reader.old.at ≡ 38)
-        ⊎ (byte reader.old.text reader.old.at ≡ 42) }
+    requires { (byte reader.old.text reader.old.at ≡ ascii.ampersand)
+        ⊎ (byte reader.old.text reader.old.at ≡ ascii.asterisk) }
     ensures { ReadsAs (IsNameWord reader.old.text reader.old.at) behind_bytes reader.old.text
         (mark_at reader.old.text reader.old.at) reader.new result
         (spec.anchor_at context reader.old.text reader.old.at) }

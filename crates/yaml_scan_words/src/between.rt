@@ -1,6 +1,7 @@
 //! What stands between lexemes: blanks, comments and breaks (YAML 1.1, 5.2, 6.2 and 6.3).
 
 ghost use Rattle.std.specs.Prelude.{◌≡◌, ◌≤◌, ◌<◌, ◌||◌, ◌&&◌, ◌==◌, ◌+◌, nat_lt, not, true, ℕ, length};
+ghost use Rattle.yaml_scan_model.specs.Ascii as ascii;
 ghost use Rattle.yaml_scan_model.specs.Classes.{is_bom};
 ghost use Rattle.yaml_scan_words.specs.Between as spec;
 
@@ -90,7 +91,7 @@ fn pass_one(reader: &mut Reader, tabs: bool) -> GapSpot
 
 /// Whether the byte begins no blank, comment, break or U+FEFF, as nearly all bytes of lexemes.
 fn begins_lexeme(byte: u8) -> bool
-    ensures { result ≡ (nat_lt 32 byte && (nat_lt byte 128 && not (byte == 35))) }
+    ensures { result ≡ (nat_lt ascii.space byte && (nat_lt byte 128 && not (byte == ascii.hash))) }
 {
     byte > b' ' && (byte < 128 && byte != b'#')
 }

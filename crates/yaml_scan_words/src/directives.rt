@@ -1,6 +1,7 @@
 //! Directives.
 
 ghost use Rattle.std.specs.Prelude.{◌≡◌, ◌≢◌, ◌+◌, ◌==◌, ◌&&◌, ◌||◌, true, ℕ, length};
+ghost use Rattle.yaml_scan_model.specs.Ascii as ascii;
 ghost use Rattle.yaml_scan_model.specs.Marks.{byte, break_width, mark_at};
 ghost use Rattle.yaml_scan_words.specs.Directives as spec;
 ghost use Rattle.yaml_scan_words.specs.Readings.{ReadsAs};
@@ -23,7 +24,7 @@ pub(crate) enum DirectiveName {
 ///
 /// Behind it blanks, a comment and the break are passed. The directive's end mark stands behind its value.
 pub fn directive(spares: &mut Spares, reader: &mut Reader) -> Result<DirectiveWord, ScanError>
-    requires { byte reader.old.text reader.old.at ≡ 37 }
+    requires { byte reader.old.text reader.old.at ≡ ascii.percent }
     ensures { ReadsAs (IsDirective reader.old.text reader.old.at) spec.directive_place
         reader.old.text (mark_at reader.old.text reader.old.at) reader.new result
         (spec.directive_at reader.old.text reader.old.at) }
@@ -45,7 +46,7 @@ fn directive_value(
     reader: &mut Reader,
     start: yaml_mark_t,
 ) -> Result<Directive, ScanError>
-    requires { byte reader.old.text reader.old.at ≡ 37 }
+    requires { byte reader.old.text reader.old.at ≡ ascii.percent }
     ensures { ReadsAs IsSaid spec.value_end reader.old.text start reader.new result
         (spec.value_at reader.old.text reader.old.at) }
 {
@@ -57,7 +58,7 @@ fn directive_value(
 
 /// The name behind the `%` that stands here.
 fn directive_name(reader: &mut Reader, start: yaml_mark_t) -> Result<DirectiveName, ScanError>
-    requires { byte reader.old.text reader.old.at ≡ 37 }
+    requires { byte reader.old.text reader.old.at ≡ ascii.percent }
     ensures { ReadsAs IsName spec.name_behind reader.old.text start reader.new result
         (spec.name_at reader.old.text reader.old.at) }
 {

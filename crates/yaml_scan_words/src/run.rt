@@ -1,6 +1,7 @@
 //! Runs of bytes that go together.
 
 ghost use Rattle.std.specs.Prelude.{◌≡◌, ◌+◌, ◌≤◌, ◌<◌, ℕ, true, length, slice_range, IfOk};
+ghost use Rattle.yaml_scan_model.specs.Ascii as ascii;
 ghost use Rattle.yaml_scan_model.specs.Marks.{byte};
 ghost use Rattle.yaml_scan_model.specs.Classes.{is_alpha_byte};
 ghost use Rattle.yaml_scan_words.specs.declared.run.Run.TheVariants as runs;
@@ -167,8 +168,8 @@ pub(crate) fn name_end(reader: &Reader) -> usize
 
 /// Past an ASCII character that is printed and no space.
 pub(crate) fn skip_indicator(reader: &mut Reader)
-    requires low { 32 < byte reader.old.text reader.old.at }
-    requires high { byte reader.old.text reader.old.at < 127 }
+    requires low { ascii.space < byte reader.old.text reader.old.at }
+    requires high { byte reader.old.text reader.old.at < ascii.delete }
     ensures { reader.new ≡ record { text = reader.old.text; at = reader.old.at + 1 } }
 {
     reader.skip();

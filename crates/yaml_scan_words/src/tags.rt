@@ -1,6 +1,7 @@
 //! Tags.
 
 ghost use Rattle.std.specs.Prelude.{◌≡◌, ◌≤◌, ◌+◌, ◌&&◌, ◌||◌, ◌==◌, ◌⊎◌, not, true, ℕ, length};
+ghost use Rattle.yaml_scan_model.specs.Ascii as ascii;
 ghost use Rattle.yaml_scan_model.specs.Marks.{byte, mark_at};
 ghost use Rattle.yaml_scan_words.specs.Tags as spec;
 ghost use Rattle.yaml_scan_words.specs.Readings.{ReadsAs};
@@ -27,7 +28,7 @@ pub(crate) struct TagParts {
 // Inlined into its one caller, which is a call of its own.
 #[inline(always)]
 pub fn tag(spares: &mut Spares, reader: &mut Reader, flow: bool) -> Result<TagWord, ScanError>
-    requires { byte reader.old.text reader.old.at ≡ 33 }
+    requires { byte reader.old.text reader.old.at ≡ ascii.exclamation }
     ensures { ReadsAs (IsTagWord reader.old.text reader.old.at) spec.tag_end reader.old.text
         (mark_at reader.old.text reader.old.at) reader.new result
         (spec.tag_at flow reader.old.text reader.old.at) }
@@ -55,7 +56,7 @@ pub fn tag(spares: &mut Spares, reader: &mut Reader, flow: bool) -> Result<TagWo
 // Inlined: a look at a byte.
 #[inline(always)]
 fn handle_end(reader: &Reader, name: usize) -> usize
-    requires mark { byte reader.now.text reader.now.at ≡ 33 }
+    requires mark { byte reader.now.text reader.now.at ≡ ascii.exclamation }
     requires name { name ≡ spec.name_end reader.now.text reader.now.at }
     ensures { result ≡ spec.handle_end reader.now.text reader.now.at }
 {
@@ -95,7 +96,7 @@ fn later(a: usize, b: usize) -> usize
 // Inlined: mostly a look at three bytes.
 #[inline(always)]
 fn is_short_form(second: u8, middle: usize, behind: &Reader, flow: bool) -> bool
-    ensures { result ≡ (not (second == 60) && (not (middle == behind.now.at)
+    ensures { result ≡ (not (second == ascii.less) && (not (middle == behind.now.at)
         && spec.may_end_tag flow behind.now.text behind.now.at)) }
 {
     second != b'<' && (middle != behind.place() && ends_tag(behind, flow))
@@ -106,7 +107,7 @@ fn is_short_form(second: u8, middle: usize, behind: &Reader, flow: bool) -> bool
 // lies in memory.
 #[inline(always)]
 fn tag_apart(spares: &mut Spares, reader: &mut Reader, flow: bool) -> Result<TagWord, ScanError>
-    requires { byte reader.old.text reader.old.at ≡ 33 }
+    requires { byte reader.old.text reader.old.at ≡ ascii.exclamation }
     ensures { ReadsAs (IsTagWord reader.old.text reader.old.at) spec.tag_end reader.old.text
         (mark_at reader.old.text reader.old.at) reader.new result
         (spec.tag_at flow reader.old.text reader.old.at) }
@@ -122,7 +123,7 @@ fn tag_apart(spares: &mut Spares, reader: &mut Reader, flow: bool) -> Result<Tag
 #[cold]
 #[inline(never)]
 fn whole_tag(spares: &mut Spares, reader: &mut Reader, flow: bool) -> Result<TagWord, ScanError>
-    requires { byte reader.old.text reader.old.at ≡ 33 }
+    requires { byte reader.old.text reader.old.at ≡ ascii.exclamation }
     ensures { ReadsAs (IsTagWord reader.old.text reader.old.at) spec.tag_end reader.old.text
         (mark_at reader.old.text reader.old.at) reader.new result
         (spec.tag_at flow reader.old.text reader.old.at) }
@@ -165,7 +166,7 @@ fn tag_parts(
     reader: &mut Reader,
     start: yaml_mark_t,
 ) -> Result<TagParts, ScanError>
-    requires { byte reader.old.text reader.old.at ≡ 33 }
+    requires { byte reader.old.text reader.old.at ≡ ascii.exclamation }
     ensures { ReadsAs IsParts spec.tag_end reader.old.text start reader.new result
         (spec.parts_at reader.old.text reader.old.at) }
 {
@@ -185,8 +186,8 @@ fn verbatim(
     reader: &mut Reader,
     start: yaml_mark_t,
 ) -> Result<TagParts, ScanError>
-    requires mark { byte reader.old.text reader.old.at ≡ 33 }
-    requires bracket { byte reader.old.text (reader.old.at + 1) ≡ 60 }
+    requires mark { byte reader.old.text reader.old.at ≡ ascii.exclamation }
+    requires bracket { byte reader.old.text (reader.old.at + 1) ≡ ascii.less }
     ensures { ReadsAs IsParts spec.tag_end reader.old.text start reader.new result
         (spec.verbatim_at reader.old.text reader.old.at) }
 {
@@ -210,9 +211,9 @@ fn named(
     end: usize,
     start: yaml_mark_t,
 ) -> Result<TagParts, ScanError>
-    requires mark { byte reader.old.text reader.old.at ≡ 33 }
+    requires mark { byte reader.old.text reader.old.at ≡ ascii.exclamation }
     requires name { end ≡ spec.name_end reader.old.text reader.old.at }
-    requires handle { byte reader.old.text end ≡ 33 }
+    requires handle { byte reader.old.text end ≡ ascii.exclamation }
     ensures { ReadsAs IsParts spec.tag_end reader.old.text start reader.new result
         (spec.named_at reader.old.text reader.old.at) }
 {
@@ -226,7 +227,7 @@ fn named(
 
 /// The tag `!uri` or `!` that stands here.
 fn bare(spares: &mut Spares, reader: &mut Reader, start: yaml_mark_t) -> Result<TagParts, ScanError>
-    requires { byte reader.old.text reader.old.at ≡ 33 }
+    requires { byte reader.old.text reader.old.at ≡ ascii.exclamation }
     ensures { ReadsAs IsParts spec.tag_end reader.old.text start reader.new result
         (spec.bare_at reader.old.text reader.old.at) }
 {

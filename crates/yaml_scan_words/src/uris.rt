@@ -1,6 +1,7 @@
 //! The URIs of tags and prefixes, with their escapes.
 
 ghost use Rattle.std.specs.Prelude.{◌≡◌, ◌+◌, ◌≤◌, ◌<◌, true, false, ℕ, length, IfSome, IsSome};
+ghost use Rattle.yaml_scan_model.specs.Ascii as ascii;
 ghost use Rattle.yaml_scan_model.specs.Marks.{byte};
 ghost use Rattle.yaml_scan_words.specs.Uris as spec;
 ghost use Rattle.yaml_scan_words.specs.Readings.{ReadsAs, IsBytes, behind_bytes};
@@ -111,7 +112,7 @@ fn next_byte(reader: &mut Reader, wide: bool, due: usize) -> Result<Option<Spell
 /// Takes the escape whose `%` stands here, where so many escapes are due.
 #[tactic(auto, unfolding(crate::specs::Uris::octet_at))]
 fn percent_octet(reader: &mut Reader, due: usize) -> Result<Option<Spelling>, Problem>
-    requires { byte reader.old.text reader.old.at ≡ 37 }
+    requires { byte reader.old.text reader.old.at ≡ ascii.percent }
     ensures spot { spec.octet_spot due reader.old.at (spec.octet_at reader.old.text reader.old.at)
         ≡ spot_of result reader.new.at }
     ensures text { reader.new.text ≡ reader.old.text }
@@ -130,7 +131,7 @@ fn percent_octet(reader: &mut Reader, due: usize) -> Result<Option<Spelling>, Pr
 
 /// Past the escape whose `%` stands here.
 fn skip_escape(reader: &mut Reader)
-    requires mark { byte reader.old.text reader.old.at ≡ 37 }
+    requires mark { byte reader.old.text reader.old.at ≡ ascii.percent }
     requires digits { IsSome (spec.octet_at reader.old.text reader.old.at) }
     ensures { reader.new ≡ record { text = reader.old.text; at = reader.old.at + 3 } }
 {

@@ -1,6 +1,7 @@
 //! The version of a `%YAML` directive.
 
 ghost use Rattle.std.specs.Prelude.{◌≡◌, ◌+◌, ◌-◌, ◌≤◌, ◌<◌, ◌^◌, true, ℕ, pos, length};
+ghost use Rattle.yaml_scan_model.specs.Ascii as ascii;
 ghost use Rattle.yaml_scan_model.specs.Marks.{byte};
 ghost use Rattle.yaml_scan_model.specs.Classes.{is_digit};
 ghost use Rattle.yaml_scan_words.specs.Directives as spec;
@@ -72,7 +73,7 @@ fn number(reader: &mut Reader, start: yaml_mark_t) -> Result<i32, ScanError>
 
 /// The value of a digit.
 fn digit(byte: u8) -> u32
-    ensures { result ≡ byte - 48 }
+    ensures { result ≡ byte - ascii.digit_zero }
 {
     u32::from(byte.saturating_sub(b'0'))
 }

@@ -28,6 +28,10 @@ carriage_return = 13
 abbrev pub escape : ℕ
 escape = 27
 
+-- the last one in front of those that are printed
+abbrev pub unit_separator : ℕ
+unit_separator = 31
+
 abbrev pub space : ℕ
 space = 32
 
@@ -79,6 +83,9 @@ slash = 47
 abbrev pub digit_zero : ℕ
 digit_zero = 48
 
+abbrev pub digit_two : ℕ
+digit_two = 50
+
 abbrev pub digit_nine : ℕ
 digit_nine = 57
 
@@ -105,6 +112,9 @@ at = 64
 
 abbrev pub capital_a : ℕ
 capital_a = 65
+
+abbrev pub capital_e : ℕ
+capital_e = 69
 
 abbrev pub capital_f : ℕ
 capital_f = 70
@@ -198,3 +208,14 @@ close_brace = 125
 
 abbrev pub tilde : ℕ
 tilde = 126
+
+abbrev pub delete : ℕ
+delete = 127
+
+-- ---- hexadecimal digits: what a letter's code is more than its value
+
+abbrev pub capital_digit : ℕ
+capital_digit = 55
+
+abbrev pub small_digit : ℕ
+small_digit = 87

@@ -5,21 +5,27 @@ use Rattle.yaml_types.specs.Marks.{byte, break_width, is_blank as is_blank_byte}
 
 -- 0-9
 unfoldable pub is_digit_byte : ℕ → Bool
-is_digit_byte b = nat_le 48 b && nat_le b 57
+is_digit_byte b = nat_le ascii.digit_zero b && nat_le b ascii.digit_nine
 
 -- 0-9 A-F a-f
 unfoldable pub is_hex_byte : ℕ → Bool
-is_hex_byte b = is_digit_byte b || ((nat_le 65 b && nat_le b 70) || (nat_le 97 b && nat_le b 102))
+is_hex_byte b = is_digit_byte b
+    || ((nat_le ascii.capital_a b && nat_le b ascii.capital_f)
+    || (nat_le ascii.small_a b && nat_le b ascii.small_f))
 
 -- 0-9 A-Z a-z _ -
 unfoldable pub is_alpha_byte : ℕ → Bool
 is_alpha_byte b = is_digit_byte b
-    || ((nat_le 65 b && nat_le b 90)
-    || ((nat_le 97 b && nat_le b 122) || (b == ascii.underscore || b == ascii.hyphen)))
+    || ((nat_le ascii.capital_a b && nat_le b ascii.capital_z)
+    || ((nat_le ascii.small_a b && nat_le b ascii.small_z)
+    || (b == ascii.underscore || b == ascii.hyphen)))
 
 -- the value of a hexadecimal digit
 unfoldable pub hex_value_of : ℕ → ℕ
-hex_value_of b = if nat_le 97 b then b - 87 else if nat_le 65 b then b - 55 else b - 48
+hex_value_of b =
+    if nat_le ascii.small_a b then b - ascii.small_digit
+    else if nat_le ascii.capital_a b then b - ascii.capital_digit
+    else b - ascii.digit_zero
 
 -- how many bytes the UTF-8 character has that begins with b, or 0
 unfoldable pub width_of : ℕ → ℕ
@@ -38,7 +44,7 @@ is_special c d = (c == 0xBB && d == 0xBF) || (c == 0xBF && (d == 0xBE || d == 0x
 -- b begins a printable character, where c and d stand behind it
 unfoldable pub is_printable_by : ℕ → ℕ → ℕ → Bool
 is_printable_by b c d =
-    if b == 0x0A || (nat_le 0x20 b && nat_le b 0x7E) then true
+    if b == ascii.line_feed || (nat_le ascii.space b && nat_le b ascii.tilde) then true
     else if b == 0xC2 then nat_le 0xA0 c && nat_le c 0xBF
     else if b == 0xED then nat_lt c 0xA0
     else if b == 0xEF then not (is_special c d)

@@ -6,3 +6,5 @@ pub mod Tokens
 pub mod Faults
 pub mod Rooms
 pub mod Ascii
+pub mod Points
+pub mod Indents

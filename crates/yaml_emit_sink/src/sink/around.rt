@@ -1,5 +1,6 @@
 //! Texts that are put together with what stands round them.
 ghost use Rattle.std.specs.Prelude.{◌≡◌, ◌<◌, ◌≤◌, ◌∷◌, ◌++◌, ◌+◌, length};
+ghost use Rattle.yaml_types.specs.Ascii as ascii;
 
 use super::{Sink, has_room};
 use crate::append::lettered;
@@ -47,7 +48,7 @@ impl Sink {
         requires few { length front.now + length end.now ≤ 7 }
         requires some { 0 < length front.now }
         requires ascii { IsAscii (front.now ++ (text.now ++ end.now)) }
-        requires parted { parted.now ≡ 32 ∷ front.now }
+        requires parted { parted.now ≡ ascii.space ∷ front.now }
         ensures { Puts self.old self.new (word (front.now ++ (text.now ++ end.now))) }
     {
         if self.cursor().white {

@@ -3,7 +3,7 @@
 ghost use Rattle.std.specs.Prelude.{◌≡◌, ◌<◌, ◌≤◌, ◌++◌, ◌∷◌, [], pos, suc, length, option_map, IsSome, IsUtf8, MatchResult, OnOk};
 ghost use Rattle.yaml_parse_model.specs.Constructors.{IsUtf8Option};
 ghost use Rattle.yaml_parse_model.specs.Nodes.{node_of, body_of, tag_of};
-ghost use Rattle.yaml_parse_document.specs.Documents.{node_at, unplaced, new_scalar, new_sequence, new_mapping, with_node, Adds, Appends, change_body, with_item, with_pair, tag_or, IsSequenceAt, IsMappingAt, IsSequenceBody, IsMappingBody, HasRoomAt, item_count, pair_count, IsSoundNode, IsSoundBody};
+ghost use Rattle.yaml_parse_document.specs.Documents.{node_at, unplaced, new_scalar, new_sequence, new_mapping, with_node, Adds, Appends, change_body, with_item, with_pair, tag_or, IsSequenceAt, IsMappingAt, IsSequenceBody, IsMappingBody, HasRoomAt, most_entries, item_count, pair_count, IsSoundNode, IsSoundBody};
 ghost use Rattle.yaml_parse_document.specs.Sizes.{IsSizedBody};
 
 use super::{node_place, yaml_document_t};
@@ -24,7 +24,7 @@ pub const MAX_ENTRIES: usize = 2_147_483_647;
 pub fn push_entry<T: Drop>(entries: &mut Vec<T>, entry: T) -> Result<(), yaml_text_fault_t>
     ensures { MatchResult result
         (λ _. (entries.new.items ≡ entries.old.items ++ entry ∷ [])
-        × (length entries.old.items < 2147483647))
+        × (length entries.old.items < most_entries))
         (λ f. (entries.new.items ≡ entries.old.items) × (f ≡ yaml_text_fault_t.Memory)) }
 {
     if entries.len() >= MAX_ENTRIES {
@@ -158,7 +158,7 @@ fn push_item(node: &mut yaml_node_t, item: yaml_node_item_t) -> Result<(), yaml_
         (λ _. (node_of node.new ≡ record (node_of node.old) {
           body = with_item item
               (node_of node.old).body;
-        }) × (item_count (node_of node.old).body < 2147483647))
+        }) × (item_count (node_of node.old).body < most_entries))
         (λ f. (node_of node.new ≡ node_of node.old) × (f ≡ yaml_text_fault_t.Memory)) }
 {
     match &mut node.body {
@@ -173,7 +173,7 @@ fn push_pair(node: &mut yaml_node_t, pair: yaml_node_pair_t) -> Result<(), yaml_
         (λ _. (node_of node.new ≡ record (node_of node.old) {
           body = with_pair pair
               (node_of node.old).body;
-        }) × (pair_count (node_of node.old).body < 2147483647))
+        }) × (pair_count (node_of node.old).body < most_entries))
         (λ f. (node_of node.new ≡ node_of node.old) × (f ≡ yaml_text_fault_t.Memory)) }
 {
     match &mut node.body {

@@ -1,5 +1,6 @@
 //! What comes before nodes in their collections, and what ends these.
 ghost use Rattle.std.specs.Prelude.{◌≡◌, ◌∷◌, [], None, Some, true, false, not, ◌&&◌, ◌-◌};
+ghost use Rattle.yaml_types.specs.Ascii as ascii;
 ghost use Rattle.yaml_emit_text.specs.Sink.{Puts};
 ghost use Rattle.yaml_emit_text.specs.Layout.{◌▹◌, stay, when, char, word, opener};
 ghost use Rattle.yaml_emit_layout.specs.Nodes.{comma, turned, question, before_item, before_key, before_value, closer, line_at, wrap_at, checked};
@@ -10,7 +11,7 @@ use yaml_emit_text::{Settings, Sink};
 
 /// A space behind an alias that is a simple key.
 pub fn put_blank_if(sink: &mut Sink, due: bool)
-    ensures { Puts sink.old sink.new (when due (char 32)) }
+    ensures { Puts sink.old sink.new (when due (char ascii.space)) }
 {
     if due {
         sink.put(' ');
@@ -158,7 +159,7 @@ pub fn put_before(sink: &mut Sink, settings: &Settings, top: &Option<Level>, sim
 // Inlined: a byte in front of a line.
 #[inline(always)]
 fn put_last_line(sink: &mut Sink, settings: &Settings, indent: u64)
-    ensures { Puts sink.old sink.new (char 44 ▹ line_at settings.now indent) }
+    ensures { Puts sink.old sink.new (char ascii.comma ▹ line_at settings.now indent) }
 {
     sink.put(',');
     sink.put_line(settings.line_break, indent);
@@ -167,7 +168,7 @@ fn put_last_line(sink: &mut Sink, settings: &Settings, indent: u64)
 // Inlined: it is two bytes and a line, or a test in front of them.
 #[inline(always)]
 fn put_last_line_if(sink: &mut Sink, due: bool, settings: &Settings, indent: u64)
-    ensures { Puts sink.old sink.new (when due (char 44 ▹ line_at settings.now indent)) }
+    ensures { Puts sink.old sink.new (when due (char ascii.comma ▹ line_at settings.now indent)) }
 {
     if due {
         put_last_line(sink, settings, indent);

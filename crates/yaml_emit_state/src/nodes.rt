@@ -1,5 +1,6 @@
 //! Nodes: aliases, properties, scalars, and what opens collections.
 ghost use Rattle.std.specs.Prelude.{◌≡◌, ◌≢◌, ◌<◌, ◌∷◌, [], None, Some, Bool, true, false, not, ◌&&◌, ◌||◌, ◌==◌, ℕ, map, length, IsUtf8};
+ghost use Rattle.yaml_types.specs.Ascii as ascii;
 ghost use Rattle.std.specs.Str.{chars, IsAscii};
 ghost use Rattle.yaml_parse_model.specs.Events.{text_of};
 ghost use Rattle.yaml_emit_tags.specs.parse_model.Nodes.{str_tag, seq_tag, map_tag};
@@ -159,7 +160,7 @@ fn style_of(context: &Context, position: NodePosition, scalar: &Scalar) -> Style
 // Inlined: a byte or two, for which there is room.
 #[inline(always)]
 fn put_exclamation_if(sink: &mut Sink, due: bool)
-    ensures { Puts sink.old sink.new (when due (word (33 ∷ []))) }
+    ensures { Puts sink.old sink.new (when due (word (ascii.exclamation ∷ []))) }
 {
     if due {
         sink.put_inline_indicator('!');
@@ -243,7 +244,7 @@ fn put_in_quotes(
     value: &[u8],
 )
     requires { IsUtf8 value.now }
-    ensures { Puts sink.old sink.new (when marked (word (33 ∷ []))
+    ensures { Puts sink.old sink.new (when marked (word (ascii.exclamation ∷ []))
         ▹ double_quoted (record (page_at settings.now position) {
           indentation = indentation;
         }) (chars value.now)) }
@@ -274,7 +275,7 @@ fn put_untagged(
     value: &[u8],
 )
     requires { IsUtf8 value.now }
-    ensures { Puts sink.old sink.new (when (not quoted) (word (33 ∷ []))
+    ensures { Puts sink.old sink.new (when (not quoted) (word (ascii.exclamation ∷ []))
         ▹ (checked (deeper settings.now position.around)
         ▹ double_quoted (page_at settings.now position) (chars value.now))) }
 {
@@ -324,7 +325,7 @@ fn put_default_tag(
     requires spelled { tag_spelling [] tag.now ≡ spelled.now }
     requires some { 0 < length spelled.now }
     requires ascii { IsAscii spelled.now }
-    requires parted { parted.now ≡ 32 ∷ spelled.now }
+    requires parted { parted.now ≡ ascii.space ∷ spelled.now }
     ensures { Puts sink.old sink.new (word (tag_spelling directives.now tag.now)) }
 {
     if are_none(directives) {
@@ -495,7 +496,8 @@ pub fn put_collection(
 pub fn put_plain_sequence(sink: &mut Sink, context: &Context)
     requires { context.now.settings.now.canonical ≡ true }
     ensures { (at : NodePosition) (flow empty : Bool) → Puts sink.old sink.new
-        (start_text (lent_context context.now) at 91 (plain_start seq_tag flow) empty) }
+        (start_text (lent_context context.now) at ascii.open_bracket
+        (plain_start seq_tag flow) empty) }
 {
     put_seq_tag(sink, context.directives);
     put_opener_if(sink, true, '[');
@@ -507,7 +509,8 @@ pub fn put_plain_sequence(sink: &mut Sink, context: &Context)
 pub fn put_plain_mapping(sink: &mut Sink, context: &Context)
     requires { context.now.settings.now.canonical ≡ true }
     ensures { (at : NodePosition) (flow empty : Bool) → Puts sink.old sink.new
-        (start_text (lent_context context.now) at 123 (plain_start map_tag flow) empty) }
+        (start_text (lent_context context.now) at ascii.open_brace
+        (plain_start map_tag flow) empty) }
 {
     put_map_tag(sink, context.directives);
     put_opener_if(sink, true, '{');

@@ -1,6 +1,7 @@
 -- The settings that are used where none are chosen.
 use Rattle.std.specs.Prelude.{pos, true}
 use Rattle.yaml_types.specs.Widths.{default_width}
+use Rattle.yaml_types.specs.Indents.{default_indent}
 use Rattle.yaml_types.specs.declared.yaml_break_t.TheVariants.{YAML_LN_BREAK}
 use Rattle.yaml_round_device.specs.declared.settings.yaml_settings_t.{yaml_settings_t}
 use Rattle.yaml_round_device.specs.declared.settings.yaml_output_encoding_t.TheVariants.{Utf8}
@@ -9,7 +10,7 @@ abbrev pub default_settings : yaml_settings_t
 default_settings = record {
   encoding = Utf8;
   canonical = true;
-  indent = pos 2;
+  indent = pos default_indent;
   width = pos default_width;
   unicode = true;
   line_break = YAML_LN_BREAK;

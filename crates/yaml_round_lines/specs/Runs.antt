@@ -5,7 +5,7 @@ use Rattle.yaml_round_lines.specs.EventLine.{escaped}
 
 -- it stands behind the control characters that are escaped, and is no backslash
 unfoldable pub is_kept : ℕ → Bool
-is_kept b = nat_lt 13 b && not (b == ascii.backslash)
+is_kept b = nat_lt ascii.carriage_return b && not (b == ascii.backslash)
 
 -- so many bytes from the place on are such
 unfoldable pub kept_run : ℕ → List ℕ → ℕ → Bool

@@ -1,6 +1,7 @@
 //! The line that tells an event.
 
 ghost use Rattle.std.specs.Prelude.{◌≡◌, ◌+◌, ◌*◌, ◌^◌, ◌<◌, ◌≤◌, ◌++◌, [], ◌∷◌, true, length, codes, vec_len, vec_capacity, OnOk};
+ghost use Rattle.yaml_scan_model.specs.Ascii as ascii;
 ghost use Rattle.yaml_parse_model.specs.Events.{event_of, text_of};
 ghost use Rattle.yaml_scan_model.specs.Ends.{IsShort, given_length};
 ghost use Rattle.yaml_round_lines.specs.Runs.{IsPlain, IsPlainGiven};
@@ -117,7 +118,7 @@ fn put_part(line: &mut Vec<u8>, indicator: u8, text: &[u8], end: u8, plain: bool
     requires plain { plain ≡ true → IsPlain text.now }
     requires room { vec_len line.old + (2 * length text.now + 3) ≤ vec_capacity line.old }
     ensures items { line.new.items ≡ line.old.items
-        ++ (32 ∷ indicator ∷ (escaped text.now ++ end ∷ [])) }
+        ++ (ascii.space ∷ indicator ∷ (escaped text.now ++ end ∷ [])) }
     ensures len { vec_len line.new ≤ vec_len line.old + (2 * length text.now + 3) }
     ensures room { vec_capacity line.old ≤ vec_capacity line.new }
 {
@@ -192,7 +193,7 @@ fn put_node(
 #[inline(always)]
 fn push_word(line: &mut Vec<u8>, word: &[u8]) -> Result<(), AllocError>
     requires { length word.now < 16 }
-    ensures { OnOk result (line.new.items ≡ line.old.items ++ (word.now ++ 10 ∷ [])) }
+    ensures { OnOk result (line.new.items ≡ line.old.items ++ (word.now ++ ascii.line_feed ∷ [])) }
 {
     line.reserve(word.len() + 1)?;
     put_each(line, word);
@@ -212,7 +213,7 @@ fn push_long_scalar(
 ) -> Result<(), AllocError>
     ensures { OnOk result (line.new.items ≡ line.old.items
         ++ (codes "=VAL" ++ (anchor_part (text_of anchor.now) ++ tag_part (text_of tag.now))
-        ++ 32 ∷ indicator_of style ∷ (escaped value.now ++ 10 ∷ []))) }
+        ++ ascii.space ∷ indicator_of style ∷ (escaped value.now ++ ascii.line_feed ∷ []))) }
 {
     reserve_twice(
         line,
@@ -239,7 +240,7 @@ fn push_plain_scalar(
     requires value { IsPlain value.now }
     ensures { OnOk result (line.new.items ≡ line.old.items
         ++ (codes "=VAL" ++ (anchor_part (text_of anchor.now) ++ tag_part (text_of tag.now))
-        ++ 32 ∷ indicator_of style ∷ (escaped value.now ++ 10 ∷ []))) }
+        ++ ascii.space ∷ indicator_of style ∷ (escaped value.now ++ ascii.line_feed ∷ []))) }
 {
     let mut own = with_room(line, ROOM)?;
     put_node(&mut own, b"=VAL", anchor, tag, true);
@@ -260,7 +261,7 @@ fn push_scalar(
 ) -> Result<(), AllocError>
     ensures { OnOk result (line.new.items ≡ line.old.items
         ++ (codes "=VAL" ++ (anchor_part (text_of anchor.now) ++ tag_part (text_of tag.now))
-        ++ 32 ∷ indicator_of style ∷ (escaped value.now ++ 10 ∷ []))) }
+        ++ ascii.space ∷ indicator_of style ∷ (escaped value.now ++ ascii.line_feed ∷ []))) }
 {
     if are_plain(anchor, tag) {
         if is_plain(value) {
@@ -281,7 +282,7 @@ fn push_long_start(
 ) -> Result<(), AllocError>
     ensures { OnOk result (line.new.items ≡ line.old.items
         ++ (word.now ++ (anchor_part (text_of anchor.now) ++ tag_part (text_of tag.now))
-        ++ 10 ∷ [])) }
+        ++ ascii.line_feed ∷ [])) }
 {
     reserve_twice(line, BESIDE + length_of(anchor), length_of(tag))?;
     put_node(line, word, anchor, tag, false);
@@ -302,7 +303,7 @@ fn push_plain_start(
     requires tag { IsPlainGiven (text_of tag.now) }
     ensures { OnOk result (line.new.items ≡ line.old.items
         ++ (word.now ++ (anchor_part (text_of anchor.now) ++ tag_part (text_of tag.now))
-        ++ 10 ∷ [])) }
+        ++ ascii.line_feed ∷ [])) }
 {
     let mut own = with_room(line, ROOM)?;
     put_node(&mut own, word, anchor, tag, true);
@@ -322,7 +323,7 @@ fn push_start(
 ) -> Result<(), AllocError>
     ensures { OnOk result (line.new.items ≡ line.old.items
         ++ (word.now ++ (anchor_part (text_of anchor.now) ++ tag_part (text_of tag.now))
-        ++ 10 ∷ [])) }
+        ++ ascii.line_feed ∷ [])) }
 {
     if are_plain(anchor, tag) {
         return push_plain_start(line, word, anchor, tag);
@@ -335,7 +336,8 @@ fn push_start(
 // nobody keeps it, and reads its place again behind each byte where it can't.
 #[inline(never)]
 fn push_alias(line: &mut Vec<u8>, name: &[u8]) -> Result<(), AllocError>
-    ensures { OnOk result (line.new.items ≡ line.old.items ++ (codes "=ALI *" ++ name.now ++ 10 ∷ [])) }
+    ensures { OnOk result (line.new.items ≡ line.old.items
+        ++ (codes "=ALI *" ++ name.now ++ ascii.line_feed ∷ [])) }
 {
     line.reserve(name.len() + 7)?;
     put_between(line, b"=ALI *", name, b"\n");
@@ -352,7 +354,7 @@ fn push_document(
     mark: &[u8; 4],
 ) -> Result<(), AllocError>
     ensures { OnOk result (line.new.items ≡ line.old.items
-        ++ (word.now ++ mark_part implicit mark.now ++ 10 ∷ [])) }
+        ++ (word.now ++ mark_part implicit mark.now ++ ascii.line_feed ∷ [])) }
 {
     line.reserve(9)?;
     put_each(line, word);
@@ -372,7 +374,7 @@ fn push_long_bare(
     style: yaml_scalar_style_t,
 ) -> Result<(), AllocError>
     ensures { OnOk result (line.new.items ≡ line.old.items
-        ++ (codes "=VAL " ++ indicator_of style ∷ (escaped value.now ++ 10 ∷ []))) }
+        ++ (codes "=VAL " ++ indicator_of style ∷ (escaped value.now ++ ascii.line_feed ∷ []))) }
 {
     reserve_twice(line, 7, value.len())?;
     put_each(line, b"=VAL");
@@ -390,7 +392,7 @@ fn push_plain_bare(
 ) -> Result<(), AllocError>
     requires { IsPlain value.now }
     ensures { OnOk result (line.new.items ≡ line.old.items
-        ++ (codes "=VAL " ++ indicator_of style ∷ (escaped value.now ++ 10 ∷ []))) }
+        ++ (codes "=VAL " ++ indicator_of style ∷ (escaped value.now ++ ascii.line_feed ∷ []))) }
 {
     let mut own = with_room(line, 2 * SHORT + 7)?;
     put_each(&mut own, b"=VAL");
@@ -404,7 +406,7 @@ fn push_plain_bare(
 #[inline(always)]
 fn push_bare(line: &mut Vec<u8>, value: &[u8], style: yaml_scalar_style_t) -> Result<(), AllocError>
     ensures { OnOk result (line.new.items ≡ line.old.items
-        ++ (codes "=VAL " ++ indicator_of style ∷ (escaped value.now ++ 10 ∷ []))) }
+        ++ (codes "=VAL " ++ indicator_of style ∷ (escaped value.now ++ ascii.line_feed ∷ []))) }
 {
     if is_plain(value) {
         return push_plain_bare(line, value, style);
@@ -417,7 +419,7 @@ fn push_bare(line: &mut Vec<u8>, value: &[u8], style: yaml_scalar_style_t) -> Re
 #[inline(never)]
 fn push_rare(line: &mut Vec<u8>, word: &[u8]) -> Result<(), AllocError>
     requires { length word.now < 16 }
-    ensures { OnOk result (line.new.items ≡ line.old.items ++ (word.now ++ 10 ∷ [])) }
+    ensures { OnOk result (line.new.items ≡ line.old.items ++ (word.now ++ ascii.line_feed ∷ [])) }
 {
     push_word(line, word)
 }

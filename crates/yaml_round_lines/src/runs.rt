@@ -1,6 +1,7 @@
 //! The bytes of tags and values: runs that are put as they are, and those that are escaped.
 
 ghost use Rattle.std.specs.Prelude.{◌≡◌, ◌+◌, ◌*◌, ◌<◌, ◌≤◌, ◌++◌, ◌∷◌, [], true, length, take, vec_len, vec_capacity};
+ghost use Rattle.yaml_scan_model.specs.Ascii as ascii;
 ghost use Rattle.yaml_round_lines.specs.Runs.{is_kept, kept_run, IsPlain};
 ghost use Rattle.yaml_round_lines.specs.EventLine.{escaped_byte, escaped};
 
@@ -14,7 +15,7 @@ const HALF: usize = 8;
 // Puts a backslash and a letter.
 fn put_escape(line: &mut Vec<u8>, indicator: u8)
     requires { vec_len line.old + 2 ≤ vec_capacity line.old }
-    ensures items { line.new.items ≡ line.old.items ++ (92 ∷ indicator ∷ []) }
+    ensures items { line.new.items ≡ line.old.items ++ (ascii.backslash ∷ indicator ∷ []) }
     ensures len { vec_len line.new ≤ vec_len line.old + 2 }
     ensures room { vec_capacity line.new ≡ vec_capacity line.old }
 {

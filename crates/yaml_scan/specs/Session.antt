@@ -11,6 +11,7 @@ use Rattle.yaml_scan_model.specs.declared.name.yaml_encoding_t.TheVariants.{YAML
 use Rattle.yaml_scan_model.specs.Rooms.{KeepsFew}
 use Rattle.yaml_scan_decode.specs.Encodings.{encoding_of}
 use Rattle.yaml_scan_decode.specs.DecodedText.{decoding_fault}
+use Rattle.yaml_scan_history.specs.History.{most_waiting, most_slots}
 use Rattle.yaml_scan_history.specs.Remaining.{Remaining, nothing}
 use Rattle.yaml_scan_history.specs.Scanned.{scanned}
 use Rattle.yaml_scan_machine.specs.Left.{IsTold}
@@ -85,7 +86,7 @@ EndsAnswered v = (f : Fault) → v.answered ≡ Some f → v.remaining ≡ nothi
 -- At most 1,025 lexemes wait, in a row of at most 2,049 slots: none is read that isn't needed, a `:` is looked for within
 -- 1,024 bytes of its key, and a slot is made only where at least half of them hold what waits.
 abbrev pub FewWait : View → Type 0
-FewWait v = (v.waiting ≤ 1025) × (v.slots ≤ 2049)
+FewWait v = (v.waiting ≤ most_waiting) × (v.slots ≤ most_slots)
 
 -- Few lexemes wait, and few spare texts are kept: at most 64, each with at most 256 bytes of room.
 abbrev pub HoldsLittle : View → Type 0

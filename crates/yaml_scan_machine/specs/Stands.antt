@@ -52,5 +52,6 @@ Told k b = b ≡ indicator_byte k
 
 -- a letter or digit of ASCII
 unfoldable pub is_letter : ℕ → Bool
-is_letter b = (nat_le 48 b && nat_le b 57)
-    || ((nat_le 65 b && nat_le b 90) || (nat_le 97 b && nat_le b 122))
+is_letter b = (nat_le ascii.digit_zero b && nat_le b ascii.digit_nine)
+    || ((nat_le ascii.capital_a b && nat_le b ascii.capital_z)
+    || (nat_le ascii.small_a b && nat_le b ascii.small_z))

@@ -13,7 +13,7 @@ use Rattle.yaml_scan_queue.specs.declared.waiting.Waiting.{Waiting}
 use Rattle.yaml_scan_machine.specs.declared.next.Read.{Read}
 use Rattle.yaml_scan_history.specs.declared.kind.Kind.{Kind}
 use Rattle.yaml_scan_history.specs.Kinds.{is_end}
-use Rattle.yaml_scan_history.specs.History.{left_by}
+use Rattle.yaml_scan_history.specs.History.{left_by, most_waiting, most_slots}
 use Rattle.yaml_scan_machine.specs.Shows.{IsShown, fields_of}
 use Rattle.yaml_scan_machine.specs.Taken.{IsGiven}
 
@@ -34,7 +34,7 @@ AreInside n ws = (k : ℕ) → (w : Waiting) → k < length ws
 
 -- At most 1,025 lexemes wait, in a row of at most 2,049 slots.
 abbrev pub IsShort : Line → Type 0
-IsShort q = (length q.items ≤ 1025) × (q.slots ≤ 2049)
+IsShort q = (length q.items ≤ most_waiting) × (q.slots ≤ most_slots)
 
 pub record IsMachine (m : Machine) : Type 0 where
   pub long : length (text_bytes m.text) < 2 ^ 63

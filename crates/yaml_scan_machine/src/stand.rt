@@ -1,6 +1,7 @@
 //! Where the next lexeme stands, and of which kind it is.
 
 ghost use Rattle.std.specs.Prelude.{◌≡◌, ◌+◌, ◌<◌, ◌&&◌, ◌||◌, ◌==◌, not, nat_lt, IfSome, None, true, false, length};
+ghost use Rattle.yaml_scan_model.specs.Ascii as ascii;
 ghost use Rattle.yaml_scan_model.specs.Marks.{byte};
 ghost use Rattle.yaml_scan_model.specs.Faults.{fault_of};
 ghost use Rattle.yaml_scan_words.specs.Between.{gap_at};
@@ -96,7 +97,8 @@ fn pass_gap(reader: &mut Reader, flow: bool, allowed: bool) -> bool
 
 /// Whether the byte is behind `#` in ASCII: it begins a lexeme.
 fn is_behind_hash(byte: u8) -> bool
-    ensures { result ≡ true → (nat_lt 32 byte && (nat_lt byte 128 && not (byte == 35))) ≡ true }
+    ensures { result ≡ true
+        → (nat_lt ascii.space byte && (nat_lt byte 128 && not (byte == ascii.hash))) ≡ true }
 {
     byte > b'#' && byte < 128
 }
@@ -115,7 +117,8 @@ static BEGINNERS: [u8; 256] = *b"\
 /// Whether the byte is one of ASCII that begins a lexeme.
 // A load and a comparison: the tests of its range and of `#` would be put together.
 fn begins(byte: u8) -> bool
-    ensures { result ≡ true → (nat_lt 32 byte && (nat_lt byte 128 && not (byte == 35))) ≡ true }
+    ensures { result ≡ true
+        → (nat_lt ascii.space byte && (nat_lt byte 128 && not (byte == ascii.hash))) ≡ true }
 {
     BEGINNERS[byte as usize] == b'1'
 }
@@ -124,10 +127,10 @@ fn begins(byte: u8) -> bool
 // Inlined: a look at two bytes.
 #[inline(always)]
 fn is_lone_feed(reader: &Reader) -> bool
-    ensures { result ≡ true → (byte reader.now.text reader.now.at ≡ 10)
-        × ((nat_lt 32 (byte reader.now.text (reader.now.at + 1))
+    ensures { result ≡ true → (byte reader.now.text reader.now.at ≡ ascii.line_feed)
+        × ((nat_lt ascii.space (byte reader.now.text (reader.now.at + 1))
         && (nat_lt (byte reader.now.text (reader.now.at + 1)) 128
-        && not (byte reader.now.text (reader.now.at + 1) == 35))) ≡ true) }
+        && not (byte reader.now.text (reader.now.at + 1) == ascii.hash))) ≡ true) }
 {
     reader.here() == b'\n' && begins(reader.byte(1))
 }

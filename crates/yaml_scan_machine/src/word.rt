@@ -1,6 +1,7 @@
 //! Which lexeme stands at a place, and what it carries.
 
 ghost use Rattle.std.specs.Prelude.{Bool, ◌≡◌, ◌+◌, ◌<◌, ◌≤◌, ◌⊎◌, IfSome, None, option_map, true, false, length};
+ghost use Rattle.yaml_scan_model.specs.Ascii as ascii;
 ghost use Rattle.yaml_scan_model.specs.Marks.{byte, break_width, is_blank_or_end};
 ghost use Rattle.yaml_scan_model.specs.Tokens.{body_of};
 ghost use Rattle.yaml_scan_words.specs.Directives.{directive_at};
@@ -288,8 +289,8 @@ fn go_past(reader: &mut Reader)
 /// `---` or `...`.
 #[tactic(auto, unfolding(yaml_types::specs::Marks::break_of))]
 fn document_mark(reader: &mut Reader, body: yaml_token_body_t) -> Word
-    requires { IsThrice 45 reader.old.text reader.old.at
-        ⊎ IsThrice 46 reader.old.text reader.old.at }
+    requires { IsThrice ascii.hyphen reader.old.text reader.old.at
+        ⊎ IsThrice ascii.dot reader.old.text reader.old.at }
     ensures word { IsWord reader.old.text result
         (record {
           body = body_of body;
@@ -308,7 +309,7 @@ fn document_mark(reader: &mut Reader, body: yaml_token_body_t) -> Word
 // Out of line: it is rare.
 #[inline(never)]
 fn directive_word(spares: &mut Spares, reader: &mut Reader) -> Result<Word, ScanError>
-    requires { byte reader.old.text reader.old.at ≡ 37 }
+    requires { byte reader.old.text reader.old.at ≡ ascii.percent }
     ensures { ReadsWord reader.old.text reader.old.at reader.new result
         (spec.directed (directive_at reader.old.text reader.old.at)) }
 {
@@ -335,8 +336,8 @@ fn directive_body(directive: Directive) -> yaml_token_body_t
 #[inline(never)]
 fn block_word(alloc: Global, reader: &mut Reader, level: u64) -> Result<Word, ScanError>
     requires level { level ≤ length reader.old.text + 1 }
-    requires indicator { (byte reader.old.text reader.old.at ≡ 124)
-        ⊎ (byte reader.old.text reader.old.at ≡ 62) }
+    requires indicator { (byte reader.old.text reader.old.at ≡ ascii.bar)
+        ⊎ (byte reader.old.text reader.old.at ≡ ascii.greater) }
     ensures { ReadsWord reader.old.text reader.old.at reader.new result
         (spec.blocked (style_at reader.old.text reader.old.at)
         (block_at level reader.old.text reader.old.at)) }

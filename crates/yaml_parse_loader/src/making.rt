@@ -2,21 +2,25 @@
 
 ghost use Rattle.std.specs.Prelude.{◌≡◌, ◌<◌, ◌++◌, ◌∷◌, [], pos, suc, length, map, reverse, Option, None, OnOk};
 ghost use Rattle.yaml_parse_model.specs.declared.yaml_mark_t.{yaml_mark_t};
-ghost use Rattle.yaml_parse_model.specs.Events.{event_of, text_of, directive_of};
+ghost use Rattle.yaml_parse_model.specs.Events.{event_of, body_of, text_of, directive_of};
 ghost use Rattle.yaml_parse_model.specs.Nodes.{node_of, tag_of};
 ghost use Rattle.yaml_parse_document.specs.Documents.{IsDocument};
 ghost use Rattle.yaml_parse_document.specs.Sizes.{IsSized};
 ghost use Rattle.yaml_parse_loader.specs.Numbering.{is_bang, loaded_tag, scalar_node, sequence_node, mapping_node};
-ghost use Rattle.yaml_parse_loader.specs.Loading.{attach, attached, nothing_loaded, next, named, enter_leaf, enter_open, aliased, closed, place_of, filled, filled_body, started, step, head_of};
+ghost use Rattle.yaml_parse_loader.specs.Loading.{attach, attached, nothing_loaded, next, named, enter_leaf, enter_open, aliased, closed, place_of, filled, filled_body, started, step, step_body, head_of};
 ghost use Rattle.yaml_parse_loader.specs.Sizes.{HasRoom, HaveRoom, HasRoomForNode, HasRoomFor};
 ghost use Rattle.yaml_parse_loader.specs.Views.{level_of, levels_of, loading_of, taken_by, Applies};
 ghost use Rattle.yaml_parse_loader.specs.Loading.{open_sequence, open_mapping};
 ghost use Rattle.std.specs.FinMap as finite;
 
 use crate::anchors::AnchorTable;
+use crate::gathering::{FIRST_ITEMS, FIRST_PAIRS, gather, push_node};
+use crate::nodes::{
+    SHORT, bare_mapping, bare_scalar, bare_sequence, mapping_of, scalar_of, sequence_of,
+};
 use std::alloc::Global;
 use std::mem;
-use yaml_parse_document::{DocumentParts, MAX_ENTRIES, push_entry, yaml_document_t};
+use yaml_parse_document::{DocumentParts, MAX_ENTRIES, yaml_document_t};
 use yaml_parse_model::{
     mark_again, yaml_event_body_t, yaml_event_t, yaml_mapping_style_t, yaml_mark_t,
     yaml_node_body_t, yaml_node_pair_t, yaml_node_t, yaml_node_tag_t, yaml_node_text_t,
@@ -45,25 +49,6 @@ pub struct Making {
     pub parts: DocumentParts,
     pub levels: Vec<Level>,
     pub anchors: AnchorTable,
-}
-
-// No tag and the tag `!` become the default tag.
-// Inlined: mostly there is none.
-#[inline(always)]
-fn tag_or_default(tag: Option<Vec<u8>>, default: yaml_node_tag_t) -> yaml_node_tag_t
-    ensures { tag_of result ≡ loaded_tag (text_of tag) (tag_of default) }
-{
-    match tag {
-        Some(text) if !is_lone_bang(&text) => yaml_node_tag_t::Spelled { text },
-        _ => default,
-    }
-}
-
-// Whether the tag is `!`.
-fn is_lone_bang(tag: &[u8]) -> bool
-    ensures { result ≡ is_bang tag.now }
-{
-    tag.len() == 1 && tag[0] == b'!'
 }
 
 // From now on a node is what that name means.
@@ -102,19 +87,20 @@ fn attach_to(level: &mut Level, number: i32) -> Result<(), yaml_text_fault_t>
         × HasRoom (level_of level.old)) }
 {
     match level {
-        Level::Sequence { items, .. } => push_entry(items, number),
-        Level::Mapping { pairs, key, .. } => match key.take() {
+        Level::Sequence { items, .. } => gather(items, FIRST_ITEMS, number),
+        Level::Mapping { pairs, key, .. } => match *key {
             None => {
                 *key = Some(number);
                 Ok(())
             }
-            Some(first) => push_entry(
-                pairs,
-                yaml_node_pair_t {
+            Some(first) => {
+                *key = None;
+                let pair = yaml_node_pair_t {
                     key: first,
                     value: number,
-                },
-            ),
+                };
+                gather(pairs, FIRST_PAIRS, pair)
+            }
         },
     }
 }
@@ -188,30 +174,6 @@ fn fed_of(step: Result<(), yaml_text_fault_t>) -> Fed
     match step {
         Ok(()) => Fed::Taken,
         Err(_) => Fed::Starved,
-    }
-}
-
-// The node of a scalar, whose texts are taken out; a short value leaves its room to the next one.
-// Inlined into its one caller: the node is built where it is to stand.
-#[inline(always)]
-fn scalar_of(
-    tag: &mut Option<Vec<u8>>,
-    value: &mut Vec<u8>,
-    style: yaml_scalar_style_t,
-    start_mark: &yaml_mark_t,
-    end_mark: &yaml_mark_t,
-) -> yaml_node_t
-    ensures { node_of result ≡ scalar_node (head_of None (text_of tag.old) start_mark.now
-        end_mark.now) value.old.items style }
-{
-    let given = tag.take();
-    let tag = tag_or_default(given, yaml_node_tag_t::Str);
-    let value = yaml_node_text_t::taken(value);
-    yaml_node_t {
-        body: yaml_node_body_t::Scalar { value, style },
-        tag,
-        start_mark: mark_again(start_mark),
-        end_mark: mark_again(end_mark),
     }
 }
 
@@ -318,7 +280,7 @@ impl Making {
             return Err(yaml_text_fault_t::Memory);
         }
         let number = (count + 1) as i32;
-        push_entry(&mut self.parts.nodes, node)?;
+        push_node(&mut self.parts.nodes, node)?;
         register(&mut self.anchors, anchor, number)?;
         attach(&mut self.levels, number)
     }
@@ -357,8 +319,48 @@ impl Making {
         }
     }
 
+    // A sequence begins, with its node, which is empty yet.
+    // Inlined: the node is built where it is to stand.
+    #[inline(always)]
+    fn begin_sequence(
+        &mut self,
+        name: Option<Vec<u8>>,
+        node: yaml_node_t,
+    ) -> Result<(), yaml_text_fault_t>
+        ensures { OnOk result ((loading_of self.new ≡ enter_open (loading_of self.old)
+            (text_of name) (node_of node)
+            (open_sequence (length (loading_of self.old).document.nodes) []))
+            × HasRoomForNode (loading_of self.old)) }
+    {
+        let place = self.parts.nodes.len();
+        let gathered = Vec::new(self.parts.alloc);
+        let level = Level::Sequence {
+            place,
+            items: gathered,
+        };
+        self.open(name, node, level)
+    }
+
+    // A sequence without properties begins.
+    // Inlined: its node is built where it is to stand.
+    #[inline(always)]
+    fn take_sequence(
+        &mut self,
+        style: yaml_sequence_style_t,
+        start_mark: &yaml_mark_t,
+        end_mark: &yaml_mark_t,
+    ) -> Result<(), yaml_text_fault_t>
+        ensures { OnOk result ((loading_of self.new ≡ enter_open (loading_of self.old) None
+            (sequence_node (head_of None None start_mark.now end_mark.now) [] style end_mark.now)
+            (open_sequence (length (loading_of self.old).document.nodes) []))
+            × HasRoomForNode (loading_of self.old)) }
+    {
+        let node = bare_sequence(self.parts.alloc, style, start_mark, end_mark);
+        self.begin_sequence(None, node)
+    }
+
     // A sequence begins. Its texts are taken out.
-    // Out of line: in line its room would be set to zero for each event.
+    // Out of line: most have none, and in line its room would be set to zero for each event.
     #[inline(never)]
     fn sequence(
         &mut self,
@@ -374,28 +376,54 @@ impl Making {
             (open_sequence (length (loading_of self.old).document.nodes) []))
             × HasRoomForNode (loading_of self.old)) }
     {
-        let alloc = self.parts.alloc;
         let name = anchor.take();
-        let given = tag.take();
-        let tag = tag_or_default(given, yaml_node_tag_t::Seq);
-        let items = Vec::new(alloc);
-        let node = yaml_node_t {
-            body: yaml_node_body_t::Sequence { items, style },
-            tag,
-            start_mark: *start_mark,
-            end_mark: *end_mark,
-        };
+        let node = sequence_of(self.parts.alloc, tag, style, start_mark, end_mark);
+        self.begin_sequence(name, node)
+    }
+
+    // A mapping begins, with its node, which is empty yet.
+    // Inlined: the node is built where it is to stand.
+    #[inline(always)]
+    fn begin_mapping(
+        &mut self,
+        name: Option<Vec<u8>>,
+        node: yaml_node_t,
+    ) -> Result<(), yaml_text_fault_t>
+        ensures { OnOk result ((loading_of self.new ≡ enter_open (loading_of self.old)
+            (text_of name) (node_of node)
+            (open_mapping (length (loading_of self.old).document.nodes) [] None))
+            × HasRoomForNode (loading_of self.old)) }
+    {
         let place = self.parts.nodes.len();
-        let gathered = Vec::new(alloc);
-        let level = Level::Sequence {
+        let gathered = Vec::new(self.parts.alloc);
+        let level = Level::Mapping {
             place,
-            items: gathered,
+            pairs: gathered,
+            key: None,
         };
         self.open(name, node, level)
     }
 
+    // A mapping without properties begins.
+    // Inlined: its node is built where it is to stand.
+    #[inline(always)]
+    fn take_mapping(
+        &mut self,
+        style: yaml_mapping_style_t,
+        start_mark: &yaml_mark_t,
+        end_mark: &yaml_mark_t,
+    ) -> Result<(), yaml_text_fault_t>
+        ensures { OnOk result ((loading_of self.new ≡ enter_open (loading_of self.old) None
+            (mapping_node (head_of None None start_mark.now end_mark.now) [] style end_mark.now)
+            (open_mapping (length (loading_of self.old).document.nodes) [] None))
+            × HasRoomForNode (loading_of self.old)) }
+    {
+        let node = bare_mapping(self.parts.alloc, style, start_mark, end_mark);
+        self.begin_mapping(None, node)
+    }
+
     // A mapping begins. Its texts are taken out.
-    // Out of line: see `sequence`.
+    // Out of line: most have none, and in line its room would be set to zero for each event.
     #[inline(never)]
     fn mapping(
         &mut self,
@@ -411,40 +439,104 @@ impl Making {
             (open_mapping (length (loading_of self.old).document.nodes) [] None))
             × HasRoomForNode (loading_of self.old)) }
     {
-        let alloc = self.parts.alloc;
         let name = anchor.take();
-        let given = tag.take();
-        let tag = tag_or_default(given, yaml_node_tag_t::Map);
-        let pairs = Vec::new(alloc);
-        let node = yaml_node_t {
-            body: yaml_node_body_t::Mapping { pairs, style },
-            tag,
-            start_mark: *start_mark,
-            end_mark: *end_mark,
-        };
-        let place = self.parts.nodes.len();
-        let gathered = Vec::new(alloc);
-        let level = Level::Mapping {
-            place,
-            pairs: gathered,
-            key: None,
-        };
-        self.open(name, node, level)
+        let node = mapping_of(self.parts.alloc, tag, style, start_mark, end_mark);
+        self.begin_mapping(name, node)
     }
 
-    /// What the event makes of the document. Its texts are taken out. It is long because it has an arm for each kind of event.
+    // A scalar without properties, of a long value. It is taken out.
+    // Out of line: most values are short, and a node that may have either goes by way of the stack.
+    #[inline(never)]
+    fn take_long_scalar(
+        &mut self,
+        value: &mut Vec<u8>,
+        style: yaml_scalar_style_t,
+        start_mark: &yaml_mark_t,
+        end_mark: &yaml_mark_t,
+    ) -> Result<(), yaml_text_fault_t>
+        ensures { OnOk result ((loading_of self.new ≡ enter_leaf (loading_of self.old) None
+            (scalar_node (head_of None None start_mark.now end_mark.now) value.old.items style))
+            × HasRoomForNode (loading_of self.old)) }
+    {
+        let node = bare_scalar(value, style, start_mark, end_mark);
+        self.add(None, node)
+    }
+
+    // A scalar without properties. A long value is taken out, a short one leaves its room to the next.
+    // Inlined: the node is built where it is to stand.
+    #[inline(always)]
+    fn take_scalar(
+        &mut self,
+        value: &mut Vec<u8>,
+        style: yaml_scalar_style_t,
+        start_mark: &yaml_mark_t,
+        end_mark: &yaml_mark_t,
+    ) -> Result<(), yaml_text_fault_t>
+        ensures { OnOk result ((loading_of self.new ≡ enter_leaf (loading_of self.old) None
+            (scalar_node (head_of None None start_mark.now end_mark.now) value.old.items style))
+            × HasRoomForNode (loading_of self.old)) }
+    {
+        if value.len() <= SHORT {
+            let node = bare_scalar(value, style, start_mark, end_mark);
+            self.add(None, node)
+        } else {
+            self.take_long_scalar(value, style, start_mark, end_mark)
+        }
+    }
+
+    /// What the event makes of the document. Its texts are taken out.
+    // Inlined into the loop over events. Most nodes have no properties, and are asked for in front: of one that may have some each
+    // part would be put aside.
+    #[inline(always)]
     pub fn apply(&mut self, event: &mut yaml_event_t) -> Fed
         ensures { Applies (step (event_of event.old) (loading_of self.old))
             (event_of event.old).start_mark
             (HasRoomFor (event_of event.old).body (loading_of self.old)) result
             (loading_of self.new) }
     {
-        let alloc = self.parts.alloc;
         let yaml_event_t {
             body,
             start_mark,
             end_mark,
         } = event;
+        match *body {
+            yaml_event_body_t::Scalar {
+                anchor: None,
+                tag: None,
+                ref mut value,
+                ref mut style,
+                ..
+            } => fed_of(self.take_scalar(value, *style, start_mark, end_mark)),
+            yaml_event_body_t::SequenceStart {
+                anchor: None,
+                tag: None,
+                ref mut style,
+                ..
+            } => fed_of(self.take_sequence(*style, start_mark, end_mark)),
+            yaml_event_body_t::MappingStart {
+                anchor: None,
+                tag: None,
+                ref mut style,
+                ..
+            } => fed_of(self.take_mapping(*style, start_mark, end_mark)),
+            _ => self.apply_other(body, start_mark, end_mark),
+        }
+    }
+
+    // The same, of any event's body. It is long because it has an arm for each kind of event.
+    // Inlined into its one caller.
+    #[inline(always)]
+    fn apply_other(
+        &mut self,
+        body: &mut yaml_event_body_t,
+        start_mark: &yaml_mark_t,
+        end_mark: &yaml_mark_t,
+    ) -> Fed
+        ensures { Applies (step_body (body_of body.old) start_mark.now end_mark.now
+            (loading_of self.old)) start_mark.now
+            (HasRoomFor (body_of body.old) (loading_of self.old)) result (loading_of self.new) }
+    {
+        let alloc = self.parts.alloc;
         match body {
             yaml_event_body_t::DocumentStart {
                 version_directive,

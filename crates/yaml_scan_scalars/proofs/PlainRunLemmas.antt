@@ -1,8 +1,8 @@
 -- Runs of ordinary bytes in plain scalars.
 use Rattle.std.proofs.Common.{◌≡◌, ◌≢◌, ℕ, zero, suc, ◌+◌, ◌-◌, ◌<◌, ◌≤◌, ◌==◌, ◌&&◌, if◌then◌else◌, Bool, true, false, List, [], ◌∷◌, ◌++◌, length, Result, Ok, Err, refl, sym, ap, ◌∙◌, inl, inr, ◌⊎◌, arith}
-use Rattle.yaml_scan_scalars.proofs.Words.{cases_Bool, ne_eqb, nat_tests, Place, byte, ends_break, is_blank, Wrong, Joining, Piece, Kept, value, is_ordinary, in_run, bytes_at, piece_of, run_pieces, ends_kept, starts_kept, IsRun, Takes, Words, is_bracket, is_nothing, with_piece, with_run, words_from, words, plain_with, plain_text, plain_at, spot_at, ends_at, leads, after_white, joined, TookFirst, TookWords}
+use Rattle.yaml_scan_scalars.proofs.Words.{cases_Bool, ne_eqb, nat_tests, Place, byte, ends_break, is_blank, Wrong, Joining, Piece, Kept, value, is_ordinary, is_narrow, is_sign, is_link, in_run, bytes_at, piece_of, run_pieces, ends_kept, starts_kept, IsRun, Takes, Words, is_bracket, is_nothing, with_piece, with_run, words_from, words, plain_with, plain_text, plain_at, spot_at, ends_at, leads, after_white, joined, TookFirst, TookWords}
 use Rattle.yaml_scan_scalars.specs.declared.folding.Gap.TheVariants as gaps
-use Rattle.yaml_scan_scalars.proofs.RunLemmas.{ordinary_is, ordinary_no_break, ordinary_ends_none, ordinary_no_mark, run_parts, space_is, space_no_break, bytes_none, bytes_more, ends_bytes, resume_run, value_run, same_or, few}
+use Rattle.yaml_scan_scalars.proofs.RunLemmas.{ordinary_is, ordinary_no_break, ordinary_ends_none, ordinary_no_mark, sign_is, sign_no_break, sign_ends_none, no_mark_here, link_cases, run_parts, space_is, space_no_break, bytes_none, bytes_more, ends_bytes, resume_run, value_run, same_or, few}
 use Rattle.yaml_scan_scalars.proofs.FoldingLemmas.{value-kept}
 use Rattle.yaml_scan_scalars.proofs.PlainLemmas.{spot_kept, spot_blank, lead_text, leads-blank}
 
@@ -91,6 +91,30 @@ spot_ordinary flow level text p h l =
     let o = ordinary_is (byte text p) h in
     rw o.no_space (spot_kept flow level text p (ordinary_no_break _ _ _ h) o.no_blank (ends_ordinary flow level text p h l) (grind (arith, nat_tests)))
 
+sign_no_bracket : (b : ℕ) → is_sign b ≡ true → is_bracket b ≡ false
+unfolding is_bracket
+sign_no_bracket b h = grind (arith, nat_tests)
+
+ends_sign : (flow : Bool) (level : ℕ) (text : List ℕ) (p : ℕ) → is_sign (byte text p) ≡ true
+    → is_narrow (byte text (p + 1)) ≡ true → leads text p ≡ false
+    → ends_at flow level text p ≡ false
+unfolding ends_at
+ends_sign true level text p h n l =
+    let o = sign_is (byte text p) h in
+    let some = o.some in
+    rw (no_mark_here text p n, ne_eqb (byte text p) 0 (omega arith), ne_eqb (byte text p) 35 o.no_hash, ne_eqb (byte text p) 58 o.no_colon, sign_no_bracket (byte text p) h) refl
+ends_sign false level text p h n l =
+    let o = sign_is (byte text p) h in
+    let some = o.some in
+    rw (no_mark_here text p n, ne_eqb (byte text p) 0 (omega arith), ne_eqb (byte text p) 35 o.no_hash, ne_eqb (byte text p) 58 o.no_colon, l) refl
+
+spot_sign : (flow : Bool) (level : ℕ) (text : List ℕ) (p : ℕ) → is_sign (byte text p) ≡ true
+    → is_narrow (byte text (p + 1)) ≡ true → leads text p ≡ false
+    → spot_at flow level text p ≡ Takes (piece_of (byte text p)) (p + 1)
+spot_sign flow level text p h n l =
+    let o = sign_is (byte text p) h in
+    rw o.no_space (spot_kept flow level text p (sign_no_break _ _ _ h) o.no_blank (ends_sign flow level text p h n l) (grind (arith, nat_tests)))
+
 spot_space : (flow : Bool) (level : ℕ) (text : List ℕ) (p : ℕ) → byte text p ≡ 32
     → spot_at flow level text p ≡ Takes (piece_of (byte text p)) (p + 1)
 spot_space flow level text p h =
@@ -133,11 +157,18 @@ record RunSpot (flow : Bool) (level : ℕ) (text : List ℕ) (p : ℕ) : Type 0 
   pub takes : spot_at flow level text p ≡ Takes (piece_of (byte text p)) (p + 1)
   pub calm : leads text (p + 1) ≡ false
 
+link_spot : (flow : Bool) (level : ℕ) (text : List ℕ) (p : ℕ) → is_link (byte text p) ≡ true
+    → is_narrow (byte text (p + 1)) ≡ true → leads text p ≡ false → RunSpot flow level text p
+link_spot flow level text p h n l = elim (link_cases (byte text p) h) [
+  | inl e ↦ record { takes = spot_space flow level text p e; calm = leads-blank text p (space_is (byte text p) e).blank ∙ l }
+  | inr s ↦ record { takes = spot_sign flow level text p s n l; calm = sym (lead_text text p (sign_is (byte text p) s).no_blank (sign_ends_none _ _ _ _ s)).0 }
+]
+
 run_spot : (flow : Bool) (level : ℕ) (text : List ℕ) (p : ℕ) → in_run text p ≡ true
     → leads text p ≡ false → RunSpot flow level text p
 run_spot flow level text p h l = elim (run_parts text p h) [
   | inl o ↦ record { takes = spot_ordinary flow level text p o l; calm = sym (calm_next text p o).0 }
-  | inr s ↦ record { takes = spot_space flow level text p s.0; calm = leads-blank text p (space_is (byte text p) s.0).blank ∙ l }
+  | inr s ↦ link_spot flow level text p s.0 s.1 l
 ]
 
 words_none : (r : Result Words Wrong) → r ≡ words_with (λ w. w) r

@@ -1,6 +1,6 @@
 -- Runs of ordinary bytes.
-use Rattle.std.proofs.Common.{◌≡◌, ◌≢◌, ℕ, zero, suc, ◌+◌, ◌-◌, ◌<◌, ◌≤◌, ◌==◌, ◌&&◌, ◌||◌, Bool, true, false, List, [], ◌∷◌, ◌++◌, length, take, drop, Result, Ok, Err, refl, sym, ap, ◌∙◌, inl, inr, ◌⊎◌, append_assoc, arith}
-use Rattle.yaml_scan_scalars.proofs.Words.{cases_Bool, or_right, not-true, nat_tests, drop_more, Place, byte, break_of, ends_of, is_blank, is_document_indicator, Wrong, no_break, within, Folding, Gap, Piece, Kept, Blank, Line, lines, is_empty, folded, value, resume, resumed, is_ordinary, is_narrow, is_spaced, in_run, bytes_at, piece_of, run_pieces, starts_kept, ends_kept, IsRun, TookRun, Pieces, with_front, pieces, valued, standing_at}
+use Rattle.std.proofs.Common.{◌≡◌, ◌≢◌, ℕ, zero, suc, ◌+◌, ◌-◌, ◌<◌, ◌≤◌, ◌==◌, ◌&&◌, ◌||◌, Bool, true, false, List, [], ◌∷◌, ◌++◌, length, take, drop, nat_lt, Result, Ok, Err, refl, sym, ap, ◌∙◌, inl, inr, ◌⊎◌, append_assoc, arith}
+use Rattle.yaml_scan_scalars.proofs.Words.{and_parts, cases_Bool, or_cases, or_right, not-true, nat_tests, drop_more, Place, byte, break_of, ends_of, is_blank, is_document_indicator, Wrong, no_break, within, Folding, Gap, Piece, Kept, Blank, Line, lines, is_empty, folded, value, resume, resumed, is_ordinary, is_narrow, is_sign, is_link, is_linked, in_run, bytes_at, piece_of, run_pieces, starts_kept, ends_kept, IsRun, TookRun, Pieces, with_front, pieces, valued, standing_at}
 use Rattle.yaml_scan_scalars.specs.declared.folding.Gap.TheVariants as gaps
 use Rattle.yaml_scan_scalars.proofs.FoldingLemmas.{value-kept, blanks_of, keep_line, keep_feed, keep_kept}
 use Rattle.yaml_scan_scalars.proofs.QuotedLemmas.{standing_kept, standing_blank, front}
@@ -59,26 +59,93 @@ pub ordinary_no_mark : (text : List ℕ) (p : ℕ) → is_ordinary (byte text p)
 unfolding is_document_indicator
 ordinary_no_mark text p h = let o = ordinary_is (byte text p) h in no_mark (byte text p) _ _ _ _ o.no_dash o.no_dot
 
+-- what a dash and a dot are not
+
+pub record IsSign (b : ℕ) : Type 0 where
+  pub some : 0 < b
+  pub low : nat_lt b 128 ≡ true
+  pub no_cr : b ≢ 13
+  pub no_feed : b ≢ 10
+  pub no_c2 : b ≢ 0xC2
+  pub no_e2 : b ≢ 0xE2
+  pub no_double : b ≢ 34
+  pub no_single : b ≢ 39
+  pub no_backslash : b ≢ 92
+  pub no_blank : is_blank b ≡ false
+  pub no_hash : b ≢ 35
+  pub no_colon : b ≢ 58
+  pub no_space : (b == 32) ≡ false
+
+pub sign_is : (b : ℕ) → is_sign b ≡ true → IsSign b
+sign_is b h = record {
+  some = grind (arith, nat_tests);
+  low = grind (arith, nat_tests);
+  no_cr = grind (arith, nat_tests);
+  no_feed = grind (arith, nat_tests);
+  no_c2 = grind (arith, nat_tests);
+  no_e2 = grind (arith, nat_tests);
+  no_double = grind (arith, nat_tests);
+  no_single = grind (arith, nat_tests);
+  no_backslash = grind (arith, nat_tests);
+  no_blank = grind (arith, nat_tests);
+  no_hash = grind (arith, nat_tests);
+  no_colon = grind (arith, nat_tests);
+  no_space = grind (arith, nat_tests);
+}
+
+pub sign_no_break : (b c d : ℕ) → is_sign b ≡ true → break_of b c d ≡ 0
+sign_no_break b c d h = let o = sign_is b h in no_break b c d o.no_cr o.no_feed o.no_c2 o.no_e2
+
+pub sign_ends_none : (x y b c : ℕ) → is_sign b ≡ true → ends_of x y b c ≡ false
+unfolding ends_of
+sign_ends_none x y b c h = grind (arith, nat_tests)
+
+no_mark_before : (b c d : ℕ) (first last : Bool) → c ≢ 45 → c ≢ 46
+    → (first && ((((b == 45) && (c == 45)) && (d == 45)) || (((b == 46) && (c == 46)) && (d == 46)))
+    && last) ≡ false
+no_mark_before b c d first last h k = grind (arith, nat_tests)
+
+pub narrow_ordinary : (b : ℕ) → is_narrow b ≡ true → is_ordinary b ≡ true
+unfolding is_narrow
+narrow_ordinary b h = (and_parts (nat_lt b 128) (is_ordinary b) h).1
+
+-- before an ordinary byte no document's mark begins
+pub no_mark_here : (text : List ℕ) (p : ℕ) → is_narrow (byte text (p + 1)) ≡ true
+    → is_document_indicator text p ≡ false
+unfolding is_document_indicator
+no_mark_here text p h =
+    let o = ordinary_is (byte text (p + 1)) (narrow_ordinary (byte text (p + 1)) h) in
+    no_mark_before (byte text p) (byte text (p + 1)) _ _ _ o.no_dash o.no_dot
+
 -- what stands in a run
 
-spaced_or : (o n : Bool) (b : ℕ) → (o || (b == 32 && n)) ≡ true
-    → (o ≡ true) ⊎ ((b ≡ 32) × (n ≡ true))
-spaced_or true n b h = inl refl
-spaced_or false n b h = inr (grind (arith, nat_tests), grind (arith, nat_tests))
+linked_or : (o l n : Bool) → (o || (l && n)) ≡ true → (o ≡ true) ⊎ ((l ≡ true) × (n ≡ true))
+linked_or true l n h = inl refl
+linked_or false l n h = inr (and_parts l n h)
 
 pub run_parts : (text : List ℕ) (p : ℕ) → in_run text p ≡ true
     → (is_ordinary (byte text p) ≡ true)
-    ⊎ ((byte text p ≡ 32) × (is_narrow (byte text (p + 1)) ≡ true))
+    ⊎ ((is_link (byte text p) ≡ true) × (is_narrow (byte text (p + 1)) ≡ true))
 unfolding in_run
-run_parts text p h = spaced_or (is_ordinary (byte text p)) (is_narrow (byte text (p + 1))) (byte text p) h
+run_parts text p h = linked_or (is_ordinary (byte text p)) (is_link (byte text p)) (is_narrow (byte text (p + 1))) h
+
+same_space : (b : ℕ) → (b == 32) ≡ true → b ≡ 32
+same_space b h = grind (arith, nat_tests)
+
+pub link_cases : (b : ℕ) → is_link b ≡ true → (b ≡ 32) ⊎ (is_sign b ≡ true)
+unfolding is_link
+link_cases b h = elim (or_cases (b == 32) (is_sign b) h) [
+  | inl e ↦ inl (same_space b e)
+  | inr s ↦ inr s
+]
 
 pub ordinary_in : (text : List ℕ) (p : ℕ) → is_ordinary (byte text p) ≡ true → in_run text p ≡ true
 unfolding in_run
 ordinary_in text p h = rw h refl
 
-pub spaced_in : (text : List ℕ) (p : ℕ) → is_spaced text p ≡ true → in_run text p ≡ true
+pub linked_in : (text : List ℕ) (p : ℕ) → is_linked text p ≡ true → in_run text p ≡ true
 unfolding in_run
-spaced_in text p h = or_right (is_ordinary (byte text p)) (is_spaced text p) h
+linked_in text p h = or_right (is_ordinary (byte text p)) (is_linked text p) h
 
 -- bytes of the text
 
@@ -381,11 +448,27 @@ standing_space quote text p q h =
     let s = space_is (byte text p) h in
     rw s.same (standing_blank quote text p (space_no_mark text p h) (omega arith) (not_quote quote (byte text p) (omega arith) (omega arith) q) (space_no_break _ _ _ h) s.blank)
 
+standing_sign : (quote : ℕ) (text : List ℕ) (p : ℕ) → (quote ≡ 34) ⊎ (quote ≡ 39)
+    → is_sign (byte text p) ≡ true → is_narrow (byte text (p + 1)) ≡ true
+    → standing_at quote text p ≡ Pieces (piece_of (byte text p) ∷ []) (p + 1)
+standing_sign quote text p q h n =
+    let o = sign_is (byte text p) h in
+    let some = o.some in
+    rw o.no_space (standing_kept quote text p (no_mark_here text p n) (omega arith) (not_quote quote (byte text p) o.no_double o.no_single q) (sign_no_break _ _ _ h) o.no_blank (no_escape quote (byte text p) o.no_backslash))
+
+standing_link : (quote : ℕ) (text : List ℕ) (p : ℕ) → (quote ≡ 34) ⊎ (quote ≡ 39)
+    → is_link (byte text p) ≡ true → is_narrow (byte text (p + 1)) ≡ true
+    → standing_at quote text p ≡ Pieces (piece_of (byte text p) ∷ []) (p + 1)
+standing_link quote text p q h n = elim (link_cases (byte text p) h) [
+  | inl e ↦ standing_space quote text p q e
+  | inr s ↦ standing_sign quote text p q s n
+]
+
 standing_run : (quote : ℕ) (text : List ℕ) (p : ℕ) → (quote ≡ 34) ⊎ (quote ≡ 39)
     → in_run text p ≡ true → standing_at quote text p ≡ Pieces (piece_of (byte text p) ∷ []) (p + 1)
 standing_run quote text p q h = elim (run_parts text p h) [
   | inl o ↦ standing_ordinary quote text p q o
-  | inr s ↦ standing_space quote text p q s.0
+  | inr s ↦ standing_link quote text p q s.0 s.1
 ]
 
 pieces_one : (n quote : ℕ) (text : List ℕ) (p : ℕ) (x : Piece)

@@ -1,8 +1,8 @@
 -- The table of ordinary bytes, and the marks behind a run of them.
 use Rattle.std.proofs.Common.{◌≡◌, ℕ, zero, suc, ◌+◌, ◌<◌, ◌≤◌, if◌then◌else◌, Bool, true, false, ◌&&◌, ◌||◌, ◌==◌, ◌-◌, ◌∙◌, List, length, nat_lt, refl, sym, inl, inr, ◌⊎◌, arith}
-use Rattle.yaml_scan_scalars.proofs.Words.{nat_tests, cases_Bool, cases_eq, cases_lt, and_parts, true≢false, or_cases, or_parts, byte, break_of, ends_break, splits_break, starts, line_at, column_at, within, end_next, split_next, line_more, column_more, column_same, is_ordinary, is_narrow, is_spaced, in_run, IsRun}
+use Rattle.yaml_scan_scalars.proofs.Words.{nat_tests, cases_Bool, cases_eq, cases_lt, and_parts, true≢false, or_cases, or_parts, byte, break_of, ends_break, splits_break, starts, line_at, column_at, within, end_next, split_next, line_more, column_more, column_same, is_ordinary, is_narrow, is_link, is_linked, in_run, IsRun}
 use Rattle.std.specs.Bool.{beq}
-use Rattle.yaml_scan_scalars.proofs.RunLemmas.{ordinary_is, ordinary_no_break, space_no_break, ordinary_in, spaced_in, run_parts, last_or, less_or}
+use Rattle.yaml_scan_scalars.proofs.RunLemmas.{ordinary_is, ordinary_no_break, space_no_break, sign_is, sign_no_break, link_cases, ordinary_in, linked_in, run_parts, last_or, less_or}
 
 -- the two tests agree below n
 unfoldable pub agree_below : (ℕ → Bool) → (ℕ → Bool) → ℕ → Bool
@@ -78,12 +78,12 @@ pub one_at_most : (b : Bool) → (if b then 1 else 0) ≤ 1
 one_at_most true = omega arith
 one_at_most false = omega arith
 
--- behind the end no space stands
-pub past_spaced : (text : List ℕ) (p : ℕ) → length text ≤ p → is_spaced text p ≡ false
-past_spaced text p h =
+-- behind the end none of them stands
+pub past_linked : (text : List ℕ) (p : ℕ) → length text ≤ p → is_linked text p ≡ false
+past_linked text p h =
     elim (cases_lt 0 (byte text p)) [
       | inl some ↦ let inside = within text p some in absurd (omega arith)
-      | inr none ↦ let z : byte text p ≡ 0 = omega arith in rw z refl
+      | inr none ↦ let z : byte text p ≡ 0 = omega arith in rw z (unfold is_link in refl)
     ]
 
 -- a byte of ASCII in a run
@@ -98,19 +98,20 @@ passes_narrow text p h =
     let n = narrow_is (byte text p) h in
     record { each = ordinary_in text p n.ordinary; some = (ordinary_is (byte text p) n.ordinary).some; low = n.low; none = ordinary_no_break _ _ _ n.ordinary }
 
-is_space : (b : ℕ) (x : Bool) → (b == 32 && x) ≡ true → b ≡ 32
-is_space b x h = grind (arith, nat_tests)
+passes_link : (text : List ℕ) (p : ℕ) → is_linked text p ≡ true → Passes text p
+passes_link text p h =
+    elim (link_cases (byte text p) (and_parts (is_link (byte text p)) (is_narrow (byte text (p + 1))) h).0) [
+      | inl e ↦ record { each = linked_in text p h; some = omega arith; low = rw e refl; none = space_no_break _ _ _ e }
+      | inr s ↦
+          let o = sign_is (byte text p) s in
+          record { each = linked_in text p h; some = o.some; low = o.low; none = sign_no_break _ _ _ s }
+    ]
 
-passes_space : (text : List ℕ) (p : ℕ) → is_spaced text p ≡ true → Passes text p
-passes_space text p h =
-    let e = is_space (byte text p) _ h in
-    record { each = spaced_in text p h; some = omega arith; low = rw e refl; none = space_no_break _ _ _ e }
-
-pub passes : (text : List ℕ) (p : ℕ) → (is_narrow (byte text p) || is_spaced text p) ≡ true
+pub passes : (text : List ℕ) (p : ℕ) → (is_narrow (byte text p) || is_linked text p) ≡ true
     → Passes text p
-passes text p h = elim (or_cases (is_narrow (byte text p)) (is_spaced text p) h) [
+passes text p h = elim (or_cases (is_narrow (byte text p)) (is_linked text p) h) [
   | inl n ↦ passes_narrow text p n
-  | inr s ↦ passes_space text p s
+  | inr s ↦ passes_link text p s
 ]
 
 -- before a byte that isn't ordinary, or behind the end, the run's last byte is no space
@@ -124,7 +125,7 @@ last_ordinary text q l h n =
     ]
 
 pub run_of : (text : List ℕ) (p q : ℕ) → p ≤ q → ((k : ℕ) → p ≤ k → k < q → in_run text k ≡ true)
-    → (is_narrow (byte text q) || is_spaced text q) ≡ false
+    → (is_narrow (byte text q) || is_linked text q) ≡ false
     → IsRun text p (record { text = text; at = q })
 run_of text p q after each stops = record {
   same = refl;

@@ -22,13 +22,21 @@ is_ordinary b =
 unfoldable pub is_narrow : ℕ → Bool
 is_narrow b = nat_lt b 128 && is_ordinary b
 
--- a space stands there, before an ordinary byte of ASCII
-abbrev pub is_spaced : List ℕ → ℕ → Bool
-is_spaced text p = byte text p == ascii.space && is_narrow (byte text (p + 1))
+-- a dash or a dot: three of them at a line's start may be a document's mark
+abbrev pub is_sign : ℕ → Bool
+is_sign b = b == ascii.hyphen || b == ascii.dot
 
--- the byte there stands for itself: an ordinary one, or a space before such a one
+-- a space, a dash or a dot
+unfoldable pub is_link : ℕ → Bool
+is_link b = b == ascii.space || is_sign b
+
+-- one of these stands there, before an ordinary byte of ASCII
+abbrev pub is_linked : List ℕ → ℕ → Bool
+is_linked text p = is_link (byte text p) && is_narrow (byte text (p + 1))
+
+-- the byte there stands for itself: an ordinary one, or a space, a dash or a dot before such a one
 unfoldable pub in_run : List ℕ → ℕ → Bool
-in_run text p = is_ordinary (byte text p) || is_spaced text p
+in_run text p = is_ordinary (byte text p) || is_linked text p
 
 -- d bytes from there on
 unfoldable pub bytes_at : List ℕ → ℕ → ℕ → List ℕ

@@ -1,4 +1,4 @@
-//! Runs of bytes that stand for themselves, which are taken at once. Single spaces between them are part of a run.
+//! Runs of bytes that stand for themselves, which are taken at once. Single spaces, dashes and dots between them are part of a run.
 
 ghost use Rattle.std.specs.Prelude.{◌≡◌, ◌-◌, ◌+◌, ◌≤◌, ◌<◌, ◌||◌, ℕ, true, length, if◌then◌else◌};
 ghost use Rattle.yaml_scan_model.specs.Marks.{byte, break_width, starts};
@@ -11,10 +11,10 @@ use yaml_scan_model::{Reader, yaml_mark_t};
 const AHEAD: usize = 8;
 
 /// For each byte that stands for itself between quotes and inside a line of a plain scalar, whatever stands beside it, `2` if it is
-/// one of ASCII, or else `1`.
+/// one of ASCII, or else `1`; for a space, a dash and a dot, which do before such a one of ASCII, `/`; for all others `0`.
 static ORDINARY: [u8; 256] = *b"\
     00000000000000000000000000000000\
-    00000000222200022222222222022220\
+    /000000022220//22222222222022220\
     22222222222222222222222222200022\
     22222222222222222222222222200000\
     11111011111111111111111111111111\
@@ -68,22 +68,41 @@ fn is_narrow_at(text: &[u8], place: usize) -> bool
     is_narrow(text[place])
 }
 
-/// Whether a space stands there before an ordinary byte of ASCII.
+/// Whether the byte is a space, a dash or a dot.
 // Inlined into the loop over bytes.
 #[inline(always)]
-fn spaced_at(text: &[u8], place: usize) -> bool
-    ensures { result ≡ spec.is_spaced text.now place }
+fn is_link(byte: u8) -> bool
+    ensures { result ≡ spec.is_link byte }
 {
-    place < text.len() && (text[place] == b' ' && narrow_at(text, place + 1))
+    ORDINARY[byte as usize] == b'/'
+}
+
+/// Whether the byte there, which is in the text, is a space, a dash or a dot.
+// Inlined into the loop over bytes.
+#[inline(always)]
+fn is_link_at(text: &[u8], place: usize) -> bool
+    requires { place < length text.now }
+    ensures { result ≡ spec.is_link (byte text.now place) }
+{
+    is_link(text[place])
+}
+
+/// Whether one of these stands there, before an ordinary byte of ASCII.
+// Inlined into the loop over bytes.
+#[inline(always)]
+fn linked_at(text: &[u8], place: usize) -> bool
+    ensures { result ≡ spec.is_linked text.now place }
+{
+    place < text.len() && (is_link_at(text, place) && narrow_at(text, place + 1))
 }
 
 /// Whether a byte of ASCII stands there that a run goes over.
 // Inlined into the loop over bytes.
 #[inline(always)]
 fn passes_at(text: &[u8], place: usize) -> bool
-    ensures { result ≡ (spec.is_narrow (byte text.now place) || spec.is_spaced text.now place) }
+    ensures { result ≡ (spec.is_narrow (byte text.now place) || spec.is_linked text.now place) }
 {
-    narrow_at(text, place) || spaced_at(text, place)
+    narrow_at(text, place) || linked_at(text, place)
 }
 
 /// How many characters begin with the byte.
@@ -114,7 +133,7 @@ pub(crate) fn pass_byte(reader: &mut Reader)
     *reader = Reader::resume(text, mark);
 }
 
-/// Past the run that stands here, and its bytes: ordinary ones, and single spaces between them or before the first.
+/// Past the run that stands here, and its bytes: ordinary ones, and single spaces, dashes and dots between them or before the first.
 // Inlined: a loop of a load and a comparison a byte.
 #[inline(always)]
 pub(crate) fn ordinary_run<'a>(reader: &mut Reader<'a>) -> &'a [u8]
@@ -142,7 +161,7 @@ fn pass_run(reader: &mut Reader)
     }
 }
 
-/// Past the ordinary bytes of ASCII that stand here and single spaces before such: each is a column.
+/// Past the ordinary bytes of ASCII that stand here and single spaces, dashes and dots before such: each is a column.
 // Inlined: a loop of a load and a comparison a byte.
 #[inline(always)]
 fn narrow_run(reader: &mut Reader)

@@ -1,0 +1,127 @@
+//! Entries more at the end of the lists of a document in the making.
+
+ghost use Rattle.std.specs.Prelude.{◌≡◌, ◌<◌, ◌≤◌, ◌++◌, ◌∷◌, [], length, vec_len, vec_capacity, OnOk};
+
+use yaml_parse_document::{MAX_ENTRIES, push_entry};
+use yaml_parse_model::{yaml_node_t, yaml_text_fault_t};
+
+/// For how many items there is room at first: with glibc as many take no more memory than four.
+pub const FIRST_ITEMS: usize = 6;
+
+/// For how many pairs there is room at first: with glibc as many take no more memory than four.
+pub const FIRST_PAIRS: usize = 5;
+
+// Room of that many at first.
+fn gather_first<T: Drop>(
+    entries: &mut Vec<T>,
+    first: usize,
+    entry: T,
+) -> Result<(), yaml_text_fault_t>
+    requires { 1 ≤ first }
+    ensures { OnOk result (entries.new.items ≡ entries.old.items ++ entry ∷ []) }
+{
+    match entries.reserve_exact(first) {
+        Ok(()) => {
+            entries.push_reserved(entry);
+            Ok(())
+        }
+        Err(_) => Err(yaml_text_fault_t::Memory),
+    }
+}
+
+// One entry more, for which there is no room.
+// Out of line: mostly there is.
+#[inline(never)]
+fn gather_more<T: Drop>(
+    entries: &mut Vec<T>,
+    first: usize,
+    entry: T,
+) -> Result<(), yaml_text_fault_t>
+    requires { 1 ≤ first }
+    ensures { OnOk result (entries.new.items ≡ entries.old.items ++ entry ∷ []) }
+{
+    if entries.capacity() == 0 {
+        gather_first(entries, first, entry)
+    } else {
+        push_entry(entries, entry)
+    }
+}
+
+/// One entry more of an open collection, whose list has room for that many at first.
+// Inlined: two comparisons, and a store.
+#[inline(always)]
+pub fn gather<T: Drop>(
+    entries: &mut Vec<T>,
+    first: usize,
+    entry: T,
+) -> Result<(), yaml_text_fault_t>
+    requires { 1 ≤ first }
+    ensures { OnOk result ((entries.new.items ≡ entries.old.items ++ entry ∷ [])
+        × (length entries.old.items < 2147483647)) }
+{
+    let count = entries.len();
+    if count >= MAX_ENTRIES {
+        return Err(yaml_text_fault_t::Memory);
+    }
+    if count < entries.capacity() {
+        entries.push_reserved(entry);
+        return Ok(());
+    }
+    gather_more(entries, first, entry)
+}
+
+// For how many nodes more there is to be room. From 256 on for 1,100 at once: a block of that size mostly grows where it is.
+fn nodes_more(count: usize) -> usize
+    ensures { 1 ≤ result }
+{
+    if 256 <= count && count < 1100 {
+        1100 - count
+    } else {
+        1
+    }
+}
+
+// Makes room for more nodes.
+// Out of line: mostly there is.
+#[inline(never)]
+fn grow_nodes(nodes: &mut Vec<yaml_node_t>) -> Result<(), yaml_text_fault_t>
+    ensures items { nodes.new.items ≡ nodes.old.items }
+    ensures room { OnOk result (vec_len nodes.new < vec_capacity nodes.new) }
+{
+    match nodes.reserve(nodes_more(nodes.len())) {
+        Ok(()) => Ok(()),
+        Err(_) => Err(yaml_text_fault_t::Memory),
+    }
+}
+
+// Makes room for a node.
+// Inlined: a comparison.
+#[inline(always)]
+fn room_for_node(nodes: &mut Vec<yaml_node_t>) -> Result<(), yaml_text_fault_t>
+    ensures items { nodes.new.items ≡ nodes.old.items }
+    ensures room { OnOk result (vec_len nodes.new < vec_capacity nodes.new) }
+{
+    if nodes.len() < nodes.capacity() {
+        return Ok(());
+    }
+    grow_nodes(nodes)
+}
+
+/// One node more; `Memory` where a growth was refused or the list is full.
+// Inlined: the node is built where it is to stand.
+#[inline(always)]
+pub fn push_node(nodes: &mut Vec<yaml_node_t>, node: yaml_node_t) -> Result<(), yaml_text_fault_t>
+    ensures { OnOk result ((nodes.new.items ≡ nodes.old.items ++ node ∷ [])
+        × (length nodes.old.items < 2147483647)) }
+{
+    if nodes.len() >= MAX_ENTRIES {
+        return Err(yaml_text_fault_t::Memory);
+    }
+    match room_for_node(nodes) {
+        Ok(()) => {
+            nodes.push_reserved(node);
+            Ok(())
+        }
+        Err(fault) => Err(fault),
+    }
+}

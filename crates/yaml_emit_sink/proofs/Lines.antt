@@ -2,6 +2,7 @@
 use Rattle.std.proofs.Common.{◌≡◌, ℕ, ◌+◌, ◌-◌, ◌≤◌, List, [], ◌∷◌, ◌++◌, take, length, length-append, true, false, sym, subst, ◌∙◌, ap, append_assoc, arith}
 use Rattle.std.specs.Prelude.{zero, suc, replicate}
 use Rattle.std.proofs.lemmas.List.{take-replicate, length-replicate}
+use Rattle.std.proofs.Math.Seq.{take-append-add}
 use Rattle.yaml_emit_sink.specs.declared.cursor.Cursor.{Cursor}
 use Rattle.yaml_emit_sink.specs.declared.cursor.Status.{Status}
 use Rattle.yaml_emit_sink.specs.declared.cursor.Status.TheVariants.{Going}
@@ -75,8 +76,13 @@ pub line_joined : (a b : Output) (k : LineBreak) (n : ℕ) → must_break n a.cu
     → Puts a b (indent_to n) → Puts a b (line k n)
 line_joined a b k n m p = puts_as a b (indent_to n) (line k n) (λ rest. line_stays k n a.cursor rest m) p
 
--- a line feed and some of many spaces behind it
-pub line_behind : (old middle new : List ℕ) (n : ℕ) → n ≤ 128 → middle ≡ old ++ 10 ∷ []
-    → new ≡ middle ++ take {A = ℕ} n (replicate 128 32) → new ≡ old ++ 10 ∷ replicate n 32
-line_behind old middle new n h m e =
-    e ∙ ap (λ (t : List ℕ). middle ++ t) (take-replicate n 128 32 h) ∙ ap (λ (t : List ℕ). t ++ replicate n 32) m ∙ append_assoc old (10 ∷ []) (replicate n 32)
+-- a line feed and the first of some spaces behind it
+pub line_cut : (old feed whole new blanks : List ℕ) (n : ℕ) → n ≤ length blanks
+    → blanks ≡ replicate (length blanks) 32 → feed ≡ old ++ 10 ∷ [] → whole ≡ feed ++ blanks
+    → new ≡ take (length old + (1 + n)) whole → new ≡ old ++ 10 ∷ replicate n 32
+line_cut old feed whole new blanks n h b f w e =
+    let more : 1 + n ≡ suc n = omega arith in
+    let is : whole ≡ old ++ 10 ∷ blanks = w ∙ ap (λ (t : List ℕ). t ++ blanks) f ∙ append_assoc old (10 ∷ []) blanks in
+    let some : take n blanks ≡ replicate n 32 = ap (take n) b ∙ take-replicate n (length blanks) 32 h in
+    e ∙ ap (take (length old + (1 + n))) is ∙ take-append-add old (10 ∷ blanks) (1 + n)
+    ∙ ap (λ (k : ℕ). old ++ take k (10 ∷ blanks)) more ∙ ap (λ (t : List ℕ). old ++ 10 ∷ t) some

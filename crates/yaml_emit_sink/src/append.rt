@@ -2,7 +2,7 @@
 
 ghost use Rattle.std.specs.Prelude.{◌≡◌, ◌≢◌, ◌<◌, ◌≤◌, ◌+◌, ◌^◌, [], ◌∷◌, ◌++◌, length, replicate, if◌then◌else◌, IfSome, OnOk, OnErr, true};
 ghost use Rattle.yaml_types.specs.Ascii as ascii;
-ghost use Rattle.std.specs.Vec.{vec_len, vec_capacity};
+ghost use Rattle.std.specs.Vec.{vec_capacity};
 ghost use Rattle.yaml_emit_sink.specs.Appends.{AppendsBy, moved, indented, blanked, lettered};
 ghost use Rattle.yaml_emit_sink.specs.Text.{char_bytes};
 
@@ -10,7 +10,6 @@ use crate::bytes::bytes_of;
 use crate::cursor::{Cursor, Status};
 use crate::settings::Encoding;
 use std::alloc::AllocError;
-use yaml_types::{put_each, put_near};
 
 // These bytes, as far as the limit and the memory allow, and what becomes of the output.
 pub(crate) fn append(output: &mut Vec<u8>, limit: u64, bytes: &[u8]) -> Status
@@ -89,42 +88,6 @@ pub(crate) fn append_blanks(output: &mut Vec<u8>, limit: u64, count: u64) -> Sta
             Ok(()) => Status::Full,
             Err(_) => Status::Starved,
         }
-    }
-}
-
-// A line feed and few spaces.
-const LINE: [u8; 9] = *b"\n        ";
-
-// The most spaces that are put at once behind a line feed.
-const BLANKS: [u8; 128] = [b' '; 128];
-
-// A line feed and many spaces, for which there is room.
-fn put_deep_line(output: &mut Vec<u8>, count: u64)
-    requires inside { vec_len output.old + (1 + count) ≤ vec_capacity output.old }
-    requires few { count ≤ 128 }
-    ensures items { output.new.items
-        ≡ output.old.items ++ ascii.line_feed ∷ replicate count ascii.space }
-    ensures room { vec_capacity output.old ≤ vec_capacity output.new }
-{
-    output.push_reserved(b'\n');
-    put_near(output, &BLANKS[..count as usize]);
-}
-
-// A line feed and so many spaces, for which there is room: the numbers that are met most are known one by one.
-pub(crate) fn put_fresh_line(output: &mut Vec<u8>, count: u64)
-    requires inside { vec_len output.old + (1 + count) ≤ vec_capacity output.old }
-    requires few { count ≤ 128 }
-    ensures items { output.new.items
-        ≡ output.old.items ++ ascii.line_feed ∷ replicate count ascii.space }
-    ensures room { vec_capacity output.old ≤ vec_capacity output.new }
-{
-    match count {
-        0 => put_each(output, &LINE[..1]),
-        2 => put_each(output, &LINE[..3]),
-        4 => put_each(output, &LINE[..5]),
-        6 => put_each(output, &LINE[..7]),
-        8 => put_each(output, &LINE[..9]),
-        _ => put_deep_line(output, count),
     }
 }
 

@@ -4,6 +4,7 @@
 mod append;
 mod bytes;
 mod cursor;
+mod feed;
 mod hex;
 mod laws;
 mod narrow;

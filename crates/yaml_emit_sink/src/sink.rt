@@ -9,9 +9,9 @@ mod around;
 
 use crate::append::{
     append, append_blanks, append_char, blanked, byte_of, indented, is_roomy, lettered, moved,
-    put_fresh_line,
 };
 use crate::cursor::{Cursor, Status};
+use crate::feed::{has_room, is_brief, put_deep_line, put_fresh_line};
 use crate::narrow::is_long_ascii;
 use crate::settings::{Encoding, LineBreak};
 use std::alloc::{AllocError, Global};
@@ -53,26 +53,6 @@ fn fast_limit_of(output: &Vec<u8>, limit: u64, encoding: Encoding) -> u64
 {
     let room = output.capacity() as u64;
     fast_limit_in(encoding, if room < limit { room } else { limit })
-}
-
-// Whether there is room for so many bytes more, one at least.
-// Inlined: a difference and a comparison.
-#[inline(always)]
-fn has_room(output: &Vec<u8>, fast_limit: u64, count: u64) -> bool
-    ensures { result ≡ true → 0 < count → length output.now.items + count ≤ fast_limit }
-{
-    count <= fast_limit.saturating_sub(output.len() as u64)
-}
-
-// Whether a line feed and so many spaces are few bytes, and there is room for them.
-fn is_brief(output: &Vec<u8>, fast_limit: u64, line_break: LineBreak, indent: u64) -> bool
-    ensures line { result ≡ true → (line_break ≡ LineBreak.Lf) × (indent ≤ 128) }
-    ensures near { result ≡ true → length output.now.items + (1 + indent) ≤ fast_limit }
-{
-    match line_break {
-        LineBreak::Lf => indent <= 128 && has_room(output, fast_limit, 1 + indent),
-        _ => false,
-    }
 }
 
 impl Model for Sink {
@@ -460,7 +440,7 @@ impl Sink {
         !at.bare || indent < at.column || (at.column == indent && !at.white)
     }
 
-    // Out of line: the rare way of a line, beside the short one.
+    // Out of line: the rare way of a line, beside the short ones.
     #[inline(never)]
     fn put_long_line(&mut self, line_break: LineBreak, indent: u64)
         ensures { Puts self.old self.new (fresh line_break indent) }
@@ -469,15 +449,28 @@ impl Sink {
         self.put_blanks(indent);
     }
 
+    // Out of line: some more stores, beside the few of most lines.
+    #[inline(never)]
+    fn put_deep(&mut self, line_break: LineBreak, indent: u64)
+        ensures { Puts self.old self.new (fresh line_break indent) }
+    {
+        if is_brief(&self.output, self.fast_limit, line_break, indent, 80) {
+            put_deep_line(&mut self.output, indent);
+            indented(&mut self.cursor, indent);
+        } else {
+            self.put_long_line(line_break, indent);
+        }
+    }
+
     // A break, and so many spaces.
     fn put_fresh(&mut self, line_break: LineBreak, indent: u64)
         ensures { Puts self.old self.new (fresh line_break indent) }
     {
-        if is_brief(&self.output, self.fast_limit, line_break, indent) {
+        if is_brief(&self.output, self.fast_limit, line_break, indent, 16) {
             put_fresh_line(&mut self.output, indent);
             indented(&mut self.cursor, indent);
         } else {
-            self.put_long_line(line_break, indent);
+            self.put_deep(line_break, indent);
         }
     }
 

@@ -62,7 +62,7 @@ shallow : (t : Bool) (n i : ℕ) → Some i ≡ (if t then Some n else None) →
 shallow true n i h = (refl, cc)
 shallow false n i h = absurd (cc)
 
-not_deep : (n : ℕ) → nat_le n MOST ≡ true → nat_lt MOST n ≡ false
+pub not_deep : (n : ℕ) → nat_le n MOST ≡ true → nat_lt MOST n ≡ false
 not_deep n h = grind (arith, nat_tests)
 
 -- what stands in a scalar that isn't too deep

@@ -8,3 +8,4 @@ pub mod Noting
 pub mod Blaming
 pub mod Keyed
 pub mod Names
+mod Unmarked

@@ -101,10 +101,11 @@ fn put_before_key(
     put_question_unless(sink, flow, simple);
 }
 
+/// What comes before a value, by whether its key was simple.
 // Inlined: where the form is known it is short.
 #[inline(always)]
 #[tactic(auto, unfolding(yaml_emit_layout::specs::Nodes::before_value))]
-fn put_before_value(sink: &mut Sink, settings: &Settings, flow: bool, indent: u64, simple: bool)
+pub fn put_before_value(sink: &mut Sink, settings: &Settings, flow: bool, indent: u64, simple: bool)
     ensures { Puts sink.old sink.new (before_value settings.now flow indent simple) }
 {
     if simple {

@@ -1,5 +1,5 @@
 //! Where nodes stand, and how deep.
-ghost use Rattle.std.specs.Prelude.{◌≡◌, ◌≢◌, ◌≤◌, ◌<◌, ◌+◌, ℕ, None, Some, true, false, not, ◌&&◌, ◌||◌};
+ghost use Rattle.std.specs.Prelude.{◌≡◌, ◌≢◌, ◌≤◌, ◌<◌, ◌+◌, nat_le, ℕ, None, Some, true, false, not, ◌&&◌, ◌||◌};
 ghost use Rattle.yaml_emit_text.specs.Sink.{Puts};
 ghost use Rattle.yaml_emit_layout.specs.Nodes.{deeper, block_indent_in, indent_of, is_of_mapping, is_simple_part, checked, is_flow};
 ghost use Rattle.yaml_emit_layout.specs.State.{position_of, part_at};
@@ -67,6 +67,15 @@ fn sum(n: u64, indent: u64) -> Option<u64>
     } else {
         None
     }
+}
+
+/// Whether a sum of columns isn't past the largest.
+// Inlined: a sum and some comparisons.
+#[inline(always)]
+pub fn is_not_deep(n: u64, indent: u64) -> bool
+    ensures { result ≡ nat_le (n + indent) 2147483647 }
+{
+    n <= MOST && indent <= MOST && n + indent <= MOST
 }
 
 /// One indent deeper, or none past 2,147,483,647 columns.

@@ -1,6 +1,7 @@
 //! The open collections.
 ghost use Rattle.std.specs.Prelude.{◌≡◌, ◌∷◌, [], None, Some, OnOk};
 ghost use Rattle.yaml_emit_layout.specs.State.{top_of, outer_of, levels_behind, phase_behind};
+ghost use Rattle.yaml_emit_state.specs.Bare.{turned};
 ghost use Rattle.yaml_emit_state.specs.Stack.{stack, stack_of};
 
 use std::alloc::{AllocError, Global};
@@ -72,6 +73,24 @@ impl Levels {
             Some(level) => {
                 self.top = Some(Level {
                     phase: Levels::phase_behind(level.phase, simple),
+                    flow: level.flow,
+                    indent: level.indent,
+                });
+            }
+        }
+    }
+
+    /// The innermost collection is in that phase.
+    // Inlined: a store.
+    #[inline(always)]
+    pub fn turn(&mut self, phase: Phase)
+        ensures { stack_of self.new ≡ turned phase (stack_of self.old) }
+    {
+        match self.top {
+            None => (),
+            Some(level) => {
+                self.top = Some(Level {
+                    phase,
                     flow: level.flow,
                     indent: level.indent,
                 });

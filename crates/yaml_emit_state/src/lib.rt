@@ -1,6 +1,7 @@
 //! Laying out one event after another.
 #![tactic(auto)]
 
+mod bare;
 mod before;
 mod documents;
 mod given;

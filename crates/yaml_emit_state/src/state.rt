@@ -6,6 +6,7 @@ ghost use Rattle.yaml_emit_text.specs.Tame.{IsTame};
 
 mod event;
 mod moves;
+mod pretty;
 mod resume;
 
 use crate::given::{Context, EventPosition, Scalar};
@@ -433,20 +434,6 @@ impl Core {
             yaml_event_body_t::SequenceEnd => self.lay_sequence_end(empty),
             yaml_event_body_t::MappingEnd => self.lay_mapping_end(empty),
             yaml_event_body_t::Alias { .. } => self.lay_alias(event, empty),
-            _ => self.lay_any(event, empty),
-        }
-    }
-
-    // An event in its right place, in pretty form.
-    // Out of line: what other kinds and the other form need takes no room here.
-    #[inline(never)]
-    fn lay_pretty(&mut self, event: &mut yaml_event_body_t, empty: bool)
-        requires utf8 { HasUtf8 (body_of event.old) }
-        requires form { self.old.settings.canonical ≡ false }
-        ensures { LaysOut self.old self.new (emitter_event (body_of event.old)) empty }
-    {
-        match event {
-            yaml_event_body_t::Scalar { .. } => self.lay_scalar(event, empty, false),
             _ => self.lay_any(event, empty),
         }
     }

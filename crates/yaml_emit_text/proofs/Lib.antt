@@ -10,3 +10,4 @@ mod RunWalks
 mod SolidLemmas
 pub mod Ranks
 mod Tame
+pub mod Bare

@@ -322,3 +322,12 @@ pub tame_written : (page : Page) (at : Cursor) (a b : Output) (v : List ℕ) →
 tame_written page at a b v t q w p =
     walk_end (flow_body page false) a b (flow_body page false 32 (chars v)) (last_or 32 v) [] refl (ends_there page (last_or 32 v) (calm_ends 32 0 v refl t.calm))
     (flow_run page false (flow_bounds page false) at a b 32 (last_or 32 v) v [] (chars v) refl refl q (calm_runs page 0 at.column v w t.calm) (tame_letters v t ∙ sym (append-nil v)) refl p)
+
+-- the same at a cursor
+pub tame_at : (page : Page) (c : Cursor) (rest : Rest) (v : List ℕ) → IsTame v
+    → c.column + length v ≤ page.width
+    → flow_body page false 32 (chars v) c rest ≡ letters v c rest
+tame_at page c rest v t w =
+    ap (λ (z : List ℕ). flow_body page false 32 z c rest) (tame_letters v t ∙ sym (append-nil v))
+    ∙ run_walk (flow_body page false) (runs_on (flow_bounds page false)) unbroken (flow_step page false) (raw_unbroken (flow_bounds page false)) 32 v [] c rest (unbroken_by 32 refl) (calm_runs page 0 c.column v w t.calm)
+    ∙ ap (λ (z : Layout). letters v c (λ d. z d rest)) (ends_there page (last_or 32 v) (calm_ends 32 0 v refl t.calm))

@@ -1,9 +1,10 @@
 //! Tame texts, which allow every style and are written as they are where they fit their line: most scalars are.
 
-ghost use Rattle.std.specs.Prelude.{◌≡◌, ◌<◌, ◌≤◌, ◌+◌, length, Bool, true, false, IsUtf8};
+ghost use Rattle.std.specs.Prelude.{◌≡◌, ◌<◌, ◌≤◌, ◌+◌, ◌∷◌, length, Bool, true, false, IsUtf8};
 ghost use Rattle.yaml_types.specs.Ascii as ascii;
 ghost use Rattle.std.specs.Str.{chars};
 ghost use Rattle.yaml_emit_sink.specs.Sink.{Puts};
+ghost use Rattle.yaml_emit_sink.specs.Layout.{letters};
 ghost use Rattle.yaml_emit_text.specs.Runs.{all_pass, calm};
 ghost use Rattle.yaml_emit_text.specs.Scalars.{flow_body, plain, scalar_text};
 ghost use Rattle.yaml_emit_text.specs.Style.{allowed, ends_in_space, starts_badly};
@@ -126,4 +127,35 @@ pub fn put_tame(sink: &mut Sink, page: Page, digit: u64, flow: bool, style: Styl
         Style::Plain => put_bare(sink, page, value),
         _ => put_styled(sink, page, digit, flow, style, value),
     }
+}
+
+/// Whether so many characters and a text behind them end within the width.
+// Inlined: two comparisons.
+#[inline(always)]
+pub fn fits(sink: &Sink, width: u64, before: u64, value: &[u8]) -> bool
+    requires { before ≤ 8 }
+    ensures { result ≡ true → sink.now.cursor.column + (before + length value.now) ≤ width }
+{
+    is_within(width, sink.cursor().column, before + value.len() as u64)
+}
+
+/// A tame text, without a space in front.
+// Out of line: few registers are needed.
+#[inline(never)]
+pub fn put_lone(sink: &mut Sink, value: &[u8])
+    requires { IsTame value.now }
+    ensures { Puts sink.old sink.new (letters value.now) }
+{
+    sink.put_joined(b"", value, b"");
+}
+
+/// A tame text behind a character in ASCII, with a space between.
+// Out of line: few registers are needed.
+#[inline(never)]
+pub fn put_led(sink: &mut Sink, mark: u8, value: &[u8])
+    requires one { mark < 128 }
+    requires tame { IsTame value.now }
+    ensures { Puts sink.old sink.new (letters (mark ∷ ascii.space ∷ value.now)) }
+{
+    sink.put_joined(&[mark, b' '], value, b"");
 }

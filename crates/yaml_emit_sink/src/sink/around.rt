@@ -2,8 +2,9 @@
 ghost use Rattle.std.specs.Prelude.{◌≡◌, ◌<◌, ◌≤◌, ◌∷◌, ◌++◌, ◌+◌, length};
 ghost use Rattle.yaml_types.specs.Ascii as ascii;
 
-use super::{Sink, has_room};
+use super::Sink;
 use crate::append::lettered;
+use crate::feed::has_room;
 use yaml_types::put_between;
 
 impl Sink {
@@ -22,12 +23,12 @@ impl Sink {
         self.put_all(end);
     }
 
-    // At once where there is room for them, one character at least.
+    /// Few characters of known numbers, a text and few more, in ASCII, one at least: at once where there is room for them.
     // Inlined: mostly there is, and it is some stores round a copy.
     #[inline(always)]
-    fn put_joined(&mut self, front: &[u8], text: &[u8], end: &[u8])
+    pub fn put_joined(&mut self, front: &[u8], text: &[u8], end: &[u8])
         requires few { length front.now + length end.now ≤ 8 }
-        requires some { 0 < length front.now }
+        requires some { 0 < length front.now + length text.now }
         requires ascii { IsAscii (front.now ++ (text.now ++ end.now)) }
         ensures { Puts self.old self.new (letters (front.now ++ (text.now ++ end.now))) }
     {

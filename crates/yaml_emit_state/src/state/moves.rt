@@ -5,6 +5,7 @@ ghost use Rattle.yaml_emit_text.specs.Sink.{Puts};
 ghost use Rattle.yaml_emit_text.specs.Layout.{stay};
 ghost use Rattle.yaml_emit_layout.specs.Content.{emitter_event};
 ghost use Rattle.yaml_emit_layout.specs.State.{among, levels_behind, outer_of, place_at, opened, placed, is_simple_event};
+ghost use Rattle.yaml_emit_state.specs.Bare.{turned};
 ghost use Rattle.yaml_emit_state.specs.Stack.{stack_of, within};
 ghost use Rattle.yaml_emit_layout.specs.Nodes.{checked, context_of};
 ghost use Rattle.yaml_emit_state.specs.Steps.{state_of, StaysBut, MovesOn, OpensCollection, Notes, Halts, first_phase, is_document_start};
@@ -49,6 +50,18 @@ impl Core {
     {
         self.levels.step(simple);
         self.place = place_behind(self.levels.top());
+    }
+
+    // The innermost collection is in that phase.
+    // Inlined: a store.
+    #[inline(always)]
+    pub(super) fn turn_to(&mut self, phase: Phase)
+        ensures levels { stack_of self.new.levels ≡ turned phase (stack_of self.old.levels) }
+        ensures place { self.new.place ≡ self.old.place }
+        ensures directives { self.new.directives ≡ self.old.directives }
+        ensures same { StaysBut self.old self.new }
+    {
+        self.levels.turn(phase);
     }
 
     // Inlined into its one caller.

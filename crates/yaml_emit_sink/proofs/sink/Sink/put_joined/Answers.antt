@@ -13,4 +13,4 @@ returns-then-has_room c =
     let count : length front + length text + length end ≡ length (front ++ (text ++ end)) = omega (arith, whole, behind) in
     let near = c.has_room.ensures c.if-has_room.true (omega (arith, some)) in
     let fast = c.self.invariant.fast_limit (omega (arith, near, some)) in
-    rw (← c.self.view_is) (puts_near _ _ _ c.requires.ascii (omega (arith, some, whole)) fast.1.0 fast.1.1 refl refl refl c.put_between.ensures.items (omega (arith, near, fast.0, whole, behind)) (rw count at c.lettered.ensures))
+    rw (← c.self.view_is) (puts_near _ _ _ c.requires.ascii (omega (arith, some, whole, behind)) fast.1.0 fast.1.1 refl refl refl c.put_between.ensures.items (omega (arith, near, fast.0, whole, behind)) (rw count at c.lettered.ensures))

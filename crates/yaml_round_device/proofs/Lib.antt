@@ -1,2 +1,1 @@
 mod Failing
-mod Counting

@@ -1,5 +1,4 @@
-pub mod Counts
+pub use Rattle.yaml_round_device_plain.specs.Run
+pub use Rattle.yaml_round_device_plain.specs.FaultLine
 pub mod StdDevices
-pub mod Run
-pub mod FaultLine
 pub mod Settings

@@ -2,15 +2,8 @@
 
 ghost use Rattle.std.specs.Prelude.{◌≡◌};
 
+use yaml_round_device_plain::yaml_output_encoding_t;
 use yaml_types::{DEFAULT_WIDTH, yaml_break_t};
-
-/// How the bytes of the answer spell its characters. A UTF-16 text begins with U+FEFF.
-#[derive(Clone, Copy, PartialEq, Eq, Debug)]
-pub enum yaml_output_encoding_t {
-    Utf8,
-    Utf16Le,
-    Utf16Be,
-}
 
 /// How a text is written.
 #[derive(Clone, Copy, PartialEq, Eq, Debug)]
@@ -48,22 +41,4 @@ impl yaml_settings_t {
             limit: 1_099_511_627_776,
         }
     }
-}
-
-/// The form that an answer has.
-#[derive(Clone, Copy, PartialEq, Eq, Debug)]
-pub enum yaml_form_t {
-    Canonical,
-    Pretty,
-}
-
-/// What a run does with its input.
-#[derive(Clone, Copy, PartialEq, Eq, Debug)]
-pub enum yaml_command_t {
-    /// Writes the events again.
-    Fmt,
-    /// Writes the loaded documents again.
-    Docs,
-    /// Writes a line for each event.
-    Events,
 }

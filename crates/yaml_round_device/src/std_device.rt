@@ -1,14 +1,13 @@
 //! The devices that carry a `Read` or a `Write` of std.
 
-ghost use Rattle.std.specs.Prelude.{◌≡◌, ◌≤◌, ◌<◌, true, false, length, take, IfOk, OnErr, MatchResult};
-ghost use Rattle.std.specs.Io.KnownBytes.{Keeps, Consumes, Appends, IsAtEnd};
+ghost use Rattle.std.specs.Prelude.{◌≡◌, false};
 ghost use Rattle.yaml_round_device.specs.StdDevices.{input_inner, input_given, input_failed, output_inner, output_failed, output_finished};
 
-use crate::device::{yaml_device_fault_t, yaml_input_t, yaml_output_t};
-use std::io::{ErrorKind, Read, Write};
-
-// How many times a call that is interrupted is made in all.
-const TRIES: u32 = 1000;
+use std::io::{Read, Write};
+use yaml_round_device_plain::{
+    flush_tried_again, read_tried_again, write_tried_again, yaml_device_fault_t, yaml_input_t,
+    yaml_output_t,
+};
 
 /// An input over a reader of std. Interrupted reads are tried again; the 1,000th in a row and every other error is
 /// a failure.
@@ -57,27 +56,6 @@ impl<R: Read> yaml_input_t for yaml_std_input_t<R> {
     }
 }
 
-// One read, tried again where it is interrupted.
-fn read_tried_again<R: Read>(reader: &mut R, buf: &mut [u8]) -> Result<usize, yaml_device_fault_t>
-    ensures bound { IfOk result (λ n. n ≤ length buf.new) }
-    ensures ok { IfOk result (λ n. Consumes (R.remaining reader.old) (R.remaining reader.new)
-        (take n buf.new)) }
-    ensures end { IfOk result (λ n. n ≡ 0 → 0 < length buf.old → IsAtEnd (R.remaining reader.new)) }
-    ensures err { OnErr result (Keeps (R.remaining reader.old) (R.remaining reader.new)) }
-{
-    for _ in 0..TRIES {
-        match reader.read(buf) {
-            Ok(n) => return Ok(n),
-            Err(e) => {
-                if e.kind() != ErrorKind::Interrupted {
-                    return Err(yaml_device_fault_t);
-                }
-            }
-        }
-    }
-    Err(yaml_device_fault_t)
-}
-
 /// An output over a writer of std. Interrupted calls are tried again; the 1,000th in a row, a write of 0 bytes and
 /// every other error is a failure.
 #[derive(Drop)]
@@ -121,7 +99,7 @@ impl<W: Write> yaml_output_t for yaml_std_output_t<W> {
         if piece.is_empty() {
             return Ok(0);
         }
-        let taken = write_tried_again(&mut self.inner, piece);
+        let taken = write_tried_again(&mut self.inner, piece, true);
         self.is_finished = false;
         self.has_failed |= taken.is_err();
         taken
@@ -133,43 +111,4 @@ impl<W: Write> yaml_output_t for yaml_std_output_t<W> {
         self.has_failed |= flushed.is_err();
         flushed
     }
-}
-
-// One write of a piece that has bytes, tried again where it is interrupted. Where none is taken it is a failure.
-fn write_tried_again<W: Write>(writer: &mut W, piece: &[u8]) -> Result<usize, yaml_device_fault_t>
-    ensures bound { IfOk result (λ n. n ≤ length piece.now) }
-    ensures some { IfOk result (λ n. 0 < length piece.now → 0 < n) }
-    ensures ok { IfOk result (λ n. Appends (W.contents writer.old) (W.contents writer.new)
-        (take n piece.now)) }
-    ensures err { OnErr result (Keeps (W.contents writer.old) (W.contents writer.new)) }
-{
-    for _ in 0..TRIES {
-        match writer.write(piece) {
-            Ok(0) => return Err(yaml_device_fault_t),
-            Ok(n) => return Ok(n),
-            Err(e) => {
-                if e.kind() != ErrorKind::Interrupted {
-                    return Err(yaml_device_fault_t);
-                }
-            }
-        }
-    }
-    Err(yaml_device_fault_t)
-}
-
-// One flush, tried again where it is interrupted.
-fn flush_tried_again<W: Write>(writer: &mut W) -> Result<(), yaml_device_fault_t>
-    ensures { Keeps (W.contents writer.old) (W.contents writer.new) }
-{
-    for _ in 0..TRIES {
-        match writer.flush() {
-            Ok(()) => return Ok(()),
-            Err(e) => {
-                if e.kind() != ErrorKind::Interrupted {
-                    return Err(yaml_device_fault_t);
-                }
-            }
-        }
-    }
-    Err(yaml_device_fault_t)
 }

@@ -1,8 +1,8 @@
 -- How many bytes were taken.
 use Rattle.std.proofs.Common.{arith, rules, refl, sym, ap, ◌∙◌, ◌+◌, ◌≡◌, ◌≤◌, length, ℕ}
-use Rattle.yaml_round_device.specs.Counts.{counted}
-use Rattle.yaml_round_device.proofs.Counting.{counted_none, counted_more}
-use Rattle.yaml_round_device.proofs.read_all.read_to_end.Goals as goal
+use Rattle.yaml_round_device_plain.specs.Counts.{counted}
+use Rattle.yaml_round_device_plain.proofs.Counting.{counted_none, counted_more}
+use Rattle.yaml_round_device_plain.proofs.read_all.read_to_end.Goals as goal
 
 pub loop-count-init : goal.loop-count-init
 loop-count-init g c =

@@ -1,7 +1,7 @@
 -- The output received the text's front.
 use Rattle.std.proofs.Common.{◌≡◌, ◌-◌, ◌≤◌, take, length}
 use Rattle.std.specs.Io.KnownBytes.{Appends}
-use Rattle.yaml_round_device.proofs.write_all.put_all.Given as goal
+use Rattle.yaml_round_device_plain.proofs.write_all.put_all.Given as goal
 
 abbrev pub invariant-loop-written : goal.invariant-loop-written
 invariant-loop-written g l = record {

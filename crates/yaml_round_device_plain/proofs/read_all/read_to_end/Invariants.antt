@@ -1,8 +1,8 @@
 -- What was read so far is the front of what was to come, and leaves room for the rest.
 use Rattle.std.proofs.Common.{◌≡◌, ◌+◌, length}
 use Rattle.std.specs.Io.KnownBytes.{Consumes}
-use Rattle.yaml_round_device.specs.Counts.{counted}
-use Rattle.yaml_round_device.proofs.read_all.read_to_end.Given as goal
+use Rattle.yaml_round_device_plain.specs.Counts.{counted}
+use Rattle.yaml_round_device_plain.proofs.read_all.read_to_end.Given as goal
 
 abbrev pub invariant-loop-count : goal.invariant-loop-count
 invariant-loop-count g l = record {

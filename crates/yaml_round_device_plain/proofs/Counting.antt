@@ -1,6 +1,6 @@
 -- Counts that stop.
 use Rattle.std.proofs.Common.{◌≡◌, ℕ, ◌+◌, ◌-◌, ◌^◌, ◌≤◌, ◌<◌, min, max, arith}
-use Rattle.yaml_round_device.specs.Counts.{counted}
+use Rattle.yaml_round_device_plain.specs.Counts.{counted}
 
 none : (m g : ℕ) → g ≡ max g (min (g + 0) m)
 none m g = omega arith

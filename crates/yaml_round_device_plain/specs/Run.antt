@@ -3,11 +3,11 @@ use Rattle.std.specs.Prelude.{◌≡◌, ◌⊎◌, ℕ, ◌+◌, ◌<◌, ◌�
 use Rattle.std.specs.Io.KnownBytes.{Keeps, Appends, Consumes, IsAtEnd}
 use Rattle.yaml_types.specs.declared.yaml_origin_t.{yaml_origin_t}
 use Rattle.yaml_types.specs.declared.yaml_origin_t.TheVariants.{Reader}
-use Rattle.yaml_round_device.specs.Counts.{counted}
-use Rattle.yaml_round_device.specs.declared.read_all.Cause.{Cause}
-use Rattle.yaml_round_device.specs.declared.read_all.Cause.TheVariants as cause
-use Rattle.yaml_round_device.specs.declared.run_fault.yaml_run_fault_t.{yaml_run_fault_t}
-use Rattle.yaml_round_device.specs.declared.run_fault.yaml_run_fault_t.TheVariants.{Read, TooLong, Yaml, Write}
+use Rattle.yaml_round_device_plain.specs.Counts.{counted}
+use Rattle.yaml_round_device_plain.specs.declared.read_all.Cause.{Cause}
+use Rattle.yaml_round_device_plain.specs.declared.read_all.Cause.TheVariants as cause
+use Rattle.yaml_round_device_plain.specs.declared.run_fault.yaml_run_fault_t.{yaml_run_fault_t}
+use Rattle.yaml_round_device_plain.specs.declared.run_fault.yaml_run_fault_t.TheVariants.{Read, TooLong, Yaml, Write}
 use Rattle.yaml_types.specs.Faults.{Fault, fault_of, memory_fault, IsMemoryFault}
 
 -- these bytes are all that the input gave up to its end, and no more than the limit
@@ -33,6 +33,13 @@ IsReadFault to_come before after limit TooLong = (after ≡ before)
 IsReadFault to_come before after limit (Yaml fault) = (after ≡ before)
     × (fault_of fault ≡ memory_fault Reader)
 IsReadFault to_come before after limit (Write written) = ⊥
+
+-- this fault tells that cause
+abbrev pub Tells : Cause → yaml_run_fault_t → Type 0
+Tells cause.Failed Read = Unit {0}
+Tells cause.TooLong TooLong = Unit {0}
+Tells cause.NoMemory (Yaml fault) = fault_of fault ≡ memory_fault Reader
+Tells why fault = ⊥
 
 -- at most so many bytes were taken
 abbrev pub TakesAtMost : (before after : ℕ) → ℕ → Type 0

@@ -3,7 +3,7 @@ use Rattle.std.proofs.Common.{arith, rules, ◌-◌, length, drop, length-drop}
 use Rattle.std.proofs.lemmas.List.{take_all}
 use Rattle.std.proofs.Math.Seq.{take-add}
 use Rattle.std.proofs.KnownBytes.{Appends-trans}
-use Rattle.yaml_round_device.proofs.write_all.put_all.Goals as goal
+use Rattle.yaml_round_device_plain.proofs.write_all.put_all.Goals as goal
 
 pub loop-written-preserved : goal.loop-written-preserved
 loop-written-preserved g c =

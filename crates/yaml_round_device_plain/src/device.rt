@@ -2,7 +2,7 @@
 
 ghost use Rattle.std.specs.Prelude.{◌≡◌, ℕ, List, Option, Bool, true, false, ◌<◌, ◌≤◌, length, Ok, IfOk, MatchResult};
 ghost use Rattle.std.specs.Io.KnownBytes.{Keeps, ReadConsumes, WriteAppends};
-ghost use Rattle.yaml_round_device.specs.Counts.{counted};
+ghost use Rattle.yaml_round_device_plain.specs.Counts.{counted};
 
 /// A device has failed. What it was isn't told.
 #[derive(Clone, Copy, PartialEq, Eq, Debug)]

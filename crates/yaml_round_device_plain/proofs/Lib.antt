@@ -1,0 +1,2 @@
+mod Counting
+pub mod Telling

@@ -1,8 +1,8 @@
 -- What a call's answer tells of the emitter's fault.
 use Rattle.std.proofs.Common.{◌≡◌, ◌≢◌, Option, None, Result, Ok, Err}
 use Rattle.std.specs.Prelude.{OnOk, OnErr}
-use Rattle.yaml_scan_model.specs.Faults.{Fault}
-use Rattle.yaml_scan_model.specs.declared.yaml_fault_t.{yaml_fault_t}
+use Rattle.yaml_emit_machine.specs.scan_model.Faults.{Fault}
+use Rattle.yaml_emit_machine.specs.scan_model.declared.yaml_fault_t.{yaml_fault_t}
 use Rattle.yaml_emit_machine.specs.Emitter.{Answers}
 
 pub on_ok : (X : Type 0) (fault : Option Fault) (r : Result (Unit {0}) yaml_fault_t)

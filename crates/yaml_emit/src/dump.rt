@@ -8,11 +8,10 @@ ghost use Rattle.yaml_emit_machine.specs.Taking.{TakesEvents, Stuck, NotesMemory
 ghost use Rattle.yaml_emit_machine.specs.Dumping.{OpensStream, opening_event};
 
 use yaml_emit_machine::{
-    answer, dump_document, emit, is_closed, is_opened, set_closed, set_opened, yaml_emitter_t,
+    answer, dump_document, emit, is_closed, is_opened, set_closed, set_opened,
+    yaml_document_delete, yaml_document_t, yaml_emitter_t, yaml_encoding_t, yaml_event_body_t,
+    yaml_fault_t,
 };
-use yaml_parse_document::{yaml_document_delete, yaml_document_t};
-use yaml_parse_model::yaml_event_body_t;
-use yaml_scan_model::{yaml_encoding_t, yaml_fault_t};
 
 /// Starts the stream, which must not have been opened (`yaml_emitter_opened` tells). Refused as `yaml_emitter_emit` is.
 pub fn yaml_emitter_open(emitter: &mut yaml_emitter_t) -> Result<(), yaml_fault_t>

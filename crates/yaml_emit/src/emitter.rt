@@ -1,25 +1,23 @@
 //! The emitter.
 
 ghost use Rattle.std.specs.Prelude.{◌≡◌, ◌≤◌, ◌∷◌, ◌++◌, [], length, None, Some, true, false, option_map, IfOk, IfErr};
-ghost use Rattle.yaml_scan_model.specs.Faults.{Fault, fault_of, memory_fault};
-ghost use Rattle.yaml_scan_model.specs.declared.yaml_origin_t.TheVariants as from;
-ghost use Rattle.yaml_parse_model.specs.Events.{event_of};
-ghost use Rattle.yaml_parse_model.specs.Constructors.{HasUtf8};
+ghost use Rattle.yaml_emit_machine.specs.scan_model.Faults.{Fault, fault_of, memory_fault};
+ghost use Rattle.yaml_emit_machine.specs.scan_model.declared.yaml_origin_t.TheVariants as from;
+ghost use Rattle.yaml_emit_machine.specs.parse_model.Events.{event_of};
+ghost use Rattle.yaml_emit_machine.specs.parse_model.Constructors.{HasUtf8};
 ghost use Rattle.yaml_emit_machine.specs.emit_layout.Content.{emitter_event};
 ghost use Rattle.yaml_emit_machine.specs.Emitter.{IsNew, IsLimited, ShowsFront, IsWhole, Answers, Stays};
-ghost use Rattle.yaml_emit_machine.specs.emit_held.Held.{AreLast};
+ghost use Rattle.yaml_emit_machine.specs.Held.{AreLast};
 ghost use Rattle.yaml_emit_machine.specs.Within.{IsWithin};
 ghost use Rattle.yaml_emit_machine.specs.Verdict.{TellsOutcome};
 ghost use Rattle.yaml_emit_machine.specs.Taking.{TakesEvents, GivesText, NotesMemoryOf, BlamesLevels};
 
 use std::alloc::Global;
 use yaml_emit_machine::{
-    answer, first_fault, give_early, into_output, is_fresh, is_opened, let_go, new_emitter, output,
-    requested_settings, set_requested_settings, take_event, take_event_over, yaml_emitter_t,
+    RequestedSettings, answer, first_fault, give_early, into_output, is_fresh, is_opened, let_go,
+    new_emitter, output, requested_settings, set_requested_settings, take_event, take_event_over,
+    yaml_break_t, yaml_emitter_t, yaml_encoding_t, yaml_event_t, yaml_fault_t,
 };
-use yaml_emit_text::RequestedSettings;
-use yaml_parse_model::yaml_event_t;
-use yaml_scan_model::{yaml_break_t, yaml_encoding_t, yaml_fault_t};
 
 /// An emitter whose text has at most `limit` bytes. It is fresh, with any encoding, canonical and unicode off, indent 2,
 /// width 80 and any break. Refused only for want of memory; today it takes none.

@@ -1,20 +1,19 @@
 //! An emitter that goes on from where another one stood.
 
 ghost use Rattle.std.specs.Prelude.{◌≡◌, ◌≤◌, ◌<◌, ◌^◌, map, None, IfOk, IfErr};
-ghost use Rattle.yaml_scan_model.specs.Faults.{fault_of, memory_fault};
-ghost use Rattle.yaml_scan_model.specs.declared.yaml_origin_t.TheVariants as from;
-ghost use Rattle.yaml_parse_model.specs.Events.{directive_of};
+ghost use Rattle.yaml_emit_machine.specs.scan_model.Faults.{fault_of, memory_fault};
+ghost use Rattle.yaml_emit_machine.specs.scan_model.declared.yaml_origin_t.TheVariants as from;
+ghost use Rattle.yaml_emit_machine.specs.parse_model.Events.{directive_of};
 ghost use Rattle.yaml_emit_machine.specs.emit_layout.State.{top_of};
 ghost use Rattle.yaml_emit_machine.specs.emit_state.Stack.{stack};
-ghost use Rattle.yaml_emit_machine.specs.emit_held.Judged.{refused_at};
+ghost use Rattle.yaml_emit_machine.specs.Judged.{refused_at};
 ghost use Rattle.yaml_emit_machine.specs.Resuming.{resumed, StandsWhere};
 
 use std::alloc::Global;
 use yaml_emit_machine::{
-    Level, directives, outer, resumed, stand, yaml_emitter_stand_t, yaml_emitter_t,
+    Level, RequestedSettings, directives, outer, resumed, stand, yaml_emitter_stand_t,
+    yaml_emitter_t, yaml_fault_t, yaml_memory_fault, yaml_origin_t, yaml_tag_directive_t,
 };
-use yaml_emit_text::RequestedSettings;
-use yaml_scan_model::{yaml_fault_t, yaml_memory_fault, yaml_origin_t, yaml_tag_directive_t};
 
 /// An emitter that goes on from where another one stood: that stand, the open collections round the innermost one, the outermost
 /// first, and the document's directives. Its text is what is written from there on, of at most `limit` bytes. The settings are those

@@ -16,10 +16,10 @@ use Rattle.yaml_emit_layout.specs.Content.{Event}
 use Rattle.yaml_emit_layout.specs.State.{State, placed}
 use Rattle.yaml_emit_state.specs.declared.Core.{Core}
 use Rattle.yaml_emit_state.specs.Steps.{state_of, settings_of, IsFreshCore}
-use Rattle.yaml_emit_held.specs.Held.{held_events}
-use Rattle.yaml_emit_held.specs.declared.Held.{Held}
-use Rattle.yaml_emit_held.specs.Judged.{laid_some, some_among, LaysSome, first_starts, RefusesHeld}
-use Rattle.yaml_emit_held.specs.Laying.{HasLaid, LaysEvents}
+use Rattle.yaml_emit_machine.specs.Held.{held_events}
+use Rattle.yaml_emit_machine.specs.declared.held.Held.{Held}
+use Rattle.yaml_emit_machine.specs.Judged.{laid_some, some_among, LaysSome, first_starts, RefusesHeld}
+use Rattle.yaml_emit_machine.specs.Laying.{HasLaid, LaysEvents}
 use Rattle.yaml_emit_machine.specs.declared.emitter.yaml_emitter_t.TheInside.{Inside}
 use Rattle.yaml_emit_machine.specs.Emitter.{Emitter, text_of, stream_encoding}
 use Rattle.yaml_emit_machine.specs.Views.{emitter_of}

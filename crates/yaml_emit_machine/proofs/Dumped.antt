@@ -20,8 +20,8 @@ use Rattle.yaml_emit_state.specs.Finish.{Finishes, FinishesAt, FinishesBy}
 use Rattle.yaml_emit_state.proofs.Noting.{notes_starved}
 use Rattle.yaml_emit_graph.specs.Graph.{dumped}
 use Rattle.yaml_emit_machine.specs.declared.emitter.yaml_emitter_t.TheInside.{Inside}
-use Rattle.yaml_emit_held.specs.Held.{held_events}
-use Rattle.yaml_emit_held.specs.Judged.{text_among, LetsOut, LaysAll, let_out}
+use Rattle.yaml_emit_machine.specs.Held.{held_events}
+use Rattle.yaml_emit_machine.specs.Judged.{text_among, LetsOut, LaysAll, let_out}
 use Rattle.yaml_emit_machine.specs.Emitter.{Emitter, CompletesBy, Completes, left_if, opening_events, closing_events, dump_events, document_events_by, document_events}
 use Rattle.yaml_emit_machine.specs.Views.{emitter_of}
 use Rattle.yaml_emit_machine.specs.Verdict.{WritesBy, Writes, LaysBy, Lays}

@@ -8,7 +8,7 @@ use Rattle.yaml_emit_text.specs.Text.{Item}
 use Rattle.yaml_emit_text.proofs.Sinks.{grows_both}
 use Rattle.yaml_emit_layout.specs.Content.{Event}
 use Rattle.yaml_emit_graph.specs.Graph.{dumped}
-use Rattle.yaml_emit_held.specs.Judged.{let_out, refusal_behind, LetsOut, first_wrong, LaysAll}
+use Rattle.yaml_emit_machine.specs.Judged.{let_out, refusal_behind, LetsOut, first_wrong, LaysAll}
 use Rattle.yaml_emit_machine.specs.Emitter.{Emitter, text_of, Keeps, left_if}
 use Rattle.yaml_emit_machine.specs.Verdict.{verdict_by, verdict, WritesBy, Writes, wrong_by, wrong, LaysBy, Lays}
 use Rattle.yaml_emit_machine.specs.Taking.{TakesEvents, TakesEarly, GivesText, LaysAtOnce, StaysCanonical, Stuck, NotesMemory, NotesMemoryOf}

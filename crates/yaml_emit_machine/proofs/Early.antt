@@ -16,9 +16,9 @@ use Rattle.yaml_emit_state.specs.declared.Core.{Core}
 use Rattle.yaml_emit_state.specs.Steps.{state_of, settings_of, next_state, next_piece, LaysOut, IsPut, Blames, may_note, takes_memory, is_document_start}
 use Rattle.yaml_emit_state.specs.Finish.{Finishes}
 use Rattle.yaml_emit_state.proofs.Finishing.{finishes_on}
-use Rattle.yaml_emit_held.specs.Held.{held_events}
-use Rattle.yaml_emit_held.specs.Judged.{refused_at, first_wrong, LaysAll, take_memory, LaysSome, first_takes, first_starts, RefusesHeld}
-use Rattle.yaml_emit_held.proofs.Judging.{wrong_on, lays_first, some_one, some_none, noted_takes}
+use Rattle.yaml_emit_machine.specs.Held.{held_events}
+use Rattle.yaml_emit_machine.specs.Judged.{refused_at, first_wrong, LaysAll, take_memory, LaysSome, first_takes, first_starts, RefusesHeld}
+use Rattle.yaml_emit_machine.proofs.Judging.{wrong_on, lays_first, some_one, some_none, noted_takes}
 use Rattle.yaml_emit_machine.specs.declared.emitter.yaml_emitter_t.TheInside.{Inside}
 use Rattle.yaml_emit_machine.specs.Emitter.{Emitter}
 use Rattle.yaml_emit_machine.specs.Views.{emitter_of}

@@ -27,9 +27,9 @@ use Rattle.yaml_emit_state.proofs.Finishing.{fresh_finishes}
 use Rattle.yaml_emit_machine.specs.declared.emitter.yaml_emitter_t.TheInside.{Inside}
 use Rattle.yaml_emit_layout.specs.Streams.{IsStream}
 use Rattle.yaml_emit_machine.specs.Emitter.{Emitter, text_of, write_error, too_deep, problem_fault, memory_origin, refusal_by, stop_of, IsLimited, stream_encoding, CompletesBy, Completes, HasWritten, ShowsFront, IsWhole}
-use Rattle.yaml_emit_held.proofs.Judging.{goes_going}
+use Rattle.yaml_emit_machine.proofs.Judging.{goes_going}
 use Rattle.yaml_emit_machine.specs.Views.{emitter_of, IsEmitter}
-use Rattle.yaml_emit_held.specs.Judged.{refused_at}
+use Rattle.yaml_emit_machine.specs.Judged.{refused_at}
 use Rattle.yaml_emit_machine.proofs.Ending.{all_written}
 use Rattle.yaml_emit_machine.proofs.Viewing.{seen}
 

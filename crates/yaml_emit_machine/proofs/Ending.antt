@@ -12,10 +12,10 @@ use Rattle.yaml_emit_layout.specs.Content.{Event, Node, alias_node, scalar_node,
 use Rattle.yaml_emit_layout.specs.State.{State}
 use Rattle.yaml_emit_layout.specs.ToCome.{ToCome, stream, documents, root, frames, nothing, Frame, items_left, pairs_left, value_left, events, frame_events, frames_events, ending_events, layout}
 use Rattle.yaml_emit_state.specs.Finish.{Finishes, FinishesAt}
-use Rattle.yaml_emit_held.specs.Held.{is_ready, needs, closes}
+use Rattle.yaml_emit_machine.specs.Held.{is_ready, needs, closes}
 use Rattle.yaml_emit_layout.specs.Streams.{IsStream}
 use Rattle.yaml_emit_machine.specs.Emitter.{Emitter, text_of, Completes, CompletesBy}
-use Rattle.yaml_emit_held.proofs.Holding.{few_needs, le_more, none_needed}
+use Rattle.yaml_emit_machine.proofs.Holding.{few_needs, le_more, none_needed}
 
 long_documents : (ds : List Document) → 1 ≤ length (documents_events ds)
 unfolding documents_events

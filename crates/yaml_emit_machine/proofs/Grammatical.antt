@@ -9,8 +9,8 @@ use Rattle.yaml_emit_layout.specs.ToCome.{ToCome, stream, events}
 use Rattle.yaml_emit_layout.specs.ToCome as come
 use Rattle.yaml_emit_layout.proofs.LeadsOn.{goes}
 use Rattle.yaml_emit_layout.specs.Progress.{progress_after, problem_in, first_refusal, PassesStreams}
-use Rattle.yaml_emit_held.specs.Judged.{shape_of}
-use Rattle.yaml_emit_held.proofs.Judging.{or_none, same_problem, shape_next}
+use Rattle.yaml_emit_machine.specs.Judged.{shape_of}
+use Rattle.yaml_emit_machine.proofs.Judging.{or_none, same_problem, shape_next}
 use Rattle.yaml_emit_state.proofs.Finishing.{or_else_none}
 
 -- Of events whose contents are right the first is, and so are the others.

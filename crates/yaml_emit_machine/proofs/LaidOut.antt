@@ -10,7 +10,7 @@ use Rattle.yaml_emit_layout.specs.State.{State, opens_empty, piece, next, proble
 use Rattle.yaml_emit_layout.specs.ToCome.{items_left, pairs_left, value_left, ToCome, stream, documents, root, frames, nothing, frame_events, frames_events, events, layout}
 use Rattle.yaml_emit_layout.specs.ToCome as come
 use Rattle.yaml_emit_layout.proofs.LeadsOn.{goes}
-use Rattle.yaml_emit_held.specs.Judged.{laid}
+use Rattle.yaml_emit_machine.specs.Judged.{laid}
 use Rattle.yaml_emit_machine.specs.Laid.{StreamsAreLaid}
 use Rattle.yaml_emit_machine.proofs.Grammatical.{first_right, right_there}
 

@@ -1,4 +1,9 @@
 pub use Rattle.yaml_emit_state.proofs.Seeing
+pub mod Opening
+pub mod Holding
+pub mod Judging
+mod Lasting
+pub mod Following
 pub mod Grammatical
 pub mod LaidOut
 pub mod Ending

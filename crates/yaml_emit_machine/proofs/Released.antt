@@ -5,9 +5,9 @@ use Rattle.std.proofs.lemmas.Bool.{le-leb}
 use Rattle.yaml_parse_document.specs.Documents as documents
 use Rattle.yaml_emit_layout.specs.Content.{Start, Opening, Node, alias_node, scalar_node, sequence_node, mapping_node, Nodes, no_nodes, node, Pairs, no_pairs, pair, Event, document_start, document_end, alias, scalar, sequence_start, sequence_end, mapping_start, mapping_end, node_events, items_events, pairs_events}
 use Rattle.yaml_emit_graph.specs.Graph.{graph_content, dumped}
-use Rattle.yaml_emit_held.specs.Held.{closes, is_ready}
-use Rattle.yaml_emit_held.specs.Judged.{let_out}
-use Rattle.yaml_emit_held.proofs.Holding.{none_needed}
+use Rattle.yaml_emit_machine.specs.Held.{closes, is_ready}
+use Rattle.yaml_emit_machine.specs.Judged.{let_out}
+use Rattle.yaml_emit_machine.proofs.Holding.{none_needed}
 
 -- all of these are let out, whatever follows
 abbrev pub AreOut : List Event → Type 0

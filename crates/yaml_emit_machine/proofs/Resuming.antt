@@ -15,8 +15,8 @@ use Rattle.yaml_emit_state.specs.declared.Core.{Core}
 use Rattle.yaml_emit_state.specs.declared.yaml_emitter_stand_t.{yaml_emitter_stand_t}
 use Rattle.yaml_emit_state.specs.Steps.{state_of, settings_of}
 use Rattle.yaml_emit_state.specs.Standing.{Resumes, IsStandOfCore}
-use Rattle.yaml_emit_held.specs.Held.{AreLast}
-use Rattle.yaml_emit_held.specs.Judged.{refused_at}
+use Rattle.yaml_emit_machine.specs.Held.{AreLast}
+use Rattle.yaml_emit_machine.specs.Judged.{refused_at}
 use Rattle.yaml_emit_machine.specs.Emitter.{Emitter, Course, refusal_by, settings_in}
 use Rattle.yaml_emit_machine.specs.Resuming.{course_at, resumed}
 use Rattle.yaml_emit_machine.specs.Taking.{ComesIntoForce}

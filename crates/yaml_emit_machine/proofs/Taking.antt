@@ -19,19 +19,19 @@ use Rattle.yaml_emit_layout.specs.State.{State, placed}
 use Rattle.yaml_emit_state.specs.declared.Core.{Core}
 use Rattle.yaml_emit_state.specs.Steps.{state_of, settings_of, IsFreshCore, may_note}
 use Rattle.yaml_emit_state.proofs.Noting.{notes_both, notes_some}
-use Rattle.yaml_emit_held.specs.Held.{held_events}
-use Rattle.yaml_emit_held.specs.declared.Held.{Held}
+use Rattle.yaml_emit_machine.specs.Held.{held_events}
+use Rattle.yaml_emit_machine.specs.declared.held.Held.{Held}
 use Rattle.yaml_emit_machine.specs.declared.emitter.yaml_emitter_t.TheInside.{Inside}
 use Rattle.yaml_emit_layout.specs.Progress.{first_progress, first_refusal}
-use Rattle.yaml_emit_held.specs.Judged.{let_out, laid, refused_at, refusal_among, text_among, refusal_behind, LetsOut, first_wrong, LaysAll, take_memory}
-use Rattle.yaml_emit_held.specs.Laying.{LaysEvents}
+use Rattle.yaml_emit_machine.specs.Judged.{let_out, laid, refused_at, refusal_among, text_among, refusal_behind, LetsOut, first_wrong, LaysAll, take_memory}
+use Rattle.yaml_emit_machine.specs.Laying.{LaysEvents}
 use Rattle.yaml_emit_machine.specs.Emitter.{Emitter, text_of, fault_by, refusal_by, stop_of, stream_encoding, CompletesBy, Completes}
 use Rattle.yaml_emit_machine.specs.Views.{emitter_of, IsEmitter}
 use Rattle.yaml_emit_machine.specs.Verdict.{verdict_by, verdict, IsLetOut, WritesBy, Writes, wrong_by, wrong, IsLaid, LaysBy, Lays, TellsOutcome}
 use Rattle.yaml_emit_machine.specs.Taking.{TakesEvents, Stuck, NotesMemory, NotesMemoryOf, ComesIntoForce}
 use Rattle.yaml_emit_machine.proofs.Viewing.{seen}
 use Rattle.yaml_emit_machine.proofs.Blaming.{begin_first, ends_new}
-use Rattle.yaml_emit_held.proofs.Judging.{going_open, goes_going, or_some, unless_some}
+use Rattle.yaml_emit_machine.proofs.Judging.{going_open, goes_going, or_some, unless_some}
 use Rattle.yaml_emit_machine.proofs.Emitting.{not_true, refusal_none, stopped_completes, lay_completes, begin_completes}
 
 -- ---- one call behind another

@@ -16,11 +16,11 @@ use Rattle.yaml_emit_layout.specs.Content.{Event}
 use Rattle.yaml_emit_layout.specs.Grammar.{or_else}
 use Rattle.yaml_emit_layout.specs.State.{State}
 use Rattle.yaml_emit_state.specs.Steps.{goes_on}
-use Rattle.yaml_emit_held.specs.Held.{held_events, is_ready}
+use Rattle.yaml_emit_machine.specs.Held.{held_events, is_ready}
 use Rattle.yaml_emit_machine.specs.declared.emitter.yaml_emitter_t.TheInside.{Inside}
 use Rattle.yaml_emit_layout.specs.Progress.{Progress, first_refusal}
-use Rattle.yaml_emit_held.specs.Judged.{let_out, unless, laid, refused_at, refusal_behind, LetsOut, first_wrong, LaysAll}
-use Rattle.yaml_emit_held.proofs.Judging.{or_some, unless_some}
+use Rattle.yaml_emit_machine.specs.Judged.{let_out, unless, laid, refused_at, refusal_behind, LetsOut, first_wrong, LaysAll}
+use Rattle.yaml_emit_machine.proofs.Judging.{or_some, unless_some}
 use Rattle.yaml_emit_machine.specs.Emitter.{Emitter, fault_by, problem_fault}
 use Rattle.yaml_emit_machine.specs.Views.{emitter_of, IsEmitter}
 use Rattle.yaml_emit_machine.specs.Verdict.{verdict_by, verdict, IsLetOut, WritesBy, Writes, wrong_by, wrong, LaysBy, Lays, HasLetOut, TellsOutcome}

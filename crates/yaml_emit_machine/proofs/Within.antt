@@ -13,12 +13,12 @@ use Rattle.yaml_emit_layout.specs.ToCome.{ToCome, nothing, events, layout}
 use Rattle.yaml_emit_state.specs.Steps.{goes_on}
 use Rattle.yaml_emit_state.specs.Finish.{Finishes, FinishesAt}
 use Rattle.yaml_emit_machine.specs.declared.emitter.yaml_emitter_t.TheInside.{Inside}
-use Rattle.yaml_emit_held.specs.Held.{is_ready}
+use Rattle.yaml_emit_machine.specs.Held.{is_ready}
 use Rattle.yaml_emit_machine.specs.Emitter.{Emitter, text_of, Completes, CompletesBy}
 use Rattle.yaml_emit_machine.specs.Views.{emitter_of, IsEmitter}
 use Rattle.yaml_emit_machine.specs.Within.{Fits, IsWithin}
 use Rattle.yaml_emit_machine.proofs.Ending.{nothing_held, no_event_left, no_stream}
-use Rattle.yaml_emit_held.proofs.Judging.{goes_going}
+use Rattle.yaml_emit_machine.proofs.Judging.{goes_going}
 use Rattle.yaml_emit_machine.proofs.Emitting.{refusal_none}
 
 fits_at : (s : Status) (v : Settings) (st : State) (o : Output) (xs : List Event)

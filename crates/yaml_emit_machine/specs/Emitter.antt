@@ -37,7 +37,7 @@ use Rattle.yaml_emit_layout.specs.Grammar.{problem_bytes}
 use Rattle.yaml_emit_layout.specs.Streams.{IsStream}
 use Rattle.yaml_emit_layout.specs.State.{State}
 use Rattle.yaml_emit_state.specs.Finish.{Finishes}
-use Rattle.yaml_emit_held.specs.Judged.{refused_at}
+use Rattle.yaml_emit_machine.specs.Judged.{refused_at}
 use Rattle.yaml_emit_graph.specs.Graph.{dumped}
 
 -- How the text goes on behind the output, from the first event on. What it makes of the events that follow is all that is said of

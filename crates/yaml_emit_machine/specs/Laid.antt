@@ -9,7 +9,7 @@ use Rattle.yaml_emit_layout.specs.Content.{Document, stream_events}
 use Rattle.yaml_emit_layout.specs.Grammar.{own_problems}
 use Rattle.yaml_emit_layout.specs.Nodes.{stream_layout}
 use Rattle.yaml_emit_layout.specs.State.{placed}
-use Rattle.yaml_emit_held.specs.Judged.{laid}
+use Rattle.yaml_emit_machine.specs.Judged.{laid}
 
 -- Of a stream in which nothing is wrong, from its start on, whatever follows.
 abbrev pub StreamsAreLaid : Type 0

@@ -1,3 +1,6 @@
+pub mod Held
+pub mod Judged
+pub mod Laying
 pub mod Emitter
 pub mod Views
 pub mod Within
@@ -7,7 +10,9 @@ pub mod Taking
 pub mod Dumping
 pub mod Resuming
 -- what it stands on, for crates that name this one alone
-pub use Rattle.yaml_emit_held.specs as emit_held
 pub use Rattle.yaml_emit_state.specs as emit_state
 pub use Rattle.yaml_emit_layout.specs as emit_layout
 pub use Rattle.yaml_emit_graph.specs as emit_graph
+pub use Rattle.yaml_emit_layout.specs.emit_text
+pub use Rattle.yaml_emit_layout.specs.scan_model
+pub use Rattle.yaml_emit_layout.specs.parse_model

@@ -7,7 +7,7 @@ use Rattle.yaml_emit_text.specs.Sink.{Grows}
 use Rattle.yaml_emit_layout.specs.declared.Expected.TheVariants as at
 use Rattle.yaml_emit_layout.specs.Content.{Event}
 use Rattle.yaml_emit_state.specs.Steps.{may_note}
-use Rattle.yaml_emit_held.specs.Judged.{take_memory, RefusesHeld}
+use Rattle.yaml_emit_machine.specs.Judged.{take_memory, RefusesHeld}
 use Rattle.yaml_emit_machine.specs.Emitter.{Emitter, Completes, Keeps}
 use Rattle.yaml_emit_machine.specs.Verdict.{verdict, Writes, wrong, Lays, LaysFirst}
 

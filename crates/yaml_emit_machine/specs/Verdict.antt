@@ -14,7 +14,7 @@ use Rattle.yaml_emit_layout.specs.declared.Expected.TheVariants as at
 use Rattle.yaml_emit_layout.specs.Content.{Event}
 use Rattle.yaml_emit_layout.specs.State.{placed}
 use Rattle.yaml_emit_layout.specs.Progress.{first_progress, first_refusal}
-use Rattle.yaml_emit_held.specs.Judged.{let_out, laid, refusal_behind, LetsOut, first_wrong, LaysAll, laid_some, LaysSome}
+use Rattle.yaml_emit_machine.specs.Judged.{let_out, laid, refusal_behind, LetsOut, first_wrong, LaysAll, laid_some, LaysSome}
 use Rattle.yaml_emit_machine.specs.Emitter.{Emitter, text_of, stream_encoding, fault_by, HasWritten}
 
 abbrev pub verdict_by : Bool → Emitter → List Event → Option Problem

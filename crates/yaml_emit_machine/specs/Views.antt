@@ -4,7 +4,7 @@ use Rattle.yaml_scan_model.specs.Faults.{fault_of}
 use Rattle.yaml_emit_text.specs.declared.Status.TheVariants.{Going}
 use Rattle.yaml_emit_state.specs.Steps.{state_of, settings_of, goes_on}
 use Rattle.yaml_emit_machine.specs.declared.emitter.yaml_emitter_t.TheInside.{Inside}
-use Rattle.yaml_emit_held.specs.Held.{held_events, HeldUtf8, is_ready}
+use Rattle.yaml_emit_machine.specs.Held.{held_events, HeldUtf8, is_ready}
 use Rattle.yaml_emit_machine.specs.Emitter.{Emitter, refusal_by, settings_in}
 
 abbrev pub emitter_of : Inside → Emitter

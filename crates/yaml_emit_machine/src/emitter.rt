@@ -11,7 +11,7 @@ ghost use Rattle.yaml_emit_layout.specs.declared.Expected.TheVariants as at;
 ghost use Rattle.yaml_emit_graph.specs.Brackets.{bracket_event};
 ghost use Rattle.yaml_scan_model.specs.declared.yaml_scalar_style_t.{yaml_scalar_style_t};
 ghost use Rattle.yaml_emit_machine.specs.Emitter.{stream_encoding, IsNew, IsLimited, ShowsFront, IsWhole, Answers, Stays};
-ghost use Rattle.yaml_emit_held.specs.Held.{AreLast};
+ghost use Rattle.yaml_emit_machine.specs.Held.{AreLast};
 ghost use Rattle.yaml_emit_machine.specs.Within.{IsWithin};
 ghost use Rattle.yaml_emit_machine.specs.Verdict.{TellsOutcome};
 ghost use Rattle.yaml_emit_machine.specs.Taking.{TakesEvents, GivesText, LaysAtOnce, AwaitsNode, StaysCanonical, Stuck, NotesMemoryOf, BlamesLevels, ComesIntoForce};
@@ -20,12 +20,13 @@ mod dump;
 mod resume;
 
 use crate::fault::note;
+use crate::held::Held;
+use crate::release::hold_or_lay;
 pub use dump::dump_document;
 pub use resume::{directives, outer, resumed, stand};
 use std::alloc::Global;
 use std::marker::Model;
 use yaml_emit_graph::Bracket;
-use yaml_emit_held::Held;
 use yaml_emit_state::Core;
 use yaml_emit_text::{RequestedSettings, settled};
 use yaml_parse_model::yaml_event_body_t;
@@ -234,7 +235,7 @@ impl yaml_emitter_t {
         ensures last { AreLast (self.old.held ++ emitter_event (body_of event.old) ∷ [])
             self.new.held }
     {
-        yaml_emit_held::hold_or_lay(&mut self.core, &mut self.held, event);
+        hold_or_lay(&mut self.core, &mut self.held, event);
         note(&self.core, &mut self.fault);
     }
 

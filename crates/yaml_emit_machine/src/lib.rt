@@ -3,8 +3,10 @@
 
 mod emitter;
 mod fault;
+mod held;
 mod law;
 mod name;
+mod release;
 
 pub use emitter::{
     answer, directives, dump_document, emit, first_fault, give_early, into_output, is_closed,
@@ -16,3 +18,11 @@ pub use law::{streams_are_laid, streams_pass};
 pub use name::yaml_emitter_state_t;
 pub use yaml_emit_layout::{Expected, Level, Phase};
 pub use yaml_emit_state::yaml_emitter_stand_t;
+// What its calls name, so that the member needs no other crate: each further one is read again by every check of the member.
+pub use yaml_emit_text::{Cursor, Encoding, RequestedSettings};
+pub use yaml_parse_document::{yaml_document_delete, yaml_document_t};
+pub use yaml_parse_model::{yaml_event_body_t, yaml_event_t};
+pub use yaml_scan_model::{
+    yaml_break_t, yaml_encoding_t, yaml_fault_t, yaml_memory_fault, yaml_origin_t,
+    yaml_tag_directive_t,
+};

@@ -2,7 +2,7 @@
 use Rattle.yaml_round_laws_pieces.proofs.Words.{◌≤◌, Cursor, Settings, Rest, nothing_more, Problem, Event, or_else, context_of, problem_in, progress_after, first_refusal, State, piece, next, problem_at, opens_empty, begins_by, top_of, is_ready, let_out, unless, laid, refused_at, shape_of, refusal_from, text_from, refusal_behind, ready_more, same_problem, shape_next, or_none, or_some, unless_none, unless_some, empty_out, open_next, first_out, Stand, added, StandsAreThere}
 use Rattle.std.proofs.Common.{◌≡◌, Bool, true, false, List, [], ◌∷◌, ◌++◌, refl, sym, ap, ◌∙◌, append_assoc, Option, Some, None, length, arith, append-nil}
 use Rattle.yaml_emit_layout.specs.declared.Expected.TheVariants as at
-use Rattle.yaml_emit_held.proofs.Holding.{ready_empty, few_short}
+use Rattle.yaml_emit_machine.proofs.Holding.{ready_empty, few_short}
 use Rattle.yaml_round_laws_pieces.proofs.Regular.{Written}
 use Rattle.yaml_round_laws_pieces.proofs.Events.{piece_regular}
 

@@ -1,9 +1,9 @@
 -- The words of the definitions, and the lemmas below, that the files of lemmas share.
 pub use Rattle.std.specs.Prelude.{codes, ◌≤◌}
-pub use Rattle.yaml_emit_held.proofs.Judging.{empty_out, first_out, open_next, or_none, or_some, ready_more, same_problem, shape_next, unless_none, unless_some}
-pub use Rattle.yaml_emit_held.specs.Held.{is_ready}
-pub use Rattle.yaml_emit_held.specs.Judged.{refusal_from, refused_at, shape_of, text_from, unless}
-unfoldable pub use Rattle.yaml_emit_held.specs.Judged.{laid, let_out, refusal_behind}
+pub use Rattle.yaml_emit_machine.proofs.Judging.{empty_out, first_out, open_next, or_none, or_some, ready_more, same_problem, shape_next, unless_none, unless_some}
+pub use Rattle.yaml_emit_machine.specs.Held.{is_ready}
+pub use Rattle.yaml_emit_machine.specs.Judged.{refusal_from, refused_at, shape_of, text_from, unless}
+unfoldable pub use Rattle.yaml_emit_machine.specs.Judged.{laid, let_out, refusal_behind}
 pub use Rattle.yaml_emit_layout.specs.Content.{Document, Event, Opening, Scalar, Start, alias, document_end, document_start, mapping_end, mapping_start, no_event, scalar, sequence_end, sequence_start, stream_end, stream_events, stream_start}
 pub use Rattle.yaml_emit_layout.specs.Grammar.{or_else, own_problems, scalar_tag, start_tag}
 unfoldable pub use Rattle.yaml_emit_layout.specs.Grammar.{event_problem, last_problem, place_problem, problem_by}

@@ -7,7 +7,7 @@ use Rattle.yaml_emit_text.specs.Layout.{written}
 use Rattle.yaml_emit_layout.specs.declared.Expected.TheVariants as at
 use Rattle.yaml_emit_layout.specs.Content.{Event}
 use Rattle.yaml_emit_layout.specs.State.{placed}
-use Rattle.yaml_emit_held.specs.Judged.{let_out, laid, refusal_behind}
+use Rattle.yaml_emit_machine.specs.Judged.{let_out, laid, refusal_behind}
 use Rattle.yaml_round_laws_pieces.specs.Pieces.{Stand, first_stand, added, joined}
 
 -- These events lead from one stand to another, as far as the bytes tell: whatever follows, those of their text come first, and what

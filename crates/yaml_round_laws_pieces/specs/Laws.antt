@@ -12,7 +12,7 @@ use Rattle.yaml_emit_layout.specs.declared.Expected.TheVariants as at
 use Rattle.yaml_emit_layout.specs.parse_model.Events.{TagDirective}
 use Rattle.yaml_emit_layout.specs.Content.{Opening, Event, document_start}
 use Rattle.yaml_emit_layout.specs.State.{placed, among}
-use Rattle.yaml_emit_held.specs.Judged.{let_out, laid}
+use Rattle.yaml_emit_machine.specs.Judged.{let_out, laid}
 use Rattle.yaml_round_laws_pieces.specs.Pieces.{Stand, first_stand, added, whole, LeadsToStand, Waits, joined, Cuts, Alike}
 
 -- From each stand each list of events leads to one, where at most three of them wait.

@@ -11,7 +11,7 @@ use Rattle.yaml_emit_layout.specs.Grammar.{own_problems}
 use Rattle.yaml_emit_layout.specs.Nodes.{stream_layout}
 use Rattle.yaml_emit_layout.specs.Progress.{first_progress, first_refusal}
 use Rattle.yaml_emit_layout.specs.State.{placed, opens_empty}
-use Rattle.yaml_emit_held.specs.Judged.{laid}
+use Rattle.yaml_emit_machine.specs.Judged.{laid}
 use Rattle.yaml_round_laws_pieces.specs.Pieces.{whole}
 
 -- All that is written for the events of a list, those that still wait too.

@@ -7,7 +7,7 @@ use Rattle.yaml_emit_text.specs.Layout.{start, nothing_more}
 use Rattle.yaml_emit_layout.specs.declared.Expected.TheVariants as at
 use Rattle.yaml_emit_layout.specs.Content.{Event}
 use Rattle.yaml_emit_layout.specs.State.{State, placed}
-use Rattle.yaml_emit_held.specs.Judged.{text_from, refusal_behind}
+use Rattle.yaml_emit_machine.specs.Judged.{text_from, refusal_behind}
 
 -- All that counts of the events by now: what is expected next, the open collections and the document's directives; where the next
 -- character stands; and the events that wait for later ones.

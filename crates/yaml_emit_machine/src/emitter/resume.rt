@@ -4,12 +4,12 @@ ghost use Rattle.std.specs.Prelude.{◌≡◌, ◌≤◌, ◌<◌, ◌^◌, map,
 ghost use Rattle.yaml_parse_model.specs.Events.{directive_of};
 ghost use Rattle.yaml_emit_layout.specs.State.{top_of};
 ghost use Rattle.yaml_emit_state.specs.Stack.{stack};
-ghost use Rattle.yaml_emit_held.specs.Judged.{refused_at};
+ghost use Rattle.yaml_emit_machine.specs.Judged.{refused_at};
 ghost use Rattle.yaml_emit_machine.specs.Resuming.{resumed, StandsWhere};
 
 use super::yaml_emitter_t;
+use crate::held::Held;
 use std::alloc::{AllocError, Global};
-use yaml_emit_held::Held;
 use yaml_emit_layout::Level;
 use yaml_emit_state::{Core, yaml_emitter_stand_t};
 use yaml_emit_text::{RequestedSettings, settled};

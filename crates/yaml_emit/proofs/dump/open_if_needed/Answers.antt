@@ -1,8 +1,10 @@
-use Rattle.std.proofs.Common.{◌≡◌, ◌∙◌, sym, true, false}
+use Rattle.std.proofs.Common.{◌≡◌, ◌∙◌, sym, refl, true, false}
+use Rattle.std.proofs.lemmas.Bool.{false≢true}
 use Rattle.yaml_emit_machine.specs.Dumping.{opening_event}
 use Rattle.yaml_emit_machine.proofs.Taking.{taken_begun, notes_any}
 use Rattle.yaml_emit_machine.proofs.Dumped.{takes_opened, takes_opening, takes_unopened}
 use Rattle.yaml_emit_machine.proofs.Opened.{opens_same, opens_right, opens_alone}
+use Rattle.yaml_emit.proofs.Told.{never}
 use Rattle.yaml_emit.proofs.dump.open_if_needed.Goals as goal
 
 pub returns-then-is_opened-clause-takes : goal.returns-then-is_opened-clause-takes
@@ -47,3 +49,42 @@ returns-in-Err-clause-opens c =
 
 pub returns-in-Err-clause-begun : goal.returns-in-Err-clause-begun
 returns-in-Err-clause-begun c = taken_begun _ _ _ c.in-Err.ensures.takes
+
+pub returns-then-is_opened-clause-memory : goal.returns-then-is_opened-clause-memory
+returns-then-is_opened-clause-memory c = λ unnoted. refl
+
+pub returns-then-is_opened-clause-opened : goal.returns-then-is_opened-clause-opened
+returns-then-is_opened-clause-opened c = λ going. sym c.is_opened.ensures.is ∙ c.if-is_opened.true
+
+pub returns-then-is_opened-clause-kept : goal.returns-then-is_opened-clause-kept
+returns-then-is_opened-clause-kept c = λ on. on
+
+pub returns-then-is_opened-clause-refused : goal.returns-then-is_opened-clause-refused
+returns-then-is_opened-clause-refused c = λ shut. absurd (false≢true (sym shut))
+
+pub returns-then-is_opened-clause-closed : goal.returns-then-is_opened-clause-closed
+returns-then-is_opened-clause-closed c = refl
+
+pub returns-in-Ok-clause-opened : goal.returns-in-Ok-clause-opened
+returns-in-Ok-clause-opened c = λ going. c.in-Ok.ensures.opened
+
+pub returns-in-Ok-clause-kept : goal.returns-in-Ok-clause-kept
+returns-in-Ok-clause-kept c = λ on. c.in-Ok.ensures.opened
+
+pub returns-in-Ok-clause-refused : goal.returns-in-Ok-clause-refused
+returns-in-Ok-clause-refused c = λ shut. absurd (false≢true (sym shut))
+
+pub returns-in-Ok-clause-closed : goal.returns-in-Ok-clause-closed
+returns-in-Ok-clause-closed c = c.in-Ok.ensures.keeps
+
+pub returns-in-Err-clause-opened : goal.returns-in-Err-clause-opened
+returns-in-Err-clause-opened c = λ going. absurd (false≢true going)
+
+pub returns-in-Err-clause-kept : goal.returns-in-Err-clause-kept
+returns-in-Err-clause-kept c = λ on. absurd (false≢true (sym (sym c.is_opened.ensures.is ∙ c.if-is_opened.false) ∙ on))
+
+pub returns-in-Err-clause-refused : goal.returns-in-Err-clause-refused
+returns-in-Err-clause-refused c = λ shut none. never _ _ _ none c.in-Err.ensures.answer
+
+pub returns-in-Err-clause-closed : goal.returns-in-Err-clause-closed
+returns-in-Err-clause-closed c = c.in-Err.ensures.keeps

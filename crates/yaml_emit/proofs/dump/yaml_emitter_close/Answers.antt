@@ -1,7 +1,10 @@
-use Rattle.std.proofs.Common.{true, [], ◌∷◌}
+use Rattle.std.proofs.Common.{◌≡◌, ◌≤◌, ◌∙◌, sym, ap, refl, subst, length, true, false, [], ◌∷◌}
+use Rattle.std.proofs.lemmas.Bool.{false≢true}
+use Rattle.yaml_emit_machine.specs.Emitter.{Emitter}
 use Rattle.yaml_emit_machine.specs.emit_layout.Content.{stream_end}
 use Rattle.yaml_emit_machine.proofs.Taking.{takes_marked, notes_marked, tells_marked}
 use Rattle.yaml_emit_machine.proofs.Blaming.{blames_marked}
+use Rattle.yaml_emit.proofs.Told.{on_ok, on_err}
 use Rattle.yaml_emit.proofs.dump.yaml_emitter_close.Goals as goal
 
 pub returns-in_ok-emit-clause-takes : goal.returns-in_ok-emit-clause-takes
@@ -24,3 +27,75 @@ returns-in_ok-emit-clause-blames c = λ open_still. blames_marked stream_end c.a
 
 pub returns-in_err-emit-clause-blames : goal.returns-in_err-emit-clause-blames
 returns-in_err-emit-clause-blames c = λ open_still. c.emit.ensures.blames
+
+pub returns-then-is_closed-clause-answer : goal.returns-then-is_closed-clause-answer
+returns-then-is_closed-clause-answer c = c.answer.ensures.answer
+
+pub returns-then-is_closed-clause-again : goal.returns-then-is_closed-clause-again
+returns-then-is_closed-clause-again c = λ on. refl
+
+pub returns-then-is_closed-clause-takes : goal.returns-then-is_closed-clause-takes
+returns-then-is_closed-clause-takes c = λ open_still. absurd (false≢true (sym open_still ∙ (sym c.is_closed.ensures ∙ c.if-is_closed.true)))
+
+pub returns-then-is_closed-clause-memory : goal.returns-then-is_closed-clause-memory
+returns-then-is_closed-clause-memory c = λ open_still. absurd (false≢true (sym open_still ∙ (sym c.is_closed.ensures ∙ c.if-is_closed.true)))
+
+pub returns-then-is_closed-clause-blames : goal.returns-then-is_closed-clause-blames
+returns-then-is_closed-clause-blames c = λ open_still. absurd (false≢true (sym open_still ∙ (sym c.is_closed.ensures ∙ c.if-is_closed.true)))
+
+pub returns-then-is_closed-clause-tells : goal.returns-then-is_closed-clause-tells
+returns-then-is_closed-clause-tells c = c.answer.ensures.tells
+
+pub returns-then-is_closed-clause-stays : goal.returns-then-is_closed-clause-stays
+returns-then-is_closed-clause-stays c = λ f some. refl
+
+pub returns-then-is_closed-clause-few : goal.returns-then-is_closed-clause-few
+returns-then-is_closed-clause-few c = c.answer.ensures.few
+
+pub returns-then-is_closed-clause-closed : goal.returns-then-is_closed-clause-closed
+returns-then-is_closed-clause-closed c = on_ok _ _ _ c.answer.ensures.answer (λ none. sym c.is_closed.ensures ∙ c.if-is_closed.true)
+
+pub returns-then-is_closed-clause-refused : goal.returns-then-is_closed-clause-refused
+returns-then-is_closed-clause-refused c = on_err _ _ _ c.answer.ensures.answer (λ some. refl)
+
+pub returns-then-is_closed-clause-keeps : goal.returns-then-is_closed-clause-keeps
+returns-then-is_closed-clause-keeps c = refl
+
+pub returns-then-is_closed-clause-begun : goal.returns-then-is_closed-clause-begun
+returns-then-is_closed-clause-begun c = c.answer.ensures.running c.requires
+
+pub returns-in_ok-emit-clause-again : goal.returns-in_ok-emit-clause-again
+returns-in_ok-emit-clause-again c = λ on. absurd (false≢true (sym (sym c.is_closed.ensures ∙ c.if-is_closed.false) ∙ on))
+
+pub returns-in_ok-emit-clause-refused : goal.returns-in_ok-emit-clause-refused
+returns-in_ok-emit-clause-refused c = tt
+
+pub returns-in_ok-emit-clause-closed : goal.returns-in_ok-emit-clause-closed
+returns-in_ok-emit-clause-closed c = ap (λ (e : Emitter). e.closed) c.set_closed.ensures
+
+pub returns-in_ok-emit-clause-keeps : goal.returns-in_ok-emit-clause-keeps
+returns-in_ok-emit-clause-keeps c = ap (λ (e : Emitter). e.opened) c.set_closed.ensures ∙ c.emit.ensures.opened.0
+
+pub returns-in_ok-emit-clause-begun : goal.returns-in_ok-emit-clause-begun
+returns-in_ok-emit-clause-begun c = ap (λ (e : Emitter). e.fresh) c.set_closed.ensures ∙ c.emit.ensures.begun
+
+pub returns-in_ok-emit-clause-few : goal.returns-in_ok-emit-clause-few
+returns-in_ok-emit-clause-few c = let P : Emitter → Type 0 = λ e. length e.held ≤ 3 in subst P (sym c.set_closed.ensures) c.emit.ensures.few
+
+pub returns-in_err-emit-clause-again : goal.returns-in_err-emit-clause-again
+returns-in_err-emit-clause-again c = λ on. absurd (false≢true (sym (sym c.is_closed.ensures ∙ c.if-is_closed.false) ∙ on))
+
+pub returns-in_err-emit-clause-tells : goal.returns-in_err-emit-clause-tells
+returns-in_err-emit-clause-tells c = c.emit.ensures.tells
+
+pub returns-in_err-emit-clause-stays : goal.returns-in_err-emit-clause-stays
+returns-in_err-emit-clause-stays c = c.emit.ensures.stays
+
+pub returns-in_err-emit-clause-few : goal.returns-in_err-emit-clause-few
+returns-in_err-emit-clause-few c = c.emit.ensures.few
+
+pub returns-in_err-emit-clause-keeps : goal.returns-in_err-emit-clause-keeps
+returns-in_err-emit-clause-keeps c = c.emit.ensures.opened.0
+
+pub returns-in_err-emit-clause-begun : goal.returns-in_err-emit-clause-begun
+returns-in_err-emit-clause-begun c = c.emit.ensures.begun

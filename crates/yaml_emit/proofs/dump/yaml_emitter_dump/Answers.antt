@@ -1,10 +1,47 @@
--- Behind a fault a dump counts for nothing.
-use Rattle.std.proofs.Common.{[]}
-use Rattle.yaml_emit.proofs.Told.{on_ok, on_err}
+-- Behind a fault a dump counts for nothing. All is answered, so that nothing is searched for.
+use Rattle.std.proofs.Common.{[], refl}
+use Rattle.yaml_emit_machine.specs.scan_model.Faults.{fault_of}
+use Rattle.yaml_emit.proofs.Told.{on_ok, on_err, never, opens_nothing}
 use Rattle.yaml_emit.proofs.dump.yaml_emitter_dump.Goals as goal
 
 pub returns-in-Err-clause-takes : goal.returns-in-Err-clause-takes
 returns-in-Err-clause-takes c = c.in-Err.ensures.stuck _ []
+
+pub returns-in-Err-clause-memory : goal.returns-in-Err-clause-memory
+returns-in-Err-clause-memory c = λ unnoted. refl
+
+pub returns-in-Err-clause-tells : goal.returns-in-Err-clause-tells
+returns-in-Err-clause-tells c = c.in-Err.ensures.tells
+
+pub returns-in-Err-clause-answer : goal.returns-in-Err-clause-answer
+returns-in-Err-clause-answer c = c.in-Err.ensures.answer
+
+pub returns-in-Err-clause-few : goal.returns-in-Err-clause-few
+returns-in-Err-clause-few c = c.in-Err.ensures.few
+
+pub returns-in-Err-clause-opened : goal.returns-in-Err-clause-opened
+returns-in-Err-clause-opened c = tt
+
+pub returns-in-Err-clause-kept : goal.returns-in-Err-clause-kept
+returns-in-Err-clause-kept c = λ on. on
+
+pub returns-in-Err-clause-closed : goal.returns-in-Err-clause-closed
+returns-in-Err-clause-closed c = λ rooted. refl
+
+pub returns-in-Err-clause-ended : goal.returns-in-Err-clause-ended
+returns-in-Err-clause-ended c = λ rootless. tt
+
+pub returns-in-Err-clause-refused : goal.returns-in-Err-clause-refused
+returns-in-Err-clause-refused c = refl
+
+pub returns-in-Err-clause-opens : goal.returns-in-Err-clause-opens
+returns-in-Err-clause-opens c = opens_nothing _ (fault_of c.in-Err.fault) c.in-Err.ensures.answer
+
+pub returns-in-Err-clause-begun : goal.returns-in-Err-clause-begun
+returns-in-Err-clause-begun c = c.in-Err.ensures.begun
+
+pub returns-in-Err-clause-stays : goal.returns-in-Err-clause-stays
+returns-in-Err-clause-stays c = λ f some. refl
 
 pub returns-in-Ok-clause-takes : goal.returns-in-Ok-clause-takes
 returns-in-Ok-clause-takes c = c.dump_all.ensures.takes
@@ -41,3 +78,6 @@ returns-in-Ok-clause-ended c = λ rootless. on_ok _ _ _ c.answer-in-Ok.ensures.a
 
 pub returns-in-Ok-clause-refused : goal.returns-in-Ok-clause-refused
 returns-in-Ok-clause-refused c = on_err _ _ _ c.answer-in-Ok.ensures.answer c.dump_all.ensures.refused
+
+pub returns-in-Ok-clause-stays : goal.returns-in-Ok-clause-stays
+returns-in-Ok-clause-stays c = λ f some. never _ _ f c.in-Ok.ensures.answer some

@@ -3,7 +3,7 @@ use mir.Syntax.{w32}
 use mir.Val.{SFits, to_z, of_z}
 use Rattle.std.proofs.Common.{rules, ◌∙◌, ap, ℤ}
 use Rattle.std.proofs.lemmas.Int.{to_z-of_z}
-use Rattle.yaml_emit_text.specs.declared.RequestedSettings.{RequestedSettings}
+use Rattle.yaml_emit_machine.specs.emit_text.declared.RequestedSettings.{RequestedSettings}
 use Rattle.yaml_emit_machine.specs.Emitter.{Emitter}
 use Rattle.yaml_emit.proofs.emitter.yaml_emitter_set_break.Goals as goal
 

@@ -1,5 +1,5 @@
 use Rattle.std.proofs.Common.{refl, sym, ap, arith}
-use Rattle.yaml_emit_held.specs.Held.{is_ready}
+use Rattle.yaml_emit_machine.specs.Held.{is_ready}
 use Rattle.yaml_emit_machine.proofs.Emitting.{fresh_refusal}
 use Rattle.yaml_emit_machine.proofs.emitter.new_emitter.Goals as goal
 

@@ -1,6 +1,6 @@
 use Rattle.std.proofs.Common.{refl, ap, arith}
 use Rattle.std.proofs.lemmas.Bool.{false≢true}
-use Rattle.yaml_emit_held.specs.Held.{is_ready}
+use Rattle.yaml_emit_machine.specs.Held.{is_ready}
 use Rattle.yaml_emit_machine.proofs.Resuming.{seen_resumed, resumed_right, resumed_limit, resumed_forced}
 use Rattle.yaml_emit_machine.proofs.emitter.resume.resumed.Goals as goal
 

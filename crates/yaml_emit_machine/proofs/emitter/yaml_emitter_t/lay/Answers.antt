@@ -2,7 +2,7 @@ use Rattle.std.proofs.Common.{None, refl, ◌∙◌, sym}
 use Rattle.std.proofs.lemmas.Bool.{false≢true}
 use Rattle.yaml_parse_model.specs.Events.{body_of}
 use Rattle.yaml_emit_layout.specs.Content.{emitter_event}
-use Rattle.yaml_emit_held.proofs.Following.{lays_unnoted}
+use Rattle.yaml_emit_machine.proofs.Following.{lays_unnoted}
 use Rattle.yaml_emit_machine.proofs.Taking.{inside_takes, inside_notes, inside_going}
 use Rattle.yaml_emit_machine.proofs.Forced.{forced_same}
 use Rattle.yaml_emit_machine.proofs.Blaming.{inside_blames}

@@ -3,8 +3,8 @@ use Rattle.std.proofs.lemmas.Bool.{false≢true}
 use Rattle.yaml_parse_model.specs.Events.{body_of}
 use Rattle.yaml_emit_text.specs.declared.Settings.{Settings}
 use Rattle.yaml_emit_layout.specs.Content.{emitter_event}
-use Rattle.yaml_emit_held.specs.Held.{is_ready}
-use Rattle.yaml_emit_held.proofs.Judging.{going_notes}
+use Rattle.yaml_emit_machine.specs.Held.{is_ready}
+use Rattle.yaml_emit_machine.proofs.Judging.{going_notes}
 use Rattle.yaml_emit_machine.proofs.Forced.{forced_same}
 use Rattle.yaml_emit_machine.proofs.Early.{inside_gives, inside_notes_early, inside_blames_early}
 use Rattle.yaml_emit_machine.proofs.Taking.{inside_open, inside_going}

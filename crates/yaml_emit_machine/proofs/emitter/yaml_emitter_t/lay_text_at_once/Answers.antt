@@ -4,7 +4,7 @@ use Rattle.yaml_scan_model.specs.declared.yaml_scalar_style_t.TheVariants.{YAML_
 use Rattle.yaml_emit_text.specs.declared.Settings.{Settings}
 use Rattle.yaml_emit_layout.specs.Content.{scalar}
 use Rattle.yaml_emit_state.specs.Given.{plain_text}
-use Rattle.yaml_emit_held.specs.Held.{is_ready}
+use Rattle.yaml_emit_machine.specs.Held.{is_ready}
 use Rattle.yaml_emit_machine.proofs.Forced.{forced_same}
 use Rattle.yaml_emit_machine.proofs.Early.{inside_gives, inside_notes_early}
 use Rattle.yaml_emit_machine.proofs.Taking.{inside_open, inside_going}

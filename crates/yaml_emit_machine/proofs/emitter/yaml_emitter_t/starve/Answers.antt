@@ -1,7 +1,7 @@
 use Rattle.std.proofs.Common.{◌∙◌, None, sym}
 use Rattle.std.proofs.lemmas.Bool.{false≢true}
 use Rattle.yaml_emit_text.specs.Layout.{stay}
-use Rattle.yaml_emit_held.proofs.Judging.{goes_going}
+use Rattle.yaml_emit_machine.proofs.Judging.{goes_going}
 use Rattle.yaml_emit_machine.proofs.Dumped.{inside_starves, inside_starves_notes}
 use Rattle.yaml_emit_machine.proofs.Forced.{forced_same}
 use Rattle.yaml_emit_machine.proofs.emitter.yaml_emitter_t.starve.Goals as goal

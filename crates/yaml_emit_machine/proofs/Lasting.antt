@@ -2,7 +2,7 @@
 use Rattle.std.proofs.Common.{◌≡◌, List, [], ◌∷◌, ◌++◌, true, refl, sym, ◌∙◌, ap, append_assoc}
 use Rattle.std.proofs.lemmas.List.{append-nil}
 use Rattle.yaml_emit_layout.specs.Content.{Event}
-use Rattle.yaml_emit_held.specs.Held.{passes, AreLast}
+use Rattle.yaml_emit_machine.specs.Held.{passes, AreLast}
 
 pub last_none : (xs : List Event) → AreLast xs xs
 last_none xs = ([], refl)

@@ -5,8 +5,8 @@ ghost use Rattle.yaml_parse_model.specs.Events.{body_of};
 ghost use Rattle.yaml_parse_model.specs.Constructors.{HasUtf8};
 ghost use Rattle.yaml_emit_layout.specs.Content.{emitter_event};
 ghost use Rattle.yaml_emit_state.specs.Steps.{goes_on};
-ghost use Rattle.yaml_emit_held.specs.Held.{held_events, HeldUtf8, is_ready, passes, releases, AreLast};
-ghost use Rattle.yaml_emit_held.specs.Laying.{LaysEvents};
+ghost use Rattle.yaml_emit_machine.specs.Held.{held_events, HeldUtf8, is_ready, passes, releases, AreLast};
+ghost use Rattle.yaml_emit_machine.specs.Laying.{LaysEvents};
 
 use crate::held::Held;
 use yaml_emit_state::Core;

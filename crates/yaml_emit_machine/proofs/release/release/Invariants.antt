@@ -2,9 +2,9 @@ use Rattle.std.proofs.Common.{◌≡◌, ◌≤◌, [], ◌∷◌, ◌++◌, fal
 use Rattle.yaml_parse_model.specs.Events.{body_of}
 use Rattle.yaml_emit_layout.specs.Content.{emitter_event}
 use Rattle.yaml_emit_state.specs.Steps.{goes_on}
-use Rattle.yaml_emit_held.specs.Held.{held_events, HeldUtf8, AreLast}
-use Rattle.yaml_emit_held.specs.Laying.{LaysEvents}
-use Rattle.yaml_emit_held.proofs.release.release.Given as goal
+use Rattle.yaml_emit_machine.specs.Held.{held_events, HeldUtf8, AreLast}
+use Rattle.yaml_emit_machine.specs.Laying.{LaysEvents}
+use Rattle.yaml_emit_machine.proofs.release.release.Given as goal
 
 abbrev pub invariant-loop-held : goal.invariant-loop-held
 invariant-loop-held l = record {

@@ -39,7 +39,7 @@ pub struct Held {
 }
 
 impl Count {
-    ghost use Rattle.yaml_emit_held.specs.Held.{more, less};
+    ghost use Rattle.yaml_emit_machine.specs.Held.{more, less};
 
     // One more, of three at most.
     fn more(self) -> Count
@@ -67,7 +67,7 @@ impl Count {
 }
 
 impl Slot {
-    ghost use Rattle.yaml_emit_held.specs.Held.{next, behind};
+    ghost use Rattle.yaml_emit_machine.specs.Held.{next, behind};
 
     // The slot behind it.
     fn next(self) -> Slot
@@ -94,7 +94,7 @@ impl Slot {
 }
 
 impl Held {
-    ghost use Rattle.yaml_emit_held.specs.Held.{held_bodies, held_events, oldest_event, later_events, HeldUtf8, stands, filled, releases, closes, needs, passes, opens_level, ends_level};
+    ghost use Rattle.yaml_emit_machine.specs.Held.{held_bodies, held_events, oldest_event, later_events, HeldUtf8, stands, filled, releases, closes, needs, passes, opens_level, ends_level};
 
     /// No event.
     pub fn nothing() -> Held

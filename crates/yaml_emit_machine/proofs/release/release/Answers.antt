@@ -1,9 +1,9 @@
 use Rattle.std.proofs.Common.{sym, refl, ◌∙◌}
 use Rattle.std.proofs.lemmas.Bool.{and_parts}
-use Rattle.yaml_emit_held.proofs.Holding.{both_false, less_most, one_less, one_gone, released_ready, room_held}
-use Rattle.yaml_emit_held.proofs.Following.{lays_none, lays_more}
-use Rattle.yaml_emit_held.proofs.Lasting.{last_none, last_less}
-use Rattle.yaml_emit_held.proofs.release.release.Goals as goal
+use Rattle.yaml_emit_machine.proofs.Holding.{both_false, less_most, one_less, one_gone, released_ready, room_held}
+use Rattle.yaml_emit_machine.proofs.Following.{lays_none, lays_more}
+use Rattle.yaml_emit_machine.proofs.Lasting.{last_none, last_less}
+use Rattle.yaml_emit_machine.proofs.release.release.Goals as goal
 
 pub lay_oldest-requires-clause-ready : goal.lay_oldest-requires-clause-ready
 lay_oldest-requires-clause-ready c = (and_parts _ _ (sym c.is_due.ensures ∙ c.loop-held-test.true)).0

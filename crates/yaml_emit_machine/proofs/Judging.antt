@@ -25,10 +25,10 @@ use Rattle.yaml_emit_layout.specs.State.{State, piece, next, next_at, problem_at
 use Rattle.yaml_emit_state.specs.declared.Core.{Core}
 use Rattle.yaml_emit_state.specs.Steps.{state_of, settings_of, next_state, next_piece, LaysOut, takes_memory, is_document_start, may_note, goes_on}
 use Rattle.yaml_emit_state.proofs.Finishing.{same_settings}
-use Rattle.yaml_emit_held.specs.Held.{is_ready, needs, closes, opens_level, ends_level}
+use Rattle.yaml_emit_machine.specs.Held.{is_ready, needs, closes, opens_level, ends_level}
 use Rattle.yaml_emit_layout.specs.Progress.{Due, item_due, key_due, progress_after, inside, behind_node, outer_due, phase_due, level_due, problem_in, first_refusal}
-use Rattle.yaml_emit_held.specs.Judged.{let_out, unless, laid, refused_at, due_in, due_of, shape_of, refusal_among, text_among, refusal_from, refusal_behind, LetsOut, first_wrong, LaysAll, laid_some, some_among, LaysSome, first_takes, first_starts}
-use Rattle.yaml_emit_held.proofs.Holding.{none_needed}
+use Rattle.yaml_emit_machine.specs.Judged.{let_out, unless, laid, refused_at, due_in, due_of, shape_of, refusal_among, text_among, refusal_from, refusal_behind, LetsOut, first_wrong, LaysAll, laid_some, some_among, LaysSome, first_takes, first_starts}
+use Rattle.yaml_emit_machine.proofs.Holding.{none_needed}
 
 -- ---- what is ready stays so
 

@@ -2,10 +2,10 @@ use Rattle.std.proofs.Common.{ap, sym, ◌∙◌, [], ◌∷◌, ◌++◌}
 use Rattle.yaml_parse_model.specs.Events.{body_of}
 use Rattle.yaml_emit_layout.specs.Content.{emitter_event}
 use Rattle.yaml_emit_layout.specs.State.{opens_empty}
-use Rattle.yaml_emit_held.specs.Held.{later, oldest_event}
-use Rattle.yaml_emit_held.proofs.Holding.{left_behind}
-use Rattle.yaml_emit_held.proofs.Opening.{lays_as}
-use Rattle.yaml_emit_held.proofs.held.Held.lay_oldest.Goals as goal
+use Rattle.yaml_emit_machine.specs.Held.{later, oldest_event}
+use Rattle.yaml_emit_machine.proofs.Holding.{left_behind}
+use Rattle.yaml_emit_machine.proofs.Opening.{lays_as}
+use Rattle.yaml_emit_machine.proofs.held.Held.lay_oldest.Goals as goal
 
 pub returns-clause-events : goal.returns-clause-events
 returns-clause-events c = left_behind c.args.self.now c.lay_out.new.self _ _ _ c.lay_out.ensures.others c.next-self.ensures c.less-self.ensures c.requires.ready

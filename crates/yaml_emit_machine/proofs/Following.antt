@@ -13,12 +13,12 @@ use Rattle.yaml_emit_state.specs.Steps.{state_of, settings_of, next_piece, LaysO
 use Rattle.yaml_emit_state.specs.Finish.{Finishes}
 use Rattle.yaml_emit_state.proofs.Finishing.{finishes_on}
 use Rattle.yaml_emit_state.proofs.Noting.{notes_both, notes_within}
-use Rattle.yaml_emit_held.specs.Held.{is_ready, passes}
-use Rattle.yaml_emit_held.specs.Judged.{refused_at, refusal_behind, LetsOut, first_wrong, LaysAll, take_memory, LaysSome, RefusesHeld}
-use Rattle.yaml_emit_held.specs.Laying.{HasLaid, LaysEvents}
-use Rattle.yaml_emit_held.proofs.Opening.{opens_none}
-use Rattle.yaml_emit_held.proofs.Holding.{ready_empty}
-use Rattle.yaml_emit_held.proofs.Judging.{ready_more, going_open, goes_going, done, text_step, some_step, some_one, some_none, going_notes, noted_takes, drop_next, first_there, start_there, refusal_on, wrong_on, lays_first}
+use Rattle.yaml_emit_machine.specs.Held.{is_ready, passes}
+use Rattle.yaml_emit_machine.specs.Judged.{refused_at, refusal_behind, LetsOut, first_wrong, LaysAll, take_memory, LaysSome, RefusesHeld}
+use Rattle.yaml_emit_machine.specs.Laying.{HasLaid, LaysEvents}
+use Rattle.yaml_emit_machine.proofs.Opening.{opens_none}
+use Rattle.yaml_emit_machine.proofs.Holding.{ready_empty}
+use Rattle.yaml_emit_machine.proofs.Judging.{ready_more, going_open, goes_going, done, text_step, some_step, some_one, some_none, going_notes, noted_takes, drop_next, first_there, start_there, refusal_on, wrong_on, lays_first}
 
 pub lays_none : (a : Core) (h : List Event) → LaysEvents a h a h
 lays_none a h = record {

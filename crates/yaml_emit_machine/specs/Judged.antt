@@ -16,7 +16,7 @@ use Rattle.yaml_emit_layout.specs.Grammar.{or_else}
 use Rattle.yaml_emit_layout.specs.Progress.{Due, item_due, key_due, value_due, Progress, first_refusal}
 use Rattle.yaml_emit_layout.specs.State.{State, piece, next, problem_at, opens_empty}
 use Rattle.yaml_emit_state.specs.Steps.{takes_memory, is_document_start}
-use Rattle.yaml_emit_held.specs.Held.{is_ready}
+use Rattle.yaml_emit_machine.specs.Held.{is_ready}
 
 -- The events of a list that are let out: all in front of the first one that is still held.
 unfoldable pub let_out : List Event → List Event

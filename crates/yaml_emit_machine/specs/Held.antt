@@ -4,11 +4,11 @@ use Rattle.yaml_parse_model.specs.declared.yaml_event_body_t.{yaml_event_body_t}
 use Rattle.yaml_parse_model.specs.Events.{EventBody, body_of}
 use Rattle.yaml_parse_model.specs.Constructors.{HasUtf8}
 use Rattle.yaml_emit_layout.specs.Content.{Event, no_event, stream_start, stream_end, document_start, document_end, alias, scalar, sequence_start, sequence_end, mapping_start, mapping_end, emitter_event}
-use Rattle.yaml_emit_held.specs.declared.held.Held.{Held}
-use Rattle.yaml_emit_held.specs.declared.held.Count.{Count}
-use Rattle.yaml_emit_held.specs.declared.held.Count.TheVariants.{Nothing, One, Two, Three}
-use Rattle.yaml_emit_held.specs.declared.held.Slot.{Slot}
-use Rattle.yaml_emit_held.specs.declared.held.Slot.TheVariants.{First, Second, Third}
+use Rattle.yaml_emit_machine.specs.declared.held.Held.{Held}
+use Rattle.yaml_emit_machine.specs.declared.held.Count.{Count}
+use Rattle.yaml_emit_machine.specs.declared.held.Count.TheVariants.{Nothing, One, Two, Three}
+use Rattle.yaml_emit_machine.specs.declared.held.Slot.{Slot}
+use Rattle.yaml_emit_machine.specs.declared.held.Slot.TheVariants.{First, Second, Third}
 
 -- the slot behind it, in a circle
 abbrev pub next : Slot → Slot

@@ -7,7 +7,7 @@ use Rattle.yaml_emit_layout.specs.Content.{Event}
 use Rattle.yaml_emit_state.specs.declared.Core.{Core}
 use Rattle.yaml_emit_state.specs.Steps.{state_of, settings_of, Notes}
 use Rattle.yaml_emit_state.specs.Finish.{Finishes}
-use Rattle.yaml_emit_held.specs.Judged.{refusal_behind, LetsOut, first_wrong, LaysAll, take_memory, LaysSome, RefusesHeld}
+use Rattle.yaml_emit_machine.specs.Judged.{refusal_behind, LetsOut, first_wrong, LaysAll, take_memory, LaysSome, RefusesHeld}
 
 -- the output is what is written for the first n of these events, whatever follows them
 abbrev pub HasLaid : Core → List Event → List ℕ → ℕ → Type 0

@@ -5,12 +5,12 @@ use Rattle.std.proofs.lemmas.Bool.Decides.{nat_tests}
 use Rattle.yaml_emit_layout.specs.Content.{Event, no_event, stream_start, stream_end, document_start, document_end, alias, scalar, sequence_start, sequence_end, mapping_start, mapping_end}
 use Rattle.yaml_emit_layout.specs.State.{opens_empty}
 use Rattle.yaml_parse_model.specs.declared.yaml_event_body_t.{yaml_event_body_t}
-use Rattle.yaml_emit_held.specs.declared.held.Held.{Held}
-use Rattle.yaml_emit_held.specs.declared.held.Count.{Count}
-use Rattle.yaml_emit_held.specs.declared.held.Count.TheVariants.{Nothing}
-use Rattle.yaml_emit_held.specs.declared.held.Slot.{Slot}
-use Rattle.yaml_emit_held.specs.declared.held.Slot.TheVariants.{First, Second, Third}
-use Rattle.yaml_emit_held.specs.Held.{is_ready, needs, closes, ends_level, releases, passes, next, less, stands, filled, held_events, oldest_event}
+use Rattle.yaml_emit_machine.specs.declared.held.Held.{Held}
+use Rattle.yaml_emit_machine.specs.declared.held.Count.{Count}
+use Rattle.yaml_emit_machine.specs.declared.held.Count.TheVariants.{Nothing}
+use Rattle.yaml_emit_machine.specs.declared.held.Slot.{Slot}
+use Rattle.yaml_emit_machine.specs.declared.held.Slot.TheVariants.{First, Second, Third}
+use Rattle.yaml_emit_machine.specs.Held.{is_ready, needs, closes, ends_level, releases, passes, next, less, stands, filled, held_events, oldest_event}
 
 -- Whether an event opens an empty collection is told by what has come, once it is ready: what follows changes nothing.
 pub ready_empty : (e : Event) (es more : List Event) → is_ready (e ∷ es) ≡ true

@@ -28,7 +28,7 @@ use yaml_parse_model::{
     TokenSlot, yaml_event_body_t, yaml_event_t, yaml_parser_t_prefix, yaml_token_source_t,
 };
 use yaml_parse_resolve::{Directives, TagDirectives};
-use yaml_parse_step::{Step, StepBuffers, take_turn, yaml_found_t};
+use yaml_parse_step::{Step, StepBuffers, let_buffers_go, take_turn, yaml_found_t};
 use yaml_scan_model::{yaml_fault_t, yaml_mark_t, yaml_memory_fault, yaml_origin_t};
 
 /// A parser of the tokens of a source.
@@ -242,5 +242,11 @@ pub fn yaml_parser_prefix<S: yaml_token_source_t>(
 
 /// Lets the parser and its source go.
 pub fn yaml_parser_delete<S: yaml_token_source_t>(parser: yaml_parser_t<S>) {
-    let _ = parser;
+    let yaml_parser_t {
+        source,
+        buffers,
+        ..
+    } = parser;
+    drop(source);
+    let_buffers_go(buffers);
 }

@@ -6,7 +6,7 @@
 ghost use Rattle.std.specs.Prelude.{◌≡◌, ◌↔◌, IsTrue, map, option_map};
 ghost use Rattle.yaml_parse_model.specs.Events.{event_of, unplaced, directive_of, text_of};
 ghost use Rattle.yaml_parse_model.specs.Events as event;
-ghost use Rattle.yaml_parse_model.specs.Constructors.{HasUtf8, IsUtf8Option, Constructs};
+ghost use Rattle.yaml_parse_model.specs.Constructors.{HasUtf8, IsUtf8Option, Constructs, CopiesTexts};
 
 use crate::event::{yaml_event_body_t, yaml_event_t};
 use crate::prefix::yaml_text_fault_t;
@@ -106,6 +106,30 @@ pub fn yaml_scalar_event_initialize(
     }))
 }
 
+// The texts of a collection's start.
+#[derive(Drop)]
+struct Texts {
+    anchor: Option<Vec<u8>>,
+    tag: Option<Vec<u8>>,
+}
+
+// Copies of these texts, behind a look at both.
+fn node_texts(
+    alloc: Global,
+    anchor: Option<&[u8]>,
+    tag: Option<&[u8]>,
+) -> Result<Texts, yaml_text_fault_t>
+    ensures { CopiesTexts (option_map (λ t. t.now) anchor.entry)
+        (option_map (λ t. t.now) tag.entry) result }
+{
+    if !is_utf8_option(anchor) || !is_utf8_option(tag) {
+        return Err(yaml_text_fault_t::NotUtf8);
+    }
+    let anchor = copy_text_option(alloc, anchor)?;
+    let tag = copy_text_option(alloc, tag)?;
+    Ok(Texts { anchor, tag })
+}
+
 /// A SEQUENCE-START event with copies of the texts; `implicit`: the tag may be left out.
 pub fn yaml_sequence_start_event_initialize(
     alloc: Global,
@@ -117,17 +141,16 @@ pub fn yaml_sequence_start_event_initialize(
     ensures { Constructs (event.sequence_start (option_map (λ t. t.now) anchor.entry)
         (option_map (λ t. t.now) tag.entry) implicit style) result }
 {
-    if !is_utf8_option(anchor) || !is_utf8_option(tag) {
-        return Err(yaml_text_fault_t::NotUtf8);
+    let copied = node_texts(alloc, anchor, tag);
+    match copied {
+        Ok(Texts { anchor, tag }) => Ok(yaml_event_t::unplaced(yaml_event_body_t::SequenceStart {
+            anchor,
+            tag,
+            implicit,
+            style,
+        })),
+        Err(fault) => Err(fault),
     }
-    let anchor = copy_text_option(alloc, anchor)?;
-    let tag = copy_text_option(alloc, tag)?;
-    Ok(yaml_event_t::unplaced(yaml_event_body_t::SequenceStart {
-        anchor,
-        tag,
-        implicit,
-        style,
-    }))
 }
 
 /// A SEQUENCE-END event.
@@ -148,17 +171,16 @@ pub fn yaml_mapping_start_event_initialize(
     ensures { Constructs (event.mapping_start (option_map (λ t. t.now) anchor.entry)
         (option_map (λ t. t.now) tag.entry) implicit style) result }
 {
-    if !is_utf8_option(anchor) || !is_utf8_option(tag) {
-        return Err(yaml_text_fault_t::NotUtf8);
+    let texts = node_texts(alloc, anchor, tag);
+    match texts {
+        Ok(Texts { anchor, tag }) => Ok(yaml_event_t::unplaced(yaml_event_body_t::MappingStart {
+            anchor,
+            tag,
+            implicit,
+            style,
+        })),
+        Err(fault) => Err(fault),
     }
-    let anchor = copy_text_option(alloc, anchor)?;
-    let tag = copy_text_option(alloc, tag)?;
-    Ok(yaml_event_t::unplaced(yaml_event_body_t::MappingStart {
-        anchor,
-        tag,
-        implicit,
-        style,
-    }))
 }
 
 /// A MAPPING-END event.

@@ -7,4 +7,4 @@ mod step;
 
 pub use found::yaml_found_t;
 pub use law::events_keep_to_tokens;
-pub use step::{Step, StepBuffers, take_turn};
+pub use step::{Step, StepBuffers, let_buffers_go, take_turn};

@@ -56,6 +56,13 @@ pub struct StepBuffers {
     pub directives: Directives,
 }
 
+/// Lets all of it go. A call of this crate, so that an owner need not prove how each part is freed.
+// Inlined: it lies where it was made.
+#[inline(always)]
+pub fn let_buffers_go(buffers: StepBuffers) {
+    drop(buffers);
+}
+
 // The source's next token, where none was asked for before, or else its fault.
 fn ask<S: yaml_token_source_t>(
     source: &mut S,

@@ -1,11 +1,13 @@
-use Rattle.std.proofs.Common.{◌≡◌, option_map, rules, refl}
+use Rattle.std.proofs.Common.{◌≡◌, option_map, refl}
 use Rattle.yaml_parse_model.specs.Events.{event_of, unplaced, mapping_start}
-use Rattle.yaml_parse_model.specs.Constructors.{IsUtf8Option}
+use Rattle.yaml_parse_model.proofs.Refusals.{mapping_refused}
 use Rattle.yaml_parse_model.proofs.constructor.yaml_mapping_start_event_initialize.Goals as goal
 
-pub returns : goal.returns
-returns c =
-    let anchor : IsUtf8Option (option_map (λ t. t.now) c.args.anchor) = search rules in
-    let tag : IsUtf8Option (option_map (λ t. t.now) c.args.tag) = search rules in
-    let same : event_of c.unplaced.result ≡ unplaced (mapping_start (option_map (λ t. t.now) c.args.anchor) (option_map (λ t. t.now) c.args.tag) c.args.implicit c.args.style) = rw (c.unplaced.ensures, c.in_ok-anchor.ensures, c.in_ok-tag.ensures) refl in
-    (same, (anchor, tag))
+pub returns-in-Ok : goal.returns-in-Ok
+returns-in-Ok c =
+    let texts = c.in-Ok.ensures in
+    let same : event_of c.unplaced.result ≡ unplaced (mapping_start (option_map (λ t. t.now) c.args.anchor) (option_map (λ t. t.now) c.args.tag) c.args.implicit c.args.style) = rw (c.unplaced.ensures, texts.0.0, texts.0.1) refl in
+    (same, texts.1)
+
+pub returns-in-Err : goal.returns-in-Err
+returns-in-Err c = mapping_refused (option_map (λ t. t.now) c.args.anchor) (option_map (λ t. t.now) c.args.tag) c.args.implicit c.args.style c.in-Err.fault c.in-Err.ensures

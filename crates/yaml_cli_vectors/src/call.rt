@@ -3,8 +3,8 @@
 use crate::engine::{self, Asked, Compared, Made};
 use crate::input::Input;
 use crate::lines::{Reply, tokens};
-use crate::reading::{Wanted, next_tokens, parse_input, parse_tokens, scan};
-use crate::writing::{Given, emit_limits, emit_line, emit_pieces};
+use crate::reading::{Turn, parse_input, parse_tokens, scan};
+use crate::writing::{Given, emit_line, emit_pieces};
 use crate::{checks, limits, lookup, program, read_all, run};
 use serde_json::Value;
 
@@ -17,19 +17,18 @@ enum Call {
     Make(Made),
     // A comparison of two inputs.
     Compare(Compared),
-    // A session over an input: its tokens, or by calls.
-    Scan { by_calls: bool },
-    NextTokens,
+    // A session over an input, or the source of a parser.
+    Scan(Turn),
     // A parser of an input.
-    Parse(Wanted),
+    Parse(Turn),
     // A parser of tokens.
-    ParseTokens(Wanted),
+    ParseTokens(Turn),
     // A parser of tokens, or of an input, by calls.
     ParseCalls,
     // An emitter of what the line lists.
     Emit(Given),
-    EmitLimits,
-    EmitPieces,
+    // Emitters of the same events, under other limits or in pieces.
+    EmitAgain { by_limit: bool },
     LeastLimit,
     Lookup,
     Run,
@@ -51,20 +50,20 @@ const CALLS: [(&'static str, Call); 32] = [
     ("same", Call::Compare(Compared::Same)),
     ("diff", Call::Compare(Compared::Diff)),
     ("diff_documents", Call::Compare(Compared::DiffDocuments)),
-    ("scan", Call::Scan { by_calls: false }),
-    ("scan_calls", Call::Scan { by_calls: true }),
-    ("next_tokens", Call::NextTokens),
-    ("parse", Call::Parse(Wanted::Events)),
-    ("parse_tokens", Call::ParseTokens(Wanted::Events)),
-    ("load", Call::Parse(Wanted::Documents)),
-    ("load_tokens", Call::ParseTokens(Wanted::Documents)),
+    ("scan", Call::Scan(Turn::Tokens)),
+    ("scan_calls", Call::Scan(Turn::Listed)),
+    ("next_tokens", Call::Scan(Turn::Counted)),
+    ("parse", Call::Parse(Turn::Events)),
+    ("parse_tokens", Call::ParseTokens(Turn::Events)),
+    ("load", Call::Parse(Turn::Documents)),
+    ("load_tokens", Call::ParseTokens(Turn::Documents)),
     ("parse_calls", Call::ParseCalls),
-    ("emit", Call::Parse(Wanted::Text)),
+    ("emit", Call::Parse(Turn::Kept)),
     ("emit_events", Call::Emit(Given::Events)),
     ("emit_calls", Call::Emit(Given::Calls)),
     ("dump", Call::Emit(Given::Document)),
-    ("emit_limits", Call::EmitLimits),
-    ("emit_pieces", Call::EmitPieces),
+    ("emit_limits", Call::EmitAgain { by_limit: true }),
+    ("emit_pieces", Call::EmitAgain { by_limit: false }),
     ("least_limit", Call::LeastLimit),
     ("lookup", Call::Lookup),
     ("run", Call::Run),
@@ -81,13 +80,12 @@ fn answer_input(reply: &mut Reply, line: &Value, call: Call, input: &Input<'_>) 
         Call::Ask(asked) => engine::ask(reply, line, asked, input),
         Call::Make(made) => engine::make(reply, line, made, input),
         Call::Compare(compared) => engine::compare(reply, line, compared, input),
-        Call::Scan { by_calls } => scan::answer(reply, line, by_calls, input),
-        Call::NextTokens => next_tokens::answer(reply, line, input),
-        Call::Parse(wanted) => parse_input(reply, line, wanted, input),
+        Call::Scan(asked) => scan(reply, line, asked, input),
+        Call::Parse(asked) => parse_input(reply, line, asked, input),
         Call::LeastLimit => limits::least_limit(reply, line, input),
         Call::Lookup => lookup::answer(reply, line, input),
         Call::Run => run::run(reply, line, input),
-        _ => parse_input(reply, line, Wanted::Calls, input),
+        _ => parse_input(reply, line, Turn::Listed, input),
     }
 }
 
@@ -102,13 +100,12 @@ fn ask_input(reply: &mut Reply, line: &Value, call: Call) {
 /// What the call that the line names answers; the reply keeps the fault where it only refuses.
 pub fn answer(rt: &HostRuntime, reply: &mut Reply, line: &Value) {
     match reply.choice(line, "/call", &CALLS, Call::Check) {
-        Call::ParseTokens(wanted) => parse_tokens(reply, line, wanted),
+        Call::ParseTokens(asked) => parse_tokens(reply, line, asked),
         Call::ParseCalls if line.get("tokens").is_some() => {
-            parse_tokens(reply, line, Wanted::Calls)
+            parse_tokens(reply, line, Turn::Listed)
         }
         Call::Emit(given) => emit_line(reply, line, given),
-        Call::EmitLimits => emit_limits::answer(reply, line),
-        Call::EmitPieces => emit_pieces::answer(reply, line),
+        Call::EmitAgain { by_limit } => emit_pieces::answer(reply, line, by_limit),
         Call::Main => program::run(rt, reply, line),
         Call::ReadAll => read_all::answer(reply, line),
         Call::Told => engine::told(reply, line),

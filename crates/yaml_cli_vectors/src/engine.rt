@@ -92,31 +92,31 @@ pub fn make(reply: &mut Reply, line: &Value, wanted: Made, input: &Input<'_>) {
 }
 
 // Puts the fault of one of two inputs.
-fn put_side(reply: &mut Reply, line: &Value, side: yaml_side_t, fault: &yaml_fault_t) {
+fn put_side(reply: &mut Reply, side: yaml_side_t, fault: &yaml_fault_t) {
     let word = match side {
         yaml_side_t::First => "First",
         yaml_side_t::Second => "Second",
     };
     reply.field_word("side", word);
-    reply.name_fault(line, fault);
+    reply.behind = Some(*fault);
 }
 
 // Puts whether two inputs are the same, or which of them is refused.
-fn put_same(reply: &mut Reply, line: &Value, same: Result<bool, (yaml_side_t, yaml_fault_t)>) {
+fn put_same(reply: &mut Reply, same: Result<bool, (yaml_side_t, yaml_fault_t)>) {
     match same {
         Ok(same) => reply.field("answer", Part::Flag(same)),
-        Err((side, fault)) => put_side(reply, line, side, &fault),
+        Err((side, fault)) => put_side(reply, side, &fault),
     }
 }
 
 type Parted = Result<Option<yaml_difference_t>, (yaml_side_t, yaml_fault_t)>;
 
 // Puts where two inputs part, or which of them is refused.
-fn put_parted(reply: &mut Reply, line: &Value, parted: Parted) {
+fn put_parted(reply: &mut Reply, parted: Parted) {
     match &parted {
         Ok(None) => reply.field("answer", Part::Null),
         Ok(Some(difference)) => put_difference(reply, difference),
-        Err((side, fault)) => put_side(reply, line, *side, fault),
+        Err((side, fault)) => put_side(reply, *side, fault),
     }
 }
 
@@ -139,15 +139,15 @@ pub fn compare(reply: &mut Reply, line: &Value, compared: Compared, input: &Inpu
     match compared {
         Compared::Same => {
             let same = yaml_same(reply.alloc, input.text, input.from, second, from2);
-            put_same(reply, line, same);
+            put_same(reply, same);
         }
         Compared::Diff => {
             let parted = yaml_diff(reply.alloc, input.text, input.from, second, from2);
-            put_parted(reply, line, parted);
+            put_parted(reply, parted);
         }
         Compared::DiffDocuments => {
             let parted = yaml_diff_documents(reply.alloc, input.text, input.from, second, from2);
-            put_parted(reply, line, parted);
+            put_parted(reply, parted);
         }
     }
 }

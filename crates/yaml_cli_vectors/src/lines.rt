@@ -2,7 +2,6 @@
 //! as a line has it and compared with what the line wants. A line is an object of JSON; bytes stand in it as hexadecimal digits.
 
 mod document;
-mod error;
 mod event;
 mod field;
 mod given;
@@ -17,14 +16,13 @@ mod wanted;
 mod words;
 
 pub use document::show_document;
-pub use error::{VectorError, json_error, text_error};
-pub use event::{put_event, show_event};
+pub use event::show_event;
 pub use given::event_of;
 pub use made::document_of;
 pub use parts::Part;
-pub use reply::Reply;
+pub use reply::{MEMORY, NO_FIELD, Reply};
 pub use scripted::{ScriptedReader, ScriptedWriter};
 pub use setting::{Settings, settings_of};
 pub use shown::own_fault;
-pub use token::{put_token, read_token, show_token, tokens};
-pub use wanted::{Outcome, compare};
+pub use token::{read_token, show_token, tokens};
+pub use wanted::first_wrong;

@@ -1,7 +1,7 @@
 //! The call `lookup`: a value by its key.
 
 use crate::input::Input;
-use crate::lines::{Part, Reply, VectorError};
+use crate::lines::{Part, Reply};
 use serde_json::Value;
 use yaml_cli_lookup::{LookupError, lookup};
 
@@ -12,6 +12,6 @@ pub fn answer(reply: &mut Reply, line: &Value, input: &Input<'_>) {
         Ok(value) => reply.field_optional("answer", value.as_deref()),
         Err(LookupError::Unreadable(fault)) => reply.fault(fault),
         Err(LookupError::NotAMapping) => reply.field_word("refused", "NotAMapping"),
-        Err(_) => reply.refuse(VectorError::Memory),
+        Err(_) => reply.memory(),
     }
 }

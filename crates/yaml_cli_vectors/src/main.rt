@@ -19,16 +19,14 @@ mod tally;
 mod text;
 mod writing;
 
-use std::io::{self, BufRead, BufReader};
+use std::io;
 use tally::Tally;
 
 fn main(rt: HostRuntime) -> io::Result<()> {
+    let lines = io::read_to_string(rt.alloc(), rt.reader())?;
     let mut tally = Tally::new();
-    let mut number = 0u64;
-    for line in BufReader::new(rt.alloc(), rt.reader())?.lines(rt.alloc()) {
-        number = number.wrapping_add(1);
-        let outcome = replay::replay(&rt, line?.as_str());
-        tally.take(&rt, number, &outcome)?;
+    for line in lines.lines() {
+        replay::replay(&rt, &mut tally, line);
     }
-    tally.finish(&rt)
+    println!(rt; "{} passed, {} failed", tally.passed, tally.failed)
 }

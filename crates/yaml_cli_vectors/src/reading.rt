@@ -1,12 +1,12 @@
-//! What the calls that read answer on a line: scan, scan_calls, next_tokens, parse, parse_calls and load, of an input or of listed
-//! tokens.
+//! What the calls that read answer on a line: scan, scan_calls, next_tokens, parse, parse_calls, load and emit, of an input or of
+//! listed tokens.
 
-mod load;
-pub mod next_tokens;
-mod parse;
-mod parse_calls;
+mod found;
 mod parser;
-pub mod scan;
-mod scan_calls;
+mod source;
+mod tokens;
+mod turn;
 
-pub use parser::{Wanted, parse_input, parse_tokens};
+pub use source::{parse_input, parse_tokens};
+pub use tokens::scan;
+pub use turn::Turn;

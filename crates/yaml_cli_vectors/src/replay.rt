@@ -2,45 +2,73 @@
 
 use crate::call::answer;
 use crate::engine::field_line;
-use crate::lines::{Outcome, Reply, VectorError, compare, json_error};
-use serde_json::Value;
-use std::alloc::Global;
+use crate::lines::{MEMORY, NO_FIELD, Reply, first_wrong};
+use crate::tally::Tally;
+use serde_json::{Error, Value};
+use std::str;
 use yaml_scan::yaml_fault_t;
 
+// Why a text isn't JSON.
+fn json_error(error: &Error) -> &'static str {
+    if error.is_memory() {
+        MEMORY
+    } else {
+        "not a line of JSON"
+    }
+}
+
+// Counts the line by what its call answered, an object of JSON. Of a field that is another all that was answered is told; what
+// the line wants stands in the line.
+fn judge_text(rt: &HostRuntime, tally: &mut Tally, line: &Value, call: &str, text: &[u8]) {
+    match Value::from_slice(rt.alloc(), text) {
+        Ok(got) => match first_wrong(line, &got) {
+            None => tally.passed = tally.passed.wrapping_add(1),
+            Some(wrong) => tally.tell(rt, call, wrong, str::from_utf8(text).unwrap_or("")),
+        },
+        Err(error) => tally.tell(rt, "", json_error(&error), ""),
+    }
+}
+
 // The fault, and the line that tells it where the vector wants that.
-fn refusal(alloc: Global, line: &Value, fault: &yaml_fault_t) -> Result<Vec<u8>, VectorError> {
-    let mut reply = Reply::new(alloc);
+fn put_refusal(reply: &mut Reply, line: &Value, fault: &yaml_fault_t) {
+    *reply = Reply::new(reply.alloc);
     reply.name_fault(line, fault);
     if line.get("fault_line").is_some() {
-        field_line(&mut reply, "fault_line", fault);
+        field_line(reply, "fault_line", fault);
     }
-    reply.finish()
 }
 
 // What the call answers on the line, its refusal too.
-fn whole_answer(rt: &HostRuntime, line: &Value) -> Result<Vec<u8>, VectorError> {
-    let mut reply = Reply::new(rt.alloc());
-    answer(rt, &mut reply, line);
-    match reply.finish() {
-        Err(VectorError::Fault(fault)) => refusal(rt.alloc(), line, &fault),
-        answer => answer,
+fn put_answer(rt: &HostRuntime, reply: &mut Reply, line: &Value) {
+    answer(rt, reply, line);
+    if let Some(fault) = reply.behind {
+        reply.name_fault(line, &fault);
+    }
+    if let Some(fault) = reply.refused {
+        put_refusal(reply, line, &fault);
     }
 }
 
-fn replay_line(rt: &HostRuntime, line: &Value) -> Result<Outcome, VectorError> {
+fn replay_call(rt: &HostRuntime, tally: &mut Tally, line: &Value, call: &str) {
+    let mut reply = Reply::new(rt.alloc());
+    put_answer(rt, &mut reply, line);
+    match reply.finish() {
+        Ok(text) => judge_text(rt, tally, line, call, text.as_slice()),
+        Err((what, of)) => tally.tell(rt, "", what, of),
+    }
+}
+
+fn replay_value(rt: &HostRuntime, tally: &mut Tally, line: &Value) {
     match line.get("call") {
-        Some(Value::String(call)) => match whole_answer(rt, line) {
-            Ok(text) => compare(rt.alloc(), call.as_str(), line, text.as_slice()),
-            Err(error) => Err(error),
-        },
-        _ => Err(VectorError::Field("call")),
+        Some(Value::String(call)) => replay_call(rt, tally, line, call.as_str()),
+        _ => tally.tell(rt, "", NO_FIELD, "call"),
     }
 }
 
 /// Makes the call that the line names, and compares.
-pub fn replay(rt: &HostRuntime, line: &str) -> Result<Outcome, VectorError> {
+pub fn replay(rt: &HostRuntime, tally: &mut Tally, line: &str) {
     match Value::from_str(rt.alloc(), line) {
-        Ok(line) => replay_line(rt, &line),
-        Err(error) => Err(json_error(&error)),
+        Ok(line) => replay_value(rt, tally, &line),
+        Err(error) => tally.tell(rt, "", json_error(&error), ""),
     }
 }

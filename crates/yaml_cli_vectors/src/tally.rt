@@ -1,16 +1,13 @@
 //! How many lines passed, and what is told of those that failed.
 
-use crate::lines::{Outcome, VectorError};
-use std::io;
-
 // How many lines that fail are shown.
 const SHOWN: u64 = 20;
 
 /// The lines so far.
 #[derive(Drop)]
 pub struct Tally {
-    passed: u64,
-    failed: u64,
+    pub passed: u64,
+    pub failed: u64,
 }
 
 impl Tally {
@@ -22,38 +19,14 @@ impl Tally {
         }
     }
 
-    // Counts a line that failed, and shows it where it is one of the first.
-    fn tell(&mut self, rt: &HostRuntime, number: u64, what: &str, of: &str) -> io::Result<()> {
+    /// Counts a line that failed, and shows it where it is one of the first: the call where it answered something else, what is
+    /// wrong, and of what.
+    pub fn tell(&mut self, rt: &HostRuntime, call: &str, what: &str, of: &str) {
         self.failed = self.failed.wrapping_add(1);
         if self.failed <= SHOWN {
-            println!(rt; "line {number}: {what}{of}")
-        } else {
-            Ok(())
+            let number = self.passed.wrapping_add(self.failed);
+            // It is counted, whether or not it can be shown.
+            let _ = println!(rt; "line {number}: {call}{what}{of}");
         }
-    }
-
-    /// Counts a line, and shows it where it is one of the first that fail.
-    pub fn take(
-        &mut self,
-        rt: &HostRuntime,
-        number: u64,
-        outcome: &Result<Outcome, VectorError>,
-    ) -> io::Result<()> {
-        match outcome {
-            Ok(Outcome::Passed) => {
-                self.passed = self.passed.wrapping_add(1);
-                Ok(())
-            }
-            Ok(Outcome::Failed(told)) => self.tell(rt, number, told.as_str(), ""),
-            Err(error) => {
-                let (what, of) = error.told();
-                self.tell(rt, number, what, of)
-            }
-        }
-    }
-
-    /// The last line.
-    pub fn finish(self, rt: &HostRuntime) -> io::Result<()> {
-        println!(rt; "{} passed, {} failed", self.passed, self.failed)
     }
 }

@@ -1,7 +1,7 @@
 //! Checks of events and documents: what the calls that a line names can't say. Each answers an object, in which every name is a
 //! thing that was asked and says whether it was right.
 
-use crate::lines::{Part, Reply, document_of, event_of, text_error};
+use crate::lines::{Part, Reply, document_of, event_of};
 use serde_json::Value;
 use yaml_parse::{
     yaml_document_delete, yaml_document_get_node, yaml_document_get_root_node,
@@ -9,17 +9,12 @@ use yaml_parse::{
 };
 use yaml_scan::yaml_mark_t;
 
-// Whether the event is refused for a text that isn't UTF-8.
-fn refuses(reply: &mut Reply, event: &Value) -> bool {
-    event_of(reply, event).err() == Some(yaml_text_fault_t::NotUtf8)
-}
-
 /// Texts that aren't UTF-8, in events of each kind: the line lists names and events.
 pub fn refuses_texts(reply: &mut Reply, line: &Value) {
     for listed in reply.list(line, "/events") {
         let name = reply.text(listed, "/0");
         let event = reply.value(listed, "/1");
-        let refused = refuses(reply, event);
+        let refused = event_of(reply, event).err() == Some(yaml_text_fault_t::NotUtf8);
         reply.field(name, Part::Flag(refused));
     }
 }
@@ -37,39 +32,35 @@ const VERSION: Option<yaml_version_directive_t> = Some(yaml_version_directive_t 
 
 fn has_no_node(document: &yaml_document_t) -> bool {
     yaml_document_get_root_node(document).is_none()
-        && yaml_document_get_node(document, 0).is_none()
-        && yaml_document_get_node(document, -1).is_none()
+        & yaml_document_get_node(document, 0).is_none()
+        & yaml_document_get_node(document, -1).is_none()
 }
 
 fn is_new(document: &yaml_document_t) -> bool {
-    document.version_directive() == VERSION
-        && document.tag_directives().len() == 1
-        && document.start_mark() == ZERO
-        && document.end_mark() == ZERO
-        && has_no_node(document)
-        && document.start_implicit()
+    (document.version_directive() == VERSION)
+        & (document.tag_directives().len() == 1)
+        & (document.start_mark() == ZERO)
+        & (document.end_mark() == ZERO)
+        & has_no_node(document)
+        & document.start_implicit()
+        & !document.end_implicit()
 }
 
-// Whether the end is explicit, and implicit once that is set.
-fn is_made(document: &mut yaml_document_t) -> bool {
-    let is_new = is_new(document);
-    let before = document.end_implicit();
-    yaml_document_set_end_implicit(document, true);
-    is_new && !before && document.end_implicit()
-}
-
-// Whether the document is made as it is written there; none where a text of it is refused.
+// Whether the document is made as it is written there, its end explicit, and implicit once that is set; none where a text of it is
+// refused.
 fn makes(reply: &mut Reply, line: &Value, path: &'static str) -> Option<bool> {
     let fields = reply.value(line, path);
     match document_of(reply, fields) {
         Ok(mut document) => {
-            let right = is_made(&mut document);
+            let is_new = is_new(&document);
+            yaml_document_set_end_implicit(&mut document, true);
+            let is_set = document.end_implicit();
             yaml_document_delete(document);
-            Some(right)
+            Some(is_new && is_set)
         }
         Err(yaml_text_fault_t::NotUtf8) => None,
         Err(fault) => {
-            reply.refuse(text_error(fault));
+            reply.refuse_text(fault);
             Some(false)
         }
     }

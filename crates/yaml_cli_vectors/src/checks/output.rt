@@ -1,39 +1,27 @@
 //! That an output stops for its own reason: a stopped one meets every clause.
 
 use crate::lines::{Part, Reply};
-use std::alloc::Global;
 use yaml_emit_text::{Sink, Status};
 
-// Puts one byte past the limit of three.
-fn stops_full(sink: &mut Sink) -> bool {
-    sink.put_all(b"abc");
+// Puts the text into an output of three bytes, and stops it: by a byte past its limit, or as too deep. What is put then isn't there.
+fn put_stop(reply: &mut Reply, name: &str, text: &[u8], is_deep: bool) {
+    let mut sink = Sink::new(reply.alloc, 3);
+    sink.put_all(text);
     let exact = sink.status();
-    sink.put('d');
+    if is_deep {
+        sink.put_too_deep();
+    } else {
+        sink.put('d');
+    }
     let past = sink.status();
     sink.put('e');
-    exact == Status::Going && past == Status::Full && sink.output() == b"abc".as_slice()
-}
-
-fn stops_deep(sink: &mut Sink) -> bool {
-    sink.put('a');
-    sink.put_too_deep();
-    sink.put('b');
-    sink.status() == Status::Deep && sink.output() == b"a".as_slice()
-}
-
-fn stops(alloc: Global, is_deep: bool) -> bool {
-    let mut sink = Sink::new(alloc, 3);
-    if is_deep {
-        stops_deep(&mut sink)
-    } else {
-        stops_full(&mut sink)
-    }
+    let wanted = if is_deep { Status::Deep } else { Status::Full };
+    let is_right = exact == Status::Going && past == wanted && sink.output() == text;
+    reply.field(name, Part::Flag(is_right));
 }
 
 /// An output that is full, and one that is too deep.
 pub(crate) fn an_output_stops(reply: &mut Reply) {
-    let full = stops(reply.alloc, false);
-    let deep = stops(reply.alloc, true);
-    reply.field("full", Part::Flag(full));
-    reply.field("deep", Part::Flag(deep));
+    put_stop(reply, "full", b"abc", false);
+    put_stop(reply, "deep", b"a", true);
 }

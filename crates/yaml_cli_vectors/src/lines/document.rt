@@ -3,26 +3,7 @@
 use crate::lines::event::{put_numbers, show_directives, show_version};
 use crate::lines::words::{MAPPINGS, SCALARS, SEQUENCES, word_of};
 use crate::lines::{Part, Reply};
-use yaml_parse::{
-    yaml_document_get_node, yaml_document_t, yaml_node_body_t, yaml_node_item_t, yaml_node_pair_t,
-    yaml_node_t,
-};
-
-fn put_items(reply: &mut Reply, items: &[yaml_node_item_t]) {
-    reply.put(Part::List);
-    for item in items {
-        reply.put(Part::Number(*item));
-    }
-    reply.put(Part::EndList);
-}
-
-fn put_pairs(reply: &mut Reply, pairs: &[yaml_node_pair_t]) {
-    reply.put(Part::List);
-    for pair in pairs {
-        put_numbers(reply, pair.key, pair.value);
-    }
-    reply.put(Part::EndList);
-}
+use yaml_parse::{yaml_document_get_node, yaml_document_t, yaml_node_body_t, yaml_node_t};
 
 // The words of the node's kind and style.
 fn words(node: &yaml_node_t) -> (&'static str, &'static str) {
@@ -39,8 +20,20 @@ fn put_held(reply: &mut Reply, node: &yaml_node_t) {
     match &node.body {
         yaml_node_body_t::No => reply.put(Part::Null),
         yaml_node_body_t::Scalar { value, .. } => reply.put_bytes(value.as_slice()),
-        yaml_node_body_t::Sequence { items, .. } => put_items(reply, items.as_slice()),
-        yaml_node_body_t::Mapping { pairs, .. } => put_pairs(reply, pairs.as_slice()),
+        yaml_node_body_t::Sequence { items, .. } => {
+            reply.put(Part::List);
+            for item in items.as_slice() {
+                reply.put(Part::Number(*item));
+            }
+            reply.put(Part::EndList);
+        }
+        yaml_node_body_t::Mapping { pairs, .. } => {
+            reply.put(Part::List);
+            for pair in pairs.as_slice() {
+                put_numbers(reply, pair.key, pair.value);
+            }
+            reply.put(Part::EndList);
+        }
     }
 }
 

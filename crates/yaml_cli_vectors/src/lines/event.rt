@@ -2,10 +2,8 @@
 
 use crate::lines::words::{ENCODINGS, MAPPINGS, SEQUENCES, word_of};
 use crate::lines::{Part, Reply};
-use serde_json::Value;
 use yaml_parse::{yaml_event_body_t, yaml_event_t, yaml_tag_directive_t, yaml_version_directive_t};
 use yaml_round_lines::yaml_push_event_line;
-use yaml_scan::yaml_fault_t;
 
 // The line that tells the event, without its end.
 fn put_event_line(reply: &mut Reply, event: &yaml_event_t) {
@@ -95,15 +93,4 @@ pub fn show_event(reply: &mut Reply, event: &yaml_event_t) {
     reply.put(Part::Mark(event.end_mark));
     put_carried(reply, &event.body);
     reply.put(Part::EndList);
-}
-
-/// Puts the event that was found, and lets it go, or the fault.
-pub fn put_event(reply: &mut Reply, line: &Value, found: Result<yaml_event_t, yaml_fault_t>) {
-    match found {
-        Ok(event) => {
-            show_event(reply, &event);
-            drop(event);
-        }
-        Err(fault) => reply.put_fault(line, &fault),
-    }
 }

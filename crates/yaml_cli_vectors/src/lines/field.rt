@@ -1,7 +1,7 @@
 //! What a line says: the fields of an object and the items of a list, read by their paths.
 
+use crate::lines::Reply;
 use crate::lines::words::ENCODINGS;
-use crate::lines::{Reply, VectorError};
 use serde_json::Value;
 use yaml_scan::{yaml_encoding_t, yaml_mark_t};
 
@@ -23,7 +23,7 @@ impl Reply {
         match Vec::from_slice(self.alloc, bytes) {
             Ok(copied) => copied,
             Err(_) => {
-                self.refuse(VectorError::Memory);
+                self.memory();
                 Vec::new(self.alloc)
             }
         }
@@ -35,7 +35,7 @@ impl Reply {
             Ok(bytes) => bytes,
             Err(error) => {
                 match error {
-                    hex::FromHexError::OutOfMemory => self.refuse(VectorError::Memory),
+                    hex::FromHexError::OutOfMemory => self.memory(),
                     _ => self.miss(path),
                 }
                 Vec::new(self.alloc)
@@ -56,7 +56,7 @@ impl Reply {
         let repeated = self.bytes(piece, "/0");
         for _ in 0..self.count(piece, "/1") {
             if bytes.extend_from_slice(repeated.as_slice()).is_err() {
-                self.refuse(VectorError::Memory);
+                self.memory();
                 break;
             }
         }

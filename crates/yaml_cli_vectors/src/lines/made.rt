@@ -4,7 +4,7 @@ ghost use Rattle.std.specs.Prelude.{IsTrue, IsSome};
 ghost use Rattle.yaml_parse.specs.Documents.{node_at, IsSequenceAt, IsMappingAt};
 
 use crate::lines::words::{MAPPINGS, SCALARS, SEQUENCES};
-use crate::lines::{Reply, VectorError, given, text_error};
+use crate::lines::{Reply, given};
 use serde_json::Value;
 use yaml_parse::{
     yaml_document_add_mapping, yaml_document_add_scalar, yaml_document_add_sequence,
@@ -75,7 +75,7 @@ fn add_node(document: &mut yaml_document_t, reply: &mut Reply, node: &Value) {
     let tag = reply.optional_bytes(node, "/1");
     match add(document, reply, tag.as_deref(), node) {
         Ok(_) => {}
-        Err(fault) => reply.refuse(text_error(fault)),
+        Err(fault) => reply.refuse_text(fault),
     }
 }
 
@@ -107,7 +107,7 @@ fn is_node(document: &yaml_document_t, id: i32) -> bool
 fn append_item(document: &mut yaml_document_t, reply: &mut Reply, id: i32, item: i32) {
     if is_sequence(document, id) && is_node(document, item) {
         if yaml_document_append_sequence_item(document, id, item).is_err() {
-            reply.refuse(VectorError::Memory);
+            reply.memory();
         }
     } else {
         reply.miss("nodes");
@@ -125,7 +125,7 @@ fn are_nodes(document: &yaml_document_t, key: i32, value: i32) -> bool
 fn append_pair(document: &mut yaml_document_t, reply: &mut Reply, id: i32, key: i32, value: i32) {
     if is_mapping(document, id) && are_nodes(document, key, value) {
         if yaml_document_append_mapping_pair(document, id, key, value).is_err() {
-            reply.refuse(VectorError::Memory);
+            reply.memory();
         }
     } else {
         reply.miss("nodes");

@@ -1,9 +1,19 @@
 //! The answer to a line, while it is made.
 
-use crate::lines::{Part, VectorError};
+use crate::lines::Part;
 use json::Writer;
 use std::alloc::{AllocError, Global};
+use yaml_parse::yaml_text_fault_t;
 use yaml_scan::yaml_fault_t;
+
+/// Why a line has no answer: what is wrong, and of what.
+pub type Wrong = (&'static str, &'static str);
+
+/// What is told where memory ran out.
+pub const MEMORY: &'static str = "out of memory";
+
+/// What is told of a field.
+pub const NO_FIELD: &'static str = "no such field, or not of its form: ";
 
 /// Reads fields of a line one after another, and writes the answer, an object, as JSON. The first error is kept, and `finish` answers it:
 /// what is read of a field that is missing, and all that is written behind it, stand for nothing, so that the calls in between
@@ -14,7 +24,11 @@ pub struct Reply {
     pub alloc: Global,
     /// What the answer is written by.
     pub(crate) writer: Writer,
-    wrong: Option<VectorError>,
+    wrong: Option<Wrong>,
+    /// The fault of a call that refuses, where that is the first error.
+    pub refused: Option<yaml_fault_t>,
+    /// The fault that stands behind what else was answered.
+    pub behind: Option<yaml_fault_t>,
 }
 
 impl Reply {
@@ -24,26 +38,31 @@ impl Reply {
             alloc,
             writer: Writer::new(Vec::new(alloc)),
             wrong: None,
+            refused: None,
+            behind: None,
         };
         reply.put(Part::Object);
         reply
     }
 
-    /// Keeps the error, unless there is one.
-    pub fn refuse(&mut self, error: VectorError) {
+    // Keeps the error, unless there is one.
+    fn refuse(&mut self, what: &'static str, of: &'static str) {
         if self.wrong.is_none() {
-            self.wrong = Some(error);
+            self.wrong = Some((what, of));
         }
     }
 
     /// That field is missing, or not of its form.
     pub fn miss(&mut self, name: &'static str) {
-        self.refuse(VectorError::Field(name));
+        self.refuse(NO_FIELD, name);
     }
 
     /// The call was made, and refuses.
     pub fn fault(&mut self, fault: yaml_fault_t) {
-        self.refuse(VectorError::Fault(fault));
+        if self.wrong.is_none() {
+            self.refused = Some(fault);
+        }
+        self.refuse("refused: ", fault.problem);
     }
 
     /// A step of the call's refuses where it answers a fault.
@@ -54,10 +73,23 @@ impl Reply {
         }
     }
 
+    /// An event or a document isn't made.
+    pub fn refuse_text(&mut self, fault: yaml_text_fault_t) {
+        match fault {
+            yaml_text_fault_t::Memory => self.memory(),
+            yaml_text_fault_t::NotUtf8 => self.miss("text"),
+        }
+    }
+
+    /// There is no room.
+    pub fn memory(&mut self) {
+        self.refuse(MEMORY, "");
+    }
+
     /// There was room for a part, or there wasn't.
     pub fn room(&mut self, done: Result<(), AllocError>) {
         if done.is_err() {
-            self.refuse(VectorError::Memory);
+            self.memory();
         }
     }
 
@@ -75,15 +107,15 @@ impl Reply {
     /// Adds an item behind those of the list.
     pub fn push<T: Drop>(&mut self, list: &mut Vec<T>, item: T) {
         if list.push(item).is_err() {
-            self.refuse(VectorError::Memory);
+            self.memory();
         }
     }
 
     /// The object that was written, unless there was an error.
-    pub fn finish(mut self) -> Result<Vec<u8>, VectorError> {
+    pub fn finish(mut self) -> Result<Vec<u8>, Wrong> {
         self.put(Part::EndObject);
         match self.wrong {
-            Some(error) => Err(error),
+            Some(wrong) => Err(wrong),
             None => Ok(self.writer.into_inner()),
         }
     }

@@ -81,12 +81,14 @@ impl Reply {
         self.put_fault(line, fault);
     }
 
-    /// The end of a list, and the fault behind it where there is one.
-    pub fn end_list(&mut self, line: &Value, fault: Option<&yaml_fault_t>) {
-        self.put(Part::EndList);
-        if let Some(fault) = fault {
-            self.name_fault(line, fault);
+    /// A fault that a call answers: in its place, or behind all else where that was the last call. Whether there may be more.
+    pub fn put_refused(&mut self, line: &Value, is_last: bool, fault: &yaml_fault_t) -> bool {
+        if is_last {
+            self.behind = Some(*fault);
+        } else {
+            self.put_fault(line, fault);
         }
+        !is_last
     }
 
     /// The fault, null where there is none.

@@ -3,9 +3,7 @@
 use crate::lines::words::{ENCODINGS, SCALARS, word_of};
 use crate::lines::{Part, Reply};
 use serde_json::Value;
-use yaml_scan::{
-    yaml_fault_t, yaml_scalar_style_t, yaml_token_body_t, yaml_token_t, yaml_token_type_t,
-};
+use yaml_scan::{yaml_scalar_style_t, yaml_token_body_t, yaml_token_t, yaml_token_type_t};
 
 // What tokens there are.
 const KINDS: [(&'static str, yaml_token_type_t); 22] = [
@@ -98,17 +96,6 @@ pub fn show_token(reply: &mut Reply, token: &yaml_token_t) {
     reply.put(Part::Mark(token.end_mark));
     put_carried(reply, &token.body);
     reply.put(Part::EndList);
-}
-
-/// Puts the token that was found, and lets it go, or the fault.
-pub fn put_token(reply: &mut Reply, line: &Value, found: Result<yaml_token_t, yaml_fault_t>) {
-    match found {
-        Ok(token) => {
-            show_token(reply, &token);
-            drop(token);
-        }
-        Err(fault) => reply.put_fault(line, &fault),
-    }
 }
 
 // The body of a token that carries nothing.

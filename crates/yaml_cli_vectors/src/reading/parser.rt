@@ -1,86 +1,99 @@
-//! Parsers of an input or of listed tokens. One function owns the parser of all that is wanted of one, since an owner of a parser
-//! is dear to prove.
+//! What a parser answers, call by call.
 
-use super::load::documents;
-use super::parse::events;
-use super::parse_calls::put_calls;
-use crate::input::Input;
-use crate::lines::{Reply, VectorError, own_fault, read_token};
-use crate::writing::emit;
+use super::found::{put_document, put_event, put_prefix};
+use super::turn::{Turn, turn_at};
+use crate::lines::{Part, Reply, show_event};
 use serde_json::Value;
-use yaml_parse::{yaml_parser_delete, yaml_parser_initialize, yaml_parser_t, yaml_token_source_t};
-use yaml_parse_list::{yaml_token_list_t, yaml_token_utf8};
-use yaml_round_adapter::yaml_adapter_t;
-use yaml_scan::yaml_token_t;
+use yaml_parse::{
+    yaml_event_body_t, yaml_event_t, yaml_found_t, yaml_memory_fault, yaml_origin_t,
+    yaml_parser_between, yaml_parser_delete, yaml_parser_initialize, yaml_parser_load,
+    yaml_parser_parse, yaml_parser_parse_into, yaml_parser_prefix, yaml_parser_t,
+    yaml_token_source_t,
+};
 
-/// What a parser is asked for.
-#[derive(Clone, Copy)]
-pub enum Wanted {
-    Events,
-    /// Its documents, and the fault behind them where there is one.
-    Documents,
-    /// What the line's calls ask for.
-    Calls,
-    /// What an emitter writes of its events. A line whose input is refused needn't have settings: it wants the fault of a parser.
-    Text,
-}
-
-fn answer<S: yaml_token_source_t>(
+// Puts the next event, which is parsed into slots, or the fault.
+fn put_into<S: yaml_token_source_t>(
     reply: &mut Reply,
     line: &Value,
-    wanted: Wanted,
     parser: &mut yaml_parser_t<S>,
+    kept: &mut Vec<yaml_event_t>,
 ) {
-    match wanted {
-        Wanted::Documents => documents(reply, line, parser),
-        Wanted::Calls => put_calls(reply, line, parser),
-        Wanted::Text if line.get("settings").is_some() => emit::answer(reply, line, parser),
-        _ => events(reply, parser),
+    let mut event = yaml_event_t::unplaced(yaml_event_body_t::No);
+    let mut fault = yaml_memory_fault(yaml_origin_t::Parser);
+    match yaml_parser_parse_into(parser, &mut event, &mut fault) {
+        yaml_found_t::Event => show_event(reply, &event),
+        yaml_found_t::Refused => reply.put_fault(line, &fault),
+        yaml_found_t::End => reply.put_word("end"),
+    }
+    reply.push(kept, event);
+}
+
+// Puts the next document, or the fault.
+fn put_loaded<S: yaml_token_source_t>(
+    reply: &mut Reply,
+    line: &Value,
+    is_all: bool,
+    parser: &mut yaml_parser_t<S>,
+) -> bool {
+    if yaml_parser_between(parser) {
+        return put_document(reply, line, is_all, yaml_parser_load(parser));
+    }
+    reply.put_word("not between");
+    !is_all
+}
+
+// Whether there may be more behind the call.
+fn put_turn<S: yaml_token_source_t>(
+    reply: &mut Reply,
+    line: &Value,
+    turn: Turn,
+    parser: &mut yaml_parser_t<S>,
+    kept: &mut Vec<yaml_event_t>,
+) -> bool {
+    match turn {
+        Turn::Parse | Turn::Events | Turn::Kept => {
+            return put_event(reply, line, turn, yaml_parser_parse(parser), kept);
+        }
+        Turn::Documents => return put_loaded(reply, line, true, parser),
+        Turn::Load => return put_loaded(reply, line, false, parser),
+        Turn::Prefix => return put_prefix(reply, line, yaml_parser_prefix(parser)),
+        Turn::Into => put_into(reply, line, parser, kept),
+        Turn::Between => reply.put(Part::Flag(yaml_parser_between(parser))),
+        Turn::End => return false,
+        _ => reply.miss("calls"),
+    }
+    true
+}
+
+fn put_turns<S: yaml_token_source_t>(
+    reply: &mut Reply,
+    line: &Value,
+    asked: Turn,
+    parser: &mut yaml_parser_t<S>,
+    kept: &mut Vec<yaml_event_t>,
+) {
+    for number in 0..u64::MAX {
+        let turn = turn_at(reply, line, asked, number);
+        if !put_turn(reply, line, turn, parser, kept) {
+            break;
+        }
     }
 }
 
-fn answer_of<S: yaml_token_source_t>(reply: &mut Reply, line: &Value, wanted: Wanted, source: S) {
+/// What a parser of the source's tokens answers; its events are kept. One function owns the parser of all that is asked of one,
+/// since an owner of a parser is dear to prove.
+pub fn parse<S: yaml_token_source_t>(
+    reply: &mut Reply,
+    line: &Value,
+    asked: Turn,
+    source: S,
+    kept: &mut Vec<yaml_event_t>,
+) {
     match yaml_parser_initialize(reply.alloc, source) {
         Ok(mut parser) => {
-            answer(reply, line, wanted, &mut parser);
+            put_turns(reply, line, asked, &mut parser, kept);
             yaml_parser_delete(parser);
         }
         Err(fault) => reply.fault(fault),
     }
-}
-
-/// What a parser of the input gives, which reads it as it goes.
-pub fn parse_input(reply: &mut Reply, line: &Value, wanted: Wanted, input: &Input<'_>) {
-    let adapter = yaml_adapter_t::new(reply.alloc, input.text, input.from);
-    answer_of(reply, line, wanted, adapter);
-}
-
-// Adds a token, whose texts are to be UTF-8.
-fn add(list: &mut yaml_token_list_t, reply: &mut Reply, token: yaml_token_t) {
-    if yaml_token_utf8(&token) {
-        if list.push(token).is_err() {
-            reply.refuse(VectorError::Memory);
-        }
-    } else {
-        reply.miss("tokens");
-    }
-}
-
-// Adds the tokens that the line lists, and ends the list with the line's own fault where it has one.
-fn add_listed(reply: &mut Reply, line: &Value, list: &mut yaml_token_list_t) {
-    for listed in reply.list(line, "/tokens") {
-        let token = read_token(reply, listed);
-        add(list, reply, token);
-    }
-    match line.get("own") {
-        Some(own) if own.is_object() => list.end(own_fault(reply, own)),
-        _ => {}
-    }
-}
-
-/// What a parser of the tokens that the line lists gives.
-pub fn parse_tokens(reply: &mut Reply, line: &Value, wanted: Wanted) {
-    let mut list = yaml_token_list_t::new(reply.alloc);
-    add_listed(reply, line, &mut list);
-    answer_of(reply, line, wanted, list);
 }

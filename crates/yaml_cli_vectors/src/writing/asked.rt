@@ -1,8 +1,9 @@
 //! The calls `dump`, `emit_events` and `emit_calls`. One function owns the emitter of all three, since an owner of an emitter is dear
 //! to prove.
 
+use super::emit_calls::{put_calls, put_dump};
+use super::emit_events::put_events;
 use super::emitter::emitter_under;
-use super::{dump, emit_calls, emit_events};
 use crate::lines::{Reply, settings_of};
 use serde_json::Value;
 use yaml_emit::{yaml_emitter_delete, yaml_emitter_t};
@@ -18,16 +19,20 @@ pub enum Given {
     Calls,
 }
 
+fn put_given(reply: &mut Reply, line: &Value, given: Given, emitter: &mut yaml_emitter_t) {
+    match given {
+        Given::Document => put_dump(reply, line, emitter),
+        Given::Events => put_events(reply, line, emitter),
+        Given::Calls => put_calls(reply, line, emitter),
+    }
+}
+
 /// What an emitter under the line's settings answers on what it is given.
 pub fn emit_line(reply: &mut Reply, line: &Value, given: Given) {
     let settings = settings_of(reply, line);
     match emitter_under(reply.alloc, &settings, settings.limit) {
         Ok(mut emitter) => {
-            match given {
-                Given::Document => dump::answer(reply, line, &mut emitter),
-                Given::Events => emit_events::answer(reply, line, &mut emitter),
-                Given::Calls => emit_calls::answer(reply, line, &mut emitter),
-            }
+            put_given(reply, line, given, &mut emitter);
             yaml_emitter_delete(emitter);
         }
         Err(fault) => reply.fault(fault),

@@ -1,201 +1,69 @@
-//! The call `emit_pieces`.
+//! The calls `emit_limits` and `emit_pieces`: the line's events again, under other limits or in pieces.
 
-ghost use Rattle.std.specs.Prelude.{◌≡◌, ◌≤◌, ◌<◌, ◌^◌, None, IfSome};
-ghost use Rattle.yaml_emit.specs.Judged.{refused_at};
-
-use super::emitter::{emitter_under, flush, give_listed};
+use super::pieces::{Pieces, written};
 use crate::lines::{Part, Reply, Settings, settings_of};
 use serde_json::Value;
-use std::mem;
-use yaml_emit::{
-    Expected, Level, yaml_emitter_directives, yaml_emitter_fresh, yaml_emitter_into_output,
-    yaml_emitter_outer, yaml_emitter_resume, yaml_emitter_stand, yaml_emitter_stand_t,
-    yaml_emitter_t,
-};
-use yaml_parse::yaml_tag_directive_t;
-use yaml_scan::{yaml_error_type_t, yaml_fault_t};
+use yaml_scan::yaml_error_type_t;
 
-// No emitter goes on with a larger limit, nor in a line of more columns.
-const MOST: u64 = 4_611_686_018_427_387_904;
-
-/// What was written in pieces, and where the last of their emitters stands.
-#[derive(Drop)]
-pub struct Pieces {
-    pub text: Vec<u8>,
-    /// The first fault.
-    pub fault: Option<yaml_fault_t>,
-    // How many events were given, without those that wait.
-    taken: usize,
-    // None where no event was given.
-    stand: Option<yaml_emitter_stand_t>,
-    around: Vec<Level>,
-    directives: Vec<yaml_tag_directive_t>,
+// Whether that is the front of the whole text that fits the limit, with the fault of a full output where that isn't all, else with
+// the whole's.
+fn is_right(whole: &Pieces, limit: usize, got: &Pieces) -> bool {
+    let text = whole.text.as_slice();
+    if limit < text.len() {
+        let is_told = match got.fault {
+            Some(fault) => fault.kind == yaml_error_type_t::YAML_WRITER_ERROR,
+            None => false,
+        };
+        return is_told && got.text.as_slice() == &text[..limit];
+    }
+    got.fault == whole.fault && got.text == whole.text
 }
 
-impl Pieces {
-    fn new(reply: &Reply) -> Pieces {
-        Pieces {
-            text: Vec::new(reply.alloc),
-            fault: None,
-            taken: 0,
-            stand: None,
-            around: Vec::new(reply.alloc),
-            directives: Vec::new(reply.alloc),
-        }
+// How many limits or sizes of pieces are tried: limits up to two behind the text's end, where that has no fault.
+fn count_of(reply: &mut Reply, line: &Value, by_limit: bool, whole: &Pieces) -> usize {
+    match whole.fault {
+        None if by_limit => whole.text.len().saturating_add(2),
+        Some(_) if by_limit => 0,
+        _ => reply.list(line, "/events").len().saturating_sub(1),
     }
 }
 
-// Where the last emitter stands, if one may go on there: no event was refused, and the line isn't too long.
-fn right_stand(pieces: &Pieces) -> Option<yaml_emitter_stand_t>
-    ensures right { IfSome result (λ s. refused_at s.place ≡ None) }
-    ensures column { IfSome result (λ s. s.cursor.column < 2 ^ 62) }
-{
-    let Some(stand) = pieces.stand else {
-        return None;
-    };
-    if stand.cursor.column >= MOST {
-        return None;
-    }
-    match stand.place {
-        Expected::Refused(_) => None,
-        Expected::StreamStart => Some(stand),
-        Expected::Documents(_, _) => Some(stand),
-        Expected::Node => Some(stand),
-        Expected::DocumentEnd => Some(stand),
-        Expected::End => Some(stand),
-    }
-}
-
-// What is left of a limit.
-fn rest_of(limit: u64, text: &[u8]) -> u64
-    ensures { result ≤ 2 ^ 62 }
-{
-    let rest = limit.saturating_sub(text.len() as u64);
-    if rest <= MOST { rest } else { MOST }
-}
-
-// An emitter that goes on where the last one stood, or that begins.
-fn next_emitter(
-    reply: &Reply,
-    settings: &Settings,
-    pieces: &mut Pieces,
-) -> Result<yaml_emitter_t, yaml_fault_t> {
-    let alloc = reply.alloc;
-    let limit = rest_of(settings.limit, pieces.text.as_slice());
-    match right_stand(pieces) {
-        Some(stand) => {
-            let around = mem::replace(&mut pieces.around, Vec::new(alloc));
-            let directives = mem::replace(&mut pieces.directives, Vec::new(alloc));
-            yaml_emitter_resume(alloc, settings.asked, limit, stand, around, directives)
-        }
-        None => emitter_under(alloc, settings, limit),
-    }
-}
-
-// Keeps where an emitter stands that was given the line's events up to there, with copies of the open collections and the
-// directives.
-fn keep_stand(reply: &mut Reply, emitter: &yaml_emitter_t, upto: usize, pieces: &mut Pieces) {
-    if yaml_emitter_fresh(emitter) {
-        return;
-    }
-    let stand = yaml_emitter_stand(emitter);
-    pieces.taken = upto.saturating_sub(stand.waiting as usize);
-    pieces.stand = Some(stand);
-    for level in yaml_emitter_outer(emitter) {
-        reply.push(&mut pieces.around, *level);
-    }
-    for directive in yaml_emitter_directives(emitter) {
-        let handle = reply.copy(directive.handle.as_slice());
-        let prefix = reply.copy(directive.prefix.as_slice());
-        reply.push(
-            &mut pieces.directives,
-            yaml_tag_directive_t { handle, prefix },
-        );
-    }
-}
-
-// Gives the line's events up to there, from the first that wasn't taken, and keeps what became of them.
-fn give(
+// How many of these are right before one isn't.
+fn first_wrong(
     reply: &mut Reply,
     line: &Value,
-    upto: usize,
-    emitter: &mut yaml_emitter_t,
-    pieces: &mut Pieces,
-) {
-    let mut fault = None;
-    let events = reply.list(line, "/events");
-    for listed in events.get(pieces.taken..upto).unwrap_or(&[]) {
-        let answered = give_listed(reply, listed, emitter);
-        if fault.is_none() {
-            fault = answered;
-        }
-    }
-    pieces.fault = if upto == events.len() {
-        flush(emitter)
-    } else {
-        fault
-    };
-    keep_stand(reply, emitter, upto, pieces);
-}
-
-// Has a further emitter write the piece up to that event.
-fn put_piece(
-    reply: &mut Reply,
-    line: &Value,
+    by_limit: bool,
     settings: &Settings,
-    upto: usize,
-    pieces: &mut Pieces,
-) {
-    match next_emitter(reply, settings, pieces) {
-        Ok(mut emitter) => {
-            give(reply, line, upto, &mut emitter, pieces);
-            let text = yaml_emitter_into_output(emitter);
-            reply.room(pieces.text.extend_from_slice(text.as_slice()));
-        }
-        Err(fault) => pieces.fault = Some(fault),
-    }
-}
-
-/// What is written of the line's events in pieces of so many, up to the first fault.
-pub fn written(reply: &mut Reply, line: &Value, settings: &Settings, size: usize) -> Pieces {
-    let mut pieces = Pieces::new(reply);
-    let count = reply.list(line, "/events").len();
-    for upto in 1..count.saturating_add(1) {
-        if pieces.fault.is_none() && ends_piece(upto, size, count) {
-            put_piece(reply, line, settings, upto, &mut pieces);
-        }
-    }
-    match pieces.fault {
-        // Want of memory is answered whichever pieces meet it.
-        Some(fault) if fault.kind == yaml_error_type_t::YAML_MEMORY_ERROR => reply.fault(fault),
-        _ => {}
-    }
-    pieces
-}
-
-// Whether a piece of so many events ends behind that event.
-fn ends_piece(upto: usize, size: usize, count: usize) -> bool {
-    upto == count || upto.checked_rem(size) == Some(0)
-}
-
-// The least size of pieces whose text and fault aren't those of the whole.
-fn wrong_size(reply: &mut Reply, line: &Value, settings: &Settings, whole: &Pieces) -> Option<u64> {
-    for size in 1..reply.list(line, "/events").len() {
-        let pieces = written(reply, line, settings, size);
-        if pieces.text != whole.text || pieces.fault != whole.fault {
-            return Some(size as u64);
+    whole: &Pieces,
+) -> Option<usize> {
+    for number in 0..count_of(reply, line, by_limit, whole) {
+        let (limit, size) = if by_limit {
+            (number, usize::MAX)
+        } else {
+            (usize::MAX, number.saturating_add(1))
+        };
+        let asked = settings.asked;
+        let limited = Settings {
+            asked,
+            limit: settings.limit.min(limit as u64),
+        };
+        let got = written(reply, line, &limited, size);
+        if !is_right(whole, limit, &got) {
+            return Some(number);
         }
     }
     None
 }
 
-/// The text, or the fault, of the line's events, which pieces of 1, 2 and more of them have too, each given to an emitter
-/// that goes on where the one before it stood; else the least size of pieces that haven't.
-pub fn answer(reply: &mut Reply, line: &Value) {
+/// The text, or the fault, of the line's events; else how many limits or sizes of pieces are right before one isn't. Under any
+/// lesser limit an emitter is to write the front that fits, and to answer that its output is full; the line's own limit isn't to
+/// be passed then. Pieces of 1, 2 and more events, each given to an emitter that goes on where the one before it stood, are to have
+/// the same text and fault.
+pub fn answer(reply: &mut Reply, line: &Value, by_limit: bool) {
     let settings = settings_of(reply, line);
     let whole = written(reply, line, &settings, usize::MAX);
-    match wrong_size(reply, line, &settings, &whole) {
-        Some(size) => reply.field("answer", Part::Count(size)),
+    match first_wrong(reply, line, by_limit, &settings, &whole) {
+        Some(number) => reply.field("answer", Part::Count(number as u64)),
         None => match whole.fault {
             Some(fault) => reply.fault(fault),
             None => reply.field_bytes("answer", whole.text.as_slice()),

@@ -2,7 +2,7 @@
 
 ghost use Rattle.std.specs.Prelude.{◌≡◌, true};
 
-use crate::lines::{Reply, Settings, event_of, text_error};
+use crate::lines::{Reply, Settings, event_of};
 use serde_json::Value;
 use std::alloc::Global;
 use yaml_emit::{
@@ -11,7 +11,7 @@ use yaml_emit::{
     yaml_emitter_set_break, yaml_emitter_set_canonical, yaml_emitter_set_encoding,
     yaml_emitter_set_indent, yaml_emitter_set_unicode, yaml_emitter_set_width, yaml_emitter_t,
 };
-use yaml_parse::{yaml_event_t, yaml_event_utf8};
+use yaml_parse::yaml_event_utf8;
 use yaml_scan::yaml_fault_t;
 
 fn set(emitter: &mut yaml_emitter_t, asked: &RequestedSettings)
@@ -36,21 +36,6 @@ pub fn emitter_under(
     Ok(emitter)
 }
 
-// Gives the event, whose texts are to be UTF-8.
-fn give(
-    reply: &mut Reply,
-    event: yaml_event_t,
-    emitter: &mut yaml_emitter_t,
-) -> Option<yaml_fault_t> {
-    if yaml_event_utf8(&event) {
-        yaml_emitter_emit(emitter, event).err()
-    } else {
-        drop(event);
-        reply.miss("events");
-        None
-    }
-}
-
 /// Gives the event that the line writes so, whose texts are to be UTF-8, and tells the fault that is answered.
 pub fn give_listed(
     reply: &mut Reply,
@@ -58,9 +43,14 @@ pub fn give_listed(
     emitter: &mut yaml_emitter_t,
 ) -> Option<yaml_fault_t> {
     match event_of(reply, listed) {
-        Ok(event) => give(reply, event, emitter),
+        Ok(event) if yaml_event_utf8(&event) => yaml_emitter_emit(emitter, event).err(),
+        Ok(event) => {
+            drop(event);
+            reply.miss("events");
+            None
+        }
         Err(fault) => {
-            reply.refuse(text_error(fault));
+            reply.refuse_text(fault);
             None
         }
     }

@@ -1,0 +1,167 @@
+//! Events that are written in pieces.
+
+ghost use Rattle.std.specs.Prelude.{◌≡◌, ◌≤◌, ◌<◌, ◌^◌, None, IfSome};
+ghost use Rattle.yaml_emit.specs.Judged.{refused_at};
+
+use super::emitter::{emitter_under, flush, give_listed};
+use crate::lines::{Reply, Settings};
+use serde_json::Value;
+use std::mem;
+use yaml_emit::{
+    Expected, Level, yaml_emitter_directives, yaml_emitter_fresh, yaml_emitter_into_output,
+    yaml_emitter_outer, yaml_emitter_resume, yaml_emitter_stand, yaml_emitter_stand_t,
+    yaml_emitter_t,
+};
+use yaml_parse::yaml_tag_directive_t;
+use yaml_scan::{yaml_error_type_t, yaml_fault_t};
+
+// No emitter goes on with a larger limit, nor in a line of more columns.
+const MOST: u64 = 4_611_686_018_427_387_904;
+
+/// What was written in pieces, and where the last of their emitters stands.
+#[derive(Drop)]
+pub struct Pieces {
+    pub text: Vec<u8>,
+    /// The first fault.
+    pub fault: Option<yaml_fault_t>,
+    // How many events were given, without those that wait.
+    taken: usize,
+    // None where no event was given.
+    stand: Option<yaml_emitter_stand_t>,
+    around: Vec<Level>,
+    directives: Vec<yaml_tag_directive_t>,
+}
+
+impl Pieces {
+    fn new(reply: &Reply) -> Pieces {
+        Pieces {
+            text: Vec::new(reply.alloc),
+            fault: None,
+            taken: 0,
+            stand: None,
+            around: Vec::new(reply.alloc),
+            directives: Vec::new(reply.alloc),
+        }
+    }
+}
+
+// Where the last emitter stands, if one may go on there: no event was refused, and the line isn't too long.
+fn right_stand(pieces: &Pieces) -> Option<yaml_emitter_stand_t>
+    ensures right { IfSome result (λ s. refused_at s.place ≡ None) }
+    ensures column { IfSome result (λ s. s.cursor.column < 2 ^ 62) }
+{
+    let Some(stand) = pieces.stand else {
+        return None;
+    };
+    if stand.cursor.column >= MOST {
+        return None;
+    }
+    match stand.place {
+        Expected::Refused(_) => None,
+        Expected::StreamStart => Some(stand),
+        Expected::Documents(_, _) => Some(stand),
+        Expected::Node => Some(stand),
+        Expected::DocumentEnd => Some(stand),
+        Expected::End => Some(stand),
+    }
+}
+
+// What is left of a limit.
+fn rest_of(limit: u64, text: &[u8]) -> u64
+    ensures { result ≤ 2 ^ 62 }
+{
+    let rest = limit.saturating_sub(text.len() as u64);
+    if rest <= MOST { rest } else { MOST }
+}
+
+// An emitter that goes on where the last one stood, or that begins.
+fn next_emitter(
+    reply: &Reply,
+    settings: &Settings,
+    pieces: &mut Pieces,
+) -> Result<yaml_emitter_t, yaml_fault_t> {
+    let alloc = reply.alloc;
+    let limit = rest_of(settings.limit, pieces.text.as_slice());
+    match right_stand(pieces) {
+        Some(stand) => {
+            let around = mem::replace(&mut pieces.around, Vec::new(alloc));
+            let directives = mem::replace(&mut pieces.directives, Vec::new(alloc));
+            yaml_emitter_resume(alloc, settings.asked, limit, stand, around, directives)
+        }
+        None => emitter_under(alloc, settings, limit),
+    }
+}
+
+// Keeps where an emitter stands that was given the line's events up to there, with copies of the open collections and the
+// directives.
+fn keep_stand(reply: &mut Reply, emitter: &yaml_emitter_t, upto: usize, pieces: &mut Pieces) {
+    if yaml_emitter_fresh(emitter) {
+        return;
+    }
+    let stand = yaml_emitter_stand(emitter);
+    pieces.taken = upto.saturating_sub(stand.waiting as usize);
+    pieces.stand = Some(stand);
+    reply.room(pieces.around.extend_from_slice(yaml_emitter_outer(emitter)));
+    for directive in yaml_emitter_directives(emitter) {
+        let handle = reply.copy(directive.handle.as_slice());
+        let prefix = reply.copy(directive.prefix.as_slice());
+        let copied = yaml_tag_directive_t { handle, prefix };
+        reply.push(&mut pieces.directives, copied);
+    }
+}
+
+// Gives the line's events up to there, from the first that wasn't taken, and keeps what became of them.
+fn give(
+    reply: &mut Reply,
+    events: &[Value],
+    upto: usize,
+    emitter: &mut yaml_emitter_t,
+    pieces: &mut Pieces,
+) {
+    for listed in events.get(pieces.taken..upto).unwrap_or(&[]) {
+        let fault = give_listed(reply, listed, emitter);
+        pieces.fault = pieces.fault.or(fault);
+    }
+    if upto == events.len() {
+        pieces.fault = flush(emitter);
+    }
+    keep_stand(reply, emitter, upto, pieces);
+}
+
+// Has a further emitter write the piece up to that event.
+fn put_piece(
+    reply: &mut Reply,
+    events: &[Value],
+    settings: &Settings,
+    upto: usize,
+    pieces: &mut Pieces,
+) {
+    match next_emitter(reply, settings, pieces) {
+        Ok(mut emitter) => {
+            give(reply, events, upto, &mut emitter, pieces);
+            let text = yaml_emitter_into_output(emitter);
+            reply.room(pieces.text.extend_from_slice(text.as_slice()));
+        }
+        Err(fault) => pieces.fault = Some(fault),
+    }
+}
+
+/// What is written of the line's events in pieces of so many, up to the first fault.
+pub fn written(reply: &mut Reply, line: &Value, settings: &Settings, size: usize) -> Pieces {
+    let mut pieces = Pieces::new(reply);
+    let events = reply.list(line, "/events");
+    let mut upto = 0usize;
+    for _ in events {
+        upto = upto.saturating_add(size).min(events.len());
+        put_piece(reply, events, settings, upto, &mut pieces);
+        if upto == events.len() || pieces.fault.is_some() {
+            break;
+        }
+    }
+    match pieces.fault {
+        // Want of memory is answered whichever pieces meet it.
+        Some(fault) if fault.kind == yaml_error_type_t::YAML_MEMORY_ERROR => reply.fault(fault),
+        _ => {}
+    }
+    pieces
+}

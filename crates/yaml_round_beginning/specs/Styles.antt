@@ -1,5 +1,6 @@
 -- The styles that the content alone decides, of an event as it is read.
 use Rattle.std.specs.Prelude.{ℕ, ◌==◌, Bool, true, not, ◌&&◌, if◌then◌else◌, List, Option, None}
+use Rattle.yaml_scan_model.specs.Ascii as ascii
 use Rattle.yaml_scan_model.specs.declared.yaml_scalar_style_t.{yaml_scalar_style_t}
 use Rattle.yaml_scan_model.specs.declared.yaml_scalar_style_t.TheVariants.{YAML_SINGLE_QUOTED_SCALAR_STYLE, YAML_LITERAL_SCALAR_STYLE}
 use Rattle.yaml_scan_model.specs.declared.yaml_version_directive_t.{yaml_version_directive_t}
@@ -20,7 +21,7 @@ position_of place.Starts = restyled.Starts
 position_of place.Within = restyled.Within
 
 abbrev pub ends_in_space : List ℕ → Bool
-ends_in_space value = last_or 0 value == 32
+ends_in_space value = last_or 0 value == ascii.space
 
 -- by whether it has a break
 abbrev pub quoted_by : Bool → List ℕ → yaml_scalar_style_t

@@ -10,9 +10,7 @@ use crate::names::{Names, meant, note};
 use crate::record::{yaml_c_spot, yaml_c_step};
 use std::alloc::{AllocError, Global};
 use std::collections::BTreeMap;
-
-// Numbers of nodes are no greater.
-const MOST: usize = 2_147_483_647;
+use yaml_parse_document::MAX_ENTRIES;
 
 /// A document in the making: how many nodes it has, the numbers of the open collections, the innermost last, and the names.
 #[derive(Drop)]
@@ -119,7 +117,7 @@ impl Sketching {
         ensures { IfOk result (λ x. (x, sketch_of self.new) ≡ begun (name_at bytes.now step)
             (sketch_of self.old)) }
     {
-        if self.count >= MOST {
+        if self.count >= MAX_ENTRIES {
             return Err(AllocError);
         }
         let node = (self.count + 1) as i32;

@@ -55,7 +55,7 @@ fn ordinary_at(text: &[u8], place: usize) -> bool
 fn narrow_at(text: &[u8], place: usize) -> bool
     ensures { result ≡ spec.is_narrow (byte text.now place) }
 {
-    place < text.len() && is_narrow_at(text, place)
+    place < text.len() && is_narrow(text[place])
 }
 
 /// Whether the byte there, which is in the text, is an ordinary one of ASCII.

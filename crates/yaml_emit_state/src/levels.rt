@@ -86,14 +86,10 @@ impl Levels {
     pub fn turn(&mut self, phase: Phase)
         ensures { stack_of self.new ≡ turned phase (stack_of self.old) }
     {
-        match self.top {
+        match &mut self.top {
             None => (),
             Some(level) => {
-                self.top = Some(Level {
-                    phase,
-                    flow: level.flow,
-                    indent: level.indent,
-                });
+                level.phase = phase;
             }
         }
     }

@@ -1,5 +1,5 @@
 -- What a call's answer tells of the emitter's fault.
-use Rattle.std.proofs.Common.{◌≡◌, ◌≢◌, ◌∙◌, sym, true, false, Option, Some, None, Result, Ok, Err}
+use Rattle.std.proofs.Common.{◌≡◌, ◌≢◌, ◌∙◌, sym, Option, Some, None, Result, Ok, Err}
 use Rattle.std.proofs.lemmas.Bool.{false≢true}
 use Rattle.std.specs.Prelude.{OnOk, OnErr}
 use Rattle.yaml_emit_machine.specs.scan_model.Faults.{Fault}

@@ -1,4 +1,4 @@
-use Rattle.std.proofs.Common.{◌≡◌, ◌≤◌, ◌∙◌, sym, ap, refl, subst, length, true, false, [], ◌∷◌}
+use Rattle.std.proofs.Common.{◌≤◌, ◌∙◌, sym, ap, refl, subst, length, true, [], ◌∷◌}
 use Rattle.std.proofs.lemmas.Bool.{false≢true}
 use Rattle.yaml_emit_machine.specs.Emitter.{Emitter}
 use Rattle.yaml_emit_machine.specs.emit_layout.Content.{stream_end}

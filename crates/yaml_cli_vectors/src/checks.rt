@@ -7,14 +7,27 @@ mod output;
 use crate::lines::{Part, Reply};
 use serde_json::Value;
 
+// What is checked.
+#[derive(Clone, Copy)]
+enum Check {
+    OutputStops,
+    Constructors,
+    Documents,
+}
+
+const CHECKS: [(&'static str, Check); 3] = [
+    ("an output stops", Check::OutputStops),
+    ("constructors", Check::Constructors),
+    ("documents", Check::Documents),
+];
+
 /// Whether what the line names is right, thing by thing.
 pub fn answer(reply: &mut Reply, line: &Value) {
     reply.field("answer", Part::Object);
-    match reply.text(line, "/of") {
-        "an output stops" => output::an_output_stops(reply),
-        "constructors" => made::refuses_texts(reply, line),
-        "documents" => made::documents(reply, line),
-        _ => reply.miss("of"),
+    match reply.choice(line, "/of", &CHECKS, Check::OutputStops) {
+        Check::OutputStops => output::an_output_stops(reply),
+        Check::Constructors => made::refuses_texts(reply, line),
+        Check::Documents => made::documents(reply, line),
     }
     reply.put(Part::EndObject);
 }

@@ -11,7 +11,9 @@ use yaml_parse::{
     yaml_document_append_mapping_pair, yaml_document_append_sequence_item, yaml_document_get_node,
     yaml_document_initialize, yaml_document_t, yaml_node_body_t, yaml_text_fault_t,
 };
-use yaml_scan::{yaml_mapping_style_t, yaml_scalar_style_t, yaml_sequence_style_t};
+use yaml_scan::{
+    yaml_mapping_style_t, yaml_node_type_t, yaml_scalar_style_t, yaml_sequence_style_t,
+};
 
 // A document without nodes.
 fn empty_document(reply: &mut Reply, line: &Value) -> Result<yaml_document_t, yaml_text_fault_t> {
@@ -44,6 +46,12 @@ fn add_scalar(
     yaml_document_add_scalar(document, tag, value.as_slice(), style)
 }
 
+const KINDS: [(&'static str, yaml_node_type_t); 3] = [
+    ("scalar", yaml_node_type_t::YAML_SCALAR_NODE),
+    ("sequence", yaml_node_type_t::YAML_SEQUENCE_NODE),
+    ("mapping", yaml_node_type_t::YAML_MAPPING_NODE),
+];
+
 // Adds a node with that tag, if any; a collection without what it holds.
 fn add(
     document: &mut yaml_document_t,
@@ -51,22 +59,18 @@ fn add(
     tag: Option<&[u8]>,
     node: &Value,
 ) -> Added {
-    match reply.text(node, "/0") {
-        "scalar" => add_scalar(document, reply, tag, node),
-        "sequence" => {
+    match reply.choice(node, "/0", &KINDS, yaml_node_type_t::YAML_NO_NODE) {
+        yaml_node_type_t::YAML_SEQUENCE_NODE => {
             let any = yaml_sequence_style_t::YAML_ANY_SEQUENCE_STYLE;
             let style = reply.choice(node, "/3", &SEQUENCES, any);
             yaml_document_add_sequence(document, tag, style)
         }
-        "mapping" => {
+        yaml_node_type_t::YAML_MAPPING_NODE => {
             let any = yaml_mapping_style_t::YAML_ANY_MAPPING_STYLE;
             let style = reply.choice(node, "/3", &MAPPINGS, any);
             yaml_document_add_mapping(document, tag, style)
         }
-        _ => {
-            reply.miss("nodes");
-            Ok(0)
-        }
+        _ => add_scalar(document, reply, tag, node),
     }
 }
 
@@ -103,17 +107,6 @@ fn is_node(document: &yaml_document_t, id: i32) -> bool
     yaml_document_get_node(document, id).is_some()
 }
 
-// Appends an item to a sequence.
-fn append_item(document: &mut yaml_document_t, reply: &mut Reply, id: i32, item: i32) {
-    if is_sequence(document, id) && is_node(document, item) {
-        if yaml_document_append_sequence_item(document, id, item).is_err() {
-            reply.memory();
-        }
-    } else {
-        reply.miss("nodes");
-    }
-}
-
 fn are_nodes(document: &yaml_document_t, key: i32, value: i32) -> bool
     ensures { IsTrue result → IsSome (node_at document.now.nodes key)
         × IsSome (node_at document.now.nodes value) }
@@ -121,34 +114,37 @@ fn are_nodes(document: &yaml_document_t, key: i32, value: i32) -> bool
     is_node(document, key) && is_node(document, value)
 }
 
-// Appends a pair to a mapping.
-fn append_pair(document: &mut yaml_document_t, reply: &mut Reply, id: i32, key: i32, value: i32) {
-    if is_mapping(document, id) && are_nodes(document, key, value) {
-        if yaml_document_append_mapping_pair(document, id, key, value).is_err() {
-            reply.memory();
-        }
-    } else {
-        reply.miss("nodes");
-    }
-}
-
-// Appends an item, which is a number, or a pair, which is a list of two.
-fn append(document: &mut yaml_document_t, reply: &mut Reply, id: i32, held: &Value) {
+// Appends a pair, which is a list of two, to a mapping; or an item, which is a number, to a sequence.
+fn append(
+    document: &mut yaml_document_t,
+    reply: &mut Reply,
+    id: i32,
+    held: &Value,
+) -> Result<(), yaml_text_fault_t> {
     if held.is_array() {
         let key = reply.number(held, "/0");
         let value = reply.number(held, "/1");
-        append_pair(document, reply, id, key, value);
+        if is_mapping(document, id) && are_nodes(document, key, value) {
+            return yaml_document_append_mapping_pair(document, id, key, value);
+        }
     } else {
         let item = reply.number(held, "");
-        append_item(document, reply, id, item);
+        if is_sequence(document, id) && is_node(document, item) {
+            return yaml_document_append_sequence_item(document, id, item);
+        }
     }
+    reply.miss("nodes");
+    Ok(())
 }
 
 // Adds what the node of that number holds.
 fn fill(document: &mut yaml_document_t, reply: &mut Reply, id: i32, node: &Value) {
     if reply.text(node, "/0") != "scalar" {
         for held in reply.list(node, "/2") {
-            append(document, reply, id, held);
+            match append(document, reply, id, held) {
+                Ok(()) => {}
+                Err(fault) => reply.refuse_text(fault),
+            }
         }
     }
 }

@@ -3,7 +3,7 @@
 use serde_json::Value;
 
 // The fields that calls answer, and what is told where one is another. A line that has one wants it. No line wants `kept`.
-const ANSWERS: [(&'static str, &'static str); 15] = [
+const ANSWERS: &[(&'static str, &'static str)] = &[
     ("answer", ": `answer` is another in "),
     ("call_number", ": `call_number` is another in "),
     ("errors", ": `errors` is another in "),
@@ -24,9 +24,9 @@ const ANSWERS: [(&'static str, &'static str); 15] = [
 /// Of the first field that one of them lacks, or of which they have different values, what is told of that: the line wants its
 /// own fields and no others of what its call answered.
 pub fn first_wrong(line: &Value, got: &Value) -> Option<&'static str> {
-    for (name, told) in ANSWERS {
-        if line.get(name) != got.get(name) {
-            return Some(told);
+    for row in ANSWERS {
+        if line.get(row.0) != got.get(row.0) {
+            return Some(row.1);
         }
     }
     None

@@ -31,9 +31,7 @@ fn add(reply: &mut Reply, listed: &Value, list: &mut yaml_token_list_t) {
         reply.miss("tokens");
         return;
     }
-    if list.push(token).is_err() {
-        reply.memory();
-    }
+    reply.room(list.push(token));
 }
 
 // Ends the list with the line's own fault where it has one.

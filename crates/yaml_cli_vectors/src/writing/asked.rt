@@ -6,7 +6,7 @@ use super::emit_events::put_events;
 use super::emitter::emitter_under;
 use crate::lines::{Reply, settings_of};
 use serde_json::Value;
-use yaml_emit::{yaml_emitter_delete, yaml_emitter_t};
+use yaml_emit::yaml_emitter_delete;
 
 /// What an emitter is given.
 #[derive(Clone, Copy)]
@@ -19,20 +19,16 @@ pub enum Given {
     Calls,
 }
 
-fn put_given(reply: &mut Reply, line: &Value, given: Given, emitter: &mut yaml_emitter_t) {
-    match given {
-        Given::Document => put_dump(reply, line, emitter),
-        Given::Events => put_events(reply, line, emitter),
-        Given::Calls => put_calls(reply, line, emitter),
-    }
-}
-
 /// What an emitter under the line's settings answers on what it is given.
 pub fn emit_line(reply: &mut Reply, line: &Value, given: Given) {
     let settings = settings_of(reply, line);
     match emitter_under(reply.alloc, &settings, settings.limit) {
         Ok(mut emitter) => {
-            put_given(reply, line, given, &mut emitter);
+            match given {
+                Given::Document => put_dump(reply, line, &mut emitter),
+                Given::Events => put_events(reply, line, &mut emitter),
+                Given::Calls => put_calls(reply, line, &mut emitter),
+            }
             yaml_emitter_delete(emitter);
         }
         Err(fault) => reply.fault(fault),

@@ -17,6 +17,7 @@ use Rattle.yaml_scan_model.specs.declared.yaml_error_type_t.TheVariants.{YAML_EM
 use Rattle.yaml_scan_model.specs.declared.yaml_origin_t.{yaml_origin_t}
 use Rattle.yaml_scan_model.specs.declared.yaml_origin_t.TheVariants as origin
 use Rattle.yaml_scan_model.specs.Widths.{default_width}
+use Rattle.yaml_scan_model.specs.Indents.{default_indent}
 use Rattle.yaml_scan_model.specs.Tokens.{zero_mark}
 use Rattle.yaml_scan_model.specs.Faults.{Fault, fault_of, memory_fault, IsMemoryFault, emit_layers}
 use Rattle.yaml_emit_text.specs.declared.Cursor.{Cursor}
@@ -221,7 +222,7 @@ abbrev pub first_requested : RequestedSettings
 first_requested = record {
   encoding = YAML_ANY_ENCODING;
   canonical = false;
-  indent = pos 2;
+  indent = pos default_indent;
   width = pos default_width;
   unicode = false;
   line_break = YAML_ANY_BREAK;

@@ -48,7 +48,7 @@ abbrev pub default_record : yaml_c_settings
 default_record = record {
   encoding = pos 1;
   canonical = pos 1;
-  indent = pos 2;
+  indent = default_settings.indent;
   width = default_settings.width;
   unicode = pos 1;
   line_break = pos 2;

@@ -1,6 +1,7 @@
 -- Characters in front of a place, and what stands where a node begins.
 use Rattle.std.specs.Prelude.{◌≡◌, ◌≤◌, ℕ, Bool, true, false, ◌&&◌, ◌||◌, ◌==◌, List, length, take, drop, slice_range}
 use Rattle.std.specs.List.{count_by}
+use Rattle.yaml_scan_model.specs.Ascii as ascii
 use Rattle.yaml_scan_model.specs.Marks.{byte, starts}
 use Rattle.yaml_scan_words.specs.Between.{gap_at}
 use Rattle.yaml_round_records.specs.declared.counting.Count.{Count}
@@ -25,11 +26,12 @@ behind_gap text = byte text (gap_at true false text 0).place
 
 -- the tag of a node stands behind an anchor, whose name has so many bytes
 abbrev pub stands_behind : List ℕ → ℕ → Bool
-stands_behind node name = behind_gap (drop name (drop 1 node)) == 33
+stands_behind node name = behind_gap (drop name (drop 1 node)) == ascii.exclamation
 
 -- a node begins with its tag, which begins with `!`, or with an anchor, and has it behind that
 abbrev pub begins_tag : List ℕ → ℕ → Bool
-begins_tag node name = byte node 0 == 33 || (byte node 0 == 38 && stands_behind node name)
+begins_tag node name = byte node 0 == ascii.exclamation
+    || (byte node 0 == ascii.ampersand && stands_behind node name)
 
 -- The node that stands in a text from one place to another has a tag; `name` is the length of its anchor's name.
 abbrev pub has_tag : List ℕ → ℕ → ℕ → ℕ → Bool

@@ -20,7 +20,7 @@ use yaml_parse_model::{
     copy_directives, moved, yaml_event_body_t, yaml_node_body_t, yaml_node_t, yaml_node_tag_t,
 };
 use yaml_scan_model::{
-    SHORT, put_short, yaml_mapping_style_t, yaml_scalar_style_t, yaml_sequence_style_t,
+    refilled, room_of, yaml_mapping_style_t, yaml_scalar_style_t, yaml_sequence_style_t,
     yaml_tag_directive_t,
 };
 
@@ -118,31 +118,6 @@ fn put_aside(rooms: &mut Rooms, event: &mut yaml_event_body_t) {
     }
 }
 
-// The room of a text that an event has, else one that is put aside.
-// Inlined: some moves.
-#[inline(always)]
-fn room_of(text: &mut Option<Vec<u8>>, aside: &mut Vec<u8>) -> Vec<u8> {
-    match text.take() {
-        Some(room) => room,
-        None => moved(aside),
-    }
-}
-
-// A text in the room of another.
-// Inlined: a short one is two moves.
-#[inline(always)]
-fn put_over_text(room: &mut Vec<u8>, text: &[u8]) -> Result<(), AllocError>
-    ensures { OnOk result (room.new.items ≡ text.now) }
-{
-    room.clear();
-    if text.len() <= SHORT && text.len() <= room.capacity() {
-        put_short(room, text);
-        Ok(())
-    } else {
-        room.extend_from_slice(text)
-    }
-}
-
 // A scalar, in rooms that are put aside.
 // Out of line: mostly the event before it is one too.
 #[inline(never)]
@@ -161,10 +136,8 @@ fn put_other_scalar(
     put_aside(rooms, event);
     let anchor = anchor_of(rooms.alloc, number)?;
     let plain = is_str(tag);
-    let mut tag_text = moved(&mut rooms.tag);
-    put_over_text(&mut tag_text, tag.as_slice())?;
-    let mut text = moved(&mut rooms.value);
-    put_over_text(&mut text, value)?;
+    let tag_text = refilled(&mut rooms.tag, tag.as_slice(), 0)?;
+    let text = refilled(&mut rooms.value, value, 0)?;
     *event = yaml_event_body_t::Scalar {
         anchor,
         tag: Some(tag_text),
@@ -202,10 +175,9 @@ fn put_scalar_event(
         } => {
             let anchor = anchor_of(rooms.alloc, number)?;
             let plain = is_str(tag);
-            let mut tag_text = room_of(held_tag, &mut rooms.tag);
-            put_over_text(&mut tag_text, tag.as_slice())?;
-            let mut text = moved(held_value);
-            put_over_text(&mut text, value)?;
+            let mut room = room_of(held_tag, &mut rooms.tag);
+            let tag_text = refilled(&mut room, tag.as_slice(), 0)?;
+            let text = refilled(held_value, value, 0)?;
             *name = anchor;
             *held_tag = Some(tag_text);
             *held_value = text;
@@ -234,8 +206,7 @@ fn put_sequence(
     put_aside(rooms, event);
     let anchor = anchor_of(rooms.alloc, number)?;
     let implicit = is_seq(tag);
-    let mut tag_text = moved(&mut rooms.tag);
-    put_over_text(&mut tag_text, tag.as_slice())?;
+    let tag_text = refilled(&mut rooms.tag, tag.as_slice(), 0)?;
     *event = yaml_event_body_t::SequenceStart {
         anchor,
         tag: Some(tag_text),
@@ -261,8 +232,7 @@ fn put_mapping(
     put_aside(rooms, event);
     let anchor = anchor_of(rooms.alloc, number)?;
     let implicit = is_map(tag);
-    let mut tag_text = moved(&mut rooms.tag);
-    put_over_text(&mut tag_text, tag.as_slice())?;
+    let tag_text = refilled(&mut rooms.tag, tag.as_slice(), 0)?;
     *event = yaml_event_body_t::MappingStart {
         anchor,
         tag: Some(tag_text),

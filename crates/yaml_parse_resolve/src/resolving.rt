@@ -27,7 +27,7 @@ use yaml_parse_model::{
     TokenSlot, copy_directives, mark_again, moved, yaml_event_body_t, yaml_event_t, yaml_fault_t,
     yaml_mark_t, yaml_memory_fault, yaml_origin_t, yaml_version_directive_t,
 };
-use yaml_scan_model::{SHORT, put_short};
+use yaml_scan_model::{followed, put_back, refilled};
 
 /// The directives of a document.
 #[derive(Drop)]
@@ -97,17 +97,9 @@ fn find_default(handle: &[u8]) -> Option<&'static [u8]>
 fn join(room: &mut Vec<u8>, prefix: &[u8], suffix: &[u8]) -> Result<(), AllocError>
     ensures { OnOk result (room.new.items ≡ prefix.now ++ suffix.now) }
 {
-    room.clear();
-    room.reserve(prefix.len() + suffix.len())?;
-    if prefix.len() <= SHORT && suffix.len() <= SHORT {
-        let mut own = moved(room);
-        put_short(&mut own, prefix);
-        put_short(&mut own, suffix);
-        *room = own;
-        return Ok(());
-    }
-    room.extend_from_slice(prefix)?;
-    room.extend_from_slice(suffix)
+    let own = refilled(room, prefix, suffix.len())?;
+    put_back(room, followed(own, suffix));
+    Ok(())
 }
 
 // What a handle stands for.

@@ -5,7 +5,7 @@ ghost use Rattle.yaml_round_compare.specs.Loaded.{IsDocumentsDiff};
 
 use std::alloc::Global;
 use yaml_round_compare::{Front, Trail, place_behind, same_as, same_documents, yaml_difference_t};
-use yaml_round_writing::{documents_of, let_go, reading_of, yaml_side_t};
+use yaml_round_writing::{documents_of, let_documents_go, let_go, reading_of, yaml_side_t};
 use yaml_scan_model::{yaml_encoding_t, yaml_fault_t, yaml_memory_fault, yaml_origin_t};
 
 /// The first place at which the contents of two inputs part: in front of it both say the same, event by event, and their next
@@ -52,10 +52,16 @@ pub fn yaml_diff_documents(
     match documents_of(alloc, a, a_encoding) {
         Err(fault) => Err((yaml_side_t::First, fault)),
         Ok(mut first) => match documents_of(alloc, b, b_encoding) {
-            Err(fault) => Err((yaml_side_t::Second, fault)),
+            Err(fault) => {
+                let_documents_go(first);
+                Err((yaml_side_t::Second, fault))
+            }
             Ok(mut second) => {
                 let mut front = Front::new(alloc);
-                match same_documents(alloc, &mut first, &mut second, &mut front) {
+                let answer = same_documents(alloc, &mut first, &mut second, &mut front);
+                let_documents_go(first);
+                let_documents_go(second);
+                match answer {
                     Err(_) => Err((yaml_side_t::First, yaml_memory_fault(yaml_origin_t::Loader))),
                     Ok(true) => Ok(None),
                     Ok(false) => match place_behind(alloc, a, a_encoding, b, b_encoding, front) {

@@ -7,7 +7,7 @@ ghost use Rattle.yaml_round_writing.specs.Reload.{IsReloaded};
 
 use std::alloc::Global;
 use yaml_round_device::yaml_settings_t;
-use yaml_round_writing::{documents_of, written_documents};
+use yaml_round_writing::{documents_of, let_documents_go, written_documents};
 use yaml_scan_model::{yaml_encoding_t, yaml_fault_t};
 
 /// The input's documents, loaded and written in canonical form: nodes with two visits or more have anchors by number, tags
@@ -24,6 +24,10 @@ pub fn yaml_reload(
 {
     match documents_of(alloc, input, from) {
         Err(fault) => Err(fault),
-        Ok(mut documents) => written_documents(alloc, settings, &mut documents),
+        Ok(mut documents) => {
+            let answer = written_documents(alloc, settings, &mut documents);
+            let_documents_go(documents);
+            answer
+        }
     }
 }

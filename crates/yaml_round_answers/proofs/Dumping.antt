@@ -2,11 +2,11 @@
 use Rattle.std.proofs.Common.{◌≡◌, inl, inr, ◌∙◌, sym, subst, ℤ, pos, negsuc, Bool, true, false, List, []}
 use Rattle.yaml_parse.specs.declared.yaml_origin_t.TheVariants.{Emitter}
 use Rattle.yaml_parse.specs.Faults.{Fault, memory_fault}
-use Rattle.yaml_round_nodes.specs.declared.yaml_c_graph.{yaml_c_graph}
-use Rattle.yaml_round_nodes.specs.declared.yaml_c_turn.{yaml_c_turn}
-use Rattle.yaml_round_nodes.specs.Graphs.{are_nodes}
-use Rattle.yaml_round_nodes.specs.Turns.{turns_by}
-use Rattle.yaml_round_nodes.proofs.Same.{tells_turns}
+use Rattle.yaml_round_answers.specs.declared.record.yaml_c_graph.{yaml_c_graph}
+use Rattle.yaml_round_answers.specs.declared.record.yaml_c_turn.{yaml_c_turn}
+use Rattle.yaml_round_answers.specs.Graphs.{are_nodes}
+use Rattle.yaml_round_answers.specs.Turns.{turns_by}
+use Rattle.yaml_round_answers.proofs.Same.{tells_turns}
 use Rattle.yaml_round_answers.specs.declared.answer.yaml_c_answer.{yaml_c_answer}
 use Rattle.yaml_round_answers.specs.Told.{TellsText, TellsFault, TellsMisuse, Refuses, AnswersMeant, IsExact}
 use Rattle.yaml_round_answers.specs.Serializes.{graph_if, graph_meant, Serializes}

@@ -4,9 +4,9 @@ use Rattle.yaml_parse.specs.declared.yaml_origin_t.TheVariants.{Loader}
 use Rattle.yaml_parse.specs.Faults.{memory_fault}
 use Rattle.yaml_parse.specs.Tokens.{zero_mark}
 use Rattle.yaml_parse.specs.Numbering.{undefined_alias}
-use Rattle.yaml_round_nodes.specs.declared.yaml_c_spot.{yaml_c_spot}
-use Rattle.yaml_round_nodes.specs.declared.yaml_c_step.{yaml_c_step}
-use Rattle.yaml_round_nodes.specs.Composing.{are_steps, fresh_sketch, all_drawn, AreSpots}
+use Rattle.yaml_round_answers.specs.declared.record.yaml_c_spot.{yaml_c_spot}
+use Rattle.yaml_round_answers.specs.declared.record.yaml_c_step.{yaml_c_step}
+use Rattle.yaml_round_answers.specs.Composing.{are_steps, fresh_sketch, all_drawn, AreSpots}
 use Rattle.yaml_round_answers.specs.declared.answer.yaml_c_answer.{yaml_c_answer}
 use Rattle.yaml_round_answers.specs.Told.{TellsText, TellsFault}
 

@@ -3,10 +3,10 @@ use Rattle.std.specs.Prelude.{◌≡◌, ◌⊎◌, pos, Bool, true, false, List
 use Rattle.yaml_parse.specs.declared.yaml_origin_t.TheVariants.{Emitter}
 use Rattle.yaml_parse.specs.Faults.{memory_fault}
 use Rattle.yaml_parse.specs.Documents.{Document}
-use Rattle.yaml_round_nodes.specs.declared.yaml_c_graph.{yaml_c_graph}
-use Rattle.yaml_round_nodes.specs.declared.yaml_c_turn.{yaml_c_turn}
-use Rattle.yaml_round_nodes.specs.Graphs.{are_nodes, Shows}
-use Rattle.yaml_round_nodes.specs.Turns.{turns_by, TellsTurns}
+use Rattle.yaml_round_answers.specs.declared.record.yaml_c_graph.{yaml_c_graph}
+use Rattle.yaml_round_answers.specs.declared.record.yaml_c_turn.{yaml_c_turn}
+use Rattle.yaml_round_answers.specs.Graphs.{are_nodes, Shows}
+use Rattle.yaml_round_answers.specs.Turns.{turns_by, TellsTurns}
 use Rattle.yaml_round_answers.specs.declared.answer.yaml_c_answer.{yaml_c_answer}
 use Rattle.yaml_round_answers.specs.Told.{TellsText, TellsFault}
 

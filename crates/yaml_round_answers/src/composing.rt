@@ -5,9 +5,10 @@ ghost use Rattle.yaml_round_answers.specs.Told.{AnswersMeant};
 ghost use Rattle.yaml_round_answers.specs.Composes.{steps_meant, Composes, NoSpotUnmeant};
 
 use crate::answer::{misused, refused, said, yaml_c_answer};
+use crate::record::{yaml_c_spot, yaml_c_step};
+use crate::steps::{Composed, are_steps, compose_steps};
 use std::alloc::Global;
 use yaml_parse::{undefined_alias_fault, yaml_mark_t, yaml_memory_fault, yaml_origin_t};
-use yaml_round_nodes::{Composed, are_steps, compose_steps, yaml_c_spot, yaml_c_step};
 
 /// What events come to. The list is the caller's to free, where it has any item.
 #[repr(C)]

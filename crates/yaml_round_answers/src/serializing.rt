@@ -5,9 +5,11 @@ ghost use Rattle.yaml_round_answers.specs.Told.{AnswersMeant};
 ghost use Rattle.yaml_round_answers.specs.Serializes.{graph_meant, Serializes};
 
 use crate::answer::{misused, refused, said, yaml_c_answer};
+use crate::graph::is_graph;
+use crate::record::{yaml_c_graph, yaml_c_turn};
+use crate::turns::turns_of;
 use std::alloc::Global;
 use yaml_parse::{yaml_memory_fault, yaml_origin_t};
-use yaml_round_nodes::{is_graph, turns_of, yaml_c_graph, yaml_c_turn};
 
 /// The turns of a dump. The list is the caller's to free, where it has any item.
 #[repr(C)]

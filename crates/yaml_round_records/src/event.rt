@@ -14,11 +14,11 @@ use crate::number::{
 };
 use crate::record::{yaml_c_directive, yaml_c_event, yaml_c_span};
 use std::alloc::{AllocError, Global};
-use std::mem;
 use yaml_parse::{
     yaml_event_body_t, yaml_event_type_t, yaml_mapping_style_t, yaml_scalar_style_t,
     yaml_sequence_style_t, yaml_tag_directive_t, yaml_version_directive_t,
 };
+use yaml_scan_model::{moved, put_back, refilled, room_of};
 
 /// Texts that were let go, in whose room those of later events are put.
 #[derive(Drop)]
@@ -144,17 +144,11 @@ fn alias_of(alloc: Global, bytes: &[u8], given: &yaml_c_event) -> Option<yaml_ev
     }
 }
 
-// Inlined: some moves.
-#[inline(always)]
-fn moved(alloc: Global, text: &mut Vec<u8>) -> Vec<u8> {
-    mem::replace(text, Vec::new(alloc))
-}
-
 // Puts the rooms of an event's tag and value aside.
 fn put_aside(rooms: &mut Rooms, event: &mut yaml_event_body_t) {
     let tag = match event {
         yaml_event_body_t::Scalar { tag, value, .. } => {
-            rooms.value = moved(rooms.alloc, value);
+            rooms.value = moved(value);
             tag.take()
         }
         yaml_event_body_t::SequenceStart { tag, .. }
@@ -166,16 +160,6 @@ fn put_aside(rooms: &mut Rooms, event: &mut yaml_event_body_t) {
     }
 }
 
-// The room of a text that an event has, else one that is put aside.
-// Inlined: some moves.
-#[inline(always)]
-fn room_of(alloc: Global, text: &mut Option<Vec<u8>>, aside: &mut Vec<u8>) -> Vec<u8> {
-    match text.take() {
-        Some(room) => room,
-        None => moved(alloc, aside),
-    }
-}
-
 // A text in the room of another.
 // Out of line: what the room is told of its memory stands once.
 #[inline(never)]
@@ -184,8 +168,9 @@ fn put_text(room: &mut Vec<u8>, bytes: &[u8], span: yaml_c_span) -> Result<(), A
 {
     match text_within(bytes, span) {
         Some(text) => {
-            room.clear();
-            room.extend_from_slice(text)
+            let own = refilled(room, text, 0)?;
+            put_back(room, own);
+            Ok(())
         }
         None => Err(AllocError),
     }
@@ -236,9 +221,9 @@ fn put_other_scalar(
 {
     put_aside(rooms, event);
     let anchor = anchor_at(rooms.alloc, bytes, given)?;
-    let room = moved(rooms.alloc, &mut rooms.tag);
+    let room = moved(&mut rooms.tag);
     let tag = text_if(room, bytes, given.has_tag, given.tag)?;
-    let mut value = moved(rooms.alloc, &mut rooms.value);
+    let mut value = moved(&mut rooms.value);
     put_text(&mut value, bytes, given.value)?;
     *event = yaml_event_body_t::Scalar {
         anchor,
@@ -274,9 +259,9 @@ fn put_styled_scalar(
             style: how,
         } => {
             let anchor = anchor_at(rooms.alloc, bytes, given)?;
-            let room = room_of(rooms.alloc, held_tag, &mut rooms.tag);
+            let room = room_of(held_tag, &mut rooms.tag);
             let tag = text_if(room, bytes, given.has_tag, given.tag)?;
-            let mut value = moved(rooms.alloc, held_value);
+            let mut value = moved(held_value);
             put_text(&mut value, bytes, given.value)?;
             *name = anchor;
             *held_tag = tag;
@@ -322,7 +307,7 @@ fn put_styled_sequence(
 {
     put_aside(rooms, event);
     let anchor = anchor_at(rooms.alloc, bytes, given)?;
-    let room = moved(rooms.alloc, &mut rooms.tag);
+    let room = moved(&mut rooms.tag);
     let tag = text_if(room, bytes, given.has_tag, given.tag)?;
     *event = yaml_event_body_t::SequenceStart {
         anchor,
@@ -364,7 +349,7 @@ fn put_styled_mapping(
 {
     put_aside(rooms, event);
     let anchor = anchor_at(rooms.alloc, bytes, given)?;
-    let room = moved(rooms.alloc, &mut rooms.tag);
+    let room = moved(&mut rooms.tag);
     let tag = text_if(room, bytes, given.has_tag, given.tag)?;
     *event = yaml_event_body_t::MappingStart {
         anchor,

@@ -10,7 +10,7 @@ mod writing;
 
 pub use check::load_out;
 pub use lines::lines_of;
-pub use reload::{documents_of, written_documents};
+pub use reload::{documents_of, let_documents_go, written_documents};
 pub use text::{in_pretty_form, written};
 pub use writing::Form;
 pub use yaml_round_beginning::{Beginning, OpeningPosition};

@@ -79,6 +79,11 @@ pub fn documents_of(
     }
 }
 
+/// Lets loaded documents go. It is a call, so that no owner's proof writes out the drop of all that a document holds.
+pub fn let_documents_go(documents: VecDeque<yaml_document_t>) {
+    drop(documents);
+}
+
 // Writes the documents. True where all were taken; else the emitter keeps its fault.
 fn dump_all(emitter: &mut yaml_emitter_t, documents: &mut VecDeque<yaml_document_t>) -> bool
     requires stands { IsWithinStream emitter.old }

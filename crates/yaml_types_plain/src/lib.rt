@@ -1,7 +1,7 @@
 //! The plain types that all members have: libyaml's enums, directives, marks and located faults, with what is derived of them; bytes that are
-//! put behind a text, which has room for them and may be lifted out of its place meanwhile; and short texts, which are put so by few
-//! moves, and looked for in front of others. No must-fail edit stands here, so
-//! that all of this is proved once.
+//! put behind a text, which has room for them and may be lifted out of its place meanwhile; texts in the room of earlier ones; and short
+//! texts, which are put so by few moves, and looked for in front of others. No must-fail edit stands here, so that all of this is proved
+//! once.
 #![tactic(auto)]
 
 mod directive;
@@ -11,6 +11,7 @@ mod lifting;
 mod name;
 mod putting;
 mod record;
+mod refilling;
 mod standing;
 mod state;
 mod width;
@@ -26,6 +27,7 @@ pub use putting::{
     SHORT, is_short, put_between, put_each, put_many, put_near, put_short, put_sixteen,
 };
 pub use record::{yaml_mark_t, yaml_simple_key_t};
+pub use refilling::{followed, refilled, room_of};
 pub use standing::stands_in_front;
 pub use state::yaml_parser_state_t;
 pub use width::DEFAULT_WIDTH;

@@ -16,11 +16,11 @@ returns-in-Ok-true c =
 
 pub returns-in-Err-place_behind : goal.returns-in-Err-place_behind
 returns-in-Err-place_behind c =
-    not_told c.args.a_encoding c.args.a.now c.args.b_encoding c.args.b.now c.in-Ok.first.items c.in-Ok-documents_of.second.items c.same_documents.new.front c.in-Err-place_behind.fault
+    not_told c.args.a_encoding c.args.a.now c.args.b_encoding c.args.b.now c.in-Ok.first.items c.in-Ok-documents_of.second.items c.same_documents-answer.new.front c.in-Err-place_behind.fault
     c.in-Ok.ensures c.in-Ok-documents_of.ensures c.in-Err-place_behind.ensures
 
-pub returns : goal.returns
-returns c =
+pub returns-in-Ok-place_behind : goal.returns-in-Ok-place_behind
+returns-in-Ok-place_behind c =
     let parts = rw c.in-Ok-false.field-0-test at c.in-Ok-false.ensures in
-    parting_told c.args.a_encoding c.args.a.now c.args.b_encoding c.args.b.now c.in-Ok.first.items c.in-Ok-documents_of.second.items c.new-front.result c.same_documents.new.front
+    parting_told c.args.a_encoding c.args.a.now c.args.b_encoding c.args.b.now c.in-Ok.first.items c.in-Ok-documents_of.second.items c.new-front.result c.same_documents-answer.new.front
     c.in-Ok-place_behind.place c.in-Ok.ensures c.in-Ok-documents_of.ensures c.new-front.ensures parts c.in-Ok-place_behind.ensures

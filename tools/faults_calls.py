@@ -139,8 +139,8 @@ def reaches(line):
     found |= {name for name in ("answer", "fault_line", "call_number", "tokens") if name in line}
     found |= {mark for mark in MARKS if mark.encode() in text}
     found |= {(name, line["settings"][name]) for name in ("encoding", "canonical") if "settings" in line}
-    found |= {(event[0], event[-1]) for event in line.get("events", [])}
-    found |= {(node[0], node[-1]) for node in line.get("document", {}).get("nodes", [])}
+    found |= {(event[0], str(event[-1])) for event in line.get("events", [])}
+    found |= {(node[0], str(node[-1])) for node in line.get("document", {}).get("nodes", [])}
     if fault:
         found.add((fault["kind"], fault["origin"]))
     if line.get("from", "").startswith("utf16") or text[:2] in (b"\xff\xfe", b"\xfe\xff"):

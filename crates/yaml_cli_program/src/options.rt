@@ -5,10 +5,9 @@ use crate::version::VERSION;
 use clap::builder::ValueParser;
 use clap::{Arg, ArgAction, Command};
 use std::alloc::{AllocError, Global};
+use yaml_round_device::DEFAULT_LIMIT;
 
 const MOST_COLUMNS: i64 = 2_147_483_647;
-
-const MOST_BYTES: u64 = 1_099_511_627_776;
 
 // An argument is made in small steps of two calls or so: what a function costs to prove grows with the square of its calls.
 
@@ -22,7 +21,8 @@ fn parser_of<'a>(kind: Kind) -> ValueParser<'a> {
     match kind {
         Kind::Flag => ValueParser::Bool,
         Kind::Columns => ValueParser::Signed(0, MOST_COLUMNS),
-        Kind::Bytes => ValueParser::Unsigned(0, MOST_BYTES),
+        // No limit is set above the one that holds where none is set.
+        Kind::Bytes => ValueParser::Unsigned(0, DEFAULT_LIMIT),
         _ => ValueParser::String,
     }
 }

@@ -1,10 +1,11 @@
 //! Settings.
 
 ghost use Rattle.std.specs.Prelude.{◌≡◌, ◌<◌, pos, false};
+ghost use Rattle.yaml_types.specs.Indents.{default_indent};
 ghost use Rattle.yaml_types.specs.Widths.{default_width};
 ghost use Rattle.yaml_emit_sink.specs.Settings.{settled, settled_indent, settled_width, settled_break, settled_encoding, encoding_or};
 
-use yaml_types::{DEFAULT_WIDTH, yaml_break_t, yaml_encoding_t};
+use yaml_types::{DEFAULT_INDENT, DEFAULT_WIDTH, yaml_break_t, yaml_encoding_t};
 
 /// How the characters are spelled in bytes.
 #[derive(Clone, Copy)]
@@ -57,7 +58,7 @@ impl RequestedSettings {
     pub fn new() -> RequestedSettings
         ensures encoding { result.encoding ≡ yaml_encoding_t.YAML_ANY_ENCODING }
         ensures canonical { result.canonical ≡ false }
-        ensures indent { result.indent ≡ pos 2 }
+        ensures indent { result.indent ≡ pos default_indent }
         ensures width { result.width ≡ pos default_width }
         ensures unicode { result.unicode ≡ false }
         ensures line_break { result.line_break ≡ yaml_break_t.YAML_ANY_BREAK }
@@ -65,7 +66,7 @@ impl RequestedSettings {
         RequestedSettings {
             encoding: yaml_encoding_t::YAML_ANY_ENCODING,
             canonical: false,
-            indent: 2,
+            indent: DEFAULT_INDENT,
             width: DEFAULT_WIDTH,
             unicode: false,
             line_break: yaml_break_t::YAML_ANY_BREAK,

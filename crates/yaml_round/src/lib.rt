@@ -18,12 +18,12 @@ pub use run::yaml_run;
 pub use same::yaml_same;
 pub use yaml_round_compare::{yaml_difference_t, yaml_step_t};
 pub use yaml_round_device::{
-    yaml_command_t, yaml_device_fault_t, yaml_fault_line, yaml_form_t, yaml_input_t,
+    DEFAULT_LIMIT, yaml_command_t, yaml_device_fault_t, yaml_fault_line, yaml_form_t, yaml_input_t,
     yaml_output_encoding_t, yaml_output_t, yaml_read_all, yaml_run_fault_t, yaml_settings_t,
     yaml_std_input_t, yaml_std_output_t, yaml_write_all,
 };
 pub use yaml_round_writing::{yaml_adapter_t, yaml_side_t};
 pub use yaml_scan_model::{
-    DEFAULT_WIDTH, yaml_break_t, yaml_encoding_t, yaml_error_type_t, yaml_event_type_t,
-    yaml_fault_t, yaml_mark_t, yaml_origin_t,
+    DEFAULT_INDENT, DEFAULT_WIDTH, yaml_break_t, yaml_encoding_t, yaml_error_type_t,
+    yaml_event_type_t, yaml_fault_t, yaml_mark_t, yaml_origin_t,
 };

@@ -52,5 +52,5 @@ default_record = record {
   width = default_settings.width;
   unicode = pos 1;
   line_break = pos 2;
-  limit = 1099511627776;
+  limit = default_settings.limit;
 }

@@ -37,7 +37,7 @@ pub use scanning::{scanned_by, yaml_c_scanned};
 pub use serializing::{serialized_by, yaml_c_turns};
 pub use steps::{Composed, are_steps, compose_steps};
 pub use turns::turns_of;
-pub use yaml_round::DEFAULT_WIDTH;
+pub use yaml_round::{DEFAULT_INDENT, DEFAULT_LIMIT, DEFAULT_WIDTH};
 pub use yaml_round_records::{
     yaml_c_directive, yaml_c_event, yaml_c_level, yaml_c_mark, yaml_c_place, yaml_c_settings,
     yaml_c_span, yaml_c_stand, yaml_c_token,

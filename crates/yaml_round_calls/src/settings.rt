@@ -3,7 +3,7 @@
 ghost use Rattle.std.specs.Prelude.{◌≡◌, Some};
 ghost use Rattle.yaml_round_answers.specs.Settings.{settings_meant, default_record, default_settings};
 
-use yaml_round_answers::{DEFAULT_WIDTH, yaml_c_settings};
+use yaml_round_answers::{DEFAULT_INDENT, DEFAULT_LIMIT, DEFAULT_WIDTH, yaml_c_settings};
 
 /// Sets what `yaml_settings_t::new` has.
 pub fn defaults(settings: &mut yaml_c_settings)
@@ -14,10 +14,10 @@ pub fn defaults(settings: &mut yaml_c_settings)
     *settings = yaml_c_settings {
         encoding: 1,
         canonical: 1,
-        indent: 2,
+        indent: DEFAULT_INDENT,
         width: DEFAULT_WIDTH,
         unicode: 1,
         line_break: 2,
-        limit: 1_099_511_627_776,
+        limit: DEFAULT_LIMIT,
     };
 }

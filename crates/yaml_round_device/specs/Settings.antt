@@ -1,10 +1,14 @@
 -- The settings that are used where none are chosen.
-use Rattle.std.specs.Prelude.{pos, true}
+use Rattle.std.specs.Prelude.{ℕ, pos, true}
 use Rattle.yaml_types.specs.Widths.{default_width}
 use Rattle.yaml_types.specs.Indents.{default_indent}
 use Rattle.yaml_types.specs.declared.yaml_break_t.TheVariants.{YAML_LN_BREAK}
 use Rattle.yaml_round_device.specs.declared.settings.yaml_settings_t.{yaml_settings_t}
 use Rattle.yaml_round_device_plain.specs.declared.yaml_output_encoding_t.TheVariants.{Utf8}
+
+-- how many bytes an answer may have: 2 to the power of 40
+abbrev pub default_limit : ℕ
+default_limit = 1099511627776
 
 abbrev pub default_settings : yaml_settings_t
 default_settings = record {
@@ -14,5 +18,5 @@ default_settings = record {
   width = pos default_width;
   unicode = true;
   line_break = YAML_LN_BREAK;
-  limit = 1099511627776;
+  limit = default_limit;
 }

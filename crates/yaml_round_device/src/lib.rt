@@ -10,7 +10,7 @@ mod write_all;
 
 pub use fault_line::yaml_fault_line;
 pub use read_all::yaml_read_all;
-pub use settings::yaml_settings_t;
+pub use settings::{DEFAULT_LIMIT, yaml_settings_t};
 pub use std_device::{yaml_std_input_t, yaml_std_output_t};
 pub use write_all::yaml_write_all;
 pub use yaml_round_device_plain::{

@@ -3,7 +3,10 @@
 ghost use Rattle.std.specs.Prelude.{◌≡◌};
 
 use yaml_round_device_plain::yaml_output_encoding_t;
-use yaml_types::{DEFAULT_WIDTH, yaml_break_t};
+use yaml_types::{DEFAULT_INDENT, DEFAULT_WIDTH, yaml_break_t};
+
+/// How many bytes an answer may have, where nobody set another number: 2 to the power of 40.
+pub const DEFAULT_LIMIT: u64 = 1_099_511_627_776;
 
 /// How a text is written.
 #[derive(Clone, Copy, PartialEq, Eq, Debug)]
@@ -34,11 +37,11 @@ impl yaml_settings_t {
         yaml_settings_t {
             encoding: yaml_output_encoding_t::Utf8,
             canonical: true,
-            indent: 2,
+            indent: DEFAULT_INDENT,
             width: DEFAULT_WIDTH,
             unicode: true,
             line_break: yaml_break_t::YAML_LN_BREAK,
-            limit: 1_099_511_627_776,
+            limit: DEFAULT_LIMIT,
         }
     }
 }

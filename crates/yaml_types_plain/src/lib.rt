@@ -7,6 +7,7 @@
 mod directive;
 mod event_name;
 mod fault;
+mod indent;
 mod lifting;
 mod name;
 mod putting;
@@ -21,6 +22,7 @@ pub use event_name::{
     yaml_break_t, yaml_event_type_t, yaml_mapping_style_t, yaml_node_type_t, yaml_sequence_style_t,
 };
 pub use fault::{yaml_fault_t, yaml_origin_t};
+pub use indent::DEFAULT_INDENT;
 pub use lifting::{moved, put_back, with_room};
 pub use name::{yaml_encoding_t, yaml_error_type_t, yaml_scalar_style_t, yaml_token_type_t};
 pub use putting::{

@@ -8,10 +8,7 @@ use Rattle.yaml_scan_history.proofs.PlainLemmas.{spot_break, spot_blank, spot_en
 use Rattle.yaml_round_laws_inputs.proofs.Whites.{byte_cases, lf_width, crlf_width}
 use Rattle.yaml_scan_history.proofs.MarksLemmas.{no_break_between, column_more, within}
 use Rattle.yaml_scan_history.specs.declared.kind.Kind.TheVariants as kinds
-
--- no word more: what is left ends at the place
-abbrev pub none_to : ℕ → Bool → Words
-none_to place broke = record { pieces = []; end = place; place = place; broke = broke }
+use Rattle.yaml_emit_laws_pretty.proofs.Standing.{none_to}
 
 -- what holds where a plain scalar ends
 pub record Stops (flow : Bool) (text : List ℕ) (p : ℕ) : Type 0 where

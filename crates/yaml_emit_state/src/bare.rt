@@ -1,5 +1,6 @@
 //! Bare scalars, in pretty form: short tame texts without properties, which are plain wherever they stand.
 ghost use Rattle.std.specs.Prelude.{◌≡◌, ◌≤◌, ◌+◌, None, Some, true, false, nat_le, length, IsUtf8};
+ghost use Rattle.yaml_types.specs.Ascii as ascii;
 ghost use Rattle.yaml_parse_model.specs.Events.{text_of, body_of};
 ghost use Rattle.yaml_emit_text.specs.Sink.{Puts};
 ghost use Rattle.yaml_emit_text.specs.Tame.{IsTame, asks_plain};
@@ -157,7 +158,8 @@ fn put_simple_value(sink: &mut Sink, settings: &Settings, position: NodePosition
     requires utf8 { IsUtf8 value.now }
     requires tame { IsTame value.now }
     requires shallow { nat_le (deeper settings.now position.around) 2147483647 ≡ true }
-    ensures { Puts sink.old sink.new (char 58 ▹ bare_text settings.now position value.now) }
+    ensures { Puts sink.old sink.new
+        (char ascii.colon ▹ bare_text settings.now position value.now) }
 {
     if fits(sink, settings.width, 2, value) {
         put_led(sink, b':', value);
@@ -172,7 +174,8 @@ fn put_simple_value(sink: &mut Sink, settings: &Settings, position: NodePosition
 fn put_item_far(sink: &mut Sink, settings: &Settings, position: NodePosition, value: &[u8])
     requires utf8 { IsUtf8 value.now }
     requires tame { IsTame value.now }
-    ensures { Puts sink.old sink.new (indicator 45 ▹ bare_text settings.now position value.now) }
+    ensures { Puts sink.old sink.new
+        (indicator ascii.hyphen ▹ bare_text settings.now position value.now) }
 {
     sink.put_indicator('-');
     put_rest(sink, settings, position, value);
@@ -185,7 +188,8 @@ fn put_item(sink: &mut Sink, settings: &Settings, position: NodePosition, value:
     requires utf8 { IsUtf8 value.now }
     requires tame { IsTame value.now }
     requires shallow { nat_le (deeper settings.now position.around) 2147483647 ≡ true }
-    ensures { Puts sink.old sink.new (indicator 45 ▹ bare_text settings.now position value.now) }
+    ensures { Puts sink.old sink.new
+        (indicator ascii.hyphen ▹ bare_text settings.now position value.now) }
 {
     if is_there(sink, settings, 2, value) {
         put_led(sink, b'-', value);
@@ -227,7 +231,8 @@ fn put_next_far(
     requires utf8 { IsUtf8 value.now }
     requires tame { IsTame value.now }
     ensures { Puts sink.old sink.new
-        (char 44 ▹ (wrap_at settings.now indent ▹ bare_text settings.now position value.now)) }
+        (char ascii.comma ▹ (wrap_at settings.now indent
+        ▹ bare_text settings.now position value.now)) }
 {
     sink.put(',');
     sink.put_wrap(settings.width, settings.line_break, indent);
@@ -242,7 +247,8 @@ fn put_next(sink: &mut Sink, settings: &Settings, position: NodePosition, indent
     requires tame { IsTame value.now }
     requires shallow { nat_le (deeper settings.now position.around) 2147483647 ≡ true }
     ensures { Puts sink.old sink.new
-        (char 44 ▹ (wrap_at settings.now indent ▹ bare_text settings.now position value.now)) }
+        (char ascii.comma ▹ (wrap_at settings.now indent
+        ▹ bare_text settings.now position value.now)) }
 {
     if fits(sink, settings.width, 2, value) {
         put_led(sink, b',', value);
@@ -282,7 +288,7 @@ fn put_block_item(sink: &mut Sink, settings: &Settings, indent: u64, value: &[u8
     requires utf8 { IsUtf8 value.now }
     requires tame { IsTame value.now }
     requires shallow { nat_le (indent + settings.now.indent) 2147483647 ≡ true }
-    ensures { Puts sink.old sink.new (line_at settings.now indent ▹ (indicator 45
+    ensures { Puts sink.old sink.new (line_at settings.now indent ▹ (indicator ascii.hyphen
         ▹ bare_text settings.now (position false indent part.Item) value.now)) }
 {
     let position = position_in(false, indent, Part::Item);

@@ -1,6 +1,7 @@
 -- Bytes of a tag or a value that are added as they are.
 use Rattle.std.specs.Prelude.{◌≡◌, ◌≤◌, ℕ, zero, suc, ◌+◌, Bool, true, not, ◌&&◌, ◌==◌, nat_lt, List, length, slice_index, Option, None, Some}
 use Rattle.yaml_scan_model.specs.Ascii as ascii
+use Rattle.yaml_scan_model.specs.Ends.{most_short}
 use Rattle.yaml_round_lines.specs.EventLine.{escaped}
 
 -- it stands behind the control characters that are escaped, and is no backslash
@@ -14,7 +15,7 @@ kept_run (suc n) text p = kept_run n text p && is_kept (slice_index text (p + n)
 
 -- it is short, and added as it is
 abbrev pub IsPlain : List ℕ → Type 0
-IsPlain text = (length text ≤ 32) × (escaped text ≡ text)
+IsPlain text = (length text ≤ most_short) × (escaped text ≡ text)
 
 -- there is none, or it is such
 abbrev pub IsPlainGiven : Option (List ℕ) → Type 0

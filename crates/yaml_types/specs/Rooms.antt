@@ -1,11 +1,12 @@
 -- How much room the texts have that are kept.
 use Rattle.std.specs.Prelude.{ℕ, ◌≤◌, List, length, map, All, vec_capacity}
 use Rattle.yaml_types.specs.declared.keeping.Spares.{Spares}
+use Rattle.yaml_types.specs.Bounds.{texts_kept, room_kept}
 
 -- the room of each text that is kept
 abbrev pub rooms_of : Spares → List ℕ
 rooms_of s = map (λ t. vec_capacity t.bytes) s.texts.items
 
--- At most 64 texts are kept, each with at most 256 bytes of room.
+-- few texts are kept, each with little room
 abbrev pub KeepsFew : List ℕ → Type 0
-KeepsFew rooms = (length rooms ≤ 64) × All (λ room. room ≤ 256) rooms
+KeepsFew rooms = (length rooms ≤ texts_kept) × All (λ room. room ≤ room_kept) rooms

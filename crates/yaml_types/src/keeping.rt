@@ -1,6 +1,7 @@
 //! Texts that were let go, whose room later ones take.
 
 ghost use Rattle.std.specs.Prelude.{◌≡◌, ◌≤◌, [], vec_capacity};
+ghost use Rattle.yaml_types.specs.Bounds.{texts_kept, room_kept};
 
 use std::alloc::Global;
 
@@ -14,14 +15,14 @@ const ROOM_KEPT: usize = 256;
 #[derive(Drop)]
 struct SpareText {
     bytes: Vec<u8>,
-    ghost small: { vec_capacity bytes ≤ 256 },
+    ghost small: { vec_capacity bytes ≤ room_kept },
 }
 
 /// The texts that were let go and are kept: at most 64, each with at most 256 bytes of room.
 #[derive(Drop)]
 pub struct Spares {
     texts: Vec<SpareText>,
-    ghost few: { vec_capacity texts ≤ 64 },
+    ghost few: { vec_capacity texts ≤ texts_kept },
 }
 
 impl Spares {

@@ -17,6 +17,10 @@ abbrev pub given_length : Option (Vec ℕ Global) → ℕ
 given_length None = 0
 given_length (Some text) = length text.items
 
+-- how many bytes a short text has at most
+abbrev pub most_short : ℕ
+most_short = 32
+
 -- there is none, or it is short
 abbrev pub IsShort : Option (Vec ℕ Global) → Type 0
-IsShort text = given_length text ≤ 32
+IsShort text = given_length text ≤ most_short

@@ -5,7 +5,7 @@ ghost use Rattle.yaml_parse_document.specs.Documents.{str_tag, seq_tag, map_tag}
 ghost use Rattle.yaml_parse_model.specs.Nodes.{tag_of};
 ghost use Rattle.yaml_emit_graph.specs.Graph.{is_text};
 
-use yaml_parse_model::yaml_node_tag_t;
+use yaml_parse_model::{YAML_MAP_TAG, YAML_SEQ_TAG, YAML_STR_TAG, yaml_node_tag_t};
 
 fn is_text(text: &[u8], other: &[u8]) -> bool
     ensures { result ≡ is_text text.now other.now }
@@ -23,7 +23,7 @@ pub fn is_str(tag: &yaml_node_tag_t) -> bool
         yaml_node_tag_t::Str => true,
         yaml_node_tag_t::Seq => false,
         yaml_node_tag_t::Map => false,
-        yaml_node_tag_t::Spelled { text } => is_text(text, b"tag:yaml.org,2002:str"),
+        yaml_node_tag_t::Spelled { text } => is_text(text, YAML_STR_TAG),
     }
 }
 
@@ -35,7 +35,7 @@ pub fn is_seq(tag: &yaml_node_tag_t) -> bool
         yaml_node_tag_t::Str => false,
         yaml_node_tag_t::Seq => true,
         yaml_node_tag_t::Map => false,
-        yaml_node_tag_t::Spelled { text } => is_text(text, b"tag:yaml.org,2002:seq"),
+        yaml_node_tag_t::Spelled { text } => is_text(text, YAML_SEQ_TAG),
     }
 }
 
@@ -47,6 +47,6 @@ pub fn is_map(tag: &yaml_node_tag_t) -> bool
         yaml_node_tag_t::Str => false,
         yaml_node_tag_t::Seq => false,
         yaml_node_tag_t::Map => true,
-        yaml_node_tag_t::Spelled { text } => is_text(text, b"tag:yaml.org,2002:map"),
+        yaml_node_tag_t::Spelled { text } => is_text(text, YAML_MAP_TAG),
     }
 }

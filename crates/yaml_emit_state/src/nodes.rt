@@ -25,6 +25,7 @@ use yaml_emit_text::{
     Page, Settings, Sink, Style, allowed_by, are_solid, put_opening_quote, put_quoted_inside,
     put_solid, put_styled, put_tame, taken, text,
 };
+use yaml_parse_model::{YAML_MAP_TAG, YAML_SEQ_TAG, YAML_STR_TAG};
 
 // Out of line: few registers are needed.
 #[inline(never)]
@@ -342,13 +343,7 @@ fn put_default_tag(
 fn put_str_tag(sink: &mut Sink, directives: &DirectiveTable)
     ensures { Puts sink.old sink.new (word (tag_spelling directives.now str_tag)) }
 {
-    put_default_tag(
-        sink,
-        directives,
-        b"tag:yaml.org,2002:str",
-        b"!!str",
-        b" !!str",
-    );
+    put_default_tag(sink, directives, YAML_STR_TAG, b"!!str", b" !!str");
 }
 
 // The tag of a sequence.
@@ -357,13 +352,7 @@ fn put_str_tag(sink: &mut Sink, directives: &DirectiveTable)
 fn put_seq_tag(sink: &mut Sink, directives: &DirectiveTable)
     ensures { Puts sink.old sink.new (word (tag_spelling directives.now seq_tag)) }
 {
-    put_default_tag(
-        sink,
-        directives,
-        b"tag:yaml.org,2002:seq",
-        b"!!seq",
-        b" !!seq",
-    );
+    put_default_tag(sink, directives, YAML_SEQ_TAG, b"!!seq", b" !!seq");
 }
 
 // The tag of a mapping.
@@ -372,13 +361,7 @@ fn put_seq_tag(sink: &mut Sink, directives: &DirectiveTable)
 fn put_map_tag(sink: &mut Sink, directives: &DirectiveTable)
     ensures { Puts sink.old sink.new (word (tag_spelling directives.now map_tag)) }
 {
-    put_default_tag(
-        sink,
-        directives,
-        b"tag:yaml.org,2002:map",
-        b"!!map",
-        b" !!map",
-    );
+    put_default_tag(sink, directives, YAML_MAP_TAG, b"!!map", b" !!map");
 }
 
 /// A text with the default tag and without an anchor, in canonical form.

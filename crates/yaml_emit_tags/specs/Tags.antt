@@ -1,8 +1,9 @@
 -- The spelling of tags.
-use Rattle.std.specs.Prelude.{ℕ, ◌+◌, Bool, true, false, not, ◌&&◌, ◌||◌, ◌==◌, nat_lt, nat_le, if◌then◌else◌, List, [], ◌∷◌, ◌++◌, length, take, drop, codes, Option, Some, None}
+use Rattle.std.specs.Prelude.{ℕ, ◌+◌, Bool, true, false, not, ◌&&◌, ◌||◌, ◌==◌, nat_lt, nat_le, if◌then◌else◌, List, [], ◌∷◌, ◌++◌, length, take, drop, Option, Some, None}
 use Rattle.std.specs.Str.{bytes_eq}
 use Rattle.yaml_scan_model.specs.Ascii as ascii
 use Rattle.yaml_parse_model.specs.Events.{TagDirective}
+use Rattle.yaml_parse_model.specs.Nodes.{secondary_prefix}
 use Rattle.yaml_emit_tags.specs.declared.split.SplitTag.{SplitTag}
 use Rattle.yaml_emit_tags.specs.declared.split.SplitTag.TheVariants as tagging
 use Rattle.yaml_emit_sink.specs.Hex.{hex_2}
@@ -30,7 +31,7 @@ primary = record { handle = ascii.exclamation ∷ []; prefix = ascii.exclamation
 abbrev pub secondary : TagDirective
 secondary = record {
   handle = ascii.exclamation ∷ ascii.exclamation ∷ [];
-  prefix = codes "tag:yaml.org,2002:";
+  prefix = secondary_prefix;
 }
 
 -- a handle that no directive defines stands for the start of a tag

@@ -3,6 +3,7 @@
 ghost use Rattle.std.specs.List.{list_all};
 ghost use Rattle.yaml_scan_model.specs.Ascii as ascii;
 ghost use Rattle.std.specs.Prelude.{◌≡◌, ◌<◌, ◌≤◌, ℕ, ◌+◌, ◌∷◌, [], ◌++◌, map, length, drop, true, false, not, ◌&&◌, ◌||◌, ◌==◌, if◌then◌else◌, Option, Some, None, codes};
+ghost use Rattle.yaml_parse_model.specs.Nodes.{secondary_prefix};
 ghost use Rattle.yaml_emit_sink.specs.Sink.{Puts};
 ghost use Rattle.yaml_emit_sink.specs.Layout.{◌▹◌, char, letters, gap, word};
 ghost use Rattle.yaml_emit_sink.specs.Hex.{hex_2};
@@ -12,6 +13,7 @@ use crate::prefixes::has_shorter_prefix;
 use crate::split::SplitTag;
 use crate::table::DirectiveTable;
 use yaml_emit_sink::{Sink, put_hex_2};
+use yaml_parse_model::SECONDARY_PREFIX;
 
 // 0-9 A-Z a-z _ - ; / ? : @ & = + $ . ~ * ' ( )
 #[tactic(auto, unfolding(crate::specs::Tags::suffix_keeps))]
@@ -115,9 +117,16 @@ fn stands_for_primary(directives: &DirectiveTable, tag: &[u8]) -> bool
 // Whether `!!` stands for `tag:yaml.org,2002:`, the start of a tag.
 fn stands_for_secondary(directives: &DirectiveTable, tag: &[u8]) -> bool
     ensures value { result ≡ stands_for directives.now secondary tag.now }
-    ensures inside { result ≡ true → 18 < length tag.now }
+    ensures inside { result ≡ true → length secondary_prefix < length tag.now }
 {
-    has_shorter_prefix(b"tag:yaml.org,2002:", tag) && !directives.defines_secondary()
+    has_shorter_prefix(SECONDARY_PREFIX, tag) && !directives.defines_secondary()
+}
+
+fn suffix_behind<'a>(prefix: &[u8], tag: &'a [u8]) -> &'a [u8]
+    requires { length prefix.now < length tag.now }
+    ensures { result.now ≡ drop (length prefix.now) tag.now }
+{
+    &tag[prefix.len()..]
 }
 
 // By the two handles that need no directive, where none defines them.
@@ -127,17 +136,10 @@ fn split_by_default<'a>(directives: &DirectiveTable, tag: &'a [u8]) -> SplitTag<
     if stands_for_primary(directives, tag) {
         SplitTag::Shorthand(b"!", &tag[1..])
     } else if stands_for_secondary(directives, tag) {
-        SplitTag::Shorthand(b"!!", &tag[18..])
+        SplitTag::Shorthand(b"!!", suffix_behind(SECONDARY_PREFIX, tag))
     } else {
         SplitTag::Verbatim(tag)
     }
-}
-
-fn suffix_behind<'a>(prefix: &[u8], tag: &'a [u8]) -> &'a [u8]
-    requires { length prefix.now < length tag.now }
-    ensures { result.now ≡ drop (length prefix.now) tag.now }
-{
-    &tag[prefix.len()..]
 }
 
 // By a document's directives, in order, and then the two handles that need none.
@@ -245,7 +247,7 @@ fn put_by_default(sink: &mut Sink, directives: &DirectiveTable, tag: &[u8])
     if stands_for_primary(directives, tag) {
         put_primary(sink, &tag[1..]);
     } else if stands_for_secondary(directives, tag) {
-        put_secondary(sink, &tag[18..]);
+        put_secondary(sink, suffix_behind(SECONDARY_PREFIX, tag));
     } else {
         put_verbatim(sink, tag);
     }

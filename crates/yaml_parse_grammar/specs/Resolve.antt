@@ -9,6 +9,7 @@ use Rattle.yaml_parse_model.specs.declared.yaml_scalar_style_t.TheVariants.{YAML
 use Rattle.yaml_parse_model.specs.Faults.{Fault}
 use Rattle.yaml_parse_model.specs.Events.{Event, EventBody, TagDirective}
 use Rattle.yaml_parse_model.specs.Events as event
+use Rattle.yaml_parse_model.specs.Nodes.{secondary_prefix}
 use Rattle.yaml_parse_grammar.specs.declared.problem.ParseProblem.TheVariants as problem
 use Rattle.yaml_parse_grammar.specs.Problems.{parser_fault}
 use Rattle.yaml_parse_grammar.specs.Items.{RawEvent, RawEventBody, Tag, Shape}
@@ -29,7 +30,7 @@ no_directives = record { version = None; tags = [] }
 abbrev pub default_prefix : List ℕ → Option (List ℕ)
 default_prefix handle =
     if bytes_eq handle (codes "!") then Some (codes "!")
-    else if bytes_eq handle (codes "!!") then Some (codes "tag:yaml.org,2002:")
+    else if bytes_eq handle (codes "!!") then Some secondary_prefix
     else None
 
 unfoldable pub directive_for : List ℕ → List TagDirective → Option (List ℕ)

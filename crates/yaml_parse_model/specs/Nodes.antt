@@ -32,6 +32,10 @@ body_of (body.Scalar style value) = scalar value style
 body_of (body.Sequence items style) = sequence items.items style
 body_of (body.Mapping pairs style) = mapping pairs.items style
 
+-- what `!!` stands for where no directive says it
+abbrev pub secondary_prefix : List ℕ
+secondary_prefix = codes "tag:yaml.org,2002:"
+
 -- the tags that nodes have by default
 abbrev pub str_tag : List ℕ
 str_tag = codes "tag:yaml.org,2002:str"

@@ -7,6 +7,7 @@ mod node;
 mod node_text;
 mod prefix;
 mod source;
+mod tags;
 mod text;
 
 pub use constructor::{
@@ -24,6 +25,7 @@ pub use node::{
 pub use node_text::yaml_node_text_t;
 pub use prefix::{yaml_parser_t_prefix, yaml_text_fault_t};
 pub use source::yaml_token_source_t;
+pub use tags::{SECONDARY_PREFIX, YAML_MAP_TAG, YAML_SEQ_TAG, YAML_STR_TAG};
 pub use text::{are_utf8, copy_directives, copy_text, copy_text_option, is_utf8_option};
 pub use yaml_scan_model::{
     mark_again, moved, yaml_encoding_t, yaml_error_type_t, yaml_fault_t, yaml_mapping_style_t,

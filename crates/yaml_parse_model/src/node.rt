@@ -4,6 +4,7 @@ ghost use Rattle.std.specs.Prelude.{◌≡◌};
 ghost use Rattle.yaml_parse_model.specs.Nodes.{type_of, node_of, tag_of};
 
 use crate::node_text::yaml_node_text_t;
+use crate::tags::{YAML_MAP_TAG, YAML_SEQ_TAG, YAML_STR_TAG};
 use yaml_scan_model::{
     yaml_mapping_style_t, yaml_mark_t, yaml_node_type_t, yaml_scalar_style_t, yaml_sequence_style_t,
 };
@@ -40,11 +41,11 @@ pub enum yaml_node_body_t {
 /// The tag of a node. The three that nodes have by default take no room.
 #[derive(Drop)]
 pub enum yaml_node_tag_t {
-    /// `tag:yaml.org,2002:str`, by default a scalar's.
+    /// `YAML_STR_TAG`, by default a scalar's.
     Str,
-    /// `tag:yaml.org,2002:seq`, by default a sequence's.
+    /// `YAML_SEQ_TAG`, by default a sequence's.
     Seq,
-    /// `tag:yaml.org,2002:map`, by default a mapping's.
+    /// `YAML_MAP_TAG`, by default a mapping's.
     Map,
     /// A tag that is spelled out, which may be one of these.
     Spelled { text: Vec<u8> },
@@ -56,9 +57,9 @@ impl yaml_node_tag_t {
         ensures { result.now ≡ tag_of self.now }
     {
         match self {
-            yaml_node_tag_t::Str => b"tag:yaml.org,2002:str",
-            yaml_node_tag_t::Seq => b"tag:yaml.org,2002:seq",
-            yaml_node_tag_t::Map => b"tag:yaml.org,2002:map",
+            yaml_node_tag_t::Str => YAML_STR_TAG,
+            yaml_node_tag_t::Seq => YAML_SEQ_TAG,
+            yaml_node_tag_t::Map => YAML_MAP_TAG,
             yaml_node_tag_t::Spelled { text } => text.as_slice(),
         }
     }

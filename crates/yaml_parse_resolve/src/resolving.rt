@@ -24,8 +24,9 @@ use std::alloc::{AllocError, Global};
 use yaml_parse_core::{Implied, Shape, Waiting};
 use yaml_parse_grammar::{ParseFault, ParseProblem};
 use yaml_parse_model::{
-    TokenSlot, copy_directives, mark_again, moved, yaml_event_body_t, yaml_event_t, yaml_fault_t,
-    yaml_mark_t, yaml_memory_fault, yaml_origin_t, yaml_version_directive_t,
+    SECONDARY_PREFIX, TokenSlot, copy_directives, mark_again, moved, yaml_event_body_t,
+    yaml_event_t, yaml_fault_t, yaml_mark_t, yaml_memory_fault, yaml_origin_t,
+    yaml_version_directive_t,
 };
 use yaml_scan_model::{followed, put_back, refilled};
 
@@ -85,7 +86,7 @@ fn find_default(handle: &[u8]) -> Option<&'static [u8]>
     if handle == b"!".as_slice() {
         Some(b"!".as_slice())
     } else if handle == b"!!".as_slice() {
-        Some(b"tag:yaml.org,2002:".as_slice())
+        Some(SECONDARY_PREFIX)
     } else {
         None
     }

@@ -5,6 +5,7 @@ use Rattle.yaml_round_content.specs.scan_model.declared.yaml_version_directive_t
 use Rattle.yaml_round_content.specs.scan_model.declared.yaml_scalar_style_t.{yaml_scalar_style_t}
 use Rattle.yaml_round_content.specs.scan_model.declared.yaml_scalar_style_t.TheVariants.{YAML_PLAIN_SCALAR_STYLE}
 use Rattle.yaml_round_content.specs.parse_model.Events.{TagDirective}
+use Rattle.yaml_round_content.specs.parse_model.Nodes.{secondary_prefix}
 use Rattle.yaml_round_content.specs.parse_grammar.declared.Wants.{Wants}
 use Rattle.yaml_round_content.specs.parse_grammar.declared.Brackets.TheVariants as brackets
 use Rattle.yaml_round_content.specs.parse_grammar.Items.{Properties, Tag}
@@ -17,7 +18,7 @@ use Rattle.yaml_round_content.specs.Said as content
 
 -- What a handle stands for: what its document's directive says, else `!!` for YAML's own tags, and `!` for itself.
 abbrev pub prefix_of : List TagDirective → List ℕ → List ℕ
-prefix_of [] handle = if bytes_eq handle (codes "!!") then codes "tag:yaml.org,2002:" else handle
+prefix_of [] handle = if bytes_eq handle (codes "!!") then secondary_prefix else handle
 prefix_of (d ∷ ds) handle = if bytes_eq d.handle handle then d.prefix else prefix_of ds handle
 
 -- the tag in full; a verbatim one has no handle

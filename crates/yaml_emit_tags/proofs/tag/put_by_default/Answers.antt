@@ -13,7 +13,7 @@ returns-then-stands_for_primary c =
 pub returns-then-stands_for_secondary : goal.returns-then-stands_for_secondary
 returns-then-stands_for_secondary c =
     let P : Split → Type 0 = λ z. Puts c.args.sink.now c.put_secondary.new.sink (word (spelled z)) in
-    subst P (by_secondary _ _ (sym c.stands_for_primary.ensures.value ∙ c.if-stands_for_primary.false) (sym c.stands_for_secondary.ensures.value ∙ c.if-stands_for_secondary.true)) (rw (rest_of_slice 18 c.args.tag.now) at c.put_secondary.ensures)
+    subst P (by_secondary _ _ (sym c.stands_for_primary.ensures.value ∙ c.if-stands_for_primary.false) (sym c.stands_for_secondary.ensures.value ∙ c.if-stands_for_secondary.true)) (rw c.suffix_behind.ensures at c.put_secondary.ensures)
 
 pub returns-else-stands_for_secondary : goal.returns-else-stands_for_secondary
 returns-else-stands_for_secondary c =

@@ -6,7 +6,7 @@ pub returns-then-stands_for_primary : goal.returns-then-stands_for_primary
 returns-then-stands_for_primary c = rw (rest_of_slice 1 c.args.tag.now) (by_primary _ _ (sym c.stands_for_primary.ensures.value ∙ c.if-stands_for_primary.true))
 
 pub returns-then-stands_for_secondary : goal.returns-then-stands_for_secondary
-returns-then-stands_for_secondary c = rw (rest_of_slice 18 c.args.tag.now) (by_secondary _ _ (sym c.stands_for_primary.ensures.value ∙ c.if-stands_for_primary.false) (sym c.stands_for_secondary.ensures.value ∙ c.if-stands_for_secondary.true))
+returns-then-stands_for_secondary c = rw c.suffix_behind.ensures (by_secondary _ _ (sym c.stands_for_primary.ensures.value ∙ c.if-stands_for_primary.false) (sym c.stands_for_secondary.ensures.value ∙ c.if-stands_for_secondary.true))
 
 pub returns-else-stands_for_secondary : goal.returns-else-stands_for_secondary
 returns-else-stands_for_secondary c = by_none _ _ (sym c.stands_for_primary.ensures.value ∙ c.if-stands_for_primary.false) (sym c.stands_for_secondary.ensures.value ∙ c.if-stands_for_secondary.false)

@@ -3,7 +3,7 @@
 
 use std::io::{ErrorKind, Result, Write};
 use std::process::ExitCode;
-use yaml_cli_main::yaml_main;
+use yaml_cli_main::{WRONG_WORDS, yaml_main};
 
 fn words_of(rt: &HostRuntime) -> Result<Vec<String>> {
     let words = std::env::args(rt)?.collect(rt.alloc())?;
@@ -25,7 +25,7 @@ fn wordless(rt: &HostRuntime, kind: ErrorKind) -> ExitCode {
     if kind == ErrorKind::InvalidData {
         let _ = writeln!(&mut rt.stderr(), "yaml_cli: a word isn't UTF-8");
     }
-    ExitCode::from(2)
+    ExitCode::from(WRONG_WORDS)
 }
 
 fn main(rt: HostRuntime) -> ExitCode {

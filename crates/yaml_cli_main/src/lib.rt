@@ -5,3 +5,4 @@ mod engine;
 mod program;
 
 pub use program::yaml_main;
+pub use yaml_cli_program::WRONG_WORDS;

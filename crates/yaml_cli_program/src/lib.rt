@@ -17,6 +17,6 @@ mod words;
 
 pub use engine::{Compared, Difference, Ended, Engine, Met, Parted, Side};
 pub use fault::INPUT_LIMIT;
-pub use order::{Judging, Manner, Measure, Question, Task};
+pub use order::{Judging, Manner, Measure, Question, Task, WRONG_WORDS};
 pub use places::{Step, push_step};
 pub use program::main_by;

@@ -5,7 +5,7 @@ use yaml_round_device::{yaml_command_t, yaml_output_encoding_t, yaml_settings_t}
 use yaml_types::{yaml_break_t, yaml_encoding_t};
 
 /// The status where the words are wrong.
-pub(crate) const WRONG_WORDS: u8 = 2;
+pub const WRONG_WORDS: u8 = 2;
 
 /// How inputs are read, and how a text is written.
 #[derive(Clone, Copy)]

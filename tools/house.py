@@ -6,6 +6,9 @@
                                statements; bodies of more than 40 lines
                                without `long` in the comment above; functions of more than 6 arguments, without `arguments`
                                there; laws that code calls; hints of inlining and reads that nothing uses, without a reason;
+                               in specs/ and clauses of src/ decimal codes of characters that yaml_types/specs/Ascii.antt
+                               names, beside `==`, `≡`, `≢`, `∷` or as arguments of `char`, `indicator`, `word`, without
+                               `number` in the comment above;
                                public items without a doc comment; lemmas that another crate brings in without a line of
                                comment, unless the statement is laws' names alone, which are commented where they stand;
                                a README.md of more than 150 lines, or that doesn't tell in its first 40 that comments are
@@ -22,6 +25,7 @@
                                look, since a name in them may mean another thing in each file
 """
 import collections
+import functools
 import glob
 import os
 import re
@@ -46,6 +50,10 @@ DATED = ("docs/MEASURED.md",)
 BARE = "Location|Place|Position|Seat|Site|Spot|Stage|Stand|Standing|Where"
 TYPE = re.compile(rf"^ *(?:(?:pub(?:\([a-z]+\))?|abbrev|opaque|unfoldable) )*(?:struct|enum|record|data) ({BARE})\b", re.M)
 ITEM = re.compile(r"\s*pub (?:fn|struct|enum|trait|const|extern|type)\b")
+# Where a clause of the code begins, and a name that a character's code has.
+CLAUSE = re.compile(r"\b(?:requires|ensures|ghost \w+)\b[^{};\n]*\{")
+CODE = re.compile(r"^(\w+) = (\d+)$", re.M)
+NAMED = "crates/yaml_types/specs/Ascii.antt"
 
 
 def files():
@@ -88,6 +96,33 @@ def unexplained(path, lines):
             yield f"{path}:{at + 1}: a read that nothing uses, without a reason"
         if ITEM.match(line) and not any(it.startswith("///") for it in above):
             yield f"{path}:{at + 1}: public, without a doc comment"
+
+
+def clauses_alone(text):
+    """The text of a file of code with all that is no clause as spaces."""
+    plain, found, at = repo.blanked(text), "", 0
+    for match in CLAUSE.finditer(plain):
+        if match.end() > at:
+            end = repo.closed(plain, match.end() - 1)
+            found += re.sub(r"[^\n]", " ", plain[at : match.end()]) + plain[match.end() : end]
+            at = end
+    return found + re.sub(r"[^\n]", " ", plain[at:])
+
+
+def is_code(before, behind):
+    """Whether a number stands for a character, by what is in front of it and behind it: compared or joined alone, or laid out."""
+    is_summed = re.search(r"[-+*/%^] $", before) or re.match(r" [-+*/%^]", behind)
+    return not is_summed and (re.search(r"(?:==|[≡≢∷]|\b(?:char|indicator|word)) $", before) or re.match(r" (?:==|[≡≢∷])", behind))
+
+
+def bare_codes(path, lines):
+    names = {code: name for name, code in reversed(CODE.findall(repo.read(NAMED))) if 9 <= int(code) <= 127}
+    text = clauses_alone("\n".join(lines)).split("\n") if path.endswith(".rt") else lines
+    for at, line in enumerate(text if path != NAMED else []):
+        plain = re.sub(r'"[^"]*"', '""', repo.bare(line))
+        for it in re.finditer(r"(?<![\w.'])\d+(?![\w.'])", plain):
+            if it[0] in names and is_code(plain[: it.start()], plain[it.end() :]) and "number" not in " ".join(comment_above(lines, at)):
+                yield f"{path}:{at + 1}: {it[0]}, which is ascii.{names[it[0]]}"
 
 
 def copies():
@@ -254,6 +289,7 @@ def main():
         wrong += [f"{path}: {len(lines) - 1} lines"] if len(lines) > 601 else []
         wrong += wide_statements(path, lines) if "/proofs/" in path else wide_lines(path, lines)
         wrong += unexplained(path, lines) if path.endswith(".rt") else []
+        wrong += [] if "/proofs/" in path else bare_codes(path, lines)
         wrong += silent_comments(path, lines)
     wrong += [*documents(), *wrong_functions(), *uncommented_lemmas(), *twice_named(), *bare_positions()]
     wrong += functions_twice_named()

@@ -1,8 +1,8 @@
 //! The lines of block scalars (YAML 1.1, sections 9.2.2 and 9.2.3).
 
-ghost use Rattle.std.specs.Prelude.{◌≡◌, ◌+◌, ◌-◌, ◌≤◌, ◌&&◌, ◌==◌, nat_lt, ℕ, suc, length, false};
+ghost use Rattle.std.specs.Prelude.{◌≡◌, ◌+◌, ◌-◌, ◌≤◌, ◌&&◌, ◌==◌, nat_lt, ℕ, suc, length};
 ghost use Rattle.yaml_scan_model.specs.Ascii as ascii;
-ghost use Rattle.yaml_scan_model.specs.Marks.{byte, break_width, column_at};
+ghost use Rattle.yaml_scan_model.specs.Marks.{byte, column_at};
 ghost use Rattle.yaml_scan_block.specs.Lines as spec;
 ghost use Rattle.yaml_scan_block.specs.Block.{block_with};
 ghost use Rattle.yaml_scan_block.specs.Readings.{LineSteps, ReadsLines};
@@ -96,22 +96,6 @@ fn behind(
         reader.skip_break();
         return Ok(true);
     }
-    text_behind(reader, stacking, column, start)
-}
-
-/// Takes the text that stands behind the indentation, if it stands at the column.
-fn text_behind(
-    reader: &mut Reader,
-    stacking: &mut Stacking,
-    column: u64,
-    start: yaml_mark_t,
-) -> Result<bool, ScanError>
-    requires tab { (byte reader.old.text reader.old.at == ascii.tab
-        && nat_lt (column_at reader.old.text reader.old.at) column) ≡ false }
-    requires no_break { break_width reader.old.text reader.old.at ≡ 0 }
-    ensures { (p : ℕ) → p ≤ reader.old.at → LineSteps reader.old.text start p stacking.old
-        stacking.new reader.new result (spec.spot_behind column reader.old.text reader.old.at) }
-{
     if reader.here() == 0 {
         return Ok(false);
     }

@@ -1,6 +1,6 @@
-use Rattle.std.proofs.Common.{refl, arith, ◌∙◌, sym, ◌≡◌, ◌<◌, ◌==◌, ◌&&◌, nat_lt, true, false}
-use Rattle.yaml_scan_block.proofs.Words.{err_from_is_err_and, byte, break_width, column_at, break_value, feed_some, past_break}
-use Rattle.yaml_scan_block.proofs.BlockLemmas.{tab_spot, empty_spot}
+use Rattle.std.proofs.Common.{refl, arith, ◌∙◌, sym, ◌≡◌, ◌≢◌, ◌<◌, ◌==◌, ◌&&◌, nat_lt, ap, true, false, length}
+use Rattle.yaml_scan_block.proofs.Words.{err_from_is_err_and, byte, break_width, column_at, break_value, feed_some, is_text, past-le, past_break, within}
+use Rattle.yaml_scan_block.proofs.BlockLemmas.{tab_spot, empty_spot, end_spot, text_spot, stop_end, stop_short, no_stop, text_long}
 use Rattle.yaml_scan_block.proofs.lines.behind.Goals as goal
 
 pub returns-then-is_tab_before : goal.returns-then-is_tab_before
@@ -30,11 +30,58 @@ returns-then-break_width-gt0 c = λ p le.
     let same = rw v at c.in_ok-empty.ensures in
     rw (empty_spot c.args.column text q t some) (c.skip_break.ensures, same, omega (arith, le), omega (arith, past.inside, le))
 
-pub text_behind-requires-clause-tab : goal.text_behind-requires-clause-tab
-text_behind-requires-clause-tab c = sym c.is_tab_before.ensures ∙ c.if-is_tab_before.false
+pub returns-then-here-eq0 : goal.returns-then-here-eq0
+returns-then-here-eq0 c = λ p le.
+    let text = c.args.reader.now.text in
+    let q = c.args.reader.now.at in
+    let t : (byte text q == 9 && nat_lt (column_at text q) c.args.column) ≡ false = sym c.is_tab_before.ensures ∙ c.if-is_tab_before.false in
+    let z : break_width text q ≡ 0 = omega (arith, c.break_width.ensures, c.if-break_width-gt0.false) in
+    let b : c.here.result ≡ byte text q = c.here.ensures in
+    let nul : byte text q ≡ 0 = omega (arith, b, c.if-here-eq0.true) in
+    rw (end_spot c.args.column text q t z (stop_end _ _ _ nul)) (refl, refl)
 
-pub text_behind-requires-clause-no_break : goal.text_behind-requires-clause-no_break
-text_behind-requires-clause-no_break c = omega (arith, c.break_width.ensures, c.if-break_width-gt0.false)
+pub returns-then-mark-column : goal.returns-then-mark-column
+returns-then-mark-column c = λ p le.
+    let text = c.args.reader.now.text in
+    let q = c.args.reader.now.at in
+    let t : (byte text q == 9 && nat_lt (column_at text q) c.args.column) ≡ false = sym c.is_tab_before.ensures ∙ c.if-is_tab_before.false in
+    let z : break_width text q ≡ 0 = omega (arith, c.break_width.ensures, c.if-break_width-gt0.false) in
+    let m : c.mark-2.result.column ≡ column_at text q = ap (λ k. k.column) c.mark-2.ensures in
+    let col : column_at text q ≢ c.args.column = omega (arith, m, c.if-mark-column.true) in
+    rw (end_spot c.args.column text q t z (stop_short _ _ _ col)) (refl, refl)
+
+pub returns-in_err-line : goal.returns-in_err-line
+returns-in_err-line c = λ p le.
+    let text = c.args.reader.now.text in
+    let q = c.args.reader.now.at in
+    let t : (byte text q == 9 && nat_lt (column_at text q) c.args.column) ≡ false = sym c.is_tab_before.ensures ∙ c.if-is_tab_before.false in
+    let z : break_width text q ≡ 0 = omega (arith, c.break_width.ensures, c.if-break_width-gt0.false) in
+    let b : c.here.result ≡ byte text q = c.here.ensures in
+    let nul : byte text q ≢ 0 = omega (arith, b, c.if-here-eq0.false) in
+    let m : c.mark-2.result.column ≡ column_at text q = ap (λ k. k.column) c.mark-2.ensures in
+    let col : column_at text q ≡ c.args.column = omega (arith, m, c.if-mark-column.false) in
+    let e = err_from_is_err_and c.from_residual-in_err-line.result c.from_residual-in_err-line.ensures.1 in
+    rw (e.1, e.2, text_spot c.args.column text q t z (no_stop _ _ _ nul col)) tt
+
+pub since-requires : goal.since-requires
+since-requires c =
+    let le = past-le is_text (length c.args.reader.now.text) c.args.reader.now.text c.args.reader.now.at in
+    rw (c.skip_text.ensures, c.place-from.ensures) le
 
 pub returns : goal.returns
-returns c = c.text_behind.ensures
+returns c = λ p le.
+    let text = c.args.reader.now.text in
+    let q = c.args.reader.now.at in
+    let t : (byte text q == 9 && nat_lt (column_at text q) c.args.column) ≡ false = sym c.is_tab_before.ensures ∙ c.if-is_tab_before.false in
+    let z : break_width text q ≡ 0 = omega (arith, c.break_width.ensures, c.if-break_width-gt0.false) in
+    let b : c.here.result ≡ byte text q = c.here.ensures in
+    let nul : byte text q ≢ 0 = omega (arith, b, c.if-here-eq0.false) in
+    let m : c.mark-2.result.column ≡ column_at text q = ap (λ k. k.column) c.mark-2.ensures in
+    let col : column_at text q ≡ c.args.column = omega (arith, m, c.if-mark-column.false) in
+    let w = text_spot c.args.column text q t z (no_stop _ _ _ nul col) in
+    let f = rw c.skip_text.ensures at c.feed-2.ensures in
+    let v = rw (c.skip_text.ensures, c.place-from.ensures) at c.since.ensures in
+    let l = rw (f, v) at c.in_ok-line.ensures in
+    let place = rw c.skip_text.ensures at c.skip_last_break.ensures in
+    let long = text_long text q nul z in
+    rw w (place, l, omega (arith, le, long), omega (arith, le, within text q (omega (arith, nul))))

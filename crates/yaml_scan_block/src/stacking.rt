@@ -98,7 +98,7 @@ impl Stacking {
         let feed = self.feed;
         let empties = self.empties;
         let mut done = self.done;
-        let (first, second) = ending(chomp, any, feed.as_slice(), empties.as_slice());
+        let (first, second) = kept_breaks(chomp, any, feed.as_slice(), empties.as_slice());
         put_both(&mut done, first, second)?;
         Ok(done)
     }
@@ -131,7 +131,12 @@ fn lead<'a>(any: bool, joins: bool, feed: &'a [u8], empties: &[u8]) -> &'a [u8]
 }
 
 /// What stays behind the last text: of its break, and of the empty lines.
-fn ending<'a>(chomp: Chomp, any: bool, feed: &'a [u8], empties: &'a [u8]) -> (&'a [u8], &'a [u8])
+fn kept_breaks<'a>(
+    chomp: Chomp,
+    any: bool,
+    feed: &'a [u8],
+    empties: &'a [u8],
+) -> (&'a [u8], &'a [u8])
     ensures { result.0.now ++ result.1.now
         ≡ spec.at_end chomp (if any then feed.now else []) empties.now }
 {

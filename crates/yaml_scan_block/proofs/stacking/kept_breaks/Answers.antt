@@ -1,5 +1,5 @@
 use Rattle.std.proofs.Common.{append-nil, refl}
-use Rattle.yaml_scan_block.proofs.stacking.ending.Goals as goal
+use Rattle.yaml_scan_block.proofs.stacking.kept_breaks.Goals as goal
 
 pub returns-in-Strip : goal.returns-in-Strip
 returns-in-Strip c = rw c.in-Strip.is refl

@@ -212,22 +212,22 @@ fn put_suffix(sink: &mut Sink, suffix: &[u8])
 }
 
 // The same, where it isn't that of a text: of a sequence and a mapping the bytes are known too.
-#[tactic(auto, using(crate::proofs::Known::map_suffix, crate::proofs::Known::seq_suffix))]
 fn put_other_suffix(sink: &mut Sink, suffix: &[u8])
     ensures { Puts sink.old sink.new
         (word (spelled (shorthand (ascii.exclamation ∷ ascii.exclamation ∷ []) suffix.now))) }
 {
     if is_same(suffix, b"map") {
         sink.put_known_word(b"!!map", b" !!map");
-    } else if is_same(suffix, b"seq") {
-        sink.put_known_word(b"!!seq", b" !!seq");
-    } else {
-        put_suffix(sink, suffix);
+        return;
     }
+    if is_same(suffix, b"seq") {
+        sink.put_known_word(b"!!seq", b" !!seq");
+        return;
+    }
+    put_suffix(sink, suffix);
 }
 
 // The same of every suffix.
-#[tactic(auto, using(crate::proofs::Known::str_suffix))]
 fn put_secondary(sink: &mut Sink, suffix: &[u8])
     ensures { Puts sink.old sink.new
         (word (spelled (shorthand (ascii.exclamation ∷ ascii.exclamation ∷ []) suffix.now))) }

@@ -11,7 +11,7 @@ ghost use Rattle.yaml_emit_text.specs.Quoted.{first};
 ghost use Rattle.yaml_emit_text.specs.Style.{is_blank};
 ghost use Rattle.yaml_emit_text.specs.Scalars.{value_break, cut, behind_breaks, adds_break, cuts_block, line_blank, block_text, block_char, block_body, ends_in_break, chomp_of, chomp, chomp_mark, digit_char, digit_mark, block_header, block};
 
-use crate::flow::{put_cut, put_line_if, put_new_line_if, put_value_break};
+use crate::flow::{put_breaks, put_cut, put_line_if};
 use crate::letters::{first, is_break, split_first, split_last};
 use crate::page::{Chomp, Page};
 use crate::quoted::put_if;
@@ -79,20 +79,13 @@ fn put_block_char(sink: &mut Sink, page: Page, folded: bool, behind: Behind, c: 
     ensures { Puts sink.old sink.new
         (block_char page folded behind.blank behind.last c (chars rest.now)) }
 {
-    let Behind {
-        last: before,
-        blank,
-    } = behind;
-    let broken = is_break(before);
+    let before = behind.last;
+    let blank = behind.blank;
     if is_break(c) {
-        put_new_line_if(
-            sink,
-            adds_break(folded, blank, before, c, rest),
-            page.line_break,
-        );
-        put_value_break(sink, page.line_break, c);
+        let due = adds_break(folded, blank, before, c, rest);
+        put_breaks(sink, due, page.line_break, c);
     } else {
-        put_line_if(sink, broken, page);
+        put_line_if(sink, is_break(before), page);
         put_block_text(sink, page, cuts_block(folded, blank, before, c, rest), c);
     }
 }

@@ -78,16 +78,29 @@ fn put_text_char(sink: &mut Sink, page: Page, quote: bool, cuts: bool, c: char)
     }
 }
 
+// A break of a value, with one more in front where it is due.
+pub(crate) fn put_breaks(sink: &mut Sink, due: bool, line_break: LineBreak, c: char)
+    ensures { Puts sink.old sink.new (when due (new_line line_break) ▹ value_break line_break c) }
+{
+    put_new_line_if(sink, due, line_break);
+    put_value_break(sink, line_break, c);
+}
+
+// Whether a run of breaks begins with a line feed.
+fn begins_breaks(before: char, c: char) -> bool
+    ensures { result ≡ (c == ascii.line_feed && not (is_break before)) }
+{
+    c == '\n' && !is_break(before)
+}
+
 #[tactic(auto, unfolding(crate::specs::Scalars::flow_char))]
 fn put_flow_char(sink: &mut Sink, page: Page, quote: bool, before: char, c: char, rest: &str)
     ensures { Puts sink.old sink.new (flow_char page quote before c (chars rest.now)) }
 {
-    let broken = is_break(before);
     if is_break(c) {
-        put_new_line_if(sink, c == '\n' && !broken, page.line_break);
-        put_value_break(sink, page.line_break, c);
+        put_breaks(sink, begins_breaks(before, c), page.line_break, c);
     } else {
-        put_line_if(sink, broken, page);
+        put_line_if(sink, is_break(before), page);
         put_text_char(sink, page, quote, cuts_at(page, before, c, rest), c);
     }
 }

@@ -262,7 +262,13 @@ fn is_tame(value: &str, before: char, rest: &str) -> bool
     ensures space { result ≡ true → (before == ascii.space) ≡ false }
     ensures badly { result ≡ true → starts_badly (chars value.now) ≡ false }
 {
-    is_empty(rest) && before != ' ' && begins_well(first(value))
+    if !is_empty(rest) {
+        return false;
+    }
+    if before == ' ' {
+        return false;
+    }
+    begins_well(first(value))
 }
 
 // Out of line: the rare way beside the short one.

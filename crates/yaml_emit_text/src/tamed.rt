@@ -51,7 +51,13 @@ pub fn is_tame(value: &[u8]) -> bool
     if LINE < value.len() {
         return false;
     }
-    starts_well(value) && ends_well(value) && are_calm(value)
+    if !starts_well(value) {
+        return false;
+    }
+    if !ends_well(value) {
+        return false;
+    }
+    are_calm(value)
 }
 
 /// The styles that a value allows, by whether it is known to be tame: then these are all.

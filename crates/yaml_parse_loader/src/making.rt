@@ -20,7 +20,7 @@ use crate::nodes::{
 };
 use std::alloc::Global;
 use std::mem;
-use yaml_parse_document::{DocumentParts, MAX_ENTRIES, yaml_document_t};
+use yaml_parse_document::{DocumentParts, yaml_document_t};
 use yaml_parse_model::{
     mark_again, yaml_event_body_t, yaml_event_t, yaml_mapping_style_t, yaml_mark_t,
     yaml_node_body_t, yaml_node_pair_t, yaml_node_t, yaml_node_tag_t, yaml_node_text_t,
@@ -238,20 +238,20 @@ impl Making {
         self.take_whole()
     }
 
-    // A document begins; what was loaded before is let go.
+    // A document begins; what was loaded before is let go. Its directives are taken out.
     fn start(
         &mut self,
         version_directive: Option<yaml_version_directive_t>,
-        tag_directives: Vec<yaml_tag_directive_t>,
+        tag_directives: &mut Vec<yaml_tag_directive_t>,
         start_implicit: bool,
         start_mark: yaml_mark_t,
     )
         ensures { loading_of self.new ≡ started version_directive
-            (map directive_of tag_directives.items) start_implicit start_mark }
+            (map directive_of tag_directives.old.items) start_implicit start_mark }
     {
         self.begin_anew();
         self.parts.version_directive = version_directive;
-        self.parts.tag_directives = tag_directives;
+        mem::swap(&mut self.parts.tag_directives, tag_directives);
         self.parts.start_implicit = start_implicit;
         self.parts.start_mark = start_mark;
     }
@@ -276,11 +276,8 @@ impl Making {
             (text_of anchor) (node_of node)) × HasRoomForNode (loading_of self.old)) }
     {
         let count = self.parts.nodes.len();
-        if count >= MAX_ENTRIES {
-            return Err(yaml_text_fault_t::Memory);
-        }
-        let number = (count + 1) as i32;
         push_node(&mut self.parts.nodes, node)?;
+        let number = (count + 1) as i32;
         register(&mut self.anchors, anchor, number)?;
         attach(&mut self.levels, number)
     }
@@ -536,15 +533,13 @@ impl Making {
             (loading_of self.old)) start_mark.now
             (HasRoomFor (body_of body.old) (loading_of self.old)) result (loading_of self.new) }
     {
-        let alloc = self.parts.alloc;
         match body {
             yaml_event_body_t::DocumentStart {
                 version_directive,
                 tag_directives,
                 implicit,
             } => {
-                let directives = mem::replace(tag_directives, Vec::new(alloc));
-                self.start(*version_directive, directives, *implicit, *start_mark);
+                self.start(*version_directive, tag_directives, *implicit, *start_mark);
                 Fed::Taken
             }
             yaml_event_body_t::DocumentEnd { implicit } => {

@@ -79,6 +79,22 @@ fn same_dumps(first: &mut Dump, second: &mut Dump, front: &mut Front) -> Result<
     }
 }
 
+// Whether a dump is that of another document.
+fn is_dump_of(
+    alloc: Global,
+    first: &mut Dump,
+    other: yaml_document_t,
+    front: &mut Front,
+) -> Result<bool, AllocError>
+    requires { IsDump first.old }
+    ensures { Compares (dump_left first.old) (document_says other) front.old result front.new }
+{
+    match Dump::of(alloc, other) {
+        Err(refusal) => Err(refusal),
+        Ok(mut second) => same_dumps(first, &mut second, front),
+    }
+}
+
 // Whether two documents have the same dump.
 fn same_document(
     alloc: Global,
@@ -90,10 +106,7 @@ fn same_document(
 {
     match Dump::of(alloc, document) {
         Err(refusal) => Err(refusal),
-        Ok(mut first) => match Dump::of(alloc, other) {
-            Err(refusal) => Err(refusal),
-            Ok(mut second) => same_dumps(&mut first, &mut second, front),
-        },
+        Ok(mut first) => is_dump_of(alloc, &mut first, other, front),
     }
 }
 

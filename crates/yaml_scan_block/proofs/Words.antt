@@ -12,7 +12,7 @@ pub use Rattle.yaml_scan_block.specs.Readings.{FindsColumn, LineSteps, ReadsBloc
 pub use Rattle.yaml_scan_block.specs.Stacked.{stacked}
 unfoldable pub use Rattle.yaml_scan_block.specs.Stacked.{glued, stacked_with}
 pub use Rattle.yaml_scan_block.specs.Unbounded.{AreLinesFrom, Deepest, DeepestIs, DeepestIsOne, EndsBlockRun, LeadsTo, LinesAre, LinesAreOne, RunEndsOnce, RunsEnd, at_once, behind_blank, goes_on, has_tab, indent_at, stops}
-pub use Rattle.yaml_scan_block.specs.Value.{BlockLine, Empty, Words, behind_text, block_value, space_or, starts_blank, texts_of}
+pub use Rattle.yaml_scan_block.specs.Value.{BlockLine, Empty, Words, at_end, behind_text, block_value, space_or, starts_blank, texts_of}
 unfoldable pub use Rattle.yaml_scan_block.specs.Value.{between}
 pub use Rattle.yaml_scan_block.specs.declared.header.Chomp.{Chomp}
 pub use Rattle.yaml_scan_block.specs.declared.stacking.Stacking.{Stacking}

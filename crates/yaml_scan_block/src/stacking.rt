@@ -1,6 +1,6 @@
 //! The value of a block scalar, made from the front.
 
-ghost use Rattle.std.specs.Prelude.{◌≡◌, List, [], ◌∷◌, ◌++◌, ◌&&◌, not, false, true, OnOk, IfOk};
+ghost use Rattle.std.specs.Prelude.{◌≡◌, List, [], ◌∷◌, ◌++◌, ◌&&◌, not, false, true, if◌then◌else◌, OnOk, IfOk};
 ghost use Rattle.yaml_scan_block.specs.Value as spec;
 ghost use Rattle.yaml_scan_block.specs.Value.{BlockLine, Empty, Words, block_value};
 ghost use Rattle.yaml_scan_model.specs.Breaks.{is_feed};
@@ -66,20 +66,11 @@ impl Stacking {
         ensures done { OnOk result (self.new.done.items ≡ self.old.done.items ++ glue self.old
             blank) }
     {
-        if !self.any {
-            self.done.extend_from_slice(self.empties.as_slice())?;
-            return Ok(());
-        }
-        if !folds(self.folded, self.blank, blank, self.feed.as_slice()) {
-            self.done.extend_from_slice(self.feed.as_slice())?;
-            self.done.extend_from_slice(self.empties.as_slice())?;
-            return Ok(());
-        }
-        if self.empties.is_empty() {
-            self.done.push(b' ')?;
-            return Ok(());
-        }
-        self.done.extend_from_slice(self.empties.as_slice())?;
+        let feed = self.feed.as_slice();
+        let empties = self.empties.as_slice();
+        let joins = folds(self.folded, self.blank, blank, feed);
+        let first = lead(self.any, joins, feed, empties);
+        put_both(&mut self.done, first, empties)?;
         Ok(())
     }
 
@@ -107,24 +98,61 @@ impl Stacking {
         let feed = self.feed;
         let empties = self.empties;
         let mut done = self.done;
-        match chomp {
-            Chomp::Strip => Ok(done),
-            Chomp::Clip => {
-                if !any {
-                    return Ok(done);
-                }
-                done.extend_from_slice(feed.as_slice())?;
-                Ok(done)
+        let (first, second) = kept_breaks(chomp, any, feed.as_slice(), empties.as_slice());
+        put_both(&mut done, first, second)?;
+        Ok(done)
+    }
+}
+
+/// Both texts behind the others.
+fn put_both(done: &mut Vec<u8>, first: &[u8], second: &[u8]) -> Result<(), AllocError>
+    ensures { OnOk result (done.new.items ≡ done.old.items ++ (first.now ++ second.now)) }
+{
+    done.extend_from_slice(first)?;
+    done.extend_from_slice(second)?;
+    Ok(())
+}
+
+/// What stands before a text in front of the empty lines: the last text's break, or the space that it becomes.
+fn lead<'a>(any: bool, joins: bool, feed: &'a [u8], empties: &[u8]) -> &'a [u8]
+    ensures { result.now ++ empties.now ≡ (if any then (if joins then spec.space_or empties.now
+        else feed.now ++ empties.now) else empties.now) }
+{
+    if !any {
+        return &[];
+    }
+    if !joins {
+        return feed;
+    }
+    if empties.is_empty() {
+        return b" ";
+    }
+    &[]
+}
+
+/// What stays behind the last text: of its break, and of the empty lines.
+fn kept_breaks<'a>(
+    chomp: Chomp,
+    any: bool,
+    feed: &'a [u8],
+    empties: &'a [u8],
+) -> (&'a [u8], &'a [u8])
+    ensures { result.0.now ++ result.1.now
+        ≡ spec.at_end chomp (if any then feed.now else []) empties.now }
+{
+    match chomp {
+        Chomp::Strip => (&[], &[]),
+        Chomp::Clip => {
+            if !any {
+                return (&[], &[]);
             }
-            Chomp::Keep => {
-                if !any {
-                    done.extend_from_slice(empties.as_slice())?;
-                    return Ok(done);
-                }
-                done.extend_from_slice(feed.as_slice())?;
-                done.extend_from_slice(empties.as_slice())?;
-                Ok(done)
+            (feed, &[])
+        }
+        Chomp::Keep => {
+            if !any {
+                return (&[], empties);
             }
+            (feed, empties)
         }
     }
 }

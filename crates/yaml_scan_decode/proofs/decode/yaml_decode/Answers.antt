@@ -1,8 +1,10 @@
-use Rattle.std.proofs.Common.{◌≡◌, ◌∙◌, refl, sym, arith, inr}
+use Rattle.std.proofs.Common.{◌≡◌, ◌∙◌, refl, sym, ap, arith, inr}
+use Rattle.std.proofs.lemmas.Bool.{false≢true}
 use Rattle.yaml_scan_model.specs.Faults.{fault_of}
 use Rattle.yaml_scan_model.specs.declared.name.yaml_encoding_t.TheVariants.{YAML_UTF8_ENCODING}
 use Rattle.yaml_scan_characters.specs.Encodings.{encoding_of}
 use Rattle.yaml_scan_characters.proofs.CompleteLemmas.{encoding_utf8, checked_text, checked_offence, take_rest, decoded_spells}
+use Rattle.yaml_scan_decode.specs.DecodedText as text
 use Rattle.yaml_scan_decode.proofs.AnswerLemmas.{units_text, units_fault, units_spelled, units_unspelled, fault_unspelled}
 use Rattle.yaml_scan_decode.proofs.decode.yaml_decode.Goals as goal
 use Rattle.yaml_scan_decode.proofs.decode.yaml_decode.Goals.{In_default}
@@ -47,6 +49,24 @@ pub returns-in-YAML_UTF16BE_ENCODING-clause-unspelled :
 returns-in-YAML_UTF16BE_ENCODING-clause-unspelled c =
     units_unspelled _ _ _ _ _ (sym c.stream_encoding.ensures ∙ c.in-YAML_UTF16BE_ENCODING.is) (sym c.removed_mark_length-start.ensures.value) c.decode_units-in-YAML_UTF16BE_ENCODING.ensures.fault
 
+pub returns-in-YAML_UTF16LE_ENCODING-clause-held :
+    goal.returns-in-YAML_UTF16LE_ENCODING-clause-held
+returns-in-YAML_UTF16LE_ENCODING-clause-held c = rw (sym c.stream_encoding.ensures ∙ c.in-YAML_UTF16LE_ENCODING.is) c.decode_units.ensures.held
+
+pub returns-in-YAML_UTF16LE_ENCODING-clause-no_memory :
+    goal.returns-in-YAML_UTF16LE_ENCODING-clause-no_memory
+returns-in-YAML_UTF16LE_ENCODING-clause-no_memory c = λ same.
+    absurd (false≢true (sym (ap text.is_utf8 (sym c.stream_encoding.ensures ∙ c.in-YAML_UTF16LE_ENCODING.is)) ∙ ap text.is_utf8 same))
+
+pub returns-in-YAML_UTF16BE_ENCODING-clause-held :
+    goal.returns-in-YAML_UTF16BE_ENCODING-clause-held
+returns-in-YAML_UTF16BE_ENCODING-clause-held c = rw (sym c.stream_encoding.ensures ∙ c.in-YAML_UTF16BE_ENCODING.is) c.decode_units-in-YAML_UTF16BE_ENCODING.ensures.held
+
+pub returns-in-YAML_UTF16BE_ENCODING-clause-no_memory :
+    goal.returns-in-YAML_UTF16BE_ENCODING-clause-no_memory
+returns-in-YAML_UTF16BE_ENCODING-clause-no_memory c = λ same.
+    absurd (false≢true (sym (ap text.is_utf8 (sym c.stream_encoding.ensures ∙ c.in-YAML_UTF16BE_ENCODING.is)) ∙ ap text.is_utf8 same))
+
 -- in the last arm the bytes are UTF-8
 is_utf8 : (c : In_default) → encoding_of c.args.encoding c.args.input.now ≡ YAML_UTF8_ENCODING
 is_utf8 c = encoding_utf8 _ _ (λ x. c.in_default.not-YAML_UTF16LE_ENCODING (c.stream_encoding.ensures ∙ x)) (λ x. c.in_default.not-YAML_UTF16BE_ENCODING (c.stream_encoding.ensures ∙ x))
@@ -55,6 +75,9 @@ pub returns-in-Ok-clause-text : goal.returns-in-Ok-clause-text
 returns-in-Ok-clause-text c =
     let t = checked_text c.args.encoding c.args.input.now (λ k. omega (arith, c.type_inv.input k)) (is_utf8 (goal.at.returns-in-Ok-clause-text c).In_default) (rw c.removed_mark_length-start.ensures.value at (sym c.in-Ok.ensures)) in
     rw (take_rest c.args.input.now c.removed_mark_length-start.result, c.removed_mark_length-start.ensures.value) t
+
+pub returns-in-Ok-clause-held : goal.returns-in-Ok-clause-held
+returns-in-Ok-clause-held c = rw (is_utf8 (goal.at.returns-in-Ok-clause-held c).In_default) refl
 
 pub returns-in-Ok-clause-spelled : goal.returns-in-Ok-clause-spelled
 returns-in-Ok-clause-spelled c = decoded_spells _ _ _ (λ k. omega (arith, c.type_inv.input k)) (returns-in-Ok-clause-text c)

@@ -21,7 +21,8 @@ room (suc n ∷ t) zero d h e = absurd (cc)
 room (zero ∷ t) (suc k) d h e = let m = room t k d (omega arith) e in omega arith
 room (suc n ∷ t) (suc k) d h e = let m = room t k d (omega arith) e in omega arith
 
-counted_set : (t : List ℕ) (k n : ℕ) → get_or t k 1 ≡ 0
+-- one number more is set
+pub counted_set : (t : List ℕ) (k n : ℕ) → get_or t k 1 ≡ 0
     → counted (set t k (suc n)) ≡ suc (counted t)
 counted_set [] k n e = absurd (omega arith)
 counted_set (zero ∷ t) zero n e = refl
@@ -41,7 +42,8 @@ counted_next t k g r h is z e =
     let a : get_or t k 1 ≡ 0 = same_default t k 1 r h ∙ sym is ∙ z in
     rw add-one (ap suc e ∙ sym (counted_set t k g a))
 
-none_counted : (n : ℕ) → counted (replicate n 0) ≡ 0
+-- none is set at the beginning
+pub none_counted : (n : ℕ) → counted (replicate n 0) ≡ 0
 none_counted zero = refl
 none_counted (suc n) = none_counted n
 

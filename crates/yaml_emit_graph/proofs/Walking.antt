@@ -13,12 +13,14 @@ use Rattle.yaml_emit_graph.specs.Graph.{Met, place_at, met_at, meet_at, is_met, 
 use Rattle.yaml_emit_graph.specs.Onward.{Rest, over, inside, visits, nothing_left, turns_onward}
 use Rattle.yaml_emit_graph.specs.Walk.{pairs_left, left_of, NextChild, next_of_pair, rest_of, stack, stack_of, opened, frames, remaining_by, remaining_turns, marked, IsWalk, with_opened, Visited, Comes}
 
-visit_again : (n : ℕ) (nodes : List model.Node) (id : ℤ) (r : Rest) (met : Met)
+-- a node that was met is named again
+pub visit_again : (n : ℕ) (nodes : List model.Node) (id : ℤ) (r : Rest) (met : Met)
     → is_met met id ≡ true → visits (suc n) nodes id r met ≡ Again id ∷ r met
 unfolding visits
 visit_again n nodes id r met h = rw h refl
 
-visit_first : (n : ℕ) (nodes : List model.Node) (id : ℤ) (r : Rest) (met : Met)
+-- a node that was not met is written first
+pub visit_first : (n : ℕ) (nodes : List model.Node) (id : ℤ) (r : Rest) (met : Met)
     → is_met met id ≡ false
     → visits (suc n) nodes id r met ≡ First id
     ∷ inside (visits n nodes) id (body_of_id nodes id) r (meet met id)

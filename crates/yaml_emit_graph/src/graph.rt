@@ -11,13 +11,14 @@ ghost use Rattle.yaml_emit_graph.specs.Events.{remaining_events, IsEvents, Says,
 
 use crate::bracket::{Bracket, bracket_met};
 use crate::numbers::{Walked, number_of, walk_nodes};
+use crate::rooms::{Rooms, put_aside};
 use crate::tags::{is_map, is_seq, is_str};
 use crate::text::text_met;
 use crate::walk::Turn;
 use std::alloc::{AllocError, Global};
 use yaml_parse_document::{yaml_document_get_node, yaml_document_t};
 use yaml_parse_model::{
-    copy_directives, moved, yaml_event_body_t, yaml_node_body_t, yaml_node_t, yaml_node_tag_t,
+    copy_directives, yaml_event_body_t, yaml_node_body_t, yaml_node_t, yaml_node_tag_t,
 };
 use yaml_scan_model::{
     refilled, room_of, yaml_mapping_style_t, yaml_scalar_style_t, yaml_sequence_style_t,
@@ -91,30 +92,6 @@ fn copies(
     match copy_directives(alloc, directives) {
         Ok(copies) => Ok(copies),
         Err(_) => Err(AllocError),
-    }
-}
-
-/// Texts that were let go, in whose room those of later events are put.
-#[derive(Drop)]
-pub struct Rooms {
-    alloc: Global,
-    tag: Vec<u8>,
-    value: Vec<u8>,
-}
-
-// Puts the rooms of an event's tag and value aside.
-fn put_aside(rooms: &mut Rooms, event: &mut yaml_event_body_t) {
-    let tag = match event {
-        yaml_event_body_t::Scalar { tag, value, .. } => {
-            rooms.value = moved(value);
-            tag.take()
-        }
-        yaml_event_body_t::SequenceStart { tag, .. }
-        | yaml_event_body_t::MappingStart { tag, .. } => tag.take(),
-        _ => None,
-    };
-    if let Some(room) = tag {
-        rooms.tag = room;
     }
 }
 

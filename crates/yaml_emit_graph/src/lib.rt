@@ -4,6 +4,7 @@
 mod bracket;
 mod graph;
 mod numbers;
+mod rooms;
 mod tags;
 mod text;
 mod walk;
@@ -11,4 +12,5 @@ mod walk;
 pub use bracket::Bracket;
 pub use graph::Events;
 pub use numbers::{Numbers, Walked, number_of};
+pub use rooms::{Rooms, put_aside};
 pub use walk::{Turn, place_of};

@@ -2,6 +2,7 @@
 use Rattle.std.proofs.Common.{◌≡◌, ◌≢◌, ◌<◌, ◌≤◌, ◌==◌, ℕ, zero, suc, Bool, true, false, List, [], ◌∷◌, length, get_or, Option, Some, None, refl, sym, ap, subst, ◌∙◌, inl, inr, arith, set, replicate}
 use Rattle.yaml_emit_laws_dumps.proofs.Words.{cases_Bool, cases_eq, nat_tests, Turn, Again, place_at, Numbering, next_number, again_at, numbered_by, numbered, none_numbered, AreApart, MeetsAgain, NumbersAreApart, MetAgainAreNumbered}
 use Rattle.yaml_emit_graph.specs.Numbers.{counted}
+use Rattle.yaml_emit_graph.proofs.Counting.{counted_set, none_counted}
 
 -- ---- a list with one number set
 
@@ -182,18 +183,6 @@ counted_most : (t : List ℕ) → counted t ≤ length t
 counted_most [] = omega arith
 counted_most (zero ∷ t) = let e = counted_most t in omega (arith, e)
 counted_most (suc n ∷ t) = let e = counted_most t in omega (arith, e)
-
-counted_set : (t : List ℕ) (k n : ℕ) → get_or t k 1 ≡ 0
-    → counted (set t k (suc n)) ≡ suc (counted t)
-counted_set [] k n e = absurd (omega (arith, e))
-counted_set (zero ∷ t) zero n e = refl
-counted_set (suc m ∷ t) zero n e = absurd (omega (arith, e))
-counted_set (zero ∷ t) (suc k) n e = counted_set t k n e
-counted_set (suc m ∷ t) (suc k) n e = ap (λ i. suc i) (counted_set t k n e)
-
-none_counted : (n : ℕ) → counted (replicate n 0) ≡ 0
-none_counted zero = refl
-none_counted (suc n) = none_counted n
 
 abbrev Counts : Numbering → Type 0
 Counts s = s.given ≡ counted s.table

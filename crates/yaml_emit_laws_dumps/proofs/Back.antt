@@ -1,6 +1,6 @@
 -- Visits, written and numbered again.
-use Rattle.std.proofs.Common.{◌≡◌, ◌<◌, ◌≤◌, ◌+◌, ℕ, zero, suc, ℤ, pos, Bool, true, false, List, [], ◌∷◌, ◌++◌, length, map, take, Option, Some, Result, Ok, refl, sym, ap, subst, ◌∙◌, arith, append_assoc, append-nil, length-append, slice_get, if◌then◌else◌}
-use Rattle.yaml_emit_laws_dumps.proofs.Words.{slice_get_within, map-append, yaml_sequence_style_t, yaml_mapping_style_t, yaml_node_pair_t, Fault, Node, NodeBody, map_tag, seq_tag, str_tag, Head, Content, Contents, Numbered, ◌>>=◌, Anchored, and_node, alias_number, number, number_items, number_pairs, is_bang, loaded_tag, VisitsInPreorder, done, again, first, children, pair_numbers, is_flow_sequence, is_flow_mapping, Met, is_met, meet, number_at, name_of, anchor_of, body_at, tag_at, graph_scalar, graph_start, node_by, items_by, content_by, core_body, core_node, nowhere, head_of, as_content, as_contents, as_pairs, met_so, before_at, AgainsAre, IsNumbered, HasKind, AreLoadedNodes, NumbersBack, NamesAreFound, VisitsNumberBack}
+use Rattle.std.proofs.Common.{◌≡◌, ◌<◌, ◌≤◌, ◌+◌, ℕ, zero, suc, ℤ, pos, Bool, true, false, List, [], ◌∷◌, ◌++◌, length, map, take, Option, Some, Ok, refl, sym, ap, subst, ◌∙◌, arith, append_assoc, append-nil, length-append, slice_get, if◌then◌else◌}
+use Rattle.yaml_emit_laws_dumps.proofs.Words.{slice_get_within, map-append, yaml_sequence_style_t, yaml_mapping_style_t, yaml_node_pair_t, Node, NodeBody, map_tag, seq_tag, str_tag, Head, Content, Contents, Numbered, Anchored, and_node, alias_number, number, number_items, number_pairs, is_bang, loaded_tag, VisitsInPreorder, done, again, first, children, pair_numbers, is_flow_sequence, is_flow_mapping, Met, is_met, meet, number_at, name_of, anchor_of, body_at, tag_at, graph_scalar, graph_start, node_by, items_by, content_by, core_body, core_node, nowhere, head_of, as_content, as_contents, as_pairs, met_so, before_at, AgainsAre, IsNumbered, HasKind, AreLoadedNodes, NumbersBack, NamesAreFound, VisitsNumberBack}
 use Rattle.yaml_emit_graph.specs.emit_layout.parse_model.declared.yaml_scalar_style_t.{yaml_scalar_style_t}
 use Rattle.yaml_emit_graph.specs.emit_layout.parse_model.declared.yaml_scalar_style_t.TheVariants.{YAML_ANY_SCALAR_STYLE}
 use Rattle.yaml_emit_graph.specs.emit_layout.parse_model.declared.yaml_sequence_style_t.TheVariants.{YAML_ANY_SEQUENCE_STYLE}
@@ -64,10 +64,6 @@ none_visited nodes a b ids e _ = absurd (cc)
 
 tag_kept : (tag default : List ℕ) → is_bang tag ≡ false → loaded_tag (Some tag) default ≡ tag
 tag_kept tag default h = rw h refl
-
-then_ok : {A B : Type 0} (r : Result A Fault) (x : A) (f : A → Result B Fault) → r ≡ Ok x
-    → (r >>= f) ≡ f x
-then_ok r x f e = rw e refl
 
 sequence_gives : (h : Head) (implicit : Bool) (style : yaml_sequence_style_t) (items : Contents)
     (at : numbering.Span) (count : ℕ) (before : Anchored) (r : Numbered (List ℤ))

@@ -24,10 +24,6 @@ names_apart m n p q e = sym (named_value m p) ∙ ap (λ (bs : List ℕ). digits
 
 -- ---- what is found
 
-abbrev TellsTexts : Bool → List ℕ → List ℕ → Type 0
-TellsTexts true a b = a ≡ b
-TellsTexts false a b = a ≡ b → ⊥
-
 same_name : (a : List ℕ) → is_same a a ≡ true
 same_name a = sym (texts_ties a a) ∙ (bytes_decides a a).1 refl
 

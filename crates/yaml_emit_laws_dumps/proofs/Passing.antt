@@ -208,6 +208,7 @@ pub or_both : (p q : Option Problem) → or_else p q ≡ None → (p ≡ None) �
 or_both None q e = (refl, e)
 or_both (Some x) q e = absurd (cc)
 
+-- neither of two problems is there
 pub or_none : (p q : Option Problem) → p ≡ None → q ≡ None → or_else p q ≡ None
 or_none None q e f = f
 or_none (Some x) q e f = absurd (cc)

@@ -1,5 +1,5 @@
 -- What a call finds, as the next event.
-use Rattle.std.proofs.Common.{◌≡◌, ◌≤◌, ◌⊎◌, inl, inr, ℕ, List, [], ◌∷◌, Option, Some, None, Result, Ok, Err, IfOk, IfErr, refl, sym, subst, ap, ◌∙◌}
+use Rattle.std.proofs.Common.{◌≡◌, ◌≤◌, ◌⊎◌, ℕ, List, [], Option, Some, Result, Ok, Err, IfOk, IfErr, refl, sym, subst, ap, ◌∙◌}
 use Rattle.yaml_scan_model.specs.declared.yaml_fault_t.{yaml_fault_t}
 use Rattle.yaml_scan_model.specs.Faults.{Fault, fault_of, IsMemoryFault, scan_layers, parse_layers}
 use Rattle.yaml_parse_model.specs.declared.yaml_event_t.{yaml_event_t}
@@ -12,7 +12,7 @@ use Rattle.yaml_parse_step.specs.parse_grammar.Resolve.{Told}
 use Rattle.yaml_parse_step.specs.parse_grammar.Remaining.{ParserRemaining, IsFinished, GivesEvent, EventOf, FaultOf, next_unasked}
 use Rattle.yaml_parse_step.specs.parse_grammar.Stacks.{parts_documents_behind}
 use Rattle.yaml_parse_step.specs.Finds.{GivesNext, GivesEnd, Finds, IsUtf8Found, IsStackFound}
-use Rattle.yaml_parse_step.specs.Steps.{KeptOverTurns, IsTurnRefused, IsOver}
+use Rattle.yaml_parse_step.specs.Steps.{KeptOverTurns, IsTurnRefused}
 use Rattle.yaml_parse.specs.HandsOut.{HandsOut}
 
 -- behind turns that gave nothing
@@ -32,30 +32,6 @@ refused_behind f i o n m k t e =
       reason = subst (λ (x : List Told). IsMemoryFault parse_layers f ⊎ ((x ≡ []) × (i.ending ≡ Some f))) k.events (subst (λ (x : Option Fault). IsMemoryFault parse_layers f ⊎ ((o.events ≡ []) × (x ≡ Some f))) k.ending t.reason);
       unasked = subst (λ (x : ParserRemaining). IsMemoryFault parse_layers f ⊎ (x.unasked ≡ i.ending_unasked)) (sym e) (subst (λ (x : ℕ). IsMemoryFault parse_layers f ⊎ (n.unasked ≡ x)) k.ending_unasked t.unasked);
       asked = subst (λ (x : ParserRemaining). IsMemoryFault scan_layers f ⊎ (next_unasked i.events i.ending_unasked ≤ x.unasked)) (sym e) (subst (λ (x : List Told). IsMemoryFault scan_layers f ⊎ (next_unasked x i.ending_unasked ≤ n.unasked)) k.events (subst (λ (x : ℕ). IsMemoryFault scan_layers f ⊎ (next_unasked o.events x ≤ n.unasked)) k.ending_unasked t.asked));
-    }
-
--- no token was asked for where nothing is to come
-nothing_asked : (a b : ℕ) (c d : ℕ) (es : List Told) (f : Option Fault) → es ≡ [] → f ≡ None
-    → (((a ≡ b) × (c ≡ d)) ⊎ (es ≡ [] → f ≡ None → ⊥)) → (a ≡ b) × (c ≡ d)
-nothing_asked a b c d es f e g (inl same) = same
-nothing_asked a b c d es f e g (inr more) = absurd (more e g)
-
--- nothing is to come, and no turn asked for a token
-pub done_behind : (i o n : ParserRemaining) → KeptOverTurns i o → IsOver o n → GivesEnd i n
-done_behind i o n k t =
-    let events : i.events ≡ [] = sym k.events ∙ t.finished.events in
-    let ending : i.ending ≡ None = sym k.ending ∙ t.finished.ending in
-    let asked : (o.unasked ≡ i.unasked) × (o.held ≡ i.held) = nothing_asked o.unasked i.unasked o.held i.held i.events i.ending events ending k.unasked in
-    record {
-      events = events;
-      ending = ending;
-      nothing = record {
-        given = refl;
-        finished = subst IsFinished (sym t.same) t.finished;
-        unasked = ap (λ (x : ParserRemaining). x.unasked) t.same ∙ asked.0;
-        held = ap (λ (x : ParserRemaining). x.held) t.same ∙ asked.1;
-        answered = ap (λ (x : ParserRemaining). x.answered) t.same ∙ k.answered;
-      };
     }
 
 event_found : (e given : Event) (o n : ParserRemaining) → GivesNext e o n → given ≡ e

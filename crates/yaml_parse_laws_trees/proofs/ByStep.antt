@@ -1,9 +1,8 @@
 -- What a load gives, by the loader's steps: how it is proved.
 use Rattle.std.proofs.Common.{◌≡◌, ◌⊎◌, ℕ, List, [], ◌∷◌, Option, Some, None}
-use Rattle.yaml_parse_laws_trees.proofs.Words.{Fault, IsMemoryFault, Document, Told, ParserRemaining, Loading, LoadStep, goes_on, loaded, nothing_loaded, step, told_events, left_behind, AreFalling, load_layers, IsFinished, Loaded, GivesDocument, GivesNoDocument}
+use Rattle.yaml_parse_laws_trees.proofs.Words.{Fault, IsMemoryFault, Document, Told, ParserRemaining, Loading, LoadStep, goes_on, loaded, nothing_loaded, step, left_behind, AreFalling, load_layers, IsFinished, GivesDocument, GivesNoDocument}
 use Rattle.yaml_parse_document.specs.Documents.{no_document}
 use Rattle.yaml_parse_loader.specs.Loading.{refused}
-use Rattle.yaml_parse_loader.specs.Loading as loading
 
 -- What events come to that a loader is fed, and the fault behind them: the document that ends first, the events that are
 -- left and the number of tokens that are not asked for then; or the fault that comes first; or neither.
@@ -77,11 +76,3 @@ pub record KeepsLoading (initial now : ParserRemaining) (l : Loading) : Type 0 w
   pub none : initial.events ≡ [] → now.events ≡ []
 
 -- ---- the same of events alone
-
--- told events load what the events alone do
-abbrev pub LoadsSame : Option Fault → Loaded → Loads → Type 0
-LoadsSame f (loading.document d rest) (document e left unasked) = (d ≡ e)
-    × (rest ≡ told_events left)
-LoadsSame f (loading.faulty g) (faulty h) = g ≡ h
-LoadsSame f (loading.unfinished l) r = r ≡ behind_all f
-LoadsSame f _ _ = ⊥

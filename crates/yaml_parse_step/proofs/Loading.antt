@@ -1,14 +1,12 @@
 -- What feeding a loader with a parser's events comes to.
-use Rattle.std.proofs.Common.{◌≡◌, ◌⊎◌, ◌<◌, ◌≤◌, ℕ, ℤ, inl, inr, List, [], ◌∷◌, Option, Some, None, Bool, true, refl, sym, ap, subst, ◌∙◌, arith}
+use Rattle.std.proofs.Common.{◌≡◌, ◌⊎◌, ◌≤◌, ℕ, inl, inr, List, [], ◌∷◌, Option, Some, None, refl, sym, ap, subst, ◌∙◌, arith}
 use Rattle.yaml_scan_model.specs.declared.yaml_origin_t.TheVariants.{Loader}
-use Rattle.yaml_parse_step.proofs.Words.{Fault, memory_fault, IsMemoryFault, scan_layers, HasMore, yaml_mark_t, Event, EventBody, parts_documents_behind, Told, ParserRemaining, IsFinished, next_unasked, GivesNext, GivesEnd}
-use Rattle.std.specs.FinMap as map
-use Rattle.yaml_parse_model.specs.Events as event
+use Rattle.yaml_parse_step.proofs.Words.{Fault, memory_fault, IsMemoryFault, scan_layers, HasMore, Event, Told, ParserRemaining, IsFinished, next_unasked, GivesNext, GivesEnd}
 use Rattle.yaml_parse_laws_trees.specs.parse_document.Documents.{Document, no_document}
 use Rattle.yaml_parse_grammar.specs.Remaining.{FaultOf}
-use Rattle.yaml_parse_laws_trees.specs.parse_loader.Loading.{Loading, LoadStep, goes_on, loaded, refused, step, step_body, aliased, load, turn}
-use Rattle.yaml_parse_laws_trees.specs.NextLoad.{told_events, left_behind}
-use Rattle.yaml_parse_laws_trees.proofs.ByStep.{Loads, load_on, behind_all, loads, loads_of, unasked_on, unasked_at_refusal, unasked_of, unasked_by, answer_unasked, LoadGives, LoadRefuses, KeepsLoading, LoadsSame}
+use Rattle.yaml_parse_laws_trees.specs.parse_loader.Loading.{Loading, LoadStep, goes_on, loaded, refused, step}
+use Rattle.yaml_parse_laws_trees.specs.NextLoad.{left_behind}
+use Rattle.yaml_parse_laws_trees.proofs.ByStep.{Loads, load_on, behind_all, loads, loads_of, unasked_on, unasked_at_refusal, unasked_of, unasked_by, answer_unasked, LoadGives, LoadRefuses, KeepsLoading}
 use Rattle.yaml_parse_laws_trees.specs.Falling.{AreFalling}
 use Rattle.yaml_parse_laws_trees.proofs.Falling.{has_more, nothing_more}
 
@@ -166,40 +164,4 @@ fed_asked i o n n' l e f k h u =
 
 -- ---- behind a document
 
-aliased_on : (o : Option ℤ) (at : yaml_mark_t) (l : Loading) (d : Document)
-    → aliased o at l ≡ loaded d → ⊥
-aliased_on None at l d e = cc
-aliased_on (Some n) at l d e = cc
-
-parted : (b : EventBody) (from to : yaml_mark_t) (l : Loading) (d : Document)
-    → step_body b from to l ≡ loaded d → parts_documents_behind b ≡ true
-parted event.no from to l d e = refl
-parted (event.stream_start encoding) from to l d e = refl
-parted event.stream_end from to l d e = refl
-parted (event.document_end implicit) from to l d e = refl
-parted (event.document_start version directives implicit) from to l d e = cc
-parted (event.alias name) from to l d e = absurd (aliased_on (map.get l.anchors name) from l d e)
-parted (event.scalar anchor tag value plain quoted style) from to l d e = cc
-parted (event.sequence_start anchor tag implicit style) from to l d e = cc
-parted (event.mapping_start anchor tag implicit style) from to l d e = cc
-parted event.sequence_end from to l d e = cc
-parted event.mapping_end from to l d e = cc
-
-pub between_documents : (e : Event) (l : Loading) (d : Document) (between : Bool)
-    → step e l ≡ loaded d → between ≡ parts_documents_behind e.body → between ≡ true
-between_documents e l d between s h = h ∙ parted e.body e.start_mark e.end_mark l d s
-
 -- ---- events alone
-
-same_on : (c : LoadStep) (gs : List Told) (left : ℕ) (f : Option Fault)
-    → ((l : Loading) → LoadsSame f (load (told_events gs) l) (loads gs f l))
-    → LoadsSame f (turn c (load (told_events gs)) (told_events gs)) (load_on c (loads gs f) gs left)
-same_on (goes_on l) gs left f h = h l
-same_on (loaded d) gs left f h = (refl, refl)
-same_on (refused g) gs left f h = refl
-
-pub loads_same : (gs : List Told) (f : Option Fault) (l : Loading)
-    → LoadsSame f (load (told_events gs) l) (loads gs f l)
-unfolding load loads
-loads_same [] f l = refl
-loads_same (g ∷ gs) f l = same_on (step g.0 l) gs g.1 f (λ m. loads_same gs f m)

@@ -262,6 +262,7 @@ same_unasked : (i o : ParserRemaining) → KeptOverTurns i o → i.events ≡ []
     → (o.unasked ≡ i.unasked) × (o.held ≡ i.held)
 same_unasked i o k p q = elim k.unasked [ inl a ↦ a | inr s ↦ absurd (s p q) ]
 
+-- turns that gave nothing and an end: the end of what was to come
 pub kept_end : (i o n : ParserRemaining) → KeptOverTurns i o → IsOver o n → GivesEnd i n
 kept_end i o n k h =
     let p : i.events ≡ [] = sym k.events ∙ h.finished.events in

@@ -29,10 +29,12 @@ MaySayAll (b ∷ bs) = MaySay b × MaySayAll bs
 
 -- ---- names and tags without problem
 
-some_byte : (n : ℕ) → (n == 0) ≡ false → 0 < n
+-- what is not 0 is more
+pub some_byte : (n : ℕ) → (n == 0) ≡ false → 0 < n
 some_byte n h = grind (arith, nat_tests)
 
-tests_of : (none all : Bool) (p q : Problem)
+-- of two tests, each with its problem, neither has one
+pub tests_of : (none all : Bool) (p q : Problem)
     → (if none then Some p else if all then None else Some q) ≡ None → (none ≡ false) × (all ≡ true)
 tests_of true all p q e = absurd (cc)
 tests_of false true p q e = (refl, refl)
@@ -67,7 +69,8 @@ scalar_tag_writable (Some t) value plain quoted e u l r = (
   (λ e. true≢false (sym ((bytes_eq-Decides t (codes "!")).1 e) ∙ (r l))),
 )
 
-prefixes_writable : (ds : List TagDirective) → AreUtf8 ds → HavePrefixes ds
+-- prefixes of UTF-8 can be written
+pub prefixes_writable : (ds : List TagDirective) → AreUtf8 ds → HavePrefixes ds
 prefixes_writable [] u = tt
 prefixes_writable (d ∷ ds) u = (u.0.1, prefixes_writable ds u.1)
 

@@ -68,7 +68,8 @@ node_known m n x y e =
     let q : (m, x) ≡ (n, y) = cc in
     (ap (λ (z : Node × List EventBody). z.0) q, ap (λ (z : Node × List EventBody). z.1) q)
 
-rest_same : (b c : EventBody) (x y : List EventBody) → b ∷ x ≡ c ∷ y → x ≡ y
+-- equal lists have equal rests
+pub rest_same : (b c : EventBody) (x y : List EventBody) → b ∷ x ≡ c ∷ y → x ≡ y
 rest_same b c x y e = cc
 
 -- ---- documents

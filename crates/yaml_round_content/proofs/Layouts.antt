@@ -195,7 +195,8 @@ stream_same : (s : Settings) (ds : List emit.Document) → Normalize ds
 unfolding stream_layout
 stream_same s ds h = ap (λ (a : Layout). order_mark s.encoding ▹ a) (documents_same s true false ds h)
 
-canonical_is : (s : Settings) → s.canonical ≡ true → canonical_settings s ≡ s
+-- settings with canonical form are their own
+pub canonical_is : (s : Settings) → s.canonical ≡ true → canonical_settings s ≡ s
 canonical_is s e = ap (λ (b : Bool). record { encoding = s.encoding; canonical = b; indent = s.indent; width = s.width; unicode = s.unicode; line_break = s.line_break }) (sym e)
 
 -- ---- settings

@@ -11,7 +11,7 @@ pub mod StreamsInputs
 pub mod Injective
 pub mod Trees
 pub mod ContentInputs
-mod Bare
+pub mod Bare
 pub mod Layouts
 pub mod Saying
 mod Documents
@@ -24,11 +24,11 @@ mod Numbered
 mod ByContent
 pub mod Loaded
 pub mod Tokens
-mod Scalars
+pub mod Scalars
 pub mod Flags
 mod Decoded
 pub mod Utf8
-mod Events
+pub mod Events
 pub mod WritableContents
 pub mod Core
 pub mod DumpsContents

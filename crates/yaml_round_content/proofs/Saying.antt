@@ -44,7 +44,8 @@ empty_tagged : (anchor : Option (List ℕ)) (t : List ℕ) (b : Bool) → is_lon
 empty_tagged anchor t true e = ap (λ (l : Bool). content_of (normalize_scalar l anchor (Some t) [] false false YAML_PLAIN_SCALAR_STYLE)) e
 empty_tagged anchor t false e = ap (λ (l : Bool). content_of (normalize_scalar l anchor (Some t) [] false false YAML_PLAIN_SCALAR_STYLE)) e
 
-lone_is : (t : List ℕ) → is_lone_mark (Some t) [] ≡ bytes_eq t (codes "!")
+-- a lone mark without directives is an exclamation mark
+pub lone_is : (t : List ℕ) → is_lone_mark (Some t) [] ≡ bytes_eq t (codes "!")
 lone_is t = elim (cases_Bool (bytes_eq t (codes "!"))) [
   | inl h ↦ (subst (λ (z : List ℕ). is_lone_mark (Some z) [] ≡ true) (sym ((bytes_eq-Decides t (codes "!")).0 h)) refl) ∙ sym h
   | inr h ↦ no_mark t [] h ∙ sym h

@@ -40,7 +40,8 @@ tagged_right : (t : Bool) (anchor : Option (List ℕ)) (tag value : List ℕ)
 tagged_right true anchor tag value style e = refl
 tagged_right false anchor tag value style e = λ _. e
 
-flags_differ : (b : Bool) → (if b then false else true) ≡ not b
+-- a choice of the two bools is the test turned round
+pub flags_differ : (b : Bool) → (if b then false else true) ≡ not b
 flags_differ true = refl
 flags_differ false = refl
 

@@ -11,8 +11,9 @@ use Rattle.yaml_emit_laws_dumps.specs.emit_layout.declared.Problem.TheVariants a
 use Rattle.yaml_emit_laws_dumps.specs.emit_layout.declared.Expected.TheVariants as at
 use Rattle.yaml_round_content.proofs.Stacks.{Expects, moved_by, moved_kind, IsPlaced, moved}
 use Rattle.yaml_round_content.proofs.Spellings.{IsNamed, IsWhole, IsSpelledItem}
-use Rattle.yaml_round_content.proofs.Emitted.{plain, IsTaken, IsOwn, or_none, normalized_taken, normalized_leads}
+use Rattle.yaml_round_content.proofs.Emitted.{plain, IsTaken, IsOwn, normalized_taken, normalized_leads}
 use Rattle.yaml_round_content.proofs.Directed.{more_directives}
+use Rattle.yaml_emit_laws_dumps.proofs.Passing.{or_none}
 
 -- ---- in its place
 
@@ -116,7 +117,8 @@ abbrev IsFull : Option (List ℕ) → Type 0
 IsFull None = Unit {0}
 IsFull (Some tag) = IsSome tag
 
-name_right : (p q : Problem) (name : List ℕ) → IsName name → name_problem p q name ≡ None
+-- a name has no problem
+pub name_right : (p q : Problem) (name : List ℕ) → IsName name → name_problem p q name ≡ None
 name_right p q name h = rw h.0 (rw h.1 refl)
 
 anchor_right : (anchor : Option (List ℕ)) → IsNamed anchor → anchor_problem anchor ≡ None

@@ -29,7 +29,8 @@ cores [] = refl
 cores (t ∷ ts) =
     ap (λ (b : EventBody). b ∷ contents ts) (core_said (normalize_body true t.0.body)) ∙ ap (λ (bs : List EventBody). core (emit.emitter_event (normalize_body true t.0.body)) ∷ bs) (cores ts)
 
-scalar_core : (anchor tag : Option (List ℕ)) (value : List ℕ) (plain : Bool)
+-- a scalar's event without its quotes and its style
+pub scalar_core : (anchor tag : Option (List ℕ)) (value : List ℕ) (plain : Bool)
     → event.scalar anchor tag value (counts_as_plain tag plain) false YAML_ANY_SCALAR_STYLE
     ≡ scalar_says anchor (mark_of tag plain) value
 scalar_core anchor None value plain = refl

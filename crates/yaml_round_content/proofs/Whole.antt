@@ -4,8 +4,9 @@ use Rattle.yaml_round_content.proofs.Words.{Fault, EventBody, Given, run, initia
 use Rattle.yaml_emit_laws_dumps.specs.emit_layout.declared.Expected.TheVariants as at
 use Rattle.yaml_round_content.proofs.Stacks.{moved}
 use Rattle.yaml_round_content.proofs.Runs.{GivenPlaced, moved_given, GivenSpelled, stream_places, stream_spelled}
-use Rattle.yaml_round_content.proofs.Emitted.{plain, plain_same, not_end, or_none, normalized_own, no_problem}
+use Rattle.yaml_round_content.proofs.Emitted.{plain, plain_same, not_end, normalized_own, no_problem}
 use Rattle.yaml_round_content.proofs.Settling.{PlacedSettled, OwnSettled, AreDirectives, none_right, settled_placed, settled_own}
+use Rattle.yaml_emit_laws_dumps.proofs.Passing.{or_none}
 
 -- None of the events is refused; where no fault ends them, none has ended the items either, and they lead to that shape.
 abbrev Passes : (EventBody → EventBody) → Bool → Progress → Option Fault → Progress → Reading

@@ -1,14 +1,13 @@
 -- Bytes of pretty text are decoded to it.
-use Rattle.std.proofs.Common.{◌≡◌, ℕ, ◌+◌, ◌/◌, ◌%◌, ◌<◌, Bool, true, false, ◌&&◌, nat_lt, if◌then◌else◌, List, [], ◌∷◌, ◌++◌, drop, refl, sym, ap, ◌∙◌, arith, inl, inr, nat_eq}
-use Rattle.yaml_round_laws_documents.proofs.PrettyWords.{cases_Bool, ltb-true, and_parts, ne_eqb, eqb-true, nat_tests, YAML_ANY_ENCODING, YAML_UTF8_ENCODING, YAML_UTF16LE_ENCODING, YAML_UTF16BE_ENCODING, Item, letter, deep, shown, char_bytes, encode, Rest, order_mark, start, nothing_more, Encoding, documents_layout, stream_layout, encoding_of, mark_length, encoding_named, PrettyBytesDecode, nothing_allowed}
+use Rattle.std.proofs.Common.{◌≡◌, ℕ, ◌+◌, ◌/◌, ◌%◌, ◌<◌, Bool, true, false, ◌&&◌, nat_lt, if◌then◌else◌, List, [], ◌∷◌, ◌++◌, refl, arith, inl, inr, nat_eq}
+use Rattle.yaml_round_laws_documents.proofs.PrettyWords.{cases_Bool, ltb-true, and_parts, ne_eqb, eqb-true, nat_tests, Item, letter, deep, shown, char_bytes, encode, start, nothing_more, documents_layout, stream_layout, encoding_of, mark_length, PrettyBytesDecode, nothing_allowed}
 use Rattle.yaml_emit_laws_text.specs.scan_history.scan_decode.Characters.{is_allowed}
-use Rattle.yaml_emit_laws_text.specs.emit_text.declared.Encoding.TheVariants.{Utf8, Utf16Le, Utf16Be}
-use Rattle.yaml_round_laws_documents.proofs.CanonicalJoining.{Decodes, decoded}
+use Rattle.yaml_emit_laws_text.specs.emit_text.declared.Encoding.TheVariants.{Utf8}
+use Rattle.yaml_round_laws_documents.proofs.CanonicalJoining.{decodes}
 use Rattle.yaml_round_laws_documents.proofs.PrettyLayouts.{documents_tame}
 use Rattle.yaml_round_laws_documents.proofs.Layouts.{Allowed}
-use Rattle.yaml_round_laws_documents.proofs.Marks.{Told, low_told, low_behind, high_told, high_behind}
+use Rattle.yaml_round_laws_documents.proofs.Marks.{Told}
 use Rattle.yaml_round_laws_documents.proofs.PrettyMarks.{NoMark, Begins, begins_nothing, told_one, told_three, documents_heads}
-use Rattle.yaml_round_laws_documents.proofs.Encoding.{bytes_le, bytes_be, bytes_8, bytes_utf8}
 
 off_by : (a b : ℕ) → b < a → nat_eq a b ≡ false
 off_by a b h = ne_eqb a b (λ e. omega (arith, h, e))
@@ -69,21 +68,8 @@ told_items (deep ∷ t) a h = told_items t a h
 
 -- ---- joined
 
-decodes : (x : Encoding) (rest : Rest) → Allowed (rest start) → Begins (rest start)
-    → Decodes (encode x (order_mark x start rest)) (encode Utf8 (rest start)) (encoding_named x)
-decodes Utf8 rest allowed unmarked =
-    let t = rest start in
-    let (told, none) = told_items t allowed unmarked in
-    let behind : drop (mark_length YAML_ANY_ENCODING (encode Utf8 t)) (encode Utf8 t) ≡ encode Utf8 t = ap (λ (n : ℕ). drop n (encode Utf8 t)) none in
-    decoded (encode Utf8 t) t YAML_UTF8_ENCODING allowed told (behind ∙ bytes_8 t ∙ sym (bytes_utf8 (shown t)))
-decodes Utf16Le rest allowed unmarked =
-    let t = rest start in
-    decoded (encode Utf16Le (letter 0xFEFF ∷ t)) t YAML_UTF16LE_ENCODING allowed (low_told t) (low_behind t ∙ bytes_le t)
-decodes Utf16Be rest allowed unmarked =
-    let t = rest start in
-    decoded (encode Utf16Be (letter 0xFEFF ∷ t)) t YAML_UTF16BE_ENCODING allowed (high_told t) (high_behind t ∙ bytes_be t)
-
 pub bytes_decode : PrettyBytesDecode
 unfolding stream_layout
 bytes_decode s ds writable h =
-    decodes s.encoding (λ c. documents_layout s true false ds c nothing_more) (documents_tame s true false ds h start nothing_more (λ _. nothing_allowed)) (documents_heads s true false ds writable start nothing_more (λ _. begins_nothing))
+    let allowed = documents_tame s true false ds h start nothing_more (λ _. nothing_allowed) in
+    decodes s.encoding (λ c. documents_layout s true false ds c nothing_more) allowed (told_items _ allowed (documents_heads s true false ds writable start nothing_more (λ _. begins_nothing)))

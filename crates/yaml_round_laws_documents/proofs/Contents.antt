@@ -44,10 +44,6 @@ pub and_left : (a b : Bool) → (a && b) ≡ true → a ≡ true
 and_left true b e = refl
 and_left false b e = absurd (false≢true e)
 
-and_right : (a b : Bool) → (a && b) ≡ true → b ≡ true
-and_right true b e = e
-and_right false b e = absurd (false≢true e)
-
 -- ---- styles: plain is taken where the scalar is tagged or plain-implicit
 
 no_fit : (a : Allowed) (flow simple empty : Bool) → plain_fits a false flow simple empty ≡ false

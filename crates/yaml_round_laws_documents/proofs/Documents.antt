@@ -231,10 +231,6 @@ documents_parsed unended [] fine ts e = at_end unended ts e
 documents_parsed unended (d ∷ ds) ((opening, root), fine) ts e =
     begun (unended && is_directed d.opening) unended d ds refl (λ us x. one_document d ds (fine_version d.opening opening) (fine_tags d.opening opening) (resolving d.opening opening) root (λ vs y. behind_root d.implicit_end ds vs (documents_parsed d.implicit_end ds fine) y) us x) ts e
 
-no_tokens : (ts : List Token) → token_bodies ts ≡ [] → ts ≡ []
-no_tokens [] e = refl
-no_tokens (t ∷ ts) e = absurd (cc)
-
 no_ends : (ends : List Span) → no_spans ends ≡ true → ends ≡ []
 no_ends [] e = refl
 no_ends (s ∷ ss) e = absurd (cc)

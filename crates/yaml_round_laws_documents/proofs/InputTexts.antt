@@ -21,7 +21,8 @@ use Rattle.yaml_round_laws_documents.specs.BytesLaws as bytes
 use Rattle.yaml_round_laws_documents.proofs.Contents.{start_by}
 use Rattle.yaml_round_laws_documents.proofs.PrettyDocuments.{written_is}
 use Rattle.yaml_round_laws_documents.proofs.Premises.{alphas_are}
-use Rattle.yaml_round_laws_documents.proofs.Written.{some_byte}
+use Rattle.yaml_round_content.proofs.Scalars.{flags_differ}
+use Rattle.yaml_round_content.proofs.Events.{some_byte}
 
 -- ---- an event
 
@@ -61,10 +62,6 @@ named : (b : Bool) (anchor : Option (List ℕ)) (tag value : List ℕ) (style : 
     (Some tag) value false false style)
 named true anchor tag value style e = (refl, tt)
 named false anchor tag value style e = tagged (is_lone_mark (Some tag) value) anchor tag value style (λ _. e)
-
-flags_differ : (b : Bool) → (if b then false else true) ≡ not b
-flags_differ true = refl
-flags_differ false = refl
 
 missing : (tag : Option (List ℕ)) → is_missing tag ≡ not (has tag)
 missing None = refl

@@ -4,7 +4,7 @@ pub mod Premises
 pub mod Joining
 pub mod ReadBack
 mod Fronts
-mod Sound
+pub mod Sound
 pub mod Written
 pub mod Laid
 pub mod Whole

@@ -1,7 +1,7 @@
 -- What tells the encoding: canonical text in UTF-8 begins with no mark.
 use Rattle.std.proofs.Common.{◌≡◌, ℕ, ◌<◌, true, false, List, [], ◌∷◌, drop, Option, Some, None, refl, arith, nat_eq}
 use Rattle.yaml_round_laws_documents.proofs.Words.{nat_tests, YAML_ANY_ENCODING, YAML_UTF8_ENCODING, YAML_UTF16LE_ENCODING, YAML_UTF16BE_ENCODING, yaml_version_directive_t, encoding_of, mark_length, TagDirective, Utf8, Utf16Le, Utf16Be, Settings, Item, letter, char_bytes, encode, Rest, ◌▹◌, letters, blanks, line, start, written, Document, version_text, directives_text, dashes, start_layout, stop_layout, documents_layout}
-use Rattle.yaml_round_laws_documents.proofs.Nodes.{canonically}
+use Rattle.yaml_round_content.proofs.Bare.{canonical_settings}
 
 -- the first byte, if there is one, is ASCII
 abbrev pub BeginsLow : List ℕ → Type 0
@@ -21,15 +21,15 @@ no_mark (b ∷ bs) h =
     (rw (x, y) refl, rw (x, y, z) refl)
 
 begins : (s : Settings) (v : Option yaml_version_directive_t) (ds : List TagDirective) (rest : Rest)
-    → BeginsLow (encode Utf8 ((version_text (canonically s) v ▹
-    (directives_text (canonically s) ds ▹ dashes (canonically s))) start rest))
+    → BeginsLow (encode Utf8 ((version_text (canonical_settings s) v ▹
+    (directives_text (canonical_settings s) ds ▹ dashes (canonical_settings s))) start rest))
 unfolding directives_text line blanks letters encode char_bytes
 begins s (Some v) ds rest = omega arith
 begins s None (d ∷ ds) rest = omega arith
 begins s None [] rest = omega arith
 
 pub text_begins : (s : Settings) (ds : List Document)
-    → BeginsLow (encode Utf8 (written (documents_layout (canonically s) true false ds)))
+    → BeginsLow (encode Utf8 (written (documents_layout (canonical_settings s) true false ds)))
 unfolding documents_layout stop_layout start_layout encode
 text_begins s [] = tt
 text_begins s (d ∷ ds) = begins s d.opening.version d.opening.directives _

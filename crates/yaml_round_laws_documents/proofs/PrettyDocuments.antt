@@ -22,7 +22,8 @@ pub record Ends (r : Reading) (bs : List EventBody) : Type 0 where
   pub events : event_bodies r ≡ bs
   pub ending : r.ending ≡ None
 
-ends_by : (R : List EventBody → List EventBody) (r q : Reading) (bs : List EventBody)
+-- what is put in front of a reading that ends so
+pub ends_by : (R : List EventBody → List EventBody) (r q : Reading) (bs : List EventBody)
     → SaysTree R r q
     → Ends q bs → Ends r (R bs)
 ends_by R r q bs s e = record { events = s.events ∙ ap (λ (x : List EventBody). R x) e.events; ending = s.ending ∙ e.ending }

@@ -368,6 +368,7 @@ start_tame s fresh unended d ds (right, prefixes, root, more) =
     (both (version_text s o.version) (directives_text s o.directives ▹ dash) (version_tame s o.version)
     (both (directives_text s o.directives) dash (directives_tame s o.directives fit prefixes) (when_tame (is_marked s fresh o) (dashes s) (dashes_tame s)))))
 
+-- under any settings, the canonical ones too, the layout writes what a stream may hold
 pub documents_tame : (s : Settings) (fresh unended : Bool) (ds : List Document)
     → DocumentsAreSpellable ds → Tame (documents_layout s fresh unended ds)
 unfolding documents_layout end_layout stop_layout

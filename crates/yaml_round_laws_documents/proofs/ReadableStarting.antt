@@ -75,11 +75,6 @@ root_left p pretty (scalar anchor mark value) = scalar_left p pretty anchor mark
 root_left p pretty (sequence anchor tag items) = refl
 root_left p pretty (mapping anchor tag pairs) = refl
 
-marked : (v d : Bool) → not (true && ((not v && not d) && not (v || d))) ≡ not (not v && not d)
-marked true d = refl
-marked false true = refl
-marked false false = refl
-
 pub starts_with_something : (s : Settings) → s.canonical ≡ false → (c : List Document)
     → starts_with_nothing s (readable_documents c) ≡ false
 starts_with_something s pretty [] = refl

@@ -9,25 +9,15 @@ use Rattle.yaml_round_content.specs.emit_layout.declared.problem.Problem.TheVari
 use Rattle.yaml_round_content.specs.emit_layout.Content as emit
 use Rattle.yaml_round_content.specs.emit_layout.Grammar.{or_else, kept_tag, name_problem, anchor_problem, tag_problem, event_problem, last_problem, own_problem, own_problems}
 use Rattle.yaml_round_content.specs.scan_model.Classes.{is_alpha_byte}
-use Rattle.yaml_round_content.specs.Said.{ScalarMark, untagged, tagged, Node, alias, scalar, sequence, mapping, Nodes, no_nodes, node, Pairs, no_pairs, pair, Document, scalar_says, node_says, items_say, pairs_say, documents_say, stream_says}
+use Rattle.yaml_round_content.specs.Said.{ScalarMark, untagged, tagged, Node, alias, scalar, sequence, mapping, Nodes, no_nodes, node, Pairs, no_pairs, pair, Document, node_says, items_say, pairs_say, documents_say, stream_says}
 use Rattle.yaml_round_content.specs.Writable.{IsName, IsAnchor, IsTag, IsMark, IsWritable, AreItemsWritable, ArePairsWritable, AreWritable}
 use Rattle.yaml_round_content.proofs.WritableContents.{are_writable as inputs_writable}
 use Rattle.yaml_round_laws_documents.specs.Readable.{readable_scalar, readable_start, readable_node, readable_nodes, readable_pairs, is_unmarked, documents_from, readable_documents}
-use Rattle.yaml_round_laws_documents.specs.Restyled.{OpeningPosition, Before, Within, root_position, readable_event, readable_events, ReadableIsLaidOut}
+use Rattle.yaml_round_laws_documents.specs.Restyled.{Before, Within, root_position, readable_events, ReadableIsLaidOut}
 use Rattle.yaml_round_content.proofs.Passing.{or_none}
 use Rattle.yaml_round_content.proofs.Naming.{not_zero}
 
 -- ---- the events
-
-scalar_event : (at : OpeningPosition) (b : Bool) (anchor : Option (List ℕ)) (mark : ScalarMark)
-    (value : List
-    ℕ)
-    → readable_event (root_position b) (scalar_says anchor mark value)
-    ≡ emit.scalar (readable_scalar b anchor mark value)
-scalar_event at true anchor (untagged plain) value = refl
-scalar_event at true anchor (tagged t) value = refl
-scalar_event at false anchor (untagged plain) value = refl
-scalar_event at false anchor (tagged t) value = refl
 
 mutual
   unfolding node_says items_say pairs_say emit.node_events emit.items_events emit.pairs_events

@@ -59,7 +59,8 @@ on_right (goes_on l) go h k = k l h
 on_right (loaded d) go h k = front_right d.nodes d (go nothing_loaded) h (k nothing_loaded empty_right)
 on_right (refused f) go h k = tt
 
-all_right : (gs : List Told) (f : Option Fault) (l : Loading) → AreRightTold gs
+-- the documents of right events are right
+pub all_right : (gs : List Told) (f : Option Fault) (l : Loading) → AreRightTold gs
     → RightDocument l.document → AreRight (load_all gs f l).documents
 unfolding load_all
 all_right [] f l h r = tt

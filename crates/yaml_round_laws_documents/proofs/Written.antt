@@ -1,27 +1,16 @@
 -- What a document says that an input loads may be written.
 use Rattle.std.proofs.Common.{◌≡◌, ◌<◌, ℕ, zero, suc, ℤ, pos, Bool, true, false, ◌==◌, if◌then◌else◌, List, [], ◌∷◌, length, Some, None, IsUtf8, refl, ap, codes, arith, sym, ◌∙◌, slice_get, true≢false}
-use Rattle.yaml_round_laws_documents.proofs.Words.{list_all, IsUtf8-nil, nat_tests, root_holds, is_alpha_byte, TagDirective, IsSoundBody, AreSound, str_tag, is_bang, body_at, tag_at, body_of_id, tag_of_id, name_of, graph_root, graph_content, RightDocument, AreRight, loads_of, tree_of, trees_of, pair_trees_of, document_tree, InputsHaveUtf8, IsName, IsAnchor, IsWritable, AreItemsWritable, ArePairsWritable, HavePrefixes, IsWritableDocument, AreWritable, IsLoadedDocument, trees_of_dumps, AreLoadedDocuments, AllLoadDocuments, LoadedAreWritable}
-use Rattle.yaml_round_laws_documents.specs.parse_grammar.parse_model.Constructors.{AreUtf8}
+use Rattle.yaml_round_laws_documents.proofs.Words.{list_all, IsUtf8-nil, root_holds, is_alpha_byte, IsSoundBody, AreSound, str_tag, is_bang, body_at, tag_at, body_of_id, tag_of_id, name_of, graph_root, graph_content, RightDocument, AreRight, loads_of, tree_of, trees_of, pair_trees_of, document_tree, InputsHaveUtf8, IsName, IsAnchor, IsWritable, AreItemsWritable, ArePairsWritable, IsWritableDocument, AreWritable, IsLoadedDocument, trees_of_dumps, AreLoadedDocuments, AllLoadDocuments, LoadedAreWritable}
 use Rattle.yaml_round_laws_documents.specs.parse_grammar.parse_model.Nodes as model
 use Rattle.yaml_round_content.specs.parse_laws_trees.parse_document.Documents as documents
-use Rattle.yaml_round_laws_documents.specs.emit_laws_text.emit_layout.declared.Problem.{Problem}
 use Rattle.yaml_round_laws_documents.specs.emit_laws_text.emit_layout.declared.Problem.TheVariants as problem
 use Rattle.yaml_round_content.specs.emit_laws_dumps.StreamsLaws.{AreTagged}
 use Rattle.yaml_round_content.proofs.Sound.{str_utf8}
 use Rattle.yaml_round_content.proofs.Naming.{name_right}
 use Rattle.yaml_round_laws_documents.proofs.Sound.{AreDocuments, documents_sound, documents_right}
+use Rattle.yaml_round_content.proofs.Events.{tests_of, prefixes_writable, some_byte}
 
 -- ---- names
-
--- What is not 0 is more.
-pub some_byte : (n : ℕ) → (n == 0) ≡ false → 0 < n
-some_byte n h = grind (arith, nat_tests)
-
-tests_of : (none all : Bool) (p q : Problem)
-    → (if none then Some p else if all then None else Some q) ≡ None → (none ≡ false) × (all ≡ true)
-tests_of true all p q e = absurd (cc)
-tests_of false true p q e = (refl, refl)
-tests_of false false p q e = absurd (cc)
 
 name_writable : (n : ℕ) → IsName (name_of n)
 name_writable n =
@@ -90,15 +79,11 @@ root_written nodes h = root_holds (λ v. IsWritable (tree_of v)) (λ vs. AreItem
 
 -- ---- documents
 
-prefixes_written : (ds : List TagDirective) → AreUtf8 ds → HavePrefixes ds
-prefixes_written [] u = tt
-prefixes_written (d ∷ ds) u = (u.0.1, prefixes_written ds u.1)
-
 document_written : (d : documents.Document) → documents.IsDocument d → RightDocument d
     → IsLoadedDocument d → IsWritableDocument (document_tree (graph_content d))
 document_written d s r l = record {
   opening = r.opening;
-  prefixes = prefixes_written d.directives s.directives;
+  prefixes = prefixes_writable d.directives s.directives;
   root = root_written d.nodes (λ k. fine_at (length d.nodes) d.nodes k s.nodes r.tags (λ n e. (l.nodes k n e).1));
 }
 

@@ -132,6 +132,20 @@ IMPLIED = [
     ("yaml_c_scan", "each token in front of the end or the fault has its record, the last one too", ["yaml_round_calls/last_token_of_a_starved_scan_left_out"], "the same of `Scans`"),
     ("yaml_c_front", "the characters in front of a mark are counted, and not bytes, without the one that begins there; a tag that stands behind a node's end is none of it", ["yaml_round_calls/absent_anchor_has_a_place"], "`SayEvents` says each record whole, as what `event_counted` makes of one, and the records have these numbers from `characters_before` and `has_tag` of `yaml_round_records` alone: where one of these let another number through, so would that one"),
     ("yaml_c_parse", "the characters in front of a fault's marks are counted so", ["yaml_round_calls/line_never_told"], "`TellsFaultBy`, which says each field of a fault's record, is one record for all calls; here it has the marks by `mark_counted`, and the code has the numbers from `characters_before` of `yaml_round_records` alone"),
+    ("yaml_emitter_set_indent", "an indent is set as the indent", ["yaml_round_calls/indent_and_width_exchanged"], "`yaml_c_emit` has the settings of its emitter from the six setters alone, and its text is said of that one record, `RequestedSettings`, each field of which the setter gives: were one let give another, `emitter_under` would not be proved, nor the call"),
+    ("yaml_emitter_set_width", "a set width counts", ["yaml_round_calls/indent_and_width_exchanged"], "the same"),
+    ("yaml_emitter_set_encoding", "a set encoding counts", ["yaml_round_calls/indent_and_width_exchanged"], "the same"),
+    ("yaml_emitter_set_unicode", "unicode is set as asked for", ["yaml_round_calls/indent_and_width_exchanged"], "the same"),
+    ("yaml_emitter_set_break", "a set break counts", ["yaml_round_calls/indent_and_width_exchanged"], "the same"),
+    ("yaml_emitter_set_canonical", "canonical is set as asked for", ["yaml_round/canonical_unasked", "yaml_round/another_injective_printer"], "`yaml_reformat` has which of the two forms its emitter writes from this call alone"),
+    ("yaml_emitter_initialize", "a new emitter has the limit that is asked for", ["yaml_round/normal_form_refused_one_byte_early", "yaml_round/size_refused_one_byte_late"], "`yaml_normalize` and `yaml_reformat` have the limit of their emitter from this call alone"),
+    ("yaml_emitter_resume", "an emitter that goes on has the limit that is asked for", ["yaml_round_calls/gone_on_without_a_limit"], "`yaml_c_emit_on` has the limit of an emitter that goes on from this call alone"),
+    ("yaml_emitter_emit_from", "each given event is laid out", ["yaml_round_calls/first_event_left_out"], "`yaml_c_emit` gives each event by this call, and knows nothing else of what was given"),
+    ("yaml_emitter_into_output", "the text is handed out", ["yaml_round_calls/first_event_left_out"], "`yaml_c_emit` has its text from this call alone, and says by one equation which it is"),
+    ("yaml_emitter_fresh", "whether an event was given", ["yaml_round_calls/stand_of_no_event_kept"], "`yaml_c_emit_on` asks this call which of the two stands it tells, the one of no event or that of the emitter"),
+    ("yaml_emitter_stand", "it is told how many events wait", ["yaml_round_calls/stand_without_its_collections"], "`yaml_c_emit_on` has the place of its stand from this call alone, and the stand is told whole by `TellsStand`"),
+    ("yaml_emitter_outer", "the collections round the innermost one are told", ["yaml_round_calls/stand_without_its_collections"], "the same of the collections"),
+    ("yaml_emitter_directives", "the directives of the document are told", ["yaml_round_calls/stand_without_its_collections"], "the same of the directives"),
 ]
 
 

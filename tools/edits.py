@@ -152,6 +152,20 @@ IMPLIED = [
     ("TokenSlot::empty", "the empty token stands in a new slot", ["yaml_scan/tokens_behind_a_fault"], "its clause is that of `TokenSlot::clear`, word for word"),
     ("TokenSlot::put", "a token that is put into a slot stands there with its own end", ["yaml_scan/value_ended_by_two_quotes"], "a token that was peeked at is put into the slot of `yaml_parser_scan_into` by this call alone, and `Takes` says by one equation which token stands there"),
     ("TokenSlot::take", "a token that is taken out of a slot has its own start", ["yaml_scan/value_ended_by_two_quotes"], "`yaml_parser_scan` answers what this call takes out of the slot, and `Takes` says by one equation which token that is"),
+    ("yaml_token_t::empty", "the empty token has no kind", ["yaml_types/delete_leaves_the_token"], "`yaml_token_delete` leaves what this call answers, and its clause says by one equation which token that is"),
+    ("yaml_memory_fault", "want of memory has its own kind", ["yaml_scan/scanners_memory_told_of_the_reader"], "the scanner has the fault of want of memory from this call alone, and `memory_fault` says it whole by one equation"),
+    ("yaml_parser_t::new", "an input is read in the encoding that is set", ["yaml_round_calls/checked_as_utf8"], "the call for C has what it reads from `yaml_adapter_t::new`, and that from this call alone"),
+    ("yaml_event_t::unplaced", "an event that a caller makes has zero marks", ["yaml_parse_model/delete_leaves_an_event"], "`yaml_event_delete` leaves what this call answers, and its clause says by one equation which event that is, marks and all"),
+    ("yaml_parser_t_prefix::of", "an answered fault is told with its context", ["yaml_parse/loaders_fault_not_kept"], "`yaml_parser_load` keeps what this call makes of its fault, and `RefusalIsNext` says by one equation that it is that fault"),
+    ("yaml_node_text_t::as_slice", "a short text has all its bytes", ["yaml_emit/dump_before_the_stream_dropped"], "a dump has it from this call alone, and `takes` of `yaml_emitter_dump` says by one list, `dump_events`, which events are given"),
+    ("yaml_node_tag_t::as_slice", "a tag's bytes are its own", ["yaml_emit/dump_before_the_stream_dropped"], "the same"),
+    ("yaml_node_text_t::taken", "a text that is taken into a node has its bytes", ["yaml_parse/first_node_kept"], "the loader has each value from this call alone, and `LoadIsNext` says which document is loaded by its whole content"),
+    ("yaml_document_get_node", "numbers count from 1", ["yaml_parse_document/root_is_the_second_node"], "`yaml_document_get_root_node` answers what this call answers for the number 1"),
+    ("yaml_document_t::node_count", "how many nodes a document has", ["yaml_emit/dump_before_the_stream_dropped"], "a dump asks this call alone whether there is a root, and how many nodes may be met again; `takes` of `yaml_emitter_dump` says by one list, `dump_events`, which events are given"),
+    ("yaml_document_t::start_implicit", "whether a document's start is implicit", ["yaml_emit/dump_before_the_stream_dropped"], "a dump has it from this call alone, and `takes` of `yaml_emitter_dump` says by one list, `dump_events`, which events are given"),
+    ("yaml_document_t::end_implicit", "whether a document's end is implicit", ["yaml_emit/dump_before_the_stream_dropped"], "the same"),
+    ("yaml_document_t::version_directive", "a document shows its version", ["yaml_emit/dump_before_the_stream_dropped"], "the same"),
+    ("yaml_document_t::tag_directives", "a document shows its tag directives", ["yaml_emit/dump_before_the_stream_dropped"], "the same"),
 ]
 
 

@@ -163,6 +163,7 @@ IMPLIED = [
     ("yaml_document_t::end_implicit", "whether a document's end is implicit", ["yaml_emit/dump_before_the_stream_dropped"], "the same"),
     ("yaml_document_t::version_directive", "a document shows its version", ["yaml_emit/dump_before_the_stream_dropped"], "the same"),
     ("yaml_document_t::tag_directives", "a document shows its tag directives", ["yaml_emit/dump_before_the_stream_dropped"], "the same"),
+    ("yaml_adapter_t::new", "a new source isn't over", ["yaml_round/events_left_out"], "`yaml_events` reads from what this call answers alone: were that over, no event would come"),
 ]
 
 

@@ -143,7 +143,7 @@ IMPLIED = [
     ("yaml_emitter_stand", "it is told how many events wait", ["yaml_round_calls/stand_without_its_collections"], "`yaml_c_emit_on` has the place of its stand from this call alone, and the stand is told whole by `TellsStand`"),
     ("yaml_emitter_outer", "the collections round the innermost one are told", ["yaml_round_calls/stand_without_its_collections"], "the same of the collections"),
     ("yaml_emitter_directives", "the directives of the document are told", ["yaml_round_calls/stand_without_its_collections"], "the same of the directives"),
-    ("yaml_decode", "each byte of UTF-8 is looked at", ["yaml_round_calls/offence_hidden"], "the same: bytes that spell no text are refused there by what this call answers, and by nothing else"),
+    ("yaml_decode", "each byte of UTF-8 is looked at", ["yaml_round_calls/offence_hidden"], "the call for C refuses bytes that spell no text by what this call answers, and by nothing else"),
     ("yaml_text_t::as_slice", "a text that was written anew is shown", ["yaml_round_calls/decoded_as_utf8"], "the call for C has its text from what this call shows, whether it was written anew or not"),
     ("TokenSlot::clear", "the empty token stands in a slot that is cleared", ["yaml_scan/tokens_behind_a_fault"], "behind a fault `yaml_parser_scan_into` has the empty token from this call alone: were another one left, a token would be given there"),
     ("TokenSlot::empty", "the empty token stands in a new slot", ["yaml_scan/tokens_behind_a_fault"], "its clause is that of `TokenSlot::clear`, word for word"),

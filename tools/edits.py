@@ -132,6 +132,15 @@ IMPLIED = [
     ("yaml_c_scan", "each token in front of the end or the fault has its record, the last one too", ["yaml_round_calls/last_token_of_a_starved_scan_left_out"], "the same of `Scans`"),
     ("yaml_c_front", "the characters in front of a mark are counted, and not bytes, without the one that begins there; a tag that stands behind a node's end is none of it", ["yaml_round_calls/absent_anchor_has_a_place"], "`SayEvents` says each record whole, as what `event_counted` makes of one, and the records have these numbers from `characters_before` and `has_tag` of `yaml_round_records` alone: where one of these let another number through, so would that one"),
     ("yaml_c_parse", "the characters in front of a fault's marks are counted so", ["yaml_round_calls/line_never_told"], "`TellsFaultBy`, which says each field of a fault's record, is one record for all calls; here it has the marks by `mark_counted`, and the code has the numbers from `characters_before` of `yaml_round_records` alone"),
+    ("yaml_emitter_outer", "the collections round the innermost one are told", ["yaml_round_calls/stand_without_its_collections"], "`yaml_c_emit_on` has the collections round the innermost one from this call alone, and `TellsStand` says the stand whole"),
+    ("yaml_emitter_directives", "the directives of the document are told", ["yaml_round_calls/stand_without_its_collections"], "`yaml_c_emit_on` has the directives in force from this call alone, and `TellsStand` says the stand whole"),
+    ("TokenSlot::clear", "the empty token stands in a slot that is cleared", ["yaml_scan/tokens_behind_a_fault"], "behind a fault `yaml_parser_scan_into` has the empty token from this call alone: were another one left, a token would be given there"),
+    ("TokenSlot::empty", "the empty token stands in a new slot", ["yaml_scan/tokens_behind_a_fault"], "its clause is that of `TokenSlot::clear`, word for word"),
+    ("TokenSlot::put", "a token that is put into a slot stands there with its own end", ["yaml_scan/value_ended_by_two_quotes"], "a token that was peeked at is put into the slot of `yaml_parser_scan_into` by this call alone, and `Takes` says by one equation which token stands there"),
+    ("TokenSlot::take", "a token that is taken out of a slot has its own start", ["yaml_scan/value_ended_by_two_quotes"], "`yaml_parser_scan` answers what this call takes out of the slot, and `Takes` says by one equation which token that is"),
+    ("yaml_event_t::unplaced", "an event that a caller makes has zero marks", ["yaml_parse_model/delete_leaves_an_event"], "`yaml_event_delete` leaves what this call answers, and its clause says by one equation which event that is, marks and all"),
+    ("yaml_node_text_t::as_slice", "a short text has all its bytes", ["yaml_round/first_document_left_out"], "`yaml_reload` writes each document by a dump, which has it from this call alone, and `IsReloaded` says which text that is"),
+    ("yaml_node_text_t::taken", "a text that is taken into a node has its bytes", ["yaml_parse/first_node_kept"], "the loader has each value from this call alone, and `LoadIsNext` says which document is loaded by its whole content"),
 ]
 
 

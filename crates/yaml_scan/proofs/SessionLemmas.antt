@@ -1,7 +1,8 @@
 -- What is to come of a session.
 use Rattle.std.proofs.Common.{ℕ, ◌≡◌, ◌≤◌, length, Bool, true, false, true≢false, ltb, List, [], ◌∷◌, Option, Some, None, refl, sym, ap, subst, ◌∙◌, inl, inr, arith}
 use Rattle.std.proofs.lemmas.Bool.Decides.{nat_tests}
-use Rattle.std.specs.Prelude.{is_some}
+use Rattle.std.specs.Prelude.{is_some, option_copied, option_map}
+use denote.Bor.{Bor}
 use Rattle.yaml_scan_model.specs.declared.fault.yaml_fault_t.{yaml_fault_t}
 use Rattle.yaml_scan_model.specs.declared.name.yaml_encoding_t.{yaml_encoding_t}
 use Rattle.yaml_scan_model.specs.declared.token.yaml_token_t.{yaml_token_t}
@@ -23,6 +24,12 @@ use Rattle.yaml_scan.specs.SessionView.{remaining_by, view_by, IsWhole}
 pub no_fault : (o : Option yaml_fault_t) → is_some o ≡ false → o ≡ None
 no_fault None e = refl
 no_fault (Some f) e = cc
+
+-- a fault that is lent is the one that is kept
+pub lent_fault : (r : Option (Bor yaml_fault_t)) (o : Option yaml_fault_t) → option_copied r ≡ o
+    → option_map (λ (f : Bor yaml_fault_t). fault_of f.now) r ≡ option_map (λ (f : yaml_fault_t). fault_of f) o
+lent_fault None o e = ap (option_map (λ (f : yaml_fault_t). fault_of f)) e
+lent_fault (Some f) o e = ap (option_map (λ (f : yaml_fault_t). fault_of f)) e
 
 pub none_some : (o : Option yaml_fault_t) → o ≡ None → is_some o ≡ false
 none_some None e = refl

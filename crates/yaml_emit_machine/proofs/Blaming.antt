@@ -65,12 +65,12 @@ has_first i e output n fr laid = λ x more whole k.
     let Q : Encoding → Type 0 = λ z. encode z whole ≡ output in
     subst Q f.0 (laid more whole (subst R move f.1))
 
-pub inside_blames : (i : Inside) (core : Core) (held : Held) (fault : Option Fault) (e : Event)
-    → i.fresh ≡ false
-    → LaysEvents i.core (held_events i.held ++ e ∷ []) core (held_events held)
+pub inside_blames : (exact : Bool) (i : Inside) (core : Core) (held : Held) (fault : Option Fault)
+    (e : Event) → i.fresh ≡ false
+    → LaysEvents exact i.core (held_events i.held ++ e ∷ []) core (held_events held)
     → BlamesLevels e (emitter_of i) (seen i.requested_settings core (held_events held) i.fresh
     i.opened i.closed fault)
-inside_blames i core held fault e fr l = λ off on.
+inside_blames exact i core held fault e fr l = λ off on.
     refuses_as (held_events i.held ++ e ∷ []) (HasLaid i.core (held_events i.held ++ e ∷ []) core.sink.bytes) (HasFirst (emitter_of i) (e ∷ []) core.sink.bytes) (λ n laid. has_first i e core.sink.bytes n fr laid) (l.blames off on)
 
 -- ---- the settings came into force

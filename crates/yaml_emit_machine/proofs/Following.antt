@@ -1,30 +1,72 @@
 -- Events that are laid out one after another.
 use Rattle.std.proofs.Common.{◌≡◌, ◌⊎◌, inl, inr, ℕ, zero, suc, ◌+◌, drop, List, [], ◌∷◌, ◌++◌, Bool, true, false, refl, sym, subst, ◌∙◌, ap, arith, Option, Some, None}
+use Rattle.std.specs.Prelude.{not}
 use Rattle.std.proofs.lemmas.Bool.{false≢true, or_parts}
 use Rattle.yaml_emit_text.specs.declared.Encoding.{Encoding}
 use Rattle.yaml_emit_text.specs.declared.Status.TheVariants.{Going}
 use Rattle.yaml_emit_text.specs.Text.{Item, encode}
-use Rattle.yaml_emit_text.specs.Layout.{stay}
+use Rattle.yaml_emit_text.specs.declared.Cursor.{Cursor}
+use Rattle.yaml_emit_text.specs.Layout.{Layout, stay, nothing_more}
+use Rattle.yaml_emit_text.specs.Sink.{Ends, Puts}
 use Rattle.yaml_emit_text.proofs.Sinks.{grows_none, grows_both}
-use Rattle.yaml_emit_layout.specs.Content.{Event}
-use Rattle.yaml_emit_layout.specs.State.{piece, problem_at, opens_empty}
+use Rattle.yaml_emit_layout.specs.Content.{Event, sequence_start, mapping_start}
+use Rattle.yaml_emit_layout.specs.State.{State, piece, next, problem_at, opens_empty}
 use Rattle.yaml_emit_state.specs.declared.Core.{Core}
-use Rattle.yaml_emit_state.specs.Steps.{state_of, settings_of, next_piece, LaysOut, IsPut, takes_memory, is_document_start, goes_on}
+use Rattle.yaml_emit_state.specs.Steps.{state_of, settings_of, next_state, next_piece, LaysOut, IsPut, IsSame, Blames, takes_memory, is_document_start, goes_on}
 use Rattle.yaml_emit_state.specs.Finish.{Finishes}
 use Rattle.yaml_emit_state.proofs.Finishing.{finishes_on}
 use Rattle.yaml_emit_state.proofs.Noting.{notes_both, notes_within}
-use Rattle.yaml_emit_machine.specs.Held.{is_ready, passes}
+use Rattle.yaml_emit_state.proofs.Settled.{settled}
+use Rattle.yaml_emit_machine.specs.Held.{is_ready, passes_by}
 use Rattle.yaml_emit_machine.specs.Judged.{refused_at, refusal_behind, LetsOut, first_wrong, LaysAll, take_memory, LaysSome, RefusesHeld}
-use Rattle.yaml_emit_machine.specs.Laying.{HasLaid, LaysEvents}
+use Rattle.yaml_emit_machine.specs.Laying.{HasLaid, LaysEvents, is_undecided_at}
 use Rattle.yaml_emit_machine.proofs.Opening.{opens_none}
 use Rattle.yaml_emit_machine.proofs.Holding.{ready_empty}
 use Rattle.yaml_emit_machine.proofs.Judging.{ready_more, going_open, goes_going, done, text_step, some_step, some_one, some_none, going_notes, noted_takes, drop_next, first_there, start_there, refusal_on, wrong_on, lays_first}
 
-pub lays_none : (a : Core) (h : List Event) → LaysEvents a h a h
-lays_none a h = record {
+-- ---- an event that is laid out before those behind it are known
+
+-- with any events behind it, it is the same as with that answer
+abbrev pub Settles : Core → Event → Bool → List Event → Type 0
+Settles b e empty y = (es : List Event)
+    → IsSame (settings_of b) (state_of b) e empty (opens_empty e (y ++ es))
+
+lays_either : (old new : Core) (e : Event) (v w : Bool)
+    → IsSame (settings_of old) (state_of old) e v w → LaysOut old new e v → LaysOut old new e w
+lays_either old new e v w h l =
+    let st : State = state_of old in
+    let R : Layout → Type 0 = λ t. Puts old.sink new.sink (next_piece (problem_at (settings_of old) st e) t) in
+    let S : Layout → Type 0 = λ t. Blames old new e (next_piece (problem_at (settings_of old) st e) t) in
+    record {
+      settings = l.settings;
+      state = λ g. l.state g ∙ ap (next_state (problem_at (settings_of old) st e) st) (h.1 new.sink.cursor);
+      text = subst R h.0 l.text;
+      memory = l.memory;
+      blames = subst S h.0 l.blames;
+    }
+
+settles_by : (b : Core) (e : Event) (empty : Bool) (y : List Event)
+    → ((es : List Event) → empty ≡ opens_empty e (y ++ es)) → Settles b e empty y
+settles_by b e empty y h = λ es.
+    (ap (piece (settings_of b) (state_of b) e) (h es), λ (c : Cursor). ap (λ (z : Bool). next (settings_of b) (state_of b) e z c) (h es))
+
+-- the first event behind it tells
+told : (e : Event) (z : List Event) (f : Event) (es : List Event)
+    → opens_empty e (z ++ f ∷ []) ≡ opens_empty e ((z ++ f ∷ []) ++ es)
+unfolding opens_empty
+told (sequence_start p) [] f es = refl
+told (sequence_start p) (g ∷ z) f es = refl
+told (mapping_start p) [] f es = refl
+told (mapping_start p) (g ∷ z) f es = refl
+told _ z f es = refl
+
+-- ---- one after another
+
+pub lays_none : (exact : Bool) (a : Core) (h : List Event) → LaysEvents exact a h a h
+lays_none exact a h = record {
   finishes = λ es whole f. f;
-  refuses = λ g es. refl;
-  lets_out = λ es whole f. f;
+  refuses = λ t g es. refl;
+  lets_out = λ t es whole f. f;
   first = λ g es. refl;
   lays = λ es whole f. f;
   grows = grows_none a.sink.bytes;
@@ -45,24 +87,26 @@ none_takes : (e : Event) (es : List Event) → take_memory (e ∷ es) ≡ false
 none_takes e es h = or_parts (takes_memory e) (take_memory es) h
 
 -- which of the events it was, and what stands in the output then
-blamed : (a b c : Core) (h x y : List Event) (e : Event) (empty : Bool) → LaysEvents a h b x
+blamed : (exact : Bool) (a b c : Core) (h x y : List Event) (e : Event) (empty : Bool)
+    → LaysEvents exact a h b x
     → x ≡ e ∷ y → refused_at b.place ≡ None → b.sink.status ≡ Going
-    → ((es : List Event) → empty ≡ opens_empty e (y ++ es)) → takes_memory e ≡ true
+    → Settles b e empty y → takes_memory e ≡ true
     → LaysOut b c e empty
     → (IsPut b.sink c.sink (next_piece (problem_at (settings_of b) (state_of b) e)
     (piece (settings_of b) (state_of b) e empty))
     ⊎ ((is_document_start e ≡ true) × IsPut b.sink c.sink stay))
     → RefusesHeld h (HasLaid a h c.sink.bytes)
-blamed a b c h x y e empty p same o g is takes l (inl put) = record {
+blamed exact a b c h x y e empty p same o g is takes l (inl put) = record {
   front = p.laid;
   takes = first_there p.laid h e y (p.rest ∙ same) takes;
   stands = inl (λ es whole f.
       let m : suc p.laid ≡ p.laid + suc zero = omega arith in
       let P : List Event → Type 0 = λ z. LaysSome (suc zero) (settings_of b) (state_of b) b.sink (z ++ es) whole in
       let Q : Encoding → Type 0 = λ z. encode z whole ≡ c.sink.bytes in
-      subst Q p.encoding (put whole (some_one (problem_at (settings_of b) (state_of b) e) (settings_of b) (state_of b) b.sink e (y ++ es) empty whole o refl (is es) (subst P same (p.some g (suc p.laid) (suc zero) m es whole f)))));
+      let R : Layout → Type 0 = λ t. Ends b.sink (next_piece (problem_at (settings_of b) (state_of b) e) t b.sink.cursor nothing_more) whole in
+      subst Q p.encoding (put whole (subst R (sym (is es).0) (some_one (problem_at (settings_of b) (state_of b) e) (settings_of b) (state_of b) b.sink e (y ++ es) (opens_empty e (y ++ es)) whole o refl refl (subst P same (p.some g (suc p.laid) (suc zero) m es whole f))))));
 }
-blamed a b c h x y e empty p same o g is takes l (inr put) = record {
+blamed exact a b c h x y e empty p same o g is takes l (inr put) = record {
   front = p.laid;
   takes = first_there p.laid h e y (p.rest ∙ same) takes;
   stands = inr (
@@ -74,34 +118,30 @@ blamed a b c h x y e empty p same o g is takes l (inr put) = record {
   );
 }
 
-pub lays_more : (a b c : Core) (h x y : List Event) (e : Event) (empty : Bool) → LaysEvents a h b x
-    → x ≡ e ∷ y → goes_on b.sink.status b.place ≡ true → is_ready x ≡ true → empty ≡ opens_empty e y
-    → LaysOut b c e empty → LaysEvents a h c y
-lays_more a b c h x y e empty p same goes r is l =
+lays_more : (exact : Bool) (a b c : Core) (h x y : List Event) (e : Event) (empty : Bool)
+    → LaysEvents exact a h b x
+    → x ≡ e ∷ y → goes_on b.sink.status b.place ≡ true → (exact ≡ true → is_ready x ≡ true)
+    → Settles b e empty y → LaysOut b c e empty → LaysEvents exact a h c y
+lays_more exact a b c h x y e empty p same goes r is l =
     let Q : List Event → Type 0 = λ z. is_ready z ≡ true in
-    let r' : is_ready (e ∷ y) ≡ true = subst Q same r in
     let o : refused_at b.place ≡ None = going_open b.sink.status b.place goes in
-    let is_empty : (es : List Event) → empty ≡ opens_empty e (y ++ es) = λ es. is ∙ sym (ready_empty e y es r') in
+    let laid : (es : List Event) → LaysOut b c e (opens_empty e (y ++ es)) = λ es. lays_either b c e empty (opens_empty e (y ++ es)) (is es) l in
     record {
       finishes = λ es whole f.
           let P : List Event → Type 0 = λ z. Finishes (settings_of b) (state_of b) b.sink (z ++ es) whole in
-          let R : Bool → Type 0 = λ v. LaysOut b c e v in
-          finishes_on b c e (y ++ es) whole (subst R (is ∙ sym (ready_empty e y es r')) l) (subst P same (p.finishes es whole f));
-      refuses = λ g es.
-          refusal_on b c e (y ++ es) empty o (ready_more e y es r') l g
-          ∙ (ap (λ z. refusal_behind (settings_of b) (state_of b) (z ++ es)) (sym same) ∙ p.refuses (l.text.going g) es);
-      lets_out = λ es whole f.
+          finishes_on b c e (y ++ es) whole (laid es) (subst P same (p.finishes es whole f));
+      refuses = λ t g es.
+          refusal_on b c e (y ++ es) empty o (ready_more e y es (subst Q same (r t))) l g
+          ∙ (ap (λ z. refusal_behind (settings_of b) (state_of b) (z ++ es)) (sym same) ∙ p.refuses t (l.text.going g) es);
+      lets_out = λ t es whole f.
           let P : List Event → Type 0 = λ z. LetsOut (settings_of b) (state_of b) b.sink (z ++ es) whole in
-          let R : Bool → Type 0 = λ v. LaysOut b c e v in
-          let l' : LaysOut b c e (opens_empty e (y ++ es)) = subst R (is ∙ sym (ready_empty e y es r')) l in
-          text_step b c e (y ++ es) whole o (ready_more e y es r') l' (subst P same (p.lets_out es whole f));
+          text_step b c e (y ++ es) whole o (ready_more e y es (subst Q same (r t))) (laid es) (subst P same (p.lets_out t es whole f));
       first = λ g es.
           wrong_on b c e (y ++ es) empty o l g
           ∙ (ap (λ z. first_wrong (settings_of b) (state_of b) (z ++ es)) (sym same) ∙ p.first (l.text.going g) es);
       lays = λ es whole f.
           let P : List Event → Type 0 = λ z. LaysAll (settings_of b) (state_of b) b.sink (z ++ es) whole in
-          let R : Bool → Type 0 = λ v. LaysOut b c e v in
-          lays_first b c e (y ++ es) whole o (subst R (is ∙ sym (ready_empty e y es r')) l) (subst P same (p.lays es whole f));
+          lays_first b c e (y ++ es) whole o (laid es) (subst P same (p.lays es whole f));
       grows = grows_both a.sink.bytes b.sink.bytes c.sink.bytes p.grows l.text.grows;
       going = λ g. p.going (l.text.going g);
       encoding = l.text.encoding ∙ p.encoding;
@@ -116,31 +156,47 @@ lays_more a b c h x y e empty p same goes r is l =
           let on : b.sink.status ≡ Going = l.text.going g in
           let m' : m ≡ p.laid + suc n = omega (arith, is) in
           let P : List Event → Type 0 = λ z. LaysSome (suc n) (settings_of b) (state_of b) b.sink (z ++ es) whole in
-          let R : Bool → Type 0 = λ v. LaysOut b c e v in
-          let l' : LaysOut b c e (opens_empty e (y ++ es)) = subst R (is_empty es) l in
-          some_step (problem_at (settings_of b) (state_of b) e) n b c e (y ++ es) whole o g (done b c e _ l') (subst P same (p.some on m (suc n) m' es whole f));
+          some_step (problem_at (settings_of b) (state_of b) e) n b c e (y ++ es) whole o g (done b c e _ (laid es)) (subst P same (p.some on m (suc n) m' es whole f));
       blames = λ off on.
           let on_still : b.sink.status ≡ Going = goes_going b.sink.status b.place goes in
           let off' : b.starved ≡ false = p.memory (going_notes (take_memory h) a.sink.status b.sink.status on_still) ∙ off in
           let takes : takes_memory e ≡ true = noted_takes (takes_memory e) b.sink.status c.sink.status b.starved c.starved off' on l.memory in
-          blamed a b c h x y e empty p same o on_still is_empty takes l (l.blames.levels on_still off' on);
+          blamed exact a b c h x y e empty p same o on_still is takes l (l.blames.levels on_still off' on);
     }
 
+-- the oldest of those that are held, with an event behind them
+pub lays_oldest : (exact : Bool) (a b c : Core) (h x z : List Event) (e f : Event)
+    → LaysEvents exact a h b x → x ≡ e ∷ (z ++ f ∷ []) → goes_on b.sink.status b.place ≡ true
+    → (exact ≡ true → is_ready x ≡ true) → LaysOut b c e (opens_empty e (z ++ f ∷ []))
+    → LaysEvents exact a h c (z ++ f ∷ [])
+lays_oldest exact a b c h x z e f p same goes r l =
+    lays_more exact a b c h x (z ++ f ∷ []) e (opens_empty e (z ++ f ∷ [])) p same goes r (settles_by b e (opens_empty e (z ++ f ∷ [])) (z ++ f ∷ []) (λ es. told e z f es)) l
+
+undecided_not : (b : Bool) → not b ≡ true → b ≡ false
+undecided_not false h = refl
+undecided_not true h = absurd (cc)
+
 -- an event that isn't held
-pub lays_past : (a b c : Core) (x h : List Event) (e : Event) → LaysEvents a x b (h ++ e ∷ [])
-    → goes_on b.sink.status b.place ≡ true → passes h e ≡ true → LaysOut b c e false
-    → LaysEvents a x c h
-lays_past a b c x [] e j g p l = lays_more a b c x (e ∷ []) [] e false j refl g p (sym (opens_none e)) l
-lays_past a b c x (f ∷ fs) e j g p l = absurd (cc)
+pub lays_past : (early : Bool) (a b c : Core) (x h : List Event) (e : Event)
+    → LaysEvents (not early) a x b (h ++ e ∷ []) → goes_on b.sink.status b.place ≡ true
+    → passes_by early h (is_undecided_at b e) e ≡ true → LaysOut b c e false
+    → LaysEvents (not early) a x c h
+lays_past false a b c x [] e j g p l =
+    lays_more true a b c x (e ∷ []) [] e false j refl g (λ t. p) (settles_by b e false [] (λ es. sym (ready_empty e [] es p ∙ opens_none e))) l
+lays_past true a b c x [] e j g p l =
+    lays_more false a b c x (e ∷ []) [] e false j refl g (λ t. absurd (false≢true t)) (λ es. settled (settings_of b) (state_of b) e false (opens_empty e es) (undecided_not (is_undecided_at b e) p)) l
+lays_past false a b c x (f ∷ fs) e j g p l = absurd (cc)
+lays_past true a b c x (f ∷ fs) e j g p l = absurd (cc)
 
 -- one that is
-pub lays_held : (a b : Core) (x y z : List Event) → z ≡ y → LaysEvents a x b y → LaysEvents a x b z
-lays_held a b x y z same j = let P : List Event → Type 0 = λ t. LaysEvents a x b t in subst P (sym same) j
+pub lays_held : (exact : Bool) (a b : Core) (x y z : List Event) → z ≡ y → LaysEvents exact a x b y
+    → LaysEvents exact a x b z
+lays_held exact a b x y z same j = let P : List Event → Type 0 = λ t. LaysEvents exact a x b t in subst P (sym same) j
 
 -- ---- memory
 
 -- while the output goes on, none was refused outside it
-pub lays_unnoted : (old new : Core) (before after : List Event) → LaysEvents old before new after
-    → (old.sink.status ≡ Going → old.starved ≡ false) → new.sink.status ≡ Going
+pub lays_unnoted : (exact : Bool) (old new : Core) (before after : List Event)
+    → LaysEvents exact old before new after → (old.sink.status ≡ Going → old.starved ≡ false) → new.sink.status ≡ Going
     → new.starved ≡ false
-lays_unnoted old new before after j n g = j.memory (going_notes _ old.sink.status new.sink.status g) ∙ n (j.going g)
+lays_unnoted exact old new before after j n g = j.memory (going_notes _ old.sink.status new.sink.status g) ∙ n (j.going g)

@@ -1,16 +1,19 @@
 -- What is held, and when it is laid out.
 use Rattle.std.proofs.Common.{◌≡◌, ℕ, ◌+◌, ◌<◌, List, [], ◌∷◌, ◌++◌, length, Bool, true, false, refl, sym, subst, ◌∙◌, ap, arith, length-append}
-use Rattle.std.specs.Prelude.{nat_le, ◌||◌, ◌&&◌, ◌≤◌}
+use Rattle.std.specs.Prelude.{nat_le, not, ◌||◌, ◌&&◌, ◌≤◌, Option}
+use Rattle.std.proofs.lemmas.Bool.{false≢true}
 use Rattle.std.proofs.lemmas.Bool.Decides.{nat_tests}
 use Rattle.yaml_emit_layout.specs.Content.{Event, no_event, stream_start, stream_end, document_start, document_end, alias, scalar, sequence_start, sequence_end, mapping_start, mapping_end}
 use Rattle.yaml_emit_layout.specs.State.{opens_empty}
+use Rattle.yaml_emit_layout.specs.declared.Level.{Level}
+use Rattle.yaml_emit_state.specs.Due.{is_undecided}
 use Rattle.yaml_parse_model.specs.declared.yaml_event_body_t.{yaml_event_body_t}
 use Rattle.yaml_emit_machine.specs.declared.held.Held.{Held}
 use Rattle.yaml_emit_machine.specs.declared.held.Count.{Count}
 use Rattle.yaml_emit_machine.specs.declared.held.Count.TheVariants.{Nothing}
 use Rattle.yaml_emit_machine.specs.declared.held.Slot.{Slot}
 use Rattle.yaml_emit_machine.specs.declared.held.Slot.TheVariants.{First, Second, Third}
-use Rattle.yaml_emit_machine.specs.Held.{is_ready, needs, closes, ends_level, releases, passes, next, less, stands, filled, held_events, oldest_event}
+use Rattle.yaml_emit_machine.specs.Held.{is_ready, needs, closes, ends_level, releases, releases_by, passes, passes_by, are_some, next, less, stands, filled, held_events, oldest_event}
 
 -- Whether an event opens an empty collection is told by what has come, once it is ready: what follows changes nothing.
 pub ready_empty : (e : Event) (es more : List Event) → is_ready (e ∷ es) ≡ true
@@ -110,11 +113,29 @@ few_room (a ∷ b ∷ []) f h m = omega arith
 few_room (a ∷ b ∷ c ∷ []) f h m = let k = four_ready a b c f [] in absurd (cc)
 few_room (a ∷ b ∷ c ∷ d ∷ xs) f h m = absurd (omega (arith, m))
 
+few_room_by : (early : Bool) (xs : List Event) (f : Event) → releases_by early xs f ≡ false
+    → length xs ≤ 3 → length xs ≤ 2
+few_room_by false xs f h m = few_room xs f h m
+few_room_by true [] f h m = omega arith
+few_room_by true (e ∷ es) f h m = absurd (cc)
+
 -- behind the last that is laid out two are left: they wait, or the output has stopped
-pub room_held : (b : Bool) (xs : List Event) (f : Event) → (releases xs f && b) ≡ false
+pub room_held : (early b : Bool) (xs : List Event) (f : Event) → (releases_by early xs f && b) ≡ false
     → (b ≡ false → length xs ≤ 2) → length xs ≤ 3 → length xs ≤ 2
-room_held true xs f h s m = few_room xs f (both_false _ true refl h) m
-room_held false xs f h s m = s refl
+room_held early true xs f h s m = few_room_by early xs f (both_false _ true refl h) m
+room_held early false xs f h s m = s refl
+
+-- what is let out is held, and, where it comes as it is ready, it is
+pub some_released : (early : Bool) (xs : List Event) (f : Event) → releases_by early xs f ≡ true
+    → are_some xs ≡ true
+some_released true xs f h = h
+some_released false [] f h = absurd (cc)
+some_released false (e ∷ es) f h = refl
+
+pub exact_released : (early : Bool) (xs : List Event) (f : Event) → releases_by early xs f ≡ true
+    → not early ≡ true → is_ready (xs ++ f ∷ []) ≡ true
+exact_released false xs f h t = released_ready xs f h
+exact_released true xs f h t = absurd (false≢true t)
 
 -- an event that neither releases others nor passes is held behind them
 pub pushed_waits : (xs ys : List Event) (f : Event) → ys ≡ xs ++ f ∷ [] → releases xs f ≡ false
@@ -131,27 +152,62 @@ pub passed_waits : (xs : List Event) (f : Event) → passes xs f ≡ true → is
 passed_waits [] f h = none_waits
 passed_waits (e ∷ es) f h = absurd (cc)
 
+pub passed_by_waits : (early : Bool) (xs : List Event) (undecided : Bool) (f : Event)
+    → passes_by early xs undecided f ≡ true → is_ready xs ≡ false
+passed_by_waits false xs undecided f h = passed_waits xs f h
+passed_by_waits true [] undecided f h = none_waits
+passed_by_waits true (e ∷ es) undecided f h = absurd (cc)
+
+-- an event that the next one may decide waits for it
+undecided_waits : (canonical : Bool) (top : Option Level) (f : Event)
+    → is_undecided canonical top f ≡ true → is_ready (f ∷ []) ≡ false
+unfolding is_ready
+undecided_waits canonical top (sequence_start p) h = refl
+undecided_waits canonical top (mapping_start p) h = refl
+undecided_waits canonical top no_event h = absurd (cc)
+undecided_waits canonical top (stream_start x) h = absurd (cc)
+undecided_waits canonical top stream_end h = absurd (cc)
+undecided_waits canonical top (document_start i) h = absurd (cc)
+undecided_waits canonical top (document_end i) h = absurd (cc)
+undecided_waits canonical top (alias name) h = absurd (cc)
+undecided_waits canonical top (scalar x) h = absurd (cc)
+undecided_waits canonical top sequence_end h = absurd (cc)
+undecided_waits canonical top mapping_end h = absurd (cc)
+
+not_passed : (undecided : Bool) → (true && not undecided) ≡ false → undecided ≡ true
+not_passed true h = refl
+not_passed false h = absurd (cc)
+
+-- the same of one that comes early
+pub pushed_by_waits : (early : Bool) (xs ys : List Event) (canonical : Bool) (top : Option Level)
+    (f : Event) → ys ≡ xs ++ f ∷ [] → releases_by early xs f ≡ false
+    → passes_by early xs (is_undecided canonical top f) f ≡ false → is_ready ys ≡ false
+pushed_by_waits false xs ys canonical top f same r p = pushed_waits xs ys f same r p
+pushed_by_waits true [] ys canonical top f same r p =
+    ap is_ready same ∙ undecided_waits canonical top f (not_passed (is_undecided canonical top f) p)
+pushed_by_waits true (e ∷ es) ys canonical top f same r p = absurd (cc)
+
 in_slots : Count → Slot → yaml_event_body_t → yaml_event_body_t → yaml_event_body_t → Held
 in_slots k s a b c = record { count = k; oldest = s; first = a; second = b; third = c }
 
-front_left : (k : Count) (s : Slot) (a b c x : yaml_event_body_t) (f : Event)
-    → releases (held_events (in_slots k s a b c)) f ≡ true
+front_left : (k : Count) (s : Slot) (a b c x : yaml_event_body_t)
+    → are_some (held_events (in_slots k s a b c)) ≡ true
     → let m = filled s x (in_slots k s a b c) in
     held_events (in_slots k s a b c) ≡ oldest_event (in_slots k s a b c) ∷ held_events (record m { oldest = next m.oldest; count = less m.count })
 unfolding in_slots
-front_left Nothing s a b c x f r = absurd (cc)
-front_left k First a b c x f r = refl
-front_left k Second a b c x f r = refl
-front_left k Third a b c x f r = refl
+front_left Nothing s a b c x r = absurd (cc)
+front_left k First a b c x r = refl
+front_left k Second a b c x r = refl
+front_left k Third a b c x r = refl
 
 -- the oldest is gone, whatever stands in its slot
-pub left_behind : (old mid : Held) (k : Count) (s : Slot) (f : Event)
+pub left_behind : (old mid : Held) (k : Count) (s : Slot)
     → mid ≡ filled old.oldest (stands old.oldest mid) old → s ≡ next mid.oldest → k ≡ less mid.count
-    → releases (held_events old) f ≡ true
+    → are_some (held_events old) ≡ true
     → held_events old ≡ oldest_event old ∷ held_events (record mid { oldest = s; count = k })
 unfolding in_slots
-left_behind old mid k s f m e n r =
+left_behind old mid k s m e n r =
     let P : Held → Type 0 = λ z. held_events old ≡ oldest_event old ∷ held_events (record z { oldest = next z.oldest; count = less z.count }) in
     let Q : Slot → Type 0 = λ z. held_events old ≡ oldest_event old ∷ held_events (record mid { oldest = z; count = less mid.count }) in
     let R : Count → Type 0 = λ z. held_events old ≡ oldest_event old ∷ held_events (record mid { oldest = s; count = z }) in
-    subst R (sym n) (subst Q (sym e) (subst P (sym m) (front_left old.count old.oldest old.first old.second old.third (stands old.oldest mid) f r)))
+    subst R (sym n) (subst Q (sym e) (subst P (sym m) (front_left old.count old.oldest old.first old.second old.third (stands old.oldest mid) r)))

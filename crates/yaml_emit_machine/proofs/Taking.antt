@@ -17,7 +17,7 @@ use Rattle.yaml_emit_layout.specs.declared.Expected.TheVariants as at
 use Rattle.yaml_emit_layout.specs.Content.{Event}
 use Rattle.yaml_emit_layout.specs.State.{State, placed}
 use Rattle.yaml_emit_state.specs.declared.Core.{Core}
-use Rattle.yaml_emit_state.specs.Steps.{state_of, settings_of, IsFreshCore, may_note}
+use Rattle.yaml_emit_state.specs.Steps.{state_of, settings_of, IsFreshCore, may_note, goes_on}
 use Rattle.yaml_emit_state.proofs.Noting.{notes_both, notes_some}
 use Rattle.yaml_emit_machine.specs.Held.{held_events}
 use Rattle.yaml_emit_machine.specs.declared.held.Held.{Held}
@@ -28,7 +28,7 @@ use Rattle.yaml_emit_machine.specs.Laying.{LaysEvents}
 use Rattle.yaml_emit_machine.specs.Emitter.{Emitter, text_of, fault_by, refusal_by, stop_of, stream_encoding, CompletesBy, Completes}
 use Rattle.yaml_emit_machine.specs.Views.{emitter_of, IsEmitter}
 use Rattle.yaml_emit_machine.specs.Verdict.{verdict_by, verdict, IsLetOut, WritesBy, Writes, wrong_by, wrong, IsLaid, LaysBy, Lays, TellsOutcome}
-use Rattle.yaml_emit_machine.specs.Taking.{TakesEvents, Stuck, NotesMemory, NotesMemoryOf, ComesIntoForce}
+use Rattle.yaml_emit_machine.specs.Taking.{TakesEvents, GivesText, Stuck, NotesMemory, NotesMemoryOf, ComesIntoForce}
 use Rattle.yaml_emit_machine.proofs.Viewing.{seen}
 use Rattle.yaml_emit_machine.proofs.Blaming.{begin_first, ends_new}
 use Rattle.yaml_emit_machine.proofs.Judging.{going_open, goes_going, or_some, unless_some}
@@ -162,19 +162,36 @@ lay_lays old new e h x es whole a b same on coded c =
     let move : old.held ++ (e ∷ es) ≡ (h ++ e ∷ []) ++ es = ap (λ z. z ++ (e ∷ es)) (sym same) ∙ sym (append_assoc h (e ∷ []) es) in
     subst Q (sym b) (coded ∙ k.0, on (subst R move k.1))
 
+pub inside_gives : (exact : Bool) (i : Inside) (core : Core) (h held : Held) (fault : Option Fault)
+    (e : Event) → i.fresh ≡ false → h ≡ i.held
+    → LaysEvents exact i.core (held_events h ++ e ∷ []) core (held_events held)
+    → GivesText (emitter_of i) e
+    (seen i.requested_settings core (held_events held) i.fresh i.opened i.closed fault)
+inside_gives exact i core h held fault e fr same l =
+    let new : Emitter = seen i.requested_settings core (held_events held) i.fresh i.opened i.closed fault in
+    record {
+      completes = λ x es whole c. lay_completes (emitter_of i) new e (held_events h) x es whole fr fr (ap held_events same) (l.finishes es whole) l.encoding c;
+      first = λ g es. lay_wrong (emitter_of i) new e (held_events h) es fr fr (ap held_events same) (l.first g es);
+      lays = λ x es whole c. lay_lays (emitter_of i) new e (held_events h) x es whole fr fr (ap held_events same) (l.lays es whole) l.encoding c;
+      grows = l.grows;
+      requested_settings = refl;
+      limit = l.limit;
+    }
+
 pub inside_takes : (i : Inside) (core : Core) (h held : Held) (fault : Option Fault) (e : Event)
     → i.fresh ≡ false → i.core.sink.status ≡ Going → h ≡ i.held
-    → LaysEvents i.core (held_events h ++ e ∷ []) core (held_events held)
+    → LaysEvents true i.core (held_events h ++ e ∷ []) core (held_events held)
     → TakesEvents (emitter_of i) (e ∷ [])
     (seen i.requested_settings core (held_events held) i.fresh i.opened i.closed fault) []
 inside_takes i core h held fault e fr on same l =
     let new : Emitter = seen i.requested_settings core (held_events held) i.fresh i.opened i.closed fault in
+    let given : GivesText (emitter_of i) e new = inside_gives true i core h held fault e fr same l in
     record {
-      completes = λ x es whole c. lay_completes (emitter_of i) new e (held_events h) x es whole fr fr (ap held_events same) (l.finishes es whole) l.encoding c;
-      refuses = λ g es. lay_refuses (emitter_of i) new e (held_events h) es fr fr (ap held_events same) (l.refuses g es);
-      writes = λ x es whole c. lay_writes (emitter_of i) new e (held_events h) x es whole fr fr (ap held_events same) (l.lets_out es whole) l.encoding c;
-      first = λ g es. lay_wrong (emitter_of i) new e (held_events h) es fr fr (ap held_events same) (l.first g es);
-      lays = λ x es whole c. lay_lays (emitter_of i) new e (held_events h) x es whole fr fr (ap held_events same) (l.lays es whole) l.encoding c;
+      completes = given.completes;
+      refuses = λ g es. lay_refuses (emitter_of i) new e (held_events h) es fr fr (ap held_events same) (l.refuses refl g es);
+      writes = λ x es whole c. lay_writes (emitter_of i) new e (held_events h) x es whole fr fr (ap held_events same) (l.lets_out refl es whole) l.encoding c;
+      first = given.first;
+      lays = given.lays;
       grows = l.grows;
       going = λ _. on;
       requested_settings = refl;
@@ -182,11 +199,12 @@ inside_takes i core h held fault e fr on same l =
       begun = λ f. absurd (cc);
     }
 
-pub inside_notes : (i : Inside) (core : Core) (h held : Held) (fault : Option Fault) (e : Event)
-    → h ≡ i.held → LaysEvents i.core (held_events h ++ e ∷ []) core (held_events held)
+pub inside_notes : (exact : Bool) (i : Inside) (core : Core) (h held : Held) (fault : Option Fault)
+    (e : Event) → h ≡ i.held
+    → LaysEvents exact i.core (held_events h ++ e ∷ []) core (held_events held)
     → NotesMemoryOf e (emitter_of i) (seen i.requested_settings core (held_events held) i.fresh
     i.opened i.closed fault)
-inside_notes i core h held fault e same l =
+inside_notes exact i core h held fault e same l =
     let new : Emitter = seen i.requested_settings core (held_events held) i.fresh i.opened i.closed fault in
     let P : Held → Type 0 = λ z. NotesMemory (take_memory (held_events z ++ e ∷ [])) (emitter_of i) new in
     subst P same l.memory
@@ -196,6 +214,11 @@ pub inside_going : (i : Inside) → IsEmitter i → option_map fault_of i.fault 
     → i.core.sink.status ≡ Going
 inside_going i inv none =
     goes_going i.core.sink.status i.core.place (refusal_none i.core.place i.core.sink.status i.core.starved (sym inv.faulty ∙ none))
+
+-- and goes on to the next event
+pub inside_goes : (i : Inside) → IsEmitter i → option_map fault_of i.fault ≡ None
+    → goes_on i.core.sink.status i.core.place ≡ true
+inside_goes i inv none = refusal_none i.core.place i.core.sink.status i.core.starved (sym inv.faulty ∙ none)
 
 -- and no event was refused
 pub inside_open : (i : Inside) → IsEmitter i → option_map fault_of i.fault ≡ None

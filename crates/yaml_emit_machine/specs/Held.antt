@@ -130,6 +130,18 @@ abbrev pub passes : List Event → Event → Bool
 passes [] e = is_ready (e ∷ [])
 passes (f ∷ fs) e = false
 
+abbrev pub are_some : List Event → Bool
+are_some [] = false
+are_some (e ∷ es) = true
+
+-- The same where the whole text is wanted: nothing is held, and the next event decides nothing.
+abbrev pub passes_early : List Event → Bool → Bool
+passes_early held undecided = not (are_some held) && not undecided
+
+abbrev pub passes_by : Bool → List Event → Bool → Event → Bool
+passes_by true held undecided e = passes_early held undecided
+passes_by false held undecided e = passes held e
+
 -- what is held are the last of these
 abbrev pub AreLast : List Event → List Event → Type 0
 AreLast all last = (front : List Event) × (all ≡ front ++ last)
@@ -138,3 +150,8 @@ AreLast all last = (front : List Event) × (all ≡ front ++ last)
 abbrev pub releases : List Event → Event → Bool
 releases [] e = false
 releases (f ∷ fs) e = is_ready (f ∷ fs ++ e ∷ [])
+
+-- the same, or, where the whole text is wanted, any are held
+abbrev pub releases_by : Bool → List Event → Event → Bool
+releases_by true held e = are_some held
+releases_by false held e = releases held e

@@ -1,10 +1,13 @@
 -- What laying out what is held does to the state that lays it out: the clauses of private calls alone cite it.
-use Rattle.std.specs.Prelude.{◌≡◌, true, false, ℕ, ◌+◌, List, ◌++◌, drop}
+use Rattle.std.specs.Prelude.{◌≡◌, Bool, true, false, ℕ, ◌+◌, List, ◌++◌, drop}
 use Rattle.yaml_emit_text.specs.declared.Status.TheVariants.{Going}
 use Rattle.yaml_emit_text.specs.Text.{Item, encode}
 use Rattle.yaml_emit_text.specs.Sink.{Grows}
 use Rattle.yaml_emit_layout.specs.Content.{Event}
+use Rattle.yaml_emit_layout.specs.State.{top_of}
 use Rattle.yaml_emit_state.specs.declared.Core.{Core}
+use Rattle.yaml_emit_state.specs.Due.{is_undecided}
+use Rattle.yaml_emit_state.specs.Stack.{stack_of}
 use Rattle.yaml_emit_state.specs.Steps.{state_of, settings_of, Notes}
 use Rattle.yaml_emit_state.specs.Finish.{Finishes}
 use Rattle.yaml_emit_machine.specs.Judged.{refusal_behind, LetsOut, first_wrong, LaysAll, take_memory, LaysSome, RefusesHeld}
@@ -15,17 +18,22 @@ HasLaid old before output n = (es : List Event) (whole : List Item)
     → LaysSome n (settings_of old) (state_of old) old.sink (before ++ es) whole
     → encode old.sink.encoding whole ≡ output
 
+-- the next event may decide what is written for this one there
+abbrev pub is_undecided_at : Core → Event → Bool
+is_undecided_at core e = is_undecided core.settings.canonical (top_of (stack_of core.levels)) e
+
 -- Of the events `before` those of `after` are left, and the others were laid out. Whatever follows: the whole text is the same,
--- the same event is refused, unless the output has stopped, and the same is written; of those that are let out, and of all.
-pub record LaysEvents (old : Core) (before : List Event) (new : Core)
+-- the same event is refused, unless the output has stopped, and the same is written; of all, and, where each was laid out as it was
+-- let out, of those that are let out.
+pub record LaysEvents (exact : Bool) (old : Core) (before : List Event) (new : Core)
     (after : List Event) : Type 0 where
   pub finishes : (es : List Event) (whole : List Item)
       → Finishes (settings_of old) (state_of old) old.sink (before ++ es) whole
       → Finishes (settings_of new) (state_of new) new.sink (after ++ es) whole
-  pub refuses : new.sink.status ≡ Going → (es : List Event)
+  pub refuses : exact ≡ true → new.sink.status ≡ Going → (es : List Event)
       → refusal_behind (settings_of new) (state_of new) (after ++ es)
       ≡ refusal_behind (settings_of old) (state_of old) (before ++ es)
-  pub lets_out : (es : List Event) (whole : List Item)
+  pub lets_out : exact ≡ true → (es : List Event) (whole : List Item)
       → LetsOut (settings_of old) (state_of old) old.sink (before ++ es) whole
       → LetsOut (settings_of new) (state_of new) new.sink (after ++ es) whole
   pub first : new.sink.status ≡ Going → (es : List Event)

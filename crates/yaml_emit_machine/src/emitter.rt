@@ -21,7 +21,7 @@ mod resume;
 
 use crate::fault::note;
 use crate::held::Held;
-use crate::release::hold_or_lay;
+use crate::release::{hold_or_lay, hold_or_lay_early};
 pub use dump::dump_document;
 pub use resume::{directives, outer, resumed, stand};
 use std::alloc::Global;
@@ -235,7 +235,38 @@ impl yaml_emitter_t {
         ensures last { AreLast (self.old.held ++ emitter_event (body_of event.old) ∷ [])
             self.new.held }
     {
-        hold_or_lay(&mut self.core, &mut self.held, event);
+        hold_or_lay(&mut self.core, &mut self.held, event, false);
+        note(&self.core, &mut self.fault);
+    }
+
+    // Whether no fault has come, and the settings are in force.
+    // Inlined: two reads.
+    #[inline(always)]
+    fn is_running(&self) -> bool
+        ensures right { result ≡ true → self.now.fault ≡ None }
+        ensures begun { result ≡ true → self.now.fresh ≡ false }
+    {
+        match self.fault {
+            Some(_) => false,
+            None => !self.fresh,
+        }
+    }
+
+    // An event is given behind those that are held, where the whole text is wanted.
+    // Inlined into its one caller.
+    #[inline(always)]
+    fn lay_early(&mut self, event: &mut yaml_event_body_t)
+        requires utf8 { HasUtf8 (body_of event.old) }
+        requires right { self.old.fault ≡ None }
+        requires begun { self.old.fresh ≡ false }
+        ensures text { GivesText self.old (emitter_event (body_of event.old)) self.new }
+        ensures memory { NotesMemoryOf (emitter_event (body_of event.old)) self.old self.new }
+        ensures blames { BlamesLevels (emitter_event (body_of event.old)) self.old self.new }
+        ensures few { length self.new.held ≤ 3 }
+        ensures opened { (self.new.opened ≡ self.old.opened) × (self.new.closed ≡ self.old.closed) }
+        ensures begun { self.new.fresh ≡ false }
+    {
+        hold_or_lay_early(&mut self.core, &mut self.held, event);
         note(&self.core, &mut self.fault);
     }
 
@@ -247,7 +278,7 @@ impl yaml_emitter_t {
     {
         match self.fault {
             Some(_) => false,
-            None => !self.fresh && self.core.is_canonical() && self.held.is_empty(),
+            None => !self.fresh && self.core.is_canonical() && !self.held.holds_any(),
         }
     }
 
@@ -380,9 +411,9 @@ pub fn take_event(emitter: &mut yaml_emitter_t, event: &mut yaml_event_body_t)
     }
 }
 
-/// `give` where the whole text is wanted: in canonical form no event is held, since none behind it decides what is written for
-/// it. So output and fault may come some events earlier; the fault is that of the same event, and the text that up to it.
-// Out of line: the short way to the layout, beside the general one, and pretty form has none of it.
+/// `give` where the whole text is wanted: an event is held only where the next one decides what is written for it, and in canonical
+/// form none is. So output and fault may come some events earlier; the fault is that of the same event, and the text that up to it.
+// Out of line: the whole work on an event stands once, not in each of its callers.
 #[inline(never)]
 pub fn give_early(emitter: &mut yaml_emitter_t, event: &mut yaml_event_body_t)
     requires { HasUtf8 (body_of event.old) }
@@ -395,8 +426,8 @@ pub fn give_early(emitter: &mut yaml_emitter_t, event: &mut yaml_event_body_t)
         × (emitter.new.closed ≡ emitter.old.closed) }
     ensures begun { emitter.new.fresh ≡ false }
 {
-    if emitter.lays_at_once() {
-        emitter.lay_at_once(event);
+    if emitter.is_running() {
+        emitter.lay_early(event);
     } else {
         take_event(emitter, event);
     }

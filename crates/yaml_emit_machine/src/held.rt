@@ -94,7 +94,7 @@ impl Slot {
 }
 
 impl Held {
-    ghost use Rattle.yaml_emit_machine.specs.Held.{held_bodies, held_events, oldest_event, later_events, HeldUtf8, stands, filled, releases, closes, needs, passes, opens_level, ends_level};
+    ghost use Rattle.yaml_emit_machine.specs.Held.{held_bodies, held_events, oldest_event, later_events, HeldUtf8, stands, filled, are_some, releases, releases_by, closes, needs, passes, opens_level, ends_level};
 
     /// No event.
     pub fn nothing() -> Held
@@ -122,15 +122,16 @@ impl Held {
         }
     }
 
-    /// Whether none is held.
+    /// Whether any is held.
     // Inlined: one comparison.
     #[inline(always)]
-    pub fn is_empty(&self) -> bool
-        ensures { result ≡ true → held_events self.now ≡ [] }
+    pub fn holds_any(&self) -> bool
+        ensures some { result ≡ are_some (held_events self.now) }
+        ensures none { result ≡ false → held_events self.now ≡ [] }
     {
         match self.count {
-            Count::Nothing => true,
-            _ => false,
+            Count::Nothing => false,
+            _ => true,
         }
     }
 
@@ -278,6 +279,18 @@ impl Held {
         }
     }
 
+    /// The same, or early: then where any is held.
+    pub fn releases_by(&self, event: &yaml_event_body_t, early: bool) -> bool
+        ensures { result ≡ releases_by early (held_events self.now)
+            (emitter_event (body_of event.now)) }
+    {
+        if early {
+            self.holds_any()
+        } else {
+            self.releases(event)
+        }
+    }
+
     // The oldest opens a collection that the next one closes, with this event behind those that are held.
     #[tactic(auto, using(crate::proofs::Opening::opens_first))]
     fn opens_empty(&self, event: &yaml_event_body_t) -> bool
@@ -292,8 +305,7 @@ impl Held {
 
     /// Lays out the oldest, which isn't held then, with this event behind those that are held.
     pub fn lay_oldest(&mut self, core: &mut Core, event: &yaml_event_body_t)
-        requires ready { releases (held_events self.old) (emitter_event (body_of event.now))
-            ≡ true }
+        requires ready { are_some (held_events self.old) ≡ true }
         requires utf8 { HeldUtf8 self.old }
         ensures events { held_events self.old ≡ oldest_event self.old ∷ held_events self.new }
         ensures utf8 { HeldUtf8 self.new }

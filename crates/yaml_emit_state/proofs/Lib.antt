@@ -2,6 +2,7 @@ pub mod Lists
 mod Plain
 mod Bracketed
 pub mod Canonical
+pub mod Settled
 pub mod Seeing
 pub mod Finishing
 pub mod Noting
@@ -9,3 +10,4 @@ pub mod Blaming
 pub mod Keyed
 pub mod Names
 mod Unmarked
+mod Framed

@@ -2,6 +2,7 @@
 use Rattle.std.specs.Prelude.{◌≡◌, ℕ, ◌+◌, ◌≤◌, Bool, true, false, not, ◌&&◌, nat_le, List, [], ◌∷◌, length, Option, Some, None}
 use Rattle.std.specs.Str.{chars}
 use Rattle.yaml_scan_model.specs.declared.yaml_scalar_style_t.{yaml_scalar_style_t}
+use Rattle.yaml_scan_model.specs.declared.yaml_scalar_style_t.TheVariants.{YAML_DOUBLE_QUOTED_SCALAR_STYLE}
 use Rattle.yaml_emit_text.specs.declared.Settings.{Settings}
 use Rattle.yaml_emit_text.specs.Layout.{Layout, ◌▹◌}
 use Rattle.yaml_emit_text.specs.Scalars.{plain}
@@ -31,6 +32,18 @@ pub record IsBare (x : said.Scalar) : Type 0 where
 abbrev pub IsBareEvent : said.Event → Type 0
 IsBareEvent (said.scalar x) = IsBare x
 IsBareEvent e = ⊥
+
+-- no anchor and no tag, and it may be quoted and is asked to be, in double quotes
+abbrev pub is_double : yaml_scalar_style_t → Bool
+is_double YAML_DOUBLE_QUOTED_SCALAR_STYLE = true
+is_double style = false
+
+abbrev pub is_framed : Option (List ℕ) → Option (List ℕ) → Bool → yaml_scalar_style_t → Bool
+is_framed anchor tag quoted style = not (has anchor) && (not (has tag) && (quoted && is_double style))
+
+abbrev pub IsFramedEvent : said.Event → Type 0
+IsFramedEvent (said.scalar x) = is_framed x.anchor x.tag x.quoted x.style ≡ true
+IsFramedEvent e = ⊥
 
 -- its text, and with what comes before it in its collection
 abbrev pub bare_text : Settings → NodePosition → List ℕ → Layout

@@ -2,6 +2,7 @@
 use Rattle.std.specs.Prelude.{◌≡◌, ℕ, Bool, true, false, List, Option, Some, None, map}
 use Rattle.std.specs.Str.{IsAscii}
 use Rattle.yaml_scan_model.specs.declared.yaml_scalar_style_t.{yaml_scalar_style_t}
+use Rattle.yaml_scan_model.specs.declared.yaml_scalar_style_t.TheVariants.{YAML_DOUBLE_QUOTED_SCALAR_STYLE}
 use Rattle.yaml_parse_model.specs.Events.{text_of, directive_of}
 use Rattle.yaml_parse_model.specs.Nodes.{str_tag, seq_tag, map_tag}
 use Rattle.yaml_emit_layout.specs.Content as said
@@ -33,6 +34,17 @@ plain_text value style = record {
   plain = true;
   quoted = true;
   style = style;
+}
+
+-- a text without properties that is asked to be in double quotes, and may be
+abbrev pub quoted_text : List ℕ → Bool → said.Scalar
+quoted_text value plain = record {
+  anchor = None;
+  tag = None;
+  value = value;
+  plain = plain;
+  quoted = true;
+  style = YAML_DOUBLE_QUOTED_SCALAR_STYLE;
 }
 
 -- what opens a collection with the default tag and without an anchor

@@ -1,5 +1,6 @@
 -- What laying out one event does.
 use Rattle.std.specs.Prelude.{◌≡◌, ◌≢◌, ◌⊎◌, Bool, true, false, not, ◌&&◌, ◌||◌, List, [], Option, Some, None}
+use Rattle.yaml_emit_text.specs.declared.Cursor.{Cursor}
 use Rattle.yaml_emit_text.specs.declared.Settings.{Settings}
 use Rattle.yaml_emit_text.specs.declared.Status.{Status}
 use Rattle.yaml_emit_text.specs.declared.Status.TheVariants.{Going, Full, Deep, Starved}
@@ -146,6 +147,11 @@ pub record LaysOut (old new : Core) (e : Event) (empty : Bool) : Type 0 where
   pub memory : Notes (takes_memory e) old new
   pub blames : Blames old new e (next_piece (problem_at (settings_of old) (state_of old) e)
       (piece (settings_of old) (state_of old) e empty))
+
+-- what is written for an event, and the state behind it, are the same for both answers whether it opens an empty collection
+abbrev pub IsSame : Settings → State → Event → Bool → Bool → Type 0
+IsSame s st e v w = (piece s st e v ≡ piece s st e w)
+    × ((c : Cursor) → next s st e v c ≡ next s st e w c)
 
 -- memory was refused outside the output, which is noted unless the output had stopped before
 pub record Starves (old new : Core) : Type 0 where

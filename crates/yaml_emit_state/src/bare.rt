@@ -10,7 +10,7 @@ ghost use Rattle.yaml_emit_layout.specs.Grammar.{has};
 ghost use Rattle.yaml_emit_layout.specs.Nodes.{deeper, comma, wrap_at, line_at, before_value, position};
 ghost use Rattle.yaml_emit_layout.specs.declared.Part.TheVariants as part;
 ghost use Rattle.yaml_emit_layout.specs.declared.Phase.TheVariants.{Items, Keys, Value};
-ghost use Rattle.yaml_emit_state.specs.Bare.{is_unmarked, most_bare, IsBareEvent, bare_text, bare_node, is_shallow};
+ghost use Rattle.yaml_emit_state.specs.Bare.{is_unmarked, most_bare, IsBareEvent, is_double, is_framed, IsFramedEvent, bare_text, bare_node, is_shallow};
 
 use crate::before::put_before_value;
 use crate::indent::is_not_deep;
@@ -78,6 +78,45 @@ pub fn is_bare(event: &yaml_event_body_t) -> bool
             style,
             ..
         } => { is_unmarked(anchor, tag, *plain_implicit, *style) && is_bare_value(value) }
+        _ => false,
+    }
+}
+
+fn is_double(style: yaml_scalar_style_t) -> bool
+    ensures { result ≡ is_double style }
+{
+    match style {
+        yaml_scalar_style_t::YAML_DOUBLE_QUOTED_SCALAR_STYLE => true,
+        _ => false,
+    }
+}
+
+// Whether no anchor and no tag stands there, and a scalar may be quoted and is asked to be, in double quotes.
+fn is_framed_by(
+    anchor: &Option<Vec<u8>>,
+    tag: &Option<Vec<u8>>,
+    quoted: bool,
+    style: yaml_scalar_style_t,
+) -> bool
+    ensures { result ≡ is_framed (text_of anchor.now) (text_of tag.now) quoted style }
+{
+    !is_given(anchor) && !is_given(tag) && quoted && is_double(style)
+}
+
+/// Whether an event is a scalar without properties that is asked to be in double quotes, and may be.
+// Inlined: some tests.
+#[inline(always)]
+pub fn is_framed(event: &yaml_event_body_t) -> bool
+    ensures { result ≡ true → IsFramedEvent (emitter_event (body_of event.now)) }
+{
+    match event {
+        yaml_event_body_t::Scalar {
+            anchor,
+            tag,
+            quoted_implicit,
+            style,
+            ..
+        } => is_framed_by(anchor, tag, *quoted_implicit, *style),
         _ => false,
     }
 }

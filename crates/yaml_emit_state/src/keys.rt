@@ -5,7 +5,9 @@ ghost use Rattle.yaml_emit_layout.specs.Content.{emitter_event, is_flow_sequence
 ghost use Rattle.yaml_emit_layout.specs.Grammar.{kept_tag};
 ghost use Rattle.yaml_emit_layout.specs.Nodes.{simple_key_bytes, properties_size, text_size, written_size, is_simple_scalar, is_simple_alias, is_simple_start};
 ghost use Rattle.yaml_emit_layout.specs.State.{is_simple_event};
-ghost use Rattle.yaml_emit_state.specs.Due.{is_key_in, is_key};
+ghost use Rattle.yaml_emit_text.specs.Tame.{IsTame};
+ghost use Rattle.yaml_types.specs.Classes.{has_break};
+ghost use Rattle.yaml_emit_state.specs.Due.{is_key_in, is_key, is_undecided_in, is_undecided};
 ghost use Rattle.yaml_emit_state.specs.Given.{lent_context, lent_scalar, lent_start};
 
 use crate::given::{Context, Scalar, Start};
@@ -68,14 +70,29 @@ pub fn is_simple_alias(context: &Context, name: &[u8]) -> bool
     !context.settings.canonical && name.len() <= SIMPLE_KEY_BYTES
 }
 
+// Whether a break stands in a scalar: in none that is tame.
+// Inlined: mostly a test.
+#[inline(always)]
+fn has_breaks(scalar: &Scalar) -> bool
+    requires { scalar.now.tame ≡ true → IsTame scalar.now.value.now }
+    ensures { result ≡ has_break scalar.now.value.now }
+{
+    if scalar.tame {
+        false
+    } else {
+        has_break(scalar.value)
+    }
+}
+
 // Inlined into its one caller.
 #[inline(always)]
 #[tactic(auto, unfolding(yaml_emit_layout::specs::Nodes::is_simple_scalar))]
 fn is_simple_scalar(context: &Context, scalar: &Scalar) -> bool
+    requires { scalar.now.tame ≡ true → IsTame scalar.now.value.now }
     ensures { result ≡ is_simple_scalar (lent_context context.now) (lent_scalar scalar.now) }
 {
     !context.settings.canonical
-        && !has_break(scalar.value)
+        && !has_breaks(scalar)
         && are_short(
             text_size(scalar.anchor),
             written_size(context, scalar.plain || scalar.quoted, scalar.tag),
@@ -102,10 +119,39 @@ fn is_key(top: &Option<Level>) -> bool
     }
 }
 
+// Whether the next event decides what is written for a collection in pretty form, by whether its style is flow: where it may be a
+// simple key, or flow for being empty alone.
+fn is_undecided_in(top: &Option<Level>, flow: bool) -> bool
+    ensures { result ≡ is_undecided_in top.now flow }
+{
+    match top {
+        None => !flow,
+        Some(level) => is_key_in(level.phase) || !(level.flow || flow),
+    }
+}
+
+/// Whether the next event may decide what is written for this one in pretty form.
+// Inlined: mostly one look at its kind.
+#[inline(always)]
+pub fn is_undecided_event(top: &Option<Level>, event: &yaml_event_body_t) -> bool
+    ensures { result ≡ is_undecided false top.now (emitter_event (body_of event.now)) }
+{
+    match event {
+        yaml_event_body_t::SequenceStart { style, .. } => {
+            is_undecided_in(top, is_flow_sequence(*style))
+        }
+        yaml_event_body_t::MappingStart { style, .. } => {
+            is_undecided_in(top, is_flow_mapping(*style))
+        }
+        _ => false,
+    }
+}
+
 /// Whether a scalar is a simple key. It is looked at where a key is due, and nowhere else.
 // Inlined: canonical form has none, and pretty form mostly tells by the place.
 #[inline(always)]
 pub fn is_simple_key(context: &Context, top: &Option<Level>, scalar: &Scalar) -> bool
+    requires { scalar.now.tame ≡ true → IsTame scalar.now.value.now }
     ensures { result ≡ (is_key top.now && is_simple_scalar (lent_context context.now)
         (lent_scalar scalar.now)) }
 {

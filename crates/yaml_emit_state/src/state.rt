@@ -11,7 +11,7 @@ mod resume;
 
 use crate::given::{Context, EventPosition, Scalar};
 use crate::judge::problem_of;
-use crate::keys::{is_simple, is_simple_alias, is_simple_key};
+use crate::keys::{is_simple, is_simple_alias, is_simple_key, is_undecided_event};
 use crate::levels::Levels;
 use event::{put_alias_node, put_event, put_plain_node, put_scalar_node, put_text_node};
 pub use resume::yaml_emitter_stand_t;
@@ -46,7 +46,9 @@ fn is_tame_in(canonical: bool, value: &[u8]) -> bool
 impl Core {
     ghost use Rattle.yaml_parse_model.specs.Events.{body_of, text_of};
     ghost use Rattle.yaml_emit_layout.specs.Content.{emitter_event, alias, scalar, sequence_end, mapping_end};
-    ghost use Rattle.yaml_emit_layout.specs.State.{problem_at};
+    ghost use Rattle.yaml_emit_layout.specs.State.{problem_at, top_of};
+    ghost use Rattle.yaml_emit_state.specs.Due.{is_undecided};
+    ghost use Rattle.yaml_emit_state.specs.Stack.{stack_of};
     ghost use Rattle.yaml_scan_model.specs.declared.yaml_scalar_style_t.{yaml_scalar_style_t};
     ghost use Rattle.yaml_emit_state.specs.Given.{lent_scalar, plain_text, plain_opening, IsNamed};
     ghost use Rattle.yaml_emit_state.specs.Steps.{state_of, settings_of, LaysOut, IsFreshCore, LaysOutRight, Starves, is_going, goes_on};
@@ -96,6 +98,20 @@ impl Core {
         ensures { result ≡ (settings_of self.now).canonical }
     {
         self.settings.canonical
+    }
+
+    /// Whether the next event may decide what is written for this one.
+    // Inlined: mostly a look at the form and one at its kind.
+    #[inline(always)]
+    pub fn is_undecided(&self, event: &yaml_event_body_t) -> bool
+        ensures { result ≡ is_undecided self.now.settings.canonical
+            (top_of (stack_of self.now.levels)) (emitter_event (body_of event.now)) }
+    {
+        if self.settings.canonical {
+            false
+        } else {
+            is_undecided_event(self.levels.innermost(), event)
+        }
     }
 
     /// Whether the output was stopped by memory that was refused for the open collections or the directives.

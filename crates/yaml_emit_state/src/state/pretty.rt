@@ -1,19 +1,24 @@
-//! Laying out one event in pretty form: a way for each kind that is met much, and a short one for bare scalars.
+//! Laying out one event in pretty form: a way for each kind that is met much, and short ones for bare scalars and for
+//! those in double quotes.
 ghost use Rattle.std.specs.Prelude.{◌≡◌, Bool, Some, true, false, IsUtf8};
 ghost use Rattle.yaml_parse_model.specs.Constructors.{HasUtf8};
 ghost use Rattle.yaml_emit_text.specs.Tame.{IsTame};
 
 use super::Core;
-use crate::bare::{is_bare, is_shallow, put_bare_item, put_bare_key, put_bare_value};
+use crate::bare::{is_bare, is_framed, is_shallow, put_bare_item, put_bare_key, put_bare_value};
+use crate::given::Scalar;
 use yaml_emit_layout::{Level, Phase};
+use yaml_emit_text::is_tame;
 use yaml_parse_model::yaml_event_body_t;
+use yaml_scan_model::yaml_scalar_style_t;
 
 impl Core {
     ghost use Rattle.yaml_parse_model.specs.Events.{body_of};
     ghost use Rattle.yaml_emit_layout.specs.declared.Expected.TheVariants as at;
-    ghost use Rattle.yaml_emit_layout.specs.Content.{Scalar, emitter_event, scalar, sequence_end, mapping_end};
+    ghost use Rattle.yaml_emit_layout.specs.Content.{Scalar as SaidScalar, emitter_event, scalar, sequence_end, mapping_end};
     ghost use Rattle.yaml_emit_layout.specs.State.{top_of};
-    ghost use Rattle.yaml_emit_state.specs.Bare.{IsBare, IsBareEvent, is_shallow};
+    ghost use Rattle.yaml_emit_state.specs.Bare.{IsBare, IsBareEvent, IsFramedEvent, is_shallow};
+    ghost use Rattle.yaml_emit_state.specs.Given.{quoted_text};
     ghost use Rattle.yaml_emit_state.specs.Stack.{stack_of};
     ghost use Rattle.yaml_emit_state.specs.Steps.{LaysOut};
 
@@ -28,7 +33,7 @@ impl Core {
         requires top { Some level ≡ top_of (stack_of self.old.levels) }
         requires shallow { is_shallow self.old.settings (Some level) ≡ true }
         requires phase { level.phase ≡ Phase.Items fresh }
-        ensures { (x : Scalar) (empty : Bool) → IsBare x → x.value ≡ value.now
+        ensures { (x : SaidScalar) (empty : Bool) → IsBare x → x.value ≡ value.now
             → LaysOut self.old self.new (scalar x) empty }
     {
         put_bare_item(
@@ -53,7 +58,7 @@ impl Core {
         requires top { Some level ≡ top_of (stack_of self.old.levels) }
         requires shallow { is_shallow self.old.settings (Some level) ≡ true }
         requires phase { level.phase ≡ Phase.Keys fresh }
-        ensures { (x : Scalar) (empty : Bool) → IsBare x → x.value ≡ value.now
+        ensures { (x : SaidScalar) (empty : Bool) → IsBare x → x.value ≡ value.now
             → LaysOut self.old self.new (scalar x) empty }
     {
         put_bare_key(
@@ -78,7 +83,7 @@ impl Core {
         requires top { Some level ≡ top_of (stack_of self.old.levels) }
         requires shallow { is_shallow self.old.settings (Some level) ≡ true }
         requires phase { level.phase ≡ Phase.Value was_simple }
-        ensures { (x : Scalar) (empty : Bool) → IsBare x → x.value ≡ value.now
+        ensures { (x : SaidScalar) (empty : Bool) → IsBare x → x.value ≡ value.now
             → LaysOut self.old self.new (scalar x) empty }
     {
         put_bare_value(
@@ -102,7 +107,7 @@ impl Core {
         requires due { self.old.place ≡ at.Node }
         requires top { Some level ≡ top_of (stack_of self.old.levels) }
         requires shallow { is_shallow self.old.settings (Some level) ≡ true }
-        ensures { (x : Scalar) (empty : Bool) → IsBare x → x.value ≡ value.now
+        ensures { (x : SaidScalar) (empty : Bool) → IsBare x → x.value ≡ value.now
             → LaysOut self.old self.new (scalar x) empty }
     {
         match level.phase {
@@ -121,7 +126,7 @@ impl Core {
         requires form { self.old.settings.canonical ≡ false }
         requires due { self.old.place ≡ at.Node }
         requires open { is_shallow self.old.settings (top_of (stack_of self.old.levels)) ≡ true }
-        ensures { (x : Scalar) (empty : Bool) → IsBare x → x.value ≡ value.now
+        ensures { (x : SaidScalar) (empty : Bool) → IsBare x → x.value ≡ value.now
             → LaysOut self.old self.new (scalar x) empty }
     {
         let innermost = self.levels.top();
@@ -160,8 +165,61 @@ impl Core {
         self.awaits_node() && is_shallow(&self.settings, self.levels.innermost()) && is_bare(event)
     }
 
+    // A text without properties that is asked to be in double quotes, where a node is due.
+    // Inlined into its one caller: most of what it is is known, and nothing else is asked.
+    #[inline(always)]
+    fn lay_framed(&mut self, value: &[u8], plain: bool)
+        requires utf8 { IsUtf8 value.now }
+        requires form { self.old.settings.canonical ≡ false }
+        requires due { self.old.place ≡ at.Node }
+        ensures { (empty : Bool) → LaysOut self.old self.new (scalar (quoted_text value.now plain))
+            empty }
+    {
+        let none = None;
+        let given = Scalar {
+            anchor: &none,
+            tag: &none,
+            value,
+            plain,
+            quoted: true,
+            style: yaml_scalar_style_t::YAML_DOUBLE_QUOTED_SCALAR_STYLE,
+            tame: is_tame(value),
+        };
+        self.put_known_scalar(&given, false);
+    }
+
+    // An event that is known to be such a text.
+    // Out of line: beside the short way of bare ones.
+    #[inline(never)]
+    fn take_framed(&mut self, event: &mut yaml_event_body_t, empty: bool)
+        requires utf8 { HasUtf8 (body_of event.old) }
+        requires form { self.old.settings.canonical ≡ false }
+        requires due { self.old.place ≡ at.Node }
+        requires framed { IsFramedEvent (emitter_event (body_of event.old)) }
+        ensures { LaysOut self.old self.new (emitter_event (body_of event.old)) empty }
+    {
+        match event {
+            yaml_event_body_t::Scalar {
+                value,
+                plain_implicit,
+                ..
+            } => self.lay_framed(value, *plain_implicit),
+            _ => self.lay_any(event, empty),
+        }
+    }
+
+    // Whether an event is such a text, where a node is due.
+    // Inlined: some tests.
+    #[inline(always)]
+    fn takes_framed(&self, event: &yaml_event_body_t) -> bool
+        ensures due { result ≡ true → self.now.place ≡ at.Node }
+        ensures framed { result ≡ true → IsFramedEvent (emitter_event (body_of event.now)) }
+    {
+        self.awaits_node() && is_framed(event)
+    }
+
     // A scalar, in the general way.
-    // Out of line: beside the short one.
+    // Out of line: beside the short ones.
     #[inline(never)]
     fn lay_other_scalar(&mut self, event: &mut yaml_event_body_t, empty: bool)
         requires utf8 { HasUtf8 (body_of event.old) }
@@ -181,6 +239,8 @@ impl Core {
     {
         if self.takes_bare(event) {
             self.take_bare(event, empty);
+        } else if self.takes_framed(event) {
+            self.take_framed(event, empty);
         } else {
             self.lay_other_scalar(event, empty);
         }
@@ -251,8 +311,8 @@ impl Core {
     }
 
     // In pretty form.
-    // Out of line: what other kinds and the other form need takes no room here.
-    #[inline(never)]
+    // Inlined: a call for each kind.
+    #[inline(always)]
     pub(super) fn lay_pretty(&mut self, event: &mut yaml_event_body_t, empty: bool)
         requires utf8 { HasUtf8 (body_of event.old) }
         requires form { self.old.settings.canonical ≡ false }

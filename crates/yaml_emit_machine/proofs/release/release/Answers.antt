@@ -1,21 +1,21 @@
 use Rattle.std.proofs.Common.{sym, refl, ◌∙◌}
 use Rattle.std.proofs.lemmas.Bool.{and_parts}
-use Rattle.yaml_emit_machine.proofs.Holding.{both_false, less_most, one_less, one_gone, released_ready, room_held}
-use Rattle.yaml_emit_machine.proofs.Following.{lays_none, lays_more}
+use Rattle.yaml_emit_machine.proofs.Holding.{both_false, less_most, one_less, one_gone, some_released, exact_released, room_held}
+use Rattle.yaml_emit_machine.proofs.Following.{lays_none, lays_oldest}
 use Rattle.yaml_emit_machine.proofs.Lasting.{last_none, last_less}
 use Rattle.yaml_emit_machine.proofs.release.release.Goals as goal
 
 pub lay_oldest-requires-clause-ready : goal.lay_oldest-requires-clause-ready
-lay_oldest-requires-clause-ready c = (and_parts _ _ (sym c.is_due.ensures ∙ c.loop-held-test.true)).0
+lay_oldest-requires-clause-ready c = some_released c.args.early _ _ (and_parts _ _ (sym c.is_due.ensures ∙ c.loop-held-test.true)).0
 
 pub loop-held-init : goal.loop-held-init
-loop-held-init c = record { lays = lays_none _ _; utf8 = c.requires.utf8; last = last_none _; settings = refl; most = c.requires.most; short = λ off. absurd (let on = c.requires.going in cc) }
+loop-held-init c = record { lays = lays_none _ _ _; utf8 = c.requires.utf8; last = last_none _; settings = refl; most = c.requires.most; short = λ off. absurd (let on = c.requires.going in cc) }
 
 pub loop-held-preserved : goal.loop-held-preserved
 loop-held-preserved c =
     let due = sym c.is_due.ensures ∙ c.loop-held-test.true in
     record {
-      lays = lays_more _ _ _ _ _ _ _ _ c.loop-held.invariant.lays (one_gone _ _ _ _ c.lay_oldest.ensures.events) (and_parts _ _ due).1 (released_ready _ _ (and_parts _ _ due).0) refl c.lay_oldest.ensures.laid;
+      lays = lays_oldest _ _ _ _ _ _ _ _ _ c.loop-held.invariant.lays (one_gone _ _ _ _ c.lay_oldest.ensures.events) (and_parts _ _ due).1 (exact_released c.args.early _ _ (and_parts _ _ due).0) c.lay_oldest.ensures.laid;
       utf8 = c.lay_oldest.ensures.utf8;
       last = last_less _ _ _ _ c.loop-held.invariant.last c.lay_oldest.ensures.events;
       settings = c.lay_oldest.ensures.laid.settings ∙ c.loop-held.invariant.settings;
@@ -27,7 +27,7 @@ pub returns-clause-waits : goal.returns-clause-waits
 returns-clause-waits c = λ g. both_false _ _ g (sym c.is_due.ensures ∙ c.loop-held-test.false)
 
 pub returns-clause-room : goal.returns-clause-room
-returns-clause-room c = room_held _ _ _ (sym c.is_due.ensures ∙ c.loop-held-test.false) c.loop-held.invariant.short c.loop-held.invariant.most
+returns-clause-room c = room_held c.args.early _ _ _ (sym c.is_due.ensures ∙ c.loop-held-test.false) c.loop-held.invariant.short c.loop-held.invariant.most
 
 pub returns-clause-last : goal.returns-clause-last
 returns-clause-last c = c.loop-held.invariant.last

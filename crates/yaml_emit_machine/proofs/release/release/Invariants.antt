@@ -1,3 +1,4 @@
+use Rattle.std.specs.Prelude.{not}
 use Rattle.std.proofs.Common.{◌≡◌, ◌≤◌, [], ◌∷◌, ◌++◌, false, length}
 use Rattle.yaml_parse_model.specs.Events.{body_of}
 use Rattle.yaml_emit_layout.specs.Content.{emitter_event}
@@ -8,7 +9,7 @@ use Rattle.yaml_emit_machine.proofs.release.release.Given as goal
 
 abbrev pub invariant-loop-held : goal.invariant-loop-held
 invariant-loop-held l = record {
-  lays : LaysEvents l.initial.core
+  lays : LaysEvents (not l.early) l.initial.core
       (held_events l.initial.held ++ emitter_event (body_of l.event) ∷ []) l.core
       (held_events l.held ++ emitter_event (body_of l.event) ∷ []);
   utf8 : HeldUtf8 l.held;

@@ -1,4 +1,4 @@
-use Rattle.std.proofs.Common.{None, ap, ◌∙◌, sym}
+use Rattle.std.proofs.Common.{None, refl, false, ap, ◌∙◌, sym}
 use Rattle.std.proofs.lemmas.Bool.{false≢true}
 use Rattle.yaml_parse_model.specs.Events.{body_of}
 use Rattle.yaml_emit_text.specs.declared.Settings.{Settings}
@@ -6,8 +6,9 @@ use Rattle.yaml_emit_layout.specs.Content.{emitter_event}
 use Rattle.yaml_emit_machine.specs.Held.{is_ready}
 use Rattle.yaml_emit_machine.proofs.Judging.{going_notes}
 use Rattle.yaml_emit_machine.proofs.Forced.{forced_same}
-use Rattle.yaml_emit_machine.proofs.Early.{inside_gives, inside_notes_early, inside_blames_early}
-use Rattle.yaml_emit_machine.proofs.Taking.{inside_open, inside_going}
+use Rattle.yaml_emit_machine.proofs.Early.{inside_lays}
+use Rattle.yaml_emit_machine.proofs.Taking.{inside_gives, inside_notes, inside_going}
+use Rattle.yaml_emit_machine.proofs.Blaming.{inside_blames}
 use Rattle.yaml_emit_machine.proofs.emitter.yaml_emitter_t.lay_at_once.Goals as goal
 
 pub invariant_of-self : goal.invariant_of-self
@@ -30,7 +31,7 @@ invariant_of-self c =
 pub returns-clause-text : goal.returns-clause-text
 returns-clause-text c =
     let once = rw (← c.self.view_is) at c.requires.once in
-    rw (← c.self.view_is) (inside_gives c.self.inside c.lay_out.new.self _ _ (inside_open c.self.inside c.self.invariant once.right) once c.lay_out.ensures)
+    rw (← c.self.view_is) (inside_gives false c.self.inside c.lay_out.new.self c.self.inside.held c.self.inside.held _ _ once.begun refl (inside_lays c.self.inside c.lay_out.new.self _ c.self.invariant once c.lay_out.ensures))
 
 pub returns-clause-form : goal.returns-clause-form
 returns-clause-form c =
@@ -40,9 +41,9 @@ returns-clause-form c =
 pub returns-clause-memory : goal.returns-clause-memory
 returns-clause-memory c =
     let once = rw (← c.self.view_is) at c.requires.once in
-    rw (← c.self.view_is) (inside_notes_early c.self.inside c.lay_out.new.self None (emitter_event (body_of c.args.event.now)) once c.lay_out.ensures)
+    rw (← c.self.view_is) (inside_notes false c.self.inside c.lay_out.new.self c.self.inside.held c.self.inside.held None (emitter_event (body_of c.args.event.now)) refl (inside_lays c.self.inside c.lay_out.new.self _ c.self.invariant once c.lay_out.ensures))
 
 pub returns-clause-blames : goal.returns-clause-blames
 returns-clause-blames c =
     let once = rw (← c.self.view_is) at c.requires.once in
-    rw (← c.self.view_is) (inside_blames_early c.self.inside c.lay_out.new.self None (emitter_event (body_of c.args.event.now)) (inside_open c.self.inside c.self.invariant once.right) (inside_going c.self.inside c.self.invariant once.right) once c.lay_out.ensures)
+    rw (← c.self.view_is) (inside_blames false c.self.inside c.lay_out.new.self c.self.inside.held None (emitter_event (body_of c.args.event.now)) once.begun (inside_lays c.self.inside c.lay_out.new.self _ c.self.invariant once c.lay_out.ensures))

@@ -1,12 +1,12 @@
-use Rattle.std.proofs.Common.{None, false, ap, ◌∙◌, sym}
+use Rattle.std.proofs.Common.{None, refl, false, ap, ◌∙◌, sym}
 use Rattle.std.proofs.lemmas.Bool.{false≢true}
 use Rattle.yaml_emit_text.specs.declared.Settings.{Settings}
 use Rattle.yaml_emit_graph.specs.Brackets.{bracket_event}
 use Rattle.yaml_emit_machine.specs.Held.{is_ready}
 use Rattle.yaml_emit_machine.proofs.Judging.{going_notes}
 use Rattle.yaml_emit_machine.proofs.Forced.{forced_same}
-use Rattle.yaml_emit_machine.proofs.Early.{inside_gives, inside_notes_early}
-use Rattle.yaml_emit_machine.proofs.Taking.{inside_open, inside_going}
+use Rattle.yaml_emit_machine.proofs.Early.{inside_lays}
+use Rattle.yaml_emit_machine.proofs.Taking.{inside_gives, inside_notes, inside_going}
 use Rattle.yaml_emit_machine.proofs.emitter.yaml_emitter_t.lay_bracket_at_once.Goals as goal
 
 pub lay_bracket-requires-clause-form : goal.lay_bracket-requires-clause-form
@@ -36,7 +36,7 @@ invariant_of-self c =
 pub returns-clause-text : goal.returns-clause-text
 returns-clause-text c = λ flow.
     let once = rw (← c.self.view_is) at c.requires.once in
-    rw (← c.self.view_is) (inside_gives c.self.inside c.lay_bracket.new.core _ _ (inside_open c.self.inside c.self.invariant once.right) once (c.lay_bracket.ensures flow))
+    rw (← c.self.view_is) (inside_gives false c.self.inside c.lay_bracket.new.core c.self.inside.held c.self.inside.held _ _ once.begun refl (inside_lays c.self.inside c.lay_bracket.new.core _ c.self.invariant once (c.lay_bracket.ensures flow)))
 
 pub returns-clause-form : goal.returns-clause-form
 returns-clause-form c =
@@ -46,4 +46,4 @@ returns-clause-form c =
 pub returns-clause-memory : goal.returns-clause-memory
 returns-clause-memory c = λ flow.
     let once = rw (← c.self.view_is) at c.requires.once in
-    rw (← c.self.view_is) (inside_notes_early c.self.inside c.lay_bracket.new.core None (bracket_event c.args.bracket flow) once (c.lay_bracket.ensures flow))
+    rw (← c.self.view_is) (inside_notes false c.self.inside c.lay_bracket.new.core c.self.inside.held c.self.inside.held None (bracket_event c.args.bracket flow) refl (inside_lays c.self.inside c.lay_bracket.new.core _ c.self.invariant once (c.lay_bracket.ensures flow)))

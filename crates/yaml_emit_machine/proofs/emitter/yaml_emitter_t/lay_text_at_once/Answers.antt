@@ -6,8 +6,8 @@ use Rattle.yaml_emit_layout.specs.Content.{scalar}
 use Rattle.yaml_emit_state.specs.Given.{plain_text}
 use Rattle.yaml_emit_machine.specs.Held.{is_ready}
 use Rattle.yaml_emit_machine.proofs.Forced.{forced_same}
-use Rattle.yaml_emit_machine.proofs.Early.{inside_gives, inside_notes_early}
-use Rattle.yaml_emit_machine.proofs.Taking.{inside_open, inside_going}
+use Rattle.yaml_emit_machine.proofs.Early.{inside_lays}
+use Rattle.yaml_emit_machine.proofs.Taking.{inside_gives, inside_notes, inside_going}
 use Rattle.yaml_emit_machine.proofs.emitter.yaml_emitter_t.lay_text_at_once.Goals as goal
 
 pub lay_text-requires-clause-form : goal.lay_text-requires-clause-form
@@ -37,7 +37,7 @@ invariant_of-self c =
 pub returns-clause-text : goal.returns-clause-text
 returns-clause-text c = λ style.
     let once = rw (← c.self.view_is) at c.requires.once in
-    rw (← c.self.view_is) (inside_gives c.self.inside c.lay_text.new.self _ _ (inside_open c.self.inside c.self.invariant once.right) once (c.lay_text.ensures style false))
+    rw (← c.self.view_is) (inside_gives false c.self.inside c.lay_text.new.self c.self.inside.held c.self.inside.held _ _ once.begun refl (inside_lays c.self.inside c.lay_text.new.self _ c.self.invariant once (c.lay_text.ensures style false)))
 
 pub returns-clause-form : goal.returns-clause-form
 returns-clause-form c =
@@ -47,4 +47,4 @@ returns-clause-form c =
 pub returns-clause-memory : goal.returns-clause-memory
 returns-clause-memory c = λ style.
     let once = rw (← c.self.view_is) at c.requires.once in
-    rw (← c.self.view_is) (inside_notes_early c.self.inside c.lay_text.new.self None (scalar (plain_text c.args.value.now style)) once (c.lay_text.ensures style false))
+    rw (← c.self.view_is) (inside_notes false c.self.inside c.lay_text.new.self c.self.inside.held c.self.inside.held None (scalar (plain_text c.args.value.now style)) refl (inside_lays c.self.inside c.lay_text.new.self _ c.self.invariant once (c.lay_text.ensures style false)))

@@ -65,10 +65,31 @@ fn checked(token: &TokenSlot, fault: &mut yaml_fault_t) -> bool
 }
 
 // Whether a token has a tag's suffix, or a directive's prefix.
-// Each of the two kinds is asked for by itself: a match on both would be told by ranges of kinds, a scalar's last.
-// Inlined: two comparisons.
+// Inlined: mostly a comparison, whose outcome is known behind a scalar, since a second text is taken out of its slot.
 #[inline(always)]
 fn carries_tag(token: &TokenSlot) -> bool
+    ensures { result ≡ false → spells_text (token_in_slot token.now).body ≡ true }
+{
+    if has_one_text(token) {
+        return false;
+    }
+    is_tag_or_directive(token)
+}
+
+// Whether a token's slot has no room for a second text: then it has none.
+// Inlined: a comparison.
+#[inline(always)]
+fn has_one_text(token: &TokenSlot) -> bool
+    ensures { result ≡ true → spells_text (token_in_slot token.now).body ≡ true }
+{
+    token.body.other.capacity() == 0
+}
+
+// Whether a token is a tag or a directive that declares one.
+// Each of the two kinds is asked for by itself: a match on both would be told by ranges of kinds.
+// Inlined: two comparisons.
+#[inline(always)]
+fn is_tag_or_directive(token: &TokenSlot) -> bool
     ensures { result ≡ false → spells_text (token_in_slot token.now).body ≡ true }
 {
     if is_tag(token) {

@@ -45,11 +45,14 @@ pub part_pop : {X : Type 0} → (xs : List X) (f l : ℕ) (y : X) → f < l
 part_pop xs f l y lt =
     ap (λ ys. drop (f + 1) ys) (take-set-lt l xs f y lt) ∙ drop-set-lt (f + 1) (take l xs) f y (omega arith) ∙ sym (drop-drop 1 f (take l xs))
 
+taken_size : (n : ℕ) (xs : List Waiting) → length (take n xs) ≤ n
+taken_size zero xs = omega arith
+taken_size (suc n) [] = omega arith
+taken_size (suc n) (x ∷ xs) = omega (arith, taken_size n xs)
+
 -- where what waits first is the last, nothing is left
-pub part_last : (xs : List Waiting) (f l : ℕ) (items : List Waiting) → drop f (take l xs) ≡ items
-    → l ≤ length xs → f + 1 ≡ l → [] ≡ drop 1 items
-part_last xs f l items is most last =
-    sym (drop_all 1 items (omega (arith, last, ap (λ (ws : List Waiting). length ws) is, part_length xs f l most)))
+pub part_last : (xs : List Waiting) (f l : ℕ) → f + 1 ≡ l → [] ≡ drop (f + 1) (take l xs)
+part_last xs f l last = sym (drop_all (f + 1) (take l xs) (omega (arith, last, taken_size l xs)))
 
 -- A row is turned until its part comes first.
 pub part_turn : {X : Type 0} → (xs : List X) (f l : ℕ) → f ≤ l → l ≤ length xs

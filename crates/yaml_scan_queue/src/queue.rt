@@ -1,10 +1,11 @@
 //! The list of the lexemes that wait. It grows at its back alone.
 
-ghost use Rattle.std.specs.Prelude.{◌≡◌, ◌++◌, ◌∷◌, [], ◌<◌, ◌↔◌, OnOk, IfSome, IsSome, true, false, length, drop, slice_index_or, slice_set};
+ghost use Rattle.std.specs.Prelude.{◌≡◌, ◌+◌, ◌++◌, ◌∷◌, [], ◌<◌, ◌≤◌, ◌↔◌, List, OnOk, IfSome, IsSome, true, false, length, drop, take, slice_index_or, slice_set};
 ghost use Rattle.yaml_scan_slot.specs.Slots.{body_in_slot, extra_of};
 ghost use Rattle.yaml_scan_queue.specs.Bare.{is_kind};
 ghost use Rattle.yaml_scan_queue.specs.Hands.{Hands};
 ghost use Rattle.yaml_scan_queue.specs.Line.{Grows};
+ghost use Rattle.yaml_scan_queue.specs.declared.waiting.Waiting.{Waiting};
 ghost use Rattle.yaml_scan_queue.specs.Waits.{Pushes, kept_of, kept_in_read, keyed};
 
 use crate::waiting::{ReadLexeme, Waiting};
@@ -145,7 +146,7 @@ impl Queue {
     /// Hands out the next token of the first lexeme, of whose tokens so many were given, into a slot: whether it is the lexeme's own,
     /// with which the lexeme is taken. The room of the slot's earlier text is kept where a text comes in its place.
     // The lexeme is looked up once, and its marks are read where they lie: of one that was taken out they would be copied
-    // with all that it has.
+    // with all that it has. The body is moved last, so that nothing is kept in a register meanwhile.
     // Inlined: it is called at one place, for each token.
     #[inline(always)]
     pub fn pop_token(&mut self, given: usize, slot: &mut TokenSlot, spares: &mut Spares) -> bool
@@ -162,14 +163,29 @@ impl Queue {
             return false;
         }
         slot.end_mark = mark_again(&first.end);
+        pass(&mut self.first, &mut self.last);
         hand_out(&mut self.slots[at].body, &mut slot.body, spares);
-        if at + 1 == self.last {
-            self.first = 0;
-            self.last = 0;
-        } else {
-            self.first = at + 1;
-        }
         true
+    }
+}
+
+/// Past the first lexeme of those that wait. Where none is left, the row begins at its first slot again.
+// Inlined: a comparison and a store.
+#[inline(always)]
+fn pass(first: &mut usize, last: &mut usize)
+    requires { first.old < last.old }
+    ensures part { (xs : List Waiting) → drop first.new (take last.new xs)
+        ≡ drop (first.old + 1) (take last.old xs) }
+    ensures first { first.new ≤ last.new }
+    ensures last { last.new ≤ last.old }
+{
+    // Read for the sum: a number that is read is within its type.
+    let _last = *last;
+    if *first + 1 == *last {
+        *first = 0;
+        *last = 0;
+    } else {
+        *first += 1;
     }
 }
 

@@ -41,7 +41,7 @@ pub record IsMark (x : ℕ) : Type 0 where
   pub mark : LineMark
   pub is : mark_char mark ≡ x
 
-not_printed : (x k : ℕ) → is_printable x ≡ true → is_printable k ≡ false → x ≢ k
+pub not_printed : (x k : ℕ) → is_printable x ≡ true → is_printable k ≡ false → x ≢ k
 not_printed x k s n = λ e. cc (sym s ∙ ap (λ t. is_printable t) e ∙ n)
 
 no_break : (x : ℕ) → x ≢ 10 → x ≢ 13 → x ≢ 0x85 → x ≢ 0x2028 → x ≢ 0x2029 → is_break x ≡ false

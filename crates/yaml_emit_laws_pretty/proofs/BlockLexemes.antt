@@ -5,7 +5,7 @@ use Rattle.yaml_emit_laws_text.specs.scan_model.Tokens.{scalar}
 use Rattle.yaml_emit_laws_text.specs.scan_model.declared.problem.ScanFault.{ScanFault}
 use Rattle.yaml_emit_laws_text.specs.scan_history.declared.kind.Kind.{Kind}
 use Rattle.yaml_emit_laws_text.specs.scan_history.declared.lexeme.Lexeme.{Lexeme}
-use Rattle.yaml_emit_laws_text.specs.scan_history.Kinds.{cancels, is_end}
+use Rattle.yaml_emit_laws_text.specs.scan_history.Kinds.{is_end}
 use Rattle.yaml_emit_laws_text.specs.scan_history.History.{depth, in_flow, ended, candidate, levels, entries}
 use Rattle.yaml_emit_laws_text.specs.scan_history.Next.{Next, Read, next, gap_behind, place_behind, kind_behind, allowed_behind, level_in, begun_behind, word_behind, with_end, lexeme_behind, misplaced, stale_before, indicator_misplaced, candidate_lost, text_wrong, stale_after, wrong_in, missed, colon_missing_of, first_fault_or, coming}
 use Rattle.yaml_emit_laws_text.specs.scan_history.Remaining.{body_of_word}
@@ -47,11 +47,6 @@ level_is : (folded : Bool) (text : List ℕ) (h : List Lexeme)
 level_is true text h = refl
 level_is false text h = refl
 
-begun_start : (folded : Bool) (text : List ℕ) (h : List Lexeme)
-    → (begun_behind (kind_of folded) text h).start ≡ place_behind text h
-begun_start true text h = refl
-begun_start false text h = refl
-
 word_is : (folded : Bool) (text : List ℕ) (h : List Lexeme) (value : List ℕ) (end k : ℕ)
     → depth h ≡ 0
     → BlockStands folded (level_in (kind_of folded) (place_behind text h).column h) text
@@ -65,10 +60,6 @@ not_misplaced : (folded : Bool) (text : List ℕ) (h : List Lexeme)
     → indicator_misplaced (kind_of folded) text h ≡ None
 not_misplaced true text h = cond_false (misplaced (kind_of true) (place_behind text h) (allowed_behind h (gap_behind text h)) h) _ None (and-false (not (in_flow h) && not (allowed_behind h (gap_behind text h))))
 not_misplaced false text h = cond_false (misplaced (kind_of false) (place_behind text h) (allowed_behind h (gap_behind text h)) h) _ None (and-false (not (in_flow h) && not (allowed_behind h (gap_behind text h))))
-
-block_cancels : (folded : Bool) → cancels (kind_of folded) ≡ true
-block_cancels true = refl
-block_cancels false = refl
 
 block_clear : (folded : Bool) (text : List ℕ) (h : List Lexeme) (end k : ℕ) → depth h ≡ 0
     → candidate 0 (block_lexeme folded text h end k ∷ h) ≡ None

@@ -1,8 +1,11 @@
 -- Lines of a block scalar that stand in a text are read.
-use Rattle.std.proofs.Common.{◌≡◌, ◌≢◌, ℕ, zero, suc, ◌+◌, ◌-◌, ◌/◌, ◌%◌, ◌<◌, ◌≤◌, true, false, not, ◌&&◌, ◌||◌, ◌==◌, nat_lt, List, [], ◌∷◌, ◌++◌, length, replicate, slice_range, Result, Ok, refl, sym, ap, subst, ◌∙◌, inl, inr, arith, add-zero, encode_utf8, encode_utf8_all, length-append}
-use Rattle.yaml_emit_laws_pretty.proofs.ScalarWords.{cases_lt, and_parts, not-true, eqb-false, nat_tests, encode_ascii, encodes-append, byte, break_of, break_width, column_at, break_value, feed_at, is_text, line_end, Wrong, within, past_break, InRun, run_start, run_more, run_done, text_parts, Has, has, has_front, has_rest, range_reads, BlockLine, Empty, Words, spaces, Line, spot_behind, line_spot, Lines, with_line, line_then, lines_from, LineBreak, Lf, Cr, CrLf, is_break, cond_true, encode_1, encode_2, encode_3, encode_4, low_break, two_break, three_break, four_break, later_break, LineMark, own, separator, paragraph, mark_text, mark_bytes, mark_means, BodyLine, bare, full, line_text, body_text, line_bytes, body_bytes, read_line, read_lines, are_inside, AreInside, StandsLeft}
+use Rattle.std.proofs.Common.{◌≡◌, ◌≢◌, ℕ, zero, suc, ◌+◌, ◌/◌, ◌%◌, ◌<◌, ◌≤◌, true, false, not, ◌&&◌, ◌||◌, ◌==◌, nat_lt, List, [], ◌∷◌, ◌++◌, length, replicate, slice_range, Result, Ok, refl, sym, ap, subst, ◌∙◌, inl, inr, arith, add-zero, encode_utf8, encode_utf8_all, length-append}
+use Rattle.yaml_emit_laws_pretty.proofs.ScalarWords.{cases_lt, and_parts, not-true, eqb-false, nat_tests, encodes-append, byte, break_of, break_width, column_at, break_value, feed_at, is_text, line_end, Wrong, within, past_break, InRun, run_start, run_more, run_done, text_parts, Has, has, has_front, has_rest, range_reads, BlockLine, Empty, Words, spaces, Line, spot_behind, line_spot, Lines, with_line, line_then, lines_from, LineBreak, Lf, Cr, CrLf, is_break, cond_true, encode_1, encode_2, encode_3, encode_4, low_break, two_break, three_break, four_break, later_break, LineMark, own, separator, paragraph, mark_text, mark_bytes, mark_means, BodyLine, bare, full, line_text, body_text, line_bytes, body_bytes, read_line, read_lines, are_inside, AreInside, StandsLeft}
 use Rattle.yaml_scan_block.proofs.BlockLemmas.{space_column, empty_spot, end_spot, text_spot, stop_short, no_stop}
 use Rattle.yaml_emit_laws_pretty.proofs.BlockHeader.{NoFeed, breaks, text_encodes, no_text_there}
+use Rattle.yaml_emit_laws_pretty.proofs.Writing.{spaces_low}
+use Rattle.yaml_emit_laws_text.proofs.RunsLemmas.{no_space}
+use Rattle.yaml_emit_laws_text.proofs.Turns.{length_spaces}
 
 -- ---- bytes of a text
 
@@ -123,13 +126,10 @@ unfolding spaces
 spaces_full zero text p h = refl
 spaces_full (suc n) text p (e, h) = rw e (ap (λ k. suc k) (spaces_full n text (p + 1) h))
 
-differs_space : (b : ℕ) → b ≢ 32 → (b == 32) ≡ false
-differs_space b h = grind (arith, nat_tests)
-
 spaces_none : (n : ℕ) (text : List ℕ) (p : ℕ) → byte text p ≢ 32 → spaces n text p ≡ 0
 unfolding spaces
 spaces_none zero text p h = refl
-spaces_none (suc n) text p h = rw (differs_space (byte text p) h) refl
+spaces_none (suc n) text p h = rw (no_space (byte text p) h) refl
 
 spaces_left : (k n : ℕ) (text : List ℕ) (p : ℕ) → k ≤ n → Has text p (replicate k 32)
     → byte text (p + k) ≢ 32 → spaces n text p ≡ k
@@ -302,10 +302,6 @@ length_more x xs =
       ]
     ]
 
-pub length_spaces : (n : ℕ) → length {A = ℕ} (replicate n 32) ≡ n
-length_spaces zero = refl
-length_spaces (suc n) = ap (λ k. suc k) (length_spaces n)
-
 line_length : (n : ℕ) (words bs : List ℕ)
     → length (replicate n 32 ++ (words ++ bs)) ≡ n + length words + length bs
 line_length n words bs =
@@ -415,15 +411,11 @@ body_column b n k (x ∷ ls) text p e some i c h f s =
 
 -- ---- characters and bytes
 
-pub spaces_encode : (n : ℕ) → encode_utf8_all (replicate n 32) ≡ replicate n 32
-spaces_encode zero = refl
-spaces_encode (suc n) = ap (λ t. t ++ encode_utf8_all (replicate n 32)) (encode_ascii 32 (omega arith)) ∙ ap (λ t. 32 ∷ t) (spaces_encode n)
-
 line_encodes : (b : LineBreak) (n : ℕ) (l : BodyLine)
     → encode_utf8_all (line_text b n l) ≡ line_bytes b n l
 line_encodes b n (bare m) = text_encodes b m
 line_encodes b n (full x xs m) =
-    encodes-append (replicate n 32) ((x ∷ xs) ++ mark_text b m) ∙ ap (λ t. t ++ encode_utf8_all ((x ∷ xs) ++ mark_text b m)) (spaces_encode n)
+    encodes-append (replicate n 32) ((x ∷ xs) ++ mark_text b m) ∙ ap (λ t. t ++ encode_utf8_all ((x ∷ xs) ++ mark_text b m)) (spaces_low n)
     ∙ ap (λ t. replicate n 32 ++ t) (encodes-append (x ∷ xs) (mark_text b m) ∙ ap (λ t. encode_utf8_all (x ∷ xs) ++ t) (text_encodes b m))
 
 pub body_encodes : (b : LineBreak) (n : ℕ) (ls : List BodyLine)

@@ -4,8 +4,9 @@ use Rattle.yaml_emit_laws_pretty.proofs.ScalarWords.{encode_ascii, false≢true,
 use Rattle.yaml_emit_laws_text.specs.emit_text.declared.page.Page.{Page}
 use Rattle.yaml_emit_laws_text.specs.emit_text.Style.{is_blank}
 use Rattle.yaml_emit_laws_pretty.proofs.BlockHeader.{mark_breaks, mark_encodes, mark_some, mark_feed, mark_of, text_blank}
-use Rattle.yaml_emit_laws_pretty.proofs.BlockLayouts.{blanks_kept, break_is, none_added, first_is, char_is, cut_is, blank_break, blank_first, blank_in}
+use Rattle.yaml_emit_laws_pretty.proofs.BlockLayouts.{break_is, none_added, first_is, char_is, cut_is, blank_break, blank_first, blank_in}
 use Rattle.yaml_emit_laws_pretty.proofs.BlockWaiting.{read_chomp, Waits, owed, stacked_so, waits_end, waits_text, waits_break, break_owed}
+use Rattle.yaml_emit_laws_pretty.proofs.Lines.{blanks_kept}
 
 -- ---- characters of a value
 
@@ -14,7 +15,7 @@ abbrev pub AreGood : List ℕ → Type 0
 AreGood [] = Unit {0}
 AreGood (x ∷ xs) = (is_printable x ≡ true) × ((x == 32 && is_break (first xs)) ≡ false) × AreGood xs
 
-not_printed : (x k : ℕ) → is_printable x ≡ true → is_printable k ≡ false → (x == k) ≡ false
+pub not_printed : (x k : ℕ) → is_printable x ≡ true → is_printable k ≡ false → (x == k) ≡ false
 not_printed x k s n = ne_eqb x k (λ e. cc (sym s ∙ ap (λ t. is_printable t) e ∙ n))
 
 inside_one : (x : ℕ) → is_printable x ≡ true → is_break x ≡ false

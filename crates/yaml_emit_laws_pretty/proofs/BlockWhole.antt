@@ -6,7 +6,7 @@ use Rattle.yaml_emit_laws_text.specs.emit_text.declared.page.Allowed.{Allowed}
 use Rattle.yaml_emit_laws_text.specs.emit_text.declared.Style.TheVariants as style
 use Rattle.yaml_emit_laws_text.specs.scan_model.declared.yaml_scalar_style_t.TheVariants as asked
 use Rattle.yaml_emit_laws_pretty.proofs.BlockLayouts.{line_is, start_is, new_line_is}
-use Rattle.yaml_emit_laws_pretty.proofs.BlockReading.{spaces_encode, length_spaces, spaces_column, left_of, next_feed, length_more, AllText, chars_text, body_reads, body_column, body_encodes}
+use Rattle.yaml_emit_laws_pretty.proofs.BlockReading.{spaces_column, left_of, next_feed, length_more, AllText, chars_text, body_reads, body_column, body_encodes}
 use Rattle.yaml_scan_block.specs.Block.{larger, column_of, BlockText, block_with, block_at, style_at}
 use Rattle.yaml_scan_block.proofs.DepthLemmas.{depth_done, column_given, column_found}
 use Rattle.yaml_scan_block.proofs.ScalarLemmas.{block_found}
@@ -14,6 +14,8 @@ use Rattle.yaml_emit_laws_text.specs.emit_text.declared.page.Chomp.TheVariants a
 use Rattle.yaml_emit_laws_pretty.proofs.BlockHeader.{text_encodes, text_blank, digit_text, digit_value, chomp_text, header_reads}
 use Rattle.yaml_emit_laws_pretty.proofs.BlockWaiting.{read_chomp, Waits}
 use Rattle.yaml_emit_laws_pretty.proofs.BlockValues.{AreGood, HasFirst, Begins, Starts, starts, unblank}
+use Rattle.yaml_emit_laws_pretty.proofs.Writing.{spaces_low}
+use Rattle.yaml_emit_laws_text.proofs.Turns.{length_spaces}
 
 -- ---- the line behind
 
@@ -47,7 +49,7 @@ line_bytes_are : (letters close : List ℕ) (m : ℕ)
     ++ replicate m 32
 line_bytes_are letters close m =
     ap (λ (t : List ℕ). encode_utf8_all t) (sym (append_assoc letters close (replicate m 32))) ∙ encodes-append (letters ++ close) (replicate m 32)
-    ∙ ap (λ (t : List ℕ). encode_utf8_all (letters ++ close) ++ t) (spaces_encode m)
+    ∙ ap (λ (t : List ℕ). encode_utf8_all (letters ++ close) ++ t) (spaces_low m)
 
 read_line_behind : (page : Page) (digit : ℕ) (folded : Bool) (level : ℕ) (c : Cursor)
     (value : List ℕ) (m : ℕ) (r : BlockReads page digit folded level c value) → m < page.indentation

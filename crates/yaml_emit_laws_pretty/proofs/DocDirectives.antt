@@ -6,13 +6,14 @@ use Rattle.yaml_emit_laws_text.specs.scan_history.scan_words.Directives as direc
 use Rattle.yaml_emit_laws_text.specs.scan_history.scan_words.Directives.{Said, directive_at}
 use Rattle.yaml_emit_laws_text.specs.scan_history.declared.kind.Kind.TheVariants as kinds
 use Rattle.yaml_emit_laws_text.specs.emit_layout.scan_model.Tokens as tokens
-use Rattle.yaml_emit_laws_pretty.proofs.Lining.{no_gap, white_stands}
+use Rattle.yaml_emit_laws_pretty.proofs.Lining.{no_gap}
 use Rattle.yaml_emit_laws_pretty.proofs.DocStarts.{OnLine, at_start, AtLine, from_lined, outer_calm, root_ending, dashes_walk, dots_walk, dashes_are, RootsWalk, behind_root, from_root, root_white, root_ends, nothing_outer}
 use Rattle.yaml_emit_laws_text.proofs.Resolving.{or_first}
 use Rattle.yaml_emit_laws_text.proofs.Directives.{percent_kind, directive_word, percent_begins, ReadsLine, version_line, said_directive, WritesLine, version_writes, tag_front, tag_writes}
 use Rattle.yaml_emit_laws_text.specs.PrettyBodies.{start_bodies}
 use Rattle.yaml_emit_laws_text.specs.emit_layout.declared.level.Part.TheVariants as part
 use Rattle.yaml_emit_laws_text.specs.TextLaws.{text_of_documents, IsReadAs}
+use Rattle.yaml_emit_laws_pretty.proofs.Stopping.{white_next}
 
 -- ---- the break that ends a directive
 
@@ -272,7 +273,7 @@ dashed : (s : Settings) (x : yaml_encoding_t) (text : List ℕ) (rest : Rest)
     → Opens x text rest (λ bs. T (tokens.document_start ∷ bs))
 unfolding line blanks
 dashed s x text rest T h white =
-    let m = dashes_walk x text rest false T (λ q l. white_stands text q (bytes (rest (behind_three false))) l white) (record { place = h.place; more = h.more; reads = h.reads; flat = h.flat; column = h.column; left = h.left }) in
+    let m = dashes_walk x text rest false T (λ q l. white_next text q (bytes (rest (behind_three false))) l white) (record { place = h.place; more = h.more; reads = h.reads; flat = h.flat; column = h.column; left = h.left }) in
     record { cursor = behind_three false; kept = refl; place = m.place; stage = m.stage; left = m.left }
 
 marked_opens : Directing → (s : Settings) (o : Opening) → IsWritableOpening o

@@ -4,10 +4,11 @@ use Rattle.yaml_emit_laws_text.specs.emit_layout.scan_model.Tokens as tokens
 use Rattle.yaml_emit_laws_pretty.proofs.Words.{TokenBody, TagDirective, Settings, Style, letter, Layout, Rest, ◌▹◌, when, char, opener, letters, word, line, scalar_text, deep_bytes, Part, Scalar, Start, Opening, Node, alias_node, scalar_node, sequence_node, mapping_node, Nodes, no_nodes, node, Pairs, no_pairs, pair, has, start_tag, scalar_tag, Context, position, checked, MOST, is_simple, is_simple_part, is_plain, key_part, style_of, page_at, node_layout, alias_layout, scalar_layout, items_layout, pairs_layout, context_of, deeper, indented, indent_of, are_none, are_no_pairs, properties_text, Left, bytes, IsWritable, AreItemsWritable, ArePairsWritable, IsWritableOpening, IsWritableAnchor, IsWritableTag, StylesAreAllowed, place, style_at, scalar_kept, node_bodies, items_bodies, pairs_bodies, node_kept, items_kept, pairs_kept, is_flow_at, keeps, sequence_opens, sequence_closes, mapping_opens, mapping_closes, IsPretty, NodeWalks, PropertiesAreWalked, block_position, is_bracketed, KeysAreWalkedIn, BracketsFollow, pretty_of, pretty, false≢true, yaml_encoding_t, column_at, indent, Cursor, anchor_bodies, tag_bodies, WalkState, Outside, begins_white, margin_round, NodeStage, GoesBehindNode}
 use Rattle.yaml_emit_laws_text.specs.emit_layout.emit_text.declared.Style.TheVariants as style
 use Rattle.yaml_emit_laws_text.specs.emit_layout.declared.level.Part.TheVariants as part
-use Rattle.yaml_emit_laws_pretty.proofs.FlowItems.{WordLaws, properties_in, kept_good, scalar_in, alias_in, NodeIn, BodyIn, KeyIn, FirstItems, MoreItems, FirstPairs, MorePairs, items_none, items_closed, items_first, items_more, pairs_none, pairs_closed, pairs_first, pairs_more, bracket_in, opened_in}
+use Rattle.yaml_emit_laws_pretty.proofs.FlowItems.{WordLaws, properties_in, scalar_in, alias_in, NodeIn, BodyIn, KeyIn, FirstItems, MoreItems, FirstPairs, MorePairs, items_none, items_closed, items_first, items_more, pairs_none, pairs_closed, pairs_first, pairs_more, bracket_in, opened_in}
 use Rattle.yaml_emit_laws_pretty.proofs.FlowSigns.{prettily, Spaced, gap_spaced, checked_spaced, properties_spaced, mark_spaced, text_spaced, space_parts, opening_of, opens}
 use Rattle.yaml_emit_laws_pretty.proofs.Lining.{line_ends}
 use Rattle.yaml_emit_laws_pretty.proofs.SpokenWords.{bare_off}
+use Rattle.yaml_emit_laws_pretty.proofs.NearKeys.{kept_writable}
 
 -- ---- what nodes begin with
 
@@ -54,7 +55,7 @@ sequence_in laws d fine s o items anchor tag all n q part bare ls low rest follo
     let a = checked m ▹ items_layout p true m true items in
     let B : List TokenBody → List TokenBody = λ bs. items_bodies p true true items (tokens.flow_sequence_end ∷ bs) in
     let body = body_checked m (items_layout p true m true items) B ls rest (all m ls (omega (arith, low)) rest) in
-    properties_in laws d fine s ls o.anchor (start_tag false o) anchor (kept_good (not o.implicit) o.tag tag) (opener 91 ▹ a) (λ bs. tokens.flow_sequence_start ∷ B bs) rest (gap_spaced (bracket 91 ▹ a) rest)
+    properties_in laws d fine s ls o.anchor (start_tag false o) anchor (kept_writable (not o.implicit) o.tag tag) (opener 91 ▹ a) (λ bs. tokens.flow_sequence_start ∷ B bs) rest (gap_spaced (bracket 91 ▹ a) rest)
     (λ e. bracket_in false a B ls rest body e) c
 
 mapping_in : WordLaws → (d : Opening) → IsWritableOpening d
@@ -67,7 +68,7 @@ mapping_in laws d fine s o pairs anchor tag all n q part bare ls low rest follow
     let a = checked m ▹ pairs_layout p true m true pairs in
     let B : List TokenBody → List TokenBody = λ bs. pairs_bodies p true true pairs (tokens.flow_mapping_end ∷ bs) in
     let body = body_checked m (pairs_layout p true m true pairs) B ls rest (all m ls (omega (arith, low)) rest) in
-    properties_in laws d fine s ls o.anchor (start_tag false o) anchor (kept_good (not o.implicit) o.tag tag) (opener 123 ▹ a) (λ bs. tokens.flow_mapping_start ∷ B bs) rest (gap_spaced (bracket 123 ▹ a) rest)
+    properties_in laws d fine s ls o.anchor (start_tag false o) anchor (kept_writable (not o.implicit) o.tag tag) (opener 123 ▹ a) (λ bs. tokens.flow_mapping_start ∷ B bs) rest (gap_spaced (bracket 123 ▹ a) rest)
     (λ e. bracket_in true a B ls rest body e) c
 
 pub pretty_fine : (s : Settings) (d : Opening) → IsPretty s d → IsPretty (pretty_of s) d
@@ -113,10 +114,6 @@ mutual
       (pairs_first s d.directives k v ps (key_in laws keys s d is k gk (node_in laws keys s d is k gk)) (λ n rest. node_spaced s d.directives v n part.Value rest) (node_in laws keys s d is v gv) (more_pairs_in laws keys s d is ps all))
 
 -- ---- no block scalar stands in brackets
-
-style_same : (p : Context) (q : Part) (x : Scalar)
-    → style_of p (place true q) x ≡ style_at p true q x
-style_same p q x = refl
 
 scalar_keeps : StylesAreAllowed → (p : Context) (q : Part) (x : Scalar) (st : Style)
     → style_at p true q x ≡ st → (kept : Bool) → scalar_kept st x.value kept ≡ kept
@@ -307,7 +304,7 @@ node_brackets laws keys law s d is (sequence_node o items) (anchor, tag, all) fl
     let m = deeper (pretty s) around in
     let least = is.least in
     let up = margin_deep s least around in
-    bracketed law s d is around q bare (sequence_node o items) o.anchor (start_tag false o) anchor (kept_good (not o.implicit) o.tag tag) false (checked m ▹ items_layout p true m true items) (λ bs. items_bodies p true true items (tokens.flow_sequence_end ∷ bs))
+    bracketed law s d is around q bare (sequence_node o items) o.anchor (start_tag false o) anchor (kept_writable (not o.implicit) o.tag tag) false (checked m ▹ items_layout p true m true items) (λ bs. items_bodies p true true items (tokens.flow_sequence_end ∷ bs))
     (λ ls rest level. body_checked m (items_layout p true m true items) (λ bs. items_bodies p true true items (tokens.flow_sequence_end ∷ bs)) ls rest (first_in laws keys s d is items all m ls (omega (arith, level, up)) rest))
     (sequence_laid s d.directives around q o items flow) (sequence_told p q bare o items flow) (λ kept. (sym (ap (λ (b : Bool). items_kept (prettily s d.directives) b items kept) flow ∙ items_keep laws.styles s d.directives items kept)))
 node_brackets laws keys law s d is (mapping_node o pairs) (anchor, tag, all) flow around q bare =
@@ -315,7 +312,7 @@ node_brackets laws keys law s d is (mapping_node o pairs) (anchor, tag, all) flo
     let m = deeper (pretty s) around in
     let least = is.least in
     let up = margin_deep s least around in
-    bracketed law s d is around q bare (mapping_node o pairs) o.anchor (start_tag false o) anchor (kept_good (not o.implicit) o.tag tag) true (checked m ▹ pairs_layout p true m true pairs) (λ bs. pairs_bodies p true true pairs (tokens.flow_mapping_end ∷ bs))
+    bracketed law s d is around q bare (mapping_node o pairs) o.anchor (start_tag false o) anchor (kept_writable (not o.implicit) o.tag tag) true (checked m ▹ pairs_layout p true m true pairs) (λ bs. pairs_bodies p true true pairs (tokens.flow_mapping_end ∷ bs))
     (λ ls rest level. body_checked m (pairs_layout p true m true pairs) (λ bs. pairs_bodies p true true pairs (tokens.flow_mapping_end ∷ bs)) ls rest (first_pairs_in laws keys s d is pairs all m ls (omega (arith, level, up)) rest))
     (mapping_laid s d.directives around q o pairs flow) (mapping_told p q bare o pairs flow) (λ kept. (sym (ap (λ (b : Bool). pairs_kept (prettily s d.directives) b pairs kept) flow ∙ pairs_keep laws.styles s d.directives pairs kept)))
 node_brackets laws keys law s d is _ good flow around q bare = absurd (false≢true flow)

@@ -1,6 +1,6 @@
 -- Collections in brackets: items, pairs, and what opens and closes them.
 use Rattle.std.proofs.Common.{◌≡◌, ℕ, ◌+◌, ◌≤◌, not, nat_lt, Bool, true, false, List, [], ◌∷◌, refl, sym, ap, subst, ◌∙◌, inl, inr, arith, ◌<◌, ◌&&◌, ◌||◌, length, None, Some, IsUtf8, Option, true≢false}
-use Rattle.yaml_emit_laws_pretty.proofs.Words.{chars, cases_Bool, nat_tests, yaml_encoding_t, TokenBody, TagDirective, column_at, indent, Cursor, Settings, letter, Layout, Rest, ◌▹◌, when, char, letters, word, opener, wrap, Part, Node, Nodes, no_nodes, node, Pairs, no_pairs, pair, Scalar, Opening, alias_node, scalar_node, position, is_simple_part, is_simple, key_part, turned, before_item, before_key, before_value, closer, node_layout, items_layout, pairs_layout, Context, checked, MOST, is_plain, style_of, tag_text, anchor_text, properties_text, page_at, alias_layout, scalar_layout, Left, bytes, first, left_letter, deep_bytes, IsRight, WalkState, WalkReads, Outside, node_bodies, items_bodies, pairs_bodies, style_named, IsClear, GoesIn, WalksIn, FollowsIn, KeyWalksIn, lettered_on, AnchorReads, Style, double_quoted, plain, single_quoted, scalar_text, allowed, tag_spelling, split_tag, has, kept_if, scalar_tag, anchor_bodies, tag_bodies, tag_body, mark_bodies, QuotedIsReadBack, SplitTagsAreRead, WrittenTagsAreReadable, ReadableTagsAreAscii, LoneMarkReads, IsWritableAnchor, IsWritableTag, IsWritableName, IsWritableOpening, PlainIsReadBack, may_be_plain, SingleLinesAreReadBack, PlainHasGap, ScalarsAreWords, StylesAreAllowed, ends_name}
+use Rattle.yaml_emit_laws_pretty.proofs.Words.{chars, cases_Bool, nat_tests, yaml_encoding_t, TokenBody, TagDirective, column_at, indent, Cursor, Settings, letter, Layout, Rest, ◌▹◌, when, char, letters, word, opener, wrap, Part, Node, Nodes, no_nodes, node, Pairs, no_pairs, pair, Scalar, Opening, alias_node, scalar_node, position, is_simple_part, is_simple, key_part, turned, before_item, before_key, before_value, closer, node_layout, items_layout, pairs_layout, Context, checked, MOST, is_plain, style_of, tag_text, anchor_text, properties_text, page_at, alias_layout, scalar_layout, Left, bytes, first, left_letter, deep_bytes, IsRight, WalkState, WalkReads, Outside, node_bodies, items_bodies, pairs_bodies, style_named, IsClear, GoesIn, WalksIn, FollowsIn, KeyWalksIn, lettered_on, AnchorReads, Style, double_quoted, plain, single_quoted, scalar_text, allowed, tag_spelling, split_tag, has, scalar_tag, anchor_bodies, tag_bodies, tag_body, mark_bodies, QuotedIsReadBack, SplitTagsAreRead, WrittenTagsAreReadable, ReadableTagsAreAscii, LoneMarkReads, IsWritableAnchor, IsWritableTag, IsWritableName, IsWritableOpening, PlainIsReadBack, may_be_plain, SingleLinesAreReadBack, PlainHasGap, ScalarsAreWords, StylesAreAllowed, ends_name}
 use Rattle.yaml_emit_laws_text.specs.emit_layout.scan_model.Tokens as tokens
 use Rattle.yaml_emit_laws_text.specs.emit_layout.declared.level.Part.TheVariants as part
 use Rattle.yaml_emit_laws_pretty.proofs.FlowSteps.{Space, space_on, clear_same, word_walks, both}
@@ -9,6 +9,7 @@ use Rattle.yaml_emit_laws_pretty.proofs.KeySteps.{deeper_out}
 use Rattle.yaml_emit_laws_text.specs.emit_layout.emit_text.declared.Style.TheVariants as style
 use Rattle.yaml_emit_laws_pretty.proofs.SpokenWords.{anchor_word, alias_word, tag_word, mark_word, double_word, single_word, plain_word}
 use Rattle.yaml_emit_laws_pretty.proofs.SpokenLayouts.{anchor_says, alias_says, tag_says, mark_says, double_says, single_says, plain_says}
+use Rattle.yaml_emit_laws_pretty.proofs.NearKeys.{kept_writable}
 
 -- Behind a closing bracket, where d are open.
 pub record Closed (x : yaml_encoding_t) (text : List ℕ) (rest : Rest) (kept : Bool) (d : ℕ) (cs ls : List ℕ) (T : List TokenBody → List TokenBody) : Type 0 where
@@ -368,11 +369,6 @@ pub record WordLaws : Type 0 where
   pub words : ScalarsAreWords
   pub styles : StylesAreAllowed
 
--- a layout for another
-pub walks_as : (ls : List ℕ) (a b : Layout) (B C : List TokenBody → List TokenBody) (c : Cursor)
-    (rest : Rest) → a ≡ b → B ≡ C → WalksIn b C ls c rest → WalksIn a B ls c rest
-walks_as ls a b B C c rest e f w = subst (λ (y : Layout). WalksIn y B ls c rest) (sym e) (subst (λ (D : List TokenBody → List TokenBody). WalksIn b D ls c rest) (sym f) w)
-
 pub walks_checked : (ls : List ℕ) (n : ℕ) (a : Layout) (B : List TokenBody → List TokenBody)
     (c : Cursor) (rest : Rest) → WalksIn a B ls c rest → WalksIn (checked n ▹ a) B ls c rest
 walks_checked ls n a B c rest w x text o cs T r deep clear l = w x text o cs T r deep clear (subst (λ (bs : List ℕ). Left text o.at bs) (deep_bytes (nat_lt MOST n) (a c rest)) l)
@@ -429,10 +425,6 @@ pub properties_in : WordLaws → (o : Opening) → IsWritableOpening o
 properties_in laws o fine s ls anchor tag good right b B rest spaced w c =
     let p = prettily s o.directives in
     anchor_in laws ls anchor good (tag_text p tag ▹ b) (λ bs. tag_bodies o.directives tag (B bs)) rest (tag_spaced p tag b rest spaced) (λ e. tag_in laws o fine s ls tag right b B rest spaced w e) c
-
-pub kept_good : (b : Bool) (t : Option (List ℕ)) → IsWritableTag t → IsWritableTag (kept_if b t)
-kept_good true t good = good
-kept_good false t good = tt
 
 -- ---- scalars
 
@@ -499,7 +491,7 @@ scalar_in laws o fine s deep x anchor tag u n q bare ls low rest follows c =
     let spaced = checked_spaced k text rest (text_spaced (page_at p.settings at) p.settings.indent st (chars x.value) rest) in
     let D : Style → List TokenBody → List TokenBody = λ y bs. anchor_bodies x.anchor (tag_bodies o.directives (scalar_tag false x) (mark_bodies (not (has (scalar_tag false x)) && (not x.quoted && not (is_plain y))) (tokens.scalar x.value (style_named y) ∷ bs))) in
     subst (λ (y : Style). WalksIn (properties_text p x.anchor (scalar_tag false x) ▹ (when m (word (33 ∷ [])) ▹ (checked k ▹ text))) (D y) ls c rest) refl
-    (properties_in laws o fine s ls x.anchor (scalar_tag false x) anchor (kept_good (not (x.plain || x.quoted)) x.tag tag) (when m (word (33 ∷ [])) ▹ (checked k ▹ text)) (λ bs. mark_bodies m (B bs)) rest (mark_spaced m (checked k ▹ text) rest spaced)
+    (properties_in laws o fine s ls x.anchor (scalar_tag false x) anchor (kept_writable (not (x.plain || x.quoted)) x.tag tag) (when m (word (33 ∷ [])) ▹ (checked k ▹ text)) (λ bs. mark_bodies m (B bs)) rest (mark_spaced m (checked k ▹ text) rest spaced)
     (λ e. mark_in laws ls m (checked k ▹ text) B rest spaced content e) c)
 
 pub alias_in : WordLaws → (s : Settings) (ds : List TagDirective) (name : List ℕ)

@@ -6,8 +6,9 @@ use Rattle.yaml_emit_laws_pretty.proofs.Following.{line_bytes, line_calm}
 use Rattle.yaml_emit_laws_pretty.proofs.DocStarts.{break_white}
 use Rattle.yaml_emit_laws_text.specs.emit_layout.scan_model.Tokens as tokens
 use Rattle.yaml_emit_laws_text.specs.scan_history.declared.kind.Kind.TheVariants as kinds
-use Rattle.yaml_emit_laws_pretty.proofs.Lining.{sign_next, white_stands}
-use Rattle.yaml_emit_laws_pretty.proofs.FlowSteps.{leave_clear}
+use Rattle.yaml_emit_laws_pretty.proofs.Lining.{sign_next}
+use Rattle.yaml_emit_laws_pretty.proofs.FlowSteps.{leave_clear, off_or}
+use Rattle.yaml_emit_laws_pretty.proofs.Stopping.{white_next}
 
 abbrev pub prettily : Settings → List TagDirective → Context
 prettily s ds = record { settings = pretty s; directives = ds }
@@ -296,9 +297,6 @@ abbrev pub closes : Bool → TokenBody
 closes true = tokens.flow_mapping_end
 closes false = tokens.flow_sequence_end
 
-off_or : (a b : Bool) → a ≡ false → (a || (false && b)) ≡ false
-off_or a b e = rw e refl
-
 pub opener_on : (mapping : Bool) (x : yaml_encoding_t) (text bs : List ℕ) (o : WalkState)
     (cs ls : List ℕ) (T : List TokenBody → List TokenBody) → WalkReads x text o cs ls [] T
     → IsRight o.depth ls (column_at text o.at) → IsClear o cs
@@ -353,7 +351,7 @@ question_on x text bs o cs ls T r deep out white l =
     let s = sign_next text o.at 63 bs (omega arith) (omega arith) (λ h. omega (arith, h)) l in
     signed x text bs q o.depth o.depth false _ ls (λ ds. T (tokens.key ∷ ds)) refl s.left
     (walk_asks x text o cs ls T [] (sign tokens.key (q + 1)) (q + 1) false (not (nat_lt 0 o.depth)) r (deeper_leaves kinds.KeyMark o.depth (o.now || (false && o.broken)) cs out) deep
-    (signs_come.question text o.at o.depth (indent ls) [] s.none s.at (white_stands text (q + 1) bs s.left white)) (words_leave.all text o.depth false (sign tokens.key (q + 1)) refl))
+    (signs_come.question text o.at o.depth (indent ls) [] s.none s.at (white_next text (q + 1) bs s.left white)) (words_leave.all text o.depth false (sign tokens.key (q + 1)) refl))
 
 pub answer_on : (x : yaml_encoding_t) (text bs : List ℕ) (o : WalkState) (cs ls : List ℕ)
     (T : List TokenBody → List TokenBody) → WalkReads x text o (o.depth ∷ cs) ls [] T
@@ -365,4 +363,4 @@ answer_on x text bs o cs ls T r deep out white l =
     let s = sign_next text o.at 58 bs (omega arith) (omega arith) (λ h. omega (arith, h)) l in
     signed x text bs q o.depth o.depth false _ ls (λ ds. T (tokens.value ∷ ds)) refl s.left
     (walk_answers x text o cs ls T [] (sign tokens.value (q + 1)) (q + 1) false (not (nat_lt 0 o.depth)) r (deeper_leaves kinds.ValueMark o.depth (o.now || (false && o.broken)) cs out) deep
-    (signs_come.colon text o.at o.depth (indent ls) [] s.none s.at (white_stands text (q + 1) bs s.left white)) (words_leave.all text o.depth false (sign tokens.value (q + 1)) refl))
+    (signs_come.colon text o.at o.depth (indent ls) [] s.none s.at (white_next text (q + 1) bs s.left white)) (words_leave.all text o.depth false (sign tokens.value (q + 1)) refl))

@@ -3,6 +3,7 @@ use Rattle.std.proofs.Common.{◌≡◌, ℕ, ◌+◌, ◌≤◌, ◌==◌, ◌&
 use Rattle.yaml_emit_laws_pretty.proofs.Words.{false≢true, or_right, yaml_encoding_t, TokenBody, column_at, indent, depth_after, allows_key, cancels, is_value, may_be_key, WordText, kind_at, word_at, Kind, Cursor, Layout, Rest, ◌▹◌, Left, bytes, has_at, left_first, left_more, left_rest, stays_level, Comes, WordLeaves, WalkState, WalkReads, LeaveClear, Outside, behind, letter_columns, walk_white, walk_word, deeper_leaves, is_text, Fits, Spoken, SaysTokens, IsClear, WalksIn}
 use Rattle.yaml_emit_laws_text.specs.scan_history.declared.kind.Kind.TheVariants as kinds
 use Rattle.yaml_emit_laws_pretty.proofs.Lining.{no_gap}
+use Rattle.yaml_scan_laws_texts.proofs.Whites.{or_none}
 
 -- ---- kinds
 
@@ -69,10 +70,6 @@ pub record Space (x : yaml_encoding_t) (text bs : List ℕ) (o : WalkState) (cs 
   pub right : column_at text o.at ≤ column_at text place.at
   pub left : Left text place.at bs
 
-same_or : (a b : Bool) → (a || (false && b)) ≡ a
-same_or true b = refl
-same_or false b = refl
-
 pub space_on : (b : Bool) (x : yaml_encoding_t) (text bs : List ℕ) (o : WalkState)
     (cs ls more : List ℕ)
     (T : List TokenBody → List TokenBody) → WalkReads x text o cs ls more T
@@ -83,7 +80,7 @@ space_on true x text bs o cs ls more T r l =
       place = record { at = o.at + 1; line = o.line; depth = o.depth; now = o.now || (false && o.broken); broken = o.broken };
       reads = walk_white x text o cs ls more T (32 ∷ []) r (has_at text o.at (32 ∷ []) (here, tt)) refl;
       deep = refl;
-      same = same_or o.now o.broken;
+      same = or_none o.now o.broken;
       broken = refl;
       right = let (next, same) = letter_columns text o.at 32 here (omega arith) (omega arith) in omega (arith, next);
       left = left_more text o.at 32 bs l;

@@ -5,7 +5,8 @@ use Rattle.yaml_emit_laws_text.proofs.Chars.{encode_1, encode_2, encode_3, encod
 use Rattle.yaml_emit_laws_text.specs.emit_layout.scan_model.Tokens as tokens
 use Rattle.yaml_emit_laws_text.specs.scan_history.declared.kind.Kind.TheVariants as kinds
 use Rattle.yaml_emit_laws_text.specs.scan_history.declared.lexeme.Opens.TheVariants as opening
-use Rattle.yaml_emit_laws_pretty.proofs.Lining.{no_gap, sign_next, white_stands}
+use Rattle.yaml_emit_laws_pretty.proofs.Lining.{no_gap, sign_next}
+use Rattle.yaml_emit_laws_pretty.proofs.Stopping.{white_next}
 
 column_step : (text : List ℕ) (q : ℕ) → line_at text (suc q) ≤ line_at text q
     → column_at text q ≤ column_at text (suc q)
@@ -119,11 +120,6 @@ abbrev pub spot_at : ℕ → ℕ → ℕ → Bool → Bool → WalkState
 spot_at p line d now broken = record { at = p; line = line; depth = d; now = now; broken = broken }
 
 -- ---- a word that stands comes
-
--- the word that a spoken one is there
-abbrev pub said_by : {flow : Bool} {level : ℕ} {k : Kind} {body : TokenBody} {text : List ℕ}
-    {p e : ℕ} {bs : List ℕ} → WordStands flow level k body text p e bs → WordText
-said_by {flow} {level} {k} {body} s = record { body = body; end = s.end; reached = s.reached; broke = s.broke }
 
 pub stands_comes : (d level : ℕ) (k : Kind) (body : TokenBody) (text : List ℕ) (p e : ℕ)
     (bs : List ℕ) → p ≤ e → (s : WordStands (nat_lt 0 d) level k body text p e bs)
@@ -341,7 +337,7 @@ pub key_colon : (d : ℕ) (ls new : List ℕ) (what : Opens) (tail : List ℕ) (
 key_colon d ls new what tail x text p e end cs T K f some few r l white opens starts =
     let z : e + 0 ≡ e = omega arith in
     let y = sign_next text e 58 tail (omega arith) (omega arith) (λ h. omega (arith, h)) l in
-    let comes = signs_come.colon text e d (indent ls) [] y.none y.at (white_stands text (e + 0 + 1) tail y.left white) in
+    let comes = signs_come.colon text e d (indent ls) [] y.none y.at (white_next text (e + 0 + 1) tail y.left white) in
     let w = sign tokens.value (e + 0 + 1) in
     let r = walk_key_stops x text (spot_at e r.line d false r.wide) (mark_at text p) cs ls new what T K [] w (e + 0 + 1) false (not (nat_lt 0 d)) r.reads (deeper_leaves kinds.ValueMark d false cs f.out) comes
     (subst (λ i. IsRight d ls (column_at text i)) (sym z) (f.right e some few)) (subst (λ i. is_fresh (mark_at text p) (mark_at text i) ≡ true) (sym z) (f.near e few)) opens starts

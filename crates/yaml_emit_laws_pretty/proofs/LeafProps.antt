@@ -5,8 +5,8 @@ use Rattle.yaml_emit_laws_pretty.proofs.KeySteps.{texty, stands_comes, stands_le
 use Rattle.yaml_emit_laws_pretty.proofs.FlowSteps.{off_or}
 use Rattle.yaml_emit_laws_text.specs.scan_history.declared.kind.Kind.TheVariants as kinds
 use Rattle.yaml_emit_laws_text.specs.emit_layout.emit_text.Hex.{hex_2}
-use Rattle.yaml_emit_laws_text.proofs.Values.{cond_true, cond_false}
 use Rattle.yaml_emit_laws_pretty.proofs.SpokenWords.{anchor_word, tag_word, mark_word, bare_off}
+use Rattle.yaml_emit_laws_text.proofs.Sinks.{cond_true, cond_false}
 
 -- words of text leave the depths without candidates so, where a key may begin as it may now
 abbrev pub ClearFor : Bool → ℕ → List ℕ → Type 0
@@ -117,9 +117,6 @@ content_words d ls w ws bs x text o line now broken cs T reads clear right l (fi
 -- ==== Properties as words: an anchor, a tag, and the `!` of an untagged scalar.
 
 -- ---- bytes above the controls
-
-less : (x : ℕ) → nat_lt x 128 ≡ true → x < 128
-less x h = grind (arith, nat_tests)
 
 low : (x : ℕ) → x < 128 → nat_lt x 128 ≡ true
 low x h = grind (arith, nat_tests)

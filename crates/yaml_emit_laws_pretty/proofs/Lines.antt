@@ -24,10 +24,6 @@ indent_is n c rest e =
     let z : n - c.column ≡ n = omega (arith, e) in
     ap (λ k. blanks k c rest) z ∙ blanks_are n c rest
 
-broken : (a b d : Bool) → a ≡ false → (not a || b || d) ≡ true
-broken false b d e = refl
-broken true b d e = absurd (true≢false e)
-
 -- where a line starts
 pub record Starts (c : Cursor) : Type 0 where
   pub column : c.column ≡ 0

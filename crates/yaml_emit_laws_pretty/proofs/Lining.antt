@@ -1,8 +1,10 @@
 -- Lines between nodes, and the indicators behind them.
 use Rattle.std.proofs.Common.{◌≡◌, ℕ, ◌-◌, ◌+◌, ◌<◌, ◌==◌, ◌&&◌, ◌||◌, not, nat_lt, Bool, true, false, List, [], ◌∷◌, ◌++◌, zero, suc, refl, ap, ◌∙◌, inl, inr, arith, if◌then◌else◌, sym, subst, ◌≤◌}
-use Rattle.yaml_emit_laws_pretty.proofs.Words.{cases_Bool, false≢true, or_left, or_right, not-false, ltb-false, eq-eqb, nat_tests, yaml_encoding_t, TokenBody, break_of, byte, column_at, line_at, is_blank_or_end, ends_of, ends_break, Cursor, LineBreak, Lf, Cr, CrLf, Rest, blank, blanks, line, letters, indicator, must_break, new_line, indent_to, word, letter, Item, bytes, Left, first, letter_low, left_letter, behind_return, walk_ends, walk_says, walk_mark, walk_white, begins_white, begins_solid, LinedUp, BareIndicator, Entry, Question, Answer, mark_byte, no_comment, mark_body, mark_level, IsLone, MarkIsWalked, NodeStage, NoFeed, Lined, LineIsWalked, LineEndsNode, ShowsNode, indent, margin_at, opened, start_of, level_of, is_start, is_value, allows_key, Kind, begins_lexeme, left_first, left_more, has_at, line_at-grows, Rises, IsGap, WalkState, ClosesAt, behind, sign, MarkComes, WordLeaves, signs_come, printed_begins, letter_columns, feed_line, words_leave, left_byte, column_end, line_end, line_start}
+use Rattle.yaml_emit_laws_pretty.proofs.Words.{cases_Bool, false≢true, or_left, or_right, not-false, ltb-false, eq-eqb, nat_tests, yaml_encoding_t, TokenBody, break_of, byte, column_at, line_at, ends_of, ends_break, Cursor, LineBreak, Lf, Cr, CrLf, Rest, blank, blanks, line, letters, indicator, must_break, new_line, indent_to, word, letter, Item, bytes, Left, first, letter_low, left_letter, behind_return, walk_ends, walk_says, walk_mark, walk_white, begins_white, begins_solid, LinedUp, BareIndicator, Entry, Question, Answer, mark_byte, no_comment, mark_body, mark_level, IsLone, MarkIsWalked, NodeStage, NoFeed, Lined, LineIsWalked, LineEndsNode, ShowsNode, indent, margin_at, opened, start_of, level_of, is_start, is_value, allows_key, Kind, begins_lexeme, left_first, left_more, has_at, line_at-grows, Rises, IsGap, WalkState, ClosesAt, behind, sign, MarkComes, WordLeaves, signs_come, printed_begins, letter_columns, feed_line, words_leave, left_byte, column_end, line_end, line_start}
 use Rattle.yaml_emit_laws_text.specs.emit_layout.scan_model.Tokens as tokens
 use Rattle.yaml_emit_laws_text.specs.scan_history.declared.kind.Kind.TheVariants as kinds
+use Rattle.yaml_emit_laws_text.proofs.Single.{broken}
+use Rattle.yaml_emit_laws_pretty.proofs.Stopping.{white_next}
 
 -- ---- white
 
@@ -124,6 +126,7 @@ up_says x text rest n kept ls T U up e =
 
 -- ==== The indicators of a bare line.
 
+-- no gap where a lexeme begins at once
 pub no_gap : (text : List ℕ) (p : ℕ) → begins_lexeme text p ≡ true → IsGap text p []
 no_gap text p e = let z : p + 0 ≡ p = omega arith in record { has = λ k few. absurd (omega (arith, few)); blank = refl; ends = ap (λ n. begins_lexeme text n) z ∙ e }
 
@@ -142,12 +145,6 @@ sign_next text p b bs low high hash l =
     record { none = no_gap text p (printed_begins text p b here low high hash); at = ap (λ n. byte text n) z ∙ here; left = subst (λ (n : ℕ). Left text (n + 1) bs) (sym z) (left_more text p b bs l) }
 
 -- ---- white in bytes is white in the text
-
-pub white_stands : (text : List ℕ) (p : ℕ) (bs : List ℕ) → Left text p bs → begins_white bs ≡ true
-    → is_blank_or_end text p ≡ true
-unfolding break_of
-white_stands text p [] l e = let z = left_byte text p [] l in rw z refl
-white_stands text p (b ∷ bs) l e = grind (arith, nat_tests)
 
 -- ---- the three indicators
 
@@ -196,7 +193,7 @@ mark_on k x text n kept ls more new what T rest here lone low rises opens starts
     let there : column_at text q ≡ n = ap (λ n. column_at text n) z ∙ same ∙ column in
     let margin : margin_at (column_at text q) ≡ n + 1 = ap (λ i. i + 1) there in
     let up : c.column + 1 ≡ n + 1 = ap (λ i. i + 1) column in
-    let comes = mark_comes k text p 0 (indent ls) [] y.none y.at (white_stands text (q + 1) (bytes (rest e)) y.left (parted e here.bare refl up)) in
+    let comes = mark_comes k text p 0 (indent ls) [] y.none y.at (white_next text (q + 1) (bytes (rest e)) y.left (parted e here.bare refl up)) in
     let closes : ClosesAt 0 (column_at text q) ls more = inr (refl, omega (arith, margin, low), subst (λ i. Rises i more) (sym margin) rises) in
     let (is, level, allows) = mark_starts k in
     let r = walk_mark x text o ls more new what T (mark_kind k) [] (sign (mark_body k) (q + 1)) (q + 1) true true s.reads s.flat comes is
@@ -352,16 +349,12 @@ line_on b n x text c o ls more T rest s none l =
           record { cursor = all.cursor; place = all.place; stage = all.stage; left = all.left; bare = all.bare; white = all.white; column = all.column ∙ omega (arith, most); same = all.same }
     ]
 
-must_if : (bare : Bool) (a b : Bool) → bare ≡ false → (not bare || a || b) ≡ true
-must_if false a b e = refl
-must_if true a b e = absurd (cc)
-
 pub line_ends : LineEndsNode
 unfolding line
 line_ends b n x text kept ls T rest none g =
     let c = g.behind in
     let after : Rest = λ k. indent_to n k rest in
-    let break : must_break n c ≡ true = must_if c.bare (nat_lt n c.column) (c.column == n && not c.white) g.bare in
+    let break : must_break n c ≡ true = broken c.bare (nat_lt n c.column) (c.column == n && not c.white) g.bare in
     let h = break_on b x text c g.place ls g.more T after g.stage (first_blank (n - 0) (line_start c) n rest none refl refl (omega arith)) (subst (λ (t : Bool). Left text g.place.at (bytes (if t then new_line b c after else after c))) break g.left) in
     let all = blanks_on (n - 0) x text (line_start c) h.place ls g.more T rest h.stage refl (λ z. refl) h.left in
     let there : 0 + (n - 0) ≡ n = omega arith in

@@ -142,9 +142,6 @@ is_key_style style.Literal = false
 is_key_style style.Folded = false
 is_key_style _ = true
 
-abbrev or_double : Bool → Style → Style
-or_double b s = if b then s else style.Double
-
 single_key : (a : Allowed) → is_key_style (single_or a) ≡ true
 single_key a = elim (cases_Bool a.single) [ inl e ↦ rw e refl | inr e ↦ rw e refl ]
 

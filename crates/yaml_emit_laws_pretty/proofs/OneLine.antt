@@ -1,7 +1,9 @@
 -- Texts without breaks: characters of a value that has none, and places on one line.
-use Rattle.std.proofs.Common.{◌≡◌, ℕ, zero, suc, ◌+◌, ◌-◌, ◌/◌, ◌%◌, ◌<◌, ◌≤◌, Bool, true, false, not, ◌==◌, nat_le, nat_lt, List, [], ◌∷◌, ◌++◌, length, refl, sym, ap, subst, ◌∙◌, inl, inr, ◌⊎◌, arith, add-one, add-zero, encode_utf8, encode_utf8_all, IsUtf8, length-append, chars}
+use Rattle.std.proofs.Common.{◌≡◌, ℕ, zero, suc, ◌+◌, ◌/◌, ◌%◌, ◌<◌, ◌≤◌, Bool, true, false, not, ◌==◌, nat_le, nat_lt, List, [], ◌∷◌, ◌++◌, length, refl, sym, ap, subst, ◌∙◌, inl, inr, arith, add-one, add-zero, encode_utf8, encode_utf8_all, IsUtf8, length-append, chars}
 use Rattle.yaml_emit_laws_pretty.proofs.ScalarWords.{cases_lt, true≢false, eqb-true, and_parts, not-true, or_parts, nat_tests, encodes-chars, byte, break_of, line_at, breaks_at, any_below, line_more, Has, has, has_front, has_rest, is_break, is_one_line, encode_1, encode_2, encode_3, encode_4, low_end, first_end, second_end, third_end, NearIsFresh, ends_2, ends_1, bool_cases}
 use Rattle.yaml_emit_laws_text.specs.scan_model.Classes.{has_break}
+use Rattle.yaml_scan_laws_texts.proofs.CutsWords.{break_byte}
+use Rattle.yaml_emit_laws_text.proofs.Values.{encoded_front}
 
 -- ---- a value without breaks
 
@@ -13,11 +15,6 @@ none_below (suc n) p k h l =
       | inl m ↦ none_below n p k (or_parts (any_below n p) (p n) h).0 m
       | inr m ↦ let e : n ≡ k = omega (arith, l, m) in ap p (sym e) ∙ (or_parts (any_below n p) (p n) h).1
     ]
-
-low_break : (b c d : ℕ) → (b ≡ 10) ⊎ (b ≡ 13) → nat_lt 0 (break_of b c d) ≡ true
-unfolding break_of
-low_break b c d (inl e) = rw e refl
-low_break b c d (inr e) = rw e (bool_cases (c == 10) (λ f. rw f refl) (λ f. rw f refl))
 
 ls_break : nat_lt 0 (break_of 0xE2 0x80 0xA8) ≡ true
 unfolding break_of
@@ -41,8 +38,8 @@ wide_here text p d h (a, (b, (e, u))) =
 break_here : (text : List ℕ) (p x : ℕ) → is_break x ≡ true → Has text p (encode_utf8 x)
     → breaks_at text p ≡ true
 break_here text p x h at =
-    bool_cases (x == 10) (λ e. let k = (subst (λ (bs : List ℕ). Has text p bs) (encode_1 x (let f = eqb-true x 10 e in omega (arith, f))) at).0 in low_break (byte text p) _ _ (inl (k ∙ eqb-true x 10 e))) (λ a.
-    bool_cases (x == 13) (λ e. let k = (subst (λ (bs : List ℕ). Has text p bs) (encode_1 x (let f = eqb-true x 13 e in omega (arith, f))) at).0 in low_break (byte text p) _ _ (inr (k ∙ eqb-true x 13 e))) (λ b.
+    bool_cases (x == 10) (λ e. let k = (subst (λ (bs : List ℕ). Has text p bs) (encode_1 x (let f = eqb-true x 10 e in omega (arith, f))) at).0 in break_byte (byte text p) _ _ (inl (k ∙ eqb-true x 10 e))) (λ a.
+    bool_cases (x == 13) (λ e. let k = (subst (λ (bs : List ℕ). Has text p bs) (encode_1 x (let f = eqb-true x 13 e in omega (arith, f))) at).0 in break_byte (byte text p) _ _ (inr (k ∙ eqb-true x 13 e))) (λ b.
     bool_cases (x == 0x85) (λ e. nel_here text p (subst (λ (bs : List ℕ). Has text p bs) (ap (λ k. encode_utf8 k) (eqb-true x 0x85 e) ∙ encode_2 0x85 (omega arith) (omega arith)) at)) (λ c.
     bool_cases (x == 0x2028) (λ e. wide_here text p 0xA8 ls_break (subst (λ (bs : List ℕ). Has text p bs) (ap (λ k. encode_utf8 k) (eqb-true x 0x2028 e) ∙ encode_3 0x2028 (omega arith) (omega arith)) at)) (λ d.
     bool_cases (x == 0x2029) (λ e. wide_here text p 0xA9 ps_break (subst (λ (bs : List ℕ). Has text p bs) (ap (λ k. encode_utf8 k) (eqb-true x 0x2029 e) ∙ encode_3 0x2029 (omega arith) (omega arith)) at)) (λ f.
@@ -50,18 +47,7 @@ break_here text p x h at =
     absurd (true≢false (sym h ∙ none)))))))
 
 some_bytes : (c : ℕ) → 0 < length (encode_utf8 c)
-some_bytes c =
-    let P : List ℕ → Type 0 = λ bs. 0 < length bs in
-    elim (cases_lt c 128) [
-      | inl u ↦ subst P (sym (encode_1 c u)) (omega arith)
-      | inr u ↦ elim (cases_lt c 2048) [
-        | inl v ↦ subst P (sym (encode_2 c u v)) (omega arith)
-        | inr v ↦ elim (cases_lt c 65536) [
-          | inl w ↦ subst P (sym (encode_3 c v w)) (omega arith)
-          | inr w ↦ subst P (sym (encode_4 c w)) (omega arith)
-        ]
-      ]
-    ]
+some_bytes c = let s = encoded_front c in subst (λ (bs : List ℕ). 0 < length bs) (sym s.is) (omega arith)
 
 one_by : (value : List ℕ) (p : ℕ) (cs : List ℕ)
     → ((k : ℕ) → k < length value → breaks_at value k ≡ false) → Has value p (encode_utf8_all cs)

@@ -1,8 +1,10 @@
 -- How a plain scalar's parts are read: characters, single spaces and folds.
 use Rattle.std.proofs.Common.{◌≡◌, ◌≢◌, ℕ, zero, suc, ◌+◌, ◌<◌, ◌≤◌, Bool, true, false, ◌&&◌, ◌==◌, nat_lt, List, [], ◌∷◌, ◌++◌, length, replicate, refl, sym, ap, subst, ◌∙◌, inl, inr, arith, add-zero, encode_utf8, ◌||◌, Result, Ok, append-nil, length-append}
-use Rattle.yaml_emit_laws_pretty.proofs.ScalarWords.{cases_Bool, cases_lt, true≢false, le-ltb, ne_eqb, and_parts, nat_tests, and-false, byte, break_of, break_width, ends_break, column_at, is_blank, is_blank_or_end, starts, break_value, feed_at, Piece, Kept, Blank, Break, value_of, is_bracket, after_white, leads, Takes, spot_at, is_nothing, with_piece, words_from, PlainText, plain_with, plain_text, plain_at, leads-blank, white-blank, spot_blank, spot_break, lead_break, blank_inside, past_break, column_more, within, Has, has_front, has_rest, first, last_or, LineEnd, feed, return, return_feed, next_line, line_separator, paragraph_separator, end_bytes, end_means, QuotedPart, raw, doubled, named, numbered, fold, joint, spelling, LineTurn, turn_bytes, meaning, IsSpelling, encode_1, encode_2, encode_3, encode_4, keeps, blanks_of, read_as, all_read_as, raw_kept, raw_blank, turns_read, spelling_value, calm_end, calm_break, calm_from, column_on, column_start, Wrong, are_gap, has_break, space_encodes}
+use Rattle.yaml_emit_laws_pretty.proofs.ScalarWords.{cases_Bool, cases_lt, true≢false, le-ltb, ne_eqb, and_parts, nat_tests, and-false, byte, break_of, break_width, ends_break, column_at, is_blank, is_blank_or_end, starts, break_value, feed_at, Piece, Kept, Blank, Break, value_of, is_bracket, after_white, leads, Takes, spot_at, is_nothing, with_piece, words_from, PlainText, plain_with, plain_text, plain_at, leads-blank, white-blank, spot_blank, spot_break, lead_break, blank_inside, past_break, column_more, within, Has, has_front, has_rest, first, last_or, LineEnd, feed, return, return_feed, next_line, line_separator, paragraph_separator, end_bytes, end_means, QuotedPart, raw, doubled, named, numbered, fold, joint, spelling, LineTurn, turn_bytes, meaning, IsSpelling, encode_1, keeps, blanks_of, read_as, all_read_as, raw_kept, raw_blank, turns_read, spelling_value, calm_end, calm_break, calm_from, column_on, column_start, Wrong, are_gap, has_break, space_encodes}
 use Rattle.yaml_emit_laws_text.specs.scan_history.scan_scalars.Plain.{Words}
 use Rattle.yaml_emit_laws_pretty.proofs.Standing.{Read, read_blank, read_break, InLine, Stays, Through, CharAt, Plainly, char_at, through_byte, through_both, no_tab, space_blank, sealed, stand_behind, kept_sealed, positive, Stops, gap_words}
+use Rattle.yaml_emit_laws_text.proofs.Turns.{length_spaces}
+use Rattle.yaml_emit_laws_text.proofs.Values.{encoded_front}
 
 -- ---- what the parts say
 
@@ -168,12 +170,6 @@ stand_space level text p before h s =
 
 -- ---- a fold
 
--- behind the break and the spaces
-pub record LinedUp (text : List ℕ) (q n : ℕ) : Type 0 where
-  pub column : column_at text (q + n) ≡ n
-  pub leading : leads text (q + n) ≡ true
-  pub inside : q ≤ length text → q + n ≤ length text
-
 lined_up : (text : List ℕ) (q k n : ℕ) → Has text q (replicate n 32) → column_at text q ≡ k
     → leads text q ≡ true → (column_at text (q + n) ≡ k + n) × (leads text (q + n) ≡ true)
 lined_up text q k zero h c l =
@@ -259,30 +255,12 @@ folded_at flow level text p m e good deep h =
 
 -- ---- all parts
 
-record SomeByte (bs : List ℕ) : Type 0 where
-  byte : ℕ
-  rest : List ℕ
-  is : bs ≡ byte ∷ rest
-
-encoded : (c : ℕ) → SomeByte (encode_utf8 c)
-encoded c =
-    elim (cases_lt c 128) [
-      | inl a ↦ record { byte = _; rest = _; is = encode_1 c a }
-      | inr a ↦ elim (cases_lt c 2048) [
-        | inl b ↦ record { byte = _; rest = _; is = encode_2 c a b }
-        | inr b ↦ elim (cases_lt c 65536) [
-          | inl d ↦ record { byte = _; rest = _; is = encode_3 c b d }
-          | inr d ↦ record { byte = _; rest = _; is = encode_4 c d }
-        ]
-      ]
-    ]
-
 some_part : (n x : ℕ) (q : QuotedPart) (ps : List Piece) → IsOne n q x
     → is_nothing (read_as q ++ ps) ≡ false
 some_part n x (raw c) ps e =
     elim (cases_Bool (is_blank c)) [
       | inl b ↦ subst (λ (t : List Piece). is_nothing (t ++ ps) ≡ false) (sym (raw_blank c b)) refl
-      | inr b ↦ let s = encoded c in subst (λ (t : List Piece). is_nothing (t ++ ps) ≡ false) (sym (raw_kept c b)) (subst (λ (t : List ℕ). is_nothing (keeps t ++ ps) ≡ false) (sym s.is) refl)
+      | inr b ↦ let s = encoded_front c in subst (λ (t : List Piece). is_nothing (t ++ ps) ≡ false) (sym (raw_kept c b)) (subst (λ (t : List ℕ). is_nothing (keeps t ++ ps) ≡ false) (sym s.is) refl)
     ]
 some_part n x (fold t ts) ps e = refl
 some_part n x _ ps e = absurd e
@@ -350,10 +328,6 @@ fold_read : (t : LineTurn) (n : ℕ) → t.spaces ≡ n
 unfolding turns_read
 fold_read t n e = ap (λ (xs : List Piece). Break (end_means t.end) ∷ xs) (append-nil (blanks_of t.spaces)) ∙ ap (λ k. Break (end_means t.end) ∷ blanks_of k) e
 
-spaces_long : (n : ℕ) → length {A = ℕ} (replicate n 32) ≡ n
-spaces_long zero = refl
-spaces_long (suc n) = ap (λ k. suc k) (spaces_long n)
-
 append_long : (p : ℕ) (xs ys : List ℕ) → p + length xs + length ys ≡ p + length (xs ++ ys)
 append_long p xs ys = let e : length (xs ++ ys) ≡ length xs + length ys = length-append xs ys in omega (arith, e)
 
@@ -412,7 +386,7 @@ parts_read flow level m text p before (fold t [] ∷ ps) (x ∷ xs) deep (e, s) 
     let pieces = fold_read t n e.1 in
     let all = subst (λ (bs : List ℕ). Has text p (bs ++ spelling ps)) bytes h in
     let f = folded_at flow level text p m t.end e.3 deep (has_front text p (end_bytes t.end ++ replicate n 32) (spelling ps) all) in
-    let far : p + length (end_bytes t.end) + n ≡ p + length (end_bytes t.end ++ replicate n 32) = ap (λ k. p + length (end_bytes t.end) + k) (sym (spaces_long n)) ∙ append_long p (end_bytes t.end) (replicate n 32) in
+    let far : p + length (end_bytes t.end) + n ≡ p + length (end_bytes t.end ++ replicate n 32) = ap (λ k. p + length (end_bytes t.end) + k) (sym (length_spaces n)) ∙ append_long p (end_bytes t.end) (replicate n 32) in
     let q = p + length (end_bytes t.end) + n in
     let rest = subst (λ k. Has text k (spelling ps)) (sym far) (has_rest text p (end_bytes t.end ++ replicate n 32) (spelling ps) all) in
     let some = behind_white n ps xs s (subst (λ i. (last_or i xs == 32) ≡ false) x32 l) in
@@ -456,10 +430,6 @@ gap_read flow level text p gap h are stop = record {
 
 abbrev pub said : List ℕ → ℕ → ℕ → Bool → PlainText
 said value e place broke = record { value = value; end = e; place = place; broke = broke }
-
-sealed_text : (x : Piece) (ps : List Piece) (e place : ℕ) (broke : Bool)
-    → plain_text (sealed (x ∷ ps) e place broke) ≡ said (value_of (x ∷ ps)) e place broke
-sealed_text x ps e place broke = refl
 
 begun : (flow : Bool) (level : ℕ) (text : List ℕ) (p b : ℕ) (ps : List Piece) (e place : ℕ)
     (broke : Bool) → byte text p ≡ b → p < length text

@@ -1,6 +1,6 @@
 -- Where a text has a plain scalar's parts, a plain scalar begins.
 use Rattle.std.proofs.Common.{◌≡◌, ◌≢◌, ℕ, suc, ◌+◌, ◌%◌, ◌<◌, ◌≤◌, Bool, true, false, not, ◌&&◌, ◌||◌, ◌==◌, nat_lt, List, [], ◌∷◌, ◌++◌, length, replicate, Some, None, refl, sym, ap, subst, ◌∙◌, inl, inr, ◌⊎◌, nat_le, arith, append_assoc, encode_utf8, ◌-◌, Result, Ok, encode_utf8_all}
-use Rattle.yaml_emit_laws_pretty.proofs.ScalarWords.{cases_lt, true≢false, and_parts, eqb-true, or_parts, ne_eqb, eq-eqb, or_right, not-true, eqb-false, nat_tests, or-true, and-false, byte, break_width, ends_break, is_blank, is_blank_or_end, is_bom, are_gap, begins_lexeme, HasAt, has_break, is_thrice, is_document_start, is_document_end, is_bracket, is_indicator_byte, starts_plain, after_white, PlainText, indicator_of, kind_at, Has, has_front, has_rest, has, first, is_printable, behind, is_indicator, is_white, ends_word, somewhere, is_special, is_break_space, is_not_plain, is_not_flow, last_or, ends_in_space, starts_badly, allowed, LineEnd, feed, return, return_feed, next_line, line_separator, paragraph_separator, end_bytes, LineTurn, turn_bytes, QuotedPart, raw, doubled, fold, spelling, meaning, IsSpelling, encode_1, encode_2, encode_3, encode_4, calm_end, calm_from, column_start, bool_cases, encodes-chars, scalars-chars, all_scalars, chars, Wrong, ends_plain, Cursor, Page, is_break, ◌▹◌, after_text, flow_body, is_one_line}
+use Rattle.yaml_emit_laws_pretty.proofs.ScalarWords.{cases_lt, true≢false, and_parts, eqb-true, or_parts, ne_eqb, eq-eqb, or_right, not-true, eqb-false, nat_tests, or-true, and-false, byte, break_width, ends_break, is_blank, is_blank_or_end, is_bom, are_gap, begins_lexeme, HasAt, has_break, is_thrice, is_document_start, is_document_end, is_bracket, is_indicator_byte, starts_plain, after_white, PlainText, indicator_of, kind_at, Has, has_front, has_rest, has, first, behind, is_indicator, is_white, ends_word, somewhere, is_special, is_break_space, is_not_plain, is_not_flow, last_or, ends_in_space, starts_badly, allowed, LineEnd, feed, return, return_feed, next_line, line_separator, paragraph_separator, end_bytes, LineTurn, turn_bytes, QuotedPart, raw, doubled, fold, spelling, meaning, IsSpelling, encode_1, encode_2, encode_3, encode_4, calm_end, calm_from, column_start, bool_cases, encodes-chars, scalars-chars, all_scalars, chars, Wrong, ends_plain, Cursor, Page, is_break, ◌▹◌, after_text, flow_body, is_one_line}
 use Rattle.yaml_emit_laws_text.specs.scan_history.declared.kind.Kind.TheVariants as kinds
 use Rattle.yaml_emit_laws_pretty.proofs.Standing.{InLine, stand_behind, Stays, not_ended, char_at, Stops, Plainly, stops}
 use Rattle.yaml_emit_laws_pretty.proofs.PlainParts.{is_plain_end, Spells, AreGood, firm, when_is, colon_next, Good, said, gap_read, scalar_read}
@@ -11,6 +11,7 @@ use Rattle.yaml_emit_laws_pretty.proofs.Writing.{deep_all, left}
 use Rattle.yaml_emit_laws_pretty.proofs.Shown.{all_show}
 use Rattle.yaml_emit_laws_pretty.proofs.SingleWritten.{start_behind}
 use Rattle.yaml_emit_laws_text.proofs.Pieces.{top_of}
+use Rattle.yaml_emit_laws_pretty.proofs.BlockHeader.{not_printed}
 
 -- ---- what the first character isn't
 
@@ -165,25 +166,12 @@ pub record Begun (flow : Bool) (x : ℕ) (xs : List ℕ) : Type 0 where
   pub thrice : (b : ℕ) → (b ≡ 45) ⊎ (b ≡ 46) → x ≡ b → first xs ≡ b → first (behind xs) ≡ b → ⊥
   pub mark : x ≢ 0xFEFF
 
--- the byte isn't one that is told apart
-abbrev pub Not : List ℕ → ℕ → ℕ → Type 0
-Not text p k = (byte text p == k) ≡ false
-
 not_thrice : (text : List ℕ) (p b : ℕ)
     → (byte text p ≡ b → byte text (p + 1) ≡ b → byte text (p + 1 + 1) ≡ b → ⊥)
     → is_thrice b text p ≡ false
 not_thrice text p b f =
     let two : p + 2 ≡ p + 1 + 1 = omega arith in
     when_is (byte text p) b _ (λ e. when_is (byte text (p + 1)) b (byte text (p + 2) == b) (λ g. ne_eqb (byte text (p + 2)) b (λ h. f e g (ap (λ k. byte text k) (sym two) ∙ h))))
-
-is_one : (b k : ℕ) (a : Bool) → (b ≡ k → a ≡ false) → (b == k && a) ≡ false
-is_one b k a f = when_is b k a f
-
--- in flow context it isn't that byte, and else nothing white follows
-either : (flow alone : Bool) (b k : ℕ) → (flow && b == k) ≡ false → (b ≡ k → alone ≡ false)
-    → (b == k && (flow || alone)) ≡ false
-either true alone b k h f = ap (λ t. t && true) h
-either false alone b k h f = when_is b k alone f
 
 -- of bytes that begin no plain scalar but `- ? :`
 no_indicator : (x : ℕ) (k : ℕ) → is_indicator k ≡ true → is_indicator x ≡ false → x ≢ k
@@ -387,9 +375,6 @@ on_and : (a b : Bool) → (a && b) ≡ false → a ≡ true → b ≡ false
 on_and true b h e = h
 on_and false b h e = absurd (true≢false (sym e))
 
-no_printable : (x k : ℕ) → is_printable x ≡ true → is_printable k ≡ false → x ≢ k
-no_printable x k s n e = true≢false (sym s ∙ ap (λ t. is_printable t) e ∙ n)
-
 flow_is : (flow : Bool) (b : Bool) → (flow ≡ true → b ≡ false) → (flow && b) ≡ false
 flow_is true b h = h refl
 flow_is false b h = refl
@@ -425,8 +410,8 @@ are_good flow before (x ∷ xs) (s, a) h f =
     let there : flow ≡ true → is_not_flow before x (first xs) ≡ false = λ e. (or_parts (is_not_flow before x (first xs)) _ (f e)).0 in (
       record {
         plainly = plainly_is x (or_parts (is_break x) _ more).0 s.scalar;
-        some = no_printable x 0 s.printable refl;
-        tab = no_printable x 9 s.printable refl;
+        some = not_printed x 0 s.printable refl;
+        tab = not_printed x 9 s.printable refl;
         colon = λ e. word_on (first xs) (on_and (x == 58) (ends_word (first xs)) colon (eq-eqb x 58 e));
         hash = λ e. (word_on before (on_and (x == 35) (ends_word before) hash (eq-eqb x 35 e))).1;
         bracket = flow_is flow (is_bracket x) (λ e. (not_flow before x (first xs) (there e)).0);
@@ -453,7 +438,7 @@ begun_is flow x xs h s g =
         | inl is ↦ true≢false (sym (rw (eq-eqb x 45 (e ∙ is), eq-eqb y 45 (i ∙ is), eq-eqb z 45 (j ∙ is)) refl) ∙ dashes)
         | inr is ↦ true≢false (sym (rw (eq-eqb x 46 (e ∙ is), eq-eqb y 46 (i ∙ is), eq-eqb z 46 (j ∙ is)) refl) ∙ dots)
       ];
-      mark = no_printable x 0xFEFF s.printable refl;
+      mark = not_printed x 0xFEFF s.printable refl;
     }
   where
     lone : (x ≡ 45) ⊎ ((x ≡ 63) ⊎ (x ≡ 58)) → ((x == 45 || x == 63) && ends_word (first xs)) ≡ false

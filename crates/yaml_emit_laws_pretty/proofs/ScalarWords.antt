@@ -22,7 +22,7 @@ pub use Rattle.yaml_emit_laws_text.proofs.QuotedReading.{column_more as column_o
 pub use Rattle.yaml_emit_laws_text.proofs.RunsLemmas.{InRun, no_space, past_stop, run_done, run_more, run_start, space_parts, text_parts}
 pub use Rattle.yaml_emit_laws_text.proofs.Single.{after_blanks, blank_follows, blanks_are, bool_cases, broken, cut_needs, fold_follows, from_start, line_is, line_start, new_line_is, other_follows, shown_first, special_left}
 pub use Rattle.yaml_emit_laws_text.proofs.Steps.{Sign, deep_bytes, not_start, sign_begins, sign_kind}
-pub use Rattle.yaml_emit_laws_text.proofs.Values.{blanks_of, cond_false, cond_true, keeps, read_as, read_blank as raw_blank, read_kept as raw_kept, spelling_value}
+pub use Rattle.yaml_emit_laws_text.proofs.Values.{blanks_of, keeps, read_as, read_blank as raw_blank, read_kept as raw_kept, spelling_value}
 unfoldable pub use Rattle.yaml_emit_laws_text.proofs.Values.{all_read_as, turns_read}
 pub use Rattle.yaml_emit_laws_text.proofs.Words.{front_encodes, sign}
 pub use Rattle.yaml_emit_laws_text.specs.QuotedLaws.{SingleSpellingReads}
@@ -79,4 +79,5 @@ pub use Rattle.yaml_scan_block.specs.Lines.{Line, Lines, line_spot, line_then, s
 unfoldable pub use Rattle.yaml_scan_block.specs.Lines.{lines_from, spaces}
 unfoldable pub use Rattle.yaml_scan_block.specs.Stacked.{stacked_with}
 pub use Rattle.yaml_scan_block.specs.Value.{BlockLine, Empty, Words, at_end, behind_text, block_value, space_or, starts_blank, texts_of, value_with}
+pub use Rattle.yaml_emit_laws_text.proofs.Sinks.{cond_true, cond_false}
 unfoldable pub use Rattle.yaml_scan_block.specs.Value.{between}

@@ -1,5 +1,5 @@
 -- What an emitter finds in a value whose style it allows.
-use Rattle.std.proofs.Common.{◌≡◌, ℕ, Bool, true, false, ◌&&◌, ◌==◌, List, [], ◌∷◌, refl}
+use Rattle.std.proofs.Common.{◌≡◌, ℕ, Bool, true, false, ◌&&◌, ◌==◌, List, [], ◌∷◌}
 use Rattle.yaml_emit_laws_pretty.proofs.ScalarWords.{and_parts, not-true, or_parts, all_scalars, is_break, first, somewhere, is_special, is_break_space, allowed, shown_first}
 use lib.Utf8.{scalar}
 use Rattle.yaml_emit_laws_pretty.proofs.Letters.{AllShow}
@@ -19,10 +19,6 @@ all_show unicode before (x ∷ xs) e b g =
       },
       all_show unicode x xs (or_parts (is_special unicode before x (first xs)) _ e).1 (or_parts (is_break_space before x (first xs)) _ b).1 (and_parts (scalar x) (all_scalars xs) g).1,
     )
-
-nothing_there : (f : ℕ → ℕ → ℕ → Bool) → somewhere f 32 [] ≡ false
-unfolding somewhere
-nothing_there f = refl
 
 pub single_show : (unicode : Bool) (xs : List ℕ) → (allowed unicode xs).single ≡ true
     → all_scalars xs ≡ true → AllShow xs

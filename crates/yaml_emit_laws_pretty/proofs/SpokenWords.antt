@@ -6,12 +6,13 @@ use Rattle.yaml_emit_laws_text.specs.emit_layout.scan_model.declared.yaml_scalar
 use Rattle.yaml_emit_laws_text.specs.emit_layout.scan_model.Tokens as tokens
 use Rattle.yaml_emit_laws_text.specs.scan_history.declared.kind.Kind.TheVariants as kinds
 use Rattle.yaml_scan_laws_texts.specs.PlainLaws.{ends_plain}
-use Rattle.yaml_emit_laws_pretty.proofs.Lining.{line_on_to, no_gap, white_stands}
+use Rattle.yaml_emit_laws_pretty.proofs.Lining.{line_on_to, no_gap}
 use Rattle.yaml_emit_laws_text.specs.scan_history.scan_model.declared.problem.Context.{Context}
 use Rattle.yaml_emit_laws_text.specs.scan_history.scan_model.declared.problem.Context.TheVariants as contexts
 use Rattle.yaml_emit_laws_text.specs.scan_history.scan_words.Anchors.{anchor_at, may_end_name}
 use Rattle.yaml_emit_laws_text.specs.scan_history.scan_words.Tags.{TagText, tag_at, may_end_tag}
 use Rattle.yaml_emit_laws_text.proofs.Words.{sign}
+use Rattle.yaml_emit_laws_pretty.proofs.Stopping.{white_next}
 
 -- ---- the same tokens, the same layout
 
@@ -249,7 +250,7 @@ single_sign = sign 39 refl refl refl refl refl refl refl refl refl refl
 white_ends : (text : List ℕ) (p : ℕ) (bs : List ℕ) → Left text p bs → begins_white bs ≡ true
     → may_end_name text p ≡ true
 unfolding may_end_name
-white_ends text p bs l e = or_left (is_blank_or_end text p) _ (white_stands text p bs l e)
+white_ends text p bs l e = or_left (is_blank_or_end text p) _ (white_next text p bs l e)
 
 bracket_ends : (text : List ℕ) (p b : ℕ) → byte text p ≡ b
     → (b == 44 || (b == 93 || b == 125)) ≡ true → may_end_name text p ≡ true
@@ -321,7 +322,7 @@ tag_at_word flow level text p = refl
 
 tag_ends : (flow : Bool) (text : List ℕ) (p : ℕ) (bs : List ℕ) → Left text p bs
     → begins_white bs ≡ true → may_end_tag flow text p ≡ true
-tag_ends flow text p bs l e = or_left (is_blank_or_end text p) (flow && byte text p == 44) (white_stands text p bs l e)
+tag_ends flow text p bs l e = or_left (is_blank_or_end text p) (flow && byte text p == 44) (white_next text p bs l e)
 
 -- a tag that can be read, in its spelling
 pub split_stands : SplitTagsAreRead → ReadableTagsAreAscii → (flow : Bool) (level : ℕ) (s : Split)

@@ -1,6 +1,6 @@
 -- How the bytes of a plain scalar are read, one by one.
-use Rattle.std.proofs.Common.{◌≡◌, ◌≢◌, ℕ, zero, suc, ◌+◌, ◌-◌, ◌/◌, ◌%◌, ◌<◌, ◌≤◌, Bool, true, false, ◌&&◌, ◌==◌, nat_lt, List, [], ◌∷◌, ◌++◌, length, Result, Ok, refl, sym, ap, subst, ◌∙◌, inl, inr, arith, append_assoc, encode_utf8, ◌||◌, not}
-use Rattle.yaml_emit_laws_pretty.proofs.ScalarWords.{cases_lt, true≢false, ne_eqb, not-true, and_parts, nat_tests, and-false, byte, break_width, ends_break, starts, column_at, is_blank, is_blank_or_end, break_of, Wrong, Piece, Kept, Blank, Break, is_bracket, after_white, leads, PlainSpot, Takes, spot_at, ends_at, is_nothing, with_piece, words_from, follows, words, Ends, leads-text, white-text, spot_kept, spot_break, spot_blank, spot_ends, within, Has, encode_1, encode_2, encode_3, encode_4, keeps, low_end, low_break, first_end, second_end, third_end, later_break, two_break, three_break, four_break, high_blank, ends_2, ends_1, in_line, feed_at, are_gap, has_break, space_parts, ends_plain}
+use Rattle.std.proofs.Common.{◌≡◌, ◌≢◌, ℕ, zero, suc, ◌+◌, ◌/◌, ◌%◌, ◌<◌, ◌≤◌, Bool, true, false, ◌&&◌, ◌==◌, nat_lt, List, [], ◌∷◌, ◌++◌, length, Result, Ok, refl, sym, ap, subst, ◌∙◌, inl, inr, arith, append_assoc, encode_utf8, ◌||◌, ◌⊎◌, not}
+use Rattle.yaml_emit_laws_pretty.proofs.ScalarWords.{cases_Bool, cases_lt, true≢false, ne_eqb, not-true, and_parts, nat_tests, and-false, byte, break_width, ends_break, starts, column_at, is_blank, is_blank_or_end, break_of, Wrong, Piece, Kept, Blank, Break, is_bracket, after_white, leads, PlainSpot, Takes, spot_at, ends_at, is_nothing, with_piece, words_from, follows, words, Ends, leads-text, white-text, spot_kept, spot_break, spot_blank, spot_ends, within, Has, encode_1, encode_2, encode_3, encode_4, keeps, low_end, low_break, first_end, second_end, third_end, later_break, two_break, three_break, four_break, high_blank, ends_2, ends_1, in_line, feed_at, are_gap, has_break, space_parts, ends_plain}
 use Rattle.yaml_emit_laws_text.specs.scan_history.scan_scalars.Plain.{Words}
 use Rattle.yaml_emit_laws_text.proofs.QuotedReading.{column_more}
 use Rattle.yaml_emit_laws_text.proofs.GapsRead.{cr_width, byte_cases}
@@ -335,12 +335,24 @@ no_tab b x h = grind (arith, nat_tests)
 pub space_blank : (b : ℕ) → b ≡ 32 → is_blank b ≡ true
 space_blank b h = grind (arith, nat_tests)
 
-with_space : (n : ℕ) (flow : Bool) (level : ℕ) (text : List ℕ) (p e : ℕ) (broke : Bool)
-    → byte text p ≡ 32 → words n flow level text (p + 1) ≡ Ok (none_to e broke)
+tab_blank : (b : ℕ) → b ≡ 9 → is_blank b ≡ true
+tab_blank b h = grind (arith, nat_tests)
+
+tab_width : (b c d : ℕ) → b ≡ 9 → break_of b c d ≡ 0
+unfolding break_of
+tab_width b c d h = rw h refl
+
+-- at a level of 0 no tab indents
+unindented : (b c level : ℕ) (x : Bool) → level ≡ 0 → (b == 9 && (x && nat_lt c level)) ≡ false
+unindented b c level x z = rw z (grind (arith, nat_tests))
+
+with_blank : (n : ℕ) (flow : Bool) (level : ℕ) (text : List ℕ) (p e : ℕ) (broke : Bool)
+    → break_width text p ≡ 0 → is_blank (byte text p) ≡ true
+    → (byte text p == 9 && (leads text p && nat_lt (column_at text p) level)) ≡ false
+    → words n flow level text (p + 1) ≡ Ok (none_to e broke)
     → words (suc n) flow level text p ≡ Ok (none_to e broke)
-with_space n flow level text p e broke h rest =
-    let parts = space_parts (byte text p) (byte text (p + 1)) (byte text (p + 2)) h in
-    words_next n flow level text p (Takes (Blank (byte text p)) (p + 1)) (spot_blank flow level text p parts.1 (space_blank (byte text p) h) (no_tab (byte text p) (leads text p && nat_lt (column_at text p) level) h))
+with_blank n flow level text p e broke none blank tab rest =
+    words_next n flow level text p (Takes (Blank (byte text p)) (p + 1)) (spot_blank flow level text p none blank tab)
     ∙ ap (λ (r : Result Words Wrong). words_from (Blank (byte text p)) (p + 1) r) rest
 
 with_width : (n : ℕ) (flow : Bool) (level : ℕ) (text : List ℕ) (p w e : ℕ) (broke : Bool)
@@ -360,14 +372,22 @@ no_feed : (b c d : ℕ) → break_of b c d ≡ 0 → b ≢ 10
 unfolding break_of
 no_feed b c d h = grind (arith, nat_tests)
 
--- gaps of at most k bytes are taken
+-- a space, a break's byte, or a tab where no level is open
+abbrev pub IsWhite : ℕ → ℕ → Type 0
+IsWhite level b = (b ≡ 32) ⊎ (((b ≡ 9) × (level ≡ 0)) ⊎ ((b ≡ 10) ⊎ (b ≡ 13)))
+
+abbrev pub AreWhite : ℕ → List ℕ → Type 0
+AreWhite level [] = Unit {0}
+AreWhite level (b ∷ bs) = IsWhite level b × AreWhite level bs
+
+-- white of at most k bytes is taken
 abbrev Reads : ℕ → Type 0
-Reads k = (n : ℕ) (flow : Bool) (level : ℕ) (text : List ℕ) (p : ℕ) (gap : List ℕ) → length gap ≤ k → length gap < n → Has text p gap → are_gap gap ≡ true → Stops flow level text (p + length gap)
+Reads k = (n : ℕ) (flow : Bool) (level : ℕ) (text : List ℕ) (p : ℕ) (gap : List ℕ) → length gap ≤ k → length gap < n → Has text p gap → AreWhite level gap → Stops flow level text (p + length gap)
     → words n flow level text p ≡ Ok (none_to (p + length gap) (has_break gap))
 
 single : (k : ℕ) → Reads k → (n : ℕ) (flow : Bool) (level : ℕ) (text : List ℕ) (p : ℕ) (bs : List ℕ)
     → length bs ≤ k → length bs < n → break_width text p ≡ 1 → Has text (p + 1) bs
-    → are_gap bs ≡ true
+    → AreWhite level bs
     → Stops flow level text (p + 1 + length bs)
     → words (suc n) flow level text p ≡ Ok (none_to (p + 1 + length bs) true)
 single k all n flow level text p bs few room width h are stop =
@@ -375,7 +395,7 @@ single k all n flow level text p bs few room width h are stop =
 
 returns : (k : ℕ) → Reads k
     → (n : ℕ) (flow : Bool) (level : ℕ) (text : List ℕ) (p : ℕ) (bs : List ℕ) → length bs ≤ k
-    → length bs < n → byte text p ≡ 13 → Has text (p + 1) bs → are_gap bs ≡ true
+    → length bs < n → byte text p ≡ 13 → Has text (p + 1) bs → AreWhite level bs
     → Stops flow level text (p + 1 + length bs)
     → words (suc n) flow level text p ≡ Ok (none_to (p + 1 + length bs) true)
 returns k all n flow level text p [] few room e h are stop =
@@ -383,45 +403,64 @@ returns k all n flow level text p [] few room e h are stop =
     let here = subst (λ q. Stops flow level text q) z stop in
     let width : break_width text p ≡ 1 = rw e (cr_width (byte text (p + 1)) (byte text (p + 2)) (no_feed _ _ _ here.width)) in
     single k all n flow level text p [] few room width h are stop
-returns k all n flow level text p (c ∷ cs) few room e (f, h) are stop =
-    let (front, back) = and_parts (c == 32 || (c == 10 || c == 13)) (are_gap cs) are in
+returns k all n flow level text p (c ∷ cs) few room e (f, h) (white, back) stop =
     let two : p + 1 + 1 ≡ p + 2 = omega arith in
     let far : Has text (p + 2) cs = rw two at h in
     let end : p + 1 + suc (length cs) ≡ p + 2 + length cs = omega arith in
-    elim (byte_cases c front) [
+    elim (cases_Bool (c == 10)) [
       | inl s ↦
-          let width : break_width text p ≡ 1 = rw e (cr_width (byte text (p + 1)) (byte text (p + 2)) (omega (arith, f, s))) in
-          single k all n flow level text p (c ∷ cs) few room width (f, h) are stop
-      | inr (inr s) ↦
-          let width : break_width text p ≡ 1 = rw e (cr_width (byte text (p + 1)) (byte text (p + 2)) (omega (arith, f, s))) in
-          single k all n flow level text p (c ∷ cs) few room width (f, h) are stop
-      | inr (inl s) ↦
-          let width : break_width text p ≡ 2 = rw (e, f, s) (crlf_width (byte text (p + 2))) in
+          let feed : c ≡ 10 = grind (arith, nat_tests) in
+          let width : break_width text p ≡ 2 = rw (e, f, feed) (crlf_width (byte text (p + 2))) in
           let after = subst (λ q. Stops flow level text q) end stop in
-          rw end (with_width n flow level text p 1 (p + 2 + length cs) (has_break cs) width (all n flow level text (p + 2) cs (omega arith) (omega arith) far back after))
+          rw end (with_width n flow level text p 1 (p + 2 + length cs) (has_break cs) width (all n flow level text (p + 2) cs (omega (arith, few)) (omega (arith, room)) far back after))
+      | inr s ↦
+          let other : c ≢ 10 = λ x. true≢false (sym (ap (λ (b : ℕ). b == 10) x) ∙ s) in
+          let width : break_width text p ≡ 1 = rw e (cr_width (byte text (p + 1)) (byte text (p + 2)) (λ x. other (sym f ∙ x))) in
+          single k all n flow level text p (c ∷ cs) few room width (f, h) (white, back) stop
     ]
 
 reads : (k : ℕ) → Reads k
 unfolding break_of
-reads k zero flow level text p gap few room h are stop = absurd (omega arith)
+reads k zero flow level text p gap few room h are stop = absurd (omega (arith, room))
 reads k (suc n) flow level text p [] few room h are stop =
     let z : p + 0 ≡ p = omega arith in
     let here = subst (λ q. Stops flow level text q) z stop in
     rw z (words_next n flow level text p Ends (spot_ends flow level text p here.width here.blank here.ends))
-reads zero (suc n) flow level text p (b ∷ bs) few room h are stop = absurd (omega arith)
-reads (suc k) (suc n) flow level text p (b ∷ bs) few room (e, h) are stop =
-    let (front, back) = and_parts (b == 32 || (b == 10 || b == 13)) (are_gap bs) are in
+reads zero (suc n) flow level text p (b ∷ bs) few room h are stop = absurd (omega (arith, few))
+reads (suc k) (suc n) flow level text p (b ∷ bs) few room (e, h) (white, back) stop =
     let end : p + suc (length bs) ≡ p + 1 + length bs = omega arith in
     let after = subst (λ q. Stops flow level text q) end stop in
-    elim (byte_cases b front) [
-      | inl s ↦ rw (s, end) (with_space n flow level text p (p + 1 + length bs) (has_break bs) (e ∙ s) (reads k n flow level text (p + 1) bs (omega arith) (omega arith) h back after))
-      | inr (inl s) ↦
+    let more = reads k n flow level text (p + 1) bs (omega (arith, few)) (omega (arith, room)) h back after in
+    elim white [
+      | inl s ↦
+          let parts = space_parts (byte text p) (byte text (p + 1)) (byte text (p + 2)) (e ∙ s) in
+          rw (s, end) (with_blank n flow level text p (p + 1 + length bs) (has_break bs) parts.1 (space_blank (byte text p) (e ∙ s)) (no_tab (byte text p) (leads text p && nat_lt (column_at text p) level) (e ∙ s)) more)
+      | inr (inl t) ↦
+          let s = t.0 in
+          rw (s, end) (with_blank n flow level text p (p + 1 + length bs) (has_break bs) (tab_width (byte text p) (byte text (p + 1)) (byte text (p + 2)) (e ∙ s)) (tab_blank (byte text p) (e ∙ s)) (unindented (byte text p) (column_at text p) level (leads text p) t.1) more)
+      | inr (inr (inl s)) ↦
           let width : break_width text p ≡ 1 = rw (e, s) refl in
-          rw (s, end) (single k (reads k) n flow level text p bs (omega arith) (omega arith) width h back after)
-      | inr (inr s) ↦ rw (s, end) (returns k (reads k) n flow level text p bs (omega arith) (omega arith) (e ∙ s) h back after)
+          rw (s, end) (single k (reads k) n flow level text p bs (omega (arith, few)) (omega (arith, room)) width h back after)
+      | inr (inr (inr s)) ↦ rw (s, end) (returns k (reads k) n flow level text p bs (omega (arith, few)) (omega (arith, room)) (e ∙ s) h back after)
     ]
+
+-- White behind a plain scalar is taken.
+pub white_words : (n : ℕ) (flow : Bool) (level : ℕ) (text : List ℕ) (p : ℕ) (gap : List ℕ)
+    → length gap < n → Has text p gap → AreWhite level gap → Stops flow level text (p + length gap)
+    → words n flow level text p ≡ Ok (none_to (p + length gap) (has_break gap))
+white_words n flow level text p gap room h are stop = reads (length gap) n flow level text p gap (omega arith) room h are stop
+
+gap_white : (level : ℕ) (gap : List ℕ) → are_gap gap ≡ true → AreWhite level gap
+gap_white level [] h = tt
+gap_white level (b ∷ bs) h =
+    let (front, back) = and_parts (b == 32 || (b == 10 || b == 13)) (are_gap bs) h in
+    (one b (byte_cases b front), gap_white level bs back)
+  where
+    one : (b : ℕ) → (b ≡ 32) ⊎ ((b ≡ 10) ⊎ (b ≡ 13)) → IsWhite level b
+    one b (inl s) = inl s
+    one b (inr s) = inr (inr s)
 
 pub gap_words : (n : ℕ) (flow : Bool) (level : ℕ) (text : List ℕ) (p : ℕ) (gap : List ℕ)
     → length gap < n → Has text p gap → are_gap gap ≡ true → Stops flow level text (p + length gap)
     → words n flow level text p ≡ Ok (none_to (p + length gap) (has_break gap))
-gap_words n flow level text p gap room h are stop = reads (length gap) n flow level text p gap (omega arith) room h are stop
+gap_words n flow level text p gap room h are stop = white_words n flow level text p gap room h (gap_white level gap are) stop

@@ -20,14 +20,10 @@ use Rattle.yaml_emit_laws_text.proofs.TextLines.{left_byte}
 past_end : (text : List ℕ) (p : ℕ) → p + 0 ≡ length text → byte text p ≡ 0
 past_end text p e = get_or_past text p 0 (omega (arith, e))
 
-next_byte : (text : List ℕ) (p : ℕ) (bs : List ℕ) → Left text p bs → byte text p ≡ first bs
-next_byte text p [] l = past_end text p l.ends
-next_byte text p (b ∷ bs) l = left_first text p b bs l
-
 left_behind : (text : List ℕ) (p : ℕ) (bs : List ℕ) → Left text p bs
     → byte text (p + 1) ≡ first (behind bs)
 left_behind text p [] l = let e = l.ends in get_or_past text (p + 1) 0 (omega (arith, e))
-left_behind text p (b ∷ bs) l = next_byte text (p + 1) bs (left_more text p b bs l)
+left_behind text p (b ∷ bs) l = left_byte text (p + 1) bs (left_more text p b bs l)
 
 by_feed : (b c d : ℕ) → b ≡ 10 → nat_lt 0 (break_of b c d) ≡ true
 unfolding break_of
@@ -48,7 +44,7 @@ gap_white text p h =
     some_break : (b c d : ℕ) → (b == 10 || b == 13) ≡ true → nat_lt 0 (break_of b c d) ≡ true
     some_break b c d h = elim (or_cases (b == 10) (b == 13) h) [ inl e ↦ by_feed b c d (eqb-true b 10 e) | inr e ↦ by_return b c d (eqb-true b 13 e) ]
 
-white_next : (text : List ℕ) (p : ℕ) (bs : List ℕ) → Left text p bs → begins_white bs ≡ true
+pub white_next : (text : List ℕ) (p : ℕ) (bs : List ℕ) → Left text p bs → begins_white bs ≡ true
     → is_blank_or_end text p ≡ true
 white_next text p [] l h = let z = past_end text p l.ends in rw z refl
 white_next text p (b ∷ bs) l h = gap_white text p (ap (λ k. is_gap_byte k) (left_first text p b bs l) ∙ h)
@@ -132,7 +128,7 @@ here_ends flow level at text p b bs l gap here h =
     let tab = not-true (b == 9) (and_parts (not (b == 9)) _ front).0 in
     let width : break_of b (first bs) (first (behind bs)) ≡ 0 = eqb-true _ 0 (and_parts (not (b == 9)) (break_of b (first bs) (first (behind bs)) == 0) front).1 in
     let two : p + 2 ≡ p + 1 + 1 = omega arith in
-    let next = next_byte text (p + 1) bs l1 in
+    let next = left_byte text (p + 1) bs l1 in
     let far = left_behind text (p + 1) bs l1 in
     let none : break_width text p ≡ 0 = rw (two, e, next, far) width in
     let blank : is_blank (byte text p) ≡ false = rw (e, (or_parts (b == 32) _ gap).0, tab) refl in

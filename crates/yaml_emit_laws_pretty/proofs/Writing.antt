@@ -39,7 +39,7 @@ record Run (page : Page) (quote : Bool) (before : ℕ) (c : Cursor) (value : Lis
   column : behind.column ≡ 0 → ⊥
   kept : behind.kept ≡ c.kept
 
-spaces_low : (n : ℕ) → encode_utf8_all (replicate n 32) ≡ replicate n 32
+pub spaces_low : (n : ℕ) → encode_utf8_all (replicate n 32) ≡ replicate n 32
 spaces_low zero = refl
 spaces_low (suc n) = ap (λ t. encode_utf8 32 ++ t) (spaces_low n) ∙ ap (λ t. t ++ replicate n 32) space_encodes
 

@@ -1,14 +1,15 @@
 -- What an emitter writes between double quotes is read back.
 use Rattle.std.proofs.Common.{◌≡◌, ℕ, suc, ◌+◌, ◌<◌, Bool, true, false, ◌&&◌, ◌==◌, not, List, [], ◌∷◌, ◌++◌, length, Result, Ok, refl, sym, ap, subst, ◌∙◌, inl, inr, arith, append_assoc, append-nil, encode_utf8, encode_utf8_all, IsUtf8, if◌then◌else◌}
-use Rattle.yaml_emit_laws_text.proofs.Shared.{cases_Bool, encode_ascii, encodes-append, encodes-chars, scalars-chars, all_scalars, chars, byte, Wrong, double_quoted_at, Cursor, Utf8, Item, letter, char_bytes, encode, Layout, ◌▹◌, choose, char, nothing_more, is_past, Page, is_empty, may_fold, fold_layout, escaped, quoted_char, quoted_body, double_quoted, in_front, WritesSpelling, QuotedSpells, spelling, meaning, quoted, ValueIsReadBack, between_quotes, gap_width}
+use Rattle.yaml_emit_laws_text.proofs.Shared.{cases_Bool, encode_ascii, encodes-append, encodes-chars, scalars-chars, all_scalars, chars, Wrong, double_quoted_at, Cursor, Utf8, Item, letter, char_bytes, encode, Layout, ◌▹◌, choose, char, nothing_more, is_past, Page, is_empty, may_fold, fold_layout, escaped, quoted_char, quoted_body, double_quoted, in_front, WritesSpelling, QuotedSpells, spelling, meaning, quoted, ValueIsReadBack, between_quotes, gap_width}
 use lib.Utf8.{encode as encode_char}
 use Rattle.yaml_emit_text.specs.Spelling as emitted
 use Rattle.yaml_emit_laws_text.specs.Stands.{HasAt}
-use Rattle.yaml_emit_laws_text.proofs.Values.{cond_false}
 use Rattle.yaml_emit_laws_text.proofs.Parts.{spelling_reads}
 use Rattle.yaml_emit_laws_text.proofs.Escapes.{low_encodes, parts_of}
 use Rattle.yaml_emit_laws_text.proofs.Kept.{body_keeps}
 use Rattle.yaml_emit_laws_text.proofs.Steps.{not_start}
+use Rattle.yaml_emit_text.proofs.Sinks.{cond_false}
+use Rattle.yaml_scan_laws_texts.proofs.Whites.{has_rest}
 
 -- ---- without lines that may be broken the indentation says nothing
 
@@ -123,10 +124,6 @@ quoted_back law page c value u deep =
 
 -- ---- with the space in front
 
-stands_behind : (text : List ℕ) (p x : ℕ) (xs : List ℕ) → HasAt text p (x ∷ xs)
-    → HasAt text (p + 1) xs
-stands_behind text p x xs h = λ k l. let e : p + 1 + k ≡ p + suc k = omega arith in ap (λ q. byte text q) e ∙ h (suc k) (omega arith)
-
 read_white : (a : Layout) (c : Cursor) (value text : List ℕ) (p : ℕ)
     → ValueIsReadBack double_quoted_at a c value → HasAt text p (encode Utf8 (a c nothing_more))
     → double_quoted_at text (p + 0) ≡ Ok (value, p + length (encode Utf8 (a c nothing_more)))
@@ -145,7 +142,7 @@ unfolding encode
 read_spaced a c d value text p b h =
     let all : encode Utf8 (letter 32 ∷ a d nothing_more) ≡ 32 ∷ encode_utf8_all b.letters =
     (ap (λ b. b ++ encode Utf8 (a d nothing_more)) (char_encodes 32 ∙ encode_ascii 32 (omega arith))) ∙ ap (λ (t : List ℕ). 32 ∷ t) (ap (encode Utf8) (b.written nothing_more) ∙ alone_encodes b.letters) in
-    let r = b.read text (p + 1) (stands_behind text p 32 (encode_utf8_all b.letters) (subst (λ (t : List ℕ). HasAt text p t) all h)) in
+    let r = b.read text (p + 1) (has_rest text p 32 (encode_utf8_all b.letters) (subst (λ (t : List ℕ). HasAt text p t) all h)) in
     let n = length (encode_utf8_all b.letters) in
     let same : p + 1 + n ≡ p + suc n = omega arith in
     r ∙ ap (λ k. Ok (value, k)) same ∙ ap (λ (t : List ℕ). Ok (value, p + length t)) (sym all)

@@ -1,7 +1,8 @@
 -- Bytes of quoted text: which end no line, and which digits spell a number.
-use Rattle.std.proofs.Common.{◌≡◌, ◌≢◌, ℕ, suc, ◌+◌, ◌*◌, ◌<◌, ◌≤◌, true, false, ◌&&◌, ◌==◌, nat_le, List, [], ◌∷◌, length, Option, Some, None, refl, sym, ap, subst, ◌∙◌, inl, inr, ◌⊎◌, arith, add-zero, option_and_then}
+use Rattle.std.proofs.Common.{◌≡◌, ◌≢◌, ℕ, suc, ◌+◌, ◌*◌, ◌<◌, ◌≤◌, true, false, ◌&&◌, ◌==◌, List, [], ◌∷◌, length, Option, Some, None, refl, sym, ap, subst, ◌∙◌, inl, inr, ◌⊎◌, arith, add-zero, option_and_then}
 use Rattle.yaml_emit_laws_text.proofs.Shared.{cases_lt, cases_eq, ne_eqb, nat_tests, and-false, byte, break_of, ends_of, is_blank, hex_digit, hex_value, hex_len, simple_escape, number_behind}
 use Rattle.yaml_scan_laws_texts.proofs.HasLemmas.{Has}
+use Rattle.yaml_scan_laws_texts.proofs.Pushing.{passes, stops}
 
 -- ---- tests
 
@@ -60,16 +61,10 @@ calm_from b h l = record { low = l; no_feed = λ e. omega arith; no_return = λ 
 
 -- ---- digits
 
-is_from : (n b : ℕ) → n ≤ b → nat_le n b ≡ true
-is_from n b h = grind (arith, nat_tests)
-
-is_past : (b n : ℕ) → n < b → nat_le b n ≡ false
-is_past b n h = grind (arith, nat_tests)
-
 no_high_digit : (d : ℕ) → 128 ≤ d → hex_digit d ≡ None
 unfolding hex_digit
 no_high_digit d h =
-    rw (is_from 48 d (omega arith), is_past d 57 (omega arith), is_from 65 d (omega arith), is_past d 70 (omega arith), is_from 97 d (omega arith), is_past d 102 (omega arith)) refl
+    rw (passes 48 d (omega arith), stops d 57 (omega arith), passes 65 d (omega arith), stops d 70 (omega arith), passes 97 d (omega arith), stops d 102 (omega arith)) refl
 
 none_some : {A : Type 0} (r : Option A) (x : A) → r ≡ None → r ≡ Some x → ⊥
 none_some r x e f = cc (sym e ∙ f)

@@ -1,6 +1,6 @@
 -- Layouts that mark no indentation as too deep, and those that do by one test.
 use Rattle.std.proofs.Common.{◌≡◌, ℕ, zero, suc, ◌+◌, ◌-◌, Bool, true, false, ◌||◌, ◌==◌, nat_lt, List, [], ◌∷◌, refl, ap, ◌∙◌, inl, inr}
-use Rattle.yaml_emit_laws_text.proofs.Shared.{cases_Bool, Cursor, Encoding, Utf8, LineBreak, Lf, Cr, CrLf, Item, letter, is_deep, Rest, Layout, ◌▹◌, stay, choose, when, char, letters, blank, blanks, break, new_line, is_white, gap, word, indicator, opener, must_break, indent_to, line, is_past, keep, order_mark, needs_escape, escape_text, may_fold, fold, escaped, quoted_char, quoted_body, double_quoted, MOST, deep_if, checked}
+use Rattle.yaml_emit_laws_text.proofs.Shared.{cases_Bool, Cursor, Encoding, Utf8, LineBreak, Lf, Cr, CrLf, Item, letter, is_deep, Rest, Layout, ◌▹◌, stay, choose, when, char, letters, blank, blanks, break, new_line, is_white, gap, word, opener, must_break, indent_to, line, is_past, keep, order_mark, needs_escape, escape_text, may_fold, fold, escaped, quoted_char, quoted_body, double_quoted, MOST, deep_if, checked}
 use Rattle.yaml_emit_layout.specs.emit_text.declared.Page.{Page}
 use Rattle.yaml_emit_text.specs.Quoted.{first}
 
@@ -81,11 +81,6 @@ gap_calm = choose_calm is_white stay blank stay_calm blank_calm
 
 pub word_calm : (t : List ℕ) → Calm (word t)
 word_calm t = calms gap (letters t) gap_calm (letters_calm t)
-
-pub indicator_calm : (x : ℕ) → Calm (indicator x)
-unfolding is_deep
-indicator_calm x = calms gap (λ c rest. letter x ∷ rest (record { column = c.column + 1; white = false; bare = c.bare; kept = c.kept })) gap_calm
-    (λ m rest h c. h (record { column = c.column + 1; white = false; bare = c.bare; kept = c.kept }))
 
 pub opener_calm : (x : ℕ) → Calm (opener x)
 unfolding is_deep

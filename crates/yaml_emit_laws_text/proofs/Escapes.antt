@@ -31,12 +31,14 @@ high_digit n h = omega arith
 low_digit : (n : ℕ) → n % 16 < 16
 low_digit n = omega arith
 
-number_more : (v d n : ℕ) (rest : List ℕ) → hex_digit d ≡ Some n
+-- a digit more of a number
+pub number_more : (v d n : ℕ) (rest : List ℕ) → hex_digit d ≡ Some n
     → number_behind v (d ∷ rest) ≡ number_behind (v * 16 + n) rest
 unfolding number_behind
 number_more v d n rest h = rw h refl
 
-number_end : (v : ℕ) → number_behind v [] ≡ Some v
+-- a number without further digits
+pub number_end : (v : ℕ) → number_behind v [] ≡ Some v
 unfolding number_behind
 number_end v = refl
 

@@ -3,7 +3,7 @@ pub mod Chars
 pub mod Values
 pub mod Bytes
 pub mod QuotedReading
-mod Turns
+pub mod Turns
 pub mod Parts
 pub mod Escapes
 mod Kept
@@ -48,3 +48,4 @@ pub use Rattle.yaml_scan_laws_texts.proofs.HasLemmas
 pub use Rattle.yaml_scan_scalars.proofs.scan_model.RunsLemmas
 pub use Rattle.yaml_scan_scalars.proofs.PlainLemmas
 pub use Rattle.yaml_emit_text.proofs.Spelled as QuotedSpelled
+pub use Rattle.yaml_emit_text.proofs.Sinks

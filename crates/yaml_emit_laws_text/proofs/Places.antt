@@ -1,15 +1,7 @@
 -- Bytes that are left of a text.
 use Rattle.std.proofs.Common.{◌≡◌, ℕ, suc, ◌+◌, List, [], ◌∷◌, ◌++◌, length, subst, arith, add-zero}
-use Rattle.yaml_emit_laws_text.proofs.Shared.{byte, Has, Left}
+use Rattle.yaml_emit_laws_text.proofs.Shared.{byte, Left}
 pub use Rattle.yaml_scan_laws_texts.proofs.HasLemmas.{has_at, has_front, has_rest}
-
--- Texts one behind the other stand as one.
-pub has_both : (text : List ℕ) (p : ℕ) (xs ys : List ℕ) → Has text p xs
-    → Has text (p + length xs) ys → Has text p (xs ++ ys)
-has_both text p [] ys h k = rw add-zero at k
-has_both text p (x ∷ xs) ys (e, h) k =
-    let same : p + suc (length xs) ≡ p + 1 + length xs = omega arith in
-    (e, has_both text (p + 1) xs ys h (subst (λ q. Has text q ys) same k))
 
 -- The first of the bytes that are left stands at the place.
 pub left_first : (text : List ℕ) (p b : ℕ) (bs : List ℕ) → Left text p (b ∷ bs) → byte text p ≡ b

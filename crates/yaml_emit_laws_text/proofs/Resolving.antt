@@ -27,11 +27,6 @@ pub none_true : (b : Bool) (p : Problem) → (if b then Some p else None) ≡ No
 none_true false p e = refl
 none_true true p e = absurd (cc)
 
-neither : (a b : Bool) → (a ≡ true → ⊥) → (b ≡ true → ⊥) → (a || b) ≡ false
-neither true b f g = absurd (f refl)
-neither false true f g = absurd (g refl)
-neither false false f g = refl
-
 any_left : (test : TagDirective → Bool) (xs ys : List TagDirective) → list_any test xs ≡ true
     → list_any test (xs ++ ys) ≡ true
 any_left test [] ys e = absurd (cc)

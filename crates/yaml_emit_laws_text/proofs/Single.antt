@@ -4,9 +4,9 @@ use Rattle.yaml_emit_laws_text.proofs.Shared.{encode_ascii, encodes-append, and_
 use Rattle.yaml_emit_layout.specs.emit_text.Text.{is_break}
 use Rattle.yaml_emit_text.specs.Quoted.{first}
 use Rattle.yaml_emit_text.specs.Style.{is_special}
-use Rattle.yaml_emit_laws_text.proofs.Values.{cond_true}
 use Rattle.yaml_emit_laws_text.proofs.Escapes.{low_encodes}
 use Rattle.yaml_emit_laws_text.proofs.Back.{front_append, spaced_by}
+use Rattle.yaml_emit_text.proofs.Sinks.{cond_true}
 
 -- ---- layouts that write characters
 

@@ -102,10 +102,6 @@ run_most s b false x f =
       | inr e ↦ rw e (break_most s.encoding x (ascii s 4) (raw_most s.encoding x))
     ]) (omega arith)
 
-first_of : (a b : Bool) → (a && b) ≡ true → a ≡ true
-first_of true b e = refl
-first_of false b e = cc
-
 cut_most : (s : Settings) (at : NodePosition) (x : ℕ)
     → Takes s (ascii s (deeper (easy s) at.around + 4)) (cut (page_at (easy s) at) x)
 cut_most s at x =
@@ -156,7 +152,7 @@ flow_most s at quote before (x ∷ xs) =
       | inl e ↦
           let d : due s n x ≡ ascii s (n + 2) = rw e refl in
           rw e (joined s.encoding (ascii s 4) (due s n x + k) (due s n before + ascii s (n + 6) * length (x ∷ xs)) (when (x == 10 && not (is_break before)) (new_line s.line_break) ▹ value_break s.line_break x) rest
-          (run_most s s.line_break (x == 10 && not (is_break before)) x (first_of (x == 10) (not (is_break before)))) more (omega (arith, d)))
+          (run_most s s.line_break (x == 10 && not (is_break before)) x (λ a. (and_parts (x == 10) (not (is_break before)) a).0)) more (omega (arith, d)))
       | inr e ↦
           let d : due s n x ≡ 0 = rw e refl in
           let cuts = cuts_at page before x xs in
@@ -241,7 +237,7 @@ block_most s at folded blank before (x ∷ xs) =
     let adds = adds_break folded blank before x xs in
     elim (cases_Bool (is_break x)) [
       | inl e ↦ rw e (joined s.encoding (ascii s 4) k (bodied s n (x ∷ xs)) (when adds (new_line s.line_break) ▹ value_break s.line_break x) (block_body page folded blank x xs)
-          (run_most s s.line_break adds x (λ a. first_of (x == 10) _ (and_parts folded _ a).1)) (block_most s at folded blank x xs) (omega arith))
+          (run_most s s.line_break adds x (λ a. (and_parts (x == 10) _ (and_parts folded _ a).1).0)) (block_most s at folded blank x xs) (omega arith))
       | inr e ↦ rw e (joined s.encoding (ascii s (n + 6)) k (bodied s n (x ∷ xs)) (when (is_break before) (line s.line_break n) ▹ block_text page (cuts_block folded blank before x xs) x)
           (block_body page folded (if is_break before then _ else blank) x xs)
           (spoken_most s at folded blank before x xs) (block_most s at folded _ x xs) (omega arith))

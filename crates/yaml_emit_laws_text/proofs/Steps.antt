@@ -2,7 +2,8 @@
 use Rattle.std.proofs.Common.{◌≡◌, ◌≢◌, ℕ, zero, suc, ◌+◌, ◌-◌, ◌==◌, ◌&&◌, ◌||◌, nat_lt, Bool, true, false, List, [], ◌∷◌, ◌++◌, length, Some, Ok, refl, ap, subst, ◌∙◌, inl, inr, arith, add-zero, if◌then◌else◌}
 use Rattle.yaml_emit_laws_text.proofs.Shared.{cases_Bool, nat_tests, and-false, byte, break_of, ends_of, Gap, is_document_start, is_document_end, are_gap, begins_lexeme, GapReads, Kind, depth_after, is_end, reached, depth, key_allowed, WordText, indicator_of, kind_at, word_at, Word, lexemes, WordsStand, word_kinds, TokenBody, Cursor, LineBreak, Lf, Cr, CrLf, Item, letter, encode, char_bytes, Layout, Rest, ◌▹◌, gap, blank, line, blanks, new_line, indent_to, must_break, checked, deep_if, MOST, Left, Starts, WordStage, bytes, GoesBehindWords, Walks, column_end}
 use Rattle.yaml_emit_laws_text.specs.scan_laws_texts.KeysLaws.{gap_in, end_in}
-use Rattle.yaml_emit_laws_text.proofs.Places.{has_both, has_at, left_first, left_more}
+use Rattle.yaml_emit_laws_text.proofs.Places.{has_at, left_first, left_more}
+use Rattle.yaml_scan_laws_texts.proofs.NamesWords.{has_both}
 
 -- ---- a byte of a gap
 

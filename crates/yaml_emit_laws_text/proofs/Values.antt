@@ -1,20 +1,11 @@
 -- What a spelling is read as, piece by piece, has the value that it means.
-use Rattle.std.proofs.Common.{◌≡◌, ℕ, zero, suc, Bool, true, false, cond, List, [], ◌∷◌, ◌++◌, map, refl, sym, ap, subst, ◌∙◌, inl, inr, arith, append_assoc, encode_utf8, replicate, if◌then◌else◌}
+use Rattle.std.proofs.Common.{◌≡◌, ℕ, zero, suc, true, false, List, [], ◌∷◌, ◌++◌, map, refl, sym, ap, subst, ◌∙◌, inl, inr, arith, append_assoc, encode_utf8, replicate, if◌then◌else◌}
 use Rattle.yaml_emit_laws_text.proofs.Shared.{cases_Bool, cases_lt, encode_ascii, nat_tests, is_blank, Piece, Kept, Blank, Break, Line, lines, rest_of, folded, value, end_means, LineTurn, turn_means, QuotedPart, raw, doubled, named, numbered, joint, meant, meaning, IsSpelling, may_follow, may_be_next, is_raw_blank, is_fold, is_turn}
 use Rattle.yaml_scan_scalars.specs.Pieces.{is_empty, gap, Rest}
 use Rattle.yaml_scan_scalars.proofs.FoldingLemmas.{value-kept, rest_of-blank}
 use Rattle.yaml_emit_laws_text.specs.Spelling.{fold}
 use Rattle.yaml_emit_laws_text.proofs.Chars.{encode_1, encode_2, encode_3, encode_4}
-
--- The first of two where the test holds.
-pub cond_true : {A : Type 0} (b : Bool) (x y : A) → b ≡ true → cond b x y ≡ x
-cond_true true x y e = refl
-cond_true false x y e = absurd (cc)
-
--- The second of two where the test fails.
-pub cond_false : {A : Type 0} (b : Bool) (x y : A) → b ≡ false → cond b x y ≡ y
-cond_false false x y e = refl
-cond_false true x y e = absurd (cc)
+use Rattle.yaml_emit_text.proofs.Sinks.{cond_true, cond_false}
 
 -- ---- what parts are read as
 
@@ -70,15 +61,16 @@ record Front (ps : List Piece) : Type 0 where
   rest : List Piece
   is : ps ≡ Kept bytes ∷ rest
 
-record SomeBytes (bs : List ℕ) : Type 0 where
-  byte : ℕ
-  rest : List ℕ
-  is : bs ≡ byte ∷ rest
+pub record SomeBytes (bs : List ℕ) : Type 0 where
+  pub byte : ℕ
+  pub rest : List ℕ
+  pub is : bs ≡ byte ∷ rest
 
 some_bytes : (bs : List ℕ) (b : ℕ) (rest : List ℕ) → bs ≡ b ∷ rest → SomeBytes bs
 some_bytes bs b rest e = record { byte = b; rest = rest; is = e }
 
-encoded_front : (c : ℕ) → SomeBytes (encode_utf8 c)
+-- a character has a first byte
+pub encoded_front : (c : ℕ) → SomeBytes (encode_utf8 c)
 encoded_front c =
     elim (cases_lt c 128) [
       | inl a ↦ some_bytes _ _ _ (encode_1 c a)

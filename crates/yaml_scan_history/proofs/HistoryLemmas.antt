@@ -251,7 +251,8 @@ take-history text go n (suc k) m room =
     let z : suc k + n ≡ suc (k + n) = omega arith in
     rw z (step ∙ same, omega (arith, more, grown))
 
-not_read : (x : Next) (h : List Lexeme) → ((l : Lexeme) → x ≢ Read l) → extended x h ≡ h
+-- what is no lexeme adds none
+pub not_read : (x : Next) (h : List Lexeme) → ((l : Lexeme) → x ≢ Read l) → extended x h ≡ h
 not_read (Read l) h never = absurd (never l refl)
 not_read (Fails p) h never = refl
 not_read Ends h never = refl
@@ -265,13 +266,6 @@ stays text n (suc k) h =
     let before = stays text n k h in
     let z : suc k + n ≡ suc (k + n) = omega arith in
     rw (z, before) (not_read (next text (history text n)) (history text n) h)
-
-pub all_is : (text : List ℕ) (n : ℕ) → n ≤ length text + 2
-    → ((l : Lexeme) → next text (history text n) ≢ Read l) → all text ≡ history text n
-unfolding all
-all_is text n room h =
-    let k : length text + 2 - n + n ≡ length text + 2 = omega arith in
-    rw k at (stays text n (length text + 2 - n) h)
 
 take-handed_out : (x : Next) (h : List Lexeme) (m : ℕ) → m ≤ first_open h h
     → take m (handed_out x h) ≡ take m (entries h)

@@ -1,7 +1,7 @@
 pub mod HistoryLemmas
 pub mod StepwiseLemmas
 mod Roles
-mod Rules
+pub mod Rules
 -- what it stands on, for crates of laws that name this one alone
 pub use Rattle.yaml_scan_decode.proofs.CompleteLemmas
 pub use Rattle.yaml_scan_decode.proofs.SpellingLemmas

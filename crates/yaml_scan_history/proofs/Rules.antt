@@ -157,7 +157,8 @@ by_value text p w e = ap (finished text) e
 and_so : (a b : Bool) → a ≡ true → b ≡ true → (a && b) ≡ true
 and_so a b e f = rw (e, f) refl
 
-and_not : (a b : Bool) → b ≡ false → (a && b) ≡ false
+-- a test beside one that fails
+pub and_not : (a b : Bool) → b ≡ false → (a && b) ≡ false
 and_not true b e = e
 and_not false b e = refl
 

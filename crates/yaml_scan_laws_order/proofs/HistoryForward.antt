@@ -22,7 +22,8 @@ lexeme_of (Read l) = l
 lexeme_of (Fails f) = first_lexeme
 lexeme_of Ends = first_lexeme
 
-reads_same : (a b : Lexeme) → Read a ≡ Read b → a ≡ b
+-- what is read is one lexeme
+pub reads_same : (a b : Lexeme) → Read a ≡ Read b → a ≡ b
 unfolding lexeme_of
 reads_same a b e = ap lexeme_of e
 

@@ -4,6 +4,7 @@ use Rattle.yaml_scan_laws_order.proofs.Words.{cases_Bool, ltb-true, eqb-true, an
 use Rattle.yaml_scan_history.specs.scan_model.Breaks.{is_document_indicator}
 use Rattle.yaml_scan_history.specs.scan_scalars.Quoted.{valued}
 
+-- what is not 0 is more
 pub some_of : (b : ℕ) → (b == 0) ≡ false → 0 < b
 some_of b h = grind (arith, nat_tests)
 

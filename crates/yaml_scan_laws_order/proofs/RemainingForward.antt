@@ -44,7 +44,8 @@ known_settled text n m low =
     let most = first_open-le (history text n) (history text n) in
     record { same = settled_stays text n m low; few = omega (arith, most) }
 
-never_read : (x : Next) (l : Lexeme) → x ≡ Ends → x ≢ Read l
+-- an end is no lexeme
+pub never_read : (x : Next) (l : Lexeme) → x ≡ Ends → x ≢ Read l
 never_read x l e f = let bad : Ends ≡ Read l = sym e ∙ f in cc
 
 never_read_fault : (x : Next) (p : ScanFault) (l : Lexeme) → x ≡ Fails p → x ≢ Read l

@@ -214,7 +214,8 @@ failed_pool s h c e =
     All-append IsOtherToken (flat_map (spell s) (take (first_open h h) (entries h))) (front_ends (drop (first_open h h) (entries h)))
     (pool_other s (take (first_open h h) (entries h)) (take_no_end (first_open h h) (entries h) (entries_no_end s.text h c e))) (kept_other h (drop (first_open h h) (entries h)))
 
-fault_none : (x : Next) → fault_in x ≡ None → ((l : Lexeme) → x ≢ Read l) → x ≡ Ends
+-- no fault
+pub fault_none : (x : Next) → fault_in x ≡ None → ((l : Lexeme) → x ≢ Read l) → x ≡ Ends
 fault_none (Read l) e never = absurd (never l refl)
 fault_none (Fails p) e never = let bad : Some (scanner_fault p) ≡ None = e in absurd cc
 fault_none Ends e never = refl

@@ -1,6 +1,6 @@
 -- Lexemes of every kind end behind their start, inside the text.
-use Rattle.std.proofs.Common.{◌≡◌, ℕ, ◌+◌, ◌<◌, ◌≤◌, ◌==◌, ◌&&◌, ◌||◌, not, Bool, true, false, if◌then◌else◌, List, length, Option, Some, None, Result, Ok, Err, inl, inr, arith}
-use Rattle.yaml_scan_laws_order.proofs.Words.{cases_Bool, true≢false, nat_tests, yaml_scalar_style_t, TokenBody, byte, column_at, is_blank_or_end, Wrong, within, behind_bytes, anchor_at, TagText, tag_end, tag_at, ValueText, value_end, value_at, line_place, line_end_at, with_line, Lands, line_end_place, anchor_place, tag_place, value_place, double_quoted_at, single_quoted_at, PlainText, starts_plain, plain_at, BlockText, block_at, style_at, Kind, is_end, indicator_of, or_plain, kind_at, WordText, carrying, valued, tagged, directed, blocked, plainly, word_at}
+use Rattle.std.proofs.Common.{◌≡◌, ℕ, ◌+◌, ◌<◌, ◌≤◌, ◌==◌, ◌&&◌, ◌||◌, not, Bool, true, false, if◌then◌else◌, List, length, Option, Some, None, Result, Ok, Err, refl, subst, inl, inr, arith}
+use Rattle.yaml_scan_laws_order.proofs.Words.{cases_Bool, and_parts, eqb-true, true≢false, nat_tests, yaml_scalar_style_t, TokenBody, byte, column_at, is_blank_or_end, Wrong, within, behind_bytes, anchor_at, TagText, tag_end, tag_at, ValueText, value_end, value_at, line_place, line_end_at, with_line, Lands, line_end_place, anchor_place, tag_place, value_place, double_quoted_at, single_quoted_at, PlainText, starts_plain, plain_at, BlockText, block_at, style_at, Kind, is_end, indicator_of, or_plain, kind_at, WordText, carrying, valued, tagged, directed, blocked, plainly, word_at}
 use Rattle.yaml_scan_history.specs.scan_model.declared.name.yaml_scalar_style_t.TheVariants as styles
 use Rattle.yaml_scan_history.specs.scan_model.declared.problem.Context.TheVariants as contexts
 use Rattle.yaml_scan_history.specs.scan_model.Tokens as tokens
@@ -19,41 +19,91 @@ Fits kinds.DocumentStart text p = p + 3 ≤ length text
 Fits kinds.DocumentEnd text p = p + 3 ≤ length text
 Fits _ text p = p < length text
 
-abbrev pub FitsAny : Option Kind → List ℕ → ℕ → Type 0
-FitsAny None text p = Unit {0}
-FitsAny (Some k) text p = Fits k text p
+-- ---- what stands there, by its kind
 
-pick : (text : List ℕ) (p : ℕ) (test : Bool) (k : Kind) (rest : Option Kind) → Fits k text p
-    → FitsAny rest text p → FitsAny (if test then Some k else rest) text p
-pick text p true k rest f g = f
-pick text p false k rest f g = g
+-- what the text has where a lexeme of a kind stands
+abbrev pub Tells : List ℕ → ℕ → Kind → Type 0
+Tells text p kinds.StreamStart = ⊥
+Tells text p kinds.StreamEnd = byte text p ≡ 0
+Tells text p kinds.Directive = byte text p ≡ 37
+Tells text p kinds.DocumentStart = is_document_start text p ≡ true
+Tells text p kinds.DocumentEnd = is_document_end text p ≡ true
+Tells text p kinds.FlowSequenceStart = byte text p ≡ 91
+Tells text p kinds.FlowMappingStart = byte text p ≡ 123
+Tells text p kinds.FlowSequenceEnd = byte text p ≡ 93
+Tells text p kinds.FlowMappingEnd = byte text p ≡ 125
+Tells text p kinds.FlowEntry = byte text p ≡ 44
+Tells text p kinds.BlockEntry = byte text p ≡ 45
+Tells text p kinds.KeyMark = byte text p ≡ 63
+Tells text p kinds.ValueMark = byte text p ≡ 58
+Tells text p kinds.Alias = byte text p ≡ 42
+Tells text p kinds.Anchor = byte text p ≡ 38
+Tells text p kinds.Tag = byte text p ≡ 33
+Tells text p kinds.Literal = byte text p ≡ 124
+Tells text p kinds.Folded = byte text p ≡ 62
+Tells text p kinds.SingleQuoted = byte text p ≡ 39
+Tells text p kinds.DoubleQuoted = byte text p ≡ 34
+Tells text p kinds.Plain = 0 < byte text p
 
-indicator_fits : (flow alone : Bool) (b : ℕ) (text : List ℕ) (p : ℕ) → p < length text
-    → FitsAny (indicator_of flow alone b) text p
+-- it holds of the kind, if there is one
+abbrev pub OfAny : (Kind → Type 0) → Option Kind → Type 0
+OfAny P None = Unit {0}
+OfAny P (Some k) = P k
+
+pick : (P : Kind → Type 0) (test : Bool) (k : Kind) (rest : Option Kind) → (test ≡ true → P k)
+    → OfAny P rest → OfAny P (if test then Some k else rest)
+pick P true k rest f g = f refl
+pick P false k rest f g = g
+
+both_is : (b n : ℕ) (other : Bool) → (b == n && other) ≡ true → b ≡ n
+both_is b n other h = eqb-true b n (and_parts (b == n) other h).0
+
+indicator_tells : (flow alone : Bool) (text : List ℕ) (p : ℕ)
+    → OfAny (Tells text p) (indicator_of flow alone (byte text p))
 unfolding indicator_of
-indicator_fits flow alone b text p l =
-    pick text p (b == 91) kinds.FlowSequenceStart _ l
-    (pick text p (b == 123) kinds.FlowMappingStart _ l
-    (pick text p (b == 93) kinds.FlowSequenceEnd _ l
-    (pick text p (b == 125) kinds.FlowMappingEnd _ l
-    (pick text p (b == 44) kinds.FlowEntry _ l
-    (pick text p (b == 45 && alone) kinds.BlockEntry _ l
-    (pick text p (b == 63 && (flow || alone)) kinds.KeyMark _ l
-    (pick text p (b == 58 && (flow || alone)) kinds.ValueMark _ l
-    (pick text p (b == 42) kinds.Alias _ l
-    (pick text p (b == 38) kinds.Anchor _ l
-    (pick text p (b == 33) kinds.Tag _ l
-    (pick text p (b == 124 && not flow) kinds.Literal _ l
-    (pick text p (b == 62 && not flow) kinds.Folded _ l
-    (pick text p (b == 39) kinds.SingleQuoted _ l
-    (pick text p (b == 34) kinds.DoubleQuoted None l tt))))))))))))))
+indicator_tells flow alone text p =
+    let b = byte text p in
+    let at = pick (Tells text p) in
+    at (b == 91) kinds.FlowSequenceStart _ (eqb-true b 91) (at (b == 123) kinds.FlowMappingStart _ (eqb-true b 123)
+    (at (b == 93) kinds.FlowSequenceEnd _ (eqb-true b 93) (at (b == 125) kinds.FlowMappingEnd _ (eqb-true b 125)
+    (at (b == 44) kinds.FlowEntry _ (eqb-true b 44) (at (b == 45 && alone) kinds.BlockEntry _ (both_is b 45 alone)
+    (at (b == 63 && (flow || alone)) kinds.KeyMark _ (both_is b 63 (flow || alone)) (at (b == 58 && (flow || alone)) kinds.ValueMark _ (both_is b 58 (flow || alone))
+    (at (b == 42) kinds.Alias _ (eqb-true b 42) (at (b == 38) kinds.Anchor _ (eqb-true b 38) (at (b == 33) kinds.Tag _ (eqb-true b 33)
+    (at (b == 124 && not flow) kinds.Literal _ (both_is b 124 (not flow)) (at (b == 62 && not flow) kinds.Folded _ (both_is b 62 (not flow))
+    (at (b == 39) kinds.SingleQuoted _ (eqb-true b 39) (at (b == 34) kinds.DoubleQuoted None (eqb-true b 34) tt))))))))))))))
 
--- what fits does so also where a plain scalar may start
-pub plain_fits : (o : Option Kind) (starts : Bool) (text : List ℕ) (p : ℕ) → p < length text
-    → FitsAny o text p → FitsAny (or_plain o starts) text p
-plain_fits (Some k) starts text p l f = f
-plain_fits None true text p l f = l
-plain_fits None false text p l f = tt
+plain_tells : (o : Option Kind) (starts : Bool) (text : List ℕ) (p : ℕ) → 0 < byte text p
+    → OfAny (Tells text p) o → OfAny (Tells text p) (or_plain o starts)
+plain_tells (Some k) starts text p l f = f
+plain_tells None true text p l f = l
+plain_tells None false text p l f = tt
+
+kind_tells : (flow : Bool) (text : List ℕ) (p : ℕ) → OfAny (Tells text p) (kind_at flow text p)
+unfolding kind_at
+kind_tells flow text p =
+    let alone = is_blank_or_end text (p + 1) in
+    elim (cases_Bool (byte text p == 0)) [
+      | inl h ↦ rw h (eqb-true (byte text p) 0 h)
+      | inr h ↦ rw h (pick (Tells text p) (byte text p == 37 && column_at text p == 0) kinds.Directive _ (both_is (byte text p) 37 (column_at text p == 0))
+          (pick (Tells text p) (is_document_start text p) kinds.DocumentStart _ (λ e. e) (pick (Tells text p) (is_document_end text p) kinds.DocumentEnd _ (λ e. e)
+          (plain_tells (indicator_of flow alone (byte text p)) (starts_plain flow text p) text p (some_of (byte text p) h) (indicator_tells flow alone text p)))))
+    ]
+
+tells_any : (P : Kind → Type 0) (text : List ℕ) (p : ℕ) (o : Option Kind)
+    → ((k : Kind) → Tells text p k → P k)
+    → OfAny (Tells text p) o → OfAny P o
+tells_any P text p None f t = tt
+tells_any P text p (Some k) f t = f k t
+
+-- what the text tells of a kind holds of the one that stands there
+pub kind_is : (P : Kind → Type 0) (flow : Bool) (text : List ℕ) (p : ℕ)
+    → ((k : Kind) → Tells text p k → P k) → OfAny P (kind_at flow text p)
+kind_is P flow text p f = tells_any P text p (kind_at flow text p) f (kind_tells flow text p)
+
+-- what stands there tells of its kind
+pub kind_told : (flow : Bool) (text : List ℕ) (p : ℕ) (k : Kind) → kind_at flow text p ≡ Some k
+    → Tells text p k
+kind_told flow text p k e = subst (λ (o : Option Kind). OfAny (Tells text p) o) e (kind_tells flow text p)
 
 third : (a b c d e x : ℕ) (last : Bool)
     → ((a == 0 && (b == x && (c == x && d == x))) && last) ≡ true → 0 < x → 0 < d
@@ -71,26 +121,19 @@ end_inside text p h =
     let here = within text (p + 2) (third (column_at text p) (byte text p) (byte text (p + 1)) (byte text (p + 2)) 0 46 (is_blank_or_end text (p + 3)) h (omega arith)) in
     omega (arith, here)
 
+abbrev pub FitsAny : Option Kind → List ℕ → ℕ → Type 0
+FitsAny o text p = OfAny (λ k. Fits k text p) o
+
 -- the kind of what stands there fits
 pub kind_fits : (flow : Bool) (text : List ℕ) (p : ℕ) → FitsAny (kind_at flow text p) text p
-unfolding kind_at
-kind_fits flow text p =
-    elim (cases_Bool (byte text p == 0)) [
-      | inl h ↦ rw h tt
-      | inr h ↦
-          let here = within text p (some_of (byte text p) h) in
-          elim (cases_Bool (byte text p == 37 && column_at text p == 0)) [
-            | inl i ↦ rw (h, i) here
-            | inr i ↦ elim (cases_Bool (is_document_start text p)) [
-              | inl j ↦ rw (h, i, j) (start_inside text p j)
-              | inr j ↦ elim (cases_Bool (is_document_end text p)) [
-                | inl k ↦ rw (h, i, j, k) (end_inside text p k)
-                | inr k ↦ rw (h, i, j, k) (plain_fits (indicator_of flow (is_blank_or_end text (p + 1)) (byte text p)) (starts_plain flow text p) text p here
-                    (indicator_fits flow (is_blank_or_end text (p + 1)) (byte text p) text p here))
-              ]
-            ]
-          ]
-    ]
+kind_fits flow text p = kind_is (λ k. Fits k text p) flow text p (fits text p)
+  where
+    fits : (text : List ℕ) (p : ℕ) (k : Kind) → Tells text p k → Fits k text p
+    fits text p kinds.StreamStart h = h
+    fits text p kinds.StreamEnd h = tt
+    fits text p kinds.DocumentStart h = start_inside text p h
+    fits text p kinds.DocumentEnd h = end_inside text p h
+    fits text p _ h = within text p (omega (arith, h))
 
 -- a lexeme ends behind its start, and reaches its end or a place behind it, inside the text
 pub record IsWordFrom (text : List ℕ) (p : ℕ) (w : WordText) : Type 0 where

@@ -15,7 +15,8 @@ use Rattle.yaml_scan_laws_texts.proofs.Windows.{windows_are_scanned, made, uncon
 use Rattle.yaml_scan_laws_texts.proofs.Failing.{some_none, end_late, colon_index, fails_same, fails_not}
 use Rattle.yaml_scan_laws_texts.proofs.Refused.{refused_fronts_are_scanned, ends_not, ends_reads}
 use Rattle.yaml_scan_laws_texts.proofs.CutsEnding.{white_kind, line_long, whole_end, line_base, line_ground, start_history, line_cut, line_history}
-use Rattle.yaml_scan_laws_texts.proofs.Opening.{Begun, begun_over, closings, outer_spelled, outer_entries, none_open, fault_none, coming_goes}
+use Rattle.yaml_scan_laws_texts.proofs.Opening.{Begun, begun_over, closings, outer_spelled, outer_entries, none_open, coming_goes}
+use Rattle.yaml_scan_laws_order.proofs.StreamForward.{fault_none}
 
 -- ---- a text without fault goes on to its end
 

@@ -1,7 +1,7 @@
 -- What stands behind LF is alike in the whole.
-use Rattle.std.proofs.Common.{◌≡◌, ℕ, zero, suc, ◌+◌, ◌-◌, ◌<◌, ◌≤◌, ◌==◌, true, false, List, ◌++◌, length, refl, sym, ap, ◌∙◌, inl, inr, arith}
+use Rattle.std.proofs.Common.{◌≡◌, ℕ, zero, suc, ◌+◌, ◌-◌, ◌<◌, ◌≤◌, true, false, List, ◌++◌, length, refl, sym, ap, ◌∙◌, inl, inr, arith}
 use Rattle.yaml_scan_laws_texts.proofs.Shared.{cases_lt, nat_tests, length_push, byte, ends_of, ends_break, line_at, column_at, mark_at, is_bom, column_end, Alike, EndsIn, moved_mark, ne_eqb}
-use Rattle.yaml_scan_laws_texts.proofs.Cutting.{byte_left, byte_right, behind_alike, bom_by, last_is, columns_by, lines_by}
+use Rattle.yaml_scan_laws_texts.proofs.Cutting.{byte_left, byte_right, behind_alike, bom_by, last_is, columns_by, lines_by, far_ends}
 
 pub feed_long : (a : List ℕ) → EndsIn a 10 → 0 < length a
 feed_long a (xs, is) = let long : length a ≡ length xs + 1 = ap length is ∙ length_push xs 10 in omega (arith, long)
@@ -43,12 +43,7 @@ fed_ends a b feed (suc zero) =
     let before : byte (a ++ b) (length a + 1 - 1) ≡ byte b 0 = rw f (byte_right a b 0) in
     let last : byte (a ++ b) (length a + 1 - 2) ≡ 10 = before_rest a b (length a + 1 - 2) feed (omega (arith, long)) in
     rw (here, next, before) (second_end (byte (a ++ b) (length a + 1 - 2)) (byte b 0) (byte b 1) (byte b (1 + 1)) last)
-fed_ends a b feed (suc (suc p)) =
-    let n = suc (suc p) in
-    let e : length a + n + 1 ≡ length a + (n + 1) = omega arith in
-    let f : length a + n - 1 ≡ length a + (n - 1) = omega arith in
-    let g : length a + n - 2 ≡ length a + (n - 2) = omega arith in
-    rw (e, f, g, byte_right a b n, byte_right a b (n + 1), byte_right a b (n - 1), byte_right a b (n - 2)) refl
+fed_ends a b feed (suc (suc p)) = far_ends a b p
 
 -- what follows LF begins at column 0
 pub fed_column : (a b : List ℕ) → EndsIn a 10 → column_at (a ++ b) (length a) ≡ 0

@@ -9,6 +9,7 @@ use Rattle.yaml_scan_laws_texts.proofs.Bytes.{IsQuiet, quiet_edge, quiet_break, 
 use Rattle.yaml_scan_laws_texts.proofs.Gaps.{RunsAlike, blanks_alike, spaces_alike, lines_alike, text_alike, range_alike, moved_by, At, at_step, at_break, ReadAlike, PlaceAlike}
 use Rattle.yaml_scan_laws_texts.proofs.Plains.{value_alike}
 use Rattle.yaml_scan_laws_texts.proofs.Names.{short_at, long_at}
+use Rattle.yaml_scan_laws_order.proofs.QuotedForward.{some_of}
 
 -- ---- the header
 
@@ -246,15 +247,12 @@ larger_right : (a : ℕ) (r : Result ℕ Wrong) → 0 < a → Right (larger_of a
 larger_right a (Ok b) h = unfold larger in grind (arith, nat_tests)
 larger_right a (Err w) h = tt
 
-digit_some : (digit : ℕ) → (digit == 0) ≡ false → 0 < digit
-digit_some digit h = grind (arith, nat_tests)
-
 column_right : (level : ℕ) (t : List ℕ) (digit p : ℕ) → Right (column_of level t digit p)
 unfolding column_of
 column_right level t digit p =
     elim (cases_Bool (digit == 0)) [
       | inl h ↦ rw h (larger_right (larger level 1) (deepest (suc (length t)) t p) (unfold larger in grind (arith, nat_tests)))
-      | inr h ↦ let some = digit_some digit h in rw h (omega (arith, some))
+      | inr h ↦ let some = some_of digit h in rw h (omega (arith, some))
     ]
 
 -- ---- lines

@@ -8,7 +8,8 @@ use Rattle.yaml_scan_laws_texts.proofs.Histories.{Bases, moved_lexemes, moved_fo
 
 -- ---- parts of the definitions, moved
 
-abbrev moved_option : ℕ → ℕ → Option yaml_mark_t → Option yaml_mark_t
+-- the mark of an opener that is moved
+abbrev pub moved_option : ℕ → ℕ → Option yaml_mark_t → Option yaml_mark_t
 moved_option d n None = None
 moved_option d n (Some m) = Some (moved_mark d n m)
 

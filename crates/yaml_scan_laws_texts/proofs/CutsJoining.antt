@@ -1,6 +1,6 @@
 -- Entries of lexemes that stand on others that decide the same, and the tokens of a text that is cut in two.
 use Rattle.std.proofs.Common.{◌≡◌, ℕ, zero, suc, ◌+◌, ◌-◌, ◌≤◌, ◌==◌, nat_lt, if◌then◌else◌, Bool, true, false, List, [], ◌∷◌, ◌++◌, map, length, Option, Some, None, refl, sym, ap, ◌∙◌, inl, inr, arith, ◌≢◌, take, drop, replicate}
-use Rattle.yaml_scan_laws_texts.proofs.Shared.{cases_Bool, nat_tests, length-append, append-nil, append_assoc, map-append, none-some, same_Some, yaml_encoding_t, Lexeme, Entry, is_value, reached, Candidate, candidate, fresh, open_at, has_number, first_or, first_open, found_by, left_by, levels, inside, opens_of, entry_of, mark_key, marked, keyed, entries, body_in, candidate-more, fresh_is, length-entries, first_open-le, moved_lexeme, flat_map-append, take-map, drop-map, flat_map, ScanFault, Token, block_end, Next, Read, Fails, Ends, next, SpelledText, token_in, before, start_tokens, end_tokens, own_tokens, spell, all, handed_out, handed, front_ends, kept_of, remaining, offline, moved_token, moved_next, take-append-add, drop-append-add, le-ltb, ne_eqb}
+use Rattle.yaml_scan_laws_texts.proofs.Shared.{cases_Bool, nat_tests, length-append, append-nil, append_assoc, map-append, none-some, same_Some, yaml_encoding_t, Lexeme, Entry, is_value, reached, Candidate, candidate, fresh, open_at, has_number, first_or, first_open, found_by, left_by, inside, entry_of, mark_key, marked, keyed, entries, body_in, candidate-more, fresh_is, length-entries, first_open-le, moved_lexeme, flat_map-append, take-map, drop-map, flat_map, ScanFault, Token, block_end, Next, Read, Fails, Ends, next, SpelledText, token_in, before, start_tokens, end_tokens, own_tokens, spell, all, handed_out, handed, front_ends, kept_of, remaining, offline, moved_token, moved_next, take-append-add, drop-append-add, le-ltb, ne_eqb}
 use Rattle.yaml_scan_laws_texts.proofs.Rests.{AllCarry}
 use Rattle.yaml_scan_laws_texts.proofs.Histories.{Bases, moved_lexemes, moved_candidate, moved_found, length_on, candidate_on, fresh_moved, found_on, has_moved, levels_on}
 use Rattle.yaml_scan_history.specs.declared.lexeme.Opens.{Opens}
@@ -21,10 +21,6 @@ above (l ∷ h) b e c none is =
     ]
 
 -- ---- one entry
-
-opens_same : (d n k : ℕ) (o : Option Candidate) (l : Lexeme) (levels : List ℕ)
-    → opens_of (moved_found d n k o) (moved_lexeme d n l) levels ≡ opens_of o l levels
-opens_same d n k o l levels = rw (has_moved d n k o) refl
 
 inside_on : (d n k : ℕ) (l : Lexeme) (h b c : List Lexeme) → Bases d n k b c
     → inside (moved_lexeme d n l) (moved_lexemes d n h ++ c) ≡ inside l (h ++ b)

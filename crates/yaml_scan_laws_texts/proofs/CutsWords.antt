@@ -1,5 +1,5 @@
 -- Lexemes of every kind are the same in both texts.
-use Rattle.std.proofs.Common.{◌≡◌, ℕ, ◌+◌, ◌<◌, ◌==◌, ◌&&◌, nat_lt, if◌then◌else◌, Bool, true, false, List, Some, None, Result, Ok, Err, refl, sym, ap, ◌∙◌, inl, inr, ◌⊎◌, arith}
+use Rattle.std.proofs.Common.{◌≡◌, ℕ, ◌+◌, ◌<◌, ◌==◌, ◌&&◌, nat_lt, Bool, true, false, List, Some, None, Result, Ok, Err, refl, sym, ap, ◌∙◌, inl, inr, ◌⊎◌, arith}
 use Rattle.yaml_scan_laws_texts.proofs.Shared.{cases_Bool, true≢false, or-true, none-some, same_Some, TokenBody, byte, break_of, break_width, column_at, is_blank, is_blank_or_end, Wrong, is_document_start, is_document_end, anchor_at, TagText, tag_at, DirectiveText, directive_at, double_quoted_at, single_quoted_at, PlainText, starts_plain, plain_at, BlockText, block_at, style_at, Kind, is_end, indicator_of, kind_at, WordText, carrying, valued, tagged, directed, blocked, plainly, word_at, Alike, is_onward, blank_cases}
 use Rattle.yaml_scan_history.specs.scan_model.declared.name.yaml_scalar_style_t.{yaml_scalar_style_t}
 use Rattle.yaml_scan_history.specs.scan_model.declared.name.yaml_scalar_style_t.TheVariants as styles
@@ -53,14 +53,11 @@ kind_alike t u d m p flow a l =
     ap (λ x. indicator_of flow (is_blank_or_end u (d + p + 1)) x) b ∙ indicators_alike flow (is_blank_or_end t (p + 1)) (is_blank_or_end u (d + p + 1)) (byte t p) (λ on. next_end t u d m p a l on) in
     rw (zero, percent, start_alike t u d m p a l, finish_alike t u d m p a l, indicator, plain) refl
 
+-- a line feed or a carriage return is a break
 pub break_byte : (b c e : ℕ) → (b ≡ 10) ⊎ (b ≡ 13) → nat_lt 0 (break_of b c e) ≡ true
 unfolding break_of
 break_byte b c e (inl z) = rw z refl
-break_byte b c e (inr z) = rw z (cr_width (c == 10))
-  where
-    cr_width : (x : Bool) → nat_lt 0 (if x then 2 else 1) ≡ true
-    cr_width true = refl
-    cr_width false = refl
+break_byte b c e (inr z) = elim (cases_Bool (c == 10)) [ inl f ↦ rw (z, f) refl | inr f ↦ rw (z, f) refl ]
 
 no_plain : (flow : Bool) (t : List ℕ) (p : ℕ) → (byte t p ≡ 10) ⊎ (byte t p ≡ 13)
     → starts_plain flow t p ≡ false

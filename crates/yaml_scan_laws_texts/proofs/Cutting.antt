@@ -1,5 +1,5 @@
 -- Both parts of a text are alike in it.
-use Rattle.std.proofs.Common.{zero-add, ◌≡◌, ℕ, zero, suc, ◌+◌, ◌-◌, ◌<◌, ◌≤◌, ◌==◌, ◌&&◌, ◌||◌, true, false, List, [], ◌∷◌, ◌++◌, length, refl, sym, ap, ◌∙◌, inl, inr, ◌⊎◌, arith}
+use Rattle.std.proofs.Common.{zero-add, ◌≡◌, ℕ, zero, suc, ◌+◌, ◌-◌, ◌<◌, ◌≤◌, ◌==◌, ◌&&◌, true, false, List, [], ◌∷◌, ◌++◌, length, refl, sym, ap, ◌∙◌, inl, inr, ◌⊎◌, arith}
 use Rattle.yaml_scan_laws_texts.proofs.Shared.{cases_Bool, cases_lt, eqb-true, true≢false, nat_tests, get_or_append_left, get_or-append-add, get_or_past, get_or_push, length-append, length_push, and-false, byte, ends_of, ends_break, line_at, column_at, is_bom, is_document_indicator, within, column_end, start_column, Alike, is_onward, EndsLine, IsCut, ne_eqb}
 use Rattle.yaml_scan_laws_texts.proofs.Bytes.{and_alike, indicator_alike, onward_some, off_break}
 
@@ -76,6 +76,16 @@ unfolding ends_of
 second_end x y b c v (inl z) = rw z refl
 second_end x y b c v (inr z) = rw z refl
 
+-- breaks behind the first two bytes of a rest
+pub far_ends : (a b : List ℕ) (p : ℕ)
+    → ends_break (a ++ b) (length a + suc (suc p)) ≡ ends_break b (suc (suc p))
+far_ends a b p =
+    let n = suc (suc p) in
+    let e : length a + n + 1 ≡ length a + (n + 1) = omega arith in
+    let f : length a + n - 1 ≡ length a + (n - 1) = omega arith in
+    let g : length a + n - 2 ≡ length a + (n - 2) = omega arith in
+    rw (e, f, g, byte_right a b n, byte_right a b (n + 1), byte_right a b (n - 1), byte_right a b (n - 2)) refl
+
 -- all breaks of the rest end where they end in the whole
 pub rest_ends : (a b : List ℕ) → IsCut a b → (p : ℕ)
     → ends_break (a ++ b) (length a + p) ≡ ends_break b p
@@ -91,12 +101,7 @@ rest_ends a b cut (suc zero) =
     let f : length a + 1 - 1 ≡ length a + 0 = omega arith in
     let before : byte (a ++ b) (length a + 1 - 1) ≡ byte b 0 = rw f (byte_right a b 0) in
     rw (here, next, before) (second_end (byte (a ++ b) (length a + 1 - 2)) (byte b 0) (byte b 1) (byte b (1 + 1)) (byte b (1 - 2)) (first_mark b cut.mark))
-rest_ends a b cut (suc (suc p)) =
-    let n = suc (suc p) in
-    let e : length a + n + 1 ≡ length a + (n + 1) = omega arith in
-    let f : length a + n - 1 ≡ length a + (n - 1) = omega arith in
-    let g : length a + n - 2 ≡ length a + (n - 2) = omega arith in
-    rw (e, f, g, byte_right a b n, byte_right a b (n + 1), byte_right a b (n - 1), byte_right a b (n - 2)) refl
+rest_ends a b cut (suc (suc p)) = far_ends a b p
 
 -- the columns and lines of what stands behind, at every place, where its breaks end alike
 pub columns_by : (a b : List ℕ) → column_at (a ++ b) (length a) ≡ 0

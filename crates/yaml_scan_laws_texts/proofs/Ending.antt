@@ -1,12 +1,12 @@
 -- What entries say; a text begins with the stream's start, and ends with its end.
-use Rattle.std.proofs.Common.{◌≡◌, ℕ, zero, suc, Bool, true, false, List, [], ◌∷◌, ◌++◌, map, replicate, flat_map, refl, sym, ap, ◌∙◌, append_assoc, ◌≢◌, ◌+◌, ◌-◌, ◌==◌, ◌&&◌, not, nat_lt, cond, length, Option, Some, None, Result, Ok, arith}
+use Rattle.std.proofs.Common.{◌≡◌, ℕ, zero, suc, Bool, true, false, List, [], ◌∷◌, ◌++◌, map, replicate, flat_map, refl, sym, ap, ◌∙◌, append_assoc, ◌+◌, ◌-◌, ◌==◌, ◌&&◌, not, nat_lt, cond, length, Option, Some, None, Result, Ok, arith}
 use Rattle.yaml_scan_laws_texts.proofs.LevelWords.{append_cancel_left, flat_map-append, Token, TokenBody, block_end, key, Lexeme, Entry, Opens, margin_at, start_of, as_key, SpelledText, body_in, before, spell, start_tokens, own_tokens, entry, bodies_of, told, start_bodies, WordTells, LevelTells, KeyTells, append-nil, and-false, yaml_mark_t, mark_at, stream_end, Wrong, Gap, Kind, depth, reached, placed, candidate, fresh, indent, left_by, levels, entries, WordText, kind_at, word_at, Next, Read, Ends, first_lexeme, begun, gap_behind, allowed_behind, misplaced, missed, lost_by, level_in, next, extended, history, not_allowed, unless_wrong, unless_lost, of_kind, unless_missed, behind, all, handed_out, handed, kept_of, fault_in, Remaining, remaining, offline, Came, Rises, Front, Idle, InTime, StartStands, end_at, EndIsRead}
 use Rattle.yaml_scan_laws_order.specs.scan_history.declared.lexeme.Opens.TheVariants as opening
-use Rattle.yaml_scan_laws_order.specs.scan_model.Faults.{Fault}
 use Rattle.yaml_scan_laws_order.specs.scan_history.declared.kind.Kind.TheVariants as kinds
 use Rattle.yaml_scan_laws_order.proofs.HistoryForward.{last_is_all}
 use Rattle.yaml_scan_laws_texts.proofs.StepLemmas.{remaining_of}
 use Rattle.yaml_scan_laws_texts.proofs.Pushing.{left_outside, unless_so, came_some, tested_read, fresh_in_time, lost_none, free_push, free_in_time, came_push}
+use Rattle.yaml_scan_laws_order.proofs.RemainingForward.{never_read}
 
 abbrev said : List Token → List TokenBody
 said ts = map (λ (t : Token). t.body) ts
@@ -152,14 +152,11 @@ came_history text (l ∷ x ∷ h) (read, came) =
     let before = came_history text (x ∷ h) came in
     ap (λ (y : List Lexeme). extended (next text y) y) before ∙ ap (λ (n : Next). extended n (x ∷ h)) read
 
-no_read : (x : Next) (l : Lexeme) → x ≡ Ends → x ≢ Read l
-no_read x l e f = cc
-
 came_all : (text : List ℕ) (h : List Lexeme) → Came text h → next text h ≡ Ends → all text ≡ h
 came_all text h came ends =
     let so = came_history text h came in
     let last : next text (history text (length h)) ≡ Ends = ap (λ (x : List Lexeme). next text x) so ∙ ends in
-    last_is_all text (length h) (λ l. no_read _ l last) ∙ so
+    last_is_all text (length h) (λ l. never_read _ l last) ∙ so
 
 offline_ends : (s : SpelledText) (h : List Lexeme) → all s.text ≡ h → next s.text h ≡ Ends
     → offline s ≡ record { tokens = flat_map (spell s) (entries h); fault = None }

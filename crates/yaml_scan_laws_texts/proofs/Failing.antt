@@ -1,12 +1,14 @@
 -- A front with a fault: the whole has the same tokens, and a fault there.
-use Rattle.std.proofs.Common.{◌≡◌, ◌≢◌, ℕ, ◌+◌, ◌<◌, ◌≤◌, ◌==◌, ◌&&◌, nat_lt, nat_le, not, Bool, true, false, List, [], ◌∷◌, ◌++◌, length, Option, Some, None, Result, Ok, Err, refl, sym, ap, subst, ◌∙◌, inl, inr, arith, ◌⊎◌}
+use Rattle.std.proofs.Common.{◌≡◌, ◌≢◌, ℕ, ◌+◌, ◌<◌, ◌≤◌, ◌==◌, ◌&&◌, nat_le, not, Bool, true, false, List, [], ◌∷◌, ◌++◌, length, Option, Some, None, Result, Ok, Err, refl, sym, ap, subst, ◌∙◌, inl, inr, arith, ◌⊎◌}
 use Rattle.yaml_scan_laws_texts.proofs.Shared.{cases_Bool, cases_lt, nat_tests, none-some, same_Some, yaml_mark_t, ScanFault, byte, line_at, mark_at, Wrong, Kind, Lexeme, is_end, reached, depth, in_flow, Candidate, candidate, is_fresh, fresh, placed, WordText, word_at, Next, Read, Fails, gap_behind, place_behind, allowed_behind, kind_behind, begun_behind, word_behind, lexeme_behind, missed, lost_by, stale_before, indicator_misplaced, candidate_lost, wrong_in, text_wrong, stale_after, colon_missing_of, first_fault_or, coming, next, Stands, line_at-grows, IsCut, moved_scan_fault, moved_next, le-ltb}
 use Rattle.yaml_scan_history.specs.declared.kind.Kind.TheVariants as kinds
 use Rattle.yaml_scan_laws_texts.proofs.Gaps.{moved_wrong, moved_by}
 use Rattle.yaml_scan_laws_texts.proofs.CutsWords.{moved_word, end_kind, WordCarried}
 use Rattle.yaml_scan_laws_texts.proofs.Coming.{moved_fault, mark_alike, Said, place_there, kind_there, stale_there, misplaced_there, lost_there, coming_there}
 use Rattle.yaml_scan_laws_texts.proofs.Fronts.{word_there, word_inside, clean, mark_zero, front_pair, next_open}
-use Rattle.yaml_scan_laws_texts.proofs.Turning.{IsMark, IsFree, and_false, lost_none, mark_word, mark_lies, mark_stands, stands_there, free_of, colon_none, end_begun, end_mark_placed, mark_there}
+use Rattle.yaml_scan_laws_texts.proofs.Turning.{IsMark, and_false, lost_none, mark_word, mark_lies, mark_stands, stands_there, free_of, colon_none, end_begun, end_mark_placed, mark_there}
+use Rattle.yaml_scan_laws_order.proofs.NextForward.{placed_index}
+use Rattle.yaml_scan_laws_texts.specs.Fronts.{IsFree}
 
 -- ---- the stream's end
 
@@ -272,13 +274,6 @@ first_told (Some h) b c t f g y P u v i j k e = subst P (fails_same e) (i h refl
 first_told None b (Some h) t f g y P u v i j k e = subst P (fails_same (rw u at e)) (j h refl)
 first_told None b None t (Some h) g y P u v i j k e = subst P (fails_same (rw (u, v) at e)) (k h refl)
 first_told None b None t None g y P u v i j k e = absurd (fails_not (sym (rw (u, v) at e)))
-
-placed_index : (k : Kind) (m : yaml_mark_t) → (placed k m).index ≡ m.index
-placed_index k m =
-    elim (cases_Bool (is_end k && nat_lt 0 m.column)) [
-      | inl h ↦ rw h refl
-      | inr h ↦ rw h refl
-    ]
 
 pub end_late : (t : List ℕ) (H : List Lexeme) (f : ScanFault)
     → coming (Some kinds.StreamEnd) t H ≡ Fails f

@@ -1,12 +1,12 @@
 -- What steps make of a lexeme, and key-free lexemes.
-use Rattle.std.proofs.Common.{◌≡◌, ℕ, zero, suc, ◌+◌, ◌==◌, ◌&&◌, ◌||◌, not, nat_lt, Bool, true, false, List, [], ◌∷◌, Option, Some, None, Result, Ok, Err, refl, sym, subst, inl, inr, arith, ◌-◌, ◌<◌, cond, ◌++◌, length, map, reverse, flat_map, ap, ◌∙◌}
-use Rattle.yaml_scan_laws_texts.proofs.Words.{cases_Bool, and_parts, nat_tests, yaml_mark_t, yaml_scalar_style_t, TokenBody, mark_at, Wrong, Gap, BlockText, block_at, style_at, Kind, Lexeme, may_be_key, is_end, placed, depth, key_allowed, candidate, fresh, indent, left_by, levels, WordText, valued, tagged, directed, blocked, kind_at, word_at, Next, Read, Fails, Ends, level_in, begun, finished, allowed_behind, misplaced, missed, lost_by, next, extended, history, no_colon, tested, unless_wrong, unless_lost, of_kind, unless_missed, stepwise, reverse-append, Token, Entry, depth_after, cancels, is_value, is_start, allows_key, Candidate, found_by, has, opened, opens_at, inside, entry_of, start_of, level_of, marked, entries, SpelledText, token_in, spell, innermost, around, marked_so, is_inside, asked_after, asked, fits, is_key_free, keeps_level, is_level_free, kinds_of}
+use Rattle.std.proofs.Common.{◌≡◌, ℕ, zero, suc, ◌+◌, ◌==◌, ◌&&◌, ◌||◌, not, nat_lt, Bool, true, false, List, [], ◌∷◌, Option, Some, None, Result, Ok, Err, refl, sym, subst, inl, inr, arith, ◌-◌, ◌<◌, ◌++◌, length, map, reverse, flat_map, ap, ◌∙◌}
+use Rattle.yaml_scan_laws_texts.proofs.Words.{cases_Bool, and_parts, nat_tests, yaml_mark_t, yaml_scalar_style_t, TokenBody, mark_at, Wrong, Gap, BlockText, block_at, style_at, Kind, Lexeme, may_be_key, is_end, placed, depth, key_allowed, candidate, fresh, indent, left_by, levels, WordText, valued, tagged, directed, blocked, kind_at, word_at, Next, Read, Fails, Ends, level_in, begun, finished, allowed_behind, misplaced, missed, lost_by, next, extended, history, no_colon, tested, unless_wrong, unless_lost, of_kind, unless_missed, stepwise, reverse-append, Token, Entry, depth_after, cancels, is_value, is_start, allows_key, Candidate, found_by, has, opened, opens_at, inside, entry_of, level_of, entries, SpelledText, token_in, spell, innermost, around, marked_so, is_inside, asked_after, asked, fits, is_key_free, keeps_level, is_level_free, kinds_of}
 use Rattle.yaml_scan_laws_order.specs.scan_words.Between.{gap_at}
 use Rattle.yaml_scan_laws_order.specs.scan_words.Tags.{TagText, tag_at}
 use Rattle.yaml_scan_laws_order.specs.scan_words.Directives.{DirectiveText, directive_at}
 use Rattle.yaml_scan_laws_order.specs.scan_history.declared.kind.Kind.TheVariants as kinds
-use Rattle.yaml_scan_laws_order.specs.scan_history.declared.lexeme.Opens.{Opens}
 use Rattle.yaml_scan_laws_order.specs.scan_history.declared.lexeme.Opens.TheVariants as opening
+use Rattle.yaml_scan_laws_texts.proofs.Pushing.{calm_opens, lone_marks}
 
 abbrev pub is_plain : Kind → Bool
 is_plain kinds.Plain = true
@@ -431,20 +431,13 @@ no_levels (l ∷ h) (m, made) free =
 abbrev pub bare : Lexeme → Entry
 bare l = record { lexeme = l; ends = 0; opens = opening.Nothing; key = false }
 
-opens_none : (start : Bool) (value found : Bool) (depth column : ℕ) (ls : List ℕ) (what : Opens)
-    → (start && not (nat_lt 0 depth)) ≡ false
-    → cond (not start) opening.Nothing
-    (cond (value && found) opening.Nothing (start_of depth column ls what)) ≡ opening.Nothing
-opens_none false value found depth column ls what e = refl
-opens_none true value found depth column ls what e = elim (cases_Bool (value && found)) [ inl x ↦ rw x refl | inr x ↦ rw (x, e) refl ]
-
 entry_bare : (l : Lexeme) (h : List Lexeme) → AllMade (l ∷ h)
     → is_key_free (kinds_of (l ∷ h)) ≡ true → entry_of l h ≡ bare l
 unfolding AllMade
 entry_bare l h (m, made) free =
     let none = no_levels h made (level_free (kinds_of h) (free_rest l h free)) in
     let start = starts_none l.kind (asked (kinds_of h)) l.depth (level_head l.kind (kinds_of h) (level_free (kinds_of (l ∷ h)) free)) (m.at ∙ depth_is h made) in
-    let opens = opens_none (is_start l.kind) (is_value l.kind) (has (found_by l h)) l.depth (l.start.column + 1) (inside l h) (level_of l.kind) start in
+    let opens = calm_opens (is_start l.kind) (is_value l.kind) (has (found_by l h)) l.depth (l.start.column + 1) (inside l h) (level_of l.kind) start in
     let ends : length (levels h) - length (inside l h) ≡ 0 = rw none (omega arith) in
     rw (ends, opens) refl
 
@@ -461,11 +454,6 @@ found_none l h (m, made) free v =
     let none = no_candidate h made (free_rest l h free) (value_asked l.kind (asked (kinds_of h)) (free_head l h free) v) in
     ap (λ d. fresh (candidate d h) l.start) m.at ∙ ap (λ (o : Option Candidate). fresh o l.start) none
 
-keyed_none : (value : Bool) (found : Option Candidate) (ls : List ℕ) (es : List Entry)
-    → (value ≡ true → found ≡ None) → cond value (marked found ls es) es ≡ es
-keyed_none false found ls es f = refl
-keyed_none true found ls es f = let e = f refl in rw e refl
-
 map_more : (xs ys : List Lexeme) → map bare (xs ++ ys) ≡ map bare xs ++ map bare ys
 map_more [] ys = refl
 map_more (x ∷ xs) ys = rw (map_more xs ys) refl
@@ -474,7 +462,7 @@ entries_more : (l : Lexeme) (h : List Lexeme) → AllMade (l ∷ h)
     → is_key_free (kinds_of (l ∷ h)) ≡ true → entries (l ∷ h) ≡ entries h ++ bare l ∷ []
 unfolding entries
 entries_more l h made free =
-    let same = keyed_none (is_value l.kind) (found_by l h) (inside l h) (entries h) (found_none l h made free) in
+    let same = lone_marks (is_value l.kind) (found_by l h) (inside l h) (entries h) (found_none l h made free) in
     ap (λ (es : List Entry). es ++ entry_of l h ∷ []) same ∙ ap (λ (e : Entry). entries h ++ e ∷ []) (entry_bare l h made free)
 
 tail_made : (l : Lexeme) (h : List Lexeme) → AllMade (l ∷ h) → AllMade h

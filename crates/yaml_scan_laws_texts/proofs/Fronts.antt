@@ -7,6 +7,7 @@ use Rattle.yaml_scan_laws_texts.proofs.CutsWords.{end_kind, kind_onward, kind_te
 use Rattle.yaml_scan_laws_texts.proofs.Coming.{Pair, begun_there, Said, coming_there, abreast}
 use Rattle.yaml_scan_laws_texts.proofs.Cutting.{front_alike}
 use Rattle.yaml_scan_laws_texts.proofs.Histories.{moved_found}
+use Rattle.yaml_scan_laws_order.proofs.HistoryForward.{reads_same}
 
 -- ---- the word there
 
@@ -63,9 +64,6 @@ rest_comes t u d m n k H G p none marks l = coming_there t u d m n k H G p l (ki
 
 fails_not : (f : ScanFault) (l : Lexeme) → Fails f ≢ Read l
 fails_not f l e = cc
-
-reads_same : (k l : Lexeme) → Read k ≡ Read l → k ≡ l
-reads_same k l e = cc
 
 -- nothing is wrong with what is read
 pub record IsClean (t : List ℕ) (H : List Lexeme) (x : Kind) (l : Lexeme) : Type 0 where
@@ -243,9 +241,6 @@ front_next a b cut (x ∷ h) stands l e go =
 read_not : (l : Lexeme) → Ends ≢ Read l
 read_not l e = cc
 
-fail_not : (f : ScanFault) (l : Lexeme) → Fails f ≢ Read l
-fail_not f l e = cc
-
 -- the step that reads the end
 pub record EndsAt (a : List ℕ) (n : ℕ) (E : Lexeme) : Type 0 where
   pub reads : next a (history a n) ≡ Read E
@@ -273,7 +268,7 @@ reads_before a n j E at lt = go (next a (history a j)) refl
       | inl end ↦ absurd (over l e end)
       | inr more ↦ (l, e, more)
     ]
-    go (Fails f) e = absurd (stuck j (omega (arith, lt)) (λ l g. fail_not f l (sym e ∙ g)))
+    go (Fails f) e = absurd (stuck j (omega (arith, lt)) (λ l g. fails_not f l (sym e ∙ g)))
     go Ends e = absurd (stuck j (omega (arith, lt)) (λ l g. read_not l (sym e ∙ g)))
 
 pub front_history : (a b : List ℕ) → IsCut a b → (n : ℕ) (E : Lexeme) → EndsAt a n E → (j : ℕ)

@@ -35,10 +35,10 @@ mod Quotes
 mod Names
 mod CutsDirectives
 mod Blocks
-mod CutsWords
+pub mod CutsWords
 mod Cutting
 mod Histories
-mod Coming
+pub mod Coming
 pub mod BehindBreak
 mod Fronts
 mod Turning

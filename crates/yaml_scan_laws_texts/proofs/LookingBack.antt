@@ -1,11 +1,12 @@
 -- What looking back gives is what marking entries gives.
-use Rattle.std.proofs.Common.{◌≡◌, ℕ, zero, suc, ◌+◌, ◌-◌, ◌<◌, ◌≤◌, ◌==◌, ◌&&◌, not, nat_lt, cond, Bool, true, false, List, [], ◌∷◌, ◌++◌, length, take, drop, flat_map, Option, Some, None, Result, Ok, Err, refl, sym, ap, ◌∙◌, inl, inr, ◌⊎◌, arith, append_assoc, length-append}
+use Rattle.std.proofs.Common.{◌≡◌, ℕ, zero, suc, ◌+◌, ◌<◌, ◌≤◌, ◌==◌, ◌&&◌, not, nat_lt, cond, Bool, true, false, List, [], ◌∷◌, ◌++◌, length, take, drop, flat_map, Option, Some, None, Result, Ok, Err, refl, sym, ap, ◌∙◌, inl, inr, ◌⊎◌, arith, append_assoc, length-append}
 use Rattle.yaml_scan_laws_texts.proofs.LevelWords.{cases_Bool, cases_lt, and_parts, nat_tests, flat_map-append, append-nil, and-false, Token, Wrong, Kind, Lexeme, Entry, Opens, may_be_key, cancels, is_value, is_start, is_end, Candidate, candidate, has_number, found_by, first_open, indent, inside, level_of, opens_at, opens_of, margin_at, start_of, entry_of, as_key, mark_key, marked, keyed, entries, WordText, Next, Read, Fails, Ends, next, first_fault_or, coming, faults, stale_before, no_start, place_behind, kind_behind, with_end, begun_behind, word_behind, lexeme_behind, extended, history, SpelledText, spell, front_ends, handed_out, handed, kept_of, all, fault_in, Remaining, remaining, candidate-more, candidate_below, fresh_is, eq-eqb}
 use Rattle.yaml_scan_laws_order.specs.scan_model.declared.problem.ScanFault.{ScanFault}
 use Rattle.yaml_scan_laws_order.specs.scan_history.declared.kind.Kind.TheVariants as kinds
 use Rattle.yaml_scan_laws_order.specs.scan_history.declared.lexeme.Opens.TheVariants as opening
 use Rattle.yaml_scan_laws_texts.specs.LookBack.{finds, is_key, opens_level, number_or, begins_with, level_at, closes, end_tokens, tokens_of, tokens_before, lost_from, OfflineLooksBack}
 use Rattle.yaml_scan_laws_texts.proofs.Pushing.{start_no_key}
+use Rattle.yaml_scan_history.proofs.Rules.{and_not}
 
 -- ---- what is saved may be a key
 
@@ -71,13 +72,9 @@ found_below : (l : Lexeme) (h : List Lexeme) (c : Candidate) → found_by l h �
     → c.number < length h
 found_below l h c e = candidate_below l.depth h c (fresh_is _ _ c e)
 
-and_none : (a b : Bool) → b ≡ false → (a && b) ≡ false
-and_none true b e = e
-and_none false b e = refl
-
 finds_none : (l : Lexeme) (h : List Lexeme) (n : ℕ) → length h ≤ n → finds l h n ≡ false
 finds_none l h n le =
-    and_none (is_value l.kind) _
+    and_not (is_value l.kind) _
     (number_none (found_by l h) n (λ c e. let low = found_below l h c e in omega (arith, low, le)))
 
 is_key_none : (n : ℕ) (h : List Lexeme) → length h ≤ n → is_key n h ≡ false
@@ -109,7 +106,7 @@ unfolding level_at
 level_none n [] le = refl
 level_none n (l ∷ h) le =
     let far : (begins_with l h == n) ≡ false = grind (arith, nat_tests, begins_below l h, le) in
-    other_level n l h (and_none (opens_level l h) (begins_with l h == n) far) ∙ level_none n h (omega (arith, le))
+    other_level n l h (and_not (opens_level l h) (begins_with l h == n) far) ∙ level_none n h (omega (arith, le))
 
 -- ---- the newest lexeme
 
@@ -264,7 +261,7 @@ not_there : (l : Lexeme) (h : List Lexeme) (n : ℕ) → (begins_with l h == n) 
     → finds l h n ≡ false
     → (level_at n (l ∷ h) ≡ level_at n h) × (is_key n (l ∷ h) ≡ is_key n h)
 unfolding is_key
-not_there l h n far none = (other_level n l h (and_none (opens_level l h) (begins_with l h == n) far), rw none refl)
+not_there l h n far none = (other_level n l h (and_not (opens_level l h) (begins_with l h == n) far), rw none refl)
 
 -- a lexeme that finds none leaves all
 all_left : (l : Lexeme) (h : List Lexeme) → ((n : ℕ) → finds l h n ≡ false)

@@ -82,8 +82,9 @@ name_good context text p q s =
 pub anchor_good : (context : Context) (text : List ℕ) (p : ℕ) → HasName (anchor_at context text p)
 anchor_good context text p = name_good context text (p + 1) (name_end text p) (name_spans text p)
 
-has_both : (text : List ℕ) (p : ℕ) (xs ys : List ℕ) → Has text p xs → Has text (p + length xs) ys
-    → Has text p (xs ++ ys)
+-- two texts, one behind the other
+pub has_both : (text : List ℕ) (p : ℕ) (xs ys : List ℕ) → Has text p xs
+    → Has text (p + length xs) ys → Has text p (xs ++ ys)
 has_both text p [] ys a b = rw add-zero at b
 has_both text p (x ∷ xs) ys (e, a) b =
     let same : p + suc (length xs) ≡ p + 1 + length xs = omega arith in

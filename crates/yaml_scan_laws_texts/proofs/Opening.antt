@@ -1,23 +1,20 @@
 -- A front without fault, whatever brackets it leaves open: the whole begins with its tokens, and a mark in its end's place.
 use Rattle.std.proofs.Common.{◌≡◌, ℕ, zero, suc, ◌+◌, ◌-◌, ◌<◌, ◌≤◌, ◌==◌, ◌&&◌, nat_lt, nat_le, if◌then◌else◌, true, false, List, [], ◌∷◌, ◌++◌, take, drop, filter, replicate, length, Option, Some, None, refl, sym, ap, subst, ◌∙◌, inl, inr, arith, ◌≢◌, map}
-use Rattle.yaml_scan_laws_texts.proofs.Shared.{cases_Bool, true≢false, nat_tests, flat_map-append, append-nil, append_assoc, same_from_push, take-append-drop, flat_map, none-some, same_Some, yaml_encoding_t, yaml_mark_t, ScanFault, byte, ends_break, line_at, mark_at, Token, TokenBody, block_end, is_document_start, is_document_end, Kind, Lexeme, is_outside, is_start, is_value, is_end, cancels, depth_after, depth, in_flow, ended, Candidate, candidate, is_fresh, fresh, open_at, first_open, levels, entry_of, entries, placed, word_at, Next, Read, Fails, Ends, gap_behind, place_behind, kind_behind, begun_behind, word_behind, lexeme_behind, missed, lost_by, colon_missing_of, stale_before, indicator_misplaced, candidate_lost, text_wrong, stale_after, coming, next, extended, history, first_fault_or, no_start, first_lexeme, SpelledText, body_by, token_in, start_tokens, end_tokens, spell, all, handed, kept_of, remaining, fault_in, body_in, length-entries, Stands, history_stands, first_is, not_ended, all_ends, settled_stays, line_at-grows, IsCut, scan_of, fault_next, moved_token, moved_lexeme, take-length, le-ltb, offline}
+use Rattle.yaml_scan_laws_texts.proofs.Shared.{cases_Bool, true≢false, nat_tests, flat_map-append, append-nil, append_assoc, same_from_push, take-append-drop, flat_map, none-some, same_Some, yaml_encoding_t, yaml_mark_t, ScanFault, byte, ends_break, line_at, mark_at, Token, TokenBody, block_end, is_document_start, is_document_end, Kind, Lexeme, is_outside, is_start, is_value, is_end, cancels, depth_after, depth, in_flow, ended, Candidate, candidate, is_fresh, fresh, open_at, first_open, levels, entry_of, entries, placed, word_at, Read, Fails, Ends, gap_behind, place_behind, kind_behind, begun_behind, word_behind, lexeme_behind, missed, lost_by, colon_missing_of, stale_before, indicator_misplaced, candidate_lost, text_wrong, stale_after, coming, next, extended, history, first_fault_or, no_start, first_lexeme, SpelledText, body_by, token_in, start_tokens, end_tokens, spell, all, handed, kept_of, remaining, body_in, length-entries, Stands, history_stands, first_is, not_ended, all_ends, settled_stays, line_at-grows, IsCut, scan_of, fault_next, moved_token, moved_lexeme, take-length, le-ltb, offline}
 use Rattle.yaml_scan_history.specs.scan_model.Tokens as tokens
 use Rattle.yaml_scan_history.specs.declared.kind.Kind.TheVariants as kinds
 use Rattle.yaml_scan_laws_texts.proofs.Cutting.{byte_past, last_byte, line_ended}
 use Rattle.yaml_scan_laws_texts.proofs.Coming.{moved_fault, place_there, stale_there}
 use Rattle.yaml_scan_laws_texts.proofs.Fronts.{has_read, read_kind, read_within, front_said, kept, mark_zero, front_pair, next_open, history_more, EndsAt, reads_before, front_history, end_step, lexeme_zero}
-use Rattle.yaml_scan_laws_texts.proofs.Turning.{IsFree, mark_lexeme, mark_behind, MarkLies, mark_lies, mark_comes, MarkStands, free_of, colon_none, end_begun, end_mark_placed, end_byte, end_is, end_place, mark_there, start_stands, end_stands, stands_there}
+use Rattle.yaml_scan_laws_texts.proofs.Turning.{mark_lexeme, mark_behind, MarkLies, mark_lies, mark_comes, MarkStands, free_of, colon_none, end_begun, end_mark_placed, end_byte, end_is, end_place, mark_there, start_stands, end_stands, stands_there}
 use Rattle.yaml_scan_laws_texts.proofs.Rests.{AllCarry, carries}
 use Rattle.yaml_scan_laws_texts.proofs.CutsJoining.{offline_told, told, spells_moved, moved_entry, entered}
 use Rattle.yaml_scan_laws_texts.proofs.Failing.{after_none, some_none, outer_same}
 use Rattle.yaml_scan_laws_texts.proofs.Histories.{Bases, moved_lexemes}
+use Rattle.yaml_scan_laws_order.proofs.StreamForward.{fault_none}
+use Rattle.yaml_scan_laws_texts.specs.Fronts.{IsFree}
 
 -- ---- without a fault the stream's end is read
-
-pub fault_none : (x : Next) → fault_in x ≡ None → ((l : Lexeme) → x ≢ Read l) → x ≡ Ends
-fault_none (Read l) e never = absurd (never l refl)
-fault_none (Fails p) e never = absurd (none-some _ (sym e))
-fault_none Ends e never = refl
 
 never_ends : (a b c e f : Option ScanFault) (l : Lexeme)
     → first_fault_or (a ∷ b ∷ c ∷ e ∷ f ∷ []) (Read l) ≡ Ends → ⊥

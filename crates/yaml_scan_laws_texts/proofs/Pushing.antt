@@ -18,10 +18,12 @@ unfolding Rises
 rises_front b [] more r = tt
 rises_front b (c ∷ ls) more (e, r) = (e, rises_front c ls more r)
 
-passes : (x m : ℕ) → x ≤ m → nat_le x m ≡ true
+-- a bound that is kept
+pub passes : (x m : ℕ) → x ≤ m → nat_le x m ≡ true
 passes x m e = grind (arith, nat_tests)
 
-stops : (x m : ℕ) → m < x → nat_le x m ≡ false
+-- a bound that is passed
+pub stops : (x m : ℕ) → m < x → nat_le x m ≡ false
 stops x m e = grind (arith, nat_tests)
 
 weaker : (a b : ℕ) (ms : List ℕ) → a ≤ b → Rises b ms → Rises a ms
@@ -115,7 +117,8 @@ missed_free : (c : Candidate) (m : yaml_mark_t)
 missed_free c m (inl e) = rw e refl
 missed_free c m (inr e) = elim (cases_Bool c.lexeme.required) [ inl x ↦ rw (x, e) refl | inr x ↦ rw x refl ]
 
-missed_none : (o : Option Candidate) (m : yaml_mark_t) → InTime o m → missed o m ≡ None
+-- a candidate that is in time is not missed
+pub missed_none : (o : Option Candidate) (m : yaml_mark_t) → InTime o m → missed o m ≡ None
 missed_none None m t = refl
 missed_none (Some c) m t = missed_free c m t
 
@@ -269,11 +272,13 @@ free_more true false false below l n rest e r = r
 free_more false saved cancel true l n rest e r = tt
 free_more false saved cancel false l n rest e r = r
 
+-- a lexeme more that requires none
 pub free_push : (l : Lexeme) (h : List Lexeme) (d : ℕ) → IsFree (candidate d h) → l.required ≡ false
     → IsFree (candidate d (l ∷ h))
 unfolding candidate
 free_push l h d r e = free_more (l.depth == d) l.saved (cancels l.kind) (nat_lt l.depth d) l (length h) (candidate d h) e r
 
+-- what is free is in time
 pub free_in_time : (o : Option Candidate) (m : yaml_mark_t) → IsFree o → InTime o m
 free_in_time None m f = tt
 free_in_time (Some c) m f = inl f

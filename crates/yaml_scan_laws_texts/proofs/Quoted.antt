@@ -3,10 +3,7 @@ use Rattle.std.proofs.Common.{◌≡◌, ℕ, zero, suc, ◌+◌, ◌<◌, ◌==
 use Rattle.yaml_scan_laws_texts.proofs.Words.{encode_utf8, IsScalar, cases_Bool, ltb-true, eqb-true, and_parts, nat_tests, drop_more, IsUtf8-nil, IsUtf8-append, IsUtf8-encode, byte, break_width, is_blank, break_value, is_document_indicator, Wrong, within, Piece, Kept, Blank, Break, value, QuotedSpot, Closing, Pieces, Bad, hex_digit, hex_value, is_scalar, coded, hex_len, simple_escape, escaped, escape_at, quote_at, standing_at, with_front, followed, pieces, quoted_at}
 use Rattle.yaml_scan_laws_order.specs.scan_scalars.Quoted.{valued}
 use Rattle.yaml_scan_laws_texts.proofs.Whole.{IsWhole, whole_ascii, whole_after, whole_before, whole_behind, blank_small, ascii_utf8, cut, break_utf8, nel_char, nbsp_char, ls_char, ps_char, Goes, value_utf8}
-use Rattle.yaml_scan_laws_order.proofs.QuotedForward.{last_digit}
-
-pub some_of : (b : ℕ) → (b == 0) ≡ false → 0 < b
-some_of b h = grind (arith, nat_tests)
+use Rattle.yaml_scan_laws_order.proofs.QuotedForward.{last_digit, some_of}
 
 -- Bytes that wait, and the text from a place on, are UTF-8 together.
 abbrev pub Waits : List ℕ → List ℕ → ℕ → Type 0

@@ -7,6 +7,7 @@ use Rattle.yaml_scan_history.specs.scan_scalars.Quoted.{valued}
 use Rattle.yaml_scan_laws_texts.proofs.Bytes.{width_alike, next_byte, indicator_alike, off_cases, onward_some}
 use Rattle.yaml_scan_laws_texts.proofs.Gaps.{moved_wrong, moved_by, At, at_step, at_break, OkIs}
 use Rattle.yaml_scan_laws_texts.proofs.Plains.{value_alike, left_step, byte_at}
+use Rattle.yaml_scan_laws_order.proofs.QuotedForward.{some_of}
 
 abbrev pub moved_standing : ℕ → QuotedSpot → QuotedSpot
 moved_standing d Closing = Closing
@@ -169,9 +170,6 @@ closes_alike t u d m p quote a l on =
           rw (h, same ∙ h, f) record { same = refl; lies = (at, omega arith, here, there) }
     ]
 
-zero_false : (b : ℕ) → (b == 0) ≡ false → 0 < b
-zero_false b h = grind (arith, nat_tests)
-
 stands_alike : (t u : List ℕ) (d m quote p : ℕ) → Alike t u d m → p < m → IsQuote quote
     → StandsAlike t u d m p (standing_at quote t p) (standing_at quote u (d + p))
 unfolding standing_at
@@ -182,7 +180,7 @@ stands_alike t u d m quote p a l q =
       | inr h ↦ elim (cases_Bool (byte t p == 0)) [
         | inl i ↦ rw (h, i) record { same = refl; lies = tt }
         | inr i ↦
-            let some = zero_false (byte t p) i in
+            let some = some_of (byte t p) i in
             let (here, there) = byte_at t u d m p a l some in
             elim (cases_Bool (byte t p == quote)) [
               | inl j ↦ rw (h, i, j) (closes_alike t u d m p quote a l (quote_onward quote (byte t p) q j))

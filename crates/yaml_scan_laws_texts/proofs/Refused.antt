@@ -7,17 +7,9 @@ use Rattle.yaml_scan_laws_texts.proofs.CutsJoining.{told, offline_told, parted}
 use Rattle.yaml_scan_laws_texts.proofs.Opening.{coming_goes, front_carried, lexemes_zero, tokens_zero, no_bases, no_entries, all_is}
 use Rattle.yaml_scan_laws_texts.proofs.Windows.{made}
 use Rattle.yaml_scan_laws_texts.proofs.Failing.{some_none, fails_not, reads_not, fails_same, fails_there, fails_back}
+use Rattle.yaml_scan_history.proofs.HistoryLemmas.{not_read}
 
 -- ---- all of the front's lexemes are all of the whole's
-
--- the front's fault, as a scanner tells it
-record Refused (a : List ℕ) (f : ScanFault) : Type 0 where
-  pub fails : next a (all a) ≡ Fails f
-
-kept_by : (y : Next) (H : List Lexeme) → ((l : Lexeme) → y ≢ Read l) → extended y H ≡ H
-kept_by (Read l) H never = absurd (never l refl)
-kept_by (Fails f) H never = refl
-kept_by Ends H never = refl
 
 pub ends_not : {f : ScanFault} → Ends ≡ Fails f → ⊥
 ends_not e = cc
@@ -72,7 +64,7 @@ same_steps x a b cut f fails (suc j) = by (same_steps x a b cut f fails j) (next
     by before (Fails g) e =
         record {
           same = ap (λ h. step (a ++ b) h) before.same
-              ∙ kept_by (next (a ++ b) (history a j)) (history a j) (fails_open a b cut (history a j) (history_stands a j) g e)
+              ∙ not_read (next (a ++ b) (history a j)) (history a j) (fails_open a b cut (history a j) (history_stands a j) g e)
               ∙ ap (λ y. extended y (history a j)) (sym e);
           carry = subst (λ y. AllCarry x a (a ++ b) 0 0 (extended y (history a j))) (sym e) before.carry;
         }

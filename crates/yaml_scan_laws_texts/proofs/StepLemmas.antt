@@ -1,9 +1,12 @@
 -- A step behind key-free lexemes, and what comes of them.
-use Rattle.std.proofs.Common.{◌≡◌, ℕ, zero, suc, ◌+◌, ◌==◌, ◌&&◌, ◌||◌, not, nat_lt, if◌then◌else◌, cond, Bool, true, false, List, [], ◌∷◌, ◌++◌, length, map, reverse, drop, flat_map, Option, Some, None, Result, Ok, Err, refl, sym, ap, subst, ◌∙◌, inl, inr}
-use Rattle.yaml_scan_laws_texts.proofs.Words.{cases_Bool, append-nil, drop-map, yaml_mark_t, Token, mark_at, Wrong, Gap, Kind, Lexeme, Entry, cancels, is_value, is_start, is_end, depth, reached, ended, Candidate, candidate, fresh, is_fresh, has, placed, entries, WordText, kind_at, word_at, Next, Read, Fails, Ends, first_lexeme, begun, finished, allowed_behind, misplaced, missed, lost_by, kind_behind, coming, next, extended, history, no_colon, not_allowed, tested, unless_wrong, unless_lost, of_kind, unless_missed, behind, stepwise, SpelledText, token_in, spell, all, handed_out, handed, kept_of, fault_in, Remaining, remaining, asked, is_key_free, is_level_free, kinds_of, gap_in, lexeme_of}
+use Rattle.std.proofs.Common.{◌≡◌, ℕ, zero, suc, ◌+◌, ◌&&◌, not, nat_lt, if◌then◌else◌, Bool, true, false, List, [], ◌∷◌, ◌++◌, length, map, reverse, drop, flat_map, Option, Some, None, Result, Ok, Err, refl, sym, ap, subst, ◌∙◌, inl, inr}
+use Rattle.yaml_scan_laws_texts.proofs.Words.{cases_Bool, append-nil, drop-map, yaml_mark_t, Token, mark_at, Wrong, Gap, Kind, Lexeme, Entry, is_value, is_start, is_end, depth, reached, ended, Candidate, candidate, fresh, is_fresh, has, placed, entries, WordText, kind_at, word_at, Next, Read, Fails, Ends, first_lexeme, begun, finished, allowed_behind, misplaced, missed, lost_by, kind_behind, coming, next, extended, history, no_colon, not_allowed, tested, unless_wrong, unless_lost, of_kind, unless_missed, behind, stepwise, SpelledText, token_in, spell, all, handed_out, handed, kept_of, fault_in, Remaining, remaining, asked, is_key_free, is_level_free, kinds_of, gap_in, lexeme_of}
 use Rattle.yaml_scan_laws_order.specs.scan_model.Faults.{Fault}
 use Rattle.yaml_scan_laws_order.specs.scan_history.declared.kind.Kind.TheVariants as kinds
 use Rattle.yaml_scan_laws_texts.proofs.FreeLemmas.{is_plain, AllMade, Whole, whole_word, begun_made, finished_made, history_made, level_head, level_rest, depth_is, starts_none, no_levels, bare, entries_bare, bare_tokens}
+use Rattle.yaml_scan_laws_texts.proofs.Pushing.{unless_so, free_push, free_in_time, missed_none}
+use Rattle.yaml_scan_laws_texts.specs.Fronts.{IsFree}
+use Rattle.yaml_scan_laws_texts.proofs.Turning.{lost_none}
 
 -- What comes.
 
@@ -38,35 +41,16 @@ remaining_bare s free ends dropped given =
 
 -- No candidate is required.
 
-abbrev Unrequired : Option Candidate → Type 0
-Unrequired None = Unit {0}
-Unrequired (Some c) = c.lexeme.required ≡ false
-
-unrequired_more : (same saved cancel below : Bool) (l : Lexeme) (n : ℕ) (rest : Option Candidate)
-    → l.required ≡ false → Unrequired rest
-    → let one : Option Candidate = Some record { number = n; lexeme = l } in
-    Unrequired (cond same (cond saved one (cond cancel None rest)) (cond below None rest))
-unrequired_more true true cancel below l n rest e r = e
-unrequired_more true false true below l n rest e r = tt
-unrequired_more true false false below l n rest e r = r
-unrequired_more false saved cancel true l n rest e r = tt
-unrequired_more false saved cancel false l n rest e r = r
-
-unrequired_head : (d : ℕ) (l : Lexeme) (h : List Lexeme) → l.required ≡ false
-    → Unrequired (candidate d h) → Unrequired (candidate d (l ∷ h))
-unfolding candidate
-unrequired_head d l h e r = unrequired_more (l.depth == d) l.saved (cancels l.kind) (nat_lt l.depth d) l (length h) (candidate d h) e r
-
 unrequired : (d : ℕ) (h : List Lexeme) → AllMade h → is_level_free (kinds_of h) ≡ true
-    → Unrequired (candidate d h)
+    → IsFree (candidate d h)
 unfolding AllMade candidate
 unrequired d [] made free = tt
 unrequired d (l ∷ h) (m, made) free =
     let rest = level_rest l.kind (kinds_of h) free in
-    unrequired_head d l h (m.required (no_levels h made rest)) (unrequired d h made rest)
+    free_push l h d (unrequired d h made rest) (m.required (no_levels h made rest))
 
-fresh_unrequired : (o : Option Candidate) (at : yaml_mark_t) → Unrequired o
-    → Unrequired (fresh o at)
+fresh_unrequired : (o : Option Candidate) (at : yaml_mark_t) → IsFree o
+    → IsFree (fresh o at)
 fresh_unrequired None at u = tt
 fresh_unrequired (Some c) at u =
     elim (cases_Bool (is_fresh c.lexeme.start at)) [
@@ -74,31 +58,17 @@ fresh_unrequired (Some c) at u =
       | inr x ↦ rw x tt
     ]
 
-never : (required more : Bool) (m : yaml_mark_t) → required ≡ false
-    → cond (required && more) (Some m) None ≡ None
-never false more m e = refl
-never true more m e = absurd (cc)
-
-missed_none : (o : Option Candidate) (at : yaml_mark_t) → Unrequired o → missed o at ≡ None
-missed_none None at u = refl
-missed_none (Some c) at u = never c.lexeme.required (not (is_fresh c.lexeme.start at)) c.lexeme.start u
-
-lost_none : (l : Lexeme) (o : Option Candidate) → Unrequired o → lost_by l o ≡ None
-lost_none l None u = refl
-lost_none l (Some c) u = never c.lexeme.required (l.saved || (cancels l.kind && not (is_value l.kind))) c.lexeme.start u
+unmissed : (o : Option Candidate) (at : yaml_mark_t) → IsFree o → missed o at ≡ None
+unmissed o at u = missed_none o at (free_in_time o at u)
 
 pub none_required : (h : List Lexeme) (d : ℕ) (l : Lexeme) (at to : yaml_mark_t) → AllMade h
     → is_level_free (kinds_of h) ≡ true
     → (missed (fresh (candidate d h) at) to ≡ None) × (lost_by l (fresh (candidate d h) at) ≡ None)
 none_required h d l at to made free =
     let u = fresh_unrequired (candidate d h) at (unrequired d h made free) in
-    (missed_none (fresh (candidate d h) at) to u, lost_none l (fresh (candidate d h) at) u)
+    (unmissed (fresh (candidate d h) at) to u, lost_none l (fresh (candidate d h) at) u)
 
 -- A step.
-
-unless_so : (b : Bool) (a y : Next) → b ≡ false → cond b a y ≡ y
-unless_so false a y e = refl
-unless_so true a y e = absurd (cc)
 
 in_place : (block allowed start found : Bool) → (start && block) ≡ false
     → ((block && not allowed) && (start && not found)) ≡ false
@@ -107,10 +77,10 @@ in_place true true start found e = refl
 in_place true false false found e = refl
 in_place true false true found e = absurd (cc)
 
-tested_read : (l : Lexeme) (h : List Lexeme) → Unrequired (candidate 0 (l ∷ h))
+tested_read : (l : Lexeme) (h : List Lexeme) → IsFree (candidate 0 (l ∷ h))
     → tested l h ≡ Read l
 tested_read l h u =
-    ap (λ o. elim o as (λ _. Next) [ Some start ↦ no_colon start l.reached | None ↦ Read l ]) (missed_none (candidate 0 (l ∷ h)) l.reached u)
+    ap (λ o. elim o as (λ _. Next) [ Some start ↦ no_colon start l.reached | None ↦ Read l ]) (unmissed (candidate 0 (l ∷ h)) l.reached u)
 
 pub whole_of : (w : WordText) (r : Result WordText Wrong) → r ≡ Ok w → Whole r → w.broke ≡ false
 whole_of w (Ok x) e b = let same : x ≡ w = cc in ap (λ (y : WordText). y.broke) (sym same) ∙ b
@@ -177,13 +147,13 @@ word_behind text x k w made free kind said =
     let whole : is_plain k ≡ false → w.broke ≡ false = λ e. whole_of w (word_at k flow 0 text gap.place) said (whole_word k flow 0 text gap.place e) in
     let fm = finished_made text b x w whole bm in
     let u = unrequired 0 x made rest in
-    ap (λ (o : Option yaml_mark_t). unless_missed o text gap x) (missed_none (fresh (candidate 0 x) (reached x)) m (fresh_unrequired (candidate 0 x) (reached x) u))
+    ap (λ (o : Option yaml_mark_t). unless_missed o text gap x) (unmissed (fresh (candidate 0 x) (reached x)) m (fresh_unrequired (candidate 0 x) (reached x) u))
     ∙ ap (λ (o : Option Kind). of_kind o text gap x) kind
     ∙ unless_so (misplaced k m (allowed_behind x gap) x) (not_allowed k m) (unless_lost (lost_by b (fresh (candidate (depth x) x) m)) text gap.place b x)
     (in_place (not flow) (allowed_behind x gap) (is_start k) (is_value k && has (fresh (candidate (depth x) x) m)) (starts_none k (asked (kinds_of x)) (depth x) fit (depth_is x made)))
     ∙ ap (λ (o : Option yaml_mark_t). unless_lost o text gap.place b x) (lost_none b (fresh (candidate (depth x) x) m) (fresh_unrequired (candidate (depth x) x) m (unrequired (depth x) x made rest)))
     ∙ ap (λ (r : Result WordText Wrong). unless_wrong r text b x) (ap (λ n. word_at k flow n text gap.place) (bm.level none) ∙ said)
-    ∙ tested_read (finished text b w) x (unrequired_head 0 (finished text b w) x (fm.required none) u)
+    ∙ tested_read (finished text b w) x (free_push (finished text b w) x 0 u (fm.required none))
     ∙ ap (λ (l : Lexeme). Read l) (finished_is text x gap k w (bm.level none) (bm.required none) (λ e. whole (end_not_plain k e)))
 
 pub word_read : (text : List ℕ) (l : Lexeme) (h : List Lexeme) (k : Kind) (w : WordText)

@@ -1,5 +1,5 @@
 -- Texts of key-free words.
-use Rattle.std.proofs.Common.{◌≡◌, ◌≢◌, ℕ, suc, ◌&&◌, not, nat_lt, if◌then◌else◌, Bool, true, false, List, [], ◌∷◌, ◌++◌, length, map, reverse, Option, Some, None, Result, Ok, refl, sym, ap, subst, ◌∙◌}
+use Rattle.std.proofs.Common.{◌≡◌, ℕ, suc, ◌&&◌, not, nat_lt, if◌then◌else◌, Bool, true, false, List, [], ◌∷◌, ◌++◌, length, map, reverse, Option, Some, None, Result, Ok, refl, sym, ap, subst, ◌∙◌}
 use Rattle.yaml_scan_laws_texts.proofs.Words.{and_parts, not-true, reverse-append, list_all, Token, TokenBody, mark_at, Wrong, Kind, Lexeme, is_end, depth, ended, placed, WordText, kind_at, word_at, Next, Read, Ends, kind_behind, coming, next, extended, history, SpelledText, body_of_word, body_by, token_in, all, Remaining, offline, asked_after, asked, fits, is_key_free, keeps_level, is_level_free, kinds_of, gap_in, end_in, lexeme_of, placed_index}
 use Rattle.yaml_scan_laws_order.specs.scan_history.declared.kind.Kind.TheVariants as kinds
 use Rattle.yaml_scan_laws_order.proofs.HistoryForward.{last_is_all}
@@ -7,6 +7,7 @@ use Rattle.yaml_scan_laws_order.proofs.WordForward.{FitsAny, kind_fits}
 use Rattle.yaml_scan_laws_texts.specs.KeysTexts.{Word, lexemes, StandsBehind, WordsStand, word_kinds, token_of, first_token, ReachEnd}
 use Rattle.yaml_scan_laws_texts.proofs.FreeLemmas.{AllMade, history_made, level_free, level_rest}
 use Rattle.yaml_scan_laws_texts.proofs.StepLemmas.{remaining_bare, step_reads}
+use Rattle.yaml_scan_laws_order.proofs.RemainingForward.{never_read}
 
 -- the stream's start changes nothing
 
@@ -72,9 +73,6 @@ unfolding next
 ends_behind text [] e = absurd (cc)
 ends_behind text (l ∷ h) e = ap (λ (b : Bool). if b then Ends else coming (kind_behind text (l ∷ h)) text (l ∷ h)) e
 
-no_read : (x : Next) (l : Lexeme) → x ≡ Ends → x ≢ Read l
-no_read x l e f = cc
-
 -- tokens
 
 not_start : (o : Option Kind) (text : List ℕ) (p : ℕ) (k : Kind) → FitsAny o text p → o ≡ Some k
@@ -133,7 +131,7 @@ words_lexemes text (w ∷ ws) (stands, more) free (end, on) =
     let read = words_history text w ws (stands, more) free on (read_so_far text ws more rest on) in
     let h = lexemes text (w ∷ ws) in
     let ends : next text (history text (suc (suc (length ws)))) ≡ Ends = ap (λ (x : List Lexeme). next text x) read ∙ ends_behind text h end in
-    let whole : all text ≡ h = last_is_all text (suc (suc (length ws))) (λ l. no_read _ l ends) ∙ read in
+    let whole : all text ≡ h = last_is_all text (suc (suc (length ws))) (λ l. never_read _ l ends) ∙ read in
     (whole, ap (λ (x : List Lexeme). next text x) whole ∙ ends_behind text h end)
 
 -- Words that stand in a text, free of keys, are read as their tokens.

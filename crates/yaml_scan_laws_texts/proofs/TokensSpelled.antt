@@ -1,6 +1,6 @@
 -- Each tag of a text starts with `!`; the tokens that are handed out are well spelled.
-use Rattle.std.proofs.Common.{◌≡◌, ℕ, zero, suc, ◌+◌, ◌==◌, ◌&&◌, ◌||◌, not, nat_lt, if◌then◌else◌, Bool, true, false, List, [], ◌∷◌, Option, Some, None, Result, Ok, Err, refl, sym, subst, inl, inr}
-use Rattle.yaml_scan_laws_texts.proofs.Words.{cases_Bool, eqb-true, byte, mark_at, column_at, is_blank_or_end, Wrong, gap_at, is_document_start, is_document_end, starts_plain, is_end, placed, depth, key_allowed, candidate, fresh, indicator_of, or_plain, kind_at, WordText, word_at, Next, Read, Fails, Ends, begun, finished, allowed_behind, misplaced, missed, lost_by, next, extended, history, no_colon, tested, unless_wrong, unless_lost, of_kind, unless_missed, stepwise, placed_index, Token, SpelledText, body_of_word, body_by, remaining, IsSpelled, AreSpelled}
+use Rattle.std.proofs.Common.{ℕ, zero, suc, nat_lt, Bool, List, [], ◌∷◌, Option, Some, None, Result, Ok, Err, sym, subst, inl, inr}
+use Rattle.yaml_scan_laws_texts.proofs.Words.{cases_Bool, mark_at, Wrong, gap_at, is_end, placed, depth, key_allowed, candidate, fresh, kind_at, WordText, word_at, Next, Read, Fails, Ends, begun, finished, allowed_behind, misplaced, missed, lost_by, next, extended, history, no_colon, tested, unless_wrong, unless_lost, of_kind, unless_missed, stepwise, placed_index, Token, SpelledText, body_of_word, body_by, remaining, IsSpelled, AreSpelled}
 use Rattle.yaml_scan_laws_order.specs.scan_model.declared.yaml_mark_t.{yaml_mark_t}
 use Rattle.yaml_scan_words.specs.Between.{Gap}
 use Rattle.yaml_scan_laws_order.specs.scan_history.declared.Kind.{Kind}
@@ -8,55 +8,19 @@ use Rattle.yaml_scan_laws_order.specs.scan_history.declared.Kind.TheVariants as 
 use Rattle.yaml_scan_laws_order.specs.scan_history.declared.Lexeme.{Lexeme}
 use Rattle.yaml_scan_laws_texts.proofs.NamesWords.{Marked, HasWord, word_spelled}
 use Rattle.yaml_scan_laws_texts.proofs.Throughout.{Carry, Say, remaining_says}
+use Rattle.yaml_scan_laws_order.proofs.WordForward.{Tells, OfAny, kind_is}
 
 -- Kinds.
 
 abbrev MarkedAny : Option Kind → List ℕ → ℕ → Type 0
-MarkedAny None text p = Unit {0}
-MarkedAny (Some k) text p = Marked k text p
-
-pick : (text : List ℕ) (p : ℕ) (test : Bool) (k : Kind) (rest : Option Kind)
-    → (test ≡ true → Marked k text p) → MarkedAny rest text p
-    → MarkedAny (if test then Some k else rest) text p
-pick text p true k rest f g = f refl
-pick text p false k rest f g = g
-
-indicator_marked : (flow alone : Bool) (text : List ℕ) (p : ℕ)
-    → MarkedAny (indicator_of flow alone (byte text p)) text p
-unfolding indicator_of
-indicator_marked flow alone text p =
-    let b = byte text p in
-    pick text p (b == 91) kinds.FlowSequenceStart _ (λ h. tt)
-    (pick text p (b == 123) kinds.FlowMappingStart _ (λ h. tt)
-    (pick text p (b == 93) kinds.FlowSequenceEnd _ (λ h. tt)
-    (pick text p (b == 125) kinds.FlowMappingEnd _ (λ h. tt)
-    (pick text p (b == 44) kinds.FlowEntry _ (λ h. tt)
-    (pick text p (b == 45 && alone) kinds.BlockEntry _ (λ h. tt)
-    (pick text p (b == 63 && (flow || alone)) kinds.KeyMark _ (λ h. tt)
-    (pick text p (b == 58 && (flow || alone)) kinds.ValueMark _ (λ h. tt)
-    (pick text p (b == 42) kinds.Alias _ (λ h. tt)
-    (pick text p (b == 38) kinds.Anchor _ (λ h. tt)
-    (pick text p (b == 33) kinds.Tag _ (eqb-true b 33)
-    (pick text p (b == 124 && not flow) kinds.Literal _ (λ h. tt)
-    (pick text p (b == 62 && not flow) kinds.Folded _ (λ h. tt)
-    (pick text p (b == 39) kinds.SingleQuoted _ (λ h. tt)
-    (pick text p (b == 34) kinds.DoubleQuoted None (λ h. tt) tt))))))))))))))
-
-plain_marked : (o : Option Kind) (starts : Bool) (text : List ℕ) (p : ℕ) → MarkedAny o text p
-    → MarkedAny (or_plain o starts) text p
-plain_marked (Some k) starts text p m = m
-plain_marked None true text p m = tt
-plain_marked None false text p m = tt
+MarkedAny o text p = OfAny (λ k. Marked k text p) o
 
 kind_marked : (flow : Bool) (text : List ℕ) (p : ℕ) → MarkedAny (kind_at flow text p) text p
-unfolding kind_at
-kind_marked flow text p =
-    let alone = is_blank_or_end text (p + 1) in
-    pick text p (byte text p == 0) kinds.StreamEnd _ (λ h. tt)
-    (pick text p (byte text p == 37 && column_at text p == 0) kinds.Directive _ (λ h. tt)
-    (pick text p (is_document_start text p) kinds.DocumentStart _ (λ h. tt)
-    (pick text p (is_document_end text p) kinds.DocumentEnd _ (λ h. tt)
-    (plain_marked (indicator_of flow alone (byte text p)) (starts_plain flow text p) text p (indicator_marked flow alone text p)))))
+kind_marked flow text p = kind_is (λ k. Marked k text p) flow text p (marked text p)
+  where
+    marked : (text : List ℕ) (p : ℕ) (k : Kind) → Tells text p k → Marked k text p
+    marked text p kinds.Tag h = h
+    marked text p _ h = tt
 
 -- Lexemes.
 

@@ -1,6 +1,6 @@
 -- A mark of documents is read outside of all levels; where the front ends, the whole goes on with the rest's mark.
-use Rattle.std.proofs.Common.{◌≡◌, ℕ, ◌+◌, ◌&&◌, nat_lt, nat_le, if◌then◌else◌, Bool, true, false, not, List, [], ◌∷◌, filter, Option, Some, None, refl, ap, ◌∙◌, inl, inr, arith, add-zero, suc, ◌≤◌, ◌==◌, ◌||◌, ◌++◌, length, sym, subst, ◌⊎◌}
-use Rattle.yaml_scan_laws_texts.proofs.Shared.{cases_Bool, nat_tests, TokenBody, column_at, mark_at, Kind, Lexeme, depth_after, may_be_key, cancels, is_value, is_start, is_outside, is_end, allows_key, depth, in_flow, Candidate, candidate, fresh, found_by, margin_at, indent, left_by, opens_at, levels, carrying, word_at, SpelledText, body_by, Read, gap_behind, place_behind, allowed_behind, begun_behind, word_behind, lexeme_behind, lost_by, stale_before, indicator_misplaced, candidate_lost, text_wrong, stale_after, coming, cases_lt, and_parts, eqb-true, true≢false, and-false, yaml_mark_t, byte, is_blank_or_end, is_document_indicator, is_document_start, is_document_end, starts_plain, reached, key_allowed, placed, indicator_of, or_plain, kind_at, kind_behind, colon_missing_of, start_line, gap_place, IsCut, moved_mark, none-some}
+use Rattle.std.proofs.Common.{◌≡◌, ℕ, ◌+◌, ◌&&◌, nat_lt, nat_le, if◌then◌else◌, Bool, true, false, not, List, [], ◌∷◌, filter, Option, Some, None, refl, ap, ◌∙◌, inl, inr, arith, add-zero, suc, ◌≤◌, ◌==◌, ◌||◌, ◌++◌, length, sym, ◌⊎◌}
+use Rattle.yaml_scan_laws_texts.proofs.Shared.{cases_Bool, nat_tests, TokenBody, column_at, mark_at, Kind, Lexeme, depth_after, may_be_key, cancels, is_value, is_start, is_outside, is_end, allows_key, depth, in_flow, Candidate, candidate, fresh, found_by, margin_at, indent, left_by, opens_at, levels, carrying, word_at, SpelledText, body_by, Read, gap_behind, place_behind, allowed_behind, begun_behind, word_behind, lexeme_behind, lost_by, stale_before, indicator_misplaced, candidate_lost, text_wrong, stale_after, coming, cases_lt, and_parts, eqb-true, true≢false, and-false, yaml_mark_t, byte, is_blank_or_end, is_document_indicator, is_document_start, is_document_end, reached, key_allowed, placed, kind_at, kind_behind, colon_missing_of, start_line, gap_place, IsCut, moved_mark, none-some}
 use Rattle.std.proofs.lemmas.List.Elements.{filter-append}
 use Rattle.yaml_scan_history.specs.scan_model.Tokens as tokens
 use Rattle.yaml_scan_history.specs.declared.kind.Kind.TheVariants as kinds
@@ -8,6 +8,8 @@ use Rattle.yaml_scan_laws_texts.proofs.CutsWords.{kind_alike}
 use Rattle.yaml_scan_laws_texts.proofs.Cutting.{cut_column, front_alike, rest_alike}
 use Rattle.yaml_scan_laws_texts.proofs.Coming.{mark_alike}
 use Rattle.yaml_scan_laws_texts.proofs.Fronts.{mark_zero}
+use Rattle.yaml_scan_laws_texts.specs.Fronts.{IsFree}
+use Rattle.yaml_scan_laws_order.proofs.WordForward.{Tells, kind_told}
 
 -- `---` or `...`
 pub record IsMark (K : Kind) (body : TokenBody) : Type 0 where
@@ -115,11 +117,6 @@ mark_lexeme K text p = record {
   broke = false;
 }
 
--- no candidate is required
-abbrev pub IsFree : Option Candidate → Type 0
-IsFree None = Unit {0}
-IsFree (Some c) = c.lexeme.required ≡ false
-
 pub and_false : (x : Bool) → (x && false) ≡ false
 and_false true = refl
 and_false false = refl
@@ -143,6 +140,7 @@ mark_begun K body m text H p e z =
     let level : left_by K (depth H) (column_at text p) (levels H) ≡ [] = rw (z, m.outside) (none_left H) in
     rw (e, m.end, m.key, and_false (allowed_behind H (gap_behind text H)), level, z) refl
 
+-- what is free is not lost
 pub lost_none : (l : Lexeme) (o : Option Candidate) → IsFree o → lost_by l o ≡ None
 lost_none l None f = refl
 lost_none l (Some c) f = rw f refl
@@ -203,55 +201,14 @@ mark_reads K body m text H p e z stale free =
 
 -- ---- the stream's end stands where the text ends
 
-abbrev NotEnd : Option Kind → Type 0
-NotEnd None = Unit {0}
-NotEnd (Some k) = is_end k ≡ false
-
-pick : (test : Bool) (k : Kind) (rest : Option Kind) → is_end k ≡ false → NotEnd rest
-    → NotEnd (if test then Some k else rest)
-pick true k rest f g = f
-pick false k rest f g = g
-
-indicator_goes : (flow alone : Bool) (b : ℕ) → NotEnd (indicator_of flow alone b)
-unfolding indicator_of
-indicator_goes flow alone b =
-    pick (b == 91) kinds.FlowSequenceStart _ refl
-    (pick (b == 123) kinds.FlowMappingStart _ refl
-    (pick (b == 93) kinds.FlowSequenceEnd _ refl
-    (pick (b == 125) kinds.FlowMappingEnd _ refl
-    (pick (b == 44) kinds.FlowEntry _ refl
-    (pick (b == 45 && alone) kinds.BlockEntry _ refl
-    (pick (b == 63 && (flow || alone)) kinds.KeyMark _ refl
-    (pick (b == 58 && (flow || alone)) kinds.ValueMark _ refl
-    (pick (b == 42) kinds.Alias _ refl
-    (pick (b == 38) kinds.Anchor _ refl
-    (pick (b == 33) kinds.Tag _ refl
-    (pick (b == 124 && not flow) kinds.Literal _ refl
-    (pick (b == 62 && not flow) kinds.Folded _ refl
-    (pick (b == 39) kinds.SingleQuoted _ refl
-    (pick (b == 34) kinds.DoubleQuoted None refl tt))))))))))))))
-
-plain_goes : (o : Option Kind) (starts : Bool) → NotEnd o → NotEnd (or_plain o starts)
-plain_goes (Some k) starts f = f
-plain_goes None true f = refl
-plain_goes None false f = tt
-
-kind_goes : (flow : Bool) (t : List ℕ) (p : ℕ) → (byte t p == 0) ≡ false → NotEnd (kind_at flow t p)
-unfolding kind_at
-kind_goes flow t p h =
-    rw h (pick (byte t p == 37 && column_at t p == 0) kinds.Directive _ refl
-    (pick (is_document_start t p) kinds.DocumentStart _ refl
-    (pick (is_document_end t p) kinds.DocumentEnd _ refl
-    (plain_goes (indicator_of flow (is_blank_or_end t (p + 1)) (byte t p)) (starts_plain flow t p) (indicator_goes flow (is_blank_or_end t (p + 1)) (byte t p))))))
-
 pub end_byte : (flow : Bool) (t : List ℕ) (p : ℕ) (k : Kind) → kind_at flow t p ≡ Some k
     → is_end k ≡ true
     → byte t p ≡ 0
-end_byte flow t p k e end =
-    elim (cases_Bool (byte t p == 0)) [
-      | inl h ↦ eqb-true _ _ h
-      | inr h ↦ absurd (true≢false (sym end ∙ subst NotEnd e (kind_goes flow t p h)))
-    ]
+end_byte flow t p k e end = by t p k end (kind_told flow t p k e)
+  where
+    by : (t : List ℕ) (p : ℕ) (k : Kind) → is_end k ≡ true → Tells t p k → byte t p ≡ 0
+    by t p kinds.StreamEnd end h = h
+    by t p _ end h = absurd (true≢false (sym end))
 
 pub end_is : (k : Kind) → is_end k ≡ true → k ≡ kinds.StreamEnd
 end_is kinds.StreamEnd h = refl

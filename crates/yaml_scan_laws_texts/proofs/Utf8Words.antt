@@ -1,6 +1,6 @@
 -- What each lexeme carries is UTF-8, but for what escapes spell, and the text may be cut behind it.
-use Rattle.std.proofs.Common.{◌≡◌, ℕ, ◌+◌, ◌<◌, ◌==◌, ◌&&◌, ◌||◌, not, nat_lt, if◌then◌else◌, Bool, true, false, List, length, slice_range, Option, Some, None, Result, Ok, Err, refl, inl, inr, arith, IsUtf8}
-use Rattle.yaml_scan_laws_texts.proofs.Words.{cases_Bool, ltb-true, eqb-true, or_cases, not-false, or_parts, nat_tests, IsUtf8-nil, yaml_scalar_style_t, TokenBody, byte, break_width, column_at, is_blank, is_blank_or_end, Wrong, within, is_document_start, is_document_end, is_name_end, may_end_name, name_between, anchor_at, some_uri_at, uri_at, TagText, bracketed, name_end, with_handle, bare, parts_at, may_end_tag, ValueText, then_at, directive_name_between, handle_between, handle_at, prefix_at, with_prefix, named_value_at, value_at, break_end, line_end_at, with_line, single_quoted_at, double_quoted_at, PlainText, plain_at, starts_plain, BlockText, block_at, style_at, Kind, indicator_of, or_plain, kind_at, WordText, carrying, valued, tagged, body_said, directed, blocked, plainly, word_at, HasTexts}
+use Rattle.std.proofs.Common.{◌≡◌, ℕ, ◌+◌, ◌<◌, ◌==◌, ◌&&◌, ◌||◌, not, nat_lt, Bool, true, false, List, length, slice_range, Option, Result, Ok, Err, inl, inr, arith, IsUtf8}
+use Rattle.yaml_scan_laws_texts.proofs.Words.{cases_Bool, ltb-true, eqb-true, or_cases, not-false, or_parts, nat_tests, IsUtf8-nil, yaml_scalar_style_t, TokenBody, byte, break_width, column_at, is_blank, is_blank_or_end, Wrong, within, is_document_start, is_document_end, is_name_end, may_end_name, name_between, anchor_at, some_uri_at, uri_at, TagText, bracketed, name_end, with_handle, bare, parts_at, may_end_tag, ValueText, then_at, directive_name_between, handle_between, handle_at, prefix_at, with_prefix, named_value_at, value_at, break_end, line_end_at, with_line, single_quoted_at, double_quoted_at, PlainText, plain_at, BlockText, block_at, style_at, Kind, kind_at, WordText, carrying, valued, tagged, body_said, directed, blocked, plainly, word_at, HasTexts}
 use Rattle.yaml_scan_laws_order.specs.scan_model.declared.problem.Context.{Context}
 use Rattle.yaml_scan_laws_order.specs.scan_model.declared.problem.Context.TheVariants as contexts
 use Rattle.yaml_scan_laws_order.specs.scan_model.declared.name.yaml_scalar_style_t.TheVariants as styles
@@ -9,10 +9,11 @@ use Rattle.yaml_scan_words.specs.Tags.{ended}
 use Rattle.yaml_scan_words.specs.Directives.{finished}
 use Rattle.yaml_scan_laws_order.specs.scan_history.declared.kind.Kind.TheVariants as kinds
 use Rattle.yaml_scan_laws_texts.proofs.Whole.{IsWhole, whole_ascii, whole_after, whole_before, whole_behind, blank_small, ascii_utf8, slice_utf8}
-use Rattle.yaml_scan_laws_texts.proofs.Quoted.{HasQuoted, quoted_utf8, is_small, some_of}
+use Rattle.yaml_scan_laws_texts.proofs.Quoted.{HasQuoted, quoted_utf8}
 use Rattle.yaml_scan_laws_texts.proofs.Plain.{HasPlain, plain_utf8}
 use Rattle.yaml_scan_laws_texts.proofs.Block.{HasBlock, block_utf8}
 use Rattle.yaml_scan_laws_texts.proofs.NamesWords.{HasSaid, value_said}
+use Rattle.yaml_scan_laws_order.proofs.WordForward.{Tells, OfAny, kind_is}
 
 -- a blank, a break or the end
 pub end_whole : (text : List ℕ) (p : ℕ) → IsUtf8 text → is_blank_or_end text p ≡ true
@@ -223,46 +224,6 @@ Fits kinds.DocumentEnd text p = byte text (p + 2) < 128
 Fits kinds.Plain text p = p < length text
 Fits _ text p = byte text p < 128
 
-abbrev pub FitsAny : Option Kind → List ℕ → ℕ → Type 0
-FitsAny None text p = Unit {0}
-FitsAny (Some k) text p = Fits k text p
-
-pick : (text : List ℕ) (p : ℕ) (test : Bool) (k : Kind) (rest : Option Kind)
-    → (test ≡ true → Fits k text p) → FitsAny rest text p
-    → FitsAny (if test then Some k else rest) text p
-pick text p true k rest f g = f refl
-pick text p false k rest f g = g
-
-small_with : (b c : ℕ) (other : Bool) → c < 128 → (b == c && other) ≡ true → b < 128
-small_with b c other l h = grind (arith, nat_tests)
-
-indicator_fits : (flow alone : Bool) (text : List ℕ) (p : ℕ)
-    → FitsAny (indicator_of flow alone (byte text p)) text p
-unfolding indicator_of
-indicator_fits flow alone text p =
-    let b = byte text p in
-    pick text p (b == 91) kinds.FlowSequenceStart _ (is_small b 91 (omega arith))
-    (pick text p (b == 123) kinds.FlowMappingStart _ (is_small b 123 (omega arith))
-    (pick text p (b == 93) kinds.FlowSequenceEnd _ (is_small b 93 (omega arith))
-    (pick text p (b == 125) kinds.FlowMappingEnd _ (is_small b 125 (omega arith))
-    (pick text p (b == 44) kinds.FlowEntry _ (is_small b 44 (omega arith))
-    (pick text p (b == 45 && alone) kinds.BlockEntry _ (small_with b 45 alone (omega arith))
-    (pick text p (b == 63 && (flow || alone)) kinds.KeyMark _ (small_with b 63 (flow || alone) (omega arith))
-    (pick text p (b == 58 && (flow || alone)) kinds.ValueMark _ (small_with b 58 (flow || alone) (omega arith))
-    (pick text p (b == 42) kinds.Alias _ (is_small b 42 (omega arith))
-    (pick text p (b == 38) kinds.Anchor _ (is_small b 38 (omega arith))
-    (pick text p (b == 33) kinds.Tag _ (is_small b 33 (omega arith))
-    (pick text p (b == 124 && not flow) kinds.Literal _ (small_with b 124 (not flow) (omega arith))
-    (pick text p (b == 62 && not flow) kinds.Folded _ (small_with b 62 (not flow) (omega arith))
-    (pick text p (b == 39) kinds.SingleQuoted _ (is_small b 39 (omega arith))
-    (pick text p (b == 34) kinds.DoubleQuoted None (is_small b 34 (omega arith)) tt))))))))))))))
-
-plain_fits : (o : Option Kind) (starts : Bool) (text : List ℕ) (p : ℕ) → p < length text
-    → FitsAny o text p → FitsAny (or_plain o starts) text p
-plain_fits (Some k) starts text p l f = f
-plain_fits None true text p l f = l
-plain_fits None false text p l f = tt
-
 third_small : (a b c d x : ℕ) (last : Bool)
     → ((a == 0 && (b == x && (c == x && d == x))) && last) ≡ true → x < 128 → d < 128
 third_small a b c d x last h l = grind (arith, nat_tests)
@@ -275,24 +236,21 @@ end_fits : (text : List ℕ) (p : ℕ) → is_document_end text p ≡ true → b
 unfolding is_document_end
 end_fits text p h = third_small (column_at text p) (byte text p) (byte text (p + 1)) (byte text (p + 2)) 46 (is_blank_or_end text (p + 3)) h (omega arith)
 
+abbrev pub FitsAny : Option Kind → List ℕ → ℕ → Type 0
+FitsAny o text p = OfAny (λ k. Fits k text p) o
+
 -- the kind of what stands there fits
 pub kind_fits : (flow : Bool) (text : List ℕ) (p : ℕ) → FitsAny (kind_at flow text p) text p
-unfolding kind_at
-kind_fits flow text p =
-    elim (cases_Bool (byte text p == 0)) [
-      | inl h ↦ rw h tt
-      | inr h ↦ elim (cases_Bool (byte text p == 37 && column_at text p == 0)) [
-        | inl i ↦ rw (h, i) tt
-        | inr i ↦ elim (cases_Bool (is_document_start text p)) [
-          | inl j ↦ rw (h, i, j) (start_fits text p j)
-          | inr j ↦ elim (cases_Bool (is_document_end text p)) [
-            | inl k ↦ rw (h, i, j, k) (end_fits text p k)
-            | inr k ↦ rw (h, i, j, k) (plain_fits (indicator_of flow (is_blank_or_end text (p + 1)) (byte text p)) (starts_plain flow text p) text p (within text p (some_of (byte text p) h))
-                (indicator_fits flow (is_blank_or_end text (p + 1)) text p))
-          ]
-        ]
-      ]
-    ]
+kind_fits flow text p = kind_is (λ k. Fits k text p) flow text p (fits text p)
+  where
+    fits : (text : List ℕ) (p : ℕ) (k : Kind) → Tells text p k → Fits k text p
+    fits text p kinds.StreamStart h = tt
+    fits text p kinds.StreamEnd h = tt
+    fits text p kinds.Directive h = tt
+    fits text p kinds.DocumentStart h = start_fits text p h
+    fits text p kinds.DocumentEnd h = end_fits text p h
+    fits text p kinds.Plain h = within text p h
+    fits text p _ h = omega (arith, h)
 
 third_whole : (text : List ℕ) (p : ℕ) → IsUtf8 text → byte text (p + 2) < 128 → IsWhole text (p + 3)
 third_whole text p t s = let e : p + 2 + 1 ≡ p + 3 = omega arith in rw e at (whole_after text (p + 2) t s)

@@ -120,6 +120,7 @@ record Parts (text : List ℕ) (p : ℕ) (white gap : List ℕ) : Type 0 where
 pub has_first : (text : List ℕ) (p b : ℕ) (bs : List ℕ) → HasAt text p (b ∷ bs) → byte text p ≡ b
 has_first text p b bs h = let e : p + 0 ≡ p = omega arith in sym (ap (λ (n : ℕ). byte text n) e) ∙ h 0 (omega arith)
 
+-- the bytes behind the first
 pub has_rest : (text : List ℕ) (p b : ℕ) (bs : List ℕ) → HasAt text p (b ∷ bs)
     → HasAt text (p + 1) bs
 has_rest text p b bs h = λ k few. let e : p + suc k ≡ p + 1 + k = omega arith in sym (ap (λ (n : ℕ). byte text n) e) ∙ h (suc k) (omega (arith, few))
@@ -160,14 +161,15 @@ white_is_passed text h p white broken f e there key = record {
 }
 
 -- no white stands where a lexeme begins
-nothing_more : (text : List ℕ) (p : ℕ) (more : List ℕ) → begins_lexeme text p ≡ true
+pub nothing_more : (text : List ℕ) (p : ℕ) (more : List ℕ) → begins_lexeme text p ≡ true
     → IsGap text p more → more ≡ []
 nothing_more text p [] e g = refl
 nothing_more text p (x ∷ more) e g =
     let (here, rest) = and_parts (x == 32 || (x == 10 || x == 13)) (are_gap more) g.blank in
     absurd (no_white text p x (has_first text p x more g.has) here e)
 
-or_none : (a b : Bool) → (a || (false && b)) ≡ a
+-- the first of two where the second fails
+pub or_none : (a b : Bool) → (a || (false && b)) ≡ a
 or_none true b = refl
 or_none false b = refl
 

@@ -5,7 +5,8 @@ use Rattle.yaml_scan_history.specs.declared.kind.Kind.TheVariants as kinds
 use Rattle.yaml_scan_laws_texts.proofs.Turning.{IsMark, mark_lexeme, MarkStands, mark_stands, mark_there, start_stands}
 use Rattle.yaml_scan_laws_texts.proofs.Rests.{rest_base, whole_base, rest_begins, rest_bases, rest_ground, rest_marks, whole}
 use Rattle.yaml_scan_laws_texts.proofs.CutsJoining.{told, offline_told, parted}
-use Rattle.yaml_scan_laws_texts.proofs.Opening.{Begun, begun_by, fault_none}
+use Rattle.yaml_scan_laws_texts.proofs.Opening.{Begun, begun_by}
+use Rattle.yaml_scan_laws_order.proofs.StreamForward.{fault_none}
 
 -- ---- the tokens where the rest begins
 

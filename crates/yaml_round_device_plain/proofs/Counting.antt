@@ -1,5 +1,5 @@
 -- Counts that stop.
-use Rattle.std.proofs.Common.{◌≡◌, ℕ, ◌+◌, ◌-◌, ◌^◌, ◌≤◌, ◌<◌, min, max, arith}
+use Rattle.std.proofs.Common.{◌≡◌, ℕ, ◌+◌, ◌-◌, ◌^◌, min, max, arith}
 use Rattle.yaml_round_device_plain.specs.Counts.{counted}
 
 none : (m g : ℕ) → g ≡ max g (min (g + 0) m)
@@ -9,14 +9,8 @@ more : (m g a b : ℕ)
     → max (max g (min (g + a) m)) (min (max g (min (g + a) m) + b) m) ≡ max g (min (g + (a + b)) m)
 more m g a b = omega arith
 
-fits : (m g n : ℕ) → g ≤ m → min (g + n) m ≡ max g (min (g + n) m)
-fits m g n h = omega arith
-
 pub counted_none : (g : ℕ) → g ≡ counted g 0
 counted_none g = none (2 ^ 64 - 1) g
 
 pub counted_more : (g a b : ℕ) → counted (counted g a) b ≡ counted g (a + b)
 counted_more g a b = more (2 ^ 64 - 1) g a b
-
-pub counted_fits : (g n : ℕ) → g < 2 ^ 64 → min (g + n) (2 ^ 64 - 1) ≡ counted g n
-counted_fits g n h = fits (2 ^ 64 - 1) g n (omega (arith, h))

@@ -15,6 +15,7 @@ use Rattle.yaml_parse_laws_windows.proofs.Grounding.{Within, Stands}
 use Rattle.yaml_parse_laws_windows.proofs.Noting.{with_event, then_through, through, Fine, stands_feed}
 use Rattle.yaml_parse_laws_windows.proofs.Parting.{end_at, start_at, begun, Ended, parts}
 use Rattle.yaml_parse_laws_windows.proofs.Following.{items_of, Plain, told_by, plain, plain_through, read_of, went, halted, parse_plain, body_at}
+use Rattle.yaml_parse_laws_windows.proofs.Beginning.{nothing_more}
 
 -- ---- a stack at the stream's end and at a document's start
 
@@ -111,10 +112,6 @@ same_front (i ∷ is) ds js ks f g h = by (settle i ds) refl (λ z k. same_front
 
 -- ---- tokens
 
-nothing_there : items_of (run [] [] None).items ≡ []
-unfolding run feed
-nothing_there = refl
-
 over_none : (run [] [] None).ending ≡ None
 unfolding run feed
 over_none = refl
@@ -141,7 +138,7 @@ at_end s ds g m e n behind own f ends other =
         let Doc = item_at (item.document false) m n in
         let B = run behind (begun n) own in
         let here = went (end_at m e) [] s [] None (r.left ++ End ∷ []) ds r.ends
-        ∙ ap (λ y. plain ((r.left ++ End ∷ []) ++ y) (run [] [] None).ending ds) nothing_there
+        ∙ ap (λ y. plain ((r.left ++ End ∷ []) ++ y) (run [] [] None).ending ds) nothing_more
         ∙ ap (λ y. plain ((r.left ++ End ∷ []) ++ []) y ds) over_none
         ∙ ap (λ y. plain y None ds) (append_assoc r.left (End ∷ []) []) in
         let there = went (start_at m n) behind s (begun n) own (r.left ++ Doc ∷ []) ds r.starts

@@ -1,6 +1,6 @@
 -- Trees from the bodies of tokens.
 use Rattle.std.proofs.Common.{◌≡◌, true, false, List, [], ◌∷◌, None, Bool, refl, sym, ap, ◌∙◌, subst}
-use Rattle.yaml_round_laws_inputs.proofs.JsonWords.{Token, TokenBody, node_event, no_directives, gave, settle, Reading, reading, Scalar, Node, alias_node, scalar_node, sequence_node, mapping_node, Nodes, no_nodes, node, Pairs, Document, json_bodies, json_items, json_pairs, start_bodies, stop_bodies, document_bodies, comma_bodies, token_bodies, Grown, event_bodies, SaysTree, parsed_of, EventBody, adapted, without_fault}
+use Rattle.yaml_round_laws_inputs.proofs.JsonWords.{Token, TokenBody, node_event, no_directives, gave, settle, Reading, reading, Scalar, Node, alias_node, scalar_node, sequence_node, mapping_node, Nodes, no_nodes, node, Pairs, Document, json_bodies, json_items, json_pairs, start_bodies, stop_bodies, document_bodies, token_bodies, Grown, event_bodies, parsed_of, adapted, without_fault}
 use Rattle.yaml_round_laws_documents.specs.parse_grammar.parse_model.Tokens as token
 use Rattle.yaml_round_laws_documents.specs.parse_grammar.parse_model.Events as event
 use Rattle.yaml_round_laws_documents.specs.parse_grammar.declared.name.Wants.{Wants}
@@ -20,6 +20,8 @@ use Rattle.yaml_round_laws_documents.specs.parse_grammar.Remaining.{reading_of}
 use Rattle.yaml_round_laws_documents.proofs.CompleteStream.{stream_runs}
 use Rattle.yaml_round_laws_documents.proofs.Documents.{item_says, no_spans, ends_say}
 use Rattle.yaml_round_laws_documents.proofs.Passing.{Spell, passes}
+use Rattle.yaml_round_laws_documents.proofs.PrettyDocuments.{Ends, ends_by}
+use Rattle.yaml_round_laws_documents.proofs.PrettyPassing.{comma_spells, start_spells}
 
 abbrev NodeGrows : Node → Type 0
 NodeGrows n = (w : Wants) (ts : List Token) (bs : List TokenBody) → token_bodies ts ≡ json_bodies n bs → Grown w [] (json_reads n) ts bs
@@ -124,16 +126,6 @@ stream_ends last rest = (refl, refl)
 abbrev pub Parsed : yaml_encoding_t → Document → List Token → Type 0
 Parsed x d ts = (event_bodies (parsed_of ts) ≡ event.stream_start x ∷ document_reads d) × ((parsed_of ts).ending ≡ None)
 
--- events in front of others, by the readings of what is left
-record Ends (r : Reading) (bs : List EventBody) : Type 0 where
-  events : event_bodies r ≡ bs
-  ending : r.ending ≡ None
-
-ends_by : (R : List EventBody → List EventBody) (r q : Reading) (bs : List EventBody)
-    → SaysTree R r q
-    → Ends q bs → Ends r (R bs)
-ends_by R r q bs s e = record { events = s.events ∙ ap (λ (x : List EventBody). R x) e.events; ending = s.ending ∙ e.ending }
-
 parsed_by : (x : yaml_encoding_t) (d : Document) (s : trees.Stream) (rest : List Token)
     (ts : List Token) → ts ≡ trees.spell s rest
     → Ends (reading (items s rest) None no_directives) (event.stream_start x ∷ document_reads d)
@@ -223,10 +215,6 @@ tokens_parsed x d ts e = started d.opening.implicit x d refl ts e
 
 -- ==== The bodies of documents shaped as JSON spell texts.
 
-comma_spells : (fresh : Bool) (bs : List TokenBody) → Spell bs → Spell (comma_bodies fresh bs)
-comma_spells true bs s = s
-comma_spells false bs s = (refl, s)
-
 mutual
   unfolding json_bodies json_items json_pairs
 
@@ -247,10 +235,6 @@ mutual
       let behind = json_pairs false ps bs in
       let value = json_bodies v behind in
       comma_spells fresh (token.key ∷ json_bodies k (token.value ∷ value)) (refl, node_spells k (token.value ∷ value) (refl, node_spells v behind (pairs_spell false ps bs s)))
-
-start_spells : (implicit : Bool) (bs : List TokenBody) → Spell bs → Spell (start_bodies implicit bs)
-start_spells true bs s = s
-start_spells false bs s = (refl, s)
 
 stop_spells : (implicit : Bool) (bs : List TokenBody) → Spell bs → Spell (stop_bodies implicit bs)
 stop_spells true bs s = s

@@ -1,9 +1,11 @@
 -- Indicators, and the blanks behind those of blocks, take a character each.
-use Rattle.std.proofs.Common.{◌≡◌, ℕ, zero, suc, ◌+◌, ◌<◌, ◌≤◌, Bool, true, false, not, ◌&&◌, ◌||◌, ◌==◌, nat_lt, if◌then◌else◌, List, [], ◌∷◌, Option, Some, None, refl, sym, ap, subst, ◌∙◌, arith, inl, inr, le_refl}
+use Rattle.std.proofs.Common.{◌≡◌, ℕ, zero, suc, ◌+◌, ◌≤◌, Bool, true, false, not, ◌&&◌, ◌||◌, ◌==◌, nat_lt, if◌then◌else◌, List, [], ◌∷◌, Option, Some, None, refl, sym, ap, subst, ◌∙◌, arith, inl, inr, le_refl}
 use Rattle.yaml_round_laws_inputs.proofs.SizesWords.{cases_Bool, ltb-false, ne_eqb, or_parts, byte, starts, column_at, break_of, is_blank_or_end, starts_plain, Kind, Lexeme, is_end, kind_at, indicator_of, or_plain}
 use Rattle.yaml_scan_history.specs.scan_words.Indicators.{is_thrice, is_document_start, is_document_end}
 use Rattle.yaml_scan_history.specs.declared.kind.Kind.TheVariants as kinds
 use Rattle.yaml_round_laws_inputs.proofs.Leads.{one_if, one_most}
+use Rattle.yaml_scan_laws_order.proofs.WordForward.{Tells, kind_told}
+use Rattle.yaml_scan_history.proofs.Rules.{and_not as not_and}
 
 -- an indicator of levels
 abbrev pub own : Kind → ℕ
@@ -37,10 +39,6 @@ worths (l ∷ h) = worth l + worths h
 
 -- ---- where an indicator stands a character begins
 
-abbrev own_of : Option Kind → ℕ
-own_of None = 0
-own_of (Some k) = own k
-
 none_if : (f : Option Kind → ℕ) (b : Bool) (x y : Option Kind) → f x ≡ 0 → f y ≡ 0
     → f (if b then x else y) ≡ 0
 none_if f true x y g h = g
@@ -53,45 +51,22 @@ else_if f b x y e h = rw e h
 and_not : (a b : Bool) → a ≡ false → (a && b) ≡ false
 and_not a b e = rw e refl
 
-not_and : (a b : Bool) → b ≡ false → (a && b) ≡ false
-not_and true b e = e
-not_and false b e = refl
-
 or_none : (f : Option Kind → ℕ) (o : Option Kind) (s : Bool) → f o ≡ 0 → f None ≡ 0
     → f (Some kinds.Plain) ≡ 0 → f (or_plain o s) ≡ 0
 or_none f (Some k) s a b c = a
 or_none f None true a b c = c
 or_none f None false a b c = b
 
-far_byte : (b n : ℕ) → n < 128 → 128 ≤ b → (b == n) ≡ false
-far_byte b n s f = ne_eqb b n (λ e. absurd (omega (arith, e)))
-
-far_indicator : (flow alone : Bool) (b : ℕ) → 128 ≤ b → own_of (indicator_of flow alone b) ≡ 0
-unfolding indicator_of
-far_indicator flow alone b f =
-    let o = own_of in
-    else_if o (b == 91) _ _ (far_byte b 91 (omega arith) f)
-    (else_if o (b == 123) _ _ (far_byte b 123 (omega arith) f)
-    (else_if o (b == 93) _ _ (far_byte b 93 (omega arith) f)
-    (else_if o (b == 125) _ _ (far_byte b 125 (omega arith) f)
-    (none_if o (b == 44) _ _ refl
-    (else_if o (b == 45 && alone) _ _ (and_not (b == 45) alone (far_byte b 45 (omega arith) f))
-    (else_if o (b == 63 && (flow || alone)) _ _ (and_not (b == 63) (flow || alone) (far_byte b 63 (omega arith) f))
-    (else_if o (b == 58 && (flow || alone)) _ _ (and_not (b == 58) (flow || alone) (far_byte b 58 (omega arith) f))
-    (none_if o (b == 42) _ _ refl (none_if o (b == 38) _ _ refl (none_if o (b == 33) _ _ refl (none_if o (b == 124 && not flow) _ _ refl
-    (none_if o (b == 62 && not flow) _ _ refl (none_if o (b == 39) _ _ refl (none_if o (b == 34) _ _ refl refl))))))))))))))
-
-far_kind : (flow : Bool) (text : List ℕ) (p : ℕ) → 128 ≤ byte text p
-    → own_of (kind_at flow text p) ≡ 0
-unfolding kind_at
-far_kind flow text p f =
-    let o = own_of in
-    none_if o (byte text p == 0) _ _ refl
-    (none_if o (byte text p == 37 && column_at text p == 0) _ _ refl
-    (none_if o (is_document_start text p) _ _ refl
-    (none_if o (is_document_end text p) _ _ refl
-    (or_none o (indicator_of flow (is_blank_or_end text (p + 1)) (byte text p)) (starts_plain flow text p)
-    (far_indicator flow (is_blank_or_end text (p + 1)) (byte text p) f) refl refl))))
+-- none of them begins no character
+far : (text : List ℕ) (p : ℕ) (k : Kind) → Tells text p k → 128 ≤ byte text p → own k ≡ 0
+far text p kinds.FlowSequenceStart h f = absurd (omega (arith, h, f))
+far text p kinds.FlowMappingStart h f = absurd (omega (arith, h, f))
+far text p kinds.FlowSequenceEnd h f = absurd (omega (arith, h, f))
+far text p kinds.FlowMappingEnd h f = absurd (omega (arith, h, f))
+far text p kinds.BlockEntry h f = absurd (omega (arith, h, f))
+far text p kinds.KeyMark h f = absurd (omega (arith, h, f))
+far text p kinds.ValueMark h f = absurd (omega (arith, h, f))
+far text p _ h f = refl
 
 -- as many characters begin there as it counts
 own_least : (k : Kind) → own k ≤ 1
@@ -111,7 +86,7 @@ begins flow text p k e =
       | inl s ↦ rw s (own_least k)
       | inr s ↦
           let f : 128 ≤ byte text p = ltb-false (byte text p) 128 s in
-          let n : own k ≡ 0 = ap own_of (sym e) ∙ far_kind flow text p f in
+          let n : own k ≡ 0 = far text p k (kind_told flow text p k e) f in
           omega (arith, n)
     ]
 

@@ -15,6 +15,7 @@ use Rattle.yaml_round_content.specs.parse_grammar.declared.Wants.{Wants}
 use Rattle.yaml_round_content.specs.parse_grammar.declared.Wants.TheVariants.{Flow, Block}
 use Rattle.yaml_round_content.specs.parse_grammar.Items as item
 use Rattle.yaml_round_content.specs.parse_grammar.States as state
+use Rattle.yaml_scan_laws_texts.proofs.Coming.{moved_option}
 
 abbrev pub moved_tag : ℕ → ℕ → Option Tag → Option Tag
 moved_tag d n None = None
@@ -152,12 +153,8 @@ taken_moved d n _ t = refl
 
 -- ---- what is chosen, and what is left
 
-abbrev moved_opener : ℕ → ℕ → Option yaml_mark_t → Option yaml_mark_t
-moved_opener d n None = None
-moved_opener d n (Some m) = Some (moved_mark d n m)
-
 abbrev moved_choice : ℕ → ℕ → Choice → Choice
-moved_choice d n (Refuse p o) = Refuse p (moved_opener d n o)
+moved_choice d n (Refuse p o) = Refuse p (moved_option d n o)
 moved_choice d n e = e
 
 joins_moved : (d n : ℕ) (p : Properties) (k : yaml_token_type_t) → joins (moved_properties d n p) k
@@ -256,7 +253,7 @@ fault_moved d n p m c = record {
 }
 
 context_moved : (d n : ℕ) (o : Option yaml_mark_t) (m : yaml_mark_t)
-    → context_of (moved_opener d n o) (moved_mark d n m) ≡ moved_mark d n (context_of o m)
+    → context_of (moved_option d n o) (moved_mark d n m) ≡ moved_mark d n (context_of o m)
 context_moved d n None m = refl
 context_moved d n (Some c) m = refl
 

@@ -1,118 +1,25 @@
 -- The white behind a plain scalar, with tabs, where no level is open, and the end that it comes before.
-use Rattle.std.proofs.Common.{◌≡◌, ◌≢◌, ℕ, zero, suc, ◌+◌, ◌<◌, ◌≤◌, ◌==◌, ◌&&◌, nat_lt, Bool, true, false, List, [], ◌∷◌, length, Result, Ok, refl, sym, ap, subst, ◌∙◌, inl, inr, arith, ◌-◌, ne_eqb, ◌||◌, ◌++◌, Some, None, ◌⊎◌, add-zero}
-use Rattle.yaml_round_laws_inputs.proofs.JsonWords.{true≢false, cases_Bool, and_parts, or_cases, or_left, or_right, nat_tests, byte, break_of, break_width, column_at, is_blank, ends_of, ends_break, starts, is_blank_or_end, Wrong, Has, leads, PlainSpot, Ends, Takes, spot_at, ends_at, Words, words_from, follows, words, is_bracket, is_indicator_byte, starts_plain, after_white, with_piece, PlainText, plain_with, plain_text, plain_at, is_white, are_white, has_break, cr_width, is_letter_or_digit, is_value_byte, first, begins_value, is_plain_value, list_all, and-false, begins_lexeme, is_document_start, is_document_end, indicator_of, kind_at}
-use Rattle.yaml_scan_history.specs.scan_model.Breaks.{feed_at, is_document_indicator}
-use Rattle.yaml_scan_history.proofs.RunsLemmas.{space_parts}
-use Rattle.yaml_scan_history.specs.scan_scalars.Pieces.{Blank, Break, Kept, Piece, Lines, lines, split_one, text as line_text, folded}
-use Rattle.yaml_scan_history.proofs.PlainLemmas.{spot_break, spot_blank, spot_ends, leads-text, spot_kept}
-use Rattle.yaml_round_laws_inputs.proofs.Whites.{byte_cases, lf_width, crlf_width}
+use Rattle.std.proofs.Common.{◌≡◌, ◌≢◌, ℕ, zero, suc, ◌+◌, ◌<◌, ◌≤◌, ◌==◌, ◌&&◌, Bool, true, false, List, [], ◌∷◌, length, Result, Ok, refl, sym, ap, subst, ◌∙◌, inl, inr, arith, ne_eqb, ◌||◌, ◌++◌, Some, None, ◌⊎◌, add-zero}
+use Rattle.yaml_round_laws_inputs.proofs.JsonWords.{and_parts, or_cases, or_left, or_right, nat_tests, byte, break_of, break_width, column_at, is_blank, ends_of, ends_break, starts, is_blank_or_end, Wrong, Has, leads, Takes, spot_at, ends_at, Words, words_from, follows, words, is_bracket, is_indicator_byte, starts_plain, after_white, with_piece, PlainText, plain_with, plain_text, plain_at, is_white, are_white, has_break, is_letter_or_digit, is_value_byte, first, begins_value, is_plain_value, list_all, and-false, begins_lexeme, is_document_start, is_document_end, indicator_of, kind_at}
+use Rattle.yaml_scan_history.specs.scan_model.Breaks.{is_document_indicator}
+use Rattle.yaml_scan_history.specs.scan_scalars.Pieces.{Kept, Piece, Lines, lines, split_one, text as line_text, folded}
+use Rattle.yaml_scan_history.proofs.PlainLemmas.{leads-text, spot_kept}
+use Rattle.yaml_round_laws_inputs.proofs.Whites.{byte_cases}
 use Rattle.yaml_scan_history.proofs.MarksLemmas.{no_break_between, column_more, within}
 use Rattle.yaml_scan_history.specs.declared.kind.Kind.TheVariants as kinds
-use Rattle.yaml_emit_laws_pretty.proofs.Standing.{none_to}
+use Rattle.yaml_emit_laws_pretty.proofs.Standing.{none_to, Stops, IsWhite, AreWhite, white_words}
 
--- what holds where a plain scalar ends
-pub record Stops (flow : Bool) (text : List ℕ) (p : ℕ) : Type 0 where
-  pub blank : is_blank (byte text p) ≡ false
-  pub width : break_width text p ≡ 0
-  pub ends : ends_at flow 0 text p ≡ true
-
-step : (n : ℕ) (flow : Bool) (text : List ℕ) (p : ℕ) (s : PlainSpot) → spot_at flow 0 text p ≡ s
-    → words (suc n) flow 0 text p ≡ follows (words n flow 0 text) p s
-unfolding words
-step n flow text p s h = ap (λ x. follows (words n flow 0 text) p x) h
-
--- at a level of 0 no tab indents
-no_tab : (b c : ℕ) (x : Bool) → (b == 9 && (x && nat_lt c 0)) ≡ false
-no_tab b c x = grind (arith, nat_tests)
-
-blank_by : (b : ℕ) → (b ≡ 32) → is_blank b ≡ true
-blank_by b h = grind (arith, nat_tests)
-
-blank_tab : (b : ℕ) → (b ≡ 9) → is_blank b ≡ true
-blank_tab b h = grind (arith, nat_tests)
-
-tab_width : (b c d : ℕ) → b ≡ 9 → break_of b c d ≡ 0
-unfolding break_of
-tab_width b c d h = rw h refl
-
-with_blank : (n : ℕ) (flow : Bool) (text : List ℕ) (p e : ℕ) (broke : Bool) → break_width text p ≡ 0
-    → is_blank (byte text p) ≡ true → words n flow 0 text (p + 1) ≡ Ok (none_to e broke)
-    → words (suc n) flow 0 text p ≡ Ok (none_to e broke)
-with_blank n flow text p e broke none blank rest =
-    step n flow text p (Takes (Blank (byte text p)) (p + 1)) (spot_blank flow 0 text p none blank (no_tab (byte text p) (column_at text p) (leads text p)))
-    ∙ ap (λ (r : Result Words Wrong). words_from (Blank (byte text p)) (p + 1) r) rest
-
-with_width : (n : ℕ) (flow : Bool) (text : List ℕ) (p w e : ℕ) (broke : Bool)
-    → break_width text p ≡ suc w → words n flow 0 text (p + suc w) ≡ Ok (none_to e broke)
-    → words (suc n) flow 0 text p ≡ Ok (none_to e true)
-with_width n flow text p w e broke h rest =
-    let some : 0 < break_width text p = omega (arith, h) in
-    let q = p + break_width text p in
-    let more : words n flow 0 text q ≡ Ok (none_to e broke) = ap (λ k. words n flow 0 text (p + k)) h ∙ rest in
-    step n flow text p (Takes (Break (feed_at text p)) q) (spot_break flow 0 text p some) ∙ ap (λ (r : Result Words Wrong). words_from (Break (feed_at text p)) q r) more
-
--- white of at most k bytes is taken
-abbrev Reads : ℕ → Type 0
-Reads k = (n : ℕ) (flow : Bool) (text : List ℕ) (p : ℕ) (gap : List ℕ) → length gap ≤ k → length gap < n → Has text p gap → are_white gap ≡ true → Stops flow text (p + length gap)
-    → words n flow 0 text p ≡ Ok (none_to (p + length gap) (has_break gap))
-
-single : (k : ℕ) → Reads k → (n : ℕ) (flow : Bool) (text : List ℕ) (p : ℕ) (bs : List ℕ)
-    → length bs ≤ k → length bs < n → break_width text p ≡ 1 → Has text (p + 1) bs
-    → are_white bs ≡ true
-    → Stops flow text (p + 1 + length bs)
-    → words (suc n) flow 0 text p ≡ Ok (none_to (p + 1 + length bs) true)
-single k all n flow text p bs few room width h are stop =
-    with_width n flow text p 0 (p + 1 + length bs) (has_break bs) width (all n flow text (p + 1) bs few room h are stop)
-
-returns : (k : ℕ) → Reads k → (n : ℕ) (flow : Bool) (text : List ℕ) (p : ℕ) (bs : List ℕ)
-    → length bs ≤ k → length bs < n → byte text p ≡ 13 → Has text (p + 1) bs → are_white bs ≡ true
-    → Stops flow text (p + 1 + length bs)
-    → words (suc n) flow 0 text p ≡ Ok (none_to (p + 1 + length bs) true)
-unfolding break_of
-returns k all n flow text p [] few room e h are stop =
-    let z : p + 1 + 0 ≡ p + 1 = omega arith in
-    let here = subst (λ q. Stops flow text q) z stop in
-    let width : break_width text p ≡ 1 = rw e (cr_width (byte text (p + 1)) (byte text (p + 2)) (grind (arith, nat_tests))) in
-    single k all n flow text p [] few room width h are stop
-returns k all n flow text p (c ∷ cs) few room e (f, h) are stop =
-    let (front, back) = and_parts (is_white c) (are_white cs) are in
-    let two : p + 1 + 1 ≡ p + 2 = omega arith in
-    let far : Has text (p + 2) cs = rw two at h in
-    let end : p + 1 + suc (length cs) ≡ p + 2 + length cs = omega arith in
-    elim (cases_Bool (c == 10)) [
-      | inl s ↦
-          let feed : c ≡ 10 = grind (arith, nat_tests) in
-          let width : break_width text p ≡ 2 = rw (e, f, feed) (crlf_width (byte text (p + 2))) in
-          let after = subst (λ q. Stops flow text q) end stop in
-          rw end (with_width n flow text p 1 (p + 2 + length cs) (has_break cs) width (all n flow text (p + 2) cs (omega (arith, few)) (omega (arith, room)) far back after))
-      | inr s ↦
-          let other : c ≢ 10 = λ x. true≢false (sym (ap (λ (b : ℕ). b == 10) x) ∙ s) in
-          let width : break_width text p ≡ 1 = rw e (cr_width (byte text (p + 1)) (byte text (p + 2)) (λ x. other (sym f ∙ x))) in
-          single k all n flow text p (c ∷ cs) few room width (f, h) are stop
-    ]
-
-reads : (k : ℕ) → Reads k
-reads k zero flow text p gap few room h are stop = absurd (omega (arith, room))
-reads k (suc n) flow text p [] few room h are stop =
-    let z : p + 0 ≡ p = omega arith in
-    let here = subst (λ q. Stops flow text q) z stop in
-    rw z (step n flow text p Ends (spot_ends flow 0 text p here.width here.blank here.ends))
-reads zero (suc n) flow text p (b ∷ bs) few room h are stop = absurd (omega (arith, few))
-reads (suc k) (suc n) flow text p (b ∷ bs) few room (e, h) are stop =
-    let (front, back) = and_parts (is_white b) (are_white bs) are in
-    let end : p + suc (length bs) ≡ p + 1 + length bs = omega arith in
-    let after = subst (λ q. Stops flow text q) end stop in
-    let more = reads k n flow text (p + 1) bs (omega (arith, few)) (omega (arith, room)) h back after in
-    elim (byte_cases b front) [
-      | inl s ↦
-          let parts = space_parts (byte text p) (byte text (p + 1)) (byte text (p + 2)) (e ∙ s) in
-          rw (s, end) (with_blank n flow text p (p + 1 + length bs) (has_break bs) parts.1 (blank_by (byte text p) (e ∙ s)) more)
-      | inr (inl s) ↦ rw (s, end) (with_blank n flow text p (p + 1 + length bs) (has_break bs) (tab_width (byte text p) (byte text (p + 1)) (byte text (p + 2)) (e ∙ s)) (blank_tab (byte text p) (e ∙ s)) more)
-      | inr (inr (inl s)) ↦
-          let width : break_width text p ≡ 1 = rw (e, s) (lf_width _ _) in
-          rw (s, end) (single k (reads k) n flow text p bs (omega (arith, few)) (omega (arith, room)) width h back after)
-      | inr (inr (inr s)) ↦ rw (s, end) (returns k (reads k) n flow text p bs (omega (arith, few)) (omega (arith, room)) (e ∙ s) h back after)
-    ]
+-- at a level of 0 tabs are white, too
+all_white : (ws : List ℕ) → are_white ws ≡ true → AreWhite 0 ws
+all_white [] h = tt
+all_white (b ∷ bs) h =
+    let (front, back) = and_parts (is_white b) (are_white bs) h in
+    (one b (byte_cases b front), all_white bs back)
+  where
+    one : (b : ℕ) → (b ≡ 32) ⊎ ((b ≡ 9) ⊎ ((b ≡ 10) ⊎ (b ≡ 13))) → IsWhite 0 b
+    one b (inl s) = inl s
+    one b (inr (inl s)) = inr (inl (s, refl))
+    one b (inr (inr s)) = inr (inr s)
 
 -- ==== What the bytes of plain values are not.
 
@@ -225,19 +132,19 @@ byte_here text p x e h = ap (λ y. is_value_byte y) e ∙ h
 words_read : (n : ℕ) (flow : Bool) (text : List ℕ) (p : ℕ) (bs gap : List ℕ) → IsCalm text p
     → length bs + length gap < n → Has text (p + 1) (bs ++ gap) → list_all is_value_byte bs ≡ true
     → are_white gap ≡ true
-    → Stops flow text (p + 1 + length bs + length gap)
+    → Stops flow 0 text (p + 1 + length bs + length gap)
     → words n flow 0 text (p + 1) ≡ Ok
     (run_words bs (p + 1) (none_to (p + 1 + length bs + length gap) (has_break gap)))
 unfolding words
 words_read n flow text p [] gap c room h all are stop =
     let z : p + 1 + 0 ≡ p + 1 = omega arith in
-    rw z (reads (length gap) n flow text (p + 1) gap (omega arith) (omega arith) h are (subst (λ q. Stops flow text (q + length gap)) z stop))
+    rw z (white_words n flow 0 text (p + 1) gap (omega arith) h (all_white gap are) (subst (λ q. Stops flow 0 text (q + length gap)) z stop))
 words_read zero flow text p (b ∷ bs) gap c room (e, h) all are stop = absurd (omega arith)
 words_read (suc n) flow text p (b ∷ bs) gap c room (e, h) all are stop =
     let (here, rest) = and_parts (is_value_byte b) (list_all is_value_byte bs) all in
     let d = calm text (p + 1) (byte_here text (p + 1) b e here) in
     let far : p + 1 + suc (length bs) ≡ p + 1 + 1 + length bs = omega arith in
-    let more = words_read n flow text (p + 1) bs gap d (omega arith) h rest are (subst (λ q. Stops flow text (q + length gap)) far stop) in
+    let more = words_read n flow text (p + 1) bs gap d (omega arith) h rest are (subst (λ q. Stops flow 0 text (q + length gap)) far stop) in
     rw far
     (ap (λ s. follows (words n flow 0 text) (p + 1) s) (kept_next flow 0 text p c d)
     ∙ ap (λ (r : Result Words Wrong). words_from (Kept (byte text (p + 1) ∷ [])) (p + 1 + 1) r) more
@@ -274,7 +181,7 @@ inside text p (b ∷ bs) gap l (e, h) all are =
 
 read_by : (flow : Bool) (text : List ℕ) (p : ℕ) (value gap : List ℕ) → begins_value value ≡ true
     → list_all is_value_byte value ≡ true → Has text p (value ++ gap) → are_white gap ≡ true
-    → Stops flow text (p + length value + length gap)
+    → Stops flow 0 text (p + length value + length gap)
     → plain_at flow 0 text p ≡ Ok (record {
       value = value;
       end = p + length value;
@@ -290,7 +197,7 @@ read_by flow text p (b ∷ bs) gap begins all (e, h) are stop =
     let far : p + suc (length bs) ≡ p + 1 + length bs = omega arith in
     let room = inside text (p + 1) bs gap (omega (arith, one)) h rest are in
     let q = p + 1 + length bs + length gap in
-    let more = words_read (length text) flow text p bs gap c (omega (arith, room)) h rest are (subst (λ r. Stops flow text (r + length gap)) far stop) in
+    let more = words_read (length text) flow text p bs gap c (omega (arith, room)) h rest are (subst (λ r. Stops flow 0 text (r + length gap)) far stop) in
     rw far
     (ap (λ (r : Result Words Wrong). plain_with plain_text (words_from (Kept (byte text p ∷ [])) (p + 1) r)) more
     ∙ ap (λ (x : ℕ). let r : Result PlainText Wrong = Ok (plain_text (with_piece (Kept (x ∷ [])) (p + 1) (run_words bs (p + 1) (none_to q (has_break gap))))) in r) e
@@ -299,7 +206,7 @@ read_by flow text p (b ∷ bs) gap begins all (e, h) are stop =
 
 pub plain_read : (flow : Bool) (text : List ℕ) (p : ℕ) (value gap : List ℕ)
     → is_plain_value value ≡ true → Has text p (value ++ gap) → are_white gap ≡ true
-    → Stops flow text (p + length value + length gap)
+    → Stops flow 0 text (p + length value + length gap)
     → plain_at flow 0 text p ≡ Ok (record {
       value = value;
       end = p + length value;
@@ -346,7 +253,8 @@ bracket_of b (inl e) = rw e refl
 bracket_of b (inr (inl e)) = rw e refl
 bracket_of b (inr (inr e)) = rw e refl
 
-pub stops_at : (flow : Bool) (text : List ℕ) (p : ℕ) → IsStop flow (byte text p) → Stops flow text p
+pub stops_at : (flow : Bool) (text : List ℕ) (p : ℕ) → IsStop flow (byte text p)
+    → Stops flow 0 text p
 stops_at flow text p (inl e) = record {
   blank = calm_blank (byte text p) (inl e);
   width = calm_width (byte text p) (byte text (p + 1)) (byte text (p + 2)) (inl e);

@@ -261,9 +261,6 @@ dashes_pay u b k wide some =
 one_pays : (b k : ℕ) → 1 ≤ k → b + b ≤ (b + b) * k
 one_pays b k some = let a : (b + b) * 1 ≤ (b + b) * k = mul-le-mul_left (b + b) some in omega (arith, a)
 
-two_pay : (b k : ℕ) → 2 ≤ k → b + b + b ≤ (b + b) * k
-two_pay b k some = let a : (b + b) * 2 ≤ (b + b) * k = mul-le-mul_left (b + b) some in omega (arith, a)
-
 body_pays : (u b : ℕ) → 10 * u ≤ b → (body : TokenBody) (p q : ℕ) → p < q → Spans p q body
     → by_length u b body ≤ (b + b) * (q - p)
 body_pays u b wide (token.alias name) p q some f = texts_pay u b 3 (length name) (q - p) wide (omega arith) (omega (arith, f)) (omega (arith, some))

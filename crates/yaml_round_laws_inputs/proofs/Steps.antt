@@ -1,6 +1,6 @@
 -- Keys are near their `:`.
 use Rattle.std.proofs.Common.{◌≡◌, ℕ, ◌+◌, ◌<◌, ◌≤◌, ◌==◌, ◌&&◌, ◌||◌, not, Bool, true, false, List, [], ◌∷◌, ◌++◌, length, refl, sym, ap, subst, arith, append-nil, encode_utf8_all, ◌-◌, nat_lt, Some, Result, Ok, ◌∙◌, inl, inr, ◌⊎◌, append_assoc, if◌then◌else◌, true≢false}
-use Rattle.yaml_round_laws_inputs.proofs.JsonWords.{list_all, or_parts, and_parts, nat_tests, mark_at, byte, column_at, is_blank_or_end, HasAt, begins_lexeme, is_fresh, margin_at, indent, is_white, are_white, Letter, string_bytes, AreLetters, is_break, has_break, are_kept, is_near, or-true, TokenBody, Wrong, is_document_start, is_document_end, PlainText, starts_plain, Has, has, has_front, WordText, indicator_of, kind_at, word_at, valued, plainly, Comes, WordLeaves, IsGap, WalkState, WalkReads, LeaveClear, behind, printed_begins, chain, no_start, no_end, no_percent, walk_word, walk_key_starts, walk_key_stops, Left, left_first, left_more, left_rest, end_begins, is_plain_value, letters_mean}
+use Rattle.yaml_round_laws_inputs.proofs.JsonWords.{list_all, or_parts, and_parts, nat_tests, mark_at, byte, column_at, is_blank_or_end, HasAt, begins_lexeme, is_fresh, margin_at, indent, is_white, are_white, Letter, string_bytes, AreLetters, is_break, has_break, are_kept, is_near, or-true, TokenBody, Wrong, is_document_start, is_document_end, PlainText, starts_plain, Has, has, has_front, WordText, indicator_of, kind_at, word_at, valued, plainly, Comes, WordLeaves, WalkState, WalkReads, LeaveClear, behind, printed_begins, chain, no_start, no_end, no_percent, walk_word, walk_key_starts, walk_key_stops, Left, left_first, left_more, left_rest, end_begins, is_plain_value, letters_mean}
 use Rattle.yaml_emit_laws_text.specs.emit_layout.emit_text.declared.Cursor.{Cursor}
 use Rattle.yaml_emit_laws_text.specs.emit_layout.emit_text.Text.{is_break as ends}
 use Rattle.yaml_emit_laws_text.specs.emit_layout.emit_text.Layout.{Layout}
@@ -24,6 +24,7 @@ use Rattle.yaml_scan_laws_texts.proofs.Slotting.{near_before, level_opens}
 use Rattle.yaml_emit_laws_text.proofs.Places as places
 use Rattle.yaml_round_laws_inputs.proofs.Whites.{tabs_fit, may_then, white_leaves, word_leaves}
 use Rattle.yaml_round_laws_inputs.proofs.Plains.{IsStop, stops_at, plain_read, plain_begins}
+use Rattle.yaml_emit_laws_pretty.proofs.Lining.{no_gap}
 
 -- a character that ends no line
 abbrev goes_on : ℕ → Bool
@@ -143,9 +144,6 @@ pub record Ready (x : yaml_encoding_t) (text bs : List ℕ) (d : ℕ) (T : Tell)
 
 has_of : (text : List ℕ) (p : ℕ) (ws bs : List ℕ) → Left text p (ws ++ bs) → Has text p ws
 has_of text p ws bs l = has text p ws (places.has_at text p ws (places.has_front text p ws bs l.has))
-
-pub no_gap : (text : List ℕ) (p : ℕ) → begins_lexeme text p ≡ true → IsGap text p []
-no_gap text p e = let z : p + 0 ≡ p = omega arith in record { has = λ k few. absurd (omega (arith, few)); blank = refl; ends = ap (λ n. begins_lexeme text n) z ∙ e }
 
 -- ---- a word
 

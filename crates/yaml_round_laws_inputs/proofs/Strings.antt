@@ -1,5 +1,5 @@
 -- Literals and numbers are plain values, and what values begin with.
-use Rattle.std.proofs.Common.{◌≡◌, ℕ, ◌==◌, ◌&&◌, ◌||◌, not, nat_lt, Bool, true, false, List, [], ◌∷◌, ◌++◌, Option, None, Some, refl, sym, arith, if◌then◌else◌, ◌+◌, ◌<◌, ◌≤◌, nat_le, ap, subst, inl, inr, append_assoc, encode_utf8, encode_utf8_all, drop, ◌∙◌, append-nil, nat_eq, ◌-◌, ◌*◌, length, Ok, option_and_then}
+use Rattle.std.proofs.Common.{◌≡◌, ℕ, ◌==◌, ◌&&◌, ◌||◌, not, nat_lt, Bool, true, false, List, [], ◌∷◌, ◌++◌, Option, None, Some, refl, sym, arith, if◌then◌else◌, ◌+◌, ◌<◌, ◌≤◌, nat_le, ap, subst, inl, inr, append_assoc, encode_utf8, encode_utf8_all, drop, ◌∙◌, append-nil, nat_eq, ◌-◌, ◌*◌, length, Ok}
 use Rattle.yaml_round_laws_inputs.proofs.JsonWords.{list_all, true≢false, and_parts, cases_Bool, nat_tests, is_letter_or_digit, is_value_byte, begins_value, is_plain_value, Literal, named_false, named_null, named_true, literal_bytes, Sign, no_sign, plus, minus, sign_bytes, Exponent, Number, fraction_bytes, exponent_bytes, number_bytes, is_digit, are_digits, is_whole, IsFraction, IsExponent, IsNumber, Value, literal, number, string, empty_array, array, empty_object, object, Elements, last_element, element, Members, last_member, member, value_bytes, elements_bytes, members_bytes, IsValue, AreElements, is_white, are_white, Short, quote, backslash, slash, backspace, form_feed, line_feed, carriage_return, tab, short_byte, HexDigit, hex_byte, Letter, raw, short, coded, letter_bytes, letters_bytes, string_bytes, IsLetter, AreLetters, AreMembers, Text, IsJsonText, short_means, code, is_refused, ends_line, is_kept, are_kept, IsUsual, AreUsual, MembersAreUsual, IsUsualText, yaml_encoding_t, YAML_ANY_ENCODING, YAML_UTF8_ENCODING, encoding_of, mark_length, begins_low_first, begins_high_first, begins_utf8, Spells, spellings, may_be_utf8, and-false, HasAt, letter_means, letters_mean}
 use lib.Utf8.{scalar}
 use Rattle.yaml_emit_laws_text.proofs.Chars.{encode_1}
@@ -11,6 +11,7 @@ use Rattle.yaml_scan_history.specs.scan_scalars.Quoted.{hex_digit, hex_len, simp
 use Rattle.yaml_emit_laws_text.specs.Spelling.{QuotedPart, spelled, meant, spelling, meaning, number_behind, MayStand, is_raw_blank, is_fold, is_turn, may_be_next, IsSpelling, quoted}
 use Rattle.yaml_emit_laws_text.specs.Spelling as part
 use Rattle.yaml_emit_laws_text.proofs.Parts.{spelling_reads}
+use Rattle.yaml_emit_laws_text.proofs.Escapes.{number_more, number_end}
 
 pub literal_plain : (l : Literal) → is_plain_value (literal_bytes l) ≡ true
 unfolding is_plain_value is_letter_or_digit is_value_byte
@@ -407,23 +408,14 @@ digit_by v capital l =
 digit_reads : (d : HexDigit) → d.value < 16 → hex_digit (hex_byte d) ≡ Some d.value
 digit_reads d l = digit_by d.value d.capital l
 
-next_digit : (n b v : ℕ) (ds : List ℕ) → hex_digit b ≡ Some v
-    → number_behind n (b ∷ ds) ≡ number_behind (n * 16 + v) ds
-unfolding number_behind
-next_digit n b v ds h = ap (λ (o : Option ℕ). option_and_then (λ low. number_behind (n * 16 + low) ds) o) h
-
-no_digit : (n : ℕ) → number_behind n [] ≡ Some n
-unfolding number_behind
-no_digit n = refl
-
 four_digits : (a b c d : HexDigit) → a.value < 16 → b.value < 16 → c.value < 16 → d.value < 16
     → number_behind 0 (hex_byte a ∷ hex_byte b ∷ hex_byte c ∷ hex_byte d ∷ []) ≡ Some (code a b c d)
 four_digits a b c d ha hb hc hd =
-    next_digit 0 (hex_byte a) a.value (hex_byte b ∷ hex_byte c ∷ hex_byte d ∷ []) (digit_reads a ha)
-    ∙ next_digit (0 * 16 + a.value) (hex_byte b) b.value (hex_byte c ∷ hex_byte d ∷ []) (digit_reads b hb)
-    ∙ next_digit ((0 * 16 + a.value) * 16 + b.value) (hex_byte c) c.value (hex_byte d ∷ []) (digit_reads c hc)
-    ∙ next_digit (((0 * 16 + a.value) * 16 + b.value) * 16 + c.value) (hex_byte d) d.value [] (digit_reads d hd)
-    ∙ no_digit ((((0 * 16 + a.value) * 16 + b.value) * 16 + c.value) * 16 + d.value)
+    number_more 0 (hex_byte a) a.value (hex_byte b ∷ hex_byte c ∷ hex_byte d ∷ []) (digit_reads a ha)
+    ∙ number_more (0 * 16 + a.value) (hex_byte b) b.value (hex_byte c ∷ hex_byte d ∷ []) (digit_reads b hb)
+    ∙ number_more ((0 * 16 + a.value) * 16 + b.value) (hex_byte c) c.value (hex_byte d ∷ []) (digit_reads c hc)
+    ∙ number_more (((0 * 16 + a.value) * 16 + b.value) * 16 + c.value) (hex_byte d) d.value [] (digit_reads d hd)
+    ∙ number_end ((((0 * 16 + a.value) * 16 + b.value) * 16 + c.value) * 16 + d.value)
     ∙ ap (λ (n : ℕ). Some (((n * 16 + b.value) * 16 + c.value) * 16 + d.value)) zero_first
   where
     zero_first : 0 * 16 + a.value ≡ a.value
@@ -472,9 +464,6 @@ short_reads form_feed = refl
 short_reads line_feed = refl
 short_reads carriage_return = refl
 short_reads tab = refl
-
-below : (n c : ℕ) → n < 16 → c ≡ n → c < 16
-below n c l e = omega (arith, l, e)
 
 part_stands : (l : Letter) → IsLetter l → is_kept l ≡ true → MayStand 34 (part_of l)
 unfolding part_of hex_len

@@ -154,9 +154,6 @@ record CountsAs (a b : Event) : Type 0 where
   directives : (ds : List TagDirective) → directives_behind ds a ≡ directives_behind ds b
   indent : (i n : ℕ) → indent_behind i n a ≡ indent_behind i n b
 
-itself : (a : Event) → CountsAs a a
-itself a = record { same = λ s w ds n. refl; directives = λ ds. refl; indent = λ i n. refl }
-
 content_counts : (ends : Bool) (b : EventBody)
     → CountsAs (emitter_event (normalize_body ends b))
     (emitter_event (content_of (normalize_body true b)))

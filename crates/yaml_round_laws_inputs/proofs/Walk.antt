@@ -7,7 +7,8 @@ use Rattle.yaml_emit_laws_text.proofs.Places as places
 use Rattle.yaml_round_laws_inputs.specs.Values as values
 use Rattle.yaml_round_laws_inputs.proofs.Whites.{tabs_fit}
 use Rattle.yaml_round_laws_inputs.proofs.Strings.{literal_plain, number_plain, value_begins, elements_begin, members_begin}
-use Rattle.yaml_round_laws_inputs.proofs.Steps.{Tell, Behind, At, Ready, nothing_left, no_gap, opener_step, closer_step, comma_step, plain_step, string_step, key_step}
+use Rattle.yaml_round_laws_inputs.proofs.Steps.{Tell, Behind, At, Ready, nothing_left, opener_step, closer_step, comma_step, plain_step, string_step, key_step}
+use Rattle.yaml_emit_laws_pretty.proofs.Lining.{no_gap}
 
 flow_fits : (d : ℕ) (ws : List ℕ) → nat_lt 0 d ≡ true → tabs_fit (nat_lt 0 d) false ws ≡ true
 flow_fits d ws e = by (nat_lt 0 d) e

@@ -1,11 +1,11 @@
 -- The white of JSON, with tabs, between lexemes.
 use Rattle.std.proofs.Common.{◌≡◌, ◌≢◌, ℕ, zero, suc, ◌+◌, ◌<◌, ◌≤◌, ◌==◌, ◌&&◌, ◌||◌, not, nat_lt, Bool, true, false, List, [], ◌∷◌, length, refl, sym, ap, subst, ◌∙◌, inl, inr, ◌⊎◌, arith}
-use Rattle.yaml_round_laws_inputs.proofs.JsonWords.{true≢false, cases_Bool, and_parts, ne_eqb, lt-ltb, nat_tests, byte, break_of, break_width, are_gap, begins_lexeme, Has, depth, in_flow, key_allowed, WordText, IsGap, WordLeaves, is_white, are_white, is_break, has_tab, has_tab_below, lexeme_parts, break_parts, no_bom, no_skip, cr_width, some_width}
+use Rattle.yaml_round_laws_inputs.proofs.JsonWords.{true≢false, cases_Bool, and_parts, ne_eqb, lt-ltb, nat_tests, byte, break_of, break_width, begins_lexeme, Has, depth, in_flow, key_allowed, WordText, WordLeaves, is_white, are_white, is_break, has_tab, has_tab_below, lexeme_parts, break_parts, no_bom, no_skip, cr_width, some_width}
 use Rattle.yaml_scan_history.specs.scan_model.Classes.{is_bom}
 use Rattle.yaml_scan_history.specs.scan_words.Between.{step_at, is_skipped, Gap, gap_within, gap_at}
 use Rattle.yaml_scan_history.proofs.BetweenLemmas.{gap_blank, gap_break, gap_stop}
 use Rattle.yaml_scan_history.specs.Next.{gap_behind}
-use Rattle.yaml_scan_laws_texts.proofs.Whites.{no_white, has_first}
+use Rattle.yaml_scan_laws_texts.proofs.Whites.{nothing_more}
 
 -- ---- one step
 
@@ -43,9 +43,6 @@ step_break n flow allowed text p w width room =
     let P : ℕ → Type 0 = λ k. (length text ≤ p + k + m) × ((gap_within n flow allowed text p).place ≡ (gap_within m flow (allowed || not flow) text (p + k)).place) in
     let (room_left, place) = subst P width (more, same_place) in
     (m, room_left, place)
-
-unequal : (b n : ℕ) → not (b == n) ≡ true → b ≢ n
-unequal b n h = grind (arith, nat_tests)
 
 step_lexeme : (n : ℕ) (flow allowed : Bool) (text : List ℕ) (p : ℕ) → begins_lexeme text p ≡ true
     → length text ≤ p + n → (gap_within n flow allowed text p).place ≡ p
@@ -89,16 +86,6 @@ fits_space : (flow allowed : Bool) (bs : List ℕ) → tabs_fit flow allowed (32
 fits_space true allowed bs h = refl
 fits_space false true bs h = h
 fits_space false false bs h = h
-
-no_less : (bs : List ℕ) → has_tab bs ≡ false → has_tab_below bs ≡ false
-no_less [] h = refl
-no_less (b ∷ bs) h =
-    let (here, more) = none (b == 9) (has_tab bs) h in
-    elim (cases_Bool (is_break b)) [ inl e ↦ rw e more | inr e ↦ rw e (no_less bs more) ]
-  where
-    none : (x y : Bool) → (x || y) ≡ false → (x ≡ false) × (y ≡ false)
-    none false y h = (refl, h)
-    none true y h = absurd (true≢false h)
 
 fits_break : (flow allowed : Bool) (b : ℕ) (bs : List ℕ) → is_break b ≡ true
     → tabs_fit flow allowed (b ∷ bs) ≡ true → tabs_fit flow (allowed || not flow) bs ≡ true
@@ -193,14 +180,6 @@ leads (suc k) n flow allowed text p (b ∷ bs) few (e, h) are fits stop room =
     ]
 
 -- ---- behind a word
-
--- no white stands where a lexeme begins
-nothing_more : (text : List ℕ) (p : ℕ) (gap : List ℕ) → begins_lexeme text p ≡ true
-    → IsGap text p gap → gap ≡ []
-nothing_more text p [] e g = refl
-nothing_more text p (x ∷ gap) e g =
-    let (here, rest) = and_parts (x == 32 || (x == 10 || x == 13)) (are_gap gap) g.blank in
-    absurd (no_white text p x (has_first text p x gap g.has) here e)
 
 -- whether a key may begin behind white
 abbrev pub may_then : List ℕ → ℕ → Bool → WordText → Bool

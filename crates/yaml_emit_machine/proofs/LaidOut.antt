@@ -37,7 +37,8 @@ nothing_left s (frames g (pairs_left flow n fresh (pair v u ps) ∷ fs) implicit
 nothing_left s (frames g (value_left flow n simple v ps ∷ fs) implicit ds) h c f = absurd (node_some v _ h)
 nothing_left s nothing h c f = refl
 
-laid_on : (s : Settings) (st : State) (e : Event) (es : List Event) (c : Cursor) (f : Rest)
+-- a right event is laid out in front of those behind it
+pub laid_on : (s : Settings) (st : State) (e : Event) (es : List Event) (c : Cursor) (f : Rest)
     → problem_at s st e ≡ None
     → laid s st (e ∷ es) c f ≡ piece s st e (opens_empty e es) c
     (λ d. laid s (next s st e (opens_empty e es) d) es d f)

@@ -20,3 +20,4 @@ pub mod Dumped
 pub mod Opened
 mod Resuming
 mod Forced
+pub use Rattle.yaml_emit_state.proofs.Finishing

@@ -15,7 +15,8 @@ use Rattle.yaml_emit_machine.specs.Verdict.{verdict, HasLetOut, TellsOutcome}
 use Rattle.yaml_emit_machine.specs.Taking.{TakesEvents, NotesMemoryOf}
 use Rattle.yaml_emit_machine.specs.Dumping.{IsRightNext, OpensStream, opening_event}
 
-none_by : (s : Status) (b : Bool) (p : Option Problem) → fault_by s b p ≡ None
+-- without a fault an output goes on and there is no problem
+pub none_by : (s : Status) (b : Bool) (p : Option Problem) → fault_by s b p ≡ None
     → (s ≡ Going) × (p ≡ None)
 none_by Going b None h = (refl, refl)
 none_by Going b (Some p) h = absurd (cc)

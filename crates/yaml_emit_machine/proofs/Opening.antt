@@ -5,6 +5,7 @@ use Rattle.yaml_emit_layout.specs.State.{opens_empty, closes_by}
 use Rattle.yaml_emit_state.specs.declared.Core.{Core}
 use Rattle.yaml_emit_state.specs.Steps.{LaysOut}
 
+-- no event opens an empty collection at the end
 pub opens_none : (e : Event) → opens_empty e [] ≡ false
 unfolding opens_empty
 opens_none (sequence_start p) = refl

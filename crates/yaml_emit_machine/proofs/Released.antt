@@ -8,19 +8,15 @@ use Rattle.yaml_emit_graph.specs.Graph.{graph_content, dumped}
 use Rattle.yaml_emit_machine.specs.Held.{closes, is_ready}
 use Rattle.yaml_emit_machine.specs.Judged.{let_out}
 use Rattle.yaml_emit_machine.proofs.Holding.{none_needed}
+use Rattle.yaml_emit_machine.proofs.Judging.{first_out}
 
 -- all of these are let out, whatever follows
 abbrev pub AreOut : List Event → Type 0
 AreOut es = (more : List Event) → let_out (es ++ more) ≡ es ++ let_out more
 
-ready_out : (e : Event) (es : List Event) → is_ready (e ∷ es) ≡ true
-    → let_out (e ∷ es) ≡ e ∷ let_out es
-unfolding let_out
-ready_out e es h = rw h refl
-
 out_next : (e : Event) (es : List Event)
     → ((more : List Event) → is_ready (e ∷ (es ++ more)) ≡ true) → AreOut es → AreOut (e ∷ es)
-out_next e es ready out = λ more. ready_out e (es ++ more) (ready more) ∙ ap (λ (z : List Event). e ∷ z) (out more)
+out_next e es ready out = λ more. first_out e (es ++ more) (ready more) ∙ ap (λ (z : List Event). e ∷ z) (out more)
 
 -- ---- how many follow
 

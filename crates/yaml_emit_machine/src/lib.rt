@@ -16,6 +16,7 @@ pub use emitter::{
 };
 pub use law::{streams_are_laid, streams_pass};
 pub use name::yaml_emitter_state_t;
+pub use yaml_emit_graph::{Rooms, put_aside};
 pub use yaml_emit_layout::{Expected, Level, Phase};
 pub use yaml_emit_state::yaml_emitter_stand_t;
 // What its calls name, so that the member needs no other crate: each further one is read again by every check of the member.

@@ -1,18 +1,20 @@
 -- What is written for events that begin a stream is a front of its layout; a wrong event adds nothing.
 use Rattle.std.proofs.Common.{◌≡◌, Bool, true, false, not, List, [], ◌∷◌, ◌++◌, refl, sym, ap, ◌∙◌, append_assoc, append-nil, Option, Some, None}
 use Rattle.std.proofs.Math.Path.{fun_ext}
-use Rattle.yaml_round_laws_pieces.proofs.Words.{Cursor, Settings, Item, Rest, start, nothing_more, written, Problem, Document, Event, sequence_start, sequence_end, mapping_start, mapping_end, stream_events, or_else, event_problem, last_problem, place_problem, problem_by, own_problems, stream_layout, context_of, Progress, problem_in, progress_after, first_refusal, State, placed, piece, next, problem_at, opens_empty, top_of, is_ready, let_out, laid, shape_of, same_problem, shape_next, or_none, unless_none, unless_some, first_out, whole}
+use Rattle.yaml_round_laws_pieces.proofs.Words.{Cursor, Settings, Item, Rest, start, nothing_more, written, Problem, Document, Event, sequence_start, sequence_end, mapping_start, mapping_end, stream_events, or_else, event_problem, last_problem, place_problem, problem_by, own_problems, stream_layout, context_of, Progress, problem_in, progress_after, first_refusal, State, placed, piece, next, problem_at, opens_empty, top_of, is_ready, let_out, laid, shape_of, same_problem, shape_next, or_none, unless_some, first_out, whole}
 use Rattle.yaml_emit_layout.specs.declared.Expected.TheVariants as at
 use Rattle.yaml_emit_layout.specs.ToCome.{ToCome, stream, events}
 use Rattle.yaml_emit_layout.specs.ToCome as come
 use Rattle.yaml_emit_layout.proofs.LeadsOn.{goes}
 use Rattle.yaml_emit_machine.proofs.Ending.{nothing_held}
 use Rattle.yaml_emit_machine.proofs.Grammatical.{first_right, right_there}
-use Rattle.yaml_emit_machine.proofs.LaidOut.{streams_are_laid}
+use Rattle.yaml_emit_machine.proofs.LaidOut.{streams_are_laid, laid_on}
 use Rattle.yaml_round_laws_pieces.specs.Layouts.{all_written, BeginsStream, StreamsAreLayouts, FrontsAreOfLayouts, stays_open, AllIsOfLayouts, WrongAddNothing}
 use Rattle.yaml_round_laws_pieces.proofs.Regular.{Written}
 use Rattle.yaml_round_laws_pieces.proofs.Events.{piece_regular}
 use Rattle.yaml_round_laws_pieces.proofs.Joining.{shown}
+use Rattle.yaml_emit_machine.proofs.Finishing.{or_else_none}
+use Rattle.yaml_emit_machine.proofs.Opening.{opens_none}
 
 -- ---- whole streams
 
@@ -61,24 +63,12 @@ fronts_are_of_layouts s es more ds b =
     let (rest, is) = shown s es more in
     (rest, sym (streams_are_layouts s (es ++ more) ds (all_of s es more ds b)).0 ∙ is)
 
-laid_on : (s : Settings) (st : State) (e : Event) (es : List Event) (c : Cursor) (f : Rest)
-    → problem_at s st e ≡ None
-    → laid s st (e ∷ es) c f ≡ piece s st e (opens_empty e es) c
-    (λ d. laid s (next s st e (opens_empty e es) d) es d f)
-unfolding laid
-laid_on s st e es c f h = unless_none (problem_at s st e) _ c f h
-
 -- the first of two parts tells whether a collection is empty, where it isn't the last event that opens it
 opens_by_first : (e f : Event) (es more : List Event)
     → opens_empty e (f ∷ es ++ more) ≡ opens_empty e (f ∷ es)
 unfolding opens_empty
 opens_by_first (sequence_start p) f es more = refl
 opens_by_first _ f es more = refl
-
-opens_none : (e : Event) → opens_empty e [] ≡ false
-unfolding opens_empty
-opens_none (sequence_start p) = refl
-opens_none _ = refl
 
 not_so : (b : Bool) → not b ≡ true → b ≡ false
 not_so true h = cc
@@ -126,10 +116,6 @@ all_is_of_layouts s es more ds b stays =
 
 -- ---- wrong events
 
-first_none : (p q : Option Problem) → or_else p q ≡ None → (p ≡ None) × (q ≡ None)
-first_none None q e = (refl, e)
-first_none (Some x) q e = absurd (cc)
-
 last_some : (p : Option Problem) (x : Problem) → or_else p None ≡ Some x → p ≡ Some x
 last_some (Some y) x e = e
 last_some None x e = absurd (cc)
@@ -172,7 +158,7 @@ unfolding laid first_refusal
 stops_by s st [] e more x right wrong c f =
     unless_some (problem_at s st e) x _ c f (same_problem s st e ∙ last_some (problem_in s.canonical (shape_of st) e) x wrong)
 stops_by s st (e ∷ es) g more x right wrong c f =
-    let r = first_none (problem_in s.canonical (shape_of st) e) (first_refusal s.canonical (progress_after (shape_of st) e) es) right in
+    let r = or_else_none (problem_in s.canonical (shape_of st) e) (first_refusal s.canonical (progress_after (shape_of st) e) es) right in
     let p : problem_at s st e ≡ None = same_problem s st e ∙ r.0 in
     let w : first_refusal s.canonical (progress_after (shape_of st) e) (es ++ g ∷ []) ≡ Some x = sym (or_none (problem_in s.canonical (shape_of st) e) _ r.0) ∙ wrong in
     let b : Bool = opens_empty e es in

@@ -1,5 +1,5 @@
 -- Events are let out one by one, each with its text; the others wait.
-use Rattle.yaml_round_laws_pieces.proofs.Words.{◌≤◌, Cursor, Settings, Rest, nothing_more, Problem, Event, or_else, context_of, problem_in, progress_after, first_refusal, State, piece, next, problem_at, opens_empty, begins_by, top_of, is_ready, let_out, unless, laid, refused_at, shape_of, refusal_from, text_from, refusal_behind, ready_more, same_problem, shape_next, or_none, or_some, unless_none, unless_some, empty_out, open_next, first_out, Stand, added, StandsAreThere}
+use Rattle.yaml_round_laws_pieces.proofs.Words.{◌≤◌, Cursor, Settings, Rest, nothing_more, Problem, Event, or_else, context_of, problem_in, progress_after, first_refusal, State, piece, next, problem_at, opens_empty, top_of, is_ready, let_out, unless, laid, refused_at, shape_of, refusal_from, text_from, refusal_behind, ready_more, same_problem, shape_next, or_none, or_some, unless_none, unless_some, empty_out, open_next, first_out, Stand, added, StandsAreThere}
 use Rattle.std.proofs.Common.{◌≡◌, Bool, true, false, List, [], ◌∷◌, ◌++◌, refl, sym, ap, ◌∙◌, append_assoc, Option, Some, None, length, arith, append-nil}
 use Rattle.yaml_emit_layout.specs.declared.Expected.TheVariants as at
 use Rattle.yaml_emit_machine.proofs.Holding.{ready_empty, few_short}
@@ -11,11 +11,6 @@ use Rattle.yaml_round_laws_pieces.proofs.Events.{piece_regular}
 none_out : (e : Event) (es : List Event) → is_ready (e ∷ es) ≡ false → let_out (e ∷ es) ≡ []
 unfolding let_out
 none_out e es r = rw r refl
-
-out_begins : (p : Event → Bool) (b : Bool) (f : Event) (es : List Event) → is_ready (f ∷ es) ≡ b
-    → (b ≡ false → p f ≡ false) → begins_by p (let_out (f ∷ es)) ≡ p f
-out_begins p true f es r n = ap (begins_by p) (first_out f es r)
-out_begins p false f es r n = ap (begins_by p) (none_out f es r) ∙ sym (n refl)
 
 -- ---- a right event leads on
 

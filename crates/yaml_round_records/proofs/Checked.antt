@@ -18,10 +18,6 @@ use Rattle.yaml_round_records.specs.Records.{directive_at, in_front, all_directi
 use Rattle.yaml_round_records.specs.Meaning.{is_utf8_option, may_give, given_if, given, event_meant, events_meant}
 use Rattle.yaml_round_records.specs.Checking.{is_text, is_optional, is_directive, are_directives, is_event}
 
-pub and_assoc : (a b c : Bool) → ((a && b) && c) ≡ (a && (b && c))
-and_assoc true b c = refl
-and_assoc false b c = refl
-
 unreadable : (b : Bool) (t : List ℕ) → b ≡ is_utf8 t → ¬ IsUtf8 t → false ≡ b
 unreadable true t is h = absurd (h (IsUtf8-from_is_utf8 t (sym is)))
 unreadable false t is h = refl
@@ -151,6 +147,7 @@ pub none_left : (b y x t r : Bool) → x ≡ t → x ≡ (b && y) → r ≡ b �
 none_left true y x t r inv e is off = absurd (cc)
 none_left false y x t r inv e is off = sym e ∙ inv
 
+-- the same where the first one is right
 pub some_left : (b y x t r : Bool) → x ≡ t → x ≡ (b && y) → r ≡ b → r ≡ true → y ≡ t
 some_left true y x t r inv e is on = sym e ∙ inv
 some_left false y x t r inv e is on = absurd (cc)

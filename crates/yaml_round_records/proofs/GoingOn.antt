@@ -11,11 +11,10 @@ use Rattle.yaml_emit.specs.Held.{AreLast}
 use Rattle.yaml_emit.specs.Within.{Fits}
 use Rattle.yaml_emit.specs.Verdict.{verdict, verdict_by, Writes, WritesBy, HasLetOut, TellsOutcome, first_settings}
 use Rattle.yaml_emit.specs.Emitter.{Emitter, settings_in, text_of, problem_fault, Passes}
-use Rattle.yaml_emit.specs.Grammar.{or_else}
 use Rattle.yaml_emit.specs.emit_layout.State.{State, placed}
 use Rattle.yaml_emit.specs.emit_layout.declared.Expected.TheVariants as at
 use Rattle.yaml_emit.specs.emit_layout.declared.Problem.{Problem}
-use Rattle.yaml_emit.specs.emit_text.Sink.{Output, Ends, EndsBy}
+use Rattle.yaml_emit.specs.emit_text.Sink.{Ends, EndsBy}
 use Rattle.yaml_emit.specs.emit_text.declared.Cursor.{Cursor}
 use Rattle.yaml_emit.specs.emit_text.declared.Encoding.{Encoding}
 use Rattle.yaml_emit.specs.emit_text.declared.RequestedSettings.{RequestedSettings}
@@ -31,16 +30,13 @@ use Rattle.yaml_round_records.specs.Written.{whole_text}
 use Rattle.yaml_round_records.specs.Leading.{StartsUnder, LeadsOnward, TakesAllEvents}
 use Rattle.yaml_round_records.specs.Standing.{At}
 use Rattle.yaml_round_records.specs.Onward.{added_on, refusal_on, AddsWholeText, GoesFrom, StartsFrom, TellsStand, TellsAt, GoneOn, StopsOn, Means, IsOnward, onward_of, at_of}
-use Rattle.yaml_round_records.proofs.Leading.{first_writes, first_verdict, has_all, fits, some_fault, none_going}
+use Rattle.yaml_round_records.proofs.Leading.{first_writes, first_verdict, has_all, fits, some_fault}
+use Rattle.yaml_emit.proofs.Opened.{none_by}
+use Rattle.yaml_emit.proofs.Blaming.{ends_new}
+use Rattle.yaml_emit.proofs.Emitting.{not_true}
+use Rattle.yaml_emit.proofs.Finishing.{or_else_none}
 
 -- ---- an emitter that was given nothing
-
--- an output that is empty owes the whole
-own_ends : (o : Output) (t : List Item) → o.bytes ≡ [] → o.status ≡ Going → Ends o t t
-unfolding Ends
-own_ends o t none on =
-    let empty : EndsBy Going o.limit o.encoding [] t t = (refl, (omega arith, (refl, refl))) in
-    subst (λ (z : Status). EndsBy z o.limit o.encoding o.bytes t t) (sym on) (subst (λ (z : List ℕ). EndsBy Going o.limit o.encoding z t t) (sym none) empty)
 
 abbrev text_at : Settings → State → Cursor → List Event → List Item
 text_at s st c es = text_from s st es c nothing_more
@@ -63,7 +59,7 @@ from_writes e w limit a es g =
     let same = same_text e (settings_in w a.encoding) a.state a.cursor es g.settings g.state g.cursor g.held in
     subst (λ (b : Bool). WritesBy b e a.encoding es whole) (sym g.fresh) (
       ap (λ (z : Settings). z.encoding) g.settings,
-      subst (λ (t : List Item). Ends (text_of e) t whole) (sym same) (own_ends (text_of e) whole g.output g.status),
+      subst (λ (t : List Item). Ends (text_of e) t whole) (sym same) (ends_new (text_of e) whole g.output g.status),
     )
 
 from_verdict : (e : Emitter) (w : RequestedSettings) (limit : ℕ) (a : At) (es : List Event)
@@ -172,18 +168,10 @@ known_leads first e s st c es k o off on same =
 
 -- ---- the answer
 
-or_else_none : (p q : Option Problem) → or_else p q ≡ None → p ≡ None
-or_else_none None q h = refl
-or_else_none (Some p) q h = absurd (cc)
-
 open_place : (s : Settings) (st : State) (es : List Event) → refusal_behind s st es ≡ None
     → refused_at st.place ≡ None
 unfolding refusal_behind
-open_place s st es h = or_else_none _ _ h
-
-not_true : (b : Bool) → (b ≡ true → ⊥) → b ≡ false
-not_true true h = absurd (h refl)
-not_true false h = refl
+open_place s st es h = (or_else_none (refused_at st.place) _ h).0
 
 told_waiting : {n : ℕ} {a : At} (s : StandRecords) → TellsAt s (Some a) n → s.place.waiting ≡ n
 told_waiting s t = ap (λ (z : yaml_c_place). z.waiting) t.place
@@ -221,7 +209,7 @@ went : (first e : Emitter) (w : RequestedSettings) (limit : ℕ) (s : Settings) 
     → e.fault ≡ None → text ≡ e.output → TellsStand e sd → e.requested_settings ≡ w
     → e.limit ≡ limit → s ≡ settings_in w s.encoding → Went e limit s st c es text sd
 went first e w limit s st c es text sd k o off none is t asked l own =
-    let on = none_going e.status e.starved (verdict e []) (sym k.tells.fault ∙ none) in
+    let on = none_by e.status e.starved (verdict e []) (sym k.tells.fault ∙ none) in
     let all = known_short first e limit s st c es k l on.0 in
     let coded = known_coded first e s st c es k off in
     let same : e.course.settings ≡ s = t.forced off ∙ ap (λ (z : RequestedSettings). settings_in z e.course.settings.encoding) asked ∙ ap (settings_in w) coded ∙ sym own in
@@ -354,7 +342,7 @@ start_goes : (first e : Emitter) (w : RequestedSettings) (limit : ℕ) (es : Lis
 unfolding added_on refusal_on
 start_goes first e w limit [] text sd s all none is t told =
     let k = start_known first e w limit [] s all.leads t in
-    let on = none_going e.status e.starved (verdict e []) (sym t.fault ∙ none) in
+    let on = none_by e.status e.starved (verdict e []) (sym t.fault ∙ none) in
     let x = known_short first e limit (first_settings w []) (placed at.StreamStart) start [] k (all.leads.limit ∙ s.limit) on.0 in
     let fresh : e.fresh ≡ true = ap (λ (z : Emitter). z.fresh) (all.none refl) ∙ s.fresh in
     let there = told.nowhere fresh in

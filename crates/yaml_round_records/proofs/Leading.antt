@@ -26,6 +26,7 @@ use Rattle.yaml_round_records.specs.Records.{body_in_front}
 use Rattle.yaml_round_records.specs.Meaning.{event_meant, events_meant}
 use Rattle.yaml_round_records.specs.Written.{refusal, whole_text, text_encoding, text_bytes, IsLong, IsEmittedText, IsEventRefused, IsFault, IsEmitted}
 use Rattle.yaml_round_records.specs.Leading.{bytes_of, all_events, StartsUnder, LeadsEmitter, LeadsOnward, FinishesEmitter}
+use Rattle.yaml_emit.proofs.Opened.{none_by}
 
 -- ---- the records that are left
 
@@ -200,17 +201,6 @@ first_whole e w limit x es whole s k = starts_whole e.fresh e w x es whole s.fre
 
 -- ---- what the emitter tells in the end
 
-no_problem : (p : Option Problem) → option_map problem_fault p ≡ None → p ≡ None
-no_problem None h = refl
-no_problem (Some p) h = absurd (cc)
-
-pub none_going : (s : Status) (b : Bool) (p : Option Problem) → fault_by s b p ≡ None
-    → (s ≡ Going) × (p ≡ None)
-none_going Going b p h = (refl, no_problem p h)
-none_going Full b p h = absurd (cc)
-none_going Deep b p h = absurd (cc)
-none_going Starved b p h = absurd (cc)
-
 pub has_all : (s : Status) (limit : ℕ) (output bytes : List ℕ) (deep : Bool) → s ≡ Going
     → HasLetOut s limit output bytes deep
     → (output ≡ bytes) × ((length output ≤ limit) × (deep ≡ false))
@@ -272,7 +262,7 @@ whole_answer : (first e : Emitter) (w : RequestedSettings) (limit : ℕ) (es : L
     → e.fault ≡ None → text ≡ e.output → TellsOutcome e → IsWhole e text
     → IsEmittedText w limit es text
 whole_answer first e w limit es text s l none is t h =
-    let on = none_going e.status e.starved (verdict e []) (sym t.fault ∙ none) in
+    let on = none_by e.status e.starved (verdict e []) (sym t.fault ∙ none) in
     let k = has_all e.status limit e.output (text_bytes w es) (is_deep (whole_text w es)) on.0 (told_text e first w limit es s l t) in
     record {
       right = sym (first_verdict first w limit es s) ∙ (sym (l.refuses on.0) ∙ on.1);

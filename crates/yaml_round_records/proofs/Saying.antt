@@ -96,11 +96,6 @@ one_collected start left rest l m t c e a = record {
   split = c.split ∙ ap (λ z. c.given ++ events_alone z) e ∙ sym (append_assoc c.given (t.0 ∷ []) (events_alone rest));
 }
 
--- behind the last one
-pub all_collected : (start left : List Told) (l : Listing) → Collected start left l → left ≡ []
-    → Collected start [] l
-all_collected start left l c e = subst (λ z. Collected start z l) e c
-
 -- what an answer that is no fault says
 pub it_holds : (P : Type 0) (r : Result (Unit {0}) AllocError) → IfOk r (λ _. P) → false ≡ is_err r
     → P

@@ -1,13 +1,9 @@
 -- Tokens that are listed one behind another.
-use Rattle.std.proofs.Common.{◌≡◌, ◌∙◌, ◌⊎◌, inl, inr, true, false, ap, sym, subst, refl, ℕ, ◌+◌, List, [], ◌∷◌, ◌++◌, length, append_assoc, arith}
-use Rattle.std.specs.Prelude.{Option, Some, None, Result, Ok, Err}
+use Rattle.std.proofs.Common.{◌≡◌, ◌∙◌, ap, sym, subst, ℕ, ◌+◌, List, [], ◌∷◌, ◌++◌, length, append_assoc, arith}
 use Rattle.std.proofs.lemmas.List.{append-nil, length-append}
 use Rattle.yaml_scan.specs.Tokens.{Token}
-use Rattle.yaml_scan.specs.Faults.{Fault, IsMemoryFault, scan_layers}
-use Rattle.yaml_scan.specs.Remaining.{Remaining, nothing}
+use Rattle.yaml_scan.specs.Remaining.{Remaining}
 use Rattle.yaml_scan.specs.Session.{HasFirst, first_of, others_of, behind_first}
-use Rattle.yaml_scan.specs.Left.{IsTold}
-use Rattle.yaml_round_records.specs.declared.token_record.yaml_c_token.{yaml_c_token}
 use Rattle.yaml_round_records.specs.declared.token_listing.TokenListing.{TokenListing}
 use Rattle.yaml_round_records.specs.TokensListed.{body_texts, record_at, records_from, all_texts, ListsTokens, Adds}
 
@@ -45,9 +41,6 @@ pub record Listed (start now : Remaining) (l : TokenListing) : Type 0 where
   pub fault : now.fault ≡ start.fault
   pub lists : ListsTokens given l
 
-pub none_listed : (start : Remaining) (l : TokenListing) → ListsTokens [] l → Listed start start l
-none_listed start l h = record { given = []; split = refl; fault = refl; lists = h }
-
 moved : (all given ts : List Token) → HasFirst ts → all ≡ given ++ ts
     → all ≡ (given ++ first_of ts ∷ []) ++ others_of ts
 moved all given [] h e = absurd h
@@ -70,21 +63,3 @@ pub one_listed : (start now peeked next : Remaining) (old new : TokenListing) �
     → Adds old (first_of peeked.tokens) new × (next ≡ behind_first peeked) → Listed start next new
 one_listed start now peeked next old new l same h a =
     one_more start peeked next old new (subst (λ c. Listed start c old) (sym same) l) h a
-
--- nothing is to come
-pub all_listed : (start now : Remaining) (l : TokenListing) → Listed start now l → now ≡ nothing
-    → (start.fault ≡ None) × ListsTokens start.tokens l
-all_listed start now l h e = (
-  sym h.fault ∙ ap (λ (c : Remaining). c.fault) e,
-  subst (λ z. ListsTokens z l) (sym (h.split ∙ ap (λ (c : Remaining). h.given ++ c.tokens) e ∙ append-nil h.given)) h.lists,
-)
-
--- the fault that ends them is told, or want of memory
-pub fault_listed : (start now : Remaining) (l : TokenListing) (f : Fault) → Listed start now l
-    → IsTold now f
-    → IsMemoryFault scan_layers f ⊎ ((start.fault ≡ Some f) × ListsTokens start.tokens l)
-fault_listed start now l f h (inl m) = inl m
-fault_listed start now l f h (inr e) = inr (
-  sym h.fault ∙ e.1,
-  subst (λ z. ListsTokens z l) (sym (h.split ∙ ap (λ z. h.given ++ z) e.0 ∙ append-nil h.given)) h.lists,
-)

@@ -8,12 +8,12 @@ ghost use Rattle.yaml_round_records.specs.Meaning.{events_meant, asked_meant};
 ghost use Rattle.yaml_round_records.specs.Written.{IsEmitted};
 ghost use Rattle.yaml_round_records.specs.Leading.{bytes_of, requested, asked_for, all_events, StartsUnder, TakesAllEvents, FinishesEmitter};
 
-use crate::event::{Rooms, put_event};
+use crate::event::put_event;
 use crate::number::{break_of, encoding_of, is_set};
 use crate::record::{yaml_c_directive, yaml_c_event, yaml_c_settings};
 use std::alloc::Global;
 use yaml_emit::{
-    RequestedSettings, yaml_emitter_delete, yaml_emitter_emit_from, yaml_emitter_fault,
+    RequestedSettings, Rooms, yaml_emitter_delete, yaml_emitter_emit_from, yaml_emitter_fault,
     yaml_emitter_initialize, yaml_emitter_into_output, yaml_emitter_set_break,
     yaml_emitter_set_canonical, yaml_emitter_set_encoding, yaml_emitter_set_indent,
     yaml_emitter_set_unicode, yaml_emitter_set_width, yaml_emitter_t,

@@ -14,19 +14,12 @@ use crate::number::{
 };
 use crate::record::{yaml_c_directive, yaml_c_event, yaml_c_span};
 use std::alloc::{AllocError, Global};
+use yaml_emit::{Rooms, put_aside};
 use yaml_parse::{
     yaml_event_body_t, yaml_event_type_t, yaml_mapping_style_t, yaml_scalar_style_t,
     yaml_sequence_style_t, yaml_tag_directive_t, yaml_version_directive_t,
 };
 use yaml_scan_model::{moved, put_back, refilled, room_of};
-
-/// Texts that were let go, in whose room those of later events are put.
-#[derive(Drop)]
-pub(crate) struct Rooms {
-    pub alloc: Global,
-    pub tag: Vec<u8>,
-    pub value: Vec<u8>,
-}
 
 fn copied(alloc: Global, text: &[u8]) -> Option<Vec<u8>>
     ensures { IfSome result (λ v. v.items ≡ text.now) }
@@ -141,22 +134,6 @@ fn alias_of(alloc: Global, bytes: &[u8], given: &yaml_c_event) -> Option<yaml_ev
     match text_at(alloc, bytes, given.anchor) {
         Some(anchor) => Some(yaml_event_body_t::Alias { anchor }),
         None => None,
-    }
-}
-
-// Puts the rooms of an event's tag and value aside.
-fn put_aside(rooms: &mut Rooms, event: &mut yaml_event_body_t) {
-    let tag = match event {
-        yaml_event_body_t::Scalar { tag, value, .. } => {
-            rooms.value = moved(value);
-            tag.take()
-        }
-        yaml_event_body_t::SequenceStart { tag, .. }
-        | yaml_event_body_t::MappingStart { tag, .. } => tag.take(),
-        _ => None,
-    };
-    if let Some(room) = tag {
-        rooms.tag = room;
     }
 }
 

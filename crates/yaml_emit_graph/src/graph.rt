@@ -1,6 +1,6 @@
 //! The events of a document's nodes.
 
-ghost use Rattle.std.specs.Prelude.{◌≡◌, IfOk, OnOk, IfSome, None, IsUtf8, map};
+ghost use Rattle.std.specs.Prelude.{◌≡◌, IfOk, OnOk, IfSome, None, Some, IsUtf8, map};
 ghost use Rattle.yaml_parse_model.specs.Constructors.{HasUtf8, IsUtf8Option};
 ghost use Rattle.yaml_parse_document.specs.Documents.{str_tag, seq_tag, map_tag};
 ghost use Rattle.yaml_parse_model.specs.Events.{body_of, text_of, directive_of};
@@ -95,6 +95,37 @@ fn copies(
     }
 }
 
+// Puts a body in place of another one, which is let go.
+// Inlined: some stores. A call of its own for the proofs: there letting go takes a step for each kind.
+#[inline(always)]
+fn put_in(event: &mut yaml_event_body_t, body: yaml_event_body_t)
+    ensures { event.new ≡ body }
+{
+    *event = body;
+}
+
+// A node's anchor and tag in their slots, the tag in the room of the one that stands there, or in the one that is put aside.
+// Inlined: an anchor is mostly none.
+#[inline(always)]
+fn put_head(
+    rooms: &mut Rooms,
+    number: u64,
+    tag: &yaml_node_tag_t,
+    name: &mut Option<Vec<u8>>,
+    held_tag: &mut Option<Vec<u8>>,
+) -> Result<(), AllocError>
+    ensures name { OnOk result (text_of name.new ≡ anchor_of number) }
+    ensures utf8 { OnOk result (IsUtf8Option (text_of name.new)) }
+    ensures tag { OnOk result (text_of held_tag.new ≡ Some (tag_of tag.now)) }
+{
+    let anchor = anchor_of(rooms.alloc, number)?;
+    *name = anchor;
+    let mut room = room_of(held_tag, &mut rooms.tag);
+    let text = refilled(&mut room, tag.as_slice(), 0)?;
+    *held_tag = Some(text);
+    Ok(())
+}
+
 // A scalar, in rooms that are put aside.
 // Out of line: mostly the event before it is one too.
 #[inline(never)]
@@ -111,18 +142,20 @@ fn put_other_scalar(
         result (body_of event.new) }
 {
     put_aside(rooms, event);
-    let anchor = anchor_of(rooms.alloc, number)?;
     let plain = is_str(tag);
-    let tag_text = refilled(&mut rooms.tag, tag.as_slice(), 0)?;
+    let mut anchor = None;
+    let mut held_tag = None;
+    put_head(rooms, number, tag, &mut anchor, &mut held_tag)?;
     let text = refilled(&mut rooms.value, value, 0)?;
-    *event = yaml_event_body_t::Scalar {
+    let body = yaml_event_body_t::Scalar {
         anchor,
-        tag: Some(tag_text),
+        tag: held_tag,
         value: text,
         plain_implicit: plain,
         quoted_implicit: plain,
         style,
     };
+    put_in(event, body);
     Ok(())
 }
 
@@ -150,14 +183,10 @@ fn put_scalar_event(
             quoted_implicit,
             style: how,
         } => {
-            let anchor = anchor_of(rooms.alloc, number)?;
-            let plain = is_str(tag);
-            let mut room = room_of(held_tag, &mut rooms.tag);
-            let tag_text = refilled(&mut room, tag.as_slice(), 0)?;
+            put_head(rooms, number, tag, name, held_tag)?;
             let text = refilled(held_value, value, 0)?;
-            *name = anchor;
-            *held_tag = Some(tag_text);
             *held_value = text;
+            let plain = is_str(tag);
             *plain_implicit = plain;
             *quoted_implicit = plain;
             *how = style;
@@ -181,15 +210,17 @@ fn put_sequence(
         (is_flow_sequence style))) result (body_of event.new) }
 {
     put_aside(rooms, event);
-    let anchor = anchor_of(rooms.alloc, number)?;
     let implicit = is_seq(tag);
-    let tag_text = refilled(&mut rooms.tag, tag.as_slice(), 0)?;
-    *event = yaml_event_body_t::SequenceStart {
+    let mut anchor = None;
+    let mut held_tag = None;
+    put_head(rooms, number, tag, &mut anchor, &mut held_tag)?;
+    let body = yaml_event_body_t::SequenceStart {
         anchor,
-        tag: Some(tag_text),
+        tag: held_tag,
         implicit,
         style,
     };
+    put_in(event, body);
     Ok(())
 }
 
@@ -207,15 +238,17 @@ fn put_mapping(
         (is_flow_mapping style))) result (body_of event.new) }
 {
     put_aside(rooms, event);
-    let anchor = anchor_of(rooms.alloc, number)?;
     let implicit = is_map(tag);
-    let tag_text = refilled(&mut rooms.tag, tag.as_slice(), 0)?;
-    *event = yaml_event_body_t::MappingStart {
+    let mut anchor = None;
+    let mut held_tag = None;
+    put_head(rooms, number, tag, &mut anchor, &mut held_tag)?;
+    let body = yaml_event_body_t::MappingStart {
         anchor,
-        tag: Some(tag_text),
+        tag: held_tag,
         implicit,
         style,
     };
+    put_in(event, body);
     Ok(())
 }
 
@@ -307,9 +340,8 @@ fn put_alias_event(
 ) -> Result<(), AllocError>
     ensures { Says (alias (name_of number)) result (body_of event.new) }
 {
-    *event = yaml_event_body_t::Alias {
-        anchor: name_of(alloc, number)?,
-    };
+    let anchor = name_of(alloc, number)?;
+    put_in(event, yaml_event_body_t::Alias { anchor });
     Ok(())
 }
 

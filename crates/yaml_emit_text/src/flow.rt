@@ -79,6 +79,8 @@ fn put_text_char(sink: &mut Sink, page: Page, quote: bool, cuts: bool, c: char)
 }
 
 // A break of a value, with one more in front where it is due.
+// Inlined: a value of many lines puts one for each.
+#[inline(always)]
 pub(crate) fn put_breaks(sink: &mut Sink, due: bool, line_break: LineBreak, c: char)
     ensures { Puts sink.old sink.new (when due (new_line line_break) ▹ value_break line_break c) }
 {

@@ -137,6 +137,15 @@ fn alias_of(alloc: Global, bytes: &[u8], given: &yaml_c_event) -> Option<yaml_ev
     }
 }
 
+// Puts a body in place of another one, which is let go.
+// Inlined: some stores. A call of its own for the proofs: there letting go takes a step for each kind.
+#[inline(always)]
+fn put_in(event: &mut yaml_event_body_t, body: yaml_event_body_t)
+    ensures { event.new ≡ body }
+{
+    *event = body;
+}
+
 // A text in the room of another.
 // Out of line: what the room is told of its memory stands once.
 #[inline(never)]
@@ -183,38 +192,45 @@ fn anchor_at(
     text_if(Vec::new(alloc), bytes, given.has_anchor, given.anchor)
 }
 
-// A scalar, in rooms that are put aside.
-fn put_other_scalar(
+// A node's anchor and tag in their slots, the tag in the room of the one that stands there, or in the one that is put aside.
+fn put_properties(
     rooms: &mut Rooms,
     bytes: &[u8],
     given: &yaml_c_event,
-    style: yaml_scalar_style_t,
-    event: &mut yaml_event_body_t,
+    anchor: &mut Option<Vec<u8>>,
+    tag: &mut Option<Vec<u8>>,
 ) -> Result<(), AllocError>
-    ensures { OnOk result (scalar_by
-        (optional_at bytes.now given.now.has_anchor given.now.anchor)
-        (optional_at bytes.now given.now.has_tag given.now.tag)
-        (part_at bytes.now given.now.value) (Some style) given.now ≡ Some (body_of event.new)) }
+    ensures { OnOk result ((optional_at bytes.now given.now.has_anchor given.now.anchor
+        ≡ Some (text_of anchor.new))
+        × (optional_at bytes.now given.now.has_tag given.now.tag ≡ Some (text_of tag.new))) }
 {
-    put_aside(rooms, event);
-    let anchor = anchor_at(rooms.alloc, bytes, given)?;
-    let room = moved(&mut rooms.tag);
-    let tag = text_if(room, bytes, given.has_tag, given.tag)?;
-    let mut value = moved(&mut rooms.value);
-    put_text(&mut value, bytes, given.value)?;
-    *event = yaml_event_body_t::Scalar {
-        anchor,
-        tag,
-        value,
-        plain_implicit: is_set(given.implicit),
-        quoted_implicit: is_set(given.quoted_implicit),
-        style,
-    };
+    let name = anchor_at(rooms.alloc, bytes, given)?;
+    *anchor = name;
+    let room = room_of(tag, &mut rooms.tag);
+    let text = text_if(room, bytes, given.has_tag, given.tag)?;
+    *tag = text;
     Ok(())
 }
 
-// A scalar: in the rooms of the one before it, where the slot holds one.
-fn put_styled_scalar(
+// Has the slot hold a scalar: where another event stands there, an empty one, in the rooms that are put aside.
+fn hold_scalar(rooms: &mut Rooms, event: &mut yaml_event_body_t) {
+    if let yaml_event_body_t::Scalar { .. } = event {
+        return;
+    }
+    put_aside(rooms, event);
+    let body = yaml_event_body_t::Scalar {
+        anchor: None,
+        tag: None,
+        value: moved(&mut rooms.value),
+        plain_implicit: false,
+        quoted_implicit: false,
+        style: yaml_scalar_style_t::YAML_ANY_SCALAR_STYLE,
+    };
+    put_in(event, body);
+}
+
+// A scalar, in the rooms of the one that the slot holds. Refused where it holds none.
+fn fill_scalar(
     rooms: &mut Rooms,
     bytes: &[u8],
     given: &yaml_c_event,
@@ -228,27 +244,21 @@ fn put_styled_scalar(
 {
     match event {
         yaml_event_body_t::Scalar {
-            anchor: name,
-            tag: held_tag,
-            value: held_value,
+            anchor,
+            tag,
+            value,
             plain_implicit,
             quoted_implicit,
             style: how,
         } => {
-            let anchor = anchor_at(rooms.alloc, bytes, given)?;
-            let room = room_of(held_tag, &mut rooms.tag);
-            let tag = text_if(room, bytes, given.has_tag, given.tag)?;
-            let mut value = moved(held_value);
-            put_text(&mut value, bytes, given.value)?;
-            *name = anchor;
-            *held_tag = tag;
-            *held_value = value;
+            put_properties(rooms, bytes, given, anchor, tag)?;
+            put_text(value, bytes, given.value)?;
             *plain_implicit = is_set(given.implicit);
             *quoted_implicit = is_set(given.quoted_implicit);
             *how = style;
             Ok(())
         }
-        _ => put_other_scalar(rooms, bytes, given, style, event),
+        _ => Err(AllocError),
     }
 }
 
@@ -265,7 +275,10 @@ fn put_scalar(
         ≡ Some (body_of event.new)) }
 {
     match scalar_style_of(given.style) {
-        Some(style) => put_styled_scalar(rooms, bytes, given, style, event),
+        Some(style) => {
+            hold_scalar(rooms, event);
+            fill_scalar(rooms, bytes, given, style, event)
+        }
         None => Err(AllocError),
     }
 }
@@ -283,15 +296,16 @@ fn put_styled_sequence(
         ≡ Some (body_of event.new)) }
 {
     put_aside(rooms, event);
-    let anchor = anchor_at(rooms.alloc, bytes, given)?;
-    let room = moved(&mut rooms.tag);
-    let tag = text_if(room, bytes, given.has_tag, given.tag)?;
-    *event = yaml_event_body_t::SequenceStart {
+    let mut anchor = None;
+    let mut tag = None;
+    put_properties(rooms, bytes, given, &mut anchor, &mut tag)?;
+    let body = yaml_event_body_t::SequenceStart {
         anchor,
         tag,
         implicit: is_set(given.implicit),
         style,
     };
+    put_in(event, body);
     Ok(())
 }
 
@@ -325,15 +339,16 @@ fn put_styled_mapping(
         ≡ Some (body_of event.new)) }
 {
     put_aside(rooms, event);
-    let anchor = anchor_at(rooms.alloc, bytes, given)?;
-    let room = moved(&mut rooms.tag);
-    let tag = text_if(room, bytes, given.has_tag, given.tag)?;
-    *event = yaml_event_body_t::MappingStart {
+    let mut anchor = None;
+    let mut tag = None;
+    put_properties(rooms, bytes, given, &mut anchor, &mut tag)?;
+    let body = yaml_event_body_t::MappingStart {
         anchor,
         tag,
         implicit: is_set(given.implicit),
         style,
     };
+    put_in(event, body);
     Ok(())
 }
 
@@ -392,10 +407,10 @@ fn put_other(
 ) -> Result<(), AllocError>
     ensures { OnOk result (body_meant bytes.now list.now given.now ≡ Some (body_of event.new)) }
 {
+    put_aside(rooms, event);
     match body_of(rooms.alloc, bytes, list, given) {
         Some(body) => {
-            put_aside(rooms, event);
-            *event = body;
+            put_in(event, body);
             Ok(())
         }
         None => Err(AllocError),

@@ -105,6 +105,8 @@ impl Stacking {
 }
 
 /// Both texts behind the others.
+// Inlined: each line of a text puts both.
+#[inline(always)]
 fn put_both(done: &mut Vec<u8>, first: &[u8], second: &[u8]) -> Result<(), AllocError>
     ensures { OnOk result (done.new.items ≡ done.old.items ++ (first.now ++ second.now)) }
 {

@@ -95,7 +95,8 @@ number_done n text p k same stop some few =
     let count : p + k - p ≡ k = omega arith in
     rw (end, one, short, count) refl
 
-memory_given : {X Y : Type 0} (Is : X → Y → Type 0) (behind : Y → ℕ) (text : List ℕ)
+-- Want of memory refuses whatever stands there.
+pub memory_given : {X Y : Type 0} (Is : X → Y → Type 0) (behind : Y → ℕ) (text : List ℕ)
     (start : yaml_mark_t) (place : Place) (e : ScanError) (r : Result Y Wrong)
     → IsMemory e → ReadsAs Is behind text start place (Err e) r
 memory_given Is behind text start place errors.Memory (Ok y) h = tt

@@ -38,6 +38,19 @@ pub fn put_many(text: &mut Vec<u8>, bytes: &[u8])
     let _ = text.extend_from_slice(bytes);
 }
 
+// Puts these bytes, which are so many, behind a text.
+// Inlined: their number is known.
+#[inline(always)]
+fn put_so_many(text: &mut Vec<u8>, bytes: &[u8], count: usize)
+    requires count { count ≡ length bytes.now }
+    requires room { vec_len text.old + length bytes.now ≤ vec_capacity text.old }
+    ensures items { text.new.items ≡ text.old.items ++ bytes.now }
+    ensures len { vec_len text.new ≡ vec_len text.old + length bytes.now }
+    ensures room { vec_capacity text.old ≤ vec_capacity text.new }
+{
+    put_each(text, &bytes[..count]);
+}
+
 /// Puts these bytes behind a text: up to eight take less time than a copy, one by one with their number known.
 pub fn put_near(text: &mut Vec<u8>, bytes: &[u8])
     requires { vec_len text.old + length bytes.now ≤ vec_capacity text.old }
@@ -46,14 +59,14 @@ pub fn put_near(text: &mut Vec<u8>, bytes: &[u8])
     ensures room { vec_capacity text.old ≤ vec_capacity text.new }
 {
     match bytes.len() {
-        1 => put_each(text, &bytes[..1]),
-        2 => put_each(text, &bytes[..2]),
-        3 => put_each(text, &bytes[..3]),
-        4 => put_each(text, &bytes[..4]),
-        5 => put_each(text, &bytes[..5]),
-        6 => put_each(text, &bytes[..6]),
-        7 => put_each(text, &bytes[..7]),
-        8 => put_each(text, &bytes[..8]),
+        1 => put_so_many(text, bytes, 1),
+        2 => put_so_many(text, bytes, 2),
+        3 => put_so_many(text, bytes, 3),
+        4 => put_so_many(text, bytes, 4),
+        5 => put_so_many(text, bytes, 5),
+        6 => put_so_many(text, bytes, 6),
+        7 => put_so_many(text, bytes, 7),
+        8 => put_so_many(text, bytes, 8),
         _ => put_many(text, bytes),
     }
 }

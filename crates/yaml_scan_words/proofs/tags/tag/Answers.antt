@@ -1,5 +1,9 @@
 use Rattle.std.proofs.Common.{◌≡◌, ◌+◌, ◌==◌, ◌&&◌, not, true, slice_range, refl, sym, ◌∙◌, arith}
-use Rattle.yaml_scan_words.proofs.Words.{byte, handle_end, may_end_tag}
+use Rattle.yaml_scan_model.specs.declared.problem.ScanError.TheVariants as errors
+use Rattle.yaml_scan_words.specs.Tags.{tag_end}
+use Rattle.yaml_scan_words.specs.TagsGiven.{IsTagWord}
+use Rattle.yaml_scan_words.proofs.Words.{err_from_is_err_and, byte, mark_at, handle_end, may_end_tag, tag_at}
+use Rattle.yaml_scan_words.proofs.DirectivesLemmas.{memory_given}
 use Rattle.yaml_scan_words.proofs.ShortLemmas.{short_printed, short_tag, handle_forward}
 use Rattle.yaml_scan_words.proofs.tags.tag.Goals as goal
 
@@ -19,6 +23,23 @@ pub copied_run-requires-clause-forward : goal.copied_run-requires-clause-forward
 copied_run-requires-clause-forward c =
     let low = handle_forward c.args.reader.now.text c.args.reader.now.at in
     rw (c.place.ensures, c.handle_end-middle.ensures) (omega arith)
+
+pub returns-then-not-is_short_form : goal.returns-then-not-is_short_form
+returns-then-not-is_short_form c = c.tag_apart.ensures
+
+pub returns-in_err-handle : goal.returns-in_err-handle
+returns-in_err-handle c =
+    let text = c.args.reader.now.text in
+    let p = c.args.reader.now.at in
+    let e = err_from_is_err_and c.from_residual.result c.from_residual.ensures.1 in
+    rw (e.1, e.2) (memory_given (IsTagWord text p) tag_end text (mark_at text p) c.args.reader.now errors.Memory (tag_at c.args.flow text p) tt)
+
+pub returns-in_err-suffix : goal.returns-in_err-suffix
+returns-in_err-suffix c =
+    let text = c.args.reader.now.text in
+    let p = c.args.reader.now.at in
+    let e = err_from_is_err_and c.from_residual-in_err-suffix.result c.from_residual-in_err-suffix.ensures.1 in
+    rw (e.1, e.2) (memory_given (IsTagWord text p) tag_end text (mark_at text p) c.args.reader.now errors.Memory (tag_at c.args.flow text p) tt)
 
 pub returns : goal.returns
 returns c =

@@ -120,8 +120,8 @@ few_room_by true [] f h m = omega arith
 few_room_by true (e ∷ es) f h m = absurd (cc)
 
 -- behind the last that is laid out two are left: they wait, or the output has stopped
-pub room_held : (early b : Bool) (xs : List Event) (f : Event) → (releases_by early xs f && b) ≡ false
-    → (b ≡ false → length xs ≤ 2) → length xs ≤ 3 → length xs ≤ 2
+pub room_held : (early b : Bool) (xs : List Event) (f : Event)
+    → (releases_by early xs f && b) ≡ false → (b ≡ false → length xs ≤ 2) → length xs ≤ 3 → length xs ≤ 2
 room_held early true xs f h s m = few_room_by early xs f (both_false _ true refl h) m
 room_held early false xs f h s m = s refl
 

@@ -54,8 +54,8 @@ lays_framed old new anchor tag value plain quoted style empty h l =
     let p = framed anchor tag quoted style h in
     rw (p.no_anchor, p.no_tag, p.may, p.asks) l
 
-right_by : (canonical : Bool) (place : Expected) (top : Option Level) (value : List ℕ) (plain : Bool)
-    → canonical ≡ false → place ≡ at.Node
+right_by : (canonical : Bool) (place : Expected) (top : Option Level) (value : List ℕ)
+    (plain : Bool) → canonical ≡ false → place ≡ at.Node
     → problem_by canonical place top (scalar (quoted_text value plain)) ≡ None
 unfolding problem_by event_problem place_problem last_problem
 right_by canonical place None value true e h = rw (e, h) refl

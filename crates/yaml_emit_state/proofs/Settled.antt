@@ -43,8 +43,8 @@ same_text p x sequence ls q a b v w h =
     ∙ (ap (λ (z : Bool). text_as p x sequence q (before_node p.settings (top_of ls) b) (position_of (top_of ls) a) z) h.flow
     ∙ ap (λ (z : NodePosition). text_as p x sequence q (before_node p.settings (top_of ls) b) z (is_flow p.settings (position_of (top_of ls) b) q w)) h.at)
 
-same_state : (p : Context) (phase : Phase) (sequence : Bool) (ls : List Level) (q : Start) (a b v w : Bool)
-    (c : Cursor) → Alike p.settings ls q a b v w
+same_state : (p : Context) (phase : Phase) (sequence : Bool) (ls : List Level) (q : Start)
+    (a b v w : Bool) (c : Cursor) → Alike p.settings ls q a b v w
     → state_as p phase sequence (levels_behind ls a) (position_of (top_of ls) a) (is_flow p.settings (position_of (top_of ls) a) q v) c
     ≡ state_as p phase sequence (levels_behind ls b) (position_of (top_of ls) b) (is_flow p.settings (position_of (top_of ls) b) q w) c
 same_state p phase sequence ls q a b v w c h =
@@ -95,7 +95,8 @@ alike_open s (l ∷ ls) q a b v w h =
       flow = flow_alike s.canonical l.flow q.flow v w k.1;
     }
 
-formed_alike : (canonical : Bool) (x y : Bool) → canonical ≡ true → (canonical || x) ≡ (canonical || y)
+formed_alike : (canonical : Bool) (x y : Bool) → canonical ≡ true
+    → (canonical || x) ≡ (canonical || y)
 formed_alike true x y h = refl
 formed_alike false x y h = absurd (cc)
 

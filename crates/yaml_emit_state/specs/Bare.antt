@@ -39,7 +39,8 @@ is_double YAML_DOUBLE_QUOTED_SCALAR_STYLE = true
 is_double style = false
 
 abbrev pub is_framed : Option (List ℕ) → Option (List ℕ) → Bool → yaml_scalar_style_t → Bool
-is_framed anchor tag quoted style = not (has anchor) && (not (has tag) && (quoted && is_double style))
+is_framed anchor tag quoted style = not (has anchor)
+    && (not (has tag) && (quoted && is_double style))
 
 abbrev pub IsFramedEvent : said.Event → Type 0
 IsFramedEvent (said.scalar x) = is_framed x.anchor x.tag x.quoted x.style ≡ true

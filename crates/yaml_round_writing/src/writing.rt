@@ -12,10 +12,10 @@ ghost use Rattle.yaml_round_writing.specs.Writing.{IsUnder, Gives, is_canonical,
 
 use std::alloc::Global;
 use yaml_emit::{
-    yaml_emitter_emit_early, yaml_emitter_emit_from, yaml_emitter_fault, yaml_emitter_initialize,
-    yaml_emitter_into_output, yaml_emitter_output, yaml_emitter_set_break,
-    yaml_emitter_set_canonical, yaml_emitter_set_encoding, yaml_emitter_set_indent,
-    yaml_emitter_set_unicode, yaml_emitter_set_width, yaml_emitter_t,
+    yaml_emitter_emit_early, yaml_emitter_fault, yaml_emitter_initialize, yaml_emitter_into_output,
+    yaml_emitter_output, yaml_emitter_set_break, yaml_emitter_set_canonical,
+    yaml_emitter_set_encoding, yaml_emitter_set_indent, yaml_emitter_set_unicode,
+    yaml_emitter_set_width, yaml_emitter_t,
 };
 use yaml_parse::{
     yaml_encoding_t, yaml_event_t, yaml_fault_t, yaml_found_t, yaml_memory_fault, yaml_origin_t,
@@ -103,6 +103,8 @@ fn see(beginning: &mut Beginning, event: &yaml_event_t)
 }
 
 // Gives the event in the slot, as its form has it; what is left there counts for nothing. The emitter keeps its first fault.
+// Inlined into both loops: a few tests and a call.
+#[inline(always)]
 fn emit_formed(emitter: &mut yaml_emitter_t, form: &mut Form, event: &mut yaml_event_t)
     requires { HasUtf8 (event_of event.old).body }
     ensures { Gives form.old emitter.old (event_of event.old) form.new emitter.new }
@@ -115,12 +117,12 @@ fn emit_formed(emitter: &mut yaml_emitter_t, form: &mut Form, event: &mut yaml_e
         Form::Pretty(beginning) => {
             normalize_event(event, false);
             see(beginning, event);
-            yaml_emitter_emit_from(emitter, event);
+            yaml_emitter_emit_early(emitter, event);
         }
         Form::Readable(place) => {
             normalize_event(event, true);
             *place = restyle(event, *place);
-            yaml_emitter_emit_from(emitter, event);
+            yaml_emitter_emit_early(emitter, event);
         }
     }
 }

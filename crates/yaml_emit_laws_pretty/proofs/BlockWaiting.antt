@@ -87,7 +87,7 @@ text_owed folded true blank false after feed empties words behind broken value w
 text_owed folded true blank true after feed empties words behind broken value w e =
     let (a, b, c, d, f) = w.folds refl in
     ap (λ (t : List ℕ). between folded (not blank && not after) feed t ++ (words ++ behind)) (append-nil empties)
-    ∙ ap (λ (t : List ℕ). t ++ (words ++ behind)) ((rw (a, b, (sym e ∙ f), c) refl) ∙ space_or_some empties d)
+    ∙ ap (λ (t : List ℕ). t ++ (words ++ behind)) ((rw (a, b, (sym e ∙ f), c) refl) ∙ sym (space_or_some empties d))
 
 pub waits_text : (folded any blank more : Bool) (feed empties : List ℕ) (broken : Bool) (x : ℕ)
     (xs : List ℕ) (k : ℕ) (words next : List ℕ) (ls : List BlockLine)

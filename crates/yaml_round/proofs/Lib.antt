@@ -15,3 +15,4 @@ pub use Rattle.yaml_round_writing.proofs.Flags
 pub use Rattle.yaml_round_writing.proofs.Walks
 pub use Rattle.yaml_round_writing.proofs.Joining
 pub use Rattle.yaml_round_writing.proofs.Loaded
+pub use Rattle.yaml_round_writing.proofs.Forms

@@ -1,12 +1,12 @@
 -- Events that are drawn one behind another.
-use Rattle.std.proofs.Common.{◌≡◌, ℕ, ◌+◌, ◌<◌, ◌≤◌, length, get_or, drop, add-one, Bool, true, false, ◌&&◌, List, [], ◌∷◌, ◌++◌, refl, sym, subst, ap, ◌∙◌, Option, None, Some, append-nil, append_assoc}
+use Rattle.std.proofs.Common.{◌≡◌, ℕ, ◌+◌, ◌<◌, ◌≤◌, length, get_or, drop, add-one, Bool, true, false, ◌&&◌, List, [], ◌∷◌, ◌++◌, refl, sym, ap, ◌∙◌, Option, None, Some, append-nil, append_assoc}
 use Rattle.std.proofs.Math.Seq.{drop-cons}
 use Rattle.std.proofs.lemmas.List.{drop_all}
 use Rattle.yaml_round_answers.specs.declared.record.yaml_c_step.{yaml_c_step}
 use Rattle.yaml_round_answers.specs.declared.record.yaml_c_spot.{yaml_c_spot}
 use Rattle.std.specs.Prelude.{Ok}
 use Rattle.yaml_round_answers.specs.Composing.{name_at, is_step, are_steps, Sketch, drawn, Draws, drawn_on, all_drawn}
-use Rattle.yaml_round_answers.proofs.Showing.{none_left, some_left}
+use Rattle.yaml_round_records.proofs.Checked.{none_left, some_left}
 
 -- ---- whether records mean events
 
@@ -42,12 +42,6 @@ steps_end bytes rs i h inv = sym (no_steps bytes) ∙ ap (are_steps bytes) (sym 
 -- in front of what is left stand these
 abbrev pub put_before : List yaml_c_spot → List yaml_c_spot × Bool → List yaml_c_spot × Bool
 put_before xs r = (xs ++ r.0, r.1)
-
-pub drawn_start : (bytes : List ℕ) (rs : List yaml_c_step) (s t : Sketch) (xs : List yaml_c_spot)
-    → xs ≡ [] → s ≡ t → all_drawn bytes rs t ≡ put_before xs (all_drawn bytes (drop 0 rs) s)
-drawn_start bytes rs s t xs none same =
-    ap (λ z. all_drawn bytes rs z) (sym same)
-    ∙ ap (λ z. put_before z (all_drawn bytes rs s)) (sym none)
 
 left_drawn : (bytes : List ℕ) (rs : List yaml_c_step) (i : ℕ) (d : yaml_c_step) (s : Sketch)
     → i < length rs

@@ -1,6 +1,6 @@
 -- The walk over a document is that over the records that show it.
-use Rattle.std.proofs.Common.{◌≡◌, ℕ, length, List, [], ◌∷◌, ◌++◌, Bool, refl, ap, ◌∙◌, map}
-use Rattle.std.specs.Prelude.{zero, suc, ℤ, pos, negsuc, true, false, replicate, if◌then◌else◌}
+use Rattle.std.proofs.Common.{◌≡◌, ℕ, length, List, [], ◌∷◌, ◌++◌, refl, ap, ◌∙◌, map}
+use Rattle.std.specs.Prelude.{zero, suc, ℤ, pos, negsuc, false, replicate, if◌then◌else◌}
 use Rattle.yaml_parse_model.specs.Nodes.{Node, NodeBody}
 use Rattle.yaml_parse_model.specs.Nodes as node
 use Rattle.yaml_parse_document.specs.Documents.{Document}
@@ -15,7 +15,7 @@ use Rattle.yaml_round_answers.specs.declared.record.yaml_c_graph.{yaml_c_graph}
 use Rattle.yaml_round_answers.specs.declared.record.yaml_c_turn.{yaml_c_turn}
 use Rattle.yaml_round_answers.specs.Graphs.{holds, held_by, body_if, stand_in, stand_ins, kind_of, kind_at, kind_in, record_in, ShowsNodeRecord, ShowNodes, Shows}
 use Rattle.yaml_round_answers.specs.Turns.{turn_told, node_kind, turn_by, turns_by, TellsTurns, opening_kind, closing_kind}
-use Rattle.yaml_round_answers.proofs.Showing.{ids_held}
+use Rattle.yaml_round_answers.proofs.Showing.{ids_held, is_held}
 
 -- ---- nodes that hold the same
 
@@ -88,10 +88,6 @@ kind_holds (node.scalar value style) = refl
 kind_holds (node.sequence items style) = refl
 kind_holds (node.mapping pairs style) = refl
 
-is_if : (b : Bool) (held : List ℤ) → is_collection (body_if b held) ≡ b
-is_if true held = refl
-is_if false held = refl
-
 -- what is so of each record and its node, by number: of none too
 each : (P : NodeBody → NodeBody → Type 0) (list : List ℤ) → P node.no node.no
     → ((r : yaml_c_node) (n : Node) → ShowsNodeRecord list r n → P (body_if (holds r.kind) (held_by list r)) n.body)
@@ -120,7 +116,7 @@ shown_alike list rs ns s = record {
   count = counted list rs ns s;
   ids = each (λ b c. child_ids b ≡ child_ids c) list refl (λ r n h. ids_held list r ∙ h.held) rs ns s;
   kinds = each (λ b c. is_collection b ≡ is_collection c) list refl
-      (λ r n h. is_if (holds r.kind) (held_by list r) ∙ ap holds h.kind ∙ kind_holds n.body) rs ns s;
+      (λ r n h. is_held (holds r.kind) (held_by list r) ∙ ap holds h.kind ∙ kind_holds n.body) rs ns s;
 }
 
 -- the kinds of the nodes are those of the records

@@ -1,16 +1,17 @@
 -- What records show of nodes.
 use Rattle.std.proofs.Common.{◌≡◌, ℕ, ◌+◌, ◌<◌, ◌≤◌, length, get_or, drop, add-one, Bool, true, false, ◌&&◌, List, [], refl, sym, subst, ap, ◌∙◌, Option, None, Some, map}
 use Rattle.std.specs.Prelude.{zero, suc, ℤ, pos, negsuc, slice_get, option_map}
-use Rattle.std.proofs.Math.Seq.{drop-cons, drop-nil}
+use Rattle.std.proofs.Math.Seq.{drop-cons}
 use Rattle.std.proofs.lemmas.List.{drop_all}
 use Rattle.std.proofs.lemmas.Option.{slice_get-map}
-use Rattle.yaml_parse_model.specs.Nodes.{Node, NodeBody}
+use Rattle.yaml_parse_model.specs.Nodes.{NodeBody}
 use Rattle.yaml_parse_model.specs.Nodes as node
 use Rattle.yaml_emit_graph.specs.Graph.{place_at, child_ids, is_collection, body_of_id, body_at}
 use Rattle.yaml_round_answers.specs.declared.record.yaml_c_node.{yaml_c_node}
 use Rattle.yaml_round_answers.specs.declared.walk.Open.{Open}
 use Rattle.yaml_round_answers.specs.Graphs.{part, holds, held_if, held_by, is_node, are_nodes, body_if, stand_in, record_in}
 use Rattle.yaml_round_answers.specs.Walk.{next_of, NextChild}
+use Rattle.yaml_round_records.proofs.Checked.{none_left, some_left}
 
 -- ---- the node under a number
 
@@ -34,7 +35,8 @@ body_found : (list : List ℤ) (rs : List yaml_c_node) (id : ℤ) (o : Option ya
     → o ≡ record_in rs (place_at id) → body_of_id (map (stand_in list) rs) id ≡ body_in list o
 body_found list rs id o is = body_there list rs id ∙ ap (body_in list) (sym is)
 
-is_held : (b : Bool) (held : List ℤ) → is_collection (body_if b held) ≡ b
+-- whether what is held makes a collection
+pub is_held : (b : Bool) (held : List ℤ) → is_collection (body_if b held) ≡ b
 is_held true held = refl
 is_held false held = refl
 
@@ -46,25 +48,6 @@ pub ids_held : (list : List ℤ) (r : yaml_c_node)
     → child_ids (body_if (holds r.kind) (held_by list r)) ≡ held_by list r
 unfolding held_by
 ids_held list r = ids_if (holds r.kind) (part list r.first r.count)
-
-pub no_collection : (list : List ℤ) (rs : List yaml_c_node) (id : ℤ) (o : Option yaml_c_node)
-    → o ≡ record_in rs (place_at id) → o ≡ None
-    → false ≡ is_collection (body_of_id (map (stand_in list) rs) id)
-no_collection list rs id o is none = sym (ap is_collection (body_found list rs id o is ∙ ap (body_in list) none))
-
-pub kind_holds : (list : List ℤ) (rs : List yaml_c_node) (id : ℤ) (o : Option yaml_c_node)
-    (r : yaml_c_node) (b : Bool) → o ≡ record_in rs (place_at id) → o ≡ Some r → b ≡ holds r.kind
-    → b ≡ is_collection (body_of_id (map (stand_in list) rs) id)
-kind_holds list rs id o r b is there h =
-    h ∙ sym (is_held (holds r.kind) (held_by list r))
-    ∙ sym (ap is_collection (body_found list rs id o is ∙ ap (body_in list) there))
-
-pub no_child : (list : List ℤ) (rs : List yaml_c_node) (from : Open) (id : ℤ)
-    (o : Option yaml_c_node) → o ≡ record_in rs (place_at id) → o ≡ None
-    → NextChild (body_of_id (map (stand_in list) rs) id) from None
-no_child list rs from id o is none =
-    ap (λ b. drop from.index (child_ids b)) (body_found list rs id o is ∙ ap (body_in list) none)
-    ∙ drop-nil from.index
 
 pub child_of : (list : List ℤ) (rs : List yaml_c_node) (from : Open) (id : ℤ)
     (o : Option yaml_c_node) (r : yaml_c_node) (held : List ℤ) (next : Option (ℤ × Open))
@@ -82,15 +65,6 @@ unfolding are_nodes
 left_nodes list rs i d h =
     ap (are_nodes list) (drop-cons rs i d h)
     ∙ ap (λ (k : ℕ). is_node list (get_or rs i d) && are_nodes list (drop k rs)) (sym (add-one i))
-
--- a test of what is left is one of its first record and one of the rest
-pub none_left : (b y x t r : Bool) → x ≡ t → x ≡ (b && y) → r ≡ b → r ≡ false → false ≡ t
-none_left true y x t r inv e is off = absurd (cc)
-none_left false y x t r inv e is off = sym e ∙ inv
-
-pub some_left : (b y x t r : Bool) → x ≡ t → x ≡ (b && y) → r ≡ b → r ≡ true → y ≡ t
-some_left true y x t r inv e is on = sym e ∙ inv
-some_left false y x t r inv e is on = absurd (cc)
 
 pub node_refused : (list : List ℤ) (rs : List yaml_c_node) (i : ℕ) (d : yaml_c_node) (r : Bool)
     → i < length rs → are_nodes list (drop i rs) ≡ are_nodes list rs

@@ -12,7 +12,7 @@ use Rattle.yaml_parse_loader.specs.Loading.{Open, open_sequence, open_mapping, L
 use Rattle.yaml_round_answers.specs.declared.record.yaml_c_step.{yaml_c_step}
 use Rattle.yaml_round_answers.specs.declared.record.yaml_c_spot.{yaml_c_spot}
 use Rattle.yaml_round_answers.specs.Composing.{kind_number, name_in, IsWithin, name_at, ShowEvents, Sketch, fresh_sketch, innermost, outer, spot, stood_for, drawn, drawn_on, all_drawn, top_of, number_or, spot_of, spots_on, spots_of, IsFresh, is_whole, AreSpots}
-use Rattle.yaml_parse_document.proofs.Sound.{length_change}
+use Rattle.yaml_parse_document.proofs.Sound.{length_change, length_push}
 
 abbrev numbers_open : List Open → List ℤ
 numbers_open [] = []
@@ -38,10 +38,6 @@ same_open : (n : ℤ) (os : List Open) → numbers_open (attach n os) ≡ number
 same_open n [] = refl
 same_open n (o ∷ os) = ap (λ (k : ℕ). pos (suc k) ∷ numbers_open os) (same_place n o)
 
-one_more : (ns : List Node) (n : Node) → length (ns ++ n ∷ []) ≡ suc (length ns)
-one_more [] n = refl
-one_more (m ∷ ns) n = ap suc (one_more ns n)
-
 abbrev made : ℕ → List ℤ → Anchors → Sketch
 made count around names = record { count = count; around = around; names = names }
 
@@ -59,7 +55,7 @@ leaf_step : (l : Loading) (n : Node) (name : Option (List ℕ))
     ≡ put (spot (next l) (top_of l.levels)) (made (length (l.document.nodes ++ n ∷ [])) (numbers_open (attach (next l) l.levels)) (named name (next l) l.anchors))
 leaf_step l n name =
     ap (λ z. put (spot (next l) z) (made (suc (length l.document.nodes)) (numbers_open l.levels) (named name (next l) l.anchors))) (sym (top_is l.levels))
-    ∙ ap (λ (k : ℕ). put (spot (next l) (top_of l.levels)) (made k (numbers_open l.levels) (named name (next l) l.anchors))) (sym (one_more l.document.nodes n))
+    ∙ ap (λ (k : ℕ). put (spot (next l) (top_of l.levels)) (made k (numbers_open l.levels) (named name (next l) l.anchors))) (sym (length_push l.document.nodes n))
     ∙ ap (λ z. put (spot (next l) (top_of l.levels)) (made (length (l.document.nodes ++ n ∷ [])) z (named name (next l) l.anchors))) (sym (same_open (next l) l.levels))
 
 open_step : (l : Loading) (n : Node) (name : Option (List ℕ))
@@ -67,7 +63,7 @@ open_step : (l : Loading) (n : Node) (name : Option (List ℕ))
     ≡ put (spot (next l) (top_of l.levels)) (made (length (l.document.nodes ++ n ∷ [])) (next l ∷ numbers_open (attach (next l) l.levels)) (named name (next l) l.anchors))
 open_step l n name =
     ap (λ z. put (spot (next l) z) (made (suc (length l.document.nodes)) (next l ∷ numbers_open l.levels) (named name (next l) l.anchors))) (sym (top_is l.levels))
-    ∙ ap (λ (k : ℕ). put (spot (next l) (top_of l.levels)) (made k (next l ∷ numbers_open l.levels) (named name (next l) l.anchors))) (sym (one_more l.document.nodes n))
+    ∙ ap (λ (k : ℕ). put (spot (next l) (top_of l.levels)) (made k (next l ∷ numbers_open l.levels) (named name (next l) l.anchors))) (sym (length_push l.document.nodes n))
     ∙ ap (λ z. put (spot (next l) (top_of l.levels)) (made (length (l.document.nodes ++ n ∷ [])) (next l ∷ z) (named name (next l) l.anchors))) (sym (same_open (next l) l.levels))
 
 alias_step : (l : Loading) (o : Option ℤ) (at : yaml_mark_t)

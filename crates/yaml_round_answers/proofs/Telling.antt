@@ -1,5 +1,5 @@
 -- What C is told of events that are emitted.
-use Rattle.std.proofs.Common.{◌≡◌, inl, refl, ℕ, pos, true, false, subst, List, Option, None, Some, is_some, Result, Err}
+use Rattle.std.proofs.Common.{◌≡◌, inl, refl, ℕ, pos, subst, List, Option, None, Some, Result, Err}
 use Rattle.yaml_parse.specs.Events.{EventBody}
 use Rattle.yaml_parse.specs.Faults.{Fault, emit_layers}
 use Rattle.yaml_parse.specs.declared.yaml_origin_t.TheVariants.{Emitter}
@@ -25,21 +25,8 @@ all_refused None m f a is told = tt
 all_refused (Some bs) m f a is told =
     refused_answer emit_layers Emitter (IsEmitted m.0 m.1 (all_events (Some bs))) TellsResult f a (inl refl) (λ g t. t) is told
 
--- the records and the settings mean something
-pub both_told : (o : Option (List EventBody)) (m : RequestedSettings × ℕ)
-    (s : Option (RequestedSettings × ℕ)) (a : yaml_c_answer) → is_some o ≡ true → Some m ≡ s
-    → EmitsAll o m a → AnswersMeant (both o s) Emits a
-both_told None m s a some is h = absurd (cc)
-both_told (Some bs) m s a some is h = subst (λ (t : Option (RequestedSettings × ℕ)). AnswersMeant (both (Some bs) t) Emits a) is h
-
 -- the settings mean nothing
 pub unasked : (o : Option (List EventBody)) (s : Option (RequestedSettings × ℕ)) (a : yaml_c_answer)
     → None ≡ s → TellsMisuse a → AnswersMeant (both o s) Emits a
 unasked None s a is h = h
 unasked (Some bs) s a is h = subst (λ (t : Option (RequestedSettings × ℕ)). AnswersMeant (both (Some bs) t) Emits a) is h
-
--- a record means nothing
-pub unmeant : (o : Option (List EventBody)) (s : Option (RequestedSettings × ℕ)) (a : yaml_c_answer)
-    → false ≡ is_some o → TellsMisuse a → AnswersMeant (both o s) Emits a
-unmeant None s a is h = h
-unmeant (Some bs) s a is h = absurd (cc)

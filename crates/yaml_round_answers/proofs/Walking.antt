@@ -12,19 +12,8 @@ use Rattle.yaml_emit_graph.specs.Walk.{marked}
 use Rattle.yaml_emit_graph.proofs.Walking as walking
 use Rattle.yaml_round_answers.specs.declared.walk.Open.{Open}
 use Rattle.yaml_round_answers.specs.declared.walk.Walk.{Walk}
-use Rattle.yaml_round_answers.specs.Walk.{NextChild, rest_of, stack, stack_of, opened, frames, remaining_by, remaining_turns, IsGraphWalk, with_opened, Visited, Comes}
-
-visit_again : (n : ℕ) (nodes : List model.Node) (id : ℤ) (r : Rest) (met : Met)
-    → is_met met id ≡ true → visits (suc n) nodes id r met ≡ Again id ∷ r met
-unfolding visits
-visit_again n nodes id r met h = rw h refl
-
-visit_first : (n : ℕ) (nodes : List model.Node) (id : ℤ) (r : Rest) (met : Met)
-    → is_met met id ≡ false
-    → visits (suc n) nodes id r met ≡ First id
-    ∷ inside (visits n nodes) id (body_of_id nodes id) r (meet met id)
-unfolding visits
-visit_first n nodes id r met h = rw h refl
+use Rattle.yaml_round_answers.specs.Walk.{NextChild, rest_of, stack, stack_of, frames, remaining_by, remaining_turns, IsGraphWalk, with_opened, Visited, Comes}
+use Rattle.yaml_emit_graph.proofs.Walking.{visit_first, visit_again}
 
 inside_frames : (b : model.NodeBody) (n : ℕ) (nodes : List model.Node) (id : ℤ) (os : List Open)
     (met : Met) → body_of_id nodes id ≡ b → n ≡ length nodes - length os

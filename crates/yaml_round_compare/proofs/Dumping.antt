@@ -1,7 +1,6 @@
 -- Dumps beside each other: what each step says of what there was before it.
-use Rattle.std.proofs.Common.{◌≡◌, ◌∙◌, ◌<◌, ℕ, suc, ◌+◌, List, [], ◌∷◌, ◌++◌, length, drop, map, append_assoc, append-nil, Bool, true, false, Option, Some, None, refl, sym, ap, subst, arith}
+use Rattle.std.proofs.Common.{◌≡◌, ◌∙◌, ◌<◌, ℕ, suc, ◌+◌, List, [], ◌∷◌, ◌++◌, length, drop, map, append_assoc, append-nil, true, refl, sym, ap, subst, arith}
 use Rattle.std.proofs.lemmas.List.{length-append}
-use Rattle.yaml_round_content.specs.scan_model.declared.yaml_scalar_style_t.TheVariants.{YAML_ANY_SCALAR_STYLE}
 use Rattle.yaml_round_content.specs.scan_model.declared.yaml_sequence_style_t.TheVariants.{YAML_ANY_SEQUENCE_STYLE}
 use Rattle.yaml_round_content.specs.scan_model.declared.yaml_mapping_style_t.TheVariants.{YAML_ANY_MAPPING_STYLE}
 use Rattle.yaml_parse.specs.Events.{EventBody}
@@ -9,36 +8,18 @@ use Rattle.yaml_parse.specs.Events as event
 use Rattle.yaml_parse.specs.Documents.{Document}
 use Rattle.yaml_emit_graph.specs.emit_layout.Content as emit
 use Rattle.yaml_emit_graph.specs.Graph.{graph_content, dumped}
-use Rattle.yaml_round_content.specs.Content.{content_of, counts_as_plain}
+use Rattle.yaml_round_content.specs.Content.{content_of}
 use Rattle.yaml_round_content.specs.Said as content
-use Rattle.yaml_round_content.specs.Said.{Node, Nodes, Pairs, scalar_says, node_says, items_say, pairs_say, documents_say}
-use Rattle.yaml_round_content.specs.Trees.{mark_of, tree_of, trees_of, pair_trees_of, document_tree}
+use Rattle.yaml_round_content.specs.Said.{Node, Nodes, Pairs, node_says, items_say, pairs_say, documents_say}
+use Rattle.yaml_round_content.specs.Trees.{tree_of, trees_of, pair_trees_of, document_tree}
 use Rattle.yaml_round_compare.specs.declared.front.Front.{Front}
 use Rattle.yaml_round_compare.specs.Places.{Path, path_of}
 use Rattle.yaml_round_compare.specs.Walking.{past, past_event}
 use Rattle.yaml_round_compare.specs.Loaded.{next_of}
 use Rattle.yaml_round_compare.specs.Dumps.{said, document_says, documents_left, PassesEvent, GoesPast, PartsBehind}
+use Rattle.yaml_round_content.proofs.Trees.{scalar_core}
 
 -- ---- what a dump says
-
-pub said_is : (b : EventBody) → said (emit.emitter_event b) ≡ content_of b
-said_is event.no = refl
-said_is (event.stream_start encoding) = refl
-said_is event.stream_end = refl
-said_is (event.document_start version directives implicit) = refl
-said_is (event.document_end implicit) = refl
-said_is (event.alias name) = refl
-said_is (event.scalar anchor tag value plain quoted style) = refl
-said_is (event.sequence_start anchor tag implicit style) = refl
-said_is event.sequence_end = refl
-said_is (event.mapping_start anchor tag implicit style) = refl
-said_is event.mapping_end = refl
-
-scalar_said : (anchor tag : Option (List ℕ)) (value : List ℕ) (plain : Bool)
-    → event.scalar anchor tag value (counts_as_plain tag plain) false YAML_ANY_SCALAR_STYLE
-    ≡ scalar_says anchor (mark_of tag plain) value
-scalar_said anchor None value plain = refl
-scalar_said anchor (Some t) value plain = refl
 
 mutual
   unfolding emit.node_events emit.items_events emit.pairs_events node_says items_say pairs_say
@@ -46,7 +27,7 @@ mutual
   node_said : (n : emit.Node) (es : List emit.Event)
       → map said (emit.node_events n es) ≡ node_says (tree_of n) (map said es)
   node_said (emit.alias_node name) es = refl
-  node_said (emit.scalar_node x) es = ap (λ (b : EventBody). b ∷ map said es) (scalar_said x.anchor x.tag x.value x.plain)
+  node_said (emit.scalar_node x) es = ap (λ (b : EventBody). b ∷ map said es) (scalar_core x.anchor x.tag x.value x.plain)
   node_said (emit.sequence_node q items) es = ap (λ (bs : List EventBody). said (emit.sequence_start q) ∷ bs) (items_said items (emit.sequence_end ∷ es))
   node_said (emit.mapping_node q pairs) es = ap (λ (bs : List EventBody). said (emit.mapping_start q) ∷ bs) (pairs_said pairs (emit.mapping_end ∷ es))
 
@@ -94,10 +75,6 @@ documents_more : (d : Document) (ds : List Document)
 unfolding documents_say
 documents_more d ds =
     ap (λ (bs : List EventBody). event.document_start d.version d.directives true ∷ bs) (node_more (document_tree (graph_content d)).root (event.document_end true ∷ []) (documents_left ds))
-
-nothing_left : documents_left [] ≡ event.stream_end ∷ []
-unfolding documents_say
-nothing_left = refl
 
 -- ---- no document's events begin with all of another's: its end stands behind all else
 

@@ -22,8 +22,8 @@ first_splits : (e f : EventBody) (whole fs : List EventBody) (g : EventBody) (gs
     → Splits (e ∷ whole) (f ∷ fs) g gs → f ≡ e
 first_splits e f whole fs g gs s = cc
 
-joined : (f e : EventBody) (fs es : List EventBody) → f ≡ e → fs ≡ es → f ∷ fs ≡ e ∷ es
-joined f e fs es p q = cc
+pub heads : (a b : EventBody) (x y : List EventBody) → a ≡ b → x ≡ y → a ∷ x ≡ b ∷ y
+heads a b x y p q = cc
 
 -- ---- a node behind items and pairs
 
@@ -78,7 +78,7 @@ leaf : (outer : Inside) (e : EventBody) (rest fs : List EventBody) (g : EventBod
     (gs : List EventBody) → Splits (e ∷ rest) fs g gs
     → Inward (λ x. inside_says outer x) (λ x. e ∷ x) rest fs g gs
 leaf outer e rest [] g gs s = inl (outer, refl)
-leaf outer e rest (f ∷ fs) g gs s = inr (fs, rest_splits e f rest fs g gs s, joined f e fs fs (first_splits e f rest fs g gs s) refl)
+leaf outer e rest (f ∷ fs) g gs s = inr (fs, rest_splits e f rest fs g gs s, heads f e fs fs (first_splits e f rest fs g gs s) refl)
 
 -- the end of a collection: in front of it is the place behind all that it holds
 closing : (inside : Inside) (around : List EventBody → List EventBody)
@@ -89,7 +89,7 @@ closing : (inside : Inside) (around : List EventBody → List EventBody)
     → Inward around (λ x. says (e ∷ x)) rest fs g gs
 closing inside around says e here rest fs [] g gs s p = inl (inside, ap around p ∙ here)
 closing inside around says e here rest fs (h ∷ hs) g gs s p =
-    inr (hs, rest_splits e h rest hs g gs s, p ∙ ap says (joined h e hs hs (first_splits e h rest hs g gs s) refl))
+    inr (hs, rest_splits e h rest hs g gs s, p ∙ ap says (heads h e hs hs (first_splits e h rest hs g gs s) refl))
 
 -- what an opened collection holds, and its end
 opened : (outer : Inside) (e : EventBody) (says : List EventBody → List EventBody) (end : EventBody)
@@ -111,8 +111,8 @@ entered outer e says rest more [] g gs s = inl (outer, refl)
 entered outer e says rest more (f ∷ fs) g gs s =
     let same = first_splits e f (says rest) fs g gs s in
     elim (more fs g gs (rest_splits e f (says rest) fs g gs s)) [
-      | inl r ↦ inl (r.0, ap (λ (x : List EventBody). inside_says outer x) (joined f e fs fs same refl) ∙ r.1)
-      | inr l ↦ inr (l.0, l.1, joined f e fs (says l.0) same l.2)
+      | inl r ↦ inl (r.0, ap (λ (x : List EventBody). inside_says outer x) (heads f e fs fs same refl) ∙ r.1)
+      | inr l ↦ inr (l.0, l.1, heads f e fs (says l.0) same l.2)
     ]
 
 -- one part, and then more of them
@@ -221,7 +221,7 @@ behind_root : (before ds : List Document) (d : Document) (g : EventBody) (gs : L
 behind_root before ds d g gs more fs [] s e = (at_end before d, ap (λ (x : List EventBody). in_document before d x) e)
 behind_root before ds d g gs more fs (h ∷ hs) s e =
     let r = more hs (rest_splits (event.document_end true) h (documents_say ds) hs g gs s) in
-    let same = joined h (event.document_end true) hs hs (first_splits (event.document_end true) h (documents_say ds) hs g gs s) refl in (
+    let same = heads h (event.document_end true) hs hs (first_splits (event.document_end true) h (documents_say ds) hs g gs s) refl in (
       r.0,
       ap (λ (x : List EventBody). in_document before d x) (e ∙ ap (λ (x : List EventBody). node_says d.root x) same)
           ∙ ap (λ (x : List EventBody). event.stream_start YAML_ANY_ENCODING ∷ x) (sym (document_said before d hs)) ∙ r.1,
@@ -238,7 +238,7 @@ document_placed before ds d g gs more [] s = (between before, refl)
 document_placed before ds d g gs more (f ∷ fs) s =
     let head = event.document_start d.version d.directives true in
     let rest = node_says d.root (event.document_end true ∷ documents_say ds) in
-    let same : f ∷ fs ≡ head ∷ fs = joined f head fs fs (first_splits head f rest fs g gs s) refl in
+    let same : f ∷ fs ≡ head ∷ fs = heads f head fs fs (first_splits head f rest fs g gs s) refl in
     let here = ap (λ (x : List EventBody). event.stream_start YAML_ANY_ENCODING ∷ whole_say before x) same in
     elim (in_node d.root at_root (event.document_end true ∷ documents_say ds) fs g gs (rest_splits head f rest fs g gs s)) [
       | inl r ↦ (within before d.version d.directives r.0, here ∙ ap (λ (x : List EventBody). in_document before d x) r.1)
@@ -258,4 +258,4 @@ pub placed : (c : List Document) (f : EventBody) (fs : List EventBody) (g : Even
 placed c f fs g gs s =
     let head = event.stream_start YAML_ANY_ENCODING in
     let r = in_documents c [] fs g gs (rest_splits head f (documents_say c) fs g gs s) in
-    (r.0, joined f head fs fs (first_splits head f (documents_say c) fs g gs s) refl ∙ r.1)
+    (r.0, heads f head fs fs (first_splits head f (documents_say c) fs g gs s) refl ∙ r.1)

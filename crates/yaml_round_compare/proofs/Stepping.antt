@@ -19,6 +19,8 @@ use Rattle.yaml_round_compare.specs.Walking.{past, past_event}
 use Rattle.yaml_round_compare.specs.Differences.{saying, TellsOf}
 use Rattle.yaml_round_compare.specs.Compare.{normalized, JudgesEvents, AreApart, Parted, BothGoOn, StepsBeside, StepsOn}
 use Rattle.yaml_round_compare.proofs.Parting.{first_same}
+use Rattle.yaml_round_compare.proofs.Placing.{heads}
+use Rattle.yaml_round_content.proofs.Injective.{rest_same}
 
 -- ---- normalized events
 
@@ -76,12 +78,6 @@ said_past event.mapping_end p = refl
 
 -- ---- a step of both
 
-heads : (a b : EventBody) (x y : List EventBody) → a ≡ b → x ≡ y → a ∷ x ≡ b ∷ y
-heads a b x y p q = cc
-
-tails : (a b : EventBody) (x y : List EventBody) → a ∷ x ≡ b ∷ y → x ≡ y
-tails a b x y e = cc
-
 shorter : (xs ys : List Told) (x : Told) → xs ≡ x ∷ ys → length ys < length xs
 shorter xs ys x e = subst (λ (zs : List Told). length ys < length zs) (sym e) (omega arith)
 
@@ -103,7 +99,7 @@ goes_on first second first_new second_new shown x y p q says n real other_real e
   first_ending = ending;
   second_ending = other_ending;
   alike = (
-    λ e. tails (saying x.0.body) (saying y.0.body) (contents first_new.events) (contents second_new.events) (sym (ap contents p) ∙ e ∙ ap contents q),
+    λ e. rest_same (saying x.0.body) (saying y.0.body) (contents first_new.events) (contents second_new.events) (sym (ap contents p) ∙ e ∙ ap contents q),
     λ e. ap contents p ∙ heads (saying x.0.body) (saying y.0.body) (contents first_new.events) (contents second_new.events) says e ∙ sym (ap contents q),
   );
 }
@@ -136,11 +132,6 @@ pub apart_from : (e f shown other : Event) (xs ys second : List Told) (n m : ℕ
     → AreApart ((e, n) ∷ xs) second d
 apart_from e f shown other xs ys second n m d p q s differ t =
     subst (λ (zs : List Told). AreApart ((e, n) ∷ xs) zs d) (sym s) (differ, tells_of e f shown other d p q t)
-
--- it has none
-pub apart_behind : (x : Told) (xs second : List Told) (d : yaml_difference_t) → second ≡ []
-    → AreApart (x ∷ xs) second d
-apart_behind x xs second d s = subst (λ (zs : List Told). AreApart (x ∷ xs) zs d) (sym s) tt
 
 -- the second gave that event, and both are judged
 pub judged_beside : (e f shown : Event) (second : ParserRemaining) (r : Next) (second_new : Reading)

@@ -10,11 +10,9 @@ use Rattle.yaml_round.specs.Loaded.{dumps_say, next_of, event_at, SameDocuments,
 use Rattle.yaml_round_laws_users.specs.Partings.{TellTheSame, DocumentDiffsAgree, turned}
 use Rattle.yaml_round_laws_users.proofs.Limits.{same_loading}
 use Rattle.yaml_round_laws_users.proofs.Partings.{one_path}
+use Rattle.yaml_round_content.proofs.Injective.{rest_same}
 
 -- ---- lists
-
-tails : (a b : EventBody) (x y : List EventBody) → a ∷ x ≡ b ∷ y → x ≡ y
-tails a b x y e = cc
 
 -- Two lists that go on apart behind a front do so behind no other.
 one_front : (b b' l o l' o' : List EventBody) → b ++ l ≡ b' ++ l' → b ++ o ≡ b' ++ o'
@@ -23,7 +21,7 @@ one_front [] [] l o l' o' p q d d' = refl
 one_front [] (x ∷ xs) l o l' o' p q d d' = absurd (d (ap next_of p ∙ sym (ap next_of q)))
 one_front (x ∷ xs) [] l o l' o' p q d d' = absurd (d' (sym (ap next_of p) ∙ ap next_of q))
 one_front (x ∷ xs) (y ∷ ys) l o l' o' p q d d' =
-    let e : xs ≡ ys = one_front xs ys l o l' o' (tails x y (xs ++ l) (ys ++ l') p) (tails x y (xs ++ o) (ys ++ o') q) d d' in
+    let e : xs ≡ ys = one_front xs ys l o l' o' (rest_same x y (xs ++ l) (ys ++ l') p) (rest_same x y (xs ++ o) (ys ++ o') q) d d' in
     let h : Some x ≡ Some y = ap next_of p in
     cc
 

@@ -26,7 +26,7 @@ use Rattle.yaml_round.specs.round_laws_documents.Normal.{ended}
 use Rattle.yaml_round.specs.declared.yaml_settings_t.{yaml_settings_t}
 use Rattle.yaml_round.specs.Reading.{emitter_events}
 use Rattle.yaml_round.specs.Writing.{requested_under}
-use Rattle.yaml_round.specs.Answers.{IsReformatted, IsFaulty, IsTooLong, IsPast, IsCanonicalDue}
+use Rattle.yaml_round.specs.Answers.{IsReformatted, IsFaulty, IsTooLong, IsPast}
 use Rattle.yaml_round.specs.Reload.{IsReloaded, IsDumped}
 use Rattle.yaml_round.proofs.Normal.{canonical_under, laid_of, text_fits}
 use Rattle.yaml_round.proofs.Plain.{events_are, has_events}
@@ -40,6 +40,7 @@ use Rattle.yaml_emit_laws_text.specs.Depths.{RootStandsAt, IsTooDeep}
 use Rattle.yaml_emit_laws_text.proofs.ColumnsDepths.{by_depth}
 use Rattle.yaml_emit_laws_text.proofs.ColumnsEvents.{events_tell}
 use Rattle.yaml_round_laws_users.specs.Limits.{IsContentTooDeep, AreDumpsTooDeep, CanonicalFormPassesColumns, ReformatsNameColumns, CanonicalAnswersKeepColumns, ReloadsNameColumns, ReloadsKeepColumns}
+use Rattle.yaml_round.proofs.Forms.{due_true}
 
 -- ---- a fault that names the columns
 
@@ -107,11 +108,6 @@ deep_long from s input c h deep =
 pub form_passes : CanonicalFormPassesColumns
 form_passes from s input c h = (λ k. long_deep from s input c h k, λ deep. deep_long from s input c h deep)
 
-due : (b : Bool) (from : yaml_encoding_t) (s : yaml_settings_t) (input : List ℕ) → b ≡ true
-    → IsCanonicalDue b from s input
-due true from s input e = tt
-due false from s input e = absurd (true≢false (sym e))
-
 pub reformats : ReformatsNameColumns
 unfolding IsReformatted
 reformats from s input c h canonical = (
@@ -122,7 +118,7 @@ reformats from s input c h canonical = (
       | inr b ↦ long_deep from s input c h b.1
     ]
   ],
-  λ deep. inr (inr (due s.canonical from s input canonical, deep_long from s input c h deep)),
+  λ deep. inr (inr (due_true s.canonical from s input canonical, deep_long from s input c h deep)),
 )
 
 pub keeps : CanonicalAnswersKeepColumns

@@ -1,8 +1,7 @@
 -- What the first events of an input say of its tree.
 use Rattle.std.proofs.Common.{◌≡◌, ℕ, ℤ, ◌+◌, ◌==◌, ◌&&◌, not, if◌then◌else◌, Bool, true, false, List, [], ◌∷◌, ◌++◌, length, Option, Some, None, codes, refl, sym, ap, subst, ◌∙◌, inl, inr, arith, slice_index, option_map, bytes_eq}
-use Rattle.std.proofs.lemmas.Bool.{cases_Bool, true≢false}
+use Rattle.std.proofs.lemmas.Bool.{cases_Bool}
 use Rattle.std.proofs.lemmas.Bool.Decides.{nat_tests}
-use Rattle.std.proofs.lemmas.Slice.Eq.{bytes_eq-Decides}
 use Rattle.std.proofs.Math.Bool.{and-false}
 use Rattle.yaml_round_content.specs.scan_model.declared.yaml_mark_t.{yaml_mark_t}
 use Rattle.yaml_round_content.specs.scan_model.declared.yaml_scalar_style_t.{yaml_scalar_style_t}
@@ -40,6 +39,7 @@ use Rattle.yaml_round_beginning.specs.Beginning.{is_nothing_next, opens_with_not
 use Rattle.yaml_round_beginning.proofs.Starting.{from_start}
 use Rattle.yaml_round_laws_users.specs.MarkAlone.{is_mark, is_mark_alone, is_mark_node, begins_with_mark, BeginningIsAMark}
 use Rattle.yaml_round_laws_users.proofs.NoEmptyPlain.{AreFull, tokens_full}
+use Rattle.yaml_round_content.proofs.Saying.{lone_is}
 
 -- ---- one event
 
@@ -109,21 +109,6 @@ empty_at false (Some a) tag = refl
 empty_by : (m : Bool) (anchor : Option (List ℕ)) (tag : List ℕ) → is_lone_mark (Some tag) [] ≡ m
     → says (node_event anchor (Some tag) item.empty) ≡ (not (has anchor) && m)
 empty_by m anchor tag e = ap (λ (b : Bool). is_nothing_next (emitter_event (normalize_scalar b anchor (Some tag) [] false false YAML_PLAIN_SCALAR_STYLE) ∷ [])) e ∙ empty_at m anchor tag
-
-lone_tag : (tag : List ℕ) → is_lone_mark (Some tag) [] ≡ true → tag ≡ codes "!"
-lone_tag [] h = absurd (cc)
-lone_tag (b ∷ []) h = let e : b ≡ 33 = grind (arith, nat_tests, h) in ap (λ (x : ℕ). x ∷ []) e
-lone_tag (b ∷ c ∷ bs) h = absurd (grind (arith, nat_tests, h))
-
-lone_is : (tag : List ℕ) → is_lone_mark (Some tag) [] ≡ bytes_eq tag (codes "!")
-lone_is tag =
-    elim (cases_Bool (bytes_eq tag (codes "!"))) [
-      | inl e ↦ rw ((bytes_eq-Decides tag (codes "!")).0 e) refl
-      | inr e ↦ elim (cases_Bool (is_lone_mark (Some tag) [])) [
-        | inl h ↦ absurd (true≢false (sym ((bytes_eq-Decides tag (codes "!")).1 (lone_tag tag h)) ∙ e))
-        | inr h ↦ h ∙ sym e
-      ]
-    ]
 
 -- a tag of several characters is no lone mark
 long_tag : (tag : List ℕ) → (length tag == 1) ≡ false → is_lone_mark (Some tag) [] ≡ false

@@ -1,3 +1,2 @@
 pub mod Plain
-mod Normalizing
 mod Real

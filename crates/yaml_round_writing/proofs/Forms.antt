@@ -33,7 +33,8 @@ canonical_answer : (from : yaml_encoding_t) (settings : yaml_settings_t) (input 
 canonical_answer from settings input (Ok a) n h = in_form from settings input a.0.items a.1 n h
 canonical_answer from settings input (Err f) n h = elim h [ inl m ↦ inl m | inr k ↦ inr (canonical_fault from settings input (fault_of f) n k) ]
 
-due_true : (b : Bool) (from : yaml_encoding_t) (settings : yaml_settings_t) (input : List ℕ)
+-- what is due where a test says so
+pub due_true : (b : Bool) (from : yaml_encoding_t) (settings : yaml_settings_t) (input : List ℕ)
     → b ≡ true → IsCanonicalDue b from settings input
 due_true true from settings input e = tt
 due_true false from settings input e = absurd (cc)

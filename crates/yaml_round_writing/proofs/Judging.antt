@@ -1,17 +1,14 @@
 -- From what readings say to what is said of their inputs.
 use Rattle.std.proofs.Common.{◌≡◌, ◌⊎◌, ◌∙◌, ◌++◌, inl, inr, ap, sym, ℕ, List, [], Option, None, Some, Result, Ok, Err}
-use Rattle.std.proofs.lemmas.List.{append_assoc}
 use Rattle.yaml_parse.specs.declared.yaml_encoding_t.{yaml_encoding_t}
 use Rattle.yaml_parse.specs.declared.yaml_fault_t.{yaml_fault_t}
 use Rattle.yaml_parse.specs.Faults.{Fault, fault_of, IsMemoryFault, parse_layers, Answers}
 use Rattle.yaml_parse.specs.Remaining.{ParserRemaining}
 use Rattle.yaml_parse.specs.Resolve.{Told}
-use Rattle.yaml_parse.specs.Events.{Event}
 use Rattle.yaml_emit.specs.Emitter.{Emitter}
-use Rattle.yaml_round_lines.specs.EventLine.{event_line}
 use Rattle.yaml_round_device.specs.declared.yaml_settings_t.{yaml_settings_t}
 use Rattle.yaml_round_writing.specs.Layers.{reformat_layers, list_layers}
-use Rattle.yaml_round_reading.specs.Reading.{GivesNextEvent, IsFaultOf, EndsWith}
+use Rattle.yaml_round_reading.specs.Reading.{IsFaultOf, EndsWith}
 use Rattle.yaml_round_writing.specs.Lines.{event_lines}
 use Rattle.yaml_round_writing.specs.declared.writing.Form.{Form}
 use Rattle.yaml_round_writing.specs.Writing.{LeadsOn, WritesAll}
@@ -37,17 +34,6 @@ listed from input r lines old h none e l = record {
   of_input = has_events from input r.events (sym h.ending ∙ e) h.events;
   are = l ∙ ap (λ (z : List ℕ). z ++ event_lines r.events) none;
 }
-
--- a line more
-pub told_on : (all lines new : List ℕ) (before after : ParserRemaining) (v : Event)
-    → lines ++ event_lines before.events ≡ all → GivesNextEvent v before after
-    → new ≡ lines ++ event_line v.body
-    → new ++ event_lines after.events ≡ all
-told_on all lines new before after v h f n =
-    ap (λ (z : List ℕ). z ++ event_lines after.events) n
-    ∙ append_assoc lines (event_line v.body) (event_lines after.events)
-    ∙ ap (λ (es : List Told). lines ++ event_lines es) (sym f.events)
-    ∙ h
 
 -- a fault of the input ends them
 pub not_listed : (from : yaml_encoding_t) (input : List ℕ) (r : ParserRemaining) (f : yaml_fault_t)

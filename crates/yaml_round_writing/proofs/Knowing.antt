@@ -249,7 +249,3 @@ pub is_last : (name text found : List ℕ) (ss : List Span) (i : ℕ) (d : Span)
     → list_any (stands_at name text) ss ≡ true
 is_last name text found ss i d b h n e t =
     list_any_at (stands_at name text) ss i d h (sym (texts_ties name (name_at text (get_or ss i d))) ∙ ap (bytes_eq name) (sym n) ∙ sym e ∙ t)
-
-pub last_known : (name : List ℕ) (k : Known)
-    → list_any (stands_at name k.text.items) k.spans.items ≡ true → has_name name k ≡ true
-last_known name k h = ap (λ (b : Bool). b || list_any (is_called name) k.names.keys) h

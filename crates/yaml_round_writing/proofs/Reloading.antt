@@ -270,9 +270,6 @@ opened_already false e = absurd (cc)
 dump_is : (e : Emitter) (d : Document) → e.opened ≡ true → HasRoot d → dump_events e d ≡ dumped d
 dump_is e d o h = ap (λ (z : List Event). z ++ document_events_by e.closed d.nodes d) (opened_already e.opened o) ∙ document_events_root d.nodes e.closed d h
 
-pub feeds_none : (e : Emitter) (es : List Event) → FeedsEmitter e es e es
-feeds_none e es = record { completes = λ x whole h. h; limit = refl }
-
 pub feeds_on : (a b c : Emitter) (es fs gs : List Event) → FeedsEmitter a es b fs
     → FeedsEmitter b fs c gs → FeedsEmitter a es c gs
 feeds_on a b c es fs gs p q = record { completes = λ x whole h. q.completes x whole (p.completes x whole h); limit = q.limit ∙ p.limit }

@@ -1,26 +1,24 @@
 -- What an input says, and what it loads, is a stream in which nothing is wrong, and so has a text.
-use Rattle.std.proofs.Common.{None, ◌≡◌, ℕ, List, [], ◌∷◌, map, Bool, true, Option, refl, sym, subst}
+use Rattle.std.proofs.Common.{None, ◌≡◌, ℕ, List, map, Bool, true, refl, sym, subst}
 use Rattle.yaml_parse.specs.declared.yaml_encoding_t.{yaml_encoding_t}
 use Rattle.yaml_parse.specs.declared.yaml_encoding_t.TheVariants.{YAML_ANY_ENCODING}
-use Rattle.yaml_parse.specs.Faults.{Fault}
-use Rattle.yaml_parse.specs.Nodes.{Node}
 use Rattle.yaml_parse.specs.Documents.{Document}
-use Rattle.yaml_parse.specs.Resolve.{Told}
-use Rattle.yaml_parse.specs.Loading.{Loading, LoadStep, goes_on, loaded, refused, nothing_loaded, step}
+use Rattle.yaml_parse.specs.Loading.{nothing_loaded}
 use Rattle.yaml_emit.specs.emit_graph.Graph.{graph_content}
 use Rattle.yaml_emit.specs.emit_text.declared.RequestedSettings.{RequestedSettings}
-use Rattle.yaml_round_laws_documents.specs.round_content.emit_laws_dumps.StreamsLaws.{RightStream, HasText, RightDocument, AreRight, AreRightTold, RightFed}
+use Rattle.yaml_round_laws_documents.specs.round_content.emit_laws_dumps.StreamsLaws.{RightStream, HasText, AreRightTold}
 use Rattle.yaml_round_laws_documents.proofs.DocumentsPassing.{texts}
 use Rattle.yaml_round_laws_documents.proofs.DocumentsContents.{dumped_streams}
-use Rattle.yaml_round_laws_documents.proofs.Loading.{empty_right, steps}
+use Rattle.yaml_round_laws_documents.proofs.Loading.{empty_right}
 use Rattle.yaml_round_laws_documents.proofs.ContentInputs.{input_stream}
 use Rattle.yaml_round_laws_documents.proofs.StreamsInputs.{inputs_load_right}
 use Rattle.yaml_round_reading.specs.Reading.{emitter_events}
 use Rattle.yaml_round_laws_documents.specs.round_content.Input.{events_of, ending_of, read}
-use Rattle.yaml_round_laws_documents.specs.round_content.Loads.{Loads, in_front, load_on, load_all, loads_of}
+use Rattle.yaml_round_laws_documents.specs.round_content.Loads.{loads_of}
 use Rattle.yaml_round_laws_documents.specs.Normal.{ended}
 use Rattle.yaml_round_laws_documents.proofs.Laid.{ended_right}
 use Rattle.yaml_round_writing.specs.Reload.{written_events}
+use Rattle.yaml_round_laws_documents.proofs.Sound.{all_right}
 
 -- ---- events
 
@@ -29,24 +27,6 @@ pub input_text : (from : yaml_encoding_t) (input : List ℕ) (w : RequestedSetti
 input_text from input w r = texts w (emitter_events w.canonical (events_of from input)) (input_stream from input w.canonical r)
 
 -- ---- documents
-
-front_right : (ns : List Node) (d : Document) (rest : Loads) → RightDocument d
-    → AreRight rest.documents → AreRight (in_front ns d rest).documents
-front_right [] d rest r k = tt
-front_right (n ∷ ns) d rest r k = (r, k)
-
-on_right : (fed : LoadStep) (go : Loading → Loads) → RightFed fed
-    → ((l : Loading) → RightDocument l.document → AreRight (go l).documents)
-    → AreRight (load_on fed go).documents
-on_right (goes_on l) go h k = k l h
-on_right (loaded d) go h k = front_right d.nodes d (go nothing_loaded) h (k nothing_loaded empty_right)
-on_right (refused f) go h k = tt
-
-all_right : (gs : List Told) (f : Option Fault) (l : Loading) → AreRightTold gs
-    → RightDocument l.document → AreRight (load_all gs f l).documents
-unfolding load_all
-all_right [] f l h r = tt
-all_right (g ∷ gs) f l h r = on_right (step g.0 l) (load_all gs f) (steps g.0 l h.0 r) (λ m s. all_right gs f m h.1 s)
 
 input_told : (from : yaml_encoding_t) (input : List ℕ) → AreRightTold (events_of from input)
 unfolding read

@@ -212,25 +212,39 @@ fn put_properties(
     Ok(())
 }
 
-// Has the slot hold a scalar: where another event stands there, an empty one, in the rooms that are put aside.
-fn hold_scalar(rooms: &mut Rooms, event: &mut yaml_event_body_t) {
-    if let yaml_event_body_t::Scalar { .. } = event {
-        return;
-    }
+// A scalar where another event stands, in the rooms that are put aside.
+fn new_scalar(
+    rooms: &mut Rooms,
+    bytes: &[u8],
+    given: &yaml_c_event,
+    style: yaml_scalar_style_t,
+    event: &mut yaml_event_body_t,
+) -> Result<(), AllocError>
+    ensures { OnOk result (scalar_by
+        (optional_at bytes.now given.now.has_anchor given.now.anchor)
+        (optional_at bytes.now given.now.has_tag given.now.tag)
+        (part_at bytes.now given.now.value) (Some style) given.now ≡ Some (body_of event.new)) }
+{
     put_aside(rooms, event);
+    let mut anchor = None;
+    let mut tag = None;
+    put_properties(rooms, bytes, given, &mut anchor, &mut tag)?;
+    let mut value = moved(&mut rooms.value);
+    put_text(&mut value, bytes, given.value)?;
     let body = yaml_event_body_t::Scalar {
-        anchor: None,
-        tag: None,
-        value: moved(&mut rooms.value),
-        plain_implicit: false,
-        quoted_implicit: false,
-        style: yaml_scalar_style_t::YAML_ANY_SCALAR_STYLE,
+        anchor,
+        tag,
+        value,
+        plain_implicit: is_set(given.implicit),
+        quoted_implicit: is_set(given.quoted_implicit),
+        style,
     };
     put_in(event, body);
+    Ok(())
 }
 
-// A scalar, in the rooms of the one that the slot holds. Refused where it holds none.
-fn fill_scalar(
+// A scalar, in the rooms of the one that the slot holds, or else of those that are put aside.
+fn put_styled_scalar(
     rooms: &mut Rooms,
     bytes: &[u8],
     given: &yaml_c_event,
@@ -258,7 +272,7 @@ fn fill_scalar(
             *how = style;
             Ok(())
         }
-        _ => Err(AllocError),
+        _ => new_scalar(rooms, bytes, given, style, event),
     }
 }
 
@@ -275,10 +289,7 @@ fn put_scalar(
         ≡ Some (body_of event.new)) }
 {
     match scalar_style_of(given.style) {
-        Some(style) => {
-            hold_scalar(rooms, event);
-            fill_scalar(rooms, bytes, given, style, event)
-        }
+        Some(style) => put_styled_scalar(rooms, bytes, given, style, event),
         None => Err(AllocError),
     }
 }

@@ -1,7 +1,7 @@
 //! The program's streams, files that are read whole, and answers that are written.
 
 use crate::fault::{FAILED, INPUT_LIMIT, UNJUDGED, run_failed};
-use std::alloc::Global;
+use std::alloc::{AllocError, Global};
 use std::fs;
 use std::io::{Error, ErrorKind, Read, Write};
 use std::rt::Files;
@@ -12,6 +12,9 @@ pub(crate) const STANDARD: &'static str = "-";
 
 /// How many bytes of a file are read at once: each call of the system costs some microseconds.
 pub(crate) const READ_AHEAD: usize = 65_536;
+
+// How many are read first, of which room is set to zero: many files have no more.
+const READ_FIRST: usize = 4096;
 
 // How many times a read that is interrupted is made in all.
 const TRIES: u32 = 1000;
@@ -81,16 +84,25 @@ fn read_piece<R: Read>(
     }
 }
 
+// Makes room for the next piece of a file of which that many bytes were read, more than there was where these filled it.
+fn make_room(piece: &mut Vec<u8>, count: usize) -> Result<(), AllocError> {
+    if count < piece.len() {
+        return Ok(());
+    }
+    let more = piece.len().saturating_mul(4);
+    piece.resize(more.max(READ_FIRST).min(READ_AHEAD), 0)
+}
+
 // Reads a file to its end.
 fn read_whole<R: Read>(
     file: &mut R,
     piece: &mut Vec<u8>,
     bytes: &mut Vec<u8>,
 ) -> Result<(), Unread> {
-    if piece.resize(READ_AHEAD, 0).is_err() {
-        return Err(Unread::Short);
-    }
     for _ in 0..INPUT_LIMIT + 1 {
+        if make_room(piece, bytes.len()).is_err() {
+            return Err(Unread::Short);
+        }
         match read_piece(file, piece.as_mut_slice(), bytes) {
             Ok(true) => {
                 if bytes.len() as u64 > INPUT_LIMIT {

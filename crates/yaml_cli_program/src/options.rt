@@ -1,5 +1,6 @@
 //! The words of each command, for clap.
 
+use crate::order::does_of;
 use crate::table::{AFTER, COMMANDS, Kind, ROWS, Row, Told};
 use crate::version::VERSION;
 use clap::builder::ValueParser;
@@ -81,17 +82,22 @@ fn bare_command<'a>(alloc: Global) -> Command<'a> {
         .subcommand_required(true)
 }
 
-/// The program's words. Where `is_short` is set there was no room for all of them, and what is read by them says nothing.
+/// The program's words, where the first of them is `name`: those of the command that it names, else those of all commands. Where
+/// `is_short` is set there was no room for all of them, and what is read by them says nothing.
 pub(crate) fn whole_command<'a>(
     alloc: Global,
+    name: &str,
     is_short: &mut bool,
 ) -> Result<Command<'a>, AllocError> {
     let mut whole = bare_command(alloc);
+    let is_named = does_of(name).is_some();
     for told in &COMMANDS {
-        whole = match whole.subcommand(command_of(alloc, told, is_short)) {
-            Ok(more) => more,
-            Err(error) => return Err(error),
-        };
+        if !is_named || told.name == name {
+            whole = match whole.subcommand(command_of(alloc, told, is_short)) {
+                Ok(more) => more,
+                Err(error) => return Err(error),
+            };
+        }
     }
     whole.bin_name("yaml_cli")
 }

@@ -157,14 +157,20 @@ fn manner_in<'a>(told: &ArgMatches<'a>) -> Result<Manner, Wrong<'a>> {
     Ok(Manner { from, settings })
 }
 
-const COMMANDS: [(&'static str, Does); 6] = [
+const COMMANDS: [(&'static str, Does); 7] = [
     ("fmt", Does::Run(yaml_command_t::Fmt)),
     ("docs", Does::Run(yaml_command_t::Docs)),
     ("events", Does::Run(yaml_command_t::Events)),
     ("norm", Does::Norm),
     ("same", Does::Same),
     ("diff", Does::Diff),
+    ("check", Does::Check),
 ];
+
+/// What the command of that name does.
+pub(crate) fn does_of(name: &str) -> Option<Does> {
+    row_of(&COMMANDS, name)
+}
 
 fn question_of(does: Does) -> Question {
     match does {
@@ -180,7 +186,7 @@ pub(crate) fn order_in<'o, 'a>(
     name: &'a str,
     told: &'o ArgMatches<'a>,
 ) -> Result<Order<'o, 'a>, Wrong<'a>> {
-    let does = row_of(&COMMANDS, name).unwrap_or(Does::Check);
+    let does = does_of(name).unwrap_or(Does::Check);
     let judges = matches!(does, Does::Check) || told.get_flag("check");
     let files = told.get_strs("files").unwrap_or(&[]);
     if let Some(word) = files.get(1) {

@@ -11,19 +11,35 @@ use clap::ArgMatches;
 use std::alloc::Global;
 use std::convert::AsStr;
 use std::fs;
+use std::fs::OpenFile;
 use std::io::{BufReader, Read, Write};
 use std::rt::Files;
 use yaml_round_device::{yaml_command_t, yaml_form_t, yaml_run_fault_t};
 
+// How many bytes of a file are to be read at once, for which room is set to zero: of one on a disk no more than it has, and one
+// that tells its end. Of one that has more by then all the same is read.
+fn ahead_of<F: OpenFile>(file: &F) -> usize {
+    let len = match file.metadata() {
+        Ok(told) if told.is_file() => told.len(),
+        _ => u64::MAX,
+    };
+    if len < READ_AHEAD as u64 {
+        len as usize + 1
+    } else {
+        READ_AHEAD
+    }
+}
+
 // Runs a command over a file, of which more is read at once than the engine asks for, where there is room for that.
-fn run_over_file<G: Engine, R: Read, W: Write>(
+fn run_over_file<G: Engine, F: Read + OpenFile, W: Write>(
     engine: &G,
     alloc: Global,
     task: &Task,
-    file: &mut R,
+    file: &mut F,
     writer: &mut W,
 ) -> Ended {
-    if let Ok(mut ahead) = BufReader::with_capacity(alloc, READ_AHEAD, &mut *file) {
+    let ahead = ahead_of(file);
+    if let Ok(mut ahead) = BufReader::with_capacity(alloc, ahead, &mut *file) {
         return engine.run(alloc, task, &mut ahead, writer);
     }
     engine.run(alloc, task, file, writer)

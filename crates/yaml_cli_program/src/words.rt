@@ -15,7 +15,11 @@ pub(crate) fn matches_of<'a, S: AsStr>(
     words: &'a [S],
 ) -> Result<ArgMatches<'a>, WordFault> {
     let mut is_short = false;
-    match whole_command(alloc, &mut is_short) {
+    let name = match words.get(1) {
+        Some(word) => word.as_str(),
+        None => "",
+    };
+    match whole_command(alloc, name, &mut is_short) {
         Ok(command) => {
             let found = command.try_get_matches_from(words);
             if is_short {

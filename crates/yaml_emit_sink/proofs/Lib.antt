@@ -1,5 +1,5 @@
 pub mod Sinks
 mod Encodes
 mod Ascii
-mod Lines
+pub mod Lines
 mod Columns

@@ -1,6 +1,9 @@
 -- A break and the spaces behind it.
-use Rattle.std.proofs.Common.{◌≡◌, ℕ, ◌+◌, ◌-◌, ◌≤◌, List, [], ◌∷◌, ◌++◌, take, length, length-append, true, false, sym, subst, ◌∙◌, ap, append_assoc, arith}
-use Rattle.std.specs.Prelude.{zero, suc, replicate}
+use Rattle.std.proofs.Common.{◌≡◌, ℕ, ◌+◌, ◌-◌, ◌≤◌, List, [], ◌∷◌, ◌++◌, take, length, length-append, Bool, true, false, ◌<◌, refl, sym, subst, ◌∙◌, ap, append_assoc, arith}
+use Rattle.std.specs.Prelude.{zero, suc, replicate, not, ◌&&◌, ◌||◌, ◌==◌, nat_lt}
+use Rattle.std.specs.Str.{IsAscii}
+use Rattle.std.proofs.lemmas.Bool.{false≢true}
+use Rattle.std.proofs.lemmas.Bool.Decides.{nat_tests}
 use Rattle.std.proofs.lemmas.List.{take-replicate, length-replicate}
 use Rattle.std.proofs.Math.Seq.{take-append-add}
 use Rattle.yaml_emit_sink.specs.declared.cursor.Cursor.{Cursor}
@@ -9,11 +12,12 @@ use Rattle.yaml_emit_sink.specs.declared.cursor.Status.TheVariants.{Going}
 use Rattle.yaml_emit_sink.specs.declared.settings.Encoding.TheVariants.{Utf8}
 use Rattle.yaml_emit_sink.specs.declared.settings.LineBreak.{LineBreak}
 use Rattle.yaml_emit_sink.specs.declared.settings.LineBreak.TheVariants.{Lf, Cr, CrLf}
-use Rattle.yaml_emit_sink.specs.Text.{letter, encode, char_bytes, is_deep, shallow}
-use Rattle.yaml_emit_sink.specs.Layout.{Rest, blanks, fresh, line, must_break, indent_to}
-use Rattle.yaml_emit_sink.specs.Appends.{AppendsBy, indented}
+use Rattle.yaml_emit_sink.specs.Text.{Item, letter, encode, char_bytes, is_deep, shallow}
+use Rattle.yaml_emit_sink.specs.Layout.{Layout, Rest, ◌▹◌, blanks, letters, fresh, line, must_break, indent_to}
+use Rattle.yaml_emit_sink.specs.Appends.{AppendsBy, indented, blanked, lettered}
 use Rattle.yaml_emit_sink.specs.Sink.{Output, Puts}
-use Rattle.yaml_emit_sink.proofs.Sinks.{puts_as, puts_run, cond_true, cond_false, stepped, stepped_none, stepped_is, Leads, blanks_lead}
+use Rattle.yaml_emit_sink.proofs.Ascii.{puts_near}
+use Rattle.yaml_emit_sink.proofs.Sinks.{puts_as, puts_both, puts_run, puts_spaces, cond_true, cond_false, stepped, stepped_none, stepped_is, Leads, blanks_lead}
 
 -- the cursor at the start of a line
 abbrev home : Cursor → Cursor
@@ -86,3 +90,108 @@ line_cut old feed whole new blanks n h b f w e =
     let some : take n blanks ≡ replicate n 32 = ap (take n) b ∙ take-replicate n (length blanks) 32 h in
     e ∙ ap (take (length old + (1 + n))) is ∙ take-append-add old (10 ∷ blanks) (1 + n)
     ∙ ap (λ (k : ℕ). old ++ take k (10 ∷ blanks)) more ∙ ap (λ (t : List ℕ). old ++ 10 ∷ t) some
+
+-- as many spaces as are left of some
+pub blanks_cut : (old whole new blanks : List ℕ) (n : ℕ) → n ≤ length blanks
+    → blanks ≡ replicate (length blanks) 32 → whole ≡ old ++ blanks
+    → new ≡ take (length old + n) whole → new ≡ old ++ replicate n 32
+blanks_cut old whole new blanks n h b w e =
+    let some : take n blanks ≡ replicate n 32 = ap (take n) b ∙ take-replicate n (length blanks) 32 h in
+    e ∙ ap (take (length old + n)) w ∙ take-append-add old blanks n ∙ ap (λ (t : List ℕ). old ++ t) some
+
+some_of : (n : ℕ) → (n ≡ 0 → ⊥) → 0 < n
+some_of zero p = absurd (p refl)
+some_of (suc n) p = omega arith
+
+-- spaces of one byte were appended, all of them for certain
+pub puts_few : (a b : Output) (n : ℕ) → (n ≡ 0 → ⊥) → a.status ≡ Going → a.encoding ≡ Utf8
+    → b.status ≡ a.status → b.encoding ≡ a.encoding → b.limit ≡ a.limit
+    → b.bytes ≡ a.bytes ++ replicate n 32 → length a.bytes + n ≤ a.limit
+    → b.cursor ≡ blanked n a.cursor → Puts a b (blanks n)
+puts_few a b n p g x t e l o r k =
+    let P : Status → Type 0 = λ z. AppendsBy z a.limit a.bytes b.bytes (replicate n 32) in
+    let many : length (replicate {A = ℕ} n 32) ≡ n = length-replicate n 32 in
+    puts_spaces a b n (some_of n p) g x e l (subst P (sym (t ∙ g)) (o, rw o (omega (arith, r, many, length-append a.bytes (replicate n 32))))) (λ _. k)
+
+-- a line feed, spaces and a text behind them were appended
+pub puts_lined : (a b : Output) (n : ℕ) (xs : List ℕ) → must_break n a.cursor ≡ true
+    → a.status ≡ Going → a.encoding ≡ Utf8 → b.status ≡ a.status → b.encoding ≡ a.encoding
+    → b.limit ≡ a.limit → IsAscii xs → 0 < length xs
+    → b.bytes ≡ a.bytes ++ 10 ∷ replicate n 32 ++ xs
+    → length a.bytes + (1 + n + length xs) ≤ a.limit
+    → b.cursor ≡ lettered (length xs) (indented n a.cursor) → Puts a b (line Lf n ▹ letters xs)
+puts_lined a b n xs m g x t e l s p o r k =
+    let mid : Output = record { bytes = a.bytes ++ 10 ∷ replicate n 32; limit = a.limit; encoding = a.encoding; status = a.status; cursor = indented n a.cursor } in
+    let many : length (replicate {A = ℕ} n 32) ≡ n = length-replicate n 32 in
+    let more = length-append a.bytes (10 ∷ replicate n 32) in
+    puts_both a mid b (line Lf n) (letters xs)
+    (line_broken a mid Lf n m (puts_brief a mid n g x refl refl refl refl (omega (arith, r)) refl))
+    (puts_near mid b xs s p g x t e l o (omega (arith, r, many, more)) k)
+
+-- ---- where a line ends
+
+-- by how many spaces are due
+blanks_land : (i n k : ℕ) (white kept : Bool) (x y : Layout) (rest : Rest)
+    → i ≡ n - k → k ≤ n → (i ≡ 0 → white ≡ true)
+    → ((kept : Bool) → x (record { column = n; white = true; bare = true; kept = kept }) rest
+    ≡ y (record { column = n; white = true; bare = true; kept = kept }) rest)
+    → (blanks i ▹ x) (record { column = k; white = white; bare = true; kept = kept }) rest
+    ≡ (blanks i ▹ y) (record { column = k; white = white; bare = true; kept = kept }) rest
+unfolding blanks
+blanks_land zero n k white kept x y rest e h w f =
+    let there : k ≡ n = omega (arith, e, h) in
+    rw (w refl, there) (f kept)
+blanks_land (suc i) n k white kept x y rest e h w f =
+    ap (λ (t : List Item). letter 32 ∷ t) (blanks_land i n (k + 1) true kept x y rest (omega (arith, e)) (omega (arith, e, h)) (λ z. refl) f)
+
+or_none : (a b : Bool) → (a || b) ≡ false → (a ≡ false) × (b ≡ false)
+or_none false false h = (refl, refl)
+or_none true b h = absurd (cc)
+or_none false true h = absurd (cc)
+
+at_most : (n k : ℕ) → nat_lt n k ≡ false → k ≤ n
+at_most n k h = grind (arith, nat_tests, h)
+
+same_column : (n k : ℕ) → k ≤ n → n - k ≡ 0 → (k == n) ≡ true
+same_column n k h e = let there : k ≡ n = omega (arith, h, e) in grind (arith, nat_tests, there)
+
+-- where the line isn't broken
+lands_joined : (n k : ℕ) (white bare kept : Bool) (x y : Layout) (rest : Rest)
+    → must_break n (record { column = k; white = white; bare = bare; kept = kept }) ≡ false
+    → ((kept : Bool) → x (record { column = n; white = true; bare = true; kept = kept }) rest
+    ≡ y (record { column = n; white = true; bare = true; kept = kept }) rest)
+    → (blanks (n - k) ▹ x) (record { column = k; white = white; bare = bare; kept = kept }) rest
+    ≡ (blanks (n - k) ▹ y) (record { column = k; white = white; bare = bare; kept = kept }) rest
+lands_joined n k white false kept x y rest m f = absurd (cc)
+lands_joined n k true true kept x y rest m f =
+    let p = or_none (nat_lt n k) (k == n && false) m in
+    blanks_land (n - k) n k true kept x y rest refl (at_most n k p.0) (λ z. refl) f
+lands_joined n k false true kept x y rest m f =
+    let p = or_none (nat_lt n k) (k == n && true) m in
+    let less = at_most n k p.0 in
+    blanks_land (n - k) n k false kept x y rest refl less (λ z. absurd (false≢true (sym p.1 ∙ ap (λ (b : Bool). b && true) (same_column n k less z)))) f
+
+fresh_lands : (b : LineBreak) (n : ℕ) (c : Cursor) (x y : Layout) (rest : Rest)
+    → ((kept : Bool) → x (record { column = n; white = true; bare = true; kept = kept }) rest
+    ≡ y (record { column = n; white = true; bare = true; kept = kept }) rest)
+    → (fresh b n ▹ x) c rest ≡ (fresh b n ▹ y) c rest
+fresh_lands Lf n c x y rest f = ap (λ (t : List Item). letter 10 ∷ t) (blanks_land n n 0 true c.kept x y rest (omega arith) (omega arith) (λ z. refl) f)
+fresh_lands Cr n c x y rest f = ap (λ (t : List Item). letter 13 ∷ t) (blanks_land n n 0 true c.kept x y rest (omega arith) (omega arith) (λ z. refl) f)
+fresh_lands CrLf n c x y rest f = ap (λ (t : List Item). letter 13 ∷ letter 10 ∷ t) (blanks_land n n 0 true c.kept x y rest (omega arith) (omega arith) (λ z. refl) f)
+
+lands_by : (m : Bool) (b : LineBreak) (n : ℕ) (c : Cursor) (x y : Layout) (rest : Rest)
+    → must_break n c ≡ m
+    → ((kept : Bool) → x (record { column = n; white = true; bare = true; kept = kept }) rest
+    ≡ y (record { column = n; white = true; bare = true; kept = kept }) rest)
+    → (line b n ▹ x) c rest ≡ (line b n ▹ y) c rest
+lands_by true b n c x y rest m f =
+    line_fresh b n c (λ d. x d rest) m ∙ fresh_lands b n c x y rest f ∙ sym (line_fresh b n c (λ d. y d rest) m)
+lands_by false b n c x y rest m f =
+    line_stays b n c (λ d. x d rest) m ∙ lands_joined n c.column c.white c.bare c.kept x y rest m f ∙ sym (line_stays b n c (λ d. y d rest) m)
+
+-- behind a line the column is its indentation, and it is bare
+pub line_lands : (b : LineBreak) (n : ℕ) (x y : Layout) (rest : Rest)
+    → ((kept : Bool) → x (record { column = n; white = true; bare = true; kept = kept }) rest
+    ≡ y (record { column = n; white = true; bare = true; kept = kept }) rest)
+    → (c : Cursor) → (line b n ▹ x) c rest ≡ (line b n ▹ y) c rest
+line_lands b n x y rest f c = lands_by (must_break n c) b n c x y rest refl f

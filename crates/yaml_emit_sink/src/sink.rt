@@ -11,7 +11,7 @@ use crate::append::{
     append, append_blanks, append_char, blanked, byte_of, indented, is_roomy, lettered, moved,
 };
 use crate::cursor::{Cursor, Status};
-use crate::feed::{has_room, is_brief, put_deep_line, put_fresh_line};
+use crate::feed::{are_few, has_room, is_brief, put_deep_line, put_few_blanks, put_fresh_line};
 use crate::narrow::is_long_ascii;
 use crate::settings::{Encoding, LineBreak};
 use std::alloc::{AllocError, Global};
@@ -342,6 +342,19 @@ impl Sink {
         }
     }
 
+    // So many spaces, one at least.
+    // Out of line: the rare way, near the limit or in UTF-16, beside the short one.
+    #[inline(never)]
+    fn put_more_blanks(&mut self, count: u64)
+        requires { 0 < count }
+        ensures { Puts self.old self.new (blanks count) }
+    {
+        match self.encoding() {
+            Encoding::Utf8 => self.put_spaces(count),
+            _ => self.put_each_blank(count),
+        }
+    }
+
     /// So many spaces, which part what they stand between.
     pub fn put_blanks(&mut self, count: u64)
         ensures { Puts self.old self.new (blanks count) }
@@ -349,9 +362,11 @@ impl Sink {
         if count == 0 {
             return;
         }
-        match self.encoding() {
-            Encoding::Utf8 => self.put_spaces(count),
-            _ => self.put_each_blank(count),
+        if are_few(&self.output, self.fast_limit, count) {
+            put_few_blanks(&mut self.output, count);
+            blanked(&mut self.cursor, count);
+        } else {
+            self.put_more_blanks(count);
         }
     }
 
@@ -454,7 +469,7 @@ impl Sink {
     fn put_deep(&mut self, line_break: LineBreak, indent: u64)
         ensures { Puts self.old self.new (fresh line_break indent) }
     {
-        if is_brief(&self.output, self.fast_limit, line_break, indent, 80) {
+        if is_brief(&self.output, self.fast_limit, line_break, indent, 80, 0) {
             put_deep_line(&mut self.output, indent);
             indented(&mut self.cursor, indent);
         } else {
@@ -466,7 +481,7 @@ impl Sink {
     fn put_fresh(&mut self, line_break: LineBreak, indent: u64)
         ensures { Puts self.old self.new (fresh line_break indent) }
     {
-        if is_brief(&self.output, self.fast_limit, line_break, indent, 16) {
+        if is_brief(&self.output, self.fast_limit, line_break, indent, 16, 0) {
             put_fresh_line(&mut self.output, indent);
             indented(&mut self.cursor, indent);
         } else {

@@ -3,14 +3,15 @@ ghost use Rattle.std.specs.Prelude.{◌≡◌, ◌<◌, ◌≤◌, ◌∷◌, �
 ghost use Rattle.yaml_types.specs.Ascii as ascii;
 
 use super::Sink;
-use crate::append::lettered;
-use crate::feed::has_room;
+use crate::append::{indented, lettered};
+use crate::feed::{has_room, is_brief_with, put_line_between};
+use crate::settings::LineBreak;
 use yaml_types::put_between;
 
 impl Sink {
     ghost use Rattle.std.specs.Str.{IsAscii};
     ghost use Rattle.yaml_emit_sink.specs.Sink.{Puts};
-    ghost use Rattle.yaml_emit_sink.specs.Layout.{letters, word};
+    ghost use Rattle.yaml_emit_sink.specs.Layout.{◌▹◌, letters, line, word};
 
     // One after another.
     // Out of line: the rare way, near the limit or in UTF-16, beside the short one.
@@ -38,6 +39,59 @@ impl Sink {
             lettered(&mut self.cursor, count);
         } else {
             self.put_parts(front, text, end);
+        }
+    }
+
+    // A line, and what stands behind it.
+    // Out of line: the rare way, beside the short one.
+    #[inline(never)]
+    fn put_lined_far(
+        &mut self,
+        line_break: LineBreak,
+        indent: u64,
+        front: &[u8],
+        text: &[u8],
+        end: &[u8],
+    )
+        requires few { length front.now + length end.now ≤ 8 }
+        requires some { 0 < length front.now + length text.now }
+        requires ascii { IsAscii (front.now ++ (text.now ++ end.now)) }
+        ensures { Puts self.old self.new (line line_break indent
+            ▹ letters (front.now ++ (text.now ++ end.now))) }
+    {
+        self.put_line(line_break, indent);
+        self.put_joined(front, text, end);
+    }
+
+    /// A line, and behind it few characters of known numbers, a text and few more, in ASCII, one at least: at once where there
+    /// is room for them.
+    // Inlined: mostly there is, and it is some stores round a copy.
+    #[inline(always)]
+    pub fn put_lined(
+        &mut self,
+        line_break: LineBreak,
+        indent: u64,
+        front: &[u8],
+        text: &[u8],
+        end: &[u8],
+    )
+        requires few { length front.now + length end.now ≤ 8 }
+        requires some { 0 < length front.now + length text.now }
+        requires ascii { IsAscii (front.now ++ (text.now ++ end.now)) }
+        ensures { Puts self.old self.new (line line_break indent
+            ▹ letters (front.now ++ (text.now ++ end.now))) }
+    {
+        if !self.must_break(indent) {
+            self.put_lined_far(line_break, indent, front, text, end);
+        } else if is_brief_with(&self.output, self.fast_limit, line_break, indent, text) {
+            put_line_between(&mut self.output, indent, front, text, end);
+            indented(&mut self.cursor, indent);
+            lettered(
+                &mut self.cursor,
+                (front.len() + text.len() + end.len()) as u64,
+            );
+        } else {
+            self.put_lined_far(line_break, indent, front, text, end);
         }
     }
 

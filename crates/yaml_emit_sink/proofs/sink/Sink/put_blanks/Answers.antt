@@ -1,5 +1,14 @@
+use Rattle.std.proofs.Common.{refl, arith}
+use Rattle.yaml_emit_sink.proofs.Lines.{puts_few}
 use Rattle.yaml_emit_sink.proofs.Sinks.{no_blanks}
 use Rattle.yaml_emit_sink.proofs.sink.Sink.put_blanks.Goals as goal
 
 pub returns-then-count-eq0 : goal.returns-then-count-eq0
 returns-then-count-eq0 c = no_blanks _ _ c.if-count-eq0.true
+
+pub returns-then-are_few : goal.returns-then-are_few
+returns-then-are_few c =
+    let few = c.are_few.ensures.few c.if-are_few.true in
+    let near = c.are_few.ensures.near c.if-are_few.true in
+    let fast = c.self.invariant.fast_limit (omega (arith, near)) in
+    rw (← c.self.view_is) (puts_few _ _ _ c.if-count-eq0.false fast.1.0 fast.1.1 refl refl refl c.put_few_blanks.ensures.items (omega (arith, near, few, fast.0)) c.blanked.ensures)

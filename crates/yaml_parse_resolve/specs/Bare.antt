@@ -14,3 +14,8 @@ OwnsNothing (body.SequenceStart _ _ _ _) = ⊥
 OwnsNothing (body.MappingStart None None _ _) = Unit {0}
 OwnsNothing (body.MappingStart _ _ _ _) = ⊥
 OwnsNothing _ = Unit {0}
+
+-- the event is a scalar
+abbrev pub IsScalar : yaml_event_body_t → Type 0
+IsScalar (body.Scalar _ _ _ _ _ _) = Unit {0}
+IsScalar _ = ⊥

@@ -55,7 +55,21 @@ impl TagDirectives {
     }
 
     /// The prefix that a directive gives the handle.
+    // Inlined: mostly a document has no directives.
+    #[inline(always)]
     pub(crate) fn prefix_of(&self, handle: &[u8]) -> Option<&[u8]>
+        ensures { option_map (λ t. t.now) result ≡ directive_for handle.now self.now }
+    {
+        if self.list.as_slice().is_empty() {
+            return None;
+        }
+        self.prefix_among(handle)
+    }
+
+    /// The prefix that one of some directives gives the handle.
+    // Out of line: mostly there is none.
+    #[inline(never)]
+    fn prefix_among(&self, handle: &[u8]) -> Option<&[u8]>
         ensures { option_map (λ t. t.now) result ≡ directive_for handle.now self.now }
     {
         match self.prefixes.get(handle) {

@@ -9,9 +9,10 @@ ghost use Rattle.yaml_parse_grammar.specs.Resolve.{node_event, placed};
 ghost use Rattle.yaml_parse_core.specs.Extra.{value_in, style_in};
 ghost use Rattle.yaml_parse_core.specs.Views.{text_if, shape_at, node_item};
 
-use crate::room::{clears, vacate, vacate_full};
+use crate::room::{clears, vacate_full, vacate_named};
 use crate::scalars::{bare, named};
 use crate::slots::{start_mapping, start_named_mapping, start_named_sequence, start_sequence};
+use std::mem;
 use yaml_parse_core::{Shape, Waiting};
 use yaml_parse_model::{
     BodySlot, TokenSlot, mark_again, yaml_event_body_t, yaml_event_t, yaml_mapping_style_t,
@@ -166,9 +167,21 @@ fn tell_named_scalar(
 {
     match token.kind {
         yaml_token_type_t::YAML_SCALAR_TOKEN => {
+            leave_suffix(waiting, &mut token.other);
             named(waiting, &mut token.text, token.style, event);
         }
         _ => tell_no_named_scalar(waiting, event),
+    }
+}
+
+// Has the token that is taken hold the room of a tag's suffix, which is a part of the tag in full.
+// Inlined: some moves.
+#[inline(always)]
+fn leave_suffix(waiting: &mut Waiting<Vec<u8>, yaml_mark_t>, room: &mut Vec<u8>)
+    ensures { waiting.new ≡ record waiting.old { suffix = waiting.new.suffix } }
+{
+    if waiting.has_tag {
+        mem::swap(&mut waiting.suffix, room);
     }
 }
 
@@ -200,8 +213,8 @@ fn tell_named_sequence(
         waiting.old.anchor.items) (text_if waiting.old.has_tag waiting.old.handle.items)
         (item.sequence style) }
 {
-    vacate(event, token);
-    start_named_sequence(waiting, style, event);
+    let room = vacate_named(event, waiting, token);
+    start_named_sequence(waiting, room, style, event);
 }
 
 // A mapping begins behind properties.
@@ -215,8 +228,8 @@ fn tell_named_mapping(
         waiting.old.anchor.items) (text_if waiting.old.has_tag waiting.old.handle.items)
         (item.mapping style) }
 {
-    vacate(event, token);
-    start_named_mapping(waiting, style, event);
+    let room = vacate_named(event, waiting, token);
+    start_named_mapping(waiting, room, style, event);
 }
 
 // The event of a node behind properties. Its tag stands in full in the place of its handle.

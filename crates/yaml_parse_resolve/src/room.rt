@@ -5,8 +5,10 @@ ghost use Rattle.yaml_parse_model.specs.Events.{text_of};
 ghost use Rattle.yaml_parse_core.specs.Views.{text_if};
 ghost use Rattle.yaml_parse_resolve.specs.Bare.{OwnsNothing};
 
+use std::alloc::Global;
 use std::mem;
-use yaml_parse_model::{BodySlot, moved, yaml_event_body_t};
+use yaml_parse_core::Waiting;
+use yaml_parse_model::{BodySlot, moved, yaml_event_body_t, yaml_mark_t};
 
 /// Whether a slot of events holds no text.
 // Inlined: a look at the kind.
@@ -105,6 +107,53 @@ pub fn clears(earlier: &mut yaml_event_body_t, room: &mut Vec<u8>) -> bool
             }
         }
         _ => is_bare(earlier),
+    }
+}
+
+/// Takes the texts out of a slot of events, in front of a node with properties. The room of a scalar's texts is left: that of its
+/// value in the slot of a token that is taken, that of its tag in place of a suffix that is done with, if that has none, and that of
+/// its anchor is answered.
+// Inlined into its two callers, which are out of line themselves.
+#[inline(always)]
+pub fn vacate_named(
+    earlier: &mut yaml_event_body_t,
+    waiting: &mut Waiting<Vec<u8>, yaml_mark_t>,
+    slot: &mut BodySlot,
+) -> Vec<u8>
+    ensures bare { OwnsNothing earlier.new }
+    ensures same { waiting.new ≡ record waiting.old { suffix = waiting.new.suffix } }
+{
+    match earlier {
+        yaml_event_body_t::Scalar {
+            anchor,
+            tag,
+            value,
+            ..
+        } => {
+            leave_in(tag, &mut waiting.suffix);
+            hand_over(moved(value), slot);
+            taken_or_empty(*waiting.suffix.allocator(), anchor)
+        }
+        _ => {
+            vacate(earlier, slot);
+            Vec::new(*waiting.suffix.allocator())
+        }
+    }
+}
+
+// Takes the text, if there is one, and leaves it in a place that has no room.
+// Inlined: some moves.
+#[inline(always)]
+fn leave_in(text: &mut Option<Vec<u8>>, place: &mut Vec<u8>)
+    ensures { text.new ≡ None }
+{
+    match text.take() {
+        None => {}
+        Some(it) => {
+            if place.capacity() == 0 {
+                *place = it;
+            }
+        }
     }
 }
 
@@ -231,6 +280,41 @@ pub fn exchanged(earlier: &mut yaml_event_body_t, text: &mut Vec<u8>) -> Vec<u8>
     }
 }
 
+/// Takes the texts out of a slot of events that holds no scalar, and answers the room of one, or an empty text.
+// Inlined into its one caller, which is out of line itself.
+#[inline(always)]
+pub(crate) fn taken_room(alloc: Global, earlier: &mut yaml_event_body_t) -> Vec<u8>
+    ensures { OwnsNothing earlier.new }
+{
+    match earlier {
+        yaml_event_body_t::Alias { anchor } => moved(anchor),
+        yaml_event_body_t::SequenceStart { anchor, tag, .. } => {
+            *tag = None;
+            taken_or_empty(alloc, anchor)
+        }
+        yaml_event_body_t::MappingStart { anchor, tag, .. } => {
+            *tag = None;
+            taken_or_empty(alloc, anchor)
+        }
+        _ => {
+            clear(earlier);
+            Vec::new(alloc)
+        }
+    }
+}
+
+// Takes the text, if there is one, or else an empty one.
+// Inlined: some moves.
+#[inline(always)]
+fn taken_or_empty(alloc: Global, text: &mut Option<Vec<u8>>) -> Vec<u8>
+    ensures { text.new ≡ None }
+{
+    match text.take() {
+        None => Vec::new(alloc),
+        Some(it) => it,
+    }
+}
+
 // Another text in a place for one, in whose place the room of the earlier one is left.
 // Inlined: some moves.
 #[inline(always)]
@@ -279,6 +363,19 @@ pub(crate) fn moved_if(is_there: bool, text: &mut Vec<u8>) -> Option<Vec<u8>>
     ensures { text_of result ≡ text_if is_there text.old.items }
 {
     if is_there { Some(moved(text)) } else { None }
+}
+
+/// The text, if it is one that is to be there, in whose place that room is left then.
+// Inlined: some moves.
+#[inline(always)]
+pub(crate) fn moved_for(is_there: bool, text: &mut Vec<u8>, room: Vec<u8>) -> Option<Vec<u8>>
+    ensures { text_of result ≡ text_if is_there text.old.items }
+{
+    if is_there {
+        Some(mem::replace(text, room))
+    } else {
+        None
+    }
 }
 
 /// The text, in whose place another one is left, which leaves an empty one.

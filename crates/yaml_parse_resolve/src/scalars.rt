@@ -1,15 +1,17 @@
 //! Scalars in a slot of events. Where it holds one already, that is changed in place: to put a new one there, the old one is taken
 //! apart, asked what it owns, and set to zero.
 
-ghost use Rattle.std.specs.Prelude.{◌≡◌, None, Some, codes};
+ghost use Rattle.std.specs.Prelude.{◌≡◌, None, Some, codes, true};
 ghost use Rattle.std.specs.Str.{bytes_eq};
 ghost use Rattle.yaml_parse_model.specs.Events.{body_of};
 ghost use Rattle.yaml_parse_model.specs.Events as told;
 ghost use Rattle.yaml_parse_grammar.specs.Items as item;
 ghost use Rattle.yaml_parse_grammar.specs.Resolve.{is_plain as is_plain_style, node_event};
 ghost use Rattle.yaml_parse_core.specs.Views.{text_if};
+ghost use Rattle.yaml_parse_resolve.specs.Bare.{IsScalar, OwnsNothing};
 
-use crate::room::{exchange, exchanged, give_back, is_bare, moved_if, put_bare, replaced};
+use crate::room::{exchange, exchanged, give_back, is_bare, put_bare, replaced, taken_room};
+use std::alloc::Global;
 use std::mem;
 use yaml_parse_core::Waiting;
 use yaml_parse_model::{yaml_event_body_t, yaml_mark_t, yaml_scalar_style_t};
@@ -22,10 +24,61 @@ struct Form {
     style: yaml_scalar_style_t,
 }
 
-// A new scalar.
-// Out of line: mostly the slot holds a scalar already, which is changed in place.
+// Whether a slot of events holds a scalar.
+// Inlined: a look at the kind.
+#[inline(always)]
+fn is_scalar(event: &yaml_event_body_t) -> bool
+    ensures { result ≡ true → IsScalar event.now }
+{
+    match *event {
+        yaml_event_body_t::Scalar { .. } => true,
+        _ => false,
+    }
+}
+
+// A scalar of which all is to be said, in a slot that holds another event. It has the room of that one's text.
+// Out of line: mostly the slot holds a scalar already.
 #[inline(never)]
-fn new_scalar(
+fn begin_scalar(alloc: Global, event: &mut yaml_event_body_t)
+    ensures { IsScalar event.new }
+{
+    let room = taken_room(alloc, event);
+    start_blank(room, event);
+}
+
+// A scalar that has a room and nothing else, in a slot that holds no text.
+// Inlined: so its room is set where it is built, and not in front of the choice by what the slot held.
+#[inline(always)]
+fn start_blank(room: Vec<u8>, event: &mut yaml_event_body_t)
+    requires { OwnsNothing event.old }
+    ensures { IsScalar event.new }
+{
+    let blank = yaml_event_body_t::Scalar {
+        anchor: None,
+        tag: None,
+        value: room,
+        plain_implicit: false,
+        quoted_implicit: false,
+        style: yaml_scalar_style_t::YAML_ANY_SCALAR_STYLE,
+    };
+    put_bare(event, blank);
+}
+
+// Has a slot of events hold a scalar, whatever that says.
+// Inlined: mostly a look at the kind.
+#[inline(always)]
+fn make_scalar(alloc: Global, event: &mut yaml_event_body_t)
+    ensures { IsScalar event.new }
+{
+    if !is_scalar(event) {
+        begin_scalar(alloc, event);
+    }
+}
+
+// A scalar with the anchor that waited, and the tag in full in the place of its handle, where it has them.
+// Inlined: some loads and stores.
+#[inline(always)]
+fn put_scalar(
     waiting: &mut Waiting<Vec<u8>, yaml_mark_t>,
     has_anchor: bool,
     has_tag: bool,
@@ -37,23 +90,14 @@ fn new_scalar(
         (text_if has_tag waiting.old.handle.items) value.old.items form.plain form.quoted
         form.style }
 {
-    let text = exchanged(event, value);
-    let scalar = yaml_event_body_t::Scalar {
-        anchor: moved_if(has_anchor, &mut waiting.anchor),
-        tag: moved_if(has_tag, &mut waiting.handle),
-        value: text,
-        plain_implicit: form.plain,
-        quoted_implicit: form.quoted,
-        style: form.style,
-    };
-    put_bare(event, scalar);
+    make_scalar(*value.allocator(), event);
+    fill_scalar(waiting, has_anchor, has_tag, value, form, event);
 }
 
-// A scalar with the anchor that waited, and the tag in full in the place of its handle, where it has them. The texts of an earlier
-// scalar are left in place of the new ones.
+// The same, where the slot holds a scalar. The texts of that one are left in place of the new ones.
 // Inlined: some loads and stores.
 #[inline(always)]
-fn put_scalar(
+fn fill_scalar(
     waiting: &mut Waiting<Vec<u8>, yaml_mark_t>,
     has_anchor: bool,
     has_tag: bool,
@@ -61,6 +105,7 @@ fn put_scalar(
     form: Form,
     event: &mut yaml_event_body_t,
 )
+    requires { IsScalar event.old }
     ensures { body_of event.new ≡ told.scalar (text_if has_anchor waiting.old.anchor.items)
         (text_if has_tag waiting.old.handle.items) value.old.items form.plain form.quoted
         form.style }
@@ -81,7 +126,8 @@ fn put_scalar(
             *quoted = form.quoted;
             *last_style = form.style;
         }
-        _ => new_scalar(waiting, has_anchor, has_tag, value, form, event),
+        // Never: it holds a scalar.
+        _ => {}
     }
 }
 
@@ -124,7 +170,26 @@ fn new_bare(value: &mut Vec<u8>, style: yaml_scalar_style_t, event: &mut yaml_ev
     ensures { body_of event.new ≡ node_event None None (item.scalar value.old.items style) }
 {
     let text = exchanged(event, value);
-    put_bare(event, bare_of(text, style));
+    start_bare(text, style, event);
+}
+
+// A scalar without properties, in a slot that holds no text.
+// It begins with an empty value: with its own one it would be put together elsewhere and copied whole.
+// Inlined: see `start_blank`.
+#[inline(always)]
+fn start_bare(value: Vec<u8>, style: yaml_scalar_style_t, event: &mut yaml_event_body_t)
+    requires { OwnsNothing event.old }
+    ensures { body_of event.new ≡ node_event None None (item.scalar value.items style) }
+{
+    let alloc = *value.allocator();
+    put_bare(event, bare_of(Vec::new(alloc), style));
+    match event {
+        yaml_event_body_t::Scalar { value: place, .. } => {
+            *place = value;
+        }
+        // Never: it was put there.
+        _ => {}
+    }
 }
 
 // A scalar without properties, where the slot holds no such one.

@@ -8,7 +8,7 @@ ghost use Rattle.yaml_parse_grammar.specs.Resolve.{node_event};
 ghost use Rattle.yaml_parse_core.specs.Views.{text_if};
 ghost use Rattle.yaml_parse_resolve.specs.Bare.{OwnsNothing};
 
-use crate::room::{exchanged, moved_if, put_bare};
+use crate::room::{exchanged, moved_for, moved_if, put_bare};
 use yaml_parse_core::Waiting;
 use yaml_parse_model::{
     yaml_event_body_t, yaml_mapping_style_t, yaml_mark_t, yaml_sequence_style_t,
@@ -50,7 +50,29 @@ pub(crate) fn put_alias(slot: &mut yaml_event_body_t, name: &mut Vec<u8>)
     ensures { body_of slot.new ≡ told.alias name.old.items }
 {
     let anchor = exchanged(slot, name);
-    put_bare(slot, yaml_event_body_t::Alias { anchor });
+    start_alias(slot, anchor);
+}
+
+// An alias, in a slot that holds no text.
+// It begins with an empty name: with its own one it would be put together elsewhere and copied whole.
+// Inlined: so its room is set where it is built, and not in front of the choice by what the slot held.
+#[inline(always)]
+fn start_alias(slot: &mut yaml_event_body_t, anchor: Vec<u8>)
+    requires { OwnsNothing slot.old }
+    ensures { body_of slot.new ≡ told.alias anchor.items }
+{
+    let alloc = *anchor.allocator();
+    let empty = yaml_event_body_t::Alias {
+        anchor: Vec::new(alloc),
+    };
+    put_bare(slot, empty);
+    match slot {
+        yaml_event_body_t::Alias { anchor: place } => {
+            *place = anchor;
+        }
+        // Never: it was put there.
+        _ => {}
+    }
 }
 
 /// A sequence begins without properties.
@@ -88,6 +110,7 @@ pub(crate) fn start_mapping(slot: &mut yaml_event_body_t, style: yaml_mapping_st
 /// A sequence begins behind properties. Its tag stands in full in the place of its handle.
 pub(crate) fn start_named_sequence(
     waiting: &mut Waiting<Vec<u8>, yaml_mark_t>,
+    room: Vec<u8>,
     style: yaml_sequence_style_t,
     event: &mut yaml_event_body_t,
 )
@@ -97,7 +120,7 @@ pub(crate) fn start_named_sequence(
         (item.sequence style) }
 {
     let start = yaml_event_body_t::SequenceStart {
-        anchor: moved_if(waiting.has_anchor, &mut waiting.anchor),
+        anchor: moved_for(waiting.has_anchor, &mut waiting.anchor, room),
         tag: moved_if(waiting.has_tag, &mut waiting.handle),
         implicit: !waiting.has_tag,
         style,
@@ -108,6 +131,7 @@ pub(crate) fn start_named_sequence(
 /// A mapping begins behind properties. Its tag stands in full in the place of its handle.
 pub(crate) fn start_named_mapping(
     waiting: &mut Waiting<Vec<u8>, yaml_mark_t>,
+    room: Vec<u8>,
     style: yaml_mapping_style_t,
     event: &mut yaml_event_body_t,
 )
@@ -117,7 +141,7 @@ pub(crate) fn start_named_mapping(
         (item.mapping style) }
 {
     let start = yaml_event_body_t::MappingStart {
-        anchor: moved_if(waiting.has_anchor, &mut waiting.anchor),
+        anchor: moved_for(waiting.has_anchor, &mut waiting.anchor, room),
         tag: moved_if(waiting.has_tag, &mut waiting.handle),
         implicit: !waiting.has_tag,
         style,

@@ -15,7 +15,7 @@ ghost use Rattle.yaml_parse_grammar.specs.Remaining.{parser_remaining, is_betwee
 ghost use Rattle.yaml_parse_grammar.specs.States.{State};
 ghost use Rattle.yaml_parse_grammar.specs.Items.{Properties};
 ghost use Rattle.yaml_parse_grammar.specs.Stacks.{IsStack};
-ghost use Rattle.yaml_parse_grammar.specs.Texts.{IsUtf8Token, IsUtf8Held};
+ghost use Rattle.yaml_parse_grammar.specs.Texts.{IsUtf8Held};
 ghost use Rattle.yaml_parse_model.specs.Source.{HasUtf8};
 ghost use Rattle.yaml_parse_step.specs.Steps.{AsksNext, HasFront, Turns, IsUtf8Turn, IsStackTurn, peeked_of, states_in};
 ghost use Rattle.yaml_parse_step.specs.Moves.{Turned, WentOn, LeavesMachine, step_of};

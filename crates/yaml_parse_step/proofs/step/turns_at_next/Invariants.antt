@@ -15,7 +15,7 @@ invariant-turns g l = record {
       (parser_remaining (peeked_of l.initial.buffers) (g.S.yaml_token_source_t.to_come l.initial.source) (g.S.yaml_token_source_t.fault_to_come l.initial.source) (states_in l.initial.buffers) (directives_of l.initial.buffers.directives) answered)
       (parser_remaining (peeked_of l.buffers) (g.S.yaml_token_source_t.to_come l.source) (g.S.yaml_token_source_t.fault_to_come l.source) (states_in l.buffers) (directives_of l.buffers.directives) answered);
   utf8 : IsUtf8Held (peeked_of l.initial.buffers) (states_in l.initial.buffers) (directives_of l.initial.buffers.directives) → IsUtf8Held (peeked_of l.buffers) (states_in l.buffers) (directives_of l.buffers.directives);
-  stack : IsStack (states_in l.initial.buffers) → IsStack (states_in l.buffers)
+  stack : IsStack (states_in l.initial.buffers) → IsStack (states_in l.buffers);
 }
 
 abbrev pub decreases-turns : goal.decreases-turns

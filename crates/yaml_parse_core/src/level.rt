@@ -50,7 +50,7 @@ pub enum Level {
     MappingLone,
 }
 
-/// An open level, and the place where it begins. It is copied whole.
+/// An open level, and the place where it begins.
 #[derive(Clone, Copy)]
 pub struct Kept<P> {
     pub level: Level,

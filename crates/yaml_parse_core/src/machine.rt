@@ -90,6 +90,7 @@ fn make_room<P: Copy>(stack: &mut Vec<Kept<P>>) -> Result<(), AllocError>
 }
 
 // The level that was kept last comes back.
+// In its two parts, as it is kept: where the topmost level is copied whole it is read by its address, which is made for each token.
 #[inline(always)]
 pub(crate) fn come_back<P: Copy>(machine: &mut Machine<P>)
     ensures awaited { machine.new.awaited ≡ machine.old.awaited }
@@ -99,7 +100,8 @@ pub(crate) fn come_back<P: Copy>(machine: &mut Machine<P>)
 {
     match machine.below.pop() {
         Some(kept) => {
-            machine.top = kept;
+            machine.top.level = kept.level;
+            machine.top.opener = kept.opener;
         }
         None => {
             machine.top.level = Level::Over;
@@ -134,7 +136,10 @@ fn enter<T: yaml_lent_token_t>(machine: &mut Machine<T::Place>, level: Level, to
         ≡ level_over machine.old.top.level (mark machine.old.top.opener)
         (stack_of mark machine.old.below.items) }
 {
-    machine.below.push_reserved(machine.top);
+    machine.below.push_reserved(Kept {
+        level: machine.top.level,
+        opener: machine.top.opener,
+    });
     machine.top.level = level;
     machine.top.opener = token.from();
 }

@@ -12,7 +12,7 @@ use crate::token::yaml_lent_token_t;
 use crate::told::Waiting;
 use crate::turning::turn;
 use std::mem;
-use yaml_parse_model::{TokenSlot, yaml_mark_t, yaml_token_type_t};
+use yaml_parse_model::{TokenSlot, mark_again, yaml_mark_t, yaml_token_type_t};
 
 impl yaml_lent_token_t for TokenSlot {
     type Place = yaml_mark_t;
@@ -41,16 +41,17 @@ impl yaml_lent_token_t for TokenSlot {
         self.body.kind
     }
 
+    // Number by number: a place that is copied whole is read by its address, which is made for each token.
     // Inlined: see `kind`.
     #[inline(always)]
     fn from(&self) -> yaml_mark_t {
-        self.start_mark
+        mark_again(&self.start_mark)
     }
 
     // Inlined: see `kind`.
     #[inline(always)]
     fn to(&self) -> yaml_mark_t {
-        self.end_mark
+        mark_again(&self.end_mark)
     }
 
     // Inlined: see `kind`.

@@ -100,13 +100,12 @@ impl Loader {
         // No list of a document has more than 2,147,483,647 entries.
         ensures sized { IfOk result (λ o. IfSome o (λ d. IsSized d)) }
     {
-        let at = event.start_mark;
         match self.making.apply(event) {
             Fed::Taken => Ok(None),
             Fed::Whole => Ok(Some(self.making.take_document())),
             Fed::Undefined => {
                 self.making.begin_anew();
-                Err(undefined_alias_fault(at))
+                Err(undefined_alias_fault(event.start_mark))
             }
             Fed::Starved => {
                 self.making.begin_anew();

@@ -486,10 +486,11 @@ impl Making {
     // part would be put aside.
     #[inline(always)]
     pub fn apply(&mut self, event: &mut yaml_event_t) -> Fed
-        ensures { Applies (step (event_of event.old) (loading_of self.old))
+        ensures fed { Applies (step (event_of event.old) (loading_of self.old))
             (event_of event.old).start_mark
             (HasRoomFor (event_of event.old).body (loading_of self.old)) result
             (loading_of self.new) }
+        ensures place { event.new.start_mark ≡ event.old.start_mark }
     {
         let yaml_event_t {
             body,

@@ -1,6 +1,6 @@
 -- What a step with its item resolved owes.
-use Rattle.std.proofs.Common.{◌≡◌, ◌⊎◌, ◌+◌, ◌<◌, ◌≤◌, arith, ℕ, inl, inr, List, [], ◌∷◌, length, Option, Some, None, refl, sym, ap, subst, ◌∙◌}
-use Rattle.yaml_parse_step.proofs.Words.{Parser, yaml_mark_t, Token, Fault, memory_fault, IsMemoryFault, scan_layers, HasMore, Event, EventBody, RawEvent, RawEventBody, State, Given, given_of, Outcome, run, initial, Stands, Directives, no_directives, Settled, gave, noted, settle, placed, unasked_at_fault, ParserRemaining, parser_remaining, reading_of, unasked_of, waiting, IsFinished, next_unasked, Raw, outcome, stop_of, IsDirective, GivesItem, GivesNoItem, IsRefused, IsSilent, GivesNext, GivesEnd}
+use Rattle.std.proofs.Common.{◌≡◌, ◌⊎◌, ◌+◌, ◌<◌, ◌≤◌, arith, ℕ, inl, inr, Bool, true, false, List, [], ◌∷◌, length, Option, Some, None, refl, sym, ap, subst, ◌∙◌}
+use Rattle.yaml_parse_step.proofs.Words.{Parser, yaml_mark_t, Token, Fault, memory_fault, IsMemoryFault, scan_layers, HasMore, Told, Event, EventBody, RawEvent, RawEventBody, State, Given, given_of, Outcome, run, initial, Stands, Directives, no_directives, Settled, gave, noted, settle, placed, unasked_at_fault, ParserRemaining, parser_remaining, reading_of, unasked_of, waiting, IsFinished, next_unasked, Raw, outcome, stop_of, IsDirective, GivesItem, GivesNoItem, IsRefused, IsSilent, GivesNext, GivesEnd}
 use Rattle.yaml_parse_grammar.specs.Items as item
 use Rattle.yaml_parse_grammar.specs.Trees.{Stream, spell}
 use Rattle.yaml_parse_grammar.specs.Resolve.{refused, settle_body, resolved, read_on, reading, Reading, unasked_on}
@@ -9,7 +9,10 @@ use Rattle.yaml_parse_grammar.proofs.CompleteStream.{nothing_runs, stream_runs}
 use Rattle.yaml_parse_grammar.proofs.EventsToGive.{speaks, reading_speaks, not_noted}
 use Rattle.yaml_parse_laws_trees.proofs.Turns.{items_given}
 use Rattle.yaml_parse_laws_trees.proofs.Falling.{has_more}
-use Rattle.yaml_parse_step.specs.Steps.{IsDone, IsTurnRefused, IsOver, KeptOverTurns}
+use Rattle.yaml_scan_model.specs.Faults.{parse_layers}
+use Rattle.yaml_parse_step.specs.Steps.{AreSilent, held_if, IsDone, IsTurnRefused, IsOver, KeptOverTurns, Turns}
+use Rattle.yaml_parse_step.specs.Turned.{Turned}
+use Rattle.yaml_parse_step.specs.Turned as turn
 
 -- what is to come of it
 abbrev pub of_raw : Raw → Directives → Fault → ParserRemaining
@@ -76,7 +79,7 @@ silent_unasked : (old new : Raw) (ds : Directives) → GivesNoItem old new
     → fault_of_raw old ds ≡ fault_of_raw new ds
 silent_unasked old new ds h = ap (λ (o : Outcome). unasked_at_fault o.items (stop_of old) ds) h.same ∙ ap (λ (n : ℕ). unasked_at_fault (outcome new).items n ds) h.stop
 
-noted_directive : (b : RawEventBody) (from : yaml_mark_t) (ds ds' : Directives)
+pub noted_directive : (b : RawEventBody) (from : yaml_mark_t) (ds ds' : Directives)
     → settle_body b from ds ≡ noted ds' → IsDirective b
 noted_directive (item.version_directive x y) from ds ds' e = tt
 noted_directive (item.tag_directive x y) from ds ds' e = tt
@@ -278,3 +281,35 @@ kept_end i o n k h =
         answered = ap (λ (c : ParserRemaining). c.answered) h.same ∙ k.answered;
       };
     }
+
+behind_silent : (r : Turned) (i o n : ParserRemaining) → IsSilent i o → Turns o r n → Turns i r n
+behind_silent (turn.event e) i o n s h =
+    record { events = sym s.events ∙ h.events; ending = h.ending ∙ s.ending; ending_unasked = h.ending_unasked ∙ s.ending_unasked; answered = h.answered ∙ s.answered }
+behind_silent turn.silent i o n s h = record {
+  events = h.events ∙ s.events;
+  ending = h.ending ∙ s.ending;
+  ending_unasked = h.ending_unasked ∙ s.ending_unasked;
+  answered = h.answered ∙ s.answered;
+  less = omega (arith, s.less, h.less);
+  speaks = s.speaks;
+}
+behind_silent (turn.refused f) i o n s h = record {
+  more = subst (λ (x : List Told). HasMore x i.ending) s.events (subst (λ (x : Option Fault). HasMore o.events x) s.ending h.more);
+  finished = h.finished;
+  reason = subst (λ (x : List Told). IsMemoryFault parse_layers f ⊎ ((x ≡ []) × (i.ending ≡ Some f))) s.events (subst (λ (x : Option Fault). IsMemoryFault parse_layers f ⊎ ((o.events ≡ []) × (x ≡ Some f))) s.ending h.reason);
+  unasked = subst (λ (x : ℕ). IsMemoryFault parse_layers f ⊎ (n.unasked ≡ x)) s.ending_unasked h.unasked;
+  asked = subst (λ (x : List Told). IsMemoryFault scan_layers f ⊎ (next_unasked x i.ending_unasked ≤ n.unasked)) s.events (subst (λ (x : ℕ). IsMemoryFault scan_layers f ⊎ (next_unasked o.events x ≤ n.unasked)) s.ending_unasked h.asked);
+}
+behind_silent turn.done i o n s h = absurd (s.speaks (sym s.events ∙ h.finished.events) (sym s.ending ∙ h.finished.ending))
+
+-- a turn behind turns that gave nothing
+pub turns_behind : (r : Turned) (i o n : ParserRemaining) → AreSilent i o → Turns o r n
+    → Turns i r n
+turns_behind r i o n (inl e) h = subst (λ (x : ParserRemaining). Turns x r n) e h
+turns_behind r i o n (inr s) h = behind_silent r i o n s h
+
+-- where none was held fewer tokens are left
+pub fewer_left : (b c : Bool) (t u : Token) (n m : ℕ) → b ≡ false
+    → m + held_of (held_if c u) < n + held_of (held_if b t) → m < n
+fewer_left true c t u n m e l = cc
+fewer_left false c t u n m e l = omega (arith, l)

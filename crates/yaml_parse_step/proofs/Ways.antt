@@ -1,14 +1,15 @@
 -- What a turn with its item resolved is to what is to come.
-use Rattle.std.proofs.Common.{◌≡◌, ◌⊎◌, ◌∙◌, ◌≤◌, ℕ, inl, inr, true, false, List, [], ◌∷◌, length, arith, Option, None, refl, sym, subst}
+use Rattle.std.proofs.Common.{◌≡◌, ◌⊎◌, ◌∙◌, ◌+◌, ◌<◌, ◌≤◌, ℕ, inl, inr, Bool, true, false, List, [], ◌∷◌, length, arith, Option, Some, None, refl, sym, subst}
 use Rattle.yaml_parse_step.proofs.Words.{Token, Fault, Event, State, Outcome, run, unasked_at_stop, Stands, Directives, unasked_at_fault, parser_remaining, is_between, waiting, reading_of, next_unasked, IsStack, IsUtf8Token, IsUtf8Held, is_nothing, Step, raw, IsFront, HasNoFront, IsSilent, IsRealOn, Went}
 use Rattle.yaml_parse_model.specs.Source as source
 use Rattle.yaml_parse_laws_trees.proofs.Falling.{next_behind, ended_next}
 use Rattle.yaml_parse_step.specs.declared.step.Step.TheVariants as code
 use Rattle.yaml_parse_step.specs.Stepped as step
-use Rattle.yaml_parse_step.specs.Steps.{Turns, IsUtf8Turn, IsStackTurn}
+use Rattle.yaml_parse_grammar.specs.Remaining.{held_of}
+use Rattle.yaml_parse_step.specs.Steps.{held_if, Turns, IsUtf8Turn, IsStackTurn}
 use Rattle.yaml_parse_step.specs.Turned.{turned}
 use Rattle.yaml_parse_step.proofs.Moves.{over_front}
-use Rattle.yaml_parse_step.proofs.Turning.{event_turn, silent_turn, noted_turn, refused_turn, unsettled_turn, AskedFor}
+use Rattle.yaml_parse_step.proofs.Turning.{event_turn, silent_turn, noted_turn, noted_directive, refused_turn, unsettled_turn, AskedFor}
 use Rattle.yaml_parse_step.proofs.Texts.{advance_utf8, silent_utf8, event_utf8, noted_utf8, cleared_utf8}
 use Rattle.yaml_parse_step.proofs.Heights.{silent_stands, event_stands, noted_stands, cleared_stands}
 
@@ -99,3 +100,52 @@ went_stands s t ds code.Silent e g held new behind (inl m) p = silent_stands new
 went_stands s t ds code.Silent e g held new behind (inr d) p = noted_stands new d.item (d.moves.stack p)
 went_stands s t ds code.Refused e g held new behind h p = cleared_stands new h.0
 went_stands s t ds code.Done e g held new behind h p = cleared_stands new h.2
+
+-- ---- the token that is held
+
+-- The token that is held stands in front.
+pub held_front : (b : Bool) (t : Token) (ts : List Token) (f : Option Fault) → b ≡ true
+    → IsFront (held_if b t) ts f t ts f
+held_front true t ts f e = record { runs = λ s. refl; asked = inl refl; stops = λ s. refl }
+held_front false t ts f e = cc
+
+pub held_utf8 : (b : Bool) (t : Token) → b ≡ true → IsUtf8Token (held_if b t)
+    → source.HasUtf8 t.body
+held_utf8 true t e h = h
+held_utf8 false t e h = cc
+
+pub none_is_held : (b : Bool) (t : Token) → b ≡ false → held_if b t ≡ None
+none_is_held true t e = cc
+none_is_held false t e = refl
+
+not_held : (b : Bool) (t : Token) → held_if b t ≡ None → b ≡ false
+not_held true t e = cc
+not_held false t e = refl
+
+none_left : (o : Option Token) (a : ℕ) → a + held_of o < a + 1 → o ≡ None
+none_left None a l = refl
+none_left (Some t) a l = absurd (omega (arith, l))
+
+open_left : (s : List State) → Stands s → is_nothing s ≡ false
+open_left [] h = absurd h
+open_left (x ∷ s) h = refl
+
+silent_left : (s : List State) (t : Token) (ds : Directives) (e : Event) (g : Fault)
+    (held : Option Token) (new : List State) (behind : Directives)
+    → Went s t ds code.Silent e g held new behind → (held ≡ None) × (is_nothing new ≡ false)
+silent_left s t ds e g held new behind (inl m) = (m.1, open_left new (m.0.gives [] None).stands)
+silent_left s t ds e g held new behind (inr d) =
+    let directive = noted_directive d.item.body d.item.from ds behind d.settles in
+    let given = d.moves.gives [] None in
+    (none_left held 0 (given.less directive), open_left new (given.stands directive))
+
+-- Behind a turn that gave nothing no token is held, and something is open.
+pub silent_asks : (r : Step) (s : List State) (t : Token) (ds : Directives) (e : Event) (g : Fault)
+    (b : Bool) (u : Token) (new : List State) (behind : Directives)
+    → Went s t ds r e g (held_if b u) new behind → r ≡ code.Silent
+    → (b ≡ false) × (is_nothing new ≡ false)
+silent_asks code.Silent s t ds e g b u new behind h is =
+    let left = silent_left s t ds e g (held_if b u) new behind h in (not_held b u left.0, left.1)
+silent_asks code.Given s t ds e g b u new behind h is = cc
+silent_asks code.Refused s t ds e g b u new behind h is = cc
+silent_asks code.Done s t ds e g b u new behind h is = cc

@@ -19,6 +19,7 @@ use Rattle.yaml_parse_grammar.specs.Resolve.{Directives, Settled, gave, noted, p
 use Rattle.yaml_parse_model.specs.declared.event.yaml_event_t.{yaml_event_t}
 use Rattle.yaml_parse_model.specs.Events.{event_of, body_of}
 use Rattle.yaml_parse_core.specs.Owned.{owned_states}
+use Rattle.yaml_parse_core.specs.Views.{is_nothing}
 use Rattle.yaml_parse_step.specs.declared.step.StepBuffers.{StepBuffers}
 use Rattle.yaml_parse_step.specs.Finds.{GivesNext}
 use Rattle.yaml_parse_step.specs.Stepped.{SteppedOnce}
@@ -37,6 +38,10 @@ peeked_of d = held_if d.is_held (token_in_slot d.token)
 -- what may come, the topmost first
 abbrev pub states_in : StepBuffers → List State
 states_in b = owned_states b.machine b.waiting
+
+-- no token is held, and something is open
+abbrev pub AsksNext : StepBuffers → Type 0
+AsksNext b = (b.is_held ≡ false) × (is_nothing (states_in b) ≡ false)
 
 -- The token stands at the front: every stack goes on as before, and if it isn't the empty one it was asked for.
 pub record IsFront (peeked : Option Token) (ts : List Token) (fault : Option Fault) (t : Token)
@@ -180,6 +185,10 @@ pub record IsSilent (old new : ParserRemaining) : Type 0 where
   pub answered : new.answered ≡ old.answered
   pub less : new.unasked + new.held < old.unasked + old.held
   pub speaks : old.events ≡ [] → old.ending ≡ None → ⊥
+
+-- no turn, or turns that gave nothing
+abbrev pub AreSilent : ParserRemaining → ParserRemaining → Type 0
+AreSilent old new = (new ≡ old) ⊎ IsSilent old new
 
 pub record IsTurnRefused (f : Fault) (old new : ParserRemaining) : Type 0 where
   pub more : HasMore old.events old.ending

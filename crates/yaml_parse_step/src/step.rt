@@ -15,9 +15,9 @@ ghost use Rattle.yaml_parse_grammar.specs.Remaining.{parser_remaining, is_betwee
 ghost use Rattle.yaml_parse_grammar.specs.States.{State};
 ghost use Rattle.yaml_parse_grammar.specs.Items.{Properties};
 ghost use Rattle.yaml_parse_grammar.specs.Stacks.{IsStack};
-ghost use Rattle.yaml_parse_grammar.specs.Texts.{IsUtf8Token, IsUtf8Held};
+ghost use Rattle.yaml_parse_grammar.specs.Texts.{IsUtf8Held};
 ghost use Rattle.yaml_parse_model.specs.Source.{HasUtf8};
-ghost use Rattle.yaml_parse_step.specs.Steps.{HasFront, Turns, IsUtf8Turn, IsStackTurn, peeked_of, states_in};
+ghost use Rattle.yaml_parse_step.specs.Steps.{AsksNext, HasFront, Turns, IsUtf8Turn, IsStackTurn, peeked_of, states_in};
 ghost use Rattle.yaml_parse_step.specs.Moves.{Turned, WentOn, LeavesMachine, step_of};
 ghost use Rattle.yaml_parse_step.specs.Turned.{turned};
 
@@ -75,26 +75,6 @@ fn ask<S: yaml_token_source_t>(
     ensures utf8 { result ≡ true → HasUtf8 (token_in_slot token.new).body }
 {
     source.next_token_into(token, fault)
-}
-
-// The token at the front: the one that is held, or else the source's next.
-fn front<S: yaml_token_source_t>(
-    source: &mut S,
-    buffers: &mut StepBuffers,
-    fault: &mut yaml_fault_t,
-) -> bool
-    ensures front { HasFront result (peeked_of buffers.old) (S.to_come source.old)
-        (S.fault_to_come source.old) (token_in_slot buffers.new.token) (S.to_come source.new)
-        (S.fault_to_come source.new) (fault_of fault.new) }
-    ensures utf8 { IsUtf8Token (peeked_of buffers.old) → result ≡ true
-        → HasUtf8 (token_in_slot buffers.new.token).body }
-    ensures same { buffers.new ≡ record buffers.old { token = buffers.new.token } }
-{
-    if buffers.is_held {
-        true
-    } else {
-        ask(source, &mut buffers.token, fault)
-    }
 }
 
 // The place where what was being parsed begins, if the fault tells it, or else the token's.
@@ -366,7 +346,97 @@ fn moving(buffers: &mut StepBuffers, event: &mut yaml_event_t, fault: &mut yaml_
     going(turn, buffers, event, fault)
 }
 
-/// One step, with tags and directives resolved. After a refusal nothing is left.
+// The topmost state at the token that is held, with its item resolved.
+// Out of line: few tokens are held, and so the turn at the next token stands in line once.
+#[inline(never)]
+fn turn_at_held(
+    buffers: &mut StepBuffers,
+    event: &mut yaml_event_t,
+    fault: &mut yaml_fault_t,
+) -> Step
+    ensures { WentOn (states_in buffers.old) (token_in_slot buffers.old.token) buffers.old result
+        (event_of event.new) (fault_of fault.new) buffers.new }
+{
+    moving(buffers, event, fault)
+}
+
+// One step at the source's next token, where something is open and none is held. So it is again, where nothing is given.
+// Inlined into its one caller.
+#[inline(always)]
+fn turn_at_next<S: yaml_token_source_t>(
+    source: &mut S,
+    buffers: &mut StepBuffers,
+    event: &mut yaml_event_t,
+    fault: &mut yaml_fault_t,
+) -> Step
+    requires { AsksNext buffers.old }
+    ensures turns { (answered : Fault)
+        → Turns (parser_remaining (peeked_of buffers.old) (S.to_come source.old)
+        (S.fault_to_come source.old) (states_in buffers.old)
+        (directives_of buffers.old.directives) answered)
+        (turned result (event_of event.new) (fault_of fault.new))
+        (parser_remaining (peeked_of buffers.new) (S.to_come source.new)
+        (S.fault_to_come source.new) (states_in buffers.new)
+        (directives_of buffers.new.directives) answered) }
+    ensures utf8 { IsUtf8Held (peeked_of buffers.old) (states_in buffers.old)
+        (directives_of buffers.old.directives)
+        → IsUtf8Turn (turned result (event_of event.new) (fault_of fault.new))
+        × IsUtf8Held (peeked_of buffers.new) (states_in buffers.new)
+        (directives_of buffers.new.directives) }
+    ensures stack { IsStack (states_in buffers.old)
+        → IsStackTurn (turned result (event_of event.new) (fault_of fault.new))
+        (is_between (states_in buffers.new))
+        × IsStack (states_in buffers.new) }
+    ensures on { result ≡ Step.Silent → AsksNext buffers.new }
+{
+    if !ask(source, &mut buffers.token, fault) {
+        finish(&mut buffers.machine);
+        return Step::Refused;
+    }
+    moving(buffers, event, fault)
+}
+
+// Steps at the source's next tokens, up to one that gives something.
+// Behind a step that gives nothing neither the machine nor what is held is asked again.
+// Inlined into its one caller.
+#[inline(always)]
+fn turns_at_next<S: yaml_token_source_t>(
+    source: &mut S,
+    buffers: &mut StepBuffers,
+    event: &mut yaml_event_t,
+    fault: &mut yaml_fault_t,
+) -> Step
+    requires { AsksNext buffers.old }
+    ensures turns { (answered : Fault)
+        → Turns (parser_remaining (peeked_of buffers.old) (S.to_come source.old)
+        (S.fault_to_come source.old) (states_in buffers.old)
+        (directives_of buffers.old.directives) answered)
+        (turned result (event_of event.new) (fault_of fault.new))
+        (parser_remaining (peeked_of buffers.new) (S.to_come source.new)
+        (S.fault_to_come source.new) (states_in buffers.new)
+        (directives_of buffers.new.directives) answered) }
+    ensures utf8 { IsUtf8Held (peeked_of buffers.old) (states_in buffers.old)
+        (directives_of buffers.old.directives)
+        → IsUtf8Turn (turned result (event_of event.new) (fault_of fault.new))
+        × IsUtf8Held (peeked_of buffers.new) (states_in buffers.new)
+        (directives_of buffers.new.directives) }
+    ensures stack { IsStack (states_in buffers.old)
+        → IsStackTurn (turned result (event_of event.new) (fault_of fault.new))
+        (is_between (states_in buffers.new))
+        × IsStack (states_in buffers.new) }
+{
+    'turns: loop {
+        match turn_at_next(source, buffers, event, fault) {
+            Step::Silent => buffers.is_held = false,
+            Step::Given => return Step::Given,
+            Step::Refused => return Step::Refused,
+            Step::Done => return Step::Done,
+        }
+    }
+}
+
+/// Steps, with tags and directives resolved, up to one that gives something; one that gives nothing may be all. After a refusal
+/// nothing is left.
 // Inlined into its one caller, the turn of the parser.
 #[inline(always)]
 pub fn take_turn<S: yaml_token_source_t>(
@@ -396,9 +466,8 @@ pub fn take_turn<S: yaml_token_source_t>(
     if is_over(&buffers.machine) {
         return Step::Done;
     }
-    if !front(source, buffers, fault) {
-        finish(&mut buffers.machine);
-        return Step::Refused;
+    if buffers.is_held {
+        return turn_at_held(buffers, event, fault);
     }
-    moving(buffers, event, fault)
+    turns_at_next(source, buffers, event, fault)
 }

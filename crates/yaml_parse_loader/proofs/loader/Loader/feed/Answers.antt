@@ -11,14 +11,14 @@ Keeps l = IsLoading l × IsSizedLoading l
 
 pub invariant_of-self : goal.invariant_of-self
 invariant_of-self c = (
-  subst FedSound c.in-Taken.ensures.0 (step_sound _ _ _ _ c.self.invariant.0 c.requires),
-  subst FedSized c.in-Taken.ensures.0 (step_sized _ _ _ _ c.self.invariant.1 c.in-Taken.ensures.1),
+  subst FedSound c.in-Taken.ensures.fed.0 (step_sound _ _ _ _ c.self.invariant.0 c.requires),
+  subst FedSized c.in-Taken.ensures.fed.0 (step_sized _ _ _ _ c.self.invariant.1 c.in-Taken.ensures.fed.1),
 )
 
 pub take_document-requires : goal.take_document-requires
 take_document-requires c = record {
-  sound = subst FedSound c.in-Whole.ensures.0 (step_sound _ _ _ _ c.self.invariant.0 c.requires);
-  sized = subst FedSized c.in-Whole.ensures.0 (step_sized _ _ _ _ c.self.invariant.1 c.in-Whole.ensures.1);
+  sound = subst FedSound c.in-Whole.ensures.fed.0 (step_sound _ _ _ _ c.self.invariant.0 c.requires);
+  sized = subst FedSized c.in-Whole.ensures.fed.0 (step_sized _ _ _ _ c.self.invariant.1 c.in-Whole.ensures.fed.1);
 }
 
 pub invariant_of-self-in-Whole : goal.invariant_of-self-in-Whole

@@ -94,26 +94,28 @@ fn are_kept_ends(text: &[u8], size: usize) -> bool
 }
 
 /// Whether the text is short, and none of its bytes is escaped.
-// Inlined: see `is_kept_run`.
+// Inlined: see `is_kept_run`. Shorter ones are asked for first: they are more.
 #[inline(always)]
 pub(crate) fn is_plain(text: &[u8]) -> bool
     ensures { result ≡ true → IsPlain text.now }
 {
     let count = text.len();
-    if SHORT < count {
-        false
-    } else if count == 0 {
-        true
-    } else if count < 2 {
-        are_kept_ends(text, 1)
-    } else if count < 4 {
-        are_kept_ends(text, 2)
+    if count < 4 {
+        if count == 0 {
+            true
+        } else if count < 2 {
+            are_kept_ends(text, 1)
+        } else {
+            are_kept_ends(text, 2)
+        }
     } else if count < 8 {
         are_kept_ends(text, 4)
     } else if count < 16 {
         are_kept_ends(text, 8)
-    } else {
+    } else if count <= SHORT {
         are_kept_ends(text, 16)
+    } else {
+        false
     }
 }
 

@@ -74,14 +74,6 @@ fn is_kept_run(text: &[u8], at: usize, size: usize) -> bool
     kept
 }
 
-// Whether the bytes of a chunk that begins there are all kept.
-fn is_kept_chunk(text: &[u8], at: usize) -> bool
-    requires { at + CHUNK ≤ length text.now }
-    ensures { result ≡ kept_run CHUNK text.now at }
-{
-    is_kept_run(text, at, CHUNK)
-}
-
 // Whether all bytes of a text are kept whose front and end, of so many bytes each, are all of it.
 // Inlined: see `is_kept_run`.
 #[inline(always)]
@@ -126,7 +118,7 @@ fn kept_chunks(text: &[u8]) -> usize
 {
     let mut count = 0;
     'chunks: while text.len() - count >= CHUNK {
-        if !is_kept_chunk(text, count) {
+        if !is_kept_run(text, count, CHUNK) {
             return count;
         }
         count += CHUNK;

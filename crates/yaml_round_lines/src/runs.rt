@@ -74,14 +74,6 @@ fn is_kept_run(text: &[u8], at: usize, size: usize) -> bool
     kept
 }
 
-// Whether the bytes of a chunk that begins there are all kept.
-fn is_kept_chunk(text: &[u8], at: usize) -> bool
-    requires { at + CHUNK ≤ length text.now }
-    ensures { result ≡ kept_run CHUNK text.now at }
-{
-    is_kept_run(text, at, CHUNK)
-}
-
 // Whether all bytes of a text are kept whose front and end, of so many bytes each, are all of it.
 // Inlined: see `is_kept_run`.
 #[inline(always)]
@@ -94,26 +86,28 @@ fn are_kept_ends(text: &[u8], size: usize) -> bool
 }
 
 /// Whether the text is short, and none of its bytes is escaped.
-// Inlined: see `is_kept_run`.
+// Inlined: see `is_kept_run`. Shorter ones are asked for first: they are more.
 #[inline(always)]
 pub(crate) fn is_plain(text: &[u8]) -> bool
     ensures { result ≡ true → IsPlain text.now }
 {
     let count = text.len();
-    if SHORT < count {
-        false
-    } else if count == 0 {
-        true
-    } else if count < 2 {
-        are_kept_ends(text, 1)
-    } else if count < 4 {
-        are_kept_ends(text, 2)
+    if count < 4 {
+        if count == 0 {
+            true
+        } else if count < 2 {
+            are_kept_ends(text, 1)
+        } else {
+            are_kept_ends(text, 2)
+        }
     } else if count < 8 {
         are_kept_ends(text, 4)
     } else if count < 16 {
         are_kept_ends(text, 8)
-    } else {
+    } else if count <= SHORT {
         are_kept_ends(text, 16)
+    } else {
+        false
     }
 }
 
@@ -124,7 +118,7 @@ fn kept_chunks(text: &[u8]) -> usize
 {
     let mut count = 0;
     'chunks: while text.len() - count >= CHUNK {
-        if !is_kept_chunk(text, count) {
+        if !is_kept_run(text, count, CHUNK) {
             return count;
         }
         count += CHUNK;

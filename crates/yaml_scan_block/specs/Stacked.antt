@@ -10,7 +10,7 @@ stacked_with folded done any blank feed empties chomp g =
     else done ++ value_with folded chomp (empties ++ g.lead) g.lines
 
 abbrev pub stacked : Stacking → Chomp → List BlockLine → List ℕ
-stacked s chomp ls = stacked_with s.folded s.done.items s.any s.blank s.feed.items s.empties.items
+stacked s chomp ls = stacked_with s.folded s.done.items s.any s.blank s.feed.now s.empties.items
     chomp (texts_of ls)
 
 -- what stands before the next text
@@ -19,4 +19,4 @@ glued folded any before feed empties after =
     if any then between folded (not before && not after) feed empties else empties
 
 abbrev pub glue : Stacking → Bool → List ℕ
-glue s after = glued s.folded s.any s.blank s.feed.items s.empties.items after
+glue s after = glued s.folded s.any s.blank s.feed.now s.empties.items after

@@ -186,6 +186,8 @@ fn pass_comment(reader: &mut Reader)
 }
 
 /// Past the break here, if one is here.
+// Inlined: each line of text asks.
+#[inline(always)]
 pub(crate) fn skip_last_break(reader: &mut Reader)
     ensures { reader.new ≡ record {
       text = reader.old.text;

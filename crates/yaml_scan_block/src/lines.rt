@@ -57,9 +57,11 @@ fn indent(reader: &mut Reader, column: u64)
           (column - column_at reader.old.text reader.old.at) reader.old.text reader.old.at;
     } }
 {
-    'spaces: while is_space_before(reader, column) {
-        reader.skip();
+    let mut copy = reader.ahead();
+    'spaces: while is_space_before(&copy, column) {
+        copy.skip();
     }
+    *reader = copy;
 }
 
 /// Whether a space stands here, before the column.

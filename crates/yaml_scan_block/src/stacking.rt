@@ -9,7 +9,7 @@ ghost use Rattle.yaml_scan_block.specs.Stacked.{stacked, glue};
 
 use crate::header::Chomp;
 use std::alloc::{AllocError, Global};
-use yaml_scan_model::is_blank_byte;
+use yaml_scan_model::{is_blank_byte, put_each};
 
 /// The lines so far: the value up to the last text, and what stands behind it.
 #[derive(Drop)]
@@ -21,8 +21,8 @@ pub(crate) struct Stacking {
     pub any: bool,
     /// Whether the last one begins with a blank.
     pub blank: bool,
-    /// The last one's break.
-    pub feed: Vec<u8>,
+    /// What the last one's break reads as.
+    pub feed: &'static [u8],
     /// The breaks of the empty lines since.
     pub empties: Vec<u8>,
 }
@@ -38,7 +38,7 @@ impl Stacking {
             done: Vec::new(alloc),
             any: false,
             blank: false,
-            feed: Vec::new(alloc),
+            feed: &[],
             empties: Vec::new(alloc),
         }
     }
@@ -48,7 +48,8 @@ impl Stacking {
         ensures { OnOk result ((chomp : Chomp) (ls : List BlockLine) → stacked self.new chomp ls
             ≡ stacked self.old chomp (Empty bytes.now ∷ ls)) }
     {
-        self.empties.extend_from_slice(bytes)?;
+        self.empties.reserve(bytes.len())?;
+        put_each(&mut self.empties, bytes);
         Ok(())
     }
 
@@ -66,25 +67,23 @@ impl Stacking {
         ensures done { OnOk result (self.new.done.items ≡ self.old.done.items ++ glue self.old
             blank) }
     {
-        let feed = self.feed.as_slice();
         let empties = self.empties.as_slice();
-        let joins = folds(self.folded, self.blank, blank, feed);
-        let first = lead(self.any, joins, feed, empties);
+        let joins = folds(self.folded, self.blank, blank, self.feed);
+        let first = lead(self.any, joins, self.feed, empties);
         put_both(&mut self.done, first, empties)?;
         Ok(())
     }
 
     /// A line with text, and the bytes that its break reads as.
-    pub(crate) fn line(&mut self, words: &[u8], feed: &[u8]) -> Result<(), AllocError>
+    pub(crate) fn line(&mut self, words: &[u8], feed: &'static [u8]) -> Result<(), AllocError>
         ensures { OnOk result ((chomp : Chomp) (ls : List BlockLine) → stacked self.new chomp ls
             ≡ stacked self.old chomp (Words words.now feed.now ∷ ls)) }
     {
         let blank = starts_blank(words);
         self.glue(blank)?;
         self.done.extend_from_slice(words)?;
-        self.feed.clear();
-        self.feed.extend_from_slice(feed)?;
         self.empties.clear();
+        self.feed = feed;
         self.any = true;
         self.blank = blank;
         Ok(())
@@ -98,20 +97,21 @@ impl Stacking {
         let feed = self.feed;
         let empties = self.empties;
         let mut done = self.done;
-        let (first, second) = kept_breaks(chomp, any, feed.as_slice(), empties.as_slice());
+        let (first, second) = kept_breaks(chomp, any, feed, empties.as_slice());
         put_both(&mut done, first, second)?;
         Ok(done)
     }
 }
 
 /// Both texts behind the others.
-// Inlined: each line of a text puts both.
+// Inlined: each line of a text puts both. One by one: mostly there is one byte, or none.
 #[inline(always)]
 fn put_both(done: &mut Vec<u8>, first: &[u8], second: &[u8]) -> Result<(), AllocError>
     ensures { OnOk result (done.new.items ≡ done.old.items ++ (first.now ++ second.now)) }
 {
-    done.extend_from_slice(first)?;
-    done.extend_from_slice(second)?;
+    done.reserve(first.len() + second.len())?;
+    put_each(done, first);
+    put_each(done, second);
     Ok(())
 }
 

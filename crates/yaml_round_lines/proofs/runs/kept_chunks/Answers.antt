@@ -6,4 +6,4 @@ pub chunks-init : goal.chunks-init
 chunks-init c = kept_none _
 
 pub chunks-preserved : goal.chunks-preserved
-chunks-preserved c = kept_leap 16 _ _ c.chunks.invariant (omega (arith, c.chunks-test.true)) (sym c.is_kept_chunk.ensures ∙ c.if-not-is_kept_chunk.false)
+chunks-preserved c = kept_leap 16 _ _ c.chunks.invariant (omega (arith, c.chunks-test.true)) (sym c.is_kept_run.ensures ∙ c.if-not-is_kept_run.false)

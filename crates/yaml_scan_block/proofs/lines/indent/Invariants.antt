@@ -4,12 +4,12 @@ use Rattle.yaml_scan_block.proofs.lines.indent.Given as goal
 
 abbrev pub invariant-spaces : goal.invariant-spaces
 invariant-spaces l = record {
-  text : l.reader.text ≡ l.fn.reader.text;
+  text : l.copy.text ≡ l.fn.reader.text;
   same : l.fn.reader.at + spaces (l.column - column_at l.fn.reader.text l.fn.reader.at)
       l.fn.reader.text l.fn.reader.at
-      ≡ l.reader.at + spaces (l.column - column_at l.fn.reader.text l.reader.at) l.fn.reader.text
-      l.reader.at;
+      ≡ l.copy.at + spaces (l.column - column_at l.fn.reader.text l.copy.at) l.fn.reader.text
+      l.copy.at;
 }
 
 abbrev pub decreases-spaces : goal.decreases-spaces
-decreases-spaces l = l.column - column_at l.reader.text l.reader.at
+decreases-spaces l = l.column - column_at l.copy.text l.copy.at

@@ -3,4 +3,4 @@ use Rattle.yaml_scan_block.proofs.stacking.Stacking.new.Goals as goal
 use Rattle.std.proofs.Common.{refl}
 
 pub returns : goal.returns
-returns c = λ chomp ls. rw (c.new.ensures.items, c.new-2.ensures.items, c.new-3.ensures.items) (unfold stacked_with in refl)
+returns c = λ chomp ls. rw (c.new.ensures.items, c.new-2.ensures.items) (unfold stacked_with in refl)

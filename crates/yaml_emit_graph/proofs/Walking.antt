@@ -1,8 +1,8 @@
 -- A walk goes on.
-use Rattle.std.proofs.Common.{◌≡◌, ℕ, ◌-◌, ◌<◌, ◌≤◌, List, [], ◌∷◌, length, get_or, drop, reverse, Bool, true, false, refl, sym, subst, ◌∙◌, ap, arith, Option, Some, None}
+use Rattle.std.proofs.Common.{◌≡◌, ℕ, ◌+◌, ◌-◌, ◌/◌, ◌%◌, ◌^◌, ◌<◌, ◌≤◌, List, [], ◌∷◌, length, get_or, drop, reverse, Bool, true, false, refl, sym, subst, ◌∙◌, ap, arith, Option, Some, None}
 use Rattle.std.specs.Prelude.{zero, suc, ℤ, pos, replicate, set, Ok, Vec}
 use Rattle.std.specs.Global.{Global}
-use Rattle.std.proofs.lemmas.List.{length-set, length-replicate, drop_all, drop_more}
+use Rattle.std.proofs.lemmas.List.{length-set, length-replicate, drop_all}
 use Rattle.yaml_parse_model.specs.declared.yaml_node_pair_t.{yaml_node_pair_t}
 use Rattle.yaml_parse_model.specs.Nodes as model
 use Rattle.yaml_emit_graph.specs.declared.walk.Turn.{Turn}
@@ -11,7 +11,7 @@ use Rattle.yaml_emit_graph.specs.declared.walk.Open.{Open}
 use Rattle.yaml_emit_graph.specs.declared.walk.Walk.{Walk}
 use Rattle.yaml_emit_graph.specs.Graph.{Met, place_at, met_at, meet_at, is_met, meet, pair_ids, child_ids, is_collection, body_of_id}
 use Rattle.yaml_emit_graph.specs.Onward.{Rest, over, inside, visits, nothing_left, turns_onward}
-use Rattle.yaml_emit_graph.specs.Walk.{pairs_left, left_of, NextChild, next_of_pair, rest_of, stack, stack_of, opened, frames, remaining_by, remaining_turns, marked, IsWalk, with_opened, Visited, Comes}
+use Rattle.yaml_emit_graph.specs.Walk.{NextHeld, half_of, onward, rest_of, stack, stack_of, frames, remaining_by, remaining_turns, marked, IsWalk, with_opened, Visited, Comes}
 
 -- a node that was met is named again
 pub visit_again : (n : ℕ) (nodes : List model.Node) (id : ℤ) (r : Rest) (met : Met)
@@ -27,12 +27,6 @@ pub visit_first : (n : ℕ) (nodes : List model.Node) (id : ℤ) (r : Rest) (met
 unfolding visits
 visit_first n nodes id r met h = rw h refl
 
-left_opened : (b : model.NodeBody) (id : ℤ) → left_of b (opened id) ≡ child_ids b
-left_opened model.no id = refl
-left_opened (model.scalar value style) id = refl
-left_opened (model.sequence items style) id = refl
-left_opened (model.mapping pairs style) id = refl
-
 inside_frames : (b : model.NodeBody) (n : ℕ) (nodes : List model.Node) (id : ℤ) (os : List Open)
     (met : Met) → body_of_id nodes id ≡ b → n ≡ length nodes - length os
     → inside (visits n nodes) id b (frames nodes os) met
@@ -43,11 +37,11 @@ inside_frames (model.scalar value style) n nodes id os met e k = refl
 inside_frames (model.sequence items style) n nodes id os met e k =
     let r : Rest = λ m. Leave id ∷ frames nodes os m in
     ap (λ z. over (visits z nodes) items r met) k
-    ∙ ap (λ z. over (visits (length nodes - length os) nodes) z r met) (sym (ap (λ z. left_of z (opened id)) e ∙ left_opened (model.sequence items style) id))
+    ∙ ap (λ z. over (visits (length nodes - length os) nodes) (child_ids z) r met) (sym e)
 inside_frames (model.mapping pairs style) n nodes id os met e k =
     let r : Rest = λ m. Leave id ∷ frames nodes os m in
     ap (λ z. over (visits z nodes) (child_ids (model.mapping pairs style)) r met) k
-    ∙ ap (λ z. over (visits (length nodes - length os) nodes) z r met) (sym (ap (λ z. left_of z (opened id)) e ∙ left_opened (model.mapping pairs style) id))
+    ∙ ap (λ z. over (visits (length nodes - length os) nodes) (child_ids z) r met) (sym e)
 
 sum_set : (met : Met) (k : ℕ) → get_or met k true ≡ false
     → marked (set met k true) ≡ suc (marked met)
@@ -114,21 +108,19 @@ visited nodes mid new id (First i) n s w k v =
 visited nodes mid new id (Leave i) n s w k v = absurd v
 
 -- the next child of an open node
-pub child_comes : (nodes : List model.Node) (old : Walk) (o p : Open) (os : List Open) (id : ℤ)
-    (n : ℕ) → old.started ≡ true → stack_of old ≡ o ∷ os → length nodes - length os ≡ suc n
-    → left_of (body_of_id nodes o.node) o ≡ id ∷ left_of (body_of_id nodes o.node) p
-    → p.node ≡ o.node
-    → remaining_turns nodes old ≡ visits (suc n) nodes id (frames nodes (p ∷ os)) old.met.items
+child_comes : (nodes : List model.Node) (old : Walk) (o : Open) (os : List Open) (id : ℤ) (n : ℕ)
+    → old.started ≡ true → stack_of old ≡ o ∷ os → length nodes - length os ≡ suc n
+    → drop o.index (child_ids (body_of_id nodes o.node))
+    ≡ id ∷ drop (o.index + 1) (child_ids (body_of_id nodes o.node))
+    → remaining_turns nodes old
+    ≡ visits (suc n) nodes id (frames nodes (onward o ∷ os)) old.met.items
 unfolding remaining_turns frames over
-child_comes nodes old o p os id n s k f l e =
+child_comes nodes old o os id n s k f l =
     let met : Met = old.met.items in
+    let r : Rest = λ m. Leave o.node ∷ frames nodes os m in
     let a : remaining_turns nodes old ≡ frames nodes (o ∷ os) met = rw (s, k) refl in
-    let F : ℕ = length nodes - length os in
-    let r : ℤ → Rest = λ z m. Leave z ∷ frames nodes os m in
-    let b : over (visits F nodes) (left_of (body_of_id nodes o.node) o) (r o.node) met ≡ over (visits F nodes) (id ∷ left_of (body_of_id nodes o.node) p) (r o.node) met = ap (λ z. over (visits F nodes) z (r o.node) met) l in
-    let c : visits F nodes id (over (visits F nodes) (left_of (body_of_id nodes o.node) p) (r o.node)) met ≡ visits F nodes id (over (visits F nodes) (left_of (body_of_id nodes p.node) p) (r p.node)) met =
-    ap (λ z. visits F nodes id (over (visits F nodes) (left_of (body_of_id nodes z) p) (r z)) met) (sym e) in
-    a ∙ b ∙ c ∙ ap (λ z. visits z nodes id (frames nodes (p ∷ os)) met) f
+    a ∙ ap (λ z. over (visits (length nodes - length os) nodes) z r met) l
+    ∙ ap (λ z. visits z nodes id (frames nodes (onward o ∷ os)) met) f
 
 -- the depth is less than the number of nodes
 pub depth_left : (nodes : List model.Node) (w : Walk) (o : Open) (os : List Open) → IsWalk nodes w
@@ -140,35 +132,38 @@ depth_left nodes w o os h k =
     let d : length (stack_of w) ≡ length (o ∷ os) = ap length k in
     omega (arith, a, b, c, d)
 
-pairs_by : (v : Bool) (ps : List yaml_node_pair_t) (o : Open) (d : yaml_node_pair_t)
-    → o.index < length ps
-    → (pairs_left v (drop o.index ps) ≡ (next_of_pair v (get_or ps o.index d) o).0
-    ∷ pairs_left (next_of_pair v (get_or ps o.index d) o).1.value
-    (drop (next_of_pair v (get_or ps o.index d) o).1.index ps))
-    × ((next_of_pair v (get_or ps o.index d) o).1.node ≡ o.node)
+-- ---- pairs
+
+pair_next : (ps : List yaml_node_pair_t) (i h r : ℕ) (d : yaml_node_pair_t) → i ≡ h + h + r
+    → r < 2 → h < length ps
+    → drop i (pair_ids ps) ≡ half_of (get_or ps h d) r ∷ drop (i + 1) (pair_ids ps)
 unfolding pair_ids
-pairs_by true ps o d h = (ap (pairs_left true) (drop_more ps o.index d h), refl)
-pairs_by false ps o d h =
-    let e = drop_more ps o.index d h in
-    (ap (pairs_left false) e ∙ ap (λ z. (get_or ps o.index d).key ∷ z) (sym (ap (pairs_left true) e)), refl)
+pair_next [] i h r d e b k = absurd (omega arith)
+pair_next (p ∷ ps) i zero zero d e b k = let z : i ≡ 0 = omega arith in rw z refl
+pair_next (p ∷ ps) i zero (suc zero) d e b k = let z : i ≡ 1 = omega arith in rw z refl
+pair_next (p ∷ ps) i zero (suc (suc r)) d e b k = absurd (omega arith)
+pair_next (p ∷ ps) i (suc h) r d e b k =
+    let z : i ≡ suc (suc (h + h + r)) = omega arith in
+    let o : i + 1 ≡ suc (suc (h + h + r + 1)) = omega arith in
+    rw (o, z) (pair_next ps (h + h + r) h r d refl b (omega arith))
 
--- the next child of a mapping
-pub pair_next : (ps : List yaml_node_pair_t) (o : Open) (d : yaml_node_pair_t) (r : ℤ × Open)
-    → o.index < length ps → r ≡ next_of_pair o.value (get_or ps o.index d) o
-    → (pairs_left o.value (drop o.index ps) ≡ r.0 ∷ pairs_left r.1.value (drop r.1.index ps))
-    × (r.1.node ≡ o.node)
-pair_next ps o d r h e =
-    let P : ℤ × Open → Type 0 = λ z. (pairs_left o.value (drop o.index ps) ≡ z.0 ∷ pairs_left z.1.value (drop z.1.index ps)) × (z.1.node ≡ o.node) in
-    subst P (sym e) (pairs_by o.value ps o d h)
-
-no_pairs_left : (v : Bool) → pairs_left v [] ≡ []
+length_ids : (ps : List yaml_node_pair_t) → length (pair_ids ps) ≡ length ps + length ps
 unfolding pair_ids
-no_pairs_left true = refl
-no_pairs_left false = refl
+length_ids [] = refl
+length_ids (p ∷ ps) = let e = length_ids ps in omega arith
 
-pub pair_none : (v : Bool) (ps : List yaml_node_pair_t) (i : ℕ) → length ps ≤ i
-    → pairs_left v (drop i ps) ≡ []
-pair_none v ps i h = ap (pairs_left v) (drop_all i ps h) ∙ no_pairs_left v
+pub pair_comes : (ps : List yaml_node_pair_t) (i : ℕ) (d : yaml_node_pair_t) (v : ℤ)
+    → v ≡ half_of (get_or ps (i / 2) d) (i % 2) → i / 2 < length ps → length ps < 2 ^ 63
+    → NextHeld (pair_ids ps) i (Some v)
+pair_comes ps i d v e h s = (
+  pair_next ps i (i / 2) (i % 2) d (omega arith) (omega arith) h
+  ∙ ap (λ z. z ∷ drop (i + 1) (pair_ids ps)) (sym e),
+  omega arith,
+)
+
+pub pair_none : (ps : List yaml_node_pair_t) (i : ℕ) → length ps ≤ i / 2
+    → NextHeld (pair_ids ps) i None
+pair_none ps i h = drop_all i (pair_ids ps) (let e = length_ids ps in omega arith)
 
 -- no node is open
 pub none_comes : (nodes : List model.Node) (w : Walk) → w.started ≡ true → w.top ≡ None
@@ -190,7 +185,7 @@ same_walk nodes old new w s m l = record {
 
 -- an open node ends
 pub leave_comes : (nodes : List model.Node) (old new : Walk) (o : Open) → old.started ≡ true
-    → old.top ≡ Some o → IsWalk nodes old → left_of (body_of_id nodes o.node) o ≡ []
+    → old.top ≡ Some o → IsWalk nodes old → drop o.index (child_ids (body_of_id nodes o.node)) ≡ []
     → stack_of new ≡ rest_of (stack_of old) → new.met ≡ old.met → new.started ≡ old.started
     → (remaining_turns nodes old ≡ Leave o.node ∷ remaining_turns nodes new) × IsWalk nodes new
 unfolding remaining_turns frames over
@@ -208,23 +203,23 @@ leave_comes nodes old new o s t w l k m b =
     (a ∙ c ∙ ap (λ z. Leave o.node ∷ z) d, same_walk nodes old new w (b ∙ s) m (omega (arith, g, h)))
 
 -- the next child of the innermost open node is visited
-pub child_met : (nodes : List model.Node) (old mid new : Walk) (o p : Open) (id : ℤ) (t : Turn)
+pub child_met : (nodes : List model.Node) (old mid new : Walk) (o : Open) (id : ℤ) (t : Turn)
     → old.started ≡ true → old.top ≡ Some o → IsWalk nodes old
-    → mid.top ≡ Some p → mid.outer ≡ old.outer → mid.met ≡ old.met → mid.started ≡ true
-    → NextChild (body_of_id nodes o.node) o (Some (id, p)) → (i : ℤ) → i ≡ id
+    → mid.top ≡ Some (onward o) → mid.outer ≡ old.outer → mid.met ≡ old.met → mid.started ≡ true
+    → NextHeld (child_ids (body_of_id nodes o.node)) o.index (Some id) → (i : ℤ) → i ≡ id
     → Visited nodes i mid (Ok t) new
     → (remaining_turns nodes old ≡ t ∷ remaining_turns nodes new) × IsWalk nodes new
-child_met nodes old mid new o p id t s k w km out m sm next i same u =
+child_met nodes old mid new o id t s k w km out m sm next i same u =
     let V : ℤ → Type 0 = λ z. Visited nodes z mid (Ok t) new in
     let v : Visited nodes id mid (Ok t) new = subst V same u in
     let os : List Open = reverse old.outer.items in
     let e : stack_of old ≡ o ∷ os = ap (λ z. stack z old.outer.items) k in
-    let f : stack_of mid ≡ p ∷ os = rw (km, out) refl in
+    let f : stack_of mid ≡ onward o ∷ os = rw (km, out) refl in
     let n : ℕ = length nodes - length (o ∷ os) in
     let g : length (stack_of old) ≡ suc (length os) = ap length e in
     let h : length (stack_of mid) ≡ suc (length os) = ap length f in
-    let a : remaining_turns nodes old ≡ visits (suc n) nodes id (frames nodes (p ∷ os)) old.met.items = child_comes nodes old o p os id n s e (depth_left nodes old o os w e) next.0 next.1 in
-    let b : visits (suc n) nodes id (frames nodes (p ∷ os)) old.met.items ≡ visits (suc n) nodes id (frames nodes (stack_of mid)) mid.met.items = rw (f, m) refl in
+    let a = child_comes nodes old o os id n s e (depth_left nodes old o os w e) next.0 in
+    let b : visits (suc n) nodes id (frames nodes (onward o ∷ os)) old.met.items ≡ visits (suc n) nodes id (frames nodes (stack_of mid)) mid.met.items = rw (f, m) refl in
     let w' : IsWalk nodes mid = same_walk nodes old mid w sm m (omega (arith, g, h)) in
     let c = visited nodes mid new id t n sm w' (ap (λ z. length nodes - z) (sym h)) v in
     (a ∙ b ∙ c.0, c.1)

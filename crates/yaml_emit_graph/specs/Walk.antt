@@ -1,5 +1,5 @@
--- What a walk over a document's nodes still meets.
-use Rattle.std.specs.Prelude.{◌≡◌, ◌≤◌, ℕ, suc, ◌+◌, ◌-◌, ℤ, pos, Bool, true, false, List, [], ◌∷◌, length, drop, reverse, Option, Some, None, Result, Ok, Err}
+-- What a walk over nodes still meets.
+use Rattle.std.specs.Prelude.{◌≡◌, ◌≤◌, ◌<◌, ℕ, zero, suc, ◌+◌, ◌-◌, ◌^◌, ℤ, pos, Bool, true, false, List, [], ◌∷◌, length, drop, reverse, Option, Some, None, Result, Ok, Err}
 use Rattle.std.specs.declared.alloc.AllocError.{AllocError}
 use Rattle.yaml_parse_model.specs.declared.yaml_node_pair_t.{yaml_node_pair_t}
 use Rattle.yaml_parse_model.specs.Nodes as model
@@ -7,26 +7,13 @@ use Rattle.yaml_emit_graph.specs.declared.walk.Turn.{Turn}
 use Rattle.yaml_emit_graph.specs.declared.walk.Turn.TheVariants.{First, Again, Leave}
 use Rattle.yaml_emit_graph.specs.declared.walk.Open.{Open}
 use Rattle.yaml_emit_graph.specs.declared.walk.Walk.{Walk}
-use Rattle.yaml_emit_graph.specs.Graph.{Met, is_met, meet, pair_ids, is_collection, body_of_id}
+use Rattle.yaml_emit_graph.specs.Graph.{Met, is_met, meet, child_ids, is_collection, body_of_id}
 use Rattle.yaml_emit_graph.specs.Onward.{Rest, over, visits, nothing_left}
 
--- what is left of pairs, by whether the first one's key has come
-abbrev pub pairs_left : Bool → List yaml_node_pair_t → List ℤ
-pairs_left false ps = pair_ids ps
-pairs_left true [] = []
-pairs_left true (p ∷ ps) = p.value ∷ pair_ids ps
-
--- what is left of a node
-abbrev pub left_of : model.NodeBody → Open → List ℤ
-left_of model.no o = []
-left_of (model.scalar value style) o = []
-left_of (model.sequence items style) o = drop o.index items
-left_of (model.mapping pairs style) o = pairs_left o.value (drop o.index pairs)
-
--- the next child, and the node with what is left of it then
-abbrev pub NextChild : model.NodeBody → Open → Option (ℤ × Open) → Type 0
-NextChild body o None = left_of body o ≡ []
-NextChild body o (Some r) = (left_of body o ≡ r.0 ∷ left_of body r.1) × (r.1.node ≡ o.node)
+-- what comes next of some numbers, at an index
+abbrev pub NextHeld : List ℤ → ℕ → Option ℤ → Type 0
+NextHeld held i None = drop i held ≡ []
+NextHeld held i (Some id) = (drop i held ≡ id ∷ drop (i + 1) held) × (i + 1 < 2 ^ 64)
 
 abbrev pub stack : Option Open → List Open → List Open
 stack None outer = []
@@ -38,13 +25,14 @@ stack_of w = stack w.top w.outer.items
 
 -- a node of which nothing has come
 abbrev pub opened : ℤ → Open
-opened id = record { node = id; index = 0; value = false }
+opened id = record { node = id; index = 0 }
 
 -- The open nodes to their ends. None lies deeper than there are nodes.
 unfoldable pub frames : List model.Node → List Open → Rest
 frames nodes [] met = []
 frames nodes (o ∷ os) met = over (visits (length nodes - length os) nodes)
-    (left_of (body_of_id nodes o.node) o) (λ m. Leave o.node ∷ frames nodes os m) met
+    (drop o.index (child_ids (body_of_id nodes o.node)))
+    (λ m. Leave o.node ∷ frames nodes os m) met
 
 abbrev pub remaining_by : Bool → List model.Node → List Open → Rest
 remaining_by true nodes os = frames nodes os
@@ -65,10 +53,14 @@ pub record IsWalk (nodes : List model.Node) (w : Walk) : Type 0 where
   pub deep : length (stack_of w) ≤ marked w.met.items
   pub begun : w.started ≡ false → stack_of w ≡ []
 
--- the next of a pair: behind its value come the pairs behind it
-abbrev pub next_of_pair : Bool → yaml_node_pair_t → Open → ℤ × Open
-next_of_pair true p o = (p.value, record { node = o.node; index = o.index + 1; value = false })
-next_of_pair false p o = (p.key, record { node = o.node; index = o.index; value = true })
+-- one number more has come
+abbrev pub onward : Open → Open
+onward o = record { node = o.node; index = o.index + 1 }
+
+-- the number of a pair's key, or of its value
+abbrev pub half_of : yaml_node_pair_t → ℕ → ℤ
+half_of p zero = p.key
+half_of p (suc n) = p.value
 
 abbrev pub rest_of : List Open → List Open
 rest_of [] = []

@@ -3,6 +3,7 @@
 
 mod bracket;
 mod graph;
+mod held;
 mod numbers;
 mod rooms;
 mod tags;
@@ -11,6 +12,7 @@ mod walk;
 
 pub use bracket::Bracket;
 pub use graph::Events;
-pub use numbers::{Numbers, Walked, number_of};
+pub use held::next_held;
+pub use numbers::{Walked, number_of, walk_nodes};
 pub use rooms::{Rooms, put_aside};
-pub use walk::{Turn, place_of};
+pub use walk::{Open, Turn, Walkable, place_of};

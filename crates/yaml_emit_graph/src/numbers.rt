@@ -4,9 +4,8 @@ ghost use Rattle.std.specs.Prelude.{◌≡◌, ◌<◌, length, Some, IfOk};
 ghost use Rattle.yaml_emit_graph.specs.Graph.{turns, numbers, numbered_by, next_number, again_at, place_at, number_in, number_at, none_numbered};
 ghost use Rattle.yaml_emit_graph.specs.Numbers.{IsNumbering, numbering_of};
 
-use crate::walk::{Turn, Walk, place_of};
+use crate::walk::{Turn, Walk, Walkable, place_of};
 use std::alloc::{AllocError, Global};
-use yaml_parse_document::yaml_document_t;
 
 /// The turns of a walk over nodes, and the number of each node by its place; 0 stands for none.
 #[derive(Drop)]
@@ -97,16 +96,16 @@ impl Numbers {
     }
 }
 
-/// The walk over a document's nodes, and their numbers: a node's second visit gives it the next one, from 1.
-pub fn walk_nodes(alloc: Global, document: &yaml_document_t) -> Result<Walked, AllocError>
-    ensures { IfOk result (λ w. (w.turns.items ≡ turns document.now.nodes)
-        × (w.numbers.items ≡ numbers document.now.nodes)) }
+/// The walk over nodes, and their numbers: a node's second visit gives it the next one, from 1.
+pub fn walk_nodes<G: Walkable>(alloc: Global, graph: &G) -> Result<Walked, AllocError>
+    ensures { IfOk result (λ w. (w.turns.items ≡ turns (G.nodes graph.now))
+        × (w.numbers.items ≡ numbers (G.nodes graph.now))) }
 {
-    let count = document.node_count();
+    let count = graph.count();
     let mut walk = Walk::new(alloc, count)?;
     let mut numbers = Numbers::none(alloc, count)?;
     let mut turns = Vec::with_capacity(alloc, count)?;
-    while let Some(turn) = walk.next(document)? {
+    while let Some(turn) = walk.next(graph)? {
         numbers.number_turn(turn);
         turns.push(turn)?;
     }

@@ -1,23 +1,35 @@
-//! A walk over the nodes of a document, with a list of its own.
+//! A walk over nodes, with a list of its own.
 
-ghost use Rattle.std.specs.Prelude.{◌≡◌, ◌<◌, ◌+◌, ◌^◌, ◌∷◌, [], None, Some, IfOk, OnOk, replicate, true, false};
-ghost use Rattle.yaml_scan_model.specs.declared.yaml_sequence_style_t.{yaml_sequence_style_t};
-ghost use Rattle.yaml_scan_model.specs.declared.yaml_mapping_style_t.{yaml_mapping_style_t};
-ghost use Rattle.yaml_parse_model.specs.Nodes.{body_of, sequence, mapping};
-ghost use Rattle.yaml_emit_graph.specs.Graph.{place_at, met_at, meet_at, is_met, meet, is_collection, body_of_id};
-ghost use Rattle.yaml_emit_graph.specs.Walk.{NextChild, next_of_pair, IsWalk, stack_of, rest_of, with_opened, Marks, Visited, Comes};
+ghost use Rattle.std.specs.Prelude.{◌≡◌, ◌∷◌, [], List, None, Some, IfOk, OnOk, length, replicate, true, false};
+ghost use Rattle.yaml_parse_model.specs.Nodes.{Node};
+ghost use Rattle.yaml_emit_graph.specs.Graph.{place_at, met_at, meet_at, is_met, meet, child_ids, is_collection, body_of_id};
+ghost use Rattle.yaml_emit_graph.specs.Walk.{NextHeld, IsWalk, stack_of, rest_of, with_opened, Marks, Visited, Comes};
 
 use std::alloc::{AllocError, Global};
-use yaml_parse_document::{yaml_document_get_node, yaml_document_t};
-use yaml_parse_model::{yaml_node_body_t, yaml_node_pair_t, yaml_node_t};
 
-/// A collection that is being walked, and what of it comes next: the item or pair at an index, of a pair the value where its
-/// key has come.
+/// A collection that is being walked, and how many of the numbers that it holds have come.
 #[derive(Clone, Copy)]
 pub struct Open {
     pub node: i32,
     pub index: usize,
-    pub value: bool,
+}
+
+/// What a walk goes over: nodes under numbers from 1, and the numbers that each one holds.
+pub trait Walkable {
+    // The nodes, or others that hold the same numbers.
+    ghost nodes: { Self → List Node };
+
+    /// How many nodes there are.
+    fn count(&self) -> usize
+        ensures { result ≡ length (nodes self.now) };
+
+    /// Whether the node under a number is a collection.
+    fn is_collection(&self, id: i32) -> bool
+        ensures { result ≡ is_collection (body_of_id (nodes self.now) id) };
+
+    /// The number that comes next in a node.
+    fn next_child(&self, from: Open) -> Option<i32>
+        ensures { NextHeld (child_ids (body_of_id (nodes self.now) from.node)) from.index result };
 }
 
 /// What a walk meets.
@@ -52,95 +64,8 @@ pub fn place_of(id: i32) -> Option<usize>
     }
 }
 
-// The item that comes next.
-fn next_item(items: &[i32], from: Open) -> Option<(i32, Open)>
-    ensures { (style : yaml_sequence_style_t) → NextChild (sequence items.now style) from result }
-{
-    if from.index < items.len() {
-        let next = Open {
-            node: from.node,
-            index: from.index + 1,
-            value: false,
-        };
-        Some((items[from.index], next))
-    } else {
-        None
-    }
-}
-
-// Of a pair, the key comes before the value.
-fn next_of_pair(pair: yaml_node_pair_t, from: Open) -> (i32, Open)
-    requires { from.index + 1 < 2 ^ 64 }
-    ensures { result ≡ next_of_pair from.value pair from }
-{
-    if from.value {
-        (
-            pair.value,
-            Open {
-                node: from.node,
-                index: from.index + 1,
-                value: false,
-            },
-        )
-    } else {
-        (
-            pair.key,
-            Open {
-                node: from.node,
-                index: from.index,
-                value: true,
-            },
-        )
-    }
-}
-
-fn next_in_pairs(pairs: &[yaml_node_pair_t], from: Open) -> Option<(i32, Open)>
-    ensures { (style : yaml_mapping_style_t) → NextChild (mapping pairs.now style) from result }
-{
-    if from.index < pairs.len() {
-        let pair = pairs[from.index];
-        Some(next_of_pair(pair, from))
-    } else {
-        None
-    }
-}
-
-// What comes next in a node, and what is left of it then.
-fn next_child(body: &yaml_node_body_t, from: Open) -> Option<(i32, Open)>
-    ensures { NextChild (body_of body.now) from result }
-{
-    match body {
-        yaml_node_body_t::Sequence { items, .. } => next_item(items, from),
-        yaml_node_body_t::Mapping { pairs, .. } => next_in_pairs(pairs, from),
-        _ => None,
-    }
-}
-
-// The kind of the node under a number is that of a collection.
-fn holds_nodes(document: &yaml_document_t, id: i32) -> bool
-    ensures { result ≡ is_collection (body_of_id document.now.nodes id) }
-{
-    match yaml_document_get_node(document, id) {
-        None => false,
-        Some(node) => match node.body {
-            yaml_node_body_t::Sequence { .. } | yaml_node_body_t::Mapping { .. } => true,
-            _ => false,
-        },
-    }
-}
-
-// What comes next in the node under a number.
-fn child_at(document: &yaml_document_t, from: Open) -> Option<(i32, Open)>
-    ensures { NextChild (body_of_id document.now.nodes from.node) from result }
-{
-    match yaml_document_get_node(document, from.node) {
-        None => None,
-        Some(node) => next_child(&node.body, from),
-    }
-}
-
 impl Walk {
-    /// Before the root of a document with so many nodes.
+    /// Before the root of so many nodes.
     pub fn new(alloc: Global, count: usize) -> Result<Walk, AllocError>
         ensures { IfOk result (λ w. (w.started ≡ false) × (stack_of w ≡ [])
             × (w.met.items ≡ replicate count false)) }
@@ -223,82 +148,81 @@ impl Walk {
         }
     }
 
-    fn descend(&mut self, document: &yaml_document_t, id: i32) -> Result<(), AllocError>
+    fn descend<G: Walkable>(&mut self, graph: &G, id: i32) -> Result<(), AllocError>
         ensures stack { OnOk result (stack_of self.new ≡ with_opened
-            (is_collection (body_of_id document.now.nodes id)) id (stack_of self.old)) }
+            (is_collection (body_of_id (G.nodes graph.now) id)) id (stack_of self.old)) }
         ensures rest { (self.new.met ≡ self.old.met) × (self.new.started ≡ self.old.started) }
     {
-        if holds_nodes(document, id) {
-            self.push(Open {
-                node: id,
-                index: 0,
-                value: false,
-            })
+        if graph.is_collection(id) {
+            self.push(Open { node: id, index: 0 })
         } else {
             Ok(())
         }
     }
 
-    fn visit(&mut self, document: &yaml_document_t, id: i32) -> Result<Turn, AllocError>
-        ensures { Visited document.now.nodes id self.old result self.new }
+    fn visit<G: Walkable>(&mut self, graph: &G, id: i32) -> Result<Turn, AllocError>
+        ensures { Visited (G.nodes graph.now) id self.old result self.new }
     {
         if self.is_met(id) {
             Ok(Turn::Again(id))
         } else {
             self.mark(id);
-            self.descend(document, id)?;
+            self.descend(graph, id)?;
             Ok(Turn::First(id))
         }
     }
 
     // What comes next in the innermost open node, or its end.
-    fn step(&mut self, document: &yaml_document_t, from: Open) -> Result<Option<Turn>, AllocError>
-        requires walk { IsWalk document.now.nodes self.old }
+    fn step<G: Walkable>(&mut self, graph: &G, from: Open) -> Result<Option<Turn>, AllocError>
+        requires walk { IsWalk (G.nodes graph.now) self.old }
         requires going { self.old.started ≡ true }
         requires top { self.old.top ≡ Some from }
-        ensures { Comes document.now.nodes self.old result self.new }
+        ensures { Comes (G.nodes graph.now) self.old result self.new }
     {
-        match child_at(document, from) {
+        match graph.next_child(from) {
             None => {
                 self.pop();
                 Ok(Some(Turn::Leave(from.node)))
             }
-            Some((child, rest)) => {
-                self.top = Some(rest);
-                Ok(Some(self.visit(document, child)?))
+            Some(child) => {
+                self.top = Some(Open {
+                    node: from.node,
+                    index: from.index + 1,
+                });
+                Ok(Some(self.visit(graph, child)?))
             }
         }
     }
 
-    fn go_on(&mut self, document: &yaml_document_t) -> Result<Option<Turn>, AllocError>
-        requires walk { IsWalk document.now.nodes self.old }
+    fn go_on<G: Walkable>(&mut self, graph: &G) -> Result<Option<Turn>, AllocError>
+        requires walk { IsWalk (G.nodes graph.now) self.old }
         requires going { self.old.started ≡ true }
-        ensures { Comes document.now.nodes self.old result self.new }
+        ensures { Comes (G.nodes graph.now) self.old result self.new }
     {
         match self.top {
             None => Ok(None),
-            Some(from) => self.step(document, from),
+            Some(from) => self.step(graph, from),
         }
     }
 
-    fn begin(&mut self, document: &yaml_document_t) -> Result<Option<Turn>, AllocError>
-        requires walk { IsWalk document.now.nodes self.old }
+    fn begin<G: Walkable>(&mut self, graph: &G) -> Result<Option<Turn>, AllocError>
+        requires walk { IsWalk (G.nodes graph.now) self.old }
         requires fresh { self.old.started ≡ false }
-        ensures { Comes document.now.nodes self.old result self.new }
+        ensures { Comes (G.nodes graph.now) self.old result self.new }
     {
         self.started = true;
-        Ok(Some(self.visit(document, 1)?))
+        Ok(Some(self.visit(graph, 1)?))
     }
 
     /// What comes next, and nothing at the end.
-    pub fn next(&mut self, document: &yaml_document_t) -> Result<Option<Turn>, AllocError>
-        requires { IsWalk document.now.nodes self.old }
-        ensures { Comes document.now.nodes self.old result self.new }
+    pub fn next<G: Walkable>(&mut self, graph: &G) -> Result<Option<Turn>, AllocError>
+        requires { IsWalk (G.nodes graph.now) self.old }
+        ensures { Comes (G.nodes graph.now) self.old result self.new }
     {
         if self.started {
-            self.go_on(document)
+            self.go_on(graph)
         } else {
-            self.begin(document)
+            self.begin(graph)
         }
     }
 }

@@ -11,8 +11,6 @@ pub mod EmittedPieces
 pub mod Dumping
 pub mod Loading
 pub mod Showing
-pub mod Walking
-pub mod Counting
 pub mod TurnsTold
 pub mod Same
 pub mod Composes

@@ -7,10 +7,9 @@ use Rattle.std.proofs.lemmas.Option.{slice_get-map}
 use Rattle.yaml_parse_model.specs.Nodes.{NodeBody}
 use Rattle.yaml_parse_model.specs.Nodes as node
 use Rattle.yaml_emit_graph.specs.Graph.{place_at, child_ids, is_collection, body_of_id, body_at}
+use Rattle.yaml_emit_graph.specs.Walk.{NextHeld}
 use Rattle.yaml_round_answers.specs.declared.record.yaml_c_node.{yaml_c_node}
-use Rattle.yaml_round_answers.specs.declared.walk.Open.{Open}
 use Rattle.yaml_round_answers.specs.Graphs.{part, holds, held_if, held_by, is_node, are_nodes, body_if, stand_in, record_in}
-use Rattle.yaml_round_answers.specs.Walk.{next_of, NextChild}
 use Rattle.yaml_round_records.proofs.Checked.{none_left, some_left}
 
 -- ---- the node under a number
@@ -49,12 +48,12 @@ pub ids_held : (list : List ℤ) (r : yaml_c_node)
 unfolding held_by
 ids_held list r = ids_if (holds r.kind) (part list r.first r.count)
 
-pub child_of : (list : List ℤ) (rs : List yaml_c_node) (from : Open) (id : ℤ)
-    (o : Option yaml_c_node) (r : yaml_c_node) (held : List ℤ) (next : Option (ℤ × Open))
-    → o ≡ record_in rs (place_at id) → o ≡ Some r → held ≡ held_by list r
-    → next_of held from next → NextChild (body_of_id (map (stand_in list) rs) id) from next
-child_of list rs from id o r held next is there h n =
-    let P : List ℤ → Type 0 = λ z. next_of z from next in
+pub child_of : (list : List ℤ) (rs : List yaml_c_node) (id : ℤ) (i : ℕ) (o : Option yaml_c_node)
+    (r : yaml_c_node) (held : List ℤ) (next : Option ℤ)
+    → o ≡ record_in rs (place_at id) → o ≡ Some r → held ≡ held_by list r → NextHeld held i next
+    → NextHeld (child_ids (body_of_id (map (stand_in list) rs) id)) i next
+child_of list rs id i o r held next is there h n =
+    let P : List ℤ → Type 0 = λ z. NextHeld z i next in
     subst P (h ∙ sym (ids_held list r) ∙ sym (ap child_ids (body_found list rs id o is ∙ ap (body_in list) there))) n
 
 -- ---- whether records mean nodes

@@ -15,7 +15,6 @@ pub use Rattle.yaml_round_records.specs.Numbers
 pub mod Path
 pub mod Parting
 pub mod Graphs
-pub mod Walk
 pub mod Turns
 pub mod Names
 pub mod Composing

@@ -2,14 +2,13 @@
 
 ghost use Rattle.std.specs.Prelude.{◌≡◌, map, IfOk};
 ghost use Rattle.yaml_emit_graph.specs.Graph.{turns, numbers};
-ghost use Rattle.yaml_round_answers.specs.Graphs.{kind_at, stand_ins};
+ghost use Rattle.yaml_round_answers.specs.Graphs.{kind_at};
 ghost use Rattle.yaml_round_answers.specs.Turns.{opening_kind, closing_kind, turn_by, turns_by};
 
 use crate::graph::record_at;
 use crate::record::{yaml_c_graph, yaml_c_turn};
-use crate::walk::walk_nodes;
 use std::alloc::{AllocError, Global};
-use yaml_emit_graph::{Turn, Walked, number_of};
+use yaml_emit_graph::{Turn, Walked, number_of, walk_nodes};
 
 // The kind of the node under a number; 0 where it names none.
 fn kind_at(graph: &yaml_c_graph, id: i32) -> i32

@@ -6,13 +6,12 @@ use Rattle.yaml_emit_graph.proofs.numbers.walk_nodes.Given as goal
 
 -- what was met is listed and numbered, and the numbers of what comes are still to be given
 abbrev pub invariant-loop-turns : goal.invariant-loop-turns
-invariant-loop-turns l = record {
-  walk : IsWalk l.document.nodes l.walk;
-  met : turns l.document.nodes ≡ l.turns.items ++ remaining_turns l.document.nodes l.walk;
+invariant-loop-turns g l = let nodes = g.G.Walkable.nodes l.graph in record {
+  walk : IsWalk nodes l.walk;
+  met : turns nodes ≡ l.turns.items ++ remaining_turns nodes l.walk;
   given : IsNumbering (numbering_of l.numbers);
-  same : numbers l.document.nodes
-      ≡ (numbered (numbering_of l.numbers) (remaining_turns l.document.nodes l.walk)).table;
+  same : numbers nodes ≡ (numbered (numbering_of l.numbers) (remaining_turns nodes l.walk)).table;
 }
 
 abbrev pub decreases-loop-turns : goal.decreases-loop-turns
-decreases-loop-turns l = length (remaining_turns l.document.nodes l.walk)
+decreases-loop-turns g l = length (remaining_turns (g.G.Walkable.nodes l.graph) l.walk)

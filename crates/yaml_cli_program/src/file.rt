@@ -13,8 +13,8 @@ pub(crate) const STANDARD: &'static str = "-";
 /// How many bytes of a file are read at once: each call of the system costs some microseconds.
 pub(crate) const READ_AHEAD: usize = 65_536;
 
-// How many are read first, of which room is set to zero: many files have no more.
-const READ_FIRST: usize = 4096;
+/// How many are read first: many files have no more.
+pub(crate) const READ_FIRST: usize = 4096;
 
 // How many times a read that is interrupted is made in all.
 const TRIES: u32 = 1000;

@@ -1,6 +1,6 @@
 -- What opens a collection with the default tag and without an anchor, where a node is due in canonical form.
 use Rattle.std.proofs.Common.{◌≡◌, ℕ, Bool, true, false, refl, subst, List, Option, Some, None}
-use Rattle.std.specs.Prelude.{◌||◌}
+use Rattle.std.specs.Prelude.{◌||◌, if◌then◌else◌}
 use Rattle.yaml_emit_tags.specs.parse_model.Events.{TagDirective}
 use Rattle.yaml_emit_tags.specs.parse_model.Nodes.{seq_tag, map_tag}
 use Rattle.yaml_emit_tags.specs.Tags.{tag_spelling}
@@ -15,12 +15,13 @@ use Rattle.yaml_emit_layout.specs.declared.Phase.TheVariants.{Items, Keys}
 use Rattle.yaml_emit_layout.specs.declared.NodePosition.{NodePosition}
 use Rattle.yaml_emit_layout.specs.Content.{Start, sequence_start, mapping_start}
 use Rattle.yaml_emit_layout.specs.Grammar.{event_problem, last_problem, place_problem, problem_by}
-use Rattle.yaml_emit_layout.specs.Nodes.{Context, context_of, is_flow, indent_of, indented, checked}
-use Rattle.yaml_emit_layout.specs.State.{State, problem_at, top_of, position_of, before_node, start_text, depth_text, text_at, next_at, depth_at, opened}
+use Rattle.yaml_emit_layout.specs.Nodes.{Context, context_of, is_simple_start, is_flow, indent_of, indented, checked}
+use Rattle.yaml_emit_layout.specs.State.{State, problem_at, top_of, position_of, before_node, start_text, depth_text, text_at, next_at, depth_at, is_simple_event, opened}
 use Rattle.yaml_emit_state.specs.declared.state.Core.{Core}
 use Rattle.yaml_emit_state.specs.Stack.{stack_of}
-use Rattle.yaml_emit_state.specs.Given.{plain_start, plain_opening}
-use Rattle.yaml_emit_state.specs.Steps.{state_of, OpensCollection, MovesOn}
+use Rattle.yaml_emit_state.specs.Given.{plain_start, plain_opening, opening}
+use Rattle.yaml_emit_state.specs.Steps.{state_of, settings_of, OpensCollection, MovesOn, LaysOutRight}
+use Rattle.yaml_emit_state.proofs.Blaming.{lays_right}
 use Rattle.yaml_emit_state.proofs.Canonical.{no_keys}
 
 -- the tag, and the bracket
@@ -109,3 +110,27 @@ moves_opening s old new false flow empty e o =
       memory = o.memory;
       halts = o.halts;
     }
+
+-- any start was laid out
+pub lays_start : (sequence : Bool) (old new : Core) (o : Output) (s : Settings)
+    (top : Option Level) (q : Start) (x : ℕ) (simple empty : Bool)
+    → s ≡ settings_of old → top ≡ top_of (stack_of old.levels)
+    → simple ≡ is_simple_start (context_of s old.directives) q empty
+    → x ≡ (if sequence then 91 else 123)
+    → Puts old.sink o (before_node s top simple
+    ▹ start_text (context_of s old.directives) (position_of top simple) x q empty)
+    → OpensCollection s (record old { sink = o }) new simple empty q.flow sequence
+    → LaysOutRight old new (opening sequence q) empty
+unfolding text_at next_at depth_at is_simple_event
+lays_start true old new o s top q x simple empty is upper asked bracket put moved =
+    let P : ℕ → Bool → Type 0 = λ y b. Puts old.sink o (before_node s top b ▹ start_text (context_of s old.directives) (position_of top b) y q empty) in
+    let O : Bool → Type 0 = λ b. OpensCollection s (record old { sink = o }) new b empty q.flow true in
+    let m = subst O asked moved in
+    lays_right old new o s top (sequence_start q) empty is upper (subst (P 91) asked (subst (λ y. P y simple) bracket put))
+    (record { settings = m.settings; state = m.state; cursor = m.cursor; text = m.text; memory = m.memory; halts = m.halts })
+lays_start false old new o s top q x simple empty is upper asked bracket put moved =
+    let P : ℕ → Bool → Type 0 = λ y b. Puts old.sink o (before_node s top b ▹ start_text (context_of s old.directives) (position_of top b) y q empty) in
+    let O : Bool → Type 0 = λ b. OpensCollection s (record old { sink = o }) new b empty q.flow false in
+    let m = subst O asked moved in
+    lays_right old new o s top (mapping_start q) empty is upper (subst (P 123) asked (subst (λ y. P y simple) bracket put))
+    (record { settings = m.settings; state = m.state; cursor = m.cursor; text = m.text; memory = m.memory; halts = m.halts })

@@ -10,4 +10,3 @@ pub mod Blaming
 pub mod Keyed
 pub mod Names
 mod Unmarked
-mod Framed

@@ -1,5 +1,5 @@
--- Bare scalars in pretty form.
-use Rattle.std.proofs.Common.{◌≡◌, ℕ, ◌≤◌, ◌+◌, length, Bool, true, false, refl, sym, subst, ◌∙◌, ap, arith, List, [], ◌∷◌, Option, Some, None}
+-- Short scalars in pretty form.
+use Rattle.std.proofs.Common.{◌≡◌, ℕ, ◌≤◌, ◌+◌, length, Bool, true, false, refl, sym, subst, ◌∙◌, ap, arith, List, [], ◌∷◌, ◌++◌, Option, Some, None}
 use Rattle.std.specs.Prelude.{not, ◌&&◌, ◌||◌, ◌==◌, nat_le, if◌then◌else◌}
 use Rattle.std.specs.Str.{chars}
 use Rattle.std.proofs.lemmas.Bool.{and_parts}
@@ -8,12 +8,15 @@ use Rattle.yaml_emit_tags.specs.parse_model.Events.{TagDirective}
 use Rattle.yaml_emit_text.specs.declared.Settings.{Settings}
 use Rattle.yaml_emit_text.specs.declared.Encoding.{Encoding}
 use Rattle.yaml_emit_text.specs.declared.Style.TheVariants as style
-use Rattle.yaml_emit_text.specs.Tame.{IsTame, asks_plain}
+use Rattle.yaml_scan_model.specs.declared.yaml_scalar_style_t.{yaml_scalar_style_t}
+use Rattle.yaml_scan_model.specs.declared.yaml_scalar_style_t.TheVariants as wish
+use Rattle.yaml_emit_text.specs.declared.Allowed.{Allowed}
+use Rattle.yaml_emit_text.specs.Tame.{IsTame, asks_plain, Stands, standing, standing_text, lead}
 use Rattle.yaml_emit_text.specs.Style.{allowed, taken}
 use Rattle.yaml_emit_text.specs.Sink.{Output, Puts}
-use Rattle.yaml_emit_text.specs.Layout.{Layout, ◌▹◌, when, char, word, indicator}
+use Rattle.yaml_emit_text.specs.Layout.{Layout, ◌▹◌, stay, when, char, letters, word, indicator}
 use Rattle.yaml_emit_text.specs.Scalars.{scalar_text}
-use Rattle.yaml_emit_text.proofs.Bare.{tame_some, tame_breaks, tame_taken}
+use Rattle.yaml_emit_text.proofs.Bare.{tame_some, standing_breaks, tame_taken, puts_line_item, puts_line_key}
 use Rattle.yaml_emit_layout.specs.declared.Expected.{Expected}
 use Rattle.yaml_emit_layout.specs.declared.Expected.TheVariants as at
 use Rattle.yaml_emit_layout.specs.declared.Level.{Level}
@@ -23,10 +26,10 @@ use Rattle.yaml_emit_layout.specs.declared.Phase.TheVariants.{Items, Keys, Value
 use Rattle.yaml_emit_layout.specs.declared.NodePosition.{NodePosition}
 use Rattle.yaml_emit_layout.specs.Content.{Scalar, scalar}
 use Rattle.yaml_emit_layout.specs.Grammar.{has, scalar_tag, event_problem, last_problem, place_problem, problem_by}
-use Rattle.yaml_emit_layout.specs.Nodes.{MOST, deep_if, checked, context_of, is_simple_part, is_simple_scalar, scalar_layout, style_of, position, turned as turned_line, before_item, before_key, before_value, wrap_at, line_at, comma}
+use Rattle.yaml_emit_layout.specs.Nodes.{MOST, deeper, page_at, deep_if, checked, context_of, is_simple_part, is_simple_scalar, scalar_layout, style_of, position, turned as turned_line, before_item, before_key, before_value, wrap_at, line_at, comma}
 use Rattle.yaml_emit_layout.specs.State.{State, problem_at, among, before_at, levels_behind, phase_behind, position_of, part_at, top_of}
 use Rattle.yaml_emit_state.specs.declared.state.Core.{Core}
-use Rattle.yaml_emit_state.specs.Bare.{is_unmarked, IsBare, bare_text, bare_node, turned}
+use Rattle.yaml_emit_state.specs.Bare.{is_unmarked, is_double, is_framed, IsInline, short_text, short_node, turned, hyphen, Places}
 use Rattle.yaml_emit_state.specs.Due.{is_key_in, is_key}
 use Rattle.yaml_emit_state.specs.Stack.{stack_of}
 use Rattle.yaml_emit_state.specs.Steps.{state_of, settings_of, StaysBut, LaysOut}
@@ -34,7 +37,7 @@ use Rattle.yaml_emit_state.proofs.Canonical.{not_deep}
 use Rattle.yaml_emit_state.proofs.Keyed.{lays_scalar}
 use Rattle.yaml_emit_state.proofs.Plain.{lays_in_place}
 
--- ---- what a bare scalar is
+-- ---- what a short scalar is
 
 none_given : (a : Option (List ℕ)) → not (has a) ≡ true → a ≡ None
 none_given None h = refl
@@ -44,15 +47,30 @@ none_given (Some t) h = absurd (cc)
 record Parts (x : Scalar) : Type 0 where
   no_anchor : x.anchor ≡ None
   no_tag : x.tag ≡ None
+  left_out : (x.plain || x.quoted) ≡ true
+
+record Plainly (x : Scalar) : Type 0 where
+  no_tag : x.tag ≡ None
   may : x.plain ≡ true
   asks : asks_plain x.style ≡ true
 
-parts : (x : Scalar) → IsBare x → Parts x
-parts x b =
-    let a = and_parts (not (has x.anchor)) (not (has x.tag) && (x.plain && asks_plain x.style)) b.unmarked in
+record Quoted (x : Scalar) : Type 0 where
+  may : x.quoted ≡ true
+  asks : is_double x.style ≡ true
+
+plainly : (x : Scalar) → IsInline false x → Plainly x
+plainly x b =
+    let a = and_parts (not (has x.anchor)) (not (has x.tag) && (x.plain && asks_plain x.style)) b.asked in
     let t = and_parts (not (has x.tag)) (x.plain && asks_plain x.style) a.1 in
     let p = and_parts x.plain (asks_plain x.style) t.1 in
-    record { no_anchor = none_given x.anchor a.0; no_tag = none_given x.tag t.0; may = p.0; asks = p.1 }
+    record { no_tag = none_given x.tag t.0; may = p.0; asks = p.1 }
+
+in_quotes : (x : Scalar) → IsInline true x → Quoted x
+in_quotes x b =
+    let a = and_parts (not (has x.anchor)) (not (has x.tag) && (x.quoted && is_double x.style)) b.asked in
+    let t = and_parts (not (has x.tag)) (x.quoted && is_double x.style) a.1 in
+    let p = and_parts x.quoted (is_double x.style) t.1 in
+    record { may = p.0; asks = p.1 }
 
 or_yes : (b : Bool) → (b || true) ≡ true
 or_yes true = refl
@@ -62,6 +80,18 @@ and_yes : (b : Bool) → (b && true) ≡ b
 and_yes true = refl
 and_yes false = refl
 
+parts : (quoted : Bool) (x : Scalar) → IsInline quoted x → Parts x
+parts false x b =
+    let a = and_parts (not (has x.anchor)) (not (has x.tag) && (x.plain && asks_plain x.style)) b.asked in
+    let t = and_parts (not (has x.tag)) (x.plain && asks_plain x.style) a.1 in
+    let p = plainly x b in
+    record { no_anchor = none_given x.anchor a.0; no_tag = none_given x.tag t.0; left_out = ap (λ (k : Bool). k || x.quoted) p.may }
+parts true x b =
+    let a = and_parts (not (has x.anchor)) (not (has x.tag) && (x.quoted && is_double x.style)) b.asked in
+    let t = and_parts (not (has x.tag)) (x.quoted && is_double x.style) a.1 in
+    let p = in_quotes x b in
+    record { no_anchor = none_given x.anchor a.0; no_tag = none_given x.tag t.0; left_out = ap (λ (k : Bool). x.plain || k) p.may ∙ or_yes x.plain }
+
 some_bytes : (v : List ℕ) → IsTame v → (length v == 0) ≡ false
 some_bytes v t = let some = tame_some v t in grind (arith, nat_tests, some)
 
@@ -69,45 +99,66 @@ few_bytes : (v : List ℕ) → length v ≤ 80 → nat_le (0 + 0 + length v) 128
 few_bytes v h = grind (arith, nat_tests, h)
 
 bare_style : (s : Settings) (ds : List TagDirective) (pos : NodePosition) (x : Scalar)
-    → s.canonical ≡ false → IsBare x → style_of (context_of s ds) pos x ≡ style.Plain
+    → s.canonical ≡ false → IsInline false x → style_of (context_of s ds) pos x ≡ style.Plain
 unfolding style_of
 bare_style s ds pos x e b =
-    let p = parts x b in
+    let p = plainly x b in
     let untagged : (has (scalar_tag false x) || x.plain) ≡ true = ap (λ (k : Bool). has (scalar_tag false x) || k) p.may ∙ or_yes (has (scalar_tag false x)) in
     let other = taken (allowed s.unicode (chars x.value)) x.style (has (scalar_tag false x) || x.plain) pos.flow (is_simple_part pos.part) (length x.value == 0) in
     ap (λ (k : Bool). if k then style.Double else other) e
-    ∙ tame_taken s.unicode x.value x.style (has (scalar_tag false x) || x.plain) pos.flow (is_simple_part pos.part) (length x.value == 0) b.tame p.asks untagged (some_bytes x.value b.tame)
+    ∙ tame_taken s.unicode x.value x.style (has (scalar_tag false x) || x.plain) pos.flow (is_simple_part pos.part) (length x.value == 0) b.stands p.asks untagged (some_bytes x.value b.stands)
+
+double_taken : (a : Allowed) (s : yaml_scalar_style_t) (untagged flow simple empty : Bool)
+    → is_double s ≡ true → taken a s untagged flow simple empty ≡ style.Double
+unfolding taken
+double_taken a wish.YAML_DOUBLE_QUOTED_SCALAR_STYLE untagged flow simple empty h = refl
+double_taken a wish.YAML_ANY_SCALAR_STYLE untagged flow simple empty h = absurd (cc)
+double_taken a wish.YAML_PLAIN_SCALAR_STYLE untagged flow simple empty h = absurd (cc)
+double_taken a wish.YAML_SINGLE_QUOTED_SCALAR_STYLE untagged flow simple empty h = absurd (cc)
+double_taken a wish.YAML_LITERAL_SCALAR_STYLE untagged flow simple empty h = absurd (cc)
+double_taken a wish.YAML_FOLDED_SCALAR_STYLE untagged flow simple empty h = absurd (cc)
+
+framed_style : (s : Settings) (ds : List TagDirective) (pos : NodePosition) (x : Scalar)
+    → s.canonical ≡ false → IsInline true x → style_of (context_of s ds) pos x ≡ style.Double
+unfolding style_of
+framed_style s ds pos x e b =
+    let other = taken (allowed s.unicode (chars x.value)) x.style (has (scalar_tag false x) || x.plain) pos.flow (is_simple_part pos.part) (length x.value == 0) in
+    ap (λ (k : Bool). if k then style.Double else other) e
+    ∙ double_taken (allowed s.unicode (chars x.value)) x.style (has (scalar_tag false x) || x.plain) pos.flow (is_simple_part pos.part) (length x.value == 0) (in_quotes x b).asks
 
 unmarked_by : (quoted : Bool) (z : Layout)
     → (when (true && (not quoted && false)) (word (33 ∷ [])) ▹ z) ≡ z
 unmarked_by true z = refl
 unmarked_by false z = refl
 
-bare_layout : (s : Settings) (ds : List TagDirective) (pos : NodePosition) (x : Scalar)
-    → s.canonical ≡ false → IsBare x
-    → scalar_layout (context_of s ds) pos x ≡ bare_text s pos x.value
+short_layout : (quoted : Bool) (s : Settings) (ds : List TagDirective) (pos : NodePosition)
+    (x : Scalar) → s.canonical ≡ false → IsInline quoted x
+    → scalar_layout (context_of s ds) pos x ≡ short_text s quoted pos x.value
 unfolding scalar_layout scalar_text
-bare_layout s ds pos x e b =
-    let p = parts x b in
-    rw (bare_style s ds pos x e b, e, p.no_anchor, p.no_tag, p.may) (unmarked_by x.quoted (bare_text s pos x.value))
+short_layout false s ds pos x e b =
+    let p = parts false x b in
+    rw (bare_style s ds pos x e b, e, p.no_anchor, p.no_tag, p.left_out) (unmarked_by x.quoted (short_text s false pos x.value))
+short_layout true s ds pos x e b =
+    let p = parts true x b in
+    rw (framed_style s ds pos x e b, e, p.no_anchor, p.no_tag, p.left_out, (in_quotes x b).may) refl
 
-bare_simple : (s : Settings) (ds : List TagDirective) (x : Scalar) → s.canonical ≡ false
-    → IsBare x → is_simple_scalar (context_of s ds) x ≡ true
+short_simple : (quoted : Bool) (s : Settings) (ds : List TagDirective) (x : Scalar)
+    → s.canonical ≡ false → IsInline quoted x → is_simple_scalar (context_of s ds) x ≡ true
 unfolding is_simple_scalar
-bare_simple s ds x e b =
-    let p = parts x b in
-    rw (e, tame_breaks x.value b.tame, p.no_anchor, p.no_tag, p.may) (few_bytes x.value b.few)
+short_simple quoted s ds x e b =
+    let p = parts quoted x b in
+    rw (e, standing_breaks quoted x.value b.stands, p.no_anchor, p.no_tag, p.left_out) (few_bytes x.value b.few)
 
-bare_by : (canonical : Bool) (place : Expected) (top : Option Level) (x : Scalar)
-    → canonical ≡ false → place ≡ at.Node → IsBare x
+short_by : (quoted canonical : Bool) (place : Expected) (top : Option Level) (x : Scalar)
+    → canonical ≡ false → place ≡ at.Node → IsInline quoted x
     → problem_by canonical place top (scalar x) ≡ None
 unfolding problem_by event_problem place_problem last_problem
-bare_by canonical place None x e h b = let p = parts x b in rw (e, h, p.no_anchor, p.no_tag, p.may) refl
-bare_by canonical place (Some l) x e h b = let p = parts x b in rw (e, h, p.no_anchor, p.no_tag, p.may) refl
+short_by quoted canonical place None x e h b = let p = parts quoted x b in rw (e, h, p.no_anchor, p.no_tag, p.left_out) refl
+short_by quoted canonical place (Some l) x e h b = let p = parts quoted x b in rw (e, h, p.no_anchor, p.no_tag, p.left_out) refl
 
-bare_right : (s : Settings) (st : State) (x : Scalar) → s.canonical ≡ false → st.place ≡ at.Node
-    → IsBare x → problem_at s st (scalar x) ≡ None
-bare_right s st x e h b = bare_by s.canonical st.place _ x e h b
+short_right : (quoted : Bool) (s : Settings) (st : State) (x : Scalar) → s.canonical ≡ false
+    → st.place ≡ at.Node → IsInline quoted x → problem_at s st (scalar x) ≡ None
+short_right quoted s st x e h b = short_by quoted s.canonical st.place _ x e h b
 
 -- ---- how it is written
 
@@ -151,58 +202,81 @@ unfolding before_item
 block_item s n fresh = refl
 
 -- by what comes before it
-pub puts_flow_item : (s : Settings) (flow : Bool) (n : ℕ) (fresh : Bool) (v : List ℕ)
-    (a b : Output) → s.canonical ≡ false → flow ≡ true
-    → Puts a b ((comma fresh ▹ wrap_at s n) ▹ bare_text s (position true n part.Item) v)
-    → Puts a b (bare_node s (Items fresh) flow n false v)
-puts_flow_item s flow n fresh v a b e f p =
-    let P : Bool → Type 0 = λ z. Puts a b (bare_node s (Items fresh) z n false v) in
-    let Q : Layout → Type 0 = λ z. Puts a b (z ▹ bare_text s (position true n part.Item) v) in
-    subst P (sym f) (subst Q (flow_item s n fresh e) p)
+placed_as : (old new : Core) (q : Phase) (x y : Layout) → x ≡ y → Places old new q x
+    → Places old new q y
+placed_as old new q x y e p = let P : Layout → Type 0 = λ z. Places old new q z in subst P e p
 
-pub puts_block_item : (s : Settings) (flow : Bool) (n : ℕ) (fresh : Bool) (v : List ℕ)
-    (a b : Output) → flow ≡ false
-    → Puts a b (line_at s n ▹ (indicator 45 ▹ bare_text s (position false n part.Item) v))
-    → Puts a b (bare_node s (Items fresh) flow n false v)
-puts_block_item s flow n fresh v a b f p =
-    let P : Bool → Type 0 = λ z. Puts a b (bare_node s (Items fresh) z n false v) in
-    let Q : Layout → Type 0 = λ z. Puts a b (z ▹ bare_text s (position false n part.Item) v) in
-    subst P (sym f) (subst Q (block_item s n fresh) p)
+pub flow_item_placed : (s : Settings) (quoted flow : Bool) (n : ℕ) (fresh : Bool) (v : List ℕ)
+    (old new : Core) (q : Phase) → s.canonical ≡ false → flow ≡ true
+    → Places old new q ((comma fresh ▹ wrap_at s n)
+    ▹ short_text s quoted (position true n part.Item) v)
+    → Places old new q (short_node s quoted (Items fresh) flow n false v)
+flow_item_placed s quoted flow n fresh v old new q e f p =
+    let P : Bool → Type 0 = λ z. Places old new q (short_node s quoted (Items fresh) z n false v) in
+    subst P (sym f) (placed_as old new q _ _ (ap (λ (z : Layout). z ▹ short_text s quoted (position true n part.Item) v) (flow_item s n fresh e)) p)
 
-pub puts_flow_key : (s : Settings) (flow : Bool) (n : ℕ) (fresh : Bool) (v : List ℕ)
-    (a b : Output) → s.canonical ≡ false → flow ≡ true
-    → Puts a b ((comma fresh ▹ wrap_at s n) ▹ bare_text s (position true n part.SimpleKey) v)
-    → Puts a b (bare_node s (Keys fresh) flow n true v)
-puts_flow_key s flow n fresh v a b e f p =
-    let P : Bool → Type 0 = λ z. Puts a b (bare_node s (Keys fresh) z n true v) in
-    let Q : Layout → Type 0 = λ z. Puts a b (z ▹ bare_text s (position true n part.SimpleKey) v) in
-    subst P (sym f) (subst Q (flow_key s n fresh e) p)
+pub block_item_placed : (s : Settings) (quoted flow : Bool) (n : ℕ) (fresh : Bool) (v : List ℕ)
+    (old new : Core) (q : Phase) → flow ≡ false
+    → Places old new q (line_at s n ▹ (indicator 45
+    ▹ short_text s quoted (position false n part.Item) v))
+    → Places old new q (short_node s quoted (Items fresh) flow n false v)
+block_item_placed s quoted flow n fresh v old new q f p =
+    let P : Bool → Type 0 = λ z. Places old new q (short_node s quoted (Items fresh) z n false v) in
+    subst P (sym f) (placed_as old new q _ _ (ap (λ (z : Layout). z ▹ short_text s quoted (position false n part.Item) v) (block_item s n fresh)) p)
 
-pub puts_block_key : (s : Settings) (flow : Bool) (n : ℕ) (fresh : Bool) (v : List ℕ)
-    (a b : Output) → flow ≡ false
-    → Puts a b (line_at s n ▹ bare_text s (position false n part.SimpleKey) v)
-    → Puts a b (bare_node s (Keys fresh) flow n true v)
-puts_block_key s flow n fresh v a b f p =
-    let P : Bool → Type 0 = λ z. Puts a b (bare_node s (Keys fresh) z n true v) in
-    let Q : Layout → Type 0 = λ z. Puts a b (z ▹ bare_text s (position false n part.SimpleKey) v) in
-    subst P (sym f) (subst Q (block_key s n fresh) p)
+pub flow_key_placed : (s : Settings) (quoted flow : Bool) (n : ℕ) (fresh : Bool) (v : List ℕ)
+    (old new : Core) (q : Phase) → s.canonical ≡ false → flow ≡ true
+    → Places old new q ((comma fresh ▹ wrap_at s n)
+    ▹ short_text s quoted (position true n part.SimpleKey) v)
+    → Places old new q (short_node s quoted (Keys fresh) flow n true v)
+flow_key_placed s quoted flow n fresh v old new q e f p =
+    let P : Bool → Type 0 = λ z. Places old new q (short_node s quoted (Keys fresh) z n true v) in
+    subst P (sym f) (placed_as old new q _ _ (ap (λ (z : Layout). z ▹ short_text s quoted (position true n part.SimpleKey) v) (flow_key s n fresh e)) p)
 
-pub puts_simple_value : (s : Settings) (flow : Bool) (n : ℕ) (simple : Bool) (v : List ℕ)
-    (a b : Output) → simple ≡ true
-    → Puts a b (char 58 ▹ bare_text s (position flow n part.Value) v)
-    → Puts a b (bare_node s (Value simple) flow n false v)
-puts_simple_value s flow n simple v a b f p =
-    let P : Bool → Type 0 = λ z. Puts a b (bare_node s (Value z) flow n false v) in
-    let Q : Layout → Type 0 = λ z. Puts a b (z ▹ bare_text s (position flow n part.Value) v) in
-    subst P (sym f) (subst Q (simple_value s flow n) p)
+pub block_key_placed : (s : Settings) (quoted flow : Bool) (n : ℕ) (fresh : Bool) (v : List ℕ)
+    (old new : Core) (q : Phase) → flow ≡ false
+    → Places old new q (line_at s n ▹ (stay
+    ▹ short_text s quoted (position false n part.SimpleKey) v))
+    → Places old new q (short_node s quoted (Keys fresh) flow n true v)
+block_key_placed s quoted flow n fresh v old new q f p =
+    let P : Bool → Type 0 = λ z. Places old new q (short_node s quoted (Keys fresh) z n true v) in
+    subst P (sym f) (placed_as old new q _ _ (ap (λ (z : Layout). z ▹ short_text s quoted (position false n part.SimpleKey) v) (block_key s n fresh)) p)
 
-pub puts_far_value : (s : Settings) (flow : Bool) (n : ℕ) (simple : Bool) (v : List ℕ)
-    (a b : Output) → simple ≡ false
-    → Puts a b (before_value s flow n false ▹ bare_text s (position flow n part.Value) v)
-    → Puts a b (bare_node s (Value simple) flow n false v)
-puts_far_value s flow n simple v a b f p =
-    let P : Bool → Type 0 = λ z. Puts a b (bare_node s (Value z) flow n false v) in
-    subst P (sym f) p
+pub value_placed : (s : Settings) (quoted flow : Bool) (n : ℕ) (simple : Bool) (v : List ℕ)
+    (old new : Core) (q : Phase) → simple ≡ true
+    → Places old new q (char 58 ▹ short_text s quoted (position flow n part.Value) v)
+    → Places old new q (short_node s quoted (Value simple) flow n false v)
+value_placed s quoted flow n simple v old new q f p =
+    let P : Bool → Type 0 = λ z. Places old new q (short_node s quoted (Value z) flow n false v) in
+    subst P (sym f) (placed_as old new q _ _ (ap (λ (z : Layout). z ▹ short_text s quoted (position flow n part.Value) v) (simple_value s flow n)) p)
+
+-- at the start of a line
+pub line_placed : (item quoted : Bool) (s : Settings) (at : NodePosition) (n : ℕ) (v : List ℕ)
+    (a b : Output) → Stands quoted v → n + (2 + length (standing quoted v)) ≤ s.width
+    → nat_le (deeper s at.around) MOST ≡ true
+    → Puts a b (line_at s n ▹ letters (lead item ++ standing quoted v))
+    → Puts a b (line_at s n ▹ (hyphen item ▹ short_text s quoted at v))
+line_placed true quoted s at n v a b t w h p =
+    unchecked_behind (deeper s at.around) a b (line_at s n ▹ indicator 45) (standing_text quoted (page_at s at) at.flow v) h (puts_line_item quoted (page_at s at) at.flow 45 v s.line_break n a b t w p)
+line_placed false quoted s at n v a b t w h p =
+    unchecked_behind (deeper s at.around) a b (line_at s n) (standing_text quoted (page_at s at) at.flow v) h (puts_line_key quoted (page_at s at) at.flow v s.line_break n a b t (omega (arith, w)) p)
+
+pub from_there : (a b o : Output) (x : Layout) → a ≡ b → Puts a o x → Puts b o x
+from_there a b o x e p = let P : Output → Type 0 = λ z. Puts z o x in subst P e p
+
+-- the phase was changed, and then it was written
+pub places_by : (old mid : Core) (o : Output) (q : Phase) (x : Layout)
+    → stack_of mid.levels ≡ turned q (stack_of old.levels) → mid.place ≡ old.place
+    → mid.directives ≡ old.directives → StaysBut old mid → Puts old.sink o x
+    → Places old (record mid { sink = o }) q x
+places_by old mid o q x levels place directives kept put = record {
+  puts = put;
+  levels = levels;
+  place = place;
+  directives = directives;
+  settings = kept.0;
+  starved = kept.2;
+}
 
 -- in settings that differ in the encoding alone
 same_before : (s : Settings) (x : Encoding) (p : Phase) (flow : Bool) (n : ℕ) (simple : Bool)
@@ -248,26 +322,26 @@ behind_by place behind (k ∷ ks) own ds l q simple n o t e b =
     rw (n, o, b, subst P (same_level l k t) e) refl
 
 -- it was laid out
-pub lays_bare : (old new : Core) (o : Output) (l : Level) (p q : Phase) (simple : Bool)
+pub lays_short : (quoted : Bool) (old new : Core) (l : Level) (p q : Phase) (simple : Bool)
     (v : List ℕ) (x : Scalar) (empty : Bool) → old.settings.canonical ≡ false
     → old.place ≡ at.Node → Some l ≡ top_of (stack_of old.levels) → l.phase ≡ p
     → simple ≡ is_key_in p → q ≡ phase_behind p simple
-    → Puts old.sink o (bare_node old.settings p l.flow l.indent simple v)
-    → stack_of new.levels ≡ turned q (stack_of old.levels) → new.place ≡ old.place
-    → new.directives ≡ old.directives → StaysBut (record old { sink = o }) new
-    → IsBare x → x.value ≡ v → LaysOut old new (scalar x) empty
-lays_bare old new o l p q simple v x empty form due top is key next put levels place directives kept b same =
+    → Places old new q (short_node old.settings quoted p l.flow l.indent simple v)
+    → IsInline quoted x → x.value ≡ v → LaysOut old new (scalar x) empty
+lays_short quoted old new l p q simple v x empty form due top is key next there b same =
+    let o : Output = new.sink in
+    let put = there.puts in
     let s : Settings = settings_of old in
     let pos : NodePosition = position_of (Some l) simple in
     let asked : simple ≡ (is_key (Some l) && is_simple_scalar (context_of s old.directives) x) =
-    key ∙ ap is_key_in (sym is) ∙ sym (ap (λ (k : Bool). is_key_in l.phase && k) (bare_simple s old.directives x form b) ∙ and_yes (is_key_in l.phase)) in
-    let A : Phase → Type 0 = λ z. Puts old.sink o (bare_node old.settings z l.flow l.indent simple v) in
-    let B : List ℕ → Type 0 = λ z. Puts old.sink o (bare_node old.settings l.phase l.flow l.indent simple z) in
-    let C : Layout → Type 0 = λ z. Puts old.sink o (z ▹ bare_text s pos x.value) in
+    key ∙ ap is_key_in (sym is) ∙ sym (ap (λ (k : Bool). is_key_in l.phase && k) (short_simple quoted s old.directives x form b) ∙ and_yes (is_key_in l.phase)) in
+    let A : Phase → Type 0 = λ z. Puts old.sink o (short_node old.settings quoted z l.flow l.indent simple v) in
+    let B : List ℕ → Type 0 = λ z. Puts old.sink o (short_node old.settings quoted l.phase l.flow l.indent simple z) in
+    let C : Layout → Type 0 = λ z. Puts old.sink o (z ▹ short_text s quoted pos x.value) in
     let D : Layout → Type 0 = λ z. Puts old.sink o (before_at s l.phase l.flow l.indent simple ▹ z) in
-    let there : Puts old.sink o (bare_node old.settings l.phase l.flow l.indent simple x.value) = subst B (sym same) (subst A (sym is) put) in
-    let here = subst D (sym (bare_layout s old.directives pos x form b)) (subst C (same_before old.settings old.sink.encoding l.phase l.flow l.indent simple) there) in
+    let written : Puts old.sink o (short_node old.settings quoted l.phase l.flow l.indent simple x.value) = subst B (sym same) (subst A (sym is) put) in
+    let here = subst D (sym (short_layout quoted s old.directives pos x form b)) (subst C (same_before old.settings old.sink.encoding l.phase l.flow l.indent simple) written) in
     let E : Phase → Type 0 = λ z. q ≡ phase_behind z simple in
-    let moved = behind_by new.place (stack_of new.levels) (stack_of old.levels) new.directives old.directives l q simple (place ∙ due) directives top (subst E (sym is) next) levels in
-    lays_in_place old new (scalar x) empty (bare_right s (state_of old) x form due b)
-    (lays_scalar old new o s (Some l) x simple empty refl top asked here moved kept)
+    let moved = behind_by new.place (stack_of new.levels) (stack_of old.levels) new.directives old.directives l q simple (there.place ∙ due) there.directives top (subst E (sym is) next) there.levels in
+    lays_in_place old new (scalar x) empty (short_right quoted s (state_of old) x form due b)
+    (lays_scalar old new o s (Some l) x simple empty refl top asked here moved (there.settings, refl, there.starved))

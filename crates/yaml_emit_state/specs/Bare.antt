@@ -1,37 +1,27 @@
--- Bare scalars: short tame texts without properties, which are plain wherever they stand in pretty form.
+-- Short scalars without properties: tame texts, which are plain wherever they stand in pretty form, and those in double quotes.
 use Rattle.std.specs.Prelude.{◌≡◌, ℕ, ◌+◌, ◌≤◌, Bool, true, false, not, ◌&&◌, nat_le, List, [], ◌∷◌, length, Option, Some, None}
-use Rattle.std.specs.Str.{chars}
+use Rattle.yaml_types.specs.Ascii as ascii
 use Rattle.yaml_scan_model.specs.declared.yaml_scalar_style_t.{yaml_scalar_style_t}
 use Rattle.yaml_scan_model.specs.declared.yaml_scalar_style_t.TheVariants.{YAML_DOUBLE_QUOTED_SCALAR_STYLE}
 use Rattle.yaml_emit_text.specs.declared.Settings.{Settings}
-use Rattle.yaml_emit_text.specs.Layout.{Layout, ◌▹◌}
-use Rattle.yaml_emit_text.specs.Scalars.{plain}
-use Rattle.yaml_emit_text.specs.Tame.{IsTame, asks_plain}
+use Rattle.yaml_emit_text.specs.Layout.{Layout, ◌▹◌, stay, indicator}
+use Rattle.yaml_emit_text.specs.Sink.{Puts}
+use Rattle.yaml_emit_text.specs.Tame.{asks_plain, Stands, standing_text}
 use Rattle.yaml_emit_layout.specs.declared.Level.{Level}
 use Rattle.yaml_emit_layout.specs.declared.Phase.{Phase}
+use Rattle.yaml_emit_layout.specs.declared.Phase.TheVariants.{Items, Value}
 use Rattle.yaml_emit_layout.specs.declared.NodePosition.{NodePosition}
 use Rattle.yaml_emit_layout.specs.Content as said
 use Rattle.yaml_emit_layout.specs.Grammar.{has}
 use Rattle.yaml_emit_layout.specs.Nodes.{MOST, deeper, checked, page_at, position}
 use Rattle.yaml_emit_layout.specs.State.{before_at, part_at}
+use Rattle.yaml_emit_state.specs.declared.state.Core.{Core}
+use Rattle.yaml_emit_state.specs.Stack.{stack_of}
 
 -- no anchor and no tag, and it may be plain and is asked to be
 abbrev pub is_unmarked : Option (List ℕ) → Option (List ℕ) → Bool → yaml_scalar_style_t → Bool
 is_unmarked anchor tag plain style = not (has anchor)
     && (not (has tag) && (plain && asks_plain style))
-
--- how many bytes a bare scalar has at most
-abbrev pub most_bare : ℕ
-most_bare = 80
-
-pub record IsBare (x : said.Scalar) : Type 0 where
-  pub unmarked : is_unmarked x.anchor x.tag x.plain x.style ≡ true
-  pub few : length x.value ≤ most_bare
-  pub tame : IsTame x.value
-
-abbrev pub IsBareEvent : said.Event → Type 0
-IsBareEvent (said.scalar x) = IsBare x
-IsBareEvent e = ⊥
 
 -- no anchor and no tag, and it may be quoted and is asked to be, in double quotes
 abbrev pub is_double : yaml_scalar_style_t → Bool
@@ -42,17 +32,41 @@ abbrev pub is_framed : Option (List ℕ) → Option (List ℕ) → Bool → yaml
 is_framed anchor tag quoted style = not (has anchor)
     && (not (has tag) && (quoted && is_double style))
 
-abbrev pub IsFramedEvent : said.Event → Type 0
-IsFramedEvent (said.scalar x) = is_framed x.anchor x.tag x.quoted x.style ≡ true
-IsFramedEvent e = ⊥
+-- how many bytes a short scalar has at most
+abbrev pub most_short : ℕ
+most_short = 80
+
+-- a short scalar, bare or in double quotes
+abbrev pub is_asked : Bool → said.Scalar → Bool
+is_asked false x = is_unmarked x.anchor x.tag x.plain x.style
+is_asked true x = is_framed x.anchor x.tag x.quoted x.style
+
+pub record IsInline (quoted : Bool) (x : said.Scalar) : Type 0 where
+  pub asked : is_asked quoted x ≡ true
+  pub few : length x.value ≤ most_short
+  pub stands : Stands quoted x.value
+
+abbrev pub IsInlineEvent : Bool → said.Event → Type 0
+IsInlineEvent quoted (said.scalar x) = IsInline quoted x
+IsInlineEvent quoted e = ⊥
 
 -- its text, and with what comes before it in its collection
-abbrev pub bare_text : Settings → NodePosition → List ℕ → Layout
-bare_text s at value = checked (deeper s at.around) ▹ plain (page_at s at) at.flow (chars value)
+abbrev pub short_text : Settings → Bool → NodePosition → List ℕ → Layout
+short_text s quoted at value = checked (deeper s at.around)
+    ▹ standing_text quoted (page_at s at) at.flow value
 
-abbrev pub bare_node : Settings → Phase → Bool → ℕ → Bool → List ℕ → Layout
-bare_node s phase flow n simple value = before_at s phase flow n simple
-    ▹ bare_text s (position flow n (part_at phase simple)) value
+abbrev pub short_node : Settings → Bool → Phase → Bool → ℕ → Bool → List ℕ → Layout
+short_node s quoted phase flow n simple value = before_at s phase flow n simple
+    ▹ short_text s quoted (position flow n (part_at phase simple)) value
+
+-- what stands in front of an item at the start of its line, and nothing in front of a key; the phase behind them
+abbrev pub hyphen : Bool → Layout
+hyphen true = indicator ascii.hyphen
+hyphen false = stay
+
+abbrev pub first_behind : Bool → Phase
+first_behind true = Items false
+first_behind false = Value true
 
 -- a collection is open, and what stands in it isn't too deep
 abbrev pub is_shallow : Settings → Option Level → Bool
@@ -63,3 +77,12 @@ is_shallow s (Some l) = nat_le (l.indent + s.indent) MOST
 abbrev pub turned : Phase → List Level → List Level
 turned phase [] = []
 turned phase (l ∷ ls) = record { phase = phase; flow = l.flow; indent = l.indent } ∷ ls
+
+-- it was written, and the innermost collection is in that phase
+pub record Places (old new : Core) (behind : Phase) (put : Layout) : Type 0 where
+  pub puts : Puts old.sink new.sink put
+  pub levels : stack_of new.levels ≡ turned behind (stack_of old.levels)
+  pub place : new.place ≡ old.place
+  pub directives : new.directives ≡ old.directives
+  pub settings : new.settings ≡ old.settings
+  pub starved : new.starved ≡ old.starved

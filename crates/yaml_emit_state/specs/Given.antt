@@ -36,17 +36,6 @@ plain_text value style = record {
   style = style;
 }
 
--- a text without properties that is asked to be in double quotes, and may be
-abbrev pub quoted_text : List ℕ → Bool → said.Scalar
-quoted_text value plain = record {
-  anchor = None;
-  tag = None;
-  value = value;
-  plain = plain;
-  quoted = true;
-  style = YAML_DOUBLE_QUOTED_SCALAR_STYLE;
-}
-
 -- what opens a collection with the default tag and without an anchor
 abbrev pub plain_start : List ℕ → Bool → said.Start
 plain_start tag flow = record { anchor = None; tag = Some tag; implicit = true; flow = flow }
@@ -68,6 +57,11 @@ lent_start p = record {
   implicit = p.implicit;
   flow = p.flow;
 }
+
+-- what opens a sequence or a mapping
+abbrev pub opening : Bool → said.Start → said.Event
+opening true q = said.sequence_start q
+opening false q = said.mapping_start q
 
 abbrev pub lent_opening : Opening → said.Opening
 lent_opening o = record {

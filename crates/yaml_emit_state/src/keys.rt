@@ -158,10 +158,11 @@ pub fn is_simple_key(context: &Context, top: &Option<Level>, scalar: &Scalar) ->
     is_key(top) && is_simple_scalar(context, scalar)
 }
 
-// Inlined into its one caller.
+/// Whether what opens a collection is a simple key: where the next event closes it.
+// Inlined: canonical form has none.
 #[inline(always)]
 #[tactic(auto, unfolding(yaml_emit_layout::specs::Nodes::is_simple_start))]
-fn is_simple_start(context: &Context, start: &Start) -> bool
+pub fn is_simple_start(context: &Context, start: &Start) -> bool
     ensures { result ≡ is_simple_start (lent_context context.now) (lent_start start.now)
         start.now.empty }
 {

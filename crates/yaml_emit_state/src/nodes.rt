@@ -182,10 +182,10 @@ fn is_marked(
     !is_written(canonical, plain || quoted, tag) && !quoted && !is_plain(chosen)
 }
 
-/// The lines that a value stands in, in a style.
+// The lines that a value stands in, in a style.
 // Inlined: canonical form knows the style, so that one arm is left there.
 #[inline(always)]
-pub fn put_lines(
+fn put_lines(
     sink: &mut Sink,
     settings: &Settings,
     position: NodePosition,

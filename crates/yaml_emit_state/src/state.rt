@@ -8,6 +8,7 @@ mod event;
 mod moves;
 mod pretty;
 mod resume;
+mod starts;
 
 use crate::given::{Context, EventPosition, Scalar};
 use crate::judge::problem_of;
@@ -358,34 +359,6 @@ impl Core {
         self.lay_by(event, empty, self.settings.canonical);
     }
 
-    // What opens a sequence, in canonical form.
-    // Out of line: kind and form are known, and what other kinds need takes no room here.
-    #[inline(never)]
-    fn lay_sequence_start(&mut self, event: &mut yaml_event_body_t, empty: bool)
-        requires utf8 { HasUtf8 (body_of event.old) }
-        requires form { self.old.settings.canonical ≡ true }
-        ensures { LaysOut self.old self.new (emitter_event (body_of event.old)) empty }
-    {
-        match event {
-            yaml_event_body_t::SequenceStart { .. } => self.lay_by(event, empty, true),
-            _ => self.lay_any(event, empty),
-        }
-    }
-
-    // What opens a mapping, in canonical form.
-    // Out of line: kind and form are known, and what other kinds need takes no room here.
-    #[inline(never)]
-    fn lay_mapping_start(&mut self, event: &mut yaml_event_body_t, empty: bool)
-        requires utf8 { HasUtf8 (body_of event.old) }
-        requires form { self.old.settings.canonical ≡ true }
-        ensures { LaysOut self.old self.new (emitter_event (body_of event.old)) empty }
-    {
-        match event {
-            yaml_event_body_t::MappingStart { .. } => self.lay_by(event, empty, true),
-            _ => self.lay_any(event, empty),
-        }
-    }
-
     /// Lays out what ends a sequence, in canonical form, or refuses it.
     // Out of line: kind and form are known, and what other kinds need takes no room here.
     #[inline(never)]
@@ -509,6 +482,8 @@ impl Core {
 
     /// Lays out an event that is no longer held, by whether it opens a collection that the next event closes; or refuses it.
     /// For want of memory the output stops. What is left of the event counts for nothing.
+    // Inlined: a call for each kind.
+    #[inline(always)]
     pub fn lay_out(&mut self, event: &mut yaml_event_body_t, empty: bool)
         requires { HasUtf8 (body_of event.old) }
         ensures { LaysOut self.old self.new (emitter_event (body_of event.old)) empty }

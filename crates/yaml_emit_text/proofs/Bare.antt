@@ -1,11 +1,13 @@
 -- Tame texts that are written plain at once: alone, or behind a character and a space.
-use Rattle.std.proofs.Common.{◌≡◌, ℕ, ◌+◌, ◌≤◌, ◌<◌, length, get_or, List, [], ◌∷◌, ◌++◌, Bool, true, false, refl, sym, subst, ◌∙◌, ap, arith}
-use Rattle.std.specs.Prelude.{zero, suc, ◌||◌, ◌==◌, nat_le, nat_lt}
+use Rattle.std.proofs.Common.{◌≡◌, ℕ, ◌+◌, ◌≤◌, ◌<◌, length, length-append, append_assoc, get_or, List, [], ◌∷◌, ◌++◌, Bool, true, false, refl, sym, subst, ◌∙◌, ap, arith}
+use Rattle.std.specs.Prelude.{zero, suc, ◌||◌, ◌==◌, nat_le, nat_lt, if◌then◌else◌}
 use Rattle.std.specs.Str.{chars, IsAscii}
 use Rattle.std.proofs.lemmas.Bool.{and_parts}
 use Rattle.std.proofs.lemmas.Bool.Decides.{nat_tests}
 use Rattle.std.proofs.lemmas.List.{append-nil}
-use Rattle.std.proofs.lemmas.Str.Ascii.{IsAscii-cons}
+use Rattle.std.specs.List.{list_all}
+use Rattle.std.proofs.lemmas.Str.{IsAscii-append}
+use Rattle.std.proofs.lemmas.Str.Ascii.{IsAscii-cons, IsAscii-nil}
 use Rattle.yaml_types.specs.Classes.{any_below, has_break, is_break as breaks_at}
 use Rattle.yaml_types.specs.Marks.{break_of}
 use Rattle.yaml_types.specs.declared.yaml_scalar_style_t.{yaml_scalar_style_t}
@@ -13,18 +15,20 @@ use Rattle.yaml_types.specs.declared.yaml_scalar_style_t.TheVariants as asked
 use Rattle.yaml_emit_sink.specs.declared.Cursor.{Cursor}
 use Rattle.yaml_emit_sink.specs.declared.LineBreak.{LineBreak}
 use Rattle.yaml_emit_sink.specs.Text.{Item, letter}
-use Rattle.yaml_emit_sink.specs.Layout.{Rest, ◌▹◌, char, letters, wrap, indicator, after_text}
+use Rattle.yaml_emit_sink.specs.Layout.{Rest, ◌▹◌, char, letters, line, wrap, indicator, after_text}
 use Rattle.yaml_emit_sink.specs.Sink.{Output, Puts}
+use Rattle.yaml_emit_sink.proofs.Lines.{line_lands}
 use Rattle.yaml_emit_sink.proofs.Sinks.{puts_as, cond_true, cond_false}
 use Rattle.yaml_emit_text.specs.declared.page.Page.{Page}
 use Rattle.yaml_emit_text.specs.declared.page.Allowed.{Allowed}
 use Rattle.yaml_emit_text.specs.declared.page.Style.TheVariants as style
-use Rattle.yaml_emit_text.specs.Runs.{all_pass, calm, is_calm}
+use Rattle.yaml_emit_text.specs.Runs.{all_pass, calm, is_calm, is_even}
 use Rattle.yaml_emit_text.specs.Scalars.{plain}
 use Rattle.yaml_emit_text.specs.Style.{allowed, last_or, taken, plain_or}
-use Rattle.yaml_emit_text.specs.Tame.{IsTame, asks_plain}
+use Rattle.yaml_emit_text.specs.Tame.{IsTame, asks_plain, Stands, standing, standing_text, lead}
 use Rattle.yaml_emit_text.proofs.RunLemmas.{calm_ascii, calm_least, calm_largest}
 use Rattle.yaml_emit_text.proofs.RunWalks.{tame_at}
+use Rattle.yaml_emit_text.proofs.Even.{framed_at, framed_behind, even_ascii, even_least, even_largest, even_at}
 use Rattle.yaml_emit_text.proofs.Tame.{all_allowed, tame_allows, tame_plain}
 
 -- ---- what a tame text is
@@ -34,12 +38,6 @@ pub tame_some : (v : List ℕ) → IsTame v → 0 < length v
 unfolding last_or
 tame_some [] t = let e = t.ends in absurd (cc)
 tame_some (x ∷ xs) t = omega arith
-
-pub lone_ascii : (v : List ℕ) → IsTame v → IsAscii (v ++ [])
-lone_ascii v t = rw (append-nil v) (calm_ascii 0 v t.calm)
-
-pub led_ascii : (m : ℕ) (v : List ℕ) → m < 128 → IsTame v → IsAscii (m ∷ 32 ∷ (v ++ []))
-led_ascii m v low t = IsAscii-cons m (32 ∷ (v ++ [])) low (IsAscii-cons 32 (v ++ []) (omega arith) (lone_ascii v t))
 
 calm_at : (k : ℕ) (bs : List ℕ) (i : ℕ) → all_pass calm k bs ≡ true → i < length bs
     → is_calm (get_or bs i 0) ≡ true
@@ -72,6 +70,14 @@ no_break v k h = ap (nat_lt 0) (no_break_of (get_or v k 0) _ _ (calm_least (get_
 pub tame_breaks : (v : List ℕ) → IsTame v → has_break v ≡ false
 tame_breaks v t = none_below (length v) (breaks_at v) (λ k l. no_break v k (calm_at 0 v k t.calm l))
 
+even_no_break : (v : List ℕ) (k : ℕ) → is_even (get_or v k 0) ≡ true → breaks_at v k ≡ false
+even_no_break v k h = ap (nat_lt 0) (no_break_of (get_or v k 0) _ _ (even_least (get_or v k 0) h) (even_largest (get_or v k 0) h))
+
+-- the same of one in double quotes
+pub standing_breaks : (quoted : Bool) (v : List ℕ) → Stands quoted v → has_break v ≡ false
+standing_breaks false v t = tame_breaks v t
+standing_breaks true v t = none_below (length v) (breaks_at v) (λ k l. even_no_break v k (even_at v k t l))
+
 -- ---- which style it takes
 
 plain_by : (flow simple : Bool) → plain_or all_allowed true flow simple false ≡ style.Plain
@@ -101,6 +107,9 @@ pub tame_taken : (unicode : Bool) (v : List ℕ) (s : yaml_scalar_style_t)
     → empty ≡ false
     → taken (allowed unicode (chars v)) s untagged flow simple empty ≡ style.Plain
 tame_taken unicode v s untagged flow simple empty t k u e = taken_by (allowed unicode (chars v)) s untagged flow simple empty (tame_allows unicode v t) k u e
+
+within : (width k n : ℕ) → k + n ≤ width → nat_lt width k ≡ false
+within width k n h = grind (arith, nat_tests, h)
 
 -- ---- how it is written
 
@@ -141,64 +150,181 @@ parted_at page flow v c rest t g w =
     ∙ (cond_false c.white _ _ g
     ∙ ap (λ (z : List Item). letter 32 ∷ z) (tame_at page d (λ e. after_text e rest) v t w ∙ (after_some v d rest (tame_some v t) ∙ letters_from v (c.column + 1) true c.bare c.kept rest (tame_some v t))))
 
--- alone, where no space is due
-pub puts_lone : (page : Page) (flow : Bool) (v : List ℕ) (a b : Output) → IsTame v
-    → a.cursor.white ≡ true → a.cursor.column + (0 + length v) ≤ page.width → Puts a b (letters v)
-    → Puts a b (plain page flow (chars v))
-puts_lone page flow v a b t g w p = puts_as a b (letters v) (plain page flow (chars v)) (λ rest. lone_at page flow v a.cursor rest t g (omega (arith, w))) p
+-- ---- of either kind
 
-behind_at : (page : Page) (flow : Bool) (m : ℕ) (v : List ℕ) (c : Cursor) (rest : Rest) → IsTame v
-    → c.column + (2 + length v) ≤ page.width
-    → (char m ▹ plain page flow (chars v)) c rest ≡ letters (m ∷ 32 ∷ v) c rest
+-- where no space is due
+standing_at : (quoted : Bool) (page : Page) (flow : Bool) (v : List ℕ) (c : Cursor) (rest : Rest)
+    → Stands quoted v → c.white ≡ true → c.column + length (standing quoted v) ≤ page.width
+    → standing_text quoted page flow v c rest ≡ letters (standing quoted v) c rest
+standing_at false page flow v c rest t g w = lone_at page flow v c rest t g w
+standing_at true page flow v c rest t g w = framed_at page v c rest t g w
+
+-- where one is
+standing_behind : (quoted : Bool) (page : Page) (flow : Bool) (v : List ℕ) (c : Cursor)
+    (rest : Rest) → Stands quoted v → c.white ≡ false
+    → c.column + 1 + length (standing quoted v) ≤ page.width
+    → standing_text quoted page flow v c rest ≡ letters (32 ∷ standing quoted v) c rest
+standing_behind false page flow v c rest t g w = parted_at page flow v c rest t g w
+standing_behind true page flow v c rest t g w = framed_behind page v c rest t g w
+
+-- alone, where no space is due, behind what may be a line
+pub puts_opening : (quoted : Bool) (page : Page) (flow : Bool) (v : List ℕ) (k : LineBreak) (n : ℕ)
+    (a b : Output) → Stands quoted v → a.cursor.white ≡ true
+    → a.cursor.column + length (standing quoted v) ≤ page.width
+    → Puts a b (letters (standing quoted v))
+    → Puts a b (wrap page.width k n ▹ standing_text quoted page flow v)
+puts_opening quoted page flow v k n a b t g w p =
+    puts_as a b (letters (standing quoted v)) (wrap page.width k n ▹ standing_text quoted page flow v)
+    (λ rest. cond_false (nat_lt page.width a.cursor.column) _ _ (within page.width a.cursor.column (length (standing quoted v)) w) ∙ standing_at quoted page flow v a.cursor rest t g w) p
+
+behind_at : (quoted : Bool) (page : Page) (flow : Bool) (m : ℕ) (v : List ℕ) (c : Cursor)
+    (rest : Rest) → Stands quoted v → c.column + (2 + length (standing quoted v)) ≤ page.width
+    → (char m ▹ standing_text quoted page flow v) c rest
+    ≡ letters (m ∷ 32 ∷ standing quoted v) c rest
 unfolding letters
-behind_at page flow m v c rest t w =
+behind_at quoted page flow m v c rest t w =
     let d : Cursor = record { column = c.column + 1; white = false; bare = false; kept = c.kept } in
-    ap (λ (z : List Item). letter m ∷ z) (parted_at page flow v d rest t refl (omega (arith, w)))
+    ap (λ (z : List Item). letter m ∷ z) (standing_behind quoted page flow v d rest t refl (omega (arith, w)))
 
 -- behind a character
-pub puts_led : (page : Page) (flow : Bool) (m : ℕ) (v : List ℕ) (a b : Output) → IsTame v
-    → a.cursor.column + (2 + length v) ≤ page.width → Puts a b (letters (m ∷ 32 ∷ v))
-    → Puts a b (char m ▹ plain page flow (chars v))
-puts_led page flow m v a b t w p = puts_as a b (letters (m ∷ 32 ∷ v)) (char m ▹ plain page flow (chars v)) (λ rest. behind_at page flow m v a.cursor rest t w) p
+pub puts_led : (quoted : Bool) (page : Page) (flow : Bool) (m : ℕ) (v : List ℕ) (a b : Output)
+    → Stands quoted v → a.cursor.column + (2 + length (standing quoted v)) ≤ page.width
+    → Puts a b (letters (m ∷ 32 ∷ standing quoted v))
+    → Puts a b (char m ▹ standing_text quoted page flow v)
+puts_led quoted page flow m v a b t w p = puts_as a b (letters (m ∷ 32 ∷ standing quoted v)) (char m ▹ standing_text quoted page flow v) (λ rest. behind_at quoted page flow m v a.cursor rest t w) p
 
 not_past : (width k n : ℕ) → k + (2 + n) ≤ width → nat_lt width (k + 1) ≡ false
 not_past width k n h = grind (arith, nat_tests, h)
 
-wrapped_at : (page : Page) (flow : Bool) (m : ℕ) (v : List ℕ) (b : LineBreak) (n : ℕ) (c : Cursor)
-    (rest : Rest) → IsTame v → c.column + (2 + length v) ≤ page.width
-    → (char m ▹ (wrap page.width b n ▹ plain page flow (chars v))) c rest
-    ≡ letters (m ∷ 32 ∷ v) c rest
+wrapped_at : (quoted : Bool) (page : Page) (flow : Bool) (m : ℕ) (v : List ℕ) (b : LineBreak)
+    (n : ℕ) (c : Cursor) (rest : Rest) → Stands quoted v
+    → c.column + (2 + length (standing quoted v)) ≤ page.width
+    → (char m ▹ (wrap page.width b n ▹ standing_text quoted page flow v)) c rest
+    ≡ letters (m ∷ 32 ∷ standing quoted v) c rest
 unfolding letters
-wrapped_at page flow m v b n c rest t w =
+wrapped_at quoted page flow m v b n c rest t w =
     let d : Cursor = record { column = c.column + 1; white = false; bare = false; kept = c.kept } in
-    ap (λ (z : List Item). letter m ∷ z) (cond_false (nat_lt page.width (c.column + 1)) _ _ (not_past page.width c.column (length v) w) ∙ parted_at page flow v d rest t refl (omega (arith, w)))
+    ap (λ (z : List Item). letter m ∷ z) (cond_false (nat_lt page.width (c.column + 1)) _ _ (not_past page.width c.column (length (standing quoted v)) w) ∙ standing_behind quoted page flow v d rest t refl (omega (arith, w)))
 
 -- behind a character and what may be a line
-pub puts_wrapped : (page : Page) (flow : Bool) (m : ℕ) (v : List ℕ) (k : LineBreak) (n : ℕ)
-    (a b : Output) → IsTame v → a.cursor.column + (2 + length v) ≤ page.width
-    → Puts a b (letters (m ∷ 32 ∷ v))
-    → Puts a b (char m ▹ (wrap page.width k n ▹ plain page flow (chars v)))
-puts_wrapped page flow m v k n a b t w p = puts_as a b (letters (m ∷ 32 ∷ v)) (char m ▹ (wrap page.width k n ▹ plain page flow (chars v))) (λ rest. wrapped_at page flow m v k n a.cursor rest t w) p
+pub puts_wrapped : (quoted : Bool) (page : Page) (flow : Bool) (m : ℕ) (v : List ℕ) (k : LineBreak)
+    (n : ℕ) (a b : Output) → Stands quoted v
+    → a.cursor.column + (2 + length (standing quoted v)) ≤ page.width
+    → Puts a b (letters (m ∷ 32 ∷ standing quoted v))
+    → Puts a b (char m ▹ (wrap page.width k n ▹ standing_text quoted page flow v))
+puts_wrapped quoted page flow m v k n a b t w p = puts_as a b (letters (m ∷ 32 ∷ standing quoted v)) (char m ▹ (wrap page.width k n ▹ standing_text quoted page flow v)) (λ rest. wrapped_at quoted page flow m v k n a.cursor rest t w) p
 
-item_at : (page : Page) (flow : Bool) (m : ℕ) (v : List ℕ) (c : Cursor) (rest : Rest) → IsTame v
-    → c.white ≡ true → c.column + (2 + length v) ≤ page.width
-    → (indicator m ▹ plain page flow (chars v)) c rest ≡ letters (m ∷ 32 ∷ v) c rest
+item_at : (quoted : Bool) (page : Page) (flow : Bool) (m : ℕ) (v : List ℕ) (c : Cursor)
+    (rest : Rest) → Stands quoted v → c.white ≡ true
+    → c.column + (2 + length (standing quoted v)) ≤ page.width
+    → (indicator m ▹ standing_text quoted page flow v) c rest
+    ≡ letters (m ∷ 32 ∷ standing quoted v) c rest
 unfolding letters
-item_at page flow m v c rest t g w =
+item_at quoted page flow m v c rest t g w =
     let d : Cursor = record { column = c.column + 1; white = false; bare = c.bare; kept = c.kept } in
-    cond_true c.white _ _ g ∙ ap (λ (z : List Item). letter m ∷ z) (parted_at page flow v d rest t refl (omega (arith, w)))
+    cond_true c.white _ _ g ∙ ap (λ (z : List Item). letter m ∷ z) (standing_behind quoted page flow v d rest t refl (omega (arith, w)))
 
--- behind a block indicator, in front of which no space is due
-pub puts_item : (page : Page) (flow : Bool) (m : ℕ) (v : List ℕ) (a b : Output) → IsTame v
-    → a.cursor.white ≡ true → a.cursor.column + (2 + length v) ≤ page.width
-    → Puts a b (letters (m ∷ 32 ∷ v))
-    → Puts a b (indicator m ▹ plain page flow (chars v))
-puts_item page flow m v a b t g w p = puts_as a b (letters (m ∷ 32 ∷ v)) (indicator m ▹ plain page flow (chars v)) (λ rest. item_at page flow m v a.cursor rest t g w) p
+-- at the start of a line
+pub puts_line_item : (quoted : Bool) (page : Page) (flow : Bool) (m : ℕ) (v : List ℕ)
+    (k : LineBreak) (n : ℕ) (a b : Output) → Stands quoted v
+    → n + (2 + length (standing quoted v)) ≤ page.width
+    → Puts a b (line k n ▹ letters (m ∷ 32 ∷ standing quoted v))
+    → Puts a b (line k n ▹ (indicator m ▹ standing_text quoted page flow v))
+puts_line_item quoted page flow m v k n a b t w p =
+    puts_as a b (line k n ▹ letters (m ∷ 32 ∷ standing quoted v)) (line k n ▹ (indicator m ▹ standing_text quoted page flow v))
+    (λ rest. line_lands k n (indicator m ▹ standing_text quoted page flow v) (letters (m ∷ 32 ∷ standing quoted v)) rest (λ kept. item_at quoted page flow m v (record { column = n; white = true; bare = true; kept = kept }) rest t refl w) a.cursor) p
 
--- with nothing behind it
-pub puts_alone : (v : List ℕ) (a b : Output) → Puts a b (letters (v ++ [])) → Puts a b (letters v)
-puts_alone v a b p = let P : List ℕ → Type 0 = λ t. Puts a b (letters t) in subst P (append-nil v) p
+-- the same without a character in front
+pub puts_line_key : (quoted : Bool) (page : Page) (flow : Bool) (v : List ℕ) (k : LineBreak) (n : ℕ)
+    (a b : Output) → Stands quoted v → n + length (standing quoted v) ≤ page.width
+    → Puts a b (line k n ▹ letters (standing quoted v))
+    → Puts a b (line k n ▹ standing_text quoted page flow v)
+puts_line_key quoted page flow v k n a b t w p =
+    puts_as a b (line k n ▹ letters (standing quoted v)) (line k n ▹ standing_text quoted page flow v)
+    (λ rest. line_lands k n (standing_text quoted page flow v) (letters (standing quoted v)) rest (λ kept. standing_at quoted page flow v (record { column = n; white = true; bare = true; kept = kept }) rest t refl w) a.cursor) p
 
-pub puts_behind : (m : ℕ) (v : List ℕ) (a b : Output) → Puts a b (letters (m ∷ 32 ∷ (v ++ [])))
-    → Puts a b (letters (m ∷ 32 ∷ v))
-puts_behind m v a b p = let P : List ℕ → Type 0 = λ t. Puts a b (letters (m ∷ 32 ∷ t)) in subst P (append-nil v) p
+-- ---- its bytes, behind some others
+
+-- what stands beside it
+abbrev beside : Bool → List ℕ → List ℕ → List ℕ
+beside quoted plain framed = if quoted then framed else plain
+
+pub size_by : (v : List ℕ) → length v + 2 ≡ length (34 ∷ (v ++ 34 ∷ []))
+size_by v = let more = length-append v (34 ∷ []) in omega (arith, more)
+
+pub standing_few : (quoted : Bool) (pre framed f e : List ℕ) → f ≡ beside quoted pre framed
+    → e ≡ beside quoted [] (34 ∷ []) → framed ≡ pre ++ 34 ∷ [] → length pre ≤ 2
+    → length f + length e ≤ 8
+standing_few true pre framed f e p q r l =
+    let front : f ≡ pre ++ 34 ∷ [] = p ∙ r in
+    let behind : e ≡ 34 ∷ [] = q in
+    let more = length-append pre (34 ∷ []) in
+    rw (front, behind) (omega (arith, l, more))
+standing_few false pre framed f e p q r l =
+    let front : f ≡ pre = p in
+    let behind : e ≡ [] = q in
+    rw (front, behind) (omega (arith, l))
+
+pub standing_some : (quoted : Bool) (pre framed f v : List ℕ) → f ≡ beside quoted pre framed
+    → framed ≡ pre ++ 34 ∷ [] → Stands quoted v → 0 < length f + length v
+standing_some true pre framed f v p r t =
+    let front : f ≡ pre ++ 34 ∷ [] = p ∙ r in
+    let more = length-append pre (34 ∷ []) in
+    rw front (omega (arith, more))
+standing_some false pre framed f v p r t = let some = tame_some v t in omega (arith, some)
+
+joined_is : (quoted : Bool) (pre framed f v e : List ℕ) → f ≡ beside quoted pre framed
+    → e ≡ beside quoted [] (34 ∷ []) → framed ≡ pre ++ 34 ∷ []
+    → f ++ (v ++ e) ≡ pre ++ standing quoted v
+joined_is true pre framed f v e p q r =
+    let front : f ≡ pre ++ 34 ∷ [] = p ∙ r in
+    let behind : e ≡ 34 ∷ [] = q in
+    rw (front, behind) (append_assoc pre (34 ∷ []) (v ++ 34 ∷ []))
+joined_is false pre framed f v e p q r =
+    let front : f ≡ pre = p in
+    let behind : e ≡ [] = q in
+    rw (front, behind) (ap (λ (t : List ℕ). pre ++ t) (append-nil v))
+
+bytes_ascii : (quoted : Bool) (v : List ℕ) → Stands quoted v → IsAscii (standing quoted v)
+bytes_ascii true v t = even_ascii v t
+bytes_ascii false v t = calm_ascii 0 v t.calm
+
+pub standing_ascii : (quoted : Bool) (pre framed f v e : List ℕ) → f ≡ beside quoted pre framed
+    → e ≡ beside quoted [] (34 ∷ []) → framed ≡ pre ++ 34 ∷ [] → IsAscii pre → Stands quoted v
+    → IsAscii (f ++ (v ++ e))
+standing_ascii quoted pre framed f v e p q r a t =
+    let P : List ℕ → Type 0 = λ z. IsAscii z in
+    subst P (sym (joined_is quoted pre framed f v e p q r)) (IsAscii-append pre (standing quoted v) a (bytes_ascii quoted v t))
+
+pub puts_standing : (quoted : Bool) (pre framed f v e : List ℕ) (a b : Output)
+    → f ≡ beside quoted pre framed → e ≡ beside quoted [] (34 ∷ []) → framed ≡ pre ++ 34 ∷ []
+    → Puts a b (letters (f ++ (v ++ e))) → Puts a b (letters (pre ++ standing quoted v))
+puts_standing quoted pre framed f v e a b p q r put =
+    let P : List ℕ → Type 0 = λ t. Puts a b (letters t) in
+    subst P (joined_is quoted pre framed f v e p q r) put
+
+pub lead_framed : (item : Bool) (pre framed : List ℕ) → pre ≡ beside item [] (45 ∷ 32 ∷ [])
+    → framed ≡ beside item (34 ∷ []) (45 ∷ 32 ∷ 34 ∷ []) → framed ≡ pre ++ 34 ∷ []
+lead_framed true pre framed p q = q ∙ ap (λ (t : List ℕ). t ++ 34 ∷ []) (sym p)
+lead_framed false pre framed p q = q ∙ ap (λ (t : List ℕ). t ++ 34 ∷ []) (sym p)
+
+pub lead_few : (item : Bool) (pre : List ℕ) → pre ≡ beside item [] (45 ∷ 32 ∷ []) → length pre ≤ 2
+lead_few true pre p = let e : pre ≡ 45 ∷ 32 ∷ [] = p in rw e (omega arith)
+lead_few false pre p = let e : pre ≡ [] = p in rw e (omega arith)
+
+pub lead_ascii : (item : Bool) (pre : List ℕ) → pre ≡ beside item [] (45 ∷ 32 ∷ []) → IsAscii pre
+lead_ascii true pre p = let P : List ℕ → Type 0 = λ z. IsAscii z in subst P (sym p) (IsAscii-cons 45 (32 ∷ []) (omega arith) (IsAscii-cons 32 [] (omega arith) IsAscii-nil))
+lead_ascii false pre p = let P : List ℕ → Type 0 = λ z. IsAscii z in subst P (sym p) IsAscii-nil
+
+lead_is : (item : Bool) (pre : List ℕ) → pre ≡ beside item [] (45 ∷ 32 ∷ []) → pre ≡ lead item
+lead_is true pre p = p
+lead_is false pre p = p
+
+pub puts_behind_line : (item quoted : Bool) (pre framed f v e : List ℕ) (k : LineBreak) (n : ℕ)
+    (a b : Output) → pre ≡ beside item [] (45 ∷ 32 ∷ []) → f ≡ beside quoted pre framed
+    → e ≡ beside quoted [] (34 ∷ []) → framed ≡ pre ++ 34 ∷ []
+    → Puts a b (line k n ▹ letters (f ++ (v ++ e)))
+    → Puts a b (line k n ▹ letters (lead item ++ standing quoted v))
+puts_behind_line item quoted pre framed f v e k n a b l p q r put =
+    let P : List ℕ → Type 0 = λ t. Puts a b (line k n ▹ letters t) in
+    subst P (joined_is quoted pre framed f v e p q r ∙ ap (λ (t : List ℕ). t ++ standing quoted v) (lead_is item pre l)) put

@@ -10,4 +10,5 @@ mod RunWalks
 mod SolidLemmas
 pub mod Ranks
 mod Tame
+mod Even
 pub mod Bare

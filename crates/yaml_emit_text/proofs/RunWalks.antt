@@ -273,7 +273,7 @@ last_calm before last bs xs text t l = ap (last_or before) t ∙ last_append bef
 
 -- a text of calm bytes that fits its line
 
-free : (x y : Bool) → (not x || (not y || true)) ≡ true
+pub free : (x y : Bool) → (not x || (not y || true)) ≡ true
 free true true = refl
 free true false = refl
 free false y = refl

@@ -25,6 +25,11 @@ unfoldable pub is_solid : ℕ → Bool
 is_solid b = nat_le ascii.exclamation b
     && (nat_le b ascii.tilde && (not (b == ascii.quote) && not (b == ascii.backslash)))
 
+-- it stands as it is between double quotes in one line: the same, or a space
+unfoldable pub is_even : ℕ → Bool
+is_even b = nat_le ascii.space b
+    && (nat_le b ascii.tilde && (not (b == ascii.quote) && not (b == ascii.backslash)))
+
 -- in double quotes
 abbrev pub quoted_bounds : Page → Bounds
 quoted_bounds page =

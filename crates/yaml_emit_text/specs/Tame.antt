@@ -1,8 +1,15 @@
--- Texts that allow every style, and are written as they are where they fit their line.
-use Rattle.std.specs.Prelude.{◌≡◌, ℕ, List, Bool, true, false}
+-- Texts that are written as they are where they fit their line: plain ones, which allow every style, and ones in double quotes.
+use Rattle.std.specs.Prelude.{◌≡◌, ℕ, List, [], ◌∷◌, ◌++◌, Bool, true, false}
+use Rattle.std.specs.List.{list_all}
+use Rattle.std.specs.Str.{chars}
+use Rattle.yaml_types.specs.Ascii as ascii
 use Rattle.yaml_types.specs.declared.yaml_scalar_style_t.{yaml_scalar_style_t}
 use Rattle.yaml_types.specs.declared.yaml_scalar_style_t.TheVariants as asked
-use Rattle.yaml_emit_text.specs.Runs.{all_pass, calm}
+use Rattle.yaml_emit_sink.specs.Layout.{Layout}
+use Rattle.yaml_emit_text.specs.declared.page.Page.{Page}
+use Rattle.yaml_emit_text.specs.Quoted.{double_quoted}
+use Rattle.yaml_emit_text.specs.Runs.{all_pass, calm, is_even}
+use Rattle.yaml_emit_text.specs.Scalars.{plain}
 use Rattle.yaml_emit_text.specs.Style.{ends_in_space, starts_badly}
 
 -- each byte is calm, and the text begins well and ends in no space
@@ -19,3 +26,23 @@ asks_plain asked.YAML_SINGLE_QUOTED_SCALAR_STYLE = false
 asks_plain asked.YAML_DOUBLE_QUOTED_SCALAR_STYLE = false
 asks_plain asked.YAML_LITERAL_SCALAR_STYLE = false
 asks_plain asked.YAML_FOLDED_SCALAR_STYLE = false
+
+-- it may stand in a line: plain, or in double quotes
+abbrev pub Stands : Bool → List ℕ → Type 0
+Stands false value = IsTame value
+Stands true value = list_all is_even value ≡ true
+
+-- its bytes there
+abbrev pub standing : Bool → List ℕ → List ℕ
+standing false value = value
+standing true value = ascii.quote ∷ (value ++ ascii.quote ∷ [])
+
+-- what is written for it, wherever it stands
+abbrev pub standing_text : Bool → Page → Bool → List ℕ → Layout
+standing_text false page flow value = plain page flow (chars value)
+standing_text true page flow value = double_quoted page (chars value)
+
+-- what stands in front of an item at the start of its line, and of a key
+abbrev pub lead : Bool → List ℕ
+lead true = ascii.hyphen ∷ ascii.space ∷ []
+lead false = []

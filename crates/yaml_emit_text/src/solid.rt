@@ -7,7 +7,7 @@ ghost use Rattle.std.specs.Str.{chars};
 ghost use Rattle.yaml_emit_sink.specs.Sink.{Puts};
 ghost use Rattle.yaml_emit_sink.specs.Layout.{◌▹◌, when, word};
 ghost use Rattle.yaml_emit_text.specs.Quoted.{double_quoted};
-ghost use Rattle.yaml_emit_text.specs.Runs.{is_solid};
+ghost use Rattle.yaml_emit_text.specs.Runs.{is_even, is_solid};
 
 use crate::page::Page;
 use yaml_emit_sink::Sink;
@@ -33,6 +33,32 @@ pub fn are_solid(value: &[u8]) -> bool
 {
     for i in 0..value.len() {
         if !is_solid(value[i]) {
+            return false;
+        }
+    }
+    true
+}
+
+// Whether a byte stands as it is between double quotes in one line.
+#[tactic(auto, unfolding(crate::specs::Runs::is_even))]
+fn is_even(byte: u8) -> bool
+    ensures { result ≡ is_even byte }
+{
+    if b'a' <= byte && byte <= b'z' {
+        true
+    } else {
+        b' ' <= byte && byte <= 126 && byte != b'"' && byte != b'\\'
+    }
+}
+
+/// Whether all bytes of a value stand as they are between double quotes in one line.
+// Inlined: a loop of a comparison a byte.
+#[inline(always)]
+pub fn are_even(value: &[u8]) -> bool
+    ensures { result ≡ list_all is_even value.now }
+{
+    for i in 0..value.len() {
+        if !is_even(value[i]) {
             return false;
         }
     }

@@ -1,14 +1,14 @@
 //! Tame texts, which allow every style and are written as they are where they fit their line: most scalars are.
 
-ghost use Rattle.std.specs.Prelude.{◌≡◌, ◌<◌, ◌≤◌, ◌+◌, ◌∷◌, length, Bool, true, false, IsUtf8};
+ghost use Rattle.std.specs.Prelude.{◌≡◌, ◌<◌, ◌≤◌, ◌+◌, ◌^◌, ◌∷◌, ◌++◌, [], length, if◌then◌else◌, Bool, true, false, IsUtf8};
 ghost use Rattle.yaml_types.specs.Ascii as ascii;
-ghost use Rattle.std.specs.Str.{chars};
+ghost use Rattle.std.specs.Str.{chars, IsAscii};
 ghost use Rattle.yaml_emit_sink.specs.Sink.{Puts};
-ghost use Rattle.yaml_emit_sink.specs.Layout.{letters};
+ghost use Rattle.yaml_emit_sink.specs.Layout.{◌▹◌, letters, line};
 ghost use Rattle.yaml_emit_text.specs.Runs.{all_pass, calm};
 ghost use Rattle.yaml_emit_text.specs.Scalars.{flow_body, plain, scalar_text};
 ghost use Rattle.yaml_emit_text.specs.Style.{allowed, ends_in_space, starts_badly};
-ghost use Rattle.yaml_emit_text.specs.Tame.{IsTame};
+ghost use Rattle.yaml_emit_text.specs.Tame.{IsTame, Stands, standing, lead};
 
 use crate::flow::put_flow_body;
 use crate::letters::text;
@@ -16,7 +16,7 @@ use crate::page::{Allowed, Page, Style};
 use crate::run::are_calm;
 use crate::scalar::put_styled;
 use crate::style::{allowed_for, begins_well};
-use yaml_emit_sink::Sink;
+use yaml_emit_sink::{LineBreak, Sink};
 
 // Whether a text begins with a letter or a digit.
 fn starts_well(value: &[u8]) -> bool
@@ -135,33 +135,80 @@ pub fn put_tame(sink: &mut Sink, page: Page, digit: u64, flow: bool, style: Styl
     }
 }
 
-/// Whether so many characters and a text behind them end within the width.
+// What stands beside a text, by whether that stands in quotes.
+// Inlined: it is known.
+#[inline(always)]
+fn beside<'a>(quoted: bool, plain: &'a [u8], framed: &'a [u8]) -> &'a [u8]
+    ensures { result.now ≡ (if quoted then framed.now else plain.now) }
+{
+    if quoted { framed } else { plain }
+}
+
+// How many characters a text takes, plain or in quotes.
+// Inlined: a length.
+#[inline(always)]
+fn standing_size(quoted: bool, value: &[u8]) -> u64
+    ensures size { result ≡ length (standing quoted value.now) }
+    ensures small { result + 8 < 2 ^ 64 }
+{
+    if quoted {
+        value.len() as u64 + 2
+    } else {
+        value.len() as u64
+    }
+}
+
+/// Whether so many characters behind the column, and a text plain or in quotes behind them, end within the width.
 // Inlined: two comparisons.
 #[inline(always)]
-pub fn fits(sink: &Sink, width: u64, before: u64, value: &[u8]) -> bool
+pub fn fits(width: u64, column: u64, before: u64, quoted: bool, value: &[u8]) -> bool
     requires { before ≤ 8 }
-    ensures { result ≡ true → sink.now.cursor.column + (before + length value.now) ≤ width }
+    ensures { result ≡ true → column + (before + length (standing quoted value.now)) ≤ width }
 {
-    is_within(width, sink.cursor().column, before + value.len() as u64)
+    is_within(width, column, before + standing_size(quoted, value))
 }
 
-/// A tame text, without a space in front.
-// Out of line: few registers are needed.
-#[inline(never)]
-pub fn put_lone(sink: &mut Sink, value: &[u8])
-    requires { IsTame value.now }
-    ensures { Puts sink.old sink.new (letters value.now) }
+/// A text that may stand in a line, plain or in quotes, behind at most two characters, which are given without and with the quote.
+// Inlined: the numbers are known.
+#[inline(always)]
+pub fn put_standing(sink: &mut Sink, front: &[u8], framed: &[u8], quoted: bool, value: &[u8])
+    requires few { length front.now ≤ 2 }
+    requires ascii { IsAscii front.now }
+    requires framed { framed.now ≡ front.now ++ ascii.quote ∷ [] }
+    requires stands { Stands quoted value.now }
+    ensures { Puts sink.old sink.new (letters (front.now ++ standing quoted value.now)) }
 {
-    sink.put_joined(b"", value, b"");
+    sink.put_joined(
+        beside(quoted, front, framed),
+        value,
+        beside(quoted, b"", b"\""),
+    );
 }
 
-/// A tame text behind a character in ASCII, with a space between.
-// Out of line: few registers are needed.
-#[inline(never)]
-pub fn put_led(sink: &mut Sink, mark: u8, value: &[u8])
-    requires one { mark < 128 }
-    requires tame { IsTame value.now }
-    ensures { Puts sink.old sink.new (letters (mark ∷ ascii.space ∷ value.now)) }
+/// The same at the start of a line, by whether it is an item.
+// Inlined: the numbers are known.
+#[inline(always)]
+pub fn put_in_line(
+    sink: &mut Sink,
+    line_break: LineBreak,
+    indent: u64,
+    item: bool,
+    quoted: bool,
+    value: &[u8],
+)
+    requires { Stands quoted value.now }
+    ensures { Puts sink.old sink.new (line line_break indent
+        ▹ letters (lead item ++ standing quoted value.now)) }
 {
-    sink.put_joined(&[mark, b' '], value, b"");
+    sink.put_lined(
+        line_break,
+        indent,
+        beside(
+            quoted,
+            beside(item, b"", b"- "),
+            beside(item, b"\"", b"- \""),
+        ),
+        value,
+        beside(quoted, b"", b"\""),
+    );
 }

@@ -1,5 +1,6 @@
 //! What is written for an event.
-ghost use Rattle.std.specs.Prelude.{◌≡◌, Bool, true, false, map, IsUtf8};
+ghost use Rattle.std.specs.Prelude.{if◌then◌else◌, ◌≡◌, Bool, true, false, map, IsUtf8};
+ghost use Rattle.yaml_types.specs.Ascii as ascii;
 ghost use Rattle.std.specs.Str.{IsAscii};
 ghost use Rattle.yaml_parse_model.specs.Events.{body_of, text_of};
 ghost use Rattle.yaml_parse_model.specs.Constructors.{HasUtf8};
@@ -125,10 +126,19 @@ fn put_any_node(
     );
 }
 
+// The bracket that opens a sequence or a mapping.
+// Inlined: which it is is known.
+#[inline(always)]
+pub(super) fn opening_bracket(sequence: bool) -> char
+    ensures { result ≡ (if sequence then ascii.open_bracket else ascii.open_brace) }
+{
+    if sequence { '[' } else { '{' }
+}
+
 // What opens a collection in the innermost one, with what comes before it.
 // Inlined: where the form is known it is short.
 #[inline(always)]
-fn put_start_node(
+pub(super) fn put_start_node(
     sink: &mut Sink,
     context: &Context,
     top: &Option<Level>,

@@ -1,221 +1,326 @@
-//! Laying out one event in pretty form: a way for each kind that is met much, and short ones for bare scalars and for
-//! those in double quotes.
-ghost use Rattle.std.specs.Prelude.{◌≡◌, Bool, Some, true, false, IsUtf8};
+//! Laying out one event in pretty form: a way for each kind that is met much, and short ones for scalars that stand as they are in
+//! their line, plain or in double quotes.
+ghost use Rattle.std.specs.Prelude.{◌≡◌, ℕ, Bool, Some, true, false, nat_le};
+ghost use Rattle.yaml_types.specs.Ascii as ascii;
 ghost use Rattle.yaml_parse_model.specs.Constructors.{HasUtf8};
-ghost use Rattle.yaml_emit_text.specs.Tame.{IsTame};
+ghost use Rattle.yaml_emit_text.specs.Tame.{Stands};
+ghost use Rattle.yaml_emit_text.specs.Layout.{◌▹◌, char};
+ghost use Rattle.yaml_emit_layout.specs.declared.NodePosition.{NodePosition};
+ghost use Rattle.yaml_emit_state.specs.Bare.{first_behind};
+ghost use Rattle.yaml_emit_layout.specs.Nodes.{MOST, deeper, comma, wrap_at, line_at};
 
 use super::Core;
-use crate::bare::{is_bare, is_framed, is_shallow, put_bare_item, put_bare_key, put_bare_value};
-use crate::given::Scalar;
+use crate::bare::{is_bare, is_framed, is_near, is_shallow, is_there};
 use yaml_emit_layout::{Level, Phase};
-use yaml_emit_text::is_tame;
+use yaml_emit_text::{fits, put_in_line, put_standing};
 use yaml_parse_model::yaml_event_body_t;
-use yaml_scan_model::yaml_scalar_style_t;
+
+// The phase behind what stands first in its line, an item or a key.
+// Inlined: it is known.
+#[inline(always)]
+fn first_behind(item: bool) -> Phase
+    ensures { result ≡ first_behind item }
+{
+    if item {
+        Phase::Items(false)
+    } else {
+        Phase::Value(true)
+    }
+}
 
 impl Core {
     ghost use Rattle.yaml_parse_model.specs.Events.{body_of};
     ghost use Rattle.yaml_emit_layout.specs.declared.Expected.TheVariants as at;
     ghost use Rattle.yaml_emit_layout.specs.Content.{Scalar as SaidScalar, emitter_event, scalar, sequence_end, mapping_end};
     ghost use Rattle.yaml_emit_layout.specs.State.{top_of};
-    ghost use Rattle.yaml_emit_state.specs.Bare.{IsBare, IsBareEvent, IsFramedEvent, is_shallow};
-    ghost use Rattle.yaml_emit_state.specs.Given.{quoted_text};
+    ghost use Rattle.yaml_emit_state.specs.Bare.{IsInline, IsInlineEvent, is_shallow, short_text, short_node, hyphen, first_behind, Places};
     ghost use Rattle.yaml_emit_state.specs.Stack.{stack_of};
     ghost use Rattle.yaml_emit_state.specs.Steps.{LaysOut};
 
-    // A bare scalar that is an item.
-    // Inlined: mostly it is a few bytes.
+    // A short scalar that is the first in a flow collection, where no space is due and it fits the line.
+    // Inlined: three tests in front of some stores.
     #[inline(always)]
-    fn lay_bare_item(&mut self, level: Level, fresh: bool, value: &[u8])
-        requires utf8 { IsUtf8 value.now }
-        requires tame { IsTame value.now }
-        requires form { self.old.settings.canonical ≡ false }
-        requires due { self.old.place ≡ at.Node }
-        requires top { Some level ≡ top_of (stack_of self.old.levels) }
-        requires shallow { is_shallow self.old.settings (Some level) ≡ true }
-        requires phase { level.phase ≡ Phase.Items fresh }
-        ensures { (x : SaidScalar) (empty : Bool) → IsBare x → x.value ≡ value.now
-            → LaysOut self.old self.new (scalar x) empty }
+    fn place_first(&mut self, behind: Phase, quoted: bool, value: &[u8]) -> bool
+        requires { Stands quoted value.now }
+        ensures placed { result ≡ true → (at : NodePosition) (n : ℕ)
+            → nat_le (deeper self.old.settings at.around) MOST ≡ true
+            → Places self.old self.new behind (wrap_at self.old.settings n
+            ▹ short_text self.old.settings quoted at value.now) }
+        ensures same { result ≡ false → self.new ≡ self.old }
     {
-        put_bare_item(
-            &mut self.sink,
-            &self.settings,
-            level.flow,
-            level.indent,
-            fresh,
-            value,
-        );
-        self.turn_to(Phase::Items(false));
+        if is_there(&self.sink, &self.settings, quoted, value) {
+            self.turn_to(behind);
+            put_standing(&mut self.sink, b"", b"\"", quoted, value);
+            true
+        } else {
+            false
+        }
     }
 
-    // A bare scalar that is a key.
-    // Inlined: mostly it is a few bytes.
+    // Another one, where it fits the line.
+    // Inlined: two tests in front of some stores.
     #[inline(always)]
-    fn lay_bare_key(&mut self, level: Level, fresh: bool, value: &[u8])
-        requires utf8 { IsUtf8 value.now }
-        requires tame { IsTame value.now }
-        requires form { self.old.settings.canonical ≡ false }
-        requires due { self.old.place ≡ at.Node }
-        requires top { Some level ≡ top_of (stack_of self.old.levels) }
-        requires shallow { is_shallow self.old.settings (Some level) ≡ true }
-        requires phase { level.phase ≡ Phase.Keys fresh }
-        ensures { (x : SaidScalar) (empty : Bool) → IsBare x → x.value ≡ value.now
-            → LaysOut self.old self.new (scalar x) empty }
+    fn place_next(&mut self, behind: Phase, quoted: bool, value: &[u8]) -> bool
+        requires { Stands quoted value.now }
+        ensures placed { result ≡ true → (at : NodePosition) (n : ℕ)
+            → nat_le (deeper self.old.settings at.around) MOST ≡ true
+            → Places self.old self.new behind (char ascii.comma ▹ (wrap_at self.old.settings n
+            ▹ short_text self.old.settings quoted at value.now)) }
+        ensures same { result ≡ false → self.new ≡ self.old }
     {
-        put_bare_key(
-            &mut self.sink,
-            &self.settings,
-            level.flow,
-            level.indent,
-            fresh,
-            value,
-        );
-        self.turn_to(Phase::Value(true));
+        if is_near(&self.sink, &self.settings, quoted, value) {
+            self.turn_to(behind);
+            put_standing(&mut self.sink, b", ", b", \"", quoted, value);
+            true
+        } else {
+            false
+        }
     }
 
-    // A bare scalar that is a value.
-    // Inlined: mostly it is a few bytes.
+    // A short scalar in a flow collection.
+    // Inlined: a test between two short ways.
     #[inline(always)]
-    fn lay_bare_value(&mut self, level: Level, was_simple: bool, value: &[u8])
-        requires utf8 { IsUtf8 value.now }
-        requires tame { IsTame value.now }
-        requires form { self.old.settings.canonical ≡ false }
-        requires due { self.old.place ≡ at.Node }
-        requires top { Some level ≡ top_of (stack_of self.old.levels) }
-        requires shallow { is_shallow self.old.settings (Some level) ≡ true }
-        requires phase { level.phase ≡ Phase.Value was_simple }
-        ensures { (x : SaidScalar) (empty : Bool) → IsBare x → x.value ≡ value.now
-            → LaysOut self.old self.new (scalar x) empty }
+    fn place_in_flow(&mut self, fresh: bool, behind: Phase, quoted: bool, value: &[u8]) -> bool
+        requires { Stands quoted value.now }
+        ensures placed { result ≡ true → (at : NodePosition) (n : ℕ)
+            → nat_le (deeper self.old.settings at.around) MOST ≡ true
+            → Places self.old self.new behind ((comma fresh ▹ wrap_at self.old.settings n)
+            ▹ short_text self.old.settings quoted at value.now) }
+        ensures same { result ≡ false → self.new ≡ self.old }
     {
-        put_bare_value(
-            &mut self.sink,
-            &self.settings,
-            level.flow,
-            level.indent,
-            was_simple,
-            value,
-        );
-        self.turn_to(Phase::Keys(false));
+        if fresh {
+            self.place_first(behind, quoted, value)
+        } else {
+            self.place_next(behind, quoted, value)
+        }
     }
 
-    // A bare scalar in the innermost collection.
-    // Inlined: one look at the phase.
+    // A short scalar that is an item, where it fits the line.
+    // Inlined: mostly it is a few bytes.
     #[inline(always)]
-    fn lay_bare_in(&mut self, level: Level, value: &[u8])
-        requires utf8 { IsUtf8 value.now }
-        requires tame { IsTame value.now }
+    fn place_item(&mut self, level: Level, fresh: bool, quoted: bool, value: &[u8]) -> bool
+        requires stands { Stands quoted value.now }
+        requires form { self.old.settings.canonical ≡ false }
+        requires shallow { is_shallow self.old.settings (Some level) ≡ true }
+        ensures placed { result ≡ true → Places self.old self.new (Phase.Items false)
+            (short_node self.old.settings quoted (Phase.Items fresh) level.flow level.indent false
+            value.now) }
+        ensures same { result ≡ false → self.new ≡ self.old }
+    {
+        if level.flow {
+            self.place_in_flow(fresh, Phase::Items(false), quoted, value)
+        } else {
+            self.place_at_line(level.indent, true, quoted, value)
+        }
+    }
+
+    // A short scalar at the start of a line of a block collection, an item or a key, where it fits the line.
+    // Inlined: a test in front of some stores.
+    #[inline(always)]
+    fn place_at_line(&mut self, indent: u64, item: bool, quoted: bool, value: &[u8]) -> bool
+        requires { Stands quoted value.now }
+        ensures placed { result ≡ true → (at : NodePosition)
+            → nat_le (deeper self.old.settings at.around) MOST ≡ true
+            → Places self.old self.new (first_behind item) (line_at self.old.settings indent
+            ▹ (hyphen item ▹ short_text self.old.settings quoted at value.now)) }
+        ensures same { result ≡ false → self.new ≡ self.old }
+    {
+        if fits(self.settings.width, indent, 2, quoted, value) {
+            let line_break = self.settings.line_break;
+            self.turn_to(first_behind(item));
+            put_in_line(&mut self.sink, line_break, indent, item, quoted, value);
+            true
+        } else {
+            false
+        }
+    }
+
+    // A short scalar that is a key, where it fits the line.
+    // Inlined: mostly it is a few bytes.
+    #[inline(always)]
+    fn place_key(&mut self, level: Level, fresh: bool, quoted: bool, value: &[u8]) -> bool
+        requires stands { Stands quoted value.now }
+        requires form { self.old.settings.canonical ≡ false }
+        requires shallow { is_shallow self.old.settings (Some level) ≡ true }
+        ensures placed { result ≡ true → Places self.old self.new (Phase.Value true)
+            (short_node self.old.settings quoted (Phase.Keys fresh) level.flow level.indent true
+            value.now) }
+        ensures same { result ≡ false → self.new ≡ self.old }
+    {
+        if level.flow {
+            self.place_in_flow(fresh, Phase::Value(true), quoted, value)
+        } else {
+            self.place_at_line(level.indent, false, quoted, value)
+        }
+    }
+
+    // A short scalar behind the colon of a simple key, where it fits the line.
+    // Inlined: two tests in front of some stores.
+    #[inline(always)]
+    fn place_simple(&mut self, quoted: bool, value: &[u8]) -> bool
+        requires { Stands quoted value.now }
+        ensures placed { result ≡ true → (at : NodePosition)
+            → nat_le (deeper self.old.settings at.around) MOST ≡ true
+            → Places self.old self.new (Phase.Keys false) (char ascii.colon
+            ▹ short_text self.old.settings quoted at value.now) }
+        ensures same { result ≡ false → self.new ≡ self.old }
+    {
+        if is_near(&self.sink, &self.settings, quoted, value) {
+            self.turn_to(Phase::Keys(false));
+            put_standing(&mut self.sink, b": ", b": \"", quoted, value);
+            true
+        } else {
+            false
+        }
+    }
+
+    // A short scalar that is a value: behind a simple key, where it fits the line.
+    // Inlined: mostly it is a few bytes.
+    #[inline(always)]
+    fn place_value(&mut self, level: Level, was_simple: bool, quoted: bool, value: &[u8]) -> bool
+        requires stands { Stands quoted value.now }
+        requires shallow { is_shallow self.old.settings (Some level) ≡ true }
+        ensures placed { result ≡ true → Places self.old self.new (Phase.Keys false)
+            (short_node self.old.settings quoted (Phase.Value was_simple) level.flow level.indent
+            false value.now) }
+        ensures same { result ≡ false → self.new ≡ self.old }
+    {
+        if was_simple {
+            self.place_simple(quoted, value)
+        } else {
+            false
+        }
+    }
+
+    // A bare scalar in the innermost collection, where it fits the line.
+    // Inlined into its one caller.
+    #[inline(always)]
+    fn place_bare_in(&mut self, level: Level, value: &[u8]) -> bool
+        requires stands { Stands false value.now }
         requires form { self.old.settings.canonical ≡ false }
         requires due { self.old.place ≡ at.Node }
         requires top { Some level ≡ top_of (stack_of self.old.levels) }
         requires shallow { is_shallow self.old.settings (Some level) ≡ true }
-        ensures { (x : SaidScalar) (empty : Bool) → IsBare x → x.value ≡ value.now
-            → LaysOut self.old self.new (scalar x) empty }
+        ensures laid { result ≡ true → (x : SaidScalar) (empty : Bool) → IsInline false x
+            → x.value ≡ value.now → LaysOut self.old self.new (scalar x) empty }
+        ensures same { result ≡ false → self.new ≡ self.old }
     {
         match level.phase {
-            Phase::Items(fresh) => self.lay_bare_item(level, fresh, value),
-            Phase::Keys(fresh) => self.lay_bare_key(level, fresh, value),
-            Phase::Value(was_simple) => self.lay_bare_value(level, was_simple, value),
+            Phase::Items(fresh) => self.place_item(level, fresh, false, value),
+            Phase::Keys(fresh) => self.place_key(level, fresh, false, value),
+            Phase::Value(was_simple) => self.place_value(level, was_simple, false, value),
         }
     }
 
     // The same, where a collection is open.
-    // Inlined: a collection is known to be open.
+    // Inlined into its one caller.
     #[inline(always)]
-    fn lay_bare(&mut self, value: &[u8])
-        requires utf8 { IsUtf8 value.now }
-        requires tame { IsTame value.now }
+    fn place_bare(&mut self, value: &[u8]) -> bool
+        requires stands { Stands false value.now }
         requires form { self.old.settings.canonical ≡ false }
         requires due { self.old.place ≡ at.Node }
         requires open { is_shallow self.old.settings (top_of (stack_of self.old.levels)) ≡ true }
-        ensures { (x : SaidScalar) (empty : Bool) → IsBare x → x.value ≡ value.now
-            → LaysOut self.old self.new (scalar x) empty }
+        ensures laid { result ≡ true → (x : SaidScalar) (empty : Bool) → IsInline false x
+            → x.value ≡ value.now → LaysOut self.old self.new (scalar x) empty }
+        ensures same { result ≡ false → self.new ≡ self.old }
     {
         let innermost = self.levels.top();
         match innermost {
-            None => (),
-            Some(level) => self.lay_bare_in(level, value),
+            None => false,
+            Some(level) => self.place_bare_in(level, value),
         }
     }
 
-    // An event that is known to be a bare scalar.
-    // Inlined: its kind is known.
-    #[inline(always)]
-    fn take_bare(&mut self, event: &mut yaml_event_body_t, empty: bool)
+    // An event that is known to be such a scalar: at once, or in the general way.
+    // Out of line: that it is plain is known in all that is inlined here.
+    #[inline(never)]
+    fn lay_bare(&mut self, event: &mut yaml_event_body_t, empty: bool)
         requires utf8 { HasUtf8 (body_of event.old) }
         requires form { self.old.settings.canonical ≡ false }
         requires due { self.old.place ≡ at.Node }
         requires open { is_shallow self.old.settings (top_of (stack_of self.old.levels)) ≡ true }
-        requires bare { IsBareEvent (emitter_event (body_of event.old)) }
+        requires short { IsInlineEvent false (emitter_event (body_of event.old)) }
         ensures { LaysOut self.old self.new (emitter_event (body_of event.old)) empty }
     {
         match event {
-            yaml_event_body_t::Scalar { value, .. } => self.lay_bare(value),
+            yaml_event_body_t::Scalar { value, .. } => {
+                if !self.place_bare(value) {
+                    self.lay_other_scalar(event, empty);
+                }
+            }
             _ => self.lay_any(event, empty),
         }
     }
 
-    // Whether an event is laid out by the short way.
-    // Inlined: some tests and a loop.
+    // A scalar in double quotes in the innermost collection, where it fits the line.
+    // Inlined into its one caller.
     #[inline(always)]
-    fn takes_bare(&self, event: &yaml_event_body_t) -> bool
-        ensures due { result ≡ true → self.now.place ≡ at.Node }
-        ensures open { result ≡ true
-            → is_shallow self.now.settings (top_of (stack_of self.now.levels)) ≡ true }
-        ensures bare { result ≡ true → IsBareEvent (emitter_event (body_of event.now)) }
-    {
-        self.awaits_node() && is_shallow(&self.settings, self.levels.innermost()) && is_bare(event)
-    }
-
-    // A text without properties that is asked to be in double quotes, where a node is due.
-    // Inlined into its one caller: most of what it is is known, and nothing else is asked.
-    #[inline(always)]
-    fn lay_framed(&mut self, value: &[u8], plain: bool)
-        requires utf8 { IsUtf8 value.now }
+    fn place_framed_in(&mut self, level: Level, value: &[u8]) -> bool
+        requires stands { Stands true value.now }
         requires form { self.old.settings.canonical ≡ false }
         requires due { self.old.place ≡ at.Node }
-        ensures { (empty : Bool) → LaysOut self.old self.new (scalar (quoted_text value.now plain))
-            empty }
+        requires top { Some level ≡ top_of (stack_of self.old.levels) }
+        requires shallow { is_shallow self.old.settings (Some level) ≡ true }
+        ensures laid { result ≡ true → (x : SaidScalar) (empty : Bool) → IsInline true x
+            → x.value ≡ value.now → LaysOut self.old self.new (scalar x) empty }
+        ensures same { result ≡ false → self.new ≡ self.old }
     {
-        let none = None;
-        let given = Scalar {
-            anchor: &none,
-            tag: &none,
-            value,
-            plain,
-            quoted: true,
-            style: yaml_scalar_style_t::YAML_DOUBLE_QUOTED_SCALAR_STYLE,
-            tame: is_tame(value),
-        };
-        self.put_known_scalar(&given, false);
+        match level.phase {
+            Phase::Items(fresh) => self.place_item(level, fresh, true, value),
+            Phase::Keys(fresh) => self.place_key(level, fresh, true, value),
+            Phase::Value(was_simple) => self.place_value(level, was_simple, true, value),
+        }
     }
 
-    // An event that is known to be such a text.
-    // Out of line: beside the short way of bare ones.
+    // The same, where a collection is open.
+    // Inlined into its one caller.
+    #[inline(always)]
+    fn place_framed(&mut self, value: &[u8]) -> bool
+        requires stands { Stands true value.now }
+        requires form { self.old.settings.canonical ≡ false }
+        requires due { self.old.place ≡ at.Node }
+        requires open { is_shallow self.old.settings (top_of (stack_of self.old.levels)) ≡ true }
+        ensures laid { result ≡ true → (x : SaidScalar) (empty : Bool) → IsInline true x
+            → x.value ≡ value.now → LaysOut self.old self.new (scalar x) empty }
+        ensures same { result ≡ false → self.new ≡ self.old }
+    {
+        let innermost = self.levels.top();
+        match innermost {
+            None => false,
+            Some(level) => self.place_framed_in(level, value),
+        }
+    }
+
+    // An event that is known to be such a scalar: at once, or in the general way.
+    // Out of line: that it is in quotes is known in all that is inlined here.
     #[inline(never)]
-    fn take_framed(&mut self, event: &mut yaml_event_body_t, empty: bool)
+    fn lay_framed(&mut self, event: &mut yaml_event_body_t, empty: bool)
         requires utf8 { HasUtf8 (body_of event.old) }
         requires form { self.old.settings.canonical ≡ false }
         requires due { self.old.place ≡ at.Node }
-        requires framed { IsFramedEvent (emitter_event (body_of event.old)) }
+        requires open { is_shallow self.old.settings (top_of (stack_of self.old.levels)) ≡ true }
+        requires short { IsInlineEvent true (emitter_event (body_of event.old)) }
         ensures { LaysOut self.old self.new (emitter_event (body_of event.old)) empty }
     {
         match event {
-            yaml_event_body_t::Scalar {
-                value,
-                plain_implicit,
-                ..
-            } => self.lay_framed(value, *plain_implicit),
+            yaml_event_body_t::Scalar { value, .. } => {
+                if !self.place_framed(value) {
+                    self.lay_other_scalar(event, empty);
+                }
+            }
             _ => self.lay_any(event, empty),
         }
     }
 
-    // Whether an event is such a text, where a node is due.
+    // Whether a short scalar may be laid out at once: a node is due, in a collection that isn't too deep.
     // Inlined: some tests.
     #[inline(always)]
-    fn takes_framed(&self, event: &yaml_event_body_t) -> bool
+    fn is_ready(&self) -> bool
         ensures due { result ≡ true → self.now.place ≡ at.Node }
-        ensures framed { result ≡ true → IsFramedEvent (emitter_event (body_of event.now)) }
+        ensures open { result ≡ true
+            → is_shallow self.now.settings (top_of (stack_of self.now.levels)) ≡ true }
     {
-        self.awaits_node() && is_framed(event)
+        self.awaits_node() && is_shallow(&self.settings, self.levels.innermost())
     }
 
     // A scalar, in the general way.
@@ -229,6 +334,25 @@ impl Core {
         self.lay_scalar(event, empty, false);
     }
 
+    // A scalar, where a node is due, in a collection that isn't too deep.
+    // Inlined into its one caller.
+    #[inline(always)]
+    fn lay_inner_scalar(&mut self, event: &mut yaml_event_body_t, empty: bool)
+        requires utf8 { HasUtf8 (body_of event.old) }
+        requires form { self.old.settings.canonical ≡ false }
+        requires due { self.old.place ≡ at.Node }
+        requires open { is_shallow self.old.settings (top_of (stack_of self.old.levels)) ≡ true }
+        ensures { LaysOut self.old self.new (emitter_event (body_of event.old)) empty }
+    {
+        if is_bare(event) {
+            self.lay_bare(event, empty);
+        } else if is_framed(event) {
+            self.lay_framed(event, empty);
+        } else {
+            self.lay_other_scalar(event, empty);
+        }
+    }
+
     // A scalar.
     // Out of line: its registers are put aside for scalars alone.
     #[inline(never)]
@@ -237,10 +361,8 @@ impl Core {
         requires form { self.old.settings.canonical ≡ false }
         ensures { LaysOut self.old self.new (emitter_event (body_of event.old)) empty }
     {
-        if self.takes_bare(event) {
-            self.take_bare(event, empty);
-        } else if self.takes_framed(event) {
-            self.take_framed(event, empty);
+        if self.is_ready() {
+            self.lay_inner_scalar(event, empty);
         } else {
             self.lay_other_scalar(event, empty);
         }
@@ -255,7 +377,7 @@ impl Core {
         ensures { LaysOut self.old self.new (emitter_event (body_of event.old)) empty }
     {
         match event {
-            yaml_event_body_t::SequenceStart { .. } => self.lay_by(event, empty, false),
+            yaml_event_body_t::SequenceStart { .. } => self.lay_start(event, empty, false),
             _ => self.lay_any(event, empty),
         }
     }
@@ -269,7 +391,7 @@ impl Core {
         ensures { LaysOut self.old self.new (emitter_event (body_of event.old)) empty }
     {
         match event {
-            yaml_event_body_t::MappingStart { .. } => self.lay_by(event, empty, false),
+            yaml_event_body_t::MappingStart { .. } => self.lay_start(event, empty, false),
             _ => self.lay_any(event, empty),
         }
     }

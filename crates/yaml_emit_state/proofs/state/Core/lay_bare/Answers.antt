@@ -1,13 +1,20 @@
-use Rattle.std.proofs.Common.{sym, ◌∙◌, ap}
-use Rattle.std.proofs.lemmas.Bool.{false≢true}
-use Rattle.yaml_emit_state.specs.Bare.{is_shallow}
+use Rattle.std.proofs.Common.{sym}
 use Rattle.yaml_emit_state.proofs.state.Core.lay_bare.Goals as goal
 
-pub lay_bare_in-requires-clause-top : goal.lay_bare_in-requires-clause-top
-lay_bare_in-requires-clause-top c = sym c.in-Some.is ∙ c.top-innermost.ensures
+pub place_bare-requires-clause-stands : goal.place_bare-requires-clause-stands
+place_bare-requires-clause-stands c =
+    let short = rw c.in-Scalar.is at c.requires.short in
+    rw c.deref.ensures.value short.stands
 
-pub lay_bare_in-requires-clause-shallow : goal.lay_bare_in-requires-clause-shallow
-lay_bare_in-requires-clause-shallow c = ap (is_shallow c.args.self.now.settings) (sym c.in-Some.is ∙ c.top-innermost.ensures) ∙ c.requires.open
+pub lay_other_scalar-requires-clause-form : goal.lay_other_scalar-requires-clause-form
+lay_other_scalar-requires-clause-form c = rw (c.place_bare.ensures.same c.if-not-place_bare.true) c.requires.form
 
-pub returns-in-None : goal.returns-in-None
-returns-in-None c = λ x empty b same. absurd (false≢true (ap (is_shallow c.args.self.now.settings) (sym c.in-None.is ∙ c.top-innermost.ensures) ∙ c.requires.open))
+pub returns-else-not-place_bare : goal.returns-else-not-place_bare
+returns-else-not-place_bare c =
+    let short = rw c.in-Scalar.is at c.requires.short in
+    rw c.in-Scalar.is (c.place_bare.ensures.laid c.if-not-place_bare.false _ c.args.empty short (sym c.deref.ensures.value))
+
+pub returns-then-not-place_bare : goal.returns-then-not-place_bare
+returns-then-not-place_bare c =
+    let laid = rw (c.place_bare.ensures.same c.if-not-place_bare.true) at c.lay_other_scalar.ensures in
+    rw c.in-Scalar.is laid

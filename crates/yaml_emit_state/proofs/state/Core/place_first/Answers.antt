@@ -1,0 +1,16 @@
+use Rattle.std.proofs.Common.{arith}
+use Rattle.yaml_emit_text.specs.Tame.{standing_text}
+use Rattle.yaml_emit_text.proofs.Bare.{puts_opening}
+use Rattle.yaml_emit_layout.specs.Nodes.{deeper, page_at, wrap_at}
+use Rattle.yaml_emit_state.proofs.Unmarked.{unchecked_behind, from_there, places_by}
+use Rattle.yaml_emit_state.proofs.state.Core.place_first.Goals as goal
+
+pub returns-then-is_there-clause-placed : goal.returns-then-is_there-clause-placed
+returns-then-is_there-clause-placed c = λ h at n shallow.
+    let s = c.args.self.now.settings in
+    let quoted = c.args.quoted in
+    let v = c.args.value.now in
+    let fits = c.is_there.ensures.fits c.if-is_there.true in
+    places_by c.args.self.now c.turn_to.new.self c.put_standing.new.sink c.args.behind _ c.turn_to.ensures.levels c.turn_to.ensures.place c.turn_to.ensures.directives c.turn_to.ensures.same
+    (unchecked_behind (deeper s at.around) _ _ (wrap_at s n) (standing_text quoted (page_at s at) at.flow v) shallow
+    (puts_opening quoted (page_at s at) at.flow v s.line_break n _ _ c.requires (c.is_there.ensures.white c.if-is_there.true) (omega (arith, fits)) (from_there _ _ _ _ c.turn_to.ensures.same.1 c.put_standing.ensures)))

@@ -397,7 +397,8 @@ fn turn_at_next<S: yaml_token_source_t>(
 }
 
 // Steps at the source's next tokens, up to one that gives something.
-// Behind a step that gives nothing neither the machine nor what is held is asked again.
+// Behind a step that gives nothing neither the machine nor what is held is asked again. That none is held is stored once more
+// there: with nothing in front of the loop's next turn LLVM asks again which answer it was.
 // Inlined into its one caller.
 #[inline(always)]
 fn turns_at_next<S: yaml_token_source_t>(

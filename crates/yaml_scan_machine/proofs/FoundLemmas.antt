@@ -1,6 +1,6 @@
 -- Reading on behind a machine of which the same is to come.
-use Rattle.std.proofs.Common.{◌≡◌, ◌<◌, ◌+◌, ℕ, Bool, true, false, List, length, refl, sym, ap, subst, ◌∙◌, inl, inr, arith, Option, Some, Result, Ok, Err}
-use Rattle.std.proofs.lemmas.Bool.{cases_lt, cases_Bool}
+use Rattle.std.proofs.Common.{◌≡◌, ◌<◌, ◌≤◌, ◌+◌, ℕ, zero, suc, Bool, true, false, List, [], ◌∷◌, length, refl, sym, ap, subst, ◌∙◌, inl, inr, arith, Option, Some, Result, Ok, Err}
+use Rattle.std.proofs.lemmas.Bool.{cases_lt, cases_Bool, lt-ltb}
 use Rattle.yaml_scan_model.specs.declared.name.yaml_encoding_t.{yaml_encoding_t}
 use Rattle.yaml_scan_model.specs.declared.fault.yaml_origin_t.TheVariants.{Scanner, Reader}
 use Rattle.yaml_scan_model.specs.declared.problem.ScanError.{ScanError}
@@ -15,10 +15,11 @@ use Rattle.yaml_scan_decode.specs.DecodedText.{text_bytes, decoding_fault}
 use Rattle.yaml_scan_decode.specs.Encodings.{encoding_of}
 use Rattle.yaml_scan_history.specs.Remaining.{Remaining}
 use Rattle.yaml_scan_machine.specs.declared.machine.Machine.{Machine}
+use Rattle.yaml_scan_queue.specs.declared.waiting.Waiting.{Waiting}
 use Rattle.yaml_scan_machine.specs.Left.{left_in, IsTold, IsLocated}
 use Rattle.yaml_scan_machine.specs.Comes.{to_come}
 use Rattle.yaml_scan_machine.proofs.ComesLemmas.{left_is, reader_wide}
-use Rattle.yaml_scan_machine.specs.State.{IsMachine, ReadsOneMore, KeepsInput, TellsUtf8, is_ready}
+use Rattle.yaml_scan_machine.specs.State.{IsMachine, ReadsOneMore, KeepsInput, TellsUtf8, is_ready, ready_in}
 use Rattle.yaml_scan_machine.specs.Stood.{IsRefused}
 use Rattle.yaml_scan_machine.specs.declared.reading.Sought.{Sought}
 use Rattle.yaml_scan_machine.specs.declared.reading.Sought.TheVariants as found
@@ -140,3 +141,18 @@ read_started m i some = elim (cases_Bool m.started) [
 pub fresh_lacks : (m : Machine) (f : Fault) → IsMachine m → m.started ≡ false
     → TellsUtf8 m f → ReaderLacks m f
 fresh_lacks m f i off tells is = let long : length m.waiting.items ≡ 0 = ap length (i.begun off) in (omega (arith, long, i.fresh off), reader_wide m.setting m.input.now f tells is)
+
+-- where a lexeme was taken
+pub some_taken : (a b : ℕ) → (a ≡ 0 → ⊥) → 0 < a + b
+some_taken zero b e = absurd (e refl)
+some_taken (suc a) b e = omega arith
+
+settled_in_row : (dropped settled given : ℕ) (ws : List Waiting)
+    → settled ≤ dropped + length ws → dropped < settled
+    → true ≡ ready_in dropped settled given ws
+settled_in_row dropped settled given [] few less = absurd (omega (arith, few, less))
+settled_in_row dropped settled given (w ∷ ws) few less = rw (lt-ltb dropped settled less) refl
+
+-- where the first lexeme is settled, one waits
+pub settled_ready : (m : Machine) → IsMachine m → m.dropped < m.settled → true ≡ is_ready m
+settled_ready m i less = settled_in_row m.dropped m.settled m.given m.waiting.items i.settled less

@@ -154,7 +154,7 @@ impl<'a> Machine<'a> {
     }
 
     /// Whether no lexeme was read yet.
-    // Inlined: an addition and a comparison, asked for each lexeme.
+    // Inlined: an addition and a comparison.
     #[inline(always)]
     pub(crate) fn is_new(&self) -> bool
         requires { IsMachine self.now }
@@ -165,14 +165,19 @@ impl<'a> Machine<'a> {
     }
 
     /// Whether the next token is known, whatever follows.
-    // Inlined: two comparisons, asked for each token.
+    // Whether the first lexeme is settled is asked first: where one is, one waits.
+    // Inlined: mostly a comparison, asked for each token.
     #[inline(always)]
     pub fn has_token(&self) -> bool
+        requires { IsMachine self.now }
         ensures { result ≡ is_ready self.now }
     {
+        if self.dropped < self.settled {
+            return true;
+        }
         match self.waiting.front() {
             None => false,
-            Some(front) => self.dropped < self.settled || self.given < front.ends,
+            Some(front) => self.given < front.ends,
         }
     }
 

@@ -78,7 +78,7 @@ pub fn put_shown(slot: &mut TokenSlot, shown: &mut yaml_token_t)
 }
 
 /// Reads on until the next token is known, or there is none. What is to come stays.
-// That no lexeme was read is asked here, and not for each lexeme; a text of which one was is decoded.
+// That no lexeme was taken is asked here, and not for each lexeme; a text of which one was is decoded.
 // Inlined: mostly the next token is known.
 #[inline(always)]
 fn read_on(machine: &mut Machine, spares: &mut Spares, fault: &mut yaml_fault_t) -> Sought
@@ -88,6 +88,21 @@ fn read_on(machine: &mut Machine, spares: &mut Spares, fault: &mut yaml_fault_t)
     if machine.has_token() {
         return Sought::Known;
     }
+    if machine.dropped == 0 {
+        return fill_early(machine, spares, fault);
+    }
+    fill_further(machine, spares, fault)
+}
+
+/// Reads on where no lexeme was taken yet.
+// Out of line and cold: mostly one was.
+#[cold]
+#[inline(never)]
+fn fill_early(machine: &mut Machine, spares: &mut Spares, fault: &mut yaml_fault_t) -> Sought
+    requires stands { IsMachine machine.old }
+    requires sought { is_ready machine.old ≡ false }
+    ensures { ReadsOn machine.old machine.new (fault_of fault.new) result }
+{
     if machine.is_new() {
         return fill_new(machine, spares, fault);
     }

@@ -1,5 +1,5 @@
 use Rattle.std.proofs.Common.{Option, refl, sym, subst}
-use Rattle.yaml_parse_step.proofs.Words.{token_in_slot, fault_of, event_of, owned_properties, owned_states_by, directives_of, HasNoFront, IsFront, raw, peeked_of, states_in}
+use Rattle.yaml_parse_step.proofs.Words.{Token, token_in_slot, fault_of, event_of, owned_properties, owned_states_by, directives_of, HasNoFront, IsFront, raw, peeked_of, states_in}
 use Rattle.yaml_parse_step.specs.Steps.{held_if}
 use Rattle.yaml_parse_step.proofs.Moves.{no_front_open}
 use Rattle.yaml_parse_step.proofs.Turning.{refused_turn}

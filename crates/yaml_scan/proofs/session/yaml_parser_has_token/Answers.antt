@@ -18,6 +18,9 @@ returns-then-parser-clause-first c = λ known.
     let s = c.parser.inside in
     rw (← c.parser.view_is) (first_comes s.machine s.fault (token_of s.shown) s.aside (sym (ready_held s.machine s.fault (token_of s.shown) s.aside c.parser.invariant.machine (sym c.is_some.ensures ∙ c.if-is_some.false) c.if-parser.true)) c.parser.invariant.machine)
 
+pub has_token-requires : goal.has_token-requires
+has_token-requires c = c.parser.invariant.machine (c.parser.invariant.free c.if-parser.false)
+
 pub returns-clause-settled : goal.returns-clause-settled
 returns-clause-settled c =
     let s = c.parser.inside in

@@ -29,6 +29,9 @@ returns-then-not-begin c =
       few = few;
     }
 
+pub has_token-requires : goal.has_token-requires
+has_token-requires c = (steps_on c.args.machine.now c.begin.new.self (fault_of c.begin.new.fault) c.begin.result c.if-not-begin.false c.begin.ensures).0
+
 pub returns-then-has_token : goal.returns-then-has_token
 returns-then-has_token c =
     let m = c.args.machine.now in

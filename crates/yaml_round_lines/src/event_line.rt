@@ -365,6 +365,23 @@ fn push_document(
     Ok(())
 }
 
+// Pushes the line of a scalar without properties that isn't plain.
+// Out of line: most are short, and have no byte that is escaped.
+#[inline(never)]
+fn push_long_bare(
+    line: &mut Vec<u8>,
+    value: &[u8],
+    style: yaml_scalar_style_t,
+) -> Result<(), AllocError>
+    ensures { OnOk result (line.new.items ≡ line.old.items
+        ++ (codes "=VAL " ++ indicator_of style ∷ (escaped value.now ++ ascii.line_feed ∷ []))) }
+{
+    reserve_twice(line, 7, value.len())?;
+    put_each(line, b"=VAL");
+    put_part(line, style_indicator(style), value, b'\n', false);
+    Ok(())
+}
+
 // Pushes the line of a plain scalar without properties.
 // Inlined: most scalars are such.
 #[inline(always)]
@@ -384,6 +401,24 @@ fn push_plain_bare(
     Ok(())
 }
 
+// Pushes the line of a scalar without properties.
+// Inlined: most scalars are such. What stands in the line counts for nothing behind an error, and is given up: so the two answers of
+// the call part here, and that of a plain scalar, which is known, is asked for nowhere.
+#[inline(always)]
+fn push_bare(line: &mut Vec<u8>, value: &[u8], style: yaml_scalar_style_t) -> Result<(), AllocError>
+    ensures { OnOk result (line.new.items ≡ line.old.items
+        ++ (codes "=VAL " ++ indicator_of style ∷ (escaped value.now ++ ascii.line_feed ∷ []))) }
+{
+    if is_plain(value) {
+        return push_plain_bare(line, value, style);
+    }
+    if push_long_bare(line, value, style).is_err() {
+        line.clear();
+        return Err(AllocError);
+    }
+    Ok(())
+}
+
 // Pushes the line of an event that its word alone tells, and that is rare.
 // Out of line: see `push_alias`.
 #[inline(never)]
@@ -395,7 +430,7 @@ fn push_rare(line: &mut Vec<u8>, word: &[u8]) -> Result<(), AllocError>
 }
 
 // Pushes the line of any event.
-// Inlined, so that the kind is looked at once.
+// Inlined into its one caller, so that the kind is looked at once.
 #[inline(always)]
 fn push_any(line: &mut Vec<u8>, event: &yaml_event_t) -> Result<(), AllocError>
     ensures { OnOk result (line.new.items ≡ line.old.items ++ event_line
@@ -431,8 +466,7 @@ fn push_any(line: &mut Vec<u8>, event: &yaml_event_t) -> Result<(), AllocError>
 }
 
 // Pushes the line of an event that isn't met most.
-// Inlined: see `push_any`. What stands in the line counts for nothing behind an error, and is given up: so the two answers part here,
-// and that of the events that are met most, which is known, is asked for nowhere.
+// Inlined: see `push_any` and `push_bare`.
 #[inline(always)]
 fn push_other(line: &mut Vec<u8>, event: &yaml_event_t) -> Result<(), AllocError>
     ensures { OnOk result (line.new.items ≡ line.old.items ++ event_line
@@ -460,13 +494,7 @@ pub fn yaml_push_event_line(line: &mut Vec<u8>, event: &yaml_event_t) -> Result<
             value,
             style,
             ..
-        } => {
-            if is_plain(value) {
-                push_plain_bare(line, value, *style)
-            } else {
-                push_other(line, event)
-            }
-        }
+        } => push_bare(line, value, *style),
         yaml_event_body_t::SequenceStart {
             anchor: None,
             tag: None,

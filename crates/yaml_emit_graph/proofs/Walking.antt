@@ -157,7 +157,7 @@ pub pair_comes : (ps : List yaml_node_pair_t) (i : ℕ) (d : yaml_node_pair_t) (
     → NextHeld (pair_ids ps) i (Some v)
 pair_comes ps i d v e h s = (
   pair_next ps i (i / 2) (i % 2) d (omega arith) (omega arith) h
-  ∙ ap (λ z. z ∷ drop (i + 1) (pair_ids ps)) (sym e),
+      ∙ ap (λ z. z ∷ drop (i + 1) (pair_ids ps)) (sym e),
   omega arith,
 )
 

@@ -9,6 +9,7 @@ use Rattle.yaml_emit_laws_text.proofs.Escapes.{low_encodes, parts_of}
 use Rattle.yaml_emit_laws_text.proofs.Kept.{body_keeps}
 use Rattle.yaml_emit_laws_text.proofs.Steps.{not_start}
 use Rattle.yaml_emit_text.proofs.Sinks.{cond_false}
+pub use Rattle.yaml_emit_text.proofs.Spelled.{moved_by, spaced_by, in_front_append as front_append}
 use Rattle.yaml_scan_laws_texts.proofs.Whites.{has_rest}
 
 -- ---- without lines that may be broken the indentation says nothing
@@ -44,13 +45,6 @@ body_spells law page c cs good deep =
 
 -- ---- characters and bytes
 
--- Two texts in front of a layout's items are one behind another.
-pub front_append : (xs ys : List ℕ) (t : List Item)
-    → in_front (xs ++ ys) t ≡ in_front xs (in_front ys t)
-unfolding in_front
-front_append [] ys t = refl
-front_append (x ∷ xs) ys t = ap (λ u. letter x ∷ u) (front_append xs ys t)
-
 -- A text of one character in front is a letter.
 pub front_one : (x : ℕ) (t : List Item) → in_front (x ∷ []) t ≡ letter x ∷ t
 unfolding in_front
@@ -85,12 +79,6 @@ between xs bs e =
     rw (encode_ascii 34 (omega arith), encodes-append xs (34 ∷ []), e) (ap (λ t. 34 ∷ (bs ++ t)) one)
 
 -- ---- quoted text
-
-abbrev pub moved_by : Cursor → Cursor
-moved_by c = record { column = c.column + 1; white = false; bare = false; kept = c.kept }
-
-abbrev pub spaced_by : Cursor → Cursor
-spaced_by c = record { column = c.column + 1; white = true; bare = c.bare; kept = c.kept }
 
 reads_as : (xs ys : List ℕ) (reading : Result (List ℕ × ℕ) Wrong) (p n m : ℕ)
     → reading ≡ Ok (xs, p + n) → xs ≡ ys → n ≡ m → reading ≡ Ok (ys, p + m)

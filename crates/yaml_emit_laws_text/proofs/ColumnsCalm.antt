@@ -3,6 +3,7 @@ use Rattle.std.proofs.Common.{◌≡◌, ℕ, zero, suc, ◌+◌, ◌-◌, Bool,
 use Rattle.yaml_emit_laws_text.proofs.Shared.{cases_Bool, Cursor, Encoding, Utf8, LineBreak, Lf, Cr, CrLf, Item, letter, is_deep, Rest, Layout, ◌▹◌, stay, choose, when, char, letters, blank, blanks, break, new_line, is_white, gap, word, opener, must_break, indent_to, line, is_past, keep, order_mark, needs_escape, escape_text, may_fold, fold, escaped, quoted_char, quoted_body, double_quoted, MOST, deep_if, checked}
 use Rattle.yaml_emit_layout.specs.emit_text.declared.Page.{Page}
 use Rattle.yaml_emit_text.specs.Quoted.{first}
+use Rattle.yaml_emit_text.proofs.Bools.{or_assoc}
 
 -- Whatever follows: where what follows is marked or not wherever it begins, so is the whole, or it is marked here.
 abbrev pub Marks : Bool → Layout → Type 0
@@ -10,10 +11,6 @@ Marks d a = (b : Bool) (rest : Rest) → ((c : Cursor) → is_deep (rest c) ≡ 
 
 abbrev pub Calm : Layout → Type 0
 Calm a = Marks false a
-
-pub or_assoc : (a b c : Bool) → (a || (b || c)) ≡ ((a || b) || c)
-or_assoc true b c = refl
-or_assoc false b c = refl
 
 pub both : (d e : Bool) (a b : Layout) → Marks d a → Marks e b → Marks (d || e) (a ▹ b)
 both d e a b x y m rest h c = x (e || m) (λ k. b k rest) (λ k. y m rest h k) c ∙ or_assoc d e m

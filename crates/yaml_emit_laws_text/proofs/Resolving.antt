@@ -94,12 +94,6 @@ reads_one : (d : TagDirective) (ds : List TagDirective) (h : List ℕ)
 unfolding reader.directive_for
 reads_one d ds h = refl
 
-finds_one : (d : TagDirective) (ds : List TagDirective) (tag : List ℕ)
-    → directive_for (d ∷ ds) tag ≡ cond (has_shorter_prefix d.prefix tag) (Some d)
-    (directive_for ds tag)
-unfolding directive_for
-finds_one d ds tag = refl
-
 pub some_is : (x d : TagDirective) → Some x ≡ Some d → x ≡ d
 some_is x d e = cc
 
@@ -152,10 +146,10 @@ own_of before [] tag d e f = absurd (cc)
 own_of before (x ∷ ds) tag d e f =
     elim (cases_Bool (has_shorter_prefix x.prefix tag)) [
       | inl t ↦
-          let same = some_is x d (sym (finds_one x ds tag ∙ ap (λ b. cond b (Some x) (directive_for ds tag)) t) ∙ f) in
+          let same = some_is x d (sym (ap (λ b. cond b (Some x) (directive_for ds tag)) t) ∙ f) in
           subst (λ y. Own (x ∷ ds) tag y) same (own_first before x ds tag e t)
       | inr t ↦
-          let more : directive_for ds tag ≡ Some d = sym (finds_one x ds tag ∙ ap (λ b. cond b (Some x) (directive_for ds tag)) t) ∙ f in
+          let more : directive_for ds tag ≡ Some d = sym (ap (λ b. cond b (Some x) (directive_for ds tag)) t) ∙ f in
           own_more before x ds tag d e (own_of (before ++ x ∷ []) ds tag d (rest_none before x ds e) more)
     ]
 

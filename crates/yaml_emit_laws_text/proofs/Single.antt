@@ -1,35 +1,16 @@
 -- What an emitter writes between single quotes in one line, or cuts at spaces, is read back.
-use Rattle.std.proofs.Common.{◌≡◌, ℕ, zero, suc, ◌+◌, ◌-◌, Bool, true, false, not, ◌&&◌, ◌||◌, ◌==◌, nat_lt, nat_le, List, [], ◌∷◌, ◌++◌, replicate, refl, sym, ap, ◌∙◌, arith, encode_utf8_all}
-use Rattle.yaml_emit_laws_text.proofs.Shared.{encode_ascii, encodes-append, and_parts, not-true, or_parts, eqb-true, Cursor, LineBreak, Lf, letter, Rest, blanks, new_line, line, indent_to, must_break, Page, is_printable, cuts_at, in_front, break_text, QuotedPart, is_raw_blank, is_fold, is_turn, may_follow}
+use Rattle.std.proofs.Common.{◌≡◌, ℕ, ◌+◌, ◌-◌, Bool, true, false, not, ◌&&◌, ◌||◌, ◌==◌, nat_lt, nat_le, List, [], ◌∷◌, ◌++◌, replicate, refl, sym, ap, ◌∙◌, arith, encode_utf8_all}
+use Rattle.yaml_emit_laws_text.proofs.Shared.{encode_ascii, encodes-append, and_parts, not-true, or_parts, eqb-true, Cursor, LineBreak, Rest, blanks, new_line, line, indent_to, must_break, Page, is_printable, cuts_at, in_front, break_text, QuotedPart, is_raw_blank, is_fold, is_turn, may_follow}
 use Rattle.yaml_emit_layout.specs.emit_text.Text.{is_break}
 use Rattle.yaml_emit_text.specs.Quoted.{first}
 use Rattle.yaml_emit_text.specs.Style.{is_special}
 use Rattle.yaml_emit_laws_text.proofs.Escapes.{low_encodes}
-use Rattle.yaml_emit_laws_text.proofs.Back.{front_append, spaced_by}
+use Rattle.yaml_emit_laws_text.proofs.Back.{front_append}
 use Rattle.yaml_emit_text.proofs.Sinks.{cond_true}
+pub use Rattle.yaml_emit_text.proofs.Bools.{bool_cases}
+pub use Rattle.yaml_emit_text.proofs.Spelled.{line_start, after_blanks, blanks_are, new_line_is}
 
 -- ---- layouts that write characters
-
-abbrev pub line_start : Cursor → Cursor
-line_start c = record { column = 0; white = true; bare = true; kept = c.kept }
-
-abbrev pub after_blanks : ℕ → Cursor → Cursor
-after_blanks zero c = c
-after_blanks (suc n) c = after_blanks n (spaced_by c)
-
--- Blanks are spaces in front of the rest.
-pub blanks_are : (n : ℕ) (c : Cursor) (rest : Rest)
-    → blanks n c rest ≡ in_front (replicate n 32) (rest (after_blanks n c))
-unfolding blanks in_front
-blanks_are zero c rest = refl
-blanks_are (suc n) c rest = ap (λ t. letter 32 ∷ t) (blanks_are n (spaced_by c) rest)
-
--- A new line is its break in front of the rest.
-pub new_line_is : (b : LineBreak) (c : Cursor) (rest : Rest)
-    → new_line b c rest ≡ in_front (break_text b) (rest (line_start c))
-unfolding in_front
-new_line_is Lf c rest = refl
-new_line_is _ c rest = refl
 
 -- Nothing less is the same.
 pub from_start : (n : ℕ) → n - 0 ≡ n
@@ -56,11 +37,6 @@ line_is b n c rest e =
     ∙ new_line_is b c (λ d. indent_to n d rest) ∙ ap (in_front (break_text b)) (indent_is n c rest) ∙ sym (front_append (break_text b) (replicate n 32) (rest (after_blanks n (line_start c))))
 
 -- ---- characters
-
--- By cases on a bool, with what it is.
-pub bool_cases : {P : Type 0} (b : Bool) → (b ≡ true → P) → (b ≡ false → P) → P
-bool_cases true p q = p refl
-bool_cases false p q = q refl
 
 -- what a cut needs
 pub record CutNeeds (page : Page) (before x : ℕ) (xs : List ℕ) : Type 0 where

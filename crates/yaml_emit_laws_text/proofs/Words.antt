@@ -12,6 +12,7 @@ use Rattle.yaml_emit_laws_text.proofs.Forms.{BeginsBlank}
 use Rattle.yaml_emit_laws_text.proofs.Places.{has_front, has_at, left_first, left_more, left_rest}
 use Rattle.yaml_emit_laws_text.proofs.Steps.{Sign, sign_begins, sign_kind, push, word_of, left_letter, walks_gap, letter_low}
 use Rattle.yaml_emit_laws_text.proofs.Ascii.{alphas_ascii}
+pub use Rattle.yaml_emit_text.proofs.Spelled.{moved_by as lettered_on}
 
 -- ---- words of one byte
 
@@ -60,9 +61,6 @@ letter_walks law b k body d e s is reads more column bare kept c rest text p ws 
 
 pub more_than : (n : ℕ) → n + 1 ≡ 0 → ⊥
 more_than n e = omega arith
-
-abbrev pub lettered_on : Cursor → Cursor
-lettered_on c = record { column = c.column + 1; white = false; bare = false; kept = c.kept }
 
 abbrev opened : Cursor → Cursor
 opened c = record { column = c.column + 1; white = true; bare = false; kept = c.kept }

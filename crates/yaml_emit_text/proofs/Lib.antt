@@ -1,8 +1,9 @@
 pub use Rattle.yaml_emit_sink.proofs.Sinks
+pub mod Bools
 pub mod Spelled
 mod Spells
 mod Walks
-mod Escapes
+pub mod Escapes
 mod Looks
 mod Rows
 mod RunLemmas

@@ -1,12 +1,12 @@
 -- Walks that look for something in a value.
 use Rattle.std.proofs.Common.{◌≡◌, ℕ, List, [], ◌∷◌, ◌++◌, Bool, true, false, cond, refl, sym, ◌∙◌, ap}
-use Rattle.std.specs.Prelude.{◌||◌}
 use Rattle.std.proofs.Math.Bool.{or-false}
 use Rattle.yaml_emit_text.specs.declared.page.Seen.{Seen}
 use Rattle.yaml_emit_sink.specs.Text.{is_break}
 use Rattle.yaml_emit_text.specs.Quoted.{first}
 use Rattle.yaml_emit_text.specs.Style.{somewhere, last_or, seen, looked, joined}
 use Rattle.yaml_emit_text.specs.Scalars.{behind_breaks, ends_in_break, chomp, chomp_of}
+use Rattle.yaml_emit_text.proofs.Bools.{or_assoc}
 
 breaks_at : (y : ℕ) (xs : List ℕ) → behind_breaks (y ∷ xs) ≡ cond (is_break y) (behind_breaks xs) y
 unfolding behind_breaks
@@ -52,10 +52,6 @@ ends_by text front y e = sym (ap (λ t. is_break (last_or 10 t)) e ∙ ap is_bre
 pub ends_none : (text : List ℕ) → text ≡ [] → true ≡ ends_in_break text
 unfolding last_or
 ends_none text e = sym (ap (λ t. is_break (last_or 10 t)) e)
-
-or_assoc : (a b c : Bool) → (a || (b || c)) ≡ ((a || b) || c)
-or_assoc true b c = refl
-or_assoc false b c = refl
 
 joined_assoc : (a b c : Seen) → joined a (joined b c) ≡ joined (joined a b) c
 joined_assoc a b c = rw (or_assoc a.special b.special c.special, or_assoc a.broken b.broken c.broken, or_assoc a.not_plain b.not_plain c.not_plain, or_assoc a.not_flow b.not_flow c.not_flow) refl

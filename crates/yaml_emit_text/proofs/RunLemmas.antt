@@ -13,10 +13,7 @@ use Rattle.yaml_emit_text.specs.declared.run.Bounds.{Bounds}
 use Rattle.yaml_emit_text.specs.Quoted.{first, is_empty}
 use Rattle.yaml_emit_text.specs.Style.{last_or}
 use Rattle.yaml_emit_text.specs.Runs.{front, all_pass, runs_on, is_calm, calm, may_follow, passed}
-
-pub bool_cases : {P : Type 0} (b : Bool) → (b ≡ true → P) → (b ≡ false → P) → P
-bool_cases true p q = p refl
-bool_cases false p q = q refl
+use Rattle.yaml_emit_text.proofs.Bools.{bool_cases}
 
 -- the number of bytes in front
 

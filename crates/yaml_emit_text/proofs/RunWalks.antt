@@ -17,7 +17,8 @@ use Rattle.yaml_emit_text.specs.Quoted.{needs_escape, escape_text, first, is_emp
 use Rattle.yaml_emit_text.specs.Scalars.{value_break, cuts_at, text_char, flow_char, flow_body, adds_break, cuts_block, line_blank, block_text, block_char, block_body}
 use Rattle.yaml_emit_text.specs.Style.{last_or, seen, looked, joined, is_special, is_break_space, is_not_plain, is_not_flow}
 use Rattle.yaml_emit_text.specs.Runs.{all_pass, runs_on, is_calm, calm, may_follow, quoted_bounds, flow_bounds, block_bounds}
-use Rattle.yaml_emit_text.proofs.RunLemmas.{calm_ascii, calm_least, calm_largest, run_byte, last_append, bool_cases}
+use Rattle.yaml_emit_text.proofs.Bools.{bool_cases}
+use Rattle.yaml_emit_text.proofs.RunLemmas.{calm_ascii, calm_least, calm_largest, run_byte, last_append}
 use Rattle.yaml_emit_text.proofs.Walks.{walk_end, flow_end}
 use Rattle.yaml_emit_text.specs.Tame.{IsTame}
 use Rattle.yaml_emit_text.proofs.Looks.{looked_at}

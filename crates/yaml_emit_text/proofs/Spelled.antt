@@ -13,24 +13,28 @@ use Rattle.yaml_emit_sink.specs.Layout.{Layout, Rest, choose, when, char, letter
 use Rattle.yaml_emit_text.specs.Quoted.{needs_escape, escape_text, first, is_empty, may_fold, fold as fold_layout, escaped, quoted_char, quoted_body}
 use Rattle.yaml_emit_text.specs.Spelling.{SpelledPart, raw, escape, escaped_space, fold, break_text, spelled, meant, spelling, meaning, is_raw_blank, is_fold, may_follow, may_stand, IsSpelling, in_front, WritesSpelling}
 use Rattle.yaml_emit_sink.proofs.Sinks.{cond_false, cond_true}
-use Rattle.yaml_emit_text.proofs.RunLemmas.{bool_cases}
+use Rattle.yaml_emit_text.proofs.Bools.{bool_cases}
 
 -- Layouts that write characters, and the cursor behind them.
 
-abbrev moved_by : Cursor → Cursor
+-- The cursor behind a letter.
+abbrev pub moved_by : Cursor → Cursor
 moved_by c = record { column = c.column + 1; white = false; bare = false; kept = c.kept }
 
-abbrev spaced_by : Cursor → Cursor
+-- The cursor behind a space.
+abbrev pub spaced_by : Cursor → Cursor
 spaced_by c = record { column = c.column + 1; white = true; bare = c.bare; kept = c.kept }
 
-abbrev line_start : Cursor → Cursor
+-- The cursor where a line begins.
+abbrev pub line_start : Cursor → Cursor
 line_start c = record { column = 0; white = true; bare = true; kept = c.kept }
 
 abbrev after_letters : List ℕ → Cursor → Cursor
 after_letters [] c = c
 after_letters (x ∷ xs) c = after_letters xs (moved_by c)
 
-abbrev after_blanks : ℕ → Cursor → Cursor
+-- The cursor behind spaces.
+abbrev pub after_blanks : ℕ → Cursor → Cursor
 after_blanks zero c = c
 after_blanks (suc n) c = after_blanks n (spaced_by c)
 
@@ -40,20 +44,23 @@ unfolding letters in_front
 letters_are [] c rest = refl
 letters_are (x ∷ xs) c rest = ap (λ t. letter x ∷ t) (letters_are xs (moved_by c) rest)
 
-blanks_are : (n : ℕ) (c : Cursor) (rest : Rest)
+-- Blanks are spaces in front of the rest.
+pub blanks_are : (n : ℕ) (c : Cursor) (rest : Rest)
     → blanks n c rest ≡ in_front (replicate n 32) (rest (after_blanks n c))
 unfolding blanks in_front
 blanks_are zero c rest = refl
 blanks_are (suc n) c rest = ap (λ t. letter 32 ∷ t) (blanks_are n (spaced_by c) rest)
 
-new_line_is : (b : LineBreak) (c : Cursor) (rest : Rest)
+-- A new line is its break in front of the rest.
+pub new_line_is : (b : LineBreak) (c : Cursor) (rest : Rest)
     → new_line b c rest ≡ in_front (break_text b) (rest (line_start c))
 unfolding in_front
 new_line_is Lf c rest = refl
 new_line_is Cr c rest = refl
 new_line_is CrLf c rest = refl
 
-in_front_append : (xs ys : List ℕ) (t : List Item)
+-- Two texts in front of a layout's items are one behind another.
+pub in_front_append : (xs ys : List ℕ) (t : List Item)
     → in_front (xs ++ ys) t ≡ in_front xs (in_front ys t)
 unfolding in_front
 in_front_append [] ys t = refl

@@ -261,6 +261,8 @@ def why_none(it):
         return "it takes what it frees and answers nothing, so that no clause can speak of it"
     if it.contract() and it.label in {call for call, *_ in IMPLIED}:
         return "what another edit implies, as above"
+    if it.owner and it.owner.is_of_trait and not it.contract():
+        return "its clauses are the trait's; what it answers is turned at the calls that stand on it"
     return "" if it.contract() else "no clause"
 
 

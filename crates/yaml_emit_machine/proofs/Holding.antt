@@ -13,7 +13,7 @@ use Rattle.yaml_emit_machine.specs.declared.held.Count.{Count}
 use Rattle.yaml_emit_machine.specs.declared.held.Count.TheVariants.{Nothing}
 use Rattle.yaml_emit_machine.specs.declared.held.Slot.{Slot}
 use Rattle.yaml_emit_machine.specs.declared.held.Slot.TheVariants.{First, Second, Third}
-use Rattle.yaml_emit_machine.specs.Held.{is_ready, needs, closes, ends_level, releases, releases_by, passes, passes_by, are_some, next, less, stands, filled, held_events, oldest_event}
+use Rattle.yaml_emit_machine.specs.Held.{is_ready, needs, closes, ends_level, releases, releases_by, passes, passes_early, passes_by, are_some, next, less, stands, filled, held_events, oldest_event}
 
 -- Whether an event opens an empty collection is told by what has come, once it is ready: what follows changes nothing.
 pub ready_empty : (e : Event) (es more : List Event) → is_ready (e ∷ es) ≡ true
@@ -211,3 +211,8 @@ left_behind old mid k s m e n r =
     let Q : Slot → Type 0 = λ z. held_events old ≡ oldest_event old ∷ held_events (record mid { oldest = z; count = less mid.count }) in
     let R : Count → Type 0 = λ z. held_events old ≡ oldest_event old ∷ held_events (record mid { oldest = s; count = z }) in
     subst R (sym n) (subst Q (sym e) (subst P (sym m) (front_left old.count old.oldest old.first old.second old.third (stands old.oldest mid) r)))
+
+-- where nothing is held, and nothing is decided behind it
+pub passes_decided : (held : List Event) (undecided : Bool) → are_some held ≡ false
+    → undecided ≡ false → passes_early held undecided ≡ true
+passes_decided held undecided h u = rw (h, u) refl

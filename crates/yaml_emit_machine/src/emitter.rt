@@ -413,8 +413,8 @@ pub fn take_event(emitter: &mut yaml_emitter_t, event: &mut yaml_event_body_t)
 
 /// `give` where the whole text is wanted: an event is held only where the next one decides what is written for it, and in canonical
 /// form none is. So output and fault may come some events earlier; the fault is that of the same event, and the text that up to it.
-// Out of line: the whole work on an event stands once, not in each of its callers.
-#[inline(never)]
+// Inlined: a few tests in front of a call for each kind.
+#[inline(always)]
 pub fn give_early(emitter: &mut yaml_emitter_t, event: &mut yaml_event_body_t)
     requires { HasUtf8 (body_of event.old) }
     ensures text { GivesText emitter.old (emitter_event (body_of event.old)) emitter.new }

@@ -9,7 +9,7 @@ ghost use Rattle.yaml_emit_machine.specs.Held.{held_events, HeldUtf8, is_ready, 
 ghost use Rattle.yaml_emit_machine.specs.Laying.{LaysEvents, is_undecided_at};
 
 use crate::held::Held;
-use yaml_emit_state::Core;
+use yaml_emit_state::{Core, is_scalar};
 use yaml_parse_model::yaml_event_body_t;
 
 // Whether the oldest event is to be laid out, with this one behind those that are held.
@@ -28,6 +28,20 @@ fn passes_early(core: &Core, held: &Held, event: &yaml_event_body_t) -> bool
         (is_undecided_at core.now (emitter_event (body_of event.now))) }
 {
     !held.holds_any() && !core.is_undecided(event)
+}
+
+// The same of a scalar: whatever it is behind, nothing is decided behind it.
+// Inlined: two looks at a kind.
+#[inline(always)]
+fn passes_as_scalar(core: &Core, held: &Held, event: &yaml_event_body_t) -> bool
+    ensures { result ≡ true → passes_early (held_events held.now)
+        (is_undecided_at core.now (emitter_event (body_of event.now))) ≡ true }
+{
+    if held.holds_any() {
+        false
+    } else {
+        is_scalar(event)
+    }
 }
 
 fn passes_by(core: &Core, held: &Held, event: &yaml_event_body_t, early: bool) -> bool
@@ -118,7 +132,7 @@ fn hold_early(core: &mut Core, held: &mut Held, event: &mut yaml_event_body_t)
     hold_or_lay(core, held, event, true);
 }
 
-/// The same early: mostly it is laid out at once.
+/// The same early: mostly it is laid out at once. Most events are scalars, and asked for alone.
 // Inlined into its one caller.
 #[inline(always)]
 pub fn hold_or_lay_early(core: &mut Core, held: &mut Held, event: &mut yaml_event_body_t)
@@ -133,7 +147,9 @@ pub fn hold_or_lay_early(core: &mut Core, held: &mut Held, event: &mut yaml_even
         → is_ready (held_events held.new) ≡ false }
     ensures settings { core.new.settings ≡ core.old.settings }
 {
-    if passes_early(core, held, event) {
+    if passes_as_scalar(core, held, event) {
+        core.lay_out_scalar(event);
+    } else if passes_early(core, held, event) {
         core.lay_out(event, false);
     } else {
         hold_early(core, held, event);

@@ -1,5 +1,5 @@
 //! Simple keys.
-ghost use Rattle.std.specs.Prelude.{◌≡◌, ◌∷◌, [], None, Some, true, false, not, ◌&&◌, ◌||◌, map, length, nat_le, ◌+◌, ◌≤◌, ◌<◌};
+ghost use Rattle.std.specs.Prelude.{Option, Bool, ◌≡◌, ◌∷◌, [], None, Some, true, false, not, ◌&&◌, ◌||◌, map, length, nat_le, ◌+◌, ◌≤◌, ◌<◌};
 ghost use Rattle.yaml_parse_model.specs.Events.{text_of, body_of};
 ghost use Rattle.yaml_emit_layout.specs.Content.{emitter_event, is_flow_sequence, is_flow_mapping};
 ghost use Rattle.yaml_emit_layout.specs.Grammar.{kept_tag};
@@ -127,6 +127,19 @@ fn is_undecided_in(top: &Option<Level>, flow: bool) -> bool
     match top {
         None => !flow,
         Some(level) => is_key_in(level.phase) || !(level.flow || flow),
+    }
+}
+
+/// Whether an event is a scalar: then the next one decides nothing.
+// Inlined: one look at its kind.
+#[inline(always)]
+pub fn is_scalar(event: &yaml_event_body_t) -> bool
+    ensures { result ≡ true → (canonical : Bool) (top : Option _)
+        → is_undecided canonical top (emitter_event (body_of event.now)) ≡ false }
+{
+    match event {
+        yaml_event_body_t::Scalar { .. } => true,
+        _ => false,
     }
 }
 

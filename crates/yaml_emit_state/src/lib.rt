@@ -13,4 +13,5 @@ mod levels;
 mod nodes;
 mod state;
 
+pub use keys::is_scalar;
 pub use state::{Core, yaml_emitter_stand_t};

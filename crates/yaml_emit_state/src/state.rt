@@ -480,6 +480,20 @@ impl Core {
         self.open_by(&settings, false, false, false, sequence);
     }
 
+    /// The same of an event that is mostly a scalar, and opens no collection that the next one closes.
+    // Inlined: a call for each form.
+    #[inline(always)]
+    pub fn lay_out_scalar(&mut self, event: &mut yaml_event_body_t)
+        requires { HasUtf8 (body_of event.old) }
+        ensures { LaysOut self.old self.new (emitter_event (body_of event.old)) false }
+    {
+        if self.settings.canonical {
+            self.lay_canonical(event, false);
+        } else {
+            self.lay_pretty_scalar(event, false);
+        }
+    }
+
     /// Lays out an event that is no longer held, by whether it opens a collection that the next event closes; or refuses it.
     /// For want of memory the output stops. What is left of the event counts for nothing.
     // Inlined: a call for each kind.

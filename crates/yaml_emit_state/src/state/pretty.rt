@@ -356,7 +356,7 @@ impl Core {
     // A scalar.
     // Out of line: its registers are put aside for scalars alone.
     #[inline(never)]
-    fn lay_pretty_scalar(&mut self, event: &mut yaml_event_body_t, empty: bool)
+    pub(super) fn lay_pretty_scalar(&mut self, event: &mut yaml_event_body_t, empty: bool)
         requires utf8 { HasUtf8 (body_of event.old) }
         requires form { self.old.settings.canonical ≡ false }
         ensures { LaysOut self.old self.new (emitter_event (body_of event.old)) empty }

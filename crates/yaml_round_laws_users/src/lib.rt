@@ -21,7 +21,7 @@ pub use laws::{
 };
 pub use mark::beginning_is_a_mark;
 pub use normalizing::{normal_forms_tell_contents, normalizing_is_still};
-pub use parting::diffs_agree;
+pub use parting::{diffs_agree, document_diffs_agree};
 pub use plain::{canonical_text_is_the_contents, pretty_text_reads_back};
 pub use reload::{
     answers_and_reloads_agree, names_leave_reloads, reloads_are_normal_of_loads,

@@ -78,7 +78,7 @@ pub fn leap(reader: &mut Reader, end: usize)
     *reader = Reader::resume(reader.text(), mark);
 }
 
-/// Past ASCII characters that are printed, and spaces, by whole rows of 32.
+/// Past the ASCII characters that are printed, and spaces, that stand here.
 // Inlined: the place and the text stay in registers.
 #[inline(always)]
 fn skip_printed(reader: &mut Reader)
@@ -87,25 +87,40 @@ fn skip_printed(reader: &mut Reader)
     ensures each { (k : ℕ) → reader.old.at ≤ k → k < reader.new.at → spec.is_printed
         (byte reader.old.text k)
         ≡ true }
-    ensures stops { spec.are_printed 32 reader.old.text reader.new.at ≡ false }
+    ensures stops { spec.is_printed (byte reader.old.text reader.new.at) ≡ false }
 {
     let end = past_printed(reader.text(), reader.place());
     leap(reader, end);
 }
 
-/// The place behind the rows of 32 ASCII characters that are printed, and spaces, that stand there.
-// Inlined: its loop is the caller's first one.
+/// The place behind the ASCII characters that are printed, and spaces, that stand there: by rows of 32, and then one by one.
+// Inlined: its loops are the caller's first ones.
 #[inline(always)]
 fn past_printed(text: &[u8], from: usize) -> usize
     ensures forward { from ≤ result }
     ensures each { (k : ℕ) → from ≤ k → k < result → spec.is_printed (byte text.now k) ≡ true }
-    ensures stops { spec.are_printed 32 text.now result ≡ false }
+    ensures stops { spec.is_printed (byte text.now result) ≡ false }
 {
     let mut end = from;
     'rows: while is_printed_row(text, end) {
         end += ROW;
     }
+    'bytes: while is_printed_at(text, end) {
+        end += 1;
+    }
     end
+}
+
+/// Whether an ASCII character that is printed stands there, or a space.
+// Inlined into the loop over such bytes.
+#[inline(always)]
+fn is_printed_at(text: &[u8], at: usize) -> bool
+    ensures { result ≡ spec.is_printed (byte text.now at) }
+{
+    if text.len() <= at {
+        return false;
+    }
+    is_printed(text[at])
 }
 
 /// Whether 32 bytes stand there, each an ASCII character that is printed or a space.

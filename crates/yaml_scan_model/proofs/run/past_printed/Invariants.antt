@@ -11,3 +11,12 @@ invariant-rows l = record {
 
 abbrev pub decreases-rows : goal.decreases-rows
 decreases-rows l = length l.text - l.end
+
+abbrev pub invariant-bytes : goal.invariant-bytes
+invariant-bytes l = record {
+  forward : l.from ≤ l.end;
+  each : (k : ℕ) → l.from ≤ k → k < l.end → is_printed (byte l.text k) ≡ true;
+}
+
+abbrev pub decreases-bytes : goal.decreases-bytes
+decreases-bytes l = length l.text - l.end

@@ -5,6 +5,7 @@ use Rattle.yaml_scan_model.specs.Faults.{Fault, memory_fault}
 use Rattle.yaml_scan_model.specs.declared.yaml_origin_t.TheVariants.{Parser}
 use Rattle.yaml_parse_model.specs.Events.{Event}
 use Rattle.yaml_parse_grammar.specs.Items.{RawEvent}
+use Rattle.yaml_parse_grammar.specs.Remaining.{parser_remaining, is_between}
 use Rattle.yaml_parse_grammar.specs.States.{State}
 use Rattle.yaml_parse_grammar.specs.Stacks.{IsStack}
 use Rattle.yaml_parse_grammar.specs.Texts.{IsUtf8Held}
@@ -23,7 +24,8 @@ use Rattle.yaml_parse_step.specs.declared.step.StepBuffers.{StepBuffers}
 use Rattle.yaml_parse_step.specs.declared.step.Step.{Step}
 use Rattle.yaml_parse_step.specs.declared.step.Step.TheVariants as code
 use Rattle.yaml_parse_step.specs.Stepped as step
-use Rattle.yaml_parse_step.specs.Steps.{GivesItem, GivesNoItem, IsRefused, IsRealOn, IsUtf8Step, IsStackStep, raw, peeked_of, states_in}
+use Rattle.yaml_parse_step.specs.Steps.{GivesItem, GivesNoItem, IsRefused, IsRealOn, IsUtf8Step, IsStackStep, IsUtf8Turn, IsStackTurn, Turns, raw, peeked_of, states_in}
+use Rattle.yaml_parse_step.specs.Turned as turn
 
 -- The item comes first; the token is held then, or taken.
 pub record Moves (s : List State) (t : Token) (i : RawEvent) (held : Option Token)
@@ -103,3 +105,17 @@ abbrev pub LeavesMachine : Settled → Machine yaml_mark_t → Machine yaml_mark
 LeavesMachine came.Event old new = new ≡ old
 LeavesMachine came.Noted old new = new ≡ old
 LeavesMachine came.Refused old new = (p : Properties) → owned_states_by new p ≡ []
+
+-- What a turn owes, by the tokens that the source has to come in front of it and behind it, and by their fault: it gives the front of
+-- what is to come and leaves the rest; texts stay UTF-8; and states stand above one another as before.
+pub record TakesTurn (old : StepBuffers) (ts : List Token) (fault : Option Fault) (t : turn.Turned)
+    (new : StepBuffers) (rest : List Token) (after : Option Fault) : Type 0 where
+  pub turns : (answered : Fault)
+      → Turns (parser_remaining (peeked_of old) ts fault (states_in old)
+      (directives_of old.directives) answered) t
+      (parser_remaining (peeked_of new) rest after (states_in new)
+      (directives_of new.directives) answered)
+  pub utf8 : IsUtf8Held (peeked_of old) (states_in old) (directives_of old.directives)
+      → IsUtf8Turn t × IsUtf8Held (peeked_of new) (states_in new) (directives_of new.directives)
+  pub stack : IsStack (states_in old)
+      → IsStackTurn t (is_between (states_in new)) × IsStack (states_in new)

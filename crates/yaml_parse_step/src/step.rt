@@ -9,16 +9,12 @@ ghost use Rattle.yaml_parse_core.specs.Seen.{seen};
 ghost use Rattle.yaml_parse_core.specs.Seen as kinds;
 ghost use Rattle.yaml_parse_core.specs.Turns.{keeps, context_if};
 ghost use Rattle.yaml_parse_core.specs.Views.{implied_item};
-ghost use Rattle.yaml_parse_resolve.specs.Settles.{directives_of};
 ghost use Rattle.yaml_parse_grammar.specs.Machine.{context_of};
-ghost use Rattle.yaml_parse_grammar.specs.Remaining.{parser_remaining, is_between};
 ghost use Rattle.yaml_parse_grammar.specs.States.{State};
 ghost use Rattle.yaml_parse_grammar.specs.Items.{Properties};
-ghost use Rattle.yaml_parse_grammar.specs.Stacks.{IsStack};
-ghost use Rattle.yaml_parse_grammar.specs.Texts.{IsUtf8Held};
 ghost use Rattle.yaml_parse_model.specs.Source.{HasUtf8};
-ghost use Rattle.yaml_parse_step.specs.Steps.{AsksNext, HasFront, Turns, IsUtf8Turn, IsStackTurn, peeked_of, states_in};
-ghost use Rattle.yaml_parse_step.specs.Moves.{Turned, WentOn, LeavesMachine, step_of};
+ghost use Rattle.yaml_parse_step.specs.Steps.{AsksNext, HasFront, peeked_of, states_in};
+ghost use Rattle.yaml_parse_step.specs.Moves.{TakesTurn, Turned, WentOn, LeavesMachine, step_of};
 ghost use Rattle.yaml_parse_step.specs.Turned.{turned};
 
 use yaml_parse_core::{Implied, Machine, Shape, Told, Turn, Waiting, finish, is_over, turn_owned};
@@ -370,23 +366,9 @@ fn turn_at_next<S: yaml_token_source_t>(
     fault: &mut yaml_fault_t,
 ) -> Step
     requires { AsksNext buffers.old }
-    ensures turns { (answered : Fault)
-        → Turns (parser_remaining (peeked_of buffers.old) (S.to_come source.old)
-        (S.fault_to_come source.old) (states_in buffers.old)
-        (directives_of buffers.old.directives) answered)
-        (turned result (event_of event.new) (fault_of fault.new))
-        (parser_remaining (peeked_of buffers.new) (S.to_come source.new)
-        (S.fault_to_come source.new) (states_in buffers.new)
-        (directives_of buffers.new.directives) answered) }
-    ensures utf8 { IsUtf8Held (peeked_of buffers.old) (states_in buffers.old)
-        (directives_of buffers.old.directives)
-        → IsUtf8Turn (turned result (event_of event.new) (fault_of fault.new))
-        × IsUtf8Held (peeked_of buffers.new) (states_in buffers.new)
-        (directives_of buffers.new.directives) }
-    ensures stack { IsStack (states_in buffers.old)
-        → IsStackTurn (turned result (event_of event.new) (fault_of fault.new))
-        (is_between (states_in buffers.new))
-        × IsStack (states_in buffers.new) }
+    ensures taken { TakesTurn buffers.old (S.to_come source.old) (S.fault_to_come source.old)
+        (turned result (event_of event.new) (fault_of fault.new)) buffers.new
+        (S.to_come source.new) (S.fault_to_come source.new) }
     ensures on { result ≡ Step.Silent → AsksNext buffers.new }
 {
     if !ask(source, &mut buffers.token, fault) {
@@ -408,23 +390,9 @@ fn turns_at_next<S: yaml_token_source_t>(
     fault: &mut yaml_fault_t,
 ) -> Step
     requires { AsksNext buffers.old }
-    ensures turns { (answered : Fault)
-        → Turns (parser_remaining (peeked_of buffers.old) (S.to_come source.old)
-        (S.fault_to_come source.old) (states_in buffers.old)
-        (directives_of buffers.old.directives) answered)
-        (turned result (event_of event.new) (fault_of fault.new))
-        (parser_remaining (peeked_of buffers.new) (S.to_come source.new)
-        (S.fault_to_come source.new) (states_in buffers.new)
-        (directives_of buffers.new.directives) answered) }
-    ensures utf8 { IsUtf8Held (peeked_of buffers.old) (states_in buffers.old)
-        (directives_of buffers.old.directives)
-        → IsUtf8Turn (turned result (event_of event.new) (fault_of fault.new))
-        × IsUtf8Held (peeked_of buffers.new) (states_in buffers.new)
-        (directives_of buffers.new.directives) }
-    ensures stack { IsStack (states_in buffers.old)
-        → IsStackTurn (turned result (event_of event.new) (fault_of fault.new))
-        (is_between (states_in buffers.new))
-        × IsStack (states_in buffers.new) }
+    ensures { TakesTurn buffers.old (S.to_come source.old) (S.fault_to_come source.old)
+        (turned result (event_of event.new) (fault_of fault.new)) buffers.new
+        (S.to_come source.new) (S.fault_to_come source.new) }
 {
     'turns: loop {
         match turn_at_next(source, buffers, event, fault) {
@@ -446,23 +414,9 @@ pub fn take_turn<S: yaml_token_source_t>(
     event: &mut yaml_event_t,
     fault: &mut yaml_fault_t,
 ) -> Step
-    ensures turns { (answered : Fault)
-        → Turns (parser_remaining (peeked_of buffers.old) (S.to_come source.old)
-        (S.fault_to_come source.old) (states_in buffers.old)
-        (directives_of buffers.old.directives) answered)
-        (turned result (event_of event.new) (fault_of fault.new))
-        (parser_remaining (peeked_of buffers.new) (S.to_come source.new)
-        (S.fault_to_come source.new) (states_in buffers.new)
-        (directives_of buffers.new.directives) answered) }
-    ensures utf8 { IsUtf8Held (peeked_of buffers.old) (states_in buffers.old)
-        (directives_of buffers.old.directives)
-        → IsUtf8Turn (turned result (event_of event.new) (fault_of fault.new))
-        × IsUtf8Held (peeked_of buffers.new) (states_in buffers.new)
-        (directives_of buffers.new.directives) }
-    ensures stack { IsStack (states_in buffers.old)
-        → IsStackTurn (turned result (event_of event.new) (fault_of fault.new))
-        (is_between (states_in buffers.new))
-        × IsStack (states_in buffers.new) }
+    ensures { TakesTurn buffers.old (S.to_come source.old) (S.fault_to_come source.old)
+        (turned result (event_of event.new) (fault_of fault.new)) buffers.new
+        (S.to_come source.new) (S.fault_to_come source.new) }
 {
     if is_over(&buffers.machine) {
         return Step::Done;

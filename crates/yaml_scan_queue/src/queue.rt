@@ -227,14 +227,14 @@ fn hand_out_name(from: &mut BodySlot, to: &mut BodySlot, spares: &mut Spares)
     }
 }
 
-/// Moves what a body carries, but its kind, from one slot to another.
+/// Moves what a body carries, but its kind and its style, from one slot to another.
 // Out of line: mostly it is one text, or less.
 #[inline(never)]
 fn hand_out_rest(from: &mut BodySlot, to: &mut BodySlot, spares: &mut Spares)
-    requires { to.old.kind ≡ from.old.kind }
+    requires kind { to.old.kind ≡ from.old.kind }
+    requires style { to.old.style ≡ from.old.style }
     ensures { body_in_slot to.new ≡ body_in_slot from.old }
 {
-    to.style = from.style;
     to.encoding = from.encoding;
     to.major = from.major;
     to.minor = from.minor;

@@ -15,40 +15,37 @@ turns-preserved g c =
     record {
       asks = (refl, on.1);
       silent = λ answered. inr (turns_behind turn.silent _ _ _ (i.silent answered)
-          (subst (λ (x : Bool). IsSilent (parser_remaining (peeked_of o) (g.S.yaml_token_source_t.to_come c.turns.source) (g.S.yaml_token_source_t.fault_to_come c.turns.source) (states_in o) (directives_of o.directives) answered) (parser_remaining (held_if x (token_in_slot n.token)) (g.S.yaml_token_source_t.to_come source) (g.S.yaml_token_source_t.fault_to_come source) (states_in n) (directives_of n.directives) answered)) on.0 (c.in-Silent.ensures.turns answered)));
-      utf8 = λ h. subst (λ (x : Bool). IsUtf8Held (held_if x (token_in_slot n.token)) (states_in n) (directives_of n.directives)) on.0 (c.in-Silent.ensures.utf8 (i.utf8 h)).1;
-      stack = λ h. (c.in-Silent.ensures.stack (i.stack h)).1;
+          (subst (λ (x : Bool). IsSilent (parser_remaining (peeked_of o) (g.S.yaml_token_source_t.to_come c.turns.source) (g.S.yaml_token_source_t.fault_to_come c.turns.source) (states_in o) (directives_of o.directives) answered) (parser_remaining (held_if x (token_in_slot n.token)) (g.S.yaml_token_source_t.to_come source) (g.S.yaml_token_source_t.fault_to_come source) (states_in n) (directives_of n.directives) answered)) on.0 (c.in-Silent.ensures.taken.turns answered)));
+      utf8 = λ h. subst (λ (x : Bool). IsUtf8Held (held_if x (token_in_slot n.token)) (states_in n) (directives_of n.directives)) on.0 (c.in-Silent.ensures.taken.utf8 (i.utf8 h)).1;
+      stack = λ h. (c.in-Silent.ensures.taken.stack (i.stack h)).1;
     }
 
 pub turns-smaller : goal.turns-smaller
 turns-smaller g c =
     let o = c.turns.buffers in
     let n = c.turn_at_next.new.buffers in
-    fewer_left o.is_held n.is_held (token_in_slot o.token) (token_in_slot n.token) _ _ c.turns.invariant.asks.0 (c.in-Silent.ensures.turns (fault_of c.turn_at_next.new.fault)).less
+    fewer_left o.is_held n.is_held (token_in_slot o.token) (token_in_slot n.token) _ _ c.turns.invariant.asks.0 (c.in-Silent.ensures.taken.turns (fault_of c.turn_at_next.new.fault)).less
 
-pub returns-in-Given-clause-turns : goal.returns-in-Given-clause-turns
-returns-in-Given-clause-turns g c = λ answered. turns_behind (turn.event (event_of c.turn_at_next.new.event)) _ _ _ (c.turns.invariant.silent answered) (c.in-Given.ensures.turns answered)
+pub returns-in-Given : goal.returns-in-Given
+returns-in-Given g c =
+    record {
+      turns = λ answered. turns_behind (turn.event (event_of c.turn_at_next.new.event)) _ _ _ (c.turns.invariant.silent answered) (c.in-Given.ensures.taken.turns answered);
+      utf8 = λ h. c.in-Given.ensures.taken.utf8 (c.turns.invariant.utf8 h);
+      stack = λ h. c.in-Given.ensures.taken.stack (c.turns.invariant.stack h);
+    }
 
-pub returns-in-Given-clause-utf8 : goal.returns-in-Given-clause-utf8
-returns-in-Given-clause-utf8 g c = λ h. c.in-Given.ensures.utf8 (c.turns.invariant.utf8 h)
+pub returns-in-Refused : goal.returns-in-Refused
+returns-in-Refused g c =
+    record {
+      turns = λ answered. turns_behind (turn.refused (fault_of c.turn_at_next.new.fault)) _ _ _ (c.turns.invariant.silent answered) (c.in-Refused.ensures.taken.turns answered);
+      utf8 = λ h. c.in-Refused.ensures.taken.utf8 (c.turns.invariant.utf8 h);
+      stack = λ h. c.in-Refused.ensures.taken.stack (c.turns.invariant.stack h);
+    }
 
-pub returns-in-Given-clause-stack : goal.returns-in-Given-clause-stack
-returns-in-Given-clause-stack g c = λ h. c.in-Given.ensures.stack (c.turns.invariant.stack h)
-
-pub returns-in-Refused-clause-turns : goal.returns-in-Refused-clause-turns
-returns-in-Refused-clause-turns g c = λ answered. turns_behind (turn.refused (fault_of c.turn_at_next.new.fault)) _ _ _ (c.turns.invariant.silent answered) (c.in-Refused.ensures.turns answered)
-
-pub returns-in-Refused-clause-utf8 : goal.returns-in-Refused-clause-utf8
-returns-in-Refused-clause-utf8 g c = λ h. c.in-Refused.ensures.utf8 (c.turns.invariant.utf8 h)
-
-pub returns-in-Refused-clause-stack : goal.returns-in-Refused-clause-stack
-returns-in-Refused-clause-stack g c = λ h. c.in-Refused.ensures.stack (c.turns.invariant.stack h)
-
-pub returns-in-Done-clause-turns : goal.returns-in-Done-clause-turns
-returns-in-Done-clause-turns g c = λ answered. turns_behind turn.done _ _ _ (c.turns.invariant.silent answered) (c.in-Done.ensures.turns answered)
-
-pub returns-in-Done-clause-utf8 : goal.returns-in-Done-clause-utf8
-returns-in-Done-clause-utf8 g c = λ h. c.in-Done.ensures.utf8 (c.turns.invariant.utf8 h)
-
-pub returns-in-Done-clause-stack : goal.returns-in-Done-clause-stack
-returns-in-Done-clause-stack g c = λ h. c.in-Done.ensures.stack (c.turns.invariant.stack h)
+pub returns-in-Done : goal.returns-in-Done
+returns-in-Done g c =
+    record {
+      turns = λ answered. turns_behind turn.done _ _ _ (c.turns.invariant.silent answered) (c.in-Done.ensures.taken.turns answered);
+      utf8 = λ h. c.in-Done.ensures.taken.utf8 (c.turns.invariant.utf8 h);
+      stack = λ h. c.in-Done.ensures.taken.stack (c.turns.invariant.stack h);
+    }

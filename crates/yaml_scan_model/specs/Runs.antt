@@ -1,7 +1,7 @@
 -- Runs of bytes of one kind.
 use Rattle.std.specs.Prelude.{ℕ, zero, suc, ◌+◌, Bool, true, not, ◌&&◌, ◌||◌, ◌==◌, nat_lt, if◌then◌else◌, List, length}
 use Rattle.yaml_scan_model.specs.Ascii as ascii
-use Rattle.yaml_scan_model.specs.Marks.{byte, break_width, is_blank}
+use Rattle.yaml_scan_model.specs.Marks.{byte, break_width, is_blank, starts}
 
 -- the first place from there on that is not of the kind, at most n bytes on
 unfoldable pub past : (List ℕ → ℕ → Bool) → ℕ → List ℕ → ℕ → ℕ
@@ -34,7 +34,17 @@ line_end text p = past is_text (length text) text p
 abbrev pub is_printed : ℕ → Bool
 is_printed b = nat_lt ascii.unit_separator b && nat_lt b ascii.delete
 
--- the n bytes there are such
-unfoldable pub are_printed : ℕ → List ℕ → ℕ → Bool
-are_printed zero text p = true
-are_printed (suc n) text p = are_printed n text p && is_printed (byte text (p + n))
+-- no control of ASCII but the last one, and no byte with which a break begins: it is text whatever follows
+abbrev pub is_quiet : ℕ → Bool
+is_quiet b = nat_lt ascii.unit_separator b && (not (b == 0xC2) && not (b == 0xE2))
+
+-- the n bytes there are of a kind
+unfoldable pub are_all : (ℕ → Bool) → ℕ → List ℕ → ℕ → Bool
+are_all kind zero text p = true
+are_all kind (suc n) text p = are_all kind n text p && kind (byte text (p + n))
+
+-- how many characters begin among the n bytes there
+unfoldable pub columns_over : ℕ → List ℕ → ℕ → ℕ
+columns_over zero text p = 0
+columns_over (suc n) text p = columns_over n text p
+    + (if starts (byte text (p + n)) then 1 else 0)

@@ -1,16 +1,18 @@
 //! Runs of bytes of one kind.
 
-ghost use Rattle.std.specs.Prelude.{◌≡◌, ◌≤◌, ◌<◌, ℕ, true, false, length};
+ghost use Rattle.std.specs.Prelude.{◌≡◌, ◌≤◌, ◌<◌, ◌+◌, if◌then◌else◌, ℕ, true, false, length};
 ghost use Rattle.yaml_scan_model.specs.Ascii as ascii;
-ghost use Rattle.yaml_scan_model.specs.Marks.{byte};
-ghost use Rattle.yaml_scan_model.specs.Marks.{byte};
+ghost use Rattle.yaml_scan_model.specs.Marks.{byte, starts as starts_of};
 ghost use Rattle.yaml_scan_model.specs.Runs as spec;
 
-use crate::reader::{Reader, is_blank};
+use crate::reader::{Reader, is_blank, starts};
 use crate::record::yaml_mark_t;
 
 /// How many bytes are looked at in a row.
-const ROW: usize = 32;
+const ROW: usize = 16;
+
+/// How many bytes half of a row has.
+const HALF: usize = 8;
 
 /// Whether neither a break nor the end stands here.
 pub fn is_text(reader: &Reader) -> bool
@@ -54,8 +56,10 @@ pub fn skip_text(reader: &mut Reader)
     } }
 {
     skip_printed(reader);
-    'bytes: while is_text(reader) {
+    'line: while is_text(reader) {
         reader.skip();
+        skip_quiet(reader);
+        skip_printed(reader);
     }
 }
 
@@ -93,7 +97,7 @@ fn skip_printed(reader: &mut Reader)
     leap(reader, end);
 }
 
-/// The place behind the ASCII characters that are printed, and spaces, that stand there: by rows of 32, and then one by one.
+/// The place behind the ASCII characters that are printed, and spaces, that stand there: by rows, and then one by one.
 // Inlined: its loops are the caller's first ones.
 #[inline(always)]
 fn past_printed(text: &[u8], from: usize) -> usize
@@ -102,13 +106,27 @@ fn past_printed(text: &[u8], from: usize) -> usize
     ensures stops { spec.is_printed (byte text.now result) ≡ false }
 {
     let mut end = from;
-    'rows: while is_printed_row(text, end) {
+    'rows: while is_printed_row(text, end, ROW) {
         end += ROW;
     }
+    end = past_half(text, end);
     'bytes: while is_printed_at(text, end) {
         end += 1;
     }
     end
+}
+
+/// The place behind half a row, where one stands there.
+// Inlined into the loops over bytes.
+#[inline(always)]
+fn past_half(text: &[u8], at: usize) -> usize
+    ensures forward { at ≤ result }
+    ensures each { (k : ℕ) → at ≤ k → k < result → spec.is_printed (byte text.now k) ≡ true }
+{
+    if is_printed_row(text, at, HALF) {
+        return at + HALF;
+    }
+    at
 }
 
 /// Whether an ASCII character that is printed stands there, or a space.
@@ -123,18 +141,18 @@ fn is_printed_at(text: &[u8], at: usize) -> bool
     is_printed(text[at])
 }
 
-/// Whether 32 bytes stand there, each an ASCII character that is printed or a space.
-// Inlined into the loop over such rows; without an early exit, so that the bytes are looked at side by side.
+/// Whether so many bytes stand there, each an ASCII character that is printed or a space.
+// Inlined, so that their number is a constant; without an early exit, so that the bytes are looked at side by side.
 #[inline(always)]
-fn is_printed_row(text: &[u8], at: usize) -> bool
-    ensures { result ≡ spec.are_printed 32 text.now at }
+fn is_printed_row(text: &[u8], at: usize, row: usize) -> bool
+    ensures { result ≡ spec.are_all spec.is_printed row text.now at }
 {
-    if text.len().saturating_sub(at) < ROW {
+    if text.len().saturating_sub(at) < row {
         return false;
     }
     let mut printed = true;
     let mut count = 0;
-    'bytes: while count < ROW {
+    'bytes: while count < row {
         printed = printed & is_printed(text[at + count]);
         count += 1;
     }
@@ -148,4 +166,105 @@ fn is_printed(byte: u8) -> bool
     ensures { result ≡ spec.is_printed byte }
 {
     (byte > 31) & (byte < 127)
+}
+
+/// Past bytes that are text whatever follows: by rows, and then one by one.
+// Of a character behind ASCII one byte or two may be left, and more such characters may follow.
+// Inlined: the place and the text stay in registers.
+#[inline(always)]
+fn skip_quiet(reader: &mut Reader)
+    ensures text { reader.new.text ≡ reader.old.text }
+    ensures forward { reader.old.at ≤ reader.new.at }
+    ensures each { (k : ℕ) → reader.old.at ≤ k → k < reader.new.at
+        → spec.is_quiet (byte reader.old.text k) ≡ true }
+{
+    'rows: while is_quiet_row(reader.text(), reader.place()) {
+        pass_row(reader);
+    }
+    'bytes: while is_quiet(reader.here()) {
+        reader.skip();
+    }
+}
+
+/// Past a row of bytes that are text whatever follows.
+// Inlined: one store.
+#[inline(always)]
+fn pass_row(reader: &mut Reader)
+    requires { spec.are_all spec.is_quiet 16 reader.old.text reader.old.at ≡ true }
+    ensures { reader.new ≡ record { text = reader.old.text; at = reader.old.at + 16 } }
+{
+    let place = reader.place();
+    let columns = columns_in_row(reader.text(), place);
+    leap_row(reader, place + ROW, columns);
+}
+
+/// Past such a row, up to its end, where so many characters begin in it.
+// Inlined: one store.
+#[inline(always)]
+fn leap_row(reader: &mut Reader, end: usize, columns: u8)
+    requires row { spec.are_all spec.is_quiet 16 reader.old.text reader.old.at ≡ true }
+    requires end { end ≡ reader.old.at + 16 }
+    requires columns { columns ≡ spec.columns_over 16 reader.old.text reader.old.at }
+    ensures { reader.new ≡ record { text = reader.old.text; at = end } }
+{
+    let here = reader.stop();
+    let mark = yaml_mark_t {
+        index: end as u64,
+        line: here.line,
+        column: here.column + columns as u64,
+    };
+    *reader = Reader::resume(reader.text(), mark);
+}
+
+/// How many characters begin in the row that stands there.
+// Inlined; in one byte, so that they are counted side by side.
+#[inline(always)]
+fn columns_in_row(text: &[u8], at: usize) -> u8
+    requires { at + 16 ≤ length text.now }
+    ensures { result ≡ spec.columns_over 16 text.now at }
+{
+    let mut columns: u8 = 0;
+    let mut count = 0;
+    'bytes: while count < ROW {
+        columns += as_column(text[at + count]);
+        count += 1;
+    }
+    columns
+}
+
+/// One, where a character begins with the byte, or none.
+// Inlined into the loop over bytes.
+#[inline(always)]
+fn as_column(byte: u8) -> u8
+    ensures value { result ≡ (if starts_of byte then 1 else 0) }
+    ensures small { result ≤ 1 }
+{
+    if starts(byte) { 1 } else { 0 }
+}
+
+/// Whether a row of bytes stands there that are text whatever follows.
+// Inlined; without an early exit, so that the bytes are looked at side by side.
+#[inline(always)]
+fn is_quiet_row(text: &[u8], at: usize) -> bool
+    ensures { result ≡ spec.are_all spec.is_quiet 16 text.now at }
+{
+    if text.len().saturating_sub(at) < ROW {
+        return false;
+    }
+    let mut quiet = true;
+    let mut count = 0;
+    'bytes: while count < ROW {
+        quiet = quiet & is_quiet(text[at + count]);
+        count += 1;
+    }
+    quiet
+}
+
+/// Whether the byte is text whatever follows.
+// Inlined into the loop over bytes.
+#[inline(always)]
+fn is_quiet(byte: u8) -> bool
+    ensures { result ≡ spec.is_quiet byte }
+{
+    (byte > 31) & ((byte != 0xC2) & (byte != 0xE2))
 }

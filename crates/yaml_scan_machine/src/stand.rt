@@ -143,18 +143,36 @@ fn allowed_behind(allowed: bool, broke: bool, flow: bool) -> bool
 }
 
 /// Puts the fault of a simple key whose `:` doesn't come into a slot.
+// Inlined always: the room of the marks that are handed on is set to zero where they are, and not for each lexeme.
+#[inline(always)]
+fn put_late(fault: &mut yaml_fault_t, start: yaml_mark_t, place: yaml_mark_t)
+    ensures { IsLocated (ScanError.Fault (colon_fault start place)) (fault_of fault.new) }
+{
+    put_late_apart(fault, start, place);
+}
+
+/// Puts the fault of such a key into a slot.
 // Out of line: in line the room of a refusal would be set to zero for each lexeme.
 #[inline(never)]
-fn put_late(fault: &mut yaml_fault_t, start: yaml_mark_t, place: yaml_mark_t)
+fn put_late_apart(fault: &mut yaml_fault_t, start: yaml_mark_t, place: yaml_mark_t)
     ensures { IsLocated (ScanError.Fault (colon_fault start place)) (fault_of fault.new) }
 {
     put_fault(fault, no_colon(start, place));
 }
 
 /// Puts the fault of a place where no token starts into a slot.
+// Inlined always, as above.
+#[inline(always)]
+fn put_no_token(fault: &mut yaml_fault_t, mark: yaml_mark_t)
+    ensures { IsLocated (ScanError.Fault (no_token_fault mark)) (fault_of fault.new) }
+{
+    put_no_token_apart(fault, mark);
+}
+
+/// Puts the fault of such a place into a slot.
 // Out of line, as above.
 #[inline(never)]
-fn put_no_token(fault: &mut yaml_fault_t, mark: yaml_mark_t)
+fn put_no_token_apart(fault: &mut yaml_fault_t, mark: yaml_mark_t)
     ensures { IsLocated (ScanError.Fault (no_token_fault mark)) (fault_of fault.new) }
 {
     let refused = ScanError::refusal(Problem::NoTokenStart, Context::NextToken, mark, mark);

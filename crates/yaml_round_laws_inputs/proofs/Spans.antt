@@ -8,7 +8,9 @@ use Rattle.yaml_scan_history.specs.scan_model.declared.problem.Context.TheVarian
 use Rattle.yaml_scan_history.specs.scan_model.declared.problem.Problem.{Problem}
 use Rattle.yaml_scan_history.specs.scan_model.Tokens as token
 use Rattle.yaml_scan_history.specs.scan_words.Uris.{is_uri, octet_at, due_behind, UriSpot, Spells, Ends, Faulty, escape_spot, octet_spot, spot_at, with_bytes, uri_from, uri_within, uri_at, filled, some_uri_at}
+use Rattle.yaml_scan_history.proofs.RunsLemmas.{past-le}
 use Rattle.yaml_scan_history.proofs.WordsRunsLemmas.{run_within-ge}
+use Rattle.yaml_scan_history.specs.scan_model.Runs.{is_text}
 use Rattle.yaml_scan_history.specs.scan_words.Directives as directives
 use Rattle.yaml_scan_history.specs.declared.kind.Kind.TheVariants as kinds
 use Rattle.yaml_round_laws_inputs.proofs.Pieces.{slice_size}
@@ -262,7 +264,7 @@ break_from text o p w =
 comment_from : (text : List ℕ) (p : ℕ) → p ≤ comment_end text p
 comment_from text p =
     elim (cases_Bool (byte text p == 35)) [
-      | inl e ↦ rw e (run_within-ge (length text) _ text p)
+      | inl e ↦ rw e (past-le is_text (length text) text p)
       | inr e ↦ rw e (le_refl _)
     ]
 

@@ -2,22 +2,11 @@
 use Rattle.std.proofs.Common.{◌≡◌, ℕ, zero, suc, ◌+◌, ◌-◌, ◌<◌, ◌≤◌, ◌==◌, ◌&&◌, ◌||◌, not, nat_lt, Bool, true, List, length, Result, Ok, Err, inl, inr, ◌⊎◌, arith}
 use Rattle.yaml_scan_laws_order.proofs.Words.{cases_Bool, cases_lt, eqb-true, nat_tests, byte, break_width, column_at, is_blank, Wrong, within, past_break, IsFrom, Lands, BlockText, column_of, block_with, block_lines, block_behind, block_at}
 use Rattle.yaml_scan_history.specs.scan_model.Classes.{is_digit_byte}
-use Rattle.yaml_scan_history.specs.scan_model.Runs.{past, is_blank_there, is_text, past_blanks, line_end}
-use Rattle.yaml_scan_history.proofs.RunsLemmas.{past-le, text_parts}
+use Rattle.yaml_scan_history.specs.scan_model.Runs.{is_blank_there, is_text, past_blanks, line_end}
+use Rattle.yaml_scan_history.proofs.RunsLemmas.{past-inside, past-le, text_parts}
 use Rattle.yaml_scan_history.specs.scan_block.Value.{BlockLine, block_value}
 use Rattle.yaml_scan_history.specs.scan_block.Lines.{spaces, LineSpot, Stops, Line, Tab, spot_behind, line_spot, Lines, with_line, line_then, lines_from}
 use Rattle.yaml_scan_history.specs.scan_block.Header.{HeaderText, is_chomping, indicators, digit_place, past_comment, header_end, header_at}
-
-past-inside : (kind : List ℕ → ℕ → Bool) (n : ℕ) (text : List ℕ) (p : ℕ)
-    → ((q : ℕ) → kind text q ≡ true → 0 < byte text q) → p ≤ length text
-    → past kind n text p ≤ length text
-unfolding past
-past-inside kind zero text p some l = l
-past-inside kind (suc n) text p some l =
-    elim (cases_Bool (kind text p)) [
-      | inl e ↦ let here = within text p (some p e) in rw e (past-inside kind n text (p + 1) some (omega (arith, here)))
-      | inr e ↦ rw e l
-    ]
 
 blank_some : (b : ℕ) → is_blank b ≡ true → 0 < b
 blank_some b h = grind (arith, nat_tests)

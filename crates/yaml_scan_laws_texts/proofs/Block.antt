@@ -90,7 +90,8 @@ stop_whole text p t h =
       ]
     ]
 
-past_whole : (n : ℕ) (text : List ℕ) (p : ℕ) → IsUtf8 text → length text ≤ p + n
+-- at the end of a line's text
+pub past_whole : (n : ℕ) (text : List ℕ) (p : ℕ) → IsUtf8 text → length text ≤ p + n
     → IsWhole text (past is_text n text p)
 unfolding past
 past_whole zero text p t l = whole_past text p (omega (arith, l))

@@ -4,7 +4,7 @@ use Rattle.yaml_scan_laws_texts.proofs.Shared.{cases_Bool, eqb-true, nat_tests, 
 use Rattle.yaml_scan_history.specs.scan_model.declared.problem.Context.TheVariants as contexts
 use Rattle.yaml_scan_history.specs.scan_words.Directives.{name_between, finished}
 use Rattle.yaml_scan_laws_texts.proofs.Bytes.{width_alike, end_alike, and_alike, onward_some}
-use Rattle.yaml_scan_laws_texts.proofs.Gaps.{range_alike, break_within, at_step, ReadAlike, PlaceAlike}
+use Rattle.yaml_scan_laws_texts.proofs.Gaps.{range_alike, lines_alike, break_within, at_step, ReadAlike, PlaceAlike}
 use Rattle.yaml_scan_laws_texts.proofs.Names.{Alike_in, PairAlike, Run_in, run_in, some_uri_alike, letter_onward, moved_equal}
 
 -- ---- numbers
@@ -230,16 +230,14 @@ moved_place d q = d + q
 abbrev PlacesAlike : ℕ → ℕ → Result ℕ Wrong → Result ℕ Wrong → Type 0
 PlacesAlike d m r s = ReadAlike (λ q. q ≤ m) (moved_place d) d r s
 
-run_placed : (t u : List ℕ) (d m p q r : ℕ) → Run_in t u d m p q r → PlaceAlike d m q r
-run_placed t u d m p q r run = record { same = run.same; inside = run.inside }
-
 comment_alike : (t u : List ℕ) (d m p : ℕ) → Alike t u d m → p < m
     → PlaceAlike d m (comment_end t p) (comment_end u (d + p))
-unfolding belongs
 comment_alike t u d m p a l =
     let test : (byte u (d + p) == 35) ≡ (byte t p == 35) = ap (λ b. b == 35) (a.bytes p l) in
     elim (cases_Bool (byte t p == 35)) [
-      | inl h ↦ rw (h, test ∙ h) (run_placed t u d m p _ _ (run_in t u d m p _ a (λ x y. rw (width_alike t u d m x a y, a.bytes x y) refl) l))
+      | inl h ↦
+          let line = lines_alike t u d m p a l in
+          rw (h, test ∙ h) record { same = line.same; inside = line.inside }
       | inr h ↦ rw (h, test ∙ h) record { same = refl; inside = l }
     ]
 

@@ -1,6 +1,6 @@
 -- Runs of bytes and what stands between lexemes are the same in both texts; what is read, with its places moved.
 use Rattle.std.proofs.Common.{add_assoc, if◌then◌else◌, ◌≡◌, ℕ, zero, suc, ◌+◌, ◌-◌, ◌<◌, ◌≤◌, ◌==◌, Bool, true, false, List, length, slice_range, get_or, take, drop, refl, sym, ap, ◌∙◌, inl, inr, arith, ◌≢◌, ◌&&◌, ◌||◌, nat_lt, not, Result, Ok, Err}
-use Rattle.yaml_scan_laws_texts.proofs.Shared.{cases_Bool, eqb-true, take_more, get_or-drop, length-drop, nat_tests, byte, break_of, break_width, is_blank, past, is_text, is_blank_there, is_space_there, past_blanks, past_spaces, line_end, belongs, run_within, run_end, within, past_more, past_stop, text_parts, blank_parts, space_parts, belongs_here, Alike, is_onward, cases_lt, ltb-true, true≢false, is_bom, is_skipped, step_at, Gap, with_break, gap_within, gap_at, widths, no_break, break_inside, run_further, and-false, Wrong, past_break}
+use Rattle.yaml_scan_laws_texts.proofs.Shared.{cases_Bool, eqb-true, take_more, get_or-drop, length-drop, nat_tests, byte, break_of, break_width, is_blank, past, is_text, is_blank_there, is_space_there, past_blanks, past_spaces, line_end, belongs, run_within, run_end, within, past_more, past_some, past_stop, text_parts, blank_parts, space_parts, belongs_here, Alike, is_onward, cases_lt, ltb-true, true≢false, is_bom, is_skipped, step_at, Gap, with_break, gap_within, gap_at, widths, no_break, break_inside, and-false, Wrong, past_break}
 use Rattle.yaml_scan_laws_texts.proofs.Bytes.{width_alike, IsQuiet, quiet_edge, quiet_break, onward_some}
 
 -- what is no break and not the end goes on
@@ -155,7 +155,7 @@ unfolding is_onward
 skip_onward true b h = grind (arith, nat_tests)
 skip_onward false b h = grind (arith, nat_tests)
 
-hash_is_text : (b c e : ℕ) → b ≡ 35 → not (nat_lt 0 (break_of b c e) || b == 0) ≡ true
+hash_is_text : (b c e : ℕ) → b ≡ 35 → not (b == 0 || nat_lt 0 (break_of b c e)) ≡ true
 hash_is_text b c e h =
     let none = no_break b c e (omega (arith, h)) (omega (arith, h)) (omega (arith, h)) (omega (arith, h)) in
     rw (none, h) refl
@@ -167,19 +167,18 @@ record Passed (t u : List ℕ) (d m p q r : ℕ) : Type 0 where
   pub same : r ≡ d + q
   pub some : 0 < byte t p
 
-run_passed : (t u : List ℕ) (d m p : ℕ) (run : _) → Alike t u d m
-    → ((x : ℕ) → x < m → belongs run u (d + x) ≡ belongs run t x) → p < m
-    → belongs run t p ≡ true → 0 < byte t p
-    → Passed t u d m p (run_end run t p) (run_end run u (d + p))
-run_passed t u d m p run a like l h some =
-    let runs = run_alike t u d m p run a like l in
-    let more = run_further run t p h in
-    record { further = more; inside = omega (arith, runs.inside); same = runs.same; some = some }
+comment_passed : (t u : List ℕ) (d m p : ℕ) → Alike t u d m → p < m → byte t p ≡ 35
+    → Passed t u d m p (line_end t p) (line_end u (d + p))
+comment_passed t u d m p a l hash =
+    let some : 0 < byte t p = omega (arith, hash) in
+    let line = lines_alike t u d m p a l in
+    let more = past_some is_text t p (hash_is_text (byte t p) (byte t (p + 1)) (byte t (p + 2)) hash) some in
+    record { further = more; inside = omega (arith, line.inside); same = line.same; some = some }
 
 passed_place : (tabs : Bool) (t u : List ℕ) (d m p : ℕ) → Alike t u d m → p < m
     → is_passed tabs t p ≡ true
     → Passed t u d m p (step_at tabs t p).place (step_at tabs u (d + p)).place
-unfolding step_at belongs
+unfolding step_at
 passed_place tabs t u d m p a l h =
     let first : (d + p == 0 && is_bom u (d + p)) ≡ (p == 0 && is_bom t p) = a.bom p l in
     let same : byte u (d + p) ≡ byte t p = a.bytes p l in
@@ -195,9 +194,7 @@ passed_place tabs t u d m p a l h =
             rw (first, i, same, j) record { further = omega arith; inside = omega (arith, l); same = omega arith; some = onward_some _ on }
         | inr j ↦
             let k : (byte t p == 35) ≡ true = rw (i, j) at h in
-            let hash = eqb-true _ _ k in
-            rw (first, i, same, j, k)
-            (run_passed t u d m p _ a (λ x y. rw (width_alike t u d m x a y, a.bytes x y) refl) l (hash_is_text (byte t p) (byte t (p + 1)) (byte t (p + 2)) hash) (omega (arith, hash)))
+            rw (first, i, same, j, k) (comment_passed t u d m p a l (eqb-true _ _ k))
       ]
     ]
 

@@ -1,37 +1,17 @@
 -- Each lexeme of a text in UTF-8 starts and is left where the text may be cut, and carries UTF-8.
-use Rattle.std.proofs.Common.{◌≡◌, ℕ, zero, suc, ◌+◌, ◌<◌, ◌≤◌, ◌==◌, ◌&&◌, ◌||◌, not, nat_lt, Bool, true, List, length, refl, inl, inr, arith, IsUtf8, [], ◌∷◌, Option, Some, None, Result, Ok, Err, sym, subst}
-use Rattle.yaml_scan_laws_texts.proofs.Words.{cases_Bool, ltb-true, eqb-true, and_parts, not-false, nat_tests, byte, break_width, is_bom, is_breakz, belongs, run_within, step_at, is_skipped, gap_within, gap_at, comment_end, yaml_mark_t, mark_at, Wrong, Kind, Lexeme, is_end, placed, depth, key_allowed, candidate, fresh, WordText, kind_at, word_at, Next, Read, Fails, Ends, begun, finished, allowed_behind, misplaced, missed, lost_by, next, extended, history, no_colon, tested, unless_wrong, unless_lost, of_kind, unless_missed, stepwise, SpelledText, body_of_word, body_by, body_in, HasTexts, placed_index, with_end}
+use Rattle.std.proofs.Common.{◌≡◌, ℕ, zero, suc, ◌+◌, ◌==◌, ◌&&◌, ◌||◌, not, nat_lt, Bool, true, List, length, inl, inr, arith, IsUtf8, [], ◌∷◌, Option, Some, None, Result, Ok, Err, sym, subst}
+use Rattle.yaml_scan_laws_texts.proofs.Words.{cases_Bool, ltb-true, and_parts, nat_tests, byte, break_width, is_bom, step_at, is_skipped, gap_within, gap_at, comment_end, yaml_mark_t, mark_at, Wrong, Kind, Lexeme, is_end, placed, depth, key_allowed, candidate, fresh, WordText, kind_at, word_at, Next, Read, Fails, Ends, begun, finished, allowed_behind, misplaced, missed, lost_by, next, extended, history, no_colon, tested, unless_wrong, unless_lost, of_kind, unless_missed, stepwise, SpelledText, body_of_word, body_by, body_in, HasTexts, placed_index, with_end}
 use Rattle.yaml_scan_words.proofs.BetweenLemmas.{bom_bytes}
-use Rattle.yaml_scan_laws_texts.proofs.Whole.{IsWhole, whole_past, whole_ascii, whole_after, whole_before, whole_behind, whole_bom}
+use Rattle.yaml_scan_laws_texts.proofs.Whole.{IsWhole, whole_after, whole_behind, whole_bom}
+use Rattle.yaml_scan_laws_texts.proofs.Block.{past_whole}
 use Rattle.yaml_scan_words.specs.Between.{Gap}
 use Rattle.yaml_scan_laws_order.specs.scan_history.declared.kind.Kind.TheVariants as kinds
 use Rattle.yaml_scan_laws_texts.proofs.Utf8Words.{Fits, FitsAny, kind_fits, HasWord, word_utf8}
 
--- at the end or before a break
-stop_whole : (text : List ℕ) (p : ℕ) → IsUtf8 text → is_breakz text p ≡ true → IsWhole text p
-stop_whole text p t h =
-    elim (cases_Bool (nat_lt 0 (break_width text p))) [
-      | inl b ↦ whole_before text p t (ltb-true _ _ b)
-      | inr b ↦ let z : (byte text p == 0) ≡ true = rw b at h in let same = eqb-true _ _ z in whole_ascii text p t (omega (arith, same))
-    ]
-
--- the end of a run that holds all but breaks
-run_whole : (run : _) (text : List ℕ) → IsUtf8 text
-    → ((p : ℕ) → belongs run text p ≡ not (is_breakz text p)) → (n p : ℕ) → length text ≤ p + n
-    → IsWhole text (run_within n run text p)
-unfolding run_within
-run_whole run text t is zero p l = whole_past text p (omega (arith, l))
-run_whole run text t is (suc n) p l =
-    elim (cases_Bool (belongs run text p)) [
-      | inl e ↦ rw e (run_whole run text t is n (p + 1) (omega (arith, l)))
-      | inr e ↦ rw e (stop_whole text p t (not-false (is_breakz text p) (rw (is p) at e)))
-    ]
-
 -- the end of the comment there
 comment_whole : (text : List ℕ) (p : ℕ) → IsUtf8 text → (byte text p == 35) ≡ true
     → IsWhole text (comment_end text p)
-unfolding belongs
-comment_whole text p t h = rw h (run_whole _ text t (λ q. refl) (length text) p (omega arith))
+comment_whole text p t h = rw h (past_whole (length text) text p t (omega arith))
 
 gap_whole : (n : ℕ) (flow allowed : Bool) (text : List ℕ) (p : ℕ) → IsUtf8 text → IsWhole text p
     → IsWhole text (gap_within n flow allowed text p).place

@@ -12,7 +12,7 @@ pub use Rattle.yaml_scan_history.proofs.HistoryLemmas.{candidate-more, first_ope
 pub use Rattle.yaml_scan_history.proofs.MarksLemmas.{column_end, no_break, past_break, start_column, start_line, widths, within}
 pub use Rattle.yaml_scan_history.proofs.PlacesLemmas.{gap_place, run_place}
 pub use Rattle.yaml_scan_history.proofs.RunsLemmas.{blank_parts, past_more, past_some, past_stop, space_parts, text_parts}
-pub use Rattle.yaml_scan_history.proofs.WordsRunsLemmas.{belongs_here, blank_cases, run_further}
+pub use Rattle.yaml_scan_history.proofs.WordsRunsLemmas.{belongs_here, blank_cases}
 pub use Rattle.yaml_scan_history.specs.History.{Candidate, depth, ended, entry_of, first_or, found_by, fresh, has, has_number, in_flow, inside, is_fresh, key_allowed, keyed, left_by, margin_at, marked, open_at, opened, opens_at, opens_of, placed, reached}
 unfoldable pub use Rattle.yaml_scan_history.specs.History.{candidate, entries, first_open, indent, levels, mark_key}
 pub use Rattle.yaml_scan_history.specs.Kinds.{allows_key, cancels, depth_after, is_end, is_outside, is_start, is_value, may_be_key}

@@ -1,5 +1,6 @@
 -- Runs of bytes, a byte at a time.
-use Rattle.std.proofs.Common.{if◌then◌else◌, ◌-◌, ◌≡◌, ◌≢◌, ℕ, zero, suc, ◌+◌, ◌<◌, ◌≤◌, ◌==◌, ◌||◌, nat_lt, Bool, true, false, not, List, length, refl, ◌∙◌, arith}
+use Rattle.std.proofs.Common.{if◌then◌else◌, ◌-◌, ◌≡◌, ◌≢◌, ℕ, zero, suc, ◌+◌, ◌<◌, ◌≤◌, ◌==◌, ◌||◌, nat_lt, Bool, true, false, not, List, length, refl, ◌∙◌, inl, inr, arith}
+use Rattle.std.proofs.lemmas.Bool.{cases_Bool}
 use Rattle.std.proofs.lemmas.Bool.Decides.{nat_tests}
 use Rattle.yaml_scan_model.specs.Marks.{byte, break_of, break_width, is_blank}
 use Rattle.yaml_scan_model.specs.Runs.{past, is_text}
@@ -52,6 +53,18 @@ past-le kind (suc n) text p = elim (kind text p) as (λ b. p ≤ (if b then past
   | true ↦ let le = past-le kind n text (p + 1) in omega arith
   | false ↦ omega arith
 ]
+
+-- It ends inside the text.
+pub past-inside : (kind : List ℕ → ℕ → Bool) (n : ℕ) (text : List ℕ) (p : ℕ)
+    → ((q : ℕ) → kind text q ≡ true → 0 < byte text q) → p ≤ length text
+    → past kind n text p ≤ length text
+unfolding past
+past-inside kind zero text p some l = l
+past-inside kind (suc n) text p some l =
+    elim (cases_Bool (kind text p)) [
+      | inl e ↦ let here = within text p (some p e) in rw e (past-inside kind n text (p + 1) some (omega (arith, here)))
+      | inr e ↦ rw e l
+    ]
 
 -- some byte of the kind stands there
 pub past_some : (kind : List ℕ → ℕ → Bool) (text : List ℕ) (p : ℕ) → kind text p ≡ true

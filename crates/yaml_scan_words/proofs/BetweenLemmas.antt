@@ -1,9 +1,7 @@
 -- Gaps between lexemes, a step at a time.
-use Rattle.std.proofs.Common.{◌≡◌, ℕ, zero, suc, ◌+◌, ◌<◌, ◌≤◌, ◌==◌, ◌&&◌, ◌||◌, nat_lt, if◌then◌else◌, Bool, true, false, not, List, length, refl, sym, ap, ◌∙◌, inl, inr, ◌⊎◌, arith}
-use Rattle.yaml_scan_words.proofs.Words.{cases_Bool, and_parts, eqb-true, ltb-true, nat_tests, byte, break_of, break_width, is_bom, no_break, within, belongs, run_end, GapStep, step_at, is_skipped, Gap, with_break, gap_within}
+use Rattle.std.proofs.Common.{◌≡◌, ℕ, zero, suc, ◌+◌, ◌<◌, ◌≤◌, ◌==◌, ◌&&◌, ◌||◌, nat_lt, Bool, true, false, not, List, length, refl, sym, ap, ◌∙◌, inl, inr, ◌⊎◌, arith}
+use Rattle.yaml_scan_words.proofs.Words.{cases_Bool, and_parts, eqb-true, ltb-true, nat_tests, byte, break_of, break_width, is_bom, no_break, within, past_some, is_text, line_end, GapStep, step_at, is_skipped, Gap, with_break, gap_within}
 use Rattle.yaml_scan_words.specs.declared.between.GapSpot.TheVariants as gap_spots
-use Rattle.yaml_scan_words.specs.declared.run.Run.TheVariants as runs
-use Rattle.yaml_scan_words.proofs.RunsLemmas.{run_further}
 
 break_first : (b c d : ℕ) → 0 < break_of b c d → 0 < b
 unfolding break_of
@@ -12,9 +10,8 @@ break_first b c d h = grind (arith, nat_tests)
 pub break_inside : (text : List ℕ) (p : ℕ) → 0 < break_width text p → p < length text
 break_inside text p h = within text p (break_first _ _ _ h)
 
-hash_belongs : (text : List ℕ) (p : ℕ) → byte text p ≡ 35 → belongs runs.Line text p ≡ true
-unfolding belongs
-hash_belongs text p h =
+hash_text : (text : List ℕ) (p : ℕ) → byte text p ≡ 35 → is_text text p ≡ true
+hash_text text p h =
     let none : break_width text p ≡ 0 = no_break _ _ _ (omega arith) (omega arith) (omega arith) (omega arith) in
     rw (none, h) refl
 
@@ -97,10 +94,9 @@ pub bom_first : (text : List ℕ) (p : ℕ) → (p == 0 && is_bom text p) ≡ tr
 bom_first text p h = (and_parts (p == 0) (is_bom text p) h).1
 
 hash_inside : (text : List ℕ) (p : ℕ) → byte text p ≡ 35
-    → (p < run_end runs.Line text p) × (p < length text)
+    → (p < line_end text p) × (p < length text)
 hash_inside text p h =
-    let b : belongs runs.Line text p ≡ true = hash_belongs text p h in
-    (run_further runs.Line text p b, within text p (omega arith))
+    (past_some is_text text p (hash_text text p h) (omega arith), within text p (omega arith))
 
 -- a step stops at a lexeme, or goes on inside the text
 pub step_moves : (tabs : Bool) (text : List ℕ) (p : ℕ)

@@ -1,6 +1,6 @@
 -- Where lexemes and gaps end: behind their start, and inside the text.
 use Rattle.std.proofs.Common.{◌≡◌, ℕ, zero, suc, ◌+◌, ◌-◌, ◌<◌, ◌≤◌, ◌==◌, ◌&&◌, ◌||◌, nat_lt, Bool, true, false, not, List, [], ◌∷◌, length, Option, Some, None, IsSome, Result, Ok, Err, refl, inl, inr, arith}
-use Rattle.yaml_scan_words.proofs.Words.{cases_Bool, eqb-true, ltb-true, Context, Problem, byte, break_width, is_blank_or_end, is_bom, Wrong, within, past_break, GapSpot, Run, belongs, run_end, step_at, is_skipped, Gap, gap_behind, gap_within, gap_at, behind_bytes, anchor_at, name_between, may_end_name, is_uri, octet_at, due_behind, UriSpot, Spells, Ends, Faulty, escape_spot, octet_spot, spot_at, with_bytes, uri_from, uri_within, uri_at, filled, some_uri_at, TagText, tag_end, bracketed, verbatim_at, name_end, with_handle, named_at, bare, parts_at, may_end_tag, ended, tag_at, DirectiveName, value_end, name_behind, number_behind, line_place, then_at, is_yaml, is_tag, directive_name_between, name_at, number_between, number_at, with_major, minor_at, version_at, handle_between, handle_at, prefix_ended, prefix_at, with_prefix, tag_directive_at, named_value_at, value_at, comment_end, break_end, line_end_at}
+use Rattle.yaml_scan_words.proofs.Words.{cases_Bool, eqb-true, ltb-true, Context, Problem, byte, break_width, is_blank_or_end, is_bom, is_text, line_end, past-le, past-inside, text_parts, Wrong, within, past_break, GapSpot, Run, belongs, run_end, step_at, is_skipped, Gap, gap_behind, gap_within, gap_at, behind_bytes, anchor_at, name_between, may_end_name, is_uri, octet_at, due_behind, UriSpot, Spells, Ends, Faulty, escape_spot, octet_spot, spot_at, with_bytes, uri_from, uri_within, uri_at, filled, some_uri_at, TagText, tag_end, bracketed, verbatim_at, name_end, with_handle, named_at, bare, parts_at, may_end_tag, ended, tag_at, DirectiveName, value_end, name_behind, number_behind, line_place, then_at, is_yaml, is_tag, directive_name_between, name_at, number_between, number_at, with_major, minor_at, version_at, handle_between, handle_at, prefix_ended, prefix_at, with_prefix, tag_directive_at, named_value_at, value_at, comment_end, break_end, line_end_at}
 use Rattle.yaml_scan_model.specs.declared.problem.Context.TheVariants as contexts
 use Rattle.yaml_scan_words.specs.declared.between.GapSpot.TheVariants as gap_spots
 use Rattle.yaml_scan_words.specs.declared.run.Run.TheVariants as runs
@@ -21,6 +21,13 @@ pub run_place : (run : Run) (text : List ℕ) (p : ℕ) → p ≤ length text
     → IsFrom text p (run_end run text p)
 run_place run text p h = record { forward = run_within-ge (length text) run text p; inside = run_within-le (length text) run text p h }
 
+-- a line's text ends behind its start or at it, inside the text
+text_place : (text : List ℕ) (p : ℕ) → p ≤ length text → IsFrom text p (line_end text p)
+text_place text p l = record {
+  forward = past-le is_text (length text) text p;
+  inside = past-inside is_text (length text) text p (λ q h. (text_parts text q h).0) l;
+}
+
 step_place : (tabs : Bool) (text : List ℕ) (p : ℕ) → p ≤ length text
     → IsFrom text p (step_at tabs text p).place
 unfolding step_at
@@ -36,7 +43,7 @@ step_place tabs text p l =
             let here = within text p some in
             rw (h, i) record { forward = omega arith; inside = omega arith }
         | inr i ↦ elim (cases_Bool (byte text p == 35)) [
-          | inl j ↦ rw (h, i, j) (run_place runs.Line text p l)
+          | inl j ↦ rw (h, i, j) (text_place text p l)
           | inr j ↦ elim (cases_Bool (nat_lt 0 (break_width text p))) [
             | inl k ↦
                 let past = past_break text p (ltb-true _ _ k) in
@@ -345,7 +352,7 @@ value_place text p l =
 comment_place : (text : List ℕ) (p : ℕ) → p ≤ length text → IsFrom text p (comment_end text p)
 comment_place text p l =
     elim (cases_Bool (byte text p == 35)) [
-      | inl h ↦ rw h (run_place runs.Line text p l)
+      | inl h ↦ rw h (text_place text p l)
       | inr h ↦ rw h record { forward = omega arith; inside = l }
     ]
 

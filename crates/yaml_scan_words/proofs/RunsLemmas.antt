@@ -1,6 +1,6 @@
 -- Runs, a byte at a time.
-use Rattle.std.proofs.Common.{◌≡◌, ℕ, zero, suc, ◌+◌, ◌-◌, ◌<◌, ◌≤◌, ◌==◌, nat_lt, ◌||◌, true, false, not, List, length, refl, ◌∙◌, inl, inr, ◌⊎◌, arith}
-use Rattle.yaml_scan_words.proofs.Words.{cases_Bool, nat_tests, byte, break_width, is_blank, is_alpha_byte, is_digit_byte, no_break, within, Run, belongs, run_within, run_end}
+use Rattle.std.proofs.Common.{◌≡◌, ℕ, zero, suc, ◌+◌, ◌-◌, ◌<◌, ◌≤◌, true, false, List, length, refl, ◌∙◌, inl, inr, ◌⊎◌, arith}
+use Rattle.yaml_scan_words.proofs.Words.{cases_Bool, nat_tests, byte, break_width, is_blank, is_alpha_byte, is_digit_byte, no_break, within, Run, belongs, run_within}
 use Rattle.yaml_scan_words.specs.declared.run.Run.TheVariants as runs
 
 digit_range : (b : ℕ) → is_digit_byte b ≡ true → (48 ≤ b) × (b ≤ 57)
@@ -14,9 +14,6 @@ alpha_range b h = (grind (arith, nat_tests), grind (arith, nat_tests))
 -- a space or a tab
 pub blank_cases : (b : ℕ) → is_blank b ≡ true → (b ≡ 32) ⊎ (b ≡ 9)
 blank_cases b h = grind (arith, nat_tests)
-
-line_parts : (b w : ℕ) → not (nat_lt 0 w || b == 0) ≡ true → (0 < b) × (w ≡ 0)
-line_parts b w h = (grind (arith, nat_tests), grind (arith, nat_tests))
 
 -- a byte of a run is no break and not the end
 pub belongs_here : (run : Run) (text : List ℕ) (p : ℕ) → belongs run text p ≡ true
@@ -33,7 +30,6 @@ belongs_here runs.Blanks text p h =
       | inl e ↦ (omega arith, no_break _ _ _ (omega arith) (omega arith) (omega arith) (omega arith))
       | inr e ↦ (omega arith, no_break _ _ _ (omega arith) (omega arith) (omega arith) (omega arith))
     ]
-belongs_here runs.Line text p h = line_parts (byte text p) (break_width text p) h
 
 -- A byte of a run stands within the text.
 pub belongs_inside : (run : Run) (text : List ℕ) (p : ℕ) → belongs run text p ≡ true
@@ -105,15 +101,6 @@ run_within-le (suc n) run text p h =
       | inl e ↦ let inside = belongs_inside run text p e in rw e (run_within-le n run text (p + 1) (omega arith))
       | inr e ↦ rw e h
     ]
-
--- a run that a byte begins goes past it
-pub run_further : (run : Run) (text : List ℕ) (p : ℕ) → belongs run text p ≡ true
-    → p < run_end run text p
-run_further run text p h =
-    let inside = belongs_inside run text p h in
-    let (m, room, same) = run_more (length text) run text p h (omega arith) in
-    let more = run_within-ge m run text (p + 1) in
-    rw same (omega arith)
 
 -- a digit is printed ASCII
 pub digit_printed : (text : List ℕ) (p : ℕ) → belongs runs.Digits text p ≡ true

@@ -3,9 +3,8 @@ use Rattle.std.specs.Prelude.{ℕ, zero, suc, ◌+◌, Bool, true, false, not, �
 use Rattle.yaml_scan_model.specs.Ascii as ascii
 use Rattle.yaml_scan_words.specs.declared.between.GapSpot.{GapSpot}
 use Rattle.yaml_scan_words.specs.declared.between.GapSpot.TheVariants as gap_spots
-use Rattle.yaml_scan_words.specs.declared.run.Run.TheVariants as runs
-use Rattle.yaml_scan_words.specs.Runs.{run_end}
 use Rattle.yaml_scan_model.specs.Marks.{byte, break_width}
+use Rattle.yaml_scan_model.specs.Runs.{line_end}
 use Rattle.yaml_scan_model.specs.Classes.{is_bom}
 
 -- what stands at a place between lexemes, and the place behind it
@@ -24,8 +23,7 @@ step_at tabs text p =
     else if is_skipped tabs text p then record { standing = gap_spots.Blank; place = p + 1 }
     else if byte text p == ascii.hash then record {
       standing = gap_spots.Blank;
-      place = run_end runs.Line
-          text p;
+      place = line_end text p;
     }
     else if nat_lt 0 (break_width text p)
     then record { standing = gap_spots.Break; place = p + break_width text p }

@@ -7,6 +7,7 @@ use Rattle.yaml_scan_words.specs.declared.directives.DirectiveName.TheVariants a
 use Rattle.yaml_scan_model.specs.declared.problem.Context.TheVariants as contexts
 use Rattle.yaml_scan_model.specs.declared.problem.Problem.TheVariants as problems
 use Rattle.yaml_scan_model.specs.Marks.{byte, break_width, is_blank_or_end}
+use Rattle.yaml_scan_model.specs.Runs.{line_end}
 use Rattle.yaml_scan_model.specs.Wrong.{Wrong}
 use Rattle.yaml_scan_words.specs.Runs.{belongs, run_end}
 use Rattle.yaml_scan_words.specs.Uris.{some_uri_at}
@@ -184,7 +185,7 @@ value_at text p = then_at (named_value_at text) (name_at text p)
 
 -- the place behind the comment there, if one starts there
 abbrev pub comment_end : List ℕ → ℕ → ℕ
-comment_end text p = if byte text p == ascii.hash then run_end runs.Line text p else p
+comment_end text p = if byte text p == ascii.hash then line_end text p else p
 
 -- the place behind the break there, or at the end
 abbrev pub break_end : List ℕ → ℕ → Result ℕ Wrong

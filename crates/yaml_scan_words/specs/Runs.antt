@@ -1,15 +1,14 @@
 -- Runs of bytes that go together.
-use Rattle.std.specs.Prelude.{ℕ, zero, suc, ◌+◌, Bool, not, if◌then◌else◌, List, length}
+use Rattle.std.specs.Prelude.{ℕ, zero, suc, ◌+◌, Bool, if◌then◌else◌, List, length}
 use Rattle.yaml_scan_words.specs.declared.run.Run.{Run}
 use Rattle.yaml_scan_words.specs.declared.run.Run.TheVariants as runs
-use Rattle.yaml_scan_model.specs.Classes.{is_alpha, is_digit, is_blank, is_breakz}
+use Rattle.yaml_scan_model.specs.Classes.{is_alpha, is_digit, is_blank}
 
 -- what stands there belongs to the run
 unfoldable pub belongs : Run → List ℕ → ℕ → Bool
 belongs runs.Alphas text p = is_alpha text p
 belongs runs.Digits text p = is_digit text p
 belongs runs.Blanks text p = is_blank text p
-belongs runs.Line text p = not (is_breakz text p)
 
 -- the place behind the run that stands there, of at most n bytes
 unfoldable pub run_within : ℕ → Run → List ℕ → ℕ → ℕ

@@ -3,11 +3,11 @@
 ghost use Rattle.std.specs.Prelude.{◌≡◌, ◌≤◌, ◌<◌, ◌||◌, ◌&&◌, ◌==◌, ◌+◌, nat_lt, not, true, ℕ, length};
 ghost use Rattle.yaml_scan_model.specs.Ascii as ascii;
 ghost use Rattle.yaml_scan_model.specs.Classes.{is_bom};
+ghost use Rattle.yaml_scan_model.specs.Runs.{line_end};
 ghost use Rattle.yaml_scan_words.specs.Between as spec;
 
-use crate::run::{Run, skip_run};
 use yaml_scan_classes::IS_BOM;
-use yaml_scan_model::Reader;
+use yaml_scan_model::{Reader, skip_text};
 
 /// What stands at a place between lexemes.
 #[derive(Clone, Copy)]
@@ -79,7 +79,7 @@ fn pass_one(reader: &mut Reader, tabs: bool) -> GapSpot
         return GapSpot::Blank;
     }
     if reader.here() == b'#' {
-        skip_run(Run::Line, reader);
+        pass_remark(reader);
         return GapSpot::Blank;
     }
     if reader.break_width() > 0 {
@@ -87,6 +87,22 @@ fn pass_one(reader: &mut Reader, tabs: bool) -> GapSpot
         return GapSpot::Break;
     }
     GapSpot::Lexeme
+}
+
+/// Up to the break or the end behind the comment that stands here.
+// A copy is lent: a reader that is lent to a call out of line lives in memory, and so it would for each gap.
+// Inlined always: the room of the copy is set to zero where a comment stands, and not where the caller begins.
+#[inline(always)]
+fn pass_remark(reader: &mut Reader)
+    ensures { reader.new ≡ record {
+      text = reader.old.text;
+      at = line_end reader.old.text
+          reader.old.at;
+    } }
+{
+    let mut copy = reader.ahead();
+    skip_text(&mut copy);
+    *reader = copy;
 }
 
 /// Whether the byte begins no blank, comment, break or U+FEFF, as nearly all bytes of lexemes.

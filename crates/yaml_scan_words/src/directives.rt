@@ -11,7 +11,7 @@ use crate::prefixes::tag_directive;
 use crate::run::{Run, skip_indicator, skip_run};
 use crate::versions::version;
 use crate::word::{Directive, DirectiveWord, refusal};
-use yaml_scan_model::{Context, Problem, Reader, ScanError, Spares, yaml_mark_t};
+use yaml_scan_model::{Context, Problem, Reader, ScanError, Spares, skip_text, yaml_mark_t};
 
 /// Which directive a name tells.
 #[derive(Clone, Copy)]
@@ -124,6 +124,6 @@ fn skip_comment(reader: &mut Reader)
     } }
 {
     if reader.here() == b'#' {
-        skip_run(Run::Line, reader);
+        skip_text(reader);
     }
 }

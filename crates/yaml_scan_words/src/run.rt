@@ -9,7 +9,7 @@ ghost use Rattle.yaml_scan_words.specs.Runs as spec;
 ghost use Rattle.yaml_scan_words.specs.Written.{is_kept};
 
 use std::alloc::AllocError;
-use yaml_scan_classes::{IS_ALPHA, IS_BLANK, IS_BREAKZ, IS_DIGIT};
+use yaml_scan_classes::{IS_ALPHA, IS_BLANK, IS_DIGIT};
 use yaml_scan_model::{Reader, Spares, copied as copied_bytes};
 
 /// Which bytes go together.
@@ -21,8 +21,6 @@ pub(crate) enum Run {
     Digits,
     /// Spaces and tabs.
     Blanks,
-    /// All up to the break or the end.
-    Line,
 }
 
 /// Whether what stands there belongs to the run.
@@ -36,7 +34,6 @@ pub(crate) fn belongs(run: Run, text: &[u8], place: usize) -> bool
         Run::Alphas => IS_ALPHA(text, place),
         Run::Digits => IS_DIGIT(text, place),
         Run::Blanks => IS_BLANK(text, place),
-        Run::Line => !IS_BREAKZ(text, place),
     }
 }
 

@@ -60,6 +60,23 @@ pub fn copied_whole(spares: &mut Spares, bytes: &[u8]) -> Result<Vec<u8>, AllocE
     Ok(copy)
 }
 
+/// An empty text: a spare one, if there is one.
+// Inlined: some moves.
+#[inline(always)]
+pub fn spare(spares: &mut Spares) -> Vec<u8>
+    ensures { result.items ≡ [] }
+{
+    let alloc = *spares.allocator();
+    match spares.take() {
+        Some(text) => {
+            let mut text = text;
+            text.clear();
+            text
+        }
+        None => Vec::new(alloc),
+    }
+}
+
 /// An empty text with room for so many bytes: a spare one, where it has that.
 // Inlined: mostly it has it.
 #[inline(always)]

@@ -14,12 +14,14 @@ ghost use Rattle.yaml_parse_core.specs.Extra.{value_in, style_in, name_in, encod
 ghost use Rattle.yaml_parse_core.specs.declared.told.Implied.TheVariants as implied;
 ghost use Rattle.yaml_parse_core.specs.Owned.{owned_properties};
 ghost use Rattle.yaml_parse_core.specs.Views.{text_if, tag_if, shape_at, named_item, node_item, told_item, told_body, implied_item};
+ghost use Rattle.yaml_parse_resolve.specs.Bare.{OwnsNothing};
 ghost use Rattle.yaml_parse_resolve.specs.Settles.{directives_of, Resolves, Names, Notes, Comes, ComesTo};
 
 use crate::handles::TagDirectives;
 use crate::nodes::tell_named;
+use crate::room::{put_aside, put_bare};
 use crate::scalars::empty;
-use crate::slots::put;
+use crate::slots::{end_mapping, end_sequence, put};
 use std::alloc::{AllocError, Global};
 use yaml_parse_core::{Implied, Shape, Waiting};
 use yaml_parse_grammar::{ParseFault, ParseProblem};
@@ -255,13 +257,14 @@ pub(crate) fn end_document(
     implicit: bool,
     event: &mut yaml_event_body_t,
 )
+    requires { OwnsNothing event.old }
     ensures body { body_of event.new ≡ told.document_end implicit }
     ensures directives { directives_of directives.new ≡ behind_event (told.document_end implicit)
         (directives_of directives.old) }
 {
     directives.version = None;
     directives.tags.clear();
-    put(event, yaml_event_body_t::DocumentEnd { implicit });
+    put_bare(event, yaml_event_body_t::DocumentEnd { implicit });
 }
 
 // A document starts, with the directives before it.
@@ -320,6 +323,8 @@ pub fn settle_named(
 }
 
 // A node that is nothing but its properties.
+// Out of line: see `imply_sequence_end`.
+#[inline(never)]
 fn settle_alone(
     tags: &TagDirectives,
     waiting: &mut Waiting<Vec<u8>, yaml_mark_t>,
@@ -340,6 +345,42 @@ fn settle_alone(
     } else {
         Settled::Refused
     }
+}
+
+// A sequence ends in front of a token.
+// Out of line: in line all that is implied would put registers aside for the rest.
+#[inline(never)]
+fn imply_sequence_end(waiting: &mut Waiting<Vec<u8>, yaml_mark_t>, event: &mut yaml_event_body_t)
+    ensures { body_of event.new ≡ told.sequence_end }
+{
+    put_aside(event, waiting);
+    end_sequence(event);
+}
+
+// A mapping ends in front of a token.
+// Out of line: see `imply_sequence_end`.
+#[inline(never)]
+fn imply_mapping_end(waiting: &mut Waiting<Vec<u8>, yaml_mark_t>, event: &mut yaml_event_body_t)
+    ensures { body_of event.new ≡ told.mapping_end }
+{
+    put_aside(event, waiting);
+    end_mapping(event);
+}
+
+// A document ends in front of a token.
+// Out of line: see `imply_sequence_end`.
+#[inline(never)]
+fn imply_document_end(
+    directives: &mut Directives,
+    waiting: &mut Waiting<Vec<u8>, yaml_mark_t>,
+    event: &mut yaml_event_body_t,
+)
+    ensures body { body_of event.new ≡ told.document_end true }
+    ensures directives { directives_of directives.new ≡ behind_event (told.document_end true)
+        (directives_of directives.old) }
+{
+    put_aside(event, waiting);
+    end_document(directives, true, event);
 }
 
 /// The event of what stands in front of a token that stays, at that place, or a fault: its tag's handle stands for nothing.
@@ -370,15 +411,15 @@ pub fn settle_implied(
         }
         Implied::Properties => settle_alone(&directives.tags, waiting, event, fault),
         Implied::SequenceEnd => {
-            put(&mut event.body, yaml_event_body_t::SequenceEnd);
+            imply_sequence_end(waiting, &mut event.body);
             Settled::Event
         }
         Implied::MappingEnd => {
-            put(&mut event.body, yaml_event_body_t::MappingEnd);
+            imply_mapping_end(waiting, &mut event.body);
             Settled::Event
         }
         Implied::DocumentEnd => {
-            end_document(directives, true, &mut event.body);
+            imply_document_end(directives, waiting, &mut event.body);
             Settled::Event
         }
     }

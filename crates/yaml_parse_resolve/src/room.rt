@@ -110,6 +110,63 @@ pub fn clears(earlier: &mut yaml_event_body_t, room: &mut Vec<u8>) -> bool
     }
 }
 
+/// Takes the texts out of a slot of events, in front of a token that stays. Their room is left in place of properties that are done
+/// with, where those have none.
+// Inlined: mostly a comparison of the kind, and some moves.
+#[inline(always)]
+pub(crate) fn put_aside(
+    earlier: &mut yaml_event_body_t,
+    waiting: &mut Waiting<Vec<u8>, yaml_mark_t>,
+)
+    ensures { OwnsNothing earlier.new }
+{
+    if clears(earlier, &mut waiting.anchor) {
+        return;
+    }
+    put_all_aside(earlier, waiting);
+}
+
+// The same, where a text has properties, or the place of an anchor has room already.
+// Out of line: mostly it is a scalar without properties.
+#[inline(never)]
+fn put_all_aside(earlier: &mut yaml_event_body_t, waiting: &mut Waiting<Vec<u8>, yaml_mark_t>)
+    ensures { OwnsNothing earlier.new }
+{
+    match earlier {
+        yaml_event_body_t::Scalar {
+            anchor,
+            tag,
+            value,
+            ..
+        } => {
+            leave_in(anchor, &mut waiting.anchor);
+            leave_in(tag, &mut waiting.handle);
+            leave_text(moved(value), waiting);
+        }
+        yaml_event_body_t::Alias { anchor } => leave_text(moved(anchor), waiting),
+        yaml_event_body_t::SequenceStart { anchor, tag, .. } => {
+            leave_in(anchor, &mut waiting.anchor);
+            leave_in(tag, &mut waiting.handle);
+        }
+        yaml_event_body_t::MappingStart { anchor, tag, .. } => {
+            leave_in(anchor, &mut waiting.anchor);
+            leave_in(tag, &mut waiting.handle);
+        }
+        _ => clear(earlier),
+    }
+}
+
+// Leaves a text in place of an anchor or of a suffix, if one of them has no room.
+// Inlined: some moves.
+#[inline(always)]
+fn leave_text(text: Vec<u8>, waiting: &mut Waiting<Vec<u8>, yaml_mark_t>) {
+    if waiting.anchor.capacity() == 0 {
+        waiting.anchor = text;
+    } else if waiting.suffix.capacity() == 0 {
+        waiting.suffix = text;
+    }
+}
+
 /// Takes the texts out of a slot of events, in front of a node with properties. The room of a scalar's texts is left: that of its
 /// value in the slot of a token that is taken, that of its tag in place of a suffix that is done with, if that has none, and that of
 /// its anchor is answered.
@@ -231,16 +288,15 @@ fn clear(earlier: &mut yaml_event_body_t)
     *earlier = yaml_event_body_t::No;
 }
 
-// The text of a token that is taken, which keeps the room of an anchor, if there is one.
+// The text of a token that is taken, which keeps the room of a property, if there is one.
 // Inlined: some moves.
 #[inline(always)]
-fn in_place_of(text: &mut Vec<u8>, anchor: &mut Option<Vec<u8>>) -> Vec<u8>
-    ensures text { result.items ≡ text.old.items }
-    ensures anchor { anchor.new ≡ None }
+fn in_place_of(text: &mut Vec<u8>, property: Option<Vec<u8>>) -> Vec<u8>
+    ensures { result.items ≡ text.old.items }
 {
-    match anchor.take() {
+    match property {
         None => moved(text),
-        Some(name) => mem::replace(text, name),
+        Some(room) => mem::replace(text, room),
     }
 }
 
@@ -265,12 +321,10 @@ pub fn exchanged(earlier: &mut yaml_event_body_t, text: &mut Vec<u8>) -> Vec<u8>
         }
         yaml_event_body_t::Alias { anchor } => replaced(text, anchor),
         yaml_event_body_t::SequenceStart { anchor, tag, .. } => {
-            *tag = None;
-            in_place_of(text, anchor)
+            in_place_of(text, taken(anchor, tag))
         }
         yaml_event_body_t::MappingStart { anchor, tag, .. } => {
-            *tag = None;
-            in_place_of(text, anchor)
+            in_place_of(text, taken(anchor, tag))
         }
         yaml_event_body_t::DocumentStart { .. } => {
             clear(earlier);

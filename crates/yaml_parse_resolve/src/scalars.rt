@@ -1,7 +1,7 @@
 //! Scalars in a slot of events. Where it holds one already, that is changed in place: to put a new one there, the old one is taken
 //! apart, asked what it owns, and set to zero.
 
-ghost use Rattle.std.specs.Prelude.{◌≡◌, None, Some, codes, true};
+ghost use Rattle.std.specs.Prelude.{◌≡◌, [], None, Some, codes, true};
 ghost use Rattle.std.specs.Str.{bytes_eq};
 ghost use Rattle.yaml_parse_model.specs.Events.{body_of};
 ghost use Rattle.yaml_parse_model.specs.Events as told;
@@ -14,7 +14,7 @@ use crate::room::{exchange, exchanged, give_back, is_bare, put_bare, replaced, t
 use std::alloc::Global;
 use std::mem;
 use yaml_parse_core::Waiting;
-use yaml_parse_model::{yaml_event_body_t, yaml_mark_t, yaml_scalar_style_t};
+use yaml_parse_model::{moved, yaml_event_body_t, yaml_mark_t, yaml_scalar_style_t};
 
 // How a scalar may be written with its tag left out, in plain style and in every other one, and its own style.
 #[derive(Clone, Copy)]
@@ -204,7 +204,7 @@ fn other_bare(
     ensures { body_of event.new ≡ node_event None None (item.scalar value.old.items style) }
 {
     if is_bare(event) {
-        put_bare(event, bare_of(replaced(value, &mut waiting.anchor), style));
+        start_bare(replaced(value, &mut waiting.anchor), style, event);
     } else {
         bare_over(waiting, value, style, event);
     }
@@ -337,6 +337,8 @@ pub(crate) fn named(
 }
 
 /// An empty node behind those properties. Its tag stands in full in the place of its handle.
+// Out of line: see `imply_sequence_end`.
+#[inline(never)]
 pub(crate) fn empty(
     waiting: &mut Waiting<Vec<u8>, yaml_mark_t>,
     has_anchor: bool,
@@ -351,6 +353,22 @@ pub(crate) fn empty(
         quoted: false,
         style: yaml_scalar_style_t::YAML_PLAIN_SCALAR_STYLE,
     };
-    let mut nothing = Vec::new(*waiting.anchor.allocator());
+    let mut nothing = room_of_value(*waiting.anchor.allocator(), event);
     put_scalar(waiting, has_anchor, has_tag, &mut nothing, form, event);
+}
+
+// An empty text, in the room of an earlier scalar's value, if the slot of events holds one.
+// Inlined into its one caller.
+#[inline(always)]
+fn room_of_value(alloc: Global, event: &mut yaml_event_body_t) -> Vec<u8>
+    ensures { result.items ≡ [] }
+{
+    match event {
+        yaml_event_body_t::Scalar { value, .. } => {
+            let mut room = moved(value);
+            room.clear();
+            room
+        }
+        _ => Vec::new(alloc),
+    }
 }

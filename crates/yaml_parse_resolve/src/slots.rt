@@ -24,7 +24,7 @@ pub(crate) fn put(slot: &mut yaml_event_body_t, event: yaml_event_body_t)
 }
 
 /// A sequence ends.
-// Inlined into its one caller, which is out of line.
+// Inlined into its callers, which are out of line.
 #[inline(always)]
 pub(crate) fn end_sequence(slot: &mut yaml_event_body_t)
     requires { OwnsNothing slot.old }

@@ -1,17 +1,17 @@
 //! What tokens tell but nodes: where collections, documents and the stream begin and end, aliases, directives.
 
-ghost use Rattle.std.specs.Prelude.{◌≡◌, []};
+ghost use Rattle.std.specs.Prelude.{◌≡◌, [], false};
 ghost use Rattle.yaml_parse_model.specs.Slots.{body_in_slot, token_in_slot};
 ghost use Rattle.yaml_parse_model.specs.Events.{body_of, event_of};
 ghost use Rattle.yaml_parse_model.specs.Events as told;
 ghost use Rattle.yaml_parse_model.specs.Faults.{fault_of};
-ghost use Rattle.yaml_parse_grammar.specs.Resolve.{directive_for, with_version, with_tag};
+ghost use Rattle.yaml_parse_grammar.specs.Resolve.{behind_event, directive_for, with_version, with_tag};
 ghost use Rattle.yaml_parse_core.specs.Extra.{name_in, encoding_in, major_in, minor_in, handle_in, prefix_in};
 ghost use Rattle.yaml_parse_core.specs.Views.{told_item};
 ghost use Rattle.yaml_parse_resolve.specs.Settles.{directives_of, Notes, ComesTo};
 
 use crate::resolving::{Directives, Settled, end_document, note_tag, note_version, start_document};
-use crate::room::{is_bare, vacate_full};
+use crate::room::{is_bare, vacate, vacate_full};
 use crate::slots::{end_mapping, end_sequence, put, put_alias};
 use std::alloc::Global;
 use yaml_parse_core::Told;
@@ -152,6 +152,22 @@ fn mapping_end_over(token: &mut BodySlot, event: &mut yaml_event_body_t)
     end_mapping(event);
 }
 
+// A document ends.
+// Out of line: it is met once a document.
+#[inline(never)]
+fn tell_document_end(
+    directives: &mut Directives,
+    token: &mut BodySlot,
+    event: &mut yaml_event_body_t,
+)
+    ensures body { body_of event.new ≡ told.document_end false }
+    ensures directives { directives_of directives.new ≡ behind_event (told.document_end false)
+        (directives_of directives.old) }
+{
+    vacate(event, token);
+    end_document(directives, false, event);
+}
+
 /// What a token tells but nodes: the event, or nothing for a directive, or a fault.
 // Inlined into its one caller, the parser's step.
 #[inline(always)]
@@ -198,7 +214,7 @@ pub fn settle_told(
             start_document(directives, false, &mut event.body, fault)
         }
         Told::DocumentEnd => {
-            end_document(directives, false, &mut event.body);
+            tell_document_end(directives, &mut token.body, &mut event.body);
             Settled::Event
         }
     }

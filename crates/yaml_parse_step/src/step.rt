@@ -183,9 +183,15 @@ fn tell_rare(
 }
 
 // Where it stands: where the indicator before it ends, or the token begins.
-fn implied_place(implied: Implied, before: yaml_mark_t, start: yaml_mark_t) -> yaml_mark_t
-    ensures { (p : Properties) → implied_item implied p result result
-        ≡ implied_item implied p before start }
+// Inlined: a choice of one of two addresses.
+#[inline(always)]
+fn implied_place<'a>(
+    implied: Implied,
+    before: &'a yaml_mark_t,
+    start: &'a yaml_mark_t,
+) -> &'a yaml_mark_t
+    ensures { (p : Properties) → implied_item implied p result.now result.now
+        ≡ implied_item implied p before.now start.now }
 {
     match implied {
         Implied::NothingBefore => before,
@@ -211,11 +217,11 @@ fn leave(
         (fault_of fault.new) buffers.new }
 {
     buffers.is_held = true;
-    let at = implied_place(implied, buffers.machine.before, buffers.token.start_mark);
+    let at = implied_place(implied, &buffers.machine.before, &buffers.token.start_mark);
     let came = settle_implied(
         &mut buffers.directives,
         implied,
-        &at,
+        at,
         &mut buffers.waiting,
         event,
         fault,

@@ -1,7 +1,8 @@
 -- Block scalars' lines, a step at a time.
-use Rattle.std.proofs.Common.{◌≡◌, ◌≢◌, ℕ, zero, suc, ◌+◌, ◌-◌, ◌<◌, ◌≤◌, ◌==◌, nat_lt, ◌&&◌, ◌||◌, true, false, not, List, refl, inl, inr, ◌⊎◌, arith}
+use Rattle.std.proofs.Common.{◌≡◌, ◌≢◌, ℕ, zero, suc, ◌+◌, ◌-◌, ◌<◌, ◌≤◌, ◌==◌, nat_lt, ◌&&◌, ◌||◌, true, false, not, List, length, refl, ap, sym, ◌∙◌, inl, inr, ◌⊎◌, arith}
+use Rattle.std.proofs.lemmas.Bool.{cases_lt}
 use Rattle.std.specs.Prelude.{slice_range}
-use Rattle.yaml_scan_block.proofs.Words.{nat_tests, lt-ltb, byte, break_width, column_at, break_value, feed_at, is_text, line_end, column_more, no_end-blank, past_some, Empty, Words, spaces, spot_behind, Stops, Line, Tab}
+use Rattle.yaml_scan_block.proofs.Words.{nat_tests, lt-ltb, byte, break_width, column_at, break_value, feed_at, is_text, line_end, column_more, no_end-blank, within, past_some, Empty, Words, spaces, spot_behind, Stops, Line, Tab}
 
 -- A space moves the column on by one.
 pub space_column : (text : List ℕ) (p : ℕ) → byte text p ≡ 32
@@ -13,40 +14,74 @@ spaces_more : (n : ℕ) (text : List ℕ) (p : ℕ) → byte text p ≡ 32
 unfolding spaces
 spaces_more n text p h = rw h refl
 
-spaces_other : (n : ℕ) (text : List ℕ) (p : ℕ) → byte text p ≢ 32 → spaces n text p ≡ 0
+spaces_alike : (n m : ℕ) (text : List ℕ) (p : ℕ) → spaces n text (p + 1) ≡ spaces m text (p + 1)
+    → spaces (suc n) text p ≡ spaces (suc m) text p
+unfolding spaces
+spaces_alike n m text p h = rw h refl
+
+-- As many spaces as stand there and are asked for are passed.
+pub spaces_run : (n left : ℕ) (text : List ℕ) (p : ℕ) → n ≤ left
+    → ((k : ℕ) → p ≤ k → k < p + n → byte text k ≡ 32)
+    → spaces left text p ≡ n + spaces (left - n) text (p + n)
+spaces_run zero left text p few each =
+    let a : left - 0 ≡ left = omega arith in
+    let z : p + 0 ≡ p = omega arith in
+    rw (a, z) (omega arith)
+spaces_run (suc n) left text p few each =
+    let d : left ≡ suc (left - 1) = omega (arith, few) in
+    let behind = spaces_run n (left - 1) text (p + 1) (omega (arith, few)) (λ k after before. each k (omega (arith, after)) (omega (arith, before))) in
+    let q : p + 1 + n ≡ p + suc n = omega arith in
+    let r : left - 1 - n ≡ left - suc n = omega arith in
+    let rest = rw (q, r) at behind in
+    let more = spaces_more (left - 1) text p (each p (omega arith) (omega arith)) in
+    ap (λ (l : ℕ). spaces l text p) d ∙ (more ∙ omega (arith, rest))
+
+pub spaces_other : (n : ℕ) (text : List ℕ) (p : ℕ) → byte text p ≢ 32 → spaces n text p ≡ 0
 unfolding spaces
 spaces_other zero text p h = refl
 spaces_other (suc n) text p h = let f : (byte text p == 32) ≡ false = grind (arith, nat_tests) in rw f refl
 
-spaces_none : (text : List ℕ) (p : ℕ) → spaces 0 text p ≡ 0
+pub spaces_none : (text : List ℕ) (p : ℕ) → spaces 0 text p ≡ 0
 unfolding spaces
 spaces_none text p = refl
 
-pub space_step : (c : ℕ) (text : List ℕ) (p : ℕ) → byte text p ≡ 32 → column_at text p < c
-    → p + spaces (c - column_at text p) text p
-    ≡ p + 1 + spaces (c - column_at text (p + 1)) text (p + 1)
-space_step c text p h l =
-    let d : c - column_at text p ≡ suc (c - (column_at text p + 1)) = omega (arith, l) in
-    rw (d, space_column text p h) (omega (arith, spaces_more (c - (column_at text p + 1)) text p h))
+spaces_past : (n : ℕ) (text : List ℕ) (p : ℕ) → length text ≤ p → spaces n text p ≡ 0
+spaces_past n text p past =
+    spaces_other n text p (λ h. let inside : p < length text = within text p (omega (arith, h)) in omega (arith, inside, past))
 
-tests : (b col c : ℕ) → (b == 32 && nat_lt col c) ≡ true → (b ≡ 32) × (col < c)
-tests b col c h = (grind (arith, nat_tests), grind (arith, nat_tests))
+-- No more than the text holds need be asked for.
+pub spaces_within : (m n : ℕ) (text : List ℕ) (p : ℕ) → m ≤ n → length text ≤ p + m
+    → spaces n text p ≡ spaces m text p
+spaces_within zero n text p few past =
+    let inside : length text ≤ p = omega (arith, past) in
+    spaces_past n text p inside ∙ sym (spaces_none text p)
+spaces_within (suc m) n text p few past =
+    let d : n ≡ suc (n - 1) = omega (arith, few) in
+    let behind = spaces_within m (n - 1) text (p + 1) (omega (arith, few)) (omega (arith, past)) in
+    ap (λ (l : ℕ). spaces l text p) d ∙ spaces_alike (n - 1) m text p behind
 
-pub space_tests : (c : ℕ) (text : List ℕ) (p : ℕ)
-    → (byte text p == 32 && nat_lt (column_at text p) c) ≡ true
-    → (byte text p ≡ 32) × (column_at text p < c)
-space_tests c text p h = tests _ _ _ h
+-- So the lesser of what is asked for and what the text holds does as well.
+pub spaces_lesser : (m n : ℕ) (text : List ℕ) (p : ℕ) → p ≤ length text
+    → ((m ≡ n) × (n ≤ length text - p)) ⊎ ((m ≡ length text - p) × (length text - p ≤ n))
+    → (p + m ≤ length text) × (spaces n text p ≡ spaces m text p)
+spaces_lesser m n text p inside (inl (e, few)) = (omega (arith, inside, e, few), rw e refl)
+spaces_lesser m n text p inside (inr (e, few)) =
+    (omega (arith, inside, e), spaces_within m n text p (omega (arith, e, few)) (omega (arith, inside, e)))
 
-others : (b col c : ℕ) → (b == 32 && nat_lt col c) ≡ false → (b ≢ 32) ⊎ (c ≤ col)
-others b col c h = grind (arith, nat_tests)
+pub other_byte : (b : ℕ) → (b == 32) ≡ false → b ≢ 32
+other_byte b h = grind (arith, nat_tests)
 
-pub space_stop : (c : ℕ) (text : List ℕ) (p : ℕ)
-    → (byte text p == 32 && nat_lt (column_at text p) c) ≡ false
-    → spaces (c - column_at text p) text p ≡ 0
-space_stop c text p h =
-    elim (others _ _ _ h) [
-      | inl e ↦ spaces_other _ text p e
-      | inr l ↦ let z : c - column_at text p ≡ 0 = omega (arith, l) in rw z (spaces_none text p)
+pub one_space : (text : List ℕ) (p : ℕ) → byte text p ≡ 32 → (k : ℕ) → p ≤ k → k < p + 1
+    → byte text k ≡ 32
+one_space text p h k after before = let same : k ≡ p = omega arith in rw same h
+
+-- those up to a place, and those behind it
+pub spaces_join : (text : List ℕ) (p q r : ℕ) → ((k : ℕ) → p ≤ k → k < q → byte text k ≡ 32)
+    → ((k : ℕ) → q ≤ k → k < r → byte text k ≡ 32) → (k : ℕ) → p ≤ k → k < r → byte text k ≡ 32
+spaces_join text p q r front behind k after before =
+    elim (cases_lt k q) [
+      | inl less ↦ front k after less
+      | inr more ↦ behind k more before
     ]
 
 pub tab_spot : (c : ℕ) (text : List ℕ) (q : ℕ)

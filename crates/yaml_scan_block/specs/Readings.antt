@@ -1,9 +1,10 @@
 -- What reading a block scalar, and its parts, answers.
-use Rattle.std.specs.Prelude.{ℕ, ◌<◌, ◌≡◌, Bool, true, false, List, [], ◌∷◌, length, Result, Ok, Err}
+use Rattle.std.specs.Prelude.{ℕ, ◌+◌, ◌<◌, ◌≤◌, ◌≡◌, Bool, true, false, List, [], ◌∷◌, length, Result, Ok, Err}
+use Rattle.yaml_scan_model.specs.Ascii as ascii
 use Rattle.yaml_scan_model.specs.declared.problem.ScanError.{ScanError}
 use Rattle.yaml_scan_model.specs.declared.problem.Problem.TheVariants as problems
 use Rattle.yaml_scan_model.specs.declared.record.yaml_mark_t.{yaml_mark_t}
-use Rattle.yaml_scan_model.specs.Marks.{Place, mark_at}
+use Rattle.yaml_scan_model.specs.Marks.{Place, byte, mark_at}
 use Rattle.yaml_scan_model.specs.Wrong.{Wrong, Refuses, IsMemory}
 use Rattle.yaml_scan_block.specs.declared.block.Block.{Block}
 use Rattle.yaml_scan_block.specs.declared.header.Header.{Header}
@@ -14,6 +15,16 @@ use Rattle.yaml_scan_block.specs.Lines.{LineSpot, Stops, Line, Tab, in_block}
 use Rattle.yaml_scan_block.specs.Header.{HeaderText}
 use Rattle.yaml_scan_block.specs.Block.{BlockText, style_at}
 use Rattle.yaml_scan_block.specs.Stacked.{stacked}
+
+-- a row of spaces is asked for, and stands there
+pub record IsRow (left : ℕ) (text : List ℕ) (p : ℕ) : Type 0 where
+  pub asked : 4 ≤ left
+  pub each : (k : ℕ) → p ≤ k → k < p + 4 → byte text k ≡ ascii.space
+
+-- a space is asked for, and stands there
+pub record IsOne (left : ℕ) (text : List ℕ) (p : ℕ) : Type 0 where
+  pub asked : 0 < left
+  pub space : byte text p ≡ ascii.space
 
 -- a line, by what stands there
 abbrev pub LineSteps : List ℕ → yaml_mark_t → ℕ → Stacking → Stacking → Place

@@ -10,8 +10,9 @@ ghost use Rattle.yaml_scan_block.specs.Readings.{FindsColumn, ReadsBlock};
 use crate::header::{read_header, wrong_block};
 use crate::lines::read_lines;
 use crate::stacking::Stacking;
-use std::alloc::Global;
-use yaml_scan_model::{Problem, Reader, ScanError, skip_spaces, yaml_mark_t, yaml_scalar_style_t};
+use yaml_scan_model::{
+    Problem, Reader, ScanError, Spares, skip_spaces, yaml_mark_t, yaml_scalar_style_t,
+};
 
 /// A block scalar: its value, its style, the place of its indicator, and the place after its last break, or the end
 /// where none follows its last line.
@@ -24,8 +25,13 @@ pub struct Block {
 }
 
 /// The block scalar whose indicator stands here. The level is the column of the innermost open block level and one, or 0
-/// where none is open. The reader is left where the scalar's lines stop, behind spaces that may follow its end.
-pub fn block_scalar(alloc: Global, reader: &mut Reader, level: u64) -> Result<Block, ScanError>
+/// where none is open. The reader is left where the scalar's lines stop, behind spaces that may follow its end. The value may take the
+/// room of a spare text.
+pub fn block_scalar(
+    spares: &mut Spares,
+    reader: &mut Reader,
+    level: u64,
+) -> Result<Block, ScanError>
     requires indicator { (byte reader.old.text reader.old.at ≡ ascii.bar)
         ⊎ (byte reader.old.text reader.old.at ≡ ascii.greater) }
     requires level { level ≤ length reader.old.text + 1 }
@@ -37,9 +43,9 @@ pub fn block_scalar(alloc: Global, reader: &mut Reader, level: u64) -> Result<Bl
     reader.skip();
     let header = read_header(reader, start)?;
     let column = column_of(reader, level, header.digit, start)?;
-    let mut stacking = Stacking::new(alloc, folded);
+    let mut stacking = Stacking::new(spares, folded);
     let end_mark = read_lines(reader, &mut stacking, column, start)?;
-    let value = stacking.finish(header.chomp)?;
+    let value = stacking.finish(spares, header.chomp)?;
     Ok(Block {
         value,
         style: style_of(folded),

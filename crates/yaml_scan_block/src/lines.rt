@@ -1,17 +1,20 @@
 //! The lines of block scalars (YAML 1.1, sections 9.2.2 and 9.2.3).
 
-ghost use Rattle.std.specs.Prelude.{◌≡◌, ◌+◌, ◌-◌, ◌≤◌, ◌&&◌, ◌==◌, nat_lt, ℕ, suc, length};
+ghost use Rattle.std.specs.Prelude.{◌≡◌, ◌+◌, ◌-◌, ◌<◌, ◌≤◌, ◌⊎◌, ◌&&◌, ◌==◌, nat_lt, ℕ, suc, length, true, false};
 ghost use Rattle.yaml_scan_model.specs.Ascii as ascii;
 ghost use Rattle.yaml_scan_model.specs.Marks.{byte, column_at};
 ghost use Rattle.yaml_scan_block.specs.Lines as spec;
 ghost use Rattle.yaml_scan_block.specs.Block.{block_with};
-ghost use Rattle.yaml_scan_block.specs.Readings.{LineSteps, ReadsLines};
+ghost use Rattle.yaml_scan_block.specs.Readings.{IsOne, IsRow, LineSteps, ReadsLines};
 ghost use Rattle.yaml_scan_block.specs.Stacked.{stacked};
 ghost use Rattle.yaml_scan_block.specs.declared.header.Chomp.{Chomp};
 
 use crate::header::{skip_last_break, wrong_block};
 use crate::stacking::Stacking;
-use yaml_scan_model::{Problem, Reader, ScanError, skip_text, yaml_mark_t};
+use yaml_scan_model::{Problem, Reader, ScanError, leap, skip_text, yaml_mark_t};
+
+/// How many spaces are looked at in a row.
+const ROW: usize = 4;
 
 /// The lines from here on whose text stands at the column, and the place after the last one.
 pub(crate) fn read_lines(
@@ -57,19 +60,72 @@ fn indent(reader: &mut Reader, column: u64)
           (column - column_at reader.old.text reader.old.at) reader.old.text reader.old.at;
     } }
 {
-    let mut copy = reader.ahead();
-    'spaces: while is_space_before(&copy, column) {
-        copy.skip();
-    }
-    *reader = copy;
+    let here = reader.stop();
+    let asked = column.saturating_sub(here.column);
+    let end = past_indent(reader.text(), reader.place(), asked);
+    leap(reader, end);
 }
 
-/// Whether a space stands here, before the column.
-fn is_space_before(reader: &Reader, column: u64) -> bool
-    ensures { result ≡ (byte reader.now.text reader.now.at == ascii.space
-        && nat_lt (column_at reader.now.text reader.now.at) column) }
+/// The place behind the spaces that stand there, at most so many: by rows of four, and then one by one.
+// Inlined: the place and the text stay in registers.
+#[inline(always)]
+fn past_indent(text: &[u8], from: usize, asked: u64) -> usize
+    requires { from ≤ length text.now }
+    ensures value { result ≡ from + spec.spaces asked text.now from }
+    ensures each { (k : ℕ) → from ≤ k → k < result → byte text.now k ≡ ascii.space }
 {
-    reader.here() == b' ' && reader.mark().column < column
+    let room = (text.len() - from) as u64;
+    let mut end = from;
+    let mut left = lesser(asked, room);
+    'rows: while has_row(text, end, left) {
+        end += ROW;
+        left -= ROW as u64;
+    }
+    'bytes: while has_space(text, end, left) {
+        end += 1;
+        left -= 1;
+    }
+    end
+}
+
+/// The lesser one of two numbers.
+fn lesser(a: u64, b: u64) -> u64
+    ensures { ((result ≡ a) × (a ≤ b)) ⊎ ((result ≡ b) × (b ≤ a)) }
+{
+    if a <= b { a } else { b }
+}
+
+/// Whether a row of spaces stands there, where that many are asked for.
+// Inlined into the loop over such rows; without an early exit, so that the bytes are looked at side by side.
+#[inline(always)]
+fn has_row(text: &[u8], at: usize, left: u64) -> bool
+    requires { at + left ≤ length text.now }
+    ensures { result ≡ true → IsRow left text.now at }
+{
+    if left < ROW as u64 {
+        return false;
+    }
+    let mut spaces = true;
+    let mut count = 0;
+    'bytes: while count < ROW {
+        spaces = spaces & (text[at + count] == b' ');
+        count += 1;
+    }
+    spaces
+}
+
+/// Whether a space stands there, where one is asked for.
+// Inlined into the loop over such bytes.
+#[inline(always)]
+fn has_space(text: &[u8], at: usize, left: u64) -> bool
+    requires { at + left ≤ length text.now }
+    ensures yes { result ≡ true → IsOne left text.now at }
+    ensures no { result ≡ false → spec.spaces left text.now at ≡ 0 }
+{
+    if left == 0 {
+        return false;
+    }
+    text[at] == b' '
 }
 
 /// Whether a tab stands here, before the column.

@@ -8,8 +8,8 @@ ghost use Rattle.yaml_scan_block.specs.declared.header.Chomp.{Chomp};
 ghost use Rattle.yaml_scan_block.specs.Stacked.{stacked, glue};
 
 use crate::header::Chomp;
-use std::alloc::{AllocError, Global};
-use yaml_scan_model::{is_blank_byte, put_each};
+use std::alloc::AllocError;
+use yaml_scan_model::{Spares, is_blank_byte, put_each, spare};
 
 /// The lines so far: the value up to the last text, and what stands behind it.
 #[derive(Drop)]
@@ -28,18 +28,18 @@ pub(crate) struct Stacking {
 }
 
 impl Stacking {
-    /// With no lines.
-    pub(crate) fn new(alloc: Global, folded: bool) -> Stacking
+    /// With no lines, in the room of spare texts.
+    pub(crate) fn new(spares: &mut Spares, folded: bool) -> Stacking
         ensures { (chomp : Chomp) (ls : List BlockLine) → stacked result chomp ls ≡ block_value
             folded chomp ls }
     {
         Stacking {
             folded,
-            done: Vec::new(alloc),
+            done: spare(spares),
             any: false,
             blank: false,
             feed: &[],
-            empties: Vec::new(alloc),
+            empties: spare(spares),
         }
     }
 
@@ -80,6 +80,7 @@ impl Stacking {
             ≡ stacked self.old chomp (Words words.now feed.now ∷ ls)) }
     {
         let blank = starts_blank(words);
+        make_first_room(&mut self.done, self.any, words.len())?;
         self.glue(blank)?;
         self.done.extend_from_slice(words)?;
         self.empties.clear();
@@ -89,8 +90,8 @@ impl Stacking {
         Ok(())
     }
 
-    /// The value, where no line follows.
-    pub(crate) fn finish(self, chomp: Chomp) -> Result<Vec<u8>, AllocError>
+    /// The value, where no line follows. The room of the empty lines is kept.
+    pub(crate) fn finish(self, spares: &mut Spares, chomp: Chomp) -> Result<Vec<u8>, AllocError>
         ensures { IfOk result (λ v. v.items ≡ stacked self chomp []) }
     {
         let any = self.any;
@@ -99,8 +100,25 @@ impl Stacking {
         let mut done = self.done;
         let (first, second) = kept_breaks(chomp, any, feed, empties.as_slice());
         put_both(&mut done, first, second)?;
+        spares.keep(empties);
         Ok(done)
     }
+}
+
+/// Room for the first line with text and a break behind it: many have no other one.
+// Inlined: mostly there is room, or it isn't the first.
+#[inline(always)]
+fn make_first_room(done: &mut Vec<u8>, any: bool, count: usize) -> Result<(), AllocError>
+    ensures { OnOk result (done.new.items ≡ done.old.items) }
+{
+    if any {
+        return Ok(());
+    }
+    if count < done.capacity() {
+        return Ok(());
+    }
+    done.reserve_exact(count.saturating_add(1))?;
+    Ok(())
 }
 
 /// Both texts behind the others.

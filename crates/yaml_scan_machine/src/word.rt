@@ -14,7 +14,6 @@ ghost use Rattle.yaml_scan_machine.specs.Given.{IsWord, ReadsWord, IsSaid, indic
 use crate::readings::{
     AliasReading, AnchorReading, DoubleQuotedReading, PlainReading, SingleQuotedReading, TagReading,
 };
-use std::alloc::Global;
 use yaml_scan_block::block_scalar;
 use yaml_scan_history::Kind;
 use yaml_scan_model::{Reader, ScanError, Spares, yaml_mark_t, yaml_token_body_t};
@@ -218,7 +217,7 @@ fn text_word(
         Kind::Alias => AliasReading.word(spares, reader, flow, level),
         Kind::Anchor => AnchorReading.word(spares, reader, flow, level),
         Kind::Tag => TagReading.word(spares, reader, flow, level),
-        Kind::Literal | Kind::Folded => block_word(*spares.allocator(), reader, level),
+        Kind::Literal | Kind::Folded => block_word(spares, reader, level),
         Kind::SingleQuoted => SingleQuotedReading.word(spares, reader, flow, level),
         Kind::DoubleQuoted => DoubleQuotedReading.word(spares, reader, flow, level),
         Kind::Plain => PlainReading.word(spares, reader, flow, level),
@@ -334,7 +333,7 @@ fn directive_body(directive: Directive) -> yaml_token_body_t
 
 // Out of line: it is rare.
 #[inline(never)]
-fn block_word(alloc: Global, reader: &mut Reader, level: u64) -> Result<Word, ScanError>
+fn block_word(spares: &mut Spares, reader: &mut Reader, level: u64) -> Result<Word, ScanError>
     requires level { level ≤ length reader.old.text + 1 }
     requires indicator { (byte reader.old.text reader.old.at ≡ ascii.bar)
         ⊎ (byte reader.old.text reader.old.at ≡ ascii.greater) }
@@ -342,7 +341,7 @@ fn block_word(alloc: Global, reader: &mut Reader, level: u64) -> Result<Word, Sc
         (spec.blocked (style_at reader.old.text reader.old.at)
         (block_at level reader.old.text reader.old.at)) }
 {
-    let read = block_scalar(alloc, reader, level)?;
+    let read = block_scalar(spares, reader, level)?;
     Ok(Word {
         body: yaml_token_body_t::Scalar {
             value: read.value,

@@ -5,7 +5,7 @@ ghost use Rattle.yaml_scan_model.specs.Spares.{HoldsAt};
 
 use crate::keeping::Spares;
 use std::alloc::{AllocError, Global};
-use yaml_types::put_sixteen;
+use yaml_types::{SHORT, put_short, put_sixteen};
 
 /// The least room that is made: what the smallest block of common allocators holds.
 const LEAST_ROOM: usize = 24;
@@ -55,9 +55,32 @@ fn copied_apart(spares: &mut Spares, bytes: &[u8]) -> Result<Vec<u8>, AllocError
 pub fn copied_whole(spares: &mut Spares, bytes: &[u8]) -> Result<Vec<u8>, AllocError>
     ensures { IfOk result (λ v. v.items ≡ bytes.now) }
 {
-    let mut copy = room(spares, bytes.len())?;
-    copy.extend_from_slice(bytes)?;
+    let count = bytes.len();
+    let mut copy = room(spares, count)?;
+    // The second never: no clause says how much room there is.
+    if SHORT < count || copy.capacity() < count {
+        copy.extend_from_slice(bytes)?;
+        return Ok(copy);
+    }
+    put_short(&mut copy, bytes);
     Ok(copy)
+}
+
+/// An empty text: a spare one, if there is one.
+// Inlined: some moves.
+#[inline(always)]
+pub fn spare(spares: &mut Spares) -> Vec<u8>
+    ensures { result.items ≡ [] }
+{
+    let alloc = *spares.allocator();
+    match spares.take() {
+        Some(text) => {
+            let mut text = text;
+            text.clear();
+            text
+        }
+        None => Vec::new(alloc),
+    }
 }
 
 /// An empty text with room for so many bytes: a spare one, where it has that.

@@ -3,4 +3,4 @@ use Rattle.yaml_scan_block.proofs.stacking.Stacking.new.Goals as goal
 use Rattle.std.proofs.Common.{refl}
 
 pub returns : goal.returns
-returns c = λ chomp ls. rw (c.new.ensures.items, c.new-2.ensures.items) (unfold stacked_with in refl)
+returns c = λ chomp ls. rw (c.spare.ensures, c.spare-2.ensures) (unfold stacked_with in refl)

@@ -1,6 +1,7 @@
 -- Nodes: what contents owe is what nodes and states owe.
-use Rattle.std.proofs.Common.{◌≡◌, ◌∙◌, ◌++◌, List, ℕ, Bool, true, false, if◌then◌else◌, ◌||◌, None, Some, refl, sym, ap, subst}
+use Rattle.std.proofs.Common.{◌≡◌, ◌∙◌, ◌++◌, ◌∷◌, [], List, ℕ, Bool, true, false, if◌then◌else◌, ◌||◌, None, Some, refl, sym, ap, subst}
 use Rattle.std.proofs.lemmas.Bool.{false≢true}
+use Rattle.std.proofs.lemmas.List.{append_assoc}
 use Rattle.yaml_parse_model.specs.declared.yaml_mark_t.{yaml_mark_t}
 use Rattle.yaml_parse_model.specs.Slots.{Extra, body_by}
 use Rattle.yaml_parse_model.specs.declared.yaml_token_type_t.{yaml_token_type_t}
@@ -11,10 +12,11 @@ use Rattle.yaml_parse_grammar.specs.declared.name.Wants.TheVariants.{Flow, Block
 use Rattle.yaml_parse_grammar.specs.Items.{Properties}
 use Rattle.yaml_parse_grammar.specs.States.{State, Taken}
 use Rattle.yaml_parse_grammar.specs.States as state
-use Rattle.yaml_parse_grammar.specs.Machine.{joins, with_properties_taken, starts_content, starts_node, content_taken, node_taken, no_node, choice_at, left_at, follows, wants_of}
+use Rattle.yaml_parse_grammar.specs.Machine.{joins, with_properties_taken, starts_content, starts_node, content_taken, node_taken, no_node, choice_at, left_at, follows, wants_of, closes, above, lone_below, items_taken}
 use Rattle.yaml_parse_grammar.specs.declared.name.Site.{Site}
 use Rattle.yaml_parse_grammar.specs.declared.name.Site.TheVariants as site
 use Rattle.yaml_parse_grammar.specs.declared.name.Side.TheVariants as side
+use Rattle.yaml_parse_grammar.specs.declared.name.Brackets.{Brackets}
 use Rattle.yaml_parse_grammar.specs.declared.name.Brackets.TheVariants as brackets
 use Rattle.yaml_parse_core.specs.declared.level.Await.{Await}
 use Rattle.yaml_parse_core.specs.declared.level.Await.TheVariants as await
@@ -245,6 +247,65 @@ left_optional p b t s new turn.opened a f h e n = absurd h
 left_optional p b t s new (turn.refused k) a f h e n = absurd h
 left_optional p b t s new turn.memory a f h e n = absurd h
 left_optional p b t s new turn.over a f h e n = absurd h
+
+-- ---- a node inside brackets
+
+abbrev end_in : Brackets → yaml_token_type_t
+end_in brackets.Sequence = kind.YAML_FLOW_SEQUENCE_END_TOKEN
+end_in brackets.Mapping = kind.YAML_FLOW_MAPPING_END_TOKEN
+
+none_closes : (b : Brackets) (k : yaml_token_type_t) → (k ≡ end_in b → ⊥) → closes b k ≡ false
+none_closes brackets.Sequence kind.YAML_FLOW_SEQUENCE_END_TOKEN h = absurd (h refl)
+none_closes brackets.Mapping kind.YAML_FLOW_MAPPING_END_TOKEN h = absurd (h refl)
+none_closes b k h = refl
+
+items_choose : (b : Brackets) (o : yaml_mark_t) (k : yaml_token_type_t) (n : Bool)
+    → (k ≡ kind.YAML_KEY_TOKEN → ⊥) → closes b k ≡ false → starts_node Flow k ≡ n
+    → choice_at (state.items b o) k ≡ chosen_at false n Flow
+items_choose b o kind.YAML_KEY_TOKEN n h c e = absurd (h refl)
+items_choose b o k n h c e = ap (λ z. if z || starts_node Flow k then Take else Refuse (no_node Flow) None) c ∙ ap (λ z. chosen_at false z Flow) e
+
+items_are : (b : Brackets) (o : yaml_mark_t) (k : yaml_token_type_t) (x y : List ℕ) (st : Extra)
+    (from to : yaml_mark_t) → starts_node Flow (type_of (body_by k x y st)) ≡ true
+    → above (lone_below b (state.more b o ∷ [])) (node_taken Flow from to (body_by k x y st))
+    ≡ items_taken b o from to (body_by k x y st)
+items_are b o kind.YAML_KEY_TOKEN x y st from to h = absurd (false≢true h)
+items_are b o kind.YAML_FLOW_SEQUENCE_END_TOKEN x y st from to h = absurd (false≢true h)
+items_are b o kind.YAML_FLOW_MAPPING_END_TOKEN x y st from to h = absurd (false≢true h)
+items_are b o k x y st from to h = refl
+
+items_below : (b : Brackets) (o : yaml_mark_t) (xs s : List State)
+    → xs ++ lone_below b (state.more b o ∷ s) ≡ (xs ++ lone_below b (state.more b o ∷ [])) ++ s
+items_below brackets.Sequence o xs s = sym (append_assoc xs (state.more brackets.Sequence o ∷ []) s)
+items_below brackets.Mapping o xs s = sym (append_assoc xs (state.lone ∷ state.more brackets.Mapping o ∷ []) s)
+
+items_at : (b : Brackets) (o : yaml_mark_t) (k : yaml_token_type_t) (x y : List ℕ) (st : Extra)
+    (from to : yaml_mark_t) (s : List State) (new : Properties → List State) (r : Seen) (a : Around)
+    → ((n : Bool) → starts_node Flow (type_of (body_by k x y st)) ≡ n
+    → choice_at (state.items b o) (type_of (body_by k x y st)) ≡ chosen_at false n Flow)
+    → Nodes Flow (token_at (body_by k x y st) from to) (lone_below b (state.more b o ∷ s)) r a new
+    → Turns (state.items b o) (token_at (body_by k x y st) from to) s r a new
+items_at b o k x y st from to s new (turn.node j) a f h =
+    (f true h.0, h.1 ∙ ap (λ (t : Taken). t.item) (items_are b o k x y st from to h.0), λ q. h.2 q ∙ items_below b o _ s ∙ ap (λ (t : Taken). t.above ++ s) (items_are b o k x y st from to h.0))
+items_at b o k x y st from to s new (turn.given j) a f h =
+    (f true h.0, h.1 ∙ ap (λ (t : Taken). t.item) (items_are b o k x y st from to h.0), λ q. h.2 q ∙ items_below b o _ s ∙ ap (λ (t : Taken). t.above ++ s) (items_are b o k x y st from to h.0))
+items_at b o k x y st from to s new turn.silent a f h =
+    (f true h.0, h.1 ∙ ap (λ (t : Taken). t.item) (items_are b o k x y st from to h.0), h.2 ∙ items_below b o _ s ∙ ap (λ (t : Taken). t.above ++ s) (items_are b o k x y st from to h.0))
+items_at b o k x y st from to s new (turn.refused q) a f h = f false h.0 ∙ ap (λ z. Refuse (no_node Flow) z) (sym (no_context Flow a.opener)) ∙ ap (λ z. Refuse z (context_if z a.opener)) (sym h.1)
+items_at b o k x y st from to s new turn.memory a f h = tt
+items_at b o k x y st from to s new (turn.named j) a f h = absurd h
+items_at b o k x y st from to s new (turn.left j) a f h = absurd h
+items_at b o k x y st from to s new turn.opened a f h = absurd h
+items_at b o k x y st from to s new turn.over a f h = absurd h
+
+pub items_node : (b : Brackets) (o : yaml_mark_t) (k : yaml_token_type_t) (x y : List ℕ)
+    (st : Extra) (from to : yaml_mark_t) (s : List State) (new : Properties → List State) (r : Seen)
+    (a : Around)
+    → (k ≡ kind.YAML_KEY_TOKEN → ⊥) → (k ≡ end_in b → ⊥)
+    → Nodes Flow (token_at (body_by k x y st) from to) (lone_below b (state.more b o ∷ s)) r a new
+    → Turns (state.items b o) (token_at (body_by k x y st) from to) s r a new
+items_node b o k x y st from to s new r a e c h =
+    items_at b o k x y st from to s new r a (λ n i. items_choose b o (type_of (body_by k x y st)) n (λ z. e (sym (type_is k x y st) ∙ z)) (ap (closes b) (type_is k x y st) ∙ none_closes b k c) i) h
 
 -- ---- a content that may stand anywhere
 

@@ -1,3 +1,4 @@
+use Rattle.std.proofs.Common.{rules}
 use Rattle.yaml_scan_model.specs.Faults.{fault_of}
 use Rattle.yaml_parse_model.specs.Events.{event_of}
 use Rattle.yaml_parse_step.proofs.Loading.{keeps_on, loads_document, loads_nothing, load_faulty, load_refused, load_more, load_asked, fed_more, fed_asked}
@@ -19,10 +20,17 @@ events-preserved g c =
     keeps_on c.args.parser.now c.events.parser c.yaml_parser_parse_into.new.parser c.events.loader c.feed.new.self (event_of c.yaml_parser_parse_into.new.event) c.events.invariant
     next fed
 
+-- Where a wrong body answers another variant, the search looks for what is owed then, without suggestions.
 pub returns-in-End-clause-next : goal.returns-in-End-clause-next
 returns-in-End-clause-next g c =
-    load_is_next c.args.parser.now c.yaml_parser_parse_into.new.parser c.no_document.result
-    (loads_nothing c.args.parser.now c.events.parser c.yaml_parser_parse_into.new.parser c.events.loader c.no_document.result c.events.invariant c.in-End.ensures.finds c.no_document.ensures)
+    search (
+      rules,
+      load_is_next c.args.parser.now c.yaml_parser_parse_into.new.parser c.no_document.result
+          (loads_nothing c.args.parser.now c.events.parser c.yaml_parser_parse_into.new.parser c.events.loader c.no_document.result c.events.invariant c.in-End.ensures.finds c.no_document.ensures),
+    )
+
+pub returns-in-End-clause-refused : goal.returns-in-End-clause-refused
+returns-in-End-clause-refused g c = search rules
 
 pub returns-in-Err-clause-refused : goal.returns-in-Err-clause-refused
 returns-in-Err-clause-refused g c =

@@ -1,12 +1,11 @@
 -- A gap that is nothing or one space, and a kind that the first byte tells.
 use Rattle.std.proofs.Common.{◌≡◌, ◌≢◌, ℕ, ◌+◌, ◌==◌, ◌&&◌, ◌||◌, ltb, not, Bool, true, false, List, length, Some, None, refl, ap, ◌∙◌, arith}
 use Rattle.std.proofs.lemmas.Bool.{ne_eqb, eqb-true}
-use Rattle.yaml_scan_model.specs.Marks.{byte, break_of, break_width, column_at, is_blank_or_end}
+use Rattle.yaml_scan_model.specs.Marks.{byte, break_width, column_at, is_blank_or_end}
 use Rattle.yaml_scan_model.proofs.MarksLemmas.{no_break}
-use Rattle.yaml_scan_model.specs.Classes.{is_bom}
-use Rattle.yaml_scan_words.specs.Between.{step_at, is_skipped, with_break, gap_at}
+use Rattle.yaml_scan_words.specs.Between.{with_break, gap_at}
 use Rattle.yaml_scan_words.specs.Indicators.{is_document_start, is_document_end}
-use Rattle.yaml_scan_words.proofs.BetweenLemmas.{lexeme_here, space_here, gap_blank, gap_break, gap_stop}
+use Rattle.yaml_scan_words.proofs.BetweenLemmas.{lexeme_here, space_here, feed_here, gap_blank, gap_break, gap_stop}
 use Rattle.yaml_scan_history.specs.declared.kind.Kind.{Kind}
 use Rattle.yaml_scan_history.specs.Words.{kind_at, indicator_of}
 
@@ -27,34 +26,13 @@ one_space flow allowed text p space h =
     let (m, room, far, inside, same) = gap_blank (length text) flow allowed text p (p + 1) (space_here (flow || not allowed) text p space) (omega arith) in
     same ∙ gap_stop m flow allowed text (p + 1) (p + 1) (lexeme_here (flow || not allowed) text (p + 1) h) room
 
-feed_first : (b c d : ℕ) (first : Bool) → b ≡ 10
-    → (first && (b == 0xEF && (c == 0xBB && d == 0xBF))) ≡ false
-feed_first b c d true h = rw h refl
-feed_first b c d false h = refl
-
-feed_skipped : (b : ℕ) (tabs : Bool) → b ≡ 10 → (b == 32 || (tabs && b == 9)) ≡ false
-feed_skipped b true h = rw h refl
-feed_skipped b false h = rw h refl
-
-feed_of : (b c d : ℕ) → b ≡ 10 → break_of b c d ≡ 1
-unfolding break_of
-feed_of b c d h = rw h refl
-
--- a line feed is a break of one byte
-pub feed_width : (text : List ℕ) (p : ℕ) → byte text p ≡ 10 → break_width text p ≡ 1
-feed_width text p h = feed_of (byte text p) (byte text (p + 1)) (byte text (p + 2)) h
-
 -- a line feed stands between
 pub one_feed : (flow allowed : Bool) (text : List ℕ) (p : ℕ) → byte text p ≡ 10
     → goes_on (byte text (p + 1)) ≡ true
     → gap_at flow allowed text p ≡ record { place = p + 1; broke = true }
-unfolding step_at
 one_feed flow allowed text p feed h =
     let key = allowed || not flow in
-    let first : (p == 0 && is_bom text p) ≡ false = feed_first (byte text p) (byte text (p + 1)) (byte text (p + 2)) (p == 0) feed in
-    let skips : is_skipped (flow || not allowed) text p ≡ false = feed_skipped (byte text p) (flow || not allowed) feed in
-    let hash : (byte text p == 35) ≡ false = rw feed refl in
-    let (m, room, far, inside, same) = gap_break (length text) flow allowed text p (p + 1) (rw (first, skips, hash, feed_width text p feed) refl) (omega arith) in
+    let (m, room, far, inside, same) = gap_break (length text) flow allowed text p (p + 1) (feed_here (flow || not allowed) text p feed) (omega arith) in
     same ∙ ap (with_break true) (gap_stop m flow key text (p + 1) (p + 1) (lexeme_here (flow || not key) text (p + 1) h) room)
 
 -- where no break is passed, a key may begin as before

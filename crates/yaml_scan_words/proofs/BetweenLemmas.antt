@@ -68,6 +68,33 @@ space_here tabs text p h =
     let skips : is_skipped tabs text p ≡ true = rw h refl in
     rw (first, skips) refl
 
+feed_first : (b c d : ℕ) (first : Bool) → b ≡ 10
+    → (first && (b == 0xEF && (c == 0xBB && d == 0xBF))) ≡ false
+feed_first b c d true h = rw h refl
+feed_first b c d false h = refl
+
+feed_skipped : (b : ℕ) (tabs : Bool) → b ≡ 10 → (b == 32 || (tabs && b == 9)) ≡ false
+feed_skipped b true h = rw h refl
+feed_skipped b false h = rw h refl
+
+feed_of : (b c d : ℕ) → b ≡ 10 → break_of b c d ≡ 1
+unfolding break_of
+feed_of b c d h = rw h refl
+
+-- a line feed is a break of one byte
+pub feed_width : (text : List ℕ) (p : ℕ) → byte text p ≡ 10 → break_width text p ≡ 1
+feed_width text p h = feed_of (byte text p) (byte text (p + 1)) (byte text (p + 2)) h
+
+-- a line feed is passed
+pub feed_here : (tabs : Bool) (text : List ℕ) (p : ℕ) → byte text p ≡ 10
+    → step_at tabs text p ≡ record { standing = gap_spots.Break; place = p + 1 }
+unfolding step_at
+feed_here tabs text p h =
+    let first : (p == 0 && is_bom text p) ≡ false = feed_first (byte text p) (byte text (p + 1)) (byte text (p + 2)) (p == 0) h in
+    let skips : is_skipped tabs text p ≡ false = feed_skipped (byte text p) tabs h in
+    let hash : (byte text p == 35) ≡ false = rw h refl in
+    rw (first, skips, hash, feed_width text p h) refl
+
 -- a space is a byte, and no break
 pub space_byte : (text : List ℕ) (p : ℕ) → byte text p ≡ 32
     → (0 < byte text p) × (break_width text p ≡ 0)

@@ -56,19 +56,23 @@ fn allows_key(flow: bool, allowed: bool) -> bool
     allowed || !flow
 }
 
-/// Past what stands here, where it is no lexeme.
+/// Past what stands here, where it is no lexeme. Spaces, the lexeme behind them and line feeds, which are met most, are asked first.
 #[tactic(auto, unfolding(crate::specs::Between::step_at))]
 fn pass_one(reader: &mut Reader, tabs: bool) -> GapSpot
     ensures step { spec.step_at tabs reader.old.text reader.old.at
         ≡ record { standing = result; place = reader.new.at } }
     ensures text { reader.new.text ≡ reader.old.text }
 {
-    if begins_lexeme(reader.here()) {
-        return GapSpot::Lexeme;
-    }
     if reader.here() == b' ' {
         reader.skip();
         return GapSpot::Blank;
+    }
+    if begins_lexeme(reader.here()) {
+        return GapSpot::Lexeme;
+    }
+    if reader.here() == b'\n' {
+        reader.skip_break();
+        return GapSpot::Break;
     }
     if is_bom_first(reader) {
         skip_bom(reader);

@@ -1,8 +1,8 @@
 use Rattle.std.proofs.Common.{◌≡◌, ◌+◌, true, sym, ap, ◌∙◌, arith}
 use Rattle.yaml_scan_model.specs.Marks.{byte}
 use Rattle.yaml_scan_words.specs.Between.{Gap}
-use Rattle.yaml_scan_words.proofs.BetweenLemmas.{space_byte}
-use Rattle.yaml_scan_machine.proofs.GapLemmas.{goes_on, no_gap, one_space, one_feed, feed_width, allowed_still}
+use Rattle.yaml_scan_words.proofs.BetweenLemmas.{space_byte, feed_width}
+use Rattle.yaml_scan_machine.proofs.GapLemmas.{goes_on, no_gap, one_space, one_feed, allowed_still}
 use Rattle.yaml_scan_machine.proofs.stand.pass_gap.Goals as goal
 
 pub returns-then-is_behind_hash-clause-place : goal.returns-then-is_behind_hash-clause-place

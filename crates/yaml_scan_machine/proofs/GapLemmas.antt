@@ -1,9 +1,11 @@
 -- A gap that is nothing or one space, and a kind that the first byte tells.
-use Rattle.std.proofs.Common.{◌≡◌, ◌≢◌, ℕ, ◌+◌, ◌==◌, ◌&&◌, ◌||◌, ltb, not, Bool, true, false, List, length, Some, None, refl, ap, ◌∙◌, arith}
-use Rattle.std.proofs.lemmas.Bool.{ne_eqb, eqb-true}
+use Rattle.std.proofs.Common.{◌≡◌, ◌≢◌, ℕ, zero, suc, ◌+◌, ◌≤◌, ◌==◌, ◌&&◌, ◌||◌, ltb, not, Bool, true, false, List, length, Some, None, refl, ap, ◌∙◌, inl, inr, arith}
+use Rattle.std.proofs.lemmas.Bool.{cases_Bool, ne_eqb, eqb-true}
 use Rattle.yaml_scan_model.specs.Marks.{byte, break_width, column_at, is_blank_or_end}
 use Rattle.yaml_scan_model.proofs.MarksLemmas.{no_break}
-use Rattle.yaml_scan_words.specs.Between.{with_break, gap_at}
+use Rattle.yaml_scan_model.specs.Runs.{past, past_spaces, is_space_there}
+use Rattle.yaml_scan_model.proofs.RunsLemmas.{past_more, past_stop}
+use Rattle.yaml_scan_words.specs.Between.{with_break, gap_at, gap_within}
 use Rattle.yaml_scan_words.specs.Indicators.{is_document_start, is_document_end}
 use Rattle.yaml_scan_words.proofs.BetweenLemmas.{lexeme_here, space_here, feed_here, gap_blank, gap_break, gap_stop}
 use Rattle.yaml_scan_history.specs.declared.kind.Kind.{Kind}
@@ -26,14 +28,35 @@ one_space flow allowed text p space h =
     let (m, room, far, inside, same) = gap_blank (length text) flow allowed text p (p + 1) (space_here (flow || not allowed) text p space) (omega arith) in
     same ∙ gap_stop m flow allowed text (p + 1) (p + 1) (lexeme_here (flow || not allowed) text (p + 1) h) room
 
--- a line feed stands between
-pub one_feed : (flow allowed : Bool) (text : List ℕ) (p : ℕ) → byte text p ≡ 10
-    → goes_on (byte text (p + 1)) ≡ true
-    → gap_at flow allowed text p ≡ record { place = p + 1; broke = true }
-one_feed flow allowed text p feed h =
-    let key = allowed || not flow in
+past_none : (kind : List ℕ → ℕ → Bool) (text : List ℕ) (p : ℕ) → past kind 0 text p ≡ p
+unfolding past
+past_none kind text p = refl
+
+-- spaces stand between, k of them at most
+spaces_between : (k n : ℕ) (flow allowed : Bool) (text : List ℕ) (p : ℕ)
+    → goes_on (byte text (past is_space_there k text p)) ≡ true → length text ≤ p + n
+    → gap_within n flow allowed text p
+    ≡ record { place = past is_space_there k text p; broke = false }
+spaces_between zero n flow allowed text p h room =
+    let none = past_none is_space_there text p in
+    rw none (gap_stop n flow allowed text p p (lexeme_here (flow || not allowed) text p (rw none at h)) room)
+spaces_between (suc k) n flow allowed text p h room = elim (cases_Bool (byte text p == 32)) [
+  | inl space ↦
+      let on = past_more is_space_there k text p space in
+      let (m, more, far, inside, same) = gap_blank n flow allowed text p (p + 1) (space_here (flow || not allowed) text p (eqb-true _ _ space)) room in
+      rw on (same ∙ spaces_between k m flow allowed text (p + 1) (rw on at h) more)
+  | inr other ↦
+      let stop = past_stop is_space_there (suc k) text p other in
+      rw stop (gap_stop n flow allowed text p p (lexeme_here (flow || not allowed) text p (rw stop at h)) room)
+]
+
+-- a line feed stands between, and the spaces behind it
+pub one_line : (flow allowed : Bool) (text : List ℕ) (p : ℕ) → byte text p ≡ 10
+    → goes_on (byte text (past_spaces text (p + 1))) ≡ true
+    → gap_at flow allowed text p ≡ record { place = past_spaces text (p + 1); broke = true }
+one_line flow allowed text p feed h =
     let (m, room, far, inside, same) = gap_break (length text) flow allowed text p (p + 1) (feed_here (flow || not allowed) text p feed) (omega arith) in
-    same ∙ ap (with_break true) (gap_stop m flow key text (p + 1) (p + 1) (lexeme_here (flow || not key) text (p + 1) h) room)
+    same ∙ ap (with_break true) (spaces_between (length text) m flow (allowed || not flow) text (p + 1) h room)
 
 -- where no break is passed, a key may begin as before
 pub allowed_still : (allowed flow broke : Bool) → broke ≡ false

@@ -1,6 +1,6 @@
 //! Where the next lexeme stands, and of which kind it is.
 
-ghost use Rattle.std.specs.Prelude.{◌≡◌, ◌+◌, ◌<◌, ◌&&◌, ◌||◌, ◌==◌, not, nat_lt, IfSome, None, true, false, length};
+ghost use Rattle.std.specs.Prelude.{◌≡◌, ◌+◌, ◌<◌, ◌&&◌, ◌||◌, ◌==◌, not, nat_lt, Bool, IfSome, None, true, false, length};
 ghost use Rattle.yaml_scan_model.specs.Ascii as ascii;
 ghost use Rattle.yaml_scan_model.specs.Marks.{byte};
 ghost use Rattle.yaml_scan_model.specs.Faults.{fault_of};
@@ -12,7 +12,9 @@ use crate::machine::{Machine, put_fault};
 use crate::next::{LexemeSpot, late, no_colon};
 use crate::word::kind_at;
 use yaml_scan_history::Kind;
-use yaml_scan_model::{Context, Problem, Reader, ScanError, yaml_fault_t, yaml_mark_t};
+use yaml_scan_model::{
+    Context, Problem, Reader, ScanError, skip_spaces, yaml_fault_t, yaml_mark_t,
+};
 use yaml_scan_words::skip_gap;
 
 impl<'a> Machine<'a> {
@@ -66,8 +68,8 @@ impl LexemeSpot {
     }
 }
 
-/// Past what stands between lexemes, and whether a key may begin behind it. Mostly it is nothing, one space or one line
-/// feed, which is asked before the loop over all that may stand there.
+/// Past what stands between lexemes, and whether a key may begin behind it. Mostly it is nothing, one space, or a line
+/// feed with the spaces of the next line, which is asked before the loop over all that may stand there.
 // Inlined: a reader that is lent to a call lives in memory.
 #[inline(always)]
 fn pass_gap(reader: &mut Reader, flow: bool, allowed: bool) -> bool
@@ -87,9 +89,12 @@ fn pass_gap(reader: &mut Reader, flow: bool, allowed: bool) -> bool
         }
     } else if begins(byte) {
         return allowed;
-    } else if is_lone_feed(reader) {
-        reader.skip_break();
-        return allowed_behind(allowed, true, flow);
+    } else {
+        let mut ahead = reader.ahead();
+        if passes_line(&mut ahead) {
+            *reader = ahead;
+            return allowed_behind(allowed, true, flow);
+        }
     }
     let broke = skip_gap(reader, flow, allowed);
     allowed_behind(allowed, broke, flow)
@@ -123,16 +128,21 @@ fn begins(byte: u8) -> bool
     BEGINNERS[byte as usize] == b'1'
 }
 
-/// Whether a line feed stands here, and behind it what begins a lexeme.
-// Inlined: a look at two bytes.
+/// Past the line feed here and the spaces behind it; answers whether a byte stands there that begins a lexeme.
+// Inlined: mostly a look at some bytes. A reader that is lent to a call out of line lies in memory.
 #[inline(always)]
-fn is_lone_feed(reader: &Reader) -> bool
-    ensures { result ≡ true → (byte reader.now.text reader.now.at ≡ ascii.line_feed)
-        × ((nat_lt ascii.space (byte reader.now.text (reader.now.at + 1))
-        && (nat_lt (byte reader.now.text (reader.now.at + 1)) 128
-        && not (byte reader.now.text (reader.now.at + 1) == ascii.hash))) ≡ true) }
+fn passes_line(reader: &mut Reader) -> bool
+    ensures text { reader.new.text ≡ reader.old.text }
+    ensures line { result ≡ true → (flow allowed : Bool)
+        → gap_at flow allowed reader.old.text reader.old.at
+        ≡ record { place = reader.new.at; broke = true } }
 {
-    reader.here() == b'\n' && begins(reader.byte(1))
+    if reader.here() != b'\n' {
+        return false;
+    }
+    reader.skip_break();
+    skip_spaces(reader);
+    begins(reader.here())
 }
 
 /// Whether a key may begin behind a gap: in block context a break allows one.

@@ -1,8 +1,8 @@
 use Rattle.std.proofs.Common.{◌≡◌, ◌+◌, true, sym, ap, ◌∙◌, arith}
 use Rattle.yaml_scan_model.specs.Marks.{byte}
 use Rattle.yaml_scan_words.specs.Between.{Gap}
-use Rattle.yaml_scan_words.proofs.BetweenLemmas.{space_byte, feed_width}
-use Rattle.yaml_scan_machine.proofs.GapLemmas.{goes_on, no_gap, one_space, one_feed, allowed_still}
+use Rattle.yaml_scan_words.proofs.BetweenLemmas.{space_byte}
+use Rattle.yaml_scan_machine.proofs.GapLemmas.{goes_on, no_gap, one_space, allowed_still}
 use Rattle.yaml_scan_machine.proofs.stand.pass_gap.Goals as goal
 
 pub returns-then-is_behind_hash-clause-place : goal.returns-then-is_behind_hash-clause-place
@@ -35,20 +35,15 @@ returns-then-begins-2-clause-allowed c =
     let h : goes_on (byte c.args.reader.now.text c.args.reader.now.at) ≡ true = rw c.here-byte.ensures at c.begins-else-byte-eq32.ensures c.if-begins-2.true in
     allowed_still c.args.allowed c.args.flow _ (ap (λ (g : Gap). g.broke) (no_gap c.args.flow c.args.allowed c.args.reader.now.text c.args.reader.now.at h))
 
-pub skip_break-requires : goal.skip_break-requires
-skip_break-requires c =
-    let (feed, h) = c.is_lone_feed.ensures c.if-is_lone_feed.true in
-    rw (feed_width c.args.reader.now.text c.args.reader.now.at feed) (omega arith)
+pub returns-then-passes_line-clause-place : goal.returns-then-passes_line-clause-place
+returns-then-passes_line-clause-place c =
+    let line = rw c.ahead-ahead.ensures at (c.passes_line.ensures.line c.if-passes_line.true c.args.flow c.args.allowed) in
+    ap (λ (g : Gap). g.place) line
 
-pub returns-then-is_lone_feed-clause-place : goal.returns-then-is_lone_feed-clause-place
-returns-then-is_lone_feed-clause-place c =
-    let (feed, h) = c.is_lone_feed.ensures c.if-is_lone_feed.true in
-    rw (c.skip_break.ensures, feed_width c.args.reader.now.text c.args.reader.now.at feed) (ap (λ (g : Gap). g.place) (one_feed c.args.flow c.args.allowed c.args.reader.now.text c.args.reader.now.at feed h))
-
-pub returns-then-is_lone_feed-clause-allowed : goal.returns-then-is_lone_feed-clause-allowed
-returns-then-is_lone_feed-clause-allowed c =
-    let (feed, h) = c.is_lone_feed.ensures c.if-is_lone_feed.true in
-    rw (one_feed c.args.flow c.args.allowed c.args.reader.now.text c.args.reader.now.at feed h) c.allowed_behind.ensures
+pub returns-then-passes_line-clause-allowed : goal.returns-then-passes_line-clause-allowed
+returns-then-passes_line-clause-allowed c =
+    let line = rw c.ahead-ahead.ensures at (c.passes_line.ensures.line c.if-passes_line.true c.args.flow c.args.allowed) in
+    rw line c.allowed_behind.ensures
 
 pub skip-requires-clause-inside : goal.skip-requires-clause-inside
 skip-requires-clause-inside c = (space_byte c.args.reader.now.text c.args.reader.now.at (sym c.here-byte.ensures ∙ c.if-byte-eq32.true)).0

@@ -14,7 +14,7 @@ pub(crate) const STANDARD: &'static str = "-";
 pub(crate) const READ_AHEAD: usize = 65_536;
 
 /// How many are read first: many files have no more.
-pub(crate) const READ_FIRST: usize = 4096;
+const READ_FIRST: usize = 4096;
 
 // How many times a read that is interrupted is made in all.
 const TRIES: u32 = 1000;

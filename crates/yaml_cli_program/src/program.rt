@@ -3,7 +3,7 @@
 use crate::compare::compare;
 use crate::engine::{Ended, Engine};
 use crate::fault::{FAILED, run_failed, told_wrong};
-use crate::file::{READ_AHEAD, READ_FIRST, STANDARD, Streams};
+use crate::file::{READ_AHEAD, STANDARD, Streams};
 use crate::judge::judge_all;
 use crate::order::{Does, Order, Task, order_in};
 use crate::words::{matches_of, tell};
@@ -16,19 +16,12 @@ use std::io::{BufReader, Read, Write};
 use std::rt::Files;
 use yaml_round_device::{yaml_command_t, yaml_form_t, yaml_run_fault_t};
 
-// How many bytes of a file are to be read ahead, for which room is set to zero: of one on a disk no more than it has, and one that
-// tells its end, or none where it has fewer than are read first. Of one that has more by then all the same is read.
+// How many bytes of a file are to be read ahead. Room for them is set to zero, and what goes through it is copied once more, so there
+// is none for a file on a disk that wouldn't fill it. Of one that has more by then all the same is read.
 fn ahead_of<F: OpenFile>(file: &F) -> usize {
-    let len = match file.metadata() {
-        Ok(told) if told.is_file() => told.len(),
-        _ => u64::MAX,
-    };
-    if len < READ_FIRST as u64 {
-        0
-    } else if len < READ_AHEAD as u64 {
-        len as usize + 1
-    } else {
-        READ_AHEAD
+    match file.metadata() {
+        Ok(told) if told.is_file() && told.len() < READ_AHEAD as u64 => 0,
+        _ => READ_AHEAD,
     }
 }
 

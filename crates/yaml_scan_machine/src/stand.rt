@@ -91,7 +91,7 @@ fn pass_gap(reader: &mut Reader, flow: bool, allowed: bool) -> bool
         return allowed;
     } else {
         let mut ahead = reader.ahead();
-        if passes_line(&mut ahead) {
+        if crosses_line(&mut ahead) {
             *reader = ahead;
             return allowed_behind(allowed, true, flow);
         }
@@ -131,7 +131,7 @@ fn begins(byte: u8) -> bool
 /// Past the line feed here and the spaces behind it; answers whether a byte stands there that begins a lexeme.
 // Inlined: mostly a look at some bytes. A reader that is lent to a call out of line lies in memory.
 #[inline(always)]
-fn passes_line(reader: &mut Reader) -> bool
+fn crosses_line(reader: &mut Reader) -> bool
     ensures text { reader.new.text ≡ reader.old.text }
     ensures line { result ≡ true → (flow allowed : Bool)
         → gap_at flow allowed reader.old.text reader.old.at

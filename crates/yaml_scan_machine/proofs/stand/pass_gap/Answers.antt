@@ -1,4 +1,4 @@
-use Rattle.std.proofs.Common.{◌≡◌, ◌+◌, true, sym, ap, ◌∙◌, arith}
+use Rattle.std.proofs.Common.{◌≡◌, ◌+◌, true, sym, ap, ◌∙◌}
 use Rattle.yaml_scan_model.specs.Marks.{byte}
 use Rattle.yaml_scan_words.specs.Between.{Gap}
 use Rattle.yaml_scan_words.proofs.BetweenLemmas.{space_byte}
@@ -35,14 +35,14 @@ returns-then-begins-2-clause-allowed c =
     let h : goes_on (byte c.args.reader.now.text c.args.reader.now.at) ≡ true = rw c.here-byte.ensures at c.begins-else-byte-eq32.ensures c.if-begins-2.true in
     allowed_still c.args.allowed c.args.flow _ (ap (λ (g : Gap). g.broke) (no_gap c.args.flow c.args.allowed c.args.reader.now.text c.args.reader.now.at h))
 
-pub returns-then-passes_line-clause-place : goal.returns-then-passes_line-clause-place
-returns-then-passes_line-clause-place c =
-    let line = rw c.ahead-ahead.ensures at (c.passes_line.ensures.line c.if-passes_line.true c.args.flow c.args.allowed) in
+pub returns-then-crosses_line-clause-place : goal.returns-then-crosses_line-clause-place
+returns-then-crosses_line-clause-place c =
+    let line = rw c.ahead-ahead.ensures at (c.crosses_line.ensures.line c.if-crosses_line.true c.args.flow c.args.allowed) in
     ap (λ (g : Gap). g.place) line
 
-pub returns-then-passes_line-clause-allowed : goal.returns-then-passes_line-clause-allowed
-returns-then-passes_line-clause-allowed c =
-    let line = rw c.ahead-ahead.ensures at (c.passes_line.ensures.line c.if-passes_line.true c.args.flow c.args.allowed) in
+pub returns-then-crosses_line-clause-allowed : goal.returns-then-crosses_line-clause-allowed
+returns-then-crosses_line-clause-allowed c =
+    let line = rw c.ahead-ahead.ensures at (c.crosses_line.ensures.line c.if-crosses_line.true c.args.flow c.args.allowed) in
     rw line c.allowed_behind.ensures
 
 pub skip-requires-clause-inside : goal.skip-requires-clause-inside

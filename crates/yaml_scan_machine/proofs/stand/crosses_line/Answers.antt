@@ -3,7 +3,7 @@ use Rattle.yaml_scan_model.specs.Marks.{Place, byte}
 use Rattle.yaml_scan_model.specs.Runs.{past_spaces}
 use Rattle.yaml_scan_words.proofs.BetweenLemmas.{feed_width}
 use Rattle.yaml_scan_machine.proofs.GapLemmas.{goes_on, one_line}
-use Rattle.yaml_scan_machine.proofs.stand.passes_line.Goals as goal
+use Rattle.yaml_scan_machine.proofs.stand.crosses_line.Goals as goal
 
 pub skip_break-requires : goal.skip_break-requires
 skip_break-requires c =

@@ -49,6 +49,8 @@ TRIES = 1000
 
 TAGGED = b"%YAML 1.1\n%TAG !e! tag:example.org,2000:\n--- !e!top\n- &x {k: v, \"long\": 'text'}\n- *x\n- |\n  block\n...\n---\nb\n"
 MAPPING = b"".join(b"- name: alpha %d\n  tags: [a, 'b', \"c\\t\"]\n  text: >-\n    one\n    two\n" % i for i in range(150))
+# Texts whose room is too large to be kept for the next one: each asks for its own.
+LARGE = b"".join(b"- %s\n" % (b"x" * 300) for _ in range(80))
 UTF16 = b"\xff\xfe" + "a: [\u00e9, \U0001f600]\n".encode("utf-16le")
 
 # A name, the words, what comes on standard input, the files that lie where the program runs, and which of two is short.
@@ -74,8 +76,8 @@ CASES = [
     Case("events parser fault", ["events"], b"a: [b\n"),
     Case("same equal", ["same", "a", "b"], files={"a": TAGGED, "b": TAGGED}),
     Case("same different", ["same", "a", "b"], files={"a": MAPPING, "b": UTF16}),
-    Case("same short and long", ["same", "a", "b"], files={"a": b"a", "b": MAPPING}, short="first"),
-    Case("same long and short", ["same", "a", "b"], files={"a": MAPPING, "b": b"a"}, short="second"),
+    Case("same short and long", ["same", "a", "b"], files={"a": b"a", "b": LARGE}, short="first"),
+    Case("same long and short", ["same", "a", "b"], files={"a": LARGE, "b": b"a"}, short="second"),
     Case("same first refused", ["same", "a", "b"], files={"a": b"]", "b": b"a"}),
     Case("same second refused", ["same", "a", "b"], files={"a": b"a", "b": b"*a"}),
     Case("check loads", ["check", "in.yaml"], files={"in.yaml": TAGGED}),

@@ -144,7 +144,7 @@ typedef struct {
     int32_t encoding;   /* of the answer; any means UTF-8, in yaml_c_emit the encoding that the stream's start names */
     int32_t canonical;  /* 0: pretty form, else canonical form; yaml_c_reload and yaml_c_normalize don't look at it */
     int32_t indent;     /* columns of a level, 2 to 9; any other number means 2 */
-    int32_t width;      /* the column behind which lines are folded; negative: none; 0 to twice the indent means 80 */
+    int32_t width;      /* the column behind which lines are folded; negative: 2,147,483,647; 0 to twice the indent means 80 */
     int32_t unicode;    /* 0: escape what isn't ASCII, else write what is printable as it is */
     int32_t line_break;
     uint64_t limit;     /* how many bytes the answer may have */

@@ -42,7 +42,7 @@ class Settings:
     canonical: bool = True
     #: Columns of a level, 2 to 9; any other number means 2.
     indent: int = 2
-    #: The column behind which lines are folded; a negative one means never, 0 to twice the indent means 80.
+    #: The column behind which lines are folded; a negative one means 2,147,483,647, 0 to twice the indent means 80.
     width: int = 80
     #: Whether characters that aren't ASCII are written as they are.
     unicode: bool = True

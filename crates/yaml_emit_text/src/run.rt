@@ -1,10 +1,8 @@
 //! Runs of ASCII, which are taken at once.
 
-ghost use Rattle.std.specs.Prelude.{◌≡◌, ◌<◌, ◌≤◌, ◌+◌, ◌++◌, ◌^◌, ◌&&◌, ◌==◌, ◌⊎◌, ℕ, true, false, length, take, drop, get_or, IsUtf8};
+ghost use Rattle.std.specs.Prelude.{◌≡◌, ◌<◌, ◌≤◌, ◌+◌, ◌++◌, ◌^◌, ◌==◌, ◌⊎◌, ℕ, true, false, length, take, drop, get_or, IsUtf8};
 ghost use Rattle.yaml_types.specs.Ascii as ascii;
-ghost use Rattle.yaml_emit_sink.specs.Text.{is_break};
 ghost use Rattle.std.specs.Str.{chars, IsAscii};
-ghost use Rattle.yaml_emit_text.specs.Quoted.{first};
 ghost use Rattle.yaml_emit_text.specs.Style.{last_or};
 ghost use Rattle.yaml_emit_text.specs.Runs as spec;
 
@@ -136,7 +134,7 @@ pub(crate) fn are_calm(bytes: &[u8]) -> bool
 // A text, cut behind some bytes in ASCII.
 // Inlined: two slices.
 #[inline(always)]
-fn cut<'a>(left: &'a str, count: usize) -> (&'a [u8], &'a str)
+pub(crate) fn cut<'a>(left: &'a str, count: usize) -> (&'a [u8], &'a str)
     requires inside { count ≤ length left.now }
     requires ascii { IsAscii (take count left.now) }
     ensures run { result.0.now ≡ take count left.now }
@@ -165,7 +163,7 @@ pub(crate) fn split_run<'a>(bounds: Bounds, column: u64, left: &'a str) -> (&'a 
 }
 
 // How many of the calm bytes in front are passed: all, but for a space that something stands behind.
-fn calm_passed(bytes: &[u8]) -> usize
+pub(crate) fn calm_passed(bytes: &[u8]) -> usize
     ensures inside { result ≤ spec.front spec.calm 0 bytes.now }
     ensures next { (result < spec.front spec.calm 0 bytes.now) ⊎ ((length bytes.now ≤ result)
         ⊎ ((last_or 0 (take result bytes.now) == ascii.space) ≡ false)) }
@@ -178,19 +176,6 @@ fn calm_passed(bytes: &[u8]) -> usize
         return count;
     }
     count - 1
-}
-
-/// A text, cut behind the calm bytes in front, but in front of a space at their end that something stands behind.
-pub(crate) fn split_calm(left: &str) -> (&[u8], &str)
-    ensures calm { spec.all_pass spec.calm 0 result.0.now ≡ true }
-    ensures next { (last_or 0 result.0.now == ascii.space && is_break (first (chars result.1.now)))
-        ≡ false }
-    ensures ascii { IsAscii result.0.now }
-    ensures letters { chars left.now ≡ result.0.now ++ chars result.1.now }
-    ensures utf8 { IsUtf8 result.1.now }
-    ensures shorter { length result.1.now ≤ length left.now }
-{
-    cut(left, calm_passed(left.as_bytes()))
 }
 
 /// The last character of a run, or another one.

@@ -1,6 +1,6 @@
 -- Bytes in front that pass a test, and runs that are written as they are.
-use Rattle.std.proofs.Common.{◌≡◌, ℕ, zero, suc, ◌+◌, ◌-◌, ◌<◌, ◌≤◌, List, [], ◌∷◌, ◌++◌, length, take, drop, get_or, Bool, true, false, cond, IsUtf8, refl, sym, subst, ◌∙◌, ap, arith, length-drop}
-use Rattle.std.specs.Prelude.{if◌then◌else◌, not, nat_le, ◌==◌, ◌||◌}
+use Rattle.std.proofs.Common.{◌≡◌, ℕ, zero, suc, ◌+◌, ◌-◌, ◌<◌, ◌≤◌, List, [], ◌∷◌, ◌++◌, length, take, drop, get_or, Bool, true, false, cond, IsUtf8, refl, sym, subst, ◌∙◌, ap, arith, length-drop, inl, inr, ◌⊎◌}
+use Rattle.std.specs.Prelude.{not, nat_le, ◌==◌, ◌||◌, ◌&&◌}
 use Rattle.std.specs.Str.{chars, IsAscii}
 use Rattle.std.specs.List.{All}
 use Rattle.std.proofs.lemmas.Bool.Decides.{nat_tests}
@@ -10,10 +10,12 @@ use Rattle.std.proofs.lemmas.Str.Ascii.{IsAscii-from_all}
 use Rattle.std.proofs.lemmas.List.Elements.{All-from_get_or}
 use Rattle.std.proofs.lemmas.Bool.{and_parts, and_from, not-true}
 use Rattle.yaml_emit_text.specs.declared.run.Bounds.{Bounds}
-use Rattle.yaml_emit_text.specs.Quoted.{first, is_empty}
+use Rattle.yaml_emit_text.specs.Quoted.{first}
 use Rattle.yaml_emit_text.specs.Style.{last_or}
-use Rattle.yaml_emit_text.specs.Runs.{front, all_pass, runs_on, is_calm, calm, may_follow, passed}
+use Rattle.yaml_emit_text.specs.Runs.{front, all_pass, runs_on, is_calm, calm}
 use Rattle.yaml_emit_text.proofs.Bools.{bool_cases}
+use Rattle.std.proofs.Math.Bool.{and-false}
+use Rattle.yaml_emit_sink.specs.Text.{is_break}
 
 -- the number of bytes in front
 
@@ -97,7 +99,7 @@ below_all : (test : ℕ → ℕ → Bool) → ((k b : ℕ) → test k b ≡ true
     → all_pass test k bs ≡ true → All (λ b. b < 128) bs
 below_all test low k bs h = All-from_get_or (λ b. b < 128) bs 0 (λ i l. below_at test low k bs i h l)
 
-at_most : (b n : ℕ) → nat_le b n ≡ true → b ≤ n
+pub at_most : (b n : ℕ) → nat_le b n ≡ true → b ≤ n
 at_most b n e = grind (arith, nat_tests)
 
 -- what a byte of a run is
@@ -149,6 +151,10 @@ cut_utf8 zero bs u a = u
 cut_utf8 (suc n) [] u a = u
 cut_utf8 (suc n) (b ∷ bs) u a = cut_utf8 n bs (IsUtf8-past_char (b ∷ bs) bs b u (ap (λ t. t ++ bs) (sym (encode_ascii b (a 0))))) (IsAscii-drop (b ∷ take n bs) 1 a)
 
+calm_unbroken : (b : ℕ) → is_calm b ≡ true → is_break b ≡ false
+unfolding is_calm
+calm_unbroken b h = grind (arith, nat_tests, h)
+
 -- what stands behind some of the calm bytes in front, but not all
 pub calm_next : (m : ℕ) (bs : List ℕ) → m < front calm 0 bs → IsUtf8 (drop m bs)
     → is_calm (first (chars (drop m bs))) ≡ true
@@ -186,62 +192,39 @@ pub run_most : (e : Bounds) (k n : ℕ) (xs bs : List ℕ) → xs ≡ bs → n �
     → n ≡ front (runs_on e) k bs
 run_most e k n xs bs same p = p ∙ ap (front (runs_on e) k) same
 
-pub calm_most : (m : ℕ) (xs bs : List ℕ) → xs ≡ bs → m ≡ passed xs → m ≡ passed bs
-calm_most m xs bs same p = p ∙ ap passed same
-
-under : (v : Bool) (n : ℕ) → (if v then n else n - 1) ≤ n
-under true n = omega arith
-under false n = omega arith
-
-passed_under : (m : ℕ) (bs : List ℕ) → m ≡ passed bs → m ≤ front calm 0 bs
-passed_under m bs p = let h = under (front calm 0 bs == length bs) (front calm 0 bs) in omega (arith, p, h)
-
 pub run_inside : (e : Bounds) (k n : ℕ) (bs : List ℕ) → n ≡ front (runs_on e) k bs → n ≤ length bs
 run_inside e k n bs p = let h = front_inside (runs_on e) k bs in omega (arith, p, h)
 
-pub calm_inside : (m : ℕ) (bs : List ℕ) → m ≡ passed bs → m ≤ length bs
-calm_inside m bs p = let h = front_inside calm 0 bs in let k = passed_under m bs p in omega (arith, k, h)
+pub calm_inside : (m : ℕ) (bs : List ℕ) → m ≤ front calm 0 bs → m ≤ length bs
+calm_inside m bs p = let h = front_inside calm 0 bs in omega (arith, p, h)
 
 pub run_passes : (e : Bounds) (k n : ℕ) (bs run : List ℕ) → n ≡ front (runs_on e) k bs
     → run ≡ take n bs → all_pass (runs_on e) k run ≡ true
 run_passes e k n bs run p r = ap (all_pass (runs_on e) k) r ∙ front_pass (runs_on e) k n bs (omega (arith, p))
 
-pub calm_passes : (m : ℕ) (bs run : List ℕ) → m ≡ passed bs → run ≡ take m bs
+pub calm_passes : (m : ℕ) (bs run : List ℕ) → m ≤ front calm 0 bs → run ≡ take m bs
     → all_pass calm 0 run ≡ true
-calm_passes m bs run p r = ap (all_pass calm 0) r ∙ front_pass calm 0 m bs (passed_under m bs p)
+calm_passes m bs run p r = ap (all_pass calm 0) r ∙ front_pass calm 0 m bs p
 
 pub run_length_is : (n : ℕ) (bs run : List ℕ) → n ≤ length bs → run ≡ take n bs → length run ≡ n
 run_length_is n bs run h r = ap length r ∙ length-take-le n bs h
 
-follows : (v : Bool) (x : ℕ) → (v || is_calm x) ≡ true → (v || may_follow x) ≡ true
-follows true x h = refl
-follows false x h = ap (λ w. w || x == 0) h
+-- a run that ends in a space has a byte
+pub last_some : (m : ℕ) (bs : List ℕ) (c : ℕ) → c ≡ last_or 0 (take m bs) → c ≡ 32 → 0 < m
+unfolding last_or
+last_some zero bs c e h = absurd (omega (arith, e, h))
+last_some (suc m) bs c e h = omega arith
 
-ends : (v : Bool) → (v || may_follow (first (chars []))) ≡ true
-unfolding is_calm
-ends true = refl
-ends false = ap (λ t. may_follow (first t)) chars-nil
-
-calm_most_behind : (m : ℕ) (bs run rest : List ℕ) → m ≡ front calm 0 bs - 1 → run ≡ take m bs
-    → rest ≡ drop m bs → IsUtf8 rest → (is_empty run || is_calm (first (chars rest))) ≡ true
-calm_most_behind zero bs run rest p r e u = ap (λ t. is_empty t || is_calm (first (chars rest))) r
-calm_most_behind (suc m) bs run rest p r e u =
+-- What stands behind the calm bytes that are passed: another one, nothing, or anything where the last is no space.
+pub calm_behind : (m : ℕ) (bs run rest : List ℕ) → run ≡ take m bs → rest ≡ drop m bs
+    → IsUtf8 rest → (m < front calm 0 bs) ⊎ ((length bs ≤ m) ⊎ ((last_or 0 (take m bs) == 32) ≡ false))
+    → (last_or 0 run == 32 && is_break (first (chars rest))) ≡ false
+calm_behind m bs run rest r e u (inl l) =
     let P : List ℕ → Type 0 = λ t. IsUtf8 t in
-    let c = ap (λ t. is_calm (first (chars t))) e ∙ calm_next (suc m) bs (omega (arith, p)) (subst P e u) in
-    bool_cases (is_empty run) (λ t. ap (λ v. v || is_calm (first (chars rest))) t) (λ f. ap (λ v. v || is_calm (first (chars rest))) f ∙ c)
-
-all_of : (n m l : ℕ) → m ≡ n → (n == l) ≡ true → l ≤ m
-all_of n m l p t = grind (arith, nat_tests, p, t)
-
-pub calm_behind : (m : ℕ) (bs run rest : List ℕ) → m ≡ passed bs → run ≡ take m bs
-    → rest ≡ drop m bs → IsUtf8 rest → (is_empty run || may_follow (first (chars rest))) ≡ true
-calm_behind m bs run rest p r e u =
-    let n : ℕ = front calm 0 bs in
-    bool_cases (n == length bs)
-    (λ t. let q : m ≡ n = p ∙ ap (λ v. if v then n else n - 1) t in
-    ap (λ z. is_empty run || may_follow (first (chars z))) (e ∙ drop_all _ _ (all_of n m (length bs) q t)) ∙ ends (is_empty run))
-    (λ f. let q : m ≡ n - 1 = p ∙ ap (λ v. if v then n else n - 1) f in
-    follows (is_empty run) (first (chars rest)) (calm_most_behind m bs run rest q r e u))
+    let c = calm_next m bs l (subst P e u) in
+    rw (e, calm_unbroken _ c) (and-false (last_or 0 run == 32))
+calm_behind m bs run rest r e u (inr (inl n)) = rw (e, drop_all m bs n, chars-nil) (and-false (last_or 0 run == 32))
+calm_behind m bs run rest r e u (inr (inr o)) = rw (r, o) refl
 
 -- all bytes are calm
 pub all_calm : (n : ℕ) (bs : List ℕ) → n ≡ front calm 0 bs → (n == length bs) ≡ true

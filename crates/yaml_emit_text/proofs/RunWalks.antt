@@ -6,6 +6,7 @@ use Rattle.std.proofs.lemmas.List.{append-nil}
 use Rattle.std.proofs.lemmas.Str.{chars-IsAscii}
 use Rattle.std.specs.Str.{chars}
 use Rattle.std.proofs.lemmas.Bool.{and_parts, and_from}
+use Rattle.std.proofs.Math.Bool.{and-false}
 use Rattle.yaml_emit_sink.specs.declared.Cursor.{Cursor}
 use Rattle.yaml_emit_sink.specs.Text.{Item, letter, is_break}
 use Rattle.yaml_emit_sink.specs.Layout.{Layout, Rest, ◌▹◌, stay, choose, when, char, letters, new_line, line, is_past}
@@ -13,12 +14,12 @@ use Rattle.yaml_emit_sink.specs.Sink.{Output, Ends, Owes, Puts}
 use Rattle.yaml_emit_sink.proofs.Sinks.{grows_both}
 use Rattle.yaml_emit_text.specs.declared.page.Page.{Page}
 use Rattle.yaml_emit_text.specs.declared.run.Bounds.{Bounds}
-use Rattle.yaml_emit_text.specs.Quoted.{needs_escape, escape_text, first, is_empty, may_fold, fold, escaped, quoted_char, quoted_body}
+use Rattle.yaml_emit_text.specs.Quoted.{needs_escape, escape_text, first, may_fold, fold, escaped, quoted_char, quoted_body}
 use Rattle.yaml_emit_text.specs.Scalars.{value_break, cuts_at, text_char, flow_char, flow_body, adds_break, cuts_block, line_blank, block_text, block_char, block_body}
 use Rattle.yaml_emit_text.specs.Style.{last_or, seen, looked, joined, is_special, is_break_space, is_not_plain, is_not_flow}
-use Rattle.yaml_emit_text.specs.Runs.{all_pass, runs_on, is_calm, calm, may_follow, quoted_bounds, flow_bounds, block_bounds}
+use Rattle.yaml_emit_text.specs.Runs.{all_pass, runs_on, is_calm, calm, quoted_bounds, flow_bounds, block_bounds}
 use Rattle.yaml_emit_text.proofs.Bools.{bool_cases}
-use Rattle.yaml_emit_text.proofs.RunLemmas.{calm_ascii, calm_least, calm_largest, run_byte, last_append}
+use Rattle.yaml_emit_text.proofs.RunLemmas.{at_most, calm_ascii, calm_least, calm_largest, run_byte, last_append}
 use Rattle.yaml_emit_text.proofs.Walks.{walk_end, flow_end}
 use Rattle.yaml_emit_text.specs.Tame.{IsTame}
 use Rattle.yaml_emit_text.proofs.Looks.{looked_at}
@@ -218,8 +219,8 @@ block_run page folded blank e at a b before last bs xs text g p q h t l w =
 
 -- what says nothing against a style
 
-calm_special : (unicode : Bool) (before b next : ℕ) → is_calm b ≡ true → may_follow next ≡ true
-    → is_special unicode before b next ≡ false
+calm_special : (unicode : Bool) (before b next : ℕ) → is_calm b ≡ true
+    → (b == 32 && is_break next) ≡ false → is_special unicode before b next ≡ false
 unfolding is_calm
 calm_special true before b next h n = grind (arith, nat_tests, h, n)
 calm_special false before b next h n = grind (arith, nat_tests, h, n)
@@ -236,36 +237,36 @@ calm_flow : (before b next : ℕ) → is_calm b ≡ true → is_not_flow before 
 unfolding is_calm
 calm_flow before b next h = grind (arith, nat_tests, h)
 
-calm_seen : (unicode : Bool) (before b next : ℕ) → is_calm b ≡ true → may_follow next ≡ true
-    → seen unicode before b next ≡ record
+calm_seen : (unicode : Bool) (before b next : ℕ) → is_calm b ≡ true
+    → (b == 32 && is_break next) ≡ false → seen unicode before b next ≡ record
     { special = false; broken = false; not_plain = false; not_flow = false }
 calm_seen unicode before b next h n = rw (calm_special unicode before b next h n, calm_broken before b next h, calm_plain before b next h, calm_flow before b next h) refl
 
 next_calm : (b : ℕ) (bs xs : List ℕ) (k : ℕ) → all_pass calm k bs ≡ true
-    → (is_empty (b ∷ bs) || may_follow (first xs)) ≡ true → may_follow (first (bs ++ xs)) ≡ true
-unfolding all_pass
+    → (last_or b bs == 32 && is_break (first xs)) ≡ false
+    → (b == 32 && is_break (first (bs ++ xs))) ≡ false
+unfolding all_pass last_or
 next_calm b [] xs k h n = n
-next_calm b (y ∷ ys) xs k h n = ap (λ v. v || y == 0) (and_parts (calm k y) (all_pass calm (k + 1) ys) h).0
-
-calm_still : (bs xs : List ℕ) → may_follow (first xs) ≡ true
-    → (is_empty bs || may_follow (first xs)) ≡ true
-calm_still [] xs n = refl
-calm_still (y ∷ ys) xs n = n
+next_calm b (y ∷ ys) xs k h n =
+    let calm_y = (and_parts (calm k y) (all_pass calm (k + 1) ys) h).0 in
+    rw (no_break y (at_most 32 y (calm_least y calm_y)) (at_most y 126 (calm_largest y calm_y))) (and-false (b == 32))
 
 calm_looked : (unicode : Bool) (before k : ℕ) (bs xs : List ℕ) → all_pass calm k bs ≡ true
-    → (is_empty bs || may_follow (first xs)) ≡ true
+    → (last_or 0 bs == 32 && is_break (first xs)) ≡ false
     → looked unicode before (bs ++ xs) ≡ looked unicode (last_or before bs) xs
 unfolding all_pass last_or
 calm_looked unicode before k [] xs h n = refl
-calm_looked unicode before k (b ∷ bs) xs h n =
-    let c = (and_parts (calm k b) (all_pass calm (k + 1) bs) h).0 in
-    let d = (and_parts (calm k b) (all_pass calm (k + 1) bs) h).1 in
-    let e = calm_seen unicode before b (first (bs ++ xs)) c (next_calm b bs xs (k + 1) d n) in
-    looked_at unicode before b (bs ++ xs) ∙ ap (λ z. joined z (looked unicode b (bs ++ xs))) e ∙ calm_looked unicode b (k + 1) bs xs d (calm_still bs xs n)
+calm_looked unicode before k (b ∷ []) xs h n =
+    let c = (and_parts (calm k b) true h).0 in
+    looked_at unicode before b xs ∙ ap (λ z. joined z (looked unicode b xs)) (calm_seen unicode before b (first xs) c n)
+calm_looked unicode before k (b ∷ y ∷ ys) xs h n =
+    let (c, d) = and_parts (calm k b) (all_pass calm (k + 1) (y ∷ ys)) h in
+    let e = calm_seen unicode before b (first (y ∷ ys ++ xs)) c (next_calm b (y ∷ ys) xs (k + 1) d n) in
+    looked_at unicode before b (y ∷ ys ++ xs) ∙ ap (λ z. joined z (looked unicode b (y ∷ ys ++ xs))) e ∙ calm_looked unicode b (k + 1) (y ∷ ys) xs d n
 
 pub look_calm : (unicode : Bool) (before last : ℕ) (bs xs text : List ℕ) → all_pass calm 0 bs ≡ true
-    → (is_empty bs || may_follow (first xs)) ≡ true → text ≡ bs ++ xs → last ≡ last_or before bs
-    → looked unicode before text ≡ looked unicode last xs
+    → (last_or 0 bs == 32 && is_break (first xs)) ≡ false → text ≡ bs ++ xs
+    → last ≡ last_or before bs → looked unicode before text ≡ looked unicode last xs
 look_calm unicode before last bs xs text h n t l = ap (looked unicode before) t ∙ calm_looked unicode before 0 bs xs h n ∙ ap (λ z. looked unicode z xs) (sym l)
 
 pub last_calm : (before last : ℕ) (bs xs text : List ℕ) → text ≡ bs ++ xs → last ≡ last_or before bs

@@ -2,6 +2,7 @@
 use Rattle.std.proofs.Common.{◌≡◌, ℕ, ◌<◌, ◌-◌, length, get_or, List, [], ◌∷◌, Bool, true, false, refl, sym, ◌∙◌, ap, arith}
 use Rattle.std.specs.Prelude.{not, ◌&&◌, ◌||◌, ◌==◌}
 use Rattle.std.specs.Str.{chars}
+use Rattle.std.proofs.Math.Bool.{and-false}
 use Rattle.std.proofs.lemmas.Bool.Decides.{nat_tests}
 use Rattle.std.proofs.lemmas.List.{append-nil}
 use Rattle.yaml_emit_sink.specs.Layout.{◌▹◌, when, gap, after_text}
@@ -62,7 +63,7 @@ ends v l h =
 all_of : (u : Bool) (v : List ℕ) → IsTame v → all_allowed ≡ allowed u v
 unfolding allowed last_or is_calm
 all_of u [] t = let e = t.ends in absurd (cc)
-all_of u (x ∷ xs) t = tame u (x ∷ xs) [] (last_or 32 (x ∷ xs)) (look_calm u 32 (last_or 32 (x ∷ xs)) (x ∷ xs) [] (x ∷ xs) t.calm refl (sym (append-nil (x ∷ xs))) refl) refl refl t.ends t.starts
+all_of u (x ∷ xs) t = tame u (x ∷ xs) [] (last_or 32 (x ∷ xs)) (look_calm u 32 (last_or 32 (x ∷ xs)) (x ∷ xs) [] (x ∷ xs) t.calm (and-false (last_or 0 (x ∷ xs) == 32)) (sym (append-nil (x ∷ xs))) refl) refl refl t.ends t.starts
 
 -- a tame text allows all styles
 pub tame_allows : (u : Bool) (v : List ℕ) → IsTame v → all_allowed ≡ allowed u (chars v)

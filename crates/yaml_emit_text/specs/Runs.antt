@@ -1,5 +1,5 @@
 -- Runs of ASCII that are written as they are, and runs that allow every style.
-use Rattle.std.specs.Prelude.{ℕ, suc, ◌+◌, ◌-◌, Bool, true, not, ◌&&◌, ◌||◌, ◌==◌, nat_le, if◌then◌else◌, List, [], ◌∷◌, length}
+use Rattle.std.specs.Prelude.{ℕ, suc, ◌+◌, Bool, true, not, ◌&&◌, ◌||◌, ◌==◌, nat_le, if◌then◌else◌, List, [], ◌∷◌}
 use Rattle.yaml_types.specs.Ascii as ascii
 use Rattle.yaml_emit_text.specs.declared.page.Page.{Page}
 use Rattle.yaml_emit_text.specs.declared.run.Bounds.{Bounds}
@@ -48,7 +48,7 @@ flow_bounds page quote = record {
 abbrev pub block_bounds : Page → Bool → Bounds
 block_bounds page folded = record { quote = 0; slash = 0; cuts = folded; width = page.width }
 
--- from space to `~`, but for # , : ? [ ] { }: before another such one it says nothing against a style
+-- from space to `~`, but for # , : ? [ ] { }: it says nothing against a style, but for a space before a break
 unfoldable pub is_calm : ℕ → Bool
 is_calm b = nat_le ascii.space b
     && (nat_le b ascii.tilde && not (b == ascii.hash || b == ascii.comma || b == ascii.colon
@@ -58,12 +58,3 @@ is_calm b = nat_le ascii.space b
 -- at any column
 abbrev pub calm : ℕ → ℕ → Bool
 calm column b = is_calm b
-
--- behind a calm byte it says nothing against a style: another such one, or the end
-abbrev pub may_follow : ℕ → Bool
-may_follow c = is_calm c || c == 0
-
--- How many calm bytes in front are passed at once: what stands behind the last of them may say something of it, unless the
--- text ends there.
-abbrev pub passed : List ℕ → ℕ
-passed bs = if front calm 0 bs == length bs then front calm 0 bs else front calm 0 bs - 1

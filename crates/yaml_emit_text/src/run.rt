@@ -1,8 +1,8 @@
 //! Runs of ASCII, which are taken at once.
 
-ghost use Rattle.std.specs.Prelude.{◌≡◌, ◌<◌, ◌≤◌, ◌++◌, ◌^◌, ◌||◌, true, length, take, drop, IsUtf8};
+ghost use Rattle.std.specs.Prelude.{◌≡◌, ◌<◌, ◌≤◌, ◌+◌, ◌++◌, ◌^◌, ◌==◌, ◌⊎◌, ℕ, true, false, length, take, drop, get_or, IsUtf8};
+ghost use Rattle.yaml_types.specs.Ascii as ascii;
 ghost use Rattle.std.specs.Str.{chars, IsAscii};
-ghost use Rattle.yaml_emit_text.specs.Quoted.{first, is_empty};
 ghost use Rattle.yaml_emit_text.specs.Style.{last_or};
 ghost use Rattle.yaml_emit_text.specs.Runs as spec;
 
@@ -75,6 +75,29 @@ fn is_calm(byte: u8) -> bool
     CALM[byte as usize] == b'1'
 }
 
+/// How many bytes are looked at in a row.
+const AHEAD: usize = 8;
+
+// How many of the next eight bytes are calm, up to the first that isn't.
+// A loop whose turns are counted by a constant is written out: no place is compared with the text's length.
+// Inlined: a load and a comparison a byte.
+#[inline(always)]
+fn calm_row(bytes: &[u8], from: usize) -> usize
+    requires { from + 8 ≤ length bytes.now }
+    ensures few { result ≤ 8 }
+    ensures more { (n : ℕ) → n ≡ from + spec.front spec.calm (0 + from) (drop from bytes.now)
+        → n ≡ from + result
+        + spec.front spec.calm (0 + (from + result)) (drop (from + result) bytes.now) }
+    ensures found { (n : ℕ) → n ≡ from + spec.front spec.calm (0 + from) (drop from bytes.now)
+        → result < 8 → from + result ≡ n }
+{
+    let mut count = 0;
+    'bytes: while count < AHEAD && is_calm(bytes[from + count]) {
+        count += 1;
+    }
+    count
+}
+
 // The calm bytes in front.
 // Inlined: a loop of a load and a comparison a byte.
 #[inline(always)]
@@ -82,6 +105,13 @@ fn calm_length(bytes: &[u8]) -> usize
     ensures { result ≡ spec.front spec.calm 0 bytes.now }
 {
     let mut count = 0;
+    'rows: while AHEAD <= bytes.len() - count {
+        let more = calm_row(bytes, count);
+        count += more;
+        if more < AHEAD {
+            return count;
+        }
+    }
     'bytes: while count < bytes.len() {
         if !is_calm(bytes[count]) {
             return count;
@@ -104,7 +134,7 @@ pub(crate) fn are_calm(bytes: &[u8]) -> bool
 // A text, cut behind some bytes in ASCII.
 // Inlined: two slices.
 #[inline(always)]
-fn cut<'a>(left: &'a str, count: usize) -> (&'a [u8], &'a str)
+pub(crate) fn cut<'a>(left: &'a str, count: usize) -> (&'a [u8], &'a str)
     requires inside { count ≤ length left.now }
     requires ascii { IsAscii (take count left.now) }
     ensures run { result.0.now ≡ take count left.now }
@@ -132,30 +162,20 @@ pub(crate) fn split_run<'a>(bounds: Bounds, column: u64, left: &'a str) -> (&'a 
     cut(left, run_length(bounds, column, left.as_bytes()))
 }
 
-// How many of the calm bytes in front are passed: all but the last, and that too where the text ends behind it.
-fn calm_passed(bytes: &[u8]) -> usize
-    ensures { result ≡ spec.passed bytes.now }
+// How many of the calm bytes in front are passed: all, but for a space that something stands behind.
+pub(crate) fn calm_passed(bytes: &[u8]) -> usize
+    ensures inside { result ≤ spec.front spec.calm 0 bytes.now }
+    ensures next { (result < spec.front spec.calm 0 bytes.now) ⊎ ((length bytes.now ≤ result)
+        ⊎ ((last_or 0 (take result bytes.now) == ascii.space) ≡ false)) }
 {
     let count = calm_length(bytes);
     if count == bytes.len() {
-        count
-    } else {
-        count.saturating_sub(1)
+        return count;
     }
-}
-
-/// A text, cut in front of the last of the calm bytes in front, or behind them where it ends there.
-pub(crate) fn split_calm(left: &str) -> (&[u8], &str)
-    ensures calm { spec.all_pass spec.calm 0 result.0.now ≡ true }
-    ensures next { (is_empty result.0.now || spec.may_follow (first (chars result.1.now)))
-        ≡ true }
-    ensures whole { length result.0.now ≡ spec.passed left.now }
-    ensures ascii { IsAscii result.0.now }
-    ensures letters { chars left.now ≡ result.0.now ++ chars result.1.now }
-    ensures utf8 { IsUtf8 result.1.now }
-    ensures shorter { length result.1.now ≤ length left.now }
-{
-    cut(left, calm_passed(left.as_bytes()))
+    if last_of('\0', &bytes[..count]) != ' ' {
+        return count;
+    }
+    count - 1
 }
 
 /// The last character of a run, or another one.

@@ -10,7 +10,7 @@ ghost use Rattle.yaml_emit_text.specs.Style.{is_blank, ends_word, somewhere, is_
 use crate::letters::{first, is_break, is_empty, split_first};
 use crate::page::{Allowed, Seen, Style};
 use crate::quoted::is_printable;
-use crate::run::{last_of, split_calm};
+use crate::run::{calm_passed, cut, last_of};
 use yaml_types::yaml_scalar_style_t;
 
 pub(crate) fn is_blank(c: char) -> bool
@@ -175,7 +175,7 @@ fn past_calm(before: char, left: &str) -> (char, &str)
     ensures utf8 { IsUtf8 result.1.now }
     ensures shorter { length result.1.now ≤ length left.now }
 {
-    let (run, rest) = split_calm(left);
+    let (run, rest) = cut(left, calm_passed(left.as_bytes()));
     (last_of(before, run), rest)
 }
 

@@ -1,6 +1,6 @@
 -- Scalars of one run.
 use Rattle.std.proofs.Common.{◌≡◌, ◌≢◌, ℕ, zero, suc, nat_lt, ◌+◌, ◌-◌, ◌<◌, ◌≤◌, ◌==◌, ◌&&◌, ◌||◌, not, Bool, true, false, List, [], ◌∷◌, ◌++◌, length, Result, Ok, refl, sym, ap, subst, ◌∙◌, ◌⊎◌, inl, inr, arith}
-use Rattle.yaml_scan_scalars.proofs.Words.{append-nil, cases_Bool, nat_tests, yaml_mark_t, ScanError, Wrong, ReadsPlain, Place, byte, mark_at, column_at, break_of, break_width, is_blank, is_blank_or_end, past, past_spaces, is_space_there, is_document_indicator, no_break, within, Piece, Kept, value, bytes_at, run_pieces, ends_kept, IsRun, Closing, pieces, quote_at, quoted_at, standing_at, valued, Ends, Words, PlainText, is_bracket, with_run, words_from, words, plain_with, plain_text, plain_at, spot_at, ends_at, leads, after_white}
+use Rattle.yaml_scan_scalars.proofs.Words.{append-nil, cases_Bool, nat_tests, yaml_mark_t, ScanError, Wrong, ReadsPlain, Place, byte, mark_at, column_at, break_of, break_width, is_blank, is_blank_or_end, past, past_spaces, is_space_there, is_document_indicator, no_break, within, Piece, Kept, value, bytes_at, run_pieces, ends_kept, IsRun, plain_kind, quoted_kind, Closing, pieces, quote_at, quoted_at, standing_at, valued, Ends, Words, PlainText, is_bracket, with_run, words_from, words, plain_with, plain_text, plain_at, spot_at, ends_at, leads, after_white}
 use Rattle.yaml_scan_scalars.specs.declared.scalar.PlainScalar.{PlainScalar}
 use Rattle.yaml_scan_model.proofs.RunsLemmas.{past_more, past_stop, space_parts}
 use Rattle.yaml_scan_scalars.proofs.PlainLemmas.{spot_ends, spot_blank, spot_break, lead_break, leads-blank}
@@ -30,18 +30,18 @@ run_value bs h = value_run bs [] h ∙ append-nil bs
 
 -- a quoted scalar whose first run is followed by its closing quote
 pub quoted_one : (quote : ℕ) (text : List ℕ) (p : ℕ) (place : Place) → (quote ≡ 34) ⊎ (quote ≡ 39)
-    → p < length text → IsRun text (p + 1) place
+    → p < length text → IsRun (quoted_kind quote) text (p + 1) place
     → byte text place.at ≡ quote → (quote == 39 && byte text (place.at + 1) == 39) ≡ false
     → quoted_at quote text p ≡ Ok (bytes_at text (p + 1) (place.at - (p + 1)), place.at + 1)
 quoted_one quote text p place q inside run e d =
     let after = run.after in
     let n : suc (length text - 1) ≡ length text = omega arith in
-    let room : place.at - (p + 1) ≤ length text - 1 = few text (p + 1) (length text - 1) place run (omega arith) in
+    let room : place.at - (p + 1) ≤ length text - 1 = few (quoted_kind quote) text (p + 1) (length text - 1) place run (omega arith) in
     let at : p + 1 + (place.at - (p + 1)) ≡ place.at = omega arith in
     let all = pieces_run (place.at - (p + 1)) (length text - 1) quote text (p + 1) q room (λ k a b. run.each k a (omega arith)) in
     let close = pieces_close (length text - 1 - (place.at - (p + 1))) quote text place.at e q d in
     let bs = bytes_at text (p + 1) (place.at - (p + 1)) in
-    rw (n, at, close) at (ap (λ r. valued value r) all) ∙ ap (λ v. Ok (v, place.at + 1)) (run_value bs (run_ends text (p + 1) place run))
+    rw (n, at, close) at (ap (λ r. valued value r) all) ∙ ap (λ v. Ok (v, place.at + 1)) (run_value bs (run_ends (quoted_kind quote) text (p + 1) place run))
 
 pub closes_both : (quote b next : ℕ) → (b == quote && not (quote == 39 && next == 39)) ≡ true
     → (b ≡ quote) × ((quote == 39 && next == 39) ≡ false)
@@ -65,7 +65,7 @@ one_text text p d e q broke last = ap (λ w. plain_text w) (with_run_is text p d
 -- a plain scalar whose first run is followed by white alone
 pub plain_then : (flow : Bool) (level : ℕ) (text : List ℕ) (p e q : ℕ) (broke : Bool)
     (place : Place) → p < length text → leads text (p + 1) ≡ false → (byte text p == 32) ≡ false
-    → IsRun text (p + 1) place
+    → IsRun (plain_kind flow) text (p + 1) place
     → ((n : ℕ) → length text ≤ place.at + n → words (suc n) flow level text place.at
     ≡ Ok (record { pieces = []; end = e; place = q; broke = broke }))
     → plain_at flow level text p ≡ Ok
@@ -73,18 +73,18 @@ pub plain_then : (flow : Bool) (level : ℕ) (text : List ℕ) (p e q : ℕ) (br
 plain_then flow level text p e q broke place inside calm first run follow =
     let after = run.after in
     let n : suc (length text - 1) ≡ length text = omega arith in
-    let d : place.at - (p + 1) ≤ length text - 1 = few text (p + 1) (length text - 1) place run (omega arith) in
+    let d : place.at - (p + 1) ≤ length text - 1 = few (plain_kind flow) text (p + 1) (length text - 1) place run (omega arith) in
     let at : p + 1 + (place.at - (p + 1)) ≡ place.at = omega arith in
     let long : place.at - p ≡ suc (place.at - (p + 1)) = omega arith in
     let here : p + suc (place.at - (p + 1)) ≡ place.at = omega arith in
     let all = words_run (place.at - (p + 1)) (length text - 1) flow level text (p + 1) d (λ s. calm) (λ k a b. run.each k a (omega arith)) in
     let rest = follow (length text - 1 - (place.at - (p + 1))) (omega arith) in
-    let value = rw (here, first) at (one_text text p (place.at - (p + 1)) e q broke (first_last text p place run first)) in
+    let value = rw (here, first) at (one_text text p (place.at - (p + 1)) e q broke (first_last (plain_kind flow) text p place run first)) in
     rw (n, at, rest) at (ap (λ r. plain_with plain_text (words_from (Kept (byte text p ∷ [])) (p + 1) r)) all)
     ∙ rw long (ap (λ (t : PlainText). Ok t) value)
 
 pub plain_one : (flow : Bool) (level : ℕ) (text : List ℕ) (p : ℕ) (place : Place) → p < length text
-    → leads text (p + 1) ≡ false → (byte text p == 32) ≡ false → IsRun text (p + 1) place
+    → leads text (p + 1) ≡ false → (byte text p == 32) ≡ false → IsRun (plain_kind flow) text (p + 1) place
     → spot_at flow level text place.at ≡ Ends
     → plain_at flow level text p ≡ Ok
     (record {
@@ -142,13 +142,13 @@ own_mark text p m h = rw h (refl, refl)
 pub some_quote : (quote b : ℕ) → b ≡ quote → (quote ≡ 34) ⊎ (quote ≡ 39) → (b ≡ 34) ⊎ (b ≡ 39)
 some_quote quote b e q = rw e q
 
-pub run_whole : (text : List ℕ) (p : ℕ) (place : Place) → IsRun text p place
-    → IsRun text p (record { text = text; at = place.at })
-run_whole text p place run = record { same = refl; after = run.after; each = run.each; last = run.last }
+pub run_whole : (kind : ℕ) (text : List ℕ) (p : ℕ) (place : Place) → IsRun kind text p place
+    → IsRun kind text p (record { text = text; at = place.at })
+run_whole kind text p place run = record { same = refl; after = run.after; each = run.each; last = run.last }
 
 -- a quoted scalar whose first run was taken
 pub quoted_first : (quote : ℕ) (text : List ℕ) (p : ℕ) (new : List Piece → List ℕ) (place : Place)
-    → (quote ≡ 34) ⊎ (quote ≡ 39) → p < length text → IsRun text (p + 1) place
+    → (quote ≡ 34) ⊎ (quote ≡ 39) → p < length text → IsRun (quoted_kind quote) text (p + 1) place
     → ((ps : List Piece) → new ps ≡ value
     (run_pieces (bytes_at text (p + 1) (place.at - (p + 1))) ++ ps))
     → (m : ℕ) × (length text ≤ place.at + m)

@@ -1,6 +1,7 @@
 -- Runs of ordinary bytes in plain scalars.
-use Rattle.std.proofs.Common.{◌≡◌, ◌≢◌, ℕ, zero, suc, ◌+◌, ◌-◌, ◌<◌, ◌≤◌, ◌==◌, ◌&&◌, if◌then◌else◌, Bool, true, false, List, [], ◌∷◌, ◌++◌, length, Result, Ok, Err, refl, sym, ap, ◌∙◌, inl, inr, ◌⊎◌, arith}
-use Rattle.yaml_scan_scalars.proofs.Words.{cases_Bool, ne_eqb, nat_tests, Place, byte, ends_break, is_blank, Wrong, Joining, Piece, Kept, value, is_ordinary, is_narrow, is_sign, is_link, in_run, bytes_at, piece_of, run_pieces, ends_kept, starts_kept, IsRun, Takes, Words, is_bracket, is_nothing, with_piece, with_run, words_from, words, plain_with, plain_text, plain_at, spot_at, ends_at, leads, after_white, joined, TookFirst, TookWords}
+use Rattle.std.proofs.Math.Bool.{and-false}
+use Rattle.std.proofs.Common.{◌≡◌, ℕ, zero, suc, ◌+◌, ◌-◌, ◌<◌, ◌≤◌, ◌==◌, ◌&&◌, if◌then◌else◌, Bool, true, false, List, [], ◌∷◌, ◌++◌, length, Result, Ok, Err, refl, sym, ap, ◌∙◌, inl, inr, ◌⊎◌, arith}
+use Rattle.yaml_scan_scalars.proofs.Words.{cases_Bool, ne_eqb, nat_tests, Place, byte, ends_break, is_blank, Wrong, Joining, Piece, Kept, value, is_ordinary, is_common, is_narrow, is_odd, parts_flow, plain_kind, is_document_indicator, is_sign, is_link, in_run, bytes_at, piece_of, run_pieces, ends_kept, starts_kept, IsRun, Takes, Words, is_bracket, is_nothing, with_piece, with_run, words_from, words, plain_with, plain_text, plain_at, spot_at, ends_at, leads, after_white, joined, TookFirst, TookWords}
 use Rattle.yaml_scan_scalars.specs.declared.folding.Gap.TheVariants as gaps
 use Rattle.yaml_scan_scalars.proofs.RunLemmas.{ordinary_is, ordinary_no_break, ordinary_ends_none, ordinary_no_mark, sign_is, sign_no_break, sign_ends_none, no_mark_here, link_cases, run_parts, space_is, space_no_break, bytes_none, bytes_more, ends_bytes, resume_run, value_run, same_or, few}
 use Rattle.yaml_scan_scalars.proofs.FoldingLemmas.{value-kept}
@@ -69,51 +70,49 @@ first_text text p d q w e last =
 
 -- what follows a run
 
-no_bracket : (b : ℕ) → is_ordinary b ≡ true → is_bracket b ≡ false
-unfolding is_ordinary is_bracket
-no_bracket b h = grind (arith, nat_tests)
+-- in a plain scalar it is no comment's sign, no colon and, in flow context, nothing that parts items
+record IsText (flow : Bool) (b : ℕ) : Type 0 where
+  no_hash : (b == 35) ≡ false
+  no_colon : (b == 58) ≡ false
+  no_part : (flow && is_bracket b) ≡ false
 
-ends_ordinary : (flow : Bool) (level : ℕ) (text : List ℕ) (p : ℕ) → is_ordinary (byte text p) ≡ true
-    → leads text p ≡ false → ends_at flow level text p ≡ false
-unfolding ends_at
-ends_ordinary true level text p h l =
-    let o = ordinary_is (byte text p) h in
-    let some = o.some in
-    rw (ordinary_no_mark text p h, ne_eqb (byte text p) 0 (omega arith), ne_eqb (byte text p) 35 o.no_hash, ne_eqb (byte text p) 58 o.no_colon, no_bracket (byte text p) h) refl
-ends_ordinary false level text p h l =
-    let o = ordinary_is (byte text p) h in
-    let some = o.some in
-    rw (ordinary_no_mark text p h, ne_eqb (byte text p) 0 (omega arith), ne_eqb (byte text p) 35 o.no_hash, ne_eqb (byte text p) 58 o.no_colon, l) refl
+text_is : (flow : Bool) (b : ℕ) → is_ordinary (plain_kind flow) b ≡ true → IsText flow b
+unfolding is_common is_narrow is_odd parts_flow is_bracket
+text_is true b h = record { no_hash = grind (arith, nat_tests); no_colon = grind (arith, nat_tests); no_part = grind (arith, nat_tests) }
+text_is false b h = record { no_hash = grind (arith, nat_tests); no_colon = grind (arith, nat_tests); no_part = refl }
 
-spot_ordinary : (flow : Bool) (level : ℕ) (text : List ℕ) (p : ℕ) → is_ordinary (byte text p) ≡ true
-    → leads text p ≡ false → spot_at flow level text p ≡ Takes (piece_of (byte text p)) (p + 1)
-spot_ordinary flow level text p h l =
-    let o = ordinary_is (byte text p) h in
-    rw o.no_space (spot_kept flow level text p (ordinary_no_break _ _ _ h) o.no_blank (ends_ordinary flow level text p h l) (grind (arith, nat_tests)))
-
-sign_no_bracket : (b : ℕ) → is_sign b ≡ true → is_bracket b ≡ false
-unfolding is_bracket
-sign_no_bracket b h = grind (arith, nat_tests)
-
-ends_sign : (flow : Bool) (level : ℕ) (text : List ℕ) (p : ℕ) → is_sign (byte text p) ≡ true
-    → is_narrow (byte text (p + 1)) ≡ true → leads text p ≡ false
+ends_none : (flow : Bool) (level : ℕ) (text : List ℕ) (p : ℕ) → (byte text p == 0) ≡ false
+    → is_document_indicator text p ≡ false → IsText flow (byte text p) → leads text p ≡ false
     → ends_at flow level text p ≡ false
 unfolding ends_at
-ends_sign true level text p h n l =
-    let o = sign_is (byte text p) h in
+ends_none true level text p z m o l = rw (z, m, o.no_hash, o.no_colon) o.no_part
+ends_none false level text p z m o l = rw (z, m, o.no_hash, o.no_colon, l) refl
+
+no_colon_here : (flow : Bool) (b : ℕ) (next : Bool) → (b == 58) ≡ false
+    → (flow && (b == 58 && next)) ≡ false
+no_colon_here flow b next h = rw h (and-false flow)
+
+spot_ordinary : (flow : Bool) (level : ℕ) (text : List ℕ) (p : ℕ)
+    → is_ordinary (plain_kind flow) (byte text p) ≡ true
+    → leads text p ≡ false → spot_at flow level text p ≡ Takes (piece_of (byte text p)) (p + 1)
+spot_ordinary flow level text p h l =
+    let o = ordinary_is (plain_kind flow) (byte text p) h in
     let some = o.some in
-    rw (no_mark_here text p n, ne_eqb (byte text p) 0 (omega arith), ne_eqb (byte text p) 35 o.no_hash, ne_eqb (byte text p) 58 o.no_colon, sign_no_bracket (byte text p) h) refl
-ends_sign false level text p h n l =
-    let o = sign_is (byte text p) h in
-    let some = o.some in
-    rw (no_mark_here text p n, ne_eqb (byte text p) 0 (omega arith), ne_eqb (byte text p) 35 o.no_hash, ne_eqb (byte text p) 58 o.no_colon, l) refl
+    let t = text_is flow (byte text p) h in
+    rw o.no_space (spot_kept flow level text p (ordinary_no_break (plain_kind flow) _ _ _ h) o.no_blank (ends_none flow level text p (ne_eqb (byte text p) 0 (omega arith)) (ordinary_no_mark (plain_kind flow) text p h) t l) (no_colon_here flow (byte text p) _ t.no_colon))
+
+sign_text : (flow : Bool) (b : ℕ) → is_sign b ≡ true → IsText flow b
+unfolding is_bracket
+sign_text flow b h = record { no_hash = grind (arith, nat_tests); no_colon = grind (arith, nat_tests); no_part = grind (arith, nat_tests) }
 
 spot_sign : (flow : Bool) (level : ℕ) (text : List ℕ) (p : ℕ) → is_sign (byte text p) ≡ true
-    → is_narrow (byte text (p + 1)) ≡ true → leads text p ≡ false
+    → is_narrow (plain_kind flow) (byte text (p + 1)) ≡ true → leads text p ≡ false
     → spot_at flow level text p ≡ Takes (piece_of (byte text p)) (p + 1)
 spot_sign flow level text p h n l =
     let o = sign_is (byte text p) h in
-    rw o.no_space (spot_kept flow level text p (sign_no_break _ _ _ h) o.no_blank (ends_sign flow level text p h n l) (grind (arith, nat_tests)))
+    let some = o.some in
+    let t = sign_text flow (byte text p) h in
+    rw o.no_space (spot_kept flow level text p (sign_no_break _ _ _ h) o.no_blank (ends_none flow level text p (ne_eqb (byte text p) 0 (omega arith)) (no_mark_here (plain_kind flow) text p n) t l) (no_colon_here flow (byte text p) _ t.no_colon))
 
 spot_space : (flow : Bool) (level : ℕ) (text : List ℕ) (p : ℕ) → byte text p ≡ 32
     → spot_at flow level text p ≡ Takes (piece_of (byte text p)) (p + 1)
@@ -121,25 +120,27 @@ spot_space flow level text p h =
     let s = space_is (byte text p) h in
     rw s.same (spot_blank flow level text p (space_no_break _ _ _ h) s.blank (rw s.no_tab refl))
 
-pub calm_next : (text : List ℕ) (p : ℕ) → is_ordinary (byte text p) ≡ true
+pub calm_next : (kind : ℕ) (text : List ℕ) (p : ℕ) → is_ordinary kind (byte text p) ≡ true
     → (false ≡ leads text (p + 1)) × (false ≡ after_white text (p + 1))
-calm_next text p h = let o = ordinary_is (byte text p) h in lead_text text p o.no_blank (ordinary_ends_none _ _ _ _ h)
+calm_next kind text p h = let o = ordinary_is kind (byte text p) h in lead_text text p o.no_blank (ordinary_ends_none kind _ _ _ _ h)
 
 -- behind a run
-pub calm_behind : (text : List ℕ) (p : ℕ) (place : Place) → IsRun text p place → p < place.at
+pub calm_behind : (kind : ℕ) (text : List ℕ) (p : ℕ) (place : Place) → IsRun kind text p place
+    → p < place.at
     → (false ≡ leads text place.at) × (false ≡ after_white text place.at)
-calm_behind text p place run h =
+calm_behind kind text p place run h =
     let last : place.at - 1 + 1 ≡ place.at = omega arith in
-    rw last at (calm_next text (place.at - 1) (run.last h))
+    rw last at (calm_next kind text (place.at - 1) (run.last h))
 
 -- behind a character and a run
-pub behind_first : (text : List ℕ) (p : ℕ) (place : Place) → is_blank (byte text p) ≡ false
-    → ends_break text p ≡ false → IsRun text (p + 1) place
+pub behind_first : (kind : ℕ) (text : List ℕ) (p : ℕ) (place : Place)
+    → is_blank (byte text p) ≡ false
+    → ends_break text p ≡ false → IsRun kind text (p + 1) place
     → (false ≡ leads text place.at) × (false ≡ after_white text place.at)
-behind_first text p place b e run =
+behind_first kind text p place b e run =
     elim (same_or (p + 1) place.at run.after) [
       | inl s ↦ rw s (lead_text text p b e)
-      | inr l ↦ calm_behind text (p + 1) place run l
+      | inr l ↦ calm_behind kind text (p + 1) place run l
     ]
 
 abbrev pub words_with : (Words → Words) → Result Words Wrong → Result Words Wrong
@@ -158,16 +159,18 @@ record RunSpot (flow : Bool) (level : ℕ) (text : List ℕ) (p : ℕ) : Type 0 
   pub calm : leads text (p + 1) ≡ false
 
 link_spot : (flow : Bool) (level : ℕ) (text : List ℕ) (p : ℕ) → is_link (byte text p) ≡ true
-    → is_narrow (byte text (p + 1)) ≡ true → leads text p ≡ false → RunSpot flow level text p
+    → is_narrow (plain_kind flow) (byte text (p + 1)) ≡ true → leads text p ≡ false
+    → RunSpot flow level text p
 link_spot flow level text p h n l = elim (link_cases (byte text p) h) [
   | inl e ↦ record { takes = spot_space flow level text p e; calm = leads-blank text p (space_is (byte text p) e).blank ∙ l }
   | inr s ↦ record { takes = spot_sign flow level text p s n l; calm = sym (lead_text text p (sign_is (byte text p) s).no_blank (sign_ends_none _ _ _ _ s)).0 }
 ]
 
-run_spot : (flow : Bool) (level : ℕ) (text : List ℕ) (p : ℕ) → in_run text p ≡ true
+run_spot : (flow : Bool) (level : ℕ) (text : List ℕ) (p : ℕ)
+    → in_run (plain_kind flow) text p ≡ true
     → leads text p ≡ false → RunSpot flow level text p
-run_spot flow level text p h l = elim (run_parts text p h) [
-  | inl o ↦ record { takes = spot_ordinary flow level text p o l; calm = sym (calm_next text p o).0 }
+run_spot flow level text p h l = elim (run_parts (plain_kind flow) text p h) [
+  | inl o ↦ record { takes = spot_ordinary flow level text p o l; calm = sym (calm_next (plain_kind flow) text p o).0 }
   | inr s ↦ link_spot flow level text p s.0 s.1 l
 ]
 
@@ -181,7 +184,8 @@ words_more x q f (Ok w) = refl
 words_more x q f (Err e) = refl
 
 pub words_run : (d n : ℕ) (flow : Bool) (level : ℕ) (text : List ℕ) (p : ℕ) → d ≤ n
-    → (0 < d → leads text p ≡ false) → ((k : ℕ) → p ≤ k → k < p + d → in_run text k ≡ true)
+    → (0 < d → leads text p ≡ false)
+    → ((k : ℕ) → p ≤ k → k < p + d → in_run (plain_kind flow) text k ≡ true)
     → words (suc n) flow level text p
     ≡ words_with (with_run text p d) (words (suc (n - d)) flow level text (p + d))
 words_run zero n flow level text p h l o =
@@ -205,14 +209,14 @@ plain_front old new f (Ok w) h = rw (h w) refl
 plain_front old new f (Err e) h = refl
 
 pub plain_run : (n : ℕ) (flow : Bool) (level : ℕ) (text : List ℕ) (p : ℕ) (old new : Joining)
-    (place : Place) → TookWords text p old new place → length text ≤ p + n
+    (place : Place) → TookWords (plain_kind flow) text p old new place → length text ≤ p + n
     → (m : ℕ) × (length text ≤ place.at + m)
     × (plain_with (joined old) (words (suc n) flow level text p)
     ≡ plain_with (joined new) (words (suc m) flow level text place.at))
 plain_run n flow level text p old new place took room =
     let run = took.run in
     let after = run.after in
-    let d : place.at - p ≤ n = few text p n place run room in
+    let d : place.at - p ≤ n = few (plain_kind flow) text p n place run room in
     let at : p + (place.at - p) ≡ place.at = omega arith in
     let all = words_run (place.at - p) n flow level text p d (λ s. took.calm (omega arith)) (λ k a b. run.each k a (omega arith)) in
     (n - (place.at - p), omega arith, rw at at (ap (λ r. plain_with (joined old) r) all ∙ plain_front old new (with_run text p (place.at - p)) (words (suc (n - (place.at - p))) flow level text (p + (place.at - p))) took.value))
@@ -224,7 +228,8 @@ first_front new f (Ok w) h = rw (h w) refl
 first_front new f (Err e) h = refl
 
 pub plain_first_run : (flow : Bool) (level : ℕ) (text : List ℕ) (p : ℕ) (new : Joining)
-    (place : Place) → TookFirst text p new place → p < length text → leads text (p + 1) ≡ false
+    (place : Place) → TookFirst (plain_kind flow) text p new place → p < length text
+    → leads text (p + 1) ≡ false
     → (byte text p == 32) ≡ false
     → (m : ℕ) × (length text ≤ place.at + m)
     × (plain_at flow level text p ≡ plain_with (joined new)
@@ -233,7 +238,7 @@ plain_first_run flow level text p new place took inside calm first =
     let run = took.run in
     let after = run.after in
     let n : suc (length text - 1) ≡ length text = omega arith in
-    let d : place.at - (p + 1) ≤ length text - 1 = few text (p + 1) (length text - 1) place run (omega arith) in
+    let d : place.at - (p + 1) ≤ length text - 1 = few (plain_kind flow) text (p + 1) (length text - 1) place run (omega arith) in
     let at : p + 1 + (place.at - (p + 1)) ≡ place.at = omega arith in
     let long : place.at - p ≡ suc (place.at - (p + 1)) = omega arith in
     let all = words_run (place.at - (p + 1)) (length text - 1) flow level text (p + 1) d (λ s. calm) (λ k a b. run.each k a (omega arith)) in

@@ -1,6 +1,6 @@
 -- Runs of ordinary bytes.
 use Rattle.std.proofs.Common.{◌≡◌, ◌≢◌, ℕ, zero, suc, ◌+◌, ◌-◌, ◌<◌, ◌≤◌, ◌==◌, ◌&&◌, ◌||◌, Bool, true, false, List, [], ◌∷◌, ◌++◌, length, take, drop, nat_lt, Result, Ok, Err, refl, sym, ap, ◌∙◌, inl, inr, ◌⊎◌, append_assoc, arith}
-use Rattle.yaml_scan_scalars.proofs.Words.{and_parts, cases_Bool, or_cases, or_right, not-true, nat_tests, drop_more, Place, byte, break_of, ends_of, is_blank, is_document_indicator, Wrong, no_break, within, Folding, Gap, Piece, Kept, Blank, Line, lines, is_empty, folded, value, resume, resumed, is_ordinary, is_narrow, is_sign, is_link, is_linked, in_run, bytes_at, piece_of, run_pieces, starts_kept, ends_kept, IsRun, TookRun, Pieces, with_front, pieces, valued, standing_at}
+use Rattle.yaml_scan_scalars.proofs.Words.{and_parts, cases_Bool, or_cases, or_right, not-true, nat_tests, drop_more, Place, byte, break_of, ends_of, is_blank, is_document_indicator, Wrong, no_break, within, Folding, Gap, Piece, Kept, Blank, Line, lines, is_empty, folded, value, resume, resumed, is_ordinary, is_common, is_narrow, is_odd, quoted_kind, is_sign, is_link, is_linked, in_run, bytes_at, piece_of, run_pieces, starts_kept, ends_kept, IsRun, TookRun, Pieces, with_front, pieces, valued, standing_at}
 use Rattle.yaml_scan_scalars.specs.declared.folding.Gap.TheVariants as gaps
 use Rattle.yaml_scan_scalars.proofs.FoldingLemmas.{value-kept, blanks_of, keep_line, keep_feed, keep_kept}
 use Rattle.yaml_scan_scalars.proofs.QuotedLemmas.{standing_kept, standing_blank, front}
@@ -13,51 +13,55 @@ pub record IsOrdinary (b : ℕ) : Type 0 where
   pub no_feed : b ≢ 10
   pub no_c2 : b ≢ 0xC2
   pub no_e2 : b ≢ 0xE2
-  pub no_double : b ≢ 34
-  pub no_single : b ≢ 39
-  pub no_backslash : b ≢ 92
   pub no_blank : is_blank b ≡ false
   pub no_dash : b ≢ 45
   pub no_dot : b ≢ 46
-  pub no_hash : b ≢ 35
-  pub no_colon : b ≢ 58
   pub no_space : (b == 32) ≡ false
 
-pub ordinary_is : (b : ℕ) → is_ordinary b ≡ true → IsOrdinary b
-unfolding is_ordinary
-ordinary_is b h = record {
+pub ordinary_is : (kind b : ℕ) → is_ordinary kind b ≡ true → IsOrdinary b
+unfolding is_common is_narrow
+ordinary_is kind b h = record {
   some = grind (arith, nat_tests);
   no_cr = grind (arith, nat_tests);
   no_feed = grind (arith, nat_tests);
   no_c2 = grind (arith, nat_tests);
   no_e2 = grind (arith, nat_tests);
-  no_double = grind (arith, nat_tests);
-  no_single = grind (arith, nat_tests);
-  no_backslash = grind (arith, nat_tests);
   no_blank = grind (arith, nat_tests);
   no_dash = grind (arith, nat_tests);
   no_dot = grind (arith, nat_tests);
-  no_hash = grind (arith, nat_tests);
-  no_colon = grind (arith, nat_tests);
   no_space = grind (arith, nat_tests);
 }
 
-pub ordinary_no_break : (b c d : ℕ) → is_ordinary b ≡ true → break_of b c d ≡ 0
-ordinary_no_break b c d h = let o = ordinary_is b h in no_break b c d o.no_cr o.no_feed o.no_c2 o.no_e2
+-- between quotes it is neither the quote nor an escape's start
+double_is : (b : ℕ) → is_ordinary 8 b ≡ true → (b ≢ 34) × ((34 == 34 && b == 92) ≡ false)
+unfolding is_common is_narrow is_odd
+double_is b h = (grind (arith, nat_tests), grind (arith, nat_tests))
 
-pub ordinary_ends_none : (x y b c : ℕ) → is_ordinary b ≡ true → ends_of x y b c ≡ false
-unfolding is_ordinary ends_of
-ordinary_ends_none x y b c h = grind (arith, nat_tests)
+single_is : (b : ℕ) → is_ordinary 4 b ≡ true → (b ≢ 39) × ((39 == 34 && b == 92) ≡ false)
+unfolding is_common is_narrow is_odd
+single_is b h = (grind (arith, nat_tests), refl)
+
+quoted_is : (quote b : ℕ) → (quote ≡ 34) ⊎ (quote ≡ 39) → is_ordinary (quoted_kind quote) b ≡ true
+    → (b ≢ quote) × ((quote == 34 && b == 92) ≡ false)
+quoted_is quote b (inl e) h = rw e (double_is b (rw e at h))
+quoted_is quote b (inr e) h = rw e (single_is b (rw e at h))
+
+pub ordinary_no_break : (kind : ℕ) (b c d : ℕ) → is_ordinary kind b ≡ true → break_of b c d ≡ 0
+ordinary_no_break kind b c d h = let o = ordinary_is kind b h in no_break b c d o.no_cr o.no_feed o.no_c2 o.no_e2
+
+pub ordinary_ends_none : (kind x y b c : ℕ) → is_ordinary kind b ≡ true → ends_of x y b c ≡ false
+unfolding is_common is_narrow ends_of
+ordinary_ends_none kind x y b c h = grind (arith, nat_tests)
 
 pub no_mark : (b c d : ℕ) (first last : Bool) → b ≢ 45 → b ≢ 46
     → (first && ((((b == 45) && (c == 45)) && (d == 45)) || (((b == 46) && (c == 46)) && (d == 46)))
     && last) ≡ false
 no_mark b c d first last h k = grind (arith, nat_tests)
 
-pub ordinary_no_mark : (text : List ℕ) (p : ℕ) → is_ordinary (byte text p) ≡ true
+pub ordinary_no_mark : (kind : ℕ) (text : List ℕ) (p : ℕ) → is_ordinary kind (byte text p) ≡ true
     → is_document_indicator text p ≡ false
 unfolding is_document_indicator
-ordinary_no_mark text p h = let o = ordinary_is (byte text p) h in no_mark (byte text p) _ _ _ _ o.no_dash o.no_dot
+ordinary_no_mark kind text p h = let o = ordinary_is kind (byte text p) h in no_mark (byte text p) _ _ _ _ o.no_dash o.no_dot
 
 -- what a dash and a dot are not
 
@@ -72,8 +76,6 @@ pub record IsSign (b : ℕ) : Type 0 where
   pub no_single : b ≢ 39
   pub no_backslash : b ≢ 92
   pub no_blank : is_blank b ≡ false
-  pub no_hash : b ≢ 35
-  pub no_colon : b ≢ 58
   pub no_space : (b == 32) ≡ false
 
 pub sign_is : (b : ℕ) → is_sign b ≡ true → IsSign b
@@ -88,8 +90,6 @@ sign_is b h = record {
   no_single = grind (arith, nat_tests);
   no_backslash = grind (arith, nat_tests);
   no_blank = grind (arith, nat_tests);
-  no_hash = grind (arith, nat_tests);
-  no_colon = grind (arith, nat_tests);
   no_space = grind (arith, nat_tests);
 }
 
@@ -105,16 +105,18 @@ no_mark_before : (b c d : ℕ) (first last : Bool) → c ≢ 45 → c ≢ 46
     && last) ≡ false
 no_mark_before b c d first last h k = grind (arith, nat_tests)
 
-pub narrow_ordinary : (b : ℕ) → is_narrow b ≡ true → is_ordinary b ≡ true
-unfolding is_narrow
-narrow_ordinary b h = (and_parts (nat_lt b 128) (is_ordinary b) h).1
+pub common_ordinary : (kind b : ℕ) → is_common b ≡ true → is_ordinary kind b ≡ true
+common_ordinary kind b h = rw h refl
+
+pub narrow_ordinary : (kind b : ℕ) → is_narrow kind b ≡ true → is_ordinary kind b ≡ true
+narrow_ordinary kind b h = or_right (is_common b) (is_narrow kind b) h
 
 -- before an ordinary byte no document's mark begins
-pub no_mark_here : (text : List ℕ) (p : ℕ) → is_narrow (byte text (p + 1)) ≡ true
+pub no_mark_here : (kind : ℕ) (text : List ℕ) (p : ℕ) → is_narrow kind (byte text (p + 1)) ≡ true
     → is_document_indicator text p ≡ false
 unfolding is_document_indicator
-no_mark_here text p h =
-    let o = ordinary_is (byte text (p + 1)) (narrow_ordinary (byte text (p + 1)) h) in
+no_mark_here kind text p h =
+    let o = ordinary_is kind (byte text (p + 1)) (narrow_ordinary kind (byte text (p + 1)) h) in
     no_mark_before (byte text p) (byte text (p + 1)) _ _ _ o.no_dash o.no_dot
 
 -- what stands in a run
@@ -123,11 +125,11 @@ linked_or : (o l n : Bool) → (o || (l && n)) ≡ true → (o ≡ true) ⊎ ((l
 linked_or true l n h = inl refl
 linked_or false l n h = inr (and_parts l n h)
 
-pub run_parts : (text : List ℕ) (p : ℕ) → in_run text p ≡ true
-    → (is_ordinary (byte text p) ≡ true)
-    ⊎ ((is_link (byte text p) ≡ true) × (is_narrow (byte text (p + 1)) ≡ true))
+pub run_parts : (kind : ℕ) (text : List ℕ) (p : ℕ) → in_run kind text p ≡ true
+    → (is_ordinary kind (byte text p) ≡ true)
+    ⊎ ((is_link (byte text p) ≡ true) × (is_narrow kind (byte text (p + 1)) ≡ true))
 unfolding in_run
-run_parts text p h = linked_or (is_ordinary (byte text p)) (is_link (byte text p)) (is_narrow (byte text (p + 1))) h
+run_parts kind text p h = linked_or (is_ordinary kind (byte text p)) (is_link (byte text p)) (is_narrow kind (byte text (p + 1))) h
 
 same_space : (b : ℕ) → (b == 32) ≡ true → b ≡ 32
 same_space b h = grind (arith, nat_tests)
@@ -139,13 +141,15 @@ link_cases b h = elim (or_cases (b == 32) (is_sign b) h) [
   | inr s ↦ inr s
 ]
 
-pub ordinary_in : (text : List ℕ) (p : ℕ) → is_ordinary (byte text p) ≡ true → in_run text p ≡ true
+pub ordinary_in : (kind : ℕ) (text : List ℕ) (p : ℕ) → is_ordinary kind (byte text p) ≡ true
+    → in_run kind text p ≡ true
 unfolding in_run
-ordinary_in text p h = rw h refl
+ordinary_in kind text p h = rw h refl
 
-pub linked_in : (text : List ℕ) (p : ℕ) → is_linked text p ≡ true → in_run text p ≡ true
+pub linked_in : (kind : ℕ) (text : List ℕ) (p : ℕ) → is_linked kind text p ≡ true
+    → in_run kind text p ≡ true
 unfolding in_run
-linked_in text p h = or_right (is_ordinary (byte text p)) (is_linked text p) h
+linked_in kind text p h = or_right (is_ordinary kind (byte text p)) (is_linked kind text p) h
 
 -- bytes of the text
 
@@ -171,27 +175,29 @@ unfolding bytes_at
 bytes_long text p zero = refl
 bytes_long text p (suc d) = let more = bytes_long text (p + 1) d in omega arith
 
-pub run_start : (text : List ℕ) (p : ℕ) → IsRun text p (record { text = text; at = p })
-run_start text p = record { same = refl; after = omega arith; each = λ k h l. absurd (omega arith); last = λ l. absurd (omega arith) }
+pub run_start : (kind : ℕ) (text : List ℕ) (p : ℕ)
+    → IsRun kind text p (record { text = text; at = p })
+run_start kind text p = record { same = refl; after = omega arith; each = λ k h l. absurd (omega arith); last = λ l. absurd (omega arith) }
 
 pub last_or : (k n : ℕ) → k < n + 1 → (k < n) ⊎ (k ≡ n)
 last_or k n h = grind arith
 
-pub each_more : (text : List ℕ) (p q : ℕ) → ((k : ℕ) → p ≤ k → k < q → in_run text k ≡ true)
-    → in_run text q ≡ true → (k : ℕ) → p ≤ k → k < q + 1 → in_run text k ≡ true
-each_more text p q r h k a b =
+pub each_more : (kind : ℕ) (text : List ℕ) (p q : ℕ)
+    → ((k : ℕ) → p ≤ k → k < q → in_run kind text k ≡ true)
+    → in_run kind text q ≡ true → (k : ℕ) → p ≤ k → k < q + 1 → in_run kind text k ≡ true
+each_more kind text p q r h k a b =
     elim (last_or k q b) [
       | inl l ↦ r k a l
       | inr e ↦ rw e h
     ]
 
-pub run_more : (text : List ℕ) (p : ℕ) (place : Place) → IsRun text p place
-    → is_ordinary (byte text place.at) ≡ true
-    → IsRun text p (record { text = place.text; at = place.at + 1 })
-run_more text p place r h =
+pub run_more : (kind : ℕ) (text : List ℕ) (p : ℕ) (place : Place) → IsRun kind text p place
+    → is_ordinary kind (byte text place.at) ≡ true
+    → IsRun kind text p (record { text = place.text; at = place.at + 1 })
+run_more kind text p place r h =
     let after = r.after in
     let e : place.at + 1 - 1 ≡ place.at = omega arith in
-    record { same = r.same; after = omega arith; each = each_more text p place.at r.each (ordinary_in text place.at h); last = λ l. rw e h }
+    record { same = r.same; after = omega arith; each = each_more kind text p place.at r.each (ordinary_in kind text place.at h); last = λ l. rw e h }
 
 pub less_or : (k n : ℕ) → (k < n) ⊎ (n ≤ k)
 less_or k n = grind arith
@@ -200,9 +206,9 @@ pub same_or : (p q : ℕ) → p ≤ q → (q ≡ p) ⊎ (p < q)
 same_or p q h = grind arith
 
 -- a run and the run behind it
-pub run_join : (text : List ℕ) (p : ℕ) (place last : Place) → IsRun text p place
-    → IsRun place.text place.at last → IsRun text p last
-run_join text p place last r s =
+pub run_join : (kind : ℕ) (text : List ℕ) (p : ℕ) (place last : Place) → IsRun kind text p place
+    → IsRun kind place.text place.at last → IsRun kind text p last
+run_join kind text p place last r s =
     let after = r.after in
     record {
       same = s.same ∙ r.same;
@@ -218,46 +224,46 @@ run_join text p place last r s =
     }
 
 -- a run is inside the text
-pub run_inside : (text : List ℕ) (p : ℕ) (place : Place) → IsRun text p place
+pub run_inside : (kind : ℕ) (text : List ℕ) (p : ℕ) (place : Place) → IsRun kind text p place
     → (place.at ≡ p) ⊎ (place.at ≤ length text)
-run_inside text p place r =
+run_inside kind text p place r =
     elim (same_or p place.at r.after) [
       | inl e ↦ inl e
       | inr l ↦
-          let last = ordinary_is (byte text (place.at - 1)) (r.last l) in
+          let last = ordinary_is kind (byte text (place.at - 1)) (r.last l) in
           let here = within text (place.at - 1) last.some in
           inr (omega arith)
     ]
 
-pub run_slice : (text : List ℕ) (p : ℕ) (place : Place) → IsRun text p place
+pub run_slice : (kind : ℕ) (text : List ℕ) (p : ℕ) (place : Place) → IsRun kind text p place
     → take (place.at - p) (drop p text) ≡ bytes_at text p (place.at - p)
-run_slice text p place r =
+run_slice kind text p place r =
     let after = r.after in
-    elim (run_inside text p place r) [
+    elim (run_inside kind text p place r) [
       | inl e ↦ let z : place.at - p ≡ 0 = omega arith in rw z (sym (bytes_none text p))
       | inr l ↦ slice_bytes text p (place.at - p) (omega arith)
     ]
 
 -- with the byte before it
-pub first_slice : (text : List ℕ) (p : ℕ) (place : Place) → IsRun text (p + 1) place
+pub first_slice : (kind : ℕ) (text : List ℕ) (p : ℕ) (place : Place) → IsRun kind text (p + 1) place
     → p < length text → take (place.at - p) (drop p text) ≡ bytes_at text p (place.at - p)
-first_slice text p place r h =
+first_slice kind text p place r h =
     let after = r.after in
-    elim (run_inside text (p + 1) place r) [
+    elim (run_inside kind text (p + 1) place r) [
       | inl e ↦ slice_bytes text p (place.at - p) (omega arith)
       | inr l ↦ slice_bytes text p (place.at - p) (omega arith)
     ]
 
-pub run_none : (text : List ℕ) (p : ℕ) (place : Place) → IsRun text p place
+pub run_none : (kind : ℕ) (text : List ℕ) (p : ℕ) (place : Place) → IsRun kind text p place
     → length (bytes_at text p (place.at - p)) ≡ 0 → place.at ≡ p
-run_none text p place r h =
+run_none kind text p place r h =
     let after = r.after in
     let l = bytes_long text p (place.at - p) in
     omega (arith, h)
 
-pub run_some : (text : List ℕ) (p : ℕ) (place : Place) → IsRun text p place
+pub run_some : (kind : ℕ) (text : List ℕ) (p : ℕ) (place : Place) → IsRun kind text p place
     → 0 < length (bytes_at text p (place.at - p)) → p < place.at
-run_some text p place r h =
+run_some kind text p place r h =
     let after = r.after in
     let l = bytes_long text p (place.at - p) in
     omega (arith, h)
@@ -274,26 +280,26 @@ ends_bytes text p (suc d) h =
     let e : p + suc d ≡ p + 1 + d = omega arith in
     ends_bytes text (p + 1) d (rw e at h)
 
-pub run_ends : (text : List ℕ) (p : ℕ) (place : Place) → IsRun text p place
+pub run_ends : (kind : ℕ) (text : List ℕ) (p : ℕ) (place : Place) → IsRun kind text p place
     → ends_kept (bytes_at text p (place.at - p)) ≡ true
-run_ends text p place run =
+run_ends kind text p place run =
     elim (same_or p place.at run.after) [
       | inl e ↦ let z : place.at - p ≡ 0 = omega arith in rw (z, bytes_none text p) refl
       | inr l ↦
           let d : place.at - p ≡ suc (place.at - 1 - p) = omega arith in
           let e : p + (place.at - 1 - p) ≡ place.at - 1 = omega arith in
-          rw d (ends_bytes text p (place.at - 1 - p) (rw e (ordinary_is _ (run.last l)).no_space))
+          rw d (ends_bytes text p (place.at - 1 - p) (rw e (ordinary_is kind _ (run.last l)).no_space))
     ]
 
 -- nor that of a run with the byte before it
-pub first_last : (text : List ℕ) (p : ℕ) (place : Place) → IsRun text (p + 1) place
+pub first_last : (kind : ℕ) (text : List ℕ) (p : ℕ) (place : Place) → IsRun kind text (p + 1) place
     → (byte text p == 32) ≡ false → (byte text (p + (place.at - (p + 1))) == 32) ≡ false
-first_last text p place run h =
+first_last kind text p place run h =
     elim (same_or (p + 1) place.at run.after) [
       | inl s ↦ let e : p + (place.at - (p + 1)) ≡ p = omega arith in rw e h
       | inr l ↦
           let e : p + (place.at - (p + 1)) ≡ place.at - 1 = omega arith in
-          rw e (ordinary_is _ (run.last l)).no_space
+          rw e (ordinary_is kind _ (run.last l)).no_space
     ]
 
 starts_first : (b : ℕ) (bs : List ℕ) → (b == 32) ≡ false → starts_kept (b ∷ bs) ≡ true
@@ -412,20 +418,21 @@ resume_none f (b ∷ bs) ps h = absurd (omega (arith, h))
 
 -- a run between quotes
 
-no_escape : (quote b : ℕ) → b ≢ 92 → (quote == 34 && b == 92) ≡ false
-no_escape quote b h = grind (arith, nat_tests)
-
 not_quote : (quote b : ℕ) → b ≢ 34 → b ≢ 39 → (quote ≡ 34) ⊎ (quote ≡ 39) → b ≢ quote
 not_quote quote b h k (inl e) = omega arith
 not_quote quote b h k (inr e) = omega arith
 
+no_escape : (quote b : ℕ) → b ≢ 92 → (quote == 34 && b == 92) ≡ false
+no_escape quote b h = grind (arith, nat_tests)
+
 standing_ordinary : (quote : ℕ) (text : List ℕ) (p : ℕ) → (quote ≡ 34) ⊎ (quote ≡ 39)
-    → is_ordinary (byte text p) ≡ true
+    → is_ordinary (quoted_kind quote) (byte text p) ≡ true
     → standing_at quote text p ≡ Pieces (piece_of (byte text p) ∷ []) (p + 1)
 standing_ordinary quote text p q h =
-    let o = ordinary_is (byte text p) h in
+    let o = ordinary_is (quoted_kind quote) (byte text p) h in
     let some = o.some in
-    rw o.no_space (standing_kept quote text p (ordinary_no_mark text p h) (omega arith) (not_quote quote (byte text p) o.no_double o.no_single q) (ordinary_no_break _ _ _ h) o.no_blank (no_escape quote (byte text p) o.no_backslash))
+    let (other, plain) = quoted_is quote (byte text p) q h in
+    rw o.no_space (standing_kept quote text p (ordinary_no_mark (quoted_kind quote) text p h) (omega arith) other (ordinary_no_break (quoted_kind quote) _ _ _ h) o.no_blank plain)
 
 pub record IsSpace (b : ℕ) : Type 0 where
   pub same : (b == 32) ≡ true
@@ -449,15 +456,15 @@ standing_space quote text p q h =
     rw s.same (standing_blank quote text p (space_no_mark text p h) (omega arith) (not_quote quote (byte text p) (omega arith) (omega arith) q) (space_no_break _ _ _ h) s.blank)
 
 standing_sign : (quote : ℕ) (text : List ℕ) (p : ℕ) → (quote ≡ 34) ⊎ (quote ≡ 39)
-    → is_sign (byte text p) ≡ true → is_narrow (byte text (p + 1)) ≡ true
+    → is_sign (byte text p) ≡ true → is_narrow (quoted_kind quote) (byte text (p + 1)) ≡ true
     → standing_at quote text p ≡ Pieces (piece_of (byte text p) ∷ []) (p + 1)
 standing_sign quote text p q h n =
     let o = sign_is (byte text p) h in
     let some = o.some in
-    rw o.no_space (standing_kept quote text p (no_mark_here text p n) (omega arith) (not_quote quote (byte text p) o.no_double o.no_single q) (sign_no_break _ _ _ h) o.no_blank (no_escape quote (byte text p) o.no_backslash))
+    rw o.no_space (standing_kept quote text p (no_mark_here (quoted_kind quote) text p n) (omega arith) (not_quote quote (byte text p) o.no_double o.no_single q) (sign_no_break _ _ _ h) o.no_blank (no_escape quote (byte text p) o.no_backslash))
 
 standing_link : (quote : ℕ) (text : List ℕ) (p : ℕ) → (quote ≡ 34) ⊎ (quote ≡ 39)
-    → is_link (byte text p) ≡ true → is_narrow (byte text (p + 1)) ≡ true
+    → is_link (byte text p) ≡ true → is_narrow (quoted_kind quote) (byte text (p + 1)) ≡ true
     → standing_at quote text p ≡ Pieces (piece_of (byte text p) ∷ []) (p + 1)
 standing_link quote text p q h n = elim (link_cases (byte text p) h) [
   | inl e ↦ standing_space quote text p q e
@@ -465,8 +472,9 @@ standing_link quote text p q h n = elim (link_cases (byte text p) h) [
 ]
 
 standing_run : (quote : ℕ) (text : List ℕ) (p : ℕ) → (quote ≡ 34) ⊎ (quote ≡ 39)
-    → in_run text p ≡ true → standing_at quote text p ≡ Pieces (piece_of (byte text p) ∷ []) (p + 1)
-standing_run quote text p q h = elim (run_parts text p h) [
+    → in_run (quoted_kind quote) text p ≡ true
+    → standing_at quote text p ≡ Pieces (piece_of (byte text p) ∷ []) (p + 1)
+standing_run quote text p q h = elim (run_parts (quoted_kind quote) text p h) [
   | inl o ↦ standing_ordinary quote text p q o
   | inr s ↦ standing_link quote text p q s.0 s.1
 ]
@@ -487,7 +495,7 @@ front_more x qs (Ok y) = refl
 front_more x qs (Err w) = refl
 
 pub pieces_run : (d n quote : ℕ) (text : List ℕ) (p : ℕ) → (quote ≡ 34) ⊎ (quote ≡ 39) → d ≤ n
-    → ((k : ℕ) → p ≤ k → k < p + d → in_run text k ≡ true)
+    → ((k : ℕ) → p ≤ k → k < p + d → in_run (quoted_kind quote) text k ≡ true)
     → pieces (suc n) quote text p ≡ with_front (run_pieces (bytes_at text p d))
     (pieces (suc (n - d)) quote text (p + d))
 pieces_run zero n quote text p q h o =
@@ -503,23 +511,24 @@ pieces_run (suc d) (suc n) quote text p q h o =
     rw (e, f, bytes_more text p d) (pieces_one (suc n) quote text p (piece_of (byte text p)) here ∙ ap (λ r. with_front (piece_of (byte text p) ∷ []) r) more
     ∙ front_more (piece_of (byte text p)) (run_pieces (bytes_at text (p + 1) d)) (pieces (suc (n - d)) quote text (p + 1 + d)))
 
-pub few : (text : List ℕ) (p n : ℕ) (place : Place) → IsRun text p place → length text ≤ p + n
+pub few : (kind : ℕ) (text : List ℕ) (p n : ℕ) (place : Place) → IsRun kind text p place
+    → length text ≤ p + n
     → place.at - p ≤ n
-few text p n place run room =
+few kind text p n place run room =
     let after = run.after in
-    elim (run_inside text p place run) [
+    elim (run_inside kind text p place run) [
       | inl e ↦ omega arith
       | inr l ↦ omega arith
     ]
 
 pub quoted_run : (n quote : ℕ) (text : List ℕ) (p : ℕ) (old new : List Piece → List ℕ)
-    (place : Place) → (quote ≡ 34) ⊎ (quote ≡ 39) → TookRun text p old new place
+    (place : Place) → (quote ≡ 34) ⊎ (quote ≡ 39) → TookRun (quoted_kind quote) text p old new place
     → length text ≤ p + n
     → (m : ℕ) × (length text ≤ place.at + m)
     × (valued old (pieces (suc n) quote text p) ≡ valued new (pieces (suc m) quote text place.at))
 quoted_run n quote text p old new place q (run, same) room =
     let after = run.after in
-    let d : place.at - p ≤ n = few text p n place run room in
+    let d : place.at - p ≤ n = few (quoted_kind quote) text p n place run room in
     let at : p + (place.at - p) ≡ place.at = omega arith in
     let all = pieces_run (place.at - p) n quote text p q d (λ k a b. run.each k a (omega arith)) in
     (n - (place.at - p), omega arith, rw at at (ap (λ r. valued old r) all ∙ front old new (run_pieces (bytes_at text p (place.at - p))) (pieces (suc (n - (place.at - p))) quote text (p + (place.at - p))) same))

@@ -1,8 +1,8 @@
 -- The table of ordinary bytes, and the marks behind a run of them.
-use Rattle.std.proofs.Common.{◌≡◌, ℕ, zero, suc, ◌+◌, ◌<◌, ◌≤◌, if◌then◌else◌, Bool, true, false, ◌&&◌, ◌||◌, ◌==◌, ◌-◌, ◌∙◌, List, length, nat_lt, refl, sym, inl, inr, ◌⊎◌, arith}
-use Rattle.yaml_scan_scalars.proofs.Words.{nat_tests, cases_Bool, cases_eq, cases_lt, and_parts, true≢false, or_cases, or_parts, byte, break_of, ends_break, splits_break, starts, line_at, column_at, within, end_next, split_next, line_more, column_more, column_same, is_ordinary, is_narrow, is_link, is_linked, in_run, IsRun}
+use Rattle.std.proofs.Common.{◌≡◌, ℕ, zero, suc, ◌+◌, ◌<◌, ◌≤◌, if◌then◌else◌, Bool, true, false, ◌&&◌, ◌||◌, ◌-◌, ◌∙◌, List, length, nat_lt, refl, sym, inl, inr, arith}
+use Rattle.yaml_scan_scalars.proofs.Words.{nat_tests, cases_Bool, cases_eq, cases_lt, and_parts, true≢false, or_cases, or_parts, byte, break_of, ends_break, splits_break, starts, line_at, column_at, within, end_next, split_next, line_more, column_more, column_same, is_ordinary, is_common, is_narrow, is_odd, parts_flow, is_link, is_linked, in_run, IsRun}
 use Rattle.std.specs.Bool.{beq}
-use Rattle.yaml_scan_scalars.proofs.RunLemmas.{ordinary_is, ordinary_no_break, space_no_break, sign_is, sign_no_break, link_cases, ordinary_in, linked_in, run_parts, last_or, less_or}
+use Rattle.yaml_scan_scalars.proofs.RunLemmas.{common_ordinary, narrow_ordinary, ordinary_is, ordinary_no_break, space_no_break, sign_is, sign_no_break, link_cases, ordinary_in, linked_in, run_parts, last_or, less_or}
 
 -- the two tests agree below n
 unfoldable pub agree_below : (ℕ → Bool) → (ℕ → Bool) → ℕ → Bool
@@ -43,35 +43,30 @@ behind_none text p none whole =
     let e = end_next text p whole none in
     record { line = line_more text p e; column = column_behind text p e; whole = split_next text p whole none }
 
-pub behind : (text : List ℕ) (p : ℕ) → is_ordinary (byte text p) ≡ true
+pub behind : (text : List ℕ) (p : ℕ) → is_common (byte text p) ≡ true
     → splits_break text p ≡ false → Behind text p
-behind text p o whole = behind_none text p (ordinary_no_break (byte text p) (byte text (p + 1)) (byte text (p + 2)) o) whole
+behind text p o whole = behind_none text p (ordinary_no_break 1 (byte text p) (byte text (p + 1)) (byte text (p + 2)) (common_ordinary 1 (byte text p) o)) whole
 
 -- behind the end
-pub past_ordinary : (text : List ℕ) (p : ℕ) → length text ≤ p → is_ordinary (byte text p) ≡ false
-past_ordinary text p h =
+pub past_common : (text : List ℕ) (p : ℕ) → length text ≤ p → is_common (byte text p) ≡ false
+past_common text p h =
     elim (cases_lt 0 (byte text p)) [
       | inl some ↦ let inside = within text p some in absurd (omega arith)
-      | inr none ↦ let z : byte text p ≡ 0 = omega arith in rw z (unfold is_ordinary in refl)
+      | inr none ↦ let z : byte text p ≡ 0 = omega arith in rw z (unfold is_common is_narrow is_odd parts_flow in refl)
     ]
 
 -- an ordinary byte of ASCII
 
-pub record IsNarrow (b : ℕ) : Type 0 where
-  pub ordinary : is_ordinary b ≡ true
-  pub low : nat_lt b 128 ≡ true
-
-pub narrow_is : (b : ℕ) → is_narrow b ≡ true → IsNarrow b
+narrow_low : (kind b : ℕ) → is_narrow kind b ≡ true → nat_lt b 128 ≡ true
 unfolding is_narrow
-narrow_is b h =
-    let (low, ordinary) = and_parts (nat_lt b 128) (is_ordinary b) h in
-    record { ordinary = ordinary; low = low }
+narrow_low kind b h = grind (arith, nat_tests)
 
-pub past_narrow : (text : List ℕ) (p : ℕ) → length text ≤ p → is_narrow (byte text p) ≡ false
-past_narrow text p h =
+pub past_narrow : (kind : ℕ) (text : List ℕ) (p : ℕ) → length text ≤ p
+    → is_narrow kind (byte text p) ≡ false
+past_narrow kind text p h =
     elim (cases_lt 0 (byte text p)) [
       | inl some ↦ let inside = within text p some in absurd (omega arith)
-      | inr none ↦ let z : byte text p ≡ 0 = omega arith in rw z (unfold is_narrow is_ordinary in refl)
+      | inr none ↦ let z : byte text p ≡ 0 = omega arith in rw z (unfold is_narrow in refl)
     ]
 
 pub one_at_most : (b : Bool) → (if b then 1 else 0) ≤ 1
@@ -79,67 +74,72 @@ one_at_most true = omega arith
 one_at_most false = omega arith
 
 -- behind the end none of them stands
-pub past_linked : (text : List ℕ) (p : ℕ) → length text ≤ p → is_linked text p ≡ false
-past_linked text p h =
+pub past_linked : (kind : ℕ) (text : List ℕ) (p : ℕ) → length text ≤ p
+    → is_linked kind text p ≡ false
+past_linked kind text p h =
     elim (cases_lt 0 (byte text p)) [
       | inl some ↦ let inside = within text p some in absurd (omega arith)
       | inr none ↦ let z : byte text p ≡ 0 = omega arith in rw z (unfold is_link in refl)
     ]
 
 -- a byte of ASCII in a run
-pub record Passes (text : List ℕ) (p : ℕ) : Type 0 where
-  pub each : in_run text p ≡ true
+pub record Passes (kind : ℕ) (text : List ℕ) (p : ℕ) : Type 0 where
+  pub each : in_run kind text p ≡ true
   pub some : 0 < byte text p
   pub low : nat_lt (byte text p) 128 ≡ true
   pub none : break_of (byte text p) (byte text (p + 1)) (byte text (p + 2)) ≡ 0
 
-passes_narrow : (text : List ℕ) (p : ℕ) → is_narrow (byte text p) ≡ true → Passes text p
-passes_narrow text p h =
-    let n = narrow_is (byte text p) h in
-    record { each = ordinary_in text p n.ordinary; some = (ordinary_is (byte text p) n.ordinary).some; low = n.low; none = ordinary_no_break _ _ _ n.ordinary }
+passes_narrow : (kind : ℕ) (text : List ℕ) (p : ℕ) → is_narrow kind (byte text p) ≡ true
+    → Passes kind text p
+passes_narrow kind text p h =
+    let n = narrow_ordinary kind (byte text p) h in
+    record { each = ordinary_in kind text p n; some = (ordinary_is kind (byte text p) n).some; low = narrow_low kind (byte text p) h; none = ordinary_no_break kind _ _ _ n }
 
-passes_link : (text : List ℕ) (p : ℕ) → is_linked text p ≡ true → Passes text p
-passes_link text p h =
-    elim (link_cases (byte text p) (and_parts (is_link (byte text p)) (is_narrow (byte text (p + 1))) h).0) [
-      | inl e ↦ record { each = linked_in text p h; some = omega arith; low = rw e refl; none = space_no_break _ _ _ e }
+passes_link : (kind : ℕ) (text : List ℕ) (p : ℕ) → is_linked kind text p ≡ true → Passes kind text p
+passes_link kind text p h =
+    elim (link_cases (byte text p) (and_parts (is_link (byte text p)) (is_narrow kind (byte text (p + 1))) h).0) [
+      | inl e ↦ record { each = linked_in kind text p h; some = omega arith; low = rw e refl; none = space_no_break _ _ _ e }
       | inr s ↦
           let o = sign_is (byte text p) s in
-          record { each = linked_in text p h; some = o.some; low = o.low; none = sign_no_break _ _ _ s }
+          record { each = linked_in kind text p h; some = o.some; low = o.low; none = sign_no_break _ _ _ s }
     ]
 
-pub passes : (text : List ℕ) (p : ℕ) → (is_narrow (byte text p) || is_linked text p) ≡ true
-    → Passes text p
-passes text p h = elim (or_cases (is_narrow (byte text p)) (is_linked text p) h) [
-  | inl n ↦ passes_narrow text p n
-  | inr s ↦ passes_link text p s
+pub passes : (kind : ℕ) (text : List ℕ) (p : ℕ)
+    → (is_narrow kind (byte text p) || is_linked kind text p) ≡ true
+    → Passes kind text p
+passes kind text p h = elim (or_cases (is_narrow kind (byte text p)) (is_linked kind text p) h) [
+  | inl n ↦ passes_narrow kind text p n
+  | inr s ↦ passes_link kind text p s
 ]
 
 -- before a byte that isn't ordinary, or behind the end, the run's last byte is no space
-last_ordinary : (text : List ℕ) (q : ℕ) → 0 < q → in_run text (q - 1) ≡ true
-    → is_narrow (byte text q) ≡ false → is_ordinary (byte text (q - 1)) ≡ true
-last_ordinary text q l h n =
+last_ordinary : (kind : ℕ) (text : List ℕ) (q : ℕ) → 0 < q → in_run kind text (q - 1) ≡ true
+    → is_narrow kind (byte text q) ≡ false → is_ordinary kind (byte text (q - 1)) ≡ true
+last_ordinary kind text q l h n =
     let e : q - 1 + 1 ≡ q = omega arith in
-    elim (run_parts text (q - 1) h) [
+    elim (run_parts kind text (q - 1) h) [
       | inl o ↦ o
       | inr s ↦ absurd (true≢false (sym (rw e at s.1) ∙ n))
     ]
 
-pub run_of : (text : List ℕ) (p q : ℕ) → p ≤ q → ((k : ℕ) → p ≤ k → k < q → in_run text k ≡ true)
-    → (is_narrow (byte text q) || is_linked text q) ≡ false
-    → IsRun text p (record { text = text; at = q })
-run_of text p q after each stops = record {
+pub run_of : (kind : ℕ) (text : List ℕ) (p q : ℕ) → p ≤ q
+    → ((k : ℕ) → p ≤ k → k < q → in_run kind text k ≡ true)
+    → (is_narrow kind (byte text q) || is_linked kind text q) ≡ false
+    → IsRun kind text p (record { text = text; at = q })
+run_of kind text p q after each stops = record {
   same = refl;
   after = after;
   each = each;
-  last = λ l. last_ordinary text q (omega arith) (each (q - 1) (omega arith) (omega arith)) (or_parts _ _ stops).0;
+  last = λ l. last_ordinary kind text q (omega arith) (each (q - 1) (omega arith) (omega arith)) (or_parts _ _ stops).0;
 }
 
 -- narrow bytes, one after another
 
-pub narrow_more : (text : List ℕ) (p q : ℕ)
-    → ((k : ℕ) → p ≤ k → k < q → is_narrow (byte text k) ≡ true) → is_narrow (byte text q) ≡ true
-    → (k : ℕ) → p ≤ k → k < q + 1 → is_narrow (byte text k) ≡ true
-narrow_more text p q r h k a b =
+pub narrow_more : (kind : ℕ) (text : List ℕ) (p q : ℕ)
+    → ((k : ℕ) → p ≤ k → k < q → is_narrow kind (byte text k) ≡ true)
+    → is_narrow kind (byte text q) ≡ true
+    → (k : ℕ) → p ≤ k → k < q + 1 → is_narrow kind (byte text k) ≡ true
+narrow_more kind text p q r h k a b =
     elim (last_or k q b) [
       | inl l ↦ r k a l
       | inr e ↦ rw e h
@@ -151,30 +151,31 @@ pub record Spanned (text : List ℕ) (p q : ℕ) : Type 0 where
   pub column : column_at text q ≡ column_at text p + (q - p)
   pub whole : splits_break text q ≡ false
 
-span_by : (d : ℕ) (text : List ℕ) (p q : ℕ) → q ≡ p + d
-    → ((k : ℕ) → p ≤ k → k < q → is_narrow (byte text k) ≡ true) → splits_break text p ≡ false
+span_by : (kind : ℕ) (d : ℕ) (text : List ℕ) (p q : ℕ) → q ≡ p + d
+    → ((k : ℕ) → p ≤ k → k < q → is_narrow kind (byte text k) ≡ true) → splits_break text p ≡ false
     → Spanned text p q
-span_by zero text p q h each whole =
+span_by kind zero text p q h each whole =
     let e : q ≡ p = omega arith in
     rw e record { line = refl; column = omega arith; whole = whole }
-span_by (suc d) text p q h each whole =
-    let here = passes_narrow text p (each p (omega arith) (omega arith)) in
+span_by kind (suc d) text p q h each whole =
+    let here = passes_narrow kind text p (each p (omega arith) (omega arith)) in
     let b = behind_none text p here.none whole in
     let next : column_at text (p + 1) ≡ column_at text p + 1 = rw here.low at b.column in
-    let s = span_by d text (p + 1) q (omega arith) (λ k a c. each k (omega arith) c) b.whole in
+    let s = span_by kind d text (p + 1) q (omega arith) (λ k a c. each k (omega arith) c) b.whole in
     record { line = s.line ∙ b.line; column = omega (arith, s.column, next, h); whole = s.whole }
 
-pub spanned : (text : List ℕ) (p q : ℕ) → p ≤ q
-    → ((k : ℕ) → p ≤ k → k < q → is_narrow (byte text k) ≡ true) → splits_break text p ≡ false
+pub spanned : (kind : ℕ) (text : List ℕ) (p q : ℕ) → p ≤ q
+    → ((k : ℕ) → p ≤ k → k < q → is_narrow kind (byte text k) ≡ true) → splits_break text p ≡ false
     → Spanned text p q
-spanned text p q after each whole = span_by (q - p) text p q (omega arith) each whole
+spanned kind text p q after each whole = span_by kind (q - p) text p q (omega arith) each whole
 
 -- a run, and narrow bytes behind it
-pub each_past : (text : List ℕ) (p q r : ℕ) → ((k : ℕ) → p ≤ k → k < q → in_run text k ≡ true)
-    → ((k : ℕ) → q ≤ k → k < r → is_narrow (byte text k) ≡ true)
-    → (k : ℕ) → p ≤ k → k < r → in_run text k ≡ true
-each_past text p q r h n k a b =
+pub each_past : (kind : ℕ) (text : List ℕ) (p q r : ℕ)
+    → ((k : ℕ) → p ≤ k → k < q → in_run kind text k ≡ true)
+    → ((k : ℕ) → q ≤ k → k < r → is_narrow kind (byte text k) ≡ true)
+    → (k : ℕ) → p ≤ k → k < r → in_run kind text k ≡ true
+each_past kind text p q r h n k a b =
     elim (less_or k q) [
       | inl l ↦ h k a l
-      | inr m ↦ (passes_narrow text k (n k m b)).each
+      | inr m ↦ (passes_narrow kind text k (n k m b)).each
     ]

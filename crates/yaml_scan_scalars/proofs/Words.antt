@@ -17,8 +17,8 @@ pub use Rattle.yaml_scan_model.specs.declared.problem.ScanError.{ScanError}
 pub use Rattle.yaml_scan_model.specs.declared.record.yaml_mark_t.{yaml_mark_t}
 pub use Rattle.yaml_scan_scalars.specs.Joined.{IsJoining, ReadsPlain, Steps, TookFirst, TookWords}
 unfoldable pub use Rattle.yaml_scan_scalars.specs.Joined.{joined}
-pub use Rattle.yaml_scan_scalars.specs.Ordinary.{IsRun, TookRun, ends_kept, is_linked, is_sign, piece_of, run_pieces, starts_kept}
-unfoldable pub use Rattle.yaml_scan_scalars.specs.Ordinary.{bytes_at, in_run, is_link, is_narrow, is_ordinary}
+pub use Rattle.yaml_scan_scalars.specs.Ordinary.{IsRun, TookRun, ends_kept, is_linked, is_kind, is_ordinary, is_sign, plain_kind, piece_of, quoted_kind, run_pieces, starts_kept}
+unfoldable pub use Rattle.yaml_scan_scalars.specs.Ordinary.{bytes_at, in_run, is_common, is_link, is_narrow, is_odd, parts_flow}
 pub use Rattle.yaml_scan_scalars.specs.Pieces.{Blank, Break, Kept, Line, Piece, folded, gap, is_empty, lines, rest_of, text, trim_end, value}
 pub use Rattle.yaml_scan_scalars.specs.Plain.{Ends, Faulty, PlainSpot, PlainText, Takes, Words, after_white, follows, in_plain, is_nothing, plain_at, plain_text, plain_with, with_piece, with_run, words_from}
 unfoldable pub use Rattle.yaml_scan_scalars.specs.Plain.{ends_at, is_bracket, leads, spot_at, starts_plain, words}

@@ -47,15 +47,17 @@ Steps text start p old new place (Err e) (Takes x q) = IsMemory e
 Steps text start p old new place (Err e) Ends = ⊥
 
 -- the bytes of a run up to the place are taken, if no line starts there
-pub record TookWords (text : List ℕ) (p : ℕ) (old new : Joining) (place : Place) : Type 0 where
-  pub run : IsRun text p place
+pub record TookWords (kind : ℕ) (text : List ℕ) (p : ℕ) (old new : Joining) (place : Place)
+    : Type 0 where
+  pub run : IsRun kind text p place
   pub calm : p < place.at → leads text p ≡ false
   pub value : (w : Words) → joined new w ≡ joined old (with_run text p (place.at - p) w)
   pub seat : IsJoining text place.at new
 
 -- a scalar's first character and the run behind it are taken
-pub record TookFirst (text : List ℕ) (p : ℕ) (new : Joining) (place : Place) : Type 0 where
-  pub run : IsRun text (p + 1) place
+pub record TookFirst (kind : ℕ) (text : List ℕ) (p : ℕ) (new : Joining) (place : Place)
+    : Type 0 where
+  pub run : IsRun kind text (p + 1) place
   pub value : (w : Words) → joined new w ≡ plain_text (with_run text p (place.at - p) w)
   pub seat : IsJoining text place.at new
 

@@ -6,10 +6,10 @@ ghost use Rattle.yaml_scan_model.specs.Spares.{HoldsAt};
 ghost use Rattle.yaml_scan_model.specs.Marks.{byte, break_width, ends_break, is_blank, is_blank_or_end, mark_at};
 ghost use Rattle.yaml_scan_scalars.specs.Plain as spec;
 ghost use Rattle.yaml_scan_scalars.specs.Joined.{IsJoining, Steps, ReadsPlain, TookWords};
-ghost use Rattle.yaml_scan_scalars.specs.Ordinary.{IsRun, bytes_at};
+ghost use Rattle.yaml_scan_scalars.specs.Ordinary.{IsRun, bytes_at, is_kind, plain_kind};
 
 use crate::joining::Joining;
-use crate::run::{ordinary_run, pass_byte};
+use crate::run::{BLOCK, FLOW, ordinary_run, pass_byte};
 use crate::scalar::PlainScalar;
 use std::alloc::AllocError;
 use yaml_scan_model::{
@@ -34,7 +34,7 @@ pub fn plain_scalar(
     let start = reader.mark();
     // Read for the run: its clauses say that no break stands or ends where a plain scalar begins.
     let _width = reader.break_here();
-    let bytes = first_run(reader);
+    let bytes = first_run(plain_kind(flow), reader);
     if is_followed(reader, flow) {
         return one_run(spares, reader, bytes, start);
     }
@@ -47,13 +47,24 @@ pub fn plain_scalar(
     many_runs(spares, reader, bytes, start, flow, level)
 }
 
+/// The kind of a run in flow context or not.
+// Inlined: a choice of a constant.
+#[inline(always)]
+fn plain_kind(flow: bool) -> u8
+    ensures kind { is_kind result ≡ true }
+    ensures same { result ≡ plain_kind flow }
+{
+    if flow { FLOW } else { BLOCK }
+}
+
 /// Past the scalar's first character and the run behind it, and those bytes.
 // Inlined: a loop of a load and a comparison a byte.
 #[inline(always)]
-fn first_run<'a>(reader: &mut Reader<'a>) -> &'a [u8]
+fn first_run<'a>(kind: u8, reader: &mut Reader<'a>) -> &'a [u8]
+    requires kind { is_kind kind ≡ true }
     requires some { 0 < byte reader.old.text reader.old.at }
     requires no_break { break_width reader.old.text reader.old.at ≡ 0 }
-    ensures run { IsRun reader.old.text (reader.old.at + 1) reader.new }
+    ensures run { IsRun kind reader.old.text (reader.old.at + 1) reader.new }
     ensures bytes { result.now ≡ bytes_at reader.old.text reader.old.at
         (reader.new.at - reader.old.at) }
     ensures stands { HoldsAt reader.old.text reader.old.at result.now }
@@ -61,7 +72,7 @@ fn first_run<'a>(reader: &mut Reader<'a>) -> &'a [u8]
     let from = reader.place();
     pass_byte(reader);
     // Passes the run, of which all bytes from the first one on are taken below.
-    let _run = ordinary_run(reader);
+    let _run = ordinary_run(kind, reader);
     reader.since(from)
 }
 
@@ -214,7 +225,7 @@ fn many_runs(
     requires start { start ≡ mark_at reader.old.text start.index }
     requires no_blank { is_blank (byte reader.old.text start.index) ≡ false }
     requires no_end { ends_break reader.old.text start.index ≡ false }
-    requires run { IsRun reader.old.text (start.index + 1) reader.old }
+    requires run { IsRun (plain_kind flow) reader.old.text (start.index + 1) reader.old }
     requires bytes { bytes.now ≡ bytes_at reader.old.text start.index
         (reader.old.at - start.index) }
     ensures { ReadsPlain reader.old.text start.index reader.new result
@@ -247,7 +258,7 @@ fn join_runs(
     requires start { start ≡ mark_at reader.old.text start.index }
     requires no_blank { is_blank (byte reader.old.text start.index) ≡ false }
     requires no_end { ends_break reader.old.text start.index ≡ false }
-    requires run { IsRun reader.old.text (start.index + 1) reader.old }
+    requires run { IsRun (plain_kind flow) reader.old.text (start.index + 1) reader.old }
     requires bytes { bytes.now ≡ bytes_at reader.old.text start.index
         (reader.old.at - start.index) }
     ensures { ReadsPlain reader.old.text start.index reader.new result
@@ -266,20 +277,21 @@ fn join_runs(
                 broke,
             });
         }
-        keep_run(reader, &mut joining)?;
+        keep_run(plain_kind(flow), reader, &mut joining)?;
     }
 }
 
 /// Takes the run that stands here, but none at a line's start.
-fn keep_run(reader: &mut Reader, joining: &mut Joining) -> Result<(), AllocError>
-    requires { IsJoining reader.old.text reader.old.at joining.old }
-    ensures { OnOk result (TookWords reader.old.text reader.old.at joining.old joining.new
+fn keep_run(kind: u8, reader: &mut Reader, joining: &mut Joining) -> Result<(), AllocError>
+    requires kind { is_kind kind ≡ true }
+    requires seat { IsJoining reader.old.text reader.old.at joining.old }
+    ensures { OnOk result (TookWords kind reader.old.text reader.old.at joining.old joining.new
         reader.new) }
 {
     if joining.broke {
         return Ok(());
     }
-    let bytes = ordinary_run(reader);
+    let bytes = ordinary_run(kind, reader);
     if bytes.is_empty() {
         return Ok(());
     }

@@ -8,13 +8,13 @@ ghost use Rattle.yaml_scan_model.specs.declared.record.yaml_mark_t.{yaml_mark_t}
 ghost use Rattle.yaml_scan_scalars.specs.Quoted as spec;
 ghost use Rattle.yaml_scan_scalars.specs.declared.folding.Gap.TheVariants as gaps;
 ghost use Rattle.yaml_scan_scalars.specs.Readings.{Took, Reads};
-ghost use Rattle.yaml_scan_scalars.specs.Ordinary.{IsRun, TookRun, bytes_at, ends_kept, run_pieces, starts_kept};
+ghost use Rattle.yaml_scan_scalars.specs.Ordinary.{IsRun, TookRun, bytes_at, ends_kept, is_kind, quoted_kind, run_pieces, starts_kept};
 ghost use Rattle.yaml_scan_scalars.specs.Pieces.{Piece};
 ghost use Rattle.yaml_scan_scalars.specs.Resume.{resume};
 
 use crate::escape::escape;
 use crate::folding::Folding;
-use crate::run::{ordinary_run, pass_byte};
+use crate::run::{DOUBLE, SINGLE, ordinary_run, pass_byte};
 use std::alloc::AllocError;
 use yaml_scan_model::{
     Context, Problem, Reader, ScanError, Spares, copied, is_blank_byte, room, yaml_mark_t,
@@ -56,12 +56,22 @@ fn quoted(spares: &mut Spares, reader: &mut Reader, quote: u8) -> Result<Vec<u8>
     let start = reader.mark();
     pass_byte(reader);
     let from = reader.place();
-    let bytes = ordinary_run(reader);
+    let bytes = ordinary_run(quoted_kind(quote), reader);
     if closes(reader, quote) {
         let value = one_run(spares, reader, from, bytes)?;
         return Ok(value);
     }
     many_runs(spares, reader, bytes, start, quote)
+}
+
+/// The kind of a run between those quotes.
+// Inlined: a choice of a constant.
+#[inline(always)]
+fn quoted_kind(quote: u8) -> u8
+    ensures kind { is_kind result ≡ true }
+    ensures same { result ≡ quoted_kind quote }
+{
+    if quote == b'"' { DOUBLE } else { SINGLE }
 }
 
 /// Whether the quote stands here and closes its scalar.
@@ -115,7 +125,7 @@ fn many_runs(
     requires quote { (quote ≡ ascii.quote) ⊎ (quote ≡ ascii.apostrophe) }
     requires inside { start.index < length reader.old.text }
     requires start { start ≡ mark_at reader.old.text start.index }
-    requires run { IsRun reader.old.text (start.index + 1) reader.old }
+    requires run { IsRun (quoted_kind quote) reader.old.text (start.index + 1) reader.old }
     requires bytes { bytes.now ≡ bytes_at reader.old.text (start.index + 1)
         (reader.old.at - (start.index + 1)) }
     ensures { Reads reader.old.text start.index reader.new result
@@ -145,7 +155,7 @@ fn fold_runs(
     requires quote { (quote ≡ ascii.quote) ⊎ (quote ≡ ascii.apostrophe) }
     requires inside { start.index < length reader.old.text }
     requires start { start ≡ mark_at reader.old.text start.index }
-    requires run { IsRun reader.old.text (start.index + 1) reader.old }
+    requires run { IsRun (quoted_kind quote) reader.old.text (start.index + 1) reader.old }
     requires bytes { bytes.now ≡ bytes_at reader.old.text (start.index + 1)
         (reader.old.at - (start.index + 1)) }
     ensures { Reads reader.old.text start.index reader.new result
@@ -160,19 +170,20 @@ fn fold_runs(
             let value = folding.finish()?;
             return Ok(value);
         }
-        keep_run(reader, &mut folding)?;
+        keep_run(quoted_kind(quote), reader, &mut folding)?;
     }
 }
 
 /// Takes the run that stands here, but none that begins with a space at a line's start.
-fn keep_run(reader: &mut Reader, folding: &mut Folding) -> Result<(), AllocError>
-    ensures { OnOk result (TookRun reader.old.text reader.old.at (resume folding.old)
+fn keep_run(kind: u8, reader: &mut Reader, folding: &mut Folding) -> Result<(), AllocError>
+    requires { is_kind kind ≡ true }
+    ensures { OnOk result (TookRun kind reader.old.text reader.old.at (resume folding.old)
         (resume folding.new) reader.new) }
 {
     if !keeps_space(reader, folding) {
         return Ok(());
     }
-    keep_some(folding, ordinary_run(reader))
+    keep_some(folding, ordinary_run(kind, reader))
 }
 
 /// Whether a space that stands here is kept, or none stands here.

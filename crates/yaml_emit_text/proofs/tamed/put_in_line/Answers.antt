@@ -1,4 +1,3 @@
-use Rattle.std.proofs.Common.{arith}
 use Rattle.yaml_emit_text.proofs.Bare.{standing_few, standing_some, standing_ascii, lead_framed, lead_ascii, lead_few, puts_behind_line}
 use Rattle.yaml_emit_text.proofs.tamed.put_in_line.Goals as goal
 

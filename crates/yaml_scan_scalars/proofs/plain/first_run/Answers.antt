@@ -10,15 +10,15 @@ pub returns-clause-bytes : goal.returns-clause-bytes
 returns-clause-bytes c =
     let text = c.args.reader.now.text in
     let p = c.args.reader.now.at in
-    let run : IsRun text (p + 1) c.ordinary_run-run.new.reader = rw c.pass_byte.ensures at c.ordinary_run-run.ensures.place in
+    let run : IsRun c.args.kind text (p + 1) c.ordinary_run-run.new.reader = rw c.pass_byte.ensures at c.ordinary_run-run.ensures.place in
     let slice = rw (c.place-from.ensures, run.same) at c.since.ensures in
-    slice ∙ first_slice text p c.ordinary_run-run.new.reader run (within text p c.requires.some)
+    slice ∙ first_slice c.args.kind text p c.ordinary_run-run.new.reader run (within text p c.requires.some)
 
 pub returns-clause-stands : goal.returns-clause-stands
 returns-clause-stands c =
     let text = c.args.reader.now.text in
     let p = c.args.reader.now.at in
-    let run : IsRun text (p + 1) c.ordinary_run-run.new.reader = rw c.pass_byte.ensures at c.ordinary_run-run.ensures.place in
+    let run : IsRun c.args.kind text (p + 1) c.ordinary_run-run.new.reader = rw c.pass_byte.ensures at c.ordinary_run-run.ensures.place in
     let after = run.after in
     let slice = rw (c.place-from.ensures, run.same) at c.since.ensures in
     holds_slice text p c.ordinary_run-run.new.reader.at _ (omega arith) (rw c.pass_byte.ensures at c.ordinary_run-run.ensures.inside) slice

@@ -1,5 +1,5 @@
 use Rattle.std.proofs.Common.{◌≡◌, ◌+◌, ◌-◌, suc, arith, ◌∙◌, sym, true, false, refl, ℕ, Ok}
-use Rattle.yaml_scan_scalars.proofs.Words.{err_from_is_err_and, spot_at, Steps, TookFirst, TookWords}
+use Rattle.yaml_scan_scalars.proofs.Words.{plain_kind, err_from_is_err_and, spot_at, Steps, TookFirst, TookWords}
 use Rattle.yaml_scan_scalars.proofs.PlainLemmas.{lead_text, turn_more, turn_done, turn_refused}
 use Rattle.yaml_scan_scalars.proofs.PlainRunLemmas.{plain_run, plain_first_run, first_text, behind_first}
 use Rattle.yaml_scan_scalars.proofs.RunLemmas.{first_last}
@@ -18,10 +18,10 @@ pieces-init c =
     let value = rw (c.requires.bytes, d, c.mark.ensures) at c.in_ok-joining.ensures.value in
     let seat = rw c.mark.ensures at c.in_ok-joining.ensures.seat in
     let first = no_space _ c.requires.no_blank in
-    let behind = behind_first text p place c.requires.no_blank c.requires.no_end run in
-    let took : TookFirst text p c.in_ok-joining.joining place = record {
+    let behind = behind_first (plain_kind c.args.flow) text p place c.requires.no_blank c.requires.no_end run in
+    let took : TookFirst (plain_kind c.args.flow) text p c.in_ok-joining.joining place = record {
       run = run;
-      value = λ w. rw d (value w ∙ first_text text p (place.at - (p + 1)) place.at w q (first_last text p place run first));
+      value = λ w. rw d (value w ∙ first_text text p (place.at - (p + 1)) place.at w q (first_last (plain_kind c.args.flow) text p place run first));
       seat = record {
         kept = c.in_ok-joining.ensures.kept;
         end = rw seat.0 refl;
@@ -61,12 +61,12 @@ pieces-preserved c =
     let took : Steps c.args.reader.now.text c.args.start c.pieces.reader.at c.pieces.joining c.piece.new.joining c.piece.new.reader (Ok true) (spot_at c.args.flow c.args.level c.args.reader.now.text c.pieces.reader.at) = rw (← c.pieces.invariant.text) here in
     let next = turn_more c.args.flow c.args.level c.args.reader.now.text c.args.start c.pieces.reader.at n c.pieces.joining c.piece.new.joining c.piece.new.reader took room in
     let (k, more, rest2) = next.rest in
-    let ran : TookWords c.args.reader.now.text c.piece.new.reader.at c.piece.new.joining c.keep_run.new.joining c.keep_run.new.reader = rw next.same at c.in_ok-keep_run.ensures in
+    let ran : TookWords (plain_kind c.args.flow) c.args.reader.now.text c.piece.new.reader.at c.piece.new.joining c.keep_run.new.joining c.keep_run.new.reader = rw (next.same, c.plain_kind.ensures.same) at c.in_ok-keep_run.ensures in
     let (m, room3, rest3) = plain_run k c.args.flow c.args.level c.args.reader.now.text c.piece.new.reader.at c.piece.new.joining c.keep_run.new.joining c.keep_run.new.reader ran more in
     record { text = ran.run.same; seat = rw ran.run.same ran.seat; rest = (m, room3, same ∙ rest2 ∙ rest3) }
 
-pub keep_run-requires : goal.keep_run-requires
-keep_run-requires c =
+pub keep_run-requires-clause-seat : goal.keep_run-requires-clause-seat
+keep_run-requires-clause-seat c =
     let (n, room, same) = c.pieces.invariant.rest in
     let here = rw c.if-not-more.false at c.in_ok-more.ensures in
     let took : Steps c.args.reader.now.text c.args.start c.pieces.reader.at c.pieces.joining c.piece.new.joining c.piece.new.reader (Ok true) (spot_at c.args.flow c.args.level c.args.reader.now.text c.pieces.reader.at) = rw (← c.pieces.invariant.text) here in

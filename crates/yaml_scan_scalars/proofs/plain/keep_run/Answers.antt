@@ -8,7 +8,7 @@ pub returns-then-joining : goal.returns-then-joining
 returns-then-joining c =
     let p = c.args.reader.now.at in
     let z : p - p ≡ 0 = omega arith in
-    record { run = run_start c.args.reader.now.text p; calm = λ l. absurd (omega arith); value = λ w. rw z refl; seat = c.requires }
+    record { run = run_start c.args.kind c.args.reader.now.text p; calm = λ l. absurd (omega arith); value = λ w. rw z refl; seat = c.requires.seat }
 
 pub returns-then-is_empty : goal.returns-then-is_empty
 returns-then-is_empty c =
@@ -18,9 +18,9 @@ returns-then-is_empty c =
     let run = c.ordinary_run-bytes.ensures.place in
     let len : length c.ordinary_run-bytes.result.now ≡ 0 = grind (arith, nat_tests, c.is_empty.ensures, c.if-is_empty.true) in
     let none : length (bytes_at text p (place.at - p)) ≡ 0 = rw c.ordinary_run-bytes.ensures.bytes at len in
-    let at : place.at ≡ p = run_none text p place run none in
+    let at : place.at ≡ p = run_none c.args.kind text p place run none in
     let z : place.at - p ≡ 0 = omega arith in
-    record { run = run; calm = λ l. absurd (omega arith); value = λ w. rw z refl; seat = rw at c.requires }
+    record { run = run; calm = λ l. absurd (omega arith); value = λ w. rw z refl; seat = rw at c.requires.seat }
 
 pub returns : goal.returns
 returns c =
@@ -31,16 +31,16 @@ returns c =
     let bytes = c.ordinary_run-bytes.ensures.bytes in
     let len : 0 < length c.ordinary_run-bytes.result.now = grind (arith, nat_tests, c.is_empty.ensures, c.if-is_empty.false) in
     let some : 0 < length (bytes_at text p (place.at - p)) = rw bytes at len in
-    let more : p < place.at = run_some text p place run some in
+    let more : p < place.at = run_some c.args.kind text p place run some in
     let q : place.at ≡ p + (place.at - p) = omega arith in
     let m = c.mark.ensures in
     let kept = rw (bytes, m) at c.in_ok-keep.ensures.value in
-    let behind = calm_behind text p place run more in
+    let behind = calm_behind c.args.kind text p place run more in
     let seat = rw (m, run.same) at c.in_ok-keep.ensures.seat in
     record {
       run = run;
-      calm = λ l. sym c.requires.broke ∙ c.if-joining.false;
-      value = λ w. kept w ∙ joined_run text p (place.at - p) place.at c.args.joining.now w q some (c.requires.line c.if-joining.false) (ordinary_is _ (run.last more)).no_space;
+      calm = λ l. sym c.requires.seat.broke ∙ c.if-joining.false;
+      value = λ w. kept w ∙ joined_run text p (place.at - p) place.at c.args.joining.now w q some (c.requires.seat.line c.if-joining.false) (ordinary_is c.args.kind _ (run.last more)).no_space;
       seat = record {
         kept = c.in_ok-keep.ensures.kept;
         end = rw seat.0 refl;

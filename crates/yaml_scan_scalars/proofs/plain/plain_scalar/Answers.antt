@@ -1,5 +1,5 @@
-use Rattle.std.proofs.Common.{◌∙◌, ap, sym, true, false}
-use Rattle.yaml_scan_scalars.proofs.Words.{Place, within}
+use Rattle.std.proofs.Common.{◌+◌, ◌∙◌, ap, sym, true, false}
+use Rattle.yaml_scan_scalars.proofs.Words.{IsRun, plain_kind, Place, within}
 use Rattle.yaml_scan_scalars.proofs.PlainLemmas.{plain_start, lead_text}
 use Rattle.yaml_scan_scalars.proofs.OneRunLemmas.{own_mark, no_space, plain_one, plain_then, reads_in, line_in, run_whole}
 use Rattle.yaml_scan_scalars.proofs.plain.plain_scalar.Goals as goal
@@ -22,7 +22,7 @@ returns-then-is_followed c =
     let p = c.args.reader.now.at in
     let (blank, some, z) = plain_start c.args.flow text p c.requires in
     let ends = c.break_here-width.ensures.none (c.break_here-width.ensures.value ∙ z) in
-    let run = c.first_run-bytes.ensures.run in
+    let run : IsRun (plain_kind c.args.flow) text (p + 1) c.first_run-bytes.new.reader = rw c.plain_kind.ensures.same at c.first_run-bytes.ensures.run in
     let followed = rw run.same at (c.is_followed.ensures c.if-is_followed.true c.args.level) in
     let one = plain_one c.args.flow c.args.level text p c.first_run-bytes.new.reader (within text p some) (sym (lead_text text p blank ends).0) (no_space _ blank) run followed in
     let at = (own_mark text p _ c.mark-start.ensures).1 in
@@ -43,7 +43,7 @@ returns-then-passes_line c =
     let p = c.args.reader.now.at in
     let (blank, some, z) = plain_start c.args.flow text p c.requires in
     let ends = c.break_here-width.ensures.none (c.break_here-width.ensures.value ∙ z) in
-    let run = c.first_run-bytes.ensures.run in
+    let run : IsRun (plain_kind false) text (p + 1) c.first_run-bytes.new.reader = rw (c.plain_kind.ensures.same, c.if-not-flow.true) at c.first_run-bytes.ensures.run in
     let follow = rw (c.ahead-ahead.ensures, run.same) at (c.passes_line.ensures.ends c.if-passes_line.true) in
     let one = plain_then false c.args.level text p c.passes_line.new.reader.at c.passes_line.new.reader.at true c.first_run-bytes.new.reader (within text p some) (sym (lead_text text p blank ends).0) (no_space _ blank) run follow in
     let at = (own_mark text p _ c.mark-start.ensures).1 in
@@ -67,7 +67,7 @@ many_runs-requires-clause-no_end c =
     rw (c.first_run-bytes.ensures.run.same, c.mark-start.ensures) (c.break_here-width.ensures.none (c.break_here-width.ensures.value ∙ z))
 
 pub many_runs-requires-clause-run : goal.many_runs-requires-clause-run
-many_runs-requires-clause-run c = rw (c.first_run-bytes.ensures.run.same, c.mark-start.ensures) (run_whole _ _ _ c.first_run-bytes.ensures.run)
+many_runs-requires-clause-run c = rw (c.first_run-bytes.ensures.run.same, c.mark-start.ensures) (run_whole (plain_kind c.args.flow) _ _ _ (rw c.plain_kind.ensures.same at c.first_run-bytes.ensures.run))
 
 pub many_runs-requires-clause-bytes : goal.many_runs-requires-clause-bytes
 many_runs-requires-clause-bytes c = rw (c.first_run-bytes.ensures.run.same, c.mark-start.ensures) c.first_run-bytes.ensures.bytes

@@ -1,5 +1,5 @@
 use Rattle.std.proofs.Common.{refl, arith, ◌∙◌, ◌≡◌, ◌+◌, ◌-◌, inl, ◌++◌, ap, true, false, ℕ, List, Ok}
-use Rattle.yaml_scan_scalars.proofs.Words.{err_from_is_err_and, Piece, value, resume, standing_at, Took, TookRun, bytes_at, run_pieces}
+use Rattle.yaml_scan_scalars.proofs.Words.{quoted_kind, err_from_is_err_and, Piece, value, resume, standing_at, Took, TookRun, bytes_at, run_pieces}
 use Rattle.yaml_scan_scalars.proofs.QuotedLemmas.{turn_more, turn_done, turn_refused}
 use Rattle.yaml_scan_scalars.proofs.RunLemmas.{quoted_run, run_ends}
 use Rattle.yaml_scan_scalars.proofs.OneRunLemmas.{quoted_first}
@@ -18,7 +18,7 @@ pub keep_some-requires-clause-first : goal.keep_some-requires-clause-first
 keep_some-requires-clause-first c = inl c.new-folding.ensures.line
 
 pub keep_some-requires-clause-last : goal.keep_some-requires-clause-last
-keep_some-requires-clause-last c = rw c.requires.bytes (run_ends _ _ _ c.requires.run)
+keep_some-requires-clause-last c = rw c.requires.bytes (run_ends (quoted_kind c.args.quote) _ _ _ c.requires.run)
 
 pub returns-in_err-more : goal.returns-in_err-more
 returns-in_err-more c =
@@ -42,7 +42,7 @@ pieces-preserved c =
     let took : Took c.args.reader.now.text c.args.start c.pieces.reader.at (resume c.pieces.folding) (resume c.piece.new.folding) c.piece.new.reader (Ok true) (standing_at c.args.quote c.args.reader.now.text c.pieces.reader.at) = rw (← c.pieces.invariant.text) here in
     let next = turn_more c.args.reader.now.text c.args.start c.args.quote c.pieces.reader.at n (resume c.pieces.folding) (resume c.piece.new.folding) c.piece.new.reader took room in
     let (k, more, rest2) = next.rest in
-    let ran : TookRun c.args.reader.now.text c.piece.new.reader.at (resume c.piece.new.folding) (resume c.keep_run.new.folding) c.keep_run.new.reader = rw next.same at c.in_ok-keep_run.ensures in
+    let ran : TookRun (quoted_kind c.args.quote) c.args.reader.now.text c.piece.new.reader.at (resume c.piece.new.folding) (resume c.keep_run.new.folding) c.keep_run.new.reader = rw (next.same, c.quoted_kind.ensures.same) at c.in_ok-keep_run.ensures in
     let (m, room3, rest3) = quoted_run k c.args.quote c.args.reader.now.text c.piece.new.reader.at (resume c.piece.new.folding) (resume c.keep_run.new.folding) c.keep_run.new.reader c.requires.quote ran more in
     record { text = ran.0.same; rest = (m, room3, same ∙ rest2 ∙ rest3) }
 

@@ -6,7 +6,7 @@ pub returns-then-not-keeps_space : goal.returns-then-not-keeps_space
 returns-then-not-keeps_space c =
     let p = c.args.reader.now.at in
     let z : p - p ≡ 0 = omega arith in
-    (run_start c.args.reader.now.text p, λ ps. rw (z, bytes_none c.args.reader.now.text p) refl)
+    (run_start c.args.kind c.args.reader.now.text p, λ ps. rw (z, bytes_none c.args.reader.now.text p) refl)
 
 pub keep_some-requires-clause-first : goal.keep_some-requires-clause-first
 keep_some-requires-clause-first c = elim (c.keeps_space.ensures c.if-not-keeps_space.false) [
@@ -15,4 +15,4 @@ keep_some-requires-clause-first c = elim (c.keeps_space.ensures c.if-not-keeps_s
 ]
 
 pub keep_some-requires-clause-last : goal.keep_some-requires-clause-last
-keep_some-requires-clause-last c = rw c.ordinary_run.ensures.bytes (run_ends _ _ _ c.ordinary_run.ensures.place)
+keep_some-requires-clause-last c = rw c.ordinary_run.ensures.bytes (run_ends c.args.kind _ _ _ c.ordinary_run.ensures.place)

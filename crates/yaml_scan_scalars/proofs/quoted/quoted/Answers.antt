@@ -1,5 +1,5 @@
 use Rattle.std.proofs.Common.{◌+◌, ◌∙◌, sym}
-use Rattle.yaml_scan_scalars.proofs.Words.{within, IsRun}
+use Rattle.yaml_scan_scalars.proofs.Words.{quoted_kind, within, IsRun}
 use Rattle.yaml_scan_scalars.proofs.QuotedLemmas.{quote_no_break, quote_some}
 use Rattle.yaml_scan_scalars.proofs.OneRunLemmas.{own_mark, closes_both, quoted_one, some_quote, run_whole}
 use Rattle.yaml_scan_scalars.proofs.quoted.quoted.Goals as goal
@@ -13,14 +13,14 @@ one_run-requires-clause-closing c =
 
 pub one_run-requires-clause-stands : goal.one_run-requires-clause-stands
 one_run-requires-clause-stands c =
-    let run : IsRun c.args.reader.now.text (c.args.reader.now.at + 1) c.ordinary_run-bytes.new.reader = rw c.pass_byte.ensures at c.ordinary_run-bytes.ensures.place in
+    let run : IsRun (quoted_kind c.args.quote) c.args.reader.now.text (c.args.reader.now.at + 1) c.ordinary_run-bytes.new.reader = rw (c.pass_byte.ensures, c.quoted_kind.ensures.same) at c.ordinary_run-bytes.ensures.place in
     rw (run.same, c.place-from.ensures, c.pass_byte.ensures) (rw c.pass_byte.ensures at c.ordinary_run-bytes.ensures.stands)
 
 pub returns-then-closes : goal.returns-then-closes
 returns-then-closes c =
     let text = c.args.reader.now.text in
     let p = c.args.reader.now.at in
-    let run : IsRun text (p + 1) c.ordinary_run-bytes.new.reader = rw c.pass_byte.ensures at c.ordinary_run-bytes.ensures.place in
+    let run : IsRun (quoted_kind c.args.quote) text (p + 1) c.ordinary_run-bytes.new.reader = rw (c.pass_byte.ensures, c.quoted_kind.ensures.same) at c.ordinary_run-bytes.ensures.place in
     let bytes = rw c.pass_byte.ensures at c.ordinary_run-bytes.ensures.bytes in
     let inside = within text p (quote_some c.args.quote _ c.requires.opened c.requires.quote) in
     let both = closes_both _ _ _ (rw run.same at (sym c.closes.ensures ∙ c.if-closes.true)) in
@@ -29,26 +29,26 @@ returns-then-closes c =
 
 pub many_runs-requires-clause-inside : goal.many_runs-requires-clause-inside
 many_runs-requires-clause-inside c =
-    let run : IsRun c.args.reader.now.text (c.args.reader.now.at + 1) c.ordinary_run-bytes.new.reader = rw c.pass_byte.ensures at c.ordinary_run-bytes.ensures.place in
+    let run : IsRun (quoted_kind c.args.quote) c.args.reader.now.text (c.args.reader.now.at + 1) c.ordinary_run-bytes.new.reader = rw (c.pass_byte.ensures, c.quoted_kind.ensures.same) at c.ordinary_run-bytes.ensures.place in
     rw (run.same, c.mark-start.ensures) (within c.args.reader.now.text c.args.reader.now.at (quote_some c.args.quote _ c.requires.opened c.requires.quote))
 
 pub many_runs-requires-clause-start : goal.many_runs-requires-clause-start
 many_runs-requires-clause-start c =
-    let run : IsRun c.args.reader.now.text (c.args.reader.now.at + 1) c.ordinary_run-bytes.new.reader = rw c.pass_byte.ensures at c.ordinary_run-bytes.ensures.place in
+    let run : IsRun (quoted_kind c.args.quote) c.args.reader.now.text (c.args.reader.now.at + 1) c.ordinary_run-bytes.new.reader = rw (c.pass_byte.ensures, c.quoted_kind.ensures.same) at c.ordinary_run-bytes.ensures.place in
     rw run.same (own_mark c.args.reader.now.text _ _ c.mark-start.ensures).0
 
 pub many_runs-requires-clause-run : goal.many_runs-requires-clause-run
 many_runs-requires-clause-run c =
-    let run : IsRun c.args.reader.now.text (c.args.reader.now.at + 1) c.ordinary_run-bytes.new.reader = rw c.pass_byte.ensures at c.ordinary_run-bytes.ensures.place in
-    rw (run.same, c.mark-start.ensures) (run_whole _ _ _ run)
+    let run : IsRun (quoted_kind c.args.quote) c.args.reader.now.text (c.args.reader.now.at + 1) c.ordinary_run-bytes.new.reader = rw (c.pass_byte.ensures, c.quoted_kind.ensures.same) at c.ordinary_run-bytes.ensures.place in
+    rw (run.same, c.mark-start.ensures) (run_whole (quoted_kind c.args.quote) _ _ _ run)
 
 pub many_runs-requires-clause-bytes : goal.many_runs-requires-clause-bytes
 many_runs-requires-clause-bytes c =
-    let run : IsRun c.args.reader.now.text (c.args.reader.now.at + 1) c.ordinary_run-bytes.new.reader = rw c.pass_byte.ensures at c.ordinary_run-bytes.ensures.place in
+    let run : IsRun (quoted_kind c.args.quote) c.args.reader.now.text (c.args.reader.now.at + 1) c.ordinary_run-bytes.new.reader = rw (c.pass_byte.ensures, c.quoted_kind.ensures.same) at c.ordinary_run-bytes.ensures.place in
     rw (run.same, c.mark-start.ensures) (rw c.pass_byte.ensures at c.ordinary_run-bytes.ensures.bytes)
 
 pub returns : goal.returns
 returns c =
-    let run : IsRun c.args.reader.now.text (c.args.reader.now.at + 1) c.ordinary_run-bytes.new.reader = rw c.pass_byte.ensures at c.ordinary_run-bytes.ensures.place in
+    let run : IsRun (quoted_kind c.args.quote) c.args.reader.now.text (c.args.reader.now.at + 1) c.ordinary_run-bytes.new.reader = rw (c.pass_byte.ensures, c.quoted_kind.ensures.same) at c.ordinary_run-bytes.ensures.place in
     let at = (own_mark c.args.reader.now.text _ _ c.mark-start.ensures).1 in
     rw (run.same, at) at c.many_runs.ensures

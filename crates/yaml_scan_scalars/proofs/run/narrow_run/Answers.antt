@@ -16,7 +16,7 @@ overflow_add-mark c =
 pub bytes-smaller : goal.bytes-smaller
 bytes-smaller c =
     let text = c.args.reader.now.text in
-    let here = passes text c.bytes.end (rw c.text-text.ensures at (sym c.passes_at.ensures ∙ c.bytes-test.true)) in
+    let here = passes c.args.kind text c.bytes.end (rw c.text-text.ensures at (sym c.passes_at.ensures ∙ c.bytes-test.true)) in
     let inside = within text c.bytes.end here.some in
     omega (arith, inside, c.past_narrow-end-in-bytes.ensures.forward)
 
@@ -27,15 +27,15 @@ bytes-init c =
     let here = c.stop-here.ensures in
     let past = c.past_narrow-end.ensures in
     let forward : p ≤ c.past_narrow-end.result = rw c.place-from.ensures at past.forward in
-    let each : (k : ℕ) → p ≤ k → k < c.past_narrow-end.result → is_narrow (byte text k) ≡ true = rw (c.text-text.ensures, c.place-from.ensures) at past.each in
+    let each : (k : ℕ) → p ≤ k → k < c.past_narrow-end.result → is_narrow c.args.kind (byte text k) ≡ true = rw (c.text-text.ensures, c.place-from.ensures) at past.each in
     let inside : p ≤ length text → c.past_narrow-end.result ≤ length text = rw (c.text-text.ensures, c.place-from.ensures) at past.inside in
-    let s = spanned text p c.past_narrow-end.result forward each here.whole in
+    let s = spanned c.args.kind text p c.past_narrow-end.result forward each here.whole in
     let column = s.column in
     let line : c.stop-here.result.line ≡ line_at text p = ap (λ (m : yaml_mark_t). m.line) here.mark in
     let at : c.stop-here.result.column ≡ column_at text p = ap (λ (m : yaml_mark_t). m.column) here.mark in
     record {
       after = forward;
-      each = each_past text p p c.past_narrow-end.result (λ k a b. absurd (omega arith)) each;
+      each = each_past c.args.kind text p p c.past_narrow-end.result (λ k a b. absurd (omega arith)) each;
       inside = inside here.inside;
       line = line ∙ sym s.line;
       column = omega (arith, column, at, forward);
@@ -45,7 +45,7 @@ bytes-init c =
 pub bytes-preserved : goal.bytes-preserved
 bytes-preserved c =
     let text = c.args.reader.now.text in
-    let here = passes text c.bytes.end (rw c.text-text.ensures at (sym c.passes_at.ensures ∙ c.bytes-test.true)) in
+    let here = passes c.args.kind text c.bytes.end (rw c.text-text.ensures at (sym c.passes_at.ensures ∙ c.bytes-test.true)) in
     let inside = within text c.bytes.end here.some in
     let b = behind_none text c.bytes.end here.none c.bytes.invariant.whole in
     let column = c.bytes.invariant.column in
@@ -53,13 +53,13 @@ bytes-preserved c =
     let after = c.bytes.invariant.after in
     let past = c.past_narrow-end-in-bytes.ensures in
     let forward = past.forward in
-    let each : (k : ℕ) → c.bytes.end + 1 ≤ k → k < c.past_narrow-end-in-bytes.result → is_narrow (byte text k) ≡ true = rw c.text-text.ensures at past.each in
+    let each : (k : ℕ) → c.bytes.end + 1 ≤ k → k < c.past_narrow-end-in-bytes.result → is_narrow c.args.kind (byte text k) ≡ true = rw c.text-text.ensures at past.each in
     let most : c.bytes.end + 1 ≤ length text → c.past_narrow-end-in-bytes.result ≤ length text = rw c.text-text.ensures at past.inside in
-    let s = spanned text (c.bytes.end + 1) c.past_narrow-end-in-bytes.result forward each b.whole in
+    let s = spanned c.args.kind text (c.bytes.end + 1) c.past_narrow-end-in-bytes.result forward each b.whole in
     let more = s.column in
     record {
       after = omega (arith, after, forward);
-      each = each_past text c.args.reader.now.at (c.bytes.end + 1) c.past_narrow-end-in-bytes.result (each_more text c.args.reader.now.at c.bytes.end c.bytes.invariant.each here.each) each;
+      each = each_past c.args.kind text c.args.reader.now.at (c.bytes.end + 1) c.past_narrow-end-in-bytes.result (each_more c.args.kind text c.args.reader.now.at c.bytes.end c.bytes.invariant.each here.each) each;
       inside = most (omega (arith, inside));
       line = c.bytes.invariant.line ∙ sym b.line ∙ sym s.line;
       column = omega (arith, column, next, after, more, forward);
@@ -70,4 +70,4 @@ pub returns-clause-run : goal.returns-clause-run
 returns-clause-run c =
     let text = c.args.reader.now.text in
     let stops = rw c.text-text.ensures at (sym c.passes_at.ensures ∙ c.bytes-test.false) in
-    rw (c.resume.ensures, c.text-text.ensures) (run_of text c.args.reader.now.at c.bytes.end c.bytes.invariant.after c.bytes.invariant.each stops)
+    rw (c.resume.ensures, c.text-text.ensures) (run_of c.args.kind text c.args.reader.now.at c.bytes.end c.bytes.invariant.after c.bytes.invariant.each stops)

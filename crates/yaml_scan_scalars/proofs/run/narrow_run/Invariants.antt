@@ -5,7 +5,7 @@ use Rattle.yaml_scan_scalars.proofs.run.narrow_run.Given as goal
 abbrev pub invariant-bytes : goal.invariant-bytes
 invariant-bytes l = record {
   after : l.fn.reader.at ≤ l.end;
-  each : (k : ℕ) → l.fn.reader.at ≤ k → k < l.end → in_run l.fn.reader.text k ≡ true;
+  each : (k : ℕ) → l.fn.reader.at ≤ k → k < l.end → in_run l.kind l.fn.reader.text k ≡ true;
   inside : l.end ≤ length l.fn.reader.text;
   line : l.here.line ≡ line_at l.fn.reader.text l.end;
   column : l.here.column + (l.end - l.fn.reader.at) ≡ column_at l.fn.reader.text l.end;

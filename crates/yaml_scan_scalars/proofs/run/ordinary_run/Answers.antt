@@ -7,7 +7,7 @@ pub returns-clause-bytes : goal.returns-clause-bytes
 returns-clause-bytes c =
     let run = c.pass_run.ensures.run in
     let b = rw (c.place-from.ensures, run.same) at c.since.ensures in
-    b ∙ run_slice _ _ _ run
+    b ∙ run_slice c.args.kind _ _ _ run
 
 pub returns-clause-stands : goal.returns-clause-stands
 returns-clause-stands c =

@@ -5,7 +5,7 @@ use Rattle.yaml_scan_scalars.proofs.run.past_narrow.Given as goal
 abbrev pub invariant-bytes : goal.invariant-bytes
 invariant-bytes l = record {
   few : l.count ≤ 8;
-  each : (k : ℕ) → l.from ≤ k → k < l.from + l.count → is_narrow (byte l.text k) ≡ true;
+  each : (k : ℕ) → l.from ≤ k → k < l.from + l.count → is_narrow l.kind (byte l.text k) ≡ true;
 }
 
 abbrev pub decreases-bytes : goal.decreases-bytes

@@ -27,23 +27,18 @@ pub fn version(reply: &mut Reply, value: Option<&Value>) -> Option<yaml_version_
     }
 }
 
-fn directive(reply: &mut Reply, directive: &Value, is_hex: bool) -> yaml_tag_directive_t {
-    let handle = if is_hex {
-        reply.bytes(directive, "/0")
-    } else {
-        let handle = reply.text(directive, "/0");
-        reply.copy(handle.as_bytes())
-    };
-    let prefix = reply.bytes(directive, "/1");
-    yaml_tag_directive_t { handle, prefix }
-}
-
 /// Directives: of each the handle, in hexadecimal digits or as it is, and the prefix in hexadecimal digits.
 pub fn directives(reply: &mut Reply, listed: &[Value], is_hex: bool) -> Vec<yaml_tag_directive_t> {
     let mut directives = Vec::new(reply.alloc);
     for listed in listed {
-        let directive = directive(reply, listed, is_hex);
-        reply.push(&mut directives, directive);
+        let handle = if is_hex {
+            reply.bytes(listed, "/0")
+        } else {
+            let handle = reply.text(listed, "/0");
+            reply.copy(handle.as_bytes())
+        };
+        let prefix = reply.bytes(listed, "/1");
+        reply.push(&mut directives, yaml_tag_directive_t { handle, prefix });
     }
     directives
 }

@@ -54,8 +54,9 @@ fn put_turn<S: yaml_token_source_t>(
         Turn::Parse | Turn::Events | Turn::Kept => {
             return put_event(reply, line, turn, yaml_parser_parse(parser), kept);
         }
-        Turn::Documents => return put_loaded(reply, line, true, parser),
-        Turn::Load => return put_loaded(reply, line, false, parser),
+        Turn::Documents | Turn::Load => {
+            return put_loaded(reply, line, matches!(turn, Turn::Documents), parser);
+        }
         Turn::Prefix => return put_prefix(reply, line, yaml_parser_prefix(parser)),
         Turn::Into => put_into(reply, line, parser, kept),
         Turn::Between => reply.put(Part::Flag(yaml_parser_between(parser))),

@@ -54,11 +54,6 @@ fn document_start(reply: &mut Reply, event: &Value) -> Made {
     yaml_document_start_event_initialize(reply.alloc, version, directives.as_slice(), implicit)
 }
 
-fn alias(reply: &mut Reply, event: &Value) -> Made {
-    let anchor = reply.bytes(event, "/5");
-    yaml_alias_event_initialize(reply.alloc, anchor.as_slice())
-}
-
 fn scalar(reply: &mut Reply, event: &Value) -> Made {
     let anchor = reply.optional_bytes(event, "/5");
     let tag = reply.optional_bytes(event, "/6");
@@ -118,7 +113,10 @@ const KINDS: [(&'static str, yaml_event_type_t); 10] = [
 pub fn event_of(reply: &mut Reply, event: &Value) -> Made {
     match reply.choice(event, "/0", &KINDS, yaml_event_type_t::YAML_NO_EVENT) {
         yaml_event_type_t::YAML_DOCUMENT_START_EVENT => document_start(reply, event),
-        yaml_event_type_t::YAML_ALIAS_EVENT => alias(reply, event),
+        yaml_event_type_t::YAML_ALIAS_EVENT => {
+            let anchor = reply.bytes(event, "/5");
+            yaml_alias_event_initialize(reply.alloc, anchor.as_slice())
+        }
         yaml_event_type_t::YAML_SCALAR_EVENT => scalar(reply, event),
         yaml_event_type_t::YAML_SEQUENCE_START_EVENT => collection_start(reply, event, true),
         yaml_event_type_t::YAML_MAPPING_START_EVENT => collection_start(reply, event, false),

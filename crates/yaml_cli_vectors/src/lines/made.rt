@@ -31,17 +31,11 @@ fn empty_document(reply: &mut Reply, line: &Value) -> Result<yaml_document_t, ya
     )
 }
 
-// What adding a node answers: its number, or that a text was refused.
-type Added = Result<i32, yaml_text_fault_t>;
-
-// Adds a node with that tag, if any; a collection without what it holds.
-fn add(
-    document: &mut yaml_document_t,
-    reply: &mut Reply,
-    tag: Option<&[u8]>,
-    node: &Value,
-) -> Added {
-    match reply.choice(node, "/0", &NODES, yaml_node_type_t::YAML_NO_NODE) {
+// Adds a node, a collection without what it holds.
+fn add_node(document: &mut yaml_document_t, reply: &mut Reply, node: &Value) {
+    let tag = reply.optional_bytes(node, "/1");
+    let tag = tag.as_deref();
+    let added = match reply.choice(node, "/0", &NODES, yaml_node_type_t::YAML_NO_NODE) {
         yaml_node_type_t::YAML_SEQUENCE_NODE => {
             let any = yaml_sequence_style_t::YAML_ANY_SEQUENCE_STYLE;
             let style = reply.choice(node, "/3", &SEQUENCES, any);
@@ -58,13 +52,8 @@ fn add(
             let value = reply.bytes(node, "/2");
             yaml_document_add_scalar(document, tag, value.as_slice(), style)
         }
-    }
-}
-
-// The same with the tag that the node has, which may be null.
-fn add_node(document: &mut yaml_document_t, reply: &mut Reply, node: &Value) {
-    let tag = reply.optional_bytes(node, "/1");
-    match add(document, reply, tag.as_deref(), node) {
+    };
+    match added {
         Ok(_) => {}
         Err(fault) => reply.refuse_text(fault),
     }

@@ -66,21 +66,6 @@ fn put_turn<S: yaml_token_source_t>(
     true
 }
 
-fn put_turns<S: yaml_token_source_t>(
-    reply: &mut Reply,
-    line: &Value,
-    asked: Turn,
-    parser: &mut yaml_parser_t<S>,
-    kept: &mut Vec<yaml_event_t>,
-) {
-    for number in 0..u64::MAX {
-        let turn = turn_at(reply, line, asked, number);
-        if !put_turn(reply, line, turn, parser, kept) {
-            break;
-        }
-    }
-}
-
 /// What a parser of the source's tokens answers; its events are kept. One function owns the parser of all that is asked of one,
 /// since an owner of a parser is dear to prove.
 pub fn parse<S: yaml_token_source_t>(
@@ -92,7 +77,12 @@ pub fn parse<S: yaml_token_source_t>(
 ) {
     match yaml_parser_initialize(reply.alloc, source) {
         Ok(mut parser) => {
-            put_turns(reply, line, asked, &mut parser, kept);
+            for number in 0..u64::MAX {
+                let turn = turn_at(reply, line, asked, number);
+                if !put_turn(reply, line, turn, &mut parser, kept) {
+                    break;
+                }
+            }
             yaml_parser_delete(parser);
         }
         Err(fault) => reply.fault(fault),

@@ -120,27 +120,11 @@ fn judge_names<G: Engine, H: Files + AllocGlobal, R: Read, W: Write, E: Write>(
 }
 
 // The names of a list, or why there are none.
-fn names_of(text: &[u8]) -> Result<&str, Unread> {
-    let Ok(names) = str::from_utf8(text) else {
-        return Err(Unread::Unlisted("a name isn't UTF-8"));
-    };
-    if names.trim_matches('\0').is_empty() {
-        return Err(Unread::Unlisted("no file is named"));
-    }
-    Ok(names)
-}
-
-fn judge_list<G: Engine, H: Files + AllocGlobal, R: Read, W: Write, E: Write>(
-    engine: &G,
-    rt: &H,
-    order: &Order<'_, '_>,
-    list: &str,
-    text: &[u8],
-    streams: &mut Streams<R, W, E>,
-) -> u8 {
-    match names_of(text) {
-        Ok(names) => judge_names(engine, rt, order, names, streams),
-        Err(why) => unread(&mut streams.errors, order.judging.quiet, list, &why),
+fn names_of(text: &[u8]) -> Result<&str, &'static str> {
+    match str::from_utf8(text) {
+        Ok(names) if names.trim_matches('\0').is_empty() => Err("no file is named"),
+        Ok(names) => Ok(names),
+        Err(_) => Err("a name isn't UTF-8"),
     }
 }
 
@@ -151,10 +135,14 @@ fn judge_listed<G: Engine, H: Files + AllocGlobal, R: Read, W: Write, E: Write>(
     list: &str,
     streams: &mut Streams<R, W, E>,
 ) -> u8 {
-    match whole_of(rt, list, streams) {
-        Ok(text) => judge_list(engine, rt, order, list, text.as_slice(), streams),
-        Err(why) => unread(&mut streams.errors, order.judging.quiet, list, &why),
-    }
+    let why = match whole_of(rt, list, streams) {
+        Ok(text) => match names_of(text.as_slice()) {
+            Ok(names) => return judge_names(engine, rt, order, names, streams),
+            Err(what) => Unread::Unlisted(what),
+        },
+        Err(why) => why,
+    };
+    unread(&mut streams.errors, order.judging.quiet, list, &why)
 }
 
 /// Judges the files and those that a list names, or standard input where there are neither. The status is the worst one: 0 where

@@ -87,21 +87,6 @@ fn run_file<G: Engine, H: Files + AllocGlobal, R: Read, W: Write, E: Write>(
     ended(rt.alloc(), &task, answer, &mut streams.errors)
 }
 
-// Does what it is told. Answers the status.
-fn obey<G: Engine, H: Files + AllocGlobal, R: Read, W: Write, E: Write>(
-    engine: &G,
-    rt: &H,
-    order: &Order<'_, '_>,
-    streams: &mut Streams<R, W, E>,
-) -> u8 {
-    match order.does {
-        Does::Run(command) if !order.judges => run_file(engine, rt, command, order, streams),
-        Does::Same | Does::Diff => compare(engine, rt, order, streams),
-        Does::Norm if !order.judges => judge_all(engine, rt, order, streams).min(FAILED),
-        _ => judge_all(engine, rt, order, streams),
-    }
-}
-
 // Does what is found among the words. Answers the status.
 fn follow<G: Engine, H: Files + AllocGlobal, R: Read, W: Write, E: Write>(
     engine: &G,
@@ -112,9 +97,15 @@ fn follow<G: Engine, H: Files + AllocGlobal, R: Read, W: Write, E: Write>(
     let Some((name, told)) = matches.subcommand() else {
         return FAILED;
     };
-    match order_in(name, told) {
-        Ok(order) => obey(engine, rt, &order, streams),
-        Err(wrong) => told_wrong(&mut streams.errors, &wrong),
+    let order = match order_in(name, told) {
+        Ok(order) => order,
+        Err(wrong) => return told_wrong(&mut streams.errors, &wrong),
+    };
+    match order.does {
+        Does::Run(command) if !order.judges => run_file(engine, rt, command, &order, streams),
+        Does::Same | Does::Diff => compare(engine, rt, &order, streams),
+        Does::Norm if !order.judges => judge_all(engine, rt, &order, streams).min(FAILED),
+        _ => judge_all(engine, rt, &order, streams),
     }
 }
 

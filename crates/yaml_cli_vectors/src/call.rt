@@ -104,7 +104,7 @@ pub fn answer(rt: &HostRuntime, reply: &mut Reply, line: &Value) {
         Call::ParseCalls if line.get("tokens").is_some() => {
             parse_tokens(reply, line, Turn::Listed)
         }
-        Call::Emit(given) => emit_line(reply, line, given),
+        Call::Emit(given) => emit_line(reply, line, given, &mut []),
         Call::EmitAgain { by_limit } => emit_pieces::answer(reply, line, by_limit),
         Call::Main => program::run(rt, reply, line),
         Call::ReadAll => read_all::answer(reply, line),

@@ -12,21 +12,19 @@ pub struct Input<'a> {
     pub from: yaml_encoding_t,
 }
 
-fn output_encoding(encoding: yaml_encoding_t) -> Option<yaml_output_encoding_t> {
-    match encoding {
-        yaml_encoding_t::YAML_UTF8_ENCODING => Some(yaml_output_encoding_t::Utf8),
-        yaml_encoding_t::YAML_UTF16LE_ENCODING => Some(yaml_output_encoding_t::Utf16Le),
-        yaml_encoding_t::YAML_UTF16BE_ENCODING => Some(yaml_output_encoding_t::Utf16Be),
-        yaml_encoding_t::YAML_ANY_ENCODING => None,
-    }
-}
+const OUTPUTS: [(&'static str, yaml_output_encoding_t); 3] = [
+    ("utf8", yaml_output_encoding_t::Utf8),
+    ("utf16le", yaml_output_encoding_t::Utf16Le),
+    ("utf16be", yaml_output_encoding_t::Utf16Be),
+];
 
 /// The engine's settings that the line says.
 pub fn settings(reply: &mut Reply, line: &Value) -> yaml_settings_t {
     let Settings { asked, limit } = settings_of(reply, line);
-    let encoding = output_encoding(asked.encoding);
+    let utf8 = yaml_output_encoding_t::Utf8;
+    let encoding = reply.choice(line, "/settings/encoding", &OUTPUTS, utf8);
     yaml_settings_t {
-        encoding: reply.take(encoding, "encoding", yaml_output_encoding_t::Utf8),
+        encoding,
         canonical: asked.canonical,
         indent: asked.indent,
         width: asked.width,

@@ -24,7 +24,10 @@ use tally::Tally;
 
 fn main(rt: HostRuntime) -> io::Result<()> {
     let lines = io::read_to_string(rt.alloc(), rt.reader())?;
-    let mut tally = Tally::new();
+    let mut tally = Tally {
+        passed: 0,
+        failed: 0,
+    };
     for line in lines.lines() {
         replay::replay(&rt, &mut tally, line);
     }

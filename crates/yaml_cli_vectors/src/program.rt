@@ -23,21 +23,17 @@ fn put_text(reply: &mut Reply, line: &Value, name: &'static str, text: &[u8], is
     }
 }
 
-// The status, what was written, and what was told. One function owns the streams, and asks all there is to ask behind the run.
-fn put_run(rt: &HostRuntime, reply: &mut Reply, line: &Value, words: &[&str], unflushed: bool) {
-    let mut input = ScriptedReader::of(reply, line);
-    let mut output = ScriptedWriter::of(reply, line, "/writes", unflushed);
-    let mut errors = ScriptedWriter::of(reply, line, "/tells", false);
-    let status = yaml_main(rt, words, &mut input, &mut output, &mut errors);
-    reply.field("status", Part::Count(u64::from(status)));
-    put_text(reply, line, "output", output.received.as_slice(), false);
-    put_text(reply, line, "errors", errors.received.as_slice(), true);
-}
-
-/// The status that the program ends with on the line's words, what it writes, and what it tells.
+/// The status that the program ends with on the line's words, what it writes, and what it tells. One function owns the streams, and
+/// asks all there is to ask behind the run.
 pub fn run(rt: &HostRuntime, reply: &mut Reply, line: &Value) {
     let words = words_of(reply, line);
     // Whether the output's writer fails to pass on what it took.
     let unflushed = reply.flag(line, "/unflushed");
-    put_run(rt, reply, line, words.as_slice(), unflushed);
+    let mut input = ScriptedReader::of(reply, line);
+    let mut output = ScriptedWriter::of(reply, line, "/writes", unflushed);
+    let mut errors = ScriptedWriter::of(reply, line, "/tells", false);
+    let status = yaml_main(rt, words.as_slice(), &mut input, &mut output, &mut errors);
+    reply.field("status", Part::Count(u64::from(status)));
+    put_text(reply, line, "output", output.received.as_slice(), false);
+    put_text(reply, line, "errors", errors.received.as_slice(), true);
 }

@@ -58,17 +58,13 @@ fn replay_call(rt: &HostRuntime, tally: &mut Tally, line: &Value, call: &str) {
     }
 }
 
-fn replay_value(rt: &HostRuntime, tally: &mut Tally, line: &Value) {
-    match line.get("call") {
-        Some(Value::String(call)) => replay_call(rt, tally, line, call.as_str()),
-        _ => tally.tell(rt, "", NO_FIELD, "call"),
-    }
-}
-
 /// Makes the call that the line names, and compares.
 pub fn replay(rt: &HostRuntime, tally: &mut Tally, line: &str) {
     match Value::from_str(rt.alloc(), line) {
-        Ok(line) => replay_value(rt, tally, &line),
+        Ok(line) => match line.get("call") {
+            Some(Value::String(call)) => replay_call(rt, tally, &line, call.as_str()),
+            _ => tally.tell(rt, "", NO_FIELD, "call"),
+        },
         Err(error) => tally.tell(rt, "", json_error(&error), ""),
     }
 }

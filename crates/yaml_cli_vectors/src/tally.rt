@@ -11,14 +11,6 @@ pub struct Tally {
 }
 
 impl Tally {
-    /// Before the first line.
-    pub fn new() -> Tally {
-        Tally {
-            passed: 0,
-            failed: 0,
-        }
-    }
-
     /// Counts a line that failed, and shows it where it is one of the first: the call where it answered something else, what is
     /// wrong, and of what.
     pub fn tell(&mut self, rt: &HostRuntime, call: &str, what: &str, of: &str) {

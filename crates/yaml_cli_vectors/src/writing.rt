@@ -10,4 +10,3 @@ mod flushed;
 mod pieces;
 
 pub use asked::{Given, emit_line};
-pub use emit_kept::emit_kept;

@@ -1,50 +1,43 @@
 //! Documents, as the lines write them.
 
 use crate::lines::event::{put_numbers, show_directives, show_version};
-use crate::lines::words::{MAPPINGS, SCALARS, SEQUENCES, word_of};
+use crate::lines::words::{MAPPINGS, NODES, SCALARS, SEQUENCES, word_of};
 use crate::lines::{Part, Reply};
 use yaml_parse::{yaml_document_get_node, yaml_document_t, yaml_node_body_t, yaml_node_t};
 
-// The words of the node's kind and style.
-fn words(node: &yaml_node_t) -> (&'static str, &'static str) {
-    match &node.body {
-        yaml_node_body_t::No => ("no", "any"),
-        yaml_node_body_t::Scalar { style, .. } => ("scalar", word_of(&SCALARS, *style)),
-        yaml_node_body_t::Sequence { style, .. } => ("sequence", word_of(&SEQUENCES, *style)),
-        yaml_node_body_t::Mapping { style, .. } => ("mapping", word_of(&MAPPINGS, *style)),
-    }
-}
-
-// The value, the items or the pairs of the node.
+// The value, the items or the pairs of the node, and its style.
 fn put_held(reply: &mut Reply, node: &yaml_node_t) {
     match &node.body {
         yaml_node_body_t::No => reply.put(Part::Null),
-        yaml_node_body_t::Scalar { value, .. } => reply.put_bytes(value.as_slice()),
-        yaml_node_body_t::Sequence { items, .. } => {
+        yaml_node_body_t::Scalar { value, style, .. } => {
+            reply.put_bytes(value.as_slice());
+            reply.put_word(word_of(&SCALARS, *style))
+        }
+        yaml_node_body_t::Sequence { items, style, .. } => {
             reply.put(Part::List);
             for item in items.as_slice() {
                 reply.put(Part::Number(*item));
             }
             reply.put(Part::EndList);
+            reply.put_word(word_of(&SEQUENCES, *style))
         }
-        yaml_node_body_t::Mapping { pairs, .. } => {
+        yaml_node_body_t::Mapping { pairs, style, .. } => {
             reply.put(Part::List);
             for pair in pairs.as_slice() {
                 put_numbers(reply, pair.key, pair.value);
             }
             reply.put(Part::EndList);
+            reply.put_word(word_of(&MAPPINGS, *style))
         }
     }
 }
 
 // A node: kind, tag, value or items or pairs, style, start mark, end mark.
 fn put_node(reply: &mut Reply, node: &yaml_node_t) {
-    let (kind, style) = words(node);
     reply.put(Part::List);
-    reply.put_word(kind);
+    reply.put_word(word_of(&NODES, node.type_()));
     reply.put_bytes(node.tag.as_slice());
     put_held(reply, node);
-    reply.put_word(style);
     reply.put(Part::Mark(node.start_mark));
     reply.put(Part::Mark(node.end_mark));
     reply.put(Part::EndList);

@@ -27,23 +27,18 @@ pub fn version(reply: &mut Reply, value: Option<&Value>) -> Option<yaml_version_
     }
 }
 
-fn directive(reply: &mut Reply, directive: &Value, is_hex: bool) -> yaml_tag_directive_t {
-    let handle = if is_hex {
-        reply.bytes(directive, "/0")
-    } else {
-        let handle = reply.text(directive, "/0");
-        reply.copy(handle.as_bytes())
-    };
-    let prefix = reply.bytes(directive, "/1");
-    yaml_tag_directive_t { handle, prefix }
-}
-
 /// Directives: of each the handle, in hexadecimal digits or as it is, and the prefix in hexadecimal digits.
 pub fn directives(reply: &mut Reply, listed: &[Value], is_hex: bool) -> Vec<yaml_tag_directive_t> {
     let mut directives = Vec::new(reply.alloc);
     for listed in listed {
-        let directive = directive(reply, listed, is_hex);
-        reply.push(&mut directives, directive);
+        let handle = if is_hex {
+            reply.bytes(listed, "/0")
+        } else {
+            let handle = reply.text(listed, "/0");
+            reply.copy(handle.as_bytes())
+        };
+        let prefix = reply.bytes(listed, "/1");
+        reply.push(&mut directives, yaml_tag_directive_t { handle, prefix });
     }
     directives
 }
@@ -57,11 +52,6 @@ fn document_start(reply: &mut Reply, event: &Value) -> Made {
     let listed = reply.list(event, "/3");
     let directives = directives(reply, listed, true);
     yaml_document_start_event_initialize(reply.alloc, version, directives.as_slice(), implicit)
-}
-
-fn alias(reply: &mut Reply, event: &Value) -> Made {
-    let anchor = reply.bytes(event, "/5");
-    yaml_alias_event_initialize(reply.alloc, anchor.as_slice())
 }
 
 fn scalar(reply: &mut Reply, event: &Value) -> Made {
@@ -123,7 +113,10 @@ const KINDS: [(&'static str, yaml_event_type_t); 10] = [
 pub fn event_of(reply: &mut Reply, event: &Value) -> Made {
     match reply.choice(event, "/0", &KINDS, yaml_event_type_t::YAML_NO_EVENT) {
         yaml_event_type_t::YAML_DOCUMENT_START_EVENT => document_start(reply, event),
-        yaml_event_type_t::YAML_ALIAS_EVENT => alias(reply, event),
+        yaml_event_type_t::YAML_ALIAS_EVENT => {
+            let anchor = reply.bytes(event, "/5");
+            yaml_alias_event_initialize(reply.alloc, anchor.as_slice())
+        }
         yaml_event_type_t::YAML_SCALAR_EVENT => scalar(reply, event),
         yaml_event_type_t::YAML_SEQUENCE_START_EVENT => collection_start(reply, event, true),
         yaml_event_type_t::YAML_MAPPING_START_EVENT => collection_start(reply, event, false),

@@ -3,7 +3,7 @@
 ghost use Rattle.std.specs.Prelude.{IsTrue, IsSome};
 ghost use Rattle.yaml_parse.specs.Documents.{node_at, IsSequenceAt, IsMappingAt};
 
-use crate::lines::words::{MAPPINGS, SCALARS, SEQUENCES};
+use crate::lines::words::{MAPPINGS, NODES, SCALARS, SEQUENCES};
 use crate::lines::{Reply, given};
 use serde_json::Value;
 use yaml_parse::{
@@ -31,35 +31,11 @@ fn empty_document(reply: &mut Reply, line: &Value) -> Result<yaml_document_t, ya
     )
 }
 
-// What adding a node answers: its number, or that a text was refused.
-type Added = Result<i32, yaml_text_fault_t>;
-
-fn add_scalar(
-    document: &mut yaml_document_t,
-    reply: &mut Reply,
-    tag: Option<&[u8]>,
-    node: &Value,
-) -> Added {
-    let any = yaml_scalar_style_t::YAML_ANY_SCALAR_STYLE;
-    let style = reply.choice(node, "/3", &SCALARS, any);
-    let value = reply.bytes(node, "/2");
-    yaml_document_add_scalar(document, tag, value.as_slice(), style)
-}
-
-const KINDS: [(&'static str, yaml_node_type_t); 3] = [
-    ("scalar", yaml_node_type_t::YAML_SCALAR_NODE),
-    ("sequence", yaml_node_type_t::YAML_SEQUENCE_NODE),
-    ("mapping", yaml_node_type_t::YAML_MAPPING_NODE),
-];
-
-// Adds a node with that tag, if any; a collection without what it holds.
-fn add(
-    document: &mut yaml_document_t,
-    reply: &mut Reply,
-    tag: Option<&[u8]>,
-    node: &Value,
-) -> Added {
-    match reply.choice(node, "/0", &KINDS, yaml_node_type_t::YAML_NO_NODE) {
+// Adds a node, a collection without what it holds.
+fn add_node(document: &mut yaml_document_t, reply: &mut Reply, node: &Value) {
+    let tag = reply.optional_bytes(node, "/1");
+    let tag = tag.as_deref();
+    let added = match reply.choice(node, "/0", &NODES, yaml_node_type_t::YAML_NO_NODE) {
         yaml_node_type_t::YAML_SEQUENCE_NODE => {
             let any = yaml_sequence_style_t::YAML_ANY_SEQUENCE_STYLE;
             let style = reply.choice(node, "/3", &SEQUENCES, any);
@@ -70,14 +46,14 @@ fn add(
             let style = reply.choice(node, "/3", &MAPPINGS, any);
             yaml_document_add_mapping(document, tag, style)
         }
-        _ => add_scalar(document, reply, tag, node),
-    }
-}
-
-// The same with the tag that the node has, which may be null.
-fn add_node(document: &mut yaml_document_t, reply: &mut Reply, node: &Value) {
-    let tag = reply.optional_bytes(node, "/1");
-    match add(document, reply, tag.as_deref(), node) {
+        _ => {
+            let any = yaml_scalar_style_t::YAML_ANY_SCALAR_STYLE;
+            let style = reply.choice(node, "/3", &SCALARS, any);
+            let value = reply.bytes(node, "/2");
+            yaml_document_add_scalar(document, tag, value.as_slice(), style)
+        }
+    };
+    match added {
         Ok(_) => {}
         Err(fault) => reply.refuse_text(fault),
     }

@@ -36,24 +36,21 @@ fn write_mark(writer: &mut Writer, mark: yaml_mark_t) -> Result<(), AllocError> 
     begun.and(index).and(line).and(column).and(ended)
 }
 
-fn write_part(writer: &mut Writer, part: Part) -> Result<(), AllocError> {
-    match part {
-        Part::List => writer.begin_array(),
-        Part::EndList => writer.end_array(),
-        Part::Object => writer.begin_object(),
-        Part::EndObject => writer.end_object(),
-        Part::Count(number) => writer.u64(number),
-        Part::Number(number) => writer.i64(i64::from(number)),
-        Part::Flag(flag) => writer.boolean(flag),
-        Part::Null => writer.null(),
-        Part::Mark(mark) => write_mark(writer, mark),
-    }
-}
-
 impl Reply {
     /// Puts the part.
     pub fn put(&mut self, part: Part) {
-        let done = write_part(&mut self.writer, part);
+        let writer = &mut self.writer;
+        let done = match part {
+            Part::List => writer.begin_array(),
+            Part::EndList => writer.end_array(),
+            Part::Object => writer.begin_object(),
+            Part::EndObject => writer.end_object(),
+            Part::Count(number) => writer.u64(number),
+            Part::Number(number) => writer.i64(i64::from(number)),
+            Part::Flag(flag) => writer.boolean(flag),
+            Part::Null => writer.null(),
+            Part::Mark(mark) => write_mark(writer, mark),
+        };
         self.room(done);
     }
 

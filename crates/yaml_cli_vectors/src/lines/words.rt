@@ -3,8 +3,8 @@
 use crate::lines::Reply;
 use serde_json::Value;
 use yaml_scan::{
-    yaml_break_t, yaml_encoding_t, yaml_error_type_t, yaml_mapping_style_t, yaml_origin_t,
-    yaml_scalar_style_t, yaml_sequence_style_t,
+    yaml_break_t, yaml_encoding_t, yaml_error_type_t, yaml_mapping_style_t, yaml_node_type_t,
+    yaml_origin_t, yaml_scalar_style_t, yaml_sequence_style_t,
 };
 
 /// Encodings.
@@ -21,6 +21,13 @@ pub const BREAKS: [(&'static str, yaml_break_t); 4] = [
     ("cr", yaml_break_t::YAML_CR_BREAK),
     ("lf", yaml_break_t::YAML_LN_BREAK),
     ("crlf", yaml_break_t::YAML_CRLN_BREAK),
+];
+
+/// Kinds of nodes.
+pub const NODES: [(&'static str, yaml_node_type_t); 3] = [
+    ("scalar", yaml_node_type_t::YAML_SCALAR_NODE),
+    ("sequence", yaml_node_type_t::YAML_SEQUENCE_NODE),
+    ("mapping", yaml_node_type_t::YAML_MAPPING_NODE),
 ];
 
 /// Styles of scalars.
@@ -74,15 +81,6 @@ pub fn word_of<T: Copy + PartialEq>(rows: &[(&'static str, T)], value: T) -> &'s
     ""
 }
 
-fn value_of<T: Copy>(rows: &[(&'static str, T)], word: &str) -> Option<T> {
-    for row in rows {
-        if row.0 == word {
-            return Some(row.1);
-        }
-    }
-    None
-}
-
 impl Reply {
     /// What the rows have for the word there.
     pub fn choice<T: Copy>(
@@ -93,6 +91,12 @@ impl Reply {
         otherwise: T,
     ) -> T {
         let word = self.text(of, path);
-        self.take(value_of(rows, word), path, otherwise)
+        for row in rows {
+            if row.0 == word {
+                return row.1;
+            }
+        }
+        self.miss(path);
+        otherwise
     }
 }

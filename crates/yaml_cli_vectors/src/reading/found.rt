@@ -29,17 +29,8 @@ pub fn put_token(
     }
 }
 
-// Puts the fault, by which the whole line is refused where all events are asked for.
-fn put_refusal(reply: &mut Reply, line: &Value, is_all: bool, fault: &yaml_fault_t) -> bool {
-    if is_all {
-        reply.fault(*fault);
-        return false;
-    }
-    reply.put_refused(line, false, fault)
-}
-
-/// Puts the event, unless all are asked for and it is the empty one behind the last, or they are kept; or the fault. The event is
-/// kept anyway: to let go each by itself is dearer to prove.
+/// Puts the event, unless all are asked for and it is the empty one behind the last, or they are kept; or the fault, by which the
+/// whole line is refused where all are asked for. The event is kept anyway: to let go each by itself is dearer to prove.
 pub fn put_event(
     reply: &mut Reply,
     line: &Value,
@@ -57,7 +48,11 @@ pub fn put_event(
             reply.push(kept, event);
             goes_on
         }
-        Err(fault) => put_refusal(reply, line, !is_one, &fault),
+        Err(fault) if is_one => reply.put_refused(line, false, &fault),
+        Err(fault) => {
+            reply.fault(fault);
+            false
+        }
     }
 }
 

@@ -54,8 +54,9 @@ fn put_turn<S: yaml_token_source_t>(
         Turn::Parse | Turn::Events | Turn::Kept => {
             return put_event(reply, line, turn, yaml_parser_parse(parser), kept);
         }
-        Turn::Documents => return put_loaded(reply, line, true, parser),
-        Turn::Load => return put_loaded(reply, line, false, parser),
+        Turn::Documents | Turn::Load => {
+            return put_loaded(reply, line, matches!(turn, Turn::Documents), parser);
+        }
         Turn::Prefix => return put_prefix(reply, line, yaml_parser_prefix(parser)),
         Turn::Into => put_into(reply, line, parser, kept),
         Turn::Between => reply.put(Part::Flag(yaml_parser_between(parser))),
@@ -63,21 +64,6 @@ fn put_turn<S: yaml_token_source_t>(
         _ => reply.miss("calls"),
     }
     true
-}
-
-fn put_turns<S: yaml_token_source_t>(
-    reply: &mut Reply,
-    line: &Value,
-    asked: Turn,
-    parser: &mut yaml_parser_t<S>,
-    kept: &mut Vec<yaml_event_t>,
-) {
-    for number in 0..u64::MAX {
-        let turn = turn_at(reply, line, asked, number);
-        if !put_turn(reply, line, turn, parser, kept) {
-            break;
-        }
-    }
 }
 
 /// What a parser of the source's tokens answers; its events are kept. One function owns the parser of all that is asked of one,
@@ -91,7 +77,12 @@ pub fn parse<S: yaml_token_source_t>(
 ) {
     match yaml_parser_initialize(reply.alloc, source) {
         Ok(mut parser) => {
-            put_turns(reply, line, asked, &mut parser, kept);
+            for number in 0..u64::MAX {
+                let turn = turn_at(reply, line, asked, number);
+                if !put_turn(reply, line, turn, &mut parser, kept) {
+                    break;
+                }
+            }
             yaml_parser_delete(parser);
         }
         Err(fault) => reply.fault(fault),

@@ -4,7 +4,7 @@ use super::parser::parse;
 use super::turn::Turn;
 use crate::input::Input;
 use crate::lines::{Part, Reply, own_fault, read_token};
-use crate::writing::emit_kept;
+use crate::writing::{Given, emit_line};
 use serde_json::Value;
 use yaml_parse::yaml_event_t;
 use yaml_parse_list::{yaml_token_list_t, yaml_token_utf8};
@@ -16,7 +16,7 @@ pub fn parse_input(reply: &mut Reply, line: &Value, asked: Turn, input: &Input<'
     let source = yaml_adapter_t::new(reply.alloc, input.text, input.from);
     if matches!(asked, Turn::Kept) && line.get("settings").is_some() {
         parse(reply, line, asked, source, &mut kept);
-        emit_kept(reply, line, kept.as_mut_slice());
+        emit_line(reply, line, Given::Kept, kept.as_mut_slice());
         return;
     }
     reply.field("answer", Part::List);
@@ -24,21 +24,16 @@ pub fn parse_input(reply: &mut Reply, line: &Value, asked: Turn, input: &Input<'
     reply.put(Part::EndList);
 }
 
-// Adds the token that the line lists so, whose texts are to be UTF-8.
-fn add(reply: &mut Reply, listed: &Value, list: &mut yaml_token_list_t) {
-    let token = read_token(reply, listed);
-    if !yaml_token_utf8(&token) {
-        reply.miss("tokens");
-        return;
-    }
-    reply.room(list.push(token));
-}
-
-// Ends the list with the line's own fault where it has one.
+// The tokens that the line lists, whose texts are to be UTF-8, and behind them its own fault where it has one.
 fn list_of(reply: &mut Reply, line: &Value) -> yaml_token_list_t {
     let mut list = yaml_token_list_t::new(reply.alloc);
     for listed in reply.list(line, "/tokens") {
-        add(reply, listed, &mut list);
+        let token = read_token(reply, listed);
+        if yaml_token_utf8(&token) {
+            reply.room(list.push(token));
+        } else {
+            reply.miss("tokens");
+        }
     }
     match line.get("own") {
         Some(own) if own.is_object() => list.end(own_fault(reply, own)),

@@ -32,8 +32,10 @@ fn put_skipped(reply: &mut Reply, session: &mut yaml_parser_t<'_>) {
 // Whether there may be more behind the call.
 fn put_turn(reply: &mut Reply, line: &Value, turn: Turn, session: &mut yaml_parser_t<'_>) -> bool {
     match turn {
-        Turn::Scan => return put_token(reply, line, false, yaml_parser_scan(session)),
-        Turn::Tokens => return put_token(reply, line, true, yaml_parser_scan(session)),
+        Turn::Scan | Turn::Tokens => {
+            let is_all = matches!(turn, Turn::Tokens);
+            return put_token(reply, line, is_all, yaml_parser_scan(session));
+        }
         Turn::Peek => put_lent(reply, line, session),
         Turn::Skip => put_skipped(reply, session),
         Turn::Has => reply.put(Part::Flag(yaml_parser_has_token(session))),

@@ -1,5 +1,5 @@
 -- Nodes: what contents owe is what nodes and states owe.
-use Rattle.std.proofs.Common.{◌≡◌, ◌∙◌, ◌++◌, ◌∷◌, [], List, ℕ, Bool, true, false, if◌then◌else◌, ◌||◌, None, Some, refl, sym, ap, subst}
+use Rattle.std.proofs.Common.{◌≡◌, ◌⊎◌, inl, inr, ◌∙◌, ◌++◌, ◌∷◌, [], List, ℕ, Bool, true, false, if◌then◌else◌, ◌||◌, None, Some, refl, sym, ap, subst}
 use Rattle.std.proofs.lemmas.Bool.{false≢true}
 use Rattle.std.proofs.lemmas.List.{append_assoc}
 use Rattle.yaml_parse_model.specs.declared.yaml_mark_t.{yaml_mark_t}
@@ -25,7 +25,7 @@ use Rattle.yaml_parse_grammar.specs.declared.name.Choice.TheVariants.{Refuse, Ta
 use Rattle.yaml_parse_core.specs.Seen.{Seen}
 use Rattle.yaml_parse_core.specs.Seen as turn
 use Rattle.yaml_parse_core.specs.declared.told.Shape.{Shape}
-use Rattle.yaml_parse_core.specs.Views.{Around, await_of, is_begun, token_at, named_item, implied_item}
+use Rattle.yaml_parse_core.specs.Views.{Around, await_of, is_begun, site_of, token_at, named_item, implied_item}
 use Rattle.yaml_parse_core.specs.Turns.{Contents, Nodes, Turns, TurnsOn, Takes, LeavesOut, context_if}
 
 -- the kind isn't that of a property or an alias
@@ -37,28 +37,10 @@ IsBare k = Unit {0}
 
 pub is_bare : (k : yaml_token_type_t) → (k ≡ kind.YAML_ALIAS_TOKEN → ⊥)
     → (k ≡ kind.YAML_ANCHOR_TOKEN → ⊥) → (k ≡ kind.YAML_TAG_TOKEN → ⊥) → IsBare k
-is_bare kind.YAML_NO_TOKEN a b c = tt
-is_bare kind.YAML_STREAM_START_TOKEN a b c = tt
-is_bare kind.YAML_STREAM_END_TOKEN a b c = tt
-is_bare kind.YAML_VERSION_DIRECTIVE_TOKEN a b c = tt
-is_bare kind.YAML_TAG_DIRECTIVE_TOKEN a b c = tt
-is_bare kind.YAML_DOCUMENT_START_TOKEN a b c = tt
-is_bare kind.YAML_DOCUMENT_END_TOKEN a b c = tt
-is_bare kind.YAML_BLOCK_SEQUENCE_START_TOKEN a b c = tt
-is_bare kind.YAML_BLOCK_MAPPING_START_TOKEN a b c = tt
-is_bare kind.YAML_BLOCK_END_TOKEN a b c = tt
-is_bare kind.YAML_FLOW_SEQUENCE_START_TOKEN a b c = tt
-is_bare kind.YAML_FLOW_SEQUENCE_END_TOKEN a b c = tt
-is_bare kind.YAML_FLOW_MAPPING_START_TOKEN a b c = tt
-is_bare kind.YAML_FLOW_MAPPING_END_TOKEN a b c = tt
-is_bare kind.YAML_BLOCK_ENTRY_TOKEN a b c = tt
-is_bare kind.YAML_FLOW_ENTRY_TOKEN a b c = tt
-is_bare kind.YAML_KEY_TOKEN a b c = tt
-is_bare kind.YAML_VALUE_TOKEN a b c = tt
 is_bare kind.YAML_ALIAS_TOKEN a b c = a refl
 is_bare kind.YAML_ANCHOR_TOKEN a b c = b refl
 is_bare kind.YAML_TAG_TOKEN a b c = c refl
-is_bare kind.YAML_SCALAR_TOKEN a b c = tt
+is_bare k a b c = tt
 
 abbrev bare : yaml_mark_t → yaml_mark_t → Properties
 bare from to = record { anchor = None; tag = None; from = from; to = to }
@@ -66,57 +48,22 @@ bare from to = record { anchor = None; tag = None; from = from; to = to }
 -- behind no properties a content is a node
 same_start : (w : Wants) (k : yaml_token_type_t) (x y : List ℕ) (st : Extra) → IsBare k
     → starts_node w (type_of (body_by k x y st)) ≡ starts_content w (type_of (body_by k x y st))
-same_start w kind.YAML_NO_TOKEN x y st h = refl
-same_start w kind.YAML_STREAM_START_TOKEN x y st h = refl
-same_start w kind.YAML_STREAM_END_TOKEN x y st h = refl
-same_start w kind.YAML_VERSION_DIRECTIVE_TOKEN x y st h = refl
-same_start w kind.YAML_TAG_DIRECTIVE_TOKEN x y st h = refl
-same_start w kind.YAML_DOCUMENT_START_TOKEN x y st h = refl
-same_start w kind.YAML_DOCUMENT_END_TOKEN x y st h = refl
-same_start w kind.YAML_BLOCK_SEQUENCE_START_TOKEN x y st h = refl
-same_start w kind.YAML_BLOCK_MAPPING_START_TOKEN x y st h = refl
-same_start w kind.YAML_BLOCK_END_TOKEN x y st h = refl
-same_start w kind.YAML_FLOW_SEQUENCE_START_TOKEN x y st h = refl
-same_start w kind.YAML_FLOW_SEQUENCE_END_TOKEN x y st h = refl
-same_start w kind.YAML_FLOW_MAPPING_START_TOKEN x y st h = refl
-same_start w kind.YAML_FLOW_MAPPING_END_TOKEN x y st h = refl
-same_start w kind.YAML_BLOCK_ENTRY_TOKEN x y st h = refl
-same_start w kind.YAML_FLOW_ENTRY_TOKEN x y st h = refl
-same_start w kind.YAML_KEY_TOKEN x y st h = refl
-same_start w kind.YAML_VALUE_TOKEN x y st h = refl
 same_start w kind.YAML_ALIAS_TOKEN x y st h = absurd h
 same_start w kind.YAML_ANCHOR_TOKEN x y st h = absurd h
 same_start w kind.YAML_TAG_TOKEN x y st h = absurd h
-same_start w kind.YAML_SCALAR_TOKEN x y st h = refl
+same_start w k x y st h = refl
 
 same_taken : (w : Wants) (k : yaml_token_type_t) (x y : List ℕ) (st : Extra)
     (from to z : yaml_mark_t) → IsBare k
     → content_taken w (Some (bare from z)) from to (body_by k x y st)
     ≡ node_taken w from to (body_by k x y st)
-same_taken w kind.YAML_NO_TOKEN x y st from to z h = refl
-same_taken w kind.YAML_STREAM_START_TOKEN x y st from to z h = refl
-same_taken w kind.YAML_STREAM_END_TOKEN x y st from to z h = refl
-same_taken w kind.YAML_VERSION_DIRECTIVE_TOKEN x y st from to z h = refl
-same_taken w kind.YAML_TAG_DIRECTIVE_TOKEN x y st from to z h = refl
-same_taken w kind.YAML_DOCUMENT_START_TOKEN x y st from to z h = refl
-same_taken w kind.YAML_DOCUMENT_END_TOKEN x y st from to z h = refl
-same_taken w kind.YAML_BLOCK_SEQUENCE_START_TOKEN x y st from to z h = refl
-same_taken w kind.YAML_BLOCK_MAPPING_START_TOKEN x y st from to z h = refl
-same_taken w kind.YAML_BLOCK_END_TOKEN x y st from to z h = refl
-same_taken w kind.YAML_FLOW_SEQUENCE_START_TOKEN x y st from to z h = refl
-same_taken w kind.YAML_FLOW_SEQUENCE_END_TOKEN x y st from to z h = refl
-same_taken w kind.YAML_FLOW_MAPPING_START_TOKEN x y st from to z h = refl
-same_taken w kind.YAML_FLOW_MAPPING_END_TOKEN x y st from to z h = refl
 same_taken Flow kind.YAML_BLOCK_ENTRY_TOKEN x y st from to z h = refl
 same_taken (Block None) kind.YAML_BLOCK_ENTRY_TOKEN x y st from to z h = refl
 same_taken (Block (Some s)) kind.YAML_BLOCK_ENTRY_TOKEN x y st from to z h = refl
-same_taken w kind.YAML_FLOW_ENTRY_TOKEN x y st from to z h = refl
-same_taken w kind.YAML_KEY_TOKEN x y st from to z h = refl
-same_taken w kind.YAML_VALUE_TOKEN x y st from to z h = refl
 same_taken w kind.YAML_ALIAS_TOKEN x y st from to z h = absurd h
 same_taken w kind.YAML_ANCHOR_TOKEN x y st from to z h = absurd h
 same_taken w kind.YAML_TAG_TOKEN x y st from to z h = absurd h
-same_taken w kind.YAML_SCALAR_TOKEN x y st from to z h = refl
+same_taken w k x y st from to z h = refl
 
 pub bare_node : (w : Wants) (k : yaml_token_type_t) (x y : List ℕ) (st : Extra)
     (from to : yaml_mark_t) (s : List State) (new : Properties → List State) (r : Seen) (a : Around)
@@ -141,28 +88,9 @@ same_behind : (w : Wants) (k : yaml_token_type_t) (x y : List ℕ) (st : Extra)
     → (k ≡ kind.YAML_TAG_TOKEN → ⊥)
     → content_taken w (Some p) from to (body_by k x y st)
     ≡ with_properties_taken w p from to (body_by k x y st)
-same_behind w kind.YAML_NO_TOKEN x y st from to p a b = refl
-same_behind w kind.YAML_STREAM_START_TOKEN x y st from to p a b = refl
-same_behind w kind.YAML_STREAM_END_TOKEN x y st from to p a b = refl
-same_behind w kind.YAML_VERSION_DIRECTIVE_TOKEN x y st from to p a b = refl
-same_behind w kind.YAML_TAG_DIRECTIVE_TOKEN x y st from to p a b = refl
-same_behind w kind.YAML_DOCUMENT_START_TOKEN x y st from to p a b = refl
-same_behind w kind.YAML_DOCUMENT_END_TOKEN x y st from to p a b = refl
-same_behind w kind.YAML_BLOCK_SEQUENCE_START_TOKEN x y st from to p a b = refl
-same_behind w kind.YAML_BLOCK_MAPPING_START_TOKEN x y st from to p a b = refl
-same_behind w kind.YAML_BLOCK_END_TOKEN x y st from to p a b = refl
-same_behind w kind.YAML_FLOW_SEQUENCE_START_TOKEN x y st from to p a b = refl
-same_behind w kind.YAML_FLOW_SEQUENCE_END_TOKEN x y st from to p a b = refl
-same_behind w kind.YAML_FLOW_MAPPING_START_TOKEN x y st from to p a b = refl
-same_behind w kind.YAML_FLOW_MAPPING_END_TOKEN x y st from to p a b = refl
-same_behind w kind.YAML_BLOCK_ENTRY_TOKEN x y st from to p a b = refl
-same_behind w kind.YAML_FLOW_ENTRY_TOKEN x y st from to p a b = refl
-same_behind w kind.YAML_KEY_TOKEN x y st from to p a b = refl
-same_behind w kind.YAML_VALUE_TOKEN x y st from to p a b = refl
-same_behind w kind.YAML_ALIAS_TOKEN x y st from to p a b = refl
 same_behind w kind.YAML_ANCHOR_TOKEN x y st from to p a b = absurd (a refl)
 same_behind w kind.YAML_TAG_TOKEN x y st from to p a b = absurd (b refl)
-same_behind w kind.YAML_SCALAR_TOKEN x y st from to p a b = refl
+same_behind w k x y st from to p a b = refl
 
 takes_if : (b : Bool) → (if b || true then Take else Leave) ≡ Take
 takes_if true = refl
@@ -194,27 +122,7 @@ optional_chooses p b k n f e = ap (λ z. chosen_at z (starts_node (wants_of p) k
 
 pub type_is : (k : yaml_token_type_t) (x y : List ℕ) (st : Extra) → type_of (body_by k x y st) ≡ k
 type_is kind.YAML_NO_TOKEN x y st = refl
-type_is kind.YAML_STREAM_START_TOKEN x y st = refl
-type_is kind.YAML_STREAM_END_TOKEN x y st = refl
-type_is kind.YAML_VERSION_DIRECTIVE_TOKEN x y st = refl
-type_is kind.YAML_TAG_DIRECTIVE_TOKEN x y st = refl
-type_is kind.YAML_DOCUMENT_START_TOKEN x y st = refl
-type_is kind.YAML_DOCUMENT_END_TOKEN x y st = refl
-type_is kind.YAML_BLOCK_SEQUENCE_START_TOKEN x y st = refl
-type_is kind.YAML_BLOCK_MAPPING_START_TOKEN x y st = refl
-type_is kind.YAML_BLOCK_END_TOKEN x y st = refl
-type_is kind.YAML_FLOW_SEQUENCE_START_TOKEN x y st = refl
-type_is kind.YAML_FLOW_SEQUENCE_END_TOKEN x y st = refl
-type_is kind.YAML_FLOW_MAPPING_START_TOKEN x y st = refl
-type_is kind.YAML_FLOW_MAPPING_END_TOKEN x y st = refl
-type_is kind.YAML_BLOCK_ENTRY_TOKEN x y st = refl
-type_is kind.YAML_FLOW_ENTRY_TOKEN x y st = refl
-type_is kind.YAML_KEY_TOKEN x y st = refl
-type_is kind.YAML_VALUE_TOKEN x y st = refl
-type_is kind.YAML_ALIAS_TOKEN x y st = refl
-type_is kind.YAML_ANCHOR_TOKEN x y st = refl
-type_is kind.YAML_TAG_TOKEN x y st = refl
-type_is kind.YAML_SCALAR_TOKEN x y st = refl
+type_is k x y st = refl
 
 optional_at : (p : Site) (b : yaml_mark_t) (t : Token) (s : List State)
     (new : Properties → List State) (r : Seen) (a : Around) → follows p (type_of t.body) ≡ false
@@ -307,69 +215,86 @@ pub items_node : (b : Brackets) (o : yaml_mark_t) (k : yaml_token_type_t) (x y :
 items_node b o k x y st from to s new r a e c h =
     items_at b o k x y st from to s new r a (λ n i. items_choose b o (type_of (body_by k x y st)) n (λ z. e (sym (type_is k x y st) ∙ z)) (ap (closes b) (type_is k x y st) ∙ none_closes b k c) i) h
 
--- ---- a content that may stand anywhere
+-- ---- a node that may stand anywhere
 
-abbrev pub begins_content : yaml_token_type_t → Bool
-begins_content kind.YAML_SCALAR_TOKEN = true
-begins_content kind.YAML_FLOW_SEQUENCE_START_TOKEN = true
-begins_content kind.YAML_FLOW_MAPPING_START_TOKEN = true
-begins_content k = false
+abbrev pub begins_node : yaml_token_type_t → Bool
+begins_node kind.YAML_SCALAR_TOKEN = true
+begins_node kind.YAML_FLOW_SEQUENCE_START_TOKEN = true
+begins_node kind.YAML_FLOW_MAPPING_START_TOKEN = true
+begins_node kind.YAML_ALIAS_TOKEN = true
+begins_node kind.YAML_ANCHOR_TOKEN = true
+begins_node kind.YAML_TAG_TOKEN = true
+begins_node k = false
 
-bare_anywhere : (k : yaml_token_type_t) → begins_content k ≡ true → IsBare k
-bare_anywhere kind.YAML_SCALAR_TOKEN h = tt
-bare_anywhere kind.YAML_FLOW_SEQUENCE_START_TOKEN h = tt
-bare_anywhere kind.YAML_FLOW_MAPPING_START_TOKEN h = tt
-bare_anywhere k h = absurd (false≢true h)
+pub names_node : (k : yaml_token_type_t)
+    → (k ≡ kind.YAML_ALIAS_TOKEN) ⊎ ((k ≡ kind.YAML_ANCHOR_TOKEN) ⊎ (k ≡ kind.YAML_TAG_TOKEN))
+    → begins_node k ≡ true
+names_node k (inl e) = ap begins_node e
+names_node k (inr (inl e)) = ap begins_node e
+names_node k (inr (inr e)) = ap begins_node e
 
 none_follows : (p : Site) (k : yaml_token_type_t) (x y : List ℕ) (st : Extra)
-    → begins_content k ≡ true → follows p (type_of (body_by k x y st)) ≡ false
-none_follows site.Root kind.YAML_SCALAR_TOKEN x y st h = refl
-none_follows site.Root kind.YAML_FLOW_SEQUENCE_START_TOKEN x y st h = refl
-none_follows site.Root kind.YAML_FLOW_MAPPING_START_TOKEN x y st h = refl
-none_follows site.Entry kind.YAML_SCALAR_TOKEN x y st h = refl
-none_follows site.Entry kind.YAML_FLOW_SEQUENCE_START_TOKEN x y st h = refl
-none_follows site.Entry kind.YAML_FLOW_MAPPING_START_TOKEN x y st h = refl
-none_follows (site.IndentlessEntry z) kind.YAML_SCALAR_TOKEN x y st h = refl
-none_follows (site.IndentlessEntry z) kind.YAML_FLOW_SEQUENCE_START_TOKEN x y st h = refl
-none_follows (site.IndentlessEntry z) kind.YAML_FLOW_MAPPING_START_TOKEN x y st h = refl
-none_follows (site.BlockPair z) kind.YAML_SCALAR_TOKEN x y st h = refl
-none_follows (site.BlockPair z) kind.YAML_FLOW_SEQUENCE_START_TOKEN x y st h = refl
-none_follows (site.BlockPair z) kind.YAML_FLOW_MAPPING_START_TOKEN x y st h = refl
-none_follows (site.FlowPair brackets.Sequence z) kind.YAML_SCALAR_TOKEN x y st h = refl
-none_follows (site.FlowPair brackets.Sequence z) kind.YAML_FLOW_SEQUENCE_START_TOKEN x y st h = refl
-none_follows (site.FlowPair brackets.Sequence z) kind.YAML_FLOW_MAPPING_START_TOKEN x y st h = refl
-none_follows (site.FlowPair brackets.Mapping z) kind.YAML_SCALAR_TOKEN x y st h = refl
-none_follows (site.FlowPair brackets.Mapping z) kind.YAML_FLOW_SEQUENCE_START_TOKEN x y st h = refl
-none_follows (site.FlowPair brackets.Mapping z) kind.YAML_FLOW_MAPPING_START_TOKEN x y st h = refl
-none_follows p k x y st h = absurd (false≢true h)
+    → begins_node k ≡ true → follows p (type_of (body_by k x y st)) ≡ false
+none_follows p kind.YAML_DOCUMENT_END_TOKEN x y st h = absurd (false≢true h)
+none_follows p kind.YAML_STREAM_END_TOKEN x y st h = absurd (false≢true h)
+none_follows p kind.YAML_VERSION_DIRECTIVE_TOKEN x y st h = absurd (false≢true h)
+none_follows p kind.YAML_TAG_DIRECTIVE_TOKEN x y st h = absurd (false≢true h)
+none_follows p kind.YAML_DOCUMENT_START_TOKEN x y st h = absurd (false≢true h)
+none_follows p kind.YAML_BLOCK_ENTRY_TOKEN x y st h = absurd (false≢true h)
+none_follows p kind.YAML_BLOCK_END_TOKEN x y st h = absurd (false≢true h)
+none_follows p kind.YAML_KEY_TOKEN x y st h = absurd (false≢true h)
+none_follows p kind.YAML_VALUE_TOKEN x y st h = absurd (false≢true h)
+none_follows p kind.YAML_FLOW_ENTRY_TOKEN x y st h = absurd (false≢true h)
+none_follows p kind.YAML_FLOW_SEQUENCE_END_TOKEN x y st h = absurd (false≢true h)
+none_follows p kind.YAML_FLOW_MAPPING_END_TOKEN x y st h = absurd (false≢true h)
+none_follows site.Root k x y st h = refl
+none_follows site.Entry k x y st h = refl
+none_follows (site.IndentlessEntry z) k x y st h = refl
+none_follows (site.BlockPair side.Key) k x y st h = refl
+none_follows (site.BlockPair side.Value) k x y st h = refl
+none_follows (site.FlowPair brackets.Sequence z) k x y st h = refl
+none_follows (site.FlowPair brackets.Mapping z) k x y st h = refl
 
-at_site : (p : Site) (b : yaml_mark_t) (k : yaml_token_type_t) (x y : List ℕ) (st : Extra)
-    (from to : yaml_mark_t) (s : List State) (new : Properties → List State) (r : Seen) (a : Around)
-    → begins_content k ≡ true
-    → ((w : Wants) → Contents w (token_at (body_by k x y st) from to) s r new)
-    → Turns (state.optional p b) (token_at (body_by k x y st) from to) s r a new
-at_site p b k x y st from to s new r a h c =
-    optional_node p b (wants_of p) (token_at (body_by k x y st) from to) s new r a (none_follows p k x y st h) refl
-    (bare_node (wants_of p) k x y st from to s new r a (bare_anywhere k h) (c (wants_of p)))
+pub awaits : (z : Await) (b : yaml_mark_t) (q : Properties) → (z ≡ await.Nothing → ⊥)
+    → (z ≡ await.Rest → ⊥) → (z ≡ await.RestOfKey → ⊥) → (z ≡ await.RestOfValue → ⊥)
+    → (z ≡ await.RestInside → ⊥) → await_of z b q ≡ state.optional (site_of z) b ∷ []
+awaits await.Nothing b q n r k v i = absurd (n refl)
+awaits await.Rest b q n r k v i = absurd (r refl)
+awaits await.RestOfKey b q n r k v i = absurd (k refl)
+awaits await.RestOfValue b q n r k v i = absurd (v refl)
+awaits await.RestInside b q n r k v i = absurd (i refl)
+awaits z b q n r k v i = refl
+
+differs : (z y : Await) → is_begun z ≡ false → is_begun y ≡ true → z ≡ y → ⊥
+differs z y e f i = false≢true (sym e ∙ ap is_begun i ∙ f)
+
+pub node_anywhere : (z : Await) (b : yaml_mark_t) (q : Properties) (w : Wants)
+    (k : yaml_token_type_t) (x y : List ℕ) (st : Extra) (from to : yaml_mark_t) (s : List State)
+    (new : Properties → List State) (r : Seen) (a : Around)
+    → is_begun z ≡ false → w ≡ wants_of (site_of z) → begins_node k ≡ true
+    → Nodes w (token_at (body_by k x y st) from to) s r a new
+    → TurnsOn (await_of z b q ++ s) (token_at (body_by k x y st) from to) r a new
+node_anywhere z b q w k x y st from to s new r a e i h n =
+    rw (awaits z b q (differs z await.Nothing e refl) (differs z await.Rest e refl) (differs z await.RestOfKey e refl) (differs z await.RestOfValue e refl) (differs z await.RestInside e refl))
+    (optional_node (site_of z) b w (token_at (body_by k x y st) from to) s new r a (none_follows (site_of z) k x y st h) i n)
 
 pub anywhere : (z : Await) (b : yaml_mark_t) (q : Properties) (k : yaml_token_type_t) (x y : List ℕ)
     (st : Extra) (from to : yaml_mark_t) (s : List State) (new : Properties → List State) (r : Seen)
     (a : Around)
-    → is_begun z ≡ false → begins_content k ≡ true
+    → is_begun z ≡ false → IsBare k → begins_node k ≡ true
     → ((w : Wants) → Contents w (token_at (body_by k x y st) from to) s r new)
     → TurnsOn (await_of z b q ++ s) (token_at (body_by k x y st) from to) r a new
-anywhere await.Root b q k x y st from to s new r a e h c = at_site site.Root b k x y st from to s new r a h c
-anywhere await.Entry b q k x y st from to s new r a e h c = at_site site.Entry b k x y st from to s new r a h c
-anywhere await.LooseKey b q k x y st from to s new r a e h c = at_site (site.IndentlessEntry side.Key) b k x y st from to s new r a h c
-anywhere await.LooseValue b q k x y st from to s new r a e h c = at_site (site.IndentlessEntry side.Value) b k x y st from to s new r a h c
-anywhere await.Key b q k x y st from to s new r a e h c = at_site (site.BlockPair side.Key) b k x y st from to s new r a h c
-anywhere await.Value b q k x y st from to s new r a e h c = at_site (site.BlockPair side.Value) b k x y st from to s new r a h c
-anywhere await.SequenceKey b q k x y st from to s new r a e h c = at_site (site.FlowPair brackets.Sequence side.Key) b k x y st from to s new r a h c
-anywhere await.SequenceValue b q k x y st from to s new r a e h c = at_site (site.FlowPair brackets.Sequence side.Value) b k x y st from to s new r a h c
-anywhere await.MappingKey b q k x y st from to s new r a e h c = at_site (site.FlowPair brackets.Mapping side.Key) b k x y st from to s new r a h c
-anywhere await.MappingValue b q k x y st from to s new r a e h c = at_site (site.FlowPair brackets.Mapping side.Value) b k x y st from to s new r a h c
-anywhere await.Nothing b q k x y st from to s new r a e h c = absurd (false≢true (sym e))
-anywhere await.Rest b q k x y st from to s new r a e h c = absurd (false≢true (sym e))
-anywhere await.RestOfKey b q k x y st from to s new r a e h c = absurd (false≢true (sym e))
-anywhere await.RestOfValue b q k x y st from to s new r a e h c = absurd (false≢true (sym e))
-anywhere await.RestInside b q k x y st from to s new r a e h c = absurd (false≢true (sym e))
+anywhere z b q k x y st from to s new r a e i h c =
+    node_anywhere z b q (wants_of (site_of z)) k x y st from to s new r a e refl h (bare_node (wants_of (site_of z)) k x y st from to s new r a i (c _))
+
+-- the rest of a node, whatever it is
+pub behind : (z : Await) (b : yaml_mark_t) (q : Properties) (t : Token) (s : List State)
+    (new : Properties → List State) (r : Seen) (a : Around) → (z ≡ await.Nothing → ⊥)
+    → is_begun z ≡ true → ((w : Wants) → Turns (state.with_properties w q) t s r a new)
+    → TurnsOn (await_of z b q ++ s) t r a new
+behind await.Nothing b q t s new r a n e h = absurd (n refl)
+behind await.Rest b q t s new r a n e h = h (Block None)
+behind await.RestOfKey b q t s new r a n e h = h (Block (Some side.Key))
+behind await.RestOfValue b q t s new r a n e h = h (Block (Some side.Value))
+behind await.RestInside b q t s new r a n e h = h Flow
+behind z b q t s new r a n e h = absurd (false≢true e)

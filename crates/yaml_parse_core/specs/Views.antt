@@ -9,6 +9,7 @@ use Rattle.yaml_parse_model.specs.Events as event
 use Rattle.yaml_parse_grammar.specs.declared.name.Wants.TheVariants.{Flow, Block}
 use Rattle.yaml_parse_grammar.specs.declared.name.Brackets.TheVariants as brackets
 use Rattle.yaml_parse_grammar.specs.declared.name.Side.TheVariants as side
+use Rattle.yaml_parse_grammar.specs.declared.name.Site.{Site}
 use Rattle.yaml_parse_grammar.specs.declared.name.Site.TheVariants as site
 use Rattle.yaml_parse_grammar.specs.Items.{RawEvent, RawEventBody, Properties, Tag, item_at}
 use Rattle.yaml_parse_grammar.specs.Items as item
@@ -58,24 +59,27 @@ level_over level.MappingColon o s = state.colon (site.FlowPair brackets.Mapping 
     ∷ state.more brackets.Mapping o ∷ s
 level_over level.MappingLone o s = state.lone ∷ state.more brackets.Mapping o ∷ s
 
+-- the place of a node of which nothing has come
+abbrev pub site_of : Await → Site
+site_of await.Entry = site.Entry
+site_of await.LooseKey = site.IndentlessEntry side.Key
+site_of await.LooseValue = site.IndentlessEntry side.Value
+site_of await.Key = site.BlockPair side.Key
+site_of await.Value = site.BlockPair side.Value
+site_of await.SequenceKey = site.FlowPair brackets.Sequence side.Key
+site_of await.SequenceValue = site.FlowPair brackets.Sequence side.Value
+site_of await.MappingKey = site.FlowPair brackets.Mapping side.Key
+site_of await.MappingValue = site.FlowPair brackets.Mapping side.Value
+site_of a = site.Root
+
 -- what is awaited: the end of the indicator before it, and the properties in the slot
 abbrev pub await_of : Await → yaml_mark_t → Properties → List State
 await_of await.Nothing b p = []
-await_of await.Root b p = state.optional site.Root b ∷ []
-await_of await.Entry b p = state.optional site.Entry b ∷ []
-await_of await.LooseKey b p = state.optional (site.IndentlessEntry side.Key) b ∷ []
-await_of await.LooseValue b p = state.optional (site.IndentlessEntry side.Value) b ∷ []
-await_of await.Key b p = state.optional (site.BlockPair side.Key) b ∷ []
-await_of await.Value b p = state.optional (site.BlockPair side.Value) b ∷ []
-await_of await.SequenceKey b p = state.optional (site.FlowPair brackets.Sequence side.Key) b ∷ []
-await_of await.SequenceValue b p = state.optional (site.FlowPair brackets.Sequence side.Value) b
-    ∷ []
-await_of await.MappingKey b p = state.optional (site.FlowPair brackets.Mapping side.Key) b ∷ []
-await_of await.MappingValue b p = state.optional (site.FlowPair brackets.Mapping side.Value) b ∷ []
 await_of await.Rest b p = state.with_properties (Block None) p ∷ []
 await_of await.RestOfKey b p = state.with_properties (Block (Some side.Key)) p ∷ []
 await_of await.RestOfValue b p = state.with_properties (Block (Some side.Value)) p ∷ []
 await_of await.RestInside b p = state.with_properties Flow p ∷ []
+await_of a b p = state.optional (site_of a) b ∷ []
 
 -- no node is awaited, or properties of it have come
 abbrev pub is_begun : Await → Bool

@@ -4,13 +4,14 @@ ghost use Rattle.std.specs.Prelude.{◌≡◌, true, ℕ, List};
 ghost use Rattle.yaml_parse_core.specs.declared.level.Await.TheVariants.{Nothing};
 ghost use Rattle.yaml_parse_core.specs.Views.{around_of, states_of, states_by, whole_of};
 ghost use Rattle.yaml_parse_core.specs.Views as views;
+ghost use Rattle.yaml_parse_grammar.specs.Machine as grammar;
 ghost use Rattle.yaml_parse_core.specs.Seen.{seen};
 ghost use Rattle.yaml_parse_core.specs.Turns.{keeps, TurnsOn};
 
 use crate::document::{at_directives, at_document, at_documents, at_first, at_stream};
 use crate::level::{Await, Level};
 use crate::machine::{Machine, Turn};
-use crate::node::{at_rest, flow_mapping, flow_sequence, scalar};
+use crate::node::{at_rest, flow_mapping, flow_sequence, node, scalar};
 use crate::part::{
     at_colon, at_entries, at_mapping_colon, at_mapping_lone, at_mapping_more, at_other_keys,
     at_other_values, at_pairs, at_sequence_colon, at_sequence_more, at_sequence_pair,
@@ -61,8 +62,41 @@ fn at_level<T: yaml_lent_token_t>(
     }
 }
 
+// The place of a node of which nothing has come.
+#[inline(always)]
+fn site_at(awaited: Await) -> Site
+    ensures { result ≡ views.site_of awaited }
+{
+    match awaited {
+        Await::Entry => Site::Entry,
+        Await::LooseKey => Site::IndentlessEntry(Side::Key),
+        Await::LooseValue => Site::IndentlessEntry(Side::Value),
+        Await::Key => Site::BlockPair(Side::Key),
+        Await::Value => Site::BlockPair(Side::Value),
+        Await::SequenceKey => Site::FlowPair(Brackets::Sequence, Side::Key),
+        Await::SequenceValue => Site::FlowPair(Brackets::Sequence, Side::Value),
+        Await::MappingKey => Site::FlowPair(Brackets::Mapping, Side::Key),
+        Await::MappingValue => Site::FlowPair(Brackets::Mapping, Side::Value),
+        _ => Site::Root,
+    }
+}
+
+// Which nodes may stand there.
+#[inline(always)]
+fn wants_at(awaited: Await) -> Wants
+    ensures { result ≡ grammar.wants_of (views.site_of awaited) }
+{
+    match awaited {
+        Await::Key => Wants::Block(Some(Side::Key)),
+        Await::Value => Wants::Block(Some(Side::Value)),
+        Await::SequenceKey | Await::SequenceValue | Await::MappingKey | Await::MappingValue => {
+            Wants::Flow
+        }
+        _ => Wants::Block(None),
+    }
+}
+
 // The topmost state at a token of that kind.
-// It is long: a row for each of what may be awaited, and nothing besides.
 // Out of line: what is met most stands in line in `turn`.
 #[inline(never)]
 fn at_kind<T: yaml_lent_token_t>(
@@ -81,52 +115,6 @@ fn at_kind<T: yaml_lent_token_t>(
 {
     match machine.awaited {
         Await::Nothing => at_level(machine, waiting, token, kind),
-        Await::Root => at_optional(machine, waiting, token, kind, Site::Root),
-        Await::Entry => at_optional(machine, waiting, token, kind, Site::Entry),
-        Await::LooseKey => at_optional(
-            machine,
-            waiting,
-            token,
-            kind,
-            Site::IndentlessEntry(Side::Key),
-        ),
-        Await::LooseValue => at_optional(
-            machine,
-            waiting,
-            token,
-            kind,
-            Site::IndentlessEntry(Side::Value),
-        ),
-        Await::Key => at_optional(machine, waiting, token, kind, Site::BlockPair(Side::Key)),
-        Await::Value => at_optional(machine, waiting, token, kind, Site::BlockPair(Side::Value)),
-        Await::SequenceKey => at_optional(
-            machine,
-            waiting,
-            token,
-            kind,
-            Site::FlowPair(Brackets::Sequence, Side::Key),
-        ),
-        Await::SequenceValue => at_optional(
-            machine,
-            waiting,
-            token,
-            kind,
-            Site::FlowPair(Brackets::Sequence, Side::Value),
-        ),
-        Await::MappingKey => at_optional(
-            machine,
-            waiting,
-            token,
-            kind,
-            Site::FlowPair(Brackets::Mapping, Side::Key),
-        ),
-        Await::MappingValue => at_optional(
-            machine,
-            waiting,
-            token,
-            kind,
-            Site::FlowPair(Brackets::Mapping, Side::Value),
-        ),
         Await::Rest => at_rest(machine, waiting, token, kind, Wants::Block(None)),
         Await::RestOfKey => at_rest(machine, waiting, token, kind, Wants::Block(Some(Side::Key))),
         Await::RestOfValue => at_rest(
@@ -137,6 +125,7 @@ fn at_kind<T: yaml_lent_token_t>(
             Wants::Block(Some(Side::Value)),
         ),
         Await::RestInside => at_rest(machine, waiting, token, kind, Wants::Flow),
+        _ => at_optional(machine, waiting, token, kind, site_at(machine.awaited)),
     }
 }
 
@@ -152,7 +141,7 @@ fn is_begun(awaited: Await) -> bool
     }
 }
 
-// The node that is awaited. In line are the contents that may stand at each place, which are met most.
+// The node that is awaited. In line is what may begin one at each place, and a scalar behind properties, which are met most.
 #[inline(always)]
 fn at_awaited<T: yaml_lent_token_t>(
     machine: &mut Machine<T::Place>,
@@ -160,6 +149,7 @@ fn at_awaited<T: yaml_lent_token_t>(
     token: &mut T,
     kind: yaml_token_type_t,
 ) -> Turn
+    requires { machine.old.awaited ≡ Nothing → ⊥ }
     ensures turns { (s : List ℕ) → TurnsOn
         (states_of (T.bytes s) (T.mark s) machine.old waiting.old)
         (whole_of (T.mark s) kind (T.extra token.old) (T.from token.old) (T.to token.old)
@@ -169,12 +159,23 @@ fn at_awaited<T: yaml_lent_token_t>(
     ensures kept { keeps (seen result) ≡ true → token.new ≡ token.old }
 {
     if is_begun(machine.awaited) {
-        return at_kind(machine, waiting, token, kind);
+        return match kind {
+            yaml_token_type_t::YAML_SCALAR_TOKEN => {
+                machine.awaited = Await::Nothing;
+                Turn::NamedScalar
+            }
+            _ => at_kind(machine, waiting, token, kind),
+        };
     }
     match kind {
         yaml_token_type_t::YAML_SCALAR_TOKEN => scalar(machine, token),
         yaml_token_type_t::YAML_FLOW_SEQUENCE_START_TOKEN => flow_sequence(machine, token),
         yaml_token_type_t::YAML_FLOW_MAPPING_START_TOKEN => flow_mapping(machine, token),
+        yaml_token_type_t::YAML_ALIAS_TOKEN
+        | yaml_token_type_t::YAML_ANCHOR_TOKEN
+        | yaml_token_type_t::YAML_TAG_TOKEN => {
+            node(machine, waiting, token, kind, wants_at(machine.awaited))
+        }
         _ => at_kind(machine, waiting, token, kind),
     }
 }

@@ -298,8 +298,8 @@ pub(crate) fn start_document(
 }
 
 /// The event of a node behind the properties that waited, or a fault: its tag's handle stands for nothing.
-// Out of line: few nodes have properties.
-#[inline(never)]
+// Inlined into its one caller, which is out of line.
+#[inline(always)]
 pub fn settle_named(
     tags: &TagDirectives,
     shape: Shape,

@@ -269,8 +269,8 @@ fn hand_both(from: &mut BodySlot, to: &mut BodySlot, spares: &mut Spares)
 }
 
 /// Keeps the room of a text that is done with.
-// Out of line: mostly there is none.
-#[inline(never)]
+// Inlined: some moves.
+#[inline(always)]
 fn give_back(text: &mut Vec<u8>, spares: &mut Spares) {
     spares.keep(moved(text));
 }

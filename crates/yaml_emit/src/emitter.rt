@@ -230,8 +230,9 @@ pub fn yaml_emitter_emit_from(emitter: &mut yaml_emitter_t, event: &mut yaml_eve
 }
 
 /// `yaml_emitter_emit_from` for a text that is wanted whole, as a reader's of all events is: an event is held only where the next
-/// one decides what is written for it, and in canonical form none is. What the emitter completes is the same, and so are the first
-/// event of all that is refused and the text up to it; output and fault may come up to three events earlier.
+/// one decides what is written for it, and in canonical form none is (no clause says how few). What the emitter completes is the
+/// same, and so are the first event of all that is refused and the text up to it; output and fault may come up to three events
+/// earlier.
 // Inlined: a few tests in front of a call for each kind.
 #[inline(always)]
 pub fn yaml_emitter_emit_early(emitter: &mut yaml_emitter_t, event: &mut yaml_event_t)

@@ -220,12 +220,6 @@ pub inside_goes : (i : Inside) → IsEmitter i → option_map fault_of i.fault �
     → goes_on i.core.sink.status i.core.place ≡ true
 inside_goes i inv none = refusal_none i.core.place i.core.sink.status i.core.starved (sym inv.faulty ∙ none)
 
--- and no event was refused
-pub inside_open : (i : Inside) → IsEmitter i → option_map fault_of i.fault ≡ None
-    → refused_at i.core.place ≡ None
-inside_open i inv none =
-    going_open i.core.sink.status i.core.place (refusal_none i.core.place i.core.sink.status i.core.starved (sym inv.faulty ∙ none))
-
 -- ---- the settings came into force
 
 fresh_wrong : (core : Core) (s : Settings) (es : List Event) → IsFreshCore core s

@@ -123,29 +123,8 @@ pub cond_false : {A : Type 0} (b : Bool) (x y : A) → b ≡ false → cond b x 
 cond_false false x y e = refl
 cond_false true x y e = absurd (cc)
 
--- by a test of the cursor
-pub puts_chosen : (a b : Output) (t : Cursor → Bool) (x y : Layout) → t a.cursor ≡ true → Puts a b x
-    → Puts a b (choose t x y)
-puts_chosen a b t x y e p = puts_as a b x (choose t x y) (λ rest. cond_true (t a.cursor) _ _ e) p
-
-pub puts_unchosen : (a b : Output) (t : Cursor → Bool) (x y : Layout) → t a.cursor ≡ false
-    → Puts a b y → Puts a b (choose t x y)
-puts_unchosen a b t x y e p = puts_as a b y (choose t x y) (λ rest. cond_false (t a.cursor) _ _ e) p
-
--- by a flag
-pub puts_when : (a b : Output) (t : Bool) (x : Layout) → t ≡ true → Puts a b x → Puts a b (when t x)
-puts_when a b t x e p = let P : Bool → Type 0 = λ v. Puts a b (when v x) in subst P (sym e) p
-
 pub puts_unless : (a : Output) (t : Bool) (x : Layout) → t ≡ false → Puts a a (when t x)
 puts_unless a t x e = let P : Bool → Type 0 = λ v. Puts a a (when v x) in subst P (sym e) (puts_nothing a)
-
-pub puts_if : (a b : Output) (t : Bool) (x y : Layout) → t ≡ true → Puts a b x
-    → Puts a b (if t then x else y)
-puts_if a b t x y e p = let P : Bool → Type 0 = λ v. Puts a b (if v then x else y) in subst P (sym e) p
-
-pub puts_else : (a b : Output) (t : Bool) (x y : Layout) → t ≡ false → Puts a b y
-    → Puts a b (if t then x else y)
-puts_else a b t x y e p = let P : Bool → Type 0 = λ v. Puts a b (if v then x else y) in subst P (sym e) p
 
 -- a text is those bytes and then `more`, and no place in front of `more` is too deep
 pub record Leads (x : Encoding) (text more : List Item) (bytes : List ℕ) : Type 0 where

@@ -32,9 +32,6 @@ going_by Starved was n h = absurd (false≢true (sym n ∙ h))
 pub halts : (old new : Core) → Starves old new → Halts old new
 halts old new s = record { levels = λ off on. (going_by old.sink.status old.starved off (sym s.starved ∙ on), s.text) }
 
-pub halts_not : (old new : Core) → new.starved ≡ old.starved → Halts old new
-halts_not old new same = record { levels = λ off on. absurd (false≢true (sym off ∙ (sym same ∙ on))) }
-
 -- ---- then all stands there that was put before
 
 none_left : (xs : List ℕ) → length xs ≡ 0 → xs ≡ []

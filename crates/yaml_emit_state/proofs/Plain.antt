@@ -28,11 +28,6 @@ use Rattle.yaml_emit_state.specs.Given.{plain_text}
 use Rattle.yaml_emit_state.specs.Steps.{state_of, settings_of, LaysOut, LaysOutRight}
 use Rattle.yaml_emit_state.proofs.Canonical.{no_keys}
 
--- no directive is listed
-pub none_listed : (listed : List yaml_tag_directive_t) (ds : List TagDirective)
-    → map directive_of listed ≡ ds → listed ≡ [] → ds ≡ []
-none_listed listed ds e h = sym e ∙ ap (map directive_of) h
-
 -- the default tags, without directives
 pub str_spelled : tag_spelling [] str_tag ≡ codes "!!str"
 unfolding directive_for defines suffix_keeps uri_text spelled

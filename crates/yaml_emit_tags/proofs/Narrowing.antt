@@ -15,7 +15,7 @@ use Rattle.std.proofs.lemmas.Cmp.{then_total, on_total, nat_list_cmp_total, nat_
 use Rattle.std.proofs.lemmas.List.Sorted.{sorted_far, ranks_by}
 use Rattle.yaml_emit_tags.specs.Tags.{has_shorter_prefix}
 use Rattle.yaml_emit_tags.specs.Prefixes.{Entry, entry_of, at, entry_cmp, key, smaller, IsFirstShorter, IsFound, IsAtMost}
-use Rattle.yaml_emit_tags.proofs.Sorting.{at_of, Agree, Begins, begins, begun, begins_agree, begins_key, agree_more, key_behind, key_within, less_or}
+use Rattle.yaml_emit_tags.proofs.Sorting.{at_of, Agree, Begins, begins, begun, begins_key, agree_more, key_behind, key_within, less_or}
 
 -- ---- the order of two prefixes
 
@@ -87,15 +87,6 @@ pub record Searching (xs : List Entry) (tag : List ℕ) (from to depth : ℕ) (b
   pub others : (k : ℕ) → k < length xs → has_shorter_prefix (at xs k).0 tag ≡ true
       → depth ≤ length (at xs k).0 → (from ≤ k) × (k < to)
   pub first : IsFirstShorter xs tag depth best
-
-pub searching : (xs : List Entry) (tag : List ℕ) → Searching xs tag 0 (length xs) 0 None
-searching xs tag = record {
-  room = omega arith;
-  inside = omega arith;
-  agree = λ k a b. record { long = omega arith; same = refl };
-  others = λ k h e l. (omega arith, h);
-  first = record { found = tt; least = λ k h e l. absurd (omega (arith, l)) };
-}
 
 -- the keys of the part rise
 pub part_rises : (xs : List Entry) (tag : List ℕ) (from to depth : ℕ) (best : Option ℕ)
@@ -224,10 +215,6 @@ none_left xs tag from to depth best w same = record {
     | inr here ↦ (let o = w.others k r e here in absurd (omega (arith, o.0, o.1)))
   ];
 }
-
-pub all_read : (xs : List Entry) (tag : List ℕ) (depth : ℕ) (best : Option ℕ)
-    → IsFirstShorter xs tag depth best → length tag ≤ depth → IsFirstShorter xs tag (length tag) best
-all_read xs tag depth best f h = record { found = f.found; least = λ k r e m. f.least k r e (omega arith) }
 
 -- ---- what the code holds
 

@@ -60,15 +60,6 @@ pub begun : (p t : List ℕ) → length p < length t → take (length p) t ≡ p
     → has_shorter_prefix p t ≡ true
 begun p t h e = let k : bytes_eq (take (length p) t) p ≡ true = (bytes_eq-Decides (take (length p) t) p).1 e in rw k (grind (arith, nat_tests))
 
-take_less : (d n : ℕ) (t : List ℕ) → d ≤ n → take d (take n t) ≡ take d t
-take_less zero n t h = refl
-take_less (suc d) zero t h = absurd (omega arith)
-take_less (suc d) (suc n) [] h = refl
-take_less (suc d) (suc n) (x ∷ t) h = ap (λ z. x ∷ z) (take_less d n t (omega arith))
-
-pub begins_agree : (d : ℕ) (p t : List ℕ) → Begins p t → d ≤ length p → Agree d p t
-begins_agree d p t b h = record { long = h; same = ap (take d) (sym b.same) ∙ take_less d (length p) t h }
-
 get_take : (d n : ℕ) (t : List ℕ) → d < n → get_or (take n t) d 0 ≡ get_or t d 0
 get_take d zero t h = absurd (omega arith)
 get_take d (suc n) [] h = refl

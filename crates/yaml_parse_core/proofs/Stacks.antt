@@ -17,11 +17,6 @@ pub pushed : {P : Type 0} (mark : P → yaml_mark_t) (old new : List (Kept P)) (
     → stack_of mark new ≡ level_over k.level (mark k.opener) (stack_of mark old)
 pushed mark old new k e = ap (λ z. stack_of mark z) e ∙ ap (λ z. levels_of mark z) (reverse-append old (k ∷ [])) ∙ one mark k (reverse old)
 
-pub pushed_on : {P : Type 0} (mark : P → yaml_mark_t) (old mid new : List (Kept P)) (k : Kept P)
-    → mid ≡ old → new ≡ mid ++ k ∷ []
-    → stack_of mark new ≡ level_over k.level (mark k.opener) (stack_of mark old)
-pushed_on mark old mid new k d e = pushed mark old new k (e ∙ ap (λ z. z ++ k ∷ []) d)
-
 pub popped : {P : Type 0} (mark : P → yaml_mark_t) (old new : List (Kept P)) (k : Kept P)
     (o : Option (Kept P)) → old ≡ new ++ option_to_list o → o ≡ Some k
     → level_over k.level (mark k.opener) (stack_of mark new) ≡ stack_of mark old

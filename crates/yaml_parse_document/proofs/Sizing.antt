@@ -105,6 +105,3 @@ appended_sized f count d items k old new r inside is view h grows s = record {
 }
 
 -- ---- the document that stands for the end
-
-pub no_document_sized : IsSized no_document
-no_document_sized = record { nodes = omega arith; entries = tt }

@@ -396,12 +396,6 @@ innermost_is m s =
     let last : IsKey (key_at ks (length ks.outer)) (candidate m.depth h) m.place = subst (λ d. IsKey (key_at ks (length ks.outer)) (candidate d h) m.place) (sym (open_depth m s)) (s.keys.agrees (length ks.outer) (omega arith)) in
     subst (λ p. IsKey ks.innermost (candidate m.depth h) p) s.place (subst (λ (k : Key). IsKey k (candidate m.depth h) m.place) key last)
 
--- the candidate of the open depth is none, or stale
-pub key_none : (m : Fields) (p : yaml_mark_t) → IsShown m
-    → let h = read m.text m.dropped m.waiting in Upto (reached h) p
-    → None ≡ number_in (fresh_key m.keys.innermost p) → fresh (candidate m.depth h) p ≡ None
-key_none m p s u is = let h = read m.text m.dropped m.waiting in no_candidate m.keys.innermost (candidate m.depth h) p (fresh_same m.keys.innermost (candidate m.depth h) (reached h) p (innermost_is m s) u) is
-
 -- where the candidate of the open depth waits
 pub key_waits : (m : Fields) (ws : List Waiting) (p : yaml_mark_t) (n : ℕ) → IsShown m
     → m.waiting ≡ map (λ (x : Waiting). kept_of x) ws → m.ended ≡ false

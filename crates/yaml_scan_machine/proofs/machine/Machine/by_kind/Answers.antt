@@ -27,11 +27,11 @@ step_at-requires-in-FlowMappingStart c = subst (λ (k : Kind). MayReadAt c.args.
 pub step_at-requires-in-BlockEntry : goal.step_at-requires-in-BlockEntry
 step_at-requires-in-BlockEntry c = subst (λ (k : Kind). MayReadAt c.args.self.now k c.args.spot.now) c.in-BlockEntry.is c.requires
 
-pub apart-requires : goal.apart-requires
-apart-requires c = subst (λ (k : Kind). MayReadAt c.args.self.now k c.args.spot.now) c.in-DoubleQuoted.is c.requires
+pub step_at-requires-in-DoubleQuoted : goal.step_at-requires-in-DoubleQuoted
+step_at-requires-in-DoubleQuoted c = subst (λ (k : Kind). MayReadAt c.args.self.now k c.args.spot.now) c.in-DoubleQuoted.is c.requires
 
-pub apart-requires-in-SingleQuoted : goal.apart-requires-in-SingleQuoted
-apart-requires-in-SingleQuoted c = subst (λ (k : Kind). MayReadAt c.args.self.now k c.args.spot.now) c.in-SingleQuoted.is c.requires
+pub apart-requires : goal.apart-requires
+apart-requires c = subst (λ (k : Kind). MayReadAt c.args.self.now k c.args.spot.now) c.in-SingleQuoted.is c.requires
 
 pub apart-requires-in-Anchor : goal.apart-requires-in-Anchor
 apart-requires-in-Anchor c = subst (λ (k : Kind). MayReadAt c.args.self.now k c.args.spot.now) c.in-Anchor.is c.requires

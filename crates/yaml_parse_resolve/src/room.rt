@@ -369,6 +369,16 @@ fn taken_or_empty(alloc: Global, text: &mut Option<Vec<u8>>) -> Vec<u8>
     }
 }
 
+// Puts a text into a place that has none.
+// Inlined: what stood there isn't looked at once more.
+#[inline(always)]
+fn put_in(place: &mut Option<Vec<u8>>, text: Vec<u8>)
+    requires { place.old ≡ None }
+    ensures { place.new ≡ Some text }
+{
+    mem::forget(mem::replace(place, Some(text)));
+}
+
 // Another text in a place for one, in whose place the room of the earlier one is left.
 // Inlined: some moves.
 #[inline(always)]
@@ -376,9 +386,7 @@ fn fill_place(place: &mut Option<Vec<u8>>, text: &mut Vec<u8>)
     ensures { text_of place.new ≡ Some text.old.items }
 {
     match place {
-        None => {
-            *place = Some(moved(text));
-        }
+        None => put_in(place, moved(text)),
         Some(last) => mem::swap(last, text),
     }
 }
@@ -410,25 +418,25 @@ pub(crate) fn exchange(place: &mut Option<Vec<u8>>, is_there: bool, text: &mut V
     }
 }
 
-/// The text, if it is one that is to be there.
+/// The texts of a node's properties in places that have none. The room is left in place of the anchor.
 // Inlined: some moves.
 #[inline(always)]
-pub(crate) fn moved_if(is_there: bool, text: &mut Vec<u8>) -> Option<Vec<u8>>
-    ensures { text_of result ≡ text_if is_there text.old.items }
+pub(crate) fn put_properties(
+    waiting: &mut Waiting<Vec<u8>, yaml_mark_t>,
+    room: Vec<u8>,
+    anchor: &mut Option<Vec<u8>>,
+    tag: &mut Option<Vec<u8>>,
+)
+    requires anchor { anchor.old ≡ None }
+    requires tag { tag.old ≡ None }
+    ensures anchor { text_of anchor.new ≡ text_if waiting.old.has_anchor waiting.old.anchor.items }
+    ensures tag { text_of tag.new ≡ text_if waiting.old.has_tag waiting.old.handle.items }
 {
-    if is_there { Some(moved(text)) } else { None }
-}
-
-/// The text, if it is one that is to be there, in whose place that room is left then.
-// Inlined: some moves.
-#[inline(always)]
-pub(crate) fn moved_for(is_there: bool, text: &mut Vec<u8>, room: Vec<u8>) -> Option<Vec<u8>>
-    ensures { text_of result ≡ text_if is_there text.old.items }
-{
-    if is_there {
-        Some(mem::replace(text, room))
-    } else {
-        None
+    if waiting.has_anchor {
+        put_in(anchor, mem::replace(&mut waiting.anchor, room));
+    }
+    if waiting.has_tag {
+        put_in(tag, moved(&mut waiting.handle));
     }
 }
 

@@ -8,7 +8,7 @@ ghost use Rattle.yaml_parse_grammar.specs.Resolve.{node_event};
 ghost use Rattle.yaml_parse_core.specs.Views.{text_if};
 ghost use Rattle.yaml_parse_resolve.specs.Bare.{OwnsNothing};
 
-use crate::room::{exchanged, moved_for, moved_if, put_bare};
+use crate::room::{exchanged, put_bare, put_properties};
 use yaml_parse_core::Waiting;
 use yaml_parse_model::{
     yaml_event_body_t, yaml_mapping_style_t, yaml_mark_t, yaml_sequence_style_t,
@@ -120,12 +120,19 @@ pub(crate) fn start_named_sequence(
         (item.sequence style) }
 {
     let start = yaml_event_body_t::SequenceStart {
-        anchor: moved_for(waiting.has_anchor, &mut waiting.anchor, room),
-        tag: moved_if(waiting.has_tag, &mut waiting.handle),
+        anchor: None,
+        tag: None,
         implicit: !waiting.has_tag,
         style,
     };
     put_bare(event, start);
+    match event {
+        yaml_event_body_t::SequenceStart { anchor, tag, .. } => {
+            put_properties(waiting, room, anchor, tag);
+        }
+        // Never: it was put there.
+        _ => {}
+    }
 }
 
 /// A mapping begins behind properties. Its tag stands in full in the place of its handle.
@@ -141,10 +148,17 @@ pub(crate) fn start_named_mapping(
         (item.mapping style) }
 {
     let start = yaml_event_body_t::MappingStart {
-        anchor: moved_for(waiting.has_anchor, &mut waiting.anchor, room),
-        tag: moved_if(waiting.has_tag, &mut waiting.handle),
+        anchor: None,
+        tag: None,
         implicit: !waiting.has_tag,
         style,
     };
     put_bare(event, start);
+    match event {
+        yaml_event_body_t::MappingStart { anchor, tag, .. } => {
+            put_properties(waiting, room, anchor, tag);
+        }
+        // Never: it was put there.
+        _ => {}
+    }
 }

@@ -1,5 +1,6 @@
 -- Bytes of a tag or a value that are added as they are.
-use Rattle.std.specs.Prelude.{◌≡◌, ◌≤◌, ℕ, zero, suc, ◌+◌, Bool, true, not, ◌&&◌, ◌==◌, nat_lt, List, length, slice_index, Option, None, Some}
+use Rattle.std.specs.Prelude.{◌≡◌, ◌≤◌, ℕ, zero, suc, ◌+◌, ◌*◌, Bool, true, not, ◌&&◌, ◌==◌, nat_lt, List, ◌++◌, length, slice_index, Option, None, Some, Vec, vec_len, vec_capacity}
+use Rattle.std.specs.Global.{Global}
 use Rattle.yaml_scan_model.specs.Ascii as ascii
 use Rattle.yaml_scan_model.specs.Ends.{most_short}
 use Rattle.yaml_round_lines.specs.EventLine.{escaped}
@@ -21,3 +22,10 @@ IsPlain text = (length text ≤ most_short) × (escaped text ≡ text)
 abbrev pub IsPlainGiven : Option (List ℕ) → Type 0
 IsPlainGiven None = Unit {0}
 IsPlainGiven (Some text) = IsPlain text
+
+-- what was put before the rest tells the text: each byte took two at most of the room, which stays
+pub record PutsFront (old new : Vec ℕ Global) (text rest : List ℕ) : Type 0 where
+  pub told : new.items ++ escaped rest ≡ old.items ++ escaped text
+  pub fewer : length rest ≤ length text
+  pub len : vec_len new + 2 * length rest ≤ vec_len old + 2 * length text
+  pub room : vec_capacity new ≡ vec_capacity old

@@ -11,15 +11,13 @@ use crate::runs::{is_plain, put_runs};
 use std::alloc::AllocError;
 use yaml_parse_model::{yaml_event_body_t, yaml_event_t};
 use yaml_scan_model::{
-    SHORT, is_short, put_back, put_between, put_each, put_near, put_short, with_room,
+    SHORT, is_short, moved, put_back, put_between, put_each, put_near, put_short, with_room,
     yaml_scalar_style_t,
 };
 
-// What the line of a node takes at most beside its texts.
-const BESIDE: usize = 12;
-
-// What it takes at most where the texts are short: twice of a tag and of a value.
-const ROOM: usize = BESIDE + 5 * SHORT;
+// What the line of a node takes at most where its texts are short: twelve beside them, and twice of a tag and of a value. For a
+// longer one so much is made as well: then the short ones behind it have room.
+const ROOM: usize = 12 + 5 * SHORT;
 
 fn style_indicator(style: yaml_scalar_style_t) -> u8
     ensures { result ≡ indicator_of style }
@@ -52,6 +50,16 @@ fn reserve_twice(line: &mut Vec<u8>, beside: usize, escaped: usize) -> Result<()
 {
     line.reserve(escaped.saturating_mul(2).saturating_add(beside))?;
     Ok(())
+}
+
+// Whether there is room for so many bytes: what is put then calls nothing, so that no register is put aside.
+// Inlined: a comparison.
+#[inline(always)]
+fn has_room(line: &Vec<u8>, count: usize) -> bool
+    requires { count < 256 }
+    ensures { result ≡ true → vec_len line.now + count ≤ vec_capacity line.now }
+{
+    line.len() + count <= line.capacity()
 }
 
 // Whether a tag that may be left out is plain.
@@ -215,37 +223,9 @@ fn push_long_scalar(
         ++ (codes "=VAL" ++ (anchor_part (text_of anchor.now) ++ tag_part (text_of tag.now))
         ++ ascii.space ∷ indicator_of style ∷ (escaped value.now ++ ascii.line_feed ∷ []))) }
 {
-    reserve_twice(
-        line,
-        BESIDE + length_of(anchor),
-        length_of(tag) + value.len(),
-    )?;
+    reserve_twice(line, ROOM + length_of(anchor), length_of(tag) + value.len())?;
     put_node(line, b"=VAL", anchor, tag, false);
     put_part(line, style_indicator(style), value, b'\n', false);
-    Ok(())
-}
-
-// Pushes the line of a scalar whose texts are plain.
-// Inlined into its one caller.
-#[inline(always)]
-fn push_plain_scalar(
-    line: &mut Vec<u8>,
-    anchor: &Option<Vec<u8>>,
-    tag: &Option<Vec<u8>>,
-    value: &[u8],
-    style: yaml_scalar_style_t,
-) -> Result<(), AllocError>
-    requires short { IsShort anchor.now × IsShort tag.now }
-    requires tag { IsPlainGiven (text_of tag.now) }
-    requires value { IsPlain value.now }
-    ensures { OnOk result (line.new.items ≡ line.old.items
-        ++ (codes "=VAL" ++ (anchor_part (text_of anchor.now) ++ tag_part (text_of tag.now))
-        ++ ascii.space ∷ indicator_of style ∷ (escaped value.now ++ ascii.line_feed ∷ []))) }
-{
-    let mut own = with_room(line, ROOM)?;
-    put_node(&mut own, b"=VAL", anchor, tag, true);
-    put_part(&mut own, style_indicator(style), value, b'\n', true);
-    put_back(line, own);
     Ok(())
 }
 
@@ -263,10 +243,12 @@ fn push_scalar(
         ++ (codes "=VAL" ++ (anchor_part (text_of anchor.now) ++ tag_part (text_of tag.now))
         ++ ascii.space ∷ indicator_of style ∷ (escaped value.now ++ ascii.line_feed ∷ []))) }
 {
-    if are_plain(anchor, tag) {
-        if is_plain(value) {
-            return push_plain_scalar(line, anchor, tag, value, style);
-        }
+    if are_plain(anchor, tag) && is_plain(value) && has_room(line, ROOM) {
+        let mut own = moved(line);
+        put_node(&mut own, b"=VAL", anchor, tag, true);
+        put_part(&mut own, style_indicator(style), value, b'\n', true);
+        put_back(line, own);
+        return Ok(());
     }
     push_long_scalar(line, anchor, tag, value, style)
 }
@@ -284,31 +266,9 @@ fn push_long_start(
         ++ (word.now ++ (anchor_part (text_of anchor.now) ++ tag_part (text_of tag.now))
         ++ ascii.line_feed ∷ [])) }
 {
-    reserve_twice(line, BESIDE + length_of(anchor), length_of(tag))?;
+    reserve_twice(line, ROOM + length_of(anchor), length_of(tag))?;
     put_node(line, word, anchor, tag, false);
     line.push_reserved(b'\n');
-    Ok(())
-}
-
-// Pushes the line of a collection's start whose texts are plain.
-// Inlined into its one caller.
-#[inline(always)]
-fn push_plain_start(
-    line: &mut Vec<u8>,
-    word: &[u8; 4],
-    anchor: &Option<Vec<u8>>,
-    tag: &Option<Vec<u8>>,
-) -> Result<(), AllocError>
-    requires short { IsShort anchor.now × IsShort tag.now }
-    requires tag { IsPlainGiven (text_of tag.now) }
-    ensures { OnOk result (line.new.items ≡ line.old.items
-        ++ (word.now ++ (anchor_part (text_of anchor.now) ++ tag_part (text_of tag.now))
-        ++ ascii.line_feed ∷ [])) }
-{
-    let mut own = with_room(line, ROOM)?;
-    put_node(&mut own, word, anchor, tag, true);
-    own.push_reserved(b'\n');
-    put_back(line, own);
     Ok(())
 }
 
@@ -325,10 +285,26 @@ fn push_start(
         ++ (word.now ++ (anchor_part (text_of anchor.now) ++ tag_part (text_of tag.now))
         ++ ascii.line_feed ∷ [])) }
 {
-    if are_plain(anchor, tag) {
-        return push_plain_start(line, word, anchor, tag);
+    if are_plain(anchor, tag) && has_room(line, ROOM) {
+        let mut own = moved(line);
+        put_node(&mut own, word, anchor, tag, true);
+        own.push_reserved(b'\n');
+        put_back(line, own);
+        return Ok(());
     }
     push_long_start(line, word, anchor, tag)
+}
+
+// Pushes the line of an alias of any length.
+// Out of line: most are short, and have room.
+#[inline(never)]
+fn push_long_alias(line: &mut Vec<u8>, name: &[u8]) -> Result<(), AllocError>
+    ensures { OnOk result (line.new.items ≡ line.old.items
+        ++ (codes "=ALI *" ++ name.now ++ ascii.line_feed ∷ [])) }
+{
+    line.reserve(name.len() + ROOM)?;
+    put_between(line, b"=ALI *", name, b"\n");
+    Ok(())
 }
 
 // Pushes the line of an alias.
@@ -339,9 +315,11 @@ fn push_alias(line: &mut Vec<u8>, name: &[u8]) -> Result<(), AllocError>
     ensures { OnOk result (line.new.items ≡ line.old.items
         ++ (codes "=ALI *" ++ name.now ++ ascii.line_feed ∷ [])) }
 {
-    line.reserve(name.len() + 7)?;
-    put_between(line, b"=ALI *", name, b"\n");
-    Ok(())
+    if name.len() <= SHORT && has_room(line, SHORT + 7) {
+        put_between(line, b"=ALI *", name, b"\n");
+        return Ok(());
+    }
+    push_long_alias(line, name)
 }
 
 // Pushes the line of a document's start or end: a word, and a mark where it isn't left out.

@@ -2,10 +2,10 @@
 
 ghost use Rattle.std.specs.Prelude.{◌≡◌, ◌+◌, ◌*◌, ◌<◌, ◌≤◌, ◌++◌, ◌∷◌, [], true, length, take, vec_len, vec_capacity};
 ghost use Rattle.yaml_scan_model.specs.Ascii as ascii;
-ghost use Rattle.yaml_round_lines.specs.Runs.{is_kept, kept_run, IsPlain};
+ghost use Rattle.yaml_round_lines.specs.Runs.{is_kept, kept_run, IsPlain, PutsFront};
 ghost use Rattle.yaml_round_lines.specs.EventLine.{escaped_byte, escaped};
 
-use yaml_scan_model::{SHORT, put_many};
+use yaml_scan_model::{SHORT, moved, put_back, put_short};
 
 // So many bytes are looked at together, and then half as many; the kept bytes of a shorter text are counted byte by byte.
 const CHUNK: usize = 16;
@@ -111,81 +111,75 @@ pub(crate) fn is_plain(text: &[u8]) -> bool
     }
 }
 
-// How many bytes the chunks in front have that are kept.
-fn kept_chunks(text: &[u8]) -> usize
-    ensures kept { escaped (take result text.now) ≡ take result text.now }
-    ensures inside { result ≤ length text.now }
-{
-    let mut count = 0;
-    'chunks: while text.len() - count >= CHUNK {
-        if !is_kept_run(text, count, CHUNK) {
-            return count;
-        }
-        count += CHUNK;
-    }
-    count
-}
-
-// Whether half a chunk stands there, of kept bytes alone.
-// Inlined: see `is_kept_run`.
+// Puts the chunks in front that have kept bytes alone; the answer is the rest.
+// Inlined: the line is the caller's own, so that a chunk is a load, some vector instructions and its stores.
 #[inline(always)]
-fn is_kept_half(text: &[u8], at: usize) -> bool
-    requires { at ≤ length text.now }
-    ensures { result ≡ true → (at + HALF ≤ length text.now) × (kept_run HALF text.now at ≡ true) }
+fn put_chunks<'a>(line: &mut Vec<u8>, text: &'a [u8]) -> &'a [u8]
+    requires { vec_len line.old + 2 * length text.now ≤ vec_capacity line.old }
+    ensures { PutsFront line.old line.new text.now result.now }
 {
-    text.len() - at >= HALF && is_kept_run(text, at, HALF)
-}
-
-// The same, and half a chunk more where it is kept: so fewer bytes are looked at one by one.
-fn kept_halves(text: &[u8]) -> usize
-    ensures kept { escaped (take result text.now) ≡ take result text.now }
-    ensures inside { result ≤ length text.now }
-{
-    let count = kept_chunks(text);
-    if is_kept_half(text, count) {
-        count + HALF
-    } else {
-        count
-    }
-}
-
-// How many bytes in front are kept.
-fn kept_length(text: &[u8]) -> usize
-    ensures kept { escaped (take result text.now) ≡ take result text.now }
-    ensures inside { result ≤ length text.now }
-{
-    let mut count = kept_halves(text);
-    'bytes: while count < text.len() {
-        if !is_kept(text[count]) {
-            return count;
+    let mut left = text;
+    'chunks: while left.len() >= CHUNK {
+        if !is_kept_run(left, 0, CHUNK) {
+            return left;
         }
-        count += 1;
+        put_short(line, &left[..CHUNK]);
+        left = &left[CHUNK..];
     }
-    count
+    left
 }
 
-// Puts the kept bytes in front, and the byte behind them; the answer is the rest. Where none is kept, as in an empty line, no copy is
-// called.
+// The same of half a chunk: so fewer bytes are put one by one.
+// Inlined: see `put_chunks`.
+#[inline(always)]
+fn put_half<'a>(line: &mut Vec<u8>, text: &'a [u8]) -> &'a [u8]
+    requires { vec_len line.old + 2 * length text.now ≤ vec_capacity line.old }
+    ensures { PutsFront line.old line.new text.now result.now }
+{
+    if text.len() < HALF || !is_kept_run(text, 0, HALF) {
+        return text;
+    }
+    put_short(line, &text[..HALF]);
+    &text[HALF..]
+}
+
+// Puts the kept bytes in front, and the byte behind them; the answer is the rest.
+// Inlined: see `put_chunks`.
+#[inline(always)]
+fn put_bytes<'a>(line: &mut Vec<u8>, text: &'a [u8]) -> &'a [u8]
+    requires { vec_len line.old + 2 * length text.now ≤ vec_capacity line.old }
+    ensures front { PutsFront line.old line.new text.now result.now }
+    ensures shorter { 0 < length text.now → length result.now < length text.now }
+{
+    let mut left = text;
+    'bytes: while !left.is_empty() {
+        let byte = left[0];
+        left = &left[1..];
+        if !is_kept(byte) {
+            put_byte(line, byte);
+            return left;
+        }
+        line.push_reserved(byte);
+    }
+    left
+}
+
+// Puts the kept bytes in front, and the byte behind them; the answer is the rest. Where none is kept, as in an empty line, no chunk
+// is looked at.
+// Inlined: see `put_chunks`.
+#[inline(always)]
 fn put_run<'a>(line: &mut Vec<u8>, left: &'a [u8]) -> &'a [u8]
     requires some { 0 < length left.now }
     requires room { vec_len line.old + 2 * length left.now ≤ vec_capacity line.old }
-    ensures text { line.new.items ++ escaped result.now ≡ line.old.items ++ escaped left.now }
+    ensures front { PutsFront line.old line.new left.now result.now }
     ensures shorter { length result.now < length left.now }
-    ensures len { vec_len line.new + 2 * length result.now ≤ vec_len line.old
-        + 2 * length left.now }
-    ensures room { vec_capacity line.old ≤ vec_capacity line.new }
 {
     if !is_kept(left[0]) {
-        put_byte(line, left[0]);
-        return &left[1..];
+        return put_bytes(line, left);
     }
-    let count = kept_length(left);
-    put_many(line, &left[..count]);
-    if count == left.len() {
-        return &left[count..];
-    }
-    put_byte(line, left[count]);
-    &left[count + 1..]
+    let chunks = put_chunks(line, left);
+    let half = put_half(line, chunks);
+    put_bytes(line, half)
 }
 
 /// Puts the text of a tag or a value, by runs of kept bytes: each byte takes two at most.
@@ -197,8 +191,10 @@ pub(crate) fn put_runs(line: &mut Vec<u8>, text: &[u8])
     ensures len { vec_len line.new ≤ vec_len line.old + 2 * length text.now }
     ensures room { vec_capacity line.old ≤ vec_capacity line.new }
 {
+    let mut own = moved(line);
     let mut left = text;
     'runs: while !left.is_empty() {
-        left = put_run(line, left);
+        left = put_run(&mut own, left);
     }
+    put_back(line, own);
 }

@@ -1,6 +1,6 @@
 //! Runs of bytes that go together.
 
-ghost use Rattle.std.specs.Prelude.{◌≡◌, ◌+◌, ◌≤◌, ◌<◌, ℕ, true, length, slice_range, IfOk};
+ghost use Rattle.std.specs.Prelude.{◌≡◌, ◌+◌, ◌≤◌, ◌<◌, ℕ, true, false, length, slice_range, IfOk};
 ghost use Rattle.yaml_scan_model.specs.Ascii as ascii;
 ghost use Rattle.yaml_scan_model.specs.Marks.{byte};
 ghost use Rattle.yaml_scan_model.specs.Classes.{is_alpha_byte};
@@ -114,9 +114,16 @@ fn is_alpha_at(text: &[u8], place: usize) -> bool
 pub(crate) fn alphas_end(text: &[u8], from: usize) -> usize
     ensures { result ≡ spec.run_end runs.Alphas text.now from }
 {
-    let mut end = past_alphas(text, from);
+    let mut end = from;
+    'rows: while text.len().saturating_sub(end) >= AHEAD {
+        let count = alphas_ahead(text, end);
+        end += count;
+        if count < AHEAD {
+            return end;
+        }
+    }
     'bytes: while alpha_at(text, end) {
-        end = past_alphas(text, end + 1);
+        end += 1;
     }
     end
 }
@@ -128,6 +135,8 @@ fn alpha_ahead(text: &[u8], from: usize, count: usize) -> bool
     requires { from + 8 ≤ length text.now }
     ensures few { result ≡ true → count < 8 }
     ensures here { result ≡ true → spec.belongs runs.Alphas text.now (from + count) ≡ true }
+    ensures none { result ≡ false → count < 8 → spec.belongs runs.Alphas text.now (from + count)
+        ≡ false }
 {
     if AHEAD <= count {
         return false;
@@ -135,22 +144,22 @@ fn alpha_ahead(text: &[u8], from: usize, count: usize) -> bool
     is_alpha_at(text, from + count)
 }
 
-/// A place behind alphas that stand there: of eight bytes, where so many follow, the first that is none.
+/// How many of the next eight bytes are alphas, one behind the other.
 // A loop whose turns are counted by a constant is written out: no place is compared with the text's length.
 // Inlined: a load and a comparison a byte.
 #[inline(always)]
-fn past_alphas(text: &[u8], from: usize) -> usize
-    ensures forward { from ≤ result }
-    ensures each { (k : ℕ) → from ≤ k → k < result → spec.belongs runs.Alphas text.now k ≡ true }
+fn alphas_ahead(text: &[u8], from: usize) -> usize
+    requires { from + 8 ≤ length text.now }
+    ensures few { result ≤ 8 }
+    ensures each { (k : ℕ) → from ≤ k → k < from + result → spec.belongs runs.Alphas text.now k
+        ≡ true }
+    ensures stop { result < 8 → spec.belongs runs.Alphas text.now (from + result) ≡ false }
 {
-    if text.len().saturating_sub(from) < AHEAD {
-        return from;
-    }
     let mut count = 0;
     'bytes: while alpha_ahead(text, from, count) {
         count += 1;
     }
-    from + count
+    count
 }
 
 /// The place behind the indicator that stands here and the alphas that follow it.

@@ -1,7 +1,7 @@
 use Rattle.std.proofs.Common.{◌+◌, arith}
 use Rattle.yaml_scan_words.specs.declared.run.Run.TheVariants as runs
 use Rattle.yaml_scan_words.proofs.RunsLemmas.{each_more}
-use Rattle.yaml_scan_words.proofs.run.past_alphas.Goals as goal
+use Rattle.yaml_scan_words.proofs.run.alphas_ahead.Goals as goal
 
 pub bytes-preserved : goal.bytes-preserved
 bytes-preserved c =

@@ -22,7 +22,7 @@ use Rattle.yaml_emit_machine.specs.Judged.{refused_at, refusal_behind, LetsOut, 
 use Rattle.yaml_emit_machine.specs.Laying.{HasLaid, LaysEvents, is_undecided_at}
 use Rattle.yaml_emit_machine.proofs.Opening.{opens_none}
 use Rattle.yaml_emit_machine.proofs.Holding.{ready_empty}
-use Rattle.yaml_emit_machine.proofs.Judging.{ready_more, going_open, goes_going, done, text_step, some_step, some_one, some_none, going_notes, noted_takes, drop_next, first_there, start_there, refusal_on, wrong_on, lays_first}
+use Rattle.yaml_emit_machine.proofs.Judging.{ready_more, going_open, goes_going, text_step, some_step, some_one, some_none, going_notes, noted_takes, drop_next, first_there, start_there, refusal_on, wrong_on, lays_first}
 
 -- ---- an event that is laid out before those behind it are known
 
@@ -104,7 +104,7 @@ blamed exact a b c h x y e empty p same o g is takes l (inl put) = record {
       let P : List Event → Type 0 = λ z. LaysSome (suc zero) (settings_of b) (state_of b) b.sink (z ++ es) whole in
       let Q : Encoding → Type 0 = λ z. encode z whole ≡ c.sink.bytes in
       let R : Layout → Type 0 = λ t. Ends b.sink (next_piece (problem_at (settings_of b) (state_of b) e) t b.sink.cursor nothing_more) whole in
-      subst Q p.encoding (put whole (subst R (sym (is es).0) (some_one (problem_at (settings_of b) (state_of b) e) (settings_of b) (state_of b) b.sink e (y ++ es) (opens_empty e (y ++ es)) whole o refl refl (subst P same (p.some g (suc p.laid) (suc zero) m es whole f))))));
+      subst Q p.encoding (put whole (subst R (sym (is es).0) (some_one _ (settings_of b) (state_of b) b.sink e (y ++ es) whole o refl (subst P same (p.some g (suc p.laid) (suc zero) m es whole f))))));
 }
 blamed exact a b c h x y e empty p same o g is takes l (inr put) = record {
   front = p.laid;
@@ -156,7 +156,7 @@ lays_more exact a b c h x y e empty p same goes r is l =
           let on : b.sink.status ≡ Going = l.text.going g in
           let m' : m ≡ p.laid + suc n = omega (arith, is) in
           let P : List Event → Type 0 = λ z. LaysSome (suc n) (settings_of b) (state_of b) b.sink (z ++ es) whole in
-          some_step (problem_at (settings_of b) (state_of b) e) n b c e (y ++ es) whole o g (done b c e _ (laid es)) (subst P same (p.some on m (suc n) m' es whole f));
+          some_step n b c e (y ++ es) whole o (laid es) (subst P same (p.some on m (suc n) m' es whole f));
       blames = λ off on.
           let on_still : b.sink.status ≡ Going = goes_going b.sink.status b.place goes in
           let off' : b.starved ≡ false = p.memory (going_notes (take_memory h) a.sink.status b.sink.status on_still) ∙ off in

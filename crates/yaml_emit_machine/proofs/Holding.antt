@@ -28,30 +28,12 @@ ready_empty _ es more h = refl
 -- of one event alone, closing is ending a level
 pub closes_last : (e : Event) → ends_level e ≡ closes (e ∷ [])
 closes_last no_event = refl
-closes_last (stream_start x) = refl
-closes_last stream_end = refl
-closes_last (document_start i) = refl
-closes_last (document_end i) = refl
-closes_last (alias name) = refl
-closes_last (scalar x) = refl
-closes_last (sequence_start p) = refl
-closes_last sequence_end = refl
-closes_last (mapping_start p) = refl
-closes_last mapping_end = refl
+closes_last _ = refl
 
 -- No event waits for more than three that follow.
 pub few_needs : (e : Event) → nat_le (needs e) 3 ≡ true
 few_needs no_event = refl
-few_needs (stream_start x) = refl
-few_needs stream_end = refl
-few_needs (document_start i) = refl
-few_needs (document_end i) = refl
-few_needs (alias name) = refl
-few_needs (scalar x) = refl
-few_needs (sequence_start p) = refl
-few_needs sequence_end = refl
-few_needs (mapping_start p) = refl
-few_needs mapping_end = refl
+few_needs _ = refl
 
 -- What at most three are enough for, more are enough for too.
 pub le_more : (n m k : ℕ) → nat_le n 3 ≡ true → 3 ≤ m → nat_le n m ≡ true
@@ -164,15 +146,7 @@ undecided_waits : (canonical : Bool) (top : Option Level) (f : Event)
 unfolding is_ready
 undecided_waits canonical top (sequence_start p) h = refl
 undecided_waits canonical top (mapping_start p) h = refl
-undecided_waits canonical top no_event h = absurd (cc)
-undecided_waits canonical top (stream_start x) h = absurd (cc)
-undecided_waits canonical top stream_end h = absurd (cc)
-undecided_waits canonical top (document_start i) h = absurd (cc)
-undecided_waits canonical top (document_end i) h = absurd (cc)
-undecided_waits canonical top (alias name) h = absurd (cc)
-undecided_waits canonical top (scalar x) h = absurd (cc)
-undecided_waits canonical top sequence_end h = absurd (cc)
-undecided_waits canonical top mapping_end h = absurd (cc)
+undecided_waits canonical top _ h = absurd (cc)
 
 not_passed : (undecided : Bool) → (true && not undecided) ≡ false → undecided ≡ true
 not_passed true h = refl

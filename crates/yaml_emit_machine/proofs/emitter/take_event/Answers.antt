@@ -1,6 +1,6 @@
 use Rattle.std.proofs.Common.{◌≡◌, [], false, ap, option_map}
 use Rattle.yaml_scan_model.specs.Faults.{fault_of}
-use Rattle.yaml_emit_machine.proofs.Emitting.{not_true}
+use Rattle.yaml_emit_machine.proofs.Emitting.{inside_begun}
 use Rattle.yaml_emit_machine.proofs.Taking.{inside_stuck, taken_begun}
 use Rattle.yaml_emit_machine.proofs.Blaming.{blames_none}
 use Rattle.yaml_emit_machine.proofs.emitter.take_event.Goals as goal
@@ -12,10 +12,7 @@ pub returns-in-Some-clause-few : goal.returns-in-Some-clause-few
 returns-in-Some-clause-few c = rw (← c.emitter.view_is) c.emitter.invariant.short
 
 pub returns-in-Some-clause-begun : goal.returns-in-Some-clause-begun
-returns-in-Some-clause-begun c =
-    let some = ap (option_map fault_of) c.in-Some.is in
-    let off : c.emitter.inside.fresh ≡ false = not_true c.emitter.inside.fresh (λ t. let k = (c.emitter.invariant.begun t).1.0 in cc) in
-    rw (← c.emitter.view_is) off
+returns-in-Some-clause-begun c = rw (← c.emitter.view_is) (inside_begun c.emitter.inside c.emitter.invariant _ (ap (option_map fault_of) c.in-Some.is))
 
 pub returns-in-None-clause-begun : goal.returns-in-None-clause-begun
 returns-in-None-clause-begun c = taken_begun _ _ _ c.begin_or_lay.ensures.takes

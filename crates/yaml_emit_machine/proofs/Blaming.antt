@@ -1,27 +1,17 @@
 -- Memory that was refused outside the output: which events stand in it.
-use Rattle.std.proofs.Common.{◌≡◌, ◌⊎◌, inl, inr, ℕ, zero, suc, drop, List, [], ◌∷◌, ◌++◌, Bool, true, false, refl, sym, subst, ◌∙◌, ap, arith, Option, append_assoc}
+use Rattle.std.proofs.Common.{◌≡◌, ◌⊎◌, inl, inr, ℕ, suc, drop, List, [], ◌∷◌, ◌++◌, Bool, true, false, sym, subst, ◌∙◌, Option, append_assoc}
 use Rattle.std.proofs.lemmas.Bool.{false≢true}
 use Rattle.yaml_scan_model.specs.Faults.{Fault}
-use Rattle.yaml_emit_text.specs.declared.Cursor.{Cursor}
 use Rattle.yaml_emit_text.specs.declared.Encoding.{Encoding}
-use Rattle.yaml_emit_text.specs.declared.Settings.{Settings}
-use Rattle.yaml_emit_text.specs.declared.Status.{Status}
-use Rattle.yaml_emit_text.specs.declared.Status.TheVariants.{Going}
-use Rattle.yaml_emit_text.specs.Text.{Item, encode}
-use Rattle.yaml_emit_text.specs.Settings.{settled}
-use Rattle.yaml_emit_text.specs.Layout.{nothing_more, written}
-use Rattle.yaml_emit_text.specs.Sink.{Output, Ends, EndsBy}
-use Rattle.yaml_emit_layout.specs.declared.Expected.TheVariants as at
+use Rattle.yaml_emit_text.specs.Text.{encode}
 use Rattle.yaml_emit_layout.specs.Content.{Event}
-use Rattle.yaml_emit_layout.specs.State.{State, placed}
 use Rattle.yaml_emit_state.specs.declared.Core.{Core}
-use Rattle.yaml_emit_state.specs.Steps.{state_of, settings_of, IsFreshCore}
 use Rattle.yaml_emit_machine.specs.Held.{held_events}
 use Rattle.yaml_emit_machine.specs.declared.held.Held.{Held}
-use Rattle.yaml_emit_machine.specs.Judged.{laid_some, some_among, LaysSome, first_starts, RefusesHeld}
+use Rattle.yaml_emit_machine.specs.Judged.{first_starts, RefusesHeld}
 use Rattle.yaml_emit_machine.specs.Laying.{HasLaid, LaysEvents}
 use Rattle.yaml_emit_machine.specs.declared.emitter.yaml_emitter_t.TheInside.{Inside}
-use Rattle.yaml_emit_machine.specs.Emitter.{Emitter, text_of, stream_encoding}
+use Rattle.yaml_emit_machine.specs.Emitter.{Emitter}
 use Rattle.yaml_emit_machine.specs.Views.{emitter_of}
 use Rattle.yaml_emit_machine.specs.Verdict.{LaysFirst}
 use Rattle.yaml_emit_machine.specs.Taking.{HasFirst, BlamesLevels, ComesIntoForce}

@@ -11,8 +11,8 @@ use Rattle.yaml_emit_graph.specs.Graph.{dumped}
 use Rattle.yaml_emit_machine.specs.Judged.{let_out, refusal_behind, LetsOut, first_wrong, LaysAll}
 use Rattle.yaml_emit_machine.specs.Emitter.{Emitter, Keeps, left_if}
 use Rattle.yaml_emit_machine.specs.Verdict.{verdict, Writes, wrong, Lays}
-use Rattle.yaml_emit_machine.specs.Taking.{TakesEvents, TakesEarly, GivesText, LaysAtOnce, StaysCanonical, Stuck, NotesMemory, NotesMemoryOf}
-use Rattle.yaml_emit_machine.specs.Dumping.{DumpsAtOnce}
+use Rattle.yaml_emit_machine.specs.Taking.{TakesEvents, TakesEarly, GivesText, LaysAtOnce, Stuck, NotesMemory}
+use Rattle.yaml_emit_machine.specs.Dumping.{LaysOne, DumpsAtOnce}
 use Rattle.yaml_emit_machine.proofs.Taking.{takes_none, notes_any, notes_on}
 use Rattle.yaml_emit_machine.proofs.Released.{AreOut, dumped_out}
 
@@ -75,20 +75,19 @@ early_by false old new e es t going none begun stuck =
 
 -- An event of those that are left was laid out at once; behind a fault the others count for nothing.
 pub dumps_event : (b : Bool) (old new : Emitter) (before after : List Event) (e : Event)
-    → before ≡ e ∷ after → GivesText old e new → NotesMemoryOf e old new → StaysCanonical old new
-    → new.held ≡ [] → new.fresh ≡ false → Keeps old new → (b ≡ true → new.fault ≡ None)
+    → before ≡ e ∷ after → LaysOne old e new → (b ≡ true → new.fault ≡ None)
     → (b ≡ false → Stuck new) → DumpsAtOnce old new b before after
-dumps_event b old new before after e c t m form none begun keeps right stuck =
+dumps_event b old new before after e c l right stuck =
     let P : List Event → Type 0 = λ z. TakesEarly old z new (left_if b after) in
     record {
-      takes = subst P (sym c) (early_by b old new e after t form.0 none begun stuck);
-      memory = notes_any e old new m;
-      keeps = keeps;
+      takes = subst P (sym c) (early_by b old new e after l.text l.form.0 l.none l.begun stuck);
+      memory = notes_any e old new l.memory;
+      keeps = l.keeps;
       once = λ on. record {
         right = right on;
-        begun = begun;
-        form = form.1;
-        none = none;
+        begun = l.begun;
+        form = l.form.1;
+        none = l.none;
       };
     }
 

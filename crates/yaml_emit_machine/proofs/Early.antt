@@ -17,13 +17,15 @@ use Rattle.yaml_emit_machine.specs.declared.held.Held.{Held}
 use Rattle.yaml_emit_machine.specs.Laying.{LaysEvents, is_undecided_at}
 use Rattle.yaml_emit_machine.specs.declared.emitter.yaml_emitter_t.TheInside.{Inside}
 use Rattle.yaml_emit_machine.specs.Views.{emitter_of, IsEmitter}
-use Rattle.yaml_emit_machine.specs.Taking.{GivesText, LaysAtOnce, StaysCanonical}
+use Rattle.yaml_emit_machine.specs.Taking.{LaysAtOnce}
+use Rattle.yaml_emit_machine.specs.Dumping.{LaysOne}
 use Rattle.yaml_emit_machine.specs.Emitter.{refusal_by}
 use Rattle.yaml_emit_machine.proofs.Following.{lays_none, lays_past, lays_unnoted}
 use Rattle.yaml_emit_machine.proofs.Viewing.{left}
 use Rattle.yaml_emit_machine.proofs.Forced.{forced_same}
 use Rattle.yaml_emit_machine.proofs.Emitting.{inside_goes, inside_going}
 use Rattle.yaml_emit_machine.proofs.Taking.{inside_gives}
+use Rattle.yaml_emit_machine.proofs.Blaming.{inside_blames}
 
 -- Behind what was laid out an emitter is as it has to be.
 pub inside_held : (exact : Bool) (i : Inside) (core : Core) (held : Held)
@@ -68,13 +70,17 @@ unfolding is_ready
 inside_once i core fault e inv once l faulty =
     inside_held false i core i.held fault e inv once.begun faulty (inside_lays i core e inv once l) (λ g. ap is_ready once.none) inv.short inv.texts l.settings
 
-pub inside_form : (i : Inside) (core : Core) (e : Event) (fault : Option Fault) → IsEmitter i
+pub inside_one : (i : Inside) (core : Core) (e : Event) (fault : Option Fault) → IsEmitter i
     → LaysAtOnce (emitter_of i) → LaysOut i.core core e false
-    → StaysCanonical (emitter_of i) (left i core i.fresh (held_events i.held) fault)
-inside_form i core e fault inv once l = (inside_going i inv once.right, ap (λ (s : Settings). s.canonical) l.settings ∙ once.form)
-
--- and the text is the same
-pub inside_text : (i : Inside) (core : Core) (e : Event) (fault : Option Fault) → IsEmitter i
-    → LaysAtOnce (emitter_of i) → LaysOut i.core core e false
-    → GivesText (emitter_of i) e (left i core i.fresh (held_events i.held) fault)
-inside_text i core e fault inv once l = inside_gives false i core i.held fault e once.begun (inside_lays i core e inv once l)
+    → LaysOne (emitter_of i) e (left i core i.fresh (held_events i.held) fault)
+inside_one i core e fault inv once l =
+    let lays = inside_lays i core e inv once l in
+    record {
+      text = inside_gives false i core i.held fault e once.begun lays;
+      memory = lays.memory;
+      blames = inside_blames false i core i.held fault e once.begun lays;
+      none = once.none;
+      begun = once.begun;
+      keeps = (refl, refl);
+      form = (inside_going i inv once.right, ap (λ (s : Settings). s.canonical) l.settings ∙ once.form);
+    }

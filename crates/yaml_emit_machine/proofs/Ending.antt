@@ -1,10 +1,9 @@
 -- Where no event is to come, nothing is held, all is written, and the whole passes no limit.
 use Rattle.std.proofs.Common.{◌≡◌, ℕ, ◌+◌, ◌≤◌, List, [], ◌∷◌, ◌++◌, length, Bool, true, false, refl, sym, subst, ◌∙◌, ap, arith, append-nil}
-use Rattle.std.specs.Prelude.{◌||◌}
 use Rattle.yaml_emit_text.specs.declared.Encoding.{Encoding}
 use Rattle.yaml_emit_text.specs.declared.Settings.{Settings}
 use Rattle.yaml_emit_text.specs.declared.Status.{Status}
-use Rattle.yaml_emit_text.specs.declared.Status.TheVariants.{Going, Full, Deep, Starved}
+use Rattle.yaml_emit_text.specs.declared.Status.TheVariants.{Going}
 use Rattle.yaml_emit_text.specs.Text.{Item, encode, is_deep}
 use Rattle.yaml_emit_text.specs.Layout.{nothing_more}
 use Rattle.yaml_emit_text.specs.Sink.{Output, Ends, EndsBy}
@@ -12,10 +11,10 @@ use Rattle.yaml_emit_layout.specs.Content.{Event, Node, alias_node, scalar_node,
 use Rattle.yaml_emit_layout.specs.State.{State}
 use Rattle.yaml_emit_layout.specs.ToCome.{ToCome, stream, documents, root, frames, nothing, Frame, items_left, pairs_left, value_left, events, frame_events, frames_events, ending_events, layout}
 use Rattle.yaml_emit_state.specs.Finish.{Finishes, FinishesAt}
-use Rattle.yaml_emit_machine.specs.Held.{is_ready, needs, closes}
+use Rattle.yaml_emit_machine.specs.Held.{is_ready}
 use Rattle.yaml_emit_machine.specs.Emitter.{Emitter, text_of, Completes, CompletesBy}
 use Rattle.yaml_emit_machine.specs.Within.{Fits}
-use Rattle.yaml_emit_machine.proofs.Holding.{few_needs, le_more, none_needed}
+use Rattle.yaml_emit_machine.proofs.Holding.{three_enough, none_needed}
 
 long_documents : (ds : List Document) → 1 ≤ length (documents_events ds)
 unfolding documents_events
@@ -57,16 +56,12 @@ long_frames (f ∷ fs) es = let h = long_frames fs es in let k = long_frame f (f
 long_ending : (implicit : Bool) (ds : List Document) → 2 ≤ length (ending_events implicit ds)
 long_ending implicit ds = let h = long_documents ds in omega (arith, h)
 
-enough : (e : Event) (es : List Event) → 3 ≤ length es → is_ready (e ∷ es) ≡ true
-unfolding is_ready
-enough e es h = ap (λ v. v || closes es) (le_more (needs e) (length es) 0 (few_needs e) h)
-
 ready_node : (v : Node) (es : List Event) → 2 ≤ length es → is_ready (node_events v es) ≡ true
 unfolding node_events
 ready_node (alias_node name) es h = none_needed _ es refl
 ready_node (scalar_node x) es h = none_needed _ es refl
-ready_node (sequence_node q ns) es h = let k = long_items ns (sequence_end ∷ es) in enough _ _ (omega (arith, k, h))
-ready_node (mapping_node q ps) es h = let k = long_pairs ps (mapping_end ∷ es) in enough _ _ (omega (arith, k, h))
+ready_node (sequence_node q ns) es h = let k = long_items ns (sequence_end ∷ es) in three_enough _ _ (omega (arith, k, h))
+ready_node (mapping_node q ps) es h = let k = long_pairs ps (mapping_end ∷ es) in three_enough _ _ (omega (arith, k, h))
 
 ready_frame : (f : Frame) (es : List Event) → 2 ≤ length es → is_ready (frame_events f es) ≡ true
 unfolding frame_events items_events pairs_events
@@ -87,7 +82,7 @@ ready_rest (documents first unended []) e es h = none_needed _ _ refl
 ready_rest (documents first unended (d ∷ ds)) e es h =
     let l = long_ending d.implicit_end ds in
     let k = long_node d.root (ending_events d.implicit_end ds) in
-    enough _ _ (omega (arith, k, l))
+    three_enough _ _ (omega (arith, k, l))
 ready_rest (root g v implicit ds) e es h = ready_node v _ (long_ending implicit ds)
 ready_rest (frames g [] implicit ds) e es h = none_needed _ _ refl
 ready_rest (frames g (f ∷ fs) implicit ds) e es h = let l = long_ending implicit ds in let k = long_frames fs (ending_events implicit ds) in ready_frame f _ (omega (arith, k, l))

@@ -1,9 +1,8 @@
 -- What is held, and when it is laid out.
-use Rattle.std.proofs.Common.{◌≡◌, ℕ, ◌+◌, ◌<◌, List, [], ◌∷◌, ◌++◌, length, Bool, true, false, refl, sym, subst, ◌∙◌, ap, arith, length-append}
-use Rattle.std.specs.Prelude.{nat_le, not, ◌||◌, ◌&&◌, ◌≤◌, Option}
-use Rattle.std.proofs.lemmas.Bool.{false≢true}
-use Rattle.std.proofs.lemmas.Bool.Decides.{nat_tests}
-use Rattle.yaml_emit_layout.specs.Content.{Event, no_event, stream_start, stream_end, document_start, document_end, alias, scalar, sequence_start, sequence_end, mapping_start, mapping_end}
+use Rattle.std.proofs.Common.{◌≡◌, ◌+◌, ◌<◌, List, [], ◌∷◌, ◌++◌, length, Bool, true, false, refl, sym, subst, ◌∙◌, ap, arith, length-append}
+use Rattle.std.specs.Prelude.{not, ◌||◌, ◌&&◌, ◌≤◌, Option}
+use Rattle.std.proofs.lemmas.Bool.{false≢true, le-leb}
+use Rattle.yaml_emit_layout.specs.Content.{Event, no_event, sequence_start, mapping_start}
 use Rattle.yaml_emit_layout.specs.State.{opens_empty}
 use Rattle.yaml_emit_layout.specs.declared.Level.{Level}
 use Rattle.yaml_emit_state.specs.Due.{is_undecided}
@@ -30,30 +29,28 @@ pub closes_last : (e : Event) → ends_level e ≡ closes (e ∷ [])
 closes_last no_event = refl
 closes_last _ = refl
 
--- No event waits for more than three that follow.
-pub few_needs : (e : Event) → nat_le (needs e) 3 ≡ true
-few_needs no_event = refl
-few_needs _ = refl
-
--- What at most three are enough for, more are enough for too.
-pub le_more : (n m k : ℕ) → nat_le n 3 ≡ true → 3 ≤ m → nat_le n m ≡ true
-le_more n m k h l = grind (arith, nat_tests)
-
-four_ready : (a b c d : Event) (xs : List Event) → is_ready (a ∷ b ∷ c ∷ d ∷ xs) ≡ true
+-- what has behind it what it needs is ready
+pub enough : (e : Event) (es : List Event) → needs e ≤ length es → is_ready (e ∷ es) ≡ true
 unfolding is_ready
-four_ready a b c d xs = ap (λ v. v || closes (b ∷ c ∷ d ∷ xs)) (le_more (needs a) (length (b ∷ c ∷ d ∷ xs)) 0 (few_needs a) (omega arith))
+enough e es h = ap (λ v. v || closes es) (le-leb (needs e) (length es) h)
+
+-- no event waits for more than three that follow
+pub few_needs : (e : Event) → needs e ≤ 3
+few_needs no_event = omega arith
+few_needs _ = omega arith
+
+pub three_enough : (e : Event) (es : List Event) → 3 ≤ length es → is_ready (e ∷ es) ≡ true
+three_enough e es h = let few = few_needs e in enough e es (omega (arith, few, h))
 
 pub waits_few : (xs : List Event) → is_ready xs ≡ false → length xs < 4
 waits_few [] h = omega arith
 waits_few (a ∷ []) h = omega arith
 waits_few (a ∷ b ∷ []) h = omega arith
 waits_few (a ∷ b ∷ c ∷ []) h = omega arith
-waits_few (a ∷ b ∷ c ∷ d ∷ xs) h = let k = four_ready a b c d xs in absurd (cc)
+waits_few (a ∷ b ∷ c ∷ d ∷ xs) h = let k = three_enough a (b ∷ c ∷ d ∷ xs) (omega arith) in absurd (cc)
 
--- what needs nothing behind it is ready
 pub none_needed : (e : Event) (es : List Event) → needs e ≡ 0 → is_ready (e ∷ es) ≡ true
-unfolding is_ready
-none_needed e es h = let k : nat_le (needs e) (length es) ≡ true = rw h (grind (arith, nat_tests)) in ap (λ v. v || closes es) k
+none_needed e es h = enough e es (omega (arith, h))
 
 pub both_false : (a b : Bool) → b ≡ true → (a && b) ≡ false → a ≡ false
 both_false false b g h = refl
@@ -92,7 +89,7 @@ few_room : (xs : List Event) (f : Event) → releases xs f ≡ false → length 
 few_room [] f h m = omega arith
 few_room (a ∷ []) f h m = omega arith
 few_room (a ∷ b ∷ []) f h m = omega arith
-few_room (a ∷ b ∷ c ∷ []) f h m = let k = four_ready a b c f [] in absurd (cc)
+few_room (a ∷ b ∷ c ∷ []) f h m = let k = three_enough a (b ∷ c ∷ f ∷ []) (omega arith) in absurd (cc)
 few_room (a ∷ b ∷ c ∷ d ∷ xs) f h m = absurd (omega (arith, m))
 
 few_room_by : (early : Bool) (xs : List Event) (f : Event) → releases_by early xs f ≡ false

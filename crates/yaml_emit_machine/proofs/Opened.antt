@@ -1,11 +1,11 @@
 -- How far a dump has opened the stream.
-use Rattle.std.proofs.Common.{◌≡◌, ◌≢◌, ℕ, ◌≤◌, List, [], ◌∷◌, length, Bool, true, false, sym, subst, refl, ◌∙◌, Option, Some, None, Result, Ok, Err}
+use Rattle.std.proofs.Common.{◌≡◌, ◌≢◌, ℕ, ◌≤◌, List, [], ◌∷◌, length, Bool, true, false, sym, subst, ◌∙◌, Option, None, Result, Ok, Err}
 use Rattle.std.specs.Prelude.{OnErr}
 use Rattle.yaml_scan_model.specs.Faults.{Fault}
 use Rattle.yaml_scan_model.specs.declared.yaml_fault_t.{yaml_fault_t}
 use Rattle.yaml_emit_text.specs.declared.Encoding.{Encoding}
 use Rattle.yaml_emit_text.specs.declared.Status.{Status}
-use Rattle.yaml_emit_text.specs.declared.Status.TheVariants.{Going, Full, Deep, Starved}
+use Rattle.yaml_emit_text.specs.declared.Status.TheVariants.{Going}
 use Rattle.yaml_emit_text.specs.Text.{Item, encode, is_deep}
 use Rattle.yaml_emit_layout.specs.Content.{Event}
 use Rattle.yaml_emit_machine.specs.Emitter.{Emitter, Answers}

@@ -1,15 +1,14 @@
 -- Behind the events of a dump none of them is held.
-use Rattle.std.proofs.Common.{◌≡◌, ℕ, suc, ◌≤◌, List, [], ◌∷◌, ◌++◌, length, length-append, Bool, true, false, refl, ◌∙◌, ap, arith}
-use Rattle.std.specs.Prelude.{◌||◌, nat_le}
+use Rattle.std.proofs.Common.{◌≡◌, List, [], ◌∷◌, ◌++◌, length, true, refl, ◌∙◌, ap, arith}
+use Rattle.std.specs.Prelude.{nat_le}
 use Rattle.std.proofs.Math.Bool.{or-true}
-use Rattle.std.proofs.lemmas.Bool.{le-leb}
 use Rattle.yaml_parse_document.specs.Documents as documents
 use Rattle.yaml_emit_layout.specs.Content.{Start, Opening, Node, alias_node, scalar_node, sequence_node, mapping_node, Nodes, no_nodes, node, Pairs, no_pairs, pair, Event, document_start, document_end, alias, scalar, sequence_start, sequence_end, mapping_start, mapping_end, node_events, items_events, pairs_events}
 use Rattle.yaml_emit_graph.specs.Graph.{graph_content, dumped}
-use Rattle.yaml_emit_machine.specs.Held.{closes, needs, is_ready}
+use Rattle.yaml_emit_machine.specs.Held.{needs, is_ready}
 use Rattle.yaml_emit_machine.specs.Judged.{let_out}
-use Rattle.yaml_emit_machine.proofs.Holding.{none_needed}
-use Rattle.yaml_emit_machine.proofs.Judging.{first_out}
+use Rattle.yaml_emit_machine.proofs.Holding.{enough, none_needed}
+use Rattle.yaml_emit_machine.proofs.Judging.{first_out, ready_more}
 use Rattle.yaml_emit_machine.proofs.Ending.{long_node, long_items, long_pairs}
 
 -- all of these are let out, whatever follows
@@ -22,17 +21,9 @@ out_next e es ready out = λ more. first_out e (es ++ more) (ready more) ∙ ap 
 
 -- ---- what opens a level there is followed by what it needs
 
-or_long : (n : ℕ) (es more : List Event) → n ≤ length es
-    → (nat_le n (length (es ++ more)) || closes (es ++ more)) ≡ true
-or_long n es more h =
-    let e = length-append es more in
-    let k : nat_le n (length (es ++ more)) ≡ true = le-leb n (length (es ++ more)) (omega (arith, e, h)) in
-    ap (λ b. b || closes (es ++ more)) k
-
 document_ready : (o : Opening) (v : Node) (es more : List Event)
     → is_ready (document_start o ∷ (node_events v es ++ more)) ≡ true
-unfolding is_ready
-document_ready o v es more = let k = long_node v es in or_long 1 (node_events v es) more (omega (arith, k))
+document_ready o v es more = let k = long_node v es in ready_more _ (node_events v es) more (enough _ _ (omega (arith, k)))
 
 sequence_ready : (q : Start) (ns : Nodes) (es more : List Event)
     → is_ready (sequence_start q ∷ (items_events ns (sequence_end ∷ es) ++ more)) ≡ true
@@ -41,7 +32,8 @@ sequence_ready q no_nodes es more = or-true (nat_le 2 (length ((sequence_end ∷
 sequence_ready q (node v ns) es more =
     let k = long_node v (items_events ns (sequence_end ∷ es)) in
     let l = long_items ns (sequence_end ∷ es) in
-    or_long 2 (node_events v (items_events ns (sequence_end ∷ es))) more (omega (arith, k, l))
+    ready_more (sequence_start q) (node_events v (items_events ns (sequence_end ∷ es))) more
+    (enough (sequence_start q) (node_events v (items_events ns (sequence_end ∷ es))) (omega (arith, k, l)))
 
 mapping_ready : (q : Start) (ps : Pairs) (es more : List Event)
     → is_ready (mapping_start q ∷ (pairs_events ps (mapping_end ∷ es) ++ more)) ≡ true
@@ -51,7 +43,8 @@ mapping_ready q (pair n v ps) es more =
     let k = long_pairs ps (mapping_end ∷ es) in
     let l = long_node v (pairs_events ps (mapping_end ∷ es)) in
     let m = long_node n (node_events v (pairs_events ps (mapping_end ∷ es))) in
-    or_long 3 (node_events n (node_events v (pairs_events ps (mapping_end ∷ es)))) more (omega (arith, k, l, m))
+    ready_more (mapping_start q) (node_events n (node_events v (pairs_events ps (mapping_end ∷ es)))) more
+    (enough (mapping_start q) (node_events n (node_events v (pairs_events ps (mapping_end ∷ es)))) (omega (arith, k, l, m)))
 
 -- ---- so it is let out
 

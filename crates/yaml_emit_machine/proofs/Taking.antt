@@ -7,7 +7,7 @@ use Rattle.yaml_emit_text.specs.declared.Cursor.{Cursor}
 use Rattle.yaml_emit_text.specs.declared.Encoding.{Encoding}
 use Rattle.yaml_emit_text.specs.declared.Settings.{Settings}
 use Rattle.yaml_emit_text.specs.declared.Status.{Status}
-use Rattle.yaml_emit_text.specs.declared.Status.TheVariants.{Going, Full, Deep, Starved}
+use Rattle.yaml_emit_text.specs.declared.Status.TheVariants.{Going}
 use Rattle.yaml_emit_text.specs.Text.{Item}
 use Rattle.yaml_emit_text.specs.Settings.{settled}
 use Rattle.yaml_emit_text.specs.Layout.{Layout, nothing_more, written}

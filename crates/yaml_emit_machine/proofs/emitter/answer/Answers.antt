@@ -1,4 +1,4 @@
-use Rattle.std.proofs.Common.{◌≡◌, false, ap, option_map}
+use Rattle.std.proofs.Common.{ap, option_map}
 use Rattle.yaml_scan_model.specs.Faults.{fault_of}
 use Rattle.yaml_emit_machine.proofs.Emitting.{inside_begun}
 use Rattle.yaml_emit_machine.proofs.Taking.{inside_stuck}

@@ -1,5 +1,5 @@
-use Rattle.std.proofs.Common.{sym, ◌∙◌, arith, false, true}
-use Rattle.yaml_emit_machine.proofs.Holding.{few_short, passed_by_waits}
+use Rattle.std.proofs.Common.{sym, ◌∙◌, false, true}
+use Rattle.yaml_emit_machine.proofs.Holding.{few_short}
 use Rattle.yaml_emit_machine.proofs.Following.{lays_none, lays_past}
 use Rattle.yaml_emit_machine.proofs.release.hold_or_lay_early.Goals as goal
 

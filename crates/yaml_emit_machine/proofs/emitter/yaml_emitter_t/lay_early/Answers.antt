@@ -1,4 +1,4 @@
-use Rattle.std.proofs.Common.{None, false}
+use Rattle.std.proofs.Common.{None, false, refl}
 use Rattle.yaml_parse_model.specs.Events.{body_of}
 use Rattle.yaml_emit_layout.specs.Content.{emitter_event}
 use Rattle.yaml_emit_machine.proofs.Early.{inside_held}
@@ -12,15 +12,14 @@ invariant_of-self c =
     let h = c.hold_or_lay_early.ensures in
     inside_held false c.self.inside c.hold_or_lay_early.new.core c.hold_or_lay_early.new.held _ _ c.self.invariant fr c.note.ensures h.lays h.waits h.short h.utf8 h.settings
 
-pub returns-clause-text : goal.returns-clause-text
-returns-clause-text c =
-    let fr = rw (← c.self.view_is) at c.requires.begun in
-    rw (← c.self.view_is) (inside_gives false c.self.inside c.hold_or_lay_early.new.core c.hold_or_lay_early.new.held _ _ fr c.hold_or_lay_early.ensures.lays)
-
-pub returns-clause-memory : goal.returns-clause-memory
-returns-clause-memory c = rw (← c.self.view_is) c.hold_or_lay_early.ensures.lays.memory
-
-pub returns-clause-blames : goal.returns-clause-blames
-returns-clause-blames c =
-    let fr = rw (← c.self.view_is) at c.requires.begun in
-    rw (← c.self.view_is) (inside_blames false c.self.inside c.hold_or_lay_early.new.core c.hold_or_lay_early.new.held None (emitter_event (body_of c.args.event.now)) fr c.hold_or_lay_early.ensures.lays)
+pub returns : goal.returns
+returns c = record {
+  text = let fr = rw (← c.self.view_is) at c.requires.begun in
+      rw (← c.self.view_is) (inside_gives false c.self.inside c.hold_or_lay_early.new.core c.hold_or_lay_early.new.held _ _ fr c.hold_or_lay_early.ensures.lays);
+  memory = rw (← c.self.view_is) c.hold_or_lay_early.ensures.lays.memory;
+  blames = let fr = rw (← c.self.view_is) at c.requires.begun in
+      rw (← c.self.view_is) (inside_blames false c.self.inside c.hold_or_lay_early.new.core c.hold_or_lay_early.new.held None (emitter_event (body_of c.args.event.now)) fr c.hold_or_lay_early.ensures.lays);
+  few = c.hold_or_lay_early.ensures.short;
+  opened = rw (← c.self.view_is) (refl, refl);
+  begun = rw (← c.self.view_is) at c.requires.begun;
+}

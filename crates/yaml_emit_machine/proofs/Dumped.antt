@@ -97,7 +97,8 @@ takes_closing : (closed : Bool) (old new : Emitter) → (closed ≡ true → new
 takes_closing true old new a t = let P : Emitter → Type 0 = λ z. TakesEvents old [] z [] in subst P (sym (a refl)) (takes_none old [])
 takes_closing false old new a t = t refl
 
-notes_closing : (closed : Bool) (old new : Emitter) → (closed ≡ true → new ≡ old)
+-- what is noted at a stream's end is noted of the whole
+pub notes_closing : (closed : Bool) (old new : Emitter) → (closed ≡ true → new ≡ old)
     → (closed ≡ false → NotesMemoryOf stream_end old new) → NotesMemory true old new
 notes_closing true old new a m = let P : Emitter → Type 0 = λ z. NotesMemory true old z in subst P (sym (a refl)) (λ n. refl)
 notes_closing false old new a m = notes_any stream_end old new (m refl)
@@ -135,11 +136,6 @@ pub takes_end : (old new : Emitter) (d : Document) (count : ℕ) → count ≡ l
     → (old.closed ≡ false → TakesEvents old (stream_end ∷ []) new [])
     → TakesEvents old (document_events old.closed d) new []
 takes_end old new d count n h a t = let P : List Event → Type 0 = λ z. TakesEvents old z new [] in subst P (sym (document_events_none d.nodes old.closed d (sym n ∙ h))) (takes_closing old.closed old new a t)
-
--- What is noted at a stream's end is noted of the whole.
-pub notes_end : (old new : Emitter) → (old.closed ≡ true → new ≡ old)
-    → (old.closed ≡ false → NotesMemoryOf stream_end old new) → NotesMemory true old new
-notes_end old new a m = notes_closing old.closed old new a m
 
 -- one with a root is written
 pub takes_document : (old new : Emitter) (d : Document) (count : ℕ) → count ≡ length d.nodes

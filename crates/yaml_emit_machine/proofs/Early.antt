@@ -1,6 +1,6 @@
 -- Behind an event the state is as it has to be. Where no event is held, one is laid out as it comes in canonical form: the text is
 -- the same.
-use Rattle.std.proofs.Common.{◌≡◌, List, [], ◌∷◌, ◌++◌, Bool, true, false, refl, sym, ◌∙◌, ap, Option, length, option_map}
+use Rattle.std.proofs.Common.{◌≡◌, [], ◌∷◌, ◌++◌, Bool, true, false, refl, sym, ◌∙◌, ap, Option, length, option_map}
 use Rattle.std.specs.Prelude.{◌≤◌}
 use Rattle.std.proofs.lemmas.Bool.{false≢true}
 use Rattle.yaml_scan_model.specs.Faults.{Fault, fault_of}
@@ -12,7 +12,7 @@ use Rattle.yaml_emit_state.specs.declared.Core.{Core}
 use Rattle.yaml_emit_state.specs.Stack.{stack_of}
 use Rattle.yaml_emit_state.specs.Steps.{LaysOut, goes_on}
 use Rattle.yaml_emit_state.proofs.Settled.{canonical_decided}
-use Rattle.yaml_emit_machine.specs.Held.{held_events, HeldUtf8, is_ready, passes_by}
+use Rattle.yaml_emit_machine.specs.Held.{held_events, HeldUtf8, is_ready, are_some}
 use Rattle.yaml_emit_machine.specs.declared.held.Held.{Held}
 use Rattle.yaml_emit_machine.specs.Laying.{LaysEvents, is_undecided_at}
 use Rattle.yaml_emit_machine.specs.declared.emitter.yaml_emitter_t.TheInside.{Inside}
@@ -20,6 +20,7 @@ use Rattle.yaml_emit_machine.specs.Views.{emitter_of, IsEmitter}
 use Rattle.yaml_emit_machine.specs.Taking.{LaysAtOnce}
 use Rattle.yaml_emit_machine.specs.Dumping.{LaysOne}
 use Rattle.yaml_emit_machine.specs.Emitter.{refusal_by}
+use Rattle.yaml_emit_machine.proofs.Holding.{passes_decided}
 use Rattle.yaml_emit_machine.proofs.Following.{lays_none, lays_past, lays_unnoted}
 use Rattle.yaml_emit_machine.proofs.Viewing.{left}
 use Rattle.yaml_emit_machine.proofs.Forced.{forced_same}
@@ -47,19 +48,13 @@ inside_held exact i core held fault e inv fr faulty l waits short texts same = r
   memory = lays_unnoted exact i.core core _ _ l inv.memory;
 }
 
-passes_canonical : (held : List Event) (undecided : Bool) (e : Event) → held ≡ []
-    → undecided ≡ false → passes_by true held undecided e ≡ true
-passes_canonical [] false e h k = refl
-passes_canonical [] true e h k = absurd (cc)
-passes_canonical (f ∷ fs) undecided e h k = absurd (cc)
-
 -- An event was laid out at once: it is all that is left of those that were held and it.
 pub inside_lays : (i : Inside) (core : Core) (e : Event) → IsEmitter i → LaysAtOnce (emitter_of i)
     → LaysOut i.core core e false
     → LaysEvents false i.core (held_events i.held ++ e ∷ []) core (held_events i.held)
 inside_lays i core e inv once l =
     let decided : is_undecided_at i.core e ≡ false = canonical_decided i.core.settings.canonical (top_of (stack_of i.core.levels)) e once.form in
-    lays_past true i.core i.core core (held_events i.held ++ e ∷ []) (held_events i.held) e (lays_none false i.core (held_events i.held ++ e ∷ [])) (inside_goes i inv once.right) (passes_canonical (held_events i.held) (is_undecided_at i.core e) e once.none decided) l
+    lays_past true i.core i.core core (held_events i.held ++ e ∷ []) (held_events i.held) e (lays_none false i.core (held_events i.held ++ e ∷ [])) (inside_goes i inv once.right) (passes_decided (held_events i.held) (is_undecided_at i.core e) (ap are_some once.none) decided) l
 
 -- and an emitter is as it has to be, and goes on in canonical form
 pub inside_once : (i : Inside) (core : Core) (fault : Option yaml_fault_t) (e : Event)

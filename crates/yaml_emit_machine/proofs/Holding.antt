@@ -1,7 +1,7 @@
 -- What is held, and when it is laid out.
-use Rattle.std.proofs.Common.{◌≡◌, ◌+◌, ◌<◌, List, [], ◌∷◌, ◌++◌, length, Bool, true, false, refl, sym, subst, ◌∙◌, ap, arith, length-append}
+use Rattle.std.proofs.Common.{◌≡◌, ◌+◌, List, [], ◌∷◌, ◌++◌, length, Bool, true, false, refl, sym, subst, ◌∙◌, ap, arith, length-append}
 use Rattle.std.specs.Prelude.{not, ◌||◌, ◌&&◌, ◌≤◌, Option}
-use Rattle.std.proofs.lemmas.Bool.{false≢true, le-leb}
+use Rattle.std.proofs.lemmas.Bool.{false≢true, le-leb, not-false}
 use Rattle.yaml_emit_layout.specs.Content.{Event, no_event, sequence_start, mapping_start}
 use Rattle.yaml_emit_layout.specs.State.{opens_empty}
 use Rattle.yaml_emit_layout.specs.declared.Level.{Level}
@@ -42,13 +42,6 @@ few_needs _ = omega arith
 pub three_enough : (e : Event) (es : List Event) → 3 ≤ length es → is_ready (e ∷ es) ≡ true
 three_enough e es h = let few = few_needs e in enough e es (omega (arith, few, h))
 
-pub waits_few : (xs : List Event) → is_ready xs ≡ false → length xs < 4
-waits_few [] h = omega arith
-waits_few (a ∷ []) h = omega arith
-waits_few (a ∷ b ∷ []) h = omega arith
-waits_few (a ∷ b ∷ c ∷ []) h = omega arith
-waits_few (a ∷ b ∷ c ∷ d ∷ xs) h = let k = three_enough a (b ∷ c ∷ d ∷ xs) (omega arith) in absurd (cc)
-
 pub none_needed : (e : Event) (es : List Event) → needs e ≡ 0 → is_ready (e ∷ es) ≡ true
 none_needed e es h = enough e es (omega (arith, h))
 
@@ -59,7 +52,11 @@ both_false true false g h = absurd (cc)
 
 -- three wait at most
 pub few_short : (xs : List Event) → is_ready xs ≡ false → length xs ≤ 3
-few_short xs h = let few = waits_few xs h in omega (arith, few)
+few_short [] h = omega arith
+few_short (a ∷ []) h = omega arith
+few_short (a ∷ b ∷ []) h = omega arith
+few_short (a ∷ b ∷ c ∷ []) h = omega arith
+few_short (a ∷ b ∷ c ∷ d ∷ xs) h = let k = three_enough a (b ∷ c ∷ d ∷ xs) (omega arith) in absurd (cc)
 
 pub pushed_most : (xs ys : List Event) (e : Event) → ys ≡ xs ++ e ∷ [] → length xs ≤ 2
     → length ys ≤ 3
@@ -87,10 +84,10 @@ released_ready (e ∷ es) f h = h
 -- an event that comes behind three finds the oldest ready
 few_room : (xs : List Event) (f : Event) → releases xs f ≡ false → length xs ≤ 3 → length xs ≤ 2
 few_room [] f h m = omega arith
-few_room (a ∷ []) f h m = omega arith
-few_room (a ∷ b ∷ []) f h m = omega arith
-few_room (a ∷ b ∷ c ∷ []) f h m = let k = three_enough a (b ∷ c ∷ f ∷ []) (omega arith) in absurd (cc)
-few_room (a ∷ b ∷ c ∷ d ∷ xs) f h m = absurd (omega (arith, m))
+few_room (a ∷ xs) f h m =
+    let few = few_short (a ∷ (xs ++ f ∷ [])) h in
+    let more = length-append xs (f ∷ []) in
+    omega (arith, few, more)
 
 few_room_by : (early : Bool) (xs : List Event) (f : Event) → releases_by early xs f ≡ false
     → length xs ≤ 3 → length xs ≤ 2
@@ -145,17 +142,13 @@ undecided_waits canonical top (sequence_start p) h = refl
 undecided_waits canonical top (mapping_start p) h = refl
 undecided_waits canonical top _ h = absurd (cc)
 
-not_passed : (undecided : Bool) → (true && not undecided) ≡ false → undecided ≡ true
-not_passed true h = refl
-not_passed false h = absurd (cc)
-
 -- the same of one that comes early
 pub pushed_by_waits : (early : Bool) (xs ys : List Event) (canonical : Bool) (top : Option Level)
     (f : Event) → ys ≡ xs ++ f ∷ [] → releases_by early xs f ≡ false
     → passes_by early xs (is_undecided canonical top f) f ≡ false → is_ready ys ≡ false
 pushed_by_waits false xs ys canonical top f same r p = pushed_waits xs ys f same r p
 pushed_by_waits true [] ys canonical top f same r p =
-    ap is_ready same ∙ undecided_waits canonical top f (not_passed (is_undecided canonical top f) p)
+    ap is_ready same ∙ undecided_waits canonical top f (not-false (is_undecided canonical top f) p)
 pushed_by_waits true (e ∷ es) ys canonical top f same r p = absurd (cc)
 
 in_slots : Count → Slot → yaml_event_body_t → yaml_event_body_t → yaml_event_body_t → Held

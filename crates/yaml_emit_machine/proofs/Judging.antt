@@ -23,11 +23,11 @@ use Rattle.yaml_emit_layout.specs.Grammar.{or_else, ends_phase, begins_node, may
 use Rattle.yaml_emit_layout.specs.Nodes.{Context, context_of}
 use Rattle.yaml_emit_layout.specs.State.{State, piece, next, next_at, problem_at, opens_empty, begins_by, is_sequence_end, is_mapping_end, top_of, outer_of, place_at, among, levels_behind, phase_behind}
 use Rattle.yaml_emit_state.specs.declared.Core.{Core}
-use Rattle.yaml_emit_state.specs.Steps.{state_of, settings_of, next_state, next_piece, LaysOut, takes_memory, is_document_start, may_note, goes_on}
+use Rattle.yaml_emit_state.specs.Steps.{state_of, settings_of, next_state, next_piece, LaysOut, may_note, goes_on}
 use Rattle.yaml_emit_state.proofs.Finishing.{same_settings}
 use Rattle.yaml_emit_machine.specs.Held.{is_ready, needs, closes, opens_level, ends_level}
 use Rattle.yaml_emit_layout.specs.Progress.{Due, item_due, key_due, progress_after, inside, behind_node, outer_due, phase_due, level_due, problem_in, first_refusal}
-use Rattle.yaml_emit_machine.specs.Judged.{let_out, unless, laid, refused_at, due_in, due_of, shape_of, refusal_among, text_among, refusal_behind, LetsOut, first_wrong, LaysAll, laid_some, LaysSome, first_takes, first_starts}
+use Rattle.yaml_emit_machine.specs.Judged.{let_out, unless, laid, refused_at, due_in, due_of, shape_of, refusal_among, text_among, refusal_behind, LetsOut, first_wrong, LaysAll, laid_some, LaysSome}
 use Rattle.yaml_emit_machine.proofs.Holding.{none_needed}
 
 -- ---- what is ready stays so
@@ -233,23 +233,18 @@ end_mapping : (f : Event) (es : List Event) → is_ready (f ∷ es) ≡ false �
 end_mapping mapping_end es r = let k = none_needed mapping_end es refl in absurd (cc)
 end_mapping f es r = refl
 
-sequence_begins : (es : List Event)
-    → begins_by is_sequence_end (let_out es) ≡ begins_by is_sequence_end es
+ends_begin : (p : Event → Bool)
+    → ((f : Event) (es : List Event) → is_ready (f ∷ es) ≡ false → p f ≡ false) → (es : List Event)
+    → begins_by p (let_out es) ≡ begins_by p es
 unfolding let_out
-sequence_begins [] = refl
-sequence_begins (f ∷ es) = out_begins is_sequence_end (is_ready (f ∷ es)) f es refl (end_sequence f es)
-
-mapping_begins : (es : List Event)
-    → begins_by is_mapping_end (let_out es) ≡ begins_by is_mapping_end es
-unfolding let_out
-mapping_begins [] = refl
-mapping_begins (f ∷ es) = out_begins is_mapping_end (is_ready (f ∷ es)) f es refl (end_mapping f es)
+ends_begin p never [] = refl
+ends_begin p never (f ∷ es) = out_begins p (is_ready (f ∷ es)) f es refl (never f es)
 
 -- whether a collection is opened and at once closed is told by the events that are let out
 pub empty_out : (e : Event) (es : List Event) → opens_empty e (let_out es) ≡ opens_empty e es
 unfolding opens_empty
-empty_out (sequence_start p) es = sequence_begins es
-empty_out (mapping_start p) es = mapping_begins es
+empty_out (sequence_start p) es = ends_begin is_sequence_end end_sequence es
+empty_out (mapping_start p) es = ends_begin is_mapping_end end_mapping es
 empty_out _ es = refl
 
 -- what an event that was laid out has done, by what was wrong with it
@@ -371,14 +366,6 @@ drop_next zero [] e ys h = absurd (cc)
 drop_next zero (x ∷ xs) e ys h = cc
 drop_next (suc k) [] e ys h = absurd (cc)
 drop_next (suc k) (x ∷ xs) e ys h = drop_next k xs e ys h
-
-pub first_there : (k : ℕ) (xs : List Event) (e : Event) (ys : List Event) → drop k xs ≡ e ∷ ys
-    → takes_memory e ≡ true → first_takes (drop k xs) ≡ true
-first_there k xs e ys h t = ap first_takes h ∙ t
-
-pub start_there : (k : ℕ) (xs : List Event) (e : Event) (ys : List Event) → drop k xs ≡ e ∷ ys
-    → is_document_start e ≡ true → first_starts (drop k xs) ≡ true
-start_there k xs e ys h t = ap first_starts h ∙ t
 
 -- ---- one event
 

@@ -6,7 +6,7 @@ use Rattle.yaml_emit_text.specs.declared.Settings.{Settings}
 use Rattle.yaml_emit_text.specs.declared.Status.{Status}
 use Rattle.yaml_emit_text.specs.declared.Status.TheVariants.{Going, Deep}
 use Rattle.yaml_emit_text.specs.Text.{Item, encode, is_deep, shallow}
-use Rattle.yaml_emit_text.specs.Layout.{Rest, nothing_more}
+use Rattle.yaml_emit_text.specs.Layout.{nothing_more}
 use Rattle.yaml_emit_text.specs.Sink.{Output, Ends, EndsBy}
 use Rattle.yaml_emit_layout.specs.declared.Problem.{Problem}
 use Rattle.yaml_emit_layout.specs.Content.{Event}
@@ -40,25 +40,17 @@ ends_let_out : (o : Output) (text whole : List Item) → (o.status ≡ Going →
 unfolding Ends
 ends_let_out o text whole n h = let_out_by o.status o.limit o.encoding o.bytes text whole n h
 
-held_unjudged : (canonical : Bool) (h : Progress) (es : List Event) → is_ready es ≡ false
-    → first_refusal canonical h (let_out es) ≡ None
-unfolding first_refusal
-held_unjudged canonical h es r = ap (first_refusal canonical h) (held_stays es r)
-
-held_unwritten : (s : Settings) (st : State) (es : List Event) (c : Cursor) (rest : Rest)
-    → is_ready es ≡ false → laid s st (let_out es) c rest ≡ rest c
-unfolding laid
-held_unwritten s st es c rest r = ap (λ z. laid s st z c rest) (held_stays es r)
-
 -- nothing is to come behind a refusal, and what is held isn't let out
 refusal_now : (p : Option Problem) (canonical : Bool) (h : Progress) (es : List Event)
     → (p ≡ None → is_ready es ≡ false) → p ≡ or_else p (first_refusal canonical h (let_out es))
-refusal_now None canonical h es w = sym (held_unjudged canonical h es (w refl))
+unfolding first_refusal
+refusal_now None canonical h es w = sym (ap (first_refusal canonical h) (held_stays es (w refl)))
 refusal_now (Some x) canonical h es w = refl
 
 text_now : (p : Option Problem) (s : Settings) (st : State) (es : List Event) (c : Cursor)
     → (p ≡ None → is_ready es ≡ false) → unless p (laid s st (let_out es)) c nothing_more ≡ []
-text_now None s st es c w = held_unwritten s st es c nothing_more (w refl)
+unfolding laid
+text_now None s st es c w = ap (λ z. laid s st z c nothing_more) (held_stays es (w refl))
 text_now (Some x) s st es c w = refl
 
 fault_now : (s : Status) (b : Bool) (p q : Option Problem) → (s ≡ Going → p ≡ q)

@@ -1,5 +1,6 @@
 pub use Rattle.yaml_emit_machine.proofs.Seeing
 mod Told
+mod Setting
 pub use Rattle.yaml_emit_machine.proofs.Opened
 pub use Rattle.yaml_emit_machine.proofs.Blaming
 pub use Rattle.yaml_emit_machine.proofs.Emitting

@@ -1,19 +1,17 @@
 -- What opens and closes collections, with the default tag and without an anchor.
-use Rattle.std.proofs.Common.{◌≡◌, ◌+◌, ℕ, false, List, Vec, length, refl, sym, ap, Option, None, Some, arith}
-use Rattle.std.specs.Global.{Global}
+use Rattle.std.proofs.Common.{◌≡◌, ◌+◌, ℕ, false, List, refl, sym, Option, None, Some}
 use Rattle.std.specs.Prelude.{ℤ}
 use Rattle.yaml_parse_model.specs.Nodes as model
 use Rattle.yaml_parse_document.specs.Documents.{Document, node_at}
 use Rattle.yaml_emit_layout.specs.Content.{is_flow_sequence, is_flow_mapping}
 use Rattle.yaml_emit_graph.specs.declared.graph.Events.{Events}
-use Rattle.yaml_emit_graph.specs.declared.walk.Turn.{Turn}
 use Rattle.yaml_emit_graph.specs.declared.walk.Turn.TheVariants.{First, Leave}
 use Rattle.yaml_emit_graph.specs.declared.bracket.Bracket.{Bracket}
-use Rattle.yaml_emit_graph.specs.declared.bracket.Bracket.TheVariants.{OpensSequence, OpensMapping, ClosesSequence, ClosesMapping}
+use Rattle.yaml_emit_graph.specs.declared.bracket.Bracket.TheVariants.{OpensSequence, OpensMapping}
 use Rattle.yaml_emit_graph.specs.Graph.{number_at, tag_at, body_at, body_of_id, anchor_of, opening_event, closing_event, turn_event}
 use Rattle.yaml_emit_graph.specs.Brackets.{OpensBody, NamesOpening, IsPlainBracket, closing_bracket}
-use Rattle.yaml_emit_graph.specs.Events.{IsBracketAhead, GivesBracket}
-use Rattle.yaml_emit_graph.proofs.Leaving.{turn_comes}
+use Rattle.yaml_emit_graph.specs.Events.{IsAhead, GivesBracket}
+use Rattle.yaml_emit_graph.proofs.Leaving.{turn_comes, walk_goes}
 
 opens_by : (body : model.NodeBody) (b : Bracket) (tag : List ℕ) (n : ℕ) → n ≡ 0
     → OpensBody body b tag → IsPlainBracket (opening_event (anchor_of n) tag body) b
@@ -25,14 +23,7 @@ opens_by (model.mapping pairs style) OpensMapping tag n z h = record {
   flow = is_flow_mapping style;
   is = rw (z, h) refl;
 }
-opens_by (model.sequence items style) OpensMapping tag n z h = absurd h
-opens_by (model.sequence items style) ClosesSequence tag n z h = absurd h
-opens_by (model.sequence items style) ClosesMapping tag n z h = absurd h
-opens_by (model.mapping pairs style) OpensSequence tag n z h = absurd h
-opens_by (model.mapping pairs style) ClosesSequence tag n z h = absurd h
-opens_by (model.mapping pairs style) ClosesMapping tag n z h = absurd h
-opens_by model.no b tag n z h = absurd h
-opens_by (model.scalar value style) b tag n z h = absurd h
+opens_by body b tag n z h = absurd h
 
 opening_by : (o : Option model.Node) (n : ℕ) (b : Bracket) → n ≡ 0 → NamesOpening o b
     → IsPlainBracket (opening_event (anchor_of n) (tag_at o) (body_at o)) b
@@ -47,23 +38,19 @@ opening_there table nodes id b z h = opening_by (node_at nodes id) (number_at ta
 
 closes_by : (body : model.NodeBody) → IsPlainBracket (closing_event body) (closing_bracket body)
 closes_by model.no = record { flow = false; is = refl }
-closes_by (model.scalar value style) = record { flow = false; is = refl }
-closes_by (model.sequence items style) = record { flow = false; is = refl }
-closes_by (model.mapping pairs style) = record { flow = false; is = refl }
+closes_by _ = record { flow = false; is = refl }
 
 pub closing_there : (table : List ℕ) (nodes : List model.Node) (id : ℤ)
     → IsPlainBracket (turn_event table nodes (Leave id)) (closing_bracket (body_of_id nodes id))
 unfolding turn_event
 closing_there table nodes id = closes_by (body_of_id nodes id)
 
-pub bracket_comes : (d : Document) (old new : Events) (b : Bracket) → IsBracketAhead d old b
+pub bracket_comes : (d : Document) (old new : Events) (b : Bracket)
+    → IsAhead (λ e. IsPlainBracket e b) d old
     → new.numbers ≡ old.numbers → new.turns ≡ old.turns → new.place ≡ old.place
     → new.given ≡ old.given + 1 → GivesBracket d old b new
 bracket_comes d old new b h n k q g = record {
   flow = h.is.flow;
   next = turn_comes d old new h.turn _ h.place n k q h.within g h.there (sym h.is.is);
-  walk =
-      let a : length new.turns.items ≡ length old.turns.items = ap (λ (z : Vec Turn Global). length z.items) k in
-      let b = h.within in
-      omega (arith, a, b, g);
+  walk = walk_goes d old new h.within k g;
 }

@@ -1,5 +1,5 @@
 -- A walk of visits is the walk that hands on what follows, and no visit is cut off.
-use Rattle.std.proofs.Common.{◌≡◌, ℕ, ◌+◌, ◌<◌, ◌≤◌, List, [], ◌∷◌, ◌++◌, length, false, refl, sym, ◌∙◌, ap, arith, inl, inr, append_assoc, Option}
+use Rattle.std.proofs.Common.{◌≡◌, ℕ, ◌+◌, ◌<◌, ◌≤◌, List, [], ◌∷◌, ◌++◌, length, false, refl, sym, ◌∙◌, ap, arith, inl, inr, append_assoc, append-nil, Option}
 use Rattle.std.specs.Prelude.{zero, suc, ℤ, pos}
 use Rattle.std.proofs.lemmas.Bool.{cases_Bool}
 use Rattle.std.proofs.lemmas.List.{length-replicate}
@@ -115,10 +115,9 @@ inside_turns : (n : ℕ) (nodes : List model.Node) → TurnsJoin n nodes
     ≡ turns_in nodes (visit_all (visit_node n nodes) (child_ids b) met).0
     ++ (leaving id b ++ rest (visit_all (visit_node n nodes) (child_ids b) met).1)
 unfolding visit_all
-inside_turns n nodes h model.no id rest met e = refl
-inside_turns n nodes h (model.scalar value style) id rest met e = refl
 inside_turns n nodes h (model.sequence items style) id rest met e = all_turns n nodes h items (λ m. Leave id ∷ rest m) met e
 inside_turns n nodes h (model.mapping pairs style) id rest met e = all_turns n nodes h (pair_ids pairs) (λ m. Leave id ∷ rest m) met e
+inside_turns n nodes h _ id rest met e = refl
 
 node_turns : (n : ℕ) (nodes : List model.Node) → TurnsJoin n nodes
 unfolding visits visit_node
@@ -132,15 +131,11 @@ node_turns (suc n) nodes id rest met h = elim (cases_Bool (is_met met id)) [
       ∙ sym (append_assoc (turns_in nodes s.0) (leaving id b) (rest s.1))))
 ]
 
-nothing_behind : (ts : List Turn) → ts ++ [] ≡ ts
-nothing_behind [] = refl
-nothing_behind (t ∷ ts) = ap (λ us. t ∷ us) (nothing_behind ts)
-
 -- What a dump still has to give of its nodes are the walk's turns.
 pub turns_joined : (nodes : List model.Node) → turns_onward nodes ≡ turns nodes
 unfolding turns turns_onward walked
 turns_joined nodes =
-    node_turns (suc (length nodes)) nodes (pos 1) nothing_left (none_met nodes) (enough_first nodes) ∙ nothing_behind (turns_of nodes (visit_node (suc (length nodes)) nodes (pos 1) (none_met nodes)).0)
+    node_turns (suc (length nodes)) nodes (pos 1) nothing_left (none_met nodes) (enough_first nodes) ∙ append-nil (turns_of nodes (visit_node (suc (length nodes)) nodes (pos 1) (none_met nodes)).0)
 
 -- ---- the content
 
@@ -184,12 +179,11 @@ held_content : (n : ℕ) (table : List ℕ) (nodes : List model.Node) → Conten
     (visit_all (visit_node n nodes) (child_ids b) met).0))
     (visit_all (visit_node n nodes) (child_ids b) met).1
 unfolding visit_all
-held_content n table nodes h model.no anchor tag rest met e = refl
-held_content n table nodes h (model.scalar value style) anchor tag rest met e = refl
 held_content n table nodes h (model.sequence items style) anchor tag rest met e =
     all_items n table nodes h items (λ vs. rest (sequence_node (graph_start anchor tag seq_tag (is_flow_sequence style)) vs)) met e
 held_content n table nodes h (model.mapping pairs style) anchor tag rest met e =
     all_pairs n table nodes h pairs (λ vs. rest (mapping_node (graph_start anchor tag map_tag (is_flow_mapping style)) vs)) met e
+held_content n table nodes h _ anchor tag rest met e = refl
 
 node_content : (n : ℕ) (table : List ℕ) (nodes : List model.Node) → ContentJoins n table nodes
 unfolding content_by visit_node

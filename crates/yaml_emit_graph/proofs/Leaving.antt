@@ -1,5 +1,6 @@
 -- The events of a document go on.
-use Rattle.std.proofs.Common.{◌≡◌, ◌+◌, ◌<◌, ◌≤◌, [], ◌∷◌, length, get_or, drop, Bool, refl, sym, ◌∙◌, ap, arith}
+use Rattle.std.proofs.Common.{◌≡◌, ◌+◌, ◌<◌, ◌≤◌, [], ◌∷◌, length, get_or, drop, Bool, Vec, refl, sym, ◌∙◌, ap, arith}
+use Rattle.std.specs.Global.{Global}
 use Rattle.std.proofs.lemmas.List.{drop_all, drop_more}
 use Rattle.yaml_parse_document.specs.Documents.{Document}
 use Rattle.yaml_emit_layout.specs.Content.{Event, document_start, document_end}
@@ -20,6 +21,13 @@ pub turn_comes : (d : Document) (old new : Events) (t : Turn) (e : Event) → ol
 unfolding remaining_events
 turn_comes d old new t e p n k q h g i s =
     rw (q, p, n, k, g, s, drop_more old.turns.items old.given t h ∙ ap (λ z. z ∷ drop (old.given + 1) old.turns.items) (sym i)) refl
+
+-- a turn more was given
+pub walk_goes : (d : Document) (old new : Events) → old.given < length old.turns.items
+    → new.turns ≡ old.turns → new.given ≡ old.given + 1 → IsEvents d new
+walk_goes d old new h k g =
+    let a : length new.turns.items ≡ length old.turns.items = ap (λ (z : Vec Turn Global). length z.items) k in
+    omega (arith, a, h, g)
 
 pub end_comes : (d : Document) (old new : Events) (b : Bool) → old.place ≡ at.Nodes
     → new.place ≡ at.End → length old.turns.items ≤ old.given → b ≡ d.end_implicit

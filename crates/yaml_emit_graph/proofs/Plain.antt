@@ -1,16 +1,14 @@
 -- Texts with the default tag and without an anchor.
-use Rattle.std.proofs.Common.{◌≡◌, ◌+◌, ℕ, List, Vec, length, refl, sym, subst, ap, Option, None, Some, arith}
-use Rattle.std.specs.Global.{Global}
+use Rattle.std.proofs.Common.{◌≡◌, ◌+◌, ℕ, List, refl, sym, subst, Option, None, Some}
 use Rattle.std.specs.Prelude.{ℤ}
 use Rattle.yaml_parse_model.specs.Nodes as model
 use Rattle.yaml_parse_document.specs.Documents.{Document, IsSoundBody, IsSoundAt, node_at}
 use Rattle.yaml_emit_graph.specs.declared.graph.Events.{Events}
-use Rattle.yaml_emit_graph.specs.declared.walk.Turn.{Turn}
 use Rattle.yaml_emit_graph.specs.declared.walk.Turn.TheVariants.{First}
 use Rattle.yaml_emit_graph.specs.Graph.{number_at, tag_at, body_at, anchor_of, opening_event, turn_event}
 use Rattle.yaml_emit_graph.specs.Texts.{NamesText, IsPlainText}
 use Rattle.yaml_emit_graph.specs.Events.{IsAhead, GivesPlainText}
-use Rattle.yaml_emit_graph.proofs.Leaving.{turn_comes}
+use Rattle.yaml_emit_graph.proofs.Leaving.{turn_comes, walk_goes}
 
 text_by : (o : Option model.Node) (n : ℕ) (value : List ℕ) (count : ℕ) → n ≡ 0
     → NamesText o value → IsSoundAt count o
@@ -30,15 +28,13 @@ pub text_there : (table : List ℕ) (nodes : List model.Node) (id : ℤ) (value 
 unfolding turn_event
 text_there table nodes id value count z h s = text_by (node_at nodes id) (number_at table id) value count z h s
 
-pub text_comes : (d : Document) (old new : Events) (value : List ℕ) → IsAhead d old value
+pub text_comes : (d : Document) (old new : Events) (value : List ℕ)
+    → IsAhead (λ e. IsPlainText e value) d old
     → new.numbers ≡ old.numbers → new.turns ≡ old.turns → new.place ≡ old.place
     → new.given ≡ old.given + 1 → GivesPlainText d old value new
 text_comes d old new value h n k q g = record {
-  style = h.text.style;
-  next = turn_comes d old new h.turn _ h.place n k q h.within g h.there (sym h.text.is);
-  utf8 = h.text.utf8;
-  walk =
-      let a : length new.turns.items ≡ length old.turns.items = ap (λ (z : Vec Turn Global). length z.items) k in
-      let b = h.within in
-      omega (arith, a, b, g);
+  style = h.is.style;
+  next = turn_comes d old new h.turn _ h.place n k q h.within g h.there (sym h.is.is);
+  utf8 = h.is.utf8;
+  walk = walk_goes d old new h.within k g;
 }

@@ -32,16 +32,9 @@ inside_frames : (b : model.NodeBody) (n : ℕ) (nodes : List model.Node) (id : �
     → inside (visits n nodes) id b (frames nodes os) met
     ≡ frames nodes (with_opened (is_collection b) id os) met
 unfolding frames
-inside_frames model.no n nodes id os met e k = refl
-inside_frames (model.scalar value style) n nodes id os met e k = refl
-inside_frames (model.sequence items style) n nodes id os met e k =
-    let r : Rest = λ m. Leave id ∷ frames nodes os m in
-    ap (λ z. over (visits z nodes) items r met) k
-    ∙ ap (λ z. over (visits (length nodes - length os) nodes) (child_ids z) r met) (sym e)
-inside_frames (model.mapping pairs style) n nodes id os met e k =
-    let r : Rest = λ m. Leave id ∷ frames nodes os m in
-    ap (λ z. over (visits z nodes) (child_ids (model.mapping pairs style)) r met) k
-    ∙ ap (λ z. over (visits (length nodes - length os) nodes) (child_ids z) r met) (sym e)
+inside_frames (model.sequence items style) n nodes id os met e k = rw (e, k) refl
+inside_frames (model.mapping pairs style) n nodes id os met e k = rw (e, k) refl
+inside_frames _ n nodes id os met e k = refl
 
 sum_set : (met : Met) (k : ℕ) → get_or met k true ≡ false
     → marked (set met k true) ≡ suc (marked met)

@@ -13,8 +13,8 @@ use Rattle.yaml_emit_graph.specs.declared.graph.DumpPhase.TheVariants as at
 use Rattle.yaml_emit_graph.specs.Graph.{graph_opening, turn_event}
 use Rattle.yaml_emit_graph.specs.declared.walk.Turn.{Turn}
 use Rattle.yaml_emit_graph.specs.declared.bracket.Bracket.{Bracket}
-use Rattle.yaml_emit_graph.specs.Texts.{text_event, IsPlainText}
-use Rattle.yaml_emit_graph.specs.Brackets.{bracket_event, IsPlainBracket}
+use Rattle.yaml_emit_graph.specs.Texts.{text_event}
+use Rattle.yaml_emit_graph.specs.Brackets.{bracket_event}
 
 -- a call put that event, with texts that are UTF-8, into a slot
 abbrev pub Says : Event → Result Unit AllocError → EventBody → Type 0
@@ -43,13 +43,14 @@ remaining_events d e = remaining_at e.place d e
 abbrev pub IsEvents : Document → Events → Type 0
 IsEvents d e = e.given ≤ length e.turns.items
 
--- a turn of the walk comes next, and meets a text with the default tag and without an anchor
-pub record IsAhead (d : Document) (e : Events) (value : List ℕ) : Type 0 where
+-- A turn of the walk comes next, of whose event that is true: it is a text, or opens or closes a collection, with the default tag
+-- and without an anchor.
+pub record IsAhead (is_met : Event → Type 0) (d : Document) (e : Events) : Type 0 where
   pub place : e.place ≡ at.Nodes
   pub within : e.given < length e.turns.items
   pub turn : Turn
   pub there : turn ≡ get_or e.turns.items e.given turn
-  pub text : IsPlainText (turn_event e.numbers.items d.nodes turn) value
+  pub is : is_met (turn_event e.numbers.items d.nodes turn)
 
 -- the next event is a text with the default tag and without an anchor, and the others are still to come
 pub record GivesPlainText (d : Document) (old : Events) (value : List ℕ) (new : Events) : Type 0
@@ -58,14 +59,6 @@ pub record GivesPlainText (d : Document) (old : Events) (value : List ℕ) (new 
     pub next : remaining_events d old ≡ text_event value style ∷ remaining_events d new
     pub utf8 : IsUtf8 value
     pub walk : IsEvents d new
-
--- a turn of the walk comes next, and opens or closes a collection, with the default tag and without an anchor
-pub record IsBracketAhead (d : Document) (e : Events) (bracket : Bracket) : Type 0 where
-  pub place : e.place ≡ at.Nodes
-  pub within : e.given < length e.turns.items
-  pub turn : Turn
-  pub there : turn ≡ get_or e.turns.items e.given turn
-  pub is : IsPlainBracket (turn_event e.numbers.items d.nodes turn) bracket
 
 -- the next event is that, and the others are still to come
 pub record GivesBracket (d : Document) (old : Events) (bracket : Bracket) (new : Events) : Type 0

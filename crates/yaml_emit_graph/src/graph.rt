@@ -7,7 +7,9 @@ ghost use Rattle.yaml_parse_model.specs.Events.{body_of, text_of, directive_of};
 ghost use Rattle.yaml_parse_model.specs.Nodes.{node_of, tag_of};
 ghost use Rattle.yaml_emit_layout.specs.Content.{emitter_event, scalar, alias, sequence_start, mapping_start, document_start, is_flow_sequence, is_flow_mapping};
 ghost use Rattle.yaml_emit_graph.specs.Graph.{lead, name_of, anchor_of, graph_scalar, graph_start, opening_event, closing_event, body_of_id, tag_of_id, turn_event, graph_opening, dumped};
-ghost use Rattle.yaml_emit_graph.specs.Events.{remaining_events, IsEvents, Says, GivesGraphEvent, IsAhead, GivesPlainText, IsBracketAhead, GivesBracket, IsUtf8Body};
+ghost use Rattle.yaml_emit_graph.specs.Texts.{IsPlainText};
+ghost use Rattle.yaml_emit_graph.specs.Brackets.{IsPlainBracket};
+ghost use Rattle.yaml_emit_graph.specs.Events.{remaining_events, IsEvents, Says, GivesGraphEvent, IsAhead, GivesPlainText, GivesBracket, IsUtf8Body};
 
 use crate::bracket::{Bracket, bracket_met};
 use crate::numbers::{Walked, number_of, walk_nodes};
@@ -374,7 +376,8 @@ impl Events {
     #[inline(always)]
     fn text_ahead<'a>(&self, document: &'a yaml_document_t) -> Option<&'a [u8]>
         requires { self.now.place ≡ DumpPhase.Nodes }
-        ensures { IfSome result (λ v. IsAhead document.now self.now v.now) }
+        ensures { IfSome result (λ v. IsAhead (λ e. IsPlainText e v.now) document.now
+            self.now) }
     {
         if self.given < self.turns.len() {
             match text_met(&self.numbers, document, self.turns[self.given]) {
@@ -390,7 +393,8 @@ impl Events {
     // Inlined: a test.
     #[inline(always)]
     fn text_to_come<'a>(&self, document: &'a yaml_document_t) -> Option<&'a [u8]>
-        ensures { IfSome result (λ v. IsAhead document.now self.now v.now) }
+        ensures { IfSome result (λ v. IsAhead (λ e. IsPlainText e v.now) document.now
+            self.now) }
     {
         match self.place {
             DumpPhase::Nodes => self.text_ahead(document),
@@ -419,7 +423,8 @@ impl Events {
     #[inline(always)]
     fn bracket_ahead(&self, document: &yaml_document_t) -> Option<Bracket>
         requires { self.now.place ≡ DumpPhase.Nodes }
-        ensures { IfSome result (λ b. IsBracketAhead document.now self.now b) }
+        ensures { IfSome result (λ b. IsAhead (λ e. IsPlainBracket e b) document.now
+            self.now) }
     {
         if self.given < self.turns.len() {
             match bracket_met(&self.numbers, document, self.turns[self.given]) {
@@ -435,7 +440,8 @@ impl Events {
     // Inlined: a test.
     #[inline(always)]
     fn bracket_to_come(&self, document: &yaml_document_t) -> Option<Bracket>
-        ensures { IfSome result (λ b. IsBracketAhead document.now self.now b) }
+        ensures { IfSome result (λ b. IsAhead (λ e. IsPlainBracket e b) document.now
+            self.now) }
     {
         match self.place {
             DumpPhase::Nodes => self.bracket_ahead(document),

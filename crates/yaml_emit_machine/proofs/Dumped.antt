@@ -1,33 +1,31 @@
 -- A dump is taken event by event.
 use Rattle.std.proofs.Common.{◌≡◌, ◌≢◌, ℕ, List, [], ◌∷◌, ◌++◌, length, ◌<◌, Bool, true, false, refl, sym, subst, ◌∙◌, arith, Option}
+use Rattle.std.proofs.lemmas.Bool.{false≢true}
 use Rattle.yaml_scan_model.specs.Faults.{Fault}
 use Rattle.yaml_parse_model.specs.Nodes.{Node}
 use Rattle.yaml_parse_document.specs.Documents.{Document}
-use Rattle.yaml_emit_text.specs.declared.Encoding.{Encoding}
 use Rattle.yaml_emit_text.specs.declared.Settings.{Settings}
 use Rattle.yaml_emit_text.specs.declared.Status.{Status}
-use Rattle.yaml_emit_text.specs.declared.Status.TheVariants.{Going, Full, Deep, Starved}
+use Rattle.yaml_emit_text.specs.declared.Status.TheVariants.{Going}
 use Rattle.yaml_emit_text.specs.Text.{Item}
 use Rattle.yaml_emit_text.specs.Layout.{Layout, stay, nothing_more}
 use Rattle.yaml_emit_text.specs.Sink.{Output, Ends}
-use Rattle.yaml_emit_text.proofs.Sinks.{ends_other, status_cases}
 use Rattle.yaml_emit_layout.specs.Content.{Event, stream_end}
 use Rattle.yaml_emit_layout.specs.State.{State}
-use Rattle.yaml_emit_layout.specs.ToCome.{layout}
 use Rattle.yaml_emit_state.specs.declared.Core.{Core}
 use Rattle.yaml_emit_state.specs.Steps.{Starves, state_of, settings_of}
-use Rattle.yaml_emit_state.specs.Finish.{Finishes, FinishesAt, FinishesBy}
-use Rattle.yaml_emit_state.proofs.Noting.{notes_starved}
+use Rattle.yaml_emit_state.specs.Finish.{Finishes, FinishesAt}
 use Rattle.yaml_emit_graph.specs.Graph.{dumped}
 use Rattle.yaml_emit_machine.specs.declared.emitter.yaml_emitter_t.TheInside.{Inside}
 use Rattle.yaml_emit_machine.specs.Held.{held_events}
 use Rattle.yaml_emit_machine.specs.Judged.{text_among, LetsOut, LaysAll, let_out}
-use Rattle.yaml_emit_machine.specs.Emitter.{Emitter, CompletesBy, Completes, left_if, opening_events, closing_events, dump_events, document_events_by, document_events}
+use Rattle.yaml_emit_machine.specs.Emitter.{Emitter, Completes, left_if, opening_events, closing_events, dump_events, document_events_by, document_events}
 use Rattle.yaml_emit_machine.specs.Views.{emitter_of}
-use Rattle.yaml_emit_machine.specs.Verdict.{WritesBy, Writes, LaysBy, Lays}
+use Rattle.yaml_emit_machine.specs.Verdict.{Writes, Lays}
 use Rattle.yaml_emit_machine.specs.Taking.{TakesEvents, Stuck, NotesMemory, NotesMemoryOf}
 use Rattle.yaml_emit_machine.specs.Dumping.{opening_event}
-use Rattle.yaml_emit_machine.proofs.Viewing.{seen}
+use Rattle.yaml_emit_machine.proofs.Viewing.{stood, left}
+use Rattle.yaml_emit_machine.proofs.Emitting.{ends_of}
 use Rattle.yaml_emit_machine.proofs.Taking.{takes_none, takes_on, takes_first, takes_stuck, notes_any, notes_on}
 
 -- ---- the events of a document, one by one
@@ -49,47 +47,18 @@ notes_through a b c es fs gs hs p q m n = notes_on a b c p.going q.going m n
 
 -- ---- memory was refused for the dump
 
-going_at : (s : Status) (v : Settings) (st : State) (o : Output) (es : List Event)
-    (whole : List Item) → s ≡ Going → FinishesAt s v st o es whole → FinishesBy v st o es whole
-going_at Going v st o es whole g h = h
-going_at Full v st o es whole g h = absurd (cc)
-going_at Deep v st o es whole g h = absurd (cc)
-going_at Starved v st o es whole g h = absurd (cc)
-
-stopped_at : (s : Status) (v : Settings) (st : State) (o : Output) (es : List Event)
-    (whole : List Item) → s ≢ Going → FinishesAt s v st o es whole → Ends o [] whole
-stopped_at Going v st o es whole n h = absurd (n refl)
-stopped_at Full v st o es whole n h = h
-stopped_at Deep v st o es whole n h = h
-stopped_at Starved v st o es whole n h = h
-
 at_stopped : (s : Status) (v : Settings) (st : State) (o : Output) (es : List Event)
     (whole : List Item) → s ≢ Going → Ends o [] whole → FinishesAt s v st o es whole
 at_stopped Going v st o es whole n h = absurd (n refl)
-at_stopped Full v st o es whole n h = h
-at_stopped Deep v st o es whole n h = h
-at_stopped Starved v st o es whole n h = h
+at_stopped s v st o es whole n h = h
 
 starved_finishes : (old new : Core) (xs ys : List Event) (whole : List Item) → Starves old new
     → Finishes (settings_of old) (state_of old) old.sink xs whole
     → Finishes (settings_of new) (state_of new) new.sink ys whole
 unfolding Finishes
 starved_finishes old new xs ys whole s h =
-    at_stopped new.sink.status (settings_of new) (state_of new) new.sink ys whole s.stopped (status_cases old.sink.status
-    (λ g. let f = going_at old.sink.status (settings_of old) (state_of old) old.sink xs whole g h in (s.text (layout (settings_of old) f.rest)).ends nothing_more whole f.ends)
-    (λ n. (s.text stay).ends nothing_more whole (ends_other old.sink [] _ whole n (stopped_at old.sink.status (settings_of old) (state_of old) old.sink xs whole n h))))
-
-starved_completes : (i : Inside) (core : Core) (fault : Option Fault) (x : Encoding)
-    (xs ys : List Event) (whole : List Item) → i.fresh ≡ false → Starves i.core core
-    → Completes (emitter_of i) x xs whole
-    → Completes (seen i.requested_settings core (held_events i.held) i.fresh i.opened i.closed
-    fault) x ys whole
-unfolding Completes
-starved_completes i core fault x xs ys whole a s c =
-    let P : Bool → Type 0 = λ z. CompletesBy z (emitter_of i) x xs whole in
-    let Q : Bool → Type 0 = λ z. CompletesBy z (seen i.requested_settings core (held_events i.held) i.fresh i.opened i.closed fault) x ys whole in
-    let k = subst P a c in
-    subst Q (sym a) ((s.text stay).encoding ∙ k.0, starved_finishes i.core core _ _ whole s k.1)
+    let e = ends_of (settings_of old) (state_of old) old.sink xs whole h in
+    at_stopped new.sink.status (settings_of new) (state_of new) new.sink ys whole s.stopped ((s.text e.0).ends nothing_more whole e.1)
 
 starved_all : (old new : Core) (xs ys : List Event) (whole : List Item) → Starves old new
     → LaysAll (settings_of old) (state_of old) old.sink xs whole
@@ -99,58 +68,25 @@ starved_all old new xs ys whole s h =
     let before : Layout = λ c rest. text_among (settings_of old) (state_of old) xs c nothing_more in
     (s.text before).ends (λ c. text_among (settings_of new) (state_of new) ys c nothing_more) whole h
 
-starved_lets_out : (old new : Core) (xs ys : List Event) (whole : List Item) → Starves old new
-    → LetsOut (settings_of old) (state_of old) old.sink xs whole
-    → LetsOut (settings_of new) (state_of new) new.sink ys whole
-unfolding LetsOut LaysAll
-starved_lets_out old new xs ys whole s h = starved_all old new (let_out xs) (let_out ys) whole s h
-
-starved_lays : (i : Inside) (core : Core) (fault : Option Fault) (x : Encoding) (xs ys : List Event)
-    (whole : List Item) → i.fresh ≡ false → Starves i.core core
-    → Lays (emitter_of i) x xs whole
-    → Lays (seen i.requested_settings core (held_events i.held) i.fresh i.opened i.closed fault) x
-    ys whole
-unfolding Lays
-starved_lays i core fault x xs ys whole a s c =
-    let P : Bool → Type 0 = λ z. LaysBy z (emitter_of i) x xs whole in
-    let Q : Bool → Type 0 = λ z. LaysBy z (seen i.requested_settings core (held_events i.held) i.fresh i.opened i.closed fault) x ys whole in
-    let k = subst P a c in
-    subst Q (sym a) ((s.text stay).encoding ∙ k.0, starved_all i.core core _ _ whole s k.1)
-
-starved_writes : (i : Inside) (core : Core) (fault : Option Fault) (x : Encoding)
-    (xs ys : List Event) (whole : List Item) → i.fresh ≡ false → Starves i.core core
-    → Writes (emitter_of i) x xs whole
-    → Writes (seen i.requested_settings core (held_events i.held) i.fresh i.opened i.closed fault) x
-    ys whole
-unfolding Writes
-starved_writes i core fault x xs ys whole a s c =
-    let P : Bool → Type 0 = λ z. WritesBy z (emitter_of i) x xs whole in
-    let Q : Bool → Type 0 = λ z. WritesBy z (seen i.requested_settings core (held_events i.held) i.fresh i.opened i.closed fault) x ys whole in
-    let k = subst P a c in
-    subst Q (sym a) ((s.text stay).encoding ∙ k.0, starved_lets_out i.core core _ _ whole s k.1)
-
 -- what follows counts for nothing
 pub inside_starves : (i : Inside) (core : Core) (fault : Option Fault) (es : List Event)
     → i.fresh ≡ false → Starves i.core core
-    → TakesEvents (emitter_of i) es (seen i.requested_settings core (held_events i.held) i.fresh
-    i.opened i.closed fault) []
-inside_starves i core fault es fr s = record {
-  completes = λ x more whole h. starved_completes i core fault x (es ++ more) more whole fr s h;
-  refuses = λ g more. absurd (s.stopped g);
-  writes = λ x more whole h. starved_writes i core fault x (es ++ more) more whole fr s h;
-  first = λ g more. absurd (s.stopped g);
-  lays = λ x more whole h. starved_lays i core fault x (es ++ more) more whole fr s h;
-  grows = (s.text stay).grows;
-  going = λ g. absurd (s.stopped g);
-  requested_settings = refl;
-  limit = (s.text stay).limit;
-  begun = λ f. absurd (cc);
-}
-
-pub inside_starves_notes : (i : Inside) (core : Core) (fault : Option Fault) → Starves i.core core
-    → NotesMemory true (emitter_of i)
-    (seen i.requested_settings core (held_events i.held) i.fresh i.opened i.closed fault)
-inside_starves_notes i core fault s = notes_starved i.core core s
+    → TakesEvents (emitter_of i) es (left i core i.fresh (held_events i.held) fault) []
+unfolding Completes Writes Lays LetsOut LaysAll
+inside_starves i core fault es fr s =
+    let P : Bool → Type 0 = λ b. TakesEvents (stood i b (held_events i.held)) es (left i core b (held_events i.held) fault) [] in
+    subst P (sym fr) (record {
+      completes = λ x more whole h. ((s.text stay).encoding ∙ h.0, starved_finishes i.core core (held_events i.held ++ (es ++ more)) (held_events i.held ++ more) whole s h.1);
+      refuses = λ g more. absurd (s.stopped g);
+      writes = λ x more whole h. ((s.text stay).encoding ∙ h.0, starved_all i.core core (let_out (held_events i.held ++ (es ++ more))) (let_out (held_events i.held ++ more)) whole s h.1);
+      first = λ g more. absurd (s.stopped g);
+      lays = λ x more whole h. ((s.text stay).encoding ∙ h.0, starved_all i.core core (held_events i.held ++ (es ++ more)) (held_events i.held ++ more) whole s h.1);
+      grows = (s.text stay).grows;
+      going = λ g. absurd (s.stopped g);
+      requested_settings = refl;
+      limit = (s.text stay).limit;
+      begun = λ f. absurd (false≢true f);
+    })
 
 -- ---- the whole dump
 
@@ -161,7 +97,8 @@ takes_closing : (closed : Bool) (old new : Emitter) → (closed ≡ true → new
 takes_closing true old new a t = let P : Emitter → Type 0 = λ z. TakesEvents old [] z [] in subst P (sym (a refl)) (takes_none old [])
 takes_closing false old new a t = t refl
 
-notes_closing : (closed : Bool) (old new : Emitter) → (closed ≡ true → new ≡ old)
+-- what is noted at a stream's end is noted of the whole
+pub notes_closing : (closed : Bool) (old new : Emitter) → (closed ≡ true → new ≡ old)
     → (closed ≡ false → NotesMemoryOf stream_end old new) → NotesMemory true old new
 notes_closing true old new a m = let P : Emitter → Type 0 = λ z. NotesMemory true old z in subst P (sym (a refl)) (λ n. refl)
 notes_closing false old new a m = notes_any stream_end old new (m refl)
@@ -199,11 +136,6 @@ pub takes_end : (old new : Emitter) (d : Document) (count : ℕ) → count ≡ l
     → (old.closed ≡ false → TakesEvents old (stream_end ∷ []) new [])
     → TakesEvents old (document_events old.closed d) new []
 takes_end old new d count n h a t = let P : List Event → Type 0 = λ z. TakesEvents old z new [] in subst P (sym (document_events_none d.nodes old.closed d (sym n ∙ h))) (takes_closing old.closed old new a t)
-
--- What is noted at a stream's end is noted of the whole.
-pub notes_end : (old new : Emitter) → (old.closed ≡ true → new ≡ old)
-    → (old.closed ≡ false → NotesMemoryOf stream_end old new) → NotesMemory true old new
-notes_end old new a m = notes_closing old.closed old new a m
 
 -- one with a root is written
 pub takes_document : (old new : Emitter) (d : Document) (count : ℕ) → count ≡ length d.nodes

@@ -9,10 +9,10 @@ use Rattle.yaml_emit_text.proofs.Sinks.{grows_both}
 use Rattle.yaml_emit_layout.specs.Content.{Event}
 use Rattle.yaml_emit_graph.specs.Graph.{dumped}
 use Rattle.yaml_emit_machine.specs.Judged.{let_out, refusal_behind, LetsOut, first_wrong, LaysAll}
-use Rattle.yaml_emit_machine.specs.Emitter.{Emitter, text_of, Keeps, left_if}
-use Rattle.yaml_emit_machine.specs.Verdict.{verdict_by, verdict, WritesBy, Writes, wrong_by, wrong, LaysBy, Lays}
-use Rattle.yaml_emit_machine.specs.Taking.{TakesEvents, TakesEarly, GivesText, LaysAtOnce, StaysCanonical, Stuck, NotesMemory, NotesMemoryOf}
-use Rattle.yaml_emit_machine.specs.Dumping.{DumpsAtOnce}
+use Rattle.yaml_emit_machine.specs.Emitter.{Emitter, Keeps, left_if}
+use Rattle.yaml_emit_machine.specs.Verdict.{verdict, Writes, wrong, Lays}
+use Rattle.yaml_emit_machine.specs.Taking.{TakesEvents, TakesEarly, GivesText, LaysAtOnce, Stuck, NotesMemory}
+use Rattle.yaml_emit_machine.specs.Dumping.{LaysOne, DumpsAtOnce}
 use Rattle.yaml_emit_machine.proofs.Taking.{takes_none, notes_any, notes_on}
 use Rattle.yaml_emit_machine.proofs.Released.{AreOut, dumped_out}
 
@@ -75,20 +75,19 @@ early_by false old new e es t going none begun stuck =
 
 -- An event of those that are left was laid out at once; behind a fault the others count for nothing.
 pub dumps_event : (b : Bool) (old new : Emitter) (before after : List Event) (e : Event)
-    → before ≡ e ∷ after → GivesText old e new → NotesMemoryOf e old new → StaysCanonical old new
-    → new.held ≡ [] → new.fresh ≡ false → Keeps old new → (b ≡ true → new.fault ≡ None)
+    → before ≡ e ∷ after → LaysOne old e new → (b ≡ true → new.fault ≡ None)
     → (b ≡ false → Stuck new) → DumpsAtOnce old new b before after
-dumps_event b old new before after e c t m form none begun keeps right stuck =
+dumps_event b old new before after e c l right stuck =
     let P : List Event → Type 0 = λ z. TakesEarly old z new (left_if b after) in
     record {
-      takes = subst P (sym c) (early_by b old new e after t form.0 none begun stuck);
-      memory = notes_any e old new m;
-      keeps = keeps;
+      takes = subst P (sym c) (early_by b old new e after l.text l.form.0 l.none l.begun stuck);
+      memory = notes_any e old new l.memory;
+      keeps = l.keeps;
       once = λ on. record {
         right = right on;
-        begun = begun;
-        form = form.1;
-        none = none;
+        begun = l.begun;
+        form = l.form.1;
+        none = l.none;
       };
     }
 
@@ -141,33 +140,17 @@ dumps_on a b c going xs ys zs p q = record {
 verdict_out : (e : Emitter) (es : List Event) → e.held ≡ [] → e.fresh ≡ false
     → verdict e es ≡ wrong e (let_out es)
 unfolding verdict wrong refusal_behind first_wrong
-verdict_out e es none begun =
-    ap (λ z. verdict_by z e es) begun
-    ∙ ap (λ z. refusal_behind e.course.settings e.course.state (z ++ es)) none
-    ∙ sym (ap (λ z. first_wrong e.course.settings e.course.state (z ++ let_out es)) none)
-    ∙ sym (ap (λ z. wrong_by z e (let_out es)) begun)
+verdict_out e es none begun = rw (begun, none) refl
 
 writes_out : (e : Emitter) (x : Encoding) (es : List Event) (whole : List Item) → e.held ≡ []
     → e.fresh ≡ false → Writes e x es whole → Lays e x (let_out es) whole
 unfolding Writes Lays LetsOut LaysAll
-writes_out e x es whole none begun w =
-    let P : Bool → Type 0 = λ z. WritesBy z e x es whole in
-    let Q : Bool → Type 0 = λ z. LaysBy z e x (let_out es) whole in
-    let k = subst P begun w in
-    let R : List Event → Type 0 = λ z. LetsOut e.course.settings e.course.state (text_of e) (z ++ es) whole in
-    let S : List Event → Type 0 = λ z. LaysAll e.course.settings e.course.state (text_of e) (z ++ let_out es) whole in
-    subst Q (sym begun) (k.0, subst S (sym none) (subst R none k.1))
+writes_out e x es whole none begun w = rw (begun, none) (rw (begun, none) at w)
 
 lays_out : (e : Emitter) (x : Encoding) (es : List Event) (whole : List Item) → e.held ≡ []
     → e.fresh ≡ false → Lays e x (let_out es) whole → Writes e x es whole
 unfolding Writes Lays LetsOut LaysAll
-lays_out e x es whole none begun w =
-    let P : Bool → Type 0 = λ z. LaysBy z e x (let_out es) whole in
-    let Q : Bool → Type 0 = λ z. WritesBy z e x es whole in
-    let k = subst P begun w in
-    let R : List Event → Type 0 = λ z. LetsOut e.course.settings e.course.state (text_of e) (z ++ es) whole in
-    let S : List Event → Type 0 = λ z. LaysAll e.course.settings e.course.state (text_of e) (z ++ let_out es) whole in
-    subst Q (sym begun) (k.0, subst R (sym none) (subst S none k.1))
+lays_out e x es whole none begun w = rw (begun, none) (rw (begun, none) at w)
 
 -- Of events that are all let out, whatever follows, it is the same whether they were laid out at once.
 early_takes : (old new : Emitter) (es : List Event) → AreOut es → LaysAtOnce old

@@ -1,10 +1,10 @@
 -- Events that are laid out one after another.
-use Rattle.std.proofs.Common.{◌≡◌, ◌⊎◌, inl, inr, ℕ, zero, suc, ◌+◌, drop, List, [], ◌∷◌, ◌++◌, Bool, true, false, refl, sym, subst, ◌∙◌, ap, arith, Option, Some, None}
+use Rattle.std.proofs.Common.{◌≡◌, ◌⊎◌, inl, inr, ℕ, zero, suc, ◌+◌, List, [], ◌∷◌, ◌++◌, Bool, true, false, refl, sym, subst, ◌∙◌, ap, arith, None}
 use Rattle.std.specs.Prelude.{not}
-use Rattle.std.proofs.lemmas.Bool.{false≢true, or_parts}
+use Rattle.std.proofs.lemmas.Bool.{false≢true, not-true, or_parts}
 use Rattle.yaml_emit_text.specs.declared.Encoding.{Encoding}
 use Rattle.yaml_emit_text.specs.declared.Status.TheVariants.{Going}
-use Rattle.yaml_emit_text.specs.Text.{Item, encode}
+use Rattle.yaml_emit_text.specs.Text.{encode}
 use Rattle.yaml_emit_text.specs.declared.Cursor.{Cursor}
 use Rattle.yaml_emit_text.specs.Layout.{Layout, stay, nothing_more}
 use Rattle.yaml_emit_text.specs.Sink.{Ends, Puts}
@@ -18,11 +18,11 @@ use Rattle.yaml_emit_state.proofs.Finishing.{finishes_on}
 use Rattle.yaml_emit_state.proofs.Noting.{notes_both, notes_within}
 use Rattle.yaml_emit_state.proofs.Settled.{settled}
 use Rattle.yaml_emit_machine.specs.Held.{is_ready, passes_by}
-use Rattle.yaml_emit_machine.specs.Judged.{refused_at, refusal_behind, LetsOut, first_wrong, LaysAll, take_memory, LaysSome, RefusesHeld}
+use Rattle.yaml_emit_machine.specs.Judged.{refused_at, refusal_behind, LetsOut, first_wrong, LaysAll, take_memory, LaysSome, first_takes, first_starts, RefusesHeld}
 use Rattle.yaml_emit_machine.specs.Laying.{HasLaid, LaysEvents, is_undecided_at}
 use Rattle.yaml_emit_machine.proofs.Opening.{opens_none}
 use Rattle.yaml_emit_machine.proofs.Holding.{ready_empty}
-use Rattle.yaml_emit_machine.proofs.Judging.{ready_more, going_open, goes_going, done, text_step, some_step, some_one, some_none, going_notes, noted_takes, drop_next, first_there, start_there, refusal_on, wrong_on, lays_first}
+use Rattle.yaml_emit_machine.proofs.Judging.{ready_more, going_open, goes_going, text_step, some_step, some_one, some_none, going_notes, noted_takes, drop_next, refusal_on, wrong_on, lays_first}
 
 -- ---- an event that is laid out before those behind it are known
 
@@ -98,19 +98,19 @@ blamed : (exact : Bool) (a b c : Core) (h x y : List Event) (e : Event) (empty :
     → RefusesHeld h (HasLaid a h c.sink.bytes)
 blamed exact a b c h x y e empty p same o g is takes l (inl put) = record {
   front = p.laid;
-  takes = first_there p.laid h e y (p.rest ∙ same) takes;
+  takes = ap first_takes (p.rest ∙ same) ∙ takes;
   stands = inl (λ es whole f.
       let m : suc p.laid ≡ p.laid + suc zero = omega arith in
       let P : List Event → Type 0 = λ z. LaysSome (suc zero) (settings_of b) (state_of b) b.sink (z ++ es) whole in
       let Q : Encoding → Type 0 = λ z. encode z whole ≡ c.sink.bytes in
       let R : Layout → Type 0 = λ t. Ends b.sink (next_piece (problem_at (settings_of b) (state_of b) e) t b.sink.cursor nothing_more) whole in
-      subst Q p.encoding (put whole (subst R (sym (is es).0) (some_one (problem_at (settings_of b) (state_of b) e) (settings_of b) (state_of b) b.sink e (y ++ es) (opens_empty e (y ++ es)) whole o refl refl (subst P same (p.some g (suc p.laid) (suc zero) m es whole f))))));
+      subst Q p.encoding (put whole (subst R (sym (is es).0) (some_one _ (settings_of b) (state_of b) b.sink e (y ++ es) whole o refl (subst P same (p.some g (suc p.laid) (suc zero) m es whole f))))));
 }
 blamed exact a b c h x y e empty p same o g is takes l (inr put) = record {
   front = p.laid;
-  takes = first_there p.laid h e y (p.rest ∙ same) takes;
+  takes = ap first_takes (p.rest ∙ same) ∙ takes;
   stands = inr (
-    start_there p.laid h e y (p.rest ∙ same) put.0,
+    ap first_starts (p.rest ∙ same) ∙ put.0,
     λ es whole f.
         let m : p.laid ≡ p.laid + zero = omega arith in
         let Q : Encoding → Type 0 = λ z. encode z whole ≡ c.sink.bytes in
@@ -156,7 +156,7 @@ lays_more exact a b c h x y e empty p same goes r is l =
           let on : b.sink.status ≡ Going = l.text.going g in
           let m' : m ≡ p.laid + suc n = omega (arith, is) in
           let P : List Event → Type 0 = λ z. LaysSome (suc n) (settings_of b) (state_of b) b.sink (z ++ es) whole in
-          some_step (problem_at (settings_of b) (state_of b) e) n b c e (y ++ es) whole o g (done b c e _ (laid es)) (subst P same (p.some on m (suc n) m' es whole f));
+          some_step n b c e (y ++ es) whole o (laid es) (subst P same (p.some on m (suc n) m' es whole f));
       blames = λ off on.
           let on_still : b.sink.status ≡ Going = goes_going b.sink.status b.place goes in
           let off' : b.starved ≡ false = p.memory (going_notes (take_memory h) a.sink.status b.sink.status on_still) ∙ off in
@@ -172,10 +172,6 @@ pub lays_oldest : (exact : Bool) (a b c : Core) (h x z : List Event) (e f : Even
 lays_oldest exact a b c h x z e f p same goes r l =
     lays_more exact a b c h x (z ++ f ∷ []) e (opens_empty e (z ++ f ∷ [])) p same goes r (settles_by b e (opens_empty e (z ++ f ∷ [])) (z ++ f ∷ []) (λ es. told e z f es)) l
 
-undecided_not : (b : Bool) → not b ≡ true → b ≡ false
-undecided_not false h = refl
-undecided_not true h = absurd (cc)
-
 -- an event that isn't held
 pub lays_past : (early : Bool) (a b c : Core) (x h : List Event) (e : Event)
     → LaysEvents (not early) a x b (h ++ e ∷ []) → goes_on b.sink.status b.place ≡ true
@@ -184,7 +180,7 @@ pub lays_past : (early : Bool) (a b c : Core) (x h : List Event) (e : Event)
 lays_past false a b c x [] e j g p l =
     lays_more true a b c x (e ∷ []) [] e false j refl g (λ t. p) (settles_by b e false [] (λ es. sym (ready_empty e [] es p ∙ opens_none e))) l
 lays_past true a b c x [] e j g p l =
-    lays_more false a b c x (e ∷ []) [] e false j refl g (λ t. absurd (false≢true t)) (λ es. settled (settings_of b) (state_of b) e false (opens_empty e es) (undecided_not (is_undecided_at b e) p)) l
+    lays_more false a b c x (e ∷ []) [] e false j refl g (λ t. absurd (false≢true t)) (λ es. settled (settings_of b) (state_of b) e false (opens_empty e es) (not-true (is_undecided_at b e) p)) l
 lays_past false a b c x (f ∷ fs) e j g p l = absurd (cc)
 lays_past true a b c x (f ∷ fs) e j g p l = absurd (cc)
 

@@ -1,9 +1,8 @@
 -- What is held, and when it is laid out.
-use Rattle.std.proofs.Common.{◌≡◌, ℕ, ◌+◌, ◌<◌, List, [], ◌∷◌, ◌++◌, length, Bool, true, false, refl, sym, subst, ◌∙◌, ap, arith, length-append}
-use Rattle.std.specs.Prelude.{nat_le, not, ◌||◌, ◌&&◌, ◌≤◌, Option}
-use Rattle.std.proofs.lemmas.Bool.{false≢true}
-use Rattle.std.proofs.lemmas.Bool.Decides.{nat_tests}
-use Rattle.yaml_emit_layout.specs.Content.{Event, no_event, stream_start, stream_end, document_start, document_end, alias, scalar, sequence_start, sequence_end, mapping_start, mapping_end}
+use Rattle.std.proofs.Common.{◌≡◌, ◌+◌, List, [], ◌∷◌, ◌++◌, length, Bool, true, false, refl, sym, subst, ◌∙◌, ap, arith, length-append}
+use Rattle.std.specs.Prelude.{not, ◌||◌, ◌&&◌, ◌≤◌, Option}
+use Rattle.std.proofs.lemmas.Bool.{false≢true, le-leb, not-false}
+use Rattle.yaml_emit_layout.specs.Content.{Event, no_event, sequence_start, mapping_start}
 use Rattle.yaml_emit_layout.specs.State.{opens_empty}
 use Rattle.yaml_emit_layout.specs.declared.Level.{Level}
 use Rattle.yaml_emit_state.specs.Due.{is_undecided}
@@ -28,50 +27,23 @@ ready_empty _ es more h = refl
 -- of one event alone, closing is ending a level
 pub closes_last : (e : Event) → ends_level e ≡ closes (e ∷ [])
 closes_last no_event = refl
-closes_last (stream_start x) = refl
-closes_last stream_end = refl
-closes_last (document_start i) = refl
-closes_last (document_end i) = refl
-closes_last (alias name) = refl
-closes_last (scalar x) = refl
-closes_last (sequence_start p) = refl
-closes_last sequence_end = refl
-closes_last (mapping_start p) = refl
-closes_last mapping_end = refl
+closes_last _ = refl
 
--- No event waits for more than three that follow.
-pub few_needs : (e : Event) → nat_le (needs e) 3 ≡ true
-few_needs no_event = refl
-few_needs (stream_start x) = refl
-few_needs stream_end = refl
-few_needs (document_start i) = refl
-few_needs (document_end i) = refl
-few_needs (alias name) = refl
-few_needs (scalar x) = refl
-few_needs (sequence_start p) = refl
-few_needs sequence_end = refl
-few_needs (mapping_start p) = refl
-few_needs mapping_end = refl
-
--- What at most three are enough for, more are enough for too.
-pub le_more : (n m k : ℕ) → nat_le n 3 ≡ true → 3 ≤ m → nat_le n m ≡ true
-le_more n m k h l = grind (arith, nat_tests)
-
-four_ready : (a b c d : Event) (xs : List Event) → is_ready (a ∷ b ∷ c ∷ d ∷ xs) ≡ true
+-- what has behind it what it needs is ready
+pub enough : (e : Event) (es : List Event) → needs e ≤ length es → is_ready (e ∷ es) ≡ true
 unfolding is_ready
-four_ready a b c d xs = ap (λ v. v || closes (b ∷ c ∷ d ∷ xs)) (le_more (needs a) (length (b ∷ c ∷ d ∷ xs)) 0 (few_needs a) (omega arith))
+enough e es h = ap (λ v. v || closes es) (le-leb (needs e) (length es) h)
 
-pub waits_few : (xs : List Event) → is_ready xs ≡ false → length xs < 4
-waits_few [] h = omega arith
-waits_few (a ∷ []) h = omega arith
-waits_few (a ∷ b ∷ []) h = omega arith
-waits_few (a ∷ b ∷ c ∷ []) h = omega arith
-waits_few (a ∷ b ∷ c ∷ d ∷ xs) h = let k = four_ready a b c d xs in absurd (cc)
+-- no event waits for more than three that follow
+pub few_needs : (e : Event) → needs e ≤ 3
+few_needs no_event = omega arith
+few_needs _ = omega arith
 
--- what needs nothing behind it is ready
+pub three_enough : (e : Event) (es : List Event) → 3 ≤ length es → is_ready (e ∷ es) ≡ true
+three_enough e es h = let few = few_needs e in enough e es (omega (arith, few, h))
+
 pub none_needed : (e : Event) (es : List Event) → needs e ≡ 0 → is_ready (e ∷ es) ≡ true
-unfolding is_ready
-none_needed e es h = let k : nat_le (needs e) (length es) ≡ true = rw h (grind (arith, nat_tests)) in ap (λ v. v || closes es) k
+none_needed e es h = enough e es (omega (arith, h))
 
 pub both_false : (a b : Bool) → b ≡ true → (a && b) ≡ false → a ≡ false
 both_false false b g h = refl
@@ -80,7 +52,11 @@ both_false true false g h = absurd (cc)
 
 -- three wait at most
 pub few_short : (xs : List Event) → is_ready xs ≡ false → length xs ≤ 3
-few_short xs h = let few = waits_few xs h in omega (arith, few)
+few_short [] h = omega arith
+few_short (a ∷ []) h = omega arith
+few_short (a ∷ b ∷ []) h = omega arith
+few_short (a ∷ b ∷ c ∷ []) h = omega arith
+few_short (a ∷ b ∷ c ∷ d ∷ xs) h = let k = three_enough a (b ∷ c ∷ d ∷ xs) (omega arith) in absurd (cc)
 
 pub pushed_most : (xs ys : List Event) (e : Event) → ys ≡ xs ++ e ∷ [] → length xs ≤ 2
     → length ys ≤ 3
@@ -108,10 +84,10 @@ released_ready (e ∷ es) f h = h
 -- an event that comes behind three finds the oldest ready
 few_room : (xs : List Event) (f : Event) → releases xs f ≡ false → length xs ≤ 3 → length xs ≤ 2
 few_room [] f h m = omega arith
-few_room (a ∷ []) f h m = omega arith
-few_room (a ∷ b ∷ []) f h m = omega arith
-few_room (a ∷ b ∷ c ∷ []) f h m = let k = four_ready a b c f [] in absurd (cc)
-few_room (a ∷ b ∷ c ∷ d ∷ xs) f h m = absurd (omega (arith, m))
+few_room (a ∷ xs) f h m =
+    let few = few_short (a ∷ (xs ++ f ∷ [])) h in
+    let more = length-append xs (f ∷ []) in
+    omega (arith, few, more)
 
 few_room_by : (early : Bool) (xs : List Event) (f : Event) → releases_by early xs f ≡ false
     → length xs ≤ 3 → length xs ≤ 2
@@ -164,19 +140,7 @@ undecided_waits : (canonical : Bool) (top : Option Level) (f : Event)
 unfolding is_ready
 undecided_waits canonical top (sequence_start p) h = refl
 undecided_waits canonical top (mapping_start p) h = refl
-undecided_waits canonical top no_event h = absurd (cc)
-undecided_waits canonical top (stream_start x) h = absurd (cc)
-undecided_waits canonical top stream_end h = absurd (cc)
-undecided_waits canonical top (document_start i) h = absurd (cc)
-undecided_waits canonical top (document_end i) h = absurd (cc)
-undecided_waits canonical top (alias name) h = absurd (cc)
-undecided_waits canonical top (scalar x) h = absurd (cc)
-undecided_waits canonical top sequence_end h = absurd (cc)
-undecided_waits canonical top mapping_end h = absurd (cc)
-
-not_passed : (undecided : Bool) → (true && not undecided) ≡ false → undecided ≡ true
-not_passed true h = refl
-not_passed false h = absurd (cc)
+undecided_waits canonical top _ h = absurd (cc)
 
 -- the same of one that comes early
 pub pushed_by_waits : (early : Bool) (xs ys : List Event) (canonical : Bool) (top : Option Level)
@@ -184,7 +148,7 @@ pub pushed_by_waits : (early : Bool) (xs ys : List Event) (canonical : Bool) (to
     → passes_by early xs (is_undecided canonical top f) f ≡ false → is_ready ys ≡ false
 pushed_by_waits false xs ys canonical top f same r p = pushed_waits xs ys f same r p
 pushed_by_waits true [] ys canonical top f same r p =
-    ap is_ready same ∙ undecided_waits canonical top f (not_passed (is_undecided canonical top f) p)
+    ap is_ready same ∙ undecided_waits canonical top f (not-false (is_undecided canonical top f) p)
 pushed_by_waits true (e ∷ es) ys canonical top f same r p = absurd (cc)
 
 in_slots : Count → Slot → yaml_event_body_t → yaml_event_body_t → yaml_event_body_t → Held

@@ -7,7 +7,7 @@ use Rattle.yaml_parse_model.specs.Events.{TagDirective}
 use Rattle.yaml_emit_text.specs.declared.Cursor.{Cursor}
 use Rattle.yaml_emit_text.specs.declared.Settings.{Settings}
 use Rattle.yaml_emit_text.specs.declared.Status.{Status}
-use Rattle.yaml_emit_text.specs.declared.Status.TheVariants.{Going, Full, Deep, Starved}
+use Rattle.yaml_emit_text.specs.declared.Status.TheVariants.{Going}
 use Rattle.yaml_emit_text.specs.Text.{Item}
 use Rattle.yaml_emit_text.specs.Layout.{Layout, Rest, nothing_more}
 use Rattle.yaml_emit_text.specs.Sink.{Output, Ends, Puts}
@@ -18,16 +18,16 @@ use Rattle.yaml_emit_layout.specs.declared.Phase.{Phase}
 use Rattle.yaml_emit_layout.specs.declared.Phase.TheVariants.{Items, Keys, Value}
 use Rattle.yaml_emit_layout.specs.declared.Expected.{Expected}
 use Rattle.yaml_emit_layout.specs.declared.Expected.TheVariants as at
-use Rattle.yaml_emit_layout.specs.Content.{Event, no_event, stream_start, stream_end, document_start, document_end, alias, scalar, sequence_start, sequence_end, mapping_start, mapping_end}
+use Rattle.yaml_emit_layout.specs.Content.{Event, no_event, alias, scalar, sequence_start, sequence_end, mapping_start, mapping_end}
 use Rattle.yaml_emit_layout.specs.Grammar.{or_else, ends_phase, begins_node, may_come, node_problem, place_problem, problem_by, event_problem, last_problem}
 use Rattle.yaml_emit_layout.specs.Nodes.{Context, context_of}
 use Rattle.yaml_emit_layout.specs.State.{State, piece, next, next_at, problem_at, opens_empty, begins_by, is_sequence_end, is_mapping_end, top_of, outer_of, place_at, among, levels_behind, phase_behind}
 use Rattle.yaml_emit_state.specs.declared.Core.{Core}
-use Rattle.yaml_emit_state.specs.Steps.{state_of, settings_of, next_state, next_piece, LaysOut, takes_memory, is_document_start, may_note, goes_on}
+use Rattle.yaml_emit_state.specs.Steps.{state_of, settings_of, next_state, next_piece, LaysOut, may_note, goes_on}
 use Rattle.yaml_emit_state.proofs.Finishing.{same_settings}
 use Rattle.yaml_emit_machine.specs.Held.{is_ready, needs, closes, opens_level, ends_level}
 use Rattle.yaml_emit_layout.specs.Progress.{Due, item_due, key_due, progress_after, inside, behind_node, outer_due, phase_due, level_due, problem_in, first_refusal}
-use Rattle.yaml_emit_machine.specs.Judged.{let_out, unless, laid, refused_at, due_in, due_of, shape_of, refusal_among, text_among, refusal_from, refusal_behind, LetsOut, first_wrong, LaysAll, laid_some, some_among, LaysSome, first_takes, first_starts}
+use Rattle.yaml_emit_machine.specs.Judged.{let_out, unless, laid, refused_at, due_in, due_of, shape_of, refusal_among, text_among, refusal_behind, LetsOut, first_wrong, LaysAll, laid_some, LaysSome}
 use Rattle.yaml_emit_machine.proofs.Holding.{none_needed}
 
 -- ---- what is ready stays so
@@ -77,12 +77,8 @@ same_node ls e = rw (same_may ls e) refl
 same_place : (p : Expected) (ls : List Level) (e : Event)
     → place_problem p (top_of ls) e ≡ place_problem p (level_due (due_of ls)) e
 unfolding place_problem
-same_place at.StreamStart ls e = refl
-same_place (at.Documents first unended) ls e = refl
 same_place at.Node ls e = same_node ls e
-same_place at.DocumentEnd ls e = refl
-same_place at.End ls e = refl
-same_place (at.Refused p) ls e = refl
+same_place _ ls e = refl
 
 -- A problem depends on the state's shape alone: on what is expected, open and named, and not on columns.
 pub same_problem : (s : Settings) (st : State) (e : Event)
@@ -115,17 +111,13 @@ shape_at : (p : Context) (place : Expected) (ls : List Level) (e : Event) (empty
     → shape_of (next_at p place ls e empty d)
     ≡ progress_after (record { place = place; due = due_of ls }) e
 unfolding next_at progress_after
-shape_at p place ls no_event empty d = refl
-shape_at p place ls (stream_start x) empty d = refl
-shape_at p place ls stream_end empty d = refl
-shape_at p place ls (document_start o) empty d = refl
-shape_at p place ls (document_end implicit) empty d = refl
 shape_at p place ls (alias name) empty d = among_shape p.directives (levels_behind ls _) ∙ ap inside (dues_behind ls _)
 shape_at p place ls (scalar v) empty d = among_shape p.directives (levels_behind ls _) ∙ ap inside (dues_behind ls _)
 shape_at p place ls (sequence_start q) empty d = ap (λ z. inside (item_due ∷ z)) (dues_behind ls _)
 shape_at p place ls (mapping_start q) empty d = ap (λ z. inside (key_due ∷ z)) (dues_behind ls _)
 shape_at p place ls sequence_end empty d = among_shape p.directives (outer_of ls) ∙ ap inside (dues_outer ls)
 shape_at p place ls mapping_end empty d = among_shape p.directives (outer_of ls) ∙ ap inside (dues_outer ls)
+shape_at p place ls _ empty d = refl
 
 -- The shape behind an event is what the shape before it becomes.
 pub shape_next : (s : Settings) (st : State) (e : Event) (empty : Bool) (d : Cursor)
@@ -144,16 +136,11 @@ pub open_at : (p : Context) (place : Expected) (ls : List Level) (e : Event) (em
     → refused_at place ≡ None → refused_at (next_at p place ls e empty d).place ≡ None
 unfolding next_at
 open_at p place ls no_event empty d h = h
-open_at p place ls (stream_start x) empty d h = refl
-open_at p place ls stream_end empty d h = refl
-open_at p place ls (document_start o) empty d h = refl
-open_at p place ls (document_end implicit) empty d h = refl
 open_at p place ls (alias name) empty d h = place_open (top_of (levels_behind ls _))
 open_at p place ls (scalar v) empty d h = place_open (top_of (levels_behind ls _))
-open_at p place ls (sequence_start q) empty d h = refl
-open_at p place ls (mapping_start q) empty d h = refl
 open_at p place ls sequence_end empty d h = place_open (top_of (outer_of ls))
 open_at p place ls mapping_end empty d h = place_open (top_of (outer_of ls))
+open_at p place ls _ empty d h = refl
 
 -- the same by the state
 pub open_next : (s : Settings) (st : State) (e : Event) (empty : Bool) (d : Cursor)
@@ -162,34 +149,19 @@ open_next s st e empty d h = open_at (context_of s st.directives) st.place st.le
 
 -- Where the output goes on and the place is no refusal, nothing was refused.
 pub going_open : (s : Status) (p : Expected) → goes_on s p ≡ true → refused_at p ≡ None
-going_open s at.StreamStart h = refl
-going_open s (at.Documents first unended) h = refl
-going_open s at.Node h = refl
-going_open s at.DocumentEnd h = refl
-going_open s at.End h = refl
 going_open s (at.Refused p) h = absurd (cc)
+going_open s _ h = refl
 
 -- and the output goes on
 pub goes_going : (s : Status) (p : Expected) → goes_on s p ≡ true → s ≡ Going
 goes_going Going p h = refl
-goes_going Full (at.Refused q) h = absurd (cc)
-goes_going Full at.StreamStart h = absurd (cc)
-goes_going Full (at.Documents first unended) h = absurd (cc)
-goes_going Full at.Node h = absurd (cc)
-goes_going Full at.DocumentEnd h = absurd (cc)
-goes_going Full at.End h = absurd (cc)
-goes_going Deep (at.Refused q) h = absurd (cc)
-goes_going Deep at.StreamStart h = absurd (cc)
-goes_going Deep (at.Documents first unended) h = absurd (cc)
-goes_going Deep at.Node h = absurd (cc)
-goes_going Deep at.DocumentEnd h = absurd (cc)
-goes_going Deep at.End h = absurd (cc)
-goes_going Starved (at.Refused q) h = absurd (cc)
-goes_going Starved at.StreamStart h = absurd (cc)
-goes_going Starved (at.Documents first unended) h = absurd (cc)
-goes_going Starved at.Node h = absurd (cc)
-goes_going Starved at.DocumentEnd h = absurd (cc)
-goes_going Starved at.End h = absurd (cc)
+goes_going s (at.Refused q) h = absurd (cc)
+goes_going s p h = absurd (cc)
+
+-- where nothing was refused an output that goes on does so with the next event
+pub open_goes : (s : Status) (p : Expected) → s ≡ Going → refused_at p ≡ None → goes_on s p ≡ true
+open_goes s (at.Refused p) g o = absurd (cc)
+open_goes s p g o = rw g refl
 
 -- ---- the first refusal
 
@@ -227,14 +199,6 @@ among_step s st new e empty d es (Some x) pe o same =
     or_none (refused_at st.place) _ o ∙ or_some _ _ x wrong in
     ap (λ z. refusal_among s.canonical z es) same ∙ sym front
 
-refusal_step : (s : Settings) (st new : State) (e : Event) (empty : Bool) (d : Cursor)
-    (es : List Event) (p : Option Problem) → p ≡ problem_at s st e → refused_at st.place ≡ None
-    → is_ready (e ∷ es) ≡ true
-    → new ≡ next_state p st (next s st e empty d)
-    → refusal_from s.canonical new es ≡ refusal_from s.canonical st (e ∷ es)
-refusal_step s st new e empty d es p pe o r same =
-    among_step s st new e empty d (let_out es) p pe o same ∙ ap (λ z. refusal_among s.canonical st z) (sym (first_out e es r))
-
 -- ---- what is written
 
 -- Without a problem the layout is written.
@@ -249,14 +213,16 @@ pub unless_some : (p : Option Problem) (x : Problem) (a : Layout) (c : Cursor) (
 unless_some None x a c rest e = absurd (cc)
 unless_some (Some y) x a c rest e = refl
 
-held_none : (f : Event) (es : List Event) → is_ready (f ∷ es) ≡ false → let_out (f ∷ es) ≡ []
+-- what waits isn't let out
+pub held_stays : (es : List Event) → is_ready es ≡ false → let_out es ≡ []
 unfolding let_out
-held_none f es r = rw r refl
+held_stays [] r = refl
+held_stays (e ∷ es) r = rw r refl
 
 out_begins : (p : Event → Bool) (b : Bool) (f : Event) (es : List Event) → is_ready (f ∷ es) ≡ b
     → (b ≡ false → p f ≡ false) → begins_by p (let_out (f ∷ es)) ≡ p f
 out_begins p true f es r n = ap (begins_by p) (first_out f es r)
-out_begins p false f es r n = ap (begins_by p) (held_none f es r) ∙ sym (n refl)
+out_begins p false f es r n = ap (begins_by p) (held_stays (f ∷ es) r) ∙ sym (n refl)
 
 -- an end is never held
 end_sequence : (f : Event) (es : List Event) → is_ready (f ∷ es) ≡ false → is_sequence_end f ≡ false
@@ -267,59 +233,19 @@ end_mapping : (f : Event) (es : List Event) → is_ready (f ∷ es) ≡ false �
 end_mapping mapping_end es r = let k = none_needed mapping_end es refl in absurd (cc)
 end_mapping f es r = refl
 
-sequence_begins : (es : List Event)
-    → begins_by is_sequence_end (let_out es) ≡ begins_by is_sequence_end es
+ends_begin : (p : Event → Bool)
+    → ((f : Event) (es : List Event) → is_ready (f ∷ es) ≡ false → p f ≡ false) → (es : List Event)
+    → begins_by p (let_out es) ≡ begins_by p es
 unfolding let_out
-sequence_begins [] = refl
-sequence_begins (f ∷ es) = out_begins is_sequence_end (is_ready (f ∷ es)) f es refl (end_sequence f es)
-
-mapping_begins : (es : List Event)
-    → begins_by is_mapping_end (let_out es) ≡ begins_by is_mapping_end es
-unfolding let_out
-mapping_begins [] = refl
-mapping_begins (f ∷ es) = out_begins is_mapping_end (is_ready (f ∷ es)) f es refl (end_mapping f es)
+ends_begin p never [] = refl
+ends_begin p never (f ∷ es) = out_begins p (is_ready (f ∷ es)) f es refl (never f es)
 
 -- whether a collection is opened and at once closed is told by the events that are let out
 pub empty_out : (e : Event) (es : List Event) → opens_empty e (let_out es) ≡ opens_empty e es
 unfolding opens_empty
-empty_out (sequence_start p) es = sequence_begins es
-empty_out (mapping_start p) es = mapping_begins es
-empty_out no_event es = refl
-empty_out (stream_start x) es = refl
-empty_out stream_end es = refl
-empty_out (document_start o) es = refl
-empty_out (document_end implicit) es = refl
-empty_out (alias name) es = refl
-empty_out (scalar x) es = refl
-empty_out sequence_end es = refl
-empty_out mapping_end es = refl
-
--- what comes of a list behind its first event
-behind : Settings → State → Event → Bool → List Event → Rest → Rest
-behind s st e empty es rest d = laid s (next s st e empty d) es d rest
-
-laid_right : (s : Settings) (st : State) (e : Event) (es : List Event) (c : Cursor) (rest : Rest)
-    → problem_at s st e ≡ None
-    → laid s st (e ∷ es) c rest ≡ piece s st e (opens_empty e es) c
-    (behind s st e (opens_empty e es) es rest)
-unfolding laid behind
-laid_right s st e es c rest p = unless_none (problem_at s st e) _ c rest p
-
-text_right : (s : Settings) (st : State) (e : Event) (es : List Event) (c : Cursor) (rest : Rest)
-    → refused_at st.place ≡ None → problem_at s st e ≡ None
-    → text_among s st (e ∷ es) c rest
-    ≡ piece s st e (opens_empty e es) c (behind s st e (opens_empty e es) es rest)
-text_right s st e es c rest o p = unless_none (refused_at st.place) _ c rest o ∙ laid_right s st e es c rest p
-
-laid_wrong : (s : Settings) (st : State) (e : Event) (es : List Event) (c : Cursor) (rest : Rest)
-    (x : Problem) → problem_at s st e ≡ Some x → laid s st (e ∷ es) c rest ≡ rest c
-unfolding laid
-laid_wrong s st e es c rest x p = unless_some (problem_at s st e) x _ c rest p
-
-text_wrong : (s : Settings) (st : State) (e : Event) (es : List Event) (c : Cursor) (rest : Rest)
-    (x : Problem) → refused_at st.place ≡ None → problem_at s st e ≡ Some x
-    → text_among s st (e ∷ es) c rest ≡ rest c
-text_wrong s st e es c rest x o p = unless_none (refused_at st.place) _ c rest o ∙ laid_wrong s st e es c rest x p
+empty_out (sequence_start p) es = ends_begin is_sequence_end end_sequence es
+empty_out (mapping_start p) es = ends_begin is_mapping_end end_mapping es
+empty_out _ es = refl
 
 -- what an event that was laid out has done, by what was wrong with it
 pub record Done (old new : Core) (e : Event) (empty : Bool) (p : Option Problem) : Type 0 where
@@ -334,37 +260,49 @@ pub done : (old new : Core) (e : Event) (empty : Bool) → LaysOut old new e emp
     → Done old new e empty (problem_at (settings_of old) (state_of old) e)
 done old new e empty l = record { problem = refl; settings = same_settings old new l.settings l.text.encoding; state = l.state; text = l.text }
 
-all_step : (p : Option Problem) (old new : Core) (e : Event) (es : List Event) (whole : List Item)
-    → refused_at old.place ≡ None → Done old new e (opens_empty e es) p
-    → LaysAll (settings_of old) (state_of old) old.sink (e ∷ es) whole
-    → LaysAll (settings_of new) (state_of new) new.sink es whole
-unfolding LaysAll behind
-all_step None old new e es whole o l h =
+-- what is written for an event, and behind it what `body` tells
+ahead : (Settings → State → Layout) → Settings → State → Event → Bool → Layout
+ahead body s st e empty = unless (refused_at st.place) (unless (problem_at s st e)
+    (λ c rest. piece s st e empty c (λ d. body s (next s st e empty d) d rest)))
+
+-- Behind an event that was laid out the same is to come.
+text_on : (p : Option Problem) (body : Settings → State → Layout) (old new : Core) (e : Event)
+    (empty : Bool) (whole : List Item) → refused_at old.place ≡ None → Done old new e empty p
+    → Ends old.sink (ahead body (settings_of old) (state_of old) e empty old.sink.cursor nothing_more) whole
+    → Ends new.sink (unless (refused_at new.place) (body (settings_of new) (state_of new)) new.sink.cursor nothing_more) whole
+unfolding ahead
+text_on None body old new e empty whole o l h =
     let s : Settings = settings_of old in
     let st : State = state_of old in
+    let rest : Rest = λ d. body s (next s st e empty d) d nothing_more in
     let P : List Item → Type 0 = λ t. Ends old.sink t whole in
-    let front = subst P (text_right s st e es old.sink.cursor nothing_more o l.problem) h in
-    let back : Ends new.sink (behind s st e (opens_empty e es) es nothing_more new.sink.cursor) whole = l.text.ends (behind s st e (opens_empty e es) es nothing_more) whole front in
+    let front = subst P (unless_none (refused_at st.place) _ _ _ o ∙ unless_none (problem_at s st e) _ _ _ l.problem) h in
+    let back : Ends new.sink (rest new.sink.cursor) whole = l.text.ends rest whole front in
     status_cases new.sink.status
     (λ g.
-    let at : State = next s st e (opens_empty e es) new.sink.cursor in
-    let same : text_among s at es new.sink.cursor nothing_more ≡ behind s st e (opens_empty e es) es nothing_more new.sink.cursor = unless_none _ _ _ _ (open_next s st e (opens_empty e es) new.sink.cursor o) in
+    let at : State = next s st e empty new.sink.cursor in
+    let same : unless (refused_at at.place) (body s at) new.sink.cursor nothing_more ≡ rest new.sink.cursor = unless_none _ _ _ _ (open_next s st e empty new.sink.cursor o) in
     let Q : List Item → Type 0 = λ t. Ends new.sink t whole in
-    let R : State → Type 0 = λ z. Ends new.sink (text_among s z es new.sink.cursor nothing_more) whole in
-    let S : Settings → Type 0 = λ z. Ends new.sink (text_among z (state_of new) es new.sink.cursor nothing_more) whole in
+    let R : State → Type 0 = λ z. Ends new.sink (unless (refused_at z.place) (body s z) new.sink.cursor nothing_more) whole in
+    let S : Settings → Type 0 = λ z. Ends new.sink (unless (refused_at new.place) (body z (state_of new)) new.sink.cursor nothing_more) whole in
     subst S (sym l.settings) (subst R (sym (l.state g)) (subst Q (sym same) back)))
     (λ n. ends_other new.sink _ _ whole n back)
-all_step (Some x) old new e es whole o l h =
+text_on (Some x) body old new e empty whole o l h =
     let s : Settings = settings_of old in
     let st : State = state_of old in
     let P : List Item → Type 0 = λ t. Ends old.sink t whole in
-    let front = subst P (text_wrong s st e es old.sink.cursor nothing_more x o l.problem) h in
+    let front = subst P (unless_none (refused_at st.place) _ _ _ o ∙ unless_some (problem_at s st e) x _ _ _ l.problem) h in
     let back : Ends new.sink [] whole = l.text.ends nothing_more whole front in
-    status_cases new.sink.status
-    (λ g.
-    let R : State → Type 0 = λ z. Ends new.sink (text_among (settings_of new) z es new.sink.cursor nothing_more) whole in
-    subst R (sym (l.state g)) back)
-    (λ n. ends_other new.sink _ _ whole n back)
+    let R : State → Type 0 = λ z. Ends new.sink (unless (refused_at z.place) (body (settings_of new) z) new.sink.cursor nothing_more) whole in
+    status_cases new.sink.status (λ g. subst R (sym (l.state g)) back) (λ n. ends_other new.sink _ _ whole n back)
+
+-- an event that is laid out before those behind it are known
+pub lays_first : (b c : Core) (e : Event) (es : List Event) (whole : List Item)
+    → refused_at b.place ≡ None → LaysOut b c e (opens_empty e es)
+    → LaysAll (settings_of b) (state_of b) b.sink (e ∷ es) whole
+    → LaysAll (settings_of c) (state_of c) c.sink es whole
+unfolding LaysAll laid ahead
+lays_first b c e es whole o l h = text_on _ (λ s st. laid s st es) b c e _ whole o (done b c e _ l) h
 
 -- the same of those that are let out
 pub text_step : (old new : Core) (e : Event) (es : List Event) (whole : List Item)
@@ -375,23 +313,9 @@ unfolding LetsOut LaysAll
 text_step old new e es whole o r l h =
     let R : Bool → Type 0 = λ v. LaysOut old new e v in
     let P : List Event → Type 0 = λ z. Ends old.sink (text_among (settings_of old) (state_of old) z old.sink.cursor nothing_more) whole in
-    all_step (problem_at (settings_of old) (state_of old) e) old new e (let_out es) whole o (done old new e _ (subst R (sym (empty_out e es)) l)) (subst P (first_out e es r) h)
+    lays_first old new e (let_out es) whole o (subst R (sym (empty_out e es)) l) (subst P (first_out e es r) h)
 
 -- ---- the first few
-
-some_right : (n : ℕ) (s : Settings) (st : State) (e : Event) (es : List Event) (c : Cursor)
-    (rest : Rest) → refused_at st.place ≡ None → problem_at s st e ≡ None
-    → some_among (suc n) s st (e ∷ es) c rest
-    ≡ piece s st e (opens_empty e es) c
-    (λ d. laid_some n s (next s st e (opens_empty e es) d) es d rest)
-unfolding laid_some
-some_right n s st e es c rest o p = unless_none (refused_at st.place) _ c rest o ∙ unless_none (problem_at s st e) _ c rest p
-
-some_wrong : (n : ℕ) (s : Settings) (st : State) (e : Event) (es : List Event) (c : Cursor)
-    (rest : Rest) (x : Problem) → refused_at st.place ≡ None → problem_at s st e ≡ Some x
-    → some_among (suc n) s st (e ∷ es) c rest ≡ rest c
-unfolding laid_some
-some_wrong n s st e es c rest x o p = unless_none (refused_at st.place) _ c rest o ∙ unless_some (problem_at s st e) x _ c rest p
 
 -- Where nothing of the events was laid out, the output ends where it stood.
 pub some_none : (s : Settings) (st : State) (o : Output) (es : List Event) (whole : List Item)
@@ -403,56 +327,31 @@ some_none s st o es whole open_still h =
 
 -- one event, by what is wrong with it
 pub some_one : (p : Option Problem) (s : Settings) (st : State) (o : Output) (e : Event)
-    (es : List Event) (empty : Bool) (whole : List Item) → refused_at st.place ≡ None
-    → problem_at s st e ≡ p → empty ≡ opens_empty e es → LaysSome (suc zero) s st o (e ∷ es) whole
-    → Ends o (next_piece p (piece s st e empty) o.cursor nothing_more) whole
+    (es : List Event) (whole : List Item) → refused_at st.place ≡ None → problem_at s st e ≡ p
+    → LaysSome (suc zero) s st o (e ∷ es) whole
+    → Ends o (next_piece p (piece s st e (opens_empty e es)) o.cursor nothing_more) whole
 unfolding LaysSome laid_some
-some_one None s st o e es empty whole open_still is same h =
+some_one None s st o e es whole open_still is h =
     let P : List Item → Type 0 = λ t. Ends o t whole in
-    let Q : Bool → Type 0 = λ b. Ends o (piece s st e b o.cursor nothing_more) whole in
-    subst Q (sym same) (subst P (some_right zero s st e es o.cursor nothing_more open_still is) h)
-some_one (Some x) s st o e es empty whole open_still is same h =
+    subst P (unless_none (refused_at st.place) _ _ _ open_still ∙ unless_none (problem_at s st e) _ _ _ is) h
+some_one (Some x) s st o e es whole open_still is h =
     let P : List Item → Type 0 = λ t. Ends o t whole in
-    subst P (some_wrong zero s st e es o.cursor nothing_more x open_still is) h
+    subst P (unless_none (refused_at st.place) _ _ _ open_still ∙ unless_some (problem_at s st e) x _ _ _ is) h
 
-pub some_step : (p : Option Problem) (n : ℕ) (old new : Core) (e : Event) (es : List Event)
-    (whole : List Item) → refused_at old.place ≡ None → new.sink.status ≡ Going
-    → Done old new e (opens_empty e es) p
-    → LaysSome (suc n) (settings_of old) (state_of old) old.sink (e ∷ es) whole
-    → LaysSome n (settings_of new) (state_of new) new.sink es whole
-unfolding LaysSome
-some_step None n old new e es whole o g l h =
-    let s : Settings = settings_of old in
-    let st : State = state_of old in
-    let more : Rest = λ d. laid_some n s (next s st e (opens_empty e es) d) es d nothing_more in
-    let P : List Item → Type 0 = λ t. Ends old.sink t whole in
-    let front = subst P (some_right n s st e es old.sink.cursor nothing_more o l.problem) h in
-    let back : Ends new.sink (more new.sink.cursor) whole = l.text.ends more whole front in
-    let at : State = next s st e (opens_empty e es) new.sink.cursor in
-    let same : some_among n s at es new.sink.cursor nothing_more ≡ more new.sink.cursor = unless_none _ _ _ _ (open_next s st e (opens_empty e es) new.sink.cursor o) in
-    let Q : List Item → Type 0 = λ t. Ends new.sink t whole in
-    let R : State → Type 0 = λ z. Ends new.sink (some_among n s z es new.sink.cursor nothing_more) whole in
-    let S : Settings → Type 0 = λ z. Ends new.sink (some_among n z (state_of new) es new.sink.cursor nothing_more) whole in
-    subst S (sym l.settings) (subst R (sym (l.state g)) (subst Q (sym same) back))
-some_step (Some x) n old new e es whole o g l h =
-    let P : List Item → Type 0 = λ t. Ends old.sink t whole in
-    let front = subst P (some_wrong n (settings_of old) (state_of old) e es old.sink.cursor nothing_more x o l.problem) h in
-    let back : Ends new.sink [] whole = l.text.ends nothing_more whole front in
-    let R : State → Type 0 = λ z. Ends new.sink (some_among n (settings_of new) z es new.sink.cursor nothing_more) whole in
-    subst R (sym (l.state g)) back
+pub some_step : (n : ℕ) (b c : Core) (e : Event) (es : List Event) (whole : List Item)
+    → refused_at b.place ≡ None → LaysOut b c e (opens_empty e es)
+    → LaysSome (suc n) (settings_of b) (state_of b) b.sink (e ∷ es) whole
+    → LaysSome n (settings_of c) (state_of c) c.sink es whole
+unfolding LaysSome laid_some ahead
+some_step n b c e es whole o l h = text_on _ (λ s st. laid_some n s st es) b c e _ whole o (done b c e _ l) h
 
 -- ---- memory
 
 -- Nothing is noted of memory while the output still goes on.
 pub going_notes : (takes : Bool) (a b : Status) → b ≡ Going → may_note takes a b ≡ false
 going_notes false a b g = refl
-going_notes true Going Going g = refl
-going_notes true Going Full g = absurd (cc)
-going_notes true Going Deep g = absurd (cc)
-going_notes true Going Starved g = absurd (cc)
-going_notes true Full b g = refl
-going_notes true Deep b g = refl
-going_notes true Starved b g = refl
+going_notes true Going b g = rw g refl
+going_notes true a b g = refl
 
 -- where it was noted, the event may take such memory
 pub noted_takes : (takes : Bool) (a b : Status) (was now : Bool) → was ≡ false → now ≡ true
@@ -468,25 +367,7 @@ drop_next zero (x ∷ xs) e ys h = cc
 drop_next (suc k) [] e ys h = absurd (cc)
 drop_next (suc k) (x ∷ xs) e ys h = drop_next k xs e ys h
 
-pub first_there : (k : ℕ) (xs : List Event) (e : Event) (ys : List Event) → drop k xs ≡ e ∷ ys
-    → takes_memory e ≡ true → first_takes (drop k xs) ≡ true
-first_there k xs e ys h t = ap first_takes h ∙ t
-
-pub start_there : (k : ℕ) (xs : List Event) (e : Event) (ys : List Event) → drop k xs ≡ e ∷ ys
-    → is_document_start e ≡ true → first_starts (drop k xs) ≡ true
-start_there k xs e ys h t = ap first_starts h ∙ t
-
 -- ---- one event
-
-pub refusal_on : (b c : Core) (e : Event) (es : List Event) (empty : Bool)
-    → refused_at b.place ≡ None
-    → is_ready (e ∷ es) ≡ true → LaysOut b c e empty → c.sink.status ≡ Going
-    → refusal_behind (settings_of c) (state_of c) es
-    ≡ refusal_behind (settings_of b) (state_of b) (e ∷ es)
-unfolding refusal_behind
-refusal_on b c e es empty o r l g =
-    ap (λ (z : Settings). refusal_from z.canonical (state_of c) es) (same_settings b c l.settings l.text.encoding)
-    ∙ refusal_step (settings_of b) (state_of b) (state_of c) e empty c.sink.cursor es (problem_at (settings_of b) (state_of b) e) refl o r (l.state g)
 
 -- The first wrong event of a list is that of the rest behind an event that was laid out.
 pub wrong_on : (b c : Core) (e : Event) (es : List Event) (empty : Bool) → refused_at b.place ≡ None
@@ -498,9 +379,12 @@ wrong_on b c e es empty o l g =
     ap (λ (z : Settings). refusal_among z.canonical (state_of c) es) (same_settings b c l.settings l.text.encoding)
     ∙ among_step (settings_of b) (state_of b) (state_of c) e empty c.sink.cursor es (problem_at (settings_of b) (state_of b) e) refl o (l.state g)
 
--- an event that is laid out before those behind it are known
-pub lays_first : (b c : Core) (e : Event) (es : List Event) (whole : List Item)
-    → refused_at b.place ≡ None → LaysOut b c e (opens_empty e es)
-    → LaysAll (settings_of b) (state_of b) b.sink (e ∷ es) whole
-    → LaysAll (settings_of c) (state_of c) c.sink es whole
-lays_first b c e es whole o l h = all_step (problem_at (settings_of b) (state_of b) e) b c e es whole o (done b c e _ l) h
+-- the same of those that are let out
+pub refusal_on : (b c : Core) (e : Event) (es : List Event) (empty : Bool)
+    → refused_at b.place ≡ None
+    → is_ready (e ∷ es) ≡ true → LaysOut b c e empty → c.sink.status ≡ Going
+    → refusal_behind (settings_of c) (state_of c) es
+    ≡ refusal_behind (settings_of b) (state_of b) (e ∷ es)
+unfolding refusal_behind first_wrong
+refusal_on b c e es empty o r l g =
+    wrong_on b c e (let_out es) empty o l g ∙ ap (first_wrong (settings_of b) (state_of b)) (sym (first_out e es r))

@@ -4,38 +4,16 @@ use Rattle.std.proofs.Math.Path.{fun_ext}
 use Rattle.yaml_emit_text.specs.declared.Cursor.{Cursor}
 use Rattle.yaml_emit_text.specs.declared.Settings.{Settings}
 use Rattle.yaml_emit_text.specs.Layout.{Rest}
-use Rattle.yaml_emit_layout.specs.Content.{Node, alias_node, scalar_node, sequence_node, mapping_node, no_nodes, node, no_pairs, pair, Event, node_events, items_events, pairs_events, documents_events, stream_events}
+use Rattle.yaml_emit_layout.specs.Content.{Event, stream_events}
 use Rattle.yaml_emit_layout.specs.Grammar.{own_problems}
 use Rattle.yaml_emit_layout.specs.State.{State, opens_empty, piece, next, problem_at}
-use Rattle.yaml_emit_layout.specs.ToCome.{items_left, pairs_left, value_left, ToCome, stream, documents, root, frames, nothing, frame_events, frames_events, events, layout}
+use Rattle.yaml_emit_layout.specs.ToCome.{ToCome, stream, events, layout}
 use Rattle.yaml_emit_layout.specs.ToCome as come
 use Rattle.yaml_emit_layout.proofs.LeadsOn.{goes}
 use Rattle.yaml_emit_machine.specs.Judged.{laid}
 use Rattle.yaml_emit_machine.specs.Laid.{StreamsAreLaid}
+use Rattle.yaml_emit_machine.proofs.Ending.{no_event_left}
 use Rattle.yaml_emit_machine.proofs.Grammatical.{first_right, right_there}
-
-node_some : (v : Node) (es : List Event) → node_events v es ≡ [] → ⊥
-unfolding node_events
-node_some (alias_node name) es h = cc
-node_some (scalar_node x) es h = cc
-node_some (sequence_node o ns) es h = cc
-node_some (mapping_node o ps) es h = cc
-
--- where no event is to come, nothing is
-nothing_left : (s : Settings) (k : ToCome) → events k ≡ [] → (c : Cursor) (f : Rest)
-    → layout s k c f ≡ f c
-unfolding events layout frames_events frame_events items_events pairs_events documents_events
-nothing_left s (stream x ds) h c f = absurd (cc)
-nothing_left s (documents first unended []) h c f = absurd (cc)
-nothing_left s (documents first unended (d ∷ ds)) h c f = absurd (cc)
-nothing_left s (root g v implicit ds) h c f = absurd (node_some v _ h)
-nothing_left s (frames g [] implicit ds) h c f = absurd (cc)
-nothing_left s (frames g (items_left flow n fresh no_nodes ∷ fs) implicit ds) h c f = absurd (cc)
-nothing_left s (frames g (items_left flow n fresh (node v ns) ∷ fs) implicit ds) h c f = absurd (node_some v _ h)
-nothing_left s (frames g (pairs_left flow n fresh no_pairs ∷ fs) implicit ds) h c f = absurd (cc)
-nothing_left s (frames g (pairs_left flow n fresh (pair v u ps) ∷ fs) implicit ds) h c f = absurd (node_some v _ h)
-nothing_left s (frames g (value_left flow n simple v ps ∷ fs) implicit ds) h c f = absurd (node_some v _ h)
-nothing_left s nothing h c f = refl
 
 -- a right event is laid out in front of those behind it
 pub laid_on : (s : Settings) (st : State) (e : Event) (es : List Event) (c : Cursor) (f : Rest)
@@ -48,8 +26,8 @@ laid_on s st e es c f h = rw h refl
 laid_is : (s : Settings) (es : List Event) (k : ToCome) → es ≡ events k
     → own_problems s.canonical es ≡ None → (c : Cursor) (f : Rest)
     → laid s (come.state_of k) es c f ≡ layout s k c f
-unfolding laid
-laid_is s [] k same right c f = sym (nothing_left s k (sym same) c f)
+unfolding laid layout
+laid_is s [] k same right c f = sym (ap (λ z. layout s z c f) (no_event_left k same))
 laid_is s (e ∷ es) k same right c f =
     let st : State = come.state_of k in
     let go = goes s e es k same in

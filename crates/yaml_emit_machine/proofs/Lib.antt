@@ -9,9 +9,8 @@ pub mod LaidOut
 pub mod Ending
 pub mod Viewing
 pub mod Emitting
-pub mod Within
-pub mod Blaming
 pub mod Taking
+pub mod Blaming
 pub mod Early
 pub mod Released
 pub mod Earlier

@@ -1,28 +1,19 @@
 -- How far a dump has opened the stream.
-use Rattle.std.proofs.Common.{◌≡◌, ◌≢◌, ℕ, ◌≤◌, List, [], ◌∷◌, length, Bool, true, false, sym, subst, refl, ◌∙◌, Option, Some, None, Result, Ok, Err}
+use Rattle.std.proofs.Common.{◌≡◌, ◌≢◌, ℕ, ◌≤◌, List, [], ◌∷◌, length, Bool, true, false, sym, subst, ◌∙◌, Option, None, Result, Ok, Err}
 use Rattle.std.specs.Prelude.{OnErr}
 use Rattle.yaml_scan_model.specs.Faults.{Fault}
 use Rattle.yaml_scan_model.specs.declared.yaml_fault_t.{yaml_fault_t}
 use Rattle.yaml_emit_text.specs.declared.Encoding.{Encoding}
 use Rattle.yaml_emit_text.specs.declared.Status.{Status}
-use Rattle.yaml_emit_text.specs.declared.Status.TheVariants.{Going, Full, Deep, Starved}
+use Rattle.yaml_emit_text.specs.declared.Status.TheVariants.{Going}
 use Rattle.yaml_emit_text.specs.Text.{Item, encode, is_deep}
-use Rattle.yaml_emit_layout.specs.declared.Problem.{Problem}
 use Rattle.yaml_emit_layout.specs.Content.{Event}
-use Rattle.yaml_emit_machine.specs.Emitter.{Emitter, Answers, fault_by}
+use Rattle.yaml_emit_machine.specs.Emitter.{Emitter, Answers}
 use Rattle.yaml_emit_machine.specs.Within.{Fits}
 use Rattle.yaml_emit_machine.specs.Verdict.{verdict, HasLetOut, TellsOutcome}
 use Rattle.yaml_emit_machine.specs.Taking.{TakesEvents, NotesMemoryOf}
 use Rattle.yaml_emit_machine.specs.Dumping.{IsRightNext, OpensStream, opening_event}
-
--- without a fault an output goes on and there is no problem
-pub none_by : (s : Status) (b : Bool) (p : Option Problem) → fault_by s b p ≡ None
-    → (s ≡ Going) × (p ≡ None)
-none_by Going b None h = (refl, refl)
-none_by Going b (Some p) h = absurd (cc)
-none_by Full b p h = absurd (cc)
-none_by Deep b p h = absurd (cc)
-none_by Starved b p h = absurd (cc)
+pub use Rattle.yaml_emit_machine.proofs.Emitting.{none_by}
 
 fits_let_out : (s : Status) (old new : ℕ) (bytes : List ℕ) (x : Encoding) (whole : List Item)
     → s ≡ Going → new ≡ old → HasLetOut s new bytes (encode x whole) (is_deep whole)
@@ -31,9 +22,7 @@ fits_let_out Going old new bytes x whole g l h =
     let P : List ℕ → Type 0 = λ z. length z ≤ new in
     let Q : ℕ → Type 0 = λ n. length (encode x whole) ≤ n in
     record { size = subst Q l (subst P h.0 h.1.0); columns = h.1.1 }
-fits_let_out Full old new bytes x whole g l h = absurd (cc)
-fits_let_out Deep old new bytes x whole g l h = absurd (cc)
-fits_let_out Starved old new bytes x whole g l h = absurd (cc)
+fits_let_out s old new bytes x whole g l h = absurd (cc)
 
 -- an event behind which there is no fault was right
 pub right_by : (old new : Emitter) (e : Event) → TakesEvents old (e ∷ []) new [] → TellsOutcome new

@@ -1,14 +1,15 @@
 -- Behind the events of a dump none of them is held.
-use Rattle.std.proofs.Common.{◌≡◌, ℕ, suc, ◌≤◌, List, [], ◌∷◌, ◌++◌, length, length-append, Bool, true, false, refl, ◌∙◌, ap, arith}
-use Rattle.std.specs.Prelude.{◌||◌, nat_le}
-use Rattle.std.proofs.lemmas.Bool.{le-leb}
+use Rattle.std.proofs.Common.{◌≡◌, List, [], ◌∷◌, ◌++◌, length, true, refl, ◌∙◌, ap, arith}
+use Rattle.std.specs.Prelude.{nat_le}
+use Rattle.std.proofs.Math.Bool.{or-true}
 use Rattle.yaml_parse_document.specs.Documents as documents
 use Rattle.yaml_emit_layout.specs.Content.{Start, Opening, Node, alias_node, scalar_node, sequence_node, mapping_node, Nodes, no_nodes, node, Pairs, no_pairs, pair, Event, document_start, document_end, alias, scalar, sequence_start, sequence_end, mapping_start, mapping_end, node_events, items_events, pairs_events}
 use Rattle.yaml_emit_graph.specs.Graph.{graph_content, dumped}
-use Rattle.yaml_emit_machine.specs.Held.{closes, is_ready}
+use Rattle.yaml_emit_machine.specs.Held.{needs, is_ready}
 use Rattle.yaml_emit_machine.specs.Judged.{let_out}
-use Rattle.yaml_emit_machine.proofs.Holding.{none_needed}
-use Rattle.yaml_emit_machine.proofs.Judging.{first_out}
+use Rattle.yaml_emit_machine.proofs.Holding.{enough, none_needed}
+use Rattle.yaml_emit_machine.proofs.Judging.{first_out, ready_more}
+use Rattle.yaml_emit_machine.proofs.Ending.{long_node, long_items, long_pairs}
 
 -- all of these are let out, whatever follows
 abbrev pub AreOut : List Event → Type 0
@@ -18,86 +19,49 @@ out_next : (e : Event) (es : List Event)
     → ((more : List Event) → is_ready (e ∷ (es ++ more)) ≡ true) → AreOut es → AreOut (e ∷ es)
 out_next e es ready out = λ more. first_out e (es ++ more) (ready more) ∙ ap (λ (z : List Event). e ∷ z) (out more)
 
--- ---- how many follow
-
-mutual
-  unfolding node_events items_events pairs_events
-
-  node_longer : (v : Node) (es : List Event) → suc (length es) ≤ length (node_events v es)
-  node_longer (alias_node name) es = omega arith
-  node_longer (scalar_node x) es = omega arith
-  node_longer (sequence_node q ns) es = let k = items_longer ns (sequence_end ∷ es) in omega (arith, k)
-  node_longer (mapping_node q ps) es = let k = pairs_longer ps (mapping_end ∷ es) in omega (arith, k)
-
-  items_longer : (ns : Nodes) (es : List Event) → length es ≤ length (items_events ns es)
-  items_longer no_nodes es = omega arith
-  items_longer (node v ns) es =
-      let k = items_longer ns es in
-      let l = node_longer v (items_events ns es) in
-      omega (arith, k, l)
-
-  pairs_longer : (ps : Pairs) (es : List Event) → length es ≤ length (pairs_events ps es)
-  pairs_longer no_pairs es = omega arith
-  pairs_longer (pair n v ps) es =
-      let k = pairs_longer ps es in
-      let l = node_longer v (pairs_events ps es) in
-      let m = node_longer n (node_events v (pairs_events ps es)) in
-      omega (arith, k, l, m)
-
 -- ---- what opens a level there is followed by what it needs
-
-or_long : (n : ℕ) (es more : List Event) → n ≤ length es
-    → (nat_le n (length (es ++ more)) || closes (es ++ more)) ≡ true
-or_long n es more h =
-    let e = length-append es more in
-    let k : nat_le n (length (es ++ more)) ≡ true = le-leb n (length (es ++ more)) (omega (arith, e, h)) in
-    ap (λ b. b || closes (es ++ more)) k
-
-or_ended : (a : Bool) → (a || true) ≡ true
-or_ended true = refl
-or_ended false = refl
 
 document_ready : (o : Opening) (v : Node) (es more : List Event)
     → is_ready (document_start o ∷ (node_events v es ++ more)) ≡ true
-unfolding is_ready
-document_ready o v es more = let k = node_longer v es in or_long 1 (node_events v es) more (omega (arith, k))
+document_ready o v es more = let k = long_node v es in ready_more _ (node_events v es) more (enough _ _ (omega (arith, k)))
 
 sequence_ready : (q : Start) (ns : Nodes) (es more : List Event)
     → is_ready (sequence_start q ∷ (items_events ns (sequence_end ∷ es) ++ more)) ≡ true
 unfolding is_ready items_events
-sequence_ready q no_nodes es more = or_ended (nat_le 2 (length ((sequence_end ∷ es) ++ more)))
+sequence_ready q no_nodes es more = or-true (nat_le 2 (length ((sequence_end ∷ es) ++ more)))
 sequence_ready q (node v ns) es more =
-    let k = node_longer v (items_events ns (sequence_end ∷ es)) in
-    let l = items_longer ns (sequence_end ∷ es) in
-    or_long 2 (node_events v (items_events ns (sequence_end ∷ es))) more (omega (arith, k, l))
+    let k = long_node v (items_events ns (sequence_end ∷ es)) in
+    let l = long_items ns (sequence_end ∷ es) in
+    ready_more (sequence_start q) (node_events v (items_events ns (sequence_end ∷ es))) more
+    (enough (sequence_start q) (node_events v (items_events ns (sequence_end ∷ es))) (omega (arith, k, l)))
 
 mapping_ready : (q : Start) (ps : Pairs) (es more : List Event)
     → is_ready (mapping_start q ∷ (pairs_events ps (mapping_end ∷ es) ++ more)) ≡ true
 unfolding is_ready pairs_events
-mapping_ready q no_pairs es more = or_ended (nat_le 3 (length ((mapping_end ∷ es) ++ more)))
+mapping_ready q no_pairs es more = or-true (nat_le 3 (length ((mapping_end ∷ es) ++ more)))
 mapping_ready q (pair n v ps) es more =
-    let k = pairs_longer ps (mapping_end ∷ es) in
-    let l = node_longer v (pairs_events ps (mapping_end ∷ es)) in
-    let m = node_longer n (node_events v (pairs_events ps (mapping_end ∷ es))) in
-    or_long 3 (node_events n (node_events v (pairs_events ps (mapping_end ∷ es)))) more (omega (arith, k, l, m))
+    let k = long_pairs ps (mapping_end ∷ es) in
+    let l = long_node v (pairs_events ps (mapping_end ∷ es)) in
+    let m = long_node n (node_events v (pairs_events ps (mapping_end ∷ es))) in
+    ready_more (mapping_start q) (node_events n (node_events v (pairs_events ps (mapping_end ∷ es)))) more
+    (enough (mapping_start q) (node_events n (node_events v (pairs_events ps (mapping_end ∷ es)))) (omega (arith, k, l, m)))
 
 -- ---- so it is let out
 
 -- an event that needs nothing behind it
-out_alone : (e : Event) (es : List Event) → ((more : List Event) → is_ready (e ∷ more) ≡ true)
-    → AreOut es → AreOut (e ∷ es)
-out_alone e es ready out = out_next e es (λ more. ready (es ++ more)) out
+out_alone : (e : Event) (es : List Event) → needs e ≡ 0 → AreOut es → AreOut (e ∷ es)
+out_alone e es none out = out_next e es (λ more. none_needed e (es ++ more) none) out
 
 mutual
   unfolding node_events items_events pairs_events
 
   node_out : (v : Node) (es : List Event) → AreOut es → AreOut (node_events v es)
-  node_out (alias_node name) es out = out_alone (alias name) es (λ more. none_needed (alias name) more refl) out
-  node_out (scalar_node x) es out = out_alone (scalar x) es (λ more. none_needed (scalar x) more refl) out
+  node_out (alias_node name) es out = out_alone (alias name) es refl out
+  node_out (scalar_node x) es out = out_alone (scalar x) es refl out
   node_out (sequence_node q ns) es out =
-      out_next (sequence_start q) (items_events ns (sequence_end ∷ es)) (sequence_ready q ns es) (items_out ns (sequence_end ∷ es) (out_alone sequence_end es (λ more. none_needed sequence_end more refl) out))
+      out_next (sequence_start q) (items_events ns (sequence_end ∷ es)) (sequence_ready q ns es) (items_out ns (sequence_end ∷ es) (out_alone sequence_end es refl out))
   node_out (mapping_node q ps) es out =
-      out_next (mapping_start q) (pairs_events ps (mapping_end ∷ es)) (mapping_ready q ps es) (pairs_out ps (mapping_end ∷ es) (out_alone mapping_end es (λ more. none_needed mapping_end more refl) out))
+      out_next (mapping_start q) (pairs_events ps (mapping_end ∷ es)) (mapping_ready q ps es) (pairs_out ps (mapping_end ∷ es) (out_alone mapping_end es refl out))
 
   items_out : (ns : Nodes) (es : List Event) → AreOut es → AreOut (items_events ns es)
   items_out no_nodes es out = out
@@ -114,4 +78,4 @@ dumped_out d =
     let v : Node = (graph_content d).root in
     let end : Event = document_end d.end_implicit in
     out_next (document_start (graph_content d).opening) (node_events v (end ∷ [])) (document_ready (graph_content d).opening v (end ∷ []))
-    (node_out v (end ∷ []) (out_alone end [] (λ more. none_needed end more refl) (λ more. refl)))
+    (node_out v (end ∷ []) (out_alone end [] refl (λ more. refl)))

@@ -1,38 +1,38 @@
 -- What becomes of the events that an emitter is given.
-use Rattle.std.proofs.Common.{◌≡◌, List, [], ◌∷◌, ◌++◌, Bool, true, false, refl, sym, subst, ◌∙◌, ap, Option, Some, None, append_assoc, option_map}
+use Rattle.std.proofs.Common.{◌≡◌, List, [], ◌∷◌, ◌++◌, Bool, true, false, refl, sym, subst, ◌∙◌, ap, arith, Option, Some, None, append_assoc, option_map}
+use Rattle.std.proofs.lemmas.Bool.{false≢true}
 use Rattle.yaml_scan_model.specs.Faults.{Fault, fault_of}
 use Rattle.yaml_scan_model.specs.declared.yaml_encoding_t.{yaml_encoding_t}
 use Rattle.yaml_emit_text.specs.declared.Cursor.{Cursor}
 use Rattle.yaml_emit_text.specs.declared.Encoding.{Encoding}
 use Rattle.yaml_emit_text.specs.declared.Settings.{Settings}
 use Rattle.yaml_emit_text.specs.declared.Status.{Status}
-use Rattle.yaml_emit_text.specs.declared.Status.TheVariants.{Going, Full, Deep, Starved}
+use Rattle.yaml_emit_text.specs.declared.Status.TheVariants.{Going}
 use Rattle.yaml_emit_text.specs.Text.{Item}
 use Rattle.yaml_emit_text.specs.Settings.{settled}
-use Rattle.yaml_emit_text.specs.Layout.{nothing_more, written}
-use Rattle.yaml_emit_text.specs.Sink.{Output, Ends}
+use Rattle.yaml_emit_text.specs.Layout.{Layout, nothing_more, written}
+use Rattle.yaml_emit_text.specs.Sink.{Output, Ends, EndsBy}
 use Rattle.yaml_emit_text.proofs.Sinks.{grows_none, grows_both, grows_same, ends_other, status_cases}
 use Rattle.yaml_emit_layout.specs.declared.Problem.{Problem}
 use Rattle.yaml_emit_layout.specs.declared.Expected.TheVariants as at
 use Rattle.yaml_emit_layout.specs.Content.{Event}
 use Rattle.yaml_emit_layout.specs.State.{State, placed}
 use Rattle.yaml_emit_state.specs.declared.Core.{Core}
-use Rattle.yaml_emit_state.specs.Steps.{state_of, settings_of, IsFreshCore, may_note, goes_on}
+use Rattle.yaml_emit_state.specs.Steps.{state_of, settings_of, IsFreshCore, may_note}
 use Rattle.yaml_emit_state.proofs.Noting.{notes_both, notes_some}
 use Rattle.yaml_emit_machine.specs.Held.{held_events}
 use Rattle.yaml_emit_machine.specs.declared.held.Held.{Held}
 use Rattle.yaml_emit_machine.specs.declared.emitter.yaml_emitter_t.TheInside.{Inside}
 use Rattle.yaml_emit_layout.specs.Progress.{first_progress, first_refusal}
-use Rattle.yaml_emit_machine.specs.Judged.{let_out, laid, refused_at, refusal_among, text_among, refusal_behind, LetsOut, first_wrong, LaysAll, take_memory}
+use Rattle.yaml_emit_machine.specs.Judged.{let_out, refused_at, refusal_among, text_among, refusal_behind, LetsOut, first_wrong, LaysAll, some_among, LaysSome, take_memory}
 use Rattle.yaml_emit_machine.specs.Laying.{LaysEvents}
-use Rattle.yaml_emit_machine.specs.Emitter.{Emitter, text_of, fault_by, refusal_by, stop_of, stream_encoding, CompletesBy, Completes}
+use Rattle.yaml_emit_machine.specs.Emitter.{Emitter, fault_by, refusal_by, stream_encoding, Completes}
 use Rattle.yaml_emit_machine.specs.Views.{emitter_of, IsEmitter}
-use Rattle.yaml_emit_machine.specs.Verdict.{verdict_by, verdict, IsLetOut, WritesBy, Writes, wrong_by, wrong, IsLaid, LaysBy, Lays, TellsOutcome}
+use Rattle.yaml_emit_machine.specs.Verdict.{verdict, Writes, wrong, Lays, LaysFirst, TellsOutcome}
 use Rattle.yaml_emit_machine.specs.Taking.{TakesEvents, GivesText, Stuck, NotesMemory, NotesMemoryOf, ComesIntoForce}
-use Rattle.yaml_emit_machine.proofs.Viewing.{seen}
-use Rattle.yaml_emit_machine.proofs.Blaming.{begin_first, ends_new}
-use Rattle.yaml_emit_machine.proofs.Judging.{going_open, goes_going, or_some, unless_some}
-use Rattle.yaml_emit_machine.proofs.Emitting.{not_true, refusal_none, stopped_completes, lay_completes, begin_completes}
+use Rattle.yaml_emit_machine.proofs.Viewing.{stood, left}
+use Rattle.yaml_emit_machine.proofs.Judging.{or_some, unless_some}
+use Rattle.yaml_emit_machine.proofs.Emitting.{not_true, inside_begun, stopped_finishes, begin_finishes}
 
 -- ---- one call behind another
 
@@ -112,228 +112,108 @@ notes_on a b c p q m n = λ h. let k = notes_both true a.status b.status c.statu
 
 -- ---- an event was given
 
-lay_refuses : (old new : Emitter) (e : Event) (h es : List Event) → old.fresh ≡ false
-    → new.fresh ≡ false → h ≡ old.held
-    → refusal_behind new.course.settings new.course.state (new.held ++ es)
-    ≡ refusal_behind old.course.settings old.course.state ((h ++ e ∷ []) ++ es)
-    → verdict new es ≡ verdict old (e ∷ es)
-unfolding verdict
-lay_refuses old new e h es a b same j =
-    let move : old.held ++ (e ∷ es) ≡ (h ++ e ∷ []) ++ es = ap (λ z. z ++ (e ∷ es)) (sym same) ∙ sym (append_assoc h (e ∷ []) es) in
-    ap (λ z. verdict_by z new es) b ∙ (j ∙ (ap (refusal_behind old.course.settings old.course.state) (sym move) ∙ sym (ap (λ z. verdict_by z old (e ∷ es)) a)))
-
-lay_writes : (old new : Emitter) (e : Event) (h : List Event) (x : Encoding) (es : List Event)
-    (whole : List Item) → old.fresh ≡ false → new.fresh ≡ false → h ≡ old.held
-    → (LetsOut old.course.settings old.course.state (text_of old) ((h ++ e ∷ []) ++ es) whole
-    → LetsOut new.course.settings new.course.state (text_of new) (new.held ++ es) whole)
-    → new.course.settings.encoding ≡ old.course.settings.encoding → Writes old x (e ∷ es) whole
-    → Writes new x es whole
-unfolding Writes
-lay_writes old new e h x es whole a b same on coded c =
-    let P : Bool → Type 0 = λ z. WritesBy z old x (e ∷ es) whole in
-    let Q : Bool → Type 0 = λ z. WritesBy z new x es whole in
-    let k = subst P a c in
-    let R : List Event → Type 0 = λ t. LetsOut old.course.settings old.course.state (text_of old) t whole in
-    let move : old.held ++ (e ∷ es) ≡ (h ++ e ∷ []) ++ es = ap (λ z. z ++ (e ∷ es)) (sym same) ∙ sym (append_assoc h (e ∷ []) es) in
-    subst Q (sym b) (coded ∙ k.0, on (subst R move k.1))
-
-pub lay_wrong : (old new : Emitter) (e : Event) (h es : List Event) → old.fresh ≡ false
-    → new.fresh ≡ false → h ≡ old.held
-    → first_wrong new.course.settings new.course.state (new.held ++ es)
-    ≡ first_wrong old.course.settings old.course.state ((h ++ e ∷ []) ++ es)
-    → wrong new es ≡ wrong old (e ∷ es)
-unfolding wrong
-lay_wrong old new e h es a b same j =
-    let move : old.held ++ (e ∷ es) ≡ (h ++ e ∷ []) ++ es = ap (λ z. z ++ (e ∷ es)) (sym same) ∙ sym (append_assoc h (e ∷ []) es) in
-    ap (λ z. wrong_by z new es) b ∙ (j ∙ (ap (first_wrong old.course.settings old.course.state) (sym move) ∙ sym (ap (λ z. wrong_by z old (e ∷ es)) a)))
-
-pub lay_lays : (old new : Emitter) (e : Event) (h : List Event) (x : Encoding) (es : List Event)
-    (whole : List Item) → old.fresh ≡ false → new.fresh ≡ false → h ≡ old.held
-    → (LaysAll old.course.settings old.course.state (text_of old) ((h ++ e ∷ []) ++ es) whole
-    → LaysAll new.course.settings new.course.state (text_of new) (new.held ++ es) whole)
-    → new.course.settings.encoding ≡ old.course.settings.encoding → Lays old x (e ∷ es) whole
-    → Lays new x es whole
-unfolding Lays
-lay_lays old new e h x es whole a b same on coded c =
-    let P : Bool → Type 0 = λ z. LaysBy z old x (e ∷ es) whole in
-    let Q : Bool → Type 0 = λ z. LaysBy z new x es whole in
-    let k = subst P a c in
-    let R : List Event → Type 0 = λ t. LaysAll old.course.settings old.course.state (text_of old) t whole in
-    let move : old.held ++ (e ∷ es) ≡ (h ++ e ∷ []) ++ es = ap (λ z. z ++ (e ∷ es)) (sym same) ∙ sym (append_assoc h (e ∷ []) es) in
-    subst Q (sym b) (coded ∙ k.0, on (subst R move k.1))
-
-pub inside_gives : (exact : Bool) (i : Inside) (core : Core) (h held : Held) (fault : Option Fault)
-    (e : Event) → i.fresh ≡ false → h ≡ i.held
-    → LaysEvents exact i.core (held_events h ++ e ∷ []) core (held_events held)
-    → GivesText (emitter_of i) e
-    (seen i.requested_settings core (held_events held) i.fresh i.opened i.closed fault)
-inside_gives exact i core h held fault e fr same l =
-    let new : Emitter = seen i.requested_settings core (held_events held) i.fresh i.opened i.closed fault in
-    record {
-      completes = λ x es whole c. lay_completes (emitter_of i) new e (held_events h) x es whole fr fr (ap held_events same) (l.finishes es whole) l.encoding c;
-      first = λ g es. lay_wrong (emitter_of i) new e (held_events h) es fr fr (ap held_events same) (l.first g es);
-      lays = λ x es whole c. lay_lays (emitter_of i) new e (held_events h) x es whole fr fr (ap held_events same) (l.lays es whole) l.encoding c;
+pub inside_gives : (exact : Bool) (i : Inside) (core : Core) (held : Held) (fault : Option Fault)
+    (e : Event) → i.fresh ≡ false
+    → LaysEvents exact i.core (held_events i.held ++ e ∷ []) core (held_events held)
+    → GivesText (emitter_of i) e (left i core i.fresh (held_events held) fault)
+unfolding Completes wrong Lays
+inside_gives exact i core held fault e fr l =
+    let P : Bool → Type 0 = λ b. GivesText (stood i b (held_events i.held)) e (left i core b (held_events held) fault) in
+    subst P (sym fr) (record {
+      completes = λ x es whole c. (l.encoding ∙ c.0, l.finishes es whole (rw append_assoc c.1));
+      first = λ g es. l.first g es ∙ ap (first_wrong (settings_of i.core) (state_of i.core)) (append_assoc (held_events i.held) (e ∷ []) es);
+      lays = λ x es whole c. (l.encoding ∙ c.0, l.lays es whole (rw append_assoc c.1));
       grows = l.grows;
       requested_settings = refl;
       limit = l.limit;
-    }
+    })
 
-pub inside_takes : (i : Inside) (core : Core) (h held : Held) (fault : Option Fault) (e : Event)
-    → i.fresh ≡ false → i.core.sink.status ≡ Going → h ≡ i.held
-    → LaysEvents true i.core (held_events h ++ e ∷ []) core (held_events held)
-    → TakesEvents (emitter_of i) (e ∷ [])
-    (seen i.requested_settings core (held_events held) i.fresh i.opened i.closed fault) []
-inside_takes i core h held fault e fr on same l =
-    let new : Emitter = seen i.requested_settings core (held_events held) i.fresh i.opened i.closed fault in
-    let given : GivesText (emitter_of i) e new = inside_gives true i core h held fault e fr same l in
-    record {
+pub inside_takes : (i : Inside) (core : Core) (held : Held) (fault : Option Fault) (e : Event)
+    → i.fresh ≡ false → i.core.sink.status ≡ Going
+    → LaysEvents true i.core (held_events i.held ++ e ∷ []) core (held_events held)
+    → TakesEvents (emitter_of i) (e ∷ []) (left i core i.fresh (held_events held) fault) []
+unfolding verdict Writes
+inside_takes i core held fault e fr on l =
+    let P : Bool → Type 0 = λ b. GivesText (stood i b (held_events i.held)) e (left i core b (held_events held) fault) in
+    let Q : Bool → Type 0 = λ b. TakesEvents (stood i b (held_events i.held)) (e ∷ []) (left i core b (held_events held) fault) [] in
+    let given = subst P fr (inside_gives true i core held fault e fr l) in
+    subst Q (sym fr) (record {
       completes = given.completes;
-      refuses = λ g es. lay_refuses (emitter_of i) new e (held_events h) es fr fr (ap held_events same) (l.refuses refl g es);
-      writes = λ x es whole c. lay_writes (emitter_of i) new e (held_events h) x es whole fr fr (ap held_events same) (l.lets_out refl es whole) l.encoding c;
+      refuses = λ g es. l.refuses refl g es ∙ ap (refusal_behind (settings_of i.core) (state_of i.core)) (append_assoc (held_events i.held) (e ∷ []) es);
+      writes = λ x es whole c. (l.encoding ∙ c.0, l.lets_out refl es whole (rw append_assoc c.1));
       first = given.first;
       lays = given.lays;
       grows = l.grows;
       going = λ _. on;
       requested_settings = refl;
       limit = l.limit;
-      begun = λ f. absurd (cc);
-    }
-
-pub inside_notes : (exact : Bool) (i : Inside) (core : Core) (h held : Held) (fault : Option Fault)
-    (e : Event) → h ≡ i.held
-    → LaysEvents exact i.core (held_events h ++ e ∷ []) core (held_events held)
-    → NotesMemoryOf e (emitter_of i) (seen i.requested_settings core (held_events held) i.fresh
-    i.opened i.closed fault)
-inside_notes exact i core h held fault e same l =
-    let new : Emitter = seen i.requested_settings core (held_events held) i.fresh i.opened i.closed fault in
-    let P : Held → Type 0 = λ z. NotesMemory (take_memory (held_events z ++ e ∷ [])) (emitter_of i) new in
-    subst P same l.memory
-
--- with no fault the output goes on
-pub inside_going : (i : Inside) → IsEmitter i → option_map fault_of i.fault ≡ None
-    → i.core.sink.status ≡ Going
-inside_going i inv none =
-    goes_going i.core.sink.status i.core.place (refusal_none i.core.place i.core.sink.status i.core.starved (sym inv.faulty ∙ none))
-
--- and goes on to the next event
-pub inside_goes : (i : Inside) → IsEmitter i → option_map fault_of i.fault ≡ None
-    → goes_on i.core.sink.status i.core.place ≡ true
-inside_goes i inv none = refusal_none i.core.place i.core.sink.status i.core.starved (sym inv.faulty ∙ none)
+      begun = λ f. absurd (false≢true f);
+    })
 
 -- ---- the settings came into force
 
-fresh_wrong : (core : Core) (s : Settings) (es : List Event) → IsFreshCore core s
+pub ends_new : (o : Output) (t : List Item) → o.bytes ≡ [] → o.status ≡ Going → Ends o t t
+unfolding Ends
+ends_new o t b g =
+    let P : Status → Type 0 = λ z. EndsBy z o.limit o.encoding o.bytes t t in
+    subst P (sym g) (rw b refl, (rw b (omega arith), (refl, rw b refl)))
+
+-- a text that is laid out from a stream's start on, and its encoding
+begin_text : (a : Settings → State → Layout) (core : Core) (s : Settings) (x : Encoding)
+    (whole : List Item) → IsFreshCore core s → x ≡ s.encoding
+    → whole ≡ written (a s (placed at.StreamStart))
+    → ((settings_of core).encoding ≡ x)
+    × Ends core.sink (a (settings_of core) (state_of core) core.sink.cursor nothing_more) whole
+begin_text a core s x whole f coded is =
+    let same : a (settings_of core) (state_of core) core.sink.cursor nothing_more ≡ whole =
+    ap (λ (z : Settings). a z (state_of core) core.sink.cursor nothing_more) f.settings
+    ∙ ap (λ (z : State). a s z core.sink.cursor nothing_more) f.state
+    ∙ ap (λ (z : Cursor). a s (placed at.StreamStart) z nothing_more) f.cursor
+    ∙ sym is in
+    let P : List Item → Type 0 = λ t. Ends core.sink t whole in
+    (ap (λ (z : Settings). z.encoding) f.settings ∙ sym coded, subst P (sym same) (ends_new core.sink whole f.output f.status))
+
+begin_wrong : (core : Core) (s : Settings) (es : List Event) → IsFreshCore core s
     → first_wrong (settings_of core) (state_of core) es
     ≡ first_refusal s.canonical first_progress es
 unfolding first_wrong
-fresh_wrong core s es f =
+begin_wrong core s es f =
     ap (λ (z : Settings). refusal_among z.canonical (state_of core) es) f.settings ∙ ap (λ (z : State). refusal_among s.canonical z es) f.state
-
-fresh_refuses : (core : Core) (s : Settings) (es : List Event) → IsFreshCore core s
-    → refusal_behind (settings_of core) (state_of core) es
-    ≡ first_refusal s.canonical first_progress (let_out es)
-unfolding refusal_behind first_wrong
-fresh_refuses core s es f = fresh_wrong core s (let_out es) f
-
-fresh_lays : (core : Core) (s : Settings) (es : List Event) → IsFreshCore core s
-    → LaysAll (settings_of core) (state_of core) core.sink es
-    (written (laid s (placed at.StreamStart) es))
-unfolding LaysAll
-fresh_lays core s es f =
-    let text : List Item = text_among (settings_of core) (state_of core) es core.sink.cursor nothing_more in
-    let same : text ≡ written (laid s (placed at.StreamStart) es) =
-    ap (λ (z : Settings). text_among z (state_of core) es core.sink.cursor nothing_more) f.settings
-    ∙ (ap (λ (z : State). text_among s z es core.sink.cursor nothing_more) f.state ∙ ap (λ (z : Cursor). laid s (placed at.StreamStart) es z nothing_more) f.cursor) in
-    let P : List Item → Type 0 = λ t. Ends core.sink text t in
-    subst P same (ends_new core.sink text f.output f.status)
-
-fresh_lets_out : (core : Core) (s : Settings) (es : List Event) → IsFreshCore core s
-    → LetsOut (settings_of core) (state_of core) core.sink es
-    (written (laid s (placed at.StreamStart) (let_out es)))
-unfolding LetsOut LaysAll
-fresh_lets_out core s es f = fresh_lays core s (let_out es) f
-
-begin_wrong : (old : Emitter) (core : Core) (held : List Event) (opened closed : Bool)
-    (fault : Option Fault) (e : Event) (es : List Event) → old.fresh ≡ true → held ≡ []
-    → IsFreshCore core (settled old.requested_settings (stream_encoding e))
-    → wrong (seen old.requested_settings core held false opened closed fault) (e ∷ es)
-    ≡ wrong old (e ∷ es)
-unfolding wrong
-begin_wrong old core held opened closed fault e es a none f =
-    ap (λ z. first_wrong (settings_of core) (state_of core) (z ++ (e ∷ es))) none
-    ∙ (fresh_wrong core (settled old.requested_settings (stream_encoding e)) (e ∷ es) f ∙ sym (ap (λ z. wrong_by z old (e ∷ es)) a))
-
-begin_lays : (old : Emitter) (core : Core) (held : List Event) (opened closed : Bool)
-    (fault : Option Fault) (e : Event) (x : Encoding) (es : List Event) (whole : List Item)
-    → old.fresh ≡ true → held ≡ []
-    → IsFreshCore core (settled old.requested_settings (stream_encoding e)) → Lays old x (e ∷ es) whole
-    → Lays (seen old.requested_settings core held false opened closed fault) x (e ∷ es) whole
-unfolding Lays
-begin_lays old core held opened closed fault e x es whole a none f c =
-    let P : Bool → Type 0 = λ z. LaysBy z old x (e ∷ es) whole in
-    let s : Settings = settled old.requested_settings (stream_encoding e) in
-    let k : IsLaid old.requested_settings x (e ∷ es) whole = subst P a c in
-    let R : List Event → Type 0 = λ t. LaysAll (settings_of core) (state_of core) core.sink (t ++ (e ∷ es)) (written (laid s (placed at.StreamStart) (e ∷ es))) in
-    let S : List Item → Type 0 = λ t. LaysAll (settings_of core) (state_of core) core.sink (held ++ (e ∷ es)) t in
-    (ap (λ (z : Settings). z.encoding) f.settings ∙ sym k.coded, subst S (sym k.is) (subst R (sym none) (fresh_lays core s (e ∷ es) f)))
-
-begin_refuses : (old : Emitter) (core : Core) (held : List Event) (opened closed : Bool)
-    (fault : Option Fault) (e : Event) (es : List Event) → old.fresh ≡ true → held ≡ []
-    → IsFreshCore core (settled old.requested_settings (stream_encoding e))
-    → verdict (seen old.requested_settings core held false opened closed fault) (e ∷ es)
-    ≡ verdict old (e ∷ es)
-unfolding verdict
-begin_refuses old core held opened closed fault e es a none f =
-    ap (λ z. refusal_behind (settings_of core) (state_of core) (z ++ (e ∷ es))) none
-    ∙ (fresh_refuses core (settled old.requested_settings (stream_encoding e)) (e ∷ es) f ∙ sym (ap (λ z. verdict_by z old (e ∷ es)) a))
-
-begin_writes : (old : Emitter) (core : Core) (held : List Event) (opened closed : Bool)
-    (fault : Option Fault) (e : Event) (x : Encoding) (es : List Event) (whole : List Item)
-    → old.fresh ≡ true → held ≡ []
-    → IsFreshCore core (settled old.requested_settings (stream_encoding e))
-    → Writes old x (e ∷ es) whole
-    → Writes (seen old.requested_settings core held false opened closed fault) x (e ∷ es) whole
-unfolding Writes
-begin_writes old core held opened closed fault e x es whole a none f c =
-    let P : Bool → Type 0 = λ z. WritesBy z old x (e ∷ es) whole in
-    let s : Settings = settled old.requested_settings (stream_encoding e) in
-    let k : IsLetOut old.requested_settings x (e ∷ es) whole = subst P a c in
-    let R : List Event → Type 0 = λ t. LetsOut (settings_of core) (state_of core) core.sink (t ++ (e ∷ es)) (written (laid s (placed at.StreamStart) (let_out (e ∷ es)))) in
-    let S : List Item → Type 0 = λ t. LetsOut (settings_of core) (state_of core) core.sink (held ++ (e ∷ es)) t in
-    (ap (λ (z : Settings). z.encoding) f.settings ∙ sym k.coded, subst S (sym k.is) (subst R (sym none) (fresh_lets_out core s (e ∷ es) f)))
 
 pub inside_begins : (i : Inside) (core : Core) (e : Event) (s : Settings) (z : yaml_encoding_t)
     → IsEmitter i → i.fresh ≡ true → s ≡ settled i.requested_settings z → z ≡ stream_encoding e
     → IsFreshCore core s → core.sink.limit ≡ i.limit
     → ComesIntoForce (emitter_of i) e
-    (seen i.requested_settings core (held_events i.held) false i.opened i.closed
-    (option_map fault_of i.fault))
+    (left i core false (held_events i.held) (option_map fault_of i.fault))
+unfolding Completes verdict Writes wrong Lays LaysFirst refusal_behind first_wrong LetsOut LaysAll LaysSome
 inside_begins i core e s z inv fr a b f most =
-    let P : Settings → Type 0 = λ t. IsFreshCore core t in
-    let Q : yaml_encoding_t → Type 0 = λ t. IsFreshCore core (settled i.requested_settings t) in
-    let f' : IsFreshCore core (settled i.requested_settings (stream_encoding e)) = subst Q b (subst P a f) in
+    let s' : Settings = settled i.requested_settings (stream_encoding e) in
+    let F : Settings → Type 0 = λ t. IsFreshCore core t in
+    let f' : IsFreshCore core s' = subst F (a ∙ ap (settled i.requested_settings) b) f in
     let was : i.core.sink.status ≡ Going = (inv.begun fr).1.1.1 in
-    record {
+    let P : Bool → Type 0 = λ b. ComesIntoForce (stood i b (held_events i.held)) e (left i core false (held_events i.held) (option_map fault_of i.fault)) in
+    let Q : List Event → Type 0 = λ h. ComesIntoForce (stood i true h) e (left i core false h (option_map fault_of i.fault)) in
+    subst P (sym fr) (subst Q (sym (inv.begun fr).0) (record {
       takes = record {
-        completes = λ x es whole c. begin_completes (emitter_of i) core (held_events i.held) i.opened i.closed (option_map fault_of i.fault) e x es whole fr (inv.begun fr).0 f' c;
-        refuses = λ g es. begin_refuses (emitter_of i) core (held_events i.held) i.opened i.closed (option_map fault_of i.fault) e es fr (inv.begun fr).0 f';
-        writes = λ x es whole c. begin_writes (emitter_of i) core (held_events i.held) i.opened i.closed (option_map fault_of i.fault) e x es whole fr (inv.begun fr).0 f' c;
-        first = λ g es. begin_wrong (emitter_of i) core (held_events i.held) i.opened i.closed (option_map fault_of i.fault) e es fr (inv.begun fr).0 f';
-        lays = λ x es whole c. begin_lays (emitter_of i) core (held_events i.held) i.opened i.closed (option_map fault_of i.fault) e x es whole fr (inv.begun fr).0 f' c;
+        completes = λ x es whole c. begin_finishes core i.requested_settings e x es whole f' c;
+        refuses = λ g es. begin_wrong core s' (let_out (e ∷ es)) f';
+        writes = λ x es whole c. begin_text (λ s st. text_among s st (let_out (e ∷ es))) core s' x whole f' c.coded c.is;
+        first = λ g es. begin_wrong core s' (e ∷ es) f';
+        lays = λ x es whole c. begin_text (λ s st. text_among s st (e ∷ es)) core s' x whole f' c.coded c.is;
         grows = grows_same i.core.sink.bytes core.sink.bytes (f.output ∙ sym (inv.begun fr).1.1.0);
         going = λ g. was;
         requested_settings = refl;
         limit = most ∙ sym inv.limited;
-        begun = λ t. absurd (cc);
+        begun = λ t. absurd (false≢true t);
       };
       begun = refl;
       fault = (inv.begun fr).1.0;
       status = f.status ∙ sym was;
       held = refl;
       starved = f.starved ∙ sym (inv.memory was);
-      front = λ n x more whole k. begin_first n (emitter_of i) core (held_events i.held) i.opened i.closed (option_map fault_of i.fault) e x more whole fr (inv.begun fr).0 f' k;
+      front = λ n x more whole c. begin_text (λ s st. some_among n s st (e ∷ more)) core s' x whole f' c.coded c.is;
       keeps = (refl, refl);
-    }
+    }))
 
 pub begins_takes : (old mid new : Emitter) (e : Event) → ComesIntoForce old e mid
     → TakesEvents mid (e ∷ []) new [] → TakesEvents old (e ∷ []) new []
@@ -350,136 +230,61 @@ refused_by : (s : Status) (b : Bool) (p : Option Problem) (f : Fault) → s ≡ 
     → fault_by s b p ≡ Some f → (x : Problem) × (p ≡ Some x)
 refused_by Going b None f g h = absurd (cc)
 refused_by Going b (Some x) f g h = (x, refl)
-refused_by Full b p f g h = absurd (cc)
-refused_by Deep b p f g h = absurd (cc)
-refused_by Starved b p f g h = absurd (cc)
+refused_by s b p f g h = absurd (cc)
 
-stuck_first : (s : Settings) (st : State) (status : Status) (levels : Bool) (f : Fault)
-    (xs ys : List Event) → refusal_by st.place status levels ≡ Some f → status ≡ Going
-    → first_wrong s st xs ≡ first_wrong s st ys
+stuck_first : (core : Core) (f : Fault) (xs ys : List Event)
+    → refusal_by core.place core.sink.status core.starved ≡ Some f → core.sink.status ≡ Going
+    → first_wrong (settings_of core) (state_of core) xs
+    ≡ first_wrong (settings_of core) (state_of core) ys
 unfolding first_wrong
-stuck_first s st status levels f xs ys h g =
-    let r = refused_by status levels (refused_at st.place) f g h in
-    or_some (refused_at st.place) _ r.0 r.1 ∙ sym (or_some (refused_at st.place) _ r.0 r.1)
+stuck_first core f xs ys h g =
+    let r = refused_by core.sink.status core.starved (refused_at core.place) f g h in
+    or_some (refused_at core.place) _ r.0 r.1 ∙ sym (or_some (refused_at core.place) _ r.0 r.1)
 
-stuck_refuses : (s : Settings) (st : State) (status : Status) (levels : Bool) (f : Fault)
-    (xs ys : List Event) → refusal_by st.place status levels ≡ Some f → status ≡ Going
-    → refusal_behind s st xs ≡ refusal_behind s st ys
-unfolding refusal_behind first_wrong
-stuck_refuses s st status levels f xs ys h g = stuck_first s st status levels f (let_out xs) (let_out ys) h g
-
-stuck_all : (s : Settings) (st : State) (o : Output) (levels : Bool) (f : Fault)
-    (xs ys : List Event) (whole : List Item) → refusal_by st.place o.status levels ≡ Some f
-    → LaysAll s st o xs whole → LaysAll s st o ys whole
+stuck_all : (core : Core) (f : Fault) (xs ys : List Event) (whole : List Item)
+    → refusal_by core.place core.sink.status core.starved ≡ Some f
+    → LaysAll (settings_of core) (state_of core) core.sink xs whole
+    → LaysAll (settings_of core) (state_of core) core.sink ys whole
 unfolding LaysAll
-stuck_all s st o levels f xs ys whole h e =
-    status_cases o.status
+stuck_all core f xs ys whole h e =
+    status_cases core.sink.status
     (λ g.
-    let r = refused_by o.status levels (refused_at st.place) f g h in
-    let P : List Item → Type 0 = λ t. Ends o t whole in
-    subst P (unless_some (refused_at st.place) r.0 _ _ _ r.1 ∙ sym (unless_some (refused_at st.place) r.0 _ _ _ r.1)) e)
-    (λ n. ends_other o _ _ whole n e)
-
-stuck_lets_out : (s : Settings) (st : State) (o : Output) (levels : Bool) (f : Fault)
-    (xs ys : List Event) (whole : List Item) → refusal_by st.place o.status levels ≡ Some f
-    → LetsOut s st o xs whole → LetsOut s st o ys whole
-unfolding LetsOut LaysAll
-stuck_lets_out s st o levels f xs ys whole h e = stuck_all s st o levels f (let_out xs) (let_out ys) whole h e
-
-stuck_wrong : (e : Emitter) (f : Fault) (xs ys : List Event) → e.fresh ≡ false → stop_of e ≡ Some f
-    → e.status ≡ Going → wrong e xs ≡ wrong e ys
-unfolding wrong
-stuck_wrong e f xs ys b h g = ap (λ z. wrong_by z e xs) b ∙ (stuck_first e.course.settings e.course.state e.status e.starved f _ _ h g ∙ sym (ap (λ z. wrong_by z e ys) b))
-
-stuck_lays : (e : Emitter) (f : Fault) (x : Encoding) (xs ys : List Event) (whole : List Item)
-    → e.fresh ≡ false → stop_of e ≡ Some f → Lays e x xs whole → Lays e x ys whole
-unfolding Lays
-stuck_lays e f x xs ys whole b h c =
-    let P : Bool → Type 0 = λ z. LaysBy z e x xs whole in
-    let Q : Bool → Type 0 = λ z. LaysBy z e x ys whole in
-    let k = subst P b c in
-    subst Q (sym b) (k.0, stuck_all e.course.settings e.course.state (text_of e) e.starved f _ _ whole h k.1)
-
-stuck_verdict : (e : Emitter) (f : Fault) (xs ys : List Event) → e.fresh ≡ false
-    → stop_of e ≡ Some f → e.status ≡ Going → verdict e xs ≡ verdict e ys
-unfolding verdict
-stuck_verdict e f xs ys b h g = ap (λ z. verdict_by z e xs) b ∙ (stuck_refuses e.course.settings e.course.state e.status e.starved f _ _ h g ∙ sym (ap (λ z. verdict_by z e ys) b))
-
-stuck_writes : (e : Emitter) (f : Fault) (x : Encoding) (xs ys : List Event) (whole : List Item)
-    → e.fresh ≡ false → stop_of e ≡ Some f → Writes e x xs whole → Writes e x ys whole
-unfolding Writes
-stuck_writes e f x xs ys whole b h c =
-    let P : Bool → Type 0 = λ z. WritesBy z e x xs whole in
-    let Q : Bool → Type 0 = λ z. WritesBy z e x ys whole in
-    let k = subst P b c in
-    subst Q (sym b) (k.0, stuck_lets_out e.course.settings e.course.state (text_of e) e.starved f _ _ whole h k.1)
+    let r = refused_by core.sink.status core.starved (refused_at core.place) f g h in
+    let P : List Item → Type 0 = λ t. Ends core.sink t whole in
+    subst P (unless_some (refused_at core.place) r.0 _ _ _ r.1 ∙ sym (unless_some (refused_at core.place) r.0 _ _ _ r.1)) e)
+    (λ n. ends_other core.sink _ _ whole n e)
 
 pub inside_stuck : (i : Inside) → IsEmitter i → (f : Fault) → option_map fault_of i.fault ≡ Some f
     → Stuck (emitter_of i)
-inside_stuck i inv f is = λ es left.
-    let fr : i.fresh ≡ false = not_true i.fresh (λ t. let k = (inv.begun t).1.0 in cc) in
-    record {
-      completes = λ x more whole h. stopped_completes (emitter_of i) f x (es ++ more) (left ++ more) whole fr (sym inv.faulty ∙ is) h;
-      refuses = λ g more. stuck_verdict (emitter_of i) f (left ++ more) (es ++ more) fr (sym inv.faulty ∙ is) g;
-      writes = λ x more whole h. stuck_writes (emitter_of i) f x (es ++ more) (left ++ more) whole fr (sym inv.faulty ∙ is) h;
-      first = λ g more. stuck_wrong (emitter_of i) f (left ++ more) (es ++ more) fr (sym inv.faulty ∙ is) g;
-      lays = λ x more whole h. stuck_lays (emitter_of i) f x (es ++ more) (left ++ more) whole fr (sym inv.faulty ∙ is) h;
+unfolding Completes verdict Writes wrong Lays refusal_behind first_wrong LetsOut LaysAll
+inside_stuck i inv f is =
+    let P : Bool → Type 0 = λ b. Stuck (stood i b (held_events i.held)) in
+    let h = sym inv.faulty ∙ is in
+    subst P (sym (inside_begun i inv f is)) (λ es left. record {
+      completes = λ x more whole c. (c.0, stopped_finishes i.core f _ _ whole h c.1);
+      refuses = λ g more. stuck_first i.core f (let_out (held_events i.held ++ (left ++ more))) (let_out (held_events i.held ++ (es ++ more))) h g;
+      writes = λ x more whole c. (c.0, stuck_all i.core f (let_out (held_events i.held ++ (es ++ more))) (let_out (held_events i.held ++ (left ++ more))) whole h c.1);
+      first = λ g more. stuck_first i.core f (held_events i.held ++ (left ++ more)) (held_events i.held ++ (es ++ more)) h g;
+      lays = λ x more whole c. (c.0, stuck_all i.core f (held_events i.held ++ (es ++ more)) (held_events i.held ++ (left ++ more)) whole h c.1);
       grows = grows_none i.core.sink.bytes;
       going = λ g. g;
       requested_settings = refl;
       limit = refl;
-      begun = λ t. absurd (cc);
-    }
+      begun = λ t. absurd (false≢true t);
+    })
 
 -- ---- that the stream was opened or closed is noted
 
-abbrev marked : Emitter → Bool → Bool → Emitter
-marked e o k = record e { opened = o; closed = k }
-
-marked_completes : (b : Bool) (e : Emitter) (o k : Bool) (x : Encoding) (es : List Event)
-    (whole : List Item) → CompletesBy b e x es whole → CompletesBy b (marked e o k) x es whole
-marked_completes true e o k x es whole h = h
-marked_completes false e o k x es whole h = h
-
-marked_verdict : (b : Bool) (e : Emitter) (o k : Bool) (es : List Event)
-    → verdict_by b (marked e o k) es ≡ verdict_by b e es
-marked_verdict true e o k es = refl
-marked_verdict false e o k es = refl
-
-marked_writes : (b : Bool) (e : Emitter) (o k : Bool) (x : Encoding) (es : List Event)
-    (whole : List Item) → WritesBy b e x es whole → WritesBy b (marked e o k) x es whole
-marked_writes true e o k x es whole h = h
-marked_writes false e o k x es whole h = h
-
-marked_wrong : (b : Bool) (e : Emitter) (o k : Bool) (es : List Event)
-    → wrong_by b (marked e o k) es ≡ wrong_by b e es
-marked_wrong true e o k es = refl
-marked_wrong false e o k es = refl
-
-marked_lays : (b : Bool) (e : Emitter) (o k : Bool) (x : Encoding) (es : List Event)
-    (whole : List Item) → LaysBy b e x es whole → LaysBy b (marked e o k) x es whole
-marked_lays true e o k x es whole h = h
-marked_lays false e o k x es whole h = h
-
-unmarked_lays : (b : Bool) (e : Emitter) (o k : Bool) (x : Encoding) (es : List Event)
-    (whole : List Item) → LaysBy b (marked e o k) x es whole → LaysBy b e x es whole
-unmarked_lays true e o k x es whole h = h
-unmarked_lays false e o k x es whole h = h
-
-unmarked_writes : (b : Bool) (e : Emitter) (o k : Bool) (x : Encoding) (es : List Event)
-    (whole : List Item) → WritesBy b (marked e o k) x es whole → WritesBy b e x es whole
-unmarked_writes true e o k x es whole h = h
-unmarked_writes false e o k x es whole h = h
-
 takes_as_marked : (old mid : Emitter) (es left : List Event) (o k : Bool)
-    → TakesEvents old es mid left → TakesEvents old es (marked mid o k) left
+    → TakesEvents old es mid left
+    → TakesEvents old es (record mid { opened = o; closed = k }) left
 unfolding Completes verdict Writes wrong Lays
 takes_as_marked old mid es left o k t = record {
-  completes = λ x more whole h. marked_completes mid.fresh mid o k x (left ++ more) whole (t.completes x more whole h);
-  refuses = λ g more. marked_verdict mid.fresh mid o k (left ++ more) ∙ t.refuses g more;
-  writes = λ x more whole h. marked_writes mid.fresh mid o k x (left ++ more) whole (t.writes x more whole h);
-  first = λ g more. marked_wrong mid.fresh mid o k (left ++ more) ∙ t.first g more;
-  lays = λ x more whole h. marked_lays mid.fresh mid o k x (left ++ more) whole (t.lays x more whole h);
+  completes = t.completes;
+  refuses = t.refuses;
+  writes = t.writes;
+  first = t.first;
+  lays = t.lays;
   grows = t.grows;
   going = t.going;
   requested_settings = t.requested_settings;
@@ -499,14 +304,15 @@ pub notes_marked : (e : Event) (old mid new : Emitter) (o k : Bool)
     → NotesMemoryOf e old new
 notes_marked e old mid new o k same m = let P : Emitter → Type 0 = λ z. NotesMemoryOf e old z in subst P (sym same) m
 
-tells_as_marked : (mid : Emitter) (o k : Bool) → TellsOutcome mid → TellsOutcome (marked mid o k)
+tells_as_marked : (mid : Emitter) (o k : Bool) → TellsOutcome mid
+    → TellsOutcome (record mid { opened = o; closed = k })
 unfolding verdict Writes wrong Lays
 tells_as_marked mid o k t = record {
-  fault = t.fault ∙ ap (fault_by mid.status mid.starved) (sym (marked_verdict mid.fresh mid o k []));
-  output = λ x whole h. t.output x whole (unmarked_writes mid.fresh mid o k x [] whole h);
-  first = λ g p v more. marked_wrong mid.fresh mid o k more ∙ t.first g p (sym (marked_verdict mid.fresh mid o k []) ∙ v) more;
-  front = λ g p v x more whole h. t.front g p (sym (marked_verdict mid.fresh mid o k []) ∙ v) x more whole (unmarked_lays mid.fresh mid o k x more whole h);
-  deep = λ d x whole h. t.deep d x whole (unmarked_writes mid.fresh mid o k x [] whole h);
+  fault = t.fault;
+  output = t.output;
+  first = t.first;
+  front = t.front;
+  deep = t.deep;
   memory = t.memory;
 }
 

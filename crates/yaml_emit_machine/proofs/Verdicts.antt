@@ -1,29 +1,28 @@
 -- What an emitter tells.
-use Rattle.std.proofs.Common.{◌≡◌, ℕ, List, [], ◌∷◌, ◌++◌, Bool, true, false, refl, sym, subst, ◌∙◌, ap, arith, Option, Some, None, append-nil, option_map}
+use Rattle.std.proofs.Common.{◌≡◌, ℕ, List, [], ◌++◌, Bool, true, false, refl, sym, subst, ◌∙◌, ap, arith, Option, Some, None, append-nil, option_map}
 use Rattle.yaml_emit_text.specs.declared.Cursor.{Cursor}
 use Rattle.yaml_emit_text.specs.declared.Encoding.{Encoding}
 use Rattle.yaml_emit_text.specs.declared.Settings.{Settings}
 use Rattle.yaml_emit_text.specs.declared.Status.{Status}
-use Rattle.yaml_emit_text.specs.declared.Status.TheVariants.{Going, Full, Deep, Starved}
+use Rattle.yaml_emit_text.specs.declared.Status.TheVariants.{Going, Deep}
 use Rattle.yaml_emit_text.specs.Text.{Item, encode, is_deep, shallow}
-use Rattle.yaml_emit_text.specs.Layout.{Rest, nothing_more}
+use Rattle.yaml_emit_text.specs.Layout.{nothing_more}
 use Rattle.yaml_emit_text.specs.Sink.{Output, Ends, EndsBy}
-use Rattle.yaml_emit_text.proofs.Sinks.{deep_written}
 use Rattle.yaml_emit_layout.specs.declared.Problem.{Problem}
-use Rattle.yaml_emit_layout.specs.declared.Expected.{Expected}
-use Rattle.yaml_emit_layout.specs.declared.Expected.TheVariants as at
 use Rattle.yaml_emit_layout.specs.Content.{Event}
 use Rattle.yaml_emit_layout.specs.Grammar.{or_else}
 use Rattle.yaml_emit_layout.specs.State.{State}
-use Rattle.yaml_emit_state.specs.Steps.{goes_on}
+use Rattle.yaml_emit_state.specs.Steps.{state_of, settings_of}
 use Rattle.yaml_emit_machine.specs.Held.{held_events, is_ready}
 use Rattle.yaml_emit_machine.specs.declared.emitter.yaml_emitter_t.TheInside.{Inside}
 use Rattle.yaml_emit_layout.specs.Progress.{Progress, first_refusal}
 use Rattle.yaml_emit_machine.specs.Judged.{let_out, unless, laid, refused_at, refusal_behind, LetsOut, first_wrong, LaysAll}
-use Rattle.yaml_emit_machine.proofs.Judging.{or_some, unless_some}
-use Rattle.yaml_emit_machine.specs.Emitter.{Emitter, fault_by, problem_fault}
+use Rattle.yaml_emit_machine.proofs.Judging.{or_some, unless_some, held_stays, open_goes}
+use Rattle.yaml_emit_machine.proofs.Emitting.{none_by, written_by}
+use Rattle.yaml_emit_machine.proofs.Viewing.{stood}
+use Rattle.yaml_emit_machine.specs.Emitter.{Says, fault_by, problem_fault}
 use Rattle.yaml_emit_machine.specs.Views.{emitter_of, IsEmitter}
-use Rattle.yaml_emit_machine.specs.Verdict.{verdict_by, verdict, IsLetOut, WritesBy, Writes, wrong_by, wrong, LaysBy, Lays, HasLetOut, TellsOutcome}
+use Rattle.yaml_emit_machine.specs.Verdict.{verdict, Writes, wrong, Lays, HasLetOut, TellsOutcome}
 
 let_out_by : (s : Status) (limit : ℕ) (x : Encoding) (bytes : List ℕ) (text whole : List Item)
     → (s ≡ Going → text ≡ []) → EndsBy s limit x bytes text whole
@@ -33,9 +32,7 @@ let_out_by Going limit x bytes text whole n h =
     let P : List Item → Type 0 = λ t. EndsBy Going limit x bytes t whole in
     let k : EndsBy Going limit x bytes [] whole = subst P (n refl) h in
     (sym (k.0 ∙ append-nil bytes), (k.1.0, k.1.1.0))
-let_out_by Full limit x bytes text whole n h = h
-let_out_by Deep limit x bytes text whole n h = (h.0, deep_written x bytes whole h.1)
-let_out_by Starved limit x bytes text whole n h = h
+let_out_by s limit x bytes text whole n h = written_by s limit x bytes text whole h
 
 ends_let_out : (o : Output) (text whole : List Item) → (o.status ≡ Going → text ≡ [])
     → Ends o text whole
@@ -43,99 +40,61 @@ ends_let_out : (o : Output) (text whole : List Item) → (o.status ≡ Going →
 unfolding Ends
 ends_let_out o text whole n h = let_out_by o.status o.limit o.encoding o.bytes text whole n h
 
-held_stays : (es : List Event) → is_ready es ≡ false → let_out es ≡ []
-unfolding let_out
-held_stays [] r = refl
-held_stays (e ∷ es) r = rw r refl
-
-held_unjudged : (canonical : Bool) (h : Progress) (es : List Event) → is_ready es ≡ false
-    → first_refusal canonical h (let_out es) ≡ None
-unfolding first_refusal
-held_unjudged canonical h es r = ap (first_refusal canonical h) (held_stays es r)
-
-held_unwritten : (s : Settings) (st : State) (es : List Event) (c : Cursor) (rest : Rest)
-    → is_ready es ≡ false → laid s st (let_out es) c rest ≡ rest c
-unfolding laid
-held_unwritten s st es c rest r = ap (λ z. laid s st z c rest) (held_stays es r)
-
 -- nothing is to come behind a refusal, and what is held isn't let out
 refusal_now : (p : Option Problem) (canonical : Bool) (h : Progress) (es : List Event)
     → (p ≡ None → is_ready es ≡ false) → p ≡ or_else p (first_refusal canonical h (let_out es))
-refusal_now None canonical h es w = sym (held_unjudged canonical h es (w refl))
+unfolding first_refusal
+refusal_now None canonical h es w = sym (ap (first_refusal canonical h) (held_stays es (w refl)))
 refusal_now (Some x) canonical h es w = refl
 
 text_now : (p : Option Problem) (s : Settings) (st : State) (es : List Event) (c : Cursor)
     → (p ≡ None → is_ready es ≡ false) → unless p (laid s st (let_out es)) c nothing_more ≡ []
-text_now None s st es c w = held_unwritten s st es c nothing_more (w refl)
+unfolding laid
+text_now None s st es c w = ap (λ z. laid s st z c nothing_more) (held_stays es (w refl))
 text_now (Some x) s st es c w = refl
-
-open_goes : (s : Status) (p : Expected) → s ≡ Going → refused_at p ≡ None → goes_on s p ≡ true
-open_goes Going at.StreamStart g h = refl
-open_goes Going (at.Documents first unended) g h = refl
-open_goes Going at.Node g h = refl
-open_goes Going at.DocumentEnd g h = refl
-open_goes Going at.End g h = refl
-open_goes Going (at.Refused p) g h = absurd (cc)
-open_goes Full p g h = absurd (cc)
-open_goes Deep p g h = absurd (cc)
-open_goes Starved p g h = absurd (cc)
 
 fault_now : (s : Status) (b : Bool) (p q : Option Problem) → (s ≡ Going → p ≡ q)
     → fault_by s b p ≡ fault_by s b q
 fault_now Going b p q h = ap (option_map problem_fault) (h refl)
-fault_now Full b p q h = refl
-fault_now Deep b p q h = refl
-fault_now Starved b p q h = refl
+fault_now s b p q h = refl
 
 waits_now : (i : Inside) → IsEmitter i → i.core.sink.status ≡ Going → refused_at i.core.place ≡ None
     → is_ready (held_events i.held ++ []) ≡ false
 waits_now i inv g o = ap is_ready (append-nil (held_events i.held)) ∙ inv.few (open_goes i.core.sink.status i.core.place g o)
 
-verdict_now : (i : Inside) → IsEmitter i → i.fresh ≡ false → i.core.sink.status ≡ Going
-    → refused_at i.core.place ≡ verdict (emitter_of i) []
-unfolding verdict refusal_behind
-verdict_now i inv fr g =
-    refusal_now (refused_at i.core.place) _ _ (held_events i.held ++ []) (waits_now i inv g) ∙ sym (ap (λ z. verdict_by z (emitter_of i) []) fr)
+verdict_now : (i : Inside) → IsEmitter i → i.core.sink.status ≡ Going
+    → refused_at i.core.place
+    ≡ refusal_behind (settings_of i.core) (state_of i.core) (held_events i.held ++ [])
+unfolding refusal_behind
+verdict_now i inv g = refusal_now (refused_at i.core.place) _ _ (held_events i.held ++ []) (waits_now i inv g)
 
-output_now : (i : Inside) (x : Encoding) (whole : List Item) → IsEmitter i → i.fresh ≡ false
-    → Writes (emitter_of i) x [] whole
+output_now : (i : Inside) (x : Encoding) (whole : List Item) → IsEmitter i
+    → Says LetsOut (emitter_of i) x [] whole
     → HasLetOut i.core.sink.status i.core.sink.limit i.core.sink.bytes (encode x whole)
     (is_deep whole)
-unfolding Writes LetsOut
-output_now i x whole inv fr h =
-    let P : Bool → Type 0 = λ z. WritesBy z (emitter_of i) x [] whole in
-    let k = subst P fr h in
+unfolding LetsOut
+output_now i x whole inv k =
     let R : Encoding → Type 0 = λ z. HasLetOut i.core.sink.status i.core.sink.limit i.core.sink.bytes (encode z whole) (is_deep whole) in
     subst R k.0 (ends_let_out i.core.sink _ whole (λ g. text_now (refused_at i.core.place) _ _ (held_events i.held ++ []) _ (waits_now i inv g)) k.1)
 
 deep_by : (s : Status) (limit : ℕ) (x : Encoding) (bytes : List ℕ) (text whole : List Item)
     → s ≡ Deep → EndsBy s limit x bytes text whole → bytes ≡ encode x (shallow whole)
 deep_by Deep limit x bytes text whole d h = h.1
-deep_by Going limit x bytes text whole d h = absurd (cc)
-deep_by Full limit x bytes text whole d h = absurd (cc)
-deep_by Starved limit x bytes text whole d h = absurd (cc)
+deep_by s limit x bytes text whole d h = absurd (cc)
 
 deep_ends : (o : Output) (text whole : List Item) → o.status ≡ Deep → Ends o text whole
     → o.bytes ≡ encode o.encoding (shallow whole)
 unfolding Ends
 deep_ends o text whole d h = deep_by o.status o.limit o.encoding o.bytes text whole d h
 
-deep_now : (i : Inside) (x : Encoding) (whole : List Item) → i.fresh ≡ false
-    → i.core.sink.status ≡ Deep → Writes (emitter_of i) x [] whole
-    → i.core.sink.bytes ≡ encode x (shallow whole)
-unfolding Writes LetsOut
-deep_now i x whole fr d h =
-    let P : Bool → Type 0 = λ z. WritesBy z (emitter_of i) x [] whole in
-    let k = subst P fr h in
+deep_now : (i : Inside) (x : Encoding) (whole : List Item) → i.core.sink.status ≡ Deep
+    → Says LetsOut (emitter_of i) x [] whole → i.core.sink.bytes ≡ encode x (shallow whole)
+unfolding LetsOut
+deep_now i x whole d k =
     let R : Encoding → Type 0 = λ z. i.core.sink.bytes ≡ encode z (shallow whole) in
     subst R k.0 (deep_ends i.core.sink _ whole d k.1)
 
 -- ---- behind a refused event
-
-refused_first : (i : Inside) (p : Problem) (more : List Event) → i.fresh ≡ false
-    → refused_at i.core.place ≡ Some p → wrong (emitter_of i) more ≡ Some p
-unfolding wrong first_wrong
-refused_first i p more fr r = ap (λ z. wrong_by z (emitter_of i) more) fr ∙ or_some (refused_at i.core.place) _ p r
 
 ends_all : (o : Output) (whole : List Item) → o.status ≡ Going → Ends o [] whole
     → o.bytes ≡ encode o.encoding whole
@@ -146,62 +105,45 @@ ends_all o whole g h =
     sym (k.0 ∙ append-nil o.bytes)
 
 refused_front : (i : Inside) (p : Problem) (x : Encoding) (more : List Event) (whole : List Item)
-    → i.fresh ≡ false → i.core.sink.status ≡ Going → refused_at i.core.place ≡ Some p
-    → Lays (emitter_of i) x more whole → i.core.sink.bytes ≡ encode x whole
-unfolding Lays LaysAll
-refused_front i p x more whole fr g r h =
-    let P : Bool → Type 0 = λ z. LaysBy z (emitter_of i) x more whole in
-    let k = subst P fr h in
+    → i.core.sink.status ≡ Going → refused_at i.core.place ≡ Some p
+    → Says LaysAll (emitter_of i) x more whole → i.core.sink.bytes ≡ encode x whole
+unfolding LaysAll
+refused_front i p x more whole g r k =
     let Q : List Item → Type 0 = λ t. Ends i.core.sink t whole in
     let R : Encoding → Type 0 = λ z. i.core.sink.bytes ≡ encode z whole in
     subst R k.0 (ends_all i.core.sink whole g (subst Q (unless_some (refused_at i.core.place) p _ _ _ r) k.1))
 
-first_verdict : (e : Emitter) → e.fresh ≡ true → None ≡ verdict e []
-unfolding verdict first_refusal let_out
-first_verdict e fr = sym (ap (λ z. verdict_by z e []) fr)
+-- ---- a fresh one
 
-first_output : (e : Emitter) (x : Encoding) (whole : List Item) → e.fresh ≡ true → e.output ≡ []
-    → e.status ≡ Going → Writes e x [] whole
-    → HasLetOut e.status e.limit e.output (encode x whole) (is_deep whole)
-unfolding Writes laid let_out encode is_deep
-first_output e x whole fr b g h =
-    let P : Bool → Type 0 = λ z. WritesBy z e x [] whole in
-    let k : IsLetOut e.requested_settings x [] whole = subst P fr h in
-    let S : Status → Type 0 = λ z. HasLetOut z e.limit e.output (encode x whole) (is_deep whole) in
-    let W : List Item → Type 0 = λ t. HasLetOut Going e.limit e.output (encode x t) (is_deep t) in
-    subst S (sym g) (subst W (sym k.is) (b, (rw b (omega arith), refl)))
-
-none_refused : (s : Status) (b : Bool) (p : Option Problem) → s ≡ Going → None ≡ fault_by s b p
-    → p ≡ None
-none_refused Going b None g h = refl
-none_refused Going b (Some x) g h = absurd (cc)
-none_refused Full b p g h = absurd (cc)
-none_refused Deep b p g h = absurd (cc)
-none_refused Starved b p g h = absurd (cc)
+first_output : (i : Inside) (x : Encoding) (whole : List Item) → IsEmitter i → true ≡ i.fresh
+    → whole ≡ []
+    → HasLetOut i.core.sink.status i.core.sink.limit i.core.sink.bytes (encode x whole) (is_deep whole)
+unfolding encode is_deep
+first_output i x whole inv fr none = let k = inv.begun (sym fr) in rw (k.1.1.1, k.1.1.0, none) (refl, (omega arith, refl))
 
 fresh_refused : (i : Inside) → IsEmitter i → i.fresh ≡ true → refused_at i.core.place ≡ None
-fresh_refused i inv fr = let k = inv.begun fr in none_refused i.core.sink.status i.core.starved (refused_at i.core.place) k.1.1.1 (sym k.1.0 ∙ inv.faulty)
+fresh_refused i inv fr = (none_by i.core.sink.status i.core.starved (refused_at i.core.place) (sym inv.faulty ∙ (inv.begun fr).1.0)).1
 
 none_some : (p : Problem) → None ≡ Some p → ⊥
 none_some p h = cc
 
-tells_by : (b : Bool) (i : Inside) → b ≡ i.fresh → IsEmitter i → TellsOutcome (emitter_of i)
-tells_by true i fr inv =
-    let begun = inv.begun (sym fr) in
-    record {
-      fault = inv.faulty ∙ fault_now i.core.sink.status i.core.starved _ _ (λ g. fresh_refused i inv (sym fr) ∙ first_verdict (emitter_of i) (sym fr));
-      output = λ x whole h. first_output (emitter_of i) x whole (sym fr) begun.1.1.0 begun.1.1.1 h;
-      first = λ g p v. absurd (none_some p (first_verdict (emitter_of i) (sym fr) ∙ v));
-      front = λ g p v. absurd (none_some p (first_verdict (emitter_of i) (sym fr) ∙ v));
-      deep = λ d. let g = begun.1.1.1 in absurd (cc);
-      memory = inv.memory;
-    }
+tells_by : (b : Bool) (i : Inside) → b ≡ i.fresh → IsEmitter i
+    → TellsOutcome (stood i b (held_events i.held))
+unfolding verdict Writes wrong Lays first_wrong first_refusal let_out laid
+tells_by true i fr inv = record {
+  fault = inv.faulty ∙ fault_now i.core.sink.status i.core.starved _ _ (λ g. fresh_refused i inv (sym fr));
+  output = λ x whole h. first_output i x whole inv fr h.is;
+  first = λ g p v. absurd (none_some p v);
+  front = λ g p v. absurd (none_some p v);
+  deep = λ d. let g = (inv.begun (sym fr)).1.1.1 in absurd (cc);
+  memory = inv.memory;
+}
 tells_by false i fr inv = record {
-  fault = inv.faulty ∙ fault_now i.core.sink.status i.core.starved _ _ (verdict_now i inv (sym fr));
-  output = λ x whole h. output_now i x whole inv (sym fr) h;
-  first = λ g p v more. refused_first i p more (sym fr) (verdict_now i inv (sym fr) g ∙ v);
-  front = λ g p v x more whole h. refused_front i p x more whole (sym fr) g (verdict_now i inv (sym fr) g ∙ v) h;
-  deep = λ d x whole h. deep_now i x whole (sym fr) d h;
+  fault = inv.faulty ∙ fault_now i.core.sink.status i.core.starved _ _ (verdict_now i inv);
+  output = λ x whole h. output_now i x whole inv h;
+  first = λ g p v more. or_some (refused_at i.core.place) _ p (verdict_now i inv g ∙ v);
+  front = λ g p v x more whole h. refused_front i p x more whole g (verdict_now i inv g ∙ v) h;
+  deep = λ d x whole h. deep_now i x whole d h;
   memory = inv.memory;
 }
 

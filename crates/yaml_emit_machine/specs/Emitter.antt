@@ -143,10 +143,20 @@ abbrev pub stream_encoding : Event → yaml_encoding_t
 stream_encoding (stream_start x) = x
 stream_encoding e = YAML_ANY_ENCODING
 
+-- one thing where no event was given, and another else
+abbrev pub ByFresh : Bool → Type 0 → Type 0 → Type 0
+ByFresh true first later = first
+ByFresh false first later = later
+
+-- In that encoding, `ends` says this of the text, with the events that are held and these.
+abbrev pub Says : (Settings → State → Output → List Event → List Item → Type 0) → Emitter
+    → Encoding → List Event → List Item → Type 0
+Says ends e x es whole = (e.course.settings.encoding ≡ x)
+    × ends e.course.settings e.course.state (text_of e) (e.held ++ es) whole
+
 abbrev pub CompletesBy : Bool → Emitter → Encoding → List Event → List Item → Type 0
-CompletesBy true e x es whole = IsStream e.requested_settings x es whole
-CompletesBy false e x es whole = (e.course.settings.encoding ≡ x)
-    × Finishes e.course.settings e.course.state (text_of e) (e.held ++ es) whole
+CompletesBy fresh e x es whole = ByFresh fresh (IsStream e.requested_settings x es whole)
+    (Says Finishes e x es whole)
 
 -- With these events to come up to the stream's end, and nothing wrong in them, the whole text is `whole`, in that encoding.
 unfoldable pub Completes : Emitter → Encoding → List Event → List Item → Type 0

@@ -1,5 +1,5 @@
 -- What an emitter refuses and has written, with the events that follow.
-use Rattle.std.specs.Prelude.{◌≡◌, ℕ, ◌≤◌, Bool, true, false, List, [], ◌∷◌, ◌++◌, length, Option, Some}
+use Rattle.std.specs.Prelude.{◌≡◌, ℕ, ◌≤◌, Bool, false, if◌then◌else◌, List, [], ◌∷◌, ◌++◌, length, Option, Some}
 use Rattle.yaml_scan_model.specs.declared.yaml_encoding_t.TheVariants.{YAML_ANY_ENCODING}
 use Rattle.yaml_emit_text.specs.declared.Encoding.{Encoding}
 use Rattle.yaml_emit_text.specs.declared.Settings.{Settings}
@@ -7,19 +7,20 @@ use Rattle.yaml_emit_text.specs.declared.Status.{Status}
 use Rattle.yaml_emit_text.specs.declared.Status.TheVariants.{Going, Full, Deep, Starved}
 use Rattle.yaml_emit_text.specs.declared.RequestedSettings.{RequestedSettings}
 use Rattle.yaml_emit_text.specs.Text.{Item, encode, is_deep, shallow}
-use Rattle.yaml_emit_text.specs.Layout.{written}
+use Rattle.yaml_emit_text.specs.Layout.{Layout, written}
 use Rattle.yaml_emit_text.specs.Settings.{settled}
 use Rattle.yaml_emit_layout.specs.declared.Problem.{Problem}
 use Rattle.yaml_emit_layout.specs.declared.Expected.TheVariants as at
 use Rattle.yaml_emit_layout.specs.Content.{Event}
-use Rattle.yaml_emit_layout.specs.State.{placed}
+use Rattle.yaml_emit_layout.specs.State.{State, placed}
 use Rattle.yaml_emit_layout.specs.Progress.{first_progress, first_refusal}
 use Rattle.yaml_emit_machine.specs.Judged.{let_out, laid, refusal_behind, LetsOut, first_wrong, LaysAll, laid_some, LaysSome}
-use Rattle.yaml_emit_machine.specs.Emitter.{Emitter, text_of, stream_encoding, fault_by, HasWritten}
+use Rattle.yaml_emit_machine.specs.Emitter.{Emitter, ByFresh, Says, stream_encoding, fault_by, HasWritten}
 
 abbrev pub verdict_by : Bool → Emitter → List Event → Option Problem
-verdict_by true e es = first_refusal e.requested_settings.canonical first_progress (let_out es)
-verdict_by false e es = refusal_behind e.course.settings e.course.state (e.held ++ es)
+verdict_by fresh e es = if fresh
+    then first_refusal e.requested_settings.canonical first_progress (let_out es)
+    else refusal_behind e.course.settings e.course.state (e.held ++ es)
 
 -- The problem of the first event that is refused, among those that are let out once these are given too.
 unfoldable pub verdict : Emitter → List Event → Option Problem
@@ -30,16 +31,18 @@ abbrev pub first_settings : RequestedSettings → List Event → Settings
 first_settings w [] = settled w YAML_ANY_ENCODING
 first_settings w (e ∷ es) = settled w (stream_encoding e)
 
--- a fresh emitter's text, and its encoding
-pub record IsLetOut (w : RequestedSettings) (x : Encoding) (es : List Event)
-    (whole : List Item) : Type 0 where
+-- a fresh emitter's text, by how events are laid out, and its encoding
+pub record IsFirst (text : Settings → State → List Event → Layout) (w : RequestedSettings)
+    (x : Encoding) (es : List Event) (whole : List Item) : Type 0 where
   pub coded : x ≡ (first_settings w es).encoding
-  pub is : whole ≡ written (laid (first_settings w es) (placed at.StreamStart) (let_out es))
+  pub is : whole ≡ written (text (first_settings w es) (placed at.StreamStart) es)
+
+abbrev pub IsLetOut : RequestedSettings → Encoding → List Event → List Item → Type 0
+IsLetOut w x es whole = IsFirst (λ s st events. laid s st (let_out events)) w x es whole
 
 abbrev pub WritesBy : Bool → Emitter → Encoding → List Event → List Item → Type 0
-WritesBy true e x es whole = IsLetOut e.requested_settings x es whole
-WritesBy false e x es whole = (e.course.settings.encoding ≡ x)
-    × LetsOut e.course.settings e.course.state (text_of e) (e.held ++ es) whole
+WritesBy fresh e x es whole = ByFresh fresh (IsLetOut e.requested_settings x es whole)
+    (Says LetsOut e x es whole)
 
 -- Once these events are given too, `whole` is what is written, in that encoding: all events that are let out, up to the first
 -- one that is refused.
@@ -49,23 +52,17 @@ Writes e x es whole = WritesBy e.fresh e x es whole
 -- ---- of all events, whether they are let out by then or not
 
 abbrev pub wrong_by : Bool → Emitter → List Event → Option Problem
-wrong_by true e es = first_refusal e.requested_settings.canonical first_progress es
-wrong_by false e es = first_wrong e.course.settings e.course.state (e.held ++ es)
+wrong_by fresh e es = if fresh
+    then first_refusal e.requested_settings.canonical first_progress es
+    else first_wrong e.course.settings e.course.state (e.held ++ es)
 
 -- The problem of the first event that is wrong, once these are given too: the one that is refused when all of them are let out.
 unfoldable pub wrong : Emitter → List Event → Option Problem
 wrong e es = wrong_by e.fresh e es
 
--- a fresh emitter's text, and its encoding
-pub record IsLaid (w : RequestedSettings) (x : Encoding) (es : List Event)
-    (whole : List Item) : Type 0 where
-  pub coded : x ≡ (first_settings w es).encoding
-  pub is : whole ≡ written (laid (first_settings w es) (placed at.StreamStart) es)
-
 abbrev pub LaysBy : Bool → Emitter → Encoding → List Event → List Item → Type 0
-LaysBy true e x es whole = IsLaid e.requested_settings x es whole
-LaysBy false e x es whole = (e.course.settings.encoding ≡ x)
-    × LaysAll e.course.settings e.course.state (text_of e) (e.held ++ es) whole
+LaysBy fresh e x es whole = ByFresh fresh (IsFirst laid e.requested_settings x es whole)
+    (Says LaysAll e x es whole)
 
 -- `whole` is what is written when all of them are let out, in that encoding: up to the first one that is wrong.
 unfoldable pub Lays : Emitter → Encoding → List Event → List Item → Type 0
@@ -73,16 +70,9 @@ Lays e x es whole = LaysBy e.fresh e x es whole
 
 -- ---- of the first few
 
--- a fresh emitter's text, and its encoding
-pub record IsFirstText (n : ℕ) (w : RequestedSettings) (x : Encoding) (es : List Event)
-    (whole : List Item) : Type 0 where
-  pub coded : x ≡ (first_settings w es).encoding
-  pub is : whole ≡ written (laid_some n (first_settings w es) (placed at.StreamStart) es)
-
 abbrev pub FirstBy : Bool → ℕ → Emitter → Encoding → List Event → List Item → Type 0
-FirstBy true n e x es whole = IsFirstText n e.requested_settings x es whole
-FirstBy false n e x es whole = (e.course.settings.encoding ≡ x)
-    × LaysSome n e.course.settings e.course.state (text_of e) (e.held ++ es) whole
+FirstBy fresh n e x es whole = ByFresh fresh
+    (IsFirst (laid_some n) e.requested_settings x es whole) (Says (LaysSome n) e x es whole)
 
 -- `whole` is what is written when the first n of the held events and of these are let out, in that encoding.
 unfoldable pub LaysFirst : ℕ → Emitter → Encoding → List Event → List Item → Type 0

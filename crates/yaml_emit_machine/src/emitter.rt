@@ -14,7 +14,8 @@ ghost use Rattle.yaml_emit_machine.specs.Emitter.{stream_encoding, IsNew, IsLimi
 ghost use Rattle.yaml_emit_machine.specs.Held.{AreLast};
 ghost use Rattle.yaml_emit_machine.specs.Within.{IsWithin};
 ghost use Rattle.yaml_emit_machine.specs.Verdict.{TellsOutcome};
-ghost use Rattle.yaml_emit_machine.specs.Taking.{TakesEvents, GivesText, LaysAtOnce, AwaitsNode, StaysCanonical, Stuck, NotesMemoryOf, BlamesLevels, ComesIntoForce};
+ghost use Rattle.yaml_emit_machine.specs.Dumping.{LaysOne};
+ghost use Rattle.yaml_emit_machine.specs.Taking.{TakesEvents, GivesText, LaysAtOnce, AwaitsNode, Stuck, NotesMemoryOf, BlamesLevels, ComesIntoForce};
 
 mod dump;
 mod resume;
@@ -288,13 +289,7 @@ impl yaml_emitter_t {
     fn lay_at_once(&mut self, event: &mut yaml_event_body_t)
         requires utf8 { HasUtf8 (body_of event.old) }
         requires once { LaysAtOnce self.old }
-        ensures text { GivesText self.old (emitter_event (body_of event.old)) self.new }
-        ensures memory { NotesMemoryOf (emitter_event (body_of event.old)) self.old self.new }
-        ensures blames { BlamesLevels (emitter_event (body_of event.old)) self.old self.new }
-        ensures few { self.new.held ≡ [] }
-        ensures begun { self.new.fresh ≡ false }
-        ensures opened { (self.new.opened ≡ self.old.opened) × (self.new.closed ≡ self.old.closed) }
-        ensures form { StaysCanonical self.old self.new }
+        ensures { LaysOne self.old (emitter_event (body_of event.old)) self.new }
     {
         self.core.lay_out(event, false);
         note(&self.core, &mut self.fault);
@@ -316,14 +311,8 @@ impl yaml_emitter_t {
         requires utf8 { IsUtf8 value.now }
         requires once { LaysAtOnce self.old }
         requires due { AwaitsNode self.old }
-        ensures text { (style : yaml_scalar_style_t) → GivesText self.old
+        ensures { (style : yaml_scalar_style_t) → LaysOne self.old
             (scalar (plain_text value.now style)) self.new }
-        ensures memory { (style : yaml_scalar_style_t) → NotesMemoryOf
-            (scalar (plain_text value.now style)) self.old self.new }
-        ensures few { self.new.held ≡ [] }
-        ensures begun { self.new.fresh ≡ false }
-        ensures opened { (self.new.opened ≡ self.old.opened) × (self.new.closed ≡ self.old.closed) }
-        ensures form { StaysCanonical self.old self.new }
     {
         self.core.lay_text(value);
         note(&self.core, &mut self.fault);
@@ -335,13 +324,7 @@ impl yaml_emitter_t {
     fn lay_bracket_at_once(&mut self, bracket: Bracket)
         requires once { LaysAtOnce self.old }
         requires due { AwaitsNode self.old }
-        ensures text { (flow : Bool) → GivesText self.old (bracket_event bracket flow) self.new }
-        ensures memory { (flow : Bool) → NotesMemoryOf (bracket_event bracket flow) self.old
-            self.new }
-        ensures few { self.new.held ≡ [] }
-        ensures begun { self.new.fresh ≡ false }
-        ensures opened { (self.new.opened ≡ self.old.opened) × (self.new.closed ≡ self.old.closed) }
-        ensures form { StaysCanonical self.old self.new }
+        ensures { (flow : Bool) → LaysOne self.old (bracket_event bracket flow) self.new }
     {
         lay_bracket(&mut self.core, bracket);
         note(&self.core, &mut self.fault);

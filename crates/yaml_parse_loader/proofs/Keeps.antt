@@ -107,14 +107,9 @@ loaded_utf8 (Some tag) default d h = either_utf8 (is_bang tag) default tag d h
 
 filled_sound : (m : ℕ) (o : Open) (b : NodeBody) → IsSoundOpen m o → IsSoundBody m b
     → IsSoundBody m (filled_body o b)
-filled_sound m (open_sequence place items) node.no s h = h
-filled_sound m (open_sequence place items) (node.scalar value style) s h = h
 filled_sound m (open_sequence place items) (node.sequence none style) s h = s
-filled_sound m (open_sequence place items) (node.mapping none style) s h = h
-filled_sound m (open_mapping place pairs key) node.no s h = h
-filled_sound m (open_mapping place pairs key) (node.scalar value style) s h = h
-filled_sound m (open_mapping place pairs key) (node.sequence none style) s h = h
 filled_sound m (open_mapping place pairs key) (node.mapping none style) s h = s.0
+filled_sound m o b s h = h
 
 closed_sound : (to : yaml_mark_t) (l : Loading) (os : List Open) → IsLoading l
     → AreSoundOpen (length l.document.nodes) os → IsLoading (closed to l os)
@@ -146,9 +141,6 @@ nothing_sound = record { document = record { directives = tt; nodes = tt }; leve
 
 pub step_sound : (b : EventBody) (from to : yaml_mark_t) (l : Loading) → IsLoading l → HasUtf8 b
     → FedSound (step_body b from to l)
-step_sound event.no from to l s h = s
-step_sound (event.stream_start encoding) from to l s h = s
-step_sound event.stream_end from to l s h = s
 step_sound (event.document_start version directives implicit) from to l s h =
     record { document = record { directives = h; nodes = tt }; levels = tt; anchors = no_anchors 0 }
 step_sound (event.document_end implicit) from to l s h = record { directives = s.document.directives; nodes = s.document.nodes }
@@ -161,3 +153,4 @@ step_sound event.sequence_end from to l s h = closed_sound to l l.levels s s.lev
 step_sound (event.mapping_start anchor tag implicit style) from to l s h =
     open_sound l _ _ _ (λ m. (tt, tt)) (leaf_sound l _ _ s (loaded_utf8 tag map_tag map_utf8 h.1, tt) (next_sound l anchor s))
 step_sound event.mapping_end from to l s h = closed_sound to l l.levels s s.levels
+step_sound _ from to l s h = s

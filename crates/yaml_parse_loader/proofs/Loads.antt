@@ -4,8 +4,6 @@ use Rattle.std.specs.FinMap as map
 use Rattle.std.specs.Ordering.{nat_cmp}
 use Rattle.std.specs.Cmp.Lexicographic.{slice_cmp, nat_list_cmp_total}
 use Rattle.yaml_parse_model.specs.declared.yaml_mark_t.{yaml_mark_t}
-use Rattle.yaml_parse_model.specs.declared.yaml_sequence_style_t.{yaml_sequence_style_t}
-use Rattle.yaml_parse_model.specs.declared.yaml_mapping_style_t.{yaml_mapping_style_t}
 use Rattle.yaml_parse_model.specs.Faults.{Fault}
 use Rattle.yaml_parse_model.specs.declared.yaml_node_pair_t.{yaml_node_pair_t}
 use Rattle.yaml_parse_model.specs.Events.{Event}
@@ -14,8 +12,8 @@ use Rattle.yaml_parse_model.specs.Nodes.{Node}
 use Rattle.yaml_parse_document.specs.Documents.{Document, change_place}
 use Rattle.yaml_parse_document.proofs.Sound.{length_push}
 use Rattle.yaml_parse_loader.specs.Anchors.{Anchors}
-use Rattle.yaml_parse_loader.specs.Numbering.{Head, Content, Contents, Pairs, alias, scalar, sequence, mapping, no_items, item, no_pairs, pair, spanning, events, item_events, pair_events, ◌>>=◌, Anchored, is_same, last_with, and_node, alias_number, scalar_node, sequence_node, mapping_node, number, number_items, number_pairs, DocumentContent, document_events, document_of}
-use Rattle.yaml_parse_loader.specs.Loading.{Open, open_sequence, open_mapping, Loading, attach, next, with_leaf, with_open, filled, closed, named, aliased, started, Loaded, document, turn, load, behind}
+use Rattle.yaml_parse_loader.specs.Numbering.{Content, Contents, Pairs, alias, scalar, sequence, mapping, no_items, item, no_pairs, pair, spanning, events, item_events, pair_events, ◌>>=◌, Anchored, is_same, last_with, and_node, alias_number, scalar_node, sequence_node, mapping_node, number, number_items, number_pairs, DocumentContent, document_events, document_of}
+use Rattle.yaml_parse_loader.specs.Loading.{Open, open_sequence, open_mapping, Loading, attach, next, with_leaf, with_open, filled, place_of, closed, named, aliased, started, Loaded, document, turn, load, behind}
 
 behind_same : {A : Type 0} (r : Result A Fault) (f g : A → Loaded) → ((x : A) → f x ≡ g x)
     → behind r f ≡ behind r g
@@ -91,27 +89,15 @@ changed_at f [] ys x = refl
 changed_at f (n ∷ xs) ys x = ap (λ ns. n ∷ ns) (changed_at f xs ys x)
 
 -- a collection that is closed is one numbered node more
-sequence_closes : (l : Loading) (h : Head) (style : yaml_sequence_style_t) (to : yaml_mark_t)
-    (ids : List ℤ) (ns : List Node) (ks : Anchors) (before : Anchored)
-    → (let m : Loading = add (with_open l (sequence_node h [] style h.end_mark)
-    (open_sequence (length l.document.nodes) []) ks) ids ns before in closed to m m.levels)
-    ≡ add l (next l ∷ []) (sequence_node h ids style to ∷ ns) before
-sequence_closes l h style to ids ns ks before =
-    ap (λ (os : List Open). closed to (made l.document ((l.document.nodes ++ sequence_node h [] style h.end_mark ∷ []) ++ ns) os (table before)) os)
-    (attached_all ids [] (length l.document.nodes) (attach (next l) l.levels))
+closes_holder : (l : Loading) (n m : Node) (o : Open) (os : List Open) (to : yaml_mark_t)
+    (ns : List Node) (before : Anchored) → os ≡ o ∷ attach (next l) l.levels
+    → place_of o ≡ length l.document.nodes → filled o to n ≡ m
+    → closed to (made l.document ((l.document.nodes ++ n ∷ []) ++ ns) os (table before)) os
+    ≡ add l (next l ∷ []) (m ∷ ns) before
+closes_holder l n m o os to ns before e p f =
+    ap (λ (z : List Open). closed to (made l.document ((l.document.nodes ++ n ∷ []) ++ ns) z (table before)) z) e
     ∙ ap (λ (ms : List Node). made l.document ms (attach (next l) l.levels) (table before))
-    (changed_at (filled (open_sequence (length l.document.nodes) ids) to) l.document.nodes ns (sequence_node h [] style h.end_mark))
-
-mapping_closes : (l : Loading) (h : Head) (style : yaml_mapping_style_t) (to : yaml_mark_t)
-    (ps : List yaml_node_pair_t) (ns : List Node) (ks : Anchors) (before : Anchored)
-    → (let m : Loading = add_pairs (with_open l (mapping_node h [] style h.end_mark)
-    (open_mapping (length l.document.nodes) [] None) ks) ps ns before in closed to m m.levels)
-    ≡ add l (next l ∷ []) (mapping_node h ps style to ∷ ns) before
-mapping_closes l h style to ps ns ks before =
-    ap (λ (os : List Open). closed to (made l.document ((l.document.nodes ++ mapping_node h [] style h.end_mark ∷ []) ++ ns) os (table before)) os)
-    (attached_pairs ps [] (length l.document.nodes) (attach (next l) l.levels))
-    ∙ ap (λ (ms : List Node). made l.document ms (attach (next l) l.levels) (table before))
-    (changed_at (filled (open_mapping (length l.document.nodes) ps None) to) l.document.nodes ns (mapping_node h [] style h.end_mark))
+    (ap (λ (k : ℕ). change_place (filled o to) k ((l.document.nodes ++ n ∷ []) ++ ns)) p ∙ changed_at (filled o to) l.document.nodes ns n ∙ ap (λ (x : Node). l.document.nodes ++ x ∷ ns) f)
 
 alias_loads : (o : Option ℤ) (at : yaml_mark_t) (l : Loading) (before : Anchored)
     (rest : List Event)
@@ -139,7 +125,7 @@ mutual
       ap (λ (ks : Anchors). load (item_events items close) (with_open l (sequence_node h [] style h.end_mark) (open_sequence (length l.document.nodes) []) ks)) (named_table h.anchor (next l) before)
       ∙ loads_items items close opened within
       ∙ ap (λ (k : ℕ). behind (number_items items k within) (λ r. load close (add opened r.number r.nodes r.before))) (length_push l.document.nodes (sequence_node h [] style h.end_mark))
-      ∙ behind_same (number_items items (suc (length l.document.nodes)) within) _ _ (λ r. ap (λ (m : Loading). load rest m) (sequence_closes l h style at.end_mark r.number r.nodes (table within) r.before))
+      ∙ behind_same (number_items items (suc (length l.document.nodes)) within) _ _ (λ r. ap (λ (m : Loading). load rest m) (closes_holder l (sequence_node h [] style h.end_mark) (sequence_node h r.number style at.end_mark) (open_sequence (length l.document.nodes) r.number) _ at.end_mark r.nodes r.before (attached_all r.number [] (length l.document.nodes) (attach (next l) l.levels)) refl refl))
       ∙ sym (behind_then (number_items items (suc (length l.document.nodes)) within) _ _)
   loads (mapping h implicit style pairs at) rest l before =
       let within : Anchored = and_node h.anchor (next l) before in
@@ -148,7 +134,7 @@ mutual
       ap (λ (ks : Anchors). load (pair_events pairs close) (with_open l (mapping_node h [] style h.end_mark) (open_mapping (length l.document.nodes) [] None) ks)) (named_table h.anchor (next l) before)
       ∙ loads_pairs pairs close opened within
       ∙ ap (λ (k : ℕ). behind (number_pairs pairs k within) (λ r. load close (add_pairs opened r.number r.nodes r.before))) (length_push l.document.nodes (mapping_node h [] style h.end_mark))
-      ∙ behind_same (number_pairs pairs (suc (length l.document.nodes)) within) _ _ (λ r. ap (λ (m : Loading). load rest m) (mapping_closes l h style at.end_mark r.number r.nodes (table within) r.before))
+      ∙ behind_same (number_pairs pairs (suc (length l.document.nodes)) within) _ _ (λ r. ap (λ (m : Loading). load rest m) (closes_holder l (mapping_node h [] style h.end_mark) (mapping_node h r.number style at.end_mark) (open_mapping (length l.document.nodes) r.number None) _ at.end_mark r.nodes r.before (attached_pairs r.number [] (length l.document.nodes) (attach (next l) l.levels)) refl refl))
       ∙ sym (behind_then (number_pairs pairs (suc (length l.document.nodes)) within) _ _)
 
   pub loads_items : (cs : Contents) (rest : List Event) (l : Loading) (before : Anchored)

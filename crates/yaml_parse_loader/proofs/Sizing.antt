@@ -49,14 +49,9 @@ open_sized l n o known h b empty s =
 
 filled_sized : (o : Open) (b : NodeBody) → IsSizedOpen o → IsSizedBody b
     → IsSizedBody (filled_body o b)
-filled_sized (open_sequence place items) node.no s h = h
-filled_sized (open_sequence place items) (node.scalar value style) s h = h
 filled_sized (open_sequence place items) (node.sequence none style) s h = (s, h.1)
-filled_sized (open_sequence place items) (node.mapping none style) s h = h
-filled_sized (open_mapping place pairs key) node.no s h = h
-filled_sized (open_mapping place pairs key) (node.scalar value style) s h = h
-filled_sized (open_mapping place pairs key) (node.sequence none style) s h = h
 filled_sized (open_mapping place pairs key) (node.mapping none style) s h = (h.0, s)
+filled_sized o b s h = h
 
 place_sized : (f : Node → Node) (k : ℕ) (ns : List Node)
     → ((x : Node) → IsSizedBody x.body → IsSizedBody (f x).body) → AreSized ns
@@ -88,9 +83,6 @@ nothing_sized = record { document = record { nodes = omega arith; entries = tt }
 
 pub step_sized : (b : EventBody) (from to : yaml_mark_t) (l : Loading) → IsSizedLoading l
     → HasRoomFor b l → FedSized (step_body b from to l)
-step_sized event.no from to l s h = s
-step_sized (event.stream_start encoding) from to l s h = s
-step_sized event.stream_end from to l s h = s
 step_sized (event.document_start version directives implicit) from to l s h = record { document = record { nodes = omega arith; entries = tt }; levels = tt }
 step_sized (event.document_end implicit) from to l s h = record { nodes = s.document.nodes; entries = s.document.entries }
 step_sized (event.alias name) from to l s h = aliased_sized _ from l h s
@@ -99,3 +91,4 @@ step_sized (event.sequence_start anchor tag implicit style) from to l s h = open
 step_sized event.sequence_end from to l s h = closed_sized to l l.levels s s.levels
 step_sized (event.mapping_start anchor tag implicit style) from to l s h = open_sized l _ _ _ h nothing_listed (omega arith) s
 step_sized event.mapping_end from to l s h = closed_sized to l l.levels s s.levels
+step_sized _ from to l s h = s

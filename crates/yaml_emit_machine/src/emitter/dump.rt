@@ -11,7 +11,7 @@ ghost use Rattle.yaml_emit_graph.specs.Brackets.{bracket_event};
 ghost use Rattle.yaml_emit_graph.specs.Events.{IsEvents, remaining_events};
 ghost use Rattle.yaml_emit_machine.specs.Emitter.{Keeps, left_if};
 ghost use Rattle.yaml_emit_machine.specs.Taking.{TakesEvents, TakesEarly, LaysAtOnce, AwaitsNode, Stuck, NotesMemory};
-ghost use Rattle.yaml_emit_machine.specs.Dumping.{DumpsAtOnce};
+ghost use Rattle.yaml_emit_machine.specs.Dumping.{DumpsAtOnce, DumpsSome};
 
 use super::{answer, take_event, yaml_emitter_t};
 use crate::fault::refusal;
@@ -142,12 +142,7 @@ impl yaml_emitter_t {
     ) -> bool
         requires walk { IsEvents document.now events.old }
         requires once { LaysAtOnce self.old }
-        ensures early { DumpsAtOnce self.old self.new result
-            (remaining_events document.now events.old)
-            (remaining_events document.now events.new) }
-        ensures walk { result ≡ true → IsEvents document.now events.new }
-        ensures less { result ≡ true → length (remaining_events document.now events.new)
-            < length (remaining_events document.now events.old) }
+        ensures { DumpsSome document.now self.old self.new events.old events.new result }
     {
         match events.next(document, event) {
             Ok(false) => false,
@@ -171,12 +166,7 @@ impl yaml_emitter_t {
         requires walk { IsEvents document.now events.old }
         requires once { LaysAtOnce self.old }
         requires due { AwaitsNode self.old }
-        ensures early { DumpsAtOnce self.old self.new result
-            (remaining_events document.now events.old)
-            (remaining_events document.now events.new) }
-        ensures walk { result ≡ true → IsEvents document.now events.new }
-        ensures less { result ≡ true → length (remaining_events document.now events.new)
-            < length (remaining_events document.now events.old) }
+        ensures { DumpsSome document.now self.old self.new events.old events.new result }
     {
         match events.next_bracket(document) {
             Some(bracket) => self.dump_bracket(bracket),
@@ -196,12 +186,7 @@ impl yaml_emitter_t {
         requires walk { IsEvents document.now events.old }
         requires once { LaysAtOnce self.old }
         requires due { AwaitsNode self.old }
-        ensures early { DumpsAtOnce self.old self.new result
-            (remaining_events document.now events.old)
-            (remaining_events document.now events.new) }
-        ensures walk { result ≡ true → IsEvents document.now events.new }
-        ensures less { result ≡ true → length (remaining_events document.now events.new)
-            < length (remaining_events document.now events.old) }
+        ensures { DumpsSome document.now self.old self.new events.old events.new result }
     {
         match events.next_text(document) {
             Some(value) => self.dump_text(value),
@@ -220,12 +205,7 @@ impl yaml_emitter_t {
     ) -> bool
         requires walk { IsEvents document.now events.old }
         requires once { LaysAtOnce self.old }
-        ensures early { DumpsAtOnce self.old self.new result
-            (remaining_events document.now events.old)
-            (remaining_events document.now events.new) }
-        ensures walk { result ≡ true → IsEvents document.now events.new }
-        ensures less { result ≡ true → length (remaining_events document.now events.new)
-            < length (remaining_events document.now events.old) }
+        ensures { DumpsSome document.now self.old self.new events.old events.new result }
     {
         if self.awaits_node() {
             self.dump_text_early(events, document, event)

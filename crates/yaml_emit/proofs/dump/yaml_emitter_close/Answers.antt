@@ -28,41 +28,21 @@ returns-in_ok-emit-clause-blames c = λ open_still. blames_marked stream_end c.a
 pub returns-in_err-emit-clause-blames : goal.returns-in_err-emit-clause-blames
 returns-in_err-emit-clause-blames c = λ open_still. c.emit.ensures.blames
 
-pub returns-then-is_closed-clause-answer : goal.returns-then-is_closed-clause-answer
-returns-then-is_closed-clause-answer c = c.answer.ensures.answer
-
-pub returns-then-is_closed-clause-again : goal.returns-then-is_closed-clause-again
-returns-then-is_closed-clause-again c = λ on. refl
-
-pub returns-then-is_closed-clause-takes : goal.returns-then-is_closed-clause-takes
-returns-then-is_closed-clause-takes c = λ open_still. absurd (false≢true (sym open_still ∙ (sym c.is_closed.ensures ∙ c.if-is_closed.true)))
-
-pub returns-then-is_closed-clause-memory : goal.returns-then-is_closed-clause-memory
-returns-then-is_closed-clause-memory c = λ open_still. absurd (false≢true (sym open_still ∙ (sym c.is_closed.ensures ∙ c.if-is_closed.true)))
-
-pub returns-then-is_closed-clause-blames : goal.returns-then-is_closed-clause-blames
-returns-then-is_closed-clause-blames c = λ open_still. absurd (false≢true (sym open_still ∙ (sym c.is_closed.ensures ∙ c.if-is_closed.true)))
-
-pub returns-then-is_closed-clause-tells : goal.returns-then-is_closed-clause-tells
-returns-then-is_closed-clause-tells c = c.answer.ensures.tells
-
-pub returns-then-is_closed-clause-stays : goal.returns-then-is_closed-clause-stays
-returns-then-is_closed-clause-stays c = λ f some. refl
-
-pub returns-then-is_closed-clause-few : goal.returns-then-is_closed-clause-few
-returns-then-is_closed-clause-few c = c.answer.ensures.few
-
-pub returns-then-is_closed-clause-closed : goal.returns-then-is_closed-clause-closed
-returns-then-is_closed-clause-closed c = on_ok _ _ _ c.answer.ensures.answer (λ none. sym c.is_closed.ensures ∙ c.if-is_closed.true)
-
-pub returns-then-is_closed-clause-refused : goal.returns-then-is_closed-clause-refused
-returns-then-is_closed-clause-refused c = on_err _ _ _ c.answer.ensures.answer (λ some. refl)
-
-pub returns-then-is_closed-clause-keeps : goal.returns-then-is_closed-clause-keeps
-returns-then-is_closed-clause-keeps c = refl
-
-pub returns-then-is_closed-clause-begun : goal.returns-then-is_closed-clause-begun
-returns-then-is_closed-clause-begun c = c.answer.ensures.running c.requires
+pub returns-then-is_closed : goal.returns-then-is_closed
+returns-then-is_closed c = record {
+  answer = c.answer.ensures.answer;
+  again = λ on. refl;
+  takes = λ open_still. absurd (false≢true (sym open_still ∙ (sym c.is_closed.ensures ∙ c.if-is_closed.true)));
+  memory = λ open_still. absurd (false≢true (sym open_still ∙ (sym c.is_closed.ensures ∙ c.if-is_closed.true)));
+  blames = λ open_still. absurd (false≢true (sym open_still ∙ (sym c.is_closed.ensures ∙ c.if-is_closed.true)));
+  tells = c.answer.ensures.tells;
+  stays = λ f some. refl;
+  few = c.answer.ensures.few;
+  closed = on_ok _ _ _ c.answer.ensures.answer (λ none. sym c.is_closed.ensures ∙ c.if-is_closed.true);
+  refused = on_err _ _ _ c.answer.ensures.answer (λ some. refl);
+  keeps = refl;
+  begun = c.answer.ensures.running c.requires;
+}
 
 pub returns-in_ok-emit-clause-again : goal.returns-in_ok-emit-clause-again
 returns-in_ok-emit-clause-again c = λ on. absurd (false≢true (sym (sym c.is_closed.ensures ∙ c.if-is_closed.false) ∙ on))

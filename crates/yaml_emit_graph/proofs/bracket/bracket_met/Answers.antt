@@ -1,5 +1,5 @@
 use mir.Syntax.{w32}
-use mir.Val.{SFits, to_z, of_z}
+use mir.Val.{SFits}
 use Rattle.std.proofs.Common.{◌≡◌, rules, sym, subst, ◌∙◌, ap}
 use Rattle.std.proofs.lemmas.Int.{to_z-of_z}
 use Rattle.yaml_emit_graph.specs.declared.walk.Turn.{Turn}

@@ -1,6 +1,6 @@
-use Rattle.std.proofs.Common.{◌≡◌, false, ap, option_map}
+use Rattle.std.proofs.Common.{ap, option_map}
 use Rattle.yaml_scan_model.specs.Faults.{fault_of}
-use Rattle.yaml_emit_machine.proofs.Emitting.{not_true}
+use Rattle.yaml_emit_machine.proofs.Emitting.{inside_begun}
 use Rattle.yaml_emit_machine.proofs.Taking.{inside_stuck}
 use Rattle.yaml_emit_machine.proofs.Verdicts.{inside_tells}
 use Rattle.yaml_emit_machine.proofs.emitter.answer.Goals as goal
@@ -15,10 +15,7 @@ pub returns-in-Some-clause-stuck : goal.returns-in-Some-clause-stuck
 returns-in-Some-clause-stuck c = rw (← c.emitter.view_is) (inside_stuck c.emitter.inside c.emitter.invariant (fault_of c.in-Some.fault) (ap (option_map fault_of) c.in-Some.is))
 
 pub returns-in-Some-clause-begun : goal.returns-in-Some-clause-begun
-returns-in-Some-clause-begun c =
-    let some = ap (option_map fault_of) c.in-Some.is in
-    let off : c.emitter.inside.fresh ≡ false = not_true c.emitter.inside.fresh (λ t. let k = (c.emitter.invariant.begun t).1.0 in cc) in
-    rw (← c.emitter.view_is) off
+returns-in-Some-clause-begun c = rw (← c.emitter.view_is) (inside_begun c.emitter.inside c.emitter.invariant _ (ap (option_map fault_of) c.in-Some.is))
 
 pub returns-in-None-clause-running : goal.returns-in-None-clause-running
 returns-in-None-clause-running c = rw (← c.emitter.view_is) c.emitter.invariant.running

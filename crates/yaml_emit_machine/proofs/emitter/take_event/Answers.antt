@@ -1,33 +1,27 @@
-use Rattle.std.proofs.Common.{◌≡◌, [], false, ap, option_map}
+use Rattle.std.proofs.Common.{[], refl, ap, option_map}
 use Rattle.yaml_scan_model.specs.Faults.{fault_of}
-use Rattle.yaml_emit_machine.proofs.Emitting.{not_true}
+use Rattle.yaml_emit_machine.proofs.Emitting.{inside_begun}
 use Rattle.yaml_emit_machine.proofs.Taking.{inside_stuck, taken_begun}
 use Rattle.yaml_emit_machine.proofs.Blaming.{blames_none}
 use Rattle.yaml_emit_machine.proofs.emitter.take_event.Goals as goal
 
-pub returns-in-Some-clause-takes : goal.returns-in-Some-clause-takes
-returns-in-Some-clause-takes c = rw (← c.emitter.view_is) (inside_stuck c.emitter.inside c.emitter.invariant _ (ap (option_map fault_of) c.in-Some.is) _ [])
-
-pub returns-in-Some-clause-few : goal.returns-in-Some-clause-few
-returns-in-Some-clause-few c = rw (← c.emitter.view_is) c.emitter.invariant.short
-
-pub returns-in-Some-clause-begun : goal.returns-in-Some-clause-begun
-returns-in-Some-clause-begun c =
-    let some = ap (option_map fault_of) c.in-Some.is in
-    let off : c.emitter.inside.fresh ≡ false = not_true c.emitter.inside.fresh (λ t. let k = (c.emitter.invariant.begun t).1.0 in cc) in
-    rw (← c.emitter.view_is) off
+pub returns-in-Some : goal.returns-in-Some
+returns-in-Some c = record {
+  takes = rw (← c.emitter.view_is) (inside_stuck c.emitter.inside c.emitter.invariant _ (ap (option_map fault_of) c.in-Some.is) _ []);
+  memory = λ unnoted. refl;
+  blames = blames_none _ _;
+  stays = λ f some. refl;
+  few = rw (← c.emitter.view_is) c.emitter.invariant.short;
+  opened = (refl, refl);
+  begun = rw (← c.emitter.view_is) (inside_begun c.emitter.inside c.emitter.invariant _ (ap (option_map fault_of) c.in-Some.is));
+  last = λ none. absurd (let some = ap (option_map fault_of) c.in-Some.is in let is = rw (← c.emitter.view_is) at none in cc);
+}
 
 pub returns-in-None-clause-begun : goal.returns-in-None-clause-begun
 returns-in-None-clause-begun c = taken_begun _ _ _ c.begin_or_lay.ensures.takes
 
-pub returns-in-Some-clause-last : goal.returns-in-Some-clause-last
-returns-in-Some-clause-last c = λ none. absurd (let some = ap (option_map fault_of) c.in-Some.is in let is = rw (← c.emitter.view_is) at none in cc)
-
 pub returns-in-None-clause-last : goal.returns-in-None-clause-last
 returns-in-None-clause-last c = λ none. c.begin_or_lay.ensures.last
-
-pub returns-in-Some-clause-blames : goal.returns-in-Some-clause-blames
-returns-in-Some-clause-blames c = blames_none _ _
 
 pub returns-in-None-clause-blames : goal.returns-in-None-clause-blames
 returns-in-None-clause-blames c = c.begin_or_lay.ensures.blames

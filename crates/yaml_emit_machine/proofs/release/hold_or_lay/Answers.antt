@@ -11,34 +11,23 @@ release-requires-clause-most c = few_short _ c.requires.few
 pub push-requires-clause-few : goal.push-requires-clause-few
 push-requires-clause-few c = let room = c.release.ensures.room in omega (arith, room)
 
-pub returns-then-passes-clause-lays : goal.returns-then-passes-clause-lays
-returns-then-passes-clause-lays c =
-    let e = sym c.passes.ensures ∙ c.if-passes.true in
-    lays_past c.args.early _ _ _ _ _ _ c.release.ensures.lays (and_parts _ _ e).1 (and_parts _ _ e).0 c.lay_out.ensures
+pub returns-then-passes : goal.returns-then-passes
+returns-then-passes c = record {
+  lays = let e = sym c.passes.ensures ∙ c.if-passes.true in
+      lays_past c.args.early _ _ _ _ _ _ c.release.ensures.lays (and_parts _ _ e).1 (and_parts _ _ e).0 c.lay_out.ensures;
+  utf8 = c.release.ensures.utf8;
+  short = let room = c.release.ensures.room in omega (arith, room);
+  waits = λ g. passed_by_waits c.args.early _ _ _ (and_parts _ _ (sym c.passes.ensures ∙ c.if-passes.true)).0;
+  last = last_passed c.args.early _ _ _ _ (and_parts _ _ (sym c.passes.ensures ∙ c.if-passes.true)).0;
+  settings = c.lay_out.ensures.settings ∙ c.release.ensures.settings;
+}
 
-pub returns-then-passes-clause-short : goal.returns-then-passes-clause-short
-returns-then-passes-clause-short c = let room = c.release.ensures.room in omega (arith, room)
-
-pub returns-then-passes-clause-waits : goal.returns-then-passes-clause-waits
-returns-then-passes-clause-waits c = λ g. passed_by_waits c.args.early _ _ _ (and_parts _ _ (sym c.passes.ensures ∙ c.if-passes.true)).0
-
-pub returns-else-passes-clause-lays : goal.returns-else-passes-clause-lays
-returns-else-passes-clause-lays c = lays_held _ _ _ _ _ _ c.push.ensures.events c.release.ensures.lays
-
-pub returns-else-passes-clause-short : goal.returns-else-passes-clause-short
-returns-else-passes-clause-short c = pushed_most _ _ _ c.push.ensures.events c.release.ensures.room
-
-pub returns-else-passes-clause-waits : goal.returns-else-passes-clause-waits
-returns-else-passes-clause-waits c = λ g. pushed_by_waits c.args.early _ _ _ _ _ c.push.ensures.events (c.release.ensures.waits g) (both_false _ _ g (sym c.passes.ensures ∙ c.if-passes.false))
-
-pub returns-then-passes-clause-last : goal.returns-then-passes-clause-last
-returns-then-passes-clause-last c = last_passed c.args.early _ _ _ _ (and_parts _ _ (sym c.passes.ensures ∙ c.if-passes.true)).0
-
-pub returns-else-passes-clause-last : goal.returns-else-passes-clause-last
-returns-else-passes-clause-last c = last_pushed _ _ _ _ c.release.ensures.last c.push.ensures.events
-
-pub returns-then-passes-clause-settings : goal.returns-then-passes-clause-settings
-returns-then-passes-clause-settings c = c.lay_out.ensures.settings ∙ c.release.ensures.settings
-
-pub returns-else-passes-clause-settings : goal.returns-else-passes-clause-settings
-returns-else-passes-clause-settings c = c.release.ensures.settings
+pub returns-else-passes : goal.returns-else-passes
+returns-else-passes c = record {
+  lays = lays_held _ _ _ _ _ _ c.push.ensures.events c.release.ensures.lays;
+  utf8 = c.push.ensures.utf8;
+  short = pushed_most _ _ _ c.push.ensures.events c.release.ensures.room;
+  waits = λ g. pushed_by_waits c.args.early _ _ _ _ _ c.push.ensures.events (c.release.ensures.waits g) (both_false _ _ g (sym c.passes.ensures ∙ c.if-passes.false));
+  last = last_pushed _ _ _ _ c.release.ensures.last c.push.ensures.events;
+  settings = c.release.ensures.settings;
+}

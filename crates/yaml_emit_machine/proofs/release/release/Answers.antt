@@ -23,14 +23,12 @@ loop-held-preserved c =
       short = λ off. one_less _ _ _ c.lay_oldest.ensures.events c.loop-held.invariant.most;
     }
 
-pub returns-clause-waits : goal.returns-clause-waits
-returns-clause-waits c = λ g. both_false _ _ g (sym c.is_due.ensures ∙ c.loop-held-test.false)
-
-pub returns-clause-room : goal.returns-clause-room
-returns-clause-room c = room_held c.args.early _ _ _ (sym c.is_due.ensures ∙ c.loop-held-test.false) c.loop-held.invariant.short c.loop-held.invariant.most
-
-pub returns-clause-last : goal.returns-clause-last
-returns-clause-last c = c.loop-held.invariant.last
-
-pub returns-clause-settings : goal.returns-clause-settings
-returns-clause-settings c = c.loop-held.invariant.settings
+pub returns : goal.returns
+returns c = record {
+  lays = c.loop-held.invariant.lays;
+  utf8 = c.loop-held.invariant.utf8;
+  room = room_held c.args.early _ _ _ (sym c.is_due.ensures ∙ c.loop-held-test.false) c.loop-held.invariant.short c.loop-held.invariant.most;
+  waits = λ g. both_false _ _ g (sym c.is_due.ensures ∙ c.loop-held-test.false);
+  last = c.loop-held.invariant.last;
+  settings = c.loop-held.invariant.settings;
+}

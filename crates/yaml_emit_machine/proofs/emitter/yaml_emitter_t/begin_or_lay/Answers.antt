@@ -13,26 +13,18 @@ returns-then-self-clause-memory c = begins_notes _ _ c.lay.new.self _ c.begin.en
 pub returns-then-self-clause-few : goal.returns-then-self-clause-few
 returns-then-self-clause-few c = c.lay.ensures.few
 
-pub returns-else-self-clause-takes : goal.returns-else-self-clause-takes
-returns-else-self-clause-takes c = c.lay-else-self.ensures.takes
-
-pub returns-else-self-clause-memory : goal.returns-else-self-clause-memory
-returns-else-self-clause-memory c = c.lay-else-self.ensures.memory
-
-pub returns-else-self-clause-few : goal.returns-else-self-clause-few
-returns-else-self-clause-few c = c.lay-else-self.ensures.few
-
-pub returns-else-self-clause-opened : goal.returns-else-self-clause-opened
-returns-else-self-clause-opened c = c.lay-else-self.ensures.opened
+pub returns-else-self : goal.returns-else-self
+returns-else-self c = record {
+  takes = c.lay-else-self.ensures.takes;
+  memory = c.lay-else-self.ensures.memory;
+  blames = c.lay-else-self.ensures.blames;
+  few = c.lay-else-self.ensures.few;
+  opened = c.lay-else-self.ensures.opened;
+  last = c.lay-else-self.ensures.last;
+}
 
 pub returns-then-self-clause-last : goal.returns-then-self-clause-last
 returns-then-self-clause-last c = begins_last _ _ c.lay.new.self _ c.begin.ensures.begins c.lay.ensures.last
 
-pub returns-else-self-clause-last : goal.returns-else-self-clause-last
-returns-else-self-clause-last c = c.lay-else-self.ensures.last
-
 pub returns-then-self-clause-blames : goal.returns-then-self-clause-blames
 returns-then-self-clause-blames c = begins_blames _ _ c.lay.new.self _ c.begin.ensures.begins c.lay.ensures.blames
-
-pub returns-else-self-clause-blames : goal.returns-else-self-clause-blames
-returns-else-self-clause-blames c = c.lay-else-self.ensures.blames

@@ -18,20 +18,14 @@ returns-in-Ok-true c =
       less = λ going. one_less_left _ _ _ g.0;
     }
 
-pub returns-in-Err-clause-takes : goal.returns-in-Err-clause-takes
-returns-in-Err-clause-takes c = c.starve.ensures.takes _
-
-pub returns-in-Err-clause-memory : goal.returns-in-Err-clause-memory
-returns-in-Err-clause-memory c = c.starve.ensures.memory
-
-pub returns-in-Err-clause-keeps : goal.returns-in-Err-clause-keeps
-returns-in-Err-clause-keeps c = c.starve.ensures.keeps
-
-pub returns-in-Err-clause-walk : goal.returns-in-Err-clause-walk
-returns-in-Err-clause-walk c = λ going. absurd (false≢true going)
-
-pub returns-in-Err-clause-less : goal.returns-in-Err-clause-less
-returns-in-Err-clause-less c = λ going. absurd (false≢true going)
+pub returns-in-Err : goal.returns-in-Err
+returns-in-Err c = record {
+  takes = c.starve.ensures.takes _;
+  memory = c.starve.ensures.memory;
+  keeps = c.starve.ensures.keeps;
+  walk = λ going. absurd (false≢true going);
+  less = λ going. absurd (false≢true going);
+}
 
 pub returns-in-Ok-false-clause-walk : goal.returns-in-Ok-false-clause-walk
 returns-in-Ok-false-clause-walk c = λ going. absurd (false≢true going)

@@ -2,6 +2,4 @@ use Rattle.yaml_emit_machine.proofs.Earlier.{dumps_event}
 use Rattle.yaml_emit_machine.proofs.emitter.yaml_emitter_t.dump_text.Goals as goal
 
 pub returns : goal.returns
-returns c = λ style before after same.
-    let laid = c.lay_text_at_once.ensures in
-    dumps_event _ _ _ before after _ same (laid.text style) (laid.memory style) laid.form laid.few laid.begun laid.opened c.is_right.ensures.right c.is_right.ensures.stuck
+returns c = λ style before after same. dumps_event _ _ _ before after _ same (c.lay_text_at_once.ensures style) c.is_right.ensures.right c.is_right.ensures.stuck

@@ -15,10 +15,4 @@ pub dump_bracket_early-requires-clause-walk : goal.dump_bracket_early-requires-c
 dump_bracket_early-requires-clause-walk c = rw (c.in-None.ensures.none refl) c.requires.walk
 
 pub returns-in-None : goal.returns-in-None
-returns-in-None c =
-    let same = c.in-None.ensures.none refl in
-    record {
-      early = rw same at c.dump_bracket_early.ensures.early;
-      walk = c.dump_bracket_early.ensures.walk;
-      less = rw same at c.dump_bracket_early.ensures.less;
-    }
+returns-in-None c = rw (c.in-None.ensures.none refl) at c.dump_bracket_early.ensures

@@ -1,13 +1,6 @@
-use Rattle.std.proofs.Common.{None, false, refl, ap, ◌∙◌, sym}
-use Rattle.std.proofs.lemmas.Bool.{false≢true}
+use Rattle.std.proofs.Common.{false}
 use Rattle.yaml_scan_model.specs.declared.yaml_scalar_style_t.TheVariants.{YAML_ANY_SCALAR_STYLE}
-use Rattle.yaml_emit_text.specs.declared.Settings.{Settings}
-use Rattle.yaml_emit_layout.specs.Content.{scalar}
-use Rattle.yaml_emit_state.specs.Given.{plain_text}
-use Rattle.yaml_emit_machine.specs.Held.{is_ready}
-use Rattle.yaml_emit_machine.proofs.Forced.{forced_same}
-use Rattle.yaml_emit_machine.proofs.Early.{inside_lays}
-use Rattle.yaml_emit_machine.proofs.Taking.{inside_gives, inside_notes, inside_going}
+use Rattle.yaml_emit_machine.proofs.Early.{inside_once, inside_one}
 use Rattle.yaml_emit_machine.proofs.emitter.yaml_emitter_t.lay_text_at_once.Goals as goal
 
 pub lay_text-requires-clause-form : goal.lay_text-requires-clause-form
@@ -17,34 +10,11 @@ pub lay_text-requires-clause-due : goal.lay_text-requires-clause-due
 lay_text-requires-clause-due c = rw (← c.self.view_is) at c.requires.due
 
 pub invariant_of-self : goal.invariant_of-self
-unfolding is_ready
 invariant_of-self c =
     let once = rw (← c.self.view_is) at c.requires.once in
-    let begun = once.begun in
-    let laid = c.lay_text.ensures YAML_ANY_SCALAR_STYLE false in
-    record {
-      faulty = c.note.ensures;
-      few = λ g. ap is_ready once.none;
-      short = c.self.invariant.short;
-      texts = c.self.invariant.texts;
-      begun = λ f. absurd (false≢true (sym begun ∙ f));
-      limited = laid.text.limit ∙ c.self.invariant.limited;
-      running = c.self.invariant.running;
-      forced = λ off. forced_same c.self.inside.core c.lay_text.new.self c.self.inside.requested_settings laid.settings (c.self.invariant.forced begun);
-      memory = λ g. laid.memory refl ∙ c.self.invariant.memory (laid.text.going g);
-    }
+    inside_once c.self.inside c.lay_text.new.self _ _ c.self.invariant once (c.lay_text.ensures YAML_ANY_SCALAR_STYLE false) c.note.ensures
 
-pub returns-clause-text : goal.returns-clause-text
-returns-clause-text c = λ style.
+pub returns : goal.returns
+returns c = λ style.
     let once = rw (← c.self.view_is) at c.requires.once in
-    rw (← c.self.view_is) (inside_gives false c.self.inside c.lay_text.new.self c.self.inside.held c.self.inside.held _ _ once.begun refl (inside_lays c.self.inside c.lay_text.new.self _ c.self.invariant once (c.lay_text.ensures style false)))
-
-pub returns-clause-form : goal.returns-clause-form
-returns-clause-form c =
-    let once = rw (← c.self.view_is) at c.requires.once in
-    rw (← c.self.view_is) (inside_going c.self.inside c.self.invariant once.right, ap (λ (s : Settings). s.canonical) (c.lay_text.ensures YAML_ANY_SCALAR_STYLE false).settings ∙ once.form)
-
-pub returns-clause-memory : goal.returns-clause-memory
-returns-clause-memory c = λ style.
-    let once = rw (← c.self.view_is) at c.requires.once in
-    rw (← c.self.view_is) (inside_notes false c.self.inside c.lay_text.new.self c.self.inside.held c.self.inside.held None (scalar (plain_text c.args.value.now style)) refl (inside_lays c.self.inside c.lay_text.new.self _ c.self.invariant once (c.lay_text.ensures style false)))
+    rw (← c.self.view_is) (inside_one c.self.inside c.lay_text.new.self _ _ c.self.invariant once (c.lay_text.ensures style false))

@@ -1,8 +1,9 @@
-use Rattle.std.proofs.Common.{◌∙◌, None, sym}
+use Rattle.std.proofs.Common.{◌∙◌, sym}
 use Rattle.std.proofs.lemmas.Bool.{false≢true}
 use Rattle.yaml_emit_text.specs.Layout.{stay}
+use Rattle.yaml_emit_state.proofs.Noting.{notes_starved}
 use Rattle.yaml_emit_machine.proofs.Judging.{goes_going}
-use Rattle.yaml_emit_machine.proofs.Dumped.{inside_starves, inside_starves_notes}
+use Rattle.yaml_emit_machine.proofs.Dumped.{inside_starves}
 use Rattle.yaml_emit_machine.proofs.Forced.{forced_same}
 use Rattle.yaml_emit_machine.proofs.emitter.yaml_emitter_t.starve.Goals as goal
 
@@ -27,4 +28,4 @@ returns-clause-takes c = λ es.
     rw (← c.self.view_is) (inside_starves c.self.inside c.starve.new.self _ es fr c.starve.ensures)
 
 pub returns-clause-memory : goal.returns-clause-memory
-returns-clause-memory c = rw (← c.self.view_is) (inside_starves_notes c.self.inside c.starve.new.self None c.starve.ensures)
+returns-clause-memory c = rw (← c.self.view_is) (notes_starved c.self.inside.core c.starve.new.self c.starve.ensures)

@@ -5,7 +5,7 @@ ghost use Rattle.yaml_cli_lookup.specs.Errors.{IsErrorOf};
 use yaml_scan::{yaml_error_type_t, yaml_fault_t};
 
 /// Why a key can't be looked up.
-#[derive(Drop)]
+#[derive(Clone, Copy)]
 pub enum LookupError {
     /// The first document isn't read to its end: the fault that is met first, with its places.
     Unreadable(yaml_fault_t),

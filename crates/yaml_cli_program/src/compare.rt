@@ -5,7 +5,6 @@ use crate::fault::{FAILED, UNJUDGED, run_failed, shown, unread};
 use crate::file::{STANDARD, Streams, Unread, flushed, whole_of, write_answer};
 use crate::order::{Does, Measure, Order};
 use crate::places::{Source, push_difference};
-use std::alloc::Global;
 use std::io::{Read, Write};
 use std::rt::Files;
 use yaml_round_device::yaml_run_fault_t;
@@ -55,24 +54,8 @@ fn fault_of(why: &Unread) -> yaml_run_fault_t {
     }
 }
 
-// Tells why a file of two wasn't read; answers the status.
-fn unread_side<E: Write>(
-    alloc: Global,
-    errors: &mut E,
-    shows: bool,
-    name: &str,
-    side: Side,
-    why: &Unread,
-) -> u8 {
-    if shows {
-        unread(errors, false, name, why)
-    } else {
-        run_failed(alloc, errors, input_name(side), &fault_of(why))
-    }
-}
-
 // Reads a file of two. Where it couldn't be read that is told, and its status is the answer.
-fn read_side<H: Files + AllocGlobal, R: Read, W, E: Write>(
+fn read_side<H: Files, R: Read, W, E: Write>(
     rt: &H,
     shows: bool,
     name: &str,
@@ -81,36 +64,45 @@ fn read_side<H: Files + AllocGlobal, R: Read, W, E: Write>(
 ) -> Result<Vec<u8>, u8> {
     match whole_of(rt, name, streams) {
         Ok(bytes) => Ok(bytes),
-        Err(why) => Err(unread_side(rt.alloc(), &mut streams.errors, shows, name, side, &why)),
+        Err(why) if shows => Err(unread(&mut streams.errors, false, name, &why)),
+        Err(why) => {
+            let fault = fault_of(&why);
+            Err(run_failed(streams.alloc, &mut streams.errors, input_name(side), &fault))
+        }
     }
 }
 
 // Tells whether they have the same content; answers the status.
 fn tell_same<G: Engine, R, W: Write, E: Write>(
     engine: &G,
-    alloc: Global,
     by: Measure,
     first: &[u8],
     second: &[u8],
     streams: &mut Streams<R, W, E>,
 ) -> u8 {
-    match engine.same(alloc, by.from, first, second) {
+    match engine.same(streams.alloc, by.from, first, second) {
         Ok(same) => {
             let answer: &[u8] = if same { b"equal\n" } else { b"different\n" };
-            write_answer(alloc, answer, &mut streams.output, &mut streams.errors)
+            write_answer(
+                streams.alloc,
+                answer,
+                &mut streams.output,
+                &mut streams.errors,
+            )
         }
-        Err((side, fault)) => run_failed(alloc, &mut streams.errors, input_name(side), &fault),
+        Err((side, fault)) => {
+            run_failed(streams.alloc, &mut streams.errors, input_name(side), &fault)
+        }
     }
 }
 
 fn tell_difference<R, W: Write, E: Write>(
-    alloc: Global,
     difference: &Difference,
     first: Source<'_>,
     second: Source<'_>,
     streams: &mut Streams<R, W, E>,
 ) -> u8 {
-    let mut text = String::new(alloc);
+    let mut text = String::new(streams.alloc);
     match push_difference(&mut text, difference, first, second) {
         Ok(()) => {
             let written = streams.output.write_all(text.as_bytes());
@@ -123,21 +115,20 @@ fn tell_difference<R, W: Write, E: Write>(
 // Tells where they part; answers the status, as diff's: 0 where they don't, 1 where they do, 2 where they couldn't be compared.
 fn tell_diff<G: Engine, R, W: Write, E: Write>(
     engine: &G,
-    alloc: Global,
     by: Measure,
     first: Source<'_>,
     second: Source<'_>,
     streams: &mut Streams<R, W, E>,
 ) -> u8 {
-    match engine.diff(alloc, by, first.input, second.input) {
+    match engine.diff(streams.alloc, by, first.input, second.input) {
         Ok(None) => 0,
-        Ok(Some(difference)) => tell_difference(alloc, &difference, first, second, streams),
+        Ok(Some(difference)) => tell_difference(&difference, first, second, streams),
         Err((side, fault)) => {
             let source = match side {
                 Side::First => first,
                 Side::Second => second,
             };
-            let _ = shown(alloc, &mut streams.errors, false, source, &fault);
+            let _ = shown(streams.alloc, &mut streams.errors, false, source, &fault);
             UNJUDGED
         }
     }
@@ -145,7 +136,6 @@ fn tell_diff<G: Engine, R, W: Write, E: Write>(
 
 fn compare_texts<G: Engine, R, W: Write, E: Write>(
     engine: &G,
-    alloc: Global,
     pair: &Pair<'_>,
     first: &[u8],
     second: &[u8],
@@ -153,7 +143,7 @@ fn compare_texts<G: Engine, R, W: Write, E: Write>(
 ) -> u8 {
     let by = pair.by;
     if !pair.shows {
-        return tell_same(engine, alloc, by, first, second, streams);
+        return tell_same(engine, by, first, second, streams);
     }
     let from = by.from;
     let first = Source {
@@ -166,11 +156,11 @@ fn compare_texts<G: Engine, R, W: Write, E: Write>(
         input: second,
         from,
     };
-    tell_diff(engine, alloc, by, first, second, streams)
+    tell_diff(engine, by, first, second, streams)
 }
 
 // Compares what was read of the first file with the second one.
-fn compare_with<G: Engine, H: Files + AllocGlobal, R: Read, W: Write, E: Write>(
+fn compare_with<G: Engine, H: Files, R: Read, W: Write, E: Write>(
     engine: &G,
     rt: &H,
     pair: &Pair<'_>,
@@ -178,16 +168,16 @@ fn compare_with<G: Engine, H: Files + AllocGlobal, R: Read, W: Write, E: Write>(
     streams: &mut Streams<R, W, E>,
 ) -> u8 {
     if pair.is_itself {
-        return compare_texts(engine, rt.alloc(), pair, first, first, streams);
+        return compare_texts(engine, pair, first, first, streams);
     }
     match read_side(rt, pair.shows, pair.second, Side::Second, streams) {
-        Ok(second) => compare_texts(engine, rt.alloc(), pair, first, second.as_slice(), streams),
+        Ok(second) => compare_texts(engine, pair, first, second.as_slice(), streams),
         Err(status) => status,
     }
 }
 
 /// Compares two files; answers the status.
-pub(crate) fn compare<G: Engine, H: Files + AllocGlobal, R: Read, W: Write, E: Write>(
+pub(crate) fn compare<G: Engine, H: Files, R: Read, W: Write, E: Write>(
     engine: &G,
     rt: &H,
     order: &Order<'_, '_>,

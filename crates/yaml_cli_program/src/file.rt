@@ -22,6 +22,8 @@ const TRIES: u32 = 1000;
 /// What the program reads and writes beside files.
 #[derive(Drop)]
 pub(crate) struct Streams<R, W, E> {
+    /// Where memory comes from.
+    pub(crate) alloc: Global,
     pub(crate) input: R,
     pub(crate) output: W,
     pub(crate) errors: E,
@@ -34,6 +36,7 @@ pub(crate) struct Streams<R, W, E> {
 impl<R, W, E> Streams<R, W, E> {
     pub(crate) fn new(alloc: Global, input: R, output: W, errors: E) -> Self {
         Streams {
+            alloc,
             input,
             output,
             errors,
@@ -95,52 +98,40 @@ fn make_room(piece: &mut Vec<u8>, count: usize) -> Result<(), AllocError> {
 
 // Reads a file to its end.
 fn read_whole<R: Read>(
+    alloc: Global,
     file: &mut R,
     piece: &mut Vec<u8>,
-    bytes: &mut Vec<u8>,
-) -> Result<(), Unread> {
+) -> Result<Vec<u8>, Unread> {
+    let mut bytes = Vec::new(alloc);
     for _ in 0..INPUT_LIMIT + 1 {
         if make_room(piece, bytes.len()).is_err() {
             return Err(Unread::Short);
         }
-        match read_piece(file, piece.as_mut_slice(), bytes) {
+        match read_piece(file, piece.as_mut_slice(), &mut bytes) {
             Ok(true) => {
                 if bytes.len() as u64 > INPUT_LIMIT {
                     return Err(Unread::TooLong);
                 }
             }
-            Ok(false) => return Ok(()),
+            Ok(false) => return Ok(bytes),
             Err(why) => return Err(why),
         }
     }
     Err(Unread::TooLong)
 }
 
-fn read_path<H: Files, R: Read, W, E>(
-    rt: &H,
-    path: &str,
-    streams: &mut Streams<R, W, E>,
-    bytes: &mut Vec<u8>,
-) -> Result<(), Unread> {
-    if path == STANDARD {
-        return read_whole(&mut streams.input, &mut streams.piece, bytes);
-    }
-    match fs::open(rt, path) {
-        Ok(mut file) => read_whole(&mut file, &mut streams.piece, bytes),
-        Err(error) => Err(Unread::Failed(error)),
-    }
-}
-
 /// The bytes of a file, or of standard input, or why they weren't read.
-pub(crate) fn whole_of<H: Files + AllocGlobal, R: Read, W, E>(
+pub(crate) fn whole_of<H: Files, R: Read, W, E>(
     rt: &H,
     path: &str,
     streams: &mut Streams<R, W, E>,
 ) -> Result<Vec<u8>, Unread> {
-    let mut bytes = Vec::new(rt.alloc());
-    match read_path(rt, path, streams, &mut bytes) {
-        Ok(()) => Ok(bytes),
-        Err(why) => Err(why),
+    if path == STANDARD {
+        return read_whole(streams.alloc, &mut streams.input, &mut streams.piece);
+    }
+    match fs::open(rt, path) {
+        Ok(mut file) => read_whole(streams.alloc, &mut file, &mut streams.piece),
+        Err(error) => Err(Unread::Failed(error)),
     }
 }
 

@@ -6,7 +6,6 @@ use crate::fault::{FAILED, shown, unread};
 use crate::file::{STANDARD, Streams, Unread, flushed, whole_of};
 use crate::order::{Judging, Order};
 use crate::places::Source;
-use std::alloc::Global;
 use std::io::{Read, Write};
 use std::rt::Files;
 
@@ -25,39 +24,49 @@ fn name_file<R, W: Write, E: Write>(name: &str, streams: &mut Streams<R, W, E>) 
 // Writes the normal form.
 fn write_normal<G: Engine, R, W: Write, E: Write>(
     engine: &G,
-    alloc: Global,
     judging: &Judging,
     source: Source<'_>,
     streams: &mut Streams<R, W, E>,
 ) -> u8 {
-    match engine.normalize(alloc, &judging.manner, source.input) {
+    match engine.normalize(streams.alloc, &judging.manner, source.input) {
         Ok(text) => {
             let written = streams.output.write_all(text.as_slice());
             flushed(written, streams)
         }
-        Err(fault) => shown(alloc, &mut streams.errors, judging.quiet, source, &fault),
+        Err(fault) => shown(
+            streams.alloc,
+            &mut streams.errors,
+            judging.quiet,
+            source,
+            &fault,
+        ),
     }
 }
 
 fn judge_text<G: Engine, R, W: Write, E: Write>(
     engine: &G,
-    alloc: Global,
     order: &Order<'_, '_>,
     source: Source<'_>,
     streams: &mut Streams<R, W, E>,
 ) -> u8 {
     let judging = &order.judging;
     if !order.judges {
-        return write_normal(engine, alloc, judging, source, streams);
+        return write_normal(engine, judging, source, streams);
     }
-    match engine.judge(alloc, judging, source.input) {
+    match engine.judge(streams.alloc, judging, source.input) {
         Ok(true) => 0,
         Ok(false) => name_file(source.name, streams),
-        Err(fault) => shown(alloc, &mut streams.errors, judging.quiet, source, &fault),
+        Err(fault) => shown(
+            streams.alloc,
+            &mut streams.errors,
+            judging.quiet,
+            source,
+            &fault,
+        ),
     }
 }
 
-fn judge_file<G: Engine, H: Files + AllocGlobal, R: Read, W: Write, E: Write>(
+fn judge_file<G: Engine, H: Files, R: Read, W: Write, E: Write>(
     engine: &G,
     rt: &H,
     order: &Order<'_, '_>,
@@ -68,19 +77,13 @@ fn judge_file<G: Engine, H: Files + AllocGlobal, R: Read, W: Write, E: Write>(
         Ok(input) => {
             let input = input.as_slice();
             let from = order.judging.manner.from;
-            judge_text(
-                engine,
-                rt.alloc(),
-                order,
-                Source { name, input, from },
-                streams,
-            )
+            judge_text(engine, order, Source { name, input, from }, streams)
         }
         Err(why) => unread(&mut streams.errors, order.judging.quiet, name, &why),
     }
 }
 
-fn judge_files<G: Engine, H: Files + AllocGlobal, R: Read, W: Write, E: Write>(
+fn judge_files<G: Engine, H: Files, R: Read, W: Write, E: Write>(
     engine: &G,
     rt: &H,
     order: &Order<'_, '_>,
@@ -99,7 +102,7 @@ fn judge_files<G: Engine, H: Files + AllocGlobal, R: Read, W: Write, E: Write>(
 }
 
 // The same of files that a list names, each name ended by a zero byte; answers the status.
-fn judge_names<G: Engine, H: Files + AllocGlobal, R: Read, W: Write, E: Write>(
+fn judge_names<G: Engine, H: Files, R: Read, W: Write, E: Write>(
     engine: &G,
     rt: &H,
     order: &Order<'_, '_>,
@@ -128,26 +131,27 @@ fn names_of(text: &[u8]) -> Result<&str, &'static str> {
     }
 }
 
-fn judge_listed<G: Engine, H: Files + AllocGlobal, R: Read, W: Write, E: Write>(
+fn judge_listed<G: Engine, H: Files, R: Read, W: Write, E: Write>(
     engine: &G,
     rt: &H,
     order: &Order<'_, '_>,
     list: &str,
     streams: &mut Streams<R, W, E>,
 ) -> u8 {
-    let why = match whole_of(rt, list, streams) {
+    let quiet = order.judging.quiet;
+    match whole_of(rt, list, streams) {
         Ok(text) => match names_of(text.as_slice()) {
-            Ok(names) => return judge_names(engine, rt, order, names, streams),
-            Err(what) => Unread::Unlisted(what),
+            Ok(names) => judge_names(engine, rt, order, names, streams),
+            Err(what) => unread(&mut streams.errors, quiet, list, &Unread::Unlisted(what)),
         },
-        Err(why) => why,
-    };
-    unread(&mut streams.errors, order.judging.quiet, list, &why)
+        Err(why) => unread(&mut streams.errors, quiet, list, &why),
+    }
 }
 
 /// Judges the files and those that a list names, or standard input where there are neither. The status is the worst one: 0 where
-/// each is as it was asked for, 1 where one isn't or is refused, 2 where one couldn't be judged.
-pub(crate) fn judge_all<G: Engine, H: Files + AllocGlobal, R: Read, W: Write, E: Write>(
+/// each is as it was asked for, 1 where one isn't or is refused, 2 where one couldn't be judged; 1 in place of that where the normal
+/// form is written.
+pub(crate) fn judge_all<G: Engine, H: Files, R: Read, W: Write, E: Write>(
     engine: &G,
     rt: &H,
     order: &Order<'_, '_>,
@@ -164,6 +168,7 @@ pub(crate) fn judge_all<G: Engine, H: Files + AllocGlobal, R: Read, W: Write, E:
         Some(list) if !streams.stopped => {
             judge_listed(engine, rt, order, list, streams).max(status)
         }
-        _ => status,
+        _ if order.judges => status,
+        _ => status.min(FAILED),
     }
 }

@@ -112,20 +112,25 @@ const INPUT_ENCODINGS: [(&'static str, yaml_encoding_t); 4] = [
     ("utf16be", yaml_encoding_t::YAML_UTF16BE_ENCODING),
 ];
 
-// What the rows have for the word of an option; the usual one where the command doesn't have it.
+// What the rows have for the word of an option; the usual one where the command doesn't have it, or they don't have the word. Of
+// words that they don't have the first is kept.
 fn option_in<'a, T: Copy>(
     told: &ArgMatches<'a>,
     option: &str,
     what: &'static str,
     rows: &[(&'static str, T)],
     usual: T,
-) -> Result<T, Wrong<'a>> {
+    wrong: &mut Option<Wrong<'a>>,
+) -> T {
     let Some(word) = told.get_str(option) else {
-        return Ok(usual);
+        return usual;
     };
     match row_of(rows, word) {
-        Some(value) => Ok(value),
-        None => Err(Wrong::Unknown { what, word }),
+        Some(value) => value,
+        None => {
+            *wrong = wrong.or(Some(Wrong::Unknown { what, word }));
+            usual
+        }
     }
 }
 
@@ -143,18 +148,25 @@ fn numbers_in(told: &ArgMatches<'_>) -> yaml_settings_t {
 }
 
 // The break is judged first, then the encoding, then how the input is encoded.
-fn manner_in<'a>(told: &ArgMatches<'a>) -> Result<Manner, Wrong<'a>> {
+fn manner_in<'a>(told: &ArgMatches<'a>, wrong: &mut Option<Wrong<'a>>) -> Manner {
     let usual = numbers_in(told);
-    let line_break = option_in(told, "break", "break", &BREAKS, usual.line_break)?;
-    let encoding = option_in(told, "encoding", "encoding", &ENCODINGS, usual.encoding)?;
+    let line_break = option_in(told, "break", "break", &BREAKS, usual.line_break, wrong);
+    let encoding = option_in(
+        told,
+        "encoding",
+        "encoding",
+        &ENCODINGS,
+        usual.encoding,
+        wrong,
+    );
     let any = yaml_encoding_t::YAML_ANY_ENCODING;
-    let from = option_in(told, "from", "input encoding", &INPUT_ENCODINGS, any)?;
+    let from = option_in(told, "from", "input encoding", &INPUT_ENCODINGS, any, wrong);
     let settings = yaml_settings_t {
         encoding,
         line_break,
         ..usual
     };
-    Ok(Manner { from, settings })
+    Manner { from, settings }
 }
 
 const COMMANDS: [(&'static str, Does); 7] = [
@@ -180,33 +192,35 @@ fn question_of(does: Does) -> Question {
     }
 }
 
-/// What the words of a command say. One that rewrites takes one file, which is judged in front of its other words, and told as
-/// clap does of a command that takes one.
+/// What the words of a command say; nothing where `wrong` tells that they are wrong. One that rewrites takes one file, which is
+/// judged in front of its other words, and told as clap does of a command that takes one.
 pub(crate) fn order_in<'o, 'a>(
     name: &'a str,
     told: &'o ArgMatches<'a>,
-) -> Result<Order<'o, 'a>, Wrong<'a>> {
+    wrong: &mut Option<Wrong<'a>>,
+) -> Order<'o, 'a> {
     let does = does_of(name).unwrap_or(Does::Check);
     let judges = matches!(does, Does::Check) || told.get_flag("check");
     let files = told.get_strs("files").unwrap_or(&[]);
-    if let Some(word) = files.get(1) {
-        if !judges {
-            return Err(Wrong::Extra {
+    match files.get(1) {
+        Some(word) if !judges => {
+            *wrong = Some(Wrong::Extra {
                 command: name,
                 word,
             });
         }
+        _ => {}
     }
     let judging = Judging {
         question: question_of(does),
-        manner: manner_in(told)?,
+        manner: manner_in(told, wrong),
         quiet: told.get_flag("quiet"),
     };
-    Ok(Order {
+    Order {
         does,
         told,
         files,
         judges,
         judging,
-    })
+    }
 }

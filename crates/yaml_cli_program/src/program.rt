@@ -41,7 +41,7 @@ fn run_over_file<G: Engine, F: Read + OpenFile, W: Write>(
 }
 
 // Runs a command over a file, or over standard input.
-fn run_path<G: Engine, H: Files + AllocGlobal, R: Read, W: Write, E>(
+fn run_path<G: Engine, H: Files, R: Read, W: Write, E>(
     engine: &G,
     rt: &H,
     task: &Task,
@@ -49,10 +49,10 @@ fn run_path<G: Engine, H: Files + AllocGlobal, R: Read, W: Write, E>(
     streams: &mut Streams<R, W, E>,
 ) -> Ended {
     if path == STANDARD {
-        return engine.run(rt.alloc(), task, &mut streams.input, &mut streams.output);
+        return engine.run(streams.alloc, task, &mut streams.input, &mut streams.output);
     }
     match fs::open(rt, path) {
-        Ok(mut file) => run_over_file(engine, rt.alloc(), task, &mut file, &mut streams.output),
+        Ok(mut file) => run_over_file(engine, streams.alloc, task, &mut file, &mut streams.output),
         Err(_) => Err(yaml_run_fault_t::Read),
     }
 }
@@ -71,7 +71,7 @@ fn ended<E: Write>(alloc: Global, task: &Task, ended: Ended, errors: &mut E) -> 
 }
 
 // Runs a command on its file, or on standard input.
-fn run_file<G: Engine, H: Files + AllocGlobal, R: Read, W: Write, E: Write>(
+fn run_file<G: Engine, H: Files, R: Read, W: Write, E: Write>(
     engine: &G,
     rt: &H,
     command: yaml_command_t,
@@ -84,11 +84,11 @@ fn run_file<G: Engine, H: Files + AllocGlobal, R: Read, W: Write, E: Write>(
     };
     let path = order.files.first().copied().unwrap_or(STANDARD);
     let answer = run_path(engine, rt, &task, path, streams);
-    ended(rt.alloc(), &task, answer, &mut streams.errors)
+    ended(streams.alloc, &task, answer, &mut streams.errors)
 }
 
 // Does what is found among the words. Answers the status.
-fn follow<G: Engine, H: Files + AllocGlobal, R: Read, W: Write, E: Write>(
+fn follow<G: Engine, H: Files, R: Read, W: Write, E: Write>(
     engine: &G,
     rt: &H,
     matches: &ArgMatches<'_>,
@@ -97,14 +97,14 @@ fn follow<G: Engine, H: Files + AllocGlobal, R: Read, W: Write, E: Write>(
     let Some((name, told)) = matches.subcommand() else {
         return FAILED;
     };
-    let order = match order_in(name, told) {
-        Ok(order) => order,
-        Err(wrong) => return told_wrong(&mut streams.errors, &wrong),
-    };
+    let mut wrong = None;
+    let order = order_in(name, told, &mut wrong);
+    if let Some(wrong) = wrong {
+        return told_wrong(&mut streams.errors, &wrong);
+    }
     match order.does {
         Does::Run(command) if !order.judges => run_file(engine, rt, command, &order, streams),
         Does::Same | Does::Diff => compare(engine, rt, &order, streams),
-        Does::Norm if !order.judges => judge_all(engine, rt, &order, streams).min(FAILED),
         _ => judge_all(engine, rt, &order, streams),
     }
 }

@@ -62,7 +62,7 @@ Examples:
 
 Status:
   0  All is well
-  1  An input is refused, or isn't as it was asked for, or reading or writing fails
+  1  An input is refused, isn't as it was asked for, or differs (diff), or reading or writing fails
   2  The words are wrong, or check, --check or diff can't read a file, or diff refuses one";
 
 /// The commands, in the order in which help lists them.

@@ -25,7 +25,10 @@ const CHECKS: [(&'static str, Check); 3] = [
 pub fn answer(reply: &mut Reply, line: &Value) {
     reply.field("answer", Part::Object);
     match reply.choice(line, "/of", &CHECKS, Check::OutputStops) {
-        Check::OutputStops => output::an_output_stops(reply),
+        Check::OutputStops => {
+            output::put_stop(reply, "full", b"abc", false);
+            output::put_stop(reply, "deep", b"a", true);
+        }
         Check::Constructors => made::refuses_texts(reply, line),
         Check::Documents => made::documents(reply, line),
     }

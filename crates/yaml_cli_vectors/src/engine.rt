@@ -30,7 +30,7 @@ pub enum Asked {
 pub fn field_line(reply: &mut Reply, name: &str, fault: &yaml_fault_t) {
     match yaml_fault_line(reply.alloc, fault) {
         Ok(text) => reply.field_bytes(name, text.as_slice()),
-        Err(fault) => reply.fault(fault),
+        Err(fault) => reply.refused(fault),
     }
 }
 
@@ -39,7 +39,7 @@ pub fn ask(reply: &mut Reply, line: &Value, asked: Asked, input: &Input<'_>) {
     match asked {
         Asked::Decode => match yaml_decode(reply.alloc, input.text, input.from) {
             Ok(text) => put_text(reply, line, text.as_slice()),
-            Err(fault) => reply.fault(fault),
+            Err(fault) => reply.refused(fault),
         },
         Asked::Events => {
             let events = yaml_events(reply.alloc, input.text, input.from);
@@ -47,7 +47,7 @@ pub fn ask(reply: &mut Reply, line: &Value, asked: Asked, input: &Input<'_>) {
         }
         Asked::Loads => match yaml_check(reply.alloc, input.text, input.from) {
             Ok(()) => reply.field("answer", Part::Flag(true)),
-            Err(fault) => reply.fault(fault),
+            Err(fault) => reply.refused(fault),
         },
         Asked::FaultLine => {
             let usual = yaml_settings_t::new();
@@ -77,7 +77,7 @@ pub fn make(reply: &mut Reply, line: &Value, wanted: Made, input: &Input<'_>) {
         Made::Reformatted => {
             match yaml_reformat(reply.alloc, input.text, input.from, &settings) {
                 Ok((text, form)) => put_answer(reply, line, text.as_slice(), Some(form)),
-                Err(fault) => reply.fault(fault),
+                Err(fault) => reply.refused(fault),
             }
         }
         Made::Normalized => {
@@ -98,15 +98,7 @@ fn put_side(reply: &mut Reply, side: yaml_side_t, fault: &yaml_fault_t) {
         yaml_side_t::Second => "Second",
     };
     reply.field_word("side", word);
-    reply.behind = Some(*fault);
-}
-
-// Puts whether two inputs are the same, or which of them is refused.
-fn put_same(reply: &mut Reply, same: Result<bool, (yaml_side_t, yaml_fault_t)>) {
-    match same {
-        Ok(same) => reply.field("answer", Part::Flag(same)),
-        Err((side, fault)) => put_side(reply, side, &fault),
-    }
+    reply.fault = Some(*fault);
 }
 
 type Parted = Result<Option<yaml_difference_t>, (yaml_side_t, yaml_fault_t)>;
@@ -137,10 +129,10 @@ pub fn compare(reply: &mut Reply, line: &Value, compared: Compared, input: &Inpu
     let text = reply.input(line, "/input2");
     let second = text.as_slice();
     match compared {
-        Compared::Same => {
-            let same = yaml_same(reply.alloc, input.text, input.from, second, from2);
-            put_same(reply, same);
-        }
+        Compared::Same => match yaml_same(reply.alloc, input.text, input.from, second, from2) {
+            Ok(same) => reply.field("answer", Part::Flag(same)),
+            Err((side, fault)) => put_side(reply, side, &fault),
+        },
         Compared::Diff => {
             let parted = yaml_diff(reply.alloc, input.text, input.from, second, from2);
             put_parted(reply, parted);

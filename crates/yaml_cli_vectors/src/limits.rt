@@ -17,7 +17,7 @@ fn is_refused(reply: &mut Reply, of: &str, input: &Input<'_>, settings: &yaml_se
             let is_past = fault.kind == yaml_error_type_t::YAML_WRITER_ERROR
                 && fault.problem == "write error";
             if !is_past {
-                reply.fault(fault);
+                reply.refused(fault);
             }
             is_past
         }

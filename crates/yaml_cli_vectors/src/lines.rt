@@ -20,7 +20,7 @@ pub use event::show_event;
 pub use given::event_of;
 pub use made::document_of;
 pub use parts::Part;
-pub use reply::{MEMORY, NO_FIELD, Reply};
+pub use reply::{MEMORY, Reply};
 pub use scripted::{ScriptedReader, ScriptedWriter};
 pub use setting::{Settings, settings_of};
 pub use shown::own_fault;

@@ -10,7 +10,7 @@ pub fn answer(reply: &mut Reply, line: &Value, input: &Input<'_>) {
     let key = reply.bytes(line, "/key");
     match lookup(reply.alloc, input.text, input.from, key.as_slice()) {
         Ok(value) => reply.field_optional("answer", value.as_deref()),
-        Err(LookupError::Unreadable(fault)) => reply.fault(fault),
+        Err(LookupError::Unreadable(fault)) => reply.refused(fault),
         Err(LookupError::NotAMapping) => reply.field_word("refused", "NotAMapping"),
         Err(_) => reply.memory(),
     }

@@ -2,11 +2,10 @@
 
 use crate::call::answer;
 use crate::engine::field_line;
-use crate::lines::{MEMORY, NO_FIELD, Reply, first_wrong};
+use crate::lines::{MEMORY, Reply, first_wrong};
 use crate::tally::Tally;
 use serde_json::{Error, Value};
 use std::str;
-use yaml_scan::yaml_fault_t;
 
 // Why a text isn't JSON.
 fn json_error(error: &Error) -> &'static str {
@@ -18,53 +17,45 @@ fn json_error(error: &Error) -> &'static str {
 }
 
 // Counts the line by what its call answered, an object of JSON. Of a field that is another all that was answered is told; what
-// the line wants stands in the line.
-fn judge_text(rt: &HostRuntime, tally: &mut Tally, line: &Value, call: &str, text: &[u8]) {
+// the line calls and wants stands in the line.
+fn judge_text(rt: &HostRuntime, tally: &mut Tally, line: &Value, text: &[u8]) {
     match Value::from_slice(rt.alloc(), text) {
         Ok(got) => match first_wrong(line, &got) {
             None => tally.passed = tally.passed.wrapping_add(1),
-            Some(wrong) => tally.tell(rt, call, wrong, str::from_utf8(text).unwrap_or("")),
+            Some(wrong) => tally.tell(rt, wrong, str::from_utf8(text).unwrap_or("")),
         },
-        Err(error) => tally.tell(rt, "", json_error(&error), ""),
+        Err(error) => tally.tell(rt, json_error(&error), ""),
     }
 }
 
-// The fault, and the line that tells it where the vector wants that.
-fn put_refusal(reply: &mut Reply, line: &Value, fault: &yaml_fault_t) {
-    *reply = Reply::new(reply.alloc);
-    reply.name_fault(line, fault);
-    if line.get("fault_line").is_some() {
-        field_line(reply, "fault_line", fault);
-    }
-}
-
-// What the call answers on the line, its refusal too.
+// What the call answers on the line, and behind that its fault, or that alone where it refuses; and the line that tells the fault
+// where the vector wants that.
 fn put_answer(rt: &HostRuntime, reply: &mut Reply, line: &Value) {
     answer(rt, reply, line);
-    if let Some(fault) = reply.behind {
+    if let Some(fault) = reply.fault {
+        if reply.is_refused {
+            *reply = Reply::new(reply.alloc);
+        }
         reply.name_fault(line, &fault);
-    }
-    if let Some(fault) = reply.refused {
-        put_refusal(reply, line, &fault);
+        if line.get("fault_line").is_some() {
+            field_line(reply, "fault_line", &fault);
+        }
     }
 }
 
-fn replay_call(rt: &HostRuntime, tally: &mut Tally, line: &Value, call: &str) {
+fn replay_call(rt: &HostRuntime, tally: &mut Tally, line: &Value) {
     let mut reply = Reply::new(rt.alloc());
     put_answer(rt, &mut reply, line);
     match reply.finish() {
-        Ok(text) => judge_text(rt, tally, line, call, text.as_slice()),
-        Err((what, of)) => tally.tell(rt, "", what, of),
+        Ok(text) => judge_text(rt, tally, line, text.as_slice()),
+        Err((what, of)) => tally.tell(rt, what, of),
     }
 }
 
 /// Makes the call that the line names, and compares.
 pub fn replay(rt: &HostRuntime, tally: &mut Tally, line: &str) {
     match Value::from_str(rt.alloc(), line) {
-        Ok(line) => match line.get("call") {
-            Some(Value::String(call)) => replay_call(rt, tally, &line, call.as_str()),
-            _ => tally.tell(rt, "", NO_FIELD, "call"),
-        },
-        Err(error) => tally.tell(rt, "", json_error(&error), ""),
+        Ok(line) => replay_call(rt, tally, &line),
+        Err(error) => tally.tell(rt, json_error(&error), ""),
     }
 }

@@ -24,8 +24,6 @@ pub fn refusal_word(fault: &yaml_run_fault_t) -> &'static str {
     }
 }
 
-type Ended = Result<Option<yaml_form_t>, yaml_run_fault_t>;
-
 // The text that the command makes of the input, behind which stands its form.
 fn run_over(
     text: &mut Vec<u8>,
@@ -33,7 +31,7 @@ fn run_over(
     line: &Value,
     command: yaml_command_t,
     input: &Input<'_>,
-) -> Ended {
+) -> Result<Option<yaml_form_t>, yaml_run_fault_t> {
     let limit = reply.count(line, "/input_limit");
     let settings = settings(reply, line);
     yaml_run(
@@ -47,19 +45,14 @@ fn run_over(
     )
 }
 
-fn put_ended(reply: &mut Reply, line: &Value, text: &[u8], ended: &Ended) {
-    match ended {
-        Ok(form) => put_answer(reply, line, text, *form),
-        Err(yaml_run_fault_t::Yaml(fault)) => reply.fault(*fault),
-        Err(fault) => reply.field_word("refused", refusal_word(fault)),
-    }
-}
-
 /// The text that the line's command makes of its input, and the form that it has; `TooLong` where the input has more bytes
 /// than `input_limit`.
 pub fn run(reply: &mut Reply, line: &Value, input: &Input<'_>) {
     let command = reply.choice(line, "/command", &COMMANDS, yaml_command_t::Fmt);
     let mut text = Vec::new(reply.alloc);
-    let ended = run_over(&mut text, reply, line, command, input);
-    put_ended(reply, line, text.as_slice(), &ended);
+    match run_over(&mut text, reply, line, command, input) {
+        Ok(form) => put_answer(reply, line, text.as_slice(), form),
+        Err(yaml_run_fault_t::Yaml(fault)) => reply.refused(fault),
+        Err(fault) => reply.field_word("refused", refusal_word(&fault)),
+    }
 }

@@ -27,6 +27,6 @@ pub fn put_answer(reply: &mut Reply, line: &Value, text: &[u8], form: Option<yam
 pub fn put_made(reply: &mut Reply, line: &Value, made: Result<Vec<u8>, yaml_fault_t>) {
     match made {
         Ok(text) => put_text(reply, line, text.as_slice()),
-        Err(fault) => reply.fault(fault),
+        Err(fault) => reply.refused(fault),
     }
 }

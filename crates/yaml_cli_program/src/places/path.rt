@@ -23,12 +23,15 @@ pub enum Step<'k> {
 
 /// Adds a step.
 pub fn push_step(path: &mut String, step: Step<'_>) -> Result<(), AllocError> {
-    match step {
-        Step::Item(number) => write!(path, "[{number}]"),
-        Step::Key(pair) => write!(path, ".<key {pair}>"),
-        Step::Value(pair) => write!(path, ".<value {pair}>"),
-        Step::Named(key) => push_named(path, Chars::of(key, yaml_encoding_t::YAML_UTF8_ENCODING)),
-    }
+    let (open, number, close) = match step {
+        Step::Item(number) => ("[", number, "]"),
+        Step::Key(pair) => (".<key ", pair, ">"),
+        Step::Value(pair) => (".<value ", pair, ">"),
+        Step::Named(key) => {
+            return push_named(path, Chars::of(key, yaml_encoding_t::YAML_UTF8_ENCODING));
+        }
+    };
+    write!(path, "{open}{number}{close}")
 }
 
 // A key that is no more than a word is shown as it is.

@@ -155,10 +155,6 @@ fn event_words(kind: yaml_event_type_t) -> &'static str {
     }
 }
 
-fn push_met(text: &mut String, source: Source<'_>, met: Met) -> Result<(), AllocError> {
-    push_label(text, source, met.mark, event_words(met.kind))
-}
-
 /// Adds the lines that tell where two texts part: the path, and both places as those of a fault are shown, with what stands there.
 pub fn push_difference(
     text: &mut String,
@@ -170,6 +166,9 @@ pub fn push_difference(
         return Err(AllocError);
     };
     let path = writeln!(text, "{path}");
-    let met = push_met(text, first, difference.first);
-    path.and(met).and(push_met(text, second, difference.second))
+    let Met { mark, kind } = difference.first;
+    let met = push_label(text, first, mark, event_words(kind));
+    let Met { mark, kind } = difference.second;
+    path.and(met)
+        .and(push_label(text, second, mark, event_words(kind)))
 }

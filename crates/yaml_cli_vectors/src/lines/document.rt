@@ -1,7 +1,7 @@
 //! Documents, as the lines write them.
 
 use crate::lines::event::{put_numbers, show_directives, show_version};
-use crate::lines::words::{MAPPINGS, NODES, SCALARS, SEQUENCES, word_of};
+use crate::lines::words::{MAPPINGS, NODES, SCALARS, SEQUENCES};
 use crate::lines::{Part, Reply};
 use yaml_parse::{yaml_document_get_node, yaml_document_t, yaml_node_body_t, yaml_node_t};
 
@@ -11,7 +11,7 @@ fn put_held(reply: &mut Reply, node: &yaml_node_t) {
         yaml_node_body_t::No => reply.put(Part::Null),
         yaml_node_body_t::Scalar { value, style, .. } => {
             reply.put_bytes(value.as_slice());
-            reply.put_word(word_of(&SCALARS, *style))
+            reply.put_choice(&SCALARS, *style)
         }
         yaml_node_body_t::Sequence { items, style, .. } => {
             reply.put(Part::List);
@@ -19,7 +19,7 @@ fn put_held(reply: &mut Reply, node: &yaml_node_t) {
                 reply.put(Part::Number(*item));
             }
             reply.put(Part::EndList);
-            reply.put_word(word_of(&SEQUENCES, *style))
+            reply.put_choice(&SEQUENCES, *style)
         }
         yaml_node_body_t::Mapping { pairs, style, .. } => {
             reply.put(Part::List);
@@ -27,7 +27,7 @@ fn put_held(reply: &mut Reply, node: &yaml_node_t) {
                 put_numbers(reply, pair.key, pair.value);
             }
             reply.put(Part::EndList);
-            reply.put_word(word_of(&MAPPINGS, *style))
+            reply.put_choice(&MAPPINGS, *style)
         }
     }
 }
@@ -35,7 +35,7 @@ fn put_held(reply: &mut Reply, node: &yaml_node_t) {
 // A node: kind, tag, value or items or pairs, style, start mark, end mark.
 fn put_node(reply: &mut Reply, node: &yaml_node_t) {
     reply.put(Part::List);
-    reply.put_word(word_of(&NODES, node.type_()));
+    reply.put_choice(&NODES, node.type_());
     reply.put_bytes(node.tag.as_slice());
     put_held(reply, node);
     reply.put(Part::Mark(node.start_mark));

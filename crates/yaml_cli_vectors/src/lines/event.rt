@@ -1,6 +1,6 @@
 //! Events, as the lines write them: the event's line, start mark, end mark, and what the event carries besides.
 
-use crate::lines::words::{ENCODINGS, MAPPINGS, SEQUENCES, word_of};
+use crate::lines::words::{ENCODINGS, MAPPINGS, SEQUENCES};
 use crate::lines::{Part, Reply};
 use yaml_parse::{yaml_event_body_t, yaml_event_t, yaml_tag_directive_t, yaml_version_directive_t};
 use yaml_round_lines::yaml_push_event_line;
@@ -46,9 +46,7 @@ pub fn show_directives(reply: &mut Reply, directives: &[yaml_tag_directive_t]) {
 // every other.
 fn put_carried(reply: &mut Reply, body: &yaml_event_body_t) {
     match body {
-        yaml_event_body_t::StreamStart { encoding } => {
-            reply.put_word(word_of(&ENCODINGS, *encoding))
-        }
+        yaml_event_body_t::StreamStart { encoding } => { reply.put_choice(&ENCODINGS, *encoding) }
         yaml_event_body_t::DocumentStart {
             version_directive,
             tag_directives,
@@ -71,7 +69,7 @@ fn put_carried(reply: &mut Reply, body: &yaml_event_body_t) {
             ..
         } => {
             reply.put(Part::Flag(*implicit));
-            reply.put_word(word_of(&SEQUENCES, *style))
+            reply.put_choice(&SEQUENCES, *style)
         },
         yaml_event_body_t::MappingStart {
             implicit,
@@ -79,7 +77,7 @@ fn put_carried(reply: &mut Reply, body: &yaml_event_body_t) {
             ..
         } => {
             reply.put(Part::Flag(*implicit));
-            reply.put_word(word_of(&MAPPINGS, *style))
+            reply.put_choice(&MAPPINGS, *style)
         },
         _ => {}
     }

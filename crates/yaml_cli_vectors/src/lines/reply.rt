@@ -12,8 +12,8 @@ pub type Wrong = (&'static str, &'static str);
 /// What is told where memory ran out.
 pub const MEMORY: &'static str = "out of memory";
 
-/// What is told of a field.
-pub const NO_FIELD: &'static str = "no such field, or not of its form: ";
+// What is told of a field.
+const NO_FIELD: &'static str = "no such field, or not of its form: ";
 
 /// Reads fields of a line one after another, and writes the answer, an object, as JSON. The first error is kept, and `finish` answers it:
 /// what is read of a field that is missing, and all that is written behind it, stand for nothing, so that the calls in between
@@ -25,10 +25,10 @@ pub struct Reply {
     /// What the answer is written by.
     pub(crate) writer: Writer,
     wrong: Option<Wrong>,
-    /// The fault of a call that refuses, where that is the first error.
-    pub refused: Option<yaml_fault_t>,
-    /// The fault that stands behind what else was answered.
-    pub behind: Option<yaml_fault_t>,
+    /// The fault that stands behind what else was answered, or of a call that refuses.
+    pub fault: Option<yaml_fault_t>,
+    /// The first error is that the call refuses.
+    pub is_refused: bool,
 }
 
 impl Reply {
@@ -38,8 +38,8 @@ impl Reply {
             alloc,
             writer: Writer::new(Vec::new(alloc)),
             wrong: None,
-            refused: None,
-            behind: None,
+            fault: None,
+            is_refused: false,
         };
         reply.put(Part::Object);
         reply
@@ -58,9 +58,10 @@ impl Reply {
     }
 
     /// The call was made, and refuses.
-    pub fn fault(&mut self, fault: yaml_fault_t) {
+    pub fn refused(&mut self, fault: yaml_fault_t) {
         if self.wrong.is_none() {
-            self.refused = Some(fault);
+            self.fault = Some(fault);
+            self.is_refused = true;
         }
         self.refuse("refused: ", fault.problem);
     }
@@ -68,7 +69,7 @@ impl Reply {
     /// A step of the call's refuses where it answers a fault.
     pub fn done(&mut self, fault: Option<yaml_fault_t>) {
         match fault {
-            Some(fault) => self.fault(fault),
+            Some(fault) => self.refused(fault),
             None => {}
         }
     }

@@ -3,7 +3,7 @@
 use crate::lines::Reply;
 use serde_json::Value;
 use std::io;
-use std::io::{ErrorKind, Read, Write};
+use std::io::{Cursor, ErrorKind, Read, Write};
 
 // What a stream does at its next calls.
 #[derive(Clone, Copy)]
@@ -18,13 +18,14 @@ enum Step {
     Failure,
 }
 
+const STEPS: [(&'static str, Step); 2] = [("zero", Step::Zero), ("failure", Step::Failure)];
+
 // A number of bytes, a word, or how often a call is interrupted.
 fn listed_step(reply: &mut Reply, listed: &Value) -> Step {
-    match (listed.as_u64(), listed.as_str()) {
-        (Some(count), _) => Step::Bytes(count as usize),
-        (_, Some("zero")) => Step::Zero,
-        (_, Some("failure")) => Step::Failure,
-        _ => Step::Interrupted(reply.count(listed, "/interrupted") as usize),
+    match listed {
+        Value::Object(_) => Step::Interrupted(reply.count(listed, "/interrupted") as usize),
+        Value::String(_) => reply.choice(listed, "", &STEPS, Step::Zero),
+        _ => Step::Bytes(reply.count(listed, "") as usize),
     }
 }
 
@@ -92,9 +93,7 @@ impl Script {
 /// Gives bytes, and is at its end after its steps.
 #[derive(Drop)]
 pub struct ScriptedReader {
-    bytes: Vec<u8>,
-    // How many were given.
-    given: usize,
+    bytes: Cursor<Vec<u8>>,
     script: Script,
     /// How many bytes it was asked for, call by call.
     pub sizes: Vec<usize>,
@@ -106,8 +105,7 @@ impl ScriptedReader {
         let bytes = reply.input(line, "/input");
         let script = Script::of(reply, line, "/reads");
         ScriptedReader {
-            bytes,
-            given: 0,
+            bytes: Cursor::new(bytes),
             script,
             sizes: Vec::new(reply.alloc),
         }
@@ -119,12 +117,8 @@ impl Read for ScriptedReader {
         self.sizes.push(buf.len())?;
         match self.script.next(Step::Zero) {
             Step::Bytes(all) => {
-                let left = all.saturating_sub(self.script.done);
-                let rest = self.bytes.get(self.given..).unwrap_or(b"");
-                let piece = rest.get(..left).unwrap_or(rest);
-                let count = piece.len().min(buf.len());
-                buf[..count].copy_from_slice(&piece[..count]);
-                self.given = self.given.saturating_add(count);
+                let most = all.saturating_sub(self.script.done).min(buf.len());
+                let count = self.bytes.read(&mut buf[..most])?;
                 let done = self.script.done.saturating_add(count);
                 self.script.go_on(done, all);
                 Ok(count)

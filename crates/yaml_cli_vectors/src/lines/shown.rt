@@ -1,6 +1,6 @@
 //! Faults, as the lines write them.
 
-use crate::lines::words::{ORIGINS, word_of};
+use crate::lines::words::ORIGINS;
 use crate::lines::{Part, Reply};
 use serde_json::Value;
 use yaml_scan::{yaml_error_type_t, yaml_fault_t, yaml_origin_t};
@@ -71,7 +71,8 @@ impl Reply {
         self.field("value", Part::Number(fault.value));
         self.field("problem_mark", Part::Mark(fault.problem_mark));
         self.field("context_mark", Part::Mark(fault.context_mark));
-        self.field_word("origin", word_of(&ORIGINS, fault.origin));
+        self.put_name("origin");
+        self.put_choice(&ORIGINS, fault.origin);
         self.put(Part::EndObject);
     }
 
@@ -84,7 +85,7 @@ impl Reply {
     /// A fault that a call answers: in its place, or behind all else where that was the last call. Whether there may be more.
     pub fn put_refused(&mut self, line: &Value, is_last: bool, fault: &yaml_fault_t) -> bool {
         if is_last {
-            self.behind = Some(*fault);
+            self.fault = Some(*fault);
         } else {
             self.put_fault(line, fault);
         }

@@ -1,6 +1,6 @@
 //! Tokens, as the lines write them: kind, start mark, end mark, and what the token carries.
 
-use crate::lines::words::{ENCODINGS, SCALARS, word_of};
+use crate::lines::words::{ENCODINGS, SCALARS};
 use crate::lines::{Part, Reply};
 use serde_json::Value;
 use yaml_scan::{yaml_scalar_style_t, yaml_token_body_t, yaml_token_t, yaml_token_type_t};
@@ -58,9 +58,7 @@ const KINDS: [(&'static str, yaml_token_type_t); 22] = [
 // What the token carries.
 fn put_carried(reply: &mut Reply, body: &yaml_token_body_t) {
     match body {
-        yaml_token_body_t::StreamStart { encoding } => {
-            reply.put_word(word_of(&ENCODINGS, *encoding))
-        }
+        yaml_token_body_t::StreamStart { encoding } => { reply.put_choice(&ENCODINGS, *encoding) }
         yaml_token_body_t::VersionDirective { major, minor } => {
             reply.put(Part::Number(*major));
             reply.put(Part::Number(*minor))
@@ -80,9 +78,8 @@ fn put_carried(reply: &mut Reply, body: &yaml_token_body_t) {
             reply.put_bytes(value.as_slice())
         }
         yaml_token_body_t::Scalar { value, style } => {
-            let word = word_of(&SCALARS, *style);
             reply.put_bytes(value.as_slice());
-            reply.put_word(word)
+            reply.put_choice(&SCALARS, *style)
         }
         _ => {}
     }
@@ -91,7 +88,7 @@ fn put_carried(reply: &mut Reply, body: &yaml_token_body_t) {
 /// Puts the token as the lines write it.
 pub fn show_token(reply: &mut Reply, token: &yaml_token_t) {
     reply.put(Part::List);
-    reply.put_word(word_of(&KINDS, token.type_()));
+    reply.put_choice(&KINDS, token.type_());
     reply.put(Part::Mark(token.start_mark));
     reply.put(Part::Mark(token.end_mark));
     put_carried(reply, &token.body);

@@ -71,17 +71,18 @@ pub const ORIGINS: [(&'static str, yaml_origin_t); 7] = [
     ("Writer", yaml_origin_t::Writer),
 ];
 
-/// The word that the rows have for the value; none where they haven't it.
-pub fn word_of<T: Copy + PartialEq>(rows: &[(&'static str, T)], value: T) -> &'static str {
-    for row in rows {
-        if row.1 == value {
-            return row.0;
-        }
-    }
-    ""
-}
-
 impl Reply {
+    /// Puts the word that the rows have for the value; none where they haven't it.
+    pub fn put_choice<T: Copy + PartialEq>(&mut self, rows: &[(&'static str, T)], value: T) {
+        for row in rows {
+            if row.1 == value {
+                self.put_word(row.0);
+                return;
+            }
+        }
+        self.put_word("");
+    }
+
     /// What the rows have for the word there.
     pub fn choice<T: Copy>(
         &mut self,

@@ -1,12 +1,9 @@
-//! Tokens, events and documents that are found: each tells whether there may be more.
+//! Tokens and events that are found: each tells whether there may be more.
 
 use super::turn::Turn;
-use crate::lines::{Reply, show_document, show_event, show_token};
+use crate::lines::{Reply, show_event, show_token};
 use serde_json::Value;
-use yaml_parse::{
-    yaml_document_delete, yaml_document_get_root_node, yaml_document_t, yaml_event_t,
-    yaml_event_type_t, yaml_fault_t, yaml_parser_t_prefix,
-};
+use yaml_parse::{yaml_event_t, yaml_event_type_t, yaml_fault_t, yaml_parser_t_prefix};
 use yaml_scan::{yaml_token_t, yaml_token_type_t};
 
 /// Puts the token, and lets it go, or the fault, which stands behind the tokens where all are asked for.
@@ -50,30 +47,9 @@ pub fn put_event(
         }
         Err(fault) if is_one => reply.put_refused(line, false, &fault),
         Err(fault) => {
-            reply.fault(fault);
+            reply.refused(fault);
             false
         }
-    }
-}
-
-/// Puts the document, and lets it go, or the fault, which stands behind the documents where all are asked for. Behind the last
-/// one without a root stands.
-pub fn put_document(
-    reply: &mut Reply,
-    line: &Value,
-    is_all: bool,
-    found: Result<yaml_document_t, yaml_fault_t>,
-) -> bool {
-    match found {
-        Ok(document) => {
-            let goes_on = !is_all || yaml_document_get_root_node(&document).is_some();
-            if goes_on {
-                show_document(reply, &document);
-            }
-            yaml_document_delete(document);
-            goes_on
-        }
-        Err(fault) => reply.put_refused(line, is_all, &fault),
     }
 }
 

@@ -1,14 +1,14 @@
 //! What a parser answers, call by call.
 
-use super::found::{put_document, put_event, put_prefix};
+use super::found::{put_event, put_prefix};
 use super::turn::{Turn, turn_at};
-use crate::lines::{Part, Reply, show_event};
+use crate::lines::{Part, Reply, show_document, show_event};
 use serde_json::Value;
 use yaml_parse::{
-    yaml_event_body_t, yaml_event_t, yaml_found_t, yaml_memory_fault, yaml_origin_t,
-    yaml_parser_between, yaml_parser_delete, yaml_parser_initialize, yaml_parser_load,
-    yaml_parser_parse, yaml_parser_parse_into, yaml_parser_prefix, yaml_parser_t,
-    yaml_token_source_t,
+    yaml_document_delete, yaml_document_get_root_node, yaml_event_body_t, yaml_event_t,
+    yaml_found_t, yaml_memory_fault, yaml_origin_t, yaml_parser_between, yaml_parser_delete,
+    yaml_parser_initialize, yaml_parser_load, yaml_parser_parse, yaml_parser_parse_into,
+    yaml_parser_prefix, yaml_parser_t, yaml_token_source_t,
 };
 
 // Puts the next event, which is parsed into slots, or the fault.
@@ -28,18 +28,29 @@ fn put_into<S: yaml_token_source_t>(
     reply.push(kept, event);
 }
 
-// Puts the next document, or the fault.
+// Puts the next document, or the fault, which stands behind the documents where all are asked for. Behind the last one without a
+// root stands.
 fn put_loaded<S: yaml_token_source_t>(
     reply: &mut Reply,
     line: &Value,
     is_all: bool,
     parser: &mut yaml_parser_t<S>,
 ) -> bool {
-    if yaml_parser_between(parser) {
-        return put_document(reply, line, is_all, yaml_parser_load(parser));
+    if !yaml_parser_between(parser) {
+        reply.put_word("not between");
+        return !is_all;
     }
-    reply.put_word("not between");
-    !is_all
+    match yaml_parser_load(parser) {
+        Ok(document) => {
+            let goes_on = !is_all || yaml_document_get_root_node(&document).is_some();
+            if goes_on {
+                show_document(reply, &document);
+            }
+            yaml_document_delete(document);
+            goes_on
+        }
+        Err(fault) => reply.put_refused(line, is_all, &fault),
+    }
 }
 
 // Whether there may be more behind the call.
@@ -85,6 +96,6 @@ pub fn parse<S: yaml_token_source_t>(
             }
             yaml_parser_delete(parser);
         }
-        Err(fault) => reply.fault(fault),
+        Err(fault) => reply.refused(fault),
     }
 }

@@ -12,16 +12,16 @@ use yaml_round_adapter::yaml_adapter_t;
 
 /// What a parser of the input gives, which reads it as it goes; or what an emitter writes of its events.
 pub fn parse_input(reply: &mut Reply, line: &Value, asked: Turn, input: &Input<'_>) {
+    let is_kept = matches!(asked, Turn::Kept);
+    // Nothing is put of events that are kept, and no line has that list.
+    reply.field(if is_kept { "events" } else { "answer" }, Part::List);
     let mut kept = Vec::new(reply.alloc);
     let source = yaml_adapter_t::new(reply.alloc, input.text, input.from);
-    if matches!(asked, Turn::Kept) && line.get("settings").is_some() {
-        parse(reply, line, asked, source, &mut kept);
-        emit_line(reply, line, Given::Kept, kept.as_mut_slice());
-        return;
-    }
-    reply.field("answer", Part::List);
     parse(reply, line, asked, source, &mut kept);
     reply.put(Part::EndList);
+    if is_kept {
+        emit_line(reply, line, Given::Kept, kept.as_mut_slice());
+    }
 }
 
 // The tokens that the line lists, whose texts are to be UTF-8, and behind them its own fault where it has one.

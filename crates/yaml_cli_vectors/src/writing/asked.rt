@@ -36,6 +36,6 @@ pub fn emit_line(reply: &mut Reply, line: &Value, given: Given, kept: &mut [yaml
             }
             yaml_emitter_delete(emitter);
         }
-        Err(fault) => reply.fault(fault),
+        Err(fault) => reply.refused(fault),
     }
 }

@@ -8,7 +8,7 @@ use yaml_emit::{yaml_emitter_output, yaml_emitter_t};
 use yaml_scan::{yaml_error_type_t, yaml_fault_t};
 
 // The calls so far.
-#[derive(Drop)]
+#[derive(Clone, Copy)]
 struct Course {
     // The first fault.
     fault: Option<yaml_fault_t>,
@@ -58,7 +58,7 @@ fn put_course(reply: &mut Reply, text: &[u8], course: &Course) {
     if !course.kept {
         reply.field("kept", Part::Flag(false));
     }
-    reply.behind = course.fault;
+    reply.fault = course.fault;
     match course.fault {
         None => {
             reply.field_bytes("answer", text);

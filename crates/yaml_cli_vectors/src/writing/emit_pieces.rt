@@ -65,7 +65,7 @@ pub fn answer(reply: &mut Reply, line: &Value, by_limit: bool) {
     match first_wrong(reply, line, by_limit, &settings, &whole) {
         Some(number) => reply.field("answer", Part::Count(number as u64)),
         None => match whole.fault {
-            Some(fault) => reply.fault(fault),
+            Some(fault) => reply.refused(fault),
             None => reply.field_bytes("answer", whole.text.as_slice()),
         },
     }

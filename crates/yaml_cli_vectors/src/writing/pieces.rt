@@ -32,19 +32,6 @@ pub struct Pieces {
     directives: Vec<yaml_tag_directive_t>,
 }
 
-impl Pieces {
-    fn new(reply: &Reply) -> Pieces {
-        Pieces {
-            text: Vec::new(reply.alloc),
-            fault: None,
-            taken: 0,
-            stand: None,
-            around: Vec::new(reply.alloc),
-            directives: Vec::new(reply.alloc),
-        }
-    }
-}
-
 // Where the last emitter stands, if one may go on there: no event was refused, and the line isn't too long.
 fn right_stand(pieces: &Pieces) -> Option<yaml_emitter_stand_t>
     ensures right { IfSome result (λ s. refused_at s.place ≡ None) }
@@ -148,7 +135,14 @@ fn put_piece(
 
 /// What is written of the line's events in pieces of so many, up to the first fault.
 pub fn written(reply: &mut Reply, line: &Value, settings: &Settings, size: usize) -> Pieces {
-    let mut pieces = Pieces::new(reply);
+    let mut pieces = Pieces {
+        text: Vec::new(reply.alloc),
+        fault: None,
+        taken: 0,
+        stand: None,
+        around: Vec::new(reply.alloc),
+        directives: Vec::new(reply.alloc),
+    };
     let events = reply.list(line, "/events");
     let mut upto = 0usize;
     for _ in events {
@@ -160,7 +154,7 @@ pub fn written(reply: &mut Reply, line: &Value, settings: &Settings, size: usize
     }
     match pieces.fault {
         // Want of memory is answered whichever pieces meet it.
-        Some(fault) if fault.kind == yaml_error_type_t::YAML_MEMORY_ERROR => reply.fault(fault),
+        Some(fault) if fault.kind == yaml_error_type_t::YAML_MEMORY_ERROR => reply.refused(fault),
         _ => {}
     }
     pieces

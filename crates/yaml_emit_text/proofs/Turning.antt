@@ -3,6 +3,7 @@ use Rattle.std.proofs.Common.{◌≡◌, inl, inr, ℕ, ◌+◌, ◌≤◌, leng
 use Rattle.std.specs.Prelude.{Option, Some, None}
 use Rattle.std.specs.List.{list_all}
 use Rattle.std.specs.Str.{chars, IsAscii}
+use Rattle.std.proofs.lemmas.Str.{IsAscii-append}
 use Rattle.yaml_emit_sink.specs.declared.Cursor.{Cursor}
 use Rattle.yaml_emit_sink.specs.declared.LineBreak.{LineBreak}
 use Rattle.yaml_emit_sink.specs.declared.Turn.{Turn}
@@ -10,9 +11,9 @@ use Rattle.yaml_emit_sink.specs.Text.{Item, letter}
 use Rattle.yaml_emit_sink.specs.Layout.{Layout, Rest, ◌▹◌, stay, when, char, letters, word, line}
 use Rattle.yaml_emit_sink.specs.Sink.{Output, Puts}
 use Rattle.yaml_emit_sink.specs.Turns.{marks, mark_word, signs, turn_text}
-use Rattle.yaml_emit_sink.proofs.Ascii.{parted}
+use Rattle.yaml_emit_sink.proofs.Ascii.{parted, all_ascii}
 use Rattle.yaml_emit_sink.proofs.Lines.{line_lands}
-use Rattle.yaml_emit_sink.proofs.Sinks.{puts_as, cond_true}
+use Rattle.yaml_emit_sink.proofs.Sinks.{puts_as, cond_true, cond_false}
 use Rattle.yaml_emit_text.specs.declared.page.Page.{Page}
 use Rattle.yaml_emit_text.specs.Quoted.{double_quoted}
 use Rattle.yaml_emit_text.specs.Runs.{is_even}
@@ -68,6 +69,42 @@ pub quoted_worded : (n : ℕ) (page : Page) (v : List ℕ) → IsLined n page.wi
 unfolding Worded
 quoted_worded n page v h = λ c rest l. quoted_by n page v c rest h (omega (arith, l))
 
+-- behind the word `!!str`: a space comes between
+behind_tag : (n : ℕ) (page : Page) (v : List ℕ) (c : Cursor) (rest : Rest) → IsLined n page.width v
+    → c.column ≤ n + 14 → c.white ≡ false
+    → double_quoted page (chars v) c rest ≡ letters (32 ∷ 34 ∷ (v ++ 34 ∷ [])) c rest
+behind_tag n page v c rest h l w = quoted_by n page v c rest h l ∙ parted (34 ∷ (v ++ 34 ∷ [])) c rest (omega arith) w
+
+tag_letters : (n : ℕ) (page : Page) (v : List ℕ) (c : Cursor) (rest : Rest) → IsLined n page.width v
+    → c.column ≤ n + 5
+    → letters (33 ∷ 33 ∷ 115 ∷ 116 ∷ 114 ∷ []) c (λ d. double_quoted page (chars v) d rest)
+    ≡ letters (33 ∷ 33 ∷ 115 ∷ 116 ∷ 114 ∷ 32 ∷ 34 ∷ (v ++ 34 ∷ [])) c rest
+unfolding letters
+tag_letters n page v c rest h l =
+    let behind : Cursor = record { column = c.column + 1 + 1 + 1 + 1 + 1; white = false; bare = false; kept = c.kept } in
+    ap (λ (t : List Item). letter 33 ∷ letter 33 ∷ letter 115 ∷ letter 116 ∷ letter 114 ∷ t) (behind_tag n page v behind rest h (omega (arith, l)) refl)
+
+tagged_by : (white : Bool) (n : ℕ) (page : Page) (v : List ℕ) (c : Cursor) (rest : Rest)
+    → c.white ≡ white → IsLined n page.width v → c.column ≤ n + 4
+    → (word (33 ∷ 33 ∷ 115 ∷ 116 ∷ 114 ∷ []) ▹ double_quoted page (chars v)) c rest
+    ≡ word (33 ∷ 33 ∷ 115 ∷ 116 ∷ 114 ∷ 32 ∷ 34 ∷ (v ++ 34 ∷ [])) c rest
+tagged_by true n page v c rest w h l = cond_true c.white _ _ w ∙ tag_letters n page v c rest h (omega (arith, l)) ∙ sym (cond_true c.white _ _ w)
+tagged_by false n page v c rest w h l =
+    let behind : Cursor = record { column = c.column + 1; white = true; bare = c.bare; kept = c.kept } in
+    cond_false c.white _ _ w ∙ ap (λ (t : List Item). letter 32 ∷ t) (tag_letters n page v behind rest h (omega (arith, l))) ∙ sym (cond_false c.white _ _ w)
+
+-- the word `!!str` and a text in quotes are one word
+pub tagged_worded : (n : ℕ) (page : Page) (v : List ℕ) → IsLined n page.width v
+    → Worded (n + 4) (word (33 ∷ 33 ∷ 115 ∷ 116 ∷ 114 ∷ []) ▹ double_quoted page (chars v))
+    (33 ∷ 33 ∷ 115 ∷ 116 ∷ 114 ∷ 32 ∷ 34 ∷ (v ++ 34 ∷ [])) stay
+unfolding Worded
+tagged_worded n page v h = λ c rest l. tagged_by c.white n page v c rest refl h l
+
 pub lined_ascii : (n width : ℕ) (v : List ℕ) → IsLined n width v → IsAscii (34 ∷ (v ++ 34 ∷ []))
 lined_ascii n width v (inl h) = quoted_ascii v h
 lined_ascii n width v (inr h) = even_ascii v h.0
+
+-- with the word `!!str` in front
+pub tagged_ascii : (n width : ℕ) (v : List ℕ) → IsLined n width v
+    → IsAscii (33 ∷ 33 ∷ 115 ∷ 116 ∷ 114 ∷ 32 ∷ 34 ∷ (v ++ 34 ∷ []))
+tagged_ascii n width v h = IsAscii-append (33 ∷ 33 ∷ 115 ∷ 116 ∷ 114 ∷ 32 ∷ []) (34 ∷ (v ++ 34 ∷ [])) (all_ascii (33 ∷ 33 ∷ 115 ∷ 116 ∷ 114 ∷ 32 ∷ []) refl) (lined_ascii n width v h)

@@ -5,7 +5,10 @@ use Rattle.std.specs.Str.{chars, IsAscii}
 use Rattle.std.proofs.lemmas.Bool.{and_parts}
 use Rattle.std.proofs.lemmas.Str.{IsAscii-append}
 use Rattle.std.proofs.lemmas.Str.Ascii.{IsAscii-cons, IsAscii-nil}
+use Rattle.yaml_scan_model.specs.declared.yaml_scalar_style_t.{yaml_scalar_style_t}
 use Rattle.yaml_emit_tags.specs.parse_model.Events.{TagDirective}
+use Rattle.yaml_emit_tags.specs.parse_model.Nodes.{str_tag}
+use Rattle.yaml_emit_tags.specs.Tags.{tag_spelling}
 use Rattle.yaml_emit_text.specs.declared.Settings.{Settings}
 use Rattle.yaml_emit_text.specs.declared.Page.{Page}
 use Rattle.yaml_emit_text.specs.Layout.{Layout, ◌▹◌, stay, when, char, letters, word, line}
@@ -14,7 +17,7 @@ use Rattle.yaml_emit_text.specs.Scalars.{scalar_text}
 use Rattle.yaml_emit_text.specs.Sink.{Output, Puts}
 use Rattle.yaml_emit_text.specs.Tame.{IsLined}
 use Rattle.yaml_emit_text.specs.Turns.{marks, mark_word, turn_text}
-use Rattle.yaml_emit_text.proofs.Turning.{puts_signed, quoted_worded}
+use Rattle.yaml_emit_text.proofs.Turning.{puts_signed, quoted_worded, tagged_worded}
 use Rattle.yaml_emit_layout.specs.declared.Expected.{Expected}
 use Rattle.yaml_emit_layout.specs.declared.Expected.TheVariants as at
 use Rattle.yaml_emit_layout.specs.declared.Level.{Level}
@@ -26,11 +29,12 @@ use Rattle.yaml_emit_layout.specs.Grammar.{has, event_problem, last_problem, pla
 use Rattle.yaml_emit_layout.specs.Nodes.{context_of, checked, deeper, page_at, scalar_layout, style_of, turned, before_item, before_key, before_value}
 use Rattle.yaml_emit_layout.specs.State.{among, before_at, before_node, levels_behind, position_of, top_of}
 use Rattle.yaml_emit_state.specs.declared.state.Core.{Core}
-use Rattle.yaml_emit_state.specs.Framed.{has_comma, mark_of, is_behind_simple, sign_of, IsTurning, is_free, framed_text}
+use Rattle.yaml_emit_state.specs.Framed.{has_comma, mark_of, is_behind_simple, sign_of, IsTurning, is_free, framed_text, tagged_text}
+use Rattle.yaml_emit_state.specs.Given.{plain_text}
 use Rattle.yaml_emit_state.specs.Stack.{stack_of}
 use Rattle.yaml_emit_state.specs.Steps.{state_of, settings_of, StaysBut, LaysOut}
 use Rattle.yaml_emit_state.proofs.Keyed.{lays_scalar}
-use Rattle.yaml_emit_state.proofs.Plain.{lays_in_place, text_no_key}
+use Rattle.yaml_emit_state.proofs.Plain.{lays_in_place, str_spelled, text_layout, text_no_key, text_right}
 use Rattle.yaml_emit_state.proofs.Unmarked.{none_given, unchecked_behind}
 
 -- ---- how it is written
@@ -63,6 +67,24 @@ puts_framed s l quoted v a b t w p =
     let C : Layout → Type 0 = λ z. Puts a b (before_at s l.phase l.flow l.indent false ▹ (z ▹ x)) in
     let here = subst C (sign_is quoted) (subst B (sym t.flow) (subst A (sym (before_is s l.phase l.indent t.form t.turns)) put)) in
     unchecked_behind (deeper s pos.around) a b (before_at s l.phase l.flow l.indent false ▹ when (not quoted) (word (33 ∷ []))) x t.shallow here
+
+-- with the default tag
+pub puts_tagged : (s : Settings) (l : Level) (v : List ℕ) (a b : Output) → IsTurning s l
+    → IsLined l.indent s.width v
+    → Puts a b (turn_text (record { comma = has_comma l.phase; line_break = s.line_break; indent = l.indent; mark = mark_of l.phase; sign = None })
+    ▹ letters (33 ∷ 33 ∷ 115 ∷ 116 ∷ 114 ∷ 32 ∷ 34 ∷ (v ++ 34 ∷ [])))
+    → Puts a b (tagged_text s (Some l) v)
+puts_tagged s l v a b t w p =
+    let pos : NodePosition = position_of (Some l) false in
+    let page : Page = page_at s pos in
+    let q : Layout = double_quoted page (chars v) in
+    let x : Layout = word (33 ∷ 33 ∷ 115 ∷ 116 ∷ 114 ∷ []) ▹ q in
+    let put = puts_signed (record { comma = has_comma l.phase; line_break = s.line_break; indent = l.indent; mark = mark_of l.phase; sign = None }) x 33 (33 ∷ 115 ∷ 116 ∷ 114 ∷ 32 ∷ 34 ∷ (v ++ 34 ∷ [])) stay a b (tagged_worded l.indent page v w) p in
+    let A : Layout → Type 0 = λ z. Puts a b (z ▹ x) in
+    let B : Bool → Type 0 = λ z. Puts a b (before_at s l.phase z l.indent false ▹ x) in
+    let C : List ℕ → Type 0 = λ z. Puts a b (before_at s l.phase l.flow l.indent false ▹ (word z ▹ q)) in
+    let here = subst C (sym str_spelled) (subst B (sym t.flow) (subst A (sym (before_is s l.phase l.indent t.form t.turns)) put)) in
+    unchecked_behind (deeper s pos.around) a b (before_at s l.phase l.flow l.indent false ▹ word (tag_spelling [] str_tag)) q t.shallow here
 
 two_ascii : (m : ℕ) → m < 128 → IsAscii (m ∷ 32 ∷ [])
 two_ascii m h = IsAscii-cons m (32 ∷ []) h (IsAscii-cons 32 [] (omega arith) IsAscii-nil)
@@ -127,4 +149,24 @@ lays_free old new o s top quoted v x empty same upper form due free q value writ
     let E : Option Level → Type 0 = λ z. Puts old.sink o (framed_text s z quoted v) in
     let put = subst C (sym (free_layout own old.directives (position_of innermost false) x form p)) (subst B (sym value) (subst A (sym q) (subst D same (subst E upper written)))) in
     lays_in_place old new (scalar x) empty (free_by own.canonical old.place innermost x form due p)
+    (lays_scalar old new o own innermost x false empty refl refl (text_no_key (context_of own old.directives) innermost x form) put moved kept)
+
+-- a text with the default tag was laid out
+pub lays_text : (old new : Core) (o : Output) (s : Settings) (top : Option Level) (v : List ℕ)
+    (style : yaml_scalar_style_t) (empty : Bool) → s ≡ settings_of old
+    → top ≡ top_of (stack_of old.levels) → old.settings.canonical ≡ true → old.place ≡ at.Node
+    → old.directives ≡ [] → Puts old.sink o (tagged_text s top v)
+    → state_of new ≡ among old.directives (levels_behind (stack_of old.levels) false)
+    → StaysBut (record old { sink = o }) new → LaysOut old new (scalar (plain_text v style)) empty
+lays_text old new o s top v style empty same upper form due none written moved kept =
+    let own : Settings = settings_of old in
+    let innermost : Option Level = top_of (stack_of old.levels) in
+    let pos : NodePosition = position_of innermost false in
+    let x : Scalar = plain_text v style in
+    let A : List TagDirective → Type 0 = λ z. Puts old.sink o (before_node own innermost false ▹ (word (tag_spelling z str_tag) ▹ (checked (deeper own pos.around) ▹ double_quoted (page_at own pos) (chars v)))) in
+    let C : Layout → Type 0 = λ z. Puts old.sink o (before_node own innermost false ▹ z) in
+    let D : Settings → Type 0 = λ z. Puts old.sink o (tagged_text z innermost v) in
+    let E : Option Level → Type 0 = λ z. Puts old.sink o (tagged_text s z v) in
+    let put = subst C (sym (text_layout own old.directives pos v style form)) (subst A (sym none) (subst D same (subst E upper written))) in
+    lays_in_place old new (scalar x) empty (text_right own (state_of old) v style form due)
     (lays_scalar old new o own innermost x false empty refl refl (text_no_key (context_of own old.directives) innermost x form) put moved kept)

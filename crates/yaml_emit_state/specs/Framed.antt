@@ -2,6 +2,8 @@
 use Rattle.std.specs.Prelude.{◌≡◌, ℕ, ◌+◌, Bool, true, false, not, ◌&&◌, ◌||◌, nat_le, List, [], ◌∷◌, Option, Some, None}
 use Rattle.std.specs.Str.{chars}
 use Rattle.yaml_types.specs.Ascii as ascii
+use Rattle.yaml_emit_tags.specs.parse_model.Nodes.{str_tag}
+use Rattle.yaml_emit_tags.specs.Tags.{tag_spelling}
 use Rattle.yaml_emit_text.specs.declared.Settings.{Settings}
 use Rattle.yaml_emit_text.specs.Layout.{Layout, ◌▹◌, when, word}
 use Rattle.yaml_emit_text.specs.Quoted.{double_quoted}
@@ -52,5 +54,12 @@ IsFree e = ⊥
 abbrev pub framed_text : Settings → Option Level → Bool → List ℕ → Layout
 framed_text s top quoted v = before_node s top false
     ▹ (when (not quoted) (word (ascii.exclamation ∷ []))
+    ▹ (checked (deeper s (position_of top false).around)
+    ▹ double_quoted (page_at s (position_of top false)) (chars v)))
+
+-- a text with the default tag and without an anchor, where there is no directive, with the same before it
+abbrev pub tagged_text : Settings → Option Level → List ℕ → Layout
+tagged_text s top v = before_node s top false
+    ▹ (word (tag_spelling [] str_tag)
     ▹ (checked (deeper s (position_of top false).around)
     ▹ double_quoted (page_at s (position_of top false)) (chars v)))

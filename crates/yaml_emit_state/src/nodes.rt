@@ -3,7 +3,7 @@ ghost use Rattle.std.specs.Prelude.{◌≡◌, ◌≢◌, ◌<◌, ◌∷◌, []
 ghost use Rattle.yaml_types.specs.Ascii as ascii;
 ghost use Rattle.std.specs.Str.{chars, IsAscii};
 ghost use Rattle.yaml_parse_model.specs.Events.{text_of};
-ghost use Rattle.yaml_emit_tags.specs.parse_model.Nodes.{str_tag, seq_tag, map_tag};
+ghost use Rattle.yaml_emit_tags.specs.parse_model.Nodes.{seq_tag, map_tag};
 ghost use Rattle.yaml_emit_tags.specs.Tags.{tag_spelling};
 ghost use Rattle.yaml_emit_text.specs.Sink.{Puts};
 ghost use Rattle.yaml_emit_text.specs.Tame.{IsTame};
@@ -230,9 +230,10 @@ fn put_lines(
     }
 }
 
+/// Whether a document has no tag directive.
 // Inlined: one read.
 #[inline(always)]
-fn are_none(directives: &DirectiveTable) -> bool
+pub fn are_none(directives: &DirectiveTable) -> bool
     ensures { result ≡ true → directives.now ≡ [] }
 {
     directives.list().is_empty()
@@ -262,15 +263,6 @@ fn put_default_tag(
     }
 }
 
-// The tag of a text.
-// Inlined: its bytes are known.
-#[inline(always)]
-fn put_str_tag(sink: &mut Sink, directives: &DirectiveTable)
-    ensures { Puts sink.old sink.new (word (tag_spelling directives.now str_tag)) }
-{
-    put_default_tag(sink, directives, YAML_STR_TAG, b"!!str", b" !!str");
-}
-
 // The tag of a sequence.
 // Inlined: its bytes are known.
 #[inline(always)]
@@ -290,7 +282,7 @@ fn put_map_tag(sink: &mut Sink, directives: &DirectiveTable)
 }
 
 /// A text with the default tag and without an anchor, in canonical form.
-// Inlined: it is a few bytes round its value.
+// Inlined into its one caller.
 #[inline(always)]
 pub fn put_text(sink: &mut Sink, context: &Context, position: NodePosition, value: &[u8])
     requires utf8 { IsUtf8 value.now }
@@ -298,7 +290,7 @@ pub fn put_text(sink: &mut Sink, context: &Context, position: NodePosition, valu
     ensures { (style : yaml_scalar_style_t) → Puts sink.old sink.new
         (scalar_layout (lent_context context.now) position (plain_text value.now style)) }
 {
-    put_str_tag(sink, context.directives);
+    put_tag(sink, context.directives, YAML_STR_TAG);
     put_lines(
         sink,
         context.settings,

@@ -15,7 +15,7 @@ use crate::given::{Context, EventPosition, Scalar};
 use crate::judge::problem_of;
 use crate::keys::{is_simple, is_simple_alias, is_simple_key, is_undecided_event};
 use crate::levels::Levels;
-use event::{put_alias_node, put_event, put_plain_node, put_scalar_node, put_text_node};
+use event::{put_alias_node, put_event, put_plain_node, put_scalar_node};
 pub use resume::yaml_emitter_stand_t;
 use std::alloc::{AllocError, Global};
 use yaml_emit_layout::Expected;
@@ -451,14 +451,9 @@ impl Core {
         ensures { (style : yaml_scalar_style_t) → (empty : Bool) → LaysOut self.old self.new
             (scalar (plain_text value.now style)) empty }
     {
-        let settings = self.settings(true);
-        let context = Context {
-            settings: &settings,
-            directives: &self.directives,
-        };
-        let top = self.levels.innermost();
-        put_text_node(&mut self.sink, &context, top, value);
-        self.step(false);
+        if !self.put_framed_text(value) {
+            self.lay_any_text(value);
+        }
     }
 
     /// Lays out what opens a sequence, or a mapping, with the default tag and without an anchor, where a node is due, in

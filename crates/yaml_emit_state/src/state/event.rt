@@ -12,7 +12,7 @@ ghost use Rattle.yaml_emit_text.specs.Layout.{◌▹◌};
 ghost use Rattle.yaml_emit_layout.specs.Nodes.{alias_layout, scalar_layout};
 ghost use Rattle.yaml_emit_layout.specs.State.{text_at, is_simple_event, before_node, position_of, start_text};
 ghost use Rattle.yaml_scan_model.specs.declared.yaml_scalar_style_t.{yaml_scalar_style_t};
-ghost use Rattle.yaml_emit_state.specs.Framed.{sign_of, framed_text};
+ghost use Rattle.yaml_emit_state.specs.Framed.{sign_of, framed_text, tagged_text};
 ghost use Rattle.yaml_emit_state.specs.Given.{lent_context, lent_scalar, lent_start, plain_text, plain_opening, name_of, IsNamed};
 
 use crate::before::{is_turning, put_before, put_closer_at, turn_of};
@@ -148,7 +148,43 @@ pub(super) fn put_text_node(sink: &mut Sink, context: &Context, top: &Option<Lev
     put_text(sink, context, position_of(*top, false), value);
 }
 
-// The same in either form.
+// The same where there is no directive, in a collection, where it stands in its line; else nothing.
+// Inlined into its one caller.
+#[inline(always)]
+fn put_framed_text_in(sink: &mut Sink, settings: &Settings, level: Level, value: &[u8]) -> bool
+    ensures put { result ≡ true → Puts sink.old sink.new
+        (tagged_text settings.now (Some level) value.now) }
+    ensures same { result ≡ false → sink.new ≡ sink.old }
+{
+    if is_turning(settings, level) && is_lined(settings.width, level.indent, value) {
+        let turn = turn_of(settings, level, None);
+        sink.put_lined(&turn, b"!!str \"", value, b"\"");
+        true
+    } else {
+        false
+    }
+}
+
+// The same in the innermost one.
+// Inlined into its one caller.
+#[inline(always)]
+pub(super) fn put_framed_text(
+    sink: &mut Sink,
+    settings: &Settings,
+    top: &Option<Level>,
+    value: &[u8],
+) -> bool
+    ensures put { result ≡ true → Puts sink.old sink.new
+        (tagged_text settings.now top.now value.now) }
+    ensures same { result ≡ false → sink.new ≡ sink.old }
+{
+    match top {
+        None => false,
+        Some(level) => put_framed_text_in(sink, settings, *level, value),
+    }
+}
+
+// A scalar in the innermost collection, with what comes before it, in either form.
 // Out of line: the way beside the short ones.
 #[inline(never)]
 fn put_any_node(

@@ -1,17 +1,21 @@
-//! Laying out a scalar in canonical form: at once, where it has no properties and stands in its line.
-ghost use Rattle.std.specs.Prelude.{◌≡◌, Bool, true, false};
+//! Laying out a scalar in canonical form: at once, where it stands in its line and has no properties, or the default tag alone.
+ghost use Rattle.std.specs.Prelude.{◌≡◌, [], Bool, true, false, IsUtf8};
 ghost use Rattle.yaml_parse_model.specs.Constructors.{HasUtf8};
 
 use super::Core;
-use super::event::put_framed;
+use super::event::{put_framed, put_framed_text, put_text_node};
 use crate::bare::is_free;
+use crate::given::Context;
+use crate::nodes::are_none;
 use yaml_parse_model::yaml_event_body_t;
 
 impl Core {
     ghost use Rattle.yaml_parse_model.specs.Events.{body_of};
     ghost use Rattle.yaml_emit_layout.specs.declared.Expected.TheVariants as at;
     ghost use Rattle.yaml_emit_layout.specs.Content.{Scalar as SaidScalar, emitter_event, scalar};
+    ghost use Rattle.yaml_scan_model.specs.declared.yaml_scalar_style_t.{yaml_scalar_style_t};
     ghost use Rattle.yaml_emit_state.specs.Framed.{is_free, IsFree};
+    ghost use Rattle.yaml_emit_state.specs.Given.{plain_text};
     ghost use Rattle.yaml_emit_state.specs.Steps.{LaysOut};
 
     // A scalar without properties, where it stands in its line; else nothing.
@@ -82,5 +86,63 @@ impl Core {
         } else {
             self.lay_canonical(event, empty);
         }
+    }
+
+    // A text with the default tag and without an anchor, where there is no directive and it stands in its line; else nothing.
+    // Inlined into its one caller.
+    #[inline(always)]
+    fn place_text(&mut self, value: &[u8]) -> bool
+        requires form { self.old.settings.canonical ≡ true }
+        requires due { self.old.place ≡ at.Node }
+        requires none { self.old.directives ≡ [] }
+        ensures laid { result ≡ true → (style : yaml_scalar_style_t) (empty : Bool)
+            → LaysOut self.old self.new (scalar (plain_text value.now style)) empty }
+        ensures same { result ≡ false → self.new ≡ self.old }
+    {
+        let settings = self.settings(true);
+        let top = self.levels.innermost();
+        if put_framed_text(&mut self.sink, &settings, top, value) {
+            self.step(false);
+            true
+        } else {
+            false
+        }
+    }
+
+    // The same, asked for directives.
+    // Inlined into its one caller.
+    #[inline(always)]
+    pub(super) fn put_framed_text(&mut self, value: &[u8]) -> bool
+        requires form { self.old.settings.canonical ≡ true }
+        requires due { self.old.place ≡ at.Node }
+        ensures laid { result ≡ true → (style : yaml_scalar_style_t) (empty : Bool)
+            → LaysOut self.old self.new (scalar (plain_text value.now style)) empty }
+        ensures same { result ≡ false → self.new ≡ self.old }
+    {
+        if are_none(&self.directives) {
+            self.place_text(value)
+        } else {
+            false
+        }
+    }
+
+    // The same in the general way.
+    // Out of line: beside the short one.
+    #[inline(never)]
+    pub(super) fn lay_any_text(&mut self, value: &[u8])
+        requires utf8 { IsUtf8 value.now }
+        requires form { self.old.settings.canonical ≡ true }
+        requires due { self.old.place ≡ at.Node }
+        ensures { (style : yaml_scalar_style_t) → (empty : Bool) → LaysOut self.old self.new
+            (scalar (plain_text value.now style)) empty }
+    {
+        let settings = self.settings(true);
+        let context = Context {
+            settings: &settings,
+            directives: &self.directives,
+        };
+        let top = self.levels.innermost();
+        put_text_node(&mut self.sink, &context, top, value);
+        self.step(false);
     }
 }

@@ -4,4 +4,4 @@ use Rattle.yaml_emit_state.proofs.nodes.put_text.Goals as goal
 
 pub returns : goal.returns
 unfolding scalar_text
-returns c = λ style. puts_text _ _ _ _ style _ _ _ c.requires.canonical c.put_str_tag.ensures c.put_lines.ensures
+returns c = λ style. puts_text _ _ _ _ style _ _ _ c.requires.canonical c.put_tag.ensures c.put_lines.ensures

@@ -3,15 +3,15 @@ use Rattle.std.proofs.Common.{◌≡◌, inl, inr, ℕ, ◌+◌, ◌≤◌, leng
 use Rattle.std.specs.Prelude.{Option, Some, None}
 use Rattle.std.specs.List.{list_all}
 use Rattle.std.specs.Str.{chars, IsAscii}
-use Rattle.std.proofs.lemmas.Str.{IsAscii-append}
+use Rattle.std.proofs.lemmas.Str.Ascii.{IsAscii-cons}
 use Rattle.yaml_emit_sink.specs.declared.Cursor.{Cursor}
 use Rattle.yaml_emit_sink.specs.declared.LineBreak.{LineBreak}
 use Rattle.yaml_emit_sink.specs.declared.Turn.{Turn}
 use Rattle.yaml_emit_sink.specs.Text.{Item, letter}
 use Rattle.yaml_emit_sink.specs.Layout.{Layout, Rest, ◌▹◌, stay, when, char, letters, word, line}
 use Rattle.yaml_emit_sink.specs.Sink.{Output, Puts}
-use Rattle.yaml_emit_sink.specs.Turns.{marks, mark_word, signs, turn_text}
-use Rattle.yaml_emit_sink.proofs.Ascii.{parted, all_ascii}
+use Rattle.yaml_emit_sink.specs.Turns.{marks, mark_word, turn_text}
+use Rattle.yaml_emit_sink.proofs.Ascii.{parted}
 use Rattle.yaml_emit_sink.proofs.Lines.{line_lands}
 use Rattle.yaml_emit_sink.proofs.Sinks.{puts_as, cond_true, cond_false}
 use Rattle.yaml_emit_text.specs.declared.page.Page.{Page}
@@ -64,6 +64,7 @@ quoted_by : (n : ℕ) (page : Page) (v : List ℕ) (c : Cursor) (rest : Rest) �
 quoted_by n page v c rest (inl h) l = solid_word page v c rest h
 quoted_by n page v c rest (inr h) l = even_by c.white page v c rest refl h.0 (omega (arith, l, h.1))
 
+-- a text in quotes is a word
 pub quoted_worded : (n : ℕ) (page : Page) (v : List ℕ) → IsLined n page.width v
     → Worded (n + 4) (double_quoted page (chars v)) (34 ∷ (v ++ 34 ∷ [])) stay
 unfolding Worded
@@ -75,6 +76,7 @@ behind_tag : (n : ℕ) (page : Page) (v : List ℕ) (c : Cursor) (rest : Rest) �
     → double_quoted page (chars v) c rest ≡ letters (32 ∷ 34 ∷ (v ++ 34 ∷ [])) c rest
 behind_tag n page v c rest h l w = quoted_by n page v c rest h l ∙ parted (34 ∷ (v ++ 34 ∷ [])) c rest (omega arith) w
 
+-- its letters and the text behind them
 tag_letters : (n : ℕ) (page : Page) (v : List ℕ) (c : Cursor) (rest : Rest) → IsLined n page.width v
     → c.column ≤ n + 5
     → letters (33 ∷ 33 ∷ 115 ∷ 116 ∷ 114 ∷ []) c (λ d. double_quoted page (chars v) d rest)
@@ -84,6 +86,7 @@ tag_letters n page v c rest h l =
     let behind : Cursor = record { column = c.column + 1 + 1 + 1 + 1 + 1; white = false; bare = false; kept = c.kept } in
     ap (λ (t : List Item). letter 33 ∷ letter 33 ∷ letter 115 ∷ letter 116 ∷ letter 114 ∷ t) (behind_tag n page v behind rest h (omega (arith, l)) refl)
 
+-- the same from a word's beginning
 tagged_by : (white : Bool) (n : ℕ) (page : Page) (v : List ℕ) (c : Cursor) (rest : Rest)
     → c.white ≡ white → IsLined n page.width v → c.column ≤ n + 4
     → (word (33 ∷ 33 ∷ 115 ∷ 116 ∷ 114 ∷ []) ▹ double_quoted page (chars v)) c rest
@@ -100,11 +103,16 @@ pub tagged_worded : (n : ℕ) (page : Page) (v : List ℕ) → IsLined n page.wi
 unfolding Worded
 tagged_worded n page v h = λ c rest l. tagged_by c.white n page v c rest refl h l
 
+-- between its quotes it is in ASCII
 pub lined_ascii : (n width : ℕ) (v : List ℕ) → IsLined n width v → IsAscii (34 ∷ (v ++ 34 ∷ []))
 lined_ascii n width v (inl h) = quoted_ascii v h
 lined_ascii n width v (inr h) = even_ascii v h.0
 
+-- the letters of `!!str` and a space are in ASCII
+tag_front : (xs : List ℕ) → IsAscii xs → IsAscii (33 ∷ 33 ∷ 115 ∷ 116 ∷ 114 ∷ 32 ∷ xs)
+tag_front xs h = IsAscii-cons 33 (33 ∷ 115 ∷ 116 ∷ 114 ∷ 32 ∷ xs) (omega arith) (IsAscii-cons 33 (115 ∷ 116 ∷ 114 ∷ 32 ∷ xs) (omega arith) (IsAscii-cons 115 (116 ∷ 114 ∷ 32 ∷ xs) (omega arith) (IsAscii-cons 116 (114 ∷ 32 ∷ xs) (omega arith) (IsAscii-cons 114 (32 ∷ xs) (omega arith) (IsAscii-cons 32 xs (omega arith) h)))))
+
 -- with the word `!!str` in front
 pub tagged_ascii : (n width : ℕ) (v : List ℕ) → IsLined n width v
     → IsAscii (33 ∷ 33 ∷ 115 ∷ 116 ∷ 114 ∷ 32 ∷ 34 ∷ (v ++ 34 ∷ []))
-tagged_ascii n width v h = IsAscii-append (33 ∷ 33 ∷ 115 ∷ 116 ∷ 114 ∷ 32 ∷ []) (34 ∷ (v ++ 34 ∷ [])) (all_ascii (33 ∷ 33 ∷ 115 ∷ 116 ∷ 114 ∷ 32 ∷ []) refl) (lined_ascii n width v h)
+tagged_ascii n width v h = tag_front (34 ∷ (v ++ 34 ∷ [])) (lined_ascii n width v h)

@@ -1,5 +1,5 @@
 pub mod Sinks
 mod Encodes
-mod Ascii
+pub mod Ascii
 pub mod Lines
 mod Columns

@@ -1,8 +1,9 @@
 -- A break and the spaces behind it.
 use Rattle.std.proofs.Common.{◌≡◌, ℕ, ◌+◌, ◌-◌, ◌≤◌, List, [], ◌∷◌, ◌++◌, take, length, length-append, Bool, true, false, ◌<◌, refl, sym, subst, ◌∙◌, ap, append_assoc, arith}
-use Rattle.std.specs.Prelude.{zero, suc, replicate, not, ◌&&◌, ◌||◌, ◌==◌, nat_lt}
+use Rattle.std.specs.Prelude.{zero, suc, replicate, not, ◌&&◌, ◌||◌, ◌==◌, nat_lt, nat_le, if◌then◌else◌, Option, None, Some}
 use Rattle.std.specs.Str.{IsAscii}
 use Rattle.std.proofs.lemmas.Bool.{false≢true}
+use Rattle.std.proofs.lemmas.Str.{IsAscii-append}
 use Rattle.std.proofs.lemmas.Bool.Decides.{nat_tests}
 use Rattle.std.proofs.lemmas.List.{take-replicate, length-replicate}
 use Rattle.std.proofs.Math.Seq.{take-append-add}
@@ -13,10 +14,12 @@ use Rattle.yaml_emit_sink.specs.declared.settings.Encoding.TheVariants.{Utf8}
 use Rattle.yaml_emit_sink.specs.declared.settings.LineBreak.{LineBreak}
 use Rattle.yaml_emit_sink.specs.declared.settings.LineBreak.TheVariants.{Lf, Cr, CrLf}
 use Rattle.yaml_emit_sink.specs.Text.{Item, letter, encode, char_bytes, is_deep, shallow}
-use Rattle.yaml_emit_sink.specs.Layout.{Layout, Rest, ◌▹◌, blanks, letters, fresh, line, must_break, indent_to}
+use Rattle.yaml_emit_sink.specs.Layout.{Layout, Rest, ◌▹◌, when, char, blanks, letters, fresh, line, must_break, indent_to}
 use Rattle.yaml_emit_sink.specs.Appends.{AppendsBy, indented, blanked, lettered}
 use Rattle.yaml_emit_sink.specs.Sink.{Output, Puts}
-use Rattle.yaml_emit_sink.proofs.Ascii.{puts_near}
+use Rattle.yaml_emit_sink.specs.declared.feed.Turn.{Turn}
+use Rattle.yaml_emit_sink.specs.Turns.{enough, commas, marks, signs, turned, turn_text}
+use Rattle.yaml_emit_sink.proofs.Ascii.{puts_near, puts_byte, letters_both}
 use Rattle.yaml_emit_sink.proofs.Sinks.{puts_as, puts_both, puts_run, puts_spaces, cond_true, cond_false, stepped, stepped_none, stepped_is, Leads, blanks_lead}
 
 -- the cursor at the start of a line
@@ -195,3 +198,73 @@ pub line_lands : (b : LineBreak) (n : ℕ) (x y : Layout) (rest : Rest)
     ≡ y (record { column = n; white = true; bare = true; kept = kept }) rest)
     → (c : Cursor) → (line b n ▹ x) c rest ≡ (line b n ▹ y) c rest
 line_lands b n x y rest f c = lands_by (must_break n c) b n c x y rest refl f
+
+-- ---- what a line begins with, and a text behind it
+
+-- they were appended
+puts_led : (n : ℕ) (signs xs : List ℕ) (a b : Output) → must_break n a.cursor ≡ true
+    → a.status ≡ Going → a.encoding ≡ Utf8 → b.status ≡ a.status → b.encoding ≡ a.encoding
+    → b.limit ≡ a.limit → IsAscii signs → IsAscii xs → 0 < length xs
+    → b.bytes ≡ a.bytes ++ (((10 ∷ replicate n 32) ++ signs) ++ xs)
+    → length a.bytes + (1 + n + (length signs + length xs)) ≤ a.limit
+    → b.cursor ≡ lettered (length signs + length xs) (indented n a.cursor)
+    → Puts a b (line Lf n ▹ (letters signs ▹ letters xs))
+puts_led n signs xs a b m g x t e l v s p o r k =
+    let whole = length-append signs xs in
+    let feed : List ℕ = 10 ∷ replicate n 32 in
+    let bytes : b.bytes ≡ a.bytes ++ feed ++ (signs ++ xs) = o ∙ ap (λ (z : List ℕ). a.bytes ++ z) (append_assoc feed signs xs) ∙ sym (append_assoc a.bytes feed (signs ++ xs)) in
+    puts_as a b (line Lf n ▹ letters (signs ++ xs)) (line Lf n ▹ (letters signs ▹ letters xs))
+    (λ rest. line_lands Lf n (letters signs ▹ letters xs) (letters (signs ++ xs)) rest (λ kept. sym (letters_both signs xs (record { column = n; white = true; bare = true; kept = kept }) rest)) a.cursor)
+    (puts_lined a b n (signs ++ xs) m g x t e l (IsAscii-append signs xs v s) (omega (arith, p, whole)) bytes (omega (arith, r, whole)) (k ∙ ap (λ (z : ℕ). lettered z (indented n a.cursor)) (sym whole)))
+
+-- the same behind a comma, where one is due
+puts_comma : (comma : Bool) (n : ℕ) (signs xs : List ℕ) (a b : Output)
+    → (comma || must_break n a.cursor) ≡ true → a.status ≡ Going → a.encoding ≡ Utf8
+    → b.status ≡ a.status → b.encoding ≡ a.encoding → b.limit ≡ a.limit → IsAscii signs
+    → IsAscii xs → 0 < length xs
+    → b.bytes ≡ a.bytes ++ ((commas comma ++ ((10 ∷ replicate n 32) ++ signs)) ++ xs)
+    → length a.bytes + (2 + n + (length signs + length xs)) ≤ a.limit
+    → b.cursor ≡ lettered (length signs + length xs) (indented n a.cursor)
+    → Puts a b (when comma (char 44) ▹ (line Lf n ▹ (letters signs ▹ letters xs)))
+puts_comma false n signs xs a b m g x t e l v s p o r k = puts_led n signs xs a b m g x t e l v s p o (omega (arith, r)) k
+puts_comma true n signs xs a b m g x t e l v s p o r k =
+    let mid : Output = record { bytes = a.bytes ++ 44 ∷ []; limit = a.limit; encoding = a.encoding; status = a.status; cursor = lettered 1 a.cursor } in
+    let more = length-append a.bytes (44 ∷ []) in
+    puts_both a mid b (char 44) (line Lf n ▹ (letters signs ▹ letters xs))
+    (puts_byte a mid 44 (lettered 1) g x (omega arith) (omega (arith, r)) refl refl refl refl refl)
+    (puts_led n signs xs mid b refl g x t e l v s p (o ∙ sym (append_assoc a.bytes (44 ∷ []) (((10 ∷ replicate n 32) ++ signs) ++ xs))) (omega (arith, r, more)) k)
+
+few_marks : (m : Option ℕ) → length (marks m) ≤ 2
+few_marks None = omega arith
+few_marks (Some m) = omega arith
+
+pub puts_turned : (t : Turn) (xs : List ℕ) (a b : Output)
+    → (t.comma || must_break t.indent a.cursor) ≡ true → t.line_break ≡ Lf → t.indent ≤ 80
+    → a.status ≡ Going → a.encoding ≡ Utf8 → b.status ≡ a.status → b.encoding ≡ a.encoding
+    → b.limit ≡ a.limit → IsAscii (signs t) → IsAscii xs → 0 < length xs → length xs ≤ 40
+    → b.bytes ≡ a.bytes ++ (turned t ++ xs) → length a.bytes + 126 ≤ a.limit
+    → b.cursor ≡ lettered (length (signs t) + length xs) (indented t.indent a.cursor)
+    → Puts a b (turn_text t ▹ letters xs)
+puts_turned t xs a b m q i g x h e l v s p w o r k =
+    let mark = few_marks t.mark in
+    let sign = few_marks t.sign in
+    let both = length-append (marks t.mark) (marks t.sign) in
+    let P : LineBreak → Type 0 = λ z. Puts a b (when t.comma (char 44) ▹ (line z t.indent ▹ (letters (signs t) ▹ letters xs))) in
+    subst P (sym q) (puts_comma t.comma t.indent (signs t) xs a b m g x h e l v s p o (omega (arith, r, i, w, mark, sign, both)) k)
+
+-- ---- how many spaces are put
+
+by_least : (b : Bool) (n : ℕ) → nat_le n 16 ≡ b → n ≤ 80 → n ≤ (if b then 16 else 80)
+by_least true n e h = grind (arith, nat_tests, e)
+by_least false n e h = h
+
+pub enough_most : (n : ℕ) → n ≤ 80 → n ≤ length (replicate {A = ℕ} (enough n) 32)
+enough_most n h =
+    let many : length (replicate {A = ℕ} (enough n) 32) ≡ enough n = length-replicate (enough n) 32 in
+    rw many (by_least (nat_le n 16) n refl h)
+
+pub enough_same : (n : ℕ)
+    → replicate {A = ℕ} (enough n) 32 ≡ replicate (length (replicate {A = ℕ} (enough n) 32)) 32
+enough_same n =
+    let many : length (replicate {A = ℕ} (enough n) 32) ≡ enough n = length-replicate (enough n) 32 in
+    ap (λ (k : ℕ). replicate {A = ℕ} k 32) (sym many)

@@ -1,11 +1,23 @@
 //! Whether there is room, and a line feed with the spaces behind it, where there is room for some more.
 
-ghost use Rattle.std.specs.Prelude.{◌≡◌, ◌<◌, ◌≤◌, ◌+◌, ◌∷◌, ◌++◌, length, replicate, true};
+ghost use Rattle.std.specs.Prelude.{◌≡◌, ◌<◌, ◌≤◌, ◌+◌, ◌∷◌, ◌++◌, length, replicate, true, None, Some};
 ghost use Rattle.std.specs.Vec.{vec_len, vec_capacity};
 ghost use Rattle.yaml_types.specs.Ascii as ascii;
+ghost use Rattle.yaml_emit_sink.specs.Turns.{enough, commas, marks, signs, turned};
 
 use crate::settings::LineBreak;
 use yaml_types::{SHORT, moved, put_back, put_each, put_short};
+
+/// What a line begins with: a comma in the line before it, where one is due, the break and the indentation, and two characters,
+/// each with a space behind it, where they are due.
+#[derive(Clone, Copy)]
+pub struct Turn {
+    pub comma: bool,
+    pub line_break: LineBreak,
+    pub indent: u64,
+    pub mark: Option<u8>,
+    pub sign: Option<u8>,
+}
 
 /// Whether there is room for so many bytes more, one at least.
 // Inlined: a difference and a comparison.
@@ -37,22 +49,16 @@ pub fn is_brief(
     }
 }
 
-/// Whether a line is a line feed and at most sixteen spaces, a text behind it is short, and there is room for both with few
-/// characters round the text.
+/// Whether a line is a line feed and at most eighty spaces, a text behind it is short, and there is room for both with few
+/// characters round them.
 // Inlined: some comparisons.
 #[inline(always)]
-pub fn is_brief_with(
-    output: &Vec<u8>,
-    fast_limit: u64,
-    line_break: LineBreak,
-    indent: u64,
-    text: &[u8],
-) -> bool
-    ensures line { result ≡ true → (line_break ≡ LineBreak.Lf) × (indent ≤ 16) }
+pub fn is_brief_turn(output: &Vec<u8>, fast_limit: u64, turn: &Turn, text: &[u8]) -> bool
+    ensures line { result ≡ true → (turn.now.line_break ≡ LineBreak.Lf) × (turn.now.indent ≤ 80) }
     ensures short { result ≡ true → length text.now ≤ 32 }
-    ensures near { result ≡ true → length output.now.items + 57 ≤ fast_limit }
+    ensures near { result ≡ true → length output.now.items + 126 ≤ fast_limit }
 {
-    text.len() <= SHORT && is_brief(output, fast_limit, line_break, indent, 16, 40)
+    text.len() <= SHORT && is_brief(output, fast_limit, turn.line_break, turn.indent, 80, 45)
 }
 
 /// Whether at most sixteen spaces come, and there is room for sixteen.
@@ -71,13 +77,28 @@ const BLANKS: [u8; 16] = [b' '; 16];
 // More of them.
 const MORE_BLANKS: [u8; 80] = [b' '; 80];
 
-// A line feed and the first of some spaces: all are put at once, and what is too much is cut off.
+// Sixteen spaces where these are enough, or eighty.
 // Inlined: how many they are is known.
 #[inline(always)]
-fn put_feed(output: &mut Vec<u8>, blanks: &[u8], count: u64)
-    requires blanks { blanks.now ≡ replicate (length blanks.now) ascii.space }
-    requires inside { vec_len output.old + (1 + length blanks.now) ≤ vec_capacity output.old }
-    requires few { count ≤ length blanks.now }
+fn put_enough(output: &mut Vec<u8>, count: u64)
+    requires { vec_len output.old + 80 ≤ vec_capacity output.old }
+    ensures items { output.new.items ≡ output.old.items ++ replicate (enough count) ascii.space }
+    ensures len { vec_len output.new ≡ vec_len output.old + enough count }
+    ensures room { vec_capacity output.old ≤ vec_capacity output.new }
+{
+    if count <= 16 {
+        put_each(output, &BLANKS);
+    } else {
+        put_each(output, &MORE_BLANKS);
+    }
+}
+
+// A line feed and at most eighty spaces: what is too much is cut off.
+// Inlined: some stores.
+#[inline(always)]
+fn put_feed(output: &mut Vec<u8>, count: u64)
+    requires inside { vec_len output.old + 81 ≤ vec_capacity output.old }
+    requires few { count ≤ 80 }
     ensures items { output.new.items
         ≡ output.old.items ++ ascii.line_feed ∷ replicate count ascii.space }
     ensures len { vec_len output.new ≡ vec_len output.old + (1 + count) }
@@ -85,66 +106,124 @@ fn put_feed(output: &mut Vec<u8>, blanks: &[u8], count: u64)
 {
     let from = output.len();
     output.push_reserved(b'\n');
-    put_each(output, blanks);
+    put_enough(output, count);
     output.truncate(from + (1 + count as usize));
 }
 
-// The same, lifted out of its place.
-// Inlined: how many the spaces are is known.
-#[inline(always)]
-fn put_feed_of(output: &mut Vec<u8>, blanks: &[u8], count: u64)
-    requires blanks { blanks.now ≡ replicate (length blanks.now) ascii.space }
-    requires inside { vec_len output.old + (1 + length blanks.now) ≤ vec_capacity output.old }
-    requires few { count ≤ length blanks.now }
-    ensures items { output.new.items
-        ≡ output.old.items ++ ascii.line_feed ∷ replicate count ascii.space }
-    ensures room { vec_capacity output.old ≤ vec_capacity output.new }
-{
-    let mut own = moved(output);
-    put_feed(&mut own, blanks, count);
-    put_back(output, own);
-}
-
-/// A line feed and at most sixteen spaces, where there is room for all of these.
+/// The same, lifted out of its place.
 pub fn put_fresh_line(output: &mut Vec<u8>, count: u64)
-    requires inside { vec_len output.old + 17 ≤ vec_capacity output.old }
-    requires few { count ≤ 16 }
-    ensures items { output.new.items
-        ≡ output.old.items ++ ascii.line_feed ∷ replicate count ascii.space }
-    ensures room { vec_capacity output.old ≤ vec_capacity output.new }
-{
-    put_feed_of(output, &BLANKS, count);
-}
-
-/// The same of at most eighty.
-pub fn put_deep_line(output: &mut Vec<u8>, count: u64)
     requires inside { vec_len output.old + 81 ≤ vec_capacity output.old }
     requires few { count ≤ 80 }
     ensures items { output.new.items
         ≡ output.old.items ++ ascii.line_feed ∷ replicate count ascii.space }
     ensures room { vec_capacity output.old ≤ vec_capacity output.new }
 {
-    put_feed_of(output, &MORE_BLANKS, count);
+    let mut own = moved(output);
+    put_feed(&mut own, count);
+    put_back(output, own);
 }
 
-/// A line feed and at most sixteen spaces, and behind them few characters of known numbers, a short text and few more, where
-/// there is room for all of these and as many spaces more as are left out.
+// How many bytes a character with a space behind it is, where one is due.
+// Inlined: a test.
+#[inline(always)]
+pub fn mark_size(mark: Option<u8>) -> usize
+    ensures { result ≡ length (marks mark) }
+{
+    match mark {
+        None => 0,
+        Some(_) => 2,
+    }
+}
+
+/// How many bytes stand behind the indentation of what a line begins with.
+// Inlined: two tests.
+#[inline]
+pub fn signs_size(turn: &Turn) -> usize
+    ensures { result ≡ length (signs turn.now) }
+{
+    mark_size(turn.mark) + mark_size(turn.sign)
+}
+
+// A comma, where one is due.
+// Inlined: a test in front of a store.
+#[inline]
+fn put_comma(output: &mut Vec<u8>, due: bool)
+    requires { vec_len output.old + 1 ≤ vec_capacity output.old }
+    ensures items { output.new.items ≡ output.old.items ++ commas due }
+    ensures len { vec_len output.new ≤ vec_len output.old + 1 }
+    ensures room { vec_capacity output.old ≤ vec_capacity output.new }
+{
+    if due {
+        output.push_reserved(b',');
+    }
+}
+
+// A character with a space behind it, where one is due.
+// Inlined: a test in front of two stores.
+#[inline]
+fn put_mark(output: &mut Vec<u8>, mark: Option<u8>)
+    requires { vec_len output.old + 2 ≤ vec_capacity output.old }
+    ensures items { output.new.items ≡ output.old.items ++ marks mark }
+    ensures len { vec_len output.new ≤ vec_len output.old + 2 }
+    ensures room { vec_capacity output.old ≤ vec_capacity output.new }
+{
+    match mark {
+        None => (),
+        Some(mark) => {
+            output.push_reserved(mark);
+            output.push_reserved(b' ');
+        }
+    }
+}
+
+// What a line begins with, where it is a line feed and at most eighty spaces, and there is room for eighty and for all else.
+// Inlined: some stores.
+#[inline(always)]
+fn put_turn(output: &mut Vec<u8>, turn: &Turn)
+    requires inside { vec_len output.old + 86 ≤ vec_capacity output.old }
+    requires few { turn.now.indent ≤ 80 }
+    ensures items { output.new.items ≡ output.old.items ++ turned turn.now }
+    ensures len { vec_len output.new ≤ vec_len output.old + 86 }
+    ensures room { vec_capacity output.old ≤ vec_capacity output.new }
+{
+    put_comma(output, turn.comma);
+    put_feed(output, turn.indent);
+    put_mark(output, turn.mark);
+    put_mark(output, turn.sign);
+}
+
+/// The same, and behind it few characters of known numbers, a short text and few more.
 // Inlined: the numbers are known.
 #[inline(always)]
-pub fn put_line_between(output: &mut Vec<u8>, count: u64, front: &[u8], text: &[u8], end: &[u8])
-    requires inside { vec_len output.old + (17 + (length front.now + (length text.now
+pub fn put_line_between(output: &mut Vec<u8>, turn: &Turn, front: &[u8], text: &[u8], end: &[u8])
+    requires inside { vec_len output.old + (86 + (length front.now + (length text.now
         + length end.now))) ≤ vec_capacity output.old }
-    requires few { count ≤ 16 }
+    requires few { turn.now.indent ≤ 80 }
     requires short { length text.now ≤ 32 }
-    ensures items { output.new.items ≡ output.old.items ++ (ascii.line_feed
-        ∷ replicate count ascii.space) ++ (front.now ++ (text.now ++ end.now)) }
+    ensures items { output.new.items ≡ output.old.items ++ (turned turn.now
+        ++ (front.now ++ (text.now ++ end.now))) }
     ensures room { vec_capacity output.old ≤ vec_capacity output.new }
 {
     let mut own = moved(output);
-    put_feed(&mut own, &BLANKS, count);
+    put_turn(&mut own, turn);
     put_each(&mut own, front);
     put_short(&mut own, text);
     put_each(&mut own, end);
+    put_back(output, own);
+}
+
+/// What a line begins with, and behind it few characters of a known number.
+// Inlined: the number is known.
+#[inline(always)]
+pub fn put_line_with(output: &mut Vec<u8>, turn: &Turn, front: &[u8])
+    requires inside { vec_len output.old + (86 + length front.now) ≤ vec_capacity output.old }
+    requires few { turn.now.indent ≤ 80 }
+    ensures items { output.new.items ≡ output.old.items ++ (turned turn.now ++ front.now) }
+    ensures room { vec_capacity output.old ≤ vec_capacity output.new }
+{
+    let mut own = moved(output);
+    put_turn(&mut own, turn);
+    put_each(&mut own, front);
     put_back(output, own);
 }
 

@@ -11,7 +11,7 @@ use crate::append::{
     append, append_blanks, append_char, blanked, byte_of, indented, is_roomy, lettered, moved,
 };
 use crate::cursor::{Cursor, Status};
-use crate::feed::{are_few, has_room, is_brief, put_deep_line, put_few_blanks, put_fresh_line};
+use crate::feed::{are_few, has_room, is_brief, put_few_blanks, put_fresh_line};
 use crate::narrow::is_long_ascii;
 use crate::settings::{Encoding, LineBreak};
 use std::alloc::{AllocError, Global};
@@ -464,28 +464,15 @@ impl Sink {
         self.put_blanks(indent);
     }
 
-    // Out of line: some more stores, beside the few of most lines.
-    #[inline(never)]
-    fn put_deep(&mut self, line_break: LineBreak, indent: u64)
-        ensures { Puts self.old self.new (fresh line_break indent) }
-    {
-        if is_brief(&self.output, self.fast_limit, line_break, indent, 80, 0) {
-            put_deep_line(&mut self.output, indent);
-            indented(&mut self.cursor, indent);
-        } else {
-            self.put_long_line(line_break, indent);
-        }
-    }
-
     // A break, and so many spaces.
     fn put_fresh(&mut self, line_break: LineBreak, indent: u64)
         ensures { Puts self.old self.new (fresh line_break indent) }
     {
-        if is_brief(&self.output, self.fast_limit, line_break, indent, 16, 0) {
+        if is_brief(&self.output, self.fast_limit, line_break, indent, 80, 0) {
             put_fresh_line(&mut self.output, indent);
             indented(&mut self.cursor, indent);
         } else {
-            self.put_deep(line_break, indent);
+            self.put_long_line(line_break, indent);
         }
     }
 

@@ -10,3 +10,4 @@ pub mod Blaming
 pub mod Keyed
 pub mod Names
 mod Unmarked
+mod Framed

@@ -49,6 +49,14 @@ puts_default a b ds tag spelled e is p =
     let Q : List TagDirective → Type 0 = λ z. Puts a b (word (tag_spelling z tag)) in
     subst Q (sym e) (subst P (sym is) p)
 
+-- its layout: the tag, and the value in double quotes
+pub text_layout : (s : Settings) (ds : List TagDirective) (at : NodePosition) (value : List ℕ)
+    (style : yaml_scalar_style_t) → s.canonical ≡ true
+    → scalar_layout (context_of s ds) at (plain_text value style)
+    ≡ (word (tag_spelling ds str_tag) ▹ (checked (deeper s at.around) ▹ double_quoted (page_at s at) (chars value)))
+unfolding scalar_layout style_of scalar_text
+text_layout s ds at value style e = rw e refl
+
 pub puts_text : (s : Settings) (ds : List TagDirective) (at : NodePosition) (value : List ℕ)
     (style : yaml_scalar_style_t) (a b c : Output) → s.canonical ≡ true
     → Puts a b (word (tag_spelling ds str_tag))

@@ -39,7 +39,7 @@ use Rattle.yaml_emit_state.proofs.Plain.{lays_in_place}
 
 -- ---- what a short scalar is
 
-none_given : (a : Option (List ℕ)) → not (has a) ≡ true → a ≡ None
+pub none_given : (a : Option (List ℕ)) → not (has a) ≡ true → a ≡ None
 none_given None h = refl
 none_given (Some t) h = absurd (cc)
 

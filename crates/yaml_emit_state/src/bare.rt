@@ -1,11 +1,12 @@
 //! Short scalars without properties, in pretty form: tame texts, which are plain wherever they stand, and those in double quotes.
 ghost use Rattle.std.specs.List.{list_all};
-ghost use Rattle.std.specs.Prelude.{◌≡◌, ◌≤◌, ◌+◌, true, false, length};
+ghost use Rattle.std.specs.Prelude.{◌≡◌, ◌≤◌, ◌+◌, true, false, not, ◌&&◌, ◌||◌, length};
 ghost use Rattle.yaml_parse_model.specs.Events.{text_of, body_of};
 ghost use Rattle.yaml_emit_text.specs.Runs.{is_even};
 ghost use Rattle.yaml_emit_text.specs.Tame.{IsTame, asks_plain, standing};
 ghost use Rattle.yaml_emit_layout.specs.Content.{emitter_event};
 ghost use Rattle.yaml_emit_layout.specs.Grammar.{has};
+ghost use Rattle.yaml_emit_state.specs.Framed.{IsFree};
 ghost use Rattle.yaml_emit_state.specs.Bare.{is_unmarked, most_short, IsInlineEvent, is_double, is_framed, is_shallow};
 
 use crate::indent::is_not_deep;
@@ -46,6 +47,32 @@ fn is_unmarked(
     ensures { result ≡ is_unmarked (text_of anchor.now) (text_of tag.now) plain style }
 {
     !is_given(anchor) && !is_given(tag) && plain && asks_plain(style)
+}
+
+// Whether no anchor and no tag stands there, and a tag may be left out.
+fn is_free_by(anchor: &Option<Vec<u8>>, tag: &Option<Vec<u8>>, plain: bool, quoted: bool) -> bool
+    ensures { result ≡ (not (has (text_of anchor.now))
+        && (not (has (text_of tag.now)) && (plain || quoted))) }
+{
+    !is_given(anchor) && !is_given(tag) && (plain || quoted)
+}
+
+/// Whether an event is a scalar without anchor and tag, which may be left out.
+// Inlined: some tests.
+#[inline(always)]
+pub fn is_free(event: &yaml_event_body_t) -> bool
+    ensures { result ≡ true → IsFree (emitter_event (body_of event.now)) }
+{
+    match event {
+        yaml_event_body_t::Scalar {
+            anchor,
+            tag,
+            plain_implicit,
+            quoted_implicit,
+            ..
+        } => is_free_by(anchor, tag, *plain_implicit, *quoted_implicit),
+        _ => false,
+    }
 }
 
 // Inlined: a test and a loop.

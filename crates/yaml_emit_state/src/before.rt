@@ -1,13 +1,15 @@
 //! What comes before nodes in their collections, and what ends these.
-ghost use Rattle.std.specs.Prelude.{◌≡◌, ◌∷◌, [], None, Some, true, false, not, ◌&&◌, ◌-◌};
+ghost use Rattle.std.specs.Prelude.{◌≡◌, ◌∷◌, [], None, Some, true, false, not, ◌&&◌, ◌-◌, ◌+◌, ◌<◌, nat_le};
 ghost use Rattle.yaml_types.specs.Ascii as ascii;
 ghost use Rattle.yaml_emit_text.specs.Sink.{Puts};
 ghost use Rattle.yaml_emit_text.specs.Layout.{◌▹◌, stay, when, char, word, opener};
 ghost use Rattle.yaml_emit_layout.specs.Nodes.{comma, turned, question, before_item, before_key, before_value, closer, line_at, wrap_at, checked};
 ghost use Rattle.yaml_emit_layout.specs.State.{before_at, before_node, closer_at, is_fresh};
+ghost use Rattle.yaml_emit_state.specs.Framed.{has_comma, mark_of, is_behind_simple};
 
+use crate::indent::is_not_deep;
 use yaml_emit_layout::{Level, Phase};
-use yaml_emit_text::{Settings, Sink};
+use yaml_emit_text::{Settings, Sink, Turn};
 
 /// A space behind an alias that is a simple key.
 pub fn put_blank_if(sink: &mut Sink, due: bool)
@@ -157,39 +159,53 @@ pub fn put_before(sink: &mut Sink, settings: &Settings, top: &Option<Level>, sim
     }
 }
 
-// Inlined: a byte in front of a line.
+// A comma and a line, and what ends a collection behind them.
+// Inlined: some stores.
 #[inline(always)]
-fn put_last_line(sink: &mut Sink, settings: &Settings, indent: u64)
-    ensures { Puts sink.old sink.new (char ascii.comma ▹ line_at settings.now indent) }
+fn put_last(sink: &mut Sink, settings: &Settings, indent: u64, c: u8)
+    requires { c < 128 }
+    ensures { Puts sink.old sink.new ((char ascii.comma ▹ line_at settings.now indent) ▹ char c) }
 {
-    sink.put(',');
-    sink.put_line(settings.line_break, indent);
+    let turn = Turn {
+        comma: true,
+        line_break: settings.line_break,
+        indent,
+        mark: None,
+        sign: None,
+    };
+    sink.put_led(&turn, &[c]);
 }
 
-// Inlined: it is two bytes and a line, or a test in front of them.
+// What ends a collection, with a comma and a line in front where they are due.
+// Inlined: a test in front of some stores.
 #[inline(always)]
-fn put_last_line_if(sink: &mut Sink, due: bool, settings: &Settings, indent: u64)
-    ensures { Puts sink.old sink.new (when due (char ascii.comma ▹ line_at settings.now indent)) }
+fn put_end(sink: &mut Sink, due: bool, settings: &Settings, indent: u64, c: u8)
+    requires { c < 128 }
+    ensures { Puts sink.old sink.new
+        (when due (char ascii.comma ▹ line_at settings.now indent) ▹ char c) }
 {
     if due {
-        put_last_line(sink, settings, indent);
+        put_last(sink, settings, indent, c);
+    } else {
+        sink.put(c as char);
     }
 }
 
 // Inlined: where the form is known it is short.
 #[inline(always)]
 #[tactic(auto, unfolding(yaml_emit_layout::specs::Nodes::closer))]
-fn put_closer(sink: &mut Sink, settings: &Settings, flow: bool, indent: u64, fresh: bool, c: char)
+fn put_closer(sink: &mut Sink, settings: &Settings, flow: bool, indent: u64, fresh: bool, c: u8)
+    requires { c < 128 }
     ensures { Puts sink.old sink.new (closer settings.now flow indent fresh c) }
 {
     if flow {
-        put_last_line_if(
+        put_end(
             sink,
             settings.canonical && !fresh,
             settings,
             indent.saturating_sub(settings.indent),
+            c,
         );
-        sink.put(c);
     }
 }
 
@@ -206,7 +222,8 @@ fn is_fresh_phase(phase: Phase) -> bool
 /// What ends the innermost collection.
 // Inlined: where the form is known it is short.
 #[inline(always)]
-pub fn put_closer_at(sink: &mut Sink, settings: &Settings, top: &Option<Level>, c: char)
+pub fn put_closer_at(sink: &mut Sink, settings: &Settings, top: &Option<Level>, c: u8)
+    requires { c < 128 }
     ensures { Puts sink.old sink.new (closer_at settings.now top.now c) }
 {
     match top {
@@ -230,5 +247,71 @@ pub fn put_opener_if(sink: &mut Sink, flow: bool, c: char)
 {
     if flow {
         sink.put_opener(c);
+    }
+}
+
+fn has_comma(phase: Phase) -> bool
+    ensures { result ≡ has_comma phase }
+{
+    match phase {
+        Phase::Items(fresh) => !fresh,
+        Phase::Keys(fresh) => !fresh,
+        Phase::Value(_) => false,
+    }
+}
+
+fn mark_of(phase: Phase) -> Option<u8>
+    ensures { result ≡ mark_of phase }
+{
+    match phase {
+        Phase::Items(_) => None,
+        Phase::Keys(_) => Some(b'?'),
+        Phase::Value(_) => Some(b':'),
+    }
+}
+
+fn is_behind_simple(phase: Phase) -> bool
+    ensures { result ≡ is_behind_simple phase }
+{
+    match phase {
+        Phase::Value(was_simple) => was_simple,
+        _ => false,
+    }
+}
+
+/// Whether a node in a collection begins a line in canonical form, and isn't too deep.
+// Inlined: some tests.
+#[inline(always)]
+pub fn is_turning(settings: &Settings, level: Level) -> bool
+    ensures form { result ≡ true → settings.now.canonical ≡ true }
+    ensures flow { result ≡ true → level.flow ≡ true }
+    ensures turns { result ≡ true → is_behind_simple level.phase ≡ false }
+    ensures shallow { result ≡ true → nat_le (level.indent + settings.now.indent) 2147483647
+        ≡ true }
+{
+    settings.canonical
+        && level.flow
+        && !is_behind_simple(level.phase)
+        && is_not_deep(level.indent, settings.indent)
+}
+
+/// What that line begins with.
+// Inlined: some tests.
+#[inline(always)]
+pub fn turn_of(settings: &Settings, level: Level, sign: Option<u8>) -> Turn
+    ensures { result ≡ record {
+      comma = has_comma level.phase;
+      line_break = settings.now.line_break;
+      indent = level.indent;
+      mark = mark_of level.phase;
+      sign = sign;
+    } }
+{
+    Turn {
+        comma: has_comma(level.phase),
+        line_break: settings.line_break,
+        indent: level.indent,
+        mark: mark_of(level.phase),
+        sign,
     }
 }

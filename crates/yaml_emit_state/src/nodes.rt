@@ -3,12 +3,11 @@ ghost use Rattle.std.specs.Prelude.{◌≡◌, ◌≢◌, ◌<◌, ◌∷◌, []
 ghost use Rattle.yaml_types.specs.Ascii as ascii;
 ghost use Rattle.std.specs.Str.{chars, IsAscii};
 ghost use Rattle.yaml_parse_model.specs.Events.{text_of};
-ghost use Rattle.yaml_emit_tags.specs.parse_model.Nodes.{str_tag, seq_tag, map_tag};
+ghost use Rattle.yaml_emit_tags.specs.parse_model.Nodes.{seq_tag, map_tag};
 ghost use Rattle.yaml_emit_tags.specs.Tags.{tag_spelling};
 ghost use Rattle.yaml_emit_text.specs.Sink.{Puts};
 ghost use Rattle.yaml_emit_text.specs.Tame.{IsTame};
 ghost use Rattle.yaml_emit_text.specs.Layout.{◌▹◌, stay, when, char, word, opener};
-ghost use Rattle.yaml_emit_text.specs.Quoted.{double_quoted};
 ghost use Rattle.yaml_emit_text.specs.Scalars.{scalar_text};
 ghost use Rattle.yaml_emit_layout.specs.Grammar.{kept_if, kept_tag, has};
 ghost use Rattle.yaml_emit_layout.specs.Nodes.{alias_layout, anchor_text, tag_text, properties_text, mark_text, scalar_layout, style_of, is_plain, checked, deeper, page_at, is_flow};
@@ -21,10 +20,7 @@ use crate::given::{Context, Scalar, Start};
 use crate::indent::{deeper, is_flow, is_simple_part, put_checked};
 use yaml_emit_layout::NodePosition;
 use yaml_emit_tags::{DirectiveTable, put_tag};
-use yaml_emit_text::{
-    Page, Settings, Sink, Style, allowed_by, are_solid, put_opening_quote, put_quoted_inside,
-    put_solid, put_styled, put_tame, taken, text,
-};
+use yaml_emit_text::{Page, Settings, Sink, Style, allowed_by, put_styled, put_tame, taken, text};
 use yaml_parse_model::{YAML_MAP_TAG, YAML_SEQ_TAG, YAML_STR_TAG};
 
 // Out of line: few registers are needed.
@@ -234,80 +230,10 @@ fn put_lines(
     }
 }
 
-// A value in quotes, behind `!` where that is due. One that stands as it is needs no page.
-// Inlined: mostly it is a look at the value and a call.
-#[inline(always)]
-fn put_in_quotes(
-    sink: &mut Sink,
-    settings: &Settings,
-    position: NodePosition,
-    indentation: u64,
-    marked: bool,
-    value: &[u8],
-)
-    requires { IsUtf8 value.now }
-    ensures { Puts sink.old sink.new (when marked (word (ascii.exclamation ∷ []))
-        ▹ double_quoted (record (page_at settings.now position) {
-          indentation = indentation;
-        }) (chars value.now)) }
-{
-    if are_solid(value) {
-        put_solid(sink, marked, value);
-    } else {
-        let page = Page {
-            width: settings.width,
-            indentation,
-            unicode: settings.unicode,
-            cuts: !is_simple_part(position.part),
-            line_break: settings.line_break,
-        };
-        put_opening_quote(sink, marked);
-        put_quoted_inside(sink, page, text(value));
-    }
-}
-
-// A scalar without a tag in canonical form, behind its anchor: `!` where it is due, and the value in quotes.
-// Inlined: mostly it is a few bytes round the value.
-#[inline(always)]
-fn put_untagged(
-    sink: &mut Sink,
-    settings: &Settings,
-    position: NodePosition,
-    quoted: bool,
-    value: &[u8],
-)
-    requires { IsUtf8 value.now }
-    ensures { Puts sink.old sink.new (when (not quoted) (word (ascii.exclamation ∷ []))
-        ▹ (checked (deeper settings.now position.around)
-        ▹ double_quoted (page_at settings.now position) (chars value.now))) }
-{
-    let depth = deeper(settings, position.around);
-    match depth {
-        None => {
-            put_exclamation_if(sink, !quoted);
-            put_checked(sink, depth);
-        }
-        Some(indentation) => put_in_quotes(sink, settings, position, indentation, !quoted, value),
-    }
-}
-
-// A scalar with a tag in canonical form, behind its anchor.
-// Inlined: then what it is given needn't stand in memory.
-#[inline(always)]
-fn put_tagged(sink: &mut Sink, context: &Context, position: NodePosition, tag: &[u8], value: &[u8])
-    requires { IsUtf8 value.now }
-    ensures { Puts sink.old sink.new (tag_text (lent_context context.now) (Some tag.now)
-        ▹ (checked (deeper context.now.settings.now position.around)
-        ▹ scalar_text (page_at context.now.settings.now position) context.now.settings.now.indent
-        position.flow Style.Double (chars value.now))) }
-{
-    put_tag(sink, context.directives, tag);
-    put_untagged(sink, context.settings, position, true, value);
-}
-
+/// Whether a document has no tag directive.
 // Inlined: one read.
 #[inline(always)]
-fn are_none(directives: &DirectiveTable) -> bool
+pub fn are_none(directives: &DirectiveTable) -> bool
     ensures { result ≡ true → directives.now ≡ [] }
 {
     directives.list().is_empty()
@@ -337,15 +263,6 @@ fn put_default_tag(
     }
 }
 
-// The tag of a text.
-// Inlined: its bytes are known.
-#[inline(always)]
-fn put_str_tag(sink: &mut Sink, directives: &DirectiveTable)
-    ensures { Puts sink.old sink.new (word (tag_spelling directives.now str_tag)) }
-{
-    put_default_tag(sink, directives, YAML_STR_TAG, b"!!str", b" !!str");
-}
-
 // The tag of a sequence.
 // Inlined: its bytes are known.
 #[inline(always)]
@@ -365,7 +282,7 @@ fn put_map_tag(sink: &mut Sink, directives: &DirectiveTable)
 }
 
 /// A text with the default tag and without an anchor, in canonical form.
-// Inlined: it is a few bytes round its value.
+// Inlined into its one caller.
 #[inline(always)]
 pub fn put_text(sink: &mut Sink, context: &Context, position: NodePosition, value: &[u8])
     requires utf8 { IsUtf8 value.now }
@@ -373,38 +290,22 @@ pub fn put_text(sink: &mut Sink, context: &Context, position: NodePosition, valu
     ensures { (style : yaml_scalar_style_t) → Puts sink.old sink.new
         (scalar_layout (lent_context context.now) position (plain_text value.now style)) }
 {
-    put_str_tag(sink, context.directives);
-    put_untagged(sink, context.settings, position, true, value);
+    put_tag(sink, context.directives, YAML_STR_TAG);
+    put_lines(
+        sink,
+        context.settings,
+        position,
+        Style::Double,
+        value,
+        false,
+    );
 }
 
-// A scalar in canonical form: it is double quoted, and each tag is written.
-// Inlined: mostly it has no property, and is a few bytes round its value.
-#[inline(always)]
-fn put_canonical_scalar(sink: &mut Sink, context: &Context, position: NodePosition, scalar: &Scalar)
-    requires utf8 { IsUtf8 scalar.now.value.now }
-    requires named { IsNamed (text_of scalar.now.anchor.now) }
-    requires canonical { context.now.settings.now.canonical ≡ true }
-    ensures { Puts sink.old sink.new (scalar_layout (lent_context context.now) position
-        (lent_scalar scalar.now)) }
-{
-    put_anchor_if(sink, scalar.anchor);
-    match scalar.tag {
-        None => put_untagged(
-            sink,
-            context.settings,
-            position,
-            scalar.quoted,
-            scalar.value,
-        ),
-        Some(tag) => put_tagged(sink, context, position, tag, scalar.value),
-    }
-}
-
-// A scalar in pretty form, or in either.
+/// A scalar, with its anchor and tag.
 // Inlined: where the form is known, and most of what it is given.
 #[inline(always)]
 #[tactic(auto, unfolding(yaml_emit_layout::specs::Nodes::scalar_layout))]
-fn put_any_scalar(sink: &mut Sink, context: &Context, position: NodePosition, scalar: &Scalar)
+pub fn put_scalar(sink: &mut Sink, context: &Context, position: NodePosition, scalar: &Scalar)
     requires utf8 { IsUtf8 scalar.now.value.now }
     requires named { IsNamed (text_of scalar.now.anchor.now) }
     requires tame { scalar.now.tame ≡ true → IsTame scalar.now.value.now }
@@ -426,30 +327,6 @@ fn put_any_scalar(sink: &mut Sink, context: &Context, position: NodePosition, sc
         is_marked(context.settings.canonical, tag, plain, quoted, chosen),
     );
     put_lines(sink, context.settings, position, chosen, value, scalar.tame);
-}
-
-/// A scalar, with its anchor and tag.
-// Inlined: where the form is known one call is left.
-#[inline(always)]
-pub fn put_scalar(
-    sink: &mut Sink,
-    context: &Context,
-    position: NodePosition,
-    scalar: &Scalar,
-    canonical: bool,
-)
-    requires utf8 { IsUtf8 scalar.now.value.now }
-    requires named { IsNamed (text_of scalar.now.anchor.now) }
-    requires tame { scalar.now.tame ≡ true → IsTame scalar.now.value.now }
-    requires form { canonical ≡ context.now.settings.now.canonical }
-    ensures { Puts sink.old sink.new (scalar_layout (lent_context context.now) position
-        (lent_scalar scalar.now)) }
-{
-    if canonical {
-        put_canonical_scalar(sink, context, position, scalar);
-    } else {
-        put_any_scalar(sink, context, position, scalar);
-    }
 }
 
 /// What opens a collection, with its anchor and tag.

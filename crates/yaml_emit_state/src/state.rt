@@ -5,6 +5,7 @@ ghost use Rattle.yaml_parse_model.specs.Constructors.{HasUtf8};
 ghost use Rattle.yaml_emit_text.specs.Tame.{IsTame};
 
 mod event;
+mod framed;
 mod moves;
 mod pretty;
 mod resume;
@@ -14,7 +15,7 @@ use crate::given::{Context, EventPosition, Scalar};
 use crate::judge::problem_of;
 use crate::keys::{is_simple, is_simple_alias, is_simple_key, is_undecided_event};
 use crate::levels::Levels;
-use event::{put_alias_node, put_event, put_plain_node, put_scalar_node, put_text_node};
+use event::{put_alias_node, put_event, put_plain_node, put_scalar_node};
 pub use resume::yaml_emitter_stand_t;
 use std::alloc::{AllocError, Global};
 use yaml_emit_layout::Expected;
@@ -255,7 +256,7 @@ impl Core {
         };
         let top = self.levels.innermost();
         let simple = is_simple_key(&context, top, given);
-        put_scalar_node(&mut self.sink, &context, top, simple, given, canonical);
+        put_scalar_node(&mut self.sink, &context, top, simple, given);
         self.step(simple);
     }
 
@@ -408,7 +409,7 @@ impl Core {
         }
     }
 
-    // In canonical form. A scalar is short where kind and form are known.
+    // In canonical form.
     // Out of line: what other kinds and the other form need takes no room here.
     #[inline(never)]
     fn lay_canonical(&mut self, event: &mut yaml_event_body_t, empty: bool)
@@ -417,7 +418,7 @@ impl Core {
         ensures { LaysOut self.old self.new (emitter_event (body_of event.old)) empty }
     {
         match event {
-            yaml_event_body_t::Scalar { .. } => self.lay_scalar(event, empty, true),
+            yaml_event_body_t::Scalar { .. } => self.lay_named_scalar(event, empty),
             yaml_event_body_t::SequenceStart { .. } => self.lay_sequence_start(event, empty),
             yaml_event_body_t::MappingStart { .. } => self.lay_mapping_start(event, empty),
             yaml_event_body_t::SequenceEnd => self.lay_sequence_end(empty),
@@ -450,14 +451,9 @@ impl Core {
         ensures { (style : yaml_scalar_style_t) → (empty : Bool) → LaysOut self.old self.new
             (scalar (plain_text value.now style)) empty }
     {
-        let settings = self.settings(true);
-        let context = Context {
-            settings: &settings,
-            directives: &self.directives,
-        };
-        let top = self.levels.innermost();
-        put_text_node(&mut self.sink, &context, top, value);
-        self.step(false);
+        if !self.put_framed_text(value) {
+            self.lay_any_text(value);
+        }
     }
 
     /// Lays out what opens a sequence, or a mapping, with the default tag and without an anchor, where a node is due, in
@@ -488,7 +484,7 @@ impl Core {
         ensures { LaysOut self.old self.new (emitter_event (body_of event.old)) false }
     {
         if self.settings.canonical {
-            self.lay_canonical(event, false);
+            self.lay_canonical_scalar(event, false);
         } else {
             self.lay_pretty_scalar(event, false);
         }

@@ -1,6 +1,6 @@
 -- Tame texts that are written plain at once: alone, or behind a character and a space.
 use Rattle.std.proofs.Common.{◌≡◌, ℕ, ◌+◌, ◌≤◌, ◌<◌, length, length-append, append_assoc, get_or, List, [], ◌∷◌, ◌++◌, Bool, true, false, refl, sym, subst, ◌∙◌, ap, arith}
-use Rattle.std.specs.Prelude.{zero, suc, ◌||◌, ◌==◌, nat_le, nat_lt, if◌then◌else◌}
+use Rattle.std.specs.Prelude.{zero, suc, ◌||◌, ◌==◌, nat_le, nat_lt, if◌then◌else◌, Option, Some, None}
 use Rattle.std.specs.Str.{chars, IsAscii}
 use Rattle.std.proofs.lemmas.Bool.{and_parts}
 use Rattle.std.proofs.lemmas.Bool.Decides.{nat_tests}
@@ -16,6 +16,8 @@ use Rattle.yaml_emit_sink.specs.declared.LineBreak.{LineBreak}
 use Rattle.yaml_emit_sink.specs.Text.{Item, letter}
 use Rattle.yaml_emit_sink.specs.Layout.{Rest, ◌▹◌, char, letters, line, wrap, indicator, after_text}
 use Rattle.yaml_emit_sink.specs.Sink.{Output, Puts}
+use Rattle.yaml_emit_sink.specs.Turns.{marks}
+use Rattle.yaml_emit_sink.proofs.Ascii.{letters_both}
 use Rattle.yaml_emit_sink.proofs.Lines.{line_lands}
 use Rattle.yaml_emit_sink.proofs.Sinks.{puts_as, cond_true, cond_false}
 use Rattle.yaml_emit_text.specs.declared.page.Page.{Page}
@@ -302,14 +304,10 @@ puts_standing quoted pre framed f v e a b p q r put =
     let P : List ℕ → Type 0 = λ t. Puts a b (letters t) in
     subst P (joined_is quoted pre framed f v e p q r) put
 
-pub lead_framed : (item : Bool) (pre framed : List ℕ) → pre ≡ beside item [] (45 ∷ 32 ∷ [])
-    → framed ≡ beside item (34 ∷ []) (45 ∷ 32 ∷ 34 ∷ []) → framed ≡ pre ++ 34 ∷ []
-lead_framed true pre framed p q = q ∙ ap (λ (t : List ℕ). t ++ 34 ∷ []) (sym p)
-lead_framed false pre framed p q = q ∙ ap (λ (t : List ℕ). t ++ 34 ∷ []) (sym p)
-
-pub lead_few : (item : Bool) (pre : List ℕ) → pre ≡ beside item [] (45 ∷ 32 ∷ []) → length pre ≤ 2
-lead_few true pre p = let e : pre ≡ 45 ∷ 32 ∷ [] = p in rw e (omega arith)
-lead_few false pre p = let e : pre ≡ [] = p in rw e (omega arith)
+pub lead_signs : (item : Bool) (m : Option ℕ) → m ≡ (if item then Some 45 else None)
+    → marks m ++ marks None ≡ beside item [] (45 ∷ 32 ∷ [])
+lead_signs true m e = rw e refl
+lead_signs false m e = rw e refl
 
 pub lead_ascii : (item : Bool) (pre : List ℕ) → pre ≡ beside item [] (45 ∷ 32 ∷ []) → IsAscii pre
 lead_ascii true pre p = let P : List ℕ → Type 0 = λ z. IsAscii z in subst P (sym p) (IsAscii-cons 45 (32 ∷ []) (omega arith) (IsAscii-cons 32 [] (omega arith) IsAscii-nil))
@@ -319,11 +317,14 @@ lead_is : (item : Bool) (pre : List ℕ) → pre ≡ beside item [] (45 ∷ 32 �
 lead_is true pre p = p
 lead_is false pre p = p
 
-pub puts_behind_line : (item quoted : Bool) (pre framed f v e : List ℕ) (k : LineBreak) (n : ℕ)
-    (a b : Output) → pre ≡ beside item [] (45 ∷ 32 ∷ []) → f ≡ beside quoted pre framed
-    → e ≡ beside quoted [] (34 ∷ []) → framed ≡ pre ++ 34 ∷ []
-    → Puts a b (line k n ▹ letters (f ++ (v ++ e)))
+pub puts_behind_line : (item quoted : Bool) (m : Option ℕ) (f v e : List ℕ) (k : LineBreak) (n : ℕ)
+    (a b : Output) → m ≡ (if item then Some 45 else None) → f ≡ beside quoted [] (34 ∷ [])
+    → e ≡ beside quoted [] (34 ∷ [])
+    → Puts a b (line k n ▹ (letters (marks m ++ marks None) ▹ letters (f ++ (v ++ e))))
     → Puts a b (line k n ▹ letters (lead item ++ standing quoted v))
-puts_behind_line item quoted pre framed f v e k n a b l p q r put =
-    let P : List ℕ → Type 0 = λ t. Puts a b (line k n ▹ letters t) in
-    subst P (joined_is quoted pre framed f v e p q r ∙ ap (λ (t : List ℕ). t ++ standing quoted v) (lead_is item pre l)) put
+puts_behind_line item quoted m f v e k n a b l p q put =
+    let P : List ℕ → Type 0 = λ t. Puts a b (line k n ▹ (letters t ▹ letters (f ++ (v ++ e)))) in
+    let Q : List ℕ → Type 0 = λ t. Puts a b (line k n ▹ (letters (lead item) ▹ letters t)) in
+    puts_as a b (line k n ▹ (letters (lead item) ▹ letters (standing quoted v))) (line k n ▹ letters (lead item ++ standing quoted v))
+    (λ rest. line_lands k n (letters (lead item ++ standing quoted v)) (letters (lead item) ▹ letters (standing quoted v)) rest (λ kept. letters_both (lead item) (standing quoted v) (record { column = n; white = true; bare = true; kept = kept }) rest) a.cursor)
+    (subst Q (joined_is quoted [] (34 ∷ []) f v e p q refl) (subst P (lead_is item _ (lead_signs item m l)) put))

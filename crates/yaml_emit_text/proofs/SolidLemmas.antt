@@ -35,10 +35,6 @@ behind_ascii bs h = IsAscii-append bs (34 ∷ []) (solid_ascii bs h) (IsAscii-co
 pub quoted_ascii : (bs : List ℕ) → list_all is_solid bs ≡ true → IsAscii (34 ∷ (bs ++ 34 ∷ []))
 quoted_ascii bs h = IsAscii-cons 34 (bs ++ 34 ∷ []) (omega arith) (behind_ascii bs h)
 
-pub marked_ascii : (bs : List ℕ) → list_all is_solid bs ≡ true
-    → IsAscii (33 ∷ 32 ∷ 34 ∷ (bs ++ 34 ∷ []))
-marked_ascii bs h = IsAscii-cons 33 (32 ∷ 34 ∷ (bs ++ 34 ∷ [])) (omega arith) (IsAscii-cons 32 (34 ∷ (bs ++ 34 ∷ [])) (omega arith) (quoted_ascii bs h))
-
 -- with the quote behind it
 body_is : (page : Page) (before : ℕ) (bs : List ℕ) (c : Cursor) (rest : Rest)
     → list_all is_solid bs ≡ true
@@ -59,15 +55,6 @@ unfolding letters
 quoted_at true page bs column bare kept rest h = ap (λ t. letter 34 ∷ t) (body_is page 32 bs _ rest h)
 quoted_at false page bs column bare kept rest h = ap (λ t. letter 32 ∷ letter 34 ∷ t) (body_is page 32 bs _ rest h)
 
-marked_at : (white : Bool) (page : Page) (bs : List ℕ) (column : ℕ) (bare kept : Bool) (rest : Rest)
-    → list_all is_solid bs ≡ true
-    → let c : Cursor = record { column = column; white = white; bare = bare; kept = kept } in
-    (word (33 ∷ []) ▹ (gap ▹ (char 34 ▹ (quoted_body page 32 bs ▹ char 34)))) c rest
-    ≡ word (33 ∷ 32 ∷ 34 ∷ (bs ++ 34 ∷ [])) c rest
-unfolding letters
-marked_at true page bs column bare kept rest h = ap (λ t. letter 33 ∷ letter 32 ∷ letter 34 ∷ t) (body_is page 32 bs _ rest h)
-marked_at false page bs column bare kept rest h = ap (λ t. letter 32 ∷ letter 33 ∷ letter 32 ∷ letter 34 ∷ t) (body_is page 32 bs _ rest h)
-
 chars_are : (page : Page) (bs : List ℕ) (a b : Output) (w : List ℕ → Layout)
     → list_all is_solid bs ≡ true → Puts a b (w bs) → Puts a b (w (chars bs))
 chars_are page bs a b w h p = let P : List ℕ → Type 0 = λ t. Puts a b (w t) in subst P (sym (chars-IsAscii bs (solid_ascii bs h))) p
@@ -78,9 +65,10 @@ puts_solid page bs a b h p =
     chars_are page bs a b (λ t. double_quoted page t) h
     (puts_as a b (word (34 ∷ (bs ++ 34 ∷ []))) (double_quoted page bs) (λ rest. quoted_at a.cursor.white page bs a.cursor.column a.cursor.bare a.cursor.kept rest h) p)
 
-pub puts_marked : (page : Page) (bs : List ℕ) (a b : Output) → list_all is_solid bs ≡ true
-    → Puts a b (word (33 ∷ 32 ∷ 34 ∷ (bs ++ 34 ∷ [])))
-    → Puts a b (word (33 ∷ []) ▹ double_quoted page (chars bs))
-puts_marked page bs a b h p =
-    chars_are page bs a b (λ t. word (33 ∷ []) ▹ double_quoted page t) h
-    (puts_as a b (word (33 ∷ 32 ∷ 34 ∷ (bs ++ 34 ∷ []))) (word (33 ∷ []) ▹ double_quoted page bs) (λ rest. marked_at a.cursor.white page bs a.cursor.column a.cursor.bare a.cursor.kept rest h) p)
+-- what it is at a cursor
+pub solid_word : (page : Page) (bs : List ℕ) (c : Cursor) (rest : Rest)
+    → list_all is_solid bs ≡ true
+    → double_quoted page (chars bs) c rest ≡ word (34 ∷ (bs ++ 34 ∷ [])) c rest
+solid_word page bs c rest h =
+    ap (λ (t : List ℕ). double_quoted page t c rest) (chars-IsAscii bs (solid_ascii bs h))
+    ∙ quoted_at c.white page bs c.column c.bare c.kept rest h

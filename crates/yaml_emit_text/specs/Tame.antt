@@ -1,5 +1,5 @@
 -- Texts that are written as they are where they fit their line: plain ones, which allow every style, and ones in double quotes.
-use Rattle.std.specs.Prelude.{◌≡◌, ℕ, List, [], ◌∷◌, ◌++◌, Bool, true, false}
+use Rattle.std.specs.Prelude.{◌≡◌, ◌⊎◌, ℕ, ◌+◌, ◌≤◌, List, [], ◌∷◌, ◌++◌, length, Bool, true, false}
 use Rattle.std.specs.List.{list_all}
 use Rattle.std.specs.Str.{chars}
 use Rattle.yaml_types.specs.Ascii as ascii
@@ -8,7 +8,7 @@ use Rattle.yaml_types.specs.declared.yaml_scalar_style_t.TheVariants as asked
 use Rattle.yaml_emit_sink.specs.Layout.{Layout}
 use Rattle.yaml_emit_text.specs.declared.page.Page.{Page}
 use Rattle.yaml_emit_text.specs.Quoted.{double_quoted}
-use Rattle.yaml_emit_text.specs.Runs.{all_pass, calm, is_even}
+use Rattle.yaml_emit_text.specs.Runs.{all_pass, calm, is_even, is_solid}
 use Rattle.yaml_emit_text.specs.Scalars.{plain}
 use Rattle.yaml_emit_text.specs.Style.{ends_in_space, starts_badly}
 
@@ -46,3 +46,9 @@ standing_text true page flow value = double_quoted page (chars value)
 abbrev pub lead : Bool → List ℕ
 lead true = ascii.hyphen ∷ ascii.space ∷ []
 lead false = []
+
+-- it stands in its line in double quotes as it is, behind that column and at most fourteen characters: wherever that is, or up to
+-- the width
+abbrev pub IsLined : ℕ → ℕ → List ℕ → Type 0
+IsLined column width value = (list_all is_solid value ≡ true)
+    ⊎ ((list_all is_even value ≡ true) × (column + (16 + length (standing true value)) ≤ width))

@@ -18,11 +18,12 @@ pub use flow::{put_plain, put_single_quoted};
 pub use laws::quoted_spells;
 pub use letters::text;
 pub use page::{Allowed, Chomp, Page, Seen, Style};
-pub use quoted::{put_double_quoted, put_opening_quote, put_quoted_inside};
+pub use quoted::put_double_quoted;
 pub use scalar::put_styled;
-pub use solid::{are_even, are_solid, put_solid};
+pub use solid::are_even;
 pub use style::{allowed_for, taken};
-pub use tamed::{allowed_by, fits, is_tame, put_in_line, put_standing, put_tame};
+pub use tamed::{allowed_by, fits, is_lined, is_tame, put_in_line, put_standing, put_tame};
 pub use yaml_emit_sink::{
-    Cursor, Encoding, LineBreak, RequestedSettings, Settings, Sink, Status, settled, utf8_encodes,
+    Cursor, Encoding, LineBreak, RequestedSettings, Settings, Sink, Status, Turn, settled,
+    utf8_encodes,
 };

@@ -12,6 +12,7 @@ ghost use Rattle.yaml_emit_text.specs.Quoted.{is_printable, needs_escape, escape
 use crate::letters::{first, is_break, is_empty, split_first};
 use crate::page::Page;
 use crate::run::{Bounds, last_of, split_run};
+use crate::solid::{are_solid, put_solid};
 use yaml_emit_sink::{Sink, put_hex_2};
 
 fn put_hex_4(sink: &mut Sink, n: u32)
@@ -203,37 +204,13 @@ fn put_quoted_body(sink: &mut Sink, page: Page, value: &str)
     put_quoted_rest(sink, page, before, left);
 }
 
-// The quote that opens a double quoted scalar, behind `!` where that is due.
-// Inlined: mostly there is room, and it is a store or two.
-#[inline(always)]
-fn put_quote(sink: &mut Sink, marked: bool)
-    ensures { Puts sink.old sink.new
-        (when marked (word (ascii.exclamation ∷ [])) ▹ (gap ▹ char ascii.quote)) }
-{
-    if marked {
-        sink.put_known_word(b"! \"", b" ! \"");
-    } else {
-        sink.put_known_word(b"\"", b" \"");
-    }
-}
-
-/// The quote that opens a double quoted scalar, behind `!` where that is due, with spaces in front where they are due.
-// Out of line: few registers are needed, and the ways that call it stay small.
+// A double quoted scalar of any bytes.
+// Out of line: the way beside the short one.
 #[inline(never)]
-pub fn put_opening_quote(sink: &mut Sink, marked: bool)
-    ensures { Puts sink.old sink.new
-        (when marked (word (ascii.exclamation ∷ [])) ▹ (gap ▹ char ascii.quote)) }
+fn put_any_quoted(sink: &mut Sink, page: Page, value: &str)
+    ensures { Puts sink.old sink.new (double_quoted page (chars value.now)) }
 {
-    put_quote(sink, marked);
-}
-
-/// What stands behind the quote that opens a double quoted scalar, and the quote that closes it.
-// Inlined: then what it is given needn't stand in memory.
-#[inline(always)]
-pub fn put_quoted_inside(sink: &mut Sink, page: Page, value: &str)
-    ensures { Puts sink.old sink.new
-        (quoted_body page ascii.space (chars value.now) ▹ char ascii.quote) }
-{
+    sink.put_known_word(b"\"", b" \"");
     put_quoted_body(sink, page, value);
     sink.put('"');
 }
@@ -241,9 +218,15 @@ pub fn put_quoted_inside(sink: &mut Sink, page: Page, value: &str)
 /// A double quoted scalar, with a space in front where one is due. Characters that are not printable, breaks, `"`, `\` and,
 /// with unicode off, what is not ASCII are escaped. Behind the width a space becomes a break and the indentation, unless the
 /// scalar is a simple key, a space goes before, or the space is first or last.
+// Inlined: where all bytes stand as they are no page is needed.
+#[inline(always)]
 pub fn put_double_quoted(sink: &mut Sink, page: Page, value: &str)
     ensures { Puts sink.old sink.new (double_quoted page (chars value.now)) }
 {
-    put_quote(sink, false);
-    put_quoted_inside(sink, page, value);
+    let bytes = value.as_bytes();
+    if are_solid(bytes) {
+        put_solid(sink, bytes);
+    } else {
+        put_any_quoted(sink, page, value);
+    }
 }

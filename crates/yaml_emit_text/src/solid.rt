@@ -65,18 +65,12 @@ pub fn are_even(value: &[u8]) -> bool
     true
 }
 
-/// A double quoted scalar whose bytes all stand as they are, behind `!` where that is due, with spaces in front where they are
-/// due.
+/// A double quoted scalar whose bytes all stand as they are, with a space in front where one is due.
 // Out of line: few registers are needed.
 #[inline(never)]
-pub fn put_solid(sink: &mut Sink, marked: bool, value: &[u8])
+pub fn put_solid(sink: &mut Sink, value: &[u8])
     requires { list_all is_solid value.now ≡ true }
-    ensures { (page : Page) → Puts sink.old sink.new (when marked (word (ascii.exclamation ∷ []))
-        ▹ double_quoted page (chars value.now)) }
+    ensures { (page : Page) → Puts sink.old sink.new (double_quoted page (chars value.now)) }
 {
-    if marked {
-        sink.put_around(b"! \"", b" ! \"", value, b"\"");
-    } else {
-        sink.put_around(b"\"", b" \"", value, b"\"");
-    }
+    sink.put_around(b"\"", b" \"", value, b"\"");
 }

@@ -1,6 +1,6 @@
 //! Tame texts, which allow every style and are written as they are where they fit their line: most scalars are.
 
-ghost use Rattle.std.specs.Prelude.{◌≡◌, ◌<◌, ◌≤◌, ◌+◌, ◌^◌, ◌∷◌, ◌++◌, [], length, if◌then◌else◌, Bool, true, false, IsUtf8};
+ghost use Rattle.std.specs.Prelude.{◌≡◌, ◌<◌, ◌≤◌, ◌+◌, ◌^◌, ◌∷◌, ◌++◌, [], length, if◌then◌else◌, Bool, true, false, Some, None, IsUtf8};
 ghost use Rattle.yaml_types.specs.Ascii as ascii;
 ghost use Rattle.std.specs.Str.{chars, IsAscii};
 ghost use Rattle.yaml_emit_sink.specs.Sink.{Puts};
@@ -8,15 +8,16 @@ ghost use Rattle.yaml_emit_sink.specs.Layout.{◌▹◌, letters, line};
 ghost use Rattle.yaml_emit_text.specs.Runs.{all_pass, calm};
 ghost use Rattle.yaml_emit_text.specs.Scalars.{flow_body, plain, scalar_text};
 ghost use Rattle.yaml_emit_text.specs.Style.{allowed, ends_in_space, starts_badly};
-ghost use Rattle.yaml_emit_text.specs.Tame.{IsTame, Stands, standing, lead};
+ghost use Rattle.yaml_emit_text.specs.Tame.{IsTame, Stands, IsLined, standing, lead};
 
 use crate::flow::put_flow_body;
 use crate::letters::text;
 use crate::page::{Allowed, Page, Style};
 use crate::run::are_calm;
 use crate::scalar::put_styled;
+use crate::solid::{are_even, are_solid};
 use crate::style::{allowed_for, begins_well};
-use yaml_emit_sink::{LineBreak, Sink};
+use yaml_emit_sink::{LineBreak, Sink, Turn};
 
 // Whether a text begins with a letter or a digit.
 fn starts_well(value: &[u8]) -> bool
@@ -149,7 +150,7 @@ fn beside<'a>(quoted: bool, plain: &'a [u8], framed: &'a [u8]) -> &'a [u8]
 #[inline(always)]
 fn standing_size(quoted: bool, value: &[u8]) -> u64
     ensures size { result ≡ length (standing quoted value.now) }
-    ensures small { result + 8 < 2 ^ 64 }
+    ensures small { result + 16 < 2 ^ 64 }
 {
     if quoted {
         value.len() as u64 + 2
@@ -162,10 +163,36 @@ fn standing_size(quoted: bool, value: &[u8]) -> u64
 // Inlined: two comparisons.
 #[inline(always)]
 pub fn fits(width: u64, column: u64, before: u64, quoted: bool, value: &[u8]) -> bool
-    requires { before ≤ 8 }
+    requires { before ≤ 16 }
     ensures { result ≡ true → column + (before + length (standing quoted value.now)) ≤ width }
 {
     is_within(width, column, before + standing_size(quoted, value))
+}
+
+// How many bytes a value has at most that is looked at here.
+const SHORT: usize = 32;
+
+// Whether a value stands in its line in double quotes.
+// Inlined: a loop.
+#[inline(always)]
+fn is_in_line(width: u64, column: u64, value: &[u8]) -> bool
+    ensures { result ≡ true → IsLined column width value.now }
+{
+    if fits(width, column, 16, true, value) {
+        are_even(value)
+    } else {
+        are_solid(value)
+    }
+}
+
+/// Whether a value stands in its line in double quotes, behind that column and at most fourteen characters. One that isn't short
+/// isn't asked.
+// Inlined: some tests and a loop.
+#[inline(always)]
+pub fn is_lined(width: u64, column: u64, value: &[u8]) -> bool
+    ensures { result ≡ true → IsLined column width value.now }
+{
+    value.len() <= SHORT && is_in_line(width, column, value)
 }
 
 /// A text that may stand in a line, plain or in quotes, behind at most two characters, which are given without and with the quote.
@@ -185,6 +212,15 @@ pub fn put_standing(sink: &mut Sink, front: &[u8], framed: &[u8], quoted: bool, 
     );
 }
 
+// What stands in front of a line's first text, by whether that is an item.
+// Inlined: it is known.
+#[inline(always)]
+fn hyphen(item: bool) -> Option<u8>
+    ensures { result ≡ (if item then Some ascii.hyphen else None) }
+{
+    if item { Some(b'-') } else { None }
+}
+
 /// The same at the start of a line, by whether it is an item.
 // Inlined: the numbers are known.
 #[inline(always)]
@@ -200,14 +236,16 @@ pub fn put_in_line(
     ensures { Puts sink.old sink.new (line line_break indent
         ▹ letters (lead item ++ standing quoted value.now)) }
 {
-    sink.put_lined(
+    let turn = Turn {
+        comma: false,
         line_break,
         indent,
-        beside(
-            quoted,
-            beside(item, b"", b"- "),
-            beside(item, b"\"", b"- \""),
-        ),
+        mark: hyphen(item),
+        sign: None,
+    };
+    sink.put_lined(
+        &turn,
+        beside(quoted, b"", b"\""),
         value,
         beside(quoted, b"", b"\""),
     );

@@ -1,17 +1,17 @@
 //! Texts that are put together with what stands round them.
-ghost use Rattle.std.specs.Prelude.{◌≡◌, ◌<◌, ◌≤◌, ◌∷◌, ◌++◌, ◌+◌, length};
+ghost use Rattle.std.specs.Prelude.{◌≡◌, ◌<◌, ◌≤◌, ◌∷◌, ◌++◌, ◌+◌, length, None, Some, ◌||◌};
 ghost use Rattle.yaml_types.specs.Ascii as ascii;
 
 use super::Sink;
 use crate::append::{indented, lettered};
-use crate::feed::{has_room, is_brief_with, put_line_between};
-use crate::settings::LineBreak;
+use crate::feed::{Turn, has_room, is_brief_turn, put_line_between, put_line_with, signs_size};
 use yaml_types::put_between;
 
 impl Sink {
     ghost use Rattle.std.specs.Str.{IsAscii};
     ghost use Rattle.yaml_emit_sink.specs.Sink.{Puts};
-    ghost use Rattle.yaml_emit_sink.specs.Layout.{◌▹◌, letters, line, word};
+    ghost use Rattle.yaml_emit_sink.specs.Turns.{marks, signs, turn_text};
+    ghost use Rattle.yaml_emit_sink.specs.Layout.{◌▹◌, when, char, letters, line, word, must_break};
 
     // One after another.
     // Out of line: the rare way, near the limit or in UTF-16, beside the short one.
@@ -42,56 +42,92 @@ impl Sink {
         }
     }
 
-    // A line, and what stands behind it.
-    // Out of line: the rare way, beside the short one.
+    // A comma, where one is due.
+    fn put_comma(&mut self, due: bool)
+        ensures { Puts self.old self.new (when due (char ascii.comma)) }
+    {
+        if due {
+            self.put(',');
+        }
+    }
+
+    // A character with a space behind it, where one is due.
+    fn put_mark(&mut self, mark: Option<u8>)
+        ensures { Puts self.old self.new (letters (marks mark)) }
+    {
+        match mark {
+            None => (),
+            Some(mark) => self.put_all(&[mark, b' ']),
+        }
+    }
+
+    // What a line begins with, and what stands behind it.
+    // Out of line: the rare way, beside the short ones.
     #[inline(never)]
-    fn put_lined_far(
-        &mut self,
-        line_break: LineBreak,
-        indent: u64,
-        front: &[u8],
-        text: &[u8],
-        end: &[u8],
-    )
+    fn put_lined_far(&mut self, turn: Turn, front: &[u8], text: &[u8], end: &[u8])
         requires few { length front.now + length end.now ≤ 8 }
         requires some { 0 < length front.now + length text.now }
         requires ascii { IsAscii (front.now ++ (text.now ++ end.now)) }
-        ensures { Puts self.old self.new (line line_break indent
+        ensures { Puts self.old self.new (turn_text turn
             ▹ letters (front.now ++ (text.now ++ end.now))) }
     {
-        self.put_line(line_break, indent);
+        self.put_comma(turn.comma);
+        self.put_line(turn.line_break, turn.indent);
+        self.put_mark(turn.mark);
+        self.put_mark(turn.sign);
         self.put_joined(front, text, end);
     }
 
-    /// A line, and behind it few characters of known numbers, a text and few more, in ASCII, one at least: at once where there
-    /// is room for them.
+    // Whether a line that begins so is broken.
+    // Inlined: some comparisons.
+    #[inline]
+    fn is_broken(&self, turn: &Turn) -> bool
+        ensures { result ≡ (turn.now.comma || must_break turn.now.indent self.now.cursor) }
+    {
+        turn.comma || self.must_break(turn.indent)
+    }
+
+    /// What a line begins with, and behind it few characters of known numbers, a text and few more, in ASCII, one at least: at
+    /// once where there is room for them.
     // Inlined: mostly there is, and it is some stores round a copy.
     #[inline(always)]
-    pub fn put_lined(
-        &mut self,
-        line_break: LineBreak,
-        indent: u64,
-        front: &[u8],
-        text: &[u8],
-        end: &[u8],
-    )
+    pub fn put_lined(&mut self, turn: &Turn, front: &[u8], text: &[u8], end: &[u8])
         requires few { length front.now + length end.now ≤ 8 }
         requires some { 0 < length front.now + length text.now }
+        requires signs { IsAscii (signs turn.now) }
         requires ascii { IsAscii (front.now ++ (text.now ++ end.now)) }
-        ensures { Puts self.old self.new (line line_break indent
+        ensures { Puts self.old self.new (turn_text turn.now
             ▹ letters (front.now ++ (text.now ++ end.now))) }
     {
-        if !self.must_break(indent) {
-            self.put_lined_far(line_break, indent, front, text, end);
-        } else if is_brief_with(&self.output, self.fast_limit, line_break, indent, text) {
-            put_line_between(&mut self.output, indent, front, text, end);
-            indented(&mut self.cursor, indent);
+        if self.is_broken(turn) && is_brief_turn(&self.output, self.fast_limit, turn, text) {
+            put_line_between(&mut self.output, turn, front, text, end);
+            indented(&mut self.cursor, turn.indent);
             lettered(
                 &mut self.cursor,
-                (front.len() + text.len() + end.len()) as u64,
+                (signs_size(turn) + front.len() + text.len() + end.len()) as u64,
             );
         } else {
-            self.put_lined_far(line_break, indent, front, text, end);
+            self.put_lined_far(*turn, front, text, end);
+        }
+    }
+
+    /// What a line begins with, and behind it few characters of a known number, in ASCII, one at least: at once where there is
+    /// room for them.
+    // Inlined: mostly there is, and it is some stores.
+    #[inline(always)]
+    pub fn put_led(&mut self, turn: &Turn, front: &[u8])
+        requires few { length front.now ≤ 8 }
+        requires some { 0 < length front.now }
+        requires signs { IsAscii (signs turn.now) }
+        requires ascii { IsAscii front.now }
+        ensures { Puts self.old self.new (turn_text turn.now ▹ letters front.now) }
+    {
+        if self.is_broken(turn) && is_brief_turn(&self.output, self.fast_limit, turn, front) {
+            put_line_with(&mut self.output, turn, front);
+            indented(&mut self.cursor, turn.indent);
+            lettered(&mut self.cursor, (signs_size(turn) + front.len()) as u64);
+        } else {
+            self.put_lined_far(*turn, front, b"", b"");
         }
     }
 

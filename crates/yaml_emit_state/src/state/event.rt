@@ -1,5 +1,5 @@
 //! What is written for an event.
-ghost use Rattle.std.specs.Prelude.{if◌then◌else◌, ◌≡◌, Bool, true, false, map, IsUtf8};
+ghost use Rattle.std.specs.Prelude.{if◌then◌else◌, ◌≡◌, Bool, true, false, Some, map, IsUtf8};
 ghost use Rattle.yaml_types.specs.Ascii as ascii;
 ghost use Rattle.std.specs.Str.{IsAscii};
 ghost use Rattle.yaml_parse_model.specs.Events.{body_of, text_of};
@@ -12,9 +12,10 @@ ghost use Rattle.yaml_emit_text.specs.Layout.{◌▹◌};
 ghost use Rattle.yaml_emit_layout.specs.Nodes.{alias_layout, scalar_layout};
 ghost use Rattle.yaml_emit_layout.specs.State.{text_at, is_simple_event, before_node, position_of, start_text};
 ghost use Rattle.yaml_scan_model.specs.declared.yaml_scalar_style_t.{yaml_scalar_style_t};
+ghost use Rattle.yaml_emit_state.specs.Framed.{sign_of, framed_text, tagged_text};
 ghost use Rattle.yaml_emit_state.specs.Given.{lent_context, lent_scalar, lent_start, plain_text, plain_opening, name_of, IsNamed};
 
-use crate::before::{put_before, put_closer_at};
+use crate::before::{is_turning, put_before, put_closer_at, turn_of};
 use crate::documents::{put_end, put_start_at, put_stop_at};
 use crate::given::{Context, EventPosition, Opening, Scalar, Start};
 use crate::indent::position_of;
@@ -23,7 +24,7 @@ use crate::nodes::{
     put_alias_at, put_collection, put_plain_mapping, put_plain_sequence, put_scalar, put_text,
 };
 use yaml_emit_layout::Level;
-use yaml_emit_text::{Settings, Sink};
+use yaml_emit_text::{Settings, Sink, is_lined};
 use yaml_parse_model::yaml_event_body_t;
 
 // An alias in the innermost collection, with what comes before it.
@@ -61,8 +62,8 @@ fn put_any_alias(
     put_alias_node(sink, settings, top, simple, name);
 }
 
-// A scalar in the innermost collection, with what comes before it, in a form that is known.
-// Inlined: most events are scalars.
+// A scalar in the innermost collection, with what comes before it.
+// Inlined: where the form is known it is shorter.
 #[inline(always)]
 pub(super) fn put_scalar_node(
     sink: &mut Sink,
@@ -70,18 +71,66 @@ pub(super) fn put_scalar_node(
     top: &Option<Level>,
     simple: bool,
     scalar: &Scalar,
-    canonical: bool,
 )
     requires utf8 { IsUtf8 scalar.now.value.now }
     requires named { IsNamed (text_of scalar.now.anchor.now) }
     requires tame { scalar.now.tame ≡ true → IsTame scalar.now.value.now }
-    requires form { canonical ≡ context.now.settings.now.canonical }
     ensures { Puts sink.old sink.new (before_node context.now.settings.now top.now simple
         ▹ scalar_layout (lent_context context.now) (position_of top.now simple)
         (lent_scalar scalar.now)) }
 {
     put_before(sink, context.settings, top, simple);
-    put_scalar(sink, context, position_of(*top, simple), scalar, canonical);
+    put_scalar(sink, context, position_of(*top, simple), scalar);
+}
+
+fn sign_of(quoted: bool) -> Option<u8>
+    ensures { result ≡ sign_of quoted }
+{
+    if quoted { None } else { Some(b'!') }
+}
+
+// A scalar without properties in a collection in canonical form, with what comes before it, where it stands in its line; else
+// nothing.
+// Inlined: most events are scalars.
+#[inline(always)]
+fn put_framed_in(
+    sink: &mut Sink,
+    settings: &Settings,
+    level: Level,
+    quoted: bool,
+    value: &[u8],
+) -> bool
+    ensures put { result ≡ true → Puts sink.old sink.new
+        (framed_text settings.now (Some level) quoted value.now) }
+    ensures same { result ≡ false → sink.new ≡ sink.old }
+{
+    if is_turning(settings, level) && is_lined(settings.width, level.indent, value) {
+        let turn = turn_of(settings, level, sign_of(quoted));
+        sink.put_lined(&turn, b"\"", value, b"\"");
+        true
+    } else {
+        false
+    }
+}
+
+// The same in the innermost one.
+// Inlined: most events are scalars.
+#[inline(always)]
+pub(super) fn put_framed(
+    sink: &mut Sink,
+    settings: &Settings,
+    top: &Option<Level>,
+    quoted: bool,
+    value: &[u8],
+) -> bool
+    ensures put { result ≡ true → Puts sink.old sink.new
+        (framed_text settings.now top.now quoted value.now) }
+    ensures same { result ≡ false → sink.new ≡ sink.old }
+{
+    match top {
+        None => false,
+        Some(level) => put_framed_in(sink, settings, *level, quoted, value),
+    }
 }
 
 // A text with the default tag and without an anchor in the innermost collection, with what comes before it, in canonical form.
@@ -99,7 +148,43 @@ pub(super) fn put_text_node(sink: &mut Sink, context: &Context, top: &Option<Lev
     put_text(sink, context, position_of(*top, false), value);
 }
 
-// The same in either form.
+// The same where there is no directive, in a collection, where it stands in its line; else nothing.
+// Inlined into its one caller.
+#[inline(always)]
+fn put_framed_text_in(sink: &mut Sink, settings: &Settings, level: Level, value: &[u8]) -> bool
+    ensures put { result ≡ true → Puts sink.old sink.new
+        (tagged_text settings.now (Some level) value.now) }
+    ensures same { result ≡ false → sink.new ≡ sink.old }
+{
+    if is_turning(settings, level) && is_lined(settings.width, level.indent, value) {
+        let turn = turn_of(settings, level, None);
+        sink.put_lined(&turn, b"!!str \"", value, b"\"");
+        true
+    } else {
+        false
+    }
+}
+
+// The same in the innermost one.
+// Inlined into its one caller.
+#[inline(always)]
+pub(super) fn put_framed_text(
+    sink: &mut Sink,
+    settings: &Settings,
+    top: &Option<Level>,
+    value: &[u8],
+) -> bool
+    ensures put { result ≡ true → Puts sink.old sink.new
+        (tagged_text settings.now top.now value.now) }
+    ensures same { result ≡ false → sink.new ≡ sink.old }
+{
+    match top {
+        None => false,
+        Some(level) => put_framed_text_in(sink, settings, *level, value),
+    }
+}
+
+// A scalar in the innermost collection, with what comes before it, in either form.
 // Out of line: the way beside the short ones.
 #[inline(never)]
 fn put_any_node(
@@ -116,14 +201,7 @@ fn put_any_node(
         ▹ scalar_layout (lent_context context.now) (position_of top.now simple)
         (lent_scalar scalar.now)) }
 {
-    put_scalar_node(
-        sink,
-        context,
-        top,
-        simple,
-        scalar,
-        context.settings.canonical,
-    );
+    put_scalar_node(sink, context, top, simple, scalar);
 }
 
 // The bracket that opens a sequence or a mapping.
@@ -270,7 +348,7 @@ pub fn put_event(
             };
             put_start_node(sink, context, top, simple, '{', &start)
         }
-        yaml_event_body_t::SequenceEnd => put_closer_at(sink, context.settings, top, ']'),
-        yaml_event_body_t::MappingEnd => put_closer_at(sink, context.settings, top, '}'),
+        yaml_event_body_t::SequenceEnd => put_closer_at(sink, context.settings, top, b']'),
+        yaml_event_body_t::MappingEnd => put_closer_at(sink, context.settings, top, b'}'),
     }
 }

@@ -1,5 +1,7 @@
+use Rattle.yaml_emit_text.specs.Scalars.{scalar_text}
 use Rattle.yaml_emit_state.proofs.Plain.{puts_text}
 use Rattle.yaml_emit_state.proofs.nodes.put_text.Goals as goal
 
 pub returns : goal.returns
-returns c = λ style. puts_text _ _ _ _ style _ _ _ c.requires.canonical c.put_str_tag.ensures c.put_untagged.ensures
+unfolding scalar_text
+returns c = λ style. puts_text _ _ _ _ style _ _ _ c.requires.canonical c.put_tag.ensures c.put_lines.ensures

@@ -1,5 +1,10 @@
-use Rattle.yaml_emit_sink.proofs.Sinks.{puts_both}
+use Rattle.std.proofs.Common.{sym, ◌∙◌}
 use Rattle.yaml_emit_text.proofs.quoted.put_double_quoted.Goals as goal
 
-pub returns : goal.returns
-returns c = puts_both _ _ _ _ _ c.put_quote.ensures c.put_quoted_inside.ensures
+pub put_solid-requires : goal.put_solid-requires
+put_solid-requires c = sym c.are_solid.ensures ∙ c.if-are_solid.true
+
+pub returns-then-are_solid : goal.returns-then-are_solid
+returns-then-are_solid c =
+    let put = c.put_solid.ensures c.args.page in
+    rw c.as_bytes-bytes.ensures.value at put

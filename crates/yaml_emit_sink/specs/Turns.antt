@@ -1,0 +1,36 @@
+-- What a line begins with.
+use Rattle.std.specs.Prelude.{ℕ, nat_le, if◌then◌else◌, Bool, true, false, List, [], ◌∷◌, ◌++◌, replicate, Option, None, Some}
+use Rattle.yaml_types.specs.Ascii as ascii
+use Rattle.yaml_emit_sink.specs.declared.feed.Turn.{Turn}
+use Rattle.yaml_emit_sink.specs.Layout.{Layout, ◌▹◌, stay, when, char, letters, word, line}
+
+-- how many spaces are put at once, of which some are cut off
+abbrev pub enough : ℕ → ℕ
+enough n = if nat_le n 16 then 16 else 80
+
+-- a comma, where one is due
+abbrev pub commas : Bool → List ℕ
+commas true = ascii.comma ∷ []
+commas false = []
+
+-- a character with a space behind it, where one is due
+abbrev pub marks : Option ℕ → List ℕ
+marks None = []
+marks (Some m) = m ∷ ascii.space ∷ []
+
+-- the same as a word, behind which a space is due
+abbrev pub mark_word : Option ℕ → Layout
+mark_word None = stay
+mark_word (Some m) = word (m ∷ [])
+
+-- what stands behind the indentation
+abbrev pub signs : Turn → List ℕ
+signs t = marks t.mark ++ marks t.sign
+
+-- its bytes, where the break is a line feed that comes
+abbrev pub turned : Turn → List ℕ
+turned t = commas t.comma ++ ((ascii.line_feed ∷ replicate t.indent ascii.space) ++ signs t)
+
+-- a comma in the line before it, the break and the indentation, and the signs
+abbrev pub turn_text : Turn → Layout
+turn_text t = when t.comma (char ascii.comma) ▹ (line t.line_break t.indent ▹ letters (signs t))

@@ -1,0 +1,65 @@
+-- Scalars without properties that stand in their line in double quotes in canonical form.
+use Rattle.std.specs.Prelude.{◌≡◌, ℕ, ◌+◌, Bool, true, false, not, ◌&&◌, ◌||◌, nat_le, List, [], ◌∷◌, Option, Some, None}
+use Rattle.std.specs.Str.{chars}
+use Rattle.yaml_types.specs.Ascii as ascii
+use Rattle.yaml_emit_tags.specs.parse_model.Nodes.{str_tag}
+use Rattle.yaml_emit_tags.specs.Tags.{tag_spelling}
+use Rattle.yaml_emit_text.specs.declared.Settings.{Settings}
+use Rattle.yaml_emit_text.specs.Layout.{Layout, ◌▹◌, when, word}
+use Rattle.yaml_emit_text.specs.Quoted.{double_quoted}
+use Rattle.yaml_emit_layout.specs.declared.Level.{Level}
+use Rattle.yaml_emit_layout.specs.declared.Phase.{Phase}
+use Rattle.yaml_emit_layout.specs.declared.Phase.TheVariants.{Items, Keys, Value}
+use Rattle.yaml_emit_layout.specs.Content as said
+use Rattle.yaml_emit_layout.specs.Grammar.{has}
+use Rattle.yaml_emit_layout.specs.Nodes.{MOST, deeper, checked, page_at}
+use Rattle.yaml_emit_layout.specs.State.{before_node, position_of}
+
+-- what its line begins with, by the phase of its collection
+abbrev pub has_comma : Phase → Bool
+has_comma (Items fresh) = not fresh
+has_comma (Keys fresh) = not fresh
+has_comma (Value was_simple) = false
+
+abbrev pub mark_of : Phase → Option ℕ
+mark_of (Items fresh) = None
+mark_of (Keys fresh) = Some ascii.question
+mark_of (Value was_simple) = Some ascii.colon
+
+abbrev pub is_behind_simple : Phase → Bool
+is_behind_simple (Items fresh) = false
+is_behind_simple (Keys fresh) = false
+is_behind_simple (Value was_simple) = was_simple
+
+abbrev pub sign_of : Bool → Option ℕ
+sign_of true = None
+sign_of false = Some ascii.exclamation
+
+-- a node in a collection begins a line, and isn't too deep
+pub record IsTurning (s : Settings) (l : Level) : Type 0 where
+  pub form : s.canonical ≡ true
+  pub flow : l.flow ≡ true
+  pub turns : is_behind_simple l.phase ≡ false
+  pub shallow : nat_le (l.indent + s.indent) MOST ≡ true
+
+-- no anchor and no tag, which may be left out
+abbrev pub is_free : said.Scalar → Bool
+is_free x = not (has x.anchor) && (not (has x.tag) && (x.plain || x.quoted))
+
+abbrev pub IsFree : said.Event → Type 0
+IsFree (said.scalar x) = is_free x ≡ true
+IsFree e = ⊥
+
+-- it, with what comes before it in the innermost collection
+abbrev pub framed_text : Settings → Option Level → Bool → List ℕ → Layout
+framed_text s top quoted v = before_node s top false
+    ▹ (when (not quoted) (word (ascii.exclamation ∷ []))
+    ▹ (checked (deeper s (position_of top false).around)
+    ▹ double_quoted (page_at s (position_of top false)) (chars v)))
+
+-- a text with the default tag and without an anchor, where there is no directive, with the same before it
+abbrev pub tagged_text : Settings → Option Level → List ℕ → Layout
+tagged_text s top v = before_node s top false
+    ▹ (word (tag_spelling [] str_tag)
+    ▹ (checked (deeper s (position_of top false).around)
+    ▹ double_quoted (page_at s (position_of top false)) (chars v)))

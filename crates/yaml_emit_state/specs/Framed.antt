@@ -1,9 +1,9 @@
--- Scalars without properties that stand in their line in double quotes in canonical form.
+-- Scalars without properties that stand in their line in double quotes, and what opens collections, in canonical form.
 use Rattle.std.specs.Prelude.{◌≡◌, ℕ, ◌+◌, Bool, true, false, not, ◌&&◌, ◌||◌, nat_le, List, [], ◌∷◌, Option, Some, None}
 use Rattle.std.specs.Str.{chars}
 use Rattle.yaml_types.specs.Ascii as ascii
 use Rattle.yaml_emit_text.specs.declared.Settings.{Settings}
-use Rattle.yaml_emit_text.specs.Layout.{Layout, ◌▹◌, when, word}
+use Rattle.yaml_emit_text.specs.Layout.{Layout, ◌▹◌, when, word, after_block}
 use Rattle.yaml_emit_text.specs.Quoted.{double_quoted}
 use Rattle.yaml_emit_layout.specs.declared.Level.{Level}
 use Rattle.yaml_emit_layout.specs.declared.Phase.{Phase}
@@ -54,3 +54,7 @@ framed_text s top quoted v = before_node s top false
     ▹ (when (not quoted) (word (ascii.exclamation ∷ []))
     ▹ (checked (deeper s (position_of top false).around)
     ▹ double_quoted (page_at s (position_of top false)) (chars v)))
+
+-- what opens a collection, by its characters, with what comes before it in the innermost one: white space counts as last behind it
+abbrev pub bracket_text : Settings → Option Level → List ℕ → Layout
+bracket_text s top front = before_node s top false ▹ (word front ▹ after_block)

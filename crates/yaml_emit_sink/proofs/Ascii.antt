@@ -95,6 +95,7 @@ puts_byte a b x n g u s r o t e l k =
     let byte : char_bytes a.encoding x ≡ x ∷ [] = rw u (one_byte x s) in
     puts_stroke a b x n g e l (subst P (sym (t ∙ g)) (o ∙ ap (λ y. a.bytes ++ y) (sym byte), rw o (omega (arith, r, length-append a.bytes (x ∷ []))))) (λ _. k)
 
+-- one text behind another, where it stands
 pub letters_both : (xs ys : List ℕ) (c : Cursor) (rest : Rest)
     → letters (xs ++ ys) c rest ≡ letters xs c (λ d. letters ys d rest)
 unfolding letters
@@ -121,6 +122,7 @@ small b h = grind (arith, nat_tests)
 pub all_ascii : (xs : List ℕ) → list_all is_ascii xs ≡ true → IsAscii xs
 all_ascii xs h = IsAscii-from_all xs (λ k d l. small _ (AllPass-from_list_all is_ascii xs h k d l))
 
+-- where no white space was last, a word has a space in front
 pub parted : (t : List ℕ) (c : Cursor) (rest : Rest) → 0 < length t → c.white ≡ false
     → word t c rest ≡ letters (32 ∷ t) c rest
 unfolding letters

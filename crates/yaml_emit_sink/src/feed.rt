@@ -123,7 +123,7 @@ pub fn put_fresh_line(output: &mut Vec<u8>, count: u64)
     put_back(output, own);
 }
 
-// How many bytes a character with a space behind it is, where one is due.
+/// How many bytes a character with a space behind it is, where one is due.
 // Inlined: a test.
 #[inline(always)]
 pub fn mark_size(mark: Option<u8>) -> usize

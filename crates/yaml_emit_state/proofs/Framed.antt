@@ -90,7 +90,8 @@ sign_ascii : (quoted : Bool) → IsAscii (marks (sign_of quoted))
 sign_ascii true = IsAscii-nil
 sign_ascii false = two_ascii 33 (omega arith)
 
-pub signs_ascii : (p : Phase) (quoted : Bool) → IsAscii (marks (mark_of p) ++ marks (sign_of quoted))
+pub signs_ascii : (p : Phase) (quoted : Bool)
+    → IsAscii (marks (mark_of p) ++ marks (sign_of quoted))
 signs_ascii p quoted = IsAscii-append (marks (mark_of p)) (marks (sign_of quoted)) (mark_ascii p) (sign_ascii quoted)
 
 -- ---- that it is laid out
@@ -107,12 +108,14 @@ frees x h =
     record { no_anchor = none_given x.anchor a.0; no_tag = none_given x.tag t.0; left_out = t.1 }
 
 free_by : (canonical : Bool) (place : Expected) (top : Option Level) (x : Scalar)
-    → canonical ≡ true → place ≡ at.Node → Free x → problem_by canonical place top (scalar x) ≡ None
+    → canonical ≡ true → place ≡ at.Node → Free x
+    → problem_by canonical place top (scalar x) ≡ None
 unfolding problem_by event_problem place_problem last_problem
 free_by canonical place None x e h p = rw (e, h, p.no_anchor, p.no_tag, p.left_out) refl
 free_by canonical place (Some l) x e h p = rw (e, h, p.no_anchor, p.no_tag, p.left_out) refl
 
-marked_is : (quoted : Bool) (z : Layout) → (when (true && (not quoted && true)) (word (33 ∷ [])) ▹ z)
+marked_is : (quoted : Bool) (z : Layout)
+    → (when (true && (not quoted && true)) (word (33 ∷ [])) ▹ z)
     ≡ (when (not quoted) (word (33 ∷ [])) ▹ z)
 marked_is true z = refl
 marked_is false z = refl

@@ -68,11 +68,13 @@ quoted_by : (n : ℕ) (page : Page) (v : List ℕ) (c : Cursor) (rest : Rest) �
 quoted_by n page v c rest (inl h) l = solid_word page v c rest h
 quoted_by n page v c rest (inr h) l = even_by c.white page v c rest refl h.0 (omega (arith, l, h.1))
 
+-- a value in quotes that stands in its line is a word
 pub quoted_worded : (n : ℕ) (page : Page) (v : List ℕ) → IsLined n page.width v
     → Worded (n + 4) (double_quoted page (chars v)) (34 ∷ (v ++ 34 ∷ [])) stay
 unfolding Worded
 quoted_worded n page v h = λ c rest l. quoted_by n page v c rest h (omega (arith, l))
 
+-- and is in ASCII
 pub lined_ascii : (n width : ℕ) (v : List ℕ) → IsLined n width v → IsAscii (34 ∷ (v ++ 34 ∷ []))
 lined_ascii n width v (inl h) = quoted_ascii v h
 lined_ascii n width v (inr h) = even_ascii v h.0

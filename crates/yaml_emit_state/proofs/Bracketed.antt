@@ -1,6 +1,6 @@
 -- What opens a collection with the default tag and without an anchor, or without properties, where a node is due in canonical form.
 use Rattle.std.proofs.Common.{◌≡◌, ℕ, Bool, true, false, refl, sym, subst, List, [], ◌∷◌, Option, Some, None}
-use Rattle.std.specs.Prelude.{◌||◌, if◌then◌else◌}
+use Rattle.std.specs.Prelude.{◌||◌, if◌then◌else◌, codes}
 use Rattle.yaml_emit_tags.specs.parse_model.Events.{TagDirective}
 use Rattle.yaml_emit_tags.specs.parse_model.Nodes.{seq_tag, map_tag}
 use Rattle.yaml_emit_tags.specs.Tags.{tag_spelling}
@@ -20,11 +20,11 @@ use Rattle.yaml_emit_layout.specs.State.{State, problem_at, top_of, position_of,
 use Rattle.yaml_emit_state.specs.declared.state.Core.{Core}
 use Rattle.yaml_emit_state.specs.Stack.{stack_of}
 use Rattle.yaml_emit_state.specs.Given.{plain_start, plain_opening, opening}
-use Rattle.yaml_emit_state.specs.Framed.{bracket_text}
+use Rattle.yaml_emit_state.specs.Framed.{bracket_text, plain_front}
 use Rattle.yaml_emit_state.specs.Steps.{state_of, settings_of, OpensCollection, MovesOn, LaysOut, LaysOutRight}
 use Rattle.yaml_emit_state.proofs.Blaming.{lays_right}
 use Rattle.yaml_emit_state.proofs.Canonical.{no_keys}
-use Rattle.yaml_emit_state.proofs.Plain.{lays_in_place}
+use Rattle.yaml_emit_state.proofs.Plain.{seq_spelled, map_spelled, lays_in_place}
 
 -- the tag, and the bracket
 pub puts_start : (s : Settings) (ds : List TagDirective) (at : NodePosition) (x : ℕ) (tag : List ℕ)
@@ -198,3 +198,52 @@ lays_bracket old new o s top x sequence q empty is upper bracket form due a t pu
     (lays_right old new o s top (opening sequence q) empty is upper
     (puts_opening s old.directives old.place top sequence q empty old.sink o canonical a t (subst X bracket put))
     (moves_start s (record old { sink = o }) new sequence q empty canonical moved))
+
+-- ---- with the default tag, where there is no directive
+
+seq_front : (word (codes "!!seq") ▹ opener 91) ≡ (word (codes "!!seq [") ▹ after_block)
+unfolding letters
+seq_front = refl
+
+map_front : (word (codes "!!map") ▹ opener 123) ≡ (word (codes "!!map {") ▹ after_block)
+unfolding letters
+map_front = refl
+
+-- the tag and the bracket are all that is written
+tagged_start : (s : Settings) (ds : List TagDirective) (at : NodePosition) (x : ℕ)
+    (tag t : List ℕ) (flow empty : Bool) → s.canonical ≡ true → ds ≡ [] → tag_spelling [] tag ≡ t
+    → start_text (context_of s ds) at x (plain_start tag flow) empty ≡ (word t ▹ opener x)
+tagged_start s ds at x tag t flow empty e none is = rw (e, none, is) refl
+
+puts_plain : (s : Settings) (ds : List TagDirective) (place : Expected) (top : Option Level)
+    (sequence flow empty : Bool) (a b : Output) → s.canonical ≡ true → ds ≡ []
+    → Puts a b (bracket_text s top (plain_front sequence))
+    → Puts a b (text_at (context_of s ds) place top (plain_opening sequence flow) empty)
+unfolding text_at
+puts_plain s ds place top true flow empty a b e none put =
+    let p : Context = context_of s ds in
+    let q : Start = plain_start seq_tag flow in
+    let A : Layout → Type 0 = λ z. Puts a b (before_node s top false ▹ z) in
+    let P : Bool → Type 0 = λ k. Puts a b (before_node s top k ▹ start_text p (position_of top k) 91 q empty) in
+    subst P (no_keys p (sequence_start q) empty e) (subst A (sym (tagged_start s ds (position_of top false) 91 seq_tag (codes "!!seq") flow empty e none seq_spelled)) (subst A (sym seq_front) put))
+puts_plain s ds place top false flow empty a b e none put =
+    let p : Context = context_of s ds in
+    let q : Start = plain_start map_tag flow in
+    let A : Layout → Type 0 = λ z. Puts a b (before_node s top false ▹ z) in
+    let P : Bool → Type 0 = λ k. Puts a b (before_node s top k ▹ start_text p (position_of top k) 123 q empty) in
+    subst P (no_keys p (mapping_start q) empty e) (subst A (sym (tagged_start s ds (position_of top false) 123 map_tag (codes "!!map") flow empty e none map_spelled)) (subst A (sym map_front) put))
+
+-- it was laid out
+pub lays_plain : (old new : Core) (o : Output) (s : Settings) (top : Option Level)
+    (sequence flow empty : Bool) → s ≡ settings_of old → top ≡ top_of (stack_of old.levels)
+    → old.settings.canonical ≡ true → old.place ≡ at.Node → old.directives ≡ []
+    → Puts old.sink o (bracket_text s top (plain_front sequence))
+    → OpensCollection s (record old { sink = o }) new false false false sequence
+    → LaysOut old new (plain_opening sequence flow) empty
+lays_plain old new o s top sequence flow empty is upper form due none put moved =
+    let canonical : s.canonical ≡ true = rw is form in
+    lays_in_place old new (plain_opening sequence flow) empty
+    (opening_right (settings_of old) (state_of old) sequence flow form due)
+    (lays_right old new o s top (plain_opening sequence flow) empty is upper
+    (puts_plain s old.directives old.place top sequence flow empty old.sink o canonical none put)
+    (moves_opening s (record old { sink = o }) new sequence flow empty canonical moved))

@@ -1,5 +1,5 @@
 -- Scalars without properties that stand in their line in double quotes, and what opens collections, in canonical form.
-use Rattle.std.specs.Prelude.{◌≡◌, ℕ, ◌+◌, Bool, true, false, not, ◌&&◌, ◌||◌, nat_le, List, [], ◌∷◌, Option, Some, None}
+use Rattle.std.specs.Prelude.{◌≡◌, ℕ, ◌+◌, Bool, true, false, not, ◌&&◌, ◌||◌, nat_le, if◌then◌else◌, codes, List, [], ◌∷◌, Option, Some, None}
 use Rattle.std.specs.Str.{chars}
 use Rattle.yaml_types.specs.Ascii as ascii
 use Rattle.yaml_emit_text.specs.declared.Settings.{Settings}
@@ -58,3 +58,7 @@ framed_text s top quoted v = before_node s top false
 -- what opens a collection, by its characters, with what comes before it in the innermost one: white space counts as last behind it
 abbrev pub bracket_text : Settings → Option Level → List ℕ → Layout
 bracket_text s top front = before_node s top false ▹ (word front ▹ after_block)
+
+-- what opens a sequence or a mapping with the default tag, where there is no directive
+abbrev pub plain_front : Bool → List ℕ
+plain_front sequence = if sequence then codes "!!seq [" else codes "!!map {"

@@ -230,9 +230,10 @@ fn put_lines(
     }
 }
 
+/// Whether there is no directive.
 // Inlined: one read.
 #[inline(always)]
-fn are_none(directives: &DirectiveTable) -> bool
+pub fn are_none(directives: &DirectiveTable) -> bool
     ensures { result ≡ true → directives.now ≡ [] }
 {
     directives.list().is_empty()

@@ -5,7 +5,7 @@ use Rattle.yaml_emit_state.specs.Steps.{state_of, settings_of}
 use Rattle.yaml_emit_state.proofs.Blaming.{lays_right}
 use Rattle.yaml_emit_state.proofs.Bracketed.{opening_right, moves_opening}
 use Rattle.yaml_emit_state.proofs.Plain.{lays_in_place}
-use Rattle.yaml_emit_state.proofs.state.Core.lay_plain_start.Goals as goal
+use Rattle.yaml_emit_state.proofs.state.Core.lay_any_plain.Goals as goal
 
 pub returns : goal.returns
 returns c = λ flow empty.

@@ -6,7 +6,7 @@ use Rattle.yaml_emit_tags.specs.parse_model.Nodes.{seq_tag, map_tag}
 use Rattle.yaml_emit_tags.specs.Tags.{tag_spelling}
 use Rattle.yaml_emit_text.specs.declared.Settings.{Settings}
 use Rattle.yaml_emit_text.specs.Sink.{Output, Puts}
-use Rattle.yaml_emit_text.specs.Layout.{Layout, ◌▹◌, stay, when, letters, word, opener, after_block}
+use Rattle.yaml_emit_text.specs.Layout.{Layout, ◌▹◌, when, letters, word, opener, after_block}
 use Rattle.yaml_emit_text.proofs.Sinks.{puts_both}
 use Rattle.yaml_emit_layout.specs.declared.Expected.{Expected}
 use Rattle.yaml_emit_layout.specs.declared.Expected.TheVariants as at

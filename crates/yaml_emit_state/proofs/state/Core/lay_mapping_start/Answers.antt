@@ -1,4 +1,4 @@
-use Rattle.std.proofs.Common.{refl, sym}
+use Rattle.std.proofs.Common.{refl}
 use Rattle.yaml_emit_state.proofs.state.Core.lay_mapping_start.Goals as goal
 
 pub lay_named_start-requires-clause-form : goal.lay_named_start-requires-clause-form

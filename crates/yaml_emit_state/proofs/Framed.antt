@@ -1,5 +1,5 @@
--- Scalars without properties that stand in their line in double quotes in canonical form.
-use Rattle.std.proofs.Common.{◌≡◌, ℕ, ◌<◌, Bool, true, false, refl, sym, subst, arith, List, [], ◌∷◌, ◌++◌, Option, Some, None}
+-- Scalars without properties that stand in their line in double quotes, and what opens collections, in canonical form.
+use Rattle.std.proofs.Common.{◌≡◌, ℕ, ◌+◌, ◌<◌, Bool, true, false, refl, sym, subst, arith, List, [], ◌∷◌, ◌++◌, length, Option, Some, None}
 use Rattle.std.specs.Prelude.{not, ◌&&◌, ◌||◌}
 use Rattle.std.specs.Str.{chars, IsAscii}
 use Rattle.std.proofs.lemmas.Bool.{and_parts}
@@ -11,13 +11,13 @@ use Rattle.yaml_emit_tags.specs.parse_model.Nodes.{str_tag}
 use Rattle.yaml_emit_tags.specs.Tags.{tag_spelling}
 use Rattle.yaml_emit_text.specs.declared.Settings.{Settings}
 use Rattle.yaml_emit_text.specs.declared.Page.{Page}
-use Rattle.yaml_emit_text.specs.Layout.{Layout, ◌▹◌, stay, when, char, letters, word, line}
+use Rattle.yaml_emit_text.specs.Layout.{Layout, ◌▹◌, stay, when, char, letters, word, line, after_block}
 use Rattle.yaml_emit_text.specs.Quoted.{double_quoted}
 use Rattle.yaml_emit_text.specs.Scalars.{scalar_text}
 use Rattle.yaml_emit_text.specs.Sink.{Output, Puts}
 use Rattle.yaml_emit_text.specs.Tame.{IsLined}
 use Rattle.yaml_emit_text.specs.Turns.{marks, mark_word, turn_text}
-use Rattle.yaml_emit_text.proofs.Turning.{puts_signed, quoted_worded, tagged_worded}
+use Rattle.yaml_emit_text.proofs.Turning.{puts_signed, quoted_worded, tagged_worded, word_worded}
 use Rattle.yaml_emit_layout.specs.declared.Expected.{Expected}
 use Rattle.yaml_emit_layout.specs.declared.Expected.TheVariants as at
 use Rattle.yaml_emit_layout.specs.declared.Level.{Level}
@@ -29,7 +29,7 @@ use Rattle.yaml_emit_layout.specs.Grammar.{has, event_problem, last_problem, pla
 use Rattle.yaml_emit_layout.specs.Nodes.{context_of, checked, deeper, page_at, scalar_layout, style_of, turned, before_item, before_key, before_value}
 use Rattle.yaml_emit_layout.specs.State.{among, before_at, before_node, levels_behind, position_of, top_of}
 use Rattle.yaml_emit_state.specs.declared.state.Core.{Core}
-use Rattle.yaml_emit_state.specs.Framed.{has_comma, mark_of, is_behind_simple, sign_of, IsTurning, is_free, framed_text, tagged_text}
+use Rattle.yaml_emit_state.specs.Framed.{has_comma, mark_of, is_behind_simple, sign_of, IsTurning, is_free, framed_text, tagged_text, bracket_text}
 use Rattle.yaml_emit_state.specs.Given.{plain_text}
 use Rattle.yaml_emit_state.specs.Stack.{stack_of}
 use Rattle.yaml_emit_state.specs.Steps.{state_of, settings_of, StaysBut, LaysOut}
@@ -86,10 +86,24 @@ puts_tagged s l v a b t w p =
     let here = subst C (sym str_spelled) (subst B (sym t.flow) (subst A (sym (before_is s l.phase l.indent t.form t.turns)) put)) in
     unchecked_behind (deeper s pos.around) a b (before_at s l.phase l.flow l.indent false ▹ word (tag_spelling [] str_tag)) q t.shallow here
 
+-- what opens a collection was written
+pub puts_bracket : (s : Settings) (l : Level) (v : List ℕ) (a b : Output) → IsTurning s l
+    → 0 < length v
+    → Puts a b ((turn_text (record { comma = has_comma l.phase; line_break = s.line_break; indent = l.indent; mark = mark_of l.phase; sign = None })
+    ▹ letters v) ▹ after_block)
+    → Puts a b (bracket_text s (Some l) v)
+puts_bracket s l [] a b t h p = absurd (omega (arith, h))
+puts_bracket s l (y ∷ ys) a b t h p =
+    let x : Layout = word (y ∷ ys) ▹ after_block in
+    let put = puts_signed (record { comma = has_comma l.phase; line_break = s.line_break; indent = l.indent; mark = mark_of l.phase; sign = None }) x y ys after_block a b (word_worded (l.indent + 4) (y ∷ ys) after_block) p in
+    let A : Layout → Type 0 = λ z. Puts a b (z ▹ x) in
+    let B : Bool → Type 0 = λ z. Puts a b (before_at s l.phase z l.indent false ▹ x) in
+    subst B (sym t.flow) (subst A (sym (before_is s l.phase l.indent t.form t.turns)) put)
+
 two_ascii : (m : ℕ) → m < 128 → IsAscii (m ∷ 32 ∷ [])
 two_ascii m h = IsAscii-cons m (32 ∷ []) h (IsAscii-cons 32 [] (omega arith) IsAscii-nil)
 
-mark_ascii : (p : Phase) → IsAscii (marks (mark_of p))
+pub mark_ascii : (p : Phase) → IsAscii (marks (mark_of p))
 mark_ascii (Items fresh) = IsAscii-nil
 mark_ascii (Keys fresh) = two_ascii 63 (omega arith)
 mark_ascii (Value was_simple) = two_ascii 58 (omega arith)

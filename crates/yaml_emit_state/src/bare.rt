@@ -1,6 +1,6 @@
 //! Short scalars without properties, in pretty form: tame texts, which are plain wherever they stand, and those in double quotes.
 ghost use Rattle.std.specs.List.{list_all};
-ghost use Rattle.std.specs.Prelude.{◌≡◌, ◌≤◌, ◌+◌, true, false, not, ◌&&◌, ◌||◌, length};
+ghost use Rattle.std.specs.Prelude.{◌≡◌, ◌≤◌, ◌+◌, None, true, false, not, ◌&&◌, ◌||◌, length};
 ghost use Rattle.yaml_parse_model.specs.Events.{text_of, body_of};
 ghost use Rattle.yaml_emit_text.specs.Runs.{is_even};
 ghost use Rattle.yaml_emit_text.specs.Tame.{IsTame, asks_plain, standing};
@@ -47,6 +47,14 @@ fn is_unmarked(
     ensures { result ≡ is_unmarked (text_of anchor.now) (text_of tag.now) plain style }
 {
     !is_given(anchor) && !is_given(tag) && plain && asks_plain(style)
+}
+
+/// Whether no anchor and no tag stands there.
+pub fn has_none(anchor: &Option<Vec<u8>>, tag: &Option<Vec<u8>>) -> bool
+    ensures anchor { result ≡ true → text_of anchor.now ≡ None }
+    ensures tag { result ≡ true → text_of tag.now ≡ None }
+{
+    !is_given(anchor) && !is_given(tag)
 }
 
 // Whether no anchor and no tag stands there, and a tag may be left out.

@@ -22,7 +22,7 @@ pub fn put_blank_if(sink: &mut Sink, due: bool)
 
 // Inlined: it is a byte, or a test in front of one.
 #[inline(always)]
-fn put_comma(sink: &mut Sink, fresh: bool)
+fn put_comma_unless(sink: &mut Sink, fresh: bool)
     ensures { Puts sink.old sink.new (comma fresh) }
 {
     if !fresh {
@@ -34,7 +34,7 @@ fn put_comma(sink: &mut Sink, fresh: bool)
 // Inlined: it is a byte, or a test in front of one.
 #[inline(always)]
 #[tactic(auto, unfolding(yaml_emit_layout::specs::Nodes::turned))]
-fn put_turn(sink: &mut Sink, settings: &Settings, indent: u64)
+fn put_flow_line(sink: &mut Sink, settings: &Settings, indent: u64)
     ensures { Puts sink.old sink.new (turned settings.now indent) }
 {
     if settings.canonical {
@@ -51,8 +51,8 @@ fn put_before_item(sink: &mut Sink, settings: &Settings, flow: bool, indent: u64
     ensures { Puts sink.old sink.new (before_item settings.now flow indent fresh) }
 {
     if flow {
-        put_comma(sink, fresh);
-        put_turn(sink, settings, indent);
+        put_comma_unless(sink, fresh);
+        put_flow_line(sink, settings, indent);
     } else {
         sink.put_line(settings.line_break, indent);
         sink.put_indicator('-');
@@ -95,8 +95,8 @@ fn put_before_key(
     ensures { Puts sink.old sink.new (before_key settings.now flow indent fresh simple) }
 {
     if flow {
-        put_comma(sink, fresh);
-        put_turn(sink, settings, indent);
+        put_comma_unless(sink, fresh);
+        put_flow_line(sink, settings, indent);
     } else {
         sink.put_line(settings.line_break, indent);
     }
@@ -113,7 +113,7 @@ pub fn put_before_value(sink: &mut Sink, settings: &Settings, flow: bool, indent
     if simple {
         sink.put(':');
     } else if flow {
-        put_turn(sink, settings, indent);
+        put_flow_line(sink, settings, indent);
         sink.put_inline_indicator(':');
     } else {
         sink.put_line(settings.line_break, indent);

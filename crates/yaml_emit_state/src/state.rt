@@ -15,7 +15,7 @@ use crate::given::{Context, EventPosition, Scalar};
 use crate::judge::problem_of;
 use crate::keys::{is_simple, is_simple_alias, is_simple_key, is_undecided_event};
 use crate::levels::Levels;
-use event::{put_alias_node, put_event, put_plain_node, put_scalar_node};
+use event::{put_alias_node, put_event, put_plain_bracket, put_plain_node, put_scalar_node};
 pub use resume::yaml_emitter_stand_t;
 use std::alloc::{AllocError, Global};
 use yaml_emit_layout::Expected;
@@ -456,11 +456,11 @@ impl Core {
         }
     }
 
-    /// Lays out what opens a sequence, or a mapping, with the default tag and without an anchor, where a node is due, in
-    /// canonical form, which doesn't ask for its style.
-    // Out of line: what it needs is in registers.
+    // What opens a sequence, or a mapping, with the default tag and without an anchor, where a node is due, in canonical form, in
+    // the general way.
+    // Out of line: beside the short one.
     #[inline(never)]
-    pub fn lay_plain_start(&mut self, sequence: bool)
+    fn lay_any_plain(&mut self, sequence: bool)
         requires form { (settings_of self.old).canonical ≡ true }
         requires due { self.old.place ≡ Expected.Node }
         ensures { (flow empty : Bool) → LaysOut self.old self.new (plain_opening sequence flow)
@@ -474,6 +474,41 @@ impl Core {
         let top = self.levels.innermost();
         put_plain_node(&mut self.sink, &context, top, sequence);
         self.open_by(&settings, false, false, false, sequence);
+    }
+
+    // The same at once, where there is no directive and it begins a line; else nothing.
+    // Inlined into its one caller.
+    #[inline(always)]
+    fn place_plain(&mut self, sequence: bool) -> bool
+        requires form { (settings_of self.old).canonical ≡ true }
+        requires due { self.old.place ≡ Expected.Node }
+        ensures laid { result ≡ true → (flow empty : Bool) → LaysOut self.old self.new
+            (plain_opening sequence flow) empty }
+        ensures same { result ≡ false → self.new ≡ self.old }
+    {
+        let settings = self.settings(true);
+        let top = self.levels.innermost();
+        if put_plain_bracket(&mut self.sink, &settings, &self.directives, top, sequence) {
+            self.open_by(&settings, false, false, false, sequence);
+            true
+        } else {
+            false
+        }
+    }
+
+    /// Lays out what opens a sequence, or a mapping, with the default tag and without an anchor, where a node is due, in
+    /// canonical form, which doesn't ask for its style.
+    // Out of line: what it needs is in registers.
+    #[inline(never)]
+    pub fn lay_plain_start(&mut self, sequence: bool)
+        requires form { (settings_of self.old).canonical ≡ true }
+        requires due { self.old.place ≡ Expected.Node }
+        ensures { (flow empty : Bool) → LaysOut self.old self.new (plain_opening sequence flow)
+            empty }
+    {
+        if !self.place_plain(sequence) {
+            self.lay_any_plain(sequence);
+        }
     }
 
     /// The same of an event that is mostly a scalar, and opens no collection that the next one closes.

@@ -25,6 +25,11 @@ use Rattle.yaml_emit_text.proofs.SolidLemmas.{solid_word, quoted_ascii}
 pub Worded : ℕ → Layout → List ℕ → Layout → Type 0
 Worded n x q z = (c : Cursor) (rest : Rest) → c.column ≤ n → x c rest ≡ (word q ▹ z) c rest
 
+-- a word is, with what stands behind it
+pub word_worded : (n : ℕ) (q : List ℕ) (z : Layout) → Worded n (word q ▹ z) q z
+unfolding Worded
+word_worded n q z = λ c rest l. refl
+
 -- behind the signs
 signed_at : (n : ℕ) (m s : Option ℕ) (x : Layout) (y : ℕ) (ys : List ℕ) (z : Layout) (kept : Bool)
     (rest : Rest) → Worded (n + 4) x (y ∷ ys) z

@@ -1,5 +1,5 @@
 //! What is written for an event.
-ghost use Rattle.std.specs.Prelude.{if◌then◌else◌, ◌≡◌, Bool, true, false, Some, map, IsUtf8};
+ghost use Rattle.std.specs.Prelude.{if◌then◌else◌, ◌≡◌, ◌<◌, ◌≤◌, Bool, true, false, Some, [], map, length, IsUtf8};
 ghost use Rattle.yaml_types.specs.Ascii as ascii;
 ghost use Rattle.std.specs.Str.{IsAscii};
 ghost use Rattle.yaml_parse_model.specs.Events.{body_of, text_of};
@@ -12,7 +12,7 @@ ghost use Rattle.yaml_emit_text.specs.Layout.{◌▹◌};
 ghost use Rattle.yaml_emit_layout.specs.Nodes.{alias_layout, scalar_layout};
 ghost use Rattle.yaml_emit_layout.specs.State.{text_at, is_simple_event, before_node, position_of, start_text};
 ghost use Rattle.yaml_scan_model.specs.declared.yaml_scalar_style_t.{yaml_scalar_style_t};
-ghost use Rattle.yaml_emit_state.specs.Framed.{sign_of, framed_text, tagged_text};
+ghost use Rattle.yaml_emit_state.specs.Framed.{sign_of, framed_text, tagged_text, bracket_text, plain_front};
 ghost use Rattle.yaml_emit_state.specs.Given.{lent_context, lent_scalar, lent_start, plain_text, plain_opening, name_of, IsNamed};
 
 use crate::before::{is_turning, put_before, put_closer_at, turn_of};
@@ -21,9 +21,11 @@ use crate::given::{Context, EventPosition, Opening, Scalar, Start};
 use crate::indent::position_of;
 use crate::keys::{is_flow_mapping, is_flow_sequence};
 use crate::nodes::{
-    put_alias_at, put_collection, put_plain_mapping, put_plain_sequence, put_scalar, put_text,
+    are_none, put_alias_at, put_collection, put_plain_mapping, put_plain_sequence, put_scalar,
+    put_text,
 };
 use yaml_emit_layout::Level;
+use yaml_emit_tags::DirectiveTable;
 use yaml_emit_text::{Settings, Sink, is_lined};
 use yaml_parse_model::yaml_event_body_t;
 
@@ -207,10 +209,96 @@ fn put_any_node(
 // The bracket that opens a sequence or a mapping.
 // Inlined: which it is is known.
 #[inline(always)]
-pub(super) fn opening_bracket(sequence: bool) -> char
+pub(super) fn opening_bracket(sequence: bool) -> u8
     ensures { result ≡ (if sequence then ascii.open_bracket else ascii.open_brace) }
 {
-    if sequence { '[' } else { '{' }
+    if sequence { b'[' } else { b'{' }
+}
+
+// What opens a collection in one in canonical form, by its characters, with what comes before it, where it begins a line; else
+// nothing.
+// Inlined: some stores.
+#[inline(always)]
+fn put_bracket_in(sink: &mut Sink, settings: &Settings, level: Level, front: &[u8]) -> bool
+    requires few { length front.now ≤ 8 }
+    requires some { 0 < length front.now }
+    requires ascii { IsAscii front.now }
+    ensures put { result ≡ true → Puts sink.old sink.new
+        (bracket_text settings.now (Some level) front.now) }
+    ensures same { result ≡ false → sink.new ≡ sink.old }
+{
+    if is_turning(settings, level) {
+        let turn = turn_of(settings, level, None);
+        sink.put_led(&turn, front);
+        sink.set_after_block();
+        true
+    } else {
+        false
+    }
+}
+
+// The same in the innermost one.
+// Inlined: some stores.
+#[inline(always)]
+pub(super) fn put_bracket(
+    sink: &mut Sink,
+    settings: &Settings,
+    top: &Option<Level>,
+    front: &[u8],
+) -> bool
+    requires few { length front.now ≤ 8 }
+    requires some { 0 < length front.now }
+    requires ascii { IsAscii front.now }
+    ensures put { result ≡ true → Puts sink.old sink.new
+        (bracket_text settings.now top.now front.now) }
+    ensures same { result ≡ false → sink.new ≡ sink.old }
+{
+    match top {
+        None => false,
+        Some(level) => put_bracket_in(sink, settings, *level, front),
+    }
+}
+
+// What opens a collection with the default tag and without an anchor in the innermost one, by the tag's own characters, the same.
+// Inlined: some stores.
+#[inline(always)]
+fn put_tagged_bracket(
+    sink: &mut Sink,
+    settings: &Settings,
+    top: &Option<Level>,
+    sequence: bool,
+) -> bool
+    ensures put { result ≡ true → Puts sink.old sink.new
+        (bracket_text settings.now top.now (plain_front sequence)) }
+    ensures same { result ≡ false → sink.new ≡ sink.old }
+{
+    if sequence {
+        put_bracket(sink, settings, top, b"!!seq [")
+    } else {
+        put_bracket(sink, settings, top, b"!!map {")
+    }
+}
+
+// The same, where there is no directive; else nothing.
+// Inlined: some stores.
+#[inline(always)]
+pub(super) fn put_plain_bracket(
+    sink: &mut Sink,
+    settings: &Settings,
+    directives: &DirectiveTable,
+    top: &Option<Level>,
+    sequence: bool,
+) -> bool
+    ensures none { result ≡ true → directives.now ≡ [] }
+    ensures put { result ≡ true → Puts sink.old sink.new
+        (bracket_text settings.now top.now (plain_front sequence)) }
+    ensures same { result ≡ false → sink.new ≡ sink.old }
+{
+    if are_none(directives) {
+        put_tagged_bracket(sink, settings, top, sequence)
+    } else {
+        false
+    }
 }
 
 // What opens a collection in the innermost one, with what comes before it.

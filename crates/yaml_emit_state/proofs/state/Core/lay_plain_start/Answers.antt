@@ -1,18 +1,13 @@
-use Rattle.yaml_emit_layout.specs.Content.{Event}
-use Rattle.yaml_emit_state.specs.declared.state.Core.{Core}
-use Rattle.yaml_emit_state.specs.Given.{plain_opening}
-use Rattle.yaml_emit_state.specs.Steps.{state_of, settings_of}
-use Rattle.yaml_emit_state.proofs.Blaming.{lays_right}
-use Rattle.yaml_emit_state.proofs.Bracketed.{opening_right, moves_opening}
-use Rattle.yaml_emit_state.proofs.Plain.{lays_in_place}
 use Rattle.yaml_emit_state.proofs.state.Core.lay_plain_start.Goals as goal
 
-pub returns : goal.returns
-returns c = λ flow empty.
-    let old : Core = c.args.self.now in
-    let e : Event = plain_opening c.args.sequence flow in
-    let put = c.put_plain_node.ensures old.place flow empty in
-    lays_in_place old c.open_by.new.self e empty
-    (opening_right (settings_of old) (state_of old) c.args.sequence flow c.requires.form c.requires.due)
-    (lays_right old c.open_by.new.self c.put_plain_node.new.sink _ _ e empty c.settings-settings.ensures c.innermost-top.ensures put
-    (moves_opening _ (record old { sink = c.put_plain_node.new.sink }) c.open_by.new.self c.args.sequence flow empty (rw c.settings-settings.ensures c.requires.form) c.open_by.ensures))
+pub lay_any_plain-requires-clause-form : goal.lay_any_plain-requires-clause-form
+lay_any_plain-requires-clause-form c = rw (c.place_plain.ensures.same c.if-not-place_plain.true) c.requires.form
+
+pub lay_any_plain-requires-clause-due : goal.lay_any_plain-requires-clause-due
+lay_any_plain-requires-clause-due c = rw (c.place_plain.ensures.same c.if-not-place_plain.true) c.requires.due
+
+pub returns-else-not-place_plain : goal.returns-else-not-place_plain
+returns-else-not-place_plain c = λ flow empty. c.place_plain.ensures.laid c.if-not-place_plain.false flow empty
+
+pub returns-then-not-place_plain : goal.returns-then-not-place_plain
+returns-then-not-place_plain c = rw (c.place_plain.ensures.same c.if-not-place_plain.true) at c.lay_any_plain.ensures

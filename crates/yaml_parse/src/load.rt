@@ -12,6 +12,9 @@ use yaml_parse_model::{yaml_event_body_t, yaml_event_t, yaml_token_source_t};
 use yaml_parse_step::yaml_found_t;
 use yaml_scan_model::{yaml_fault_t, yaml_memory_fault, yaml_origin_t};
 
+// The loop over events that loads.
+struct Loading;
+
 // Both are let go. A call for each way out of a load: there each field that is freed by itself would be a step of its own.
 // Inlined: they lie where they were made.
 #[inline(always)]
@@ -46,7 +49,7 @@ pub fn yaml_parser_load<S: yaml_token_source_t>(
     let mut event = yaml_event_t::unplaced(yaml_event_body_t::No);
     let mut fault = yaml_memory_fault(yaml_origin_t::Parser);
     'events: loop {
-        match yaml_parser_parse_into(parser, &mut event, &mut fault) {
+        match yaml_parser_parse_into::<S, Loading>(parser, &mut event, &mut fault) {
             yaml_found_t::Event => match loader.feed(&mut event) {
                 Ok(None) => {}
                 Ok(Some(document)) => {

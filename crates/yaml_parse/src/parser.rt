@@ -63,7 +63,7 @@ impl<S: yaml_token_source_t> Model for yaml_parser_t<S> {
 impl<S: yaml_token_source_t> yaml_parser_t<S> {
     // Inlined into the loop over turns: many tokens give nothing, and behind each a call would be left and made again.
     #[inline(always)]
-    fn turn(&mut self, event: &mut yaml_event_t, fault: &mut yaml_fault_t) -> Step
+    fn turn<L>(&mut self, event: &mut yaml_event_t, fault: &mut yaml_fault_t) -> Step
         ensures turns { Turns self.old (turned result (event_of event.new) (fault_of fault.new))
             self.new }
         ensures utf8 { IsUtf8Turn (turned result (event_of event.new) (fault_of fault.new)) }
@@ -71,7 +71,16 @@ impl<S: yaml_token_source_t> yaml_parser_t<S> {
             self.new.between }
         ensures held { self.new.held ≤ 1 }
     {
-        take_turn(&mut self.source, &mut self.buffers, event, fault)
+        take_turn::<S, L>(&mut self.source, &mut self.buffers, event, fault)
+    }
+
+    // The fault that is answered is kept.
+    // Out of line: in line its room would be set to zero for each event.
+    #[inline(never)]
+    fn keep_fault(&mut self, fault: &yaml_fault_t)
+        ensures { self.new ≡ record self.old { answered = fault_of fault.now } }
+    {
+        self.prefix = yaml_parser_t_prefix::of(fault);
     }
 }
 
@@ -143,20 +152,12 @@ pub fn yaml_parser_initialize<S: yaml_token_source_t>(
     })
 }
 
-// The fault that is answered is kept.
-// Out of line: in line its room would be set to zero for each event.
-#[inline(never)]
-fn keep_fault(prefix: &mut yaml_parser_t_prefix, fault: &yaml_fault_t)
-    ensures { prefix_of prefix.new ≡ fault_of fault.now }
-{
-    *prefix = yaml_parser_t_prefix::of(fault);
-}
-
 /// The next event in a slot that is lent, or a fault in another, or neither behind the last event and after a fault: what
-/// `yaml_parser_parse` answers, with nothing moved. A slot that isn't filled may hold anything afterwards.
-// Out of line: all that a turn does is inlined into it, and its callers have no room to make for that.
-#[inline(never)]
-pub fn yaml_parser_parse_into<S: yaml_token_source_t>(
+/// `yaml_parser_parse` answers, with nothing moved. A slot that isn't filled may hold anything afterwards. `L` names the loop
+/// that asks: each loop that names a type of its own has its own copy of the parser, those that name `()` share one.
+// No hint: a copy that is called at one place is inlined there, with all that a turn does. Where two loops share one it stays a
+// call, 20 instructions an event, and its parts are calls where it is inlined into both.
+pub fn yaml_parser_parse_into<S: yaml_token_source_t, L>(
     parser: &mut yaml_parser_t<S>,
     event: &mut yaml_event_t,
     fault: &mut yaml_fault_t,
@@ -168,11 +169,11 @@ pub fn yaml_parser_parse_into<S: yaml_token_source_t>(
     ensures held { parser.new.held ≤ 1 }
 {
     'turns: loop {
-        match parser.turn(event, fault) {
+        match parser.turn::<L>(event, fault) {
             Step::Given => return yaml_found_t::Event,
             Step::Silent => {}
             Step::Refused => {
-                keep_fault(&mut parser.prefix, fault);
+                parser.keep_fault(fault);
                 return yaml_found_t::Refused;
             }
             Step::Done => return yaml_found_t::End,
@@ -220,7 +221,7 @@ pub fn yaml_parser_parse<S: yaml_token_source_t>(
 {
     let mut event = yaml_event_t::unplaced(yaml_event_body_t::No);
     let mut fault = yaml_memory_fault(yaml_origin_t::Parser);
-    let found = yaml_parser_parse_into(parser, &mut event, &mut fault);
+    let found = yaml_parser_parse_into::<S, ()>(parser, &mut event, &mut fault);
     handed_out(found, event, fault)
 }
 

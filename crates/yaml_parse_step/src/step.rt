@@ -60,7 +60,7 @@ pub fn let_buffers_go(buffers: StepBuffers) {
 }
 
 // The source's next token, where none was asked for before, or else its fault.
-fn ask<S: yaml_token_source_t>(
+fn ask<S: yaml_token_source_t, L>(
     source: &mut S,
     token: &mut TokenSlot,
     fault: &mut yaml_fault_t,
@@ -365,7 +365,7 @@ fn turn_at_held(
 // One step at the source's next token, where something is open and none is held. So it is again, where nothing is given.
 // Inlined into its one caller.
 #[inline(always)]
-fn turn_at_next<S: yaml_token_source_t>(
+fn turn_at_next<S: yaml_token_source_t, L>(
     source: &mut S,
     buffers: &mut StepBuffers,
     event: &mut yaml_event_t,
@@ -377,7 +377,7 @@ fn turn_at_next<S: yaml_token_source_t>(
         (S.to_come source.new) (S.fault_to_come source.new) }
     ensures on { result ≡ Step.Silent → AsksNext buffers.new }
 {
-    if !ask(source, &mut buffers.token, fault) {
+    if !ask::<S, L>(source, &mut buffers.token, fault) {
         finish(&mut buffers.machine);
         return Step::Refused;
     }
@@ -389,7 +389,7 @@ fn turn_at_next<S: yaml_token_source_t>(
 // there: with nothing in front of the loop's next turn LLVM asks again which answer it was.
 // Inlined into its one caller.
 #[inline(always)]
-fn turns_at_next<S: yaml_token_source_t>(
+fn turns_at_next<S: yaml_token_source_t, L>(
     source: &mut S,
     buffers: &mut StepBuffers,
     event: &mut yaml_event_t,
@@ -401,7 +401,7 @@ fn turns_at_next<S: yaml_token_source_t>(
         (S.to_come source.new) (S.fault_to_come source.new) }
 {
     'turns: loop {
-        match turn_at_next(source, buffers, event, fault) {
+        match turn_at_next::<S, L>(source, buffers, event, fault) {
             Step::Silent => buffers.is_held = false,
             Step::Given => return Step::Given,
             Step::Refused => return Step::Refused,
@@ -411,10 +411,10 @@ fn turns_at_next<S: yaml_token_source_t>(
 }
 
 /// Steps, with tags and directives resolved, up to one that gives something; one that gives nothing may be all. After a refusal
-/// nothing is left.
+/// nothing is left. `L` names the loop that asks for what they give: each has its own copy.
 // Inlined into its one caller, the turn of the parser.
 #[inline(always)]
-pub fn take_turn<S: yaml_token_source_t>(
+pub fn take_turn<S: yaml_token_source_t, L>(
     source: &mut S,
     buffers: &mut StepBuffers,
     event: &mut yaml_event_t,
@@ -430,5 +430,5 @@ pub fn take_turn<S: yaml_token_source_t>(
     if buffers.is_held {
         return turn_at_held(buffers, event, fault);
     }
-    turns_at_next(source, buffers, event, fault)
+    turns_at_next::<S, L>(source, buffers, event, fault)
 }

@@ -14,6 +14,9 @@ use yaml_parse::{
 };
 use yaml_round_reading::{Reading, let_go, reading_of};
 
+// The loop over events that judges.
+struct Checking;
+
 // ReadsInput to the end, or to what loading refuses or ends at.
 fn look_through(reading: &mut Reading<'_>, known: &mut Known) -> Result<(), yaml_fault_t>
     requires { IsUnknown known.old }
@@ -21,7 +24,11 @@ fn look_through(reading: &mut Reading<'_>, known: &mut Known) -> Result<(), yaml
         → Answers load_layers (λ done. done) (IsChecked from input) result }
 {
     'events: loop {
-        match yaml_parser_parse_into(&mut reading.parser, &mut reading.event, &mut reading.fault) {
+        match yaml_parser_parse_into::<_, Checking>(
+            &mut reading.parser,
+            &mut reading.event,
+            &mut reading.fault,
+        ) {
             yaml_found_t::Refused => return Err(reading.fault),
             yaml_found_t::End => return Ok(()),
             yaml_found_t::Event => match known.pass(&reading.event) {

@@ -127,6 +127,9 @@ fn emit_formed(emitter: &mut yaml_emitter_t, form: &mut Form, event: &mut yaml_e
     }
 }
 
+// The loop over events that writes.
+struct Writing;
+
 /// Writes the events while the text has at most so many bytes. True at the end of the events. A fault of theirs is the
 /// answer; the emitter keeps its own.
 pub(crate) fn write_up_to(
@@ -143,7 +146,7 @@ pub(crate) fn write_up_to(
         if yaml_emitter_output(emitter).len() > most {
             return Ok(false);
         }
-        match reading.next() {
+        match reading.next::<Writing>() {
             yaml_found_t::Refused => return Err(reading.fault),
             yaml_found_t::End => return Ok(true),
             yaml_found_t::Event => emit_formed(emitter, form, &mut reading.event),
@@ -161,7 +164,7 @@ pub(crate) fn write_rest(
     ensures { WritesAll form.old reading.old.parser emitter.old result form.new emitter.new }
 {
     'events: loop {
-        match reading.next() {
+        match reading.next::<()>() {
             yaml_found_t::Refused => return Err(reading.fault),
             yaml_found_t::End => return Ok(()),
             yaml_found_t::Event => emit_formed(emitter, form, &mut reading.event),

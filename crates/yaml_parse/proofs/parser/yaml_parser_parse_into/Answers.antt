@@ -7,7 +7,7 @@ use Rattle.yaml_parse_step.proofs.Turning.{kept_end}
 
 pub returns-in-Refused-clause-finds : goal.returns-in-Refused-clause-finds
 returns-in-Refused-clause-finds g c =
-    refused_behind (fault_of c.turn.new.fault) c.args.parser.now c.turns.parser c.turn.new.self _ c.turns.invariant c.in-Refused.ensures.turns cc
+    refused_behind (fault_of c.turn.new.fault) c.args.parser.now c.turns.parser c.turn.new.self _ c.turns.invariant c.in-Refused.ensures.turns c.keep_fault.ensures
 
 pub returns-in-Done-clause-finds : goal.returns-in-Done-clause-finds
 returns-in-Done-clause-finds g c = kept_end c.args.parser.now c.turns.parser c.turn.new.self c.turns.invariant c.in-Done.ensures.turns

@@ -1,81 +1,31 @@
 -- Gaps between lexemes, a step at a time.
-use Rattle.std.proofs.Common.{◌≡◌, ℕ, zero, suc, ◌+◌, ◌<◌, ◌≤◌, ◌==◌, ◌&&◌, ◌||◌, nat_lt, Bool, true, false, not, List, length, refl, sym, ap, ◌∙◌, inl, inr, ◌⊎◌, arith}
-use Rattle.yaml_scan_words.proofs.Words.{cases_Bool, and_parts, eqb-true, ltb-true, nat_tests, byte, break_of, break_width, is_bom, no_break, within, past_some, is_text, line_end, GapStep, step_at, is_skipped, Gap, with_break, gap_within}
+use Rattle.std.proofs.Common.{◌≡◌, ◌≢◌, ℕ, zero, suc, ◌+◌, ◌<◌, ◌≤◌, ◌==◌, ◌&&◌, ◌||◌, nat_lt, Bool, true, false, not, List, length, refl, sym, ap, ◌∙◌, inl, inr, ◌⊎◌, arith}
+use Rattle.yaml_scan_words.proofs.Words.{blank_parts, cond_both, and_parts, eqb-true, lt-ltb, ltb-true, ne_eqb, nat_tests, byte, break_of, break_width, is_blank, is_bom, no_break_between, past-inside, past_break, past_some, text_parts, within, is_text, GapSpot, GapStep, step_at, is_skipped, Gap, gap_at, gap_behind, with_break, gap_within}
 use Rattle.yaml_scan_words.specs.declared.between.GapSpot.TheVariants as gap_spots
 
-break_first : (b c d : ℕ) → 0 < break_of b c d → 0 < b
+-- ---- bytes
+
+-- what a byte that begins a break is not
+pub break_parts : (b c d : ℕ) → 0 < break_of b c d → (b ≢ 0xEF) × (b ≢ 32) × (b ≢ 9) × (b ≢ 35)
 unfolding break_of
-break_first b c d h = grind (arith, nat_tests)
+break_parts b c d h = (grind (arith, nat_tests), grind (arith, nat_tests), grind (arith, nat_tests), grind (arith, nat_tests))
 
 pub break_inside : (text : List ℕ) (p : ℕ) → 0 < break_width text p → p < length text
-break_inside text p h = within text p (break_first _ _ _ h)
+break_inside text p h = let inside = (past_break text p h).inside in omega arith
 
-hash_text : (text : List ℕ) (p : ℕ) → byte text p ≡ 35 → is_text text p ≡ true
-hash_text text p h =
-    let none : break_width text p ≡ 0 = no_break _ _ _ (omega arith) (omega arith) (omega arith) (omega arith) in
-    rw (none, h) refl
+not_first : (first : Bool) (a b c : ℕ) → a ≢ 0xEF
+    → (first && (a == 0xEF && (b == 0xBB && c == 0xBF))) ≡ false
+not_first true a b c h = grind (arith, nat_tests)
+not_first false a b c h = refl
 
-blank_lexeme : (p q : ℕ)
-    → ◌≡◌ {A = GapStep} (record { standing = gap_spots.Blank; place = p })
-    (record { standing = gap_spots.Lexeme; place = q }) → ⊥
-blank_lexeme p q h = let e : gap_spots.Blank ≡ gap_spots.Lexeme = ap (λ (s : GapStep). s.standing) h in cc
+-- no byte order mark stands there
+pub no_bom : (text : List ℕ) (p : ℕ) → byte text p ≢ 0xEF → (p == 0 && is_bom text p) ≡ false
+no_bom text p h = not_first (p == 0) (byte text p) (byte text (p + 1)) (byte text (p + 2)) h
 
-break_lexeme : (p q : ℕ)
-    → ◌≡◌ {A = GapStep} (record { standing = gap_spots.Break; place = p })
-    (record { standing = gap_spots.Lexeme; place = q }) → ⊥
-break_lexeme p q h = let e : gap_spots.Break ≡ gap_spots.Lexeme = ap (λ (s : GapStep). s.standing) h in cc
-
-not_first : (b c d : ℕ) (first : Bool) → (nat_lt 32 b && (nat_lt b 128 && not (b == 35))) ≡ true
-    → (first && (b == 0xEF && (c == 0xBB && d == 0xBF))) ≡ false
-not_first b c d true h = grind (arith, nat_tests)
-not_first b c d false h = refl
-
-not_skipped : (b : ℕ) (tabs : Bool) → (nat_lt 32 b && (nat_lt b 128 && not (b == 35))) ≡ true
-    → (b == 32 || (tabs && b == 9)) ≡ false
-not_skipped b true h = grind (arith, nat_tests)
-not_skipped b false h = grind (arith, nat_tests)
-
-within_ascii : (b : ℕ) → (nat_lt 32 b && (nat_lt b 128 && not (b == 35))) ≡ true
-    → (32 < b) × (b < 128)
-within_ascii b h = (grind (arith, nat_tests), grind (arith, nat_tests))
-
-no_width : (b c d : ℕ) → (nat_lt 32 b && (nat_lt b 128 && not (b == 35))) ≡ true
-    → break_of b c d ≡ 0
-no_width b c d h =
-    let (low, high) = within_ascii b h in
-    no_break b c d (omega arith) (omega arith) (omega arith) (omega arith)
-
---- these bytes begin a lexeme
-pub lexeme_here : (tabs : Bool) (text : List ℕ) (p : ℕ)
-    → (nat_lt 32 (byte text p) && (nat_lt (byte text p) 128 && not (byte text p == 35))) ≡ true
-    → step_at tabs text p ≡ record { standing = gap_spots.Lexeme; place = p }
-unfolding step_at
-lexeme_here tabs text p h =
-    let hash : (byte text p == 35) ≡ false = grind (arith, nat_tests) in
-    rw (not_first (byte text p) (byte text (p + 1)) (byte text (p + 2)) (p == 0) h, not_skipped (byte text p) tabs h, hash, no_width (byte text p) (byte text (p + 1)) (byte text (p + 2)) h) refl
-
-space_first : (b c d : ℕ) (first : Bool) → b ≡ 32
-    → (first && (b == 0xEF && (c == 0xBB && d == 0xBF))) ≡ false
-space_first b c d true h = rw h refl
-space_first b c d false h = refl
-
--- a space is passed
-pub space_here : (tabs : Bool) (text : List ℕ) (p : ℕ) → byte text p ≡ 32
-    → step_at tabs text p ≡ record { standing = gap_spots.Blank; place = p + 1 }
-unfolding step_at
-space_here tabs text p h =
-    let first : (p == 0 && is_bom text p) ≡ false = space_first (byte text p) (byte text (p + 1)) (byte text (p + 2)) (p == 0) h in
-    let skips : is_skipped tabs text p ≡ true = rw h refl in
-    rw (first, skips) refl
-
-feed_first : (b c d : ℕ) (first : Bool) → b ≡ 10
-    → (first && (b == 0xEF && (c == 0xBB && d == 0xBF))) ≡ false
-feed_first b c d true h = rw h refl
-feed_first b c d false h = refl
-
-feed_skipped : (b : ℕ) (tabs : Bool) → b ≡ 10 → (b == 32 || (tabs && b == 9)) ≡ false
-feed_skipped b true h = rw h refl
-feed_skipped b false h = rw h refl
+-- no white stands there
+pub no_skip : (tabs : Bool) (b : ℕ) → b ≢ 32 → b ≢ 9 → (b == 32 || (tabs && b == 9)) ≡ false
+no_skip true b h i = grind (arith, nat_tests)
+no_skip false b h i = grind (arith, nat_tests)
 
 feed_of : (b c d : ℕ) → b ≡ 10 → break_of b c d ≡ 1
 unfolding break_of
@@ -85,65 +35,138 @@ feed_of b c d h = rw h refl
 pub feed_width : (text : List ℕ) (p : ℕ) → byte text p ≡ 10 → break_width text p ≡ 1
 feed_width text p h = feed_of (byte text p) (byte text (p + 1)) (byte text (p + 2)) h
 
--- a line feed is passed
-pub feed_here : (tabs : Bool) (text : List ℕ) (p : ℕ) → byte text p ≡ 10
-    → step_at tabs text p ≡ record { standing = gap_spots.Break; place = p + 1 }
-unfolding step_at
-feed_here tabs text p h =
-    let first : (p == 0 && is_bom text p) ≡ false = feed_first (byte text p) (byte text (p + 1)) (byte text (p + 2)) (p == 0) h in
-    let skips : is_skipped tabs text p ≡ false = feed_skipped (byte text p) tabs h in
-    let hash : (byte text p == 35) ≡ false = rw h refl in
-    rw (first, skips, hash, feed_width text p h) refl
-
 -- a space is a byte, and no break
 pub space_byte : (text : List ℕ) (p : ℕ) → byte text p ≡ 32
     → (0 < byte text p) × (break_width text p ≡ 0)
-space_byte text p e = (omega arith, no_break _ _ _ (omega arith) (omega arith) (omega arith) (omega arith))
+space_byte text p e = blank_parts _ _ _ (rw e refl)
 
 -- the bytes of U+FEFF
 pub bom_bytes : (text : List ℕ) (p : ℕ) → is_bom text p ≡ true
     → (byte text p ≡ 0xEF) × (byte text (p + 1) ≡ 0xBB) × (byte text (p + 2) ≡ 0xBF)
 bom_bytes text p h = (grind (arith, nat_tests), grind (arith, nat_tests), grind (arith, nat_tests))
 
-skipped_cases : (b : ℕ) (tabs : Bool) → (b == 32 || (tabs && b == 9)) ≡ true → (b ≡ 32) ⊎ (b ≡ 9)
-skipped_cases b true h = grind (arith, nat_tests)
-skipped_cases b false h = grind (arith, nat_tests)
+skipped_blank : (b : ℕ) (tabs : Bool) → (b == 32 || (tabs && b == 9)) ≡ true → is_blank b ≡ true
+skipped_blank b true h = h
+skipped_blank b false h = grind (arith, nat_tests)
 
 pub skipped_here : (tabs : Bool) (text : List ℕ) (p : ℕ) → is_skipped tabs text p ≡ true
     → (0 < byte text p) × (break_width text p ≡ 0)
-skipped_here tabs text p h =
-    elim (skipped_cases (byte text p) tabs h) [
-      | inl e ↦ (omega arith, no_break _ _ _ (omega arith) (omega arith) (omega arith) (omega arith))
-      | inr e ↦ (omega arith, no_break _ _ _ (omega arith) (omega arith) (omega arith) (omega arith))
-    ]
+skipped_here tabs text p h = blank_parts _ _ _ (skipped_blank (byte text p) tabs h)
 
-pub bom_first : (text : List ℕ) (p : ℕ) → (p == 0 && is_bom text p) ≡ true → is_bom text p ≡ true
-bom_first text p h = (and_parts (p == 0) (is_bom text p) h).1
+hash_text : (text : List ℕ) (p : ℕ) → byte text p ≡ 35 → is_text text p ≡ true
+hash_text text p h =
+    let none : break_width text p ≡ 0 = no_break_between _ 35 35 _ _ (omega arith) (omega arith) (omega arith) (omega arith) in
+    rw (none, h) refl
 
-hash_inside : (text : List ℕ) (p : ℕ) → byte text p ≡ 35
-    → (p < line_end text p) × (p < length text)
-hash_inside text p h =
-    (past_some is_text text p (hash_text text p h) (omega arith), within text p (omega arith))
+-- ---- steps
+
+-- a space is passed
+pub space_here : (tabs : Bool) (text : List ℕ) (p : ℕ) → byte text p ≡ 32
+    → step_at tabs text p ≡ record { standing = gap_spots.Blank; place = p + 1 }
+unfolding step_at
+space_here tabs text p h = rw (no_bom text p (omega arith), h) refl
+
+-- a break is passed
+pub break_here : (tabs : Bool) (text : List ℕ) (p : ℕ) → 0 < break_width text p
+    → step_at tabs text p ≡ record { standing = gap_spots.Break; place = p + break_width text p }
+unfolding step_at
+break_here tabs text p h =
+    let (bom, space, tab, hash) = break_parts _ _ _ h in
+    rw (no_bom text p bom, no_skip tabs (byte text p) space tab, ne_eqb (byte text p) 35 hash, lt-ltb 0 (break_width text p) h) refl
+
+-- a line feed is passed
+pub feed_here : (tabs : Bool) (text : List ℕ) (p : ℕ) → byte text p ≡ 10
+    → step_at tabs text p ≡ record { standing = gap_spots.Break; place = p + 1 }
+feed_here tabs text p h =
+    let one = feed_width text p h in
+    rw one at (break_here tabs text p (omega arith))
+
+-- what begins neither white nor a comment nor a break, stays
+pub stays : (tabs : Bool) (text : List ℕ) (p : ℕ) → byte text p ≢ 32 → byte text p ≢ 9
+    → byte text p ≢ 35 → nat_lt 0 (break_width text p) ≡ false → (p == 0 && is_bom text p) ≡ false
+    → step_at tabs text p ≡ record { standing = gap_spots.Lexeme; place = p }
+unfolding step_at
+stays tabs text p space tab hash none first =
+    rw (first, no_skip tabs (byte text p) space tab, ne_eqb (byte text p) 35 hash, none) refl
+
+byte_parts : (b : ℕ) → (nat_lt 32 b && (nat_lt b 128 && not (b == 35))) ≡ true
+    → (32 < b) × (b < 128) × (b ≢ 35)
+byte_parts b h = (grind (arith, nat_tests), grind (arith, nat_tests), grind (arith, nat_tests))
+
+--- these bytes begin a lexeme
+pub lexeme_here : (tabs : Bool) (text : List ℕ) (p : ℕ)
+    → (nat_lt 32 (byte text p) && (nat_lt (byte text p) 128 && not (byte text p == 35))) ≡ true
+    → step_at tabs text p ≡ record { standing = gap_spots.Lexeme; place = p }
+lexeme_here tabs text p h =
+    let (low, high, hash) = byte_parts (byte text p) h in
+    let none : break_width text p ≡ 0 = no_break_between _ 33 127 _ _ (omega arith) (omega arith) (omega arith) (omega arith) in
+    stays tabs text p (omega arith) (omega arith) hash (rw none refl) (no_bom text p (omega arith))
 
 -- a step stops at a lexeme, or goes on inside the text
-pub step_moves : (tabs : Bool) (text : List ℕ) (p : ℕ)
-    → (step_at tabs text p ≡ record { standing = gap_spots.Lexeme; place = p })
-    ⊎ ((p < (step_at tabs text p).place) × (p < length text))
+abbrev Moved : List ℕ → ℕ → GapStep → Type 0
+Moved text p s = (s ≡ record { standing = gap_spots.Lexeme; place = p }) ⊎ ((p < s.place) × (s.place ≤ length text))
+
+pub step_moves : (tabs : Bool) (text : List ℕ) (p : ℕ) → Moved text p (step_at tabs text p)
 unfolding step_at
 step_moves tabs text p =
-    elim (cases_Bool (p == 0 && is_bom text p)) [
-      | inl h ↦ let (a, b, c) = bom_bytes text p (bom_first text p h) in rw h (inr (omega arith, within text p (omega arith)))
-      | inr h ↦ elim (cases_Bool (is_skipped tabs text p)) [
-        | inl i ↦ let (some, none) = skipped_here tabs text p i in rw (h, i) (inr (omega arith, within text p some))
-        | inr i ↦ elim (cases_Bool (byte text p == 35)) [
-          | inl j ↦ rw (h, i, j) (inr (hash_inside text p (eqb-true _ _ j)))
-          | inr j ↦ elim (cases_Bool (nat_lt 0 (break_width text p))) [
-            | inl k ↦ let some : 0 < break_width text p = ltb-true _ _ k in rw (h, i, j, k) (inr (omega arith, break_inside text p some))
-            | inr k ↦ rw (h, i, j, k) (inl refl)
-          ]
-        ]
-      ]
+    cond_both (p == 0 && is_bom text p) _ _ (Moved text p) (λ h.
+    let (a, b, c) = bom_bytes text p (and_parts _ _ h).1 in
+    let last = within text (p + 2) (omega arith) in
+    inr (omega arith, omega arith)) (λ h.
+    cond_both (is_skipped tabs text p) _ _ (Moved text p) (λ i.
+    let here = within text p (skipped_here tabs text p i).0 in
+    inr (omega arith, omega arith)) (λ i.
+    cond_both (byte text p == 35) _ _ (Moved text p) (λ j.
+    let e = eqb-true _ _ j in
+    let here = within text p (omega arith) in
+    inr (past_some is_text text p (hash_text text p e) (omega arith), past-inside is_text (length text) text p (λ q t. (text_parts text q t).0) (omega arith))) (λ j.
+    cond_both (nat_lt 0 (break_width text p)) _ _ (Moved text p) (λ k.
+    let some : 0 < break_width text p = ltb-true _ _ k in
+    inr (omega arith, (past_break text p some).inside)) (λ k. inl refl))))
+
+-- what is no lexeme is passed
+pub moves_on : (tabs : Bool) (text : List ℕ) (p : ℕ) (s : GapSpot) (q : ℕ)
+    → ◌≡◌ {A = GapStep} (step_at tabs text p) (record { standing = s; place = q })
+    → s ≢ gap_spots.Lexeme → (p < q) × (q ≤ length text)
+moves_on tabs text p s q h other =
+    elim (step_moves tabs text p) [
+      | inl e ↦ absurd (other (ap (λ (s : GapStep). s.standing) (sym h ∙ e)))
+      | inr more ↦ rw h at more
     ]
+
+-- ---- gaps
+
+behind_same : (f g : Bool → ℕ → Gap) (flow allowed : Bool) (s : GapSpot) (q : ℕ)
+    → ((key : Bool) → f key q ≡ g key q)
+    → gap_behind f flow allowed s q ≡ gap_behind g flow allowed s q
+behind_same f g flow allowed gap_spots.Blank q h = h allowed
+behind_same f g flow allowed gap_spots.Break q h = ap (with_break true) (h (allowed || not flow))
+behind_same f g flow allowed gap_spots.Lexeme q h = refl
+
+-- A gap is a step, and the gap behind it in as many steps, if these reach the end.
+gap_turn : (n : ℕ) (flow allowed : Bool) (text : List ℕ) (p : ℕ) → length text ≤ p + n
+    → gap_within n flow allowed text p
+    ≡ gap_behind (λ key q. gap_within n flow key text q) flow allowed
+    (step_at (flow || not allowed) text p).standing (step_at (flow || not allowed) text p).place
+unfolding gap_within
+gap_turn zero flow allowed text p room =
+    elim (step_moves (flow || not allowed) text p) [
+      | inl e ↦ rw e refl
+      | inr (far, inside) ↦ absurd (omega arith)
+    ]
+gap_turn (suc n) flow allowed text p room =
+    elim (step_moves (flow || not allowed) text p) [
+      | inl e ↦ rw e refl
+      | inr (far, inside) ↦
+          let step = step_at (flow || not allowed) text p in
+          behind_same (λ key q. gap_within n flow key text q) (λ key q. gap_within (suc n) flow key text q) flow allowed step.standing step.place (λ key. gap_turn n flow key text step.place (omega arith))
+    ]
+
+pub gap_here : (flow allowed : Bool) (text : List ℕ) (p : ℕ)
+    → gap_at flow allowed text p
+    ≡ gap_behind (λ key q. gap_at flow key text q) flow allowed
+    (step_at (flow || not allowed) text p).standing (step_at (flow || not allowed) text p).place
+gap_here flow allowed text p = gap_turn (length text) flow allowed text p (omega arith)
 
 -- what is left of a gap behind a blank
 pub gap_blank : (n : ℕ) (flow allowed : Bool) (text : List ℕ) (p q : ℕ)
@@ -151,17 +174,9 @@ pub gap_blank : (n : ℕ) (flow allowed : Bool) (text : List ℕ) (p q : ℕ)
     → length text ≤ p + n
     → (m : ℕ) × (length text ≤ q + m) × (p < q) × (p < length text)
     × (gap_within n flow allowed text p ≡ gap_within m flow allowed text q)
-unfolding gap_within
 gap_blank n flow allowed text p q h room =
-    elim (step_moves (flow || not allowed) text p) [
-      | inl e ↦ absurd (blank_lexeme q p (sym h ∙ e))
-      | inr (far, inside) ↦
-          let more : p < q = rw h at far in
-          elim n as (λ n. length text ≤ p + n → (m : ℕ) × (length text ≤ q + m) × (p < q) × (p < length text) × (gap_within n flow allowed text p ≡ gap_within m flow allowed text q)) [
-            | zero ↦ λ r. absurd (omega arith)
-            | suc k ↦ λ r. (k, omega arith, more, inside, rw h refl)
-          ] room
-    ]
+    let (far, inside) = moves_on _ text p gap_spots.Blank q h (λ b. cc) in
+    (n, omega arith, far, omega arith, rw h at (gap_turn n flow allowed text p room))
 
 -- what is left of a gap behind a break
 pub gap_break : (n : ℕ) (flow allowed : Bool) (text : List ℕ) (p q : ℕ)
@@ -170,44 +185,12 @@ pub gap_break : (n : ℕ) (flow allowed : Bool) (text : List ℕ) (p q : ℕ)
     → (m : ℕ) × (length text ≤ q + m) × (p < q) × (p < length text)
     × (gap_within n flow allowed text p
     ≡ with_break true (gap_within m flow (allowed || not flow) text q))
-unfolding gap_within
 gap_break n flow allowed text p q h room =
-    elim (step_moves (flow || not allowed) text p) [
-      | inl e ↦ absurd (break_lexeme q p (sym h ∙ e))
-      | inr (far, inside) ↦
-          let more : p < q = rw h at far in
-          elim n as (λ n. length text ≤ p + n → (m : ℕ) × (length text ≤ q + m) × (p < q) × (p < length text) × (gap_within n flow allowed text p ≡ with_break true (gap_within m flow (allowed || not flow) text q))) [
-            | zero ↦ λ r. absurd (omega arith)
-            | suc k ↦ λ r. (k, omega arith, more, inside, rw h refl)
-          ] room
-    ]
+    let (far, inside) = moves_on _ text p gap_spots.Break q h (λ b. cc) in
+    (n, omega arith, far, omega arith, rw h at (gap_turn n flow allowed text p room))
 
 -- A gap stops at a lexeme.
 pub gap_stop : (n : ℕ) (flow allowed : Bool) (text : List ℕ) (p q : ℕ)
     → step_at (flow || not allowed) text p ≡ record { standing = gap_spots.Lexeme; place = q }
     → length text ≤ p + n → gap_within n flow allowed text p ≡ record { place = q; broke = false }
-unfolding gap_within
-gap_stop zero flow allowed text p q h room =
-    elim (step_moves (flow || not allowed) text p) [
-      | inl e ↦ let same : q ≡ p = ap (λ (s : GapStep). s.place) (sym h ∙ e) in rw same refl
-      | inr (far, inside) ↦ absurd (omega arith)
-    ]
-gap_stop (suc n) flow allowed text p q h room = rw h refl
-
-break_twice : (broke : Bool) (gap : Gap)
-    → with_break broke (with_break true gap) ≡ with_break true gap
-break_twice true gap = refl
-break_twice false gap = refl
-
-pub break_last : (broke : Bool) (q : ℕ)
-    → with_break broke (record { place = q; broke = false }) ≡ record { place = q; broke = broke }
-break_last true q = refl
-break_last false q = refl
-
-pub behind_blank : (broke : Bool) (whole before after : Gap) → whole ≡ with_break broke before
-    → before ≡ after → whole ≡ with_break broke after
-behind_blank broke whole before after h e = h ∙ ap (with_break broke) e
-
-pub behind_break : (broke : Bool) (whole before after : Gap) → whole ≡ with_break broke before
-    → before ≡ with_break true after → whole ≡ with_break true after
-behind_break broke whole before after h e = h ∙ ap (with_break broke) e ∙ break_twice broke after
+gap_stop n flow allowed text p q h room = rw h at (gap_turn n flow allowed text p room)

@@ -1,7 +1,6 @@
 -- Texts that have some bytes.
-use Rattle.std.proofs.Common.{◌≡◌, ℕ, zero, suc, ◌+◌, ◌-◌, ◌<◌, ◌≤◌, List, [], ◌∷◌, ◌++◌, length, get_or, take, drop, slice_range, refl, ap, subst, ◌∙◌, arith, add-zero, length-take, length-drop}
-use Rattle.yaml_scan_words.proofs.Words.{get_or-take, get_or-drop, byte, HasAt}
-use Rattle.std.proofs.lemmas.Grind.{same_number_lists}
+use Rattle.std.proofs.Common.{◌≡◌, ℕ, zero, suc, ◌+◌, ◌-◌, ◌≤◌, List, [], ◌∷◌, ◌++◌, length, get_or, take, drop, slice_range, refl, ap, subst, ◌∙◌, arith, add-zero}
+use Rattle.yaml_scan_words.proofs.Words.{drop_more, byte, HasAt}
 
 -- the text has these bytes from the place on, by recursion
 abbrev pub Has : List ℕ → ℕ → List ℕ → Type 0
@@ -36,15 +35,14 @@ has_at text p (x ∷ xs) (e, h) (suc k) l =
     let same : p + 1 + k ≡ p + suc k = omega arith in
     subst (λ q. byte text q ≡ get_or xs k 0) same (has_at text (p + 1) xs h k (omega arith))
 
-read_at : (text : List ℕ) (p n k : ℕ) → k < n
-    → get_or (take n (drop p text)) k 0 ≡ byte text (p + k)
-read_at text p n k l = rw (get_or-take n (drop p text) k 0 l, get_or-drop p text k 0) refl
+takes : (text : List ℕ) (p : ℕ) (xs : List ℕ) → Has text p xs → p + length xs ≤ length text
+    → take (length xs) (drop p text) ≡ xs
+takes text p [] h l = refl
+takes text p (x ∷ xs) (e, h) l = rw (drop_more text p 0 (omega arith), e) (ap (λ ys. x ∷ ys) (takes text (p + 1) xs h (omega arith)))
 
 -- what stands between two places
 pub range_reads : (text : List ℕ) (p : ℕ) (xs : List ℕ) → Has text p xs
     → p + length xs ≤ length text → slice_range text p (p + length xs) ≡ xs
 range_reads text p xs h l =
     let count : p + length xs - p ≡ length xs = omega arith in
-    let len : length (take (length xs) (drop p text)) ≡ length xs = rw (length-take, length-drop) (omega arith) in
-    rw count (same_number_lists (take (length xs) (drop p text)) xs len
-    (λ k m. let n : k < length xs = rw len at m in read_at text p (length xs) k n ∙ has_at text p xs h k n))
+    rw count (takes text p xs h l)

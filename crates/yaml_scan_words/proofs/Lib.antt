@@ -1,7 +1,6 @@
 mod Words
 pub mod RanksLemmas
 pub mod RunsLemmas
-pub mod PrintedLemmas
 pub mod BetweenLemmas
 pub mod UrisLemmas
 pub mod DirectivesLemmas

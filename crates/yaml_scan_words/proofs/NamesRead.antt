@@ -1,8 +1,8 @@
 -- Names that are written.
-use Rattle.std.proofs.Common.{◌≡◌, ℕ, suc, ◌+◌, ◌<◌, ◌≤◌, ◌==◌, ◌||◌, true, false, List, [], ◌∷◌, length, Ok, refl, sym, ◌∙◌, inl, inr, arith}
-use Rattle.yaml_scan_words.proofs.Words.{cases_Bool, true≢false, and_parts, nat_tests, Context, byte, break_of, is_blank, is_blank_or_end, is_alpha_byte, is_digit_byte, belongs, run_within, run_end, anchor_at, may_end_name, HasAt, are_alphas, is_name_end, break_width}
+use Rattle.std.proofs.Common.{◌≡◌, ℕ, suc, ◌+◌, ◌<◌, ◌≤◌, ◌==◌, ◌||◌, true, false, List, [], ◌∷◌, length, Ok, refl, sym, ◌∙◌, arith}
+use Rattle.yaml_scan_words.proofs.Words.{false_from_ne_true, ne_eqb, no_break_between, true≢false, and_parts, nat_tests, Context, byte, is_blank, is_alpha_byte, is_digit_byte, belongs, run_within, run_end, anchor_at, may_end_name, HasAt, are_alphas, is_name_end, break_width}
 use Rattle.yaml_scan_words.specs.declared.run.Run.TheVariants as runs
-use Rattle.yaml_scan_words.proofs.RunsLemmas.{belongs_inside, run_more, run_stop}
+use Rattle.yaml_scan_words.proofs.RunsLemmas.{alpha_range, belongs_inside, run_more, run_stop, run_within-le}
 use Rattle.yaml_scan_words.proofs.HasLemmas.{Has, has, range_reads}
 
 pub alpha_at : (text : List ℕ) (p b : ℕ) → byte text p ≡ b → is_alpha_byte b ≡ true
@@ -32,40 +32,15 @@ alphas_run (b ∷ bs) n text p (e, h) are stop room =
     let (m, more, same) = run_more n runs.Alphas text p (alpha_at text p b e front) room in
     rw end (same ∙ alphas_run bs m text (p + 1) h back after more)
 
-pub alphas_inside : (name : List ℕ) (text : List ℕ) (p : ℕ) → Has text p name
-    → are_alphas name ≡ true → p ≤ length text → p + length name ≤ length text
-alphas_inside [] text p h are l = omega arith
-alphas_inside (b ∷ bs) text p (e, h) are l =
-    let (front, back) = and_parts (is_alpha_byte b) (are_alphas bs) are in
-    let here = belongs_inside runs.Alphas text p (alpha_at text p b e front) in
-    let rest = alphas_inside bs text (p + 1) h back (omega arith) in
-    omega arith
-
-blank_alpha : (b : ℕ) → is_alpha_byte b ≡ true → (is_blank b || b == 0) ≡ false
-unfolding is_alpha_byte is_digit_byte
-blank_alpha b h = grind (arith, nat_tests)
-
--- an alpha is no blank, no break and not the end
-pub alpha_goes_on : (text : List ℕ) (p : ℕ) → is_alpha_byte (byte text p) ≡ true
-    → is_blank_or_end text p ≡ false
-alpha_goes_on text p h =
-    let none : break_width text p ≡ 0 = unfold break_of is_alpha_byte is_digit_byte in grind (arith, nat_tests) in
-    rw (blank_alpha (byte text p) h, none) refl
-
 alpha_ends_none : (text : List ℕ) (p : ℕ) → is_alpha_byte (byte text p) ≡ true
     → may_end_name text p ≡ false
 unfolding may_end_name
 alpha_ends_none text p h =
+    let (low, high, angle) = alpha_range (byte text p) h in
+    let none : break_width text p ≡ 0 = no_break_between _ 45 122 _ _ low high (omega arith) (omega arith) in
+    let blank : (is_blank (byte text p) || byte text p == 0) ≡ false = grind (arith, nat_tests) in
     let end : is_name_end (byte text p) ≡ false = unfold is_alpha_byte is_digit_byte in grind (arith, nat_tests) in
-    rw (alpha_goes_on text p h, end) refl
-
-name_stops : (text : List ℕ) (p : ℕ) → may_end_name text p ≡ true
-    → belongs runs.Alphas text p ≡ false
-name_stops text p h =
-    elim (cases_Bool (is_alpha_byte (byte text p))) [
-      | inl a ↦ absurd (true≢false (sym h ∙ alpha_ends_none text p a))
-      | inr a ↦ no_alpha_at text p a
-    ]
+    rw (blank, none, end) refl
 
 pub anchor_is_read : (context : Context) (text : List ℕ) (p : ℕ) (name : List ℕ)
     → HasAt text (p + 1) name → 0 < length name → are_alphas name ≡ true
@@ -77,7 +52,8 @@ anchor_is_read context text p (b ∷ bs) h some are stop =
     let all = has text q (b ∷ bs) h in
     let (front, back) = and_parts (is_alpha_byte b) (are_alphas bs) are in
     let here = belongs_inside runs.Alphas text q (alpha_at text q b all.0 front) in
-    let run : run_end runs.Alphas text q ≡ q + length (b ∷ bs) = alphas_run (b ∷ bs) (length text) text q all are (name_stops text (q + length (b ∷ bs)) stop) (omega arith) in
-    let inside = alphas_inside (b ∷ bs) text q all are (omega arith) in
-    let longer : (q == q + suc (length bs)) ≡ false = grind (arith, nat_tests) in
+    let none = false_from_ne_true _ (λ a. true≢false (sym stop ∙ alpha_ends_none text (q + length (b ∷ bs)) a)) in
+    let run : run_end runs.Alphas text q ≡ q + length (b ∷ bs) = alphas_run (b ∷ bs) (length text) text q all are (no_alpha_at text _ none) (omega arith) in
+    let inside = rw run at (run_within-le (length text) runs.Alphas text q (omega arith)) in
+    let longer : (q == q + suc (length bs)) ≡ false = ne_eqb _ _ (omega arith) in
     rw (run, longer, stop, range_reads text q (b ∷ bs) all inside) refl

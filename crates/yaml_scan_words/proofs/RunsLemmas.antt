@@ -1,15 +1,15 @@
 -- Runs, a byte at a time.
-use Rattle.std.proofs.Common.{◌≡◌, ℕ, zero, suc, ◌+◌, ◌-◌, ◌<◌, ◌≤◌, true, false, List, length, refl, ◌∙◌, inl, inr, ◌⊎◌, arith}
-use Rattle.yaml_scan_words.proofs.Words.{cases_Bool, nat_tests, byte, break_width, is_blank, is_alpha_byte, is_digit_byte, no_break, within, Run, belongs, run_within}
+use Rattle.std.proofs.Common.{◌≡◌, ◌≢◌, ℕ, zero, suc, ◌+◌, ◌<◌, ◌≤◌, Bool, true, false, List, length, refl, ◌∙◌, inl, inr, ◌⊎◌, arith}
+use Rattle.yaml_scan_words.proofs.Words.{blank_parts, cases_Bool, cases_lt, false_from_ne_true, nat_tests, byte, break_width, is_blank, is_alpha_byte, is_digit_byte, no_break_between, within, IsPrinted, Run, belongs, run_within, run_end}
 use Rattle.yaml_scan_words.specs.declared.run.Run.TheVariants as runs
 
 digit_range : (b : ℕ) → is_digit_byte b ≡ true → (48 ≤ b) × (b ≤ 57)
 unfolding is_digit_byte
 digit_range b h = (grind (arith, nat_tests), grind (arith, nat_tests))
 
-alpha_range : (b : ℕ) → is_alpha_byte b ≡ true → (45 ≤ b) × (b ≤ 122)
+pub alpha_range : (b : ℕ) → is_alpha_byte b ≡ true → (45 ≤ b) × (b ≤ 122) × (b ≢ 60)
 unfolding is_alpha_byte is_digit_byte
-alpha_range b h = (grind (arith, nat_tests), grind (arith, nat_tests))
+alpha_range b h = (grind (arith, nat_tests), grind (arith, nat_tests), grind (arith, nat_tests))
 
 -- a space or a tab
 pub blank_cases : (b : ℕ) → is_blank b ≡ true → (b ≡ 32) ⊎ (b ≡ 9)
@@ -20,21 +20,21 @@ pub belongs_here : (run : Run) (text : List ℕ) (p : ℕ) → belongs run text 
     → (0 < byte text p) × (break_width text p ≡ 0)
 unfolding belongs
 belongs_here runs.Alphas text p h =
-    let (low, high) = alpha_range (byte text p) h in
-    (omega arith, no_break _ _ _ (omega arith) (omega arith) (omega arith) (omega arith))
+    let (low, high, angle) = alpha_range (byte text p) h in
+    (omega arith, no_break_between _ 45 122 _ _ low high (omega arith) (omega arith))
 belongs_here runs.Digits text p h =
     let (low, high) = digit_range (byte text p) h in
-    (omega arith, no_break _ _ _ (omega arith) (omega arith) (omega arith) (omega arith))
-belongs_here runs.Blanks text p h =
-    elim (blank_cases (byte text p) h) [
-      | inl e ↦ (omega arith, no_break _ _ _ (omega arith) (omega arith) (omega arith) (omega arith))
-      | inr e ↦ (omega arith, no_break _ _ _ (omega arith) (omega arith) (omega arith) (omega arith))
-    ]
+    (omega arith, no_break_between _ 48 57 _ _ low high (omega arith) (omega arith))
+belongs_here runs.Blanks text p h = blank_parts _ _ _ h
 
 -- A byte of a run stands within the text.
 pub belongs_inside : (run : Run) (text : List ℕ) (p : ℕ) → belongs run text p ≡ true
     → p < length text
 belongs_inside run text p h = within text p (belongs_here run text p h).0
+
+-- Nothing of a run stands past the end.
+pub past_run : (run : Run) (text : List ℕ) (p : ℕ) → length text ≤ p → belongs run text p ≡ false
+past_run run text p past = false_from_ne_true _ (λ h. let inside = belongs_inside run text p h in omega arith)
 
 -- what is left of a run behind a byte of it
 pub run_more : (n : ℕ) (run : Run) (text : List ℕ) (p : ℕ) → belongs run text p ≡ true
@@ -52,35 +52,66 @@ unfolding run_within
 run_stop zero run text p h = refl
 run_stop (suc n) run text p h = rw h refl
 
-last_or : (k n : ℕ) → k < n + 1 → (k < n) ⊎ (k ≡ n)
-last_or k n h = grind arith
-
-pub each_more : (run : Run) (text : List ℕ) (p q : ℕ)
-    → ((k : ℕ) → p ≤ k → k < q → belongs run text k ≡ true) → belongs run text q ≡ true
-    → (k : ℕ) → p ≤ k → k < q + 1 → belongs run text k ≡ true
-each_more run text p q r h k a b =
-    elim (last_or k q b) [
-      | inl l ↦ r k a l
-      | inr e ↦ rw e h
-    ]
-
--- what is left of a run behind some bytes of it
-run_span : (d n : ℕ) (run : Run) (text : List ℕ) (p q : ℕ) → q ≡ p + d
-    → ((k : ℕ) → p ≤ k → k < q → belongs run text k ≡ true) → length text ≤ p + n
-    → (m : ℕ) × (length text ≤ q + m) × (run_within n run text p ≡ run_within m run text q)
-run_span zero n run text p q h each room =
-    let e : q ≡ p = omega arith in
-    rw e (n, room, refl)
-run_span (suc d) n run text p q h each room =
-    let (m, more, same) = run_more n run text p (each p (omega arith) (omega arith)) room in
-    let (l, rest, all) = run_span d m run text (p + 1) q (omega arith) (λ k a b. each k (omega arith) b) more in
-    (l, rest, same ∙ all)
-
 -- A run passes all bytes of its kind, with steps enough left for the rest.
 pub run_to : (n : ℕ) (run : Run) (text : List ℕ) (p q : ℕ) → p ≤ q
     → ((k : ℕ) → p ≤ k → k < q → belongs run text k ≡ true) → length text ≤ p + n
     → (m : ℕ) × (length text ≤ q + m) × (run_within n run text p ≡ run_within m run text q)
-run_to n run text p q after each room = run_span (q - p) n run text p q (omega arith) each room
+unfolding run_within
+run_to zero run text p q after each room =
+    elim (cases_lt p q) [
+      | inl less ↦ let inside = belongs_inside run text p (each p (omega arith) less) in absurd (omega arith)
+      | inr same ↦ let e : q ≡ p = omega arith in rw e (0, room, refl)
+    ]
+run_to (suc n) run text p q after each room =
+    elim (cases_lt p q) [
+      | inl less ↦ rw (each p (omega arith) less) (run_to n run text (p + 1) q (omega arith) (λ k a b. each k (omega arith) b) (omega arith))
+      | inr same ↦ let e : q ≡ p = omega arith in rw e (suc n, room, refl)
+    ]
+
+-- A run ends where all before belong to it, and what stands there doesn't.
+pub run_is : (run : Run) (text : List ℕ) (p q : ℕ) → p ≤ q
+    → ((k : ℕ) → p ≤ k → k < q → belongs run text k ≡ true) → belongs run text q ≡ false
+    → run_end run text p ≡ q
+run_is run text p q after each stops =
+    let (m, left, same) = run_to (length text) run text p q after each (omega arith) in
+    same ∙ run_stop m run text q stops
+
+pub run_each : (n : ℕ) (run : Run) (text : List ℕ) (p k : ℕ) → p ≤ k → k < run_within n run text p
+    → belongs run text k ≡ true
+unfolding run_within
+run_each zero run text p k after before = absurd (omega arith)
+run_each (suc n) run text p k after before =
+    elim (cases_Bool (belongs run text p)) [
+      | inl e ↦ elim (cases_lt p k) [
+        | inl more ↦ run_each n run text (p + 1) k (omega arith) (rw e at before)
+        | inr here ↦ let same : k ≡ p = omega arith in rw same e
+      ]
+      | inr e ↦ let less : k < p = rw e at before in absurd (omega arith)
+    ]
+
+pub run_stops : (n : ℕ) (run : Run) (text : List ℕ) (p : ℕ) → length text ≤ p + n
+    → belongs run text (run_within n run text p) ≡ false
+unfolding run_within
+run_stops zero run text p room = past_run run text p (omega arith)
+run_stops (suc n) run text p room =
+    elim (cases_Bool (belongs run text p)) [
+      | inl e ↦ rw e (run_stops n run text (p + 1) (omega arith))
+      | inr e ↦ rw e e
+    ]
+
+-- what holds up to a place, and behind it
+pub each_join : (test : ℕ → Bool) (p q r : ℕ) → ((k : ℕ) → p ≤ k → k < q → test k ≡ true)
+    → ((k : ℕ) → q ≤ k → k < r → test k ≡ true) → (k : ℕ) → p ≤ k → k < r → test k ≡ true
+each_join test p q r front back k after before =
+    elim (cases_lt k q) [
+      | inl less ↦ front k after less
+      | inr more ↦ back k more before
+    ]
+
+-- what holds up to a place, and there
+pub each_more : (test : ℕ → Bool) (p q : ℕ) → ((k : ℕ) → p ≤ k → k < q → test k ≡ true)
+    → test q ≡ true → (k : ℕ) → p ≤ k → k < q + 1 → test k ≡ true
+each_more test p q front here = each_join test p q (q + 1) front (λ k a b. let same : k ≡ q = omega arith in rw same here)
 
 -- a run goes forward, and stays inside the text
 pub run_within-ge : (n : ℕ) (run : Run) (text : List ℕ) (p : ℕ) → p ≤ run_within n run text p
@@ -102,16 +133,26 @@ run_within-le (suc n) run text p h =
       | inr e ↦ rw e h
     ]
 
--- a digit is printed ASCII
+-- a letter or digit is printed ASCII
+alpha_printed : (text : List ℕ) (p : ℕ) → belongs runs.Alphas text p ≡ true
+    → (32 < byte text p) × (byte text p < 127)
+unfolding belongs
+alpha_printed text p h = let (low, high, angle) = alpha_range (byte text p) h in (omega arith, omega arith)
+
 pub digit_printed : (text : List ℕ) (p : ℕ) → belongs runs.Digits text p ≡ true
     → (32 < byte text p) × (byte text p < 127)
 unfolding belongs
 digit_printed text p h = let (low, high) = digit_range (byte text p) h in (omega arith, omega arith)
 
--- nothing of a run of alphas stands past the end
-pub past_alphas : (text : List ℕ) (p : ℕ) → length text ≤ p → belongs runs.Alphas text p ≡ false
-past_alphas text p past =
-    elim (cases_Bool (belongs runs.Alphas text p)) [
-      | inl h ↦ let inside = belongs_inside runs.Alphas text p h in absurd {0} (omega arith)
-      | inr h ↦ h
-    ]
+-- an indicator and the alphas that follow it
+pub name_printed : (text : List ℕ) (p : ℕ) → (32 < byte text p) × (byte text p < 127)
+    → IsPrinted text p (run_end runs.Alphas text (p + 1))
+name_printed text p first =
+    let ge = run_within-ge (length text) runs.Alphas text (p + 1) in
+    record {
+      forward = omega arith;
+      each = λ k after before. elim (cases_lt p k) [
+        | inl more ↦ alpha_printed text k (run_each (length text) runs.Alphas text (p + 1) k (omega arith) before)
+        | inr here ↦ let same : k ≡ p = omega arith in rw same first
+      ];
+    }

@@ -1,75 +1,53 @@
 -- Tags that are written.
 use Rattle.std.proofs.Common.{◌≡◌, ◌≢◌, ℕ, suc, ◌+◌, ◌<◌, ◌≤◌, ◌==◌, ◌&&◌, ◌||◌, Bool, true, false, not, List, [], ◌∷◌, ◌++◌, length, slice_range, Ok, refl, sym, ◌∙◌, inl, inr, append_assoc, arith, length-append}
-use Rattle.yaml_scan_words.proofs.Words.{cases_Bool, true≢false, or_cases, and_parts, eqb-true, ne_eqb, nat_tests, byte, break_width, is_alpha_byte, is_digit_byte, no_break, within, belongs, run_within, is_punctuation, is_wide_punctuation, is_uri, name_end, parts_at, may_end_tag, tag_at, HasAt, are_alphas, UriPiece, raw, escape, uri_text, uri_bytes, is_kept, IsUri, has_no_mark, is_blank}
+use Rattle.yaml_scan_words.proofs.Words.{and_right, cases_Bool, true≢false, eqb-false, false_from_ne_true, not-true, no_break_between, or_cases, or_from, and_parts, ne_eqb, nat_tests, byte, break_width, is_alpha_byte, is_digit_byte, within, belongs, run_within, is_punctuation, is_wide_punctuation, is_uri, name_end, parts_at, may_end_tag, tag_at, HasAt, are_alphas, UriPiece, raw, escape, uri_text, uri_bytes, is_kept, IsUri, has_no_mark, is_blank}
 use Rattle.yaml_scan_model.specs.declared.problem.Context.TheVariants as contexts
 use Rattle.yaml_scan_words.specs.declared.run.Run.TheVariants as runs
-use Rattle.yaml_scan_words.proofs.RunsLemmas.{run_more, run_stop}
-use Rattle.yaml_scan_words.proofs.UrisLemmas.{uri_range}
+use Rattle.yaml_scan_words.proofs.RunsLemmas.{alpha_range, run_more, run_stop}
+use Rattle.yaml_scan_words.proofs.UrisLemmas.{kept_parts, uri_range}
 use Rattle.yaml_scan_words.proofs.HasLemmas.{Has, has, has_front, has_rest, range_reads}
 use Rattle.yaml_scan_words.proofs.NamesRead.{alpha_at, no_alpha_at, alphas_run}
 use Rattle.yaml_scan_words.proofs.UrisRead.{uri_is_read}
 
-alpha_none : (b : ℕ) → is_alpha_byte b ≡ true → (b ≢ 44) × (b ≢ 60) × (32 < b) × (b < 127)
-unfolding is_alpha_byte is_digit_byte
-alpha_none b h = (grind (arith, nat_tests), grind (arith, nat_tests), grind (arith, nat_tests), grind (arith, nat_tests))
-
--- what is kept in a shorthand tag is neither `,` nor `<`
-kept_none : (b : ℕ) → is_kept false b ≡ true → (b ≢ 44) × (b ≢ 60)
-kept_none b h =
+kept_comma : (b : ℕ) → is_kept false b ≡ true → b ≢ 44
+kept_comma b h =
     elim (or_cases (is_alpha_byte b) (is_punctuation b || false) h) [
-      | inl a ↦ let (comma, angle, low, high) = alpha_none b a in (comma, angle)
+      | inl a ↦ let (low, high, angle) = alpha_range b a in omega arith
       | inr more ↦ elim (or_cases (is_punctuation b) false more) [
-        | inl s ↦ unfold is_punctuation in (grind (arith, nat_tests), grind (arith, nat_tests))
+        | inl s ↦ unfold is_punctuation in grind (arith, nat_tests)
         | inr w ↦ absurd (true≢false (sym w))
       ]
     ]
-
-comma_none : (flow : Bool) (b : ℕ) → b ≢ 44 → (flow && b == 44) ≡ false
-comma_none true b h = grind (arith, nat_tests)
-comma_none false b h = refl
 
 -- a printed character that is no `,` ends no tag
 goes_on : (flow : Bool) (text : List ℕ) (p : ℕ) → 32 < byte text p → byte text p < 127
     → byte text p ≢ 44 → may_end_tag flow text p ≡ false
 goes_on flow text p low high comma =
-    let none : break_width text p ≡ 0 = no_break _ _ _ (omega arith) (omega arith) (omega arith) (omega arith) in
+    let none : break_width text p ≡ 0 = no_break_between _ 33 126 _ _ low (omega arith) (omega arith) (omega arith) in
     let blank : (is_blank (byte text p) || byte text p == 0) ≡ false = grind (arith, nat_tests) in
-    rw (blank, none, comma_none flow (byte text p) comma) refl
+    rw (blank, none, and_right flow _ (ne_eqb _ 44 comma)) refl
 
-pub ends_other : (flow : Bool) (text : List ℕ) (p b : ℕ) → may_end_tag flow text p ≡ true
-    → byte text p ≡ b → 32 < b → b < 127 → b ≢ 44 → ⊥
-ends_other flow text p b h e low high comma = true≢false (sym h ∙ goes_on flow text p (omega arith) (omega arith) (omega (arith, e, comma)))
+pub ends_other : (flow : Bool) (text : List ℕ) (p : ℕ) → may_end_tag flow text p ≡ true
+    → 32 < byte text p → byte text p < 127 → byte text p ≢ 44 → ⊥
+ends_other flow text p h low high comma = true≢false (sym h ∙ goes_on flow text p low high comma)
 
 uri_stops : (flow : Bool) (text : List ℕ) (p : ℕ) → may_end_tag flow text p ≡ true
     → (byte text p == 37 || is_uri false text p) ≡ false
 uri_stops flow text p h =
-    elim (cases_Bool (byte text p == 37)) [
-      | inl e ↦ absurd (ends_other flow text p 37 h (eqb-true _ _ e) (omega arith) (omega arith) (omega arith))
-      | inr e ↦ elim (cases_Bool (is_uri false text p)) [
-        | inl u ↦
-            let (low, high) = uri_range false text p u in
-            let (comma, angle) = kept_none (byte text p) u in
-            absurd (ends_other flow text p (byte text p) h refl low high comma)
-        | inr u ↦ rw (e, u) refl
-      ]
-    ]
+    or_from _ _ (ne_eqb _ _ (λ e. ends_other flow text p h (omega arith) (omega arith) (omega arith))) (false_from_ne_true _ (λ u.
+    let (low, high) = uri_range false text p u in
+    ends_other flow text p h low high (kept_comma (byte text p) u)))
 
 alpha_stops : (flow : Bool) (text : List ℕ) (p : ℕ) → may_end_tag flow text p ≡ true
     → belongs runs.Alphas text p ≡ false
 alpha_stops flow text p h =
-    elim (cases_Bool (is_alpha_byte (byte text p))) [
-      | inl a ↦
-          let (comma, angle, low, high) = alpha_none (byte text p) a in
-          absurd (ends_other flow text p (byte text p) h refl low high comma)
-      | inr a ↦ no_alpha_at text p a
-    ]
+    no_alpha_at text p (false_from_ne_true _ (λ a.
+    let (low, high, angle) = alpha_range (byte text p) a in
+    ends_other flow text p h (omega arith) (omega arith) (omega arith)))
 
 mark_alpha : is_alpha_byte 33 ≡ false
 unfolding is_alpha_byte is_digit_byte
 mark_alpha = refl
-
-unequal : (b n : ℕ) → not (b == n) ≡ true → b ≢ n
-unequal b n h = grind (arith, nat_tests)
 
 -- no `!` stands behind the alphas of a URI without one
 unmarked : (pieces : List UriPiece) (n : ℕ) (text : List ℕ) (p : ℕ) → Has text p (uri_text pieces)
@@ -90,7 +68,7 @@ unmarked (raw b ∷ pieces) n text p (e, h) free mark stop room =
           rw same (unmarked pieces m text (p + 1) h rest (rw end at mark) (rw end at stop) more)
       | inr a ↦
           let none : belongs runs.Alphas text p ≡ false = no_alpha_at text p (rw e a) in
-          rw (run_stop n runs.Alphas text p none, e) (unequal b 33 first)
+          rw (run_stop n runs.Alphas text p none, e) (eqb-false b 33 (not-true _ first))
     ]
 unmarked (escape b ∷ pieces) n text p (e, h) free mark stop room =
     let none : belongs runs.Alphas text p ≡ false = no_alpha_at text p (rw e (unfold is_alpha_byte is_digit_byte in refl)) in
@@ -103,7 +81,7 @@ some_bytes (piece ∷ pieces) h = ne_eqb (suc (length (uri_bytes pieces))) 0 (om
 no_angle : (pieces : List UriPiece) (text : List ℕ) (p : ℕ) → 0 < length pieces
     → Has text p (uri_text pieces) → IsUri false 0 pieces → byte text p ≢ 60
 no_angle [] text p some h is = absurd (omega arith)
-no_angle (raw b ∷ pieces) text p some (e, h) (none, kept, is) = let (comma, angle) = kept_none b kept in rw e angle
+no_angle (raw b ∷ pieces) text p some (e, h) (none, kept, is) = let (low, high, mark, angle) = kept_parts false b kept in rw e angle
 no_angle (escape b ∷ pieces) text p some (e, h) is = rw e (omega arith)
 
 -- A tag with the primary handle reads back.
@@ -122,7 +100,7 @@ bare_is_read flow text p pieces h some is free stop =
     let (mark, all) = has text p (33 ∷ uri_text pieces) h in
     let e = p + 1 + length (uri_text pieces) in
     let angle : (byte text (p + 1) == 60) ≡ false = ne_eqb _ _ (no_angle pieces text (p + 1) some all is) in
-    let last : byte text (p + 1 + length (uri_text pieces)) ≢ 33 = λ m. ends_other flow text e 33 stop m (omega arith) (omega arith) (omega arith) in
+    let last : byte text (p + 1 + length (uri_text pieces)) ≢ 33 = λ m. ends_other flow text e stop (omega (arith, m)) (omega (arith, m)) (omega (arith, m)) in
     let here = within text p (omega (arith, mark)) in
     let name : (byte text (name_end text p) == 33) ≡ false = ne_eqb _ _ (unmarked pieces (length text) text (p + 1) all free last (alpha_stops flow text e stop) (omega arith)) in
     let read = uri_is_read contexts.TagUri false text (p + 1) pieces all is (uri_stops flow text e stop) in
@@ -161,7 +139,7 @@ no_angle_name : (name rest : List ℕ) (text : List ℕ) (p : ℕ) → Has text 
 no_angle_name [] rest text p (e, h) are = rw e (omega arith)
 no_angle_name (b ∷ bs) rest text p (e, h) are =
     let (front, back) = and_parts (is_alpha_byte b) (are_alphas bs) are in
-    let (comma, angle, low, high) = alpha_none b front in
+    let (low, high, angle) = alpha_range b front in
     rw e angle
 
 -- A tag with a named handle reads back.

@@ -1,5 +1,5 @@
 -- The URIs of tags and prefixes, with their escapes.
-use Rattle.std.specs.Prelude.{ℕ, zero, suc, ◌+◌, ◌-◌, ◌*◌, Bool, ◌&&◌, ◌||◌, ◌==◌, nat_lt, nat_le, if◌then◌else◌, List, [], ◌∷◌, ◌++◌, length, Option, Some, None, Result, Ok, Err}
+use Rattle.std.specs.Prelude.{ℕ, zero, suc, ◌+◌, ◌-◌, ◌*◌, ◌<◌, ◌≤◌, ◌≡◌, Bool, true, false, ◌&&◌, ◌||◌, ◌==◌, nat_lt, nat_le, if◌then◌else◌, List, [], ◌∷◌, ◌++◌, length, Option, Some, None, Result, Ok, Err}
 use Rattle.yaml_scan_model.specs.Ascii as ascii
 use Rattle.yaml_scan_model.specs.declared.problem.Context.{Context}
 use Rattle.yaml_scan_model.specs.declared.problem.Problem.{Problem}
@@ -26,6 +26,12 @@ is_wide_punctuation b = b == ascii.comma || (b == ascii.open_bracket || b == asc
 abbrev pub is_uri : Bool → List ℕ → ℕ → Bool
 is_uri wide text p = is_alpha text p
     || (is_punctuation (byte text p) || (wide && is_wide_punctuation (byte text p)))
+
+-- characters that a URI holds as they are stand from one place to another, and none behind
+pub record IsKept (wide : Bool) (text : List ℕ) (p q : ℕ) : Type 0 where
+  pub forward : p ≤ q
+  pub kept : (k : ℕ) → p ≤ k → k < q → is_uri wide text k ≡ true
+  pub stop : is_uri wide text q ≡ false
 
 -- the value of a hexadecimal digit
 unfoldable pub hex_digit : ℕ → Option ℕ

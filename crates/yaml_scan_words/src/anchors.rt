@@ -6,9 +6,9 @@ ghost use Rattle.yaml_scan_model.specs.Marks.{byte, mark_at, is_blank_or_end};
 ghost use Rattle.yaml_scan_words.specs.Anchors as spec;
 ghost use Rattle.yaml_scan_words.specs.Readings.{ReadsAs, IsNameWord, behind_bytes};
 
-use crate::run::{copied_since, name_end};
+use crate::run::{copied_since, leap_over, name_end};
 use crate::word::{Word, refusal};
-use yaml_scan_model::{Context, Problem, Reader, ScanError, Spares, leap, yaml_mark_t};
+use yaml_scan_model::{Context, Problem, Reader, ScanError, Spares, yaml_mark_t};
 
 /// The anchor or alias whose `&` or `*` stands here (YAML 1.1, 3.2.2.2): its name is one or more alphas.
 ///
@@ -26,7 +26,7 @@ pub fn anchor(spares: &mut Spares, reader: &mut Reader, context: Context) -> Res
     let start = reader.mark();
     let to = name_end(reader);
     let from = reader.place() + 1;
-    leap(reader, to);
+    leap_over(reader, to);
     if is_wrong(reader, from, to) {
         // A mark of its own: the one that is lent to the call lies in memory.
         let start = yaml_mark_t {

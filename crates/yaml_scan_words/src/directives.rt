@@ -71,13 +71,14 @@ fn directive_name(reader: &mut Reader, start: yaml_mark_t) -> Result<DirectiveNa
     if from == to {
         return Err(refusal(reader, Problem::NoDirectiveName, Context::Directive, start));
     }
+    let count = to - from;
     if !reader.is_blank_or_end(0) {
         return Err(refusal(reader, Problem::NotAlphabetical, Context::Directive, start));
     }
-    if is_yaml && to - from == 4 {
+    if is_yaml && count == 4 {
         return Ok(DirectiveName::Yaml);
     }
-    if is_tag && to - from == 3 {
+    if is_tag && count == 3 {
         return Ok(DirectiveName::Tag);
     }
     Err(refusal(reader, Problem::UnknownDirective, Context::Directive, start))

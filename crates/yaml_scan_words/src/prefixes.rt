@@ -71,7 +71,7 @@ fn tag_prefix(
     ensures { ReadsAs IsBytes behind_bytes reader.old.text start reader.new result
         (spec.prefix_at reader.old.text reader.old.at) }
 {
-    if !belongs(Run::Blanks, reader.text(), reader.place()) {
+    if !belongs(Run::Blanks, reader) {
         return Err(refusal(reader, Problem::NoWhitespace, Context::TagDirective, start));
     }
     skip_run(Run::Blanks, reader);

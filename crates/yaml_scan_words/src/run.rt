@@ -10,7 +10,7 @@ ghost use Rattle.yaml_scan_words.specs.Written.{is_kept};
 
 use std::alloc::AllocError;
 use yaml_scan_classes::{IS_ALPHA, IS_BLANK, IS_DIGIT};
-use yaml_scan_model::{Reader, Spares, copied as copied_bytes};
+use yaml_scan_model::{Reader, Spares, copied as copied_bytes, leap};
 
 /// Which bytes go together.
 #[derive(Clone, Copy)]
@@ -23,17 +23,17 @@ pub(crate) enum Run {
     Blanks,
 }
 
-/// Whether what stands there belongs to the run.
+/// Whether what stands here belongs to the run.
 #[tactic(auto, unfolding(crate::specs::Runs::belongs))]
 // Inlined into the loop over bytes.
 #[inline(always)]
-pub(crate) fn belongs(run: Run, text: &[u8], place: usize) -> bool
-    ensures { result ≡ spec.belongs run text.now place }
+pub(crate) fn belongs(run: Run, reader: &Reader) -> bool
+    ensures { result ≡ spec.belongs run reader.now.text reader.now.at }
 {
     match run {
-        Run::Alphas => IS_ALPHA(text, place),
-        Run::Digits => IS_DIGIT(text, place),
-        Run::Blanks => IS_BLANK(text, place),
+        Run::Alphas => IS_ALPHA(reader.text(), reader.place()),
+        Run::Digits => IS_DIGIT(reader.text(), reader.place()),
+        Run::Blanks => IS_BLANK(reader.text(), reader.place()),
     }
 }
 
@@ -45,7 +45,7 @@ pub(crate) fn skip_run(run: Run, reader: &mut Reader)
           reader.old.at;
     } }
 {
-    'bytes: while belongs(run, reader.text(), reader.place()) {
+    'bytes: while belongs(run, reader) {
         reader.skip();
     }
 }
@@ -179,6 +179,16 @@ pub(crate) fn skip_indicator(reader: &mut Reader)
     ensures { reader.new ≡ record { text = reader.old.text; at = reader.old.at + 1 } }
 {
     reader.skip();
+}
+
+/// Past printed characters of ASCII but the space, up to that place.
+// Inlined: one store.
+#[inline(always)]
+pub(crate) fn leap_over(reader: &mut Reader, end: usize)
+    requires { spec.IsPrinted reader.old.text reader.old.at end }
+    ensures { reader.new ≡ record { text = reader.old.text; at = end } }
+{
+    leap(reader, end);
 }
 
 /// A copy of the bytes from that place up to here, in the room of a spare text where they fit.

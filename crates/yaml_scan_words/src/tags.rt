@@ -1,16 +1,17 @@
 //! Tags.
 
-ghost use Rattle.std.specs.Prelude.{◌≡◌, ◌≤◌, ◌+◌, ◌&&◌, ◌||◌, ◌==◌, ◌⊎◌, not, true, ℕ, length};
+ghost use Rattle.std.specs.Prelude.{◌≡◌, ◌≤◌, ◌+◌, ◌&&◌, ◌||◌, ◌==◌, ◌⊎◌, not, true, false, ℕ, length};
 ghost use Rattle.yaml_scan_model.specs.Ascii as ascii;
 ghost use Rattle.yaml_scan_model.specs.Marks.{byte, mark_at};
 ghost use Rattle.yaml_scan_words.specs.Tags as spec;
 ghost use Rattle.yaml_scan_words.specs.Readings.{ReadsAs};
-ghost use Rattle.yaml_scan_words.specs.TagsGiven.{IsTagWord, IsParts, IsShort};
+ghost use Rattle.yaml_scan_words.specs.TagsGiven.{IsTagWord, IsParts};
+ghost use Rattle.yaml_scan_words.specs.Uris.{IsKept};
 
-use crate::run::{copied_run, copied_since, name_end, skip_indicator};
+use crate::run::{copied_run, copied_since, leap_over, name_end, skip_indicator};
 use crate::uris::{kept_end, some_uri, uri};
 use crate::word::{TagWord, refusal};
-use yaml_scan_model::{Context, Problem, Reader, ScanError, Spares, leap, room, yaml_mark_t};
+use yaml_scan_model::{Context, Problem, Reader, ScanError, Spares, room, yaml_mark_t};
 
 /// A tag's handle and suffix.
 #[derive(Drop)]
@@ -36,7 +37,7 @@ pub fn tag(spares: &mut Spares, reader: &mut Reader, flow: bool) -> Result<TagWo
     let name = name_end(reader);
     let middle = handle_end(reader, name);
     let mut behind = reader.ahead();
-    leap(&mut behind, suffix_end(reader, name, middle));
+    leap_over(&mut behind, suffix_end(reader, name, middle));
     if !is_short_form(reader.byte(1), middle, &behind, flow) {
         return tag_apart(spares, reader, flow);
     }
@@ -73,7 +74,7 @@ fn handle_end(reader: &Reader, name: usize) -> usize
 fn suffix_end(reader: &Reader, name: usize, middle: usize) -> usize
     requires name { name ≡ spec.name_end reader.now.text reader.now.at }
     requires handle { middle ≡ spec.handle_end reader.now.text reader.now.at }
-    ensures { IsShort reader.now.text reader.now.at result }
+    ensures { IsKept false reader.now.text (spec.handle_end reader.now.text reader.now.at) result }
 {
     kept_end(reader.text(), later(name, middle), false)
 }
@@ -218,7 +219,7 @@ fn named(
         (spec.named_at reader.old.text reader.old.at) }
 {
     let from = reader.place();
-    leap(reader, end);
+    leap_over(reader, end);
     skip_indicator(reader);
     let handle = copied_since(spares, reader, from)?;
     let suffix = some_uri(spares, reader, Context::TagUri, false, start)?;

@@ -8,9 +8,9 @@ ghost use Rattle.yaml_scan_words.specs.Readings.{ReadsAs, IsBytes, behind_bytes}
 ghost use Rattle.yaml_scan_words.specs.Spelt.{spot_of};
 ghost use Rattle.yaml_scan_words.specs.Written.{is_kept};
 
-use crate::run::{copied_since, skip_indicator, stands_in_uri};
+use crate::run::{copied_since, leap_over, skip_indicator, stands_in_uri};
 use crate::word::refusal;
-use yaml_scan_model::{Context, Problem, Reader, ScanError, Spares, leap, yaml_mark_t};
+use yaml_scan_model::{Context, Problem, Reader, ScanError, Spares, yaml_mark_t};
 
 /// A byte of a URI, and how many escapes have to follow it to spell the rest of its character.
 #[derive(Clone, Copy)]
@@ -53,7 +53,7 @@ pub(crate) fn uri(
         (spec.uri_at context wide reader.old.text reader.old.at) }
 {
     let from = reader.place();
-    leap(reader, kept_end(reader.text(), from, wide));
+    leap_over(reader, kept_end(reader.text(), from, wide));
     let bytes = copied_since(spares, reader, from)?;
     if reader.here() != b'%' {
         return Ok(bytes);
@@ -188,9 +188,7 @@ fn due_behind(octet: u8, due: usize) -> Result<usize, Problem>
 // Inlined: a loop of a load and a comparison a byte.
 #[inline(always)]
 pub(crate) fn kept_end(text: &[u8], from: usize, wide: bool) -> usize
-    ensures forward { from ≤ result }
-    ensures kept { (k : ℕ) → from ≤ k → k < result → spec.is_uri wide text.now k ≡ true }
-    ensures stop { spec.is_uri wide text.now result ≡ false }
+    ensures { spec.IsKept wide text.now from result }
 {
     let mut end = from;
     'bytes: while kept_at(text, end, wide) {

@@ -47,7 +47,7 @@ fn number(reader: &mut Reader, start: yaml_mark_t) -> Result<i32, ScanError>
 {
     let mut value: u32 = 0;
     let mut count: usize = 0;
-    'digits: while belongs(Run::Digits, reader.text(), reader.place()) {
+    'digits: while belongs(Run::Digits, reader) {
         if count == 9 {
             return Err(refusal(
                 reader,

@@ -1,6 +1,6 @@
 use Rattle.std.proofs.Common.{◌≡◌, ◌&&◌, ◌==◌, not, nat_lt, true, ◌∙◌, sym, arith}
-use Rattle.yaml_scan_words.proofs.Words.{byte}
-use Rattle.yaml_scan_words.proofs.BetweenLemmas.{lexeme_here, space_here, space_byte, feed_here, feed_width, skipped_here, bom_first}
+use Rattle.yaml_scan_words.proofs.Words.{and_parts, byte}
+use Rattle.yaml_scan_words.proofs.BetweenLemmas.{lexeme_here, space_here, space_byte, feed_here, feed_width, skipped_here}
 use Rattle.yaml_scan_words.proofs.between.pass_one.Goals as goal
 
 pub returns-then-begins_lexeme-clause-step : goal.returns-then-begins_lexeme-clause-step
@@ -9,7 +9,7 @@ returns-then-begins_lexeme-clause-step c =
     lexeme_here c.args.tabs c.args.reader.now.text c.args.reader.now.at h
 
 pub skip_bom-requires : goal.skip_bom-requires
-skip_bom-requires c = bom_first c.args.reader.now.text c.args.reader.now.at (sym c.is_bom_first.ensures ∙ c.if-is_bom_first.true)
+skip_bom-requires c = (and_parts _ _ (sym c.is_bom_first.ensures ∙ c.if-is_bom_first.true)).1
 
 pub skip-requires-then-is_skipped-clause-inside : goal.skip-requires-then-is_skipped-clause-inside
 skip-requires-then-is_skipped-clause-inside c = (skipped_here c.args.tabs c.args.reader.now.text c.args.reader.now.at (sym c.is_skipped.ensures ∙ c.if-is_skipped.true)).0

@@ -1,13 +1,12 @@
-use Rattle.std.proofs.Common.{◌≡◌, ◌≤◌, ℕ, length, ◌+◌, ◌-◌}
-use Rattle.yaml_scan_words.proofs.Words.{gap_at, gap_within, with_break}
+use Rattle.std.proofs.Common.{◌≡◌, length, ◌-◌}
+use Rattle.yaml_scan_words.proofs.Words.{gap_at, with_break}
 use Rattle.yaml_scan_words.proofs.between.skip_gap.Given as goal
 
 abbrev pub invariant-gap : goal.invariant-gap
 invariant-gap l = record {
   text : l.reader.text ≡ l.fn.reader.text;
-  rest : (n : ℕ) × (length l.fn.reader.text ≤ l.reader.at + n)
-      × (gap_at l.flow l.key_allowed l.fn.reader.text l.fn.reader.at
-      ≡ with_break l.broke (gap_within n l.flow l.allowed l.fn.reader.text l.reader.at));
+  rest : gap_at l.flow l.key_allowed l.fn.reader.text l.fn.reader.at
+      ≡ with_break l.broke (gap_at l.flow l.allowed l.fn.reader.text l.reader.at);
 }
 
 abbrev pub decreases-gap : goal.decreases-gap

@@ -1,27 +1,12 @@
-use Rattle.std.proofs.Common.{◌≤◌, ◌<◌, length, ◌+◌, arith}
-use Rattle.yaml_scan_words.proofs.Words.{byte}
+use Rattle.std.proofs.Common.{length, ◌+◌, arith}
 use Rattle.yaml_scan_words.specs.declared.run.Run.TheVariants as runs
-use Rattle.yaml_scan_words.proofs.RunsLemmas.{run_within-ge}
-use Rattle.yaml_scan_words.proofs.PrintedLemmas.{name_printed}
+use Rattle.yaml_scan_words.proofs.RunsLemmas.{name_printed, run_within-ge}
 use Rattle.yaml_scan_words.proofs.tags.named.Goals as goal
 
-pub leap-requires-clause-forward : goal.leap-requires-clause-forward
-leap-requires-clause-forward c =
-    let ge = run_within-ge (length c.args.reader.now.text) runs.Alphas c.args.reader.now.text (c.args.reader.now.at + 1) in
-    rw c.requires.name (omega arith)
-
-pub leap-requires-clause-low : goal.leap-requires-clause-low
-leap-requires-clause-low c =
-    let first_printed : (32 < byte c.args.reader.now.text c.args.reader.now.at) × (byte c.args.reader.now.text c.args.reader.now.at < 127) = (omega (arith, c.requires.mark), omega (arith, c.requires.mark)) in
-    rw c.requires.name (λ k after before. let low = (name_printed c.args.reader.now.text c.args.reader.now.at k first_printed after before).0 in omega (arith, low))
-
-pub leap-requires-clause-high : goal.leap-requires-clause-high
-leap-requires-clause-high c =
-    let first_printed : (32 < byte c.args.reader.now.text c.args.reader.now.at) × (byte c.args.reader.now.text c.args.reader.now.at < 127) = (omega (arith, c.requires.mark), omega (arith, c.requires.mark)) in
-    rw c.requires.name (λ k after before. (name_printed c.args.reader.now.text c.args.reader.now.at k first_printed after before).1)
+pub leap_over-requires : goal.leap_over-requires
+leap_over-requires c = rw c.requires.name (name_printed c.args.reader.now.text c.args.reader.now.at (omega (arith, c.requires.mark), omega (arith, c.requires.mark)))
 
 pub copied_since-requires : goal.copied_since-requires
 copied_since-requires c =
     let ge = run_within-ge (length c.args.reader.now.text) runs.Alphas c.args.reader.now.text (c.args.reader.now.at + 1) in
-    let to : c.args.reader.now.at + 1 ≤ c.args.end = rw c.requires.name ge in
-    rw (c.place-from.ensures, c.skip_indicator.ensures, c.leap.ensures) (omega arith)
+    rw (c.place-from.ensures, c.skip_indicator.ensures, c.leap_over.ensures) (omega (arith, ge, c.requires.name))

@@ -7,17 +7,8 @@ use Rattle.yaml_scan_words.proofs.DirectivesLemmas.{memory_given}
 use Rattle.yaml_scan_words.proofs.ShortLemmas.{short_printed, short_tag, handle_forward}
 use Rattle.yaml_scan_words.proofs.tags.tag.Goals as goal
 
-pub leap-requires-clause-forward : goal.leap-requires-clause-forward
-leap-requires-clause-forward c =
-    let low = handle_forward c.args.reader.now.text c.args.reader.now.at in
-    let high = c.suffix_end.ensures.forward in
-    rw c.ahead-behind.ensures (omega arith)
-
-pub leap-requires-clause-low : goal.leap-requires-clause-low
-leap-requires-clause-low c = rw c.ahead-behind.ensures (λ k after before. let low = (short_printed c.args.reader.now.text c.args.reader.now.at c.suffix_end.result k c.requires c.suffix_end.ensures after before).0 in omega (arith, low))
-
-pub leap-requires-clause-high : goal.leap-requires-clause-high
-leap-requires-clause-high c = rw c.ahead-behind.ensures (λ k after before. (short_printed c.args.reader.now.text c.args.reader.now.at c.suffix_end.result k c.requires c.suffix_end.ensures after before).1)
+pub leap_over-requires : goal.leap_over-requires
+leap_over-requires c = rw c.ahead-behind.ensures (short_printed c.args.reader.now.text c.args.reader.now.at c.suffix_end.result c.requires c.suffix_end.ensures)
 
 pub copied_run-requires-clause-forward : goal.copied_run-requires-clause-forward
 copied_run-requires-clause-forward c =
@@ -46,8 +37,8 @@ returns c =
     let text = c.args.reader.now.text in
     let p = c.args.reader.now.at in
     let q = c.suffix_end.result in
-    let h : (not (byte text (p + 1) == 60) && (not (handle_end text p == q) && may_end_tag c.args.flow text q)) ≡ true = rw (c.byte.ensures, c.handle_end-middle.ensures, c.leap.ensures, c.ahead-behind.ensures) at (sym c.is_short_form.ensures ∙ c.if-not-is_short_form.false) in
+    let h : (not (byte text (p + 1) == 60) && (not (handle_end text p == q) && may_end_tag c.args.flow text q)) ≡ true = rw (c.byte.ensures, c.handle_end-middle.ensures, c.leap_over.ensures, c.ahead-behind.ensures) at (sym c.is_short_form.ensures ∙ c.if-not-is_short_form.false) in
     let handle : c.in_ok-handle.handle.items ≡ slice_range text p (handle_end text p) = rw (c.text.ensures, c.place.ensures, c.handle_end-middle.ensures) at c.in_ok-handle.ensures in
-    let suffix : c.in_ok-suffix.suffix.items ≡ slice_range text (handle_end text p) q = rw (c.leap.ensures, c.ahead-behind.ensures, c.handle_end-middle.ensures) at c.in_ok-suffix.ensures in
-    let end = rw (c.leap.ensures, c.ahead-behind.ensures) at c.mark-2.ensures in
-    rw (short_tag c.args.flow text p q c.requires c.suffix_end.ensures h, c.leap.ensures, c.ahead-behind.ensures) (record { handle = handle; suffix = suffix; start_mark = c.mark.ensures; end_mark = end }, refl)
+    let suffix : c.in_ok-suffix.suffix.items ≡ slice_range text (handle_end text p) q = rw (c.leap_over.ensures, c.ahead-behind.ensures, c.handle_end-middle.ensures) at c.in_ok-suffix.ensures in
+    let end = rw (c.leap_over.ensures, c.ahead-behind.ensures) at c.mark-2.ensures in
+    rw (short_tag c.args.flow text p q c.requires c.suffix_end.ensures h, c.leap_over.ensures, c.ahead-behind.ensures) (record { handle = handle; suffix = suffix; start_mark = c.mark.ensures; end_mark = end }, refl)

@@ -1,9 +1,9 @@
-use Rattle.std.proofs.Common.{◌≡◌, length, ◌+◌, ◌-◌, ◌∙◌, sym, refl, arith, true, false}
+use Rattle.std.proofs.Common.{◌≡◌, ◌+◌, ◌-◌, ◌∙◌, sym, refl, arith, true}
 use Rattle.yaml_scan_words.proofs.Words.{to_z_pos, byte, belongs}
 use mir.Syntax.{w32}
 use Rattle.yaml_scan_words.specs.declared.run.Run.TheVariants as runs
-use Rattle.yaml_scan_words.proofs.RunsLemmas.{run_more, digit_printed}
-use Rattle.yaml_scan_words.proofs.DirectivesLemmas.{limit-more, limit-room, digit_here, decimal_none, decimal_more, number_long, number_none, number_done}
+use Rattle.yaml_scan_words.proofs.RunsLemmas.{digit_printed, each_more}
+use Rattle.yaml_scan_words.proofs.DirectivesLemmas.{power-more, power-room, digit_here, decimal_none, decimal_more, number_long, number_none, number_done}
 use Rattle.yaml_scan_words.proofs.versions.number.Goals as goal
 
 pub digits-init : goal.digits-init
@@ -15,72 +15,66 @@ digits-init c =
       value = decimal_none c.args.reader.now.text c.args.reader.now.at;
       few = omega arith;
       small = omega arith;
-      rest = (length c.args.reader.now.text, omega arith, refl);
+      each = λ k after before. absurd (omega arith);
     }
 
 pub returns-then-count-eq9 : goal.returns-then-count-eq9
 returns-then-count-eq9 c =
-    let here : belongs runs.Digits c.args.reader.now.text (c.args.reader.now.at + 9) ≡ true = rw (c.text.ensures, c.place.ensures, c.digits.invariant.text, c.digits.invariant.place, c.if-count-eq9.true) at (sym c.belongs.ensures ∙ c.digits-test.true) in
-    let (n, room, same) = rw c.if-count-eq9.true at c.digits.invariant.rest in
-    rw (number_long n c.args.reader.now.text c.args.reader.now.at same here room, c.refusal.ensures, c.digits.invariant.text, c.digits.invariant.place, c.if-count-eq9.true) refl
+    let here = rw (c.digits.invariant.text, c.digits.invariant.place, c.if-count-eq9.true) at (sym c.belongs.ensures ∙ c.digits-test.true) in
+    rw (number_long c.args.reader.now.text c.args.reader.now.at (rw c.if-count-eq9.true at c.digits.invariant.each) here, c.refusal.ensures, c.digits.invariant.text, c.digits.invariant.place, c.if-count-eq9.true) refl
 
 pub overflow_mul-value : goal.overflow_mul-value
 overflow_mul-value c =
-    let room = limit-room (c.digits.count + 1) (omega (arith, c.digits.invariant.few, c.if-count-eq9.false)) in
-    let more = limit-more c.digits.count in
+    let room = power-room (c.digits.count + 1) (omega (arith, c.digits.invariant.few, c.if-count-eq9.false)) in
+    let more = power-more c.digits.count in
     omega (arith, c.digits.invariant.small)
 
 pub overflow_add-value : goal.overflow_add-value
 overflow_add-value c =
-    let room = limit-room (c.digits.count + 1) (omega (arith, c.digits.invariant.few, c.if-count-eq9.false)) in
-    let more = limit-more c.digits.count in
-    let here : belongs runs.Digits c.digits.reader.text c.digits.reader.at ≡ true = rw (c.text.ensures, c.place.ensures) at (sym c.belongs.ensures ∙ c.digits-test.true) in
-    let digit = digit_here c.digits.reader.text c.digits.reader.at here in
+    let room = power-room (c.digits.count + 1) (omega (arith, c.digits.invariant.few, c.if-count-eq9.false)) in
+    let more = power-more c.digits.count in
+    let digit = digit_here c.digits.reader.text c.digits.reader.at (sym c.belongs.ensures ∙ c.digits-test.true) in
     let value : c.digit.result ≡ byte c.digits.reader.text c.digits.reader.at - 48 = rw c.here.ensures at c.digit.ensures in
     omega (arith, c.digits.invariant.small)
 
 pub skip_indicator-requires-clause-low : goal.skip_indicator-requires-clause-low
-skip_indicator-requires-clause-low c = (digit_printed c.digits.reader.text c.digits.reader.at (rw (c.text.ensures, c.place.ensures) at (sym c.belongs.ensures ∙ c.digits-test.true))).0
+skip_indicator-requires-clause-low c = (digit_printed _ _ (sym c.belongs.ensures ∙ c.digits-test.true)).0
 
 pub skip_indicator-requires-clause-high : goal.skip_indicator-requires-clause-high
-skip_indicator-requires-clause-high c = (digit_printed c.digits.reader.text c.digits.reader.at (rw (c.text.ensures, c.place.ensures) at (sym c.belongs.ensures ∙ c.digits-test.true))).1
+skip_indicator-requires-clause-high c = (digit_printed _ _ (sym c.belongs.ensures ∙ c.digits-test.true)).1
 
 pub digits-preserved : goal.digits-preserved
 digits-preserved c =
     let text = c.args.reader.now.text in
     let p = c.args.reader.now.at + c.digits.count in
-    let here : belongs runs.Digits text p ≡ true = rw (c.text.ensures, c.place.ensures, c.digits.invariant.text, c.digits.invariant.place) at (sym c.belongs.ensures ∙ c.digits-test.true) in
+    let here : belongs runs.Digits text p ≡ true = rw (c.digits.invariant.text, c.digits.invariant.place) at (sym c.belongs.ensures ∙ c.digits-test.true) in
     let value : c.digit.result ≡ byte text p - 48 = rw (c.here.ensures, c.digits.invariant.text, c.digits.invariant.place) at c.digit.ensures in
-    let (n, room, same) = c.digits.invariant.rest in
-    let (m, left, rest) = run_more n runs.Digits text p here room in
-    let next : c.args.reader.now.at + (c.digits.count + 1) ≡ c.args.reader.now.at + c.digits.count + 1 = omega arith in
-    rw (c.skip_indicator.ensures, value, limit-more c.digits.count, next) record {
+    let next : c.args.reader.now.at + (c.digits.count + 1) ≡ p + 1 = omega arith in
+    rw (c.skip_indicator.ensures, value, power-more c.digits.count, next) record {
       text = c.digits.invariant.text;
       place = omega (arith, c.digits.invariant.place);
       value = decimal_more text c.args.reader.now.at c.digits.count c.digits.value c.digits.invariant.value;
       few = omega (arith, c.digits.invariant.few, c.if-count-eq9.false);
       small = omega (arith, c.digits.invariant.small, digit_here text p here);
-      rest = (m, left, same ∙ rest);
+      each = each_more (belongs runs.Digits text) c.args.reader.now.at p c.digits.invariant.each here;
     }
 
 pub returns-then-count-eq0 : goal.returns-then-count-eq0
 returns-then-count-eq0 c =
     let z : c.args.reader.now.at + 0 ≡ c.args.reader.now.at = omega arith in
-    let stop : belongs runs.Digits c.args.reader.now.text c.args.reader.now.at ≡ false = rw (c.text.ensures, c.place.ensures, c.digits.invariant.text, c.digits.invariant.place, c.if-count-eq0.true, z) at (sym c.belongs.ensures ∙ c.digits-test.false) in
-    let (n, room, same) = rw (c.if-count-eq0.true, z) at c.digits.invariant.rest in
-    rw (number_none n c.args.reader.now.text c.args.reader.now.at same stop, c.refusal-then-count-eq0.ensures, c.digits.invariant.text, c.digits.invariant.place, c.if-count-eq0.true, z) refl
+    let stop = rw (c.digits.invariant.text, c.digits.invariant.place, c.if-count-eq0.true, z) at (sym c.belongs.ensures ∙ c.digits-test.false) in
+    rw (number_none c.args.reader.now.text c.args.reader.now.at stop, c.refusal-then-count-eq0.ensures, c.digits.invariant.text, c.digits.invariant.place, c.if-count-eq0.true, z) refl
 
 pub overflow_cast-result : goal.overflow_cast-result
 overflow_cast-result c =
-    let room = limit-room c.digits.count c.digits.invariant.few in
+    let room = power-room c.digits.count c.digits.invariant.few in
     omega (arith, c.digits.invariant.small)
 
 pub returns : goal.returns
 returns c =
     let text = c.args.reader.now.text in
     let p = c.args.reader.now.at in
-    let stop : belongs runs.Digits text (p + c.digits.count) ≡ false = rw (c.text.ensures, c.place.ensures, c.digits.invariant.text, c.digits.invariant.place) at (sym c.belongs.ensures ∙ c.digits-test.false) in
-    let (n, room, same) = c.digits.invariant.rest in
-    let less = limit-room c.digits.count c.digits.invariant.few in
+    let stop = rw (c.digits.invariant.text, c.digits.invariant.place) at (sym c.belongs.ensures ∙ c.digits-test.false) in
+    let less = power-room c.digits.count c.digits.invariant.few in
     let value = to_z_pos w32 c.digits.value (omega (arith, c.digits.invariant.small)) in
-    rw (number_done n text p c.digits.count same stop (omega (arith, c.if-count-eq0.false)) c.digits.invariant.few, value, c.digits.invariant.value) (refl, rw (← c.digits.invariant.text, ← c.digits.invariant.place) refl)
+    rw (number_done text p c.digits.count c.digits.invariant.each stop (omega (arith, c.if-count-eq0.false)) c.digits.invariant.few, value, c.digits.invariant.value) (refl, rw (← c.digits.invariant.text, ← c.digits.invariant.place) refl)

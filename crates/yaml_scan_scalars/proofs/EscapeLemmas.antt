@@ -1,5 +1,6 @@
 -- Escapes, a digit at a time.
-use Rattle.std.proofs.Common.{◌≡◌, ℕ, zero, suc, ◌+◌, ◌-◌, ◌*◌, ◌<◌, ◌≤◌, true, List, Some, None, nat_lt, refl, arith, add-one, add-zero, add-suc}
+use Rattle.std.proofs.Common.{◌≡◌, ℕ, zero, suc, ◌+◌, ◌-◌, ◌*◌, ◌<◌, ◌≤◌, true, List, Some, None, nat_lt, ◌^◌, refl, arith, add-one, add-zero, add-suc}
+use Rattle.std.proofs.Math.Nat.{pow-le-pow_right, pow-suc}
 use Rattle.yaml_scan_scalars.proofs.Words.{nat_tests, byte, break_width, hex_digit, hex_value, hex_len, simple_escape, escape_at, coded}
 
 pub hex_more : (text : List ℕ) (p k v d : ℕ) → hex_value text p k ≡ Some v
@@ -20,23 +21,14 @@ hex_refused text p k n v h e l =
     rw all at (hex_none text p (k + 1) (n - (k + 1)) (unfold hex_value in rw (add-one, h, e) refl))
 
 -- what k digits spell at most, and one more
-abbrev pub hex_limit : ℕ → ℕ
-hex_limit zero = 1
-hex_limit (suc k) = 16 * hex_limit k
+pub power-more : (k : ℕ) → 16 ^ (k + 1) ≡ 16 ^ k * 16
+power-more k = rw add-one (pow-suc 16 k)
 
-pub hex_room : (k : ℕ) → k < 8 → 16 * hex_limit k ≤ 4294967296
-hex_room zero h = omega arith
-hex_room (suc zero) h = omega arith
-hex_room (suc (suc zero)) h = omega arith
-hex_room (suc (suc (suc zero))) h = omega arith
-hex_room (suc (suc (suc (suc zero)))) h = omega arith
-hex_room (suc (suc (suc (suc (suc zero))))) h = omega arith
-hex_room (suc (suc (suc (suc (suc (suc zero)))))) h = omega arith
-hex_room (suc (suc (suc (suc (suc (suc (suc zero))))))) h = omega arith
-hex_room (suc (suc (suc (suc (suc (suc (suc (suc k)))))))) h = absurd (omega arith)
-
-pub hex_limit-more : (k : ℕ) → hex_limit (k + 1) ≡ 16 * hex_limit k
-hex_limit-more k = rw add-one refl
+pub power-room : (k : ℕ) → k < 8 → 16 ^ k * 16 ≤ 4294967296
+power-room k h =
+    let more = pow-suc 16 k in
+    let most : 16 ^ suc k ≤ 4294967296 = pow-le-pow_right {n = 16} (omega arith) h in
+    omega arith
 
 pub hex_len-zero : hex_len 0 ≡ 0
 unfolding hex_len

@@ -1,11 +1,11 @@
 -- Runs of ordinary bytes in plain scalars.
 use Rattle.std.proofs.Math.Bool.{and-false}
 use Rattle.std.proofs.Common.{◌≡◌, ℕ, zero, suc, ◌+◌, ◌-◌, ◌<◌, ◌≤◌, ◌==◌, ◌&&◌, if◌then◌else◌, Bool, true, false, List, [], ◌∷◌, ◌++◌, length, Result, Ok, Err, refl, sym, ap, ◌∙◌, inl, inr, ◌⊎◌, arith}
-use Rattle.yaml_scan_scalars.proofs.Words.{cases_Bool, ne_eqb, nat_tests, Place, byte, ends_break, is_blank, Wrong, Joining, Piece, Kept, value, is_ordinary, is_common, is_narrow, is_odd, parts_flow, plain_kind, is_document_indicator, is_sign, is_link, in_run, bytes_at, piece_of, run_pieces, ends_kept, starts_kept, IsRun, Takes, Words, is_bracket, is_nothing, with_piece, with_run, words_from, words, plain_with, plain_text, plain_at, spot_at, ends_at, leads, after_white, joined, TookFirst, TookWords}
+use Rattle.yaml_scan_scalars.proofs.Words.{cases_Bool, ne_eqb, nat_tests, Place, byte, ends_break, is_blank, Wrong, Joining, Piece, Kept, value, is_ordinary, is_common, is_narrow, is_odd, parts_flow, plain_kind, is_document_indicator, is_sign, in_run, bytes_at, piece_of, run_pieces, ends_kept, starts_kept, IsRun, Takes, Words, is_bracket, is_nothing, with_piece, with_run, words_from, plain_with, plain_text, plain_at, spot_at, ends_at, leads, after_white, joined, TookWords}
 use Rattle.yaml_scan_scalars.specs.declared.folding.Gap.TheVariants as gaps
-use Rattle.yaml_scan_scalars.proofs.RunLemmas.{ordinary_is, ordinary_no_break, ordinary_ends_none, ordinary_no_mark, sign_is, sign_no_break, sign_ends_none, no_mark_here, link_cases, run_parts, space_is, space_no_break, bytes_none, bytes_more, ends_bytes, resume_run, value_run, same_or, few}
+use Rattle.yaml_scan_scalars.proofs.RunLemmas.{IsCalm, calm_no_break, calm_ends_none, calm_no_blank, calm_no_space, ordinary_calm, ordinary_no_mark, sign_calm, no_mark_here, link_cases, run_parts, space_here, bytes_none, bytes_more, ends_bytes, resume_run, value_run, same_or}
 use Rattle.yaml_scan_scalars.proofs.FoldingLemmas.{value-kept}
-use Rattle.yaml_scan_scalars.proofs.PlainLemmas.{spot_kept, spot_blank, lead_text, leads-blank}
+use Rattle.yaml_scan_scalars.proofs.PlainLemmas.{spot_kept, spot_blank, lead_text, leads-blank, words_on, words_here, plain_whole}
 
 -- many pieces or one
 
@@ -92,37 +92,19 @@ no_colon_here : (flow : Bool) (b : ℕ) (next : Bool) → (b == 58) ≡ false
     → (flow && (b == 58 && next)) ≡ false
 no_colon_here flow b next h = rw h (and-false flow)
 
-spot_ordinary : (flow : Bool) (level : ℕ) (text : List ℕ) (p : ℕ)
-    → is_ordinary (plain_kind flow) (byte text p) ≡ true
-    → leads text p ≡ false → spot_at flow level text p ≡ Takes (piece_of (byte text p)) (p + 1)
-spot_ordinary flow level text p h l =
-    let o = ordinary_is (plain_kind flow) (byte text p) h in
-    let some = o.some in
-    let t = text_is flow (byte text p) h in
-    rw o.no_space (spot_kept flow level text p (ordinary_no_break (plain_kind flow) _ _ _ h) o.no_blank (ends_none flow level text p (ne_eqb (byte text p) 0 (omega arith)) (ordinary_no_mark (plain_kind flow) text p h) t l) (no_colon_here flow (byte text p) _ t.no_colon))
+spot_calm : (flow : Bool) (level : ℕ) (text : List ℕ) (p : ℕ) → IsCalm (byte text p)
+    → is_document_indicator text p ≡ false → IsText flow (byte text p) → leads text p ≡ false
+    → spot_at flow level text p ≡ Takes (piece_of (byte text p)) (p + 1)
+spot_calm flow level text p h mark t l =
+    rw (calm_no_space _ h) (spot_kept flow level text p (calm_no_break _ _ _ h) (calm_no_blank _ h) (ends_none flow level text p (ne_eqb (byte text p) 0 (omega (arith, h.high))) mark t l) (no_colon_here flow (byte text p) _ t.no_colon))
 
 sign_text : (flow : Bool) (b : ℕ) → is_sign b ≡ true → IsText flow b
 unfolding is_bracket
 sign_text flow b h = record { no_hash = grind (arith, nat_tests); no_colon = grind (arith, nat_tests); no_part = grind (arith, nat_tests) }
 
-spot_sign : (flow : Bool) (level : ℕ) (text : List ℕ) (p : ℕ) → is_sign (byte text p) ≡ true
-    → is_narrow (plain_kind flow) (byte text (p + 1)) ≡ true → leads text p ≡ false
-    → spot_at flow level text p ≡ Takes (piece_of (byte text p)) (p + 1)
-spot_sign flow level text p h n l =
-    let o = sign_is (byte text p) h in
-    let some = o.some in
-    let t = sign_text flow (byte text p) h in
-    rw o.no_space (spot_kept flow level text p (sign_no_break _ _ _ h) o.no_blank (ends_none flow level text p (ne_eqb (byte text p) 0 (omega arith)) (no_mark_here (plain_kind flow) text p n) t l) (no_colon_here flow (byte text p) _ t.no_colon))
-
-spot_space : (flow : Bool) (level : ℕ) (text : List ℕ) (p : ℕ) → byte text p ≡ 32
-    → spot_at flow level text p ≡ Takes (piece_of (byte text p)) (p + 1)
-spot_space flow level text p h =
-    let s = space_is (byte text p) h in
-    rw s.same (spot_blank flow level text p (space_no_break _ _ _ h) s.blank (rw s.no_tab refl))
-
 pub calm_next : (kind : ℕ) (text : List ℕ) (p : ℕ) → is_ordinary kind (byte text p) ≡ true
     → (false ≡ leads text (p + 1)) × (false ≡ after_white text (p + 1))
-calm_next kind text p h = let o = ordinary_is kind (byte text p) h in lead_text text p o.no_blank (ordinary_ends_none kind _ _ _ _ h)
+calm_next kind text p h = let o = ordinary_calm kind (byte text p) h in lead_text text p (calm_no_blank _ o) (calm_ends_none _ _ _ _ o)
 
 -- behind a run
 pub calm_behind : (kind : ℕ) (text : List ℕ) (p : ℕ) (place : Place) → IsRun kind text p place
@@ -147,31 +129,29 @@ abbrev pub words_with : (Words → Words) → Result Words Wrong → Result Word
 words_with f (Ok w) = Ok (f w)
 words_with f (Err e) = Err e
 
-words_one : (n : ℕ) (flow : Bool) (level : ℕ) (text : List ℕ) (p : ℕ) (x : Piece)
-    → spot_at flow level text p ≡ Takes x (p + 1)
-    → words (suc n) flow level text p ≡ words_from x (p + 1) (words n flow level text (p + 1))
-unfolding words
-words_one n flow level text p x h = rw h refl
-
 -- what a byte of a run is taken as, and that no line starts behind it
 record RunSpot (flow : Bool) (level : ℕ) (text : List ℕ) (p : ℕ) : Type 0 where
   pub takes : spot_at flow level text p ≡ Takes (piece_of (byte text p)) (p + 1)
   pub calm : leads text (p + 1) ≡ false
 
-link_spot : (flow : Bool) (level : ℕ) (text : List ℕ) (p : ℕ) → is_link (byte text p) ≡ true
-    → is_narrow (plain_kind flow) (byte text (p + 1)) ≡ true → leads text p ≡ false
-    → RunSpot flow level text p
-link_spot flow level text p h n l = elim (link_cases (byte text p) h) [
-  | inl e ↦ record { takes = spot_space flow level text p e; calm = leads-blank text p (space_is (byte text p) e).blank ∙ l }
-  | inr s ↦ record { takes = spot_sign flow level text p s n l; calm = sym (lead_text text p (sign_is (byte text p) s).no_blank (sign_ends_none _ _ _ _ s)).0 }
-]
-
 run_spot : (flow : Bool) (level : ℕ) (text : List ℕ) (p : ℕ)
     → in_run (plain_kind flow) text p ≡ true
     → leads text p ≡ false → RunSpot flow level text p
 run_spot flow level text p h l = elim (run_parts (plain_kind flow) text p h) [
-  | inl o ↦ record { takes = spot_ordinary flow level text p o l; calm = sym (calm_next (plain_kind flow) text p o).0 }
-  | inr s ↦ link_spot flow level text p s.0 s.1 l
+  | inl o ↦ record {
+    takes = spot_calm flow level text p (ordinary_calm _ _ o) (ordinary_no_mark (plain_kind flow) text p o) (text_is flow (byte text p) o) l;
+    calm = sym (calm_next (plain_kind flow) text p o).0;
+  }
+  | inr (link, n) ↦ elim (link_cases (byte text p) link) [
+    | inl e ↦
+        let (same, blank, none) = space_here (byte text p) (byte text (p + 1)) (byte text (p + 2)) e in
+        record { takes = rw same (spot_blank flow level text p none blank (rw e refl)); calm = leads-blank text p blank ∙ l }
+    | inr s ↦
+        let o = sign_calm (byte text p) s in record {
+          takes = spot_calm flow level text p o (no_mark_here (plain_kind flow) text p n) (sign_text flow (byte text p) s) l;
+          calm = sym (lead_text text p (calm_no_blank _ o) (calm_ends_none _ _ _ _ o)).0;
+        }
+  ]
 ]
 
 words_none : (r : Result Words Wrong) → r ≡ words_with (λ w. w) r
@@ -183,24 +163,21 @@ words_more : (x : Piece) (q : ℕ) (f : Words → Words) (r : Result Words Wrong
 words_more x q f (Ok w) = refl
 words_more x q f (Err e) = refl
 
-pub words_run : (d n : ℕ) (flow : Bool) (level : ℕ) (text : List ℕ) (p : ℕ) → d ≤ n
+pub words_run : (d : ℕ) (flow : Bool) (level : ℕ) (text : List ℕ) (p : ℕ)
     → (0 < d → leads text p ≡ false)
     → ((k : ℕ) → p ≤ k → k < p + d → in_run (plain_kind flow) text k ≡ true)
-    → words (suc n) flow level text p
-    ≡ words_with (with_run text p d) (words (suc (n - d)) flow level text (p + d))
-words_run zero n flow level text p h l o =
-    let e : n - 0 ≡ n = omega arith in
+    → words_on flow level text p
+    ≡ words_with (with_run text p d) (words_on flow level text (p + d))
+words_run zero flow level text p l o =
     let f : p + 0 ≡ p = omega arith in
-    rw (e, f) (words_none (words (suc n) flow level text p))
-words_run (suc d) zero flow level text p h l o = absurd (omega arith)
-words_run (suc d) (suc n) flow level text p h l o =
-    let e : suc n - suc d ≡ n - d = omega arith in
+    rw f (words_none (words_on flow level text p))
+words_run (suc d) flow level text p l o =
     let f : p + suc d ≡ p + 1 + d = omega arith in
     let spot = run_spot flow level text p (o p (omega arith) (omega arith)) (l (omega arith)) in
-    let more = words_run d n flow level text (p + 1) (omega arith) (λ s. spot.calm) (λ k a b. o k (omega arith) (omega arith)) in
+    let more = words_run d flow level text (p + 1) (λ s. spot.calm) (λ k a b. o k (omega arith) (omega arith)) in
     let x = piece_of (byte text p) in
-    rw (e, f) (words_one (suc n) flow level text p x spot.takes ∙ ap (λ r. words_from x (p + 1) r) more
-    ∙ words_more x (p + 1) (with_run text (p + 1) d) (words (suc (n - d)) flow level text (p + 1 + d)))
+    let here = rw spot.takes at (words_here flow level text p) in
+    rw f (here ∙ ap (λ r. words_from x (p + 1) r) more ∙ words_more x (p + 1) (with_run text (p + 1) d) (words_on flow level text (p + 1 + d)))
 
 plain_front : (old new : Joining) (f : Words → Words) (r : Result Words Wrong)
     → ((w : Words) → joined new w ≡ joined old (f w))
@@ -208,18 +185,36 @@ plain_front : (old new : Joining) (f : Words → Words) (r : Result Words Wrong)
 plain_front old new f (Ok w) h = rw (h w) refl
 plain_front old new f (Err e) h = refl
 
-pub plain_run : (n : ℕ) (flow : Bool) (level : ℕ) (text : List ℕ) (p : ℕ) (old new : Joining)
-    (place : Place) → TookWords (plain_kind flow) text p old new place → length text ≤ p + n
-    → (m : ℕ) × (length text ≤ place.at + m)
-    × (plain_with (joined old) (words (suc n) flow level text p)
-    ≡ plain_with (joined new) (words (suc m) flow level text place.at))
-plain_run n flow level text p old new place took room =
+pub plain_run : (flow : Bool) (level : ℕ) (text : List ℕ) (p : ℕ) (old new : Joining)
+    (place : Place) → TookWords (plain_kind flow) text p old new place
+    → plain_with (joined old) (words_on flow level text p)
+    ≡ plain_with (joined new) (words_on flow level text place.at)
+plain_run flow level text p old new place took =
     let run = took.run in
-    let after = run.after in
-    let d : place.at - p ≤ n = few (plain_kind flow) text p n place run room in
-    let at : p + (place.at - p) ≡ place.at = omega arith in
-    let all = words_run (place.at - p) n flow level text p d (λ s. took.calm (omega arith)) (λ k a b. run.each k a (omega arith)) in
-    (n - (place.at - p), omega arith, rw at at (ap (λ r. plain_with (joined old) r) all ∙ plain_front old new (with_run text p (place.at - p)) (words (suc (n - (place.at - p))) flow level text (p + (place.at - p))) took.value))
+    let at : p + (place.at - p) ≡ place.at = omega (arith, run.after) in
+    let all = rw at at (words_run (place.at - p) flow level text p (λ s. took.calm (omega arith)) (λ k a b. run.each k a (rw at at b))) in
+    ap (λ r. plain_with (joined old) r) all ∙ plain_front old new (with_run text p (place.at - p)) (words_on flow level text place.at) took.value
+
+with_first : (text : List ℕ) (p d : ℕ) (r : Result Words Wrong) → (byte text p == 32) ≡ false
+    → words_with (λ w. with_piece (Kept (byte text p ∷ [])) (p + 1) (with_run text (p + 1) d w)) r
+    ≡ words_with (with_run text p (suc d)) r
+with_first text p d (Ok w) h = rw h refl
+with_first text p d (Err e) h = refl
+
+-- the first character, and the run behind it
+pub first_words : (flow : Bool) (level : ℕ) (text : List ℕ) (p : ℕ) (place : Place)
+    → IsRun (plain_kind flow) text (p + 1) place → p < length text → leads text (p + 1) ≡ false
+    → (byte text p == 32) ≡ false
+    → plain_at flow level text p ≡ plain_with plain_text
+    (words_with (with_run text p (place.at - p)) (words_on flow level text place.at))
+first_words flow level text p place run inside calm first =
+    let d = place.at - (p + 1) in
+    let at : p + 1 + d ≡ place.at = omega (arith, run.after) in
+    let long : suc d ≡ place.at - p = omega (arith, run.after) in
+    let all = rw at at (words_run d flow level text (p + 1) (λ s. calm) (λ k a b. run.each k a (rw at at b))) in
+    let rest = words_on flow level text place.at in
+    plain_whole flow level text p inside ∙ ap (λ r. plain_with plain_text (words_from (Kept (byte text p ∷ [])) (p + 1) r)) all
+    ∙ ap (λ r. plain_with plain_text r) (words_more (Kept (byte text p ∷ [])) (p + 1) (with_run text (p + 1) d) rest ∙ with_first text p d rest first ∙ ap (λ k. words_with (with_run text p k) rest) long)
 
 first_front : (new : Joining) (f : Words → Words) (r : Result Words Wrong)
     → ((w : Words) → joined new w ≡ plain_text (f w))
@@ -228,26 +223,9 @@ first_front new f (Ok w) h = rw (h w) refl
 first_front new f (Err e) h = refl
 
 pub plain_first_run : (flow : Bool) (level : ℕ) (text : List ℕ) (p : ℕ) (new : Joining)
-    (place : Place) → TookFirst (plain_kind flow) text p new place → p < length text
-    → leads text (p + 1) ≡ false
-    → (byte text p == 32) ≡ false
-    → (m : ℕ) × (length text ≤ place.at + m)
-    × (plain_at flow level text p ≡ plain_with (joined new)
-    (words (suc m) flow level text place.at))
-plain_first_run flow level text p new place took inside calm first =
-    let run = took.run in
-    let after = run.after in
-    let n : suc (length text - 1) ≡ length text = omega arith in
-    let d : place.at - (p + 1) ≤ length text - 1 = few (plain_kind flow) text (p + 1) (length text - 1) place run (omega arith) in
-    let at : p + 1 + (place.at - (p + 1)) ≡ place.at = omega arith in
-    let long : place.at - p ≡ suc (place.at - (p + 1)) = omega arith in
-    let all = words_run (place.at - (p + 1)) (length text - 1) flow level text (p + 1) d (λ s. calm) (λ k a b. run.each k a (omega arith)) in
-    let value = rw (long, first) at took.value in
-    let rest = words (suc (length text - 1 - (place.at - (p + 1)))) flow level text (p + 1 + (place.at - (p + 1))) in (
-      length text - 1 - (place.at - (p + 1)),
-      omega arith,
-      rw (n, at) at
-          (ap (λ r. plain_with plain_text (words_from (Kept (byte text p ∷ [])) (p + 1) r)) all
-          ∙ ap (λ r. plain_with plain_text r) (words_more (Kept (byte text p ∷ [])) (p + 1) (with_run text (p + 1) (place.at - (p + 1))) rest)
-          ∙ first_front new (λ w. with_piece (Kept (byte text p ∷ [])) (p + 1) (with_run text (p + 1) (place.at - (p + 1)) w)) rest value),
-    )
+    (place : Place) → IsRun (plain_kind flow) text (p + 1) place → p < length text
+    → leads text (p + 1) ≡ false → (byte text p == 32) ≡ false
+    → ((w : Words) → joined new w ≡ plain_text (with_run text p (place.at - p) w))
+    → plain_at flow level text p ≡ plain_with (joined new) (words_on flow level text place.at)
+plain_first_run flow level text p new place run inside calm first value =
+    first_words flow level text p place run inside calm first ∙ first_front new (with_run text p (place.at - p)) (words_on flow level text place.at) value

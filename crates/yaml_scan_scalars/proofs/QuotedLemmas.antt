@@ -1,8 +1,76 @@
 -- Quoted scalars, a step at a time.
-use Rattle.std.proofs.Common.{◌≡◌, ◌≢◌, ℕ, zero, suc, ◌+◌, ◌<◌, ◌≤◌, true, false, List, [], ◌∷◌, ◌++◌, length, Result, Ok, Err, refl, ap, inl, inr, ◌⊎◌, ◌==◌, ◌&&◌, arith}
-use Rattle.yaml_scan_scalars.proofs.Words.{nat_tests, ne_eqb, lt-ltb, yaml_mark_t, ScanError, Place, byte, mark_at, break_of, break_width, is_blank, feed_at, is_document_indicator, Wrong, IsMemory, no_break, within, Piece, Kept, Blank, Break, Took, Reads, QuotedSpot, Closing, Pieces, Bad, in_quotes, with_front, followed, pieces, valued, quote_at, standing_at, escape_at, eq-eqb}
+use Rattle.std.proofs.Common.{◌≡◌, ◌≢◌, ℕ, zero, suc, ◌+◌, ◌-◌, ◌<◌, ◌≤◌, nat_lt, true, false, List, [], ◌∷◌, ◌++◌, length, Some, None, Result, Ok, Err, refl, ap, inl, inr, ◌⊎◌, ◌==◌, ◌&&◌, arith}
+use Rattle.yaml_scan_scalars.proofs.Words.{cond_both, eqb-false, ltb-true, nat_tests, ne_eqb, yaml_mark_t, ScanError, Place, byte, mark_at, break_of, break_width, is_blank, is_document_indicator, Wrong, IsMemory, no_break, within, Piece, Kept, Blank, value, Took, Reads, QuotedSpot, Closing, Pieces, Bad, is_scalar, coded, hex_len, hex_value, simple_escape, escaped, with_front, followed, pieces, valued, quoted_at, quote_at, standing_at, escape_at, eq-eqb}
 use Rattle.yaml_scan_model.specs.declared.problem.ScanError.TheVariants as errors
-use Rattle.yaml_scan_model.specs.declared.problem.Problem.TheVariants as problems
+
+-- ---- what goes on moves
+
+abbrev pub Moved : List ℕ → ℕ → QuotedSpot → Type 0
+Moved text p Closing = Unit {0}
+Moved text p (Pieces ps q) = (p < q) × (p < length text)
+Moved text p (Bad w) = Unit {0}
+
+escape_moves : (text : List ℕ) (p : ℕ) → p < length text → Moved text p (escape_at text p)
+unfolding escape_at
+escape_moves text p g =
+    let b = byte text (p + 1) in
+    cond_both (nat_lt 0 (break_width text (p + 1))) _ _ (Moved text p) (λ w. (omega arith, g)) (λ w.
+    cond_both (nat_lt 0 (hex_len b)) _ _ (Moved text p) (λ x.
+    elim (hex_value text (p + 2) (hex_len b)) as (λ o. Moved text p (coded (p + 2) (p + 2 + hex_len b) o)) [
+      | None ↦ tt
+      | Some c ↦ cond_both (is_scalar c) _ _ (Moved text p) (λ s. (omega arith, g)) (λ s. tt)
+    ]) (λ x.
+    elim (simple_escape b) as (λ o. Moved text p (escaped p o)) [
+      | None ↦ tt
+      | Some bytes ↦ (omega arith, g)
+    ]))
+
+pub standing_moves : (quote : ℕ) (text : List ℕ) (p : ℕ) → Moved text p (standing_at quote text p)
+unfolding standing_at quote_at
+standing_moves quote text p =
+    cond_both (is_document_indicator text p) _ _ (Moved text p) (λ a. tt) (λ a.
+    cond_both (byte text p == 0) _ _ (Moved text p) (λ b. tt) (λ b.
+    let g : p < length text = within text p (omega (arith, eqb-false (byte text p) 0 b)) in
+    cond_both (byte text p == quote) _ _ (Moved text p) (λ c.
+    cond_both (quote == 39 && byte text (p + 1) == 39) _ _ (Moved text p) (λ d. (omega arith, g)) (λ d. tt)) (λ c.
+    cond_both (nat_lt 0 (break_width text p)) _ _ (Moved text p) (λ d. (omega (arith, ltb-true 0 (break_width text p) d), g)) (λ d.
+    cond_both (is_blank (byte text p)) _ _ (Moved text p) (λ e. (omega arith, g)) (λ e.
+    cond_both (quote == 34 && byte text p == 92) _ _ (Moved text p) (λ f. escape_moves text p g) (λ f. (omega arith, g)))))))
+
+-- ---- as many steps as reach the end
+
+followed_same : (f g : ℕ → Result (List Piece × ℕ) Wrong) (p : ℕ) (s : QuotedSpot)
+    → ((ps : List Piece) (q : ℕ) → s ≡ Pieces ps q → f q ≡ g q) → followed f p s ≡ followed g p s
+followed_same f g p Closing h = refl
+followed_same f g p (Pieces ps q) h = rw (h ps q refl) refl
+followed_same f g p (Bad w) h = refl
+
+pieces_more : (n quote : ℕ) (text : List ℕ) (p : ℕ) → length text ≤ p + n
+    → pieces (suc n) quote text p ≡ pieces (suc (suc n)) quote text p
+unfolding pieces
+pieces_more zero quote text p room =
+    followed_same (pieces 0 quote text) (pieces 1 quote text) p (standing_at quote text p)
+    (λ ps q e. absurd {0} (let (far, inside) = rw e at (standing_moves quote text p) in omega arith))
+pieces_more (suc n) quote text p room =
+    followed_same (pieces (suc n) quote text) (pieces (suc (suc n)) quote text) p (standing_at quote text p)
+    (λ ps q e. let (far, inside) = rw e at (standing_moves quote text p) in pieces_more n quote text q (omega arith))
+
+-- the pieces up to the closing quote
+abbrev pub pieces_on : ℕ → List ℕ → ℕ → Result (List Piece × ℕ) Wrong
+pieces_on quote text p = pieces (suc (length text)) quote text p
+
+pub pieces_here : (quote : ℕ) (text : List ℕ) (p : ℕ)
+    → pieces_on quote text p ≡ followed (pieces_on quote text) p (standing_at quote text p)
+unfolding pieces
+pieces_here quote text p = pieces_more (length text) quote text p (omega arith)
+
+pub quoted_whole : (quote : ℕ) (text : List ℕ) (p : ℕ) → p < length text
+    → quoted_at quote text p ≡ valued value (pieces_on quote text (p + 1))
+quoted_whole quote text p h =
+    let n : suc (length text - 1) ≡ length text = omega arith in
+    ap (λ r. valued value r) (rw n at (pieces_more (length text - 1) quote text (p + 1) (omega arith)))
+
+-- ---- turns
 
 pub front : (old new : List Piece → List ℕ) (qs : List Piece) (r : Result (List Piece × ℕ) Wrong)
     → ((ps : List Piece) → new ps ≡ old (qs ++ ps)) → valued old (with_front qs r) ≡ valued new r
@@ -10,36 +78,26 @@ front old new qs (Ok x) h = rw (h x.0) refl
 front old new qs (Err e) h = refl
 
 -- what a step that goes on leaves
-pub record GoesOn (quote : ℕ) (text : List ℕ) (p n : ℕ) (old new : List Piece → List ℕ) (place : Place) : Type 0 where
+pub record GoesOn (quote : ℕ) (text : List ℕ) (p : ℕ) (old new : List Piece → List ℕ) (place : Place) (whole : Result (List Piece × ℕ) Wrong) : Type 0 where
   pub same : place.text ≡ text
   pub further : p < place.at
   pub inside : p < length text
-  pub rest : (m : ℕ) × (length text ≤ place.at + m)
-      × (valued old (pieces (suc n) quote text p) ≡ valued new (pieces (suc m) quote text place.at))
+  pub rest : valued old whole ≡ valued new (pieces_on quote text place.at)
 
-step : (text : List ℕ) (start : yaml_mark_t) (quote p n : ℕ) (old new : List Piece → List ℕ)
-    (place : Place) (s : QuotedSpot)
-    → Took text start p old new place (Ok true) s
-    → (place.text ≡ text) × (p < place.at) × (p < length text)
-    × (valued old (followed (pieces n quote text) p s) ≡ valued new (pieces n quote text place.at))
-step text start quote p n old new place Closing h = absurd h
-step text start quote p n old new place (Bad w) h = absurd h
-step text start quote p n old new place (Pieces qs q) (e, f, l, i) =
-    let te : place.text ≡ text = ap (λ (x : Place). x.text) e in
+step : (text : List ℕ) (start : yaml_mark_t) (quote p : ℕ) (old new : List Piece → List ℕ)
+    (place : Place) (s : QuotedSpot) → Took text start p old new place (Ok true) s
+    → GoesOn quote text p old new place (followed (pieces_on quote text) p s)
+step text start quote p old new place Closing h = absurd h
+step text start quote p old new place (Bad w) h = absurd h
+step text start quote p old new place (Pieces qs q) (e, f, l, i) =
     let at : place.at ≡ q = ap (λ (x : Place). x.at) e in
-    (te, rw at l, i, rw at (front old new qs (pieces n quote text q) f))
+    record { same = ap (λ (x : Place). x.text) e; further = rw at l; inside = i; rest = rw at (front old new qs (pieces_on quote text q) f) }
 
-pub turn_more : (text : List ℕ) (start : yaml_mark_t) (quote p n : ℕ)
+pub turn_more : (text : List ℕ) (start : yaml_mark_t) (quote p : ℕ)
     (old new : List Piece → List ℕ) (place : Place)
-    → Took text start p old new place (Ok true) (standing_at quote text p) → length text ≤ p + n
-    → GoesOn quote text p n old new place
-unfolding pieces
-turn_more text start quote p zero old new place h room =
-    let (te, further, inside, same) = step text start quote p zero old new place (standing_at quote text p) h in
-    absurd (omega arith)
-turn_more text start quote p (suc n) old new place h room =
-    let (te, further, inside, same) = step text start quote p (suc n) old new place (standing_at quote text p) h in
-    record { same = te; further = further; inside = inside; rest = (n, omega arith, same) }
+    → Took text start p old new place (Ok true) (standing_at quote text p)
+    → GoesOn quote text p old new place (pieces_on quote text p)
+turn_more text start quote p old new place h = rw (pieces_here quote text p) (step text start quote p old new place (standing_at quote text p) h)
 
 done : (text : List ℕ) (start : yaml_mark_t) (p : ℕ) (old new : List Piece → List ℕ) (place : Place)
     (s : QuotedSpot) (more : ℕ → Result (List Piece × ℕ) Wrong)
@@ -50,22 +108,17 @@ done text start p old new place (Pieces qs q) more h = absurd h
 done text start p old new place (Bad w) more h = absurd h
 done text start p old new place Closing more (e, f) = (e, rw (f []) refl)
 
-pub turn_done : (text : List ℕ) (start : yaml_mark_t) (quote p n : ℕ)
+pub turn_done : (text : List ℕ) (start : yaml_mark_t) (quote p : ℕ)
     (old new : List Piece → List ℕ) (place : Place)
     → Took text start p old new place (Ok false) (standing_at quote text p)
     → (place ≡ record { text = text; at = p + 1 })
-    × (valued old (pieces (suc n) quote text p) ≡ Ok (new [], p + 1))
-unfolding pieces
-turn_done text start quote p n old new place h = done text start p old new place (standing_at quote text p) (pieces n quote text) h
-
-pub reads_memory : (text : List ℕ) (a : ℕ) (place : Place) (r : Result (List ℕ × ℕ) Wrong)
-    → Reads text a place (Err errors.Memory) r
-reads_memory text a place (Ok x) = tt
-reads_memory text a place (Err w) = tt
+    × (valued old (pieces_on quote text p) ≡ Ok (new [], p + 1))
+turn_done text start quote p old new place h = rw (pieces_here quote text p) (done text start p old new place (standing_at quote text p) (pieces_on quote text) h)
 
 only_memory : (text : List ℕ) (a : ℕ) (place : Place) (e : ScanError)
     (r : Result (List ℕ × ℕ) Wrong) → IsMemory e → Reads text a place (Err e) r
-only_memory text a place errors.Memory r h = reads_memory text a place r
+only_memory text a place errors.Memory (Ok x) h = tt
+only_memory text a place errors.Memory (Err w) h = tt
 only_memory text a place (errors.Fault f) r h = absurd h
 
 refused : (text : List ℕ) (a p : ℕ) (old new : List Piece → List ℕ) (place : Place) (e : ScanError)
@@ -76,14 +129,13 @@ refused text a p old new place e (Pieces qs q) more h = only_memory text a place
 refused text a p old new place e Closing more h = absurd h
 refused text a p old new place e (Bad w) more h = h
 
-pub turn_refused : (text : List ℕ) (quote a p n : ℕ) (old new : List Piece → List ℕ) (place : Place)
+pub turn_refused : (text : List ℕ) (quote a p : ℕ) (old new : List Piece → List ℕ) (place : Place)
     (e : ScanError)
     → Took text (mark_at text a) p old new place (Err e) (standing_at quote text p)
-    → Reads text a place (Err e) (valued old (pieces (suc n) quote text p))
-unfolding pieces
-turn_refused text quote a p n old new place e h = refused text a p old new place e (standing_at quote text p) (pieces n quote text) h
+    → Reads text a place (Err e) (valued old (pieces_on quote text p))
+turn_refused text quote a p old new place e h = rw (pieces_here quote text p) (refused text a p old new place e (standing_at quote text p) (pieces_on quote text) h)
 
--- quotes are no breaks
+-- ---- quotes are no breaks
 
 pub quote_some : (quote b : ℕ) → b ≡ quote → (quote ≡ 34) ⊎ (quote ≡ 39) → 0 < b
 quote_some quote b e (inl h) = omega arith
@@ -97,53 +149,18 @@ quote_no_break quote b c d e (inr h) = no_break b c d (omega arith) (omega arith
 pub doubled_next : (quote next : ℕ) → (quote == 39 && next == 39) ≡ true → next ≡ 39
 doubled_next quote next h = grind (arith, nat_tests)
 
--- what stands inside the quotes
-
-pub standing_indicator : (quote : ℕ) (text : List ℕ) (p : ℕ) → is_document_indicator text p ≡ true
-    → standing_at quote text p ≡ in_quotes problems.DocumentIndicator p
-unfolding standing_at
-standing_indicator quote text p h = rw h refl
-
-pub standing_end : (quote : ℕ) (text : List ℕ) (p : ℕ) → is_document_indicator text p ≡ false
-    → byte text p ≡ 0 → standing_at quote text p ≡ in_quotes problems.EndOfStream p
-unfolding standing_at
-standing_end quote text p h e = rw (h, e) refl
+-- ---- what stands inside the quotes
 
 pub standing_quote : (quote : ℕ) (text : List ℕ) (p : ℕ) → is_document_indicator text p ≡ false
     → byte text p ≢ 0 → byte text p ≡ quote → standing_at quote text p ≡ quote_at quote text p
 unfolding standing_at
-standing_quote quote text p h z e =
-    let f : (byte text p == 0) ≡ false = ne_eqb (byte text p) 0 z in
-    let g : (byte text p == quote) ≡ true = eq-eqb (byte text p) quote e in
-    rw (h, f, g) refl
-
-pub standing_break : (quote : ℕ) (text : List ℕ) (p : ℕ) → is_document_indicator text p ≡ false
-    → byte text p ≢ 0 → byte text p ≢ quote → 0 < break_width text p
-    → standing_at quote text p ≡ Pieces (Break (feed_at text p) ∷ []) (p + break_width text p)
-unfolding standing_at
-standing_break quote text p h z e w =
-    let f : (byte text p == 0) ≡ false = ne_eqb (byte text p) 0 z in
-    let g : (byte text p == quote) ≡ false = ne_eqb (byte text p) quote e in
-    rw (h, f, g, lt-ltb 0 (break_width text p) w) refl
+standing_quote quote text p h z e = rw (h, ne_eqb (byte text p) 0 z, eq-eqb (byte text p) quote e) refl
 
 pub standing_blank : (quote : ℕ) (text : List ℕ) (p : ℕ) → is_document_indicator text p ≡ false
     → byte text p ≢ 0 → byte text p ≢ quote → break_width text p ≡ 0 → is_blank (byte text p) ≡ true
     → standing_at quote text p ≡ Pieces (Blank (byte text p) ∷ []) (p + 1)
 unfolding standing_at
-standing_blank quote text p h z e w k =
-    let f : (byte text p == 0) ≡ false = ne_eqb (byte text p) 0 z in
-    let g : (byte text p == quote) ≡ false = ne_eqb (byte text p) quote e in
-    rw (h, f, g, w, k) refl
-
-pub standing_escape : (quote : ℕ) (text : List ℕ) (p : ℕ) → is_document_indicator text p ≡ false
-    → byte text p ≢ 0 → byte text p ≢ quote → break_width text p ≡ 0
-    → is_blank (byte text p) ≡ false
-    → (quote == 34 && byte text p == 92) ≡ true → standing_at quote text p ≡ escape_at text p
-unfolding standing_at
-standing_escape quote text p h z e w k x =
-    let f : (byte text p == 0) ≡ false = ne_eqb (byte text p) 0 z in
-    let g : (byte text p == quote) ≡ false = ne_eqb (byte text p) quote e in
-    rw (h, f, g, w, k, x) refl
+standing_blank quote text p h z e w k = rw (h, ne_eqb (byte text p) 0 z, ne_eqb (byte text p) quote e, w, k) refl
 
 pub standing_kept : (quote : ℕ) (text : List ℕ) (p : ℕ) → is_document_indicator text p ≡ false
     → byte text p ≢ 0 → byte text p ≢ quote → break_width text p ≡ 0
@@ -151,10 +168,4 @@ pub standing_kept : (quote : ℕ) (text : List ℕ) (p : ℕ) → is_document_in
     → (quote == 34 && byte text p == 92) ≡ false
     → standing_at quote text p ≡ Pieces (Kept (byte text p ∷ []) ∷ []) (p + 1)
 unfolding standing_at
-standing_kept quote text p h z e w k x =
-    let f : (byte text p == 0) ≡ false = ne_eqb (byte text p) 0 z in
-    let g : (byte text p == quote) ≡ false = ne_eqb (byte text p) quote e in
-    rw (h, f, g, w, k, x) refl
-
-pub inside : (text : List ℕ) (p : ℕ) → byte text p ≢ 0 → p < length text
-inside text p h = within text p (omega (arith, h))
+standing_kept quote text p h z e w k x = rw (h, ne_eqb (byte text p) 0 z, ne_eqb (byte text p) quote e, w, k, x) refl

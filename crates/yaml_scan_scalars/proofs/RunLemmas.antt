@@ -1,36 +1,54 @@
 -- Runs of ordinary bytes.
-use Rattle.std.proofs.Common.{◌≡◌, ◌≢◌, ℕ, zero, suc, ◌+◌, ◌-◌, ◌<◌, ◌≤◌, ◌==◌, ◌&&◌, ◌||◌, Bool, true, false, List, [], ◌∷◌, ◌++◌, length, take, drop, nat_lt, Result, Ok, Err, refl, sym, ap, ◌∙◌, inl, inr, ◌⊎◌, append_assoc, arith}
-use Rattle.yaml_scan_scalars.proofs.Words.{and_parts, cases_Bool, or_cases, or_right, not-true, nat_tests, drop_more, Place, byte, break_of, ends_of, is_blank, is_document_indicator, Wrong, no_break, within, Folding, Gap, Piece, Kept, Blank, Line, lines, is_empty, folded, value, resume, resumed, is_ordinary, is_common, is_narrow, is_odd, quoted_kind, is_sign, is_link, is_linked, in_run, bytes_at, piece_of, run_pieces, starts_kept, ends_kept, IsRun, TookRun, Pieces, with_front, pieces, valued, standing_at}
+use Rattle.std.proofs.Common.{◌≡◌, ◌≢◌, ℕ, zero, suc, ◌+◌, ◌-◌, ◌<◌, ◌≤◌, ◌==◌, ◌&&◌, ◌||◌, Bool, true, false, List, [], ◌∷◌, ◌++◌, length, take, drop, Result, Ok, Err, refl, sym, ap, ◌∙◌, inl, inr, ◌⊎◌, append_assoc, arith}
+use Rattle.yaml_scan_scalars.proofs.Words.{and_parts, cases_Bool, cases_lt, eqb-true, ne_eqb, or_cases, or_from, or_right, not-true, nat_tests, drop_more, Place, byte, break_of, ends_of, is_blank, is_document_indicator, Wrong, no_break, Folding, Gap, Piece, Kept, Blank, Line, lines, is_empty, folded, value, resume, resumed, is_ordinary, is_common, is_narrow, is_odd, quoted_kind, is_sign, is_link, is_linked, in_run, bytes_at, piece_of, run_pieces, starts_kept, ends_kept, IsRun, TookRun, Pieces, with_front, valued, standing_at}
 use Rattle.yaml_scan_scalars.specs.declared.folding.Gap.TheVariants as gaps
 use Rattle.yaml_scan_scalars.proofs.FoldingLemmas.{value-kept, blanks_of, keep_line, keep_feed, keep_kept}
-use Rattle.yaml_scan_scalars.proofs.QuotedLemmas.{standing_kept, standing_blank, front}
+use Rattle.yaml_scan_scalars.proofs.QuotedLemmas.{standing_kept, standing_blank, front, pieces_on, pieces_here}
 
--- what an ordinary byte is not
-
-pub record IsOrdinary (b : ℕ) : Type 0 where
-  pub some : 0 < b
-  pub no_cr : b ≢ 13
-  pub no_feed : b ≢ 10
+-- no white, and no byte with which a break begins or ends
+pub record IsCalm (b : ℕ) : Type 0 where
+  pub high : 32 < b
   pub no_c2 : b ≢ 0xC2
   pub no_e2 : b ≢ 0xE2
-  pub no_blank : is_blank b ≡ false
-  pub no_dash : b ≢ 45
-  pub no_dot : b ≢ 46
-  pub no_space : (b == 32) ≡ false
+  pub no_next : b ≢ 0x85
+  pub no_line : b ≢ 0xA8
+  pub no_paragraph : b ≢ 0xA9
 
-pub ordinary_is : (kind b : ℕ) → is_ordinary kind b ≡ true → IsOrdinary b
+pub calm_between : (b : ℕ) → 32 < b → b < 128 → IsCalm b
+calm_between b low high = record { high = low; no_c2 = omega arith; no_e2 = omega arith; no_next = omega arith; no_line = omega arith; no_paragraph = omega arith }
+
+pub calm_no_break : (b c d : ℕ) → IsCalm b → break_of b c d ≡ 0
+calm_no_break b c d h = no_break b c d (omega (arith, h.high)) (omega (arith, h.high)) h.no_c2 h.no_e2
+
+pub calm_ends_none : (x y b c : ℕ) → IsCalm b → ends_of x y b c ≡ false
+unfolding ends_of
+calm_ends_none x y b c h =
+    let high = h.high in
+    let next = h.no_next in
+    let line = h.no_line in
+    let paragraph = h.no_paragraph in
+    grind (arith, nat_tests)
+
+pub calm_no_blank : (b : ℕ) → IsCalm b → is_blank b ≡ false
+calm_no_blank b h = or_from _ _ (ne_eqb b 32 (omega (arith, h.high))) (ne_eqb b 9 (omega (arith, h.high)))
+
+pub calm_no_space : (b : ℕ) → IsCalm b → (b == 32) ≡ false
+calm_no_space b h = ne_eqb b 32 (omega (arith, h.high))
+
+pub ordinary_calm : (kind b : ℕ) → is_ordinary kind b ≡ true → IsCalm b
 unfolding is_common is_narrow
-ordinary_is kind b h = record {
-  some = grind (arith, nat_tests);
-  no_cr = grind (arith, nat_tests);
-  no_feed = grind (arith, nat_tests);
+ordinary_calm kind b h = record {
+  high = grind (arith, nat_tests);
   no_c2 = grind (arith, nat_tests);
   no_e2 = grind (arith, nat_tests);
-  no_blank = grind (arith, nat_tests);
-  no_dash = grind (arith, nat_tests);
-  no_dot = grind (arith, nat_tests);
-  no_space = grind (arith, nat_tests);
+  no_next = grind (arith, nat_tests);
+  no_line = grind (arith, nat_tests);
+  no_paragraph = grind (arith, nat_tests);
 }
+
+ordinary_no_sign : (kind b : ℕ) → is_ordinary kind b ≡ true → (b ≢ 45) × (b ≢ 46)
+unfolding is_common is_narrow
+ordinary_no_sign kind b h = (grind (arith, nat_tests), grind (arith, nat_tests))
 
 -- between quotes it is neither the quote nor an escape's start
 double_is : (b : ℕ) → is_ordinary 8 b ≡ true → (b ≢ 34) × ((34 == 34 && b == 92) ≡ false)
@@ -46,13 +64,6 @@ quoted_is : (quote b : ℕ) → (quote ≡ 34) ⊎ (quote ≡ 39) → is_ordinar
 quoted_is quote b (inl e) h = rw e (double_is b (rw e at h))
 quoted_is quote b (inr e) h = rw e (single_is b (rw e at h))
 
-pub ordinary_no_break : (kind : ℕ) (b c d : ℕ) → is_ordinary kind b ≡ true → break_of b c d ≡ 0
-ordinary_no_break kind b c d h = let o = ordinary_is kind b h in no_break b c d o.no_cr o.no_feed o.no_c2 o.no_e2
-
-pub ordinary_ends_none : (kind x y b c : ℕ) → is_ordinary kind b ≡ true → ends_of x y b c ≡ false
-unfolding is_common is_narrow ends_of
-ordinary_ends_none kind x y b c h = grind (arith, nat_tests)
-
 pub no_mark : (b c d : ℕ) (first last : Bool) → b ≢ 45 → b ≢ 46
     → (first && ((((b == 45) && (c == 45)) && (d == 45)) || (((b == 46) && (c == 46)) && (d == 46)))
     && last) ≡ false
@@ -61,44 +72,10 @@ no_mark b c d first last h k = grind (arith, nat_tests)
 pub ordinary_no_mark : (kind : ℕ) (text : List ℕ) (p : ℕ) → is_ordinary kind (byte text p) ≡ true
     → is_document_indicator text p ≡ false
 unfolding is_document_indicator
-ordinary_no_mark kind text p h = let o = ordinary_is kind (byte text p) h in no_mark (byte text p) _ _ _ _ o.no_dash o.no_dot
+ordinary_no_mark kind text p h = let (dash, dot) = ordinary_no_sign kind (byte text p) h in no_mark (byte text p) _ _ _ _ dash dot
 
--- what a dash and a dot are not
-
-pub record IsSign (b : ℕ) : Type 0 where
-  pub some : 0 < b
-  pub low : nat_lt b 128 ≡ true
-  pub no_cr : b ≢ 13
-  pub no_feed : b ≢ 10
-  pub no_c2 : b ≢ 0xC2
-  pub no_e2 : b ≢ 0xE2
-  pub no_double : b ≢ 34
-  pub no_single : b ≢ 39
-  pub no_backslash : b ≢ 92
-  pub no_blank : is_blank b ≡ false
-  pub no_space : (b == 32) ≡ false
-
-pub sign_is : (b : ℕ) → is_sign b ≡ true → IsSign b
-sign_is b h = record {
-  some = grind (arith, nat_tests);
-  low = grind (arith, nat_tests);
-  no_cr = grind (arith, nat_tests);
-  no_feed = grind (arith, nat_tests);
-  no_c2 = grind (arith, nat_tests);
-  no_e2 = grind (arith, nat_tests);
-  no_double = grind (arith, nat_tests);
-  no_single = grind (arith, nat_tests);
-  no_backslash = grind (arith, nat_tests);
-  no_blank = grind (arith, nat_tests);
-  no_space = grind (arith, nat_tests);
-}
-
-pub sign_no_break : (b c d : ℕ) → is_sign b ≡ true → break_of b c d ≡ 0
-sign_no_break b c d h = let o = sign_is b h in no_break b c d o.no_cr o.no_feed o.no_c2 o.no_e2
-
-pub sign_ends_none : (x y b c : ℕ) → is_sign b ≡ true → ends_of x y b c ≡ false
-unfolding ends_of
-sign_ends_none x y b c h = grind (arith, nat_tests)
+pub sign_calm : (b : ℕ) → is_sign b ≡ true → IsCalm b
+sign_calm b h = calm_between b (grind (arith, nat_tests)) (grind (arith, nat_tests))
 
 no_mark_before : (b c d : ℕ) (first last : Bool) → c ≢ 45 → c ≢ 46
     → (first && ((((b == 45) && (c == 45)) && (d == 45)) || (((b == 46) && (c == 46)) && (d == 46)))
@@ -116,8 +93,8 @@ pub no_mark_here : (kind : ℕ) (text : List ℕ) (p : ℕ) → is_narrow kind (
     → is_document_indicator text p ≡ false
 unfolding is_document_indicator
 no_mark_here kind text p h =
-    let o = ordinary_is kind (byte text (p + 1)) (narrow_ordinary kind (byte text (p + 1)) h) in
-    no_mark_before (byte text p) (byte text (p + 1)) _ _ _ o.no_dash o.no_dot
+    let (dash, dot) = ordinary_no_sign kind (byte text (p + 1)) (narrow_ordinary kind (byte text (p + 1)) h) in
+    no_mark_before (byte text p) (byte text (p + 1)) _ _ _ dash dot
 
 -- what stands in a run
 
@@ -131,13 +108,10 @@ pub run_parts : (kind : ℕ) (text : List ℕ) (p : ℕ) → in_run kind text p 
 unfolding in_run
 run_parts kind text p h = linked_or (is_ordinary kind (byte text p)) (is_link (byte text p)) (is_narrow kind (byte text (p + 1))) h
 
-same_space : (b : ℕ) → (b == 32) ≡ true → b ≡ 32
-same_space b h = grind (arith, nat_tests)
-
 pub link_cases : (b : ℕ) → is_link b ≡ true → (b ≡ 32) ⊎ (is_sign b ≡ true)
 unfolding is_link
 link_cases b h = elim (or_cases (b == 32) (is_sign b) h) [
-  | inl e ↦ inl (same_space b e)
+  | inl e ↦ inl (eqb-true b 32 e)
   | inr s ↦ inr s
 ]
 
@@ -170,7 +144,7 @@ pub bytes_more : (text : List ℕ) (p d : ℕ)
 unfolding bytes_at
 bytes_more text p d = refl
 
-bytes_long : (text : List ℕ) (p d : ℕ) → length (bytes_at text p d) ≡ d
+pub bytes_long : (text : List ℕ) (p d : ℕ) → length (bytes_at text p d) ≡ d
 unfolding bytes_at
 bytes_long text p zero = refl
 bytes_long text p (suc d) = let more = bytes_long text (p + 1) d in omega arith
@@ -179,17 +153,19 @@ pub run_start : (kind : ℕ) (text : List ℕ) (p : ℕ)
     → IsRun kind text p (record { text = text; at = p })
 run_start kind text p = record { same = refl; after = omega arith; each = λ k h l. absurd (omega arith); last = λ l. absurd (omega arith) }
 
-pub last_or : (k n : ℕ) → k < n + 1 → (k < n) ⊎ (k ≡ n)
-last_or k n h = grind arith
-
-pub each_more : (kind : ℕ) (text : List ℕ) (p q : ℕ)
-    → ((k : ℕ) → p ≤ k → k < q → in_run kind text k ≡ true)
-    → in_run kind text q ≡ true → (k : ℕ) → p ≤ k → k < q + 1 → in_run kind text k ≡ true
-each_more kind text p q r h k a b =
-    elim (last_or k q b) [
-      | inl l ↦ r k a l
-      | inr e ↦ rw e h
+-- what holds up to a place, and behind it
+pub each_join : (test : ℕ → Bool) (p q r : ℕ) → ((k : ℕ) → p ≤ k → k < q → test k ≡ true)
+    → ((k : ℕ) → q ≤ k → k < r → test k ≡ true) → (k : ℕ) → p ≤ k → k < r → test k ≡ true
+each_join test p q r front back k after before =
+    elim (cases_lt k q) [
+      | inl less ↦ front k after less
+      | inr more ↦ back k more before
     ]
+
+-- what holds up to a place, and there
+pub each_more : (test : ℕ → Bool) (p q : ℕ) → ((k : ℕ) → p ≤ k → k < q → test k ≡ true)
+    → test q ≡ true → (k : ℕ) → p ≤ k → k < q + 1 → test k ≡ true
+each_more test p q front here = each_join test p q (q + 1) front (λ k a b. let same : k ≡ q = omega arith in rw same here)
 
 pub run_more : (kind : ℕ) (text : List ℕ) (p : ℕ) (place : Place) → IsRun kind text p place
     → is_ordinary kind (byte text place.at) ≡ true
@@ -197,10 +173,7 @@ pub run_more : (kind : ℕ) (text : List ℕ) (p : ℕ) (place : Place) → IsRu
 run_more kind text p place r h =
     let after = r.after in
     let e : place.at + 1 - 1 ≡ place.at = omega arith in
-    record { same = r.same; after = omega arith; each = each_more kind text p place.at r.each (ordinary_in kind text place.at h); last = λ l. rw e h }
-
-pub less_or : (k n : ℕ) → (k < n) ⊎ (n ≤ k)
-less_or k n = grind arith
+    record { same = r.same; after = omega arith; each = each_more (in_run kind text) p place.at r.each (ordinary_in kind text place.at h); last = λ l. rw e h }
 
 pub same_or : (p q : ℕ) → p ≤ q → (q ≡ p) ⊎ (p < q)
 same_or p q h = grind arith
@@ -213,60 +186,12 @@ run_join kind text p place last r s =
     record {
       same = s.same ∙ r.same;
       after = omega arith;
-      each = λ k a b. elim (less_or k place.at) [
-        | inl l ↦ r.each k a l
-        | inr g ↦ rw r.same at (s.each k g b)
-      ];
+      each = each_join (in_run kind text) p place.at last.at r.each (rw r.same at s.each);
       last = λ b. elim (same_or place.at last.at s.after) [
         | inl e ↦ rw e (r.last (omega arith))
         | inr l ↦ rw r.same at (s.last l)
       ];
     }
-
--- a run is inside the text
-pub run_inside : (kind : ℕ) (text : List ℕ) (p : ℕ) (place : Place) → IsRun kind text p place
-    → (place.at ≡ p) ⊎ (place.at ≤ length text)
-run_inside kind text p place r =
-    elim (same_or p place.at r.after) [
-      | inl e ↦ inl e
-      | inr l ↦
-          let last = ordinary_is kind (byte text (place.at - 1)) (r.last l) in
-          let here = within text (place.at - 1) last.some in
-          inr (omega arith)
-    ]
-
-pub run_slice : (kind : ℕ) (text : List ℕ) (p : ℕ) (place : Place) → IsRun kind text p place
-    → take (place.at - p) (drop p text) ≡ bytes_at text p (place.at - p)
-run_slice kind text p place r =
-    let after = r.after in
-    elim (run_inside kind text p place r) [
-      | inl e ↦ let z : place.at - p ≡ 0 = omega arith in rw z (sym (bytes_none text p))
-      | inr l ↦ slice_bytes text p (place.at - p) (omega arith)
-    ]
-
--- with the byte before it
-pub first_slice : (kind : ℕ) (text : List ℕ) (p : ℕ) (place : Place) → IsRun kind text (p + 1) place
-    → p < length text → take (place.at - p) (drop p text) ≡ bytes_at text p (place.at - p)
-first_slice kind text p place r h =
-    let after = r.after in
-    elim (run_inside kind text (p + 1) place r) [
-      | inl e ↦ slice_bytes text p (place.at - p) (omega arith)
-      | inr l ↦ slice_bytes text p (place.at - p) (omega arith)
-    ]
-
-pub run_none : (kind : ℕ) (text : List ℕ) (p : ℕ) (place : Place) → IsRun kind text p place
-    → length (bytes_at text p (place.at - p)) ≡ 0 → place.at ≡ p
-run_none kind text p place r h =
-    let after = r.after in
-    let l = bytes_long text p (place.at - p) in
-    omega (arith, h)
-
-pub run_some : (kind : ℕ) (text : List ℕ) (p : ℕ) (place : Place) → IsRun kind text p place
-    → 0 < length (bytes_at text p (place.at - p)) → p < place.at
-run_some kind text p place r h =
-    let after = r.after in
-    let l = bytes_long text p (place.at - p) in
-    omega (arith, h)
 
 -- the last byte of a run is no space
 
@@ -288,7 +213,7 @@ run_ends kind text p place run =
       | inr l ↦
           let d : place.at - p ≡ suc (place.at - 1 - p) = omega arith in
           let e : p + (place.at - 1 - p) ≡ place.at - 1 = omega arith in
-          rw d (ends_bytes text p (place.at - 1 - p) (rw e (ordinary_is kind _ (run.last l)).no_space))
+          rw d (ends_bytes text p (place.at - 1 - p) (rw e (calm_no_space _ (ordinary_calm kind _ (run.last l)))))
     ]
 
 -- nor that of a run with the byte before it
@@ -299,7 +224,7 @@ first_last kind text p place run h =
       | inl s ↦ let e : p + (place.at - (p + 1)) ≡ p = omega arith in rw e h
       | inr l ↦
           let e : p + (place.at - (p + 1)) ≡ place.at - 1 = omega arith in
-          rw e (ordinary_is kind _ (run.last l)).no_space
+          rw e (calm_no_space _ (ordinary_calm kind _ (run.last l)))
     ]
 
 starts_first : (b : ℕ) (bs : List ℕ) → (b == 32) ≡ false → starts_kept (b ∷ bs) ≡ true
@@ -425,65 +350,35 @@ not_quote quote b h k (inr e) = omega arith
 no_escape : (quote b : ℕ) → b ≢ 92 → (quote == 34 && b == 92) ≡ false
 no_escape quote b h = grind (arith, nat_tests)
 
-standing_ordinary : (quote : ℕ) (text : List ℕ) (p : ℕ) → (quote ≡ 34) ⊎ (quote ≡ 39)
-    → is_ordinary (quoted_kind quote) (byte text p) ≡ true
+standing_calm : (quote : ℕ) (text : List ℕ) (p : ℕ) → IsCalm (byte text p)
+    → is_document_indicator text p ≡ false → byte text p ≢ quote
+    → (quote == 34 && byte text p == 92) ≡ false
     → standing_at quote text p ≡ Pieces (piece_of (byte text p) ∷ []) (p + 1)
-standing_ordinary quote text p q h =
-    let o = ordinary_is (quoted_kind quote) (byte text p) h in
-    let some = o.some in
-    let (other, plain) = quoted_is quote (byte text p) q h in
-    rw o.no_space (standing_kept quote text p (ordinary_no_mark (quoted_kind quote) text p h) (omega arith) other (ordinary_no_break (quoted_kind quote) _ _ _ h) o.no_blank plain)
-
-pub record IsSpace (b : ℕ) : Type 0 where
-  pub same : (b == 32) ≡ true
-  pub blank : is_blank b ≡ true
-  pub no_tab : (b == 9) ≡ false
-
-pub space_is : (b : ℕ) → b ≡ 32 → IsSpace b
-space_is b h = record { same = grind (arith, nat_tests); blank = grind (arith, nat_tests); no_tab = grind (arith, nat_tests) }
+standing_calm quote text p h mark other plain =
+    rw (calm_no_space _ h) (standing_kept quote text p mark (omega (arith, h.high)) other (calm_no_break _ _ _ h) (calm_no_blank _ h) plain)
 
 space_no_mark : (text : List ℕ) (p : ℕ) → byte text p ≡ 32 → is_document_indicator text p ≡ false
 unfolding is_document_indicator
 space_no_mark text p h = no_mark (byte text p) _ _ _ _ (omega arith) (omega arith)
 
-pub space_no_break : (b c d : ℕ) → b ≡ 32 → break_of b c d ≡ 0
-space_no_break b c d h = no_break b c d (omega arith) (omega arith) (omega arith) (omega arith)
-
-standing_space : (quote : ℕ) (text : List ℕ) (p : ℕ) → (quote ≡ 34) ⊎ (quote ≡ 39)
-    → byte text p ≡ 32 → standing_at quote text p ≡ Pieces (piece_of (byte text p) ∷ []) (p + 1)
-standing_space quote text p q h =
-    let s = space_is (byte text p) h in
-    rw s.same (standing_blank quote text p (space_no_mark text p h) (omega arith) (not_quote quote (byte text p) (omega arith) (omega arith) q) (space_no_break _ _ _ h) s.blank)
-
-standing_sign : (quote : ℕ) (text : List ℕ) (p : ℕ) → (quote ≡ 34) ⊎ (quote ≡ 39)
-    → is_sign (byte text p) ≡ true → is_narrow (quoted_kind quote) (byte text (p + 1)) ≡ true
-    → standing_at quote text p ≡ Pieces (piece_of (byte text p) ∷ []) (p + 1)
-standing_sign quote text p q h n =
-    let o = sign_is (byte text p) h in
-    let some = o.some in
-    rw o.no_space (standing_kept quote text p (no_mark_here (quoted_kind quote) text p n) (omega arith) (not_quote quote (byte text p) o.no_double o.no_single q) (sign_no_break _ _ _ h) o.no_blank (no_escape quote (byte text p) o.no_backslash))
-
-standing_link : (quote : ℕ) (text : List ℕ) (p : ℕ) → (quote ≡ 34) ⊎ (quote ≡ 39)
-    → is_link (byte text p) ≡ true → is_narrow (quoted_kind quote) (byte text (p + 1)) ≡ true
-    → standing_at quote text p ≡ Pieces (piece_of (byte text p) ∷ []) (p + 1)
-standing_link quote text p q h n = elim (link_cases (byte text p) h) [
-  | inl e ↦ standing_space quote text p q e
-  | inr s ↦ standing_sign quote text p q s n
-]
+pub space_here : (b c d : ℕ) → b ≡ 32
+    → ((b == 32) ≡ true) × (is_blank b ≡ true) × (break_of b c d ≡ 0)
+space_here b c d h = (rw h refl, rw h refl, no_break b c d (omega arith) (omega arith) (omega arith) (omega arith))
 
 standing_run : (quote : ℕ) (text : List ℕ) (p : ℕ) → (quote ≡ 34) ⊎ (quote ≡ 39)
     → in_run (quoted_kind quote) text p ≡ true
     → standing_at quote text p ≡ Pieces (piece_of (byte text p) ∷ []) (p + 1)
 standing_run quote text p q h = elim (run_parts (quoted_kind quote) text p h) [
-  | inl o ↦ standing_ordinary quote text p q o
-  | inr s ↦ standing_link quote text p q s.0 s.1
+  | inl o ↦
+      let (other, plain) = quoted_is quote (byte text p) q o in
+      standing_calm quote text p (ordinary_calm _ _ o) (ordinary_no_mark (quoted_kind quote) text p o) other plain
+  | inr (l, n) ↦ elim (link_cases (byte text p) l) [
+    | inl e ↦
+        let (same, blank, none) = space_here (byte text p) (byte text (p + 1)) (byte text (p + 2)) e in
+        rw same (standing_blank quote text p (space_no_mark text p e) (omega arith) (not_quote quote (byte text p) (omega arith) (omega arith) q) none blank)
+    | inr s ↦ standing_calm quote text p (sign_calm _ s) (no_mark_here (quoted_kind quote) text p n) (not_quote quote (byte text p) (grind (arith, nat_tests)) (grind (arith, nat_tests)) q) (no_escape quote (byte text p) (grind (arith, nat_tests)))
+  ]
 ]
-
-pieces_one : (n quote : ℕ) (text : List ℕ) (p : ℕ) (x : Piece)
-    → standing_at quote text p ≡ Pieces (x ∷ []) (p + 1)
-    → pieces (suc n) quote text p ≡ with_front (x ∷ []) (pieces n quote text (p + 1))
-unfolding pieces
-pieces_one n quote text p x h = rw h refl
 
 front_none : (r : Result (List Piece × ℕ) Wrong) → r ≡ with_front [] r
 front_none (Ok x) = refl
@@ -494,41 +389,24 @@ front_more : (x : Piece) (qs : List Piece) (r : Result (List Piece × ℕ) Wrong
 front_more x qs (Ok y) = refl
 front_more x qs (Err w) = refl
 
-pub pieces_run : (d n quote : ℕ) (text : List ℕ) (p : ℕ) → (quote ≡ 34) ⊎ (quote ≡ 39) → d ≤ n
+pub pieces_run : (d quote : ℕ) (text : List ℕ) (p : ℕ) → (quote ≡ 34) ⊎ (quote ≡ 39)
     → ((k : ℕ) → p ≤ k → k < p + d → in_run (quoted_kind quote) text k ≡ true)
-    → pieces (suc n) quote text p ≡ with_front (run_pieces (bytes_at text p d))
-    (pieces (suc (n - d)) quote text (p + d))
-pieces_run zero n quote text p q h o =
-    let e : n - 0 ≡ n = omega arith in
+    → pieces_on quote text p
+    ≡ with_front (run_pieces (bytes_at text p d)) (pieces_on quote text (p + d))
+pieces_run zero quote text p q o =
     let f : p + 0 ≡ p = omega arith in
-    rw (e, f, bytes_none text p) (front_none (pieces (suc n) quote text p))
-pieces_run (suc d) zero quote text p q h o = absurd (omega arith)
-pieces_run (suc d) (suc n) quote text p q h o =
-    let e : suc n - suc d ≡ n - d = omega arith in
+    rw (f, bytes_none text p) (front_none (pieces_on quote text p))
+pieces_run (suc d) quote text p q o =
     let f : p + suc d ≡ p + 1 + d = omega arith in
-    let here = standing_run quote text p q (o p (omega arith) (omega arith)) in
-    let more = pieces_run d n quote text (p + 1) q (omega arith) (λ k a b. o k (omega arith) (omega arith)) in
-    rw (e, f, bytes_more text p d) (pieces_one (suc n) quote text p (piece_of (byte text p)) here ∙ ap (λ r. with_front (piece_of (byte text p) ∷ []) r) more
-    ∙ front_more (piece_of (byte text p)) (run_pieces (bytes_at text (p + 1) d)) (pieces (suc (n - d)) quote text (p + 1 + d)))
+    let x = piece_of (byte text p) in
+    let here = rw (standing_run quote text p q (o p (omega arith) (omega arith))) at (pieces_here quote text p) in
+    let more = pieces_run d quote text (p + 1) q (λ k a b. o k (omega arith) (omega arith)) in
+    rw (f, bytes_more text p d) (here ∙ ap (λ r. with_front (x ∷ []) r) more ∙ front_more x (run_pieces (bytes_at text (p + 1) d)) (pieces_on quote text (p + 1 + d)))
 
-pub few : (kind : ℕ) (text : List ℕ) (p n : ℕ) (place : Place) → IsRun kind text p place
-    → length text ≤ p + n
-    → place.at - p ≤ n
-few kind text p n place run room =
-    let after = run.after in
-    elim (run_inside kind text p place run) [
-      | inl e ↦ omega arith
-      | inr l ↦ omega arith
-    ]
-
-pub quoted_run : (n quote : ℕ) (text : List ℕ) (p : ℕ) (old new : List Piece → List ℕ)
+pub quoted_run : (quote : ℕ) (text : List ℕ) (p : ℕ) (old new : List Piece → List ℕ)
     (place : Place) → (quote ≡ 34) ⊎ (quote ≡ 39) → TookRun (quoted_kind quote) text p old new place
-    → length text ≤ p + n
-    → (m : ℕ) × (length text ≤ place.at + m)
-    × (valued old (pieces (suc n) quote text p) ≡ valued new (pieces (suc m) quote text place.at))
-quoted_run n quote text p old new place q (run, same) room =
-    let after = run.after in
-    let d : place.at - p ≤ n = few (quoted_kind quote) text p n place run room in
-    let at : p + (place.at - p) ≡ place.at = omega arith in
-    let all = pieces_run (place.at - p) n quote text p q d (λ k a b. run.each k a (omega arith)) in
-    (n - (place.at - p), omega arith, rw at at (ap (λ r. valued old r) all ∙ front old new (run_pieces (bytes_at text p (place.at - p))) (pieces (suc (n - (place.at - p))) quote text (p + (place.at - p))) same))
+    → valued old (pieces_on quote text p) ≡ valued new (pieces_on quote text place.at)
+quoted_run quote text p old new place q (run, same) =
+    let at : p + (place.at - p) ≡ place.at = omega (arith, run.after) in
+    let all = rw at at (pieces_run (place.at - p) quote text p q (λ k a b. run.each k a (rw at at b))) in
+    ap (λ r. valued old r) all ∙ front old new (run_pieces (bytes_at text p (place.at - p))) (pieces_on quote text place.at) same

@@ -1,26 +1,7 @@
 -- The table of ordinary bytes, and the marks behind a run of them.
 use Rattle.std.proofs.Common.{◌≡◌, ℕ, zero, suc, ◌+◌, ◌<◌, ◌≤◌, if◌then◌else◌, Bool, true, false, ◌&&◌, ◌||◌, ◌-◌, ◌∙◌, List, length, nat_lt, refl, sym, inl, inr, arith}
-use Rattle.yaml_scan_scalars.proofs.Words.{nat_tests, cases_Bool, cases_eq, cases_lt, and_parts, true≢false, or_cases, or_parts, byte, break_of, ends_break, splits_break, starts, line_at, column_at, within, end_next, split_next, line_more, column_more, column_same, is_ordinary, is_common, is_narrow, is_odd, parts_flow, is_link, is_linked, in_run, IsRun}
-use Rattle.std.specs.Bool.{beq}
-use Rattle.yaml_scan_scalars.proofs.RunLemmas.{common_ordinary, narrow_ordinary, ordinary_is, ordinary_no_break, space_no_break, sign_is, sign_no_break, link_cases, ordinary_in, linked_in, run_parts, last_or, less_or}
-
--- the two tests agree below n
-unfoldable pub agree_below : (ℕ → Bool) → (ℕ → Bool) → ℕ → Bool
-agree_below f g zero = true
-agree_below f g (suc n) = beq (f n) (g n) && agree_below f g n
-
-both_of : (x y rest : Bool) → (beq x y && rest) ≡ true → (x ≡ y) × (rest ≡ true)
-both_of true true rest h = (refl, h)
-both_of true false rest h = cc
-both_of false true rest h = cc
-both_of false false rest h = (refl, h)
-
-pub agree_at : (f g : ℕ → Bool) (n : ℕ) → agree_below f g n ≡ true → (b : ℕ) → b < n → f b ≡ g b
-unfolding agree_below
-agree_at f g zero h b lt = absurd (omega arith)
-agree_at f g (suc n) h b lt =
-    let both = both_of (f n) (g n) (agree_below f g n) h in
-    elim (cases_eq b n) [ inl same ↦ rw same both.0 | inr other ↦ agree_at f g n both.1 b (omega arith) ]
+use Rattle.yaml_scan_scalars.proofs.Words.{nat_tests, cases_Bool, cases_lt, and_parts, true≢false, or_cases, or_parts, byte, break_of, ends_break, splits_break, starts, line_at, column_at, within, end_next, split_next, line_more, column_more, column_same, is_ordinary, is_common, is_narrow, is_odd, parts_flow, is_link, is_linked, in_run, IsRun}
+use Rattle.yaml_scan_scalars.proofs.RunLemmas.{calm_no_break, common_ordinary, narrow_ordinary, ordinary_calm, space_here, sign_calm, link_cases, ordinary_in, linked_in, run_parts, each_join}
 
 column_behind : (text : List ℕ) (p : ℕ) → ends_break text p ≡ false
     → column_at text (p + 1) ≡ column_at text p + (if starts (byte text p) then 1 else 0)
@@ -45,15 +26,24 @@ behind_none text p none whole =
 
 pub behind : (text : List ℕ) (p : ℕ) → is_common (byte text p) ≡ true
     → splits_break text p ≡ false → Behind text p
-behind text p o whole = behind_none text p (ordinary_no_break 1 (byte text p) (byte text (p + 1)) (byte text (p + 2)) (common_ordinary 1 (byte text p) o)) whole
+behind text p o whole = behind_none text p (calm_no_break _ _ _ (ordinary_calm 1 _ (common_ordinary 1 (byte text p) o))) whole
+
+-- a byte of a test that 0 isn't of stands within the text
+beyond : (test : ℕ → Bool) (text : List ℕ) (p : ℕ) → test 0 ≡ false → length text ≤ p
+    → test (byte text p) ≡ false
+beyond test text p none h =
+    elim (cases_lt 0 (byte text p)) [
+      | inl some ↦ let inside = within text p some in absurd (omega arith)
+      | inr end ↦ let z : byte text p ≡ 0 = omega arith in rw z none
+    ]
 
 -- behind the end
 pub past_common : (text : List ℕ) (p : ℕ) → length text ≤ p → is_common (byte text p) ≡ false
-past_common text p h =
-    elim (cases_lt 0 (byte text p)) [
-      | inl some ↦ let inside = within text p some in absurd (omega arith)
-      | inr none ↦ let z : byte text p ≡ 0 = omega arith in rw z (unfold is_common is_narrow is_odd parts_flow in refl)
-    ]
+unfolding is_common is_narrow is_odd parts_flow
+past_common text p h = beyond is_common text p refl h
+
+pub common_inside : (text : List ℕ) (p : ℕ) → is_common (byte text p) ≡ true → p < length text
+common_inside text p h = within text p (omega (arith, (ordinary_calm 1 _ (common_ordinary 1 _ h)).high))
 
 -- an ordinary byte of ASCII
 
@@ -63,11 +53,8 @@ narrow_low kind b h = grind (arith, nat_tests)
 
 pub past_narrow : (kind : ℕ) (text : List ℕ) (p : ℕ) → length text ≤ p
     → is_narrow kind (byte text p) ≡ false
-past_narrow kind text p h =
-    elim (cases_lt 0 (byte text p)) [
-      | inl some ↦ let inside = within text p some in absurd (omega arith)
-      | inr none ↦ let z : byte text p ≡ 0 = omega arith in rw z (unfold is_narrow in refl)
-    ]
+unfolding is_narrow
+past_narrow kind text p h = beyond (is_narrow kind) text p refl h
 
 pub one_at_most : (b : Bool) → (if b then 1 else 0) ≤ 1
 one_at_most true = omega arith
@@ -76,11 +63,8 @@ one_at_most false = omega arith
 -- behind the end none of them stands
 pub past_linked : (kind : ℕ) (text : List ℕ) (p : ℕ) → length text ≤ p
     → is_linked kind text p ≡ false
-past_linked kind text p h =
-    elim (cases_lt 0 (byte text p)) [
-      | inl some ↦ let inside = within text p some in absurd (omega arith)
-      | inr none ↦ let z : byte text p ≡ 0 = omega arith in rw z (unfold is_link in refl)
-    ]
+unfolding is_link
+past_linked kind text p h = beyond (λ b. is_link b && is_narrow kind (byte text (p + 1))) text p refl h
 
 -- a byte of ASCII in a run
 pub record Passes (kind : ℕ) (text : List ℕ) (p : ℕ) : Type 0 where
@@ -93,15 +77,16 @@ passes_narrow : (kind : ℕ) (text : List ℕ) (p : ℕ) → is_narrow kind (byt
     → Passes kind text p
 passes_narrow kind text p h =
     let n = narrow_ordinary kind (byte text p) h in
-    record { each = ordinary_in kind text p n; some = (ordinary_is kind (byte text p) n).some; low = narrow_low kind (byte text p) h; none = ordinary_no_break kind _ _ _ n }
+    let calm = ordinary_calm kind (byte text p) n in
+    record { each = ordinary_in kind text p n; some = omega (arith, calm.high); low = narrow_low kind (byte text p) h; none = calm_no_break _ _ _ calm }
 
 passes_link : (kind : ℕ) (text : List ℕ) (p : ℕ) → is_linked kind text p ≡ true → Passes kind text p
 passes_link kind text p h =
     elim (link_cases (byte text p) (and_parts (is_link (byte text p)) (is_narrow kind (byte text (p + 1))) h).0) [
-      | inl e ↦ record { each = linked_in kind text p h; some = omega arith; low = rw e refl; none = space_no_break _ _ _ e }
+      | inl e ↦ record { each = linked_in kind text p h; some = omega arith; low = rw e refl; none = (space_here _ _ _ e).2 }
       | inr s ↦
-          let o = sign_is (byte text p) s in
-          record { each = linked_in kind text p h; some = o.some; low = o.low; none = sign_no_break _ _ _ s }
+          let calm = sign_calm (byte text p) s in
+          record { each = linked_in kind text p h; some = omega (arith, calm.high); low = grind (arith, nat_tests); none = calm_no_break _ _ _ calm }
     ]
 
 pub passes : (kind : ℕ) (text : List ℕ) (p : ℕ)
@@ -133,18 +118,6 @@ run_of kind text p q after each stops = record {
   last = λ l. last_ordinary kind text q (omega arith) (each (q - 1) (omega arith) (omega arith)) (or_parts _ _ stops).0;
 }
 
--- narrow bytes, one after another
-
-pub narrow_more : (kind : ℕ) (text : List ℕ) (p q : ℕ)
-    → ((k : ℕ) → p ≤ k → k < q → is_narrow kind (byte text k) ≡ true)
-    → is_narrow kind (byte text q) ≡ true
-    → (k : ℕ) → p ≤ k → k < q + 1 → is_narrow kind (byte text k) ≡ true
-narrow_more kind text p q r h k a b =
-    elim (last_or k q b) [
-      | inl l ↦ r k a l
-      | inr e ↦ rw e h
-    ]
-
 -- what the mark is behind them
 pub record Spanned (text : List ℕ) (p q : ℕ) : Type 0 where
   pub line : line_at text q ≡ line_at text p
@@ -174,8 +147,4 @@ pub each_past : (kind : ℕ) (text : List ℕ) (p q r : ℕ)
     → ((k : ℕ) → p ≤ k → k < q → in_run kind text k ≡ true)
     → ((k : ℕ) → q ≤ k → k < r → is_narrow kind (byte text k) ≡ true)
     → (k : ℕ) → p ≤ k → k < r → in_run kind text k ≡ true
-each_past kind text p q r h n k a b =
-    elim (less_or k q) [
-      | inl l ↦ h k a l
-      | inr m ↦ (passes_narrow kind text k (n k m b)).each
-    ]
+each_past kind text p q r h n = each_join (in_run kind text) p q r h (λ k a b. (passes_narrow kind text k (n k a b)).each)

@@ -1,5 +1,5 @@
 -- The words of the definitions, and the lemmas on them from below, that the files of lemmas share.
-pub use Rattle.std.proofs.lemmas.Bool.{eq-eqb, and_parts, cases_Bool, cases_eq, cases_lt, le-ltb, lt-ltb, ltb-true, ne_eqb, not-true, or_cases, or_parts, or_right, true≢false}
+pub use Rattle.std.proofs.lemmas.Bool.{agree_below, agree_below_at, eq-eqb, eqb-false, eqb-true, and_parts, cases_Bool, cases_lt, cond_both, false_from_ne_true, le-ltb, lt-ltb, ltb-true, ne_eqb, not-true, or_cases, or_from, or_parts, or_right, true≢false}
 pub use Rattle.std.proofs.lemmas.Bool.Decides.{nat_tests}
 pub use Rattle.std.proofs.lemmas.List.{append-nil, drop_more, take_all}
 pub use Rattle.std.proofs.lemmas.Result.{err_from_is_err_and}
@@ -15,7 +15,7 @@ unfoldable pub use Rattle.yaml_scan_model.specs.Runs.{past}
 pub use Rattle.yaml_scan_model.specs.Wrong.{IsMemory, Wrong}
 pub use Rattle.yaml_scan_model.specs.declared.problem.ScanError.{ScanError}
 pub use Rattle.yaml_scan_model.specs.declared.record.yaml_mark_t.{yaml_mark_t}
-pub use Rattle.yaml_scan_scalars.specs.Joined.{IsJoining, ReadsPlain, Steps, TookFirst, TookWords}
+pub use Rattle.yaml_scan_scalars.specs.Joined.{IsJoining, ReadsPlain, Steps, TookWords}
 unfoldable pub use Rattle.yaml_scan_scalars.specs.Joined.{joined}
 pub use Rattle.yaml_scan_scalars.specs.Ordinary.{IsRun, TookRun, ends_kept, is_linked, is_kind, is_ordinary, is_sign, plain_kind, piece_of, quoted_kind, run_pieces, starts_kept}
 unfoldable pub use Rattle.yaml_scan_scalars.specs.Ordinary.{bytes_at, in_run, is_common, is_link, is_narrow, is_odd, parts_flow}

@@ -5,9 +5,9 @@ use Rattle.yaml_scan_scalars.specs.declared.joining.Joining.{Joining}
 use Rattle.yaml_scan_scalars.specs.declared.scalar.PlainScalar.{PlainScalar}
 use Rattle.yaml_scan_model.specs.declared.record.yaml_mark_t.{yaml_mark_t}
 use Rattle.yaml_scan_model.specs.declared.problem.ScanError.{ScanError}
-use Rattle.yaml_scan_model.specs.Marks.{Place, mark_at}
-use Rattle.yaml_scan_scalars.specs.Plain.{PlainSpot, Ends, Takes, Faulty, Words, is_nothing, with_piece, with_run, plain_text, PlainText, after_white, leads}
-use Rattle.yaml_scan_scalars.specs.Ordinary.{IsRun}
+use Rattle.yaml_scan_model.specs.Marks.{Place, byte, ends_break, is_blank, mark_at}
+use Rattle.yaml_scan_scalars.specs.Plain.{PlainSpot, Ends, Takes, Faulty, Words, is_nothing, with_piece, with_run, PlainText, after_white, leads}
+use Rattle.yaml_scan_scalars.specs.Ordinary.{IsRun, bytes_at, plain_kind}
 use Rattle.yaml_scan_scalars.specs.Resume.{resume}
 use Rattle.yaml_scan_model.specs.Wrong.{Wrong, Refuses, IsMemory}
 
@@ -54,12 +54,15 @@ pub record TookWords (kind : ℕ) (text : List ℕ) (p : ℕ) (old new : Joining
   pub value : (w : Words) → joined new w ≡ joined old (with_run text p (place.at - p) w)
   pub seat : IsJoining text place.at new
 
--- a scalar's first character and the run behind it are taken
-pub record TookFirst (kind : ℕ) (text : List ℕ) (p : ℕ) (new : Joining) (place : Place)
-    : Type 0 where
-  pub run : IsRun kind text (p + 1) place
-  pub value : (w : Words) → joined new w ≡ plain_text (with_run text p (place.at - p) w)
-  pub seat : IsJoining text place.at new
+-- of the scalar that starts at the mark the first character and the run behind it were taken, of those bytes
+pub record RanPlain (flow : Bool) (start : yaml_mark_t) (bytes : List ℕ) (place : Place) : Type 0
+  where
+    pub inside : start.index < length place.text
+    pub own : start ≡ mark_at place.text start.index
+    pub no_blank : is_blank (byte place.text start.index) ≡ false
+    pub no_end : ends_break place.text start.index ≡ false
+    pub run : IsRun (plain_kind flow) place.text (start.index + 1) place
+    pub are : bytes ≡ bytes_at place.text start.index (place.at - start.index)
 
 pub record IsPlain (text : List ℕ) (start : ℕ) (s : PlainScalar) (x : PlainText) : Type 0 where
   pub value : s.value.items ≡ x.value

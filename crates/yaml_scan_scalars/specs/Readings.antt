@@ -1,10 +1,11 @@
 -- What reading a quoted scalar answers.
 use Rattle.std.specs.Global.{Vec}
-use Rattle.std.specs.Prelude.{ℕ, ◌+◌, ◌<◌, ◌≡◌, Bool, true, false, List, ◌++◌, length, Result, Ok, Err}
+use Rattle.std.specs.Prelude.{ℕ, ◌+◌, ◌-◌, ◌<◌, ◌≡◌, Bool, true, false, List, ◌++◌, length, Result, Ok, Err}
 use Rattle.yaml_scan_model.specs.declared.record.yaml_mark_t.{yaml_mark_t}
 use Rattle.yaml_scan_model.specs.declared.problem.ScanError.{ScanError}
 use Rattle.yaml_scan_model.specs.Marks.{Place, mark_at}
 use Rattle.yaml_scan_model.specs.Wrong.{Wrong, Refuses, IsMemory}
+use Rattle.yaml_scan_scalars.specs.Ordinary.{IsRun, bytes_at, quoted_kind}
 use Rattle.yaml_scan_scalars.specs.Pieces.{Piece}
 use Rattle.yaml_scan_scalars.specs.Quoted.{QuotedSpot, Closing, Pieces, Bad}
 
@@ -22,6 +23,14 @@ Took text start p old new place (Ok false) (Bad w) = ⊥
 Took text start p old new place (Err e) (Bad w) = Refuses text start e w
 Took text start p old new place (Err e) (Pieces qs q) = IsMemory e
 Took text start p old new place (Err e) Closing = ⊥
+
+-- of the scalar between quotes that starts at the mark the first run was taken, of those bytes
+pub record RanQuoted (quote : ℕ) (start : yaml_mark_t) (bytes : List ℕ) (place : Place) : Type 0
+  where
+    pub inside : start.index < length place.text
+    pub own : start ≡ mark_at place.text start.index
+    pub run : IsRun (quoted_kind quote) place.text (start.index + 1) place
+    pub are : bytes ≡ bytes_at place.text (start.index + 1) (place.at - (start.index + 1))
 
 -- What reading a scalar answers, and where it leaves the reader: the value and the place after it, what is wrong, or
 -- that memory ran out.

@@ -5,7 +5,7 @@ ghost use Rattle.yaml_scan_model.specs.Ascii as ascii;
 ghost use Rattle.yaml_scan_model.specs.Spares.{HoldsAt};
 ghost use Rattle.yaml_scan_model.specs.Marks.{byte, break_width, ends_break, is_blank, is_blank_or_end, mark_at};
 ghost use Rattle.yaml_scan_scalars.specs.Plain as spec;
-ghost use Rattle.yaml_scan_scalars.specs.Joined.{IsJoining, Steps, ReadsPlain, TookWords};
+ghost use Rattle.yaml_scan_scalars.specs.Joined.{IsJoining, RanPlain, Steps, ReadsPlain, TookWords};
 ghost use Rattle.yaml_scan_scalars.specs.Ordinary.{IsRun, bytes_at, is_kind, plain_kind};
 
 use crate::joining::Joining;
@@ -133,8 +133,8 @@ fn one_run(
 #[inline(always)]
 fn passes_line(reader: &mut Reader, level: u64) -> bool
     ensures same { reader.new.text ≡ reader.old.text }
-    ensures ends { result ≡ true → (n : ℕ) → length reader.old.text ≤ reader.old.at + n
-        → spec.words (suc n) false level reader.old.text reader.old.at
+    ensures ends { result ≡ true
+        → spec.words (suc (length reader.old.text)) false level reader.old.text reader.old.at
         ≡ Ok (record { pieces = []; end = reader.new.at; place = reader.new.at; broke = true }) }
 {
     if reader.here() != b'\n' {
@@ -221,13 +221,7 @@ fn many_runs(
     flow: bool,
     level: u64,
 ) -> Result<PlainScalar, ScanError>
-    requires inside { start.index < length reader.old.text }
-    requires start { start ≡ mark_at reader.old.text start.index }
-    requires no_blank { is_blank (byte reader.old.text start.index) ≡ false }
-    requires no_end { ends_break reader.old.text start.index ≡ false }
-    requires run { IsRun (plain_kind flow) reader.old.text (start.index + 1) reader.old }
-    requires bytes { bytes.now ≡ bytes_at reader.old.text start.index
-        (reader.old.at - start.index) }
+    requires { RanPlain flow start bytes.now reader.old }
     ensures { ReadsPlain reader.old.text start.index reader.new result
         (spec.plain_at flow level reader.old.text start.index) }
 {
@@ -254,13 +248,7 @@ fn join_runs(
     flow: bool,
     level: u64,
 ) -> Result<PlainScalar, ScanError>
-    requires inside { start.index < length reader.old.text }
-    requires start { start ≡ mark_at reader.old.text start.index }
-    requires no_blank { is_blank (byte reader.old.text start.index) ≡ false }
-    requires no_end { ends_break reader.old.text start.index ≡ false }
-    requires run { IsRun (plain_kind flow) reader.old.text (start.index + 1) reader.old }
-    requires bytes { bytes.now ≡ bytes_at reader.old.text start.index
-        (reader.old.at - start.index) }
+    requires { RanPlain flow start bytes.now reader.old }
     ensures { ReadsPlain reader.old.text start.index reader.new result
         (spec.plain_at flow level reader.old.text start.index) }
 {
@@ -300,6 +288,7 @@ fn keep_run(kind: u8, reader: &mut Reader, joining: &mut Joining) -> Result<(), 
 }
 
 /// Takes what stands here, and answers whether it belongs to the scalar.
+#[tactic(auto, unfolding(crate::specs::Plain::spot_at))]
 fn piece(
     reader: &mut Reader,
     joining: &mut Joining,

@@ -7,8 +7,8 @@ ghost use Rattle.yaml_scan_model.specs.Marks.{byte, mark_at};
 ghost use Rattle.yaml_scan_model.specs.declared.record.yaml_mark_t.{yaml_mark_t};
 ghost use Rattle.yaml_scan_scalars.specs.Quoted as spec;
 ghost use Rattle.yaml_scan_scalars.specs.declared.folding.Gap.TheVariants as gaps;
-ghost use Rattle.yaml_scan_scalars.specs.Readings.{Took, Reads};
-ghost use Rattle.yaml_scan_scalars.specs.Ordinary.{IsRun, TookRun, bytes_at, ends_kept, is_kind, quoted_kind, run_pieces, starts_kept};
+ghost use Rattle.yaml_scan_scalars.specs.Readings.{RanQuoted, Took, Reads};
+ghost use Rattle.yaml_scan_scalars.specs.Ordinary.{TookRun, ends_kept, is_kind, quoted_kind, run_pieces, starts_kept};
 ghost use Rattle.yaml_scan_scalars.specs.Pieces.{Piece};
 ghost use Rattle.yaml_scan_scalars.specs.Resume.{resume};
 
@@ -123,11 +123,7 @@ fn many_runs(
     quote: u8,
 ) -> Result<Vec<u8>, ScanError>
     requires quote { (quote ≡ ascii.quote) ⊎ (quote ≡ ascii.apostrophe) }
-    requires inside { start.index < length reader.old.text }
-    requires start { start ≡ mark_at reader.old.text start.index }
-    requires run { IsRun (quoted_kind quote) reader.old.text (start.index + 1) reader.old }
-    requires bytes { bytes.now ≡ bytes_at reader.old.text (start.index + 1)
-        (reader.old.at - (start.index + 1)) }
+    requires ran { RanQuoted quote start bytes.now reader.old }
     ensures { Reads reader.old.text start.index reader.new result
         (spec.quoted_at quote reader.old.text start.index) }
 {
@@ -153,11 +149,7 @@ fn fold_runs(
     quote: u8,
 ) -> Result<Vec<u8>, ScanError>
     requires quote { (quote ≡ ascii.quote) ⊎ (quote ≡ ascii.apostrophe) }
-    requires inside { start.index < length reader.old.text }
-    requires start { start ≡ mark_at reader.old.text start.index }
-    requires run { IsRun (quoted_kind quote) reader.old.text (start.index + 1) reader.old }
-    requires bytes { bytes.now ≡ bytes_at reader.old.text (start.index + 1)
-        (reader.old.at - (start.index + 1)) }
+    requires ran { RanQuoted quote start bytes.now reader.old }
     ensures { Reads reader.old.text start.index reader.new result
         (spec.quoted_at quote reader.old.text start.index) }
 {
@@ -209,6 +201,7 @@ fn keep_some(folding: &mut Folding, bytes: &[u8]) -> Result<(), AllocError>
 }
 
 /// Takes what stands here, and answers whether more follows.
+#[tactic(auto, unfolding(crate::specs::Quoted::standing_at))]
 fn piece(
     reader: &mut Reader,
     folding: &mut Folding,

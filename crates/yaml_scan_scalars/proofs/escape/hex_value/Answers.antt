@@ -1,6 +1,6 @@
 use Rattle.std.proofs.Common.{refl, arith, ◌∙◌, sym, ◌≡◌, ◌+◌, None, Some}
 use Rattle.yaml_scan_scalars.proofs.Words.{hex_digit, byte}
-use Rattle.yaml_scan_scalars.proofs.EscapeLemmas.{hex_more, hex_refused, hex_room, hex_limit-more}
+use Rattle.yaml_scan_scalars.proofs.EscapeLemmas.{hex_more, hex_refused, power-room, power-more}
 use Rattle.yaml_scan_scalars.proofs.escape.hex_value.Goals as goal
 use Rattle.yaml_scan_scalars.proofs.Digits.{none_read}
 
@@ -17,11 +17,11 @@ returns-in_err-digit-clause-value c =
 
 pub overflow_mul-value : goal.overflow_mul-value
 overflow_mul-value c =
-    omega (arith, hex_room c.loop-k.k (omega arith), c.loop-k.invariant.small)
+    omega (arith, power-room c.loop-k.k (omega arith), c.loop-k.invariant.small)
 
 pub overflow_add-value : goal.overflow_add-value
 overflow_add-value c =
-    let room = hex_room c.loop-k.k (omega arith) in
+    let room = power-room c.loop-k.k (omega arith) in
     omega (arith, room, c.loop-k.invariant.small, c.in_ok-digit.ensures.small)
 
 pub loop-k-preserved : goal.loop-k-preserved
@@ -32,5 +32,5 @@ loop-k-preserved c =
     record {
       place = c.skip.ensures ∙ rw (c.loop-k.invariant.place, y) refl;
       spelled = hex_more _ _ _ _ _ c.loop-k.invariant.spelled d;
-      small = rw (hex_limit-more c.loop-k.k) (omega (arith, c.loop-k.invariant.small, c.in_ok-digit.ensures.small));
+      small = rw (power-more c.loop-k.k) (omega (arith, c.loop-k.invariant.small, c.in_ok-digit.ensures.small));
     }

@@ -7,7 +7,7 @@ pub pass_feed-requires : goal.pass_feed-requires
 pass_feed-requires c = sym c.here.ensures ∙ omega arith
 
 pub returns-then-begins_word-clause-ends : goal.returns-then-begins_word-clause-ends
-returns-then-begins_word-clause-ends c = λ less n room.
+returns-then-begins_word-clause-ends c = λ less.
     let text = c.args.reader.now.text in
     let p = c.args.reader.now.at in
     let q : ℕ = c.skip_spaces.new.reader.at in
@@ -19,4 +19,4 @@ returns-then-begins_word-clause-ends c = λ less n room.
     let high : byte text q < 128 = rw here at (c.begins_word.ensures.high c.if-begins_word.true) in
     let column : c.mark.result.column ≡ column_at text q = rw held at (ap (λ (m : yaml_mark_t). m.column) c.mark.ensures) in
     let before : column_at text q < c.args.level = rw column at (ltb-true _ _ less) in
-    line_ends c.args.level text p q (sym c.here.ensures ∙ omega arith) e low high before n room
+    line_ends c.args.level text p q (sym c.here.ensures ∙ omega arith) e low high before

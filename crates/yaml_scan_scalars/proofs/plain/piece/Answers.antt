@@ -1,6 +1,6 @@
 use Rattle.std.proofs.Common.{refl, arith, ◌∙◌, sym, ◌≡◌, ◌+◌, ◌<◌, ◌==◌, ◌&&◌, true, false, nat_lt, ◌||◌}
-use Rattle.yaml_scan_scalars.proofs.Words.{true≢false, err_from_is_err_and, byte, break_width, is_blank, column_at, feed_some, value_long, leads, ends_at, is_bracket, within}
-use Rattle.yaml_scan_scalars.proofs.PlainLemmas.{blank_inside, lead_text, spot_break, spot_blank, spot_tab, spot_ends, spot_colon, spot_kept, not_ended, lead_break, leads-blank, white-blank}
+use Rattle.yaml_scan_scalars.proofs.Words.{true≢false, byte, break_width, is_blank, column_at, feed_some, value_long, leads, ends_at, is_bracket, within}
+use Rattle.yaml_scan_scalars.proofs.PlainLemmas.{blank_inside, lead_text, spot_break, spot_blank, spot_kept, not_ended, lead_break, leads-blank, white-blank}
 use Rattle.yaml_scan_scalars.proofs.plain.piece.Goals as goal
 
 pub break_line-requires-clause-some : goal.break_line-requires-clause-some
@@ -10,14 +10,6 @@ break_line-requires-clause-some c =
     let some : 0 < break_width text p = omega (arith, c.break_here.ensures.value, c.if-break_here-gt0.true) in
     let v = value_long text p in
     rw (c.feed.ensures, feed_some text p some) v
-
-pub returns-in_err-break_line : goal.returns-in_err-break_line
-returns-in_err-break_line c =
-    let text = c.args.reader.now.text in
-    let p = c.args.reader.now.at in
-    let some : 0 < break_width text p = omega (arith, c.break_here.ensures.value, c.if-break_here-gt0.true) in
-    let e = err_from_is_err_and c.from_residual.result c.from_residual.ensures.1 in
-    rw (e.1, e.2, spot_break c.args.flow c.args.level text p some) tt
 
 pub returns-then-break_here-gt0 : goal.returns-then-break_here-gt0
 returns-then-break_here-gt0 c =
@@ -39,28 +31,6 @@ returns-then-break_here-gt0 c =
       seat.further,
       seat.inside,
     )
-
-pub returns-then-is_bad_tab : goal.returns-then-is_bad_tab
-returns-then-is_bad_tab c =
-    let text = c.args.reader.now.text in
-    let p = c.args.reader.now.at in
-    let b : c.here-byte.result ≡ byte text p = c.here-byte.ensures in
-    let z : break_width text p ≡ 0 = omega (arith, c.break_here.ensures.value, c.if-break_here-gt0.false) in
-    let k : is_blank (byte text p) ≡ true = rw b at (sym c.is_blank.ensures ∙ c.if-is_blank.true) in
-    let t : (byte text p == 9 && (leads text p && nat_lt (column_at text p) c.args.level)) ≡ true = rw (b, c.requires.broke, c.mark.ensures) at (sym c.is_bad_tab.ensures ∙ c.if-is_bad_tab.true) in
-    let m = c.mark-then-is_bad_tab.ensures in
-    rw (spot_tab c.args.flow c.args.level text p z k t, c.wrong_plain.ensures, m) refl
-
-pub returns-in_err-blank : goal.returns-in_err-blank
-returns-in_err-blank c =
-    let text = c.args.reader.now.text in
-    let p = c.args.reader.now.at in
-    let b : c.here-byte.result ≡ byte text p = c.here-byte.ensures in
-    let z : break_width text p ≡ 0 = omega (arith, c.break_here.ensures.value, c.if-break_here-gt0.false) in
-    let k : is_blank (byte text p) ≡ true = rw b at (sym c.is_blank.ensures ∙ c.if-is_blank.true) in
-    let t : (byte text p == 9 && (leads text p && nat_lt (column_at text p) c.args.level)) ≡ false = rw (b, c.requires.broke, c.mark.ensures) at (sym c.is_bad_tab.ensures ∙ c.if-is_bad_tab.false) in
-    let e = err_from_is_err_and c.from_residual-in_err-blank.result c.from_residual-in_err-blank.ensures.1 in
-    rw (e.1, e.2, spot_blank c.args.flow c.args.level text p z k t) tt
 
 pub returns-then-is_blank : goal.returns-then-is_blank
 returns-then-is_blank c =
@@ -85,44 +55,11 @@ returns-then-is_blank c =
       blank_inside text p k,
     )
 
-pub returns-then-ends : goal.returns-then-ends
-returns-then-ends c =
-    let text = c.args.reader.now.text in
-    let p = c.args.reader.now.at in
-    let b : c.here-byte.result ≡ byte text p = c.here-byte.ensures in
-    let z : break_width text p ≡ 0 = omega (arith, c.break_here.ensures.value, c.if-break_here-gt0.false) in
-    let k : is_blank (byte text p) ≡ false = rw b at (sym c.is_blank.ensures ∙ c.if-is_blank.false) in
-    let n : ends_at c.args.flow c.args.level text p ≡ true = sym c.ends.ensures ∙ c.if-ends.true in
-    rw (spot_ends c.args.flow c.args.level text p z k n) (refl, refl)
-
-pub returns-then-is_bad_colon : goal.returns-then-is_bad_colon
-returns-then-is_bad_colon c =
-    let text = c.args.reader.now.text in
-    let p = c.args.reader.now.at in
-    let b : c.here-byte.result ≡ byte text p = c.here-byte.ensures in
-    let z : break_width text p ≡ 0 = omega (arith, c.break_here.ensures.value, c.if-break_here-gt0.false) in
-    let k : is_blank (byte text p) ≡ false = rw b at (sym c.is_blank.ensures ∙ c.if-is_blank.false) in
-    let n : ends_at c.args.flow c.args.level text p ≡ false = sym c.ends.ensures ∙ c.if-ends.false in
-    let o : (c.args.flow && (byte text p == 58 && (is_bracket (byte text (p + 1)) || byte text (p + 1) == 63))) ≡ true = rw (b, c.byte.ensures) at (sym c.is_bad_colon.ensures ∙ c.if-is_bad_colon.true) in
-    rw (spot_colon c.args.flow c.args.level text p z k n o, c.wrong_plain-then-is_bad_colon.ensures, c.mark-then-is_bad_colon.ensures) refl
-
 pub skip-requires-2-clause-inside : goal.skip-requires-2-clause-inside
 skip-requires-2-clause-inside c =
     let text = c.args.reader.now.text in
     let p = c.args.reader.now.at in
     not_ended c.args.flow c.args.level text p (sym c.ends.ensures ∙ c.if-ends.false)
-
-pub returns-in_err-keep : goal.returns-in_err-keep
-returns-in_err-keep c =
-    let text = c.args.reader.now.text in
-    let p = c.args.reader.now.at in
-    let b : c.here-byte.result ≡ byte text p = c.here-byte.ensures in
-    let z : break_width text p ≡ 0 = omega (arith, c.break_here.ensures.value, c.if-break_here-gt0.false) in
-    let k : is_blank (byte text p) ≡ false = rw b at (sym c.is_blank.ensures ∙ c.if-is_blank.false) in
-    let n : ends_at c.args.flow c.args.level text p ≡ false = sym c.ends.ensures ∙ c.if-ends.false in
-    let o : (c.args.flow && (byte text p == 58 && (is_bracket (byte text (p + 1)) || byte text (p + 1) == 63))) ≡ false = rw (b, c.byte.ensures) at (sym c.is_bad_colon.ensures ∙ c.if-is_bad_colon.false) in
-    let e = err_from_is_err_and c.from_residual-in_err-keep.result c.from_residual-in_err-keep.ensures.1 in
-    rw (e.1, e.2, spot_kept c.args.flow c.args.level text p z k n o) tt
 
 pub returns : goal.returns
 returns c =

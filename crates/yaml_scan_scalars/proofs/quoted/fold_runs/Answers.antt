@@ -11,47 +11,44 @@ pieces-init c =
     let p : ℕ = c.args.start.index in
     let place = c.args.reader.now in
     let same : (ps : List Piece) → resume c.keep_some.new.folding ps ≡ value (run_pieces (bytes_at text (p + 1) (place.at - (p + 1))) ++ ps) =
-    λ ps. c.in_ok-keep_some.ensures ps ∙ c.new-folding.ensures.value (run_pieces c.args.bytes.now ++ ps) ∙ ap (λ (bs : List ℕ). value (run_pieces bs ++ ps)) c.requires.bytes in
-    record { text = refl; rest = quoted_first c.args.quote text p (resume c.keep_some.new.folding) place c.requires.quote c.requires.inside c.requires.run same }
+    λ ps. c.in_ok-keep_some.ensures ps ∙ c.new-folding.ensures.value (run_pieces c.args.bytes.now ++ ps) ∙ ap (λ (bs : List ℕ). value (run_pieces bs ++ ps)) c.requires.ran.are in
+    record { text = refl; rest = quoted_first c.args.quote text p (resume c.keep_some.new.folding) place c.requires.quote c.requires.ran.inside c.requires.ran.run same }
 
 pub keep_some-requires-clause-first : goal.keep_some-requires-clause-first
 keep_some-requires-clause-first c = inl c.new-folding.ensures.line
 
 pub keep_some-requires-clause-last : goal.keep_some-requires-clause-last
-keep_some-requires-clause-last c = rw c.requires.bytes (run_ends (quoted_kind c.args.quote) _ _ _ c.requires.run)
+keep_some-requires-clause-last c = rw c.requires.ran.are (run_ends (quoted_kind c.args.quote) _ _ _ c.requires.ran.run)
 
 pub returns-in_err-more : goal.returns-in_err-more
 returns-in_err-more c =
-    let (n, room, same) = c.pieces.invariant.rest in
     let p = err_from_is_err_and c.from_residual-in_err-more.result c.from_residual-in_err-more.ensures.1 in
-    let took = rw (c.pieces.invariant.text, c.requires.start) at c.in_err-more.ensures in
-    rw (p.1, p.2, same) (turn_refused c.args.reader.now.text c.args.quote c.args.start.index c.pieces.reader.at n (resume c.pieces.folding) (resume c.piece.new.folding) c.piece.new.reader c.in_err-more.field-0.0 took)
+    let took = rw (c.pieces.invariant.text, c.requires.ran.own) at c.in_err-more.ensures in
+    rw (p.1, p.2, c.pieces.invariant.rest) (turn_refused c.args.reader.now.text c.args.quote c.args.start.index c.pieces.reader.at (resume c.pieces.folding) (resume c.piece.new.folding) c.piece.new.reader c.in_err-more.field-0.0 took)
 
 pub returns-then-not-more : goal.returns-then-not-more
 returns-then-not-more c =
-    let (n, room, same) = c.pieces.invariant.rest in
     let here = rw c.if-not-more.true at c.in_ok-more.ensures in
     let took : Took c.args.reader.now.text c.args.start c.pieces.reader.at (resume c.pieces.folding) (resume c.piece.new.folding) c.piece.new.reader (Ok false) (standing_at c.args.quote c.args.reader.now.text c.pieces.reader.at) = rw (← c.pieces.invariant.text) here in
-    let (place, value) = turn_done c.args.reader.now.text c.args.start c.args.quote c.pieces.reader.at n (resume c.pieces.folding) (resume c.piece.new.folding) c.piece.new.reader took in
-    rw (same, value) (c.in_ok-value.ensures, place)
+    let (place, value) = turn_done c.args.reader.now.text c.args.start c.args.quote c.pieces.reader.at (resume c.pieces.folding) (resume c.piece.new.folding) c.piece.new.reader took in
+    rw (c.pieces.invariant.rest, value) (c.in_ok-value.ensures, place)
 
 pub pieces-preserved : goal.pieces-preserved
 pieces-preserved c =
-    let (n, room, same) = c.pieces.invariant.rest in
     let here = rw c.if-not-more.false at c.in_ok-more.ensures in
     let took : Took c.args.reader.now.text c.args.start c.pieces.reader.at (resume c.pieces.folding) (resume c.piece.new.folding) c.piece.new.reader (Ok true) (standing_at c.args.quote c.args.reader.now.text c.pieces.reader.at) = rw (← c.pieces.invariant.text) here in
-    let next = turn_more c.args.reader.now.text c.args.start c.args.quote c.pieces.reader.at n (resume c.pieces.folding) (resume c.piece.new.folding) c.piece.new.reader took room in
-    let (k, more, rest2) = next.rest in
+    let next = turn_more c.args.reader.now.text c.args.start c.args.quote c.pieces.reader.at (resume c.pieces.folding) (resume c.piece.new.folding) c.piece.new.reader took in
     let ran : TookRun (quoted_kind c.args.quote) c.args.reader.now.text c.piece.new.reader.at (resume c.piece.new.folding) (resume c.keep_run.new.folding) c.keep_run.new.reader = rw (next.same, c.quoted_kind.ensures.same) at c.in_ok-keep_run.ensures in
-    let (m, room3, rest3) = quoted_run k c.args.quote c.args.reader.now.text c.piece.new.reader.at (resume c.piece.new.folding) (resume c.keep_run.new.folding) c.keep_run.new.reader c.requires.quote ran more in
-    record { text = ran.0.same; rest = (m, room3, same ∙ rest2 ∙ rest3) }
+    record {
+      text = ran.0.same;
+      rest = c.pieces.invariant.rest ∙ next.rest ∙ quoted_run c.args.quote c.args.reader.now.text c.piece.new.reader.at (resume c.piece.new.folding) (resume c.keep_run.new.folding) c.keep_run.new.reader c.requires.quote ran;
+    }
 
 pub pieces-smaller : goal.pieces-smaller
 pieces-smaller c =
-    let (n, room, same) = c.pieces.invariant.rest in
     let here = rw c.if-not-more.false at c.in_ok-more.ensures in
     let took : Took c.args.reader.now.text c.args.start c.pieces.reader.at (resume c.pieces.folding) (resume c.piece.new.folding) c.piece.new.reader (Ok true) (standing_at c.args.quote c.args.reader.now.text c.pieces.reader.at) = rw (← c.pieces.invariant.text) here in
-    let next = turn_more c.args.reader.now.text c.args.start c.args.quote c.pieces.reader.at n (resume c.pieces.folding) (resume c.piece.new.folding) c.piece.new.reader took room in
+    let next = turn_more c.args.reader.now.text c.args.start c.args.quote c.pieces.reader.at (resume c.pieces.folding) (resume c.piece.new.folding) c.piece.new.reader took in
     let further = next.further in
     let inside = next.inside in
     let after = c.in_ok-keep_run.ensures.0.after in

@@ -27,25 +27,17 @@ returns-then-closes c =
     let one = quoted_one c.args.quote text p c.ordinary_run-bytes.new.reader c.requires.quote inside run both.0 both.1 in
     rw (one, ← bytes) (c.in_ok-value.ensures.value, rw run.same at c.in_ok-value.ensures.place)
 
-pub many_runs-requires-clause-inside : goal.many_runs-requires-clause-inside
-many_runs-requires-clause-inside c =
-    let run : IsRun (quoted_kind c.args.quote) c.args.reader.now.text (c.args.reader.now.at + 1) c.ordinary_run-bytes.new.reader = rw (c.pass_byte.ensures, c.quoted_kind.ensures.same) at c.ordinary_run-bytes.ensures.place in
-    rw (run.same, c.mark-start.ensures) (within c.args.reader.now.text c.args.reader.now.at (quote_some c.args.quote _ c.requires.opened c.requires.quote))
-
-pub many_runs-requires-clause-start : goal.many_runs-requires-clause-start
-many_runs-requires-clause-start c =
-    let run : IsRun (quoted_kind c.args.quote) c.args.reader.now.text (c.args.reader.now.at + 1) c.ordinary_run-bytes.new.reader = rw (c.pass_byte.ensures, c.quoted_kind.ensures.same) at c.ordinary_run-bytes.ensures.place in
-    rw run.same (own_mark c.args.reader.now.text _ _ c.mark-start.ensures).0
-
-pub many_runs-requires-clause-run : goal.many_runs-requires-clause-run
-many_runs-requires-clause-run c =
-    let run : IsRun (quoted_kind c.args.quote) c.args.reader.now.text (c.args.reader.now.at + 1) c.ordinary_run-bytes.new.reader = rw (c.pass_byte.ensures, c.quoted_kind.ensures.same) at c.ordinary_run-bytes.ensures.place in
-    rw (run.same, c.mark-start.ensures) (run_whole (quoted_kind c.args.quote) _ _ _ run)
-
-pub many_runs-requires-clause-bytes : goal.many_runs-requires-clause-bytes
-many_runs-requires-clause-bytes c =
-    let run : IsRun (quoted_kind c.args.quote) c.args.reader.now.text (c.args.reader.now.at + 1) c.ordinary_run-bytes.new.reader = rw (c.pass_byte.ensures, c.quoted_kind.ensures.same) at c.ordinary_run-bytes.ensures.place in
-    rw (run.same, c.mark-start.ensures) (rw c.pass_byte.ensures at c.ordinary_run-bytes.ensures.bytes)
+pub many_runs-requires-clause-ran : goal.many_runs-requires-clause-ran
+many_runs-requires-clause-ran c =
+    let text = c.args.reader.now.text in
+    let p = c.args.reader.now.at in
+    let run : IsRun (quoted_kind c.args.quote) text (p + 1) c.ordinary_run-bytes.new.reader = rw (c.pass_byte.ensures, c.quoted_kind.ensures.same) at c.ordinary_run-bytes.ensures.place in
+    record {
+      inside = rw (run.same, c.mark-start.ensures) (within text p (quote_some c.args.quote _ c.requires.opened c.requires.quote));
+      own = rw run.same (own_mark text _ _ c.mark-start.ensures).0;
+      run = rw (run.same, c.mark-start.ensures) (run_whole (quoted_kind c.args.quote) _ _ _ run);
+      are = rw (run.same, c.mark-start.ensures) (rw c.pass_byte.ensures at c.ordinary_run-bytes.ensures.bytes);
+    }
 
 pub returns : goal.returns
 returns c =

@@ -1,5 +1,5 @@
 use Rattle.std.proofs.Common.{◌≡◌, ◌+◌, ◌<◌, ◌≤◌, true, length, ◌∙◌, sym, ap, ℕ, List, arith}
-use Rattle.yaml_scan_scalars.proofs.Words.{yaml_mark_t, byte, line_at, column_at, is_narrow, within, column_at-le}
+use Rattle.yaml_scan_scalars.proofs.Words.{yaml_mark_t, byte, line_at, column_at, in_run, is_narrow, within, column_at-le}
 use Rattle.yaml_scan_scalars.proofs.RunLemmas.{each_more}
 use Rattle.yaml_scan_scalars.proofs.TableLemmas.{behind_none, passes, run_of, spanned, each_past}
 use Rattle.yaml_scan_scalars.proofs.run.narrow_run.Goals as goal
@@ -59,7 +59,7 @@ bytes-preserved c =
     let more = s.column in
     record {
       after = omega (arith, after, forward);
-      each = each_past c.args.kind text c.args.reader.now.at (c.bytes.end + 1) c.past_narrow-end-in-bytes.result (each_more c.args.kind text c.args.reader.now.at c.bytes.end c.bytes.invariant.each here.each) each;
+      each = each_past c.args.kind text c.args.reader.now.at (c.bytes.end + 1) c.past_narrow-end-in-bytes.result (each_more (in_run c.args.kind text) c.args.reader.now.at c.bytes.end c.bytes.invariant.each here.each) each;
       inside = most (omega (arith, inside));
       line = c.bytes.invariant.line ∙ sym b.line ∙ sym s.line;
       column = omega (arith, column, next, after, more, forward);

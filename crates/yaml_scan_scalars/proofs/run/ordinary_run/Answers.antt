@@ -1,13 +1,13 @@
-use Rattle.std.proofs.Common.{◌∙◌}
+use Rattle.std.proofs.Common.{◌-◌, ◌∙◌, arith}
 use Rattle.yaml_scan_scalars.proofs.Words.{holds_slice}
-use Rattle.yaml_scan_scalars.proofs.RunLemmas.{run_slice}
+use Rattle.yaml_scan_scalars.proofs.RunLemmas.{slice_bytes}
 use Rattle.yaml_scan_scalars.proofs.run.ordinary_run.Goals as goal
 
 pub returns-clause-bytes : goal.returns-clause-bytes
 returns-clause-bytes c =
     let run = c.pass_run.ensures.run in
     let b = rw (c.place-from.ensures, run.same) at c.since.ensures in
-    b ∙ run_slice c.args.kind _ _ _ run
+    b ∙ slice_bytes c.args.reader.now.text c.args.reader.now.at (c.pass_run.new.reader.at - c.args.reader.now.at) (omega (arith, run.after, c.pass_run.ensures.inside))
 
 pub returns-clause-stands : goal.returns-clause-stands
 returns-clause-stands c =

@@ -1,5 +1,4 @@
 mod Words
-pub mod RanksLemmas
 pub mod RunsLemmas
 pub mod BetweenLemmas
 pub mod UrisLemmas

@@ -1,5 +1,8 @@
 -- What reading a directive answers.
-use Rattle.std.specs.Prelude.{ℕ, ℤ, pos, List, ◌≡◌}
+use Rattle.std.specs.Prelude.{ℕ, ℤ, pos, List, ◌≡◌, Result, Ok, Err}
+use Rattle.yaml_scan_model.specs.declared.problem.Context.TheVariants as contexts
+use Rattle.yaml_scan_model.specs.declared.problem.Problem.{Problem}
+use Rattle.yaml_scan_model.specs.Wrong.{Wrong}
 use Rattle.yaml_scan_model.specs.Marks.{mark_at}
 use Rattle.yaml_scan_words.specs.declared.word.Directive.{Directive}
 use Rattle.yaml_scan_words.specs.declared.word.Directive.TheVariants as directives
@@ -9,6 +12,15 @@ use Rattle.yaml_scan_words.specs.Directives.{Said, version, tag, ValueText, Dire
 
 abbrev pub IsName : DirectiveName → DirectiveName × ℕ → Type 0
 IsName name x = name ≡ x.0
+
+-- the name that an answer tells, up to that place
+abbrev pub name_of : Result DirectiveName Problem → ℕ → Result (DirectiveName × ℕ) Wrong
+name_of (Ok name) q = Ok (name, q)
+name_of (Err problem) q = Err record {
+  problem = problem;
+  context = contexts.Directive;
+  place = q;
+}
 
 abbrev pub IsNumber : ℤ → ℕ × ℕ → Type 0
 IsNumber number x = number ≡ pos x.0

@@ -1,11 +1,11 @@
 //! Directives.
 
-ghost use Rattle.std.specs.Prelude.{◌≡◌, ◌≢◌, ◌+◌, ◌==◌, ◌&&◌, ◌||◌, true, ℕ, length};
+ghost use Rattle.std.specs.Prelude.{◌≡◌, ◌≢◌, ◌≤◌, ◌+◌, ◌==◌, ◌&&◌, ◌||◌, true, ℕ, length};
 ghost use Rattle.yaml_scan_model.specs.Ascii as ascii;
 ghost use Rattle.yaml_scan_model.specs.Marks.{byte, break_width, mark_at};
 ghost use Rattle.yaml_scan_words.specs.Directives as spec;
 ghost use Rattle.yaml_scan_words.specs.Readings.{ReadsAs};
-ghost use Rattle.yaml_scan_words.specs.DirectivesGiven.{IsDirective, IsName, IsSaid, IsEnd};
+ghost use Rattle.yaml_scan_words.specs.DirectivesGiven.{IsDirective, IsName, IsSaid, IsEnd, name_of};
 
 use crate::prefixes::tag_directive;
 use crate::run::{Run, skip_indicator, skip_run};
@@ -63,25 +63,35 @@ fn directive_name(reader: &mut Reader, start: yaml_mark_t) -> Result<DirectiveNa
         (spec.name_at reader.old.text reader.old.at) }
 {
     skip_indicator(reader);
-    let from = reader.place();
-    let is_yaml = is_yaml(reader);
-    let is_tag = is_tag(reader);
+    let name = reader.ahead();
     skip_run(Run::Alphas, reader);
-    let to = reader.place();
-    if from == to {
-        return Err(refusal(reader, Problem::NoDirectiveName, Context::Directive, start));
+    match name_told(&name, reader) {
+        Ok(told) => Ok(told),
+        Err(problem) => Err(refusal(reader, problem, Context::Directive, start)),
     }
-    let count = to - from;
-    if !reader.is_blank_or_end(0) {
-        return Err(refusal(reader, Problem::NotAlphabetical, Context::Directive, start));
+}
+
+/// What the name tells that stands before a reader, up to the place of the one behind it.
+fn name_told(name: &Reader, behind: &Reader) -> Result<DirectiveName, Problem>
+    requires same { behind.now.text ≡ name.now.text }
+    requires forward { name.now.at ≤ behind.now.at }
+    ensures { spec.name_between name.now.text name.now.at behind.now.at ≡ name_of result
+        behind.now.at }
+{
+    if name.place() == behind.place() {
+        return Err(Problem::NoDirectiveName);
     }
-    if is_yaml && count == 4 {
+    if !behind.is_blank_or_end(0) {
+        return Err(Problem::NotAlphabetical);
+    }
+    let count = behind.place() - name.place();
+    if is_yaml(name) && count == 4 {
         return Ok(DirectiveName::Yaml);
     }
-    if is_tag && count == 3 {
+    if is_tag(name) && count == 3 {
         return Ok(DirectiveName::Tag);
     }
-    Err(refusal(reader, Problem::UnknownDirective, Context::Directive, start))
+    Err(Problem::UnknownDirective)
 }
 
 /// Whether `YAML` stands here.

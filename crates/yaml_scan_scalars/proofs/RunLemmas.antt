@@ -237,9 +237,6 @@ starts_bytes text p (suc d) h = rw (bytes_more text p d) (starts_first (byte tex
 
 -- a run as one piece
 
-is_kept : (b : ℕ) → (b == 32) ≡ false → piece_of b ≡ Kept (b ∷ [])
-is_kept b h = rw h refl
-
 kept_some : (b : ℕ) (bs : List ℕ) (ps : List Piece) → ends_kept (b ∷ bs) ≡ true
     → is_empty (lines (run_pieces (b ∷ bs) ++ ps)).first ≡ false
 kept_some b [] ps h = rw (not-true (b == 32) h) refl

@@ -31,6 +31,12 @@ one_more : (text : List ℕ) (p n h l : ℕ) → hex_value text p n ≡ Some h
 unfolding hex_value
 one_more text p n h l a b = rw (a, b) refl
 
+single : (d : ℕ) → 0 * 16 + d ≡ d * 16 ^ 0 + 0
+single d = omega arith
+
+behind : (p n : ℕ) → p + suc n ≡ p + 1 + n
+behind p n = omega arith
+
 first_read : (text : List ℕ) (p n d w : ℕ) → hex_digit (byte text p) ≡ Some d
     → hex_value text (p + 1) n ≡ Some w → hex_value text p (suc n) ≡ Some (d * 16 ^ n + w)
 first_read text p zero d w a b =
@@ -38,17 +44,11 @@ first_read text p zero d w a b =
     let none : w ≡ 0 = cc in
     let there : hex_digit (byte text (p + 0)) ≡ Some d = rw add-zero a in
     rw none (one_more text p 0 0 d (none_read text p) there ∙ ap (λ (x : ℕ). Some x) (single d))
-  where
-    single : (d : ℕ) → 0 * 16 + d ≡ d * 16 ^ 0 + 0
-    single d = omega arith
 first_read text p (suc n) d w a b =
     let (h, l, before, last, is) = last_parts text (p + 1) n w b in
     let there : hex_digit (byte text (p + suc n)) ≡ Some l = ap (λ (q : ℕ). hex_digit (byte text q)) (behind p n) ∙ last in
     one_more text p (suc n) (d * 16 ^ n + h) l (first_read text p n d h a before) there
     ∙ ap (λ (x : ℕ). Some x) (moved d (16 ^ n) h l ∙ ap (λ (x : ℕ). d * x + (h * 16 + l)) (sym (pow-suc 16 n)) ∙ ap (λ (x : ℕ). d * 16 ^ suc n + x) (sym is))
-  where
-    behind : (p n : ℕ) → p + suc n ≡ p + 1 + n
-    behind p n = omega arith
 
 pub digits_are_read : DigitsAreRead
 digits_are_read text p ds (no_digits q) = none_read text q
@@ -62,17 +62,11 @@ first_parts text p zero v e =
     let start : hex_value text p 0 ≡ Some 0 = none_read text p in
     let none : h ≡ 0 = cc in
     (l, 0, rw add-zero at last, none_read text (p + 1), rw none at is ∙ single l)
-  where
-    single : (d : ℕ) → 0 * 16 + d ≡ d * 16 ^ 0 + 0
-    single d = omega arith
 first_parts text p (suc n) v e =
     let (h, l, before, last, is) = last_parts text p (suc n) v e in
     let (d, w, first, rest, all) = first_parts text p n h before in
     let there : hex_digit (byte text (p + 1 + n)) ≡ Some l = ap (λ (q : ℕ). hex_digit (byte text q)) (sym (behind p n)) ∙ last in
     (d, w * 16 + l, first, one_more text (p + 1) n w l rest there, is ∙ ap (λ (x : ℕ). x * 16 + l) all ∙ moved d (16 ^ n) w l ∙ ap (λ (x : ℕ). d * x + (w * 16 + l)) (sym (pow-suc 16 n)))
-  where
-    behind : (p n : ℕ) → p + suc n ≡ p + 1 + n
-    behind p n = omega arith
 
 pub digits_stand_there : DigitsStandThere
 digits_stand_there text p zero v e =

@@ -1,7 +1,8 @@
 -- Gaps between lexemes, a step at a time.
 use Rattle.std.proofs.Common.{◌≡◌, ◌≢◌, ℕ, zero, suc, ◌+◌, ◌<◌, ◌≤◌, ◌==◌, ◌&&◌, ◌||◌, nat_lt, Bool, true, false, not, List, length, refl, sym, ap, ◌∙◌, inl, inr, ◌⊎◌, arith}
-use Rattle.yaml_scan_words.proofs.Words.{blank_parts, cond_both, and_parts, eqb-true, lt-ltb, ltb-true, ne_eqb, nat_tests, byte, break_of, break_width, is_blank, is_bom, no_break_between, past-inside, past_break, past_some, text_parts, within, is_text, GapSpot, GapStep, step_at, is_skipped, Gap, gap_at, gap_behind, with_break, gap_within}
+use Rattle.yaml_scan_words.proofs.Words.{cond_both, and_parts, eqb-true, lt-ltb, ltb-true, ne_eqb, nat_tests, byte, break_of, break_width, is_blank, is_bom, no_break_between, past-inside, past_break, past_some, text_parts, within, is_text, GapSpot, GapStep, step_at, is_skipped, Gap, gap_at, gap_behind, with_break, gap_within}
 use Rattle.yaml_scan_words.specs.declared.between.GapSpot.TheVariants as gap_spots
+use Rattle.yaml_scan_words.proofs.RunsLemmas.{blank_parts}
 
 -- ---- bytes
 

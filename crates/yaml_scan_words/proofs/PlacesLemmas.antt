@@ -18,7 +18,8 @@ further : (text : List ℕ) (o p q : ℕ) → o ≤ p → IsFrom text p q → Is
 further text o p q h f = record { forward = omega (arith, f.forward); inside = f.inside }
 
 -- behind a byte
-one_on : (text : List ℕ) (o p b : ℕ) → o ≤ p → byte text p == b ≡ true → 0 < b → IsFrom text o (p + 1)
+one_on : (text : List ℕ) (o p b : ℕ) → o ≤ p → (byte text p == b) ≡ true → 0 < b
+    → IsFrom text o (p + 1)
 one_on text o p b l h some =
     let e = eqb-true _ _ h in
     let here = within text p (omega arith) in

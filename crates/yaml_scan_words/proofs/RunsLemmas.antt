@@ -1,6 +1,6 @@
 -- Runs, a byte at a time.
 use Rattle.std.proofs.Common.{◌≡◌, ◌≢◌, ℕ, zero, suc, ◌+◌, ◌<◌, ◌≤◌, Bool, true, false, List, length, refl, ◌∙◌, inl, inr, ◌⊎◌, arith}
-use Rattle.yaml_scan_words.proofs.Words.{blank_parts, cases_Bool, cases_lt, false_from_ne_true, nat_tests, byte, break_width, is_blank, is_alpha_byte, is_digit_byte, no_break_between, within, IsPrinted, Run, belongs, run_within, run_end}
+use Rattle.yaml_scan_words.proofs.Words.{cases_Bool, cases_lt, false_from_ne_true, nat_tests, byte, break_of, break_width, is_blank, is_alpha_byte, is_digit_byte, no_break_between, within, IsPrinted, Run, belongs, run_within, run_end}
 use Rattle.yaml_scan_words.specs.declared.run.Run.TheVariants as runs
 
 digit_range : (b : ℕ) → is_digit_byte b ≡ true → (48 ≤ b) × (b ≤ 57)
@@ -14,6 +14,11 @@ alpha_range b h = (grind (arith, nat_tests), grind (arith, nat_tests), grind (ar
 -- a space or a tab
 pub blank_cases : (b : ℕ) → is_blank b ≡ true → (b ≡ 32) ⊎ (b ≡ 9)
 blank_cases b h = grind (arith, nat_tests)
+
+-- a blank is no break and not the end
+pub blank_parts : (b c d : ℕ) → is_blank b ≡ true → (0 < b) × (break_of b c d ≡ 0)
+unfolding break_of
+blank_parts b c d h = elim (blank_cases b h) [ inl e ↦ rw e (omega arith, refl) | inr e ↦ rw e (omega arith, refl) ]
 
 -- a byte of a run is no break and not the end
 pub belongs_here : (run : Run) (text : List ℕ) (p : ℕ) → belongs run text p ≡ true

@@ -17,6 +17,7 @@ kept_parts wide b h =
       ]
     ]
 
+-- A character that a URI holds as it is, is printed ASCII.
 pub uri_range : (wide : Bool) (text : List ℕ) (p : ℕ) → is_uri wide text p ≡ true
     → (32 < byte text p) × (byte text p < 127)
 uri_range wide text p h = let (low, high, mark, angle) = kept_parts wide (byte text p) h in (low, high)

@@ -5,7 +5,7 @@ pub use Rattle.std.proofs.lemmas.Int.{to_z-of_z, to_z_pos}
 pub use Rattle.std.proofs.lemmas.List.{drop_more, get_or-drop, get_or-take, length-drop, length-take-le}
 pub use Rattle.std.proofs.lemmas.Result.{err_from_is_err_and}
 pub use Rattle.yaml_scan_model.proofs.MarksLemmas.{no_break, no_break_between, past_break, within}
-pub use Rattle.yaml_scan_model.proofs.RunsLemmas.{blank_parts, past-inside, past-le, past_some, text_parts}
+pub use Rattle.yaml_scan_model.proofs.RunsLemmas.{past-inside, past-le, past_some, text_parts}
 pub use Rattle.yaml_scan_model.specs.Classes.{is_bom}
 unfoldable pub use Rattle.yaml_scan_model.specs.Classes.{is_alpha_byte, is_digit_byte}
 pub use Rattle.yaml_scan_model.specs.Marks.{Place, break_width, byte, is_blank, is_blank_or_end, mark_at}

@@ -1,4 +1,4 @@
-use Rattle.std.proofs.Common.{◌+◌, length, ap}
+use Rattle.std.proofs.Common.{◌+◌, length}
 use Rattle.yaml_scan_words.specs.declared.run.Run.TheVariants as runs
 use Rattle.yaml_scan_words.proofs.RunsLemmas.{run_within-ge}
 use Rattle.yaml_scan_words.proofs.directives.directive_name.Goals as goal

@@ -1,19 +1,16 @@
 -- The machine gives the items of a tree, and goes on behind it.
-use Rattle.std.proofs.Common.{◌≡◌, ℕ, Bool, true, false, if◌then◌else◌, List, [], ◌∷◌, ◌++◌, length, Option, Some, None, refl, sym, ap, subst, ◌∙◌, ◌||◌, inl, inr}
+use Rattle.std.proofs.Common.{◌≡◌, ℕ, Bool, true, false, if◌then◌else◌, List, [], ◌∷◌, ◌++◌, length, Option, Some, None, refl, sym, ap, subst, ◌∙◌, ◌&&◌, ◌||◌, inl, inr}
 use Rattle.std.proofs.lemmas.List.{append_assoc}
-use Rattle.std.proofs.Math.Bool.{or-true}
+use Rattle.std.proofs.Math.Bool.{not, or-true}
 use Rattle.std.proofs.lemmas.Bool.{cases_Bool, false≢true}
-use Rattle.yaml_parse_grammar.proofs.Words.{yaml_mark_t, yaml_token_type_t, Token, TokenBody, type_of, Fault, Wants, Flow, Block, Site, Root, Entry, IndentlessEntry, BlockPair, FlowPair, Choice, Refuse, Take, Leave, RawEvent, Properties, node_at, State, Taken, Span, Given, token_at, spell_node, spell_maybe, next, items_node, items_maybe, items, behind, starts_content, starts_node, joins, wants_of, closes, parts_documents, follows, no_node, choice_at, node_taken, content_taken, taken_at, left_at, Fed, stop, go, with_item, given_by, turn, feed, Outcome, finished, carry, run}
+use Rattle.yaml_parse_grammar.proofs.Words.{yaml_mark_t, yaml_token_type_t, Token, TokenBody, type_of, Fault, Wants, Flow, Block, Site, Root, Entry, IndentlessEntry, BlockPair, FlowPair, Choice, Refuse, Take, Leave, RawEvent, Properties, State, Taken, Span, Given, token_at, spell_node, spell_maybe, next, items_node, items_maybe, items, behind, starts_content, starts_node, joins, wants_of, closes, parts_documents, follows, no_node, choice_at, node_taken, content_taken, taken_at, left_at, Fed, stop, go, with_item, given_by, turn, feed, Outcome, finished, carry, run}
 use Rattle.yaml_parse_model.specs.declared.yaml_token_type_t.TheVariants as kind
 use Rattle.yaml_parse_model.specs.Tokens as token
-use Rattle.yaml_parse_model.specs.declared.yaml_sequence_style_t.TheVariants.{YAML_BLOCK_SEQUENCE_STYLE}
-use Rattle.yaml_parse_model.specs.declared.yaml_mapping_style_t.TheVariants.{YAML_BLOCK_MAPPING_STYLE}
 use Rattle.yaml_parse_grammar.specs.declared.name.Side.{Side}
 use Rattle.yaml_parse_grammar.specs.declared.name.Side.TheVariants.{Key, Value}
 use Rattle.yaml_parse_grammar.specs.declared.name.Brackets.{Brackets}
 use Rattle.yaml_parse_grammar.specs.declared.name.Brackets.TheVariants as brackets
 use Rattle.yaml_parse_grammar.specs.declared.problem.ParseProblem.TheVariants as problem
-use Rattle.yaml_parse_grammar.specs.Items as item
 use Rattle.yaml_parse_grammar.specs.States as state
 use Rattle.yaml_parse_grammar.specs.Trees.{Node, Content, Maybe, Colon, Items, More, Entries, Others, Pairs, PropertyTokens, spell_properties, properties_of, closing, spell_content, spell_colon, spell_items, spell_more, spell_entries, spell_others, spell_pairs, flow_shape}
 use Rattle.yaml_parse_grammar.specs.TreeSteps.{items_content, items_colon, items_items, items_more, items_entries, items_others, items_pairs, lone, pair_start, pair_end}
@@ -24,32 +21,61 @@ use Rattle.yaml_parse_grammar.specs.Machine.{items_taken, above, lone_below}
 abbrev pub giving : (List Given → List Given) → Outcome → Outcome
 giving g o = record { items = g o.items; ending = o.ending }
 
+-- one item in front of others
+abbrev pub one : RawEvent → ℕ → List Given → List Given
+one i left = λ more. (i, left) ∷ more
+
 pub carry_with_item : (left : ℕ) (i : RawEvent) (below : Fed) (k : List State → Outcome)
-    → carry left (with_item i below) k
-    ≡ giving (λ (more : List Given). (i, left) ∷ more) (carry left below k)
+    → carry left (with_item i below) k ≡ giving (one i left) (carry left below k)
 carry_with_item left i (stop is f) k = refl
 carry_with_item left i (go is s) k = refl
 
+-- ---- what a state does at a token
+
+-- The topmost state does what it chooses.
+pub fed_by : (c : Choice) (x : State) (t : Token) (s : List State)
+    → choice_at x (type_of t.body) ≡ c → feed (x ∷ s) t ≡ turn c x t s (feed s t)
+unfolding feed
+fed_by c x t s h = ap (λ (c : Choice). turn c x t s (feed s t)) h
+
+-- So the tokens run as it says.
+pub runs_by : (fed : Fed) (t : Token) (ts : List Token) (s : List State) (f : Option Fault)
+    → feed s t ≡ fed → run (t ∷ ts) s f ≡ carry (length ts) fed (λ s'. run ts s' f)
+unfolding run
+runs_by fed t ts s f h = ap (λ (fed : Fed). carry (length ts) fed (λ s'. run ts s' f)) h
+
+pub step_take : (x : State) (t : Token) (ts : List Token) (s : List State) (f : Option Fault)
+    → choice_at x (type_of t.body) ≡ Take
+    → run (t ∷ ts) (x ∷ s) f ≡ carry (length ts) (given_by (taken_at x t) s) (λ s'. run ts s' f)
+step_take x t ts s f h = runs_by _ t ts (x ∷ s) f (fed_by Take x t s h)
+
 -- ---- leaving a state
+
+-- a fact of the first token's kind
+abbrev pub First : (yaml_token_type_t → Type 0) → List Token → Type 0
+First P [] = ⊥
+First P (t ∷ ts) = P (type_of t.body)
+
+pub first_is : {P Q : yaml_token_type_t → Type 0} → ((k : yaml_token_type_t) → P k → Q k)
+    → (ts : List Token) → First P ts → First Q ts
+first_is g [] h = h
+first_is g (t ∷ ts) h = g (type_of t.body) h
 
 -- the state is left before the first token
 abbrev pub Leaves : State → List Token → Type 0
-Leaves x [] = ⊥
-Leaves x (t ∷ ts) = choice_at x (type_of t.body) ≡ Leave
+Leaves x = First (λ k. choice_at x k ≡ Leave)
 
 -- A state that leaves gives its item at the token, which stays.
 pub leaves_at : (x : State) (t : Token) (ts : List Token) (s : List State) (f : Option Fault)
     → choice_at x (type_of t.body) ≡ Leave
-    → run (t ∷ ts) (x ∷ s) f ≡ giving
-    (λ (more : List Given). (left_at x t.start_mark, length ts) ∷ more) (run (t ∷ ts) s f)
-unfolding run feed
+    → run (t ∷ ts) (x ∷ s) f
+    ≡ giving (one (left_at x t.start_mark) (length ts)) (run (t ∷ ts) s f)
+unfolding run
 leaves_at x t ts s f h =
-    ap (λ (c : Choice). carry (length ts) (turn c x t s (feed s t)) (λ s'. run ts s' f)) h
-    ∙ carry_with_item (length ts) (left_at x t.start_mark) (feed s t) (λ s'. run ts s' f)
+    runs_by _ t ts (x ∷ s) f (fed_by Leave x t s h) ∙ carry_with_item (length ts) (left_at x t.start_mark) (feed s t) (λ s'. run ts s' f)
 
 pub leaves : (x : State) (ts : List Token) (s : List State) (f : Option Fault) → Leaves x ts
-    → run ts (x ∷ s) f ≡ giving (λ (more : List Given). (left_at x (next ts), behind ts) ∷ more)
-    (run ts s f)
+    → run ts (x ∷ s) f ≡ giving (one (left_at x (next ts)) (behind ts)) (run ts s f)
 leaves x [] s f h = absurd h
 leaves x (t ∷ ts) s f h = leaves_at x t ts s f h
 
@@ -70,70 +96,45 @@ ends (Block None) kind.YAML_DOCUMENT_END_TOKEN = true
 ends (Block None) k = parts_documents k
 
 abbrev pub Ends : Wants → List Token → Type 0
-Ends w [] = ⊥
-Ends w (t ∷ ts) = ends w (type_of t.body) ≡ true
+Ends w = First (λ k. ends w k ≡ true)
 
 -- the first token may follow a node that is left out there
 abbrev pub Follows : Site → List Token → Type 0
-Follows place [] = ⊥
-Follows place (t ∷ ts) = follows place (type_of t.body) ≡ true
+Follows place = First (λ k. follows place k ≡ true)
+
+-- what follows ends a node, by computing at each kind
+following_ends : (k : yaml_token_type_t) (place : Site)
+    → (not (follows place k) || ends (wants_of place) k) ≡ true
+following_ends kind.YAML_VALUE_TOKEN Root = refl
+following_ends _ (IndentlessEntry Key) = refl
+following_ends _ (BlockPair Key) = refl
+following_ends _ (FlowPair brackets.Sequence Key) = refl
+following_ends _ (FlowPair brackets.Mapping Key) = refl
+following_ends _ _ = refl
 
 follows_ends_at : (place : Site) (k : yaml_token_type_t) → follows place k ≡ true
     → ends (wants_of place) k ≡ true
-follows_ends_at Root kind.YAML_DOCUMENT_END_TOKEN h = refl
-follows_ends_at Root kind.YAML_STREAM_END_TOKEN h = refl
-follows_ends_at Root kind.YAML_VERSION_DIRECTIVE_TOKEN h = refl
-follows_ends_at Root kind.YAML_TAG_DIRECTIVE_TOKEN h = refl
-follows_ends_at Root kind.YAML_DOCUMENT_START_TOKEN h = refl
-follows_ends_at Entry kind.YAML_BLOCK_ENTRY_TOKEN h = refl
-follows_ends_at Entry kind.YAML_BLOCK_END_TOKEN h = refl
-follows_ends_at (IndentlessEntry side) kind.YAML_BLOCK_ENTRY_TOKEN h = refl
-follows_ends_at (IndentlessEntry side) kind.YAML_KEY_TOKEN h = refl
-follows_ends_at (IndentlessEntry side) kind.YAML_BLOCK_END_TOKEN h = refl
-follows_ends_at (IndentlessEntry side) kind.YAML_VALUE_TOKEN h = refl
-follows_ends_at (BlockPair side) k h = h
-follows_ends_at (FlowPair b side) kind.YAML_FLOW_ENTRY_TOKEN h = refl
-follows_ends_at (FlowPair b side) kind.YAML_VALUE_TOKEN h = refl
-follows_ends_at (FlowPair b side) kind.YAML_FLOW_SEQUENCE_END_TOKEN h = refl
-follows_ends_at (FlowPair b side) kind.YAML_FLOW_MAPPING_END_TOKEN h = refl
-follows_ends_at (FlowPair brackets.Sequence side) _ h = cc
-follows_ends_at (FlowPair brackets.Mapping side) _ h = cc
-follows_ends_at _ _ h = cc
+follows_ends_at place k h = sym (ap (λ b. not b || ends (wants_of place) k) h) ∙ following_ends k place
 
 -- What may follow a node that is left out ends a node.
 pub follows_ends : (place : Site) (ts : List Token) → Follows place ts → Ends (wants_of place) ts
-follows_ends place [] h = h
-follows_ends place (t ∷ ts) h = follows_ends_at place (type_of t.body) h
+follows_ends place = first_is (follows_ends_at place)
 
 follows_leaves : (place : Site) (before : yaml_mark_t) (ts : List Token) → Follows place ts
     → Leaves (state.optional place before) ts
-follows_leaves place before [] h = h
-follows_leaves place before (t ∷ ts) h =
-    ap (λ (b : Bool). if b then Leave else if starts_node (wants_of place) (type_of t.body) then Take else Refuse (no_node (wants_of place)) None) h
+follows_leaves place before =
+    first_is {P = λ k. follows place k ≡ true} {Q = λ k. choice_at (state.optional place before) k ≡ Leave} (λ k. ap (λ (b : Bool). if b then Leave else if starts_node (wants_of place) k then Take else Refuse (no_node (wants_of place)) None))
 
 -- ---- properties
 
+ends_start_none : (k : yaml_token_type_t) (w : Wants) → (ends w k && starts_node w k) ≡ false
+ends_start_none kind.YAML_VALUE_TOKEN Flow = refl
+ends_start_none _ (Block (Some Key)) = refl
+ends_start_none _ _ = refl
+
 -- What ends a node begins none.
 pub ends_apart : (w : Wants) (k : yaml_token_type_t) → ends w k ≡ true → starts_node w k ≡ false
-ends_apart Flow kind.YAML_FLOW_ENTRY_TOKEN h = refl
-ends_apart Flow kind.YAML_VALUE_TOKEN h = refl
-ends_apart Flow kind.YAML_FLOW_SEQUENCE_END_TOKEN h = refl
-ends_apart Flow kind.YAML_FLOW_MAPPING_END_TOKEN h = refl
-ends_apart Flow _ h = absurd (false≢true h)
-ends_apart (Block (Some side)) kind.YAML_KEY_TOKEN h = refl
-ends_apart (Block (Some side)) kind.YAML_BLOCK_END_TOKEN h = refl
-ends_apart (Block (Some side)) kind.YAML_VALUE_TOKEN h = refl
-ends_apart (Block (Some side)) _ h = absurd (false≢true h)
-ends_apart (Block None) kind.YAML_BLOCK_ENTRY_TOKEN h = refl
-ends_apart (Block None) kind.YAML_BLOCK_END_TOKEN h = refl
-ends_apart (Block None) kind.YAML_KEY_TOKEN h = refl
-ends_apart (Block None) kind.YAML_VALUE_TOKEN h = refl
-ends_apart (Block None) kind.YAML_DOCUMENT_END_TOKEN h = refl
-ends_apart (Block None) kind.YAML_STREAM_END_TOKEN h = refl
-ends_apart (Block None) kind.YAML_VERSION_DIRECTIVE_TOKEN h = refl
-ends_apart (Block None) kind.YAML_TAG_DIRECTIVE_TOKEN h = refl
-ends_apart (Block None) kind.YAML_DOCUMENT_START_TOKEN h = refl
-ends_apart (Block None) _ h = absurd (false≢true h)
+ends_apart w k h = sym (ap (λ b. b && starts_node w k) h) ∙ ends_start_none k w
 
 none_joins : (w : Wants) (p : Properties) (k : yaml_token_type_t) → starts_node w k ≡ false
     → (joins p k || starts_content w k) ≡ false
@@ -144,8 +145,8 @@ none_joins w p _ h = h
 
 with_properties_leaves : (w : Wants) (p : Properties) (ts : List Token) → Ends w ts
     → Leaves (state.with_properties w p) ts
-with_properties_leaves w p [] h = h
-with_properties_leaves w p (t ∷ ts) h = ap (λ (b : Bool). if b then Take else Leave) (none_joins w p (type_of t.body) (ends_apart w (type_of t.body) h))
+with_properties_leaves w p =
+    first_is (λ k h. ap (λ (b : Bool). if b then Take else Leave) (none_joins w p k (ends_apart w k h)))
 
 -- what a node's first token does above a stack
 abbrev pub run_node : Wants → List Token → List State → Option Fault → Outcome
@@ -170,28 +171,21 @@ with_properties_content : {w : Wants} (c : Content w) (p : Properties) (rest : L
     → run (spell_content c rest) (state.with_properties w p ∷ s) f
     ≡ run_content w (Some p) (spell_content c rest) s f
 unfolding run feed
-with_properties_content (tree.scalar n v style) p rest s f = refl
 with_properties_content (tree.flow brackets.Sequence n items) p rest s f = refl
-with_properties_content (tree.flow brackets.Mapping n items) p rest s f = refl
 with_properties_content _ p rest s f = refl
 
 bare_content : {w : Wants} (c : Content w) (rest : List Token) (s : List State) (f : Option Fault)
     → run_node w (spell_content c rest) s f ≡ run_content w None (spell_content c rest) s f
-bare_content (tree.scalar n v style) rest s f = refl
 bare_content (tree.flow brackets.Sequence n items) rest s f = refl
-bare_content (tree.flow brackets.Mapping n items) rest s f = refl
 bare_content _ rest s f = refl
 
 -- ---- a node's first token
 
 abbrev pub Starts : Wants → List Token → Type 0
-Starts w [] = ⊥
-Starts w (t ∷ ts) = starts_node w (type_of t.body) ≡ true
+Starts w = First (λ k. starts_node w k ≡ true)
 
 content_starts : {w : Wants} (c : Content w) (rest : List Token) → Starts w (spell_content c rest)
-content_starts (tree.scalar n v style) rest = refl
 content_starts (tree.flow brackets.Sequence n items) rest = refl
-content_starts (tree.flow brackets.Mapping n items) rest = refl
 content_starts _ rest = refl
 
 properties_start : (w : Wants) (d : PropertyTokens) (ts : List Token)
@@ -221,30 +215,19 @@ optional_takes place before k h =
     ap (λ (b : Bool). if b then Leave else if starts_node (wants_of place) k then Take else Refuse (no_node (wants_of place)) None) (not_following place k h)
     ∙ ap (λ (b : Bool). if b then Take else Refuse (no_node (wants_of place)) None) h
 
-optional_node : (place : Site) (before : yaml_mark_t) (ts : List Token) (s : List State)
-    (f : Option Fault) → Starts (wants_of place) ts
-    → run ts (state.optional place before ∷ s) f ≡ run_node (wants_of place) ts s f
-unfolding run feed
-optional_node place before [] s f h = absurd h
-optional_node place before (t ∷ ts) s f h =
-    ap (λ (c : Choice). carry (length ts) (turn c (state.optional place before) t s (feed s t)) (λ s'. run ts s' f)) (optional_takes place before (type_of t.body) h)
-
-optional_wanted : (place : Site) (w : Wants) → wants_of place ≡ w
+optional_node : (place : Site) (w : Wants) → wants_of place ≡ w
     → (before : yaml_mark_t) (ts : List Token) (s : List State) (f : Option Fault) → Starts w ts
     → run ts (state.optional place before ∷ s) f ≡ run_node w ts s f
-optional_wanted place w e before ts s f =
-    subst (λ (v : Wants). Starts v ts → run ts (state.optional place before ∷ s) f ≡ run_node v ts s f) e (optional_node place before ts s f)
+optional_node place w e before [] s f h = absurd h
+optional_node place w e before (t ∷ ts) s f h =
+    step_take (state.optional place before) t ts s f (optional_takes place before (type_of t.body) (subst (λ (v : Wants). starts_node v (type_of t.body) ≡ true) (sym e) h))
+    ∙ ap (λ (v : Wants). run_node v (t ∷ ts) s f) e
 
 items_takes : (b : Brackets) (opener : yaml_mark_t) (k : yaml_token_type_t)
     → starts_node Flow k ≡ true → choice_at (state.items b opener) k ≡ Take
 items_takes b opener kind.YAML_KEY_TOKEN h = refl
-items_takes b opener kind.YAML_ALIAS_TOKEN h = ap (λ (x : Bool). if x then Take else Refuse problem.NoFlowNode None) (or-true (closes b kind.YAML_ALIAS_TOKEN))
-items_takes b opener kind.YAML_ANCHOR_TOKEN h = ap (λ (x : Bool). if x then Take else Refuse problem.NoFlowNode None) (or-true (closes b kind.YAML_ANCHOR_TOKEN))
-items_takes b opener kind.YAML_TAG_TOKEN h = ap (λ (x : Bool). if x then Take else Refuse problem.NoFlowNode None) (or-true (closes b kind.YAML_TAG_TOKEN))
-items_takes b opener kind.YAML_SCALAR_TOKEN h = ap (λ (x : Bool). if x then Take else Refuse problem.NoFlowNode None) (or-true (closes b kind.YAML_SCALAR_TOKEN))
-items_takes b opener kind.YAML_FLOW_SEQUENCE_START_TOKEN h = ap (λ (x : Bool). if x then Take else Refuse problem.NoFlowNode None) (or-true (closes b kind.YAML_FLOW_SEQUENCE_START_TOKEN))
-items_takes b opener kind.YAML_FLOW_MAPPING_START_TOKEN h = ap (λ (x : Bool). if x then Take else Refuse problem.NoFlowNode None) (or-true (closes b kind.YAML_FLOW_MAPPING_START_TOKEN))
-items_takes b opener _ h = cc
+items_takes b opener k h =
+    ap (λ (x : Bool). if x then Take else Refuse problem.NoFlowNode None) (ap (λ (x : Bool). closes b k || x) h ∙ or-true (closes b k))
 
 items_node_taken : (b : Brackets) (opener start end : yaml_mark_t) (body : TokenBody)
     → starts_node Flow (type_of body) ≡ true
@@ -269,34 +252,14 @@ lone_runs : (b : Brackets) (opener : yaml_mark_t) (ts : List Token) (s : List St
     (f : Option Fault) → Starts Flow ts
     → run ts (state.items b opener ∷ s) f
     ≡ run_node Flow ts (lone_below b (state.more b opener ∷ []) ++ s) f
-unfolding run feed
 lone_runs b opener [] s f h = absurd h
 lone_runs b opener (t ∷ ts) s f h =
-    ap (λ (c : Choice). carry (length ts) (turn c (state.items b opener) t s (feed s t)) (λ s'. run ts s' f)) (items_takes b opener (type_of t.body) h)
-    ∙ ap (λ (x : Taken). carry (length ts) (given_by x s) (λ s'. run ts s' f)) (items_node_taken b opener t.start_mark t.end_mark t.body h)
-    ∙ ap (λ (fed : Fed). carry (length ts) fed (λ s'. run ts s' f)) (given_above (lone_below b (state.more b opener ∷ [])) (node_taken Flow t.start_mark t.end_mark t.body) s)
+    step_take (state.items b opener) t ts s f (items_takes b opener (type_of t.body) h)
+    ∙ ap (λ (fed : Fed). carry (length ts) fed (λ s'. run ts s' f))
+    (ap (λ (x : Taken). given_by x s) (items_node_taken b opener t.start_mark t.end_mark t.body h)
+    ∙ given_above (lone_below b (state.more b opener ∷ [])) (node_taken Flow t.start_mark t.end_mark t.body) s)
 
--- ---- steps of states that hold collections
-
-pub step_take : (x : State) (t : Token) (ts : List Token) (s : List State) (f : Option Fault)
-    → choice_at x (type_of t.body) ≡ Take
-    → run (t ∷ ts) (x ∷ s) f ≡ carry (length ts) (given_by (taken_at x t) s) (λ s'. run ts s' f)
-unfolding run feed
-step_take x t ts s f h = ap (λ (c : Choice). carry (length ts) (turn c x t s (feed s t)) (λ s'. run ts s' f)) h
-
-items_close : (b : Brackets) (p : Span) (o : yaml_mark_t) (rest : List Token) (s : List State)
-    (f : Option Fault)
-    → run (token_at (closing b) p ∷ rest) (state.items b o ∷ s) f
-    ≡ giving (items_items b (tree.end_items p) rest) (run rest s f)
-items_close brackets.Sequence p o rest s f = step_take (state.items brackets.Sequence o) _ rest s f refl
-items_close brackets.Mapping p o rest s f = step_take (state.items brackets.Mapping o) _ rest s f refl
-
-more_close : (b : Brackets) (p : Span) (o : yaml_mark_t) (rest : List Token) (s : List State)
-    (f : Option Fault)
-    → run (token_at (closing b) p ∷ rest) (state.more b o ∷ s) f
-    ≡ giving (items_more b (tree.end_more p) rest) (run rest s f)
-more_close brackets.Sequence p o rest s f = step_take (state.more brackets.Sequence o) _ rest s f refl
-more_close brackets.Mapping p o rest s f = step_take (state.more brackets.Mapping o) _ rest s f refl
+-- ---- pairs in brackets
 
 -- the states behind a pair inside brackets
 abbrev pair_below : Brackets → List State → List State
@@ -338,16 +301,6 @@ more_leaves brackets.Sequence b' (tree.end_more p) rest = refl
 more_leaves brackets.Mapping b' (tree.end_more p) rest = refl
 more_leaves b b' (tree.comma p i) rest = refl
 
-pair_end_leaves : (b : Brackets) (m : More) (rest : List Token)
-    → Leaves state.pair_end (spell_more b m rest)
-pair_end_leaves b (tree.end_more p) rest = refl
-pair_end_leaves b (tree.comma p i) rest = refl
-
-lone_leaves : (b : Brackets) (m : More) (rest : List Token)
-    → Leaves state.lone (spell_more b m rest)
-lone_leaves b (tree.end_more p) rest = refl
-lone_leaves b (tree.comma p i) rest = refl
-
 -- Entries may follow one that is left out.
 pub entries_follow : (e : Entries) (rest : List Token) → Follows Entry (spell_entries e rest)
 entries_follow (tree.end_entries p) rest = refl
@@ -372,34 +325,22 @@ block_colon_follows (tree.colon p v) m rest = refl
 
 others_follow_at : (side : Side) (k : yaml_token_type_t) → follows (BlockPair side) k ≡ true
     → follows (IndentlessEntry side) k ≡ true
-others_follow_at side kind.YAML_KEY_TOKEN h = refl
-others_follow_at side kind.YAML_BLOCK_END_TOKEN h = refl
+others_follow_at Key kind.YAML_KEY_TOKEN h = refl
 others_follow_at Key kind.YAML_VALUE_TOKEN h = refl
-others_follow_at Value kind.YAML_VALUE_TOKEN h = cc
-others_follow_at side _ h = cc
-
-others_follow_none : (side : Side) (ts : List Token) → Ends (Block (Some side)) ts
-    → Follows (IndentlessEntry side) ts
-others_follow_none side [] h = h
-others_follow_none side (t ∷ ts) h = others_follow_at side (type_of t.body) h
+others_follow_at Value kind.YAML_KEY_TOKEN h = refl
+others_follow_at side kind.YAML_BLOCK_END_TOKEN h = refl
+others_follow_at side _ h = absurd (false≢true h)
 
 -- Other entries may follow one that is left out.
 pub others_follow : (side : Side) (o : Others) (rest : List Token) → Ends (Block (Some side)) rest
     → Follows (IndentlessEntry side) (spell_others o rest)
-others_follow side tree.no_others rest h = others_follow_none side rest h
+others_follow side tree.no_others rest h = first_is (others_follow_at side) rest h
 others_follow side (tree.other p n o) rest h = refl
 
 others_leave_at : (side : Side) (k : yaml_token_type_t) → follows (BlockPair side) k ≡ true
     → choice_at (state.others side) k ≡ Leave
-others_leave_at side kind.YAML_KEY_TOKEN h = refl
-others_leave_at side kind.YAML_BLOCK_END_TOKEN h = refl
-others_leave_at side kind.YAML_VALUE_TOKEN h = refl
-others_leave_at side _ h = cc
-
-others_leave : (side : Side) (ts : List Token) → Ends (Block (Some side)) ts
-    → Leaves (state.others side) ts
-others_leave side [] h = h
-others_leave side (t ∷ ts) h = others_leave_at side (type_of t.body) h
+others_leave_at side kind.YAML_BLOCK_ENTRY_TOKEN h = absurd (false≢true h)
+others_leave_at side _ h = refl
 
 -- ---- nodes
 
@@ -408,13 +349,18 @@ lone_behind : (b : Brackets) (m : More) (rest : List Token) (s : List State) (f 
     → run (spell_more b m rest) (lone_below b (state.more b o ∷ []) ++ s) f
     ≡ giving (lone b (spell_more b m rest)) (run (spell_more b m rest) (state.more b o ∷ s) f)
 lone_behind brackets.Sequence m rest s f o = refl
-lone_behind brackets.Mapping m rest s f o = leaves state.lone (spell_more brackets.Mapping m rest) (state.more brackets.Mapping o ∷ s) f (lone_leaves brackets.Mapping m rest)
+lone_behind brackets.Mapping m rest s f o = leaves state.lone _ (state.more brackets.Mapping o ∷ s) f (first_is {P = λ k. ends Flow k ≡ true} {Q = λ k. choice_at state.lone k ≡ Leave} (λ k h. refl) (spell_more brackets.Mapping m rest) (more_ends brackets.Mapping m rest))
 
 pair_behind : (b : Brackets) (m : More) (rest : List Token) (s : List State) (f : Option Fault)
     → run (spell_more b m rest) (pair_below b s) f
     ≡ giving (pair_end b (spell_more b m rest)) (run (spell_more b m rest) s f)
-pair_behind brackets.Sequence m rest s f = leaves state.pair_end (spell_more brackets.Sequence m rest) s f (pair_end_leaves brackets.Sequence m rest)
+pair_behind brackets.Sequence m rest s f = leaves state.pair_end _ s f (first_is {P = λ k. ends Flow k ≡ true} {Q = λ k. choice_at state.pair_end k ≡ Leave} (λ k h. refl) (spell_more brackets.Sequence m rest) (more_ends brackets.Sequence m rest))
 pair_behind brackets.Mapping m rest s f = refl
+
+-- Of so spelled tokens a state gives such items, and the rest runs on below.
+abbrev Runs : (List Token → List Token) → State → (List Token → List Given → List Given) → Type 0
+Runs spelled x items = (rest : List Token) (s : List State) (f : Option Fault)
+    → run (spelled rest) (x ∷ s) f ≡ giving (items rest) (run rest s f)
 
 mutual
   pub node_runs : {w : Wants} (n : Node w) (rest : List Token) (s : List State) (f : Option Fault)
@@ -431,18 +377,12 @@ mutual
       (s : List State) (f : Option Fault) → Ends w rest
       → run_content w p (spell_content c rest) s f ≡ giving (items_content c p rest) (run rest s f)
   content_runs (tree.scalar n v style) p rest s f h = refl
-  content_runs (tree.flow brackets.Sequence n is) p rest s f h =
-      ap (giving (λ (more : List Given). (node_at p (flow_shape brackets.Sequence) n.from n.to, length (spell_items brackets.Sequence is rest)) ∷ more))
-      (items_run is brackets.Sequence n.from rest s f)
-  content_runs (tree.flow brackets.Mapping n is) p rest s f h =
-      ap (giving (λ (more : List Given). (node_at p (flow_shape brackets.Mapping) n.from n.to, length (spell_items brackets.Mapping is rest)) ∷ more))
-      (items_run is brackets.Mapping n.from rest s f)
-  content_runs (tree.block_sequence n e) p rest s f h =
-      ap (giving (λ (more : List Given). (node_at p (item.sequence YAML_BLOCK_SEQUENCE_STYLE) n.from n.to, length (spell_entries e rest)) ∷ more)) (entries_run e n.from rest s f)
-  content_runs (tree.block_mapping n m) p rest s f h =
-      ap (giving (λ (more : List Given). (node_at p (item.mapping YAML_BLOCK_MAPPING_STYLE) n.from n.to, length (spell_pairs m rest)) ∷ more)) (pairs_run m n.from rest s f)
+  content_runs (tree.flow brackets.Sequence n is) p rest s f h = ap (giving (one _ _)) (items_run is brackets.Sequence n.from rest s f)
+  content_runs (tree.flow brackets.Mapping n is) p rest s f h = ap (giving (one _ _)) (items_run is brackets.Mapping n.from rest s f)
+  content_runs (tree.block_sequence n e) p rest s f h = ap (giving (one _ _)) (entries_run e n.from rest s f)
+  content_runs (tree.block_mapping n m) p rest s f h = ap (giving (one _ _)) (pairs_run m n.from rest s f)
   content_runs (tree.indentless {s = side} n m o) p rest s f h =
-      ap (giving (λ (more : List Given). (node_at p (item.sequence YAML_BLOCK_SEQUENCE_STYLE) n.from n.to, length (spell_maybe m (spell_others o rest))) ∷ more))
+      ap (giving (one _ _))
       (maybe_runs m (IndentlessEntry side) refl n.to (spell_others o rest) (state.others side ∷ s) f (others_follow side o rest h)
       ∙ ap (giving (items_maybe m (IndentlessEntry side) n.to (spell_others o rest))) (others_run o side rest s f h))
 
@@ -453,7 +393,7 @@ mutual
       ≡ giving (items_maybe m place before rest) (run rest s f)
   maybe_runs tree.left_out place e before rest s f h = leaves (state.optional place before) rest s f (follows_leaves place before rest h)
   maybe_runs {w = w} (tree.there n) place e before rest s f h =
-      optional_wanted place w e before (spell_node n rest) s f (node_starts n rest) ∙ node_runs n rest s f (subst (λ (v : Wants). Ends v rest) e (follows_ends place rest h))
+      optional_node place w e before (spell_node n rest) s f (node_starts n rest) ∙ node_runs n rest s f (subst (λ (v : Wants). Ends v rest) e (follows_ends place rest h))
 
   pub colon_runs : {w : Wants} (v : Colon w) (place : Site) → wants_of place ≡ w
       → (rest : List Token) (s : List State) (f : Option Fault) → Leaves (state.colon place) rest
@@ -463,11 +403,10 @@ mutual
   colon_runs tree.no_colon place e rest s f l h = leaves (state.colon place) rest s f l
   colon_runs (tree.colon p m) place e rest s f l h = step_take (state.colon place) _ (spell_maybe m rest) s f refl ∙ maybe_runs m place e p.to rest s f h
 
-  pub items_run : (i : Items) (b : Brackets) (o : yaml_mark_t) (rest : List Token) (s : List State)
-      (f : Option Fault)
-      → run (spell_items b i rest) (state.items b o ∷ s) f
-      ≡ giving (items_items b i rest) (run rest s f)
-  items_run (tree.end_items p) b o rest s f = items_close b p o rest s f
+  pub items_run : (i : Items) (b : Brackets) (o : yaml_mark_t)
+      → Runs (spell_items b i) (state.items b o) (items_items b i)
+  items_run (tree.end_items p) brackets.Sequence o rest s f = step_take (state.items brackets.Sequence o) _ rest s f refl
+  items_run (tree.end_items p) brackets.Mapping o rest s f = step_take (state.items brackets.Mapping o) _ rest s f refl
   items_run (tree.single n m) b o rest s f =
       lone_runs b o (spell_node n (spell_more b m rest)) s f (node_starts n (spell_more b m rest))
       ∙ node_runs n (spell_more b m rest) (lone_below b (state.more b o ∷ []) ++ s) f (more_ends b m rest)
@@ -482,17 +421,14 @@ mutual
       ∙ ap (giving (items_colon v (FlowPair b Value) (spell_more b m rest)))
       (pair_behind b m rest (state.more b o ∷ s) f ∙ ap (giving (pair_end b (spell_more b m rest))) (more_runs m b o rest s f))))
 
-  pub more_runs : (m : More) (b : Brackets) (o : yaml_mark_t) (rest : List Token) (s : List State)
-      (f : Option Fault)
-      → run (spell_more b m rest) (state.more b o ∷ s) f
-      ≡ giving (items_more b m rest) (run rest s f)
-  more_runs (tree.end_more p) b o rest s f = more_close b p o rest s f
+  pub more_runs : (m : More) (b : Brackets) (o : yaml_mark_t)
+      → Runs (spell_more b m) (state.more b o) (items_more b m)
+  more_runs (tree.end_more p) brackets.Sequence o rest s f = step_take (state.more brackets.Sequence o) _ rest s f refl
+  more_runs (tree.end_more p) brackets.Mapping o rest s f = step_take (state.more brackets.Mapping o) _ rest s f refl
   more_runs (tree.comma p i) b o rest s f = step_take (state.more b o) _ (spell_items b i rest) s f refl ∙ items_run i b o rest s f
 
-  pub entries_run : (e : Entries) (o : yaml_mark_t) (rest : List Token) (s : List State)
-      (f : Option Fault)
-      → run (spell_entries e rest) (state.entries o ∷ s) f
-      ≡ giving (items_entries e rest) (run rest s f)
+  pub entries_run : (e : Entries) (o : yaml_mark_t)
+      → Runs (spell_entries e) (state.entries o) (items_entries e)
   entries_run (tree.end_entries p) o rest s f = step_take (state.entries o) _ rest s f refl
   entries_run (tree.entry p m e) o rest s f =
       step_take (state.entries o) _ (spell_maybe m (spell_entries e rest)) s f refl
@@ -503,15 +439,14 @@ mutual
       (f : Option Fault) → Ends (Block (Some side)) rest
       → run (spell_others o rest) (state.others side ∷ s) f
       ≡ giving (items_others side o rest) (run rest s f)
-  others_run tree.no_others side rest s f h = leaves (state.others side) rest s f (others_leave side rest h)
+  others_run tree.no_others side rest s f h = leaves (state.others side) rest s f (first_is (others_leave_at side) rest h)
   others_run (tree.other p m o) side rest s f h =
       step_take (state.others side) _ (spell_maybe m (spell_others o rest)) s f refl
       ∙ maybe_runs m (IndentlessEntry side) refl p.to (spell_others o rest) (state.others side ∷ s) f (others_follow side o rest h)
       ∙ ap (giving (items_maybe m (IndentlessEntry side) p.to (spell_others o rest))) (others_run o side rest s f h)
 
-  pub pairs_run : (m : Pairs) (o : yaml_mark_t) (rest : List Token) (s : List State)
-      (f : Option Fault)
-      → run (spell_pairs m rest) (state.pairs o ∷ s) f ≡ giving (items_pairs m rest) (run rest s f)
+  pub pairs_run : (m : Pairs) (o : yaml_mark_t)
+      → Runs (spell_pairs m) (state.pairs o) (items_pairs m)
   pairs_run (tree.end_pairs p) o rest s f = step_take (state.pairs o) _ rest s f refl
   pairs_run (tree.block_pair p key v m) o rest s f =
       step_take (state.pairs o) _ (spell_maybe key (spell_colon v (spell_pairs m rest))) s f refl

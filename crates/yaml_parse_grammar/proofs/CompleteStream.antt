@@ -1,9 +1,8 @@
 -- The machine gives the items of a stream of documents.
-use Rattle.std.proofs.Common.{◌≡◌, Bool, true, false, if◌then◌else◌, List, [], ◌∷◌, length, Option, Some, None, refl, ap, ◌∙◌}
-use Rattle.yaml_parse_grammar.proofs.Words.{yaml_mark_t, yaml_token_type_t, Token, type_of, Fault, Block, Root, Choice, Refuse, Take, Open, item_at, State, Span, Given, token_at, spell_node, spell_maybe, next, items_node, items_maybe, items, behind, starts_node, parts_documents, follows, choice_at, taken_at, given_by, turn, feed, finished, carry, run, opened}
+use Rattle.std.proofs.Common.{◌≡◌, Bool, true, false, if◌then◌else◌, List, [], ◌∷◌, length, Option, Some, None, refl, ap, sym, ◌∙◌, ◌&&◌}
+use Rattle.yaml_parse_grammar.proofs.Words.{yaml_mark_t, yaml_token_type_t, Token, type_of, Fault, Block, Root, Refuse, Take, Open, item_at, State, Span, Given, token_at, spell_node, spell_maybe, next, items_node, items_maybe, items, behind, starts_node, parts_documents, choice_at, taken_at, given_by, feed, finished, run, opened}
 use Rattle.yaml_parse_model.specs.declared.yaml_token_type_t.TheVariants as kind
 use Rattle.yaml_parse_model.specs.Tokens as token
-use Rattle.yaml_parse_model.specs.Events as event
 use Rattle.yaml_parse_grammar.specs.declared.problem.ParseProblem.TheVariants as problem
 use Rattle.yaml_parse_grammar.specs.Items as item
 use Rattle.yaml_parse_grammar.specs.States as state
@@ -11,14 +10,12 @@ use Rattle.yaml_parse_grammar.specs.Trees.{Documents, First, Stream, Directive, 
 use Rattle.yaml_parse_grammar.specs.TreeSteps.{items_directives, items_ends, items_documents, items_first}
 use Rattle.yaml_parse_grammar.specs.Trees as tree
 use Rattle.yaml_parse_grammar.specs.Machine.{initial}
-use Rattle.yaml_parse_grammar.proofs.Complete.{giving, Leaves, leaves, Follows, follows_ends, Starts, node_starts, run_node, carry_with_item, not_following, step_take, maybe_runs, node_runs}
+use Rattle.yaml_parse_grammar.proofs.Complete.{giving, one, fed_by, runs_by, Leaves, leaves, Follows, follows_ends, Starts, node_starts, run_node, carry_with_item, step_take, maybe_runs, node_runs}
 
 -- Documents may follow a root that is left out.
 pub documents_follow : (d : Documents) (rest : List Token) → Follows Root (spell_documents d rest)
-documents_follow (tree.end_stream p) rest = refl
-documents_follow (tree.document [] p n e d) rest = refl
 documents_follow (tree.document (tree.version q major minor ∷ ds) p n e d) rest = refl
-documents_follow (tree.document (tree.handle q name prefix ∷ ds) p n e d) rest = refl
+documents_follow _ rest = refl
 
 -- So may the ends of a document.
 pub root_follows : (e : List Span) (d : Documents) (rest : List Token)
@@ -28,10 +25,8 @@ root_follows (p ∷ e) d rest = refl
 
 document_leaves : (d : Documents) (rest : List Token)
     → Leaves state.document_end (spell_documents d rest)
-document_leaves (tree.end_stream p) rest = refl
-document_leaves (tree.document [] p n e d) rest = refl
 document_leaves (tree.document (tree.version q major minor ∷ ds) p n e d) rest = refl
-document_leaves (tree.document (tree.handle q name prefix ∷ ds) p n e d) rest = refl
+document_leaves _ rest = refl
 
 skips_ends : (e : List Span) (rest : List Token) (s : List State) (f : Option Fault)
     → run (spell_ends e rest) (state.documents ∷ s) f ≡ run rest (state.documents ∷ s) f
@@ -45,11 +40,11 @@ ends_run : (e : List Span) (d : Documents) (rest : List Token) (f : Option Fault
 ends_run [] d rest f = leaves state.document_end (spell_documents d rest) (state.documents ∷ []) f (document_leaves d rest)
 ends_run (p ∷ e) d rest f =
     step_take state.document_end _ (spell_ends e (spell_documents d rest)) (state.documents ∷ []) f refl
-    ∙ ap (giving (λ (more : List Given). (event_at (event.document_end false) p.from p.to, length (spell_ends e (spell_documents d rest))) ∷ more))
+    ∙ ap (giving (one _ _))
     (skips_ends e (spell_documents d rest) [] f)
 
 abbrev starting : yaml_mark_t → Span → List Token → List Given → List Given
-starting from p ts more = (item_at (item.document false) from p.to, length ts) ∷ more
+starting from p ts = one (item_at (item.document false) from p.to) (length ts)
 
 directives_run : (ds : List Directive) (from : yaml_mark_t) (p : Span) (ts : List Token)
     (f : Option Fault)
@@ -59,27 +54,19 @@ directives_run : (ds : List Directive) (from : yaml_mark_t) (p : Span) (ts : Lis
     (giving (starting from p ts) (run ts (opened p.to) f))
 directives_run [] from p ts f = step_take (state.directives from) _ ts [] f refl
 directives_run (tree.version q major minor ∷ ds) from p ts f =
-    step_take (state.directives from) _ (spell_directives ds (token_at token.document_start p ∷ ts)) [] f refl
-    ∙ ap (giving (λ (more : List Given). (item_at (item.version_directive major minor) q.from q.to, length (spell_directives ds (token_at token.document_start p ∷ ts))) ∷ more))
-    (directives_run ds from p ts f)
+    step_take (state.directives from) _ (spell_directives ds (token_at token.document_start p ∷ ts)) [] f refl ∙ ap (giving (one _ _)) (directives_run ds from p ts f)
 directives_run (tree.handle q name prefix ∷ ds) from p ts f =
-    step_take (state.directives from) _ (spell_directives ds (token_at token.document_start p ∷ ts)) [] f refl
-    ∙ ap (giving (λ (more : List Given). (item_at (item.tag_directive name prefix) q.from q.to, length (spell_directives ds (token_at token.document_start p ∷ ts))) ∷ more))
-    (directives_run ds from p ts f)
+    step_take (state.directives from) _ (spell_directives ds (token_at token.document_start p ∷ ts)) [] f refl ∙ ap (giving (one _ _)) (directives_run ds from p ts f)
 
+-- the same between documents: there the first token's mark counts
 explicit_opens : (ds : List Directive) (p : Span) (ts : List Token) (f : Option Fault)
     → run (spell_directives ds (token_at token.document_start p ∷ ts)) (state.documents ∷ []) f
     ≡ giving (items_directives ds (token_at token.document_start p ∷ ts))
     (giving (starting (start_of ds p) p ts) (run ts (opened p.to) f))
-explicit_opens [] p ts f = step_take state.documents _ ts [] f refl
-explicit_opens (tree.version q major minor ∷ ds) p ts f =
-    step_take state.documents _ (spell_directives ds (token_at token.document_start p ∷ ts)) [] f refl
-    ∙ ap (giving (λ (more : List Given). (item_at (item.version_directive major minor) q.from q.to, length (spell_directives ds (token_at token.document_start p ∷ ts))) ∷ more))
-    (directives_run ds q.from p ts f)
-explicit_opens (tree.handle q name prefix ∷ ds) p ts f =
-    step_take state.documents _ (spell_directives ds (token_at token.document_start p ∷ ts)) [] f refl
-    ∙ ap (giving (λ (more : List Given). (item_at (item.tag_directive name prefix) q.from q.to, length (spell_directives ds (token_at token.document_start p ∷ ts))) ∷ more))
-    (directives_run ds q.from p ts f)
+unfolding run feed
+explicit_opens (tree.version q major minor ∷ ds) p ts f = directives_run (tree.version q major minor ∷ ds) q.from p ts f
+explicit_opens (tree.handle q name prefix ∷ ds) p ts f = directives_run (tree.handle q name prefix ∷ ds) q.from p ts f
+explicit_opens [] p ts f = directives_run [] p.from p ts f
 
 -- Without a state to go on from nothing runs.
 pub nothing_runs : (ts : List Token) (f : Option Fault) → run ts [] f ≡ finished
@@ -93,7 +80,7 @@ documents_run : (d : Documents) (rest : List Token) (f : Option Fault)
     ≡ record { items = items_documents d rest; ending = None }
 documents_run (tree.end_stream p) rest f =
     step_take state.documents _ rest [] f refl
-    ∙ ap (giving (λ (more : List Given). (event_at event.stream_end p.from p.to, length rest) ∷ more)) (nothing_runs rest f)
+    ∙ ap (giving (one _ _)) (nothing_runs rest f)
 documents_run (tree.document ds p n e d) rest f =
     explicit_opens ds p (spell_maybe n (spell_ends e (spell_documents d rest))) f
     ∙ ap (giving (items_directives ds (token_at token.document_start p ∷ spell_maybe n (spell_ends e (spell_documents d rest)))))
@@ -107,35 +94,29 @@ first_without : (d : Documents) (rest : List Token) (f : Option Fault)
     → run (spell_documents d rest) (state.first ∷ []) f
     ≡ run (spell_documents d rest) (state.documents ∷ []) f
 unfolding run feed
-first_without (tree.end_stream p) rest f = refl
-first_without (tree.document [] p n e d) rest f = refl
 first_without (tree.document (tree.version q major minor ∷ ds) p n e d) rest f = refl
-first_without (tree.document (tree.handle q name prefix ∷ ds) p n e d) rest f = refl
+first_without _ rest f = refl
+
+starts_no_document : (k : yaml_token_type_t)
+    → (starts_node (Block None) k && parts_documents k) ≡ false
+starts_no_document kind.YAML_SCALAR_TOKEN = refl
+starts_no_document _ = refl
 
 first_opens_at : (k : yaml_token_type_t) → starts_node (Block None) k ≡ true
     → choice_at state.first k ≡ Open
 first_opens_at k h =
-    ap (λ (b : Bool). if b then Take else if starts_node (Block None) k then Open else Refuse problem.NoBlockNode None) (not_parting k h)
+    ap (λ (b : Bool). if b then Take else if starts_node (Block None) k then Open else Refuse problem.NoBlockNode None) (sym (ap (λ b. b && parts_documents k) h) ∙ starts_no_document k)
     ∙ ap (λ (b : Bool). if b then Open else Refuse problem.NoBlockNode None) h
-  where
-    unparted : (k : yaml_token_type_t) → follows Root k ≡ false → parts_documents k ≡ false
-    unparted kind.YAML_DOCUMENT_END_TOKEN h = refl
-    unparted _ h = h
-
-    not_parting : (k : yaml_token_type_t) → starts_node (Block None) k ≡ true
-        → parts_documents k ≡ false
-    not_parting k h = unparted k (not_following Root k h)
 
 abbrev implicit : List Token → List Given → List Given
-implicit ts more = (item_at (item.document true) (next ts) (next ts), behind ts) ∷ more
+implicit ts = one (item_at (item.document true) (next ts) (next ts)) (behind ts)
 
 first_opens : (ts : List Token) (f : Option Fault) → Starts (Block None) ts
     → run ts (state.first ∷ []) f ≡ giving (implicit ts)
     (run_node (Block None) ts (state.document_end ∷ state.documents ∷ []) f)
-unfolding run feed
 first_opens [] f h = absurd h
 first_opens (t ∷ ts) f h =
-    ap (λ (c : Choice). carry (length ts) (turn c state.first t [] (feed [] t)) (λ s'. run ts s' f)) (first_opens_at (type_of t.body) h)
+    runs_by _ t ts (state.first ∷ []) f (fed_by Open state.first t [] (first_opens_at (type_of t.body) h))
     ∙ carry_with_item (length ts) (item_at (item.document true) t.start_mark t.start_mark)
     (given_by (taken_at (state.optional Root t.start_mark) t) (state.document_end ∷ state.documents ∷ [])) (λ s'. run ts s' f)
 
@@ -159,5 +140,5 @@ pub stream_runs : (t : Stream) (rest : List Token) (f : Option Fault)
     → run (spell t rest) initial f ≡ record { items = items t rest; ending = None }
 stream_runs t rest f =
     step_take state.stream _ (spell_first t.first (spell_documents t.documents rest)) [] f refl
-    ∙ ap (giving (λ (more : List Given). (event_at (event.stream_start t.encoding) t.start.from t.start.to, length (spell_first t.first (spell_documents t.documents rest))) ∷ more))
+    ∙ ap (giving (one _ _))
     (first_runs t.first t.documents rest f)

@@ -1,6 +1,6 @@
 -- A stack that isn't empty still has an event to give, or a fault.
 use Rattle.std.proofs.Common.{◌≡◌, ℕ, List, [], ◌∷◌, ◌++◌, length, map, Option, Some, None, refl}
-use Rattle.yaml_parse_grammar.proofs.Words.{yaml_mark_t, Token, TokenBody, type_of, no_token, Fault, Flow, Block, Root, Entry, IndentlessEntry, BlockPair, FlowPair, Choice, Refuse, Take, Leave, Open, RawEvent, RawEventBody, State, Given, choice_at, taken_at, documents_taken, stream_taken, left_at, Fed, stop, go, with_item, given_by, turn, feed, Stands, Outcome, finished, carry, run, IsInner, Directives, Settled, refused, gave, noted, settle, settle_body, reading, read_on, with_resolved, resolved}
+use Rattle.yaml_parse_grammar.proofs.Words.{yaml_mark_t, Token, TokenBody, type_of, no_token, Fault, Block, FlowPair, Choice, Refuse, Take, Leave, Open, RawEvent, RawEventBody, State, Given, choice_at, taken_at, documents_taken, stream_taken, left_at, Fed, stop, go, with_item, given_by, turn, feed, Stands, Outcome, finished, carry, run, IsInner, Directives, Settled, refused, gave, noted, settle, settle_body, reading, read_on, with_resolved, resolved}
 use Rattle.yaml_parse_model.specs.declared.yaml_token_type_t.TheVariants as kind
 use Rattle.yaml_parse_model.specs.Tokens as token
 use Rattle.yaml_parse_grammar.specs.declared.name.Brackets.TheVariants as brackets
@@ -8,6 +8,7 @@ use Rattle.yaml_parse_grammar.specs.Items as item
 use Rattle.yaml_parse_grammar.specs.States as state
 use Rattle.yaml_parse_grammar.proofs.Standing.{IsWithin, inside_taken}
 use Rattle.yaml_parse_grammar.proofs.Throughout.{AreTaken}
+use Rattle.yaml_parse_grammar.proofs.Rules.{was_take}
 
 -- the item is an event and no directive, or else the other fact holds
 abbrev pub Voiced : RawEventBody → Type 0 → Type 0
@@ -35,9 +36,6 @@ stream_speaks start end _ = tt
 
 documents_speak : (from start end : yaml_mark_t) (b : TokenBody)
     → TakenSpeaks (documents_taken from start end b).item (documents_taken from start end b).above
-documents_speak from start end (token.version_directive x y) = tt
-documents_speak from start end (token.tag_directive x y) = tt
-documents_speak from start end token.document_start = tt
 documents_speak from start end token.stream_end = tt
 documents_speak from start end _ = tt
 
@@ -72,31 +70,16 @@ taken_speaks x t = within_speaks (taken_at x t).item (taken_at x t).above (insid
 
 -- leaving a state gives no directive
 pub left_voiced : (x : State) (start : yaml_mark_t) (P : Type 0) → Voiced (left_at x start).body P
-left_voiced state.stream start P = tt
-left_voiced (state.optional place before) start P = tt
-left_voiced state.document_end start P = tt
 left_voiced (state.others side) start P = tt
-left_voiced (state.with_properties w p) start P = tt
-left_voiced state.pair_end start P = tt
 left_voiced _ start P = tt
 
 -- no state takes the empty token
 pub takes_a_token : (x : State) → choice_at x kind.YAML_NO_TOKEN ≡ Take → ⊥
-takes_a_token state.stream h = cc
-takes_a_token (state.optional Root before) h = cc
-takes_a_token (state.optional Entry before) h = cc
-takes_a_token (state.optional (IndentlessEntry side) before) h = cc
-takes_a_token (state.optional (BlockPair side) before) h = cc
-takes_a_token (state.optional (FlowPair brackets.Sequence side) before) h = cc
-takes_a_token (state.optional (FlowPair brackets.Mapping side) before) h = cc
-takes_a_token (state.with_properties Flow p) h = cc
-takes_a_token (state.with_properties (Block None) p) h = cc
-takes_a_token (state.with_properties (Block (Some s)) p) h = cc
-takes_a_token (state.items brackets.Sequence o) h = cc
-takes_a_token (state.items brackets.Mapping o) h = cc
-takes_a_token (state.more brackets.Sequence o) h = cc
-takes_a_token (state.more brackets.Mapping o) h = cc
-takes_a_token _ h = cc
+takes_a_token (state.optional (FlowPair brackets.Sequence side) before) h = was_take _ h
+takes_a_token (state.with_properties (Block (Some s)) p) h = was_take _ h
+takes_a_token (state.items brackets.Sequence o) h = was_take _ h
+takes_a_token (state.more brackets.Sequence o) h = was_take _ h
+takes_a_token _ h = was_take _ h
 
 -- ---- a turn
 

@@ -1,5 +1,6 @@
 -- What a state does at a token, by cases on what it does: the one place where each state meets each token.
 use Rattle.std.proofs.Common.{◌≡◌, Bool, true, false, if◌then◌else◌, ◌||◌, Option, Some, None, refl, subst, sym}
+use Rattle.std.proofs.lemmas.Bool.{false≢true}
 use Rattle.yaml_parse_grammar.proofs.Words.{yaml_mark_t, yaml_token_type_t, Wants, Flow, Block, Site, Choice, Refuse, Take, Leave, Open, ParseProblem, Properties, State, starts_content, starts_node, wants_of, closes, parts_documents, follows, no_node, joins, choice_at}
 use Rattle.yaml_parse_model.specs.declared.yaml_token_type_t.TheVariants as kind
 use Rattle.yaml_parse_grammar.specs.declared.problem.ParseProblem.TheVariants as problem
@@ -138,10 +139,11 @@ may_open _ k h = absurd h
 pub opens_first : (x : State) (k : yaml_token_type_t) → choice_at x k ≡ Open → x ≡ state.first
 opens_first x k e = may_open x k (open_rule x k e)
 
+-- A document is opened at what begins a node.
+pub opens_node : (x : State) (k : yaml_token_type_t) → choice_at x k ≡ Open
+    → starts_node (Block None) k ≡ true
+opens_node x k h = subst (λ (y : State). MayOpen y k) (opens_first x k h) (open_rule x k h)
+
 -- No document opens before the empty token.
 pub none_opens : (x : State) → choice_at x kind.YAML_NO_TOKEN ≡ Open → ⊥
-none_opens x e = none x (open_rule x kind.YAML_NO_TOKEN e)
-  where
-    none : (x : State) → MayOpen x kind.YAML_NO_TOKEN → ⊥
-    none state.first h = cc
-    none _ h = h
+none_opens x e = false≢true (opens_node x kind.YAML_NO_TOKEN e)

@@ -1,14 +1,15 @@
 -- One step of the machine, at a token.
-use Rattle.std.proofs.Common.{◌≡◌, ℕ, true, List, [], ◌∷◌, ◌++◌, length, Option, Some, None, refl, ap, sym, subst, ◌∙◌}
-use Rattle.yaml_parse_grammar.proofs.Words.{yaml_mark_t, yaml_token_type_t, Token, type_of, no_token, Fault, Block, Root, Choice, Refuse, Take, Leave, Open, ParseProblem, RawEvent, item_at, State, Taken, Given, starts_node, choice_at, taken_at, left_at, opened, Fed, stop, go, with_item, given_by, turn, feed, finished, carry, run}
+use Rattle.std.proofs.Common.{◌≡◌, ℕ, true, List, [], ◌∷◌, ◌++◌, length, Option, Some, None, refl, ap, sym, ◌∙◌}
+use Rattle.yaml_parse_grammar.proofs.Words.{yaml_mark_t, Token, type_of, no_token, Fault, Root, Choice, Refuse, Take, Leave, Open, ParseProblem, RawEvent, item_at, State, Taken, choice_at, taken_at, left_at, opened, Fed, stop, go, with_item, given_by, turn, feed, finished, carry, run}
 use Rattle.yaml_parse_model.specs.declared.yaml_token_type_t.TheVariants as kind
 use Rattle.yaml_parse_model.specs.Source.{front_of, rest_of, MayAnswer}
 use Rattle.yaml_parse_grammar.specs.Problems.{parser_fault}
 use Rattle.yaml_parse_grammar.specs.Items as item
 use Rattle.yaml_parse_grammar.specs.States as state
 use Rattle.yaml_parse_grammar.specs.Machine.{context_of, ending_at, left_where_stopped, unasked_at_stop}
-use Rattle.yaml_parse_grammar.proofs.Complete.{giving, carry_with_item, step_take, optional_takes}
-use Rattle.yaml_parse_grammar.proofs.Rules.{MayOpen, open_rule, opens_first, none_opens}
+use Rattle.yaml_parse_grammar.proofs.Complete.{giving, one, carry_with_item, fed_by, runs_by, optional_takes}
+use Rattle.yaml_parse_grammar.proofs.Rules.{none_opens}
+pub use Rattle.yaml_parse_grammar.proofs.Rules.{opens_node}
 use Rattle.yaml_parse_grammar.proofs.EventsToGive.{takes_a_token}
 
 -- ---- the end of a list
@@ -62,48 +63,44 @@ pub refuses : (x : State) (p : ParseProblem) (o : Option yaml_mark_t) (t : Token
     (s : List State) (f : Option Fault) → choice_at x (type_of t.body) ≡ Refuse p o
     → run (t ∷ ts) (x ∷ s) f ≡ record
     { items = []; ending = Some (parser_fault p t.start_mark (context_of o t.start_mark)) }
-unfolding run feed
-refuses x p o t ts s f h = ap (λ (c : Choice). carry (length ts) (turn c x t s (feed s t)) (λ s'. run ts s' f)) h
+refuses x p o t ts s f h = runs_by _ t ts (x ∷ s) f (fed_by (Refuse p o) x t s h)
+
+fed_taken : (x : State) (y : Taken) (t : Token) (s : List State)
+    → choice_at x (type_of t.body) ≡ Take → taken_at x t ≡ y → feed (x ∷ s) t ≡ given_by y s
+fed_taken x y t s h k = fed_by Take x t s h ∙ ap (λ (y : Taken). given_by y s) k
 
 -- A state that takes a token gives its item and goes on above.
 pub takes : (x : State) (i : RawEvent) (above : List State) (t : Token) (ts : List Token)
     (s : List State) (f : Option Fault) → choice_at x (type_of t.body) ≡ Take
     → taken_at x t ≡ record { item = Some i; above = above }
-    → run (t ∷ ts) (x ∷ s) f ≡ giving (λ (more : List Given). (i, length ts) ∷ more)
-    (run ts (above ++ s) f)
-takes x i above t ts s f h k = step_take x t ts s f h ∙ ap (λ (y : Taken). carry (length ts) (given_by y s) (λ s'. run ts s' f)) k
+    → run (t ∷ ts) (x ∷ s) f ≡ giving (one i (length ts)) (run ts (above ++ s) f)
+takes x i above t ts s f h k = runs_by _ t ts (x ∷ s) f (fed_taken x _ t s h k)
 
 -- A state that takes a token for no item goes on above.
 pub takes_silently : (x : State) (above : List State) (t : Token) (ts : List Token) (s : List State)
     (f : Option Fault) → choice_at x (type_of t.body) ≡ Take
     → taken_at x t ≡ record { item = None; above = above }
     → run (t ∷ ts) (x ∷ s) f ≡ run ts (above ++ s) f
-takes_silently x above t ts s f h k = step_take x t ts s f h ∙ ap (λ (y : Taken). carry (length ts) (given_by y s) (λ s'. run ts s' f)) k
+takes_silently x above t ts s f h k = runs_by _ t ts (x ∷ s) f (fed_taken x _ t s h k)
 
--- A document is opened at what begins a node.
-pub opens_node : (x : State) (k : yaml_token_type_t) → choice_at x k ≡ Open
-    → starts_node (Block None) k ≡ true
-opens_node x k h = subst (λ (y : State). MayOpen y k) (opens_first x k h) (open_rule x k h)
+-- DOCUMENT-START of a document without `---`
+abbrev pub implicit_at : yaml_mark_t → RawEvent
+implicit_at start = item_at (item.document true) start start
 
-opens_fed : (t : Token) (s : List State) → starts_node (Block None) (type_of t.body) ≡ true
-    → given_by (taken_at (state.optional Root t.start_mark) t)
-    (state.document_end ∷ state.documents ∷ s) ≡ feed (opened t.start_mark ++ s) t
-unfolding feed
-opens_fed t s h =
-    sym (ap (λ (c : Choice). turn c (state.optional Root t.start_mark) t (state.document_end ∷ state.documents ∷ s) (feed (state.document_end ∷ state.documents ∷ s) t))
-    (optional_takes Root t.start_mark (type_of t.body) h))
+fed_open : (x : State) (t : Token) (s : List State) → choice_at x (type_of t.body) ≡ Open
+    → feed (x ∷ s) t ≡ with_item (implicit_at t.start_mark) (feed (opened t.start_mark ++ s) t)
+fed_open x t s h =
+    fed_by Open x t s h
+    ∙ ap (with_item (implicit_at t.start_mark)) (sym (fed_by Take (state.optional Root t.start_mark) t (state.document_end ∷ state.documents ∷ s) (optional_takes Root t.start_mark (type_of t.body) (opens_node x (type_of t.body) h))))
 
 -- A state that opens a document gives DOCUMENT-START and goes on with the document's states.
 pub opens : (x : State) (t : Token) (ts : List Token) (s : List State) (f : Option Fault)
     → choice_at x (type_of t.body) ≡ Open
-    → run (t ∷ ts) (x ∷ s) f ≡ giving
-    (λ (more : List Given). (item_at (item.document true) t.start_mark t.start_mark, length ts)
-    ∷ more) (run (t ∷ ts) (opened t.start_mark ++ s) f)
-unfolding run feed
+    → run (t ∷ ts) (x ∷ s) f ≡ giving (one (implicit_at t.start_mark) (length ts))
+    (run (t ∷ ts) (opened t.start_mark ++ s) f)
+unfolding run
 opens x t ts s f h =
-    ap (λ (c : Choice). carry (length ts) (turn c x t s (feed s t)) (λ s'. run ts s' f)) h
-    ∙ ap (λ (fed : Fed). carry (length ts) (with_item (item_at (item.document true) t.start_mark t.start_mark) fed) (λ s'. run ts s' f)) (opens_fed t s (opens_node x (type_of t.body) h))
-    ∙ carry_with_item (length ts) (item_at (item.document true) t.start_mark t.start_mark) (feed (opened t.start_mark ++ s) t) (λ s'. run ts s' f)
+    runs_by _ t ts (x ∷ s) f (fed_open x t s h) ∙ carry_with_item (length ts) (implicit_at t.start_mark) (feed (opened t.start_mark ++ s) t) (λ s'. run ts s' f)
 
 -- ---- where the machine stops
 
@@ -112,41 +109,38 @@ with_item_stops : (left : ℕ) (i : RawEvent) (below : Fed) (k : List State → 
 with_item_stops left i (stop is f) k = refl
 with_item_stops left i (go is s) k = refl
 
+stops_by : (fed : Fed) (t : Token) (ts : List Token) (s : List State) → feed s t ≡ fed
+    → unasked_at_stop (t ∷ ts) s
+    ≡ left_where_stopped (length ts) fed (λ s'. unasked_at_stop ts s')
+unfolding unasked_at_stop
+stops_by fed t ts s h = ap (λ (fed : Fed). left_where_stopped (length ts) fed (λ s'. unasked_at_stop ts s')) h
+
 -- Behind a refusal the tokens behind the refused one are left.
 pub refuses_stops : (x : State) (p : ParseProblem) (o : Option yaml_mark_t) (t : Token)
     (ts : List Token) (s : List State) → choice_at x (type_of t.body) ≡ Refuse p o
     → unasked_at_stop (t ∷ ts) (x ∷ s) ≡ length ts
-unfolding unasked_at_stop feed
-refuses_stops x p o t ts s h = ap (λ (c : Choice). left_where_stopped (length ts) (turn c x t s (feed s t)) (λ s'. unasked_at_stop ts s')) h
+refuses_stops x p o t ts s h = stops_by _ t ts (x ∷ s) (fed_by (Refuse p o) x t s h)
 
 -- A state that takes a token leaves those behind it.
 pub takes_stops : (x : State) (i : Option RawEvent) (above : List State) (t : Token)
     (ts : List Token) (s : List State) → choice_at x (type_of t.body) ≡ Take
     → taken_at x t ≡ record { item = i; above = above }
     → unasked_at_stop (t ∷ ts) (x ∷ s) ≡ unasked_at_stop ts (above ++ s)
-unfolding unasked_at_stop feed
-takes_stops x i above t ts s h k =
-    ap (λ (c : Choice). left_where_stopped (length ts) (turn c x t s (feed s t)) (λ s'. unasked_at_stop ts s')) h
-    ∙ ap (λ (y : Taken). left_where_stopped (length ts) (given_by y s) (λ s'. unasked_at_stop ts s')) k
+takes_stops x i above t ts s h k = stops_by _ t ts (x ∷ s) (fed_taken x _ t s h k)
 
 -- A state that leaves takes no token.
 pub leaves_stops : (x : State) (t : Token) (ts : List Token) (s : List State)
     → choice_at x (type_of t.body) ≡ Leave
     → unasked_at_stop (t ∷ ts) (x ∷ s) ≡ unasked_at_stop (t ∷ ts) s
-unfolding unasked_at_stop feed
-leaves_stops x t ts s h =
-    ap (λ (c : Choice). left_where_stopped (length ts) (turn c x t s (feed s t)) (λ s'. unasked_at_stop ts s')) h
-    ∙ with_item_stops (length ts) (left_at x t.start_mark) (feed s t) (λ s'. unasked_at_stop ts s')
+unfolding unasked_at_stop
+leaves_stops x t ts s h = stops_by _ t ts (x ∷ s) (fed_by Leave x t s h) ∙ with_item_stops (length ts) (left_at x t.start_mark) (feed s t) (λ s'. unasked_at_stop ts s')
 
 -- A state that opens a document takes no token.
 pub opens_stops : (x : State) (t : Token) (ts : List Token) (s : List State)
     → choice_at x (type_of t.body) ≡ Open
     → unasked_at_stop (t ∷ ts) (x ∷ s) ≡ unasked_at_stop (t ∷ ts) (opened t.start_mark ++ s)
-unfolding unasked_at_stop feed
-opens_stops x t ts s h =
-    ap (λ (c : Choice). left_where_stopped (length ts) (turn c x t s (feed s t)) (λ s'. unasked_at_stop ts s')) h
-    ∙ ap (λ (fed : Fed). left_where_stopped (length ts) (with_item (item_at (item.document true) t.start_mark t.start_mark) fed) (λ s'. unasked_at_stop ts s')) (opens_fed t s (opens_node x (type_of t.body) h))
-    ∙ with_item_stops (length ts) (item_at (item.document true) t.start_mark t.start_mark) (feed (opened t.start_mark ++ s) t) (λ s'. unasked_at_stop ts s')
+unfolding unasked_at_stop
+opens_stops x t ts s h = stops_by _ t ts (x ∷ s) (fed_open x t s h) ∙ with_item_stops (length ts) (implicit_at t.start_mark) (feed (opened t.start_mark ++ s) t) (λ s'. unasked_at_stop ts s')
 
 stops_at_none : (fed : Fed) → left_where_stopped 0 fed (λ s'. 0) ≡ 0
 stops_at_none (stop is f) = refl

@@ -1,43 +1,35 @@
 -- A step keeps how states stand above one another, and tells by what it gives whether a document is half taken.
-use Rattle.std.proofs.Common.{◌≡◌, ℕ, ℤ, Bool, true, false, if◌then◌else◌, List, [], ◌∷◌, ◌++◌, Option, Some, None, refl, sym, ap, subst}
+use Rattle.std.proofs.Common.{◌≡◌, ℕ, Bool, false, List, [], ◌∷◌, ◌++◌, Option, Some, None, refl, sym, ap, subst, ◌∙◌}
+use Rattle.std.proofs.lemmas.Bool.{cond_both}
 use Rattle.std.specs.Str.{bytes_eq}
 use Rattle.std.specs.Prelude.{codes}
-use Rattle.yaml_parse_grammar.proofs.Words.{yaml_mark_t, yaml_scalar_style_t, yaml_version_directive_t, yaml_token_type_t, Token, TokenBody, type_of, TagDirective, Take, Leave, Open, RawEvent, RawEventBody, Shape, State, choice_at, taken_at, documents_taken, stream_taken, left_at, opened, Directives, Settled, refused, gave, noted, settle_body, resolved, directive_for, with_resolved, with_tag, with_version, is_known_version, node_event, IsInner}
+use Rattle.yaml_parse_grammar.proofs.Words.{yaml_mark_t, yaml_token_type_t, Token, TokenBody, type_of, Take, Leave, Open, RawEvent, RawEventBody, Shape, State, choice_at, taken_at, documents_taken, stream_taken, left_at, opened, Directives, Settled, refused, gave, noted, settle_body, node_event, IsInner}
 use Rattle.yaml_parse_model.specs.Tokens as token
-use Rattle.yaml_parse_model.specs.Events as event
 use Rattle.yaml_parse_grammar.specs.Items as item
 use Rattle.yaml_parse_grammar.specs.States as state
 use Rattle.yaml_parse_grammar.specs.Remaining.{is_between}
 use Rattle.yaml_parse_grammar.proofs.Rules.{MayLeave, leave_rule, opens_first}
-use Rattle.yaml_parse_grammar.proofs.Throughout.{AllAre, AreTaken, IsBare, Inner, inner_are}
+use Rattle.yaml_parse_grammar.proofs.Throughout.{Settles, settled_by, AllAre, AreTaken, IsBare, Inner, inner_are}
 use Rattle.yaml_parse_grammar.specs.Stacks.{parts_documents_behind, StandsBehind, InsideAt, IsInside, StackAt, IsStack}
 
 -- ---- inside a document
 
--- what stands within a document may stand on a stack
-pub inside_at_stack : (x : State) (s : List State) → InsideAt x s (IsInside s)
-    → StackAt x s (InsideAt x s (IsInside s))
-inside_at_stack state.stream s h = absurd h.0
-inside_at_stack state.first s h = absurd h.0
-inside_at_stack state.documents s h = absurd h.0
-inside_at_stack (state.directives from) s h = absurd h.0
-inside_at_stack _ s h = h
+inside_at : (x : State) (s : List State) → InsideAt x s (IsInside s)
+    → StackAt x s (InsideAt x s (IsInside s)) × (is_between (x ∷ s) ≡ false)
+inside_at state.stream s h = absurd h.0
+inside_at state.first s h = absurd h.0
+inside_at state.documents s h = absurd h.0
+inside_at (state.directives from) s h = absurd h.0
+inside_at _ s h = (h, refl)
 
 -- what stands within a document is a stack
 pub inside_stack : (s : List State) → IsInside s → IsStack s
 inside_stack [] h = tt
-inside_stack (x ∷ s) h = inside_at_stack x s h
-
-half_taken_at : (x : State) (s : List State) → InsideAt x s (IsInside s)
-    → is_between (x ∷ s) ≡ false
-half_taken_at state.stream s h = absurd h.0
-half_taken_at state.first s h = absurd h.0
-half_taken_at state.documents s h = absurd h.0
-half_taken_at _ s h = refl
+inside_stack (x ∷ s) h = (inside_at x s h).0
 
 half_taken : (s : List State) → IsInside s → is_between s ≡ false
 half_taken [] h = absurd h
-half_taken (x ∷ s) h = half_taken_at x s h
+half_taken (x ∷ s) h = (inside_at x s h).1
 
 inner_above : (x : State) (s : List State) → IsInner x → IsInside s → InsideAt x s (IsInside s)
 inner_above state.document_end s h k = absurd h
@@ -159,49 +151,20 @@ SettledBehind (refused f) between = Unit {0}
 SettledBehind (gave body ds) between = between ≡ parts_documents_behind body
 SettledBehind (noted ds) between = Unit {0}
 
-tagged_half : (b : Bool) (anchor : Option (List ℕ)) (tag value : List ℕ)
-    (style : yaml_scalar_style_t)
-    → parts_documents_behind (if b then event.scalar anchor None value true false style else
-    event.scalar anchor (Some tag) value false false style) ≡ false
-tagged_half true anchor tag value style = refl
-tagged_half false anchor tag value style = refl
-
 node_half : (anchor tag : Option (List ℕ)) (s : Shape)
-    → parts_documents_behind (node_event anchor tag s) ≡ false
+    → false ≡ parts_documents_behind (node_event anchor tag s)
+node_half anchor (Some tag) (item.scalar value style) = cond_both (bytes_eq tag (codes "!")) _ _ (λ b. false ≡ parts_documents_behind b) (λ _. refl) (λ _. refl)
 node_half anchor None (item.scalar value style) = refl
-node_half anchor (Some tag) (item.scalar value style) = tagged_half (bytes_eq tag (codes "!")) anchor tag value style
 node_half anchor tag _ = refl
-
-to_node : (anchor tag : Option (List ℕ)) (s : Shape) (x : Bool) → x ≡ false
-    → x ≡ parts_documents_behind (node_event anchor tag s)
-to_node anchor tag s x h = rw h (sym (node_half anchor tag s))
-
-tagged_behind : (o anchor : Option (List ℕ)) (s : Shape) (from at : yaml_mark_t) (ds : Directives)
-    (x : Bool) → x ≡ false → SettledBehind (with_resolved o anchor s from at ds) x
-tagged_behind None anchor s from at ds x h = tt
-tagged_behind (Some tag) anchor s from at ds x h = to_node anchor (Some tag) s x h
-
-known_behind : (b : Bool) (ds : Directives) (r : Settled) (x : Bool) → SettledBehind r x
-    → SettledBehind (if b then noted ds else r) x
-known_behind true ds r x h = tt
-known_behind false ds r x h = h
-
-version_behind : (o : Option yaml_version_directive_t) (tags : List TagDirective) (major minor : ℤ)
-    (at : yaml_mark_t) (x : Bool) → SettledBehind (with_version o tags major minor at) x
-version_behind (Some v) tags major minor at x = tt
-version_behind None tags major minor at x = known_behind (is_known_version major minor) _ _ x tt
-
-handle_behind : (o : Option (List ℕ)) (ds : Directives) (handle prefix : List ℕ) (at : yaml_mark_t)
-    (x : Bool) → SettledBehind (with_tag o ds handle prefix at) x
-handle_behind (Some other) ds handle prefix at x = tt
-handle_behind None ds handle prefix at x = tt
 
 -- Settling an item keeps where it stands.
 pub settled_behind : (b : RawEventBody) (from : yaml_mark_t) (ds : Directives) (x : Bool)
     → StandsBehind b x → SettledBehind (settle_body b from ds) x
-settled_behind (item.event body) from ds x h = h
-settled_behind (item.version_directive major minor) from ds x h = version_behind ds.version ds.tags major minor from x
-settled_behind (item.tag_directive handle prefix) from ds x h = handle_behind (directive_for handle ds.tags) ds handle prefix from x
-settled_behind (item.document implicit) from ds x h = h
-settled_behind (item.node anchor None shape) from ds x h = to_node anchor None shape x h
-settled_behind (item.node anchor (Some tag) shape) from ds x h = tagged_behind (resolved ds.tags tag.handle tag.suffix) anchor shape from tag.mark ds x h
+settled_behind b from ds x h = settled_by (λ c. SettledBehind c x) (λ f. tt) b from ds (cases b h)
+  where
+    cases : (b : RawEventBody) → StandsBehind b x → Settles (λ c. SettledBehind c x) b ds
+    cases (item.event body) h = h
+    cases (item.document implicit) h = h
+    cases (item.node anchor None shape) h = h ∙ node_half anchor None shape
+    cases (item.node anchor (Some tag) shape) h = λ g e. h ∙ node_half anchor (Some g) shape
+    cases _ h = tt

@@ -1,5 +1,6 @@
 -- What holds of all items: whatever holds of each part of a token holds of what the machine gives, of what it keeps, and of the events.
-use Rattle.std.proofs.Common.{ℕ, ℤ, Bool, true, false, if◌then◌else◌, List, [], ◌∷◌, ◌++◌, length, map, Option, Some, None}
+use Rattle.std.proofs.Common.{◌≡◌, ℕ, ℤ, Bool, true, false, List, [], ◌∷◌, ◌++◌, length, map, Option, Some, None, refl}
+use Rattle.std.proofs.lemmas.Bool.{cond_both}
 use Rattle.yaml_parse_grammar.proofs.Words.{yaml_mark_t, yaml_scalar_style_t, Token, TokenBody, type_of, no_token, Fault, yaml_version_directive_t, EventBody, TagDirective, Wants, Flow, Block, Root, Choice, Refuse, Take, Leave, Open, RawEvent, RawEventBody, Properties, Shape, node_at, State, Taken, Given, IsInner, Directives, Settled, refused, gave, noted, settle, settle_body, resolved, directive_for, with_resolved, with_tag, with_version, is_known_version, node_event, read_on, reading, choice_at, taken_at, documents_taken, content_taken, node_taken, left_at, Stands, Fed, stop, go, with_item, given_by, turn, feed, Outcome, finished, carry, run}
 use Rattle.yaml_parse_model.specs.declared.yaml_encoding_t.{yaml_encoding_t}
 use Rattle.yaml_parse_model.specs.declared.yaml_sequence_style_t.{yaml_sequence_style_t}
@@ -10,7 +11,7 @@ use Rattle.yaml_parse_grammar.specs.declared.name.Brackets.TheVariants as bracke
 use Rattle.yaml_parse_grammar.specs.Items.{Tag}
 use Rattle.yaml_parse_grammar.specs.Items as item
 use Rattle.yaml_parse_grammar.specs.States as state
-use Rattle.yaml_parse_grammar.specs.Resolve.{Told, Reading}
+use Rattle.yaml_parse_grammar.specs.Resolve.{Told, Reading, behind_event}
 use Rattle.yaml_parse_grammar.specs.Machine.{tag_at}
 
 -- ---- what is taken
@@ -276,33 +277,56 @@ pub record Settling (P : RawEventBody → Type 0) (B : EventBody → Type 0) : T
       → B (event.document_start v tags implicit)
   pub node : (a : Option (List ℕ)) (g : Option (List ℕ)) (s : Shape) → B (node_event a g s)
 
-if_settles : (B : EventBody → Type 0) (known : Bool) (ds : Directives) (f : Fault)
-    → SettlesTo B (if known then noted ds else refused f)
-if_settles B true ds f = tt
-if_settles B false ds f = tt
+-- C of what an item settles to where no fault is met
+abbrev pub Settles : (Settled → Type 0) → RawEventBody → Directives → Type 0
+Settles C (item.event body) ds = C (gave body (behind_event body ds))
+Settles C (item.version_directive x y) ds = C (noted
+    (record { version = Some (record { major = x; minor = y }); tags = ds.tags }))
+Settles C (item.tag_directive x y) ds = C (noted
+    (record {
+      version = ds.version;
+      tags = ds.tags ++ (record { handle = x; prefix = y } ∷ []);
+    }))
+Settles C (item.document implicit) ds = C (gave
+    (event.document_start ds.version ds.tags implicit) ds)
+Settles C (item.node a None s) ds = C (gave (node_event a None s) ds)
+Settles C (item.node a (Some tag) s) ds = (g : List ℕ)
+    → resolved ds.tags tag.handle tag.suffix ≡ Some g → C (gave (node_event a (Some g) s) ds)
+
+-- What holds of each fault holds of what an item settles to.
+pub settled_by : (C : Settled → Type 0) → ((f : Fault) → C (refused f)) → (b : RawEventBody)
+    (from : yaml_mark_t) (ds : Directives) → Settles C b ds → C (settle_body b from ds)
+settled_by C r (item.event body) from ds h = h
+settled_by C r (item.version_directive x y) from ds h = version ds.version
+  where
+    version : (v : Option yaml_version_directive_t) → C (with_version v ds.tags x y from)
+    version None = cond_both (is_known_version x y) _ _ C (λ _. h) (λ _. r _)
+    version (Some v) = r _
+settled_by C r (item.tag_directive x y) from ds h = handled (directive_for x ds.tags)
+  where
+    handled : (o : Option (List ℕ)) → C (with_tag o ds x y from)
+    handled None = h
+    handled (Some p) = r _
+settled_by C r (item.document implicit) from ds h = h
+settled_by C r (item.node a None s) from ds h = h
+settled_by C r (item.node a (Some tag) s) from ds h = known (resolved ds.tags tag.handle tag.suffix) h
+  where
+    known : (o : Option (List ℕ)) → ((g : List ℕ) → o ≡ Some g → C (gave (node_event a (Some g) s) ds)) → C (with_resolved o a s from tag.mark ds)
+    known None k = r _
+    known (Some g) k = k g refl
 
 -- What an item settles to is as the rules say.
 pub settles : (P : RawEventBody → Type 0) (B : EventBody → Type 0) → Settling P B
     → (b : RawEventBody) (from : yaml_mark_t) (ds : Directives) → P b
     → SettlesTo B (settle_body b from ds)
-settles P B r (item.event body) from ds h = r.whole body h
-settles P B r (item.version_directive x y) from ds h = version ds.version
+settles P B r b from ds h = settled_by (SettlesTo B) (λ f. tt) b from ds (cases b h)
   where
-    version : (v : Option yaml_version_directive_t) → SettlesTo B (with_version v ds.tags x y from)
-    version None = if_settles B (is_known_version x y) _ _
-    version (Some v) = tt
-settles P B r (item.tag_directive x y) from ds h = handled (directive_for x ds.tags)
-  where
-    handled : (o : Option (List ℕ)) → SettlesTo B (with_tag o ds x y from)
-    handled None = tt
-    handled (Some p) = tt
-settles P B r (item.document implicit) from ds h = r.document ds.version ds.tags implicit
-settles P B r (item.node a None s) from ds h = r.node a None s
-settles P B r (item.node a (Some tag) s) from ds h = known (resolved ds.tags tag.handle tag.suffix)
-  where
-    known : (o : Option (List ℕ)) → SettlesTo B (with_resolved o a s from tag.mark ds)
-    known None = tt
-    known (Some g) = r.node a (Some g) s
+    cases : (b : RawEventBody) → P b → Settles (SettlesTo B) b ds
+    cases (item.event body) h = r.whole body h
+    cases (item.document implicit) h = r.document ds.version ds.tags implicit
+    cases (item.node a None s) h = r.node a None s
+    cases (item.node a (Some tag) s) h = λ g e. r.node a (Some g) s
+    cases _ h = tt
 
 abbrev pub EventsAre : (EventBody → Type 0) → List Told → Type 0
 EventsAre B [] = Unit {0}

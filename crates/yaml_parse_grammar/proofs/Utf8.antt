@@ -1,15 +1,16 @@
 -- Texts that are UTF-8 stay so: from a token and a state to items and states, and from an item to its event.
-use Rattle.std.proofs.Common.{ℕ, ℤ, Bool, true, false, if◌then◌else◌, List, [], ◌∷◌, ◌++◌, Option, Some, None, option_map, IsUtf8, codes, refl}
+use Rattle.std.proofs.Common.{ℕ, List, [], ◌∷◌, ◌++◌, Option, Some, None, option_map, IsUtf8, codes, refl, subst}
+use Rattle.std.proofs.lemmas.Bool.{cond_both}
 use Rattle.std.proofs.lemmas.Str.{IsUtf8-append, IsUtf8-nil}
 use Rattle.std.specs.Str.{bytes_eq}
-use Rattle.yaml_parse_grammar.proofs.Words.{yaml_mark_t, yaml_scalar_style_t, yaml_version_directive_t, Token, EventBody, TagDirective, RawEvent, RawEventBody, Shape, State, taken_at, left_at, opened, Directives, Settled, refused, gave, noted, settle_body, resolved, directive_for, with_resolved, with_tag, with_version, is_known_version, node_event}
+use Rattle.yaml_parse_grammar.proofs.Words.{yaml_mark_t, Token, EventBody, TagDirective, RawEvent, RawEventBody, Shape, State, taken_at, left_at, opened, Directives, Settled, refused, gave, noted, settle_body, resolved, directive_for, node_event}
 use Rattle.yaml_parse_model.specs.Source as source
 use Rattle.yaml_parse_model.specs.Events as event
 use Rattle.yaml_parse_model.specs.Constructors.{HasUtf8, IsUtf8Option, AreUtf8}
 use Rattle.yaml_parse_grammar.specs.Items as item
 use Rattle.yaml_parse_grammar.specs.States as state
-use Rattle.yaml_parse_grammar.specs.Resolve.{or_default, behind_event, scalar_event}
-use Rattle.yaml_parse_grammar.proofs.Throughout.{AllAre, AreTaken, IsTextless, bare_textless, Outer, taken_are, left_are}
+use Rattle.yaml_parse_grammar.specs.Resolve.{or_default, behind_event}
+use Rattle.yaml_parse_grammar.proofs.Throughout.{Settles, settled_by, AllAre, AreTaken, IsTextless, bare_textless, Outer, taken_are, left_are}
 use Rattle.yaml_parse_grammar.specs.Texts.{IsUtf8Tag, IsUtf8Shape, IsUtf8Item, IsUtf8State, AreUtf8States, IsUtf8Token, IsUtf8Held}
 
 -- ---- the machine
@@ -87,11 +88,6 @@ IsUtf8Settled (refused f) = Unit {0}
 IsUtf8Settled (gave body ds) = HasUtf8 body × AreUtf8 ds.tags
 IsUtf8Settled (noted ds) = AreUtf8 ds.tags
 
-either_prefix : (b : Bool) (x y : Option (List ℕ)) → IsUtf8Option x → IsUtf8Option y
-    → IsUtf8Option (if b then x else y)
-either_prefix true x y h k = h
-either_prefix false x y h k = k
-
 mark_is_utf8 : IsUtf8 (codes "!")
 unfolding lib.Utf8.encode
 mark_is_utf8 = (codes "!", (refl, refl))
@@ -104,11 +100,11 @@ directive_utf8 : (handle : List ℕ) (ds : List TagDirective) → AreUtf8 ds
     → IsUtf8Option (directive_for handle ds)
 unfolding directive_for
 directive_utf8 handle [] h = tt
-directive_utf8 handle (d ∷ ds) h = either_prefix (bytes_eq d.handle handle) (Some d.prefix) (directive_for handle ds) h.0.1 (directive_utf8 handle ds h.1)
+directive_utf8 handle (d ∷ ds) h = cond_both (bytes_eq d.handle handle) (Some d.prefix) (directive_for handle ds) IsUtf8Option (λ _. h.0.1) (λ _. directive_utf8 handle ds h.1)
 
 prefix_utf8 : (o : Option (List ℕ)) (handle : List ℕ) → IsUtf8Option o
     → IsUtf8Option (or_default o handle)
-prefix_utf8 None handle h = either_prefix (bytes_eq handle (codes "!")) _ _ mark_is_utf8 (either_prefix (bytes_eq handle (codes "!!")) _ _ core_is_utf8 tt)
+prefix_utf8 None handle h = cond_both (bytes_eq handle (codes "!")) _ _ IsUtf8Option (λ _. mark_is_utf8) (λ _. cond_both (bytes_eq handle (codes "!!")) _ _ IsUtf8Option (λ _. core_is_utf8) (λ _. tt))
 prefix_utf8 (Some p) handle h = h
 
 joined_utf8 : (o : Option (List ℕ)) (suffix : List ℕ) → IsUtf8Option o → IsUtf8 suffix
@@ -122,53 +118,18 @@ resolved_utf8 ds [] suffix h k = k
 resolved_utf8 ds (c ∷ handle) suffix h k =
     joined_utf8 (or_default (directive_for (c ∷ handle) ds) (c ∷ handle)) suffix (prefix_utf8 (directive_for (c ∷ handle) ds) (c ∷ handle) (directive_utf8 (c ∷ handle) ds h)) k
 
-tagged_utf8 : (b : Bool) (anchor : Option (List ℕ)) (tag value : List ℕ)
-    (style : yaml_scalar_style_t) → IsUtf8Option anchor → IsUtf8 tag → IsUtf8 value
-    → HasUtf8 (if b then event.scalar anchor None value true false style else event.scalar anchor
-    (Some tag) value false false style)
-tagged_utf8 true anchor tag value style a t v = (a, tt, v)
-tagged_utf8 false anchor tag value style a t v = (a, t, v)
-
-scalar_utf8 : (anchor tag : Option (List ℕ)) (value : List ℕ) (style : yaml_scalar_style_t)
-    → IsUtf8Option anchor → IsUtf8Option tag → IsUtf8 value
-    → HasUtf8 (scalar_event anchor tag value style)
-scalar_utf8 anchor None value style a t v = (a, tt, v)
-scalar_utf8 anchor (Some tag) value style a t v = tagged_utf8 (bytes_eq tag (codes "!")) anchor tag value style a t v
-
 node_event_utf8 : (anchor tag : Option (List ℕ)) (s : Shape) → IsUtf8Option anchor
     → IsUtf8Option tag → IsUtf8Shape s → HasUtf8 (node_event anchor tag s)
 node_event_utf8 anchor tag item.empty a t h = (a, t, IsUtf8-nil)
-node_event_utf8 anchor tag (item.scalar value style) a t h = scalar_utf8 anchor tag value style a t h
+node_event_utf8 anchor None (item.scalar value style) a t h = (a, tt, h)
+node_event_utf8 anchor (Some tag) (item.scalar value style) a t h = cond_both (bytes_eq tag (codes "!")) _ _ HasUtf8 (λ _. (a, tt, h)) (λ _. (a, t, h))
 node_event_utf8 anchor tag (item.sequence style) a t h = (a, t)
 node_event_utf8 anchor tag (item.mapping style) a t h = (a, t)
-
-tagged_node_utf8 : (o anchor : Option (List ℕ)) (s : Shape) (from at : yaml_mark_t)
-    (ds : Directives) → IsUtf8Option o → IsUtf8Option anchor → IsUtf8Shape s → AreUtf8 ds.tags
-    → IsUtf8Settled (with_resolved o anchor s from at ds)
-tagged_node_utf8 None anchor s from at ds o a h d = tt
-tagged_node_utf8 (Some tag) anchor s from at ds o a h d = (node_event_utf8 anchor (Some tag) s a o h, d)
 
 directives_over : (xs : List TagDirective) (d : TagDirective) → AreUtf8 xs → IsUtf8 d.handle
     → IsUtf8 d.prefix → AreUtf8 (xs ++ (d ∷ []))
 directives_over [] d h a b = ((a, b), tt)
 directives_over (x ∷ xs) d h a b = (h.0, directives_over xs d h.1 a b)
-
-with_tag_utf8 : (o : Option (List ℕ)) (ds : Directives) (handle prefix : List ℕ) (at : yaml_mark_t)
-    → AreUtf8 ds.tags → IsUtf8 handle → IsUtf8 prefix
-    → IsUtf8Settled (with_tag o ds handle prefix at)
-with_tag_utf8 (Some other) ds handle prefix at h a b = tt
-with_tag_utf8 None ds handle prefix at h a b = directives_over ds.tags (record { handle = handle; prefix = prefix }) h a b
-
-known_utf8 : (b : Bool) (x y : Settled) → IsUtf8Settled x → IsUtf8Settled y
-    → IsUtf8Settled (if b then x else y)
-known_utf8 true x y h k = h
-known_utf8 false x y h k = k
-
-with_version_utf8 : (o : Option yaml_version_directive_t) (tags : List TagDirective)
-    (major minor : ℤ) (at : yaml_mark_t) → AreUtf8 tags
-    → IsUtf8Settled (with_version o tags major minor at)
-with_version_utf8 (Some v) tags major minor at h = tt
-with_version_utf8 None tags major minor at h = known_utf8 (is_known_version major minor) _ _ h tt
 
 behind_utf8 : (b : EventBody) (ds : Directives) → AreUtf8 ds.tags → AreUtf8 (behind_event b ds).tags
 behind_utf8 (event.document_end implicit) ds h = tt
@@ -177,13 +138,15 @@ behind_utf8 _ ds h = h
 -- A settled item is UTF-8 where the item and the prefixes are.
 pub settled_utf8 : (b : RawEventBody) (from : yaml_mark_t) (ds : Directives) → IsUtf8Item b
     → AreUtf8 ds.tags → IsUtf8Settled (settle_body b from ds)
-settled_utf8 (item.event body) from ds h d = (h, behind_utf8 body ds d)
-settled_utf8 (item.version_directive major minor) from ds h d = with_version_utf8 ds.version ds.tags major minor from d
-settled_utf8 (item.tag_directive handle prefix) from ds h d = with_tag_utf8 (directive_for handle ds.tags) ds handle prefix from d h.0 h.1
-settled_utf8 (item.document implicit) from ds h d = (d, d)
-settled_utf8 (item.node anchor None shape) from ds h d = (node_event_utf8 anchor None shape h.0 tt h.1.1, d)
-settled_utf8 (item.node anchor (Some tag) shape) from ds h d =
-    tagged_node_utf8 (resolved ds.tags tag.handle tag.suffix) anchor shape from tag.mark ds (resolved_utf8 ds.tags tag.handle tag.suffix d h.1.0.1) h.0 h.1.1 d
+settled_utf8 b from ds h d = settled_by IsUtf8Settled (λ f. tt) b from ds (cases b h)
+  where
+    cases : (b : RawEventBody) → IsUtf8Item b → Settles IsUtf8Settled b ds
+    cases (item.event body) h = (h, behind_utf8 body ds d)
+    cases (item.version_directive x y) h = d
+    cases (item.tag_directive x y) h = directives_over ds.tags (record { handle = x; prefix = y }) d h.0 h.1
+    cases (item.document implicit) h = (d, d)
+    cases (item.node a None s) h = (node_event_utf8 a None s h.0 tt h.1.1, d)
+    cases (item.node a (Some tag) s) h = λ g e. (node_event_utf8 a (Some g) s h.0 (subst IsUtf8Option e (resolved_utf8 ds.tags tag.handle tag.suffix d h.1.0.1)) h.1.1, d)
 
 -- ---- all that a parser holds
 

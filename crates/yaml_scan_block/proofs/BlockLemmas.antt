@@ -45,16 +45,11 @@ pub spaces_none : (text : List ℕ) (p : ℕ) → spaces 0 text p ≡ 0
 unfolding spaces
 spaces_none text p = refl
 
-spaces_past : (n : ℕ) (text : List ℕ) (p : ℕ) → length text ≤ p → spaces n text p ≡ 0
-spaces_past n text p past =
-    spaces_other n text p (λ h. let inside : p < length text = within text p (omega (arith, h)) in omega (arith, inside, past))
-
 -- No more than the text holds need be asked for.
 pub spaces_within : (m n : ℕ) (text : List ℕ) (p : ℕ) → m ≤ n → length text ≤ p + m
     → spaces n text p ≡ spaces m text p
 spaces_within zero n text p few past =
-    let inside : length text ≤ p = omega (arith, past) in
-    spaces_past n text p inside ∙ sym (spaces_none text p)
+    spaces_other n text p (λ h. let inside : p < length text = within text p (omega (arith, h)) in omega (arith, inside, past)) ∙ sym (spaces_none text p)
 spaces_within (suc m) n text p few past =
     let d : n ≡ suc (n - 1) = omega (arith, few) in
     let behind = spaces_within m (n - 1) text (p + 1) (omega (arith, few)) (omega (arith, past)) in

@@ -4,13 +4,9 @@ use Rattle.yaml_scan_block.proofs.Words.{nat_tests, eq-eqb, ne_eqb, byte, break_
 use Rattle.yaml_scan_model.specs.declared.problem.Problem.TheVariants as problems
 use Rattle.yaml_scan_model.specs.Classes.{is_digit_byte}
 
-second_bounds : (b c : ℕ) → indicators b c ≢ 0 → indicators b c ≢ 1 → (42 < c) × (c < 58)
-unfolding indicators is_chomping is_digit_byte
-second_bounds b c h k = (grind (arith, nat_tests), grind (arith, nat_tests))
-
-pub second_two : (b c : ℕ) → indicators b c ≢ 0 → indicators b c ≢ 1 → indicators b c ≡ 2
+pub second_two : (b c n : ℕ) → n ≡ indicators b c → n ≢ 0 → n ≢ 1 → indicators b c ≡ 2
 unfolding indicators
-second_two b c h k = grind (arith, nat_tests)
+second_two b c n e h k = grind (arith, nat_tests)
 
 between : (b c d : ℕ) → (42 < b) × (b < 58) → (0 < b) × (break_of b c d ≡ 0)
 between b c d (h, k) = (omega arith, no_break b c d (omega arith) (omega arith) (omega arith) (omega arith))
@@ -18,12 +14,12 @@ between b c d (h, k) = (omega arith, no_break b c d (omega arith) (omega arith) 
 pub chomping_parts : (b c d : ℕ) → is_chomping b ≡ true → (0 < b) × (break_of b c d ≡ 0)
 chomping_parts b c d h = between b c d (unfold is_chomping in (grind (arith, nat_tests), grind (arith, nat_tests)))
 
-pub first_parts : (b c d e : ℕ) → indicators b c ≢ 0 → (0 < b) × (break_of b d e ≡ 0)
-first_parts b c d e h = between b d e (unfold indicators is_chomping is_digit_byte in (grind (arith, nat_tests), grind (arith, nat_tests)))
+pub first_parts : (b c d e n : ℕ) → n ≡ indicators b c → n ≢ 0 → (0 < b) × (break_of b d e ≡ 0)
+first_parts b c d e n i h = between b d e (unfold indicators is_chomping is_digit_byte in (grind (arith, nat_tests), grind (arith, nat_tests)))
 
-pub second_parts : (b c d e : ℕ) → indicators b c ≢ 0 → indicators b c ≢ 1
+pub second_parts : (b c d e n : ℕ) → n ≡ indicators b c → n ≢ 0 → n ≢ 1
     → (0 < c) × (break_of c d e ≡ 0)
-second_parts b c d e h k = between c d e (second_bounds b c h k)
+second_parts b c d e n i h k = between c d e (unfold indicators is_chomping is_digit_byte in (grind (arith, nat_tests), grind (arith, nat_tests)))
 
 at_either : (text : List ℕ) (b : Bool) (p q : ℕ)
     → (if b then byte text p else byte text q) ≡ byte text (if b then p else q)

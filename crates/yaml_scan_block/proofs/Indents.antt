@@ -1,13 +1,11 @@
 -- Where runs end, and the deepest indentation of the lines in front.
-use Rattle.std.proofs.Common.{◌≡◌, ◌≢◌, ℕ, zero, suc, ◌+◌, ◌<◌, ◌≤◌, ◌==◌, Bool, true, false, List, length, Result, Ok, Err, refl, sym, ap, subst, ◌∙◌, inl, inr, ◌⊎◌, arith}
-use Rattle.yaml_scan_block.proofs.Words.{nat_tests, byte, break_width, is_blank, past, is_blank_there, is_space_there, is_text, past_spaces, Wrong, within, past_break, no_break, past_more, past_stop, text_parts, in_block, larger, larger_of, deepest, EndsBlockRun, RunsEnd, RunEndsOnce, LeadsTo, at_once, behind_blank, indent_at, Deepest, DeepestIs, DeepestIsOne}
+use Rattle.std.proofs.Common.{◌≡◌, ◌≢◌, ℕ, zero, suc, ◌+◌, ◌<◌, ◌≤◌, Bool, true, false, List, length, Result, Ok, Err, refl, sym, ap, subst, ◌∙◌, inl, inr, ◌⊎◌, arith}
+use Rattle.std.proofs.lemmas.Bool.{cases_eq, cases_order, true≢false}
+use Rattle.yaml_scan_block.proofs.Words.{nat_tests, byte, break_width, past, is_blank_there, is_space_there, is_text, past_spaces, Wrong, within, past_break, no_break, past_more, past_stop, text_parts, in_block, larger, larger_of, deepest, EndsBlockRun, RunsEnd, RunEndsOnce, LeadsTo, at_once, behind_blank, indent_at, Deepest, DeepestIs, DeepestIsOne}
 use Rattle.yaml_scan_model.specs.declared.problem.Problem.TheVariants as problems
 use Rattle.yaml_scan_block.proofs.DepthLemmas.{larger_zero, larger_start, depth_tab, depth_done, depth_more, spaces-le}
 
 -- ---- runs
-
-first_or : (k p : ℕ) → p ≤ k → (k ≡ p) ⊎ (p + 1 ≤ k)
-first_or k p h = grind arith
 
 longer : (kind : List ℕ → ℕ → Bool) (text : List ℕ) (p q : ℕ) → kind text p ≡ true
     → EndsBlockRun kind text (p + 1) q → EndsBlockRun kind text p q
@@ -15,9 +13,9 @@ longer kind text p q e h =
     let after = h.after in
     let each = h.each in record {
       after = omega arith;
-      each = λ k a b. elim (first_or k p a) [
+      each = λ k a b. elim (cases_eq k p) [
         | inl s ↦ rw s e
-        | inr l ↦ each k l b
+        | inr n ↦ each k (omega (arith, a, n)) b
       ];
       stops = h.stops;
     }
@@ -38,32 +36,19 @@ ends_by (suc n) kind inside text p true e room =
     subst (λ (q : ℕ). EndsBlockRun kind text p q) (sym (past_more kind n text p e))
     (longer kind text p (past kind n text (p + 1)) e (ends_by n kind inside text (p + 1) (kind text (p + 1)) refl (omega (arith, room))))
 
-ends : (kind : List ℕ → ℕ → Bool) → Inside kind → (text : List ℕ) (p : ℕ)
-    → EndsBlockRun kind text p (past kind (length text) text p)
-ends kind inside text p = ends_by (length text) kind inside text p (kind text p) refl (omega arith)
-
-blank_byte : (b : ℕ) → is_blank b ≡ true → 0 < b
-blank_byte b h = grind (arith, nat_tests)
-
-space_byte : (b : ℕ) → (b == 32) ≡ true → 0 < b
-space_byte b h = grind (arith, nat_tests)
-
 pub runs_end : RunsEnd
 runs_end text p = (
-  ends is_blank_there (λ text p e. within text p (blank_byte (byte text p) e)) text p,
-  ends is_space_there (λ text p e. within text p (space_byte (byte text p) e)) text p,
-  ends is_text (λ text p e. within text p (text_parts text p e).0) text p,
+  ends_by (length text) is_blank_there (λ text p e. within text p (grind (arith, nat_tests, e))) text p _ refl (omega arith),
+  ends_by (length text) is_space_there (λ text p e. within text p (grind (arith, nat_tests, e))) text p _ refl (omega arith),
+  ends_by (length text) is_text (λ text p e. within text p (text_parts text p e).0) text p _ refl (omega arith),
 )
-
-order : (q r : ℕ) → (q < r) ⊎ ((q ≡ r) ⊎ (r < q))
-order q r = grind arith
 
 pub run_ends_once : RunEndsOnce
 run_ends_once kind text p q r a b =
-    elim (order q r) [
-      | inl l ↦ let e : true ≡ false = sym (b.each q a.after l) ∙ a.stops in absurd cc
-      | inr (inl e) ↦ e
-      | inr (inr g) ↦ let e : true ≡ false = sym (a.each r b.after g) ∙ b.stops in absurd cc
+    elim (cases_order q r) [
+      | inl e ↦ e
+      | inr (inl l) ↦ absurd (true≢false (sym (b.each q a.after l) ∙ a.stops))
+      | inr (inr g) ↦ absurd (true≢false (sym (a.each r b.after g) ∙ b.stops))
     ]
 
 -- ---- indentation
@@ -91,19 +76,12 @@ chosen : (a b : ℕ) → ((larger a b ≡ b) × (a ≤ b)) ⊎ ((larger a b ≡ 
 unfolding larger
 chosen a b = grind (arith, nat_tests)
 
-at_most : (text : List ℕ) (p c : ℕ)
-    → indent_at text p ≤ c
-    → ((q : ℕ) → LeadsTo text (past_spaces text p + break_width text (past_spaces text p)) q
-    → indent_at text q ≤ c) → (q : ℕ) → LeadsTo text p q → indent_at text q ≤ c
-at_most text p c a more q (at_once x) = a
-at_most text p c a more q (behind_blank x y w l) = more y l
-
-none_tabbed : (text : List ℕ) (p : ℕ) → byte text (past_spaces text p) ≢ 9
-    → ((q : ℕ) → LeadsTo text (past_spaces text p + break_width text (past_spaces text p)) q
-    → byte text (past_spaces text q) ≢ 9) → (q : ℕ) → LeadsTo text p q
-    → byte text (past_spaces text q) ≢ 9
-none_tabbed text p a more q (at_once x) = a
-none_tabbed text p a more q (behind_blank x y w l) = more y l
+-- what holds of a line and of each behind it holds of all
+each_line : (P : ℕ → Type 0) (text : List ℕ) (p : ℕ) → P p
+    → ((q : ℕ) → LeadsTo text (past_spaces text p + break_width text (past_spaces text p)) q → P q)
+    → (q : ℕ) → LeadsTo text p q → P q
+each_line P text p a more q (at_once x) = a
+each_line P text p a more q (behind_blank x y w l) = more y l
 
 behind : (text : List ℕ) (p : ℕ) → byte text (past_spaces text p) ≢ 9
     → 0 < break_width text (past_spaces text p) → (r : Result ℕ Wrong)
@@ -121,23 +99,20 @@ behind text p n w (Ok b) h =
         line = h.line;
         led = behind_blank p h.line w h.led;
         reached = h.reached;
-        most = at_most text p b le h.most;
-        no_tab = none_tabbed text p n h.no_tab;
+        most = each_line (λ q. indent_at text q ≤ b) text p le h.most;
+        no_tab = each_line (λ q. byte text (past_spaces text q) ≢ 9) text p n h.no_tab;
       }
       | inr (e, ge) ↦ rw e record {
         line = p;
         led = at_once p;
         reached = refl;
-        most = at_most text p (indent_at text p) (omega arith) (λ q l. let m = h.most q l in omega (arith, m, ge));
-        no_tab = none_tabbed text p n h.no_tab;
+        most = each_line (λ q. indent_at text q ≤ indent_at text p) text p (omega arith) (λ q l. let m = h.most q l in omega (arith, m, ge));
+        no_tab = each_line (λ q. byte text (past_spaces text q) ≢ 9) text p n h.no_tab;
       }
     ]
 
-tab_or : (b : ℕ) → (b ≡ 9) ⊎ (b ≢ 9)
-tab_or b = grind arith
-
-width_or : (w : ℕ) → (w ≡ 0) ⊎ (0 < w)
-width_or w = grind arith
+zero_or : (w : ℕ) → (w ≡ 0) ⊎ (0 < w)
+zero_or w = grind arith
 
 found_by : (d : ℕ) (text : List ℕ) (p n : ℕ)
     → (byte text (past_spaces text p) ≡ 9) ⊎ (byte text (past_spaces text p) ≢ 9)
@@ -158,10 +133,10 @@ found_by (suc d) text p n (inr e) (inr w) room fuel =
     subst (λ (r : Result ℕ Wrong). Deepest text p r)
     (sym (same ∙ ap (λ (c : ℕ). larger_of c (deepest (suc m) text next)) (larger_zero (indent_at text p))))
     (behind text p e w (deepest (suc m) text next)
-    (found_by d text next m (tab_or (byte text (past_spaces text next))) (width_or (break_width text (past_spaces text next))) (omega (arith, le, w, room)) left))
+    (found_by d text next m (cases_eq (byte text (past_spaces text next)) 9) (zero_or (break_width text (past_spaces text next))) (omega (arith, le, w, room)) left))
 
 pub deepest_is : DeepestIs
-deepest_is text p = found_by (length text) text p (length text) (tab_or (byte text (past_spaces text p))) (width_or (break_width text (past_spaces text p))) (omega arith) (omega arith)
+deepest_is text p = found_by (length text) text p (length text) (cases_eq (byte text (past_spaces text p)) 9) (zero_or (break_width text (past_spaces text p))) (omega arith) (omega arith)
 
 no_break_tab : (text : List ℕ) (p : ℕ) → byte text (past_spaces text p) ≡ 9
     → break_width text (past_spaces text p) ≡ 0

@@ -3,9 +3,6 @@ use Rattle.std.proofs.Common.{◌≡◌, ℕ, zero, suc, ◌+◌, ◌-◌, ◌<�
 use Rattle.yaml_scan_block.proofs.Words.{cases_Bool, nat_tests, byte, break_of, break_width, column_at, Wrong, within, spaces, LineSpot, Stops, Line, Tab, spot_behind, line_spot, Lines, with_line, line_then, lines_from, AreLinesFrom, stops, goes_on, has_tab, LinesAre, LinesAreOne, ltb-true}
 use Rattle.yaml_scan_block.proofs.BlockLemmas.{text_long}
 
-none_of : (b : ℕ) → nat_lt 0 b ≡ false → b ≡ 0
-none_of b h = grind (arith, nat_tests)
-
 break_first : (b c d : ℕ) → 0 < break_of b c d → 0 < b
 unfolding break_of
 break_first b c d h = grind (arith, nat_tests)
@@ -34,7 +31,7 @@ behind_moves c text p q le =
           | inl d ↦ rw (a, b, d) tt
           | inr d ↦
               let some = some_byte (byte text q) (not (column_at text q == c)) d in
-              let long = text_long text q (omega (arith, some)) (none_of (break_width text q) b) in
+              let long = text_long text q (omega (arith, some)) (grind (arith, nat_tests, b)) in
               rw (a, b, d) (omega (arith, long, le), omega (arith, within text q some, le))
         ]
       ]

@@ -12,8 +12,7 @@ returns-then-here-eq9 c =
     let (n, room, same) = c.lines.invariant.rest in
     let q = rw c.lines.invariant.text at c.skip_spaces.ensures in
     let b : byte text (past_spaces text c.lines.ahead.at) ≡ 9 = rw q at (sym c.here.ensures ∙ c.if-here-eq9.true) in
-    let m = rw q at c.mark.ensures in
-    rw (same, depth_tab n text c.lines.ahead.at c.lines.depth b, c.wrong_block.ensures, m) refl
+    rw (same, depth_tab n text c.lines.ahead.at c.lines.depth b, c.wrong_block.ensures, rw q at c.mark.ensures) refl
 
 pub returns-then-break_width-eq0 : goal.returns-then-break_width-eq0
 returns-then-break_width-eq0 c =

@@ -1,5 +1,4 @@
-use Rattle.std.proofs.Common.{◌≡◌, ◌+◌, ◌-◌, length, ◌∙◌, ap, refl, sym, inl, inr, arith}
-use Rattle.yaml_scan_block.proofs.Words.{spaces}
+use Rattle.std.proofs.Common.{◌+◌, ◌∙◌, ap, arith}
 use Rattle.yaml_scan_block.proofs.BlockLemmas.{one_space, spaces_join, spaces_run, spaces_lesser}
 use Rattle.yaml_scan_block.proofs.lines.past_indent.Goals as goal
 

@@ -11,22 +11,20 @@ returns-in_err-more c = λ chomp.
     let (n, room, same) = c.lines.invariant.rest in
     let e = err_from_is_err_and c.from_residual.result c.from_residual.ensures.1 in
     let took = rw c.lines.invariant.text at c.in_err-more.ensures in
-    rw (e.1, e.2, same chomp) (lines_refused n c.args.column c.args.reader.now.text c.args.start chomp c.lines.reader.at c.lines.end.index c.lines.stacking c.line.new.stacking c.line.new.reader c.in_err-more.field-0.0 took)
+    rw (e.1, e.2, same chomp) (lines_refused n c.args.column c.args.reader.now.text c.args.start chomp c.lines.reader.at c.lines.end.index c.lines.stacking c.line.new.stacking c.line.new.reader c.in_err-more.field-0.0 _ refl took)
 
 pub returns-then-not-more : goal.returns-then-not-more
 returns-then-not-more c = λ chomp.
     let (n, room, same) = c.lines.invariant.rest in
-    let here = rw c.if-not-more.true at c.in_ok-more.ensures in
-    let took : LineSteps c.args.reader.now.text c.args.start c.lines.reader.at c.lines.stacking c.line.new.stacking c.line.new.reader (Ok false) (line_spot c.args.column c.args.reader.now.text c.lines.reader.at) = rw (← c.lines.invariant.text) here in
-    rw (same chomp) (lines_done n c.args.column c.args.reader.now.text c.args.start chomp c.lines.reader.at c.lines.end c.lines.stacking c.line.new.stacking c.line.new.reader took c.lines.invariant.end)
+    let took : LineSteps c.args.reader.now.text c.args.start c.lines.reader.at c.lines.stacking c.line.new.stacking c.line.new.reader (Ok false) (line_spot c.args.column c.args.reader.now.text c.lines.reader.at) = rw (← c.lines.invariant.text) (rw c.if-not-more.true at c.in_ok-more.ensures) in
+    rw (same chomp) (lines_done n c.args.column c.args.reader.now.text c.args.start chomp c.lines.reader.at c.lines.end c.lines.stacking c.line.new.stacking c.line.new.reader _ refl took c.lines.invariant.end)
 
 pub lines-preserved : goal.lines-preserved
 lines-preserved c =
     let text = c.args.reader.now.text in
     let (n, room, same) = c.lines.invariant.rest in
-    let here = rw c.if-not-more.false at c.in_ok-more.ensures in
-    let took : LineSteps text c.args.start c.lines.reader.at c.lines.stacking c.line.new.stacking c.line.new.reader (Ok true) (line_spot c.args.column text c.lines.reader.at) = rw (← c.lines.invariant.text) here in
-    let next = lines_more n c.args.column text c.args.start c.lines.reader.at c.lines.end.index c.lines.stacking c.line.new.stacking c.line.new.reader took in
+    let took : LineSteps text c.args.start c.lines.reader.at c.lines.stacking c.line.new.stacking c.line.new.reader (Ok true) (line_spot c.args.column text c.lines.reader.at) = rw (← c.lines.invariant.text) (rw c.if-not-more.false at c.in_ok-more.ensures) in
+    let next = lines_more n c.args.column text c.args.start c.lines.reader.at c.lines.end.index c.lines.stacking c.line.new.stacking c.line.new.reader _ refl took in
     let m = rw next.same at c.mark-end-in-lines.ensures in
     let inside = next.inside in
     let further = next.further in

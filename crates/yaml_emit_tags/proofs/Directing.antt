@@ -1,12 +1,12 @@
 -- A document's directives, one by one or by their index.
-use Rattle.std.proofs.Common.{◌≡◌, ℕ, ◌+◌, ◌<◌, ◌≤◌, List, [], ◌∷◌, length, drop, get_or, map, Bool, true, false, refl, sym, ◌∙◌, ap, arith, subst, Option, None, Some}
-use Rattle.std.specs.Prelude.{zero, suc, Vec}
+use Rattle.std.proofs.Common.{◌≡◌, ℕ, ◌+◌, ◌<◌, ◌≤◌, List, [], length, drop, get_or, map, true, false, sym, ◌∙◌, ap, arith, subst, Option, None, Some}
+use Rattle.std.specs.Prelude.{Vec}
 use Rattle.std.specs.Global.{Global}
-use Rattle.std.proofs.lemmas.List.{length-map}
+use Rattle.std.proofs.lemmas.List.{get_or-map, length-map}
 use Rattle.yaml_scan_model.specs.declared.yaml_tag_directive_t.{yaml_tag_directive_t}
 use Rattle.yaml_parse_model.specs.Events.{TagDirective, directive_of}
 use Rattle.yaml_emit_tags.specs.Tags.{has_shorter_prefix, directive_for, defines}
-use Rattle.yaml_emit_tags.specs.Prefixes.{entry_of, directive_at, IsIndex, IsFirstShorter, IsNumber}
+use Rattle.yaml_emit_tags.specs.Prefixes.{entry_of, directive_at, IsFirstShorter, IsNumber}
 use Rattle.yaml_emit_tags.specs.TableView.{IsIndexed}
 use Rattle.yaml_emit_tags.proofs.Directives.{next_of, none_of}
 use Rattle.yaml_emit_tags.proofs.Sorting.{begins}
@@ -19,9 +19,7 @@ none_defined ds handle e = sym (ap (λ t. defines (map directive_of t) handle) e
 
 pub mapped_at : (ds : List yaml_tag_directive_t) (i : ℕ) (d : yaml_tag_directive_t) → i < length ds
     → d ≡ get_or ds i d → directive_at (map directive_of ds) i ≡ directive_of d
-mapped_at [] i d h is = absurd (omega arith)
-mapped_at (x ∷ ds) zero d h is = ap directive_of (sym is)
-mapped_at (x ∷ ds) (suc i) d h is = mapped_at ds i d (omega arith) is
+mapped_at ds i d h is = get_or-map directive_of ds i d _ h ∙ ap directive_of (sym is)
 
 -- ---- one by one
 

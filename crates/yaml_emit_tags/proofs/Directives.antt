@@ -5,7 +5,7 @@ use Rattle.std.specs.Str.{bytes_eq}
 use Rattle.std.proofs.lemmas.List.{drop_more, drop_all, take_all}
 use Rattle.yaml_scan_model.specs.declared.yaml_tag_directive_t.{yaml_tag_directive_t}
 use Rattle.yaml_parse_model.specs.Events.{TagDirective, directive_of}
-use Rattle.yaml_emit_tags.specs.Tags.{has_shorter_prefix, directive_for, defines, primary, secondary, unless_defined, stands_for, defaults, Split, shorthand, verbatim, split_by}
+use Rattle.yaml_emit_tags.specs.Tags.{has_shorter_prefix, directive_for, defines, primary, secondary, unless_defined, stands_for, defaults, split_by}
 
 -- what `&s[n..]` is
 pub rest_of_slice : (n : ℕ) (xs : List ℕ) → take (length xs - n) (drop n xs) ≡ drop n xs
@@ -25,20 +25,13 @@ defines_at : (d : TagDirective) (ds : List TagDirective) (handle : List ℕ)
 unfolding defines
 defines_at d ds handle = refl
 
-pub defines_more : (b : Bool) (ds : List yaml_tag_directive_t) (i : ℕ) (d : yaml_tag_directive_t)
+-- One directive more: it defines the handle, or those behind it do.
+pub defines_next : (v b : Bool) (ds : List yaml_tag_directive_t) (i : ℕ) (d : yaml_tag_directive_t)
     (handle : List ℕ) → i < length ds → d ≡ get_or ds i d
-    → b ≡ defines (map directive_of (drop i ds)) handle
-    → bytes_eq d.handle.items handle ≡ false
-    → b ≡ defines (map directive_of (drop (i + 1) ds)) handle
-defines_more b ds i d handle h is e f =
+    → b ≡ defines (map directive_of (drop i ds)) handle → bytes_eq d.handle.items handle ≡ v
+    → b ≡ (v || defines (map directive_of (drop (i + 1) ds)) handle)
+defines_next v b ds i d handle h is e f =
     e ∙ ap (λ t. defines t handle) (next_of ds i d h is) ∙ defines_at (directive_of d) (map directive_of (drop (i + 1) ds)) handle ∙ ap (λ v. v || defines (map directive_of (drop (i + 1) ds)) handle) f
-
-pub defines_found : (b : Bool) (ds : List yaml_tag_directive_t) (i : ℕ) (d : yaml_tag_directive_t)
-    (handle : List ℕ) → i < length ds → d ≡ get_or ds i d
-    → b ≡ defines (map directive_of (drop i ds)) handle
-    → bytes_eq d.handle.items handle ≡ true → true ≡ b
-defines_found b ds i d handle h is e f =
-    sym (e ∙ ap (λ t. defines t handle) (next_of ds i d h is) ∙ defines_at (directive_of d) (map directive_of (drop (i + 1) ds)) handle ∙ ap (λ v. v || defines (map directive_of (drop (i + 1) ds)) handle) f)
 
 pub defines_none : (b : Bool) (ds : List yaml_tag_directive_t) (i : ℕ) (handle : List ℕ)
     → length ds ≤ i → b ≡ defines (map directive_of (drop i ds)) handle → false ≡ b
@@ -52,7 +45,7 @@ unfolding directive_for
 directive_at d ds tag = refl
 
 -- the first of two lists
-abbrev o_else : Option TagDirective → Option TagDirective → Option TagDirective
+abbrev pub o_else : Option TagDirective → Option TagDirective → Option TagDirective
 o_else None q = q
 o_else (Some d) q = Some d
 
@@ -70,14 +63,11 @@ both_for (d ∷ ds) es tag =
     ∙ ap (λ o. cond (has_shorter_prefix d.prefix tag) (Some d) o) (both_for ds es tag)
     ∙ choice (has_shorter_prefix d.prefix tag) d (directive_for ds tag) (directive_for es tag)
 
-pub split_found : (ds es : List TagDirective) (d : TagDirective) (tag : List ℕ)
-    → directive_for ds tag ≡ Some d
-    → shorthand d.handle (drop (length d.prefix) tag) ≡ split_by (directive_for (ds ++ es) tag) tag
-split_found ds es d tag e = sym (ap (λ o. split_by o tag) (both_for ds es tag ∙ ap (λ o. o_else o (directive_for es tag)) e))
-
-pub split_none : (ds es : List TagDirective) (tag : List ℕ) → directive_for ds tag ≡ None
-    → split_by (directive_for es tag) tag ≡ split_by (directive_for (ds ++ es) tag) tag
-split_none ds es tag e = sym (ap (λ o. split_by o tag) (both_for ds es tag ∙ ap (λ o. o_else o (directive_for es tag)) e))
+-- where the first of two lists says nothing, the second does
+pub split_behind : (ds es : List TagDirective) (tag : List ℕ) (o : Option TagDirective)
+    → directive_for ds tag ≡ o
+    → split_by (o_else o (directive_for es tag)) tag ≡ split_by (directive_for (ds ++ es) tag) tag
+split_behind ds es tag o e = sym (ap (λ o. split_by o tag) (both_for ds es tag ∙ ap (λ o. o_else o (directive_for es tag)) e))
 
 by_flags : (d : TagDirective) (es : List TagDirective) (tag : List ℕ) (b h : Bool)
     → has_shorter_prefix d.prefix tag ≡ h
@@ -104,18 +94,10 @@ defaults_law : (ds : List TagDirective) (tag : List ℕ)
     (cond (stands_for ds secondary tag) (Some secondary) None)
 defaults_law ds tag = unless_law ds (unless_defined ds secondary) primary tag ∙ ap (λ o. cond (stands_for ds primary tag) (Some primary) o) (empty_behind ds secondary tag)
 
-pub by_primary : (ds : List TagDirective) (tag : List ℕ) → stands_for ds primary tag ≡ true
-    → shorthand (33 ∷ []) (drop 1 tag) ≡ split_by (directive_for (defaults ds) tag) tag
-by_primary ds tag e = sym (ap (λ o. split_by o tag) (defaults_law ds tag ∙ ap (λ v. cond v (Some primary) (cond (stands_for ds secondary tag) (Some secondary) None)) e))
-
-pub by_secondary : (ds : List TagDirective) (tag : List ℕ) → stands_for ds primary tag ≡ false
-    → stands_for ds secondary tag ≡ true
-    → shorthand (33 ∷ 33 ∷ []) (drop 18 tag) ≡ split_by (directive_for (defaults ds) tag) tag
-by_secondary ds tag e f =
-    sym (ap (λ o. split_by o tag) (defaults_law ds tag ∙ ap (λ v. cond v (Some primary) (cond (stands_for ds secondary tag) (Some secondary) None)) e ∙ ap (λ v. cond v (Some secondary) None) f))
-
-pub by_none : (ds : List TagDirective) (tag : List ℕ) → stands_for ds primary tag ≡ false
-    → stands_for ds secondary tag ≡ false
-    → verbatim tag ≡ split_by (directive_for (defaults ds) tag) tag
-by_none ds tag e f =
-    sym (ap (λ o. split_by o tag) (defaults_law ds tag ∙ ap (λ v. cond v (Some primary) (cond (stands_for ds secondary tag) (Some secondary) None)) e ∙ ap (λ v. cond v (Some secondary) None) f))
+-- A tag for which no directive stands is written by the primary handle, the secondary one, or in full.
+pub by_defaults : (ds : List TagDirective) (tag : List ℕ) (p s : Bool)
+    → stands_for ds primary tag ≡ p → stands_for ds secondary tag ≡ s
+    → split_by (cond p (Some primary) (cond s (Some secondary) None)) tag
+    ≡ split_by (directive_for (defaults ds) tag) tag
+by_defaults ds tag p s e f =
+    sym (ap (λ o. split_by o tag) (defaults_law ds tag ∙ ap (λ v. cond v (Some primary) (cond (stands_for ds secondary tag) (Some secondary) None)) e ∙ ap (λ v. cond p (Some primary) (cond v (Some secondary) None)) f))

@@ -8,22 +8,15 @@ use Rattle.std.proofs.lemmas.List.Sums.{AllPass-from_list_all}
 use Rattle.std.proofs.lemmas.Str.{IsAscii-append}
 use Rattle.std.proofs.lemmas.Str.Ascii.{IsAscii-from_all, IsAscii-cons, IsAscii-nil}
 use Rattle.std.proofs.lemmas.Bool.{and_parts}
-use Rattle.yaml_emit_sink.specs.Layout.{Layout, letters, word}
+use Rattle.yaml_emit_sink.specs.Layout.{letters, word}
 use Rattle.yaml_emit_sink.specs.Sink.{Output, Puts}
 use Rattle.yaml_emit_sink.specs.Hex.{hex_2}
-use Rattle.yaml_emit_tags.specs.Tags.{suffix_keeps, prefix_keeps, keeps_byte, uri_byte, uri_text, shorthand, spelled}
-
-suffix_low : (b : ℕ) → suffix_keeps b ≡ true → b < 128
-unfolding suffix_keeps
-suffix_low b h = grind (arith, nat_tests, h)
-
-prefix_low : (b : ℕ) → prefix_keeps b ≡ true → b < 128
-unfolding suffix_keeps
-prefix_low b h = grind (arith, nat_tests, h)
+use Rattle.yaml_emit_tags.specs.Tags.{suffix_keeps, keeps_byte, uri_byte, uri_text, shorthand, spelled}
 
 low : (flow : Bool) (b : ℕ) → keeps_byte flow b ≡ true → b < 128
-low true b h = prefix_low b h
-low false b h = suffix_low b h
+unfolding suffix_keeps
+low true b h = grind (arith, nat_tests, h)
+low false b h = grind (arith, nat_tests, h)
 
 pub kept_ascii : (flow : Bool) (xs : List ℕ) → list_all (keeps_byte flow) xs ≡ true → IsAscii xs
 kept_ascii flow xs h = IsAscii-from_all xs (λ k d l. low flow _ (AllPass-from_list_all (keeps_byte flow) xs h k d l))
@@ -42,20 +35,12 @@ pub puts_kept : (flow : Bool) (a b : Output) (xs : List ℕ) → list_all (keeps
     → Puts a b (letters xs) → Puts a b (letters (uri_text flow xs))
 puts_kept flow a b xs h p = let P : List ℕ → Type 0 = λ t. Puts a b (letters t) in subst P (kept_text flow xs h) p
 
-behind_ascii : (handle xs : List ℕ) → IsAscii handle → list_all (keeps_byte false) xs ≡ true
+pub behind_ascii : (handle xs : List ℕ) → IsAscii handle → list_all (keeps_byte false) xs ≡ true
     → IsAscii (handle ++ (xs ++ []))
 behind_ascii handle xs s h = IsAscii-append handle (xs ++ []) s (rw (append-nil xs) (kept_ascii false xs h))
 
-mark : IsAscii (33 ∷ [])
+pub mark : IsAscii (33 ∷ [])
 mark = IsAscii-cons 33 [] (omega arith) IsAscii-nil
-
-pub primary_ascii : (xs : List ℕ) → list_all (keeps_byte false) xs ≡ true
-    → IsAscii (33 ∷ (xs ++ []))
-primary_ascii xs h = behind_ascii (33 ∷ []) xs mark h
-
-pub secondary_ascii : (xs : List ℕ) → list_all (keeps_byte false) xs ≡ true
-    → IsAscii (33 ∷ 33 ∷ (xs ++ []))
-secondary_ascii xs h = behind_ascii (33 ∷ 33 ∷ []) xs (IsAscii-cons 33 (33 ∷ []) (omega arith) mark) h
 
 -- a suffix that is kept behind its handle
 pub puts_behind : (a b : Output) (handle xs : List ℕ) → list_all (keeps_byte false) xs ≡ true

@@ -1,21 +1,21 @@
 -- The search narrows the part whose prefixes agree with the tag.
-use Rattle.std.proofs.Common.{◌≡◌, ℕ, ◌+◌, ◌-◌, ◌<◌, ◌≤◌, List, [], ◌∷◌, length, take, get_or, map, Bool, true, false, refl, sym, ◌∙◌, ap, arith, subst, inl, inr, Option, None, Some}
-use Rattle.std.specs.Prelude.{zero, suc, Vec, nat_lt, nat_le, ◌==◌, ◌⊎◌, cond, if◌then◌else◌}
+use Rattle.std.proofs.Common.{◌≡◌, ℕ, ◌+◌, ◌<◌, ◌≤◌, List, [], ◌∷◌, length, take, get_or, map, Bool, true, false, refl, sym, ◌∙◌, ap, arith, subst, inl, inr, Option, None, Some}
+use Rattle.std.specs.Prelude.{zero, suc, Vec, nat_lt, nat_le, ◌==◌, cond, if◌then◌else◌}
 use Rattle.std.specs.Global.{Global}
 use Rattle.std.specs.declared.cmp.Ordering.{Ordering}
 use Rattle.std.specs.declared.cmp.Ordering.TheVariants.{Less, Equal, Greater}
-use Rattle.std.specs.Ordering.{nat_cmp, ordering_then, is_lt, on, then_cmp}
+use Rattle.std.specs.Ordering.{nat_cmp, ordering_then, is_lt}
 use Rattle.std.specs.Cmp.Lexicographic.{slice_cmp}
-use Rattle.std.specs.Cmp.{IsTotalOrder, IsStrictWeakOrder}
+use Rattle.std.specs.Cmp.{IsTotalOrder}
 use Rattle.std.specs.List.Sorted.{IsSorted}
-use Rattle.std.proofs.lemmas.Bool.{ltb-true, ltb-false, leb-true, leb-false, eqb-true}
+use Rattle.std.proofs.lemmas.Bool.{cases_lt, cond_both, ltb-false, leb-true, leb-false, eqb-true}
 use Rattle.std.proofs.lemmas.List.{take_all, length-map}
 use Rattle.std.proofs.Common.{eq-eqb}
 use Rattle.std.proofs.lemmas.Cmp.{then_total, on_total, nat_list_cmp_total, nat_cmp_total, tied_itself}
 use Rattle.std.proofs.lemmas.List.Sorted.{sorted_far, ranks_by}
 use Rattle.yaml_emit_tags.specs.Tags.{has_shorter_prefix}
 use Rattle.yaml_emit_tags.specs.Prefixes.{Entry, entry_of, at, entry_cmp, key, smaller, IsFirstShorter, IsFound, IsAtMost}
-use Rattle.yaml_emit_tags.proofs.Sorting.{at_of, Agree, Begins, begins, begun, begins_key, agree_more, key_behind, key_within, less_or}
+use Rattle.yaml_emit_tags.proofs.Sorting.{at_of, Agree, begins, begun, begins_key, agree_more, key_behind, key_within}
 
 -- ---- the order of two prefixes
 
@@ -32,18 +32,7 @@ at_most : (m n : ℕ) → is_lt (nat_cmp n m) ≡ false → m ≤ n
 at_most m n e = ltb-false n m (no_less (nat_lt n m) (n == m) e)
 
 behind_tie : (o r : Ordering) → o ≡ Equal → is_lt (ordering_then o r) ≡ false → is_lt r ≡ false
-behind_tie o r h e = let Q : Ordering → Type 0 = λ z. is_lt (ordering_then z r) ≡ false in subst Q h e
-
-not_less : (m n : ℕ) (r : Ordering) → is_lt (ordering_then (nat_cmp n m) r) ≡ false → m ≤ n
-not_less m n r e = at_most m n (first_not_less (nat_cmp n m) r e)
-
-tied : (m n : ℕ) (r : Ordering) → m ≡ n → is_lt (ordering_then (nat_cmp n m) r) ≡ false
-    → is_lt r ≡ false
-tied m n r h e = behind_tie (nat_cmp n m) r (ap (nat_cmp n) h ∙ tied_itself nat_cmp_total n) e
-
-by_number : (p q : List ℕ) (m n : ℕ) → p ≡ q
-    → is_lt (ordering_then (slice_cmp nat_cmp q p) (nat_cmp n m)) ≡ false → m ≤ n
-by_number p q m n h e = at_most m n (behind_tie (slice_cmp nat_cmp q p) (nat_cmp n m) (ap (slice_cmp nat_cmp q) h ∙ tied_itself nat_list_cmp_total q) e)
+behind_tie o r h e = subst (λ z. is_lt (ordering_then z r) ≡ false) h e
 
 -- of two that agree in the first bytes, the later has no smaller key
 key_rises : (d : ℕ) (a b : List ℕ) → is_lt (slice_cmp nat_cmp b a) ≡ false → d ≤ length a
@@ -52,8 +41,8 @@ unfolding key
 key_rises d [] b e h k s = omega arith
 key_rises zero (x ∷ a) [] e h k s = absurd (cc)
 key_rises (suc d) (x ∷ a) [] e h k s = absurd (omega arith)
-key_rises zero (x ∷ a) (y ∷ b) e h k s = let l : x ≤ y = not_less x y (slice_cmp nat_cmp b a) e in omega arith
-key_rises (suc d) (x ∷ a) (y ∷ b) e h k s = let same : (x ≡ y) × (take d a ≡ take d b) = (cc, cc) in key_rises d a b (tied x y (slice_cmp nat_cmp b a) same.0 e) (omega arith) (omega arith) same.1
+key_rises zero (x ∷ a) (y ∷ b) e h k s = let l : x ≤ y = at_most x y (first_not_less (nat_cmp y x) (slice_cmp nat_cmp b a) e) in omega arith
+key_rises (suc d) (x ∷ a) (y ∷ b) e h k s = let same : (x ≡ y) × (take d a ≡ take d b) = (cc, cc) in key_rises d a b (behind_tie (nat_cmp y x) (slice_cmp nat_cmp b a) (ap (nat_cmp y) same.0 ∙ tied_itself nat_cmp_total y) e) (omega arith) (omega arith) same.1
 
 -- ---- entries in order
 
@@ -68,14 +57,6 @@ far xs i j s h k = sorted_far (λ x y. is_lt (entry_cmp x y)) (ranks_by order_to
 
 abbrev pub Rises : (ℕ → ℕ) → ℕ → ℕ → Type 0
 Rises f from to = (i j : ℕ) → from ≤ i → i ≤ j → j < to → f i ≤ f j
-
-pub below_up : (f : ℕ → ℕ) (from to middle least : ℕ) → Rises f from to → middle < to
-    → f middle < least → (k : ℕ) → from ≤ k → k < middle + 1 → f k < least
-below_up f from to middle least r h e k a b = let l : f k ≤ f middle = r k middle a (omega arith) h in omega arith
-
-pub above_down : (f : ℕ → ℕ) (from to middle least : ℕ) → Rises f from to → from ≤ middle
-    → least ≤ f middle → (k : ℕ) → middle ≤ k → k < to → least ≤ f k
-above_down f from to middle least r h e k a b = let l : f middle ≤ f k = r middle k h a b in omega arith
 
 -- ---- the search
 
@@ -106,42 +87,30 @@ ended x depth = if length x.0 == depth then Some x.1 else None
 left_most : (a b : Option ℕ) (m : ℕ) → IsAtMost a m → IsAtMost (smaller a b) m
 left_most None b m h = absurd h
 left_most (Some x) None m h = h
-left_most (Some x) (Some y) m h = left_by (nat_le x y) refl
-  where
-    left_by : (b : Bool) → nat_le x y ≡ b → (if b then x else y) ≤ m
-    left_by true e = h
-    left_by false e = let l : y < x = leb-false x y e in omega arith
+left_most (Some x) (Some y) m h = cond_both (nat_le x y) x y (λ z. z ≤ m) (λ _. h) (λ e. omega (arith, h, leb-false x y e))
 
 right_most : (a b : Option ℕ) (m : ℕ) → IsAtMost b m → IsAtMost (smaller a b) m
 right_most None b m h = h
 right_most (Some x) None m h = absurd h
-right_most (Some x) (Some y) m h = right_by (nat_le x y) refl
-  where
-    right_by : (b : Bool) → nat_le x y ≡ b → (if b then x else y) ≤ m
-    right_by true e = let l : x ≤ y = leb-true x y e in omega arith
-    right_by false e = h
-
-picked : (xs : List Entry) (tag : List ℕ) (x y : ℕ) (b : Bool) → IsFound xs tag (Some x)
-    → IsFound xs tag (Some y) → IsFound xs tag (Some (if b then x else y))
-picked xs tag x y true f g = f
-picked xs tag x y false f g = g
+right_most (Some x) (Some y) m h = cond_both (nat_le x y) x y (λ z. z ≤ m) (λ e. omega (arith, h, leb-true x y e)) (λ _. h)
 
 found_smaller : (xs : List Entry) (tag : List ℕ) (a b : Option ℕ) → IsFound xs tag a
     → IsFound xs tag b → IsFound xs tag (smaller a b)
 found_smaller xs tag None b f g = g
 found_smaller xs tag (Some x) None f g = f
-found_smaller xs tag (Some x) (Some y) f g = picked xs tag x y (nat_le x y) f g
+found_smaller xs tag (Some x) (Some y) f g = cond_both (nat_le x y) x y (λ z. IsFound xs tag (Some z)) (λ _. f) (λ _. g)
 
 whole : (p t : List ℕ) (d : ℕ) → Agree d p t → length p ≤ d → take d t ≡ p
 whole p t d a h = sym a.same ∙ take_all d p h
 
-found_by : (xs : List Entry) (tag : List ℕ) (k depth : ℕ) (b : Bool) → k < length xs
-    → Agree depth (at xs k).0 tag → depth < length tag → (length (at xs k).0 == depth) ≡ b
-    → IsFound xs tag (if b then Some (at xs k).1 else None)
-found_by xs tag k depth true h a l e =
+found_at : (xs : List Entry) (tag : List ℕ) (k depth : ℕ) → k < length xs
+    → Agree depth (at xs k).0 tag → depth < length tag → IsFound xs tag (ended (at xs k) depth)
+found_at xs tag k depth h a l =
+    cond_both (length (at xs k).0 == depth) (Some (at xs k).1) None (IsFound xs tag)
+    (λ e.
     let same : length (at xs k).0 ≡ depth = eqb-true (length (at xs k).0) depth e in
-    (k, h, begun (at xs k).0 tag (omega arith) (ap (λ n. take n tag) same ∙ whole (at xs k).0 tag depth a (omega arith)), refl)
-found_by xs tag k depth false h a l e = tt
+    (k, h, begun (at xs k).0 tag (omega arith) (ap (λ n. take n tag) same ∙ whole (at xs k).0 tag depth a (omega arith)), refl))
+    (λ _. tt)
 
 ended_at : (x : Entry) (depth : ℕ) → length x.0 ≡ depth → ended x depth ≡ Some x.1
 ended_at x depth h = let e : (length x.0 == depth) ≡ true = eq-eqb (length x.0) depth h in rw e refl
@@ -160,17 +129,17 @@ least_here xs tag from to depth best s w k a b h =
     let same : (at xs from).0 ≡ (at xs k).0 = sym (whole (at xs from).0 tag depth af short) ∙ whole (at xs k).0 tag depth ak h in
     let r : k < length xs = omega (arith, w.inside) in
     let P : Option ℕ → Type 0 = λ o. IsAtMost o (at xs k).1 in
-    subst P (sym (ended_at (at xs from) depth (omega (arith, af.long)))) (by_number (at xs from).0 (at xs k).0 (at xs from).1 (at xs k).1 same (far xs from k s a r))
+    subst P (sym (ended_at (at xs from) depth (omega (arith, af.long)))) (at_most (at xs from).1 (at xs k).1 (behind_tie (slice_cmp nat_cmp (at xs k).0 (at xs from).0) (nat_cmp (at xs k).1 (at xs from).1) (ap (slice_cmp nat_cmp (at xs k).0) same ∙ tied_itself nat_list_cmp_total (at xs k).0) (far xs from k s a r)))
   where
     no_key : (p : List ℕ) (d : ℕ) → key p d ≤ 0 → length p ≤ d
-    no_key p d h = elim (less_or d (length p)) [ inl l ↦ (let e = key_within p d l in absurd (omega (arith, e))) | inr m ↦ m ]
+    no_key p d h = elim (cases_lt d (length p)) [ inl l ↦ (let e = key_within p d l in absurd (omega (arith, e))) | inr m ↦ m ]
 
 pub better : (xs : List Entry) (tag : List ℕ) (from to depth : ℕ) (best : Option ℕ)
     → IsSorted entry_cmp xs → Searching xs tag from to depth best → from < to → depth < length tag
     → IsFirstShorter xs tag (depth + 1) (smaller best (ended (at xs from) depth))
 better xs tag from to depth best s w h l = record {
-  found = found_smaller xs tag best (ended (at xs from) depth) w.first.found (found_by xs tag from depth (length (at xs from).0 == depth) (omega (arith, w.inside)) (w.agree from (omega arith) h) l refl);
-  least = λ k r e m. elim (less_or (length (at xs k).0) depth) [
+  found = found_smaller xs tag best (ended (at xs from) depth) w.first.found (found_at xs tag from depth (omega (arith, w.inside)) (w.agree from (omega arith) h) l);
+  least = λ k r e m. elim (cases_lt (length (at xs k).0) depth) [
     | inl before ↦ left_most best (ended (at xs from) depth) (at xs k).1 (w.first.least k r e before)
     | inr here ↦ (let o = w.others k r e here in right_most best (ended (at xs from) depth) (at xs k).1 (least_here xs tag from to depth best s w k o.0 o.1 (omega arith)))
   ];
@@ -194,9 +163,9 @@ narrowed xs tag from to depth start end byte best more w l is f a b below above 
   others = λ k r e long.
       let o = w.others k r e (omega arith) in
       let is_next : key (at xs k).0 depth ≡ get_or tag depth 0 + 1 = begins_key depth (at xs k).0 tag (begins (at xs k).0 tag e) (omega arith) in
-      elim (less_or k start) [
+      elim (cases_lt k start) [
         | inl early ↦ (let no = below k o.0 early in absurd (omega (arith, no, is_next, is)))
-        | inr fine ↦ elim (less_or k end) [
+        | inr fine ↦ elim (cases_lt k end) [
           | inl good ↦ (fine, good)
           | inr late ↦ (let no = above2 k late o.1 in absurd (omega (arith, no, is_next, is)))
         ]
@@ -210,7 +179,7 @@ pub none_left : (xs : List Entry) (tag : List ℕ) (from to depth : ℕ) (best :
     → Searching xs tag from to depth best → from ≡ to → IsFirstShorter xs tag (length tag) best
 none_left xs tag from to depth best w same = record {
   found = w.first.found;
-  least = λ k r e m. elim (less_or (length (at xs k).0) depth) [
+  least = λ k r e m. elim (cases_lt (length (at xs k).0) depth) [
     | inl before ↦ w.first.least k r e before
     | inr here ↦ (let o = w.others k r e here in absurd (omega (arith, o.0, o.1)))
   ];

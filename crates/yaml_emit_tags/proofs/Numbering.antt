@@ -6,7 +6,7 @@ use Rattle.std.specs.Ordering.{nat_cmp, ordering_then, is_lt}
 use Rattle.std.specs.Cmp.Lexicographic.{slice_cmp}
 use Rattle.std.specs.List.{All, Contains}
 use Rattle.std.specs.List.Sorted.{IsPermutation, IsSorted}
-use Rattle.std.proofs.lemmas.List.{drop_more, drop_all, map-append, length-map}
+use Rattle.std.proofs.lemmas.List.{get_or-map, get_or_default, drop_more, drop_all, map-append, length-map}
 use Rattle.std.proofs.lemmas.List.Elements.{All-get_or, All-from_get_or}
 use Rattle.std.proofs.lemmas.List.Sorted.{IsPermutation-map, All-permutation, Contains-permutation}
 use Rattle.yaml_scan_model.specs.declared.yaml_tag_directive_t.{yaml_tag_directive_t}
@@ -57,12 +57,6 @@ numbered_first ds j e h = let z : 0 + j ≡ j = omega arith in numbered_at 0 ds 
 
 -- ---- sorting
 
-map_at : (es : List (Vec ℕ Global × ℕ)) (k : ℕ) (d : Entry) (e : Vec ℕ Global × ℕ) → k < length es
-    → get_or (map entry_of es) k d ≡ entry_of (get_or es k e)
-map_at [] k d e h = absurd (omega arith)
-map_at (x ∷ es) zero d e h = refl
-map_at (x ∷ es) (suc k) d e h = map_at es k d e (omega arith)
-
 pub sorted_mapped : (es : List (Vec ℕ Global × ℕ))
     → IsSorted (λ (x y : Vec ℕ Global × ℕ). ordering_then (slice_cmp nat_cmp x.0.items y.0.items)
     (nat_cmp x.1 y.1)) es → IsSorted entry_cmp (map entry_of es)
@@ -74,7 +68,7 @@ sorted_mapped (x ∷ es) s k d low h =
     let P : Entry → Entry → Type 0 = λ a b. is_lt (entry_cmp a b) ≡ false in
     let Q : Entry → Type 0 = λ a. P a (get_or (map entry_of (x ∷ es)) k d) in
     let R : Entry → Type 0 = λ b. P (entry_of (get_or (x ∷ es) (k + 1) x)) b in
-    subst Q (sym (map_at (x ∷ es) (k + 1) d x k1)) (subst R (sym (map_at (x ∷ es) k d x k0)) (s k x low k1))
+    subst Q (sym (get_or-map entry_of (x ∷ es) (k + 1) x d k1)) (subst R (sym (get_or-map entry_of (x ∷ es) k x d k0)) (s k x low k1))
 
 pub index_made : (ds : List TagDirective) (before after : List (Vec ℕ Global × ℕ))
     → map entry_of before ≡ numbered 0 ds → IsPermutation before after
@@ -101,19 +95,13 @@ has : (ds : List TagDirective) (xs : List Entry) (j : ℕ) → IsIndex ds xs →
     → Contains xs ((directive_at ds j).prefix, j)
 has ds xs j x h = Contains-permutation (numbered 0 ds) xs ((directive_at ds j).prefix, j) x.all (j, omega (arith, length_numbered 0 ds), numbered_first ds j ((directive_at ds j).prefix, j) h)
 
--- another default
-at_default : (xs : List Entry) (k : ℕ) (d : Entry) → k < length xs → get_or xs k d ≡ at xs k
-at_default [] k d h = absurd (omega arith)
-at_default (x ∷ xs) zero d h = refl
-at_default (x ∷ xs) (suc k) d h = at_default xs k d (omega arith)
-
 -- a directive that the tag can be written by isn't before the first
 not_before : (ds : List TagDirective) (xs : List Entry) (tag : List ℕ) (best : Option ℕ) (j : ℕ)
     → IsIndex ds xs → IsFirstShorter xs tag (length tag) best → j < length ds
     → has_shorter_prefix (directive_at ds j).prefix tag ≡ true → IsAtMost best j
 not_before ds xs tag best j x f h e =
     let c = has ds xs j x h in
-    let is : at xs c.0 ≡ ((directive_at ds j).prefix, j) = sym (at_default xs c.0 ((directive_at ds j).prefix, j) c.1) ∙ c.2 in
+    let is : at xs c.0 ≡ ((directive_at ds j).prefix, j) = sym (get_or_default xs c.0 ((directive_at ds j).prefix, j) ([], 0) c.1) ∙ c.2 in
     let e' : has_shorter_prefix (at xs c.0).0 tag ≡ true = ap (λ (z : Entry). has_shorter_prefix z.0 tag) is ∙ e in
     let b : Begins (at xs c.0).0 tag = begins (at xs c.0).0 tag e' in
     let P : ℕ → Type 0 = λ n. IsAtMost best n in

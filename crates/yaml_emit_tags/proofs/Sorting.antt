@@ -1,19 +1,11 @@
 -- Sorted prefixes, and the search for those that a tag begins with.
-use Rattle.std.proofs.Common.{◌≡◌, ◌≢◌, ℕ, ◌+◌, ◌-◌, ◌<◌, ◌≤◌, List, [], ◌∷◌, ◌++◌, length, take, drop, get_or, map, Bool, true, false, refl, sym, ◌∙◌, ap, arith, subst, inl, inr, Option, None, Some}
-use Rattle.std.specs.Prelude.{zero, suc, Vec, nat_lt, nat_le, ◌==◌, ◌⊎◌, if◌then◌else◌}
+use Rattle.std.proofs.Common.{◌≡◌, ℕ, ◌+◌, ◌<◌, ◌≤◌, List, [], ◌∷◌, ◌++◌, length, take, get_or, map, true, refl, sym, ◌∙◌, ap, arith, inl, inr}
+use Rattle.std.specs.Prelude.{zero, suc, Vec, nat_lt}
 use Rattle.std.specs.Global.{Global}
 use Rattle.std.specs.Str.{bytes_eq}
-use Rattle.std.specs.declared.cmp.Ordering.{Ordering}
-use Rattle.std.specs.declared.cmp.Ordering.TheVariants.{Less, Equal, Greater}
-use Rattle.std.specs.Ordering.{nat_cmp, ordering_then, is_lt, on}
-use Rattle.std.specs.Cmp.Lexicographic.{slice_cmp}
-use Rattle.std.specs.Cmp.{IsTotalOrder, IsStrictWeakOrder}
-use Rattle.std.specs.List.Sorted.{IsPermutation, IsSorted}
-use Rattle.std.proofs.lemmas.Bool.{ltb-true, ltb-false, cases_eq, and_parts}
+use Rattle.std.proofs.lemmas.Bool.{cases_lt, ltb-true, and_parts}
 use Rattle.std.proofs.lemmas.Bool.Decides.{nat_tests}
-use Rattle.std.proofs.lemmas.Cmp.{then_total, on_total, nat_list_cmp_total, nat_cmp_total, tied_itself}
-use Rattle.std.proofs.lemmas.List.{length-map, take_more}
-use Rattle.std.proofs.lemmas.List.Sorted.{sorted_far, ranks_by}
+use Rattle.std.proofs.lemmas.List.{get_or-map, take_more}
 use Rattle.std.proofs.lemmas.Slice.Eq.{bytes_eq-Decides}
 use Rattle.yaml_emit_tags.specs.Tags.{has_shorter_prefix}
 use Rattle.yaml_emit_tags.specs.Prefixes.{Entry, entry_of, at, key}
@@ -22,9 +14,7 @@ use Rattle.yaml_emit_tags.specs.Prefixes.{Entry, entry_of, at, key}
 
 pub at_of : (es : List (Vec ℕ Global × ℕ)) (k : ℕ) (e : Vec ℕ Global × ℕ) → k < length es
     → e ≡ get_or es k e → at (map entry_of es) k ≡ entry_of e
-at_of [] k e h is = absurd (omega arith)
-at_of (x ∷ es) zero e h is = ap entry_of (sym is)
-at_of (x ∷ es) (suc k) e h is = at_of es k e (omega arith) is
+at_of es k e h is = get_or-map entry_of es k e ([], 0) h ∙ ap entry_of (sym is)
 
 -- ---- keys
 
@@ -70,25 +60,15 @@ get_take (suc d) (suc n) (x ∷ t) h = get_take d n t (omega arith)
 pub begins_key : (d : ℕ) (p t : List ℕ) → Begins p t → d < length p → key p d ≡ get_or t d 0 + 1
 begins_key d p t b h = key_within p d h ∙ ap (λ q. get_or q d 0 + 1) (sym b.same) ∙ ap (λ n. n + 1) (get_take d (length p) t h)
 
-take_next : (d : ℕ) (p : List ℕ) → d < length p → take (d + 1) p ≡ take d p ++ get_or p d 0 ∷ []
-take_next d p h = take_more p d 0 h
-
-pub less_or : (m n : ℕ) → (m < n) ⊎ (n ≤ m)
-less_or m n = less_by m n (nat_lt m n) refl
-  where
-    less_by : (m n : ℕ) (b : Bool) → nat_lt m n ≡ b → (m < n) ⊎ (n ≤ m)
-    less_by m n true e = inl (ltb-true m n e)
-    less_by m n false e = inr (ltb-false m n e)
-
 -- agreeing by one byte more
 pub agree_more : (d b : ℕ) (p t : List ℕ) → Agree d p t → d < length t → b ≡ get_or t d 0
     → b + 1 ≤ key p d → key p d < b + 2 → Agree (d + 1) p t
 agree_more d b p t a h is low high =
-    elim (less_or d (length p)) [
+    elim (cases_lt d (length p)) [
       | inl in_it ↦ (
           let k : key p d ≡ get_or p d 0 + 1 = key_within p d in_it in
           let e : get_or p d 0 ≡ get_or t d 0 = omega arith in
-          record { long = omega arith; same = take_next d p in_it ∙ ap (λ z. z ++ get_or p d 0 ∷ []) a.same ∙ ap (λ z. take d t ++ z ∷ []) e ∙ sym (take_next d t h) })
+          record { long = omega arith; same = take_more p d 0 in_it ∙ ap (λ z. z ++ get_or p d 0 ∷ []) a.same ∙ ap (λ z. take d t ++ z ∷ []) e ∙ sym (take_more t d 0 h) })
       | inr out ↦ (let k : key p d ≡ 0 = key_behind p d out in absurd (omega arith))
     ]
 

@@ -1,5 +1,5 @@
 -- The letters of a text that is escaped, byte by byte.
-use Rattle.std.proofs.Common.{◌≡◌, ℕ, ◌+◌, ◌<◌, ◌≤◌, Bool, List, length, drop, get_or, subst, ◌∙◌, ap}
+use Rattle.std.proofs.Common.{ℕ, ◌+◌, ◌<◌, ◌≤◌, Bool, List, length, drop, get_or, subst, ◌∙◌, ap}
 use Rattle.std.proofs.lemmas.List.{drop_more, drop_all}
 use Rattle.yaml_emit_sink.specs.Layout.{Layout, letters}
 use Rattle.yaml_emit_sink.specs.Sink.{Output, Owes, Puts}

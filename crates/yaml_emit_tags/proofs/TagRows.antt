@@ -8,42 +8,14 @@ use Rattle.yaml_emit_tags.specs.Tags.{directive_for, defines, suffix_keeps, uri_
 abbrev directive : List ℕ → List ℕ → TagDirective
 directive handle prefix = record { handle = handle; prefix = prefix }
 
-tag_by_directive : tag_spelling (directive (codes "!!") (codes "tag:x,2000:") ∷ [])
-    (codes "tag:x,2000:a b") ≡ codes "!!a%20b"
+rows : (tag_spelling (directive (codes "!!") (codes "tag:x,2000:") ∷ []) (codes "tag:x,2000:a b") ≡ codes "!!a%20b")
+    × (tag_spelling (directive (codes "!!") (codes "tag:x,2000:") ∷ []) (codes "tag:yaml.org,2002:str") ≡ codes "!<tag:yaml.org,2002:str>")
+    × (tag_spelling (directive (codes "!") (codes "!m-") ∷ []) (codes "!m-a") ≡ codes "!a")
+    × (tag_spelling [] (codes "!") ≡ codes "!<%21>")
+    × (tag_spelling (directive (codes "!e!") (codes "tag:x,2000:") ∷ []) (codes "tag:x,2000:") ≡ codes "!<tag:x,2000:>")
+    × (tag_spelling [] (codes "tag:yaml.org,2002:a,[b]") ≡ codes "!!a%2C%5Bb%5D")
+    × (tag_spelling (directive (codes "!e!") (codes "!") ∷ directive (codes "!f!") (codes "!") ∷ []) (codes "!x") ≡ codes "!e!x")
+    × (tag_spelling [] (120 ∷ 91 ∷ 44 ∷ 93 ∷ 37 ∷ 0 ∷ []) ≡ codes "!<x[,]%25%00>")
+    × (uri_text true (codes "!m-") ≡ codes "%21m-")
 unfolding directive_for defines suffix_keeps uri_text spelled hex_digit
-tag_by_directive = refl
-
-tag_of_redefined : tag_spelling (directive (codes "!!") (codes "tag:x,2000:") ∷ [])
-    (codes "tag:yaml.org,2002:str") ≡ codes "!<tag:yaml.org,2002:str>"
-unfolding directive_for defines suffix_keeps uri_text spelled hex_digit
-tag_of_redefined = refl
-
-tag_by_primary : tag_spelling (directive (codes "!") (codes "!m-") ∷ []) (codes "!m-a") ≡ codes "!a"
-unfolding directive_for defines suffix_keeps uri_text spelled hex_digit
-tag_by_primary = refl
-
-tag_not_shorter : tag_spelling [] (codes "!") ≡ codes "!<%21>"
-unfolding directive_for defines suffix_keeps uri_text spelled hex_digit
-tag_not_shorter = refl
-
-tag_whole_prefix : tag_spelling (directive (codes "!e!") (codes "tag:x,2000:") ∷ [])
-    (codes "tag:x,2000:") ≡ codes "!<tag:x,2000:>"
-unfolding directive_for defines suffix_keeps uri_text spelled hex_digit
-tag_whole_prefix = refl
-
-tag_flow_indicators : tag_spelling [] (codes "tag:yaml.org,2002:a,[b]") ≡ codes "!!a%2C%5Bb%5D"
-unfolding directive_for defines suffix_keeps uri_text spelled hex_digit
-tag_flow_indicators = refl
-
-tag_first : tag_spelling (directive (codes "!e!") (codes "!") ∷ directive (codes "!f!") (codes "!")
-    ∷ []) (codes "!x") ≡ codes "!e!x"
-unfolding directive_for defines suffix_keeps uri_text spelled hex_digit
-tag_first = refl
-
-tag_verbatim : tag_spelling [] (120 ∷ 91 ∷ 44 ∷ 93 ∷ 37 ∷ 0 ∷ []) ≡ codes "!<x[,]%25%00>"
-unfolding directive_for defines suffix_keeps uri_text spelled hex_digit
-tag_verbatim = refl
-
-prefix_escaped : uri_text true (codes "!m-") ≡ codes "%21m-"
-unfolding directive_for defines suffix_keeps uri_text spelled hex_digit
-prefix_escaped = refl
+rows = (refl, refl, refl, refl, refl, refl, refl, refl, refl)

@@ -1,8 +1,7 @@
-use Rattle.std.proofs.Common.{ℕ, ◌≡◌, ◌+◌, ◌-◌, ◌<◌, ◌≤◌, List, map, arith, length}
+use Rattle.std.proofs.Common.{ℕ, ◌≡◌, ◌+◌, ◌-◌, ◌≤◌, List, map, arith}
 use Rattle.std.specs.Prelude.{◌/◌}
 use Rattle.yaml_emit_tags.specs.Prefixes.{Entry, key, at, entry_of}
 use Rattle.yaml_emit_tags.proofs.Sorting.{key_read}
-use Rattle.yaml_emit_tags.proofs.Narrowing.{below_up, above_down}
 use Rattle.yaml_emit_tags.proofs.prefixes.edge.Goals as goal
 
 pub loop-low-preserved-then-key-least : goal.loop-low-preserved-then-key-least
@@ -14,7 +13,7 @@ loop-low-preserved-then-key-least c =
       from = omega arith;
       room = omega arith;
       to = omega arith;
-      below = below_up (λ k. key (at xs k).0 c.args.depth) c.args.from c.args.to middle c.args.least c.requires.rises (omega arith) (omega arith);
+      below = λ k a b. let less : key (at xs k).0 c.args.depth ≤ key (at xs middle).0 c.args.depth = c.requires.rises k middle a (omega arith) (omega arith) in omega arith;
       above = c.loop-low.invariant.above;
     }
 
@@ -28,5 +27,5 @@ loop-low-preserved c =
       room = omega arith;
       to = omega arith;
       below = c.loop-low.invariant.below;
-      above = above_down (λ k. key (at xs k).0 c.args.depth) c.args.from c.args.to middle c.args.least c.requires.rises (omega arith) (omega arith);
+      above = λ k a b. let more : key (at xs middle).0 c.args.depth ≤ key (at xs k).0 c.args.depth = c.requires.rises middle k (omega arith) a b in omega arith;
     }

@@ -1,4 +1,4 @@
-use Rattle.std.proofs.Common.{refl, ◌<◌, ◌≤◌, ℕ, arith}
+use Rattle.std.proofs.Common.{refl, ◌<◌, arith}
 use Rattle.yaml_emit_tags.proofs.Narrowing.{part_rises, better_by, narrowed}
 use Rattle.yaml_emit_tags.proofs.prefixes.first_among.Goals as goal
 

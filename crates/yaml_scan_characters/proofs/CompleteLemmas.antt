@@ -1,6 +1,6 @@
 -- What spells a text is decoded to it.
-use Rattle.std.proofs.Common.{◌≡◌, ◌⊎◌, inl, inr, ℕ, suc, ◌+◌, ◌-◌, ◌*◌, ◌/◌, ◌%◌, ◌<◌, ◌≤◌, Bool, true, false, not, ◌&&◌, ◌==◌, nat_lt, cond, List, [], ◌∷◌, ◌++◌, drop, get_or, length, Result, Ok, Err, refl, sym, ap, ◌∙◌, arith, add-zero, append_assoc, append-nil, length-drop, length-append, get_or-drop}
-use Rattle.std.proofs.lemmas.Bool.{cases_lt}
+use Rattle.std.proofs.Common.{◌≡◌, ◌⊎◌, inl, inr, ℕ, suc, ◌+◌, ◌-◌, ◌*◌, ◌/◌, ◌%◌, ◌<◌, ◌≤◌, true, false, not, ◌&&◌, ◌==◌, nat_lt, List, [], ◌∷◌, ◌++◌, drop, get_or, length, Result, Ok, Err, refl, sym, ap, ◌∙◌, arith, add-zero, append_assoc, append-nil, length-drop, length-append, get_or-drop}
+use Rattle.std.proofs.lemmas.Bool.{cases_lt, cond_both}
 use Rattle.std.proofs.lemmas.Bool.Decides.{nat_tests}
 use Rattle.std.proofs.lemmas.List.{drop-drop, drop_at, take_all}
 use Rattle.std.proofs.lemmas.List.Elements.{All-head, All-tail}
@@ -25,23 +25,14 @@ use Rattle.yaml_scan_characters.proofs.DecodeLemmas.{AreBytes}
 use Rattle.yaml_scan_characters.proofs.SpellingLemmas.{ended, turn, sound, utf8_text}
 
 -- ---- the call
-pick_utf8 : (t u : Bool)
-    → (cond t YAML_UTF16LE_ENCODING (cond u YAML_UTF16BE_ENCODING YAML_UTF8_ENCODING)
-    ≡ YAML_UTF16LE_ENCODING → ⊥)
-    → (cond t YAML_UTF16LE_ENCODING (cond u YAML_UTF16BE_ENCODING YAML_UTF8_ENCODING)
-    ≡ YAML_UTF16BE_ENCODING → ⊥)
-    → cond t YAML_UTF16LE_ENCODING (cond u YAML_UTF16BE_ENCODING YAML_UTF8_ENCODING)
-    ≡ YAML_UTF8_ENCODING
-pick_utf8 true u low high = absurd (low refl)
-pick_utf8 false true low high = absurd (high refl)
-pick_utf8 false false low high = refl
-
 -- bytes in no 16-bit units are UTF-8
 pub encoding_utf8 : (s : yaml_encoding_t) (bytes : List ℕ)
     → (encoding_of s bytes ≡ YAML_UTF16LE_ENCODING → ⊥)
     → (encoding_of s bytes ≡ YAML_UTF16BE_ENCODING → ⊥) → encoding_of s bytes ≡ YAML_UTF8_ENCODING
 unfolding encoding_of
-encoding_utf8 YAML_ANY_ENCODING bytes low high = pick_utf8 (begins_low_first bytes) (begins_high_first bytes) low high
+encoding_utf8 YAML_ANY_ENCODING bytes low high =
+    let P : yaml_encoding_t → Type 0 = λ e. (e ≡ YAML_UTF16LE_ENCODING → ⊥) → (e ≡ YAML_UTF16BE_ENCODING → ⊥) → e ≡ YAML_UTF8_ENCODING in
+    cond_both (begins_low_first bytes) _ _ P (λ _ l h. absurd (l refl)) (λ _. cond_both (begins_high_first bytes) _ _ P (λ _ l h. absurd (h refl)) (λ _ l h. refl)) low high
 encoding_utf8 YAML_UTF8_ENCODING bytes low high = refl
 encoding_utf8 YAML_UTF16LE_ENCODING bytes low high = absurd (low refl)
 encoding_utf8 YAML_UTF16BE_ENCODING bytes low high = absurd (high refl)
@@ -89,26 +80,6 @@ pub valued_good : (p width code : ℕ) → least_code width ≤ code → is_allo
 unfolding valued_at allowed_at is_allowed
 valued_good p width code low allowed = grind (arith, nat_tests)
 
--- so many bytes of UTF-8 in a row, each behind the first a trailing one
-first_1 : (b : ℕ) → b < 128 → width_of b ≡ 1
-unfolding width_of
-first_1 b low = grind (arith, nat_tests)
-
-first_2 : (x : ℕ) → x < 32 → width_of (192 + x) ≡ 2
-unfolding width_of
-first_2 x small = grind (arith, nat_tests)
-
-first_3 : (x : ℕ) → x < 16 → width_of (224 + x) ≡ 3
-unfolding width_of
-first_3 x small = grind (arith, nat_tests)
-
-first_4 : (x : ℕ) → x < 8 → width_of (240 + x) ≡ 4
-unfolding width_of
-first_4 x small = grind (arith, nat_tests)
-
-trails : (x : ℕ) → x < 64 → is_trailing (128 + x) ≡ true
-trails x small = grind (arith, nat_tests)
-
 -- enough bytes are left, and the sequence stands for the code
 utf8_good : (left p b c d e width code : ℕ) → width_of b ≡ width → 0 < width → width ≤ left
     → (nat_lt 1 width && not (is_trailing c)) ≡ false
@@ -122,34 +93,35 @@ utf8_good left p b c d e width code w some enough s t u is low allowed =
     let l : nat_lt left width ≡ false = grind (arith, nat_tests) in
     rw (w, z, l, s, t, u, is) (valued_good p width code low allowed)
 
-untested : (x : ℕ) → x < 64 → (true && not (is_trailing (128 + x))) ≡ false
-untested x small = rw (trails x small) refl
+-- a trailing byte is one
+trails : (x : ℕ) → x < 64 → (true && not (is_trailing (128 + x))) ≡ false
+trails x small = grind (arith, nat_tests)
 
 good_1 : (left p b c d e : ℕ) → 1 ≤ left → b < 128 → is_allowed b ≡ true
     → utf8_of left p b c d e ≡ Ok record { code = b; width = 1 }
 unfolding utf8_code leading_bits least_code
-good_1 left p b c d e enough low allowed = utf8_good left p b c d e 1 b (first_1 b low) (omega arith) enough refl refl refl refl (omega arith) allowed
+good_1 left p b c d e enough low allowed = utf8_good left p b c d e 1 b (unfold width_of in grind (arith, nat_tests)) (omega arith) enough refl refl refl refl (omega arith) allowed
 
 good_2 : (left p x y d e code : ℕ) → 2 ≤ left → x < 32 → y < 64 → x * 64 + y ≡ code → 128 ≤ code
     → is_allowed code ≡ true
     → utf8_of left p (192 + x) (128 + y) d e ≡ Ok record { code = code; width = 2 }
 unfolding utf8_code leading_bits least_code
 good_2 left p x y d e code enough a b is low allowed =
-    utf8_good left p (192 + x) (128 + y) d e 2 code (first_2 x a) (omega arith) enough (untested y b) refl refl (omega arith) low allowed
+    utf8_good left p (192 + x) (128 + y) d e 2 code (unfold width_of in grind (arith, nat_tests)) (omega arith) enough (trails y b) refl refl (omega arith) low allowed
 
 good_3 : (left p x y z e code : ℕ) → 3 ≤ left → x < 16 → y < 64 → z < 64
     → (x * 64 + y) * 64 + z ≡ code → 2048 ≤ code → is_allowed code ≡ true
     → utf8_of left p (224 + x) (128 + y) (128 + z) e ≡ Ok record { code = code; width = 3 }
 unfolding utf8_code leading_bits least_code
 good_3 left p x y z e code enough a b c is low allowed =
-    utf8_good left p (224 + x) (128 + y) (128 + z) e 3 code (first_3 x a) (omega arith) enough (untested y b) (untested z c) refl (omega arith) low allowed
+    utf8_good left p (224 + x) (128 + y) (128 + z) e 3 code (unfold width_of in grind (arith, nat_tests)) (omega arith) enough (trails y b) (trails z c) refl (omega arith) low allowed
 
 good_4 : (left p x y z w code : ℕ) → 4 ≤ left → x < 8 → y < 64 → z < 64 → w < 64
     → ((x * 64 + y) * 64 + z) * 64 + w ≡ code → 65536 ≤ code → is_allowed code ≡ true
     → utf8_of left p (240 + x) (128 + y) (128 + z) (128 + w) ≡ Ok record { code = code; width = 4 }
 unfolding utf8_code leading_bits least_code
 good_4 left p x y z w code enough a b c d is low allowed =
-    utf8_good left p (240 + x) (128 + y) (128 + z) (128 + w) 4 code (first_4 x a) (omega arith) enough (untested y b) (untested z c) (untested w d) (omega arith) low allowed
+    utf8_good left p (240 + x) (128 + y) (128 + z) (128 + w) 4 code (unfold width_of in grind (arith, nat_tests)) (omega arith) enough (trails y b) (trails z c) (trails w d) (omega arith) low allowed
 
 below_top : (c : ℕ) → is_allowed c ≡ true → c < 1114112
 unfolding is_allowed
@@ -162,34 +134,29 @@ utf8_spelled : (bytes : List ℕ) (p c : ℕ) (rest : List ℕ) → is_allowed c
 unfolding encode_utf8
 utf8_spelled bytes p c rest allowed h = by (cases_lt c 128) (cases_lt c 2048) (cases_lt c 65536)
   where
-    first : (l : List ℕ) → drop p bytes ≡ l → byte bytes p ≡ get_or l 0 0
-    first l e = rw add-zero at (at_drop bytes p 0 l e)
+    at : (l : List ℕ) → encode_utf8 c ≡ l
+        → utf8_at bytes p ≡ utf8_of (length (l ++ rest)) p (get_or (l ++ rest) 0 0)
+        (get_or (l ++ rest) 1 0) (get_or (l ++ rest) 2 0) (get_or (l ++ rest) 3 0)
+    at l e =
+        let there : drop p bytes ≡ l ++ rest = h ∙ ap (λ (xs : List ℕ). xs ++ rest) e in
+        let first : byte bytes p ≡ get_or (l ++ rest) 0 0 = rw add-zero at (at_drop bytes p 0 _ there) in
+        rw (left_of bytes p _ there, first, at_drop bytes p 1 _ there, at_drop bytes p 2 _ there, at_drop bytes p 3 _ there) refl
 
     by : (c < 128) ⊎ (128 ≤ c) → (c < 2048) ⊎ (2048 ≤ c) → (c < 65536) ⊎ (65536 ≤ c)
         → utf8_at bytes p ≡ Ok record { code = c; width = length (encode_utf8 c) }
     by (inl low) _ _ =
         let e : encode_utf8 c ≡ c ∷ [] = grind (arith, nat_tests) in
-        let l = h ∙ ap (λ (xs : List ℕ). xs ++ rest) e in
-        let n = left_of bytes p _ l in
-        rw (e, first _ l) (good_1 _ p c _ _ _ (omega (arith, n)) low allowed)
+        rw (at _ e, e) (good_1 _ p c _ _ _ (omega arith) low allowed)
     by (inr from) (inl low) _ =
         let e : encode_utf8 c ≡ (192 + c / 64) ∷ (128 + c % 64) ∷ [] = grind (arith, nat_tests) in
-        let l = h ∙ ap (λ (xs : List ℕ). xs ++ rest) e in
-        let n = left_of bytes p _ l in
-        rw (e, first _ l, at_drop bytes p 1 _ l) (good_2 _ p (c / 64) (c % 64) _ _ c (omega (arith, n)) (omega arith) (omega arith) (omega arith) from allowed)
+        rw (at _ e, e) (good_2 _ p (c / 64) (c % 64) _ _ c (omega arith) (omega arith) (omega arith) (omega arith) from allowed)
     by (inr _) (inr from) (inl low) =
         let e : encode_utf8 c ≡ (224 + c / 4096) ∷ (128 + c / 64 % 64) ∷ (128 + c % 64) ∷ [] = grind (arith, nat_tests) in
-        let l = h ∙ ap (λ (xs : List ℕ). xs ++ rest) e in
-        let n = left_of bytes p _ l in
-        rw (e, first _ l, at_drop bytes p 1 _ l, at_drop bytes p 2 _ l)
-        (good_3 _ p (c / 4096) (c / 64 % 64) (c % 64) _ c (omega (arith, n)) (omega arith) (omega arith) (omega arith) (omega arith) from allowed)
+        rw (at _ e, e) (good_3 _ p (c / 4096) (c / 64 % 64) (c % 64) _ c (omega arith) (omega arith) (omega arith) (omega arith) (omega arith) from allowed)
     by (inr _) (inr _) (inr from) =
         let top : c < 1114112 = below_top c allowed in
         let e : encode_utf8 c ≡ (240 + c / 262144) ∷ (128 + c / 4096 % 64) ∷ (128 + c / 64 % 64) ∷ (128 + c % 64) ∷ [] = grind (arith, nat_tests) in
-        let l = h ∙ ap (λ (xs : List ℕ). xs ++ rest) e in
-        let n = left_of bytes p _ l in
-        rw (e, first _ l, at_drop bytes p 1 _ l, at_drop bytes p 2 _ l, at_drop bytes p 3 _ l)
-        (good_4 _ p (c / 262144) (c / 4096 % 64) (c / 64 % 64) (c % 64) c (omega (arith, n)) (omega arith) (omega arith) (omega arith) (omega arith) (omega arith) from allowed)
+        rw (at _ e, e) (good_4 _ p (c / 262144) (c / 4096 % 64) (c / 64 % 64) (c % 64) c (omega arith) (omega arith) (omega arith) (omega arith) (omega arith) (omega arith) from allowed)
 
 -- the bytes from the place on begin with a unit's
 record UnitThere (order : ByteOrder) (bytes : List ℕ) (p u : ℕ) (rest : List ℕ) : Type 0 where
@@ -201,13 +168,9 @@ unit_read : (order : ByteOrder) (bytes : List ℕ) (p u : ℕ) (rest : List ℕ)
     → drop p bytes ≡ unit_bytes order u ++ rest → UnitThere order bytes p u rest
 unfolding unit_at
 unit_read LowFirst bytes p u rest h =
-    let a = rw add-zero at (at_drop bytes p 0 _ h) in
-    let b = at_drop bytes p 1 _ h in
-    record { is = rw (a, b) (omega arith); left = left_of bytes p _ h; next = sym (drop-drop 2 p bytes) ∙ ap (λ (l : List ℕ). drop 2 l) h }
+    record { is = rw (rw add-zero at (at_drop bytes p 0 _ h), at_drop bytes p 1 _ h) (omega arith); left = left_of bytes p _ h; next = sym (drop-drop 2 p bytes) ∙ ap (λ (l : List ℕ). drop 2 l) h }
 unit_read HighFirst bytes p u rest h =
-    let a = rw add-zero at (at_drop bytes p 0 _ h) in
-    let b = at_drop bytes p 1 _ h in
-    record { is = rw (a, b) (omega arith); left = left_of bytes p _ h; next = sym (drop-drop 2 p bytes) ∙ ap (λ (l : List ℕ). drop 2 l) h }
+    record { is = rw (rw add-zero at (at_drop bytes p 0 _ h), at_drop bytes p 1 _ h) (omega arith); left = left_of bytes p _ h; next = sym (drop-drop 2 p bytes) ∙ ap (λ (l : List ℕ). drop 2 l) h }
 
 length-unit : (order : ByteOrder) (u : ℕ) → length (unit_bytes order u) ≡ 2
 length-unit LowFirst u = refl
@@ -261,10 +224,9 @@ utf16_spelled order bytes p c rest allowed h = by (cases_lt c 65536)
 pub character_spelled : (e : yaml_encoding_t) (bytes : List ℕ) (p c : ℕ) (rest : List ℕ)
     → is_allowed c ≡ true → drop p bytes ≡ spelling e c ++ rest
     → character_at e bytes p ≡ Ok record { code = c; width = length (spelling e c) }
-character_spelled YAML_ANY_ENCODING bytes p c rest allowed h = utf8_spelled bytes p c rest allowed h
-character_spelled YAML_UTF8_ENCODING bytes p c rest allowed h = utf8_spelled bytes p c rest allowed h
 character_spelled YAML_UTF16LE_ENCODING bytes p c rest allowed h = utf16_spelled LowFirst bytes p c rest allowed h
 character_spelled YAML_UTF16BE_ENCODING bytes p c rest allowed h = utf16_spelled HighFirst bytes p c rest allowed h
+character_spelled _ bytes p c rest allowed h = utf8_spelled bytes p c rest allowed h
 
 utf8_some : (c : ℕ) → 0 < length (encode_utf8 c)
 unfolding encode_utf8
@@ -278,10 +240,9 @@ utf16_some order c = by (encode_utf16 c) (grind (arith, nat_tests))
     by (u ∷ us) h = omega (arith, length-append (unit_bytes order u) (units_bytes order us), length-unit order u)
 
 spelling_some : (e : yaml_encoding_t) (c : ℕ) → 0 < length (spelling e c)
-spelling_some YAML_ANY_ENCODING c = utf8_some c
-spelling_some YAML_UTF8_ENCODING c = utf8_some c
 spelling_some YAML_UTF16LE_ENCODING c = utf16_some LowFirst c
 spelling_some YAML_UTF16BE_ENCODING c = utf16_some HighFirst c
+spelling_some _ c = utf8_some c
 
 -- characters that are spelled are read
 pub complete : (n : ℕ) (e : yaml_encoding_t) (bytes : List ℕ) (p : ℕ) (cs : List ℕ)

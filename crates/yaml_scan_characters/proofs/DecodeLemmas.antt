@@ -4,7 +4,7 @@ use Rattle.std.proofs.lemmas.Bool.Decides.{nat_tests}
 use Rattle.std.specs.Char.{encode_utf8}
 use Rattle.std.specs.Char.Escape.{encode_utf16}
 use Rattle.yaml_scan_model.specs.declared.name.yaml_encoding_t.{yaml_encoding_t}
-use Rattle.yaml_scan_model.specs.declared.name.yaml_encoding_t.TheVariants.{YAML_ANY_ENCODING, YAML_UTF8_ENCODING, YAML_UTF16LE_ENCODING, YAML_UTF16BE_ENCODING}
+use Rattle.yaml_scan_model.specs.declared.name.yaml_encoding_t.TheVariants.{YAML_UTF16LE_ENCODING, YAML_UTF16BE_ENCODING}
 use Rattle.yaml_scan_model.specs.Marks.{byte}
 use Rattle.yaml_scan_model.specs.Classes.{width_of}
 use Rattle.yaml_scan_characters.specs.declared.offence.ReaderProblem.TheVariants as problems
@@ -84,6 +84,14 @@ four_bytes x y z w low high small less last =
 pub drop_one : (bytes : List ℕ) (p : ℕ) → p < length bytes
     → drop p bytes ≡ byte bytes p ∷ drop (p + 1) bytes
 drop_one bytes p h = rw (add-one, drop-cons bytes p 0)
+
+drop_two : (bytes : List ℕ) (p : ℕ) → p + 1 < length bytes
+    → drop p bytes ≡ byte bytes p ∷ byte bytes (p + 1) ∷ drop (p + 2) bytes
+drop_two bytes p h =
+    let a = drop_one bytes p (omega arith) in
+    let b = drop_one bytes (p + 1) h in
+    let e : p + 1 + 1 ≡ p + 2 = omega arith in
+    cc
 
 -- those four bytes
 abbrev four : ℕ → ℕ → ℕ → ℕ → List ℕ
@@ -205,26 +213,17 @@ front : (bytes : List ℕ) (p w : ℕ) → w ≤ 4 → p + w ≤ length bytes
     (byte bytes (p + 3))) ++ drop (p + w) bytes
 front bytes p zero few inside = rw add-zero refl
 front bytes p (suc zero) few inside = drop_one bytes p (omega arith)
-front bytes p (suc (suc zero)) few inside =
-    let a = drop_one bytes p (omega arith) in
-    let b = drop_one bytes (p + 1) (omega arith) in
-    let e : p + 1 + 1 ≡ p + 2 = omega arith in
-    cc
+front bytes p (suc (suc zero)) few inside = drop_two bytes p (omega arith)
 front bytes p (suc (suc (suc zero))) few inside =
-    let a = drop_one bytes p (omega arith) in
-    let b = drop_one bytes (p + 1) (omega arith) in
-    let c = drop_one bytes (p + 2) (omega arith) in
-    let e : p + 1 + 1 ≡ p + 2 = omega arith in
-    let f : p + 2 + 1 ≡ p + 3 = omega arith in
+    let a = drop_two bytes p (omega arith) in
+    let b = drop_one bytes (p + 2) (omega arith) in
+    let e : p + 2 + 1 ≡ p + 3 = omega arith in
     cc
 front bytes p (suc (suc (suc (suc zero)))) few inside =
-    let a = drop_one bytes p (omega arith) in
-    let b = drop_one bytes (p + 1) (omega arith) in
-    let c = drop_one bytes (p + 2) (omega arith) in
-    let d = drop_one bytes (p + 3) (omega arith) in
-    let e : p + 1 + 1 ≡ p + 2 = omega arith in
-    let f : p + 2 + 1 ≡ p + 3 = omega arith in
-    let g : p + 3 + 1 ≡ p + 4 = omega arith in
+    let a = drop_two bytes p (omega arith) in
+    let b = drop_two bytes (p + 2) (omega arith) in
+    let e : p + 2 + 1 ≡ p + 3 = omega arith in
+    let f : p + 2 + 2 ≡ p + 4 = omega arith in
     cc
 front bytes p (suc (suc (suc (suc (suc n))))) few inside = absurd (omega arith)
 
@@ -319,21 +318,15 @@ utf16_stands order bytes p ch are in_bytes h = by (utf16_gives _ _ _ _ ch h)
     by : Units (length bytes - p) (unit_at order bytes p) (unit_at order bytes (p + 2)) ch
         → Stands bytes p ch (units_bytes order (encode_utf16 ch.code))
     by (one left allowed is) =
-        let a = drop_one bytes p (omega arith) in
-        let b = drop_one bytes (p + 1) (omega arith) in
-        let e : p + 1 + 1 ≡ p + 2 = omega arith in
+        let a = drop_two bytes p (omega arith) in
         let here = unit_spelled order bytes p are in
         let code : encode_utf16 ch.code ≡ unit_at order bytes p ∷ [] = rw is (one_unit _ (unit_small order bytes p are)) in
         let width : ch.width ≡ 2 = rw is refl in
         record { some = omega arith; inside = omega arith; allowed = allowed; spelled = rw (code, here, width) (cc) }
     by (pair left allowed width code) =
-        let a = drop_one bytes p (omega arith) in
-        let b = drop_one bytes (p + 1) (omega arith) in
-        let c = drop_one bytes (p + 2) (omega arith) in
-        let d = drop_one bytes (p + 3) (omega arith) in
-        let e : p + 1 + 1 ≡ p + 2 = omega arith in
-        let f : p + 2 + 1 ≡ p + 3 = omega arith in
-        let g : p + 3 + 1 ≡ p + 4 = omega arith in
+        let a = drop_two bytes p (omega arith) in
+        let b = drop_two bytes (p + 2) (omega arith) in
+        let e : p + 2 + 2 ≡ p + 4 = omega arith in
         let here = unit_spelled order bytes p are in
         let there = unit_spelled order bytes (p + 2) are in
         record { some = omega arith; inside = omega arith; allowed = allowed; spelled = rw (code, here, there, width) (cc) }
@@ -342,7 +335,6 @@ utf16_stands order bytes p ch are in_bytes h = by (utf16_gives _ _ _ _ ch h)
 pub character_stands : (e : yaml_encoding_t) (bytes : List ℕ) (p : ℕ) (ch : Character)
     → AreBytes bytes → p < length bytes → character_at e bytes p ≡ Ok ch
     → Stands bytes p ch (spelling e ch.code)
-character_stands YAML_ANY_ENCODING bytes p ch are h e = utf8_stands bytes p ch h e
-character_stands YAML_UTF8_ENCODING bytes p ch are h e = utf8_stands bytes p ch h e
 character_stands YAML_UTF16LE_ENCODING bytes p ch are h e = utf16_stands LowFirst bytes p ch are h e
 character_stands YAML_UTF16BE_ENCODING bytes p ch are h e = utf16_stands HighFirst bytes p ch are h e
+character_stands _ bytes p ch are h e = utf8_stands bytes p ch h e

@@ -1,5 +1,7 @@
 -- Every event leaves a document in the making sound, and the document that it ends is sound.
-use Rattle.std.proofs.Common.{◌≡◌, ◌≤◌, ℕ, suc, ℤ, Bool, true, false, cond, List, [], ◌∷◌, ◌++◌, length, Option, Some, None, IsUtf8, IfSome, sym, subst, arith}
+use Rattle.std.proofs.Common.{◌≡◌, ◌≤◌, ℕ, suc, ℤ, List, [], ◌∷◌, ◌++◌, length, Option, Some, None, IsUtf8, IfSome, sym, subst, arith}
+use Rattle.std.proofs.lemmas.Bool.{cond_both}
+use Rattle.std.proofs.lemmas.Option.{IfSome_then}
 use Rattle.std.specs.Ordering.{nat_cmp, eq_by_cmp}
 use Rattle.std.specs.Cmp.Lexicographic.{slice_cmp, nat_list_cmp_total}
 use Rattle.std.specs.FinMap as map
@@ -14,7 +16,7 @@ use Rattle.yaml_parse_document.proofs.Sound.{wider_id, wider_ids, wider_pairs, w
 use Rattle.yaml_parse_loader.specs.Anchors.{Anchors}
 use Rattle.yaml_parse_loader.specs.Numbering.{is_bang, loaded_tag}
 use Rattle.yaml_parse_loader.specs.Loading.{Open, open_sequence, open_mapping, Loading, nothing_loaded, attached, attach, next, with_leaf, with_open, filled, filled_body, place_of, closed, LoadStep, goes_on, loaded, refused, aliased, named, step_body}
-use Rattle.yaml_parse_loader.specs.Sound.{IsIdOption, IsSoundOpen, AreSoundOpen, AreAnchors, IsLoading}
+use Rattle.yaml_parse_loader.specs.Sound.{IsSoundOpen, AreSoundOpen, AreAnchors, IsLoading}
 
 abbrev pub FedSound : LoadStep → Type 0
 FedSound (goes_on l) = IsLoading l
@@ -23,22 +25,14 @@ FedSound (refused f) = Unit {0}
 
 -- ---- more nodes
 
-wider_key : (m n : ℕ) (key : Option ℤ) → m ≤ n → IsIdOption m key → IsIdOption n key
-wider_key m n None h s = tt
-wider_key m n (Some id) h s = wider_id m n id h s
-
 wider_open : (m n : ℕ) (o : Open) → m ≤ n → IsSoundOpen m o → IsSoundOpen n o
 wider_open m n (open_sequence place items) h s = wider_ids m n items h s
-wider_open m n (open_mapping place pairs key) h s = (wider_pairs m n pairs h s.0, wider_key m n key h s.1)
+wider_open m n (open_mapping place pairs None) h s = (wider_pairs m n pairs h s.0, tt)
+wider_open m n (open_mapping place pairs (Some id)) h s = (wider_pairs m n pairs h s.0, wider_id m n id h s.1)
 
 wider_levels : (m n : ℕ) (os : List Open) → m ≤ n → AreSoundOpen m os → AreSoundOpen n os
 wider_levels m n [] h s = tt
 wider_levels m n (o ∷ os) h s = (wider_open m n o h s.0, wider_levels m n os h s.1)
-
-pub wider_found : (m n : ℕ) (o : Option ℤ) → m ≤ n → IfSome o (λ i. IsId m i)
-    → IfSome o (λ i. IsId n i)
-wider_found m n None h s = s
-wider_found m n (Some i) h s = wider_id m n i h s
 
 -- ---- numbers put where they belong
 
@@ -73,35 +67,26 @@ open_sound l n o known empty s = record { document = s.document; levels = (empty
 
 -- ---- anchors
 
-pub inserted_sound : (m : ℕ) (b : Bool) (new : ℤ) (o : Option ℤ) → IsId m new
-    → IfSome o (λ i. IsId m i) → IfSome (cond b (Some new) o) (λ i. IsId m i)
-inserted_sound m true new o h s = h
-inserted_sound m false new o h s = s
-
 named_sound : (m : ℕ) (anchor : Option (List ℕ)) (new : ℤ) (known : Anchors) → AreAnchors m known
     → IsId m new → AreAnchors m (named anchor new known)
 named_sound m None new known s h = s
 named_sound m (Some name) new known s h = λ q.
     subst (λ (o : Option ℤ). IfSome o (λ i. IsId m i)) (sym (map.get-insert nat_list_cmp_total known name new q))
-    (inserted_sound m (eq_by_cmp (slice_cmp nat_cmp) q name) new (map.get known q) h (s q))
+    (cond_both (eq_by_cmp (slice_cmp nat_cmp) q name) (Some new) (map.get known q) (λ o. IfSome o (λ i. IsId m i)) (λ _. h) (λ _. s q))
 
 -- the anchors behind one node more
 next_sound : (l : Loading) (anchor : Option (List ℕ)) → IsLoading l
     → AreAnchors (suc (length l.document.nodes)) (named anchor (next l) l.anchors)
 next_sound l anchor s =
     named_sound (suc (length l.document.nodes)) anchor (next l) l.anchors
-    (λ q. wider_found _ _ (map.get l.anchors q) (omega arith) (s.anchors q)) (omega arith)
+    (λ q. IfSome_then (map.get l.anchors q) (s.anchors q) (λ i t. wider_id _ _ i (omega arith) t)) (omega arith)
 
 -- ---- tags
-
-either_utf8 : (b : Bool) (x y : List ℕ) → IsUtf8 x → IsUtf8 y → IsUtf8 (cond b x y)
-either_utf8 true x y p q = p
-either_utf8 false x y p q = q
 
 loaded_utf8 : (tag : Option (List ℕ)) (default : List ℕ) → IsUtf8 default → IsUtf8Option tag
     → IsUtf8 (loaded_tag tag default)
 loaded_utf8 None default d h = d
-loaded_utf8 (Some tag) default d h = either_utf8 (is_bang tag) default tag d h
+loaded_utf8 (Some tag) default d h = cond_both (is_bang tag) default tag IsUtf8 (λ _. d) (λ _. h)
 
 -- ---- a collection's end
 

@@ -1,8 +1,8 @@
 -- What becomes of open collections, seen by views.
-use Rattle.std.proofs.Common.{◌≡◌, ◌<◌, ◌≤◌, ℕ, zero, suc, ℤ, List, [], ◌∷◌, ◌++◌, map, length, reverse, take, Option, Some, Result, Ok, Err, refl, ap, sym, subst, ◌∙◌, arith, get_or}
+use Rattle.std.proofs.Common.{◌≡◌, ◌+◌, ◌<◌, ◌≤◌, ℕ, zero, suc, ℤ, List, [], ◌∷◌, ◌++◌, map, length, reverse, take, Option, Some, Result, Ok, Err, refl, ap, sym, subst, ◌∙◌, arith, get_or}
 use Rattle.std.specs.Prelude.{OnOk}
 use Rattle.std.proofs.Math.ListN.{set}
-use Rattle.std.proofs.lemmas.List.{map-append, reverse-append}
+use Rattle.std.proofs.lemmas.List.{length-set, map-append, reverse-append, take_all, take_more, take_more_set}
 use Rattle.yaml_parse_model.specs.declared.yaml_mark_t.{yaml_mark_t}
 use Rattle.yaml_parse_model.specs.declared.yaml_node_t.{yaml_node_t}
 use Rattle.yaml_parse_model.specs.declared.yaml_text_fault_t.{yaml_text_fault_t}
@@ -22,17 +22,13 @@ popped rest level = ap reverse (map-append level_of rest (level ∷ [])) ∙ rev
 -- the last of a list changes: what stands before it, and itself
 last_set : (ls : List Level) (k : ℕ) (x : Level) → suc k ≡ length ls
     → set ls k x ≡ take k ls ++ x ∷ []
-last_set [] k x h = absurd (omega arith)
-last_set (l ∷ []) zero x h = refl
-last_set (l ∷ m ∷ ls) zero x h = absurd (omega arith)
-last_set (l ∷ ls) (suc k) x h = ap (λ ms. l ∷ ms) (last_set ls k x (omega arith))
+last_set ls k x h =
+    sym (take_all (k + 1) (set ls k x) (omega (arith, h, length-set ls k x))) ∙ take_more_set ls k x (omega (arith, h))
 
 last_is : (ls : List Level) (k : ℕ) (x : Level) → suc k ≡ length ls → x ≡ get_or ls k x
     → ls ≡ take k ls ++ x ∷ []
-last_is [] k x h e = absurd (omega arith)
-last_is (l ∷ []) zero x h e = ap (λ m. m ∷ []) (sym e)
-last_is (l ∷ m ∷ ls) zero x h e = absurd (omega arith)
-last_is (l ∷ ls) (suc k) x h e = ap (λ ms. l ∷ ms) (last_is ls k x (omega arith) e)
+last_is ls k x h e =
+    sym (take_all (k + 1) ls (omega (arith, h))) ∙ take_more ls k x (omega (arith, h)) ∙ ap (λ y. take k ls ++ y ∷ []) (sym e)
 
 pub attaches : (n m : ℤ) (ls : List Level) (k : ℕ) (old new : Level)
     (r : Result Unit yaml_text_fault_t) → m ≡ n → suc k ≡ length ls → old ≡ get_or ls k old
@@ -46,7 +42,7 @@ attaches n m ls k old new (Ok u) i h e p =
       subst HaveRoom (sym before) p.1,
     )
 
-set_changes : (f : Node → Node) (items : List yaml_node_t) (k : ℕ) (old new : yaml_node_t)
+pub set_changes : (f : Node → Node) (items : List yaml_node_t) (k : ℕ) (old new : yaml_node_t)
     → k < length items → old ≡ get_or items k old
     → node_of new ≡ f (node_of old)
     → map node_of (set items k new) ≡ change_place f k (map node_of items)
@@ -54,7 +50,7 @@ set_changes f [] k old new h e i = absurd (omega arith)
 set_changes f (x ∷ items) zero old new h e i = ap (λ n. n ∷ map node_of items) (i ∙ ap (λ (m : yaml_node_t). f (node_of m)) e)
 set_changes f (x ∷ items) (suc k) old new h e i = ap (λ ns. node_of x ∷ ns) (set_changes f items k old new (omega arith) e i)
 
-outside : (f : Node → Node) (items : List yaml_node_t) (k : ℕ) → length items ≤ k
+pub outside : (f : Node → Node) (items : List yaml_node_t) (k : ℕ) → length items ≤ k
     → change_place f k (map node_of items) ≡ map node_of items
 outside f [] k h = refl
 outside f (x ∷ items) zero h = absurd (omega arith)
@@ -63,27 +59,17 @@ outside f (x ∷ items) (suc k) h = ap (λ ns. node_of x ∷ ns) (outside f item
 abbrev pub at_levels : Document → List Node → List Open → Anchors → Loading
 at_levels d ns ls known = record { document = record d { nodes = ns }; levels = ls; anchors = known }
 
-pub closes_inside : (d : Document) (known : Anchors) (items : List yaml_node_t)
-    (levels rest : List Level) (level : Level) (to : yaml_mark_t) (k : ℕ) (old new : yaml_node_t)
-    → levels ≡ rest ++ level ∷ [] → k ≡ place_of (level_of level) → k < length items
-    → old ≡ get_or items k old → node_of new ≡ filled (level_of level) to (node_of old)
-    → at_levels d (map node_of (set items k new)) (levels_of rest) known
+-- A collection that is closed changes the node in its place, where one is there.
+pub closes : (d : Document) (known : Anchors) (items : List yaml_node_t)
+    (levels rest : List Level) (level : Level) (to : yaml_mark_t) (k : ℕ) (ns : List Node)
+    → levels ≡ rest ++ level ∷ [] → k ≡ place_of (level_of level)
+    → ns ≡ change_place (filled (level_of level) to) k (map node_of items)
+    → at_levels d ns (levels_of rest) known
     ≡ closed to (at_levels d (map node_of items) (levels_of levels) known) (levels_of levels)
-closes_inside d known items levels rest level to k old new split at inside is fills =
+closes d known items levels rest level to k ns split at changed =
     let top : levels_of levels ≡ level_of level ∷ levels_of rest = ap levels_of split ∙ popped rest level in
     ap (λ (ns : List Node). at_levels d ns (levels_of rest) known)
-    (set_changes (filled (level_of level) to) items k old new inside is fills ∙ ap (λ (i : ℕ). change_place (filled (level_of level) to) i (map node_of items)) at)
-    ∙ sym (ap (λ (ls : List Open). closed to (at_levels d (map node_of items) (levels_of levels) known) ls) top)
-
-pub closes_outside : (d : Document) (known : Anchors) (items : List yaml_node_t)
-    (levels rest : List Level) (level : Level) (to : yaml_mark_t) (k : ℕ)
-    → levels ≡ rest ++ level ∷ [] → k ≡ place_of (level_of level) → length items ≤ k
-    → at_levels d (map node_of items) (levels_of rest) known
-    ≡ closed to (at_levels d (map node_of items) (levels_of levels) known) (levels_of levels)
-closes_outside d known items levels rest level to k split at out =
-    let top : levels_of levels ≡ level_of level ∷ levels_of rest = ap levels_of split ∙ popped rest level in
-    ap (λ (ns : List Node). at_levels d ns (levels_of rest) known)
-    (sym (outside (filled (level_of level) to) items k out) ∙ ap (λ (i : ℕ). change_place (filled (level_of level) to) i (map node_of items)) at)
+    (changed ∙ ap (λ (i : ℕ). change_place (filled (level_of level) to) i (map node_of items)) at)
     ∙ sym (ap (λ (ls : List Open). closed to (at_levels d (map node_of items) (levels_of levels) known) ls) top)
 
 -- ---- what an event came to

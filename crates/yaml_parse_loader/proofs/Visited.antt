@@ -1,5 +1,6 @@
 -- The numbers of loaded content follow the first visits in preorder.
 use Rattle.std.proofs.Common.{◌≡◌, ◌≤◌, ◌+◌, ℕ, zero, suc, ℤ, pos, List, [], ◌∷◌, ◌++◌, length, Option, Some, None, Result, Ok, Err, IfOk, IfSome, refl, ap, sym, ◌∙◌, subst, arith, append_assoc, append-nil, length-append}
+use Rattle.std.proofs.lemmas.Bool.{cond_both}
 use Rattle.std.specs.Prelude.{slice_get}
 use Rattle.yaml_parse_model.specs.Faults.{Fault}
 use Rattle.yaml_parse_model.specs.Nodes.{Node}
@@ -7,7 +8,6 @@ use Rattle.yaml_parse_document.specs.Documents.{Document, IsId}
 use Rattle.yaml_parse_document.proofs.Sound.{length_push, wider_id}
 use Rattle.yaml_parse_loader.specs.Numbering.{Content, Contents, Pairs, alias, scalar, sequence, mapping, no_items, item, no_pairs, pair, ◌>>=◌, Numbered, Anchored, is_same, last_with, and_node, alias_number, number, number_items, number_pairs, DocumentContent, document_of}
 use Rattle.yaml_parse_loader.specs.Order.{VisitsInPreorder, done, again, first, children, pair_numbers, IsInPreorder}
-use Rattle.yaml_parse_loader.proofs.Keeps.{inserted_sound}
 
 -- what is true of a result, if there is one
 abbrev pub Good : {A : Type 0} → Result A Fault → (A → Type 0) → Type 0
@@ -34,7 +34,7 @@ wider_nodes m n (x ∷ before) h s = (wider_id m n x.1 h s.0, wider_nodes m n be
 last_good : (m : ℕ) (name : List ℕ) (before : Anchored) → AreNodes m before
     → IfSome (last_with name before) (λ i. IsId m i)
 last_good m name [] s = tt
-last_good m name (n ∷ before) s = inserted_sound m (is_same name n.0) n.1 (last_with name before) s.0 (last_good m name before s.1)
+last_good m name (n ∷ before) s = cond_both (is_same name n.0) (Some n.1) (last_with name before) (λ o. IfSome o (λ i. IsId m i)) (λ _. s.0) (λ _. last_good m name before s.1)
 
 entry_good : (count : ℕ) (anchor : Option (List ℕ)) (before : Anchored) → AreNodes count before
     → AreNodes (suc count) (and_node anchor (pos (suc count)) before)
@@ -72,26 +72,38 @@ alone id = id ∷ []
 abbrev these : List ℤ → List ℤ
 these ids = ids
 
+-- what stands for nothing
+none_placed : {A : Type 0} (numbers : A → List ℤ) (count : ℕ) (ks : Anchored) (x : A)
+    → numbers x ≡ [] → AreNodes count ks
+    → Placed numbers count (record { number = x; nodes = []; before = ks })
+none_placed numbers count ks x e s = record {
+  before = wider_nodes count _ ks (omega arith) s;
+  visits = λ nodes before after mid end ids split place reach v.
+      let here : mid ≡ count = omega (arith, reach) in
+      rw e (subst (λ (k : ℕ). VisitsInPreorder nodes k ids end) here v);
+}
+
 alias_good : (o : Option ℤ) (count : ℕ) (before : Anchored) (at : _) → AreNodes count before
     → IfSome o (λ i. IsId count i) → Good (alias_number o at before) (Placed alone count)
 alias_good None count before at s h = tt
-alias_good (Some n) count before at s h = record {
-  before = wider_nodes count _ before (omega arith) s;
-  visits = λ nodes front after mid end ids split place reach v.
-      let here : mid ≡ count = omega (arith, reach) in
-      met_again nodes count end n ids h (subst (λ (k : ℕ). VisitsInPreorder nodes k ids end) here v);
-}
+alias_good (Some n) count before at s h =
+    let none = none_placed these count before [] refl s in record {
+      before = none.before;
+      visits = λ nodes front after mid end ids split place reach v. met_again nodes count end n ids h (none.visits nodes front after mid end ids split place reach v);
+    }
 
 -- a node, whose children are visited next
-opens : (nodes before after : List Node) (count mid end : ℕ) (ids : List ℤ) (n : Node)
-    → nodes ≡ before ++ n ∷ after → length before ≡ count
-    → VisitsInPreorder nodes (suc count) (children n.body) mid → VisitsInPreorder nodes mid ids end
-    → VisitsInPreorder nodes count (pos (suc count) ∷ ids) end
-opens nodes before after count mid end ids n split place inner v = first count mid end ids n (node_at_place nodes before after count n split place) inner v
-
-behind_node : (nodes before ns after : List Node) (n : Node) → nodes ≡ before ++ ((n ∷ ns) ++ after)
-    → nodes ≡ (before ++ n ∷ []) ++ (ns ++ after)
-behind_node nodes before ns after n e = e ∙ sym (append_assoc before (n ∷ []) (ns ++ after))
+opens : {A : Type 0} (numbers : A → List ℤ) (count : ℕ) (n : Node) (r : Numbered A)
+    → children n.body ≡ numbers r.number → Placed numbers (suc count) r
+    → Placed alone count
+    (record { number = pos (suc count); nodes = n ∷ r.nodes; before = r.before })
+opens numbers count n r e p = record {
+  before = subst (λ (k : ℕ). AreNodes k r.before) (omega arith) p.before;
+  visits = λ nodes before after mid end ids split place reach v.
+      let inner : VisitsInPreorder nodes (suc count) (children n.body) mid = subst (λ (js : List ℤ). VisitsInPreorder nodes (suc count) js mid) (append-nil (numbers r.number) ∙ sym e)
+      (p.visits nodes (before ++ n ∷ []) after mid mid [] (split ∙ sym (append_assoc before (n ∷ []) (r.nodes ++ after))) (length_push before n ∙ ap suc place) (omega (arith, reach)) (done mid)) in
+      first count mid end ids n (node_at_place nodes before (r.nodes ++ after) count n split place) inner v;
+}
 
 mutual
   unfolding number
@@ -100,38 +112,17 @@ mutual
       → Good (number c count ks) (Placed alone count)
   placed (alias name at) count ks s = alias_good (last_with name ks) count ks at.start_mark s (last_good count name ks s)
   placed (scalar h value plain quoted style) count ks s =
-      record {
-        before = subst (λ (k : ℕ). AreNodes k (and_node h.anchor (pos (suc count)) ks)) (omega arith) (entry_good count h.anchor ks s);
-        visits = λ nodes before after mid end ids split place reach v.
-            let here : mid ≡ suc count = omega (arith, reach) in
-            opens nodes before after count (suc count) end ids _ split place (done (suc count)) (subst (λ (k : ℕ). VisitsInPreorder nodes k ids end) here v);
-      }
+      opens these count _ _ refl (none_placed these (suc count) (and_node h.anchor (pos (suc count)) ks) [] refl (entry_good count h.anchor ks s))
   placed (sequence h implicit style items at) count ks s =
       let within : Anchored = and_node h.anchor (pos (suc count)) ks in
-      good_then (number_items items (suc count) within) _ _ _ (placed_items items (suc count) within (entry_good count h.anchor ks s)) (λ r p. record {
-        before = subst (λ (k : ℕ). AreNodes k r.before) (omega arith) p.before;
-        visits = λ nodes before after mid end ids split place reach v.
-            let inner : VisitsInPreorder nodes (suc count) r.number mid = subst (λ (js : List ℤ). VisitsInPreorder nodes (suc count) js mid) (append-nil r.number)
-            (p.visits nodes (before ++ _ ∷ []) after mid mid [] (behind_node nodes before r.nodes after _ split) (length_push before _ ∙ ap suc place) (omega (arith, reach)) (done mid)) in
-            opens nodes before (r.nodes ++ after) count mid end ids _ split place inner v;
-      })
+      good_then (number_items items (suc count) within) _ _ _ (placed_items items (suc count) within (entry_good count h.anchor ks s)) (λ r p. opens these count _ r refl p)
   placed (mapping h implicit style pairs at) count ks s =
       let within : Anchored = and_node h.anchor (pos (suc count)) ks in
-      good_then (number_pairs pairs (suc count) within) _ _ _ (placed_pairs pairs (suc count) within (entry_good count h.anchor ks s)) (λ r p. record {
-        before = subst (λ (k : ℕ). AreNodes k r.before) (omega arith) p.before;
-        visits = λ nodes before after mid end ids split place reach v.
-            let inner : VisitsInPreorder nodes (suc count) (pair_numbers r.number) mid = subst (λ (js : List ℤ). VisitsInPreorder nodes (suc count) js mid) (append-nil (pair_numbers r.number))
-            (p.visits nodes (before ++ _ ∷ []) after mid mid [] (behind_node nodes before r.nodes after _ split) (length_push before _ ∙ ap suc place) (omega (arith, reach)) (done mid)) in
-            opens nodes before (r.nodes ++ after) count mid end ids _ split place inner v;
-      })
+      good_then (number_pairs pairs (suc count) within) _ _ _ (placed_pairs pairs (suc count) within (entry_good count h.anchor ks s)) (λ r p. opens pair_numbers count _ r refl p)
 
   placed_items : (cs : Contents) (count : ℕ) (ks : Anchored) → AreNodes count ks
       → Good (number_items cs count ks) (Placed these count)
-  placed_items no_items count ks s = record {
-    before = wider_nodes count _ ks (omega arith) s;
-    visits = λ nodes before after mid end ids split place reach v.
-        let here : mid ≡ count = omega (arith, reach) in subst (λ (k : ℕ). VisitsInPreorder nodes k ids end) here v;
-  }
+  placed_items no_items count ks s = none_placed these count ks [] refl s
   placed_items (item c more) count ks s =
       good_then (number c count ks) _ _ _ (placed c count ks s) (λ r p.
       good_then (number_items more (count + length r.nodes) r.before) _ _ _ (placed_items more (count + length r.nodes) r.before p.before) (λ t q. record {
@@ -145,11 +136,7 @@ mutual
 
   placed_pairs : (cs : Pairs) (count : ℕ) (ks : Anchored) → AreNodes count ks
       → Good (number_pairs cs count ks) (Placed pair_numbers count)
-  placed_pairs no_pairs count ks s = record {
-    before = wider_nodes count _ ks (omega arith) s;
-    visits = λ nodes before after mid end ids split place reach v.
-        let here : mid ≡ count = omega (arith, reach) in subst (λ (k : ℕ). VisitsInPreorder nodes k ids end) here v;
-  }
+  placed_pairs no_pairs count ks s = none_placed pair_numbers count ks [] refl s
   placed_pairs (pair key value more) count ks s =
       good_then (number key count ks) _ _ _ (placed key count ks s) (λ r p.
       good_then (number value (count + length r.nodes) r.before) _ _ _ (placed value (count + length r.nodes) r.before p.before) (λ t q.

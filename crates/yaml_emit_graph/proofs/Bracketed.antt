@@ -1,5 +1,5 @@
 -- What opens and closes collections, with the default tag and without an anchor.
-use Rattle.std.proofs.Common.{◌≡◌, ◌+◌, ℕ, false, List, refl, sym, Option, None, Some}
+use Rattle.std.proofs.Common.{◌≡◌, ◌+◌, ℕ, false, List, refl, sym, arith, Option, None, Some}
 use Rattle.std.specs.Prelude.{ℤ}
 use Rattle.yaml_parse_model.specs.Nodes as model
 use Rattle.yaml_parse_document.specs.Documents.{Document, node_at}
@@ -11,7 +11,7 @@ use Rattle.yaml_emit_graph.specs.declared.bracket.Bracket.TheVariants.{OpensSequ
 use Rattle.yaml_emit_graph.specs.Graph.{number_at, tag_at, body_at, body_of_id, anchor_of, opening_event, closing_event, turn_event}
 use Rattle.yaml_emit_graph.specs.Brackets.{OpensBody, NamesOpening, IsPlainBracket, closing_bracket}
 use Rattle.yaml_emit_graph.specs.Events.{IsAhead, GivesBracket}
-use Rattle.yaml_emit_graph.proofs.Leaving.{turn_comes, walk_goes}
+use Rattle.yaml_emit_graph.proofs.Leaving.{turn_comes}
 
 opens_by : (body : model.NodeBody) (b : Bracket) (tag : List ℕ) (n : ℕ) → n ≡ 0
     → OpensBody body b tag → IsPlainBracket (opening_event (anchor_of n) tag body) b
@@ -45,12 +45,11 @@ pub closing_there : (table : List ℕ) (nodes : List model.Node) (id : ℤ)
 unfolding turn_event
 closing_there table nodes id = closes_by (body_of_id nodes id)
 
-pub bracket_comes : (d : Document) (old new : Events) (b : Bracket)
+pub bracket_comes : (d : Document) (old : Events) (b : Bracket)
     → IsAhead (λ e. IsPlainBracket e b) d old
-    → new.numbers ≡ old.numbers → new.turns ≡ old.turns → new.place ≡ old.place
-    → new.given ≡ old.given + 1 → GivesBracket d old b new
-bracket_comes d old new b h n k q g = record {
+    → GivesBracket d old b (record old { given = old.given + 1 })
+bracket_comes d old b h = record {
   flow = h.is.flow;
-  next = turn_comes d old new h.turn _ h.place n k q h.within g h.there (sym h.is.is);
-  walk = walk_goes d old new h.within k g;
+  next = turn_comes d old old.rooms h.turn _ h.place h.within h.there (sym h.is.is);
+  walk = let within = h.within in omega (arith, within);
 }

@@ -1,6 +1,7 @@
 -- The events of a dump are those of the walk.
-use Rattle.std.proofs.Common.{◌≡◌, ℕ, List, [], ◌∷◌, ◌++◌, length, map, Bool, true, false, refl, sym, ◌∙◌, ap, Option}
-use Rattle.std.specs.Prelude.{zero, suc, ℤ, pos, if◌then◌else◌}
+use Rattle.std.proofs.Common.{◌≡◌, ℕ, List, [], ◌∷◌, ◌++◌, length, map, refl, sym, ◌∙◌, ap, inl, inr, Option}
+use Rattle.std.proofs.lemmas.Bool.{cases_Bool}
+use Rattle.std.specs.Prelude.{zero, suc, ℤ, pos}
 use Rattle.yaml_parse_model.specs.declared.yaml_node_pair_t.{yaml_node_pair_t}
 use Rattle.yaml_parse_model.specs.Nodes as model
 use Rattle.yaml_parse_document.specs.Documents.{Document}
@@ -46,13 +47,6 @@ pairs_follow says content turning p (x ∷ xs) k r g f met h =
     (λ u m. p x.value m (λ v n. pairs_by content xs (λ vs o. k (pair u v vs) o) n) (over turning (pair_ids xs) r) g (λ t. f (node_events u t))
     (λ v n. pairs_follow says content turning p xs (λ vs o. k (pair u v vs) o) r g (λ t. f (node_events u (node_events v t))) n (λ vs o. h (pair u v vs) o)))
 
-pick : (b : Bool) (g : Node → List Event) (f : List Event → List Event)
-    (says : List Turn → List Event) (u v : Node) (ts us : List Turn) → g u ≡ f (says ts)
-    → g v ≡ f (says us)
-    → g (if b then u else v) ≡ f (says (if b then ts else us))
-pick true g f says u v ts us p q = p
-pick false g f says u v ts us p q = q
-
 node_follows : (table : List ℕ) (nodes : List model.Node) (es : List Event)
     (content : ℤ → (Node → Met → Node) → Met → Node) (turning : ℤ → Rest → Rest)
     → Follows (emitter_events table nodes es) content turning
@@ -77,8 +71,10 @@ visit_follows : (n : ℕ) (table : List ℕ) (nodes : List model.Node) (es : Lis
 unfolding content_by visits node_events turn_event
 visit_follows zero table nodes es = λ id met k r g f h. h _ met
 visit_follows (suc n) table nodes es = λ id met k r g f h.
-    pick (is_met met id) g f (emitter_events table nodes es) _ _ _ _ (h _ met)
-    (node_follows table nodes es (content_by n table nodes) (visits n nodes) (visit_follows n table nodes es) (body_of_id nodes id) id (anchor_of (number_at table id)) (tag_of_id nodes id) (meet met id) k r g f refl h)
+    elim (cases_Bool (is_met met id)) [
+      | inl e ↦ rw e (h _ met)
+      | inr e ↦ rw e (node_follows table nodes es (content_by n table nodes) (visits n nodes) (visit_follows n table nodes es) (body_of_id nodes id) id (anchor_of (number_at table id)) (tag_of_id nodes id) (meet met id) k r g f refl h)
+    ]
 
 -- the events of a dump are the document's start, those of the turns of the walk, and the document's end
 pub dumped_turns : (d : Document)

@@ -1,5 +1,6 @@
 -- The numbers that were given.
 use Rattle.std.proofs.Common.{◌≡◌, ℕ, ◌+◌, ◌<◌, ◌≤◌, List, [], ◌∷◌, ◌++◌, length, get_or, refl, sym, subst, ◌∙◌, ap, arith, add-one, append-nil, append_assoc}
+use Rattle.std.proofs.lemmas.List.{get_or_default}
 use Rattle.std.specs.Prelude.{zero, suc, replicate, set}
 use Rattle.yaml_parse_model.specs.Nodes.{Node}
 use Rattle.yaml_emit_graph.specs.declared.walk.Turn.{Turn}
@@ -31,9 +32,7 @@ counted_set (zero ∷ t) (suc k) n e = counted_set t k n e
 counted_set (suc m ∷ t) (suc k) n e = ap suc (counted_set t k n e)
 
 pub same_default : (t : List ℕ) (k d e : ℕ) → k < length t → get_or t k d ≡ get_or t k e
-same_default [] k d e h = absurd (omega arith)
-same_default (x ∷ t) zero d e h = refl
-same_default (x ∷ t) (suc k) d e h = same_default t k d e (omega arith)
+same_default t k d e h = get_or_default t k d e h
 
 -- a node gets the next number
 pub counted_next : (t : List ℕ) (k g r : ℕ) → k < length t → r ≡ get_or t k r → r ≡ 0
@@ -47,11 +46,8 @@ pub none_counted : (n : ℕ) → counted (replicate n 0) ≡ 0
 none_counted zero = refl
 none_counted (suc n) = none_counted n
 
-pub none_numbers : (n : ℕ) → IsNumbering (none_numbered n)
-none_numbers n = record { counts = sym (none_counted n) }
-
 pub numbered_start : (a : Numbering) (count : ℕ) → a ≡ none_numbered count → IsNumbering a
-numbered_start a count e = let P : Numbering → Type 0 = λ z. IsNumbering z in subst P (sym e) (none_numbers count)
+numbered_start a count e = subst IsNumbering (sym e) (record { counts = sym (none_counted count) })
 
 pub numbers_start : (nodes : List Node) (a : Numbering) (ts : List Turn) (count : ℕ)
     → a ≡ none_numbered count → count ≡ length nodes → ts ≡ turns_onward nodes

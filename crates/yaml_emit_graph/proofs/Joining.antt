@@ -50,9 +50,6 @@ node_grows (suc n) nodes id met = elim (cases_Bool (is_met met id)) [
 abbrev IsEnough : ℕ → Met → Type 0
 IsEnough n met = length met < n + marked met
 
-enough_on : (n : ℕ) (a b : Met) → IsEnough n a → Grows a b → IsEnough n b
-enough_on n a b h g = let s = g.size in let m = g.more in omega (arith, h, s, m)
-
 enough_below : (n : ℕ) (met : Met) (id : ℤ) → is_met met id ≡ false → IsEnough (suc n) met
     → IsEnough n (meet met id)
 enough_below n met id e h = let m = sum_meet_at met (place_at id) e in let s = length_meet_at met (place_at id) in omega (arith, h, m, s)
@@ -65,7 +62,7 @@ enough_first nodes = let e = length-replicate (length nodes) false in omega (ari
 
 behind : (n : ℕ) (nodes : List model.Node) (id : ℤ) (met : Met) → IsEnough n met
     → IsEnough n (visit_node n nodes id met).1
-behind n nodes id met h = enough_on n met (visit_node n nodes id met).1 h (node_grows n nodes id met)
+behind n nodes id met h = let s = (node_grows n nodes id met).size in let m = (node_grows n nodes id met).more in omega (arith, h, s, m)
 
 -- ---- no visit is cut off
 

@@ -1,7 +1,8 @@
 -- Names, and texts that are UTF-8.
-use Rattle.std.proofs.Common.{◌≡◌, ℕ, ◌<◌, ◌^◌, List, ◌++◌, length, Bool, true, false, refl, subst, Option, Some, None, decimal, rules}
-use Rattle.std.specs.Prelude.{◌==◌, if◌then◌else◌, codes}
+use Rattle.std.proofs.Common.{◌≡◌, ℕ, ◌<◌, ◌^◌, List, ◌++◌, length, refl, subst, Option, Some, None, decimal, rules}
+use Rattle.std.specs.Prelude.{◌==◌, codes}
 use Rattle.std.specs.Str.{IsUtf8}
+use Rattle.std.proofs.lemmas.Bool.{cond_both}
 use Rattle.std.proofs.lemmas.Str.{IsUtf8-append, IsUtf8-from_ascii}
 use Rattle.std.proofs.lemmas.Fmt.{IsAscii-decimal}
 use Rattle.yaml_parse_model.specs.Nodes as model
@@ -9,12 +10,8 @@ use Rattle.yaml_parse_document.specs.Documents.{IsSoundBody, IsSoundAt}
 use Rattle.yaml_emit_graph.specs.Graph.{lead, name_of}
 use Rattle.yaml_emit_graph.specs.Events.{IsUtf8Body}
 
-if_utf8 : (b : Bool) (s t : List ℕ) → IsUtf8 s → IsUtf8 t → IsUtf8 (if b then s else t)
-if_utf8 true s t p q = p
-if_utf8 false s t p q = q
-
 lead_utf8 : (n : ℕ) → IsUtf8 (lead n)
-lead_utf8 n = if_utf8 (n == 1) _ _ (IsUtf8-from_ascii (codes "id00") (search rules)) (if_utf8 (n == 2) _ _ (IsUtf8-from_ascii (codes "id0") (search rules)) (IsUtf8-from_ascii (codes "id") (search rules)))
+lead_utf8 n = cond_both (n == 1) _ _ IsUtf8 (λ _. IsUtf8-from_ascii (codes "id00") (search rules)) (λ _. cond_both (n == 2) _ _ IsUtf8 (λ _. IsUtf8-from_ascii (codes "id0") (search rules)) (λ _. IsUtf8-from_ascii (codes "id") (search rules)))
 
 pub name_utf8 : (number : ℕ) → number < 2 ^ 64 → IsUtf8 (name_of number)
 unfolding name_of
@@ -26,10 +23,8 @@ unfolding name_of
 name_made number size items digits front d n f e = rw (e, f, n, d) refl
 
 body_utf8 : (n : ℕ) (b : model.NodeBody) → IsSoundBody n b → IsUtf8Body b
-body_utf8 n model.no h = tt
 body_utf8 n (model.scalar value style) h = h
-body_utf8 n (model.sequence items style) h = tt
-body_utf8 n (model.mapping pairs style) h = tt
+body_utf8 n _ h = tt
 
 -- the texts of a document's node
 pub utf8_at : (n : ℕ) (r : Option model.Node) (m : model.Node) → IsSoundAt n r → Some m ≡ r
@@ -37,5 +32,4 @@ pub utf8_at : (n : ℕ) (r : Option model.Node) (m : model.Node) → IsSoundAt n
 utf8_at n None m s e = absurd (cc)
 utf8_at n (Some x) m s e =
     let same : x ≡ m = cc in
-    let P : model.Node → Type 0 = λ z. IsUtf8 z.tag × IsUtf8Body z.body in
-    subst P same (s.0, body_utf8 n x.body s.1)
+    subst (λ (z : model.Node). IsUtf8 z.tag × IsUtf8Body z.body) same (s.0, body_utf8 n x.body s.1)

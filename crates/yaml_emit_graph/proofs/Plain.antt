@@ -1,5 +1,5 @@
 -- Texts with the default tag and without an anchor.
-use Rattle.std.proofs.Common.{◌≡◌, ◌+◌, ℕ, List, refl, sym, subst, Option, None, Some}
+use Rattle.std.proofs.Common.{◌≡◌, ◌+◌, ℕ, List, refl, sym, subst, arith, Option, None, Some}
 use Rattle.std.specs.Prelude.{ℤ}
 use Rattle.yaml_parse_model.specs.Nodes as model
 use Rattle.yaml_parse_document.specs.Documents.{Document, IsSoundBody, IsSoundAt, node_at}
@@ -8,18 +8,17 @@ use Rattle.yaml_emit_graph.specs.declared.walk.Turn.TheVariants.{First}
 use Rattle.yaml_emit_graph.specs.Graph.{number_at, tag_at, body_at, anchor_of, opening_event, turn_event}
 use Rattle.yaml_emit_graph.specs.Texts.{NamesText, IsPlainText}
 use Rattle.yaml_emit_graph.specs.Events.{IsAhead, GivesPlainText}
-use Rattle.yaml_emit_graph.proofs.Leaving.{turn_comes, walk_goes}
+use Rattle.yaml_emit_graph.proofs.Leaving.{turn_comes}
 
 text_by : (o : Option model.Node) (n : ℕ) (value : List ℕ) (count : ℕ) → n ≡ 0
     → NamesText o value → IsSoundAt count o
     → IsPlainText (opening_event (anchor_of n) (tag_at o) (body_at o)) value
 text_by None n value count z h s = absurd h
 text_by (Some m) n value count z h s =
-    let P : model.NodeBody → Type 0 = λ b. IsSoundBody count b in
     record {
       style = h.style;
       is = rw (z, h.tag, h.body) refl;
-      utf8 = subst P h.body s.1;
+      utf8 = subst (IsSoundBody count) h.body s.1;
     }
 
 pub text_there : (table : List ℕ) (nodes : List model.Node) (id : ℤ) (value : List ℕ) (count : ℕ)
@@ -28,13 +27,12 @@ pub text_there : (table : List ℕ) (nodes : List model.Node) (id : ℤ) (value 
 unfolding turn_event
 text_there table nodes id value count z h s = text_by (node_at nodes id) (number_at table id) value count z h s
 
-pub text_comes : (d : Document) (old new : Events) (value : List ℕ)
+pub text_comes : (d : Document) (old : Events) (value : List ℕ)
     → IsAhead (λ e. IsPlainText e value) d old
-    → new.numbers ≡ old.numbers → new.turns ≡ old.turns → new.place ≡ old.place
-    → new.given ≡ old.given + 1 → GivesPlainText d old value new
-text_comes d old new value h n k q g = record {
+    → GivesPlainText d old value (record old { given = old.given + 1 })
+text_comes d old value h = record {
   style = h.is.style;
-  next = turn_comes d old new h.turn _ h.place n k q h.within g h.there (sym h.is.is);
+  next = turn_comes d old old.rooms h.turn _ h.place h.within h.there (sym h.is.is);
   utf8 = h.is.utf8;
-  walk = walk_goes d old new h.within k g;
+  walk = let within = h.within in omega (arith, within);
 }

@@ -90,8 +90,7 @@ unfolding remaining_turns
 visited nodes mid new id (Again i) n s w k v =
     let a = visit_again n nodes id (frames nodes (stack_of mid)) mid.met.items v.1 in
     let c : remaining_turns nodes mid ≡ frames nodes (stack_of mid) mid.met.items = ap (λ z. remaining_by z nodes (stack_of mid) mid.met.items) s in
-    let P : Walk → Type 0 = λ z. IsWalk nodes z in
-    (a ∙ ap (λ z. Again z ∷ frames nodes (stack_of mid) mid.met.items) (sym v.0) ∙ ap (λ z. Again i ∷ z) (sym c ∙ ap (remaining_turns nodes) (sym v.2)), subst P (sym v.2) w)
+    (a ∙ ap (λ z. Again z ∷ frames nodes (stack_of mid) mid.met.items) (sym v.0) ∙ ap (λ z. Again i ∷ z) (sym c ∙ ap (remaining_turns nodes) (sym v.2)), subst (IsWalk nodes) (sym v.2) w)
 visited nodes mid new id (First i) n s w k v =
     let a = visit_first n nodes id (frames nodes (stack_of mid)) mid.met.items v.1 in
     let b = inside_frames (body_of_id nodes id) n nodes id (stack_of mid) (meet mid.met.items id) refl k in
@@ -203,8 +202,7 @@ pub child_met : (nodes : List model.Node) (old mid new : Walk) (o : Open) (id : 
     → Visited nodes i mid (Ok t) new
     → (remaining_turns nodes old ≡ t ∷ remaining_turns nodes new) × IsWalk nodes new
 child_met nodes old mid new o id t s k w km out m sm next i same u =
-    let V : ℤ → Type 0 = λ z. Visited nodes z mid (Ok t) new in
-    let v : Visited nodes id mid (Ok t) new = subst V same u in
+    let v : Visited nodes id mid (Ok t) new = subst (λ z. Visited nodes z mid (Ok t) new) same u in
     let os : List Open = reverse old.outer.items in
     let e : stack_of old ≡ o ∷ os = ap (λ z. stack z old.outer.items) k in
     let f : stack_of mid ≡ onward o ∷ os = rw (km, out) refl in

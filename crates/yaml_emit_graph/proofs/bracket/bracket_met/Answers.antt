@@ -1,5 +1,4 @@
 use mir.Syntax.{w32}
-use mir.Val.{SFits}
 use Rattle.std.proofs.Common.{◌≡◌, rules, sym, subst, ◌∙◌, ap}
 use Rattle.std.proofs.lemmas.Int.{to_z-of_z}
 use Rattle.yaml_emit_graph.specs.declared.walk.Turn.{Turn}
@@ -11,8 +10,7 @@ use Rattle.yaml_emit_graph.proofs.bracket.bracket_met.Goals as goal
 
 pub returns-in-Leave : goal.returns-in-Leave
 returns-in-Leave c =
-    let f : SFits w32 c.in-Leave.id = search rules in
-    let fit = to_z-of_z w32 c.in-Leave.id f in
+    let fit = to_z-of_z w32 c.in-Leave.id (search rules) in
     let is : c.closing_at.result ≡ closing_bracket (body_of_id c.args.document.now.nodes c.in-Leave.id) = c.closing_at.ensures ∙ ap (λ z. closing_bracket (body_of_id c.args.document.now.nodes z)) fit in
     let P : Bracket → Type 0 = λ b. IsPlainBracket (turn_event c.args.numbers.now c.args.document.now.nodes c.args.turn) b in
     let Q : Turn → Type 0 = λ t. IsPlainBracket (turn_event c.args.numbers.now c.args.document.now.nodes t) (closing_bracket (body_of_id c.args.document.now.nodes c.in-Leave.id)) in

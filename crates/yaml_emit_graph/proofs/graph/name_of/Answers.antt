@@ -1,4 +1,4 @@
-use Rattle.std.proofs.Common.{List, ℕ, ◌++◌, length, sym, subst, ◌∙◌, ap, arith}
+use Rattle.std.proofs.Common.{◌++◌, length, sym, subst, ◌∙◌, ap, arith}
 use Rattle.std.specs.Str.{IsUtf8}
 use Rattle.yaml_emit_graph.proofs.Naming.{name_made, name_utf8}
 use Rattle.yaml_emit_graph.proofs.graph.name_of.Goals as goal
@@ -9,6 +9,4 @@ returns-clause-is c =
     (c.in_ok-extend_from_slice.ensures.items ∙ ap (λ z. z ++ c.as_bytes.result.now) c.in_ok-name.ensures.items ∙ ap (λ z. c.lead.result.now ++ z) c.as_bytes.ensures.value)
 
 pub returns-clause-utf8 : goal.returns-clause-utf8
-returns-clause-utf8 c =
-    let P : List ℕ → Type 0 = λ z. IsUtf8 z in
-    subst P (sym (returns-clause-is c)) (name_utf8 c.args.number (omega arith))
+returns-clause-utf8 c = subst IsUtf8 (sym (returns-clause-is c)) (name_utf8 c.args.number (omega arith))

@@ -1,8 +1,8 @@
 -- The machine gives the items of a tree, and goes on behind it.
-use Rattle.std.proofs.Common.{◌≡◌, ℕ, Bool, true, false, if◌then◌else◌, List, [], ◌∷◌, ◌++◌, length, Option, Some, None, refl, sym, ap, subst, ◌∙◌, ◌&&◌, ◌||◌, inl, inr}
+use Rattle.std.proofs.Common.{◌≡◌, ℕ, Bool, true, false, if◌then◌else◌, List, [], ◌∷◌, ◌++◌, length, Option, Some, None, refl, sym, ap, subst, ◌∙◌, ◌&&◌, ◌||◌}
 use Rattle.std.proofs.lemmas.List.{append_assoc}
 use Rattle.std.proofs.Math.Bool.{not, or-true}
-use Rattle.std.proofs.lemmas.Bool.{cases_Bool, false≢true}
+use Rattle.std.proofs.lemmas.Bool.{false_from_ne_true, false≢true}
 use Rattle.yaml_parse_grammar.proofs.Words.{yaml_mark_t, yaml_token_type_t, Token, TokenBody, type_of, Fault, Wants, Flow, Block, Site, Root, Entry, IndentlessEntry, BlockPair, FlowPair, Choice, Refuse, Take, Leave, RawEvent, Properties, State, Taken, Span, Given, token_at, spell_node, spell_maybe, next, items_node, items_maybe, items, behind, starts_content, starts_node, joins, wants_of, closes, parts_documents, follows, no_node, choice_at, node_taken, content_taken, taken_at, left_at, Fed, stop, go, with_item, given_by, turn, feed, Outcome, finished, carry, run}
 use Rattle.yaml_parse_model.specs.declared.yaml_token_type_t.TheVariants as kind
 use Rattle.yaml_parse_model.specs.Tokens as token
@@ -203,11 +203,7 @@ node_starts (tree.bare c) rest = content_starts c rest
 -- no token that begins a node follows one that is left out
 pub not_following : (place : Site) (k : yaml_token_type_t) → starts_node (wants_of place) k ≡ true
     → follows place k ≡ false
-not_following place k h =
-    elim (cases_Bool (follows place k)) [
-      | inl f ↦ absurd (false≢true (sym (ends_apart (wants_of place) k (follows_ends_at place k f)) ∙ h))
-      | inr n ↦ n
-    ]
+not_following place k h = false_from_ne_true (follows place k) (λ f. false≢true (sym (ends_apart (wants_of place) k (follows_ends_at place k f)) ∙ h))
 
 pub optional_takes : (place : Site) (before : yaml_mark_t) (k : yaml_token_type_t)
     → starts_node (wants_of place) k ≡ true → choice_at (state.optional place before) k ≡ Take
@@ -244,10 +240,6 @@ given_above_at : (below : List State) (i : Option RawEvent) (xs s : List State)
 given_above_at below None xs s = ap (λ (s' : List State). go [] s') (append_assoc xs below s)
 given_above_at below (Some i) xs s = ap (λ (s' : List State). go (i ∷ []) s') (append_assoc xs below s)
 
-given_above : (below : List State) (x : Taken) (s : List State)
-    → given_by (above below x) s ≡ given_by x (below ++ s)
-given_above below x s = given_above_at below x.item x.above s
-
 lone_runs : (b : Brackets) (opener : yaml_mark_t) (ts : List Token) (s : List State)
     (f : Option Fault) → Starts Flow ts
     → run ts (state.items b opener ∷ s) f
@@ -257,7 +249,7 @@ lone_runs b opener (t ∷ ts) s f h =
     step_take (state.items b opener) t ts s f (items_takes b opener (type_of t.body) h)
     ∙ ap (λ (fed : Fed). carry (length ts) fed (λ s'. run ts s' f))
     (ap (λ (x : Taken). given_by x s) (items_node_taken b opener t.start_mark t.end_mark t.body h)
-    ∙ given_above (lone_below b (state.more b opener ∷ [])) (node_taken Flow t.start_mark t.end_mark t.body) s)
+    ∙ given_above_at (lone_below b (state.more b opener ∷ [])) (node_taken Flow t.start_mark t.end_mark t.body).item (node_taken Flow t.start_mark t.end_mark t.body).above s)
 
 -- ---- pairs in brackets
 

@@ -65,8 +65,7 @@ explicit_opens : (ds : List Directive) (p : Span) (ts : List Token) (f : Option 
     (giving (starting (start_of ds p) p ts) (run ts (opened p.to) f))
 unfolding run feed
 explicit_opens (tree.version q major minor ∷ ds) p ts f = directives_run (tree.version q major minor ∷ ds) q.from p ts f
-explicit_opens (tree.handle q name prefix ∷ ds) p ts f = directives_run (tree.handle q name prefix ∷ ds) q.from p ts f
-explicit_opens [] p ts f = directives_run [] p.from p ts f
+explicit_opens ds p ts f = directives_run ds (start_of ds p) p ts f
 
 -- Without a state to go on from nothing runs.
 pub nothing_runs : (ts : List Token) (f : Option Fault) → run ts [] f ≡ finished

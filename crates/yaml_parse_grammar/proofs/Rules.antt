@@ -1,7 +1,7 @@
 -- What a state does at a token, by cases on what it does: the one place where each state meets each token.
-use Rattle.std.proofs.Common.{◌≡◌, Bool, true, false, if◌then◌else◌, ◌||◌, Option, Some, None, refl, subst, sym}
-use Rattle.std.proofs.lemmas.Bool.{false≢true}
-use Rattle.yaml_parse_grammar.proofs.Words.{yaml_mark_t, yaml_token_type_t, Wants, Flow, Block, Site, Choice, Refuse, Take, Leave, Open, ParseProblem, Properties, State, starts_content, starts_node, wants_of, closes, parts_documents, follows, no_node, joins, choice_at}
+use Rattle.std.proofs.Common.{◌≡◌, true, if◌then◌else◌, ◌||◌, Option, Some, None, refl, subst, sym}
+use Rattle.std.proofs.lemmas.Bool.{cond_both, false≢true}
+use Rattle.yaml_parse_grammar.proofs.Words.{yaml_mark_t, yaml_token_type_t, Flow, Block, Choice, Refuse, Take, Leave, Open, ParseProblem, State, starts_content, starts_node, wants_of, closes, parts_documents, follows, no_node, joins, choice_at}
 use Rattle.yaml_parse_model.specs.declared.yaml_token_type_t.TheVariants as kind
 use Rattle.yaml_parse_grammar.specs.declared.problem.ParseProblem.TheVariants as problem
 use Rattle.yaml_parse_grammar.specs.States as state
@@ -51,41 +51,19 @@ Rule Open x k = MayOpen x k
 
 -- ---- each state at each token
 
-taken_or : (b : Bool) (p : ParseProblem) (o : Option yaml_mark_t) (x : State)
-    (k : yaml_token_type_t) → MayRefuse x → MayTake x k → Rule (if b then Take else Refuse p o) x k
-taken_or true p o x k r t = t
-taken_or false p o x k r t = r
-
-first_rule : (a b : Bool) (p : ParseProblem) (k : yaml_token_type_t)
-    → (b ≡ true → starts_node (Block None) k ≡ true)
-    → Rule (if a then Take else if b then Open else Refuse p None) state.first k
-first_rule true b p k h = tt
-first_rule false true p k h = h refl
-first_rule false false p k h = tt
-
-optional_rule : (a b : Bool) (p : ParseProblem) (place : Site) (before : yaml_mark_t)
-    (k : yaml_token_type_t) → (a ≡ true → follows place k ≡ true)
-    → (b ≡ true → starts_node (wants_of place) k ≡ true)
-    → Rule (if a then Leave else if b then Take else Refuse p None) (state.optional place before) k
-optional_rule true b p place before k h g = h refl
-optional_rule false true p place before k h g = g refl
-optional_rule false false p place before k h g = tt
-
-properties_rule : (a : Bool) (w : Wants) (p : Properties) (k : yaml_token_type_t)
-    → (a ≡ true → (joins p k || starts_content w k) ≡ true)
-    → Rule (if a then Take else Leave) (state.with_properties w p) k
-properties_rule true w p k h = h refl
-properties_rule false w p k h = tt
-
 -- Each state keeps to its rule.
 pub rule : (x : State) (k : yaml_token_type_t) → Rule (choice_at x k) x k
 rule state.stream kind.YAML_STREAM_START_TOKEN = tt
-rule state.first k = first_rule (parts_documents k) (starts_node (Block None) k) problem.NoBlockNode k (λ e. e)
+rule state.first k =
+    cond_both (parts_documents k) Take (if starts_node (Block None) k then Open else Refuse problem.NoBlockNode None) (λ c. Rule c state.first k) (λ _. tt)
+    (λ _. cond_both (starts_node (Block None) k) Open (Refuse problem.NoBlockNode None) (λ c. Rule c state.first k) (λ e. e) (λ _. tt))
 rule state.documents kind.YAML_DOCUMENT_END_TOKEN = tt
-rule state.documents k = taken_or (parts_documents k) problem.NoDocumentStart None state.documents k tt tt
+rule state.documents k = cond_both (parts_documents k) Take (Refuse problem.NoDocumentStart None) (λ c. Rule c state.documents k) (λ _. tt) (λ _. tt)
 rule (state.directives from) kind.YAML_STREAM_END_TOKEN = tt
-rule (state.directives from) k = taken_or (parts_documents k) problem.NoDocumentStart None (state.directives from) k tt tt
-rule (state.optional place before) k = optional_rule (follows place k) (starts_node (wants_of place) k) (no_node (wants_of place)) place before k (λ e. e) (λ e. e)
+rule (state.directives from) k = cond_both (parts_documents k) Take (Refuse problem.NoDocumentStart None) (λ c. Rule c (state.directives from) k) (λ _. tt) (λ _. tt)
+rule (state.optional place before) k =
+    cond_both (follows place k) Leave (if starts_node (wants_of place) k then Take else Refuse (no_node (wants_of place)) None) (λ c. Rule c (state.optional place before) k) (λ e. e)
+    (λ _. cond_both (starts_node (wants_of place) k) Take (Refuse (no_node (wants_of place)) None) (λ c. Rule c (state.optional place before) k) (λ e. e) (λ _. tt))
 rule state.document_end kind.YAML_DOCUMENT_END_TOKEN = tt
 rule (state.entries o) kind.YAML_BLOCK_ENTRY_TOKEN = tt
 rule (state.entries o) kind.YAML_BLOCK_END_TOKEN = tt
@@ -93,11 +71,11 @@ rule (state.others side) kind.YAML_BLOCK_ENTRY_TOKEN = tt
 rule (state.pairs o) kind.YAML_KEY_TOKEN = tt
 rule (state.pairs o) kind.YAML_BLOCK_END_TOKEN = tt
 rule (state.colon place) kind.YAML_VALUE_TOKEN = tt
-rule (state.with_properties w p) k = properties_rule (joins p k || starts_content w k) w p k (λ e. e)
+rule (state.with_properties w p) k = cond_both (joins p k || starts_content w k) Take Leave (λ c. Rule c (state.with_properties w p) k) (λ e. e) (λ _. tt)
 rule (state.items b o) kind.YAML_KEY_TOKEN = tt
-rule (state.items b o) k = taken_or (closes b k || starts_node Flow k) problem.NoFlowNode None (state.items b o) k tt tt
+rule (state.items b o) k = cond_both (closes b k || starts_node Flow k) Take (Refuse problem.NoFlowNode None) (λ c. Rule c (state.items b o) k) (λ _. tt) (λ _. tt)
 rule (state.more b o) kind.YAML_FLOW_ENTRY_TOKEN = tt
-rule (state.more b o) k = taken_or (closes b k) (no_end b) (Some o) (state.more b o) k tt tt
+rule (state.more b o) k = cond_both (closes b k) Take (Refuse (no_end b) (Some o)) (λ c. Rule c (state.more b o) k) (λ _. tt) (λ _. tt)
 rule state.pair_end k = tt
 rule state.lone k = tt
 rule _ _ = tt

@@ -1,5 +1,5 @@
 -- What holds of all items: whatever holds of each part of a token holds of what the machine gives, of what it keeps, and of the events.
-use Rattle.std.proofs.Common.{◌≡◌, ℕ, ℤ, Bool, true, false, List, [], ◌∷◌, ◌++◌, length, map, Option, Some, None, refl}
+use Rattle.std.proofs.Common.{◌≡◌, ℕ, ℤ, Bool, true, false, List, [], ◌∷◌, ◌++◌, length, map, Option, Some, None, refl, subst, append-nil}
 use Rattle.std.proofs.lemmas.Bool.{cond_both}
 use Rattle.yaml_parse_grammar.proofs.Words.{yaml_mark_t, yaml_scalar_style_t, Token, TokenBody, type_of, no_token, Fault, yaml_version_directive_t, EventBody, TagDirective, Wants, Flow, Block, Root, Choice, Refuse, Take, Leave, Open, RawEvent, RawEventBody, Properties, Shape, node_at, State, Taken, Given, IsInner, Directives, Settled, refused, gave, noted, settle, settle_body, resolved, directive_for, with_resolved, with_tag, with_version, is_known_version, node_event, read_on, reading, choice_at, taken_at, documents_taken, content_taken, node_taken, left_at, Stands, Fed, stop, go, with_item, given_by, turn, feed, Outcome, finished, carry, run}
 use Rattle.yaml_parse_model.specs.declared.yaml_encoding_t.{yaml_encoding_t}
@@ -191,16 +191,11 @@ given_over : (P : RawEventBody → Type 0) (left : ℕ) (is : List RawEvent) (mo
 given_over P left [] more h k = k
 given_over P left (i ∷ is) more h k = (h.0, given_over P left is more h.1 k)
 
-given_alone : (P : RawEventBody → Type 0) (left : ℕ) (is : List RawEvent) → AllGive P is
-    → GivenAre P (map (λ (i : RawEvent). (i, left)) is)
-given_alone P left [] h = tt
-given_alone P left (i ∷ is) h = (h.0, given_alone P left is h.1)
-
 carried_are : (P : RawEventBody → Type 0) (Q : State → Type 0) (left : ℕ) (fed : Fed)
     (k : List State → Outcome) → FedAre P Q fed
     → ((s : List State) → AllAre Q s → GivenAre P (k s).items)
     → GivenAre P (carry left fed k).items
-carried_are P Q left (stop is f) k h more = given_alone P left is h
+carried_are P Q left (stop is f) k h more = subst (GivenAre P) (append-nil _) (given_over P left is [] h tt)
 carried_are P Q left (go is s) k h more = given_over P left is (k s).items h.0 (more s h.1)
 
 module _ {T : TokenBody → Type 0} {A : Option (List ℕ) → Type 0} {G : Option Tag → Type 0} {P : RawEventBody → Type 0}

@@ -9,7 +9,7 @@ use Rattle.yaml_parse_model.specs.declared.yaml_text_fault_t.{yaml_text_fault_t}
 use Rattle.yaml_parse_model.specs.declared.yaml_text_fault_t.TheVariants.{Memory}
 use Rattle.yaml_parse_model.specs.Nodes.{Node, NodeBody, node_of}
 use Rattle.yaml_parse_model.specs.Nodes as node
-use Rattle.yaml_parse_document.specs.Documents.{Document, no_document, with_node, with_item, with_pair, item_count, pair_count}
+use Rattle.yaml_parse_document.specs.Documents.{Document, with_node, with_item, with_pair, item_count, pair_count}
 use Rattle.yaml_parse_document.specs.Sizes.{IsSizedBody, AreSized, IsSized}
 use Rattle.yaml_parse_document.proofs.Sound.{length_push}
 
@@ -48,14 +48,10 @@ no_pairs_sized pairs style e = subst (λ (l : List yaml_node_pair_t). IsSizedBod
 abbrev pub Grows : (NodeBody → NodeBody) → (NodeBody → ℕ) → Type 0
 Grows f count = (b : NodeBody) → IsSizedBody b → count b < 2147483647 → IsSizedBody (f b)
 
-longer : {A : Type 0} (xs : List A) (x : A) → length (xs ++ x ∷ []) ≡ suc (length xs)
-longer [] x = refl
-longer (y ∷ xs) x = ap suc (longer xs x)
-
 -- A list that isn't full has room for one more.
 pub entry_more : {A : Type 0} (xs : List A) (x : A) → length xs < 2147483647
     → length (xs ++ x ∷ []) ≤ 2147483647
-entry_more xs x h = subst (λ (n : ℕ). n ≤ 2147483647) (sym (longer xs x)) (omega arith)
+entry_more xs x h = subst (λ (n : ℕ). n ≤ 2147483647) (sym (length_push xs x)) (omega arith)
 
 pub item_sized : (id : ℤ) → Grows (with_item id) item_count
 item_sized id node.no s h = s

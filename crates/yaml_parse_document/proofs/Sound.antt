@@ -1,6 +1,7 @@
 -- What a document's soundness says after a change.
 use Rattle.std.proofs.Common.{◌≡◌, ◌≤◌, ◌<◌, ℕ, zero, suc, ℤ, pos, List, [], ◌∷◌, ◌++◌, length, map, Option, Some, None, IsSome, IsUtf8, OnOk, arith, sym, ◌∙◌, ap, subst, refl, get_or, Result, Ok, Err, MatchResult}
 use Rattle.std.proofs.Math.ListN.{set}
+use Rattle.std.proofs.Math.Seq.{map-set_same}
 use Rattle.std.specs.Prelude.{slice_get, negsuc, option_map}
 use Rattle.std.specs.Borrow.{Bor}
 use Rattle.std.specs.Slice.{IsItemAt}
@@ -52,7 +53,7 @@ sound_push m [] x s h = (h, tt)
 sound_push m (n ∷ ns) x s h = (s.0, sound_push m ns x s.1 h)
 
 -- A node more is one more.
-pub length_push : (ns : List Node) (x : Node) → length (ns ++ x ∷ []) ≡ suc (length ns)
+pub length_push : {A : Type 0} (ns : List A) (x : A) → length (ns ++ x ∷ []) ≡ suc (length ns)
 length_push [] x = refl
 length_push (n ∷ ns) x = ap suc (length_push ns x)
 
@@ -140,21 +141,12 @@ some_id ns (pos (suc k)) h = some_place ns k h
 some_id ns _ h = cc
 
 -- a write of a node at a place, seen by views
-pub set_changes : (f : NodeBody → NodeBody) (items : List yaml_node_t) (k : ℕ)
-    (old new : yaml_node_t) → k < length items → old ≡ get_or items k old
-    → node_of new ≡ record (node_of old) { body = f (node_of old).body }
-    → map node_of (set items k new) ≡ change_place (λ n. record n { body = f n.body }) k
-    (map node_of items)
+pub set_changes : (f : Node → Node) (items : List yaml_node_t) (k : ℕ) (old new : yaml_node_t)
+    → k < length items → old ≡ get_or items k old → node_of new ≡ f (node_of old)
+    → map node_of (set items k new) ≡ change_place f k (map node_of items)
 set_changes f [] k old new h e i = absurd (omega arith)
-set_changes f (x ∷ items) zero old new h e i = ap (λ n. n ∷ map node_of items) (i ∙ ap (λ (m : yaml_node_t). record (node_of m) { body = f (node_of m).body }) e)
+set_changes f (x ∷ items) zero old new h e i = ap (λ n. n ∷ map node_of items) (i ∙ ap (λ (m : yaml_node_t). f (node_of m)) e)
 set_changes f (x ∷ items) (suc k) old new h e i = ap (λ ns. node_of x ∷ ns) (set_changes f items k old new (omega arith) e i)
-
-pub set_same : (items : List yaml_node_t) (k : ℕ) (old new : yaml_node_t) → k < length items
-    → old ≡ get_or items k old → node_of new ≡ node_of old
-    → map node_of (set items k new) ≡ map node_of items
-set_same [] k old new h e i = absurd (omega arith)
-set_same (x ∷ items) zero old new h e i = ap (λ n. n ∷ map node_of items) (i ∙ ap node_of e)
-set_same (x ∷ items) (suc k) old new h e i = ap (λ ns. node_of x ∷ ns) (set_same items k old new (omega arith) e i)
 
 -- an appending call, seen by views: what it changed, and that the document stays sound
 pub appended : {A : Type 0} (f : NodeBody → NodeBody) (count : NodeBody → ℕ) (d : Document)
@@ -166,11 +158,11 @@ pub appended : {A : Type 0} (f : NodeBody → NodeBody) (count : NodeBody → �
     → Appends d (change_body f id d) r (record d { nodes = map node_of (set items k new) })
 appended f count d items k id old new (Ok x) at_k inside is view h =
     let same : map node_of (set items k new) ≡ change_node (λ n. record n { body = f n.body }) id d.nodes
-    = set_changes f items k old new inside is h.0 ∙ ap (change_place (λ n. record n { body = f n.body }) k) (sym view)
+    = set_changes (λ n. record n { body = f n.body }) items k old new inside is h.0 ∙ ap (change_place (λ n. record n { body = f n.body }) k) (sym view)
     ∙ ap (λ (i : ℤ). change_node (λ n. record n { body = f n.body }) i d.nodes) (sym at_k) in
     ap (λ (ns : List Node). let e : Document = record d { nodes = ns } in e) same
 appended f count d items k id old new (Err e) at_k inside is view h =
-    (ap (λ (ns : List Node). let e : Document = record d { nodes = ns } in e) (set_same items k old new inside is h.0 ∙ sym view), h.1)
+    (ap (λ (ns : List Node). let e : Document = record d { nodes = ns } in e) (map-set_same node_of items k new old (h.0 ∙ ap node_of is) ∙ sym view), h.1)
 
 pub appended_sound : {A : Type 0} (f : NodeBody → NodeBody) (count : NodeBody → ℕ) (d : Document)
     (items : List yaml_node_t) (k : ℕ) (old new : yaml_node_t) (r : Result A yaml_text_fault_t)
@@ -182,10 +174,10 @@ pub appended_sound : {A : Type 0} (f : NodeBody → NodeBody) (count : NodeBody 
     → IsDocument (record d { nodes = map node_of (set items k new) })
 appended_sound f count d items k old new (Ok x) inside is view h keeps s =
     subst (λ (ns : List Node). IsDocument (record d { nodes = ns }))
-    (sym (set_changes f items k old new inside is h.0 ∙ ap (change_place (λ n. record n { body = f n.body }) k) (sym view)))
+    (sym (set_changes (λ n. record n { body = f n.body }) items k old new inside is h.0 ∙ ap (change_place (λ n. record n { body = f n.body }) k) (sym view)))
     (changed_sound d f k keeps s)
 appended_sound f count d items k old new (Err e) inside is view h keeps s =
-    subst (λ (ns : List Node). IsDocument (record d { nodes = ns })) (sym (set_same items k old new inside is h.0 ∙ sym view)) s
+    subst (λ (ns : List Node). IsDocument (record d { nodes = ns })) (sym (map-set_same node_of items k new old (h.0 ∙ ap node_of is) ∙ sym view)) s
 
 -- an appending call had room for the entry
 kind_of_place : (IsKind : NodeBody → Type 0) (items : List yaml_node_t) (k : ℕ) (old : yaml_node_t)

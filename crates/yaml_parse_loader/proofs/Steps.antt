@@ -1,5 +1,5 @@
 -- What becomes of open collections, seen by views.
-use Rattle.std.proofs.Common.{◌≡◌, ◌+◌, ◌<◌, ◌≤◌, ℕ, zero, suc, ℤ, List, [], ◌∷◌, ◌++◌, map, length, reverse, take, Option, Some, Result, Ok, Err, refl, ap, sym, subst, ◌∙◌, arith, get_or}
+use Rattle.std.proofs.Common.{◌≡◌, ◌+◌, ◌≤◌, ℕ, zero, suc, ℤ, List, [], ◌∷◌, ◌++◌, map, length, reverse, take, Option, Some, Result, Ok, Err, refl, ap, sym, subst, ◌∙◌, arith, get_or}
 use Rattle.std.specs.Prelude.{OnOk}
 use Rattle.std.proofs.Math.ListN.{set}
 use Rattle.std.proofs.lemmas.List.{length-set, map-append, reverse-append, take_all, take_more, take_more_set}
@@ -8,6 +8,7 @@ use Rattle.yaml_parse_model.specs.declared.yaml_node_t.{yaml_node_t}
 use Rattle.yaml_parse_model.specs.declared.yaml_text_fault_t.{yaml_text_fault_t}
 use Rattle.yaml_parse_model.specs.Nodes.{Node, node_of}
 use Rattle.yaml_parse_document.specs.Documents.{Document, change_place}
+pub use Rattle.yaml_parse_document.proofs.Sound.{set_changes}
 use Rattle.yaml_parse_loader.specs.declared.making.Level.{Level}
 use Rattle.yaml_parse_loader.specs.declared.making.Fed.{Fed}
 use Rattle.yaml_parse_loader.specs.Anchors.{Anchors}
@@ -41,14 +42,6 @@ attaches n m ls k old new (Ok u) i h e p =
       behind ∙ ap (λ o. o ∷ levels_of (take k ls)) (p.0 ∙ ap (λ (z : ℤ). attached z (level_of old)) i) ∙ sym (ap (attach n) before),
       subst HaveRoom (sym before) p.1,
     )
-
-pub set_changes : (f : Node → Node) (items : List yaml_node_t) (k : ℕ) (old new : yaml_node_t)
-    → k < length items → old ≡ get_or items k old
-    → node_of new ≡ f (node_of old)
-    → map node_of (set items k new) ≡ change_place f k (map node_of items)
-set_changes f [] k old new h e i = absurd (omega arith)
-set_changes f (x ∷ items) zero old new h e i = ap (λ n. n ∷ map node_of items) (i ∙ ap (λ (m : yaml_node_t). f (node_of m)) e)
-set_changes f (x ∷ items) (suc k) old new h e i = ap (λ ns. node_of x ∷ ns) (set_changes f items k old new (omega arith) e i)
 
 pub outside : (f : Node → Node) (items : List yaml_node_t) (k : ℕ) → length items ≤ k
     → change_place f k (map node_of items) ≡ map node_of items

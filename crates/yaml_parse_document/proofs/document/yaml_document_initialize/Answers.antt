@@ -2,7 +2,6 @@ use Rattle.std.proofs.Common.{◌≤◌, ◌∙◌, List, length, map, refl, sub
 use Rattle.std.proofs.lemmas.Bool.{false≢true}
 use Rattle.std.proofs.lemmas.Result.{err_from_is_err_and}
 use Rattle.yaml_parse_model.specs.Constructors.{AreUtf8}
-use Rattle.yaml_parse_model.specs.Events.{directive_of}
 use Rattle.yaml_parse_model.specs.Nodes.{node_of}
 use Rattle.yaml_parse_model.specs.declared.yaml_node_t.{yaml_node_t}
 use Rattle.yaml_parse_document.specs.Documents.{AreSound}
@@ -11,27 +10,23 @@ use Rattle.yaml_parse_document.proofs.document.yaml_document_initialize.Goals as
 
 pub returns-in_err-tag_directives : goal.returns-in_err-tag_directives
 returns-in_err-tag_directives c =
-    let texts : AreUtf8 (map directive_of c.args.tag_directives.now) = c.if-not-are_utf8.ensures.0 refl in
     let e = err_from_is_err_and c.from_residual.result c.from_residual.ensures.1 in
-    rw (e.1, e.2 ∙ c.in_err-tag_directives.ensures) texts
+    rw (e.1, e.2 ∙ c.in_err-tag_directives.ensures) (c.if-not-are_utf8.ensures.0 refl)
 
 pub returns-then-not-are_utf8 : goal.returns-then-not-are_utf8
 returns-then-not-are_utf8 c = λ texts. false≢true (c.if-not-are_utf8.ensures.1 texts)
 
 pub invariant_of-result : goal.invariant_of-result
-invariant_of-result c =
-    let texts : AreUtf8 (map directive_of c.args.tag_directives.now) = c.if-not-are_utf8.ensures.0 refl in (
-      record {
-        directives = subst AreUtf8 (sym c.in_ok-tag_directives.ensures) texts;
-        nodes = subst (λ (ns : List yaml_node_t). AreSound (length (map node_of ns)) (map node_of ns)) (sym c.new.ensures.items) tt;
-      },
-      record {
-        nodes = subst (λ (ns : List yaml_node_t). length (map node_of ns) ≤ 2147483647) (sym c.new.ensures.items) (omega arith);
-        entries = subst (λ (ns : List yaml_node_t). AreSized (map node_of ns)) (sym c.new.ensures.items) tt;
-      },
-    )
+invariant_of-result c = (
+  record {
+    directives = subst AreUtf8 (sym c.in_ok-tag_directives.ensures) (c.if-not-are_utf8.ensures.0 refl);
+    nodes = subst (λ (ns : List yaml_node_t). AreSound (length (map node_of ns)) (map node_of ns)) (sym c.new.ensures.items) tt;
+  },
+  record {
+    nodes = subst (λ (ns : List yaml_node_t). length (map node_of ns) ≤ 2147483647) (sym c.new.ensures.items) (omega arith);
+    entries = subst (λ (ns : List yaml_node_t). AreSized (map node_of ns)) (sym c.new.ensures.items) tt;
+  },
+)
 
 pub returns : goal.returns
-returns c =
-    let texts : AreUtf8 (map directive_of c.args.tag_directives.now) = c.if-not-are_utf8.ensures.0 refl in
-    (rw (c.in_ok-tag_directives.ensures, c.new.ensures.items) refl, texts)
+returns c = (rw (c.in_ok-tag_directives.ensures, c.new.ensures.items) refl, c.if-not-are_utf8.ensures.0 refl)

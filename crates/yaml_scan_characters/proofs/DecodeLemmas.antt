@@ -105,6 +105,9 @@ pub record Leads (left b c d e : ℕ) (ch : Character) : Type 0 where
   pub allowed : is_allowed ch.code ≡ true
   pub spelled : encode_utf8 ch.code ≡ take ch.width (four b c d e)
 
+tail_range : (c : ℕ) → is_trailing c ≡ true → (128 ≤ c) × (c < 192)
+tail_range c h = (grind (arith, nat_tests), grind (arith, nat_tests))
+
 code_1 : (b c d e : ℕ) → width_of b ≡ 1 → encode_utf8 (utf8_code 1 b c d e) ≡ b ∷ []
 unfolding utf8_code leading_bits
 code_1 b c d e h = bytes_1 b h
@@ -116,8 +119,7 @@ unfolding utf8_code leading_bits width_of least_code
 code_2 b c d e h tc long =
     let low : 192 ≤ b = grind (arith, nat_tests) in
     let high : b < 224 = grind (arith, nat_tests) in
-    let from : 128 ≤ c = grind (arith, nat_tests) in
-    let below : c < 192 = grind (arith, nat_tests) in
+    let (from, below) = tail_range c tc in
     let least : 128 ≤ (b - 192) * 64 + (c - 128) = grind (arith, nat_tests) in
     let all = two_bytes (b - 192) (c - 128) (omega arith) (omega arith) (omega arith) in
     let x : 192 + (b - 192) ≡ b = omega arith in
@@ -131,10 +133,8 @@ unfolding utf8_code leading_bits width_of least_code
 code_3 b c d e h tc td long =
     let low : 224 ≤ b = grind (arith, nat_tests) in
     let high : b < 240 = grind (arith, nat_tests) in
-    let from : 128 ≤ c = grind (arith, nat_tests) in
-    let below : c < 192 = grind (arith, nat_tests) in
-    let from_d : 128 ≤ d = grind (arith, nat_tests) in
-    let below_d : d < 192 = grind (arith, nat_tests) in
+    let (from, below) = tail_range c tc in
+    let (from_d, below_d) = tail_range d td in
     let least : 2048 ≤ ((b - 224) * 64 + (c - 128)) * 64 + (d - 128) = grind (arith, nat_tests) in
     let all = three_bytes (b - 224) (c - 128) (d - 128) least (omega arith) (omega arith) (omega arith) in
     let x : 224 + (b - 224) ≡ b = omega arith in
@@ -149,12 +149,9 @@ unfolding utf8_code leading_bits width_of least_code
 code_4 b c d e h tc td te long =
     let low : 240 ≤ b = grind (arith, nat_tests) in
     let high : b < 248 = grind (arith, nat_tests) in
-    let from : 128 ≤ c = grind (arith, nat_tests) in
-    let below : c < 192 = grind (arith, nat_tests) in
-    let from_d : 128 ≤ d = grind (arith, nat_tests) in
-    let below_d : d < 192 = grind (arith, nat_tests) in
-    let from_e : 128 ≤ e = grind (arith, nat_tests) in
-    let below_e : e < 192 = grind (arith, nat_tests) in
+    let (from, below) = tail_range c tc in
+    let (from_d, below_d) = tail_range d td in
+    let (from_e, below_e) = tail_range e te in
     let least : 65536 ≤ (((b - 240) * 64 + (c - 128)) * 64 + (d - 128)) * 64 + (e - 128) = grind (arith, nat_tests) in
     let all = four_bytes (b - 240) (c - 128) (d - 128) (e - 128) least (omega arith) (omega arith) (omega arith) (omega arith) in
     let x : 240 + (b - 240) ≡ b = omega arith in

@@ -6,7 +6,7 @@ use Rattle.std.proofs.lemmas.List.Elements.{All-nil, All-cons}
 use Rattle.std.specs.List.{AllPass}
 use Rattle.std.specs.Char.{IsScalar}
 use Rattle.std.specs.Prelude.{encode_utf8, encode_utf8_all}
-use Rattle.std.proofs.lemmas.Bool.{lt-ltb, le-ltb, and_parts}
+use Rattle.std.proofs.lemmas.Bool.{cond_both, ltb-true, ltb-false, lt-ltb, le-ltb, and_parts}
 use Rattle.yaml_scan_model.specs.declared.name.yaml_encoding_t.{yaml_encoding_t}
 use Rattle.yaml_scan_model.specs.declared.name.yaml_encoding_t.TheVariants.{YAML_UTF8_ENCODING}
 use Rattle.yaml_scan_model.specs.Marks.{byte}
@@ -211,20 +211,15 @@ led n e bytes p cs (Ok ch) are more room inside is h =
     let (allowed, spelled) = more (p + ch.width) ds (omega (arith, s.some)) rest in
     rw all (All-cons (λ x. is_allowed x ≡ true) ch.code ds s.allowed allowed, s.spelled ∙ ap (λ (xs : List ℕ). spelling e ch.code ++ xs) spelled)
 
-either : (n : ℕ) (e : yaml_encoding_t) (bytes : List ℕ) (p : ℕ) (cs : List ℕ) (t : Bool)
-    → AreBytes bytes → SoundWith n e bytes → length bytes ≤ p + suc n
-    → nat_lt p (length bytes) ≡ t
-    → cond t (led_by (characters n e bytes) p (character_at e bytes p)) (Ok []) ≡ Ok cs
-    → Sound e bytes p cs
-either n e bytes p cs true are more room is h = led n e bytes p cs (character_at e bytes p) are more room (grind (arith, nat_tests)) refl h
-either n e bytes p cs false are more room is h = nothing e bytes p cs (grind (arith, nat_tests)) h
-
 -- what is read is spelled by the bytes
 pub sound : (n : ℕ) (e : yaml_encoding_t) (bytes : List ℕ) (p : ℕ) (cs : List ℕ) → AreBytes bytes
     → length bytes ≤ p + n → characters n e bytes p ≡ Ok cs → Sound e bytes p cs
 unfolding characters
 sound zero e bytes p cs are room h = nothing e bytes p cs (omega arith) h
-sound (suc n) e bytes p cs are room h = either n e bytes p cs (nat_lt p (length bytes)) are (λ q ds r g. sound n e bytes q ds are r g) room refl h
+sound (suc n) e bytes p cs are room h =
+    cond_both (nat_lt p (length bytes)) (led_by (characters n e bytes) p (character_at e bytes p)) (Ok []) (λ r. r ≡ Ok cs → Sound e bytes p cs)
+    (λ is. led n e bytes p cs (character_at e bytes p) are (λ q ds r g. sound n e bytes q ds are r g) room (ltb-true p (length bytes) is) refl)
+    (λ is. nothing e bytes p cs (ltb-false p (length bytes) is)) h
 
 -- of UTF-8 the text is the bytes
 pub utf8_text : (bytes : List ℕ) (p : ℕ) (cs : List ℕ) → AreBytes bytes

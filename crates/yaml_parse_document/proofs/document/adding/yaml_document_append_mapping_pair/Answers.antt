@@ -1,4 +1,4 @@
-use Rattle.std.proofs.Common.{◌≡◌, ◌<◌, ℤ, pos, suc, w32, length, sym, subst, refl, ◌∙◌, ap, to_z, of_z, map, OnOk}
+use Rattle.std.proofs.Common.{◌≡◌, ℤ, pos, suc, w32, length, sym, subst, refl, ◌∙◌, ap, to_z, of_z, map, OnOk}
 use Rattle.std.proofs.lemmas.Int.{to_z-of_z}
 use Rattle.std.proofs.Math.ListN.{set}
 use Rattle.yaml_parse_model.specs.Nodes.{node_of}
@@ -12,14 +12,12 @@ pub returns-clause-appends : goal.returns-clause-appends
 returns-clause-appends c =
     let after : Document = record (document_view c.document.inside) { nodes = map node_of (set c.document.inside.nodes.items c.node_place.result c.push_pair.new.node) } in
     let at_place : c.args.mapping ≡ pos (suc c.node_place.result) = sym (to_z-of_z w32 c.args.mapping c.ranges.mapping) ∙ c.node_place.ensures in
-    let inside : c.node_place.result < length c.document.inside.nodes.items
-    = kind_inside IsMappingBody c.args.document.now _ _ _ at_place (ap (λ (d : Document). d.nodes) (sym c.document.view_is)) c.requires.mapping in
-    let done : Appends (document_view c.document.inside) (change_body (with_pair (pair_of c.args.key c.args.value)) c.args.mapping (document_view c.document.inside)) c.push_pair.result after
-    = subst (λ (i : ℤ). Appends (document_view c.document.inside) (change_body (with_pair (pair_of i c.args.value)) c.args.mapping (document_view c.document.inside)) c.push_pair.result after) (to_z-of_z w32 c.args.key c.ranges.key)
+    let inside = kind_inside IsMappingBody c.args.document.now _ _ _ at_place (ap (λ (d : Document). d.nodes) (sym c.document.view_is)) c.requires.mapping in
+    subst (λ (d : Document). Appends d (change_body (with_pair (pair_of c.args.key c.args.value)) c.args.mapping d) c.push_pair.result after) c.document.view_is
+    (subst (λ (i : ℤ). Appends (document_view c.document.inside) (change_body (with_pair (pair_of i c.args.value)) c.args.mapping (document_view c.document.inside)) c.push_pair.result after) (to_z-of_z w32 c.args.key c.ranges.key)
     (subst (λ (i : ℤ). Appends (document_view c.document.inside) (change_body (with_pair (pair_of (to_z w32 (of_z w32 c.args.key)) i)) c.args.mapping (document_view c.document.inside)) c.push_pair.result after) (to_z-of_z w32 c.args.value c.ranges.value)
     (appended (with_pair (pair_of (to_z w32 (of_z w32 c.args.key)) (to_z w32 (of_z w32 c.args.value)))) pair_count (document_view c.document.inside) c.document.inside.nodes.items c.node_place.result c.args.mapping
-    c.index_mut.result.now c.push_pair.new.node c.push_pair.result at_place inside c.index_mut.ensures.value refl c.push_pair.ensures)) in
-    subst (λ (d : Document). Appends d (change_body (with_pair (pair_of c.args.key c.args.value)) c.args.mapping d) c.push_pair.result after) c.document.view_is done
+    c.index_mut.result.now c.push_pair.new.node c.push_pair.result at_place inside c.index_mut.ensures.value refl c.push_pair.ensures)))
 
 pub invariant_of-document : goal.invariant_of-document
 invariant_of-document c =
@@ -29,8 +27,7 @@ invariant_of-document c =
       subst (λ (i : ℤ). IsId (length c.args.document.now.nodes) i) (sym (to_z-of_z w32 c.args.value c.ranges.value)) (some_id _ _ c.requires.value),
     ) in
     let at_place : c.args.mapping ≡ pos (suc c.node_place.result) = sym (to_z-of_z w32 c.args.mapping c.ranges.mapping) ∙ c.node_place.ensures in
-    let inside : c.node_place.result < length c.document.inside.nodes.items
-    = kind_inside IsMappingBody c.args.document.now _ _ _ at_place (ap (λ (d : Document). d.nodes) (sym c.document.view_is)) c.requires.mapping in (
+    let inside = kind_inside IsMappingBody c.args.document.now _ _ _ at_place (ap (λ (d : Document). d.nodes) (sym c.document.view_is)) c.requires.mapping in (
       appended_sound (with_pair (pair_of (to_z w32 (of_z w32 c.args.key)) (to_z w32 (of_z w32 c.args.value)))) pair_count (document_view c.document.inside) c.document.inside.nodes.items c.node_place.result
           c.index_mut.result.now c.push_pair.new.node c.push_pair.result inside c.index_mut.ensures.value refl c.push_pair.ensures
           (pair_sound _ _ named) c.document.invariant.0,
@@ -42,8 +39,7 @@ invariant_of-document c =
 pub returns-clause-room : goal.returns-clause-room
 returns-clause-room c =
     let at_place : c.args.mapping ≡ pos (suc c.node_place.result) = sym (to_z-of_z w32 c.args.mapping c.ranges.mapping) ∙ c.node_place.ensures in
-    let inside : c.node_place.result < length c.document.inside.nodes.items
-    = kind_inside IsMappingBody c.args.document.now _ _ _ at_place (ap (λ (d : Document). d.nodes) (sym c.document.view_is)) c.requires.mapping in
+    let inside = kind_inside IsMappingBody c.args.document.now _ _ _ at_place (ap (λ (d : Document). d.nodes) (sym c.document.view_is)) c.requires.mapping in
     subst (λ (d : Document). OnOk c.push_pair.result (HasRoomAt pair_count d c.args.mapping)) c.document.view_is
     (had_room (with_pair (pair_of (to_z w32 (of_z w32 c.args.key)) (to_z w32 (of_z w32 c.args.value)))) pair_count (document_view c.document.inside) c.document.inside.nodes.items c.node_place.result c.args.mapping
     c.index_mut.result.now c.push_pair.new.node c.push_pair.result at_place inside c.index_mut.ensures.value refl c.push_pair.ensures)

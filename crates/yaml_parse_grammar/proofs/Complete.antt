@@ -51,7 +51,7 @@ step_take x t ts s f h = runs_by _ t ts (x ∷ s) f (fed_by Take x t s h)
 
 -- ---- leaving a state
 
--- a fact of the first token's kind
+-- the kind of the first token is such
 abbrev pub First : (yaml_token_type_t → Type 0) → List Token → Type 0
 First P [] = ⊥
 First P (t ∷ ts) = P (type_of t.body)
@@ -349,7 +349,7 @@ pair_behind : (b : Brackets) (m : More) (rest : List Token) (s : List State) (f 
 pair_behind brackets.Sequence m rest s f = leaves state.pair_end _ s f (first_is {P = λ k. ends Flow k ≡ true} {Q = λ k. choice_at state.pair_end k ≡ Leave} (λ k h. refl) (spell_more brackets.Sequence m rest) (more_ends brackets.Sequence m rest))
 pair_behind brackets.Mapping m rest s f = refl
 
--- Of so spelled tokens a state gives such items, and the rest runs on below.
+-- Tokens that are spelled so give these items above any stack, and what follows runs on.
 abbrev Runs : (List Token → List Token) → State → (List Token → List Given → List Given) → Type 0
 Runs spelled x items = (rest : List Token) (s : List State) (f : Option Fault)
     → run (spelled rest) (x ∷ s) f ≡ giving (items rest) (run rest s f)

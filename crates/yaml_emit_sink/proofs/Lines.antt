@@ -17,8 +17,8 @@ use Rattle.yaml_emit_sink.specs.Text.{Item, letter, encode, char_bytes, is_deep,
 use Rattle.yaml_emit_sink.specs.Layout.{Layout, Rest, ◌▹◌, when, char, blanks, letters, fresh, line, must_break, indent_to}
 use Rattle.yaml_emit_sink.specs.Appends.{AppendsBy, indented, blanked, lettered}
 use Rattle.yaml_emit_sink.specs.Sink.{Output, Puts}
-use Rattle.yaml_emit_sink.specs.declared.feed.Turn.{Turn}
-use Rattle.yaml_emit_sink.specs.Turns.{enough, commas, marks, signs, turned, turn_text}
+use Rattle.yaml_emit_sink.specs.declared.feed.LineStart.{LineStart}
+use Rattle.yaml_emit_sink.specs.LineStarts.{enough, commas, marks, signs, line_start_bytes, line_start_text}
 use Rattle.yaml_emit_sink.proofs.Ascii.{puts_near, puts_byte, letters_both}
 use Rattle.yaml_emit_sink.proofs.Sinks.{puts_as, puts_both, puts_run, puts_spaces, cond_true, cond_false, stepped, stepped_none, stepped_is, Leads, blanks_lead}
 
@@ -238,14 +238,14 @@ few_marks : (m : Option ℕ) → length (marks m) ≤ 2
 few_marks None = omega arith
 few_marks (Some m) = omega arith
 
-pub puts_turned : (t : Turn) (xs : List ℕ) (a b : Output)
+pub puts_line_start : (t : LineStart) (xs : List ℕ) (a b : Output)
     → (t.comma || must_break t.indent a.cursor) ≡ true → t.line_break ≡ Lf → t.indent ≤ 80
     → a.status ≡ Going → a.encoding ≡ Utf8 → b.status ≡ a.status → b.encoding ≡ a.encoding
     → b.limit ≡ a.limit → IsAscii (signs t) → IsAscii xs → 0 < length xs → length xs ≤ 40
-    → b.bytes ≡ a.bytes ++ (turned t ++ xs) → length a.bytes + 126 ≤ a.limit
+    → b.bytes ≡ a.bytes ++ (line_start_bytes t ++ xs) → length a.bytes + 126 ≤ a.limit
     → b.cursor ≡ lettered (length (signs t) + length xs) (indented t.indent a.cursor)
-    → Puts a b (turn_text t ▹ letters xs)
-puts_turned t xs a b m q i g x h e l v s p w o r k =
+    → Puts a b (line_start_text t ▹ letters xs)
+puts_line_start t xs a b m q i g x h e l v s p w o r k =
     let mark = few_marks t.mark in
     let sign = few_marks t.sign in
     let both = length-append (marks t.mark) (marks t.sign) in

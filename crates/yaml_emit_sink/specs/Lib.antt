@@ -3,6 +3,6 @@ pub mod Text
 pub mod Layout
 pub mod Appends
 pub mod Sink
-pub mod Turns
+pub mod LineStarts
 pub mod Hex
 pub mod Laws

@@ -3,7 +3,7 @@
 ghost use Rattle.std.specs.Prelude.{◌≡◌, ◌<◌, ◌≤◌, ◌+◌, ◌∷◌, ◌++◌, length, replicate, true, None, Some};
 ghost use Rattle.std.specs.Vec.{vec_len, vec_capacity};
 ghost use Rattle.yaml_types.specs.Ascii as ascii;
-ghost use Rattle.yaml_emit_sink.specs.Turns.{enough, commas, marks, signs, turned};
+ghost use Rattle.yaml_emit_sink.specs.LineStarts.{enough, commas, marks, signs, line_start_bytes};
 
 use crate::settings::LineBreak;
 use yaml_types::{SHORT, moved, put_back, put_each, put_short};
@@ -11,7 +11,7 @@ use yaml_types::{SHORT, moved, put_back, put_each, put_short};
 /// What a line begins with: a comma in the line before it, where one is due, the break and the indentation, and two characters,
 /// each with a space behind it, where they are due.
 #[derive(Clone, Copy)]
-pub struct Turn {
+pub struct LineStart {
     pub comma: bool,
     pub line_break: LineBreak,
     pub indent: u64,
@@ -53,12 +53,12 @@ pub fn is_brief(
 /// characters round them.
 // Inlined: some comparisons.
 #[inline(always)]
-pub fn is_brief_turn(output: &Vec<u8>, fast_limit: u64, turn: &Turn, text: &[u8]) -> bool
-    ensures line { result ≡ true → (turn.now.line_break ≡ LineBreak.Lf) × (turn.now.indent ≤ 80) }
+pub fn is_brief_start(output: &Vec<u8>, fast_limit: u64, start: &LineStart, text: &[u8]) -> bool
+    ensures line { result ≡ true → (start.now.line_break ≡ LineBreak.Lf) × (start.now.indent ≤ 80) }
     ensures short { result ≡ true → length text.now ≤ 32 }
     ensures near { result ≡ true → length output.now.items + 126 ≤ fast_limit }
 {
-    text.len() <= SHORT && is_brief(output, fast_limit, turn.line_break, turn.indent, 80, 45)
+    text.len() <= SHORT && is_brief(output, fast_limit, start.line_break, start.indent, 80, 45)
 }
 
 /// Whether at most sixteen spaces come, and there is room for sixteen.
@@ -138,10 +138,10 @@ pub fn mark_size(mark: Option<u8>) -> usize
 /// How many bytes stand behind the indentation of what a line begins with.
 // Inlined: two tests.
 #[inline]
-pub fn signs_size(turn: &Turn) -> usize
-    ensures { result ≡ length (signs turn.now) }
+pub fn signs_size(start: &LineStart) -> usize
+    ensures { result ≡ length (signs start.now) }
 {
-    mark_size(turn.mark) + mark_size(turn.sign)
+    mark_size(start.mark) + mark_size(start.sign)
 }
 
 // A comma, where one is due.
@@ -179,33 +179,39 @@ fn put_mark(output: &mut Vec<u8>, mark: Option<u8>)
 // What a line begins with, where it is a line feed and at most eighty spaces, and there is room for eighty and for all else.
 // Inlined: some stores.
 #[inline(always)]
-fn put_turn(output: &mut Vec<u8>, turn: &Turn)
+fn put_start(output: &mut Vec<u8>, start: &LineStart)
     requires inside { vec_len output.old + 86 ≤ vec_capacity output.old }
-    requires few { turn.now.indent ≤ 80 }
-    ensures items { output.new.items ≡ output.old.items ++ turned turn.now }
+    requires few { start.now.indent ≤ 80 }
+    ensures items { output.new.items ≡ output.old.items ++ line_start_bytes start.now }
     ensures len { vec_len output.new ≤ vec_len output.old + 86 }
     ensures room { vec_capacity output.old ≤ vec_capacity output.new }
 {
-    put_comma(output, turn.comma);
-    put_feed(output, turn.indent);
-    put_mark(output, turn.mark);
-    put_mark(output, turn.sign);
+    put_comma(output, start.comma);
+    put_feed(output, start.indent);
+    put_mark(output, start.mark);
+    put_mark(output, start.sign);
 }
 
 /// The same, and behind it few characters of known numbers, a short text and few more.
 // Inlined: the numbers are known.
 #[inline(always)]
-pub fn put_line_between(output: &mut Vec<u8>, turn: &Turn, front: &[u8], text: &[u8], end: &[u8])
+pub fn put_line_between(
+    output: &mut Vec<u8>,
+    start: &LineStart,
+    front: &[u8],
+    text: &[u8],
+    end: &[u8],
+)
     requires inside { vec_len output.old + (86 + (length front.now + (length text.now
         + length end.now))) ≤ vec_capacity output.old }
-    requires few { turn.now.indent ≤ 80 }
+    requires few { start.now.indent ≤ 80 }
     requires short { length text.now ≤ 32 }
-    ensures items { output.new.items ≡ output.old.items ++ (turned turn.now
+    ensures items { output.new.items ≡ output.old.items ++ (line_start_bytes start.now
         ++ (front.now ++ (text.now ++ end.now))) }
     ensures room { vec_capacity output.old ≤ vec_capacity output.new }
 {
     let mut own = moved(output);
-    put_turn(&mut own, turn);
+    put_start(&mut own, start);
     put_each(&mut own, front);
     put_short(&mut own, text);
     put_each(&mut own, end);
@@ -215,14 +221,14 @@ pub fn put_line_between(output: &mut Vec<u8>, turn: &Turn, front: &[u8], text: &
 /// What a line begins with, and behind it few characters of a known number.
 // Inlined: the number is known.
 #[inline(always)]
-pub fn put_line_with(output: &mut Vec<u8>, turn: &Turn, front: &[u8])
+pub fn put_line_with(output: &mut Vec<u8>, start: &LineStart, front: &[u8])
     requires inside { vec_len output.old + (86 + length front.now) ≤ vec_capacity output.old }
-    requires few { turn.now.indent ≤ 80 }
-    ensures items { output.new.items ≡ output.old.items ++ (turned turn.now ++ front.now) }
+    requires few { start.now.indent ≤ 80 }
+    ensures items { output.new.items ≡ output.old.items ++ (line_start_bytes start.now ++ front.now) }
     ensures room { vec_capacity output.old ≤ vec_capacity output.new }
 {
     let mut own = moved(output);
-    put_turn(&mut own, turn);
+    put_start(&mut own, start);
     put_each(&mut own, front);
     put_back(output, own);
 }

@@ -12,7 +12,7 @@ mod settings;
 mod sink;
 
 pub use cursor::{Cursor, Status};
-pub use feed::Turn;
+pub use feed::LineStart;
 pub use hex::put_hex_2;
 pub use laws::utf8_encodes;
 pub use settings::{Encoding, LineBreak, RequestedSettings, Settings, settled};

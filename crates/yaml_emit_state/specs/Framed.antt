@@ -36,10 +36,10 @@ sign_of true = None
 sign_of false = Some ascii.exclamation
 
 -- a node in a collection begins a line, and isn't too deep
-pub record IsTurning (s : Settings) (l : Level) : Type 0 where
+pub record BeginsLine (s : Settings) (l : Level) : Type 0 where
   pub form : s.canonical ≡ true
   pub flow : l.flow ≡ true
-  pub turns : is_behind_simple l.phase ≡ false
+  pub breaks : is_behind_simple l.phase ≡ false
   pub shallow : nat_le (l.indent + s.indent) MOST ≡ true
 
 -- no anchor and no tag, which may be left out

@@ -9,7 +9,7 @@ ghost use Rattle.yaml_emit_state.specs.Framed.{has_comma, mark_of, is_behind_sim
 
 use crate::indent::is_not_deep;
 use yaml_emit_layout::{Level, Phase};
-use yaml_emit_text::{Settings, Sink, Turn};
+use yaml_emit_text::{LineStart, Settings, Sink};
 
 /// A space behind an alias that is a simple key.
 pub fn put_blank_if(sink: &mut Sink, due: bool)
@@ -166,14 +166,14 @@ fn put_last(sink: &mut Sink, settings: &Settings, indent: u64, c: u8)
     requires { c < 128 }
     ensures { Puts sink.old sink.new ((char ascii.comma ▹ line_at settings.now indent) ▹ char c) }
 {
-    let turn = Turn {
+    let start = LineStart {
         comma: true,
         line_break: settings.line_break,
         indent,
         mark: None,
         sign: None,
     };
-    sink.put_led(&turn, &[c]);
+    sink.put_led(&start, &[c]);
 }
 
 // What ends a collection, with a comma and a line in front where they are due.
@@ -282,10 +282,10 @@ fn is_behind_simple(phase: Phase) -> bool
 /// Whether a node in a collection begins a line in canonical form, and isn't too deep.
 // Inlined: some tests.
 #[inline(always)]
-pub fn is_turning(settings: &Settings, level: Level) -> bool
+pub fn begins_line(settings: &Settings, level: Level) -> bool
     ensures form { result ≡ true → settings.now.canonical ≡ true }
     ensures flow { result ≡ true → level.flow ≡ true }
-    ensures turns { result ≡ true → is_behind_simple level.phase ≡ false }
+    ensures breaks { result ≡ true → is_behind_simple level.phase ≡ false }
     ensures shallow { result ≡ true → nat_le (level.indent + settings.now.indent) 2147483647
         ≡ true }
 {
@@ -298,7 +298,7 @@ pub fn is_turning(settings: &Settings, level: Level) -> bool
 /// What that line begins with.
 // Inlined: some tests.
 #[inline(always)]
-pub fn turn_of(settings: &Settings, level: Level, sign: Option<u8>) -> Turn
+pub fn line_start_of(settings: &Settings, level: Level, sign: Option<u8>) -> LineStart
     ensures { result ≡ record {
       comma = has_comma level.phase;
       line_break = settings.now.line_break;
@@ -307,7 +307,7 @@ pub fn turn_of(settings: &Settings, level: Level, sign: Option<u8>) -> Turn
       sign = sign;
     } }
 {
-    Turn {
+    LineStart {
         comma: has_comma(level.phase),
         line_break: settings.line_break,
         indent: level.indent,

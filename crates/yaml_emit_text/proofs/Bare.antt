@@ -16,7 +16,7 @@ use Rattle.yaml_emit_sink.specs.declared.LineBreak.{LineBreak}
 use Rattle.yaml_emit_sink.specs.Text.{Item, letter}
 use Rattle.yaml_emit_sink.specs.Layout.{Rest, ◌▹◌, char, letters, line, wrap, indicator, after_text}
 use Rattle.yaml_emit_sink.specs.Sink.{Output, Puts}
-use Rattle.yaml_emit_sink.specs.Turns.{marks}
+use Rattle.yaml_emit_sink.specs.LineStarts.{marks}
 use Rattle.yaml_emit_sink.proofs.Ascii.{letters_both}
 use Rattle.yaml_emit_sink.proofs.Lines.{line_lands}
 use Rattle.yaml_emit_sink.proofs.Sinks.{puts_as, cond_true, cond_false}

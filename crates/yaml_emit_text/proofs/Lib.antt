@@ -13,4 +13,4 @@ pub mod Ranks
 mod Tame
 mod Even
 pub mod Bare
-pub mod Turning
+pub mod LineStarts

@@ -9,6 +9,6 @@ pub use Rattle.yaml_emit_sink.specs.Text
 pub use Rattle.yaml_emit_sink.specs.Layout
 pub use Rattle.yaml_emit_sink.specs.Appends
 pub use Rattle.yaml_emit_sink.specs.Sink
-pub use Rattle.yaml_emit_sink.specs.Turns
+pub use Rattle.yaml_emit_sink.specs.LineStarts
 pub use Rattle.yaml_emit_sink.specs.Hex
 pub use Rattle.yaml_emit_sink.specs.Laws

@@ -24,6 +24,6 @@ pub use solid::are_even;
 pub use style::{allowed_for, taken};
 pub use tamed::{allowed_by, fits, is_lined, is_tame, put_in_line, put_standing, put_tame};
 pub use yaml_emit_sink::{
-    Cursor, Encoding, LineBreak, RequestedSettings, Settings, Sink, Status, Turn, settled,
+    Cursor, Encoding, LineBreak, LineStart, RequestedSettings, Settings, Sink, Status, settled,
     utf8_encodes,
 };

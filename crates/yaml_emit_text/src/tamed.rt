@@ -17,7 +17,7 @@ use crate::run::are_calm;
 use crate::scalar::put_styled;
 use crate::solid::{are_even, are_solid};
 use crate::style::{allowed_for, begins_well};
-use yaml_emit_sink::{LineBreak, Sink, Turn};
+use yaml_emit_sink::{LineBreak, LineStart, Sink};
 
 // Whether a text begins with a letter or a digit.
 fn starts_well(value: &[u8]) -> bool
@@ -236,7 +236,7 @@ pub fn put_in_line(
     ensures { Puts sink.old sink.new (line line_break indent
         ▹ letters (lead item ++ standing quoted value.now)) }
 {
-    let turn = Turn {
+    let start = LineStart {
         comma: false,
         line_break,
         indent,
@@ -244,7 +244,7 @@ pub fn put_in_line(
         sign: None,
     };
     sink.put_lined(
-        &turn,
+        &start,
         beside(quoted, b"", b"\""),
         value,
         beside(quoted, b"", b"\""),

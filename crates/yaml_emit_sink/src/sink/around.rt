@@ -4,13 +4,15 @@ ghost use Rattle.yaml_types.specs.Ascii as ascii;
 
 use super::Sink;
 use crate::append::{indented, lettered};
-use crate::feed::{Turn, has_room, is_brief_turn, put_line_between, put_line_with, signs_size};
+use crate::feed::{
+    LineStart, has_room, is_brief_start, put_line_between, put_line_with, signs_size,
+};
 use yaml_types::put_between;
 
 impl Sink {
     ghost use Rattle.std.specs.Str.{IsAscii};
     ghost use Rattle.yaml_emit_sink.specs.Sink.{Puts};
-    ghost use Rattle.yaml_emit_sink.specs.Turns.{marks, signs, turn_text};
+    ghost use Rattle.yaml_emit_sink.specs.LineStarts.{marks, signs, line_start_text};
     ghost use Rattle.yaml_emit_sink.specs.Layout.{◌▹◌, when, char, letters, line, word, must_break};
 
     // One after another.
@@ -64,50 +66,50 @@ impl Sink {
     // What a line begins with, and what stands behind it.
     // Out of line: the rare way, beside the short ones.
     #[inline(never)]
-    fn put_lined_far(&mut self, turn: Turn, front: &[u8], text: &[u8], end: &[u8])
+    fn put_lined_far(&mut self, start: LineStart, front: &[u8], text: &[u8], end: &[u8])
         requires few { length front.now + length end.now ≤ 8 }
         requires some { 0 < length front.now + length text.now }
         requires ascii { IsAscii (front.now ++ (text.now ++ end.now)) }
-        ensures { Puts self.old self.new (turn_text turn
+        ensures { Puts self.old self.new (line_start_text start
             ▹ letters (front.now ++ (text.now ++ end.now))) }
     {
-        self.put_comma(turn.comma);
-        self.put_line(turn.line_break, turn.indent);
-        self.put_mark(turn.mark);
-        self.put_mark(turn.sign);
+        self.put_comma(start.comma);
+        self.put_line(start.line_break, start.indent);
+        self.put_mark(start.mark);
+        self.put_mark(start.sign);
         self.put_joined(front, text, end);
     }
 
     // Whether a line that begins so is broken.
     // Inlined: some comparisons.
     #[inline]
-    fn is_broken(&self, turn: &Turn) -> bool
-        ensures { result ≡ (turn.now.comma || must_break turn.now.indent self.now.cursor) }
+    fn is_broken(&self, start: &LineStart) -> bool
+        ensures { result ≡ (start.now.comma || must_break start.now.indent self.now.cursor) }
     {
-        turn.comma || self.must_break(turn.indent)
+        start.comma || self.must_break(start.indent)
     }
 
     /// What a line begins with, and behind it few characters of known numbers, a text and few more, in ASCII, one at least: at
     /// once where there is room for them.
     // Inlined: mostly there is, and it is some stores round a copy.
     #[inline(always)]
-    pub fn put_lined(&mut self, turn: &Turn, front: &[u8], text: &[u8], end: &[u8])
+    pub fn put_lined(&mut self, start: &LineStart, front: &[u8], text: &[u8], end: &[u8])
         requires few { length front.now + length end.now ≤ 8 }
         requires some { 0 < length front.now + length text.now }
-        requires signs { IsAscii (signs turn.now) }
+        requires signs { IsAscii (signs start.now) }
         requires ascii { IsAscii (front.now ++ (text.now ++ end.now)) }
-        ensures { Puts self.old self.new (turn_text turn.now
+        ensures { Puts self.old self.new (line_start_text start.now
             ▹ letters (front.now ++ (text.now ++ end.now))) }
     {
-        if self.is_broken(turn) && is_brief_turn(&self.output, self.fast_limit, turn, text) {
-            put_line_between(&mut self.output, turn, front, text, end);
-            indented(&mut self.cursor, turn.indent);
+        if self.is_broken(start) && is_brief_start(&self.output, self.fast_limit, start, text) {
+            put_line_between(&mut self.output, start, front, text, end);
+            indented(&mut self.cursor, start.indent);
             lettered(
                 &mut self.cursor,
-                (signs_size(turn) + front.len() + text.len() + end.len()) as u64,
+                (signs_size(start) + front.len() + text.len() + end.len()) as u64,
             );
         } else {
-            self.put_lined_far(*turn, front, text, end);
+            self.put_lined_far(*start, front, text, end);
         }
     }
 
@@ -115,19 +117,19 @@ impl Sink {
     /// room for them.
     // Inlined: mostly there is, and it is some stores.
     #[inline(always)]
-    pub fn put_led(&mut self, turn: &Turn, front: &[u8])
+    pub fn put_led(&mut self, start: &LineStart, front: &[u8])
         requires few { length front.now ≤ 8 }
         requires some { 0 < length front.now }
-        requires signs { IsAscii (signs turn.now) }
+        requires signs { IsAscii (signs start.now) }
         requires ascii { IsAscii front.now }
-        ensures { Puts self.old self.new (turn_text turn.now ▹ letters front.now) }
+        ensures { Puts self.old self.new (line_start_text start.now ▹ letters front.now) }
     {
-        if self.is_broken(turn) && is_brief_turn(&self.output, self.fast_limit, turn, front) {
-            put_line_with(&mut self.output, turn, front);
-            indented(&mut self.cursor, turn.indent);
-            lettered(&mut self.cursor, (signs_size(turn) + front.len()) as u64);
+        if self.is_broken(start) && is_brief_start(&self.output, self.fast_limit, start, front) {
+            put_line_with(&mut self.output, start, front);
+            indented(&mut self.cursor, start.indent);
+            lettered(&mut self.cursor, (signs_size(start) + front.len()) as u64);
         } else {
-            self.put_lined_far(*turn, front, b"", b"");
+            self.put_lined_far(*start, front, b"", b"");
         }
     }
 

@@ -15,7 +15,7 @@ ghost use Rattle.yaml_scan_model.specs.declared.yaml_scalar_style_t.{yaml_scalar
 ghost use Rattle.yaml_emit_state.specs.Framed.{sign_of, framed_text, tagged_text, bracket_text, plain_front};
 ghost use Rattle.yaml_emit_state.specs.Given.{lent_context, lent_scalar, lent_start, plain_text, plain_opening, name_of, IsNamed};
 
-use crate::before::{is_turning, put_before, put_closer_at, turn_of};
+use crate::before::{begins_line, line_start_of, put_before, put_closer_at};
 use crate::documents::{put_end, put_start_at, put_stop_at};
 use crate::given::{Context, EventPosition, Opening, Scalar, Start};
 use crate::indent::position_of;
@@ -106,9 +106,9 @@ fn put_framed_in(
         (framed_text settings.now (Some level) quoted value.now) }
     ensures same { result ≡ false → sink.new ≡ sink.old }
 {
-    if is_turning(settings, level) && is_lined(settings.width, level.indent, value) {
-        let turn = turn_of(settings, level, sign_of(quoted));
-        sink.put_lined(&turn, b"\"", value, b"\"");
+    if begins_line(settings, level) && is_lined(settings.width, level.indent, value) {
+        let start = line_start_of(settings, level, sign_of(quoted));
+        sink.put_lined(&start, b"\"", value, b"\"");
         true
     } else {
         false
@@ -158,9 +158,9 @@ fn put_framed_text_in(sink: &mut Sink, settings: &Settings, level: Level, value:
         (tagged_text settings.now (Some level) value.now) }
     ensures same { result ≡ false → sink.new ≡ sink.old }
 {
-    if is_turning(settings, level) && is_lined(settings.width, level.indent, value) {
-        let turn = turn_of(settings, level, None);
-        sink.put_lined(&turn, b"!!str \"", value, b"\"");
+    if begins_line(settings, level) && is_lined(settings.width, level.indent, value) {
+        let start = line_start_of(settings, level, None);
+        sink.put_lined(&start, b"!!str \"", value, b"\"");
         true
     } else {
         false
@@ -227,9 +227,9 @@ fn put_bracket_in(sink: &mut Sink, settings: &Settings, level: Level, front: &[u
         (bracket_text settings.now (Some level) front.now) }
     ensures same { result ≡ false → sink.new ≡ sink.old }
 {
-    if is_turning(settings, level) {
-        let turn = turn_of(settings, level, None);
-        sink.put_led(&turn, front);
+    if begins_line(settings, level) {
+        let start = line_start_of(settings, level, None);
+        sink.put_led(&start, front);
         sink.set_after_block();
         true
     } else {

@@ -1,6 +1,6 @@
 use Rattle.std.proofs.Common.{rules}
 use Rattle.std.specs.Prelude.{replicate}
-use Rattle.yaml_emit_sink.specs.Turns.{enough}
+use Rattle.yaml_emit_sink.specs.LineStarts.{enough}
 use Rattle.yaml_emit_sink.proofs.Lines.{line_cut, enough_most, enough_same}
 use Rattle.yaml_emit_sink.proofs.feed.put_feed.Goals as goal
 

@@ -1,17 +1,17 @@
 use Rattle.std.proofs.Common.{true}
-use Rattle.yaml_emit_text.proofs.Turning.{tagged_ascii}
-use Rattle.yaml_emit_state.specs.Framed.{IsTurning}
+use Rattle.yaml_emit_text.proofs.LineStarts.{tagged_ascii}
+use Rattle.yaml_emit_state.specs.Framed.{BeginsLine}
 use Rattle.yaml_emit_state.proofs.Framed.{puts_tagged, signs_ascii}
 use Rattle.yaml_emit_state.proofs.state.event.put_framed_text_in.Goals as goal
 
 pub put_lined-requires-clause-signs : goal.put_lined-requires-clause-signs
-put_lined-requires-clause-signs c = rw c.turn_of-turn.ensures (signs_ascii c.args.level.phase true)
+put_lined-requires-clause-signs c = rw c.line_start_of-start.ensures (signs_ascii c.args.level.phase true)
 
 pub put_lined-requires-clause-ascii : goal.put_lined-requires-clause-ascii
 put_lined-requires-clause-ascii c = tagged_ascii _ _ _ (c.is_lined.ensures c.if-is_lined.true)
 
 pub returns-then-is_lined-clause-put : goal.returns-then-is_lined-clause-put
 returns-then-is_lined-clause-put c = λ h.
-    let on = c.if-is_turning.true in
-    let turning : IsTurning c.args.settings.now c.args.level = record { form = c.is_turning.ensures.form on; flow = c.is_turning.ensures.flow on; turns = c.is_turning.ensures.turns on; shallow = c.is_turning.ensures.shallow on } in
-    puts_tagged c.args.settings.now c.args.level c.args.value.now _ _ turning (c.is_lined.ensures c.if-is_lined.true) (rw c.turn_of-turn.ensures at c.put_lined.ensures)
+    let on = c.if-begins_line.true in
+    let begins : BeginsLine c.args.settings.now c.args.level = record { form = c.begins_line.ensures.form on; flow = c.begins_line.ensures.flow on; breaks = c.begins_line.ensures.breaks on; shallow = c.begins_line.ensures.shallow on } in
+    puts_tagged c.args.settings.now c.args.level c.args.value.now _ _ begins (c.is_lined.ensures c.if-is_lined.true) (rw c.line_start_of-start.ensures at c.put_lined.ensures)

@@ -1,7 +1,7 @@
 -- What a line begins with.
 use Rattle.std.specs.Prelude.{ℕ, nat_le, if◌then◌else◌, Bool, true, false, List, [], ◌∷◌, ◌++◌, replicate, Option, None, Some}
 use Rattle.yaml_types.specs.Ascii as ascii
-use Rattle.yaml_emit_sink.specs.declared.feed.Turn.{Turn}
+use Rattle.yaml_emit_sink.specs.declared.feed.LineStart.{LineStart}
 use Rattle.yaml_emit_sink.specs.Layout.{Layout, ◌▹◌, stay, when, char, letters, word, line}
 
 -- how many spaces are put at once, of which some are cut off
@@ -24,13 +24,13 @@ mark_word None = stay
 mark_word (Some m) = word (m ∷ [])
 
 -- what stands behind the indentation
-abbrev pub signs : Turn → List ℕ
+abbrev pub signs : LineStart → List ℕ
 signs t = marks t.mark ++ marks t.sign
 
 -- its bytes, where the break is a line feed that comes
-abbrev pub turned : Turn → List ℕ
-turned t = commas t.comma ++ ((ascii.line_feed ∷ replicate t.indent ascii.space) ++ signs t)
+abbrev pub line_start_bytes : LineStart → List ℕ
+line_start_bytes t = commas t.comma ++ ((ascii.line_feed ∷ replicate t.indent ascii.space) ++ signs t)
 
 -- a comma in the line before it, the break and the indentation, and the signs
-abbrev pub turn_text : Turn → Layout
-turn_text t = when t.comma (char ascii.comma) ▹ (line t.line_break t.indent ▹ letters (signs t))
+abbrev pub line_start_text : LineStart → Layout
+line_start_text t = when t.comma (char ascii.comma) ▹ (line t.line_break t.indent ▹ letters (signs t))

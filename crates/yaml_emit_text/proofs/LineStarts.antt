@@ -6,11 +6,11 @@ use Rattle.std.specs.Str.{chars, IsAscii}
 use Rattle.std.proofs.lemmas.Str.Ascii.{IsAscii-cons}
 use Rattle.yaml_emit_sink.specs.declared.Cursor.{Cursor}
 use Rattle.yaml_emit_sink.specs.declared.LineBreak.{LineBreak}
-use Rattle.yaml_emit_sink.specs.declared.Turn.{Turn}
+use Rattle.yaml_emit_sink.specs.declared.LineStart.{LineStart}
 use Rattle.yaml_emit_sink.specs.Text.{Item, letter}
 use Rattle.yaml_emit_sink.specs.Layout.{Layout, Rest, ◌▹◌, stay, when, char, letters, word, line}
 use Rattle.yaml_emit_sink.specs.Sink.{Output, Puts}
-use Rattle.yaml_emit_sink.specs.Turns.{marks, mark_word, turn_text}
+use Rattle.yaml_emit_sink.specs.LineStarts.{marks, mark_word, line_start_text}
 use Rattle.yaml_emit_sink.proofs.Ascii.{parted}
 use Rattle.yaml_emit_sink.proofs.Lines.{line_lands}
 use Rattle.yaml_emit_sink.proofs.Sinks.{puts_as, cond_true, cond_false}
@@ -51,11 +51,11 @@ signed_by true k n m s x y ys z c rest h =
     ap (λ (t : List Item). letter 44 ∷ t) (line_lands k n (mark_word m ▹ (mark_word s ▹ x)) (letters (marks m ++ marks s) ▹ (letters (y ∷ ys) ▹ z)) rest (λ kept. signed_at n m s x y ys z kept rest h) (record { column = c.column + 1; white = false; bare = false; kept = c.kept }))
 
 -- what stands there was written
-pub puts_signed : (t : Turn) (x : Layout) (y : ℕ) (ys : List ℕ) (z : Layout) (a b : Output)
-    → Worded (t.indent + 4) x (y ∷ ys) z → Puts a b ((turn_text t ▹ letters (y ∷ ys)) ▹ z)
+pub puts_signed : (t : LineStart) (x : Layout) (y : ℕ) (ys : List ℕ) (z : Layout) (a b : Output)
+    → Worded (t.indent + 4) x (y ∷ ys) z → Puts a b ((line_start_text t ▹ letters (y ∷ ys)) ▹ z)
     → Puts a b (when t.comma (char 44) ▹ (line t.line_break t.indent ▹ (mark_word t.mark ▹ (mark_word t.sign ▹ x))))
 puts_signed t x y ys z a b h p =
-    puts_as a b ((turn_text t ▹ letters (y ∷ ys)) ▹ z) (when t.comma (char 44) ▹ (line t.line_break t.indent ▹ (mark_word t.mark ▹ (mark_word t.sign ▹ x))))
+    puts_as a b ((line_start_text t ▹ letters (y ∷ ys)) ▹ z) (when t.comma (char 44) ▹ (line t.line_break t.indent ▹ (mark_word t.mark ▹ (mark_word t.sign ▹ x))))
     (λ rest. signed_by t.comma t.line_break t.indent t.mark t.sign x y ys z a.cursor rest h) p
 
 even_by : (white : Bool) (page : Page) (v : List ℕ) (c : Cursor) (rest : Rest) → c.white ≡ white

@@ -13,7 +13,7 @@ use Rattle.yaml_emit_text.specs.Layout.{Layout, ◌▹◌, nothing_more}
 use Rattle.yaml_emit_text.specs.Sink.{Output, Ends, EndsBy, Grows, Puts}
 use Rattle.yaml_emit_text.proofs.Sinks.{grows_rest, puts_both}
 use Rattle.yaml_emit_layout.specs.declared.Level.{Level}
-use Rattle.yaml_emit_layout.specs.Content.{Event, no_event, stream_start, stream_end, document_start, document_end, alias, scalar, sequence_start, sequence_end, mapping_start, mapping_end}
+use Rattle.yaml_emit_layout.specs.Content.{Event, document_start, sequence_start, mapping_start}
 use Rattle.yaml_emit_layout.specs.Nodes.{Context, context_of, deep_if, MOST}
 use Rattle.yaml_emit_layout.specs.State.{depth_at, text_at, next, top_of}
 use Rattle.yaml_emit_state.specs.declared.state.Core.{Core}
@@ -25,9 +25,7 @@ use Rattle.yaml_emit_state.proofs.Noting.{notes_behind}
 
 going_by : (s : Status) (was : Bool) → was ≡ false → (is_going s || was) ≡ true → s ≡ Going
 going_by Going was n h = refl
-going_by Full was n h = absurd (false≢true (sym n ∙ h))
-going_by Deep was n h = absurd (false≢true (sym n ∙ h))
-going_by Starved was n h = absurd (false≢true (sym n ∙ h))
+going_by _ was n h = absurd (false≢true (sym n ∙ h))
 
 pub halts : (old new : Core) → Starves old new → Halts old new
 halts old new s = record { levels = λ off on. (going_by old.sink.status old.starved off (sym s.starved ∙ on), s.text) }
@@ -73,9 +71,7 @@ going_whole : (s : Status) (limit : ℕ) (x : Encoding) (old : List ℕ) (text w
     → (encode x whole ≡ old) × ((encode x (shallow whole) ≡ old) × (length old ≤ limit))
 going_whole Going limit x old text whole g b h =
     (h.0 ∙ (ap (λ (z : List ℕ). old ++ z) b.is ∙ append-nil old), (h.1.1.1 ∙ (ap (λ (z : List ℕ). old ++ z) b.front ∙ append-nil old), h.1.0))
-going_whole Full limit x old text whole g b h = absurd (cc)
-going_whole Deep limit x old text whole g b h = absurd (cc)
-going_whole Starved limit x old text whole g b h = absurd (cc)
+going_whole _ limit x old text whole g b h = absurd (cc)
 
 -- an output that went on up to there, and was stopped by what writes nothing
 pub all_there : (b c : Output) (text whole : List Item) → b.status ≡ Going
@@ -106,15 +102,7 @@ depth_blank : (x : Encoding) (p : Context) (top : Option Level) (e : Event) (emp
 unfolding depth_at
 depth_blank x p top (sequence_start q) empty c = deep_blank x (nat_lt MOST _)
 depth_blank x p top (mapping_start q) empty c = deep_blank x (nat_lt MOST _)
-depth_blank x p top no_event empty c = nothing_blank x
-depth_blank x p top (stream_start y) empty c = nothing_blank x
-depth_blank x p top stream_end empty c = nothing_blank x
-depth_blank x p top (document_start o) empty c = nothing_blank x
-depth_blank x p top (document_end i) empty c = nothing_blank x
-depth_blank x p top (alias name) empty c = nothing_blank x
-depth_blank x p top (scalar v) empty c = nothing_blank x
-depth_blank x p top sequence_end empty c = nothing_blank x
-depth_blank x p top mapping_end empty c = nothing_blank x
+depth_blank x p top _ empty c = nothing_blank x
 
 -- an event's text was written, and then the state moved on
 pub blames_behind : (old mid new : Core) (e : Event) (text : Layout) (p : Context)
@@ -146,16 +134,7 @@ blames_not old new e a same = record { levels = λ g off on. absurd (false≢tru
 
 pub start_takes : (e : Event) → is_document_start e ≡ true → takes_memory e ≡ true
 start_takes (document_start o) h = refl
-start_takes (sequence_start p) h = absurd (cc)
-start_takes (mapping_start p) h = absurd (cc)
-start_takes no_event h = absurd (cc)
-start_takes (stream_start x) h = absurd (cc)
-start_takes stream_end h = absurd (cc)
-start_takes (document_end i) h = absurd (cc)
-start_takes (alias n) h = absurd (cc)
-start_takes (scalar v) h = absurd (cc)
-start_takes sequence_end h = absurd (cc)
-start_takes mapping_end h = absurd (cc)
+start_takes _ h = absurd (cc)
 
 -- ---- an event in its right place: its text, and then the state
 

@@ -2,7 +2,7 @@
 use Rattle.std.proofs.Common.{◌≡◌, ℕ, Bool, true, false, refl, arith}
 use Rattle.std.specs.Prelude.{nat_le, nat_lt}
 use Rattle.std.proofs.lemmas.Bool.Decides.{nat_tests}
-use Rattle.yaml_emit_layout.specs.Content.{Event, no_event, stream_start, stream_end, document_start, document_end, alias, scalar, sequence_start, sequence_end, mapping_start, mapping_end}
+use Rattle.yaml_emit_layout.specs.Content.{Event, alias, scalar, sequence_start, mapping_start}
 use Rattle.yaml_emit_layout.specs.State.{is_simple_event}
 use Rattle.yaml_emit_layout.specs.Nodes.{Context, is_simple_scalar, is_simple_alias, is_simple_start, MOST}
 
@@ -14,13 +14,7 @@ no_keys p (alias name) empty h = rw h refl
 no_keys p (scalar x) empty h = rw h refl
 no_keys p (sequence_start q) empty h = rw h refl
 no_keys p (mapping_start q) empty h = rw h refl
-no_keys p no_event empty h = refl
-no_keys p (stream_start x) empty h = refl
-no_keys p stream_end empty h = refl
-no_keys p (document_start o) empty h = refl
-no_keys p (document_end i) empty h = refl
-no_keys p sequence_end empty h = refl
-no_keys p mapping_end empty h = refl
+no_keys p _ empty h = refl
 
 pub not_deep : (n : ℕ) → nat_le n MOST ≡ true → nat_lt MOST n ≡ false
 not_deep n h = grind (arith, nat_tests)

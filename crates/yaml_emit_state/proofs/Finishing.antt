@@ -2,7 +2,7 @@
 use Rattle.std.proofs.Common.{◌≡◌, ◌≢◌, List, [], ◌∷◌, Bool, refl, sym, subst, ◌∙◌, arith, Option, Some, None}
 use Rattle.yaml_emit_text.specs.declared.Settings.{Settings}
 use Rattle.yaml_emit_text.specs.declared.Status.{Status}
-use Rattle.yaml_emit_text.specs.declared.Status.TheVariants.{Going, Full, Deep, Starved}
+use Rattle.yaml_emit_text.specs.declared.Status.TheVariants.{Going}
 use Rattle.yaml_emit_text.specs.Text.{Item}
 use Rattle.yaml_emit_text.specs.Layout.{Rest, nothing_more, written}
 use Rattle.yaml_emit_text.specs.Sink.{Ends, EndsBy, Puts}
@@ -24,31 +24,23 @@ going_by : (s : Status) (core : Core) (es : List Event) (whole : List Item) → 
     → FinishesAt s (settings_of core) (state_of core) core.sink es whole
     → FinishesBy (settings_of core) (state_of core) core.sink es whole
 going_by Going core es whole g h = h
-going_by Full core es whole g h = absurd (cc)
-going_by Deep core es whole g h = absurd (cc)
-going_by Starved core es whole g h = absurd (cc)
+going_by _ core es whole g h = absurd (cc)
 
 stopped_by : (s : Status) (core : Core) (es : List Event) (whole : List Item) → s ≢ Going
     → FinishesAt s (settings_of core) (state_of core) core.sink es whole → Ends core.sink [] whole
 stopped_by Going core es whole n h = absurd (n refl)
-stopped_by Full core es whole n h = h
-stopped_by Deep core es whole n h = h
-stopped_by Starved core es whole n h = h
+stopped_by _ core es whole n h = h
 
 by_going : (s : Status) (core : Core) (es : List Event) (whole : List Item) → s ≡ Going
     → FinishesBy (settings_of core) (state_of core) core.sink es whole
     → FinishesAt s (settings_of core) (state_of core) core.sink es whole
 by_going Going core es whole g h = h
-by_going Full core es whole g h = absurd (cc)
-by_going Deep core es whole g h = absurd (cc)
-by_going Starved core es whole g h = absurd (cc)
+by_going _ core es whole g h = absurd (cc)
 
 by_stopped : (s : Status) (core : Core) (es : List Event) (whole : List Item) → s ≢ Going
     → Ends core.sink [] whole → FinishesAt s (settings_of core) (state_of core) core.sink es whole
 by_stopped Going core es whole n h = absurd (n refl)
-by_stopped Full core es whole n h = h
-by_stopped Deep core es whole n h = h
-by_stopped Starved core es whole n h = h
+by_stopped _ core es whole n h = h
 
 -- where the first of two problems is none, both are
 pub or_else_none : (p q : Option Problem) → or_else p q ≡ None → (p ≡ None) × (q ≡ None)

@@ -16,7 +16,7 @@ use Rattle.yaml_emit_state.specs.Due.{is_key_in, is_key}
 use Rattle.yaml_emit_state.specs.Steps.{state_of, settings_of, StaysBut, LaysOutRight}
 use Rattle.yaml_emit_state.proofs.Blaming.{blames_not}
 
-before_in : (s : Settings) (p : Phase) (flow : Bool) (n : ℕ) (b : Bool)
+pub before_in : (s : Settings) (p : Phase) (flow : Bool) (n : ℕ) (b : Bool)
     → before_at s p flow n (is_key_in p && b) ≡ before_at s p flow n b
 before_in s (Items fresh) flow n b = refl
 before_in s (Keys fresh) flow n b = refl
@@ -27,7 +27,7 @@ before_keyed : (s : Settings) (top : Option Level) (b : Bool)
 before_keyed s None b = refl
 before_keyed s (Some l) b = before_in s l.phase l.flow l.indent b
 
-part_in : (p : Phase) (b : Bool) → part_at p (is_key_in p && b) ≡ part_at p b
+pub part_in : (p : Phase) (b : Bool) → part_at p (is_key_in p && b) ≡ part_at p b
 part_in (Items fresh) b = refl
 part_in (Keys fresh) b = refl
 part_in (Value was_simple) b = refl
@@ -37,7 +37,7 @@ position_keyed : (top : Option Level) (b : Bool)
 position_keyed None b = refl
 position_keyed (Some l) b = rw (part_in l.phase b) refl
 
-phase_in : (p : Phase) (b : Bool) → phase_behind p (is_key_in p && b) ≡ phase_behind p b
+pub phase_in : (p : Phase) (b : Bool) → phase_behind p (is_key_in p && b) ≡ phase_behind p b
 unfolding phase_behind
 phase_in (Items fresh) b = refl
 phase_in (Keys fresh) b = refl

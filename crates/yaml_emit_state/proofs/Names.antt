@@ -57,13 +57,7 @@ event_named canonical (said.alias name) h = some_named _ _ name h
 event_named canonical (said.scalar x) h = anchor_named x.anchor (first_none _ _ h)
 event_named canonical (said.sequence_start p) h = anchor_named p.anchor (first_none _ _ h)
 event_named canonical (said.mapping_start p) h = anchor_named p.anchor (first_none _ _ h)
-event_named canonical said.no_event h = none_named
-event_named canonical (said.stream_start x) h = none_named
-event_named canonical said.stream_end h = none_named
-event_named canonical (said.document_start o) h = none_named
-event_named canonical (said.document_end implicit) h = none_named
-event_named canonical said.sequence_end h = none_named
-event_named canonical said.mapping_end h = none_named
+event_named canonical _ h = none_named
 
 pub named_right : (canonical : Bool) (place : Expected) (top : Option Level) (e : said.Event)
     → problem_by canonical place top e ≡ None → IsNamed (name_of e)

@@ -2,7 +2,7 @@
 use Rattle.std.proofs.Common.{◌≡◌, ◌≢◌, Bool, true, false, refl}
 use Rattle.std.specs.Prelude.{◌||◌}
 use Rattle.yaml_emit_text.specs.declared.Status.{Status}
-use Rattle.yaml_emit_text.specs.declared.Status.TheVariants.{Going, Full, Deep, Starved}
+use Rattle.yaml_emit_text.specs.declared.Status.TheVariants.{Going}
 use Rattle.yaml_emit_state.specs.declared.state.Core.{Core}
 use Rattle.yaml_emit_state.specs.Steps.{is_going, may_note, Notes, Starves}
 
@@ -11,33 +11,17 @@ pub notes_behind : (takes : Bool) (a b c : Status) → (b ≡ Going → a ≡ Go
     → may_note takes a c ≡ false → may_note takes b c ≡ false
 notes_behind false a b c p h = refl
 notes_behind true Going Going c p h = h
-notes_behind true Full Going c p h = let k = p refl in absurd (cc)
-notes_behind true Deep Going c p h = let k = p refl in absurd (cc)
-notes_behind true Starved Going c p h = let k = p refl in absurd (cc)
-notes_behind true a Full c p h = refl
-notes_behind true a Deep c p h = refl
-notes_behind true a Starved c p h = refl
+notes_behind true _ Going c p h = let k = p refl in absurd (cc)
+notes_behind true a _ c p h = refl
 
 -- and in front of the other part
 notes_before : (takes : Bool) (a b c : Status) → (c ≡ Going → b ≡ Going)
     → may_note takes a c ≡ false → may_note takes a b ≡ false
 notes_before false a b c q h = refl
-notes_before true Full b c q h = refl
-notes_before true Deep b c q h = refl
-notes_before true Starved b c q h = refl
 notes_before true Going Going c q h = refl
-notes_before true Going Full Going q h = let k = q refl in absurd (cc)
-notes_before true Going Deep Going q h = let k = q refl in absurd (cc)
-notes_before true Going Starved Going q h = let k = q refl in absurd (cc)
-notes_before true Going Full Full q h = absurd (cc)
-notes_before true Going Full Deep q h = absurd (cc)
-notes_before true Going Full Starved q h = absurd (cc)
-notes_before true Going Deep Full q h = absurd (cc)
-notes_before true Going Deep Deep q h = absurd (cc)
-notes_before true Going Deep Starved q h = absurd (cc)
-notes_before true Going Starved Full q h = absurd (cc)
-notes_before true Going Starved Deep q h = absurd (cc)
-notes_before true Going Starved Starved q h = absurd (cc)
+notes_before true Going _ Going q h = let k = q refl in absurd (cc)
+notes_before true Going _ _ q h = absurd (cc)
+notes_before true _ b c q h = refl
 
 -- What is noted over two steps is noted in the one or the other.
 pub notes_both : (takes : Bool) (a b c : Status) → (b ≡ Going → a ≡ Going) → (c ≡ Going → b ≡ Going)
@@ -59,13 +43,9 @@ notes_some true a b h = h
 
 starved_by : (a b : Status) (old new : Bool) → b ≢ Going → new ≡ (is_going a || old)
     → may_note true a b ≡ false → new ≡ old
-starved_by Full b old new n e h = e
-starved_by Deep b old new n e h = e
-starved_by Starved b old new n e h = e
 starved_by Going Going old new n e h = absurd (n refl)
-starved_by Going Full old new n e h = absurd (cc)
-starved_by Going Deep old new n e h = absurd (cc)
-starved_by Going Starved old new n e h = absurd (cc)
+starved_by Going _ old new n e h = absurd (cc)
+starved_by _ b old new n e h = e
 
 -- A step that starves is a step that notes memory.
 pub notes_starved : (old new : Core) → Starves old new → Notes true old new

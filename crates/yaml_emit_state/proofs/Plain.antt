@@ -1,11 +1,10 @@
 -- A text with the default tag and without an anchor, where a node is due in canonical form.
-use Rattle.std.proofs.Common.{◌≡◌, ℕ, Bool, true, false, refl, sym, subst, ◌∙◌, ap, List, [], Option, Some, None, map}
+use Rattle.std.proofs.Common.{◌≡◌, ℕ, Bool, true, false, refl, sym, ◌∙◌, ap, List, [], Option, Some, None}
 use Rattle.std.proofs.Math.Bool.{and-false}
 use Rattle.std.specs.Prelude.{◌&&◌, codes}
 use Rattle.std.specs.Str.{chars}
 use Rattle.yaml_scan_model.specs.declared.yaml_scalar_style_t.{yaml_scalar_style_t}
-use Rattle.yaml_scan_model.specs.declared.yaml_tag_directive_t.{yaml_tag_directive_t}
-use Rattle.yaml_emit_tags.specs.parse_model.Events.{TagDirective, directive_of}
+use Rattle.yaml_emit_tags.specs.parse_model.Events.{TagDirective}
 use Rattle.yaml_emit_tags.specs.parse_model.Nodes.{str_tag, seq_tag, map_tag}
 use Rattle.yaml_emit_tags.specs.Tags.{tag_spelling, spelled, directive_for, defines, suffix_keeps, uri_text}
 use Rattle.yaml_emit_text.specs.declared.Settings.{Settings}
@@ -40,14 +39,6 @@ seq_spelled = refl
 pub map_spelled : tag_spelling [] map_tag ≡ codes "!!map"
 unfolding directive_for defines suffix_keeps uri_text spelled
 map_spelled = refl
-
-pub puts_default : (a b : Output) (ds : List TagDirective) (tag spelled : List ℕ) → ds ≡ []
-    → tag_spelling [] tag ≡ spelled → Puts a b (word spelled)
-    → Puts a b (word (tag_spelling ds tag))
-puts_default a b ds tag spelled e is p =
-    let P : List ℕ → Type 0 = λ t. Puts a b (word t) in
-    let Q : List TagDirective → Type 0 = λ z. Puts a b (word (tag_spelling z tag)) in
-    subst Q (sym e) (subst P (sym is) p)
 
 -- its layout: the tag, and the value in double quotes
 pub text_layout : (s : Settings) (ds : List TagDirective) (at : NodePosition) (value : List ℕ)

@@ -1,22 +1,23 @@
 -- Where the next event decides nothing, what is written is the same for both answers.
 use Rattle.std.proofs.Common.{◌≡◌, ℕ, Bool, true, false, ◌||◌, List, [], ◌∷◌, refl, sym, subst, ◌∙◌, ap, Option}
-use Rattle.std.specs.Prelude.{not}
-use Rattle.std.proofs.lemmas.Bool.{or_parts, false≢true}
-use Rattle.yaml_emit_tags.specs.parse_model.Events.{TagDirective}
+use Rattle.std.specs.Prelude.{not, ◌&&◌}
+use Rattle.std.proofs.lemmas.Bool.{or_parts}
 use Rattle.yaml_emit_text.specs.declared.Cursor.{Cursor}
 use Rattle.yaml_emit_text.specs.declared.Settings.{Settings}
 use Rattle.yaml_emit_text.specs.Layout.{Layout, ◌▹◌, when, opener}
 use Rattle.yaml_emit_layout.specs.declared.Level.{Level}
 use Rattle.yaml_emit_layout.specs.declared.NodePosition.{NodePosition}
 use Rattle.yaml_emit_layout.specs.declared.Phase.{Phase}
-use Rattle.yaml_emit_layout.specs.declared.Phase.TheVariants.{Items, Keys, Value}
-use Rattle.yaml_emit_layout.specs.Content.{Start, Event, no_event, stream_start, stream_end, document_start, document_end, alias, scalar, sequence_start, sequence_end, mapping_start, mapping_end}
+use Rattle.yaml_emit_layout.specs.declared.Phase.TheVariants.{Items, Keys}
+use Rattle.yaml_emit_layout.specs.Content.{Start, Event, sequence_start, mapping_start}
 use Rattle.yaml_emit_layout.specs.Grammar.{start_tag}
 use Rattle.yaml_emit_layout.specs.Nodes.{Context, context_of, position, is_flow, indent_of, indented, checked, properties_text}
 use Rattle.yaml_emit_layout.specs.State.{State, top_of, among, part_at, position_of, before_at, before_node, phase_behind, levels_behind, is_simple_event, text_at, depth_at, next_at}
 use Rattle.yaml_emit_state.specs.Due.{is_key_in, is_undecided_in, is_undecided_start, is_undecided}
+use Rattle.yaml_emit_state.specs.Given.{opening}
 use Rattle.yaml_emit_state.specs.Steps.{IsSame}
 use Rattle.yaml_emit_state.proofs.Canonical.{no_keys}
+use Rattle.yaml_emit_state.proofs.Keyed.{before_in, part_in, phase_in}
 
 -- what a collection's start is written as, by what stands before it, where it stands and whether it is flow
 text_as : Context → ℕ → Bool → Start → Layout → NodePosition → Bool → Layout
@@ -38,38 +39,21 @@ same_text : (p : Context) (x : ℕ) (sequence : Bool) (ls : List Level) (q : Sta
     → Alike p.settings ls q a b v w
     → text_as p x sequence q (before_node p.settings (top_of ls) a) (position_of (top_of ls) a) (is_flow p.settings (position_of (top_of ls) a) q v)
     ≡ text_as p x sequence q (before_node p.settings (top_of ls) b) (position_of (top_of ls) b) (is_flow p.settings (position_of (top_of ls) b) q w)
-same_text p x sequence ls q a b v w h =
-    ap (λ (z : Layout). text_as p x sequence q z (position_of (top_of ls) a) (is_flow p.settings (position_of (top_of ls) a) q v)) h.before
-    ∙ (ap (λ (z : Bool). text_as p x sequence q (before_node p.settings (top_of ls) b) (position_of (top_of ls) a) z) h.flow
-    ∙ ap (λ (z : NodePosition). text_as p x sequence q (before_node p.settings (top_of ls) b) z (is_flow p.settings (position_of (top_of ls) b) q w)) h.at)
+same_text p x sequence ls q a b v w h = rw (h.before, h.flow, h.at) refl
 
 same_state : (p : Context) (phase : Phase) (sequence : Bool) (ls : List Level) (q : Start)
     (a b v w : Bool) (c : Cursor) → Alike p.settings ls q a b v w
     → state_as p phase sequence (levels_behind ls a) (position_of (top_of ls) a) (is_flow p.settings (position_of (top_of ls) a) q v) c
     ≡ state_as p phase sequence (levels_behind ls b) (position_of (top_of ls) b) (is_flow p.settings (position_of (top_of ls) b) q w) c
-same_state p phase sequence ls q a b v w c h =
-    ap (λ (z : List Level). state_as p phase sequence z (position_of (top_of ls) a) (is_flow p.settings (position_of (top_of ls) a) q v) c) h.behind
-    ∙ (ap (λ (z : Bool). state_as p phase sequence (levels_behind ls b) (position_of (top_of ls) a) z c) h.flow
-    ∙ ap (λ (z : NodePosition). state_as p phase sequence (levels_behind ls b) z (is_flow p.settings (position_of (top_of ls) b) q w) c) h.at)
+same_state p phase sequence ls q a b v w c h = rw (h.behind, h.flow, h.at) refl
 
 -- ---- where nothing is decided
 
-before_alike : (s : Settings) (p : Phase) (flow : Bool) (n : ℕ) (a b : Bool) → is_key_in p ≡ false
-    → before_at s p flow n a ≡ before_at s p flow n b
-before_alike s (Items fresh) flow n a b h = refl
-before_alike s (Value simple) flow n a b h = refl
-before_alike s (Keys fresh) flow n a b h = absurd (cc)
-
-part_alike : (p : Phase) (a b : Bool) → is_key_in p ≡ false → part_at p a ≡ part_at p b
-part_alike (Items fresh) a b h = refl
-part_alike (Value simple) a b h = refl
-part_alike (Keys fresh) a b h = absurd (cc)
-
-behind_alike : (p : Phase) (a b : Bool) → is_key_in p ≡ false → phase_behind p a ≡ phase_behind p b
-unfolding phase_behind
-behind_alike (Items fresh) a b h = refl
-behind_alike (Value simple) a b h = refl
-behind_alike (Keys fresh) a b h = absurd (cc)
+-- what asks whether a key is simple only where one is due
+alike : {X : Type 0} (f : Bool → X) (k : Bool) → ((b : Bool) → f (k && b) ≡ f b) → k ≡ false
+    → (a b : Bool) → f a ≡ f b
+alike f true keyed h a b = absurd (cc)
+alike f false keyed h a b = sym (keyed a) ∙ keyed b
 
 flow_alike : (canonical around flow v w : Bool) → not (around || flow) ≡ false
     → (canonical || (around || (flow || v))) ≡ (canonical || (around || (flow || w)))
@@ -89,9 +73,9 @@ alike_open s [] q a b v w h = record {
 alike_open s (l ∷ ls) q a b v w h =
     let k = or_parts (is_key_in l.phase) (not (l.flow || q.flow)) h in
     record {
-      before = before_alike s l.phase l.flow l.indent a b k.0;
-      at = ap (λ z. position l.flow l.indent z) (part_alike l.phase a b k.0);
-      behind = ap (λ (z : Phase). record { phase = z; flow = l.flow; indent = l.indent } ∷ ls) (behind_alike l.phase a b k.0);
+      before = alike (λ z. before_at s l.phase l.flow l.indent z) (is_key_in l.phase) (before_in s l.phase l.flow l.indent) k.0 a b;
+      at = ap (λ z. position l.flow l.indent z) (alike (part_at l.phase) (is_key_in l.phase) (part_in l.phase) k.0 a b);
+      behind = ap (λ (z : Phase). record { phase = z; flow = l.flow; indent = l.indent } ∷ ls) (alike (phase_behind l.phase) (is_key_in l.phase) (phase_in l.phase) k.0 a b);
       flow = flow_alike s.canonical l.flow q.flow v w k.1;
     }
 
@@ -129,34 +113,21 @@ no_key : (p : Context) (e : Event) (v w : Bool) → p.settings.canonical ≡ tru
     → is_simple_event p e v ≡ is_simple_event p e w
 no_key p e v w h = sym (no_keys p e v h) ∙ no_keys p e w h
 
-sequence_alike : (s : Settings) (st : State) (q : Start) (v w : Bool)
-    → is_undecided s.canonical (top_of st.levels) (sequence_start q) ≡ false
-    → Alike s st.levels q (is_simple_event (context_of s st.directives) (sequence_start q) v)
-    (is_simple_event (context_of s st.directives) (sequence_start q) w) v w
-sequence_alike s st q v w h = alike_by s.canonical s st.levels q _ _ v w refl (no_key (context_of s st.directives) (sequence_start q) v w) h
-
-mapping_alike : (s : Settings) (st : State) (q : Start) (v w : Bool)
-    → is_undecided s.canonical (top_of st.levels) (mapping_start q) ≡ false
-    → Alike s st.levels q (is_simple_event (context_of s st.directives) (mapping_start q) v)
-    (is_simple_event (context_of s st.directives) (mapping_start q) w) v w
-mapping_alike s st q v w h = alike_by s.canonical s st.levels q _ _ v w refl (no_key (context_of s st.directives) (mapping_start q) v w) h
+start_alike : (s : Settings) (st : State) (sequence : Bool) (q : Start) (v w : Bool)
+    → is_undecided s.canonical (top_of st.levels) (opening sequence q) ≡ false
+    → Alike s st.levels q (is_simple_event (context_of s st.directives) (opening sequence q) v)
+    (is_simple_event (context_of s st.directives) (opening sequence q) w) v w
+start_alike s st true q v w h = alike_by s.canonical s st.levels q _ _ v w refl (no_key (context_of s st.directives) (sequence_start q) v w) h
+start_alike s st false q v w h = alike_by s.canonical s st.levels q _ _ v w refl (no_key (context_of s st.directives) (mapping_start q) v w) h
 
 -- What is written for an event, and the state behind it, are the same for both answers where the next event decides nothing.
 pub settled : (s : Settings) (st : State) (e : Event) (v w : Bool)
     → is_undecided s.canonical (top_of st.levels) e ≡ false → IsSame s st e v w
 unfolding text_at depth_at next_at text_as state_as is_simple_event
 settled s st (sequence_start q) v w h =
-    let k = sequence_alike s st q v w h in
+    let k = start_alike s st true q v w h in
     (same_text (context_of s st.directives) 91 true st.levels q _ _ v w k, λ c. same_state (context_of s st.directives) (Items true) true st.levels q _ _ v w c k)
 settled s st (mapping_start q) v w h =
-    let k = mapping_alike s st q v w h in
+    let k = start_alike s st false q v w h in
     (same_text (context_of s st.directives) 123 false st.levels q _ _ v w k, λ c. same_state (context_of s st.directives) (Keys true) false st.levels q _ _ v w c k)
-settled s st no_event v w h = (refl, λ c. refl)
-settled s st (stream_start x) v w h = (refl, λ c. refl)
-settled s st stream_end v w h = (refl, λ c. refl)
-settled s st (document_start o) v w h = (refl, λ c. refl)
-settled s st (document_end implicit) v w h = (refl, λ c. refl)
-settled s st (alias name) v w h = (refl, λ c. refl)
-settled s st (scalar x) v w h = (refl, λ c. refl)
-settled s st sequence_end v w h = (refl, λ c. refl)
-settled s st mapping_end v w h = (refl, λ c. refl)
+settled s st _ v w h = (refl, λ c. refl)

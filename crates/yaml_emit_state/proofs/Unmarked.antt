@@ -3,6 +3,7 @@ use Rattle.std.proofs.Common.{◌≡◌, ℕ, ◌≤◌, ◌+◌, length, Bool, 
 use Rattle.std.specs.Prelude.{not, ◌&&◌, ◌||◌, ◌==◌, nat_le, if◌then◌else◌}
 use Rattle.std.specs.Str.{chars}
 use Rattle.std.proofs.lemmas.Bool.{and_parts}
+use Rattle.std.proofs.Math.Bool.{and-true, or-true}
 use Rattle.std.proofs.lemmas.Bool.Decides.{nat_tests}
 use Rattle.yaml_emit_tags.specs.parse_model.Events.{TagDirective}
 use Rattle.yaml_emit_text.specs.declared.Settings.{Settings}
@@ -14,13 +15,12 @@ use Rattle.yaml_emit_text.specs.declared.Allowed.{Allowed}
 use Rattle.yaml_emit_text.specs.Tame.{IsTame, asks_plain, Stands, standing, standing_text, lead}
 use Rattle.yaml_emit_text.specs.Style.{allowed, taken}
 use Rattle.yaml_emit_text.specs.Sink.{Output, Puts}
-use Rattle.yaml_emit_text.specs.Layout.{Layout, ◌▹◌, stay, when, char, letters, word, indicator}
+use Rattle.yaml_emit_text.specs.Layout.{Layout, ◌▹◌, when, char, letters, word, indicator}
 use Rattle.yaml_emit_text.specs.Scalars.{scalar_text}
 use Rattle.yaml_emit_text.proofs.Bare.{tame_some, standing_breaks, tame_taken, puts_line_item, puts_line_key}
 use Rattle.yaml_emit_layout.specs.declared.Expected.{Expected}
 use Rattle.yaml_emit_layout.specs.declared.Expected.TheVariants as at
 use Rattle.yaml_emit_layout.specs.declared.Level.{Level}
-use Rattle.yaml_emit_layout.specs.declared.Part.TheVariants as part
 use Rattle.yaml_emit_layout.specs.declared.Phase.{Phase}
 use Rattle.yaml_emit_layout.specs.declared.Phase.TheVariants.{Items, Keys, Value}
 use Rattle.yaml_emit_layout.specs.declared.NodePosition.{NodePosition}
@@ -29,7 +29,7 @@ use Rattle.yaml_emit_layout.specs.Grammar.{has, scalar_tag, event_problem, last_
 use Rattle.yaml_emit_layout.specs.Nodes.{MOST, deeper, page_at, deep_if, checked, context_of, is_simple_part, is_simple_scalar, scalar_layout, style_of, position, turned as turned_line, before_item, before_key, before_value, wrap_at, line_at, comma}
 use Rattle.yaml_emit_layout.specs.State.{State, problem_at, among, before_at, levels_behind, phase_behind, position_of, part_at, top_of}
 use Rattle.yaml_emit_state.specs.declared.state.Core.{Core}
-use Rattle.yaml_emit_state.specs.Bare.{is_unmarked, is_double, is_framed, IsInline, short_text, short_node, turned, hyphen, Places}
+use Rattle.yaml_emit_state.specs.Bare.{is_double, IsInline, short_text, short_node, turned, hyphen, entry_phase, Places}
 use Rattle.yaml_emit_state.specs.Due.{is_key_in, is_key}
 use Rattle.yaml_emit_state.specs.Stack.{stack_of}
 use Rattle.yaml_emit_state.specs.Steps.{state_of, settings_of, StaysBut, LaysOut}
@@ -43,54 +43,33 @@ pub none_given : (a : Option (List ℕ)) → not (has a) ≡ true → a ≡ None
 none_given None h = refl
 none_given (Some t) h = absurd (cc)
 
--- its parts, one by one
+-- no anchor and no tag, and it may be written so and is asked to be
+asked_parts : (anchor tag : Option (List ℕ)) (may asks : Bool)
+    → (not (has anchor) && (not (has tag) && (may && asks))) ≡ true
+    → (anchor ≡ None) × ((tag ≡ None) × ((may ≡ true) × (asks ≡ true)))
+asked_parts anchor tag may asks h =
+    let a = and_parts (not (has anchor)) _ h in
+    let t = and_parts (not (has tag)) _ a.1 in
+    (none_given anchor a.0, (none_given tag t.0, and_parts may asks t.1))
+
+plainly : (x : Scalar) → IsInline false x → (x.plain ≡ true) × (asks_plain x.style ≡ true)
+plainly x b = (asked_parts x.anchor x.tag x.plain (asks_plain x.style) b.asked).1.1
+
+in_quotes : (x : Scalar) → IsInline true x → (x.quoted ≡ true) × (is_double x.style ≡ true)
+in_quotes x b = (asked_parts x.anchor x.tag x.quoted (is_double x.style) b.asked).1.1
+
 record Parts (x : Scalar) : Type 0 where
   no_anchor : x.anchor ≡ None
   no_tag : x.tag ≡ None
   left_out : (x.plain || x.quoted) ≡ true
 
-record Plainly (x : Scalar) : Type 0 where
-  no_tag : x.tag ≡ None
-  may : x.plain ≡ true
-  asks : asks_plain x.style ≡ true
-
-record Quoted (x : Scalar) : Type 0 where
-  may : x.quoted ≡ true
-  asks : is_double x.style ≡ true
-
-plainly : (x : Scalar) → IsInline false x → Plainly x
-plainly x b =
-    let a = and_parts (not (has x.anchor)) (not (has x.tag) && (x.plain && asks_plain x.style)) b.asked in
-    let t = and_parts (not (has x.tag)) (x.plain && asks_plain x.style) a.1 in
-    let p = and_parts x.plain (asks_plain x.style) t.1 in
-    record { no_tag = none_given x.tag t.0; may = p.0; asks = p.1 }
-
-in_quotes : (x : Scalar) → IsInline true x → Quoted x
-in_quotes x b =
-    let a = and_parts (not (has x.anchor)) (not (has x.tag) && (x.quoted && is_double x.style)) b.asked in
-    let t = and_parts (not (has x.tag)) (x.quoted && is_double x.style) a.1 in
-    let p = and_parts x.quoted (is_double x.style) t.1 in
-    record { may = p.0; asks = p.1 }
-
-or_yes : (b : Bool) → (b || true) ≡ true
-or_yes true = refl
-or_yes false = refl
-
-and_yes : (b : Bool) → (b && true) ≡ b
-and_yes true = refl
-and_yes false = refl
-
 parts : (quoted : Bool) (x : Scalar) → IsInline quoted x → Parts x
 parts false x b =
-    let a = and_parts (not (has x.anchor)) (not (has x.tag) && (x.plain && asks_plain x.style)) b.asked in
-    let t = and_parts (not (has x.tag)) (x.plain && asks_plain x.style) a.1 in
-    let p = plainly x b in
-    record { no_anchor = none_given x.anchor a.0; no_tag = none_given x.tag t.0; left_out = ap (λ (k : Bool). k || x.quoted) p.may }
+    let p = asked_parts x.anchor x.tag x.plain (asks_plain x.style) b.asked in
+    record { no_anchor = p.0; no_tag = p.1.0; left_out = ap (λ (k : Bool). k || x.quoted) (plainly x b).0 }
 parts true x b =
-    let a = and_parts (not (has x.anchor)) (not (has x.tag) && (x.quoted && is_double x.style)) b.asked in
-    let t = and_parts (not (has x.tag)) (x.quoted && is_double x.style) a.1 in
-    let p = in_quotes x b in
-    record { no_anchor = none_given x.anchor a.0; no_tag = none_given x.tag t.0; left_out = ap (λ (k : Bool). x.plain || k) p.may ∙ or_yes x.plain }
+    let p = asked_parts x.anchor x.tag x.quoted (is_double x.style) b.asked in
+    record { no_anchor = p.0; no_tag = p.1.0; left_out = ap (λ (k : Bool). x.plain || k) (in_quotes x b).0 ∙ or-true x.plain }
 
 some_bytes : (v : List ℕ) → IsTame v → (length v == 0) ≡ false
 some_bytes v t = let some = tame_some v t in grind (arith, nat_tests, some)
@@ -103,20 +82,16 @@ bare_style : (s : Settings) (ds : List TagDirective) (pos : NodePosition) (x : S
 unfolding style_of
 bare_style s ds pos x e b =
     let p = plainly x b in
-    let untagged : (has (scalar_tag false x) || x.plain) ≡ true = ap (λ (k : Bool). has (scalar_tag false x) || k) p.may ∙ or_yes (has (scalar_tag false x)) in
+    let untagged : (has (scalar_tag false x) || x.plain) ≡ true = ap (λ (k : Bool). has (scalar_tag false x) || k) p.0 ∙ or-true (has (scalar_tag false x)) in
     let other = taken (allowed s.unicode (chars x.value)) x.style (has (scalar_tag false x) || x.plain) pos.flow (is_simple_part pos.part) (length x.value == 0) in
     ap (λ (k : Bool). if k then style.Double else other) e
-    ∙ tame_taken s.unicode x.value x.style (has (scalar_tag false x) || x.plain) pos.flow (is_simple_part pos.part) (length x.value == 0) b.stands p.asks untagged (some_bytes x.value b.stands)
+    ∙ tame_taken s.unicode x.value x.style (has (scalar_tag false x) || x.plain) pos.flow (is_simple_part pos.part) (length x.value == 0) b.stands p.1 untagged (some_bytes x.value b.stands)
 
 double_taken : (a : Allowed) (s : yaml_scalar_style_t) (untagged flow simple empty : Bool)
     → is_double s ≡ true → taken a s untagged flow simple empty ≡ style.Double
 unfolding taken
 double_taken a wish.YAML_DOUBLE_QUOTED_SCALAR_STYLE untagged flow simple empty h = refl
-double_taken a wish.YAML_ANY_SCALAR_STYLE untagged flow simple empty h = absurd (cc)
-double_taken a wish.YAML_PLAIN_SCALAR_STYLE untagged flow simple empty h = absurd (cc)
-double_taken a wish.YAML_SINGLE_QUOTED_SCALAR_STYLE untagged flow simple empty h = absurd (cc)
-double_taken a wish.YAML_LITERAL_SCALAR_STYLE untagged flow simple empty h = absurd (cc)
-double_taken a wish.YAML_FOLDED_SCALAR_STYLE untagged flow simple empty h = absurd (cc)
+double_taken a _ untagged flow simple empty h = absurd (cc)
 
 framed_style : (s : Settings) (ds : List TagDirective) (pos : NodePosition) (x : Scalar)
     → s.canonical ≡ false → IsInline true x → style_of (context_of s ds) pos x ≡ style.Double
@@ -124,7 +99,7 @@ unfolding style_of
 framed_style s ds pos x e b =
     let other = taken (allowed s.unicode (chars x.value)) x.style (has (scalar_tag false x) || x.plain) pos.flow (is_simple_part pos.part) (length x.value == 0) in
     ap (λ (k : Bool). if k then style.Double else other) e
-    ∙ double_taken (allowed s.unicode (chars x.value)) x.style (has (scalar_tag false x) || x.plain) pos.flow (is_simple_part pos.part) (length x.value == 0) (in_quotes x b).asks
+    ∙ double_taken (allowed s.unicode (chars x.value)) x.style (has (scalar_tag false x) || x.plain) pos.flow (is_simple_part pos.part) (length x.value == 0) (in_quotes x b).1
 
 unmarked_by : (quoted : Bool) (z : Layout)
     → (when (true && (not quoted && false)) (word (33 ∷ [])) ▹ z) ≡ z
@@ -140,7 +115,7 @@ short_layout false s ds pos x e b =
     rw (bare_style s ds pos x e b, e, p.no_anchor, p.no_tag, p.left_out) (unmarked_by x.quoted (short_text s false pos x.value))
 short_layout true s ds pos x e b =
     let p = parts true x b in
-    rw (framed_style s ds pos x e b, e, p.no_anchor, p.no_tag, p.left_out, (in_quotes x b).may) refl
+    rw (framed_style s ds pos x e b, e, p.no_anchor, p.no_tag, p.left_out, (in_quotes x b).0) refl
 
 short_simple : (quoted : Bool) (s : Settings) (ds : List TagDirective) (x : Scalar)
     → s.canonical ≡ false → IsInline quoted x → is_simple_scalar (context_of s ds) x ≡ true
@@ -175,80 +150,36 @@ unchecked_behind n a b w x h p =
     let P : Bool → Type 0 = λ t. Puts a b (w ▹ ((λ c rest. deep_if t (rest c)) ▹ x)) in
     subst P (sym (not_deep n h)) p
 
-flow_item : (s : Settings) (n : ℕ) (fresh : Bool) → s.canonical ≡ false
-    → (comma fresh ▹ wrap_at s n) ≡ before_item s true n fresh
-unfolding before_item turned_line
-flow_item s n fresh e = rw e refl
+-- what comes before an item or a key in flow, and in a block, and before a value behind a simple key
+pub flow_before : (s : Settings) (item fresh : Bool) (n : ℕ) → s.canonical ≡ false
+    → (comma fresh ▹ wrap_at s n) ≡ before_at s (entry_phase item fresh) true n (not item)
+unfolding before_item before_key turned_line
+flow_before s true fresh n e = rw e refl
+flow_before s false fresh n e = rw e refl
 
-flow_key : (s : Settings) (n : ℕ) (fresh : Bool) → s.canonical ≡ false
-    → (comma fresh ▹ wrap_at s n) ≡ before_key s true n fresh true
-unfolding before_key turned_line
-flow_key s n fresh e = rw e refl
+pub block_before : (s : Settings) (item fresh : Bool) (n : ℕ)
+    → (line_at s n ▹ hyphen item) ≡ before_at s (entry_phase item fresh) false n (not item)
+unfolding before_item before_key
+block_before s true fresh n = refl
+block_before s false fresh n = refl
 
-block_key : (s : Settings) (n : ℕ) (fresh : Bool)
-    → line_at s n ≡ before_key s false n fresh true
-unfolding before_key
-block_key s n fresh = refl
-
-simple_value : (s : Settings) (flow : Bool) (n : ℕ)
-    → char 58 ≡ before_value s flow n true
+pub value_before : (s : Settings) (simple flow : Bool) (n : ℕ) → simple ≡ true
+    → char 58 ≡ before_at s (Value simple) flow n false
 unfolding before_value
-simple_value s true n = refl
-simple_value s false n = refl
-
-block_item : (s : Settings) (n : ℕ) (fresh : Bool)
-    → (line_at s n ▹ indicator 45) ≡ before_item s false n fresh
-unfolding before_item
-block_item s n fresh = refl
+value_before s true true n h = refl
+value_before s true false n h = refl
+value_before s false flow n h = absurd (cc)
 
 -- by what comes before it
-placed_as : (old new : Core) (q : Phase) (x y : Layout) → x ≡ y → Places old new q x
-    → Places old new q y
-placed_as old new q x y e p = let P : Layout → Type 0 = λ z. Places old new q z in subst P e p
-
-pub flow_item_placed : (s : Settings) (quoted flow : Bool) (n : ℕ) (fresh : Bool) (v : List ℕ)
-    (old new : Core) (q : Phase) → s.canonical ≡ false → flow ≡ true
-    → Places old new q ((comma fresh ▹ wrap_at s n)
-    ▹ short_text s quoted (position true n part.Item) v)
-    → Places old new q (short_node s quoted (Items fresh) flow n false v)
-flow_item_placed s quoted flow n fresh v old new q e f p =
-    let P : Bool → Type 0 = λ z. Places old new q (short_node s quoted (Items fresh) z n false v) in
-    subst P (sym f) (placed_as old new q _ _ (ap (λ (z : Layout). z ▹ short_text s quoted (position true n part.Item) v) (flow_item s n fresh e)) p)
-
-pub block_item_placed : (s : Settings) (quoted flow : Bool) (n : ℕ) (fresh : Bool) (v : List ℕ)
-    (old new : Core) (q : Phase) → flow ≡ false
-    → Places old new q (line_at s n ▹ (indicator 45
-    ▹ short_text s quoted (position false n part.Item) v))
-    → Places old new q (short_node s quoted (Items fresh) flow n false v)
-block_item_placed s quoted flow n fresh v old new q f p =
-    let P : Bool → Type 0 = λ z. Places old new q (short_node s quoted (Items fresh) z n false v) in
-    subst P (sym f) (placed_as old new q _ _ (ap (λ (z : Layout). z ▹ short_text s quoted (position false n part.Item) v) (block_item s n fresh)) p)
-
-pub flow_key_placed : (s : Settings) (quoted flow : Bool) (n : ℕ) (fresh : Bool) (v : List ℕ)
-    (old new : Core) (q : Phase) → s.canonical ≡ false → flow ≡ true
-    → Places old new q ((comma fresh ▹ wrap_at s n)
-    ▹ short_text s quoted (position true n part.SimpleKey) v)
-    → Places old new q (short_node s quoted (Keys fresh) flow n true v)
-flow_key_placed s quoted flow n fresh v old new q e f p =
-    let P : Bool → Type 0 = λ z. Places old new q (short_node s quoted (Keys fresh) z n true v) in
-    subst P (sym f) (placed_as old new q _ _ (ap (λ (z : Layout). z ▹ short_text s quoted (position true n part.SimpleKey) v) (flow_key s n fresh e)) p)
-
-pub block_key_placed : (s : Settings) (quoted flow : Bool) (n : ℕ) (fresh : Bool) (v : List ℕ)
-    (old new : Core) (q : Phase) → flow ≡ false
-    → Places old new q (line_at s n ▹ (stay
-    ▹ short_text s quoted (position false n part.SimpleKey) v))
-    → Places old new q (short_node s quoted (Keys fresh) flow n true v)
-block_key_placed s quoted flow n fresh v old new q f p =
-    let P : Bool → Type 0 = λ z. Places old new q (short_node s quoted (Keys fresh) z n true v) in
-    subst P (sym f) (placed_as old new q _ _ (ap (λ (z : Layout). z ▹ short_text s quoted (position false n part.SimpleKey) v) (block_key s n fresh)) p)
-
-pub value_placed : (s : Settings) (quoted flow : Bool) (n : ℕ) (simple : Bool) (v : List ℕ)
-    (old new : Core) (q : Phase) → simple ≡ true
-    → Places old new q (char 58 ▹ short_text s quoted (position flow n part.Value) v)
-    → Places old new q (short_node s quoted (Value simple) flow n false v)
-value_placed s quoted flow n simple v old new q f p =
-    let P : Bool → Type 0 = λ z. Places old new q (short_node s quoted (Value z) flow n false v) in
-    subst P (sym f) (placed_as old new q _ _ (ap (λ (z : Layout). z ▹ short_text s quoted (position flow n part.Value) v) (simple_value s flow n)) p)
+pub node_placed : (s : Settings) (quoted flow : Bool) (n : ℕ) (p : Phase) (simple : Bool)
+    (v : List ℕ) (old new : Core) (q : Phase) (f : Bool) (before : Layout) → flow ≡ f
+    → before ≡ before_at s p f n simple
+    → Places old new q (before ▹ short_text s quoted (position f n (part_at p simple)) v)
+    → Places old new q (short_node s quoted p flow n simple v)
+node_placed s quoted flow n p simple v old new q f before e is there =
+    let P : Bool → Type 0 = λ z. Places old new q (short_node s quoted p z n simple v) in
+    let Q : Layout → Type 0 = λ z. Places old new q (z ▹ short_text s quoted (position f n (part_at p simple)) v) in
+    subst P (sym e) (subst Q is there)
 
 -- at the start of a line
 pub line_placed : (item quoted : Bool) (s : Settings) (at : NodePosition) (n : ℕ) (v : List ℕ)
@@ -334,7 +265,7 @@ lays_short quoted old new l p q simple v x empty form due top is key next there 
     let s : Settings = settings_of old in
     let pos : NodePosition = position_of (Some l) simple in
     let asked : simple ≡ (is_key (Some l) && is_simple_scalar (context_of s old.directives) x) =
-    key ∙ ap is_key_in (sym is) ∙ sym (ap (λ (k : Bool). is_key_in l.phase && k) (short_simple quoted s old.directives x form b) ∙ and_yes (is_key_in l.phase)) in
+    key ∙ ap is_key_in (sym is) ∙ sym (ap (λ (k : Bool). is_key_in l.phase && k) (short_simple quoted s old.directives x form b) ∙ and-true (is_key_in l.phase)) in
     let A : Phase → Type 0 = λ z. Puts old.sink o (short_node old.settings quoted z l.flow l.indent simple v) in
     let B : List ℕ → Type 0 = λ z. Puts old.sink o (short_node old.settings quoted l.phase l.flow l.indent simple z) in
     let C : Layout → Type 0 = λ z. Puts old.sink o (z ▹ short_text s quoted pos x.value) in

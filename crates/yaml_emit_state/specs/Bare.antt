@@ -1,5 +1,5 @@
 -- Short scalars without properties: tame texts, which are plain wherever they stand in pretty form, and those in double quotes.
-use Rattle.std.specs.Prelude.{◌≡◌, ℕ, ◌+◌, ◌≤◌, Bool, true, false, not, ◌&&◌, nat_le, List, [], ◌∷◌, length, Option, Some, None}
+use Rattle.std.specs.Prelude.{◌≡◌, ℕ, ◌+◌, ◌≤◌, Bool, true, false, not, ◌&&◌, nat_le, List, [], ◌∷◌, length, Option, Some, None, if◌then◌else◌}
 use Rattle.yaml_types.specs.Ascii as ascii
 use Rattle.yaml_scan_model.specs.declared.yaml_scalar_style_t.{yaml_scalar_style_t}
 use Rattle.yaml_scan_model.specs.declared.yaml_scalar_style_t.TheVariants.{YAML_DOUBLE_QUOTED_SCALAR_STYLE}
@@ -9,7 +9,7 @@ use Rattle.yaml_emit_text.specs.Sink.{Puts}
 use Rattle.yaml_emit_text.specs.Tame.{asks_plain, Stands, standing_text}
 use Rattle.yaml_emit_layout.specs.declared.Level.{Level}
 use Rattle.yaml_emit_layout.specs.declared.Phase.{Phase}
-use Rattle.yaml_emit_layout.specs.declared.Phase.TheVariants.{Items, Value}
+use Rattle.yaml_emit_layout.specs.declared.Phase.TheVariants.{Items, Keys, Value}
 use Rattle.yaml_emit_layout.specs.declared.NodePosition.{NodePosition}
 use Rattle.yaml_emit_layout.specs.Content as said
 use Rattle.yaml_emit_layout.specs.Grammar.{has}
@@ -67,6 +67,10 @@ hyphen false = stay
 abbrev pub first_behind : Bool → Phase
 first_behind true = Items false
 first_behind false = Value true
+
+-- the phase in which an item or a key is due
+abbrev pub entry_phase : Bool → Bool → Phase
+entry_phase item fresh = if item then Items fresh else Keys fresh
 
 -- a collection is open, and what stands in it isn't too deep
 abbrev pub is_shallow : Settings → Option Level → Bool

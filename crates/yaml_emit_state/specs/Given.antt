@@ -1,8 +1,8 @@
 -- What the lent parts of an event say.
-use Rattle.std.specs.Prelude.{◌≡◌, ℕ, Bool, true, false, List, Option, Some, None, map}
+use Rattle.std.specs.Prelude.{◌≡◌, ℕ, Bool, true, false, List, Option, Some, None, map, if◌then◌else◌}
 use Rattle.std.specs.Str.{IsAscii}
+use Rattle.yaml_types.specs.Ascii as ascii
 use Rattle.yaml_scan_model.specs.declared.yaml_scalar_style_t.{yaml_scalar_style_t}
-use Rattle.yaml_scan_model.specs.declared.yaml_scalar_style_t.TheVariants.{YAML_DOUBLE_QUOTED_SCALAR_STYLE}
 use Rattle.yaml_parse_model.specs.Events.{text_of, directive_of}
 use Rattle.yaml_parse_model.specs.Nodes.{str_tag, seq_tag, map_tag}
 use Rattle.yaml_emit_layout.specs.Content as said
@@ -40,11 +40,6 @@ plain_text value style = record {
 abbrev pub plain_start : List ℕ → Bool → said.Start
 plain_start tag flow = record { anchor = None; tag = Some tag; implicit = true; flow = flow }
 
--- what opens a sequence, and a mapping
-abbrev pub plain_opening : Bool → Bool → said.Event
-plain_opening true flow = said.sequence_start (plain_start seq_tag flow)
-plain_opening false flow = said.mapping_start (plain_start map_tag flow)
-
 -- what ends them
 abbrev pub closing : Bool → said.Event
 closing true = said.sequence_end
@@ -62,6 +57,17 @@ lent_start p = record {
 abbrev pub opening : Bool → said.Start → said.Event
 opening true q = said.sequence_start q
 opening false q = said.mapping_start q
+
+abbrev pub opening_bracket : Bool → ℕ
+opening_bracket sequence = if sequence then ascii.open_bracket else ascii.open_brace
+
+-- the default tag of a sequence, and of a mapping
+abbrev pub default_tag : Bool → List ℕ
+default_tag sequence = if sequence then seq_tag else map_tag
+
+-- what opens one with it and without an anchor
+abbrev pub plain_opening : Bool → Bool → said.Event
+plain_opening sequence flow = opening sequence (plain_start (default_tag sequence) flow)
 
 abbrev pub lent_opening : Opening → said.Opening
 lent_opening o = record {

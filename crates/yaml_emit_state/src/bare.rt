@@ -18,7 +18,8 @@ use yaml_scan_model::yaml_scalar_style_t;
 // How many bytes a short scalar has at most.
 const MOST: usize = 80;
 
-fn is_given(text: &Option<Vec<u8>>) -> bool
+/// Whether an anchor or a tag stands there.
+pub fn is_given(text: &Option<Vec<u8>>) -> bool
     ensures { result ≡ has (text_of text.now) }
 {
     match text {

@@ -5,7 +5,8 @@ ghost use Rattle.yaml_emit_text.specs.Sink.{Puts};
 ghost use Rattle.yaml_emit_text.specs.Layout.{◌▹◌, stay, when, char, word, opener};
 ghost use Rattle.yaml_emit_layout.specs.Nodes.{comma, turned, question, before_item, before_key, before_value, closer, line_at, wrap_at, checked};
 ghost use Rattle.yaml_emit_layout.specs.State.{before_at, before_node, closer_at, is_fresh};
-ghost use Rattle.yaml_emit_state.specs.Framed.{has_comma, mark_of, is_behind_simple};
+ghost use Rattle.yaml_emit_state.specs.Framed.{has_comma, mark_of, is_behind_simple, BeginsLine};
+ghost use Rattle.yaml_emit_state.specs.Given.{opening_bracket};
 
 use crate::indent::is_not_deep;
 use yaml_emit_layout::{Level, Phase};
@@ -61,23 +62,13 @@ fn put_before_item(sink: &mut Sink, settings: &Settings, flow: bool, indent: u64
 
 // Inlined: it is a byte, or a test in front of one.
 #[inline(always)]
-fn put_question(sink: &mut Sink, flow: bool)
-    ensures { Puts sink.old sink.new (question flow) }
-{
-    if flow {
-        sink.put_inline_indicator('?');
-    } else {
-        sink.put_indicator('?');
-    }
-}
-
-// Inlined: it is a byte, or a test in front of one.
-#[inline(always)]
 fn put_question_unless(sink: &mut Sink, flow: bool, simple: bool)
     ensures { Puts sink.old sink.new (when (not simple) (question flow)) }
 {
-    if !simple {
-        put_question(sink, flow);
+    if simple {} else if flow {
+        sink.put_inline_indicator('?');
+    } else {
+        sink.put_indicator('?');
     }
 }
 
@@ -159,23 +150,6 @@ pub fn put_before(sink: &mut Sink, settings: &Settings, top: &Option<Level>, sim
     }
 }
 
-// A comma and a line, and what ends a collection behind them.
-// Inlined: some stores.
-#[inline(always)]
-fn put_last(sink: &mut Sink, settings: &Settings, indent: u64, c: u8)
-    requires { c < 128 }
-    ensures { Puts sink.old sink.new ((char ascii.comma ▹ line_at settings.now indent) ▹ char c) }
-{
-    let start = LineStart {
-        comma: true,
-        line_break: settings.line_break,
-        indent,
-        mark: None,
-        sign: None,
-    };
-    sink.put_led(&start, &[c]);
-}
-
 // What ends a collection, with a comma and a line in front where they are due.
 // Inlined: a test in front of some stores.
 #[inline(always)]
@@ -185,7 +159,14 @@ fn put_end(sink: &mut Sink, due: bool, settings: &Settings, indent: u64, c: u8)
         (when due (char ascii.comma ▹ line_at settings.now indent) ▹ char c) }
 {
     if due {
-        put_last(sink, settings, indent, c);
+        let start = LineStart {
+            comma: true,
+            line_break: settings.line_break,
+            indent,
+            mark: None,
+            sign: None,
+        };
+        sink.put_led(&start, &[c]);
     } else {
         sink.put(c as char);
     }
@@ -239,6 +220,15 @@ pub fn put_closer_at(sink: &mut Sink, settings: &Settings, top: &Option<Level>, 
     }
 }
 
+/// The bracket that opens a sequence or a mapping.
+// Inlined: mostly which it is is known.
+#[inline(always)]
+pub fn opening_bracket(sequence: bool) -> u8
+    ensures { result ≡ opening_bracket sequence }
+{
+    if sequence { b'[' } else { b'{' }
+}
+
 /// What opens a flow collection.
 // Inlined: it is a byte or two, for which there is room.
 #[inline(always)]
@@ -283,11 +273,7 @@ fn is_behind_simple(phase: Phase) -> bool
 // Inlined: some tests.
 #[inline(always)]
 pub fn begins_line(settings: &Settings, level: Level) -> bool
-    ensures form { result ≡ true → settings.now.canonical ≡ true }
-    ensures flow { result ≡ true → level.flow ≡ true }
-    ensures breaks { result ≡ true → is_behind_simple level.phase ≡ false }
-    ensures shallow { result ≡ true → nat_le (level.indent + settings.now.indent) 2147483647
-        ≡ true }
+    ensures { result ≡ true → BeginsLine settings.now level }
 {
     settings.canonical
         && level.flow

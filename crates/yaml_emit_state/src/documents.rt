@@ -78,14 +78,6 @@ fn put_directives(sink: &mut Sink, settings: &Settings, directives: &[yaml_tag_d
     }
 }
 
-fn put_dashes(sink: &mut Sink, settings: &Settings)
-    ensures { Puts sink.old sink.new (dashes settings.now) }
-{
-    sink.put_line(settings.line_break, 0);
-    sink.put_word(b"---");
-    put_line_where_due(sink, settings.canonical, settings);
-}
-
 fn put_line_where_due(sink: &mut Sink, due: bool, settings: &Settings)
     ensures { Puts sink.old sink.new (when due (line_at settings.now 0)) }
 {
@@ -98,7 +90,9 @@ fn put_dashes_if(sink: &mut Sink, due: bool, settings: &Settings)
     ensures { Puts sink.old sink.new (when due (dashes settings.now)) }
 {
     if due {
-        put_dashes(sink, settings);
+        sink.put_line(settings.line_break, 0);
+        sink.put_word(b"---");
+        put_line_where_due(sink, settings.canonical, settings);
     }
 }
 
@@ -154,27 +148,20 @@ fn is_marked(settings: &Settings, first: bool, opening: &Opening) -> bool
     settings.canonical || !(first && (opening.implicit && !directed))
 }
 
-fn put_start(sink: &mut Sink, settings: &Settings, first: bool, unended: bool, opening: &Opening)
-    ensures { Puts sink.old sink.new
-        (start_layout settings.now first unended (lent_opening opening.now)) }
-{
-    let Opening {
-        version,
-        directives,
-        ..
-    } = *opening;
-    let marked = is_marked(settings, first, opening);
-    put_dots_if(sink, is_parted(unended, version, directives), settings);
-    put_opening(sink, settings, marked, version, directives);
-}
-
 /// What opens a document, where one may come.
 pub fn put_start_at(sink: &mut Sink, settings: &Settings, place: Expected, opening: &Opening)
     ensures { Puts sink.old sink.new (start_at settings.now place (lent_opening opening.now)) }
 {
     match place {
         Expected::Documents(first, unended) => {
-            put_start(sink, settings, first, unended, opening)
+            let Opening {
+                version,
+                directives,
+                ..
+            } = *opening;
+            let marked = is_marked(settings, first, opening);
+            put_dots_if(sink, is_parted(unended, version, directives), settings);
+            put_opening(sink, settings, marked, version, directives);
         }
         _ => (),
     }

@@ -8,6 +8,7 @@ ghost use Rattle.yaml_emit_layout.specs.Grammar.{has, name_problem, anchor_probl
 ghost use Rattle.yaml_emit_state.specs.Seen.{is_among, Adds, Judges};
 ghost use Rattle.yaml_emit_state.specs.Steps.{is_document_start};
 
+use crate::bare::is_given;
 use crate::handles::add;
 use std::alloc::{AllocError, Global};
 use std::collections::BTreeSet;
@@ -161,24 +162,13 @@ fn version_problem(version: Option<yaml_version_directive_t>) -> Option<Problem>
 }
 
 fn inner_problem(handle: &[u8]) -> Option<Problem>
-    requires { 2 ≤ length handle.now }
-    ensures { result ≡ inner_problem handle.now }
-{
-    if are_alphas(&handle[1..handle.len() - 1]) {
-        None
-    } else {
-        Some(Problem::HandleCharacters)
-    }
-}
-
-fn middle_problem(handle: &[u8]) -> Option<Problem>
     requires { 1 ≤ length handle.now }
     ensures { result ≡ inner_problem handle.now }
 {
-    if handle.len() < 2 {
+    if handle.len() < 2 || are_alphas(&handle[1..handle.len() - 1]) {
         None
     } else {
-        inner_problem(handle)
+        Some(Problem::HandleCharacters)
     }
 }
 
@@ -192,7 +182,7 @@ fn ends_problem(handle: &[u8]) -> Option<Problem>
     } else if handle[handle.len() - 1] != b'!' {
         Some(Problem::HandleEnd)
     } else {
-        middle_problem(handle)
+        inner_problem(handle)
     }
 }
 
@@ -278,20 +268,11 @@ fn opening_problem(
     }
 }
 
-fn is_tagged(tag: &Option<Vec<u8>>) -> bool
-    ensures { result ≡ has (text_of tag.now) }
-{
-    match tag {
-        None => false,
-        Some(_) => true,
-    }
-}
-
 fn flags_problem(tag: &Option<Vec<u8>>, plain: bool, quoted: bool) -> Option<Problem>
     ensures { result ≡ (if has (text_of tag.now) || (plain || quoted) then None
         else Some Problem.NoFlags) }
 {
-    if is_tagged(tag) || (plain || quoted) {
+    if is_given(tag) || (plain || quoted) {
         None
     } else {
         Some(Problem::NoFlags)

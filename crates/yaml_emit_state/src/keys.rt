@@ -188,11 +188,12 @@ pub fn is_simple_start(context: &Context, start: &Start) -> bool
         )
 }
 
-// Whether an event may be a simple key. It is long because it has an arm for each kind of event.
+/// Whether a node that begins so is a simple key: an alias, a scalar without breaks or an empty collection, with at most
+/// `SIMPLE_KEY_BYTES` of anchor, tag and value. Canonical form has none. It is long because it has an arm for each kind of event.
 // Inlined: where the kind is known one arm is left.
 #[inline(always)]
 #[tactic(auto, unfolding(yaml_emit_layout::specs::State::is_simple_event))]
-fn is_simple_by(context: &Context, event: &yaml_event_body_t, empty: bool) -> bool
+pub fn is_simple(context: &Context, event: &yaml_event_body_t, empty: bool) -> bool
     ensures { result ≡ is_simple_event (lent_context context.now)
         (emitter_event (body_of event.now)) empty }
 {
@@ -248,22 +249,6 @@ fn is_simple_by(context: &Context, event: &yaml_event_body_t, empty: bool) -> bo
             is_simple_start(context, &start)
         }
         _ => false,
-    }
-}
-
-/// Whether a node that begins so is a simple key: an alias, a scalar without breaks or an empty collection, with at most
-/// `SIMPLE_KEY_BYTES` of anchor, tag and value. Canonical form has none.
-// Inlined: canonical form has none.
-#[inline(always)]
-#[tactic(auto, using(crate::proofs::Canonical::no_keys))]
-pub fn is_simple(context: &Context, event: &yaml_event_body_t, empty: bool) -> bool
-    ensures { result ≡ is_simple_event (lent_context context.now)
-        (emitter_event (body_of event.now)) empty }
-{
-    if context.settings.canonical {
-        false
-    } else {
-        is_simple_by(context, event, empty)
     }
 }
 

@@ -3,22 +3,21 @@ ghost use Rattle.std.specs.Prelude.{◌≡◌, ◌≢◌, ◌<◌, ◌∷◌, []
 ghost use Rattle.yaml_types.specs.Ascii as ascii;
 ghost use Rattle.std.specs.Str.{chars, IsAscii};
 ghost use Rattle.yaml_parse_model.specs.Events.{text_of};
-ghost use Rattle.yaml_emit_tags.specs.parse_model.Nodes.{seq_tag, map_tag};
-ghost use Rattle.yaml_emit_tags.specs.Tags.{tag_spelling};
 ghost use Rattle.yaml_emit_text.specs.Sink.{Puts};
 ghost use Rattle.yaml_emit_text.specs.Tame.{IsTame};
 ghost use Rattle.yaml_emit_text.specs.Layout.{◌▹◌, stay, when, char, word, opener};
 ghost use Rattle.yaml_emit_text.specs.Scalars.{scalar_text};
 ghost use Rattle.yaml_emit_layout.specs.Grammar.{kept_if, kept_tag, has};
 ghost use Rattle.yaml_emit_layout.specs.Nodes.{alias_layout, anchor_text, tag_text, properties_text, mark_text, scalar_layout, style_of, is_plain, checked, deeper, page_at, is_flow};
-ghost use Rattle.yaml_emit_layout.specs.State.{start_text};
+ghost use Rattle.yaml_emit_layout.specs.State.{before_node, position_of, start_text};
 ghost use Rattle.yaml_scan_model.specs.declared.yaml_scalar_style_t.{yaml_scalar_style_t};
-ghost use Rattle.yaml_emit_state.specs.Given.{lent_context, lent_scalar, lent_start, plain_text, plain_start, IsNamed};
+ghost use Rattle.yaml_emit_state.specs.Given.{lent_context, lent_scalar, lent_start, plain_text, plain_start, default_tag, opening_bracket, IsNamed};
 
-use crate::before::{put_blank_if, put_opener_if};
+use crate::bare::is_given;
+use crate::before::{opening_bracket, put_before, put_blank_if, put_opener_if};
 use crate::given::{Context, Scalar, Start};
-use crate::indent::{deeper, is_flow, is_simple_part, put_checked};
-use yaml_emit_layout::NodePosition;
+use crate::indent::{deeper, is_flow, is_simple_part, position_of, put_checked};
+use yaml_emit_layout::{Level, NodePosition};
 use yaml_emit_tags::{DirectiveTable, put_tag};
 use yaml_emit_text::{Page, Settings, Sink, Style, allowed_by, put_styled, put_tame, taken, text};
 use yaml_parse_model::{YAML_MAP_TAG, YAML_SEQ_TAG, YAML_STR_TAG};
@@ -33,14 +32,24 @@ fn put_name(sink: &mut Sink, indicator: u8, name: &[u8])
     sink.put_around(&[indicator], &[b' ', indicator], name, b"");
 }
 
-/// An alias.
+/// An alias in the innermost collection, with what comes before it.
+// Inlined: where the form is known it is short.
+#[inline(always)]
 #[tactic(auto, unfolding(yaml_emit_layout::specs::Nodes::alias_layout))]
-pub fn put_alias_at(sink: &mut Sink, position: NodePosition, name: &[u8])
+pub fn put_alias_node(
+    sink: &mut Sink,
+    settings: &Settings,
+    top: &Option<Level>,
+    simple: bool,
+    name: &[u8],
+)
     requires { IsAscii name.now }
-    ensures { Puts sink.old sink.new (alias_layout position name.now) }
+    ensures { Puts sink.old sink.new (before_node settings.now top.now simple
+        ▹ alias_layout (position_of top.now simple) name.now) }
 {
+    put_before(sink, settings, top, simple);
     put_name(sink, b'*', name);
-    put_blank_if(sink, is_simple_part(position.part));
+    put_blank_if(sink, is_simple_part(position_of(*top, simple).part));
 }
 
 fn put_anchor_if(sink: &mut Sink, anchor: &Option<Vec<u8>>)
@@ -101,19 +110,10 @@ fn put_properties(
     );
 }
 
-fn is_tagged(tag: &Option<Vec<u8>>) -> bool
-    ensures { result ≡ has (text_of tag.now) }
-{
-    match tag {
-        None => false,
-        Some(_) => true,
-    }
-}
-
 fn is_tagged_if(kept: bool, tag: &Option<Vec<u8>>) -> bool
     ensures { result ≡ has (kept_if kept (text_of tag.now)) }
 {
-    if kept { is_tagged(tag) } else { false }
+    if kept { is_given(tag) } else { false }
 }
 
 // Whether a tag is written.
@@ -239,73 +239,41 @@ pub fn are_none(directives: &DirectiveTable) -> bool
     directives.list().is_empty()
 }
 
-// A default tag, with a space in front where one is due. Its word is that where there is no directive: it is given without and
-// with the space.
-// Inlined: mostly there is no directive, and its bytes are known.
-#[inline(always)]
-fn put_default_tag(
-    sink: &mut Sink,
-    directives: &DirectiveTable,
-    tag: &[u8],
-    spelled: &[u8],
-    parted: &[u8],
-)
-    requires spelled { tag_spelling [] tag.now ≡ spelled.now }
-    requires some { 0 < length spelled.now }
-    requires ascii { IsAscii spelled.now }
-    requires parted { parted.now ≡ ascii.space ∷ spelled.now }
-    ensures { Puts sink.old sink.new (word (tag_spelling directives.now tag.now)) }
+// The default tag of a sequence, or of a mapping.
+fn default_tag(sequence: bool) -> &'static [u8]
+    ensures { result.now ≡ default_tag sequence }
 {
-    if are_none(directives) {
-        sink.put_known_word(spelled, parted);
-    } else {
-        put_tag(sink, directives, tag);
-    }
+    if sequence { YAML_SEQ_TAG } else { YAML_MAP_TAG }
 }
 
-// The tag of a sequence.
-// Inlined: its bytes are known.
-#[inline(always)]
-fn put_seq_tag(sink: &mut Sink, directives: &DirectiveTable)
-    ensures { Puts sink.old sink.new (word (tag_spelling directives.now seq_tag)) }
-{
-    put_default_tag(sink, directives, YAML_SEQ_TAG, b"!!seq", b" !!seq");
-}
-
-// The tag of a mapping.
-// Inlined: its bytes are known.
-#[inline(always)]
-fn put_map_tag(sink: &mut Sink, directives: &DirectiveTable)
-    ensures { Puts sink.old sink.new (word (tag_spelling directives.now map_tag)) }
-{
-    put_default_tag(sink, directives, YAML_MAP_TAG, b"!!map", b" !!map");
-}
-
-/// A text with the default tag and without an anchor, in canonical form.
+/// A text with the default tag and without an anchor in the innermost collection, with what comes before it, in canonical form.
 // Inlined into its one caller.
 #[inline(always)]
-pub fn put_text(sink: &mut Sink, context: &Context, position: NodePosition, value: &[u8])
+pub fn put_text_node(sink: &mut Sink, context: &Context, top: &Option<Level>, value: &[u8])
     requires utf8 { IsUtf8 value.now }
     requires canonical { context.now.settings.now.canonical ≡ true }
     ensures { (style : yaml_scalar_style_t) → Puts sink.old sink.new
-        (scalar_layout (lent_context context.now) position (plain_text value.now style)) }
+        (before_node context.now.settings.now top.now false
+        ▹ scalar_layout (lent_context context.now) (position_of top.now false)
+        (plain_text value.now style)) }
 {
+    put_before(sink, context.settings, top, false);
     put_tag(sink, context.directives, YAML_STR_TAG);
     put_lines(
         sink,
         context.settings,
-        position,
+        position_of(*top, false),
         Style::Double,
         value,
         false,
     );
 }
 
-/// A scalar, with its anchor and tag.
+// A scalar, with its anchor and tag.
 // Inlined: where the form is known, and most of what it is given.
 #[inline(always)]
 #[tactic(auto, unfolding(yaml_emit_layout::specs::Nodes::scalar_layout))]
-pub fn put_scalar(sink: &mut Sink, context: &Context, position: NodePosition, scalar: &Scalar)
+fn put_scalar(sink: &mut Sink, context: &Context, position: NodePosition, scalar: &Scalar)
     requires utf8 { IsUtf8 scalar.now.value.now }
     requires named { IsNamed (text_of scalar.now.anchor.now) }
     requires tame { scalar.now.tame ≡ true → IsTame scalar.now.value.now }
@@ -329,50 +297,70 @@ pub fn put_scalar(sink: &mut Sink, context: &Context, position: NodePosition, sc
     put_lines(sink, context.settings, position, chosen, value, scalar.tame);
 }
 
-/// What opens a collection, with its anchor and tag.
-// Inlined: where the form is known it is short.
+/// A scalar in the innermost collection, with its anchor and tag, and what comes before it.
+// Inlined: where the form is known it is shorter.
 #[inline(always)]
-pub fn put_collection(
+pub fn put_scalar_node(
     sink: &mut Sink,
     context: &Context,
-    position: NodePosition,
+    top: &Option<Level>,
+    simple: bool,
+    scalar: &Scalar,
+)
+    requires utf8 { IsUtf8 scalar.now.value.now }
+    requires named { IsNamed (text_of scalar.now.anchor.now) }
+    requires tame { scalar.now.tame ≡ true → IsTame scalar.now.value.now }
+    ensures { Puts sink.old sink.new (before_node context.now.settings.now top.now simple
+        ▹ scalar_layout (lent_context context.now) (position_of top.now simple)
+        (lent_scalar scalar.now)) }
+{
+    put_before(sink, context.settings, top, simple);
+    put_scalar(sink, context, position_of(*top, simple), scalar);
+}
+
+/// What opens a collection in the innermost one, with its anchor and tag, and what comes before it.
+// Inlined: where the form is known it is short.
+#[inline(always)]
+pub fn put_start_node(
+    sink: &mut Sink,
+    context: &Context,
+    top: &Option<Level>,
+    simple: bool,
     c: char,
     start: &Start,
 )
     requires { IsNamed (text_of start.now.anchor.now) }
-    ensures { Puts sink.old sink.new (start_text (lent_context context.now) position c
-        (lent_start start.now) start.now.empty) }
+    ensures { Puts sink.old sink.new (before_node context.now.settings.now top.now simple
+        ▹ start_text (lent_context context.now) (position_of top.now simple) c
+        (lent_start start.now)
+        start.now.empty) }
 {
+    put_before(sink, context.settings, top, simple);
     put_properties(sink, context, start.anchor, start.implicit, start.tag);
     put_opener_if(
         sink,
-        is_flow(context.settings, position, start.flow, start.empty),
+        is_flow(
+            context.settings,
+            position_of(*top, simple),
+            start.flow,
+            start.empty,
+        ),
         c,
     );
 }
 
-/// What opens a sequence with the default tag and without an anchor, in canonical form.
-// Inlined: it is a few bytes.
+/// What opens a sequence, or a mapping, with the default tag and without an anchor in the innermost collection, with what comes
+/// before it, in canonical form.
+// Inlined into its one caller.
 #[inline(always)]
-pub fn put_plain_sequence(sink: &mut Sink, context: &Context)
+pub fn put_plain_node(sink: &mut Sink, context: &Context, top: &Option<Level>, sequence: bool)
     requires { context.now.settings.now.canonical ≡ true }
-    ensures { (at : NodePosition) (flow empty : Bool) → Puts sink.old sink.new
-        (start_text (lent_context context.now) at ascii.open_bracket
-        (plain_start seq_tag flow) empty) }
+    ensures { (flow empty : Bool) → Puts sink.old sink.new
+        (before_node context.now.settings.now top.now false
+        ▹ start_text (lent_context context.now) (position_of top.now false)
+        (opening_bracket sequence) (plain_start (default_tag sequence) flow) empty) }
 {
-    put_seq_tag(sink, context.directives);
-    put_opener_if(sink, true, '[');
-}
-
-/// What opens a mapping with the default tag and without an anchor, in canonical form.
-// Inlined: it is a few bytes.
-#[inline(always)]
-pub fn put_plain_mapping(sink: &mut Sink, context: &Context)
-    requires { context.now.settings.now.canonical ≡ true }
-    ensures { (at : NodePosition) (flow empty : Bool) → Puts sink.old sink.new
-        (start_text (lent_context context.now) at ascii.open_brace
-        (plain_start map_tag flow) empty) }
-{
-    put_map_tag(sink, context.directives);
-    put_opener_if(sink, true, '{');
+    put_before(sink, context.settings, top, false);
+    put_tag(sink, context.directives, default_tag(sequence));
+    put_opener_if(sink, true, opening_bracket(sequence) as char);
 }

@@ -15,7 +15,8 @@ use crate::given::{Context, EventPosition, Scalar};
 use crate::judge::problem_of;
 use crate::keys::{is_simple, is_simple_alias, is_simple_key, is_undecided_event};
 use crate::levels::Levels;
-use event::{put_alias_node, put_event, put_plain_bracket, put_plain_node, put_scalar_node};
+use crate::nodes::{put_alias_node, put_plain_node, put_scalar_node};
+use event::{put_event, put_plain_bracket};
 pub use resume::yaml_emitter_stand_t;
 use std::alloc::{AllocError, Global};
 use yaml_emit_layout::Expected;
@@ -451,7 +452,7 @@ impl Core {
         ensures { (style : yaml_scalar_style_t) → (empty : Bool) → LaysOut self.old self.new
             (scalar (plain_text value.now style)) empty }
     {
-        if !self.put_framed_text(value) {
+        if !self.place_text(value) {
             self.lay_any_text(value);
         }
     }

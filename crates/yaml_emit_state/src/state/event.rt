@@ -13,41 +13,19 @@ ghost use Rattle.yaml_emit_layout.specs.Nodes.{alias_layout, scalar_layout};
 ghost use Rattle.yaml_emit_layout.specs.State.{text_at, is_simple_event, before_node, position_of, start_text};
 ghost use Rattle.yaml_scan_model.specs.declared.yaml_scalar_style_t.{yaml_scalar_style_t};
 ghost use Rattle.yaml_emit_state.specs.Framed.{sign_of, framed_text, tagged_text, bracket_text, plain_front};
-ghost use Rattle.yaml_emit_state.specs.Given.{lent_context, lent_scalar, lent_start, plain_text, plain_opening, name_of, IsNamed};
+ghost use Rattle.yaml_emit_state.specs.Given.{lent_context, lent_scalar, lent_start, plain_text, plain_start, default_tag, opening_bracket, name_of, IsNamed};
 
-use crate::before::{begins_line, line_start_of, put_before, put_closer_at};
+use crate::before::{begins_line, line_start_of, put_closer_at};
 use crate::documents::{put_end, put_start_at, put_stop_at};
 use crate::given::{Context, EventPosition, Opening, Scalar, Start};
-use crate::indent::position_of;
 use crate::keys::{is_flow_mapping, is_flow_sequence};
-use crate::nodes::{
-    are_none, put_alias_at, put_collection, put_plain_mapping, put_plain_sequence, put_scalar,
-    put_text,
-};
+use crate::nodes::{are_none, put_alias_node, put_scalar_node, put_start_node};
 use yaml_emit_layout::Level;
 use yaml_emit_tags::DirectiveTable;
 use yaml_emit_text::{Settings, Sink, is_lined};
 use yaml_parse_model::yaml_event_body_t;
 
-// An alias in the innermost collection, with what comes before it.
-// Inlined: where the form is known it is short.
-#[inline(always)]
-pub(super) fn put_alias_node(
-    sink: &mut Sink,
-    settings: &Settings,
-    top: &Option<Level>,
-    simple: bool,
-    name: &[u8],
-)
-    requires { IsAscii name.now }
-    ensures { Puts sink.old sink.new (before_node settings.now top.now simple
-        ▹ alias_layout (position_of top.now simple) name.now) }
-{
-    put_before(sink, settings, top, simple);
-    put_alias_at(sink, position_of(*top, simple), name);
-}
-
-// The same in either form.
+// An alias in the innermost collection, with what comes before it, in either form.
 // Out of line: the way beside the short ones.
 #[inline(never)]
 fn put_any_alias(
@@ -64,58 +42,14 @@ fn put_any_alias(
     put_alias_node(sink, settings, top, simple, name);
 }
 
-// A scalar in the innermost collection, with what comes before it.
-// Inlined: where the form is known it is shorter.
-#[inline(always)]
-pub(super) fn put_scalar_node(
-    sink: &mut Sink,
-    context: &Context,
-    top: &Option<Level>,
-    simple: bool,
-    scalar: &Scalar,
-)
-    requires utf8 { IsUtf8 scalar.now.value.now }
-    requires named { IsNamed (text_of scalar.now.anchor.now) }
-    requires tame { scalar.now.tame ≡ true → IsTame scalar.now.value.now }
-    ensures { Puts sink.old sink.new (before_node context.now.settings.now top.now simple
-        ▹ scalar_layout (lent_context context.now) (position_of top.now simple)
-        (lent_scalar scalar.now)) }
-{
-    put_before(sink, context.settings, top, simple);
-    put_scalar(sink, context, position_of(*top, simple), scalar);
-}
-
 fn sign_of(quoted: bool) -> Option<u8>
     ensures { result ≡ sign_of quoted }
 {
     if quoted { None } else { Some(b'!') }
 }
 
-// A scalar without properties in a collection in canonical form, with what comes before it, where it stands in its line; else
-// nothing.
-// Inlined: most events are scalars.
-#[inline(always)]
-fn put_framed_in(
-    sink: &mut Sink,
-    settings: &Settings,
-    level: Level,
-    quoted: bool,
-    value: &[u8],
-) -> bool
-    ensures put { result ≡ true → Puts sink.old sink.new
-        (framed_text settings.now (Some level) quoted value.now) }
-    ensures same { result ≡ false → sink.new ≡ sink.old }
-{
-    if begins_line(settings, level) && is_lined(settings.width, level.indent, value) {
-        let start = line_start_of(settings, level, sign_of(quoted));
-        sink.put_lined(&start, b"\"", value, b"\"");
-        true
-    } else {
-        false
-    }
-}
-
-// The same in the innermost one.
+// A scalar without properties in the innermost collection in canonical form, with what comes before it, where it stands in its
+// line; else nothing.
 // Inlined: most events are scalars.
 #[inline(always)]
 pub(super) fn put_framed(
@@ -131,43 +65,20 @@ pub(super) fn put_framed(
 {
     match top {
         None => false,
-        Some(level) => put_framed_in(sink, settings, *level, quoted, value),
+        Some(level) => {
+            if begins_line(settings, *level) && is_lined(settings.width, level.indent, value) {
+                let start = line_start_of(settings, *level, sign_of(quoted));
+                sink.put_lined(&start, b"\"", value, b"\"");
+                true
+            } else {
+                false
+            }
+        }
     }
 }
 
-// A text with the default tag and without an anchor in the innermost collection, with what comes before it, in canonical form.
-// Inlined into its one caller.
-#[inline(always)]
-pub(super) fn put_text_node(sink: &mut Sink, context: &Context, top: &Option<Level>, value: &[u8])
-    requires utf8 { IsUtf8 value.now }
-    requires form { context.now.settings.now.canonical ≡ true }
-    ensures { (style : yaml_scalar_style_t) → Puts sink.old sink.new
-        (before_node context.now.settings.now top.now false
-        ▹ scalar_layout (lent_context context.now) (position_of top.now false)
-        (plain_text value.now style)) }
-{
-    put_before(sink, context.settings, top, false);
-    put_text(sink, context, position_of(*top, false), value);
-}
-
-// The same where there is no directive, in a collection, where it stands in its line; else nothing.
-// Inlined into its one caller.
-#[inline(always)]
-fn put_framed_text_in(sink: &mut Sink, settings: &Settings, level: Level, value: &[u8]) -> bool
-    ensures put { result ≡ true → Puts sink.old sink.new
-        (tagged_text settings.now (Some level) value.now) }
-    ensures same { result ≡ false → sink.new ≡ sink.old }
-{
-    if begins_line(settings, level) && is_lined(settings.width, level.indent, value) {
-        let start = line_start_of(settings, level, None);
-        sink.put_lined(&start, b"!!str \"", value, b"\"");
-        true
-    } else {
-        false
-    }
-}
-
-// The same in the innermost one.
+// A text with the default tag and without an anchor in the innermost collection, with what comes before it, in canonical form, where
+// there is no directive and it stands in its line; else nothing.
 // Inlined into its one caller.
 #[inline(always)]
 pub(super) fn put_framed_text(
@@ -182,7 +93,15 @@ pub(super) fn put_framed_text(
 {
     match top {
         None => false,
-        Some(level) => put_framed_text_in(sink, settings, *level, value),
+        Some(level) => {
+            if begins_line(settings, *level) && is_lined(settings.width, level.indent, value) {
+                let start = line_start_of(settings, *level, None);
+                sink.put_lined(&start, b"!!str \"", value, b"\"");
+                true
+            } else {
+                false
+            }
+        }
     }
 }
 
@@ -206,38 +125,8 @@ fn put_any_node(
     put_scalar_node(sink, context, top, simple, scalar);
 }
 
-// The bracket that opens a sequence or a mapping.
-// Inlined: which it is is known.
-#[inline(always)]
-pub(super) fn opening_bracket(sequence: bool) -> u8
-    ensures { result ≡ (if sequence then ascii.open_bracket else ascii.open_brace) }
-{
-    if sequence { b'[' } else { b'{' }
-}
-
-// What opens a collection in one in canonical form, by its characters, with what comes before it, where it begins a line; else
-// nothing.
-// Inlined: some stores.
-#[inline(always)]
-fn put_bracket_in(sink: &mut Sink, settings: &Settings, level: Level, front: &[u8]) -> bool
-    requires few { length front.now ≤ 8 }
-    requires some { 0 < length front.now }
-    requires ascii { IsAscii front.now }
-    ensures put { result ≡ true → Puts sink.old sink.new
-        (bracket_text settings.now (Some level) front.now) }
-    ensures same { result ≡ false → sink.new ≡ sink.old }
-{
-    if begins_line(settings, level) {
-        let start = line_start_of(settings, level, None);
-        sink.put_led(&start, front);
-        sink.set_after_block();
-        true
-    } else {
-        false
-    }
-}
-
-// The same in the innermost one.
+// What opens a collection in the innermost one in canonical form, by its characters, with what comes before it, where it begins a
+// line; else nothing.
 // Inlined: some stores.
 #[inline(always)]
 pub(super) fn put_bracket(
@@ -255,31 +144,21 @@ pub(super) fn put_bracket(
 {
     match top {
         None => false,
-        Some(level) => put_bracket_in(sink, settings, *level, front),
+        Some(level) => {
+            if begins_line(settings, *level) {
+                let start = line_start_of(settings, *level, None);
+                sink.put_led(&start, front);
+                sink.set_after_block();
+                true
+            } else {
+                false
+            }
+        }
     }
 }
 
-// What opens a collection with the default tag and without an anchor in the innermost one, by the tag's own characters, the same.
-// Inlined: some stores.
-#[inline(always)]
-fn put_tagged_bracket(
-    sink: &mut Sink,
-    settings: &Settings,
-    top: &Option<Level>,
-    sequence: bool,
-) -> bool
-    ensures put { result ≡ true → Puts sink.old sink.new
-        (bracket_text settings.now top.now (plain_front sequence)) }
-    ensures same { result ≡ false → sink.new ≡ sink.old }
-{
-    if sequence {
-        put_bracket(sink, settings, top, b"!!seq [")
-    } else {
-        put_bracket(sink, settings, top, b"!!map {")
-    }
-}
-
-// The same, where there is no directive; else nothing.
+// What opens a collection with the default tag and without an anchor in the innermost one, by the tag's own characters, where there
+// is no directive, the same; else nothing.
 // Inlined: some stores.
 #[inline(always)]
 pub(super) fn put_plain_bracket(
@@ -294,53 +173,12 @@ pub(super) fn put_plain_bracket(
         (bracket_text settings.now top.now (plain_front sequence)) }
     ensures same { result ≡ false → sink.new ≡ sink.old }
 {
-    if are_none(directives) {
-        put_tagged_bracket(sink, settings, top, sequence)
-    } else {
+    if !are_none(directives) {
         false
-    }
-}
-
-// What opens a collection in the innermost one, with what comes before it.
-// Inlined: where the form is known it is short.
-#[inline(always)]
-pub(super) fn put_start_node(
-    sink: &mut Sink,
-    context: &Context,
-    top: &Option<Level>,
-    simple: bool,
-    c: char,
-    start: &Start,
-)
-    requires { IsNamed (text_of start.now.anchor.now) }
-    ensures { Puts sink.old sink.new (before_node context.now.settings.now top.now simple
-        ▹ start_text (lent_context context.now) (position_of top.now simple) c
-        (lent_start start.now)
-        start.now.empty) }
-{
-    put_before(sink, context.settings, top, simple);
-    put_collection(sink, context, position_of(*top, simple), c, start);
-}
-
-// What opens a collection with the default tag and without an anchor in the innermost one, with what comes before it, in canonical
-// form.
-// Inlined into its one caller.
-#[inline(always)]
-pub(super) fn put_plain_node(
-    sink: &mut Sink,
-    context: &Context,
-    top: &Option<Level>,
-    sequence: bool,
-)
-    requires { context.now.settings.now.canonical ≡ true }
-    ensures { (place : Expected) (flow empty : Bool) → Puts sink.old sink.new
-        (text_at (lent_context context.now) place top.now (plain_opening sequence flow) empty) }
-{
-    put_before(sink, context.settings, top, false);
-    if sequence {
-        put_plain_sequence(sink, context);
+    } else if sequence {
+        put_bracket(sink, settings, top, b"!!seq [")
     } else {
-        put_plain_mapping(sink, context);
+        put_bracket(sink, settings, top, b"!!map {")
     }
 }
 

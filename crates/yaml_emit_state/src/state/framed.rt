@@ -1,12 +1,12 @@
 //! Laying out a scalar in canonical form: at once, where it stands in its line and has no properties, or the default tag alone.
-ghost use Rattle.std.specs.Prelude.{◌≡◌, [], Bool, true, false, IsUtf8};
+ghost use Rattle.std.specs.Prelude.{◌≡◌, Bool, true, false, IsUtf8};
 ghost use Rattle.yaml_parse_model.specs.Constructors.{HasUtf8};
 
 use super::Core;
-use super::event::{put_framed, put_framed_text, put_text_node};
+use super::event::{put_framed, put_framed_text};
 use crate::bare::is_free;
 use crate::given::Context;
-use crate::nodes::are_none;
+use crate::nodes::{are_none, put_text_node};
 use yaml_parse_model::yaml_event_body_t;
 
 impl Core {
@@ -91,36 +91,18 @@ impl Core {
     // A text with the default tag and without an anchor, where there is no directive and it stands in its line; else nothing.
     // Inlined into its one caller.
     #[inline(always)]
-    fn place_text(&mut self, value: &[u8]) -> bool
+    pub(super) fn place_text(&mut self, value: &[u8]) -> bool
         requires form { self.old.settings.canonical ≡ true }
         requires due { self.old.place ≡ at.Node }
-        requires none { self.old.directives ≡ [] }
         ensures laid { result ≡ true → (style : yaml_scalar_style_t) (empty : Bool)
             → LaysOut self.old self.new (scalar (plain_text value.now style)) empty }
         ensures same { result ≡ false → self.new ≡ self.old }
     {
         let settings = self.settings(true);
         let top = self.levels.innermost();
-        if put_framed_text(&mut self.sink, &settings, top, value) {
+        if are_none(&self.directives) && put_framed_text(&mut self.sink, &settings, top, value) {
             self.step(false);
             true
-        } else {
-            false
-        }
-    }
-
-    // The same, asked for directives.
-    // Inlined into its one caller.
-    #[inline(always)]
-    pub(super) fn put_framed_text(&mut self, value: &[u8]) -> bool
-        requires form { self.old.settings.canonical ≡ true }
-        requires due { self.old.place ≡ at.Node }
-        ensures laid { result ≡ true → (style : yaml_scalar_style_t) (empty : Bool)
-            → LaysOut self.old self.new (scalar (plain_text value.now style)) empty }
-        ensures same { result ≡ false → self.new ≡ self.old }
-    {
-        if are_none(&self.directives) {
-            self.place_text(value)
         } else {
             false
         }

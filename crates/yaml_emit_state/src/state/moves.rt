@@ -113,27 +113,7 @@ impl Core {
         }
     }
 
-    fn push(&mut self, level: Level)
-        ensures state { self.new.sink.status ≡ Status.Going → stack_of self.new.levels ≡ level
-            ∷ stack_of self.old.levels }
-        ensures place { self.new.place ≡ self.old.place }
-        ensures directives { self.new.directives ≡ self.old.directives }
-        ensures settings { self.new.settings ≡ self.old.settings }
-        ensures cursor { self.new.sink.status ≡ Status.Going → self.new.sink.cursor
-            ≡ self.old.sink.cursor }
-        ensures text { Puts self.old.sink self.new.sink stay }
-        ensures memory { Notes true self.old self.new }
-        ensures noted { self.old.sink.status ≡ Status.Going → self.new.sink.status ≢ Status.Going
-            → self.new.starved ≡ true }
-        ensures halts { Halts self.old self.new }
-    {
-        match self.levels.push(level) {
-            Ok(_) => (),
-            Err(refused) => self.starve(refused),
-        }
-    }
-
-    // A collection is opened, unless it would stand too deep: then the output has stopped.
+    // A collection is opened, unless memory is wanting: then the output has stopped.
     fn open(&mut self, simple: bool, phase: Phase, flow: bool, indent: u64)
         ensures state { self.new.sink.status ≡ Status.Going
             → state_of self.new ≡ opened (state_of self.old).directives (state_of self.old).levels
@@ -149,11 +129,15 @@ impl Core {
     {
         self.place = Expected::Node;
         self.levels.step(simple);
-        self.push(Level {
+        let level = Level {
             phase,
             flow,
             indent,
-        });
+        };
+        match self.levels.push(level) {
+            Ok(_) => (),
+            Err(refused) => self.starve(refused),
+        }
     }
 
     // A collection is opened, unless it would stand too deep or memory is wanting.

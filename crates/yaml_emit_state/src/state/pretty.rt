@@ -1,6 +1,6 @@
 //! Laying out one event in pretty form: a way for each kind that is met much, and short ones for scalars that stand as they are in
 //! their line, plain or in double quotes.
-ghost use Rattle.std.specs.Prelude.{◌≡◌, ℕ, Bool, Some, true, false, nat_le};
+ghost use Rattle.std.specs.Prelude.{◌≡◌, ℕ, Bool, Some, true, false, not, nat_le};
 ghost use Rattle.yaml_types.specs.Ascii as ascii;
 ghost use Rattle.yaml_parse_model.specs.Constructors.{HasUtf8};
 ghost use Rattle.yaml_emit_text.specs.Tame.{Stands};
@@ -33,7 +33,7 @@ impl Core {
     ghost use Rattle.yaml_emit_layout.specs.declared.Expected.TheVariants as at;
     ghost use Rattle.yaml_emit_layout.specs.Content.{Scalar as SaidScalar, emitter_event, scalar, sequence_end, mapping_end};
     ghost use Rattle.yaml_emit_layout.specs.State.{top_of};
-    ghost use Rattle.yaml_emit_state.specs.Bare.{IsInline, IsInlineEvent, is_shallow, short_text, short_node, hyphen, first_behind, Places};
+    ghost use Rattle.yaml_emit_state.specs.Bare.{IsInline, IsInlineEvent, is_shallow, short_text, short_node, hyphen, first_behind, entry_phase, Places};
     ghost use Rattle.yaml_emit_state.specs.Stack.{stack_of};
     ghost use Rattle.yaml_emit_state.specs.Steps.{LaysOut};
 
@@ -95,39 +95,27 @@ impl Core {
         }
     }
 
-    // A short scalar that is an item, where it fits the line.
-    // Inlined: mostly it is a few bytes.
-    #[inline(always)]
-    fn place_item(&mut self, level: Level, fresh: bool, quoted: bool, value: &[u8]) -> bool
-        requires stands { Stands quoted value.now }
-        requires form { self.old.settings.canonical ≡ false }
-        requires shallow { is_shallow self.old.settings (Some level) ≡ true }
-        ensures placed { result ≡ true → Places self.old self.new (Phase.Items false)
-            (short_node self.old.settings quoted (Phase.Items fresh) level.flow level.indent false
-            value.now) }
-        ensures same { result ≡ false → self.new ≡ self.old }
-    {
-        if level.flow {
-            self.place_in_flow(fresh, Phase::Items(false), quoted, value)
-        } else {
-            self.place_at_line(level.indent, true, quoted, value)
-        }
-    }
-
     // A short scalar at the start of a line of a block collection, an item or a key, where it fits the line.
     // Inlined: a test in front of some stores.
     #[inline(always)]
-    fn place_at_line(&mut self, indent: u64, item: bool, quoted: bool, value: &[u8]) -> bool
+    fn place_at_line(
+        &mut self,
+        indent: u64,
+        item: bool,
+        behind: Phase,
+        quoted: bool,
+        value: &[u8],
+    ) -> bool
         requires { Stands quoted value.now }
         ensures placed { result ≡ true → (at : NodePosition)
             → nat_le (deeper self.old.settings at.around) MOST ≡ true
-            → Places self.old self.new (first_behind item) (line_at self.old.settings indent
+            → Places self.old self.new behind (line_at self.old.settings indent
             ▹ (hyphen item ▹ short_text self.old.settings quoted at value.now)) }
         ensures same { result ≡ false → self.new ≡ self.old }
     {
         if fits(self.settings.width, indent, 2, quoted, value) {
             let line_break = self.settings.line_break;
-            self.turn_to(first_behind(item));
+            self.turn_to(behind);
             put_in_line(&mut self.sink, line_break, indent, item, quoted, value);
             true
         } else {
@@ -135,22 +123,30 @@ impl Core {
         }
     }
 
-    // A short scalar that is a key, where it fits the line.
+    // A short scalar that is an item or a key, where it fits the line.
     // Inlined: mostly it is a few bytes.
     #[inline(always)]
-    fn place_key(&mut self, level: Level, fresh: bool, quoted: bool, value: &[u8]) -> bool
+    fn place_entry(
+        &mut self,
+        level: Level,
+        item: bool,
+        fresh: bool,
+        quoted: bool,
+        value: &[u8],
+    ) -> bool
         requires stands { Stands quoted value.now }
         requires form { self.old.settings.canonical ≡ false }
         requires shallow { is_shallow self.old.settings (Some level) ≡ true }
-        ensures placed { result ≡ true → Places self.old self.new (Phase.Value true)
-            (short_node self.old.settings quoted (Phase.Keys fresh) level.flow level.indent true
-            value.now) }
+        ensures placed { result ≡ true → Places self.old self.new (first_behind item)
+            (short_node self.old.settings quoted (entry_phase item fresh) level.flow level.indent
+            (not item) value.now) }
         ensures same { result ≡ false → self.new ≡ self.old }
     {
+        let behind = first_behind(item);
         if level.flow {
-            self.place_in_flow(fresh, Phase::Value(true), quoted, value)
+            self.place_in_flow(fresh, behind, quoted, value)
         } else {
-            self.place_at_line(level.indent, false, quoted, value)
+            self.place_at_line(level.indent, item, behind, quoted, value)
         }
     }
 
@@ -206,8 +202,8 @@ impl Core {
         ensures same { result ≡ false → self.new ≡ self.old }
     {
         match level.phase {
-            Phase::Items(fresh) => self.place_item(level, fresh, false, value),
-            Phase::Keys(fresh) => self.place_key(level, fresh, false, value),
+            Phase::Items(fresh) => self.place_entry(level, true, fresh, false, value),
+            Phase::Keys(fresh) => self.place_entry(level, false, fresh, false, value),
             Phase::Value(was_simple) => self.place_value(level, was_simple, false, value),
         }
     }
@@ -266,8 +262,8 @@ impl Core {
         ensures same { result ≡ false → self.new ≡ self.old }
     {
         match level.phase {
-            Phase::Items(fresh) => self.place_item(level, fresh, true, value),
-            Phase::Keys(fresh) => self.place_key(level, fresh, true, value),
+            Phase::Items(fresh) => self.place_entry(level, true, fresh, true, value),
+            Phase::Keys(fresh) => self.place_entry(level, false, fresh, true, value),
             Phase::Value(was_simple) => self.place_value(level, was_simple, true, value),
         }
     }

@@ -3,10 +3,12 @@ ghost use Rattle.std.specs.Prelude.{◌≡◌, Bool, None, true, false};
 ghost use Rattle.yaml_parse_model.specs.Constructors.{HasUtf8};
 
 use super::Core;
-use super::event::{opening_bracket, put_bracket, put_start_node};
+use super::event::put_bracket;
 use crate::bare::has_none;
+use crate::before::opening_bracket;
 use crate::given::{Context, Start};
 use crate::keys::{is_flow_mapping, is_flow_sequence, is_simple_start};
+use crate::nodes::put_start_node;
 use yaml_parse_model::yaml_event_body_t;
 
 impl Core {

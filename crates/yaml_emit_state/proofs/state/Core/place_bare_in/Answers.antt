@@ -3,10 +3,10 @@ use Rattle.yaml_emit_state.proofs.Unmarked.{lays_short, item_behind, key_behind,
 use Rattle.yaml_emit_state.proofs.state.Core.place_bare_in.Goals as goal
 
 pub returns-in-Items-clause-laid : goal.returns-in-Items-clause-laid
-returns-in-Items-clause-laid c = λ h x empty b same. lays_short false c.args.self.now _ c.args.level _ _ false c.args.value.now x empty c.requires.form c.requires.due c.requires.top c.in-Items.is refl (item_behind _) (c.place_item.ensures.placed h) b same
+returns-in-Items-clause-laid c = λ h x empty b same. lays_short false c.args.self.now _ c.args.level _ _ false c.args.value.now x empty c.requires.form c.requires.due c.requires.top c.in-Items.is refl (item_behind _) (c.place_entry.ensures.placed h) b same
 
 pub returns-in-Keys-clause-laid : goal.returns-in-Keys-clause-laid
-returns-in-Keys-clause-laid c = λ h x empty b same. lays_short false c.args.self.now _ c.args.level _ _ true c.args.value.now x empty c.requires.form c.requires.due c.requires.top c.in-Keys.is refl (key_behind _) (c.place_key.ensures.placed h) b same
+returns-in-Keys-clause-laid c = λ h x empty b same. lays_short false c.args.self.now _ c.args.level _ _ true c.args.value.now x empty c.requires.form c.requires.due c.requires.top c.in-Keys.is refl (key_behind _) (c.place_entry-in-Keys.ensures.placed h) b same
 
 pub returns-in-Value-clause-laid : goal.returns-in-Value-clause-laid
 returns-in-Value-clause-laid c = λ h x empty b same. lays_short false c.args.self.now _ c.args.level _ _ false c.args.value.now x empty c.requires.form c.requires.due c.requires.top c.in-Value.is refl (value_behind _) (c.place_value.ensures.placed h) b same

@@ -1,4 +1,9 @@
+use Rattle.yaml_emit_text.proofs.Sinks.{puts_both}
+use Rattle.yaml_emit_state.proofs.Framed.{puts_bracket}
 use Rattle.yaml_emit_state.proofs.state.event.put_bracket.Goals as goal
 
-pub returns-in-Some-clause-put : goal.returns-in-Some-clause-put
-returns-in-Some-clause-put c = λ h. rw c.in-Some.is (c.put_bracket_in.ensures.put h)
+pub returns-then-begins_line-clause-put : goal.returns-then-begins_line-clause-put
+returns-then-begins_line-clause-put c = λ h.
+    let begins = c.begins_line.ensures c.if-begins_line.true in
+    rw c.in-Some.is (puts_bracket c.args.settings.now _ c.args.front.now _ _ begins c.requires.some
+    (puts_both _ _ _ _ _ (rw c.line_start_of-start.ensures at c.put_led.ensures) c.set_after_block.ensures))

@@ -1,4 +1,14 @@
+use Rattle.yaml_emit_text.proofs.LineStarts.{lined_ascii}
+use Rattle.yaml_emit_state.proofs.Framed.{puts_framed, signs_ascii}
 use Rattle.yaml_emit_state.proofs.state.event.put_framed.Goals as goal
 
-pub returns-in-Some-clause-put : goal.returns-in-Some-clause-put
-returns-in-Some-clause-put c = λ h. rw c.in-Some.is (c.put_framed_in.ensures.put h)
+pub put_lined-requires-clause-signs : goal.put_lined-requires-clause-signs
+put_lined-requires-clause-signs c = rw (c.line_start_of-start.ensures, c.sign_of.ensures) (signs_ascii _ c.args.quoted)
+
+pub put_lined-requires-clause-ascii : goal.put_lined-requires-clause-ascii
+put_lined-requires-clause-ascii c = lined_ascii _ _ _ (c.is_lined.ensures c.if-is_lined.true)
+
+pub returns-then-is_lined-clause-put : goal.returns-then-is_lined-clause-put
+returns-then-is_lined-clause-put c = λ h.
+    let begins = c.begins_line.ensures c.if-begins_line.true in
+    rw c.in-Some.is (puts_framed c.args.settings.now _ c.args.quoted c.args.value.now _ _ begins (c.is_lined.ensures c.if-is_lined.true) (rw (c.line_start_of-start.ensures, c.sign_of.ensures) at c.put_lined.ensures))

@@ -1,4 +1,15 @@
+use Rattle.std.proofs.Common.{true}
+use Rattle.yaml_emit_text.proofs.LineStarts.{tagged_ascii}
+use Rattle.yaml_emit_state.proofs.Framed.{puts_tagged, signs_ascii}
 use Rattle.yaml_emit_state.proofs.state.event.put_framed_text.Goals as goal
 
-pub returns-in-Some-clause-put : goal.returns-in-Some-clause-put
-returns-in-Some-clause-put c = λ h. rw c.in-Some.is (c.put_framed_text_in.ensures.put h)
+pub put_lined-requires-clause-signs : goal.put_lined-requires-clause-signs
+put_lined-requires-clause-signs c = rw c.line_start_of-start.ensures (signs_ascii _ true)
+
+pub put_lined-requires-clause-ascii : goal.put_lined-requires-clause-ascii
+put_lined-requires-clause-ascii c = tagged_ascii _ _ _ (c.is_lined.ensures c.if-is_lined.true)
+
+pub returns-then-is_lined-clause-put : goal.returns-then-is_lined-clause-put
+returns-then-is_lined-clause-put c = λ h.
+    let begins = c.begins_line.ensures c.if-begins_line.true in
+    rw c.in-Some.is (puts_tagged c.args.settings.now _ c.args.value.now _ _ begins (c.is_lined.ensures c.if-is_lined.true) (rw c.line_start_of-start.ensures at c.put_lined.ensures))

@@ -1,4 +1,4 @@
-use Rattle.yaml_emit_state.proofs.state.event.put_tagged_bracket.Goals as goal
+use Rattle.yaml_emit_state.proofs.state.event.put_plain_bracket.Goals as goal
 
 pub returns-then-sequence-clause-put : goal.returns-then-sequence-clause-put
 returns-then-sequence-clause-put c = λ h. rw c.if-sequence.true (c.put_bracket.ensures.put h)

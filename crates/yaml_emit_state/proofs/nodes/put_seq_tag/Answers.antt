@@ -1,5 +1,0 @@
-use Rattle.yaml_emit_state.proofs.Plain.{seq_spelled}
-use Rattle.yaml_emit_state.proofs.nodes.put_seq_tag.Goals as goal
-
-pub put_default_tag-requires-clause-spelled : goal.put_default_tag-requires-clause-spelled
-put_default_tag-requires-clause-spelled c = seq_spelled

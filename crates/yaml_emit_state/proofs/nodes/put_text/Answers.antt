@@ -1,7 +1,0 @@
-use Rattle.yaml_emit_text.specs.Scalars.{scalar_text}
-use Rattle.yaml_emit_state.proofs.Plain.{puts_text}
-use Rattle.yaml_emit_state.proofs.nodes.put_text.Goals as goal
-
-pub returns : goal.returns
-unfolding scalar_text
-returns c = λ style. puts_text _ _ _ _ style _ _ _ c.requires.canonical c.put_tag.ensures c.put_lines.ensures

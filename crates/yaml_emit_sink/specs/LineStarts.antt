@@ -29,8 +29,10 @@ signs t = marks t.mark ++ marks t.sign
 
 -- its bytes, where the break is a line feed that comes
 abbrev pub line_start_bytes : LineStart → List ℕ
-line_start_bytes t = commas t.comma ++ ((ascii.line_feed ∷ replicate t.indent ascii.space) ++ signs t)
+line_start_bytes t = commas t.comma
+    ++ ((ascii.line_feed ∷ replicate t.indent ascii.space) ++ signs t)
 
 -- a comma in the line before it, the break and the indentation, and the signs
 abbrev pub line_start_text : LineStart → Layout
-line_start_text t = when t.comma (char ascii.comma) ▹ (line t.line_break t.indent ▹ letters (signs t))
+line_start_text t = when t.comma (char ascii.comma)
+    ▹ (line t.line_break t.indent ▹ letters (signs t))

@@ -179,7 +179,7 @@ fn put_mark(output: &mut Vec<u8>, mark: Option<u8>)
 // What a line begins with, where it is a line feed and at most eighty spaces, and there is room for eighty and for all else.
 // Inlined: some stores.
 #[inline(always)]
-fn put_start(output: &mut Vec<u8>, start: &LineStart)
+fn put_line_start(output: &mut Vec<u8>, start: &LineStart)
     requires inside { vec_len output.old + 86 ≤ vec_capacity output.old }
     requires few { start.now.indent ≤ 80 }
     ensures items { output.new.items ≡ output.old.items ++ line_start_bytes start.now }
@@ -211,7 +211,7 @@ pub fn put_line_between(
     ensures room { vec_capacity output.old ≤ vec_capacity output.new }
 {
     let mut own = moved(output);
-    put_start(&mut own, start);
+    put_line_start(&mut own, start);
     put_each(&mut own, front);
     put_short(&mut own, text);
     put_each(&mut own, end);
@@ -224,11 +224,12 @@ pub fn put_line_between(
 pub fn put_line_with(output: &mut Vec<u8>, start: &LineStart, front: &[u8])
     requires inside { vec_len output.old + (86 + length front.now) ≤ vec_capacity output.old }
     requires few { start.now.indent ≤ 80 }
-    ensures items { output.new.items ≡ output.old.items ++ (line_start_bytes start.now ++ front.now) }
+    ensures items { output.new.items ≡ output.old.items
+        ++ (line_start_bytes start.now ++ front.now) }
     ensures room { vec_capacity output.old ≤ vec_capacity output.new }
 {
     let mut own = moved(output);
-    put_start(&mut own, start);
+    put_line_start(&mut own, start);
     put_each(&mut own, front);
     put_back(output, own);
 }

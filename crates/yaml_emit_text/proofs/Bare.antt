@@ -97,10 +97,7 @@ taken_by : (a : Allowed) (s : yaml_scalar_style_t) (untagged flow simple empty :
 unfolding taken
 taken_by a asked.YAML_ANY_SCALAR_STYLE untagged flow simple empty h k u e = plain_of a untagged flow simple empty h u e
 taken_by a asked.YAML_PLAIN_SCALAR_STYLE untagged flow simple empty h k u e = plain_of a untagged flow simple empty h u e
-taken_by a asked.YAML_SINGLE_QUOTED_SCALAR_STYLE untagged flow simple empty h k u e = absurd (cc)
-taken_by a asked.YAML_DOUBLE_QUOTED_SCALAR_STYLE untagged flow simple empty h k u e = absurd (cc)
-taken_by a asked.YAML_LITERAL_SCALAR_STYLE untagged flow simple empty h k u e = absurd (cc)
-taken_by a asked.YAML_FOLDED_SCALAR_STYLE untagged flow simple empty h k u e = absurd (cc)
+taken_by a _ untagged flow simple empty h k u e = absurd (cc)
 
 -- a tame text is plain, where that is asked for
 pub tame_taken : (unicode : Bool) (v : List ℕ) (s : yaml_scalar_style_t)

@@ -8,7 +8,6 @@ mod Looks
 mod Rows
 mod RunLemmas
 mod RunWalks
-mod SolidLemmas
 pub mod Ranks
 mod Tame
 mod Even

@@ -1,7 +1,6 @@
 -- What stands behind what a line begins with.
-use Rattle.std.proofs.Common.{◌≡◌, inl, inr, ℕ, ◌+◌, ◌≤◌, length, List, [], ◌∷◌, ◌++◌, Bool, true, false, refl, sym, ◌∙◌, ap, arith}
+use Rattle.std.proofs.Common.{◌≡◌, inl, inr, ℕ, ◌+◌, ◌≤◌, length-append, List, [], ◌∷◌, ◌++◌, Bool, true, false, refl, sym, ◌∙◌, ap, arith}
 use Rattle.std.specs.Prelude.{Option, Some, None}
-use Rattle.std.specs.List.{list_all}
 use Rattle.std.specs.Str.{chars, IsAscii}
 use Rattle.std.proofs.lemmas.Str.Ascii.{IsAscii-cons}
 use Rattle.yaml_emit_sink.specs.declared.Cursor.{Cursor}
@@ -16,10 +15,8 @@ use Rattle.yaml_emit_sink.proofs.Lines.{line_lands}
 use Rattle.yaml_emit_sink.proofs.Sinks.{puts_as, cond_true, cond_false}
 use Rattle.yaml_emit_text.specs.declared.page.Page.{Page}
 use Rattle.yaml_emit_text.specs.Quoted.{double_quoted}
-use Rattle.yaml_emit_text.specs.Runs.{is_even}
-use Rattle.yaml_emit_text.specs.Tame.{standing, IsLined}
-use Rattle.yaml_emit_text.proofs.Even.{framed_at, framed_behind, even_ascii}
-use Rattle.yaml_emit_text.proofs.SolidLemmas.{solid_word, quoted_ascii}
+use Rattle.yaml_emit_text.specs.Tame.{IsLined}
+use Rattle.yaml_emit_text.proofs.Even.{even_word, solid_word, even_ascii, solid_ascii}
 
 -- a layout that is a word, and something behind it, up to a column
 pub Worded : ℕ → Layout → List ℕ → Layout → Type 0
@@ -58,16 +55,12 @@ puts_signed t x y ys z a b h p =
     puts_as a b ((line_start_text t ▹ letters (y ∷ ys)) ▹ z) (when t.comma (char 44) ▹ (line t.line_break t.indent ▹ (mark_word t.mark ▹ (mark_word t.sign ▹ x))))
     (λ rest. signed_by t.comma t.line_break t.indent t.mark t.sign x y ys z a.cursor rest h) p
 
-even_by : (white : Bool) (page : Page) (v : List ℕ) (c : Cursor) (rest : Rest) → c.white ≡ white
-    → list_all is_even v ≡ true → c.column + 1 + length (standing true v) ≤ page.width
-    → double_quoted page (chars v) c rest ≡ word (34 ∷ (v ++ 34 ∷ [])) c rest
-even_by true page v c rest w h f = framed_at page v c rest h w (omega (arith, f)) ∙ sym (cond_true c.white _ _ w)
-even_by false page v c rest w h f = framed_behind page v c rest h w f ∙ sym (parted (34 ∷ (v ++ 34 ∷ [])) c rest (omega arith) w)
-
 quoted_by : (n : ℕ) (page : Page) (v : List ℕ) (c : Cursor) (rest : Rest) → IsLined n page.width v
     → c.column ≤ n + 14 → double_quoted page (chars v) c rest ≡ word (34 ∷ (v ++ 34 ∷ [])) c rest
 quoted_by n page v c rest (inl h) l = solid_word page v c rest h
-quoted_by n page v c rest (inr h) l = even_by c.white page v c rest refl h.0 (omega (arith, l, h.1))
+quoted_by n page v c rest (inr h) l =
+    let more = length-append v (34 ∷ []) in
+    even_word page v c rest h.0 (omega (arith, l, h.1, more))
 
 -- a text in quotes is a word
 pub quoted_worded : (n : ℕ) (page : Page) (v : List ℕ) → IsLined n page.width v
@@ -110,7 +103,7 @@ tagged_worded n page v h = λ c rest l. tagged_by c.white n page v c rest refl h
 
 -- between its quotes it is in ASCII
 pub lined_ascii : (n width : ℕ) (v : List ℕ) → IsLined n width v → IsAscii (34 ∷ (v ++ 34 ∷ []))
-lined_ascii n width v (inl h) = quoted_ascii v h
+lined_ascii n width v (inl h) = solid_ascii v h
 lined_ascii n width v (inr h) = even_ascii v h.0
 
 -- the letters of `!!str` and a space are in ASCII

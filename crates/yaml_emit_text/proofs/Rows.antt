@@ -26,128 +26,53 @@ simple_key = record { width = 10; indentation = 2; unicode = true; cuts = false;
 abbrev dos : Page
 dos = record { width = 10; indentation = 2; unicode = true; cuts = true; line_break = CrLf }
 
-double_folds : text_of (double_quoted narrow (codes "aaaa bbbb cccc dddd"))
-    ≡ codes "\"aaaa bbbb cccc\n  dddd\""
-unfolding letters blanks line shown encode char_bytes is_deep needs_escape escape_letter hex_digit escape_text quoted_char quoted_body somewhere last_or allowed taken flow_char flow_body behind_breaks block_char block_body chomp scalar_text
-double_folds = refl
+record Rows : Type 0 where
+  double_folds : text_of (double_quoted narrow (codes "aaaa bbbb cccc dddd"))
+      ≡ codes "\"aaaa bbbb cccc\n  dddd\""
+  double_folds_before_space : text_of (double_quoted narrow (codes "aaaa bbbb cccc  dddd"))
+      ≡ codes "\"aaaa bbbb cccc\n  \\ dddd\""
+  double_key : text_of (double_quoted simple_key (codes "aaaa bbbb cccc dddd"))
+      ≡ codes "\"aaaa bbbb cccc dddd\""
+  double_escapes : text_of (double_quoted ascii (0 ∷ 0x2028 ∷ 0x10FFFF ∷ []))
+      ≡ codes "\"\\0\\L\\U0010FFFF\""
+  double_special : text_of (double_quoted narrow (0xFFFE ∷ [])) ≡ codes "\"\\uFFFE\""
+  double_ascii : text_of (double_quoted ascii (0xE9 ∷ [])) ≡ codes "\"\\xE9\""
+  literal_kept : text_of (block narrow 2 false (codes "a\n\n")) ≡ codes "|+\n  a\n\n"
+  literal_digit : text_of (block narrow 2 false (codes " a")) ≡ codes "|2-\n   a"
+  literal_break : text_of (block narrow 2 false (codes "\n")) ≡ codes "|2+\n\n"
+  literal_breaks : text_of (block dos 2 false (codes "a\nb\n")) ≡ codes "|\r\n  a\r\n  b\r\n"
+  folded_blank_line : text_of (block narrow 2 true (codes "a\n bbbb cccc dddd eeee\n"))
+      ≡ codes ">\n  a\n   bbbb cccc dddd eeee\n"
+  folded_lines : text_of (block narrow 2 true (codes "aaaa bbbb cccc dddd\nee\n\nff"))
+      ≡ codes ">-\n  aaaa bbbb\n  cccc dddd\n\n  ee\n\n\n  ff"
+  single_lines : text_of (single_quoted narrow (codes "it's aaaa bbbb cccc\ndd"))
+      ≡ codes "'it''s aaaa\n  bbbb cccc\n\n  dd'"
+  plain_at_width : text_of (plain narrow false (codes "aaaaaaaaaa bbbb cc"))
+      ≡ codes "aaaaaaaaaa bbbb\n  cc"
+  plain_past_width : text_of (plain narrow false (codes "aaaaaaaaaaa bbbb cc"))
+      ≡ codes "aaaaaaaaaaa\n  bbbb cc"
+  plain_empty : text_of (word (codes "k:") ▹ plain narrow false []) ≡ codes "k:"
+  plain_empty_in_flow : text_of (word (codes "k:") ▹ plain narrow true []) ≡ codes "k: "
+  pair_of_surrogates : encode Utf16Le (letter 0x1F600 ∷ []) ≡ 0x3D ∷ 0xD8 ∷ 0x00 ∷ 0xDE ∷ []
+  pair_of_surrogates_high_first : encode Utf16Be (letter 0x1F600 ∷ []) ≡ 0xD8 ∷ 0x3D ∷ 0xDE ∷ 0x00
+      ∷ []
+  mark_first : encode Utf16Le (written (order_mark Utf16Le ▹ char 45)) ≡ 0xFF ∷ 0xFE ∷ 0x2D ∷ 0x00
+      ∷ []
+  dash_in_flow : taken (allowed true (codes "-")) asked.YAML_ANY_SCALAR_STYLE true true false false
+      ≡ style.Single
+  number_in_flow : taken (allowed true (codes "-1")) asked.YAML_ANY_SCALAR_STYLE true true false false
+      ≡ style.Plain
+  exponent_in_flow : taken (allowed true (codes "1e+5")) asked.YAML_PLAIN_SCALAR_STYLE true true false
+      false ≡ style.Plain
+  not_ascii : taken (allowed false (0xE9 ∷ [])) asked.YAML_PLAIN_SCALAR_STYLE true false false false
+      ≡ style.Double
+  colon_at_end : taken (allowed true (codes "a:")) asked.YAML_PLAIN_SCALAR_STYLE true false false
+      false ≡ style.Single
+  space_before_break : taken (allowed true (codes "a \nb")) asked.YAML_LITERAL_SCALAR_STYLE true false
+      false false ≡ style.Double
+  literal_in_flow : taken (allowed true (codes "a\nb")) asked.YAML_LITERAL_SCALAR_STYLE true true
+      false false ≡ style.Double
 
-double_folds_before_space : text_of (double_quoted narrow (codes "aaaa bbbb cccc  dddd"))
-    ≡ codes "\"aaaa bbbb cccc\n  \\ dddd\""
+rows : Rows
 unfolding letters blanks line shown encode char_bytes is_deep needs_escape escape_letter hex_digit escape_text quoted_char quoted_body somewhere last_or allowed taken flow_char flow_body behind_breaks block_char block_body chomp scalar_text
-double_folds_before_space = refl
-
-double_key : text_of (double_quoted simple_key (codes "aaaa bbbb cccc dddd"))
-    ≡ codes "\"aaaa bbbb cccc dddd\""
-unfolding letters blanks line shown encode char_bytes is_deep needs_escape escape_letter hex_digit escape_text quoted_char quoted_body somewhere last_or allowed taken flow_char flow_body behind_breaks block_char block_body chomp scalar_text
-double_key = refl
-
-double_escapes : text_of (double_quoted ascii (0 ∷ 0x2028 ∷ 0x10FFFF ∷ []))
-    ≡ codes "\"\\0\\L\\U0010FFFF\""
-unfolding letters blanks line shown encode char_bytes is_deep needs_escape escape_letter hex_digit escape_text quoted_char quoted_body somewhere last_or allowed taken flow_char flow_body behind_breaks block_char block_body chomp scalar_text
-double_escapes = refl
-
-double_special : text_of (double_quoted narrow (0xFFFE ∷ [])) ≡ codes "\"\\uFFFE\""
-unfolding letters blanks line shown encode char_bytes is_deep needs_escape escape_letter hex_digit escape_text quoted_char quoted_body somewhere last_or allowed taken flow_char flow_body behind_breaks block_char block_body chomp scalar_text
-double_special = refl
-
-double_ascii : text_of (double_quoted ascii (0xE9 ∷ [])) ≡ codes "\"\\xE9\""
-unfolding letters blanks line shown encode char_bytes is_deep needs_escape escape_letter hex_digit escape_text quoted_char quoted_body somewhere last_or allowed taken flow_char flow_body behind_breaks block_char block_body chomp scalar_text
-double_ascii = refl
-
-literal_kept : text_of (block narrow 2 false (codes "a\n\n")) ≡ codes "|+\n  a\n\n"
-unfolding letters blanks line shown encode char_bytes is_deep needs_escape escape_letter hex_digit escape_text quoted_char quoted_body somewhere last_or allowed taken flow_char flow_body behind_breaks block_char block_body chomp scalar_text
-literal_kept = refl
-
-literal_digit : text_of (block narrow 2 false (codes " a")) ≡ codes "|2-\n   a"
-unfolding letters blanks line shown encode char_bytes is_deep needs_escape escape_letter hex_digit escape_text quoted_char quoted_body somewhere last_or allowed taken flow_char flow_body behind_breaks block_char block_body chomp scalar_text
-literal_digit = refl
-
-literal_break : text_of (block narrow 2 false (codes "\n")) ≡ codes "|2+\n\n"
-unfolding letters blanks line shown encode char_bytes is_deep needs_escape escape_letter hex_digit escape_text quoted_char quoted_body somewhere last_or allowed taken flow_char flow_body behind_breaks block_char block_body chomp scalar_text
-literal_break = refl
-
-literal_breaks : text_of (block dos 2 false (codes "a\nb\n")) ≡ codes "|\r\n  a\r\n  b\r\n"
-unfolding letters blanks line shown encode char_bytes is_deep needs_escape escape_letter hex_digit escape_text quoted_char quoted_body somewhere last_or allowed taken flow_char flow_body behind_breaks block_char block_body chomp scalar_text
-literal_breaks = refl
-
-folded_blank_line : text_of (block narrow 2 true (codes "a\n bbbb cccc dddd eeee\n"))
-    ≡ codes ">\n  a\n   bbbb cccc dddd eeee\n"
-unfolding letters blanks line shown encode char_bytes is_deep needs_escape escape_letter hex_digit escape_text quoted_char quoted_body somewhere last_or allowed taken flow_char flow_body behind_breaks block_char block_body chomp scalar_text
-folded_blank_line = refl
-
-folded_lines : text_of (block narrow 2 true (codes "aaaa bbbb cccc dddd\nee\n\nff"))
-    ≡ codes ">-\n  aaaa bbbb\n  cccc dddd\n\n  ee\n\n\n  ff"
-unfolding letters blanks line shown encode char_bytes is_deep needs_escape escape_letter hex_digit escape_text quoted_char quoted_body somewhere last_or allowed taken flow_char flow_body behind_breaks block_char block_body chomp scalar_text
-folded_lines = refl
-
-single_lines : text_of (single_quoted narrow (codes "it's aaaa bbbb cccc\ndd"))
-    ≡ codes "'it''s aaaa\n  bbbb cccc\n\n  dd'"
-unfolding letters blanks line shown encode char_bytes is_deep needs_escape escape_letter hex_digit escape_text quoted_char quoted_body somewhere last_or allowed taken flow_char flow_body behind_breaks block_char block_body chomp scalar_text
-single_lines = refl
-
-plain_at_width : text_of (plain narrow false (codes "aaaaaaaaaa bbbb cc"))
-    ≡ codes "aaaaaaaaaa bbbb\n  cc"
-unfolding letters blanks line shown encode char_bytes is_deep needs_escape escape_letter hex_digit escape_text quoted_char quoted_body somewhere last_or allowed taken flow_char flow_body behind_breaks block_char block_body chomp scalar_text
-plain_at_width = refl
-
-plain_past_width : text_of (plain narrow false (codes "aaaaaaaaaaa bbbb cc"))
-    ≡ codes "aaaaaaaaaaa\n  bbbb cc"
-unfolding letters blanks line shown encode char_bytes is_deep needs_escape escape_letter hex_digit escape_text quoted_char quoted_body somewhere last_or allowed taken flow_char flow_body behind_breaks block_char block_body chomp scalar_text
-plain_past_width = refl
-
-plain_empty : text_of (word (codes "k:") ▹ plain narrow false []) ≡ codes "k:"
-unfolding letters blanks line shown encode char_bytes is_deep needs_escape escape_letter hex_digit escape_text quoted_char quoted_body somewhere last_or allowed taken flow_char flow_body behind_breaks block_char block_body chomp scalar_text
-plain_empty = refl
-
-plain_empty_in_flow : text_of (word (codes "k:") ▹ plain narrow true []) ≡ codes "k: "
-unfolding letters blanks line shown encode char_bytes is_deep needs_escape escape_letter hex_digit escape_text quoted_char quoted_body somewhere last_or allowed taken flow_char flow_body behind_breaks block_char block_body chomp scalar_text
-plain_empty_in_flow = refl
-
-pair_of_surrogates : encode Utf16Le (letter 0x1F600 ∷ []) ≡ 0x3D ∷ 0xD8 ∷ 0x00 ∷ 0xDE ∷ []
-unfolding letters blanks line shown encode char_bytes is_deep needs_escape escape_letter hex_digit escape_text quoted_char quoted_body somewhere last_or allowed taken flow_char flow_body behind_breaks block_char block_body chomp scalar_text
-pair_of_surrogates = refl
-
-pair_of_surrogates_high_first : encode Utf16Be (letter 0x1F600 ∷ []) ≡ 0xD8 ∷ 0x3D ∷ 0xDE ∷ 0x00
-    ∷ []
-unfolding letters blanks line shown encode char_bytes is_deep needs_escape escape_letter hex_digit escape_text quoted_char quoted_body somewhere last_or allowed taken flow_char flow_body behind_breaks block_char block_body chomp scalar_text
-pair_of_surrogates_high_first = refl
-
-mark_first : encode Utf16Le (written (order_mark Utf16Le ▹ char 45)) ≡ 0xFF ∷ 0xFE ∷ 0x2D ∷ 0x00
-    ∷ []
-unfolding letters blanks line shown encode char_bytes is_deep needs_escape escape_letter hex_digit escape_text quoted_char quoted_body somewhere last_or allowed taken flow_char flow_body behind_breaks block_char block_body chomp scalar_text
-mark_first = refl
-
-dash_in_flow : taken (allowed true (codes "-")) asked.YAML_ANY_SCALAR_STYLE true true false false
-    ≡ style.Single
-unfolding letters blanks line shown encode char_bytes is_deep needs_escape escape_letter hex_digit escape_text quoted_char quoted_body somewhere last_or allowed taken flow_char flow_body behind_breaks block_char block_body chomp scalar_text
-dash_in_flow = refl
-
-number_in_flow : taken (allowed true (codes "-1")) asked.YAML_ANY_SCALAR_STYLE true true false false
-    ≡ style.Plain
-unfolding letters blanks line shown encode char_bytes is_deep needs_escape escape_letter hex_digit escape_text quoted_char quoted_body somewhere last_or allowed taken flow_char flow_body behind_breaks block_char block_body chomp scalar_text
-number_in_flow = refl
-
-exponent_in_flow : taken (allowed true (codes "1e+5")) asked.YAML_PLAIN_SCALAR_STYLE true true false
-    false ≡ style.Plain
-unfolding letters blanks line shown encode char_bytes is_deep needs_escape escape_letter hex_digit escape_text quoted_char quoted_body somewhere last_or allowed taken flow_char flow_body behind_breaks block_char block_body chomp scalar_text
-exponent_in_flow = refl
-
-not_ascii : taken (allowed false (0xE9 ∷ [])) asked.YAML_PLAIN_SCALAR_STYLE true false false false
-    ≡ style.Double
-unfolding letters blanks line shown encode char_bytes is_deep needs_escape escape_letter hex_digit escape_text quoted_char quoted_body somewhere last_or allowed taken flow_char flow_body behind_breaks block_char block_body chomp scalar_text
-not_ascii = refl
-
-colon_at_end : taken (allowed true (codes "a:")) asked.YAML_PLAIN_SCALAR_STYLE true false false
-    false ≡ style.Single
-unfolding letters blanks line shown encode char_bytes is_deep needs_escape escape_letter hex_digit escape_text quoted_char quoted_body somewhere last_or allowed taken flow_char flow_body behind_breaks block_char block_body chomp scalar_text
-colon_at_end = refl
-
-space_before_break : taken (allowed true (codes "a \nb")) asked.YAML_LITERAL_SCALAR_STYLE true false
-    false false ≡ style.Double
-unfolding letters blanks line shown encode char_bytes is_deep needs_escape escape_letter hex_digit escape_text quoted_char quoted_body somewhere last_or allowed taken flow_char flow_body behind_breaks block_char block_body chomp scalar_text
-space_before_break = refl
-
-literal_in_flow : taken (allowed true (codes "a\nb")) asked.YAML_LITERAL_SCALAR_STYLE true true
-    false false ≡ style.Double
-unfolding letters blanks line shown encode char_bytes is_deep needs_escape escape_letter hex_digit escape_text quoted_char quoted_body somewhere last_or allowed taken flow_char flow_body behind_breaks block_char block_body chomp scalar_text
-literal_in_flow = refl
+rows = record { double_folds = refl; double_folds_before_space = refl; double_key = refl; double_escapes = refl; double_special = refl; double_ascii = refl; literal_kept = refl; literal_digit = refl; literal_break = refl; literal_breaks = refl; folded_blank_line = refl; folded_lines = refl; single_lines = refl; plain_at_width = refl; plain_past_width = refl; plain_empty = refl; plain_empty_in_flow = refl; pair_of_surrogates = refl; pair_of_surrogates_high_first = refl; mark_first = refl; dash_in_flow = refl; number_in_flow = refl; exponent_in_flow = refl; not_ascii = refl; colon_at_end = refl; space_before_break = refl; literal_in_flow = refl }

@@ -17,7 +17,7 @@ use Rattle.yaml_emit_text.specs.declared.run.Bounds.{Bounds}
 use Rattle.yaml_emit_text.specs.Quoted.{needs_escape, escape_text, first, may_fold, fold, escaped, quoted_char, quoted_body}
 use Rattle.yaml_emit_text.specs.Scalars.{value_break, cuts_at, text_char, flow_char, flow_body, adds_break, cuts_block, line_blank, block_text, block_char, block_body}
 use Rattle.yaml_emit_text.specs.Style.{last_or, seen, looked, joined, is_special, is_break_space, is_not_plain, is_not_flow}
-use Rattle.yaml_emit_text.specs.Runs.{all_pass, runs_on, is_calm, calm, quoted_bounds, flow_bounds, block_bounds}
+use Rattle.yaml_emit_text.specs.Runs.{all_pass, runs_on, is_calm, calm, KeepsRuns, quoted_bounds, flow_bounds, block_bounds}
 use Rattle.yaml_emit_text.proofs.Bools.{bool_cases}
 use Rattle.yaml_emit_text.proofs.RunLemmas.{at_most, calm_ascii, calm_least, calm_largest, run_byte, last_append}
 use Rattle.yaml_emit_text.proofs.Walks.{walk_end, flow_end}
@@ -104,10 +104,18 @@ run_owes body a b before last bs xs text e t l p =
     let Q : ℕ → Type 0 = λ z. Owes a b (body before (bs ++ xs)) (body z xs) in
     subst P (sym t) (subst Q (sym l) (owes_as a b (body before (bs ++ xs)) (letters bs) (body (last_or before bs) xs) e p))
 
--- the bounds and the cursor that a run was found by
-pass_by : (e f : Bounds) (c d : Cursor) (bs : List ℕ) → e ≡ f → c ≡ d
-    → all_pass (runs_on e) c.column bs ≡ true → all_pass (runs_on f) d.column bs ≡ true
-pass_by e f c d bs p q h = ap (λ z. all_pass (runs_on z) d.column bs) (sym p) ∙ ap (λ (z : Cursor). all_pass (runs_on e) z.column bs) (sym q) ∙ h
+pub run_put : (e : Bounds) (body : ℕ → List ℕ → Layout) (at : Cursor) (a b : Output)
+    (before last : ℕ) (bs xs text : List ℕ) → KeepsRuns e body before → at ≡ a.cursor
+    → all_pass (runs_on e) at.column bs ≡ true → text ≡ bs ++ xs → last ≡ last_or before bs
+    → Puts a b (letters bs) → Owes a b (body before text) (body last xs)
+run_put e body at a b before last bs xs text k q h t l w =
+    let P : Cursor → Type 0 = λ c. all_pass (runs_on e) c.column bs ≡ true in
+    run_owes body a b before last bs xs text (λ rest. k bs xs a.cursor rest (subst P q h)) t l w
+
+-- by the bounds of each style
+bound_by : (e f : Bounds) (k : ℕ) (bs : List ℕ) → e ≡ f → all_pass (runs_on e) k bs ≡ true
+    → all_pass (runs_on f) k bs ≡ true
+bound_by e f k bs p h = let P : Bounds → Type 0 = λ z. all_pass (runs_on z) k bs ≡ true in subst P p h
 
 pub quoted_step : (page : Page) (before b : ℕ) (ys : List ℕ) (c : Cursor) (rest : Rest)
     → runs_on (quoted_bounds page) c.column b ≡ true
@@ -115,16 +123,10 @@ pub quoted_step : (page : Page) (before b : ℕ) (ys : List ℕ) (c : Cursor) (r
 unfolding quoted_body
 quoted_step page before b ys c rest h = quoted_raw page before b ys c (λ d. quoted_body page b ys d rest) h
 
-pub quoted_run : (page : Page) (e : Bounds) (at : Cursor) (a b : Output) (before last : ℕ)
-    (bs xs text : List ℕ) → e ≡ quoted_bounds page → at ≡ a.cursor
-    → all_pass (runs_on e) at.column bs ≡ true
-    → text ≡ bs ++ xs → last ≡ last_or before bs → Puts a b (letters bs)
-    → Owes a b (quoted_body page before text) (quoted_body page last xs)
-quoted_run page e at a b before last bs xs text p q h t l w =
-    run_owes (quoted_body page) a b before last bs xs text
-    (λ rest. run_walk (quoted_body page) (runs_on (quoted_bounds page)) (λ _. true) (λ before b ys c rest _ h. quoted_step page before b ys c rest h) (λ k b h. refl) before bs xs a.cursor rest refl
-    (pass_by e (quoted_bounds page) at a.cursor bs p q h))
-    t l w
+pub quoted_runs : (page : Page) (e : Bounds) (before : ℕ) → e ≡ quoted_bounds page
+    → KeepsRuns e (quoted_body page) before
+quoted_runs page e before p = λ bs xs c rest h.
+    run_walk (quoted_body page) (runs_on (quoted_bounds page)) (λ _. true) (λ before b ys c rest _ h. quoted_step page before b ys c rest h) (λ k b h. refl) before bs xs c rest refl (bound_by e (quoted_bounds page) c.column bs p h)
 
 unbroken : ℕ → Bool
 unbroken b = not (is_break b)
@@ -166,16 +168,11 @@ flow_step : (page : Page) (quote : Bool) (before b : ℕ) (ys : List ℕ) (c : C
 unfolding flow_body
 flow_step page quote before b ys c rest g h = flow_raw page quote before b ys c (λ d. flow_body page quote b ys d rest) (unbroken_is before g) h
 
-pub flow_run : (page : Page) (quote : Bool) (e : Bounds) (at : Cursor) (a b : Output)
-    (before last : ℕ) (bs xs text : List ℕ) → is_break before ≡ false → e ≡ flow_bounds page quote
-    → at ≡ a.cursor → all_pass (runs_on e) at.column bs ≡ true
-    → text ≡ bs ++ xs → last ≡ last_or before bs → Puts a b (letters bs)
-    → Owes a b (flow_body page quote before text) (flow_body page quote last xs)
-flow_run page quote e at a b before last bs xs text g p q h t l w =
-    run_owes (flow_body page quote) a b before last bs xs text
-    (λ rest. run_walk (flow_body page quote) (runs_on (flow_bounds page quote)) unbroken (flow_step page quote) (raw_unbroken (flow_bounds page quote)) before bs xs a.cursor rest (unbroken_by before g)
-    (pass_by e (flow_bounds page quote) at a.cursor bs p q h))
-    t l w
+pub flow_runs : (page : Page) (quote : Bool) (e : Bounds) (before : ℕ)
+    → e ≡ flow_bounds page quote → is_break before ≡ false
+    → KeepsRuns e (flow_body page quote) before
+flow_runs page quote e before p g = λ bs xs c rest h.
+    run_walk (flow_body page quote) (runs_on (flow_bounds page quote)) unbroken (flow_step page quote) (raw_unbroken (flow_bounds page quote)) before bs xs c rest (unbroken_by before g) (bound_by e (flow_bounds page quote) c.column bs p h)
 
 block_raw : (page : Page) (folded blank : Bool) (before b : ℕ) (ys : List ℕ) (c : Cursor)
     (rest : Rest) → is_break before ≡ false → runs_on (block_bounds page folded) c.column b ≡ true
@@ -206,16 +203,11 @@ block_step page folded blank before b ys c rest g h =
     block_raw page folded blank before b ys c (λ d. block_body page folded (line_blank blank before b) b ys d rest) (unbroken_is before g) h
     ∙ ap (λ v. char b c (λ d. block_body page folded v b ys d rest)) (blank_stays blank before b (unbroken_is before g) (no_break b r.low r.high))
 
-pub block_run : (page : Page) (folded blank : Bool) (e : Bounds) (at : Cursor) (a b : Output)
-    (before last : ℕ) (bs xs text : List ℕ) → is_break before ≡ false → e ≡ block_bounds page folded
-    → at ≡ a.cursor → all_pass (runs_on e) at.column bs ≡ true
-    → text ≡ bs ++ xs → last ≡ last_or before bs → Puts a b (letters bs)
-    → Owes a b (block_body page folded blank before text) (block_body page folded blank last xs)
-block_run page folded blank e at a b before last bs xs text g p q h t l w =
-    run_owes (block_body page folded blank) a b before last bs xs text
-    (λ rest. run_walk (block_body page folded blank) (runs_on (block_bounds page folded)) unbroken (block_step page folded blank) (raw_unbroken (block_bounds page folded)) before bs xs a.cursor rest (unbroken_by before g)
-    (pass_by e (block_bounds page folded) at a.cursor bs p q h))
-    t l w
+pub block_runs : (page : Page) (folded blank : Bool) (e : Bounds) (before : ℕ)
+    → e ≡ block_bounds page folded → is_break before ≡ false
+    → KeepsRuns e (block_body page folded blank) before
+block_runs page folded blank e before p g = λ bs xs c rest h.
+    run_walk (block_body page folded blank) (runs_on (block_bounds page folded)) unbroken (block_step page folded blank) (raw_unbroken (block_bounds page folded)) before bs xs c rest (unbroken_by before g) (bound_by e (block_bounds page folded) c.column bs p h)
 
 -- what says nothing against a style
 
@@ -323,7 +315,7 @@ pub tame_written : (page : Page) (at : Cursor) (a b : Output) (v : List ℕ) →
     → Puts a b (flow_body page false 32 (chars v))
 tame_written page at a b v t q w p =
     walk_end (flow_body page false) a b (flow_body page false 32 (chars v)) (last_or 32 v) [] refl (ends_there page (last_or 32 v) (calm_ends 32 0 v refl t.calm))
-    (flow_run page false (flow_bounds page false) at a b 32 (last_or 32 v) v [] (chars v) refl refl q (calm_runs page 0 at.column v w t.calm) (tame_letters v t ∙ sym (append-nil v)) refl p)
+    (run_put (flow_bounds page false) (flow_body page false) at a b 32 (last_or 32 v) v [] (chars v) (flow_runs page false _ 32 refl refl) q (calm_runs page 0 at.column v w t.calm) (tame_letters v t ∙ sym (append-nil v)) refl p)
 
 -- the same at a cursor
 pub tame_at : (page : Page) (c : Cursor) (rest : Rest) (v : List ℕ) → IsTame v
@@ -331,5 +323,5 @@ pub tame_at : (page : Page) (c : Cursor) (rest : Rest) (v : List ℕ) → IsTame
     → flow_body page false 32 (chars v) c rest ≡ letters v c rest
 tame_at page c rest v t w =
     ap (λ (z : List ℕ). flow_body page false 32 z c rest) (tame_letters v t ∙ sym (append-nil v))
-    ∙ run_walk (flow_body page false) (runs_on (flow_bounds page false)) unbroken (flow_step page false) (raw_unbroken (flow_bounds page false)) 32 v [] c rest (unbroken_by 32 refl) (calm_runs page 0 c.column v w t.calm)
+    ∙ flow_runs page false _ 32 refl refl v [] c rest (calm_runs page 0 c.column v w t.calm)
     ∙ ap (λ (z : Layout). letters v c (λ d. z d rest)) (ends_there page (last_or 32 v) (calm_ends 32 0 v refl t.calm))

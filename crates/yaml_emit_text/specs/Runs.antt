@@ -1,6 +1,9 @@
 -- Runs of ASCII that are written as they are, and runs that allow every style.
-use Rattle.std.specs.Prelude.{ℕ, suc, ◌+◌, Bool, true, not, ◌&&◌, ◌||◌, ◌==◌, nat_le, if◌then◌else◌, List, [], ◌∷◌}
+use Rattle.std.specs.Prelude.{ℕ, suc, ◌+◌, Bool, true, not, ◌&&◌, ◌||◌, ◌==◌, nat_le, if◌then◌else◌, List, [], ◌∷◌, ◌++◌, ◌≡◌}
 use Rattle.yaml_types.specs.Ascii as ascii
+use Rattle.yaml_emit_sink.specs.declared.Cursor.{Cursor}
+use Rattle.yaml_emit_sink.specs.Layout.{Layout, Rest, ◌▹◌, letters}
+use Rattle.yaml_emit_text.specs.Style.{last_or}
 use Rattle.yaml_emit_text.specs.declared.page.Page.{Page}
 use Rattle.yaml_emit_text.specs.declared.run.Bounds.{Bounds}
 
@@ -29,6 +32,12 @@ is_solid b = nat_le ascii.exclamation b
 unfoldable pub is_even : ℕ → Bool
 is_even b = nat_le ascii.space b
     && (nat_le b ascii.tilde && (not (b == ascii.quote) && not (b == ascii.backslash)))
+
+-- behind a character, what is written for a value has each run of it as it is
+abbrev pub KeepsRuns : Bounds → (ℕ → List ℕ → Layout) → ℕ → Type 0
+KeepsRuns e body before = (bs xs : List ℕ) (c : Cursor) (rest : Rest)
+    → all_pass (runs_on e) c.column bs ≡ true
+    → body before (bs ++ xs) c rest ≡ (letters bs ▹ body (last_or before bs) xs) c rest
 
 -- in double quotes
 abbrev pub quoted_bounds : Page → Bounds

@@ -3,7 +3,7 @@
 ghost use Rattle.std.specs.Prelude.{◌≡◌, ◌≤◌, ◌+◌, length, IsUtf8, Bool, true, false, not, ◌&&◌, ◌||◌, ◌==◌, if◌then◌else◌};
 ghost use Rattle.yaml_types.specs.Ascii as ascii;
 ghost use Rattle.std.specs.Str.{chars};
-ghost use Rattle.yaml_emit_sink.specs.Sink.{Puts, Owes};
+ghost use Rattle.yaml_emit_sink.specs.Sink.{Puts};
 ghost use Rattle.yaml_emit_sink.specs.Text.{is_break};
 ghost use Rattle.yaml_emit_sink.specs.Layout.{◌▹◌, stay, choose, when, char, break, new_line, gap, line, is_past, keep, after_block};
 ghost use Rattle.yaml_emit_text.specs.Runs.{block_bounds};
@@ -15,7 +15,7 @@ use crate::flow::{put_breaks, put_cut, put_line_if};
 use crate::letters::{first, is_break, split_first, split_last};
 use crate::page::{Chomp, Page};
 use crate::quoted::put_if;
-use crate::run::{Bounds, last_of, split_run};
+use crate::run::{Bounds, put_run_or};
 use crate::style::is_blank;
 use yaml_emit_sink::Sink;
 
@@ -101,47 +101,6 @@ fn block_bounds(page: Page, folded: bool) -> Bounds
     }
 }
 
-// What stands in front as it is, behind a character that is no break.
-fn put_block_run<'a>(
-    sink: &mut Sink,
-    page: Page,
-    folded: bool,
-    before: char,
-    left: &'a str,
-) -> (char, &'a str)
-    requires { is_break before ≡ false }
-    ensures text { (blank : Bool) → Owes sink.old sink.new
-        (block_body page folded blank before (chars left.now))
-        (block_body page folded blank result.0 (chars result.1.now)) }
-    ensures utf8 { IsUtf8 result.1.now }
-    ensures shorter { length result.1.now ≤ length left.now }
-{
-    let (run, rest) = split_run(block_bounds(page, folded), sink.cursor().column, left);
-    sink.put_ascii(run);
-    (last_of(before, run), rest)
-}
-
-// The same behind any character.
-fn put_block_run_or<'a>(
-    sink: &mut Sink,
-    page: Page,
-    folded: bool,
-    before: char,
-    left: &'a str,
-) -> (char, &'a str)
-    ensures text { (blank : Bool) → Owes sink.old sink.new
-        (block_body page folded blank before (chars left.now))
-        (block_body page folded blank result.0 (chars result.1.now)) }
-    ensures utf8 { IsUtf8 result.1.now }
-    ensures shorter { length result.1.now ≤ length left.now }
-{
-    if is_break(before) {
-        (before, left)
-    } else {
-        put_block_run(sink, page, folded, before, left)
-    }
-}
-
 fn put_block_body(sink: &mut Sink, page: Page, folded: bool, value: &str)
     ensures { Puts sink.old sink.new
         (block_body page folded true ascii.line_feed (chars value.now)) }
@@ -156,7 +115,7 @@ fn put_block_body(sink: &mut Sink, page: Page, folded: bool, value: &str)
         };
         put_block_char(sink, page, folded, behind, c, rest);
         blank = line_blank(blank, before, c);
-        let (last, others) = put_block_run_or(sink, page, folded, c, rest);
+        let (last, others) = put_run_or(sink, block_bounds(page, folded), c, rest);
         before = last;
         left = others;
     }

@@ -3,7 +3,7 @@
 ghost use Rattle.std.specs.Prelude.{◌≡◌, ◌≤◌, length, IsUtf8, false, not, ◌&&◌, ◌||◌, ◌==◌, if◌then◌else◌};
 ghost use Rattle.yaml_types.specs.Ascii as ascii;
 ghost use Rattle.std.specs.Str.{chars};
-ghost use Rattle.yaml_emit_sink.specs.Sink.{Puts, Owes};
+ghost use Rattle.yaml_emit_sink.specs.Sink.{Puts};
 ghost use Rattle.yaml_emit_sink.specs.Text.{is_break};
 ghost use Rattle.yaml_emit_sink.specs.Layout.{◌▹◌, stay, choose, when, char, break, new_line, gap, line, is_past, after_text};
 ghost use Rattle.yaml_emit_text.specs.Runs.{flow_bounds};
@@ -13,7 +13,7 @@ ghost use Rattle.yaml_emit_text.specs.Scalars.{value_break, cuts_at, cut, quote_
 use crate::letters::{first, is_break, is_empty, split_first};
 use crate::page::Page;
 use crate::quoted::put_if;
-use crate::run::{Bounds, last_of, split_run};
+use crate::run::{Bounds, put_run, put_run_or};
 use yaml_emit_sink::{LineBreak, Sink};
 
 // A break of a value: LF as the break that is set, the others as they are.
@@ -118,47 +118,6 @@ fn flow_bounds(page: Page, quote: bool) -> Bounds
     }
 }
 
-// What stands in front as it is, behind a character that is no break.
-// Inlined: whether it is quoted is known for the first run.
-#[inline(always)]
-fn put_flow_run<'a>(
-    sink: &mut Sink,
-    page: Page,
-    quote: bool,
-    before: char,
-    left: &'a str,
-) -> (char, &'a str)
-    requires { is_break before ≡ false }
-    ensures text { Owes sink.old sink.new (flow_body page quote before (chars left.now))
-        (flow_body page quote result.0 (chars result.1.now)) }
-    ensures utf8 { IsUtf8 result.1.now }
-    ensures shorter { length result.1.now ≤ length left.now }
-{
-    let (run, rest) = split_run(flow_bounds(page, quote), sink.cursor().column, left);
-    sink.put_ascii(run);
-    (last_of(before, run), rest)
-}
-
-// The same behind any character.
-fn put_flow_run_or<'a>(
-    sink: &mut Sink,
-    page: Page,
-    quote: bool,
-    before: char,
-    left: &'a str,
-) -> (char, &'a str)
-    ensures text { Owes sink.old sink.new (flow_body page quote before (chars left.now))
-        (flow_body page quote result.0 (chars result.1.now)) }
-    ensures utf8 { IsUtf8 result.1.now }
-    ensures shorter { length result.1.now ≤ length left.now }
-{
-    if is_break(before) {
-        (before, left)
-    } else {
-        put_flow_run(sink, page, quote, before, left)
-    }
-}
-
 // What stands behind the first run.
 // Out of line: most values are one run.
 #[inline(never)]
@@ -169,7 +128,7 @@ fn put_flow_rest(sink: &mut Sink, page: Page, quote: bool, before: char, value: 
     let mut left = value;
     while let Some((c, rest)) = split_first(left) {
         put_flow_char(sink, page, quote, last, c, rest);
-        let (latest, behind) = put_flow_run_or(sink, page, quote, c, rest);
+        let (latest, behind) = put_run_or(sink, flow_bounds(page, quote), c, rest);
         last = latest;
         left = behind;
     }
@@ -181,7 +140,7 @@ fn put_flow_rest(sink: &mut Sink, page: Page, quote: bool, before: char, value: 
 pub(crate) fn put_flow_body(sink: &mut Sink, page: Page, quote: bool, value: &str)
     ensures { Puts sink.old sink.new (flow_body page quote ascii.space (chars value.now)) }
 {
-    let (before, left) = put_flow_run(sink, page, quote, ' ', value);
+    let (before, left) = put_run(sink, flow_bounds(page, quote), ' ', value);
     if left.is_empty() {
         put_line_if(sink, is_break(before), page);
     } else {

@@ -3,7 +3,7 @@
 ghost use Rattle.std.specs.Prelude.{◌≡◌, ◌<◌, ◌≤◌, ◌∷◌, [], length, IsUtf8, false, true, if◌then◌else◌};
 ghost use Rattle.yaml_types.specs.Ascii as ascii;
 ghost use Rattle.std.specs.Str.{chars};
-ghost use Rattle.yaml_emit_sink.specs.Sink.{Puts, Owes};
+ghost use Rattle.yaml_emit_sink.specs.Sink.{Puts};
 ghost use Rattle.yaml_emit_sink.specs.Text.{is_break};
 ghost use Rattle.yaml_emit_sink.specs.Layout.{◌▹◌, stay, choose, when, char, letters, blanks, new_line, gap, word, is_past};
 ghost use Rattle.yaml_emit_text.specs.Runs.{quoted_bounds};
@@ -11,7 +11,7 @@ ghost use Rattle.yaml_emit_text.specs.Quoted.{is_printable, needs_escape, escape
 
 use crate::letters::{first, is_break, is_empty, split_first};
 use crate::page::Page;
-use crate::run::{Bounds, last_of, split_run};
+use crate::run::{Bounds, put_run};
 use crate::solid::{are_solid, put_solid};
 use yaml_emit_sink::{Sink, put_hex_2};
 
@@ -162,20 +162,6 @@ fn quoted_bounds(page: Page) -> Bounds
     }
 }
 
-// What stands in front as it is, behind a character: the last character before what is left, and that.
-// Inlined into the loop over runs.
-#[inline(always)]
-fn put_quoted_run<'a>(sink: &mut Sink, page: Page, before: char, left: &'a str) -> (char, &'a str)
-    ensures text { Owes sink.old sink.new (quoted_body page before (chars left.now))
-        (quoted_body page result.0 (chars result.1.now)) }
-    ensures utf8 { IsUtf8 result.1.now }
-    ensures shorter { length result.1.now ≤ length left.now }
-{
-    let (run, rest) = split_run(quoted_bounds(page), sink.cursor().column, left);
-    sink.put_ascii(run);
-    (last_of(before, run), rest)
-}
-
 // What stands behind the first run, one character at least.
 // Out of line: a loop of its own keeps the addresses of fields that it uses, and most values are one run.
 #[inline(never)]
@@ -186,7 +172,7 @@ fn put_quoted_rest(sink: &mut Sink, page: Page, before: char, value: &str)
     let mut left = value;
     while let Some((c, rest)) = split_first(left) {
         put_quoted_char(sink, page, last, c, rest);
-        let (latest, behind) = put_quoted_run(sink, page, c, rest);
+        let (latest, behind) = put_run(sink, quoted_bounds(page), c, rest);
         last = latest;
         left = behind;
     }
@@ -197,7 +183,7 @@ fn put_quoted_rest(sink: &mut Sink, page: Page, before: char, value: &str)
 fn put_quoted_body(sink: &mut Sink, page: Page, value: &str)
     ensures { Puts sink.old sink.new (quoted_body page ascii.space (chars value.now)) }
 {
-    let (before, left) = put_quoted_run(sink, page, ' ', value);
+    let (before, left) = put_run(sink, quoted_bounds(page), ' ', value);
     if left.is_empty() {
         return;
     }

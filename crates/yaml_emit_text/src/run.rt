@@ -1,12 +1,16 @@
 //! Runs of ASCII, which are taken at once.
 
-ghost use Rattle.std.specs.Prelude.{◌≡◌, ◌<◌, ◌≤◌, ◌+◌, ◌++◌, ◌^◌, ◌==◌, ◌⊎◌, ℕ, true, false, length, take, drop, get_or, IsUtf8};
+ghost use Rattle.std.specs.Prelude.{◌≡◌, ◌<◌, ◌≤◌, ◌+◌, ◌++◌, ◌^◌, ◌==◌, ◌⊎◌, ℕ, List, true, false, length, take, drop, get_or, IsUtf8};
 ghost use Rattle.yaml_types.specs.Ascii as ascii;
 ghost use Rattle.std.specs.Str.{chars, IsAscii};
+ghost use Rattle.yaml_emit_sink.specs.Layout.{Layout};
+ghost use Rattle.yaml_emit_sink.specs.Sink.{Owes};
+ghost use Rattle.yaml_emit_sink.specs.Text.{is_break};
 ghost use Rattle.yaml_emit_text.specs.Style.{last_or};
 ghost use Rattle.yaml_emit_text.specs.Runs as spec;
 
-use crate::letters::text;
+use crate::letters::{is_break, text};
+use yaml_emit_sink::Sink;
 
 /// What ends a run of characters from space to `~`.
 #[derive(Clone, Copy)]
@@ -187,5 +191,48 @@ pub(crate) fn last_of(before: char, run: &[u8]) -> char
         before
     } else {
         run[run.len() - 1] as char
+    }
+}
+
+/// What stands in front as it is, behind a character: the last character before what is left, and that.
+// Inlined: its bounds are known where it is called.
+#[inline(always)]
+pub(crate) fn put_run<'a>(
+    sink: &mut Sink,
+    bounds: Bounds,
+    before: char,
+    left: &'a str,
+) -> (char, &'a str)
+    ensures text { (body : ℕ → List ℕ → Layout) → spec.KeepsRuns bounds body before
+        → Owes sink.old sink.new (body before (chars left.now))
+        (body result.0 (chars result.1.now)) }
+    ensures utf8 { IsUtf8 result.1.now }
+    ensures shorter { length result.1.now ≤ length left.now }
+{
+    let (run, rest) = split_run(bounds, sink.cursor().column, left);
+    sink.put_ascii(run);
+    (last_of(before, run), rest)
+}
+
+/// The same, where no run begins behind a break.
+// Inlined: its bounds are known where it is called.
+#[inline(always)]
+pub(crate) fn put_run_or<'a>(
+    sink: &mut Sink,
+    bounds: Bounds,
+    before: char,
+    left: &'a str,
+) -> (char, &'a str)
+    ensures text { (body : ℕ → List ℕ → Layout)
+        → (is_break before ≡ false → spec.KeepsRuns bounds body before)
+        → Owes sink.old sink.new (body before (chars left.now))
+        (body result.0 (chars result.1.now)) }
+    ensures utf8 { IsUtf8 result.1.now }
+    ensures shorter { length result.1.now ≤ length left.now }
+{
+    if is_break(before) {
+        (before, left)
+    } else {
+        put_run(sink, bounds, before, left)
     }
 }

@@ -1,5 +1,5 @@
 use Rattle.yaml_emit_sink.proofs.Sinks.{owes_same}
-use Rattle.yaml_emit_text.proofs.RunWalks.{owes_then}
+use Rattle.yaml_emit_text.proofs.RunWalks.{owes_then, quoted_runs}
 use Rattle.yaml_emit_text.proofs.Walks.{walk_more, walk_end}
 use Rattle.yaml_emit_text.proofs.Escapes.{quoted_law, quoted_end}
 use Rattle.yaml_emit_text.specs.Quoted.{quoted_body, quoted_char}
@@ -13,7 +13,7 @@ loop-c-init c = (c.utf8.value, owes_same _ _)
 
 pub loop-c-preserved : goal.loop-c-preserved
 loop-c-preserved c =
-    (c.put_quoted_run-latest.ensures.utf8, owes_then _ _ _ _ _ _ (walk_more (quoted_body c.args.page) (quoted_char c.args.page) (quoted_law c.args.page) _ _ _ _ _ _ _ _ c.in-Some.ensures.letters c.loop-c.invariant.1 c.put_quoted_char.ensures) c.put_quoted_run-latest.ensures.text)
+    (c.put_run-latest.ensures.utf8, owes_then _ _ _ _ _ _ (walk_more (quoted_body c.args.page) (quoted_char c.args.page) (quoted_law c.args.page) _ _ _ _ _ _ _ _ c.in-Some.ensures.letters c.loop-c.invariant.1 c.put_quoted_char.ensures) (c.put_run-latest.ensures.text (quoted_body c.args.page) (quoted_runs c.args.page _ _ c.quoted_bounds.ensures)))
 
 pub returns : goal.returns
 returns c = walk_end (quoted_body c.args.page) _ _ _ _ _ c.in_default.ensures.letters (quoted_end c.args.page _) c.loop-c.invariant.1

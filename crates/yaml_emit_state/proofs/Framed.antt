@@ -17,7 +17,7 @@ use Rattle.yaml_emit_text.specs.Scalars.{scalar_text}
 use Rattle.yaml_emit_text.specs.Sink.{Output, Puts}
 use Rattle.yaml_emit_text.specs.Tame.{IsLined}
 use Rattle.yaml_emit_text.specs.LineStarts.{marks, mark_word, line_start_text}
-use Rattle.yaml_emit_text.proofs.LineStarts.{puts_signed, quoted_worded, tagged_worded, word_worded}
+use Rattle.yaml_emit_text.proofs.LineStarts.{Worded, puts_signed, quoted_worded, tagged_worded, word_worded}
 use Rattle.yaml_emit_layout.specs.declared.Expected.{Expected}
 use Rattle.yaml_emit_layout.specs.declared.Expected.TheVariants as at
 use Rattle.yaml_emit_layout.specs.declared.Level.{Level}
@@ -29,7 +29,7 @@ use Rattle.yaml_emit_layout.specs.Grammar.{has, event_problem, last_problem, pla
 use Rattle.yaml_emit_layout.specs.Nodes.{context_of, checked, deeper, page_at, scalar_layout, style_of, turned, before_item, before_key, before_value}
 use Rattle.yaml_emit_layout.specs.State.{among, before_at, before_node, levels_behind, position_of, top_of}
 use Rattle.yaml_emit_state.specs.declared.state.Core.{Core}
-use Rattle.yaml_emit_state.specs.Framed.{has_comma, mark_of, is_behind_simple, sign_of, BeginsLine, is_free, framed_text, tagged_text, bracket_text}
+use Rattle.yaml_emit_state.specs.Framed.{has_comma, mark_of, is_behind_simple, sign_of, line_start, BeginsLine, is_free, framed_text, tagged_text, bracket_text}
 use Rattle.yaml_emit_state.specs.Given.{plain_text}
 use Rattle.yaml_emit_state.specs.Stack.{stack_of}
 use Rattle.yaml_emit_state.specs.Steps.{state_of, settings_of, StaysBut, LaysOut}
@@ -52,53 +52,48 @@ sign_is : (quoted : Bool) → mark_word (sign_of quoted) ≡ when (not quoted) (
 sign_is true = refl
 sign_is false = refl
 
+-- what its line begins with and what is one word behind it
+begun : (s : Settings) (l : Level) (sign : Option ℕ) (x : Layout) (y : ℕ) (ys : List ℕ)
+    (z : Layout) (a b : Output) → BeginsLine s l → Worded (l.indent + 4) x (y ∷ ys) z
+    → Puts a b ((line_start_text (line_start s l sign) ▹ letters (y ∷ ys)) ▹ z)
+    → Puts a b (before_at s l.phase l.flow l.indent false ▹ (mark_word sign ▹ x))
+begun s l sign x y ys z a b t w p =
+    let A : Layout → Type 0 = λ k. Puts a b (k ▹ (mark_word sign ▹ x)) in
+    let B : Bool → Type 0 = λ k. Puts a b (before_at s l.phase k l.indent false ▹ (mark_word sign ▹ x)) in
+    subst B (sym t.flow) (subst A (sym (before_is s l.phase l.indent t.form t.breaks)) (puts_signed (line_start s l sign) x y ys z a b w p))
+
 pub puts_framed : (s : Settings) (l : Level) (quoted : Bool) (v : List ℕ) (a b : Output)
     → BeginsLine s l → IsLined l.indent s.width v
-    → Puts a b (line_start_text (record { comma = has_comma l.phase; line_break = s.line_break; indent = l.indent; mark = mark_of l.phase; sign = sign_of quoted })
-    ▹ letters (34 ∷ (v ++ 34 ∷ [])))
+    → Puts a b (line_start_text (line_start s l (sign_of quoted)) ▹ letters (34 ∷ (v ++ 34 ∷ [])))
     → Puts a b (framed_text s (Some l) quoted v)
 puts_framed s l quoted v a b t w p =
     let pos : NodePosition = position_of (Some l) false in
-    let page : Page = page_at s pos in
-    let x : Layout = double_quoted page (chars v) in
-    let put = puts_signed (record { comma = has_comma l.phase; line_break = s.line_break; indent = l.indent; mark = mark_of l.phase; sign = sign_of quoted }) x 34 (v ++ 34 ∷ []) stay a b (quoted_worded l.indent page v w) p in
-    let A : Layout → Type 0 = λ z. Puts a b (z ▹ (mark_word (sign_of quoted) ▹ x)) in
-    let B : Bool → Type 0 = λ z. Puts a b (before_at s l.phase z l.indent false ▹ (mark_word (sign_of quoted) ▹ x)) in
-    let C : Layout → Type 0 = λ z. Puts a b (before_at s l.phase l.flow l.indent false ▹ (z ▹ x)) in
-    let here = subst C (sign_is quoted) (subst B (sym t.flow) (subst A (sym (before_is s l.phase l.indent t.form t.breaks)) put)) in
-    unchecked_behind (deeper s pos.around) a b (before_at s l.phase l.flow l.indent false ▹ when (not quoted) (word (33 ∷ []))) x t.shallow here
+    let x : Layout = double_quoted (page_at s pos) (chars v) in
+    let front : Layout = before_at s l.phase l.flow l.indent false in
+    let C : Layout → Type 0 = λ z. Puts a b (front ▹ (z ▹ x)) in
+    unchecked_behind (deeper s pos.around) a b (front ▹ when (not quoted) (word (33 ∷ []))) x t.shallow
+    (subst C (sign_is quoted) (begun s l (sign_of quoted) x 34 (v ++ 34 ∷ []) stay a b t (quoted_worded l.indent (page_at s pos) v w) p))
 
 -- with the default tag
 pub puts_tagged : (s : Settings) (l : Level) (v : List ℕ) (a b : Output) → BeginsLine s l
     → IsLined l.indent s.width v
-    → Puts a b (line_start_text (record { comma = has_comma l.phase; line_break = s.line_break; indent = l.indent; mark = mark_of l.phase; sign = None })
+    → Puts a b (line_start_text (line_start s l None)
     ▹ letters (33 ∷ 33 ∷ 115 ∷ 116 ∷ 114 ∷ 32 ∷ 34 ∷ (v ++ 34 ∷ [])))
     → Puts a b (tagged_text s (Some l) v)
 puts_tagged s l v a b t w p =
     let pos : NodePosition = position_of (Some l) false in
-    let page : Page = page_at s pos in
-    let q : Layout = double_quoted page (chars v) in
-    let x : Layout = word (33 ∷ 33 ∷ 115 ∷ 116 ∷ 114 ∷ []) ▹ q in
-    let put = puts_signed (record { comma = has_comma l.phase; line_break = s.line_break; indent = l.indent; mark = mark_of l.phase; sign = None }) x 33 (33 ∷ 115 ∷ 116 ∷ 114 ∷ 32 ∷ 34 ∷ (v ++ 34 ∷ [])) stay a b (tagged_worded l.indent page v w) p in
-    let A : Layout → Type 0 = λ z. Puts a b (z ▹ x) in
-    let B : Bool → Type 0 = λ z. Puts a b (before_at s l.phase z l.indent false ▹ x) in
-    let C : List ℕ → Type 0 = λ z. Puts a b (before_at s l.phase l.flow l.indent false ▹ (word z ▹ q)) in
-    let here = subst C (sym str_spelled) (subst B (sym t.flow) (subst A (sym (before_is s l.phase l.indent t.form t.breaks)) put)) in
-    unchecked_behind (deeper s pos.around) a b (before_at s l.phase l.flow l.indent false ▹ word (tag_spelling [] str_tag)) q t.shallow here
+    let q : Layout = double_quoted (page_at s pos) (chars v) in
+    let front : Layout = before_at s l.phase l.flow l.indent false in
+    let C : List ℕ → Type 0 = λ z. Puts a b (front ▹ (word z ▹ q)) in
+    unchecked_behind (deeper s pos.around) a b (front ▹ word (tag_spelling [] str_tag)) q t.shallow
+    (subst C (sym str_spelled) (begun s l None (word (33 ∷ 33 ∷ 115 ∷ 116 ∷ 114 ∷ []) ▹ q) 33 (33 ∷ 115 ∷ 116 ∷ 114 ∷ 32 ∷ 34 ∷ (v ++ 34 ∷ [])) stay a b t (tagged_worded l.indent (page_at s pos) v w) p))
 
 -- what opens a collection was written
 pub puts_bracket : (s : Settings) (l : Level) (v : List ℕ) (a b : Output) → BeginsLine s l
-    → 0 < length v
-    → Puts a b ((line_start_text (record { comma = has_comma l.phase; line_break = s.line_break; indent = l.indent; mark = mark_of l.phase; sign = None })
-    ▹ letters v) ▹ after_block)
+    → 0 < length v → Puts a b ((line_start_text (line_start s l None) ▹ letters v) ▹ after_block)
     → Puts a b (bracket_text s (Some l) v)
 puts_bracket s l [] a b t h p = absurd (omega (arith, h))
-puts_bracket s l (y ∷ ys) a b t h p =
-    let x : Layout = word (y ∷ ys) ▹ after_block in
-    let put = puts_signed (record { comma = has_comma l.phase; line_break = s.line_break; indent = l.indent; mark = mark_of l.phase; sign = None }) x y ys after_block a b (word_worded (l.indent + 4) (y ∷ ys) after_block) p in
-    let A : Layout → Type 0 = λ z. Puts a b (z ▹ x) in
-    let B : Bool → Type 0 = λ z. Puts a b (before_at s l.phase z l.indent false ▹ x) in
-    subst B (sym t.flow) (subst A (sym (before_is s l.phase l.indent t.form t.breaks)) put)
+puts_bracket s l (y ∷ ys) a b t h p = begun s l None (word (y ∷ ys) ▹ after_block) y ys after_block a b t (word_worded (l.indent + 4) (y ∷ ys) after_block) p
 
 two_ascii : (m : ℕ) → m < 128 → IsAscii (m ∷ 32 ∷ [])
 two_ascii m h = IsAscii-cons m (32 ∷ []) h (IsAscii-cons 32 [] (omega arith) IsAscii-nil)

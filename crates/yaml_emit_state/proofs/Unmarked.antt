@@ -138,12 +138,6 @@ short_right quoted s st x e h b = short_by quoted s.canonical st.place _ x e h b
 -- ---- how it is written
 
 -- where it isn't too deep
-pub unchecked : (n : ℕ) (a b : Output) (x : Layout) → nat_le n MOST ≡ true → Puts a b x
-    → Puts a b (checked n ▹ x)
-unchecked n a b x h p =
-    let P : Bool → Type 0 = λ t. Puts a b ((λ c rest. deep_if t (rest c)) ▹ x) in
-    subst P (sym (not_deep n h)) p
-
 pub unchecked_behind : (n : ℕ) (a b : Output) (w x : Layout) → nat_le n MOST ≡ true
     → Puts a b (w ▹ x) → Puts a b (w ▹ (checked n ▹ x))
 unchecked_behind n a b w x h p =

@@ -4,6 +4,7 @@ use Rattle.std.specs.Str.{chars}
 use Rattle.yaml_types.specs.Ascii as ascii
 use Rattle.yaml_emit_tags.specs.parse_model.Nodes.{str_tag}
 use Rattle.yaml_emit_tags.specs.Tags.{tag_spelling}
+use Rattle.yaml_emit_text.specs.declared.LineStart.{LineStart}
 use Rattle.yaml_emit_text.specs.declared.Settings.{Settings}
 use Rattle.yaml_emit_text.specs.Layout.{Layout, ◌▹◌, when, word, after_block}
 use Rattle.yaml_emit_text.specs.Quoted.{double_quoted}
@@ -34,6 +35,15 @@ is_behind_simple (Value was_simple) = was_simple
 abbrev pub sign_of : Bool → Option ℕ
 sign_of true = None
 sign_of false = Some ascii.exclamation
+
+abbrev pub line_start : Settings → Level → Option ℕ → LineStart
+line_start s l sign = record {
+  comma = has_comma l.phase;
+  line_break = s.line_break;
+  indent = l.indent;
+  mark = mark_of l.phase;
+  sign = sign;
+}
 
 -- a node in a collection begins a line, and isn't too deep
 pub record BeginsLine (s : Settings) (l : Level) : Type 0 where

@@ -5,7 +5,7 @@ ghost use Rattle.yaml_emit_text.specs.Sink.{Puts};
 ghost use Rattle.yaml_emit_text.specs.Layout.{◌▹◌, stay, when, char, word, opener};
 ghost use Rattle.yaml_emit_layout.specs.Nodes.{comma, turned, question, before_item, before_key, before_value, closer, line_at, wrap_at, checked};
 ghost use Rattle.yaml_emit_layout.specs.State.{before_at, before_node, closer_at, is_fresh};
-ghost use Rattle.yaml_emit_state.specs.Framed.{has_comma, mark_of, is_behind_simple, BeginsLine};
+ghost use Rattle.yaml_emit_state.specs.Framed.{has_comma, mark_of, is_behind_simple, line_start, BeginsLine};
 ghost use Rattle.yaml_emit_state.specs.Given.{opening_bracket};
 
 use crate::indent::is_not_deep;
@@ -285,13 +285,7 @@ pub fn begins_line(settings: &Settings, level: Level) -> bool
 // Inlined: some tests.
 #[inline(always)]
 pub fn line_start_of(settings: &Settings, level: Level, sign: Option<u8>) -> LineStart
-    ensures { result ≡ record {
-      comma = has_comma level.phase;
-      line_break = settings.now.line_break;
-      indent = level.indent;
-      mark = mark_of level.phase;
-      sign = sign;
-    } }
+    ensures { result ≡ line_start settings.now level sign }
 {
     LineStart {
         comma: has_comma(level.phase),

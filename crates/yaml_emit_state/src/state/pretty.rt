@@ -188,27 +188,7 @@ impl Core {
         }
     }
 
-    // A bare scalar in the innermost collection, where it fits the line.
-    // Inlined into its one caller.
-    #[inline(always)]
-    fn place_bare_in(&mut self, level: Level, value: &[u8]) -> bool
-        requires stands { Stands false value.now }
-        requires form { self.old.settings.canonical ≡ false }
-        requires due { self.old.place ≡ at.Node }
-        requires top { Some level ≡ top_of (stack_of self.old.levels) }
-        requires shallow { is_shallow self.old.settings (Some level) ≡ true }
-        ensures laid { result ≡ true → (x : SaidScalar) (empty : Bool) → IsInline false x
-            → x.value ≡ value.now → LaysOut self.old self.new (scalar x) empty }
-        ensures same { result ≡ false → self.new ≡ self.old }
-    {
-        match level.phase {
-            Phase::Items(fresh) => self.place_entry(level, true, fresh, false, value),
-            Phase::Keys(fresh) => self.place_entry(level, false, fresh, false, value),
-            Phase::Value(was_simple) => self.place_value(level, was_simple, false, value),
-        }
-    }
-
-    // The same, where a collection is open.
+    // A bare scalar in the innermost collection, where one is open and it fits the line.
     // Inlined into its one caller.
     #[inline(always)]
     fn place_bare(&mut self, value: &[u8]) -> bool
@@ -223,7 +203,11 @@ impl Core {
         let innermost = self.levels.top();
         match innermost {
             None => false,
-            Some(level) => self.place_bare_in(level, value),
+            Some(level) => match level.phase {
+                Phase::Items(fresh) => self.place_entry(level, true, fresh, false, value),
+                Phase::Keys(fresh) => self.place_entry(level, false, fresh, false, value),
+                Phase::Value(was_simple) => self.place_value(level, was_simple, false, value),
+            },
         }
     }
 
@@ -248,27 +232,7 @@ impl Core {
         }
     }
 
-    // A scalar in double quotes in the innermost collection, where it fits the line.
-    // Inlined into its one caller.
-    #[inline(always)]
-    fn place_framed_in(&mut self, level: Level, value: &[u8]) -> bool
-        requires stands { Stands true value.now }
-        requires form { self.old.settings.canonical ≡ false }
-        requires due { self.old.place ≡ at.Node }
-        requires top { Some level ≡ top_of (stack_of self.old.levels) }
-        requires shallow { is_shallow self.old.settings (Some level) ≡ true }
-        ensures laid { result ≡ true → (x : SaidScalar) (empty : Bool) → IsInline true x
-            → x.value ≡ value.now → LaysOut self.old self.new (scalar x) empty }
-        ensures same { result ≡ false → self.new ≡ self.old }
-    {
-        match level.phase {
-            Phase::Items(fresh) => self.place_entry(level, true, fresh, true, value),
-            Phase::Keys(fresh) => self.place_entry(level, false, fresh, true, value),
-            Phase::Value(was_simple) => self.place_value(level, was_simple, true, value),
-        }
-    }
-
-    // The same, where a collection is open.
+    // A scalar in double quotes in the innermost collection, where one is open and it fits the line.
     // Inlined into its one caller.
     #[inline(always)]
     fn place_framed(&mut self, value: &[u8]) -> bool
@@ -283,7 +247,11 @@ impl Core {
         let innermost = self.levels.top();
         match innermost {
             None => false,
-            Some(level) => self.place_framed_in(level, value),
+            Some(level) => match level.phase {
+                Phase::Items(fresh) => self.place_entry(level, true, fresh, true, value),
+                Phase::Keys(fresh) => self.place_entry(level, false, fresh, true, value),
+                Phase::Value(was_simple) => self.place_value(level, was_simple, true, value),
+            },
         }
     }
 

@@ -1,9 +1,22 @@
-use Rattle.std.proofs.Common.{sym, ◌∙◌, ap}
+use Rattle.std.proofs.Common.{true, false, refl, sym, ◌∙◌, ap}
 use Rattle.yaml_emit_state.specs.Bare.{is_shallow}
+use Rattle.yaml_emit_state.proofs.Unmarked.{lays_short, item_behind, key_behind, value_behind}
 use Rattle.yaml_emit_state.proofs.state.Core.place_bare.Goals as goal
 
-pub place_bare_in-requires-clause-top : goal.place_bare_in-requires-clause-top
-place_bare_in-requires-clause-top c = sym c.in-Some.is ∙ c.top-innermost.ensures
+pub place_entry-requires-clause-shallow : goal.place_entry-requires-clause-shallow
+place_entry-requires-clause-shallow c = ap (is_shallow c.args.self.now.settings) (sym c.in-Some.is ∙ c.top-innermost.ensures) ∙ c.requires.open
 
-pub place_bare_in-requires-clause-shallow : goal.place_bare_in-requires-clause-shallow
-place_bare_in-requires-clause-shallow c = ap (is_shallow c.args.self.now.settings) (sym c.in-Some.is ∙ c.top-innermost.ensures) ∙ c.requires.open
+pub place_entry-requires-in-Keys-clause-shallow : goal.place_entry-requires-in-Keys-clause-shallow
+place_entry-requires-in-Keys-clause-shallow c = ap (is_shallow c.args.self.now.settings) (sym c.in-Some.is ∙ c.top-innermost.ensures) ∙ c.requires.open
+
+pub place_value-requires-clause-shallow : goal.place_value-requires-clause-shallow
+place_value-requires-clause-shallow c = ap (is_shallow c.args.self.now.settings) (sym c.in-Some.is ∙ c.top-innermost.ensures) ∙ c.requires.open
+
+pub returns-in-Items-clause-laid : goal.returns-in-Items-clause-laid
+returns-in-Items-clause-laid c = λ h x empty b same. lays_short false c.args.self.now _ _ _ _ false c.args.value.now x empty c.requires.form c.requires.due (sym c.in-Some.is ∙ c.top-innermost.ensures) c.in-Items.is refl (item_behind _) (c.place_entry.ensures.placed h) b same
+
+pub returns-in-Keys-clause-laid : goal.returns-in-Keys-clause-laid
+returns-in-Keys-clause-laid c = λ h x empty b same. lays_short false c.args.self.now _ _ _ _ true c.args.value.now x empty c.requires.form c.requires.due (sym c.in-Some.is ∙ c.top-innermost.ensures) c.in-Keys.is refl (key_behind _) (c.place_entry-in-Keys.ensures.placed h) b same
+
+pub returns-in-Value-clause-laid : goal.returns-in-Value-clause-laid
+returns-in-Value-clause-laid c = λ h x empty b same. lays_short false c.args.self.now _ _ _ _ false c.args.value.now x empty c.requires.form c.requires.due (sym c.in-Some.is ∙ c.top-innermost.ensures) c.in-Value.is refl (value_behind _) (c.place_value.ensures.placed h) b same

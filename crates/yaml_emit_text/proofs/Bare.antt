@@ -2,7 +2,6 @@
 use Rattle.std.proofs.Common.{◌≡◌, ℕ, ◌+◌, ◌≤◌, ◌<◌, length, length-append, append_assoc, get_or, List, [], ◌∷◌, ◌++◌, Bool, true, false, refl, sym, subst, ◌∙◌, ap, arith}
 use Rattle.std.specs.Prelude.{zero, suc, ◌||◌, ◌==◌, nat_le, nat_lt, if◌then◌else◌, Option, Some, None}
 use Rattle.std.specs.Str.{chars, IsAscii}
-use Rattle.std.proofs.lemmas.Bool.{and_parts}
 use Rattle.std.proofs.lemmas.Bool.Decides.{nat_tests}
 use Rattle.std.proofs.lemmas.List.{append-nil}
 use Rattle.std.proofs.lemmas.Str.{IsAscii-append}
@@ -23,11 +22,11 @@ use Rattle.yaml_emit_sink.proofs.Sinks.{puts_as, cond_true, cond_false}
 use Rattle.yaml_emit_text.specs.declared.page.Page.{Page}
 use Rattle.yaml_emit_text.specs.declared.page.Allowed.{Allowed}
 use Rattle.yaml_emit_text.specs.declared.page.Style.TheVariants as style
-use Rattle.yaml_emit_text.specs.Runs.{all_pass, calm, is_calm, is_even}
+use Rattle.yaml_emit_text.specs.Runs.{calm, is_calm, is_even}
 use Rattle.yaml_emit_text.specs.Scalars.{plain}
 use Rattle.yaml_emit_text.specs.Style.{allowed, last_or, taken, plain_or}
 use Rattle.yaml_emit_text.specs.Tame.{IsTame, asks_plain, Stands, standing, standing_text, lead}
-use Rattle.yaml_emit_text.proofs.RunLemmas.{calm_ascii, calm_least, calm_largest}
+use Rattle.yaml_emit_text.proofs.RunLemmas.{calm_ascii, calm_least, calm_largest, pass_at}
 use Rattle.yaml_emit_text.proofs.RunWalks.{tame_at}
 use Rattle.yaml_emit_text.proofs.Even.{framed_at, framed_behind, even_ascii, even_least, even_largest, even_at}
 use Rattle.yaml_emit_text.proofs.Tame.{all_allowed, tame_allows, tame_plain}
@@ -39,13 +38,6 @@ pub tame_some : (v : List ℕ) → IsTame v → 0 < length v
 unfolding last_or
 tame_some [] t = let e = t.ends in absurd (cc)
 tame_some (x ∷ xs) t = omega arith
-
-calm_at : (k : ℕ) (bs : List ℕ) (i : ℕ) → all_pass calm k bs ≡ true → i < length bs
-    → is_calm (get_or bs i 0) ≡ true
-unfolding all_pass
-calm_at k [] i h l = absurd (omega (arith, l))
-calm_at k (b ∷ bs) zero h l = (and_parts (calm k b) (all_pass calm (k + 1) bs) h).0
-calm_at k (b ∷ bs) (suc i) h l = calm_at (k + 1) bs i (and_parts (calm k b) (all_pass calm (k + 1) bs) h).1 (omega (arith, l))
 
 either_none : (a b : Bool) → a ≡ false → b ≡ false → (a || b) ≡ false
 either_none a b e f = rw (e, f) refl
@@ -69,7 +61,7 @@ no_break v k h = ap (nat_lt 0) (no_break_of (get_or v k 0) _ _ (calm_least (get_
 
 -- no break begins in it
 pub tame_breaks : (v : List ℕ) → IsTame v → has_break v ≡ false
-tame_breaks v t = none_below (length v) (breaks_at v) (λ k l. no_break v k (calm_at 0 v k t.calm l))
+tame_breaks v t = none_below (length v) (breaks_at v) (λ k l. no_break v k (pass_at calm 0 v k t.calm l))
 
 even_no_break : (v : List ℕ) (k : ℕ) → is_even (get_or v k 0) ≡ true → breaks_at v k ≡ false
 even_no_break v k h = ap (nat_lt 0) (no_break_of (get_or v k 0) _ _ (even_least (get_or v k 0) h) (even_largest (get_or v k 0) h))
@@ -111,16 +103,12 @@ within width k n h = grind (arith, nat_tests, h)
 
 -- ---- how it is written
 
-after_letters : (x : ℕ) (xs : List ℕ) (c : Cursor) (rest : Rest)
-    → letters (x ∷ xs) c (λ d. after_text d rest) ≡ letters (x ∷ xs) c rest
-unfolding letters
-after_letters x [] c rest = refl
-after_letters x (y ∷ ys) c rest = ap (λ (t : List Item). letter x ∷ t) (after_letters y ys (record { column = c.column + 1; white = false; bare = false; kept = c.kept }) rest)
-
 after_some : (v : List ℕ) (c : Cursor) (rest : Rest) → 0 < length v
     → letters v c (λ d. after_text d rest) ≡ letters v c rest
+unfolding letters
 after_some [] c rest l = absurd (omega (arith, l))
-after_some (x ∷ xs) c rest l = after_letters x xs c rest
+after_some (x ∷ []) c rest l = refl
+after_some (x ∷ y ∷ ys) c rest l = ap (λ (t : List Item). letter x ∷ t) (after_some (y ∷ ys) (record { column = c.column + 1; white = false; bare = false; kept = c.kept }) rest (omega arith))
 
 -- what stood in front of letters doesn't count
 letters_from : (v : List ℕ) (k : ℕ) (white bare kept : Bool) (rest : Rest) → 0 < length v
@@ -175,34 +163,19 @@ puts_opening quoted page flow v k n a b t g w p =
     puts_as a b (letters (standing quoted v)) (wrap page.width k n ▹ standing_text quoted page flow v)
     (λ rest. cond_false (nat_lt page.width a.cursor.column) _ _ (within page.width a.cursor.column (length (standing quoted v)) w) ∙ standing_at quoted page flow v a.cursor rest t g w) p
 
-behind_at : (quoted : Bool) (page : Page) (flow : Bool) (m : ℕ) (v : List ℕ) (c : Cursor)
-    (rest : Rest) → Stands quoted v → c.column + (2 + length (standing quoted v)) ≤ page.width
-    → (char m ▹ standing_text quoted page flow v) c rest
-    ≡ letters (m ∷ 32 ∷ standing quoted v) c rest
-unfolding letters
-behind_at quoted page flow m v c rest t w =
-    let d : Cursor = record { column = c.column + 1; white = false; bare = false; kept = c.kept } in
-    ap (λ (z : List Item). letter m ∷ z) (standing_behind quoted page flow v d rest t refl (omega (arith, w)))
-
 -- behind a character
 pub puts_led : (quoted : Bool) (page : Page) (flow : Bool) (m : ℕ) (v : List ℕ) (a b : Output)
     → Stands quoted v → a.cursor.column + (2 + length (standing quoted v)) ≤ page.width
     → Puts a b (letters (m ∷ 32 ∷ standing quoted v))
     → Puts a b (char m ▹ standing_text quoted page flow v)
-puts_led quoted page flow m v a b t w p = puts_as a b (letters (m ∷ 32 ∷ standing quoted v)) (char m ▹ standing_text quoted page flow v) (λ rest. behind_at quoted page flow m v a.cursor rest t w) p
+unfolding letters
+puts_led quoted page flow m v a b t w p =
+    let d : Cursor = record { column = a.cursor.column + 1; white = false; bare = false; kept = a.cursor.kept } in
+    puts_as a b (letters (m ∷ 32 ∷ standing quoted v)) (char m ▹ standing_text quoted page flow v)
+    (λ rest. ap (λ (z : List Item). letter m ∷ z) (standing_behind quoted page flow v d rest t refl (omega (arith, w)))) p
 
 not_past : (width k n : ℕ) → k + (2 + n) ≤ width → nat_lt width (k + 1) ≡ false
 not_past width k n h = grind (arith, nat_tests, h)
-
-wrapped_at : (quoted : Bool) (page : Page) (flow : Bool) (m : ℕ) (v : List ℕ) (b : LineBreak)
-    (n : ℕ) (c : Cursor) (rest : Rest) → Stands quoted v
-    → c.column + (2 + length (standing quoted v)) ≤ page.width
-    → (char m ▹ (wrap page.width b n ▹ standing_text quoted page flow v)) c rest
-    ≡ letters (m ∷ 32 ∷ standing quoted v) c rest
-unfolding letters
-wrapped_at quoted page flow m v b n c rest t w =
-    let d : Cursor = record { column = c.column + 1; white = false; bare = false; kept = c.kept } in
-    ap (λ (z : List Item). letter m ∷ z) (cond_false (nat_lt page.width (c.column + 1)) _ _ (not_past page.width c.column (length (standing quoted v)) w) ∙ standing_behind quoted page flow v d rest t refl (omega (arith, w)))
 
 -- behind a character and what may be a line
 pub puts_wrapped : (quoted : Bool) (page : Page) (flow : Bool) (m : ℕ) (v : List ℕ) (k : LineBreak)
@@ -210,7 +183,11 @@ pub puts_wrapped : (quoted : Bool) (page : Page) (flow : Bool) (m : ℕ) (v : Li
     → a.cursor.column + (2 + length (standing quoted v)) ≤ page.width
     → Puts a b (letters (m ∷ 32 ∷ standing quoted v))
     → Puts a b (char m ▹ (wrap page.width k n ▹ standing_text quoted page flow v))
-puts_wrapped quoted page flow m v k n a b t w p = puts_as a b (letters (m ∷ 32 ∷ standing quoted v)) (char m ▹ (wrap page.width k n ▹ standing_text quoted page flow v)) (λ rest. wrapped_at quoted page flow m v k n a.cursor rest t w) p
+unfolding letters
+puts_wrapped quoted page flow m v k n a b t w p =
+    let d : Cursor = record { column = a.cursor.column + 1; white = false; bare = false; kept = a.cursor.kept } in
+    puts_as a b (letters (m ∷ 32 ∷ standing quoted v)) (char m ▹ (wrap page.width k n ▹ standing_text quoted page flow v))
+    (λ rest. ap (λ (z : List Item). letter m ∷ z) (cond_false (nat_lt page.width (a.cursor.column + 1)) _ _ (not_past page.width a.cursor.column (length (standing quoted v)) w) ∙ standing_behind quoted page flow v d rest t refl (omega (arith, w)))) p
 
 item_at : (quoted : Bool) (page : Page) (flow : Bool) (m : ℕ) (v : List ℕ) (c : Cursor)
     (rest : Rest) → Stands quoted v → c.white ≡ true

@@ -8,17 +8,15 @@ use Rattle.yaml_emit_text.specs.Style.{somewhere, last_or, seen, looked, joined}
 use Rattle.yaml_emit_text.specs.Scalars.{behind_breaks, ends_in_break, chomp, chomp_of}
 use Rattle.yaml_emit_text.proofs.Bools.{or_assoc}
 
-breaks_at : (y : ℕ) (xs : List ℕ) → behind_breaks (y ∷ xs) ≡ cond (is_break y) (behind_breaks xs) y
-unfolding behind_breaks
-breaks_at y xs = refl
-
 pub breaks_more : (n : ℕ) (left xs : List ℕ) (y : ℕ) → left ≡ y ∷ xs → n ≡ behind_breaks left
     → is_break y ≡ true → n ≡ behind_breaks xs
-breaks_more n left xs y e h f = h ∙ ap behind_breaks e ∙ breaks_at y xs ∙ ap (λ v. cond v (behind_breaks xs) y) f
+unfolding behind_breaks
+breaks_more n left xs y e h f = h ∙ ap behind_breaks e ∙ ap (λ v. cond v (behind_breaks xs) y) f
 
 pub breaks_found : (n : ℕ) (left xs : List ℕ) (y : ℕ) → left ≡ y ∷ xs → n ≡ behind_breaks left
     → is_break y ≡ false → y ≡ n
-breaks_found n left xs y e h f = sym (h ∙ ap behind_breaks e ∙ breaks_at y xs ∙ ap (λ v. cond v (behind_breaks xs) y) f)
+unfolding behind_breaks
+breaks_found n left xs y e h f = sym (h ∙ ap behind_breaks e ∙ ap (λ v. cond v (behind_breaks xs) y) f)
 
 pub breaks_none : (n : ℕ) (left : List ℕ) → left ≡ [] → n ≡ behind_breaks left → 32 ≡ n
 unfolding behind_breaks

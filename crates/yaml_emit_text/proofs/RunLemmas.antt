@@ -1,10 +1,10 @@
 -- Bytes in front that pass a test, and runs that are written as they are.
-use Rattle.std.proofs.Common.{◌≡◌, ℕ, zero, suc, ◌+◌, ◌-◌, ◌<◌, ◌≤◌, List, [], ◌∷◌, ◌++◌, length, take, drop, get_or, Bool, true, false, cond, IsUtf8, refl, sym, subst, ◌∙◌, ap, arith, length-drop, inl, inr, ◌⊎◌}
+use Rattle.std.proofs.Common.{◌≡◌, ℕ, zero, suc, ◌+◌, ◌-◌, ◌<◌, ◌≤◌, List, [], ◌∷◌, ◌++◌, length, take, drop, get_or, Bool, true, false, IsUtf8, refl, sym, subst, ◌∙◌, ap, arith, length-drop, inl, inr, ◌⊎◌}
 use Rattle.std.specs.Prelude.{not, nat_le, ◌==◌, ◌||◌, ◌&&◌}
 use Rattle.std.specs.Str.{chars, IsAscii}
 use Rattle.std.specs.List.{All}
 use Rattle.std.proofs.lemmas.Bool.Decides.{nat_tests}
-use Rattle.std.proofs.lemmas.List.{take-append-drop, take_all, drop_more, drop_all, length-take-le}
+use Rattle.std.proofs.lemmas.List.{take-append-drop, take_all, drop_more, drop_all, length-take-le, get_or-take}
 use Rattle.std.proofs.lemmas.Str.{chars-append, chars-IsAscii, IsUtf8-from_ascii, IsUtf8-past_char, IsAscii-drop, chars_past_char, chars-nil, encode_ascii}
 use Rattle.std.proofs.lemmas.Str.Ascii.{IsAscii-from_all}
 use Rattle.std.proofs.lemmas.List.Elements.{All-from_get_or}
@@ -19,18 +19,15 @@ use Rattle.yaml_emit_sink.specs.Text.{is_break}
 
 -- the number of bytes in front
 
-front_at : (test : ℕ → ℕ → Bool) (k b : ℕ) (bs : List ℕ)
-    → front test k (b ∷ bs) ≡ cond (test k b) (suc (front test (k + 1) bs)) 0
-unfolding front
-front_at test k b bs = refl
-
 front_yes : (test : ℕ → ℕ → Bool) (k b : ℕ) (bs : List ℕ) → test k b ≡ true
     → front test k (b ∷ bs) ≡ suc (front test (k + 1) bs)
-front_yes test k b bs t = front_at test k b bs ∙ ap (λ v. cond v (suc (front test (k + 1) bs)) 0) t
+unfolding front
+front_yes test k b bs t = rw t refl
 
 front_no : (test : ℕ → ℕ → Bool) (k b : ℕ) (bs : List ℕ) → test k b ≡ false
     → front test k (b ∷ bs) ≡ 0
-front_no test k b bs t = front_at test k b bs ∙ ap (λ v. cond v (suc (front test (k + 1) bs)) 0) t
+unfolding front
+front_no test k b bs t = rw t refl
 
 pub front_more : (test : ℕ → ℕ → Bool) (k n i : ℕ) (xs : List ℕ) → i < length xs
     → n ≡ i + front test (k + i) (drop i xs) → test (k + i) (get_or xs i 0) ≡ true
@@ -71,33 +68,30 @@ front_pass test k (suc m) (b ∷ bs) h =
     (λ t. let q = front_yes test k b bs t in and_from (test k b) (all_pass test (k + 1) (take m bs)) t (front_pass test (k + 1) m bs (omega (arith, h, q))))
     (λ f. let q = front_no test k b bs f in absurd (omega (arith, h, q)))
 
+-- each byte where all do
+pub pass_at : (test : ℕ → ℕ → Bool) (k : ℕ) (bs : List ℕ) (i : ℕ) → all_pass test k bs ≡ true
+    → i < length bs → test (k + i) (get_or bs i 0) ≡ true
+unfolding all_pass
+pass_at test k [] i h l = absurd (omega (arith, l))
+pass_at test k (b ∷ bs) zero h l =
+    let e : k + zero ≡ k = omega arith in
+    ap (λ j. test j b) e ∙ (and_parts (test k b) (all_pass test (k + 1) bs) h).0
+pass_at test k (b ∷ bs) (suc i) h l =
+    let e : k + suc i ≡ k + 1 + i = omega arith in
+    ap (λ j. test j (get_or bs i 0)) e ∙ pass_at test (k + 1) bs i (and_parts (test k b) (all_pass test (k + 1) bs) h).1 (omega (arith, l))
+
 pub front_byte : (test : ℕ → ℕ → Bool) (k m : ℕ) (xs : List ℕ) → m < front test k xs
     → test (k + m) (get_or xs m 0) ≡ true
-front_byte test k m [] h = let q = front_nil test k in absurd (omega (arith, h, q))
-front_byte test k zero (b ∷ bs) h =
-    let e : k + zero ≡ k = omega arith in
-    bool_cases (test k b)
-    (λ t. ap (λ j. test j b) e ∙ t)
-    (λ f. let q = front_no test k b bs f in absurd (omega (arith, h, q)))
-front_byte test k (suc m) (b ∷ bs) h =
-    let e : k + suc m ≡ k + 1 + m = omega arith in
-    bool_cases (test k b)
-    (λ t. let q = front_yes test k b bs t in ap (λ j. test j (get_or bs m 0)) e ∙ front_byte test (k + 1) m bs (omega (arith, h, q)))
-    (λ f. let q = front_no test k b bs f in absurd (omega (arith, h, q)))
+front_byte test k m xs h =
+    let i = front_inside test k xs in
+    let n = length-take-le (m + 1) xs (omega (arith, h, i)) in
+    ap (test (k + m)) (sym (get_or-take (m + 1) xs m 0 (omega arith))) ∙ pass_at test k (take (m + 1) xs) m (front_pass test k (m + 1) xs (omega (arith, h))) (omega (arith, n))
 
 -- ASCII
 
-below_at : (test : ℕ → ℕ → Bool) → ((k b : ℕ) → test k b ≡ true → b < 128)
-    → (k : ℕ) (bs : List ℕ) (i : ℕ) → all_pass test k bs ≡ true → i < length bs
-    → get_or bs i 0 < 128
-unfolding all_pass
-below_at test low k [] i h l = absurd (omega (arith, l))
-below_at test low k (b ∷ bs) zero h l = low k b (and_parts (test k b) (all_pass test (k + 1) bs) h).0
-below_at test low k (b ∷ bs) (suc i) h l = below_at test low (k + 1) bs i (and_parts (test k b) (all_pass test (k + 1) bs) h).1 (omega (arith, l))
-
 below_all : (test : ℕ → ℕ → Bool) → ((k b : ℕ) → test k b ≡ true → b < 128) → (k : ℕ) (bs : List ℕ)
     → all_pass test k bs ≡ true → All (λ b. b < 128) bs
-below_all test low k bs h = All-from_get_or (λ b. b < 128) bs 0 (λ i l. below_at test low k bs i h l)
+below_all test low k bs h = All-from_get_or (λ b. b < 128) bs 0 (λ i l. low (k + i) (get_or bs i 0) (pass_at test k bs i h l))
 
 pub at_most : (b n : ℕ) → nat_le b n ≡ true → b ≤ n
 at_most b n e = grind (arith, nat_tests)

@@ -11,7 +11,7 @@ use Rattle.yaml_emit_sink.specs.declared.Cursor.{Cursor}
 use Rattle.yaml_emit_sink.specs.Text.{Item, letter, is_break}
 use Rattle.yaml_emit_sink.specs.Layout.{Layout, Rest, ◌▹◌, stay, choose, when, char, letters, new_line, line, is_past}
 use Rattle.yaml_emit_sink.specs.Sink.{Output, Ends, Owes, Puts}
-use Rattle.yaml_emit_sink.proofs.Sinks.{grows_both}
+use Rattle.yaml_emit_sink.proofs.Sinks.{grows_both, puts_as}
 use Rattle.yaml_emit_text.specs.declared.page.Page.{Page}
 use Rattle.yaml_emit_text.specs.declared.run.Bounds.{Bounds}
 use Rattle.yaml_emit_text.specs.Quoted.{needs_escape, escape_text, first, may_fold, fold, escaped, quoted_char, quoted_body}
@@ -20,7 +20,7 @@ use Rattle.yaml_emit_text.specs.Style.{last_or, seen, looked, joined, is_special
 use Rattle.yaml_emit_text.specs.Runs.{all_pass, runs_on, is_calm, calm, KeepsRuns, quoted_bounds, flow_bounds, block_bounds}
 use Rattle.yaml_emit_text.proofs.Bools.{bool_cases}
 use Rattle.yaml_emit_text.proofs.RunLemmas.{at_most, calm_ascii, calm_least, calm_largest, run_byte, last_append}
-use Rattle.yaml_emit_text.proofs.Walks.{walk_end, flow_end}
+use Rattle.yaml_emit_text.proofs.Walks.{flow_end}
 use Rattle.yaml_emit_text.specs.Tame.{IsTame}
 use Rattle.yaml_emit_text.proofs.Looks.{looked_at}
 
@@ -46,20 +46,20 @@ owes_then a b c x y z p q = record {
   grows = grows_both a.bytes b.bytes c.bytes p.grows q.grows;
 }
 
--- Any walk: where each byte that passes is written as it is, all of them are.
-run_walk : (body : ℕ → List ℕ → Layout) (test : ℕ → ℕ → Bool) (behind : ℕ → Bool)
-    → ((before b : ℕ) (ys : List ℕ) (c : Cursor) (rest : Rest) → behind before ≡ true
-    → test c.column b ≡ true → body before (b ∷ ys) c rest ≡ char b c (λ d. body b ys d rest))
-    → ((k b : ℕ) → test k b ≡ true → behind b ≡ true)
-    → (before : ℕ) (bs xs : List ℕ) (c : Cursor) (rest : Rest) → behind before ≡ true
-    → all_pass test c.column bs ≡ true
+-- Any walk: where each byte that runs on is written as it is, all of them are.
+run_walk : (e : Bounds) (body : ℕ → List ℕ → Layout) (behind : ℕ → Type 0)
+    → ((before b : ℕ) (ys : List ℕ) (c : Cursor) (rest : Rest) → behind before
+    → runs_on e c.column b ≡ true → body before (b ∷ ys) c rest ≡ char b c (λ d. body b ys d rest))
+    → ((k b : ℕ) → runs_on e k b ≡ true → behind b)
+    → (before : ℕ) → behind before → (bs xs : List ℕ) (c : Cursor) (rest : Rest)
+    → all_pass (runs_on e) c.column bs ≡ true
     → body before (bs ++ xs) c rest ≡ (letters bs ▹ body (last_or before bs) xs) c rest
 unfolding letters last_or all_pass
-run_walk body test behind step more before [] xs c rest g h = refl
-run_walk body test behind step more before (b ∷ bs) xs c rest g h =
-    let t = (and_parts (test c.column b) (all_pass test (c.column + 1) bs) h).0 in
+run_walk e body behind step more before g [] xs c rest h = refl
+run_walk e body behind step more before g (b ∷ bs) xs c rest h =
+    let (t, u) = and_parts (runs_on e c.column b) (all_pass (runs_on e) (c.column + 1) bs) h in
     step before b (bs ++ xs) c rest g t
-    ∙ ap (λ t. letter b ∷ t) (run_walk body test behind step more b bs xs (record { column = c.column + 1; white = false; bare = false; kept = c.kept }) rest (more c.column b t) (and_parts (test c.column b) (all_pass test (c.column + 1) bs) h).1)
+    ∙ ap (λ t. letter b ∷ t) (run_walk e body behind step more b (more c.column b t) bs xs (record { column = c.column + 1; white = false; bare = false; kept = c.kept }) rest u)
 
 -- what a byte of a run is, in the words of each style
 
@@ -113,9 +113,9 @@ run_put e body at a b before last bs xs text k q h t l w =
     run_owes body a b before last bs xs text (λ rest. k bs xs a.cursor rest (subst P q h)) t l w
 
 -- by the bounds of each style
-bound_by : (e f : Bounds) (k : ℕ) (bs : List ℕ) → e ≡ f → all_pass (runs_on e) k bs ≡ true
-    → all_pass (runs_on f) k bs ≡ true
-bound_by e f k bs p h = let P : Bounds → Type 0 = λ z. all_pass (runs_on z) k bs ≡ true in subst P p h
+kept_by : (e f : Bounds) (body : ℕ → List ℕ → Layout) (before : ℕ) → e ≡ f
+    → KeepsRuns f body before → KeepsRuns e body before
+kept_by e f body before p k = let P : Bounds → Type 0 = λ z. KeepsRuns z body before in subst P (sym p) k
 
 pub quoted_step : (page : Page) (before b : ℕ) (ys : List ℕ) (c : Cursor) (rest : Rest)
     → runs_on (quoted_bounds page) c.column b ≡ true
@@ -125,22 +125,10 @@ quoted_step page before b ys c rest h = quoted_raw page before b ys c (λ d. quo
 
 pub quoted_runs : (page : Page) (e : Bounds) (before : ℕ) → e ≡ quoted_bounds page
     → KeepsRuns e (quoted_body page) before
-quoted_runs page e before p = λ bs xs c rest h.
-    run_walk (quoted_body page) (runs_on (quoted_bounds page)) (λ _. true) (λ before b ys c rest _ h. quoted_step page before b ys c rest h) (λ k b h. refl) before bs xs c rest refl (bound_by e (quoted_bounds page) c.column bs p h)
+quoted_runs page e before p = kept_by e _ (quoted_body page) before p (run_walk (quoted_bounds page) (quoted_body page) (λ _. true ≡ true) (λ before b ys c rest _ h. quoted_step page before b ys c rest h) (λ k b h. refl) before refl)
 
-unbroken : ℕ → Bool
-unbroken b = not (is_break b)
-
-unbroken_is : (b : ℕ) → unbroken b ≡ true → is_break b ≡ false
-unfolding unbroken
-unbroken_is b h = bool_cases (is_break b) (λ t. absurd (cc (sym (ap not t) ∙ h))) (λ f. f)
-
-unbroken_by : (b : ℕ) → is_break b ≡ false → unbroken b ≡ true
-unfolding unbroken
-unbroken_by b h = ap not h
-
-raw_unbroken : (e : Bounds) (k b : ℕ) → runs_on e k b ≡ true → unbroken b ≡ true
-raw_unbroken e k b h = let r = run_byte e k b h in unbroken_by b (no_break b r.low r.high)
+run_unbroken : (e : Bounds) (k b : ℕ) → runs_on e k b ≡ true → is_break b ≡ false
+run_unbroken e k b h = let r = run_byte e k b h in no_break b r.low r.high
 
 unquoted : (quote : Bool) (b : ℕ) → (b == (if quote then 39 else 0)) ≡ false
     → (quote && b == 39) ≡ false
@@ -163,16 +151,15 @@ flow_raw page quote before b ys c rest g h =
     (λ m. ap (λ v. text_char page quote v b c rest) m ∙ ap (λ v. (when v (char 39) ▹ char b) c rest) (unquoted quote b r.quote))
 
 flow_step : (page : Page) (quote : Bool) (before b : ℕ) (ys : List ℕ) (c : Cursor) (rest : Rest)
-    → unbroken before ≡ true → runs_on (flow_bounds page quote) c.column b ≡ true
+    → is_break before ≡ false → runs_on (flow_bounds page quote) c.column b ≡ true
     → flow_body page quote before (b ∷ ys) c rest ≡ char b c (λ d. flow_body page quote b ys d rest)
 unfolding flow_body
-flow_step page quote before b ys c rest g h = flow_raw page quote before b ys c (λ d. flow_body page quote b ys d rest) (unbroken_is before g) h
+flow_step page quote before b ys c rest g h = flow_raw page quote before b ys c (λ d. flow_body page quote b ys d rest) g h
 
 pub flow_runs : (page : Page) (quote : Bool) (e : Bounds) (before : ℕ)
     → e ≡ flow_bounds page quote → is_break before ≡ false
     → KeepsRuns e (flow_body page quote) before
-flow_runs page quote e before p g = λ bs xs c rest h.
-    run_walk (flow_body page quote) (runs_on (flow_bounds page quote)) unbroken (flow_step page quote) (raw_unbroken (flow_bounds page quote)) before bs xs c rest (unbroken_by before g) (bound_by e (flow_bounds page quote) c.column bs p h)
+flow_runs page quote e before p g = kept_by e _ (flow_body page quote) before p (run_walk (flow_bounds page quote) (flow_body page quote) (λ b. is_break b ≡ false) (flow_step page quote) (run_unbroken (flow_bounds page quote)) before g)
 
 block_raw : (page : Page) (folded blank : Bool) (before b : ℕ) (ys : List ℕ) (c : Cursor)
     (rest : Rest) → is_break before ≡ false → runs_on (block_bounds page folded) c.column b ≡ true
@@ -194,20 +181,19 @@ blank_stays : (blank : Bool) (before b : ℕ) → is_break before ≡ false → 
 blank_stays blank before b g h = rw (g, h) refl
 
 block_step : (page : Page) (folded blank : Bool) (before b : ℕ) (ys : List ℕ) (c : Cursor)
-    (rest : Rest) → unbroken before ≡ true → runs_on (block_bounds page folded) c.column b ≡ true
+    (rest : Rest) → is_break before ≡ false → runs_on (block_bounds page folded) c.column b ≡ true
     → block_body page folded blank before (b ∷ ys) c rest
     ≡ char b c (λ d. block_body page folded blank b ys d rest)
 unfolding block_body
 block_step page folded blank before b ys c rest g h =
     let r = run_byte (block_bounds page folded) c.column b h in
-    block_raw page folded blank before b ys c (λ d. block_body page folded (line_blank blank before b) b ys d rest) (unbroken_is before g) h
-    ∙ ap (λ v. char b c (λ d. block_body page folded v b ys d rest)) (blank_stays blank before b (unbroken_is before g) (no_break b r.low r.high))
+    block_raw page folded blank before b ys c (λ d. block_body page folded (line_blank blank before b) b ys d rest) g h
+    ∙ ap (λ v. char b c (λ d. block_body page folded v b ys d rest)) (blank_stays blank before b g (no_break b r.low r.high))
 
 pub block_runs : (page : Page) (folded blank : Bool) (e : Bounds) (before : ℕ)
     → e ≡ block_bounds page folded → is_break before ≡ false
     → KeepsRuns e (block_body page folded blank) before
-block_runs page folded blank e before p g = λ bs xs c rest h.
-    run_walk (block_body page folded blank) (runs_on (block_bounds page folded)) unbroken (block_step page folded blank) (raw_unbroken (block_bounds page folded)) before bs xs c rest (unbroken_by before g) (bound_by e (block_bounds page folded) c.column bs p h)
+block_runs page folded blank e before p g = kept_by e _ (block_body page folded blank) before p (run_walk (block_bounds page folded) (block_body page folded blank) (λ b. is_break b ≡ false) (block_step page folded blank) (run_unbroken (block_bounds page folded)) before g)
 
 -- what says nothing against a style
 
@@ -309,15 +295,7 @@ ends_there : (page : Page) (before : ℕ) → is_break before ≡ false
     → flow_body page false before [] ≡ stay
 ends_there page before h = flow_end page false before ∙ ap (λ v. when v (line page.line_break page.indentation)) h
 
--- and it is written as it is
-pub tame_written : (page : Page) (at : Cursor) (a b : Output) (v : List ℕ) → IsTame v
-    → at ≡ a.cursor → at.column + length v ≤ page.width → Puts a b (letters v)
-    → Puts a b (flow_body page false 32 (chars v))
-tame_written page at a b v t q w p =
-    walk_end (flow_body page false) a b (flow_body page false 32 (chars v)) (last_or 32 v) [] refl (ends_there page (last_or 32 v) (calm_ends 32 0 v refl t.calm))
-    (run_put (flow_bounds page false) (flow_body page false) at a b 32 (last_or 32 v) v [] (chars v) (flow_runs page false _ 32 refl refl) q (calm_runs page 0 at.column v w t.calm) (tame_letters v t ∙ sym (append-nil v)) refl p)
-
--- the same at a cursor
+-- it is written as it is
 pub tame_at : (page : Page) (c : Cursor) (rest : Rest) (v : List ℕ) → IsTame v
     → c.column + length v ≤ page.width
     → flow_body page false 32 (chars v) c rest ≡ letters v c rest
@@ -325,3 +303,11 @@ tame_at page c rest v t w =
     ap (λ (z : List ℕ). flow_body page false 32 z c rest) (tame_letters v t ∙ sym (append-nil v))
     ∙ flow_runs page false _ 32 refl refl v [] c rest (calm_runs page 0 c.column v w t.calm)
     ∙ ap (λ (z : Layout). letters v c (λ d. z d rest)) (ends_there page (last_or 32 v) (calm_ends 32 0 v refl t.calm))
+
+-- so it was written
+pub tame_written : (page : Page) (at : Cursor) (a b : Output) (v : List ℕ) → IsTame v
+    → at ≡ a.cursor → at.column + length v ≤ page.width → Puts a b (letters v)
+    → Puts a b (flow_body page false 32 (chars v))
+tame_written page at a b v t q w p =
+    let P : Cursor → Type 0 = λ c. c.column + length v ≤ page.width in
+    puts_as a b (letters v) (flow_body page false 32 (chars v)) (λ rest. tame_at page a.cursor rest v t (subst P q w)) p

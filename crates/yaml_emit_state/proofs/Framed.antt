@@ -10,7 +10,6 @@ use Rattle.yaml_emit_tags.specs.parse_model.Events.{TagDirective}
 use Rattle.yaml_emit_tags.specs.parse_model.Nodes.{str_tag}
 use Rattle.yaml_emit_tags.specs.Tags.{tag_spelling}
 use Rattle.yaml_emit_text.specs.declared.Settings.{Settings}
-use Rattle.yaml_emit_text.specs.declared.Page.{Page}
 use Rattle.yaml_emit_text.specs.Layout.{Layout, ◌▹◌, stay, when, char, letters, word, line, after_block}
 use Rattle.yaml_emit_text.specs.Quoted.{double_quoted}
 use Rattle.yaml_emit_text.specs.Scalars.{scalar_text}
@@ -18,14 +17,13 @@ use Rattle.yaml_emit_text.specs.Sink.{Output, Puts}
 use Rattle.yaml_emit_text.specs.Tame.{IsLined}
 use Rattle.yaml_emit_text.specs.LineStarts.{marks, mark_word, line_start_text}
 use Rattle.yaml_emit_text.proofs.LineStarts.{Worded, puts_signed, quoted_worded, tagged_worded, word_worded}
-use Rattle.yaml_emit_layout.specs.declared.Expected.{Expected}
 use Rattle.yaml_emit_layout.specs.declared.Expected.TheVariants as at
 use Rattle.yaml_emit_layout.specs.declared.Level.{Level}
 use Rattle.yaml_emit_layout.specs.declared.NodePosition.{NodePosition}
 use Rattle.yaml_emit_layout.specs.declared.Phase.{Phase}
 use Rattle.yaml_emit_layout.specs.declared.Phase.TheVariants.{Items, Keys, Value}
 use Rattle.yaml_emit_layout.specs.Content.{Scalar, scalar}
-use Rattle.yaml_emit_layout.specs.Grammar.{has, event_problem, last_problem, place_problem, problem_by}
+use Rattle.yaml_emit_layout.specs.Grammar.{has}
 use Rattle.yaml_emit_layout.specs.Nodes.{context_of, checked, deeper, page_at, scalar_layout, style_of, turned, before_item, before_key, before_value}
 use Rattle.yaml_emit_layout.specs.State.{among, before_at, before_node, levels_behind, position_of, top_of}
 use Rattle.yaml_emit_state.specs.declared.state.Core.{Core}
@@ -35,7 +33,7 @@ use Rattle.yaml_emit_state.specs.Stack.{stack_of}
 use Rattle.yaml_emit_state.specs.Steps.{state_of, settings_of, StaysBut, LaysOut}
 use Rattle.yaml_emit_state.proofs.Keyed.{lays_scalar}
 use Rattle.yaml_emit_state.proofs.Plain.{lays_in_place, str_spelled, text_layout, text_no_key, text_right}
-use Rattle.yaml_emit_state.proofs.Unmarked.{none_given, unchecked_behind}
+use Rattle.yaml_emit_state.proofs.Unmarked.{Parts, parts_right, none_given, unchecked_behind}
 
 -- ---- how it is written
 
@@ -113,23 +111,11 @@ signs_ascii p quoted = IsAscii-append (marks (mark_of p)) (marks (sign_of quoted
 
 -- ---- that it is laid out
 
-record Free (x : Scalar) : Type 0 where
-  no_anchor : x.anchor ≡ None
-  no_tag : x.tag ≡ None
-  left_out : (x.plain || x.quoted) ≡ true
-
-frees : (x : Scalar) → is_free x ≡ true → Free x
+frees : (x : Scalar) → is_free x ≡ true → Parts x
 frees x h =
     let a = and_parts (not (has x.anchor)) (not (has x.tag) && (x.plain || x.quoted)) h in
     let t = and_parts (not (has x.tag)) (x.plain || x.quoted) a.1 in
     record { no_anchor = none_given x.anchor a.0; no_tag = none_given x.tag t.0; left_out = t.1 }
-
-free_by : (canonical : Bool) (place : Expected) (top : Option Level) (x : Scalar)
-    → canonical ≡ true → place ≡ at.Node → Free x
-    → problem_by canonical place top (scalar x) ≡ None
-unfolding problem_by event_problem place_problem last_problem
-free_by canonical place None x e h p = rw (e, h, p.no_anchor, p.no_tag, p.left_out) refl
-free_by canonical place (Some l) x e h p = rw (e, h, p.no_anchor, p.no_tag, p.left_out) refl
 
 marked_is : (quoted : Bool) (z : Layout)
     → (when (true && (not quoted && true)) (word (33 ∷ [])) ▹ z)
@@ -138,7 +124,7 @@ marked_is true z = refl
 marked_is false z = refl
 
 free_layout : (s : Settings) (ds : List TagDirective) (pos : NodePosition) (x : Scalar)
-    → s.canonical ≡ true → Free x → scalar_layout (context_of s ds) pos x
+    → s.canonical ≡ true → Parts x → scalar_layout (context_of s ds) pos x
     ≡ (when (not x.quoted) (word (33 ∷ [])) ▹ (checked (deeper s pos.around) ▹ double_quoted (page_at s pos) (chars x.value)))
 unfolding scalar_layout style_of scalar_text
 free_layout s ds pos x e p = rw (e, p.no_anchor, p.no_tag) (marked_is x.quoted (checked (deeper s pos.around) ▹ double_quoted (page_at s pos) (chars x.value)))
@@ -160,7 +146,7 @@ lays_free old new o s top quoted v x empty same upper form due free q value writ
     let D : Settings → Type 0 = λ z. Puts old.sink o (framed_text z innermost quoted v) in
     let E : Option Level → Type 0 = λ z. Puts old.sink o (framed_text s z quoted v) in
     let put = subst C (sym (free_layout own old.directives (position_of innermost false) x form p)) (subst B (sym value) (subst A (sym q) (subst D same (subst E upper written)))) in
-    lays_in_place old new (scalar x) empty (free_by own.canonical old.place innermost x form due p)
+    lays_in_place old new (scalar x) empty (parts_right own.canonical old.place innermost x due p)
     (lays_scalar old new o own innermost x false empty refl refl (text_no_key (context_of own old.directives) innermost x form) put moved kept)
 
 -- a text with the default tag was laid out

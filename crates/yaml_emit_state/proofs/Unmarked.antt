@@ -27,12 +27,12 @@ use Rattle.yaml_emit_layout.specs.declared.NodePosition.{NodePosition}
 use Rattle.yaml_emit_layout.specs.Content.{Scalar, scalar}
 use Rattle.yaml_emit_layout.specs.Grammar.{has, scalar_tag, event_problem, last_problem, place_problem, problem_by}
 use Rattle.yaml_emit_layout.specs.Nodes.{MOST, deeper, page_at, deep_if, checked, context_of, is_simple_part, is_simple_scalar, scalar_layout, style_of, position, turned as turned_line, before_item, before_key, before_value, wrap_at, line_at, comma}
-use Rattle.yaml_emit_layout.specs.State.{State, problem_at, among, before_at, levels_behind, phase_behind, position_of, part_at, top_of}
+use Rattle.yaml_emit_layout.specs.State.{State, among, before_at, levels_behind, phase_behind, position_of, part_at, top_of}
 use Rattle.yaml_emit_state.specs.declared.state.Core.{Core}
 use Rattle.yaml_emit_state.specs.Bare.{is_double, IsInline, short_text, short_node, turned, hyphen, entry_phase, Places}
 use Rattle.yaml_emit_state.specs.Due.{is_key_in, is_key}
 use Rattle.yaml_emit_state.specs.Stack.{stack_of}
-use Rattle.yaml_emit_state.specs.Steps.{state_of, settings_of, StaysBut, LaysOut}
+use Rattle.yaml_emit_state.specs.Steps.{settings_of, StaysBut, LaysOut}
 use Rattle.yaml_emit_state.proofs.Canonical.{not_deep}
 use Rattle.yaml_emit_state.proofs.Keyed.{lays_scalar}
 use Rattle.yaml_emit_state.proofs.Plain.{lays_in_place}
@@ -58,10 +58,11 @@ plainly x b = (asked_parts x.anchor x.tag x.plain (asks_plain x.style) b.asked).
 in_quotes : (x : Scalar) → IsInline true x → (x.quoted ≡ true) × (is_double x.style ≡ true)
 in_quotes x b = (asked_parts x.anchor x.tag x.quoted (is_double x.style) b.asked).1.1
 
-record Parts (x : Scalar) : Type 0 where
-  no_anchor : x.anchor ≡ None
-  no_tag : x.tag ≡ None
-  left_out : (x.plain || x.quoted) ≡ true
+-- no anchor and no tag, which may be left out
+pub record Parts (x : Scalar) : Type 0 where
+  pub no_anchor : x.anchor ≡ None
+  pub no_tag : x.tag ≡ None
+  pub left_out : (x.plain || x.quoted) ≡ true
 
 parts : (quoted : Bool) (x : Scalar) → IsInline quoted x → Parts x
 parts false x b =
@@ -124,16 +125,14 @@ short_simple quoted s ds x e b =
     let p = parts quoted x b in
     rw (e, standing_breaks quoted x.value b.stands, p.no_anchor, p.no_tag, p.left_out) (few_bytes x.value b.few)
 
-short_by : (quoted canonical : Bool) (place : Expected) (top : Option Level) (x : Scalar)
-    → canonical ≡ false → place ≡ at.Node → IsInline quoted x
-    → problem_by canonical place top (scalar x) ≡ None
+-- nothing is wrong with it where a node is due
+pub parts_right : (canonical : Bool) (place : Expected) (top : Option Level) (x : Scalar)
+    → place ≡ at.Node → Parts x → problem_by canonical place top (scalar x) ≡ None
 unfolding problem_by event_problem place_problem last_problem
-short_by quoted canonical place None x e h b = let p = parts quoted x b in rw (e, h, p.no_anchor, p.no_tag, p.left_out) refl
-short_by quoted canonical place (Some l) x e h b = let p = parts quoted x b in rw (e, h, p.no_anchor, p.no_tag, p.left_out) refl
-
-short_right : (quoted : Bool) (s : Settings) (st : State) (x : Scalar) → s.canonical ≡ false
-    → st.place ≡ at.Node → IsInline quoted x → problem_at s st (scalar x) ≡ None
-short_right quoted s st x e h b = short_by quoted s.canonical st.place _ x e h b
+parts_right true place None x h p = rw (h, p.no_anchor, p.no_tag, p.left_out) refl
+parts_right true place (Some l) x h p = rw (h, p.no_anchor, p.no_tag, p.left_out) refl
+parts_right false place None x h p = rw (h, p.no_anchor, p.no_tag, p.left_out) refl
+parts_right false place (Some l) x h p = rw (h, p.no_anchor, p.no_tag, p.left_out) refl
 
 -- ---- how it is written
 
@@ -268,5 +267,5 @@ lays_short quoted old new l p q simple v x empty form due top is key next there 
     let here = subst D (sym (short_layout quoted s old.directives pos x form b)) (subst C (same_before old.settings old.sink.encoding l.phase l.flow l.indent simple) written) in
     let E : Phase → Type 0 = λ z. q ≡ phase_behind z simple in
     let moved = behind_by new.place (stack_of new.levels) (stack_of old.levels) new.directives old.directives l q simple (there.place ∙ due) there.directives top (subst E (sym is) next) there.levels in
-    lays_in_place old new (scalar x) empty (short_right quoted s (state_of old) x form due b)
+    lays_in_place old new (scalar x) empty (parts_right s.canonical old.place (top_of (stack_of old.levels)) x due (parts quoted x b))
     (lays_scalar old new o s (Some l) x simple empty refl top asked here moved (there.settings, refl, there.starved))

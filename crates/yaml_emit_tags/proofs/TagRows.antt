@@ -8,11 +8,14 @@ use Rattle.yaml_emit_tags.specs.Tags.{directive_for, defines, suffix_keeps, uri_
 abbrev directive : List ℕ → List ℕ → TagDirective
 directive handle prefix = record { handle = handle; prefix = prefix }
 
-rows : (tag_spelling (directive (codes "!!") (codes "tag:x,2000:") ∷ []) (codes "tag:x,2000:a b") ≡ codes "!!a%20b")
-    × (tag_spelling (directive (codes "!!") (codes "tag:x,2000:") ∷ []) (codes "tag:yaml.org,2002:str") ≡ codes "!<tag:yaml.org,2002:str>")
+rows : (tag_spelling (directive (codes "!!") (codes "tag:x,2000:") ∷ []) (codes "tag:x,2000:a b")
+    ≡ codes "!!a%20b")
+    × (tag_spelling (directive (codes "!!") (codes "tag:x,2000:") ∷ [])
+    (codes "tag:yaml.org,2002:str") ≡ codes "!<tag:yaml.org,2002:str>")
     × (tag_spelling (directive (codes "!") (codes "!m-") ∷ []) (codes "!m-a") ≡ codes "!a")
     × (tag_spelling [] (codes "!") ≡ codes "!<%21>")
-    × (tag_spelling (directive (codes "!e!") (codes "tag:x,2000:") ∷ []) (codes "tag:x,2000:") ≡ codes "!<tag:x,2000:>")
+    × (tag_spelling (directive (codes "!e!") (codes "tag:x,2000:") ∷ []) (codes "tag:x,2000:")
+    ≡ codes "!<tag:x,2000:>")
     × (tag_spelling [] (codes "tag:yaml.org,2002:a,[b]") ≡ codes "!!a%2C%5Bb%5D")
     × (tag_spelling (directive (codes "!e!") (codes "!") ∷ directive (codes "!f!") (codes "!") ∷ []) (codes "!x") ≡ codes "!e!x")
     × (tag_spelling [] (120 ∷ 91 ∷ 44 ∷ 93 ∷ 37 ∷ 0 ∷ []) ≡ codes "!<x[,]%25%00>")

@@ -103,9 +103,8 @@ fn see(beginning: &mut Beginning, event: &yaml_event_t)
 }
 
 // Gives the event in the slot, as its form has it; what is left there counts for nothing. The emitter keeps its first fault.
-// Inlined into both loops: a few tests and a call.
-#[inline(always)]
-fn emit_formed(emitter: &mut yaml_emitter_t, form: &mut Form, event: &mut yaml_event_t)
+// No hint: a copy that one loop calls is inlined there, with the emitter's own steps. `L` names the loop, as in `Reading::next`.
+fn emit_formed<L>(emitter: &mut yaml_emitter_t, form: &mut Form, event: &mut yaml_event_t)
     requires { HasUtf8 (event_of event.old).body }
     ensures { Gives form.old emitter.old (event_of event.old) form.new emitter.new }
 {
@@ -149,7 +148,7 @@ pub(crate) fn write_up_to(
         match reading.next::<Writing>() {
             yaml_found_t::Refused => return Err(reading.fault),
             yaml_found_t::End => return Ok(true),
-            yaml_found_t::Event => emit_formed(emitter, form, &mut reading.event),
+            yaml_found_t::Event => emit_formed::<Writing>(emitter, form, &mut reading.event),
         }
     }
 }
@@ -167,7 +166,7 @@ pub(crate) fn write_rest(
         match reading.next::<()>() {
             yaml_found_t::Refused => return Err(reading.fault),
             yaml_found_t::End => return Ok(()),
-            yaml_found_t::Event => emit_formed(emitter, form, &mut reading.event),
+            yaml_found_t::Event => emit_formed::<()>(emitter, form, &mut reading.event),
         }
     }
 }

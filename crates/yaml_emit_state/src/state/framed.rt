@@ -50,8 +50,8 @@ impl Core {
     }
 
     // A scalar without properties, where a node is due: at once, or in the general way.
-    // Out of line: what properties need takes no room here.
-    #[inline(never)]
+    // Inlined: with a loop over events that has the emitter's step in line it is a call less for each.
+    #[inline(always)]
     fn lay_free(&mut self, event: &mut yaml_event_body_t, empty: bool)
         requires utf8 { HasUtf8 (body_of event.old) }
         requires form { self.old.settings.canonical ≡ true }

@@ -212,8 +212,8 @@ impl Core {
     }
 
     // An event that is known to be such a scalar: at once, or in the general way.
-    // Out of line: that it is plain is known in all that is inlined here.
-    #[inline(never)]
+    // Inlined: with a loop over events that has the emitter's step in line it is a call less for each.
+    #[inline(always)]
     fn lay_bare(&mut self, event: &mut yaml_event_body_t, empty: bool)
         requires utf8 { HasUtf8 (body_of event.old) }
         requires form { self.old.settings.canonical ≡ false }

@@ -36,24 +36,24 @@ use Rattle.yaml_scan_queue.specs.Waits.{KeptLexeme, kept_of}
 use Rattle.yaml_scan_machine.specs.declared.next.Read.{Read as Answer}
 use Rattle.yaml_scan_machine.specs.State.{IsShort, IsMachine, ReadsOneMore, ready_in, is_ready}
 use Rattle.yaml_scan_machine.specs.Shows.{Fields, fields_of, IsShown, read, settled_in, history_of, stream_of}
-use Rattle.yaml_scan_machine.specs.Reads.{GivesNext}
+use Rattle.yaml_scan_machine.specs.Reads.{GivesNext, Stops}
 use Rattle.yaml_scan_machine.specs.Stood.{Steps, IsRefused}
 use Rattle.yaml_scan_machine.specs.Comes.{to_come, Refused, Faults}
 use Rattle.yaml_scan_machine.proofs.MarkLemmas.{next_ended}
 use Rattle.yaml_scan_machine.proofs.NextLemmas.{settled_first}
 use Rattle.yaml_scan_machine.proofs.GivenLemmas.{front_is, no_entry}
 
-refused_at : (m : Machine) (f : ScanFault) (x : Next) → next (text_bytes m.text) (history_of m) ≡ x
-    → GivesNext m (Err (errors.Fault f)) x → next (text_bytes m.text) (history_of m) ≡ Fails f
-refused_at m f (Read l) e g = absurd g
-refused_at m f (Fails p) e g = e ∙ ap Fails (sym g)
-refused_at m f Ends e g = absurd g
+refused_at : (m : Machine) (e : ScanError) (x : Next) → next (text_bytes m.text) (history_of m) ≡ x
+    → Stops e x → Refused m e
+refused_at m errors.Memory x e g = tt
+refused_at m (errors.Fault f) (Read l) e g = absurd g
+refused_at m (errors.Fault f) (Fails p) e g = e ∙ ap Fails (sym g)
+refused_at m (errors.Fault f) Ends e g = absurd g
 
 -- a refusal is the next fault
 pub refused_by : (m : Machine) (e : ScanError)
-    → GivesNext m (Err e) (next (text_bytes m.text) (history_of m)) → Refused m e
-refused_by m errors.Memory g = tt
-refused_by m (errors.Fault f) g = refused_at m f (next (text_bytes m.text) (history_of m)) refl g
+    → Stops e (next (text_bytes m.text) (history_of m)) → Refused m e
+refused_by m e g = refused_at m e (next (text_bytes m.text) (history_of m)) refl g
 
 pub refused_any : (m : Machine) (r : Result Answer ScanError)
     → GivesNext m r (next (text_bytes m.text) (history_of m)) → IfErr r (λ e. Refused m e)
@@ -193,24 +193,6 @@ pub told_decoding : (m : Machine) (f : Fault) → m.started ≡ false
 told_decoding m f off (inl memory) = inl (inr memory)
 told_decoding m f off (inr fault) =
     subst (λ (c : Remaining). IsTold c f) (sym (left_whole m off)) (offence_told (encoding_of m.setting m.input.now) (decoded_characters m.setting m.input.now) f fault)
-
--- what a step answers
-pub steps_on : (old new : Machine) (f : Fault) (b : Bool) → b ≡ true → Steps old new f b
-    → IsMachine new × ReadsOneMore old new
-steps_on old new f true e s = s
-steps_on old new f false e s = cc
-
--- A step that fails is refused, and at most 1,025 lexemes wait.
-pub steps_off : (old new : Machine) (f : Fault) (b : Bool) → b ≡ false → Steps old new f b
-    → IsRefused old f × IsShort new.waiting
-steps_off old new f true e s = cc
-steps_off old new f false e s = s
-
--- a step's fault is the one that a machine tells, where the same is to come
-pub told_refused : (first m : Machine) (f : Fault) → first.started ≡ true
-    → to_come m ≡ to_come first → IsMachine m → is_ready m ≡ false → m.ended ≡ false → IsRefused m f
-    → IsTold (left_in first) f
-told_refused first m f on same i stuck more (e, refused, is) = told_error first e f on (subst (λ (c : Remaining). Faults e c) same (fault_machine m e i stuck more refused)) is
 
 -- where text and input are the same, so is what the input spells
 pub decoded_as : (m d : Machine) → d.text ≡ m.text → d.setting ≡ m.setting

@@ -1,5 +1,5 @@
 -- A letter starts a plain scalar.
-use Rattle.std.proofs.Common.{◌≡◌, ◌≢◌, ℕ, ◌+◌, ◌<◌, ◌==◌, ◌&&◌, Bool, true, false, List, Some, None, refl, arith}
+use Rattle.std.proofs.Common.{◌≡◌, ◌≢◌, ℕ, ◌+◌, ◌<◌, ◌==◌, ◌&&◌, Bool, true, false, List, Some, None, refl, sym, arith}
 use Rattle.std.proofs.lemmas.Bool.Decides.{nat_tests}
 use Rattle.std.proofs.lemmas.Bool.{ne_eqb}
 use Rattle.yaml_scan_model.specs.Marks.{byte, break_width, column_at, is_blank, is_blank_or_end}
@@ -54,7 +54,7 @@ no_end : (text : List ℕ) (p : ℕ) → byte text p ≢ 46 → is_document_end 
 unfolding is_document_end
 no_end text p h = no_mark (byte text p) 46 (byte text (p + 1)) (byte text (p + 2)) (column_at text p == 0) (is_blank_or_end text (p + 3)) h
 
-pub letter_starts : (flow : Bool) (text : List ℕ) (p : ℕ) → is_letter (byte text p) ≡ true
+letter_starts : (flow : Bool) (text : List ℕ) (p : ℕ) → is_letter (byte text p) ≡ true
     → starts_plain flow text p ≡ true
 unfolding starts_plain
 letter_starts flow text p h =
@@ -63,10 +63,15 @@ letter_starts flow text p h =
     let z : break_width text p ≡ 0 = no_break _ _ _ l.no_cr l.no_feed l.no_c2 l.no_e2 in
     rw (l.no_blank, ne_eqb (byte text p) 0 (omega arith), z, l.no_indicator) refl
 
-pub letter_kind : (flow : Bool) (text : List ℕ) (p : ℕ) → is_letter (byte text p) ≡ true
+letter_kind : (flow : Bool) (text : List ℕ) (p : ℕ) → is_letter (byte text p) ≡ true
     → kind_at flow text p ≡ Some kinds.Plain
 unfolding kind_at
 letter_kind flow text p h =
     let l = letter_is (byte text p) h in
     let some = l.some in
     rw (ne_eqb (byte text p) 0 (omega arith), ne_eqb (byte text p) 37 l.no_percent, no_start text p l.no_dash, no_end text p l.no_dot, tells_none flow _ (byte text p) h, letter_starts flow text p h) refl
+
+-- a letter is read as a plain scalar's first byte
+pub letter_told : (flow : Bool) (text : List ℕ) (p : ℕ) → is_letter (byte text p) ≡ true
+    → (Some kinds.Plain ≡ kind_at flow text p) × (starts_plain flow text p ≡ true)
+letter_told flow text p h = (sym (letter_kind flow text p h), letter_starts flow text p h)

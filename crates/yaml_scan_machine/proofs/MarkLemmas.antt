@@ -13,7 +13,7 @@ use Rattle.yaml_scan_history.specs.Kinds.{is_value, is_end, depth_after}
 use Rattle.yaml_scan_history.specs.History.{Candidate, candidate, first_open, as_key, mark_key, keyed, entries, entry_of, reached, depth, ended, found_by, inside, start_of, levels, key_allowed}
 use Rattle.yaml_scan_history.specs.Next.{history, Read, Ends, next}
 use Rattle.yaml_scan_history.specs.Laws.{Upto, GoesForward}
-use Rattle.yaml_scan_machine.proofs.ReadLemmas.{next_is, first_is, begun_at, finished_depth}
+use Rattle.yaml_scan_machine.proofs.ReadLemmas.{next_is, first_is, begun_at, finished_same}
 use Rattle.yaml_scan_machine.specs.Candidates.{AreKeys}
 use Rattle.yaml_scan_machine.specs.Shows.{Fields, ShowsMachine, IsShown, all_kept, kept_in, read, settled_in, spelled}
 use Rattle.yaml_scan_queue.specs.Waits.{KeptLexeme, kept_of, keyed as marked}
@@ -48,7 +48,7 @@ pub depth_of : (text : List ℕ) (h : List Lexeme) (l : Lexeme) → next text h 
     → l.depth ≡ depth h
 unfolding next
 depth_of text [] l e = ap (λ (x : Lexeme). x.depth) (first_is text l e)
-depth_of text (x ∷ h) l e = let r = next_is text x h l e in ap (λ (y : Lexeme). y.depth) r.is ∙ finished_depth text (begun_at text (x ∷ h) l.kind) r.word
+depth_of text (x ∷ h) l e = let r = next_is text x h l e in ap (λ (y : Lexeme). y.depth) r.is ∙ (finished_same text (begun_at text (x ∷ h) l.kind) r.word).depth
 
 as_key_set : (ls : List ℕ) (es : List Entry) (i : ℕ) (e : Entry) → i < length es → e ≡ get_or es i e
     → mark_key ls es i ≡ set es i (as_key ls e)

@@ -156,18 +156,12 @@ by_waiting m (w ∷ ws) items i stuck unended =
     ] in
     more_comes (stream_of m) n m.dropped m.given no_entry unended (omega (arith, s.count)) (inl (inside, omega (arith, ends, few)))
 
-machine_more : (m : Machine) → IsMachine m → is_ready m ≡ false → m.ended ≡ false
+pub machine_more : (m : Machine) → IsMachine m → is_ready m ≡ false → m.ended ≡ false
     → HasMore (to_come m).tokens (to_come m).fault
 machine_more m i stuck more = by_waiting m m.waiting.items refl i stuck (open_next (text_bytes m.text) (history_of m) (sym i.shown.ended ∙ more))
 
 abbrev Comes : Remaining → Type 0
 Comes c = HasMore c.tokens c.fault
-
--- where a lexeme more was sought
-pub denied_more : (first m : Machine) → first.started ≡ true → to_come m ≡ to_come first
-    → IsMachine m → is_ready m ≡ false → m.ended ≡ false
-    → HasMore (left_in first).tokens (left_in first).fault
-denied_more first m on same i stuck more = subst Comes (same ∙ sym (left_is first on)) (machine_more m i stuck more)
 
 text_more : (s : SpelledText) → Comes (offline s)
 unfolding history

@@ -15,7 +15,7 @@ use Rattle.yaml_scan_history.proofs.StepwiseLemmas.{stepwise}
 use Rattle.yaml_scan_history.proofs.HistoryLemmas.{fresh_is, fresh_before, cases_Option}
 use Rattle.yaml_scan_machine.specs.Shows.{Fields, IsShown, read, settled_in}
 use Rattle.yaml_scan_machine.specs.Reads.{required_in, late, lost, required_behind}
-use Rattle.yaml_scan_machine.proofs.ReadLemmas.{next_is, first_is, begun_at, gap_of, finished_required, finished_depth, finished_saved}
+use Rattle.yaml_scan_machine.proofs.ReadLemmas.{next_is, first_is, begun_at, gap_of, finished_same}
 use Rattle.yaml_scan_machine.proofs.StepLemmas.{candidate_top}
 
 pub next_first : (text : List ℕ) (h : List Lexeme) → length h ≡ 0 → next text h ≡ Read first_lexeme
@@ -89,10 +89,10 @@ pub required_is : (text : List ℕ) (h : List Lexeme) (l : Lexeme) → next text
 required_is text [] l e must = let bad = ap (λ (x : Lexeme). x.required) (first_is text l e) in cc
 required_is text (y ∷ h) l e must =
     let r = next_is text y h l e in
-    let b = begun_at text (y ∷ h) l.kind in
-    let at = ap (λ (x : Lexeme). x.required) r.is ∙ finished_required text b r.word in
-    let depth_at = ap (λ (x : Lexeme). x.depth) r.is ∙ finished_depth text b r.word in
-    let saved_at = ap (λ (x : Lexeme). x.saved) r.is ∙ finished_saved text b r.word in
+    let same = finished_same text (begun_at text (y ∷ h) l.kind) r.word in
+    let at = ap (λ (x : Lexeme). x.required) r.is ∙ same.required in
+    let depth_at = ap (λ (x : Lexeme). x.depth) r.is ∙ same.depth in
+    let saved_at = ap (λ (x : Lexeme). x.saved) r.is ∙ same.saved in
     let (z, so) = required_parts (allowed_behind (y ∷ h) (gap_of text (y ∷ h))) (may_be_key l.kind) _ (depth (y ∷ h)) (sym at ∙ must) in
     (depth_at ∙ z, saved_at ∙ so)
 

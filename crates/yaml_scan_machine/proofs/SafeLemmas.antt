@@ -141,9 +141,6 @@ known_settled d s g w ws ready past =
 
 pub depth_after-le : (k : Kind) (d : ℕ) → depth_after k d ≤ d + 1
 depth_after-le kinds.FlowSequenceStart d = omega arith
-depth_after-le kinds.FlowMappingStart d = omega arith
-depth_after-le kinds.FlowSequenceEnd d = omega arith
-depth_after-le kinds.FlowMappingEnd d = omega arith
 depth_after-le _ d = omega arith
 
 pub narrow_by : (n c : ℕ) (may : Bool) (xs new : List ℕ) → c ≤ n → IsNarrow n xs

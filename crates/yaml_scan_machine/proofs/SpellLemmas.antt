@@ -55,10 +55,8 @@ front_counts e n =
 start_count-le : (o : Opens) (k : Bool) → start_count o + key_count k ≤ 2
 start_count-le opening.Nothing false = omega arith
 start_count-le opening.Nothing true = omega arith
-start_count-le opening.Sequence false = omega arith
-start_count-le opening.Sequence true = omega arith
-start_count-le opening.Mapping false = omega arith
-start_count-le opening.Mapping true = omega arith
+start_count-le _ false = omega arith
+start_count-le _ true = omega arith
 
 -- at most a block start and KEY stand behind the levels that a lexeme closes
 pub front_count-le : (e : KeptLexeme) → front_count e ≤ e.ends + 2
@@ -72,10 +70,8 @@ start_length : (s : SpelledText) (l : Lexeme) (o : Opens) (k : Bool)
     → length (start_tokens o l) + length (own s l k) ≡ start_count o + key_count k + 1
 start_length s l opening.Nothing false = refl
 start_length s l opening.Nothing true = refl
-start_length s l opening.Sequence false = refl
-start_length s l opening.Sequence true = refl
-start_length s l opening.Mapping false = refl
-start_length s l opening.Mapping true = refl
+start_length s l _ false = refl
+start_length s l _ true = refl
 
 -- A lexeme is spelled as what stands in front of it, and itself.
 pub spell_length : (s : SpelledText) (e : Entry)
@@ -91,24 +87,10 @@ start_token : (s : SpelledText) (l : Lexeme) (o : Opens) (k : Bool) (n : ℕ) (t
     → n ≤ start_count o + key_count k
     → get_or (start_tokens o l ++ own s l k) n t ≡ fronted (token_in s l) (start_at o k n)
 start_token s l opening.Nothing false zero t low = refl
-start_token s l opening.Nothing false (suc n) t low = absurd (omega arith)
-start_token s l opening.Nothing true zero t low = refl
-start_token s l opening.Nothing true (suc zero) t low = refl
-start_token s l opening.Nothing true (suc (suc n)) t low = absurd (omega arith)
-start_token s l opening.Sequence false zero t low = refl
-start_token s l opening.Sequence false (suc zero) t low = refl
-start_token s l opening.Sequence false (suc (suc n)) t low = absurd (omega arith)
-start_token s l opening.Sequence true zero t low = refl
-start_token s l opening.Sequence true (suc zero) t low = refl
-start_token s l opening.Sequence true (suc (suc zero)) t low = refl
-start_token s l opening.Sequence true (suc (suc (suc n))) t low = absurd (omega arith)
-start_token s l opening.Mapping false zero t low = refl
-start_token s l opening.Mapping false (suc zero) t low = refl
-start_token s l opening.Mapping false (suc (suc n)) t low = absurd (omega arith)
-start_token s l opening.Mapping true zero t low = refl
-start_token s l opening.Mapping true (suc zero) t low = refl
-start_token s l opening.Mapping true (suc (suc zero)) t low = refl
-start_token s l opening.Mapping true (suc (suc (suc n))) t low = absurd (omega arith)
+start_token s l _ _ zero t low = refl
+start_token s l _ _ (suc zero) t low = grind arith
+start_token s l _ _ (suc (suc zero)) t low = grind arith
+start_token s l _ _ (suc (suc (suc n))) t low = grind arith
 
 -- behind so many tokens of a lexeme stands that one
 pub spell_token : (s : SpelledText) (e : Entry) (n : ℕ) (t : Token) → n ≤ front_count (kept_in s e)

@@ -1,5 +1,5 @@
 -- What the first byte tells.
-use Rattle.std.proofs.Common.{ℕ, Bool, List}
+use Rattle.std.proofs.Common.{ℕ, Bool, List, arith}
 use Rattle.yaml_scan_model.specs.Marks.{byte}
 use Rattle.yaml_scan_history.specs.declared.kind.Kind.{Kind}
 use Rattle.yaml_scan_history.specs.declared.kind.Kind.TheVariants as kinds
@@ -8,10 +8,5 @@ use Rattle.yaml_scan_machine.specs.Stands.{Stands, Told}
 -- a kind that its byte tells stands there
 pub told_stands : (k : Kind) (flow : Bool) (text : List ℕ) (p : ℕ) → Told k (byte text p)
     → Stands k flow text p
-told_stands kinds.StreamStart flow text p t = absurd t
-told_stands kinds.StreamEnd flow text p t = absurd t
-told_stands kinds.Directive flow text p t = absurd t
-told_stands kinds.DocumentStart flow text p t = absurd t
-told_stands kinds.DocumentEnd flow text p t = absurd t
 told_stands kinds.Plain flow text p t = absurd t
-told_stands k flow text p t = t
+told_stands _ flow text p t = grind arith

@@ -64,44 +64,19 @@ start_is d (l ∷ h) c e is =
     ]
 
 no_two : (k : Kind) → (may_be_key k && cancels k) ≡ false
-no_two kinds.StreamStart = refl
-no_two kinds.StreamEnd = refl
-no_two kinds.Directive = refl
-no_two kinds.DocumentStart = refl
-no_two kinds.DocumentEnd = refl
-no_two kinds.FlowSequenceStart = refl
-no_two kinds.FlowMappingStart = refl
-no_two kinds.FlowSequenceEnd = refl
-no_two kinds.FlowMappingEnd = refl
-no_two kinds.FlowEntry = refl
-no_two kinds.BlockEntry = refl
-no_two kinds.KeyMark = refl
-no_two kinds.ValueMark = refl
-no_two kinds.Alias = refl
-no_two kinds.Anchor = refl
-no_two kinds.Tag = refl
-no_two kinds.Literal = refl
-no_two kinds.Folded = refl
-no_two kinds.SingleQuoted = refl
-no_two kinds.DoubleQuoted = refl
 no_two kinds.Plain = refl
+no_two _ = refl
 
 no_both : (k : Kind) (b : Bool) → ((b && may_be_key k) && cancels k) ≡ false
 no_both k true = no_two k
 no_both k false = refl
 
 closes_own : (k : Kind) (d : ℕ) → depth_after k d < d → cancels k ≡ true
-closes_own kinds.FlowSequenceEnd d lt = refl
-closes_own kinds.FlowMappingEnd d lt = refl
-closes_own kinds.FlowSequenceStart d lt = absurd (omega arith)
-closes_own kinds.FlowMappingStart d lt = absurd (omega arith)
-closes_own _ d lt = absurd (omega arith)
+closes_own kinds.FlowSequenceEnd d lt = grind arith
+closes_own _ d lt = grind arith
 
 at_least : (k : Kind) (d : ℕ) → d ≤ depth_after k d + 1
 at_least kinds.FlowSequenceEnd d = omega arith
-at_least kinds.FlowMappingEnd d = omega arith
-at_least kinds.FlowSequenceStart d = omega arith
-at_least kinds.FlowMappingStart d = omega arith
 at_least _ d = omega arith
 
 none_after : (l : Lexeme) (d : ℕ) (h : List Lexeme) → depth_after l.kind l.depth < d

@@ -14,7 +14,7 @@ ghost use Rattle.yaml_scan_history.specs.History.{candidate, fresh, reached, ind
 ghost use Rattle.yaml_scan_machine.specs.Stands.{Stands};
 ghost use Rattle.yaml_scan_machine.specs.State.{IsPlace, Leaves};
 ghost use Rattle.yaml_scan_history.specs.Words.{word_at};
-ghost use Rattle.yaml_scan_machine.specs.Reads.{late, lost, required_behind, colon_fault, begun_in, Finishes};
+ghost use Rattle.yaml_scan_machine.specs.Reads.{late, lost, required_behind, begun_in, Finishes};
 
 use crate::levels::keeps;
 use crate::machine::Machine;
@@ -447,20 +447,14 @@ fn loses(lexeme: Lexeme) -> bool
 
 /// A simple key's `:` doesn't come.
 pub(crate) fn no_colon(start: yaml_mark_t, place: yaml_mark_t) -> ScanError
-    ensures { result ≡ ScanError.Fault (colon_fault start place) }
+    ensures { result ≡ ScanError.Fault (spec.colon_missing start place) }
 {
     ScanError::refusal(Problem::NoColon, Context::SimpleKey, start, place)
 }
 
 /// A `-`, `?` or `:` where no key may begin.
 fn misplaced(kind: Kind, mark: yaml_mark_t) -> ScanError
-    ensures { result ≡ ScanError.Fault
-        (record {
-          problem = spec.not_allowed_by kind;
-          context = Context.Nothing;
-          context_mark = mark;
-          problem_mark = mark;
-        }) }
+    ensures { result ≡ ScanError.Fault (spec.not_allowed_there kind mark) }
 {
     ScanError::refusal(not_allowed_by(kind), Context::Nothing, mark, mark)
 }

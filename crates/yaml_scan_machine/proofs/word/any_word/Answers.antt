@@ -4,28 +4,21 @@ use Rattle.yaml_scan_model.specs.Tokens.{body_of}
 use Rattle.yaml_scan_machine.specs.Given.{indicator_at, ReadsWord}
 use Rattle.yaml_scan_machine.proofs.IndicatorLemmas.{indicator_stands, no_break, indicator_word}
 use Rattle.yaml_scan_machine.proofs.word.any_word.Goals as goal
+use Rattle.yaml_scan_machine.proofs.word.any_word.Goals.{In-Some}
 
-pub read_indicator-requires-clause-some : goal.read_indicator-requires-clause-some
-read_indicator-requires-clause-some c =
-    let is : indicator_at c.args.kind ≡ Some (body_of c.in-Some.body) = sym c.indicator_body.ensures ∙ ap (option_map body_of) c.in-Some.is in
+-- the kind is an indicator's
+told : (c : In-Some) → indicator_at c.args.kind ≡ Some (body_of c.in-Some.body)
+told c = sym c.indicator_body.ensures ∙ ap (option_map body_of) c.in-Some.is
+
+pub read_indicator-requires : goal.read_indicator-requires
+read_indicator-requires c =
+    let is = told (goal.at.read_indicator-requires c).In-Some in
     let s = indicator_stands c.args.kind (body_of c.in-Some.body) c.args.flow c.args.reader.now.text c.args.reader.now.at is c.requires.stands in
-    omega (arith, s.low)
-
-pub read_indicator-requires-clause-no_break : goal.read_indicator-requires-clause-no_break
-read_indicator-requires-clause-no_break c =
-    let is : indicator_at c.args.kind ≡ Some (body_of c.in-Some.body) = sym c.indicator_body.ensures ∙ ap (option_map body_of) c.in-Some.is in
-    no_break c.args.kind c.args.reader.now.text c.args.reader.now.at (indicator_stands c.args.kind (body_of c.in-Some.body) c.args.flow c.args.reader.now.text c.args.reader.now.at is c.requires.stands)
-
-pub read_indicator-requires-clause-ascii : goal.read_indicator-requires-clause-ascii
-read_indicator-requires-clause-ascii c =
-    let is : indicator_at c.args.kind ≡ Some (body_of c.in-Some.body) = sym c.indicator_body.ensures ∙ ap (option_map body_of) c.in-Some.is in
-    let s = indicator_stands c.args.kind (body_of c.in-Some.body) c.args.flow c.args.reader.now.text c.args.reader.now.at is c.requires.stands in
-    s.high
+    record { some = omega (arith, s.low); no_break = no_break c.args.kind c.args.reader.now.text c.args.reader.now.at s; ascii = s.high }
 
 pub returns-in-Some : goal.returns-in-Some
 returns-in-Some c =
     let text = c.args.reader.now.text in
     let p = c.args.reader.now.at in
-    let is : indicator_at c.args.kind ≡ Some (body_of c.in-Some.body) = sym c.indicator_body.ensures ∙ ap (option_map body_of) c.in-Some.is in
-    let word = indicator_word c.args.kind (body_of c.in-Some.body) c.args.flow c.args.level text p is in
+    let word = indicator_word c.args.kind (body_of c.in-Some.body) c.args.flow c.args.level text p (told (goal.at.returns-in-Some c).In-Some) in
     subst (λ x. ReadsWord text p c.read_indicator.new.reader (Ok c.read_indicator.result) x) (sym word) (c.read_indicator.ensures.word, c.read_indicator.ensures.place)

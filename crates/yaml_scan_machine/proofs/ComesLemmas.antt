@@ -41,7 +41,7 @@ use Rattle.yaml_scan_machine.specs.Stood.{Steps, IsRefused}
 use Rattle.yaml_scan_machine.specs.Comes.{to_come, Refused, Faults}
 use Rattle.yaml_scan_machine.proofs.MarkLemmas.{next_ended}
 use Rattle.yaml_scan_machine.proofs.NextLemmas.{settled_first}
-use Rattle.yaml_scan_machine.proofs.GivenLemmas.{front_is, no_entry}
+use Rattle.yaml_scan_machine.proofs.GivenLemmas.{first_is, no_entry}
 
 refused_at : (m : Machine) (e : ScanError) (x : Next) → next (text_bytes m.text) (history_of m) ≡ x
     → Stops e x → Refused m e
@@ -141,10 +141,9 @@ fault_machine m (errors.Fault p) i stuck more r =
           ap (λ k. remaining (stream_of m) k m.given) (sym at) ∙ fault_comes (stream_of m) n p m.given r (omega (arith, gone))
       | inr (w, rest, is, low, few) ↦
           let at : first_open h h ≡ m.dropped = omega (arith, s.taken) in
-          let z = no_entry in
-          let (here, inside) = front_is f (kept_of w) (map (λ (x : Waiting). kept_of x) rest) z s (ap (λ ws. map (λ (x : Waiting). kept_of x) ws) is) in
-          let count = front_count (entries h) (first_open h h) z (omega arith) in
-          let ends : (get_or (entries h) (first_open h h) z).ends ≡ w.ends = ap (λ k. (get_or (entries h) k z).ends) at ∙ ap (λ (x : KeptLexeme). x.ends) here in
+          let first_one = first_is m w rest i is in
+          let count = front_count (entries h) (first_open h h) no_entry (omega (arith, first_one.inside)) in
+          let ends : (get_or (entries h) (first_open h h) no_entry).ends ≡ w.ends = ap (λ k. (get_or (entries h) k no_entry).ends) at ∙ ap (λ (x : KeptLexeme). x.ends) first_one.here in
           ap (λ k. remaining (stream_of m) k m.given) (sym at) ∙ fault_comes (stream_of m) n p m.given r (omega (arith, count, ends, few))
     ]
 

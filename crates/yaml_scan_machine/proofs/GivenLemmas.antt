@@ -16,8 +16,9 @@ use Rattle.yaml_scan_history.proofs.HistoryLemmas.{length-entries, length-keyed,
 use Rattle.yaml_scan_laws_order.proofs.RemainingForward.{entries_ends}
 use Rattle.yaml_scan_queue.specs.declared.waiting.Waiting.{Waiting}
 use Rattle.yaml_scan_queue.specs.Waits.{KeptLexeme, kept_of}
-use Rattle.yaml_scan_machine.specs.State.{ready_in}
-use Rattle.yaml_scan_machine.specs.Shows.{Fields, IsShown, read, kept_in, spelled}
+use Rattle.yaml_scan_machine.specs.State.{IsMachine, is_ready, ready_in}
+use Rattle.yaml_scan_machine.specs.Shows.{Fields, IsShown, fields_of, history_of, read, kept_in, spelled, stream_of}
+use Rattle.yaml_scan_machine.specs.declared.machine.Machine.{Machine}
 use Rattle.yaml_scan_queue.specs.Front.{front_at}
 use Rattle.yaml_scan_machine.specs.Taken.{front_count, given_in, IsGiven}
 use Rattle.yaml_scan_machine.proofs.SafeLemmas.{known_settled}
@@ -41,6 +42,27 @@ front_is m k ks x s wait =
 -- an entry for the places behind a list
 abbrev pub no_entry : Entry
 no_entry = record { lexeme = first_lexeme; ends = 0; opens = opening.Nothing; key = false }
+
+-- what a machine says of the lexeme that waits first
+pub record FirstIs (m : Machine) (w : Waiting) (rest : List Waiting) : Type 0 where
+  pub here : kept_in (stream_of m) (get_or (entries (history_of m)) m.dropped no_entry) ≡ kept_of w
+  pub inside : m.dropped < length (history_of m)
+  pub given : given_in m.dropped m.settled m.given
+      (kept_of w ∷ map (λ (x : Waiting). kept_of x) rest)
+  pub asks : ready_in m.dropped m.settled m.given (w ∷ rest) ≡ is_ready m
+
+pub first_is : (m : Machine) (w : Waiting) (rest : List Waiting) → IsMachine m
+    → m.waiting.items ≡ w ∷ rest → FirstIs m w rest
+first_is m w rest i items =
+    let ks = map (λ (x : Waiting). kept_of x) rest in
+    let wait : (fields_of m).waiting ≡ kept_of w ∷ ks = ap (λ ws. map (λ (x : Waiting). kept_of x) ws) items in
+    let (here, inside) = front_is (fields_of m) (kept_of w) ks no_entry i.shown wait in
+    record {
+      here = here;
+      inside = inside;
+      given = subst (λ es. given_in m.dropped m.settled m.given es) wait i.given;
+      asks = ap (λ (ws : List Waiting). ready_in m.dropped m.settled m.given ws) (sym items);
+    }
 
 -- one more lexeme leaves how much of the first one is taken
 given_lists : (m x : Fields) (l : Lexeme) (ws xs : List KeptLexeme) → IsShown m → IsShown x

@@ -32,7 +32,7 @@ use Rattle.yaml_scan_machine.specs.State.{IsMachine, ready_in, is_ready}
 use Rattle.yaml_scan_machine.specs.Taken.{given_in, front_count}
 use Rattle.yaml_scan_machine.proofs.ComesLemmas.{left_is, left_whole}
 use Rattle.yaml_scan_machine.proofs.SpellLemmas.{spell_length}
-use Rattle.yaml_scan_machine.proofs.GivenLemmas.{front_is, no_entry}
+use Rattle.yaml_scan_machine.proofs.GivenLemmas.{first_is, no_entry}
 use Rattle.yaml_scan_machine.specs.Found.{HasMore}
 
 -- further lexemes leave how many levels a lexeme closes
@@ -142,19 +142,13 @@ by_waiting m [] items i stuck unended =
     let wait : (fields_of m).waiting ≡ [] = ap (λ (ws : List Waiting). map (λ (x : Waiting). kept_of x) ws) items in
     more_comes (stream_of m) n m.dropped m.given no_entry unended (omega (arith, s.count)) (inr (subst (λ (ks : List KeptLexeme). given_in m.dropped m.settled m.given ks) wait i.given))
 by_waiting m (w ∷ ws) items i stuck unended =
-    let f = fields_of m in
-    let s = i.shown in
-    let n : ℕ = m.dropped + length f.waiting in
-    let ks = map (λ (x : Waiting). kept_of x) ws in
-    let wait : f.waiting ≡ kept_of w ∷ ks = ap (λ (ws : List Waiting). map (λ (x : Waiting). kept_of x) ws) items in
-    let first : ready_in m.dropped m.settled m.given (w ∷ ws) ≡ false = ap (λ (ws : List Waiting). ready_in m.dropped m.settled m.given ws) (sym items) ∙ stuck in
-    let (here, inside) = front_is f (kept_of w) ks no_entry s wait in
-    let ends : (get_or (entries (history_of m)) m.dropped no_entry).ends ≡ w.ends = ap (λ (k : KeptLexeme). k.ends) here in
-    let few : m.given ≤ w.ends = elim (subst (λ (ks : List KeptLexeme). given_in m.dropped m.settled m.given ks) wait i.given) [
+    let f = first_is m w ws i items in
+    let ends : (get_or (entries (history_of m)) m.dropped no_entry).ends ≡ w.ends = ap (λ (k : KeptLexeme). k.ends) f.here in
+    let few : m.given ≤ w.ends = elim f.given [
       | inl upto ↦ upto
-      | inr (low, more) ↦ absurd (not_settled m.dropped m.settled m.given w ws first low)
+      | inr (low, more) ↦ absurd (not_settled m.dropped m.settled m.given w ws (f.asks ∙ stuck) low)
     ] in
-    more_comes (stream_of m) n m.dropped m.given no_entry unended (omega (arith, s.count)) (inl (inside, omega (arith, ends, few)))
+    more_comes (stream_of m) (m.dropped + length (fields_of m).waiting) m.dropped m.given no_entry unended (omega (arith, i.shown.count)) (inl (f.inside, omega (arith, ends, few)))
 
 pub machine_more : (m : Machine) → IsMachine m → is_ready m ≡ false → m.ended ≡ false
     → HasMore (to_come m).tokens (to_come m).fault

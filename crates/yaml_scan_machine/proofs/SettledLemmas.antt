@@ -29,7 +29,7 @@ use Rattle.yaml_scan_machine.specs.Shows.{fields_of, read, settled_in, kept_in, 
 use Rattle.yaml_scan_machine.specs.State.{IsMachine, ready_in, is_ready}
 use Rattle.yaml_scan_machine.proofs.MarkLemmas.{next_ended}
 use Rattle.yaml_scan_machine.proofs.SpellLemmas.{spell_length}
-use Rattle.yaml_scan_machine.proofs.GivenLemmas.{front_is, no_entry, given_few}
+use Rattle.yaml_scan_machine.proofs.GivenLemmas.{first_is, no_entry, given_few}
 use Rattle.yaml_scan_machine.proofs.ComesLemmas.{left_is, left_whole}
 use Rattle.yaml_scan_machine.specs.Settled.{settled_tokens, open_of, open_count}
 
@@ -199,22 +199,17 @@ by_items m [] items i =
     record { is = (let equal : length (to_come m).tokens ≡ from s m.dropped = omega (arith, left, given) in grind (arith, nat_tests)); few = omega (arith, opened, left, given) }
 by_items m (w ∷ ws) items i =
     let s = stream_of m in
-    let f = fields_of m in
-    let n : ℕ = m.dropped + length f.waiting in
+    let n : ℕ = m.dropped + length (fields_of m).waiting in
     let h = history s.text n in
-    let ks = map (λ (x : Waiting). waits_as x) ws in
-    let wait : f.waiting ≡ waits_as w ∷ ks = ap (λ (ws : List Waiting). map (λ (x : Waiting). waits_as x) ws) items in
-    let (here, inside) = front_is f (waits_as w) ks no_entry i.shown wait in
-    let given : given_in m.dropped m.settled m.given (waits_as w ∷ ks) = subst (λ (ks : List KeptLexeme). given_in m.dropped m.settled m.given ks) wait i.given in
-    let long : length f.waiting ≡ length ws + 1 = ap length wait ∙ omega (arith, length-map ws (λ (x : Waiting). waits_as x)) in
-    let number : n ≡ m.dropped + length (w ∷ ws) = omega (arith, long) in
     let x = get_or (entries h) m.dropped no_entry in
+    let f = first_is m w ws i items in
+    let number : n ≡ m.dropped + length (w ∷ ws) = omega (arith, length-map m.waiting.items (λ (x : Waiting). waits_as x), ap (λ (ws : List Waiting). length ws) items) in
     let unset : length (offline s).tokens - length (settled_tokens s (m.dropped + length (w ∷ ws))) ≡ from s (settled_in h) - fronts h = ap (λ k. length (offline s).tokens - length (settled_tokens s k)) (sym number) ∙ open_is s n in
     let left : length (to_come m).tokens ≡ from s m.dropped - m.given = left_length s m.dropped m.given in
     elim (cases_lt m.dropped m.settled) [
       | inl low ↦
-          let few = given_few m.dropped m.settled m.given (waits_as w) ks given in
-          let count : count_in_front (kept_in s x) ≡ count_in_front (waits_as w) = ap (λ (y : KeptLexeme). count_in_front y) here in
+          let few = given_few m.dropped m.settled m.given (waits_as w) (map (λ (x : Waiting). waits_as x) ws) f.given in
+          let count : count_in_front (kept_in s x) ≡ count_in_front (waits_as w) = ap (λ (y : KeptLexeme). count_in_front y) f.here in
           let spelled = spell_length s x in
           let more = before_open s n m.dropped m.given (omega (arith, low, i.shown.settled)) (omega (arith, few, count, spelled)) in
           let t : ltb m.dropped m.settled ≡ true = grind (arith, nat_tests) in
@@ -222,9 +217,9 @@ by_items m (w ∷ ws) items i =
       | inr high ↦
           let at : settled_in h ≡ m.dropped = omega (arith, i.shown.settled, i.taken, high) in
           let same : from s (settled_in h) ≡ from s m.dropped = ap (λ k. from s k) at in
-          let ends : fronts h ≡ w.ends = ap (λ k. length (front_ends (drop k (entries h)))) at ∙ front_count (entries h) m.dropped no_entry (omega (arith, inside, length-entries h)) ∙ ap (λ (y : KeptLexeme). y.ends) here in
+          let ends : fronts h ≡ w.ends = ap (λ k. length (front_ends (drop k (entries h)))) at ∙ front_count (entries h) m.dropped no_entry (omega (arith, f.inside, length-entries h)) ∙ ap (λ (y : KeptLexeme). y.ends) f.here in
           let room = fronts_come s n in
-          let upto : m.given ≤ w.ends = elim given [
+          let upto : m.given ≤ w.ends = elim f.given [
             | inl few ↦ few
             | inr (low, few) ↦ absurd (omega (arith, low, high))
           ] in

@@ -25,8 +25,8 @@ passed c = record {
 }
 
 -- what comes behind it, by the required candidate
-comes : (c : After-required-required) → let m = c.args.self.now in let q = c.pass_gap-allowed.new.reader in
-    let g = passed c in (gap_of (text_bytes m.text) (history_of m) ≡ g)
+comes : (c : After-required-required) → let m = c.args.self.now in
+    let q = c.pass_gap-allowed.new.reader in let g = passed c in (gap_of (text_bytes m.text) (history_of m) ≡ g)
     × (q.text ≡ text_bytes m.text) × (c.stop-spot.result ≡ mark_at (text_bytes m.text) q.at)
     × (next (text_bytes m.text) (history_of m)
     ≡ unless_missed (late c.required-required.result c.stop-spot.result) (text_bytes m.text) g (history_of m))

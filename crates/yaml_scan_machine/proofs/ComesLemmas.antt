@@ -1,44 +1,15 @@
 -- Where a machine stops.
 use Rattle.std.proofs.Common.{◌≡◌, ℕ, ◌+◌, ◌≤◌, Bool, true, false, ltb, List, [], ◌∷◌, length, get_or, Result, Ok, Err, refl, sym, ap, subst, ◌∙◌, inl, inr, ◌⊎◌, arith, Some, ◌≢◌}
-use Rattle.std.proofs.lemmas.Bool.{cases_Bool, cases_lt}
-use Rattle.std.proofs.lemmas.Bool.Decides.{nat_tests}
-use Rattle.std.proofs.lemmas.List.{length-map}
-use Rattle.std.specs.Prelude.{map, IfErr, option_map}
-use Rattle.yaml_scan_model.specs.declared.name.yaml_encoding_t.{yaml_encoding_t}
+use Rattle.yaml_scan_machine.proofs.Words.{cases_Bool, cases_lt, nat_tests, length-map, map, option_map, yaml_encoding_t, ScanFault, ScanError, scanner_fault, text_bytes, decoding_fault, decoded_characters, decoded_text, in_utf8, Offence, reader_fault, Reader, Fault, memory_fault, result_err, encoding_of, Token, GivesFirst, scanned, scanned_in, left_in, left_from, IsTold, IsLocated, Lexeme, entries, first_open, Next, Read, Fails, Ends, next, Remaining, remaining, length-entries, first_open-le, front_none, Machine, Waiting, KeptLexeme, kept_of, Answer, IsShort, IsMachine, ReadsOneMore, ready_in, is_ready, Fields, fields_of, IsShown, read, settled_in, history_of, stream_of, GivesNext, Stops, Steps, to_come}
+use Rattle.std.specs.Prelude.{IfErr}
 use Rattle.yaml_scan_model.specs.declared.name.yaml_encoding_t.TheVariants.{YAML_UTF8_ENCODING}
 use Rattle.yaml_scan_model.specs.declared.name.yaml_error_type_t.TheVariants.{YAML_READER_ERROR, YAML_MEMORY_ERROR}
-use Rattle.yaml_scan_model.specs.declared.problem.ScanFault.{ScanFault}
-use Rattle.yaml_scan_model.specs.declared.problem.ScanError.{ScanError}
-use Rattle.yaml_scan_model.specs.declared.problem.ScanError.TheVariants as errors
-use Rattle.yaml_scan_model.specs.Problems.{scanner_fault}
-use Rattle.yaml_scan_decode.specs.DecodedText.{text_bytes, decoding_fault}
-use Rattle.yaml_scan_decode.specs.Decoding.{decoded_characters, decoded_text, in_utf8}
-use Rattle.yaml_scan_decode.specs.declared.offence.Offence.{Offence}
-use Rattle.yaml_scan_decode.specs.Offences.{reader_fault}
-use Rattle.yaml_scan_model.specs.declared.fault.yaml_origin_t.TheVariants.{Reader}
-use Rattle.yaml_scan_model.specs.Faults.{Fault, memory_fault}
-use Rattle.std.specs.Result.{result_err}
-use Rattle.yaml_scan_decode.specs.Encodings.{encoding_of}
-use Rattle.yaml_scan_model.specs.Tokens.{Token}
-use Rattle.yaml_scan_laws_order.specs.Fronts.{GivesFirst}
-use Rattle.yaml_scan_history.specs.Scanned.{scanned, scanned_in}
-use Rattle.yaml_scan_machine.specs.Left.{left_in, left_from, IsTold, IsLocated}
-use Rattle.yaml_scan_history.specs.declared.lexeme.Lexeme.{Lexeme}
-use Rattle.yaml_scan_history.specs.History.{entries, first_open}
-use Rattle.yaml_scan_history.specs.Next.{Next, Read, Fails, Ends, next}
-use Rattle.yaml_scan_history.specs.Remaining.{Remaining, remaining, nothing}
-use Rattle.yaml_scan_history.proofs.HistoryLemmas.{length-entries, first_open-le}
+use Rattle.yaml_scan_history.specs.Remaining.{nothing}
 use Rattle.yaml_scan_laws_order.proofs.HeldForward.{few_wait}
-use Rattle.yaml_scan_laws_order.proofs.RemainingForward.{fault_comes, end_comes, front_count, front_none}
-use Rattle.yaml_scan_machine.specs.declared.machine.Machine.{Machine}
-use Rattle.yaml_scan_queue.specs.declared.waiting.Waiting.{Waiting}
-use Rattle.yaml_scan_queue.specs.Waits.{KeptLexeme, kept_of}
-use Rattle.yaml_scan_machine.specs.declared.next.Read.{Read as Answer}
-use Rattle.yaml_scan_machine.specs.State.{IsShort, IsMachine, ReadsOneMore, ready_in, is_ready}
-use Rattle.yaml_scan_machine.specs.Shows.{Fields, fields_of, IsShown, read, settled_in, history_of, stream_of}
-use Rattle.yaml_scan_machine.specs.Reads.{GivesNext, Stops}
-use Rattle.yaml_scan_machine.specs.Stood.{Steps, IsRefused}
-use Rattle.yaml_scan_machine.specs.Comes.{to_come, Refused, Faults}
+use Rattle.yaml_scan_laws_order.proofs.RemainingForward.{fault_comes, end_comes, front_count}
+use Rattle.yaml_scan_machine.specs.Stood.{IsRefused}
+use Rattle.yaml_scan_machine.specs.Comes.{Refused, Faults}
+use Rattle.yaml_scan_model.specs.declared.problem.ScanError.TheVariants as errors
 use Rattle.yaml_scan_machine.proofs.MarkLemmas.{next_ended}
 use Rattle.yaml_scan_machine.proofs.NextLemmas.{settled_first}
 use Rattle.yaml_scan_machine.proofs.GivenLemmas.{first_is, no_entry}

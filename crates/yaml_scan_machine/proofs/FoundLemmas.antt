@@ -1,34 +1,17 @@
 -- Reading on behind a machine of which the same is to come.
 use Rattle.std.proofs.Common.{◌≡◌, ◌<◌, ◌≤◌, ◌+◌, ℕ, zero, suc, Bool, true, false, List, [], ◌∷◌, length, refl, sym, ap, subst, ◌∙◌, inl, inr, arith, Option, Some, Result, Ok, Err}
-use Rattle.std.proofs.lemmas.Bool.{cases_lt, cases_Bool, lt-ltb}
-use Rattle.yaml_scan_model.specs.declared.name.yaml_encoding_t.{yaml_encoding_t}
-use Rattle.yaml_scan_model.specs.declared.fault.yaml_origin_t.TheVariants.{Scanner, Reader}
-use Rattle.yaml_scan_model.specs.declared.problem.ScanError.{ScanError}
+use Rattle.yaml_scan_machine.proofs.Words.{cases_lt, cases_Bool, yaml_encoding_t, Reader, ScanError, Fault, memory_fault, option_map, result_err, Offence, reader_fault, decoded_characters, in_utf8, text_bytes, decoding_fault, encoding_of, Remaining, Machine, Waiting, left_in, IsTold, IsLocated, to_come, IsMachine, ReadsOneMore, is_ready, ready_in, MayReadAt, Steps, Kind, HasMore}
+use Rattle.std.proofs.lemmas.Bool.{lt-ltb}
+use Rattle.yaml_scan_model.specs.declared.fault.yaml_origin_t.TheVariants.{Scanner}
+use Rattle.yaml_scan_machine.specs.State.{KeepsInput, TellsUtf8}
+use Rattle.yaml_scan_machine.specs.declared.next.LexemeSpot.{LexemeSpot}
+use Rattle.yaml_scan_machine.specs.declared.reading.Sought.{Sought}
+use Rattle.yaml_scan_machine.specs.Found.{Denies, Finishes, ReadsOn, ReadsAsNeeded, ReaderLacks, PlainIsTold, read_by}
+use Rattle.yaml_scan_machine.specs.Settled.{settles}
 use Rattle.yaml_scan_model.specs.declared.problem.ScanError.TheVariants as errors
-use Rattle.yaml_scan_model.specs.Faults.{Fault, memory_fault}
-use Rattle.std.specs.Prelude.{option_map}
-use Rattle.std.specs.Result.{result_err}
-use Rattle.yaml_scan_decode.specs.declared.offence.Offence.{Offence}
-use Rattle.yaml_scan_decode.specs.Offences.{reader_fault}
-use Rattle.yaml_scan_decode.specs.Decoding.{decoded_characters, in_utf8}
-use Rattle.yaml_scan_decode.specs.DecodedText.{text_bytes, decoding_fault}
-use Rattle.yaml_scan_decode.specs.Encodings.{encoding_of}
-use Rattle.yaml_scan_history.specs.Remaining.{Remaining}
-use Rattle.yaml_scan_machine.specs.declared.machine.Machine.{Machine}
-use Rattle.yaml_scan_queue.specs.declared.waiting.Waiting.{Waiting}
-use Rattle.yaml_scan_machine.specs.Left.{left_in, IsTold, IsLocated}
-use Rattle.yaml_scan_machine.specs.Comes.{to_come}
+use Rattle.yaml_scan_machine.specs.declared.reading.Sought.TheVariants as found
 use Rattle.yaml_scan_machine.proofs.ComesLemmas.{left_is, reader_wide, goes_same, told_error, fault_machine, end_machine}
 use Rattle.yaml_scan_machine.proofs.MoreLemmas.{machine_more}
-use Rattle.yaml_scan_machine.specs.State.{IsMachine, ReadsOneMore, KeepsInput, TellsUtf8, is_ready, ready_in}
-use Rattle.yaml_scan_machine.specs.Stood.{MayReadAt, Steps}
-use Rattle.yaml_scan_machine.specs.declared.next.LexemeSpot.{LexemeSpot}
-use Rattle.yaml_scan_history.specs.declared.kind.Kind.{Kind}
-use Rattle.yaml_scan_machine.specs.declared.reading.Sought.{Sought}
-use Rattle.yaml_scan_machine.specs.declared.reading.Sought.TheVariants as found
-use Rattle.yaml_scan_machine.specs.Found.{HasMore, Denies, Finishes}
-use Rattle.yaml_scan_machine.specs.Settled.{settles}
-use Rattle.yaml_scan_machine.specs.Found.{ReadsOn, ReadsAsNeeded, ReaderLacks, PlainIsTold, read_by}
 use Rattle.yaml_scan_machine.proofs.SettledLemmas.{machine_tells}
 
 -- whether n lexemes settle what comes next

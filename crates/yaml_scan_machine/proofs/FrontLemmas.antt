@@ -1,16 +1,7 @@
 -- What is taken of the waiting list.
 use Rattle.std.proofs.Common.{◌≡◌, ℕ, ◌+◌, ◌<◌, false, List, [], ◌∷◌, length, drop, refl, sym, ap, subst, ◌∙◌, arith}
+use Rattle.yaml_scan_machine.proofs.Words.{map, zero_mark, Lexeme, yaml_encoding_t, entries, first_open, levels, history, Waiting, KeptLexeme, kept_of, KeyStack, AreKeys, Fields, ShowsMachine, IsShown, all_kept, read, settled_in, spelled}
 use Rattle.std.proofs.lemmas.List.{drop-drop}
-use Rattle.std.specs.Prelude.{map}
-use Rattle.yaml_scan_model.specs.Tokens.{zero_mark}
-use Rattle.yaml_scan_history.specs.declared.lexeme.Lexeme.{Lexeme}
-use Rattle.yaml_scan_model.specs.declared.name.yaml_encoding_t.{yaml_encoding_t}
-use Rattle.yaml_scan_history.specs.History.{entries, first_open, levels}
-use Rattle.yaml_scan_history.specs.Next.{history}
-use Rattle.yaml_scan_queue.specs.declared.waiting.Waiting.{Waiting}
-use Rattle.yaml_scan_queue.specs.Waits.{KeptLexeme, kept_of}
-use Rattle.yaml_scan_machine.specs.Candidates.{KeyStack, AreKeys}
-use Rattle.yaml_scan_machine.specs.Shows.{Fields, ShowsMachine, IsShown, all_kept, read, settled_in, spelled}
 
 -- before the first lexeme
 pub shown_start : (encoding : yaml_encoding_t) (text : List ℕ) (ws : List Waiting) (ls : List ℕ)

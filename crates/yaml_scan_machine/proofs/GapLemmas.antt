@@ -1,15 +1,11 @@
 -- A gap that is nothing or one space, and a kind that the first byte tells.
 use Rattle.std.proofs.Common.{◌≡◌, ◌≢◌, ℕ, zero, suc, ◌+◌, ◌≤◌, ◌==◌, ◌&&◌, ◌||◌, ltb, not, Bool, true, false, List, length, Some, None, refl, ap, ◌∙◌, inl, inr, arith}
-use Rattle.std.proofs.lemmas.Bool.{cases_Bool, ne_eqb, eqb-true}
-use Rattle.yaml_scan_model.specs.Marks.{byte, break_width, column_at, is_blank_or_end}
-use Rattle.yaml_scan_model.proofs.MarksLemmas.{no_break}
-use Rattle.yaml_scan_model.specs.Runs.{past, past_spaces, is_space_there}
+use Rattle.yaml_scan_machine.proofs.Words.{cases_Bool, ne_eqb, byte, break_width, column_at, is_blank_or_end, no_break, past_spaces, gap_at, is_document_start, is_document_end, Kind, kind_at, indicator_of}
+use Rattle.std.proofs.lemmas.Bool.{eqb-true}
+use Rattle.yaml_scan_model.specs.Runs.{past, is_space_there}
 use Rattle.yaml_scan_model.proofs.RunsLemmas.{past_more, past_stop}
-use Rattle.yaml_scan_words.specs.Between.{with_break, gap_at, gap_within}
-use Rattle.yaml_scan_words.specs.Indicators.{is_document_start, is_document_end}
+use Rattle.yaml_scan_words.specs.Between.{with_break, gap_within}
 use Rattle.yaml_scan_words.proofs.BetweenLemmas.{lexeme_here, space_here, feed_here, gap_blank, gap_break, gap_stop}
-use Rattle.yaml_scan_history.specs.declared.kind.Kind.{Kind}
-use Rattle.yaml_scan_history.specs.Words.{kind_at, indicator_of}
 
 -- the byte begins no blank, comment or break
 abbrev pub goes_on : ℕ → Bool

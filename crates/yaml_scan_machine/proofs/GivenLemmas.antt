@@ -1,26 +1,11 @@
 -- What is taken of the first lexeme that waits, and how many levels a lexeme closes.
 use Rattle.std.proofs.Common.{◌≡◌, ℕ, suc, ◌+◌, ◌-◌, ◌<◌, ◌≤◌, Bool, true, false, ◌&&◌, not, ltb, leb, List, [], ◌∷◌, length, take, get_or, Some, None, refl, sym, ap, subst, ◌∙◌, inl, inr, arith, length-append}
-use Rattle.std.proofs.lemmas.Bool.{cases_Bool, cases_lt}
-use Rattle.std.proofs.lemmas.List.{get_or-append_right, get_or-drop, get_or-map, get_or-take}
-use Rattle.std.specs.Prelude.{filter, map}
-use Rattle.yaml_scan_model.specs.Tokens.{TokenBody}
-use Rattle.yaml_scan_history.specs.declared.kind.Kind.{Kind}
-use Rattle.yaml_scan_history.specs.declared.lexeme.Lexeme.{Lexeme}
-use Rattle.yaml_scan_history.specs.declared.lexeme.Entry.{Entry}
-use Rattle.yaml_scan_history.specs.Kinds.{is_start}
-use Rattle.yaml_scan_history.specs.History.{entries, levels, left_by, keeps, opened, opens_at, found_by, inside, indent, keyed, entry_of}
+use Rattle.yaml_scan_machine.proofs.Words.{cases_Bool, cases_lt, get_or-append_right, get_or-drop, get_or-map, map, TokenBody, Kind, Lexeme, Entry, is_start, entries, levels, left_by, keeps, opened, opens_at, found_by, inside, indent, keyed, entry_of, Read, next, first_lexeme, GoesForward, length-entries, length-keyed, entries_ends, Waiting, KeptLexeme, kept_of, IsMachine, is_ready, ready_in, Fields, IsShown, fields_of, history_of, read, kept_in, spelled, stream_of, Machine, front_at, front_count, given_in}
+use Rattle.std.proofs.lemmas.List.{get_or-take}
+use Rattle.std.specs.Prelude.{filter}
+use Rattle.yaml_scan_history.proofs.HistoryLemmas.{take-entries}
+use Rattle.yaml_scan_machine.specs.Taken.{IsGiven}
 use Rattle.yaml_scan_history.specs.declared.lexeme.Opens.TheVariants as opening
-use Rattle.yaml_scan_history.specs.Next.{Read, next, first_lexeme}
-use Rattle.yaml_scan_history.specs.Laws.{GoesForward}
-use Rattle.yaml_scan_history.proofs.HistoryLemmas.{length-entries, length-keyed, take-entries}
-use Rattle.yaml_scan_laws_order.proofs.RemainingForward.{entries_ends}
-use Rattle.yaml_scan_queue.specs.declared.waiting.Waiting.{Waiting}
-use Rattle.yaml_scan_queue.specs.Waits.{KeptLexeme, kept_of}
-use Rattle.yaml_scan_machine.specs.State.{IsMachine, is_ready, ready_in}
-use Rattle.yaml_scan_machine.specs.Shows.{Fields, IsShown, fields_of, history_of, read, kept_in, spelled, stream_of}
-use Rattle.yaml_scan_machine.specs.declared.machine.Machine.{Machine}
-use Rattle.yaml_scan_queue.specs.Front.{front_at}
-use Rattle.yaml_scan_machine.specs.Taken.{front_count, given_in, IsGiven}
 use Rattle.yaml_scan_machine.proofs.SafeLemmas.{known_settled}
 use Rattle.yaml_scan_machine.proofs.MarkLemmas.{further_on, settled_open}
 use Rattle.yaml_scan_machine.proofs.SpellLemmas.{Counts, front_counts}

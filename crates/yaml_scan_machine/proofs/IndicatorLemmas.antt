@@ -1,16 +1,11 @@
 -- What reading an indicator answers.
 use Rattle.std.proofs.Common.{◌≡◌, ℕ, ◌+◌, ◌<◌, Bool, List, Option, Some, None, Result, Ok, true, false, refl, ap, arith}
-use Rattle.std.proofs.lemmas.Bool.Decides.{nat_tests}
-use Rattle.yaml_scan_model.specs.Tokens as tokens
-use Rattle.yaml_scan_model.specs.Tokens.{TokenBody}
-use Rattle.yaml_scan_model.specs.Wrong.{Wrong}
-use Rattle.yaml_scan_model.specs.Marks.{byte, break_of, break_width, splits_break, starts, line_at, column_at, mark_at}
+use Rattle.yaml_scan_machine.proofs.Words.{nat_tests, TokenBody, Wrong, byte, break_width, splits_break, starts, line_at, column_at, mark_at, Kind, WordText, word_at, Stands, indicator_at}
+use Rattle.yaml_scan_model.specs.Marks.{break_of}
 use Rattle.yaml_scan_model.proofs.MarksLemmas.{end_next, line_more, column_more}
-use Rattle.yaml_scan_history.specs.declared.kind.Kind.{Kind}
+use Rattle.yaml_scan_history.specs.Words.{carrying}
+use Rattle.yaml_scan_model.specs.Tokens as tokens
 use Rattle.yaml_scan_history.specs.declared.kind.Kind.TheVariants as kinds
-use Rattle.yaml_scan_history.specs.Words.{WordText, carrying, word_at}
-use Rattle.yaml_scan_machine.specs.Stands.{Stands}
-use Rattle.yaml_scan_machine.specs.Given.{indicator_at}
 
 -- the byte of an indicator begins no break
 plain_byte : (b c d : ℕ) → 32 < b → b < 128 → break_of b c d ≡ 0

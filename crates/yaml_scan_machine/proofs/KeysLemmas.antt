@@ -1,26 +1,10 @@
 -- What a lexeme makes of the candidates of each depth, and which of them is the earliest.
 use Rattle.std.proofs.Common.{◌≡◌, ◌∙◌, ℕ, ◌+◌, ◌-◌, ◌<◌, ◌≤◌, inl, inr, true, false, eqb, ◌&&◌, List, [], ◌∷◌, ◌++◌, length, take, drop, get_or, Option, Some, None, Result, Ok, Err, OnOk, refl, sym, ap, subst, arith}
-use Rattle.std.proofs.lemmas.Bool.{cases_Bool, cases_lt, cases_order}
-use Rattle.std.proofs.lemmas.Bool.Decides.{nat_tests}
-use Rattle.std.proofs.lemmas.List.{get_or_past, get_or-drop, get_or-map, length-drop, take-append-le, take_all, length-map}
-use Rattle.yaml_scan_model.specs.declared.record.yaml_mark_t.{yaml_mark_t}
-use Rattle.yaml_scan_history.specs.declared.lexeme.Lexeme.{Lexeme}
-use Rattle.yaml_scan_history.specs.Kinds.{cancels, depth_after}
-use Rattle.yaml_scan_history.specs.History.{Candidate, candidate, depth, fresh, is_fresh, first_open, reached, entries}
-use Rattle.yaml_scan_history.specs.declared.lexeme.Entry.{Entry}
+use Rattle.yaml_scan_machine.proofs.Words.{cases_Bool, cases_lt, cases_order, nat_tests, get_or_past, get_or-drop, get_or-map, length-drop, take_all, length-map, yaml_mark_t, Lexeme, cancels, depth_after, Candidate, candidate, depth, fresh, is_fresh, first_open, reached, entries, Entry, map, Waiting, KeptLexeme, kept_of, Fields, IsShown, kept_in, read, spelled, fields_of, history_of, Read, history, missed, next, Upto, GoesForward, candidate_below, length-entries, first_open-le, fresh_is, fresh_before, Key, Machine, text_bytes, required_in, stack_of, KeyStack, KeyView, key_at, view_of, key_view, fresh_key, AreStale, IsKey, AreKeysTo, AreKeys}
+use Rattle.std.proofs.lemmas.List.{take-append-le}
+use Rattle.yaml_scan_history.proofs.HistoryLemmas.{first_open-is, first_open-least}
+use Rattle.yaml_scan_machine.specs.Candidates.{number_in, required_view, required_at, Forgets, Turns, IsPut}
 use Rattle.yaml_scan_history.specs.declared.lexeme.Opens.TheVariants as opening
-use Rattle.std.specs.Prelude.{map}
-use Rattle.yaml_scan_queue.specs.declared.waiting.Waiting.{Waiting}
-use Rattle.yaml_scan_queue.specs.Waits.{KeptLexeme, kept_of}
-use Rattle.yaml_scan_machine.specs.Shows.{Fields, IsShown, kept_in, read, spelled, fields_of, history_of}
-use Rattle.yaml_scan_history.specs.Next.{Read, history, missed, next}
-use Rattle.yaml_scan_history.specs.Laws.{Upto, GoesForward}
-use Rattle.yaml_scan_history.proofs.HistoryLemmas.{candidate_below, length-entries, first_open-le, first_open-is, first_open-least, fresh_is, fresh_before}
-use Rattle.yaml_scan_machine.specs.declared.keys.Key.{Key}
-use Rattle.yaml_scan_machine.specs.declared.machine.Machine.{Machine}
-use Rattle.yaml_scan_decode.specs.DecodedText.{text_bytes}
-use Rattle.yaml_scan_machine.specs.Reads.{required_in}
-use Rattle.yaml_scan_machine.specs.Candidates.{stack_of, KeyStack, KeyView, key_at, view_of, key_view, fresh_key, number_in, required_view, required_at, AreStale, IsKey, AreKeysTo, AreKeys, Forgets, Turns, IsPut}
 use Rattle.yaml_scan_machine.proofs.StepLemmas.{candidate_top, none_deeper, start_is}
 use Rattle.yaml_scan_machine.proofs.NextLemmas.{settled_first, unmissed}
 use Rattle.yaml_scan_machine.proofs.MarkLemmas.{further_on, depth_of}

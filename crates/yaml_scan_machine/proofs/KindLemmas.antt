@@ -1,38 +1,18 @@
 -- Reading the lexeme of a kind.
 use Rattle.std.proofs.Common.{◌≡◌, ℕ, ◌+◌, ◌<◌, ◌≤◌, Bool, true, false, cond, ltb, ◌&&◌, ◌||◌, not, List, [], ◌∷◌, length, Option, Some, None, Result, Ok, Err, refl, sym, ap, subst, ◌∙◌, inl, inr, ◌⊎◌, arith}
-use Rattle.std.proofs.lemmas.Bool.{cases_Bool, and_parts}
-use Rattle.std.proofs.lemmas.List.{length-map}
-use Rattle.std.specs.Prelude.{is_some, IfOk}
-use Rattle.yaml_scan_model.specs.declared.record.yaml_mark_t.{yaml_mark_t}
+use Rattle.yaml_scan_machine.proofs.Words.{cases_Bool, and_parts, length-map, is_some, yaml_mark_t, ScanFault, ScanError, Place, mark_at, splits_break, body_of, zero_mark, Wrong, Gap, gap_at, Kind, Lexeme, is_value, is_start, is_end, may_be_key, Candidate, candidate, fresh, has, reached, depth, placed, levels, found_by, WordText, word_at, kind_at, Next, Read, Fails, Ends, colon_missing, next, history, first_lexeme, allowed_behind, finished, misplaced, missed, lost_by, behind, unless_missed, no_colon, unless_wrong, unless_lost, of_kind, SpelledText, body_in, Machine, Waiting, kept_of, Answer, IsPlace, ReadsWord, Fields, fields_of, IsShown, read, Picks, history_of, stream_of, required_in, late, lost, required_behind, keyed_by, GivesNext, Stops, text_bytes, Upto}
+use Rattle.std.specs.Prelude.{IfOk}
 use Rattle.yaml_scan_model.specs.declared.token.yaml_token_body_t.{yaml_token_body_t}
-use Rattle.yaml_scan_model.specs.declared.problem.ScanFault.{ScanFault}
-use Rattle.yaml_scan_model.specs.declared.problem.ScanError.{ScanError}
-use Rattle.yaml_scan_model.specs.declared.problem.ScanError.TheVariants as errors
-use Rattle.yaml_scan_model.specs.Marks.{Place, mark_at, splits_break}
-use Rattle.yaml_scan_model.specs.Tokens.{body_of, stream_start, zero_mark}
-use Rattle.yaml_scan_model.specs.Wrong.{Wrong}
-use Rattle.yaml_scan_words.specs.Between.{Gap, gap_at}
-use Rattle.yaml_scan_history.specs.declared.kind.Kind.{Kind}
-use Rattle.yaml_scan_history.specs.declared.kind.Kind.TheVariants as kinds
-use Rattle.yaml_scan_history.specs.declared.lexeme.Lexeme.{Lexeme}
-use Rattle.yaml_scan_history.specs.Kinds.{is_value, is_start, is_end, may_be_key}
-use Rattle.yaml_scan_history.specs.History.{Candidate, candidate, fresh, has, reached, depth, placed, levels, found_by}
-use Rattle.yaml_scan_history.specs.Words.{WordText, word_at, kind_at}
-use Rattle.yaml_scan_history.specs.Next.{Next, Read, Fails, Ends, colon_missing, next, history, first_lexeme, allowed_behind, finished, misplaced, missed, lost_by}
-use Rattle.yaml_scan_history.specs.Stepwise.{behind, unless_missed, no_colon, no_token, not_allowed, tested, unless_wrong, unless_lost, of_kind}
-use Rattle.yaml_scan_history.specs.Remaining.{SpelledText, body_by, body_in, body_of_word}
-use Rattle.yaml_scan_machine.specs.declared.machine.Machine.{Machine}
-use Rattle.yaml_scan_queue.specs.declared.waiting.Waiting.{Waiting}
-use Rattle.yaml_scan_queue.specs.Waits.{kept_of}
-use Rattle.yaml_scan_machine.specs.declared.next.Read.{Read as Answer}
+use Rattle.yaml_scan_model.specs.Tokens.{stream_start}
+use Rattle.yaml_scan_history.specs.Stepwise.{no_token, not_allowed, tested}
+use Rattle.yaml_scan_history.specs.Remaining.{body_by, body_of_word}
 use Rattle.yaml_scan_machine.specs.declared.word.Word.{Word}
-use Rattle.yaml_scan_machine.specs.State.{IsPlace, Leaves}
-use Rattle.yaml_scan_machine.specs.Given.{IsWord, ReadsWord}
-use Rattle.yaml_scan_machine.specs.Shows.{Fields, fields_of, IsShown, read, Picks, history_of, stream_of}
-use Rattle.yaml_scan_machine.specs.Reads.{required_in, late, lost, required_behind, begun_in, keyed_by, ended_by, EndsAt, Finishes, GivesLexeme, GivesNext, IsRead, Stops}
+use Rattle.yaml_scan_machine.specs.State.{Leaves}
+use Rattle.yaml_scan_machine.specs.Given.{IsWord}
+use Rattle.yaml_scan_machine.specs.Reads.{begun_in, ended_by, EndsAt, Finishes, GivesLexeme, IsRead}
+use Rattle.yaml_scan_model.specs.declared.problem.ScanError.TheVariants as errors
+use Rattle.yaml_scan_history.specs.declared.kind.Kind.TheVariants as kinds
 use Rattle.yaml_scan_machine.proofs.ReadLemmas.{gap_of, StartsAs, ended_same, finished_same}
-use Rattle.yaml_scan_decode.specs.DecodedText.{text_bytes}
-use Rattle.yaml_scan_history.specs.Laws.{Upto}
 use Rattle.yaml_scan_machine.proofs.NextLemmas.{tested_same, lost_same, late_same, next_at, next_first, upto_gap}
 
 pub kind_misplaced : (text : List ℕ) (gap : Gap) (h : List Lexeme) (k : Kind) (m : yaml_mark_t)

@@ -1,15 +1,10 @@
 -- A letter starts a plain scalar.
 use Rattle.std.proofs.Common.{◌≡◌, ◌≢◌, ℕ, ◌+◌, ◌<◌, ◌==◌, ◌&&◌, Bool, true, false, List, Some, None, refl, sym, arith}
-use Rattle.std.proofs.lemmas.Bool.Decides.{nat_tests}
-use Rattle.std.proofs.lemmas.Bool.{ne_eqb}
-use Rattle.yaml_scan_model.specs.Marks.{byte, break_width, column_at, is_blank, is_blank_or_end}
-use Rattle.yaml_scan_model.proofs.MarksLemmas.{no_break}
-use Rattle.yaml_scan_words.specs.Indicators.{is_document_start, is_document_end}
+use Rattle.yaml_scan_machine.proofs.Words.{nat_tests, ne_eqb, byte, break_width, column_at, is_blank_or_end, no_break, is_document_start, is_document_end, kind_at, indicator_of, is_letter}
+use Rattle.yaml_scan_model.specs.Marks.{is_blank}
 use Rattle.yaml_scan_scalars.specs.Plain.{starts_plain, is_indicator_byte}
 use Rattle.yaml_scan_scalars.specs.Plain as plains
 use Rattle.yaml_scan_history.specs.declared.kind.Kind.TheVariants as kinds
-use Rattle.yaml_scan_history.specs.Words.{kind_at, indicator_of}
-use Rattle.yaml_scan_machine.specs.Stands.{is_letter}
 
 pub record IsLetter (b : ℕ) : Type 0 where
   pub some : 0 < b

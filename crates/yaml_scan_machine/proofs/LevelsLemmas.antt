@@ -1,11 +1,6 @@
 -- Levels as lists of columns.
 use Rattle.std.proofs.Common.{◌≡◌, ℕ, suc, ◌<◌, ◌≤◌, true, leb, List, [], ◌∷◌, ◌++◌, length, take, get_or, refl, sym, ◌∙◌, inl, inr, arith, get_or-take, length-append}
-use Rattle.std.proofs.lemmas.Bool.{cases_lt}
-use Rattle.std.proofs.lemmas.Bool.Decides.{nat_tests}
-use Rattle.std.proofs.lemmas.List.{length-take-le, get_or_append_left}
-use Rattle.std.specs.Prelude.{slice_index}
-use Rattle.yaml_scan_history.specs.History.{indent}
-use Rattle.yaml_scan_machine.specs.Rising.{IsRising, left_of}
+use Rattle.yaml_scan_machine.proofs.Words.{cases_lt, nat_tests, length-take-le, get_or_append_left, slice_index, indent, IsRising, left_of}
 
 -- the innermost level stands last
 pub indent_last : (x : ℕ) (xs : List ℕ) → get_or (x ∷ xs) (length xs) 0 ≡ indent (x ∷ xs)

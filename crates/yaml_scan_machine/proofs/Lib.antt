@@ -1,3 +1,4 @@
+mod Words
 mod StandsLemmas
 mod LevelsLemmas
 mod WordLemmas

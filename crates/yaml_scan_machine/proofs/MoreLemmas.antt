@@ -1,39 +1,13 @@
 -- Where the end wasn't read, something is to come.
 use Rattle.std.proofs.Common.{◌≡◌, ◌⊎◌, ℕ, ◌+◌, ◌<◌, ◌≤◌, Bool, true, false, ltb, List, [], ◌∷◌, ◌++◌, length, get_or, Option, Some, None, Result, Ok, Err, refl, sym, ap, subst, ◌∙◌, inl, inr, arith, length-append}
-use Rattle.std.proofs.lemmas.Bool.{cases_lt}
-use Rattle.std.proofs.lemmas.Bool.Decides.{nat_tests}
-use Rattle.std.proofs.lemmas.List.{length-map}
-use Rattle.std.specs.Prelude.{map}
-use Rattle.yaml_scan_model.specs.declared.name.yaml_encoding_t.{yaml_encoding_t}
-use Rattle.yaml_scan_model.specs.Faults.{Fault}
-use Rattle.yaml_scan_model.specs.Problems.{scanner_fault}
-use Rattle.yaml_scan_model.specs.Tokens.{Token, no_token}
-use Rattle.yaml_scan_decode.specs.declared.offence.Offence.{Offence}
-use Rattle.yaml_scan_decode.specs.DecodedText.{text_bytes}
-use Rattle.yaml_scan_decode.specs.Encodings.{encoding_of}
-use Rattle.yaml_scan_decode.specs.Decoding.{decoded_text}
-use Rattle.yaml_scan_model.specs.declared.problem.ScanFault.{ScanFault}
-use Rattle.yaml_scan_history.specs.declared.kind.Kind.{Kind}
-use Rattle.yaml_scan_history.specs.declared.lexeme.Entry.{Entry}
-use Rattle.yaml_scan_history.specs.declared.lexeme.Lexeme.{Lexeme}
-use Rattle.yaml_scan_history.specs.History.{ended, entries}
-use Rattle.yaml_scan_history.specs.Next.{Next, Read, Fails, Ends, first_lexeme, kind_behind, place_behind, lexeme_behind, no_start, stale_before, faults, first_fault_or, coming, next, history}
-use Rattle.yaml_scan_history.specs.Remaining.{SpelledText, Remaining, all, fault_in, remaining, offline}
-use Rattle.yaml_scan_history.specs.Scanned.{scanned, scanned_in}
+use Rattle.yaml_scan_machine.proofs.Words.{cases_lt, nat_tests, length-map, map, yaml_encoding_t, Fault, scanner_fault, Token, no_token, Offence, text_bytes, encoding_of, decoded_text, ScanFault, Kind, Entry, Lexeme, ended, entries, Next, Read, Fails, Ends, first_lexeme, kind_behind, no_start, coming, next, history, SpelledText, Remaining, all, remaining, offline, scanned, scanned_in, entries_ends, Machine, Waiting, KeptLexeme, kept_of, to_come, left_in, fields_of, read, history_of, stream_of, IsMachine, ready_in, is_ready, given_in, front_count, HasMore}
+use Rattle.yaml_scan_history.specs.Next.{place_behind, lexeme_behind, stale_before, faults, first_fault_or}
+use Rattle.yaml_scan_history.specs.Remaining.{fault_in}
 use Rattle.yaml_scan_laws_order.proofs.HistoryForward.{all_ends, stays_all, history_grows}
-use Rattle.yaml_scan_laws_order.proofs.RemainingForward.{SameEnds, entries_ends, fault_is, last_comes}
-use Rattle.yaml_scan_machine.specs.declared.machine.Machine.{Machine}
-use Rattle.yaml_scan_queue.specs.declared.waiting.Waiting.{Waiting}
-use Rattle.yaml_scan_queue.specs.Waits.{KeptLexeme, kept_of}
-use Rattle.yaml_scan_machine.specs.Comes.{to_come}
-use Rattle.yaml_scan_machine.specs.Left.{left_in}
-use Rattle.yaml_scan_machine.specs.Shows.{fields_of, read, history_of, stream_of}
-use Rattle.yaml_scan_machine.specs.State.{IsMachine, ready_in, is_ready}
-use Rattle.yaml_scan_machine.specs.Taken.{given_in, front_count}
+use Rattle.yaml_scan_laws_order.proofs.RemainingForward.{SameEnds, fault_is, last_comes}
 use Rattle.yaml_scan_machine.proofs.ComesLemmas.{left_is, left_whole}
 use Rattle.yaml_scan_machine.proofs.SpellLemmas.{spell_length}
 use Rattle.yaml_scan_machine.proofs.GivenLemmas.{first_is, no_entry}
-use Rattle.yaml_scan_machine.specs.Found.{HasMore}
 
 -- further lexemes leave how many levels a lexeme closes
 newer_ends : (newer h : List Lexeme) (k : ℕ) (e : Entry) → k < length h

@@ -1,20 +1,7 @@
 -- What comes next, by the fields of a machine.
 use Rattle.std.proofs.Common.{◌≡◌, ℕ, zero, suc, ◌+◌, ◌-◌, ◌<◌, ◌≤◌, Bool, true, false, ltb, eqb, ◌&&◌, List, [], ◌∷◌, length, Option, Some, None, refl, sym, ap, subst, ◌∙◌, inl, inr, arith}
-use Rattle.std.proofs.lemmas.Bool.{cases_Bool, cases_lt, and_parts}
-use Rattle.std.proofs.lemmas.Bool.Decides.{nat_tests}
-use Rattle.yaml_scan_model.specs.declared.record.yaml_mark_t.{yaml_mark_t}
-use Rattle.yaml_scan_model.specs.Marks.{mark_at, line_at}
+use Rattle.yaml_scan_machine.proofs.Words.{cases_Bool, cases_lt, and_parts, nat_tests, yaml_mark_t, mark_at, line_at, Lexeme, cancels, may_be_key, Candidate, candidate, fresh, is_fresh, first_open, reached, depth, key_allowed, ended, Next, Read, Fails, Ends, next, history, extended, first_lexeme, allowed_behind, missed, lost_by, behind, Upto, stepwise, fresh_is, fresh_before, cases_Option, Fields, IsShown, read, settled_in, required_in, late, lost, required_behind}
 use Rattle.yaml_scan_words.proofs.PlacesLemmas.{gap_place}
-use Rattle.yaml_scan_history.specs.declared.lexeme.Lexeme.{Lexeme}
-use Rattle.yaml_scan_history.specs.Kinds.{cancels, may_be_key}
-use Rattle.yaml_scan_history.specs.History.{Candidate, candidate, fresh, is_fresh, first_open, reached, depth, key_allowed, ended}
-use Rattle.yaml_scan_history.specs.Next.{Next, Read, Fails, Ends, next, history, extended, first_lexeme, allowed_behind, missed, lost_by}
-use Rattle.yaml_scan_history.specs.Stepwise.{behind}
-use Rattle.yaml_scan_history.specs.Laws.{Upto}
-use Rattle.yaml_scan_history.proofs.StepwiseLemmas.{stepwise}
-use Rattle.yaml_scan_history.proofs.HistoryLemmas.{fresh_is, fresh_before, cases_Option}
-use Rattle.yaml_scan_machine.specs.Shows.{Fields, IsShown, read, settled_in}
-use Rattle.yaml_scan_machine.specs.Reads.{required_in, late, lost, required_behind}
 use Rattle.yaml_scan_machine.proofs.ReadLemmas.{next_is, first_is, begun_at, gap_of, finished_same}
 use Rattle.yaml_scan_machine.proofs.StepLemmas.{candidate_top}
 

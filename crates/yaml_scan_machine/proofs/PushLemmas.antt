@@ -1,27 +1,11 @@
 -- The fields behind one more lexeme.
 use Rattle.std.proofs.Common.{◌≡◌, ℕ, ◌+◌, ◌-◌, ◌<◌, Bool, true, false, cond, ltb, eqb, ◌&&◌, ◌||◌, not, List, ◌∷◌, length, drop, get_or, Option, Some, None, refl, sym, ap, ◌∙◌, inl, inr}
-use Rattle.std.proofs.lemmas.Bool.{cases_Bool}
-use Rattle.std.proofs.Math.ListN.{set}
-use Rattle.std.specs.Prelude.{map, is_some}
-use Rattle.yaml_scan_history.specs.declared.kind.Kind.{Kind}
-use Rattle.yaml_scan_history.specs.declared.kind.Kind.TheVariants as kinds
-use Rattle.yaml_scan_history.specs.declared.lexeme.Lexeme.{Lexeme}
-use Rattle.yaml_scan_history.specs.declared.lexeme.Opens.{Opens}
-use Rattle.yaml_scan_history.specs.declared.lexeme.Opens.TheVariants as opening
-use Rattle.yaml_scan_history.specs.Kinds.{is_value, is_start, is_end, allows_key}
-use Rattle.yaml_scan_history.specs.History.{Candidate, candidate, has, first_open, entries, entry_of, levels, key_allowed, found_by, inside, start_of, level_of, opens_at, opens_of, opened}
-use Rattle.yaml_scan_history.specs.Next.{Read, next}
-use Rattle.yaml_scan_model.specs.declared.record.yaml_mark_t.{yaml_mark_t}
-use Rattle.yaml_scan_model.specs.Tokens.{TokenBody}
-use Rattle.yaml_scan_history.specs.Remaining.{body_in}
+use Rattle.yaml_scan_machine.proofs.Words.{cases_Bool, set, map, is_some, Kind, Lexeme, Opens, is_value, is_start, is_end, allows_key, Candidate, candidate, has, first_open, entries, entry_of, levels, key_allowed, found_by, inside, start_of, opens_at, opened, Read, next, yaml_mark_t, TokenBody, body_in, Machine, Waiting, Fields, fields_of, IsShown, all_kept, kept_in, read, settled_in, spelled, Picks, history_of, stream_of, KeptLexeme, kept_of, marked, opens_for, keyed_by, get_or_default, fresh_is}
+use Rattle.yaml_scan_history.specs.History.{level_of, opens_of}
 use Rattle.yaml_scan_laws_order.proofs.HistoryForward.{steps_below}
-use Rattle.yaml_scan_machine.specs.declared.machine.Machine.{Machine}
-use Rattle.yaml_scan_queue.specs.declared.waiting.Waiting.{Waiting}
-use Rattle.yaml_scan_machine.specs.Shows.{Fields, fields_of, IsShown, all_kept, kept_in, read, settled_in, spelled, Picks, history_of, stream_of}
-use Rattle.yaml_scan_queue.specs.Waits.{KeptLexeme, kept_of, keyed as marked}
-use Rattle.yaml_scan_machine.specs.Reads.{MarksKey, IsColumn, opens_for, keyed_by}
-use Rattle.std.proofs.lemmas.List.{get_or_default}
-use Rattle.yaml_scan_history.proofs.HistoryLemmas.{fresh_is}
+use Rattle.yaml_scan_machine.specs.Reads.{MarksKey, IsColumn}
+use Rattle.yaml_scan_history.specs.declared.kind.Kind.TheVariants as kinds
+use Rattle.yaml_scan_history.specs.declared.lexeme.Opens.TheVariants as opening
 use Rattle.yaml_scan_machine.proofs.MarkLemmas.{kept_entries, keyed_some}
 use Rattle.yaml_scan_machine.proofs.NextLemmas.{candidate_depth}
 use Rattle.yaml_scan_machine.proofs.KindLemmas.{picks_has, first_of}

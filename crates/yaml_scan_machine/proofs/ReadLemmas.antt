@@ -1,18 +1,7 @@
 -- What a lexeme that is read next is made of.
 use Rattle.std.proofs.Common.{◌≡◌, ℕ, Bool, true, false, cond, ltb, ◌&&◌, List, [], ◌∷◌, Option, Some, None, is_some, Result, Ok, Err, refl, sym, ap, subst, ◌∙◌, inl, inr}
-use Rattle.std.proofs.lemmas.Bool.{cases_Bool}
-use Rattle.yaml_scan_model.specs.declared.record.yaml_mark_t.{yaml_mark_t}
-use Rattle.yaml_scan_model.specs.Marks.{mark_at}
-use Rattle.yaml_scan_model.specs.Wrong.{Wrong}
-use Rattle.yaml_scan_words.specs.Between.{Gap, gap_at}
-use Rattle.yaml_scan_history.specs.declared.kind.Kind.{Kind}
-use Rattle.yaml_scan_history.specs.declared.lexeme.Lexeme.{Lexeme}
-use Rattle.yaml_scan_history.specs.Kinds.{is_end, may_be_key}
-use Rattle.yaml_scan_history.specs.History.{candidate, fresh, reached, depth, key_allowed, placed}
-use Rattle.yaml_scan_history.specs.Words.{WordText, word_at, kind_at}
-use Rattle.yaml_scan_history.specs.Next.{Next, Read, kind_behind, coming, next, first_lexeme, allowed_behind, begun, finished, misplaced, missed, lost_by}
-use Rattle.yaml_scan_history.specs.Stepwise.{no_colon, unless_wrong, unless_lost, of_kind, unless_missed}
-use Rattle.yaml_scan_history.proofs.StepwiseLemmas.{stepwise}
+use Rattle.yaml_scan_machine.proofs.Words.{cases_Bool, yaml_mark_t, mark_at, Wrong, Gap, gap_at, Kind, Lexeme, is_end, may_be_key, candidate, fresh, reached, depth, key_allowed, placed, WordText, word_at, kind_at, Next, Read, kind_behind, coming, next, first_lexeme, allowed_behind, finished, misplaced, missed, lost_by, no_colon, unless_wrong, unless_lost, of_kind, unless_missed, stepwise}
+use Rattle.yaml_scan_history.specs.Next.{begun}
 
 -- what stands between a history and the next lexeme
 abbrev pub gap_of : List ℕ → List Lexeme → Gap

@@ -1,13 +1,9 @@
 -- The lexemes that wait, where one of them is told what a later one makes of it.
 use Rattle.std.proofs.Common.{◌≡◌, ℕ, ◌<◌, ◌≤◌, List, length, get_or, ap, sym, subst, ◌∙◌, inl, inr, arith, refl, Result, Ok, Err}
-use Rattle.std.proofs.Math.ListN.{set}
+use Rattle.yaml_scan_machine.proofs.Words.{set, Opens, Line, Waiting, marked, IsShort, AreInside}
 use Rattle.std.proofs.lemmas.List.{length-set}
 use Rattle.std.specs.Prelude.{OnErr}
-use Rattle.yaml_scan_history.specs.declared.lexeme.Opens.{Opens}
-use Rattle.yaml_scan_queue.specs.Line.{Line, Grows}
-use Rattle.yaml_scan_queue.specs.declared.waiting.Waiting.{Waiting}
-use Rattle.yaml_scan_queue.specs.Waits.{keyed as marked}
-use Rattle.yaml_scan_machine.specs.State.{IsShort, AreInside}
+use Rattle.yaml_scan_queue.specs.Line.{Grows}
 use Rattle.yaml_scan_machine.proofs.KindLemmas.{first_of}
 use Rattle.yaml_scan_machine.proofs.SafeLemmas.{inside_set}
 

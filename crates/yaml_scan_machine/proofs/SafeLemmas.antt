@@ -1,17 +1,9 @@
 -- Places, levels and waiting lexemes stay inside the text.
 use Rattle.std.proofs.Common.{◌≡◌, ℕ, zero, suc, ◌+◌, ◌<◌, ◌≤◌, Bool, true, false, cond, leb, ltb, List, [], ◌∷◌, ◌++◌, length, refl, sym, subst, ap, inl, inr, arith}
-use Rattle.std.proofs.lemmas.Bool.{cases_Bool, cases_lt}
-use Rattle.std.proofs.lemmas.Bool.Decides.{nat_tests}
+use Rattle.yaml_scan_machine.proofs.Words.{cases_Bool, cases_lt, nat_tests, yaml_mark_t, line_at, column_at, splits_break, starts, byte, Kind, is_end, depth_after, indent, opened, placed, keeps, left_by, Waiting, left_of, IsPlace, IsNarrow, AreInside, ready_in}
 use Rattle.std.specs.Prelude.{slice_set}
-use Rattle.yaml_scan_model.specs.declared.record.yaml_mark_t.{yaml_mark_t}
-use Rattle.yaml_scan_model.specs.Marks.{line_at, column_at, splits_break, splits_of, ends_break, starts, byte}
-use Rattle.yaml_scan_history.specs.declared.kind.Kind.{Kind}
+use Rattle.yaml_scan_model.specs.Marks.{splits_of, ends_break}
 use Rattle.yaml_scan_history.specs.declared.kind.Kind.TheVariants as kinds
-use Rattle.yaml_scan_history.specs.Kinds.{is_end, depth_after}
-use Rattle.yaml_scan_history.specs.History.{indent, opened, placed, keeps, left_by}
-use Rattle.yaml_scan_queue.specs.declared.waiting.Waiting.{Waiting}
-use Rattle.yaml_scan_machine.specs.Rising.{left_of}
-use Rattle.yaml_scan_machine.specs.State.{IsPlace, IsNarrow, AreInside, ready_in}
 use Rattle.yaml_scan_machine.proofs.LevelsLemmas.{indent_last}
 
 more-le : (b : Bool) (n m : ℕ) → n ≤ m → n + cond b 1 0 ≤ suc m

@@ -1,37 +1,15 @@
 -- The next token is known where the lexemes that were read settle it.
 use Rattle.std.proofs.Common.{◌≡◌, ℕ, zero, suc, ◌+◌, ◌-◌, ◌<◌, ◌≤◌, Bool, true, false, ltb, List, [], ◌∷◌, ◌++◌, length, take, drop, get_or, Result, Ok, Err, refl, sym, ap, subst, ◌∙◌, inl, inr, arith, length-append}
-use Rattle.std.proofs.lemmas.Bool.{cases_Bool, cases_lt}
-use Rattle.std.proofs.lemmas.Bool.Decides.{nat_tests}
-use Rattle.std.proofs.lemmas.List.{length-map, length-drop}
-use Rattle.std.specs.Prelude.{map}
-use Rattle.std.specs.List.{flat_map}
-use Rattle.yaml_scan_model.specs.declared.name.yaml_encoding_t.{yaml_encoding_t}
-use Rattle.yaml_scan_model.specs.Tokens.{Token}
-use Rattle.yaml_scan_decode.specs.DecodedText.{text_bytes}
-use Rattle.yaml_scan_decode.specs.declared.offence.Offence.{Offence}
-use Rattle.yaml_scan_decode.specs.Encodings.{encoding_of}
-use Rattle.yaml_scan_decode.specs.Decoding.{decoded_text}
-use Rattle.yaml_scan_history.specs.declared.lexeme.Lexeme.{Lexeme}
-use Rattle.yaml_scan_history.specs.declared.lexeme.Entry.{Entry}
-use Rattle.yaml_scan_history.specs.History.{ended, entries, first_open}
-use Rattle.yaml_scan_history.specs.Next.{next, history}
-use Rattle.yaml_scan_history.specs.Remaining.{SpelledText, all, handed, spell, kept_of, front_ends, Remaining, remaining, offline}
-use Rattle.yaml_scan_history.specs.Scanned.{scanned_in}
-use Rattle.yaml_scan_history.proofs.HistoryLemmas.{length-entries}
-use Rattle.yaml_scan_laws_order.proofs.RemainingForward.{Known, known_settled, known_ended, known_next, tokens_is, front_count, front_none, ends_token}
-use Rattle.yaml_scan_machine.specs.declared.machine.Machine.{Machine}
-use Rattle.yaml_scan_queue.specs.declared.waiting.Waiting.{Waiting}
-use Rattle.yaml_scan_queue.specs.Waits.{KeptLexeme, kept_of as waits_as}
-use Rattle.yaml_scan_machine.specs.Taken.{given_in, front_count as count_in_front}
-use Rattle.yaml_scan_machine.specs.Comes.{to_come}
-use Rattle.yaml_scan_machine.specs.Left.{left_in}
-use Rattle.yaml_scan_machine.specs.Shows.{fields_of, read, settled_in, kept_in, stream_of}
-use Rattle.yaml_scan_machine.specs.State.{IsMachine, ready_in, is_ready}
+use Rattle.yaml_scan_machine.proofs.Words.{cases_Bool, cases_lt, nat_tests, length-map, length-drop, map, flat_map, yaml_encoding_t, Token, text_bytes, Offence, encoding_of, decoded_text, Lexeme, Entry, ended, entries, first_open, next, history, SpelledText, all, handed, spell, front_ends, Remaining, remaining, offline, scanned_in, length-entries, tokens_is, front_none, ends_token, Machine, Waiting, KeptLexeme, given_in, to_come, left_in, fields_of, read, settled_in, kept_in, stream_of, IsMachine, ready_in, is_ready, settled_tokens}
+use Rattle.yaml_scan_history.specs.Remaining.{kept_of}
+use Rattle.yaml_scan_laws_order.proofs.RemainingForward.{Known, known_settled, known_ended, known_next, front_count}
+use Rattle.yaml_scan_queue.specs.Waits.{kept_of as waits_as}
+use Rattle.yaml_scan_machine.specs.Taken.{front_count as count_in_front}
+use Rattle.yaml_scan_machine.specs.Settled.{open_of, open_count}
 use Rattle.yaml_scan_machine.proofs.MarkLemmas.{next_ended}
 use Rattle.yaml_scan_machine.proofs.SpellLemmas.{spell_length}
 use Rattle.yaml_scan_machine.proofs.GivenLemmas.{first_is, no_entry, given_few}
 use Rattle.yaml_scan_machine.proofs.ComesLemmas.{left_is, left_whole}
-use Rattle.yaml_scan_machine.specs.Settled.{settled_tokens, open_of, open_count}
 
 -- how many tokens lexemes are spelled out in
 abbrev count : SpelledText → List Entry → ℕ

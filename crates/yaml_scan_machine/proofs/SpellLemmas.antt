@@ -1,18 +1,11 @@
 -- How a lexeme is spelled out, a token at a time.
 use Rattle.std.proofs.Common.{◌≡◌, ℕ, zero, suc, ◌+◌, ◌-◌, ◌<◌, ◌≤◌, Bool, true, false, cond, ltb, eqb, List, [], ◌∷◌, ◌++◌, length, get_or, Option, Some, None, refl, ap, ◌∙◌, inl, inr, arith, append_assoc, length-append}
-use Rattle.std.proofs.lemmas.Bool.{cases_Bool, cases_lt}
-use Rattle.std.proofs.lemmas.Bool.Decides.{nat_tests}
-use Rattle.std.proofs.lemmas.List.{get_or_append_left, get_or-append_right, length-replicate, get_or-replicate}
-use Rattle.yaml_scan_model.specs.Tokens.{Token, TokenBody, block_end, block_sequence_start, block_mapping_start, key}
-use Rattle.yaml_scan_history.specs.declared.lexeme.Lexeme.{Lexeme}
-use Rattle.yaml_scan_history.specs.declared.lexeme.Entry.{Entry}
-use Rattle.yaml_scan_history.specs.declared.lexeme.Opens.{Opens}
+use Rattle.yaml_scan_machine.proofs.Words.{cases_Bool, cases_lt, nat_tests, get_or_append_left, get_or-append_right, Token, TokenBody, block_end, key, Lexeme, Entry, Opens, SpelledText, before, start_tokens, end_tokens, spell, front_at, KeptLexeme, kept_in, front_count, fronted}
+use Rattle.std.proofs.lemmas.List.{length-replicate, get_or-replicate}
+use Rattle.yaml_scan_model.specs.Tokens.{block_sequence_start, block_mapping_start}
+use Rattle.yaml_scan_history.specs.Remaining.{token_in, own_tokens}
+use Rattle.yaml_scan_queue.specs.Front.{key_at, start_at, start_count, key_count}
 use Rattle.yaml_scan_history.specs.declared.lexeme.Opens.TheVariants as opening
-use Rattle.yaml_scan_history.specs.Remaining.{SpelledText, before, token_in, start_tokens, end_tokens, own_tokens, spell}
-use Rattle.yaml_scan_queue.specs.Front.{key_at, start_at, front_at, start_count, key_count}
-use Rattle.yaml_scan_queue.specs.Waits.{KeptLexeme}
-use Rattle.yaml_scan_machine.specs.Shows.{kept_in}
-use Rattle.yaml_scan_machine.specs.Taken.{front_count, fronted}
 
 -- a token is in front where fewer are taken than stand in front
 abbrev pub Counts : ℕ → ℕ → Option TokenBody → Type 0

@@ -1,9 +1,7 @@
 -- What the first byte tells.
 use Rattle.std.proofs.Common.{ℕ, Bool, List, arith}
-use Rattle.yaml_scan_model.specs.Marks.{byte}
-use Rattle.yaml_scan_history.specs.declared.kind.Kind.{Kind}
+use Rattle.yaml_scan_machine.proofs.Words.{byte, Kind, Stands, Told}
 use Rattle.yaml_scan_history.specs.declared.kind.Kind.TheVariants as kinds
-use Rattle.yaml_scan_machine.specs.Stands.{Stands, Told}
 
 -- a kind that its byte tells stands there
 pub told_stands : (k : Kind) (flow : Bool) (text : List ℕ) (p : ℕ) → Told k (byte text p)

@@ -1,18 +1,9 @@
 -- What one more lexeme changes.
 use Rattle.std.proofs.Common.{◌≡◌, ℕ, zero, suc, ◌+◌, ◌-◌, ◌<◌, ◌≤◌, Bool, true, false, cond, ltb, eqb, ◌&&◌, List, [], ◌∷◌, length, get_or, Some, None, refl, sym, ap, ◌∙◌, inl, inr, ◌⊎◌, arith}
-use Rattle.std.proofs.lemmas.Bool.{cases_Bool, cases_order}
-use Rattle.std.proofs.lemmas.Bool.Decides.{nat_tests}
-use Rattle.std.proofs.lemmas.List.{get_or_append_left, get_or-append_right}
-use Rattle.yaml_scan_history.specs.declared.kind.Kind.{Kind}
+use Rattle.yaml_scan_machine.proofs.Words.{cases_Bool, cases_order, nat_tests, get_or_append_left, get_or-append_right, Kind, Lexeme, Entry, is_value, cancels, may_be_key, depth_after, Candidate, candidate, mark_key, keyed, entries, entry_of, found_by, inside, depth, history, Next, Read, Fails, Ends, next, extended, first_lexeme, allowed_behind, candidate_below, length-entries, length-keyed}
+use Rattle.yaml_scan_history.specs.History.{marked}
 use Rattle.yaml_scan_history.specs.declared.kind.Kind.TheVariants as kinds
-use Rattle.yaml_scan_history.specs.declared.lexeme.Lexeme.{Lexeme}
-use Rattle.yaml_scan_history.specs.declared.lexeme.Entry.{Entry}
-use Rattle.yaml_scan_history.specs.Kinds.{is_value, cancels, may_be_key, depth_after}
-use Rattle.yaml_scan_history.specs.History.{Candidate, candidate, mark_key, marked, keyed, entries, entry_of, found_by, inside, depth}
-use Rattle.yaml_scan_history.specs.Next.{history, Next, Read, Fails, Ends, next, extended, first_lexeme}
-use Rattle.yaml_scan_history.specs.Next.{allowed_behind}
 use Rattle.yaml_scan_machine.proofs.ReadLemmas.{next_is, saved_is, gap_of}
-use Rattle.yaml_scan_history.proofs.HistoryLemmas.{candidate_below, length-entries, length-keyed}
 
 lexeme-as_key : (ls : List ℕ) (es : List Entry) (k n : ℕ) (e : Entry)
     → (get_or (mark_key ls es k) n e).lexeme ≡ (get_or es n e).lexeme

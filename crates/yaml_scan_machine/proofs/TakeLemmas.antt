@@ -1,33 +1,14 @@
 -- What a token that is taken leaves to come.
 use Rattle.std.proofs.Common.{◌≡◌, ℕ, suc, ◌+◌, ◌-◌, ◌<◌, ◌≤◌, true, false, ltb, List, [], ◌∷◌, length, drop, get_or, Some, None, refl, sym, ap, subst, ◌∙◌, inl, inr, ◌⊎◌, arith, ◌^◌}
-use Rattle.std.proofs.lemmas.Bool.{cases_Bool, cases_lt}
-use Rattle.std.proofs.lemmas.Bool.Decides.{nat_tests}
-use Rattle.std.proofs.lemmas.List.{length-map}
-use Rattle.std.specs.Prelude.{map}
-use Rattle.yaml_scan_model.specs.Tokens.{Token, TokenBody, block_end, no_token}
-use Rattle.yaml_scan_history.specs.declared.lexeme.Lexeme.{Lexeme}
-use Rattle.yaml_scan_history.specs.declared.lexeme.Entry.{Entry}
-use Rattle.yaml_scan_history.specs.History.{entries}
+use Rattle.yaml_scan_machine.proofs.Words.{cases_Bool, cases_lt, nat_tests, length-map, map, Token, TokenBody, block_end, no_token, Lexeme, Entry, entries, SpelledText, Remaining, remaining, spell, GivesFirst, ends_token, Machine, Waiting, KeptLexeme, kept_of, IsMachine, is_ready, ready_in, Fields, fields_of, IsShown, kept_in, read, history_of, stream_of, front_at, front_count, fronted, given_in, own_token, to_come, left_in, cases_Option}
+use Rattle.yaml_scan_laws_order.proofs.RemainingForward.{settled_token, settled_done}
 use Rattle.yaml_scan_machine.proofs.SettledLemmas.{known_upto}
-use Rattle.yaml_scan_history.specs.Remaining.{SpelledText, Remaining, remaining, spell}
-use Rattle.yaml_scan_laws_order.specs.Fronts.{GivesFirst}
-use Rattle.yaml_scan_laws_order.proofs.RemainingForward.{settled_token, settled_done, ends_token}
-use Rattle.yaml_scan_machine.specs.declared.machine.Machine.{Machine}
-use Rattle.yaml_scan_queue.specs.declared.waiting.Waiting.{Waiting}
-use Rattle.yaml_scan_queue.specs.Waits.{KeptLexeme, kept_of}
-use Rattle.yaml_scan_machine.specs.State.{IsMachine, is_ready, ready_in}
-use Rattle.yaml_scan_machine.specs.Shows.{Fields, fields_of, IsShown, kept_in, read, history_of, stream_of}
-use Rattle.yaml_scan_queue.specs.Front.{front_at}
-use Rattle.yaml_scan_machine.specs.Taken.{front_count, fronted, given_in, own_token}
-use Rattle.yaml_scan_machine.specs.Comes.{to_come}
 use Rattle.yaml_scan_machine.proofs.NextLemmas.{settled_first}
-use Rattle.yaml_scan_machine.specs.Left.{left_in}
 use Rattle.yaml_scan_machine.proofs.ComesLemmas.{settled_end, left_is, ready_started}
 use Rattle.yaml_scan_machine.proofs.SafeLemmas.{known_settled}
 use Rattle.yaml_scan_machine.proofs.SpellLemmas.{spell_length, spell_token, front_count-le}
 use Rattle.yaml_scan_machine.proofs.FrontLemmas.{shown_given}
 use Rattle.yaml_scan_machine.proofs.GivenLemmas.{own_settled, first_is, no_entry, given_few, given_more, front_room, front_done, ends_few}
-use Rattle.yaml_scan_history.proofs.HistoryLemmas.{cases_Option}
 
 -- a lexeme that is settled gives its tokens
 settled_front : (m : Machine) (w : Waiting) (rest : List Waiting) → IsMachine m

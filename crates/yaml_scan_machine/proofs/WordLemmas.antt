@@ -1,13 +1,10 @@
 -- What reading a directive answers.
 use Rattle.std.proofs.Common.{ℕ, List, Result, Ok, Err}
-use Rattle.yaml_scan_model.specs.declared.problem.ScanError.{ScanError}
-use Rattle.yaml_scan_model.specs.Marks.{Place, mark_at}
-use Rattle.yaml_scan_model.specs.Wrong.{Wrong}
+use Rattle.yaml_scan_machine.proofs.Words.{ScanError, Place, mark_at, Wrong, ReadsWord}
 use Rattle.yaml_scan_words.specs.Readings.{ReadsAs}
 use Rattle.yaml_scan_words.specs.Directives.{DirectiveText}
 use Rattle.yaml_scan_words.specs.DirectivesGiven.{IsDirective}
 use Rattle.yaml_scan_history.specs.Words.{directed}
-use Rattle.yaml_scan_machine.specs.Given.{ReadsWord}
 
 pub directive_refused : (text : List ℕ) (p : ℕ) (place : Place) (e : ScanError)
     (x : Result DirectiveText Wrong)

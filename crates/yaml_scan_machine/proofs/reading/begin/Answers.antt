@@ -1,5 +1,5 @@
 use Rattle.std.proofs.Common.{◌∙◌}
-use Rattle.yaml_scan_model.specs.Faults.{fault_of}
+use Rattle.yaml_scan_machine.proofs.Words.{fault_of}
 use Rattle.yaml_scan_machine.proofs.FoundLemmas.{reads_behind, reads_none, fresh_none, fresh_lacks, fresh_plain}
 use Rattle.yaml_scan_machine.proofs.MoreLemmas.{fresh_more}
 use Rattle.yaml_scan_machine.proofs.reading.begin.Goals as goal

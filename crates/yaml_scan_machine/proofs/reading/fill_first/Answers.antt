@@ -1,8 +1,8 @@
 use Rattle.std.proofs.Common.{◌<◌, length, sym, ◌∙◌, arith}
-use Rattle.yaml_scan_model.specs.Faults.{fault_of}
+use Rattle.yaml_scan_machine.proofs.Words.{fault_of}
 use Rattle.yaml_scan_machine.proofs.FoundLemmas.{ReadsFrom, reads_behind, reads_start, steps_end, steps_off, steps_on}
-use Rattle.yaml_scan_machine.proofs.reading.fill_first.Goals as goal
 use Rattle.yaml_scan_machine.proofs.reading.fill_first.Goals.{Else-not-begin}
+use Rattle.yaml_scan_machine.proofs.reading.fill_first.Goals as goal
 
 -- the first lexeme was read
 begun : (c : Else-not-begin) → ReadsFrom c.args.machine.now c.begin.new.self

@@ -1,8 +1,8 @@
 use Rattle.std.proofs.Common.{◌<◌, length, sym, ◌∙◌, arith}
-use Rattle.yaml_scan_model.specs.Faults.{fault_of}
+use Rattle.yaml_scan_machine.proofs.Words.{fault_of}
 use Rattle.yaml_scan_machine.proofs.FoundLemmas.{ReadsFrom, reads_start, steps_end, steps_off, steps_on}
-use Rattle.yaml_scan_machine.proofs.reading.fill_further.Goals as goal
 use Rattle.yaml_scan_machine.proofs.reading.fill_further.Goals.{Else-not-read_one_more}
+use Rattle.yaml_scan_machine.proofs.reading.fill_further.Goals as goal
 
 -- one lexeme more was read
 stepped : (c : Else-not-read_one_more) → ReadsFrom c.args.machine.now c.read_one_more.new.machine

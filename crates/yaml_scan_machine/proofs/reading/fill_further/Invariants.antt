@@ -1,6 +1,5 @@
 use Rattle.std.proofs.Common.{false, ◌≡◌, ◌-◌, ◌+◌, ◌<◌, length}
-use Rattle.yaml_scan_decode.specs.DecodedText.{text_bytes}
-use Rattle.yaml_scan_machine.specs.State.{is_ready}
+use Rattle.yaml_scan_machine.proofs.Words.{text_bytes, is_ready}
 use Rattle.yaml_scan_machine.proofs.FoundLemmas.{ReadsFrom}
 use Rattle.yaml_scan_machine.proofs.reading.fill_further.Given as goal
 

@@ -1,6 +1,5 @@
 use Rattle.std.proofs.Common.{◌≡◌, ◌+◌, true, sym, ap, ◌∙◌}
-use Rattle.yaml_scan_model.specs.Marks.{byte}
-use Rattle.yaml_scan_words.specs.Between.{Gap}
+use Rattle.yaml_scan_machine.proofs.Words.{byte, Gap}
 use Rattle.yaml_scan_words.proofs.BetweenLemmas.{space_byte}
 use Rattle.yaml_scan_machine.proofs.GapLemmas.{goes_on, no_gap, one_space, allowed_still}
 use Rattle.yaml_scan_machine.proofs.stand.pass_gap.Goals as goal

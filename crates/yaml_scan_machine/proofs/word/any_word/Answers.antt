@@ -1,10 +1,8 @@
 use Rattle.std.proofs.Common.{◌≡◌, Some, Ok, sym, ap, subst, ◌∙◌, arith}
-use Rattle.std.specs.Prelude.{option_map}
-use Rattle.yaml_scan_model.specs.Tokens.{body_of}
-use Rattle.yaml_scan_machine.specs.Given.{indicator_at, ReadsWord}
+use Rattle.yaml_scan_machine.proofs.Words.{option_map, body_of, indicator_at, ReadsWord}
 use Rattle.yaml_scan_machine.proofs.IndicatorLemmas.{indicator_stands, no_break, indicator_word}
-use Rattle.yaml_scan_machine.proofs.word.any_word.Goals as goal
 use Rattle.yaml_scan_machine.proofs.word.any_word.Goals.{In-Some}
+use Rattle.yaml_scan_machine.proofs.word.any_word.Goals as goal
 
 -- the kind is an indicator's
 told : (c : In-Some) → indicator_at c.args.kind ≡ Some (body_of c.in-Some.body)

@@ -1,6 +1,5 @@
 use Rattle.std.proofs.Common.{◌≡◌, ℕ, List, length, ap, arith}
-use Rattle.yaml_scan_model.specs.declared.record.yaml_mark_t.{yaml_mark_t}
-use Rattle.yaml_scan_model.specs.Marks.{column_at}
+use Rattle.yaml_scan_machine.proofs.Words.{yaml_mark_t, column_at}
 use Rattle.yaml_scan_model.proofs.MarksLemmas.{within, split_next}
 use Rattle.yaml_scan_machine.proofs.SafeLemmas.{column-le}
 use Rattle.yaml_scan_machine.proofs.IndicatorLemmas.{mark_past}

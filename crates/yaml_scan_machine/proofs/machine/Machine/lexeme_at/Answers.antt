@@ -1,8 +1,8 @@
 use Rattle.std.proofs.Common.{◌≤◌, length, arith}
-use Rattle.yaml_scan_decode.specs.DecodedText.{text_bytes}
+use Rattle.yaml_scan_machine.proofs.Words.{text_bytes}
 use Rattle.yaml_scan_machine.proofs.SafeLemmas.{mark_line, mark_column, placed_column}
-use Rattle.yaml_scan_machine.proofs.machine.Machine.lexeme_at.Goals as goal
 use Rattle.yaml_scan_machine.proofs.machine.Machine.lexeme_at.Goals.{After-moved_end-start}
+use Rattle.yaml_scan_machine.proofs.machine.Machine.lexeme_at.Goals as goal
 
 -- the lexeme starts in a column of the text
 narrow : (c : After-moved_end-start)

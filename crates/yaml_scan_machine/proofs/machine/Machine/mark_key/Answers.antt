@@ -1,5 +1,5 @@
 use Rattle.std.proofs.Common.{ℕ, ◌<◌, Option, length, subst}
-use Rattle.std.specs.Prelude.{IfSome}
+use Rattle.yaml_scan_machine.proofs.Words.{IfSome}
 use Rattle.yaml_scan_machine.proofs.RowLemmas.{marked_length, marked_inside}
 use Rattle.yaml_scan_machine.proofs.machine.Machine.mark_key.Goals as goal
 

@@ -1,23 +1,11 @@
 use Rattle.std.proofs.Common.{◌≡◌, ◌≤◌, ◌+◌, ℕ, length, nat_lt, Some, None, Ok, sym, ap, subst, ◌∙◌}
-use Rattle.yaml_scan_model.specs.Marks.{mark_at}
-use Rattle.yaml_scan_model.specs.declared.record.yaml_mark_t.{yaml_mark_t}
-use Rattle.yaml_scan_decode.specs.DecodedText.{text_bytes}
-use Rattle.yaml_scan_words.specs.Between.{Gap}
-use Rattle.yaml_scan_history.specs.declared.kind.Kind.{Kind}
-use Rattle.yaml_scan_history.specs.declared.lexeme.Lexeme.{Lexeme}
-use Rattle.yaml_scan_history.specs.Kinds.{is_end}
-use Rattle.yaml_scan_history.specs.History.{placed}
-use Rattle.yaml_scan_history.specs.Next.{Next, allowed_behind, colon_missing, not_allowed_there}
-use Rattle.yaml_scan_history.specs.Stepwise.{of_kind, unless_lost}
-use Rattle.yaml_scan_machine.specs.declared.next.Read.{Read as Answer}
-use Rattle.yaml_scan_machine.specs.Stands.{Stands}
-use Rattle.yaml_scan_machine.specs.Shows.{fields_of, history_of, read}
-use Rattle.yaml_scan_machine.specs.Reads.{GivesNext, Stops, lost}
+use Rattle.yaml_scan_machine.proofs.Words.{mark_at, yaml_mark_t, text_bytes, Gap, Kind, Lexeme, is_end, placed, Next, allowed_behind, colon_missing, of_kind, unless_lost, Answer, Stands, fields_of, history_of, read, GivesNext, Stops, lost}
+use Rattle.yaml_scan_history.specs.Next.{not_allowed_there}
+use Rattle.yaml_scan_laws_order.proofs.NextForward.{placed_same}
 use Rattle.yaml_scan_machine.proofs.KindLemmas.{kind_at_place, kind_misplaced, misplaced_is, fault_stops, ok_gives, required_saved, placed_index, leaves_ends}
-use Rattle.yaml_scan_machine.proofs.machine.Machine.of_kind.Goals as goal
 use Rattle.yaml_scan_machine.proofs.machine.Machine.of_kind.Goals.{After-lexeme_at-lexeme}
 use Rattle.yaml_scan_machine.proofs.machine.Machine.of_kind.Given.{Over}
-use Rattle.yaml_scan_laws_order.proofs.NextForward.{placed_same}
+use Rattle.yaml_scan_machine.proofs.machine.Machine.of_kind.Goals as goal
 
 -- what comes of the kind, by what its lexeme loses
 comes : (g : Over) (c : After-lexeme_at-lexeme g) (gap : Gap) → let m = c.args.self.now in

@@ -1,19 +1,6 @@
 use Rattle.std.proofs.Common.{true, false, ◌≡◌, ◌≤◌, ◌<◌, ℕ, Bool, List, ◌∷◌, [], ◌++◌, sym, ap, subst, ◌∙◌, refl, arith, ◌+◌, ◌^◌, ◌&&◌, ◌||◌, not, ltb, eqb, length, length-append}
-use Rattle.std.specs.Prelude.{map}
-use Rattle.yaml_scan_model.specs.Tokens.{body_of}
-use Rattle.yaml_scan_history.specs.Kinds.{is_start, allows_key}
-use Rattle.std.proofs.lemmas.List.{map-append, length-map}
-use Rattle.yaml_scan_decode.specs.DecodedText.{text_bytes}
-use Rattle.yaml_scan_machine.specs.declared.machine.Machine.{Machine}
-use Rattle.yaml_scan_queue.specs.declared.waiting.Waiting.{Waiting}
-use Rattle.yaml_scan_queue.specs.Waits.{KeptLexeme, kept_of}
-use Rattle.yaml_scan_machine.specs.State.{IsShort, IsMachine, ReadsOneMore, AreInside, IsNarrow, IsPlace}
-use Rattle.yaml_scan_history.specs.declared.lexeme.Lexeme.{Lexeme}
-use Rattle.yaml_scan_history.specs.History.{inside, left_by, entry_of, reached}
+use Rattle.yaml_scan_machine.proofs.Words.{map, body_of, is_start, allows_key, map-append, length-map, text_bytes, Machine, Waiting, KeptLexeme, kept_of, IsShort, IsMachine, ReadsOneMore, AreInside, IsNarrow, IsPlace, Lexeme, inside, left_by, entry_of, reached, KeyStack, stack_of, AreKeys, Fields, fields_of, history_of, kept_in, stream_of, opens_for}
 use Rattle.yaml_scan_laws_order.proofs.HistoryForward.{goes_forward}
-use Rattle.yaml_scan_machine.specs.Candidates.{KeyStack, stack_of, AreKeys}
-use Rattle.yaml_scan_machine.specs.Shows.{Fields, fields_of, history_of, kept_in, stream_of}
-use Rattle.yaml_scan_machine.specs.Reads.{opens_for}
 use Rattle.yaml_scan_machine.proofs.SafeLemmas.{inside_push, depth_after-le, narrow_by}
 use Rattle.yaml_scan_machine.proofs.KindLemmas.{ok_read}
 use Rattle.yaml_scan_machine.proofs.MarkLemmas.{IsPushed, kept_entries, settled_grows, shown_by, read_pushed}

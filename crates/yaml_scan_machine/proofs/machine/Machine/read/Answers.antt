@@ -1,12 +1,5 @@
 use Rattle.std.proofs.Common.{◌≡◌, ℕ, List, ◌+◌, nat_lt, length, false, Ok, Err, refl, sym, ap, subst, ◌∙◌}
-use Rattle.yaml_scan_decode.specs.DecodedText.{text_bytes}
-use Rattle.yaml_scan_history.specs.declared.kind.Kind.{Kind}
-use Rattle.yaml_scan_history.specs.Kinds.{is_end}
-use Rattle.yaml_scan_history.specs.Words.{word_at}
-use Rattle.yaml_scan_model.specs.Marks.{mark_at}
-use Rattle.yaml_scan_machine.specs.Stands.{Stands}
-use Rattle.yaml_scan_machine.specs.Given.{ReadsWord}
-use Rattle.yaml_scan_machine.specs.Shows.{fields_of, stream_of, history_of, read}
+use Rattle.yaml_scan_machine.proofs.Words.{text_bytes, Kind, is_end, word_at, mark_at, Stands, ReadsWord, fields_of, stream_of, history_of, read}
 use Rattle.yaml_scan_machine.proofs.KindLemmas.{word_gives, wrong_gives, finished_safe, read_text, stop_place}
 use Rattle.yaml_scan_machine.proofs.machine.Machine.read.Goals as goal
 

@@ -1,21 +1,12 @@
 use Rattle.std.proofs.Common.{◌≡◌, ℕ, List, nat_lt, Some, None, is_some, refl, sym, ap, subst, ◌∙◌}
-use Rattle.yaml_scan_model.specs.declared.record.yaml_mark_t.{yaml_mark_t}
-use Rattle.yaml_scan_model.specs.declared.problem.ScanError.{ScanError}
+use Rattle.yaml_scan_machine.proofs.Words.{yaml_mark_t, ScanError, mark_at, text_bytes, Gap, gap_at, kind_at, colon_missing, next, no_start, unless_missed, Stands, fields_of, history_of, late}
+use Rattle.yaml_scan_history.specs.Stepwise.{no_token}
 use Rattle.yaml_scan_model.specs.declared.problem.ScanError.TheVariants as errors
-use Rattle.yaml_scan_model.specs.Marks.{mark_at}
-use Rattle.yaml_scan_decode.specs.DecodedText.{text_bytes}
-use Rattle.yaml_scan_words.specs.Between.{Gap, gap_at}
-use Rattle.yaml_scan_history.specs.Words.{kind_at}
-use Rattle.yaml_scan_history.specs.Next.{colon_missing, next, no_start}
-use Rattle.yaml_scan_history.specs.Stepwise.{no_token, unless_missed}
-use Rattle.yaml_scan_machine.specs.Stands.{Stands}
-use Rattle.yaml_scan_machine.specs.Shows.{fields_of, history_of}
-use Rattle.yaml_scan_machine.specs.Reads.{late}
 use Rattle.yaml_scan_machine.proofs.ReadLemmas.{gap_of}
 use Rattle.yaml_scan_machine.proofs.KindLemmas.{next_machine, forward_machine, allow_by, fault_stops, kind_found, stop_place}
 use Rattle.yaml_scan_machine.proofs.ComesLemmas.{refused_by}
-use Rattle.yaml_scan_machine.proofs.machine.Machine.stand.Goals as goal
 use Rattle.yaml_scan_machine.proofs.machine.Machine.stand.Goals.{After-required-required}
+use Rattle.yaml_scan_machine.proofs.machine.Machine.stand.Goals as goal
 
 -- the gap that is passed
 abbrev passed : After-required-required → Gap

@@ -1,19 +1,8 @@
 use Rattle.std.proofs.Common.{◌≡◌, Bool, List, [], ◌∷◌, sym, ap, subst, ◌∙◌, arith, ◌+◌, length, get_or, Some, true, refl}
-use Rattle.std.specs.Prelude.{map}
-use Rattle.yaml_scan_decode.specs.DecodedText.{text_bytes}
-use Rattle.yaml_scan_model.specs.Tokens.{Token, TokenBody}
-use Rattle.yaml_scan_slot.specs.Slots.{body_in_slot, token_in_slot}
-use Rattle.yaml_scan_history.specs.Remaining.{remaining}
-use Rattle.yaml_scan_laws_order.specs.Fronts.{GivesFirst}
-use Rattle.yaml_scan_machine.specs.Left.{left_in}
-use Rattle.yaml_scan_queue.specs.declared.waiting.Waiting.{Waiting}
-use Rattle.yaml_scan_queue.specs.Waits.{kept_of}
-use Rattle.yaml_scan_machine.specs.State.{IsMachine, ready_in, AreInside}
-use Rattle.yaml_scan_machine.proofs.SafeLemmas.{inside_rest}
-use Rattle.yaml_scan_machine.specs.Shows.{fields_of, stream_of}
-use Rattle.yaml_scan_machine.specs.Taken.{fronted, own_token}
-use Rattle.yaml_scan_queue.specs.Line.{Line}
+use Rattle.yaml_scan_machine.proofs.Words.{map, text_bytes, Token, TokenBody, token_in_slot, remaining, GivesFirst, left_in, Waiting, kept_of, IsMachine, ready_in, AreInside, fields_of, stream_of, fronted, own_token, Line}
+use Rattle.yaml_scan_slot.specs.Slots.{body_in_slot}
 use Rattle.yaml_scan_queue.specs.Hands.{Hands, IsInFront, IsItsOwn}
+use Rattle.yaml_scan_machine.proofs.SafeLemmas.{inside_rest}
 use Rattle.yaml_scan_machine.proofs.FrontLemmas.{shown_popped}
 use Rattle.yaml_scan_machine.proofs.GivenLemmas.{given_none, own_settled}
 use Rattle.yaml_scan_machine.proofs.TakeLemmas.{first_waits, popped_waits, gives_front, gives_own, given_room, stands_more}

@@ -139,7 +139,7 @@ impl<'a> Machine<'a> {
         ensures told { IfErr result (λ f. IsTold (left_in self.old) (fault_of f)) }
         ensures utf8 { IfErr result (λ f. TellsUtf8 self.old (fault_of f)) }
         ensures few { OnErr result (IsShort self.new.waiting) }
-        ensures sought { IfErr result (λ f. is_ready self.old ≡ false) }
+        ensures fresh { IfErr result (λ f. self.old.started ≡ false) }
     {
         if self.started {
             return Ok(());

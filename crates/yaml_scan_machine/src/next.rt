@@ -18,7 +18,7 @@ ghost use Rattle.yaml_scan_machine.specs.Reads.{late, lost, required_behind, beg
 
 use crate::levels::keeps;
 use crate::machine::Machine;
-use crate::word::{Reading, Word, read_word};
+use crate::word::{Reading, Scope, Word};
 use yaml_scan_history::{Kind, Lexeme, is_fresh, moved_end};
 use yaml_scan_model::{
     Context, Problem, Reader, ScanError, ScanFault, Spares, yaml_encoding_t, yaml_mark_t,
@@ -178,8 +178,11 @@ impl<'a> Machine<'a> {
             (text_bytes self.now.text) lexeme.start.index) (text_bytes self.now.text) lexeme
             (history_of self.now)) }
     {
-        let flow = 0 < lexeme.depth;
-        match read_word(reading, spares, reader, lexeme.kind, flow, lexeme.level) {
+        let at = Scope {
+            flow: 0 < lexeme.depth,
+            level: lexeme.level,
+        };
+        match reading.word(spares, reader, at) {
             Ok(word) => finish(lexeme, word, reader.stop(), required),
             Err(error) => Err(error),
         }

@@ -64,21 +64,11 @@ none_by : (flow alone : Bool) (b n : ℕ) (k : Kind) → indicator_of flow alone
     → indicator_of flow alone n ≡ None → b ≢ n
 none_by flow alone b n k some none = λ same. let bad : indicator_of flow alone b ≡ None = rw same none in cc
 
-tells_no_end : (flow alone : Bool) → indicator_of flow alone 0 ≡ None
+tells_no : (flow alone : Bool) → (indicator_of flow alone 0 ≡ None)
+    × (indicator_of flow alone 37 ≡ None) × (indicator_of flow alone 46 ≡ None)
+    × (indicator_of flow false 45 ≡ None)
 unfolding indicator_of
-tells_no_end flow alone = refl
-
-tells_no_percent : (flow alone : Bool) → indicator_of flow alone 37 ≡ None
-unfolding indicator_of
-tells_no_percent flow alone = refl
-
-tells_no_dot : (flow alone : Bool) → indicator_of flow alone 46 ≡ None
-unfolding indicator_of
-tells_no_dot flow alone = refl
-
-tells_no_dash : (flow : Bool) → indicator_of flow false 45 ≡ None
-unfolding indicator_of
-tells_no_dash flow = refl
+tells_no flow alone = (refl, refl, refl, refl)
 
 dash_follows : (text : List ℕ) (p : ℕ) → byte text p ≡ 45 → is_blank_or_end text p ≡ false
 dash_follows text p h =
@@ -87,15 +77,12 @@ dash_follows text p h =
 
 no_thrice : (first a b c last : Bool) → (a && b) ≡ false
     → ((first && (a && (b && c))) && last) ≡ false
-no_thrice true true true c last h = cc
-no_thrice true true false c last h = refl
-no_thrice true false b c last h = refl
-no_thrice false a b c last h = refl
+no_thrice first a b c last h = grind arith
 
 not_both : (a b : Bool) → (b ≡ true → a ≡ false) → (a && b) ≡ false
-not_both true true h = h refl
+not_both a true h = rw (h refl) refl
 not_both true false h = refl
-not_both false b h = refl
+not_both false false h = refl
 
 no_start : (flow : Bool) (text : List ℕ) (p : ℕ) (k : Kind)
     → indicator_of flow (is_blank_or_end text (p + 1)) (byte text p) ≡ Some k
@@ -104,7 +91,7 @@ unfolding is_document_start
 no_start flow text p k some =
     no_thrice (column_at text p == 0) (byte text p == 45) (byte text (p + 1) == 45) (byte text (p + 2) == 45) (is_blank_or_end text (p + 3)) (not_both _ _ (λ second.
     let alone : is_blank_or_end text (p + 1) ≡ false = dash_follows text (p + 1) (eqb-true _ _ second) in
-    ne_eqb _ _ (none_by flow false (byte text p) 45 k (rw alone at some) (tells_no_dash flow))))
+    ne_eqb _ _ (none_by flow false (byte text p) 45 k (rw alone at some) (tells_no flow false).3)))
 
 no_end : (text : List ℕ) (p : ℕ) → byte text p ≢ 46 → is_document_end text p ≡ false
 unfolding is_document_end
@@ -119,9 +106,9 @@ told_kind flow text p k some =
     let alone = is_blank_or_end text (p + 1) in
     let b = byte text p in
     rw (
-      ne_eqb b 0 (none_by flow alone b 0 k some (tells_no_end flow alone)),
-      ne_eqb b 37 (none_by flow alone b 37 k some (tells_no_percent flow alone)),
+      ne_eqb b 0 (none_by flow alone b 0 k some (tells_no flow alone).0),
+      ne_eqb b 37 (none_by flow alone b 37 k some (tells_no flow alone).1),
       no_start flow text p k some,
-      no_end text p (none_by flow alone b 46 k some (tells_no_dot flow alone)),
+      no_end text p (none_by flow alone b 46 k some (tells_no flow alone).2),
       some,
     ) refl

@@ -6,7 +6,7 @@ use Rattle.yaml_scan_history.proofs.HistoryLemmas.{first_open-is, first_open-lea
 use Rattle.yaml_scan_machine.specs.Candidates.{number_in, required_view, required_at, Forgets, Turns, IsPut}
 use Rattle.yaml_scan_history.specs.declared.lexeme.Opens.TheVariants as opening
 use Rattle.yaml_scan_machine.proofs.StepLemmas.{candidate_top, none_deeper, start_is}
-use Rattle.yaml_scan_machine.proofs.NextLemmas.{settled_first, unmissed}
+use Rattle.yaml_scan_machine.proofs.NextLemmas.{required_fresh, settled_first, unmissed}
 use Rattle.yaml_scan_machine.proofs.MarkLemmas.{further_on, depth_of}
 use Rattle.yaml_scan_machine.proofs.CandidatesLemmas.{inner, top_saved, top_cancelled, if_none, no_view, stays_gone, with_key, set_key, keep_key, push_key, pop_key, pop_gone}
 
@@ -117,11 +117,6 @@ here_same : (k : Key) (o : Option Candidate) (p : yaml_mark_t) → IsKey k o p
     → fresh_key k p ≡ view_of (fresh o p)
 here_same k o p is = fresh_same k o p p is (omega arith, omega arith)
 
-viewed : (o : Option Candidate) (v : KeyView) → Some v ≡ view_of o
-    → (c : Candidate) × (o ≡ Some c) × (c.number ≡ v.number)
-viewed None v e = cc
-viewed (Some c) v e = (c, refl, let is : v ≡ record { number = c.number; start = c.lexeme.start; required = c.lexeme.required } = cc in ap (λ (x : KeyView). x.number) (sym is))
-
 view_none : (o : Option Candidate) → view_of o ≡ None → o ≡ None
 view_none None e = refl
 view_none (Some c) e = cc
@@ -130,40 +125,20 @@ required_same : (o : Option Candidate) → required_view (view_of o) ≡ require
 required_same None = refl
 required_same (Some c) = refl
 
--- a required candidate that isn't missed is fresh
-required_fresh : (o : Option Candidate) (p : yaml_mark_t) → missed o p ≡ None
-    → required_in (fresh o p) ≡ required_in o
-required_fresh None p e = refl
-required_fresh (Some c) p e =
-    elim (cases_Bool (is_fresh c.lexeme.start p)) [
-      | inl near ↦ rw near refl
-      | inr far ↦ elim (cases_Bool c.lexeme.required) [
-        | inr other ↦ rw (far, other) refl
-        | inl must ↦ let bad = rw (far, must) at e in cc
-      ]
-    ]
-
-numbered : (o : Option KeyView) (n : ℕ) → Some n ≡ number_in o
-    → (v : KeyView) × (o ≡ Some v) × (v.number ≡ n)
-numbered None n e = cc
-numbered (Some v) n e = (v, refl, let is : n ≡ v.number = cc in sym is)
-
 not_numbered : (o : Option KeyView) → None ≡ number_in o → o ≡ None
 not_numbered None e = refl
 not_numbered (Some v) e = cc
+
+found_in : (o : Option Candidate) (n : ℕ) → Some n ≡ number_in (view_of o)
+    → (c : Candidate) × (o ≡ Some c) × (c.number ≡ n)
+found_in None n e = cc
+found_in (Some c) n e = (c, refl, cc)
 
 -- the candidate whose number a key tells
 found_candidate : (k : Key) (o : Option Candidate) (p : yaml_mark_t) (n : ℕ)
     → fresh_key k p ≡ view_of (fresh o p) → Some n ≡ number_in (fresh_key k p)
     → (c : Candidate) × (fresh o p ≡ Some c) × (c.number ≡ n)
-found_candidate k o p n agrees is =
-    let (v, some, same) = numbered (fresh_key k p) n is in
-    let (c, here, number) = viewed (fresh o p) v (sym some ∙ agrees) in
-    (c, here, number ∙ same)
-
-no_candidate : (k : Key) (o : Option Candidate) (p : yaml_mark_t)
-    → fresh_key k p ≡ view_of (fresh o p) → None ≡ number_in (fresh_key k p) → fresh o p ≡ None
-no_candidate k o p agrees is = view_none (fresh o p) (sym agrees ∙ not_numbered (fresh_key k p) is)
+found_candidate k o p n agrees is = found_in (fresh o p) n (is ∙ ap number_in agrees)
 
 -- a candidate of a depth further in is a later one
 deeper_later : (h : List Lexeme) (d e : ℕ) (c x : Candidate) → candidate d h ≡ Some c
@@ -240,11 +215,6 @@ none_at text n s a none =
           let bad : None ≡ Some x = sym gone ∙ there in cc
     ]
 
--- the earliest open candidate, by what the keys answer
-first_is : (h : List Lexeme) (s : KeyStack) (n : ℕ) → AreKeys s h (reached h)
-    → Some n ≡ number_in (fresh_key (key_at s s.stale) (reached h)) → n ≡ first_open h h
-first_is h s n a is = first_at h s s.stale n a a.inside a.stale is
-
 none_is : (text : List ℕ) (n : ℕ) (s : KeyStack) → let h = history text n in AreKeys s h (reached h)
     → None ≡ number_in (fresh_key (key_at s s.stale) (reached h)) → s.stale ≡ length s.outer
     → length h ≡ first_open h h
@@ -310,7 +280,8 @@ pub some_settles : (h : List Lexeme) (s t : KeyStack) (p : yaml_mark_t) (n : ℕ
     → Some n ≡ number_in (fresh_key (key_at t t.stale) p) → n ≡ first_open h h
 some_settles h s t p n a at is inside stale number =
     let keys = passed_keys (depth h) s t h p a is inside (stale a.stale) in
-    first_is h t n (subst (λ q. AreKeys t h q) at keys) (number ∙ ap (λ q. number_in (fresh_key (key_at t t.stale) q)) at)
+    let now : AreKeys t h (reached h) = subst (λ q. AreKeys t h q) at keys in
+    first_at h t t.stale n now now.inside now.stale (number ∙ ap (λ q. number_in (fresh_key (key_at t t.stale) q)) at)
 
 pub none_settles : (m : Machine) (t : KeyStack) → let h = history_of m in
     AreKeys (stack_of m.keys) h m.place → m.place ≡ reached h

@@ -1,7 +1,6 @@
 mod Words
 mod StandsLemmas
 mod LevelsLemmas
-mod WordLemmas
 mod SafeLemmas
 mod ReadLemmas
 mod StepLemmas

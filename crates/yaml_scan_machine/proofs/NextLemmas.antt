@@ -3,7 +3,8 @@ use Rattle.std.proofs.Common.{◌≡◌, ℕ, zero, suc, ◌+◌, ◌-◌, ◌<�
 use Rattle.yaml_scan_machine.proofs.Words.{cases_Bool, cases_lt, and_parts, nat_tests, yaml_mark_t, mark_at, line_at, Lexeme, cancels, may_be_key, Candidate, candidate, fresh, is_fresh, first_open, reached, depth, key_allowed, ended, Next, Read, Fails, Ends, next, history, extended, first_lexeme, allowed_behind, missed, lost_by, behind, Upto, stepwise, fresh_is, fresh_before, cases_Option, Fields, IsShown, read, settled_in, required_in, late, lost, required_behind}
 use Rattle.yaml_scan_words.proofs.PlacesLemmas.{gap_place}
 use Rattle.yaml_scan_machine.proofs.ReadLemmas.{next_is, first_is, begun_at, gap_of, finished_same}
-use Rattle.yaml_scan_machine.proofs.StepLemmas.{candidate_top}
+use Rattle.yaml_scan_machine.proofs.StepLemmas.{candidate_top, each_history}
+use Rattle.yaml_scan_machine.proofs.CandidatesLemmas.{stays_gone}
 
 pub next_first : (text : List ℕ) (h : List Lexeme) → length h ≡ 0 → next text h ≡ Read first_lexeme
 unfolding next
@@ -83,23 +84,15 @@ required_is text (y ∷ h) l e must =
     let (z, so) = required_parts (allowed_behind (y ∷ h) (gap_of text (y ∷ h))) (may_be_key l.kind) _ (depth (y ∷ h)) (sym at ∙ must) in
     (depth_at ∙ z, saved_at ∙ so)
 
-shallow_after : (text : List ℕ) (h : List Lexeme) (x : Next) (d : ℕ) (c : Candidate)
-    → next text h ≡ x → (candidate d h ≡ Some c → c.lexeme.required ≡ true → d ≡ 0)
-    → candidate d (extended x h) ≡ Some c → c.lexeme.required ≡ true → d ≡ 0
-shallow_after text h (Read l) d c e before is must =
-    elim (candidate_top d l h c is) [
-      | inl (a, top, s) ↦ let (z, so) = required_is text h l e (sym (ap (λ (x : Lexeme). x.required) s) ∙ must) in sym a ∙ z
-      | inr was ↦ before was must
-    ]
-shallow_after text h (Fails p) d c e before is must = before is must
-shallow_after text h Ends d c e before is must = before is must
-
 -- a required candidate stands outside all brackets
 pub shallow : (text : List ℕ) (n d : ℕ) (c : Candidate) → candidate d (history text n) ≡ Some c
     → c.lexeme.required ≡ true → d ≡ 0
-unfolding history candidate
-shallow text zero d c is must = cc
-shallow text (suc n) d c is must = shallow_after text (history text n) (next text (history text n)) d c refl (λ was so. shallow text n d c was so) is must
+unfolding candidate
+shallow text n =
+    each_history text (λ h. (d : ℕ) (c : Candidate) → candidate d h ≡ Some c → c.lexeme.required ≡ true → d ≡ 0) (λ d c is must. cc) (λ h l before e d c is must. elim (candidate_top d l h c is) [
+      | inl (a, top, s) ↦ let (z, so) = required_is text h l e (sym (ap (λ (x : Lexeme). x.required) s) ∙ must) in sym a ∙ z
+      | inr was ↦ before d c was must
+    ]) n
 
 first_unmissed : missed (candidate 0 (first_lexeme ∷ [])) first_lexeme.reached ≡ None
 unfolding candidate
@@ -110,25 +103,18 @@ unmissed_next : (text : List ℕ) (h : List Lexeme) (l : Lexeme) → next text h
 unmissed_next text [] l e = subst (λ (x : Lexeme). missed (candidate 0 (x ∷ [])) x.reached ≡ None) (sym (first_is text l e)) first_unmissed
 unmissed_next text (y ∷ h) l e = let r = next_is text y h l e in r.tested
 
-unmissed_after : (text : List ℕ) (h : List Lexeme) (x : Next) → next text h ≡ x
-    → missed (candidate 0 h) (reached h) ≡ None
-    → missed (candidate 0 (extended x h)) (reached (extended x h)) ≡ None
-unmissed_after text h (Read l) e before = unmissed_next text h l e
-unmissed_after text h (Fails p) e before = before
-unmissed_after text h Ends e before = before
-
 -- no required candidate is stale where the last lexeme ended
 pub unmissed : (text : List ℕ) (n : ℕ)
     → missed (candidate 0 (history text n)) (reached (history text n)) ≡ None
-unfolding history candidate
-unmissed text zero = refl
-unmissed text (suc n) = unmissed_after text (history text n) (next text (history text n)) refl (unmissed text n)
+unfolding candidate
+unmissed text n = each_history text (λ h. missed (candidate 0 h) (reached h) ≡ None) refl (λ h l before e. unmissed_next text h l e) n
 
-missed_fresh : (o : Option Candidate) (q p : yaml_mark_t) → missed o q ≡ None
-    → missed (fresh o q) p ≡ missed o p
-missed_fresh None q p e = refl
-missed_fresh (Some c) q p e =
-    elim (cases_Bool (is_fresh c.lexeme.start q)) [
+-- a required candidate that isn't missed is fresh
+pub required_fresh : (o : Option Candidate) (p : yaml_mark_t) → missed o p ≡ None
+    → required_in (fresh o p) ≡ required_in o
+required_fresh None p e = refl
+required_fresh (Some c) p e =
+    elim (cases_Bool (is_fresh c.lexeme.start p)) [
       | inl near ↦ rw near refl
       | inr far ↦ elim (cases_Bool c.lexeme.required) [
         | inr other ↦ rw (far, other) refl
@@ -136,13 +122,9 @@ missed_fresh (Some c) q p e =
       ]
     ]
 
-stale_later : (o : Option Candidate) (p q : yaml_mark_t) → Upto p q → fresh o p ≡ None
-    → fresh o q ≡ None
-stale_later o p q u e =
-    elim (cases_Option (fresh o q)) [
-      | inl none ↦ none
-      | inr (c, f) ↦ let bad : None ≡ Some c = sym e ∙ fresh_before o p q c f u in cc
-    ]
+missed_fresh : (o : Option Candidate) (q p : yaml_mark_t) → missed o q ≡ None
+    → missed (fresh o q) p ≡ missed o p
+missed_fresh o q p e = sym (late_same (fresh o q) p) ∙ ap (λ r. late r p) (required_fresh o q e) ∙ late_same o p
 
 pub lost_same : (text : List ℕ) (n : ℕ) (p : yaml_mark_t) (b : Lexeme) → let h = history text n in
     b.depth ≡ depth h → Upto (reached h) p
@@ -166,7 +148,7 @@ lost_same text n p b at u early =
           let z : depth h ≡ 0 = omega arith in
           let t : eqb b.depth 0 ≡ true = grind (arith, nat_tests) in
           elim (cases_Option (fresh (candidate 0 h) (reached h))) [
-            | inl none ↦ rw (z, none, stale_later (candidate 0 h) (reached h) p u none) refl
+            | inl none ↦ rw (z, none, stays_gone (candidate 0 h) (reached h) p none u) refl
             | inr (c, f) ↦
                 let is = fresh_is (candidate 0 h) (reached h) c f in
                 elim (cases_Bool c.lexeme.required) [

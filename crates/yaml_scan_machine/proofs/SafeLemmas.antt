@@ -48,13 +48,9 @@ placed_column k m =
           ]
     ]
 
-pub start_whole : (text : List ℕ) → splits_break text 0 ≡ false
-unfolding splits_of
-start_whole text = grind (arith, nat_tests)
-
 pub start_place : (text : List ℕ) → IsPlace text record { index = 0; line = 0; column = 0 }
-unfolding line_at column_at
-start_place text = record { inside = omega arith; mark = refl; whole = start_whole text }
+unfolding line_at column_at splits_of
+start_place text = record { inside = omega arith; mark = refl; whole = grind (arith, nat_tests) }
 
 pub narrow_indent : (n : ℕ) (xs : List ℕ) → IsNarrow n xs → indent xs ≤ n
 unfolding indent
@@ -88,13 +84,6 @@ narrow_left_by n k d column xs h =
 narrow_snoc : (n c : ℕ) (xs : List ℕ) → c ≤ n → IsNarrow n xs → IsNarrow n (xs ++ c ∷ [])
 narrow_snoc n c [] low h = narrow_cons n c [] low h
 narrow_snoc n c (x ∷ xs) low h = narrow_cons n x (xs ++ c ∷ []) (h 0) (narrow_snoc n c xs low (λ k. h (suc k)))
-
-pub narrow_opened : (n c : ℕ) (xs : List ℕ) → c ≤ n → IsNarrow n xs → IsNarrow n (opened true c xs)
-narrow_opened n c xs low h =
-    elim (cases_Bool (ltb (indent xs) c)) [
-      | inl near ↦ rw near (narrow_snoc n c xs low h)
-      | inr far ↦ rw far h
-    ]
 
 pub inside_rest : (n : ℕ) (w : Waiting) (ws : List Waiting) → AreInside n (w ∷ ws) → AreInside n ws
 inside_rest n w ws h k d lt = h (suc k) d (omega arith)
@@ -137,5 +126,9 @@ depth_after-le _ d = omega arith
 
 pub narrow_by : (n c : ℕ) (may : Bool) (xs new : List ℕ) → c ≤ n → IsNarrow n xs
     → new ≡ opened may c xs → IsNarrow n new
-narrow_by n c true xs new low h is = subst (λ (ys : List ℕ). IsNarrow n ys) (sym is) (narrow_opened n c xs low h)
-narrow_by n c false xs new low h is = subst (λ (ys : List ℕ). IsNarrow n ys) (sym is) h
+narrow_by n c false xs new low h is = rw is h
+narrow_by n c true xs new low h is =
+    elim (cases_Bool (ltb (indent xs) c)) [
+      | inl near ↦ rw (is, near) (narrow_snoc n c xs low h)
+      | inr far ↦ rw (is, far) h
+    ]

@@ -103,15 +103,27 @@ none_deeper_next : (text : List ℕ) (h : List Lexeme) (l : Lexeme) (d : ℕ) �
 unfolding next candidate
 none_deeper_next text h l d e deep = none_after l d h deep (saved_keeps text h l e)
 
-none_deeper_after : (text : List ℕ) (h : List Lexeme) (x : Next) (d : ℕ) → next text h ≡ x
-    → (depth h < d → candidate d h ≡ None) → depth (extended x h) < d
-    → candidate d (extended x h) ≡ None
-none_deeper_after text h (Read l) d e before deep = none_deeper_next text h l d e deep
-none_deeper_after text h (Fails p) d e before deep = before deep
-none_deeper_after text h Ends d e before deep = before deep
+extends : (x : Next) (h : List Lexeme)
+    → ((l : Lexeme) × (x ≡ Read l)) ⊎ (extended x h ≡ h)
+extends (Read l) h = inl (l, refl)
+extends (Fails p) h = inr refl
+extends Ends h = inr refl
+
+-- what holds before any lexeme, and behind each that comes where it held before, holds of each history
+pub each_history : (text : List ℕ) (P : List Lexeme → Type 0) → P []
+    → ((h : List Lexeme) (l : Lexeme) → P h → next text h ≡ Read l → P (l ∷ h)) → (n : ℕ)
+    → P (history text n)
+unfolding history
+each_history text P none more zero = none
+each_history text P none more (suc n) =
+    let h = history text n in
+    let before = each_history text P none more n in
+    elim (extends (next text h) h) [
+      | inl (l, e) ↦ rw e (more h l before e)
+      | inr stays ↦ rw stays before
+    ]
 
 pub none_deeper : (text : List ℕ) (n d : ℕ) → depth (history text n) < d
     → candidate d (history text n) ≡ None
-unfolding history candidate
-none_deeper text zero d deep = refl
-none_deeper text (suc n) d deep = none_deeper_after text (history text n) (next text (history text n)) d refl (λ lt. none_deeper text n d lt) deep
+unfolding candidate
+none_deeper text n = each_history text (λ h. (d : ℕ) → depth h < d → candidate d h ≡ None) (λ d deep. refl) (λ h l before e d deep. none_deeper_next text h l d e deep) n

@@ -8,7 +8,7 @@ use Rattle.yaml_scan_history.specs.declared.lexeme.Opens.TheVariants as opening
 use Rattle.yaml_scan_machine.proofs.StepLemmas.{candidate_top, none_deeper, start_is}
 use Rattle.yaml_scan_machine.proofs.NextLemmas.{required_fresh, settled_first, unmissed}
 use Rattle.yaml_scan_machine.proofs.MarkLemmas.{further_on, depth_of}
-use Rattle.yaml_scan_machine.proofs.CandidatesLemmas.{inner, top_saved, top_cancelled, if_none, no_view, stays_gone, with_key, set_key, keep_key, push_key, pop_key, pop_gone}
+use Rattle.yaml_scan_machine.proofs.CandidatesLemmas.{inner, top_saved, top_cancelled, if_none, no_view, stays_gone, with_key, set_key, push_key, gone_turns}
 
 -- ---- the steps of code
 
@@ -22,10 +22,6 @@ pub saved_turns : (l : Lexeme) (number : ℕ) (s t : KeyStack) (k : Key) → l.s
 saved_turns l number s t k saved key is n h p a u at count =
     let here : candidate n (l ∷ h) ≡ Some (record { number = number; lexeme = l }) = ap (λ d. candidate d (l ∷ h)) (sym at) ∙ top_saved l h saved ∙ ap (λ c. Some (record { number = c; lexeme = l })) (sym count) in
     subst (λ z. AreKeysTo n z (l ∷ h) l.reached) (sym is) (set_key n s l h k p l.reached a u at (ap key_view key ∙ ap view_of (sym here)))
-
-pub kept_turns : (l : Lexeme) (number : ℕ) (s : KeyStack) → l.saved ≡ false → cancels l.kind ≡ false
-    → Turns l number (λ n. n) s s
-kept_turns l number s saved idle n h p a u at count = keep_key n s l h p l.reached a u at saved idle
 
 pub cancelled_turns : (l : Lexeme) (number : ℕ) (s t : KeyStack) (k : Key) → l.saved ≡ false
     → cancels l.kind ≡ true → k.possible ≡ false → t ≡ with_key s k → Turns l number (λ n. n) s t
@@ -50,18 +46,13 @@ pub opened_turns : (l : Lexeme) (number : ℕ) (s m t : KeyStack) (k : Key)
 opened_turns l number s m t k turns none is n h p a u at count =
     subst (λ z. AreKeysTo (n + 1) z (l ∷ h) l.reached) (sym is) (push_key n m l h k l.reached (turns n h p a u at count) at none)
 
-pub popped_turns : (l : Lexeme) (number : ℕ) (s t : KeyStack)
-    → s.outer ≡ t.outer ++ t.innermost ∷ [] → t.gone ≡ s.gone → t.stale ≤ s.stale
-    → t.stale ≤ length t.outer → Turns l number (λ n. n - 1) s t
-popped_turns l number s t is same low inside n h p a u at count = pop_key n s t l h p l.reached a u at is same low inside
-
 -- Where no depth outside is kept, a closer leaves one that is forgotten, or closes none.
 pub bare_turns : (l : Lexeme) (number : ℕ) (s t : KeyStack) → l.saved ≡ false
     → cancels l.kind ≡ true → length s.outer ≡ 0 → length t.outer ≡ 0 → t.gone ≡ s.gone - 1
     → t.stale ≡ s.stale → t.innermost.possible ≡ false → Turns l number (λ n. n - 1) s t
 bare_turns l number s t saved stops none empty less stale off n h p a u at count =
     elim (cases_lt 0 s.gone) [
-      | inl some ↦ pop_gone n s t l h p l.reached a u at none empty (omega (arith, less, some)) stale off
+      | inl some ↦ gone_turns l number s t none empty (omega (arith, less, some)) stale off n h p a u at count
       | inr all ↦
           let flat : n ≡ n - 1 = omega (arith, a.long, none, all) in
           let gone : t.gone ≡ s.gone = omega (arith, less, all) in

@@ -1,5 +1,8 @@
 -- What a token that is taken leaves to come.
-use Rattle.std.proofs.Common.{◌≡◌, ℕ, suc, ◌+◌, ◌-◌, ◌<◌, ◌≤◌, true, false, ltb, List, [], ◌∷◌, length, drop, get_or, Some, None, refl, sym, ap, subst, ◌∙◌, inl, inr, ◌⊎◌, arith, ◌^◌}
+use Rattle.std.proofs.Common.{Bool, ◌≡◌, ℕ, suc, ◌+◌, ◌-◌, ◌<◌, ◌≤◌, true, false, ltb, List, [], ◌∷◌, length, drop, get_or, Some, None, refl, sym, ap, subst, ◌∙◌, inl, inr, ◌⊎◌, arith, ◌^◌}
+use Rattle.yaml_scan_queue.specs.Line.{Line}
+use Rattle.yaml_scan_queue.specs.Hands.{Hands}
+use Rattle.yaml_scan_slot.specs.declared.slot.TokenSlot.{TokenSlot}
 use Rattle.yaml_scan_machine.proofs.Words.{cases_Bool, cases_lt, nat_tests, length-map, map, Token, TokenBody, block_end, no_token, Lexeme, Entry, entries, SpelledText, Remaining, remaining, spell, GivesFirst, ends_token, Machine, Waiting, KeptLexeme, kept_of, IsMachine, is_ready, ready_in, Fields, fields_of, IsShown, kept_in, read, history_of, stream_of, front_at, front_count, fronted, given_in, own_token, to_come, left_in, cases_Option}
 use Rattle.yaml_scan_laws_order.proofs.RemainingForward.{settled_token, settled_done}
 use Rattle.yaml_scan_machine.proofs.SettledLemmas.{known_upto}
@@ -86,6 +89,16 @@ pub first_waits : (d s g : ℕ) (ws : List Waiting) → ready_in d s g ws ≡ tr
     → (w : Waiting) × (rest : List Waiting) × (ws ≡ w ∷ rest)
 first_waits d s g [] e = cc
 first_waits d s g (w ∷ ws) e = (w, ws, refl)
+
+-- a token of what waits first is handed out
+pub hands_first : (m : Machine) (q : Line) (slot : TokenSlot) (r b : Bool) → is_ready m ≡ true
+    → ((w : Waiting) → Hands m.given (get_or m.waiting.items 0 w) m.waiting q slot r) → r ≡ b
+    → (front : Waiting) × (rest : List Waiting) × (m.waiting.items ≡ front ∷ rest)
+    × Hands m.given front m.waiting q slot b
+hands_first m q slot r b ready hands same =
+    let (front, rest, items) = first_waits m.dropped m.settled m.given m.waiting.items ready in
+    let here : get_or m.waiting.items 0 front ≡ front = ap (λ (ws : List Waiting). get_or ws 0 front) items in
+    (front, rest, items, subst (λ (b : Bool). Hands m.given front m.waiting q slot b) same (subst (λ (w : Waiting). Hands m.given w m.waiting q slot r) here (hands front)))
 
 -- what waits first, where it is taken
 pub popped_waits : (m : Machine) (x : Waiting) (rest : List Waiting) → is_ready m ≡ true

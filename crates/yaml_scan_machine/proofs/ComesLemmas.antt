@@ -1,13 +1,12 @@
 -- Where a machine stops.
-use Rattle.std.proofs.Common.{◌≡◌, ℕ, ◌+◌, ◌≤◌, Bool, true, false, ltb, List, [], ◌∷◌, length, get_or, Result, Ok, Err, refl, sym, ap, subst, ◌∙◌, inl, inr, ◌⊎◌, arith, Some, ◌≢◌}
-use Rattle.yaml_scan_machine.proofs.Words.{cases_Bool, cases_lt, nat_tests, length-map, map, option_map, yaml_encoding_t, ScanFault, ScanError, scanner_fault, text_bytes, decoding_fault, decoded_characters, decoded_text, in_utf8, Offence, reader_fault, Reader, Fault, memory_fault, result_err, encoding_of, Token, GivesFirst, scanned, scanned_in, left_in, left_from, IsTold, IsLocated, Lexeme, entries, first_open, Next, Read, Fails, Ends, next, Remaining, remaining, length-entries, first_open-le, front_none, Machine, Waiting, KeptLexeme, kept_of, Answer, IsShort, IsMachine, ReadsOneMore, ready_in, is_ready, Fields, fields_of, IsShown, read, settled_in, history_of, stream_of, GivesNext, Stops, Steps, to_come}
+use Rattle.std.proofs.Common.{◌≡◌, ℕ, ◌+◌, ◌≤◌, true, false, ltb, List, [], ◌∷◌, length, get_or, Result, Ok, Err, refl, sym, ap, subst, ◌∙◌, inl, inr, ◌⊎◌, arith, Some, ◌≢◌}
+use Rattle.yaml_scan_machine.proofs.Words.{cases_Bool, cases_lt, nat_tests, length-map, option_map, yaml_encoding_t, ScanError, scanner_fault, text_bytes, decoding_fault, decoded_characters, in_utf8, Offence, reader_fault, Reader, Fault, memory_fault, result_err, encoding_of, Token, GivesFirst, scanned, scanned_in, left_in, left_from, IsTold, IsLocated, Lexeme, entries, first_open, Next, Read, Fails, Ends, next, Remaining, remaining, length-entries, first_open-le, front_none, Machine, Waiting, KeptLexeme, kept_of, Answer, IsMachine, ReadsOneMore, ready_in, is_ready, Fields, fields_of, IsShown, read, settled_in, history_of, stream_of, GivesNext, Stops, to_come}
 use Rattle.std.specs.Prelude.{IfErr}
 use Rattle.yaml_scan_model.specs.declared.name.yaml_encoding_t.TheVariants.{YAML_UTF8_ENCODING}
 use Rattle.yaml_scan_model.specs.declared.name.yaml_error_type_t.TheVariants.{YAML_READER_ERROR, YAML_MEMORY_ERROR}
 use Rattle.yaml_scan_history.specs.Remaining.{nothing}
 use Rattle.yaml_scan_laws_order.proofs.HeldForward.{few_wait}
 use Rattle.yaml_scan_laws_order.proofs.RemainingForward.{fault_comes, end_comes, front_count}
-use Rattle.yaml_scan_machine.specs.Stood.{IsRefused}
 use Rattle.yaml_scan_machine.specs.Comes.{Refused, Faults}
 use Rattle.yaml_scan_model.specs.declared.problem.ScanError.TheVariants as errors
 use Rattle.yaml_scan_machine.proofs.MarkLemmas.{next_ended}
@@ -163,20 +162,6 @@ pub told_decoding : (m : Machine) (f : Fault) → m.started ≡ false
 told_decoding m f off (inl memory) = inl (inr memory)
 told_decoding m f off (inr fault) =
     subst (λ (c : Remaining). IsTold c f) (sym (left_whole m off)) (offence_told (encoding_of m.setting m.input.now) (decoded_characters m.setting m.input.now) f fault)
-
--- where text and input are the same, so is what the input spells
-pub decoded_as : (m d : Machine) → d.text ≡ m.text → d.setting ≡ m.setting
-    → d.input.now ≡ m.input.now
-    → decoded_text m.setting m.input.now ≡ Ok (text_bytes m.text)
-    → decoded_text d.setting d.input.now ≡ Ok (text_bytes d.text)
-decoded_as m d text setting input is =
-    ap (λ (s : yaml_encoding_t). decoded_text s d.input.now) setting ∙ ap (λ (bytes : List ℕ). decoded_text m.setting bytes) input ∙ is ∙ ap Ok (ap text_bytes (sym text))
-
-pub spelled_as : (m d : Machine) → d.encoding ≡ m.encoding → d.setting ≡ m.setting
-    → d.input.now ≡ m.input.now → m.encoding ≡ encoding_of m.setting m.input.now
-    → d.encoding ≡ encoding_of d.setting d.input.now
-spelled_as m d encoding setting input is =
-    encoding ∙ is ∙ ap (λ (bytes : List ℕ). encoding_of m.setting bytes) (sym input) ∙ ap (λ (s : yaml_encoding_t). encoding_of s d.input.now) (sym setting)
 
 no_reader_fault : (r : Result (List ℕ) Offence) (f : Fault)
     → option_map reader_fault (result_err r) ≡ Some f → f ≡ memory_fault Reader → ⊥

@@ -1,6 +1,7 @@
 -- Reading on behind a machine of which the same is to come.
 use Rattle.std.proofs.Common.{◌≡◌, ◌<◌, ◌≤◌, ◌+◌, ℕ, zero, suc, Bool, true, false, List, [], ◌∷◌, length, refl, sym, ap, subst, ◌∙◌, inl, inr, arith, Option, Some, Result, Ok, Err}
-use Rattle.yaml_scan_machine.proofs.Words.{cases_lt, cases_Bool, yaml_encoding_t, Reader, ScanError, Fault, memory_fault, option_map, result_err, Offence, reader_fault, decoded_characters, in_utf8, text_bytes, decoding_fault, encoding_of, Remaining, Machine, Waiting, left_in, IsTold, IsLocated, to_come, IsMachine, ReadsOneMore, is_ready, ready_in, MayReadAt, Steps, Kind, HasMore}
+use Rattle.yaml_scan_machine.proofs.Words.{cases_lt, cases_Bool, yaml_encoding_t, Reader, ScanError, Fault, memory_fault, option_map, result_err, Offence, reader_fault, decoded_characters, in_utf8, text_bytes, decoding_fault, encoding_of, Remaining, Machine, Waiting, left_in, IsTold, IsLocated, IsMachine, ReadsOneMore, is_ready, ready_in, MayReadAt, Kind, HasMore}
+use Rattle.yaml_scan_machine.specs.Stood.{Steps}
 use Rattle.std.proofs.lemmas.Bool.{lt-ltb}
 use Rattle.yaml_scan_model.specs.declared.fault.yaml_origin_t.TheVariants.{Scanner}
 use Rattle.yaml_scan_machine.specs.State.{KeepsInput, TellsUtf8}

@@ -1,5 +1,5 @@
 -- What reading an indicator answers.
-use Rattle.std.proofs.Common.{◌≡◌, ℕ, ◌+◌, ◌<◌, Bool, List, Option, Some, None, Result, Ok, true, false, refl, ap, arith}
+use Rattle.std.proofs.Common.{◌≡◌, ℕ, ◌+◌, ◌<◌, Bool, List, Option, Some, None, Result, Ok, true, false, refl, arith}
 use Rattle.yaml_scan_machine.proofs.Words.{nat_tests, TokenBody, Wrong, byte, break_width, splits_break, starts, line_at, column_at, mark_at, Kind, WordText, word_at, Stands, indicator_at}
 use Rattle.yaml_scan_model.specs.Marks.{break_of}
 use Rattle.yaml_scan_model.proofs.MarksLemmas.{end_next, line_more, column_more}

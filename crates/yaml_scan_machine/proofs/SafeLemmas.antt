@@ -1,6 +1,6 @@
 -- Places, levels and waiting lexemes stay inside the text.
-use Rattle.std.proofs.Common.{◌≡◌, ℕ, zero, suc, ◌+◌, ◌<◌, ◌≤◌, Bool, true, false, cond, leb, ltb, List, [], ◌∷◌, ◌++◌, length, refl, sym, subst, ap, inl, inr, arith}
-use Rattle.yaml_scan_machine.proofs.Words.{cases_Bool, cases_lt, nat_tests, yaml_mark_t, line_at, column_at, splits_break, starts, byte, Kind, is_end, depth_after, indent, opened, placed, keeps, left_by, Waiting, left_of, IsPlace, IsNarrow, AreInside, ready_in}
+use Rattle.std.proofs.Common.{◌≡◌, ℕ, zero, suc, ◌+◌, ◌<◌, ◌≤◌, Bool, true, false, cond, leb, ltb, List, [], ◌∷◌, ◌++◌, length, refl, ap, inl, inr, arith}
+use Rattle.yaml_scan_machine.proofs.Words.{cases_Bool, cases_lt, nat_tests, yaml_mark_t, line_at, column_at, starts, byte, Kind, is_end, depth_after, indent, opened, placed, keeps, left_by, Waiting, left_of, IsPlace, IsNarrow, AreInside, ready_in}
 use Rattle.std.specs.Prelude.{slice_set}
 use Rattle.yaml_scan_model.specs.Marks.{splits_of, ends_break}
 use Rattle.yaml_scan_history.specs.declared.kind.Kind.TheVariants as kinds

@@ -1,9 +1,8 @@
 -- What a token that is taken leaves to come.
-use Rattle.std.proofs.Common.{Bool, ◌≡◌, ℕ, suc, ◌+◌, ◌-◌, ◌<◌, ◌≤◌, true, false, ltb, List, [], ◌∷◌, length, drop, get_or, Some, None, refl, sym, ap, subst, ◌∙◌, inl, inr, ◌⊎◌, arith, ◌^◌}
-use Rattle.yaml_scan_queue.specs.Line.{Line}
+use Rattle.std.proofs.Common.{Bool, ◌≡◌, ℕ, suc, ◌+◌, ◌-◌, ◌<◌, true, false, ltb, List, [], ◌∷◌, length, drop, get_or, Some, None, refl, sym, ap, subst, ◌∙◌, inl, inr, arith, ◌^◌}
+use Rattle.yaml_scan_machine.proofs.Words.{Line, cases_Bool, cases_lt, nat_tests, length-map, map, Token, TokenBody, block_end, no_token, entries, Remaining, remaining, spell, GivesFirst, ends_token, Machine, Waiting, KeptLexeme, kept_of, IsMachine, is_ready, ready_in, fields_of, kept_in, read, history_of, stream_of, front_at, front_count, fronted, given_in, own_token, to_come, left_in, cases_Option}
 use Rattle.yaml_scan_queue.specs.Hands.{Hands}
 use Rattle.yaml_scan_slot.specs.declared.slot.TokenSlot.{TokenSlot}
-use Rattle.yaml_scan_machine.proofs.Words.{cases_Bool, cases_lt, nat_tests, length-map, map, Token, TokenBody, block_end, no_token, Lexeme, Entry, entries, SpelledText, Remaining, remaining, spell, GivesFirst, ends_token, Machine, Waiting, KeptLexeme, kept_of, IsMachine, is_ready, ready_in, Fields, fields_of, IsShown, kept_in, read, history_of, stream_of, front_at, front_count, fronted, given_in, own_token, to_come, left_in, cases_Option}
 use Rattle.yaml_scan_laws_order.proofs.RemainingForward.{settled_token, settled_done}
 use Rattle.yaml_scan_machine.proofs.SettledLemmas.{known_upto}
 use Rattle.yaml_scan_machine.proofs.NextLemmas.{settled_first}

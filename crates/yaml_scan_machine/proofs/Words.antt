@@ -17,7 +17,7 @@ pub use Rattle.yaml_scan_history.specs.History.{Candidate, depth, ended, entry_o
 unfoldable pub use Rattle.yaml_scan_history.specs.History.{candidate, entries, first_open, indent, levels, mark_key}
 pub use Rattle.yaml_scan_history.specs.Kinds.{allows_key, cancels, depth_after, is_end, is_start, is_value, may_be_key}
 pub use Rattle.yaml_scan_history.specs.Laws.{GoesForward, Upto}
-pub use Rattle.yaml_scan_history.specs.Next.{Ends, Fails, Next, Read, allowed_behind, colon_missing, coming, extended, finished, first_lexeme, kind_behind, lost_by, misplaced, missed, no_start}
+pub use Rattle.yaml_scan_history.specs.Next.{Ends, Fails, Next, Read, allowed_behind, colon_missing, coming, finished, first_lexeme, kind_behind, lost_by, misplaced, missed, no_start}
 unfoldable pub use Rattle.yaml_scan_history.specs.Next.{history, next}
 pub use Rattle.yaml_scan_history.specs.Remaining.{Remaining, SpelledText, before, body_in, end_tokens, front_ends, handed, offline, remaining, spell, start_tokens}
 unfoldable pub use Rattle.yaml_scan_history.specs.Remaining.{all}
@@ -31,7 +31,7 @@ pub use Rattle.yaml_scan_history.specs.declared.lexeme.Lexeme.{Lexeme}
 pub use Rattle.yaml_scan_history.specs.declared.lexeme.Opens.{Opens}
 pub use Rattle.yaml_scan_laws_order.proofs.RemainingForward.{ends_token, entries_ends, front_none, tokens_is}
 pub use Rattle.yaml_scan_laws_order.specs.Fronts.{GivesFirst}
-pub use Rattle.yaml_scan_machine.specs.Candidates.{AreKeys, AreKeysTo, AreStale, IsKey, KeyStack, KeyView, fresh_key, key_at, key_view, stack_of, view_of}
+pub use Rattle.yaml_scan_machine.specs.Candidates.{AreKeys, AreKeysTo, AreStale, IsKey, KeyStack, KeyView, Turns, fresh_key, key_at, key_view, stack_of, view_of}
 pub use Rattle.yaml_scan_machine.specs.Comes.{to_come}
 pub use Rattle.yaml_scan_machine.specs.Found.{HasMore}
 pub use Rattle.yaml_scan_machine.specs.Given.{ReadsWord, indicator_at}
@@ -44,7 +44,7 @@ unfoldable pub use Rattle.yaml_scan_machine.specs.Shows.{read, settled_in}
 pub use Rattle.yaml_scan_machine.specs.Stands.{Stands, Told}
 unfoldable pub use Rattle.yaml_scan_machine.specs.Stands.{is_letter}
 pub use Rattle.yaml_scan_machine.specs.State.{AreInside, IsMachine, IsNarrow, IsPlace, IsShort, ReadsOneMore, is_ready, ready_in}
-pub use Rattle.yaml_scan_machine.specs.Stood.{MayReadAt, Steps}
+pub use Rattle.yaml_scan_machine.specs.Stood.{MayReadAt}
 pub use Rattle.yaml_scan_machine.specs.Taken.{front_count, fronted, given_in, own_token}
 pub use Rattle.yaml_scan_machine.specs.declared.keys.Key.{Key}
 pub use Rattle.yaml_scan_machine.specs.declared.machine.Machine.{Machine}

@@ -1,5 +1,5 @@
-use Rattle.std.proofs.Common.{◌≡◌, ℕ, List, nat_lt, Some, None, is_some, refl, sym, ap, subst, ◌∙◌}
-use Rattle.yaml_scan_machine.proofs.Words.{yaml_mark_t, ScanError, mark_at, text_bytes, Gap, gap_at, kind_at, colon_missing, next, no_start, unless_missed, Stands, fields_of, history_of, late}
+use Rattle.std.proofs.Common.{◌≡◌, nat_lt, Some, None, is_some, refl, sym, ap, ◌∙◌}
+use Rattle.yaml_scan_machine.proofs.Words.{yaml_mark_t, mark_at, text_bytes, Gap, gap_at, kind_at, colon_missing, next, no_start, unless_missed, fields_of, history_of, late}
 use Rattle.yaml_scan_history.specs.Stepwise.{no_token}
 use Rattle.yaml_scan_model.specs.declared.problem.ScanError.TheVariants as errors
 use Rattle.yaml_scan_machine.proofs.ReadLemmas.{gap_of}

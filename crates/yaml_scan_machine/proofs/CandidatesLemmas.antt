@@ -38,16 +38,7 @@ if_none false v e = refl
 
 pub stale_stays : (k : Key) (p r : yaml_mark_t) → fresh_key k p ≡ None → Upto p r
     → fresh_key k r ≡ None
-stale_stays k p r e u =
-    let v : KeyView = record { number = k.number; start = k.start; required = k.required } in
-    let was = if_none (k.possible && is_fresh k.start p) v e in
-    elim (cases_Bool k.possible) [
-      | inr none ↦ rw none refl
-      | inl some ↦ elim (cases_Bool (is_fresh k.start r)) [
-        | inr far ↦ rw (some, far) refl
-        | inl near ↦ let now = near_before k.start p r u.0 u.1 near in let bad = rw (some, now) at was in cc
-      ]
-    ]
+stale_stays k p r e u = grind (arith, near_before k.start p r u.0 u.1)
 
 pub no_view : (k : Key) → k.possible ≡ false → key_view k ≡ None
 no_view k e = rw e refl

@@ -40,17 +40,7 @@ goes_same old new g =
 not_ready : (d s g : ℕ) (ws : List Waiting) → ready_in d s g ws ≡ false
     → (ws ≡ []) ⊎ ((w : Waiting) × (rest : List Waiting) × (ws ≡ w ∷ rest) × (s ≤ d) × (w.ends ≤ g))
 not_ready d s g [] e = inl refl
-not_ready d s g (w ∷ ws) e =
-    elim (cases_lt d s) [
-      | inl low ↦ let a : ltb d s ≡ true = grind (arith, nat_tests) in let bad = rw a at e in cc
-      | inr high ↦ elim (cases_lt g w.ends) [
-        | inl more ↦
-            let a : ltb d s ≡ false = grind (arith, nat_tests) in
-            let b : ltb g w.ends ≡ true = grind (arith, nat_tests) in
-            let bad = rw (a, b) at e in cc
-        | inr past ↦ inr (w, ws, refl, high, past)
-      ]
-    ]
+not_ready d s g (w ∷ ws) e = inr (w, ws, refl, grind (arith, nat_tests), grind (arith, nat_tests))
 
 pub settled_end : (m : Fields) → IsShown m → m.ended ≡ true
     → m.settled ≡ length (read m.text m.dropped m.waiting)

@@ -129,19 +129,10 @@ own_settled d s g w ws ready none = let past = front_done (kept_of w) g none in 
 
 filter_few : (p : ℕ → Bool) (xs : List ℕ) → length (filter p xs) ≤ length xs
 filter_few p [] = omega arith
-filter_few p (x ∷ xs) =
-    let rest = filter_few p xs in
-    elim (cases_Bool (p x)) [
-      | inl near ↦ rw near (omega (arith, rest))
-      | inr far ↦ rw far (omega (arith, rest))
-    ]
+filter_few p (x ∷ xs) = grind (arith, filter_few p xs)
 
 left_few : (k : Kind) (d c : ℕ) (xs : List ℕ) → length (left_by k d c xs) ≤ length xs
-left_few k d c xs =
-    elim (cases_Bool (ltb 0 d)) [
-      | inl deep ↦ rw deep (omega arith)
-      | inr flat ↦ rw flat (filter_few (λ x. leb x (keeps k c)) xs)
-    ]
+left_few k d c xs = grind (arith, filter_few (λ x. leb x (keeps k c)) xs)
 
 opened_few : (may : Bool) (c : ℕ) (xs : List ℕ) → length (opened may c xs) ≤ length xs + 1
 opened_few false c xs = omega arith

@@ -80,23 +80,8 @@ turns_put l number deeper s t deep turns h p a u at count =
 -- a key that is a candidate is fresh where that is
 same_fresh : (k : Key) (o : Option Candidate) (p : yaml_mark_t) → key_view k ≡ view_of o
     → fresh_key k p ≡ view_of (fresh o p)
-same_fresh k None p e = let off = if_none k.possible _ e in rw off refl
-same_fresh k (Some c) p e =
-    elim (cases_Bool k.possible) [
-      | inr off ↦ let bad = rw off at e in cc
-      | inl on ↦
-          let is : Some (record { number = k.number; start = k.start; required = k.required }) ≡ view_of (Some c) = rw on at e in
-          let v : KeyView = record { number = k.number; start = k.start; required = k.required } in
-          let w : KeyView = record { number = c.number; start = c.lexeme.start; required = c.lexeme.required } in
-          let same : v ≡ w = cc in
-          let start : k.start ≡ c.lexeme.start = ap (λ (x : KeyView). x.start) same in
-          let number : k.number ≡ c.number = ap (λ (x : KeyView). x.number) same in
-          let required : k.required ≡ c.lexeme.required = ap (λ (x : KeyView). x.required) same in
-          elim (cases_Bool (is_fresh c.lexeme.start p)) [
-            | inl near ↦ rw (on, start, number, required, near) refl
-            | inr far ↦ rw (on, start, number, required, far) refl
-          ]
-    ]
+same_fresh k None p e = grind arith
+same_fresh k (Some c) p e = grind arith
 
 -- a key is fresh where its candidate is
 fresh_same : (k : Key) (o : Option Candidate) (p q : yaml_mark_t) → IsKey k o p → Upto p q

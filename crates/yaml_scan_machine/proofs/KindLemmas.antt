@@ -29,15 +29,8 @@ first_of (w ∷ ws) i lt = w
 -- there is a key where one is found
 pub picks_has : (m : Machine) (k : Kind) (o : Option Candidate) (key : Option ℕ)
     → Picks m (keyed_by k o) key → (is_value k && has o) ≡ is_some key
-picks_has m k o None none = elim (cases_Bool (is_value k)) [
-  | inr other ↦ rw other refl
-  | inl value ↦ let is : o ≡ None = rw value at none in rw (value, is) refl
-]
-picks_has m k o (Some i) (inside, (it, c, at)) =
-    elim (cases_Bool (is_value k)) [
-      | inr other ↦ let bad = rw other at c in cc
-      | inl value ↦ let is = rw value at c in rw (value, is) refl
-    ]
+picks_has m k o None none = grind arith
+picks_has m k o (Some i) (inside, (it, c, at)) = grind arith
 
 -- the test of the code is that of the definition
 pub misplaced_is : (mc : Machine) (k : Kind) (m : yaml_mark_t) (a : Bool) (h : List Lexeme) (d : ℕ)

@@ -102,9 +102,7 @@ open_next text (l ∷ h) e p = coming_open (kind_behind text (l ∷ h)) text (l 
 
 not_settled : (d s g : ℕ) (w : Waiting) (ws : List Waiting) → ready_in d s g (w ∷ ws) ≡ false
     → d < s → ⊥
-not_settled d s g w ws e low =
-    let a : ltb d s ≡ true = grind (arith, nat_tests) in
-    let bad = rw a at e in cc
+not_settled d s g w ws e low = grind (arith, nat_tests)
 
 by_waiting : (m : Machine) (ws : List Waiting) → m.waiting.items ≡ ws → IsMachine m
     → is_ready m ≡ false → (next (text_bytes m.text) (history_of m) ≡ Ends → ⊥)

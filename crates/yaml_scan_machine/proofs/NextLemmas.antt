@@ -39,14 +39,7 @@ upto_gap text h is le =
 
 pub late_same : (o : Option Candidate) (p : yaml_mark_t) → late (required_in o) p ≡ missed o p
 late_same None p = refl
-late_same (Some c) p =
-    elim (cases_Bool c.lexeme.required) [
-      | inr other ↦ rw other refl
-      | inl must ↦ elim (cases_Bool (is_fresh c.lexeme.start p)) [
-        | inl near ↦ rw (must, near) refl
-        | inr far ↦ rw (must, far) refl
-      ]
-    ]
+late_same (Some c) p = grind arith
 
 -- a candidate stands at its depth
 pub candidate_depth : (d : ℕ) (h : List Lexeme) (c : Candidate) → candidate d h ≡ Some c
@@ -113,14 +106,7 @@ unmissed text n = each_history text (λ h. missed (candidate 0 h) (reached h) �
 pub required_fresh : (o : Option Candidate) (p : yaml_mark_t) → missed o p ≡ None
     → required_in (fresh o p) ≡ required_in o
 required_fresh None p e = refl
-required_fresh (Some c) p e =
-    elim (cases_Bool (is_fresh c.lexeme.start p)) [
-      | inl near ↦ rw near refl
-      | inr far ↦ elim (cases_Bool c.lexeme.required) [
-        | inr other ↦ rw (far, other) refl
-        | inl must ↦ let bad = rw (far, must) at e in cc
-      ]
-    ]
+required_fresh (Some c) p e = grind arith
 
 missed_fresh : (o : Option Candidate) (q p : yaml_mark_t) → missed o q ≡ None
     → missed (fresh o q) p ≡ missed o p
@@ -175,28 +161,4 @@ unfolding candidate
 tested_same text n l p must =
     let h = history text n in
     let still : late (required_in (fresh (candidate 0 h) (reached h))) p ≡ missed (candidate 0 h) p = late_same (fresh (candidate 0 h) (reached h)) p ∙ missed_fresh (candidate 0 h) (reached h) p (unmissed text n) in
-    elim (cases_lt 0 l.depth) [
-      | inl deep ↦
-          let t : eqb l.depth 0 ≡ false = grind (arith, nat_tests) in
-          let u : ltb 0 l.depth ≡ true = grind (arith, nat_tests) in
-          let v : ltb l.depth 0 ≡ false = grind (arith, nat_tests) in
-          rw (t, u, v) still
-      | inr flat ↦
-          let t : eqb l.depth 0 ≡ true = grind (arith, nat_tests) in
-          let u : ltb 0 l.depth ≡ false = grind (arith, nat_tests) in
-          elim (cases_Bool l.saved) [
-            | inl y ↦ elim (cases_Bool l.required) [
-              | inl r ↦ elim (cases_Bool (is_fresh l.start p)) [
-                | inl near ↦ rw (t, u, y, r, near) refl
-                | inr far ↦ rw (t, u, y, r, far) refl
-              ]
-              | inr off ↦ rw (t, u, y, off) refl
-            ]
-            | inr no_one ↦
-                let off : l.required ≡ false = elim (cases_Bool l.required) [ inr k ↦ k | inl r ↦ let bad = must r in cc ] in
-                elim (cases_Bool (cancels l.kind)) [
-                  | inl y ↦ rw (t, u, no_one, y, off) refl
-                  | inr k ↦ rw (t, u, no_one, k) still
-                ]
-          ]
-    ]
+    grind (arith, nat_tests, still)

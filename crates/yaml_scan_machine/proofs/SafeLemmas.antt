@@ -37,16 +37,7 @@ mark_column text m h =
     omega (arith, low, is, h.inside)
 
 pub placed_column : (k : Kind) (m : yaml_mark_t) → (placed k m).column ≤ m.column
-placed_column k m =
-    let t : Bool = is_end k in
-    elim (cases_Bool (is_end k)) [
-      | inr more ↦ rw more (omega arith)
-      | inl over ↦
-          elim (cases_Bool (ltb 0 m.column)) [
-            | inl right ↦ rw (over, right) (omega arith)
-            | inr left ↦ rw (over, left) (omega arith)
-          ]
-    ]
+placed_column k m = grind arith
 
 pub start_place : (text : List ℕ) → IsPlace text record { index = 0; line = 0; column = 0 }
 unfolding line_at column_at splits_of
@@ -107,18 +98,7 @@ inside_set n w (x ∷ xs) (suc i) low h = inside_cons n x (slice_set xs i w) (h 
 -- what is known and no BLOCK-END is settled
 pub known_settled : (d s g : ℕ) (w : Waiting) (ws : List Waiting) → ready_in d s g (w ∷ ws) ≡ true
     → (g < w.ends → ⊥) → d < s
-known_settled d s g w ws ready past =
-    elim (cases_lt d s) [
-      | inl low ↦ low
-      | inr high ↦
-          elim (cases_lt g w.ends) [
-            | inl more ↦ absurd (past more)
-            | inr over ↦
-                let a : ltb d s ≡ false = grind (arith, nat_tests) in
-                let b : ltb g w.ends ≡ false = grind (arith, nat_tests) in
-                let bad : false ≡ true = rw (a, b) at ready in cc
-          ]
-    ]
+known_settled d s g w ws ready past = grind (arith, nat_tests)
 
 pub depth_after-le : (k : Kind) (d : ℕ) → depth_after k d ≤ d + 1
 depth_after-le kinds.FlowSequenceStart d = omega arith
@@ -127,8 +107,4 @@ depth_after-le _ d = omega arith
 pub narrow_by : (n c : ℕ) (may : Bool) (xs new : List ℕ) → c ≤ n → IsNarrow n xs
     → new ≡ opened may c xs → IsNarrow n new
 narrow_by n c false xs new low h is = rw is h
-narrow_by n c true xs new low h is =
-    elim (cases_Bool (ltb (indent xs) c)) [
-      | inl near ↦ rw (is, near) (narrow_snoc n c xs low h)
-      | inr far ↦ rw (is, far) h
-    ]
+narrow_by n c true xs new low h is = let more = narrow_snoc n c xs low h in grind arith

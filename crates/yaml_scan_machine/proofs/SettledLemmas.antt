@@ -144,14 +144,7 @@ tells_true u l low = record { is = grind (arith, nat_tests); few = omega (arith,
 
 tells_by : (u l given ends c : ℕ) → u ≡ c - ends → l ≡ c - given → ends ≤ c → given ≤ ends
     → Tells (ltb given ends) u l
-tells_by u l given ends c e f room few =
-    elim (cases_lt given ends) [
-      | inl low ↦ let t : ltb given ends ≡ true = grind (arith, nat_tests) in rw t (tells_true u l (omega (arith, e, f, room, low)))
-      | inr high ↦
-          let t : ltb given ends ≡ false = grind (arith, nat_tests) in
-          let least : l ≤ u = omega (arith, e, f, room, high) in
-          rw t record { is = grind (arith, nat_tests); few = omega (arith, e, f, few) }
-    ]
+tells_by u l given ends c e f room few = record { is = grind (arith, nat_tests); few = omega arith }
 
 by_items : (m : Machine) (ws : List Waiting) → m.waiting.items ≡ ws → IsMachine m
     → Tells (ready_in m.dropped m.settled m.given ws)

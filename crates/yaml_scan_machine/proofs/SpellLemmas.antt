@@ -18,11 +18,7 @@ counts_behind a c n (Some b) low h = omega (arith, h)
 
 key_counts : (k : Bool) (n : ℕ) → Counts (key_count k) n (key_at k n)
 key_counts false n = omega arith
-key_counts true n =
-    elim (cases_Bool (eqb n 0)) [
-      | inl none ↦ let z : n ≡ 0 = grind (arith, nat_tests) in rw none (omega (arith, z))
-      | inr some ↦ let z : 0 < n = grind (arith, nat_tests) in rw some (omega (arith, z))
-    ]
+key_counts true n = grind (arith, nat_tests)
 
 behind_counts : (b : TokenBody) (k : Bool) (n : ℕ)
     → Counts (1 + key_count k) n (cond (eqb n 0) (Some b) (key_at k (n - 1)))
@@ -40,10 +36,8 @@ start_counts opening.Mapping k n = behind_counts block_mapping_start k n
 
 pub front_counts : (e : KeptLexeme) (n : ℕ) → Counts (front_count e) n (front_at e n)
 front_counts e n =
-    elim (cases_lt n e.ends) [
-      | inl more ↦ let t : ltb n e.ends ≡ true = grind (arith, nat_tests) in rw t (omega arith)
-      | inr past ↦ let t : ltb n e.ends ≡ false = grind (arith, nat_tests) in rw t (counts_behind e.ends (start_count e.opens + key_count e.key) n (start_at e.opens e.key (n - e.ends)) past (start_counts e.opens e.key (n - e.ends)))
-    ]
+    let behind : e.ends ≤ n → Counts (front_count e) n (start_at e.opens e.key (n - e.ends)) = λ past. counts_behind e.ends (start_count e.opens + key_count e.key) n (start_at e.opens e.key (n - e.ends)) past (start_counts e.opens e.key (n - e.ends)) in
+    grind (arith, nat_tests)
 
 start_count-le : (o : Opens) (k : Bool) → start_count o + key_count k ≤ 2
 start_count-le opening.Nothing false = omega arith

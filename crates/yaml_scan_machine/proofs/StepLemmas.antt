@@ -60,8 +60,7 @@ no_two kinds.Plain = refl
 no_two _ = refl
 
 no_both : (k : Kind) (b : Bool) → ((b && may_be_key k) && cancels k) ≡ false
-no_both k true = no_two k
-no_both k false = refl
+no_both k b = grind (arith, no_two k)
 
 closes_own : (k : Kind) (d : ℕ) → depth_after k d < d → cancels k ≡ true
 closes_own kinds.FlowSequenceEnd d lt = grind arith
@@ -74,20 +73,7 @@ at_least _ d = omega arith
 none_after : (l : Lexeme) (d : ℕ) (h : List Lexeme) → depth_after l.kind l.depth < d
     → (l.saved && cancels l.kind) ≡ false → candidate d (l ∷ h) ≡ None
 unfolding candidate
-none_after l d h deep both =
-    let room = at_least l.kind l.depth in
-    elim (cases_order l.depth d) [
-      | inl same ↦
-          let t : eqb l.depth d ≡ true = grind (arith, nat_tests) in
-          let c = closes_own l.kind l.depth (omega arith) in
-          let open_no : l.saved ≡ false = elim (cases_Bool l.saved) [ inr n ↦ n | inl y ↦ let bad = rw (y, c) at both in cc ] in
-          rw (t, open_no, c) refl
-      | inr (inl below) ↦
-          let t : eqb l.depth d ≡ false = grind (arith, nat_tests) in
-          let u : ltb l.depth d ≡ true = grind (arith, nat_tests) in
-          rw (t, u) refl
-      | inr (inr above) ↦ absurd (omega arith)
-    ]
+none_after l d h deep both = grind (arith, nat_tests, at_least l.kind l.depth, closes_own l.kind l.depth)
 
 -- a lexeme that is saved cancels no candidate
 pub saved_keeps : (text : List ℕ) (h : List Lexeme) (l : Lexeme) → next text h ≡ Read l

@@ -1,5 +1,6 @@
 -- What is taken of the first lexeme that waits, and how many levels a lexeme closes.
 use Rattle.std.proofs.Common.{◌≡◌, ℕ, suc, ◌+◌, ◌-◌, ◌<◌, ◌≤◌, Bool, true, false, ◌&&◌, not, ltb, leb, List, [], ◌∷◌, length, take, get_or, Some, None, refl, sym, ap, subst, ◌∙◌, inl, inr, arith, length-append}
+use Rattle.std.proofs.lemmas.List.{get_or_at}
 use Rattle.yaml_scan_machine.proofs.Words.{cases_Bool, cases_lt, get_or-append_right, get_or-drop, get_or-map, map, TokenBody, Kind, Lexeme, Entry, is_start, entries, levels, left_by, keeps, opened, opens_at, found_by, inside, indent, keyed, entry_of, Read, next, first_lexeme, GoesForward, length-entries, length-keyed, entries_ends, Waiting, KeptLexeme, kept_of, IsMachine, is_ready, ready_in, Fields, IsShown, fields_of, history_of, read, kept_in, spelled, stream_of, Machine, front_at, front_count, given_in}
 use Rattle.std.proofs.lemmas.List.{get_or-take}
 use Rattle.std.specs.Prelude.{filter}
@@ -113,14 +114,7 @@ pub given_more : (d s g : ℕ) (w : Waiting) (ws : List Waiting) (es : List Kept
     TokenBody)
     → ready_in d s g (w ∷ ws) ≡ true → front_at (kept_of w) g ≡ Some b
     → given_in d s (g + 1) (kept_of w ∷ es)
-given_more d s g w ws es b ready some =
-    elim (cases_lt g w.ends) [
-      | inl more ↦ inl (omega (arith, more))
-      | inr past ↦
-          let low = known_settled d s g w ws ready (λ more. omega (arith, more, past)) in
-          let room = front_room (kept_of w) g b some in
-          inr (low, omega (arith, room))
-    ]
+given_more d s g w ws es b ready some = grind (arith, known_settled d s g w ws ready, front_room (kept_of w) g b some)
 
 -- where all that stands in front is taken, what is known is settled
 pub own_settled : (d s g : ℕ) (w : Waiting) (ws : List Waiting) → ready_in d s g (w ∷ ws) ≡ true
@@ -136,11 +130,7 @@ left_few k d c xs = grind (arith, filter_few (λ x. leb x (keeps k c)) xs)
 
 opened_few : (may : Bool) (c : ℕ) (xs : List ℕ) → length (opened may c xs) ≤ length xs + 1
 opened_few false c xs = omega arith
-opened_few true c xs =
-    elim (cases_Bool (ltb (indent xs) c)) [
-      | inl near ↦ rw near (let more = length-append xs (c ∷ []) in omega (arith, more))
-      | inr far ↦ rw far (omega arith)
-    ]
+opened_few true c xs = grind (arith, length-append xs (c ∷ []))
 
 -- each lexeme opens at most one level
 levels_few : (h : List Lexeme) → length (levels h) ≤ length h
@@ -156,18 +146,13 @@ levels_few (l ∷ h) =
 pub ends_few : (h : List Lexeme) (k : ℕ) (e : Entry) → k < length h
     → (get_or (entries h) k e).ends ≤ length h
 unfolding entries
-ends_few [] k e low = absurd (omega arith)
+ends_few [] k e low = absurd (omega (arith, low))
 ends_few (l ∷ h) k e low =
     elim (cases_lt k (length h)) [
-      | inl below ↦
-          let (same, lexeme) = entries_ends l h k e below in
-          let before = ends_few h k e below in
-          omega (arith, same, before)
+      | inl below ↦ grind (arith, entries_ends l h k e below, ends_few h k e below)
       | inr past ↦
           let here : length (keyed l h (entries h)) ≡ k = omega (arith, length-keyed l h (entries h), length-entries h, past, low) in
-          let z : k - k ≡ 0 = omega arith in
-          let is : get_or (entries (l ∷ h)) k e ≡ entry_of l h = get_or-append_right (keyed l h (entries h)) (entry_of l h ∷ []) k k e here (omega arith) ∙ ap (λ i. get_or (entry_of l h ∷ []) i e) z in
+          let is : get_or (entries (l ∷ h)) k e ≡ entry_of l h = get_or_at (keyed l h (entries h)) (entry_of l h) [] e k here in
           let ends : (get_or (entries (l ∷ h)) k e).ends ≡ length (levels h) - length (inside l h) = ap (λ (x : Entry). x.ends) is in
-          let few = levels_few h in
-          omega (arith, ends, few)
+          omega (arith, ends, levels_few h)
     ]

@@ -121,17 +121,7 @@ deeper_later : (h : List Lexeme) (d e : ℕ) (c x : Candidate) → candidate d h
     → candidate e h ≡ Some x → d < e → c.number < x.number
 unfolding candidate
 deeper_later [] d e c x is ix deep = cc
-deeper_later (l ∷ h) d e c x is ix deep =
-    elim (candidate_top e l h x ix) [
-      | inl (a, top, s) ↦ elim (candidate_top d l h c is) [
-        | inl (z, up, t) ↦ absurd (omega (arith, z, a, deep))
-        | inr before ↦ let low = candidate_below d h c before in omega (arith, low, top)
-      ]
-      | inr was ↦ elim (candidate_top d l h c is) [
-        | inl (z, up, t) ↦ let none = inner e l h (omega (arith, z, deep)) in let bad : Some x ≡ None = sym ix ∙ none in cc
-        | inr before ↦ deeper_later h d e c x before was deep
-      ]
-    ]
+deeper_later (l ∷ h) d e c x is ix deep = grind (arith, nat_tests, candidate_top e l h x ix, candidate_top d l h c is, candidate_below d h c, inner e l h, deeper_later h d e c x)
 
 -- the candidate of a depth outside a key's, where the keys in front of that one are stale
 gone_before : (n : ℕ) (s : KeyStack) (h : List Lexeme) (p : yaml_mark_t) (i e : ℕ)
@@ -142,10 +132,9 @@ gone_before n s h p i e a low none lt =
     elim (cases_lt e s.gone) [
       | inl first ↦ a.gone e first
       | inr kept ↦
-          let j : ℕ = e - s.gone in
-          let at : s.gone + j ≡ e = omega (arith, kept) in
-          let gone = view_none (fresh (candidate (s.gone + j) h) p) (sym (here_same (key_at s j) (candidate (s.gone + j) h) p (a.agrees j (omega (arith, low, lt, at)))) ∙ none j (omega (arith, lt, at))) in
-          ap (λ z. fresh (candidate z h) p) (sym at) ∙ gone
+          let at : s.gone + (e - s.gone) ≡ e = omega arith in
+          let here = here_same (key_at s (e - s.gone)) (candidate (s.gone + (e - s.gone)) h) p (a.agrees (e - s.gone) (omega arith)) in
+          subst (λ z. fresh (candidate z h) p ≡ None) at (view_none _ (sym here ∙ none (e - s.gone) (omega arith)))
     ]
 
 -- the first key that isn't stale is the earliest open candidate

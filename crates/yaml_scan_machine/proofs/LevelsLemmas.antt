@@ -1,5 +1,6 @@
 -- Levels as lists of columns.
 use Rattle.std.proofs.Common.{◌≡◌, ℕ, suc, ◌<◌, ◌≤◌, true, leb, List, [], ◌∷◌, ◌++◌, length, take, get_or, refl, sym, ◌∙◌, inl, inr, arith, get_or-take, length-append}
+use Rattle.std.proofs.lemmas.List.{get_or_at}
 use Rattle.yaml_scan_machine.proofs.Words.{cases_lt, nat_tests, length-take-le, get_or_append_left, slice_index, indent, IsRising, left_of}
 
 -- the innermost level stands last
@@ -46,20 +47,13 @@ snoc_at (x ∷ xs) c = snoc_at xs c
 pub rising_more : (xs : List ℕ) (c : ℕ) → IsRising xs → indent xs < c → IsRising (xs ++ c ∷ [])
 rising_more xs c r more = λ i j le lt.
     let len = length-append xs (c ∷ []) in
+    let old = λ (k : ℕ). get_or_append_left xs (c ∷ []) 0 k in
     elim (cases_lt j (length xs)) [
-      | inl low ↦
-          let a = get_or_append_left xs (c ∷ []) 0 i (omega arith) in
-          let b = get_or_append_left xs (c ∷ []) 0 j low in
-          let old = r i j le low in
-          omega (arith, a, b, old)
+      | inl low ↦ omega (arith, old i (omega arith), old j low, r i j le low)
       | inr high ↦
-          let last : j ≡ length xs = omega (arith, len) in
-          let b : get_or (xs ++ c ∷ []) j 0 ≡ c = rw last (snoc_at xs c) in
+          let b : get_or (xs ++ c ∷ []) j 0 ≡ c = get_or_at xs c [] 0 j (omega (arith, len)) in
           elim (cases_lt i (length xs)) [
-            | inl low ↦
-                let a = get_or_append_left xs (c ∷ []) 0 i low in
-                let below = below_indent xs i r low in
-                omega (arith, a, b, below)
+            | inl low ↦ omega (arith, old i low, below_indent xs i r low, b)
             | inr same ↦ let is : i ≡ j = omega arith in rw is (omega arith)
           ]
     ]

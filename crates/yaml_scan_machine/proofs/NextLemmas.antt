@@ -119,38 +119,9 @@ pub lost_same : (text : List ℕ) (n : ℕ) (p : yaml_mark_t) (b : Lexeme) → l
     ≡ lost_by b (fresh (candidate (depth h) h) p)
 lost_same text n p b at u early =
     let h = history text n in
-    elim (cases_lt 0 (depth h)) [
-      | inl deep ↦
-          let t : eqb b.depth 0 ≡ false = grind (arith, nat_tests) in
-          let nothing_lost : (o : Option yaml_mark_t) → lost o b ≡ None = λ o. elim o as (λ o. lost o b ≡ None) [ None ↦ refl | Some s ↦ rw t refl ] in
-          nothing_lost (required_in (fresh (candidate 0 h) (reached h))) ∙ elim (cases_Option (fresh (candidate (depth h) h) p)) [
-            | inl none ↦ rw none refl
-            | inr (c, f) ↦
-                let is = fresh_is (candidate (depth h) h) p c f in
-                let off : c.lexeme.required ≡ false = elim (cases_Bool c.lexeme.required) [ inr no_one ↦ no_one | inl must ↦ let z = shallow text n (depth h) c is must in absurd (omega arith) ] in
-                rw (f, off) refl
-          ]
-      | inr flat ↦
-          let z : depth h ≡ 0 = omega arith in
-          let t : eqb b.depth 0 ≡ true = grind (arith, nat_tests) in
-          elim (cases_Option (fresh (candidate 0 h) (reached h))) [
-            | inl none ↦ rw (z, none, stays_gone (candidate 0 h) (reached h) p none u) refl
-            | inr (c, f) ↦
-                let is = fresh_is (candidate 0 h) (reached h) c f in
-                elim (cases_Bool c.lexeme.required) [
-                  | inl must ↦
-                      elim (cases_Bool (is_fresh c.lexeme.start p)) [
-                        | inl near ↦ rw (z, f, must, is, near, must, t) refl
-                        | inr far ↦ let bad = rw (f, must, far) at early in cc
-                      ]
-                  | inr off ↦
-                      elim (cases_Bool (is_fresh c.lexeme.start p)) [
-                        | inl near ↦ rw (z, f, off, is, near, off) refl
-                        | inr far ↦ rw (z, f, off, is, far) refl
-                      ]
-                ]
-          ]
-    ]
+    let outer = λ (c : Candidate) (is : fresh (candidate (depth h) h) p ≡ Some c). shallow text n (depth h) c (fresh_is (candidate (depth h) h) p c is) in
+    let stays = stays_gone (candidate 0 h) (reached h) p in
+    grind (arith, nat_tests, outer, stays, fresh_is (candidate 0 h) (reached h))
 
 -- the test behind a lexeme
 pub tested_same : (text : List ℕ) (n : ℕ) (l : Lexeme) (p : yaml_mark_t) → let h = history text n in

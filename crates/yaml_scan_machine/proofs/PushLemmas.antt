@@ -1,5 +1,5 @@
 -- The fields behind one more lexeme.
-use Rattle.std.proofs.Common.{◌≡◌, ℕ, ◌+◌, ◌-◌, ◌<◌, Bool, true, false, cond, ltb, eqb, ◌&&◌, ◌||◌, not, List, ◌∷◌, length, drop, get_or, Option, Some, None, refl, sym, ap, ◌∙◌, inl, inr}
+use Rattle.std.proofs.Common.{arith, ◌≡◌, ℕ, ◌+◌, ◌-◌, ◌<◌, Bool, true, false, cond, ltb, eqb, ◌&&◌, ◌||◌, not, List, ◌∷◌, length, drop, get_or, Option, Some, None, refl, sym, ap, ◌∙◌, inl, inr}
 use Rattle.yaml_scan_machine.proofs.Words.{cases_Bool, set, map, is_some, Kind, Lexeme, Opens, is_value, is_start, is_end, allows_key, Candidate, candidate, has, first_open, entries, entry_of, levels, key_allowed, found_by, inside, start_of, opens_at, opened, Read, next, yaml_mark_t, TokenBody, body_in, Machine, Waiting, Fields, fields_of, IsShown, all_kept, kept_in, read, settled_in, spelled, Picks, history_of, stream_of, KeptLexeme, kept_of, marked, opens_for, keyed_by, get_or_default, fresh_is}
 use Rattle.yaml_scan_history.specs.History.{level_of, opens_of}
 use Rattle.yaml_scan_laws_order.proofs.HistoryForward.{steps_below}
@@ -27,40 +27,22 @@ value_start _ e = cc
 pub column_is : (mc : Machine) (k : Kind) (l : Lexeme) (o : Option Candidate) (key : Option ℕ)
     (column : ℕ) → Picks mc (keyed_by k o) key → IsColumn mc.waiting.items l key column
     → column ≡ opens_at o k l.start.column
-column_is mc k l o None column none is =
-    elim (cases_Bool (is_value k)) [
-      | inl value ↦ let no_one : o ≡ None = rw value at none in rw no_one is
-      | inr other ↦ elim o as (λ o. column ≡ opens_at o k l.start.column) [ None ↦ is | Some c ↦ rw other is ]
-    ]
+column_is mc k l None None column none is = grind arith
+column_is mc k l (Some c) None column none is = grind arith
 column_is mc k l o (Some i) column (inside, (c, it, at)) is =
     let w = first_of mc.waiting.items i inside in
-    elim (cases_Bool (is_value k)) [
-      | inl value ↦
-          let some : o ≡ Some c = rw value at it in
-          rw (some, value) (is w ∙ ap (λ (m : yaml_mark_t). m.column + 1) (at.start w))
-      | inr other ↦ let bad = rw other at it in cc
-    ]
+    let here : column ≡ c.lexeme.start.column + 1 = is w ∙ ap (λ (m : yaml_mark_t). m.column + 1) (at.start w) in
+    grind arith
 
 -- what a lexeme opens is the definition's
 pub opens_is : (mc : Machine) (l : Lexeme) (h : List Lexeme) (key : Option ℕ) (column : ℕ)
     (o : Opens) → Picks mc (keyed_by l.kind (found_by l h)) key
     → IsColumn mc.waiting.items l key column → o ≡ opens_for l.kind l.depth column (inside l h)
     → cond (is_some key) opening.Nothing o ≡ opens_of (found_by l h) l (inside l h)
-opens_is mc l h None column o none at is =
-    let no_key = picks_has mc l.kind (found_by l h) None none in
-    elim (cases_Bool (is_start l.kind)) [
-      | inr idle ↦ rw (is, idle) refl
-      | inl begins ↦ elim (cases_Bool (ltb 0 l.depth)) [
-        | inl deep ↦ rw (is, no_key, begins, deep) refl
-        | inr flat ↦ rw (is, no_key, begins, flat, at) refl
-      ]
-    ]
-opens_is mc l h (Some i) column o some at is =
-    let key = picks_has mc l.kind (found_by l h) (Some i) some in
-    elim (cases_Bool (is_start l.kind)) [
-      | inr idle ↦ rw idle refl
-      | inl begins ↦ rw (key, begins) refl
-    ]
+opens_is mc l h key column o picks at is =
+    let has_key = picks_has mc l.kind (found_by l h) key picks in
+    let wide = column_is mc l.kind l (found_by l h) key column picks at in
+    grind arith
 
 allows_same : (k : Kind) (b x y : Bool) → (is_value k && x) ≡ y
     → allows_key k b y ≡ allows_key k b x

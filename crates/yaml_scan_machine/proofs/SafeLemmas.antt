@@ -57,12 +57,7 @@ narrow_none n k = omega arith
 
 pub narrow_left : (n c : ℕ) (xs : List ℕ) → IsNarrow n xs → IsNarrow n (left_of c xs)
 narrow_left n c [] h = h
-narrow_left n c (x ∷ xs) h =
-    let rest = narrow_left n c xs (λ k. h (suc k)) in
-    elim (cases_Bool (leb x c)) [
-      | inl near ↦ rw near (narrow_cons n x (left_of c xs) (h 0) rest)
-      | inr far ↦ rw far rest
-    ]
+narrow_left n c (x ∷ xs) h = grind (arith, narrow_cons n x (left_of c xs) (h 0), narrow_left n c xs (λ k. h (suc k)))
 
 pub narrow_left_by : (n : ℕ) (k : Kind) (d column : ℕ) (xs : List ℕ) → IsNarrow n xs
     → IsNarrow n (left_by k d column xs)

@@ -113,24 +113,11 @@ pub stands_more : (m : Machine) (w : Waiting) (rest : List Waiting) (b : TokenBo
     → m.waiting.items ≡ w ∷ rest → is_ready m ≡ true → front_at (kept_of w) m.given ≡ Some b
     → IsMachine record m { given = m.given + 1 }
 stands_more m w rest b i items ready some =
+    let f = first_is m w rest i items in
     let wait : (fields_of m).waiting ≡ kept_of w ∷ map (λ (x : Waiting). kept_of x) rest = ap (λ ws. map (λ (x : Waiting). kept_of x) ws) items in
-    record {
-      long = i.long;
-      few = i.few;
-      short = i.short;
-      taken = i.taken;
-      settled = i.settled;
-      depth = i.depth;
-      levels = i.levels;
-      inside = i.inside;
-      place = i.place;
-      begun = i.begun;
-      fresh = i.fresh;
-      decoded = i.decoded;
-      spelled = i.spelled;
-      shown = shown_given (fields_of m) (m.given + 1) i.shown;
-      given = subst (λ es. given_in m.dropped m.settled (m.given + 1) es) (sym wait) (given_more m.dropped m.settled m.given w rest (map (λ (x : Waiting). kept_of x) rest) b ((first_is m w rest i items).asks ∙ ready) some);
-    }
+    let shown = shown_given (fields_of m) (m.given + 1) i.shown in
+    let given = subst (λ es. given_in m.dropped m.settled (m.given + 1) es) (sym wait) (given_more m.dropped m.settled m.given w rest (map (λ (x : Waiting). kept_of x) rest) b (f.asks ∙ ready) some) in
+    grind arith
 
 -- where the next token is known, one is to come
 pub ready_gives : (m : Machine) → IsMachine m → is_ready m ≡ true

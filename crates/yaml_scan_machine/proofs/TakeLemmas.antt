@@ -9,8 +9,7 @@ use Rattle.yaml_scan_machine.proofs.NextLemmas.{settled_first}
 use Rattle.yaml_scan_machine.proofs.ComesLemmas.{settled_end, left_is, ready_started}
 use Rattle.yaml_scan_machine.proofs.SafeLemmas.{known_settled}
 use Rattle.yaml_scan_machine.proofs.SpellLemmas.{spell_length, spell_token, front_count-le}
-use Rattle.yaml_scan_machine.proofs.FrontLemmas.{shown_given}
-use Rattle.yaml_scan_machine.proofs.GivenLemmas.{own_settled, first_is, no_entry, given_few, given_more, front_room, front_done, ends_few}
+use Rattle.yaml_scan_machine.proofs.GivenLemmas.{shown_given, own_settled, first_is, no_entry, given_few, given_more, front_room, front_done, ends_few}
 
 -- a lexeme that is settled gives its tokens
 settled_front : (m : Machine) (w : Waiting) (rest : List Waiting) → IsMachine m

@@ -1,8 +1,8 @@
 -- The words of the definitions, and the lemmas on them from below, that the files of proofs share.
 pub use Rattle.std.proofs.Math.ListN.{set}
-pub use Rattle.std.proofs.lemmas.Bool.{and_parts, cases_Bool, cases_lt, cases_order, ne_eqb}
+pub use Rattle.std.proofs.lemmas.Bool.{and_parts, cases_Bool, cases_lt, cases_order}
 pub use Rattle.std.proofs.lemmas.Bool.Decides.{nat_tests}
-pub use Rattle.std.proofs.lemmas.List.{get_or-append_right, get_or-drop, get_or-map, get_or_append_left, get_or_default, get_or_past, length-drop, length-map, length-take-le, map-append, take_all}
+pub use Rattle.std.proofs.lemmas.List.{get_or-append_right, get_or-drop, get_or-map, get_or_append_left, get_or_at, get_or_default, get_or_past, length-drop, length-map, length-take-le, map-append, take_all}
 pub use Rattle.std.specs.List.{flat_map}
 pub use Rattle.std.specs.Prelude.{IfSome, is_some, map, option_map, slice_index}
 pub use Rattle.std.specs.Result.{result_err}
@@ -49,9 +49,8 @@ pub use Rattle.yaml_scan_machine.specs.Taken.{front_count, fronted, given_in, ow
 pub use Rattle.yaml_scan_machine.specs.declared.keys.Key.{Key}
 pub use Rattle.yaml_scan_machine.specs.declared.machine.Machine.{Machine}
 pub use Rattle.yaml_scan_machine.specs.declared.next.Read.{Read as Answer}
-pub use Rattle.yaml_scan_model.proofs.MarksLemmas.{no_break}
 pub use Rattle.yaml_scan_model.specs.Faults.{Fault, fault_of, memory_fault}
-pub use Rattle.yaml_scan_model.specs.Marks.{Place, break_width, byte, is_blank_or_end, mark_at, splits_break, starts}
+pub use Rattle.yaml_scan_model.specs.Marks.{Place, byte, is_blank_or_end, mark_at, splits_break, starts}
 unfoldable pub use Rattle.yaml_scan_model.specs.Marks.{column_at, line_at}
 pub use Rattle.yaml_scan_model.specs.Problems.{scanner_fault}
 pub use Rattle.yaml_scan_model.specs.Runs.{past_spaces}
@@ -68,4 +67,3 @@ pub use Rattle.yaml_scan_queue.specs.Waits.{KeptLexeme, kept_of, keyed as marked
 pub use Rattle.yaml_scan_queue.specs.declared.waiting.Waiting.{Waiting}
 pub use Rattle.yaml_scan_slot.specs.Slots.{token_in_slot}
 pub use Rattle.yaml_scan_words.specs.Between.{Gap, gap_at}
-unfoldable pub use Rattle.yaml_scan_words.specs.Indicators.{is_document_end, is_document_start}

@@ -1,7 +1,7 @@
 use Rattle.std.proofs.Common.{◌≡◌, ◌+◌, true, refl, sym, ap, ◌∙◌}
 use Rattle.yaml_scan_machine.proofs.Words.{byte, Gap}
 use Rattle.yaml_scan_words.proofs.BetweenLemmas.{space_byte}
-use Rattle.yaml_scan_machine.proofs.GapLemmas.{goes_on, no_gap, one_space, allowed_still}
+use Rattle.yaml_scan_machine.proofs.WordLemmas.{goes_on, no_gap, one_space, allowed_still}
 use Rattle.yaml_scan_machine.proofs.stand.pass_gap.Goals as goal
 
 pub returns-then-is_behind_hash : goal.returns-then-is_behind_hash

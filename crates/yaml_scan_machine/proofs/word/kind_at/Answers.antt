@@ -1,8 +1,6 @@
 use Rattle.std.proofs.Common.{subst, ℕ, ◌+◌, sym, ◌∙◌, ◌≡◌, Some}
 use Rattle.yaml_scan_machine.proofs.Words.{byte, is_blank_or_end, indicator_of, Told}
-use Rattle.yaml_scan_machine.proofs.LetterLemmas.{letter_told}
-use Rattle.yaml_scan_machine.proofs.StandsLemmas.{told_stands}
-use Rattle.yaml_scan_machine.proofs.GapLemmas.{told_kind}
+use Rattle.yaml_scan_machine.proofs.WordLemmas.{letter_told, told_stands, told_kind}
 use Rattle.yaml_scan_machine.proofs.word.kind_at.Goals as goal
 
 pub returns-in-Some-clause-stands : goal.returns-in-Some-clause-stands

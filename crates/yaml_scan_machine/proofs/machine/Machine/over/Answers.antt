@@ -1,9 +1,8 @@
 use Rattle.std.proofs.Common.{◌≡◌, ℕ, List, refl, sym, ap, subst, arith, ◌+◌, length}
 use Rattle.yaml_scan_machine.proofs.Words.{map, text_bytes, yaml_encoding_t, remaining, scanned, left_from, IsNarrow, zero_mark, stack_of, Waiting, kept_of}
 use Rattle.yaml_scan_machine.proofs.SafeLemmas.{start_place, narrow_none}
-use Rattle.yaml_scan_machine.proofs.FrontLemmas.{shown_start}
+use Rattle.yaml_scan_machine.proofs.GivenLemmas.{shown_start, given_none}
 use Rattle.yaml_scan_machine.proofs.KeysLemmas.{start_keys}
-use Rattle.yaml_scan_machine.proofs.GivenLemmas.{given_none}
 use Rattle.yaml_scan_machine.proofs.machine.Machine.over.Goals as goal
 
 pub returns-clause-stands : goal.returns-clause-stands

@@ -6,11 +6,10 @@ use Rattle.yaml_scan_machine.specs.Shows.{IsCounted}
 use Rattle.yaml_scan_machine.proofs.SafeLemmas.{inside_push, depth_after-le, narrow_by}
 use Rattle.yaml_scan_machine.proofs.KindLemmas.{ok_read}
 use Rattle.yaml_scan_machine.proofs.MarkLemmas.{IsPushed, kept_entries, settled_grows, shown_by, read_pushed}
-use Rattle.yaml_scan_machine.proofs.PushLemmas.{marks_are, levels_is, kept_is, column_is, allowed_is, settled_value, room_is}
+use Rattle.yaml_scan_machine.proofs.PushLemmas.{marks_are, levels_is, kept_is, column_is, allowed_is, settled_value, room_is, on_err, row_grows, row_short}
 use Rattle.yaml_scan_machine.proofs.KeysLemmas.{put_keys}
 use Rattle.yaml_scan_machine.proofs.StepLemmas.{saved_keeps}
 use Rattle.yaml_scan_machine.proofs.ComesLemmas.{waits_short}
-use Rattle.yaml_scan_machine.proofs.RowLemmas.{on_err, row_grows, row_short}
 use Rattle.yaml_scan_machine.proofs.GivenLemmas.{given_goes}
 use Rattle.yaml_scan_machine.proofs.machine.Machine.push.Goals.{After-is_end-self}
 use Rattle.yaml_scan_machine.proofs.machine.Machine.push.Goals as goal

@@ -2,8 +2,7 @@ use Rattle.std.proofs.Common.{false, ◌≡◌, List, [], ◌∷◌, sym, ap, su
 use Rattle.yaml_scan_machine.proofs.Words.{map, text_bytes, Token, token_in_slot, remaining, GivesFirst, left_in, Waiting, kept_of, IsMachine, AreInside, fields_of, stream_of, fronted, own_token, Line, to_come}
 use Rattle.yaml_scan_slot.specs.Slots.{body_in_slot}
 use Rattle.yaml_scan_machine.proofs.SafeLemmas.{inside_rest}
-use Rattle.yaml_scan_machine.proofs.FrontLemmas.{shown_popped}
-use Rattle.yaml_scan_machine.proofs.GivenLemmas.{first_is, given_none, own_settled}
+use Rattle.yaml_scan_machine.proofs.GivenLemmas.{shown_popped, first_is, given_none, own_settled}
 use Rattle.yaml_scan_machine.proofs.TakeLemmas.{first_waits, hands_first, popped_waits, gives_front, gives_own, given_room, stands_more}
 use Rattle.yaml_scan_machine.proofs.ComesLemmas.{left_gives, ready_started}
 use Rattle.yaml_scan_machine.proofs.machine.Machine.take_token_into.Goals as goal

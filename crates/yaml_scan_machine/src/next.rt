@@ -21,8 +21,7 @@ use crate::machine::Machine;
 use crate::word::{Reading, Scope, Word};
 use yaml_scan_history::{Kind, Lexeme, is_fresh, moved_end};
 use yaml_scan_model::{
-    Context, Problem, Reader, ScanError, ScanFault, Spares, yaml_encoding_t, yaml_mark_t,
-    yaml_token_body_t,
+    Context, Problem, Reader, ScanError, Spares, yaml_encoding_t, yaml_mark_t, yaml_token_body_t,
 };
 
 /// A lexeme that was read, and what its own token carries.
@@ -57,7 +56,7 @@ struct KindSpot {
 
 impl<'a> Machine<'a> {
     ghost use Rattle.yaml_scan_machine.specs.State.{IsMachine, IsNext};
-    ghost use Rattle.yaml_scan_machine.specs.Shows.{IsShown, fields_of, history_of, stream_of, Picks};
+    ghost use Rattle.yaml_scan_machine.specs.Shows.{history_of, stream_of, Picks};
     ghost use Rattle.yaml_scan_machine.specs.Comes.{Refused};
     ghost use Rattle.yaml_scan_machine.specs.Stood.{StandsAsNext};
     ghost use Rattle.yaml_scan_machine.specs.Reads.{GivesNext, GivesLexeme, EndsAt, keyed_by, required_in};

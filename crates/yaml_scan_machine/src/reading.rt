@@ -1,6 +1,6 @@
 //! Reading on until the next token is known, or there is none.
 
-ghost use Rattle.std.specs.Prelude.{◌≡◌, ◌+◌, ◌<◌, [], true, false, length};
+ghost use Rattle.std.specs.Prelude.{◌≡◌, ◌+◌, ◌<◌, true, false, length};
 ghost use Rattle.yaml_scan_model.specs.Tokens.{token_of, no_token};
 ghost use Rattle.yaml_scan_slot.specs.Slots.{token_in_slot};
 ghost use Rattle.yaml_scan_model.specs.Faults.{fault_of};

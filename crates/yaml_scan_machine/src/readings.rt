@@ -24,12 +24,7 @@ impl Reading for AliasReading {
     // Inlined: in the way of its kind its answer isn't put together.
     #[inline(always)]
     #[tactic(auto, unfolding(yaml_scan_history::specs::Words::word_at))]
-    fn word(
-        &self,
-        spares: &mut Spares,
-        reader: &mut Reader,
-        _at: Scope,
-    ) -> Result<Word, ScanError> {
+    fn word(&self, spares: &mut Spares, reader: &mut Reader, at: Scope) -> Result<Word, ScanError> {
         let read = anchor(spares, reader, Context::Alias)?;
         Ok(Word {
             body: yaml_token_body_t::Alias { value: read.value },
@@ -55,12 +50,7 @@ impl Reading for AnchorReading {
     // Inlined: in the way of its kind its answer isn't put together.
     #[inline(always)]
     #[tactic(auto, unfolding(yaml_scan_history::specs::Words::word_at))]
-    fn word(
-        &self,
-        spares: &mut Spares,
-        reader: &mut Reader,
-        _at: Scope,
-    ) -> Result<Word, ScanError> {
+    fn word(&self, spares: &mut Spares, reader: &mut Reader, at: Scope) -> Result<Word, ScanError> {
         let read = anchor(spares, reader, Context::Anchor)?;
         Ok(Word {
             body: yaml_token_body_t::Anchor { value: read.value },
@@ -115,12 +105,7 @@ impl Reading for SingleQuotedReading {
     // Inlined: in the way of its kind its answer isn't put together.
     #[inline(always)]
     #[tactic(auto, unfolding(yaml_scan_history::specs::Words::word_at))]
-    fn word(
-        &self,
-        spares: &mut Spares,
-        reader: &mut Reader,
-        _at: Scope,
-    ) -> Result<Word, ScanError> {
+    fn word(&self, spares: &mut Spares, reader: &mut Reader, at: Scope) -> Result<Word, ScanError> {
         let value = single_quoted(spares, reader)?;
         Ok(Word {
             body: yaml_token_body_t::Scalar {
@@ -149,12 +134,7 @@ impl Reading for DoubleQuotedReading {
     // Inlined: in the way of its kind its answer isn't put together.
     #[inline(always)]
     #[tactic(auto, unfolding(yaml_scan_history::specs::Words::word_at))]
-    fn word(
-        &self,
-        spares: &mut Spares,
-        reader: &mut Reader,
-        _at: Scope,
-    ) -> Result<Word, ScanError> {
+    fn word(&self, spares: &mut Spares, reader: &mut Reader, at: Scope) -> Result<Word, ScanError> {
         let value = double_quoted(spares, reader)?;
         Ok(Word {
             body: yaml_token_body_t::Scalar {

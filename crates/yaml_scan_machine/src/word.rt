@@ -1,6 +1,6 @@
 //! Which lexeme stands at a place, and what it carries.
 
-ghost use Rattle.std.specs.Prelude.{Bool, ◌≡◌, ◌+◌, ◌<◌, ◌≤◌, ◌⊎◌, IfSome, None, option_map, true, false, length};
+ghost use Rattle.std.specs.Prelude.{◌≡◌, ◌+◌, ◌<◌, ◌≤◌, ◌⊎◌, IfSome, None, option_map, true, false, length};
 ghost use Rattle.yaml_scan_model.specs.Ascii as ascii;
 ghost use Rattle.yaml_scan_model.specs.Marks.{byte, break_width, is_blank_or_end};
 ghost use Rattle.yaml_scan_model.specs.Tokens.{body_of};

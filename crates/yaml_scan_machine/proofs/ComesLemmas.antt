@@ -52,30 +52,27 @@ pub end_machine : (m : Machine) → IsMachine m → is_ready m ≡ false → m.e
     → to_come m ≡ nothing
 unfolding read
 end_machine m i stuck over =
-    let f = fields_of m in
     let s = i.shown in
-    let h = history_of m in
     let len = length-map m.waiting.items (λ (x : Waiting). kept_of x) in
-    let none : next (text_bytes m.text) h ≡ Ends = next_ended (text_bytes m.text) h (sym s.ended ∙ over) in
-    let all = settled_end f s over in
-    let past : length h ≤ m.dropped = elim (not_ready m.dropped m.settled m.given m.waiting.items stuck) [
-      | inl empty ↦ let zero_left : length m.waiting.items ≡ 0 = ap length empty in omega (arith, s.count, len)
+    let none = next_ended (text_bytes m.text) (history_of m) (sym s.ended ∙ over) in
+    let all = settled_end (fields_of m) s over in
+    let past : length (history_of m) ≤ m.dropped = elim (not_ready m.dropped m.settled m.given m.waiting.items stuck) [
+      | inl empty ↦ omega (arith, s.count, len, ap (λ (ws : List Waiting). length ws) empty)
       | inr (w, rest, is, low, few) ↦ omega arith
     ] in
-    end_comes (stream_of m) (m.dropped + length f.waiting) m.dropped m.given none past
+    end_comes (stream_of m) (m.dropped + length (fields_of m).waiting) m.dropped m.given none past
 
 -- where one more is read, 1,024 wait at most
 pub waits_short : (m : Machine) (l : Lexeme) → IsMachine m → is_ready m ≡ false → m.ended ≡ false
     → next (text_bytes m.text) (history_of m) ≡ Read l → length m.waiting.items ≤ 1024
 unfolding read
 waits_short m l i stuck more is =
-    let f = fields_of m in
     let s = i.shown in
     let len = length-map m.waiting.items (λ (x : Waiting). kept_of x) in
-    let first = settled_first f s more in
-    let few = few_wait (text_bytes m.text) (m.dropped + length f.waiting) l is in
+    let first = settled_first (fields_of m) s more in
+    let few = few_wait (text_bytes m.text) (m.dropped + length (fields_of m).waiting) l is in
     elim (not_ready m.dropped m.settled m.given m.waiting.items stuck) [
-      | inl empty ↦ let none : length m.waiting.items ≡ 0 = ap length empty in omega (arith, none)
+      | inl empty ↦ rw empty (omega arith)
       | inr (w, rest, all, low, past) ↦ omega (arith, few, first, low, s.count, len)
     ]
 

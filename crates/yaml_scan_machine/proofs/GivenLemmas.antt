@@ -120,11 +120,7 @@ given_lists : (m x : Fields) (l : Lexeme) (ws xs : List KeptLexeme) → IsShown 
     → given_in x.dropped x.settled x.given xs
 given_lists m x l [] [] s t go e more drops gives grows wait now given = gives ∙ given
 given_lists m x l [] (y ∷ ys) s t go e more drops gives grows wait now given = inl (omega (arith, gives, given))
-given_lists m x l (w ∷ ws) [] s t go e more drops gives grows wait now given =
-    let long = ap length more in
-    let left = ap length wait in
-    let none = ap length now in
-    absurd (omega (arith, long, left, none, s.count, t.count, drops))
+given_lists m x l (w ∷ ws) [] s t go e more drops gives grows wait now given = absurd (omega (arith, ap length more, ap length wait, ap length now, s.count, t.count, drops))
 given_lists m x l (w ∷ ws) (y ∷ ys) s t go e more drops gives grows wait now given =
     let h = read m.text m.dropped m.waiting in
     let z = no_entry in
@@ -137,9 +133,8 @@ given_lists m x l (w ∷ ws) (y ∷ ys) s t go e more drops gives grows wait now
           let ends : y.ends ≡ w.ends = ap (λ (k : KeptLexeme). k.ends) (sym new) ∙ ap (λ (e : Entry). e.ends) (sym here) ∙ same ∙ ap (λ (k : KeptLexeme). k.ends) old in
           inl (omega (arith, gives, few, ends))
       | inr (settled, few) ↦
-          let first = settled_open m l s e in
           let (near, far) = further_on m.text m.dropped m.waiting l go e in
-          let kept = take-entries l h (suc m.dropped) near (omega (arith, first, settled)) in
+          let kept = take-entries l h (suc m.dropped) near (omega (arith, settled_open m l s e, settled)) in
           let taken : (es : List Entry) → get_or (take (suc m.dropped) es) m.dropped z ≡ get_or es m.dropped z = λ es. get_or-take (suc m.dropped) es m.dropped z (omega arith) in
           let is = sym here ∙ sym (taken (entries (l ∷ h))) ∙ ap (λ es. get_or es m.dropped z) kept ∙ taken (entries h) in
           let count : front_count y ≡ front_count w = ap (λ (k : KeptLexeme). front_count k) (sym new) ∙ ap (λ (e : Entry). front_count (kept_in (spelled m) e)) is ∙ ap (λ (k : KeptLexeme). front_count k) old in

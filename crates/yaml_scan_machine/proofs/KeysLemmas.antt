@@ -149,16 +149,9 @@ first_at h s i n a low none is =
     let least = first_open-least h d n (c, here, number) (omega (arith, below, number)) in
     let (e, (x, there, first)) = first_open-is h h (omega (arith, below, least, number)) in
     elim (cases_order d e) [
-      | inl same ↦
-          let both : Some c ≡ Some x = sym here ∙ ap (λ z. fresh (candidate z h) p) same ∙ there in
-          let eq : c ≡ x = cc in
-          sym number ∙ ap (λ (y : Candidate). y.number) eq ∙ first
-      | inr (inl inside) ↦
-          let later = deeper_later h d e c x (fresh_is (candidate d h) p c here) (fresh_is (candidate e h) p x there) inside in
-          absurd (omega (arith, later, first, number, least))
-      | inr (inr outside) ↦
-          let gone = gone_before (depth h) s h p i e a (omega (arith, low)) none outside in
-          let bad : None ≡ Some x = sym gone ∙ there in cc
+      | inl same ↦ let both : fresh (candidate d h) p ≡ fresh (candidate e h) p = ap (λ z. fresh (candidate z h) p) same in cc
+      | inr (inl inside) ↦ omega (arith, deeper_later h d e c x (fresh_is (candidate d h) p c here) (fresh_is (candidate e h) p x there) inside, first, number, least)
+      | inr (inr outside) ↦ let gone = gone_before (depth h) s h p i e a (omega (arith, low)) none outside in cc
     ]
 
 -- where all are stale no candidate is open

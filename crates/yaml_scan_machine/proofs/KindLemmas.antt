@@ -182,13 +182,11 @@ pub ok_gives : (mc : Machine) (x : Next) (r : Answer) (b : Lexeme) (k : Kind) (m
 ok_gives mc (Fails p) r b k m a ls is g e key = g
 ok_gives mc Ends r b k m a ls is g e key = g
 ok_gives mc (Read l) r b k m a ls is (same, spoken) e key =
-    let kind : k ≡ l.kind = sym (ap (λ (x : Lexeme). x.kind) (sym same) ∙ e.kind ∙ ap (λ (x : Lexeme). x.kind) is) in
-    let deep : mc.depth ≡ l.depth = sym (ap (λ (x : Lexeme). x.depth) (sym same) ∙ e.depth ∙ ap (λ (x : Lexeme). x.depth) is) in
-    let start : placed k m ≡ l.start = sym (ap (λ (x : Lexeme). x.start) (sym same) ∙ e.start ∙ ap (λ (x : Lexeme). x.start) is) in
     let T : Option Candidate → Type 0 = λ o. Picks mc o r.key in
-    let h = history_of mc in
-    let keyed : keyed_by k (fresh (candidate mc.depth h) m) ≡ keyed_by l.kind (found_by l h) = sym (keyed_same k (candidate mc.depth h) m) ∙ ap (λ y. keyed_by k (fresh (candidate mc.depth h) y)) start ∙ ap (λ d. keyed_by k (fresh (candidate d h) l.start)) deep ∙ ap (λ y. keyed_by y (fresh (candidate l.depth h) l.start)) kind in
-    record { lexeme = same; spoken = spoken; key = subst T keyed key }
+    let kind : k ≡ l.kind = cc in
+    let deep : mc.depth ≡ l.depth = cc in
+    let start : placed k m ≡ l.start = cc in
+    record { lexeme = same; spoken = spoken; key = subst T (sym (keyed_same k (candidate mc.depth (history_of mc)) m) ∙ rw (← start, ← deep, ← kind) refl) key }
 
 reached_none : (h : List Lexeme) → length h ≡ 0 → reached h ≡ zero_mark
 reached_none [] e = refl

@@ -46,11 +46,7 @@ pub candidate_depth : (d : ℕ) (h : List Lexeme) (c : Candidate) → candidate 
     → c.lexeme.depth ≡ d
 unfolding candidate
 candidate_depth d [] c is = cc
-candidate_depth d (l ∷ h) c is =
-    elim (candidate_top d l h c is) [
-      | inl (a, top, s) ↦ ap (λ (x : Lexeme). x.depth) s ∙ a
-      | inr before ↦ candidate_depth d h c before
-    ]
+candidate_depth d (l ∷ h) c is = grind (arith, candidate_top d l h c is, candidate_depth d h c)
 
 pub settled_first : (m : Fields) → IsShown m → m.ended ≡ false
     → m.settled ≡ first_open (read m.text m.dropped m.waiting) (read m.text m.dropped m.waiting)
@@ -60,10 +56,7 @@ settled_first m s more = let e = sym s.ended ∙ more in s.settled ∙ rw e refl
 -- A lexeme that is required stands outside all brackets, and may be a key.
 required_parts : (a b c : Bool) (d : ℕ) → ((a && b) && (eqb d 0 && c)) ≡ true
     → (d ≡ 0) × ((a && b) ≡ true)
-required_parts a b c d e =
-    let (p, q) = and_parts (a && b) (eqb d 0 && c) e in
-    let (r, s) = and_parts (eqb d 0) c q in
-    (grind (arith, nat_tests), p)
+required_parts a b c d e = grind (arith, nat_tests)
 
 pub required_is : (text : List ℕ) (h : List Lexeme) (l : Lexeme) → next text h ≡ Read l
     → l.required ≡ true → (l.depth ≡ 0) × (l.saved ≡ true)

@@ -50,20 +50,11 @@ left_length s k given = ap length (tokens_is s k given) ∙ length-drop given _
 -- what is known of the lexemes that no later one changes
 pub known_upto : (text : List ℕ) (n m : ℕ) → m ≤ settled_in (history text n) → Known text n m
 unfolding settled_in
-known_upto text n m low =
-    let h = history text n in
-    elim (cases_Bool (ended h)) [
-      | inl over ↦ known_ended text n m (next_ended text h over) (let e : settled_in h ≡ length h = rw over refl in omega (arith, low, e))
-      | inr more ↦ known_settled text n m (let e : settled_in h ≡ first_open h h = rw more refl in omega (arith, low, e))
-    ]
+known_upto text n m low = grind (arith, known_ended text n m, known_settled text n m, next_ended text (history text n))
 
 pub settled_open : (h : List Lexeme) → settled_in h < length h → settled_in h ≡ first_open h h
 unfolding settled_in
-settled_open h low =
-    elim (cases_Bool (ended h)) [
-      | inl over ↦ let e : settled_in h ≡ length h = rw over refl in absurd (omega (arith, low, e))
-      | inr more ↦ rw more refl
-    ]
+settled_open h low = grind arith
 
 -- how many BLOCK-END tokens are told in front of the first lexeme that isn't settled
 abbrev fronts : List Lexeme → ℕ

@@ -22,11 +22,7 @@ key_counts true n = grind (arith, nat_tests)
 
 behind_counts : (b : TokenBody) (k : Bool) (n : ℕ)
     → Counts (1 + key_count k) n (cond (eqb n 0) (Some b) (key_at k (n - 1)))
-behind_counts b k n =
-    elim (cases_Bool (eqb n 0)) [
-      | inl none ↦ let z : n ≡ 0 = grind (arith, nat_tests) in rw none (omega (arith, z))
-      | inr some ↦ let z : 1 ≤ n = grind (arith, nat_tests) in rw some (counts_behind 1 (key_count k) n (key_at k (n - 1)) z (key_counts k (n - 1)))
-    ]
+behind_counts b k n = grind (arith, nat_tests, counts_behind 1 (key_count k) n (key_at k (n - 1)), key_counts k (n - 1))
 
 start_counts : (o : Opens) (k : Bool) (n : ℕ)
     → Counts (start_count o + key_count k) n (start_at o k n)

@@ -49,11 +49,7 @@ pub start_is : (d : ℕ) (h : List Lexeme) (c : Candidate) (e : Entry) → candi
     → (get_or (entries h) c.number e).lexeme ≡ c.lexeme
 unfolding candidate
 start_is d [] c e is = cc
-start_is d (l ∷ h) c e is =
-    elim (candidate_top d l h c is) [
-      | inl (x, top, start) ↦ rw (lexeme-top l h c.number e top) (sym start)
-      | inr before ↦ rw (lexeme-below l h c.number e (candidate_below d h c before)) (start_is d h c e before)
-    ]
+start_is d (l ∷ h) c e is = grind (arith, candidate_top d l h c is, lexeme-top l h c.number e, lexeme-below l h c.number e, candidate_below d h c, start_is d h c e)
 
 no_two : (k : Kind) → (may_be_key k && cancels k) ≡ false
 no_two kinds.Plain = refl

@@ -1,17 +1,8 @@
 -- What a lexeme makes of the candidates of each depth.
 use Rattle.std.proofs.Common.{◌≡◌, ◌∙◌, ℕ, ◌+◌, ◌-◌, ◌<◌, ◌≤◌, inl, inr, Bool, true, false, cond, ◌&&◌, List, [], ◌∷◌, ◌++◌, length, get_or, Option, Some, None, refl, sym, ap, subst, arith}
-use Rattle.std.proofs.lemmas.Bool.{cases_Bool, cases_lt}
-use Rattle.std.proofs.lemmas.Bool.Decides.{nat_tests}
-use Rattle.std.proofs.lemmas.List.{get_or_append_left, get_or_at, get_or_default, get_or_past, length-append}
-use Rattle.yaml_scan_model.specs.declared.record.yaml_mark_t.{yaml_mark_t}
-use Rattle.yaml_scan_history.specs.declared.lexeme.Lexeme.{Lexeme}
-use Rattle.yaml_scan_history.specs.Kinds.{cancels}
-use Rattle.yaml_scan_history.specs.History.{Candidate, candidate, depth, fresh, is_fresh}
-use Rattle.yaml_scan_history.specs.declared.lexeme.Opens.TheVariants as opening
-use Rattle.yaml_scan_history.specs.Laws.{Upto}
-use Rattle.yaml_scan_history.proofs.HistoryLemmas.{fresh_before, near_before, cases_Option}
-use Rattle.yaml_scan_machine.specs.declared.keys.Key.{Key}
-use Rattle.yaml_scan_machine.specs.Candidates.{KeyStack, KeyView, key_at, view_of, key_view, fresh_key, AreStale, IsKey, AreKeysTo}
+use Rattle.yaml_scan_machine.proofs.Words.{Turns, cases_Bool, cases_lt, nat_tests, get_or_append_left, get_or_default, get_or_past, yaml_mark_t, Lexeme, cancels, Candidate, candidate, fresh, is_fresh, Upto, fresh_before, cases_Option, Key, KeyStack, KeyView, key_at, view_of, key_view, fresh_key, AreStale, IsKey, AreKeysTo, get_or_at}
+use Rattle.std.proofs.lemmas.List.{length-append}
+use Rattle.yaml_scan_history.proofs.HistoryLemmas.{near_before}
 
 -- ---- the candidates behind one more lexeme
 
@@ -47,16 +38,7 @@ if_none false v e = refl
 
 pub stale_stays : (k : Key) (p r : yaml_mark_t) → fresh_key k p ≡ None → Upto p r
     → fresh_key k r ≡ None
-stale_stays k p r e u =
-    let v : KeyView = record { number = k.number; start = k.start; required = k.required } in
-    let was = if_none (k.possible && is_fresh k.start p) v e in
-    elim (cases_Bool k.possible) [
-      | inr none ↦ rw none refl
-      | inl some ↦ elim (cases_Bool (is_fresh k.start r)) [
-        | inr far ↦ rw (some, far) refl
-        | inl near ↦ let now = near_before k.start p r u.0 u.1 near in let bad = rw (some, now) at was in cc
-      ]
-    ]
+stale_stays k p r e u = grind (arith, near_before k.start p r u.0 u.1)
 
 pub no_view : (k : Key) → k.possible ≡ false → key_view k ≡ None
 no_view k e = rw e refl
@@ -122,20 +104,21 @@ set_key n s l h k p q a u at top = record {
 }
 
 -- a lexeme that leaves its depth's candidate
-pub keep_key : (n : ℕ) (s : KeyStack) (l : Lexeme) (h : List Lexeme) (p q : yaml_mark_t)
-    → AreKeysTo n s h p → Upto p q → l.depth ≡ n → l.saved ≡ false → cancels l.kind ≡ false
-    → AreKeysTo n s (l ∷ h) q
-keep_key n s l h p q a u at saved idle = record {
-  long = a.long;
-  inside = a.inside;
-  gone = outside_gone n s.gone s l h p q a u at (omega arith) (omega (arith, a.long));
-  agrees = λ i b. elim (cases_lt i (length s.outer)) [
-    | inl low ↦ outside_key n s l h p q (key_at s i) (s.gone + i) i a u at (omega (arith, low, a.long)) refl refl
-    | inr high ↦ let same : l.depth ≡ s.gone + i = omega (arith, high, b, at, a.long) in
-        later_key (key_at s i) (key_at s i) (candidate (s.gone + i) h) (candidate (s.gone + i) (l ∷ h)) p q (a.agrees i b) u refl (subst (λ z. candidate z (l ∷ h) ≡ candidate z h) same (top_same l h saved idle))
-  ];
-  stale = all_stale s p q a.stale u;
-}
+pub kept_turns : (l : Lexeme) (number : ℕ) (s : KeyStack) → l.saved ≡ false → cancels l.kind ≡ false
+    → Turns l number (λ n. n) s s
+kept_turns l number s saved idle n h p a u at count =
+    let q = l.reached in
+    record {
+      long = a.long;
+      inside = a.inside;
+      gone = outside_gone n s.gone s l h p q a u at (omega arith) (omega (arith, a.long));
+      agrees = λ i b. elim (cases_lt i (length s.outer)) [
+        | inl low ↦ outside_key n s l h p q (key_at s i) (s.gone + i) i a u at (omega (arith, low, a.long)) refl refl
+        | inr high ↦ let same : l.depth ≡ s.gone + i = omega (arith, high, b, at, a.long) in
+            later_key (key_at s i) (key_at s i) (candidate (s.gone + i) h) (candidate (s.gone + i) (l ∷ h)) p q (a.agrees i b) u refl (subst (λ z. candidate z (l ∷ h) ≡ candidate z h) same (top_same l h saved idle))
+      ];
+      stale = all_stale s p q a.stale u;
+    }
 
 -- the depth inside an opener has no candidate
 pub push_key : (n : ℕ) (s : KeyStack) (l : Lexeme) (h : List Lexeme) (k : Key) (q : yaml_mark_t)
@@ -165,11 +148,11 @@ push_key n s l h k q a at none =
     }
 
 -- what is inside a closer is gone
-pub pop_key : (n : ℕ) (s t : KeyStack) (l : Lexeme) (h : List Lexeme) (p q : yaml_mark_t)
-    → AreKeysTo n s h p → Upto p q → l.depth ≡ n → s.outer ≡ t.outer ++ t.innermost ∷ []
-    → t.gone ≡ s.gone → t.stale ≤ s.stale → t.stale ≤ length t.outer
-    → AreKeysTo (n - 1) t (l ∷ h) q
-pop_key n s t l h p q a u at is same low inside =
+pub popped_turns : (l : Lexeme) (number : ℕ) (s t : KeyStack)
+    → s.outer ≡ t.outer ++ t.innermost ∷ [] → t.gone ≡ s.gone → t.stale ≤ s.stale
+    → t.stale ≤ length t.outer → Turns l number (λ n. n - 1) s t
+popped_turns l number s t is same low inside n h p a u at count =
+    let q = l.reached in
     let more : length s.outer ≡ length t.outer + 1 = ap (λ (ks : List Key). length ks) is ∙ length-append t.outer (t.innermost ∷ []) in
     let old : (i : ℕ) → i < length s.outer → key_at t i ≡ key_at s i = λ i lt. elim (cases_lt i (length t.outer)) [
       | inl less ↦ sym (ap (λ ks. get_or ks i s.innermost) is ∙ get_or_append_left t.outer (t.innermost ∷ []) s.innermost i less ∙ get_or_default t.outer i s.innermost t.innermost less)
@@ -184,17 +167,16 @@ pop_key n s t l h p q a u at is same low inside =
     }
 
 -- the depth outside that one is forgotten
-pub pop_gone : (n : ℕ) (s t : KeyStack) (l : Lexeme) (h : List Lexeme) (p q : yaml_mark_t)
-    → AreKeysTo n s h p → Upto p q → l.depth ≡ n → length s.outer ≡ 0 → length t.outer ≡ 0
-    → s.gone ≡ t.gone + 1 → t.stale ≡ s.stale → t.innermost.possible ≡ false
-    → AreKeysTo (n - 1) t (l ∷ h) q
-pop_gone n s t l h p q a u at empty none one stale off = record {
+pub gone_turns : (l : Lexeme) (number : ℕ) (s t : KeyStack) → length s.outer ≡ 0
+    → length t.outer ≡ 0 → s.gone ≡ t.gone + 1 → t.stale ≡ s.stale → t.innermost.possible ≡ false
+    → Turns l number (λ n. n - 1) s t
+gone_turns l number s t empty none one stale off n h p a u at count = record {
   long = omega (arith, a.long, empty, none, one);
   inside = omega (arith, a.inside, stale, empty);
-  gone = outside_gone n t.gone s l h p q a u at (omega (arith, one)) (omega (arith, one, a.long));
+  gone = outside_gone n t.gone s l h p l.reached a u at (omega (arith, one)) (omega (arith, one, a.long));
   agrees = λ i b. inr (
     ap key_view (get_or_past t.outer i t.innermost (omega (arith, none))) ∙ no_view t.innermost off,
-    outside_gone n s.gone s l h p q a u at (omega arith) (omega (arith, a.long)) (t.gone + i) (omega (arith, b, none, one)),
+    outside_gone n s.gone s l h p l.reached a u at (omega arith) (omega (arith, a.long)) (t.gone + i) (omega (arith, b, none, one)),
   );
   stale = λ i lt. absurd (omega (arith, lt, stale, a.inside, empty));
 }

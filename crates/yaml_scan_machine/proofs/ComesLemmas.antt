@@ -1,59 +1,29 @@
 -- Where a machine stops.
-use Rattle.std.proofs.Common.{◌≡◌, ℕ, ◌+◌, ◌≤◌, Bool, true, false, ltb, List, [], ◌∷◌, length, get_or, Result, Ok, Err, refl, sym, ap, subst, ◌∙◌, inl, inr, ◌⊎◌, arith, Some, ◌≢◌}
-use Rattle.std.proofs.lemmas.Bool.{cases_Bool, cases_lt}
-use Rattle.std.proofs.lemmas.Bool.Decides.{nat_tests}
-use Rattle.std.proofs.lemmas.List.{length-map}
-use Rattle.std.specs.Prelude.{map, IfErr, option_map}
-use Rattle.yaml_scan_model.specs.declared.name.yaml_encoding_t.{yaml_encoding_t}
+use Rattle.std.proofs.Common.{◌≡◌, ℕ, ◌+◌, ◌≤◌, true, false, ltb, List, [], ◌∷◌, length, get_or, Result, Ok, Err, refl, sym, ap, subst, ◌∙◌, inl, inr, ◌⊎◌, arith, Some, ◌≢◌}
+use Rattle.yaml_scan_machine.proofs.Words.{cases_Bool, cases_lt, nat_tests, length-map, option_map, yaml_encoding_t, ScanError, scanner_fault, text_bytes, decoding_fault, decoded_characters, in_utf8, Offence, reader_fault, Reader, Fault, memory_fault, result_err, encoding_of, Token, GivesFirst, scanned, scanned_in, left_in, left_from, IsTold, IsLocated, Lexeme, entries, first_open, Next, Read, Fails, Ends, next, Remaining, remaining, length-entries, first_open-le, front_none, Machine, Waiting, KeptLexeme, kept_of, Answer, IsMachine, ReadsOneMore, ready_in, is_ready, Fields, fields_of, IsShown, read, settled_in, history_of, stream_of, GivesNext, Stops, to_come}
+use Rattle.std.specs.Prelude.{IfErr}
 use Rattle.yaml_scan_model.specs.declared.name.yaml_encoding_t.TheVariants.{YAML_UTF8_ENCODING}
 use Rattle.yaml_scan_model.specs.declared.name.yaml_error_type_t.TheVariants.{YAML_READER_ERROR, YAML_MEMORY_ERROR}
-use Rattle.yaml_scan_model.specs.declared.problem.ScanFault.{ScanFault}
-use Rattle.yaml_scan_model.specs.declared.problem.ScanError.{ScanError}
-use Rattle.yaml_scan_model.specs.declared.problem.ScanError.TheVariants as errors
-use Rattle.yaml_scan_model.specs.Problems.{scanner_fault}
-use Rattle.yaml_scan_decode.specs.DecodedText.{text_bytes, decoding_fault}
-use Rattle.yaml_scan_decode.specs.Decoding.{decoded_characters, decoded_text, in_utf8}
-use Rattle.yaml_scan_decode.specs.declared.offence.Offence.{Offence}
-use Rattle.yaml_scan_decode.specs.Offences.{reader_fault}
-use Rattle.yaml_scan_model.specs.declared.fault.yaml_origin_t.TheVariants.{Reader}
-use Rattle.yaml_scan_model.specs.Faults.{Fault, memory_fault}
-use Rattle.std.specs.Result.{result_err}
-use Rattle.yaml_scan_decode.specs.Encodings.{encoding_of}
-use Rattle.yaml_scan_model.specs.Tokens.{Token}
-use Rattle.yaml_scan_laws_order.specs.Fronts.{GivesFirst}
-use Rattle.yaml_scan_history.specs.Scanned.{scanned, scanned_in}
-use Rattle.yaml_scan_machine.specs.Left.{left_in, left_from, IsTold, IsLocated}
-use Rattle.yaml_scan_history.specs.declared.lexeme.Lexeme.{Lexeme}
-use Rattle.yaml_scan_history.specs.History.{entries, first_open}
-use Rattle.yaml_scan_history.specs.Next.{Next, Read, Fails, Ends, next}
-use Rattle.yaml_scan_history.specs.Remaining.{Remaining, remaining, nothing}
-use Rattle.yaml_scan_history.proofs.HistoryLemmas.{length-entries, first_open-le}
+use Rattle.yaml_scan_history.specs.Remaining.{nothing}
 use Rattle.yaml_scan_laws_order.proofs.HeldForward.{few_wait}
-use Rattle.yaml_scan_laws_order.proofs.RemainingForward.{fault_comes, end_comes, front_count, front_none}
-use Rattle.yaml_scan_machine.specs.declared.machine.Machine.{Machine}
-use Rattle.yaml_scan_queue.specs.declared.waiting.Waiting.{Waiting}
-use Rattle.yaml_scan_queue.specs.Waits.{KeptLexeme, kept_of}
-use Rattle.yaml_scan_machine.specs.declared.next.Read.{Read as Answer}
-use Rattle.yaml_scan_machine.specs.State.{IsShort, IsMachine, ReadsOneMore, ready_in, is_ready}
-use Rattle.yaml_scan_machine.specs.Shows.{Fields, fields_of, IsShown, read, settled_in, history_of, stream_of}
-use Rattle.yaml_scan_machine.specs.Reads.{GivesNext}
-use Rattle.yaml_scan_machine.specs.Stood.{Steps, IsRefused}
-use Rattle.yaml_scan_machine.specs.Comes.{to_come, Refused, Faults}
+use Rattle.yaml_scan_laws_order.proofs.RemainingForward.{fault_comes, end_comes, front_count}
+use Rattle.yaml_scan_machine.specs.Comes.{Refused, Faults}
+use Rattle.yaml_scan_model.specs.declared.problem.ScanError.TheVariants as errors
 use Rattle.yaml_scan_machine.proofs.MarkLemmas.{next_ended}
 use Rattle.yaml_scan_machine.proofs.NextLemmas.{settled_first}
-use Rattle.yaml_scan_machine.proofs.GivenLemmas.{front_is, no_entry}
+use Rattle.yaml_scan_machine.proofs.GivenLemmas.{first_is, no_entry}
 
-refused_at : (m : Machine) (f : ScanFault) (x : Next) → next (text_bytes m.text) (history_of m) ≡ x
-    → GivesNext m (Err (errors.Fault f)) x → next (text_bytes m.text) (history_of m) ≡ Fails f
-refused_at m f (Read l) e g = absurd g
-refused_at m f (Fails p) e g = e ∙ ap Fails (sym g)
-refused_at m f Ends e g = absurd g
+refused_at : (m : Machine) (e : ScanError) (x : Next) → next (text_bytes m.text) (history_of m) ≡ x
+    → Stops e x → Refused m e
+refused_at m errors.Memory x e g = tt
+refused_at m (errors.Fault f) (Read l) e g = absurd g
+refused_at m (errors.Fault f) (Fails p) e g = e ∙ ap Fails (sym g)
+refused_at m (errors.Fault f) Ends e g = absurd g
 
 -- a refusal is the next fault
 pub refused_by : (m : Machine) (e : ScanError)
-    → GivesNext m (Err e) (next (text_bytes m.text) (history_of m)) → Refused m e
-refused_by m errors.Memory g = tt
-refused_by m (errors.Fault f) g = refused_at m f (next (text_bytes m.text) (history_of m)) refl g
+    → Stops e (next (text_bytes m.text) (history_of m)) → Refused m e
+refused_by m e g = refused_at m e (next (text_bytes m.text) (history_of m)) refl g
 
 pub refused_any : (m : Machine) (r : Result Answer ScanError)
     → GivesNext m r (next (text_bytes m.text) (history_of m)) → IfErr r (λ e. Refused m e)
@@ -70,17 +40,7 @@ goes_same old new g =
 not_ready : (d s g : ℕ) (ws : List Waiting) → ready_in d s g ws ≡ false
     → (ws ≡ []) ⊎ ((w : Waiting) × (rest : List Waiting) × (ws ≡ w ∷ rest) × (s ≤ d) × (w.ends ≤ g))
 not_ready d s g [] e = inl refl
-not_ready d s g (w ∷ ws) e =
-    elim (cases_lt d s) [
-      | inl low ↦ let a : ltb d s ≡ true = grind (arith, nat_tests) in let bad = rw a at e in cc
-      | inr high ↦ elim (cases_lt g w.ends) [
-        | inl more ↦
-            let a : ltb d s ≡ false = grind (arith, nat_tests) in
-            let b : ltb g w.ends ≡ true = grind (arith, nat_tests) in
-            let bad = rw (a, b) at e in cc
-        | inr past ↦ inr (w, ws, refl, high, past)
-      ]
-    ]
+not_ready d s g (w ∷ ws) e = inr (w, ws, refl, grind (arith, nat_tests), grind (arith, nat_tests))
 
 pub settled_end : (m : Fields) → IsShown m → m.ended ≡ true
     → m.settled ≡ length (read m.text m.dropped m.waiting)
@@ -92,30 +52,27 @@ pub end_machine : (m : Machine) → IsMachine m → is_ready m ≡ false → m.e
     → to_come m ≡ nothing
 unfolding read
 end_machine m i stuck over =
-    let f = fields_of m in
     let s = i.shown in
-    let h = history_of m in
     let len = length-map m.waiting.items (λ (x : Waiting). kept_of x) in
-    let none : next (text_bytes m.text) h ≡ Ends = next_ended (text_bytes m.text) h (sym s.ended ∙ over) in
-    let all = settled_end f s over in
-    let past : length h ≤ m.dropped = elim (not_ready m.dropped m.settled m.given m.waiting.items stuck) [
-      | inl empty ↦ let zero_left : length m.waiting.items ≡ 0 = ap length empty in omega (arith, s.count, len)
+    let none = next_ended (text_bytes m.text) (history_of m) (sym s.ended ∙ over) in
+    let all = settled_end (fields_of m) s over in
+    let past : length (history_of m) ≤ m.dropped = elim (not_ready m.dropped m.settled m.given m.waiting.items stuck) [
+      | inl empty ↦ omega (arith, s.count, len, ap (λ (ws : List Waiting). length ws) empty)
       | inr (w, rest, is, low, few) ↦ omega arith
     ] in
-    end_comes (stream_of m) (m.dropped + length f.waiting) m.dropped m.given none past
+    end_comes (stream_of m) (m.dropped + length (fields_of m).waiting) m.dropped m.given none past
 
 -- where one more is read, 1,024 wait at most
 pub waits_short : (m : Machine) (l : Lexeme) → IsMachine m → is_ready m ≡ false → m.ended ≡ false
     → next (text_bytes m.text) (history_of m) ≡ Read l → length m.waiting.items ≤ 1024
 unfolding read
 waits_short m l i stuck more is =
-    let f = fields_of m in
     let s = i.shown in
     let len = length-map m.waiting.items (λ (x : Waiting). kept_of x) in
-    let first = settled_first f s more in
-    let few = few_wait (text_bytes m.text) (m.dropped + length f.waiting) l is in
+    let first = settled_first (fields_of m) s more in
+    let few = few_wait (text_bytes m.text) (m.dropped + length (fields_of m).waiting) l is in
     elim (not_ready m.dropped m.settled m.given m.waiting.items stuck) [
-      | inl empty ↦ let none : length m.waiting.items ≡ 0 = ap length empty in omega (arith, none)
+      | inl empty ↦ rw empty (omega arith)
       | inr (w, rest, all, low, past) ↦ omega (arith, few, first, low, s.count, len)
     ]
 
@@ -141,10 +98,9 @@ fault_machine m (errors.Fault p) i stuck more r =
           ap (λ k. remaining (stream_of m) k m.given) (sym at) ∙ fault_comes (stream_of m) n p m.given r (omega (arith, gone))
       | inr (w, rest, is, low, few) ↦
           let at : first_open h h ≡ m.dropped = omega (arith, s.taken) in
-          let z = no_entry in
-          let (here, inside) = front_is f (kept_of w) (map (λ (x : Waiting). kept_of x) rest) z s (ap (λ ws. map (λ (x : Waiting). kept_of x) ws) is) in
-          let count = front_count (entries h) (first_open h h) z (omega arith) in
-          let ends : (get_or (entries h) (first_open h h) z).ends ≡ w.ends = ap (λ k. (get_or (entries h) k z).ends) at ∙ ap (λ (x : KeptLexeme). x.ends) here in
+          let first_one = first_is m w rest i is in
+          let count = front_count (entries h) (first_open h h) no_entry (omega (arith, first_one.inside)) in
+          let ends : (get_or (entries h) (first_open h h) no_entry).ends ≡ w.ends = ap (λ k. (get_or (entries h) k no_entry).ends) at ∙ ap (λ (x : KeptLexeme). x.ends) first_one.here in
           ap (λ k. remaining (stream_of m) k m.given) (sym at) ∙ fault_comes (stream_of m) n p m.given r (omega (arith, count, ends, few))
     ]
 
@@ -193,38 +149,6 @@ pub told_decoding : (m : Machine) (f : Fault) → m.started ≡ false
 told_decoding m f off (inl memory) = inl (inr memory)
 told_decoding m f off (inr fault) =
     subst (λ (c : Remaining). IsTold c f) (sym (left_whole m off)) (offence_told (encoding_of m.setting m.input.now) (decoded_characters m.setting m.input.now) f fault)
-
--- what a step answers
-pub steps_on : (old new : Machine) (f : Fault) (b : Bool) → b ≡ true → Steps old new f b
-    → IsMachine new × ReadsOneMore old new
-steps_on old new f true e s = s
-steps_on old new f false e s = cc
-
--- A step that fails is refused, and at most 1,025 lexemes wait.
-pub steps_off : (old new : Machine) (f : Fault) (b : Bool) → b ≡ false → Steps old new f b
-    → IsRefused old f × IsShort new.waiting
-steps_off old new f true e s = cc
-steps_off old new f false e s = s
-
--- a step's fault is the one that a machine tells, where the same is to come
-pub told_refused : (first m : Machine) (f : Fault) → first.started ≡ true
-    → to_come m ≡ to_come first → IsMachine m → is_ready m ≡ false → m.ended ≡ false → IsRefused m f
-    → IsTold (left_in first) f
-told_refused first m f on same i stuck more (e, refused, is) = told_error first e f on (subst (λ (c : Remaining). Faults e c) same (fault_machine m e i stuck more refused)) is
-
--- where text and input are the same, so is what the input spells
-pub decoded_as : (m d : Machine) → d.text ≡ m.text → d.setting ≡ m.setting
-    → d.input.now ≡ m.input.now
-    → decoded_text m.setting m.input.now ≡ Ok (text_bytes m.text)
-    → decoded_text d.setting d.input.now ≡ Ok (text_bytes d.text)
-decoded_as m d text setting input is =
-    ap (λ (s : yaml_encoding_t). decoded_text s d.input.now) setting ∙ ap (λ (bytes : List ℕ). decoded_text m.setting bytes) input ∙ is ∙ ap Ok (ap text_bytes (sym text))
-
-pub spelled_as : (m d : Machine) → d.encoding ≡ m.encoding → d.setting ≡ m.setting
-    → d.input.now ≡ m.input.now → m.encoding ≡ encoding_of m.setting m.input.now
-    → d.encoding ≡ encoding_of d.setting d.input.now
-spelled_as m d encoding setting input is =
-    encoding ∙ is ∙ ap (λ (bytes : List ℕ). encoding_of m.setting bytes) (sym input) ∙ ap (λ (s : yaml_encoding_t). encoding_of s d.input.now) (sym setting)
 
 no_reader_fault : (r : Result (List ℕ) Offence) (f : Fault)
     → option_map reader_fault (result_err r) ≡ Some f → f ≡ memory_fault Reader → ⊥

@@ -1,31 +1,18 @@
 -- Reading on behind a machine of which the same is to come.
 use Rattle.std.proofs.Common.{◌≡◌, ◌<◌, ◌≤◌, ◌+◌, ℕ, zero, suc, Bool, true, false, List, [], ◌∷◌, length, refl, sym, ap, subst, ◌∙◌, inl, inr, arith, Option, Some, Result, Ok, Err}
-use Rattle.std.proofs.lemmas.Bool.{cases_lt, cases_Bool, lt-ltb}
-use Rattle.yaml_scan_model.specs.declared.name.yaml_encoding_t.{yaml_encoding_t}
-use Rattle.yaml_scan_model.specs.declared.fault.yaml_origin_t.TheVariants.{Scanner, Reader}
-use Rattle.yaml_scan_model.specs.declared.problem.ScanError.{ScanError}
-use Rattle.yaml_scan_model.specs.declared.problem.ScanError.TheVariants as errors
-use Rattle.yaml_scan_model.specs.Faults.{Fault, memory_fault}
-use Rattle.std.specs.Prelude.{option_map}
-use Rattle.std.specs.Result.{result_err}
-use Rattle.yaml_scan_decode.specs.declared.offence.Offence.{Offence}
-use Rattle.yaml_scan_decode.specs.Offences.{reader_fault}
-use Rattle.yaml_scan_decode.specs.Decoding.{decoded_characters, in_utf8}
-use Rattle.yaml_scan_decode.specs.DecodedText.{text_bytes, decoding_fault}
-use Rattle.yaml_scan_decode.specs.Encodings.{encoding_of}
-use Rattle.yaml_scan_history.specs.Remaining.{Remaining}
-use Rattle.yaml_scan_machine.specs.declared.machine.Machine.{Machine}
-use Rattle.yaml_scan_queue.specs.declared.waiting.Waiting.{Waiting}
-use Rattle.yaml_scan_machine.specs.Left.{left_in, IsTold, IsLocated}
-use Rattle.yaml_scan_machine.specs.Comes.{to_come}
-use Rattle.yaml_scan_machine.proofs.ComesLemmas.{left_is, reader_wide}
-use Rattle.yaml_scan_machine.specs.State.{IsMachine, ReadsOneMore, KeepsInput, TellsUtf8, is_ready, ready_in}
-use Rattle.yaml_scan_machine.specs.Stood.{IsRefused}
+use Rattle.yaml_scan_machine.proofs.Words.{cases_lt, cases_Bool, yaml_encoding_t, Reader, ScanError, Fault, memory_fault, option_map, result_err, Offence, reader_fault, decoded_characters, in_utf8, text_bytes, decoding_fault, encoding_of, Remaining, Machine, Waiting, left_in, IsTold, IsLocated, IsMachine, ReadsOneMore, is_ready, ready_in, MayReadAt, Kind, HasMore}
+use Rattle.yaml_scan_machine.specs.Stood.{Steps}
+use Rattle.std.proofs.lemmas.Bool.{lt-ltb}
+use Rattle.yaml_scan_model.specs.declared.fault.yaml_origin_t.TheVariants.{Scanner}
+use Rattle.yaml_scan_machine.specs.State.{KeepsInput, TellsUtf8}
+use Rattle.yaml_scan_machine.specs.declared.next.LexemeSpot.{LexemeSpot}
 use Rattle.yaml_scan_machine.specs.declared.reading.Sought.{Sought}
-use Rattle.yaml_scan_machine.specs.declared.reading.Sought.TheVariants as found
-use Rattle.yaml_scan_machine.specs.Found.{HasMore}
+use Rattle.yaml_scan_machine.specs.Found.{Denies, Finishes, ReadsOn, ReadsAsNeeded, ReaderLacks, PlainIsTold, read_by}
 use Rattle.yaml_scan_machine.specs.Settled.{settles}
-use Rattle.yaml_scan_machine.specs.Found.{ReadsOn, ReadsAsNeeded, ReaderLacks, PlainIsTold, read_by}
+use Rattle.yaml_scan_model.specs.declared.problem.ScanError.TheVariants as errors
+use Rattle.yaml_scan_machine.specs.declared.reading.Sought.TheVariants as found
+use Rattle.yaml_scan_machine.proofs.ComesLemmas.{left_is, reader_wide, goes_same, told_error, fault_machine, end_machine}
+use Rattle.yaml_scan_machine.proofs.MoreLemmas.{machine_more}
 use Rattle.yaml_scan_machine.proofs.SettledLemmas.{machine_tells}
 
 -- whether n lexemes settle what comes next
@@ -38,11 +25,6 @@ settles_same m first n setting input left =
     ap (λ (s : yaml_encoding_t). settles s m.input.now (left_in m).tokens n) setting
     ∙ ap (λ (bytes : List ℕ). settles first.setting bytes (left_in m).tokens n) input
     ∙ ap (λ (c : Remaining). settles first.setting first.input.now c.tokens n) left
-
--- where both are decoded, the same is left
-pub same_left : (first m : Machine) → first.started ≡ true → m.started ≡ true
-    → to_come m ≡ to_come first → left_in m ≡ left_in first
-same_left first m on still same = left_is m still ∙ same ∙ sym (left_is first on)
 
 -- nothing is read
 pub reads_none : (old new : Machine) → KeepsInput old new → ReadsAsNeeded old new
@@ -105,18 +87,57 @@ no_scanner_reader : (e : ScanError) (f : Fault) → IsLocated e f → f ≡ memo
 no_scanner_reader errors.Memory f is e = let bad : Scanner ≡ Reader = ap (λ (g : Fault). g.origin) (sym is ∙ e) in cc
 no_scanner_reader (errors.Fault p) f is e = let bad = ap (λ (g : Fault). g.kind) (sym is ∙ e) in cc
 
--- a step's want of memory is the scanner's
-pub refused_lacks : (old m : Machine) (f : Fault) → IsRefused m f → ReaderLacks old f
-refused_lacks old m f (e, refused, located) is = absurd (no_scanner_reader e f located is)
-
 spelled_text : (r : Result (List ℕ) Offence) (text : List ℕ) (g : Fault) → in_utf8 r ≡ Ok text
     → option_map reader_fault (result_err r) ≡ Some g → ⊥
 spelled_text (Ok cs) text g e bad = cc
 spelled_text (Err o) text g e bad = cc
 
 -- where the input is decoded, it spells a text
-pub decoded_plain : (m : Machine) (f : Fault) → IsMachine m → m.started ≡ true → PlainIsTold m f
+decoded_plain : (m : Machine) (f : Fault) → IsMachine m → m.started ≡ true → PlainIsTold m f
 decoded_plain m f i on g utf8 is = absurd (spelled_text (decoded_characters m.setting m.input.now) (text_bytes m.text) g (i.decoded on) is)
+
+-- what reading on behind a machine comes to, where the same is to come: so many more lexemes are read as are needed
+pub record ReadsFrom (first m : Machine) : Type 0 where
+  pub stands : IsMachine m
+  pub started : m.started ≡ true
+  pub left : left_in m ≡ left_in first
+  pub reads : ReadsAsNeeded first m
+
+pub reads_start : (m : Machine) → IsMachine m → m.started ≡ true → ReadsFrom m m
+reads_start m i on = record { stands = i; started = on; left = refl; reads = reads_itself m }
+
+-- a step reads one lexeme more
+pub steps_on : (first m new : Machine) (f : Fault) (b : Bool) → ReadsFrom first m
+    → is_ready m ≡ false → b ≡ true → Steps m new f b
+    → ReadsFrom first new × (0 < length new.waiting.items)
+steps_on first m new f false r stuck done s = cc
+steps_on first m new f true r stuck done (stands, on) =
+    let still = on.started ∙ r.started in
+    let left = left_is new still ∙ goes_same m new on ∙ sym (left_is m r.started) ∙ r.left in
+    (record { stands = stands; started = still; left = left; reads = reads_both first m new r.left r.reads (reads_more m new r.stands stuck on) }, omega (arith, on.further))
+
+-- or is refused, with the fault that a machine tells; a step's want of memory is the scanner's
+pub steps_off : (first m new : Machine) (f : Fault) (b : Bool) → ReadsFrom first m
+    → is_ready m ≡ false → m.ended ≡ false → is_ready first ≡ false → b ≡ false → Steps m new f b
+    → Denies first new f
+steps_off first m new f true r stuck more sought failed s = cc
+steps_off first m new f false r stuck more sought failed ((e, refused, is), few) =
+    let left = sym (left_is m r.started) ∙ r.left in
+    record {
+      sought = sought;
+      more = subst (λ (c : Remaining). HasMore c.tokens c.fault) left (machine_more m r.stands stuck more);
+      told = subst (λ (c : Remaining). IsTold c f) r.left (told_error m e f r.started (fault_machine m e r.stands stuck more refused) is);
+      reader = λ same. absurd (no_scanner_reader e f is same);
+      plain = plain_behind first m f r.reads (decoded_plain m f r.stands r.started);
+      few = few;
+    }
+
+-- behind the end nothing is to come
+pub steps_end : (first m : Machine) → ReadsFrom first m → is_ready m ≡ false → m.ended ≡ true
+    → Finishes first m
+steps_end first m r stuck over =
+    let none = left_is m r.started ∙ end_machine m r.stands stuck over in
+    record { stands = r.stands; left = sym r.left ∙ none; none = none; reads = r.reads }
 
 some_is : (o : Option Fault) (f g : Fault) → o ≡ Some f → o ≡ Some g → f ≡ g
 some_is o f g e h = cc
@@ -156,3 +177,8 @@ settled_in_row dropped settled given (w ∷ ws) few less = rw (lt-ltb dropped se
 -- where the first lexeme is settled, one waits
 pub settled_ready : (m : Machine) → IsMachine m → m.dropped < m.settled → true ≡ is_ready m
 settled_ready m i less = settled_in_row m.dropped m.settled m.given m.waiting.items i.settled less
+
+-- a lexeme of that kind is to be read
+pub may_read : (m : Machine) (j k : Kind) (s : LexemeSpot) → MayReadAt m j s → j ≡ k
+    → MayReadAt m k s
+may_read m j k s may same = subst (λ (k : Kind). MayReadAt m k s) same may

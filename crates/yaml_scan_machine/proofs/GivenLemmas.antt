@@ -1,28 +1,76 @@
--- What is taken of the first lexeme that waits, and how many levels a lexeme closes.
-use Rattle.std.proofs.Common.{◌≡◌, ℕ, suc, ◌+◌, ◌-◌, ◌<◌, ◌≤◌, Bool, true, false, ◌&&◌, not, ltb, leb, List, [], ◌∷◌, length, take, get_or, Some, None, refl, sym, ap, subst, ◌∙◌, inl, inr, arith, length-append}
-use Rattle.std.proofs.lemmas.Bool.{cases_Bool, cases_lt}
-use Rattle.std.proofs.lemmas.List.{get_or-append_right, get_or-drop, get_or-map, get_or-take}
-use Rattle.std.specs.Prelude.{filter, map}
-use Rattle.yaml_scan_model.specs.Tokens.{TokenBody}
-use Rattle.yaml_scan_history.specs.declared.kind.Kind.{Kind}
-use Rattle.yaml_scan_history.specs.declared.lexeme.Lexeme.{Lexeme}
-use Rattle.yaml_scan_history.specs.declared.lexeme.Entry.{Entry}
-use Rattle.yaml_scan_history.specs.Kinds.{is_start}
-use Rattle.yaml_scan_history.specs.History.{entries, levels, left_by, keeps, opened, opens_at, found_by, inside, indent, keyed, entry_of}
+-- What is taken of the waiting list and of the lexeme that waits first, and how many levels a lexeme closes.
+use Rattle.std.proofs.Common.{◌≡◌, ℕ, ◌+◌, ◌<◌, false, List, [], ◌∷◌, length, drop, refl, sym, ap, subst, ◌∙◌, arith, suc, ◌-◌, ◌≤◌, Bool, true, ◌&&◌, not, ltb, leb, take, get_or, Some, None, inl, inr, length-append}
+use Rattle.yaml_scan_machine.proofs.Words.{map, zero_mark, Lexeme, yaml_encoding_t, entries, first_open, levels, history, Waiting, KeptLexeme, kept_of, KeyStack, AreKeys, Fields, ShowsMachine, IsShown, all_kept, read, settled_in, spelled, cases_Bool, cases_lt, get_or-append_right, get_or-drop, get_or-map, TokenBody, Kind, Entry, is_start, left_by, keeps, opened, opens_at, found_by, inside, indent, keyed, entry_of, Read, next, first_lexeme, GoesForward, length-entries, length-keyed, entries_ends, IsMachine, is_ready, ready_in, fields_of, history_of, kept_in, stream_of, Machine, front_at, front_count, given_in, get_or_at}
+use Rattle.std.proofs.lemmas.List.{drop-drop, get_or-take}
+use Rattle.std.specs.Prelude.{filter}
+use Rattle.yaml_scan_history.proofs.HistoryLemmas.{take-entries}
+use Rattle.yaml_scan_machine.specs.Taken.{IsGiven}
 use Rattle.yaml_scan_history.specs.declared.lexeme.Opens.TheVariants as opening
-use Rattle.yaml_scan_history.specs.Next.{Read, next, first_lexeme}
-use Rattle.yaml_scan_history.specs.Laws.{GoesForward}
-use Rattle.yaml_scan_history.proofs.HistoryLemmas.{length-entries, length-keyed, take-entries}
-use Rattle.yaml_scan_laws_order.proofs.RemainingForward.{entries_ends}
-use Rattle.yaml_scan_queue.specs.declared.waiting.Waiting.{Waiting}
-use Rattle.yaml_scan_queue.specs.Waits.{KeptLexeme, kept_of}
-use Rattle.yaml_scan_machine.specs.State.{ready_in}
-use Rattle.yaml_scan_machine.specs.Shows.{Fields, IsShown, read, kept_in, spelled}
-use Rattle.yaml_scan_queue.specs.Front.{front_at}
-use Rattle.yaml_scan_machine.specs.Taken.{front_count, given_in, IsGiven}
 use Rattle.yaml_scan_machine.proofs.SafeLemmas.{known_settled}
 use Rattle.yaml_scan_machine.proofs.MarkLemmas.{further_on, settled_open}
 use Rattle.yaml_scan_machine.proofs.SpellLemmas.{Counts, front_counts}
+
+-- before the first lexeme
+pub shown_start : (encoding : yaml_encoding_t) (text : List ℕ) (ws : List Waiting) (ls : List ℕ)
+    (ks : KeyStack) → ws ≡ [] → ls ≡ [] → AreKeys ks [] zero_mark
+    → IsShown record {
+      encoding = encoding;
+      text = text;
+      waiting = map (λ (x : Waiting). kept_of x)
+          ws;
+      keys = ks;
+      dropped = 0;
+      given = 0;
+      settled = 0;
+      place = zero_mark;
+      depth = 0;
+      levels = ls;
+      allowed = false;
+      ended = false;
+    }
+unfolding read history entries first_open settled_in levels
+shown_start encoding text ws ls ks none no_level keys = rw (none, no_level) record { count = refl; waiting = refl; settled = refl; taken = omega arith; place = refl; levels = refl; depth = refl; allowed = refl; ended = refl; keys = keys }
+
+pub shown_given : (m : Fields) (n : ℕ) → IsShown m → IsShown record m { given = n }
+shown_given m n s = record { count = s.count; waiting = s.waiting; settled = s.settled; taken = s.taken; place = s.place; levels = s.levels; depth = s.depth; allowed = s.allowed; ended = s.ended; keys = s.keys }
+
+read_rest : (text : List ℕ) (d : ℕ) (e : KeptLexeme) (es : List KeptLexeme)
+    → read text (d + 1) es ≡ read text d (e ∷ es)
+unfolding read
+read_rest text d e es = let k : d + 1 + length es ≡ d + length (e ∷ es) = omega arith in rw k refl
+
+-- what is left where the first one is taken
+shown_rest : (m : Fields) (e : KeptLexeme) (es : List KeptLexeme) → IsShown m → m.waiting ≡ e ∷ es
+    → m.dropped < m.settled → IsShown record m { waiting = es; dropped = m.dropped + 1; given = 0 }
+shown_rest m e es s wait low =
+    let h = read m.text m.dropped m.waiting in
+    let len : length m.waiting ≡ length es + 1 = ap length wait ∙ omega arith in
+    let same : read m.text (m.dropped + 1) es ≡ h = read_rest m.text m.dropped e es ∙ ap (λ xs. read m.text m.dropped xs) (sym wait) in
+    let n : Fields = record m { waiting = es; dropped = m.dropped + 1; given = 0 } in
+    subst (λ (x : List Lexeme). ShowsMachine x n) (sym same) record {
+      count = omega (arith, s.count, len);
+      waiting = ap (λ xs. drop 1 xs) (sym wait) ∙ ap (λ xs. drop 1 xs) s.waiting ∙ drop-drop 1 m.dropped (all_kept (spelled m) (entries h));
+      settled = s.settled;
+      taken = omega arith;
+      place = s.place;
+      levels = s.levels;
+      depth = s.depth;
+      allowed = s.allowed;
+      ended = s.ended;
+      keys = s.keys;
+    }
+
+pub shown_popped : (m : Fields) (ws : List Waiting) (w : Waiting) (rest : List Waiting) → IsShown m
+    → m.waiting ≡ map (λ (x : Waiting). kept_of x) ws → ws ≡ w ∷ rest → m.dropped < m.settled
+    → IsShown record m {
+      waiting = map (λ (x : Waiting). kept_of x) rest;
+      dropped = m.dropped + 1;
+      given = 0;
+    }
+shown_popped m ws w rest s wait is low =
+    shown_rest m (kept_of w) (map (λ (x : Waiting). kept_of x) rest) s (wait ∙ ap (λ xs. map (λ (x : Waiting). kept_of x) xs) is) low
+
+-- ---- what is taken of the first lexeme that waits, and how many levels a lexeme closes
 
 -- the first lexeme that waits is the one of that number
 pub front_is : (m : Fields) (k : KeptLexeme) (ks : List KeptLexeme) (x : Entry) → IsShown m
@@ -42,6 +90,27 @@ front_is m k ks x s wait =
 abbrev pub no_entry : Entry
 no_entry = record { lexeme = first_lexeme; ends = 0; opens = opening.Nothing; key = false }
 
+-- what a machine says of the lexeme that waits first
+pub record FirstIs (m : Machine) (w : Waiting) (rest : List Waiting) : Type 0 where
+  pub here : kept_in (stream_of m) (get_or (entries (history_of m)) m.dropped no_entry) ≡ kept_of w
+  pub inside : m.dropped < length (history_of m)
+  pub given : given_in m.dropped m.settled m.given
+      (kept_of w ∷ map (λ (x : Waiting). kept_of x) rest)
+  pub asks : ready_in m.dropped m.settled m.given (w ∷ rest) ≡ is_ready m
+
+pub first_is : (m : Machine) (w : Waiting) (rest : List Waiting) → IsMachine m
+    → m.waiting.items ≡ w ∷ rest → FirstIs m w rest
+first_is m w rest i items =
+    let ks = map (λ (x : Waiting). kept_of x) rest in
+    let wait : (fields_of m).waiting ≡ kept_of w ∷ ks = ap (λ ws. map (λ (x : Waiting). kept_of x) ws) items in
+    let (here, inside) = front_is (fields_of m) (kept_of w) ks no_entry i.shown wait in
+    record {
+      here = here;
+      inside = inside;
+      given = subst (λ es. given_in m.dropped m.settled m.given es) wait i.given;
+      asks = ap (λ (ws : List Waiting). ready_in m.dropped m.settled m.given ws) (sym items);
+    }
+
 -- one more lexeme leaves how much of the first one is taken
 given_lists : (m x : Fields) (l : Lexeme) (ws xs : List KeptLexeme) → IsShown m → IsShown x
     → GoesForward m.text → let h = read m.text m.dropped m.waiting in next m.text h ≡ Read l
@@ -51,11 +120,7 @@ given_lists : (m x : Fields) (l : Lexeme) (ws xs : List KeptLexeme) → IsShown 
     → given_in x.dropped x.settled x.given xs
 given_lists m x l [] [] s t go e more drops gives grows wait now given = gives ∙ given
 given_lists m x l [] (y ∷ ys) s t go e more drops gives grows wait now given = inl (omega (arith, gives, given))
-given_lists m x l (w ∷ ws) [] s t go e more drops gives grows wait now given =
-    let long = ap length more in
-    let left = ap length wait in
-    let none = ap length now in
-    absurd (omega (arith, long, left, none, s.count, t.count, drops))
+given_lists m x l (w ∷ ws) [] s t go e more drops gives grows wait now given = absurd (omega (arith, ap length more, ap length wait, ap length now, s.count, t.count, drops))
 given_lists m x l (w ∷ ws) (y ∷ ys) s t go e more drops gives grows wait now given =
     let h = read m.text m.dropped m.waiting in
     let z = no_entry in
@@ -68,9 +133,8 @@ given_lists m x l (w ∷ ws) (y ∷ ys) s t go e more drops gives grows wait now
           let ends : y.ends ≡ w.ends = ap (λ (k : KeptLexeme). k.ends) (sym new) ∙ ap (λ (e : Entry). e.ends) (sym here) ∙ same ∙ ap (λ (k : KeptLexeme). k.ends) old in
           inl (omega (arith, gives, few, ends))
       | inr (settled, few) ↦
-          let first = settled_open m l s e in
           let (near, far) = further_on m.text m.dropped m.waiting l go e in
-          let kept = take-entries l h (suc m.dropped) near (omega (arith, first, settled)) in
+          let kept = take-entries l h (suc m.dropped) near (omega (arith, settled_open m l s e, settled)) in
           let taken : (es : List Entry) → get_or (take (suc m.dropped) es) m.dropped z ≡ get_or es m.dropped z = λ es. get_or-take (suc m.dropped) es m.dropped z (omega arith) in
           let is = sym here ∙ sym (taken (entries (l ∷ h))) ∙ ap (λ es. get_or es m.dropped z) kept ∙ taken (entries h) in
           let count : front_count y ≡ front_count w = ap (λ (k : KeptLexeme). front_count k) (sym new) ∙ ap (λ (e : Entry). front_count (kept_in (spelled m) e)) is ∙ ap (λ (k : KeptLexeme). front_count k) old in
@@ -106,14 +170,7 @@ pub given_more : (d s g : ℕ) (w : Waiting) (ws : List Waiting) (es : List Kept
     TokenBody)
     → ready_in d s g (w ∷ ws) ≡ true → front_at (kept_of w) g ≡ Some b
     → given_in d s (g + 1) (kept_of w ∷ es)
-given_more d s g w ws es b ready some =
-    elim (cases_lt g w.ends) [
-      | inl more ↦ inl (omega (arith, more))
-      | inr past ↦
-          let low = known_settled d s g w ws ready (λ more. omega (arith, more, past)) in
-          let room = front_room (kept_of w) g b some in
-          inr (low, omega (arith, room))
-    ]
+given_more d s g w ws es b ready some = grind (arith, known_settled d s g w ws ready, front_room (kept_of w) g b some)
 
 -- where all that stands in front is taken, what is known is settled
 pub own_settled : (d s g : ℕ) (w : Waiting) (ws : List Waiting) → ready_in d s g (w ∷ ws) ≡ true
@@ -122,27 +179,14 @@ own_settled d s g w ws ready none = let past = front_done (kept_of w) g none in 
 
 filter_few : (p : ℕ → Bool) (xs : List ℕ) → length (filter p xs) ≤ length xs
 filter_few p [] = omega arith
-filter_few p (x ∷ xs) =
-    let rest = filter_few p xs in
-    elim (cases_Bool (p x)) [
-      | inl near ↦ rw near (omega (arith, rest))
-      | inr far ↦ rw far (omega (arith, rest))
-    ]
+filter_few p (x ∷ xs) = grind (arith, filter_few p xs)
 
 left_few : (k : Kind) (d c : ℕ) (xs : List ℕ) → length (left_by k d c xs) ≤ length xs
-left_few k d c xs =
-    elim (cases_Bool (ltb 0 d)) [
-      | inl deep ↦ rw deep (omega arith)
-      | inr flat ↦ rw flat (filter_few (λ x. leb x (keeps k c)) xs)
-    ]
+left_few k d c xs = grind (arith, filter_few (λ x. leb x (keeps k c)) xs)
 
 opened_few : (may : Bool) (c : ℕ) (xs : List ℕ) → length (opened may c xs) ≤ length xs + 1
 opened_few false c xs = omega arith
-opened_few true c xs =
-    elim (cases_Bool (ltb (indent xs) c)) [
-      | inl near ↦ rw near (let more = length-append xs (c ∷ []) in omega (arith, more))
-      | inr far ↦ rw far (omega arith)
-    ]
+opened_few true c xs = grind (arith, length-append xs (c ∷ []))
 
 -- each lexeme opens at most one level
 levels_few : (h : List Lexeme) → length (levels h) ≤ length h
@@ -158,18 +202,13 @@ levels_few (l ∷ h) =
 pub ends_few : (h : List Lexeme) (k : ℕ) (e : Entry) → k < length h
     → (get_or (entries h) k e).ends ≤ length h
 unfolding entries
-ends_few [] k e low = absurd (omega arith)
+ends_few [] k e low = absurd (omega (arith, low))
 ends_few (l ∷ h) k e low =
     elim (cases_lt k (length h)) [
-      | inl below ↦
-          let (same, lexeme) = entries_ends l h k e below in
-          let before = ends_few h k e below in
-          omega (arith, same, before)
+      | inl below ↦ grind (arith, entries_ends l h k e below, ends_few h k e below)
       | inr past ↦
           let here : length (keyed l h (entries h)) ≡ k = omega (arith, length-keyed l h (entries h), length-entries h, past, low) in
-          let z : k - k ≡ 0 = omega arith in
-          let is : get_or (entries (l ∷ h)) k e ≡ entry_of l h = get_or-append_right (keyed l h (entries h)) (entry_of l h ∷ []) k k e here (omega arith) ∙ ap (λ i. get_or (entry_of l h ∷ []) i e) z in
+          let is : get_or (entries (l ∷ h)) k e ≡ entry_of l h = get_or_at (keyed l h (entries h)) (entry_of l h) [] e k here in
           let ends : (get_or (entries (l ∷ h)) k e).ends ≡ length (levels h) - length (inside l h) = ap (λ (x : Entry). x.ends) is in
-          let few = levels_few h in
-          omega (arith, ends, few)
+          omega (arith, ends, levels_few h)
     ]

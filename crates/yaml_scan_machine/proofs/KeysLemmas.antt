@@ -1,30 +1,14 @@
 -- What a lexeme makes of the candidates of each depth, and which of them is the earliest.
 use Rattle.std.proofs.Common.{◌≡◌, ◌∙◌, ℕ, ◌+◌, ◌-◌, ◌<◌, ◌≤◌, inl, inr, true, false, eqb, ◌&&◌, List, [], ◌∷◌, ◌++◌, length, take, drop, get_or, Option, Some, None, Result, Ok, Err, OnOk, refl, sym, ap, subst, arith}
-use Rattle.std.proofs.lemmas.Bool.{cases_Bool, cases_lt, cases_order}
-use Rattle.std.proofs.lemmas.Bool.Decides.{nat_tests}
-use Rattle.std.proofs.lemmas.List.{get_or_past, get_or-drop, get_or-map, length-drop, take-append-le, take_all, length-map}
-use Rattle.yaml_scan_model.specs.declared.record.yaml_mark_t.{yaml_mark_t}
-use Rattle.yaml_scan_history.specs.declared.lexeme.Lexeme.{Lexeme}
-use Rattle.yaml_scan_history.specs.Kinds.{cancels, depth_after}
-use Rattle.yaml_scan_history.specs.History.{Candidate, candidate, depth, fresh, is_fresh, first_open, reached, entries}
-use Rattle.yaml_scan_history.specs.declared.lexeme.Entry.{Entry}
+use Rattle.yaml_scan_machine.proofs.Words.{cases_Bool, cases_lt, cases_order, nat_tests, get_or_past, get_or-drop, get_or-map, length-drop, take_all, length-map, yaml_mark_t, Lexeme, cancels, depth_after, Candidate, candidate, depth, fresh, is_fresh, first_open, reached, entries, Entry, map, Waiting, KeptLexeme, kept_of, Fields, IsShown, kept_in, read, spelled, fields_of, history_of, Read, history, missed, next, Upto, GoesForward, candidate_below, length-entries, first_open-le, fresh_is, fresh_before, Key, Machine, text_bytes, required_in, stack_of, KeyStack, KeyView, key_at, view_of, key_view, fresh_key, AreStale, IsKey, AreKeysTo, AreKeys, Turns}
+use Rattle.std.proofs.lemmas.List.{take-append-le}
+use Rattle.yaml_scan_history.proofs.HistoryLemmas.{first_open-is, first_open-least}
+use Rattle.yaml_scan_machine.specs.Candidates.{number_in, required_view, required_at, Forgets, IsPut}
 use Rattle.yaml_scan_history.specs.declared.lexeme.Opens.TheVariants as opening
-use Rattle.std.specs.Prelude.{map}
-use Rattle.yaml_scan_queue.specs.declared.waiting.Waiting.{Waiting}
-use Rattle.yaml_scan_queue.specs.Waits.{KeptLexeme, kept_of}
-use Rattle.yaml_scan_machine.specs.Shows.{Fields, IsShown, kept_in, read, spelled, fields_of, history_of}
-use Rattle.yaml_scan_history.specs.Next.{Read, history, missed, next}
-use Rattle.yaml_scan_history.specs.Laws.{Upto, GoesForward}
-use Rattle.yaml_scan_history.proofs.HistoryLemmas.{candidate_below, length-entries, first_open-le, first_open-is, first_open-least, fresh_is, fresh_before}
-use Rattle.yaml_scan_machine.specs.declared.keys.Key.{Key}
-use Rattle.yaml_scan_machine.specs.declared.machine.Machine.{Machine}
-use Rattle.yaml_scan_decode.specs.DecodedText.{text_bytes}
-use Rattle.yaml_scan_machine.specs.Reads.{required_in}
-use Rattle.yaml_scan_machine.specs.Candidates.{stack_of, KeyStack, KeyView, key_at, view_of, key_view, fresh_key, number_in, required_view, required_at, AreStale, IsKey, AreKeysTo, AreKeys, Forgets, Turns, IsPut}
 use Rattle.yaml_scan_machine.proofs.StepLemmas.{candidate_top, none_deeper, start_is}
-use Rattle.yaml_scan_machine.proofs.NextLemmas.{settled_first, unmissed}
+use Rattle.yaml_scan_machine.proofs.NextLemmas.{required_fresh, settled_first, unmissed}
 use Rattle.yaml_scan_machine.proofs.MarkLemmas.{further_on, depth_of}
-use Rattle.yaml_scan_machine.proofs.CandidatesLemmas.{inner, top_saved, top_cancelled, if_none, no_view, stays_gone, with_key, set_key, keep_key, push_key, pop_key, pop_gone}
+use Rattle.yaml_scan_machine.proofs.CandidatesLemmas.{inner, top_saved, top_cancelled, if_none, no_view, stays_gone, with_key, set_key, push_key, gone_turns}
 
 -- ---- the steps of code
 
@@ -38,10 +22,6 @@ pub saved_turns : (l : Lexeme) (number : ℕ) (s t : KeyStack) (k : Key) → l.s
 saved_turns l number s t k saved key is n h p a u at count =
     let here : candidate n (l ∷ h) ≡ Some (record { number = number; lexeme = l }) = ap (λ d. candidate d (l ∷ h)) (sym at) ∙ top_saved l h saved ∙ ap (λ c. Some (record { number = c; lexeme = l })) (sym count) in
     subst (λ z. AreKeysTo n z (l ∷ h) l.reached) (sym is) (set_key n s l h k p l.reached a u at (ap key_view key ∙ ap view_of (sym here)))
-
-pub kept_turns : (l : Lexeme) (number : ℕ) (s : KeyStack) → l.saved ≡ false → cancels l.kind ≡ false
-    → Turns l number (λ n. n) s s
-kept_turns l number s saved idle n h p a u at count = keep_key n s l h p l.reached a u at saved idle
 
 pub cancelled_turns : (l : Lexeme) (number : ℕ) (s t : KeyStack) (k : Key) → l.saved ≡ false
     → cancels l.kind ≡ true → k.possible ≡ false → t ≡ with_key s k → Turns l number (λ n. n) s t
@@ -66,18 +46,13 @@ pub opened_turns : (l : Lexeme) (number : ℕ) (s m t : KeyStack) (k : Key)
 opened_turns l number s m t k turns none is n h p a u at count =
     subst (λ z. AreKeysTo (n + 1) z (l ∷ h) l.reached) (sym is) (push_key n m l h k l.reached (turns n h p a u at count) at none)
 
-pub popped_turns : (l : Lexeme) (number : ℕ) (s t : KeyStack)
-    → s.outer ≡ t.outer ++ t.innermost ∷ [] → t.gone ≡ s.gone → t.stale ≤ s.stale
-    → t.stale ≤ length t.outer → Turns l number (λ n. n - 1) s t
-popped_turns l number s t is same low inside n h p a u at count = pop_key n s t l h p l.reached a u at is same low inside
-
 -- Where no depth outside is kept, a closer leaves one that is forgotten, or closes none.
 pub bare_turns : (l : Lexeme) (number : ℕ) (s t : KeyStack) → l.saved ≡ false
     → cancels l.kind ≡ true → length s.outer ≡ 0 → length t.outer ≡ 0 → t.gone ≡ s.gone - 1
     → t.stale ≡ s.stale → t.innermost.possible ≡ false → Turns l number (λ n. n - 1) s t
 bare_turns l number s t saved stops none empty less stale off n h p a u at count =
     elim (cases_lt 0 s.gone) [
-      | inl some ↦ pop_gone n s t l h p l.reached a u at none empty (omega (arith, less, some)) stale off
+      | inl some ↦ gone_turns l number s t none empty (omega (arith, less, some)) stale off n h p a u at count
       | inr all ↦
           let flat : n ≡ n - 1 = omega (arith, a.long, none, all) in
           let gone : t.gone ≡ s.gone = omega (arith, less, all) in
@@ -105,23 +80,8 @@ turns_put l number deeper s t deep turns h p a u at count =
 -- a key that is a candidate is fresh where that is
 same_fresh : (k : Key) (o : Option Candidate) (p : yaml_mark_t) → key_view k ≡ view_of o
     → fresh_key k p ≡ view_of (fresh o p)
-same_fresh k None p e = let off = if_none k.possible _ e in rw off refl
-same_fresh k (Some c) p e =
-    elim (cases_Bool k.possible) [
-      | inr off ↦ let bad = rw off at e in cc
-      | inl on ↦
-          let is : Some (record { number = k.number; start = k.start; required = k.required }) ≡ view_of (Some c) = rw on at e in
-          let v : KeyView = record { number = k.number; start = k.start; required = k.required } in
-          let w : KeyView = record { number = c.number; start = c.lexeme.start; required = c.lexeme.required } in
-          let same : v ≡ w = cc in
-          let start : k.start ≡ c.lexeme.start = ap (λ (x : KeyView). x.start) same in
-          let number : k.number ≡ c.number = ap (λ (x : KeyView). x.number) same in
-          let required : k.required ≡ c.lexeme.required = ap (λ (x : KeyView). x.required) same in
-          elim (cases_Bool (is_fresh c.lexeme.start p)) [
-            | inl near ↦ rw (on, start, number, required, near) refl
-            | inr far ↦ rw (on, start, number, required, far) refl
-          ]
-    ]
+same_fresh k None p e = grind arith
+same_fresh k (Some c) p e = grind arith
 
 -- a key is fresh where its candidate is
 fresh_same : (k : Key) (o : Option Candidate) (p q : yaml_mark_t) → IsKey k o p → Upto p q
@@ -133,11 +93,6 @@ here_same : (k : Key) (o : Option Candidate) (p : yaml_mark_t) → IsKey k o p
     → fresh_key k p ≡ view_of (fresh o p)
 here_same k o p is = fresh_same k o p p is (omega arith, omega arith)
 
-viewed : (o : Option Candidate) (v : KeyView) → Some v ≡ view_of o
-    → (c : Candidate) × (o ≡ Some c) × (c.number ≡ v.number)
-viewed None v e = cc
-viewed (Some c) v e = (c, refl, let is : v ≡ record { number = c.number; start = c.lexeme.start; required = c.lexeme.required } = cc in ap (λ (x : KeyView). x.number) (sym is))
-
 view_none : (o : Option Candidate) → view_of o ≡ None → o ≡ None
 view_none None e = refl
 view_none (Some c) e = cc
@@ -146,57 +101,27 @@ required_same : (o : Option Candidate) → required_view (view_of o) ≡ require
 required_same None = refl
 required_same (Some c) = refl
 
--- a required candidate that isn't missed is fresh
-required_fresh : (o : Option Candidate) (p : yaml_mark_t) → missed o p ≡ None
-    → required_in (fresh o p) ≡ required_in o
-required_fresh None p e = refl
-required_fresh (Some c) p e =
-    elim (cases_Bool (is_fresh c.lexeme.start p)) [
-      | inl near ↦ rw near refl
-      | inr far ↦ elim (cases_Bool c.lexeme.required) [
-        | inr other ↦ rw (far, other) refl
-        | inl must ↦ let bad = rw (far, must) at e in cc
-      ]
-    ]
-
-numbered : (o : Option KeyView) (n : ℕ) → Some n ≡ number_in o
-    → (v : KeyView) × (o ≡ Some v) × (v.number ≡ n)
-numbered None n e = cc
-numbered (Some v) n e = (v, refl, let is : n ≡ v.number = cc in sym is)
-
 not_numbered : (o : Option KeyView) → None ≡ number_in o → o ≡ None
 not_numbered None e = refl
 not_numbered (Some v) e = cc
+
+found_in : (o : Option Candidate) (n : ℕ) → Some n ≡ number_in (view_of o)
+    → (c : Candidate) × (o ≡ Some c) × (c.number ≡ n)
+found_in None n e = cc
+found_in (Some c) n e = (c, refl, cc)
 
 -- the candidate whose number a key tells
 found_candidate : (k : Key) (o : Option Candidate) (p : yaml_mark_t) (n : ℕ)
     → fresh_key k p ≡ view_of (fresh o p) → Some n ≡ number_in (fresh_key k p)
     → (c : Candidate) × (fresh o p ≡ Some c) × (c.number ≡ n)
-found_candidate k o p n agrees is =
-    let (v, some, same) = numbered (fresh_key k p) n is in
-    let (c, here, number) = viewed (fresh o p) v (sym some ∙ agrees) in
-    (c, here, number ∙ same)
-
-no_candidate : (k : Key) (o : Option Candidate) (p : yaml_mark_t)
-    → fresh_key k p ≡ view_of (fresh o p) → None ≡ number_in (fresh_key k p) → fresh o p ≡ None
-no_candidate k o p agrees is = view_none (fresh o p) (sym agrees ∙ not_numbered (fresh_key k p) is)
+found_candidate k o p n agrees is = found_in (fresh o p) n (is ∙ ap number_in agrees)
 
 -- a candidate of a depth further in is a later one
 deeper_later : (h : List Lexeme) (d e : ℕ) (c x : Candidate) → candidate d h ≡ Some c
     → candidate e h ≡ Some x → d < e → c.number < x.number
 unfolding candidate
 deeper_later [] d e c x is ix deep = cc
-deeper_later (l ∷ h) d e c x is ix deep =
-    elim (candidate_top e l h x ix) [
-      | inl (a, top, s) ↦ elim (candidate_top d l h c is) [
-        | inl (z, up, t) ↦ absurd (omega (arith, z, a, deep))
-        | inr before ↦ let low = candidate_below d h c before in omega (arith, low, top)
-      ]
-      | inr was ↦ elim (candidate_top d l h c is) [
-        | inl (z, up, t) ↦ let none = inner e l h (omega (arith, z, deep)) in let bad : Some x ≡ None = sym ix ∙ none in cc
-        | inr before ↦ deeper_later h d e c x before was deep
-      ]
-    ]
+deeper_later (l ∷ h) d e c x is ix deep = grind (arith, nat_tests, candidate_top e l h x ix, candidate_top d l h c is, candidate_below d h c, inner e l h, deeper_later h d e c x)
 
 -- the candidate of a depth outside a key's, where the keys in front of that one are stale
 gone_before : (n : ℕ) (s : KeyStack) (h : List Lexeme) (p : yaml_mark_t) (i e : ℕ)
@@ -207,10 +132,9 @@ gone_before n s h p i e a low none lt =
     elim (cases_lt e s.gone) [
       | inl first ↦ a.gone e first
       | inr kept ↦
-          let j : ℕ = e - s.gone in
-          let at : s.gone + j ≡ e = omega (arith, kept) in
-          let gone = view_none (fresh (candidate (s.gone + j) h) p) (sym (here_same (key_at s j) (candidate (s.gone + j) h) p (a.agrees j (omega (arith, low, lt, at)))) ∙ none j (omega (arith, lt, at))) in
-          ap (λ z. fresh (candidate z h) p) (sym at) ∙ gone
+          let at : s.gone + (e - s.gone) ≡ e = omega arith in
+          let here = here_same (key_at s (e - s.gone)) (candidate (s.gone + (e - s.gone)) h) p (a.agrees (e - s.gone) (omega arith)) in
+          subst (λ z. fresh (candidate z h) p ≡ None) at (view_none _ (sym here ∙ none (e - s.gone) (omega arith)))
     ]
 
 -- the first key that isn't stale is the earliest open candidate
@@ -225,16 +149,9 @@ first_at h s i n a low none is =
     let least = first_open-least h d n (c, here, number) (omega (arith, below, number)) in
     let (e, (x, there, first)) = first_open-is h h (omega (arith, below, least, number)) in
     elim (cases_order d e) [
-      | inl same ↦
-          let both : Some c ≡ Some x = sym here ∙ ap (λ z. fresh (candidate z h) p) same ∙ there in
-          let eq : c ≡ x = cc in
-          sym number ∙ ap (λ (y : Candidate). y.number) eq ∙ first
-      | inr (inl inside) ↦
-          let later = deeper_later h d e c x (fresh_is (candidate d h) p c here) (fresh_is (candidate e h) p x there) inside in
-          absurd (omega (arith, later, first, number, least))
-      | inr (inr outside) ↦
-          let gone = gone_before (depth h) s h p i e a (omega (arith, low)) none outside in
-          let bad : None ≡ Some x = sym gone ∙ there in cc
+      | inl same ↦ let both : fresh (candidate d h) p ≡ fresh (candidate e h) p = ap (λ z. fresh (candidate z h) p) same in cc
+      | inr (inl inside) ↦ omega (arith, deeper_later h d e c x (fresh_is (candidate d h) p c here) (fresh_is (candidate e h) p x there) inside, first, number, least)
+      | inr (inr outside) ↦ let gone = gone_before (depth h) s h p i e a (omega (arith, low)) none outside in cc
     ]
 
 -- where all are stale no candidate is open
@@ -255,11 +172,6 @@ none_at text n s a none =
           ] in
           let bad : None ≡ Some x = sym gone ∙ there in cc
     ]
-
--- the earliest open candidate, by what the keys answer
-first_is : (h : List Lexeme) (s : KeyStack) (n : ℕ) → AreKeys s h (reached h)
-    → Some n ≡ number_in (fresh_key (key_at s s.stale) (reached h)) → n ≡ first_open h h
-first_is h s n a is = first_at h s s.stale n a a.inside a.stale is
 
 none_is : (text : List ℕ) (n : ℕ) (s : KeyStack) → let h = history text n in AreKeys s h (reached h)
     → None ≡ number_in (fresh_key (key_at s s.stale) (reached h)) → s.stale ≡ length s.outer
@@ -326,7 +238,8 @@ pub some_settles : (h : List Lexeme) (s t : KeyStack) (p : yaml_mark_t) (n : ℕ
     → Some n ≡ number_in (fresh_key (key_at t t.stale) p) → n ≡ first_open h h
 some_settles h s t p n a at is inside stale number =
     let keys = passed_keys (depth h) s t h p a is inside (stale a.stale) in
-    first_is h t n (subst (λ q. AreKeys t h q) at keys) (number ∙ ap (λ q. number_in (fresh_key (key_at t t.stale) q)) at)
+    let now : AreKeys t h (reached h) = subst (λ q. AreKeys t h q) at keys in
+    first_at h t t.stale n now now.inside now.stale (number ∙ ap (λ q. number_in (fresh_key (key_at t t.stale) q)) at)
 
 pub none_settles : (m : Machine) (t : KeyStack) → let h = history_of m in
     AreKeys (stack_of m.keys) h m.place → m.place ≡ reached h

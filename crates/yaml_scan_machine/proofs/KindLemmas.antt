@@ -1,53 +1,19 @@
 -- Reading the lexeme of a kind.
-use Rattle.std.proofs.Common.{◌≡◌, ℕ, ◌+◌, ◌<◌, ◌≤◌, Bool, true, false, cond, ltb, ◌&&◌, ◌||◌, not, List, [], ◌∷◌, length, Option, Some, None, Result, Ok, Err, refl, sym, ap, subst, ◌∙◌, inl, inr, ◌⊎◌, arith}
-use Rattle.std.proofs.lemmas.Bool.{cases_Bool, and_parts}
-use Rattle.std.proofs.lemmas.List.{length-map}
-use Rattle.std.specs.Prelude.{is_some, IfOk}
-use Rattle.yaml_scan_model.specs.declared.record.yaml_mark_t.{yaml_mark_t}
+use Rattle.std.proofs.Common.{◌≡◌, ℕ, ◌+◌, ◌<◌, ◌≤◌, Bool, true, false, cond, ltb, ◌&&◌, ◌||◌, not, List, [], ◌∷◌, length, Option, Some, None, Result, Ok, Err, refl, sym, ap, subst, ◌∙◌, inl, inr, arith}
+use Rattle.yaml_scan_machine.proofs.Words.{cases_Bool, and_parts, length-map, is_some, yaml_mark_t, ScanFault, ScanError, Place, mark_at, splits_break, body_of, zero_mark, Wrong, Gap, gap_at, Kind, Lexeme, is_value, is_start, is_end, may_be_key, Candidate, candidate, fresh, has, reached, depth, placed, levels, found_by, WordText, word_at, kind_at, Next, Read, Fails, Ends, colon_missing, next, history, first_lexeme, allowed_behind, finished, misplaced, missed, lost_by, behind, unless_missed, no_colon, unless_wrong, unless_lost, of_kind, SpelledText, body_in, Machine, Waiting, kept_of, Answer, IsPlace, ReadsWord, Fields, fields_of, IsShown, read, Picks, history_of, stream_of, required_in, late, lost, required_behind, keyed_by, GivesNext, Stops, text_bytes, Upto}
+use Rattle.std.specs.Prelude.{IfOk}
 use Rattle.yaml_scan_model.specs.declared.token.yaml_token_body_t.{yaml_token_body_t}
-use Rattle.yaml_scan_model.specs.declared.problem.ScanFault.{ScanFault}
-use Rattle.yaml_scan_model.specs.declared.problem.Problem.TheVariants as problems
-use Rattle.yaml_scan_model.specs.declared.problem.Context.TheVariants as contexts
-use Rattle.yaml_scan_model.specs.declared.problem.ScanError.{ScanError}
-use Rattle.yaml_scan_model.specs.declared.problem.ScanError.TheVariants as errors
-use Rattle.yaml_scan_model.specs.Marks.{Place, mark_at, splits_break}
-use Rattle.yaml_scan_model.specs.Tokens.{body_of, stream_start, zero_mark}
-use Rattle.yaml_scan_model.specs.Wrong.{Wrong}
-use Rattle.yaml_scan_words.specs.Between.{Gap, gap_at}
-use Rattle.yaml_scan_history.specs.declared.kind.Kind.{Kind}
-use Rattle.yaml_scan_history.specs.declared.kind.Kind.TheVariants as kinds
-use Rattle.yaml_scan_history.specs.declared.lexeme.Lexeme.{Lexeme}
-use Rattle.yaml_scan_history.specs.Kinds.{is_value, is_start, is_end, may_be_key}
-use Rattle.yaml_scan_history.specs.History.{Candidate, candidate, fresh, has, reached, depth, placed, levels, found_by}
-use Rattle.yaml_scan_history.specs.Words.{WordText, word_at, kind_at}
-use Rattle.yaml_scan_history.specs.Next.{Next, Read, Fails, Ends, next, history, first_lexeme, not_allowed_by, allowed_behind, finished, misplaced, missed, lost_by}
-use Rattle.yaml_scan_history.specs.Stepwise.{behind, unless_missed, no_colon, no_token, not_allowed, tested, unless_wrong, unless_lost, of_kind}
-use Rattle.yaml_scan_history.specs.Remaining.{SpelledText, body_by, body_in, body_of_word}
-use Rattle.yaml_scan_machine.specs.declared.machine.Machine.{Machine}
-use Rattle.yaml_scan_queue.specs.declared.waiting.Waiting.{Waiting}
-use Rattle.yaml_scan_queue.specs.Waits.{kept_of}
-use Rattle.yaml_scan_machine.specs.declared.next.Read.{Read as Answer}
+use Rattle.yaml_scan_model.specs.Tokens.{stream_start}
+use Rattle.yaml_scan_history.specs.Stepwise.{not_allowed}
+use Rattle.yaml_scan_history.specs.Remaining.{body_by, body_of_word}
 use Rattle.yaml_scan_machine.specs.declared.word.Word.{Word}
-use Rattle.yaml_scan_machine.specs.State.{IsPlace, Leaves}
-use Rattle.yaml_scan_machine.specs.Given.{IsWord, ReadsWord}
-use Rattle.yaml_scan_machine.specs.Shows.{Fields, fields_of, IsShown, read, Picks, history_of, stream_of}
-use Rattle.yaml_scan_machine.specs.Reads.{required_in, late, lost, required_behind, colon_fault, begun_in, keyed_by, ended_by, EndsAt, Finishes, GivesLexeme, GivesNext, IsRead}
-use Rattle.yaml_scan_machine.proofs.ReadLemmas.{gap_of, finished_kind, finished_start, finished_depth, finished_level, finished_saved, finished_required}
-use Rattle.yaml_scan_decode.specs.DecodedText.{text_bytes}
-use Rattle.yaml_scan_history.specs.Laws.{Upto}
+use Rattle.yaml_scan_machine.specs.State.{Leaves}
+use Rattle.yaml_scan_machine.specs.Given.{IsWord}
+use Rattle.yaml_scan_machine.specs.Reads.{begun_in, ended_by, EndsAt, Finishes, GivesLexeme}
+use Rattle.yaml_scan_model.specs.declared.problem.ScanError.TheVariants as errors
+use Rattle.yaml_scan_history.specs.declared.kind.Kind.TheVariants as kinds
+use Rattle.yaml_scan_machine.proofs.ReadLemmas.{gap_of, StartsAs, ended_same, finished_same}
 use Rattle.yaml_scan_machine.proofs.NextLemmas.{tested_same, lost_same, late_same, next_at, next_first, upto_gap}
-
--- the lexeme of a kind that may stand there, by the fields of a machine
-pub kind_by : (text : List ℕ) (gap : Gap) (h : List Lexeme) (k : Kind) (m : yaml_mark_t) (a : Bool)
-    (d : ℕ) (ls : List ℕ) → mark_at text gap.place ≡ m → allowed_behind h gap ≡ a → depth h ≡ d
-    → levels h ≡ ls
-    → misplaced k m a h ≡ false
-    → of_kind (Some k) text gap h ≡ unless_lost
-    (lost_by (begun_in k (placed k m) a d ls) (fresh (candidate (depth h) h) m)) text gap.place
-    (begun_in k (placed k m) a d ls) h
-kind_by text gap h k m a d ls at allow deep lev good =
-    let here : misplaced k (mark_at text gap.place) (allowed_behind h gap) h ≡ false = rw (at, allow) good in
-    rw (← at, ← allow, ← deep, ← lev, here) refl
 
 pub kind_misplaced : (text : List ℕ) (gap : Gap) (h : List Lexeme) (k : Kind) (m : yaml_mark_t)
     (a : Bool) → mark_at text gap.place ≡ m → allowed_behind h gap ≡ a → misplaced k m a h ≡ true
@@ -63,26 +29,16 @@ first_of (w ∷ ws) i lt = w
 -- there is a key where one is found
 pub picks_has : (m : Machine) (k : Kind) (o : Option Candidate) (key : Option ℕ)
     → Picks m (keyed_by k o) key → (is_value k && has o) ≡ is_some key
-picks_has m k o None none = elim (cases_Bool (is_value k)) [
-  | inr other ↦ rw other refl
-  | inl value ↦ let is : o ≡ None = rw value at none in rw (value, is) refl
-]
-picks_has m k o (Some i) (inside, (it, c, at)) =
-    elim (cases_Bool (is_value k)) [
-      | inr other ↦ let bad = rw other at c in cc
-      | inl value ↦ let is = rw value at c in rw (value, is) refl
-    ]
-
-misplaced_by : (k : Kind) (m : yaml_mark_t) (a : Bool) (h : List Lexeme) (d : ℕ) (b : Bool)
-    → depth h ≡ d → (is_value k && has (fresh (candidate (depth h) h) m)) ≡ b
-    → misplaced k m a h ≡ ((not (ltb 0 d) && not a) && (is_start k && not b))
-misplaced_by k m a h d b deep found = rw (found, deep) refl
+picks_has m k o None none = grind arith
+picks_has m k o (Some i) (inside, (it, c, at)) = grind arith
 
 -- the test of the code is that of the definition
 pub misplaced_is : (mc : Machine) (k : Kind) (m : yaml_mark_t) (a : Bool) (h : List Lexeme) (d : ℕ)
     (key : Option ℕ) → depth h ≡ d → Picks mc (keyed_by k (fresh (candidate d h) m)) key
     → misplaced k m a h ≡ ((not (ltb 0 d) && not a) && (is_start k && not (is_some key)))
-misplaced_is mc k m a h d key deep picks = misplaced_by k m a h d (is_some key) deep (ap (λ x. is_value k && has (fresh (candidate x h) m)) deep ∙ picks_has mc k (fresh (candidate d h) m) key picks)
+misplaced_is mc k m a h d key deep picks =
+    let found = picks_has mc k (fresh (candidate d h) m) key picks in
+    rw (deep, found) refl
 
 -- no word stands wrong at the end
 right_end : (k : Kind) (flow : Bool) (level : ℕ) (text : List ℕ) (p : ℕ) (w : Wrong)
@@ -91,34 +47,24 @@ unfolding word_at
 right_end kinds.StreamEnd flow level text p w e = cc
 right_end _ flow level text p w e = refl
 
-cases_Next : (x : Next)
-    → ((l : Lexeme) × (x ≡ Read l)) ⊎ (((p : ScanFault) × (x ≡ Fails p)) ⊎ (x ≡ Ends))
-cases_Next (Read l) = inl (l, refl)
-cases_Next (Fails p) = inr (inl (p, refl))
-cases_Next Ends = inr (inr refl)
+-- what the test behind a lexeme comes to
+abbrev by_test : Option yaml_mark_t → Lexeme → Next
+by_test o l = elim o as (λ _. Next) [ Some start ↦ no_colon start l.reached | None ↦ Read l ]
 
-tested_of : (o : Option yaml_mark_t) (l : Lexeme)
-    → (elim o as (λ _. Next) [ Some start ↦ no_colon start l.reached | None ↦ Read l ]) ≡ Ends → ⊥
-tested_of (Some s) l e = cc
-tested_of None l e = cc
-
-tested_some : (l : Lexeme) (h : List Lexeme) → tested l h ≡ Ends → ⊥
-tested_some l h e = tested_of (missed (candidate 0 (l ∷ h)) l.reached) l e
+tested_memory : (o : Option yaml_mark_t) (l : Lexeme) → Stops errors.Memory (by_test o l)
+tested_memory (Some s) l = tt
+tested_memory None l = tt
 
 must_end : (text : List ℕ) (l : Lexeme) (w : WordText) → (l.required ≡ true → l.saved ≡ true)
     → (finished text l w).required ≡ true → (finished text l w).saved ≡ true
-must_end text l w must e = finished_saved text l w ∙ must (sym (finished_required text l w) ∙ e)
+must_end text l w must e = let same = finished_same text l w in same.saved ∙ must (sym same.required ∙ e)
 
 pub wrong_gives : (s : SpelledText) (text : List ℕ) (at : ℕ) (place : Place) (e : ScanError)
     (x : Result WordText Wrong) (l : Lexeme) (h : List Lexeme)
     → x ≡ word_at l.kind (ltb 0 l.depth) l.level text at
     → (is_end l.kind ≡ false → l.start ≡ mark_at text at) → ReadsWord text at place (Err e) x
     → GivesLexeme s (Err e) (unless_wrong x text l h)
-wrong_gives s text at place errors.Memory (Ok w) l h is start r = elim (cases_Next (tested (finished text l w) h)) [
-  | inl (y, a) ↦ rw a tt
-  | inr (inl (p, b)) ↦ rw b tt
-  | inr (inr c) ↦ absurd (tested_some (finished text l w) h c)
-]
+wrong_gives s text at place errors.Memory (Ok w) l h is start r = tested_memory (missed (candidate 0 (finished text l w ∷ h)) (finished text l w).reached) (finished text l w)
 wrong_gives s text at place (errors.Fault f) (Ok w) l h is start r = absurd r
 wrong_gives s text at place errors.Memory (Err w) l h is start r = tt
 wrong_gives s text at place (errors.Fault f) (Err w) l h is start r =
@@ -136,30 +82,22 @@ body_other kinds.StreamStart s l other = absurd (other refl)
 body_other _ s l other = refl
 
 body_is : (s : SpelledText) (l x : Lexeme) (w : WordText) → (l.kind ≡ kinds.StreamStart → ⊥)
-    → x.kind ≡ l.kind → x.depth ≡ l.depth → x.level ≡ l.level → x.start ≡ l.start
-    → word_at l.kind (ltb 0 l.depth) l.level s.text l.start.index ≡ Ok w → body_in s x ≡ w.body
-body_is s l x w other kind deep level start reads =
-    body_other x.kind s x (λ e. other (sym kind ∙ e)) ∙ rw (kind, deep, level, start, reads) refl
+    → StartsAs l x → word_at l.kind (ltb 0 l.depth) l.level s.text l.start.index ≡ Ok w
+    → body_in s x ≡ w.body
+body_is s l x w other same reads =
+    body_other x.kind s x (λ e. other (sym same.kind ∙ e)) ∙ rw (same.kind, same.depth, same.level, same.start, reads) refl
 
-tested_none : (o : Option yaml_mark_t) (l : Lexeme) → o ≡ None
-    → (elim o as (λ _. Next) [ Some start ↦ no_colon start l.reached | None ↦ Read l ]) ≡ Read l
-tested_none None l e = refl
-tested_none (Some s) l e = cc
-
-tested_late : (o : Option yaml_mark_t) (l : Lexeme) (s : yaml_mark_t) → o ≡ Some s
-    → (elim o as (λ _. Next) [ Some start ↦ no_colon start l.reached | None ↦ Read l ])
-    ≡ no_colon s l.reached
-tested_late None l s e = cc
-tested_late (Some x) l s e = let same : x ≡ s = cc in rw same refl
-
-gives_ok : (s : SpelledText) (r : Lexeme × yaml_token_body_t) (x : Next) (l : Lexeme) → x ≡ Read l
-    → r.0 ≡ l → body_of r.1 ≡ body_in s l → GivesLexeme s (Ok r) x
-gives_ok s r x l e a b = rw e (a, b)
-
-gives_err : (s : SpelledText) (e : ScanError) (x : Next) (start place : yaml_mark_t)
-    → x ≡ no_colon start place → e ≡ errors.Fault (colon_fault start place)
-    → GivesLexeme s (Err e) x
-gives_err s e x start place is same = rw (is, same) refl
+-- the test behind a lexeme whose word is read is the definition's
+word_tested : (text : List ℕ) (n : ℕ) (word : Word) (w : WordText) (l : Lexeme)
+    (reach : yaml_mark_t) (required : Option yaml_mark_t)
+    → let h = history text n in let x = finished text l w in let y = ended_by l word reach in
+    (l.required ≡ true → l.saved ≡ true) → required ≡ required_in (fresh (candidate 0 h) (reached h))
+    → IsWord text word w → reach ≡ mark_at text w.reached
+    → (y ≡ x) × (missed (candidate 0 (x ∷ h)) x.reached ≡ late (required_behind required y) y.reached)
+word_tested text n word w l reach required must req wd stop =
+    let x = finished text l w in
+    let same = ended_is text l word w reach wd stop in
+    (same, rw (same, req) (sym (tested_same text n x x.reached (must_end text l w must))))
 
 -- a lexeme whose word is read
 pub word_gives : (s : SpelledText) (n : ℕ) (place : Place) (word : Word) (x : Result WordText Wrong)
@@ -173,32 +111,17 @@ pub word_gives : (s : SpelledText) (n : ℕ) (place : Place) (word : Word) (x : 
     → GivesLexeme s result (unless_wrong x s.text l h)
 word_gives s n place word (Err w) l reach required result is other must req r at f = absurd r
 word_gives s n place word (Ok w) l reach required (Ok res) is other must req (wd, there) at (a, b, none) =
-    let h = history s.text n in
-    let x = finished s.text l w in
-    let stop : reach ≡ mark_at s.text w.reached = at ∙ ap (λ (p : Place). mark_at p.text p.at) there in
-    let same : ended_by l word reach ≡ x = ended_is s.text l word w reach wd stop in
-    let late_at : late (required_behind (required_in (fresh (candidate 0 h) (reached h))) x) x.reached ≡ None = ap (λ o. late (required_behind o x) x.reached) (sym req) ∙ ap (λ (y : Lexeme). late (required_behind required y) y.reached) (sym same) ∙ none in
-    let safe : missed (candidate 0 (x ∷ h)) x.reached ≡ None = sym (tested_same s.text n x x.reached (must_end s.text l w must)) ∙ late_at in
-    gives_ok s res (tested x h) x (tested_none (missed (candidate 0 (x ∷ h)) x.reached) x safe) (a ∙ same)
-    (ap body_of b ∙ wd.body ∙ sym (body_is s l x w other (finished_kind s.text l w) (finished_depth s.text l w) (finished_level s.text l w) (finished_start s.text l w) (sym is)))
+    let (same, test) = word_tested s.text n word w l reach required must req wd (at ∙ ap (λ (p : Place). mark_at p.text p.at) there) in
+    subst (λ o. GivesLexeme s (Ok res) (by_test o (finished s.text l w))) (sym (test ∙ none)) (a ∙ same, ap body_of b ∙ wd.body ∙ sym (body_is s l (finished s.text l w) w other (finished_same s.text l w) (sym is)))
 word_gives s n place word (Ok w) l reach required (Err e) is other must req (wd, there) at (start, some, err) =
-    let h = history s.text n in
-    let x = finished s.text l w in
-    let stop : reach ≡ mark_at s.text w.reached = at ∙ ap (λ (p : Place). mark_at p.text p.at) there in
-    let same : ended_by l word reach ≡ x = ended_is s.text l word w reach wd stop in
-    let late_at : late (required_behind (required_in (fresh (candidate 0 h) (reached h))) x) x.reached ≡ Some start = ap (λ o. late (required_behind o x) x.reached) (sym req) ∙ ap (λ (y : Lexeme). late (required_behind required y) y.reached) (sym same) ∙ some in
-    let over : missed (candidate 0 (x ∷ h)) x.reached ≡ Some start = sym (tested_same s.text n x x.reached (must_end s.text l w must)) ∙ late_at in
-    gives_err s e (tested x h) start x.reached (tested_late (missed (candidate 0 (x ∷ h)) x.reached) x start over) (err ∙ ap (λ (y : Lexeme). errors.Fault (colon_fault start y.reached)) same)
+    let (same, test) = word_tested s.text n word w l reach required must req wd (at ∙ ap (λ (p : Place). mark_at p.text p.at) there) in
+    subst (λ o. Stops e (by_test o (finished s.text l w))) (sym (test ∙ some)) (rw err (ap (λ (y : Lexeme). colon_missing start y.reached) same))
 
 ends_at : (text : List ℕ) (l : Lexeme) (word : Word) (reach : yaml_mark_t) → IsPlace text reach
     → EndsAt text l (ended_by l word reach)
-ends_at text l word reach place = record {
-  kind = elim (is_end l.kind) as (λ b. (cond b l record l { end = word.end; reached = reach; broke = word.broke }).kind ≡ l.kind) [ true ↦ refl | false ↦ refl ];
-  start = elim (is_end l.kind) as (λ b. (cond b l record l { end = word.end; reached = reach; broke = word.broke }).start ≡ l.start) [ true ↦ refl | false ↦ refl ];
-  depth = elim (is_end l.kind) as (λ b. (cond b l record l { end = word.end; reached = reach; broke = word.broke }).depth ≡ l.depth) [ true ↦ refl | false ↦ refl ];
-  saved = elim (is_end l.kind) as (λ b. (cond b l record l { end = word.end; reached = reach; broke = word.broke }).saved ≡ l.saved) [ true ↦ refl | false ↦ refl ];
-  place = λ e. rw e place;
-}
+ends_at text l word reach place =
+    let same = ended_same l word.end reach word.broke in
+    record { kind = same.kind; start = same.start; depth = same.depth; saved = same.saved; place = λ e. rw e place }
 
 pub finished_safe : (text : List ℕ) (l : Lexeme) (word : Word) (reach : yaml_mark_t)
     (required : Option yaml_mark_t) (result : Result (Lexeme × yaml_token_body_t) ScanError)
@@ -236,22 +159,18 @@ kind_at_place text n gap k m at a d ls required l here mark allow deep lev good 
     let h = history text n in
     let b = begun_in k (placed k m) a d ls in
     let spot : mark_at text gap.place ≡ m = ap (λ p. mark_at text p) here ∙ sym mark in
-    let one = kind_by text gap h k m a d ls spot allow deep lev good in
+    let right : misplaced k (mark_at text gap.place) (allowed_behind h gap) h ≡ false = rw (spot, allow) good in
+    let one : of_kind (Some k) text gap h ≡ unless_lost (lost_by b (fresh (candidate (depth h) h) m)) text gap.place b h = rw (← spot, ← allow, ← deep, ← lev, right) refl in
     let early_in : late (required_in (fresh (candidate 0 h) (reached h))) m ≡ None = ap (λ o. late o m) (sym req) ∙ early in
     let two = lost_same text n m b (sym deep) up early_in in
     let three : gap.place ≡ (placed k m).index = here ∙ sym (ap (λ (x : yaml_mark_t). x.index) mark) ∙ sym (placed_index k m) in
     one ∙ ap (λ o. unless_lost o text gap.place b h) (sym two) ∙ ap (λ p. unless_lost (lost (required_in (fresh (candidate 0 h) (reached h))) b) text p b h) three
     ∙ ap (λ o. unless_lost (lost o b) text (placed k m).index b h) (sym req) ∙ ap (λ (x : Lexeme). unless_lost (lost required x) text x.start.index x h) (sym is)
 
-pub lost_gives : (m : Machine) (e : ScanError) (x : Next) (start place : yaml_mark_t)
-    → x ≡ no_colon start place → e ≡ errors.Fault (colon_fault start place) → GivesNext m (Err e) x
-lost_gives m e x start place is same = rw (is, same) refl
-
-pub err_gives : (m : Machine) (s : SpelledText) (e : ScanError) (x : Next) → GivesLexeme s (Err e) x
-    → GivesNext m (Err e) x
-err_gives m s e (Read l) g = g
-err_gives m s e (Fails p) g = g
-err_gives m s e Ends g = g
+-- a fault that comes is told
+pub fault_stops : (e : ScanError) (x : Next) (p : ScanFault) → x ≡ Fails p → e ≡ errors.Fault p
+    → Stops e x
+fault_stops e x p is same = rw (is, same) refl
 
 -- what is read where a lexeme of a kind stands
 pub ok_gives : (mc : Machine) (x : Next) (r : Answer) (b : Lexeme) (k : Kind) (m : yaml_mark_t)
@@ -263,13 +182,11 @@ pub ok_gives : (mc : Machine) (x : Next) (r : Answer) (b : Lexeme) (k : Kind) (m
 ok_gives mc (Fails p) r b k m a ls is g e key = g
 ok_gives mc Ends r b k m a ls is g e key = g
 ok_gives mc (Read l) r b k m a ls is (same, spoken) e key =
-    let kind : k ≡ l.kind = sym (ap (λ (x : Lexeme). x.kind) (sym same) ∙ e.kind ∙ ap (λ (x : Lexeme). x.kind) is) in
-    let deep : mc.depth ≡ l.depth = sym (ap (λ (x : Lexeme). x.depth) (sym same) ∙ e.depth ∙ ap (λ (x : Lexeme). x.depth) is) in
-    let start : placed k m ≡ l.start = sym (ap (λ (x : Lexeme). x.start) (sym same) ∙ e.start ∙ ap (λ (x : Lexeme). x.start) is) in
     let T : Option Candidate → Type 0 = λ o. Picks mc o r.key in
-    let h = history_of mc in
-    let keyed : keyed_by k (fresh (candidate mc.depth h) m) ≡ keyed_by l.kind (found_by l h) = sym (keyed_same k (candidate mc.depth h) m) ∙ ap (λ y. keyed_by k (fresh (candidate mc.depth h) y)) start ∙ ap (λ d. keyed_by k (fresh (candidate d h) l.start)) deep ∙ ap (λ y. keyed_by y (fresh (candidate l.depth h) l.start)) kind in
-    record { lexeme = same; spoken = spoken; key = subst T keyed key }
+    let kind : k ≡ l.kind = cc in
+    let deep : mc.depth ≡ l.depth = cc in
+    let start : placed k m ≡ l.start = cc in
+    record { lexeme = same; spoken = spoken; key = subst T (sym (keyed_same k (candidate mc.depth (history_of mc)) m) ∙ rw (← start, ← deep, ← kind) refl) key }
 
 reached_none : (h : List Lexeme) → length h ≡ 0 → reached h ≡ zero_mark
 reached_none [] e = refl
@@ -294,12 +211,6 @@ pub leaves_ends : (k : Kind) (mark : yaml_mark_t) (allowed : Bool) (d : ℕ) (xs
     → Leaves l.kind l.depth l.start.column xs left
 leaves_ends k mark allowed d xs left text b l value e h = rw (e.kind, e.depth, e.start, value) h
 
-first_read : (m : Machine) (r : Answer) → r.lexeme ≡ first_lexeme
-    → body_of r.body ≡ stream_start m.encoding → r.key ≡ None → IsRead m r first_lexeme
-first_read m r is body key =
-    let T : Option ℕ → Type 0 = λ k. Picks m None k in
-    record { lexeme = is; spoken = body; key = subst T (sym key) refl }
-
 pub first_gives : (m : Machine) (r : Answer) → IsShown (fields_of m) → length (history_of m) ≡ 0
     → r.lexeme ≡ record first_lexeme { start = m.place; end = m.place; reached = m.place }
     → body_of r.body ≡ stream_start m.encoding → r.key ≡ None
@@ -307,7 +218,8 @@ pub first_gives : (m : Machine) (r : Answer) → IsShown (fields_of m) → lengt
 first_gives m r s none is body key =
     let zero_at : m.place ≡ zero_mark = s.place ∙ reached_none (history_of m) none in
     let same : r.lexeme ≡ first_lexeme = is ∙ ap (λ (p : yaml_mark_t). record first_lexeme { start = p; end = p; reached = p }) zero_at in
-    rw (next_first (text_bytes m.text) (history_of m) none) (first_read m r same body key)
+    let T : Option ℕ → Type 0 = λ k. Picks m None k in
+    rw (next_first (text_bytes m.text) (history_of m) none) record { lexeme = same; spoken = body; key = subst T (sym key) refl }
 
 -- the gap behind what was read
 pub gap_by : (m : Fields) (g : Gap) → IsShown m
@@ -324,54 +236,6 @@ next_behind m g mark required s some more gap is req =
     let h = read m.text m.dropped m.waiting in
     next_at m.text h (omega (arith, s.count)) (sym s.ended ∙ more) ∙ ap (λ (y : Gap). behind m.text y h) gap
     ∙ ap (λ o. unless_missed o m.text g h) (sym (late_same (fresh (candidate 0 h) (reached h)) (mark_at m.text g.place)) ∙ ap (λ o. late o (mark_at m.text g.place)) (sym req) ∙ ap (λ y. late required y) (sym is))
-
-pub misplaced_gives : (m : Machine) (e : ScanError) (x : Next) (k : Kind) (mark : yaml_mark_t)
-    → x ≡ not_allowed k mark
-    → e ≡ errors.Fault record {
-      problem = not_allowed_by k;
-      context = contexts.Nothing;
-      context_mark
-          = mark;
-      problem_mark = mark;
-    } → GivesNext m (Err e) x
-misplaced_gives m e x k mark is same = rw (is, same) refl
-
-pub none_gives : (m : Machine) (e : ScanError) (x : Next) (mark : yaml_mark_t) → x ≡ no_token mark
-    → e ≡ errors.Fault record {
-      problem = problems.NoTokenStart;
-      context = contexts.NextToken;
-      context_mark = mark;
-      problem_mark = mark;
-    } → GivesNext m (Err e) x
-none_gives m e x mark is same = rw (is, same) refl
-
--- the lexeme of a kind, by the fields of a machine
-pub kind_machine : (mc : Machine) (gap : Gap) (k : Kind) (m : yaml_mark_t) (t : List ℕ) (at : ℕ)
-    (a : Bool) (required : Option yaml_mark_t) (l : Lexeme) (key : Option ℕ) (bad : Bool)
-    → IsShown (fields_of mc) → t ≡ text_bytes mc.text
-    → gap.place ≡ at → m ≡ mark_at t at → allowed_behind (history_of mc) gap ≡ a
-    → Picks mc (keyed_by k (fresh (candidate mc.depth (history_of mc)) m)) key
-    → bad ≡ ((not (ltb 0 mc.depth) && not a) && (is_start k && not (is_some key))) → bad ≡ false
-    → Upto (reached (history_of mc)) m
-    → required ≡ required_in (fresh (candidate 0 (history_of mc)) (reached (history_of mc)))
-    → late required m ≡ None → l ≡ begun_in k (placed k m) a mc.depth mc.levels
-    → of_kind (Some k) (text_bytes mc.text) gap (history_of mc)
-    ≡ unless_lost (lost required l) (text_bytes mc.text) l.start.index l (history_of mc)
-unfolding read
-kind_machine mc gap k m t at a required l key bad s same here mark allow picks test good up req early is =
-    let n : ℕ = mc.dropped + length (fields_of mc).waiting in
-    let right = misplaced_is mc k m a (history_of mc) mc.depth key (sym s.depth) picks ∙ sym test ∙ good in
-    kind_at_place (text_bytes mc.text) n gap k m at a mc.depth mc.levels required l here (mark ∙ ap (λ x. mark_at x at) same) allow (sym s.depth) (sym s.levels) right up req early is
-
-pub wrong_machine : (mc : Machine) (gap : Gap) (k : Kind) (m : yaml_mark_t) (t : List ℕ) (at : ℕ)
-    (a : Bool) (key : Option ℕ) (bad : Bool) → IsShown (fields_of mc) → t ≡ text_bytes mc.text
-    → gap.place ≡ at → m ≡ mark_at t at → allowed_behind (history_of mc) gap ≡ a
-    → Picks mc (keyed_by k (fresh (candidate mc.depth (history_of mc)) m)) key
-    → bad ≡ ((not (ltb 0 mc.depth) && not a) && (is_start k && not (is_some key))) → bad ≡ true
-    → of_kind (Some k) (text_bytes mc.text) gap (history_of mc) ≡ not_allowed k m
-wrong_machine mc gap k m t at a key bad s same here mark allow picks test wrong =
-    let no_way = misplaced_is mc k m a (history_of mc) mc.depth key (sym s.depth) picks ∙ sym test ∙ wrong in
-    kind_misplaced (text_bytes mc.text) gap (history_of mc) k m a (ap (λ p. mark_at (text_bytes mc.text) p) here ∙ sym (mark ∙ ap (λ x. mark_at x at) same)) allow no_way
 
 pub required_saved : (k : Kind) (start : yaml_mark_t) (a : Bool) (d : ℕ) (ls : List ℕ) (l : Lexeme)
     → l ≡ begun_in k start a d ls → l.required ≡ true → l.saved ≡ true

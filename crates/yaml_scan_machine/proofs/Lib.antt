@@ -1,6 +1,4 @@
-mod StandsLemmas
-mod LevelsLemmas
-mod WordLemmas
+mod Words
 mod SafeLemmas
 mod ReadLemmas
 mod StepLemmas
@@ -11,14 +9,10 @@ mod NextLemmas
 mod KindLemmas
 mod PushLemmas
 mod SpellLemmas
-mod FrontLemmas
 mod GivenLemmas
-mod GapLemmas
+mod WordLemmas
 mod ComesLemmas
 pub mod TakeLemmas
-mod LetterLemmas
-mod IndicatorLemmas
-mod RowLemmas
 pub mod SettledLemmas
 pub mod ToldLemmas
 pub mod FoundLemmas

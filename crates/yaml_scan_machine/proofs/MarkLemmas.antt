@@ -1,25 +1,11 @@
 -- What a lexeme does to its candidate, and how much has been read.
 use Rattle.std.proofs.Common.{◌≡◌, ℕ, zero, suc, ◌+◌, ◌<◌, ◌≤◌, true, false, List, [], ◌∷◌, ◌++◌, length, drop, get_or, Some, cond, refl, sym, ap, subst, ◌∙◌, inl, inr, arith, length-append, length-drop}
-use Rattle.std.proofs.lemmas.Bool.{cases_Bool}
-use Rattle.std.proofs.lemmas.List.{get_or_default, get_or-drop, get_or-map, length-map, map-append, map-set, drop-append-le, drop-set-add}
-use Rattle.std.proofs.Math.ListN.{set}
-use Rattle.std.specs.Prelude.{map}
-use Rattle.yaml_scan_history.specs.declared.lexeme.Lexeme.{Lexeme}
-use Rattle.yaml_scan_history.specs.declared.lexeme.Entry.{Entry}
-use Rattle.yaml_scan_queue.specs.declared.waiting.Waiting.{Waiting}
-use Rattle.yaml_scan_history.specs.declared.lexeme.Opens.{Opens}
+use Rattle.yaml_scan_machine.proofs.Words.{cases_Bool, get_or_default, get_or-drop, get_or-map, length-map, map-append, set, map, Lexeme, Entry, Waiting, Opens, is_value, is_end, depth_after, Candidate, candidate, first_open, mark_key, keyed, entries, entry_of, reached, depth, ended, found_by, inside, start_of, levels, key_allowed, history, Read, Ends, next, Upto, GoesForward, AreKeys, Fields, ShowsMachine, IsShown, all_kept, kept_in, read, settled_in, spelled, KeptLexeme, kept_of, marked, yaml_encoding_t, SpelledText, candidate_below, fresh_is, length-entries, length-keyed, first_open-le}
+use Rattle.std.proofs.lemmas.List.{map-set, drop-append-le, drop-set-add}
+use Rattle.yaml_scan_history.specs.History.{as_key}
+use Rattle.yaml_scan_history.proofs.HistoryLemmas.{first_open-grows}
 use Rattle.yaml_scan_history.specs.declared.lexeme.Opens.TheVariants as opening
-use Rattle.yaml_scan_history.specs.Kinds.{is_value, is_end, depth_after}
-use Rattle.yaml_scan_history.specs.History.{Candidate, candidate, first_open, as_key, mark_key, keyed, entries, entry_of, reached, depth, ended, found_by, inside, start_of, levels, key_allowed}
-use Rattle.yaml_scan_history.specs.Next.{history, Read, Ends, next}
-use Rattle.yaml_scan_history.specs.Laws.{Upto, GoesForward}
-use Rattle.yaml_scan_machine.proofs.ReadLemmas.{next_is, first_is, begun_at, finished_depth}
-use Rattle.yaml_scan_machine.specs.Candidates.{AreKeys}
-use Rattle.yaml_scan_machine.specs.Shows.{Fields, ShowsMachine, IsShown, all_kept, kept_in, read, settled_in, spelled}
-use Rattle.yaml_scan_queue.specs.Waits.{KeptLexeme, kept_of, keyed as marked}
-use Rattle.yaml_scan_model.specs.declared.name.yaml_encoding_t.{yaml_encoding_t}
-use Rattle.yaml_scan_history.specs.Remaining.{SpelledText}
-use Rattle.yaml_scan_history.proofs.HistoryLemmas.{candidate_below, fresh_is, length-entries, length-keyed, first_open-le, first_open-grows}
+use Rattle.yaml_scan_machine.proofs.ReadLemmas.{next_is, first_is, begun_at, finished_same}
 use Rattle.yaml_scan_machine.proofs.StepLemmas.{start_is}
 
 -- nothing comes behind the end
@@ -48,7 +34,7 @@ pub depth_of : (text : List ℕ) (h : List Lexeme) (l : Lexeme) → next text h 
     → l.depth ≡ depth h
 unfolding next
 depth_of text [] l e = ap (λ (x : Lexeme). x.depth) (first_is text l e)
-depth_of text (x ∷ h) l e = let r = next_is text x h l e in ap (λ (y : Lexeme). y.depth) r.is ∙ finished_depth text (begun_at text (x ∷ h) l.kind) r.word
+depth_of text (x ∷ h) l e = let r = next_is text x h l e in ap (λ (y : Lexeme). y.depth) r.is ∙ (finished_same text (begun_at text (x ∷ h) l.kind) r.word).depth
 
 as_key_set : (ls : List ℕ) (es : List Entry) (i : ℕ) (e : Entry) → i < length es → e ≡ get_or es i e
     → mark_key ls es i ≡ set es i (as_key ls e)

@@ -1,39 +1,13 @@
 -- Where the end wasn't read, something is to come.
-use Rattle.std.proofs.Common.{◌≡◌, ◌⊎◌, ℕ, ◌+◌, ◌<◌, ◌≤◌, Bool, true, false, ltb, List, [], ◌∷◌, ◌++◌, length, get_or, Option, Some, None, Result, Ok, Err, refl, sym, ap, subst, ◌∙◌, inl, inr, arith, length-append}
-use Rattle.std.proofs.lemmas.Bool.{cases_lt}
-use Rattle.std.proofs.lemmas.Bool.Decides.{nat_tests}
-use Rattle.std.proofs.lemmas.List.{length-map}
-use Rattle.std.specs.Prelude.{map}
-use Rattle.yaml_scan_model.specs.declared.name.yaml_encoding_t.{yaml_encoding_t}
-use Rattle.yaml_scan_model.specs.Faults.{Fault}
-use Rattle.yaml_scan_model.specs.Problems.{scanner_fault}
-use Rattle.yaml_scan_model.specs.Tokens.{Token, no_token}
-use Rattle.yaml_scan_decode.specs.declared.offence.Offence.{Offence}
-use Rattle.yaml_scan_decode.specs.DecodedText.{text_bytes}
-use Rattle.yaml_scan_decode.specs.Encodings.{encoding_of}
-use Rattle.yaml_scan_decode.specs.Decoding.{decoded_text}
-use Rattle.yaml_scan_model.specs.declared.problem.ScanFault.{ScanFault}
-use Rattle.yaml_scan_history.specs.declared.kind.Kind.{Kind}
-use Rattle.yaml_scan_history.specs.declared.lexeme.Entry.{Entry}
-use Rattle.yaml_scan_history.specs.declared.lexeme.Lexeme.{Lexeme}
-use Rattle.yaml_scan_history.specs.History.{ended, entries}
-use Rattle.yaml_scan_history.specs.Next.{Next, Read, Fails, Ends, first_lexeme, kind_behind, place_behind, lexeme_behind, no_start, stale_before, faults, first_fault_or, coming, next, history}
-use Rattle.yaml_scan_history.specs.Remaining.{SpelledText, Remaining, all, fault_in, remaining, offline}
-use Rattle.yaml_scan_history.specs.Scanned.{scanned, scanned_in}
+use Rattle.std.proofs.Common.{◌≡◌, ◌⊎◌, ℕ, ◌+◌, ◌<◌, ◌≤◌, true, false, ltb, List, [], ◌∷◌, ◌++◌, length, get_or, Option, Some, None, Result, Ok, Err, refl, sym, ap, subst, ◌∙◌, inl, inr, arith, length-append}
+use Rattle.yaml_scan_machine.proofs.Words.{cases_lt, nat_tests, map, yaml_encoding_t, Fault, scanner_fault, Token, no_token, Offence, text_bytes, encoding_of, decoded_text, ScanFault, Kind, Entry, Lexeme, ended, entries, Next, Read, Fails, Ends, first_lexeme, kind_behind, no_start, coming, next, history, SpelledText, Remaining, all, remaining, offline, scanned_in, entries_ends, Machine, Waiting, KeptLexeme, kept_of, to_come, left_in, fields_of, read, history_of, stream_of, IsMachine, ready_in, is_ready, given_in, HasMore}
+use Rattle.yaml_scan_history.specs.Next.{place_behind, lexeme_behind, stale_before, faults, first_fault_or}
+use Rattle.yaml_scan_history.specs.Remaining.{fault_in}
 use Rattle.yaml_scan_laws_order.proofs.HistoryForward.{all_ends, stays_all, history_grows}
-use Rattle.yaml_scan_laws_order.proofs.RemainingForward.{SameEnds, entries_ends, fault_is, last_comes}
-use Rattle.yaml_scan_machine.specs.declared.machine.Machine.{Machine}
-use Rattle.yaml_scan_queue.specs.declared.waiting.Waiting.{Waiting}
-use Rattle.yaml_scan_queue.specs.Waits.{KeptLexeme, kept_of}
-use Rattle.yaml_scan_machine.specs.Comes.{to_come}
-use Rattle.yaml_scan_machine.specs.Left.{left_in}
-use Rattle.yaml_scan_machine.specs.Shows.{fields_of, read, history_of, stream_of}
-use Rattle.yaml_scan_machine.specs.State.{IsMachine, ready_in, is_ready}
-use Rattle.yaml_scan_machine.specs.Taken.{given_in, front_count}
-use Rattle.yaml_scan_machine.proofs.ComesLemmas.{left_is, left_whole}
+use Rattle.yaml_scan_laws_order.proofs.RemainingForward.{fault_is, last_comes}
+use Rattle.yaml_scan_machine.proofs.ComesLemmas.{left_whole}
 use Rattle.yaml_scan_machine.proofs.SpellLemmas.{spell_length}
-use Rattle.yaml_scan_machine.proofs.GivenLemmas.{front_is, no_entry}
-use Rattle.yaml_scan_machine.specs.Found.{HasMore}
+use Rattle.yaml_scan_machine.proofs.GivenLemmas.{first_is, no_entry}
 
 -- further lexemes leave how many levels a lexeme closes
 newer_ends : (newer h : List Lexeme) (k : ℕ) (e : Entry) → k < length h
@@ -128,9 +102,7 @@ open_next text (l ∷ h) e p = coming_open (kind_behind text (l ∷ h)) text (l 
 
 not_settled : (d s g : ℕ) (w : Waiting) (ws : List Waiting) → ready_in d s g (w ∷ ws) ≡ false
     → d < s → ⊥
-not_settled d s g w ws e low =
-    let a : ltb d s ≡ true = grind (arith, nat_tests) in
-    let bad = rw a at e in cc
+not_settled d s g w ws e low = grind (arith, nat_tests)
 
 by_waiting : (m : Machine) (ws : List Waiting) → m.waiting.items ≡ ws → IsMachine m
     → is_ready m ≡ false → (next (text_bytes m.text) (history_of m) ≡ Ends → ⊥)
@@ -142,32 +114,20 @@ by_waiting m [] items i stuck unended =
     let wait : (fields_of m).waiting ≡ [] = ap (λ (ws : List Waiting). map (λ (x : Waiting). kept_of x) ws) items in
     more_comes (stream_of m) n m.dropped m.given no_entry unended (omega (arith, s.count)) (inr (subst (λ (ks : List KeptLexeme). given_in m.dropped m.settled m.given ks) wait i.given))
 by_waiting m (w ∷ ws) items i stuck unended =
-    let f = fields_of m in
-    let s = i.shown in
-    let n : ℕ = m.dropped + length f.waiting in
-    let ks = map (λ (x : Waiting). kept_of x) ws in
-    let wait : f.waiting ≡ kept_of w ∷ ks = ap (λ (ws : List Waiting). map (λ (x : Waiting). kept_of x) ws) items in
-    let first : ready_in m.dropped m.settled m.given (w ∷ ws) ≡ false = ap (λ (ws : List Waiting). ready_in m.dropped m.settled m.given ws) (sym items) ∙ stuck in
-    let (here, inside) = front_is f (kept_of w) ks no_entry s wait in
-    let ends : (get_or (entries (history_of m)) m.dropped no_entry).ends ≡ w.ends = ap (λ (k : KeptLexeme). k.ends) here in
-    let few : m.given ≤ w.ends = elim (subst (λ (ks : List KeptLexeme). given_in m.dropped m.settled m.given ks) wait i.given) [
+    let f = first_is m w ws i items in
+    let ends : (get_or (entries (history_of m)) m.dropped no_entry).ends ≡ w.ends = ap (λ (k : KeptLexeme). k.ends) f.here in
+    let few : m.given ≤ w.ends = elim f.given [
       | inl upto ↦ upto
-      | inr (low, more) ↦ absurd (not_settled m.dropped m.settled m.given w ws first low)
+      | inr (low, more) ↦ absurd (not_settled m.dropped m.settled m.given w ws (f.asks ∙ stuck) low)
     ] in
-    more_comes (stream_of m) n m.dropped m.given no_entry unended (omega (arith, s.count)) (inl (inside, omega (arith, ends, few)))
+    more_comes (stream_of m) (m.dropped + length (fields_of m).waiting) m.dropped m.given no_entry unended (omega (arith, i.shown.count)) (inl (f.inside, omega (arith, ends, few)))
 
-machine_more : (m : Machine) → IsMachine m → is_ready m ≡ false → m.ended ≡ false
+pub machine_more : (m : Machine) → IsMachine m → is_ready m ≡ false → m.ended ≡ false
     → HasMore (to_come m).tokens (to_come m).fault
 machine_more m i stuck more = by_waiting m m.waiting.items refl i stuck (open_next (text_bytes m.text) (history_of m) (sym i.shown.ended ∙ more))
 
 abbrev Comes : Remaining → Type 0
 Comes c = HasMore c.tokens c.fault
-
--- where a lexeme more was sought
-pub denied_more : (first m : Machine) → first.started ≡ true → to_come m ≡ to_come first
-    → IsMachine m → is_ready m ≡ false → m.ended ≡ false
-    → HasMore (left_in first).tokens (left_in first).fault
-denied_more first m on same i stuck more = subst Comes (same ∙ sym (left_is first on)) (machine_more m i stuck more)
 
 text_more : (s : SpelledText) → Comes (offline s)
 unfolding history

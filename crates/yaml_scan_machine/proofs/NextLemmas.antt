@@ -1,22 +1,10 @@
 -- What comes next, by the fields of a machine.
 use Rattle.std.proofs.Common.{◌≡◌, ℕ, zero, suc, ◌+◌, ◌-◌, ◌<◌, ◌≤◌, Bool, true, false, ltb, eqb, ◌&&◌, List, [], ◌∷◌, length, Option, Some, None, refl, sym, ap, subst, ◌∙◌, inl, inr, arith}
-use Rattle.std.proofs.lemmas.Bool.{cases_Bool, cases_lt, and_parts}
-use Rattle.std.proofs.lemmas.Bool.Decides.{nat_tests}
-use Rattle.yaml_scan_model.specs.declared.record.yaml_mark_t.{yaml_mark_t}
-use Rattle.yaml_scan_model.specs.Marks.{mark_at, line_at}
+use Rattle.yaml_scan_machine.proofs.Words.{cases_Bool, cases_lt, and_parts, nat_tests, yaml_mark_t, mark_at, line_at, Lexeme, cancels, may_be_key, Candidate, candidate, fresh, is_fresh, first_open, reached, depth, key_allowed, ended, Read, next, history, first_lexeme, allowed_behind, missed, lost_by, behind, Upto, stepwise, fresh_is, cases_Option, Fields, IsShown, read, settled_in, required_in, late, lost, required_behind}
 use Rattle.yaml_scan_words.proofs.PlacesLemmas.{gap_place}
-use Rattle.yaml_scan_history.specs.declared.lexeme.Lexeme.{Lexeme}
-use Rattle.yaml_scan_history.specs.Kinds.{cancels, may_be_key}
-use Rattle.yaml_scan_history.specs.History.{Candidate, candidate, fresh, is_fresh, first_open, reached, depth, key_allowed, ended}
-use Rattle.yaml_scan_history.specs.Next.{Next, Read, Fails, Ends, next, history, extended, first_lexeme, allowed_behind, missed, lost_by}
-use Rattle.yaml_scan_history.specs.Stepwise.{behind}
-use Rattle.yaml_scan_history.specs.Laws.{Upto}
-use Rattle.yaml_scan_history.proofs.StepwiseLemmas.{stepwise}
-use Rattle.yaml_scan_history.proofs.HistoryLemmas.{fresh_is, fresh_before, cases_Option}
-use Rattle.yaml_scan_machine.specs.Shows.{Fields, IsShown, read, settled_in}
-use Rattle.yaml_scan_machine.specs.Reads.{required_in, late, lost, required_behind}
-use Rattle.yaml_scan_machine.proofs.ReadLemmas.{next_is, first_is, begun_at, gap_of, finished_required, finished_depth, finished_saved}
-use Rattle.yaml_scan_machine.proofs.StepLemmas.{candidate_top}
+use Rattle.yaml_scan_machine.proofs.ReadLemmas.{next_is, first_is, begun_at, gap_of, finished_same}
+use Rattle.yaml_scan_machine.proofs.StepLemmas.{candidate_top, each_history}
+use Rattle.yaml_scan_machine.proofs.CandidatesLemmas.{stays_gone}
 
 pub next_first : (text : List ℕ) (h : List Lexeme) → length h ≡ 0 → next text h ≡ Read first_lexeme
 unfolding next
@@ -51,25 +39,14 @@ upto_gap text h is le =
 
 pub late_same : (o : Option Candidate) (p : yaml_mark_t) → late (required_in o) p ≡ missed o p
 late_same None p = refl
-late_same (Some c) p =
-    elim (cases_Bool c.lexeme.required) [
-      | inr other ↦ rw other refl
-      | inl must ↦ elim (cases_Bool (is_fresh c.lexeme.start p)) [
-        | inl near ↦ rw (must, near) refl
-        | inr far ↦ rw (must, far) refl
-      ]
-    ]
+late_same (Some c) p = grind arith
 
 -- a candidate stands at its depth
 pub candidate_depth : (d : ℕ) (h : List Lexeme) (c : Candidate) → candidate d h ≡ Some c
     → c.lexeme.depth ≡ d
 unfolding candidate
 candidate_depth d [] c is = cc
-candidate_depth d (l ∷ h) c is =
-    elim (candidate_top d l h c is) [
-      | inl (a, top, s) ↦ ap (λ (x : Lexeme). x.depth) s ∙ a
-      | inr before ↦ candidate_depth d h c before
-    ]
+candidate_depth d (l ∷ h) c is = grind (arith, candidate_top d l h c is, candidate_depth d h c)
 
 pub settled_first : (m : Fields) → IsShown m → m.ended ≡ false
     → m.settled ≡ first_open (read m.text m.dropped m.waiting) (read m.text m.dropped m.waiting)
@@ -79,40 +56,29 @@ settled_first m s more = let e = sym s.ended ∙ more in s.settled ∙ rw e refl
 -- A lexeme that is required stands outside all brackets, and may be a key.
 required_parts : (a b c : Bool) (d : ℕ) → ((a && b) && (eqb d 0 && c)) ≡ true
     → (d ≡ 0) × ((a && b) ≡ true)
-required_parts a b c d e =
-    let (p, q) = and_parts (a && b) (eqb d 0 && c) e in
-    let (r, s) = and_parts (eqb d 0) c q in
-    (grind (arith, nat_tests), p)
+required_parts a b c d e = grind (arith, nat_tests)
 
 pub required_is : (text : List ℕ) (h : List Lexeme) (l : Lexeme) → next text h ≡ Read l
     → l.required ≡ true → (l.depth ≡ 0) × (l.saved ≡ true)
 required_is text [] l e must = let bad = ap (λ (x : Lexeme). x.required) (first_is text l e) in cc
 required_is text (y ∷ h) l e must =
     let r = next_is text y h l e in
-    let b = begun_at text (y ∷ h) l.kind in
-    let at = ap (λ (x : Lexeme). x.required) r.is ∙ finished_required text b r.word in
-    let depth_at = ap (λ (x : Lexeme). x.depth) r.is ∙ finished_depth text b r.word in
-    let saved_at = ap (λ (x : Lexeme). x.saved) r.is ∙ finished_saved text b r.word in
+    let same = finished_same text (begun_at text (y ∷ h) l.kind) r.word in
+    let at = ap (λ (x : Lexeme). x.required) r.is ∙ same.required in
+    let depth_at = ap (λ (x : Lexeme). x.depth) r.is ∙ same.depth in
+    let saved_at = ap (λ (x : Lexeme). x.saved) r.is ∙ same.saved in
     let (z, so) = required_parts (allowed_behind (y ∷ h) (gap_of text (y ∷ h))) (may_be_key l.kind) _ (depth (y ∷ h)) (sym at ∙ must) in
     (depth_at ∙ z, saved_at ∙ so)
-
-shallow_after : (text : List ℕ) (h : List Lexeme) (x : Next) (d : ℕ) (c : Candidate)
-    → next text h ≡ x → (candidate d h ≡ Some c → c.lexeme.required ≡ true → d ≡ 0)
-    → candidate d (extended x h) ≡ Some c → c.lexeme.required ≡ true → d ≡ 0
-shallow_after text h (Read l) d c e before is must =
-    elim (candidate_top d l h c is) [
-      | inl (a, top, s) ↦ let (z, so) = required_is text h l e (sym (ap (λ (x : Lexeme). x.required) s) ∙ must) in sym a ∙ z
-      | inr was ↦ before was must
-    ]
-shallow_after text h (Fails p) d c e before is must = before is must
-shallow_after text h Ends d c e before is must = before is must
 
 -- a required candidate stands outside all brackets
 pub shallow : (text : List ℕ) (n d : ℕ) (c : Candidate) → candidate d (history text n) ≡ Some c
     → c.lexeme.required ≡ true → d ≡ 0
-unfolding history candidate
-shallow text zero d c is must = cc
-shallow text (suc n) d c is must = shallow_after text (history text n) (next text (history text n)) d c refl (λ was so. shallow text n d c was so) is must
+unfolding candidate
+shallow text n =
+    each_history text (λ h. (d : ℕ) (c : Candidate) → candidate d h ≡ Some c → c.lexeme.required ≡ true → d ≡ 0) (λ d c is must. cc) (λ h l before e d c is must. elim (candidate_top d l h c is) [
+      | inl (a, top, s) ↦ let (z, so) = required_is text h l e (sym (ap (λ (x : Lexeme). x.required) s) ∙ must) in sym a ∙ z
+      | inr was ↦ before d c was must
+    ]) n
 
 first_unmissed : missed (candidate 0 (first_lexeme ∷ [])) first_lexeme.reached ≡ None
 unfolding candidate
@@ -123,39 +89,21 @@ unmissed_next : (text : List ℕ) (h : List Lexeme) (l : Lexeme) → next text h
 unmissed_next text [] l e = subst (λ (x : Lexeme). missed (candidate 0 (x ∷ [])) x.reached ≡ None) (sym (first_is text l e)) first_unmissed
 unmissed_next text (y ∷ h) l e = let r = next_is text y h l e in r.tested
 
-unmissed_after : (text : List ℕ) (h : List Lexeme) (x : Next) → next text h ≡ x
-    → missed (candidate 0 h) (reached h) ≡ None
-    → missed (candidate 0 (extended x h)) (reached (extended x h)) ≡ None
-unmissed_after text h (Read l) e before = unmissed_next text h l e
-unmissed_after text h (Fails p) e before = before
-unmissed_after text h Ends e before = before
-
 -- no required candidate is stale where the last lexeme ended
 pub unmissed : (text : List ℕ) (n : ℕ)
     → missed (candidate 0 (history text n)) (reached (history text n)) ≡ None
-unfolding history candidate
-unmissed text zero = refl
-unmissed text (suc n) = unmissed_after text (history text n) (next text (history text n)) refl (unmissed text n)
+unfolding candidate
+unmissed text n = each_history text (λ h. missed (candidate 0 h) (reached h) ≡ None) refl (λ h l before e. unmissed_next text h l e) n
+
+-- a required candidate that isn't missed is fresh
+pub required_fresh : (o : Option Candidate) (p : yaml_mark_t) → missed o p ≡ None
+    → required_in (fresh o p) ≡ required_in o
+required_fresh None p e = refl
+required_fresh (Some c) p e = grind arith
 
 missed_fresh : (o : Option Candidate) (q p : yaml_mark_t) → missed o q ≡ None
     → missed (fresh o q) p ≡ missed o p
-missed_fresh None q p e = refl
-missed_fresh (Some c) q p e =
-    elim (cases_Bool (is_fresh c.lexeme.start q)) [
-      | inl near ↦ rw near refl
-      | inr far ↦ elim (cases_Bool c.lexeme.required) [
-        | inr other ↦ rw (far, other) refl
-        | inl must ↦ let bad = rw (far, must) at e in cc
-      ]
-    ]
-
-stale_later : (o : Option Candidate) (p q : yaml_mark_t) → Upto p q → fresh o p ≡ None
-    → fresh o q ≡ None
-stale_later o p q u e =
-    elim (cases_Option (fresh o q)) [
-      | inl none ↦ none
-      | inr (c, f) ↦ let bad : None ≡ Some c = sym e ∙ fresh_before o p q c f u in cc
-    ]
+missed_fresh o q p e = sym (late_same (fresh o q) p) ∙ ap (λ r. late r p) (required_fresh o q e) ∙ late_same o p
 
 pub lost_same : (text : List ℕ) (n : ℕ) (p : yaml_mark_t) (b : Lexeme) → let h = history text n in
     b.depth ≡ depth h → Upto (reached h) p
@@ -164,38 +112,9 @@ pub lost_same : (text : List ℕ) (n : ℕ) (p : yaml_mark_t) (b : Lexeme) → l
     ≡ lost_by b (fresh (candidate (depth h) h) p)
 lost_same text n p b at u early =
     let h = history text n in
-    elim (cases_lt 0 (depth h)) [
-      | inl deep ↦
-          let t : eqb b.depth 0 ≡ false = grind (arith, nat_tests) in
-          let nothing_lost : (o : Option yaml_mark_t) → lost o b ≡ None = λ o. elim o as (λ o. lost o b ≡ None) [ None ↦ refl | Some s ↦ rw t refl ] in
-          nothing_lost (required_in (fresh (candidate 0 h) (reached h))) ∙ elim (cases_Option (fresh (candidate (depth h) h) p)) [
-            | inl none ↦ rw none refl
-            | inr (c, f) ↦
-                let is = fresh_is (candidate (depth h) h) p c f in
-                let off : c.lexeme.required ≡ false = elim (cases_Bool c.lexeme.required) [ inr no_one ↦ no_one | inl must ↦ let z = shallow text n (depth h) c is must in absurd (omega arith) ] in
-                rw (f, off) refl
-          ]
-      | inr flat ↦
-          let z : depth h ≡ 0 = omega arith in
-          let t : eqb b.depth 0 ≡ true = grind (arith, nat_tests) in
-          elim (cases_Option (fresh (candidate 0 h) (reached h))) [
-            | inl none ↦ rw (z, none, stale_later (candidate 0 h) (reached h) p u none) refl
-            | inr (c, f) ↦
-                let is = fresh_is (candidate 0 h) (reached h) c f in
-                elim (cases_Bool c.lexeme.required) [
-                  | inl must ↦
-                      elim (cases_Bool (is_fresh c.lexeme.start p)) [
-                        | inl near ↦ rw (z, f, must, is, near, must, t) refl
-                        | inr far ↦ let bad = rw (f, must, far) at early in cc
-                      ]
-                  | inr off ↦
-                      elim (cases_Bool (is_fresh c.lexeme.start p)) [
-                        | inl near ↦ rw (z, f, off, is, near, off) refl
-                        | inr far ↦ rw (z, f, off, is, far) refl
-                      ]
-                ]
-          ]
-    ]
+    let outer = λ (c : Candidate) (is : fresh (candidate (depth h) h) p ≡ Some c). shallow text n (depth h) c (fresh_is (candidate (depth h) h) p c is) in
+    let stays = stays_gone (candidate 0 h) (reached h) p in
+    grind (arith, nat_tests, outer, stays, fresh_is (candidate 0 h) (reached h))
 
 -- the test behind a lexeme
 pub tested_same : (text : List ℕ) (n : ℕ) (l : Lexeme) (p : yaml_mark_t) → let h = history text n in
@@ -206,28 +125,4 @@ unfolding candidate
 tested_same text n l p must =
     let h = history text n in
     let still : late (required_in (fresh (candidate 0 h) (reached h))) p ≡ missed (candidate 0 h) p = late_same (fresh (candidate 0 h) (reached h)) p ∙ missed_fresh (candidate 0 h) (reached h) p (unmissed text n) in
-    elim (cases_lt 0 l.depth) [
-      | inl deep ↦
-          let t : eqb l.depth 0 ≡ false = grind (arith, nat_tests) in
-          let u : ltb 0 l.depth ≡ true = grind (arith, nat_tests) in
-          let v : ltb l.depth 0 ≡ false = grind (arith, nat_tests) in
-          rw (t, u, v) still
-      | inr flat ↦
-          let t : eqb l.depth 0 ≡ true = grind (arith, nat_tests) in
-          let u : ltb 0 l.depth ≡ false = grind (arith, nat_tests) in
-          elim (cases_Bool l.saved) [
-            | inl y ↦ elim (cases_Bool l.required) [
-              | inl r ↦ elim (cases_Bool (is_fresh l.start p)) [
-                | inl near ↦ rw (t, u, y, r, near) refl
-                | inr far ↦ rw (t, u, y, r, far) refl
-              ]
-              | inr off ↦ rw (t, u, y, off) refl
-            ]
-            | inr no_one ↦
-                let off : l.required ≡ false = elim (cases_Bool l.required) [ inr k ↦ k | inl r ↦ let bad = must r in cc ] in
-                elim (cases_Bool (cancels l.kind)) [
-                  | inl y ↦ rw (t, u, no_one, y, off) refl
-                  | inr k ↦ rw (t, u, no_one, k) still
-                ]
-          ]
-    ]
+    grind (arith, nat_tests, still)

@@ -1,30 +1,51 @@
--- The fields behind one more lexeme.
-use Rattle.std.proofs.Common.{◌≡◌, ℕ, ◌+◌, ◌-◌, ◌<◌, Bool, true, false, cond, ltb, eqb, ◌&&◌, ◌||◌, not, List, ◌∷◌, length, drop, get_or, Option, Some, None, refl, sym, ap, ◌∙◌, inl, inr}
-use Rattle.std.proofs.lemmas.Bool.{cases_Bool}
-use Rattle.std.proofs.Math.ListN.{set}
-use Rattle.std.specs.Prelude.{map, is_some}
-use Rattle.yaml_scan_history.specs.declared.kind.Kind.{Kind}
-use Rattle.yaml_scan_history.specs.declared.kind.Kind.TheVariants as kinds
-use Rattle.yaml_scan_history.specs.declared.lexeme.Lexeme.{Lexeme}
-use Rattle.yaml_scan_history.specs.declared.lexeme.Opens.{Opens}
-use Rattle.yaml_scan_history.specs.declared.lexeme.Opens.TheVariants as opening
-use Rattle.yaml_scan_history.specs.Kinds.{is_value, is_start, is_end, allows_key}
-use Rattle.yaml_scan_history.specs.History.{Candidate, candidate, has, first_open, entries, entry_of, levels, key_allowed, found_by, inside, start_of, level_of, opens_at, opens_of, opened}
-use Rattle.yaml_scan_history.specs.Next.{Read, next}
-use Rattle.yaml_scan_model.specs.declared.record.yaml_mark_t.{yaml_mark_t}
-use Rattle.yaml_scan_model.specs.Tokens.{TokenBody}
-use Rattle.yaml_scan_history.specs.Remaining.{body_in}
+-- The fields behind one more lexeme, and the lexemes that wait, where one of them is told what a later one makes of it.
+use Rattle.std.proofs.Common.{◌≡◌, ℕ, ◌<◌, ◌≤◌, List, length, get_or, ap, sym, subst, ◌∙◌, inl, inr, arith, refl, Result, Ok, Err, ◌+◌, ◌-◌, Bool, true, false, cond, ltb, eqb, ◌&&◌, ◌||◌, not, ◌∷◌, drop, Option, Some, None}
+use Rattle.yaml_scan_machine.proofs.Words.{set, Opens, Line, Waiting, marked, IsShort, AreInside, cases_Bool, map, is_some, Kind, Lexeme, is_value, is_start, is_end, allows_key, Candidate, candidate, has, first_open, entries, entry_of, levels, key_allowed, found_by, inside, start_of, opens_at, opened, Read, next, yaml_mark_t, TokenBody, body_in, Machine, Fields, fields_of, IsShown, all_kept, kept_in, read, settled_in, spelled, Picks, history_of, stream_of, KeptLexeme, kept_of, opens_for, keyed_by, get_or_default, fresh_is}
+use Rattle.std.proofs.lemmas.List.{length-set}
+use Rattle.std.specs.Prelude.{OnErr}
+use Rattle.yaml_scan_queue.specs.Line.{Grows}
+use Rattle.yaml_scan_history.specs.History.{level_of, opens_of}
 use Rattle.yaml_scan_laws_order.proofs.HistoryForward.{steps_below}
-use Rattle.yaml_scan_machine.specs.declared.machine.Machine.{Machine}
-use Rattle.yaml_scan_queue.specs.declared.waiting.Waiting.{Waiting}
-use Rattle.yaml_scan_machine.specs.Shows.{Fields, fields_of, IsShown, all_kept, kept_in, read, settled_in, spelled, Picks, history_of, stream_of}
-use Rattle.yaml_scan_queue.specs.Waits.{KeptLexeme, kept_of, keyed as marked}
-use Rattle.yaml_scan_machine.specs.Reads.{MarksKey, IsColumn, opens_for, keyed_by}
-use Rattle.std.proofs.lemmas.List.{get_or_default}
-use Rattle.yaml_scan_history.proofs.HistoryLemmas.{fresh_is}
+use Rattle.yaml_scan_machine.specs.Reads.{MarksKey, IsColumn}
+use Rattle.yaml_scan_history.specs.declared.kind.Kind.TheVariants as kinds
+use Rattle.yaml_scan_history.specs.declared.lexeme.Opens.TheVariants as opening
+use Rattle.yaml_scan_machine.proofs.KindLemmas.{first_of, picks_has}
+use Rattle.yaml_scan_machine.proofs.SafeLemmas.{inside_set}
 use Rattle.yaml_scan_machine.proofs.MarkLemmas.{kept_entries, keyed_some}
 use Rattle.yaml_scan_machine.proofs.NextLemmas.{candidate_depth}
-use Rattle.yaml_scan_machine.proofs.KindLemmas.{picks_has, first_of}
+
+pub marked_length : (ws new : List Waiting) (o : Opens) (i : ℕ) → i < length ws
+    → ((w : Waiting) → new ≡ set ws i (marked o (get_or ws i w))) → length new ≡ length ws
+marked_length ws new o i lt all =
+    let w = first_of ws i lt in
+    ap (λ (xs : List Waiting). length xs) (all w) ∙ length-set ws i (marked o (get_or ws i w))
+
+pub marked_inside : (ws new : List Waiting) (o : Opens) (i : ℕ) → i < length ws
+    → ((w : Waiting) → new ≡ set ws i (marked o (get_or ws i w))) → (n : ℕ) → AreInside n ws
+    → AreInside n new
+marked_inside ws new o i lt all n h =
+    let w = first_of ws i lt in
+    subst (λ (xs : List Waiting). AreInside n xs) (sym (all w)) (inside_set n (marked o (get_or ws i w)) ws i (h i w lt) h)
+
+-- A row grows where it is at least half full, and few wait where one lexeme more is read.
+pub row_grows : (m d r p : Line) → length m.items ≤ 1024 → m.slots ≤ 2049
+    → length d.items ≡ length m.items → d.slots ≡ m.slots → Grows d r → p.slots ≡ r.slots
+    → p.slots ≤ 2049
+row_grows m d r p few most count slots (inl same) kept = omega (arith, most, slots, same, kept)
+row_grows m d r p few most count slots (inr (more, half)) kept = omega (arith, few, count, more, half, kept)
+
+pub row_short : (m d r : Line) → length m.items ≤ 1024 → m.slots ≤ 2049
+    → length d.items ≡ length m.items → d.slots ≡ m.slots → r.items ≡ d.items → Grows d r
+    → IsShort r
+row_short m d r few most count slots items grows =
+    let long : length r.items ≡ length d.items = ap (λ (ws : List Waiting). length ws) items in
+    (omega (arith, few, count, long), row_grows m d r r few most count slots grows refl)
+
+pub on_err : {X Y : Type 0} → (r : Result X Y) (P : Type 0) → P → OnErr r P
+on_err (Ok x) P p = tt
+on_err (Err e) P p = p
+
+-- ---- the fields behind one more lexeme
 
 -- what was settled, by what the code finds
 pub settled_value : (x : Fields) (l : Lexeme) (h : List Lexeme) (n : ℕ)
@@ -43,40 +64,22 @@ value_start _ e = cc
 pub column_is : (mc : Machine) (k : Kind) (l : Lexeme) (o : Option Candidate) (key : Option ℕ)
     (column : ℕ) → Picks mc (keyed_by k o) key → IsColumn mc.waiting.items l key column
     → column ≡ opens_at o k l.start.column
-column_is mc k l o None column none is =
-    elim (cases_Bool (is_value k)) [
-      | inl value ↦ let no_one : o ≡ None = rw value at none in rw no_one is
-      | inr other ↦ elim o as (λ o. column ≡ opens_at o k l.start.column) [ None ↦ is | Some c ↦ rw other is ]
-    ]
+column_is mc k l None None column none is = grind arith
+column_is mc k l (Some c) None column none is = grind arith
 column_is mc k l o (Some i) column (inside, (c, it, at)) is =
     let w = first_of mc.waiting.items i inside in
-    elim (cases_Bool (is_value k)) [
-      | inl value ↦
-          let some : o ≡ Some c = rw value at it in
-          rw (some, value) (is w ∙ ap (λ (m : yaml_mark_t). m.column + 1) (at.start w))
-      | inr other ↦ let bad = rw other at it in cc
-    ]
+    let here : column ≡ c.lexeme.start.column + 1 = is w ∙ ap (λ (m : yaml_mark_t). m.column + 1) (at.start w) in
+    grind arith
 
 -- what a lexeme opens is the definition's
 pub opens_is : (mc : Machine) (l : Lexeme) (h : List Lexeme) (key : Option ℕ) (column : ℕ)
     (o : Opens) → Picks mc (keyed_by l.kind (found_by l h)) key
     → IsColumn mc.waiting.items l key column → o ≡ opens_for l.kind l.depth column (inside l h)
     → cond (is_some key) opening.Nothing o ≡ opens_of (found_by l h) l (inside l h)
-opens_is mc l h None column o none at is =
-    let no_key = picks_has mc l.kind (found_by l h) None none in
-    elim (cases_Bool (is_start l.kind)) [
-      | inr idle ↦ rw (is, idle) refl
-      | inl begins ↦ elim (cases_Bool (ltb 0 l.depth)) [
-        | inl deep ↦ rw (is, no_key, begins, deep) refl
-        | inr flat ↦ rw (is, no_key, begins, flat, at) refl
-      ]
-    ]
-opens_is mc l h (Some i) column o some at is =
-    let key = picks_has mc l.kind (found_by l h) (Some i) some in
-    elim (cases_Bool (is_start l.kind)) [
-      | inr idle ↦ rw idle refl
-      | inl begins ↦ rw (key, begins) refl
-    ]
+opens_is mc l h key column o picks at is =
+    let has_key = picks_has mc l.kind (found_by l h) key picks in
+    let wide = column_is mc l.kind l (found_by l h) key column picks at in
+    grind arith
 
 allows_same : (k : Kind) (b x y : Bool) → (is_value k && x) ≡ y
     → allows_key k b y ≡ allows_key k b x

@@ -1,18 +1,7 @@
 -- What a lexeme that is read next is made of.
-use Rattle.std.proofs.Common.{◌≡◌, ℕ, true, false, cond, ltb, ◌&&◌, List, [], ◌∷◌, Option, Some, None, is_some, Result, Ok, Err, refl, sym, ap, subst, ◌∙◌, inl, inr}
-use Rattle.std.proofs.lemmas.Bool.{cases_Bool}
-use Rattle.yaml_scan_model.specs.declared.record.yaml_mark_t.{yaml_mark_t}
-use Rattle.yaml_scan_model.specs.Marks.{mark_at}
-use Rattle.yaml_scan_model.specs.Wrong.{Wrong}
-use Rattle.yaml_scan_words.specs.Between.{Gap, gap_at}
-use Rattle.yaml_scan_history.specs.declared.kind.Kind.{Kind}
-use Rattle.yaml_scan_history.specs.declared.lexeme.Lexeme.{Lexeme}
-use Rattle.yaml_scan_history.specs.Kinds.{is_end, may_be_key}
-use Rattle.yaml_scan_history.specs.History.{candidate, fresh, reached, depth, key_allowed, placed}
-use Rattle.yaml_scan_history.specs.Words.{WordText, word_at, kind_at}
-use Rattle.yaml_scan_history.specs.Next.{Next, Read, kind_behind, coming, next, first_lexeme, allowed_behind, begun, finished, misplaced, missed, lost_by}
-use Rattle.yaml_scan_history.specs.Stepwise.{no_colon, unless_wrong, unless_lost, of_kind, unless_missed}
-use Rattle.yaml_scan_history.proofs.StepwiseLemmas.{stepwise}
+use Rattle.std.proofs.Common.{◌≡◌, ℕ, Bool, true, false, cond, ltb, ◌&&◌, List, [], ◌∷◌, Option, Some, None, is_some, Result, Ok, Err, refl, sym, ap, subst, ◌∙◌, inl, inr}
+use Rattle.yaml_scan_machine.proofs.Words.{cases_Bool, yaml_mark_t, mark_at, Wrong, Gap, gap_at, Kind, Lexeme, is_end, may_be_key, candidate, fresh, reached, depth, key_allowed, placed, WordText, word_at, kind_at, Next, Read, kind_behind, coming, next, first_lexeme, allowed_behind, finished, misplaced, missed, lost_by, no_colon, unless_wrong, unless_lost, of_kind, unless_missed, stepwise}
+use Rattle.yaml_scan_history.specs.Next.{begun}
 
 -- what stands between a history and the next lexeme
 abbrev pub gap_of : List ℕ → List Lexeme → Gap
@@ -31,28 +20,25 @@ pub record IsNextRead (text : List ℕ) (h : List Lexeme) (x : Lexeme) : Type 0 
   pub is : x ≡ finished text (begun_at text h x.kind) word
   pub tested : missed (candidate 0 (x ∷ h)) x.reached ≡ None
 
-pub finished_kind : (text : List ℕ) (l : Lexeme) (w : WordText) → (finished text l w).kind ≡ l.kind
-finished_kind text l w = elim (is_end l.kind) as (λ b. (cond b l record l { end = mark_at text w.end; reached = mark_at text w.reached; broke = w.broke }).kind ≡ l.kind) [ true ↦ refl | false ↦ refl ]
+-- all but the end of a lexeme
+pub record StartsAs (l x : Lexeme) : Type 0 where
+  pub kind : x.kind ≡ l.kind
+  pub start : x.start ≡ l.start
+  pub depth : x.depth ≡ l.depth
+  pub level : x.level ≡ l.level
+  pub saved : x.saved ≡ l.saved
+  pub required : x.required ≡ l.required
 
-pub finished_start : (text : List ℕ) (l : Lexeme) (w : WordText)
-    → (finished text l w).start ≡ l.start
-finished_start text l w = elim (is_end l.kind) as (λ b. (cond b l record l { end = mark_at text w.end; reached = mark_at text w.reached; broke = w.broke }).start ≡ l.start) [ true ↦ refl | false ↦ refl ]
+-- a lexeme with its end starts as without
+pub ended_same : (l : Lexeme) (end reached : yaml_mark_t) (broke : Bool)
+    → StartsAs l (cond (is_end l.kind) l record l { end = end; reached = reached; broke = broke })
+ended_same l end reached broke = elim (is_end l.kind) as (λ b. StartsAs l (cond b l record l { end = end; reached = reached; broke = broke })) [
+  | true ↦ record { kind = refl; start = refl; depth = refl; level = refl; saved = refl; required = refl }
+  | false ↦ record { kind = refl; start = refl; depth = refl; level = refl; saved = refl; required = refl }
+]
 
-pub finished_depth : (text : List ℕ) (l : Lexeme) (w : WordText)
-    → (finished text l w).depth ≡ l.depth
-finished_depth text l w = elim (is_end l.kind) as (λ b. (cond b l record l { end = mark_at text w.end; reached = mark_at text w.reached; broke = w.broke }).depth ≡ l.depth) [ true ↦ refl | false ↦ refl ]
-
-pub finished_level : (text : List ℕ) (l : Lexeme) (w : WordText)
-    → (finished text l w).level ≡ l.level
-finished_level text l w = elim (is_end l.kind) as (λ b. (cond b l record l { end = mark_at text w.end; reached = mark_at text w.reached; broke = w.broke }).level ≡ l.level) [ true ↦ refl | false ↦ refl ]
-
-pub finished_saved : (text : List ℕ) (l : Lexeme) (w : WordText)
-    → (finished text l w).saved ≡ l.saved
-finished_saved text l w = elim (is_end l.kind) as (λ b. (cond b l record l { end = mark_at text w.end; reached = mark_at text w.reached; broke = w.broke }).saved ≡ l.saved) [ true ↦ refl | false ↦ refl ]
-
-pub finished_required : (text : List ℕ) (l : Lexeme) (w : WordText)
-    → (finished text l w).required ≡ l.required
-finished_required text l w = elim (is_end l.kind) as (λ b. (cond b l record l { end = mark_at text w.end; reached = mark_at text w.reached; broke = w.broke }).required ≡ l.required) [ true ↦ refl | false ↦ refl ]
+pub finished_same : (text : List ℕ) (l : Lexeme) (w : WordText) → StartsAs l (finished text l w)
+finished_same text l w = ended_same l (mark_at text w.end) (mark_at text w.reached) w.broke
 
 tested_from : (o : Option yaml_mark_t) (l x : Lexeme)
     → (elim o as (λ _. Next) [ Some start ↦ no_colon start l.reached | None ↦ Read l ]) ≡ Read x
@@ -102,7 +88,7 @@ pub read_of : (text : List ℕ) (h : List Lexeme) (x : Lexeme) (k : Kind) (w : W
     → x ≡ finished text (begun_at text h k) w → missed (candidate 0 (x ∷ h)) x.reached ≡ None
     → IsNextRead text h x
 read_of text h x k w some reads is none =
-    let kind : k ≡ x.kind = sym (ap (λ (y : Lexeme). y.kind) is ∙ finished_kind text (begun_at text h k) w) in
+    let kind : k ≡ x.kind = sym (ap (λ (y : Lexeme). y.kind) is ∙ (finished_same text (begun_at text h k) w).kind) in
     record {
       kind = some ∙ ap Some kind;
       word = w;
@@ -130,7 +116,7 @@ next_is text y h x e =
 pub saved_is : (text : List ℕ) (y : Lexeme) (h : List Lexeme) (x : Lexeme)
     → IsNextRead text (y ∷ h) x
     → x.saved ≡ (allowed_behind (y ∷ h) (gap_of text (y ∷ h)) && may_be_key x.kind)
-saved_is text y h x r = ap (λ (z : Lexeme). z.saved) r.is ∙ finished_saved text (begun_at text (y ∷ h) x.kind) r.word
+saved_is text y h x r = ap (λ (z : Lexeme). z.saved) r.is ∙ (finished_same text (begun_at text (y ∷ h) x.kind) r.word).saved
 
 pub first_is : (text : List ℕ) (x : Lexeme) → next text [] ≡ Read x → x ≡ first_lexeme
 unfolding next

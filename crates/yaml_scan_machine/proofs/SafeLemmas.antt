@@ -1,18 +1,66 @@
--- Places, levels and waiting lexemes stay inside the text.
-use Rattle.std.proofs.Common.{◌≡◌, ℕ, zero, suc, ◌+◌, ◌<◌, ◌≤◌, Bool, true, false, cond, leb, ltb, List, [], ◌∷◌, ◌++◌, length, refl, sym, subst, ap, inl, inr, arith}
-use Rattle.std.proofs.lemmas.Bool.{cases_Bool, cases_lt}
-use Rattle.std.proofs.lemmas.Bool.Decides.{nat_tests}
+-- Levels as lists of columns; places, levels and waiting lexemes stay inside the text.
+use Rattle.std.proofs.Common.{◌≡◌, ℕ, suc, ◌<◌, ◌≤◌, true, leb, List, [], ◌∷◌, ◌++◌, length, take, get_or, refl, sym, ◌∙◌, inl, inr, arith, get_or-take, length-append, zero, ◌+◌, Bool, false, cond, ltb, ap}
+use Rattle.yaml_scan_machine.proofs.Words.{get_or_at, cases_lt, nat_tests, length-take-le, get_or_append_left, slice_index, indent, IsRising, left_of, cases_Bool, yaml_mark_t, line_at, column_at, starts, byte, Kind, is_end, depth_after, opened, placed, keeps, left_by, Waiting, IsPlace, IsNarrow, AreInside, ready_in}
 use Rattle.std.specs.Prelude.{slice_set}
-use Rattle.yaml_scan_model.specs.declared.record.yaml_mark_t.{yaml_mark_t}
-use Rattle.yaml_scan_model.specs.Marks.{line_at, column_at, splits_break, splits_of, ends_break, starts, byte}
-use Rattle.yaml_scan_history.specs.declared.kind.Kind.{Kind}
+use Rattle.yaml_scan_model.specs.Marks.{splits_of, ends_break}
 use Rattle.yaml_scan_history.specs.declared.kind.Kind.TheVariants as kinds
-use Rattle.yaml_scan_history.specs.Kinds.{is_end, depth_after}
-use Rattle.yaml_scan_history.specs.History.{indent, opened, placed, keeps, left_by}
-use Rattle.yaml_scan_queue.specs.declared.waiting.Waiting.{Waiting}
-use Rattle.yaml_scan_machine.specs.Rising.{left_of}
-use Rattle.yaml_scan_machine.specs.State.{IsPlace, IsNarrow, AreInside, ready_in}
-use Rattle.yaml_scan_machine.proofs.LevelsLemmas.{indent_last}
+
+-- the innermost level stands last
+pub indent_last : (x : ℕ) (xs : List ℕ) → get_or (x ∷ xs) (length xs) 0 ≡ indent (x ∷ xs)
+unfolding indent
+indent_last x [] = refl
+indent_last x (y ∷ ys) = indent_last y ys
+
+pub indent_end : (xs : List ℕ) (n : ℕ) → length xs ≡ suc n → get_or xs n 0 ≡ indent xs
+indent_end [] n e = cc
+indent_end (x ∷ xs) n e = let same : n ≡ length xs = omega (arith, e) in rw same (indent_last x xs)
+
+pub indent_take : (xs : List ℕ) (n : ℕ) → n < length xs → get_or xs n 0 ≡ indent (take (suc n) xs)
+indent_take xs n lt = sym (get_or-take (suc n) xs n 0 (omega arith)) ∙ indent_end (take (suc n) xs) n (length-take-le (suc n) xs (omega arith))
+
+pub indent_none : (xs : List ℕ) → indent (take 0 xs) ≡ 0
+unfolding indent
+indent_none xs = refl
+
+-- all that is not right of a column is left
+pub left_all : (c : ℕ) (xs : List ℕ) → ((k : ℕ) → k < length xs → slice_index xs k ≤ c)
+    → left_of c xs ≡ xs
+left_all c [] h = refl
+left_all c (x ∷ xs) h =
+    let first : x ≤ c = h 0 (omega arith) in
+    let rest = left_all c xs (λ k lt. h (suc k) (omega arith)) in
+    let t : leb x c ≡ true = grind (arith, nat_tests) in
+    rw (t, rest) refl
+
+-- each level is at most the innermost one
+pub below_indent : (xs : List ℕ) (i : ℕ) → IsRising xs → i < length xs
+    → slice_index xs i ≤ indent xs
+below_indent [] i r lt = absurd (omega arith)
+below_indent (x ∷ xs) i r lt =
+    let last = indent_last x xs in
+    let low = r i (length xs) (omega arith) (omega arith) in
+    omega (arith, low, last)
+
+pub snoc_at : (xs : List ℕ) (c : ℕ) → get_or (xs ++ c ∷ []) (length xs) 0 ≡ c
+snoc_at [] c = refl
+snoc_at (x ∷ xs) c = snoc_at xs c
+
+-- a level right of the indent stands at the end
+pub rising_more : (xs : List ℕ) (c : ℕ) → IsRising xs → indent xs < c → IsRising (xs ++ c ∷ [])
+rising_more xs c r more = λ i j le lt.
+    let len = length-append xs (c ∷ []) in
+    let old = λ (k : ℕ). get_or_append_left xs (c ∷ []) 0 k in
+    elim (cases_lt j (length xs)) [
+      | inl low ↦ omega (arith, old i (omega arith), old j low, r i j le low)
+      | inr high ↦
+          let b : get_or (xs ++ c ∷ []) j 0 ≡ c = get_or_at xs c [] 0 j (omega (arith, len)) in
+          elim (cases_lt i (length xs)) [
+            | inl low ↦ omega (arith, old i low, below_indent xs i r low, b)
+            | inr same ↦ let is : i ≡ j = omega arith in rw is (omega arith)
+          ]
+    ]
+
+-- ---- places, levels and waiting lexemes stay inside the text
 
 more-le : (b : Bool) (n m : ℕ) → n ≤ m → n + cond b 1 0 ≤ suc m
 more-le true n m h = omega (arith, h)
@@ -45,24 +93,11 @@ mark_column text m h =
     omega (arith, low, is, h.inside)
 
 pub placed_column : (k : Kind) (m : yaml_mark_t) → (placed k m).column ≤ m.column
-placed_column k m =
-    let t : Bool = is_end k in
-    elim (cases_Bool (is_end k)) [
-      | inr more ↦ rw more (omega arith)
-      | inl over ↦
-          elim (cases_Bool (ltb 0 m.column)) [
-            | inl right ↦ rw (over, right) (omega arith)
-            | inr left ↦ rw (over, left) (omega arith)
-          ]
-    ]
-
-pub start_whole : (text : List ℕ) → splits_break text 0 ≡ false
-unfolding splits_of
-start_whole text = grind (arith, nat_tests)
+placed_column k m = grind arith
 
 pub start_place : (text : List ℕ) → IsPlace text record { index = 0; line = 0; column = 0 }
-unfolding line_at column_at
-start_place text = record { inside = omega arith; mark = refl; whole = start_whole text }
+unfolding line_at column_at splits_of
+start_place text = record { inside = omega arith; mark = refl; whole = grind (arith, nat_tests) }
 
 pub narrow_indent : (n : ℕ) (xs : List ℕ) → IsNarrow n xs → indent xs ≤ n
 unfolding indent
@@ -78,12 +113,7 @@ narrow_none n k = omega arith
 
 pub narrow_left : (n c : ℕ) (xs : List ℕ) → IsNarrow n xs → IsNarrow n (left_of c xs)
 narrow_left n c [] h = h
-narrow_left n c (x ∷ xs) h =
-    let rest = narrow_left n c xs (λ k. h (suc k)) in
-    elim (cases_Bool (leb x c)) [
-      | inl near ↦ rw near (narrow_cons n x (left_of c xs) (h 0) rest)
-      | inr far ↦ rw far rest
-    ]
+narrow_left n c (x ∷ xs) h = grind (arith, narrow_cons n x (left_of c xs) (h 0), narrow_left n c xs (λ k. h (suc k)))
 
 pub narrow_left_by : (n : ℕ) (k : Kind) (d column : ℕ) (xs : List ℕ) → IsNarrow n xs
     → IsNarrow n (left_by k d column xs)
@@ -96,13 +126,6 @@ narrow_left_by n k d column xs h =
 narrow_snoc : (n c : ℕ) (xs : List ℕ) → c ≤ n → IsNarrow n xs → IsNarrow n (xs ++ c ∷ [])
 narrow_snoc n c [] low h = narrow_cons n c [] low h
 narrow_snoc n c (x ∷ xs) low h = narrow_cons n x (xs ++ c ∷ []) (h 0) (narrow_snoc n c xs low (λ k. h (suc k)))
-
-pub narrow_opened : (n c : ℕ) (xs : List ℕ) → c ≤ n → IsNarrow n xs → IsNarrow n (opened true c xs)
-narrow_opened n c xs low h =
-    elim (cases_Bool (ltb (indent xs) c)) [
-      | inl near ↦ rw near (narrow_snoc n c xs low h)
-      | inr far ↦ rw far h
-    ]
 
 pub inside_rest : (n : ℕ) (w : Waiting) (ws : List Waiting) → AreInside n (w ∷ ws) → AreInside n ws
 inside_rest n w ws h k d lt = h (suc k) d (omega arith)
@@ -126,27 +149,13 @@ inside_set n w (x ∷ xs) (suc i) low h = inside_cons n x (slice_set xs i w) (h 
 -- what is known and no BLOCK-END is settled
 pub known_settled : (d s g : ℕ) (w : Waiting) (ws : List Waiting) → ready_in d s g (w ∷ ws) ≡ true
     → (g < w.ends → ⊥) → d < s
-known_settled d s g w ws ready past =
-    elim (cases_lt d s) [
-      | inl low ↦ low
-      | inr high ↦
-          elim (cases_lt g w.ends) [
-            | inl more ↦ absurd (past more)
-            | inr over ↦
-                let a : ltb d s ≡ false = grind (arith, nat_tests) in
-                let b : ltb g w.ends ≡ false = grind (arith, nat_tests) in
-                let bad : false ≡ true = rw (a, b) at ready in cc
-          ]
-    ]
+known_settled d s g w ws ready past = grind (arith, nat_tests)
 
 pub depth_after-le : (k : Kind) (d : ℕ) → depth_after k d ≤ d + 1
 depth_after-le kinds.FlowSequenceStart d = omega arith
-depth_after-le kinds.FlowMappingStart d = omega arith
-depth_after-le kinds.FlowSequenceEnd d = omega arith
-depth_after-le kinds.FlowMappingEnd d = omega arith
 depth_after-le _ d = omega arith
 
 pub narrow_by : (n c : ℕ) (may : Bool) (xs new : List ℕ) → c ≤ n → IsNarrow n xs
     → new ≡ opened may c xs → IsNarrow n new
-narrow_by n c true xs new low h is = subst (λ (ys : List ℕ). IsNarrow n ys) (sym is) (narrow_opened n c xs low h)
-narrow_by n c false xs new low h is = subst (λ (ys : List ℕ). IsNarrow n ys) (sym is) h
+narrow_by n c false xs new low h is = rw is h
+narrow_by n c true xs new low h is = let more = narrow_snoc n c xs low h in grind arith

@@ -1,37 +1,15 @@
 -- The next token is known where the lexemes that were read settle it.
 use Rattle.std.proofs.Common.{◌≡◌, ℕ, zero, suc, ◌+◌, ◌-◌, ◌<◌, ◌≤◌, Bool, true, false, ltb, List, [], ◌∷◌, ◌++◌, length, take, drop, get_or, Result, Ok, Err, refl, sym, ap, subst, ◌∙◌, inl, inr, arith, length-append}
-use Rattle.std.proofs.lemmas.Bool.{cases_Bool, cases_lt}
-use Rattle.std.proofs.lemmas.Bool.Decides.{nat_tests}
-use Rattle.std.proofs.lemmas.List.{length-map, length-drop}
-use Rattle.std.specs.Prelude.{map}
-use Rattle.std.specs.List.{flat_map}
-use Rattle.yaml_scan_model.specs.declared.name.yaml_encoding_t.{yaml_encoding_t}
-use Rattle.yaml_scan_model.specs.Tokens.{Token}
-use Rattle.yaml_scan_decode.specs.DecodedText.{text_bytes}
-use Rattle.yaml_scan_decode.specs.declared.offence.Offence.{Offence}
-use Rattle.yaml_scan_decode.specs.Encodings.{encoding_of}
-use Rattle.yaml_scan_decode.specs.Decoding.{decoded_text}
-use Rattle.yaml_scan_history.specs.declared.lexeme.Lexeme.{Lexeme}
-use Rattle.yaml_scan_history.specs.declared.lexeme.Entry.{Entry}
-use Rattle.yaml_scan_history.specs.History.{ended, entries, first_open}
-use Rattle.yaml_scan_history.specs.Next.{next, history}
-use Rattle.yaml_scan_history.specs.Remaining.{SpelledText, all, handed, spell, kept_of, front_ends, Remaining, remaining, offline}
-use Rattle.yaml_scan_history.specs.Scanned.{scanned_in}
-use Rattle.yaml_scan_history.proofs.HistoryLemmas.{length-entries}
-use Rattle.yaml_scan_laws_order.proofs.RemainingForward.{Known, known_settled, known_ended, known_next, tokens_is, front_count, front_none, ends_token}
-use Rattle.yaml_scan_machine.specs.declared.machine.Machine.{Machine}
-use Rattle.yaml_scan_queue.specs.declared.waiting.Waiting.{Waiting}
-use Rattle.yaml_scan_queue.specs.Waits.{KeptLexeme, kept_of as waits_as}
-use Rattle.yaml_scan_machine.specs.Taken.{given_in, front_count as count_in_front}
-use Rattle.yaml_scan_machine.specs.Comes.{to_come}
-use Rattle.yaml_scan_machine.specs.Left.{left_in}
-use Rattle.yaml_scan_machine.specs.Shows.{fields_of, read, settled_in, kept_in, stream_of}
-use Rattle.yaml_scan_machine.specs.State.{IsMachine, ready_in, is_ready}
+use Rattle.yaml_scan_machine.proofs.Words.{cases_Bool, cases_lt, nat_tests, length-map, length-drop, map, flat_map, yaml_encoding_t, Token, text_bytes, Offence, encoding_of, decoded_text, Lexeme, Entry, ended, entries, first_open, next, history, SpelledText, all, handed, spell, front_ends, Remaining, remaining, offline, scanned_in, length-entries, tokens_is, front_none, ends_token, Machine, Waiting, KeptLexeme, given_in, to_come, left_in, fields_of, read, settled_in, kept_in, stream_of, IsMachine, ready_in, is_ready, settled_tokens}
+use Rattle.yaml_scan_history.specs.Remaining.{kept_of}
+use Rattle.yaml_scan_laws_order.proofs.RemainingForward.{Known, known_settled, known_ended, known_next, front_count}
+use Rattle.yaml_scan_queue.specs.Waits.{kept_of as waits_as}
+use Rattle.yaml_scan_machine.specs.Taken.{front_count as count_in_front}
+use Rattle.yaml_scan_machine.specs.Settled.{open_of, open_count}
 use Rattle.yaml_scan_machine.proofs.MarkLemmas.{next_ended}
 use Rattle.yaml_scan_machine.proofs.SpellLemmas.{spell_length}
-use Rattle.yaml_scan_machine.proofs.GivenLemmas.{front_is, no_entry, given_few}
+use Rattle.yaml_scan_machine.proofs.GivenLemmas.{first_is, no_entry, given_few}
 use Rattle.yaml_scan_machine.proofs.ComesLemmas.{left_is, left_whole}
-use Rattle.yaml_scan_machine.specs.Settled.{settled_tokens, open_of, open_count}
 
 -- how many tokens lexemes are spelled out in
 abbrev count : SpelledText → List Entry → ℕ
@@ -72,20 +50,11 @@ left_length s k given = ap length (tokens_is s k given) ∙ length-drop given _
 -- what is known of the lexemes that no later one changes
 pub known_upto : (text : List ℕ) (n m : ℕ) → m ≤ settled_in (history text n) → Known text n m
 unfolding settled_in
-known_upto text n m low =
-    let h = history text n in
-    elim (cases_Bool (ended h)) [
-      | inl over ↦ known_ended text n m (next_ended text h over) (let e : settled_in h ≡ length h = rw over refl in omega (arith, low, e))
-      | inr more ↦ known_settled text n m (let e : settled_in h ≡ first_open h h = rw more refl in omega (arith, low, e))
-    ]
+known_upto text n m low = grind (arith, known_ended text n m, known_settled text n m, next_ended text (history text n))
 
 pub settled_open : (h : List Lexeme) → settled_in h < length h → settled_in h ≡ first_open h h
 unfolding settled_in
-settled_open h low =
-    elim (cases_Bool (ended h)) [
-      | inl over ↦ let e : settled_in h ≡ length h = rw over refl in absurd (omega (arith, low, e))
-      | inr more ↦ rw more refl
-    ]
+settled_open h low = grind arith
 
 -- how many BLOCK-END tokens are told in front of the first lexeme that isn't settled
 abbrev fronts : List Lexeme → ℕ
@@ -166,14 +135,7 @@ tells_true u l low = record { is = grind (arith, nat_tests); few = omega (arith,
 
 tells_by : (u l given ends c : ℕ) → u ≡ c - ends → l ≡ c - given → ends ≤ c → given ≤ ends
     → Tells (ltb given ends) u l
-tells_by u l given ends c e f room few =
-    elim (cases_lt given ends) [
-      | inl low ↦ let t : ltb given ends ≡ true = grind (arith, nat_tests) in rw t (tells_true u l (omega (arith, e, f, room, low)))
-      | inr high ↦
-          let t : ltb given ends ≡ false = grind (arith, nat_tests) in
-          let least : l ≤ u = omega (arith, e, f, room, high) in
-          rw t record { is = grind (arith, nat_tests); few = omega (arith, e, f, few) }
-    ]
+tells_by u l given ends c e f room few = record { is = grind (arith, nat_tests); few = omega arith }
 
 by_items : (m : Machine) (ws : List Waiting) → m.waiting.items ≡ ws → IsMachine m
     → Tells (ready_in m.dropped m.settled m.given ws)
@@ -199,22 +161,17 @@ by_items m [] items i =
     record { is = (let equal : length (to_come m).tokens ≡ from s m.dropped = omega (arith, left, given) in grind (arith, nat_tests)); few = omega (arith, opened, left, given) }
 by_items m (w ∷ ws) items i =
     let s = stream_of m in
-    let f = fields_of m in
-    let n : ℕ = m.dropped + length f.waiting in
+    let n : ℕ = m.dropped + length (fields_of m).waiting in
     let h = history s.text n in
-    let ks = map (λ (x : Waiting). waits_as x) ws in
-    let wait : f.waiting ≡ waits_as w ∷ ks = ap (λ (ws : List Waiting). map (λ (x : Waiting). waits_as x) ws) items in
-    let (here, inside) = front_is f (waits_as w) ks no_entry i.shown wait in
-    let given : given_in m.dropped m.settled m.given (waits_as w ∷ ks) = subst (λ (ks : List KeptLexeme). given_in m.dropped m.settled m.given ks) wait i.given in
-    let long : length f.waiting ≡ length ws + 1 = ap length wait ∙ omega (arith, length-map ws (λ (x : Waiting). waits_as x)) in
-    let number : n ≡ m.dropped + length (w ∷ ws) = omega (arith, long) in
     let x = get_or (entries h) m.dropped no_entry in
+    let f = first_is m w ws i items in
+    let number : n ≡ m.dropped + length (w ∷ ws) = omega (arith, length-map m.waiting.items (λ (x : Waiting). waits_as x), ap (λ (ws : List Waiting). length ws) items) in
     let unset : length (offline s).tokens - length (settled_tokens s (m.dropped + length (w ∷ ws))) ≡ from s (settled_in h) - fronts h = ap (λ k. length (offline s).tokens - length (settled_tokens s k)) (sym number) ∙ open_is s n in
     let left : length (to_come m).tokens ≡ from s m.dropped - m.given = left_length s m.dropped m.given in
     elim (cases_lt m.dropped m.settled) [
       | inl low ↦
-          let few = given_few m.dropped m.settled m.given (waits_as w) ks given in
-          let count : count_in_front (kept_in s x) ≡ count_in_front (waits_as w) = ap (λ (y : KeptLexeme). count_in_front y) here in
+          let few = given_few m.dropped m.settled m.given (waits_as w) (map (λ (x : Waiting). waits_as x) ws) f.given in
+          let count : count_in_front (kept_in s x) ≡ count_in_front (waits_as w) = ap (λ (y : KeptLexeme). count_in_front y) f.here in
           let spelled = spell_length s x in
           let more = before_open s n m.dropped m.given (omega (arith, low, i.shown.settled)) (omega (arith, few, count, spelled)) in
           let t : ltb m.dropped m.settled ≡ true = grind (arith, nat_tests) in
@@ -222,9 +179,9 @@ by_items m (w ∷ ws) items i =
       | inr high ↦
           let at : settled_in h ≡ m.dropped = omega (arith, i.shown.settled, i.taken, high) in
           let same : from s (settled_in h) ≡ from s m.dropped = ap (λ k. from s k) at in
-          let ends : fronts h ≡ w.ends = ap (λ k. length (front_ends (drop k (entries h)))) at ∙ front_count (entries h) m.dropped no_entry (omega (arith, inside, length-entries h)) ∙ ap (λ (y : KeptLexeme). y.ends) here in
+          let ends : fronts h ≡ w.ends = ap (λ k. length (front_ends (drop k (entries h)))) at ∙ front_count (entries h) m.dropped no_entry (omega (arith, f.inside, length-entries h)) ∙ ap (λ (y : KeptLexeme). y.ends) f.here in
           let room = fronts_come s n in
-          let upto : m.given ≤ w.ends = elim given [
+          let upto : m.given ≤ w.ends = elim f.given [
             | inl few ↦ few
             | inr (low, few) ↦ absurd (omega (arith, low, high))
           ] in

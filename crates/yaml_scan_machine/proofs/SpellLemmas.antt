@@ -1,18 +1,11 @@
 -- How a lexeme is spelled out, a token at a time.
 use Rattle.std.proofs.Common.{◌≡◌, ℕ, zero, suc, ◌+◌, ◌-◌, ◌<◌, ◌≤◌, Bool, true, false, cond, ltb, eqb, List, [], ◌∷◌, ◌++◌, length, get_or, Option, Some, None, refl, ap, ◌∙◌, inl, inr, arith, append_assoc, length-append}
-use Rattle.std.proofs.lemmas.Bool.{cases_Bool, cases_lt}
-use Rattle.std.proofs.lemmas.Bool.Decides.{nat_tests}
-use Rattle.std.proofs.lemmas.List.{get_or_append_left, get_or-append_right, length-replicate, get_or-replicate}
-use Rattle.yaml_scan_model.specs.Tokens.{Token, TokenBody, block_end, block_sequence_start, block_mapping_start, key}
-use Rattle.yaml_scan_history.specs.declared.lexeme.Lexeme.{Lexeme}
-use Rattle.yaml_scan_history.specs.declared.lexeme.Entry.{Entry}
-use Rattle.yaml_scan_history.specs.declared.lexeme.Opens.{Opens}
+use Rattle.yaml_scan_machine.proofs.Words.{cases_Bool, cases_lt, nat_tests, get_or_append_left, get_or-append_right, Token, TokenBody, block_end, key, Lexeme, Entry, Opens, SpelledText, before, start_tokens, end_tokens, spell, front_at, KeptLexeme, kept_in, front_count, fronted}
+use Rattle.std.proofs.lemmas.List.{length-replicate, get_or-replicate}
+use Rattle.yaml_scan_model.specs.Tokens.{block_sequence_start, block_mapping_start}
+use Rattle.yaml_scan_history.specs.Remaining.{token_in, own_tokens}
+use Rattle.yaml_scan_queue.specs.Front.{key_at, start_at, start_count, key_count}
 use Rattle.yaml_scan_history.specs.declared.lexeme.Opens.TheVariants as opening
-use Rattle.yaml_scan_history.specs.Remaining.{SpelledText, before, token_in, start_tokens, end_tokens, own_tokens, spell}
-use Rattle.yaml_scan_queue.specs.Front.{key_at, start_at, front_at, start_count, key_count}
-use Rattle.yaml_scan_queue.specs.Waits.{KeptLexeme}
-use Rattle.yaml_scan_machine.specs.Shows.{kept_in}
-use Rattle.yaml_scan_machine.specs.Taken.{front_count, fronted}
 
 -- a token is in front where fewer are taken than stand in front
 abbrev pub Counts : ℕ → ℕ → Option TokenBody → Type 0
@@ -25,19 +18,11 @@ counts_behind a c n (Some b) low h = omega (arith, h)
 
 key_counts : (k : Bool) (n : ℕ) → Counts (key_count k) n (key_at k n)
 key_counts false n = omega arith
-key_counts true n =
-    elim (cases_Bool (eqb n 0)) [
-      | inl none ↦ let z : n ≡ 0 = grind (arith, nat_tests) in rw none (omega (arith, z))
-      | inr some ↦ let z : 0 < n = grind (arith, nat_tests) in rw some (omega (arith, z))
-    ]
+key_counts true n = grind (arith, nat_tests)
 
 behind_counts : (b : TokenBody) (k : Bool) (n : ℕ)
     → Counts (1 + key_count k) n (cond (eqb n 0) (Some b) (key_at k (n - 1)))
-behind_counts b k n =
-    elim (cases_Bool (eqb n 0)) [
-      | inl none ↦ let z : n ≡ 0 = grind (arith, nat_tests) in rw none (omega (arith, z))
-      | inr some ↦ let z : 1 ≤ n = grind (arith, nat_tests) in rw some (counts_behind 1 (key_count k) n (key_at k (n - 1)) z (key_counts k (n - 1)))
-    ]
+behind_counts b k n = grind (arith, nat_tests, counts_behind 1 (key_count k) n (key_at k (n - 1)), key_counts k (n - 1))
 
 start_counts : (o : Opens) (k : Bool) (n : ℕ)
     → Counts (start_count o + key_count k) n (start_at o k n)
@@ -47,18 +32,14 @@ start_counts opening.Mapping k n = behind_counts block_mapping_start k n
 
 pub front_counts : (e : KeptLexeme) (n : ℕ) → Counts (front_count e) n (front_at e n)
 front_counts e n =
-    elim (cases_lt n e.ends) [
-      | inl more ↦ let t : ltb n e.ends ≡ true = grind (arith, nat_tests) in rw t (omega arith)
-      | inr past ↦ let t : ltb n e.ends ≡ false = grind (arith, nat_tests) in rw t (counts_behind e.ends (start_count e.opens + key_count e.key) n (start_at e.opens e.key (n - e.ends)) past (start_counts e.opens e.key (n - e.ends)))
-    ]
+    let behind : e.ends ≤ n → Counts (front_count e) n (start_at e.opens e.key (n - e.ends)) = λ past. counts_behind e.ends (start_count e.opens + key_count e.key) n (start_at e.opens e.key (n - e.ends)) past (start_counts e.opens e.key (n - e.ends)) in
+    grind (arith, nat_tests)
 
 start_count-le : (o : Opens) (k : Bool) → start_count o + key_count k ≤ 2
 start_count-le opening.Nothing false = omega arith
 start_count-le opening.Nothing true = omega arith
-start_count-le opening.Sequence false = omega arith
-start_count-le opening.Sequence true = omega arith
-start_count-le opening.Mapping false = omega arith
-start_count-le opening.Mapping true = omega arith
+start_count-le _ false = omega arith
+start_count-le _ true = omega arith
 
 -- at most a block start and KEY stand behind the levels that a lexeme closes
 pub front_count-le : (e : KeptLexeme) → front_count e ≤ e.ends + 2
@@ -72,10 +53,8 @@ start_length : (s : SpelledText) (l : Lexeme) (o : Opens) (k : Bool)
     → length (start_tokens o l) + length (own s l k) ≡ start_count o + key_count k + 1
 start_length s l opening.Nothing false = refl
 start_length s l opening.Nothing true = refl
-start_length s l opening.Sequence false = refl
-start_length s l opening.Sequence true = refl
-start_length s l opening.Mapping false = refl
-start_length s l opening.Mapping true = refl
+start_length s l _ false = refl
+start_length s l _ true = refl
 
 -- A lexeme is spelled as what stands in front of it, and itself.
 pub spell_length : (s : SpelledText) (e : Entry)
@@ -91,24 +70,10 @@ start_token : (s : SpelledText) (l : Lexeme) (o : Opens) (k : Bool) (n : ℕ) (t
     → n ≤ start_count o + key_count k
     → get_or (start_tokens o l ++ own s l k) n t ≡ fronted (token_in s l) (start_at o k n)
 start_token s l opening.Nothing false zero t low = refl
-start_token s l opening.Nothing false (suc n) t low = absurd (omega arith)
-start_token s l opening.Nothing true zero t low = refl
-start_token s l opening.Nothing true (suc zero) t low = refl
-start_token s l opening.Nothing true (suc (suc n)) t low = absurd (omega arith)
-start_token s l opening.Sequence false zero t low = refl
-start_token s l opening.Sequence false (suc zero) t low = refl
-start_token s l opening.Sequence false (suc (suc n)) t low = absurd (omega arith)
-start_token s l opening.Sequence true zero t low = refl
-start_token s l opening.Sequence true (suc zero) t low = refl
-start_token s l opening.Sequence true (suc (suc zero)) t low = refl
-start_token s l opening.Sequence true (suc (suc (suc n))) t low = absurd (omega arith)
-start_token s l opening.Mapping false zero t low = refl
-start_token s l opening.Mapping false (suc zero) t low = refl
-start_token s l opening.Mapping false (suc (suc n)) t low = absurd (omega arith)
-start_token s l opening.Mapping true zero t low = refl
-start_token s l opening.Mapping true (suc zero) t low = refl
-start_token s l opening.Mapping true (suc (suc zero)) t low = refl
-start_token s l opening.Mapping true (suc (suc (suc n))) t low = absurd (omega arith)
+start_token s l _ _ zero t low = refl
+start_token s l _ _ (suc zero) t low = grind arith
+start_token s l _ _ (suc (suc zero)) t low = grind arith
+start_token s l _ _ (suc (suc (suc n))) t low = grind arith
 
 -- behind so many tokens of a lexeme stands that one
 pub spell_token : (s : SpelledText) (e : Entry) (n : ℕ) (t : Token) → n ≤ front_count (kept_in s e)

@@ -1,18 +1,10 @@
 -- What one more lexeme changes.
 use Rattle.std.proofs.Common.{◌≡◌, ℕ, zero, suc, ◌+◌, ◌-◌, ◌<◌, ◌≤◌, Bool, true, false, cond, ltb, eqb, ◌&&◌, List, [], ◌∷◌, length, get_or, Some, None, refl, sym, ap, ◌∙◌, inl, inr, ◌⊎◌, arith}
-use Rattle.std.proofs.lemmas.Bool.{cases_Bool, cases_order}
-use Rattle.std.proofs.lemmas.Bool.Decides.{nat_tests}
-use Rattle.std.proofs.lemmas.List.{get_or_append_left, get_or-append_right}
-use Rattle.yaml_scan_history.specs.declared.kind.Kind.{Kind}
+use Rattle.yaml_scan_machine.proofs.Words.{cases_Bool, cases_order, nat_tests, get_or_append_left, get_or-append_right, Kind, Lexeme, Entry, is_value, cancels, may_be_key, depth_after, Candidate, candidate, mark_key, keyed, entries, entry_of, found_by, inside, depth, history, Next, Read, Fails, Ends, next, first_lexeme, allowed_behind, candidate_below, length-entries, length-keyed}
+use Rattle.yaml_scan_history.specs.Next.{extended}
+use Rattle.yaml_scan_history.specs.History.{marked}
 use Rattle.yaml_scan_history.specs.declared.kind.Kind.TheVariants as kinds
-use Rattle.yaml_scan_history.specs.declared.lexeme.Lexeme.{Lexeme}
-use Rattle.yaml_scan_history.specs.declared.lexeme.Entry.{Entry}
-use Rattle.yaml_scan_history.specs.Kinds.{is_value, cancels, may_be_key, depth_after}
-use Rattle.yaml_scan_history.specs.History.{Candidate, candidate, mark_key, marked, keyed, entries, entry_of, found_by, inside, depth}
-use Rattle.yaml_scan_history.specs.Next.{history, Next, Read, Fails, Ends, next, extended, first_lexeme}
-use Rattle.yaml_scan_history.specs.Next.{allowed_behind}
 use Rattle.yaml_scan_machine.proofs.ReadLemmas.{next_is, saved_is, gap_of}
-use Rattle.yaml_scan_history.proofs.HistoryLemmas.{candidate_below, length-entries, length-keyed}
 
 lexeme-as_key : (ls : List ℕ) (es : List Entry) (k n : ℕ) (e : Entry)
     → (get_or (mark_key ls es k) n e).lexeme ≡ (get_or es n e).lexeme
@@ -57,70 +49,27 @@ pub start_is : (d : ℕ) (h : List Lexeme) (c : Candidate) (e : Entry) → candi
     → (get_or (entries h) c.number e).lexeme ≡ c.lexeme
 unfolding candidate
 start_is d [] c e is = cc
-start_is d (l ∷ h) c e is =
-    elim (candidate_top d l h c is) [
-      | inl (x, top, start) ↦ rw (lexeme-top l h c.number e top) (sym start)
-      | inr before ↦ rw (lexeme-below l h c.number e (candidate_below d h c before)) (start_is d h c e before)
-    ]
+start_is d (l ∷ h) c e is = grind (arith, candidate_top d l h c is, lexeme-top l h c.number e, lexeme-below l h c.number e, candidate_below d h c, start_is d h c e)
 
 no_two : (k : Kind) → (may_be_key k && cancels k) ≡ false
-no_two kinds.StreamStart = refl
-no_two kinds.StreamEnd = refl
-no_two kinds.Directive = refl
-no_two kinds.DocumentStart = refl
-no_two kinds.DocumentEnd = refl
-no_two kinds.FlowSequenceStart = refl
-no_two kinds.FlowMappingStart = refl
-no_two kinds.FlowSequenceEnd = refl
-no_two kinds.FlowMappingEnd = refl
-no_two kinds.FlowEntry = refl
-no_two kinds.BlockEntry = refl
-no_two kinds.KeyMark = refl
-no_two kinds.ValueMark = refl
-no_two kinds.Alias = refl
-no_two kinds.Anchor = refl
-no_two kinds.Tag = refl
-no_two kinds.Literal = refl
-no_two kinds.Folded = refl
-no_two kinds.SingleQuoted = refl
-no_two kinds.DoubleQuoted = refl
 no_two kinds.Plain = refl
+no_two _ = refl
 
 no_both : (k : Kind) (b : Bool) → ((b && may_be_key k) && cancels k) ≡ false
-no_both k true = no_two k
-no_both k false = refl
+no_both k b = grind (arith, no_two k)
 
 closes_own : (k : Kind) (d : ℕ) → depth_after k d < d → cancels k ≡ true
-closes_own kinds.FlowSequenceEnd d lt = refl
-closes_own kinds.FlowMappingEnd d lt = refl
-closes_own kinds.FlowSequenceStart d lt = absurd (omega arith)
-closes_own kinds.FlowMappingStart d lt = absurd (omega arith)
-closes_own _ d lt = absurd (omega arith)
+closes_own kinds.FlowSequenceEnd d lt = grind arith
+closes_own _ d lt = grind arith
 
 at_least : (k : Kind) (d : ℕ) → d ≤ depth_after k d + 1
 at_least kinds.FlowSequenceEnd d = omega arith
-at_least kinds.FlowMappingEnd d = omega arith
-at_least kinds.FlowSequenceStart d = omega arith
-at_least kinds.FlowMappingStart d = omega arith
 at_least _ d = omega arith
 
 none_after : (l : Lexeme) (d : ℕ) (h : List Lexeme) → depth_after l.kind l.depth < d
     → (l.saved && cancels l.kind) ≡ false → candidate d (l ∷ h) ≡ None
 unfolding candidate
-none_after l d h deep both =
-    let room = at_least l.kind l.depth in
-    elim (cases_order l.depth d) [
-      | inl same ↦
-          let t : eqb l.depth d ≡ true = grind (arith, nat_tests) in
-          let c = closes_own l.kind l.depth (omega arith) in
-          let open_no : l.saved ≡ false = elim (cases_Bool l.saved) [ inr n ↦ n | inl y ↦ let bad = rw (y, c) at both in cc ] in
-          rw (t, open_no, c) refl
-      | inr (inl below) ↦
-          let t : eqb l.depth d ≡ false = grind (arith, nat_tests) in
-          let u : ltb l.depth d ≡ true = grind (arith, nat_tests) in
-          rw (t, u) refl
-      | inr (inr above) ↦ absurd (omega arith)
-    ]
+none_after l d h deep both = grind (arith, nat_tests, at_least l.kind l.depth, closes_own l.kind l.depth)
 
 -- a lexeme that is saved cancels no candidate
 pub saved_keeps : (text : List ℕ) (h : List Lexeme) (l : Lexeme) → next text h ≡ Read l
@@ -137,15 +86,27 @@ none_deeper_next : (text : List ℕ) (h : List Lexeme) (l : Lexeme) (d : ℕ) �
 unfolding next candidate
 none_deeper_next text h l d e deep = none_after l d h deep (saved_keeps text h l e)
 
-none_deeper_after : (text : List ℕ) (h : List Lexeme) (x : Next) (d : ℕ) → next text h ≡ x
-    → (depth h < d → candidate d h ≡ None) → depth (extended x h) < d
-    → candidate d (extended x h) ≡ None
-none_deeper_after text h (Read l) d e before deep = none_deeper_next text h l d e deep
-none_deeper_after text h (Fails p) d e before deep = before deep
-none_deeper_after text h Ends d e before deep = before deep
+extends : (x : Next) (h : List Lexeme)
+    → ((l : Lexeme) × (x ≡ Read l)) ⊎ (extended x h ≡ h)
+extends (Read l) h = inl (l, refl)
+extends (Fails p) h = inr refl
+extends Ends h = inr refl
+
+-- what holds before any lexeme, and behind each that comes where it held before, holds of each history
+pub each_history : (text : List ℕ) (P : List Lexeme → Type 0) → P []
+    → ((h : List Lexeme) (l : Lexeme) → P h → next text h ≡ Read l → P (l ∷ h)) → (n : ℕ)
+    → P (history text n)
+unfolding history
+each_history text P none more zero = none
+each_history text P none more (suc n) =
+    let h = history text n in
+    let before = each_history text P none more n in
+    elim (extends (next text h) h) [
+      | inl (l, e) ↦ rw e (more h l before e)
+      | inr stays ↦ rw stays before
+    ]
 
 pub none_deeper : (text : List ℕ) (n d : ℕ) → depth (history text n) < d
     → candidate d (history text n) ≡ None
-unfolding history candidate
-none_deeper text zero d deep = refl
-none_deeper text (suc n) d deep = none_deeper_after text (history text n) (next text (history text n)) d refl (λ lt. none_deeper text n d lt) deep
+unfolding candidate
+none_deeper text n = each_history text (λ h. (d : ℕ) → depth h < d → candidate d h ≡ None) (λ d deep. refl) (λ h l before e d deep. none_deeper_next text h l d e deep) n

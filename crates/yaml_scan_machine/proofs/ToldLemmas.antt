@@ -1,22 +1,14 @@
 -- What is settled is told, whatever follows.
 use Rattle.std.proofs.Common.{◌≡◌, ℕ, zero, suc, cond, ◌+◌, ◌-◌, ◌<◌, ◌≤◌, List, [], ◌∷◌, ◌++◌, length, take, drop, get_or, refl, sym, ap, ◌∙◌, inl, inr, arith, append_assoc}
-use Rattle.std.proofs.lemmas.Bool.{cases_lt}
+use Rattle.yaml_scan_machine.proofs.Words.{cases_lt, flat_map, Token, TokenBody, block_end, key, Entry, entries, next, history, SpelledText, all, handed, before, body_in, end_tokens, start_tokens, spell, front_ends, remaining, offline, length-entries, tokens_is, ends_token, settled_in, settled_tokens}
 use Rattle.std.proofs.lemmas.List.{take-append-drop, drop_more}
 use Rattle.std.proofs.lemmas.List.Concat.{flat_map-append}
 use Rattle.std.proofs.lemmas.List.Elements.{All-head, All-tail, All-take}
 use Rattle.std.proofs.Math.ListN.{drop_of_length-le}
 use Rattle.std.specs.Prelude.{replicate, All}
-use Rattle.std.specs.List.{flat_map}
-use Rattle.yaml_scan_model.specs.Tokens.{Token, TokenBody, block_end, key}
-use Rattle.yaml_scan_history.specs.declared.lexeme.Entry.{Entry}
-use Rattle.yaml_scan_history.specs.History.{entries}
-use Rattle.yaml_scan_history.specs.Next.{next, history}
-use Rattle.yaml_scan_history.specs.Remaining.{SpelledText, all, handed, before, body_in, end_tokens, start_tokens, spell, kept_of, front_ends, remaining, offline}
-use Rattle.yaml_scan_history.proofs.HistoryLemmas.{length-entries}
-use Rattle.yaml_scan_laws_order.proofs.RemainingForward.{tokens_is, ends_token}
-use Rattle.yaml_scan_machine.specs.Shows.{settled_in}
+use Rattle.yaml_scan_history.specs.Remaining.{kept_of}
+use Rattle.yaml_scan_machine.specs.Settled.{settled_behind}
 use Rattle.yaml_scan_machine.proofs.GivenLemmas.{no_entry}
-use Rattle.yaml_scan_machine.specs.Settled.{settled_tokens, settled_behind}
 use Rattle.yaml_scan_machine.proofs.SettledLemmas.{known_upto, settled_open}
 
 -- the BLOCK-END tokens in front of a lexeme come first

@@ -2,8 +2,6 @@
 use Rattle.std.specs.Prelude.{ℕ, ◌+◌, ◌≡◌, ◌&&◌, ◌||◌, not, Bool, false, nat_lt, ◌==◌, if◌then◌else◌, Option, Some, None, Result, Ok, Err, List, slice_index_or, slice_set}
 use Rattle.yaml_scan_model.specs.declared.record.yaml_mark_t.{yaml_mark_t}
 use Rattle.yaml_scan_model.specs.declared.problem.ScanFault.{ScanFault}
-use Rattle.yaml_scan_model.specs.declared.problem.Problem.TheVariants as problems
-use Rattle.yaml_scan_model.specs.declared.problem.Context.TheVariants as contexts
 use Rattle.yaml_scan_model.specs.declared.problem.ScanError.{ScanError}
 use Rattle.yaml_scan_model.specs.declared.problem.ScanError.TheVariants as errors
 use Rattle.yaml_scan_model.specs.Tokens.{body_of}
@@ -14,7 +12,7 @@ use Rattle.yaml_scan_history.specs.declared.lexeme.Opens.{Opens}
 use Rattle.yaml_scan_history.specs.declared.lexeme.Opens.TheVariants as opening
 use Rattle.yaml_scan_history.specs.Kinds.{cancels, is_value, is_start, is_end, may_be_key}
 use Rattle.yaml_scan_history.specs.History.{Candidate, is_fresh, found_by, indent, left_by, level_of}
-use Rattle.yaml_scan_history.specs.Next.{Next, Read, Fails, Ends}
+use Rattle.yaml_scan_history.specs.Next.{Next, Read, Fails, Ends, colon_missing}
 use Rattle.yaml_scan_history.specs.Remaining.{SpelledText, body_in}
 use Rattle.yaml_scan_machine.specs.declared.machine.Machine.{Machine}
 use Rattle.yaml_scan_machine.specs.declared.next.Read.{Read as Answer}
@@ -45,22 +43,6 @@ lost (Some start) l = if l.depth == 0 && (l.saved || (cancels l.kind && not (is_
 abbrev pub required_behind : Option yaml_mark_t → Lexeme → Option yaml_mark_t
 required_behind o l = if nat_lt 0 l.depth || (not l.saved && not (cancels l.kind)) then o
     else if l.required then Some l.start else None
-
-abbrev pub colon_fault : yaml_mark_t → yaml_mark_t → ScanFault
-colon_fault start place = record {
-  problem = problems.NoColon;
-  context = contexts.SimpleKey;
-  context_mark = start;
-  problem_mark = place;
-}
-
-abbrev pub no_token_fault : yaml_mark_t → ScanFault
-no_token_fault mark = record {
-  problem = problems.NoTokenStart;
-  context = contexts.NextToken;
-  context_mark = mark;
-  problem_mark = mark;
-}
 
 -- the candidate of which a `:` makes a key
 abbrev pub keyed_by : Kind → Option Candidate → Option Candidate
@@ -112,24 +94,24 @@ Finishes l word reached required (Ok r) = (r.0 ≡ ended_by l word reached) × (
     ≡ None)
 Finishes l word reached required (Err e) = (start : yaml_mark_t)
     × (late (required_behind required (ended_by l word reached)) (ended_by l word reached).reached
-    ≡ Some start) × (e ≡ errors.Fault (colon_fault start (ended_by l word reached).reached))
+    ≡ Some start) × (e ≡ errors.Fault (colon_missing start (ended_by l word reached).reached))
+
+-- want of memory is told wherever a lexeme or a fault comes
+abbrev pub Stops : ScanError → Next → Type 0
+Stops e (Read l) = IsMemory e
+Stops e (Fails p) = Tells e p
+Stops e Ends = ⊥
 
 -- what reading the lexeme answers
 abbrev pub GivesLexeme : SpelledText → Result (Lexeme × yaml_token_body_t) ScanError → Next → Type 0
 GivesLexeme s (Ok r) (Read l) = (r.0 ≡ l) × (body_of r.1 ≡ body_in s l)
-GivesLexeme s (Ok r) (Fails p) = ⊥
-GivesLexeme s (Ok r) Ends = ⊥
-GivesLexeme s (Err e) (Read l) = IsMemory e
-GivesLexeme s (Err e) (Fails p) = Tells e p
-GivesLexeme s (Err e) Ends = ⊥
+GivesLexeme s (Ok r) _ = ⊥
+GivesLexeme s (Err e) x = Stops e x
 
 abbrev pub GivesNext : Machine → Result Answer ScanError → Next → Type 0
 GivesNext m (Ok r) (Read l) = IsRead m r l
-GivesNext m (Ok r) (Fails p) = ⊥
-GivesNext m (Ok r) Ends = ⊥
-GivesNext m (Err e) (Read l) = IsMemory e
-GivesNext m (Err e) (Fails p) = Tells e p
-GivesNext m (Err e) Ends = ⊥
+GivesNext m (Ok r) _ = ⊥
+GivesNext m (Err e) x = Stops e x
 
 -- what a `:` makes of the lexeme of which it makes a key
 abbrev pub MarksKey : Option ℕ → Opens → List Waiting → List Waiting → Type 0

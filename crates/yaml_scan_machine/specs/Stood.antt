@@ -1,5 +1,5 @@
 -- What stands behind the gap, where a further lexeme is to be read.
-use Rattle.std.specs.Prelude.{◌≡◌, ◌≤◌, Bool, true, false, nat_lt, Some, None, Ok, is_some, length}
+use Rattle.std.specs.Prelude.{◌≡◌, Bool, true, false, nat_lt, Some, None, Ok, is_some}
 use Rattle.yaml_scan_model.specs.declared.problem.ScanError.{ScanError}
 use Rattle.yaml_scan_model.specs.Faults.{Fault}
 use Rattle.yaml_scan_decode.specs.DecodedText.{text_bytes}

@@ -51,7 +51,7 @@ pub struct Machine<'a> {
 }
 
 impl<'a> Machine<'a> {
-    ghost use Rattle.yaml_scan_machine.specs.State.{IsShort, IsMachine, IsNarrow, AreInside, ReadsOneMore, KeepsInput, Leaves, TellsUtf8, is_ready};
+    ghost use Rattle.yaml_scan_machine.specs.State.{IsShort, IsMachine, IsNarrow, AreInside, KeepsInput, Leaves, TellsUtf8, is_ready};
     ghost use Rattle.yaml_scan_history.specs.Scanned.{scanned};
     ghost use Rattle.yaml_scan_machine.specs.Left.{left_in, left_from, IsTold};
     ghost use Rattle.yaml_scan_decode.specs.Encodings.{encoding_of};
@@ -59,7 +59,7 @@ impl<'a> Machine<'a> {
     ghost use Rattle.yaml_scan_machine.specs.Shows.{IsCounted, history_of};
     ghost use Rattle.yaml_scan_machine.specs.Reads.{MarksKey, IsColumnAt, opens_for};
     ghost use Rattle.yaml_scan_machine.specs.Candidates.{AreKeys, stack_of};
-    ghost use Rattle.yaml_scan_history.specs.Remaining.{nothing, offline};
+    ghost use Rattle.yaml_scan_history.specs.Remaining.{offline};
     ghost use Rattle.yaml_scan_laws_order.specs.Fronts.{GivesFirst};
     ghost use Rattle.yaml_scan_model.specs.Tokens.{token_of};
     ghost use Rattle.yaml_scan_slot.specs.Slots.{token_in_slot};
@@ -139,7 +139,7 @@ impl<'a> Machine<'a> {
         ensures told { IfErr result (λ f. IsTold (left_in self.old) (fault_of f)) }
         ensures utf8 { IfErr result (λ f. TellsUtf8 self.old (fault_of f)) }
         ensures few { OnErr result (IsShort self.new.waiting) }
-        ensures sought { IfErr result (λ f. is_ready self.old ≡ false) }
+        ensures fresh { IfErr result (λ f. self.old.started ≡ false) }
     {
         if self.started {
             return Ok(());

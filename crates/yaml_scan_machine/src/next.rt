@@ -14,15 +14,14 @@ ghost use Rattle.yaml_scan_history.specs.History.{candidate, fresh, reached, ind
 ghost use Rattle.yaml_scan_machine.specs.Stands.{Stands};
 ghost use Rattle.yaml_scan_machine.specs.State.{IsPlace, Leaves};
 ghost use Rattle.yaml_scan_history.specs.Words.{word_at};
-ghost use Rattle.yaml_scan_machine.specs.Reads.{late, lost, required_behind, colon_fault, begun_in, Finishes};
+ghost use Rattle.yaml_scan_machine.specs.Reads.{late, lost, required_behind, begun_in, Finishes};
 
 use crate::levels::keeps;
 use crate::machine::Machine;
-use crate::word::{Reading, Word, read_word};
+use crate::word::{Reading, Scope, Word};
 use yaml_scan_history::{Kind, Lexeme, is_fresh, moved_end};
 use yaml_scan_model::{
-    Context, Problem, Reader, ScanError, ScanFault, Spares, yaml_encoding_t, yaml_mark_t,
-    yaml_token_body_t,
+    Context, Problem, Reader, ScanError, Spares, yaml_encoding_t, yaml_mark_t, yaml_token_body_t,
 };
 
 /// A lexeme that was read, and what its own token carries.
@@ -57,7 +56,7 @@ struct KindSpot {
 
 impl<'a> Machine<'a> {
     ghost use Rattle.yaml_scan_machine.specs.State.{IsMachine, IsNext};
-    ghost use Rattle.yaml_scan_machine.specs.Shows.{IsShown, fields_of, history_of, stream_of, Picks};
+    ghost use Rattle.yaml_scan_machine.specs.Shows.{history_of, stream_of, Picks};
     ghost use Rattle.yaml_scan_machine.specs.Comes.{Refused};
     ghost use Rattle.yaml_scan_machine.specs.Stood.{StandsAsNext};
     ghost use Rattle.yaml_scan_machine.specs.Reads.{GivesNext, GivesLexeme, EndsAt, keyed_by, required_in};
@@ -178,8 +177,11 @@ impl<'a> Machine<'a> {
             (text_bytes self.now.text) lexeme.start.index) (text_bytes self.now.text) lexeme
             (history_of self.now)) }
     {
-        let flow = 0 < lexeme.depth;
-        match read_word(reading, spares, reader, lexeme.kind, flow, lexeme.level) {
+        let at = Scope {
+            flow: 0 < lexeme.depth,
+            level: lexeme.level,
+        };
+        match reading.word(spares, reader, at) {
             Ok(word) => finish(lexeme, word, reader.stop(), required),
             Err(error) => Err(error),
         }
@@ -447,20 +449,14 @@ fn loses(lexeme: Lexeme) -> bool
 
 /// A simple key's `:` doesn't come.
 pub(crate) fn no_colon(start: yaml_mark_t, place: yaml_mark_t) -> ScanError
-    ensures { result ≡ ScanError.Fault (colon_fault start place) }
+    ensures { result ≡ ScanError.Fault (spec.colon_missing start place) }
 {
     ScanError::refusal(Problem::NoColon, Context::SimpleKey, start, place)
 }
 
 /// A `-`, `?` or `:` where no key may begin.
 fn misplaced(kind: Kind, mark: yaml_mark_t) -> ScanError
-    ensures { result ≡ ScanError.Fault
-        (record {
-          problem = spec.not_allowed_by kind;
-          context = Context.Nothing;
-          context_mark = mark;
-          problem_mark = mark;
-        }) }
+    ensures { result ≡ ScanError.Fault (spec.not_allowed_there kind mark) }
 {
     ScanError::refusal(not_allowed_by(kind), Context::Nothing, mark, mark)
 }

@@ -1,6 +1,6 @@
 //! Reading on until the next token is known, or there is none.
 
-ghost use Rattle.std.specs.Prelude.{◌≡◌, ◌+◌, ◌<◌, [], true, false, length};
+ghost use Rattle.std.specs.Prelude.{◌≡◌, ◌+◌, ◌<◌, true, false, length};
 ghost use Rattle.yaml_scan_model.specs.Tokens.{token_of, no_token};
 ghost use Rattle.yaml_scan_slot.specs.Slots.{token_in_slot};
 ghost use Rattle.yaml_scan_model.specs.Faults.{fault_of};
@@ -94,8 +94,8 @@ fn read_on(machine: &mut Machine, spares: &mut Spares, fault: &mut yaml_fault_t)
     fill_further(machine, spares, fault)
 }
 
-/// Reads on where no lexeme was taken yet.
-// Out of line and cold: mostly one was.
+/// Reads on where no lexeme was taken yet. Where none was read, the input is decoded, once.
+// Out of line and cold: mostly one was. In line the room of its fault would be set to zero for each token.
 #[cold]
 #[inline(never)]
 fn fill_early(machine: &mut Machine, spares: &mut Spares, fault: &mut yaml_fault_t) -> Sought
@@ -103,37 +103,9 @@ fn fill_early(machine: &mut Machine, spares: &mut Spares, fault: &mut yaml_fault
     requires sought { is_ready machine.old ≡ false }
     ensures { ReadsOn machine.old machine.new (fault_of fault.new) result }
 {
-    if machine.is_new() {
-        return fill_new(machine, spares, fault);
+    if !machine.is_new() {
+        return fill_further(machine, spares, fault);
     }
-    fill_further(machine, spares, fault)
-}
-
-/// Reads the first lexeme, and on, where none was read yet. Where the input isn't decoded, it is first.
-// Out of line and cold: it is called once.
-#[cold]
-#[inline(never)]
-fn fill_new(machine: &mut Machine, spares: &mut Spares, fault: &mut yaml_fault_t) -> Sought
-    requires stands { IsMachine machine.old }
-    requires sought { is_ready machine.old ≡ false }
-    requires none { machine.old.dropped + length machine.old.waiting.items ≡ 0 }
-    ensures { ReadsOn machine.old machine.new (fault_of fault.new) result }
-{
-    if machine.started {
-        return fill_first(machine, spares, fault);
-    }
-    begin(machine, spares, fault)
-}
-
-/// Decodes the input, and reads on in its text.
-// Out of line: it is called once, and in line the room of its fault would be set to zero for each token.
-#[inline(never)]
-fn begin(machine: &mut Machine, spares: &mut Spares, fault: &mut yaml_fault_t) -> Sought
-    requires stands { IsMachine machine.old }
-    requires fresh { machine.old.started ≡ false }
-    requires sought { is_ready machine.old ≡ false }
-    ensures { ReadsOn machine.old machine.new (fault_of fault.new) result }
-{
     match machine.start() {
         Ok(()) => fill_first(machine, spares, fault),
         Err(refused) => {

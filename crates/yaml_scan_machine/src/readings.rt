@@ -2,33 +2,11 @@
 
 ghost use Rattle.yaml_scan_history.specs.declared.kind.Kind.TheVariants as kinds;
 
-use crate::word::{Reading, Word, any_word};
+use crate::word::{Reading, Scope, Word};
 use yaml_scan_history::Kind;
 use yaml_scan_model::{Context, Reader, ScanError, Spares, yaml_scalar_style_t, yaml_token_body_t};
 use yaml_scan_scalars::{double_quoted, plain_scalar, single_quoted};
 use yaml_scan_words::{anchor, tag};
-
-impl Reading for Kind {
-    ghost reads = { λ k. k };
-
-    // Inlined: the kind is known where it is called.
-    #[inline(always)]
-    fn kind(&self) -> Kind {
-        *self
-    }
-
-    // Inlined: an indicator's kind is known where it is called.
-    #[inline(always)]
-    fn word(
-        &self,
-        spares: &mut Spares,
-        reader: &mut Reader,
-        flow: bool,
-        level: u64,
-    ) -> Result<Word, ScanError> {
-        any_word(spares, reader, *self, flow, level)
-    }
-}
 
 /// The reading of an alias.
 #[derive(Drop)]
@@ -46,13 +24,7 @@ impl Reading for AliasReading {
     // Inlined: in the way of its kind its answer isn't put together.
     #[inline(always)]
     #[tactic(auto, unfolding(yaml_scan_history::specs::Words::word_at))]
-    fn word(
-        &self,
-        spares: &mut Spares,
-        reader: &mut Reader,
-        _flow: bool,
-        _level: u64,
-    ) -> Result<Word, ScanError> {
+    fn word(&self, spares: &mut Spares, reader: &mut Reader, at: Scope) -> Result<Word, ScanError> {
         let read = anchor(spares, reader, Context::Alias)?;
         Ok(Word {
             body: yaml_token_body_t::Alias { value: read.value },
@@ -78,13 +50,7 @@ impl Reading for AnchorReading {
     // Inlined: in the way of its kind its answer isn't put together.
     #[inline(always)]
     #[tactic(auto, unfolding(yaml_scan_history::specs::Words::word_at))]
-    fn word(
-        &self,
-        spares: &mut Spares,
-        reader: &mut Reader,
-        _flow: bool,
-        _level: u64,
-    ) -> Result<Word, ScanError> {
+    fn word(&self, spares: &mut Spares, reader: &mut Reader, at: Scope) -> Result<Word, ScanError> {
         let read = anchor(spares, reader, Context::Anchor)?;
         Ok(Word {
             body: yaml_token_body_t::Anchor { value: read.value },
@@ -110,14 +76,8 @@ impl Reading for TagReading {
     // Inlined: in the way of its kind its answer isn't put together.
     #[inline(always)]
     #[tactic(auto, unfolding(yaml_scan_history::specs::Words::word_at))]
-    fn word(
-        &self,
-        spares: &mut Spares,
-        reader: &mut Reader,
-        flow: bool,
-        _level: u64,
-    ) -> Result<Word, ScanError> {
-        let read = tag(spares, reader, flow)?;
+    fn word(&self, spares: &mut Spares, reader: &mut Reader, at: Scope) -> Result<Word, ScanError> {
+        let read = tag(spares, reader, at.flow)?;
         Ok(Word {
             body: yaml_token_body_t::Tag {
                 handle: read.handle,
@@ -145,13 +105,7 @@ impl Reading for SingleQuotedReading {
     // Inlined: in the way of its kind its answer isn't put together.
     #[inline(always)]
     #[tactic(auto, unfolding(yaml_scan_history::specs::Words::word_at))]
-    fn word(
-        &self,
-        spares: &mut Spares,
-        reader: &mut Reader,
-        _flow: bool,
-        _level: u64,
-    ) -> Result<Word, ScanError> {
+    fn word(&self, spares: &mut Spares, reader: &mut Reader, at: Scope) -> Result<Word, ScanError> {
         let value = single_quoted(spares, reader)?;
         Ok(Word {
             body: yaml_token_body_t::Scalar {
@@ -180,13 +134,7 @@ impl Reading for DoubleQuotedReading {
     // Inlined: in the way of its kind its answer isn't put together.
     #[inline(always)]
     #[tactic(auto, unfolding(yaml_scan_history::specs::Words::word_at))]
-    fn word(
-        &self,
-        spares: &mut Spares,
-        reader: &mut Reader,
-        _flow: bool,
-        _level: u64,
-    ) -> Result<Word, ScanError> {
+    fn word(&self, spares: &mut Spares, reader: &mut Reader, at: Scope) -> Result<Word, ScanError> {
         let value = double_quoted(spares, reader)?;
         Ok(Word {
             body: yaml_token_body_t::Scalar {
@@ -215,14 +163,8 @@ impl Reading for PlainReading {
     // Inlined: in the way of its kind its answer isn't put together.
     #[inline(always)]
     #[tactic(auto, unfolding(yaml_scan_history::specs::Words::word_at))]
-    fn word(
-        &self,
-        spares: &mut Spares,
-        reader: &mut Reader,
-        flow: bool,
-        level: u64,
-    ) -> Result<Word, ScanError> {
-        let read = plain_scalar(spares, reader, flow, level)?;
+    fn word(&self, spares: &mut Spares, reader: &mut Reader, at: Scope) -> Result<Word, ScanError> {
+        let read = plain_scalar(spares, reader, at.flow, at.level)?;
         Ok(Word {
             body: yaml_token_body_t::Scalar {
                 value: read.value,

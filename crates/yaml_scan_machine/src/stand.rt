@@ -5,7 +5,7 @@ ghost use Rattle.yaml_scan_model.specs.Ascii as ascii;
 ghost use Rattle.yaml_scan_model.specs.Marks.{byte};
 ghost use Rattle.yaml_scan_model.specs.Faults.{fault_of};
 ghost use Rattle.yaml_scan_words.specs.Between.{gap_at};
-ghost use Rattle.yaml_scan_machine.specs.Reads.{colon_fault, no_token_fault};
+ghost use Rattle.yaml_scan_history.specs.Next.{colon_missing, no_start};
 ghost use Rattle.yaml_scan_machine.specs.Left.{IsLocated};
 
 use crate::machine::{Machine, put_fault};
@@ -156,7 +156,7 @@ fn allowed_behind(allowed: bool, broke: bool, flow: bool) -> bool
 // Inlined always: the room of the marks that are handed on is set to zero where they are, and not for each lexeme.
 #[inline(always)]
 fn put_late(fault: &mut yaml_fault_t, start: yaml_mark_t, place: yaml_mark_t)
-    ensures { IsLocated (ScanError.Fault (colon_fault start place)) (fault_of fault.new) }
+    ensures { IsLocated (ScanError.Fault (colon_missing start place)) (fault_of fault.new) }
 {
     put_late_apart(fault, start, place);
 }
@@ -165,7 +165,7 @@ fn put_late(fault: &mut yaml_fault_t, start: yaml_mark_t, place: yaml_mark_t)
 // Out of line: in line the room of a refusal would be set to zero for each lexeme.
 #[inline(never)]
 fn put_late_apart(fault: &mut yaml_fault_t, start: yaml_mark_t, place: yaml_mark_t)
-    ensures { IsLocated (ScanError.Fault (colon_fault start place)) (fault_of fault.new) }
+    ensures { IsLocated (ScanError.Fault (colon_missing start place)) (fault_of fault.new) }
 {
     put_fault(fault, no_colon(start, place));
 }
@@ -174,7 +174,7 @@ fn put_late_apart(fault: &mut yaml_fault_t, start: yaml_mark_t, place: yaml_mark
 // Inlined always, as above.
 #[inline(always)]
 fn put_no_token(fault: &mut yaml_fault_t, mark: yaml_mark_t)
-    ensures { IsLocated (ScanError.Fault (no_token_fault mark)) (fault_of fault.new) }
+    ensures { IsLocated (ScanError.Fault (no_start mark)) (fault_of fault.new) }
 {
     put_no_token_apart(fault, mark);
 }
@@ -183,7 +183,7 @@ fn put_no_token(fault: &mut yaml_fault_t, mark: yaml_mark_t)
 // Out of line, as above.
 #[inline(never)]
 fn put_no_token_apart(fault: &mut yaml_fault_t, mark: yaml_mark_t)
-    ensures { IsLocated (ScanError.Fault (no_token_fault mark)) (fault_of fault.new) }
+    ensures { IsLocated (ScanError.Fault (no_start mark)) (fault_of fault.new) }
 {
     let refused = ScanError::refusal(Problem::NoTokenStart, Context::NextToken, mark, mark);
     put_fault(fault, refused);

@@ -22,6 +22,7 @@ impl<'a> Machine<'a> {
 
     /// Reads the lexeme that stands there, in the way of its kind; or puts the fault into the slot that was lent. A text may
     /// take a spare one's room.
+    #[tactic(auto, using(crate::proofs::FoundLemmas::may_read))]
     // No hint: with the ways that are inlined it is larger than what the kit inlines always. It is called at one place, so LLVM
     // inlines it, as long as no two kinds more are inlined.
     pub(crate) fn by_kind(

@@ -1,6 +1,6 @@
 //! Which lexeme stands at a place, and what it carries.
 
-ghost use Rattle.std.specs.Prelude.{Bool, ◌≡◌, ◌+◌, ◌<◌, ◌≤◌, ◌⊎◌, IfSome, None, option_map, true, false, length};
+ghost use Rattle.std.specs.Prelude.{◌≡◌, ◌+◌, ◌<◌, ◌≤◌, ◌⊎◌, IfSome, None, option_map, true, false, length};
 ghost use Rattle.yaml_scan_model.specs.Ascii as ascii;
 ghost use Rattle.yaml_scan_model.specs.Marks.{byte, break_width, is_blank_or_end};
 ghost use Rattle.yaml_scan_model.specs.Tokens.{body_of};
@@ -27,6 +27,13 @@ pub(crate) struct Word {
     pub end: yaml_mark_t,
     /// The blanks behind a plain scalar hold a break.
     pub broke: bool,
+}
+
+/// What a lexeme stands in: brackets or not, and the innermost block level, by its margin.
+#[derive(Clone, Copy)]
+pub(crate) struct Scope {
+    pub flow: bool,
+    pub level: u64,
 }
 
 /// The kind of the lexeme that stands here (YAML 1.1, 5.3).
@@ -120,57 +127,29 @@ pub(crate) trait Reading {
         ensures { result ≡ reads self.now };
 
     /// Reads the lexeme of that kind, which stands here. Its text may take a spare one's room.
-    fn word(
-        &self,
-        spares: &mut Spares,
-        reader: &mut Reader,
-        flow: bool,
-        level: u64,
-    ) -> Result<Word, ScanError>
-        requires stands { Stands (reads self.now) flow reader.old.text reader.old.at }
-        requires level { level ≤ length reader.old.text + 1 }
+    fn word(&self, spares: &mut Spares, reader: &mut Reader, at: Scope) -> Result<Word, ScanError>
+        requires stands { Stands (reads self.now) at.flow reader.old.text reader.old.at }
+        requires level { at.level ≤ length reader.old.text + 1 }
         ensures { ReadsWord reader.old.text reader.old.at reader.new result
-            (spec.word_at (reads self.now) flow level reader.old.text reader.old.at) };
+            (spec.word_at (reads self.now) at.flow at.level reader.old.text reader.old.at) };
 }
 
-/// Reads the lexeme of that kind, which stands here, in the way that is given.
-// Inlined: the kind is known where it is called.
-#[inline(always)]
-pub(crate) fn read_word<R: Reading>(
-    reading: &R,
-    spares: &mut Spares,
-    reader: &mut Reader,
-    kind: Kind,
-    flow: bool,
-    level: u64,
-) -> Result<Word, ScanError>
-    requires same { kind ≡ R.reads reading.now }
-    requires stands { Stands kind flow reader.old.text reader.old.at }
-    requires level { level ≤ length reader.old.text + 1 }
-    ensures { ReadsWord reader.old.text reader.old.at reader.new result
-        (spec.word_at kind flow level reader.old.text reader.old.at) }
-{
-    reading.word(spares, reader, flow, level)
-}
+impl Reading for Kind {
+    ghost reads = { λ k. k };
 
-/// Reads the lexeme of that kind, which stands here. Its text may take a spare one's room.
-// Inlined: an indicator's kind is known where it is called.
-#[inline(always)]
-pub(crate) fn any_word(
-    spares: &mut Spares,
-    reader: &mut Reader,
-    kind: Kind,
-    flow: bool,
-    level: u64,
-) -> Result<Word, ScanError>
-    requires stands { Stands kind flow reader.old.text reader.old.at }
-    requires level { level ≤ length reader.old.text + 1 }
-    ensures { ReadsWord reader.old.text reader.old.at reader.new result
-        (spec.word_at kind flow level reader.old.text reader.old.at) }
-{
-    match indicator_body(kind) {
-        Some(body) => Ok(read_indicator(reader, body)),
-        None => text_word(spares, reader, kind, flow, level),
+    // Inlined: the kind is known where it is called.
+    #[inline(always)]
+    fn kind(&self) -> Kind {
+        *self
+    }
+
+    // Inlined: an indicator's kind is known where it is called.
+    #[inline(always)]
+    fn word(&self, spares: &mut Spares, reader: &mut Reader, at: Scope) -> Result<Word, ScanError> {
+        match indicator_body(*self) {
+            Some(body) => Ok(read_indicator(reader, body)),
+            None => text_word(spares, reader, *self, at),
+        }
     }
 }
 
@@ -201,26 +180,25 @@ fn text_word(
     spares: &mut Spares,
     reader: &mut Reader,
     kind: Kind,
-    flow: bool,
-    level: u64,
+    at: Scope,
 ) -> Result<Word, ScanError>
-    requires stands { Stands kind flow reader.old.text reader.old.at }
-    requires level { level ≤ length reader.old.text + 1 }
+    requires stands { Stands kind at.flow reader.old.text reader.old.at }
+    requires level { at.level ≤ length reader.old.text + 1 }
     requires no_indicator { indicator_at kind ≡ None }
     ensures { ReadsWord reader.old.text reader.old.at reader.new result
-        (spec.word_at kind flow level reader.old.text reader.old.at) }
+        (spec.word_at kind at.flow at.level reader.old.text reader.old.at) }
 {
     match kind {
         Kind::DocumentStart => Ok(document_mark(reader, yaml_token_body_t::DocumentStart)),
         Kind::DocumentEnd => Ok(document_mark(reader, yaml_token_body_t::DocumentEnd)),
         Kind::Directive => directive_word(spares, reader),
-        Kind::Alias => AliasReading.word(spares, reader, flow, level),
-        Kind::Anchor => AnchorReading.word(spares, reader, flow, level),
-        Kind::Tag => TagReading.word(spares, reader, flow, level),
-        Kind::Literal | Kind::Folded => block_word(spares, reader, level),
-        Kind::SingleQuoted => SingleQuotedReading.word(spares, reader, flow, level),
-        Kind::DoubleQuoted => DoubleQuotedReading.word(spares, reader, flow, level),
-        Kind::Plain => PlainReading.word(spares, reader, flow, level),
+        Kind::Alias => AliasReading.word(spares, reader, at),
+        Kind::Anchor => AnchorReading.word(spares, reader, at),
+        Kind::Tag => TagReading.word(spares, reader, at),
+        Kind::Literal | Kind::Folded => block_word(spares, reader, at.level),
+        Kind::SingleQuoted => SingleQuotedReading.word(spares, reader, at),
+        Kind::DoubleQuoted => DoubleQuotedReading.word(spares, reader, at),
+        Kind::Plain => PlainReading.word(spares, reader, at),
         _ => Ok(carrier(reader, yaml_token_body_t::StreamEnd)),
     }
 }

@@ -1,7 +1,6 @@
 use Rattle.std.proofs.Common.{ℕ, ◌-◌, ◌<◌, ◌≤◌, length, sym, ◌∙◌, arith}
-use Rattle.std.proofs.lemmas.List.{take_all}
-use Rattle.std.specs.Prelude.{slice_index}
-use Rattle.yaml_scan_machine.proofs.LevelsLemmas.{left_all}
+use Rattle.yaml_scan_machine.proofs.Words.{take_all, slice_index}
+use Rattle.yaml_scan_machine.proofs.SafeLemmas.{left_all}
 use Rattle.yaml_scan_machine.proofs.levels.are_left.Goals as goal
 
 pub returns : goal.returns

@@ -1,7 +1,6 @@
 use Rattle.std.proofs.Common.{ℕ, ◌-◌, ◌<◌, ◌≤◌, sym, ◌∙◌, arith, get_or-take, take}
-use Rattle.std.proofs.lemmas.List.{length-take-le}
-use Rattle.std.specs.Prelude.{slice_index}
-use Rattle.yaml_scan_machine.proofs.LevelsLemmas.{left_all}
+use Rattle.yaml_scan_machine.proofs.Words.{length-take-le, slice_index}
+use Rattle.yaml_scan_machine.proofs.SafeLemmas.{left_all}
 use Rattle.yaml_scan_machine.proofs.levels.count_further.Goals as goal
 
 pub returns-else-column-columns-clause-left : goal.returns-else-column-columns-clause-left

@@ -1,5 +1,5 @@
 use Rattle.std.proofs.Common.{◌≡◌, ◌≤◌, take, length}
-use Rattle.yaml_scan_machine.specs.Rising.{left_of}
+use Rattle.yaml_scan_machine.proofs.Words.{left_of}
 use Rattle.yaml_scan_machine.proofs.levels.count_further.Given as goal
 
 abbrev pub invariant-up : goal.invariant-up

@@ -1,5 +1,5 @@
 use Rattle.std.proofs.Common.{◌≡◌, ◌-◌, suc, sym, arith}
-use Rattle.yaml_scan_machine.proofs.LevelsLemmas.{indent_take, indent_none}
+use Rattle.yaml_scan_machine.proofs.SafeLemmas.{indent_take, indent_none}
 use Rattle.yaml_scan_machine.proofs.levels.innermost.Goals as goal
 
 pub returns-then-n-eq0 : goal.returns-then-n-eq0

@@ -1,68 +1,34 @@
-use Rattle.std.proofs.Common.{refl, sym, ◌∙◌, arith}
-use Rattle.yaml_scan_model.specs.Faults.{fault_of}
-use Rattle.yaml_scan_machine.proofs.ComesLemmas.{end_machine, goes_same, left_is, told_refused, steps_on, steps_off}
-use Rattle.yaml_scan_machine.proofs.FoundLemmas.{reads_behind, reads_itself, reads_more, refused_lacks, decoded_plain}
-use Rattle.yaml_scan_machine.proofs.MoreLemmas.{denied_more}
+use Rattle.std.proofs.Common.{◌<◌, length, sym, ◌∙◌, arith}
+use Rattle.yaml_scan_machine.proofs.Words.{fault_of}
+use Rattle.yaml_scan_machine.proofs.FoundLemmas.{ReadsFrom, reads_behind, reads_start, steps_end, steps_off, steps_on}
+use Rattle.yaml_scan_machine.proofs.reading.fill_first.Goals.{Else-not-begin}
 use Rattle.yaml_scan_machine.proofs.reading.fill_first.Goals as goal
 
+-- the first lexeme was read
+begun : (c : Else-not-begin) → ReadsFrom c.args.machine.now c.begin.new.self
+    × (0 < length c.begin.new.self.waiting.items)
+begun c = let m = c.args.machine.now in steps_on m m c.begin.new.self (fault_of c.begin.new.fault) c.begin.result (reads_start m c.requires.stands c.requires.started) c.requires.sought c.if-not-begin.false c.begin.ensures
+
 pub returns-then-machine : goal.returns-then-machine
-returns-then-machine c =
-    let m = c.args.machine.now in
-    let none = end_machine m c.requires.stands c.requires.sought c.if-machine.true in
-    record {
-      stands = c.requires.stands;
-      left = left_is m c.requires.started ∙ none;
-      none = left_is m c.requires.started ∙ none;
-      reads = reads_itself m;
-    }
+returns-then-machine c = let m = c.args.machine.now in steps_end m m (reads_start m c.requires.stands c.requires.started) c.requires.sought c.if-machine.true
 
 pub returns-then-not-begin : goal.returns-then-not-begin
-returns-then-not-begin c =
-    let m = c.args.machine.now in
-    let (refused, few) = steps_off m c.begin.new.self (fault_of c.begin.new.fault) c.begin.result c.if-not-begin.true c.begin.ensures in
-    record {
-      sought = c.requires.sought;
-      more = denied_more m m c.requires.started refl c.requires.stands c.requires.sought c.if-machine.false;
-      told = told_refused m m (fault_of c.begin.new.fault) c.requires.started refl c.requires.stands c.requires.sought c.if-machine.false refused;
-      reader = refused_lacks m m (fault_of c.begin.new.fault) refused;
-      plain = decoded_plain m (fault_of c.begin.new.fault) c.requires.stands c.requires.started;
-      few = few;
-    }
+returns-then-not-begin c = let m = c.args.machine.now in steps_off m m c.begin.new.self (fault_of c.begin.new.fault) c.begin.result (reads_start m c.requires.stands c.requires.started) c.requires.sought c.if-machine.false c.requires.sought c.if-not-begin.true c.begin.ensures
 
 pub has_token-requires : goal.has_token-requires
-has_token-requires c = (steps_on c.args.machine.now c.begin.new.self (fault_of c.begin.new.fault) c.begin.result c.if-not-begin.false c.begin.ensures).0
+has_token-requires c = (begun (goal.at.has_token-requires c).Else-not-begin).0.stands
 
 pub returns-then-has_token : goal.returns-then-has_token
 returns-then-has_token c =
-    let m = c.args.machine.now in
-    let (stands, on) = steps_on m c.begin.new.self (fault_of c.begin.new.fault) c.begin.result c.if-not-begin.false c.begin.ensures in
-    record {
-      stands = stands;
-      left = left_is c.begin.new.self (on.started ∙ c.requires.started) ∙ goes_same m c.begin.new.self on ∙ sym (left_is m c.requires.started);
-      ready = sym c.has_token.ensures ∙ c.if-has_token.true;
-      reads = reads_more m c.begin.new.self c.requires.stands c.requires.sought on;
-    }
+    let (r, some) = begun (goal.at.returns-then-has_token c).Else-not-begin in
+    record { stands = r.stands; left = r.left; ready = sym c.has_token.ensures ∙ c.if-has_token.true; reads = r.reads }
 
-pub fill_further-requires-clause-stands : goal.fill_further-requires-clause-stands
-fill_further-requires-clause-stands c = (steps_on c.args.machine.now c.begin.new.self (fault_of c.begin.new.fault) c.begin.result c.if-not-begin.false c.begin.ensures).0
-
-pub fill_further-requires-clause-started : goal.fill_further-requires-clause-started
-fill_further-requires-clause-started c =
-    let (stands, on) = steps_on c.args.machine.now c.begin.new.self (fault_of c.begin.new.fault) c.begin.result c.if-not-begin.false c.begin.ensures in
-    on.started ∙ c.requires.started
-
-pub fill_further-requires-clause-sought : goal.fill_further-requires-clause-sought
-fill_further-requires-clause-sought c = sym c.has_token.ensures ∙ c.if-has_token.false
-
-pub fill_further-requires-clause-some : goal.fill_further-requires-clause-some
-fill_further-requires-clause-some c =
-    let (stands, on) = steps_on c.args.machine.now c.begin.new.self (fault_of c.begin.new.fault) c.begin.result c.if-not-begin.false c.begin.ensures in
-    omega (arith, on.further)
+pub fill_further-requires : goal.fill_further-requires
+fill_further-requires c =
+    let (r, some) = begun (goal.at.fill_further-requires c).Else-not-begin in
+    record { stands = r.stands; started = r.started; sought = sym c.has_token.ensures ∙ c.if-has_token.false; some = omega arith }
 
 pub returns : goal.returns
 returns c =
-    let m = c.args.machine.now in
-    let (stands, on) = steps_on m c.begin.new.self (fault_of c.begin.new.fault) c.begin.result c.if-not-begin.false c.begin.ensures in
-    let sought = sym c.has_token.ensures ∙ c.if-has_token.false in
-    let left = left_is c.begin.new.self (on.started ∙ c.requires.started) ∙ goes_same m c.begin.new.self on ∙ sym (left_is m c.requires.started) in
-    reads_behind m c.begin.new.self c.fill_further.new.machine (fault_of c.fill_further.new.fault) c.fill_further.result left (sought ∙ sym c.requires.sought) (reads_more m c.begin.new.self c.requires.stands c.requires.sought on) c.fill_further.ensures
+    let (r, some) = begun (goal.at.returns c).Else-not-begin in
+    reads_behind c.args.machine.now c.begin.new.self c.fill_further.new.machine (fault_of c.fill_further.new.fault) c.fill_further.result r.left (sym c.has_token.ensures ∙ c.if-has_token.false ∙ sym c.requires.sought) r.reads c.fill_further.ensures

@@ -1,8 +1,5 @@
 use Rattle.std.proofs.Common.{subst, refl}
-use Rattle.yaml_scan_history.specs.Remaining.{Remaining}
-use Rattle.yaml_scan_slot.specs.Slots.{token_in_slot}
-use Rattle.yaml_scan_laws_order.specs.Fronts.{GivesFirst}
-use Rattle.yaml_scan_machine.specs.Left.{left_in}
+use Rattle.yaml_scan_machine.proofs.Words.{Remaining, token_in_slot, GivesFirst, left_in}
 use Rattle.yaml_scan_machine.proofs.FoundLemmas.{reads_both, reads_none}
 use Rattle.yaml_scan_machine.proofs.reading.next_into.Goals as goal
 

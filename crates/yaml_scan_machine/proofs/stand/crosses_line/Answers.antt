@@ -1,8 +1,7 @@
 use Rattle.std.proofs.Common.{◌≡◌, ◌+◌, ℕ, true, sym, ap, ◌∙◌, arith}
-use Rattle.yaml_scan_model.specs.Marks.{Place, byte}
-use Rattle.yaml_scan_model.specs.Runs.{past_spaces}
+use Rattle.yaml_scan_machine.proofs.Words.{Place, byte, past_spaces}
 use Rattle.yaml_scan_words.proofs.BetweenLemmas.{feed_width}
-use Rattle.yaml_scan_machine.proofs.GapLemmas.{goes_on, one_line}
+use Rattle.yaml_scan_machine.proofs.WordLemmas.{goes_on, one_line}
 use Rattle.yaml_scan_machine.proofs.stand.crosses_line.Goals as goal
 
 pub skip_break-requires : goal.skip_break-requires

@@ -1,5 +1,5 @@
 use Rattle.std.proofs.Common.{arith}
-use Rattle.std.proofs.lemmas.Bool.Decides.{nat_tests}
+use Rattle.yaml_scan_machine.proofs.Words.{nat_tests}
 use Rattle.yaml_scan_machine.proofs.stand.is_behind_hash.Goals as goal
 
 pub returns-then-byte-gt35 : goal.returns-then-byte-gt35

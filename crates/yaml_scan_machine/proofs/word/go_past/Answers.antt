@@ -1,9 +1,8 @@
 use Rattle.std.proofs.Common.{◌≡◌, ℕ, List, length, ap, arith}
-use Rattle.yaml_scan_model.specs.declared.record.yaml_mark_t.{yaml_mark_t}
-use Rattle.yaml_scan_model.specs.Marks.{column_at}
+use Rattle.yaml_scan_machine.proofs.Words.{yaml_mark_t, column_at}
 use Rattle.yaml_scan_model.proofs.MarksLemmas.{within, split_next}
 use Rattle.yaml_scan_machine.proofs.SafeLemmas.{column-le}
-use Rattle.yaml_scan_machine.proofs.IndicatorLemmas.{mark_past}
+use Rattle.yaml_scan_machine.proofs.WordLemmas.{mark_past}
 use Rattle.yaml_scan_machine.proofs.word.go_past.Goals as goal
 
 pub overflow_add-behind-2 : goal.overflow_add-behind-2

@@ -1,6 +1,5 @@
 use Rattle.std.proofs.Common.{arith}
-use Rattle.std.proofs.lemmas.Bool.Decides.{nat_tests}
-use Rattle.yaml_scan_machine.specs.Stands.{is_letter}
+use Rattle.yaml_scan_machine.proofs.Words.{nat_tests, is_letter}
 use Rattle.yaml_scan_machine.proofs.word.is_small.Goals as goal
 
 pub returns-then-byte-ge97 : goal.returns-then-byte-ge97

@@ -1,11 +1,6 @@
-use Rattle.std.proofs.Common.{subst, ℕ, ◌+◌, sym, ◌∙◌, ◌≡◌, true, Some}
-use Rattle.yaml_scan_model.specs.Marks.{byte, is_blank_or_end}
-use Rattle.yaml_scan_history.specs.Words.{indicator_of}
-use Rattle.yaml_scan_machine.specs.Stands.{is_letter}
-use Rattle.yaml_scan_machine.proofs.LetterLemmas.{letter_kind, letter_starts}
-use Rattle.yaml_scan_machine.specs.Stands.{Told}
-use Rattle.yaml_scan_machine.proofs.StandsLemmas.{told_stands}
-use Rattle.yaml_scan_machine.proofs.GapLemmas.{told_kind}
+use Rattle.std.proofs.Common.{subst, ℕ, ◌+◌, sym, ◌∙◌, ◌≡◌, Some}
+use Rattle.yaml_scan_machine.proofs.Words.{byte, is_blank_or_end, indicator_of, Told}
+use Rattle.yaml_scan_machine.proofs.WordLemmas.{letter_told, told_stands, told_kind}
 use Rattle.yaml_scan_machine.proofs.word.kind_at.Goals as goal
 
 pub returns-in-Some-clause-stands : goal.returns-in-Some-clause-stands
@@ -13,25 +8,15 @@ returns-in-Some-clause-stands c =
     let P : ℕ → Type 0 = λ b. Told c.in-Some.kind b in
     told_stands c.in-Some.kind c.args.flow c.args.reader.now.text c.args.reader.now.at (subst P c.here-byte.ensures c.in-Some.ensures.told)
 
-pub returns-then-is_letter-clause-value : goal.returns-then-is_letter-clause-value
-returns-then-is_letter-clause-value c =
-    let h : is_letter (byte c.args.reader.now.text c.args.reader.now.at) ≡ true = rw c.here-byte.ensures at (sym c.is_letter.ensures ∙ c.if-is_letter.true) in
-    sym (letter_kind c.args.flow c.args.reader.now.text c.args.reader.now.at h)
+pub returns-then-is_letter : goal.returns-then-is_letter
+returns-then-is_letter c =
+    let (value, stands) = letter_told c.args.flow c.args.reader.now.text c.args.reader.now.at (rw c.here-byte.ensures at (sym c.is_letter.ensures ∙ c.if-is_letter.true)) in
+    record { value = value; stands = stands }
 
-pub returns-then-is_letter-clause-stands : goal.returns-then-is_letter-clause-stands
-returns-then-is_letter-clause-stands c =
-    let h : is_letter (byte c.args.reader.now.text c.args.reader.now.at) ≡ true = rw c.here-byte.ensures at (sym c.is_letter.ensures ∙ c.if-is_letter.true) in
-    letter_starts c.args.flow c.args.reader.now.text c.args.reader.now.at h
-
-pub returns-then-is_small-clause-value : goal.returns-then-is_small-clause-value
-returns-then-is_small-clause-value c =
-    let h : is_letter (byte c.args.reader.now.text c.args.reader.now.at) ≡ true = rw c.here-byte.ensures at c.is_small.ensures c.if-is_small.true in
-    sym (letter_kind c.args.flow c.args.reader.now.text c.args.reader.now.at h)
-
-pub returns-then-is_small-clause-stands : goal.returns-then-is_small-clause-stands
-returns-then-is_small-clause-stands c =
-    let h : is_letter (byte c.args.reader.now.text c.args.reader.now.at) ≡ true = rw c.here-byte.ensures at c.is_small.ensures c.if-is_small.true in
-    letter_starts c.args.flow c.args.reader.now.text c.args.reader.now.at h
+pub returns-then-is_small : goal.returns-then-is_small
+returns-then-is_small c =
+    let (value, stands) = letter_told c.args.flow c.args.reader.now.text c.args.reader.now.at (rw c.here-byte.ensures at c.is_small.ensures c.if-is_small.true) in
+    record { value = value; stands = stands }
 
 pub returns-in-Some-clause-value : goal.returns-in-Some-clause-value
 returns-in-Some-clause-value c =

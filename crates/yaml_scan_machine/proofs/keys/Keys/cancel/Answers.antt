@@ -1,6 +1,5 @@
 use Rattle.std.proofs.Common.{false, refl}
-use Rattle.yaml_scan_machine.specs.declared.keys.Key.{Key}
-use Rattle.yaml_scan_machine.specs.Candidates.{stack_of}
+use Rattle.yaml_scan_machine.proofs.Words.{Key, stack_of}
 use Rattle.yaml_scan_machine.proofs.KeysLemmas.{cancelled_turns}
 use Rattle.yaml_scan_machine.proofs.keys.Keys.cancel.Goals as goal
 

@@ -1,7 +1,7 @@
 use Rattle.std.proofs.Common.{◌≡◌, ◌∙◌, [], ◌∷◌, ◌++◌, false, refl, sym, ap, arith}
-use Rattle.yaml_scan_machine.specs.Candidates.{KeyStack, stack_of}
-use Rattle.yaml_scan_machine.specs.declared.keys.Key.{Key}
-use Rattle.yaml_scan_machine.proofs.KeysLemmas.{popped_turns, bare_turns}
+use Rattle.yaml_scan_machine.proofs.Words.{KeyStack, stack_of, Key}
+use Rattle.yaml_scan_machine.proofs.KeysLemmas.{bare_turns}
+use Rattle.yaml_scan_machine.proofs.CandidatesLemmas.{popped_turns}
 use Rattle.yaml_scan_machine.proofs.keys.Keys.close.Goals as goal
 
 pub returns-in-Some : goal.returns-in-Some

@@ -1,5 +1,5 @@
 use Rattle.std.proofs.Common.{◌≡◌, ◌-◌, ◌≤◌, length}
-use Rattle.yaml_scan_machine.specs.Candidates.{AreStale, stack_of}
+use Rattle.yaml_scan_machine.proofs.Words.{AreStale, stack_of}
 use Rattle.yaml_scan_machine.proofs.keys.Keys.earliest.Given as goal
 
 abbrev pub invariant-pass : goal.invariant-pass

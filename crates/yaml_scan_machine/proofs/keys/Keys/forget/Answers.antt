@@ -1,6 +1,5 @@
 use Rattle.std.proofs.Common.{◌≡◌, ◌∙◌, ◌+◌, ◌-◌, List, ap, arith, take, drop}
-use Rattle.yaml_scan_machine.specs.declared.keys.Key.{Key}
-use Rattle.yaml_scan_machine.specs.Candidates.{stack_of}
+use Rattle.yaml_scan_machine.proofs.Words.{Key, stack_of}
 use Rattle.yaml_scan_machine.proofs.KeysLemmas.{forgets_stale, turned_left}
 use Rattle.yaml_scan_machine.proofs.keys.Keys.forget.Goals as goal
 

@@ -1,6 +1,5 @@
 use Rattle.std.proofs.Common.{◌≡◌, ◌∙◌, false, refl, ap, List, [], ◌∷◌, ◌++◌, ◌+◌}
-use Rattle.yaml_scan_machine.specs.declared.keys.Key.{Key}
-use Rattle.yaml_scan_machine.specs.Candidates.{KeyStack, stack_of}
+use Rattle.yaml_scan_machine.proofs.Words.{Key, KeyStack, stack_of}
 use Rattle.yaml_scan_machine.proofs.KeysLemmas.{forgotten_turns, opened_turns}
 use Rattle.yaml_scan_machine.proofs.keys.Keys.open.Goals as goal
 

@@ -1,5 +1,5 @@
 use Rattle.std.proofs.Common.{◌+◌, ◌-◌}
-use Rattle.yaml_scan_machine.specs.Candidates.{stack_of}
+use Rattle.yaml_scan_machine.proofs.Words.{stack_of}
 use Rattle.yaml_scan_machine.proofs.KeysLemmas.{turns_put, on_ok, no_saved}
 use Rattle.yaml_scan_machine.proofs.keys.Keys.put.Goals as goal
 

@@ -1,7 +1,7 @@
 use Rattle.std.proofs.Common.{refl}
-use Rattle.yaml_scan_machine.specs.declared.keys.Key.{Key}
-use Rattle.yaml_scan_machine.specs.Candidates.{stack_of}
-use Rattle.yaml_scan_machine.proofs.KeysLemmas.{saved_turns, kept_turns}
+use Rattle.yaml_scan_machine.proofs.Words.{Key, stack_of}
+use Rattle.yaml_scan_machine.proofs.KeysLemmas.{saved_turns}
+use Rattle.yaml_scan_machine.proofs.CandidatesLemmas.{kept_turns}
 use Rattle.yaml_scan_machine.proofs.keys.Keys.save.Goals as goal
 
 pub returns-then-lexeme : goal.returns-then-lexeme

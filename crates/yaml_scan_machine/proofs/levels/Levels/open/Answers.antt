@@ -1,7 +1,6 @@
 use Rattle.std.proofs.Common.{◌≡◌, ℕ, List, sym, arith, subst, ap}
-use Rattle.yaml_scan_history.specs.History.{indent}
-use Rattle.yaml_scan_machine.specs.Rising.{IsRising}
-use Rattle.yaml_scan_machine.proofs.LevelsLemmas.{rising_more}
+use Rattle.yaml_scan_machine.proofs.Words.{indent, IsRising}
+use Rattle.yaml_scan_machine.proofs.SafeLemmas.{rising_more}
 use Rattle.yaml_scan_machine.proofs.levels.Levels.open.Goals as goal
 
 pub invariant_of-self-2 : goal.invariant_of-self-2

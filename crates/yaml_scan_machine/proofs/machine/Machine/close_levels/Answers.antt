@@ -1,5 +1,5 @@
 use Rattle.std.proofs.Common.{ℕ, List, sym, subst, ◌∙◌}
-use Rattle.yaml_scan_machine.specs.State.{IsNarrow}
+use Rattle.yaml_scan_machine.proofs.Words.{IsNarrow}
 use Rattle.yaml_scan_machine.proofs.SafeLemmas.{narrow_left_by}
 use Rattle.yaml_scan_machine.proofs.machine.Machine.close_levels.Goals as goal
 

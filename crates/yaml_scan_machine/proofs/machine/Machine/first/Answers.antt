@@ -1,14 +1,6 @@
 use Rattle.std.proofs.Common.{◌≡◌, ℕ, ◌<◌, length, Option, sym, ap, subst, arith}
-use Rattle.std.specs.Prelude.{IfSome}
-use Rattle.yaml_scan_model.specs.declared.record.yaml_mark_t.{yaml_mark_t}
-use Rattle.yaml_scan_decode.specs.DecodedText.{text_bytes}
-use Rattle.yaml_scan_history.specs.declared.lexeme.Lexeme.{Lexeme}
-use Rattle.yaml_scan_machine.specs.Shows.{history_of}
-use Rattle.yaml_scan_machine.specs.State.{IsPlace}
+use Rattle.yaml_scan_machine.proofs.Words.{IfSome, yaml_mark_t, text_bytes, Lexeme, history_of, IsPlace, length-map, Waiting, kept_of}
 use Rattle.yaml_scan_machine.proofs.SafeLemmas.{mark_column}
-use Rattle.std.proofs.lemmas.List.{length-map}
-use Rattle.yaml_scan_queue.specs.declared.waiting.Waiting.{Waiting}
-use Rattle.yaml_scan_queue.specs.Waits.{kept_of}
 use Rattle.yaml_scan_machine.proofs.KindLemmas.{first_gives, leaves_none}
 use Rattle.yaml_scan_machine.proofs.machine.Machine.first.Goals as goal
 

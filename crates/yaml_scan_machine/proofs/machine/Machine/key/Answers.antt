@@ -1,6 +1,5 @@
 use Rattle.std.proofs.Common.{◌≡◌, true, refl, sym, ◌∙◌}
-use Rattle.yaml_scan_history.specs.Kinds.{is_value}
-use Rattle.yaml_scan_machine.specs.Shows.{fields_of}
+use Rattle.yaml_scan_machine.proofs.Words.{is_value, fields_of}
 use Rattle.yaml_scan_machine.proofs.KeysLemmas.{key_waits}
 use Rattle.yaml_scan_machine.proofs.machine.Machine.key.Goals as goal
 

@@ -1,5 +1,5 @@
 use Rattle.std.proofs.Common.{arith}
-use Rattle.yaml_scan_decode.specs.DecodedText.{text_bytes}
+use Rattle.yaml_scan_machine.proofs.Words.{text_bytes}
 use Rattle.yaml_scan_machine.proofs.SafeLemmas.{mark_line, mark_column, placed_column}
 use Rattle.yaml_scan_machine.proofs.machine.Machine.left_at.Goals as goal
 

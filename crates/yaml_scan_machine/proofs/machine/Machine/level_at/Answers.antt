@@ -1,6 +1,5 @@
 use Rattle.std.proofs.Common.{ℕ, ◌+◌, ◌≤◌, length, ap, sym, subst, ◌∙◌}
-use Rattle.yaml_scan_decode.specs.DecodedText.{text_bytes}
-use Rattle.yaml_scan_history.specs.History.{indent, left_by}
+use Rattle.yaml_scan_machine.proofs.Words.{text_bytes, indent, left_by}
 use Rattle.yaml_scan_machine.proofs.SafeLemmas.{narrow_left_by, narrow_indent}
 use Rattle.yaml_scan_machine.proofs.machine.Machine.level_at.Goals as goal
 

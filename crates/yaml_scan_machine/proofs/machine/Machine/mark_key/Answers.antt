@@ -1,6 +1,6 @@
 use Rattle.std.proofs.Common.{ℕ, ◌<◌, Option, length, subst}
-use Rattle.std.specs.Prelude.{IfSome}
-use Rattle.yaml_scan_machine.proofs.RowLemmas.{marked_length, marked_inside}
+use Rattle.yaml_scan_machine.proofs.Words.{IfSome}
+use Rattle.yaml_scan_machine.proofs.PushLemmas.{marked_length, marked_inside}
 use Rattle.yaml_scan_machine.proofs.machine.Machine.mark_key.Goals as goal
 
 pub returns-in-Some-clause-length : goal.returns-in-Some-clause-length

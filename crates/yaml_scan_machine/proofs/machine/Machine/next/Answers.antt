@@ -1,12 +1,5 @@
 use Rattle.std.proofs.Common.{◌≡◌, ℕ, List, Some, nat_lt, sym, ap, subst, ◌∙◌}
-use Rattle.yaml_scan_model.specs.Marks.{Place, mark_at}
-use Rattle.yaml_scan_decode.specs.DecodedText.{text_bytes}
-use Rattle.yaml_scan_history.specs.declared.kind.Kind.{Kind}
-use Rattle.yaml_scan_history.specs.Next.{Next}
-use Rattle.yaml_scan_history.specs.Stepwise.{of_kind}
-use Rattle.yaml_scan_machine.specs.Stands.{Stands}
-use Rattle.yaml_scan_machine.specs.Reads.{GivesNext, late}
-use Rattle.yaml_scan_machine.specs.Shows.{history_of}
+use Rattle.yaml_scan_machine.proofs.Words.{Place, mark_at, text_bytes, Kind, Next, of_kind, Stands, GivesNext, late, history_of}
 use Rattle.yaml_scan_machine.proofs.ComesLemmas.{refused_any}
 use Rattle.yaml_scan_machine.proofs.machine.Machine.next.Goals as goal
 

@@ -1,35 +1,40 @@
-use Rattle.std.proofs.Common.{◌≡◌, ◌≤◌, ℕ, length, nat_lt, Some, None, Ok, Err, sym, ap, subst, ◌∙◌}
-use Rattle.yaml_scan_model.specs.declared.record.yaml_mark_t.{yaml_mark_t}
-use Rattle.yaml_scan_decode.specs.DecodedText.{text_bytes}
-use Rattle.yaml_scan_history.specs.declared.kind.Kind.{Kind}
-use Rattle.yaml_scan_history.specs.declared.lexeme.Lexeme.{Lexeme}
-use Rattle.yaml_scan_history.specs.Kinds.{is_end}
-use Rattle.yaml_scan_history.specs.History.{placed}
-use Rattle.yaml_scan_history.specs.Next.{Next}
-use Rattle.yaml_scan_history.specs.Stepwise.{unless_lost}
-use Rattle.yaml_scan_machine.specs.Stands.{Stands}
-use Rattle.yaml_scan_machine.specs.Shows.{stream_of, history_of}
-use Rattle.yaml_scan_machine.specs.Reads.{GivesNext, lost}
-use Rattle.yaml_scan_machine.proofs.KindLemmas.{kind_machine, wrong_machine, misplaced_gives, lost_gives, err_gives, ok_gives, required_saved, placed_index, leaves_ends}
-use Rattle.yaml_scan_machine.proofs.machine.Machine.of_kind.Goals as goal
+use Rattle.std.proofs.Common.{◌≡◌, ◌≤◌, ◌+◌, ℕ, length, nat_lt, Some, None, Ok, sym, ap, subst, ◌∙◌}
+use Rattle.yaml_scan_machine.proofs.Words.{mark_at, yaml_mark_t, text_bytes, Gap, Kind, Lexeme, is_end, placed, Next, allowed_behind, colon_missing, of_kind, unless_lost, Answer, Stands, fields_of, history_of, read, GivesNext, Stops, lost}
+use Rattle.yaml_scan_history.specs.Next.{not_allowed_there}
 use Rattle.yaml_scan_laws_order.proofs.NextForward.{placed_same}
+use Rattle.yaml_scan_machine.proofs.KindLemmas.{kind_at_place, kind_misplaced, misplaced_is, fault_stops, ok_gives, required_saved, placed_index, leaves_ends}
+use Rattle.yaml_scan_machine.proofs.machine.Machine.of_kind.Goals.{After-lexeme_at-lexeme}
+use Rattle.yaml_scan_machine.proofs.machine.Machine.of_kind.Given.{Over}
+use Rattle.yaml_scan_machine.proofs.machine.Machine.of_kind.Goals as goal
+
+-- what comes of the kind, by what its lexeme loses
+comes : (g : Over) (c : After-lexeme_at-lexeme g) (gap : Gap) → let m = c.args.self.now in
+    let l = c.lexeme_at-lexeme.result in gap.place ≡ c.args.reader.now.at
+    → allowed_behind (history_of m) gap ≡ c.args.spot.allowed
+    → of_kind (Some c.args.spot.kind) (text_bytes m.text) gap (history_of m)
+    ≡ unless_lost (lost c.args.required l) (text_bytes m.text) l.start.index l (history_of m)
+unfolding read
+comes g c gap here allow =
+    let m = c.args.self.now in
+    let s = c.requires.stands.shown in
+    let n : ℕ = m.dropped + length (fields_of m).waiting in
+    let right = misplaced_is m c.args.spot.kind c.args.spot.mark c.args.spot.allowed (history_of m) m.depth c.key-key.result (sym s.depth) c.key-key.ensures.picks ∙ sym c.is_misplaced.ensures ∙ c.if-is_misplaced.false in
+    kind_at_place (text_bytes m.text) n gap c.args.spot.kind c.args.spot.mark c.args.reader.now.at c.args.spot.allowed m.depth m.levels c.args.required c.lexeme_at-lexeme.result here (c.requires.mark ∙ ap (λ t. mark_at t c.args.reader.now.at) c.requires.text) allow (sym s.depth) (sym s.levels) right c.requires.forward c.requires.required c.requires.early c.lexeme_at-lexeme.ensures.value
 
 pub returns-then-is_misplaced-clause-exact : goal.returns-then-is_misplaced-clause-exact
 returns-then-is_misplaced-clause-exact g c = λ gap here allow.
     let m = c.args.self.now in
     let k = c.args.spot.kind in
-    misplaced_gives m c.misplaced.result _ k c.args.spot.mark
-    (wrong_machine m gap k c.args.spot.mark c.args.reader.now.text c.args.reader.now.at c.args.spot.allowed c.key-key.result c.is_misplaced.result c.requires.stands.shown c.requires.text here c.requires.mark allow c.key-key.ensures.picks c.is_misplaced.ensures c.if-is_misplaced.true)
-    c.misplaced.ensures
+    let wrong = misplaced_is m k c.args.spot.mark c.args.spot.allowed (history_of m) m.depth c.key-key.result (sym c.requires.stands.shown.depth) c.key-key.ensures.picks ∙ sym c.is_misplaced.ensures ∙ c.if-is_misplaced.true in
+    let mark = ap (λ p. mark_at (text_bytes m.text) p) here ∙ sym (c.requires.mark ∙ ap (λ t. mark_at t c.args.reader.now.at) c.requires.text) in
+    fault_stops c.misplaced.result _ (not_allowed_there k c.args.spot.mark) (kind_misplaced (text_bytes m.text) gap (history_of m) k c.args.spot.mark c.args.spot.allowed mark allow wrong) c.misplaced.ensures
 
 pub returns-in-Some-clause-exact : goal.returns-in-Some-clause-exact
 returns-in-Some-clause-exact g c = λ gap here allow.
-    let m = c.args.self.now in
-    let k = c.args.spot.kind in
     let l = c.lexeme_at-lexeme.result in
-    let eq = kind_machine m gap k c.args.spot.mark c.args.reader.now.text c.args.reader.now.at c.args.spot.allowed c.args.required l c.key-key.result c.is_misplaced.result c.requires.stands.shown c.requires.text here c.requires.mark allow c.key-key.ensures.picks c.is_misplaced.ensures c.if-is_misplaced.false c.requires.forward c.requires.required c.requires.early c.lexeme_at-lexeme.ensures.value in
     let some : lost c.args.required l ≡ Some c.in-Some.start = sym c.lost.ensures ∙ c.in-Some.is in
-    lost_gives m c.no_colon.result _ c.in-Some.start l.start (eq ∙ ap (λ o. unless_lost o (text_bytes m.text) l.start.index l (history_of m)) some) c.no_colon.ensures
+    let eq = comes g (goal.at.returns-in-Some-clause-exact g c).After-lexeme_at-lexeme gap here allow in
+    fault_stops c.no_colon.result _ (colon_missing c.in-Some.start l.start) (rw some at eq) c.no_colon.ensures
 
 pub read-requires-clause-same : goal.read-requires-clause-same
 read-requires-clause-same g c = ap (λ (x : Lexeme). x.kind) c.lexeme_at-lexeme.ensures.value ∙ c.requires.same
@@ -72,22 +77,14 @@ returns-in-Ok-clause-safe g c =
 pub returns-in-Ok-clause-exact : goal.returns-in-Ok-clause-exact
 returns-in-Ok-clause-exact g c = λ gap here allow.
     let m = c.args.self.now in
-    let k = c.args.spot.kind in
     let l = c.lexeme_at-lexeme.result in
-    let value = c.lexeme_at-lexeme.ensures.value in
-    let eq = kind_machine m gap k c.args.spot.mark c.args.reader.now.text c.args.reader.now.at c.args.spot.allowed c.args.required l c.key-key.result c.is_misplaced.result c.requires.stands.shown c.requires.text here c.requires.mark allow c.key-key.ensures.picks c.is_misplaced.ensures c.if-is_misplaced.false c.requires.forward c.requires.required c.requires.early value in
     let none : lost c.args.required l ≡ None = sym c.lost.ensures ∙ c.in_default.is in
-    let all = eq ∙ ap (λ o. unless_lost o (text_bytes m.text) l.start.index l (history_of m)) none in
-    subst (λ (x : Next). GivesNext m (Ok record { lexeme = c.in-Ok.lexeme; body = c.in-Ok.body; key = c.key-key.result; left = c.left_at-left.result }) x) (sym all)
-    (ok_gives m _ record { lexeme = c.in-Ok.lexeme; body = c.in-Ok.body; key = c.key-key.result; left = c.left_at-left.result } l k c.args.spot.mark c.args.spot.allowed m.levels value c.in-Ok.ensures.exact c.in-Ok.ensures.safe c.key-key.ensures.picks)
+    let eq = comes g (goal.at.returns-in-Ok-clause-exact g c).After-lexeme_at-lexeme gap here allow in
+    let r : Answer = record { lexeme = c.in-Ok.lexeme; body = c.in-Ok.body; key = c.key-key.result; left = c.left_at-left.result } in
+    subst (λ (x : Next). GivesNext m (Ok r) x) (sym (rw none at eq)) (ok_gives m _ r l c.args.spot.kind c.args.spot.mark c.args.spot.allowed m.levels c.lexeme_at-lexeme.ensures.value c.in-Ok.ensures.exact c.in-Ok.ensures.safe c.key-key.ensures.picks)
 
 pub returns-in-Err-clause-exact : goal.returns-in-Err-clause-exact
 returns-in-Err-clause-exact g c = λ gap here allow.
-    let m = c.args.self.now in
-    let k = c.args.spot.kind in
-    let l = c.lexeme_at-lexeme.result in
-    let value = c.lexeme_at-lexeme.ensures.value in
-    let eq = kind_machine m gap k c.args.spot.mark c.args.reader.now.text c.args.reader.now.at c.args.spot.allowed c.args.required l c.key-key.result c.is_misplaced.result c.requires.stands.shown c.requires.text here c.requires.mark allow c.key-key.ensures.picks c.is_misplaced.ensures c.if-is_misplaced.false c.requires.forward c.requires.required c.requires.early value in
-    let none : lost c.args.required l ≡ None = sym c.lost.ensures ∙ c.in_default.is in
-    let all = eq ∙ ap (λ o. unless_lost o (text_bytes m.text) l.start.index l (history_of m)) none in
-    subst (λ (x : Next). GivesNext m (Err c.in-Err.error) x) (sym all) (err_gives m (stream_of m) c.in-Err.error _ c.in-Err.ensures.exact)
+    let none : lost c.args.required c.lexeme_at-lexeme.result ≡ None = sym c.lost.ensures ∙ c.in_default.is in
+    let eq = comes g (goal.at.returns-in-Err-clause-exact g c).After-lexeme_at-lexeme gap here allow in
+    subst (λ (x : Next). Stops c.in-Err.error x) (sym (rw none at eq)) c.in-Err.ensures.exact

@@ -1,19 +1,8 @@
 use Rattle.std.proofs.Common.{◌≡◌, ℕ, List, refl, sym, ap, subst, arith, ◌+◌, length}
-use Rattle.std.specs.Prelude.{map}
-use Rattle.yaml_scan_decode.specs.DecodedText.{text_bytes}
-use Rattle.yaml_scan_model.specs.declared.name.yaml_encoding_t.{yaml_encoding_t}
-use Rattle.yaml_scan_history.specs.Remaining.{remaining}
-use Rattle.yaml_scan_history.specs.Scanned.{scanned}
-use Rattle.yaml_scan_machine.specs.Left.{left_from}
-use Rattle.yaml_scan_machine.specs.State.{IsNarrow}
+use Rattle.yaml_scan_machine.proofs.Words.{map, text_bytes, yaml_encoding_t, remaining, scanned, left_from, IsNarrow, zero_mark, stack_of, Waiting, kept_of}
 use Rattle.yaml_scan_machine.proofs.SafeLemmas.{start_place, narrow_none}
-use Rattle.yaml_scan_model.specs.Tokens.{zero_mark}
-use Rattle.yaml_scan_machine.specs.Candidates.{stack_of}
-use Rattle.yaml_scan_machine.proofs.FrontLemmas.{shown_start}
+use Rattle.yaml_scan_machine.proofs.GivenLemmas.{shown_start, given_none}
 use Rattle.yaml_scan_machine.proofs.KeysLemmas.{start_keys}
-use Rattle.yaml_scan_machine.proofs.GivenLemmas.{given_none}
-use Rattle.yaml_scan_queue.specs.declared.waiting.Waiting.{Waiting}
-use Rattle.yaml_scan_queue.specs.Waits.{kept_of}
 use Rattle.yaml_scan_machine.proofs.machine.Machine.over.Goals as goal
 
 pub returns-clause-stands : goal.returns-clause-stands

@@ -1,21 +1,16 @@
-use Rattle.std.proofs.Common.{◌≡◌, ℕ, List, ◌+◌, nat_lt, length, false, Ok, Err, refl, sym, ap, subst, ◌∙◌}
-use Rattle.yaml_scan_decode.specs.DecodedText.{text_bytes}
-use Rattle.yaml_scan_history.specs.declared.kind.Kind.{Kind}
-use Rattle.yaml_scan_history.specs.Kinds.{is_end}
-use Rattle.yaml_scan_history.specs.Words.{word_at}
-use Rattle.yaml_scan_model.specs.Marks.{mark_at}
-use Rattle.yaml_scan_machine.specs.Stands.{Stands}
-use Rattle.yaml_scan_machine.specs.Given.{ReadsWord}
-use Rattle.yaml_scan_machine.specs.Shows.{fields_of, stream_of, history_of, read}
+use Rattle.std.proofs.Common.{◌≡◌, ℕ, ◌+◌, nat_lt, length, false, refl, sym, ap, subst, ◌∙◌}
+use Rattle.yaml_scan_machine.proofs.Words.{text_bytes, Kind, is_end, word_at, mark_at, Stands, fields_of, stream_of, history_of, read}
 use Rattle.yaml_scan_machine.proofs.KindLemmas.{word_gives, wrong_gives, finished_safe, read_text, stop_place}
 use Rattle.yaml_scan_machine.proofs.machine.Machine.read.Goals as goal
 
+pub word-requires-clause-stands : goal.word-requires-clause-stands
+word-requires-clause-stands g c = rw (← c.requires.same) c.requires.kind
+
 pub returns-in-Ok-clause-safe : goal.returns-in-Ok-clause-safe
 returns-in-Ok-clause-safe g c =
-    let l = c.args.lexeme in
-    let same = read_text c.args.reader.now.text c.args.reader.now.at c.read_word.new.reader c.in-Ok.word _ c.in-Ok.ensures in
-    let place = stop_place (text_bytes c.args.self.now.text) c.read_word.new.reader.text c.read_word.new.reader.at c.stop.result (same ∙ c.requires.text) c.stop.ensures.mark c.stop.ensures.inside c.stop.ensures.whole in
-    finished_safe (text_bytes c.args.self.now.text) l c.in-Ok.word c.stop.result c.args.required c.finish.result place c.finish.ensures
+    let same = read_text c.args.reader.now.text c.args.reader.now.at c.word.new.reader c.in-Ok.word _ c.in-Ok.ensures in
+    let place = stop_place (text_bytes c.args.self.now.text) c.word.new.reader.text c.word.new.reader.at c.stop.result (same ∙ c.requires.text) c.stop.ensures.mark c.stop.ensures.inside c.stop.ensures.whole in
+    finished_safe (text_bytes c.args.self.now.text) c.args.lexeme c.in-Ok.word c.stop.result c.args.required c.finish.result place c.finish.ensures
 
 pub returns-in-Ok-clause-exact : goal.returns-in-Ok-clause-exact
 unfolding read
@@ -24,19 +19,15 @@ returns-in-Ok-clause-exact g c =
     let l = c.args.lexeme in
     let s = stream_of m in
     let n : ℕ = m.dropped + length (fields_of m).waiting in
-    let P : List ℕ → Type 0 = λ t. ReadsWord t c.args.reader.now.at c.read_word.new.reader (Ok c.in-Ok.word) (word_at l.kind (nat_lt 0 l.depth) l.level t c.args.reader.now.at) in
-    let Q : ℕ → Type 0 = λ p. ReadsWord s.text p c.read_word.new.reader (Ok c.in-Ok.word) (word_at l.kind (nat_lt 0 l.depth) l.level s.text p) in
-    let reads = subst Q (sym c.requires.index) (subst P c.requires.text c.in-Ok.ensures) in
+    let reads = rw (← c.requires.same, ← c.requires.index, c.requires.text) at c.in-Ok.ensures in
     let K : Kind → Type 0 = λ k. Stands k (nat_lt 0 l.depth) c.args.reader.now.text c.args.reader.now.at in
-    word_gives s n c.read_word.new.reader c.in-Ok.word (word_at l.kind (nat_lt 0 l.depth) l.level s.text l.start.index) l c.stop.result c.args.required c.finish.result refl (λ e. subst K e c.requires.kind) c.requires.saved c.requires.required reads c.stop.ensures.mark c.finish.ensures
+    word_gives s n c.word.new.reader c.in-Ok.word (word_at l.kind (nat_lt 0 l.depth) l.level s.text l.start.index) l c.stop.result c.args.required c.finish.result refl (λ e. subst K e c.requires.kind) c.requires.saved c.requires.required reads c.stop.ensures.mark c.finish.ensures
 
 pub returns-in-Err-clause-exact : goal.returns-in-Err-clause-exact
 returns-in-Err-clause-exact g c =
     let m = c.args.self.now in
     let l = c.args.lexeme in
     let s = stream_of m in
-    let P : List ℕ → Type 0 = λ t. ReadsWord t c.args.reader.now.at c.read_word.new.reader (Err c.in-Err.error) (word_at l.kind (nat_lt 0 l.depth) l.level t c.args.reader.now.at) in
-    let Q : ℕ → Type 0 = λ p. ReadsWord s.text p c.read_word.new.reader (Err c.in-Err.error) (word_at l.kind (nat_lt 0 l.depth) l.level s.text p) in
-    let reads = subst Q (sym c.requires.index) (subst P c.requires.text c.in-Err.ensures) in
+    let reads = rw (← c.requires.same, ← c.requires.index, c.requires.text) at c.in-Err.ensures in
     let start : is_end l.kind ≡ false → l.start ≡ mark_at s.text l.start.index = λ e. c.requires.start e ∙ ap (λ t. mark_at t c.args.reader.now.at) c.requires.text ∙ ap (λ p. mark_at s.text p) (sym c.requires.index) in
-    wrong_gives s s.text l.start.index c.read_word.new.reader c.in-Err.error (word_at l.kind (nat_lt 0 l.depth) l.level s.text l.start.index) l (history_of m) refl start reads
+    wrong_gives s s.text l.start.index c.word.new.reader c.in-Err.error (word_at l.kind (nat_lt 0 l.depth) l.level s.text l.start.index) l (history_of m) refl start reads

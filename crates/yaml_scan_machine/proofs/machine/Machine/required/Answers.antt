@@ -1,4 +1,4 @@
-use Rattle.yaml_scan_machine.specs.Shows.{fields_of}
+use Rattle.yaml_scan_machine.proofs.Words.{fields_of}
 use Rattle.yaml_scan_machine.proofs.KeysLemmas.{open_depth, required_is}
 use Rattle.yaml_scan_machine.proofs.machine.Machine.required.Goals as goal
 

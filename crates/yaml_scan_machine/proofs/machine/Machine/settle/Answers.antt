@@ -1,7 +1,5 @@
 use Rattle.std.proofs.Common.{Bool, cond, length, refl, sym, ap, ◌∙◌}
-use Rattle.yaml_scan_history.specs.History.{first_open}
-use Rattle.yaml_scan_machine.specs.Candidates.{stack_of}
-use Rattle.yaml_scan_machine.specs.Shows.{history_of}
+use Rattle.yaml_scan_machine.proofs.Words.{first_open, stack_of, history_of}
 use Rattle.yaml_scan_machine.proofs.KeysLemmas.{some_settles, none_settles}
 use Rattle.yaml_scan_machine.proofs.machine.Machine.settle.Goals as goal
 

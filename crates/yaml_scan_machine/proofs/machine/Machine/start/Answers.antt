@@ -1,6 +1,5 @@
 use Rattle.std.proofs.Common.{arith, ap, length, List}
-use Rattle.yaml_scan_model.specs.Faults.{fault_of}
-use Rattle.yaml_scan_queue.specs.declared.waiting.Waiting.{Waiting}
+use Rattle.yaml_scan_machine.proofs.Words.{fault_of, Waiting}
 use Rattle.yaml_scan_machine.proofs.ComesLemmas.{told_decoding}
 use Rattle.yaml_scan_machine.proofs.machine.Machine.start.Goals as goal
 

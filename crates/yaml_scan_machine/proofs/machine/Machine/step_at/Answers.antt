@@ -1,6 +1,5 @@
 use Rattle.std.proofs.Common.{sym, subst}
-use Rattle.yaml_scan_history.specs.declared.kind.Kind.{Kind}
-use Rattle.yaml_scan_machine.specs.Stood.{MayReadAt}
+use Rattle.yaml_scan_machine.proofs.Words.{Kind, MayReadAt}
 use Rattle.yaml_scan_machine.proofs.machine.Machine.step_at.Goals as goal
 
 pub of_rare-requires : goal.of_rare-requires

@@ -1,7 +1,5 @@
 use Rattle.std.proofs.Common.{sym, subst}
-use Rattle.yaml_scan_model.specs.Tokens.{Token}
-use Rattle.yaml_scan_laws_order.specs.Fronts.{GivesFirst}
-use Rattle.yaml_scan_machine.specs.Left.{left_in}
+use Rattle.yaml_scan_machine.proofs.Words.{Token, GivesFirst, left_in}
 use Rattle.yaml_scan_machine.proofs.machine.Machine.take_token.Goals as goal
 
 pub returns-clause-gives : goal.returns-clause-gives

@@ -7,11 +7,8 @@ ghost use Rattle.yaml_parse_model.specs.Events.{body_of, text_of, directive_of};
 ghost use Rattle.yaml_parse_model.specs.Nodes.{node_of, tag_of};
 ghost use Rattle.yaml_emit_layout.specs.Content.{emitter_event, scalar, alias, sequence_start, mapping_start, document_start, is_flow_sequence, is_flow_mapping};
 ghost use Rattle.yaml_emit_graph.specs.Graph.{lead, name_of, anchor_of, graph_scalar, graph_start, opening_event, closing_event, body_of_id, tag_of_id, turn_event, graph_opening, dumped};
-ghost use Rattle.yaml_emit_graph.specs.Texts.{IsPlainText};
-ghost use Rattle.yaml_emit_graph.specs.Brackets.{IsPlainBracket};
-ghost use Rattle.yaml_emit_graph.specs.Events.{remaining_events, IsEvents, Says, GivesGraphEvent, IsAhead, GivesPlainText, GivesBracket, IsUtf8Body};
+ghost use Rattle.yaml_emit_graph.specs.Events.{remaining_events, IsEvents, Says, GivesGraphEvent, IsTextAhead, GivesPlainText, IsUtf8Body};
 
-use crate::bracket::{Bracket, bracket_met};
 use crate::numbers::{Walked, number_of, walk_nodes};
 use crate::rooms::{Rooms, put_aside};
 use crate::tags::{is_map, is_seq, is_str};
@@ -376,8 +373,7 @@ impl Events {
     #[inline(always)]
     fn text_ahead<'a>(&self, document: &'a yaml_document_t) -> Option<&'a [u8]>
         requires { self.now.place ≡ DumpPhase.Nodes }
-        ensures { IfSome result (λ v. IsAhead (λ e. IsPlainText e v.now) document.now
-            self.now) }
+        ensures { IfSome result (λ v. IsTextAhead v.now document.now self.now) }
     {
         if self.given < self.turns.len() {
             match text_met(&self.numbers, document, self.turns[self.given]) {
@@ -393,8 +389,7 @@ impl Events {
     // Inlined: a test.
     #[inline(always)]
     fn text_to_come<'a>(&self, document: &'a yaml_document_t) -> Option<&'a [u8]>
-        ensures { IfSome result (λ v. IsAhead (λ e. IsPlainText e v.now) document.now
-            self.now) }
+        ensures { IfSome result (λ v. IsTextAhead v.now document.now self.now) }
     {
         match self.place {
             DumpPhase::Nodes => self.text_ahead(document),
@@ -414,53 +409,6 @@ impl Events {
             Some(value) => {
                 self.given += 1;
                 Some(value)
-            }
-        }
-    }
-
-    // What opens or closes a collection where its turn comes next, if the event says no more than that.
-    // Inlined: mostly a look at the node.
-    #[inline(always)]
-    fn bracket_ahead(&self, document: &yaml_document_t) -> Option<Bracket>
-        requires { self.now.place ≡ DumpPhase.Nodes }
-        ensures { IfSome result (λ b. IsAhead (λ e. IsPlainBracket e b) document.now
-            self.now) }
-    {
-        if self.given < self.turns.len() {
-            match bracket_met(&self.numbers, document, self.turns[self.given]) {
-                None => None,
-                Some(bracket) => Some(bracket),
-            }
-        } else {
-            None
-        }
-    }
-
-    // The same, wherever the walk is.
-    // Inlined: a test.
-    #[inline(always)]
-    fn bracket_to_come(&self, document: &yaml_document_t) -> Option<Bracket>
-        ensures { IfSome result (λ b. IsAhead (λ e. IsPlainBracket e b) document.now
-            self.now) }
-    {
-        match self.place {
-            DumpPhase::Nodes => self.bracket_ahead(document),
-            _ => None,
-        }
-    }
-
-    /// What opens or closes a collection, if that comes next, with the default tag and without an anchor: then it is given.
-    // Inlined: mostly a look at the node.
-    #[inline(always)]
-    pub fn next_bracket(&mut self, document: &yaml_document_t) -> Option<Bracket>
-        ensures bracket { IfSome result (λ b. GivesBracket document.now self.old b self.new) }
-        ensures none { result ≡ None → self.new ≡ self.old }
-    {
-        match self.bracket_to_come(document) {
-            None => None,
-            Some(bracket) => {
-                self.given += 1;
-                Some(bracket)
             }
         }
     }

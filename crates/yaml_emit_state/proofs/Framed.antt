@@ -1,5 +1,5 @@
 -- Scalars without properties that stand in their line in double quotes, and what opens collections, in canonical form.
-use Rattle.std.proofs.Common.{◌≡◌, ℕ, ◌+◌, ◌<◌, Bool, true, false, refl, sym, subst, arith, List, [], ◌∷◌, ◌++◌, length, Option, Some, None}
+use Rattle.std.proofs.Common.{◌≡◌, ℕ, ◌+◌, ◌<◌, Bool, true, false, refl, sym, subst, arith, List, [], ◌∷◌, ◌++◌, Option, Some, None}
 use Rattle.std.specs.Prelude.{not, ◌&&◌, ◌||◌}
 use Rattle.std.specs.Str.{chars, IsAscii}
 use Rattle.std.proofs.lemmas.Bool.{and_parts}
@@ -10,7 +10,7 @@ use Rattle.yaml_emit_tags.specs.parse_model.Events.{TagDirective}
 use Rattle.yaml_emit_tags.specs.parse_model.Nodes.{str_tag}
 use Rattle.yaml_emit_tags.specs.Tags.{tag_spelling}
 use Rattle.yaml_emit_text.specs.declared.Settings.{Settings}
-use Rattle.yaml_emit_text.specs.Layout.{Layout, ◌▹◌, stay, when, char, letters, word, line, after_block}
+use Rattle.yaml_emit_text.specs.Layout.{Layout, ◌▹◌, stay, when, char, letters, word, line, opener, after_block}
 use Rattle.yaml_emit_text.specs.Quoted.{double_quoted}
 use Rattle.yaml_emit_text.specs.Scalars.{scalar_text}
 use Rattle.yaml_emit_text.specs.Sink.{Output, Puts}
@@ -27,7 +27,7 @@ use Rattle.yaml_emit_layout.specs.Grammar.{has}
 use Rattle.yaml_emit_layout.specs.Nodes.{context_of, checked, deeper, page_at, scalar_layout, style_of, turned, before_item, before_key, before_value}
 use Rattle.yaml_emit_layout.specs.State.{among, before_at, before_node, levels_behind, position_of, top_of}
 use Rattle.yaml_emit_state.specs.declared.state.Core.{Core}
-use Rattle.yaml_emit_state.specs.Framed.{has_comma, mark_of, is_behind_simple, sign_of, line_start, BeginsLine, is_free, framed_text, tagged_text, bracket_text}
+use Rattle.yaml_emit_state.specs.Framed.{has_comma, mark_of, is_behind_simple, sign_of, line_start, BeginsLine, is_free, framed_text, tagged_text}
 use Rattle.yaml_emit_state.specs.Given.{plain_text}
 use Rattle.yaml_emit_state.specs.Stack.{stack_of}
 use Rattle.yaml_emit_state.specs.Steps.{state_of, settings_of, StaysBut, LaysOut}
@@ -87,11 +87,11 @@ puts_tagged s l v a b t w p =
     (subst C (sym str_spelled) (begun s l None (word (33 ∷ 33 ∷ 115 ∷ 116 ∷ 114 ∷ []) ▹ q) 33 (33 ∷ 115 ∷ 116 ∷ 114 ∷ 32 ∷ 34 ∷ (v ++ 34 ∷ [])) stay a b t (tagged_worded l.indent (page_at s pos) v w) p))
 
 -- what opens a collection was written
-pub puts_bracket : (s : Settings) (l : Level) (v : List ℕ) (a b : Output) → BeginsLine s l
-    → 0 < length v → Puts a b ((line_start_text (line_start s l None) ▹ letters v) ▹ after_block)
-    → Puts a b (bracket_text s (Some l) v)
-puts_bracket s l [] a b t h p = absurd (omega (arith, h))
-puts_bracket s l (y ∷ ys) a b t h p = begun s l None (word (y ∷ ys) ▹ after_block) y ys after_block a b t (word_worded (l.indent + 4) (y ∷ ys) after_block) p
+pub puts_bracket : (s : Settings) (l : Level) (x : ℕ) (a b : Output) → BeginsLine s l
+    → Puts a b ((line_start_text (line_start s l None) ▹ letters (x ∷ [])) ▹ after_block)
+    → Puts a b (before_node s (Some l) false ▹ opener x)
+unfolding letters
+puts_bracket s l x a b t p = begun s l None (word (x ∷ []) ▹ after_block) x [] after_block a b t (word_worded (l.indent + 4) (x ∷ []) after_block) p
 
 two_ascii : (m : ℕ) → m < 128 → IsAscii (m ∷ 32 ∷ [])
 two_ascii m h = IsAscii-cons m (32 ∷ []) h (IsAscii-cons 32 [] (omega arith) IsAscii-nil)

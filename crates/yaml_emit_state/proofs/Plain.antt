@@ -5,7 +5,7 @@ use Rattle.std.specs.Prelude.{◌&&◌, codes}
 use Rattle.std.specs.Str.{chars}
 use Rattle.yaml_scan_model.specs.declared.yaml_scalar_style_t.{yaml_scalar_style_t}
 use Rattle.yaml_emit_tags.specs.parse_model.Events.{TagDirective}
-use Rattle.yaml_emit_tags.specs.parse_model.Nodes.{str_tag, seq_tag, map_tag}
+use Rattle.yaml_emit_tags.specs.parse_model.Nodes.{str_tag}
 use Rattle.yaml_emit_tags.specs.Tags.{tag_spelling, spelled, directive_for, defines, suffix_keeps, uri_text}
 use Rattle.yaml_emit_text.specs.declared.Settings.{Settings}
 use Rattle.yaml_emit_text.specs.Sink.{Output, Puts}
@@ -27,18 +27,10 @@ use Rattle.yaml_emit_state.specs.Given.{plain_text}
 use Rattle.yaml_emit_state.specs.Steps.{state_of, settings_of, LaysOut, LaysOutRight}
 use Rattle.yaml_emit_state.proofs.Canonical.{no_keys}
 
--- the default tags, without directives
+-- the default tag, without directives
 pub str_spelled : tag_spelling [] str_tag ≡ codes "!!str"
 unfolding directive_for defines suffix_keeps uri_text spelled
 str_spelled = refl
-
-pub seq_spelled : tag_spelling [] seq_tag ≡ codes "!!seq"
-unfolding directive_for defines suffix_keeps uri_text spelled
-seq_spelled = refl
-
-pub map_spelled : tag_spelling [] map_tag ≡ codes "!!map"
-unfolding directive_for defines suffix_keeps uri_text spelled
-map_spelled = refl
 
 -- its layout: the tag, and the value in double quotes
 pub text_layout : (s : Settings) (ds : List TagDirective) (at : NodePosition) (value : List ℕ)

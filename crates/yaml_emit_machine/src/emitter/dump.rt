@@ -1,13 +1,12 @@
 //! The events of a document.
 
-ghost use Rattle.std.specs.Prelude.{◌≡◌, ◌<◌, ◌∷◌, [], List, length, None, Bool, true, false, IsUtf8};
+ghost use Rattle.std.specs.Prelude.{◌≡◌, ◌<◌, ◌∷◌, [], List, length, None, true, false, IsUtf8};
 ghost use Rattle.yaml_scan_model.specs.declared.yaml_scalar_style_t.{yaml_scalar_style_t};
 ghost use Rattle.yaml_parse_model.specs.Events.{body_of};
 ghost use Rattle.yaml_parse_model.specs.Constructors.{HasUtf8};
 ghost use Rattle.yaml_emit_layout.specs.Content.{emitter_event, Event};
 ghost use Rattle.yaml_emit_graph.specs.Graph.{dumped};
 ghost use Rattle.yaml_emit_graph.specs.Texts.{text_event};
-ghost use Rattle.yaml_emit_graph.specs.Brackets.{bracket_event};
 ghost use Rattle.yaml_emit_graph.specs.Events.{IsEvents, remaining_events};
 ghost use Rattle.yaml_emit_machine.specs.Emitter.{Keeps, left_if};
 ghost use Rattle.yaml_emit_machine.specs.Taking.{TakesEvents, TakesEarly, LaysAtOnce, AwaitsNode, Stuck, NotesMemory};
@@ -16,7 +15,7 @@ ghost use Rattle.yaml_emit_machine.specs.Dumping.{DumpsAtOnce, DumpsSome};
 use super::{answer, take_event, yaml_emitter_t};
 use crate::fault::refusal;
 use std::alloc::AllocError;
-use yaml_emit_graph::{Bracket, Events};
+use yaml_emit_graph::Events;
 use yaml_parse_document::yaml_document_t;
 use yaml_parse_model::yaml_event_body_t;
 
@@ -119,20 +118,6 @@ impl yaml_emitter_t {
         self.is_right()
     }
 
-    // What opens or closes a collection of the dump is laid out at once, with the default tag and without an anchor.
-    // Inlined into its one caller.
-    #[inline(always)]
-    fn dump_bracket(&mut self, bracket: Bracket) -> bool
-        requires once { LaysAtOnce self.old }
-        requires due { AwaitsNode self.old }
-        ensures { (flow : Bool) → (before after : List Event)
-            → before ≡ bracket_event bracket flow ∷ after
-            → DumpsAtOnce self.old self.new result before after }
-    {
-        self.lay_bracket_at_once(bracket);
-        self.is_right()
-    }
-
     // Whether an event was laid out at once, by way of a slot that is lent, and no fault has come.
     fn dump_next_early(
         &mut self,
@@ -154,26 +139,6 @@ impl yaml_emitter_t {
         }
     }
 
-    // The same: what opens or closes a collection goes without a slot.
-    // Inlined into its one caller.
-    #[inline(always)]
-    fn dump_bracket_early(
-        &mut self,
-        events: &mut Events,
-        document: &yaml_document_t,
-        event: &mut yaml_event_body_t,
-    ) -> bool
-        requires walk { IsEvents document.now events.old }
-        requires once { LaysAtOnce self.old }
-        requires due { AwaitsNode self.old }
-        ensures { DumpsSome document.now self.old self.new events.old events.new result }
-    {
-        match events.next_bracket(document) {
-            Some(bracket) => self.dump_bracket(bracket),
-            None => self.dump_next_early(events, document, event),
-        }
-    }
-
     // The same: a text goes without a slot.
     // Inlined into its one caller.
     #[inline(always)]
@@ -190,7 +155,7 @@ impl yaml_emitter_t {
     {
         match events.next_text(document) {
             Some(value) => self.dump_text(value),
-            None => self.dump_bracket_early(events, document, event),
+            None => self.dump_next_early(events, document, event),
         }
     }
 

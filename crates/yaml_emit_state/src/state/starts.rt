@@ -111,7 +111,7 @@ impl Core {
     {
         let settings = self.settings(true);
         let top = self.levels.innermost();
-        if put_bracket(&mut self.sink, &settings, top, &[opening_bracket(sequence)]) {
+        if put_bracket(&mut self.sink, &settings, top, opening_bracket(sequence)) {
             self.open_by(&settings, false, false, false, sequence);
             true
         } else {

@@ -11,8 +11,8 @@ returns-in-Some c =
       less = λ going. one_less_left _ _ _ g.next;
     }
 
-pub dump_bracket_early-requires-clause-walk : goal.dump_bracket_early-requires-clause-walk
-dump_bracket_early-requires-clause-walk c = rw (c.in-None.ensures.none refl) c.requires.walk
+pub dump_next_early-requires-clause-walk : goal.dump_next_early-requires-clause-walk
+dump_next_early-requires-clause-walk c = rw (c.in-None.ensures.none refl) c.requires.walk
 
 pub returns-in-None : goal.returns-in-None
-returns-in-None c = rw (c.in-None.ensures.none refl) at c.dump_bracket_early.ensures
+returns-in-None c = rw (c.in-None.ensures.none refl) at c.dump_next_early.ensures

@@ -103,28 +103,6 @@ fn put_in(event: &mut yaml_event_body_t, body: yaml_event_body_t)
     *event = body;
 }
 
-// A node's anchor and tag in their slots, the tag in the room of the one that stands there, or in the one that is put aside.
-// Inlined: an anchor is mostly none.
-#[inline(always)]
-fn put_head(
-    rooms: &mut Rooms,
-    number: u64,
-    tag: &yaml_node_tag_t,
-    name: &mut Option<Vec<u8>>,
-    held_tag: &mut Option<Vec<u8>>,
-) -> Result<(), AllocError>
-    ensures name { OnOk result (text_of name.new ≡ anchor_of number) }
-    ensures utf8 { OnOk result (IsUtf8Option (text_of name.new)) }
-    ensures tag { OnOk result (text_of held_tag.new ≡ Some (tag_of tag.now)) }
-{
-    let anchor = anchor_of(rooms.alloc, number)?;
-    *name = anchor;
-    let mut room = room_of(held_tag, &mut rooms.tag);
-    let text = refilled(&mut room, tag.as_slice(), 0)?;
-    *held_tag = Some(text);
-    Ok(())
-}
-
 // A scalar, in rooms that are put aside.
 // Out of line: mostly the event before it is one too.
 #[inline(never)]
@@ -142,13 +120,12 @@ fn put_other_scalar(
 {
     put_aside(rooms, event);
     let plain = is_str(tag);
-    let mut anchor = None;
-    let mut held_tag = None;
-    put_head(rooms, number, tag, &mut anchor, &mut held_tag)?;
+    let anchor = anchor_of(rooms.alloc, number)?;
+    let name = refilled(&mut rooms.tag, tag.as_slice(), 0)?;
     let text = refilled(&mut rooms.value, value, 0)?;
     let body = yaml_event_body_t::Scalar {
         anchor,
-        tag: held_tag,
+        tag: Some(name),
         value: text,
         plain_implicit: plain,
         quoted_implicit: plain,
@@ -182,7 +159,11 @@ fn put_scalar_event(
             quoted_implicit,
             style: how,
         } => {
-            put_head(rooms, number, tag, name, held_tag)?;
+            let anchor = anchor_of(rooms.alloc, number)?;
+            *name = anchor;
+            let mut room = room_of(held_tag, &mut rooms.tag);
+            let text = refilled(&mut room, tag.as_slice(), 0)?;
+            *held_tag = Some(text);
             let text = refilled(held_value, value, 0)?;
             *held_value = text;
             let plain = is_str(tag);
@@ -210,12 +191,11 @@ fn put_sequence(
 {
     put_aside(rooms, event);
     let implicit = is_seq(tag);
-    let mut anchor = None;
-    let mut held_tag = None;
-    put_head(rooms, number, tag, &mut anchor, &mut held_tag)?;
+    let anchor = anchor_of(rooms.alloc, number)?;
+    let name = refilled(&mut rooms.tag, tag.as_slice(), 0)?;
     let body = yaml_event_body_t::SequenceStart {
         anchor,
-        tag: held_tag,
+        tag: Some(name),
         implicit,
         style,
     };
@@ -238,12 +218,11 @@ fn put_mapping(
 {
     put_aside(rooms, event);
     let implicit = is_map(tag);
-    let mut anchor = None;
-    let mut held_tag = None;
-    put_head(rooms, number, tag, &mut anchor, &mut held_tag)?;
+    let anchor = anchor_of(rooms.alloc, number)?;
+    let name = refilled(&mut rooms.tag, tag.as_slice(), 0)?;
     let body = yaml_event_body_t::MappingStart {
         anchor,
-        tag: held_tag,
+        tag: Some(name),
         implicit,
         style,
     };

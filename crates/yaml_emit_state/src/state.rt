@@ -302,7 +302,7 @@ impl Core {
     fn admits(&mut self, event: &yaml_event_body_t, canonical: bool) -> bool
         requires { canonical ≡ self.old.settings.canonical }
         ensures same { result ≡ true → self.new ≡ self.old }
-        ensures right { result ≡ true → problem_at (settings_of self.old) (state_of self.old)
+        ensures right { result ≡ true → problem_at (settings_of self.new) (state_of self.new)
             (emitter_event (body_of event.now)) ≡ None }
         ensures wrong { result ≡ false → (empty : Bool) → LaysOut self.old self.new
             (emitter_event (body_of event.now)) empty }
@@ -420,8 +420,9 @@ impl Core {
     {
         match event {
             yaml_event_body_t::Scalar { .. } => self.lay_named_scalar(event, empty),
-            yaml_event_body_t::SequenceStart { .. } => self.lay_sequence_start(event, empty),
-            yaml_event_body_t::MappingStart { .. } => self.lay_mapping_start(event, empty),
+            yaml_event_body_t::SequenceStart { .. } | yaml_event_body_t::MappingStart { .. } => {
+                self.lay_canonical_start(event, empty)
+            }
             yaml_event_body_t::SequenceEnd => self.lay_sequence_end(empty),
             yaml_event_body_t::MappingEnd => self.lay_mapping_end(empty),
             yaml_event_body_t::Alias { .. } => self.lay_alias(event, empty),

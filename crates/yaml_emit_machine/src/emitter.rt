@@ -12,7 +12,7 @@ ghost use Rattle.yaml_emit_machine.specs.Held.{AreLast};
 ghost use Rattle.yaml_emit_machine.specs.Within.{IsWithin};
 ghost use Rattle.yaml_emit_machine.specs.Verdict.{TellsOutcome};
 ghost use Rattle.yaml_emit_machine.specs.Dumping.{LaysOne};
-ghost use Rattle.yaml_emit_machine.specs.Taking.{TakesEvents, GivesText, LaysAtOnce, AwaitsNode, Stuck, NotesMemoryOf, BlamesLevels, ComesIntoForce};
+ghost use Rattle.yaml_emit_machine.specs.Taking.{TakesEvents, GivesText, TakesOne, GivesOne, LaysAtOnce, AwaitsNode, Stuck, NotesMemoryOf, BlamesLevels, ComesIntoForce};
 
 mod dump;
 mod resume;
@@ -159,10 +159,7 @@ pub fn first_fault(emitter: &yaml_emitter_t) -> Option<&yaml_fault_t>
     ensures tells { TellsOutcome emitter.now }
     ensures limited { (f : Fault) → emitter.now.fault ≡ Some f → IsLimited emitter.now f }
 {
-    match &emitter.fault {
-        None => None,
-        Some(fault) => Some(fault),
-    }
+    emitter.fault.as_ref()
 }
 
 /// The text so far.
@@ -208,13 +205,7 @@ impl yaml_emitter_t {
         requires utf8 { HasUtf8 (body_of event.old) }
         requires right { self.old.fault ≡ None }
         requires begun { self.old.fresh ≡ false }
-        ensures takes { TakesEvents self.old (emitter_event (body_of event.old) ∷ []) self.new [] }
-        ensures memory { NotesMemoryOf (emitter_event (body_of event.old)) self.old self.new }
-        ensures blames { BlamesLevels (emitter_event (body_of event.old)) self.old self.new }
-        ensures few { length self.new.held ≤ 3 }
-        ensures opened { (self.new.opened ≡ self.old.opened) × (self.new.closed ≡ self.old.closed) }
-        ensures last { AreLast (self.old.held ++ emitter_event (body_of event.old) ∷ [])
-            self.new.held }
+        ensures { TakesOne self.old (emitter_event (body_of event.old)) self.new }
     {
         hold_or_lay(&mut self.core, &mut self.held, event, false);
         note(&self.core, &mut self.fault);
@@ -240,12 +231,7 @@ impl yaml_emitter_t {
         requires utf8 { HasUtf8 (body_of event.old) }
         requires right { self.old.fault ≡ None }
         requires begun { self.old.fresh ≡ false }
-        ensures text { GivesText self.old (emitter_event (body_of event.old)) self.new }
-        ensures memory { NotesMemoryOf (emitter_event (body_of event.old)) self.old self.new }
-        ensures blames { BlamesLevels (emitter_event (body_of event.old)) self.old self.new }
-        ensures few { length self.new.held ≤ 3 }
-        ensures opened { (self.new.opened ≡ self.old.opened) × (self.new.closed ≡ self.old.closed) }
-        ensures begun { self.new.fresh ≡ false }
+        ensures { GivesOne self.old (emitter_event (body_of event.old)) self.new }
     {
         hold_or_lay_early(&mut self.core, &mut self.held, event);
         note(&self.core, &mut self.fault);
@@ -299,17 +285,10 @@ impl yaml_emitter_t {
     }
 
     // An emitter without a fault takes an event.
-    #[tactic(auto, using(crate::proofs::Taking::begins_takes, crate::proofs::Taking::begins_notes))]
     fn begin_or_lay(&mut self, event: &mut yaml_event_body_t)
         requires utf8 { HasUtf8 (body_of event.old) }
         requires right { self.old.fault ≡ None }
-        ensures takes { TakesEvents self.old (emitter_event (body_of event.old) ∷ []) self.new [] }
-        ensures memory { NotesMemoryOf (emitter_event (body_of event.old)) self.old self.new }
-        ensures blames { BlamesLevels (emitter_event (body_of event.old)) self.old self.new }
-        ensures few { length self.new.held ≤ 3 }
-        ensures opened { (self.new.opened ≡ self.old.opened) × (self.new.closed ≡ self.old.closed) }
-        ensures last { AreLast (self.old.held ++ emitter_event (body_of event.old) ∷ [])
-            self.new.held }
+        ensures { TakesOne self.old (emitter_event (body_of event.old)) self.new }
     {
         if self.fresh {
             self.begin(event);

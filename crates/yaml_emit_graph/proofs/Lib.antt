@@ -4,5 +4,4 @@ pub mod Counting
 pub mod Naming
 pub mod Leaving
 mod Plain
-mod Bracketed
 pub mod Joining

@@ -7,7 +7,7 @@ use Rattle.yaml_emit_graph.specs.declared.graph.Events.{Events}
 use Rattle.yaml_emit_graph.specs.declared.walk.Turn.TheVariants.{First}
 use Rattle.yaml_emit_graph.specs.Graph.{number_at, tag_at, body_at, anchor_of, opening_event, turn_event}
 use Rattle.yaml_emit_graph.specs.Texts.{NamesText, IsPlainText}
-use Rattle.yaml_emit_graph.specs.Events.{IsAhead, GivesPlainText}
+use Rattle.yaml_emit_graph.specs.Events.{IsTextAhead, GivesPlainText}
 use Rattle.yaml_emit_graph.proofs.Leaving.{turn_comes}
 
 text_by : (o : Option model.Node) (n : ℕ) (value : List ℕ) (count : ℕ) → n ≡ 0
@@ -27,8 +27,7 @@ pub text_there : (table : List ℕ) (nodes : List model.Node) (id : ℤ) (value 
 unfolding turn_event
 text_there table nodes id value count z h s = text_by (node_at nodes id) (number_at table id) value count z h s
 
-pub text_comes : (d : Document) (old : Events) (value : List ℕ)
-    → IsAhead (λ e. IsPlainText e value) d old
+pub text_comes : (d : Document) (old : Events) (value : List ℕ) → IsTextAhead value d old
     → GivesPlainText d old value (record old { given = old.given + 1 })
 text_comes d old value h = record {
   style = h.is.style;

@@ -12,9 +12,7 @@ use Rattle.yaml_emit_graph.specs.declared.graph.DumpPhase.{DumpPhase}
 use Rattle.yaml_emit_graph.specs.declared.graph.DumpPhase.TheVariants as at
 use Rattle.yaml_emit_graph.specs.Graph.{graph_opening, turn_event}
 use Rattle.yaml_emit_graph.specs.declared.walk.Turn.{Turn}
-use Rattle.yaml_emit_graph.specs.declared.bracket.Bracket.{Bracket}
-use Rattle.yaml_emit_graph.specs.Texts.{text_event}
-use Rattle.yaml_emit_graph.specs.Brackets.{bracket_event}
+use Rattle.yaml_emit_graph.specs.Texts.{text_event, IsPlainText}
 
 -- a call put that event, with texts that are UTF-8, into a slot
 abbrev pub Says : Event → Result Unit AllocError → EventBody → Type 0
@@ -43,14 +41,13 @@ remaining_events d e = remaining_at e.place d e
 abbrev pub IsEvents : Document → Events → Type 0
 IsEvents d e = e.given ≤ length e.turns.items
 
--- A turn of the walk comes next, of whose event that is true: it is a text, or opens or closes a collection, with the default tag
--- and without an anchor.
-pub record IsAhead (is_met : Event → Type 0) (d : Document) (e : Events) : Type 0 where
+-- a turn of the walk comes next, and meets a text with the default tag and without an anchor
+pub record IsTextAhead (value : List ℕ) (d : Document) (e : Events) : Type 0 where
   pub place : e.place ≡ at.Nodes
   pub within : e.given < length e.turns.items
   pub turn : Turn
   pub there : turn ≡ get_or e.turns.items e.given turn
-  pub is : is_met (turn_event e.numbers.items d.nodes turn)
+  pub is : IsPlainText (turn_event e.numbers.items d.nodes turn) value
 
 -- the next event is a text with the default tag and without an anchor, and the others are still to come
 pub record GivesPlainText (d : Document) (old : Events) (value : List ℕ) (new : Events) : Type 0
@@ -58,13 +55,6 @@ pub record GivesPlainText (d : Document) (old : Events) (value : List ℕ) (new 
     pub style : yaml_scalar_style_t
     pub next : remaining_events d old ≡ text_event value style ∷ remaining_events d new
     pub utf8 : IsUtf8 value
-    pub walk : IsEvents d new
-
--- the next event is that, and the others are still to come
-pub record GivesBracket (d : Document) (old : Events) (bracket : Bracket) (new : Events) : Type 0
-  where
-    pub flow : Bool
-    pub next : remaining_events d old ≡ bracket_event bracket flow ∷ remaining_events d new
     pub walk : IsEvents d new
 
 -- the next event stands in a slot, and the others are still to come

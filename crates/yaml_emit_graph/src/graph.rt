@@ -7,11 +7,8 @@ ghost use Rattle.yaml_parse_model.specs.Events.{body_of, text_of, directive_of};
 ghost use Rattle.yaml_parse_model.specs.Nodes.{node_of, tag_of};
 ghost use Rattle.yaml_emit_layout.specs.Content.{emitter_event, scalar, alias, sequence_start, mapping_start, document_start, is_flow_sequence, is_flow_mapping};
 ghost use Rattle.yaml_emit_graph.specs.Graph.{lead, name_of, anchor_of, graph_scalar, graph_start, opening_event, closing_event, body_of_id, tag_of_id, turn_event, graph_opening, dumped};
-ghost use Rattle.yaml_emit_graph.specs.Texts.{IsPlainText};
-ghost use Rattle.yaml_emit_graph.specs.Brackets.{IsPlainBracket};
-ghost use Rattle.yaml_emit_graph.specs.Events.{remaining_events, IsEvents, Says, GivesGraphEvent, IsAhead, GivesPlainText, GivesBracket, IsUtf8Body};
+ghost use Rattle.yaml_emit_graph.specs.Events.{remaining_events, IsEvents, Says, GivesGraphEvent, IsTextAhead, GivesPlainText, IsUtf8Body};
 
-use crate::bracket::{Bracket, bracket_met};
 use crate::numbers::{Walked, number_of, walk_nodes};
 use crate::rooms::{Rooms, put_aside};
 use crate::tags::{is_map, is_seq, is_str};
@@ -106,28 +103,6 @@ fn put_in(event: &mut yaml_event_body_t, body: yaml_event_body_t)
     *event = body;
 }
 
-// A node's anchor and tag in their slots, the tag in the room of the one that stands there, or in the one that is put aside.
-// Inlined: an anchor is mostly none.
-#[inline(always)]
-fn put_head(
-    rooms: &mut Rooms,
-    number: u64,
-    tag: &yaml_node_tag_t,
-    name: &mut Option<Vec<u8>>,
-    held_tag: &mut Option<Vec<u8>>,
-) -> Result<(), AllocError>
-    ensures name { OnOk result (text_of name.new ≡ anchor_of number) }
-    ensures utf8 { OnOk result (IsUtf8Option (text_of name.new)) }
-    ensures tag { OnOk result (text_of held_tag.new ≡ Some (tag_of tag.now)) }
-{
-    let anchor = anchor_of(rooms.alloc, number)?;
-    *name = anchor;
-    let mut room = room_of(held_tag, &mut rooms.tag);
-    let text = refilled(&mut room, tag.as_slice(), 0)?;
-    *held_tag = Some(text);
-    Ok(())
-}
-
 // A scalar, in rooms that are put aside.
 // Out of line: mostly the event before it is one too.
 #[inline(never)]
@@ -145,13 +120,12 @@ fn put_other_scalar(
 {
     put_aside(rooms, event);
     let plain = is_str(tag);
-    let mut anchor = None;
-    let mut held_tag = None;
-    put_head(rooms, number, tag, &mut anchor, &mut held_tag)?;
+    let anchor = anchor_of(rooms.alloc, number)?;
+    let name = refilled(&mut rooms.tag, tag.as_slice(), 0)?;
     let text = refilled(&mut rooms.value, value, 0)?;
     let body = yaml_event_body_t::Scalar {
         anchor,
-        tag: held_tag,
+        tag: Some(name),
         value: text,
         plain_implicit: plain,
         quoted_implicit: plain,
@@ -185,7 +159,11 @@ fn put_scalar_event(
             quoted_implicit,
             style: how,
         } => {
-            put_head(rooms, number, tag, name, held_tag)?;
+            let anchor = anchor_of(rooms.alloc, number)?;
+            *name = anchor;
+            let mut room = room_of(held_tag, &mut rooms.tag);
+            let text = refilled(&mut room, tag.as_slice(), 0)?;
+            *held_tag = Some(text);
             let text = refilled(held_value, value, 0)?;
             *held_value = text;
             let plain = is_str(tag);
@@ -213,12 +191,11 @@ fn put_sequence(
 {
     put_aside(rooms, event);
     let implicit = is_seq(tag);
-    let mut anchor = None;
-    let mut held_tag = None;
-    put_head(rooms, number, tag, &mut anchor, &mut held_tag)?;
+    let anchor = anchor_of(rooms.alloc, number)?;
+    let name = refilled(&mut rooms.tag, tag.as_slice(), 0)?;
     let body = yaml_event_body_t::SequenceStart {
         anchor,
-        tag: held_tag,
+        tag: Some(name),
         implicit,
         style,
     };
@@ -241,12 +218,11 @@ fn put_mapping(
 {
     put_aside(rooms, event);
     let implicit = is_map(tag);
-    let mut anchor = None;
-    let mut held_tag = None;
-    put_head(rooms, number, tag, &mut anchor, &mut held_tag)?;
+    let anchor = anchor_of(rooms.alloc, number)?;
+    let name = refilled(&mut rooms.tag, tag.as_slice(), 0)?;
     let body = yaml_event_body_t::MappingStart {
         anchor,
-        tag: held_tag,
+        tag: Some(name),
         implicit,
         style,
     };
@@ -376,8 +352,7 @@ impl Events {
     #[inline(always)]
     fn text_ahead<'a>(&self, document: &'a yaml_document_t) -> Option<&'a [u8]>
         requires { self.now.place ≡ DumpPhase.Nodes }
-        ensures { IfSome result (λ v. IsAhead (λ e. IsPlainText e v.now) document.now
-            self.now) }
+        ensures { IfSome result (λ v. IsTextAhead v.now document.now self.now) }
     {
         if self.given < self.turns.len() {
             match text_met(&self.numbers, document, self.turns[self.given]) {
@@ -393,8 +368,7 @@ impl Events {
     // Inlined: a test.
     #[inline(always)]
     fn text_to_come<'a>(&self, document: &'a yaml_document_t) -> Option<&'a [u8]>
-        ensures { IfSome result (λ v. IsAhead (λ e. IsPlainText e v.now) document.now
-            self.now) }
+        ensures { IfSome result (λ v. IsTextAhead v.now document.now self.now) }
     {
         match self.place {
             DumpPhase::Nodes => self.text_ahead(document),
@@ -414,53 +388,6 @@ impl Events {
             Some(value) => {
                 self.given += 1;
                 Some(value)
-            }
-        }
-    }
-
-    // What opens or closes a collection where its turn comes next, if the event says no more than that.
-    // Inlined: mostly a look at the node.
-    #[inline(always)]
-    fn bracket_ahead(&self, document: &yaml_document_t) -> Option<Bracket>
-        requires { self.now.place ≡ DumpPhase.Nodes }
-        ensures { IfSome result (λ b. IsAhead (λ e. IsPlainBracket e b) document.now
-            self.now) }
-    {
-        if self.given < self.turns.len() {
-            match bracket_met(&self.numbers, document, self.turns[self.given]) {
-                None => None,
-                Some(bracket) => Some(bracket),
-            }
-        } else {
-            None
-        }
-    }
-
-    // The same, wherever the walk is.
-    // Inlined: a test.
-    #[inline(always)]
-    fn bracket_to_come(&self, document: &yaml_document_t) -> Option<Bracket>
-        ensures { IfSome result (λ b. IsAhead (λ e. IsPlainBracket e b) document.now
-            self.now) }
-    {
-        match self.place {
-            DumpPhase::Nodes => self.bracket_ahead(document),
-            _ => None,
-        }
-    }
-
-    /// What opens or closes a collection, if that comes next, with the default tag and without an anchor: then it is given.
-    // Inlined: mostly a look at the node.
-    #[inline(always)]
-    pub fn next_bracket(&mut self, document: &yaml_document_t) -> Option<Bracket>
-        ensures bracket { IfSome result (λ b. GivesBracket document.now self.old b self.new) }
-        ensures none { result ≡ None → self.new ≡ self.old }
-    {
-        match self.bracket_to_come(document) {
-            None => None,
-            Some(bracket) => {
-                self.given += 1;
-                Some(bracket)
             }
         }
     }

@@ -1,7 +1,6 @@
 //! The events of a document that the calls built: a walk over its nodes, which of them have an anchor, and which number.
 #![tactic(auto)]
 
-mod bracket;
 mod graph;
 mod held;
 mod numbers;
@@ -10,7 +9,6 @@ mod tags;
 mod text;
 mod walk;
 
-pub use bracket::Bracket;
 pub use graph::Events;
 pub use held::next_held;
 pub use numbers::{Walked, number_of, walk_nodes};

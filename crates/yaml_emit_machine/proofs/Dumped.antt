@@ -1,5 +1,5 @@
 -- A dump is taken event by event.
-use Rattle.std.proofs.Common.{◌≡◌, ◌≢◌, ℕ, List, [], ◌∷◌, ◌++◌, length, ◌<◌, Bool, true, false, refl, sym, subst, ◌∙◌, arith, Option}
+use Rattle.std.proofs.Common.{◌≡◌, ◌≢◌, ℕ, List, [], ◌∷◌, ◌++◌, length, Bool, true, false, refl, sym, subst, ◌∙◌, arith, Option}
 use Rattle.std.proofs.lemmas.Bool.{false≢true}
 use Rattle.yaml_scan_model.specs.Faults.{Fault}
 use Rattle.yaml_parse_model.specs.Nodes.{Node}
@@ -24,21 +24,8 @@ use Rattle.yaml_emit_machine.specs.Views.{emitter_of}
 use Rattle.yaml_emit_machine.specs.Verdict.{Writes, Lays}
 use Rattle.yaml_emit_machine.specs.Taking.{TakesEvents, Stuck, NotesMemory, NotesMemoryOf}
 use Rattle.yaml_emit_machine.specs.Dumping.{opening_event}
-use Rattle.yaml_emit_machine.proofs.Viewing.{stood, left}
-use Rattle.yaml_emit_machine.proofs.Emitting.{ends_of}
+use Rattle.yaml_emit_machine.proofs.Emitting.{stood, left, ends_of}
 use Rattle.yaml_emit_machine.proofs.Taking.{takes_none, takes_on, takes_first, takes_stuck, notes_any, notes_on}
-
--- ---- the events of a document, one by one
-
--- an event of those that are left was taken, and the others are left where the dump goes on
-pub takes_next : (going : Bool) (old new : Emitter) (before after : List Event) (e : Event)
-    → before ≡ e ∷ after → ((es : List Event) → TakesEvents old (e ∷ es) new (left_if going es))
-    → TakesEvents old before new (left_if going after)
-takes_next going old new before after e c t = let P : List Event → Type 0 = λ z. TakesEvents old z new (left_if going after) in subst P (sym c) (t after)
-
-pub one_less_left : (before after : List Event) (e : Event) → before ≡ e ∷ after
-    → length after < length before
-one_less_left before after e c = let P : List Event → Type 0 = λ z. length after < length z in subst P (sym c) (omega arith)
 
 -- memory is noted by both of two calls
 pub notes_through : (a b c : Emitter) (es fs gs hs : List Event) → TakesEvents a es b fs

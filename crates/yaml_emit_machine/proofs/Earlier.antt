@@ -1,140 +1,163 @@
--- Events that are laid out at once, one after another: all of a dump are taken so.
-use Rattle.std.proofs.Common.{◌≡◌, List, [], ◌∷◌, ◌++◌, Bool, true, false, refl, sym, subst, ◌∙◌, ap, None}
+-- The events of a dump, one after another: as they come, or laid out at once, since all of them are let out.
+use Rattle.std.proofs.Common.{◌≡◌, List, [], ◌∷◌, ◌++◌, length, Bool, true, false, refl, ◌∙◌, ap, arith, ◌<◌, sym, subst, None}
+use Rattle.std.specs.Prelude.{if◌then◌else◌, nat_le}
+use Rattle.std.proofs.Math.Bool.{or-true}
+use Rattle.yaml_parse_document.specs.Documents as documents
+use Rattle.yaml_emit_layout.specs.Content.{Start, Opening, Node, alias_node, scalar_node, sequence_node, mapping_node, Nodes, no_nodes, node, Pairs, no_pairs, pair, Event, document_start, document_end, alias, scalar, sequence_start, sequence_end, mapping_start, mapping_end, node_events, items_events, pairs_events}
+use Rattle.yaml_emit_graph.specs.Graph.{graph_content, dumped}
+use Rattle.yaml_emit_machine.specs.Held.{needs, is_ready}
+use Rattle.yaml_emit_machine.specs.Judged.{let_out, AreOut, refusal_behind, LetsOut, first_wrong, LaysAll}
+use Rattle.yaml_emit_machine.proofs.Holding.{enough, none_needed}
+use Rattle.yaml_emit_machine.proofs.Judging.{first_out, ready_more}
+use Rattle.yaml_emit_machine.proofs.Ending.{long_node, long_items, long_pairs}
 use Rattle.std.proofs.lemmas.Bool.{false≢true}
 use Rattle.yaml_parse_document.specs.Documents.{Document}
 use Rattle.yaml_emit_text.specs.declared.Encoding.{Encoding}
-use Rattle.yaml_emit_text.specs.declared.Status.TheVariants.{Going}
 use Rattle.yaml_emit_text.specs.Text.{Item}
-use Rattle.yaml_emit_text.proofs.Sinks.{grows_both}
-use Rattle.yaml_emit_layout.specs.Content.{Event}
-use Rattle.yaml_emit_graph.specs.Graph.{dumped}
-use Rattle.yaml_emit_machine.specs.Judged.{let_out, refusal_behind, LetsOut, first_wrong, LaysAll}
+use Rattle.yaml_emit_graph.specs.declared.graph.Events.{Events}
+use Rattle.yaml_emit_graph.specs.Events.{IsEvents, remaining_events}
 use Rattle.yaml_emit_machine.specs.Emitter.{Emitter, Keeps, left_if}
 use Rattle.yaml_emit_machine.specs.Verdict.{verdict, Writes, wrong, Lays}
-use Rattle.yaml_emit_machine.specs.Taking.{TakesEvents, TakesEarly, GivesText, LaysAtOnce, Stuck, NotesMemory}
-use Rattle.yaml_emit_machine.specs.Dumping.{LaysOne, DumpsAtOnce}
-use Rattle.yaml_emit_machine.proofs.Taking.{takes_none, notes_any, notes_on}
-use Rattle.yaml_emit_machine.proofs.Released.{AreOut, dumped_out}
+use Rattle.yaml_emit_machine.specs.Taking.{TakesEvents, LaysAtOnce, Stuck, NotesMemoryOf}
+use Rattle.yaml_emit_machine.specs.Dumping.{LaysOne, Dumps, MayDump, MayDumpEarly, DumpsSome}
+use Rattle.yaml_emit_machine.proofs.Taking.{takes_none, takes_on, takes_first, notes_any, notes_on}
+
+behind_by : (b : Bool) (e : Event) (xs ys : List Event) → (if b then e ∷ xs else []) ≡ e ∷ ys
+    → xs ≡ ys
+behind_by true e xs ys h = cc
+behind_by false e xs ys h = absurd (cc)
+
+-- so are those behind the first of them
+pub out_behind : (e : Event) (es : List Event) → AreOut (e ∷ es) → AreOut es
+unfolding let_out
+out_behind e es out = λ more. behind_by (is_ready (e ∷ (es ++ more))) e (let_out (es ++ more)) (es ++ let_out more) (out more)
+
+out_next : (e : Event) (es : List Event)
+    → ((more : List Event) → is_ready (e ∷ (es ++ more)) ≡ true) → AreOut es → AreOut (e ∷ es)
+out_next e es ready out = λ more. first_out e (es ++ more) (ready more) ∙ ap (λ (z : List Event). e ∷ z) (out more)
+
+-- ---- what opens a level there is followed by what it needs
+
+document_ready : (o : Opening) (v : Node) (es more : List Event)
+    → is_ready (document_start o ∷ (node_events v es ++ more)) ≡ true
+document_ready o v es more = let k = long_node v es in ready_more _ (node_events v es) more (enough _ _ (omega (arith, k)))
+
+sequence_ready : (q : Start) (ns : Nodes) (es more : List Event)
+    → is_ready (sequence_start q ∷ (items_events ns (sequence_end ∷ es) ++ more)) ≡ true
+unfolding is_ready items_events
+sequence_ready q no_nodes es more = or-true (nat_le 2 (length ((sequence_end ∷ es) ++ more)))
+sequence_ready q (node v ns) es more =
+    let k = long_node v (items_events ns (sequence_end ∷ es)) in
+    let l = long_items ns (sequence_end ∷ es) in
+    ready_more (sequence_start q) (node_events v (items_events ns (sequence_end ∷ es))) more
+    (enough (sequence_start q) (node_events v (items_events ns (sequence_end ∷ es))) (omega (arith, k, l)))
+
+mapping_ready : (q : Start) (ps : Pairs) (es more : List Event)
+    → is_ready (mapping_start q ∷ (pairs_events ps (mapping_end ∷ es) ++ more)) ≡ true
+unfolding is_ready pairs_events
+mapping_ready q no_pairs es more = or-true (nat_le 3 (length ((mapping_end ∷ es) ++ more)))
+mapping_ready q (pair n v ps) es more =
+    let k = long_pairs ps (mapping_end ∷ es) in
+    let l = long_node v (pairs_events ps (mapping_end ∷ es)) in
+    let m = long_node n (node_events v (pairs_events ps (mapping_end ∷ es))) in
+    ready_more (mapping_start q) (node_events n (node_events v (pairs_events ps (mapping_end ∷ es)))) more
+    (enough (mapping_start q) (node_events n (node_events v (pairs_events ps (mapping_end ∷ es)))) (omega (arith, k, l, m)))
+
+-- ---- so it is let out
+
+-- an event that needs nothing behind it
+out_alone : (e : Event) (es : List Event) → needs e ≡ 0 → AreOut es → AreOut (e ∷ es)
+out_alone e es none out = out_next e es (λ more. none_needed e (es ++ more) none) out
+
+mutual
+  unfolding node_events items_events pairs_events
+
+  node_out : (v : Node) (es : List Event) → AreOut es → AreOut (node_events v es)
+  node_out (alias_node name) es out = out_alone (alias name) es refl out
+  node_out (scalar_node x) es out = out_alone (scalar x) es refl out
+  node_out (sequence_node q ns) es out =
+      out_next (sequence_start q) (items_events ns (sequence_end ∷ es)) (sequence_ready q ns es) (items_out ns (sequence_end ∷ es) (out_alone sequence_end es refl out))
+  node_out (mapping_node q ps) es out =
+      out_next (mapping_start q) (pairs_events ps (mapping_end ∷ es)) (mapping_ready q ps es) (pairs_out ps (mapping_end ∷ es) (out_alone mapping_end es refl out))
+
+  items_out : (ns : Nodes) (es : List Event) → AreOut es → AreOut (items_events ns es)
+  items_out no_nodes es out = out
+  items_out (node v ns) es out = node_out v (items_events ns es) (items_out ns es out)
+
+  pairs_out : (ps : Pairs) (es : List Event) → AreOut es → AreOut (pairs_events ps es)
+  pairs_out no_pairs es out = out
+  pairs_out (pair n v ps) es out = node_out n (node_events v (pairs_events ps es)) (node_out v (pairs_events ps es) (pairs_out ps es out))
+
+-- All events of a dump are let out, whatever follows.
+pub dumped_out : (d : documents.Document) → AreOut (dumped d)
+unfolding dumped
+dumped_out d =
+    let v : Node = (graph_content d).root in
+    let end : Event = document_end d.end_implicit in
+    out_next (document_start (graph_content d).opening) (node_events v (end ∷ [])) (document_ready (graph_content d).opening v (end ∷ []))
+    (node_out v (end ∷ []) (out_alone end [] refl (λ more. refl)))
 
 -- ---- one behind another
 
--- What is taken where none is held is taken early.
-pub taken_early : (old new : Emitter) (es left : List Event) → TakesEvents old es new left
-    → new.held ≡ [] → new.fresh ≡ false → TakesEarly old es new left
-taken_early old new es left t none begun = record {
-  completes = t.completes;
-  first = t.first;
-  lays = t.lays;
-  grows = t.grows;
-  going = t.going;
-  requested_settings = t.requested_settings;
-  limit = t.limit;
-  held = none;
-  begun = begun;
-}
-
 -- Nothing was taken yet.
-pub early_none : (e : Emitter) (es : List Event) → LaysAtOnce e → TakesEarly e es e es
-early_none e es o = taken_early e e es es (takes_none e es) o.none o.begun
+pub dumps_none : (e : Emitter) (es : List Event) → Dumps e es e es
+dumps_none e es = record { takes = takes_none e es; memory = λ n. refl; keeps = (refl, refl) }
 
-pub early_on : (a b c : Emitter) (es fs gs : List Event) → TakesEarly a es b fs
-    → TakesEarly b fs c gs → TakesEarly a es c gs
-early_on a b c es fs gs p q = record {
-  completes = λ x more whole h. q.completes x more whole (p.completes x more whole h);
-  first = λ g more. q.first g more ∙ p.first (q.going g) more;
-  lays = λ x more whole h. q.lays x more whole (p.lays x more whole h);
-  grows = grows_both a.output b.output c.output p.grows q.grows;
-  going = λ g. p.going (q.going g);
-  requested_settings = q.requested_settings ∙ p.requested_settings;
-  limit = q.limit ∙ p.limit;
-  held = q.held;
-  begun = q.begun;
-}
-
--- An event was given early, and others are to come.
-early_first : (old new : Emitter) (e : Event) (es : List Event) → GivesText old e new
-    → old.status ≡ Going → new.held ≡ [] → new.fresh ≡ false → TakesEarly old (e ∷ es) new es
-early_first old new e es t going none begun = record {
-  completes = λ x more whole h. t.completes x (es ++ more) whole h;
-  first = λ g more. t.first g (es ++ more);
-  lays = λ x more whole h. t.lays x (es ++ more) whole h;
-  grows = t.grows;
-  going = λ g. going;
-  requested_settings = t.requested_settings;
-  limit = t.limit;
-  held = none;
-  begun = begun;
-}
-
-early_by : (b : Bool) (old new : Emitter) (e : Event) (es : List Event) → GivesText old e new
-    → old.status ≡ Going → new.held ≡ [] → new.fresh ≡ false → (b ≡ false → Stuck new)
-    → TakesEarly old (e ∷ es) new (left_if b es)
-early_by true old new e es t going none begun stuck = early_first old new e es t going none begun
-early_by false old new e es t going none begun stuck =
-    early_on old new new (e ∷ es) es [] (early_first old new e es t going none begun) (taken_early new new es [] (stuck refl es []) none begun)
-
--- An event of those that are left was laid out at once; behind a fault the others count for nothing.
-pub dumps_event : (b : Bool) (old new : Emitter) (before after : List Event) (e : Event)
-    → before ≡ e ∷ after → LaysOne old e new → (b ≡ true → new.fault ≡ None)
-    → (b ≡ false → Stuck new) → DumpsAtOnce old new b before after
-dumps_event b old new before after e c l right stuck =
-    let P : List Event → Type 0 = λ z. TakesEarly old z new (left_if b after) in
-    record {
-      takes = subst P (sym c) (early_by b old new e after l.text l.form.0 l.none l.begun stuck);
-      memory = notes_any e old new l.memory;
-      keeps = l.keeps;
-      once = λ on. record {
-        right = right on;
-        begun = l.begun;
-        form = l.form.1;
-        none = l.none;
-      };
-    }
-
--- None was to come.
-pub dumps_none : (e : Emitter) (before after : List Event) → before ≡ [] → LaysAtOnce e
-    → DumpsAtOnce e e false before after
-dumps_none e before after c o =
-    let P : List Event → Type 0 = λ z. TakesEarly e z e [] in
-    record {
-      takes = subst P (sym c) (early_none e [] o);
-      memory = λ n. refl;
-      keeps = (refl, refl);
-      once = λ on. absurd (false≢true on);
-    }
-
--- Memory was refused for what was to come.
-pub dumps_starved : (old new : Emitter) (before after : List Event)
-    → ((es : List Event) → TakesEvents old es new []) → NotesMemory true old new → Keeps old new
-    → new.held ≡ old.held → new.fresh ≡ false → LaysAtOnce old
-    → DumpsAtOnce old new false before after
-dumps_starved old new before after t m keeps same begun o = record {
-  takes = taken_early old new before [] (t before) (same ∙ o.none) begun;
-  memory = m;
-  keeps = keeps;
-  once = λ on. absurd (false≢true on);
-}
-
--- Nothing was laid out yet.
-pub dumps_start : (e : Emitter) (es : List Event) → LaysAtOnce e → DumpsAtOnce e e true es es
-dumps_start e es o = record {
-  takes = early_none e es o;
-  memory = λ n. refl;
-  keeps = (refl, refl);
-  once = λ on. o;
-}
-
--- Some were laid out behind others.
-pub dumps_on : (a b c : Emitter) (going : Bool) (xs ys zs : List Event) → DumpsAtOnce a b true xs ys
-    → DumpsAtOnce b c going ys zs → DumpsAtOnce a c going xs zs
-dumps_on a b c going xs ys zs p q = record {
-  takes = early_on a b c xs ys (left_if going zs) p.takes q.takes;
+-- Some were taken behind others.
+pub dumps_on : (a b c : Emitter) (es fs gs : List Event) → Dumps a es b fs → Dumps b fs c gs
+    → Dumps a es c gs
+dumps_on a b c es fs gs p q = record {
+  takes = takes_on a b c es fs gs p.takes q.takes;
   memory = notes_on a b c p.takes.going q.takes.going p.memory q.memory;
   keeps = (q.keeps.0 ∙ p.keeps.0, q.keeps.1 ∙ p.keeps.1);
-  once = q.once;
 }
 
--- ---- a whole dump
+-- None was to come.
+pub dumps_nothing : (d : Document) (may : Emitter → Events → Type 0) (e : Emitter)
+    (before after : Events) → remaining_events d before ≡ []
+    → DumpsSome d may e e before after false
+dumps_nothing d may e before after c =
+    let P : List Event → Type 0 = λ z. Dumps e z e [] in
+    record { dumps = subst P (sym c) (dumps_none e []); on = λ on. absurd (false≢true on); less = λ on. absurd (false≢true on) }
+
+-- Memory was refused for what was to come.
+pub dumps_starved : (d : Document) (may : Emitter → Events → Type 0) (old new : Emitter)
+    (before after : Events) → ((es : List Event) → Dumps old es new [])
+    → DumpsSome d may old new before after false
+dumps_starved d may old new before after t = record { dumps = t (remaining_events d before); on = λ on. absurd (false≢true on); less = λ on. absurd (false≢true on) }
+
+-- An event of those that are left was taken; behind a fault the others count for nothing.
+takes_by : (b : Bool) (old new : Emitter) (e : Event) (es : List Event)
+    → TakesEvents old (e ∷ es) new es → (b ≡ false → Stuck new)
+    → TakesEvents old (e ∷ es) new (left_if b es)
+takes_by true old new e es t stuck = t
+takes_by false old new e es t stuck = takes_on old new new (e ∷ es) es [] t (stuck refl es [])
+
+dumps_one : (d : Document) (may : Emitter → Events → Type 0) (old new : Emitter)
+    (before after : Events) (b : Bool) (e : Event)
+    → remaining_events d before ≡ e ∷ remaining_events d after
+    → TakesEvents old (e ∷ remaining_events d after) new (remaining_events d after)
+    → (b ≡ false → Stuck new) → NotesMemoryOf e old new → Keeps old new
+    → (b ≡ true → may new after) → DumpsSome d may old new before after b
+dumps_one d may old new before after b e c t stuck m keeps on =
+    let left = remaining_events d after in
+    let P : List Event → Type 0 = λ z. TakesEvents old z new (left_if b left) in
+    let Q : List Event → Type 0 = λ z. length left < length z in
+    record {
+      dumps = record { takes = subst P (sym c) (takes_by b old new e left t stuck); memory = notes_any e old new m; keeps = keeps };
+      on = on;
+      less = λ _. subst Q (sym c) (omega arith);
+    }
+
+pub dumps_event : (d : Document) (old new : Emitter) (before after : Events) (b : Bool) (e : Event)
+    → remaining_events d before ≡ e ∷ remaining_events d after → IsEvents d after
+    → TakesEvents old (e ∷ []) new [] → NotesMemoryOf e old new → Keeps old new
+    → new.fresh ≡ false → (b ≡ false → Stuck new)
+    → DumpsSome d (MayDump d) old new before after b
+dumps_event d old new before after b e c walk t m keeps begun stuck =
+    dumps_one d (MayDump d) old new before after b e c (takes_first old new e (remaining_events d after) t) stuck m keeps (λ on. record { walk = walk; begun = begun })
+
+-- ---- laid out at once
 
 -- where none is held, what is let out is all
 verdict_out : (e : Emitter) (es : List Event) → e.held ≡ [] → e.fresh ≡ false
@@ -152,31 +175,43 @@ lays_out : (e : Emitter) (x : Encoding) (es : List Event) (whole : List Item) �
 unfolding Writes Lays LetsOut LaysAll
 lays_out e x es whole none begun w = rw (begun, none) (rw (begun, none) at w)
 
--- Of events that are all let out, whatever follows, it is the same whether they were laid out at once.
-early_takes : (old new : Emitter) (es : List Event) → AreOut es → LaysAtOnce old
-    → TakesEarly old es new [] → TakesEvents old es new []
-early_takes old new es out o t = record {
-  completes = t.completes;
-  refuses = λ g more.
-      verdict_out new more t.held t.begun
-      ∙ t.first g (let_out more)
-      ∙ sym (ap (wrong old) (out more))
-      ∙ sym (verdict_out old (es ++ more) o.none o.begun);
-  writes = λ x more whole w.
-      let P : List Event → Type 0 = λ z. Lays old x z whole in
-      lays_out new x more whole t.held t.begun (t.lays x (let_out more) whole (subst P (out more) (writes_out old x (es ++ more) whole o.none o.begun w)));
-  first = t.first;
-  lays = t.lays;
-  grows = t.grows;
-  going = t.going;
-  requested_settings = t.requested_settings;
-  limit = t.limit;
-  begun = λ f. absurd (false≢true (sym t.begun ∙ f));
-}
+-- Where all are let out, whatever follows, it is the same whether the first of them was laid out at once.
+early_first : (old new : Emitter) (e : Event) (es : List Event) → LaysAtOnce old
+    → AreOut (e ∷ es) → LaysOne old e new → TakesEvents old (e ∷ es) new es
+early_first old new e es o out l =
+    let t = l.given.text in
+    let behind = out_behind e es out in
+    record {
+      completes = λ x more whole h. t.completes x (es ++ more) whole h;
+      refuses = λ g more.
+          verdict_out new (es ++ more) l.none l.given.begun
+          ∙ ap (wrong new) (behind more)
+          ∙ t.first g (es ++ let_out more)
+          ∙ sym (ap (wrong old) (out more))
+          ∙ sym (verdict_out old (e ∷ (es ++ more)) o.none o.begun);
+      writes = λ x more whole w.
+          let P : List Event → Type 0 = λ z. Lays old x z whole in
+          let Q : List Event → Type 0 = λ z. Lays new x z whole in
+          lays_out new x (es ++ more) whole l.none l.given.begun (subst Q (sym (behind more)) (t.lays x (es ++ let_out more) whole (subst P (out more) (writes_out old x (e ∷ (es ++ more)) whole o.none o.begun w))));
+      first = λ g more. t.first g (es ++ more);
+      lays = λ x more whole h. t.lays x (es ++ more) whole h;
+      grows = t.grows;
+      going = λ g. l.form.0;
+      requested_settings = t.requested_settings;
+      limit = t.limit;
+      begun = λ f. absurd (false≢true (sym l.given.begun ∙ f));
+    }
 
--- The events of a dump that were laid out at once were taken.
-pub early_dump : (old new : Emitter) (d : Document) (es : List Event) → es ≡ dumped d
-    → LaysAtOnce old → TakesEarly old es new [] → TakesEvents old (dumped d) new []
-early_dump old new d es same o t =
-    let P : List Event → Type 0 = λ z. TakesEarly old z new [] in
-    early_takes old new (dumped d) (dumped_out d) o (subst P same t)
+pub dumps_early : (d : Document) (old new : Emitter) (before after : Events) (b : Bool) (e : Event)
+    → remaining_events d before ≡ e ∷ remaining_events d after → IsEvents d after
+    → MayDumpEarly d old before → LaysOne old e new → (b ≡ true → new.fault ≡ None)
+    → (b ≡ false → Stuck new) → DumpsSome d (MayDumpEarly d) old new before after b
+dumps_early d old new before after b e c walk may l right stuck =
+    let left = remaining_events d after in
+    let P : List Event → Type 0 = λ z. AreOut z in
+    let out : AreOut (e ∷ left) = subst P c may.out in
+    dumps_one d (MayDumpEarly d) old new before after b e c (early_first old new e left may.once out l) stuck l.given.memory l.given.opened (λ on. record {
+      walk = walk;
+      once = record { right = right on; begun = l.given.begun; form = l.form.1; none = l.none };
+      out = out_behind e left out;
+    })

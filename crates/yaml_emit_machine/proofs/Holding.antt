@@ -1,5 +1,5 @@
--- What is held, and when it is laid out.
-use Rattle.std.proofs.Common.{◌≡◌, ◌+◌, List, [], ◌∷◌, ◌++◌, length, Bool, true, false, refl, sym, subst, ◌∙◌, ap, arith, length-append}
+-- What is held, and when it is laid out: the last events that were given.
+use Rattle.std.proofs.Common.{◌≡◌, ◌+◌, List, [], ◌∷◌, ◌++◌, length, Bool, true, false, refl, sym, subst, ◌∙◌, ap, arith, length-append, append_assoc}
 use Rattle.std.specs.Prelude.{not, ◌||◌, ◌&&◌, ◌≤◌, Option}
 use Rattle.std.proofs.lemmas.Bool.{false≢true, le-leb, not-false}
 use Rattle.yaml_emit_layout.specs.Content.{Event, no_event, sequence_start, mapping_start}
@@ -12,7 +12,8 @@ use Rattle.yaml_emit_machine.specs.declared.held.Count.{Count}
 use Rattle.yaml_emit_machine.specs.declared.held.Count.TheVariants.{Nothing}
 use Rattle.yaml_emit_machine.specs.declared.held.Slot.{Slot}
 use Rattle.yaml_emit_machine.specs.declared.held.Slot.TheVariants.{First, Second, Third}
-use Rattle.yaml_emit_machine.specs.Held.{is_ready, needs, closes, ends_level, releases, releases_by, passes, passes_early, passes_by, are_some, next, less, stands, filled, held_events, oldest_event}
+use Rattle.yaml_emit_machine.specs.Held.{is_ready, needs, closes, ends_level, releases, releases_by, passes, passes_early, passes_by, are_some, next, less, stands, filled, held_events, oldest_event, AreLast}
+use Rattle.std.proofs.lemmas.List.{append-nil}
 
 -- Whether an event opens an empty collection is told by what has come, once it is ready: what follows changes nothing.
 pub ready_empty : (e : Event) (es more : List Event) → is_ready (e ∷ es) ≡ true
@@ -180,3 +181,23 @@ left_behind old mid k s m e n r =
 pub passes_decided : (held : List Event) (undecided : Bool) → are_some held ≡ false
     → undecided ≡ false → passes_early held undecided ≡ true
 passes_decided held undecided h u = rw (h, u) refl
+
+pub last_none : (xs : List Event) → AreLast xs xs
+last_none xs = ([], refl)
+
+-- the oldest is gone
+pub last_less : (all held left : List Event) (e : Event) → AreLast all held → held ≡ e ∷ left
+    → AreLast all left
+last_less all held left e l h = (l.0 ++ e ∷ [], l.1 ∙ ap (λ z. l.0 ++ z) h ∙ sym (append_assoc l.0 (e ∷ []) left))
+
+-- an event needn't be held, and none is
+pub last_passed : (early : Bool) (all held : List Event) (undecided : Bool) (e : Event)
+    → passes_by early held undecided e ≡ true → AreLast all held
+last_passed early all [] undecided e h = (all, sym (append-nil all))
+last_passed true all (f ∷ fs) undecided e h = absurd (cc)
+last_passed false all (f ∷ fs) undecided e h = absurd (cc)
+
+-- it is held behind the others
+pub last_pushed : (all held new : List Event) (e : Event) → AreLast all held → new ≡ held ++ e ∷ []
+    → AreLast (all ++ e ∷ []) new
+last_pushed all held new e l h = (l.0, ap (λ z. z ++ e ∷ []) l.1 ∙ append_assoc l.0 held (e ∷ []) ∙ ap (λ z. l.0 ++ z) (sym h))

@@ -1,31 +1,40 @@
--- What stands where an emitter goes on.
-use Rattle.std.proofs.Common.{◌≡◌, ℕ, Bool, false, List, [], ◌∷◌, ◌++◌, sym, ◌∙◌, ap, refl, None}
+-- What stands where an emitter goes on, and from the first event on: the settings are those that were asked for.
+use Rattle.std.proofs.Common.{◌≡◌, ◌∙◌, ap, ℕ, Bool, false, List, [], sym, refl, None}
+use Rattle.yaml_scan_model.specs.declared.yaml_encoding_t.{yaml_encoding_t}
+use Rattle.yaml_emit_text.specs.declared.RequestedSettings.{RequestedSettings}
+use Rattle.yaml_emit_text.specs.declared.Settings.{Settings}
+use Rattle.yaml_emit_text.specs.Settings.{settled}
+use Rattle.yaml_emit_state.specs.declared.Core.{Core}
+use Rattle.yaml_emit_state.specs.Steps.{settings_of, state_of}
+use Rattle.yaml_emit_machine.specs.Emitter.{settings_in, Emitter, Course, refusal_by}
 use Rattle.yaml_scan_model.specs.declared.yaml_encoding_t.TheVariants.{YAML_ANY_ENCODING}
 use Rattle.yaml_parse_model.specs.Events.{TagDirective}
 use Rattle.yaml_emit_text.specs.declared.Cursor.{Cursor}
-use Rattle.yaml_emit_text.specs.declared.RequestedSettings.{RequestedSettings}
-use Rattle.yaml_emit_text.specs.declared.Settings.{Settings}
 use Rattle.yaml_emit_text.specs.declared.Status.TheVariants.{Going}
-use Rattle.yaml_emit_text.specs.Settings.{settled}
 use Rattle.yaml_emit_text.specs.Sink.{Output}
 use Rattle.yaml_emit_layout.specs.declared.Level.{Level}
 use Rattle.yaml_emit_layout.specs.Content.{Event}
 use Rattle.yaml_emit_layout.specs.State.{State}
-use Rattle.yaml_emit_state.specs.declared.Core.{Core}
 use Rattle.yaml_emit_state.specs.declared.yaml_emitter_stand_t.{yaml_emitter_stand_t}
-use Rattle.yaml_emit_state.specs.Steps.{state_of, settings_of}
 use Rattle.yaml_emit_state.specs.Standing.{Resumes, IsStandOfCore}
-use Rattle.yaml_emit_machine.specs.Held.{AreLast}
 use Rattle.yaml_emit_machine.specs.Judged.{refused_at}
-use Rattle.yaml_emit_machine.specs.Emitter.{Emitter, Course, refusal_by, settings_in}
 use Rattle.yaml_emit_machine.specs.Resuming.{course_at, resumed}
-use Rattle.yaml_emit_machine.specs.Taking.{ComesIntoForce}
-use Rattle.yaml_emit_machine.proofs.Viewing.{seen}
+use Rattle.yaml_emit_machine.proofs.Emitting.{seen}
 
--- where the settings come into force nothing is held
-pub begins_last : (old mid new : Emitter) (e : Event) → ComesIntoForce old e mid
-    → AreLast (mid.held ++ e ∷ []) new.held → AreLast (old.held ++ e ∷ []) new.held
-begins_last old mid new e b l = (l.0, ap (λ z. z ++ e ∷ []) (sym b.held) ∙ l.1)
+-- they stay, whatever becomes of the encoding
+pub forced_same : (old new : Core) (w : RequestedSettings) → new.settings ≡ old.settings
+    → settings_of old ≡ settings_in w old.sink.encoding
+    → settings_of new ≡ settings_in w new.sink.encoding
+forced_same old new w e h =
+    let in_new : Settings → Settings = λ s. record s { encoding = new.sink.encoding } in
+    ap in_new e ∙ ap in_new h
+
+-- they come into force with the first event
+pub forced_first : (core : Core) (w : RequestedSettings) (s : Settings) (z : yaml_encoding_t)
+    → settings_of core ≡ s → s ≡ settled w z → settings_of core ≡ settings_in w core.sink.encoding
+forced_first core w s z h e =
+    let in_core : Settings → Settings = λ t. record t { encoding = core.sink.encoding } in
+    ap in_core (h ∙ e)
 
 -- an emitter that was given nothing from there on
 going_on : RequestedSettings → Output → Course → Bool → List Event → Emitter

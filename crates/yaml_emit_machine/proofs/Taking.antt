@@ -18,7 +18,7 @@ use Rattle.yaml_emit_layout.specs.declared.Expected.TheVariants as at
 use Rattle.yaml_emit_layout.specs.Content.{Event}
 use Rattle.yaml_emit_layout.specs.State.{State, placed}
 use Rattle.yaml_emit_state.specs.declared.Core.{Core}
-use Rattle.yaml_emit_state.specs.Steps.{state_of, settings_of, IsFreshCore, may_note}
+use Rattle.yaml_emit_state.specs.Steps.{state_of, settings_of, IsFreshCore}
 use Rattle.yaml_emit_state.proofs.Noting.{notes_both, notes_some}
 use Rattle.yaml_emit_machine.specs.Held.{held_events}
 use Rattle.yaml_emit_machine.specs.declared.held.Held.{Held}
@@ -30,9 +30,8 @@ use Rattle.yaml_emit_machine.specs.Emitter.{Emitter, fault_by, refusal_by, strea
 use Rattle.yaml_emit_machine.specs.Views.{emitter_of, IsEmitter}
 use Rattle.yaml_emit_machine.specs.Verdict.{verdict, Writes, wrong, Lays, LaysFirst, TellsOutcome}
 use Rattle.yaml_emit_machine.specs.Taking.{TakesEvents, GivesText, Stuck, NotesMemory, NotesMemoryOf, ComesIntoForce}
-use Rattle.yaml_emit_machine.proofs.Viewing.{stood, left}
+use Rattle.yaml_emit_machine.proofs.Emitting.{stood, left, not_true, inside_begun, stopped_finishes, begin_finishes}
 use Rattle.yaml_emit_machine.proofs.Judging.{or_some, unless_some}
-use Rattle.yaml_emit_machine.proofs.Emitting.{not_true, inside_begun, stopped_finishes, begin_finishes}
 
 -- ---- one call behind another
 
@@ -214,15 +213,6 @@ inside_begins i core e s z inv fr a b f most =
       front = λ n x more whole c. begin_text (λ s st. some_among n s st (e ∷ more)) core s' x whole f' c.coded c.is;
       keeps = (refl, refl);
     }))
-
-pub begins_takes : (old mid new : Emitter) (e : Event) → ComesIntoForce old e mid
-    → TakesEvents mid (e ∷ []) new [] → TakesEvents old (e ∷ []) new []
-begins_takes old mid new e p q = takes_on old mid new (e ∷ []) (e ∷ []) [] p.takes q
-
-pub begins_notes : (old mid new : Emitter) (e : Event) → ComesIntoForce old e mid
-    → NotesMemoryOf e mid new → NotesMemoryOf e old new
-begins_notes old mid new e p m = λ n.
-    m (ap (λ z. may_note (take_memory (z ++ e ∷ [])) mid.status new.status) p.held ∙ (ap (λ z. may_note (take_memory (old.held ++ e ∷ [])) z new.status) p.status ∙ n)) ∙ p.starved
 
 -- ---- behind a fault
 

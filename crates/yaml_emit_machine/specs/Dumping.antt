@@ -10,7 +10,8 @@ use Rattle.yaml_emit_graph.specs.Events.{IsEvents, remaining_events}
 use Rattle.yaml_emit_machine.specs.Emitter.{Emitter, Keeps, left_if}
 use Rattle.yaml_emit_machine.specs.Within.{Fits}
 use Rattle.yaml_emit_machine.specs.Verdict.{verdict, Writes}
-use Rattle.yaml_emit_machine.specs.Taking.{TakesEvents, GivesText, TakesEarly, LaysAtOnce, StaysCanonical, NotesMemory, NotesMemoryOf, BlamesLevels}
+use Rattle.yaml_emit_machine.specs.Judged.{AreOut}
+use Rattle.yaml_emit_machine.specs.Taking.{TakesEvents, GivesOne, LaysAtOnce, StaysCanonical, NotesMemory, NotesMemoryOf}
 
 -- An event is right behind what was given: no event is refused that is let out with it, and what is written then passes no limit.
 pub record IsRightNext (e : Emitter) (event : Event) : Type 0 where
@@ -30,28 +31,33 @@ pub record OpensStream (old new : Emitter) : Type 0 where
   pub alone : old.fault ≡ None → new.opened ≡ false → TakesEvents old (opening_event ∷ []) new []
   pub memory : old.fault ≡ None → new.opened ≡ false → NotesMemoryOf opening_event old new
 
--- An event was laid out at once: the text and what is noted of memory are as where it is given early, none is held, and the
--- output, which went on, has canonical form still.
+-- An event was laid out at once, as where it is given early: none is held, and the output, which went on, has canonical form still.
 pub record LaysOne (old : Emitter) (e : Event) (new : Emitter) : Type 0 where
-  pub text : GivesText old e new
-  pub memory : NotesMemoryOf e old new
-  pub blames : BlamesLevels e old new
+  pub given : GivesOne old e new
   pub none : new.held ≡ []
-  pub begun : new.fresh ≡ false
-  pub keeps : Keeps old new
   pub form : StaysCanonical old new
 
--- Of the events of a dump that were to come, `before`, some were laid out at once: while no fault has come, those of `after` are
--- still to come, and else none is.
-pub record DumpsAtOnce (old new : Emitter) (going : Bool) (before after : List Event) : Type 0 where
-  pub takes : TakesEarly old before new (left_if going after)
-  pub memory : NotesMemory true old new
-  pub keeps : Keeps old new
-  pub once : going ≡ true → LaysAtOnce new
+-- Of the events of a dump that were to come those of `left` are still to come, and the others were taken.
+pub record Dumps (old : Emitter) (es : List Event) (new : Emitter) (left : List Event) : Type 0
+  where
+    pub takes : TakesEvents old es new left
+    pub memory : NotesMemory true old new
+    pub keeps : Keeps old new
 
--- the same of the events that a walk over a document has left, which are fewer while no fault has come
-pub record DumpsSome (d : Document) (old new : Emitter) (before after : Events) (going : Bool)
-    : Type 0 where
-  pub early : DumpsAtOnce old new going (remaining_events d before) (remaining_events d after)
-  pub walk : going ≡ true → IsEvents d after
+-- A dump may take the events that a walk over a document has left.
+pub record MayDump (d : Document) (e : Emitter) (events : Events) : Type 0 where
+  pub walk : IsEvents d events
+  pub begun : e.fresh ≡ false
+
+-- It may lay them out at once, since all of them are let out.
+pub record MayDumpEarly (d : Document) (e : Emitter) (events : Events) : Type 0 where
+  pub walk : IsEvents d events
+  pub once : LaysAtOnce e
+  pub out : AreOut (remaining_events d events)
+
+-- Some of them were taken: while no fault has come, fewer are still to come, which may be taken too, and else none is.
+pub record DumpsSome (d : Document) (may : Emitter → Events → Type 0) (old new : Emitter)
+    (before after : Events) (going : Bool) : Type 0 where
+  pub dumps : Dumps old (remaining_events d before) new (left_if going (remaining_events d after))
+  pub on : going ≡ true → may new after
   pub less : going ≡ true → length (remaining_events d after) < length (remaining_events d before)

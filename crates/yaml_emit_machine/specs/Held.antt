@@ -1,5 +1,5 @@
 -- The events that are held.
-use Rattle.std.specs.Prelude.{◌≡◌, ℕ, Bool, true, false, not, ◌&&◌, ◌||◌, nat_le, List, [], ◌∷◌, ◌++◌, length, map, All}
+use Rattle.std.specs.Prelude.{◌≡◌, ℕ, Bool, true, false, if◌then◌else◌, not, ◌&&◌, ◌||◌, nat_le, List, [], ◌∷◌, ◌++◌, length, map, All}
 use Rattle.yaml_parse_model.specs.declared.yaml_event_body_t.{yaml_event_body_t}
 use Rattle.yaml_parse_model.specs.Events.{EventBody, body_of}
 use Rattle.yaml_parse_model.specs.Constructors.{HasUtf8}
@@ -139,8 +139,7 @@ abbrev pub passes_early : List Event → Bool → Bool
 passes_early held undecided = not (are_some held) && not undecided
 
 abbrev pub passes_by : Bool → List Event → Bool → Event → Bool
-passes_by true held undecided e = passes_early held undecided
-passes_by false held undecided e = passes held e
+passes_by early held undecided e = if early then passes_early held undecided else passes held e
 
 -- what is held are the last of these
 abbrev pub AreLast : List Event → List Event → Type 0
@@ -153,5 +152,4 @@ releases (f ∷ fs) e = is_ready (f ∷ fs ++ e ∷ [])
 
 -- the same, or, where the whole text is wanted, any are held
 abbrev pub releases_by : Bool → List Event → Event → Bool
-releases_by true held e = are_some held
-releases_by false held e = releases held e
+releases_by early held e = if early then are_some held else releases held e

@@ -1,5 +1,5 @@
 -- Which events are let out, and what is written for them.
-use Rattle.std.specs.Prelude.{◌≡◌, ◌⊎◌, Bool, true, false, if◌then◌else◌, ℕ, zero, suc, List, [], ◌∷◌, drop, Option, Some, None}
+use Rattle.std.specs.Prelude.{◌≡◌, ◌⊎◌, Bool, true, false, if◌then◌else◌, ℕ, zero, suc, List, [], ◌∷◌, ◌++◌, drop, Option, Some, None}
 use Rattle.std.specs.List.{list_any}
 use Rattle.yaml_emit_text.specs.declared.Settings.{Settings}
 use Rattle.yaml_emit_text.specs.Text.{Item}
@@ -22,6 +22,10 @@ use Rattle.yaml_emit_machine.specs.Held.{is_ready}
 unfoldable pub let_out : List Event → List Event
 let_out [] = []
 let_out (e ∷ es) = if is_ready (e ∷ es) then e ∷ let_out es else []
+
+-- all of these are let out, whatever follows
+abbrev pub AreOut : List Event → Type 0
+AreOut es = (more : List Event) → let_out (es ++ more) ≡ es ++ let_out more
 
 -- unless there is a problem
 abbrev pub unless : Option Problem → Layout → Layout

@@ -1,5 +1,5 @@
 -- What laying out what is held does to the state that lays it out: the clauses of private calls alone cite it.
-use Rattle.std.specs.Prelude.{◌≡◌, Bool, true, false, ℕ, ◌+◌, List, ◌++◌, drop}
+use Rattle.std.specs.Prelude.{◌≡◌, ◌≤◌, Bool, true, false, ℕ, ◌+◌, List, [], ◌∷◌, ◌++◌, drop, length}
 use Rattle.yaml_emit_text.specs.declared.Status.TheVariants.{Going}
 use Rattle.yaml_emit_text.specs.Text.{Item, encode}
 use Rattle.yaml_emit_text.specs.Sink.{Grows}
@@ -8,8 +8,10 @@ use Rattle.yaml_emit_layout.specs.State.{top_of}
 use Rattle.yaml_emit_state.specs.declared.Core.{Core}
 use Rattle.yaml_emit_state.specs.Due.{is_undecided}
 use Rattle.yaml_emit_state.specs.Stack.{stack_of}
-use Rattle.yaml_emit_state.specs.Steps.{state_of, settings_of, Notes}
+use Rattle.yaml_emit_state.specs.Steps.{state_of, settings_of, Notes, goes_on}
 use Rattle.yaml_emit_state.specs.Finish.{Finishes}
+use Rattle.yaml_emit_machine.specs.declared.held.Held.{Held}
+use Rattle.yaml_emit_machine.specs.Held.{held_events, HeldUtf8, is_ready, AreLast}
 use Rattle.yaml_emit_machine.specs.Judged.{refusal_behind, LetsOut, first_wrong, LaysAll, take_memory, LaysSome, RefusesHeld}
 
 -- the output is what is written for the first n of these events, whatever follows them
@@ -61,3 +63,13 @@ pub record LaysEvents (exact : Bool) (old : Core) (before : List Event) (new : C
   -- where it is noted, no text was missing memory
   pub blames : old.starved ≡ false → new.starved ≡ true
       → RefusesHeld before (HasLaid old before new.sink.bytes)
+
+-- An event was given behind those that are held, and what no longer has to be held was laid out, the event itself too.
+pub record HoldsOrLays (exact : Bool) (old : Core) (held : Held) (e : Event) (new : Core)
+    (left : Held) : Type 0 where
+  pub lays : LaysEvents exact old (held_events held ++ e ∷ []) new (held_events left)
+  pub utf8 : HeldUtf8 left
+  pub short : length (held_events left) ≤ 3
+  pub waits : goes_on new.sink.status new.place ≡ true → is_ready (held_events left) ≡ false
+  pub last : AreLast (held_events held ++ e ∷ []) (held_events left)
+  pub settings : new.settings ≡ old.settings

@@ -1,5 +1,5 @@
 -- What becomes of the events that an emitter is given.
-use Rattle.std.specs.Prelude.{◌≡◌, ℕ, Bool, true, false, List, [], ◌∷◌, ◌++◌, None}
+use Rattle.std.specs.Prelude.{◌≡◌, ℕ, ◌≤◌, Bool, true, false, List, [], ◌∷◌, ◌++◌, length, None}
 use Rattle.yaml_emit_text.specs.declared.Encoding.{Encoding}
 use Rattle.yaml_emit_text.specs.declared.Status.TheVariants.{Going}
 use Rattle.yaml_emit_text.specs.Text.{Item, encode}
@@ -7,6 +7,7 @@ use Rattle.yaml_emit_text.specs.Sink.{Grows}
 use Rattle.yaml_emit_layout.specs.declared.Expected.TheVariants as at
 use Rattle.yaml_emit_layout.specs.Content.{Event}
 use Rattle.yaml_emit_state.specs.Steps.{may_note}
+use Rattle.yaml_emit_machine.specs.Held.{AreLast}
 use Rattle.yaml_emit_machine.specs.Judged.{take_memory, RefusesHeld}
 use Rattle.yaml_emit_machine.specs.Emitter.{Emitter, Completes, Keeps}
 use Rattle.yaml_emit_machine.specs.Verdict.{verdict, Writes, wrong, Lays, LaysFirst}
@@ -46,23 +47,6 @@ pub record GivesText (old : Emitter) (e : Event) (new : Emitter) : Type 0 where
   pub grows : Grows old.output new.output
   pub requested_settings : new.requested_settings ≡ old.requested_settings
   pub limit : new.limit ≡ old.limit
-
--- Of the events `es` that were to come those of `left` are still to come, and the others were laid out at once, as they came: none
--- is held. It is the same as `TakesEvents`, but for what is said of those alone that are let out by now.
-pub record TakesEarly (old : Emitter) (es : List Event) (new : Emitter)
-    (left : List Event) : Type 0 where
-  pub completes : (x : Encoding) (more : List Event) (whole : List Item)
-      → Completes old x (es ++ more) whole → Completes new x (left ++ more) whole
-  pub first : new.status ≡ Going → (more : List Event)
-      → wrong new (left ++ more) ≡ wrong old (es ++ more)
-  pub lays : (x : Encoding) (more : List Event) (whole : List Item)
-      → Lays old x (es ++ more) whole → Lays new x (left ++ more) whole
-  pub grows : Grows old.output new.output
-  pub going : new.status ≡ Going → old.status ≡ Going
-  pub requested_settings : new.requested_settings ≡ old.requested_settings
-  pub limit : new.limit ≡ old.limit
-  pub held : new.held ≡ []
-  pub begun : new.fresh ≡ false
 
 -- An event that comes is laid out at once: nothing is wrong, the settings are in force, the form is canonical, and no other
 -- event is held.
@@ -104,6 +88,25 @@ HasFirst old es output n = (x : Encoding) (more : List Event) (whole : List Item
 abbrev pub BlamesLevels : Event → Emitter → Emitter → Type 0
 BlamesLevels e old new = old.starved ≡ false → new.starved ≡ true
     → RefusesHeld (old.held ++ e ∷ []) (HasFirst old (e ∷ []) new.output)
+
+-- What is said of an event that was given: at most three are held, and the stream is open, or closed, as it was.
+pub record TakesOne (old : Emitter) (e : Event) (new : Emitter) : Type 0 where
+  pub takes : TakesEvents old (e ∷ []) new []
+  pub memory : NotesMemoryOf e old new
+  pub blames : BlamesLevels e old new
+  pub few : length new.held ≤ 3
+  pub opened : Keeps old new
+  -- what is held are the last that were given
+  pub last : AreLast (old.held ++ e ∷ []) new.held
+
+-- the same where its text is wanted as soon as it may be
+pub record GivesOne (old : Emitter) (e : Event) (new : Emitter) : Type 0 where
+  pub text : GivesText old e new
+  pub memory : NotesMemoryOf e old new
+  pub blames : BlamesLevels e old new
+  pub few : length new.held ≤ 3
+  pub opened : Keeps old new
+  pub begun : new.fresh ≡ false
 
 -- The settings came into force in front of the first event, which is still to come.
 pub record ComesIntoForce (old : Emitter) (e : Event) (new : Emitter) : Type 0 where

@@ -1,21 +1,18 @@
 //! The emitter.
 
-ghost use Rattle.std.specs.Prelude.{◌≡◌, ◌≤◌, ◌∷◌, ◌++◌, [], length, Some, None, Bool, true, false, option_map, OnErr, IsUtf8};
+ghost use Rattle.std.specs.Prelude.{◌≡◌, ◌≤◌, ◌∷◌, ◌++◌, [], length, Some, None, true, false, option_map, OnErr, IsUtf8};
 ghost use Rattle.yaml_scan_model.specs.Faults.{Fault, fault_of};
 ghost use Rattle.yaml_parse_model.specs.Events.{body_of};
 ghost use Rattle.yaml_parse_model.specs.Constructors.{HasUtf8};
 ghost use Rattle.yaml_emit_layout.specs.Content.{emitter_event, scalar};
 ghost use Rattle.yaml_emit_state.specs.Given.{plain_text};
-ghost use Rattle.yaml_emit_state.specs.Steps.{settings_of, LaysOut};
-ghost use Rattle.yaml_emit_layout.specs.declared.Expected.TheVariants as at;
-ghost use Rattle.yaml_emit_graph.specs.Brackets.{bracket_event};
 ghost use Rattle.yaml_scan_model.specs.declared.yaml_scalar_style_t.{yaml_scalar_style_t};
 ghost use Rattle.yaml_emit_machine.specs.Emitter.{stream_encoding, IsNew, IsLimited, ShowsFront, IsWhole, Answers, Stays};
 ghost use Rattle.yaml_emit_machine.specs.Held.{AreLast};
 ghost use Rattle.yaml_emit_machine.specs.Within.{IsWithin};
 ghost use Rattle.yaml_emit_machine.specs.Verdict.{TellsOutcome};
 ghost use Rattle.yaml_emit_machine.specs.Dumping.{LaysOne};
-ghost use Rattle.yaml_emit_machine.specs.Taking.{TakesEvents, GivesText, LaysAtOnce, AwaitsNode, Stuck, NotesMemoryOf, BlamesLevels, ComesIntoForce};
+ghost use Rattle.yaml_emit_machine.specs.Taking.{TakesEvents, GivesText, TakesOne, GivesOne, LaysAtOnce, AwaitsNode, Stuck, NotesMemoryOf, BlamesLevels, ComesIntoForce};
 
 mod dump;
 mod resume;
@@ -27,7 +24,6 @@ pub use dump::dump_document;
 pub use resume::{directives, outer, resumed, stand};
 use std::alloc::Global;
 use std::marker::Model;
-use yaml_emit_graph::Bracket;
 use yaml_emit_state::Core;
 use yaml_emit_text::{RequestedSettings, settled};
 use yaml_parse_model::yaml_event_body_t;
@@ -163,10 +159,7 @@ pub fn first_fault(emitter: &yaml_emitter_t) -> Option<&yaml_fault_t>
     ensures tells { TellsOutcome emitter.now }
     ensures limited { (f : Fault) → emitter.now.fault ≡ Some f → IsLimited emitter.now f }
 {
-    match &emitter.fault {
-        None => None,
-        Some(fault) => Some(fault),
-    }
+    emitter.fault.as_ref()
 }
 
 /// The text so far.
@@ -194,22 +187,6 @@ pub fn let_go(emitter: yaml_emitter_t) {
     drop(emitter);
 }
 
-// What opens or closes a collection, with the default tag and without an anchor, where a node is due in canonical form.
-// Inlined into its one caller.
-#[inline(always)]
-fn lay_bracket(core: &mut Core, bracket: Bracket)
-    requires form { (settings_of core.old).canonical ≡ true }
-    requires due { core.old.place ≡ at.Node }
-    ensures { (flow : Bool) → LaysOut core.old core.new (bracket_event bracket flow) false }
-{
-    match bracket {
-        Bracket::OpensSequence => core.lay_plain_start(true),
-        Bracket::OpensMapping => core.lay_plain_start(false),
-        Bracket::ClosesSequence => core.lay_sequence_end(false),
-        Bracket::ClosesMapping => core.lay_mapping_end(false),
-    }
-}
-
 impl yaml_emitter_t {
     // The settings come into force with the first event.
     // Out of line: it runs once a stream.
@@ -228,13 +205,7 @@ impl yaml_emitter_t {
         requires utf8 { HasUtf8 (body_of event.old) }
         requires right { self.old.fault ≡ None }
         requires begun { self.old.fresh ≡ false }
-        ensures takes { TakesEvents self.old (emitter_event (body_of event.old) ∷ []) self.new [] }
-        ensures memory { NotesMemoryOf (emitter_event (body_of event.old)) self.old self.new }
-        ensures blames { BlamesLevels (emitter_event (body_of event.old)) self.old self.new }
-        ensures few { length self.new.held ≤ 3 }
-        ensures opened { (self.new.opened ≡ self.old.opened) × (self.new.closed ≡ self.old.closed) }
-        ensures last { AreLast (self.old.held ++ emitter_event (body_of event.old) ∷ [])
-            self.new.held }
+        ensures { TakesOne self.old (emitter_event (body_of event.old)) self.new }
     {
         hold_or_lay(&mut self.core, &mut self.held, event, false);
         note(&self.core, &mut self.fault);
@@ -260,12 +231,7 @@ impl yaml_emitter_t {
         requires utf8 { HasUtf8 (body_of event.old) }
         requires right { self.old.fault ≡ None }
         requires begun { self.old.fresh ≡ false }
-        ensures text { GivesText self.old (emitter_event (body_of event.old)) self.new }
-        ensures memory { NotesMemoryOf (emitter_event (body_of event.old)) self.old self.new }
-        ensures blames { BlamesLevels (emitter_event (body_of event.old)) self.old self.new }
-        ensures few { length self.new.held ≤ 3 }
-        ensures opened { (self.new.opened ≡ self.old.opened) × (self.new.closed ≡ self.old.closed) }
-        ensures begun { self.new.fresh ≡ false }
+        ensures { GivesOne self.old (emitter_event (body_of event.old)) self.new }
     {
         hold_or_lay_early(&mut self.core, &mut self.held, event);
         note(&self.core, &mut self.fault);
@@ -318,30 +284,11 @@ impl yaml_emitter_t {
         note(&self.core, &mut self.fault);
     }
 
-    // Lays out at once what opens or closes a collection, with the default tag and without an anchor.
-    // Inlined into its one caller.
-    #[inline(always)]
-    fn lay_bracket_at_once(&mut self, bracket: Bracket)
-        requires once { LaysAtOnce self.old }
-        requires due { AwaitsNode self.old }
-        ensures { (flow : Bool) → LaysOne self.old (bracket_event bracket flow) self.new }
-    {
-        lay_bracket(&mut self.core, bracket);
-        note(&self.core, &mut self.fault);
-    }
-
     // An emitter without a fault takes an event.
-    #[tactic(auto, using(crate::proofs::Taking::begins_takes, crate::proofs::Taking::begins_notes))]
     fn begin_or_lay(&mut self, event: &mut yaml_event_body_t)
         requires utf8 { HasUtf8 (body_of event.old) }
         requires right { self.old.fault ≡ None }
-        ensures takes { TakesEvents self.old (emitter_event (body_of event.old) ∷ []) self.new [] }
-        ensures memory { NotesMemoryOf (emitter_event (body_of event.old)) self.old self.new }
-        ensures blames { BlamesLevels (emitter_event (body_of event.old)) self.old self.new }
-        ensures few { length self.new.held ≤ 3 }
-        ensures opened { (self.new.opened ≡ self.old.opened) × (self.new.closed ≡ self.old.closed) }
-        ensures last { AreLast (self.old.held ++ emitter_event (body_of event.old) ∷ [])
-            self.new.held }
+        ensures { TakesOne self.old (emitter_event (body_of event.old)) self.new }
     {
         if self.fresh {
             self.begin(event);

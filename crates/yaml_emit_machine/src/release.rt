@@ -6,7 +6,7 @@ ghost use Rattle.yaml_parse_model.specs.Constructors.{HasUtf8};
 ghost use Rattle.yaml_emit_layout.specs.Content.{emitter_event};
 ghost use Rattle.yaml_emit_state.specs.Steps.{goes_on};
 ghost use Rattle.yaml_emit_machine.specs.Held.{held_events, HeldUtf8, is_ready, passes_early, passes_by, releases_by, AreLast};
-ghost use Rattle.yaml_emit_machine.specs.Laying.{LaysEvents, is_undecided_at};
+ghost use Rattle.yaml_emit_machine.specs.Laying.{LaysEvents, HoldsOrLays, is_undecided_at};
 
 use crate::held::Held;
 use yaml_emit_state::{Core, is_scalar};
@@ -96,15 +96,8 @@ pub fn hold_or_lay(core: &mut Core, held: &mut Held, event: &mut yaml_event_body
     requires few { is_ready (held_events held.old) ≡ false }
     requires going { goes_on core.old.sink.status core.old.place ≡ true }
     requires utf8 { HeldUtf8 held.old × HasUtf8 (body_of event.old) }
-    ensures lays { LaysEvents (not early) core.old (held_events held.old
-        ++ emitter_event (body_of event.old) ∷ []) core.new (held_events held.new) }
-    ensures utf8 { HeldUtf8 held.new }
-    ensures short { length (held_events held.new) ≤ 3 }
-    ensures waits { goes_on core.new.sink.status core.new.place ≡ true
-        → is_ready (held_events held.new) ≡ false }
-    ensures last { AreLast (held_events held.old ++ emitter_event (body_of event.old) ∷ [])
-        (held_events held.new) }
-    ensures settings { core.new.settings ≡ core.old.settings }
+    ensures { HoldsOrLays (not early) core.old held.old (emitter_event (body_of event.old)) core.new
+        held.new }
 {
     release(core, held, event, early);
     if passes(core, held, event, early) {
@@ -121,13 +114,8 @@ fn hold_early(core: &mut Core, held: &mut Held, event: &mut yaml_event_body_t)
     requires few { is_ready (held_events held.old) ≡ false }
     requires going { goes_on core.old.sink.status core.old.place ≡ true }
     requires utf8 { HeldUtf8 held.old × HasUtf8 (body_of event.old) }
-    ensures lays { LaysEvents false core.old (held_events held.old
-        ++ emitter_event (body_of event.old) ∷ []) core.new (held_events held.new) }
-    ensures utf8 { HeldUtf8 held.new }
-    ensures short { length (held_events held.new) ≤ 3 }
-    ensures waits { goes_on core.new.sink.status core.new.place ≡ true
-        → is_ready (held_events held.new) ≡ false }
-    ensures settings { core.new.settings ≡ core.old.settings }
+    ensures { HoldsOrLays false core.old held.old (emitter_event (body_of event.old)) core.new
+        held.new }
 {
     hold_or_lay(core, held, event, true);
 }
@@ -139,13 +127,8 @@ pub fn hold_or_lay_early(core: &mut Core, held: &mut Held, event: &mut yaml_even
     requires few { is_ready (held_events held.old) ≡ false }
     requires going { goes_on core.old.sink.status core.old.place ≡ true }
     requires utf8 { HeldUtf8 held.old × HasUtf8 (body_of event.old) }
-    ensures lays { LaysEvents false core.old (held_events held.old
-        ++ emitter_event (body_of event.old) ∷ []) core.new (held_events held.new) }
-    ensures utf8 { HeldUtf8 held.new }
-    ensures short { length (held_events held.new) ≤ 3 }
-    ensures waits { goes_on core.new.sink.status core.new.place ≡ true
-        → is_ready (held_events held.new) ≡ false }
-    ensures settings { core.new.settings ≡ core.old.settings }
+    ensures { HoldsOrLays false core.old held.old (emitter_event (body_of event.old)) core.new
+        held.new }
 {
     if passes_as_scalar(core, held, event) {
         core.lay_out_scalar(event);

@@ -1,39 +1,84 @@
--- Scalars without properties that stand in their line in double quotes, and what opens collections, in canonical form.
-use Rattle.std.proofs.Common.{◌≡◌, ℕ, ◌+◌, ◌<◌, Bool, true, false, refl, sym, subst, arith, List, [], ◌∷◌, ◌++◌, length, Option, Some, None}
-use Rattle.std.specs.Prelude.{not, ◌&&◌, ◌||◌}
+-- What stands in its line in double quotes in canonical form: scalars without properties, and texts with the default tag and without
+-- an anchor; and what opens collections.
+use Rattle.std.proofs.Common.{◌≡◌, ℕ, Bool, true, false, refl, sym, ◌∙◌, ap, List, [], Option, Some, None, ◌+◌, ◌<◌, subst, arith, ◌∷◌, ◌++◌}
+use Rattle.std.proofs.Math.Bool.{and-false}
+use Rattle.std.specs.Prelude.{◌&&◌, codes, not, ◌||◌}
 use Rattle.std.specs.Str.{chars, IsAscii}
-use Rattle.std.proofs.lemmas.Bool.{and_parts}
-use Rattle.std.proofs.lemmas.Str.{IsAscii-append}
-use Rattle.std.proofs.lemmas.Str.Ascii.{IsAscii-cons, IsAscii-nil}
 use Rattle.yaml_scan_model.specs.declared.yaml_scalar_style_t.{yaml_scalar_style_t}
 use Rattle.yaml_emit_tags.specs.parse_model.Events.{TagDirective}
 use Rattle.yaml_emit_tags.specs.parse_model.Nodes.{str_tag}
-use Rattle.yaml_emit_tags.specs.Tags.{tag_spelling}
+use Rattle.yaml_emit_tags.specs.Tags.{tag_spelling, spelled, directive_for, defines, suffix_keeps, uri_text}
 use Rattle.yaml_emit_text.specs.declared.Settings.{Settings}
-use Rattle.yaml_emit_text.specs.Layout.{Layout, ◌▹◌, stay, when, char, letters, word, line, after_block}
+use Rattle.yaml_emit_text.specs.Sink.{Output, Puts}
+use Rattle.yaml_emit_text.specs.Layout.{◌▹◌, word, Layout, stay, when, char, letters, line, opener, after_block}
 use Rattle.yaml_emit_text.specs.Quoted.{double_quoted}
 use Rattle.yaml_emit_text.specs.Scalars.{scalar_text}
-use Rattle.yaml_emit_text.specs.Sink.{Output, Puts}
-use Rattle.yaml_emit_text.specs.Tame.{IsLined}
-use Rattle.yaml_emit_text.specs.LineStarts.{marks, mark_word, line_start_text}
-use Rattle.yaml_emit_text.proofs.LineStarts.{Worded, puts_signed, quoted_worded, tagged_worded, word_worded}
+use Rattle.yaml_emit_text.proofs.Sinks.{puts_both}
+use Rattle.yaml_emit_layout.specs.declared.Expected.{Expected}
 use Rattle.yaml_emit_layout.specs.declared.Expected.TheVariants as at
 use Rattle.yaml_emit_layout.specs.declared.Level.{Level}
 use Rattle.yaml_emit_layout.specs.declared.NodePosition.{NodePosition}
+use Rattle.yaml_emit_layout.specs.Content.{Scalar, scalar, Start, sequence_start, mapping_start}
+use Rattle.yaml_emit_layout.specs.Grammar.{event_problem, last_problem, place_problem, problem_by, has}
+use Rattle.yaml_emit_layout.specs.State.{State, problem_at, is_simple_event, among, before_at, before_node, levels_behind, position_of, top_of, start_text, text_at, next_at, depth_at, opened}
+use Rattle.yaml_emit_layout.specs.Nodes.{Context, context_of, is_simple_scalar, checked, deeper, page_at, scalar_layout, style_of, turned, before_item, before_key, before_value, is_simple_start, indent_of, indented}
+use Rattle.yaml_emit_state.specs.declared.state.Core.{Core}
+use Rattle.yaml_emit_state.specs.Due.{is_key}
+use Rattle.yaml_emit_state.specs.Given.{plain_text, opening, opening_bracket}
+use Rattle.yaml_emit_state.specs.Steps.{state_of, settings_of, LaysOut, LaysOutRight, StaysBut, OpensCollection, first_phase}
+use Rattle.yaml_emit_state.proofs.Keyed.{no_keys, lays_scalar, lays_in_place}
+use Rattle.std.proofs.lemmas.Bool.{and_parts}
+use Rattle.std.proofs.lemmas.Str.{IsAscii-append}
+use Rattle.std.proofs.lemmas.Str.Ascii.{IsAscii-cons, IsAscii-nil}
+use Rattle.yaml_emit_text.specs.Tame.{IsLined}
+use Rattle.yaml_emit_text.specs.LineStarts.{marks, mark_word, line_start_text}
+use Rattle.yaml_emit_text.proofs.LineStarts.{Worded, puts_signed, quoted_worded, tagged_worded, word_worded}
 use Rattle.yaml_emit_layout.specs.declared.Phase.{Phase}
 use Rattle.yaml_emit_layout.specs.declared.Phase.TheVariants.{Items, Keys, Value}
-use Rattle.yaml_emit_layout.specs.Content.{Scalar, scalar}
-use Rattle.yaml_emit_layout.specs.Grammar.{has}
-use Rattle.yaml_emit_layout.specs.Nodes.{context_of, checked, deeper, page_at, scalar_layout, style_of, turned, before_item, before_key, before_value}
-use Rattle.yaml_emit_layout.specs.State.{among, before_at, before_node, levels_behind, position_of, top_of}
-use Rattle.yaml_emit_state.specs.declared.state.Core.{Core}
-use Rattle.yaml_emit_state.specs.Framed.{has_comma, mark_of, is_behind_simple, sign_of, line_start, BeginsLine, is_free, framed_text, tagged_text, bracket_text}
-use Rattle.yaml_emit_state.specs.Given.{plain_text}
+use Rattle.yaml_emit_state.specs.Framed.{has_comma, mark_of, is_behind_simple, sign_of, line_start, BeginsLine, is_free, framed_text, tagged_text}
 use Rattle.yaml_emit_state.specs.Stack.{stack_of}
-use Rattle.yaml_emit_state.specs.Steps.{state_of, settings_of, StaysBut, LaysOut}
-use Rattle.yaml_emit_state.proofs.Keyed.{lays_scalar}
-use Rattle.yaml_emit_state.proofs.Plain.{lays_in_place, str_spelled, text_layout, text_no_key, text_right}
 use Rattle.yaml_emit_state.proofs.Unmarked.{Parts, parts_right, none_given, unchecked_behind}
+use Rattle.yaml_emit_state.proofs.Noting.{lays_right}
+
+-- the default tag, without directives
+pub str_spelled : tag_spelling [] str_tag ≡ codes "!!str"
+unfolding directive_for defines suffix_keeps uri_text spelled
+str_spelled = refl
+
+-- its layout: the tag, and the value in double quotes
+pub text_layout : (s : Settings) (ds : List TagDirective) (at : NodePosition) (value : List ℕ)
+    (style : yaml_scalar_style_t) → s.canonical ≡ true
+    → scalar_layout (context_of s ds) at (plain_text value style)
+    ≡ (word (tag_spelling ds str_tag) ▹ (checked (deeper s at.around) ▹ double_quoted (page_at s at) (chars value)))
+unfolding scalar_layout style_of scalar_text
+text_layout s ds at value style e = rw e refl
+
+pub puts_text : (s : Settings) (ds : List TagDirective) (at : NodePosition) (value : List ℕ)
+    (style : yaml_scalar_style_t) (a b c : Output) → s.canonical ≡ true
+    → Puts a b (word (tag_spelling ds str_tag))
+    → Puts b c (checked (deeper s at.around) ▹ double_quoted (page_at s at) (chars value))
+    → Puts a c (scalar_layout (context_of s ds) at (plain_text value style))
+unfolding scalar_layout style_of scalar_text
+puts_text s ds at value style a b c e p q = rw e (puts_both a b c _ _ p q)
+
+right_by : (canonical : Bool) (place : Expected) (top : Option Level) (value : List ℕ)
+    (style : yaml_scalar_style_t) → canonical ≡ true → place ≡ at.Node
+    → problem_by canonical place top (scalar (plain_text value style)) ≡ None
+unfolding problem_by event_problem place_problem last_problem
+right_by canonical place None value style e h = rw (e, h) refl
+right_by canonical place (Some l) value style e h = rw (e, h) refl
+
+-- nothing is wrong with it
+pub text_right : (s : Settings) (st : State) (value : List ℕ) (style : yaml_scalar_style_t)
+    → s.canonical ≡ true → st.place ≡ at.Node
+    → problem_at s st (scalar (plain_text value style)) ≡ None
+text_right s st value style e h = right_by s.canonical st.place _ value style e h
+
+-- it is no simple key
+pub text_no_key : (p : Context) (top : Option Level) (v : Scalar) → p.settings.canonical ≡ true
+    → false ≡ (is_key top && is_simple_scalar p v)
+unfolding is_simple_event
+text_no_key p top v e = sym (ap (λ b. is_key top && b) (sym (no_keys p (scalar v) false e)) ∙ and-false (is_key top))
 
 -- ---- how it is written
 
@@ -87,11 +132,11 @@ puts_tagged s l v a b t w p =
     (subst C (sym str_spelled) (begun s l None (word (33 ∷ 33 ∷ 115 ∷ 116 ∷ 114 ∷ []) ▹ q) 33 (33 ∷ 115 ∷ 116 ∷ 114 ∷ 32 ∷ 34 ∷ (v ++ 34 ∷ [])) stay a b t (tagged_worded l.indent (page_at s pos) v w) p))
 
 -- what opens a collection was written
-pub puts_bracket : (s : Settings) (l : Level) (v : List ℕ) (a b : Output) → BeginsLine s l
-    → 0 < length v → Puts a b ((line_start_text (line_start s l None) ▹ letters v) ▹ after_block)
-    → Puts a b (bracket_text s (Some l) v)
-puts_bracket s l [] a b t h p = absurd (omega (arith, h))
-puts_bracket s l (y ∷ ys) a b t h p = begun s l None (word (y ∷ ys) ▹ after_block) y ys after_block a b t (word_worded (l.indent + 4) (y ∷ ys) after_block) p
+pub puts_bracket : (s : Settings) (l : Level) (x : ℕ) (a b : Output) → BeginsLine s l
+    → Puts a b ((line_start_text (line_start s l None) ▹ letters (x ∷ [])) ▹ after_block)
+    → Puts a b (before_node s (Some l) false ▹ opener x)
+unfolding letters
+puts_bracket s l x a b t p = begun s l None (word (x ∷ []) ▹ after_block) x [] after_block a b t (word_worded (l.indent + 4) (x ∷ []) after_block) p
 
 two_ascii : (m : ℕ) → m < 128 → IsAscii (m ∷ 32 ∷ [])
 two_ascii m h = IsAscii-cons m (32 ∷ []) h (IsAscii-cons 32 [] (omega arith) IsAscii-nil)
@@ -168,3 +213,82 @@ lays_text old new o s top v style empty same upper form due none written moved k
     let put = subst C (sym (text_layout own old.directives pos v style form)) (subst A (sym none) (subst D same (subst E upper written))) in
     lays_in_place old new (scalar x) empty (text_right own (state_of old) v style form due)
     (lays_scalar old new o own innermost x false empty refl refl (text_no_key (context_of own old.directives) innermost x form) put moved kept)
+
+-- in canonical form each collection is flow
+same_flow : (canonical x y : Bool) → canonical ≡ true → (canonical || x) ≡ (canonical || y)
+same_flow canonical x y e = rw e refl
+
+-- whatever its style, and whether the next event closes it
+opens_any : (s : Settings) (old new : Core) (sequence flow empty : Bool) → s.canonical ≡ true
+    → OpensCollection s old new false false false sequence
+    → OpensCollection s old new false empty flow sequence
+opens_any s old new sequence flow empty e o =
+    let pos : NodePosition = position_of (top_of (stack_of old.levels)) false in
+    let f = same_flow s.canonical (pos.flow || (false || false)) (pos.flow || (flow || empty)) e in
+    let F : Bool → Type 0 = λ g. state_of new ≡ opened (state_of old).directives (stack_of old.levels) false (first_phase sequence) g (indent_of s pos sequence g old.sink.cursor) in
+    let G : Bool → Type 0 = λ g. Puts old.sink new.sink (indented (indent_of s pos sequence g) checked) in
+    record { settings = o.settings; state = λ g. subst F f (o.state g); cursor = o.cursor; text = subst G f o.text; memory = o.memory; halts = o.halts }
+
+-- any start was laid out
+pub lays_start : (sequence : Bool) (old new : Core) (o : Output) (s : Settings)
+    (top : Option Level) (q : Start) (x : ℕ) (simple empty : Bool)
+    → s ≡ settings_of old → top ≡ top_of (stack_of old.levels)
+    → simple ≡ is_simple_start (context_of s old.directives) q empty
+    → x ≡ opening_bracket sequence
+    → Puts old.sink o (before_node s top simple
+    ▹ start_text (context_of s old.directives) (position_of top simple) x q empty)
+    → OpensCollection s (record old { sink = o }) new simple empty q.flow sequence
+    → LaysOutRight old new (opening sequence q) empty
+unfolding text_at next_at depth_at is_simple_event
+lays_start true old new o s top q x simple empty is upper asked bracket put moved =
+    let P : ℕ → Bool → Type 0 = λ y b. Puts old.sink o (before_node s top b ▹ start_text (context_of s old.directives) (position_of top b) y q empty) in
+    let O : Bool → Type 0 = λ b. OpensCollection s (record old { sink = o }) new b empty q.flow true in
+    let m = subst O asked moved in
+    lays_right old new o s top (sequence_start q) empty is upper (subst (P 91) asked (subst (λ y. P y simple) bracket put))
+    (record { settings = m.settings; state = m.state; cursor = m.cursor; text = m.text; memory = m.memory; halts = m.halts })
+lays_start false old new o s top q x simple empty is upper asked bracket put moved =
+    let P : ℕ → Bool → Type 0 = λ y b. Puts old.sink o (before_node s top b ▹ start_text (context_of s old.directives) (position_of top b) y q empty) in
+    let O : Bool → Type 0 = λ b. OpensCollection s (record old { sink = o }) new b empty q.flow false in
+    let m = subst O asked moved in
+    lays_right old new o s top (mapping_start q) empty is upper (subst (P 123) asked (subst (λ y. P y simple) bracket put))
+    (record { settings = m.settings; state = m.state; cursor = m.cursor; text = m.text; memory = m.memory; halts = m.halts })
+
+-- ---- without properties, where a node is due in canonical form
+
+-- nothing is wrong with it
+start_right : (canonical : Bool) (place : Expected) (top : Option Level) (sequence : Bool)
+    (q : Start) → canonical ≡ true → place ≡ at.Node → q.anchor ≡ None → q.tag ≡ None
+    → problem_by canonical place top (opening sequence q) ≡ None
+unfolding problem_by event_problem place_problem last_problem
+start_right canonical place None true q e h a t = rw (e, h, a, t) refl
+start_right canonical place None false q e h a t = rw (e, h, a, t) refl
+start_right canonical place (Some l) true q e h a t = rw (e, h, a, t) refl
+start_right canonical place (Some l) false q e h a t = rw (e, h, a, t) refl
+
+no_start_key : (p : Context) (q : Start) (empty : Bool) → p.settings.canonical ≡ true
+    → false ≡ is_simple_start p q empty
+unfolding is_simple_event
+no_start_key p q empty e = no_keys p (sequence_start q) empty e
+
+-- a bracket alone
+bracket_start : (s : Settings) (ds : List TagDirective) (at : NodePosition) (x : ℕ) (q : Start)
+    (empty : Bool) → s.canonical ≡ true → q.anchor ≡ None → q.tag ≡ None
+    → opener x ≡ start_text (context_of s ds) at x q empty
+bracket_start s ds at x q empty e a t = rw (e, a, t) refl
+
+-- it was laid out
+pub lays_bracket : (old new : Core) (o : Output) (s : Settings) (top : Option Level) (x : ℕ)
+    (sequence : Bool) (q : Start) (empty : Bool) → s ≡ settings_of old
+    → top ≡ top_of (stack_of old.levels) → x ≡ opening_bracket sequence
+    → old.settings.canonical ≡ true → old.place ≡ at.Node → q.anchor ≡ None → q.tag ≡ None
+    → Puts old.sink o (before_node s top false ▹ opener x)
+    → OpensCollection s (record old { sink = o }) new false false false sequence
+    → LaysOut old new (opening sequence q) empty
+lays_bracket old new o s top x sequence q empty is upper bracket form due a t put moved =
+    let A : Layout → Type 0 = λ z. Puts old.sink o (before_node s top false ▹ z) in
+    let canonical : s.canonical ≡ true = rw is form in
+    lays_in_place old new (opening sequence q) empty
+    (start_right (settings_of old).canonical old.place (top_of (stack_of old.levels)) sequence q form due a t)
+    (lays_start sequence old new o s top q x false empty is upper (no_start_key (context_of s old.directives) q empty canonical) bracket
+    (subst A (bracket_start s old.directives (position_of top false) x q empty canonical a t) put)
+    (opens_any s (record old { sink = o }) new sequence q.flow empty canonical moved))

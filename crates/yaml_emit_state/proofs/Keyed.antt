@@ -1,20 +1,34 @@
 -- A scalar or an alias was laid out. Whether a scalar is a simple key counts where a key is due, and nowhere else.
-use Rattle.std.proofs.Common.{◌≡◌, ℕ, Bool, refl, ◌∙◌, ap, List, [], ◌∷◌, Option, Some, None}
-use Rattle.std.specs.Prelude.{◌&&◌}
+use Rattle.std.proofs.Common.{◌≡◌, ℕ, Bool, true, false, refl, arith, ◌∙◌, ap, List, [], ◌∷◌, Option, Some, None}
+use Rattle.std.specs.Prelude.{nat_le, nat_lt, ◌&&◌}
+use Rattle.std.proofs.lemmas.Bool.Decides.{nat_tests}
+use Rattle.yaml_emit_layout.specs.Content.{Event, alias, scalar, sequence_start, mapping_start, Scalar}
+use Rattle.yaml_emit_layout.specs.State.{is_simple_event, problem_at, among, before_at, before_node, position_of, part_at, levels_behind, phase_behind, top_of, text_at, next_at, depth_at}
+use Rattle.yaml_emit_layout.specs.Nodes.{Context, is_simple_scalar, is_simple_alias, is_simple_start, MOST, context_of, alias_layout, scalar_layout}
 use Rattle.yaml_emit_text.specs.declared.Settings.{Settings}
 use Rattle.yaml_emit_text.specs.Sink.{Output, Puts}
 use Rattle.yaml_emit_text.specs.Layout.{◌▹◌}
 use Rattle.yaml_emit_layout.specs.declared.Level.{Level}
 use Rattle.yaml_emit_layout.specs.declared.Phase.{Phase}
 use Rattle.yaml_emit_layout.specs.declared.Phase.TheVariants.{Items, Keys, Value}
-use Rattle.yaml_emit_layout.specs.Content.{Scalar, alias, scalar}
-use Rattle.yaml_emit_layout.specs.State.{among, before_at, before_node, position_of, part_at, levels_behind, phase_behind, top_of, text_at, next_at, depth_at, is_simple_event}
-use Rattle.yaml_emit_layout.specs.Nodes.{context_of, is_simple_alias, is_simple_scalar, alias_layout, scalar_layout}
 use Rattle.yaml_emit_state.specs.declared.state.Core.{Core}
 use Rattle.yaml_emit_state.specs.Stack.{stack_of}
 use Rattle.yaml_emit_state.specs.Due.{is_key_in, is_key}
-use Rattle.yaml_emit_state.specs.Steps.{state_of, settings_of, StaysBut, LaysOutRight}
-use Rattle.yaml_emit_state.proofs.Blaming.{blames_not}
+use Rattle.yaml_emit_state.specs.Steps.{state_of, settings_of, StaysBut, LaysOut, LaysOutRight}
+use Rattle.yaml_emit_state.proofs.Noting.{blames_not}
+
+-- canonical form has no simple keys
+pub no_keys : (p : Context) (e : Event) (empty : Bool) → p.settings.canonical ≡ true
+    → false ≡ is_simple_event p e empty
+unfolding is_simple_event is_simple_scalar is_simple_alias is_simple_start
+no_keys p (alias name) empty h = rw h refl
+no_keys p (scalar x) empty h = rw h refl
+no_keys p (sequence_start q) empty h = rw h refl
+no_keys p (mapping_start q) empty h = rw h refl
+no_keys p _ empty h = refl
+
+pub not_deep : (n : ℕ) → nat_le n MOST ≡ true → nat_lt MOST n ≡ false
+not_deep n h = grind (arith, nat_tests)
 
 pub before_in : (s : Settings) (p : Phase) (flow : Bool) (n : ℕ) (b : Bool)
     → before_at s p flow n (is_key_in p && b) ≡ before_at s p flow n b
@@ -91,3 +105,15 @@ lays_alias old new o s top name simple empty settings upper asked put moved kept
       memory = λ _. kept.2;
       blames = blames_not old new _ _ kept.2;
     }
+
+-- what comes right is laid out
+pub lays_in_place : (old new : Core) (e : Event) (empty : Bool)
+    → problem_at (settings_of old) (state_of old) e ≡ None → LaysOutRight old new e empty
+    → LaysOut old new e empty
+lays_in_place old new e empty h r = record {
+  settings = r.settings;
+  state = λ g. rw h (r.state g);
+  text = rw h r.text;
+  memory = r.memory;
+  blames = rw h r.blames;
+}

@@ -16,8 +16,7 @@ use Rattle.yaml_emit_layout.specs.State.{State, top_of, among, part_at, position
 use Rattle.yaml_emit_state.specs.Due.{is_key_in, is_undecided_in, is_undecided_start, is_undecided}
 use Rattle.yaml_emit_state.specs.Given.{opening}
 use Rattle.yaml_emit_state.specs.Steps.{IsSame}
-use Rattle.yaml_emit_state.proofs.Canonical.{no_keys}
-use Rattle.yaml_emit_state.proofs.Keyed.{before_in, part_in, phase_in}
+use Rattle.yaml_emit_state.proofs.Keyed.{no_keys, before_in, part_in, phase_in}
 
 -- what a collection's start is written as, by what stands before it, where it stands and whether it is flow
 text_as : Context → ℕ → Bool → Start → Layout → NodePosition → Bool → Layout

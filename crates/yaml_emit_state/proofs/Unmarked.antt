@@ -33,9 +33,7 @@ use Rattle.yaml_emit_state.specs.Bare.{is_double, IsInline, short_text, short_no
 use Rattle.yaml_emit_state.specs.Due.{is_key_in, is_key}
 use Rattle.yaml_emit_state.specs.Stack.{stack_of}
 use Rattle.yaml_emit_state.specs.Steps.{settings_of, StaysBut, LaysOut}
-use Rattle.yaml_emit_state.proofs.Canonical.{not_deep}
-use Rattle.yaml_emit_state.proofs.Keyed.{lays_scalar}
-use Rattle.yaml_emit_state.proofs.Plain.{lays_in_place}
+use Rattle.yaml_emit_state.proofs.Keyed.{not_deep, lays_scalar, lays_in_place}
 
 -- ---- what a short scalar is
 

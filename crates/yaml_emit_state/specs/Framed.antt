@@ -1,12 +1,12 @@
--- Scalars without properties that stand in their line in double quotes, and what opens collections, in canonical form.
-use Rattle.std.specs.Prelude.{◌≡◌, ℕ, ◌+◌, Bool, true, false, not, ◌&&◌, ◌||◌, nat_le, if◌then◌else◌, codes, List, [], ◌∷◌, Option, Some, None}
+-- Scalars without properties that stand in their line in double quotes, in canonical form, and what begins a line there.
+use Rattle.std.specs.Prelude.{◌≡◌, ℕ, ◌+◌, Bool, true, false, not, ◌&&◌, ◌||◌, nat_le, List, [], ◌∷◌, Option, Some, None}
 use Rattle.std.specs.Str.{chars}
 use Rattle.yaml_types.specs.Ascii as ascii
 use Rattle.yaml_emit_tags.specs.parse_model.Nodes.{str_tag}
 use Rattle.yaml_emit_tags.specs.Tags.{tag_spelling}
 use Rattle.yaml_emit_text.specs.declared.LineStart.{LineStart}
 use Rattle.yaml_emit_text.specs.declared.Settings.{Settings}
-use Rattle.yaml_emit_text.specs.Layout.{Layout, ◌▹◌, when, word, after_block}
+use Rattle.yaml_emit_text.specs.Layout.{Layout, ◌▹◌, when, word}
 use Rattle.yaml_emit_text.specs.Quoted.{double_quoted}
 use Rattle.yaml_emit_layout.specs.declared.Level.{Level}
 use Rattle.yaml_emit_layout.specs.declared.Phase.{Phase}
@@ -73,11 +73,3 @@ tagged_text s top v = before_node s top false
     ▹ (word (tag_spelling [] str_tag)
     ▹ (checked (deeper s (position_of top false).around)
     ▹ double_quoted (page_at s (position_of top false)) (chars v)))
-
--- what opens a collection, by its characters, with what comes before it in the innermost one: white space counts as last behind it
-abbrev pub bracket_text : Settings → Option Level → List ℕ → Layout
-bracket_text s top front = before_node s top false ▹ (word front ▹ after_block)
-
--- what opens a sequence or a mapping with the default tag, where there is no directive
-abbrev pub plain_front : Bool → List ℕ
-plain_front sequence = if sequence then codes "!!seq [" else codes "!!map {"

@@ -4,7 +4,7 @@ use Rattle.std.specs.Str.{IsAscii}
 use Rattle.yaml_types.specs.Ascii as ascii
 use Rattle.yaml_scan_model.specs.declared.yaml_scalar_style_t.{yaml_scalar_style_t}
 use Rattle.yaml_parse_model.specs.Events.{text_of, directive_of}
-use Rattle.yaml_parse_model.specs.Nodes.{str_tag, seq_tag, map_tag}
+use Rattle.yaml_parse_model.specs.Nodes.{str_tag}
 use Rattle.yaml_emit_layout.specs.Content as said
 use Rattle.yaml_emit_layout.specs.Nodes as nodes
 use Rattle.yaml_emit_state.specs.declared.given.Context.{Context}
@@ -36,15 +36,6 @@ plain_text value style = record {
   style = style;
 }
 
--- what opens a collection with the default tag and without an anchor
-abbrev pub plain_start : List ℕ → Bool → said.Start
-plain_start tag flow = record { anchor = None; tag = Some tag; implicit = true; flow = flow }
-
--- what ends them
-abbrev pub closing : Bool → said.Event
-closing true = said.sequence_end
-closing false = said.mapping_end
-
 abbrev pub lent_start : Start → said.Start
 lent_start p = record {
   anchor = text_of p.anchor.now;
@@ -60,14 +51,6 @@ opening false q = said.mapping_start q
 
 abbrev pub opening_bracket : Bool → ℕ
 opening_bracket sequence = if sequence then ascii.open_bracket else ascii.open_brace
-
--- the default tag of a sequence, and of a mapping
-abbrev pub default_tag : Bool → List ℕ
-default_tag sequence = if sequence then seq_tag else map_tag
-
--- what opens one with it and without an anchor
-abbrev pub plain_opening : Bool → Bool → said.Event
-plain_opening sequence flow = opening sequence (plain_start (default_tag sequence) flow)
 
 abbrev pub lent_opening : Opening → said.Opening
 lent_opening o = record {

@@ -11,16 +11,16 @@ ghost use Rattle.yaml_emit_layout.specs.Grammar.{kept_if, kept_tag, has};
 ghost use Rattle.yaml_emit_layout.specs.Nodes.{alias_layout, anchor_text, tag_text, properties_text, mark_text, scalar_layout, style_of, is_plain, checked, deeper, page_at, is_flow};
 ghost use Rattle.yaml_emit_layout.specs.State.{before_node, position_of, start_text};
 ghost use Rattle.yaml_scan_model.specs.declared.yaml_scalar_style_t.{yaml_scalar_style_t};
-ghost use Rattle.yaml_emit_state.specs.Given.{lent_context, lent_scalar, lent_start, plain_text, plain_start, default_tag, opening_bracket, IsNamed};
+ghost use Rattle.yaml_emit_state.specs.Given.{lent_context, lent_scalar, lent_start, plain_text, IsNamed};
 
 use crate::bare::is_given;
-use crate::before::{opening_bracket, put_before, put_blank_if, put_opener_if};
+use crate::before::{put_before, put_blank_if, put_opener_if};
 use crate::given::{Context, Scalar, Start};
 use crate::indent::{deeper, is_flow, is_simple_part, position_of, put_checked};
 use yaml_emit_layout::{Level, NodePosition};
 use yaml_emit_tags::{DirectiveTable, put_tag};
 use yaml_emit_text::{Page, Settings, Sink, Style, allowed_by, put_styled, put_tame, taken, text};
-use yaml_parse_model::{YAML_MAP_TAG, YAML_SEQ_TAG, YAML_STR_TAG};
+use yaml_parse_model::YAML_STR_TAG;
 
 // Out of line: few registers are needed.
 #[inline(never)]
@@ -239,13 +239,6 @@ pub fn are_none(directives: &DirectiveTable) -> bool
     directives.list().is_empty()
 }
 
-// The default tag of a sequence, or of a mapping.
-fn default_tag(sequence: bool) -> &'static [u8]
-    ensures { result.now ≡ default_tag sequence }
-{
-    if sequence { YAML_SEQ_TAG } else { YAML_MAP_TAG }
-}
-
 /// A text with the default tag and without an anchor in the innermost collection, with what comes before it, in canonical form.
 // Inlined into its one caller.
 #[inline(always)]
@@ -347,20 +340,4 @@ pub fn put_start_node(
         ),
         c,
     );
-}
-
-/// What opens a sequence, or a mapping, with the default tag and without an anchor in the innermost collection, with what comes
-/// before it, in canonical form.
-// Inlined into its one caller.
-#[inline(always)]
-pub fn put_plain_node(sink: &mut Sink, context: &Context, top: &Option<Level>, sequence: bool)
-    requires { context.now.settings.now.canonical ≡ true }
-    ensures { (flow empty : Bool) → Puts sink.old sink.new
-        (before_node context.now.settings.now top.now false
-        ▹ start_text (lent_context context.now) (position_of top.now false)
-        (opening_bracket sequence) (plain_start (default_tag sequence) flow) empty) }
-{
-    put_before(sink, context.settings, top, false);
-    put_tag(sink, context.directives, default_tag(sequence));
-    put_opener_if(sink, true, opening_bracket(sequence) as char);
 }

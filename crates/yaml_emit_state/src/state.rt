@@ -15,8 +15,8 @@ use crate::given::{Context, EventPosition, Scalar};
 use crate::judge::problem_of;
 use crate::keys::{is_simple, is_simple_alias, is_simple_key, is_undecided_event};
 use crate::levels::Levels;
-use crate::nodes::{put_alias_node, put_plain_node, put_scalar_node};
-use event::{put_event, put_plain_bracket};
+use crate::nodes::{put_alias_node, put_scalar_node};
+use event::put_event;
 pub use resume::yaml_emitter_stand_t;
 use std::alloc::{AllocError, Global};
 use yaml_emit_layout::Expected;
@@ -53,7 +53,7 @@ impl Core {
     ghost use Rattle.yaml_emit_state.specs.Due.{is_undecided};
     ghost use Rattle.yaml_emit_state.specs.Stack.{stack_of};
     ghost use Rattle.yaml_scan_model.specs.declared.yaml_scalar_style_t.{yaml_scalar_style_t};
-    ghost use Rattle.yaml_emit_state.specs.Given.{lent_scalar, plain_text, plain_opening, IsNamed};
+    ghost use Rattle.yaml_emit_state.specs.Given.{lent_scalar, plain_text, IsNamed};
     ghost use Rattle.yaml_emit_state.specs.Steps.{state_of, settings_of, LaysOut, IsFreshCore, LaysOutRight, Starves, is_going, goes_on};
 
     /// Nothing was laid out.
@@ -302,7 +302,7 @@ impl Core {
     fn admits(&mut self, event: &yaml_event_body_t, canonical: bool) -> bool
         requires { canonical ≡ self.old.settings.canonical }
         ensures same { result ≡ true → self.new ≡ self.old }
-        ensures right { result ≡ true → problem_at (settings_of self.old) (state_of self.old)
+        ensures right { result ≡ true → problem_at (settings_of self.new) (state_of self.new)
             (emitter_event (body_of event.now)) ≡ None }
         ensures wrong { result ≡ false → (empty : Bool) → LaysOut self.old self.new
             (emitter_event (body_of event.now)) empty }
@@ -361,10 +361,10 @@ impl Core {
         self.lay_by(event, empty, self.settings.canonical);
     }
 
-    /// Lays out what ends a sequence, in canonical form, or refuses it.
+    // What ends a sequence is laid out or refused, in canonical form.
     // Out of line: kind and form are known, and what other kinds need takes no room here.
     #[inline(never)]
-    pub fn lay_sequence_end(&mut self, empty: bool)
+    fn lay_sequence_end(&mut self, empty: bool)
         requires { (settings_of self.old).canonical ≡ true }
         ensures { LaysOut self.old self.new sequence_end empty }
     {
@@ -372,10 +372,10 @@ impl Core {
         self.lay_by(&mut event, empty, true);
     }
 
-    /// Lays out what ends a mapping, in canonical form, or refuses it.
+    // What ends a mapping is laid out or refused, in canonical form.
     // Out of line: kind and form are known, and what other kinds need takes no room here.
     #[inline(never)]
-    pub fn lay_mapping_end(&mut self, empty: bool)
+    fn lay_mapping_end(&mut self, empty: bool)
         requires { (settings_of self.old).canonical ≡ true }
         ensures { LaysOut self.old self.new mapping_end empty }
     {
@@ -420,8 +420,9 @@ impl Core {
     {
         match event {
             yaml_event_body_t::Scalar { .. } => self.lay_named_scalar(event, empty),
-            yaml_event_body_t::SequenceStart { .. } => self.lay_sequence_start(event, empty),
-            yaml_event_body_t::MappingStart { .. } => self.lay_mapping_start(event, empty),
+            yaml_event_body_t::SequenceStart { .. } | yaml_event_body_t::MappingStart { .. } => {
+                self.lay_canonical_start(event, empty)
+            }
             yaml_event_body_t::SequenceEnd => self.lay_sequence_end(empty),
             yaml_event_body_t::MappingEnd => self.lay_mapping_end(empty),
             yaml_event_body_t::Alias { .. } => self.lay_alias(event, empty),
@@ -454,61 +455,6 @@ impl Core {
     {
         if !self.place_text(value) {
             self.lay_any_text(value);
-        }
-    }
-
-    // What opens a sequence, or a mapping, with the default tag and without an anchor, where a node is due, in canonical form, in
-    // the general way.
-    // Out of line: beside the short one.
-    #[inline(never)]
-    fn lay_any_plain(&mut self, sequence: bool)
-        requires form { (settings_of self.old).canonical ≡ true }
-        requires due { self.old.place ≡ Expected.Node }
-        ensures { (flow empty : Bool) → LaysOut self.old self.new (plain_opening sequence flow)
-            empty }
-    {
-        let settings = self.settings(true);
-        let context = Context {
-            settings: &settings,
-            directives: &self.directives,
-        };
-        let top = self.levels.innermost();
-        put_plain_node(&mut self.sink, &context, top, sequence);
-        self.open_by(&settings, false, false, false, sequence);
-    }
-
-    // The same at once, where there is no directive and it begins a line; else nothing.
-    // Inlined into its one caller.
-    #[inline(always)]
-    fn place_plain(&mut self, sequence: bool) -> bool
-        requires form { (settings_of self.old).canonical ≡ true }
-        requires due { self.old.place ≡ Expected.Node }
-        ensures laid { result ≡ true → (flow empty : Bool) → LaysOut self.old self.new
-            (plain_opening sequence flow) empty }
-        ensures same { result ≡ false → self.new ≡ self.old }
-    {
-        let settings = self.settings(true);
-        let top = self.levels.innermost();
-        if put_plain_bracket(&mut self.sink, &settings, &self.directives, top, sequence) {
-            self.open_by(&settings, false, false, false, sequence);
-            true
-        } else {
-            false
-        }
-    }
-
-    /// Lays out what opens a sequence, or a mapping, with the default tag and without an anchor, where a node is due, in
-    /// canonical form, which doesn't ask for its style.
-    // Out of line: what it needs is in registers.
-    #[inline(never)]
-    pub fn lay_plain_start(&mut self, sequence: bool)
-        requires form { (settings_of self.old).canonical ≡ true }
-        requires due { self.old.place ≡ Expected.Node }
-        ensures { (flow empty : Bool) → LaysOut self.old self.new (plain_opening sequence flow)
-            empty }
-    {
-        if !self.place_plain(sequence) {
-            self.lay_any_plain(sequence);
         }
     }
 

@@ -1,22 +1,17 @@
 //! The events of a document.
 
-ghost use Rattle.std.specs.Prelude.{◌≡◌, ◌<◌, ◌∷◌, [], List, length, None, Bool, true, false, IsUtf8};
-ghost use Rattle.yaml_scan_model.specs.declared.yaml_scalar_style_t.{yaml_scalar_style_t};
-ghost use Rattle.yaml_parse_model.specs.Events.{body_of};
-ghost use Rattle.yaml_parse_model.specs.Constructors.{HasUtf8};
-ghost use Rattle.yaml_emit_layout.specs.Content.{emitter_event, Event};
+ghost use Rattle.std.specs.Prelude.{◌≡◌, [], List, None, true, false};
+ghost use Rattle.yaml_emit_layout.specs.Content.{Event};
 ghost use Rattle.yaml_emit_graph.specs.Graph.{dumped};
-ghost use Rattle.yaml_emit_graph.specs.Texts.{text_event};
-ghost use Rattle.yaml_emit_graph.specs.Brackets.{bracket_event};
 ghost use Rattle.yaml_emit_graph.specs.Events.{IsEvents, remaining_events};
-ghost use Rattle.yaml_emit_machine.specs.Emitter.{Keeps, left_if};
-ghost use Rattle.yaml_emit_machine.specs.Taking.{TakesEvents, TakesEarly, LaysAtOnce, AwaitsNode, Stuck, NotesMemory};
-ghost use Rattle.yaml_emit_machine.specs.Dumping.{DumpsAtOnce, DumpsSome};
+ghost use Rattle.yaml_emit_machine.specs.Emitter.{Keeps};
+ghost use Rattle.yaml_emit_machine.specs.Taking.{TakesEvents, AwaitsNode, Stuck, NotesMemory};
+ghost use Rattle.yaml_emit_machine.specs.Dumping.{Dumps, MayDump, MayDumpEarly, DumpsSome};
 
-use super::{answer, take_event, yaml_emitter_t};
+use super::{take_event, yaml_emitter_t};
 use crate::fault::refusal;
 use std::alloc::AllocError;
-use yaml_emit_graph::{Bracket, Events};
+use yaml_emit_graph::Events;
 use yaml_parse_document::yaml_document_t;
 use yaml_parse_model::yaml_event_body_t;
 
@@ -24,58 +19,10 @@ impl yaml_emitter_t {
     // Memory was refused for the dump: what follows counts for nothing.
     fn starve(&mut self, refused: AllocError)
         requires begun { self.old.fresh ≡ false }
-        ensures takes { (es : List Event) → TakesEvents self.old es self.new [] }
-        ensures memory { NotesMemory true self.old self.new }
-        ensures keeps { Keeps self.old self.new }
-        ensures held { self.new.held ≡ self.old.held }
-        ensures begun { self.new.fresh ≡ false }
+        ensures { (es : List Event) → Dumps self.old es self.new [] }
     {
         self.core.starve(refused);
         self.fault = refusal(&self.core);
-    }
-
-    // An event of the dump. What is left of it counts for nothing.
-    fn dump_event(&mut self, event: &mut yaml_event_body_t) -> bool
-        requires utf8 { HasUtf8 (body_of event.old) }
-        requires begun { self.old.fresh ≡ false }
-        ensures takes { (es : List Event)
-            → TakesEvents self.old (emitter_event (body_of event.old) ∷ es) self.new
-            (left_if result es) }
-        ensures memory { NotesMemory true self.old self.new }
-        ensures keeps { Keeps self.old self.new }
-    {
-        take_event(self, event);
-        match answer(self) {
-            Ok(()) => true,
-            Err(_) => false,
-        }
-    }
-
-    // Whether an event was written, by way of a slot that is lent, and no fault has come.
-    fn dump_next(
-        &mut self,
-        events: &mut Events,
-        document: &yaml_document_t,
-        event: &mut yaml_event_body_t,
-    ) -> bool
-        requires walk { IsEvents document.now events.old }
-        requires begun { self.old.fresh ≡ false }
-        ensures takes { TakesEvents self.old (remaining_events document.now events.old) self.new
-            (left_if result (remaining_events document.now events.new)) }
-        ensures memory { NotesMemory true self.old self.new }
-        ensures keeps { Keeps self.old self.new }
-        ensures walk { result ≡ true → IsEvents document.now events.new }
-        ensures less { result ≡ true → length (remaining_events document.now events.new)
-            < length (remaining_events document.now events.old) }
-    {
-        match events.next(document, event) {
-            Ok(false) => false,
-            Ok(true) => self.dump_event(event),
-            Err(refused) => {
-                self.starve(refused);
-                false
-            }
-        }
     }
 
     // Whether no fault has come.
@@ -91,62 +38,23 @@ impl yaml_emitter_t {
         }
     }
 
-    // An event of the dump is laid out at once. What is left of it counts for nothing.
-    // Inlined into its one caller.
-    #[inline(always)]
-    fn dump_at_once(&mut self, event: &mut yaml_event_body_t) -> bool
-        requires utf8 { HasUtf8 (body_of event.old) }
-        requires once { LaysAtOnce self.old }
-        ensures { (before after : List Event) → before ≡ emitter_event (body_of event.old) ∷ after
-            → DumpsAtOnce self.old self.new result before after }
-    {
-        self.lay_at_once(event);
-        self.is_right()
-    }
-
-    // A text of the dump is laid out at once, with the default tag and without an anchor.
-    // Inlined into its one caller.
-    #[inline(always)]
-    fn dump_text(&mut self, value: &[u8]) -> bool
-        requires utf8 { IsUtf8 value.now }
-        requires once { LaysAtOnce self.old }
-        requires due { AwaitsNode self.old }
-        ensures { (style : yaml_scalar_style_t) → (before after : List Event)
-            → before ≡ text_event value.now style ∷ after
-            → DumpsAtOnce self.old self.new result before after }
-    {
-        self.lay_text_at_once(value);
-        self.is_right()
-    }
-
-    // What opens or closes a collection of the dump is laid out at once, with the default tag and without an anchor.
-    // Inlined into its one caller.
-    #[inline(always)]
-    fn dump_bracket(&mut self, bracket: Bracket) -> bool
-        requires once { LaysAtOnce self.old }
-        requires due { AwaitsNode self.old }
-        ensures { (flow : Bool) → (before after : List Event)
-            → before ≡ bracket_event bracket flow ∷ after
-            → DumpsAtOnce self.old self.new result before after }
-    {
-        self.lay_bracket_at_once(bracket);
-        self.is_right()
-    }
-
-    // Whether an event was laid out at once, by way of a slot that is lent, and no fault has come.
-    fn dump_next_early(
+    // Whether an event was written, by way of a slot that is lent, and no fault has come. What is left of it counts for nothing.
+    fn dump_next(
         &mut self,
         events: &mut Events,
         document: &yaml_document_t,
         event: &mut yaml_event_body_t,
     ) -> bool
-        requires walk { IsEvents document.now events.old }
-        requires once { LaysAtOnce self.old }
-        ensures { DumpsSome document.now self.old self.new events.old events.new result }
+        requires { MayDump document.now self.old events.old }
+        ensures { DumpsSome document.now (MayDump document.now) self.old self.new events.old
+            events.new result }
     {
         match events.next(document, event) {
             Ok(false) => false,
-            Ok(true) => self.dump_at_once(event),
+            Ok(true) => {
+                take_event(self, event);
+                self.is_right()
+            }
             Err(refused) => {
                 self.starve(refused);
                 false
@@ -154,27 +62,32 @@ impl yaml_emitter_t {
         }
     }
 
-    // The same: what opens or closes a collection goes without a slot.
-    // Inlined into its one caller.
-    #[inline(always)]
-    fn dump_bracket_early(
+    // Whether an event was laid out at once, by way of a slot that is lent, and no fault has come. What is left of it counts for
+    // nothing.
+    fn dump_next_early(
         &mut self,
         events: &mut Events,
         document: &yaml_document_t,
         event: &mut yaml_event_body_t,
     ) -> bool
-        requires walk { IsEvents document.now events.old }
-        requires once { LaysAtOnce self.old }
-        requires due { AwaitsNode self.old }
-        ensures { DumpsSome document.now self.old self.new events.old events.new result }
+        requires { MayDumpEarly document.now self.old events.old }
+        ensures { DumpsSome document.now (MayDumpEarly document.now) self.old self.new events.old
+            events.new result }
     {
-        match events.next_bracket(document) {
-            Some(bracket) => self.dump_bracket(bracket),
-            None => self.dump_next_early(events, document, event),
+        match events.next(document, event) {
+            Ok(false) => false,
+            Ok(true) => {
+                self.lay_at_once(event);
+                self.is_right()
+            }
+            Err(refused) => {
+                self.starve(refused);
+                false
+            }
         }
     }
 
-    // The same: a text goes without a slot.
+    // The same: a text with the default tag and without an anchor goes without a slot.
     // Inlined into its one caller.
     #[inline(always)]
     fn dump_text_early(
@@ -183,14 +96,17 @@ impl yaml_emitter_t {
         document: &yaml_document_t,
         event: &mut yaml_event_body_t,
     ) -> bool
-        requires walk { IsEvents document.now events.old }
-        requires once { LaysAtOnce self.old }
+        requires may { MayDumpEarly document.now self.old events.old }
         requires due { AwaitsNode self.old }
-        ensures { DumpsSome document.now self.old self.new events.old events.new result }
+        ensures { DumpsSome document.now (MayDumpEarly document.now) self.old self.new events.old
+            events.new result }
     {
         match events.next_text(document) {
-            Some(value) => self.dump_text(value),
-            None => self.dump_bracket_early(events, document, event),
+            Some(value) => {
+                self.lay_text_at_once(value);
+                self.is_right()
+            }
+            None => self.dump_next_early(events, document, event),
         }
     }
 
@@ -203,9 +119,9 @@ impl yaml_emitter_t {
         document: &yaml_document_t,
         event: &mut yaml_event_body_t,
     ) -> bool
-        requires walk { IsEvents document.now events.old }
-        requires once { LaysAtOnce self.old }
-        ensures { DumpsSome document.now self.old self.new events.old events.new result }
+        requires { MayDumpEarly document.now self.old events.old }
+        ensures { DumpsSome document.now (MayDumpEarly document.now) self.old self.new events.old
+            events.new result }
     {
         if self.awaits_node() {
             self.dump_text_early(events, document, event)
@@ -216,15 +132,21 @@ impl yaml_emitter_t {
 
     // In canonical form, where none is held.
     fn dump_events_early(&mut self, events: Events, document: &yaml_document_t)
-        requires walk { IsEvents document.now events }
-        requires once { LaysAtOnce self.old }
-        ensures takes { TakesEarly self.old (remaining_events document.now events) self.new [] }
-        ensures memory { NotesMemory true self.old self.new }
-        ensures keeps { Keeps self.old self.new }
+        requires { MayDumpEarly document.now self.old events }
+        ensures { Dumps self.old (remaining_events document.now events) self.new [] }
     {
         let mut events = events;
         let mut event = yaml_event_body_t::No;
         while self.dump_some_early(&mut events, document, &mut event) {}
+    }
+
+    fn dump_events(&mut self, events: Events, document: &yaml_document_t)
+        requires { MayDump document.now self.old events }
+        ensures { Dumps self.old (remaining_events document.now events) self.new [] }
+    {
+        let mut events = events;
+        let mut event = yaml_event_body_t::No;
+        while self.dump_next(&mut events, document, &mut event) {}
     }
 
     // All events of a document.
@@ -232,27 +154,13 @@ impl yaml_emitter_t {
         requires walk { IsEvents document.now events }
         requires all { remaining_events document.now events ≡ dumped document.now }
         requires begun { self.old.fresh ≡ false }
-        ensures takes { TakesEvents self.old (dumped document.now) self.new [] }
-        ensures memory { NotesMemory true self.old self.new }
-        ensures keeps { Keeps self.old self.new }
+        ensures { Dumps self.old (remaining_events document.now events) self.new [] }
     {
         if self.lays_at_once() {
             self.dump_events_early(events, document);
         } else {
             self.dump_events(events, document);
         }
-    }
-
-    fn dump_events(&mut self, events: Events, document: &yaml_document_t)
-        requires walk { IsEvents document.now events }
-        requires begun { self.old.fresh ≡ false }
-        ensures takes { TakesEvents self.old (remaining_events document.now events) self.new [] }
-        ensures memory { NotesMemory true self.old self.new }
-        ensures keeps { Keeps self.old self.new }
-    {
-        let mut events = events;
-        let mut event = yaml_event_body_t::No;
-        while self.dump_next(&mut events, document, &mut event) {}
     }
 }
 

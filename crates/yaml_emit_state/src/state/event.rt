@@ -8,20 +8,19 @@ ghost use Rattle.yaml_emit_text.specs.Sink.{Puts};
 ghost use Rattle.yaml_emit_text.specs.Tame.{IsTame};
 ghost use Rattle.yaml_emit_layout.specs.declared.Expected.{Expected};
 ghost use Rattle.yaml_emit_layout.specs.Content.{emitter_event};
-ghost use Rattle.yaml_emit_text.specs.Layout.{◌▹◌};
+ghost use Rattle.yaml_emit_text.specs.Layout.{◌▹◌, opener};
 ghost use Rattle.yaml_emit_layout.specs.Nodes.{alias_layout, scalar_layout};
 ghost use Rattle.yaml_emit_layout.specs.State.{text_at, is_simple_event, before_node, position_of, start_text};
 ghost use Rattle.yaml_scan_model.specs.declared.yaml_scalar_style_t.{yaml_scalar_style_t};
-ghost use Rattle.yaml_emit_state.specs.Framed.{sign_of, framed_text, tagged_text, bracket_text, plain_front};
-ghost use Rattle.yaml_emit_state.specs.Given.{lent_context, lent_scalar, lent_start, plain_text, plain_start, default_tag, opening_bracket, name_of, IsNamed};
+ghost use Rattle.yaml_emit_state.specs.Framed.{sign_of, framed_text, tagged_text};
+ghost use Rattle.yaml_emit_state.specs.Given.{lent_context, lent_scalar, lent_start, name_of, IsNamed};
 
 use crate::before::{begins_line, line_start_of, put_closer_at};
 use crate::documents::{put_end, put_start_at, put_stop_at};
 use crate::given::{Context, EventPosition, Opening, Scalar, Start};
 use crate::keys::{is_flow_mapping, is_flow_sequence};
-use crate::nodes::{are_none, put_alias_node, put_scalar_node, put_start_node};
+use crate::nodes::{put_alias_node, put_scalar_node, put_start_node};
 use yaml_emit_layout::Level;
-use yaml_emit_tags::DirectiveTable;
 use yaml_emit_text::{Settings, Sink, is_lined};
 use yaml_parse_model::yaml_event_body_t;
 
@@ -125,21 +124,18 @@ fn put_any_node(
     put_scalar_node(sink, context, top, simple, scalar);
 }
 
-// What opens a collection in the innermost one in canonical form, by its characters, with what comes before it, where it begins a
-// line; else nothing.
+// What opens a collection in the innermost one in canonical form, with what comes before it, where it begins a line; else nothing.
 // Inlined: some stores.
 #[inline(always)]
 pub(super) fn put_bracket(
     sink: &mut Sink,
     settings: &Settings,
     top: &Option<Level>,
-    front: &[u8],
+    bracket: u8,
 ) -> bool
-    requires few { length front.now ≤ 8 }
-    requires some { 0 < length front.now }
-    requires ascii { IsAscii front.now }
-    ensures put { result ≡ true → Puts sink.old sink.new
-        (bracket_text settings.now top.now front.now) }
+    requires { bracket < 128 }
+    ensures put { result ≡ true → Puts sink.old sink.new (before_node settings.now top.now false
+        ▹ opener bracket) }
     ensures same { result ≡ false → sink.new ≡ sink.old }
 {
     match top {
@@ -147,38 +143,13 @@ pub(super) fn put_bracket(
         Some(level) => {
             if begins_line(settings, *level) {
                 let start = line_start_of(settings, *level, None);
-                sink.put_led(&start, front);
+                sink.put_led(&start, &[bracket]);
                 sink.set_after_block();
                 true
             } else {
                 false
             }
         }
-    }
-}
-
-// What opens a collection with the default tag and without an anchor in the innermost one, by the tag's own characters, where there
-// is no directive, the same; else nothing.
-// Inlined: some stores.
-#[inline(always)]
-pub(super) fn put_plain_bracket(
-    sink: &mut Sink,
-    settings: &Settings,
-    directives: &DirectiveTable,
-    top: &Option<Level>,
-    sequence: bool,
-) -> bool
-    ensures none { result ≡ true → directives.now ≡ [] }
-    ensures put { result ≡ true → Puts sink.old sink.new
-        (bracket_text settings.now top.now (plain_front sequence)) }
-    ensures same { result ≡ false → sink.new ≡ sink.old }
-{
-    if !are_none(directives) {
-        false
-    } else if sequence {
-        put_bracket(sink, settings, top, b"!!seq [")
-    } else {
-        put_bracket(sink, settings, top, b"!!map {")
     }
 }
 

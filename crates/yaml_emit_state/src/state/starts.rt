@@ -111,7 +111,7 @@ impl Core {
     {
         let settings = self.settings(true);
         let top = self.levels.innermost();
-        if put_bracket(&mut self.sink, &settings, top, &[opening_bracket(sequence)]) {
+        if put_bracket(&mut self.sink, &settings, top, opening_bracket(sequence)) {
             self.open_by(&settings, false, false, false, sequence);
             true
         } else {
@@ -152,10 +152,10 @@ impl Core {
         self.lay_start(event, empty, true);
     }
 
-    // What opens a sequence, in canonical form.
-    // Out of line: kind and form are known, and what other kinds need takes no room here.
+    // What opens a collection, in canonical form.
+    // Out of line: the form is known, and what other kinds need takes no room here.
     #[inline(never)]
-    pub(super) fn lay_sequence_start(&mut self, event: &mut yaml_event_body_t, empty: bool)
+    pub(super) fn lay_canonical_start(&mut self, event: &mut yaml_event_body_t, empty: bool)
         requires utf8 { HasUtf8 (body_of event.old) }
         requires form { self.old.settings.canonical ≡ true }
         ensures { LaysOut self.old self.new (emitter_event (body_of event.old)) empty }
@@ -166,19 +166,6 @@ impl Core {
                     self.lay_named_start(event, empty);
                 }
             }
-            _ => self.lay_any(event, empty),
-        }
-    }
-
-    // What opens a mapping, in canonical form.
-    // Out of line: kind and form are known, and what other kinds need takes no room here.
-    #[inline(never)]
-    pub(super) fn lay_mapping_start(&mut self, event: &mut yaml_event_body_t, empty: bool)
-        requires utf8 { HasUtf8 (body_of event.old) }
-        requires form { self.old.settings.canonical ≡ true }
-        ensures { LaysOut self.old self.new (emitter_event (body_of event.old)) empty }
-    {
-        match event {
             yaml_event_body_t::MappingStart { anchor, tag, .. } => {
                 if !self.place_start(anchor, tag, false) {
                     self.lay_named_start(event, empty);

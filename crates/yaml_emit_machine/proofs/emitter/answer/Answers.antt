@@ -1,8 +1,7 @@
 use Rattle.std.proofs.Common.{ap, option_map}
 use Rattle.yaml_scan_model.specs.Faults.{fault_of}
-use Rattle.yaml_emit_machine.proofs.Emitting.{inside_begun}
+use Rattle.yaml_emit_machine.proofs.Emitting.{inside_begun, inside_tells}
 use Rattle.yaml_emit_machine.proofs.Taking.{inside_stuck}
-use Rattle.yaml_emit_machine.proofs.Verdicts.{inside_tells}
 use Rattle.yaml_emit_machine.proofs.emitter.answer.Goals as goal
 
 pub returns-in-None-clause-tells : goal.returns-in-None-clause-tells

@@ -25,3 +25,9 @@ returns-in-None-clause-last c = λ none. c.begin_or_lay.ensures.last
 
 pub returns-in-None-clause-blames : goal.returns-in-None-clause-blames
 returns-in-None-clause-blames c = c.begin_or_lay.ensures.blames
+
+pub returns-in-None-clause-takes : goal.returns-in-None-clause-takes
+returns-in-None-clause-takes c = c.begin_or_lay.ensures.takes
+
+pub returns-in-None-clause-memory : goal.returns-in-None-clause-memory
+returns-in-None-clause-memory c = c.begin_or_lay.ensures.memory

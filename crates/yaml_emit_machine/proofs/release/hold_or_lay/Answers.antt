@@ -1,8 +1,7 @@
 use Rattle.std.proofs.Common.{sym, ◌∙◌, arith}
 use Rattle.std.proofs.lemmas.Bool.{and_parts}
-use Rattle.yaml_emit_machine.proofs.Holding.{few_short, pushed_most, both_false, passed_by_waits, pushed_by_waits}
+use Rattle.yaml_emit_machine.proofs.Holding.{few_short, pushed_most, both_false, passed_by_waits, pushed_by_waits, last_passed, last_pushed}
 use Rattle.yaml_emit_machine.proofs.Following.{lays_past, lays_held}
-use Rattle.yaml_emit_machine.proofs.Lasting.{last_passed, last_pushed}
 use Rattle.yaml_emit_machine.proofs.release.hold_or_lay.Goals as goal
 
 pub release-requires-clause-most : goal.release-requires-clause-most

@@ -1,8 +1,7 @@
 use Rattle.std.proofs.Common.{sym, refl, ◌∙◌}
 use Rattle.std.proofs.lemmas.Bool.{and_parts}
-use Rattle.yaml_emit_machine.proofs.Holding.{both_false, less_most, one_less, one_gone, some_released, exact_released, room_held}
+use Rattle.yaml_emit_machine.proofs.Holding.{both_false, less_most, one_less, one_gone, some_released, exact_released, room_held, last_none, last_less}
 use Rattle.yaml_emit_machine.proofs.Following.{lays_none, lays_oldest}
-use Rattle.yaml_emit_machine.proofs.Lasting.{last_none, last_less}
 use Rattle.yaml_emit_machine.proofs.release.release.Goals as goal
 
 pub lay_oldest-requires-clause-ready : goal.lay_oldest-requires-clause-ready

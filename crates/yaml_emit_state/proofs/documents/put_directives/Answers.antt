@@ -1,5 +1,5 @@
 use Rattle.yaml_parse_model.specs.Events.{directive_of}
-use Rattle.yaml_emit_state.proofs.Lists.{directives_more, directives_all}
+use Rattle.yaml_emit_state.proofs.Seeing.{directives_more, directives_all}
 use Rattle.yaml_emit_state.proofs.documents.put_directives.Goals as goal
 
 pub loop-directive-preserved : goal.loop-directive-preserved

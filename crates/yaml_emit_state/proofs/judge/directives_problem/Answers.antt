@@ -1,6 +1,5 @@
 use Rattle.yaml_parse_model.specs.Events.{directive_of}
-use Rattle.yaml_emit_state.proofs.Lists.{problem_more, problem_found, problem_none}
-use Rattle.yaml_emit_state.proofs.Seeing.{wrong, right, seen_more}
+use Rattle.yaml_emit_state.proofs.Seeing.{problem_more, problem_found, problem_none, wrong, right, seen_more}
 use Rattle.yaml_emit_state.proofs.judge.directives_problem.Goals as goal
 
 pub returns-in-Some : goal.returns-in-Some

@@ -1,6 +1,6 @@
 use Rattle.yaml_emit_text.specs.Scalars.{scalar_text}
 use Rattle.yaml_emit_text.proofs.Sinks.{puts_both}
-use Rattle.yaml_emit_state.proofs.Plain.{puts_text}
+use Rattle.yaml_emit_state.proofs.Framed.{puts_text}
 use Rattle.yaml_emit_state.proofs.nodes.put_text_node.Goals as goal
 
 pub returns : goal.returns

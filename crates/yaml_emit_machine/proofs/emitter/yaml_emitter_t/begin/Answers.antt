@@ -2,7 +2,7 @@ use Rattle.std.proofs.Common.{refl, sym, ap, ◌∙◌}
 use Rattle.std.proofs.lemmas.Bool.{false≢true}
 use Rattle.yaml_emit_machine.specs.Held.{is_ready}
 use Rattle.yaml_emit_machine.proofs.Emitting.{fresh_refusal}
-use Rattle.yaml_emit_machine.proofs.Forced.{forced_first}
+use Rattle.yaml_emit_machine.proofs.Resuming.{forced_first}
 use Rattle.yaml_emit_machine.proofs.Taking.{inside_begins}
 use Rattle.yaml_emit_machine.proofs.emitter.yaml_emitter_t.begin.Goals as goal
 

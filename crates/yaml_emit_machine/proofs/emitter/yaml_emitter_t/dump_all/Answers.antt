@@ -1,13 +1,13 @@
-use Rattle.std.proofs.Common.{List, [], subst}
+use Rattle.std.proofs.Common.{List, sym, subst}
 use Rattle.yaml_emit_layout.specs.Content.{Event}
-use Rattle.yaml_emit_machine.specs.Taking.{TakesEvents}
-use Rattle.yaml_emit_machine.proofs.Earlier.{early_dump}
+use Rattle.yaml_emit_machine.specs.Judged.{AreOut}
+use Rattle.yaml_emit_machine.proofs.Earlier.{dumped_out}
 use Rattle.yaml_emit_machine.proofs.emitter.yaml_emitter_t.dump_all.Goals as goal
 
-pub returns-then-lays_at_once-clause-takes : goal.returns-then-lays_at_once-clause-takes
-returns-then-lays_at_once-clause-takes c = early_dump _ _ _ _ c.requires.all (c.lays_at_once.ensures c.if-lays_at_once.true) c.dump_events_early.ensures.takes
+pub dump_events_early-requires : goal.dump_events_early-requires
+dump_events_early-requires c =
+    let P : List Event → Type 0 = λ z. AreOut z in
+    record { walk = c.requires.walk; once = c.lays_at_once.ensures c.if-lays_at_once.true; out = subst P (sym c.requires.all) (dumped_out c.args.document.now) }
 
-pub returns-else-lays_at_once-clause-takes : goal.returns-else-lays_at_once-clause-takes
-returns-else-lays_at_once-clause-takes c =
-    let P : List Event → Type 0 = λ z. TakesEvents c.args.self.now z c.dump_events.new.self [] in
-    subst P c.requires.all c.dump_events.ensures.takes
+pub dump_events-requires : goal.dump_events-requires
+dump_events-requires c = record { walk = c.requires.walk; begun = c.requires.begun }

@@ -1,13 +1,17 @@
 -- Each turn takes some events, and its last one all that were left.
-use Rattle.yaml_emit_machine.proofs.Dumped.{notes_through}
-use Rattle.yaml_emit_machine.proofs.Taking.{takes_on}
+use Rattle.yaml_emit_machine.proofs.Earlier.{dumps_none, dumps_on}
 use Rattle.yaml_emit_machine.proofs.emitter.yaml_emitter_t.dump_events.Goals as goal
 
-pub returns-clause-takes : goal.returns-clause-takes
-returns-clause-takes c =
-    let takes = rw c.loop-test.false at c.dump_next.ensures.takes in
-    takes_on _ _ _ _ _ _ c.loop.invariant.takes takes
+pub loop-init : goal.loop-init
+loop-init c = record { may = c.requires; dumps = dumps_none _ _ }
 
-pub returns-clause-memory : goal.returns-clause-memory
-returns-clause-memory c =
-    notes_through _ _ _ _ _ _ _ c.loop.invariant.takes c.dump_next.ensures.takes c.loop.invariant.memory c.dump_next.ensures.memory
+pub loop-preserved : goal.loop-preserved
+loop-preserved c =
+    let turn = c.dump_next.ensures in
+    let dumps = rw c.loop-test.true at turn.dumps in
+    record { may = turn.on c.loop-test.true; dumps = dumps_on _ _ _ _ _ _ c.loop.invariant.dumps dumps }
+
+pub returns : goal.returns
+returns c =
+    let last = rw c.loop-test.false at c.dump_next.ensures.dumps in
+    dumps_on _ _ _ _ _ _ c.loop.invariant.dumps last

@@ -1,15 +1,13 @@
-use Rattle.std.proofs.Common.{true, length}
-use Rattle.yaml_emit_machine.specs.Taking.{LaysAtOnce}
-use Rattle.yaml_emit_machine.specs.Dumping.{DumpsAtOnce}
-use Rattle.yaml_emit_graph.specs.Events.{IsEvents, remaining_events}
+use Rattle.std.proofs.Common.{length}
+use Rattle.yaml_emit_machine.specs.Dumping.{Dumps, MayDumpEarly}
+use Rattle.yaml_emit_graph.specs.Events.{remaining_events}
 use Rattle.yaml_emit_machine.proofs.emitter.yaml_emitter_t.dump_events_early.Given as goal
 
--- some events were laid out, and the others are still to come
+-- some events were taken, and the others are still to come
 abbrev pub invariant-loop : goal.invariant-loop
 invariant-loop l = record {
-  walk : IsEvents l.document l.events;
-  once : LaysAtOnce l.self;
-  early : DumpsAtOnce l.initial.self l.self true (remaining_events l.document l.initial.events)
+  may : MayDumpEarly l.document l.self l.events;
+  dumps : Dumps l.initial.self (remaining_events l.document l.initial.events) l.self
       (remaining_events l.document l.events);
 }
 

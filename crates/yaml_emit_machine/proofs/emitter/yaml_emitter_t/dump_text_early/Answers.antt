@@ -1,18 +1,14 @@
 use Rattle.std.proofs.Common.{refl}
-use Rattle.yaml_emit_machine.proofs.Dumped.{one_less_left}
+use Rattle.yaml_emit_machine.proofs.Earlier.{dumps_early}
 use Rattle.yaml_emit_machine.proofs.emitter.yaml_emitter_t.dump_text_early.Goals as goal
 
 pub returns-in-Some : goal.returns-in-Some
 returns-in-Some c =
     let g = c.in-Some.ensures.text in
-    record {
-      early = c.dump_text.ensures g.style _ _ g.next;
-      walk = λ going. g.walk;
-      less = λ going. one_less_left _ _ _ g.next;
-    }
+    dumps_early _ _ _ _ _ _ _ g.next g.walk c.requires.may (c.lay_text_at_once.ensures g.style) c.is_right.ensures.right c.is_right.ensures.stuck
 
-pub dump_bracket_early-requires-clause-walk : goal.dump_bracket_early-requires-clause-walk
-dump_bracket_early-requires-clause-walk c = rw (c.in-None.ensures.none refl) c.requires.walk
+pub dump_next_early-requires : goal.dump_next_early-requires
+dump_next_early-requires c = rw (c.in-None.ensures.none refl) c.requires.may
 
 pub returns-in-None : goal.returns-in-None
-returns-in-None c = rw (c.in-None.ensures.none refl) at c.dump_bracket_early.ensures
+returns-in-None c = rw (c.in-None.ensures.none refl) at c.dump_next_early.ensures

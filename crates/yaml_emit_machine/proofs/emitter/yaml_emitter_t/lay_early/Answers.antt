@@ -1,25 +1,14 @@
-use Rattle.std.proofs.Common.{None, false, refl}
-use Rattle.yaml_parse_model.specs.Events.{body_of}
-use Rattle.yaml_emit_layout.specs.Content.{emitter_event}
-use Rattle.yaml_emit_machine.proofs.Early.{inside_held}
-use Rattle.yaml_emit_machine.proofs.Taking.{inside_gives}
-use Rattle.yaml_emit_machine.proofs.Blaming.{inside_blames}
+use Rattle.std.proofs.Common.{false}
+use Rattle.yaml_emit_machine.proofs.Early.{inside_held, inside_gave}
 use Rattle.yaml_emit_machine.proofs.emitter.yaml_emitter_t.lay_early.Goals as goal
 
 pub invariant_of-self : goal.invariant_of-self
 invariant_of-self c =
     let fr = rw (← c.self.view_is) at c.requires.begun in
-    let h = c.hold_or_lay_early.ensures in
-    inside_held false c.self.inside c.hold_or_lay_early.new.core c.hold_or_lay_early.new.held _ _ c.self.invariant fr c.note.ensures h.lays h.waits h.short h.utf8 h.settings
+    inside_held false c.self.inside c.hold_or_lay_early.new.core c.hold_or_lay_early.new.held _ _ c.self.invariant fr c.note.ensures c.hold_or_lay_early.ensures
 
 pub returns : goal.returns
-returns c = record {
-  text = let fr = rw (← c.self.view_is) at c.requires.begun in
-      rw (← c.self.view_is) (inside_gives false c.self.inside c.hold_or_lay_early.new.core c.hold_or_lay_early.new.held _ _ fr c.hold_or_lay_early.ensures.lays);
-  memory = rw (← c.self.view_is) c.hold_or_lay_early.ensures.lays.memory;
-  blames = let fr = rw (← c.self.view_is) at c.requires.begun in
-      rw (← c.self.view_is) (inside_blames false c.self.inside c.hold_or_lay_early.new.core c.hold_or_lay_early.new.held None (emitter_event (body_of c.args.event.now)) fr c.hold_or_lay_early.ensures.lays);
-  few = c.hold_or_lay_early.ensures.short;
-  opened = rw (← c.self.view_is) (refl, refl);
-  begun = rw (← c.self.view_is) at c.requires.begun;
-}
+returns c =
+    let fr = rw (← c.self.view_is) at c.requires.begun in
+    let h = c.hold_or_lay_early.ensures in
+    rw (← c.self.view_is) (inside_gave c.self.inside c.hold_or_lay_early.new.core c.hold_or_lay_early.new.held _ _ fr h.lays h.short)

@@ -1,10 +1,10 @@
-use Rattle.std.proofs.Common.{◌∙◌, sym}
+use Rattle.std.proofs.Common.{◌∙◌, sym, refl}
 use Rattle.std.proofs.lemmas.Bool.{false≢true}
 use Rattle.yaml_emit_text.specs.Layout.{stay}
 use Rattle.yaml_emit_state.proofs.Noting.{notes_starved}
 use Rattle.yaml_emit_machine.proofs.Judging.{goes_going}
 use Rattle.yaml_emit_machine.proofs.Dumped.{inside_starves}
-use Rattle.yaml_emit_machine.proofs.Forced.{forced_same}
+use Rattle.yaml_emit_machine.proofs.Resuming.{forced_same}
 use Rattle.yaml_emit_machine.proofs.emitter.yaml_emitter_t.starve.Goals as goal
 
 pub invariant_of-self : goal.invariant_of-self
@@ -22,10 +22,11 @@ invariant_of-self c =
       memory = λ g. absurd (c.starve.ensures.stopped g);
     }
 
-pub returns-clause-takes : goal.returns-clause-takes
-returns-clause-takes c = λ es.
+pub returns : goal.returns
+returns c = λ es.
     let fr = rw (← c.self.view_is) at c.requires.begun in
-    rw (← c.self.view_is) (inside_starves c.self.inside c.starve.new.self _ es fr c.starve.ensures)
-
-pub returns-clause-memory : goal.returns-clause-memory
-returns-clause-memory c = rw (← c.self.view_is) (notes_starved c.self.inside.core c.starve.new.self c.starve.ensures)
+    rw (← c.self.view_is) (record {
+      takes = inside_starves c.self.inside c.starve.new.self _ es fr c.starve.ensures;
+      memory = notes_starved c.self.inside.core c.starve.new.self c.starve.ensures;
+      keeps = (refl, refl);
+    })

@@ -1,5 +1,4 @@
-use Rattle.yaml_emit_state.proofs.Noting.{notes_starved, notes_any}
-use Rattle.yaml_emit_state.proofs.Blaming.{halts, blames_first, start_takes}
+use Rattle.yaml_emit_state.proofs.Noting.{notes_starved, notes_any, halts, blames_first, start_takes}
 use Rattle.yaml_emit_state.proofs.state.Core.admits.Goals as goal
 
 pub returns-in-Err-clause-wrong : goal.returns-in-Err-clause-wrong

@@ -3,8 +3,8 @@ use Rattle.yaml_emit_layout.specs.Content.{scalar}
 use Rattle.yaml_emit_layout.specs.Nodes.{context_of}
 use Rattle.yaml_emit_state.specs.Given.{plain_text}
 use Rattle.yaml_emit_state.specs.Steps.{state_of, settings_of}
-use Rattle.yaml_emit_state.proofs.Keyed.{lays_scalar}
-use Rattle.yaml_emit_state.proofs.Plain.{text_right, text_no_key, lays_in_place}
+use Rattle.yaml_emit_state.proofs.Keyed.{lays_scalar, lays_in_place}
+use Rattle.yaml_emit_state.proofs.Framed.{text_right, text_no_key}
 use Rattle.yaml_emit_state.proofs.state.Core.lay_any_text.Goals as goal
 
 pub returns : goal.returns

@@ -1,5 +1,5 @@
 use Rattle.yaml_emit_state.proofs.Names.{named_right}
-use Rattle.yaml_emit_state.proofs.Blaming.{lays_right}
+use Rattle.yaml_emit_state.proofs.Noting.{lays_right}
 use Rattle.yaml_emit_state.proofs.state.Core.lay_event.Goals as goal
 
 pub put_event-requires-clause-named : goal.put_event-requires-clause-named

@@ -1,15 +1,7 @@
 use Rattle.std.proofs.Common.{refl, sym}
 use Rattle.yaml_emit_state.proofs.state.Core.lay_free.Goals as goal
 
-pub lay_named_scalar-requires-clause-form : goal.lay_named_scalar-requires-clause-form
-lay_named_scalar-requires-clause-form c = rw (c.place_lined.ensures.same c.if-not-place_lined.true) c.requires.form
-
 pub returns-else-not-place_lined : goal.returns-else-not-place_lined
 returns-else-not-place_lined c =
     let free = rw c.in-Scalar.is at c.requires.free in
     rw c.in-Scalar.is (c.place_lined.ensures.laid c.if-not-place_lined.false _ c.args.empty free refl (sym c.deref.ensures.value))
-
-pub returns-then-not-place_lined : goal.returns-then-not-place_lined
-returns-then-not-place_lined c =
-    let laid = rw (c.place_lined.ensures.same c.if-not-place_lined.true) at c.lay_named_scalar.ensures in
-    rw c.in-Scalar.is laid

@@ -1,7 +1,4 @@
 use Rattle.yaml_emit_state.proofs.state.Core.lay_scalar.Goals as goal
 
-pub take_scalar-requires-clause-right : goal.take_scalar-requires-clause-right
-take_scalar-requires-clause-right c = rw (c.admits.ensures.same c.if-admits.true) (c.admits.ensures.right c.if-admits.true)
-
 pub returns-else-admits : goal.returns-else-admits
 returns-else-admits c = c.admits.ensures.wrong c.if-admits.false c.args.empty

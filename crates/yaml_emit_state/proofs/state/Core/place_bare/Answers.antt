@@ -1,16 +1,6 @@
-use Rattle.std.proofs.Common.{true, false, refl, sym, ◌∙◌, ap}
-use Rattle.yaml_emit_state.specs.Bare.{is_shallow}
+use Rattle.std.proofs.Common.{true, false, refl, sym, ◌∙◌}
 use Rattle.yaml_emit_state.proofs.Unmarked.{lays_short, item_behind, key_behind, value_behind}
 use Rattle.yaml_emit_state.proofs.state.Core.place_bare.Goals as goal
-
-pub place_entry-requires-clause-shallow : goal.place_entry-requires-clause-shallow
-place_entry-requires-clause-shallow c = ap (is_shallow c.args.self.now.settings) (sym c.in-Some.is ∙ c.top-innermost.ensures) ∙ c.requires.open
-
-pub place_entry-requires-in-Keys-clause-shallow : goal.place_entry-requires-in-Keys-clause-shallow
-place_entry-requires-in-Keys-clause-shallow c = ap (is_shallow c.args.self.now.settings) (sym c.in-Some.is ∙ c.top-innermost.ensures) ∙ c.requires.open
-
-pub place_value-requires-clause-shallow : goal.place_value-requires-clause-shallow
-place_value-requires-clause-shallow c = ap (is_shallow c.args.self.now.settings) (sym c.in-Some.is ∙ c.top-innermost.ensures) ∙ c.requires.open
 
 pub returns-in-Items-clause-laid : goal.returns-in-Items-clause-laid
 returns-in-Items-clause-laid c = λ h x empty b same. lays_short false c.args.self.now _ _ _ _ false c.args.value.now x empty c.requires.form c.requires.due (sym c.in-Some.is ∙ c.top-innermost.ensures) c.in-Items.is refl (item_behind _) (c.place_entry.ensures.placed h) b same

@@ -1,4 +1,4 @@
-use Rattle.yaml_emit_state.proofs.Bracketed.{lays_bracket}
+use Rattle.yaml_emit_state.proofs.Framed.{lays_bracket}
 use Rattle.yaml_emit_state.proofs.state.Core.place_bracket.Goals as goal
 
 pub returns-then-put_bracket-clause-laid : goal.returns-then-put_bracket-clause-laid

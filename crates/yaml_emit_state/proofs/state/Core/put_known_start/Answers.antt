@@ -1,4 +1,4 @@
-use Rattle.yaml_emit_state.proofs.Bracketed.{lays_start}
+use Rattle.yaml_emit_state.proofs.Framed.{lays_start}
 use Rattle.yaml_emit_state.proofs.state.Core.put_known_start.Goals as goal
 
 pub returns : goal.returns

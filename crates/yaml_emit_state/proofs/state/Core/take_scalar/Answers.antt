@@ -6,9 +6,6 @@ put_known_scalar-requires-clause-named c =
     let named = named_right _ _ _ _ c.requires.right in
     rw c.in-Scalar.is at named
 
-pub put_known_scalar-requires-clause-tame : goal.put_known_scalar-requires-clause-tame
-put_known_scalar-requires-clause-tame c = rw c.deref-in-Scalar.ensures.value (rw c.deref.ensures.value at c.is_tame_in-tame.ensures)
-
 pub returns-in-Scalar : goal.returns-in-Scalar
 returns-in-Scalar c =
     let laid = c.put_known_scalar.ensures c.args.empty in

@@ -1,9 +1,6 @@
 use Rattle.yaml_emit_text.proofs.LineStarts.{lined_ascii}
-use Rattle.yaml_emit_state.proofs.Framed.{puts_framed, signs_ascii}
+use Rattle.yaml_emit_state.proofs.Framed.{puts_framed}
 use Rattle.yaml_emit_state.proofs.state.event.put_framed.Goals as goal
-
-pub put_lined-requires-clause-signs : goal.put_lined-requires-clause-signs
-put_lined-requires-clause-signs c = rw (c.line_start_of-start.ensures, c.sign_of.ensures) (signs_ascii _ c.args.quoted)
 
 pub put_lined-requires-clause-ascii : goal.put_lined-requires-clause-ascii
 put_lined-requires-clause-ascii c = lined_ascii _ _ _ (c.is_lined.ensures c.if-is_lined.true)

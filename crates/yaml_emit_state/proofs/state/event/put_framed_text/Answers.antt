@@ -1,10 +1,6 @@
-use Rattle.std.proofs.Common.{true}
 use Rattle.yaml_emit_text.proofs.LineStarts.{tagged_ascii}
-use Rattle.yaml_emit_state.proofs.Framed.{puts_tagged, signs_ascii}
+use Rattle.yaml_emit_state.proofs.Framed.{puts_tagged}
 use Rattle.yaml_emit_state.proofs.state.event.put_framed_text.Goals as goal
-
-pub put_lined-requires-clause-signs : goal.put_lined-requires-clause-signs
-put_lined-requires-clause-signs c = rw c.line_start_of-start.ensures (signs_ascii _ true)
 
 pub put_lined-requires-clause-ascii : goal.put_lined-requires-clause-ascii
 put_lined-requires-clause-ascii c = tagged_ascii _ _ _ (c.is_lined.ensures c.if-is_lined.true)

@@ -1,5 +1,0 @@
-use Rattle.yaml_emit_machine.proofs.Earlier.{dumps_event}
-use Rattle.yaml_emit_machine.proofs.emitter.yaml_emitter_t.dump_text.Goals as goal
-
-pub returns : goal.returns
-returns c = λ style before after same. dumps_event _ _ _ before after _ same (c.lay_text_at_once.ensures style) c.is_right.ensures.right c.is_right.ensures.stuck

@@ -1,12 +1,13 @@
 //! A turn: the topmost state at a token.
 
-ghost use Rattle.std.specs.Prelude.{◌≡◌, true, ℕ, List};
+ghost use Rattle.std.specs.Prelude.{◌≡◌, true};
+ghost use Rattle.yaml_parse_model.specs.Slots.{token_in_slot};
 ghost use Rattle.yaml_parse_core.specs.declared.level.Await.TheVariants.{Nothing};
-ghost use Rattle.yaml_parse_core.specs.Views.{around_of, states_of, states_by, whole_of};
+ghost use Rattle.yaml_parse_core.specs.Views.{states_of, whole_of};
 ghost use Rattle.yaml_parse_core.specs.Views as views;
 ghost use Rattle.yaml_parse_grammar.specs.Machine as grammar;
 ghost use Rattle.yaml_parse_core.specs.Seen.{seen};
-ghost use Rattle.yaml_parse_core.specs.Turns.{keeps, TurnsOn};
+ghost use Rattle.yaml_parse_core.specs.Turns.{keeps, TurnsTo};
 
 use crate::document::{at_directives, at_document, at_documents, at_first, at_stream};
 use crate::level::{Await, Level};
@@ -17,26 +18,21 @@ use crate::part::{
     at_other_values, at_pairs, at_sequence_colon, at_sequence_more, at_sequence_pair,
 };
 use crate::place::{at_mapping_items, at_optional, at_sequence_items};
-use crate::token::yaml_lent_token_t;
 use crate::told::Waiting;
 use yaml_parse_grammar::{Brackets, Side, Site, Wants};
-use yaml_parse_model::yaml_token_type_t;
+use yaml_parse_model::{TokenSlot, yaml_token_type_t};
 
 // What is open, where no node is awaited.
 #[inline(always)]
-fn at_level<T: yaml_lent_token_t>(
-    machine: &mut Machine<T::Place>,
-    waiting: &mut Waiting<T::Text, T::Place>,
-    token: &mut T,
+fn at_level(
+    machine: &mut Machine,
+    waiting: &mut Waiting,
+    token: &mut TokenSlot,
     kind: yaml_token_type_t,
 ) -> Turn
     requires { machine.old.awaited ≡ Nothing }
-    ensures turns { (s : List ℕ) → TurnsOn
-        (states_of (T.bytes s) (T.mark s) machine.old waiting.old)
-        (whole_of (T.mark s) kind (T.extra token.old) (T.from token.old) (T.to token.old)
-        (T.text s token.old) (T.other s token.old))
-        (seen result) (around_of (T.bytes s) (T.mark s) machine.new waiting.new)
-        (states_by (T.mark s) machine.new) }
+    ensures turns { TurnsTo (states_of machine.old waiting.old) (whole_of kind token.old)
+        (seen result) machine.new waiting.new }
     ensures kept { keeps (seen result) ≡ true → token.new ≡ token.old }
 {
     match machine.top.level {
@@ -99,18 +95,14 @@ fn wants_at(awaited: Await) -> Wants
 // The topmost state at a token of that kind.
 // Out of line: what is met most stands in line in `turn`.
 #[inline(never)]
-fn at_kind<T: yaml_lent_token_t>(
-    machine: &mut Machine<T::Place>,
-    waiting: &mut Waiting<T::Text, T::Place>,
-    token: &mut T,
+fn at_kind(
+    machine: &mut Machine,
+    waiting: &mut Waiting,
+    token: &mut TokenSlot,
     kind: yaml_token_type_t,
 ) -> Turn
-    ensures turns { (s : List ℕ) → TurnsOn
-        (states_of (T.bytes s) (T.mark s) machine.old waiting.old)
-        (whole_of (T.mark s) kind (T.extra token.old) (T.from token.old) (T.to token.old)
-        (T.text s token.old) (T.other s token.old))
-        (seen result) (around_of (T.bytes s) (T.mark s) machine.new waiting.new)
-        (states_by (T.mark s) machine.new) }
+    ensures turns { TurnsTo (states_of machine.old waiting.old) (whole_of kind token.old)
+        (seen result) machine.new waiting.new }
     ensures kept { keeps (seen result) ≡ true → token.new ≡ token.old }
 {
     match machine.awaited {
@@ -143,19 +135,15 @@ fn is_begun(awaited: Await) -> bool
 
 // The node that is awaited. In line is what may begin one at each place, and a scalar behind properties, which are met most.
 #[inline(always)]
-fn at_awaited<T: yaml_lent_token_t>(
-    machine: &mut Machine<T::Place>,
-    waiting: &mut Waiting<T::Text, T::Place>,
-    token: &mut T,
+fn at_awaited(
+    machine: &mut Machine,
+    waiting: &mut Waiting,
+    token: &mut TokenSlot,
     kind: yaml_token_type_t,
 ) -> Turn
     requires { machine.old.awaited ≡ Nothing → ⊥ }
-    ensures turns { (s : List ℕ) → TurnsOn
-        (states_of (T.bytes s) (T.mark s) machine.old waiting.old)
-        (whole_of (T.mark s) kind (T.extra token.old) (T.from token.old) (T.to token.old)
-        (T.text s token.old) (T.other s token.old))
-        (seen result) (around_of (T.bytes s) (T.mark s) machine.new waiting.new)
-        (states_by (T.mark s) machine.new) }
+    ensures turns { TurnsTo (states_of machine.old waiting.old) (whole_of kind token.old)
+        (seen result) machine.new waiting.new }
     ensures kept { keeps (seen result) ≡ true → token.new ≡ token.old }
 {
     if is_begun(machine.awaited) {
@@ -181,22 +169,14 @@ fn at_awaited<T: yaml_lent_token_t>(
 }
 
 /// The topmost state at a token.
-// Inlined into its callers, which ask for a token of one type.
+// Inlined into its one caller, the parser's step.
 #[inline(always)]
-pub fn turn<T: yaml_lent_token_t>(
-    machine: &mut Machine<T::Place>,
-    waiting: &mut Waiting<T::Text, T::Place>,
-    token: &mut T,
-) -> Turn
-    ensures turns { (s : List ℕ) → TurnsOn
-        (states_of (T.bytes s) (T.mark s) machine.old waiting.old)
-        (whole_of (T.mark s) (T.kind token.old) (T.extra token.old) (T.from token.old)
-        (T.to token.old) (T.text s token.old) (T.other s token.old))
-        (seen result) (around_of (T.bytes s) (T.mark s) machine.new waiting.new)
-        (states_by (T.mark s) machine.new) }
+pub fn turn(machine: &mut Machine, waiting: &mut Waiting, token: &mut TokenSlot) -> Turn
+    ensures turns { TurnsTo (states_of machine.old waiting.old) (token_in_slot token.old)
+        (seen result) machine.new waiting.new }
     ensures kept { keeps (seen result) ≡ true → token.new ≡ token.old }
 {
-    let kind = token.kind();
+    let kind = token.body.kind;
     match machine.awaited {
         Await::Nothing => at_level(machine, waiting, token, kind),
         _ => at_awaited(machine, waiting, token, kind),

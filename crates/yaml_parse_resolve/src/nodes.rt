@@ -16,17 +16,13 @@ use std::mem;
 use yaml_parse_core::{Shape, Waiting};
 use yaml_parse_model::{
     BodySlot, TokenSlot, mark_again, yaml_event_body_t, yaml_event_t, yaml_mapping_style_t,
-    yaml_mark_t, yaml_scalar_style_t, yaml_sequence_style_t, yaml_token_type_t,
+    yaml_scalar_style_t, yaml_sequence_style_t, yaml_token_type_t,
 };
 
 // The scalar of a token that is taken.
 // Inlined: the token's kind is known.
 #[inline(always)]
-fn tell_scalar(
-    waiting: &mut Waiting<Vec<u8>, yaml_mark_t>,
-    token: &mut BodySlot,
-    event: &mut yaml_event_body_t,
-)
+fn tell_scalar(waiting: &mut Waiting, token: &mut BodySlot, event: &mut yaml_event_body_t)
     ensures { body_of event.new ≡ node_event None None
         (item.scalar (value_in (body_in_slot token.old)) (style_in (body_in_slot token.old))) }
 {
@@ -41,7 +37,7 @@ fn tell_scalar(
 // Where the token is no scalar: the machine says that it is one.
 #[cold]
 #[inline(never)]
-fn tell_no_scalar(waiting: &mut Waiting<Vec<u8>, yaml_mark_t>, event: &mut yaml_event_body_t)
+fn tell_no_scalar(waiting: &mut Waiting, event: &mut yaml_event_body_t)
     ensures { body_of event.new ≡ node_event None None (item.scalar [] YAML_ANY_SCALAR_STYLE) }
 {
     let mut nothing = Vec::new(*waiting.anchor.allocator());
@@ -57,7 +53,7 @@ fn tell_no_scalar(waiting: &mut Waiting<Vec<u8>, yaml_mark_t>, event: &mut yaml_
 // Out of line: in line the addresses of the slot's parts would be put aside in front of the loop over turns, for each event.
 #[inline(never)]
 fn tell_sequence(
-    waiting: &mut Waiting<Vec<u8>, yaml_mark_t>,
+    waiting: &mut Waiting,
     token: &mut BodySlot,
     style: yaml_sequence_style_t,
     event: &mut yaml_event_body_t,
@@ -85,7 +81,7 @@ fn sequence_over(token: &mut BodySlot, style: yaml_sequence_style_t, event: &mut
 // Out of line: see `tell_sequence`.
 #[inline(never)]
 fn tell_mapping(
-    waiting: &mut Waiting<Vec<u8>, yaml_mark_t>,
+    waiting: &mut Waiting,
     token: &mut BodySlot,
     style: yaml_mapping_style_t,
     event: &mut yaml_event_body_t,
@@ -114,7 +110,7 @@ fn mapping_over(token: &mut BodySlot, style: yaml_mapping_style_t, event: &mut y
 #[inline(always)]
 pub fn tell_node(
     shape: Shape,
-    waiting: &mut Waiting<Vec<u8>, yaml_mark_t>,
+    waiting: &mut Waiting,
     token: &mut TokenSlot,
     event: &mut yaml_event_t,
 )
@@ -156,11 +152,7 @@ pub fn tell_node(
 // The scalar of a token that is taken, behind properties.
 // Inlined: the token's kind is known.
 #[inline(always)]
-fn tell_named_scalar(
-    waiting: &mut Waiting<Vec<u8>, yaml_mark_t>,
-    token: &mut BodySlot,
-    event: &mut yaml_event_body_t,
-)
+fn tell_named_scalar(waiting: &mut Waiting, token: &mut BodySlot, event: &mut yaml_event_body_t)
     ensures { body_of event.new ≡ node_event (text_if waiting.old.has_anchor
         waiting.old.anchor.items) (text_if waiting.old.has_tag waiting.old.handle.items)
         (item.scalar (value_in (body_in_slot token.old)) (style_in (body_in_slot token.old))) }
@@ -177,7 +169,7 @@ fn tell_named_scalar(
 // Has the token that is taken hold the room of a tag's suffix, which is a part of the tag in full.
 // Inlined: some moves.
 #[inline(always)]
-fn leave_suffix(waiting: &mut Waiting<Vec<u8>, yaml_mark_t>, room: &mut Vec<u8>)
+fn leave_suffix(waiting: &mut Waiting, room: &mut Vec<u8>)
     ensures { waiting.new ≡ record waiting.old { suffix = waiting.new.suffix } }
 {
     if waiting.has_tag {
@@ -188,7 +180,7 @@ fn leave_suffix(waiting: &mut Waiting<Vec<u8>, yaml_mark_t>, room: &mut Vec<u8>)
 // Where the token is no scalar: the machine says that it is one.
 #[cold]
 #[inline(never)]
-fn tell_no_named_scalar(waiting: &mut Waiting<Vec<u8>, yaml_mark_t>, event: &mut yaml_event_body_t)
+fn tell_no_named_scalar(waiting: &mut Waiting, event: &mut yaml_event_body_t)
     ensures { body_of event.new ≡ node_event (text_if waiting.old.has_anchor
         waiting.old.anchor.items) (text_if waiting.old.has_tag waiting.old.handle.items)
         (item.scalar [] YAML_ANY_SCALAR_STYLE) }
@@ -204,7 +196,7 @@ fn tell_no_named_scalar(waiting: &mut Waiting<Vec<u8>, yaml_mark_t>, event: &mut
 
 // A sequence begins behind properties.
 fn tell_named_sequence(
-    waiting: &mut Waiting<Vec<u8>, yaml_mark_t>,
+    waiting: &mut Waiting,
     token: &mut BodySlot,
     style: yaml_sequence_style_t,
     event: &mut yaml_event_body_t,
@@ -219,7 +211,7 @@ fn tell_named_sequence(
 
 // A mapping begins behind properties.
 fn tell_named_mapping(
-    waiting: &mut Waiting<Vec<u8>, yaml_mark_t>,
+    waiting: &mut Waiting,
     token: &mut BodySlot,
     style: yaml_mapping_style_t,
     event: &mut yaml_event_body_t,
@@ -237,7 +229,7 @@ fn tell_named_mapping(
 #[inline(always)]
 pub(crate) fn tell_named(
     shape: Shape,
-    waiting: &mut Waiting<Vec<u8>, yaml_mark_t>,
+    waiting: &mut Waiting,
     token: &mut BodySlot,
     event: &mut yaml_event_body_t,
 )

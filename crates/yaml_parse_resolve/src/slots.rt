@@ -10,9 +10,7 @@ ghost use Rattle.yaml_parse_resolve.specs.Bare.{OwnsNothing};
 
 use crate::room::{exchanged, put_bare, put_properties};
 use yaml_parse_core::Waiting;
-use yaml_parse_model::{
-    yaml_event_body_t, yaml_mapping_style_t, yaml_mark_t, yaml_sequence_style_t,
-};
+use yaml_parse_model::{yaml_event_body_t, yaml_mapping_style_t, yaml_sequence_style_t};
 
 /// Another event in the slot.
 // Inlined: the new one's kind is known.
@@ -109,7 +107,7 @@ pub(crate) fn start_mapping(slot: &mut yaml_event_body_t, style: yaml_mapping_st
 
 /// A sequence begins behind properties. Its tag stands in full in the place of its handle.
 pub(crate) fn start_named_sequence(
-    waiting: &mut Waiting<Vec<u8>, yaml_mark_t>,
+    waiting: &mut Waiting,
     room: Vec<u8>,
     style: yaml_sequence_style_t,
     event: &mut yaml_event_body_t,
@@ -137,7 +135,7 @@ pub(crate) fn start_named_sequence(
 
 /// A mapping begins behind properties. Its tag stands in full in the place of its handle.
 pub(crate) fn start_named_mapping(
-    waiting: &mut Waiting<Vec<u8>, yaml_mark_t>,
+    waiting: &mut Waiting,
     room: Vec<u8>,
     style: yaml_mapping_style_t,
     event: &mut yaml_event_body_t,

@@ -1,5 +1,5 @@
 -- The texts of what a step gives and holds are UTF-8.
-use Rattle.std.proofs.Common.{◌≡◌, List, [], ◌∷◌, ◌++◌, Option, Some, None, sym, subst, ◌∙◌}
+use Rattle.std.proofs.Common.{◌≡◌, List, [], ◌∷◌, ◌++◌, Option, Some, None, sym, subst}
 use Rattle.yaml_parse_step.proofs.Words.{yaml_mark_t, Token, EventBody, RawEvent, State, Taken, taken_at, left_at, opened, Directives, gave, noted, settle, IsUtf8Token, IsUtf8Held, SteppedOnce, OpensAt}
 use Rattle.yaml_parse_model.specs.Source as source
 use Rattle.yaml_parse_model.specs.Constructors.{HasUtf8, AreUtf8}

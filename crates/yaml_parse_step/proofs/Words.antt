@@ -1,7 +1,6 @@
 -- The words of the definitions that the files of lemmas share.
-pub use Rattle.yaml_parse_core.specs.Owned.{owned_properties, owned_states_by}
 pub use Rattle.yaml_parse_core.specs.Turns.{TurnsOn}
-pub use Rattle.yaml_parse_core.specs.Views.{Around, implied_item, is_nothing, named_item, node_item, shape_at, told_item}
+pub use Rattle.yaml_parse_core.specs.Views.{Around, implied_item, is_nothing, named_item, node_item, properties_of, shape_at, states_by, told_item}
 pub use Rattle.yaml_parse_core.specs.declared.told.Shape.{Shape}
 pub use Rattle.yaml_parse_grammar.specs.Items.{Properties, RawEvent, RawEventBody, item_at}
 pub use Rattle.yaml_parse_grammar.specs.Machine.{Outcome, Stands, choice_at, ending_at, initial, left_at, opened, taken_at}

@@ -10,13 +10,11 @@ use Rattle.yaml_parse_grammar.specs.States.{State}
 use Rattle.yaml_parse_grammar.specs.Stacks.{IsStack}
 use Rattle.yaml_parse_grammar.specs.Texts.{IsUtf8Held}
 use Rattle.yaml_parse_grammar.specs.Resolve.{Directives, gave, noted, refused, placed, settle}
-use Rattle.yaml_scan_model.specs.declared.yaml_mark_t.{yaml_mark_t}
 use Rattle.yaml_parse_grammar.specs.Items.{Properties}
 use Rattle.yaml_parse_core.specs.declared.machine.Machine.{Machine}
 use Rattle.yaml_parse_core.specs.Seen.{Seen}
-use Rattle.yaml_parse_core.specs.Turns.{TurnsOn}
-use Rattle.yaml_parse_core.specs.Views.{around_by}
-use Rattle.yaml_parse_core.specs.Owned.{owned_properties, owned_states_by}
+use Rattle.yaml_parse_core.specs.Turns.{TurnsTo}
+use Rattle.yaml_parse_core.specs.Views.{states_by}
 use Rattle.yaml_parse_resolve.specs.declared.resolving.Settled.{Settled}
 use Rattle.yaml_parse_resolve.specs.declared.resolving.Settled.TheVariants as came
 use Rattle.yaml_parse_resolve.specs.Settles.{directives_of}
@@ -87,8 +85,7 @@ Went s t ds code.Done e f held new behind = (s ≡ []) × (held ≡ Some t) × (
 
 -- what the machine did at that token, which leaves it as it is now
 abbrev pub Turned : StepBuffers → List State → Token → Seen → Type 0
-Turned b s t r = TurnsOn s t r (around_by (λ m. m) b.machine (owned_properties b.waiting))
-    (owned_states_by b.machine)
+Turned b s t r = TurnsTo s t r b.machine b.waiting
 
 abbrev pub WentOn : List State → Token → StepBuffers → Step → Event → Fault → StepBuffers → Type 0
 WentOn s t old r e f new = Went s t (directives_of old.directives) r e f (peeked_of new)
@@ -101,10 +98,10 @@ step_of came.Noted = code.Silent
 step_of came.Refused = code.Refused
 
 -- behind a refusal nothing is left
-abbrev pub LeavesMachine : Settled → Machine yaml_mark_t → Machine yaml_mark_t → Type 0
+abbrev pub LeavesMachine : Settled → Machine → Machine → Type 0
 LeavesMachine came.Event old new = new ≡ old
 LeavesMachine came.Noted old new = new ≡ old
-LeavesMachine came.Refused old new = (p : Properties) → owned_states_by new p ≡ []
+LeavesMachine came.Refused old new = (p : Properties) → states_by new p ≡ []
 
 -- What a turn owes, by the tokens that the source has to come in front of it and behind it, and by their fault: it gives the front of
 -- what is to come and leaves the rest; texts stay UTF-8; and states stand above one another as before.

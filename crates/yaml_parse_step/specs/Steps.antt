@@ -18,8 +18,7 @@ use Rattle.yaml_parse_model.specs.Constructors.{HasUtf8, AreUtf8}
 use Rattle.yaml_parse_grammar.specs.Resolve.{Directives, Settled, gave, noted, placed, refused}
 use Rattle.yaml_parse_model.specs.declared.event.yaml_event_t.{yaml_event_t}
 use Rattle.yaml_parse_model.specs.Events.{event_of, body_of}
-use Rattle.yaml_parse_core.specs.Owned.{owned_states}
-use Rattle.yaml_parse_core.specs.Views.{is_nothing}
+use Rattle.yaml_parse_core.specs.Views.{is_nothing, states_of}
 use Rattle.yaml_parse_step.specs.declared.step.StepBuffers.{StepBuffers}
 use Rattle.yaml_parse_step.specs.Finds.{GivesNext}
 use Rattle.yaml_parse_step.specs.Stepped.{SteppedOnce}
@@ -37,7 +36,7 @@ peeked_of d = held_if d.is_held (token_in_slot d.token)
 
 -- what may come, the topmost first
 abbrev pub states_in : StepBuffers → List State
-states_in b = owned_states b.machine b.waiting
+states_in b = states_of b.machine b.waiting
 
 -- no token is held, and something is open
 abbrev pub AsksNext : StepBuffers → Type 0

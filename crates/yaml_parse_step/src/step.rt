@@ -17,7 +17,7 @@ ghost use Rattle.yaml_parse_step.specs.Steps.{AsksNext, HasFront, peeked_of, sta
 ghost use Rattle.yaml_parse_step.specs.Moves.{TakesTurn, Turned, WentOn, LeavesMachine, step_of};
 ghost use Rattle.yaml_parse_step.specs.Turned.{turned};
 
-use yaml_parse_core::{Implied, Machine, Shape, Told, Turn, Waiting, finish, is_over, turn_owned};
+use yaml_parse_core::{Implied, Machine, Shape, Told, Turn, Waiting, finish, is_over, turn};
 use yaml_parse_grammar::ParseProblem;
 use yaml_parse_model::{TokenSlot, yaml_event_t, yaml_token_source_t};
 use yaml_parse_resolve::{
@@ -41,13 +41,13 @@ pub enum Step {
 #[derive(Drop)]
 pub struct StepBuffers {
     /// What may come.
-    pub machine: Machine<yaml_mark_t>,
+    pub machine: Machine,
     /// The token that was asked for last.
     pub token: TokenSlot,
     /// It is still to be taken.
     pub is_held: bool,
     /// The properties that wait for their node.
-    pub waiting: Waiting<Vec<u8>, yaml_mark_t>,
+    pub waiting: Waiting,
     /// Of the document that is open or begins.
     pub directives: Directives,
 }
@@ -340,7 +340,7 @@ fn moving(buffers: &mut StepBuffers, event: &mut yaml_event_t, fault: &mut yaml_
     ensures { WentOn (states_in buffers.old) (token_in_slot buffers.old.token) buffers.old result
         (event_of event.new) (fault_of fault.new) buffers.new }
 {
-    let turn = turn_owned(
+    let turn = turn(
         &mut buffers.machine,
         &mut buffers.waiting,
         &mut buffers.token,

@@ -6,11 +6,11 @@ use Rattle.yaml_parse_core.proofs.Nodes.{optional_node, left_optional, type_is}
 use Rattle.yaml_parse_core.proofs.place.at_optional.Goals as goal
 
 pub returns-else-follows-clause-turns : goal.returns-else-follows-clause-turns
-returns-else-follows-clause-turns g c = λ s.
-    optional_node c.args.place (g.T.yaml_lent_token_t.mark s c.args.machine.now.before) c.wants_of.result (whole_of (g.T.yaml_lent_token_t.mark s) c.args.kind (g.T.yaml_lent_token_t.extra c.args.token.now) (g.T.yaml_lent_token_t.from c.args.token.now) (g.T.yaml_lent_token_t.to c.args.token.now) (g.T.yaml_lent_token_t.text s c.args.token.now) (g.T.yaml_lent_token_t.other s c.args.token.now)) _ _ (seen c.node.result) _
-    (ap (follows c.args.place) (type_is c.args.kind _ _ _) ∙ sym c.follows.ensures ∙ c.if-follows.false) c.wants_of.ensures (c.node.ensures.turns s)
+returns-else-follows-clause-turns c =
+    optional_node c.args.place c.args.machine.now.before c.wants_of.result (whole_of c.args.kind c.args.token.now) _ _ (seen c.node.result) _
+    (ap (follows c.args.place) (type_is c.args.kind _ _ _) ∙ sym c.follows.ensures ∙ c.if-follows.false) c.wants_of.ensures (c.node.ensures.turns)
 
 pub returns-then-follows-clause-turns : goal.returns-then-follows-clause-turns
-returns-then-follows-clause-turns g c = λ s.
-    left_optional c.args.place (g.T.yaml_lent_token_t.mark s c.args.machine.now.before) (whole_of (g.T.yaml_lent_token_t.mark s) c.args.kind (g.T.yaml_lent_token_t.extra c.args.token.now) (g.T.yaml_lent_token_t.from c.args.token.now) (g.T.yaml_lent_token_t.to c.args.token.now) (g.T.yaml_lent_token_t.text s c.args.token.now) (g.T.yaml_lent_token_t.other s c.args.token.now)) _ _ (seen c.left_out.result) _
+returns-then-follows-clause-turns c =
+    left_optional c.args.place c.args.machine.now.before (whole_of c.args.kind c.args.token.now) _ _ (seen c.left_out.result) _
     (ap (follows c.args.place) (type_is c.args.kind _ _ _) ∙ sym c.follows.ensures ∙ c.if-follows.true) c.left_out.ensures refl (λ q. refl)

@@ -1,5 +1,5 @@
 use Rattle.std.proofs.Common.{Option, refl, sym, subst}
-use Rattle.yaml_parse_step.proofs.Words.{Token, token_in_slot, fault_of, event_of, owned_properties, owned_states_by, directives_of, HasNoFront, IsFront, raw, peeked_of, states_in}
+use Rattle.yaml_parse_step.proofs.Words.{Token, token_in_slot, fault_of, event_of, properties_of, states_by, directives_of, HasNoFront, IsFront, raw, peeked_of, states_in}
 use Rattle.yaml_parse_step.specs.Steps.{held_if}
 use Rattle.yaml_parse_step.proofs.Moves.{no_front_open}
 use Rattle.yaml_parse_step.proofs.Turning.{refused_turn}
@@ -20,12 +20,12 @@ returns-then-not-ask-clause-taken g c =
           let e = fault_of c.ask.new.fault in
           let held = held_if b.is_held (token_in_slot c.ask.new.token) in
           let none : HasNoFront (peeked_of b) ts f e rest = subst (λ (o : Option Token). HasNoFront o ts f e rest) (sym (none_is_held b.is_held (token_in_slot b.token) c.requires.0)) c.if-not-ask.ensures.front in
-          refused_turn (raw (peeked_of b) ts f (states_in b)) (raw held rest after (states_in b)) (raw held rest after (owned_states_by c.finish.new.machine (owned_properties b.waiting))) (directives_of b.directives) (directives_of b.directives) answered e
+          refused_turn (raw (peeked_of b) ts f (states_in b)) (raw held rest after (states_in b)) (raw held rest after (states_by c.finish.new.machine (properties_of b.waiting))) (directives_of b.directives) (directives_of b.directives) answered e
           (stands_open (states_in b) c.requires.1)
           (no_front_asked (peeked_of b) ts f (states_in b) rest (directives_of b.directives) e none)
-          (no_front_open (peeked_of b) ts f (states_in b) e (raw held rest after (states_in b)) c.requires.1 none) refl (c.finish.ensures (λ m. m) (owned_properties b.waiting));
-      utf8 = λ h. cleared_utf8 (held_if c.args.buffers.now.is_held (token_in_slot c.ask.new.token)) (owned_states_by c.finish.new.machine (owned_properties c.args.buffers.now.waiting)) (directives_of c.args.buffers.now.directives) (c.finish.ensures (λ m. m) (owned_properties c.args.buffers.now.waiting));
-      stack = λ h. cleared_stands (owned_states_by c.finish.new.machine (owned_properties c.args.buffers.now.waiting)) (c.finish.ensures (λ m. m) (owned_properties c.args.buffers.now.waiting));
+          (no_front_open (peeked_of b) ts f (states_in b) e (raw held rest after (states_in b)) c.requires.1 none) refl (c.finish.ensures (properties_of b.waiting));
+      utf8 = λ h. cleared_utf8 (held_if c.args.buffers.now.is_held (token_in_slot c.ask.new.token)) (states_by c.finish.new.machine (properties_of c.args.buffers.now.waiting)) (directives_of c.args.buffers.now.directives) (c.finish.ensures (properties_of c.args.buffers.now.waiting));
+      stack = λ h. cleared_stands (states_by c.finish.new.machine (properties_of c.args.buffers.now.waiting)) (c.finish.ensures (properties_of c.args.buffers.now.waiting));
     }
 
 pub returns-clause-taken : goal.returns-clause-taken

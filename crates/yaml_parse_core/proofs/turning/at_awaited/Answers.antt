@@ -1,4 +1,3 @@
-use Rattle.yaml_parse_model.specs.Slots.{extra_of}
 use Rattle.yaml_parse_core.specs.Seen.{seen}
 use Rattle.std.proofs.Common.{◌∙◌, sym, refl}
 use Rattle.yaml_parse_model.specs.declared.yaml_token_type_t.TheVariants as kinds
@@ -15,29 +14,25 @@ pub returns-in-YAML_SCALAR_TOKEN-kind-clause-turns :
     goal.returns-in-YAML_SCALAR_TOKEN-kind-clause-turns
 returns-in-YAML_SCALAR_TOKEN-kind-clause-turns c =
     rw (c.in-YAML_SCALAR_TOKEN-kind.is) (anywhere c.args.machine.now.awaited c.args.machine.now.before (properties_of c.args.waiting.now)
-    kinds.YAML_SCALAR_TOKEN c.args.token.now.body.text.items c.args.token.now.body.other.items (extra_of c.args.token.now.body)
-    c.args.token.now.start_mark c.args.token.now.end_mark _ _ (seen c.scalar.result) _
-    (sym c.is_begun.ensures ∙ c.if-is_begun.false) tt refl (c.scalar.ensures.content))
+    kinds.YAML_SCALAR_TOKEN c.args.token.now _ _ (seen c.scalar.result) _
+    (sym c.is_begun.ensures ∙ c.if-is_begun.false) tt refl c.scalar.ensures.content)
 
 pub returns-in-YAML_FLOW_SEQUENCE_START_TOKEN-clause-turns :
     goal.returns-in-YAML_FLOW_SEQUENCE_START_TOKEN-clause-turns
 returns-in-YAML_FLOW_SEQUENCE_START_TOKEN-clause-turns c =
     rw (c.in-YAML_FLOW_SEQUENCE_START_TOKEN.is) (anywhere c.args.machine.now.awaited c.args.machine.now.before (properties_of c.args.waiting.now)
-    kinds.YAML_FLOW_SEQUENCE_START_TOKEN c.args.token.now.body.text.items c.args.token.now.body.other.items (extra_of c.args.token.now.body)
-    c.args.token.now.start_mark c.args.token.now.end_mark _ _ (seen c.flow_sequence.result) _
-    (sym c.is_begun.ensures ∙ c.if-is_begun.false) tt refl (c.flow_sequence.ensures.content))
+    kinds.YAML_FLOW_SEQUENCE_START_TOKEN c.args.token.now _ _ (seen c.flow_sequence.result) _
+    (sym c.is_begun.ensures ∙ c.if-is_begun.false) tt refl c.flow_sequence.ensures.content)
 
 pub returns-in-YAML_FLOW_MAPPING_START_TOKEN-clause-turns :
     goal.returns-in-YAML_FLOW_MAPPING_START_TOKEN-clause-turns
 returns-in-YAML_FLOW_MAPPING_START_TOKEN-clause-turns c =
     rw (c.in-YAML_FLOW_MAPPING_START_TOKEN.is) (anywhere c.args.machine.now.awaited c.args.machine.now.before (properties_of c.args.waiting.now)
-    kinds.YAML_FLOW_MAPPING_START_TOKEN c.args.token.now.body.text.items c.args.token.now.body.other.items (extra_of c.args.token.now.body)
-    c.args.token.now.start_mark c.args.token.now.end_mark _ _ (seen c.flow_mapping.result) _
-    (sym c.is_begun.ensures ∙ c.if-is_begun.false) tt refl (c.flow_mapping.ensures.content))
+    kinds.YAML_FLOW_MAPPING_START_TOKEN c.args.token.now _ _ (seen c.flow_mapping.result) _
+    (sym c.is_begun.ensures ∙ c.if-is_begun.false) tt refl c.flow_mapping.ensures.content)
 
 pub returns-in-YAML_ALIAS_TOKEN-clause-turns : goal.returns-in-YAML_ALIAS_TOKEN-clause-turns
 returns-in-YAML_ALIAS_TOKEN-clause-turns c =
     node_anywhere c.args.machine.now.awaited c.args.machine.now.before (properties_of c.args.waiting.now)
-    c.wants_at.result c.args.kind c.args.token.now.body.text.items c.args.token.now.body.other.items (extra_of c.args.token.now.body)
-    c.args.token.now.start_mark c.args.token.now.end_mark _ _ (seen c.node.result) _
-    (sym c.is_begun.ensures ∙ c.if-is_begun.false) c.wants_at.ensures (names_node c.args.kind c.in-YAML_ALIAS_TOKEN.is) (c.node.ensures.turns)
+    c.wants_at.result c.args.kind c.args.token.now _ _ (seen c.node.result) _
+    (sym c.is_begun.ensures ∙ c.if-is_begun.false) c.wants_at.ensures (names_node c.args.kind c.in-YAML_ALIAS_TOKEN.is) c.node.ensures.turns

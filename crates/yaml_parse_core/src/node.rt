@@ -10,6 +10,7 @@ ghost use Rattle.yaml_parse_core.specs.declared.machine.Turn.TheVariants as turn
 ghost use Rattle.yaml_parse_grammar.specs.States as state;
 ghost use Rattle.yaml_parse_grammar.specs.Items.{Properties};
 ghost use Rattle.yaml_parse_grammar.specs.Machine.{tag_at};
+ghost use Rattle.yaml_parse_model.specs.declared.yaml_token_type_t.{yaml_token_type_t};
 ghost use Rattle.yaml_parse_model.specs.declared.yaml_token_type_t.TheVariants as kinds;
 ghost use Rattle.yaml_parse_grammar.specs.declared.name.Wants.{Wants};
 ghost use Rattle.yaml_parse_grammar.specs.declared.name.Wants.TheVariants as wants;
@@ -54,8 +55,9 @@ fn open_others(
 // A scalar, the content of any node.
 #[inline(always)]
 pub(crate) fn scalar(machine: &mut Machine, token: &TokenSlot) -> Turn
-    ensures content { (w : Wants) → Contents w (whole_of kinds.YAML_SCALAR_TOKEN token.now)
-        (open_of machine.old) (seen result) (states_by machine.new) }
+    ensures content { (w : Wants) (k : yaml_token_type_t) → k ≡ kinds.YAML_SCALAR_TOKEN
+        → Contents w (whole_of k token.now) (open_of machine.old) (seen result)
+        (states_by machine.new) }
     ensures same { IfRefused (seen result) (machine.new ≡ machine.old) }
 {
     machine.awaited = Await::Nothing;
@@ -65,8 +67,9 @@ pub(crate) fn scalar(machine: &mut Machine, token: &TokenSlot) -> Turn
 // The start of a sequence in brackets, the content of any node.
 #[inline(always)]
 pub(crate) fn flow_sequence(machine: &mut Machine, token: &TokenSlot) -> Turn
-    ensures content { (w : Wants) → Contents w (whole_of kinds.YAML_FLOW_SEQUENCE_START_TOKEN token.now)
-        (open_of machine.old) (seen result) (states_by machine.new) }
+    ensures content { (w : Wants) (k : yaml_token_type_t) → k ≡ kinds.YAML_FLOW_SEQUENCE_START_TOKEN
+        → Contents w (whole_of k token.now) (open_of machine.old) (seen result)
+        (states_by machine.new) }
     ensures same { IfRefused (seen result) (machine.new ≡ machine.old) }
 {
     match open(machine, Level::SequenceItems, token) {
@@ -78,8 +81,9 @@ pub(crate) fn flow_sequence(machine: &mut Machine, token: &TokenSlot) -> Turn
 // The start of a mapping in brackets, the content of any node.
 #[inline(always)]
 pub(crate) fn flow_mapping(machine: &mut Machine, token: &TokenSlot) -> Turn
-    ensures content { (w : Wants) → Contents w (whole_of kinds.YAML_FLOW_MAPPING_START_TOKEN token.now)
-        (open_of machine.old) (seen result) (states_by machine.new) }
+    ensures content { (w : Wants) (k : yaml_token_type_t) → k ≡ kinds.YAML_FLOW_MAPPING_START_TOKEN
+        → Contents w (whole_of k token.now) (open_of machine.old) (seen result)
+        (states_by machine.new) }
     ensures same { IfRefused (seen result) (machine.new ≡ machine.old) }
 {
     match open(machine, Level::MappingItems, token) {
@@ -258,6 +262,7 @@ fn join_tag(waiting: &mut Waiting, token: &mut TokenSlot)
 }
 
 // A node, or none starts there.
+#[tactic(auto, using(crate::proofs::Nodes::bare_node, crate::proofs::Nodes::is_bare))]
 #[inline(always)]
 pub(crate) fn node(
     machine: &mut Machine,

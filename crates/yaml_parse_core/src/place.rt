@@ -18,6 +18,7 @@ use yaml_parse_grammar::{Brackets, Side, Site, Wants};
 use yaml_parse_model::{TokenSlot, yaml_token_type_t};
 
 // Behind an opening bracket or a comma of a sequence.
+#[tactic(auto, using(crate::proofs::Nodes::items_node))]
 #[inline(always)]
 pub(crate) fn at_sequence_items(
     machine: &mut Machine,
@@ -46,6 +47,7 @@ pub(crate) fn at_sequence_items(
 }
 
 // Behind an opening bracket or a comma of a mapping.
+#[tactic(auto, using(crate::proofs::Nodes::items_node))]
 #[inline(always)]
 pub(crate) fn at_mapping_items(
     machine: &mut Machine,
@@ -166,6 +168,7 @@ fn left_out(place: Site) -> Turn
 }
 
 // A node may stand there, or be left out.
+#[tactic(auto, using(crate::proofs::Nodes::optional_node, crate::proofs::Nodes::left_optional))]
 #[inline(always)]
 pub(crate) fn at_optional(
     machine: &mut Machine,

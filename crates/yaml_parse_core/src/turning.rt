@@ -134,6 +134,7 @@ fn is_begun(awaited: Await) -> bool
 }
 
 // The node that is awaited. In line is what may begin one at each place, and a scalar behind properties, which are met most.
+#[tactic(auto, using(crate::proofs::Nodes::anywhere, crate::proofs::Nodes::node_anywhere, crate::proofs::Nodes::behind))]
 #[inline(always)]
 fn at_awaited(
     machine: &mut Machine,

@@ -1,5 +1,5 @@
 -- Nodes: what contents owe is what nodes and states owe.
-use Rattle.std.proofs.Common.{◌≡◌, ◌⊎◌, inl, inr, ◌∙◌, ◌++◌, ◌∷◌, [], List, ℕ, Bool, true, false, if◌then◌else◌, ◌||◌, None, Some, refl, sym, ap, subst}
+use Rattle.std.proofs.Common.{◌≡◌, ◌⊎◌, inl, inr, ◌∙◌, ◌++◌, ◌∷◌, [], List, Bool, true, false, if◌then◌else◌, ◌||◌, None, Some, refl, sym, ap, subst}
 use Rattle.std.proofs.lemmas.Bool.{false≢true}
 use Rattle.std.proofs.lemmas.List.{append_assoc}
 use Rattle.yaml_parse_model.specs.declared.yaml_mark_t.{yaml_mark_t}

@@ -1,10 +1,14 @@
 //! Behind a node: the parts of collections.
 
-ghost use Rattle.std.specs.Prelude.{◌≡◌};
+ghost use Rattle.std.specs.Prelude.{◌≡◌, ◌∷◌, []};
 ghost use Rattle.yaml_parse_core.specs.declared.level.Await.TheVariants.{Nothing};
 ghost use Rattle.yaml_parse_core.specs.declared.level.Level.TheVariants as level;
-ghost use Rattle.yaml_parse_core.specs.Views.{whole_of};
-ghost use Rattle.yaml_parse_core.specs.Turns.{LevelTurns};
+ghost use Rattle.yaml_parse_core.specs.Views.{around_by, await_of, site_of, states_at, states_by, whole_of};
+ghost use Rattle.yaml_parse_core.specs.Seen.{seen};
+ghost use Rattle.yaml_parse_core.specs.Turns.{LevelTurns, TurnsOn};
+ghost use Rattle.yaml_parse_grammar.specs.Items.{Properties};
+ghost use Rattle.yaml_parse_grammar.specs.States as state;
+ghost use Rattle.yaml_parse_model.specs.declared.yaml_mark_t.{yaml_mark_t};
 
 use crate::level::{Await, Level};
 use crate::machine::{Machine, Turn, await_behind, come_back};
@@ -96,56 +100,26 @@ pub(crate) fn at_other_values(
     }
 }
 
-// Behind a key.
+// Behind a key: its value is awaited, if it has one, in front of that level.
 #[inline(always)]
-pub(crate) fn at_colon(machine: &mut Machine, kind: yaml_token_type_t, token: &TokenSlot) -> Turn
-    requires { machine.old.awaited ≡ Nothing }
-    ensures { LevelTurns level.Colon (whole_of kind token.now) machine.old result machine.new }
-{
-    machine.top.level = Level::Pairs;
-    match kind {
-        yaml_token_type_t::YAML_VALUE_TOKEN => {
-            await_behind(machine, Await::Value, token);
-            Turn::Silent
-        }
-        _ => Turn::LeftNothing,
-    }
-}
-
-// Behind a key of a pair inside the brackets of a sequence.
-#[inline(always)]
-pub(crate) fn at_sequence_colon(
+pub(crate) fn at_colon(
     machine: &mut Machine,
     kind: yaml_token_type_t,
     token: &TokenSlot,
+    value: Await,
+    behind: Level,
 ) -> Turn
-    requires { machine.old.awaited ≡ Nothing }
-    ensures { LevelTurns level.SequenceColon (whole_of kind token.now) machine.old result machine.new }
+    requires awaited { machine.old.awaited ≡ Nothing }
+    requires value { (b : yaml_mark_t) (p : Properties)
+        → await_of value b p ≡ state.optional (site_of value) b ∷ [] }
+    ensures { (p : Properties) → TurnsOn
+        (state.colon (site_of value) ∷ states_at behind machine.old) (whole_of kind token.now)
+        (seen result) (around_by machine.new p) (states_by machine.new) }
 {
-    machine.top.level = Level::SequencePair;
+    machine.top.level = behind;
     match kind {
         yaml_token_type_t::YAML_VALUE_TOKEN => {
-            await_behind(machine, Await::SequenceValue, token);
-            Turn::Silent
-        }
-        _ => Turn::LeftNothing,
-    }
-}
-
-// Behind a key inside the brackets of a mapping.
-#[inline(always)]
-pub(crate) fn at_mapping_colon(
-    machine: &mut Machine,
-    kind: yaml_token_type_t,
-    token: &TokenSlot,
-) -> Turn
-    requires { machine.old.awaited ≡ Nothing }
-    ensures { LevelTurns level.MappingColon (whole_of kind token.now) machine.old result machine.new }
-{
-    machine.top.level = Level::MappingMore;
-    match kind {
-        yaml_token_type_t::YAML_VALUE_TOKEN => {
-            await_behind(machine, Await::MappingValue, token);
+            await_behind(machine, value, token);
             Turn::Silent
         }
         _ => Turn::LeftNothing,
@@ -196,32 +170,4 @@ pub(crate) fn at_mapping_more(
         }
         _ => Turn::NoMappingEnd,
     }
-}
-
-// The end of a pair's own mapping.
-#[inline(always)]
-pub(crate) fn at_sequence_pair(
-    machine: &mut Machine,
-    kind: yaml_token_type_t,
-    token: &TokenSlot,
-) -> Turn
-    requires { machine.old.awaited ≡ Nothing }
-    ensures { LevelTurns level.SequencePair (whole_of kind token.now) machine.old result machine.new }
-{
-    machine.top.level = Level::SequenceMore;
-    Turn::LeftMappingEnd
-}
-
-// The value of a lone node.
-#[inline(always)]
-pub(crate) fn at_mapping_lone(
-    machine: &mut Machine,
-    kind: yaml_token_type_t,
-    token: &TokenSlot,
-) -> Turn
-    requires { machine.old.awaited ≡ Nothing }
-    ensures { LevelTurns level.MappingLone (whole_of kind token.now) machine.old result machine.new }
-{
-    machine.top.level = Level::MappingMore;
-    Turn::LeftNothing
 }

@@ -14,8 +14,8 @@ use crate::level::{Await, Level};
 use crate::machine::{Machine, Turn};
 use crate::node::{at_rest, flow_mapping, flow_sequence, node, scalar};
 use crate::part::{
-    at_colon, at_entries, at_mapping_colon, at_mapping_lone, at_mapping_more, at_other_keys,
-    at_other_values, at_pairs, at_sequence_colon, at_sequence_more, at_sequence_pair,
+    at_colon, at_entries, at_mapping_more, at_other_keys, at_other_values, at_pairs,
+    at_sequence_more,
 };
 use crate::place::{at_mapping_items, at_optional, at_sequence_items};
 use crate::told::Waiting;
@@ -37,18 +37,42 @@ fn at_level(
 {
     match machine.top.level {
         Level::Pairs => at_pairs(machine, kind, token),
-        Level::Colon => at_colon(machine, kind, token),
+        Level::Colon => at_colon(machine, kind, token, Await::Value, Level::Pairs),
         Level::Entries => at_entries(machine, kind, token),
         Level::OtherKeys => at_other_keys(machine, kind, token),
         Level::OtherValues => at_other_values(machine, kind, token),
         Level::SequenceItems => at_sequence_items(machine, waiting, token, kind),
         Level::SequenceMore => at_sequence_more(machine, kind, token),
-        Level::SequenceColon => at_sequence_colon(machine, kind, token),
-        Level::SequencePair => at_sequence_pair(machine, kind, token),
+        Level::SequenceColon => {
+            at_colon(
+                machine,
+                kind,
+                token,
+                Await::SequenceValue,
+                Level::SequencePair,
+            )
+        }
+        // The end of a pair's own mapping.
+        Level::SequencePair => {
+            machine.top.level = Level::SequenceMore;
+            Turn::LeftMappingEnd
+        }
         Level::MappingItems => at_mapping_items(machine, waiting, token, kind),
         Level::MappingMore => at_mapping_more(machine, kind, token),
-        Level::MappingColon => at_mapping_colon(machine, kind, token),
-        Level::MappingLone => at_mapping_lone(machine, kind, token),
+        Level::MappingColon => {
+            at_colon(
+                machine,
+                kind,
+                token,
+                Await::MappingValue,
+                Level::MappingMore,
+            )
+        }
+        // The value of a lone node.
+        Level::MappingLone => {
+            machine.top.level = Level::MappingMore;
+            Turn::LeftNothing
+        }
         Level::Document => at_document(machine, kind, token),
         Level::Documents => at_documents(machine, kind, token),
         Level::First => at_first(machine, kind, token),

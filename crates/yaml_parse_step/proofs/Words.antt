@@ -21,7 +21,7 @@ pub use Rattle.yaml_parse_resolve.specs.Settles.{ComesTo, directives_of}
 pub use Rattle.yaml_parse_step.specs.Finds.{GivesEnd, GivesNext}
 pub use Rattle.yaml_parse_step.specs.Moves.{Moves, Stops, Turned, Went, WentOn}
 pub use Rattle.yaml_parse_step.specs.Stepped.{SteppedOnce}
-pub use Rattle.yaml_parse_step.specs.Steps.{GivesItem, GivesNoItem, HasNoFront, IsDirective, IsFront, IsRealOn, IsRefused, IsSilent, OpensAt, Raw, outcome, peeked_of, raw, states_in, stop_of}
+pub use Rattle.yaml_parse_step.specs.Steps.{GivesItem, GivesNoItem, HasNoFront, IsDirective, IsFront, IsRealOn, IsRefused, IsSilent, Raw, outcome, peeked_of, raw, states_in, stop_of}
 pub use Rattle.yaml_parse_step.specs.declared.step.Step.{Step}
 pub use Rattle.yaml_parse_step.specs.declared.step.StepBuffers.{StepBuffers}
 pub use Rattle.yaml_scan_model.specs.Faults.{Fault, IsMemoryFault, fault_of, memory_fault, scan_layers}

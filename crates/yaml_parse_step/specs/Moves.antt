@@ -21,26 +21,19 @@ use Rattle.yaml_parse_resolve.specs.Settles.{directives_of}
 use Rattle.yaml_parse_step.specs.declared.step.StepBuffers.{StepBuffers}
 use Rattle.yaml_parse_step.specs.declared.step.Step.{Step}
 use Rattle.yaml_parse_step.specs.declared.step.Step.TheVariants as code
+use Rattle.yaml_parse_step.specs.Stepped.{SteppedOnce}
 use Rattle.yaml_parse_step.specs.Stepped as step
-use Rattle.yaml_parse_step.specs.Steps.{GivesItem, GivesNoItem, IsRefused, IsRealOn, IsUtf8Step, IsStackStep, IsUtf8Turn, IsStackTurn, Turns, raw, peeked_of, states_in}
+use Rattle.yaml_parse_step.specs.Steps.{Steps, IsRefused, IsRealOn, IsUtf8Step, IsStackStep, IsUtf8Turn, IsStackTurn, Turns, raw, peeked_of, states_in}
 use Rattle.yaml_parse_step.specs.Turned as turn
 
--- The item comes first; the token is held then, or taken.
-pub record Moves (s : List State) (t : Token) (i : RawEvent) (held : Option Token)
+-- At that token the states come to that, and others stand then; the token is held, or taken.
+pub record Moves (s : List State) (t : Token) (r : SteppedOnce) (held : Option Token)
     (new : List State) : Type 0 where
   pub gives : (rest : List Token) (ending : Option Fault)
-      → GivesItem i (raw (Some t) rest ending s) (raw held rest ending new)
-  pub real : IsRealOn s t (step.given i)
-  pub utf8 : (ds : Directives) → IsUtf8Held (Some t) s ds → IsUtf8Step (step.given i) held new ds
-  pub stack : IsStack s → IsStackStep (step.given i) new
-
--- The token is taken, and nothing is given.
-pub record MovesSilently (s : List State) (t : Token) (new : List State) : Type 0 where
-  pub gives : (rest : List Token) (ending : Option Fault)
-      → GivesNoItem (raw (Some t) rest ending s) (raw None rest ending new)
-  pub real : IsRealOn s t step.silent
-  pub utf8 : (ds : Directives) → IsUtf8Held (Some t) s ds → IsUtf8Step step.silent None new ds
-  pub stack : IsStack s → IsStackStep step.silent new
+      → Steps (raw (Some t) rest ending s) r (raw held rest ending new)
+  pub real : IsRealOn s t r
+  pub utf8 : (ds : Directives) → IsUtf8Held (Some t) s ds → IsUtf8Step r held new ds
+  pub stack : IsStack s → IsStackStep r new
 
 -- The token is refused there, or memory ran out.
 abbrev pub Stops : List State → Token → Fault → Type 0
@@ -51,7 +44,7 @@ Stops s t f = (rest : List Token) (ending : Option Fault) (held : Option Token) 
 pub record GaveEvent (s : List State) (t : Token) (ds : Directives) (e : Event)
     (held : Option Token) (new : List State) (behind : Directives) : Type 0 where
   pub item : RawEvent
-  pub moves : Moves s t item held new
+  pub moves : Moves s t (step.given item) held new
   pub settles : settle item ds ≡ gave e.body behind
   pub placed : e ≡ placed e.body item
 
@@ -59,7 +52,7 @@ pub record GaveEvent (s : List State) (t : Token) (ds : Directives) (e : Event)
 pub record GaveDirective (s : List State) (t : Token) (ds : Directives) (held : Option Token)
     (new : List State) (behind : Directives) : Type 0 where
   pub item : RawEvent
-  pub moves : Moves s t item held new
+  pub moves : Moves s t (step.given item) held new
   pub settles : settle item ds ≡ noted behind
 
 -- an item is refused
@@ -67,7 +60,7 @@ pub record GaveFault (s : List State) (t : Token) (ds : Directives) (f : Fault) 
   pub item : RawEvent
   pub held : Option Token
   pub new : List State
-  pub moves : Moves s t item held new
+  pub moves : Moves s t (step.given item) held new
   pub settles : (f ≡ memory_fault Parser) ⊎ (settle item ds ≡ refused f)
 
 -- The topmost state at a token, with its item resolved.
@@ -75,7 +68,7 @@ abbrev pub Went : List State → Token → Directives → Step → Event → Fau
     → List State → Directives → Type 0
 Went s t ds code.Given e f held new behind = GaveEvent s t ds e held new behind
 Went s t ds code.Silent e f held new behind
-    = (MovesSilently s t new × (held ≡ None) × (behind ≡ ds))
+    = (Moves s t step.silent None new × (held ≡ None) × (behind ≡ ds))
     ⊎ GaveDirective s t ds held new behind
 Went s t ds code.Refused e f held new behind = (new ≡ []) × (Stops s t f ⊎ GaveFault s t ds f)
 Went s t ds code.Done e f held new behind = (s ≡ []) × (held ≡ Some t) × (new ≡ [])

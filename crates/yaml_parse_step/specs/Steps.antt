@@ -8,7 +8,6 @@ use Rattle.yaml_scan_model.specs.Faults.{Fault, memory_fault, IsMemoryFault, par
 use Rattle.yaml_parse_model.specs.Source.{HasMore}
 use Rattle.yaml_parse_grammar.specs.declared.name.Choice.TheVariants.{Take}
 use Rattle.yaml_parse_grammar.specs.States.{State}
-use Rattle.yaml_parse_grammar.specs.Items.{item_at}
 use Rattle.yaml_parse_grammar.specs.Items as item
 use Rattle.yaml_parse_grammar.specs.Machine.{Outcome, run, unasked_at_stop, ending_at, choice_at, opened, Stands}
 use Rattle.yaml_parse_grammar.specs.Remaining.{ParserRemaining, waiting, held_of, IsFinished, is_between, next_unasked}
@@ -124,14 +123,6 @@ Steps old (step.given i) new = GivesItem i old new
 Steps old step.silent new = GivesNoItem old new
 Steps old (step.refused f) new = IsRefused f old new
 Steps old step.done new = IsDone old new
-
--- an implicit document begins there
-abbrev pub OpensAt : yaml_mark_t → List State → SteppedOnce → List State → Type 0
-OpensAt start old (step.given i) new = (i ≡ item_at (item.document true) start start)
-    × (new ≡ opened start ++ old)
-OpensAt start old (step.refused f) new = f ≡ memory_fault Parser
-OpensAt start old step.silent new = ⊥
-OpensAt start old step.done new = ⊥
 
 -- what takes no item, or a directive, takes a token
 abbrev pub IsReal : State → Token → SteppedOnce → Type 0

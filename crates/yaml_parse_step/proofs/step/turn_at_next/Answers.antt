@@ -5,7 +5,7 @@ use Rattle.yaml_parse_step.proofs.Moves.{no_front_open}
 use Rattle.yaml_parse_step.proofs.Turning.{refused_turn}
 use Rattle.yaml_parse_step.proofs.Texts.{cleared_utf8}
 use Rattle.yaml_parse_step.proofs.Heights.{cleared_stands}
-use Rattle.yaml_parse_step.proofs.Ways.{none_is_held, silent_asks, stands_open, no_front_asked, went_turns, went_utf8, went_stands}
+use Rattle.yaml_parse_step.proofs.Ways.{none_is_held, silent_asks, stands_open, no_front_asked, went_takes}
 use Rattle.yaml_parse_step.proofs.step.turn_at_next.Goals as goal
 
 pub returns-then-not-ask-clause-taken : goal.returns-then-not-ask-clause-taken
@@ -30,25 +30,12 @@ returns-then-not-ask-clause-taken g c =
 
 pub returns-clause-taken : goal.returns-clause-taken
 returns-clause-taken g c =
-    record {
-      turns = λ answered.
-          let b = c.args.buffers.now in
-          let ts = g.S.yaml_token_source_t.to_come c.args.source.now in
-          let f = g.S.yaml_token_source_t.fault_to_come c.args.source.now in
-          let rest = g.S.yaml_token_source_t.to_come c.ask.new.source in
-          let after = g.S.yaml_token_source_t.fault_to_come c.ask.new.source in
-          let t = token_in_slot c.ask.new.token in
-          let front : IsFront (peeked_of b) ts f t rest after = subst (λ (o : Option Token). IsFront o ts f t rest after) (sym (none_is_held b.is_held (token_in_slot b.token) c.requires.0)) c.if-not-ask.ensures.front in
-          went_turns (peeked_of b) ts f (states_in b) t rest after (directives_of b.directives) c.moving.result (event_of c.moving.new.event) (fault_of c.moving.new.fault) (peeked_of c.moving.new.buffers) (states_in c.moving.new.buffers) (directives_of c.moving.new.buffers.directives) answered
-          c.requires.1 front c.moving.ensures;
-      utf8 = λ h.
-          let b = c.args.buffers.now in
-          went_utf8 (peeked_of b) (states_in b) (token_in_slot c.ask.new.token) (directives_of b.directives) c.moving.result (event_of c.moving.new.event) (fault_of c.moving.new.fault) (peeked_of c.moving.new.buffers) (states_in c.moving.new.buffers) (directives_of c.moving.new.buffers.directives)
-          (λ k. c.if-not-ask.ensures.utf8 refl) c.moving.ensures h;
-      stack = λ h.
-          let b = c.args.buffers.now in
-          went_stands (states_in b) (token_in_slot c.ask.new.token) (directives_of b.directives) c.moving.result (event_of c.moving.new.event) (fault_of c.moving.new.fault) (peeked_of c.moving.new.buffers) (states_in c.moving.new.buffers) (directives_of c.moving.new.buffers.directives) c.moving.ensures h;
-    }
+    let b = c.args.buffers.now in
+    let t = token_in_slot c.ask.new.token in
+    let none = none_is_held b.is_held (token_in_slot b.token) c.requires.0 in
+    went_takes b c.moving.new.buffers _ _ t _ _ c.moving.result (event_of c.moving.new.event) (fault_of c.moving.new.fault) c.requires.1
+    (subst (λ (o : Option Token). IsFront o (g.S.yaml_token_source_t.to_come c.args.source.now) (g.S.yaml_token_source_t.fault_to_come c.args.source.now) t (g.S.yaml_token_source_t.to_come c.ask.new.source) (g.S.yaml_token_source_t.fault_to_come c.ask.new.source)) (sym none) c.if-not-ask.ensures.front)
+    (λ k. c.if-not-ask.ensures.utf8 refl) c.moving.ensures
 
 pub returns-clause-on : goal.returns-clause-on
 returns-clause-on g c = λ is.

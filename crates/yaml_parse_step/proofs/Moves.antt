@@ -1,7 +1,6 @@
 -- What each step over the grammar owes.
-use Rattle.std.proofs.Common.{◌≡◌, ◌⊎◌, ◌<◌, ℕ, inl, inr, List, [], ◌∷◌, ◌++◌, length, Option, Some, None, refl, sym, ap, subst, ◌∙◌, arith, true, false}
-use Rattle.yaml_parse_step.proofs.Words.{yaml_mark_t, Token, no_token, type_of, Fault, Take, Leave, Open, parser_fault, RawEvent, RawEventBody, item_at, State, Taken, Given, choice_at, taken_at, left_at, opened, run, ending_at, unasked_at_stop, Stands, memory_fault, Parser, Properties, Shape, Around, is_nothing, node_item, named_item, told_item, implied_item, TurnsOn, Moves, Stops, SteppedOnce, Raw, raw, outcome, stop_of, IsFront, HasNoFront, IsDirective, GivesItem, GivesNoItem, IsRefused, IsRealOn}
-use Rattle.yaml_parse_grammar.specs.declared.name.Choice.TheVariants.{Refuse}
+use Rattle.std.proofs.Common.{◌≡◌, ◌⊎◌, ◌<◌, ℕ, inl, inr, List, [], ◌∷◌, ◌++◌, length, Option, Some, None, sym, ap, subst, ◌∙◌, arith, true, false}
+use Rattle.yaml_parse_step.proofs.Words.{Token, no_token, type_of, Fault, Take, Leave, parser_fault, RawEvent, RawEventBody, item_at, State, Taken, Given, choice_at, taken_at, left_at, run, unasked_at_stop, Stands, memory_fault, Parser, Properties, Shape, Around, is_nothing, node_item, named_item, told_item, implied_item, TurnsOn, Moves, Stops, SteppedOnce, Raw, raw, outcome, stop_of, IsFront, HasNoFront, IsDirective, IsRefused, IsRealOn}
 use Rattle.yaml_parse_grammar.specs.declared.problem.ParseProblem.{ParseProblem}
 use Rattle.yaml_parse_grammar.specs.Items as item
 use Rattle.yaml_parse_grammar.specs.Machine.{context_of}

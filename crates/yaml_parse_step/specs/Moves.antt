@@ -4,6 +4,7 @@ use Rattle.yaml_scan_model.specs.Tokens.{Token}
 use Rattle.yaml_scan_model.specs.Faults.{Fault, memory_fault}
 use Rattle.yaml_scan_model.specs.declared.yaml_origin_t.TheVariants.{Parser}
 use Rattle.yaml_parse_model.specs.Events.{Event}
+use Rattle.yaml_parse_model.specs.Slots.{token_in_slot}
 use Rattle.yaml_parse_grammar.specs.Items.{RawEvent}
 use Rattle.yaml_parse_grammar.specs.Remaining.{parser_remaining, is_between}
 use Rattle.yaml_parse_grammar.specs.States.{State}
@@ -83,6 +84,11 @@ Turned b s t r = TurnsTo s t r b.machine b.waiting
 abbrev pub WentOn : List State → Token → StepBuffers → Step → Event → Fault → StepBuffers → Type 0
 WentOn s t old r e f new = Went s t (directives_of old.directives) r e f (peeked_of new)
     (states_in new) (directives_of new.directives)
+
+-- a turn that did that at the token, which is kept, with its item resolved
+abbrev pub Goes : Seen → StepBuffers → Step → Event → Fault → StepBuffers → Type 0
+Goes k old r e f new = (s : List State) (t : Token) → Turned old s t k
+    → token_in_slot old.token ≡ t → WentOn s t old r e f new
 
 -- the step of what an item came to
 abbrev pub step_of : Settled → Step

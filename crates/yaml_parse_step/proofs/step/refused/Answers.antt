@@ -6,7 +6,7 @@ use Rattle.yaml_parse_step.proofs.Moves.{refused_stops}
 use Rattle.yaml_parse_step.proofs.step.refused.Goals as goal
 
 pub returns : goal.returns
-returns c = λ s t ev h e. (
+returns c = λ ev s t h e. (
   c.finish.ensures (properties_of c.args.buffers.now.waiting),
   subst (λ (u : Token). Turned c.args.buffers.now s u (kinds.refused c.args.problem) → Stops s u (fault_of c.refuse.new.fault) ⊎ GaveFault s u (directives_of c.args.buffers.now.directives) (fault_of c.refuse.new.fault)) e
       (λ k. inl (refused_stops s (token_in_slot c.args.buffers.now.token) c.args.problem _

@@ -7,11 +7,12 @@ ghost use Rattle.yaml_parse_model.specs.declared.yaml_scalar_style_t.TheVariants
 ghost use Rattle.yaml_parse_grammar.specs.Items as item;
 ghost use Rattle.yaml_parse_grammar.specs.Resolve.{node_event, placed};
 ghost use Rattle.yaml_parse_core.specs.Extra.{value_in, style_in};
-ghost use Rattle.yaml_parse_core.specs.Views.{text_if, shape_at, node_item};
+ghost use Rattle.yaml_parse_core.specs.Views.{shape_at, node_item};
+ghost use Rattle.yaml_parse_resolve.specs.Settles.{named_event};
 
-use crate::room::{clears, vacate_full, vacate_named};
+use crate::room::{clears, put_bare, put_properties, vacate_full, vacate_named};
 use crate::scalars::{bare, named};
-use crate::slots::{start_mapping, start_named_mapping, start_named_sequence, start_sequence};
+use crate::slots::{start_mapping, start_sequence};
 use std::mem;
 use yaml_parse_core::{Shape, Waiting};
 use yaml_parse_model::{
@@ -153,9 +154,7 @@ pub fn tell_node(
 // Inlined: the token's kind is known.
 #[inline(always)]
 fn tell_named_scalar(waiting: &mut Waiting, token: &mut BodySlot, event: &mut yaml_event_body_t)
-    ensures { body_of event.new ≡ node_event (text_if waiting.old.has_anchor
-        waiting.old.anchor.items) (text_if waiting.old.has_tag waiting.old.handle.items)
-        (item.scalar (value_in (body_in_slot token.old)) (style_in (body_in_slot token.old))) }
+    ensures { body_of event.new ≡ named_event waiting.old (item.scalar (value_in (body_in_slot token.old)) (style_in (body_in_slot token.old))) }
 {
     match token.kind {
         yaml_token_type_t::YAML_SCALAR_TOKEN => {
@@ -181,9 +180,7 @@ fn leave_suffix(waiting: &mut Waiting, room: &mut Vec<u8>)
 #[cold]
 #[inline(never)]
 fn tell_no_named_scalar(waiting: &mut Waiting, event: &mut yaml_event_body_t)
-    ensures { body_of event.new ≡ node_event (text_if waiting.old.has_anchor
-        waiting.old.anchor.items) (text_if waiting.old.has_tag waiting.old.handle.items)
-        (item.scalar [] YAML_ANY_SCALAR_STYLE) }
+    ensures { body_of event.new ≡ named_event waiting.old (item.scalar [] YAML_ANY_SCALAR_STYLE) }
 {
     let mut nothing = Vec::new(*waiting.anchor.allocator());
     named(
@@ -194,34 +191,56 @@ fn tell_no_named_scalar(waiting: &mut Waiting, event: &mut yaml_event_body_t)
     );
 }
 
-// A sequence begins behind properties.
+// A sequence begins behind properties. Its tag stands in full in the place of its handle.
 fn tell_named_sequence(
     waiting: &mut Waiting,
     token: &mut BodySlot,
     style: yaml_sequence_style_t,
     event: &mut yaml_event_body_t,
 )
-    ensures { body_of event.new ≡ node_event (text_if waiting.old.has_anchor
-        waiting.old.anchor.items) (text_if waiting.old.has_tag waiting.old.handle.items)
-        (item.sequence style) }
+    ensures { body_of event.new ≡ named_event waiting.old (item.sequence style) }
 {
     let room = vacate_named(event, waiting, token);
-    start_named_sequence(waiting, room, style, event);
+    let start = yaml_event_body_t::SequenceStart {
+        anchor: None,
+        tag: None,
+        implicit: !waiting.has_tag,
+        style,
+    };
+    put_bare(event, start);
+    match event {
+        yaml_event_body_t::SequenceStart { anchor, tag, .. } => {
+            put_properties(waiting, room, anchor, tag);
+        }
+        // Never: it was put there.
+        _ => {}
+    }
 }
 
-// A mapping begins behind properties.
+// A mapping begins behind properties. Its tag stands in full in the place of its handle.
 fn tell_named_mapping(
     waiting: &mut Waiting,
     token: &mut BodySlot,
     style: yaml_mapping_style_t,
     event: &mut yaml_event_body_t,
 )
-    ensures { body_of event.new ≡ node_event (text_if waiting.old.has_anchor
-        waiting.old.anchor.items) (text_if waiting.old.has_tag waiting.old.handle.items)
-        (item.mapping style) }
+    ensures { body_of event.new ≡ named_event waiting.old (item.mapping style) }
 {
     let room = vacate_named(event, waiting, token);
-    start_named_mapping(waiting, room, style, event);
+    let start = yaml_event_body_t::MappingStart {
+        anchor: None,
+        tag: None,
+        implicit: !waiting.has_tag,
+        style,
+    };
+    put_bare(event, start);
+    match event {
+        yaml_event_body_t::MappingStart { anchor, tag, .. } => {
+            put_properties(waiting, room, anchor, tag);
+        }
+        // Never: it was put there.
+        _ => {}
+    }
 }
 
 // The event of a node behind properties. Its tag stands in full in the place of its handle.
@@ -233,9 +252,7 @@ pub(crate) fn tell_named(
     token: &mut BodySlot,
     event: &mut yaml_event_body_t,
 )
-    ensures { body_of event.new ≡ node_event (text_if waiting.old.has_anchor
-        waiting.old.anchor.items) (text_if waiting.old.has_tag waiting.old.handle.items)
-        (shape_at shape (body_in_slot token.old)) }
+    ensures { body_of event.new ≡ named_event waiting.old (shape_at shape (body_in_slot token.old)) }
 {
     match shape {
         Shape::Scalar => tell_named_scalar(waiting, token, event),

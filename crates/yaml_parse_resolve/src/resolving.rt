@@ -392,11 +392,7 @@ pub fn settle_implied(
     event.start_mark = mark_again(at);
     event.end_mark = mark_again(at);
     match implied {
-        Implied::Nothing => {
-            empty(waiting, false, false, &mut event.body);
-            Settled::Event
-        }
-        Implied::NothingBefore => {
+        Implied::Nothing | Implied::NothingBefore => {
             empty(waiting, false, false, &mut event.body);
             Settled::Event
         }

@@ -9,6 +9,7 @@ ghost use Rattle.yaml_parse_grammar.specs.Items as item;
 ghost use Rattle.yaml_parse_grammar.specs.Resolve.{is_plain as is_plain_style, node_event};
 ghost use Rattle.yaml_parse_core.specs.Views.{text_if};
 ghost use Rattle.yaml_parse_resolve.specs.Bare.{IsScalar, OwnsNothing};
+ghost use Rattle.yaml_parse_resolve.specs.Settles.{named_event};
 
 use crate::room::{exchange, exchanged, give_back, is_bare, put_bare, replaced, taken_room};
 use std::alloc::Global;
@@ -324,9 +325,7 @@ pub(crate) fn named(
     style: yaml_scalar_style_t,
     event: &mut yaml_event_body_t,
 )
-    ensures { body_of event.new ≡ node_event (text_if waiting.old.has_anchor
-        waiting.old.anchor.items) (text_if waiting.old.has_tag waiting.old.handle.items)
-        (item.scalar value.old.items style) }
+    ensures { body_of event.new ≡ named_event waiting.old (item.scalar value.old.items style) }
 {
     if waiting.has_tag {
         tagged(waiting, value, style, event);

@@ -1,5 +1,5 @@
 -- Nodes: what contents owe is what nodes and states owe.
-use Rattle.std.proofs.Common.{◌≡◌, ◌⊎◌, inl, inr, ◌∙◌, ◌++◌, ◌∷◌, [], List, Bool, true, false, if◌then◌else◌, ◌||◌, None, Some, refl, sym, ap, subst}
+use Rattle.std.proofs.Common.{◌≡◌, ◌∙◌, ◌++◌, ◌∷◌, [], List, Bool, true, false, if◌then◌else◌, ◌||◌, None, Some, refl, sym, ap, subst}
 use Rattle.std.proofs.lemmas.Bool.{false≢true}
 use Rattle.std.proofs.lemmas.List.{append_assoc}
 use Rattle.yaml_parse_model.specs.declared.yaml_mark_t.{yaml_mark_t}
@@ -201,13 +201,6 @@ begins_node kind.YAML_ALIAS_TOKEN = true
 begins_node kind.YAML_ANCHOR_TOKEN = true
 begins_node kind.YAML_TAG_TOKEN = true
 begins_node k = false
-
-pub names_node : (k : yaml_token_type_t)
-    → (k ≡ kind.YAML_ALIAS_TOKEN) ⊎ ((k ≡ kind.YAML_ANCHOR_TOKEN) ⊎ (k ≡ kind.YAML_TAG_TOKEN))
-    → begins_node k ≡ true
-names_node k (inl e) = ap begins_node e
-names_node k (inr (inl e)) = ap begins_node e
-names_node k (inr (inr e)) = ap begins_node e
 
 none_follows : (p : Site) (k : yaml_token_type_t) → begins_node k ≡ true → follows p k ≡ false
 none_follows p kind.YAML_DOCUMENT_END_TOKEN h = absurd (false≢true h)

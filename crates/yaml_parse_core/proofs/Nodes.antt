@@ -64,7 +64,8 @@ same_taken w kind.YAML_ANCHOR_TOKEN u z h = absurd h
 same_taken w kind.YAML_TAG_TOKEN u z h = absurd h
 same_taken w k u z h = refl
 
-pub bare_node : (w : Wants) (k : yaml_token_type_t) (u : TokenSlot) (s : List State) (new : Properties → List State) (r : Seen) (a : Around)
+pub bare_node : (w : Wants) (k : yaml_token_type_t) (u : TokenSlot) (s : List State)
+    (new : Properties → List State) (r : Seen) (a : Around)
     → IsBare k
     → Contents w (whole_of k u) s r new
     → Nodes w (whole_of k u) s r a new
@@ -76,8 +77,8 @@ bare_node w k u s new r a b h = absurd h
 
 -- ---- a node behind properties
 
-same_behind : (w : Wants) (k : yaml_token_type_t) (u : TokenSlot) (p : Properties) → (k ≡ kind.YAML_ANCHOR_TOKEN → ⊥)
-    → (k ≡ kind.YAML_TAG_TOKEN → ⊥)
+same_behind : (w : Wants) (k : yaml_token_type_t) (u : TokenSlot) (p : Properties)
+    → (k ≡ kind.YAML_ANCHOR_TOKEN → ⊥) → (k ≡ kind.YAML_TAG_TOKEN → ⊥)
     → content_taken w (Some p) u.start_mark u.end_mark (whole_of k u).body
     ≡ with_properties_taken w p u.start_mark u.end_mark (whole_of k u).body
 same_behind w kind.YAML_ANCHOR_TOKEN u p a b = absurd (a refl)
@@ -88,8 +89,8 @@ takes_if : (b : Bool) → (if b || true then Take else Leave) ≡ Take
 takes_if true = refl
 takes_if false = refl
 
-pub named_node : (w : Wants) (k : yaml_token_type_t) (u : TokenSlot) (p : Properties) (s : List State) (new : Properties → List State)
-    (j : Shape)
+pub named_node : (w : Wants) (k : yaml_token_type_t) (u : TokenSlot) (p : Properties)
+    (s : List State) (new : Properties → List State) (j : Shape)
     → (k ≡ kind.YAML_ANCHOR_TOKEN → ⊥) → (k ≡ kind.YAML_TAG_TOKEN → ⊥)
     → Contents w (whole_of k u) s (turn.node j) new
     → Takes (state.with_properties w p) (whole_of k u) s
@@ -155,7 +156,8 @@ items_choose : (b : Brackets) (o : yaml_mark_t) (k : yaml_token_type_t) (n : Boo
 items_choose b o kind.YAML_KEY_TOKEN n h c e = absurd (h refl)
 items_choose b o k n h c e = ap (λ z. if z || starts_node Flow k then Take else Refuse (no_node Flow) None) c ∙ ap (λ z. chosen_at false z Flow) e
 
-items_are : (b : Brackets) (o : yaml_mark_t) (k : yaml_token_type_t) (u : TokenSlot) → starts_node Flow (type_of (whole_of k u).body) ≡ true
+items_are : (b : Brackets) (o : yaml_mark_t) (k : yaml_token_type_t) (u : TokenSlot)
+    → starts_node Flow (type_of (whole_of k u).body) ≡ true
     → above (lone_below b (state.more b o ∷ [])) (node_taken Flow u.start_mark u.end_mark (whole_of k u).body)
     ≡ items_taken b o u.start_mark u.end_mark (whole_of k u).body
 items_are b o kind.YAML_KEY_TOKEN u h = absurd (false≢true h)
@@ -168,7 +170,8 @@ items_below : (b : Brackets) (o : yaml_mark_t) (xs s : List State)
 items_below brackets.Sequence o xs s = sym (append_assoc xs (state.more brackets.Sequence o ∷ []) s)
 items_below brackets.Mapping o xs s = sym (append_assoc xs (state.lone ∷ state.more brackets.Mapping o ∷ []) s)
 
-items_at : (b : Brackets) (o : yaml_mark_t) (k : yaml_token_type_t) (u : TokenSlot) (s : List State) (new : Properties → List State) (r : Seen) (a : Around)
+items_at : (b : Brackets) (o : yaml_mark_t) (k : yaml_token_type_t) (u : TokenSlot)
+    (s : List State) (new : Properties → List State) (r : Seen) (a : Around)
     → ((n : Bool) → starts_node Flow (type_of (whole_of k u).body) ≡ n
     → choice_at (state.items b o) (type_of (whole_of k u).body) ≡ chosen_at false n Flow)
     → Nodes Flow (whole_of k u) (lone_below b (state.more b o ∷ s)) r a new
@@ -183,8 +186,8 @@ items_at b o k u s new (turn.refused q) a f h = f false h.0 ∙ ap (λ z. Refuse
 items_at b o k u s new turn.memory a f h = tt
 items_at b o k u s new r a f h = absurd h
 
-pub items_node : (b : Brackets) (o : yaml_mark_t) (k : yaml_token_type_t) (u : TokenSlot) (s : List State) (new : Properties → List State) (r : Seen)
-    (a : Around)
+pub items_node : (b : Brackets) (o : yaml_mark_t) (k : yaml_token_type_t) (u : TokenSlot)
+    (s : List State) (new : Properties → List State) (r : Seen) (a : Around)
     → (k ≡ kind.YAML_KEY_TOKEN → ⊥) → (k ≡ end_in b → ⊥)
     → Nodes Flow (whole_of k u) (lone_below b (state.more b o ∷ s)) r a new
     → Turns (state.items b o) (whole_of k u) s r a new
@@ -246,8 +249,8 @@ node_anywhere z b q w k u s new r a e i h n =
     rw (awaits z b q (differs z await.Nothing e refl) (differs z await.Rest e refl) (differs z await.RestOfKey e refl) (differs z await.RestOfValue e refl) (differs z await.RestInside e refl))
     (optional_node (site_of z) b w k u s new r a (none_follows (site_of z) k h) i n)
 
-pub anywhere : (z : Await) (b : yaml_mark_t) (q : Properties) (k : yaml_token_type_t) (u : TokenSlot) (s : List State) (new : Properties → List State) (r : Seen)
-    (a : Around)
+pub anywhere : (z : Await) (b : yaml_mark_t) (q : Properties) (k : yaml_token_type_t)
+    (u : TokenSlot) (s : List State) (new : Properties → List State) (r : Seen) (a : Around)
     → is_begun z ≡ false → IsBare k → begins_node k ≡ true
     → ((w : Wants) → Contents w (whole_of k u) s r new)
     → TurnsOn (await_of z b q ++ s) (whole_of k u) r a new

@@ -198,7 +198,8 @@ around_of m w = around_by m (properties_of w)
 
 -- the token in the slot, if its kind is that one
 abbrev pub whole_of : yaml_token_type_t → TokenSlot → Token
-whole_of k t = token_at (body_by k t.body.text.items t.body.other.items (extra_of t.body)) t.start_mark t.end_mark
+whole_of k t = token_at (body_by k t.body.text.items t.body.other.items (extra_of t.body))
+    t.start_mark t.end_mark
 
 -- no state is left
 abbrev pub is_nothing : List State → Bool

@@ -3,7 +3,7 @@
 ghost use Rattle.std.specs.Prelude.{◌≡◌, ◌∷◌, []};
 ghost use Rattle.yaml_parse_core.specs.declared.level.Await.TheVariants.{Nothing};
 ghost use Rattle.yaml_parse_core.specs.declared.level.Level.TheVariants as level;
-ghost use Rattle.yaml_parse_core.specs.Views.{around_by, await_of, site_of, states_at, states_by, whole_of};
+ghost use Rattle.yaml_parse_core.specs.Views.{around_by, await_of, open_of, site_of, states_by, whole_of};
 ghost use Rattle.yaml_parse_core.specs.Seen.{seen};
 ghost use Rattle.yaml_parse_core.specs.Turns.{LevelTurns, TurnsOn};
 ghost use Rattle.yaml_parse_grammar.specs.Items.{Properties};
@@ -86,7 +86,8 @@ pub(crate) fn at_other_values(
 ) -> Turn
     requires awaited { machine.old.awaited ≡ Nothing }
     requires level { machine.old.top.level ≡ level.OtherValues }
-    ensures { LevelTurns level.OtherValues (whole_of kind token.now) machine.old result machine.new }
+    ensures { LevelTurns level.OtherValues (whole_of kind token.now) machine.old result
+        machine.new }
 {
     match kind {
         yaml_token_type_t::YAML_BLOCK_ENTRY_TOKEN => {
@@ -100,23 +101,21 @@ pub(crate) fn at_other_values(
     }
 }
 
-// Behind a key: its value is awaited, if it has one, in front of that level.
+// Behind a key, where what follows the value is open: the value is awaited, if there is one.
 #[inline(always)]
 pub(crate) fn at_colon(
     machine: &mut Machine,
     kind: yaml_token_type_t,
     token: &TokenSlot,
     value: Await,
-    behind: Level,
 ) -> Turn
     requires awaited { machine.old.awaited ≡ Nothing }
     requires value { (b : yaml_mark_t) (p : Properties)
         → await_of value b p ≡ state.optional (site_of value) b ∷ [] }
     ensures { (p : Properties) → TurnsOn
-        (state.colon (site_of value) ∷ states_at behind machine.old) (whole_of kind token.now)
+        (state.colon (site_of value) ∷ open_of machine.old) (whole_of kind token.now)
         (seen result) (around_by machine.new p) (states_by machine.new) }
 {
-    machine.top.level = behind;
     match kind {
         yaml_token_type_t::YAML_VALUE_TOKEN => {
             await_behind(machine, value, token);
@@ -134,7 +133,8 @@ pub(crate) fn at_sequence_more(
     token: &TokenSlot,
 ) -> Turn
     requires { machine.old.awaited ≡ Nothing }
-    ensures { LevelTurns level.SequenceMore (whole_of kind token.now) machine.old result machine.new }
+    ensures { LevelTurns level.SequenceMore (whole_of kind token.now) machine.old result
+        machine.new }
 {
     match kind {
         yaml_token_type_t::YAML_FLOW_ENTRY_TOKEN => {
@@ -157,7 +157,8 @@ pub(crate) fn at_mapping_more(
     token: &TokenSlot,
 ) -> Turn
     requires { machine.old.awaited ≡ Nothing }
-    ensures { LevelTurns level.MappingMore (whole_of kind token.now) machine.old result machine.new }
+    ensures { LevelTurns level.MappingMore (whole_of kind token.now) machine.old result
+        machine.new }
 {
     match kind {
         yaml_token_type_t::YAML_FLOW_ENTRY_TOKEN => {

@@ -37,20 +37,18 @@ fn at_level(
 {
     match machine.top.level {
         Level::Pairs => at_pairs(machine, kind, token),
-        Level::Colon => at_colon(machine, kind, token, Await::Value, Level::Pairs),
+        Level::Colon => {
+            machine.top.level = Level::Pairs;
+            at_colon(machine, kind, token, Await::Value)
+        }
         Level::Entries => at_entries(machine, kind, token),
         Level::OtherKeys => at_other_keys(machine, kind, token),
         Level::OtherValues => at_other_values(machine, kind, token),
         Level::SequenceItems => at_sequence_items(machine, waiting, token, kind),
         Level::SequenceMore => at_sequence_more(machine, kind, token),
         Level::SequenceColon => {
-            at_colon(
-                machine,
-                kind,
-                token,
-                Await::SequenceValue,
-                Level::SequencePair,
-            )
+            machine.top.level = Level::SequencePair;
+            at_colon(machine, kind, token, Await::SequenceValue)
         }
         // The end of a pair's own mapping.
         Level::SequencePair => {
@@ -60,13 +58,8 @@ fn at_level(
         Level::MappingItems => at_mapping_items(machine, waiting, token, kind),
         Level::MappingMore => at_mapping_more(machine, kind, token),
         Level::MappingColon => {
-            at_colon(
-                machine,
-                kind,
-                token,
-                Await::MappingValue,
-                Level::MappingMore,
-            )
+            machine.top.level = Level::MappingMore;
+            at_colon(machine, kind, token, Await::MappingValue)
         }
         // The value of a lone node.
         Level::MappingLone => {

@@ -154,7 +154,8 @@ pub fn tell_node(
 // Inlined: the token's kind is known.
 #[inline(always)]
 fn tell_named_scalar(waiting: &mut Waiting, token: &mut BodySlot, event: &mut yaml_event_body_t)
-    ensures { body_of event.new ≡ named_event waiting.old (item.scalar (value_in (body_in_slot token.old)) (style_in (body_in_slot token.old))) }
+    ensures { body_of event.new ≡ named_event waiting.old
+        (item.scalar (value_in (body_in_slot token.old)) (style_in (body_in_slot token.old))) }
 {
     match token.kind {
         yaml_token_type_t::YAML_SCALAR_TOKEN => {
@@ -252,7 +253,8 @@ pub(crate) fn tell_named(
     token: &mut BodySlot,
     event: &mut yaml_event_body_t,
 )
-    ensures { body_of event.new ≡ named_event waiting.old (shape_at shape (body_in_slot token.old)) }
+    ensures { body_of event.new ≡ named_event waiting.old
+        (shape_at shape (body_in_slot token.old)) }
 {
     match shape {
         Shape::Scalar => tell_named_scalar(waiting, token, event),

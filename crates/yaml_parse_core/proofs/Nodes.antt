@@ -1,9 +1,9 @@
 -- Nodes: what contents owe is what nodes and states owe.
-use Rattle.std.proofs.Common.{◌≡◌, ◌⊎◌, inl, inr, ◌∙◌, ◌++◌, ◌∷◌, [], List, ℕ, Bool, true, false, if◌then◌else◌, ◌||◌, None, Some, refl, sym, ap, subst}
+use Rattle.std.proofs.Common.{◌≡◌, ◌∙◌, ◌++◌, ◌∷◌, [], List, Bool, true, false, if◌then◌else◌, ◌||◌, None, Some, refl, sym, ap, subst}
 use Rattle.std.proofs.lemmas.Bool.{false≢true}
 use Rattle.std.proofs.lemmas.List.{append_assoc}
 use Rattle.yaml_parse_model.specs.declared.yaml_mark_t.{yaml_mark_t}
-use Rattle.yaml_parse_model.specs.Slots.{Extra, body_by}
+use Rattle.yaml_parse_model.specs.declared.TokenSlot.{TokenSlot}
 use Rattle.yaml_parse_model.specs.declared.yaml_token_type_t.{yaml_token_type_t}
 use Rattle.yaml_parse_model.specs.declared.yaml_token_type_t.TheVariants as kind
 use Rattle.yaml_parse_model.specs.Tokens.{Token, type_of}
@@ -25,7 +25,7 @@ use Rattle.yaml_parse_grammar.specs.declared.name.Choice.TheVariants.{Refuse, Ta
 use Rattle.yaml_parse_core.specs.Seen.{Seen}
 use Rattle.yaml_parse_core.specs.Seen as turn
 use Rattle.yaml_parse_core.specs.declared.told.Shape.{Shape}
-use Rattle.yaml_parse_core.specs.Views.{Around, await_of, is_begun, site_of, token_at, named_item, implied_item}
+use Rattle.yaml_parse_core.specs.Views.{Around, await_of, is_begun, site_of, whole_of, named_item, implied_item}
 use Rattle.yaml_parse_core.specs.Turns.{Contents, Nodes, Turns, TurnsOn, Takes, LeavesOut, context_if}
 
 -- the kind isn't that of a property or an alias
@@ -46,65 +46,57 @@ abbrev bare : yaml_mark_t → yaml_mark_t → Properties
 bare from to = record { anchor = None; tag = None; from = from; to = to }
 
 -- behind no properties a content is a node
-same_start : (w : Wants) (k : yaml_token_type_t) (x y : List ℕ) (st : Extra) → IsBare k
-    → starts_node w (type_of (body_by k x y st)) ≡ starts_content w (type_of (body_by k x y st))
-same_start w kind.YAML_ALIAS_TOKEN x y st h = absurd h
-same_start w kind.YAML_ANCHOR_TOKEN x y st h = absurd h
-same_start w kind.YAML_TAG_TOKEN x y st h = absurd h
-same_start w k x y st h = refl
+same_start : (w : Wants) (k : yaml_token_type_t) (u : TokenSlot) → IsBare k
+    → starts_node w (type_of (whole_of k u).body) ≡ starts_content w (type_of (whole_of k u).body)
+same_start w kind.YAML_ALIAS_TOKEN u h = absurd h
+same_start w kind.YAML_ANCHOR_TOKEN u h = absurd h
+same_start w kind.YAML_TAG_TOKEN u h = absurd h
+same_start w k u h = refl
 
-same_taken : (w : Wants) (k : yaml_token_type_t) (x y : List ℕ) (st : Extra)
-    (from to z : yaml_mark_t) → IsBare k
-    → content_taken w (Some (bare from z)) from to (body_by k x y st)
-    ≡ node_taken w from to (body_by k x y st)
-same_taken Flow kind.YAML_BLOCK_ENTRY_TOKEN x y st from to z h = refl
-same_taken (Block None) kind.YAML_BLOCK_ENTRY_TOKEN x y st from to z h = refl
-same_taken (Block (Some s)) kind.YAML_BLOCK_ENTRY_TOKEN x y st from to z h = refl
-same_taken w kind.YAML_ALIAS_TOKEN x y st from to z h = absurd h
-same_taken w kind.YAML_ANCHOR_TOKEN x y st from to z h = absurd h
-same_taken w kind.YAML_TAG_TOKEN x y st from to z h = absurd h
-same_taken w k x y st from to z h = refl
+same_taken : (w : Wants) (k : yaml_token_type_t) (u : TokenSlot) (z : yaml_mark_t) → IsBare k
+    → content_taken w (Some (bare u.start_mark z)) u.start_mark u.end_mark (whole_of k u).body
+    ≡ node_taken w u.start_mark u.end_mark (whole_of k u).body
+same_taken Flow kind.YAML_BLOCK_ENTRY_TOKEN u z h = refl
+same_taken (Block None) kind.YAML_BLOCK_ENTRY_TOKEN u z h = refl
+same_taken (Block (Some s)) kind.YAML_BLOCK_ENTRY_TOKEN u z h = refl
+same_taken w kind.YAML_ALIAS_TOKEN u z h = absurd h
+same_taken w kind.YAML_ANCHOR_TOKEN u z h = absurd h
+same_taken w kind.YAML_TAG_TOKEN u z h = absurd h
+same_taken w k u z h = refl
 
-pub bare_node : (w : Wants) (k : yaml_token_type_t) (x y : List ℕ) (st : Extra)
-    (from to : yaml_mark_t) (s : List State) (new : Properties → List State) (r : Seen) (a : Around)
+pub bare_node : (w : Wants) (k : yaml_token_type_t) (u : TokenSlot) (s : List State)
+    (new : Properties → List State) (r : Seen) (a : Around)
     → IsBare k
-    → Contents w (token_at (body_by k x y st) from to) s r new
-    → Nodes w (token_at (body_by k x y st) from to) s r a new
-bare_node w k x y st from to s new (turn.node j) a b h =
-    (same_start w k x y st b ∙ h.0, (h.1 (bare from to) (bare from to)).0 ∙ ap (λ (t : Taken). t.item) (same_taken w k x y st from to to b), λ q. (h.1 (bare from to) q).1 ∙ ap (λ (t : Taken). t.above ++ s) (same_taken w k x y st from to to b))
-bare_node w k x y st from to s new (turn.named j) a b h = absurd h
-bare_node w k x y st from to s new (turn.given j) a b h = absurd h
-bare_node w k x y st from to s new turn.silent a b h = absurd h
-bare_node w k x y st from to s new (turn.left j) a b h = absurd h
-bare_node w k x y st from to s new turn.opened a b h = absurd h
-bare_node w k x y st from to s new turn.over a b h = absurd h
-bare_node w k x y st from to s new (turn.refused q) a b h = (same_start w k x y st b ∙ h.0, h.1)
-bare_node w k x y st from to s new turn.memory a b h = tt
+    → Contents w (whole_of k u) s r new
+    → Nodes w (whole_of k u) s r a new
+bare_node w k u s new (turn.node j) a b h =
+    (same_start w k u b ∙ h.0, (h.1 (bare u.start_mark u.end_mark) (bare u.start_mark u.end_mark)).0 ∙ ap (λ (t : Taken). t.item) (same_taken w k u u.end_mark b), λ q. (h.1 (bare u.start_mark u.end_mark) q).1 ∙ ap (λ (t : Taken). t.above ++ s) (same_taken w k u u.end_mark b))
+bare_node w k u s new (turn.refused q) a b h = (same_start w k u b ∙ h.0, h.1)
+bare_node w k u s new turn.memory a b h = tt
+bare_node w k u s new r a b h = absurd h
 
 -- ---- a node behind properties
 
-same_behind : (w : Wants) (k : yaml_token_type_t) (x y : List ℕ) (st : Extra)
-    (from to : yaml_mark_t) (p : Properties) → (k ≡ kind.YAML_ANCHOR_TOKEN → ⊥)
-    → (k ≡ kind.YAML_TAG_TOKEN → ⊥)
-    → content_taken w (Some p) from to (body_by k x y st)
-    ≡ with_properties_taken w p from to (body_by k x y st)
-same_behind w kind.YAML_ANCHOR_TOKEN x y st from to p a b = absurd (a refl)
-same_behind w kind.YAML_TAG_TOKEN x y st from to p a b = absurd (b refl)
-same_behind w k x y st from to p a b = refl
+same_behind : (w : Wants) (k : yaml_token_type_t) (u : TokenSlot) (p : Properties)
+    → (k ≡ kind.YAML_ANCHOR_TOKEN → ⊥) → (k ≡ kind.YAML_TAG_TOKEN → ⊥)
+    → content_taken w (Some p) u.start_mark u.end_mark (whole_of k u).body
+    ≡ with_properties_taken w p u.start_mark u.end_mark (whole_of k u).body
+same_behind w kind.YAML_ANCHOR_TOKEN u p a b = absurd (a refl)
+same_behind w kind.YAML_TAG_TOKEN u p a b = absurd (b refl)
+same_behind w k u p a b = refl
 
 takes_if : (b : Bool) → (if b || true then Take else Leave) ≡ Take
 takes_if true = refl
 takes_if false = refl
 
-pub named_node : (w : Wants) (k : yaml_token_type_t) (x y : List ℕ) (st : Extra)
-    (from to : yaml_mark_t) (p : Properties) (s : List State) (new : Properties → List State)
-    (j : Shape)
+pub named_node : (w : Wants) (k : yaml_token_type_t) (u : TokenSlot) (p : Properties)
+    (s : List State) (new : Properties → List State) (j : Shape)
     → (k ≡ kind.YAML_ANCHOR_TOKEN → ⊥) → (k ≡ kind.YAML_TAG_TOKEN → ⊥)
-    → Contents w (token_at (body_by k x y st) from to) s (turn.node j) new
-    → Takes (state.with_properties w p) (token_at (body_by k x y st) from to) s
-    (named_item j p (token_at (body_by k x y st) from to)) new
-named_node w k x y st from to p s new j a b h =
-    (ap (λ z. if joins p (type_of (body_by k x y st)) || z then Take else Leave) h.0 ∙ takes_if (joins p (type_of (body_by k x y st))), (h.1 p p).0 ∙ ap (λ (t : Taken). t.item) (same_behind w k x y st from to p a b), λ q. (h.1 p q).1 ∙ ap (λ (t : Taken). t.above ++ s) (same_behind w k x y st from to p a b))
+    → Contents w (whole_of k u) s (turn.node j) new
+    → Takes (state.with_properties w p) (whole_of k u) s
+    (named_item j p (whole_of k u)) new
+named_node w k u p s new j a b h =
+    (ap (λ z. if joins p (type_of (whole_of k u).body) || z then Take else Leave) h.0 ∙ takes_if (joins p (type_of (whole_of k u).body)), (h.1 p p).0 ∙ ap (λ (t : Taken). t.item) (same_behind w k u p a b), λ q. (h.1 p q).1 ∙ ap (λ (t : Taken). t.above ++ s) (same_behind w k u p a b))
 
 -- ---- a node that may be left out
 
@@ -120,41 +112,32 @@ optional_chooses : (p : Site) (b : yaml_mark_t) (k : yaml_token_type_t) (n : Boo
     → choice_at (state.optional p b) k ≡ chosen_at false n (wants_of p)
 optional_chooses p b k n f e = ap (λ z. chosen_at z (starts_node (wants_of p) k) (wants_of p)) f ∙ ap (λ z. chosen_at false z (wants_of p)) e
 
-pub type_is : (k : yaml_token_type_t) (x y : List ℕ) (st : Extra) → type_of (body_by k x y st) ≡ k
-type_is kind.YAML_NO_TOKEN x y st = refl
-type_is k x y st = refl
+pub type_is : (k : yaml_token_type_t) (u : TokenSlot) → type_of (whole_of k u).body ≡ k
+type_is kind.YAML_NO_TOKEN u = refl
+type_is k u = refl
 
 optional_at : (p : Site) (b : yaml_mark_t) (t : Token) (s : List State)
     (new : Properties → List State) (r : Seen) (a : Around) → follows p (type_of t.body) ≡ false
     → Nodes (wants_of p) t s r a new → Turns (state.optional p b) t s r a new
 optional_at p b t s new (turn.node j) a f h = (optional_chooses p b (type_of t.body) true f h.0, h.1, h.2)
-optional_at p b t s new (turn.named j) a f h = absurd h
 optional_at p b t s new (turn.given j) a f h = (optional_chooses p b (type_of t.body) true f h.0, h.1, h.2)
 optional_at p b t s new turn.silent a f h = (optional_chooses p b (type_of t.body) true f h.0, h.1, h.2)
-optional_at p b t s new (turn.left j) a f h = absurd h
-optional_at p b t s new turn.opened a f h = absurd h
-optional_at p b t s new turn.over a f h = absurd h
 optional_at p b t s new (turn.refused q) a f h = optional_chooses p b (type_of t.body) false f h.0 ∙ ap (λ z. Refuse (no_node (wants_of p)) z) (sym (no_context (wants_of p) a.opener)) ∙ ap (λ z. Refuse z (context_if z a.opener)) (sym h.1)
 optional_at p b t s new turn.memory a f h = tt
+optional_at p b t s new r a f h = absurd h
 
-pub optional_node : (p : Site) (b : yaml_mark_t) (w : Wants) (t : Token) (s : List State)
-    (new : Properties → List State) (r : Seen) (a : Around) → follows p (type_of t.body) ≡ false
-    → w ≡ wants_of p → Nodes w t s r a new → Turns (state.optional p b) t s r a new
-optional_node p b w t s new r a f e h = optional_at p b t s new r a f (subst (λ z. Nodes z t s r a new) e h)
+pub optional_node : (p : Site) (b : yaml_mark_t) (w : Wants) (k : yaml_token_type_t) (u : TokenSlot)
+    (s : List State) (new : Properties → List State) (r : Seen) (a : Around) → follows p k ≡ false
+    → w ≡ wants_of p → Nodes w (whole_of k u) s r a new
+    → Turns (state.optional p b) (whole_of k u) s r a new
+optional_node p b w k u s new r a f e h = optional_at p b (whole_of k u) s new r a (ap (follows p) (type_is k u) ∙ f) (subst (λ z. Nodes z (whole_of k u) s r a new) e h)
 
-pub left_optional : (p : Site) (b : yaml_mark_t) (t : Token) (s : List State)
-    (new : Properties → List State) (r : Seen) (a : Around) → follows p (type_of t.body) ≡ true
+pub left_optional : (p : Site) (b : yaml_mark_t) (k : yaml_token_type_t) (u : TokenSlot)
+    (s : List State) (new : Properties → List State) (r : Seen) (a : Around) → follows p k ≡ true
     → LeavesOut p r → a.before ≡ b → ((q : Properties) → new q ≡ s)
-    → Turns (state.optional p b) t s r a new
-left_optional p b t s new (turn.left k) a f h e n = (ap (λ z. chosen_at z (starts_node (wants_of p) (type_of t.body)) (wants_of p)) f, subst (λ z. implied_item k a.properties a.before t.start_mark ≡ left_at (state.optional p z) t.start_mark) e (h a.properties a.before t.start_mark), n)
-left_optional p b t s new (turn.node k) a f h e n = absurd h
-left_optional p b t s new (turn.named k) a f h e n = absurd h
-left_optional p b t s new (turn.given k) a f h e n = absurd h
-left_optional p b t s new turn.silent a f h e n = absurd h
-left_optional p b t s new turn.opened a f h e n = absurd h
-left_optional p b t s new (turn.refused k) a f h e n = absurd h
-left_optional p b t s new turn.memory a f h e n = absurd h
-left_optional p b t s new turn.over a f h e n = absurd h
+    → Turns (state.optional p b) (whole_of k u) s r a new
+left_optional p b k u s new (turn.left j) a f h e n = (ap (λ z. chosen_at z (starts_node (wants_of p) (type_of (whole_of k u).body)) (wants_of p)) (ap (follows p) (type_is k u) ∙ f), subst (λ z. implied_item j a.properties a.before u.start_mark ≡ left_at (state.optional p z) u.start_mark) e (h a.properties a.before u.start_mark), n)
+left_optional p b k u s new r a f h e n = absurd h
 
 -- ---- a node inside brackets
 
@@ -173,47 +156,43 @@ items_choose : (b : Brackets) (o : yaml_mark_t) (k : yaml_token_type_t) (n : Boo
 items_choose b o kind.YAML_KEY_TOKEN n h c e = absurd (h refl)
 items_choose b o k n h c e = ap (λ z. if z || starts_node Flow k then Take else Refuse (no_node Flow) None) c ∙ ap (λ z. chosen_at false z Flow) e
 
-items_are : (b : Brackets) (o : yaml_mark_t) (k : yaml_token_type_t) (x y : List ℕ) (st : Extra)
-    (from to : yaml_mark_t) → starts_node Flow (type_of (body_by k x y st)) ≡ true
-    → above (lone_below b (state.more b o ∷ [])) (node_taken Flow from to (body_by k x y st))
-    ≡ items_taken b o from to (body_by k x y st)
-items_are b o kind.YAML_KEY_TOKEN x y st from to h = absurd (false≢true h)
-items_are b o kind.YAML_FLOW_SEQUENCE_END_TOKEN x y st from to h = absurd (false≢true h)
-items_are b o kind.YAML_FLOW_MAPPING_END_TOKEN x y st from to h = absurd (false≢true h)
-items_are b o k x y st from to h = refl
+items_are : (b : Brackets) (o : yaml_mark_t) (k : yaml_token_type_t) (u : TokenSlot)
+    → starts_node Flow (type_of (whole_of k u).body) ≡ true
+    → above (lone_below b (state.more b o ∷ [])) (node_taken Flow u.start_mark u.end_mark (whole_of k u).body)
+    ≡ items_taken b o u.start_mark u.end_mark (whole_of k u).body
+items_are b o kind.YAML_KEY_TOKEN u h = absurd (false≢true h)
+items_are b o kind.YAML_FLOW_SEQUENCE_END_TOKEN u h = absurd (false≢true h)
+items_are b o kind.YAML_FLOW_MAPPING_END_TOKEN u h = absurd (false≢true h)
+items_are b o k u h = refl
 
 items_below : (b : Brackets) (o : yaml_mark_t) (xs s : List State)
     → xs ++ lone_below b (state.more b o ∷ s) ≡ (xs ++ lone_below b (state.more b o ∷ [])) ++ s
 items_below brackets.Sequence o xs s = sym (append_assoc xs (state.more brackets.Sequence o ∷ []) s)
 items_below brackets.Mapping o xs s = sym (append_assoc xs (state.lone ∷ state.more brackets.Mapping o ∷ []) s)
 
-items_at : (b : Brackets) (o : yaml_mark_t) (k : yaml_token_type_t) (x y : List ℕ) (st : Extra)
-    (from to : yaml_mark_t) (s : List State) (new : Properties → List State) (r : Seen) (a : Around)
-    → ((n : Bool) → starts_node Flow (type_of (body_by k x y st)) ≡ n
-    → choice_at (state.items b o) (type_of (body_by k x y st)) ≡ chosen_at false n Flow)
-    → Nodes Flow (token_at (body_by k x y st) from to) (lone_below b (state.more b o ∷ s)) r a new
-    → Turns (state.items b o) (token_at (body_by k x y st) from to) s r a new
-items_at b o k x y st from to s new (turn.node j) a f h =
-    (f true h.0, h.1 ∙ ap (λ (t : Taken). t.item) (items_are b o k x y st from to h.0), λ q. h.2 q ∙ items_below b o _ s ∙ ap (λ (t : Taken). t.above ++ s) (items_are b o k x y st from to h.0))
-items_at b o k x y st from to s new (turn.given j) a f h =
-    (f true h.0, h.1 ∙ ap (λ (t : Taken). t.item) (items_are b o k x y st from to h.0), λ q. h.2 q ∙ items_below b o _ s ∙ ap (λ (t : Taken). t.above ++ s) (items_are b o k x y st from to h.0))
-items_at b o k x y st from to s new turn.silent a f h =
-    (f true h.0, h.1 ∙ ap (λ (t : Taken). t.item) (items_are b o k x y st from to h.0), h.2 ∙ items_below b o _ s ∙ ap (λ (t : Taken). t.above ++ s) (items_are b o k x y st from to h.0))
-items_at b o k x y st from to s new (turn.refused q) a f h = f false h.0 ∙ ap (λ z. Refuse (no_node Flow) z) (sym (no_context Flow a.opener)) ∙ ap (λ z. Refuse z (context_if z a.opener)) (sym h.1)
-items_at b o k x y st from to s new turn.memory a f h = tt
-items_at b o k x y st from to s new (turn.named j) a f h = absurd h
-items_at b o k x y st from to s new (turn.left j) a f h = absurd h
-items_at b o k x y st from to s new turn.opened a f h = absurd h
-items_at b o k x y st from to s new turn.over a f h = absurd h
+items_at : (b : Brackets) (o : yaml_mark_t) (k : yaml_token_type_t) (u : TokenSlot)
+    (s : List State) (new : Properties → List State) (r : Seen) (a : Around)
+    → ((n : Bool) → starts_node Flow (type_of (whole_of k u).body) ≡ n
+    → choice_at (state.items b o) (type_of (whole_of k u).body) ≡ chosen_at false n Flow)
+    → Nodes Flow (whole_of k u) (lone_below b (state.more b o ∷ s)) r a new
+    → Turns (state.items b o) (whole_of k u) s r a new
+items_at b o k u s new (turn.node j) a f h =
+    (f true h.0, h.1 ∙ ap (λ (t : Taken). t.item) (items_are b o k u h.0), λ q. h.2 q ∙ items_below b o _ s ∙ ap (λ (t : Taken). t.above ++ s) (items_are b o k u h.0))
+items_at b o k u s new (turn.given j) a f h =
+    (f true h.0, h.1 ∙ ap (λ (t : Taken). t.item) (items_are b o k u h.0), λ q. h.2 q ∙ items_below b o _ s ∙ ap (λ (t : Taken). t.above ++ s) (items_are b o k u h.0))
+items_at b o k u s new turn.silent a f h =
+    (f true h.0, h.1 ∙ ap (λ (t : Taken). t.item) (items_are b o k u h.0), h.2 ∙ items_below b o _ s ∙ ap (λ (t : Taken). t.above ++ s) (items_are b o k u h.0))
+items_at b o k u s new (turn.refused q) a f h = f false h.0 ∙ ap (λ z. Refuse (no_node Flow) z) (sym (no_context Flow a.opener)) ∙ ap (λ z. Refuse z (context_if z a.opener)) (sym h.1)
+items_at b o k u s new turn.memory a f h = tt
+items_at b o k u s new r a f h = absurd h
 
-pub items_node : (b : Brackets) (o : yaml_mark_t) (k : yaml_token_type_t) (x y : List ℕ)
-    (st : Extra) (from to : yaml_mark_t) (s : List State) (new : Properties → List State) (r : Seen)
-    (a : Around)
+pub items_node : (b : Brackets) (o : yaml_mark_t) (k : yaml_token_type_t) (u : TokenSlot)
+    (s : List State) (new : Properties → List State) (r : Seen) (a : Around)
     → (k ≡ kind.YAML_KEY_TOKEN → ⊥) → (k ≡ end_in b → ⊥)
-    → Nodes Flow (token_at (body_by k x y st) from to) (lone_below b (state.more b o ∷ s)) r a new
-    → Turns (state.items b o) (token_at (body_by k x y st) from to) s r a new
-items_node b o k x y st from to s new r a e c h =
-    items_at b o k x y st from to s new r a (λ n i. items_choose b o (type_of (body_by k x y st)) n (λ z. e (sym (type_is k x y st) ∙ z)) (ap (closes b) (type_is k x y st) ∙ none_closes b k c) i) h
+    → Nodes Flow (whole_of k u) (lone_below b (state.more b o ∷ s)) r a new
+    → Turns (state.items b o) (whole_of k u) s r a new
+items_node b o k u s new r a e c h =
+    items_at b o k u s new r a (λ n i. items_choose b o (type_of (whole_of k u).body) n (λ z. e (sym (type_is k u) ∙ z)) (ap (closes b) (type_is k u) ∙ none_closes b k c) i) h
 
 -- ---- a node that may stand anywhere
 
@@ -226,34 +205,26 @@ begins_node kind.YAML_ANCHOR_TOKEN = true
 begins_node kind.YAML_TAG_TOKEN = true
 begins_node k = false
 
-pub names_node : (k : yaml_token_type_t)
-    → (k ≡ kind.YAML_ALIAS_TOKEN) ⊎ ((k ≡ kind.YAML_ANCHOR_TOKEN) ⊎ (k ≡ kind.YAML_TAG_TOKEN))
-    → begins_node k ≡ true
-names_node k (inl e) = ap begins_node e
-names_node k (inr (inl e)) = ap begins_node e
-names_node k (inr (inr e)) = ap begins_node e
-
-none_follows : (p : Site) (k : yaml_token_type_t) (x y : List ℕ) (st : Extra)
-    → begins_node k ≡ true → follows p (type_of (body_by k x y st)) ≡ false
-none_follows p kind.YAML_DOCUMENT_END_TOKEN x y st h = absurd (false≢true h)
-none_follows p kind.YAML_STREAM_END_TOKEN x y st h = absurd (false≢true h)
-none_follows p kind.YAML_VERSION_DIRECTIVE_TOKEN x y st h = absurd (false≢true h)
-none_follows p kind.YAML_TAG_DIRECTIVE_TOKEN x y st h = absurd (false≢true h)
-none_follows p kind.YAML_DOCUMENT_START_TOKEN x y st h = absurd (false≢true h)
-none_follows p kind.YAML_BLOCK_ENTRY_TOKEN x y st h = absurd (false≢true h)
-none_follows p kind.YAML_BLOCK_END_TOKEN x y st h = absurd (false≢true h)
-none_follows p kind.YAML_KEY_TOKEN x y st h = absurd (false≢true h)
-none_follows p kind.YAML_VALUE_TOKEN x y st h = absurd (false≢true h)
-none_follows p kind.YAML_FLOW_ENTRY_TOKEN x y st h = absurd (false≢true h)
-none_follows p kind.YAML_FLOW_SEQUENCE_END_TOKEN x y st h = absurd (false≢true h)
-none_follows p kind.YAML_FLOW_MAPPING_END_TOKEN x y st h = absurd (false≢true h)
-none_follows site.Root k x y st h = refl
-none_follows site.Entry k x y st h = refl
-none_follows (site.IndentlessEntry z) k x y st h = refl
-none_follows (site.BlockPair side.Key) k x y st h = refl
-none_follows (site.BlockPair side.Value) k x y st h = refl
-none_follows (site.FlowPair brackets.Sequence z) k x y st h = refl
-none_follows (site.FlowPair brackets.Mapping z) k x y st h = refl
+none_follows : (p : Site) (k : yaml_token_type_t) → begins_node k ≡ true → follows p k ≡ false
+none_follows p kind.YAML_DOCUMENT_END_TOKEN h = absurd (false≢true h)
+none_follows p kind.YAML_STREAM_END_TOKEN h = absurd (false≢true h)
+none_follows p kind.YAML_VERSION_DIRECTIVE_TOKEN h = absurd (false≢true h)
+none_follows p kind.YAML_TAG_DIRECTIVE_TOKEN h = absurd (false≢true h)
+none_follows p kind.YAML_DOCUMENT_START_TOKEN h = absurd (false≢true h)
+none_follows p kind.YAML_BLOCK_ENTRY_TOKEN h = absurd (false≢true h)
+none_follows p kind.YAML_BLOCK_END_TOKEN h = absurd (false≢true h)
+none_follows p kind.YAML_KEY_TOKEN h = absurd (false≢true h)
+none_follows p kind.YAML_VALUE_TOKEN h = absurd (false≢true h)
+none_follows p kind.YAML_FLOW_ENTRY_TOKEN h = absurd (false≢true h)
+none_follows p kind.YAML_FLOW_SEQUENCE_END_TOKEN h = absurd (false≢true h)
+none_follows p kind.YAML_FLOW_MAPPING_END_TOKEN h = absurd (false≢true h)
+none_follows site.Root k h = refl
+none_follows site.Entry k h = refl
+none_follows (site.IndentlessEntry z) k h = refl
+none_follows (site.BlockPair side.Key) k h = refl
+none_follows (site.BlockPair side.Value) k h = refl
+none_follows (site.FlowPair brackets.Sequence z) k h = refl
+none_follows (site.FlowPair brackets.Mapping z) k h = refl
 
 pub awaits : (z : Await) (b : yaml_mark_t) (q : Properties) → (z ≡ await.Nothing → ⊥)
     → (z ≡ await.Rest → ⊥) → (z ≡ await.RestOfKey → ⊥) → (z ≡ await.RestOfValue → ⊥)
@@ -269,23 +240,22 @@ differs : (z y : Await) → is_begun z ≡ false → is_begun y ≡ true → z �
 differs z y e f i = false≢true (sym e ∙ ap is_begun i ∙ f)
 
 pub node_anywhere : (z : Await) (b : yaml_mark_t) (q : Properties) (w : Wants)
-    (k : yaml_token_type_t) (x y : List ℕ) (st : Extra) (from to : yaml_mark_t) (s : List State)
+    (k : yaml_token_type_t) (u : TokenSlot) (s : List State)
     (new : Properties → List State) (r : Seen) (a : Around)
     → is_begun z ≡ false → w ≡ wants_of (site_of z) → begins_node k ≡ true
-    → Nodes w (token_at (body_by k x y st) from to) s r a new
-    → TurnsOn (await_of z b q ++ s) (token_at (body_by k x y st) from to) r a new
-node_anywhere z b q w k x y st from to s new r a e i h n =
+    → Nodes w (whole_of k u) s r a new
+    → TurnsOn (await_of z b q ++ s) (whole_of k u) r a new
+node_anywhere z b q w k u s new r a e i h n =
     rw (awaits z b q (differs z await.Nothing e refl) (differs z await.Rest e refl) (differs z await.RestOfKey e refl) (differs z await.RestOfValue e refl) (differs z await.RestInside e refl))
-    (optional_node (site_of z) b w (token_at (body_by k x y st) from to) s new r a (none_follows (site_of z) k x y st h) i n)
+    (optional_node (site_of z) b w k u s new r a (none_follows (site_of z) k h) i n)
 
-pub anywhere : (z : Await) (b : yaml_mark_t) (q : Properties) (k : yaml_token_type_t) (x y : List ℕ)
-    (st : Extra) (from to : yaml_mark_t) (s : List State) (new : Properties → List State) (r : Seen)
-    (a : Around)
+pub anywhere : (z : Await) (b : yaml_mark_t) (q : Properties) (k : yaml_token_type_t)
+    (u : TokenSlot) (s : List State) (new : Properties → List State) (r : Seen) (a : Around)
     → is_begun z ≡ false → IsBare k → begins_node k ≡ true
-    → ((w : Wants) → Contents w (token_at (body_by k x y st) from to) s r new)
-    → TurnsOn (await_of z b q ++ s) (token_at (body_by k x y st) from to) r a new
-anywhere z b q k x y st from to s new r a e i h c =
-    node_anywhere z b q (wants_of (site_of z)) k x y st from to s new r a e refl h (bare_node (wants_of (site_of z)) k x y st from to s new r a i (c _))
+    → ((w : Wants) → Contents w (whole_of k u) s r new)
+    → TurnsOn (await_of z b q ++ s) (whole_of k u) r a new
+anywhere z b q k u s new r a e i h c =
+    node_anywhere z b q (wants_of (site_of z)) k u s new r a e refl h (bare_node (wants_of (site_of z)) k u s new r a i (c _))
 
 -- the rest of a node, whatever it is
 pub behind : (z : Await) (b : yaml_mark_t) (q : Properties) (t : Token) (s : List State)

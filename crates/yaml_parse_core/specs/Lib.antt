@@ -1,5 +1,4 @@
 pub mod Extra
 pub mod Views
 pub mod Turns
-pub mod Owned
 pub mod Seen

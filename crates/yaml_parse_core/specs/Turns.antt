@@ -2,7 +2,7 @@
 use Rattle.std.specs.Prelude.{◌≡◌, Bool, true, false, List, [], ◌∷◌, ◌++◌, Option, Some, None}
 use Rattle.yaml_parse_model.specs.declared.yaml_mark_t.{yaml_mark_t}
 use Rattle.yaml_parse_model.specs.Tokens.{Token, type_of}
-use Rattle.yaml_parse_core.specs.Views.{Around, named_item, node_item, told_item, implied_item}
+use Rattle.yaml_parse_core.specs.Views.{Around, around_by, around_of, states_at, states_by, named_item, node_item, told_item, implied_item}
 use Rattle.yaml_parse_grammar.specs.declared.name.Choice.TheVariants.{Refuse, Take, Leave, Open}
 use Rattle.yaml_parse_grammar.specs.declared.problem.ParseProblem.{ParseProblem}
 use Rattle.yaml_parse_grammar.specs.declared.problem.ParseProblem.TheVariants as problem
@@ -12,7 +12,11 @@ use Rattle.yaml_parse_grammar.specs.States as state
 use Rattle.yaml_parse_grammar.specs.declared.name.Site.{Site}
 use Rattle.yaml_parse_grammar.specs.Machine.{choice_at, taken_at, left_at, opened, starts_content, starts_node, content_taken, node_taken, no_node}
 use Rattle.yaml_parse_grammar.specs.declared.name.Wants.{Wants}
-use Rattle.yaml_parse_core.specs.Seen.{Seen}
+use Rattle.yaml_parse_core.specs.declared.level.Level.{Level}
+use Rattle.yaml_parse_core.specs.declared.machine.Machine.{Machine}
+use Rattle.yaml_parse_core.specs.declared.machine.Turn.{Turn}
+use Rattle.yaml_parse_core.specs.declared.told.Waiting.{Waiting}
+use Rattle.yaml_parse_core.specs.Seen.{Seen, seen}
 use Rattle.yaml_parse_core.specs.Seen as turn
 
 -- where the context of a refusal begins: at what is open, for the faults that tell it
@@ -49,6 +53,15 @@ Turns x t s turn.over a new = ⊥
 abbrev pub TurnsOn : List State → Token → Seen → Around → (Properties → List State) → Type 0
 TurnsOn [] t r a new = (r ≡ turn.over) × (new a.properties ≡ [])
 TurnsOn (x ∷ s) t r a new = Turns x t s r a new
+
+-- The same of the states that stand then, and the properties that wait.
+abbrev pub TurnsTo : List State → Token → Seen → Machine → Waiting → Type 0
+TurnsTo s t r m w = TurnsOn s t r (around_of m w) (states_by m)
+
+-- A turn of that level, which takes no properties: the same whatever waits.
+abbrev pub LevelTurns : Level → Token → Machine → Turn → Machine → Type 0
+LevelTurns x t old r new = (p : Properties)
+    → TurnsOn (states_at x old) t (seen r) (around_by new p) (states_by new)
 
 -- A node's content behind properties, which may be none: taken, or none starts there.
 abbrev pub Contents : Wants → Token → List State → Seen → (Properties → List State) → Type 0

@@ -1,4 +1,4 @@
--- What tokens, levels and answers mean, where places and texts mean marks and bytes.
+-- What tokens, levels and answers mean.
 use Rattle.std.specs.Prelude.{ℕ, Bool, true, false, List, [], ◌∷◌, ◌++◌, reverse, Option, Some, None}
 use Rattle.yaml_parse_model.specs.declared.yaml_mark_t.{yaml_mark_t}
 use Rattle.yaml_parse_model.specs.declared.yaml_token_type_t.{yaml_token_type_t}
@@ -16,7 +16,8 @@ use Rattle.yaml_parse_grammar.specs.Items as item
 use Rattle.yaml_parse_grammar.specs.Trees.{flow_shape}
 use Rattle.yaml_parse_grammar.specs.States.{State}
 use Rattle.yaml_parse_grammar.specs.States as state
-use Rattle.yaml_parse_model.specs.Slots.{Extra, body_by}
+use Rattle.yaml_parse_model.specs.Slots.{body_by, extra_of}
+use Rattle.yaml_parse_model.specs.declared.TokenSlot.{TokenSlot}
 use Rattle.yaml_parse_core.specs.Extra.{value_in, style_in, name_in, encoding_in, major_in, minor_in, handle_in, prefix_in}
 use Rattle.yaml_parse_core.specs.declared.level.Await.{Await}
 use Rattle.yaml_parse_core.specs.declared.level.Await.TheVariants as await
@@ -91,13 +92,13 @@ is_begun await.RestInside = true
 is_begun a = false
 
 -- the states of kept levels, the topmost first
-unfoldable pub levels_of : {P : Type 0} → (P → yaml_mark_t) → List (Kept P) → List State
-levels_of mark [] = []
-levels_of mark (k ∷ ks) = level_over k.level (mark k.opener) (levels_of mark ks)
+unfoldable pub levels_of : List Kept → List State
+levels_of [] = []
+levels_of (k ∷ ks) = level_over k.level k.opener (levels_of ks)
 
 -- of a list whose last is the topmost
-abbrev pub stack_of : {P : Type 0} → (P → yaml_mark_t) → List (Kept P) → List State
-stack_of mark ks = levels_of mark (reverse ks)
+abbrev pub stack_of : List Kept → List State
+stack_of ks = levels_of (reverse ks)
 
 -- ---- items
 
@@ -110,13 +111,13 @@ tag_if false x y m = None
 tag_if true x y m = Some (record { handle = x; suffix = y; mark = m })
 
 -- the properties that wait for their node
-abbrev pub properties_of : {X P : Type 0} → (X → List ℕ) → (P → yaml_mark_t) → Waiting X P
+abbrev pub properties_of : Waiting
     → Properties
-properties_of bytes mark w = record {
-  anchor = text_if w.has_anchor (bytes w.anchor);
-  tag = tag_if w.has_tag (bytes w.handle) (bytes w.suffix) (mark w.tag_from);
-  from = mark w.from;
-  to = mark w.to;
+properties_of w = record {
+  anchor = text_if w.has_anchor w.anchor.items;
+  tag = tag_if w.has_tag w.handle.items w.suffix.items w.tag_from;
+  from = w.from;
+  to = w.to;
 }
 
 -- what a node is whose content begins with that token
@@ -165,15 +166,22 @@ implied_item implied.MappingEnd p b start = item_at (item.event event.mapping_en
 implied_item implied.DocumentEnd p b start = item_at (item.event (event.document_end true)) start
     start
 
+-- the states of what is open, if that level is the topmost
+abbrev pub states_at : Level → Machine → List State
+states_at x m = level_over x m.top.opener (stack_of m.below.items)
+
+-- the states of what is open
+abbrev pub open_of : Machine → List State
+open_of m = states_at m.top.level m
+
 -- the states of a machine, the topmost first, by the properties that wait for their node
-abbrev pub states_by : {P : Type 0} → (P → yaml_mark_t) → Machine P → Properties → List State
-states_by mark m p = await_of m.awaited (mark m.before) p
-    ++ level_over m.top.level (mark m.top.opener) (stack_of mark m.below.items)
+abbrev pub states_by : Machine → Properties → List State
+states_by m p = await_of m.awaited m.before p ++ open_of m
 
 -- the same, where they wait in that slot
-abbrev pub states_of : {X P : Type 0} → (X → List ℕ) → (P → yaml_mark_t) → Machine P → Waiting X P
+abbrev pub states_of : Machine → Waiting
     → List State
-states_of bytes mark m s = states_by mark m (properties_of bytes mark s)
+states_of m s = states_by m (properties_of s)
 
 -- What the machine tells besides: where what is open begins, the end of the indicator before a node, and the properties that wait.
 pub record Around : Type 0 where
@@ -181,17 +189,17 @@ pub record Around : Type 0 where
   pub before : yaml_mark_t
   pub properties : Properties
 
-abbrev pub around_by : {P : Type 0} → (P → yaml_mark_t) → Machine P → Properties → Around
-around_by mark m p = record { opener = mark m.top.opener; before = mark m.before; properties = p }
+abbrev pub around_by : Machine → Properties → Around
+around_by m p = record { opener = m.top.opener; before = m.before; properties = p }
 
-abbrev pub around_of : {X P : Type 0} → (X → List ℕ) → (P → yaml_mark_t) → Machine P → Waiting X P
+abbrev pub around_of : Machine → Waiting
     → Around
-around_of bytes mark m w = around_by mark m (properties_of bytes mark w)
+around_of m w = around_by m (properties_of w)
 
--- a token of that kind, with those places and texts
-abbrev pub whole_of : {P : Type 0} → (P → yaml_mark_t) → yaml_token_type_t → Extra → P → P
-    → List ℕ → List ℕ → Token
-whole_of mark k st from to x y = token_at (body_by k x y st) (mark from) (mark to)
+-- the token in the slot, if its kind is that one
+abbrev pub whole_of : yaml_token_type_t → TokenSlot → Token
+whole_of k t = token_at (body_by k t.body.text.items t.body.other.items (extra_of t.body))
+    t.start_mark t.end_mark
 
 -- no state is left
 abbrev pub is_nothing : List State → Bool

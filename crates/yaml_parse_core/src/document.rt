@@ -1,34 +1,22 @@
 //! Between documents.
 
-ghost use Rattle.std.specs.Prelude.{◌≡◌, ℕ, List, ◌∷◌};
+ghost use Rattle.std.specs.Prelude.{◌≡◌};
 ghost use Rattle.yaml_parse_core.specs.declared.level.Await.TheVariants.{Nothing};
 ghost use Rattle.yaml_parse_core.specs.declared.level.Level.TheVariants as level;
-ghost use Rattle.yaml_parse_grammar.specs.Items.{Properties};
-ghost use Rattle.yaml_parse_grammar.specs.States as state;
-ghost use Rattle.yaml_parse_core.specs.Views.{around_by, stack_of, states_by, whole_of};
-ghost use Rattle.yaml_parse_core.specs.Seen.{seen};
-ghost use Rattle.yaml_parse_core.specs.Turns.{Turns};
+ghost use Rattle.yaml_parse_core.specs.Views.{whole_of};
+ghost use Rattle.yaml_parse_core.specs.Turns.{LevelTurns};
 
 use crate::level::{Await, Level};
 use crate::machine::{Machine, Turn, await_behind, come_back};
-use crate::token::yaml_lent_token_t;
-use yaml_parse_model::yaml_token_type_t;
+use yaml_parse_model::{TokenSlot, mark_again, yaml_token_type_t};
 
 // The stream's start.
 // Out of line: it is met twice a document.
 #[inline(never)]
-pub(crate) fn at_stream<T: yaml_lent_token_t>(
-    machine: &mut Machine<T::Place>,
-    kind: yaml_token_type_t,
-    token: &T,
-) -> Turn
+pub(crate) fn at_stream(machine: &mut Machine, kind: yaml_token_type_t, token: &TokenSlot) -> Turn
     requires awaited { machine.old.awaited ≡ Nothing }
     requires level { machine.old.top.level ≡ level.Stream }
-    ensures { (s : List ℕ) (p : Properties) → Turns state.stream
-        (whole_of (T.mark s) kind (T.extra token.now) (T.from token.now) (T.to token.now)
-        (T.text s token.now) (T.other s token.now))
-        (stack_of (T.mark s) machine.old.below.items) (seen result)
-        (around_by (T.mark s) machine.new p) (states_by (T.mark s) machine.new) }
+    ensures { LevelTurns level.Stream (whole_of kind token.now) machine.old result machine.new }
 {
     match kind {
         yaml_token_type_t::YAML_STREAM_START_TOKEN => {
@@ -42,18 +30,10 @@ pub(crate) fn at_stream<T: yaml_lent_token_t>(
 // In front of the first document.
 // Out of line: it is met twice a document.
 #[inline(never)]
-pub(crate) fn at_first<T: yaml_lent_token_t>(
-    machine: &mut Machine<T::Place>,
-    kind: yaml_token_type_t,
-    token: &T,
-) -> Turn
+pub(crate) fn at_first(machine: &mut Machine, kind: yaml_token_type_t, token: &TokenSlot) -> Turn
     requires awaited { machine.old.awaited ≡ Nothing }
     requires level { machine.old.top.level ≡ level.First }
-    ensures { (s : List ℕ) (p : Properties) → Turns state.first
-        (whole_of (T.mark s) kind (T.extra token.now) (T.from token.now) (T.to token.now)
-        (T.text s token.now) (T.other s token.now))
-        (stack_of (T.mark s) machine.old.below.items) (seen result)
-        (around_by (T.mark s) machine.new p) (states_by (T.mark s) machine.new) }
+    ensures { LevelTurns level.First (whole_of kind token.now) machine.old result machine.new }
 {
     match kind {
         yaml_token_type_t::YAML_DOCUMENT_START_TOKEN => {
@@ -67,12 +47,12 @@ pub(crate) fn at_first<T: yaml_lent_token_t>(
         }
         yaml_token_type_t::YAML_VERSION_DIRECTIVE_TOKEN => {
             machine.top.level = Level::Directives;
-            machine.top.opener = token.from();
+            machine.top.opener = mark_again(&token.start_mark);
             Turn::VersionDirective
         }
         yaml_token_type_t::YAML_TAG_DIRECTIVE_TOKEN => {
             machine.top.level = Level::Directives;
-            machine.top.opener = token.from();
+            machine.top.opener = mark_again(&token.start_mark);
             Turn::TagDirective
         }
         yaml_token_type_t::YAML_SCALAR_TOKEN
@@ -84,7 +64,7 @@ pub(crate) fn at_first<T: yaml_lent_token_t>(
         | yaml_token_type_t::YAML_ANCHOR_TOKEN
         | yaml_token_type_t::YAML_TAG_TOKEN => {
             machine.awaited = Await::Root;
-            machine.before = token.from();
+            machine.before = mark_again(&token.start_mark);
             machine.top.level = Level::Document;
             Turn::Opened
         }
@@ -95,18 +75,14 @@ pub(crate) fn at_first<T: yaml_lent_token_t>(
 // Behind a document.
 // Out of line: it is met twice a document.
 #[inline(never)]
-pub(crate) fn at_documents<T: yaml_lent_token_t>(
-    machine: &mut Machine<T::Place>,
+pub(crate) fn at_documents(
+    machine: &mut Machine,
     kind: yaml_token_type_t,
-    token: &T,
+    token: &TokenSlot,
 ) -> Turn
     requires awaited { machine.old.awaited ≡ Nothing }
     requires level { machine.old.top.level ≡ level.Documents }
-    ensures { (s : List ℕ) (p : Properties) → Turns state.documents
-        (whole_of (T.mark s) kind (T.extra token.now) (T.from token.now) (T.to token.now)
-        (T.text s token.now) (T.other s token.now))
-        (stack_of (T.mark s) machine.old.below.items) (seen result)
-        (around_by (T.mark s) machine.new p) (states_by (T.mark s) machine.new) }
+    ensures { LevelTurns level.Documents (whole_of kind token.now) machine.old result machine.new }
 {
     match kind {
         yaml_token_type_t::YAML_DOCUMENT_START_TOKEN => {
@@ -120,12 +96,12 @@ pub(crate) fn at_documents<T: yaml_lent_token_t>(
         }
         yaml_token_type_t::YAML_VERSION_DIRECTIVE_TOKEN => {
             machine.top.level = Level::Directives;
-            machine.top.opener = token.from();
+            machine.top.opener = mark_again(&token.start_mark);
             Turn::VersionDirective
         }
         yaml_token_type_t::YAML_TAG_DIRECTIVE_TOKEN => {
             machine.top.level = Level::Directives;
-            machine.top.opener = token.from();
+            machine.top.opener = mark_again(&token.start_mark);
             Turn::TagDirective
         }
         yaml_token_type_t::YAML_DOCUMENT_END_TOKEN => Turn::Silent,
@@ -136,19 +112,14 @@ pub(crate) fn at_documents<T: yaml_lent_token_t>(
 // Behind directives.
 // Out of line: it is met twice a document.
 #[inline(never)]
-pub(crate) fn at_directives<T: yaml_lent_token_t>(
-    machine: &mut Machine<T::Place>,
+pub(crate) fn at_directives(
+    machine: &mut Machine,
     kind: yaml_token_type_t,
-    token: &T,
+    token: &TokenSlot,
 ) -> Turn
     requires awaited { machine.old.awaited ≡ Nothing }
     requires level { machine.old.top.level ≡ level.Directives }
-    ensures { (s : List ℕ) (p : Properties) → Turns
-        (state.directives (T.mark s machine.old.top.opener))
-        (whole_of (T.mark s) kind (T.extra token.now) (T.from token.now) (T.to token.now)
-        (T.text s token.now) (T.other s token.now))
-        (stack_of (T.mark s) machine.old.below.items) (seen result)
-        (around_by (T.mark s) machine.new p) (states_by (T.mark s) machine.new) }
+    ensures { LevelTurns level.Directives (whole_of kind token.now) machine.old result machine.new }
 {
     match kind {
         yaml_token_type_t::YAML_DOCUMENT_START_TOKEN => {
@@ -165,18 +136,10 @@ pub(crate) fn at_directives<T: yaml_lent_token_t>(
 // Behind a document's root.
 // Out of line: it is met twice a document.
 #[inline(never)]
-pub(crate) fn at_document<T: yaml_lent_token_t>(
-    machine: &mut Machine<T::Place>,
-    kind: yaml_token_type_t,
-    token: &T,
-) -> Turn
+pub(crate) fn at_document(machine: &mut Machine, kind: yaml_token_type_t, token: &TokenSlot) -> Turn
     requires awaited { machine.old.awaited ≡ Nothing }
     requires level { machine.old.top.level ≡ level.Document }
-    ensures { (s : List ℕ) (p : Properties) → Turns state.document_end
-        (whole_of (T.mark s) kind (T.extra token.now) (T.from token.now) (T.to token.now)
-        (T.text s token.now) (T.other s token.now))
-        (state.documents ∷ stack_of (T.mark s) machine.old.below.items) (seen result)
-        (around_by (T.mark s) machine.new p) (states_by (T.mark s) machine.new) }
+    ensures { LevelTurns level.Document (whole_of kind token.now) machine.old result machine.new }
 {
     machine.top.level = Level::Documents;
     match kind {

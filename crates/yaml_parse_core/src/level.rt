@@ -1,5 +1,7 @@
 //! What is awaited, and what is open.
 
+use yaml_parse_model::yaml_mark_t;
+
 /// The node that is awaited, by its place; or the rest of one behind properties, by what may stand there.
 #[derive(Clone, Copy)]
 pub enum Await {
@@ -52,7 +54,7 @@ pub enum Level {
 
 /// An open level, and the place where it begins.
 #[derive(Clone, Copy)]
-pub struct Kept<P> {
+pub struct Kept {
     pub level: Level,
-    pub opener: P,
+    pub opener: yaml_mark_t,
 }

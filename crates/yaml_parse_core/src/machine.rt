@@ -1,15 +1,14 @@
 //! The machine: what is awaited, the topmost level, and those below it.
 
 ghost use Rattle.std.specs.Prelude.{◌≡◌, ◌∷◌, [], OnOk, ◌<◌, vec_len, vec_capacity};
-ghost use Rattle.yaml_parse_model.specs.declared.yaml_mark_t.{yaml_mark_t};
 ghost use Rattle.yaml_parse_grammar.specs.Items.{Properties};
 ghost use Rattle.yaml_parse_grammar.specs.States as state;
 ghost use Rattle.yaml_parse_grammar.specs.Remaining.{is_between as are_between};
-ghost use Rattle.yaml_parse_core.specs.Views.{stack_of, level_over, states_by, is_nothing};
+ghost use Rattle.yaml_parse_core.specs.Views.{stack_of, open_of, states_by, is_nothing};
 
 use crate::level::{Await, Kept, Level};
-use crate::token::yaml_lent_token_t;
 use std::alloc::{AllocError, Global};
+use yaml_parse_model::{TokenSlot, mark_again, yaml_mark_t};
 
 /// What a turn did: one byte, since the compiler follows a pair of them no further.
 #[derive(Clone, Copy)]
@@ -63,22 +62,22 @@ pub enum Turn {
     Over,
 }
 
-/// The machine, in places `P`.
+/// The machine.
 #[derive(Drop)]
-pub struct Machine<P> {
+pub struct Machine {
     pub awaited: Await,
     /// The end of the indicator before the node that is awaited.
-    pub before: P,
+    pub before: yaml_mark_t,
     /// The topmost level.
-    pub top: Kept<P>,
+    pub top: Kept,
     /// The levels below it, the outermost first.
-    pub below: Vec<Kept<P>>,
+    pub below: Vec<Kept>,
 }
 
 // Room for a level.
 // Inlined: mostly one comparison, where `reserve` is a call.
 #[inline(always)]
-fn make_room<P: Copy>(stack: &mut Vec<Kept<P>>) -> Result<(), AllocError>
+fn make_room(stack: &mut Vec<Kept>) -> Result<(), AllocError>
     ensures items { stack.new.items ≡ stack.old.items }
     ensures room { OnOk result (vec_len stack.new < vec_capacity stack.new) }
 {
@@ -92,11 +91,9 @@ fn make_room<P: Copy>(stack: &mut Vec<Kept<P>>) -> Result<(), AllocError>
 // The level that was kept last comes back.
 // In its two parts, as it is kept: where the topmost level is copied whole it is read by its address, which is made for each token.
 #[inline(always)]
-pub(crate) fn come_back<P: Copy>(machine: &mut Machine<P>)
+pub(crate) fn come_back(machine: &mut Machine)
     ensures awaited { machine.new.awaited ≡ machine.old.awaited }
-    ensures stack { (mark : P → yaml_mark_t) → level_over machine.new.top.level
-        (mark machine.new.top.opener) (stack_of mark machine.new.below.items)
-        ≡ stack_of mark machine.old.below.items }
+    ensures stack { open_of machine.new ≡ stack_of machine.old.below.items }
 {
     match machine.below.pop() {
         Some(kept) => {
@@ -112,53 +109,44 @@ pub(crate) fn come_back<P: Copy>(machine: &mut Machine<P>)
 // A node is awaited behind the token, which is an indicator.
 // Inlined, and apart from any choice: so the room of the place ends here, and not behind a join.
 #[inline(always)]
-pub(crate) fn await_behind<T: yaml_lent_token_t>(
-    machine: &mut Machine<T::Place>,
-    awaited: Await,
-    token: &T,
-)
-    ensures { machine.new ≡ record machine.old { awaited = awaited; before = T.to token.now } }
+pub(crate) fn await_behind(machine: &mut Machine, awaited: Await, token: &TokenSlot)
+    ensures { machine.new ≡ record machine.old { awaited = awaited; before = token.now.end_mark } }
 {
     machine.awaited = awaited;
-    machine.before = token.to();
+    machine.before = mark_again(&token.end_mark);
 }
 
 // A level opens on the one that is open, for which there is room.
 // Inlined, and apart from the question whether there is room: see `await_behind`.
 #[inline(always)]
-fn enter<T: yaml_lent_token_t>(machine: &mut Machine<T::Place>, level: Level, token: &T)
+fn enter(machine: &mut Machine, level: Level, token: &TokenSlot)
     requires { vec_len machine.old.below < vec_capacity machine.old.below }
     ensures awaited { machine.new.awaited ≡ machine.old.awaited }
     ensures before { machine.new.before ≡ machine.old.before }
     ensures level { machine.new.top.level ≡ level }
-    ensures opener { machine.new.top.opener ≡ T.from token.now }
-    ensures stack { (mark : T.Place → yaml_mark_t) → stack_of mark machine.new.below.items
-        ≡ level_over machine.old.top.level (mark machine.old.top.opener)
-        (stack_of mark machine.old.below.items) }
+    ensures opener { machine.new.top.opener ≡ token.now.start_mark }
+    ensures stack { stack_of machine.new.below.items ≡ open_of machine.old }
 {
     machine.below.push_reserved(Kept {
         level: machine.top.level,
         opener: machine.top.opener,
     });
     machine.top.level = level;
-    machine.top.opener = token.from();
+    machine.top.opener = mark_again(&token.start_mark);
 }
 
 // A level opens on the one that is open, where the token begins.
 #[inline(always)]
-pub(crate) fn begin<T: yaml_lent_token_t>(
-    machine: &mut Machine<T::Place>,
+pub(crate) fn begin(
+    machine: &mut Machine,
     level: Level,
-    token: &T,
+    token: &TokenSlot,
 ) -> Result<(), AllocError>
     ensures awaited { machine.new.awaited ≡ machine.old.awaited }
     ensures before { machine.new.before ≡ machine.old.before }
     ensures level { OnOk result (machine.new.top.level ≡ level) }
-    ensures opener { OnOk result (machine.new.top.opener ≡ T.from token.now) }
-    ensures stack { OnOk result ((mark : T.Place → yaml_mark_t)
-        → stack_of mark machine.new.below.items
-        ≡ level_over machine.old.top.level (mark machine.old.top.opener)
-        (stack_of mark machine.old.below.items)) }
+    ensures opener { OnOk result (machine.new.top.opener ≡ token.now.start_mark) }
+    ensures stack { OnOk result (stack_of machine.new.below.items ≡ open_of machine.old) }
 {
     match make_room(&mut machine.below) {
         Ok(()) => {
@@ -170,8 +158,8 @@ pub(crate) fn begin<T: yaml_lent_token_t>(
 }
 
 /// The machine in front of a stream; the place says nothing.
-pub fn fresh<P: Copy>(alloc: Global, place: P) -> Machine<P>
-    ensures { (mark : P → yaml_mark_t) (p : Properties) → states_by mark result p
+pub fn fresh(alloc: Global, place: yaml_mark_t) -> Machine
+    ensures { (p : Properties) → states_by result p
         ≡ state.stream ∷ [] }
 {
     Machine {
@@ -188,8 +176,8 @@ pub fn fresh<P: Copy>(alloc: Global, place: P) -> Machine<P>
 /// Nothing is left.
 // Inlined: two bytes.
 #[inline(always)]
-pub fn finish<P: Copy>(machine: &mut Machine<P>)
-    ensures { (mark : P → yaml_mark_t) (p : Properties) → states_by mark machine.new p ≡ [] }
+pub fn finish(machine: &mut Machine)
+    ensures { (p : Properties) → states_by machine.new p ≡ [] }
 {
     machine.awaited = Await::Nothing;
     machine.top.level = Level::Over;
@@ -198,9 +186,9 @@ pub fn finish<P: Copy>(machine: &mut Machine<P>)
 /// Whether nothing is left.
 // Inlined: mostly one byte.
 #[inline(always)]
-pub fn is_over<P: Copy>(machine: &Machine<P>) -> bool
-    ensures { (mark : P → yaml_mark_t) (p : Properties) → result ≡ is_nothing
-        (states_by mark machine.now p) }
+pub fn is_over(machine: &Machine) -> bool
+    ensures { (p : Properties) → result ≡ is_nothing
+        (states_by machine.now p) }
 {
     match machine.top.level {
         Level::Over => match machine.awaited {
@@ -212,9 +200,9 @@ pub fn is_over<P: Copy>(machine: &Machine<P>) -> bool
 }
 
 /// Whether no document is half taken.
-pub fn is_between<P: Copy>(machine: &Machine<P>) -> bool
-    ensures { (mark : P → yaml_mark_t) (p : Properties) → result ≡ are_between
-        (states_by mark machine.now p) }
+pub fn is_between(machine: &Machine) -> bool
+    ensures { (p : Properties) → result ≡ are_between
+        (states_by machine.now p) }
 {
     match machine.awaited {
         Await::Nothing => match machine.top.level {

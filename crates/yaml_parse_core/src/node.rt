@@ -1,38 +1,34 @@
 //! The contents of nodes.
 
-ghost use Rattle.std.specs.Prelude.{◌≡◌, true, ◌++◌, ◌∷◌, [], ℕ, List, OnOk, Some, None};
+ghost use Rattle.std.specs.Prelude.{◌≡◌, true, ◌++◌, ◌∷◌, [], OnOk, Some, None};
 ghost use Rattle.yaml_parse_model.specs.declared.yaml_mark_t.{yaml_mark_t};
-ghost use Rattle.yaml_parse_core.specs.Views.{around_of, await_of, properties_of, level_over, stack_of, states_by, whole_of};
+ghost use Rattle.yaml_parse_core.specs.Views.{around_of, await_of, properties_of, level_over, open_of, states_by, whole_of};
 ghost use Rattle.yaml_parse_core.specs.Seen.{seen};
-ghost use Rattle.yaml_parse_core.specs.Turns.{keeps, Contents, Nodes, Turns, IfRefused};
+ghost use Rattle.yaml_parse_core.specs.Turns.{keeps, Contents, Nodes, TurnsTo, IfRefused};
 ghost use Rattle.yaml_parse_core.specs.declared.level.Await.TheVariants as await;
 ghost use Rattle.yaml_parse_core.specs.declared.machine.Turn.TheVariants as turn;
 ghost use Rattle.yaml_parse_grammar.specs.States as state;
 ghost use Rattle.yaml_parse_grammar.specs.Items.{Properties};
 ghost use Rattle.yaml_parse_grammar.specs.Machine.{tag_at};
+ghost use Rattle.yaml_parse_model.specs.declared.yaml_token_type_t.{yaml_token_type_t};
 ghost use Rattle.yaml_parse_model.specs.declared.yaml_token_type_t.TheVariants as kinds;
 ghost use Rattle.yaml_parse_grammar.specs.declared.name.Wants.{Wants};
 ghost use Rattle.yaml_parse_grammar.specs.declared.name.Wants.TheVariants as wants;
 
 use crate::level::{Await, Level};
 use crate::machine::{Machine, Turn, await_behind, begin};
-use crate::token::yaml_lent_token_t;
 use crate::told::Waiting;
 use std::alloc::AllocError;
+use std::mem;
 use yaml_parse_grammar::{Side, Wants};
-use yaml_parse_model::yaml_token_type_t;
+use yaml_parse_model::{TokenSlot, mark_again, yaml_token_type_t};
 
 // A collection begins, whose parts come next.
 #[inline(always)]
-fn open<T: yaml_lent_token_t>(
-    machine: &mut Machine<T::Place>,
-    level: Level,
-    token: &T,
-) -> Result<(), AllocError>
-    ensures { OnOk result ((mark : T.Place → yaml_mark_t) (q : Properties)
-        → states_by mark machine.new q ≡ level_over level (mark (T.from token.now))
-        (level_over machine.old.top.level (mark machine.old.top.opener)
-        (stack_of mark machine.old.below.items))) }
+fn open(machine: &mut Machine, level: Level, token: &TokenSlot) -> Result<(), AllocError>
+    ensures { OnOk result ((q : Properties)
+        → states_by machine.new q ≡ level_over level token.now.start_mark
+        (open_of machine.old)) }
 {
     machine.awaited = Await::Nothing;
     begin(machine, level, token)
@@ -41,17 +37,16 @@ fn open<T: yaml_lent_token_t>(
 // A sequence begins that isn't indented: its first node comes next, behind the token.
 // Out of line: few do.
 #[inline(never)]
-fn open_others<T: yaml_lent_token_t>(
-    machine: &mut Machine<T::Place>,
+fn open_others(
+    machine: &mut Machine,
     level: Level,
     awaited: Await,
-    token: &T,
+    token: &TokenSlot,
 ) -> Result<(), AllocError>
-    ensures { OnOk result ((mark : T.Place → yaml_mark_t) (q : Properties)
-        → states_by mark machine.new q ≡ await_of awaited (mark (T.to token.now)) q
-        ++ level_over level (mark (T.from token.now))
-        (level_over machine.old.top.level (mark machine.old.top.opener)
-        (stack_of mark machine.old.below.items))) }
+    ensures { OnOk result ((q : Properties)
+        → states_by machine.new q ≡ await_of awaited token.now.end_mark q
+        ++ level_over level token.now.start_mark
+        (open_of machine.old)) }
 {
     await_behind(machine, awaited, token);
     begin(machine, level, token)
@@ -59,13 +54,10 @@ fn open_others<T: yaml_lent_token_t>(
 
 // A scalar, the content of any node.
 #[inline(always)]
-pub(crate) fn scalar<T: yaml_lent_token_t>(machine: &mut Machine<T::Place>, token: &T) -> Turn
-    ensures content { (s : List ℕ) (w : Wants) → Contents w
-        (whole_of (T.mark s) kinds.YAML_SCALAR_TOKEN (T.extra token.now)
-        (T.from token.now) (T.to token.now) (T.text s token.now) (T.other s token.now))
-        (level_over machine.old.top.level (T.mark s machine.old.top.opener)
-        (stack_of (T.mark s) machine.old.below.items)) (seen result)
-        (states_by (T.mark s) machine.new) }
+pub(crate) fn scalar(machine: &mut Machine, token: &TokenSlot) -> Turn
+    ensures content { (w : Wants) (k : yaml_token_type_t) → k ≡ kinds.YAML_SCALAR_TOKEN
+        → Contents w (whole_of k token.now) (open_of machine.old) (seen result)
+        (states_by machine.new) }
     ensures same { IfRefused (seen result) (machine.new ≡ machine.old) }
 {
     machine.awaited = Await::Nothing;
@@ -74,16 +66,10 @@ pub(crate) fn scalar<T: yaml_lent_token_t>(machine: &mut Machine<T::Place>, toke
 
 // The start of a sequence in brackets, the content of any node.
 #[inline(always)]
-pub(crate) fn flow_sequence<T: yaml_lent_token_t>(
-    machine: &mut Machine<T::Place>,
-    token: &T,
-) -> Turn
-    ensures content { (s : List ℕ) (w : Wants) → Contents w
-        (whole_of (T.mark s) kinds.YAML_FLOW_SEQUENCE_START_TOKEN (T.extra token.now)
-        (T.from token.now) (T.to token.now) (T.text s token.now) (T.other s token.now))
-        (level_over machine.old.top.level (T.mark s machine.old.top.opener)
-        (stack_of (T.mark s) machine.old.below.items)) (seen result)
-        (states_by (T.mark s) machine.new) }
+pub(crate) fn flow_sequence(machine: &mut Machine, token: &TokenSlot) -> Turn
+    ensures content { (w : Wants) (k : yaml_token_type_t) → k ≡ kinds.YAML_FLOW_SEQUENCE_START_TOKEN
+        → Contents w (whole_of k token.now) (open_of machine.old) (seen result)
+        (states_by machine.new) }
     ensures same { IfRefused (seen result) (machine.new ≡ machine.old) }
 {
     match open(machine, Level::SequenceItems, token) {
@@ -94,13 +80,10 @@ pub(crate) fn flow_sequence<T: yaml_lent_token_t>(
 
 // The start of a mapping in brackets, the content of any node.
 #[inline(always)]
-pub(crate) fn flow_mapping<T: yaml_lent_token_t>(machine: &mut Machine<T::Place>, token: &T) -> Turn
-    ensures content { (s : List ℕ) (w : Wants) → Contents w
-        (whole_of (T.mark s) kinds.YAML_FLOW_MAPPING_START_TOKEN (T.extra token.now)
-        (T.from token.now) (T.to token.now) (T.text s token.now) (T.other s token.now))
-        (level_over machine.old.top.level (T.mark s machine.old.top.opener)
-        (stack_of (T.mark s) machine.old.below.items)) (seen result)
-        (states_by (T.mark s) machine.new) }
+pub(crate) fn flow_mapping(machine: &mut Machine, token: &TokenSlot) -> Turn
+    ensures content { (w : Wants) (k : yaml_token_type_t) → k ≡ kinds.YAML_FLOW_MAPPING_START_TOKEN
+        → Contents w (whole_of k token.now) (open_of machine.old) (seen result)
+        (states_by machine.new) }
     ensures same { IfRefused (seen result) (machine.new ≡ machine.old) }
 {
     match open(machine, Level::MappingItems, token) {
@@ -111,18 +94,9 @@ pub(crate) fn flow_mapping<T: yaml_lent_token_t>(machine: &mut Machine<T::Place>
 
 // The content of a node.
 #[inline(always)]
-fn content<T: yaml_lent_token_t>(
-    machine: &mut Machine<T::Place>,
-    token: &T,
-    kind: yaml_token_type_t,
-    wants: Wants,
-) -> Turn
-    ensures content { (s : List ℕ) → Contents wants
-        (whole_of (T.mark s) kind (T.extra token.now) (T.from token.now) (T.to token.now)
-        (T.text s token.now) (T.other s token.now))
-        (level_over machine.old.top.level (T.mark s machine.old.top.opener)
-        (stack_of (T.mark s) machine.old.below.items)) (seen result)
-        (states_by (T.mark s) machine.new) }
+fn content(machine: &mut Machine, token: &TokenSlot, kind: yaml_token_type_t, wants: Wants) -> Turn
+    ensures content { Contents wants (whole_of kind token.now)
+        (open_of machine.old) (seen result) (states_by machine.new) }
     ensures same { IfRefused (seen result) (machine.new ≡ machine.old) }
 {
     match kind {
@@ -136,21 +110,17 @@ fn content<T: yaml_lent_token_t>(
 // The same, of a block collection.
 // Out of line: it isn't met once a line.
 #[inline(never)]
-fn block_content<T: yaml_lent_token_t>(
-    machine: &mut Machine<T::Place>,
-    token: &T,
+fn block_content(
+    machine: &mut Machine,
+    token: &TokenSlot,
     kind: yaml_token_type_t,
     wants: Wants,
 ) -> Turn
     requires scalar { kind ≡ kinds.YAML_SCALAR_TOKEN → ⊥ }
     requires sequence { kind ≡ kinds.YAML_FLOW_SEQUENCE_START_TOKEN → ⊥ }
     requires mapping { kind ≡ kinds.YAML_FLOW_MAPPING_START_TOKEN → ⊥ }
-    ensures content { (s : List ℕ) → Contents wants
-        (whole_of (T.mark s) kind (T.extra token.now) (T.from token.now) (T.to token.now)
-        (T.text s token.now) (T.other s token.now))
-        (level_over machine.old.top.level (T.mark s machine.old.top.opener)
-        (stack_of (T.mark s) machine.old.below.items)) (seen result)
-        (states_by (T.mark s) machine.new) }
+    ensures content { Contents wants (whole_of kind token.now)
+        (open_of machine.old) (seen result) (states_by machine.new) }
     ensures same { IfRefused (seen result) (machine.new ≡ machine.old) }
 {
     match wants {
@@ -180,17 +150,9 @@ fn block_content<T: yaml_lent_token_t>(
 
 // The same, where a dash stands: a key or a value may be a sequence that isn't indented.
 #[inline(always)]
-fn other_content<T: yaml_lent_token_t>(
-    machine: &mut Machine<T::Place>,
-    token: &T,
-    side: Option<Side>,
-) -> Turn
-    ensures content { (s : List ℕ) → Contents (wants.Block side)
-        (whole_of (T.mark s) kinds.YAML_BLOCK_ENTRY_TOKEN (T.extra token.now) (T.from token.now)
-        (T.to token.now) (T.text s token.now) (T.other s token.now))
-        (level_over machine.old.top.level (T.mark s machine.old.top.opener)
-        (stack_of (T.mark s) machine.old.below.items)) (seen result)
-        (states_by (T.mark s) machine.new) }
+fn other_content(machine: &mut Machine, token: &TokenSlot, side: Option<Side>) -> Turn
+    ensures content { Contents (wants.Block side) (whole_of kinds.YAML_BLOCK_ENTRY_TOKEN token.now)
+        (open_of machine.old) (seen result) (states_by machine.new) }
     ensures same { IfRefused (seen result) (machine.new ≡ machine.old) }
 {
     match side {
@@ -228,93 +190,89 @@ fn rest_of(wants: Wants) -> Await
 // The properties of a node whose first token is that anchor.
 // Out of line: few nodes have properties.
 #[inline(never)]
-fn wait_by_anchor<T: yaml_lent_token_t>(waiting: &mut Waiting<T::Text, T::Place>, token: &mut T)
-    ensures { (s : List ℕ) → properties_of (T.bytes s) (T.mark s) waiting.new
+fn wait_by_anchor(waiting: &mut Waiting, token: &mut TokenSlot)
+    ensures { properties_of waiting.new
         ≡ record {
-          anchor = Some (T.text s token.old);
+          anchor = Some token.old.body.text.items;
           tag = None;
-          from = T.mark s (T.from token.old);
-          to = T.mark s (T.to token.old);
+          from = token.old.start_mark;
+          to = token.old.end_mark;
         } }
 {
     waiting.has_anchor = true;
     waiting.has_tag = false;
-    waiting.from = token.from();
-    waiting.to = token.to();
-    token.take_text(&mut waiting.anchor);
+    waiting.from = mark_again(&token.start_mark);
+    waiting.to = mark_again(&token.end_mark);
+    mem::swap(&mut token.body.text, &mut waiting.anchor);
 }
 
 // The properties of a node whose first token is that tag.
 // Out of line: see `wait_by_anchor`.
 #[inline(never)]
-fn wait_by_tag<T: yaml_lent_token_t>(waiting: &mut Waiting<T::Text, T::Place>, token: &mut T)
-    ensures { (s : List ℕ) → properties_of (T.bytes s) (T.mark s) waiting.new
+fn wait_by_tag(waiting: &mut Waiting, token: &mut TokenSlot)
+    ensures { properties_of waiting.new
         ≡ record {
           anchor = None;
-          tag = Some (tag_at (T.text s token.old) (T.other s token.old)
-              (T.mark s (T.from token.old)));
-          from = T.mark s (T.from token.old);
-          to = T.mark s (T.to token.old);
+          tag = Some (tag_at token.old.body.text.items token.old.body.other.items
+              token.old.start_mark);
+          from = token.old.start_mark;
+          to = token.old.end_mark;
         } }
 {
     waiting.has_anchor = false;
     waiting.has_tag = true;
-    waiting.from = token.from();
-    waiting.to = token.to();
-    waiting.tag_from = token.from();
-    token.take_text(&mut waiting.handle);
-    token.take_other(&mut waiting.suffix);
+    waiting.from = mark_again(&token.start_mark);
+    waiting.to = mark_again(&token.end_mark);
+    waiting.tag_from = mark_again(&token.start_mark);
+    mem::swap(&mut token.body.text, &mut waiting.handle);
+    mem::swap(&mut token.body.other, &mut waiting.suffix);
 }
 
 // An anchor behind a tag.
 // Inlined, and apart from any choice: see `await_behind`.
 #[inline(always)]
-fn join_anchor<T: yaml_lent_token_t>(waiting: &mut Waiting<T::Text, T::Place>, token: &mut T)
-    ensures { (s : List ℕ) → properties_of (T.bytes s) (T.mark s) waiting.new
-        ≡ record (properties_of (T.bytes s) (T.mark s) waiting.old) {
-          anchor = Some (T.text s token.old);
-          to = T.mark s (T.to token.old);
+fn join_anchor(waiting: &mut Waiting, token: &mut TokenSlot)
+    ensures { properties_of waiting.new
+        ≡ record (properties_of waiting.old) {
+          anchor = Some token.old.body.text.items;
+          to = token.old.end_mark;
         } }
 {
     waiting.has_anchor = true;
-    waiting.to = token.to();
-    token.take_text(&mut waiting.anchor);
+    waiting.to = mark_again(&token.end_mark);
+    mem::swap(&mut token.body.text, &mut waiting.anchor);
 }
 
 // A tag behind an anchor.
 // Inlined, and apart from any choice: see `await_behind`.
 #[inline(always)]
-fn join_tag<T: yaml_lent_token_t>(waiting: &mut Waiting<T::Text, T::Place>, token: &mut T)
-    ensures { (s : List ℕ) → properties_of (T.bytes s) (T.mark s) waiting.new
-        ≡ record (properties_of (T.bytes s) (T.mark s) waiting.old) {
-          tag = Some (tag_at (T.text s token.old) (T.other s token.old)
-              (T.mark s (T.from token.old)));
-          to = T.mark s (T.to token.old);
+fn join_tag(waiting: &mut Waiting, token: &mut TokenSlot)
+    ensures { properties_of waiting.new
+        ≡ record (properties_of waiting.old) {
+          tag = Some (tag_at token.old.body.text.items token.old.body.other.items
+              token.old.start_mark);
+          to = token.old.end_mark;
         } }
 {
     waiting.has_tag = true;
-    waiting.to = token.to();
-    waiting.tag_from = token.from();
-    token.take_text(&mut waiting.handle);
-    token.take_other(&mut waiting.suffix);
+    waiting.to = mark_again(&token.end_mark);
+    waiting.tag_from = mark_again(&token.start_mark);
+    mem::swap(&mut token.body.text, &mut waiting.handle);
+    mem::swap(&mut token.body.other, &mut waiting.suffix);
 }
 
 // A node, or none starts there.
+#[tactic(auto, using(crate::proofs::Nodes::bare_node, crate::proofs::Nodes::is_bare))]
 #[inline(always)]
-pub(crate) fn node<T: yaml_lent_token_t>(
-    machine: &mut Machine<T::Place>,
-    waiting: &mut Waiting<T::Text, T::Place>,
-    token: &mut T,
+pub(crate) fn node(
+    machine: &mut Machine,
+    waiting: &mut Waiting,
+    token: &mut TokenSlot,
     kind: yaml_token_type_t,
     wants: Wants,
 ) -> Turn
-    ensures turns { (s : List ℕ) → Nodes wants
-        (whole_of (T.mark s) kind (T.extra token.old) (T.from token.old) (T.to token.old)
-        (T.text s token.old) (T.other s token.old))
-        (level_over machine.old.top.level (T.mark s machine.old.top.opener)
-        (stack_of (T.mark s) machine.old.below.items)) (seen result)
-        (around_of (T.bytes s) (T.mark s) machine.new waiting.new)
-        (states_by (T.mark s) machine.new) }
+    ensures turns { Nodes wants (whole_of kind token.old) (open_of machine.old)
+        (seen result) (around_of machine.new waiting.new) (states_by machine.new) }
     ensures kept { keeps (seen result) ≡ true → token.new ≡ token.old }
 {
     match kind {
@@ -341,7 +299,7 @@ pub(crate) fn node<T: yaml_lent_token_t>(
 
 // The node is nothing but its properties.
 #[inline(always)]
-fn alone<P: Copy>(machine: &mut Machine<P>) -> Turn
+fn alone(machine: &mut Machine) -> Turn
     ensures result { result ≡ turn.LeftProperties }
     ensures machine { machine.new ≡ record machine.old { awaited = await.Nothing } }
 {
@@ -351,23 +309,18 @@ fn alone<P: Copy>(machine: &mut Machine<P>) -> Turn
 
 // The rest of a node behind properties.
 #[inline(always)]
-pub(crate) fn at_rest<T: yaml_lent_token_t>(
-    machine: &mut Machine<T::Place>,
-    waiting: &mut Waiting<T::Text, T::Place>,
-    token: &mut T,
+pub(crate) fn at_rest(
+    machine: &mut Machine,
+    waiting: &mut Waiting,
+    token: &mut TokenSlot,
     kind: yaml_token_type_t,
     wants: Wants,
 ) -> Turn
     requires { (b : yaml_mark_t) (p : Properties)
         → await_of machine.old.awaited b p ≡ state.with_properties wants p ∷ [] }
-    ensures turns { (s : List ℕ) → Turns
-        (state.with_properties wants (properties_of (T.bytes s) (T.mark s) waiting.old))
-        (whole_of (T.mark s) kind (T.extra token.old) (T.from token.old) (T.to token.old)
-        (T.text s token.old) (T.other s token.old))
-        (level_over machine.old.top.level (T.mark s machine.old.top.opener)
-        (stack_of (T.mark s) machine.old.below.items)) (seen result)
-        (around_of (T.bytes s) (T.mark s) machine.new waiting.new)
-        (states_by (T.mark s) machine.new) }
+    ensures turns { TurnsTo
+        (state.with_properties wants (properties_of waiting.old) ∷ open_of machine.old)
+        (whole_of kind token.old) (seen result) machine.new waiting.new }
     ensures kept { keeps (seen result) ≡ true → token.new ≡ token.old }
 {
     match kind {

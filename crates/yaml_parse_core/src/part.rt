@@ -1,35 +1,24 @@
 //! Behind a node: the parts of collections.
 
-ghost use Rattle.std.specs.Prelude.{◌≡◌, ℕ, List, ◌∷◌};
+ghost use Rattle.std.specs.Prelude.{◌≡◌, ◌∷◌, []};
 ghost use Rattle.yaml_parse_core.specs.declared.level.Await.TheVariants.{Nothing};
 ghost use Rattle.yaml_parse_core.specs.declared.level.Level.TheVariants as level;
+ghost use Rattle.yaml_parse_core.specs.Views.{around_by, await_of, open_of, site_of, states_by, whole_of};
+ghost use Rattle.yaml_parse_core.specs.Seen.{seen};
+ghost use Rattle.yaml_parse_core.specs.Turns.{LevelTurns, TurnsOn};
 ghost use Rattle.yaml_parse_grammar.specs.Items.{Properties};
 ghost use Rattle.yaml_parse_grammar.specs.States as state;
-ghost use Rattle.yaml_parse_grammar.specs.declared.name.Side.TheVariants as side;
-ghost use Rattle.yaml_parse_grammar.specs.declared.name.Site.TheVariants as site;
-ghost use Rattle.yaml_parse_grammar.specs.declared.name.Brackets.TheVariants as brackets;
-ghost use Rattle.yaml_parse_core.specs.Views.{around_by, stack_of, states_by, whole_of};
-ghost use Rattle.yaml_parse_core.specs.Seen.{seen};
-ghost use Rattle.yaml_parse_core.specs.Turns.{Turns};
+ghost use Rattle.yaml_parse_model.specs.declared.yaml_mark_t.{yaml_mark_t};
 
 use crate::level::{Await, Level};
 use crate::machine::{Machine, Turn, await_behind, come_back};
-use crate::token::yaml_lent_token_t;
-use yaml_parse_model::yaml_token_type_t;
+use yaml_parse_model::{TokenSlot, yaml_token_type_t};
 
 // The parts of a block mapping.
 #[inline(always)]
-pub(crate) fn at_pairs<T: yaml_lent_token_t>(
-    machine: &mut Machine<T::Place>,
-    kind: yaml_token_type_t,
-    token: &T,
-) -> Turn
+pub(crate) fn at_pairs(machine: &mut Machine, kind: yaml_token_type_t, token: &TokenSlot) -> Turn
     requires { machine.old.awaited ≡ Nothing }
-    ensures { (s : List ℕ) (p : Properties) → Turns (state.pairs (T.mark s machine.old.top.opener))
-        (whole_of (T.mark s) kind (T.extra token.now) (T.from token.now) (T.to token.now)
-        (T.text s token.now) (T.other s token.now))
-        (stack_of (T.mark s) machine.old.below.items) (seen result)
-        (around_by (T.mark s) machine.new p) (states_by (T.mark s) machine.new) }
+    ensures { LevelTurns level.Pairs (whole_of kind token.now) machine.old result machine.new }
 {
     match kind {
         yaml_token_type_t::YAML_KEY_TOKEN => {
@@ -47,19 +36,10 @@ pub(crate) fn at_pairs<T: yaml_lent_token_t>(
 
 // The parts of a block sequence.
 #[inline(always)]
-pub(crate) fn at_entries<T: yaml_lent_token_t>(
-    machine: &mut Machine<T::Place>,
-    kind: yaml_token_type_t,
-    token: &T,
-) -> Turn
+pub(crate) fn at_entries(machine: &mut Machine, kind: yaml_token_type_t, token: &TokenSlot) -> Turn
     requires awaited { machine.old.awaited ≡ Nothing }
     requires level { machine.old.top.level ≡ level.Entries }
-    ensures { (s : List ℕ) (p : Properties) → Turns
-        (state.entries (T.mark s machine.old.top.opener))
-        (whole_of (T.mark s) kind (T.extra token.now) (T.from token.now) (T.to token.now)
-        (T.text s token.now) (T.other s token.now))
-        (stack_of (T.mark s) machine.old.below.items) (seen result)
-        (around_by (T.mark s) machine.new p) (states_by (T.mark s) machine.new) }
+    ensures { LevelTurns level.Entries (whole_of kind token.now) machine.old result machine.new }
 {
     match kind {
         yaml_token_type_t::YAML_BLOCK_ENTRY_TOKEN => {
@@ -76,18 +56,14 @@ pub(crate) fn at_entries<T: yaml_lent_token_t>(
 
 // Further parts of a sequence that isn't indented, which is a pair's key.
 #[inline(always)]
-pub(crate) fn at_other_keys<T: yaml_lent_token_t>(
-    machine: &mut Machine<T::Place>,
+pub(crate) fn at_other_keys(
+    machine: &mut Machine,
     kind: yaml_token_type_t,
-    token: &T,
+    token: &TokenSlot,
 ) -> Turn
     requires awaited { machine.old.awaited ≡ Nothing }
     requires level { machine.old.top.level ≡ level.OtherKeys }
-    ensures { (s : List ℕ) (p : Properties) → Turns (state.others side.Key)
-        (whole_of (T.mark s) kind (T.extra token.now) (T.from token.now) (T.to token.now)
-        (T.text s token.now) (T.other s token.now))
-        (stack_of (T.mark s) machine.old.below.items) (seen result)
-        (around_by (T.mark s) machine.new p) (states_by (T.mark s) machine.new) }
+    ensures { LevelTurns level.OtherKeys (whole_of kind token.now) machine.old result machine.new }
 {
     match kind {
         yaml_token_type_t::YAML_BLOCK_ENTRY_TOKEN => {
@@ -103,18 +79,15 @@ pub(crate) fn at_other_keys<T: yaml_lent_token_t>(
 
 // Further parts of a sequence that isn't indented, which is a pair's value.
 #[inline(always)]
-pub(crate) fn at_other_values<T: yaml_lent_token_t>(
-    machine: &mut Machine<T::Place>,
+pub(crate) fn at_other_values(
+    machine: &mut Machine,
     kind: yaml_token_type_t,
-    token: &T,
+    token: &TokenSlot,
 ) -> Turn
     requires awaited { machine.old.awaited ≡ Nothing }
     requires level { machine.old.top.level ≡ level.OtherValues }
-    ensures { (s : List ℕ) (p : Properties) → Turns (state.others side.Value)
-        (whole_of (T.mark s) kind (T.extra token.now) (T.from token.now) (T.to token.now)
-        (T.text s token.now) (T.other s token.now))
-        (stack_of (T.mark s) machine.old.below.items) (seen result)
-        (around_by (T.mark s) machine.new p) (states_by (T.mark s) machine.new) }
+    ensures { LevelTurns level.OtherValues (whole_of kind token.now) machine.old result
+        machine.new }
 {
     match kind {
         yaml_token_type_t::YAML_BLOCK_ENTRY_TOKEN => {
@@ -128,77 +101,24 @@ pub(crate) fn at_other_values<T: yaml_lent_token_t>(
     }
 }
 
-// Behind a key.
+// Behind a key, where what follows the value is open: the value is awaited, if there is one.
 #[inline(always)]
-pub(crate) fn at_colon<T: yaml_lent_token_t>(
-    machine: &mut Machine<T::Place>,
+pub(crate) fn at_colon(
+    machine: &mut Machine,
     kind: yaml_token_type_t,
-    token: &T,
+    token: &TokenSlot,
+    value: Await,
 ) -> Turn
-    requires { machine.old.awaited ≡ Nothing }
-    ensures { (s : List ℕ) (p : Properties) → Turns (state.colon (site.BlockPair side.Value))
-        (whole_of (T.mark s) kind (T.extra token.now) (T.from token.now) (T.to token.now)
-        (T.text s token.now) (T.other s token.now))
-        (state.pairs (T.mark s machine.old.top.opener)
-        ∷ stack_of (T.mark s) machine.old.below.items) (seen result)
-        (around_by (T.mark s) machine.new p) (states_by (T.mark s) machine.new) }
+    requires awaited { machine.old.awaited ≡ Nothing }
+    requires value { (b : yaml_mark_t) (p : Properties)
+        → await_of value b p ≡ state.optional (site_of value) b ∷ [] }
+    ensures { (p : Properties) → TurnsOn
+        (state.colon (site_of value) ∷ open_of machine.old) (whole_of kind token.now)
+        (seen result) (around_by machine.new p) (states_by machine.new) }
 {
-    machine.top.level = Level::Pairs;
     match kind {
         yaml_token_type_t::YAML_VALUE_TOKEN => {
-            await_behind(machine, Await::Value, token);
-            Turn::Silent
-        }
-        _ => Turn::LeftNothing,
-    }
-}
-
-// Behind a key of a pair inside the brackets of a sequence.
-#[inline(always)]
-pub(crate) fn at_sequence_colon<T: yaml_lent_token_t>(
-    machine: &mut Machine<T::Place>,
-    kind: yaml_token_type_t,
-    token: &T,
-) -> Turn
-    requires { machine.old.awaited ≡ Nothing }
-    ensures { (s : List ℕ) (p : Properties) → Turns
-        (state.colon (site.FlowPair brackets.Sequence side.Value))
-        (whole_of (T.mark s) kind (T.extra token.now) (T.from token.now) (T.to token.now)
-        (T.text s token.now) (T.other s token.now))
-        (state.pair_end ∷ state.more brackets.Sequence (T.mark s machine.old.top.opener)
-        ∷ stack_of (T.mark s) machine.old.below.items) (seen result)
-        (around_by (T.mark s) machine.new p) (states_by (T.mark s) machine.new) }
-{
-    machine.top.level = Level::SequencePair;
-    match kind {
-        yaml_token_type_t::YAML_VALUE_TOKEN => {
-            await_behind(machine, Await::SequenceValue, token);
-            Turn::Silent
-        }
-        _ => Turn::LeftNothing,
-    }
-}
-
-// Behind a key inside the brackets of a mapping.
-#[inline(always)]
-pub(crate) fn at_mapping_colon<T: yaml_lent_token_t>(
-    machine: &mut Machine<T::Place>,
-    kind: yaml_token_type_t,
-    token: &T,
-) -> Turn
-    requires { machine.old.awaited ≡ Nothing }
-    ensures { (s : List ℕ) (p : Properties) → Turns
-        (state.colon (site.FlowPair brackets.Mapping side.Value))
-        (whole_of (T.mark s) kind (T.extra token.now) (T.from token.now) (T.to token.now)
-        (T.text s token.now) (T.other s token.now))
-        (state.more brackets.Mapping (T.mark s machine.old.top.opener)
-        ∷ stack_of (T.mark s) machine.old.below.items) (seen result)
-        (around_by (T.mark s) machine.new p) (states_by (T.mark s) machine.new) }
-{
-    machine.top.level = Level::MappingMore;
-    match kind {
-        yaml_token_type_t::YAML_VALUE_TOKEN => {
-            await_behind(machine, Await::MappingValue, token);
+            await_behind(machine, value, token);
             Turn::Silent
         }
         _ => Turn::LeftNothing,
@@ -207,18 +127,14 @@ pub(crate) fn at_mapping_colon<T: yaml_lent_token_t>(
 
 // Behind a part inside the brackets of a sequence.
 #[inline(always)]
-pub(crate) fn at_sequence_more<T: yaml_lent_token_t>(
-    machine: &mut Machine<T::Place>,
+pub(crate) fn at_sequence_more(
+    machine: &mut Machine,
     kind: yaml_token_type_t,
-    token: &T,
+    token: &TokenSlot,
 ) -> Turn
     requires { machine.old.awaited ≡ Nothing }
-    ensures { (s : List ℕ) (p : Properties) → Turns
-        (state.more brackets.Sequence (T.mark s machine.old.top.opener))
-        (whole_of (T.mark s) kind (T.extra token.now) (T.from token.now) (T.to token.now)
-        (T.text s token.now) (T.other s token.now))
-        (stack_of (T.mark s) machine.old.below.items) (seen result)
-        (around_by (T.mark s) machine.new p) (states_by (T.mark s) machine.new) }
+    ensures { LevelTurns level.SequenceMore (whole_of kind token.now) machine.old result
+        machine.new }
 {
     match kind {
         yaml_token_type_t::YAML_FLOW_ENTRY_TOKEN => {
@@ -235,18 +151,14 @@ pub(crate) fn at_sequence_more<T: yaml_lent_token_t>(
 
 // Behind a part inside the brackets of a mapping.
 #[inline(always)]
-pub(crate) fn at_mapping_more<T: yaml_lent_token_t>(
-    machine: &mut Machine<T::Place>,
+pub(crate) fn at_mapping_more(
+    machine: &mut Machine,
     kind: yaml_token_type_t,
-    token: &T,
+    token: &TokenSlot,
 ) -> Turn
     requires { machine.old.awaited ≡ Nothing }
-    ensures { (s : List ℕ) (p : Properties) → Turns
-        (state.more brackets.Mapping (T.mark s machine.old.top.opener))
-        (whole_of (T.mark s) kind (T.extra token.now) (T.from token.now) (T.to token.now)
-        (T.text s token.now) (T.other s token.now))
-        (stack_of (T.mark s) machine.old.below.items) (seen result)
-        (around_by (T.mark s) machine.new p) (states_by (T.mark s) machine.new) }
+    ensures { LevelTurns level.MappingMore (whole_of kind token.now) machine.old result
+        machine.new }
 {
     match kind {
         yaml_token_type_t::YAML_FLOW_ENTRY_TOKEN => {
@@ -259,42 +171,4 @@ pub(crate) fn at_mapping_more<T: yaml_lent_token_t>(
         }
         _ => Turn::NoMappingEnd,
     }
-}
-
-// The end of a pair's own mapping.
-#[inline(always)]
-pub(crate) fn at_sequence_pair<T: yaml_lent_token_t>(
-    machine: &mut Machine<T::Place>,
-    kind: yaml_token_type_t,
-    token: &T,
-) -> Turn
-    requires { machine.old.awaited ≡ Nothing }
-    ensures { (s : List ℕ) (p : Properties) → Turns state.pair_end
-        (whole_of (T.mark s) kind (T.extra token.now) (T.from token.now) (T.to token.now)
-        (T.text s token.now) (T.other s token.now))
-        (state.more brackets.Sequence (T.mark s machine.old.top.opener)
-        ∷ stack_of (T.mark s) machine.old.below.items) (seen result)
-        (around_by (T.mark s) machine.new p) (states_by (T.mark s) machine.new) }
-{
-    machine.top.level = Level::SequenceMore;
-    Turn::LeftMappingEnd
-}
-
-// The value of a lone node.
-#[inline(always)]
-pub(crate) fn at_mapping_lone<T: yaml_lent_token_t>(
-    machine: &mut Machine<T::Place>,
-    kind: yaml_token_type_t,
-    token: &T,
-) -> Turn
-    requires { machine.old.awaited ≡ Nothing }
-    ensures { (s : List ℕ) (p : Properties) → Turns state.lone
-        (whole_of (T.mark s) kind (T.extra token.now) (T.from token.now) (T.to token.now)
-        (T.text s token.now) (T.other s token.now))
-        (state.more brackets.Mapping (T.mark s machine.old.top.opener)
-        ∷ stack_of (T.mark s) machine.old.below.items) (seen result)
-        (around_by (T.mark s) machine.new p) (states_by (T.mark s) machine.new) }
-{
-    machine.top.level = Level::MappingMore;
-    Turn::LeftNothing
 }

@@ -1,41 +1,34 @@
 //! Places where a node may stand.
 
-ghost use Rattle.std.specs.Prelude.{◌≡◌, true, ℕ, List};
-ghost use Rattle.yaml_parse_model.specs.declared.yaml_mark_t.{yaml_mark_t};
-ghost use Rattle.yaml_parse_grammar.specs.declared.name.Brackets.TheVariants as brackets;
+ghost use Rattle.std.specs.Prelude.{◌≡◌, true, ◌∷◌};
 ghost use Rattle.yaml_parse_grammar.specs.declared.name.Site.TheVariants as site;
 ghost use Rattle.yaml_parse_grammar.specs.Machine as grammar;
-ghost use Rattle.yaml_parse_grammar.specs.Items.{Properties};
 ghost use Rattle.yaml_parse_grammar.specs.States as state;
 ghost use Rattle.yaml_parse_core.specs.declared.level.Await.TheVariants.{Nothing};
-ghost use Rattle.yaml_parse_core.specs.Views.{around_of, level_over, stack_of, states_by, whole_of};
+ghost use Rattle.yaml_parse_core.specs.declared.level.Level.TheVariants as level;
+ghost use Rattle.yaml_parse_core.specs.Views.{open_of, states_at, whole_of};
 ghost use Rattle.yaml_parse_core.specs.Seen.{seen};
-ghost use Rattle.yaml_parse_core.specs.Turns.{keeps, LeavesOut, Turns};
+ghost use Rattle.yaml_parse_core.specs.Turns.{keeps, LeavesOut, TurnsTo};
 
 use crate::level::{Await, Level};
 use crate::machine::{Machine, Turn, await_behind, come_back};
 use crate::node::node;
-use crate::token::yaml_lent_token_t;
 use crate::told::Waiting;
 use yaml_parse_grammar::{Brackets, Side, Site, Wants};
-use yaml_parse_model::yaml_token_type_t;
+use yaml_parse_model::{TokenSlot, yaml_token_type_t};
 
 // Behind an opening bracket or a comma of a sequence.
+#[tactic(auto, using(crate::proofs::Nodes::items_node))]
 #[inline(always)]
-pub(crate) fn at_sequence_items<T: yaml_lent_token_t>(
-    machine: &mut Machine<T::Place>,
-    waiting: &mut Waiting<T::Text, T::Place>,
-    token: &mut T,
+pub(crate) fn at_sequence_items(
+    machine: &mut Machine,
+    waiting: &mut Waiting,
+    token: &mut TokenSlot,
     kind: yaml_token_type_t,
 ) -> Turn
     requires { machine.old.awaited ≡ Nothing }
-    ensures turns { (s : List ℕ) → Turns
-        (state.items brackets.Sequence (T.mark s machine.old.top.opener))
-        (whole_of (T.mark s) kind (T.extra token.old) (T.from token.old) (T.to token.old)
-        (T.text s token.old) (T.other s token.old))
-        (stack_of (T.mark s) machine.old.below.items) (seen result)
-        (around_of (T.bytes s) (T.mark s) machine.new waiting.new)
-        (states_by (T.mark s) machine.new) }
+    ensures turns { TurnsTo (states_at level.SequenceItems machine.old) (whole_of kind token.old)
+        (seen result) machine.new waiting.new }
     ensures kept { keeps (seen result) ≡ true → token.new ≡ token.old }
 {
     machine.top.level = Level::SequenceMore;
@@ -54,21 +47,17 @@ pub(crate) fn at_sequence_items<T: yaml_lent_token_t>(
 }
 
 // Behind an opening bracket or a comma of a mapping.
+#[tactic(auto, using(crate::proofs::Nodes::items_node))]
 #[inline(always)]
-pub(crate) fn at_mapping_items<T: yaml_lent_token_t>(
-    machine: &mut Machine<T::Place>,
-    waiting: &mut Waiting<T::Text, T::Place>,
-    token: &mut T,
+pub(crate) fn at_mapping_items(
+    machine: &mut Machine,
+    waiting: &mut Waiting,
+    token: &mut TokenSlot,
     kind: yaml_token_type_t,
 ) -> Turn
     requires { machine.old.awaited ≡ Nothing }
-    ensures turns { (s : List ℕ) → Turns
-        (state.items brackets.Mapping (T.mark s machine.old.top.opener))
-        (whole_of (T.mark s) kind (T.extra token.old) (T.from token.old) (T.to token.old)
-        (T.text s token.old) (T.other s token.old))
-        (stack_of (T.mark s) machine.old.below.items) (seen result)
-        (around_of (T.bytes s) (T.mark s) machine.new waiting.new)
-        (states_by (T.mark s) machine.new) }
+    ensures turns { TurnsTo (states_at level.MappingItems machine.old) (whole_of kind token.old)
+        (seen result) machine.new waiting.new }
     ensures kept { keeps (seen result) ≡ true → token.new ≡ token.old }
 {
     machine.top.level = Level::MappingLone;
@@ -179,21 +168,17 @@ fn left_out(place: Site) -> Turn
 }
 
 // A node may stand there, or be left out.
+#[tactic(auto, using(crate::proofs::Nodes::optional_node, crate::proofs::Nodes::left_optional))]
 #[inline(always)]
-pub(crate) fn at_optional<T: yaml_lent_token_t>(
-    machine: &mut Machine<T::Place>,
-    waiting: &mut Waiting<T::Text, T::Place>,
-    token: &mut T,
+pub(crate) fn at_optional(
+    machine: &mut Machine,
+    waiting: &mut Waiting,
+    token: &mut TokenSlot,
     kind: yaml_token_type_t,
     place: Site,
 ) -> Turn
-    ensures turns { (s : List ℕ) → Turns (state.optional place (T.mark s machine.old.before))
-        (whole_of (T.mark s) kind (T.extra token.old) (T.from token.old) (T.to token.old)
-        (T.text s token.old) (T.other s token.old))
-        (level_over machine.old.top.level (T.mark s machine.old.top.opener)
-        (stack_of (T.mark s) machine.old.below.items)) (seen result)
-        (around_of (T.bytes s) (T.mark s) machine.new waiting.new)
-        (states_by (T.mark s) machine.new) }
+    ensures turns { TurnsTo (state.optional place machine.old.before ∷ open_of machine.old)
+        (whole_of kind token.old) (seen result) machine.new waiting.new }
     ensures kept { keeps (seen result) ≡ true → token.new ≡ token.old }
 {
     if follows(place, kind) {

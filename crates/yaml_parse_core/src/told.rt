@@ -43,22 +43,22 @@ pub enum Implied {
     DocumentEnd,
 }
 
-/// Properties that wait for their node, in texts `X` and places `P`. A text that isn't there is one that is done with.
+/// Properties that wait for their node. A text that isn't there is one that is done with.
 #[derive(Drop)]
-pub struct Waiting<X, P> {
+pub struct Waiting {
     pub has_anchor: bool,
     pub has_tag: bool,
-    pub from: P,
-    pub to: P,
+    pub from: yaml_mark_t,
+    pub to: yaml_mark_t,
     /// Where the tag begins.
-    pub tag_from: P,
-    pub anchor: X,
-    pub handle: X,
-    pub suffix: X,
+    pub tag_from: yaml_mark_t,
+    pub anchor: Vec<u8>,
+    pub handle: Vec<u8>,
+    pub suffix: Vec<u8>,
 }
 
 /// No properties.
-pub fn none_waiting(alloc: Global) -> Waiting<Vec<u8>, yaml_mark_t> {
+pub fn none_waiting(alloc: Global) -> Waiting {
     let zero = yaml_mark_t {
         index: 0,
         line: 0,

@@ -1,58 +1,71 @@
 //! A turn: the topmost state at a token.
 
-ghost use Rattle.std.specs.Prelude.{◌≡◌, true, ℕ, List};
+ghost use Rattle.std.specs.Prelude.{◌≡◌, true};
+ghost use Rattle.yaml_parse_model.specs.Slots.{token_in_slot};
 ghost use Rattle.yaml_parse_core.specs.declared.level.Await.TheVariants.{Nothing};
-ghost use Rattle.yaml_parse_core.specs.Views.{around_of, states_of, states_by, whole_of};
+ghost use Rattle.yaml_parse_core.specs.Views.{states_of, whole_of};
 ghost use Rattle.yaml_parse_core.specs.Views as views;
 ghost use Rattle.yaml_parse_grammar.specs.Machine as grammar;
 ghost use Rattle.yaml_parse_core.specs.Seen.{seen};
-ghost use Rattle.yaml_parse_core.specs.Turns.{keeps, TurnsOn};
+ghost use Rattle.yaml_parse_core.specs.Turns.{keeps, TurnsTo};
 
 use crate::document::{at_directives, at_document, at_documents, at_first, at_stream};
 use crate::level::{Await, Level};
 use crate::machine::{Machine, Turn};
 use crate::node::{at_rest, flow_mapping, flow_sequence, node, scalar};
 use crate::part::{
-    at_colon, at_entries, at_mapping_colon, at_mapping_lone, at_mapping_more, at_other_keys,
-    at_other_values, at_pairs, at_sequence_colon, at_sequence_more, at_sequence_pair,
+    at_colon, at_entries, at_mapping_more, at_other_keys, at_other_values, at_pairs,
+    at_sequence_more,
 };
 use crate::place::{at_mapping_items, at_optional, at_sequence_items};
-use crate::token::yaml_lent_token_t;
 use crate::told::Waiting;
 use yaml_parse_grammar::{Brackets, Side, Site, Wants};
-use yaml_parse_model::yaml_token_type_t;
+use yaml_parse_model::{TokenSlot, yaml_token_type_t};
 
 // What is open, where no node is awaited.
 #[inline(always)]
-fn at_level<T: yaml_lent_token_t>(
-    machine: &mut Machine<T::Place>,
-    waiting: &mut Waiting<T::Text, T::Place>,
-    token: &mut T,
+fn at_level(
+    machine: &mut Machine,
+    waiting: &mut Waiting,
+    token: &mut TokenSlot,
     kind: yaml_token_type_t,
 ) -> Turn
     requires { machine.old.awaited ≡ Nothing }
-    ensures turns { (s : List ℕ) → TurnsOn
-        (states_of (T.bytes s) (T.mark s) machine.old waiting.old)
-        (whole_of (T.mark s) kind (T.extra token.old) (T.from token.old) (T.to token.old)
-        (T.text s token.old) (T.other s token.old))
-        (seen result) (around_of (T.bytes s) (T.mark s) machine.new waiting.new)
-        (states_by (T.mark s) machine.new) }
+    ensures turns { TurnsTo (states_of machine.old waiting.old) (whole_of kind token.old)
+        (seen result) machine.new waiting.new }
     ensures kept { keeps (seen result) ≡ true → token.new ≡ token.old }
 {
     match machine.top.level {
         Level::Pairs => at_pairs(machine, kind, token),
-        Level::Colon => at_colon(machine, kind, token),
+        Level::Colon => {
+            machine.top.level = Level::Pairs;
+            at_colon(machine, kind, token, Await::Value)
+        }
         Level::Entries => at_entries(machine, kind, token),
         Level::OtherKeys => at_other_keys(machine, kind, token),
         Level::OtherValues => at_other_values(machine, kind, token),
         Level::SequenceItems => at_sequence_items(machine, waiting, token, kind),
         Level::SequenceMore => at_sequence_more(machine, kind, token),
-        Level::SequenceColon => at_sequence_colon(machine, kind, token),
-        Level::SequencePair => at_sequence_pair(machine, kind, token),
+        Level::SequenceColon => {
+            machine.top.level = Level::SequencePair;
+            at_colon(machine, kind, token, Await::SequenceValue)
+        }
+        // The end of a pair's own mapping.
+        Level::SequencePair => {
+            machine.top.level = Level::SequenceMore;
+            Turn::LeftMappingEnd
+        }
         Level::MappingItems => at_mapping_items(machine, waiting, token, kind),
         Level::MappingMore => at_mapping_more(machine, kind, token),
-        Level::MappingColon => at_mapping_colon(machine, kind, token),
-        Level::MappingLone => at_mapping_lone(machine, kind, token),
+        Level::MappingColon => {
+            machine.top.level = Level::MappingMore;
+            at_colon(machine, kind, token, Await::MappingValue)
+        }
+        // The value of a lone node.
+        Level::MappingLone => {
+            machine.top.level = Level::MappingMore;
+            Turn::LeftNothing
+        }
         Level::Document => at_document(machine, kind, token),
         Level::Documents => at_documents(machine, kind, token),
         Level::First => at_first(machine, kind, token),
@@ -99,18 +112,14 @@ fn wants_at(awaited: Await) -> Wants
 // The topmost state at a token of that kind.
 // Out of line: what is met most stands in line in `turn`.
 #[inline(never)]
-fn at_kind<T: yaml_lent_token_t>(
-    machine: &mut Machine<T::Place>,
-    waiting: &mut Waiting<T::Text, T::Place>,
-    token: &mut T,
+fn at_kind(
+    machine: &mut Machine,
+    waiting: &mut Waiting,
+    token: &mut TokenSlot,
     kind: yaml_token_type_t,
 ) -> Turn
-    ensures turns { (s : List ℕ) → TurnsOn
-        (states_of (T.bytes s) (T.mark s) machine.old waiting.old)
-        (whole_of (T.mark s) kind (T.extra token.old) (T.from token.old) (T.to token.old)
-        (T.text s token.old) (T.other s token.old))
-        (seen result) (around_of (T.bytes s) (T.mark s) machine.new waiting.new)
-        (states_by (T.mark s) machine.new) }
+    ensures turns { TurnsTo (states_of machine.old waiting.old) (whole_of kind token.old)
+        (seen result) machine.new waiting.new }
     ensures kept { keeps (seen result) ≡ true → token.new ≡ token.old }
 {
     match machine.awaited {
@@ -142,20 +151,17 @@ fn is_begun(awaited: Await) -> bool
 }
 
 // The node that is awaited. In line is what may begin one at each place, and a scalar behind properties, which are met most.
+#[tactic(auto, using(crate::proofs::Nodes::anywhere, crate::proofs::Nodes::node_anywhere, crate::proofs::Nodes::behind))]
 #[inline(always)]
-fn at_awaited<T: yaml_lent_token_t>(
-    machine: &mut Machine<T::Place>,
-    waiting: &mut Waiting<T::Text, T::Place>,
-    token: &mut T,
+fn at_awaited(
+    machine: &mut Machine,
+    waiting: &mut Waiting,
+    token: &mut TokenSlot,
     kind: yaml_token_type_t,
 ) -> Turn
     requires { machine.old.awaited ≡ Nothing → ⊥ }
-    ensures turns { (s : List ℕ) → TurnsOn
-        (states_of (T.bytes s) (T.mark s) machine.old waiting.old)
-        (whole_of (T.mark s) kind (T.extra token.old) (T.from token.old) (T.to token.old)
-        (T.text s token.old) (T.other s token.old))
-        (seen result) (around_of (T.bytes s) (T.mark s) machine.new waiting.new)
-        (states_by (T.mark s) machine.new) }
+    ensures turns { TurnsTo (states_of machine.old waiting.old) (whole_of kind token.old)
+        (seen result) machine.new waiting.new }
     ensures kept { keeps (seen result) ≡ true → token.new ≡ token.old }
 {
     if is_begun(machine.awaited) {
@@ -181,22 +187,14 @@ fn at_awaited<T: yaml_lent_token_t>(
 }
 
 /// The topmost state at a token.
-// Inlined into its callers, which ask for a token of one type.
+// Inlined into its one caller, the parser's step.
 #[inline(always)]
-pub fn turn<T: yaml_lent_token_t>(
-    machine: &mut Machine<T::Place>,
-    waiting: &mut Waiting<T::Text, T::Place>,
-    token: &mut T,
-) -> Turn
-    ensures turns { (s : List ℕ) → TurnsOn
-        (states_of (T.bytes s) (T.mark s) machine.old waiting.old)
-        (whole_of (T.mark s) (T.kind token.old) (T.extra token.old) (T.from token.old)
-        (T.to token.old) (T.text s token.old) (T.other s token.old))
-        (seen result) (around_of (T.bytes s) (T.mark s) machine.new waiting.new)
-        (states_by (T.mark s) machine.new) }
+pub fn turn(machine: &mut Machine, waiting: &mut Waiting, token: &mut TokenSlot) -> Turn
+    ensures turns { TurnsTo (states_of machine.old waiting.old) (token_in_slot token.old)
+        (seen result) machine.new waiting.new }
     ensures kept { keeps (seen result) ≡ true → token.new ≡ token.old }
 {
-    let kind = token.kind();
+    let kind = token.body.kind;
     match machine.awaited {
         Await::Nothing => at_level(machine, waiting, token, kind),
         _ => at_awaited(machine, waiting, token, kind),

@@ -1,5 +1,5 @@
 -- What a clause sees of a document in the making.
-use Rattle.std.specs.Prelude.{◌≡◌, List, map, reverse, Result, Ok, Err}
+use Rattle.std.specs.Prelude.{◌≡◌, ℕ, List, map, reverse, Result, Ok, Err}
 use Rattle.yaml_parse_document.specs.Parts.{parts_view}
 use Rattle.yaml_parse_loader.specs.declared.making.Level.{Level}
 use Rattle.yaml_parse_loader.specs.declared.making.Level.TheVariants as level
@@ -8,12 +8,17 @@ use Rattle.yaml_parse_loader.specs.declared.making.Fed.{Fed}
 use Rattle.yaml_parse_loader.specs.declared.making.Fed.TheVariants as fed
 use Rattle.yaml_parse_model.specs.declared.yaml_mark_t.{yaml_mark_t}
 use Rattle.yaml_parse_model.specs.declared.yaml_text_fault_t.{yaml_text_fault_t}
+use Rattle.yaml_parse_model.specs.Nodes.{Node, NodeBody}
 use Rattle.yaml_parse_loader.specs.Numbering.{undefined_alias}
 use Rattle.yaml_parse_loader.specs.Loading.{Open, open_sequence, open_mapping, Loading, LoadStep, goes_on, loaded, refused}
 
 abbrev pub level_of : Level → Open
 level_of (level.Sequence place items) = open_sequence place items.items
 level_of (level.Mapping place pairs key) = open_mapping place pairs.items key
+
+-- a node by its parts
+abbrev pub node_with : List ℕ → NodeBody → yaml_mark_t → yaml_mark_t → Node
+node_with tag body from to = record { body = body; tag = tag; start_mark = from; end_mark = to }
 
 -- the innermost first
 abbrev pub levels_of : List Level → List Open

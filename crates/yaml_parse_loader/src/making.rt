@@ -15,9 +15,7 @@ ghost use Rattle.std.specs.FinMap as finite;
 
 use crate::anchors::AnchorTable;
 use crate::gathering::{FIRST_ITEMS, FIRST_PAIRS, gather, push_node};
-use crate::nodes::{
-    SHORT, bare_mapping, bare_scalar, bare_sequence, mapping_of, scalar_of, sequence_of,
-};
+use crate::nodes::{SHORT, mapping_of, scalar_of, sequence_of, tag_or_default};
 use std::alloc::Global;
 use std::mem;
 use yaml_parse_document::{DocumentParts, yaml_document_t};
@@ -352,7 +350,13 @@ impl Making {
             (open_sequence (length (loading_of self.old).document.nodes) []))
             × HasRoomForNode (loading_of self.old)) }
     {
-        let node = bare_sequence(self.parts.alloc, style, start_mark, end_mark);
+        let node = sequence_of(
+            self.parts.alloc,
+            yaml_node_tag_t::Seq,
+            style,
+            start_mark,
+            end_mark,
+        );
         self.begin_sequence(None, node)
     }
 
@@ -374,6 +378,8 @@ impl Making {
             × HasRoomForNode (loading_of self.old)) }
     {
         let name = anchor.take();
+        let given = tag.take();
+        let tag = tag_or_default(given, yaml_node_tag_t::Seq);
         let node = sequence_of(self.parts.alloc, tag, style, start_mark, end_mark);
         self.begin_sequence(name, node)
     }
@@ -415,7 +421,13 @@ impl Making {
             (open_mapping (length (loading_of self.old).document.nodes) [] None))
             × HasRoomForNode (loading_of self.old)) }
     {
-        let node = bare_mapping(self.parts.alloc, style, start_mark, end_mark);
+        let node = mapping_of(
+            self.parts.alloc,
+            yaml_node_tag_t::Map,
+            style,
+            start_mark,
+            end_mark,
+        );
         self.begin_mapping(None, node)
     }
 
@@ -437,6 +449,8 @@ impl Making {
             × HasRoomForNode (loading_of self.old)) }
     {
         let name = anchor.take();
+        let given = tag.take();
+        let tag = tag_or_default(given, yaml_node_tag_t::Map);
         let node = mapping_of(self.parts.alloc, tag, style, start_mark, end_mark);
         self.begin_mapping(name, node)
     }
@@ -455,7 +469,7 @@ impl Making {
             (scalar_node (head_of None None start_mark.now end_mark.now) value.old.items style))
             × HasRoomForNode (loading_of self.old)) }
     {
-        let node = bare_scalar(value, style, start_mark, end_mark);
+        let node = scalar_of(yaml_node_tag_t::Str, value, style, start_mark, end_mark);
         self.add(None, node)
     }
 
@@ -474,7 +488,7 @@ impl Making {
             × HasRoomForNode (loading_of self.old)) }
     {
         if value.len() <= SHORT {
-            let node = bare_scalar(value, style, start_mark, end_mark);
+            let node = scalar_of(yaml_node_tag_t::Str, value, style, start_mark, end_mark);
             self.add(None, node)
         } else {
             self.take_long_scalar(value, style, start_mark, end_mark)
@@ -557,6 +571,8 @@ impl Making {
                 ..
             } => {
                 let name = anchor.take();
+                let given = tag.take();
+                let tag = tag_or_default(given, yaml_node_tag_t::Str);
                 let node = scalar_of(tag, value, *style, start_mark, end_mark);
                 fed_of(self.add(name, node))
             }

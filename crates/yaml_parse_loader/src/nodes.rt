@@ -1,10 +1,11 @@
 //! The nodes of events.
 
-ghost use Rattle.std.specs.Prelude.{◌≡◌, [], None};
+ghost use Rattle.std.specs.Prelude.{◌≡◌, []};
 ghost use Rattle.yaml_parse_model.specs.Events.{text_of};
 ghost use Rattle.yaml_parse_model.specs.Nodes.{node_of, tag_of};
-ghost use Rattle.yaml_parse_loader.specs.Numbering.{is_bang, loaded_tag, scalar_node, sequence_node, mapping_node};
-ghost use Rattle.yaml_parse_loader.specs.Loading.{head_of};
+ghost use Rattle.yaml_parse_model.specs.Nodes as node;
+ghost use Rattle.yaml_parse_loader.specs.Numbering.{is_bang, loaded_tag};
+ghost use Rattle.yaml_parse_loader.specs.Views.{node_with};
 
 use std::alloc::Global;
 use yaml_parse_model::{
@@ -15,10 +16,10 @@ use yaml_parse_model::{
 /// A value of at most so many bytes lies in its node.
 pub const SHORT: usize = 24;
 
-// No tag and the tag `!` become the default tag.
+/// No tag and the tag `!` become the default tag.
 // Inlined: mostly there is none.
 #[inline(always)]
-fn tag_or_default(tag: Option<Vec<u8>>, default: yaml_node_tag_t) -> yaml_node_tag_t
+pub fn tag_or_default(tag: Option<Vec<u8>>, default: yaml_node_tag_t) -> yaml_node_tag_t
     ensures { tag_of result ≡ loaded_tag (text_of tag) (tag_of default) }
 {
     match tag {
@@ -34,21 +35,19 @@ fn is_lone_bang(tag: &[u8]) -> bool
     tag.len() == 1 && tag[0] == b'!'
 }
 
-/// The node of a scalar, whose texts are taken out; a short value leaves its room to the next one.
-// Inlined into its one caller: the node is built where it is to stand.
+/// The node of a scalar with that tag, whose value is taken out; a short one leaves its room to the next one.
+// Inlined: it is built where it is to stand.
 #[inline(always)]
 pub fn scalar_of(
-    tag: &mut Option<Vec<u8>>,
+    tag: yaml_node_tag_t,
     value: &mut Vec<u8>,
     style: yaml_scalar_style_t,
     start_mark: &yaml_mark_t,
     end_mark: &yaml_mark_t,
 ) -> yaml_node_t
-    ensures { node_of result ≡ scalar_node (head_of None (text_of tag.old) start_mark.now
-        end_mark.now) value.old.items style }
+    ensures { node_of result ≡ node_with (tag_of tag) (node.scalar value.old.items style)
+        start_mark.now end_mark.now }
 {
-    let given = tag.take();
-    let tag = tag_or_default(given, yaml_node_tag_t::Str);
     let value = yaml_node_text_t::taken(value);
     yaml_node_t {
         body: yaml_node_body_t::Scalar { value, style },
@@ -58,42 +57,19 @@ pub fn scalar_of(
     }
 }
 
-/// The node of a scalar without properties, whose value is taken out; a short one leaves its room to the next one.
+/// The node of a sequence with that tag, which begins.
 // Inlined: it is built where it is to stand.
-#[inline(always)]
-pub fn bare_scalar(
-    value: &mut Vec<u8>,
-    style: yaml_scalar_style_t,
-    start_mark: &yaml_mark_t,
-    end_mark: &yaml_mark_t,
-) -> yaml_node_t
-    ensures { node_of result ≡ scalar_node (head_of None None start_mark.now end_mark.now)
-        value.old.items style }
-{
-    let value = yaml_node_text_t::taken(value);
-    yaml_node_t {
-        body: yaml_node_body_t::Scalar { value, style },
-        tag: yaml_node_tag_t::Str,
-        start_mark: mark_again(start_mark),
-        end_mark: mark_again(end_mark),
-    }
-}
-
-/// The node of a sequence that begins, whose tag is taken out.
-// Inlined into its one caller: the node is built where it is to stand.
 #[inline(always)]
 pub fn sequence_of(
     alloc: Global,
-    tag: &mut Option<Vec<u8>>,
+    tag: yaml_node_tag_t,
     style: yaml_sequence_style_t,
     start_mark: &yaml_mark_t,
     end_mark: &yaml_mark_t,
 ) -> yaml_node_t
-    ensures { node_of result ≡ sequence_node (head_of None (text_of tag.old) start_mark.now
-        end_mark.now) [] style end_mark.now }
+    ensures { node_of result ≡ node_with (tag_of tag) (node.sequence [] style) start_mark.now
+        end_mark.now }
 {
-    let given = tag.take();
-    let tag = tag_or_default(given, yaml_node_tag_t::Seq);
     let items = Vec::new(alloc);
     yaml_node_t {
         body: yaml_node_body_t::Sequence { items, style },
@@ -103,67 +79,23 @@ pub fn sequence_of(
     }
 }
 
-/// The node of a sequence without properties that begins.
-// Inlined into its one caller: the node is built where it is to stand.
-#[inline(always)]
-pub fn bare_sequence(
-    alloc: Global,
-    style: yaml_sequence_style_t,
-    start_mark: &yaml_mark_t,
-    end_mark: &yaml_mark_t,
-) -> yaml_node_t
-    ensures { node_of result ≡ sequence_node (head_of None None start_mark.now end_mark.now) []
-        style end_mark.now }
-{
-    let items = Vec::new(alloc);
-    yaml_node_t {
-        body: yaml_node_body_t::Sequence { items, style },
-        tag: yaml_node_tag_t::Seq,
-        start_mark: mark_again(start_mark),
-        end_mark: mark_again(end_mark),
-    }
-}
-
-/// The node of a mapping that begins, whose tag is taken out.
-// Inlined into its one caller: the node is built where it is to stand.
+/// The node of a mapping with that tag, which begins.
+// Inlined: it is built where it is to stand.
 #[inline(always)]
 pub fn mapping_of(
     alloc: Global,
-    tag: &mut Option<Vec<u8>>,
+    tag: yaml_node_tag_t,
     style: yaml_mapping_style_t,
     start_mark: &yaml_mark_t,
     end_mark: &yaml_mark_t,
 ) -> yaml_node_t
-    ensures { node_of result ≡ mapping_node (head_of None (text_of tag.old) start_mark.now
-        end_mark.now) [] style end_mark.now }
+    ensures { node_of result ≡ node_with (tag_of tag) (node.mapping [] style) start_mark.now
+        end_mark.now }
 {
-    let given = tag.take();
-    let tag = tag_or_default(given, yaml_node_tag_t::Map);
     let pairs = Vec::new(alloc);
     yaml_node_t {
         body: yaml_node_body_t::Mapping { pairs, style },
         tag,
-        start_mark: mark_again(start_mark),
-        end_mark: mark_again(end_mark),
-    }
-}
-
-/// The node of a mapping without properties that begins.
-// Inlined into its one caller: the node is built where it is to stand.
-#[inline(always)]
-pub fn bare_mapping(
-    alloc: Global,
-    style: yaml_mapping_style_t,
-    start_mark: &yaml_mark_t,
-    end_mark: &yaml_mark_t,
-) -> yaml_node_t
-    ensures { node_of result ≡ mapping_node (head_of None None start_mark.now end_mark.now) []
-        style end_mark.now }
-{
-    let pairs = Vec::new(alloc);
-    yaml_node_t {
-        body: yaml_node_body_t::Mapping { pairs, style },
-        tag: yaml_node_tag_t::Map,
         start_mark: mark_again(start_mark),
         end_mark: mark_again(end_mark),
     }

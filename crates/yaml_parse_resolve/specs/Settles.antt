@@ -9,12 +9,19 @@ use Rattle.yaml_parse_grammar.specs.Problems.{parser_fault}
 use Rattle.yaml_parse_grammar.specs.Items as item
 use Rattle.yaml_parse_grammar.specs.Resolve as spec
 use Rattle.yaml_parse_grammar.specs.Resolve.{refused, gave, noted, node_event, placed, settle}
+use Rattle.yaml_parse_core.specs.declared.told.Waiting.{Waiting}
+use Rattle.yaml_parse_core.specs.Views.{text_if}
 use Rattle.yaml_parse_resolve.specs.declared.resolving.Directives.{Directives}
 use Rattle.yaml_parse_resolve.specs.declared.resolving.Settled.{Settled}
 use Rattle.yaml_parse_resolve.specs.declared.resolving.Settled.TheVariants as code
 
 abbrev pub directives_of : Directives → spec.Directives
 directives_of d = record { version = d.version; tags = d.tags }
+
+-- the event of a node behind the properties that wait, whose tag stands in full in the place of its handle
+abbrev pub named_event : Waiting → item.Shape → EventBody
+named_event w s = node_event (text_if w.has_anchor w.anchor.items)
+    (text_if w.has_tag w.handle.items) s
 
 -- a fault in its slot is that of the definition, or memory ran out
 abbrev pub IsFaultOf : spec.Settled → Fault → Type 0

@@ -7,26 +7,23 @@ ghost use Rattle.yaml_parse_model.specs.declared.yaml_scalar_style_t.TheVariants
 ghost use Rattle.yaml_parse_grammar.specs.Items as item;
 ghost use Rattle.yaml_parse_grammar.specs.Resolve.{node_event, placed};
 ghost use Rattle.yaml_parse_core.specs.Extra.{value_in, style_in};
-ghost use Rattle.yaml_parse_core.specs.Views.{text_if, shape_at, node_item};
+ghost use Rattle.yaml_parse_core.specs.Views.{shape_at, node_item};
+ghost use Rattle.yaml_parse_resolve.specs.Settles.{named_event};
 
-use crate::room::{clears, vacate_full, vacate_named};
+use crate::room::{clears, put_bare, put_properties, vacate_full, vacate_named};
 use crate::scalars::{bare, named};
-use crate::slots::{start_mapping, start_named_mapping, start_named_sequence, start_sequence};
+use crate::slots::{start_mapping, start_sequence};
 use std::mem;
 use yaml_parse_core::{Shape, Waiting};
 use yaml_parse_model::{
     BodySlot, TokenSlot, mark_again, yaml_event_body_t, yaml_event_t, yaml_mapping_style_t,
-    yaml_mark_t, yaml_scalar_style_t, yaml_sequence_style_t, yaml_token_type_t,
+    yaml_scalar_style_t, yaml_sequence_style_t, yaml_token_type_t,
 };
 
 // The scalar of a token that is taken.
 // Inlined: the token's kind is known.
 #[inline(always)]
-fn tell_scalar(
-    waiting: &mut Waiting<Vec<u8>, yaml_mark_t>,
-    token: &mut BodySlot,
-    event: &mut yaml_event_body_t,
-)
+fn tell_scalar(waiting: &mut Waiting, token: &mut BodySlot, event: &mut yaml_event_body_t)
     ensures { body_of event.new ≡ node_event None None
         (item.scalar (value_in (body_in_slot token.old)) (style_in (body_in_slot token.old))) }
 {
@@ -41,7 +38,7 @@ fn tell_scalar(
 // Where the token is no scalar: the machine says that it is one.
 #[cold]
 #[inline(never)]
-fn tell_no_scalar(waiting: &mut Waiting<Vec<u8>, yaml_mark_t>, event: &mut yaml_event_body_t)
+fn tell_no_scalar(waiting: &mut Waiting, event: &mut yaml_event_body_t)
     ensures { body_of event.new ≡ node_event None None (item.scalar [] YAML_ANY_SCALAR_STYLE) }
 {
     let mut nothing = Vec::new(*waiting.anchor.allocator());
@@ -57,7 +54,7 @@ fn tell_no_scalar(waiting: &mut Waiting<Vec<u8>, yaml_mark_t>, event: &mut yaml_
 // Out of line: in line the addresses of the slot's parts would be put aside in front of the loop over turns, for each event.
 #[inline(never)]
 fn tell_sequence(
-    waiting: &mut Waiting<Vec<u8>, yaml_mark_t>,
+    waiting: &mut Waiting,
     token: &mut BodySlot,
     style: yaml_sequence_style_t,
     event: &mut yaml_event_body_t,
@@ -85,7 +82,7 @@ fn sequence_over(token: &mut BodySlot, style: yaml_sequence_style_t, event: &mut
 // Out of line: see `tell_sequence`.
 #[inline(never)]
 fn tell_mapping(
-    waiting: &mut Waiting<Vec<u8>, yaml_mark_t>,
+    waiting: &mut Waiting,
     token: &mut BodySlot,
     style: yaml_mapping_style_t,
     event: &mut yaml_event_body_t,
@@ -114,7 +111,7 @@ fn mapping_over(token: &mut BodySlot, style: yaml_mapping_style_t, event: &mut y
 #[inline(always)]
 pub fn tell_node(
     shape: Shape,
-    waiting: &mut Waiting<Vec<u8>, yaml_mark_t>,
+    waiting: &mut Waiting,
     token: &mut TokenSlot,
     event: &mut yaml_event_t,
 )
@@ -156,13 +153,8 @@ pub fn tell_node(
 // The scalar of a token that is taken, behind properties.
 // Inlined: the token's kind is known.
 #[inline(always)]
-fn tell_named_scalar(
-    waiting: &mut Waiting<Vec<u8>, yaml_mark_t>,
-    token: &mut BodySlot,
-    event: &mut yaml_event_body_t,
-)
-    ensures { body_of event.new ≡ node_event (text_if waiting.old.has_anchor
-        waiting.old.anchor.items) (text_if waiting.old.has_tag waiting.old.handle.items)
+fn tell_named_scalar(waiting: &mut Waiting, token: &mut BodySlot, event: &mut yaml_event_body_t)
+    ensures { body_of event.new ≡ named_event waiting.old
         (item.scalar (value_in (body_in_slot token.old)) (style_in (body_in_slot token.old))) }
 {
     match token.kind {
@@ -177,7 +169,7 @@ fn tell_named_scalar(
 // Has the token that is taken hold the room of a tag's suffix, which is a part of the tag in full.
 // Inlined: some moves.
 #[inline(always)]
-fn leave_suffix(waiting: &mut Waiting<Vec<u8>, yaml_mark_t>, room: &mut Vec<u8>)
+fn leave_suffix(waiting: &mut Waiting, room: &mut Vec<u8>)
     ensures { waiting.new ≡ record waiting.old { suffix = waiting.new.suffix } }
 {
     if waiting.has_tag {
@@ -188,10 +180,8 @@ fn leave_suffix(waiting: &mut Waiting<Vec<u8>, yaml_mark_t>, room: &mut Vec<u8>)
 // Where the token is no scalar: the machine says that it is one.
 #[cold]
 #[inline(never)]
-fn tell_no_named_scalar(waiting: &mut Waiting<Vec<u8>, yaml_mark_t>, event: &mut yaml_event_body_t)
-    ensures { body_of event.new ≡ node_event (text_if waiting.old.has_anchor
-        waiting.old.anchor.items) (text_if waiting.old.has_tag waiting.old.handle.items)
-        (item.scalar [] YAML_ANY_SCALAR_STYLE) }
+fn tell_no_named_scalar(waiting: &mut Waiting, event: &mut yaml_event_body_t)
+    ensures { body_of event.new ≡ named_event waiting.old (item.scalar [] YAML_ANY_SCALAR_STYLE) }
 {
     let mut nothing = Vec::new(*waiting.anchor.allocator());
     named(
@@ -202,34 +192,56 @@ fn tell_no_named_scalar(waiting: &mut Waiting<Vec<u8>, yaml_mark_t>, event: &mut
     );
 }
 
-// A sequence begins behind properties.
+// A sequence begins behind properties. Its tag stands in full in the place of its handle.
 fn tell_named_sequence(
-    waiting: &mut Waiting<Vec<u8>, yaml_mark_t>,
+    waiting: &mut Waiting,
     token: &mut BodySlot,
     style: yaml_sequence_style_t,
     event: &mut yaml_event_body_t,
 )
-    ensures { body_of event.new ≡ node_event (text_if waiting.old.has_anchor
-        waiting.old.anchor.items) (text_if waiting.old.has_tag waiting.old.handle.items)
-        (item.sequence style) }
+    ensures { body_of event.new ≡ named_event waiting.old (item.sequence style) }
 {
     let room = vacate_named(event, waiting, token);
-    start_named_sequence(waiting, room, style, event);
+    let start = yaml_event_body_t::SequenceStart {
+        anchor: None,
+        tag: None,
+        implicit: !waiting.has_tag,
+        style,
+    };
+    put_bare(event, start);
+    match event {
+        yaml_event_body_t::SequenceStart { anchor, tag, .. } => {
+            put_properties(waiting, room, anchor, tag);
+        }
+        // Never: it was put there.
+        _ => {}
+    }
 }
 
-// A mapping begins behind properties.
+// A mapping begins behind properties. Its tag stands in full in the place of its handle.
 fn tell_named_mapping(
-    waiting: &mut Waiting<Vec<u8>, yaml_mark_t>,
+    waiting: &mut Waiting,
     token: &mut BodySlot,
     style: yaml_mapping_style_t,
     event: &mut yaml_event_body_t,
 )
-    ensures { body_of event.new ≡ node_event (text_if waiting.old.has_anchor
-        waiting.old.anchor.items) (text_if waiting.old.has_tag waiting.old.handle.items)
-        (item.mapping style) }
+    ensures { body_of event.new ≡ named_event waiting.old (item.mapping style) }
 {
     let room = vacate_named(event, waiting, token);
-    start_named_mapping(waiting, room, style, event);
+    let start = yaml_event_body_t::MappingStart {
+        anchor: None,
+        tag: None,
+        implicit: !waiting.has_tag,
+        style,
+    };
+    put_bare(event, start);
+    match event {
+        yaml_event_body_t::MappingStart { anchor, tag, .. } => {
+            put_properties(waiting, room, anchor, tag);
+        }
+        // Never: it was put there.
+        _ => {}
+    }
 }
 
 // The event of a node behind properties. Its tag stands in full in the place of its handle.
@@ -237,12 +249,11 @@ fn tell_named_mapping(
 #[inline(always)]
 pub(crate) fn tell_named(
     shape: Shape,
-    waiting: &mut Waiting<Vec<u8>, yaml_mark_t>,
+    waiting: &mut Waiting,
     token: &mut BodySlot,
     event: &mut yaml_event_body_t,
 )
-    ensures { body_of event.new ≡ node_event (text_if waiting.old.has_anchor
-        waiting.old.anchor.items) (text_if waiting.old.has_tag waiting.old.handle.items)
+    ensures { body_of event.new ≡ named_event waiting.old
         (shape_at shape (body_in_slot token.old)) }
 {
     match shape {

@@ -12,8 +12,7 @@ ghost use Rattle.yaml_parse_grammar.specs.Problems.{parser_fault};
 ghost use Rattle.yaml_parse_grammar.specs.Resolve.{Directives as DirectivesSpec, directive_for, default_prefix, or_default, resolved, is_known_version, with_version, with_tag, node_event, gave, placed, settle_body, behind_event};
 ghost use Rattle.yaml_parse_core.specs.Extra.{value_in, style_in, name_in, encoding_in, major_in, minor_in, handle_in, prefix_in};
 ghost use Rattle.yaml_parse_core.specs.declared.told.Implied.TheVariants as implied;
-ghost use Rattle.yaml_parse_core.specs.Owned.{owned_properties};
-ghost use Rattle.yaml_parse_core.specs.Views.{text_if, tag_if, shape_at, named_item, node_item, told_item, told_body, implied_item};
+ghost use Rattle.yaml_parse_core.specs.Views.{properties_of, text_if, tag_if, shape_at, named_item, node_item, told_item, told_body, implied_item};
 ghost use Rattle.yaml_parse_resolve.specs.Bare.{OwnsNothing};
 ghost use Rattle.yaml_parse_resolve.specs.Settles.{directives_of, Resolves, Names, Notes, Comes, ComesTo};
 
@@ -131,11 +130,7 @@ fn prefix_of_tag<'a>(tags: &'a TagDirectives, handle: &[u8]) -> Option<&'a [u8]>
 // Puts the tag in full in the place of its handle.
 // Inlined into its two callers.
 #[inline(always)]
-fn resolve(
-    tags: &TagDirectives,
-    waiting: &mut Waiting<Vec<u8>, yaml_mark_t>,
-    fault: &mut yaml_fault_t,
-) -> bool
+fn resolve(tags: &TagDirectives, waiting: &mut Waiting, fault: &mut yaml_fault_t) -> bool
     ensures resolves { Resolves (resolved tags.now waiting.old.handle.items
         waiting.old.suffix.items) waiting.old.tag_from waiting.old.from result
         waiting.new.handle.items (fault_of fault.new) }
@@ -164,11 +159,7 @@ fn resolve(
 // Puts the tag in full in the place of its handle, if there is one.
 // Inlined into its two callers.
 #[inline(always)]
-fn resolve_if(
-    tags: &TagDirectives,
-    waiting: &mut Waiting<Vec<u8>, yaml_mark_t>,
-    fault: &mut yaml_fault_t,
-) -> bool
+fn resolve_if(tags: &TagDirectives, waiting: &mut Waiting, fault: &mut yaml_fault_t) -> bool
     ensures names { (anchor : Option (List ℕ)) (shape : item.Shape) (ds : DirectivesSpec)
         → ds.tags ≡ tags.now → Names (settle_body (item.node anchor
         (tag_if waiting.old.has_tag waiting.old.handle.items waiting.old.suffix.items
@@ -303,13 +294,13 @@ pub(crate) fn start_document(
 pub fn settle_named(
     tags: &TagDirectives,
     shape: Shape,
-    waiting: &mut Waiting<Vec<u8>, yaml_mark_t>,
+    waiting: &mut Waiting,
     token: &mut TokenSlot,
     event: &mut yaml_event_t,
     fault: &mut yaml_fault_t,
 ) -> Settled
     ensures { (ds : DirectivesSpec) → ds.tags ≡ tags.now → ComesTo (named_item shape
-        (owned_properties waiting.old) (token_in_slot token.old)) ds result (event_of event.new)
+        (properties_of waiting.old) (token_in_slot token.old)) ds result (event_of event.new)
         (fault_of fault.new) ds }
 {
     event.start_mark = mark_again(&waiting.from);
@@ -327,12 +318,12 @@ pub fn settle_named(
 #[inline(never)]
 fn settle_alone(
     tags: &TagDirectives,
-    waiting: &mut Waiting<Vec<u8>, yaml_mark_t>,
+    waiting: &mut Waiting,
     event: &mut yaml_event_t,
     fault: &mut yaml_fault_t,
 ) -> Settled
     ensures { (ds : DirectivesSpec) (b start : yaml_mark_t) → ds.tags ≡ tags.now
-        → ComesTo (implied_item implied.Properties (owned_properties waiting.old) b start) ds result
+        → ComesTo (implied_item implied.Properties (properties_of waiting.old) b start) ds result
         (event_of event.new) (fault_of fault.new) ds }
 {
     event.start_mark = mark_again(&waiting.from);
@@ -350,7 +341,7 @@ fn settle_alone(
 // A sequence ends in front of a token.
 // Out of line: in line all that is implied would put registers aside for the rest.
 #[inline(never)]
-fn imply_sequence_end(waiting: &mut Waiting<Vec<u8>, yaml_mark_t>, event: &mut yaml_event_body_t)
+fn imply_sequence_end(waiting: &mut Waiting, event: &mut yaml_event_body_t)
     ensures { body_of event.new ≡ told.sequence_end }
 {
     put_aside(event, waiting);
@@ -360,7 +351,7 @@ fn imply_sequence_end(waiting: &mut Waiting<Vec<u8>, yaml_mark_t>, event: &mut y
 // A mapping ends in front of a token.
 // Out of line: see `imply_sequence_end`.
 #[inline(never)]
-fn imply_mapping_end(waiting: &mut Waiting<Vec<u8>, yaml_mark_t>, event: &mut yaml_event_body_t)
+fn imply_mapping_end(waiting: &mut Waiting, event: &mut yaml_event_body_t)
     ensures { body_of event.new ≡ told.mapping_end }
 {
     put_aside(event, waiting);
@@ -372,7 +363,7 @@ fn imply_mapping_end(waiting: &mut Waiting<Vec<u8>, yaml_mark_t>, event: &mut ya
 #[inline(never)]
 fn imply_document_end(
     directives: &mut Directives,
-    waiting: &mut Waiting<Vec<u8>, yaml_mark_t>,
+    waiting: &mut Waiting,
     event: &mut yaml_event_body_t,
 )
     ensures body { body_of event.new ≡ told.document_end true }
@@ -390,22 +381,18 @@ pub fn settle_implied(
     directives: &mut Directives,
     implied: Implied,
     at: &yaml_mark_t,
-    waiting: &mut Waiting<Vec<u8>, yaml_mark_t>,
+    waiting: &mut Waiting,
     event: &mut yaml_event_t,
     fault: &mut yaml_fault_t,
 ) -> Settled
-    ensures { ComesTo (implied_item implied (owned_properties waiting.old) at.now at.now)
+    ensures { ComesTo (implied_item implied (properties_of waiting.old) at.now at.now)
         (directives_of directives.old) result (event_of event.new) (fault_of fault.new)
         (directives_of directives.new) }
 {
     event.start_mark = mark_again(at);
     event.end_mark = mark_again(at);
     match implied {
-        Implied::Nothing => {
-            empty(waiting, false, false, &mut event.body);
-            Settled::Event
-        }
-        Implied::NothingBefore => {
+        Implied::Nothing | Implied::NothingBefore => {
             empty(waiting, false, false, &mut event.body);
             Settled::Event
         }

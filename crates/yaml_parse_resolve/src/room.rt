@@ -8,7 +8,7 @@ ghost use Rattle.yaml_parse_resolve.specs.Bare.{OwnsNothing};
 use std::alloc::Global;
 use std::mem;
 use yaml_parse_core::Waiting;
-use yaml_parse_model::{BodySlot, moved, yaml_event_body_t, yaml_mark_t};
+use yaml_parse_model::{BodySlot, moved, yaml_event_body_t};
 
 /// Whether a slot of events holds no text.
 // Inlined: a look at the kind.
@@ -114,10 +114,7 @@ pub fn clears(earlier: &mut yaml_event_body_t, room: &mut Vec<u8>) -> bool
 /// with, where those have none.
 // Inlined: mostly a comparison of the kind, and some moves.
 #[inline(always)]
-pub(crate) fn put_aside(
-    earlier: &mut yaml_event_body_t,
-    waiting: &mut Waiting<Vec<u8>, yaml_mark_t>,
-)
+pub(crate) fn put_aside(earlier: &mut yaml_event_body_t, waiting: &mut Waiting)
     ensures { OwnsNothing earlier.new }
 {
     if clears(earlier, &mut waiting.anchor) {
@@ -129,7 +126,7 @@ pub(crate) fn put_aside(
 // The same, where a text has properties, or the place of an anchor has room already.
 // Out of line: mostly it is a scalar without properties.
 #[inline(never)]
-fn put_all_aside(earlier: &mut yaml_event_body_t, waiting: &mut Waiting<Vec<u8>, yaml_mark_t>)
+fn put_all_aside(earlier: &mut yaml_event_body_t, waiting: &mut Waiting)
     ensures { OwnsNothing earlier.new }
 {
     match earlier {
@@ -159,7 +156,7 @@ fn put_all_aside(earlier: &mut yaml_event_body_t, waiting: &mut Waiting<Vec<u8>,
 // Leaves a text in place of an anchor or of a suffix, if one of them has no room.
 // Inlined: some moves.
 #[inline(always)]
-fn leave_text(text: Vec<u8>, waiting: &mut Waiting<Vec<u8>, yaml_mark_t>) {
+fn leave_text(text: Vec<u8>, waiting: &mut Waiting) {
     if waiting.anchor.capacity() == 0 {
         waiting.anchor = text;
     } else if waiting.suffix.capacity() == 0 {
@@ -174,7 +171,7 @@ fn leave_text(text: Vec<u8>, waiting: &mut Waiting<Vec<u8>, yaml_mark_t>) {
 #[inline(always)]
 pub fn vacate_named(
     earlier: &mut yaml_event_body_t,
-    waiting: &mut Waiting<Vec<u8>, yaml_mark_t>,
+    waiting: &mut Waiting,
     slot: &mut BodySlot,
 ) -> Vec<u8>
     ensures bare { OwnsNothing earlier.new }
@@ -422,7 +419,7 @@ pub(crate) fn exchange(place: &mut Option<Vec<u8>>, is_there: bool, text: &mut V
 // Inlined: some moves.
 #[inline(always)]
 pub(crate) fn put_properties(
-    waiting: &mut Waiting<Vec<u8>, yaml_mark_t>,
+    waiting: &mut Waiting,
     room: Vec<u8>,
     anchor: &mut Option<Vec<u8>>,
     tag: &mut Option<Vec<u8>>,

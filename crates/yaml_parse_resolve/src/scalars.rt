@@ -9,12 +9,13 @@ ghost use Rattle.yaml_parse_grammar.specs.Items as item;
 ghost use Rattle.yaml_parse_grammar.specs.Resolve.{is_plain as is_plain_style, node_event};
 ghost use Rattle.yaml_parse_core.specs.Views.{text_if};
 ghost use Rattle.yaml_parse_resolve.specs.Bare.{IsScalar, OwnsNothing};
+ghost use Rattle.yaml_parse_resolve.specs.Settles.{named_event};
 
 use crate::room::{exchange, exchanged, give_back, is_bare, put_bare, replaced, taken_room};
 use std::alloc::Global;
 use std::mem;
 use yaml_parse_core::Waiting;
-use yaml_parse_model::{moved, yaml_event_body_t, yaml_mark_t, yaml_scalar_style_t};
+use yaml_parse_model::{moved, yaml_event_body_t, yaml_scalar_style_t};
 
 // How a scalar may be written with its tag left out, in plain style and in every other one, and its own style.
 #[derive(Clone, Copy)]
@@ -79,7 +80,7 @@ fn make_scalar(alloc: Global, event: &mut yaml_event_body_t)
 // Inlined: some loads and stores.
 #[inline(always)]
 fn put_scalar(
-    waiting: &mut Waiting<Vec<u8>, yaml_mark_t>,
+    waiting: &mut Waiting,
     has_anchor: bool,
     has_tag: bool,
     value: &mut Vec<u8>,
@@ -98,7 +99,7 @@ fn put_scalar(
 // Inlined: some loads and stores.
 #[inline(always)]
 fn fill_scalar(
-    waiting: &mut Waiting<Vec<u8>, yaml_mark_t>,
+    waiting: &mut Waiting,
     has_anchor: bool,
     has_tag: bool,
     value: &mut Vec<u8>,
@@ -196,7 +197,7 @@ fn start_bare(value: Vec<u8>, style: yaml_scalar_style_t, event: &mut yaml_event
 // Out of line: mostly it holds one.
 #[inline(never)]
 fn other_bare(
-    waiting: &mut Waiting<Vec<u8>, yaml_mark_t>,
+    waiting: &mut Waiting,
     value: &mut Vec<u8>,
     style: yaml_scalar_style_t,
     event: &mut yaml_event_body_t,
@@ -214,7 +215,7 @@ fn other_bare(
 // Out of line: mostly it holds none.
 #[inline(never)]
 fn bare_over(
-    waiting: &mut Waiting<Vec<u8>, yaml_mark_t>,
+    waiting: &mut Waiting,
     value: &mut Vec<u8>,
     style: yaml_scalar_style_t,
     event: &mut yaml_event_body_t,
@@ -245,7 +246,7 @@ fn bare_over(
 // Inlined: some loads and stores.
 #[inline(always)]
 pub(crate) fn bare(
-    waiting: &mut Waiting<Vec<u8>, yaml_mark_t>,
+    waiting: &mut Waiting,
     value: &mut Vec<u8>,
     style: yaml_scalar_style_t,
     event: &mut yaml_event_body_t,
@@ -274,7 +275,7 @@ pub(crate) fn bare(
 // Inlined into its one caller.
 #[inline(always)]
 fn untagged(
-    waiting: &mut Waiting<Vec<u8>, yaml_mark_t>,
+    waiting: &mut Waiting,
     has_anchor: bool,
     value: &mut Vec<u8>,
     style: yaml_scalar_style_t,
@@ -296,7 +297,7 @@ fn untagged(
 // Inlined into its one caller.
 #[inline(always)]
 fn tagged(
-    waiting: &mut Waiting<Vec<u8>, yaml_mark_t>,
+    waiting: &mut Waiting,
     value: &mut Vec<u8>,
     style: yaml_scalar_style_t,
     event: &mut yaml_event_body_t,
@@ -319,14 +320,12 @@ fn tagged(
 // Inlined into its one caller.
 #[inline(always)]
 pub(crate) fn named(
-    waiting: &mut Waiting<Vec<u8>, yaml_mark_t>,
+    waiting: &mut Waiting,
     value: &mut Vec<u8>,
     style: yaml_scalar_style_t,
     event: &mut yaml_event_body_t,
 )
-    ensures { body_of event.new ≡ node_event (text_if waiting.old.has_anchor
-        waiting.old.anchor.items) (text_if waiting.old.has_tag waiting.old.handle.items)
-        (item.scalar value.old.items style) }
+    ensures { body_of event.new ≡ named_event waiting.old (item.scalar value.old.items style) }
 {
     if waiting.has_tag {
         tagged(waiting, value, style, event);
@@ -340,7 +339,7 @@ pub(crate) fn named(
 // Out of line: see `imply_sequence_end`.
 #[inline(never)]
 pub(crate) fn empty(
-    waiting: &mut Waiting<Vec<u8>, yaml_mark_t>,
+    waiting: &mut Waiting,
     has_anchor: bool,
     has_tag: bool,
     event: &mut yaml_event_body_t,

@@ -5,14 +5,10 @@ ghost use Rattle.yaml_parse_model.specs.Events.{body_of};
 ghost use Rattle.yaml_parse_model.specs.Events as told;
 ghost use Rattle.yaml_parse_grammar.specs.Items as item;
 ghost use Rattle.yaml_parse_grammar.specs.Resolve.{node_event};
-ghost use Rattle.yaml_parse_core.specs.Views.{text_if};
 ghost use Rattle.yaml_parse_resolve.specs.Bare.{OwnsNothing};
 
-use crate::room::{exchanged, put_bare, put_properties};
-use yaml_parse_core::Waiting;
-use yaml_parse_model::{
-    yaml_event_body_t, yaml_mapping_style_t, yaml_mark_t, yaml_sequence_style_t,
-};
+use crate::room::{exchanged, put_bare};
+use yaml_parse_model::{yaml_event_body_t, yaml_mapping_style_t, yaml_sequence_style_t};
 
 /// Another event in the slot.
 // Inlined: the new one's kind is known.
@@ -105,60 +101,4 @@ pub(crate) fn start_mapping(slot: &mut yaml_event_body_t, style: yaml_mapping_st
         style,
     };
     put_bare(slot, start);
-}
-
-/// A sequence begins behind properties. Its tag stands in full in the place of its handle.
-pub(crate) fn start_named_sequence(
-    waiting: &mut Waiting<Vec<u8>, yaml_mark_t>,
-    room: Vec<u8>,
-    style: yaml_sequence_style_t,
-    event: &mut yaml_event_body_t,
-)
-    requires { OwnsNothing event.old }
-    ensures { body_of event.new ≡ node_event (text_if waiting.old.has_anchor
-        waiting.old.anchor.items) (text_if waiting.old.has_tag waiting.old.handle.items)
-        (item.sequence style) }
-{
-    let start = yaml_event_body_t::SequenceStart {
-        anchor: None,
-        tag: None,
-        implicit: !waiting.has_tag,
-        style,
-    };
-    put_bare(event, start);
-    match event {
-        yaml_event_body_t::SequenceStart { anchor, tag, .. } => {
-            put_properties(waiting, room, anchor, tag);
-        }
-        // Never: it was put there.
-        _ => {}
-    }
-}
-
-/// A mapping begins behind properties. Its tag stands in full in the place of its handle.
-pub(crate) fn start_named_mapping(
-    waiting: &mut Waiting<Vec<u8>, yaml_mark_t>,
-    room: Vec<u8>,
-    style: yaml_mapping_style_t,
-    event: &mut yaml_event_body_t,
-)
-    requires { OwnsNothing event.old }
-    ensures { body_of event.new ≡ node_event (text_if waiting.old.has_anchor
-        waiting.old.anchor.items) (text_if waiting.old.has_tag waiting.old.handle.items)
-        (item.mapping style) }
-{
-    let start = yaml_event_body_t::MappingStart {
-        anchor: None,
-        tag: None,
-        implicit: !waiting.has_tag,
-        style,
-    };
-    put_bare(event, start);
-    match event {
-        yaml_event_body_t::MappingStart { anchor, tag, .. } => {
-            put_properties(waiting, room, anchor, tag);
-        }
-        // Never: it was put there.
-        _ => {}
-    }
 }

@@ -1,40 +1,27 @@
 -- How the states stand behind a step, and whether a document is half taken then.
-use Rattle.std.proofs.Common.{◌≡◌, false, List, [], ◌∷◌, ◌++◌, Some, None, sym, subst, ap, ◌∙◌}
-use Rattle.yaml_parse_step.proofs.Words.{Token, type_of, EventBody, Take, Leave, Open, RawEvent, State, Taken, choice_at, taken_at, left_at, opened, Directives, Settled, gave, settle, is_between, IsStack, parts_documents_behind, SteppedOnce, OpensAt}
+use Rattle.std.proofs.Common.{◌≡◌, false, List, [], ◌∷◌, ◌++◌, Option, sym, subst, ap, ◌∙◌}
+use Rattle.yaml_parse_step.proofs.Words.{Token, type_of, EventBody, Take, Leave, Open, RawEvent, State, choice_at, taken_at, left_at, opened, Directives, Settled, gave, settle, is_between, IsStack, parts_documents_behind}
 use Rattle.yaml_parse_grammar.specs.Stacks.{StandsBehind}
 use Rattle.yaml_parse_grammar.proofs.Standing.{StandsOn, taken_stands, left_stands, opened_stands, SettledBehind, settled_behind}
-use Rattle.yaml_parse_step.specs.Stepped as step
-use Rattle.yaml_parse_step.specs.Steps.{IsStackStep}
 
-pub take_item_stands : (x : State) (t : Token) (s s' : List State) (i : RawEvent)
-    (above : List State) → choice_at x (type_of t.body) ≡ Take
-    → record { item = Some i; above = above } ≡ taken_at x t
-    → s' ≡ above ++ s → IsStack (x ∷ s) → IsStack s' × StandsBehind i.body (is_between s')
-take_item_stands x t s s' i above c k e h =
-    subst (λ (z : List State). StandsOn (Some i) z) (sym e) (subst (λ (y : Taken). StandsOn y.item (y.above ++ s)) (sym k) (taken_stands x t s c h))
-
-pub take_silent_stands : (x : State) (t : Token) (s s' : List State) (above : List State)
-    → choice_at x (type_of t.body) ≡ Take → record { item = None; above = above } ≡ taken_at x t
-    → s' ≡ above ++ s → IsStack (x ∷ s) → IsStack s'
-take_silent_stands x t s s' above c k e h =
-    subst (λ (z : List State). StandsOn None z) (sym e) (subst (λ (y : Taken). StandsOn y.item (y.above ++ s)) (sym k) (taken_stands x t s c h))
+pub take_stands : (x : State) (t : Token) (s s' : List State) (o : Option RawEvent)
+    → choice_at x (type_of t.body) ≡ Take → o ≡ (taken_at x t).item
+    → s' ≡ (taken_at x t).above ++ s → IsStack (x ∷ s) → StandsOn o s'
+take_stands x t s s' o c k e h =
+    subst (StandsOn o) (sym e) (subst (λ (z : Option RawEvent). StandsOn z ((taken_at x t).above ++ s)) (sym k) (taken_stands x t s c h))
 
 pub leave_stands : (x : State) (t : Token) (s : List State) (i : RawEvent)
     → choice_at x (type_of t.body) ≡ Leave → i ≡ left_at x t.start_mark → IsStack (x ∷ s)
     → IsStack s × StandsBehind i.body (is_between s)
 leave_stands x t s i c e h =
-    let u : IsStack s × StandsBehind (left_at x t.start_mark).body (is_between s) = left_stands x (type_of t.body) t.start_mark s c h in
+    let u = left_stands x (type_of t.body) t.start_mark s c h in
     (u.0, subst (λ (j : RawEvent). StandsBehind j.body (is_between s)) (sym e) u.1)
 
-pub open_stands : (x : State) (t : Token) (s s' : List State) (r : SteppedOnce)
-    → choice_at x (type_of t.body) ≡ Open → OpensAt t.start_mark s r s' → IsStack (x ∷ s)
-    → IsStackStep r s'
-open_stands x t s s' (step.given i) c o h =
-    let u : IsStack (opened t.start_mark ++ s) × (is_between (opened t.start_mark ++ s) ≡ false) = opened_stands x (type_of t.body) t.start_mark s c h in
-    (subst IsStack (sym o.1) u.0, subst (λ (j : RawEvent). StandsBehind j.body (is_between s')) (sym o.0) (ap is_between o.1 ∙ u.1))
-open_stands x t s s' (step.refused f) c o h = tt
-open_stands x t s s' step.silent c o h = absurd o
-open_stands x t s s' step.done c o h = tt
+pub open_stands : (x : State) (t : Token) (s s' : List State)
+    → choice_at x (type_of t.body) ≡ Open → s' ≡ opened t.start_mark ++ s → IsStack (x ∷ s)
+    → IsStack s' × (is_between s' ≡ false)
+open_stands x t s s' c e h =
+    let u = opened_stands x (type_of t.body) t.start_mark s c h in (subst IsStack (sym e) u.0, ap is_between e ∙ u.1)
 
 -- ---- turns
 

@@ -1,6 +1,6 @@
 -- The texts of what a step gives and holds are UTF-8.
-use Rattle.std.proofs.Common.{◌≡◌, List, [], ◌∷◌, ◌++◌, Option, Some, None, sym, subst, ◌∙◌}
-use Rattle.yaml_parse_step.proofs.Words.{yaml_mark_t, Token, EventBody, RawEvent, State, Taken, taken_at, left_at, opened, Directives, gave, noted, settle, IsUtf8Token, IsUtf8Held, SteppedOnce, OpensAt}
+use Rattle.std.proofs.Common.{◌≡◌, List, [], ◌∷◌, ◌++◌, Option, Some, None, sym, subst}
+use Rattle.yaml_parse_step.proofs.Words.{Token, EventBody, RawEvent, State, taken_at, left_at, opened, Directives, gave, noted, settle, IsUtf8Token, IsUtf8Held, SteppedOnce}
 use Rattle.yaml_parse_model.specs.Source as source
 use Rattle.yaml_parse_model.specs.Constructors.{HasUtf8, AreUtf8}
 use Rattle.yaml_parse_grammar.specs.Texts.{IsUtf8Item, AreUtf8States}
@@ -8,40 +8,33 @@ use Rattle.yaml_parse_grammar.proofs.Utf8.{IsUtf8Taken, taken_utf8, left_utf8, o
 use Rattle.yaml_parse_step.specs.Stepped as step
 use Rattle.yaml_parse_step.specs.Steps.{IsUtf8Step}
 
-taken_held : (x : State) (t : Token) (i : Option RawEvent) (above s : List State) (ds : Directives)
-    → record { item = i; above = above } ≡ taken_at x t
-    → IsUtf8Held (Some t) (x ∷ s) ds → IsUtf8Taken i above
-taken_held x t i above s ds k h = subst (λ (y : Taken). IsUtf8Taken y.item y.above) (sym k) (taken_utf8 x t h.1.0.0 h.0)
+-- what a token that is taken comes to
+abbrev pub taking : Option RawEvent → SteppedOnce
+taking (Some i) = step.given i
+taking None = step.silent
 
-pub take_item_utf8 : (x : State) (t : Token) (s s' : List State) (i : RawEvent) (above : List State)
-    (ds : Directives) → record { item = Some i; above = above } ≡ taken_at x t → s' ≡ above ++ s
-    → IsUtf8Held (Some t) (x ∷ s) ds
-    → IsUtf8Item i.body × (IsUtf8Token None × (AreUtf8States s' × AreUtf8 ds.tags))
-take_item_utf8 x t s s' i above ds k e h =
-    let u : IsUtf8Taken (Some i) above = taken_held x t (Some i) above s ds k h in
-    (u.0, (tt, (subst AreUtf8States (sym e) (states_over above s u.1 h.1.0.1), h.1.1)))
+taken_held : (x : State) (t : Token) (o : Option RawEvent) (s : List State) (ds : Directives)
+    → o ≡ (taken_at x t).item → IsUtf8Held (Some t) (x ∷ s) ds → IsUtf8Taken o (taken_at x t).above
+taken_held x t o s ds k h = subst (λ (z : Option RawEvent). IsUtf8Taken z (taken_at x t).above) (sym k) (taken_utf8 x t h.1.0.0 h.0)
 
-pub take_silent_utf8 : (x : State) (t : Token) (s s' : List State) (above : List State)
-    (ds : Directives) → record { item = None; above = above } ≡ taken_at x t → s' ≡ above ++ s
-    → IsUtf8Held (Some t) (x ∷ s) ds → IsUtf8Token None × (AreUtf8States s' × AreUtf8 ds.tags)
-take_silent_utf8 x t s s' above ds k e h =
-    let u : IsUtf8Taken None above = taken_held x t None above s ds k h in
-    (tt, (subst AreUtf8States (sym e) (states_over above s u h.1.0.1), h.1.1))
+pub take_utf8 : (x : State) (t : Token) (s s' : List State) (o : Option RawEvent) (ds : Directives)
+    → o ≡ (taken_at x t).item → s' ≡ (taken_at x t).above ++ s → IsUtf8Held (Some t) (x ∷ s) ds
+    → IsUtf8Step (taking o) None s' ds
+take_utf8 x t s s' (Some i) ds k e h =
+    let u = taken_held x t (Some i) s ds k h in
+    (u.0, (tt, (subst AreUtf8States (sym e) (states_over (taken_at x t).above s u.1 h.1.0.1), h.1.1)))
+take_utf8 x t s s' None ds k e h =
+    (tt, (subst AreUtf8States (sym e) (states_over (taken_at x t).above s (taken_held x t None s ds k h) h.1.0.1), h.1.1))
 
-pub leave_utf8 : (x : State) (t : Token) (start : yaml_mark_t) (s : List State) (i : RawEvent)
-    (ds : Directives) → i ≡ left_at x start
-    → IsUtf8Held (Some t) (x ∷ s) ds
-    → IsUtf8Item i.body × (IsUtf8Token (Some t) × (AreUtf8States s × AreUtf8 ds.tags))
-leave_utf8 x t start s i ds e h = (subst (λ (j : RawEvent). IsUtf8Item j.body) (sym e) (left_utf8 x start h.1.0.0), (h.0, (h.1.0.1, h.1.1)))
+pub leave_utf8 : (x : State) (t : Token) (s : List State) (i : RawEvent) (ds : Directives)
+    → i ≡ left_at x t.start_mark → IsUtf8Held (Some t) (x ∷ s) ds
+    → IsUtf8Step (step.given i) (Some t) s ds
+leave_utf8 x t s i ds e h = (subst (λ (j : RawEvent). IsUtf8Item j.body) (sym e) (left_utf8 x t.start_mark h.1.0.0), (h.0, (h.1.0.1, h.1.1)))
 
-pub open_utf8 : (x : State) (t : Token) (start : yaml_mark_t) (s s' : List State) (r : SteppedOnce)
-    (ds : Directives) → OpensAt start s r s'
-    → IsUtf8Held (Some t) (x ∷ s) ds → IsUtf8Step r (Some t) s' ds
-open_utf8 x t start s s' (step.given i) ds o h =
-    (subst (λ (j : RawEvent). IsUtf8Item j.body) (sym o.0) tt, (h.0, (subst AreUtf8States (sym o.1) (states_over (opened start) s (opened_utf8 start) h.1.0.1), h.1.1)))
-open_utf8 x t start s s' (step.refused f) ds o h = tt
-open_utf8 x t start s s' step.silent ds o h = absurd o
-open_utf8 x t start s s' step.done ds o h = tt
+pub open_utf8 : (x : State) (t : Token) (s s' : List State) (ds : Directives)
+    → s' ≡ opened t.start_mark ++ s → IsUtf8Held (Some t) (x ∷ s) ds
+    → IsUtf8Token (Some t) × (AreUtf8States s' × AreUtf8 ds.tags)
+open_utf8 x t s s' ds e h = (h.0, (subst AreUtf8States (sym e) (states_over (opened t.start_mark) s (opened_utf8 t.start_mark) h.1.0.1), h.1.1))
 
 -- the state on top, at the token in front
 pub advance_utf8 : (peeked : Option Token) (s : List State) (t : Token) (after : Option Token)

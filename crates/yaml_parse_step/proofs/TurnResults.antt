@@ -1,8 +1,9 @@
 -- What a turn comes to with its item resolved.
 use Rattle.std.proofs.Common.{◌≡◌, inr, List, Option, None, sym, ap, subst, ◌∙◌}
-use Rattle.yaml_parse_step.proofs.Words.{yaml_mark_t, Token, Fault, Event, RawEvent, Properties, State, Directives, gave, node_event, placed, Shape, Around, node_item, shape_at, TurnsOn, owned_states_by, ComesTo, directives_of, StepBuffers, Step, peeked_of, states_in, Moves, Went}
+use Rattle.yaml_parse_step.proofs.Words.{Token, Fault, Event, RawEvent, Properties, State, Directives, gave, node_event, placed, Shape, Around, node_item, shape_at, TurnsOn, states_by, ComesTo, directives_of, StepBuffers, Step, peeked_of, states_in, Moves, Went}
 use Rattle.yaml_parse_core.specs.declared.machine.Machine.{Machine}
 use Rattle.yaml_parse_core.specs.Seen as seen
+use Rattle.yaml_parse_step.specs.Stepped as step
 use Rattle.yaml_parse_resolve.specs.declared.resolving.Settled.{Settled}
 use Rattle.yaml_parse_resolve.specs.declared.resolving.Settled.TheVariants as came
 use Rattle.yaml_parse_step.specs.Moves.{GaveEvent, LeavesMachine, step_of}
@@ -25,18 +26,18 @@ went_node s t k a f q ds e h p =
 -- what an item came to
 pub went_on : (r : Settled) (s : List State) (t : Token) (i : RawEvent) (q : Properties)
     (ds behind : Directives) (e : Event) (g : Fault) (held : Option Token)
-    (old new : Machine yaml_mark_t)
-    → ((p : Properties) → Moves s t i held (owned_states_by old p)) → LeavesMachine r old new
-    → ComesTo i ds r e g behind → Went s t ds (step_of r) e g held (owned_states_by new q) behind
+    (old new : Machine)
+    → ((p : Properties) → Moves s t (step.given i) held (states_by old p)) → LeavesMachine r old new
+    → ComesTo i ds r e g behind → Went s t ds (step_of r) e g held (states_by new q) behind
 went_on came.Event s t i q ds behind e g held old new m l c = record {
   item = i;
-  moves = subst (λ z. Moves s t i held (owned_states_by z q)) (sym l) (m q);
+  moves = subst (λ z. Moves s t (step.given i) held (states_by z q)) (sym l) (m q);
   settles = c.0;
   placed = c.1;
 }
 went_on came.Noted s t i q ds behind e g held old new m l c = inr (record {
   item = i;
-  moves = subst (λ z. Moves s t i held (owned_states_by z q)) (sym l) (m q);
+  moves = subst (λ z. Moves s t (step.given i) held (states_by z q)) (sym l) (m q);
   settles = c;
 })
 went_on came.Refused s t i q ds behind e g held old new m l c = (
@@ -44,7 +45,7 @@ went_on came.Refused s t i q ds behind e g held old new m l c = (
   inr (record {
     item = i;
     held = held;
-    new = owned_states_by old q;
+    new = states_by old q;
     moves = m q;
     settles = c;
   }),

@@ -10,7 +10,7 @@ use Rattle.yaml_parse_grammar.proofs.EventsToGive.{speaks, reading_speaks, not_n
 use Rattle.yaml_parse_laws_trees.proofs.Turns.{items_given}
 use Rattle.yaml_parse_laws_trees.proofs.Falling.{has_more}
 use Rattle.yaml_scan_model.specs.Faults.{parse_layers}
-use Rattle.yaml_parse_step.specs.Steps.{AreSilent, held_if, IsDone, IsTurnRefused, IsOver, KeptOverTurns, Turns}
+use Rattle.yaml_parse_step.specs.Steps.{AreSilent, budget, held_if, IsDone, IsTurnRefused, IsOver, KeptOverTurns, Turns}
 use Rattle.yaml_parse_step.specs.Turned.{Turned}
 use Rattle.yaml_parse_step.specs.Turned as turn
 
@@ -20,25 +20,11 @@ of_raw r ds answered = parser_remaining r.peeked r.tokens r.fault r.stack ds ans
 
 -- ---- reading
 
-reading_gave : (gs : List Given) (f : Option Fault) (ds ds' : Directives) (i : RawEvent) (left : ℕ)
-    (body : EventBody) → settle i ds ≡ gave body ds'
-    → reading ((i, left) ∷ gs) f ds ≡ record {
-      events = (placed body i, left) ∷ (reading gs f ds').events;
-      ending = (reading gs f ds').ending;
-    }
+reading_settled : (gs : List Given) (f : Option Fault) (ds : Directives) (i : RawEvent) (left : ℕ)
+    (c : Settled) → settle i ds ≡ c
+    → reading ((i, left) ∷ gs) f ds ≡ read_on c i left (λ d. reading gs f d)
 unfolding reading
-reading_gave gs f ds ds' i left body h = ap (λ (c : Settled). read_on c i left (λ d. reading gs f d)) h
-
-reading_noted : (gs : List Given) (f : Option Fault) (ds ds' : Directives) (i : RawEvent) (left : ℕ)
-    → settle i ds ≡ noted ds' → reading ((i, left) ∷ gs) f ds ≡ reading gs f ds'
-unfolding reading
-reading_noted gs f ds ds' i left h = ap (λ (c : Settled). read_on c i left (λ d. reading gs f d)) h
-
-reading_refused : (gs : List Given) (f : Option Fault) (ds : Directives) (i : RawEvent) (left : ℕ)
-    (e : Fault) → settle i ds ≡ refused e
-    → reading ((i, left) ∷ gs) f ds ≡ record { events = []; ending = Some e }
-unfolding reading
-reading_refused gs f ds i left e h = ap (λ (c : Settled). read_on c i left (λ d. reading gs f d)) h
+reading_settled gs f ds i left c h = ap (λ (c : Settled). read_on c i left (λ d. reading gs f d)) h
 
 reading_nothing : (f : Option Fault) (ds : Directives)
     → reading [] f ds ≡ record { events = []; ending = f }
@@ -47,21 +33,11 @@ reading_nothing f ds = refl
 
 -- ---- how many tokens are not asked for at the fault
 
-fault_gave : (gs : List Given) (n : ℕ) (ds ds' : Directives) (i : RawEvent) (left : ℕ)
-    (body : EventBody) → settle i ds ≡ gave body ds'
-    → unasked_at_fault ((i, left) ∷ gs) n ds ≡ unasked_at_fault gs n ds'
+fault_settled : (gs : List Given) (n : ℕ) (ds : Directives) (i : RawEvent) (left : ℕ) (c : Settled)
+    → settle i ds ≡ c
+    → unasked_at_fault ((i, left) ∷ gs) n ds ≡ unasked_on c left (λ d. unasked_at_fault gs n d)
 unfolding unasked_at_fault
-fault_gave gs n ds ds' i left body h = ap (λ (c : Settled). unasked_on c left (λ d. unasked_at_fault gs n d)) h
-
-fault_noted : (gs : List Given) (n : ℕ) (ds ds' : Directives) (i : RawEvent) (left : ℕ)
-    → settle i ds ≡ noted ds' → unasked_at_fault ((i, left) ∷ gs) n ds ≡ unasked_at_fault gs n ds'
-unfolding unasked_at_fault
-fault_noted gs n ds ds' i left h = ap (λ (c : Settled). unasked_on c left (λ d. unasked_at_fault gs n d)) h
-
-fault_refused : (gs : List Given) (n : ℕ) (ds : Directives) (i : RawEvent) (left : ℕ) (e : Fault)
-    → settle i ds ≡ refused e → unasked_at_fault ((i, left) ∷ gs) n ds ≡ left
-unfolding unasked_at_fault
-fault_refused gs n ds i left e h = ap (λ (c : Settled). unasked_on c left (λ d. unasked_at_fault gs n d)) h
+fault_settled gs n ds i left c h = ap (λ (c : Settled). unasked_on c left (λ d. unasked_at_fault gs n d)) h
 
 fault_nothing : (n : ℕ) (ds : Directives) → unasked_at_fault [] n ds ≡ n
 unfolding unasked_at_fault
@@ -112,51 +88,44 @@ pub event_turn : (old new : Raw) (ds ds' : Directives) (answered : Fault) (i : R
     → GivesNext e (of_raw old ds answered) (of_raw new ds' answered)
 event_turn old new ds ds' answered i body e h s p =
     let r : reading_of (outcome old) ds ≡ record { events = (placed body i, length new.tokens) ∷ (reading_of (outcome new) ds').events; ending = (reading_of (outcome new) ds').ending } =
-    ap (λ (o : Outcome). reading_of o ds) h.same ∙ reading_gave (outcome new).items (outcome new).ending ds ds' i (length new.tokens) body s in
+    ap (λ (o : Outcome). reading_of o ds) h.same ∙ reading_settled (outcome new).items (outcome new).ending ds i (length new.tokens) (gave body ds') s in
     record {
       events = ap (λ (x : Reading). x.events) r ∙ ap (λ (y : Event). (y, length new.tokens) ∷ (reading_of (outcome new) ds').events) (sym p);
       ending = ap (λ (x : Reading). x.ending) (sym r);
-      ending_unasked = sym (item_unasked old new ds i h ∙ fault_gave (outcome new).items (stop_of new) ds ds' i (length new.tokens) body s);
+      ending_unasked = sym (item_unasked old new ds i h ∙ fault_settled (outcome new).items (stop_of new) ds i (length new.tokens) (gave body ds') s);
       answered = refl;
     }
-
-silent_of : (old new : ParserRemaining) (same : Reading) (more : Reading) → same ≡ more
-    → old.events ≡ same.events → old.ending ≡ same.ending → new.events ≡ more.events
-    → new.ending ≡ more.ending
-    → new.ending_unasked ≡ old.ending_unasked → new.answered ≡ old.answered
-    → new.unasked + new.held < old.unasked + old.held → (more.events ≡ [] → more.ending ≡ None → ⊥)
-    → IsSilent old new
-silent_of old new same more e a b c d u w l s = record {
-  ending_unasked = u;
-  answered = w;
-  events = c ∙ ap (λ (r : Reading). r.events) (sym e) ∙ sym a;
-  ending = d ∙ ap (λ (r : Reading). r.ending) (sym e) ∙ sym b;
-  less = l;
-  speaks = λ p q. s (ap (λ (r : Reading). r.events) (sym e) ∙ sym a ∙ p) (ap (λ (r : Reading). r.ending) (sym e) ∙ sym b ∙ q);
-}
 
 still_speaks : (r : Raw) (ds : Directives) → Stands r.stack
     → (reading_of (outcome r) ds).events ≡ [] → (reading_of (outcome r) ds).ending ≡ None → ⊥
 still_speaks r ds h = reading_speaks (outcome r).items (outcome r).ending ds (speaks (waiting r.peeked r.tokens) r.fault r.stack h)
 
+silent_by : (old new : Raw) (ds ds' : Directives) (answered : Fault)
+    → reading_of (outcome old) ds ≡ reading_of (outcome new) ds'
+    → fault_of_raw old ds ≡ fault_of_raw new ds' → budget new < budget old → Stands new.stack
+    → IsSilent (of_raw old ds answered) (of_raw new ds' answered)
+silent_by old new ds ds' answered e u l h = record {
+  events = ap (λ (r : Reading). r.events) (sym e);
+  ending = ap (λ (r : Reading). r.ending) (sym e);
+  ending_unasked = sym u;
+  answered = refl;
+  less = l;
+  speaks = λ p q. still_speaks new ds' h (ap (λ (r : Reading). r.events) (sym e) ∙ p) (ap (λ (r : Reading). r.ending) (sym e) ∙ q);
+}
+
 pub silent_turn : (old new : Raw) (ds : Directives) (answered : Fault) → GivesNoItem old new
     → IsSilent (of_raw old ds answered) (of_raw new ds answered)
 silent_turn old new ds answered h =
-    silent_of (of_raw old ds answered) (of_raw new ds answered) (reading_of (outcome old) ds) (reading_of (outcome new) ds) (ap (λ (o : Outcome). reading_of o ds) h.same)
-    refl refl refl refl (sym (silent_unasked old new ds h)) refl h.less (still_speaks new ds h.stands)
+    silent_by old new ds ds answered (ap (λ (o : Outcome). reading_of o ds) h.same) (silent_unasked old new ds h) h.less h.stands
 
 pub noted_turn : (old new : Raw) (ds ds' : Directives) (answered : Fault) (i : RawEvent)
     → GivesItem i old new → settle i ds ≡ noted ds'
     → IsSilent (of_raw old ds answered) (of_raw new ds' answered)
 noted_turn old new ds ds' answered i h s =
-    silent_of (of_raw old ds answered) (of_raw new ds' answered) (reading_of (outcome old) ds) (reading_of (outcome new) ds')
-    (ap (λ (o : Outcome). reading_of o ds) h.same ∙ reading_noted (outcome new).items (outcome new).ending ds ds' i (length new.tokens) s)
-    refl refl refl refl (sym (item_unasked old new ds i h ∙ fault_noted (outcome new).items (stop_of new) ds ds' i (length new.tokens) s)) refl (h.less (noted_directive i.body i.from ds ds' s)) (still_speaks new ds' (h.stands (noted_directive i.body i.from ds ds' s)))
-
-refused_of : (old : ParserRemaining) (r : Reading) (e : Fault)
-    → r ≡ record { events = []; ending = Some e } → old.events ≡ r.events → old.ending ≡ r.ending
-    → (old.events ≡ []) × (old.ending ≡ Some e)
-refused_of old r e p a b = (a ∙ ap (λ (x : Reading). x.events) p, b ∙ ap (λ (x : Reading). x.ending) p)
+    let d : IsDirective i.body = noted_directive i.body i.from ds ds' s in
+    silent_by old new ds ds' answered
+    (ap (λ (o : Outcome). reading_of o ds) h.same ∙ reading_settled (outcome new).items (outcome new).ending ds i (length new.tokens) (noted ds') s)
+    (item_unasked old new ds i h ∙ fault_settled (outcome new).items (stop_of new) ds i (length new.tokens) (noted ds') s) (h.less d) (h.stands d)
 
 -- what stands has something to give
 pub stands_more : (r : Raw) (ds : Directives) (answered : Fault) → Stands r.stack
@@ -166,41 +135,34 @@ stands_more r ds answered h = has_more (of_raw r ds answered).events (of_raw r d
 abbrev pub AskedFor : Fault → Raw → Directives → List Token → Type 0
 AskedFor e r ds rest = IsMemoryFault scan_layers e ⊎ (next_unasked (reading_of (outcome r) ds).events (fault_of_raw r ds) ≤ length rest)
 
+refused_by : (old new : Raw) (ds ds' : Directives) (answered : Fault) (e : Fault)
+    → Stands old.stack → AskedFor e old ds new.tokens → new.stack ≡ []
+    → IsMemoryFault parse_layers e
+    ⊎ ((reading_of (outcome old) ds ≡ record { events = []; ending = Some e })
+    × (IsMemoryFault parse_layers e ⊎ (length new.tokens ≡ fault_of_raw old ds)))
+    → IsTurnRefused e (of_raw old ds answered) (of_raw new ds' answered)
+refused_by old new ds ds' answered e z a s r = record {
+  more = stands_more old ds answered z;
+  asked = a;
+  finished = finishes new.peeked new.tokens new.fault new.stack ds' answered s;
+  reason = elim r [
+    | inl m ↦ inl m
+    | inr q ↦ inr (ap (λ (x : Reading). x.events) q.0, ap (λ (x : Reading). x.ending) q.0)
+  ];
+  unasked = elim r [ inl m ↦ inl m | inr q ↦ q.1 ];
+}
+
 pub refused_turn : (old middle new : Raw) (ds ds' : Directives) (answered : Fault) (e : Fault)
     → Stands old.stack → AskedFor e old ds new.tokens → IsRefused e old middle
     → new.tokens ≡ middle.tokens → new.stack ≡ []
     → IsTurnRefused e (of_raw old ds answered) (of_raw new ds' answered)
-refused_turn old middle new ds ds' answered e z a h k s = record {
-  more = stands_more old ds answered z;
-  asked = a;
-  finished = finishes new.peeked new.tokens new.fault new.stack ds' answered s;
-  reason = elim h.reason [
-    | inl m ↦ inl m
-    | inr q ↦ inr (refused_of (of_raw old ds answered) (reading_of (outcome old) ds) e (ap (λ (o : Outcome). reading_of o ds) q ∙ reading_nothing (Some e) ds) refl refl)
-  ];
-  unasked = elim h.reason [
-    | inl m ↦ inl m
-    | inr q ↦ elim h.unasked [ inl m ↦ inl m | inr n ↦ inr (ap length k ∙ n ∙ sym (ap (λ (o : Outcome). unasked_at_fault o.items (stop_of old) ds) q ∙ fault_nothing (stop_of old) ds)) ]
-  ];
-}
-
-settled_turn : (old middle new : Raw) (ds ds' : Directives) (answered : Fault) (i : RawEvent)
-    (e : Fault) → Stands old.stack → AskedFor e old ds new.tokens → GivesItem i old middle
-    → settle i ds ≡ refused e → new.tokens ≡ middle.tokens → new.stack ≡ []
-    → IsTurnRefused e (of_raw old ds answered) (of_raw new ds' answered)
-settled_turn old middle new ds ds' answered i e z a h r k s = record {
-  more = stands_more old ds answered z;
-  asked = a;
-  finished = finishes new.peeked new.tokens new.fault new.stack ds' answered s;
-  reason = inr (refused_of (of_raw old ds answered) (reading_of (outcome old) ds) e
-      (ap (λ (o : Outcome). reading_of o ds) h.same ∙ reading_refused (outcome middle).items (outcome middle).ending ds i (length middle.tokens) e r) refl refl);
-  unasked = inr (ap length k ∙ sym (item_unasked old middle ds i h ∙ fault_refused (outcome middle).items (stop_of middle) ds i (length middle.tokens) e r));
-}
-
-memory_turn : (old new : Raw) (ds ds' : Directives) (answered : Fault) (e : Fault)
-    → Stands old.stack → AskedFor e old ds new.tokens → e ≡ memory_fault Parser → new.stack ≡ []
-    → IsTurnRefused e (of_raw old ds answered) (of_raw new ds' answered)
-memory_turn old new ds ds' answered e z a m s = record { more = stands_more old ds answered z; asked = a; finished = finishes new.peeked new.tokens new.fault new.stack ds' answered s; reason = inl (inl m); unasked = inl (inl m) }
+refused_turn old middle new ds ds' answered e z a h k s = refused_by old new ds ds' answered e z a s (elim h.reason [
+  | inl m ↦ inl m
+  | inr q ↦ inr (
+    ap (λ (o : Outcome). reading_of o ds) q ∙ reading_nothing (Some e) ds,
+    elim h.unasked [ inl m ↦ inl m | inr n ↦ inr (ap length k ∙ n ∙ sym (ap (λ (o : Outcome). unasked_at_fault o.items (stop_of old) ds) q ∙ fault_nothing (stop_of old) ds)) ],
+  )
+])
 
 -- an item that is refused, or for which memory ran out
 pub unsettled_turn : (old middle new : Raw) (ds ds' : Directives) (answered : Fault) (i : RawEvent)
@@ -208,8 +170,13 @@ pub unsettled_turn : (old middle new : Raw) (ds ds' : Directives) (answered : Fa
     → (e ≡ memory_fault Parser) ⊎ (settle i ds ≡ refused e) → new.tokens ≡ middle.tokens
     → new.stack ≡ []
     → IsTurnRefused e (of_raw old ds answered) (of_raw new ds' answered)
-unsettled_turn old middle new ds ds' answered i e z a h (inl m) k s = memory_turn old new ds ds' answered e z a m s
-unsettled_turn old middle new ds ds' answered i e z a h (inr r) k s = settled_turn old middle new ds ds' answered i e z a h r k s
+unsettled_turn old middle new ds ds' answered i e z a h r k s = refused_by old new ds ds' answered e z a s (elim r [
+  | inl m ↦ inl (inl m)
+  | inr r ↦ inr (
+    ap (λ (o : Outcome). reading_of o ds) h.same ∙ reading_settled (outcome middle).items (outcome middle).ending ds i (length middle.tokens) (refused e) r,
+    inr (ap length k ∙ sym (item_unasked old middle ds i h ∙ fault_settled (outcome middle).items (stop_of middle) ds i (length middle.tokens) (refused e) r)),
+  )
+])
 
 pub done_turn : (old new : Raw) (ds : Directives) (answered : Fault) → IsDone old new
     → IsOver (of_raw old ds answered) (of_raw new ds answered)

@@ -1,15 +1,17 @@
 -- What a turn with its item resolved is to what is to come.
-use Rattle.std.proofs.Common.{◌≡◌, ◌⊎◌, ◌∙◌, ◌+◌, ◌<◌, ◌≤◌, ℕ, inl, inr, Bool, true, false, List, [], ◌∷◌, length, arith, Option, Some, None, refl, sym, subst}
-use Rattle.yaml_parse_step.proofs.Words.{Token, Fault, Event, State, Outcome, run, unasked_at_stop, Stands, Directives, unasked_at_fault, parser_remaining, is_between, waiting, reading_of, next_unasked, IsStack, IsUtf8Token, IsUtf8Held, is_nothing, Step, raw, IsFront, HasNoFront, IsSilent, IsRealOn, Went}
+use Rattle.std.proofs.Common.{◌≡◌, ◌∙◌, ◌+◌, ◌<◌, ◌≤◌, ℕ, inl, inr, Bool, true, false, List, [], ◌∷◌, length, arith, Option, Some, None, refl, sym, subst}
+use Rattle.yaml_parse_step.proofs.Words.{Token, Fault, Event, State, Outcome, run, unasked_at_stop, Stands, Directives, unasked_at_fault, parser_remaining, is_between, waiting, reading_of, next_unasked, IsStack, IsUtf8Token, IsUtf8Held, is_nothing, Step, raw, IsFront, HasNoFront, IsSilent, IsRealOn, Went, WentOn, StepBuffers, peeked_of, states_in}
 use Rattle.yaml_parse_model.specs.Source as source
 use Rattle.yaml_parse_laws_trees.proofs.Falling.{next_behind, ended_next}
 use Rattle.yaml_parse_step.specs.declared.step.Step.TheVariants as code
 use Rattle.yaml_parse_step.specs.Stepped as step
 use Rattle.yaml_parse_grammar.specs.Remaining.{held_of}
-use Rattle.yaml_parse_step.specs.Steps.{held_if, Turns, IsUtf8Turn, IsStackTurn}
-use Rattle.yaml_parse_step.specs.Turned.{turned}
+use Rattle.yaml_parse_step.specs.Steps.{AreSilent, held_if, Turns, IsUtf8Turn, IsStackTurn}
+use Rattle.yaml_parse_resolve.specs.Settles.{directives_of}
+use Rattle.yaml_parse_step.specs.Moves.{TakesTurn}
+use Rattle.yaml_parse_step.specs.Turned.{Turned, turned}
 use Rattle.yaml_parse_step.proofs.Moves.{over_front}
-use Rattle.yaml_parse_step.proofs.Turning.{event_turn, silent_turn, noted_turn, noted_directive, refused_turn, unsettled_turn, AskedFor}
+use Rattle.yaml_parse_step.proofs.Turning.{event_turn, silent_turn, noted_turn, noted_directive, turns_behind, refused_turn, unsettled_turn, AskedFor}
 use Rattle.yaml_parse_step.proofs.Texts.{advance_utf8, silent_utf8, event_utf8, noted_utf8, cleared_utf8}
 use Rattle.yaml_parse_step.proofs.Heights.{silent_stands, event_stands, noted_stands, cleared_stands}
 
@@ -100,6 +102,40 @@ went_stands s t ds code.Silent e g held new behind (inl m) p = silent_stands new
 went_stands s t ds code.Silent e g held new behind (inr d) p = noted_stands new d.item (d.moves.stack p)
 went_stands s t ds code.Refused e g held new behind h p = cleared_stands new h.0
 went_stands s t ds code.Done e g held new behind h p = cleared_stands new h.2
+
+-- what a turn at the token in front owes
+pub went_takes : (old new : StepBuffers) (ts : List Token) (f : Option Fault) (t : Token)
+    (rest : List Token) (after : Option Fault) (r : Step) (e : Event) (g : Fault)
+    → is_nothing (states_in old) ≡ false → IsFront (peeked_of old) ts f t rest after
+    → (IsUtf8Token (peeked_of old) → source.HasUtf8 t.body) → WentOn (states_in old) t old r e g new
+    → TakesTurn old ts f (turned r e g) new rest after
+went_takes old new ts f t rest after r e g z k u h = record {
+  turns = λ answered. went_turns (peeked_of old) ts f (states_in old) t rest after (directives_of old.directives) r e g (peeked_of new) (states_in new) (directives_of new.directives) answered z k h;
+  utf8 = went_utf8 (peeked_of old) (states_in old) t (directives_of old.directives) r e g (peeked_of new) (states_in new) (directives_of new.directives) u h;
+  stack = went_stands (states_in old) t (directives_of old.directives) r e g (peeked_of new) (states_in new) (directives_of new.directives) h;
+}
+
+-- ---- turns that gave nothing
+
+-- no turn, or turns that gave nothing, as far as what they lend tells
+pub record KeptSilent (old : StepBuffers) (ts : List Token) (f : Option Fault) (new : StepBuffers)
+    (rest : List Token) (after : Option Fault) : Type 0 where
+  pub silent : (answered : Fault) → AreSilent
+      (parser_remaining (peeked_of old) ts f (states_in old) (directives_of old.directives) answered)
+      (parser_remaining (peeked_of new) rest after (states_in new) (directives_of new.directives) answered)
+  pub utf8 : IsUtf8Held (peeked_of old) (states_in old) (directives_of old.directives)
+      → IsUtf8Held (peeked_of new) (states_in new) (directives_of new.directives)
+  pub stack : IsStack (states_in old) → IsStack (states_in new)
+
+-- a turn behind them
+pub takes_behind : (i o n : StepBuffers) (ts us rest : List Token) (f g after : Option Fault)
+    (r : Turned) → KeptSilent i ts f o us g → TakesTurn o us g r n rest after
+    → TakesTurn i ts f r n rest after
+takes_behind i o n ts us rest f g after r k h = record {
+  turns = λ answered. turns_behind r _ _ _ (k.silent answered) (h.turns answered);
+  utf8 = λ u. h.utf8 (k.utf8 u);
+  stack = λ u. h.stack (k.stack u);
+}
 
 -- ---- the token that is held
 

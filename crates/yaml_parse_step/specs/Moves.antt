@@ -4,45 +4,37 @@ use Rattle.yaml_scan_model.specs.Tokens.{Token}
 use Rattle.yaml_scan_model.specs.Faults.{Fault, memory_fault}
 use Rattle.yaml_scan_model.specs.declared.yaml_origin_t.TheVariants.{Parser}
 use Rattle.yaml_parse_model.specs.Events.{Event}
+use Rattle.yaml_parse_model.specs.Slots.{token_in_slot}
 use Rattle.yaml_parse_grammar.specs.Items.{RawEvent}
 use Rattle.yaml_parse_grammar.specs.Remaining.{parser_remaining, is_between}
 use Rattle.yaml_parse_grammar.specs.States.{State}
 use Rattle.yaml_parse_grammar.specs.Stacks.{IsStack}
 use Rattle.yaml_parse_grammar.specs.Texts.{IsUtf8Held}
 use Rattle.yaml_parse_grammar.specs.Resolve.{Directives, gave, noted, refused, placed, settle}
-use Rattle.yaml_scan_model.specs.declared.yaml_mark_t.{yaml_mark_t}
 use Rattle.yaml_parse_grammar.specs.Items.{Properties}
 use Rattle.yaml_parse_core.specs.declared.machine.Machine.{Machine}
 use Rattle.yaml_parse_core.specs.Seen.{Seen}
-use Rattle.yaml_parse_core.specs.Turns.{TurnsOn}
-use Rattle.yaml_parse_core.specs.Views.{around_by}
-use Rattle.yaml_parse_core.specs.Owned.{owned_properties, owned_states_by}
+use Rattle.yaml_parse_core.specs.Turns.{TurnsTo}
+use Rattle.yaml_parse_core.specs.Views.{states_by}
 use Rattle.yaml_parse_resolve.specs.declared.resolving.Settled.{Settled}
 use Rattle.yaml_parse_resolve.specs.declared.resolving.Settled.TheVariants as came
 use Rattle.yaml_parse_resolve.specs.Settles.{directives_of}
 use Rattle.yaml_parse_step.specs.declared.step.StepBuffers.{StepBuffers}
 use Rattle.yaml_parse_step.specs.declared.step.Step.{Step}
 use Rattle.yaml_parse_step.specs.declared.step.Step.TheVariants as code
+use Rattle.yaml_parse_step.specs.Stepped.{SteppedOnce}
 use Rattle.yaml_parse_step.specs.Stepped as step
-use Rattle.yaml_parse_step.specs.Steps.{GivesItem, GivesNoItem, IsRefused, IsRealOn, IsUtf8Step, IsStackStep, IsUtf8Turn, IsStackTurn, Turns, raw, peeked_of, states_in}
+use Rattle.yaml_parse_step.specs.Steps.{Steps, IsRefused, IsRealOn, IsUtf8Step, IsStackStep, IsUtf8Turn, IsStackTurn, Turns, raw, peeked_of, states_in}
 use Rattle.yaml_parse_step.specs.Turned as turn
 
--- The item comes first; the token is held then, or taken.
-pub record Moves (s : List State) (t : Token) (i : RawEvent) (held : Option Token)
+-- At that token the states come to that, and others stand then; the token is held, or taken.
+pub record Moves (s : List State) (t : Token) (r : SteppedOnce) (held : Option Token)
     (new : List State) : Type 0 where
   pub gives : (rest : List Token) (ending : Option Fault)
-      → GivesItem i (raw (Some t) rest ending s) (raw held rest ending new)
-  pub real : IsRealOn s t (step.given i)
-  pub utf8 : (ds : Directives) → IsUtf8Held (Some t) s ds → IsUtf8Step (step.given i) held new ds
-  pub stack : IsStack s → IsStackStep (step.given i) new
-
--- The token is taken, and nothing is given.
-pub record MovesSilently (s : List State) (t : Token) (new : List State) : Type 0 where
-  pub gives : (rest : List Token) (ending : Option Fault)
-      → GivesNoItem (raw (Some t) rest ending s) (raw None rest ending new)
-  pub real : IsRealOn s t step.silent
-  pub utf8 : (ds : Directives) → IsUtf8Held (Some t) s ds → IsUtf8Step step.silent None new ds
-  pub stack : IsStack s → IsStackStep step.silent new
+      → Steps (raw (Some t) rest ending s) r (raw held rest ending new)
+  pub real : IsRealOn s t r
+  pub utf8 : (ds : Directives) → IsUtf8Held (Some t) s ds → IsUtf8Step r held new ds
+  pub stack : IsStack s → IsStackStep r new
 
 -- The token is refused there, or memory ran out.
 abbrev pub Stops : List State → Token → Fault → Type 0
@@ -53,7 +45,7 @@ Stops s t f = (rest : List Token) (ending : Option Fault) (held : Option Token) 
 pub record GaveEvent (s : List State) (t : Token) (ds : Directives) (e : Event)
     (held : Option Token) (new : List State) (behind : Directives) : Type 0 where
   pub item : RawEvent
-  pub moves : Moves s t item held new
+  pub moves : Moves s t (step.given item) held new
   pub settles : settle item ds ≡ gave e.body behind
   pub placed : e ≡ placed e.body item
 
@@ -61,7 +53,7 @@ pub record GaveEvent (s : List State) (t : Token) (ds : Directives) (e : Event)
 pub record GaveDirective (s : List State) (t : Token) (ds : Directives) (held : Option Token)
     (new : List State) (behind : Directives) : Type 0 where
   pub item : RawEvent
-  pub moves : Moves s t item held new
+  pub moves : Moves s t (step.given item) held new
   pub settles : settle item ds ≡ noted behind
 
 -- an item is refused
@@ -69,7 +61,7 @@ pub record GaveFault (s : List State) (t : Token) (ds : Directives) (f : Fault) 
   pub item : RawEvent
   pub held : Option Token
   pub new : List State
-  pub moves : Moves s t item held new
+  pub moves : Moves s t (step.given item) held new
   pub settles : (f ≡ memory_fault Parser) ⊎ (settle item ds ≡ refused f)
 
 -- The topmost state at a token, with its item resolved.
@@ -77,7 +69,7 @@ abbrev pub Went : List State → Token → Directives → Step → Event → Fau
     → List State → Directives → Type 0
 Went s t ds code.Given e f held new behind = GaveEvent s t ds e held new behind
 Went s t ds code.Silent e f held new behind
-    = (MovesSilently s t new × (held ≡ None) × (behind ≡ ds))
+    = (Moves s t step.silent None new × (held ≡ None) × (behind ≡ ds))
     ⊎ GaveDirective s t ds held new behind
 Went s t ds code.Refused e f held new behind = (new ≡ []) × (Stops s t f ⊎ GaveFault s t ds f)
 Went s t ds code.Done e f held new behind = (s ≡ []) × (held ≡ Some t) × (new ≡ [])
@@ -87,12 +79,16 @@ Went s t ds code.Done e f held new behind = (s ≡ []) × (held ≡ Some t) × (
 
 -- what the machine did at that token, which leaves it as it is now
 abbrev pub Turned : StepBuffers → List State → Token → Seen → Type 0
-Turned b s t r = TurnsOn s t r (around_by (λ m. m) b.machine (owned_properties b.waiting))
-    (owned_states_by b.machine)
+Turned b s t r = TurnsTo s t r b.machine b.waiting
 
 abbrev pub WentOn : List State → Token → StepBuffers → Step → Event → Fault → StepBuffers → Type 0
 WentOn s t old r e f new = Went s t (directives_of old.directives) r e f (peeked_of new)
     (states_in new) (directives_of new.directives)
+
+-- a turn that did that at the token, which is kept, with its item resolved
+abbrev pub Goes : Seen → StepBuffers → Step → Event → Fault → StepBuffers → Type 0
+Goes k old r e f new = (s : List State) (t : Token) → Turned old s t k
+    → token_in_slot old.token ≡ t → WentOn s t old r e f new
 
 -- the step of what an item came to
 abbrev pub step_of : Settled → Step
@@ -101,10 +97,10 @@ step_of came.Noted = code.Silent
 step_of came.Refused = code.Refused
 
 -- behind a refusal nothing is left
-abbrev pub LeavesMachine : Settled → Machine yaml_mark_t → Machine yaml_mark_t → Type 0
+abbrev pub LeavesMachine : Settled → Machine → Machine → Type 0
 LeavesMachine came.Event old new = new ≡ old
 LeavesMachine came.Noted old new = new ≡ old
-LeavesMachine came.Refused old new = (p : Properties) → owned_states_by new p ≡ []
+LeavesMachine came.Refused old new = (p : Properties) → states_by new p ≡ []
 
 -- What a turn owes, by the tokens that the source has to come in front of it and behind it, and by their fault: it gives the front of
 -- what is to come and leaves the rest; texts stay UTF-8; and states stand above one another as before.

@@ -1,16 +1,14 @@
 -- What the private steps of a parser owe.
-use Rattle.std.specs.Prelude.{◌≡◌, ◌⊎◌, ◌+◌, ◌<◌, ◌≤◌, ◌++◌, ℕ, List, [], ◌∷◌, length, Option, Some, None, Bool, true, false}
+use Rattle.std.specs.Prelude.{◌≡◌, ◌⊎◌, ◌+◌, ◌<◌, ◌≤◌, ℕ, List, [], ◌∷◌, length, Option, Some, None, Bool, true, false}
 use Rattle.yaml_scan_model.specs.declared.yaml_origin_t.TheVariants.{Parser}
-use Rattle.yaml_scan_model.specs.declared.yaml_mark_t.{yaml_mark_t}
 use Rattle.yaml_scan_model.specs.Tokens.{Token, no_token, type_of}
 use Rattle.yaml_parse_model.specs.Slots.{token_in_slot}
 use Rattle.yaml_scan_model.specs.Faults.{Fault, memory_fault, IsMemoryFault, parse_layers, scan_layers}
 use Rattle.yaml_parse_model.specs.Source.{HasMore}
 use Rattle.yaml_parse_grammar.specs.declared.name.Choice.TheVariants.{Take}
 use Rattle.yaml_parse_grammar.specs.States.{State}
-use Rattle.yaml_parse_grammar.specs.Items.{item_at}
 use Rattle.yaml_parse_grammar.specs.Items as item
-use Rattle.yaml_parse_grammar.specs.Machine.{Outcome, run, unasked_at_stop, ending_at, choice_at, opened, Stands}
+use Rattle.yaml_parse_grammar.specs.Machine.{Outcome, run, unasked_at_stop, ending_at, choice_at, Stands}
 use Rattle.yaml_parse_grammar.specs.Remaining.{ParserRemaining, waiting, held_of, IsFinished, is_between, next_unasked}
 use Rattle.yaml_parse_grammar.specs.Texts.{IsUtf8Item, AreUtf8States, IsUtf8Token}
 use Rattle.yaml_parse_grammar.specs.Stacks.{IsStack, StandsBehind, parts_documents_behind}
@@ -18,8 +16,7 @@ use Rattle.yaml_parse_model.specs.Constructors.{HasUtf8, AreUtf8}
 use Rattle.yaml_parse_grammar.specs.Resolve.{Directives, Settled, gave, noted, placed, refused}
 use Rattle.yaml_parse_model.specs.declared.event.yaml_event_t.{yaml_event_t}
 use Rattle.yaml_parse_model.specs.Events.{event_of, body_of}
-use Rattle.yaml_parse_core.specs.Owned.{owned_states}
-use Rattle.yaml_parse_core.specs.Views.{is_nothing}
+use Rattle.yaml_parse_core.specs.Views.{is_nothing, states_of}
 use Rattle.yaml_parse_step.specs.declared.step.StepBuffers.{StepBuffers}
 use Rattle.yaml_parse_step.specs.Finds.{GivesNext}
 use Rattle.yaml_parse_step.specs.Stepped.{SteppedOnce}
@@ -37,7 +34,7 @@ peeked_of d = held_if d.is_held (token_in_slot d.token)
 
 -- what may come, the topmost first
 abbrev pub states_in : StepBuffers → List State
-states_in b = owned_states b.machine b.waiting
+states_in b = states_of b.machine b.waiting
 
 -- no token is held, and something is open
 abbrev pub AsksNext : StepBuffers → Type 0
@@ -125,14 +122,6 @@ Steps old (step.given i) new = GivesItem i old new
 Steps old step.silent new = GivesNoItem old new
 Steps old (step.refused f) new = IsRefused f old new
 Steps old step.done new = IsDone old new
-
--- an implicit document begins there
-abbrev pub OpensAt : yaml_mark_t → List State → SteppedOnce → List State → Type 0
-OpensAt start old (step.given i) new = (i ≡ item_at (item.document true) start start)
-    × (new ≡ opened start ++ old)
-OpensAt start old (step.refused f) new = f ≡ memory_fault Parser
-OpensAt start old step.silent new = ⊥
-OpensAt start old step.done new = ⊥
 
 -- what takes no item, or a directive, takes a token
 abbrev pub IsReal : State → Token → SteppedOnce → Type 0

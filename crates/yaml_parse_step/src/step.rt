@@ -14,10 +14,10 @@ ghost use Rattle.yaml_parse_grammar.specs.States.{State};
 ghost use Rattle.yaml_parse_grammar.specs.Items.{Properties};
 ghost use Rattle.yaml_parse_model.specs.Source.{HasUtf8};
 ghost use Rattle.yaml_parse_step.specs.Steps.{AsksNext, HasFront, peeked_of, states_in};
-ghost use Rattle.yaml_parse_step.specs.Moves.{TakesTurn, Turned, WentOn, LeavesMachine, step_of};
+ghost use Rattle.yaml_parse_step.specs.Moves.{TakesTurn, Turned, Goes, WentOn, LeavesMachine, step_of};
 ghost use Rattle.yaml_parse_step.specs.Turned.{turned};
 
-use yaml_parse_core::{Implied, Machine, Shape, Told, Turn, Waiting, finish, is_over, turn_owned};
+use yaml_parse_core::{Implied, Machine, Shape, Told, Turn, Waiting, finish, is_over, turn};
 use yaml_parse_grammar::ParseProblem;
 use yaml_parse_model::{TokenSlot, yaml_event_t, yaml_token_source_t};
 use yaml_parse_resolve::{
@@ -41,13 +41,13 @@ pub enum Step {
 #[derive(Drop)]
 pub struct StepBuffers {
     /// What may come.
-    pub machine: Machine<yaml_mark_t>,
+    pub machine: Machine,
     /// The token that was asked for last.
     pub token: TokenSlot,
     /// It is still to be taken.
     pub is_held: bool,
     /// The properties that wait for their node.
-    pub waiting: Waiting<Vec<u8>, yaml_mark_t>,
+    pub waiting: Waiting,
     /// Of the document that is open or begins.
     pub directives: Directives,
 }
@@ -107,8 +107,7 @@ fn settled(buffers: &mut StepBuffers, settled: Settled) -> Step
 // A node without properties.
 #[inline(always)]
 fn tell(shape: Shape, buffers: &mut StepBuffers, event: &mut yaml_event_t) -> Step
-    ensures { (s : List State) (t : Token) (f : Fault) → Turned buffers.old s t (kinds.node shape)
-        → token_in_slot buffers.old.token ≡ t → WentOn s t buffers.old result (event_of event.new) f
+    ensures { (f : Fault) → Goes (kinds.node shape) buffers.old result (event_of event.new) f
         buffers.new }
 {
     buffers.is_held = false;
@@ -125,9 +124,8 @@ fn step_named(
     event: &mut yaml_event_t,
     fault: &mut yaml_fault_t,
 ) -> Step
-    ensures { (s : List State) (t : Token) → Turned buffers.old s t (kinds.named shape)
-        → token_in_slot buffers.old.token ≡ t → WentOn s t buffers.old result (event_of event.new)
-        (fault_of fault.new) buffers.new }
+    ensures { Goes (kinds.named shape) buffers.old result (event_of event.new) (fault_of fault.new)
+        buffers.new }
 {
     buffers.is_held = false;
     let came = settle_named(
@@ -150,9 +148,8 @@ fn tell_other(
     event: &mut yaml_event_t,
     fault: &mut yaml_fault_t,
 ) -> Step
-    ensures { (s : List State) (t : Token) → Turned buffers.old s t (kinds.given told)
-        → token_in_slot buffers.old.token ≡ t → WentOn s t buffers.old result (event_of event.new)
-        (fault_of fault.new) buffers.new }
+    ensures { Goes (kinds.given told) buffers.old result (event_of event.new) (fault_of fault.new)
+        buffers.new }
 {
     buffers.is_held = false;
     let came = settle_told(
@@ -175,9 +172,8 @@ fn tell_rare(
     event: &mut yaml_event_t,
     fault: &mut yaml_fault_t,
 ) -> Step
-    ensures { (s : List State) (t : Token) → Turned buffers.old s t (kinds.given told)
-        → token_in_slot buffers.old.token ≡ t → WentOn s t buffers.old result (event_of event.new)
-        (fault_of fault.new) buffers.new }
+    ensures { Goes (kinds.given told) buffers.old result (event_of event.new) (fault_of fault.new)
+        buffers.new }
 {
     tell_other(told, buffers, event, fault)
 }
@@ -212,9 +208,8 @@ fn leave(
     event: &mut yaml_event_t,
     fault: &mut yaml_fault_t,
 ) -> Step
-    ensures { (s : List State) (t : Token) → Turned buffers.old s t (kinds.left implied)
-        → token_in_slot buffers.old.token ≡ t → WentOn s t buffers.old result (event_of event.new)
-        (fault_of fault.new) buffers.new }
+    ensures { Goes (kinds.left implied) buffers.old result (event_of event.new) (fault_of fault.new)
+        buffers.new }
 {
     buffers.is_held = true;
     let at = implied_place(implied, &buffers.machine.before, &buffers.token.start_mark);
@@ -237,9 +232,8 @@ fn open_document(
     event: &mut yaml_event_t,
     fault: &mut yaml_fault_t,
 ) -> Step
-    ensures { (s : List State) (t : Token) → Turned buffers.old s t (kinds.opened)
-        → token_in_slot buffers.old.token ≡ t → WentOn s t buffers.old result (event_of event.new)
-        (fault_of fault.new) buffers.new }
+    ensures { Goes (kinds.opened) buffers.old result (event_of event.new) (fault_of fault.new)
+        buffers.new }
 {
     buffers.is_held = true;
     let came = settle_opened(&buffers.directives, &buffers.token.start_mark, event, fault);
@@ -251,9 +245,7 @@ fn open_document(
 #[cold]
 #[inline(never)]
 fn refused(problem: ParseProblem, buffers: &mut StepBuffers, fault: &mut yaml_fault_t) -> Step
-    ensures { (s : List State) (t : Token) (e : Event)
-        → Turned buffers.old s t (kinds.refused problem)
-        → token_in_slot buffers.old.token ≡ t → WentOn s t buffers.old result e (fault_of fault.new)
+    ensures { (e : Event) → Goes (kinds.refused problem) buffers.old result e (fault_of fault.new)
         buffers.new }
 {
     let at = buffers.token.start_mark;
@@ -340,7 +332,7 @@ fn moving(buffers: &mut StepBuffers, event: &mut yaml_event_t, fault: &mut yaml_
     ensures { WentOn (states_in buffers.old) (token_in_slot buffers.old.token) buffers.old result
         (event_of event.new) (fault_of fault.new) buffers.new }
 {
-    let turn = turn_owned(
+    let turn = turn(
         &mut buffers.machine,
         &mut buffers.waiting,
         &mut buffers.token,

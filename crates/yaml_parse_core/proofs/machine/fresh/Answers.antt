@@ -3,4 +3,4 @@ use Rattle.yaml_parse_core.proofs.Stacks.{alone}
 use Rattle.yaml_parse_core.proofs.machine.fresh.Goals as goal
 
 pub returns : goal.returns
-returns g c = λ mark p. alone mark stream c.new.result.items c.new.ensures.items
+returns c = λ p. alone stream c.new.result.items c.new.ensures.items

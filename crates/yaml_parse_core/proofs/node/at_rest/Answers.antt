@@ -1,39 +1,18 @@
-use Rattle.yaml_parse_core.specs.Views.{properties_of}
 use Rattle.yaml_parse_core.specs.declared.told.Shape.TheVariants as shape
 use Rattle.yaml_parse_core.proofs.Nodes.{named_node}
 use Rattle.yaml_parse_core.proofs.node.at_rest.Goals as goal
 
 pub returns-in-Scalar-clause-turns : goal.returns-in-Scalar-clause-turns
-returns-in-Scalar-clause-turns g c = λ s.
-    named_node c.args.wants c.args.kind (g.T.yaml_lent_token_t.text s c.args.token.now) (g.T.yaml_lent_token_t.other s c.args.token.now) (g.T.yaml_lent_token_t.extra c.args.token.now)
-    (g.T.yaml_lent_token_t.mark s (g.T.yaml_lent_token_t.from c.args.token.now)) (g.T.yaml_lent_token_t.mark s (g.T.yaml_lent_token_t.to c.args.token.now))
-    (properties_of (g.T.yaml_lent_token_t.bytes s) (g.T.yaml_lent_token_t.mark s) c.args.waiting.now) _ _ shape.Scalar
-    c.in_default.not-YAML_ANCHOR_TOKEN c.in_default.not-YAML_TAG_TOKEN (c.in-Scalar.ensures.content s)
+returns-in-Scalar-clause-turns c = named_node c.args.wants c.args.kind c.args.token.now _ _ _ shape.Scalar c.in_default.not-YAML_ANCHOR_TOKEN c.in_default.not-YAML_TAG_TOKEN c.in-Scalar.ensures.content
 
 pub returns-in-BlockSequence-clause-turns : goal.returns-in-BlockSequence-clause-turns
-returns-in-BlockSequence-clause-turns g c = λ s.
-    named_node c.args.wants c.args.kind (g.T.yaml_lent_token_t.text s c.args.token.now) (g.T.yaml_lent_token_t.other s c.args.token.now) (g.T.yaml_lent_token_t.extra c.args.token.now)
-    (g.T.yaml_lent_token_t.mark s (g.T.yaml_lent_token_t.from c.args.token.now)) (g.T.yaml_lent_token_t.mark s (g.T.yaml_lent_token_t.to c.args.token.now))
-    (properties_of (g.T.yaml_lent_token_t.bytes s) (g.T.yaml_lent_token_t.mark s) c.args.waiting.now) _ _ shape.BlockSequence
-    c.in_default.not-YAML_ANCHOR_TOKEN c.in_default.not-YAML_TAG_TOKEN (c.in-BlockSequence.ensures.content s)
+returns-in-BlockSequence-clause-turns c = named_node c.args.wants c.args.kind c.args.token.now _ _ _ shape.BlockSequence c.in_default.not-YAML_ANCHOR_TOKEN c.in_default.not-YAML_TAG_TOKEN c.in-BlockSequence.ensures.content
 
 pub returns-in-BlockMapping-clause-turns : goal.returns-in-BlockMapping-clause-turns
-returns-in-BlockMapping-clause-turns g c = λ s.
-    named_node c.args.wants c.args.kind (g.T.yaml_lent_token_t.text s c.args.token.now) (g.T.yaml_lent_token_t.other s c.args.token.now) (g.T.yaml_lent_token_t.extra c.args.token.now)
-    (g.T.yaml_lent_token_t.mark s (g.T.yaml_lent_token_t.from c.args.token.now)) (g.T.yaml_lent_token_t.mark s (g.T.yaml_lent_token_t.to c.args.token.now))
-    (properties_of (g.T.yaml_lent_token_t.bytes s) (g.T.yaml_lent_token_t.mark s) c.args.waiting.now) _ _ shape.BlockMapping
-    c.in_default.not-YAML_ANCHOR_TOKEN c.in_default.not-YAML_TAG_TOKEN (c.in-BlockMapping.ensures.content s)
+returns-in-BlockMapping-clause-turns c = named_node c.args.wants c.args.kind c.args.token.now _ _ _ shape.BlockMapping c.in_default.not-YAML_ANCHOR_TOKEN c.in_default.not-YAML_TAG_TOKEN c.in-BlockMapping.ensures.content
 
 pub returns-in-FlowSequence-clause-turns : goal.returns-in-FlowSequence-clause-turns
-returns-in-FlowSequence-clause-turns g c = λ s.
-    named_node c.args.wants c.args.kind (g.T.yaml_lent_token_t.text s c.args.token.now) (g.T.yaml_lent_token_t.other s c.args.token.now) (g.T.yaml_lent_token_t.extra c.args.token.now)
-    (g.T.yaml_lent_token_t.mark s (g.T.yaml_lent_token_t.from c.args.token.now)) (g.T.yaml_lent_token_t.mark s (g.T.yaml_lent_token_t.to c.args.token.now))
-    (properties_of (g.T.yaml_lent_token_t.bytes s) (g.T.yaml_lent_token_t.mark s) c.args.waiting.now) _ _ shape.FlowSequence
-    c.in_default.not-YAML_ANCHOR_TOKEN c.in_default.not-YAML_TAG_TOKEN (c.in-FlowSequence.ensures.content s)
+returns-in-FlowSequence-clause-turns c = named_node c.args.wants c.args.kind c.args.token.now _ _ _ shape.FlowSequence c.in_default.not-YAML_ANCHOR_TOKEN c.in_default.not-YAML_TAG_TOKEN c.in-FlowSequence.ensures.content
 
 pub returns-in-FlowMapping-clause-turns : goal.returns-in-FlowMapping-clause-turns
-returns-in-FlowMapping-clause-turns g c = λ s.
-    named_node c.args.wants c.args.kind (g.T.yaml_lent_token_t.text s c.args.token.now) (g.T.yaml_lent_token_t.other s c.args.token.now) (g.T.yaml_lent_token_t.extra c.args.token.now)
-    (g.T.yaml_lent_token_t.mark s (g.T.yaml_lent_token_t.from c.args.token.now)) (g.T.yaml_lent_token_t.mark s (g.T.yaml_lent_token_t.to c.args.token.now))
-    (properties_of (g.T.yaml_lent_token_t.bytes s) (g.T.yaml_lent_token_t.mark s) c.args.waiting.now) _ _ shape.FlowMapping
-    c.in_default.not-YAML_ANCHOR_TOKEN c.in_default.not-YAML_TAG_TOKEN (c.in-FlowMapping.ensures.content s)
+returns-in-FlowMapping-clause-turns c = named_node c.args.wants c.args.kind c.args.token.now _ _ _ shape.FlowMapping c.in_default.not-YAML_ANCHOR_TOKEN c.in_default.not-YAML_TAG_TOKEN c.in-FlowMapping.ensures.content

@@ -1,7 +1,7 @@
 use Rattle.std.proofs.Common.{refl, sym, ◌∙◌}
-use Rattle.yaml_parse_step.proofs.Words.{token_in_slot, fault_of, event_of, owned_properties, directives_of, raw, peeked_of, states_in}
+use Rattle.yaml_parse_step.proofs.Words.{token_in_slot, fault_of, event_of, properties_of, directives_of, raw, peeked_of, states_in}
 use Rattle.yaml_parse_step.proofs.Turning.{done_turn}
-use Rattle.yaml_parse_step.proofs.Ways.{over_empty, held_front, held_utf8, went_turns, went_utf8, went_stands}
+use Rattle.yaml_parse_step.proofs.Ways.{over_empty, held_front, held_utf8, went_takes}
 use Rattle.yaml_parse_step.proofs.step.take_turn.Goals as goal
 
 pub returns-then-is_over : goal.returns-then-is_over
@@ -11,36 +11,20 @@ returns-then-is_over g c =
           let b = c.args.buffers.now in
           let left = raw (peeked_of b) (g.S.yaml_token_source_t.to_come c.args.source.now) (g.S.yaml_token_source_t.fault_to_come c.args.source.now) (states_in b) in
           done_turn left left (directives_of b.directives) answered
-          (record { empty = over_empty (states_in b) (sym (c.is_over.ensures (λ m. m) (owned_properties b.waiting)) ∙ c.if-is_over.true); same = refl });
+          (record { empty = over_empty (states_in b) (sym (c.is_over.ensures (properties_of b.waiting)) ∙ c.if-is_over.true); same = refl });
       utf8 = λ h. (tt, h);
       stack = λ h. (tt, h);
     }
 
 pub returns-then-buffers : goal.returns-then-buffers
 returns-then-buffers g c =
-    record {
-      turns = λ answered.
-          let b = c.args.buffers.now in
-          let n = c.turn_at_held.new.buffers in
-          let t = token_in_slot b.token in
-          let ts = g.S.yaml_token_source_t.to_come c.args.source.now in
-          let f = g.S.yaml_token_source_t.fault_to_come c.args.source.now in
-          went_turns (peeked_of b) ts f (states_in b) t ts f (directives_of b.directives) c.turn_at_held.result (event_of c.turn_at_held.new.event) (fault_of c.turn_at_held.new.fault) (peeked_of n) (states_in n) (directives_of n.directives) answered
-          (sym (c.is_over.ensures (λ m. m) (owned_properties c.args.buffers.now.waiting)) ∙ c.if-is_over.false) (held_front b.is_held t ts f c.if-buffers.true) c.turn_at_held.ensures;
-      utf8 = λ h.
-          let b = c.args.buffers.now in
-          let n = c.turn_at_held.new.buffers in
-          let t = token_in_slot b.token in
-          went_utf8 (peeked_of b) (states_in b) t (directives_of b.directives) c.turn_at_held.result (event_of c.turn_at_held.new.event) (fault_of c.turn_at_held.new.fault) (peeked_of n) (states_in n) (directives_of n.directives)
-          (λ k. held_utf8 b.is_held t c.if-buffers.true k) c.turn_at_held.ensures h;
-      stack = λ h.
-          let b = c.args.buffers.now in
-          let n = c.turn_at_held.new.buffers in
-          went_stands (states_in b) (token_in_slot b.token) (directives_of b.directives) c.turn_at_held.result (event_of c.turn_at_held.new.event) (fault_of c.turn_at_held.new.fault) (peeked_of n) (states_in n) (directives_of n.directives) c.turn_at_held.ensures h;
-    }
+    let b = c.args.buffers.now in
+    let t = token_in_slot b.token in
+    went_takes b c.turn_at_held.new.buffers _ _ t _ _ c.turn_at_held.result (event_of c.turn_at_held.new.event) (fault_of c.turn_at_held.new.fault)
+    (sym (c.is_over.ensures (properties_of b.waiting)) ∙ c.if-is_over.false) (held_front b.is_held t _ _ c.if-buffers.true) (held_utf8 b.is_held t c.if-buffers.true) c.turn_at_held.ensures
 
 pub turns_at_next-requires : goal.turns_at_next-requires
-turns_at_next-requires g c = (c.if-buffers.false, sym (c.is_over.ensures (λ m. m) (owned_properties c.args.buffers.now.waiting)) ∙ c.if-is_over.false)
+turns_at_next-requires g c = (c.if-buffers.false, sym (c.is_over.ensures (properties_of c.args.buffers.now.waiting)) ∙ c.if-is_over.false)
 
 pub returns : goal.returns
 returns g c = c.turns_at_next.ensures

@@ -1,3 +1,3 @@
 mod Pairs
-pub mod Loading
+mod Loading
 mod Finding

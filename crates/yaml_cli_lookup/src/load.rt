@@ -35,7 +35,6 @@ fn first_document(
 }
 
 /// The first document of the input, whose root is a mapping. No document behind it is loaded.
-#[tactic(auto, using(crate::proofs::Loading::due))]
 pub fn load_mapping(
     alloc: Global,
     input: &[u8],

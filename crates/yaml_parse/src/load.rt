@@ -9,6 +9,7 @@ use crate::parser::{yaml_parser_parse_into, yaml_parser_t};
 use yaml_parse_document::{no_document, yaml_document_t};
 use yaml_parse_loader::Loader;
 use yaml_parse_model::{yaml_event_body_t, yaml_event_t, yaml_token_source_t};
+use yaml_parse_resolve::let_event_go;
 use yaml_parse_step::yaml_found_t;
 use yaml_scan_model::{yaml_fault_t, yaml_memory_fault, yaml_origin_t};
 
@@ -20,7 +21,7 @@ struct Loading;
 #[inline(always)]
 fn let_go(loader: Loader, event: yaml_event_t) {
     loader.let_go();
-    drop(event);
+    let_event_go(event);
 }
 
 /// The next document, its nodes numbered from 1 in preorder; behind the last one a document without root. An alias stands

@@ -27,7 +27,7 @@ use yaml_parse_core::{finish, fresh, is_between, none_waiting};
 use yaml_parse_model::{
     TokenSlot, yaml_event_body_t, yaml_event_t, yaml_parser_t_prefix, yaml_token_source_t,
 };
-use yaml_parse_resolve::{Directives, TagDirectives};
+use yaml_parse_resolve::{Directives, TagDirectives, let_event_go};
 use yaml_parse_step::{Step, StepBuffers, let_buffers_go, take_turn, yaml_found_t};
 use yaml_scan_model::{yaml_fault_t, yaml_mark_t, yaml_memory_fault, yaml_origin_t};
 
@@ -194,11 +194,11 @@ fn handed_out(
     match found {
         yaml_found_t::Event => Ok(event),
         yaml_found_t::Refused => {
-            drop(event);
+            let_event_go(event);
             Err(fault)
         }
         yaml_found_t::End => {
-            drop(event);
+            let_event_go(event);
             Ok(yaml_event_t::unplaced(yaml_event_body_t::No))
         }
     }

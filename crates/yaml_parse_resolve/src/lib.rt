@@ -14,4 +14,5 @@ pub use nodes::tell_node;
 pub use resolving::{
     Directives, Settled, lack_memory, refuse, settle_implied, settle_named, settle_opened,
 };
+pub use slots::let_event_go;
 pub use told::settle_told;

@@ -8,7 +8,9 @@ ghost use Rattle.yaml_parse_grammar.specs.Resolve.{node_event};
 ghost use Rattle.yaml_parse_resolve.specs.Bare.{OwnsNothing};
 
 use crate::room::{exchanged, put_bare};
-use yaml_parse_model::{yaml_event_body_t, yaml_mapping_style_t, yaml_sequence_style_t};
+use yaml_parse_model::{
+    yaml_event_body_t, yaml_event_t, yaml_mapping_style_t, yaml_sequence_style_t,
+};
 
 /// Another event in the slot.
 // Inlined: the new one's kind is known.
@@ -17,6 +19,13 @@ pub(crate) fn put(slot: &mut yaml_event_body_t, event: yaml_event_body_t)
     ensures { slot.new ≡ event }
 {
     *slot = event;
+}
+
+/// Lets an event go. It is a call, so that no proof above writes out the drops of all that an event may hold.
+// Inlined: it lies where it was made.
+#[inline(always)]
+pub fn let_event_go(event: yaml_event_t) {
+    drop(event);
 }
 
 /// A sequence ends.

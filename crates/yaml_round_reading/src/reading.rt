@@ -3,6 +3,7 @@
 ghost use Rattle.std.specs.Prelude.{◌≡◌, true, IfOk, IfErr};
 ghost use Rattle.yaml_parse.specs.Faults.{fault_of, memory_fault};
 ghost use Rattle.yaml_parse.specs.Events.{event_of};
+ghost use Rattle.yaml_parse.specs.Finds.{Finds};
 ghost use Rattle.yaml_parse.specs.NextLoad.{AreLoadsByContent, LoadIsNext, RefusalIsNext};
 ghost use Rattle.yaml_round_content.specs.Input.{ReadsInput};
 ghost use Rattle.yaml_round_reading.specs.Reading.{AreReal, FindsNextEvent, EndsWith};
@@ -51,6 +52,15 @@ impl Reading<'_> {
         requires { AreReal self.old.parser.events }
         ensures { FindsNextEvent self.old.parser result (event_of self.new.event) self.new.fault
             self.new.parser }
+    {
+        yaml_parser_parse_into::<_, L>(&mut self.parser, &mut self.event, &mut self.fault)
+    }
+
+    /// What `next` answers, of a reading whose events may be any. It is a call, so that no proof above writes out the drops of all
+    /// that a parser holds.
+    pub fn find<L>(&mut self) -> yaml_found_t
+        ensures finds { Finds self.old.parser result (event_of self.new.event)
+            (fault_of self.new.fault) self.new.parser }
     {
         yaml_parser_parse_into::<_, L>(&mut self.parser, &mut self.event, &mut self.fault)
     }

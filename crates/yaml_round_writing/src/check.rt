@@ -10,7 +10,7 @@ use crate::known::{Known, Passed};
 use std::alloc::Global;
 use yaml_parse::{
     undefined_alias_fault, yaml_encoding_t, yaml_fault_t, yaml_found_t, yaml_memory_fault,
-    yaml_origin_t, yaml_parser_parse_into,
+    yaml_origin_t,
 };
 use yaml_round_reading::{Reading, let_go, reading_of};
 
@@ -24,11 +24,7 @@ fn look_through(reading: &mut Reading<'_>, known: &mut Known) -> Result<(), yaml
         → Answers load_layers (λ done. done) (IsChecked from input) result }
 {
     'events: loop {
-        match yaml_parser_parse_into::<_, Checking>(
-            &mut reading.parser,
-            &mut reading.event,
-            &mut reading.fault,
-        ) {
+        match reading.find::<Checking>() {
             yaml_found_t::Refused => return Err(reading.fault),
             yaml_found_t::End => return Ok(()),
             yaml_found_t::Event => match known.pass(&reading.event) {

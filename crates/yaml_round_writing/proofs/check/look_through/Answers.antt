@@ -13,13 +13,13 @@ events-init c = (nothing_loaded, (unknown c.args.known.now nothing_loaded c.requ
 
 pub events-preserved : goal.events-preserved
 events-preserved c =
-    next_event c.events.reading.parser c.yaml_parser_parse_into.new.parser (event_of c.yaml_parser_parse_into.new.event) c.events.known c.pass.new.self c.pass.result _
+    next_event c.events.reading.parser c.find.new.self.parser (event_of c.find.new.self.event) c.events.known c.pass.new.self c.pass.result _
     c.in-Event.ensures.finds c.pass.ensures c.in-On.is c.events.invariant
 
 pub returns-in-Refused : goal.returns-in-Refused
 returns-in-Refused c = λ from input h.
     let loads = subst (λ (z : Option Fault). LoadsOn c.events.known c.events.reading.parser z) (first_event from input c.args.reading.now.parser h) c.events.invariant in
-    fault_seen from input c.events.reading.parser c.events.known c.yaml_parser_parse_into.new.fault loads c.in-Refused.ensures.finds.reason
+    fault_seen from input c.events.reading.parser c.events.known c.find.new.self.fault loads c.in-Refused.ensures.finds.reason
 
 pub returns-in-End : goal.returns-in-End
 returns-in-End c = λ from input h.
@@ -30,11 +30,11 @@ returns-in-End c = λ from input h.
 pub returns-in-Over : goal.returns-in-Over
 returns-in-Over c = λ from input h.
     let loads = subst (λ (z : Option Fault). LoadsOn c.events.known c.events.reading.parser z) (first_event from input c.args.reading.now.parser h) c.events.invariant in
-    accepted from input (over_event c.events.reading.parser c.yaml_parser_parse_into.new.parser (event_of c.yaml_parser_parse_into.new.event) c.events.known c.pass.new.self c.pass.result _ c.in-Event.ensures.finds c.pass.ensures c.in-Over.is loads)
+    accepted from input (over_event c.events.reading.parser c.find.new.self.parser (event_of c.find.new.self.event) c.events.known c.pass.new.self c.pass.result _ c.in-Event.ensures.finds c.pass.ensures c.in-Over.is loads)
 
 pub returns-in-Undefined : goal.returns-in-Undefined
 returns-in-Undefined c = λ from input h.
     let loads = subst (λ (z : Option Fault). LoadsOn c.events.known c.events.reading.parser z) (first_event from input c.args.reading.now.parser h) c.events.invariant in
     faulty from input c.undefined_alias_fault.result
-    (undefined_event c.events.reading.parser c.yaml_parser_parse_into.new.parser (event_of c.yaml_parser_parse_into.new.event) c.events.known c.pass.new.self c.pass.result _ c.in-Event.ensures.finds c.pass.ensures c.in-Undefined.is loads
+    (undefined_event c.events.reading.parser c.find.new.self.parser (event_of c.find.new.self.event) c.events.known c.pass.new.self c.pass.result _ c.in-Event.ensures.finds c.pass.ensures c.in-Undefined.is loads
     ∙ ap Some (sym c.undefined_alias_fault.ensures))

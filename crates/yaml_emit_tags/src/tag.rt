@@ -214,15 +214,15 @@ fn put_secondary(sink: &mut Sink, suffix: &[u8])
         (word (spelled (shorthand (ascii.exclamation ∷ ascii.exclamation ∷ []) suffix.now))) }
 {
     if is_same(suffix, b"str") {
-        sink.put_known_word(b"!!str", b" !!str");
+        sink.put_around(b"!!str", b" !!str", b"", b"");
         return;
     }
     if is_same(suffix, b"map") {
-        sink.put_known_word(b"!!map", b" !!map");
+        sink.put_around(b"!!map", b" !!map", b"", b"");
         return;
     }
     if is_same(suffix, b"seq") {
-        sink.put_known_word(b"!!seq", b" !!seq");
+        sink.put_around(b"!!seq", b" !!seq", b"", b"");
         return;
     }
     put_behind(sink, b"!!", b" !!", suffix);

@@ -8,9 +8,9 @@ use Rattle.std.specs.Str.{chars}
 use Rattle.std.proofs.lemmas.Bool.{and_parts, and_from}
 use Rattle.std.proofs.Math.Bool.{and-false}
 use Rattle.yaml_emit_sink.specs.declared.Cursor.{Cursor}
-use Rattle.yaml_emit_sink.specs.Text.{Item, letter, is_break}
+use Rattle.yaml_emit_sink.specs.Text.{letter, is_break}
 use Rattle.yaml_emit_sink.specs.Layout.{Layout, Rest, ◌▹◌, stay, choose, when, char, letters, new_line, line, is_past}
-use Rattle.yaml_emit_sink.specs.Sink.{Output, Ends, Owes, Puts}
+use Rattle.yaml_emit_sink.specs.Sink.{Output, Owes, Puts}
 use Rattle.yaml_emit_sink.proofs.Sinks.{owes_as, puts_as}
 use Rattle.yaml_emit_text.specs.declared.page.Page.{Page}
 use Rattle.yaml_emit_text.specs.declared.run.Bounds.{Bounds}

@@ -15,7 +15,7 @@ use Rattle.yaml_emit_text.proofs.RunWalks.{look_calm, tame_letters}
 use Rattle.yaml_emit_text.specs.declared.page.Allowed.{Allowed}
 use Rattle.yaml_emit_text.specs.declared.page.Seen.{Seen}
 use Rattle.yaml_emit_text.specs.Quoted.{first, is_empty}
-use Rattle.yaml_emit_text.specs.Style.{somewhere, is_special, is_break_space, is_not_plain, is_not_flow, last_or, ends_in_space, behind, starts_badly, is_badly_begun, looked, allowed_text, allowed}
+use Rattle.yaml_emit_text.specs.Style.{somewhere, is_special, is_break_space, is_not_plain, is_not_flow, last_or, ends_in_space, behind, starts_badly, is_badly_begun, looked, allowed}
 
 -- by what is seen: what is special, breaks with spaces, a space at the end, a bad beginning, what isn't plain, and what isn't in flow
 abbrev by : Bool → Bool → Bool → Bool → Bool → Bool → Allowed

@@ -190,8 +190,7 @@ fn look(unicode: bool, value: &str) -> (Seen, char)
         not_plain: false,
         not_flow: false,
     };
-    let mut last = ' ';
-    let mut left = value;
+    let (mut last, mut left) = past_calm(' ', value);
     while let Some((c, more)) = split_first(left) {
         all = joined(all, seen(unicode, last, c, first(more)));
         let (latest, behind) = past_calm(c, more);

@@ -1,4 +1,4 @@
-use Rattle.std.proofs.Common.{◌∙◌, ap, refl}
+use Rattle.std.proofs.Common.{◌∙◌, ap}
 use Rattle.yaml_emit_text.proofs.Looks.{look_more, look_end, last_more, last_end}
 use Rattle.yaml_emit_text.specs.Style.{joined}
 use Rattle.yaml_emit_text.proofs.style.look.Goals as goal
@@ -7,7 +7,7 @@ pub split_first-requires-text-text : goal.split_first-requires-text-text
 split_first-requires-text-text c = λ _. c.loop-c.invariant.0
 
 pub loop-c-init : goal.loop-c-init
-loop-c-init c = (c.utf8.value, refl, refl)
+loop-c-init c = (c.past_calm-last.ensures.utf8, c.past_calm-last.ensures.seen c.args.unicode, c.past_calm-last.ensures.last)
 
 pub loop-c-preserved : goal.loop-c-preserved
 loop-c-preserved c =

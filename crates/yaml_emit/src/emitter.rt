@@ -36,13 +36,11 @@ pub fn yaml_emitter_set_encoding(emitter: &mut yaml_emitter_t, encoding: yaml_en
       requested_settings = record emitter.old.requested_settings { encoding = encoding };
     } }
 {
-    set_requested_settings(
-        emitter,
-        RequestedSettings {
-            encoding,
-            ..requested_settings(emitter)
-        },
-    );
+    let settings = RequestedSettings {
+        encoding,
+        ..requested_settings(emitter)
+    };
+    set_requested_settings(emitter, settings);
 }
 
 /// Canonical form, or pretty.
@@ -52,13 +50,11 @@ pub fn yaml_emitter_set_canonical(emitter: &mut yaml_emitter_t, canonical: bool)
       requested_settings = record emitter.old.requested_settings { canonical = canonical };
     } }
 {
-    set_requested_settings(
-        emitter,
-        RequestedSettings {
-            canonical,
-            ..requested_settings(emitter)
-        },
-    );
+    let settings = RequestedSettings {
+        canonical,
+        ..requested_settings(emitter)
+    };
+    set_requested_settings(emitter, settings);
 }
 
 /// The columns of one level: 2 to 9; any other number means 2.
@@ -68,13 +64,11 @@ pub fn yaml_emitter_set_indent(emitter: &mut yaml_emitter_t, indent: i32)
       requested_settings = record emitter.old.requested_settings { indent = indent };
     } }
 {
-    set_requested_settings(
-        emitter,
-        RequestedSettings {
-            indent,
-            ..requested_settings(emitter)
-        },
-    );
+    let settings = RequestedSettings {
+        indent,
+        ..requested_settings(emitter)
+    };
+    set_requested_settings(emitter, settings);
 }
 
 /// The column past which lines are cut. A negative one means 2,147,483,647; 0 to twice the indent means 80.
@@ -84,13 +78,11 @@ pub fn yaml_emitter_set_width(emitter: &mut yaml_emitter_t, width: i32)
       requested_settings = record emitter.old.requested_settings { width = width };
     } }
 {
-    set_requested_settings(
-        emitter,
-        RequestedSettings {
-            width,
-            ..requested_settings(emitter)
-        },
-    );
+    let settings = RequestedSettings {
+        width,
+        ..requested_settings(emitter)
+    };
+    set_requested_settings(emitter, settings);
 }
 
 /// Whether characters above U+007F stand as they are.
@@ -100,13 +92,11 @@ pub fn yaml_emitter_set_unicode(emitter: &mut yaml_emitter_t, unicode: bool)
       requested_settings = record emitter.old.requested_settings { unicode = unicode };
     } }
 {
-    set_requested_settings(
-        emitter,
-        RequestedSettings {
-            unicode,
-            ..requested_settings(emitter)
-        },
-    );
+    let settings = RequestedSettings {
+        unicode,
+        ..requested_settings(emitter)
+    };
+    set_requested_settings(emitter, settings);
 }
 
 /// What ends a line. Any break means LF.
@@ -116,13 +106,11 @@ pub fn yaml_emitter_set_break(emitter: &mut yaml_emitter_t, line_break: yaml_bre
       requested_settings = record emitter.old.requested_settings { line_break = line_break };
     } }
 {
-    set_requested_settings(
-        emitter,
-        RequestedSettings {
-            line_break,
-            ..requested_settings(emitter)
-        },
-    );
+    let settings = RequestedSettings {
+        line_break,
+        ..requested_settings(emitter)
+    };
+    set_requested_settings(emitter, settings);
 }
 
 /// Whether no event was given.

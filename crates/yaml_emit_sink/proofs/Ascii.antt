@@ -1,13 +1,10 @@
 -- ASCII at the end of the output.
-use Rattle.std.proofs.Common.{◌≡◌, ℕ, ◌+◌, ◌<◌, List, [], ◌∷◌, ◌++◌, length, length-append, true, false, refl, sym, subst, ◌∙◌, ap, arith}
+use Rattle.std.proofs.Common.{◌≡◌, ℕ, ◌+◌, ◌<◌, List, [], ◌∷◌, ◌++◌, length, true, false, refl, sym, ◌∙◌, ap, arith}
 use Rattle.std.specs.Prelude.{◌==◌, ◌≤◌}
 use Rattle.std.specs.Str.{IsAscii}
 use Rattle.std.proofs.lemmas.Bool.Decides.{nat_tests}
 use Rattle.std.proofs.lemmas.Str.{IsAscii-drop}
-use Rattle.std.proofs.lemmas.Str.Ascii.{IsAscii-from_all}
-use Rattle.std.specs.Char.{is_ascii}
-use Rattle.std.specs.List.{list_all}
-use Rattle.std.proofs.lemmas.List.Sums.{AllPass-from_list_all}
+use Rattle.std.proofs.lemmas.Str.Ascii.{IsAscii-cons, IsAscii-nil}
 use Rattle.yaml_emit_sink.specs.declared.cursor.Cursor.{Cursor}
 use Rattle.yaml_emit_sink.specs.declared.cursor.Status.{Status}
 use Rattle.yaml_emit_sink.specs.declared.cursor.Status.TheVariants.{Going}
@@ -16,7 +13,7 @@ use Rattle.yaml_emit_sink.specs.Text.{letter, encode, char_bytes, is_deep, shall
 use Rattle.yaml_emit_sink.specs.Layout.{Rest, ◌▹◌, letters, word}
 use Rattle.yaml_emit_sink.specs.Appends.{AppendsBy, lettered}
 use Rattle.yaml_emit_sink.specs.Sink.{Output, Puts}
-use Rattle.yaml_emit_sink.proofs.Sinks.{Leads, puts_run, puts_stroke, puts_nothing, puts_as, puts_both, cond_false}
+use Rattle.yaml_emit_sink.proofs.Sinks.{Leads, puts_run, puts_sure, puts_nothing, puts_as, puts_both, cond_false}
 
 -- the cursor behind characters
 behind : List ℕ → Cursor → Cursor
@@ -41,31 +38,19 @@ one_byte : (x : ℕ) → x < 0x80 → char_bytes Utf8 x ≡ x ∷ []
 unfolding char_bytes
 one_byte x h = grind arith
 
-letters_encode : (xs : List ℕ) (c : Cursor) (rest : Rest) → IsAscii xs
-    → encode Utf8 (letters xs c rest) ≡ xs ++ encode Utf8 (rest (behind xs c))
-unfolding encode letters behind
-letters_encode [] c rest h = refl
-letters_encode (x ∷ xs) c rest h =
-    let d : Cursor = record { column = c.column + 1; white = false; bare = false; kept = c.kept } in
-    ap (λ b. b ++ encode Utf8 (letters xs d rest)) (one_byte x (first_byte x xs h)) ∙ ap (λ (t : List ℕ). x ∷ t) (letters_encode xs d rest (more_bytes x xs h))
-
-letters_deep : (xs : List ℕ) (c : Cursor) (rest : Rest)
-    → is_deep (letters xs c rest) ≡ is_deep (rest (behind xs c))
-unfolding is_deep letters behind
-letters_deep [] c rest = refl
-letters_deep (x ∷ xs) c rest = letters_deep xs (record { column = c.column + 1; white = false; bare = false; kept = c.kept }) rest
-
-letters_front : (xs : List ℕ) (c : Cursor) (rest : Rest) → IsAscii xs
-    → encode Utf8 (shallow (letters xs c rest)) ≡ xs ++ encode Utf8 (shallow (rest (behind xs c)))
-unfolding encode shallow letters behind
-letters_front [] c rest h = refl
-letters_front (x ∷ xs) c rest h =
-    let d : Cursor = record { column = c.column + 1; white = false; bare = false; kept = c.kept } in
-    ap (λ b. b ++ encode Utf8 (shallow (letters xs d rest))) (one_byte x (first_byte x xs h)) ∙ ap (λ (t : List ℕ). x ∷ t) (letters_front xs d rest (more_bytes x xs h))
-
 letters_lead : (xs : List ℕ) (c : Cursor) (rest : Rest) → IsAscii xs
     → Leads Utf8 (letters xs c rest) (rest (behind xs c)) xs
-letters_lead xs c rest h = record { all = letters_encode xs c rest h; deep = letters_deep xs c rest; front = letters_front xs c rest h }
+unfolding encode is_deep shallow letters behind
+letters_lead [] c rest h = record { all = refl; deep = refl; front = refl }
+letters_lead (x ∷ xs) c rest h =
+    let d : Cursor = record { column = c.column + 1; white = false; bare = false; kept = c.kept } in
+    let l = letters_lead xs d rest (more_bytes x xs h) in
+    let byte = one_byte x (first_byte x xs h) in
+    record {
+      all = ap (λ b. b ++ encode Utf8 (letters xs d rest)) byte ∙ ap (λ (t : List ℕ). x ∷ t) l.all;
+      deep = l.deep;
+      front = ap (λ b. b ++ encode Utf8 (shallow (letters xs d rest))) byte ∙ ap (λ (t : List ℕ). x ∷ t) l.front;
+    }
 
 pub puts_ascii : (a b : Output) (xs : List ℕ) → IsAscii xs → 0 < length xs → a.status ≡ Going
     → a.encoding ≡ Utf8 → b.encoding ≡ a.encoding → b.limit ≡ a.limit
@@ -81,19 +66,19 @@ pub puts_near : (a b : Output) (xs : List ℕ) → IsAscii xs → 0 < length xs 
     → a.encoding ≡ Utf8 → b.status ≡ a.status → b.encoding ≡ a.encoding → b.limit ≡ a.limit
     → b.bytes ≡ a.bytes ++ xs → length a.bytes + length xs ≤ a.limit
     → b.cursor ≡ lettered (length xs) a.cursor → Puts a b (letters xs)
-puts_near a b xs s p g x t e l o r k =
-    let P : Status → Type 0 = λ z. AppendsBy z a.limit a.bytes b.bytes xs in
-    puts_ascii a b xs s p g x e l (subst P (sym (t ∙ g)) (o, rw o (omega (arith, r, length-append a.bytes xs)))) (λ _. k)
+puts_near a b [] s p g x t e l o r k = absurd (omega (arith, p))
+puts_near a b (y ∷ ys) s p g x t e l o r k =
+    puts_sure a b (letters (y ∷ ys)) (y ∷ ys) (behind (y ∷ ys)) g t e l (λ rest. rw x (letters_lead (y ∷ ys) a.cursor rest s)) o r (k ∙ sym (behind_is y ys a.cursor))
 
 -- a character of one byte was appended
 pub puts_byte : (a b : Output) (x : ℕ) (n : Cursor → Cursor) → a.status ≡ Going → a.encoding ≡ Utf8
     → x < 0x80 → length a.bytes < a.limit → b.bytes ≡ a.bytes ++ x ∷ []
     → b.status ≡ a.status → b.encoding ≡ a.encoding → b.limit ≡ a.limit → b.cursor ≡ n a.cursor
     → Puts a b (λ c rest. letter x ∷ rest (n c))
+unfolding encode is_deep shallow
 puts_byte a b x n g u s r o t e l k =
-    let P : Status → Type 0 = λ z. AppendsBy z a.limit a.bytes b.bytes (char_bytes a.encoding x) in
     let byte : char_bytes a.encoding x ≡ x ∷ [] = rw u (one_byte x s) in
-    puts_stroke a b x n g e l (subst P (sym (t ∙ g)) (o ∙ ap (λ y. a.bytes ++ y) (sym byte), rw o (omega (arith, r, length-append a.bytes (x ∷ []))))) (λ _. k)
+    puts_sure a b (λ c rest. letter x ∷ rest (n c)) (x ∷ []) n g t e l (λ rest. record { all = ap (λ y. y ++ encode a.encoding (rest (n a.cursor))) byte; deep = refl; front = ap (λ y. y ++ encode a.encoding (shallow (rest (n a.cursor)))) byte }) o (omega (arith, r)) k
 
 -- one text behind another, where it stands
 pub letters_both : (xs ys : List ℕ) (c : Cursor) (rest : Rest)
@@ -116,11 +101,11 @@ pub some_letters : (xs : List ℕ) → (length xs == 0) ≡ false → 0 < length
 some_letters [] e = absurd (cc)
 some_letters (x ∷ xs) e = omega arith
 
-small : (b : ℕ) → is_ascii b ≡ true → b < 128
-small b h = grind (arith, nat_tests)
-
-pub all_ascii : (xs : List ℕ) → list_all is_ascii xs ≡ true → IsAscii xs
-all_ascii xs h = IsAscii-from_all xs (λ k d l. small _ (AllPass-from_list_all is_ascii xs h k d l))
+pub ascii_parts : (xs ys : List ℕ) → IsAscii (xs ++ ys) → IsAscii xs × IsAscii ys
+ascii_parts [] ys h = (IsAscii-nil, h)
+ascii_parts (x ∷ xs) ys h =
+    let (a, b) = ascii_parts xs ys (more_bytes x (xs ++ ys) h) in
+    (IsAscii-cons x xs (first_byte x (xs ++ ys) h) a, b)
 
 -- where no white space was last, a word has a space in front
 pub parted : (t : List ℕ) (c : Cursor) (rest : Rest) → 0 < length t → c.white ≡ false

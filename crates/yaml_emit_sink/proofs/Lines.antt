@@ -1,8 +1,8 @@
 -- A break and the spaces behind it.
 use Rattle.std.proofs.Common.{◌≡◌, ℕ, ◌+◌, ◌-◌, ◌≤◌, List, [], ◌∷◌, ◌++◌, take, length, length-append, Bool, true, false, ◌<◌, refl, sym, subst, ◌∙◌, ap, append_assoc, arith}
-use Rattle.std.specs.Prelude.{zero, suc, replicate, not, ◌&&◌, ◌||◌, ◌==◌, nat_lt, nat_le, if◌then◌else◌, Option, None, Some}
+use Rattle.std.specs.Prelude.{zero, suc, replicate, ◌&&◌, ◌||◌, ◌==◌, nat_lt, nat_le, if◌then◌else◌, Option, None, Some}
 use Rattle.std.specs.Str.{IsAscii}
-use Rattle.std.proofs.lemmas.Bool.{false≢true}
+use Rattle.std.proofs.lemmas.Bool.{false≢true, or_parts}
 use Rattle.std.proofs.lemmas.Str.{IsAscii-append}
 use Rattle.std.proofs.lemmas.Bool.Decides.{nat_tests}
 use Rattle.std.proofs.lemmas.List.{take-replicate, length-replicate}
@@ -15,12 +15,12 @@ use Rattle.yaml_emit_sink.specs.declared.settings.LineBreak.{LineBreak}
 use Rattle.yaml_emit_sink.specs.declared.settings.LineBreak.TheVariants.{Lf, Cr, CrLf}
 use Rattle.yaml_emit_sink.specs.Text.{Item, letter, encode, char_bytes, is_deep, shallow}
 use Rattle.yaml_emit_sink.specs.Layout.{Layout, Rest, ◌▹◌, when, char, blanks, letters, fresh, line, must_break, indent_to}
-use Rattle.yaml_emit_sink.specs.Appends.{AppendsBy, indented, blanked, lettered}
+use Rattle.yaml_emit_sink.specs.Appends.{indented, blanked, lettered}
 use Rattle.yaml_emit_sink.specs.Sink.{Output, Puts}
 use Rattle.yaml_emit_sink.specs.declared.feed.LineStart.{LineStart}
 use Rattle.yaml_emit_sink.specs.LineStarts.{enough, commas, marks, signs, line_start_bytes, line_start_text}
 use Rattle.yaml_emit_sink.proofs.Ascii.{puts_near, puts_byte, letters_both}
-use Rattle.yaml_emit_sink.proofs.Sinks.{puts_as, puts_both, puts_run, puts_spaces, cond_true, cond_false, stepped, stepped_none, stepped_is, Leads, blanks_lead}
+use Rattle.yaml_emit_sink.proofs.Sinks.{puts_as, puts_both, puts_sure, cond_true, cond_false, stepped, stepped_none, stepped_is, Leads, blanks_lead}
 
 -- the cursor at the start of a line
 abbrev home : Cursor → Cursor
@@ -41,23 +41,13 @@ fresh_lead n c rest =
     record { all = ap (λ (t : List ℕ). 10 ∷ t) l.all; deep = l.deep; front = ap (λ (t : List ℕ). 10 ∷ t) l.front }
 
 -- a line feed and spaces of one byte were appended
-pub puts_fresh : (a b : Output) (n : ℕ) → a.status ≡ Going → a.encoding ≡ Utf8
-    → b.encoding ≡ a.encoding → b.limit ≡ a.limit
-    → AppendsBy b.status a.limit a.bytes b.bytes (10 ∷ replicate n 32)
-    → (b.status ≡ Going → b.cursor ≡ indented n a.cursor)
-    → Puts a b (fresh Lf n)
-puts_fresh a b n g x e l h k =
-    puts_run a b (fresh Lf n) (10 ∷ replicate n 32) (λ c. stepped n (home c)) g e l (λ rest. rw x (fresh_lead n a.cursor rest)) h (λ going. k going ∙ sym (stepped_home n a.cursor))
-
--- the same, all of them for certain
 pub puts_brief : (a b : Output) (n : ℕ) → a.status ≡ Going → a.encoding ≡ Utf8 → b.status ≡ a.status
     → b.encoding ≡ a.encoding → b.limit ≡ a.limit
     → b.bytes ≡ a.bytes ++ 10 ∷ replicate n 32 → length a.bytes + (1 + n) ≤ a.limit
     → b.cursor ≡ indented n a.cursor → Puts a b (fresh Lf n)
 puts_brief a b n g x t e l o r k =
-    let P : Status → Type 0 = λ z. AppendsBy z a.limit a.bytes b.bytes (10 ∷ replicate n 32) in
     let many : length (replicate {A = ℕ} n 32) ≡ n = length-replicate n 32 in
-    puts_fresh a b n g x e l (subst P (sym (t ∙ g)) (o, rw o (omega (arith, r, many, length-append a.bytes (10 ∷ replicate n 32))))) (λ _. k)
+    puts_sure a b (fresh Lf n) (10 ∷ replicate n 32) (λ c. stepped n (home c)) g t e l (λ rest. rw x (fresh_lead n a.cursor rest)) o (omega (arith, r, many)) (k ∙ sym (stepped_home n a.cursor))
 
 no_less : (n : ℕ) → n - 0 ≡ n
 no_less n = omega arith
@@ -102,19 +92,15 @@ blanks_cut old whole new blanks n h b w e =
     let some : take n blanks ≡ replicate n 32 = ap (take n) b ∙ take-replicate n (length blanks) 32 h in
     e ∙ ap (take (length old + n)) w ∙ take-append-add old blanks n ∙ ap (λ (t : List ℕ). old ++ t) some
 
-some_of : (n : ℕ) → (n ≡ 0 → ⊥) → 0 < n
-some_of zero p = absurd (p refl)
-some_of (suc n) p = omega arith
-
 -- spaces of one byte were appended, all of them for certain
 pub puts_few : (a b : Output) (n : ℕ) → (n ≡ 0 → ⊥) → a.status ≡ Going → a.encoding ≡ Utf8
     → b.status ≡ a.status → b.encoding ≡ a.encoding → b.limit ≡ a.limit
     → b.bytes ≡ a.bytes ++ replicate n 32 → length a.bytes + n ≤ a.limit
     → b.cursor ≡ blanked n a.cursor → Puts a b (blanks n)
-puts_few a b n p g x t e l o r k =
-    let P : Status → Type 0 = λ z. AppendsBy z a.limit a.bytes b.bytes (replicate n 32) in
+puts_few a b zero p g x t e l o r k = absurd (p refl)
+puts_few a b (suc n) p g x t e l o r k =
     let many : length (replicate {A = ℕ} n 32) ≡ n = length-replicate n 32 in
-    puts_spaces a b n (some_of n p) g x e l (subst P (sym (t ∙ g)) (o, rw o (omega (arith, r, many, length-append a.bytes (replicate n 32))))) (λ _. k)
+    puts_sure a b (blanks (suc n)) (replicate (suc n) 32) (stepped (suc n)) g t e l (λ rest. rw x (blanks_lead (suc n) a.cursor rest)) o (omega (arith, r, many)) (k ∙ sym (stepped_is n a.cursor))
 
 -- a line feed, spaces and a text behind them were appended
 pub puts_lined : (a b : Output) (n : ℕ) (xs : List ℕ) → must_break n a.cursor ≡ true
@@ -133,11 +119,15 @@ puts_lined a b n xs m g x t e l s p o r k =
 
 -- ---- where a line ends
 
+-- two layouts are the same behind so many spaces in a bare line
+abbrev pub AreSame : ℕ → Layout → Layout → Rest → Type 0
+AreSame n x y rest = (kept : Bool) → x (record { column = n; white = true; bare = true; kept = kept }) rest
+    ≡ y (record { column = n; white = true; bare = true; kept = kept }) rest
+
 -- by how many spaces are due
 blanks_land : (i n k : ℕ) (white kept : Bool) (x y : Layout) (rest : Rest)
     → i ≡ n - k → k ≤ n → (i ≡ 0 → white ≡ true)
-    → ((kept : Bool) → x (record { column = n; white = true; bare = true; kept = kept }) rest
-    ≡ y (record { column = n; white = true; bare = true; kept = kept }) rest)
+    → AreSame n x y rest
     → (blanks i ▹ x) (record { column = k; white = white; bare = true; kept = kept }) rest
     ≡ (blanks i ▹ y) (record { column = k; white = white; bare = true; kept = kept }) rest
 unfolding blanks
@@ -146,11 +136,6 @@ blanks_land zero n k white kept x y rest e h w f =
     rw (w refl, there) (f kept)
 blanks_land (suc i) n k white kept x y rest e h w f =
     ap (λ (t : List Item). letter 32 ∷ t) (blanks_land i n (k + 1) true kept x y rest (omega (arith, e)) (omega (arith, e, h)) (λ z. refl) f)
-
-or_none : (a b : Bool) → (a || b) ≡ false → (a ≡ false) × (b ≡ false)
-or_none false false h = (refl, refl)
-or_none true b h = absurd (cc)
-or_none false true h = absurd (cc)
 
 at_most : (n k : ℕ) → nat_lt n k ≡ false → k ≤ n
 at_most n k h = grind (arith, nat_tests, h)
@@ -161,22 +146,20 @@ same_column n k h e = let there : k ≡ n = omega (arith, h, e) in grind (arith,
 -- where the line isn't broken
 lands_joined : (n k : ℕ) (white bare kept : Bool) (x y : Layout) (rest : Rest)
     → must_break n (record { column = k; white = white; bare = bare; kept = kept }) ≡ false
-    → ((kept : Bool) → x (record { column = n; white = true; bare = true; kept = kept }) rest
-    ≡ y (record { column = n; white = true; bare = true; kept = kept }) rest)
+    → AreSame n x y rest
     → (blanks (n - k) ▹ x) (record { column = k; white = white; bare = bare; kept = kept }) rest
     ≡ (blanks (n - k) ▹ y) (record { column = k; white = white; bare = bare; kept = kept }) rest
 lands_joined n k white false kept x y rest m f = absurd (cc)
 lands_joined n k true true kept x y rest m f =
-    let p = or_none (nat_lt n k) (k == n && false) m in
+    let p = or_parts (nat_lt n k) (k == n && false) m in
     blanks_land (n - k) n k true kept x y rest refl (at_most n k p.0) (λ z. refl) f
 lands_joined n k false true kept x y rest m f =
-    let p = or_none (nat_lt n k) (k == n && true) m in
+    let p = or_parts (nat_lt n k) (k == n && true) m in
     let less = at_most n k p.0 in
     blanks_land (n - k) n k false kept x y rest refl less (λ z. absurd (false≢true (sym p.1 ∙ ap (λ (b : Bool). b && true) (same_column n k less z)))) f
 
 fresh_lands : (b : LineBreak) (n : ℕ) (c : Cursor) (x y : Layout) (rest : Rest)
-    → ((kept : Bool) → x (record { column = n; white = true; bare = true; kept = kept }) rest
-    ≡ y (record { column = n; white = true; bare = true; kept = kept }) rest)
+    → AreSame n x y rest
     → (fresh b n ▹ x) c rest ≡ (fresh b n ▹ y) c rest
 fresh_lands Lf n c x y rest f = ap (λ (t : List Item). letter 10 ∷ t) (blanks_land n n 0 true c.kept x y rest (omega arith) (omega arith) (λ z. refl) f)
 fresh_lands Cr n c x y rest f = ap (λ (t : List Item). letter 13 ∷ t) (blanks_land n n 0 true c.kept x y rest (omega arith) (omega arith) (λ z. refl) f)
@@ -184,8 +167,7 @@ fresh_lands CrLf n c x y rest f = ap (λ (t : List Item). letter 13 ∷ letter 1
 
 lands_by : (m : Bool) (b : LineBreak) (n : ℕ) (c : Cursor) (x y : Layout) (rest : Rest)
     → must_break n c ≡ m
-    → ((kept : Bool) → x (record { column = n; white = true; bare = true; kept = kept }) rest
-    ≡ y (record { column = n; white = true; bare = true; kept = kept }) rest)
+    → AreSame n x y rest
     → (line b n ▹ x) c rest ≡ (line b n ▹ y) c rest
 lands_by true b n c x y rest m f =
     line_fresh b n c (λ d. x d rest) m ∙ fresh_lands b n c x y rest f ∙ sym (line_fresh b n c (λ d. y d rest) m)
@@ -194,8 +176,7 @@ lands_by false b n c x y rest m f =
 
 -- behind a line the column is its indentation, and it is bare
 pub line_lands : (b : LineBreak) (n : ℕ) (x y : Layout) (rest : Rest)
-    → ((kept : Bool) → x (record { column = n; white = true; bare = true; kept = kept }) rest
-    ≡ y (record { column = n; white = true; bare = true; kept = kept }) rest)
+    → AreSame n x y rest
     → (c : Cursor) → (line b n ▹ x) c rest ≡ (line b n ▹ y) c rest
 line_lands b n x y rest f c = lands_by (must_break n c) b n c x y rest refl f
 

@@ -1,6 +1,6 @@
 -- Laws of what an output owes.
 use Rattle.std.proofs.Common.{◌≡◌, ◌≢◌, ℕ, ◌+◌, ◌-◌, ◌<◌, ◌≤◌, List, [], ◌∷◌, ◌++◌, length, drop, get_or, Bool, true, false, cond, refl, sym, subst, ◌∙◌, ap, append_assoc, arith, length-append}
-use Rattle.std.specs.Prelude.{if◌then◌else◌, take, zero, suc, replicate}
+use Rattle.std.specs.Prelude.{take, zero, suc, replicate}
 use Rattle.yaml_emit_sink.specs.declared.settings.Encoding.TheVariants.{Utf8}
 use Rattle.std.proofs.lemmas.List.{append-nil, take-append-drop, take-append-le, take-take, drop_more, drop_all}
 use Rattle.std.proofs.Math.Seq.{take-length, take-append_seam}
@@ -9,7 +9,7 @@ use Rattle.yaml_emit_sink.specs.declared.cursor.Status.{Status}
 use Rattle.yaml_emit_sink.specs.declared.cursor.Status.TheVariants.{Going, Full, Deep, Starved}
 use Rattle.yaml_emit_sink.specs.declared.settings.Encoding.{Encoding}
 use Rattle.yaml_emit_sink.specs.Text.{Item, letter, deep, encode, char_bytes, is_deep, shallow}
-use Rattle.yaml_emit_sink.specs.Layout.{Layout, Rest, ◌▹◌, stay, choose, when, char, letters, blank, blanks, too_deep}
+use Rattle.yaml_emit_sink.specs.Layout.{Layout, Rest, ◌▹◌, stay, when, char, letters, blank, blanks, too_deep}
 use Rattle.yaml_emit_sink.specs.Appends.{AppendsBy, blanked}
 use Rattle.yaml_emit_sink.specs.Sink.{Output, Grows, Ends, EndsBy, Owes, Puts, stroke}
 
@@ -55,20 +55,20 @@ pub ends_other : (a : Output) (t u whole : List Item) → a.status ≢ Going →
 unfolding Ends
 ends_other a t u whole n h = ends_stopped a.status a.limit a.encoding a.bytes t u whole n h
 
-pub puts_nothing : (a : Output) → Puts a a stay
-puts_nothing a = record { ends = λ rest whole h. h; encoding = refl; limit = refl; going = λ g. g; stays = λ n. refl; grows = grows_none a.bytes }
-
 -- Where nothing was put the same is owed.
 pub owes_same : (a : Output) (x : Layout) → Owes a a x x
 owes_same a x = record { ends = λ rest whole h. h; encoding = refl; limit = refl; going = λ g. g; stays = λ n. refl; grows = grows_none a.bytes }
 
+pub puts_nothing : (a : Output) → Puts a a stay
+puts_nothing a = owes_same a stay
+
 pub puts_stopped : (a : Output) (x : Layout) → a.status ≢ Going → Puts a a x
 puts_stopped a x n = record { ends = λ rest whole h. ends_other a _ _ whole n h; encoding = refl; limit = refl; going = λ g. g; stays = λ n. refl; grows = grows_none a.bytes }
 
--- some of what is owed is written
-pub owes_more : (a b c : Output) (x y z : Layout) → Owes a b x (y ▹ z) → Puts b c y → Owes a c x z
-owes_more a b c x y z p q = record {
-  ends = λ rest whole h. q.ends (λ d. z d rest) whole (p.ends rest whole h);
+-- Owing is transitive.
+pub owes_then : (a b c : Output) (x y z : Layout) → Owes a b x y → Owes b c y z → Owes a c x z
+owes_then a b c x y z p q = record {
+  ends = λ rest whole h. q.ends rest whole (p.ends rest whole h);
   encoding = q.encoding ∙ p.encoding;
   limit = q.limit ∙ p.limit;
   going = λ g. p.going (q.going g);
@@ -76,28 +76,30 @@ owes_more a b c x y z p q = record {
   grows = grows_both a.bytes b.bytes c.bytes p.grows q.grows;
 }
 
--- one behind the other
-pub puts_both : (a b c : Output) (x y : Layout) → Puts a b x → Puts b c y → Puts a c (x ▹ y)
-puts_both a b c x y p q = record {
-  ends = λ rest whole h. q.ends rest whole (p.ends (λ d. y d rest) whole h);
-  encoding = q.encoding ∙ p.encoding;
-  limit = q.limit ∙ p.limit;
-  going = λ g. p.going (q.going g);
-  stays = λ n. q.stays (λ g. n (p.going g)) ∙ p.stays n;
-  grows = grows_both a.bytes b.bytes c.bytes p.grows q.grows;
-}
-
--- a layout that is another at the cursor
-pub puts_as : (a b : Output) (x y : Layout) → ((rest : Rest) → y a.cursor rest ≡ x a.cursor rest)
-    → Puts a b x → Puts a b y
-puts_as a b x y e p = record {
-  ends = λ rest whole h. let P : List Item → Type 0 = λ t. Ends a t whole in p.ends rest whole (subst P (e rest) h);
+-- what is owed is owed in other words at the cursor
+pub owes_as : (a b : Output) (x y z : Layout)
+    → ((rest : Rest) → x a.cursor rest ≡ (y ▹ z) a.cursor rest) → Puts a b y → Owes a b x z
+owes_as a b x y z e p = record {
+  ends = λ rest whole h. let P : List Item → Type 0 = λ t. Ends a t whole in p.ends (λ d. z d rest) whole (subst P (e rest) h);
   encoding = p.encoding;
   limit = p.limit;
   going = p.going;
   stays = p.stays;
   grows = p.grows;
 }
+
+-- some of what is owed is written
+pub owes_more : (a b c : Output) (x y z : Layout) → Owes a b x (y ▹ z) → Puts b c y → Owes a c x z
+owes_more a b c x y z p q = owes_then a b c x (y ▹ z) z p (owes_as b c (y ▹ z) y z (λ rest. refl) q)
+
+-- one behind the other
+pub puts_both : (a b c : Output) (x y : Layout) → Puts a b x → Puts b c y → Puts a c (x ▹ y)
+puts_both a b c x y p q = owes_then a b c (x ▹ y) y stay (owes_as a b (x ▹ y) x y (λ rest. refl) p) q
+
+-- a layout that is another at the cursor
+pub puts_as : (a b : Output) (x y : Layout) → ((rest : Rest) → y a.cursor rest ≡ x a.cursor rest)
+    → Puts a b x → Puts a b y
+puts_as a b x y e p = owes_as a b y x stay e p
 
 -- the cursor alone is moved
 pub puts_moved : (a b : Output) (f : Cursor → Cursor) → b.bytes ≡ a.bytes → b.status ≡ a.status
@@ -151,26 +153,6 @@ status_cases Full p q = q (λ e. cc)
 status_cases Deep p q = q (λ e. cc)
 status_cases Starved p q = q (λ e. cc)
 
--- a character's bytes were appended
-pub puts_stroke : (a b : Output) (x : ℕ) (n : Cursor → Cursor) → a.status ≡ Going
-    → b.encoding ≡ a.encoding → b.limit ≡ a.limit
-    → AppendsBy b.status a.limit a.bytes b.bytes (char_bytes a.encoding x)
-    → (b.status ≡ Going → b.cursor ≡ n a.cursor)
-    → Puts a b (λ c rest. letter x ∷ rest (n c))
-unfolding Ends encode is_deep shallow
-puts_stroke a b x n g e l h k = record {
-  ends = λ rest whole w.
-      let P : Status → Type 0 = λ s. EndsBy s a.limit a.encoding a.bytes (letter x ∷ rest (n a.cursor)) whole in
-      let back : Ends b (rest (n a.cursor)) whole = rw (e, l) (appends_ends b.status a.limit a.encoding a.bytes b.bytes (char_bytes a.encoding x) (letter x ∷ rest (n a.cursor)) (rest (n a.cursor)) whole (record { all = refl; deep = refl; front = refl }) h (subst P g w)) in
-      let Q : Cursor → Type 0 = λ c. Ends b (rest c) whole in
-      status_cases b.status (λ going. subst Q (sym (k going)) back) (λ stopped. ends_other b _ _ whole stopped back);
-  encoding = e;
-  limit = l;
-  going = λ _. g;
-  stays = λ n. absurd (n g);
-  grows = appends_grows b.status a.limit a.bytes b.bytes (char_bytes a.encoding x) h;
-}
-
 -- a layout of those bytes was appended
 pub puts_run : (a b : Output) (y : Layout) (bytes : List ℕ) (n : Cursor → Cursor) → a.status ≡ Going
     → b.encoding ≡ a.encoding → b.limit ≡ a.limit
@@ -191,6 +173,25 @@ puts_run a b y bytes n g e l u h k = record {
   grows = appends_grows b.status a.limit a.bytes b.bytes bytes h;
 }
 
+-- the same, all of them for certain
+pub puts_sure : (a b : Output) (y : Layout) (bytes : List ℕ) (n : Cursor → Cursor)
+    → a.status ≡ Going → b.status ≡ a.status → b.encoding ≡ a.encoding → b.limit ≡ a.limit
+    → ((rest : Rest) → Leads a.encoding (y a.cursor rest) (rest (n a.cursor)) bytes)
+    → b.bytes ≡ a.bytes ++ bytes → length a.bytes + length bytes ≤ a.limit
+    → b.cursor ≡ n a.cursor → Puts a b y
+puts_sure a b y bytes n g t e l u o r k =
+    let P : Status → Type 0 = λ z. AppendsBy z a.limit a.bytes b.bytes bytes in
+    puts_run a b y bytes n g e l u (subst P (sym (t ∙ g)) (o, rw o (omega (arith, r, length-append a.bytes bytes)))) (λ _. k)
+
+-- a character's bytes were appended
+pub puts_stroke : (a b : Output) (x : ℕ) (n : Cursor → Cursor) → a.status ≡ Going
+    → b.encoding ≡ a.encoding → b.limit ≡ a.limit
+    → AppendsBy b.status a.limit a.bytes b.bytes (char_bytes a.encoding x)
+    → (b.status ≡ Going → b.cursor ≡ n a.cursor)
+    → Puts a b (λ c rest. letter x ∷ rest (n c))
+unfolding encode is_deep shallow
+puts_stroke a b x n g e l h k = puts_run a b (λ c rest. letter x ∷ rest (n c)) (char_bytes a.encoding x) n g e l (λ rest. record { all = refl; deep = refl; front = refl }) h k
+
 -- the cursor behind a space and then some
 pub stepped : ℕ → Cursor → Cursor
 stepped zero c = c
@@ -208,49 +209,27 @@ stepped_is (suc n) c =
     let e : c.column + 1 + suc n ≡ c.column + suc (suc n) = omega arith in
     stepped_is n (at (c.column + 1)) ∙ ap at e
 
-blanks_encode : (n : ℕ) (c : Cursor) (rest : Rest)
-    → encode Utf8 (blanks n c rest) ≡ replicate n 32 ++ encode Utf8 (rest (stepped n c))
-unfolding encode char_bytes blanks stepped
-blanks_encode zero c rest = refl
-blanks_encode (suc n) c rest = ap (λ (t : List ℕ). 32 ∷ t) (blanks_encode n (record { column = c.column + 1; white = true; bare = c.bare; kept = c.kept }) rest)
-
-blanks_deep : (n : ℕ) (c : Cursor) (rest : Rest)
-    → is_deep (blanks n c rest) ≡ is_deep (rest (stepped n c))
-unfolding is_deep blanks stepped
-blanks_deep zero c rest = refl
-blanks_deep (suc n) c rest = blanks_deep n (record { column = c.column + 1; white = true; bare = c.bare; kept = c.kept }) rest
-
-blanks_front : (n : ℕ) (c : Cursor) (rest : Rest)
-    → encode Utf8 (shallow (blanks n c rest)) ≡ replicate n 32
-    ++ encode Utf8 (shallow (rest (stepped n c)))
-unfolding encode char_bytes shallow blanks stepped
-blanks_front zero c rest = refl
-blanks_front (suc n) c rest = ap (λ (t : List ℕ). 32 ∷ t) (blanks_front n (record { column = c.column + 1; white = true; bare = c.bare; kept = c.kept }) rest)
-
 pub blanks_lead : (n : ℕ) (c : Cursor) (rest : Rest)
     → Leads Utf8 (blanks n c rest) (rest (stepped n c)) (replicate n 32)
-blanks_lead n c rest = record { all = blanks_encode n c rest; deep = blanks_deep n c rest; front = blanks_front n c rest }
+unfolding encode char_bytes is_deep shallow blanks stepped
+blanks_lead zero c rest = record { all = refl; deep = refl; front = refl }
+blanks_lead (suc n) c rest =
+    let l = blanks_lead n (record { column = c.column + 1; white = true; bare = c.bare; kept = c.kept }) rest in
+    record { all = ap (λ (t : List ℕ). 32 ∷ t) l.all; deep = l.deep; front = ap (λ (t : List ℕ). 32 ∷ t) l.front }
 
 pub no_blanks : (a : Output) (n : ℕ) → n ≡ 0 → Puts a a (blanks n)
 unfolding blanks
 no_blanks a n e = rw e (puts_nothing a)
 
 -- spaces of one byte were appended
-spaces_more : (a b : Output) (n : ℕ) → a.status ≡ Going → a.encoding ≡ Utf8
-    → b.encoding ≡ a.encoding → b.limit ≡ a.limit
-    → AppendsBy b.status a.limit a.bytes b.bytes (replicate (suc n) 32)
-    → (b.status ≡ Going → b.cursor ≡ blanked (suc n) a.cursor)
-    → Puts a b (blanks (suc n))
-spaces_more a b n g x e l h k =
-    puts_run a b (blanks (suc n)) (replicate (suc n) 32) (stepped (suc n)) g e l (λ rest. rw x (blanks_lead (suc n) a.cursor rest)) h (λ going. k going ∙ sym (stepped_is n a.cursor))
-
 pub puts_spaces : (a b : Output) (n : ℕ) → 0 < n → a.status ≡ Going → a.encoding ≡ Utf8
     → b.encoding ≡ a.encoding → b.limit ≡ a.limit
     → AppendsBy b.status a.limit a.bytes b.bytes (replicate n 32)
     → (b.status ≡ Going → b.cursor ≡ blanked n a.cursor)
     → Puts a b (blanks n)
 puts_spaces a b zero p g x e l h k = absurd (omega (arith, p))
-puts_spaces a b (suc n) p g x e l h k = spaces_more a b n g x e l h k
+puts_spaces a b (suc n) p g x e l h k =
+    puts_run a b (blanks (suc n)) (replicate (suc n) 32) (stepped (suc n)) g e l (λ rest. rw x (blanks_lead (suc n) a.cursor rest)) h (λ going. k going ∙ sym (stepped_is n a.cursor))
 
 pub puts_blank : (a b : Output) → Puts a b (stroke 32 false true a.cursor.bare) → Puts a b blank
 puts_blank a b p = puts_as a b (stroke 32 false true a.cursor.bare) blank (λ rest. refl) p

@@ -7,7 +7,6 @@ mod cursor;
 mod feed;
 mod hex;
 mod laws;
-mod narrow;
 mod settings;
 mod sink;
 

@@ -3,7 +3,7 @@
 ghost use Rattle.std.specs.Prelude.{◌≡◌, ◌<◌, pos, false};
 ghost use Rattle.yaml_types.specs.Indents.{default_indent};
 ghost use Rattle.yaml_types.specs.Widths.{default_width};
-ghost use Rattle.yaml_emit_sink.specs.Settings.{settled, settled_indent, settled_width, settled_break, settled_encoding, encoding_or};
+ghost use Rattle.yaml_emit_sink.specs.Settings.{settled, settled_indent, settled_width, settled_break, encoding_or};
 
 use yaml_types::{DEFAULT_INDENT, DEFAULT_WIDTH, yaml_break_t, yaml_encoding_t};
 

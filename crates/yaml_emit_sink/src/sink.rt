@@ -1,6 +1,6 @@
 //! The output, up to its limit.
 
-ghost use Rattle.std.specs.Prelude.{◌≡◌, ◌≢◌, ◌<◌, ◌≤◌, ℕ, ◌∷◌, [], ◌++◌, ◌+◌, ◌-◌, length, ◌^◌, false, true};
+ghost use Rattle.std.specs.Prelude.{◌≡◌, ◌≢◌, ◌<◌, ◌≤◌, ◌∷◌, [], ◌-◌, length, ◌^◌, false, true};
 ghost use Rattle.yaml_types.specs.Ascii as ascii;
 ghost use Rattle.yaml_types.specs.Points as points;
 ghost use Rattle.std.specs.Vec.{vec_capacity};
@@ -12,11 +12,10 @@ use crate::append::{
 };
 use crate::cursor::{Cursor, Status};
 use crate::feed::{are_few, has_room, is_brief, put_few_blanks, put_fresh_line};
-use crate::narrow::is_long_ascii;
 use crate::settings::{Encoding, LineBreak};
 use std::alloc::{AllocError, Global};
 use std::marker::Model;
-use yaml_types::{put_each, put_near};
+use yaml_types::put_near;
 
 /// An output: bytes up to a limit, the cursor, and whether it goes on. Once it has stopped, nothing more is written, and it
 /// stays stopped.
@@ -68,8 +67,8 @@ impl Model for Sink {
 impl Sink {
     ghost use Rattle.std.specs.Str.{IsAscii};
     ghost use Rattle.yaml_emit_sink.specs.Sink.{Puts, Output, stroke};
-    ghost use Rattle.yaml_emit_sink.specs.Text.{letter, deep};
-    ghost use Rattle.yaml_emit_sink.specs.Layout.{Layout, char, letters, blank, blanks, break, new_line, gap, word, indicator, opener, line, wrap, keep, after_text, after_block, must_break, indent_to, fresh, is_white, is_past, too_deep, order_mark, start};
+    ghost use Rattle.yaml_emit_sink.specs.Text.{letter};
+    ghost use Rattle.yaml_emit_sink.specs.Layout.{Layout, char, letters, blank, blanks, break, new_line, gap, word, indicator, opener, line, wrap, keep, after_text, after_block, must_break, indent_to, fresh, is_past, too_deep, order_mark, start};
 
     /// An empty output of at most `limit` bytes, in UTF-8.
     pub fn new(alloc: Global, limit: u64) -> Sink
@@ -238,23 +237,12 @@ impl Sink {
         self.put_break('\n');
     }
 
-    // Each byte as the character of that number.
-    fn put_each(&mut self, text: &[u8])
+    /// Each byte as the character of that number.
+    pub fn put_all(&mut self, text: &[u8])
         ensures { Puts self.old self.new (letters text.now) }
     {
         for byte in text {
             self.put(*byte as char);
-        }
-    }
-
-    /// Each byte as the character of that number: for texts in ASCII.
-    pub fn put_all(&mut self, text: &[u8])
-        ensures { Puts self.old self.new (letters text.now) }
-    {
-        if is_long_ascii(text) {
-            self.put_ascii(text);
-        } else {
-            self.put_each(text);
         }
     }
 
@@ -286,7 +274,7 @@ impl Sink {
     {
         match self.encoding() {
             Encoding::Utf8 => self.put_bytes(text),
-            _ => self.put_each(text),
+            _ => self.put_all(text),
         }
     }
 
@@ -387,38 +375,6 @@ impl Sink {
     {
         self.put_gap();
         self.put_all(text);
-    }
-
-    // Few characters of a known number, one at least, in ASCII.
-    // Inlined: mostly there is room, and they are some stores.
-    #[inline(always)]
-    fn put_known(&mut self, text: &[u8])
-        requires some { 0 < length text.now }
-        requires ascii { IsAscii text.now }
-        ensures { Puts self.old self.new (letters text.now) }
-    {
-        if has_room(&self.output, self.fast_limit, text.len() as u64) {
-            put_each(&mut self.output, text);
-            lettered(&mut self.cursor, text.len() as u64);
-        } else {
-            self.put_far(text);
-        }
-    }
-
-    /// Few characters in ASCII, with a space in front where one is due: they are given without and with it.
-    // Inlined: their numbers are known.
-    #[inline(always)]
-    pub fn put_known_word(&mut self, text: &[u8], parted: &[u8])
-        requires some { 0 < length text.now }
-        requires ascii { IsAscii text.now }
-        requires parted { parted.now ≡ ascii.space ∷ text.now }
-        ensures { Puts self.old self.new (word text.now) }
-    {
-        if self.cursor().white {
-            self.put_known(text);
-        } else {
-            self.put_known(parted);
-        }
     }
 
     /// A character with a space in front where one is due.

@@ -6,7 +6,7 @@ use Rattle.std.proofs.lemmas.Bool.Decides.{nat_tests}
 use Rattle.std.proofs.lemmas.List.{append-nil}
 use Rattle.std.proofs.lemmas.List.Sums.{AllPass-from_list_all}
 use Rattle.std.proofs.lemmas.Str.{IsAscii-append}
-use Rattle.std.proofs.lemmas.Str.Ascii.{IsAscii-from_all, IsAscii-cons, IsAscii-nil}
+use Rattle.std.proofs.lemmas.Str.Ascii.{IsAscii-from_all}
 use Rattle.std.proofs.lemmas.Bool.{and_parts}
 use Rattle.yaml_emit_sink.specs.Layout.{letters, word}
 use Rattle.yaml_emit_sink.specs.Sink.{Output, Puts}
@@ -38,9 +38,6 @@ puts_kept flow a b xs h p = let P : List ℕ → Type 0 = λ t. Puts a b (letter
 pub behind_ascii : (handle xs : List ℕ) → IsAscii handle → list_all (keeps_byte false) xs ≡ true
     → IsAscii (handle ++ (xs ++ []))
 behind_ascii handle xs s h = IsAscii-append handle (xs ++ []) s (rw (append-nil xs) (kept_ascii false xs h))
-
-pub mark : IsAscii (33 ∷ [])
-mark = IsAscii-cons 33 [] (omega arith) IsAscii-nil
 
 -- a suffix that is kept behind its handle
 pub puts_behind : (a b : Output) (handle xs : List ℕ) → list_all (keeps_byte false) xs ≡ true

@@ -86,6 +86,9 @@ pub data Split : Type 0 where
   verbatim : List ℕ → Split
 
 abbrev pub split_of : SplitTag → Split
+split_of (tagging.Primary suffix) = shorthand (ascii.exclamation ∷ []) suffix.now
+split_of (tagging.Secondary suffix) = shorthand (ascii.exclamation ∷ ascii.exclamation ∷ [])
+    suffix.now
 split_of (tagging.Shorthand handle suffix) = shorthand handle.now suffix.now
 split_of (tagging.Verbatim tag) = verbatim tag.now
 

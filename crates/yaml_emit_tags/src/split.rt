@@ -1,8 +1,10 @@
 //! A tag, cut.
 
-/// A handle and what follows it, or the whole tag.
+/// What follows the handle `!`, `!!` or another one, or the whole tag.
 #[derive(Clone, Copy)]
 pub enum SplitTag<'a> {
+    Primary(&'a [u8]),
+    Secondary(&'a [u8]),
     Shorthand(&'a [u8], &'a [u8]),
     Verbatim(&'a [u8]),
 }

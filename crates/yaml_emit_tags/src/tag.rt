@@ -1,12 +1,12 @@
 //! Tags (YAML 1.1, 7.1.2 and 3.2.1.2), anchors and aliases (3.2.2.2).
 
 ghost use Rattle.std.specs.List.{list_all};
+ghost use Rattle.std.specs.Str.{IsAscii};
 ghost use Rattle.yaml_scan_model.specs.Ascii as ascii;
-ghost use Rattle.std.specs.Prelude.{◌≡◌, ◌<◌, ◌≤◌, ℕ, ◌+◌, ◌∷◌, [], ◌++◌, map, length, drop, true, false, not, ◌&&◌, ◌||◌, ◌==◌, if◌then◌else◌, Option, Some, None, codes};
+ghost use Rattle.std.specs.Prelude.{◌≡◌, ◌<◌, ◌≤◌, ◌+◌, ◌∷◌, [], map, length, drop, true, false, not, ◌&&◌, ◌||◌, ◌==◌, if◌then◌else◌, Some, None};
 ghost use Rattle.yaml_parse_model.specs.Nodes.{secondary_prefix};
 ghost use Rattle.yaml_emit_sink.specs.Sink.{Puts};
-ghost use Rattle.yaml_emit_sink.specs.Layout.{◌▹◌, char, letters, gap, word};
-ghost use Rattle.yaml_emit_sink.specs.Hex.{hex_2};
+ghost use Rattle.yaml_emit_sink.specs.Layout.{letters, word};
 ghost use Rattle.yaml_emit_tags.specs.Tags.{suffix_keeps, prefix_keeps, keeps_byte, uri_byte, uri_text, split_tag, split_by, split_of, defaults, stands_for, shorthand, verbatim, spelled, tag_spelling, tag_size, directive_for, primary, secondary};
 
 use crate::prefixes::has_shorter_prefix;
@@ -130,19 +130,23 @@ fn suffix_behind<'a>(prefix: &[u8], tag: &'a [u8]) -> &'a [u8]
 }
 
 // By the two handles that need no directive, where none defines them.
+// Inlined: where a tag is written, how it is cut is known.
+#[inline(always)]
 fn split_by_default<'a>(directives: &DirectiveTable, tag: &'a [u8]) -> SplitTag<'a>
     ensures { split_of result ≡ split_by (directive_for (defaults directives.now) tag.now) tag.now }
 {
     if stands_for_primary(directives, tag) {
-        SplitTag::Shorthand(b"!", &tag[1..])
+        SplitTag::Primary(&tag[1..])
     } else if stands_for_secondary(directives, tag) {
-        SplitTag::Shorthand(b"!!", suffix_behind(SECONDARY_PREFIX, tag))
+        SplitTag::Secondary(suffix_behind(SECONDARY_PREFIX, tag))
     } else {
         SplitTag::Verbatim(tag)
     }
 }
 
 // By a document's directives, in order, and then the two handles that need none.
+// Inlined: where a tag is written, how it is cut is known.
+#[inline(always)]
 fn split_tag<'a>(directives: &'a DirectiveTable, tag: &'a [u8]) -> SplitTag<'a>
     ensures { split_of result ≡ split_tag directives.now tag.now }
 {
@@ -179,15 +183,20 @@ fn put_verbatim(sink: &mut Sink, tag: &[u8])
     sink.put('>');
 }
 
-// A suffix behind `!`, at once where no byte of it is escaped.
-fn put_primary(sink: &mut Sink, suffix: &[u8])
-    ensures { Puts sink.old sink.new
-        (word (spelled (shorthand (ascii.exclamation ∷ []) suffix.now))) }
+// A suffix behind a short handle, which is given without and with a space in front: at once where no byte of it is escaped.
+// Inlined: the handle is known.
+#[inline(always)]
+fn put_behind(sink: &mut Sink, handle: &[u8], parted: &[u8], suffix: &[u8])
+    requires few { length handle.now ≤ 7 }
+    requires some { 0 < length handle.now }
+    requires ascii { IsAscii handle.now }
+    requires parted { parted.now ≡ ascii.space ∷ handle.now }
+    ensures { Puts sink.old sink.new (word (spelled (shorthand handle.now suffix.now))) }
 {
     if are_kept(false, suffix) {
-        sink.put_around(b"!", b" !", suffix, b"");
+        sink.put_around(handle, parted, suffix, b"");
     } else {
-        put_shorthand(sink, b"!", suffix);
+        put_shorthand(sink, handle, suffix);
     }
 }
 
@@ -199,58 +208,24 @@ fn is_same(suffix: &[u8], other: &[u8]) -> bool
     suffix == other
 }
 
-// A suffix behind `!!`, at once where no byte of it is escaped.
-fn put_suffix(sink: &mut Sink, suffix: &[u8])
-    ensures { Puts sink.old sink.new
-        (word (spelled (shorthand (ascii.exclamation ∷ ascii.exclamation ∷ []) suffix.now))) }
-{
-    if are_kept(false, suffix) {
-        sink.put_around(b"!!", b" !!", suffix, b"");
-    } else {
-        put_shorthand(sink, b"!!", suffix);
-    }
-}
-
-// The same, where it isn't that of a text: of a sequence and a mapping the bytes are known too.
-fn put_other_suffix(sink: &mut Sink, suffix: &[u8])
-    ensures { Puts sink.old sink.new
-        (word (spelled (shorthand (ascii.exclamation ∷ ascii.exclamation ∷ []) suffix.now))) }
-{
-    if is_same(suffix, b"map") {
-        sink.put_known_word(b"!!map", b" !!map");
-        return;
-    }
-    if is_same(suffix, b"seq") {
-        sink.put_known_word(b"!!seq", b" !!seq");
-        return;
-    }
-    put_suffix(sink, suffix);
-}
-
-// The same of every suffix.
+// A suffix behind `!!`: of a text, a mapping and a sequence the bytes are known.
 fn put_secondary(sink: &mut Sink, suffix: &[u8])
     ensures { Puts sink.old sink.new
         (word (spelled (shorthand (ascii.exclamation ∷ ascii.exclamation ∷ []) suffix.now))) }
 {
     if is_same(suffix, b"str") {
-        sink.put_known_word(b"!!str", b" !!str");
-    } else {
-        put_other_suffix(sink, suffix);
+        sink.put_around(b"!!str", b" !!str", b"", b"");
+        return;
     }
-}
-
-// By the two handles that need no directive, where none defines them.
-fn put_by_default(sink: &mut Sink, directives: &DirectiveTable, tag: &[u8])
-    ensures { Puts sink.old sink.new (word (spelled (split_by (directive_for
-        (defaults directives.now) tag.now) tag.now))) }
-{
-    if stands_for_primary(directives, tag) {
-        put_primary(sink, &tag[1..]);
-    } else if stands_for_secondary(directives, tag) {
-        put_secondary(sink, suffix_behind(SECONDARY_PREFIX, tag));
-    } else {
-        put_verbatim(sink, tag);
+    if is_same(suffix, b"map") {
+        sink.put_around(b"!!map", b" !!map", b"", b"");
+        return;
     }
+    if is_same(suffix, b"seq") {
+        sink.put_around(b"!!seq", b" !!seq", b"", b"");
+        return;
+    }
+    put_behind(sink, b"!!", b" !!", suffix);
 }
 
 /// A tag, with a space in front where one is due: by the first of the document's directives whose prefix is a strictly shorter
@@ -259,15 +234,11 @@ fn put_by_default(sink: &mut Sink, directives: &DirectiveTable, tag: &[u8])
 pub fn put_tag(sink: &mut Sink, directives: &DirectiveTable, tag: &[u8])
     ensures { Puts sink.old sink.new (word (tag_spelling directives.now tag.now)) }
 {
-    match directives.first_for(tag) {
-        Some(directive) => {
-            put_shorthand(
-                sink,
-                &directive.handle,
-                suffix_behind(&directive.prefix, tag),
-            )
-        }
-        None => put_by_default(sink, directives, tag),
+    match split_tag(directives, tag) {
+        SplitTag::Primary(suffix) => put_behind(sink, b"!", b" !", suffix),
+        SplitTag::Secondary(suffix) => put_secondary(sink, suffix),
+        SplitTag::Shorthand(handle, suffix) => put_shorthand(sink, handle, suffix),
+        SplitTag::Verbatim(tag) => put_verbatim(sink, tag),
     }
 }
 
@@ -276,6 +247,8 @@ pub fn tag_size(directives: &DirectiveTable, tag: &[u8]) -> usize
     ensures { result ≡ tag_size directives.now tag.now }
 {
     match split_tag(directives, tag) {
+        SplitTag::Primary(suffix) => 1 + suffix.len(),
+        SplitTag::Secondary(suffix) => 2 + suffix.len(),
         SplitTag::Shorthand(handle, suffix) => handle.len() + suffix.len(),
         SplitTag::Verbatim(tag) => tag.len(),
     }

@@ -8,10 +8,10 @@ use Rattle.std.specs.Str.{chars}
 use Rattle.std.proofs.lemmas.Bool.{and_parts, and_from}
 use Rattle.std.proofs.Math.Bool.{and-false}
 use Rattle.yaml_emit_sink.specs.declared.Cursor.{Cursor}
-use Rattle.yaml_emit_sink.specs.Text.{Item, letter, is_break}
+use Rattle.yaml_emit_sink.specs.Text.{letter, is_break}
 use Rattle.yaml_emit_sink.specs.Layout.{Layout, Rest, ◌▹◌, stay, choose, when, char, letters, new_line, line, is_past}
-use Rattle.yaml_emit_sink.specs.Sink.{Output, Ends, Owes, Puts}
-use Rattle.yaml_emit_sink.proofs.Sinks.{grows_both, puts_as}
+use Rattle.yaml_emit_sink.specs.Sink.{Output, Owes, Puts}
+use Rattle.yaml_emit_sink.proofs.Sinks.{owes_as, puts_as}
 use Rattle.yaml_emit_text.specs.declared.page.Page.{Page}
 use Rattle.yaml_emit_text.specs.declared.run.Bounds.{Bounds}
 use Rattle.yaml_emit_text.specs.Quoted.{needs_escape, escape_text, first, may_fold, fold, escaped, quoted_char, quoted_body}
@@ -23,28 +23,6 @@ use Rattle.yaml_emit_text.proofs.RunLemmas.{at_most, calm_ascii, calm_least, cal
 use Rattle.yaml_emit_text.proofs.Walks.{flow_end}
 use Rattle.yaml_emit_text.specs.Tame.{IsTame}
 use Rattle.yaml_emit_text.proofs.Looks.{looked_at}
-
--- what is owed is owed in other words at the cursor
-owes_as : (a b : Output) (x y z : Layout)
-    → ((rest : Rest) → x a.cursor rest ≡ (y ▹ z) a.cursor rest) → Puts a b y → Owes a b x z
-owes_as a b x y z e p = record {
-  ends = λ rest whole h. let P : List Item → Type 0 = λ t. Ends a t whole in p.ends (λ d. z d rest) whole (subst P (e rest) h);
-  encoding = p.encoding;
-  limit = p.limit;
-  going = p.going;
-  stays = p.stays;
-  grows = p.grows;
-}
-
-pub owes_then : (a b c : Output) (x y z : Layout) → Owes a b x y → Owes b c y z → Owes a c x z
-owes_then a b c x y z p q = record {
-  ends = λ rest whole h. q.ends rest whole (p.ends rest whole h);
-  encoding = q.encoding ∙ p.encoding;
-  limit = q.limit ∙ p.limit;
-  going = λ g. p.going (q.going g);
-  stays = λ n. q.stays (λ g. n (p.going g)) ∙ p.stays n;
-  grows = grows_both a.bytes b.bytes c.bytes p.grows q.grows;
-}
 
 -- Any walk: where each byte that runs on is written as it is, all of them are.
 run_walk : (e : Bounds) (body : ℕ → List ℕ → Layout) (behind : ℕ → Type 0)

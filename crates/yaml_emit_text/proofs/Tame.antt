@@ -15,7 +15,7 @@ use Rattle.yaml_emit_text.proofs.RunWalks.{look_calm, tame_letters}
 use Rattle.yaml_emit_text.specs.declared.page.Allowed.{Allowed}
 use Rattle.yaml_emit_text.specs.declared.page.Seen.{Seen}
 use Rattle.yaml_emit_text.specs.Quoted.{first, is_empty}
-use Rattle.yaml_emit_text.specs.Style.{somewhere, is_special, is_break_space, is_not_plain, is_not_flow, last_or, ends_in_space, behind, starts_badly, is_badly_begun, looked, allowed_text, allowed}
+use Rattle.yaml_emit_text.specs.Style.{somewhere, is_special, is_break_space, is_not_plain, is_not_flow, last_or, ends_in_space, behind, starts_badly, is_badly_begun, looked, allowed}
 
 -- by what is seen: what is special, breaks with spaces, a space at the end, a bad beginning, what isn't plain, and what isn't in flow
 abbrev by : Bool → Bool → Bool → Bool → Bool → Bool → Allowed
@@ -33,21 +33,6 @@ by_none : (a b c d e f : Bool) → a ≡ false → b ≡ false → c ≡ false �
     → f ≡ false → all_allowed ≡ by a b c d e f
 by_none a b c d e f p q r s t u = rw (p, q, r, s, t, u) refl
 
-nothing_left : (xs : List ℕ) → is_empty xs ≡ true → xs ≡ []
-nothing_left [] h = refl
-nothing_left (x ∷ xs) h = absurd (cc)
-
-pub tame : (u : Bool) (value left : List ℕ) (last : ℕ) → looked u 32 value ≡ looked u last left
-    → last_or 32 value ≡ last_or last left → is_empty left ≡ true → (last == 32) ≡ false
-    → starts_badly value ≡ false
-    → all_allowed ≡ allowed_text u value
-unfolding somewhere last_or
-tame u value left last seen ends none space badly =
-    let e : looked u 32 value ≡ looked u last [] = seen ∙ ap (looked u last) (nothing_left left none) in
-    let n : last_or 32 value ≡ last = ends ∙ ap (last_or last) (nothing_left left none) in
-    by_none (somewhere (is_special u) 32 value) (somewhere is_break_space 32 value) (ends_in_space value) (starts_badly value) (somewhere is_not_plain 32 value) (somewhere is_not_flow 32 value)
-    (ap (λ (t : Seen). t.special) e) (ap (λ (t : Seen). t.broken) e) (ap (λ k. k == 32) n ∙ space) badly (ap (λ (t : Seen). t.not_plain) e) (ap (λ (t : Seen). t.not_flow) e)
-
 -- by its first and its last byte
 pub starts : (v : List ℕ) → 0 < length v → ((b d : ℕ) → is_badly_begun (get_or v 0 0) b d ≡ false)
     → starts_badly v ≡ false
@@ -61,9 +46,13 @@ ends v l h =
     ap (λ k. k == 32) (sym (last_is 32 v some)) ∙ h
 
 all_of : (u : Bool) (v : List ℕ) → IsTame v → all_allowed ≡ allowed u v
-unfolding allowed last_or is_calm
+unfolding allowed last_or is_calm somewhere
 all_of u [] t = let e = t.ends in absurd (cc)
-all_of u (x ∷ xs) t = tame u (x ∷ xs) [] (last_or 32 (x ∷ xs)) (look_calm u 32 (last_or 32 (x ∷ xs)) (x ∷ xs) [] (x ∷ xs) t.calm (and-false (last_or 0 (x ∷ xs) == 32)) (sym (append-nil (x ∷ xs))) refl) refl refl t.ends t.starts
+all_of u (x ∷ xs) t =
+    let v : List ℕ = x ∷ xs in
+    let e : looked u 32 v ≡ looked u (last_or 32 v) [] = look_calm u 32 (last_or 32 v) v [] v t.calm (and-false (last_or 0 v == 32)) (sym (append-nil v)) refl in
+    by_none (somewhere (is_special u) 32 v) (somewhere is_break_space 32 v) (ends_in_space v) (starts_badly v) (somewhere is_not_plain 32 v) (somewhere is_not_flow 32 v)
+    (ap (λ (t : Seen). t.special) e) (ap (λ (t : Seen). t.broken) e) t.ends t.starts (ap (λ (t : Seen). t.not_plain) e) (ap (λ (t : Seen). t.not_flow) e)
 
 -- a tame text allows all styles
 pub tame_allows : (u : Bool) (v : List ℕ) → IsTame v → all_allowed ≡ allowed u (chars v)

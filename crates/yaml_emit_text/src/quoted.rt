@@ -162,13 +162,12 @@ fn quoted_bounds(page: Page) -> Bounds
     }
 }
 
-// What stands behind the first run, one character at least.
-// Out of line: a loop of its own keeps the addresses of fields that it uses, and most values are one run.
+// Out of line: a loop of its own keeps the addresses of fields that it uses.
 #[inline(never)]
-fn put_quoted_rest(sink: &mut Sink, page: Page, before: char, value: &str)
-    ensures { Puts sink.old sink.new (quoted_body page before (chars value.now)) }
+fn put_quoted_body(sink: &mut Sink, page: Page, value: &str)
+    ensures { Puts sink.old sink.new (quoted_body page ascii.space (chars value.now)) }
 {
-    let mut last = before;
+    let mut last = ' ';
     let mut left = value;
     while let Some((c, rest)) = split_first(left) {
         put_quoted_char(sink, page, last, c, rest);
@@ -178,25 +177,13 @@ fn put_quoted_rest(sink: &mut Sink, page: Page, before: char, value: &str)
     }
 }
 
-// Inlined into its one caller.
-#[inline(always)]
-fn put_quoted_body(sink: &mut Sink, page: Page, value: &str)
-    ensures { Puts sink.old sink.new (quoted_body page ascii.space (chars value.now)) }
-{
-    let (before, left) = put_run(sink, quoted_bounds(page), ' ', value);
-    if left.is_empty() {
-        return;
-    }
-    put_quoted_rest(sink, page, before, left);
-}
-
 // A double quoted scalar of any bytes.
 // Out of line: the way beside the short one.
 #[inline(never)]
 fn put_any_quoted(sink: &mut Sink, page: Page, value: &str)
     ensures { Puts sink.old sink.new (double_quoted page (chars value.now)) }
 {
-    sink.put_known_word(b"\"", b" \"");
+    sink.put_around(b"\"", b" \"", b"", b"");
     put_quoted_body(sink, page, value);
     sink.put('"');
 }

@@ -179,24 +179,18 @@ fn past_calm(before: char, left: &str) -> (char, &str)
     (last_of(before, run), rest)
 }
 
-// One look at a value: what was seen, and its last character. What stands in front of the rest of it says nothing.
-fn look(unicode: bool, value: &str, before: char, rest: &str) -> (Seen, char)
-    requires seen { looked unicode ascii.space (chars value.now)
-        ≡ looked unicode before (chars rest.now) }
-    requires last { last_or ascii.space (chars value.now) ≡ last_or before (chars rest.now) }
+// One look at a value: what was seen, and its last character.
+fn look(unicode: bool, value: &str) -> (Seen, char)
     ensures seen { result.0 ≡ looked unicode ascii.space (chars value.now) }
     ensures last { result.1 ≡ last_or ascii.space (chars value.now) }
 {
-    // Named in the clauses alone.
-    let _ = value;
     let mut all = Seen {
         special: false,
         broken: false,
         not_plain: false,
         not_flow: false,
     };
-    let mut last = before;
-    let mut left = rest;
+    let (mut last, mut left) = past_calm(' ', value);
     while let Some((c, more)) = split_first(left) {
         all = joined(all, seen(unicode, last, c, first(more)));
         let (latest, behind) = past_calm(c, more);
@@ -215,24 +209,11 @@ fn rest_behind(text: &str) -> &str
     }
 }
 
-// Whether a value that begins so begins well, whatever follows: most begin with a letter or a digit.
-// Inlined: a few comparisons.
-#[inline(always)]
-pub(crate) fn begins_well(c: char) -> bool
-    ensures { result ≡ true → (b d : ℕ) → is_badly_begun c b d ≡ false }
-{
-    ('a' <= c && c <= 'z') || ('A' <= c && c <= 'Z') || ('0' <= c && c <= '9')
-}
-
 fn starts_badly(value: &str) -> bool
     ensures { result ≡ starts_badly (chars value.now) }
 {
-    let first_one = first(value);
-    if begins_well(first_one) {
-        return false;
-    }
     let second = rest_behind(value);
-    is_badly_begun(first_one, first(second), first(rest_behind(second)))
+    is_badly_begun(first(value), first(second), first(rest_behind(second)))
 }
 
 fn allowed_by(all: Seen, spaced: bool, badly: bool) -> Allowed
@@ -253,50 +234,13 @@ fn allowed_by(all: Seen, spaced: bool, badly: bool) -> Allowed
     }
 }
 
-// Whether a value allows all styles, of which what stands in front of the rest says nothing: no rest is there, no space ends
-// it, and it begins with a letter or a digit.
-// Inlined: three tests, and mostly no more is asked.
-#[inline(always)]
-fn is_tame(value: &str, before: char, rest: &str) -> bool
-    ensures none { result ≡ true → is_empty (chars rest.now) ≡ true }
-    ensures space { result ≡ true → (before == ascii.space) ≡ false }
-    ensures badly { result ≡ true → starts_badly (chars value.now) ≡ false }
-{
-    if !is_empty(rest) {
-        return false;
-    }
-    if before == ' ' {
-        return false;
-    }
-    begins_well(first(value))
-}
-
-// Out of line: the rare way beside the short one.
+// Out of line: the rare way, beside that of tame values.
 #[inline(never)]
-fn allowed_looked(unicode: bool, value: &str, before: char, rest: &str) -> Allowed
-    requires seen { looked unicode ascii.space (chars value.now)
-        ≡ looked unicode before (chars rest.now) }
-    requires last { last_or ascii.space (chars value.now) ≡ last_or before (chars rest.now) }
-    ensures { result ≡ allowed_text unicode (chars value.now) }
-{
-    let (all, last) = look(unicode, value, before, rest);
-    allowed_by(all, last == ' ', starts_badly(value))
-}
-
 fn allowed_text(unicode: bool, value: &str) -> Allowed
     ensures { result ≡ allowed_text unicode (chars value.now) }
 {
-    let (before, rest) = past_calm(' ', value);
-    if is_tame(value, before, rest) {
-        Allowed {
-            plain: true,
-            flow_plain: true,
-            single: true,
-            block: true,
-        }
-    } else {
-        allowed_looked(unicode, value, before, rest)
-    }
+    let (all, last) = look(unicode, value);
+    allowed_by(all, last == ' ', starts_badly(value))
 }
 
 /// The styles that a value allows. Characters that are not printable, with unicode off those that are not ASCII, and a space

@@ -1,13 +1,13 @@
 //! Tame texts, which allow every style and are written as they are where they fit their line: most scalars are.
 
-ghost use Rattle.std.specs.Prelude.{◌≡◌, ◌<◌, ◌≤◌, ◌+◌, ◌^◌, ◌∷◌, ◌++◌, [], length, if◌then◌else◌, Bool, true, false, Some, None, IsUtf8};
+ghost use Rattle.std.specs.Prelude.{◌≡◌, ℕ, ◌<◌, ◌≤◌, ◌+◌, ◌^◌, ◌∷◌, ◌++◌, [], length, if◌then◌else◌, Bool, true, false, Some, None, IsUtf8};
 ghost use Rattle.yaml_types.specs.Ascii as ascii;
 ghost use Rattle.std.specs.Str.{chars, IsAscii};
 ghost use Rattle.yaml_emit_sink.specs.Sink.{Puts};
 ghost use Rattle.yaml_emit_sink.specs.Layout.{◌▹◌, letters, line};
 ghost use Rattle.yaml_emit_text.specs.Runs.{all_pass, calm};
 ghost use Rattle.yaml_emit_text.specs.Scalars.{flow_body, plain, scalar_text};
-ghost use Rattle.yaml_emit_text.specs.Style.{allowed, ends_in_space, starts_badly};
+ghost use Rattle.yaml_emit_text.specs.Style.{allowed, ends_in_space, is_badly_begun, starts_badly};
 ghost use Rattle.yaml_emit_text.specs.Tame.{IsTame, Stands, IsLined, standing, lead};
 
 use crate::flow::put_flow_body;
@@ -16,8 +16,17 @@ use crate::page::{Allowed, Page, Style};
 use crate::run::are_calm;
 use crate::scalar::put_styled;
 use crate::solid::{are_even, are_solid};
-use crate::style::{allowed_for, begins_well};
+use crate::style::allowed_for;
 use yaml_emit_sink::{LineBreak, LineStart, Sink};
+
+// Whether a value that begins so begins well, whatever follows: most begin with a letter or a digit.
+// Inlined: a few comparisons.
+#[inline(always)]
+fn begins_well(c: char) -> bool
+    ensures { result ≡ true → (b d : ℕ) → is_badly_begun c b d ≡ false }
+{
+    ('a' <= c && c <= 'z') || ('A' <= c && c <= 'Z') || ('0' <= c && c <= '9')
+}
 
 // Whether a text begins with a letter or a digit.
 fn starts_well(value: &[u8]) -> bool

@@ -1,5 +1,5 @@
-use Rattle.yaml_emit_sink.proofs.Sinks.{owes_same}
-use Rattle.yaml_emit_text.proofs.RunWalks.{owes_then, block_runs}
+use Rattle.yaml_emit_sink.proofs.Sinks.{owes_same, owes_then}
+use Rattle.yaml_emit_text.proofs.RunWalks.{block_runs}
 use Rattle.yaml_emit_text.proofs.Walks.{block_more, block_all}
 use Rattle.yaml_emit_text.specs.Scalars.{block_body}
 use Rattle.yaml_emit_text.proofs.block.put_block_body.Goals as goal

@@ -1,5 +1,6 @@
 use Rattle.std.proofs.Common.{refl, sym, ◌∙◌}
-use Rattle.yaml_emit_text.proofs.RunWalks.{owes_then, flow_runs}
+use Rattle.yaml_emit_sink.proofs.Sinks.{owes_then}
+use Rattle.yaml_emit_text.proofs.RunWalks.{flow_runs}
 use Rattle.yaml_emit_text.proofs.Walks.{no_chars, walk_all, flow_end}
 use Rattle.yaml_emit_text.specs.Scalars.{flow_body}
 use Rattle.yaml_emit_text.proofs.flow.put_flow_body.Goals as goal

@@ -1,5 +1,5 @@
-use Rattle.yaml_emit_sink.proofs.Sinks.{owes_same}
-use Rattle.yaml_emit_text.proofs.RunWalks.{owes_then, flow_runs}
+use Rattle.yaml_emit_sink.proofs.Sinks.{owes_same, owes_then}
+use Rattle.yaml_emit_text.proofs.RunWalks.{flow_runs}
 use Rattle.yaml_emit_text.proofs.Walks.{walk_more, walk_all, flow_law, flow_end}
 use Rattle.yaml_emit_text.specs.Scalars.{flow_body, flow_char}
 use Rattle.yaml_emit_text.proofs.flow.put_flow_rest.Goals as goal

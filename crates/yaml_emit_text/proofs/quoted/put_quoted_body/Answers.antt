@@ -1,13 +1,19 @@
-use Rattle.std.proofs.Common.{sym, ◌∙◌}
-use Rattle.yaml_emit_text.proofs.RunWalks.{owes_then, quoted_runs}
-use Rattle.yaml_emit_text.proofs.Walks.{no_chars, walk_end}
-use Rattle.yaml_emit_text.proofs.Escapes.{quoted_end}
-use Rattle.yaml_emit_text.specs.Quoted.{quoted_body}
+use Rattle.yaml_emit_sink.proofs.Sinks.{owes_same, owes_then}
+use Rattle.yaml_emit_text.proofs.RunWalks.{quoted_runs}
+use Rattle.yaml_emit_text.proofs.Walks.{walk_more, walk_end}
+use Rattle.yaml_emit_text.proofs.Escapes.{quoted_law, quoted_end}
+use Rattle.yaml_emit_text.specs.Quoted.{quoted_body, quoted_char}
 use Rattle.yaml_emit_text.proofs.quoted.put_quoted_body.Goals as goal
 
-pub returns-then-is_empty : goal.returns-then-is_empty
-returns-then-is_empty c =
-    walk_end (quoted_body c.args.page) _ _ _ _ _ (no_chars _ (sym c.is_empty.ensures ∙ c.if-is_empty.true)) (quoted_end c.args.page _) (c.put_run-before.ensures.text (quoted_body c.args.page) (quoted_runs c.args.page _ _ c.quoted_bounds.ensures))
+pub split_first-requires-text-text : goal.split_first-requires-text-text
+split_first-requires-text-text c = λ _. c.loop-c.invariant.0
+
+pub loop-c-init : goal.loop-c-init
+loop-c-init c = (c.utf8.value, owes_same _ _)
+
+pub loop-c-preserved : goal.loop-c-preserved
+loop-c-preserved c =
+    (c.put_run-latest.ensures.utf8, owes_then _ _ _ _ _ _ (walk_more (quoted_body c.args.page) (quoted_char c.args.page) (quoted_law c.args.page) _ _ _ _ _ _ _ _ c.in-Some.ensures.letters c.loop-c.invariant.1 c.put_quoted_char.ensures) (c.put_run-latest.ensures.text (quoted_body c.args.page) (quoted_runs c.args.page _ _ c.quoted_bounds.ensures)))
 
 pub returns : goal.returns
-returns c = owes_then _ _ _ _ _ _ (c.put_run-before.ensures.text (quoted_body c.args.page) (quoted_runs c.args.page _ _ c.quoted_bounds.ensures)) c.put_quoted_rest.ensures
+returns c = walk_end (quoted_body c.args.page) _ _ _ _ _ c.in_default.ensures.letters (quoted_end c.args.page _) c.loop-c.invariant.1

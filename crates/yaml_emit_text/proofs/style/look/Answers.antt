@@ -7,7 +7,7 @@ pub split_first-requires-text-text : goal.split_first-requires-text-text
 split_first-requires-text-text c = λ _. c.loop-c.invariant.0
 
 pub loop-c-init : goal.loop-c-init
-loop-c-init c = (c.utf8.rest, c.requires.seen, c.requires.last)
+loop-c-init c = (c.past_calm-last.ensures.utf8, c.past_calm-last.ensures.seen c.args.unicode, c.past_calm-last.ensures.last)
 
 pub loop-c-preserved : goal.loop-c-preserved
 loop-c-preserved c =

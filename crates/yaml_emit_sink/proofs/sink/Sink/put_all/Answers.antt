@@ -1,5 +1,5 @@
 use Rattle.yaml_emit_sink.proofs.Sinks.{owes_same, letters_more, letters_all}
-use Rattle.yaml_emit_sink.proofs.sink.Sink.put_each.Goals as goal
+use Rattle.yaml_emit_sink.proofs.sink.Sink.put_all.Goals as goal
 
 pub loop-byte-init : goal.loop-byte-init
 loop-byte-init c = owes_same _ _

@@ -55,25 +55,6 @@ keep_parts old f bytes n end e place broke [] h g b l =
     rw (take_all n f.done.items l, whole) refl
 keep_parts old f bytes n end e place broke (x ∷ xs) h g b l = rw (h (x ∷ xs)) refl
 
-pub first_parts : (f : Folding) (bytes : List ℕ) (n : ℕ) (end : yaml_mark_t) (e place : ℕ)
-    (broke : Bool) (ps : List Piece)
-    → ((qs : List Piece) → resume f qs ≡ value (Kept bytes ∷ qs))
-    → f.gap ≡ gaps.Line → f.blanks.items ≡ [] → length f.done.items ≤ n
-    → joined (record { folding = f; kept = n; end = end; broke = false; white = false })
-    (record { pieces = ps; end = e; place = place; broke = broke })
-    ≡ record {
-      value = value (Kept bytes ∷ ps);
-      end = if is_nothing ps then end.index else e;
-      place
-          = place;
-      broke = broke;
-    }
-unfolding joined
-first_parts f bytes n end e place broke [] h g b l =
-    let whole : value (Kept bytes ∷ []) ≡ f.done.items = sym (h []) ∙ whole_done f g b in
-    rw (take_all n f.done.items l, whole) refl
-first_parts f bytes n end e place broke (x ∷ xs) h g b l = rw (h (x ∷ xs)) refl
-
 -- white before a place
 
 pub leads-blank : (text : List ℕ) (p : ℕ) → is_blank (byte text p) ≡ true

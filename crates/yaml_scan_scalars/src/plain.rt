@@ -4,6 +4,7 @@ ghost use Rattle.std.specs.Prelude.{◌≡◌, ◌+◌, ◌-◌, ◌||◌, ◌&&
 ghost use Rattle.yaml_scan_model.specs.Ascii as ascii;
 ghost use Rattle.yaml_scan_model.specs.Spares.{HoldsAt};
 ghost use Rattle.yaml_scan_model.specs.Marks.{byte, break_width, ends_break, is_blank, is_blank_or_end, mark_at};
+ghost use Rattle.yaml_scan_model.specs.Wrong.{refused};
 ghost use Rattle.yaml_scan_scalars.specs.Plain as spec;
 ghost use Rattle.yaml_scan_scalars.specs.Joined.{IsJoining, RanPlain, Steps, ReadsPlain, TookWords};
 ghost use Rattle.yaml_scan_scalars.specs.Ordinary.{IsRun, bytes_at, is_kind, plain_kind};
@@ -13,7 +14,8 @@ use crate::run::{BLOCK, FLOW, ordinary_run, pass_byte};
 use crate::scalar::PlainScalar;
 use std::alloc::AllocError;
 use yaml_scan_model::{
-    Context, Problem, Reader, ScanError, Spares, copied, is_blank_byte, skip_spaces, yaml_mark_t,
+    Context, Problem, Reader, ScanError, Spares, copied, is_blank_byte, mark_again, skip_spaces,
+    yaml_mark_t,
 };
 
 /// The plain scalar that starts here, in flow context or not. The level is the column of the innermost open block
@@ -225,11 +227,7 @@ fn many_runs(
     ensures { ReadsPlain reader.old.text start.index reader.new result
         (spec.plain_at flow level reader.old.text start.index) }
 {
-    let start = yaml_mark_t {
-        index: start.index,
-        line: start.line,
-        column: start.column,
-    };
+    let start = mark_again(&start);
     let mut copy = reader.ahead();
     let read = join_runs(spares, &mut copy, bytes, start, flow, level)?;
     *reader = copy;
@@ -327,13 +325,7 @@ fn piece(
 
 /// The refusal of the scalar that starts at the mark.
 fn wrong_plain(problem: Problem, start: yaml_mark_t, place: yaml_mark_t) -> ScanError
-    ensures { result ≡ ScanError.Fault
-        (record {
-          problem = problem;
-          context = Context.PlainScalar;
-          context_mark = start;
-          problem_mark = place;
-        }) }
+    ensures { result ≡ refused problem Context.PlainScalar start place }
 {
     ScanError::refusal(problem, Context::PlainScalar, start, place)
 }

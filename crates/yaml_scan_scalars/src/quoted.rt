@@ -4,6 +4,7 @@ ghost use Rattle.std.specs.Prelude.{◌≡◌, ◌+◌, ◌-◌, ◌<◌, ◌&&�
 ghost use Rattle.yaml_scan_model.specs.Ascii as ascii;
 ghost use Rattle.yaml_scan_model.specs.Spares.{HoldsAt};
 ghost use Rattle.yaml_scan_model.specs.Marks.{byte, mark_at};
+ghost use Rattle.yaml_scan_model.specs.Wrong.{refused};
 ghost use Rattle.yaml_scan_model.specs.declared.record.yaml_mark_t.{yaml_mark_t};
 ghost use Rattle.yaml_scan_scalars.specs.Quoted as spec;
 ghost use Rattle.yaml_scan_scalars.specs.declared.folding.Gap.TheVariants as gaps;
@@ -17,7 +18,8 @@ use crate::folding::Folding;
 use crate::run::{DOUBLE, SINGLE, ordinary_run, pass_byte};
 use std::alloc::AllocError;
 use yaml_scan_model::{
-    Context, Problem, Reader, ScanError, Spares, copied, is_blank_byte, room, yaml_mark_t,
+    Context, Problem, Reader, ScanError, Spares, copied, is_blank_byte, mark_again, room,
+    yaml_mark_t,
 };
 
 /// The value of the double quoted scalar whose opening quote stands here. The reader is left after the closing one. The value
@@ -127,11 +129,7 @@ fn many_runs(
     ensures { Reads reader.old.text start.index reader.new result
         (spec.quoted_at quote reader.old.text start.index) }
 {
-    let start = yaml_mark_t {
-        index: start.index,
-        line: start.line,
-        column: start.column,
-    };
+    let start = mark_again(&start);
     let mut copy = reader.ahead();
     let value = fold_runs(spares, &mut copy, bytes, start, quote)?;
     *reader = copy;
@@ -242,13 +240,7 @@ fn piece(
 
 /// The refusal of the scalar that starts at the mark.
 fn wrong_scalar(problem: Problem, start: yaml_mark_t, place: yaml_mark_t) -> ScanError
-    ensures { result ≡ ScanError.Fault
-        (record {
-          problem = problem;
-          context = Context.QuotedScalar;
-          context_mark = start;
-          problem_mark = place;
-        }) }
+    ensures { result ≡ refused problem Context.QuotedScalar start place }
 {
     ScanError::refusal(problem, Context::QuotedScalar, start, place)
 }

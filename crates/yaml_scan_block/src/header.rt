@@ -3,6 +3,7 @@
 ghost use Rattle.std.specs.Prelude.{◌≡◌, ◌+◌, ◌<◌, if◌then◌else◌, IfOk};
 ghost use Rattle.yaml_scan_model.specs.Marks.{byte, break_width, mark_at};
 ghost use Rattle.yaml_scan_model.specs.Classes.{is_digit_byte};
+ghost use Rattle.yaml_scan_model.specs.Wrong.{refused};
 ghost use Rattle.yaml_scan_block.specs.Header as spec;
 ghost use Rattle.yaml_scan_block.specs.Readings.{ReadsHeader};
 
@@ -56,13 +57,7 @@ pub(crate) fn read_header(reader: &mut Reader, start: yaml_mark_t) -> Result<Hea
 
 /// The refusal of the scalar that starts at the mark.
 pub(crate) fn wrong_block(problem: Problem, start: yaml_mark_t, place: yaml_mark_t) -> ScanError
-    ensures { result ≡ ScanError.Fault
-        (record {
-          problem = problem;
-          context = Context.BlockScalar;
-          context_mark = start;
-          problem_mark = place;
-        }) }
+    ensures { result ≡ refused problem Context.BlockScalar start place }
 {
     ScanError::refusal(problem, Context::BlockScalar, start, place)
 }
@@ -122,14 +117,8 @@ fn digit_of(byte: u8) -> u64
 
 /// The refusal of the digit 0, which stands here or behind a chomping indicator.
 fn zero_digit(reader: &mut Reader, start: yaml_mark_t) -> ScanError
-    ensures { result ≡ ScanError.Fault
-        (record {
-          problem = Problem.ZeroIndentation;
-          context = Context.BlockScalar;
-          context_mark = start;
-          problem_mark = mark_at reader.old.text
-              (spec.digit_place reader.old.text reader.old.at);
-        }) }
+    ensures { result ≡ refused Problem.ZeroIndentation Context.BlockScalar start
+        (mark_at reader.old.text (spec.digit_place reader.old.text reader.old.at)) }
 {
     if is_chomping(reader.here()) {
         reader.skip();

@@ -76,7 +76,7 @@ fn past_indent(text: &[u8], from: usize, asked: u64) -> usize
 {
     let room = (text.len() - from) as u64;
     let mut end = from;
-    let mut left = lesser(asked, room);
+    let mut left = asked.min(room);
     'rows: while has_row(text, end, left) {
         end += ROW;
         left -= ROW as u64;
@@ -86,13 +86,6 @@ fn past_indent(text: &[u8], from: usize, asked: u64) -> usize
         left -= 1;
     }
     end
-}
-
-/// The lesser one of two numbers.
-fn lesser(a: u64, b: u64) -> u64
-    ensures { ((result ≡ a) × (a ≤ b)) ⊎ ((result ≡ b) × (b ≤ a)) }
-{
-    if a <= b { a } else { b }
 }
 
 /// Whether a row of spaces stands there, where that many are asked for.

@@ -4,8 +4,8 @@ use Rattle.yaml_scan_block.proofs.lines.past_indent.Goals as goal
 
 pub rows-init : goal.rows-init
 rows-init c =
-    let (inside, same) = spaces_lesser c.lesser-left.result c.args.asked c.args.text.now c.args.from c.requires c.lesser-left.ensures in
-    record {
+    let (inside, same) = spaces_lesser c.args.asked c.args.text.now c.args.from c.requires in
+    rw c.min-left.ensures record {
       forward = omega arith;
       inside = inside;
       value = ap (λ z. c.args.from + z) same;

@@ -23,10 +23,8 @@ pub fn is_text(reader: &Reader) -> bool
 
 /// Past the blanks here.
 pub fn skip_blanks(reader: &mut Reader)
-    ensures { reader.new ≡ record {
-      text = reader.old.text;
-      at = spec.past_blanks reader.old.text
-          reader.old.at;
+    ensures { reader.new ≡ record reader.old {
+      at = spec.past_blanks reader.old.text reader.old.at;
     } }
 {
     'bytes: while is_blank(reader.here()) {
@@ -36,10 +34,8 @@ pub fn skip_blanks(reader: &mut Reader)
 
 /// Past the spaces here.
 pub fn skip_spaces(reader: &mut Reader)
-    ensures { reader.new ≡ record {
-      text = reader.old.text;
-      at = spec.past_spaces reader.old.text
-          reader.old.at;
+    ensures { reader.new ≡ record reader.old {
+      at = spec.past_spaces reader.old.text reader.old.at;
     } }
 {
     'bytes: while reader.here() == b' ' {
@@ -49,11 +45,7 @@ pub fn skip_spaces(reader: &mut Reader)
 
 /// Up to the break or the end.
 pub fn skip_text(reader: &mut Reader)
-    ensures { reader.new ≡ record {
-      text = reader.old.text;
-      at = spec.line_end reader.old.text
-          reader.old.at;
-    } }
+    ensures { reader.new ≡ record reader.old { at = spec.line_end reader.old.text reader.old.at } }
 {
     skip_printed(reader);
     'line: while is_text(reader) {
@@ -71,7 +63,7 @@ pub fn leap(reader: &mut Reader, end: usize)
     requires low { (k : ℕ) → reader.old.at ≤ k → k < end
         → ascii.unit_separator < byte reader.old.text k }
     requires high { (k : ℕ) → reader.old.at ≤ k → k < end → byte reader.old.text k < ascii.delete }
-    ensures { reader.new ≡ record { text = reader.old.text; at = end } }
+    ensures { reader.new ≡ record reader.old { at = end } }
 {
     let here = reader.stop();
     let mark = yaml_mark_t {
@@ -177,7 +169,7 @@ fn skip_quiet(reader: &mut Reader)
 fn pass_row(reader: &mut Reader)
     requires inside { reader.old.at + 16 ≤ length reader.old.text }
     requires passed { spec.ArePassed true reader.old.text reader.old.at (reader.old.at + 16) }
-    ensures { reader.new ≡ record { text = reader.old.text; at = reader.old.at + 16 } }
+    ensures { reader.new ≡ record reader.old { at = reader.old.at + 16 } }
 {
     let here = reader.stop();
     let text = reader.text();

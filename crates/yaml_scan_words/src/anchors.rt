@@ -8,7 +8,7 @@ ghost use Rattle.yaml_scan_words.specs.Readings.{ReadsAs, IsNameWord, behind_byt
 
 use crate::run::{copied_since, leap_over, name_end};
 use crate::word::{Word, refusal};
-use yaml_scan_model::{Context, Problem, Reader, ScanError, Spares, yaml_mark_t};
+use yaml_scan_model::{Context, Problem, Reader, ScanError, Spares, mark_again};
 
 /// The anchor or alias whose `&` or `*` stands here (YAML 1.1, 3.2.2.2): its name is one or more alphas.
 ///
@@ -29,11 +29,7 @@ pub fn anchor(spares: &mut Spares, reader: &mut Reader, context: Context) -> Res
     leap_over(reader, to);
     if is_wrong(reader, from, to) {
         // A mark of its own: the one that is lent to the call lies in memory.
-        let start = yaml_mark_t {
-            index: start.index,
-            line: start.line,
-            column: start.column,
-        };
+        let start = mark_again(&start);
         return Err(refusal(&reader.ahead(), Problem::NoAlphanumeric, context, start));
     }
     let value = copied_since(spares, reader, from)?;

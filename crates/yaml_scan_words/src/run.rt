@@ -39,10 +39,8 @@ pub(crate) fn belongs(run: Run, reader: &Reader) -> bool
 
 /// Past the run that stands here.
 pub(crate) fn skip_run(run: Run, reader: &mut Reader)
-    ensures { reader.new ≡ record {
-      text = reader.old.text;
-      at = spec.run_end run reader.old.text
-          reader.old.at;
+    ensures { reader.new ≡ record reader.old {
+      at = spec.run_end run reader.old.text reader.old.at;
     } }
 {
     'bytes: while belongs(run, reader) {
@@ -176,7 +174,7 @@ pub(crate) fn name_end(reader: &Reader) -> usize
 pub(crate) fn skip_indicator(reader: &mut Reader)
     requires low { ascii.space < byte reader.old.text reader.old.at }
     requires high { byte reader.old.text reader.old.at < ascii.delete }
-    ensures { reader.new ≡ record { text = reader.old.text; at = reader.old.at + 1 } }
+    ensures { reader.new ≡ record reader.old { at = reader.old.at + 1 } }
 {
     reader.skip();
 }
@@ -186,7 +184,7 @@ pub(crate) fn skip_indicator(reader: &mut Reader)
 #[inline(always)]
 pub(crate) fn leap_over(reader: &mut Reader, end: usize)
     requires { spec.IsPrinted reader.old.text reader.old.at end }
-    ensures { reader.new ≡ record { text = reader.old.text; at = end } }
+    ensures { reader.new ≡ record reader.old { at = end } }
 {
     leap(reader, end);
 }

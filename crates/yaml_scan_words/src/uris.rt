@@ -133,7 +133,7 @@ fn percent_octet(reader: &mut Reader, due: usize) -> Result<Option<Spelling>, Pr
 fn skip_escape(reader: &mut Reader)
     requires mark { byte reader.old.text reader.old.at ≡ ascii.percent }
     requires digits { IsSome (spec.octet_at reader.old.text reader.old.at) }
-    ensures { reader.new ≡ record { text = reader.old.text; at = reader.old.at + 3 } }
+    ensures { reader.new ≡ record reader.old { at = reader.old.at + 3 } }
 {
     skip_indicator(reader);
     skip_indicator(reader);

@@ -143,10 +143,9 @@ fn indicators(first: u8, second: u8) -> usize
 
 /// Past the chomping indicator and the digit here.
 fn skip_indicators(reader: &mut Reader)
-    ensures { reader.new ≡ record {
-      text = reader.old.text;
-      at = reader.old.at + spec.indicators
-          (byte reader.old.text reader.old.at) (byte reader.old.text (reader.old.at + 1));
+    ensures { reader.new ≡ record reader.old {
+      at = reader.old.at + spec.indicators (byte reader.old.text reader.old.at)
+          (byte reader.old.text (reader.old.at + 1));
     } }
 {
     let count = indicators(reader.here(), reader.byte(1));
@@ -163,10 +162,8 @@ fn skip_indicators(reader: &mut Reader)
 /// Past the comment here, if one is here.
 #[tactic(auto, unfolding(crate::specs::Header::past_comment))]
 fn pass_comment(reader: &mut Reader)
-    ensures { reader.new ≡ record {
-      text = reader.old.text;
-      at = spec.past_comment reader.old.text
-          reader.old.at;
+    ensures { reader.new ≡ record reader.old {
+      at = spec.past_comment reader.old.text reader.old.at;
     } }
 {
     if reader.here() == b'#' {
@@ -178,10 +175,8 @@ fn pass_comment(reader: &mut Reader)
 // Inlined: each line of text asks.
 #[inline(always)]
 pub(crate) fn skip_last_break(reader: &mut Reader)
-    ensures { reader.new ≡ record {
-      text = reader.old.text;
-      at = reader.old.at + break_width
-          reader.old.text reader.old.at;
+    ensures { reader.new ≡ record reader.old {
+      at = reader.old.at + break_width reader.old.text reader.old.at;
     } }
 {
     if reader.break_width() > 0 {

@@ -54,10 +54,9 @@ fn line(
 
 /// Past the spaces before the column.
 fn indent(reader: &mut Reader, column: u64)
-    ensures { reader.new ≡ record {
-      text = reader.old.text;
-      at = reader.old.at + spec.spaces
-          (column - column_at reader.old.text reader.old.at) reader.old.text reader.old.at;
+    ensures { reader.new ≡ record reader.old {
+      at = reader.old.at + spec.spaces (column - column_at reader.old.text reader.old.at)
+          reader.old.text reader.old.at;
     } }
 {
     let here = reader.stop();

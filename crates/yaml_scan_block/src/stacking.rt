@@ -52,14 +52,7 @@ impl Stacking {
 
     /// What stands before a line that begins with a blank or doesn't.
     fn glue(&mut self, blank: bool) -> Result<(), AllocError>
-        ensures rest { OnOk result (self.new
-            ≡ record {
-              folded = self.old.folded;
-              done = self.new.done;
-              blank = self.old.blank;
-              feed = self.old.feed;
-              empties = self.old.empties;
-            }) }
+        ensures rest { OnOk result (self.new ≡ record self.old { done = self.new.done }) }
         ensures done { OnOk result (self.new.done.items ≡ self.old.done.items ++ glue self.old
             blank) }
     {

@@ -110,7 +110,7 @@ fn hex_value(reader: &mut Reader, len: usize) -> Option<u32>
     requires few { len ≤ 8 }
     ensures value { result ≡ spec.hex_value reader.old.text reader.old.at len }
     ensures past { IsSome result → reader.new
-        ≡ record { text = reader.old.text; at = reader.old.at + len } }
+        ≡ record reader.old { at = reader.old.at + len } }
 {
     let mut value = 0;
     for k in 0..len {

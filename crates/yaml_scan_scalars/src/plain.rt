@@ -3,7 +3,7 @@
 ghost use Rattle.std.specs.Prelude.{◌≡◌, ◌+◌, ◌-◌, ◌||◌, ◌&&◌, ◌==◌, nat_lt, ◌<◌, ◌≤◌, ℕ, suc, true, false, [], length, OnOk, Ok};
 ghost use Rattle.yaml_scan_model.specs.Ascii as ascii;
 ghost use Rattle.yaml_scan_model.specs.Spares.{HoldsAt};
-ghost use Rattle.yaml_scan_model.specs.Marks.{byte, break_width, ends_break, is_blank, is_blank_or_end, mark_at};
+ghost use Rattle.yaml_scan_model.specs.Marks.{byte, break_width, ends_break, mark_at};
 ghost use Rattle.yaml_scan_model.specs.Wrong.{refused};
 ghost use Rattle.yaml_scan_scalars.specs.Plain as spec;
 ghost use Rattle.yaml_scan_scalars.specs.Joined.{IsJoining, RanPlain, Steps, ReadsPlain, TookWords};
@@ -87,18 +87,9 @@ fn is_followed(reader: &Reader, flow: bool) -> bool
 {
     let byte = reader.here();
     if byte == b':' {
-        return is_white_behind(reader);
+        return reader.is_blank_or_end(1);
     }
     flow && is_bracket(byte)
-}
-
-/// Whether a blank, a break or the end stands behind the byte here.
-// Inlined: mostly a space does. All else asks a reader of its own: one that is lent to a call out of line lies in memory.
-#[inline(always)]
-fn is_white_behind(reader: &Reader) -> bool
-    ensures { result ≡ is_blank_or_end reader.now.text (reader.now.at + 1) }
-{
-    reader.byte(1) == b' ' || reader.ahead().is_blank_or_end(1)
 }
 
 /// The scalar that starts at the mark and has those bytes, where the reader stands behind them and no white follows.
@@ -152,8 +143,7 @@ fn passes_line(reader: &mut Reader, level: u64) -> bool
 #[inline(always)]
 fn pass_feed(reader: &mut Reader)
     requires { byte reader.old.text reader.old.at ≡ ascii.line_feed }
-    ensures { reader.new ≡ record {
-      text = reader.old.text;
+    ensures { reader.new ≡ record reader.old {
       at = reader.old.at + break_width reader.old.text reader.old.at;
     } }
 {

@@ -101,10 +101,7 @@ fn one_run(
         ⊎ (byte reader.old.text reader.old.at ≡ ascii.apostrophe) }
     requires stands { HoldsAt reader.old.text from bytes.now }
     ensures value { IfOk result (λ v. v.items ≡ bytes.now) }
-    ensures place { OnOk result (reader.new ≡ record {
-      text = reader.old.text;
-      at = reader.old.at + 1;
-    }) }
+    ensures place { OnOk result (reader.new ≡ record reader.old { at = reader.old.at + 1 }) }
 {
     // Before the copy: behind a store the quote would be looked at again.
     pass_byte(reader);

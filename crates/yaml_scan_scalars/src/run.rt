@@ -98,7 +98,7 @@ fn begun(byte: u8) -> u64
 pub(crate) fn pass_byte(reader: &mut Reader)
     requires some { 0 < byte reader.old.text reader.old.at }
     requires no_break { break_width reader.old.text reader.old.at ≡ 0 }
-    ensures { reader.new ≡ record { text = reader.old.text; at = reader.old.at + 1 } }
+    ensures { reader.new ≡ record reader.old { at = reader.old.at + 1 } }
 {
     let here = reader.stop();
     let text = reader.text();

@@ -2,7 +2,7 @@
 
 ghost use Rattle.std.specs.Prelude.{◌≡◌, ◌⊎◌, ◌||◌, ◌==◌, not};
 ghost use Rattle.yaml_scan_model.specs.Ascii as ascii;
-ghost use Rattle.yaml_scan_model.specs.Marks.{byte, mark_at, is_blank_or_end};
+ghost use Rattle.yaml_scan_model.specs.Marks.{byte, mark_at};
 ghost use Rattle.yaml_scan_words.specs.Anchors as spec;
 ghost use Rattle.yaml_scan_words.specs.Readings.{ReadsAs, IsNameWord, behind_bytes};
 
@@ -41,15 +41,11 @@ pub fn anchor(spares: &mut Spares, reader: &mut Reader, context: Context) -> Res
 }
 
 /// Whether no name stands between two places, or what stands here, behind it, may not follow it.
-// Mostly a space follows: it is asked alone, since neighbouring tests of a byte become one table of jumps.
 // Inlined: a look at a byte.
 #[inline(always)]
 fn is_wrong(reader: &Reader, from: usize, to: usize) -> bool
     ensures { result ≡ (from == to || not (spec.may_end_name reader.now.text reader.now.at)) }
 {
-    if reader.here() == b' ' {
-        return from == to;
-    }
     from == to || !may_end_name(reader)
 }
 
@@ -60,18 +56,9 @@ fn is_wrong(reader: &Reader, from: usize, to: usize) -> bool
 fn may_end_name(reader: &Reader) -> bool
     ensures { result ≡ spec.may_end_name reader.now.text reader.now.at }
 {
-    is_blank_or_end(reader)
+    reader.is_blank_or_end(0)
         || matches!(
             reader.here(),
             b'?' | b':' | b',' | b']' | b'}' | b'%' | b'@' | b'`'
         )
-}
-
-/// Whether a blank, a break or the end stands here.
-// Inlined: mostly a space does. All else asks a reader of its own: one that is lent to a call out of line lies in memory.
-#[inline(always)]
-fn is_blank_or_end(reader: &Reader) -> bool
-    ensures { result ≡ is_blank_or_end reader.now.text reader.now.at }
-{
-    reader.here() == b' ' || reader.ahead().is_blank_or_end(0)
 }

@@ -126,22 +126,6 @@ pub(crate) fn alphas_end(text: &[u8], from: usize) -> usize
     end
 }
 
-/// Whether one of the next eight bytes is meant, and is one of `0-9 A-Z a-z _ -`.
-// Inlined into the loop over bytes.
-#[inline(always)]
-fn alpha_ahead(text: &[u8], from: usize, count: usize) -> bool
-    requires { from + 8 ≤ length text.now }
-    ensures few { result ≡ true → count < 8 }
-    ensures here { result ≡ true → spec.belongs runs.Alphas text.now (from + count) ≡ true }
-    ensures none { result ≡ false → count < 8 → spec.belongs runs.Alphas text.now (from + count)
-        ≡ false }
-{
-    if AHEAD <= count {
-        return false;
-    }
-    is_alpha_at(text, from + count)
-}
-
 /// How many of the next eight bytes are alphas, one behind the other.
 // A loop whose turns are counted by a constant is written out: no place is compared with the text's length.
 // Inlined: a load and a comparison a byte.
@@ -154,7 +138,7 @@ fn alphas_ahead(text: &[u8], from: usize) -> usize
     ensures stop { result < 8 → spec.belongs runs.Alphas text.now (from + result) ≡ false }
 {
     let mut count = 0;
-    'bytes: while alpha_ahead(text, from, count) {
+    'bytes: while count < AHEAD && is_alpha_at(text, from + count) {
         count += 1;
     }
     count

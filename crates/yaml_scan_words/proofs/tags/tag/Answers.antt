@@ -20,7 +20,7 @@ copied_run-requires-clause-forward c =
     rw (c.place.ensures, c.handle_end-middle.ensures) (omega arith)
 
 pub returns-then-not-is_short_form : goal.returns-then-not-is_short_form
-returns-then-not-is_short_form c = c.tag_apart.ensures
+returns-then-not-is_short_form c = c.whole_tag.ensures
 
 pub returns-in_err-handle : goal.returns-in_err-handle
 returns-in_err-handle c =

@@ -37,8 +37,8 @@ pub(crate) fn read_header(reader: &mut Reader, start: yaml_mark_t) -> Result<Hea
 {
     let first = reader.here();
     let second = reader.byte(1);
-    let digit = if_chomping(first, second);
-    let chomping = if_digit(first, second);
+    let digit = second_if(is_chomping(first), first, second);
+    let chomping = second_if(is_digit(first), first, second);
     if digit == b'0' {
         return Err(zero_digit(reader, start));
     }
@@ -78,18 +78,11 @@ fn is_digit(byte: u8) -> bool
     byte >= b'0' && byte <= b'9'
 }
 
-/// The second byte where the first is a chomping indicator, else the first.
-fn if_chomping(first: u8, second: u8) -> u8
-    ensures { result ≡ (if spec.is_chomping first then second else first) }
+/// The second byte where the first stands for something else, else the first.
+fn second_if(other: bool, first: u8, second: u8) -> u8
+    ensures { result ≡ (if other then second else first) }
 {
-    if is_chomping(first) { second } else { first }
-}
-
-/// The second byte where the first is a digit, else the first.
-fn if_digit(first: u8, second: u8) -> u8
-    ensures { result ≡ (if is_digit_byte first then second else first) }
-{
-    if is_digit(first) { second } else { first }
+    if other { second } else { first }
 }
 
 #[tactic(auto, unfolding(crate::specs::Header::chomp_of))]

@@ -133,30 +133,9 @@ fn passes_line(reader: &mut Reader, level: u64) -> bool
     if reader.here() != b'\n' {
         return false;
     }
-    pass_feed(reader);
+    reader.skip_break();
     skip_spaces(reader);
     begins_word(reader.here()) && reader.mark().column < level
-}
-
-/// Past the line feed here.
-// Inlined: two additions. A reader that is lent to a call out of line lies in memory.
-#[inline(always)]
-fn pass_feed(reader: &mut Reader)
-    requires { byte reader.old.text reader.old.at ≡ ascii.line_feed }
-    ensures { reader.new ≡ record reader.old {
-      at = reader.old.at + break_width reader.old.text reader.old.at;
-    } }
-{
-    let here = reader.stop();
-    let text = reader.text();
-    // Read for the clauses: a length that is read has a number within its type.
-    let _length = text.len();
-    let behind = yaml_mark_t {
-        index: here.index + 1,
-        line: here.line + 1,
-        column: 0,
-    };
-    *reader = Reader::resume(text, behind);
 }
 
 /// Whether the byte is surely no white, no break and no comment's sign.

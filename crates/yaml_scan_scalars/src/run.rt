@@ -5,7 +5,7 @@ ghost use Rattle.yaml_scan_model.specs.Marks.{byte, break_width, starts};
 ghost use Rattle.yaml_scan_model.specs.Spares.{HoldsAt};
 ghost use Rattle.yaml_scan_scalars.specs.Ordinary as spec;
 
-use yaml_scan_model::{Reader, yaml_mark_t};
+use yaml_scan_model::{Reader, leap, yaml_mark_t};
 
 /// How many bytes are looked at in a row.
 const AHEAD: usize = 8;
@@ -149,19 +149,14 @@ fn narrow_run(kind: u8, reader: &mut Reader)
     ensures run { spec.IsRun kind reader.old.text reader.old.at reader.new }
     ensures inside { reader.new.at ≤ length reader.old.text }
 {
-    let here = reader.stop();
+    // Read for the clauses: the place that is reached stands inside the text.
+    let _here = reader.stop();
     let text = reader.text();
-    let from = reader.place();
-    let mut end = past_narrow(kind, text, from);
+    let mut end = past_narrow(kind, text, reader.place());
     'bytes: while passes_at(kind, text, end) {
         end = past_narrow(kind, text, end + 1);
     }
-    let mark = yaml_mark_t {
-        index: end as u64,
-        line: here.line,
-        column: here.column + (end - from) as u64,
-    };
-    *reader = Reader::resume(text, mark);
+    leap(reader, end);
 }
 
 /// A place behind ordinary bytes of ASCII that stand there: of eight bytes, where so many follow, the first that is none.

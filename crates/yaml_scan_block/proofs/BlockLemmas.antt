@@ -65,9 +65,6 @@ spaces_lesser n text p inside =
       | inr more ↦ (omega arith, spaces_within (min n (length text - p)) n text p (omega arith) (omega arith))
     ]
 
-pub other_byte : (b : ℕ) → (b == 32) ≡ false → b ≢ 32
-other_byte b h = grind (arith, nat_tests)
-
 pub one_space : (text : List ℕ) (p : ℕ) → byte text p ≡ 32 → (k : ℕ) → p ≤ k → k < p + 1
     → byte text k ≡ 32
 one_space text p h k after before = let same : k ≡ p = omega arith in rw same h

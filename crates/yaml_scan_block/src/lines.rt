@@ -5,7 +5,7 @@ ghost use Rattle.yaml_scan_model.specs.Ascii as ascii;
 ghost use Rattle.yaml_scan_model.specs.Marks.{byte, column_at};
 ghost use Rattle.yaml_scan_block.specs.Lines as spec;
 ghost use Rattle.yaml_scan_block.specs.Block.{block_with};
-ghost use Rattle.yaml_scan_block.specs.Readings.{IsOne, IsRow, LineSteps, ReadsLines};
+ghost use Rattle.yaml_scan_block.specs.Readings.{IsRow, LineSteps, ReadsLines};
 ghost use Rattle.yaml_scan_block.specs.Stacked.{stacked};
 ghost use Rattle.yaml_scan_block.specs.declared.header.Chomp.{Chomp};
 
@@ -80,7 +80,7 @@ fn past_indent(text: &[u8], from: usize, asked: u64) -> usize
         end += ROW;
         left -= ROW as u64;
     }
-    'bytes: while has_space(text, end, left) {
+    'bytes: while left > 0 && text[end] == b' ' {
         end += 1;
         left -= 1;
     }
@@ -104,20 +104,6 @@ fn has_row(text: &[u8], at: usize, left: u64) -> bool
         count += 1;
     }
     spaces
-}
-
-/// Whether a space stands there, where one is asked for.
-// Inlined into the loop over such bytes.
-#[inline(always)]
-fn has_space(text: &[u8], at: usize, left: u64) -> bool
-    requires { at + left ≤ length text.now }
-    ensures yes { result ≡ true → IsOne left text.now at }
-    ensures no { result ≡ false → spec.spaces left text.now at ≡ 0 }
-{
-    if left == 0 {
-        return false;
-    }
-    text[at] == b' '
 }
 
 /// Whether a tab stands here, before the column.

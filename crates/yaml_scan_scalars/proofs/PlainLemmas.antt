@@ -1,6 +1,6 @@
 -- Plain scalars, a step at a time.
-use Rattle.std.proofs.Common.{◌≡◌, ℕ, zero, suc, ◌+◌, ◌-◌, ◌<◌, ◌≤◌, Bool, true, false, List, [], ◌∷◌, length, take, Result, Ok, Err, refl, sym, ap, ◌∙◌, inl, inr, ◌==◌, nat_lt, ◌||◌, ◌&&◌, if◌then◌else◌, arith, add-one}
-use Rattle.yaml_scan_scalars.proofs.Words.{cases_Bool, cases_lt, cond_both, ltb-true, true≢false, lt-ltb, nat_tests, take_all, Piece, Kept, Blank, Break, value, resume, Place, byte, mark_at, break_width, ends_break, is_blank, column_at, yaml_mark_t, Folding, Joining, ScanError, feed_at, Wrong, IsMemory, PlainSpot, Ends, Takes, Faulty, Words, is_bracket, with_piece, words_from, follows, words, starts_plain, plain_at, plain_text, plain_with, PlainText, spot_at, ends_at, leads, after_white, is_nothing, joined, IsJoining, Steps, ReadsPlain, within, past_break, end_not_blank, last_of}
+use Rattle.std.proofs.Common.{◌≡◌, ℕ, zero, suc, ◌+◌, ◌-◌, ◌<◌, ◌≤◌, Bool, true, false, List, [], ◌∷◌, length, take, Result, Ok, Err, refl, sym, ap, ◌∙◌, inl, inr, ◌==◌, nat_lt, ◌||◌, ◌&&◌, arith, add-one}
+use Rattle.yaml_scan_scalars.proofs.Words.{cases_Bool, cases_lt, cond_both, ltb-true, true≢false, lt-ltb, nat_tests, take_all, Piece, Kept, Blank, Break, resume, Place, byte, mark_at, break_width, ends_break, is_blank, column_at, yaml_mark_t, Folding, Joining, ScanError, feed_at, Wrong, IsMemory, PlainSpot, Ends, Takes, Faulty, Words, is_bracket, with_piece, words_from, follows, words, starts_plain, plain_at, plain_text, plain_with, PlainText, spot_at, ends_at, leads, after_white, is_nothing, joined, IsJoining, Steps, ReadsPlain, within, past_break, end_not_blank, last_of}
 use Rattle.std.proofs.Math.Bool.{or-false, or-true}
 use Rattle.yaml_scan_scalars.specs.declared.folding.Gap.TheVariants as gaps
 use Rattle.yaml_scan_model.specs.declared.problem.ScanError.TheVariants as errors
@@ -48,6 +48,13 @@ keep_parts old new bytes w h g b l none = elim (cases_Bool (is_nothing w.pieces)
       rw (empty, take_all new.kept new.folding.done.items l, whole, none) refl
   | inr e ↦ rw (e, h w.pieces) refl
 ]
+
+-- behind a character nothing white stands
+pub seated : (text : List ℕ) (q : ℕ) (j : Joining) → j.kept ≤ length j.folding.done.items
+    → (j.end ≡ mark_at text q) × (j.broke ≡ false) × (j.white ≡ false) → j.folding.gap ≡ gaps.Line
+    → (false ≡ leads text q) × (false ≡ after_white text q) → IsJoining text q j
+seated text q j kept seat line calm =
+    record { kept = kept; end = rw seat.0 refl; broke = seat.1 ∙ calm.0; white = seat.2 ∙ calm.1; line = λ e. line }
 
 -- white before a place
 

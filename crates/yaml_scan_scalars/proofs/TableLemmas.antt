@@ -1,7 +1,7 @@
 -- The table of ordinary bytes, and the marks behind a run of them.
-use Rattle.std.proofs.Common.{◌≡◌, ℕ, zero, suc, ◌+◌, ◌<◌, ◌≤◌, if◌then◌else◌, Bool, true, false, ◌&&◌, ◌||◌, ◌-◌, ◌∙◌, List, length, nat_lt, refl, sym, inl, inr, arith}
+use Rattle.std.proofs.Common.{◌≡◌, ℕ, ◌+◌, ◌<◌, ◌≤◌, if◌then◌else◌, Bool, true, false, ◌&&◌, ◌||◌, ◌-◌, ◌∙◌, List, length, refl, sym, inl, inr, arith}
 use Rattle.yaml_scan_scalars.proofs.Words.{nat_tests, cases_Bool, cases_lt, and_parts, true≢false, or_cases, or_parts, byte, break_of, ends_break, splits_break, starts, line_at, column_at, within, end_next, split_next, line_more, column_more, column_same, is_ordinary, is_common, is_narrow, is_odd, parts_flow, is_link, is_linked, in_run, IsRun}
-use Rattle.yaml_scan_scalars.proofs.RunLemmas.{calm_no_break, common_ordinary, narrow_ordinary, ordinary_calm, space_here, sign_calm, link_cases, ordinary_in, linked_in, run_parts, each_join}
+use Rattle.yaml_scan_scalars.proofs.RunLemmas.{calm_no_break, common_ordinary, narrow_ordinary, ordinary_calm, link_cases, ordinary_in, linked_in, run_parts}
 
 column_behind : (text : List ℕ) (p : ℕ) → ends_break text p ≡ false
     → column_at text (p + 1) ≡ column_at text p + (if starts (byte text p) then 1 else 0)

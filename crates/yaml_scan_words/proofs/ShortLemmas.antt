@@ -1,5 +1,5 @@
 -- Tags in a short form without escapes.
-use Rattle.std.proofs.Common.{◌≡◌, ℕ, max, ◌+◌, ◌-◌, ◌<◌, ◌≤◌, ◌==◌, ◌&&◌, Bool, true, false, not, List, [], ◌∷◌, length, take, drop, slice_range, Ok, refl, inl, inr, ◌⊎◌, arith}
+use Rattle.std.proofs.Common.{◌≡◌, ℕ, max, ◌+◌, ◌-◌, ◌<◌, ◌≤◌, ◌==◌, ◌&&◌, Bool, true, false, not, List, [], ◌∷◌, length, take, drop, slice_range, Ok, refl, inl, inr, arith}
 use Rattle.yaml_scan_words.proofs.Words.{and_parts, cases_Bool, cases_lt, cond_both, eqb-false, eqb-true, not-true, or_left, length-drop, length-take-le, byte, within, IsKept, IsPrinted, belongs, is_uri, name_end, handle_end, parts_at, may_end_tag, tag_at, ne_eqb}
 use Rattle.yaml_scan_model.specs.declared.problem.Context.TheVariants as contexts
 use Rattle.yaml_scan_words.specs.declared.run.Run.TheVariants as runs

@@ -1,4 +1,4 @@
-use Rattle.std.proofs.Common.{◌≡◌, ◌&&◌, ◌==◌, not, nat_lt, true, ◌∙◌, sym, arith}
+use Rattle.std.proofs.Common.{◌≡◌, ◌&&◌, ◌==◌, not, nat_lt, true, ◌∙◌, sym}
 use Rattle.yaml_scan_words.proofs.Words.{and_parts, byte}
 use Rattle.yaml_scan_words.proofs.BetweenLemmas.{lexeme_here, space_here, space_byte, skipped_here}
 use Rattle.yaml_scan_words.proofs.between.pass_one.Goals as goal

@@ -60,7 +60,9 @@ fn quoted(spares: &mut Spares, reader: &mut Reader, quote: u8) -> Result<Vec<u8>
     let from = reader.place();
     let bytes = ordinary_run(quoted_kind(quote), reader);
     if closes(reader, quote) {
-        let value = one_run(spares, reader, from, bytes)?;
+        // Before the copy: behind a store the quote would be looked at again.
+        pass_byte(reader);
+        let value = copied(spares, reader.text(), from, bytes)?;
         return Ok(value);
     }
     many_runs(spares, reader, bytes, start, quote)
@@ -85,28 +87,6 @@ fn closes(reader: &Reader, quote: u8) -> bool
         && byte reader.now.text (reader.now.at + 1) == ascii.apostrophe)) }
 {
     reader.here() == quote && !is_doubled(quote, reader.byte(1))
-}
-
-/// The value of the scalar that has those bytes, which stand from that place on, where the reader stands before its closing
-/// quote.
-// Inlined: a text of up to sixteen bytes is one load and one store.
-#[inline(always)]
-fn one_run(
-    spares: &mut Spares,
-    reader: &mut Reader,
-    from: usize,
-    bytes: &[u8],
-) -> Result<Vec<u8>, AllocError>
-    requires closing { (byte reader.old.text reader.old.at ≡ ascii.quote)
-        ⊎ (byte reader.old.text reader.old.at ≡ ascii.apostrophe) }
-    requires stands { HoldsAt reader.old.text from bytes.now }
-    ensures value { IfOk result (λ v. v.items ≡ bytes.now) }
-    ensures place { OnOk result (reader.new ≡ record reader.old { at = reader.old.at + 1 }) }
-{
-    // Before the copy: behind a store the quote would be looked at again.
-    pass_byte(reader);
-    let value = copied(spares, reader.text(), from, bytes)?;
-    Ok(value)
 }
 
 /// The value of the scalar that starts at the mark, where the reader stands behind its first run, of those bytes.

@@ -48,10 +48,7 @@ impl Folding {
     pub(crate) fn keeps_blanks(&self) -> bool
         ensures { result ≡ true → self.now.gap ≡ Gap.Line }
     {
-        match self.gap {
-            Gap::Line => true,
-            Gap::Feed | Gap::Kept => false,
-        }
+        matches!(self.gap, Gap::Line)
     }
 
     /// A blank.

@@ -85,16 +85,6 @@ pub(crate) fn stands_in_uri(byte: u8, wide: bool) -> bool
     }
 }
 
-/// Whether one of `0-9 A-Z a-z _ -` stands there.
-#[tactic(auto, unfolding(crate::specs::Runs::belongs))]
-// Inlined into the loop over bytes.
-#[inline(always)]
-fn alpha_at(text: &[u8], place: usize) -> bool
-    ensures { result ≡ spec.belongs runs.Alphas text.now place }
-{
-    place < text.len() && is_alpha_at(text, place)
-}
-
 /// Whether the byte there, which is in the text, is one of `0-9 A-Z a-z _ -`.
 #[tactic(auto, unfolding(crate::specs::Runs::belongs))]
 // Inlined into the loop over bytes.
@@ -120,7 +110,7 @@ pub(crate) fn alphas_end(text: &[u8], from: usize) -> usize
             return end;
         }
     }
-    'bytes: while alpha_at(text, end) {
+    'bytes: while end < text.len() && is_alpha_at(text, end) {
         end += 1;
     }
     end

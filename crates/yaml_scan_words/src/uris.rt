@@ -191,17 +191,8 @@ pub(crate) fn kept_end(text: &[u8], from: usize, wide: bool) -> usize
     ensures { spec.IsKept wide text.now from result }
 {
     let mut end = from;
-    'bytes: while kept_at(text, end, wide) {
+    'bytes: while end < text.len() && stands_in_uri(text[end], wide) {
         end += 1;
     }
     end
-}
-
-/// Whether a character stands there that a URI holds as it is.
-// Inlined into the loop over bytes.
-#[inline(always)]
-fn kept_at(text: &[u8], place: usize, wide: bool) -> bool
-    ensures { result ≡ spec.is_uri wide text.now place }
-{
-    place < text.len() && stands_in_uri(text[place], wide)
 }

@@ -51,16 +51,6 @@ fn common_at(text: &[u8], place: usize) -> bool
     place < text.len() && ORDINARY[text[place] as usize] >= b'O'
 }
 
-/// Whether an ordinary byte of ASCII stands there.
-// Inlined into the loop over bytes.
-#[inline(always)]
-fn narrow_at(kind: u8, text: &[u8], place: usize) -> bool
-    requires { spec.is_kind kind ≡ true }
-    ensures { result ≡ spec.is_narrow kind (byte text.now place) }
-{
-    place < text.len() && is_narrow(kind, text[place])
-}
-
 /// Whether the byte is a space, a dash or a dot.
 // Inlined into the loop over bytes.
 #[inline(always)]
@@ -80,7 +70,8 @@ fn passes_at(kind: u8, text: &[u8], place: usize) -> bool
 {
     place < text.len()
         && (is_narrow(kind, text[place])
-            || (is_link(text[place]) && narrow_at(kind, text, place + 1)))
+            || (is_link(text[place])
+                && (place + 1 < text.len() && is_narrow(kind, text[place + 1]))))
 }
 
 /// How many characters begin with the byte.

@@ -1,5 +1,5 @@
 -- Block scalars' lines, a step at a time.
-use Rattle.std.proofs.Common.{◌≡◌, ◌≢◌, ℕ, zero, suc, ◌+◌, ◌-◌, ◌<◌, ◌≤◌, ◌==◌, nat_lt, ◌&&◌, ◌||◌, true, false, not, List, length, refl, ap, sym, ◌∙◌, inl, inr, ◌⊎◌, arith}
+use Rattle.std.proofs.Common.{◌≡◌, ◌≢◌, ℕ, min, zero, suc, ◌+◌, ◌-◌, ◌<◌, ◌≤◌, ◌==◌, nat_lt, ◌&&◌, ◌||◌, true, false, not, List, length, refl, ap, sym, ◌∙◌, inl, inr, arith}
 use Rattle.std.proofs.lemmas.Bool.{cases_lt}
 use Rattle.std.specs.Prelude.{slice_range}
 use Rattle.yaml_scan_block.proofs.Words.{nat_tests, lt-ltb, byte, break_width, column_at, break_value, feed_at, is_text, line_end, column_more, no_end-blank, within, past_some, Empty, Words, spaces, spot_behind, Stops, Line, Tab}
@@ -56,15 +56,14 @@ spaces_within (suc m) n text p few past =
     ap (λ (l : ℕ). spaces l text p) d ∙ spaces_alike (n - 1) m text p behind
 
 -- So the lesser of what is asked for and what the text holds does as well.
-pub spaces_lesser : (m n : ℕ) (text : List ℕ) (p : ℕ) → p ≤ length text
-    → ((m ≡ n) × (n ≤ length text - p)) ⊎ ((m ≡ length text - p) × (length text - p ≤ n))
-    → (p + m ≤ length text) × (spaces n text p ≡ spaces m text p)
-spaces_lesser m n text p inside (inl (e, few)) = (omega (arith, inside, e, few), rw e refl)
-spaces_lesser m n text p inside (inr (e, few)) =
-    (omega (arith, inside, e), spaces_within m n text p (omega (arith, e, few)) (omega (arith, inside, e)))
-
-pub other_byte : (b : ℕ) → (b == 32) ≡ false → b ≢ 32
-other_byte b h = grind (arith, nat_tests)
+pub spaces_lesser : (n : ℕ) (text : List ℕ) (p : ℕ) → p ≤ length text
+    → (p + min n (length text - p) ≤ length text)
+    × (spaces n text p ≡ spaces (min n (length text - p)) text p)
+spaces_lesser n text p inside =
+    elim (cases_lt n (length text - p)) [
+      | inl few ↦ let same : min n (length text - p) ≡ n = omega arith in rw same (omega arith, refl)
+      | inr more ↦ (omega arith, spaces_within (min n (length text - p)) n text p (omega arith) (omega arith))
+    ]
 
 pub one_space : (text : List ℕ) (p : ℕ) → byte text p ≡ 32 → (k : ℕ) → p ≤ k → k < p + 1
     → byte text k ≡ 32

@@ -10,9 +10,9 @@ pub use Rattle.yaml_scan_block.specs.Lines.{Line, LineSpot, Lines, Stops, Tab, i
 unfoldable pub use Rattle.yaml_scan_block.specs.Lines.{lines_from, spaces, spot_behind}
 pub use Rattle.yaml_scan_block.specs.Readings.{FindsColumn, LineSteps, ReadsBlock, ReadsHeader, ReadsLines}
 pub use Rattle.yaml_scan_block.specs.Stacked.{stacked}
-unfoldable pub use Rattle.yaml_scan_block.specs.Stacked.{glued, stacked_with}
+unfoldable pub use Rattle.yaml_scan_block.specs.Stacked.{stacked_with}
 pub use Rattle.yaml_scan_block.specs.Unbounded.{AreLinesFrom, Deepest, DeepestIs, DeepestIsOne, EndsBlockRun, LeadsTo, LinesAre, LinesAreOne, RunEndsOnce, RunsEnd, at_once, behind_blank, goes_on, has_tab, indent_at, stops}
-pub use Rattle.yaml_scan_block.specs.Value.{BlockLine, Empty, Words, at_end, behind_text, block_value, space_or, starts_blank, texts_of}
+pub use Rattle.yaml_scan_block.specs.Value.{BlockLine, Empty, TextLine, Words, at_end, behind_text, block_value, space_or, starts_blank, texts_of, value_with}
 unfoldable pub use Rattle.yaml_scan_block.specs.Value.{between}
 pub use Rattle.yaml_scan_block.specs.declared.header.Chomp.{Chomp}
 pub use Rattle.yaml_scan_block.specs.declared.stacking.Stacking.{Stacking}

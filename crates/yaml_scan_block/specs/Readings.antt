@@ -21,11 +21,6 @@ pub record IsRow (left : ℕ) (text : List ℕ) (p : ℕ) : Type 0 where
   pub asked : 4 ≤ left
   pub each : (k : ℕ) → p ≤ k → k < p + 4 → byte text k ≡ ascii.space
 
--- a space is asked for, and stands there
-pub record IsOne (left : ℕ) (text : List ℕ) (p : ℕ) : Type 0 where
-  pub asked : 0 < left
-  pub space : byte text p ≡ ascii.space
-
 -- a line, by what stands there
 abbrev pub LineSteps : List ℕ → yaml_mark_t → ℕ → Stacking → Stacking → Place
     → Result Bool ScanError → LineSpot → Type 0

@@ -3,6 +3,7 @@
 ghost use Rattle.std.specs.Prelude.{◌≡◌, ◌+◌, ◌<◌, if◌then◌else◌, IfOk};
 ghost use Rattle.yaml_scan_model.specs.Marks.{byte, break_width, mark_at};
 ghost use Rattle.yaml_scan_model.specs.Classes.{is_digit_byte};
+ghost use Rattle.yaml_scan_model.specs.Wrong.{refused};
 ghost use Rattle.yaml_scan_block.specs.Header as spec;
 ghost use Rattle.yaml_scan_block.specs.Readings.{ReadsHeader};
 
@@ -36,8 +37,8 @@ pub(crate) fn read_header(reader: &mut Reader, start: yaml_mark_t) -> Result<Hea
 {
     let first = reader.here();
     let second = reader.byte(1);
-    let digit = if_chomping(first, second);
-    let chomping = if_digit(first, second);
+    let digit = second_if(is_chomping(first), first, second);
+    let chomping = second_if(is_digit(first), first, second);
     if digit == b'0' {
         return Err(zero_digit(reader, start));
     }
@@ -56,13 +57,7 @@ pub(crate) fn read_header(reader: &mut Reader, start: yaml_mark_t) -> Result<Hea
 
 /// The refusal of the scalar that starts at the mark.
 pub(crate) fn wrong_block(problem: Problem, start: yaml_mark_t, place: yaml_mark_t) -> ScanError
-    ensures { result ≡ ScanError.Fault
-        (record {
-          problem = problem;
-          context = Context.BlockScalar;
-          context_mark = start;
-          problem_mark = place;
-        }) }
+    ensures { result ≡ refused problem Context.BlockScalar start place }
 {
     ScanError::refusal(problem, Context::BlockScalar, start, place)
 }
@@ -83,18 +78,11 @@ fn is_digit(byte: u8) -> bool
     byte >= b'0' && byte <= b'9'
 }
 
-/// The second byte where the first is a chomping indicator, else the first.
-fn if_chomping(first: u8, second: u8) -> u8
-    ensures { result ≡ (if spec.is_chomping first then second else first) }
+/// The second byte where the first stands for something else, else the first.
+fn second_if(other: bool, first: u8, second: u8) -> u8
+    ensures { result ≡ (if other then second else first) }
 {
-    if is_chomping(first) { second } else { first }
-}
-
-/// The second byte where the first is a digit, else the first.
-fn if_digit(first: u8, second: u8) -> u8
-    ensures { result ≡ (if is_digit_byte first then second else first) }
-{
-    if is_digit(first) { second } else { first }
+    if other { second } else { first }
 }
 
 #[tactic(auto, unfolding(crate::specs::Header::chomp_of))]
@@ -122,14 +110,8 @@ fn digit_of(byte: u8) -> u64
 
 /// The refusal of the digit 0, which stands here or behind a chomping indicator.
 fn zero_digit(reader: &mut Reader, start: yaml_mark_t) -> ScanError
-    ensures { result ≡ ScanError.Fault
-        (record {
-          problem = Problem.ZeroIndentation;
-          context = Context.BlockScalar;
-          context_mark = start;
-          problem_mark = mark_at reader.old.text
-              (spec.digit_place reader.old.text reader.old.at);
-        }) }
+    ensures { result ≡ refused Problem.ZeroIndentation Context.BlockScalar start
+        (mark_at reader.old.text (spec.digit_place reader.old.text reader.old.at)) }
 {
     if is_chomping(reader.here()) {
         reader.skip();
@@ -154,10 +136,9 @@ fn indicators(first: u8, second: u8) -> usize
 
 /// Past the chomping indicator and the digit here.
 fn skip_indicators(reader: &mut Reader)
-    ensures { reader.new ≡ record {
-      text = reader.old.text;
-      at = reader.old.at + spec.indicators
-          (byte reader.old.text reader.old.at) (byte reader.old.text (reader.old.at + 1));
+    ensures { reader.new ≡ record reader.old {
+      at = reader.old.at + spec.indicators (byte reader.old.text reader.old.at)
+          (byte reader.old.text (reader.old.at + 1));
     } }
 {
     let count = indicators(reader.here(), reader.byte(1));
@@ -174,10 +155,8 @@ fn skip_indicators(reader: &mut Reader)
 /// Past the comment here, if one is here.
 #[tactic(auto, unfolding(crate::specs::Header::past_comment))]
 fn pass_comment(reader: &mut Reader)
-    ensures { reader.new ≡ record {
-      text = reader.old.text;
-      at = spec.past_comment reader.old.text
-          reader.old.at;
+    ensures { reader.new ≡ record reader.old {
+      at = spec.past_comment reader.old.text reader.old.at;
     } }
 {
     if reader.here() == b'#' {
@@ -189,10 +168,8 @@ fn pass_comment(reader: &mut Reader)
 // Inlined: each line of text asks.
 #[inline(always)]
 pub(crate) fn skip_last_break(reader: &mut Reader)
-    ensures { reader.new ≡ record {
-      text = reader.old.text;
-      at = reader.old.at + break_width
-          reader.old.text reader.old.at;
+    ensures { reader.new ≡ record reader.old {
+      at = reader.old.at + break_width reader.old.text reader.old.at;
     } }
 {
     if reader.break_width() > 0 {

@@ -5,7 +5,7 @@ ghost use Rattle.yaml_scan_model.specs.Ascii as ascii;
 ghost use Rattle.yaml_scan_model.specs.Marks.{byte, column_at};
 ghost use Rattle.yaml_scan_block.specs.Lines as spec;
 ghost use Rattle.yaml_scan_block.specs.Block.{block_with};
-ghost use Rattle.yaml_scan_block.specs.Readings.{IsOne, IsRow, LineSteps, ReadsLines};
+ghost use Rattle.yaml_scan_block.specs.Readings.{IsRow, LineSteps, ReadsLines};
 ghost use Rattle.yaml_scan_block.specs.Stacked.{stacked};
 ghost use Rattle.yaml_scan_block.specs.declared.header.Chomp.{Chomp};
 
@@ -54,10 +54,9 @@ fn line(
 
 /// Past the spaces before the column.
 fn indent(reader: &mut Reader, column: u64)
-    ensures { reader.new ≡ record {
-      text = reader.old.text;
-      at = reader.old.at + spec.spaces
-          (column - column_at reader.old.text reader.old.at) reader.old.text reader.old.at;
+    ensures { reader.new ≡ record reader.old {
+      at = reader.old.at + spec.spaces (column - column_at reader.old.text reader.old.at)
+          reader.old.text reader.old.at;
     } }
 {
     let here = reader.stop();
@@ -76,23 +75,16 @@ fn past_indent(text: &[u8], from: usize, asked: u64) -> usize
 {
     let room = (text.len() - from) as u64;
     let mut end = from;
-    let mut left = lesser(asked, room);
+    let mut left = asked.min(room);
     'rows: while has_row(text, end, left) {
         end += ROW;
         left -= ROW as u64;
     }
-    'bytes: while has_space(text, end, left) {
+    'bytes: while left > 0 && text[end] == b' ' {
         end += 1;
         left -= 1;
     }
     end
-}
-
-/// The lesser one of two numbers.
-fn lesser(a: u64, b: u64) -> u64
-    ensures { ((result ≡ a) × (a ≤ b)) ⊎ ((result ≡ b) × (b ≤ a)) }
-{
-    if a <= b { a } else { b }
 }
 
 /// Whether a row of spaces stands there, where that many are asked for.
@@ -112,20 +104,6 @@ fn has_row(text: &[u8], at: usize, left: u64) -> bool
         count += 1;
     }
     spaces
-}
-
-/// Whether a space stands there, where one is asked for.
-// Inlined into the loop over such bytes.
-#[inline(always)]
-fn has_space(text: &[u8], at: usize, left: u64) -> bool
-    requires { at + left ≤ length text.now }
-    ensures yes { result ≡ true → IsOne left text.now at }
-    ensures no { result ≡ false → spec.spaces left text.now at ≡ 0 }
-{
-    if left == 0 {
-        return false;
-    }
-    text[at] == b' '
 }
 
 /// Whether a tab stands here, before the column.

@@ -17,11 +17,9 @@ pub(crate) struct Stacking {
     pub folded: bool,
     /// The value up to the last line with text.
     pub done: Vec<u8>,
-    /// Whether a line with text is done.
-    pub any: bool,
-    /// Whether the last one begins with a blank.
+    /// Whether that line begins with a blank.
     pub blank: bool,
-    /// What the last one's break reads as.
+    /// What its break reads as: nothing where there is no such line.
     pub feed: &'static [u8],
     /// The breaks of the empty lines since.
     pub empties: Vec<u8>,
@@ -36,7 +34,6 @@ impl Stacking {
         Stacking {
             folded,
             done: spare(spares),
-            any: false,
             blank: false,
             feed: &[],
             empties: spare(spares),
@@ -55,21 +52,13 @@ impl Stacking {
 
     /// What stands before a line that begins with a blank or doesn't.
     fn glue(&mut self, blank: bool) -> Result<(), AllocError>
-        ensures rest { OnOk result (self.new
-            ≡ record {
-              folded = self.old.folded;
-              done = self.new.done;
-              any = self.old.any;
-              blank = self.old.blank;
-              feed = self.old.feed;
-              empties = self.old.empties;
-            }) }
+        ensures rest { OnOk result (self.new ≡ record self.old { done = self.new.done }) }
         ensures done { OnOk result (self.new.done.items ≡ self.old.done.items ++ glue self.old
             blank) }
     {
         let empties = self.empties.as_slice();
         let joins = folds(self.folded, self.blank, blank, self.feed);
-        let first = lead(self.any, joins, self.feed, empties);
+        let first = lead(joins, self.feed, empties);
         put_both(&mut self.done, first, empties)?;
         Ok(())
     }
@@ -80,12 +69,11 @@ impl Stacking {
             ≡ stacked self.old chomp (Words words.now feed.now ∷ ls)) }
     {
         let blank = starts_blank(words);
-        make_first_room(&mut self.done, self.any, words.len())?;
+        make_first_room(&mut self.done, words.len())?;
         self.glue(blank)?;
         self.done.extend_from_slice(words)?;
         self.empties.clear();
         self.feed = feed;
-        self.any = true;
         self.blank = blank;
         Ok(())
     }
@@ -94,11 +82,10 @@ impl Stacking {
     pub(crate) fn finish(self, spares: &mut Spares, chomp: Chomp) -> Result<Vec<u8>, AllocError>
         ensures { IfOk result (λ v. v.items ≡ stacked self chomp []) }
     {
-        let any = self.any;
         let feed = self.feed;
         let empties = self.empties;
         let mut done = self.done;
-        let (first, second) = kept_breaks(chomp, any, feed, empties.as_slice());
+        let (first, second) = kept_breaks(chomp, feed, empties.as_slice());
         put_both(&mut done, first, second)?;
         spares.keep(empties);
         Ok(done)
@@ -108,10 +95,10 @@ impl Stacking {
 /// Room for the first line with text and a break behind it: many have no other one.
 // Inlined: mostly there is room, or it isn't the first.
 #[inline(always)]
-fn make_first_room(done: &mut Vec<u8>, any: bool, count: usize) -> Result<(), AllocError>
+fn make_first_room(done: &mut Vec<u8>, count: usize) -> Result<(), AllocError>
     ensures { OnOk result (done.new.items ≡ done.old.items) }
 {
-    if any {
+    if !done.is_empty() {
         return Ok(());
     }
     if count < done.capacity() {
@@ -134,13 +121,10 @@ fn put_both(done: &mut Vec<u8>, first: &[u8], second: &[u8]) -> Result<(), Alloc
 }
 
 /// What stands before a text in front of the empty lines: the last text's break, or the space that it becomes.
-fn lead<'a>(any: bool, joins: bool, feed: &'a [u8], empties: &[u8]) -> &'a [u8]
-    ensures { result.now ++ empties.now ≡ (if any then (if joins then spec.space_or empties.now
-        else feed.now ++ empties.now) else empties.now) }
+fn lead<'a>(joins: bool, feed: &'a [u8], empties: &[u8]) -> &'a [u8]
+    ensures { result.now ++ empties.now ≡ (if joins then spec.space_or empties.now
+        else feed.now ++ empties.now) }
 {
-    if !any {
-        return &[];
-    }
     if !joins {
         return feed;
     }
@@ -151,29 +135,13 @@ fn lead<'a>(any: bool, joins: bool, feed: &'a [u8], empties: &[u8]) -> &'a [u8]
 }
 
 /// What stays behind the last text: of its break, and of the empty lines.
-fn kept_breaks<'a>(
-    chomp: Chomp,
-    any: bool,
-    feed: &'a [u8],
-    empties: &'a [u8],
-) -> (&'a [u8], &'a [u8])
-    ensures { result.0.now ++ result.1.now
-        ≡ spec.at_end chomp (if any then feed.now else []) empties.now }
+fn kept_breaks<'a>(chomp: Chomp, feed: &'a [u8], empties: &'a [u8]) -> (&'a [u8], &'a [u8])
+    ensures { result.0.now ++ result.1.now ≡ spec.at_end chomp feed.now empties.now }
 {
     match chomp {
         Chomp::Strip => (&[], &[]),
-        Chomp::Clip => {
-            if !any {
-                return (&[], &[]);
-            }
-            (feed, &[])
-        }
-        Chomp::Keep => {
-            if !any {
-                return (&[], empties);
-            }
-            (feed, empties)
-        }
+        Chomp::Clip => (feed, &[]),
+        Chomp::Keep => (feed, empties),
     }
 }
 

@@ -19,7 +19,7 @@ use Rattle.yaml_scan_characters.specs.Characters.{is_allowed, allowed_at, valued
 use Rattle.yaml_scan_characters.specs.Steps.{is_plain}
 use Rattle.yaml_scan_characters.specs.Decoding.{before, led_by, characters, in_utf8}
 use Rattle.yaml_scan_characters.specs.Spelling.{spelling, spellings}
-use Rattle.yaml_scan_characters.specs.Steps.{plain_run, outcome, outcome_at, behind}
+use Rattle.yaml_scan_characters.specs.Steps.{outcome, outcome_at, behind}
 use Rattle.yaml_scan_characters.proofs.DecodeLemmas.{AreBytes, utf8_stands, character_stands}
 
 -- a character that a stream may hold is a Unicode scalar value
@@ -100,23 +100,16 @@ pub checks_refused : (n : ℕ) (e : yaml_encoding_t) (bytes : List ℕ) (p q : �
     → outcome (characters n e bytes p) ≡ Err o
 checks_refused n e bytes p q o k inside h = k.same ∙ ap outcome (refused k.fuel e bytes q o inside k.enough h)
 
--- the byte behind a run
-pub run_more : (k : ℕ) (bytes : List ℕ) (p : ℕ) (run own : Bool) → run ≡ plain_run k bytes p
-    → own ≡ is_plain (byte bytes (p + k)) → (run && own) ≡ plain_run (k + 1) bytes p
-unfolding plain_run
-run_more k bytes p run own h g = rw (h, g, add-one) refl
-
--- a run of plain bytes is checked
+-- plain bytes are checked
 pub checks_run : (k n : ℕ) (bytes : List ℕ) (p q : ℕ) → Checks n YAML_UTF8_ENCODING bytes p q
-    → q + k ≤ length bytes → plain_run k bytes q ≡ true
+    → q + k ≤ length bytes → ((j : ℕ) → q ≤ j → j < q + k → is_plain (byte bytes j) ≡ true)
     → Checks n YAML_UTF8_ENCODING bytes p (q + k)
-unfolding plain_run
-checks_run zero n bytes p q c inside h = rw add-zero c
-checks_run (suc k) n bytes p q c inside h =
-    let front = checks_run k n bytes p q c (omega arith) (and_parts _ _ h).0 in
+checks_run zero n bytes p q c inside each = rw add-zero c
+checks_run (suc k) n bytes p q c inside each =
+    let front = checks_run k n bytes p q c (omega arith) (λ j a b. each j a (omega arith)) in
     let here : q + k < length bytes = omega arith in
     let next : q + suc k ≡ q + k + 1 = omega arith in
-    rw next (checks_more n YAML_UTF8_ENCODING bytes p (q + k) record { code = byte bytes (q + k); width = 1 } front here (omega arith) (plain_stands bytes (q + k) here (and_parts _ _ h).1))
+    rw next (checks_more n YAML_UTF8_ENCODING bytes p (q + k) record { code = byte bytes (q + k); width = 1 } front here (omega arith) (plain_stands bytes (q + k) here (each (q + k) (omega arith) (omega arith))))
 
 -- no more characters are asked for than bytes are left
 fuel_enough : (n m : ℕ) (bytes : List ℕ) (p : ℕ) → length bytes ≤ p + n → length bytes ≤ p + m

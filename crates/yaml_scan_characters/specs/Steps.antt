@@ -26,11 +26,6 @@ trailing_bits p width ahead b =
 unfoldable pub is_plain : ℕ → Bool
 is_plain b = nat_lt b 128 && is_allowed b
 
--- so many bytes from the place on are such characters
-unfoldable pub plain_run : ℕ → List ℕ → ℕ → Bool
-plain_run zero bytes p = true
-plain_run (suc n) bytes p = plain_run n bytes p && is_plain (byte bytes (p + n))
-
 -- whether bytes spell characters, or the first offence
 abbrev pub outcome : Result (List ℕ) Offence → Result (Unit {0}) Offence
 outcome (Ok cs) = Ok tt

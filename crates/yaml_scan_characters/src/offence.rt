@@ -65,10 +65,17 @@ impl Offence {
     pub fn at(problem: ReaderProblem, place: usize) -> Offence
         ensures { result ≡ record { problem = problem; offset = place; value = negsuc 0 } }
     {
+        Offence::of(problem, place, -1)
+    }
+
+    /// The offence of that byte, unit or character at that place.
+    pub(crate) fn of(problem: ReaderProblem, place: usize, value: i32) -> Offence
+        ensures { result ≡ record { problem = problem; offset = place; value = value } }
+    {
         Offence {
             problem,
             offset: place as u64,
-            value: -1,
+            value,
         }
     }
 
@@ -115,10 +122,6 @@ pub fn allowed_character(place: usize, width: usize, code: u32) -> Result<Charac
     if is_allowed(code) {
         Ok(Character { code, width })
     } else {
-        Err(Offence {
-            problem: ReaderProblem::ControlCharacter,
-            offset: place as u64,
-            value: code as i32,
-        })
+        Err(Offence::of(ReaderProblem::ControlCharacter, place, code as i32))
     }
 }

@@ -75,11 +75,7 @@ fn pair(bytes: &[u8], at: usize, order: ByteOrder, high: u32) -> Result<Characte
     }
     let low = unit(bytes, at + 2, order);
     if !is_low_surrogate(low) {
-        return Err(Offence {
-            problem: ReaderProblem::ExpectedLowSurrogate,
-            offset: (at + 2) as u64,
-            value: low as i32,
-        });
+        return Err(Offence::of(ReaderProblem::ExpectedLowSurrogate, at + 2, low as i32));
     }
     allowed_character(at, 4, 0x1_0000 + (high - 0xD800) * 0x400 + (low - 0xDC00))
 }
@@ -95,11 +91,7 @@ fn utf16_character(bytes: &[u8], at: usize, order: ByteOrder) -> Result<Characte
     }
     let first = unit(bytes, at, order);
     if is_low_surrogate(first) {
-        return Err(Offence {
-            problem: ReaderProblem::UnexpectedLowSurrogate,
-            offset: at as u64,
-            value: first as i32,
-        });
+        return Err(Offence::of(ReaderProblem::UnexpectedLowSurrogate, at, first as i32));
     }
     if first >= 0xD800 && first < 0xDC00 {
         return pair(bytes, at, order, first);

@@ -1,11 +1,11 @@
 //! UTF-8.
 
-ghost use Rattle.std.specs.Prelude.{◌≡◌, ◌+◌, ◌<◌, ◌≤◌, ◌^◌, IfOk, length};
+ghost use Rattle.std.specs.Prelude.{◌≡◌, ◌+◌, ◌<◌, ◌≤◌, ◌^◌, ℕ, true, IfOk, length};
 ghost use Rattle.yaml_scan_model.specs.declared.name.yaml_encoding_t.TheVariants.{YAML_UTF8_ENCODING};
 ghost use Rattle.yaml_scan_model.specs.Marks.{byte};
 ghost use Rattle.yaml_scan_model.specs.Classes.{width_of};
 ghost use Rattle.yaml_scan_characters.specs.Characters.{utf8_at, valued_at, sequence_of, least_code, leading_bits};
-ghost use Rattle.yaml_scan_characters.specs.Steps.{is_plain, plain_run, trailing_bits, GoesTo};
+ghost use Rattle.yaml_scan_characters.specs.Steps.{is_plain, trailing_bits, GoesTo};
 ghost use Rattle.yaml_scan_characters.specs.Decoding.{characters};
 ghost use Rattle.yaml_scan_characters.specs.Steps.{outcome};
 
@@ -27,15 +27,12 @@ fn trailing_bits(bytes: &[u8], at: usize, width: usize, ahead: usize) -> Result<
     if ahead >= width {
         return Ok(0);
     }
-    let byte = bytes[at + ahead];
+    let place = at + ahead;
+    let byte = bytes[place];
     if byte >= 0x80 && byte < 0xC0 {
         Ok(u32::from(byte - 0x80))
     } else {
-        Err(Offence {
-            problem: ReaderProblem::InvalidTrailingOctet,
-            offset: (at + ahead) as u64,
-            value: i32::from(byte),
-        })
+        Err(Offence::of(ReaderProblem::InvalidTrailingOctet, place, i32::from(byte)))
     }
 }
 
@@ -78,11 +75,7 @@ fn valued_character(at: usize, width: usize, code: u32) -> Result<Character, Off
         return Err(Offence::at(ReaderProblem::InvalidLength, at));
     }
     if code >= 0xD800 && code < 0xE000 || code > 0x10_FFFF {
-        return Err(Offence {
-            problem: ReaderProblem::InvalidCharacter,
-            offset: at as u64,
-            value: code as i32,
-        });
+        return Err(Offence::of(ReaderProblem::InvalidCharacter, at, code as i32));
     }
     allowed_character(at, width, code)
 }
@@ -118,11 +111,7 @@ fn utf8_character(bytes: &[u8], at: usize) -> Result<Character, Offence>
 {
     let width = WIDTH(bytes, at);
     if width == 0 {
-        return Err(Offence {
-            problem: ReaderProblem::InvalidLeadingOctet,
-            offset: at as u64,
-            value: i32::from(bytes[at]),
-        });
+        return Err(Offence::of(ReaderProblem::InvalidLeadingOctet, at, i32::from(bytes[at])));
     }
     if bytes.len() - at < width {
         return Err(Offence::at(ReaderProblem::IncompleteSequence, at));
@@ -141,7 +130,8 @@ fn is_plain(byte: u8) -> bool
 // Whether the bytes of a chunk that begins there are all plain.
 fn is_plain_chunk(bytes: &[u8], at: usize) -> bool
     requires { at + CHUNK ≤ length bytes.now }
-    ensures { result ≡ plain_run CHUNK bytes.now at }
+    ensures { result ≡ true → (k : ℕ) → at ≤ k → k < at + CHUNK → is_plain (byte bytes.now k)
+        ≡ true }
 {
     let mut plain = true;
     let mut count = 0;

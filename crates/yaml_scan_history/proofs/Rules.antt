@@ -213,14 +213,10 @@ version_from : (text : List ℕ) (q r : ℕ) → EndsBlockRun is_blank text q r
 unfolding belongs
 version_from text q r h = ap (λ z. then_at (minor_at text) (number_at text z)) (ends_here _ text q r h.after h.each h.stops)
 
-no_digits : (text : List ℕ) (r : ℕ)
-    → number_between text r r ≡ Err (wrong_here problems.NoVersionNumber contexts.VersionDirective r)
-no_digits text r = rw (eq-eqb r r refl) refl
-
 number_none : (text : List ℕ) (q r : ℕ) → EndsBlockRun is_blank text q r
     → EndsBlockRun is_digit text r r
     → version_at text q ≡ Err (wrong_here problems.NoVersionNumber contexts.VersionDirective r)
-number_none text q r b d = version_from text q r b ∙ ap (then_at (minor_at text)) (number_to text r r d ∙ no_digits text r)
+number_none text q r b d = version_from text q r b ∙ rw (number_to text r r d, eq-eqb r r refl) refl
 
 further : (r e : ℕ) → r < e → (e == r) ≡ false
 further r e h = grind (arith, nat_tests)
@@ -228,31 +224,17 @@ further r e h = grind (arith, nat_tests)
 few : (r e : ℕ) → e ≤ r + 9 → nat_lt (r + 9) e ≡ false
 few r e h = grind (arith, nat_tests)
 
-many_digits : (text : List ℕ) (r e : ℕ) → r + 9 < e
-    → number_between text r e
-    ≡ Err (wrong_here problems.LongVersionNumber contexts.VersionDirective (r + 9))
-many_digits text r e l = rw (further r e (omega (arith, l)), lt-ltb (r + 9) e l) refl
-
 number_long : (text : List ℕ) (q r e : ℕ) → EndsBlockRun is_blank text q r
     → EndsBlockRun is_digit text r e → r + 9 < e
     → version_at text q ≡ Err (wrong_here problems.LongVersionNumber contexts.VersionDirective (r + 9))
 number_long text q r e b d l =
-    version_from text q r b ∙ ap (then_at (minor_at text)) (number_to text r e d ∙ many_digits text r e l)
-
-some_digits : (text : List ℕ) (r e : ℕ) → r < e → e ≤ r + 9
-    → number_between text r e ≡ Ok (decimal text r (e - r), e)
-some_digits text r e l m = rw (further r e l, few r e m) refl
-
-dot_wanted : (text : List ℕ) (n e : ℕ) → byte text e ≢ 46
-    → minor_at text n e ≡ Err (wrong_here problems.NoDigitOrDot contexts.VersionDirective e)
-dot_wanted text n e h = rw (ne_eqb (byte text e) 46 h) refl
+    version_from text q r b ∙ rw (number_to text r e d, further r e (omega (arith, l)), lt-ltb (r + 9) e l) refl
 
 number_alone : (text : List ℕ) (q r e : ℕ) → EndsBlockRun is_blank text q r
     → EndsBlockRun is_digit text r e → r < e → e ≤ r + 9 → byte text e ≢ 46
     → version_at text q ≡ Err (wrong_here problems.NoDigitOrDot contexts.VersionDirective e)
 number_alone text q r e b d l m n =
-    version_from text q r b ∙ ap (then_at (minor_at text)) (number_to text r e d ∙ some_digits text r e l m)
-    ∙ dot_wanted text (decimal text r (e - r)) e n
+    version_from text q r b ∙ rw (number_to text r e d, further r e l, few r e m, ne_eqb (byte text e) 46 n) refl
 
 tag_from : (text : List ℕ) (q r : ℕ) → EndsBlockRun is_blank text q r
     → tag_directive_at text q
@@ -260,13 +242,9 @@ tag_from : (text : List ℕ) (q r : ℕ) → EndsBlockRun is_blank text q r
 unfolding belongs
 tag_from text q r h = ap (λ z. then_at (λ handle e. with_prefix handle (prefix_at text e)) (handle_at text z)) (ends_here _ text q r h.after h.each h.stops)
 
-mark_wanted : (text : List ℕ) (r : ℕ) → byte text r ≢ 33
-    → handle_at text r ≡ Err (wrong_here problems.NoExclamationMark contexts.TagDirectiveStart r)
-mark_wanted text r n = rw (ne_eqb (byte text r) 33 n) refl
-
 handle_none : (text : List ℕ) (q r : ℕ) → EndsBlockRun is_blank text q r → byte text r ≢ 33
     → tag_directive_at text q ≡ Err (wrong_here problems.NoExclamationMark contexts.TagDirectiveStart r)
-handle_none text q r b n = tag_from text q r b ∙ ap (then_at (λ handle e. with_prefix handle (prefix_at text e))) (mark_wanted text r n)
+handle_none text q r b n = tag_from text q r b ∙ rw (ne_eqb (byte text r) 33 n) refl
 
 handle_open : (text : List ℕ) (r e : ℕ) → byte text r ≡ 33 → EndsBlockRun is_alpha text (r + 1) e
     → r + 1 < e → byte text e ≢ 33
@@ -348,25 +326,6 @@ coded_wrong text p o h n e =
     escape_there text p h
     ∙ rw (h.no_break, lt-ltb 0 (hex_len (byte text (p + 1))) n) (ap (coded (p + 2) (p + 2 + hex_len (byte text (p + 1)))) e)
 
-letter_told : (text : List ℕ) (p : ℕ) → standing_at 34 text p ≡ escaped p None
-    → IsStandingTold (standing_at 34 text p) (codes "while parsing a quoted scalar")
-    (codes "found unknown escape character") p
-unfolding problem_text_of context_text_of
-letter_told text p e = rw e record { context = refl; problem = refl; place = refl }
-
-digits_told : (text : List ℕ) (p q : ℕ) → standing_at 34 text p ≡ coded (p + 2) q None
-    → IsStandingTold (standing_at 34 text p) (codes "while parsing a quoted scalar")
-    (codes "did not find expected hexdecimal number") (p + 2)
-unfolding problem_text_of context_text_of
-digits_told text p q e = rw e record { context = refl; problem = refl; place = refl }
-
-code_told : (text : List ℕ) (p q c : ℕ) → is_scalar c ≡ false
-    → standing_at 34 text p ≡ coded (p + 2) q (Some c)
-    → IsStandingTold (standing_at 34 text p) (codes "while parsing a quoted scalar")
-    (codes "found invalid Unicode character escape code") (p + 2)
-unfolding problem_text_of context_text_of
-code_told text p q c s e = rw (e, s) record { context = refl; problem = refl; place = refl }
-
 indicator_told : (quote : ℕ) (text : List ℕ) (p : ℕ) → is_document_indicator text p ≡ true
     → IsStandingTold (standing_at quote text p) (codes "while scanning a quoted scalar")
     (codes "found unexpected document indicator") p
@@ -381,68 +340,33 @@ unfolding problem_text_of context_text_of standing_at
 end_told quote text p h z = rw (h, eq-eqb (byte text p) 0 z) record { context = refl; problem = refl; place = refl }
 
 pub quotes_are_told : QuotesAreTold
+unfolding problem_text_of context_text_of
 quotes_are_told = record {
   indicator = indicator_told;
   end = end_told;
-  letter = λ text p h n s. letter_told text p (letter_wrong text p h n s);
-  digits = λ text p h n e. digits_told text p (p + 2 + hex_len (byte text (p + 1))) (coded_wrong text p None h n e);
-  code = λ text p c h n e s. code_told text p (p + 2 + hex_len (byte text (p + 1))) c s (coded_wrong text p (Some c) h n e);
+  letter = λ text p h n s. rw (letter_wrong text p h n s) record { context = refl; problem = refl; place = refl };
+  digits = λ text p h n e. rw (coded_wrong text p None h n e) record { context = refl; problem = refl; place = refl };
+  code = λ text p c h n e s. rw (coded_wrong text p (Some c) h n e, s) record { context = refl; problem = refl; place = refl };
 }
 
 -- ---- plain scalars
 
-tab_told : (flow : Bool) (level : ℕ) (text : List ℕ) (p : ℕ) → byte text p ≡ 9
-    → break_width text p ≡ 0 → plain.leads text p ≡ true → column_at text p < level
-    → IsPlainTold (plain.spot_at flow level text p) (codes "while scanning a plain scalar")
-    (codes "found a tab character that violates indentation") p
-unfolding plain.spot_at problem_text_of context_text_of
-tab_told flow level text p b w l c = rw (w, b, l, lt-ltb (column_at text p) level c) record { context = refl; problem = refl; place = refl }
-
-colon_told : (level : ℕ) (text : List ℕ) (p : ℕ) → byte text p ≡ 58 → break_width text p ≡ 0
-    → plain.ends_at true level text p ≡ false
-    → (plain.is_bracket (byte text (p + 1)) || byte text (p + 1) == 63) ≡ true
-    → IsPlainTold (plain.spot_at true level text p) (codes "while scanning a plain scalar")
-    (codes "found unexpected ':'") p
-unfolding plain.spot_at problem_text_of context_text_of
-colon_told level text p b w e n = rw (w, e, b, n) record { context = refl; problem = refl; place = refl }
-
 pub plains_are_told : PlainsAreTold
-plains_are_told = record { tab = tab_told; colon = colon_told }
+unfolding plain.spot_at problem_text_of context_text_of
+plains_are_told = record {
+  tab = λ flow level text p b w l c. rw (w, b, l, lt-ltb (column_at text p) level c) record { context = refl; problem = refl; place = refl };
+  colon = λ level text p b w e n. rw (w, e, b, n) record { context = refl; problem = refl; place = refl };
+}
 
 -- ---- block scalars
 
-zero_told : (text : List ℕ) (p : ℕ) → byte text (digit_place text p) ≡ 48
-    → IsTold (header_at text p) (codes "while scanning a block scalar")
-    (codes "found an indentation indicator equal to 0") (digit_place text p)
-unfolding header_at problem_text_of context_text_of
-zero_told text p b = rw (eq-eqb (byte text (digit_place text p)) 48 b) record { context = refl; problem = refl; place = refl }
-
-comment_told : (text : List ℕ) (p : ℕ) → byte text (digit_place text p) ≢ 48
-    → is_text text (header_end text p) ≡ true
-    → IsTold (header_at text p) (codes "while scanning a block scalar")
-    (codes "did not find expected comment or line break") (header_end text p)
-unfolding header_at problem_text_of context_text_of
-comment_told text p b t = rw (ne_eqb (byte text (digit_place text p)) 48 b, t) record { context = refl; problem = refl; place = refl }
-
-tab_found : (text : List ℕ) (p : ℕ) (w : Wrong) (t : IsTabbed text p w)
-    → TellsAll w (codes "while scanning a block scalar")
-    (codes "found a tab character where an indentation space is expected")
-    (past_spaces text t.line)
-unfolding problem_text_of context_text_of
-tab_found text p w t = rw t.told record { context = refl; problem = refl; place = refl }
-
-tab_in_line : (c : ℕ) (text : List ℕ) (end p q : ℕ) → line_spot c text p ≡ Tab q
-    → IsTold (lines_from (suc (length text)) c text end p) (codes "while scanning a block scalar")
-    (codes "found a tab character where an indentation space is expected") q
-unfolding lines_from problem_text_of context_text_of
-tab_in_line c text end p q e = rw e record { context = refl; problem = refl; place = refl }
-
 pub blocks_are_told : BlocksAreTold
+unfolding header_at lines_from problem_text_of context_text_of
 blocks_are_told = record {
-  zero_digit = zero_told;
-  comment = comment_told;
-  tab = tab_found;
-  line = tab_in_line;
+  zero_digit = λ text p b. rw (eq-eqb (byte text (digit_place text p)) 48 b) record { context = refl; problem = refl; place = refl };
+  comment = λ text p b t. rw (ne_eqb (byte text (digit_place text p)) 48 b, t) record { context = refl; problem = refl; place = refl };
+  tab = λ text p w t. rw t.told record { context = refl; problem = refl; place = refl };
+  line = λ c text end p q e. rw e record { context = refl; problem = refl; place = refl };
 }
 
 -- ---- between lexemes

@@ -88,20 +88,14 @@ impl Kind {
     pub fn is_value(self) -> bool
         ensures { result ≡ kinds.is_value self }
     {
-        match self {
-            Kind::ValueMark => true,
-            _ => false,
-        }
+        matches!(self, Kind::ValueMark)
     }
 
     /// Whether it may open a block level.
     pub fn is_start(self) -> bool
         ensures { result ≡ kinds.is_start self }
     {
-        match self {
-            Kind::BlockEntry | Kind::KeyMark | Kind::ValueMark => true,
-            _ => false,
-        }
+        matches!(self, Kind::BlockEntry | Kind::KeyMark | Kind::ValueMark)
     }
 
     /// Whether it stands outside all block levels.
@@ -118,10 +112,7 @@ impl Kind {
     pub fn is_end(self) -> bool
         ensures { result ≡ kinds.is_end self }
     {
-        match self {
-            Kind::StreamEnd => true,
-            _ => false,
-        }
+        matches!(self, Kind::StreamEnd)
     }
 
     /// Whether a key may begin behind it, with no break between them: `block` tells that no bracket is open,

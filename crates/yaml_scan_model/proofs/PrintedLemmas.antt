@@ -1,9 +1,9 @@
 -- Runs of text: of printed ASCII, the space too, and of bytes that are text whatever follows.
-use Rattle.std.proofs.Common.{◌≡◌, ◌≢◌, if◌then◌else◌, ℕ, zero, suc, ◌+◌, ◌-◌, ◌<◌, ◌≤◌, ◌==◌, ◌&&◌, ◌||◌, nat_lt, not, Bool, true, false, List, length, refl, inl, inr, ◌∙◌, sym, arith, add-one, true≢false}
-use Rattle.std.proofs.lemmas.Bool.{cases_Bool, cases_lt, and_parts}
+use Rattle.std.proofs.Common.{◌≡◌, ◌≢◌, if◌then◌else◌, ℕ, zero, suc, ◌+◌, ◌-◌, ◌<◌, ◌≤◌, ◌==◌, ◌||◌, nat_lt, not, Bool, true, false, List, length, refl, inl, inr, ◌∙◌, sym, arith, add-one}
+use Rattle.std.proofs.lemmas.Bool.{cases_Bool}
 use Rattle.std.proofs.lemmas.Bool.Decides.{nat_tests}
 use Rattle.yaml_scan_model.specs.Marks.{byte, break_of, ends_break, splits_break, starts, line_at, column_at}
-use Rattle.yaml_scan_model.specs.Runs.{is_text, is_printed, is_quiet, are_all, columns_over}
+use Rattle.yaml_scan_model.specs.Runs.{is_text, passes, ArePassed, columns_over}
 use Rattle.yaml_scan_model.proofs.MarksLemmas.{no_break, within, end_next, split_next, line_more, column_more, column_same}
 use Rattle.yaml_scan_model.proofs.RunsLemmas.{InRun, run_more, text_parts}
 
@@ -81,24 +81,21 @@ leaps text p q forward room whole low high =
     let inside = b.inside in
     record { inside = omega arith; line = sym (rw count at b.line); column = sym (rw (count, columns) at b.column); whole = rw count at b.whole }
 
-pub printed_parts : (b : ℕ) → is_printed b ≡ true → (31 < b) × (b < 127)
-printed_parts b h = (grind (arith, nat_tests), grind (arith, nat_tests))
+passed_parts : (wide : Bool) (b : ℕ) → passes wide b ≡ true → (31 < b) × (b ≢ 0xC2) × (b ≢ 0xE2)
+passed_parts false b h = (grind (arith, nat_tests), grind (arith, nat_tests), grind (arith, nat_tests))
+passed_parts true b h = (grind (arith, nat_tests), grind (arith, nat_tests), grind (arith, nat_tests))
 
-text_of : (b c d : ℕ) → is_printed b ≡ true → not (b == 0 || nat_lt 0 (break_of b c d)) ≡ true
-text_of b c d h = let (low, high) = printed_parts b h in plain_text b c d low high
-
-quiet_parts : (b : ℕ) → is_quiet b ≡ true → (31 < b) × (b ≢ 0xC2) × (b ≢ 0xE2)
-quiet_parts b h = (grind (arith, nat_tests), grind (arith, nat_tests), grind (arith, nat_tests))
-
-quiet_of : (b c d : ℕ) → is_quiet b ≡ true → not (b == 0 || nat_lt 0 (break_of b c d)) ≡ true
-quiet_of b c d h =
-    let (low, two, three) = quiet_parts b h in
-    let none : break_of b c d ≡ 0 = no_break b c d (omega arith) (omega arith) (omega arith) (omega arith) in
+passed_of : (wide : Bool) (b c d : ℕ) → passes wide b ≡ true
+    → not (b == 0 || nat_lt 0 (break_of b c d)) ≡ true
+passed_of wide b c d h =
+    let (low, two, three) = passed_parts wide b h in
+    let none : break_of b c d ≡ 0 = no_break b c d (omega arith) (omega arith) two three in
     rw none (grind (arith, nat_tests))
 
--- A quiet byte is text.
-pub quiet_text : (text : List ℕ) (p : ℕ) → is_quiet (byte text p) ≡ true → is_text text p ≡ true
-quiet_text text p h = quiet_of _ _ _ h
+-- A byte that is passed is text.
+pub passed_text : (wide : Bool) (text : List ℕ) (p : ℕ) → passes wide (byte text p) ≡ true
+    → is_text text p ≡ true
+passed_text wide text p h = passed_of wide _ _ _ h
 
 -- a run of text goes on behind text
 text_run : (n : ℕ) (text : List ℕ) (a p : ℕ) → InRun is_text text a p
@@ -112,84 +109,18 @@ text_run (suc n) text a p h each =
     let next : p + suc n ≡ p + n + 1 = omega arith in
     rw next (run_more is_text text a (p + n) before here (text_parts text (p + n) here).0)
 
--- so it does up to a place
-run_to : (text : List ℕ) (a p q : ℕ) → p ≤ q → InRun is_text text a p
-    → ((k : ℕ) → p ≤ k → k < q → is_text text k ≡ true) → InRun is_text text a q
-run_to text a p q forward h each =
+-- so it does behind bytes that are passed
+pub passed_run : (wide : Bool) (text : List ℕ) (a p q : ℕ) → InRun is_text text a p
+    → ArePassed wide text p q → InRun is_text text a q
+passed_run wide text a p q h passed =
+    let forward = passed.forward in
     let count : p + (q - p) ≡ q = omega arith in
-    rw count at (text_run (q - p) text a p h (λ k after less. each k after (omega arith)))
+    rw count at (text_run (q - p) text a p h (λ k after less. passed_text wide text k (passed.each k after (omega arith))))
 
-pub printed_run : (text : List ℕ) (a p q : ℕ) → p ≤ q → InRun is_text text a p
-    → ((k : ℕ) → p ≤ k → k < q → is_printed (byte text k) ≡ true) → InRun is_text text a q
-printed_run text a p q forward h each = run_to text a p q forward h (λ k after less. text_of _ _ _ (each k after less))
-
-pub quiet_run : (text : List ℕ) (a p q : ℕ) → p ≤ q → InRun is_text text a p
-    → ((k : ℕ) → p ≤ k → k < q → is_quiet (byte text k) ≡ true) → InRun is_text text a q
-quiet_run text a p q forward h each = run_to text a p q forward h (λ k after less. quiet_text text k (each k after less))
-
--- the byte behind
-pub all_more : (kind : ℕ → Bool) (n : ℕ) (text : List ℕ) (p : ℕ) (row own : Bool)
-    → row ≡ are_all kind n text p → own ≡ kind (byte text (p + n))
-    → (row && own) ≡ are_all kind (n + 1) text p
-unfolding are_all
-all_more kind n text p row own h g = rw (h, g, add-one) refl
-
--- each of them
-pub all_each : (kind : ℕ → Bool) (n : ℕ) (text : List ℕ) (p : ℕ) → are_all kind n text p ≡ true
-    → (k : ℕ) → p ≤ k → k < p + n → kind (byte text k) ≡ true
-unfolding are_all
-all_each kind zero text p h k after before = absurd (omega arith)
-all_each kind (suc n) text p h k after before =
-    let (front, last) = and_parts (are_all kind n text p) (kind (byte text (p + n))) h in
-    elim (cases_lt k (p + n)) [
-      | inl less ↦ all_each kind n text p front k after less
-      | inr more ↦ let same : k ≡ p + n = omega arith in rw same last
-    ]
-
--- they stand inside the text
-all_inside : (kind : ℕ → Bool) (n : ℕ) (text : List ℕ) (p : ℕ)
-    → ((b : ℕ) → kind b ≡ true → 31 < b) → length text < p + n → 0 < n
-    → are_all kind n text p ≡ false
-unfolding are_all
-all_inside kind zero text p low past some = absurd (omega arith)
-all_inside kind (suc n) text p low past some =
-    elim (cases_Bool (kind (byte text (p + n)))) [
-      | inl e ↦ let inside = within text (p + n) (omega (arith, low _ e)) in absurd (omega (arith, inside, past))
-      | inr e ↦ rw e (and_none (are_all kind n text p))
-    ]
-  where
-    and_none : (b : Bool) → (b && false) ≡ false
-    and_none true = refl
-    and_none false = refl
-
-pub printed_inside : (n : ℕ) (text : List ℕ) (p : ℕ) → length text < p + n → 0 < n
-    → are_all is_printed n text p ≡ false
-printed_inside n text p past some = all_inside is_printed n text p (λ b h. (printed_parts b h).0) past some
-
-pub quiet_inside : (n : ℕ) (text : List ℕ) (p : ℕ) → length text < p + n → 0 < n
-    → are_all is_quiet n text p ≡ false
-quiet_inside n text p past some = all_inside is_quiet n text p (λ b h. (quiet_parts b h).0) past some
-
-pub printed_room : (n : ℕ) (text : List ℕ) (p : ℕ) → 0 < n → are_all is_printed n text p ≡ true
-    → p + n ≤ length text
-printed_room n text p some h =
-    elim (cases_lt (length text) (p + n)) [
-      | inl past ↦ absurd (true≢false (sym h ∙ printed_inside n text p past some))
-      | inr room ↦ room
-    ]
-
-pub quiet_room : (n : ℕ) (text : List ℕ) (p : ℕ) → 0 < n → are_all is_quiet n text p ≡ true
-    → p + n ≤ length text
-quiet_room n text p some h =
-    elim (cases_lt (length text) (p + n)) [
-      | inl past ↦ absurd (true≢false (sym h ∙ quiet_inside n text p past some))
-      | inr room ↦ room
-    ]
-
--- what a row of quiet bytes leaves behind it
-pub quiet_behind : (n : ℕ) (text : List ℕ) (p : ℕ) → p ≤ length text → splits_break text p ≡ false
-    → are_all is_quiet n text p ≡ true → IsBehind text p n
-quiet_behind n text p room whole h = behind n text p room whole (λ k after less. quiet_text text k (all_each is_quiet n text p h k after less))
+-- what a row of such bytes leaves behind it
+pub passed_behind : (wide : Bool) (n : ℕ) (text : List ℕ) (p : ℕ) → p ≤ length text
+    → splits_break text p ≡ false → ArePassed wide text p (p + n) → IsBehind text p n
+passed_behind wide n text p room whole passed = behind n text p room whole (λ k after less. passed_text wide text k (passed.each k after less))
 
 -- the character that begins behind
 pub columns_more : (n : ℕ) (text : List ℕ) (p columns own : ℕ) → columns ≡ columns_over n text p
@@ -197,14 +128,3 @@ pub columns_more : (n : ℕ) (text : List ℕ) (p columns own : ℕ) → columns
     → columns + own ≡ columns_over (n + 1) text p
 unfolding columns_over
 columns_more n text p columns own h g = rw (h, g, add-one) refl
-
--- those of a kind up to a place, and those behind it
-pub all_join : (kind : ℕ → Bool) (text : List ℕ) (p q r : ℕ)
-    → ((k : ℕ) → p ≤ k → k < q → kind (byte text k) ≡ true)
-    → ((k : ℕ) → q ≤ k → k < r → kind (byte text k) ≡ true) → (k : ℕ) → p ≤ k → k < r
-    → kind (byte text k) ≡ true
-all_join kind text p q r front behind k after before =
-    elim (cases_lt k q) [
-      | inl less ↦ front k after less
-      | inr more ↦ behind k more before
-    ]

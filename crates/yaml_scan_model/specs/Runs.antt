@@ -1,5 +1,5 @@
 -- Runs of bytes of one kind.
-use Rattle.std.specs.Prelude.{ℕ, zero, suc, ◌+◌, Bool, true, not, ◌&&◌, ◌||◌, ◌==◌, nat_lt, if◌then◌else◌, List, length}
+use Rattle.std.specs.Prelude.{ℕ, zero, suc, ◌+◌, ◌<◌, ◌≤◌, ◌≡◌, Bool, true, false, not, ◌&&◌, ◌||◌, ◌==◌, nat_lt, if◌then◌else◌, List, length}
 use Rattle.yaml_scan_model.specs.Ascii as ascii
 use Rattle.yaml_scan_model.specs.Marks.{byte, break_width, is_blank, starts}
 
@@ -30,18 +30,16 @@ past_spaces text p = past is_space_there (length text) text p
 abbrev pub line_end : List ℕ → ℕ → ℕ
 line_end text p = past is_text (length text) text p
 
--- a printed character of ASCII, or a space
-abbrev pub is_printed : ℕ → Bool
-is_printed b = nat_lt ascii.unit_separator b && nat_lt b ascii.delete
+-- A byte that is passed: a printed character of ASCII, or a space; where runs are wide, no control of ASCII but the last one, and no
+-- byte with which a break begins, so that it is text whatever follows.
+abbrev pub passes : Bool → ℕ → Bool
+passes false b = nat_lt ascii.unit_separator b && nat_lt b ascii.delete
+passes true b = nat_lt ascii.unit_separator b && (not (b == 0xC2) && not (b == 0xE2))
 
--- no control of ASCII but the last one, and no byte with which a break begins: it is text whatever follows
-abbrev pub is_quiet : ℕ → Bool
-is_quiet b = nat_lt ascii.unit_separator b && (not (b == 0xC2) && not (b == 0xE2))
-
--- the n bytes there are of a kind
-unfoldable pub are_all : (ℕ → Bool) → ℕ → List ℕ → ℕ → Bool
-are_all kind zero text p = true
-are_all kind (suc n) text p = are_all kind n text p && kind (byte text (p + n))
+-- such bytes stand from one place to another
+pub record ArePassed (wide : Bool) (text : List ℕ) (p q : ℕ) : Type 0 where
+  pub forward : p ≤ q
+  pub each : (k : ℕ) → p ≤ k → k < q → passes wide (byte text k) ≡ true
 
 -- how many characters begin among the n bytes there
 unfoldable pub columns_over : ℕ → List ℕ → ℕ → ℕ

@@ -23,6 +23,15 @@ scan_fault text start w = record {
   problem_mark = mark_at text w.place;
 }
 
+-- the refusal of what starts at one mark, by what doesn't fit at another
+abbrev pub refused : Problem → Context → yaml_mark_t → yaml_mark_t → ScanError
+refused problem context start place = errors.Fault record {
+  problem = problem;
+  context = context;
+  context_mark = start;
+  problem_mark = place;
+}
+
 -- the refusal tells what is wrong, unless memory ran out
 abbrev pub Refuses : List ℕ → yaml_mark_t → ScanError → Wrong → Type 0
 Refuses text start errors.Memory w = Unit {0}

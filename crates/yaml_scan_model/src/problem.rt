@@ -4,6 +4,7 @@ ghost use Rattle.std.specs.Prelude.{◌≡◌, option_map};
 ghost use Rattle.yaml_scan_model.specs.declared.problem.ScanError.TheVariants.{Memory};
 ghost use Rattle.yaml_scan_model.specs.Faults.{fault_of};
 ghost use Rattle.yaml_scan_model.specs.Problems.{problem_text_of, context_text_of, scanner_fault};
+ghost use Rattle.yaml_scan_model.specs.Wrong.{refused};
 
 use crate::fault::{yaml_fault_t, yaml_origin_t};
 use crate::name::yaml_error_type_t;
@@ -93,13 +94,7 @@ impl ScanError {
         context_mark: yaml_mark_t,
         problem_mark: yaml_mark_t,
     ) -> ScanError
-        ensures { result ≡ ScanError.Fault
-            (record {
-              problem = problem;
-              context = context;
-              context_mark = context_mark;
-              problem_mark = problem_mark;
-            }) }
+        ensures { result ≡ refused problem context context_mark problem_mark }
     {
         ScanError::Fault(ScanFault {
             problem,

@@ -232,7 +232,7 @@ impl<'a> Reader<'a> {
     pub fn skip(&mut self)
         requires inside { 0 < byte self.old.text self.old.at }
         requires no_break { break_width self.old.text self.old.at ≡ 0 }
-        ensures { self.new ≡ record { text = self.old.text; at = self.old.at + 1 } }
+        ensures { self.new ≡ record self.old { at = self.old.at + 1 } }
     {
         let byte = self.byte(0);
         self.index += 1;
@@ -244,10 +244,8 @@ impl<'a> Reader<'a> {
     /// Past the break that stands here.
     pub fn skip_break(&mut self)
         requires { 0 < break_width self.old.text self.old.at }
-        ensures { self.new ≡ record {
-          text = self.old.text;
-          at = self.old.at + break_width
-              self.old.text self.old.at;
+        ensures { self.new ≡ record self.old {
+          at = self.old.at + break_width self.old.text self.old.at;
         } }
     {
         let width = self.break_width();

@@ -23,10 +23,8 @@ pub fn is_text(reader: &Reader) -> bool
 
 /// Past the blanks here.
 pub fn skip_blanks(reader: &mut Reader)
-    ensures { reader.new ≡ record {
-      text = reader.old.text;
-      at = spec.past_blanks reader.old.text
-          reader.old.at;
+    ensures { reader.new ≡ record reader.old {
+      at = spec.past_blanks reader.old.text reader.old.at;
     } }
 {
     'bytes: while is_blank(reader.here()) {
@@ -36,10 +34,8 @@ pub fn skip_blanks(reader: &mut Reader)
 
 /// Past the spaces here.
 pub fn skip_spaces(reader: &mut Reader)
-    ensures { reader.new ≡ record {
-      text = reader.old.text;
-      at = spec.past_spaces reader.old.text
-          reader.old.at;
+    ensures { reader.new ≡ record reader.old {
+      at = spec.past_spaces reader.old.text reader.old.at;
     } }
 {
     'bytes: while reader.here() == b' ' {
@@ -49,11 +45,7 @@ pub fn skip_spaces(reader: &mut Reader)
 
 /// Up to the break or the end.
 pub fn skip_text(reader: &mut Reader)
-    ensures { reader.new ≡ record {
-      text = reader.old.text;
-      at = spec.line_end reader.old.text
-          reader.old.at;
-    } }
+    ensures { reader.new ≡ record reader.old { at = spec.line_end reader.old.text reader.old.at } }
 {
     skip_printed(reader);
     'line: while is_text(reader) {
@@ -71,7 +63,7 @@ pub fn leap(reader: &mut Reader, end: usize)
     requires low { (k : ℕ) → reader.old.at ≤ k → k < end
         → ascii.unit_separator < byte reader.old.text k }
     requires high { (k : ℕ) → reader.old.at ≤ k → k < end → byte reader.old.text k < ascii.delete }
-    ensures { reader.new ≡ record { text = reader.old.text; at = end } }
+    ensures { reader.new ≡ record reader.old { at = end } }
 {
     let here = reader.stop();
     let mark = yaml_mark_t {
@@ -87,11 +79,7 @@ pub fn leap(reader: &mut Reader, end: usize)
 #[inline(always)]
 fn skip_printed(reader: &mut Reader)
     ensures text { reader.new.text ≡ reader.old.text }
-    ensures forward { reader.old.at ≤ reader.new.at }
-    ensures each { (k : ℕ) → reader.old.at ≤ k → k < reader.new.at → spec.is_printed
-        (byte reader.old.text k)
-        ≡ true }
-    ensures stops { spec.is_printed (byte reader.old.text reader.new.at) ≡ false }
+    ensures passed { spec.ArePassed false reader.old.text reader.old.at reader.new.at }
 {
     let end = past_printed(reader.text(), reader.place());
     leap(reader, end);
@@ -101,16 +89,14 @@ fn skip_printed(reader: &mut Reader)
 // Inlined: its loops are the caller's first ones.
 #[inline(always)]
 fn past_printed(text: &[u8], from: usize) -> usize
-    ensures forward { from ≤ result }
-    ensures each { (k : ℕ) → from ≤ k → k < result → spec.is_printed (byte text.now k) ≡ true }
-    ensures stops { spec.is_printed (byte text.now result) ≡ false }
+    ensures { spec.ArePassed false text.now from result }
 {
     let mut end = from;
-    'rows: while is_printed_row(text, end, ROW) {
+    'rows: while is_row(false, text, end, ROW) {
         end += ROW;
     }
     end = past_half(text, end);
-    'bytes: while is_printed_at(text, end) {
+    'bytes: while end < text.len() && passes(false, text[end]) {
         end += 1;
     }
     end
@@ -120,52 +106,45 @@ fn past_printed(text: &[u8], from: usize) -> usize
 // Inlined into the loops over bytes.
 #[inline(always)]
 fn past_half(text: &[u8], at: usize) -> usize
-    ensures forward { at ≤ result }
-    ensures each { (k : ℕ) → at ≤ k → k < result → spec.is_printed (byte text.now k) ≡ true }
+    ensures { spec.ArePassed false text.now at result }
 {
-    if is_printed_row(text, at, HALF) {
+    if is_row(false, text, at, HALF) {
         return at + HALF;
     }
     at
 }
 
-/// Whether an ASCII character that is printed stands there, or a space.
-// Inlined into the loop over such bytes.
-#[inline(always)]
-fn is_printed_at(text: &[u8], at: usize) -> bool
-    ensures { result ≡ spec.is_printed (byte text.now at) }
-{
-    if text.len() <= at {
-        return false;
-    }
-    is_printed(text[at])
-}
-
-/// Whether so many bytes stand there, each an ASCII character that is printed or a space.
+/// Whether so many bytes stand there, each of which is passed.
 // Inlined, so that their number is a constant; without an early exit, so that the bytes are looked at side by side.
 #[inline(always)]
-fn is_printed_row(text: &[u8], at: usize, row: usize) -> bool
-    ensures { result ≡ spec.are_all spec.is_printed row text.now at }
+fn is_row(wide: bool, text: &[u8], at: usize, row: usize) -> bool
+    requires { 0 < row }
+    ensures inside { result ≡ true → at + row ≤ length text.now }
+    ensures passed { result ≡ true → spec.ArePassed wide text.now at (at + row) }
 {
     if text.len().saturating_sub(at) < row {
         return false;
     }
-    let mut printed = true;
+    let mut passed = true;
     let mut count = 0;
     'bytes: while count < row {
-        printed = printed & is_printed(text[at + count]);
+        passed = passed & passes(wide, text[at + count]);
         count += 1;
     }
-    printed
+    passed
 }
 
-/// Whether the byte is an ASCII character that is printed, or a space.
-// Inlined into the loop over bytes.
+/// Whether the byte is an ASCII character that is printed, or a space; where runs are wide, whether it is text whatever follows.
+// Inlined into the loops over bytes.
 #[inline(always)]
-fn is_printed(byte: u8) -> bool
-    ensures { result ≡ spec.is_printed byte }
+fn passes(wide: bool, byte: u8) -> bool
+    ensures { result ≡ spec.passes wide byte }
 {
-    (byte > 31) & (byte < 127)
+    if wide {
+        (byte > 31) & ((byte != 0xC2) & (byte != 0xE2))
+    } else {
+        (byte > 31) & (byte < 127)
+    }
 }
 
 /// Past bytes that are text whatever follows: by rows, and then one by one.
@@ -174,14 +153,12 @@ fn is_printed(byte: u8) -> bool
 #[inline(always)]
 fn skip_quiet(reader: &mut Reader)
     ensures text { reader.new.text ≡ reader.old.text }
-    ensures forward { reader.old.at ≤ reader.new.at }
-    ensures each { (k : ℕ) → reader.old.at ≤ k → k < reader.new.at
-        → spec.is_quiet (byte reader.old.text k) ≡ true }
+    ensures passed { spec.ArePassed true reader.old.text reader.old.at reader.new.at }
 {
-    'rows: while is_quiet_row(reader.text(), reader.place()) {
+    'rows: while is_row(true, reader.text(), reader.place(), ROW) {
         pass_row(reader);
     }
-    'bytes: while is_quiet(reader.here()) {
+    'bytes: while passes(true, reader.here()) {
         reader.skip();
     }
 }
@@ -190,30 +167,19 @@ fn skip_quiet(reader: &mut Reader)
 // Inlined: one store.
 #[inline(always)]
 fn pass_row(reader: &mut Reader)
-    requires { spec.are_all spec.is_quiet 16 reader.old.text reader.old.at ≡ true }
-    ensures { reader.new ≡ record { text = reader.old.text; at = reader.old.at + 16 } }
-{
-    let place = reader.place();
-    let columns = columns_in_row(reader.text(), place);
-    leap_row(reader, place + ROW, columns);
-}
-
-/// Past such a row, up to its end, where so many characters begin in it.
-// Inlined: one store.
-#[inline(always)]
-fn leap_row(reader: &mut Reader, end: usize, columns: u8)
-    requires row { spec.are_all spec.is_quiet 16 reader.old.text reader.old.at ≡ true }
-    requires end { end ≡ reader.old.at + 16 }
-    requires columns { columns ≡ spec.columns_over 16 reader.old.text reader.old.at }
-    ensures { reader.new ≡ record { text = reader.old.text; at = end } }
+    requires inside { reader.old.at + 16 ≤ length reader.old.text }
+    requires passed { spec.ArePassed true reader.old.text reader.old.at (reader.old.at + 16) }
+    ensures { reader.new ≡ record reader.old { at = reader.old.at + 16 } }
 {
     let here = reader.stop();
+    let text = reader.text();
+    let columns = columns_in_row(text, reader.place());
     let mark = yaml_mark_t {
-        index: end as u64,
+        index: here.index + ROW as u64,
         line: here.line,
         column: here.column + columns as u64,
     };
-    *reader = Reader::resume(reader.text(), mark);
+    *reader = Reader::resume(text, mark);
 }
 
 /// How many characters begin in the row that stands there.
@@ -240,31 +206,4 @@ fn as_column(byte: u8) -> u8
     ensures small { result ≤ 1 }
 {
     if starts(byte) { 1 } else { 0 }
-}
-
-/// Whether a row of bytes stands there that are text whatever follows.
-// Inlined; without an early exit, so that the bytes are looked at side by side.
-#[inline(always)]
-fn is_quiet_row(text: &[u8], at: usize) -> bool
-    ensures { result ≡ spec.are_all spec.is_quiet 16 text.now at }
-{
-    if text.len().saturating_sub(at) < ROW {
-        return false;
-    }
-    let mut quiet = true;
-    let mut count = 0;
-    'bytes: while count < ROW {
-        quiet = quiet & is_quiet(text[at + count]);
-        count += 1;
-    }
-    quiet
-}
-
-/// Whether the byte is text whatever follows.
-// Inlined into the loop over bytes.
-#[inline(always)]
-fn is_quiet(byte: u8) -> bool
-    ensures { result ≡ spec.is_quiet byte }
-{
-    (byte > 31) & ((byte != 0xC2) & (byte != 0xE2))
 }

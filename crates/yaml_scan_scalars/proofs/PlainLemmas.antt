@@ -1,78 +1,60 @@
 -- Plain scalars, a step at a time.
-use Rattle.std.proofs.Common.{◌≡◌, ℕ, zero, suc, ◌+◌, ◌-◌, ◌<◌, ◌≤◌, Bool, true, false, List, [], ◌∷◌, length, take, Result, Ok, Err, refl, sym, ap, ◌∙◌, inl, inr, ◌==◌, nat_lt, ◌||◌, ◌&&◌, if◌then◌else◌, arith, add-one}
-use Rattle.yaml_scan_scalars.proofs.Words.{cases_lt, cond_both, ltb-true, true≢false, lt-ltb, nat_tests, take_all, Piece, Kept, Blank, Break, value, resume, Place, byte, mark_at, break_width, ends_break, is_blank, column_at, yaml_mark_t, Folding, Joining, ScanError, feed_at, Wrong, IsMemory, PlainSpot, Ends, Takes, Faulty, Words, is_bracket, with_piece, words_from, follows, words, starts_plain, plain_at, plain_text, plain_with, PlainText, spot_at, ends_at, leads, after_white, is_nothing, joined, IsJoining, Steps, ReadsPlain, within, past_break, end_not_blank, last_of}
+use Rattle.std.proofs.Common.{◌≡◌, ℕ, zero, suc, ◌+◌, ◌-◌, ◌<◌, ◌≤◌, Bool, true, false, List, [], ◌∷◌, length, take, Result, Ok, Err, refl, sym, ap, ◌∙◌, inl, inr, ◌==◌, nat_lt, ◌||◌, ◌&&◌, arith, add-one}
+use Rattle.yaml_scan_scalars.proofs.Words.{cases_Bool, cases_lt, cond_both, ltb-true, true≢false, lt-ltb, nat_tests, take_all, Piece, Kept, Blank, Break, resume, Place, byte, mark_at, break_width, ends_break, is_blank, column_at, yaml_mark_t, Folding, Joining, ScanError, feed_at, Wrong, IsMemory, PlainSpot, Ends, Takes, Faulty, Words, is_bracket, with_piece, words_from, follows, words, starts_plain, plain_at, plain_text, plain_with, PlainText, spot_at, ends_at, leads, after_white, is_nothing, joined, IsJoining, Steps, ReadsPlain, within, past_break, end_not_blank, last_of}
 use Rattle.std.proofs.Math.Bool.{or-false, or-true}
 use Rattle.yaml_scan_scalars.specs.declared.folding.Gap.TheVariants as gaps
 use Rattle.yaml_scan_model.specs.declared.problem.ScanError.TheVariants as errors
 use Rattle.yaml_scan_scalars.proofs.FoldingLemmas.{end_line}
 
-pub blank_parts : (old : Joining) (f : Folding) (b q e place : ℕ) (broke : Bool) (ps : List Piece)
+nothing_is : (ps : List Piece) → is_nothing ps ≡ true → ps ≡ []
+nothing_is [] e = refl
+nothing_is (x ∷ xs) e = cc
+
+pub blank_parts : (old : Joining) (f : Folding) (b q : ℕ) (w : Words)
     → old.kept ≤ length old.folding.done.items
     → ((qs : List Piece) → resume f qs ≡ resume old.folding (Blank b ∷ qs))
     → ((n : ℕ) → n ≤ length old.folding.done.items → take n f.done.items
     ≡ take n old.folding.done.items)
-    → joined (record {
-      folding = f;
-      kept = old.kept;
-      end = old.end;
-      broke = old.broke;
-      white = true;
-    }) (record { pieces = ps; end = e; place = place; broke = broke })
-    ≡ joined old (with_piece (Blank b) q
-    (record { pieces = ps; end = e; place = place; broke = broke }))
+    → joined (record old { folding = f; white = true }) w ≡ joined old (with_piece (Blank b) q w)
 unfolding joined
-blank_parts old f b q e place broke [] k h g = rw (g old.kept k) refl
-blank_parts old f b q e place broke (x ∷ xs) k h g = rw (h (x ∷ xs)) refl
+blank_parts old f b q w k h g = elim (cases_Bool (is_nothing w.pieces)) [
+  | inl e ↦ rw (e, e, g old.kept k) refl
+  | inr e ↦ rw (e, h w.pieces) refl
+]
 
-pub break_parts : (old : Joining) (f : Folding) (b : List ℕ) (q e place : ℕ) (broke : Bool)
-    (ps : List Piece) → old.kept ≤ length old.folding.done.items
+pub break_parts : (old : Joining) (f : Folding) (b : List ℕ) (q : ℕ) (w : Words)
+    → old.kept ≤ length old.folding.done.items
     → ((qs : List Piece) → resume f qs ≡ resume old.folding (Break b ∷ qs))
     → ((n : ℕ) → n ≤ length old.folding.done.items → take n f.done.items
     ≡ take n old.folding.done.items)
-    → joined (record { folding = f; kept = old.kept; end = old.end; broke = true; white = true })
-    (record { pieces = ps; end = e; place = place; broke = broke })
-    ≡ joined old (with_piece (Break b) q
-    (record { pieces = ps; end = e; place = place; broke = broke }))
+    → joined (record old { folding = f; broke = true; white = true }) w
+    ≡ joined old (with_piece (Break b) q w)
 unfolding joined
-break_parts old f b q e place broke [] k h g = rw (g old.kept k, or-true old.broke) refl
-break_parts old f b q e place broke (x ∷ xs) k h g = rw (h (x ∷ xs)) refl
+break_parts old f b q w k h g = elim (cases_Bool (is_nothing w.pieces)) [
+  | inl e ↦ rw (e, g old.kept k, or-true old.broke) refl
+  | inr e ↦ rw (e, h w.pieces) refl
+]
 
-whole_done : (f : Folding) → f.gap ≡ gaps.Line → f.blanks.items ≡ []
-    → resume f [] ≡ f.done.items
-whole_done f g b = rw (g, b) (end_line f.done.items)
-
-pub keep_parts : (old : Joining) (f : Folding) (bytes : List ℕ) (n : ℕ) (end : yaml_mark_t)
-    (e place : ℕ) (broke : Bool) (ps : List Piece)
-    → ((qs : List Piece) → resume f qs ≡ resume old.folding (Kept bytes ∷ qs))
-    → f.gap ≡ gaps.Line → f.blanks.items ≡ [] → length f.done.items ≤ n
-    → joined (record { folding = f; kept = n; end = end; broke = false; white = false })
-    (record { pieces = ps; end = e; place = place; broke = broke })
-    ≡ joined old (with_piece (Kept bytes) end.index
-    (record { pieces = ps; end = e; place = place; broke = broke }))
+pub keep_parts : (old new : Joining) (bytes : List ℕ) (w : Words)
+    → ((qs : List Piece) → resume new.folding qs ≡ resume old.folding (Kept bytes ∷ qs))
+    → new.folding.gap ≡ gaps.Line → new.folding.blanks.items ≡ []
+    → length new.folding.done.items ≤ new.kept → new.broke ≡ false
+    → joined new w ≡ joined old (with_piece (Kept bytes) new.end.index w)
 unfolding joined
-keep_parts old f bytes n end e place broke [] h g b l =
-    let whole : resume old.folding (Kept bytes ∷ []) ≡ f.done.items = sym (h []) ∙ whole_done f g b in
-    rw (take_all n f.done.items l, whole) refl
-keep_parts old f bytes n end e place broke (x ∷ xs) h g b l = rw (h (x ∷ xs)) refl
+keep_parts old new bytes w h g b l none = elim (cases_Bool (is_nothing w.pieces)) [
+  | inl e ↦
+      let empty : w.pieces ≡ [] = nothing_is w.pieces e in
+      let whole : resume old.folding (Kept bytes ∷ []) ≡ new.folding.done.items = sym (h []) ∙ rw (g, b) (end_line new.folding.done.items) in
+      rw (empty, take_all new.kept new.folding.done.items l, whole, none) refl
+  | inr e ↦ rw (e, h w.pieces) refl
+]
 
-pub first_parts : (f : Folding) (bytes : List ℕ) (n : ℕ) (end : yaml_mark_t) (e place : ℕ)
-    (broke : Bool) (ps : List Piece)
-    → ((qs : List Piece) → resume f qs ≡ value (Kept bytes ∷ qs))
-    → f.gap ≡ gaps.Line → f.blanks.items ≡ [] → length f.done.items ≤ n
-    → joined (record { folding = f; kept = n; end = end; broke = false; white = false })
-    (record { pieces = ps; end = e; place = place; broke = broke })
-    ≡ record {
-      value = value (Kept bytes ∷ ps);
-      end = if is_nothing ps then end.index else e;
-      place
-          = place;
-      broke = broke;
-    }
-unfolding joined
-first_parts f bytes n end e place broke [] h g b l =
-    let whole : value (Kept bytes ∷ []) ≡ f.done.items = sym (h []) ∙ whole_done f g b in
-    rw (take_all n f.done.items l, whole) refl
-first_parts f bytes n end e place broke (x ∷ xs) h g b l = rw (h (x ∷ xs)) refl
+-- behind a character nothing white stands
+pub seated : (text : List ℕ) (q : ℕ) (j : Joining) → j.kept ≤ length j.folding.done.items
+    → (j.end ≡ mark_at text q) × (j.broke ≡ false) × (j.white ≡ false) → j.folding.gap ≡ gaps.Line
+    → (false ≡ leads text q) × (false ≡ after_white text q) → IsJoining text q j
+seated text q j kept seat line calm =
+    record { kept = kept; end = rw seat.0 refl; broke = seat.1 ∙ calm.0; white = seat.2 ∙ calm.1; line = λ e. line }
 
 -- white before a place
 

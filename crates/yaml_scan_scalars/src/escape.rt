@@ -3,6 +3,7 @@
 ghost use Rattle.std.specs.Prelude.{◌≡◌, ◌+◌, ◌<◌, ◌≤◌, ℕ, length, option_map, IfSome, IsSome};
 ghost use Rattle.yaml_scan_model.specs.Ascii as ascii;
 ghost use Rattle.yaml_scan_model.specs.Marks.{byte, break_of};
+ghost use Rattle.yaml_scan_model.specs.Wrong.{refused};
 ghost use Rattle.yaml_scan_scalars.specs.Quoted as spec;
 ghost use Rattle.yaml_scan_scalars.specs.Readings.{Took};
 ghost use Rattle.yaml_scan_scalars.specs.Resume.{resume};
@@ -12,13 +13,7 @@ use yaml_scan_model::{Context, Problem, Reader, ScanError, yaml_mark_t};
 
 /// The refusal of an escape, in the scalar that starts at the mark.
 fn wrong_escape(problem: Problem, start: yaml_mark_t, place: yaml_mark_t) -> ScanError
-    ensures { result ≡ ScanError.Fault
-        (record {
-          problem = problem;
-          context = Context.QuotedScalarEscape;
-          context_mark = start;
-          problem_mark = place;
-        }) }
+    ensures { result ≡ refused problem Context.QuotedScalarEscape start place }
 {
     ScanError::refusal(problem, Context::QuotedScalarEscape, start, place)
 }
@@ -115,7 +110,7 @@ fn hex_value(reader: &mut Reader, len: usize) -> Option<u32>
     requires few { len ≤ 8 }
     ensures value { result ≡ spec.hex_value reader.old.text reader.old.at len }
     ensures past { IsSome result → reader.new
-        ≡ record { text = reader.old.text; at = reader.old.at + len } }
+        ≡ record reader.old { at = reader.old.at + len } }
 {
     let mut value = 0;
     for k in 0..len {

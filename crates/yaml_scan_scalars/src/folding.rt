@@ -4,7 +4,6 @@ ghost use Rattle.std.specs.Prelude.{◌≡◌, List, [], ◌∷◌, ◌++◌, �
 ghost use Rattle.yaml_scan_scalars.specs.Pieces.{Piece, Kept, Blank, Break, value};
 
 use std::alloc::AllocError;
-use yaml_scan_model::{Spares, copied_whole};
 
 /// What stands before the next piece.
 #[derive(Clone, Copy)]
@@ -45,29 +44,11 @@ impl Folding {
         }
     }
 
-    /// With one piece, bytes that stay. The value may take the room of a spare text.
-    pub(crate) fn of_bytes(spares: &mut Spares, bytes: &[u8]) -> Result<Folding, AllocError>
-        ensures value { IfOk result (λ f. (ps : List Piece)
-            → resume f ps ≡ value (Kept bytes.now ∷ ps)) }
-        ensures line { IfOk result (λ f. (f.gap ≡ Gap.Line) × (f.blanks.items ≡ [])) }
-    {
-        let alloc = *spares.allocator();
-        let done = copied_whole(spares, bytes)?;
-        Ok(Folding {
-            done,
-            blanks: Vec::new(alloc),
-            gap: Gap::Line,
-        })
-    }
-
     /// Whether a blank that comes next is kept: none is at a line's start.
     pub(crate) fn keeps_blanks(&self) -> bool
         ensures { result ≡ true → self.now.gap ≡ Gap.Line }
     {
-        match self.gap {
-            Gap::Line => true,
-            Gap::Feed | Gap::Kept => false,
-        }
+        matches!(self.gap, Gap::Line)
     }
 
     /// A blank.

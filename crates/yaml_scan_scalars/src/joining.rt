@@ -8,7 +8,7 @@ ghost use Rattle.yaml_scan_scalars.specs.declared.folding.Gap.TheVariants as gap
 
 use crate::folding::Folding;
 use std::alloc::AllocError;
-use yaml_scan_model::{Spares, yaml_mark_t};
+use yaml_scan_model::{Spares, room, yaml_mark_t};
 
 /// What is read of a plain scalar so far.
 #[derive(Drop)]
@@ -38,15 +38,16 @@ impl Joining {
         ensures seat { IfOk result (λ j. (j.end ≡ end) × (j.broke ≡ false) × (j.white ≡ false)) }
         ensures line { IfOk result (λ j. j.folding.gap ≡ gaps.Line) }
     {
-        let folding = Folding::of_bytes(spares, bytes)?;
-        let kept = folding.done.len();
-        Ok(Joining {
-            folding,
-            kept,
+        let done = room(spares, bytes.len())?;
+        let mut joining = Joining {
+            folding: Folding::new(done),
+            kept: 0,
             end,
             broke: false,
             white: false,
-        })
+        };
+        joining.keep(bytes, end)?;
+        Ok(joining)
     }
 
     /// Bytes of characters, and the place after them.

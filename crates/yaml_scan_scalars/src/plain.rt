@@ -3,7 +3,8 @@
 ghost use Rattle.std.specs.Prelude.{◌≡◌, ◌+◌, ◌-◌, ◌||◌, ◌&&◌, ◌==◌, nat_lt, ◌<◌, ◌≤◌, ℕ, suc, true, false, [], length, OnOk, Ok};
 ghost use Rattle.yaml_scan_model.specs.Ascii as ascii;
 ghost use Rattle.yaml_scan_model.specs.Spares.{HoldsAt};
-ghost use Rattle.yaml_scan_model.specs.Marks.{byte, break_width, ends_break, is_blank, is_blank_or_end, mark_at};
+ghost use Rattle.yaml_scan_model.specs.Marks.{byte, break_width, ends_break, mark_at};
+ghost use Rattle.yaml_scan_model.specs.Wrong.{refused};
 ghost use Rattle.yaml_scan_scalars.specs.Plain as spec;
 ghost use Rattle.yaml_scan_scalars.specs.Joined.{IsJoining, RanPlain, Steps, ReadsPlain, TookWords};
 ghost use Rattle.yaml_scan_scalars.specs.Ordinary.{IsRun, bytes_at, is_kind, plain_kind};
@@ -13,7 +14,8 @@ use crate::run::{BLOCK, FLOW, ordinary_run, pass_byte};
 use crate::scalar::PlainScalar;
 use std::alloc::AllocError;
 use yaml_scan_model::{
-    Context, Problem, Reader, ScanError, Spares, copied, is_blank_byte, skip_spaces, yaml_mark_t,
+    Context, Problem, Reader, ScanError, Spares, copied, is_blank_byte, mark_again, skip_spaces,
+    yaml_mark_t,
 };
 
 /// The plain scalar that starts here, in flow context or not. The level is the column of the innermost open block
@@ -85,18 +87,9 @@ fn is_followed(reader: &Reader, flow: bool) -> bool
 {
     let byte = reader.here();
     if byte == b':' {
-        return is_white_behind(reader);
+        return reader.is_blank_or_end(1);
     }
     flow && is_bracket(byte)
-}
-
-/// Whether a blank, a break or the end stands behind the byte here.
-// Inlined: mostly a space does. All else asks a reader of its own: one that is lent to a call out of line lies in memory.
-#[inline(always)]
-fn is_white_behind(reader: &Reader) -> bool
-    ensures { result ≡ is_blank_or_end reader.now.text (reader.now.at + 1) }
-{
-    reader.byte(1) == b' ' || reader.ahead().is_blank_or_end(1)
 }
 
 /// The scalar that starts at the mark and has those bytes, where the reader stands behind them and no white follows.
@@ -140,31 +133,9 @@ fn passes_line(reader: &mut Reader, level: u64) -> bool
     if reader.here() != b'\n' {
         return false;
     }
-    pass_feed(reader);
+    reader.skip_break();
     skip_spaces(reader);
     begins_word(reader.here()) && reader.mark().column < level
-}
-
-/// Past the line feed here.
-// Inlined: two additions. A reader that is lent to a call out of line lies in memory.
-#[inline(always)]
-fn pass_feed(reader: &mut Reader)
-    requires { byte reader.old.text reader.old.at ≡ ascii.line_feed }
-    ensures { reader.new ≡ record {
-      text = reader.old.text;
-      at = reader.old.at + break_width reader.old.text reader.old.at;
-    } }
-{
-    let here = reader.stop();
-    let text = reader.text();
-    // Read for the clauses: a length that is read has a number within its type.
-    let _length = text.len();
-    let behind = yaml_mark_t {
-        index: here.index + 1,
-        line: here.line + 1,
-        column: 0,
-    };
-    *reader = Reader::resume(text, behind);
 }
 
 /// Whether the byte is surely no white, no break and no comment's sign.
@@ -225,11 +196,7 @@ fn many_runs(
     ensures { ReadsPlain reader.old.text start.index reader.new result
         (spec.plain_at flow level reader.old.text start.index) }
 {
-    let start = yaml_mark_t {
-        index: start.index,
-        line: start.line,
-        column: start.column,
-    };
+    let start = mark_again(&start);
     let mut copy = reader.ahead();
     let read = join_runs(spares, &mut copy, bytes, start, flow, level)?;
     *reader = copy;
@@ -327,13 +294,7 @@ fn piece(
 
 /// The refusal of the scalar that starts at the mark.
 fn wrong_plain(problem: Problem, start: yaml_mark_t, place: yaml_mark_t) -> ScanError
-    ensures { result ≡ ScanError.Fault
-        (record {
-          problem = problem;
-          context = Context.PlainScalar;
-          context_mark = start;
-          problem_mark = place;
-        }) }
+    ensures { result ≡ refused problem Context.PlainScalar start place }
 {
     ScanError::refusal(problem, Context::PlainScalar, start, place)
 }

@@ -4,6 +4,7 @@ ghost use Rattle.std.specs.Prelude.{◌≡◌, ◌+◌, ◌-◌, ◌<◌, ◌&&�
 ghost use Rattle.yaml_scan_model.specs.Ascii as ascii;
 ghost use Rattle.yaml_scan_model.specs.Spares.{HoldsAt};
 ghost use Rattle.yaml_scan_model.specs.Marks.{byte, mark_at};
+ghost use Rattle.yaml_scan_model.specs.Wrong.{refused};
 ghost use Rattle.yaml_scan_model.specs.declared.record.yaml_mark_t.{yaml_mark_t};
 ghost use Rattle.yaml_scan_scalars.specs.Quoted as spec;
 ghost use Rattle.yaml_scan_scalars.specs.declared.folding.Gap.TheVariants as gaps;
@@ -17,7 +18,8 @@ use crate::folding::Folding;
 use crate::run::{DOUBLE, SINGLE, ordinary_run, pass_byte};
 use std::alloc::AllocError;
 use yaml_scan_model::{
-    Context, Problem, Reader, ScanError, Spares, copied, is_blank_byte, room, yaml_mark_t,
+    Context, Problem, Reader, ScanError, Spares, copied, is_blank_byte, mark_again, room,
+    yaml_mark_t,
 };
 
 /// The value of the double quoted scalar whose opening quote stands here. The reader is left after the closing one. The value
@@ -58,7 +60,9 @@ fn quoted(spares: &mut Spares, reader: &mut Reader, quote: u8) -> Result<Vec<u8>
     let from = reader.place();
     let bytes = ordinary_run(quoted_kind(quote), reader);
     if closes(reader, quote) {
-        let value = one_run(spares, reader, from, bytes)?;
+        // Before the copy: behind a store the quote would be looked at again.
+        pass_byte(reader);
+        let value = copied(spares, reader.text(), from, bytes)?;
         return Ok(value);
     }
     many_runs(spares, reader, bytes, start, quote)
@@ -85,31 +89,6 @@ fn closes(reader: &Reader, quote: u8) -> bool
     reader.here() == quote && !is_doubled(quote, reader.byte(1))
 }
 
-/// The value of the scalar that has those bytes, which stand from that place on, where the reader stands before its closing
-/// quote.
-// Inlined: a text of up to sixteen bytes is one load and one store.
-#[inline(always)]
-fn one_run(
-    spares: &mut Spares,
-    reader: &mut Reader,
-    from: usize,
-    bytes: &[u8],
-) -> Result<Vec<u8>, AllocError>
-    requires closing { (byte reader.old.text reader.old.at ≡ ascii.quote)
-        ⊎ (byte reader.old.text reader.old.at ≡ ascii.apostrophe) }
-    requires stands { HoldsAt reader.old.text from bytes.now }
-    ensures value { IfOk result (λ v. v.items ≡ bytes.now) }
-    ensures place { OnOk result (reader.new ≡ record {
-      text = reader.old.text;
-      at = reader.old.at + 1;
-    }) }
-{
-    // Before the copy: behind a store the quote would be looked at again.
-    pass_byte(reader);
-    let value = copied(spares, reader.text(), from, bytes)?;
-    Ok(value)
-}
-
 /// The value of the scalar that starts at the mark, where the reader stands behind its first run, of those bytes.
 // Inlined: so the answer of the call out of line, and the mark that is lent to it, have a place of their own. In one place
 // with the answer above, this one would be put together in memory and copied. It is lent a copy of the reader: one that is
@@ -127,11 +106,7 @@ fn many_runs(
     ensures { Reads reader.old.text start.index reader.new result
         (spec.quoted_at quote reader.old.text start.index) }
 {
-    let start = yaml_mark_t {
-        index: start.index,
-        line: start.line,
-        column: start.column,
-    };
+    let start = mark_again(&start);
     let mut copy = reader.ahead();
     let value = fold_runs(spares, &mut copy, bytes, start, quote)?;
     *reader = copy;
@@ -242,13 +217,7 @@ fn piece(
 
 /// The refusal of the scalar that starts at the mark.
 fn wrong_scalar(problem: Problem, start: yaml_mark_t, place: yaml_mark_t) -> ScanError
-    ensures { result ≡ ScanError.Fault
-        (record {
-          problem = problem;
-          context = Context.QuotedScalar;
-          context_mark = start;
-          problem_mark = place;
-        }) }
+    ensures { result ≡ refused problem Context.QuotedScalar start place }
 {
     ScanError::refusal(problem, Context::QuotedScalar, start, place)
 }

@@ -5,7 +5,7 @@ ghost use Rattle.yaml_scan_model.specs.Marks.{byte, break_width, starts};
 ghost use Rattle.yaml_scan_model.specs.Spares.{HoldsAt};
 ghost use Rattle.yaml_scan_scalars.specs.Ordinary as spec;
 
-use yaml_scan_model::{Reader, yaml_mark_t};
+use yaml_scan_model::{Reader, leap, yaml_mark_t};
 
 /// How many bytes are looked at in a row.
 const AHEAD: usize = 8;
@@ -51,16 +51,6 @@ fn common_at(text: &[u8], place: usize) -> bool
     place < text.len() && ORDINARY[text[place] as usize] >= b'O'
 }
 
-/// Whether an ordinary byte of ASCII stands there.
-// Inlined into the loop over bytes.
-#[inline(always)]
-fn narrow_at(kind: u8, text: &[u8], place: usize) -> bool
-    requires { spec.is_kind kind ≡ true }
-    ensures { result ≡ spec.is_narrow kind (byte text.now place) }
-{
-    place < text.len() && is_narrow(kind, text[place])
-}
-
 /// Whether the byte is a space, a dash or a dot.
 // Inlined into the loop over bytes.
 #[inline(always)]
@@ -80,7 +70,8 @@ fn passes_at(kind: u8, text: &[u8], place: usize) -> bool
 {
     place < text.len()
         && (is_narrow(kind, text[place])
-            || (is_link(text[place]) && narrow_at(kind, text, place + 1)))
+            || (is_link(text[place])
+                && (place + 1 < text.len() && is_narrow(kind, text[place + 1]))))
 }
 
 /// How many characters begin with the byte.
@@ -98,7 +89,7 @@ fn begun(byte: u8) -> u64
 pub(crate) fn pass_byte(reader: &mut Reader)
     requires some { 0 < byte reader.old.text reader.old.at }
     requires no_break { break_width reader.old.text reader.old.at ≡ 0 }
-    ensures { reader.new ≡ record { text = reader.old.text; at = reader.old.at + 1 } }
+    ensures { reader.new ≡ record reader.old { at = reader.old.at + 1 } }
 {
     let here = reader.stop();
     let text = reader.text();
@@ -149,19 +140,14 @@ fn narrow_run(kind: u8, reader: &mut Reader)
     ensures run { spec.IsRun kind reader.old.text reader.old.at reader.new }
     ensures inside { reader.new.at ≤ length reader.old.text }
 {
-    let here = reader.stop();
+    // Read for the clauses: the place that is reached stands inside the text.
+    let _here = reader.stop();
     let text = reader.text();
-    let from = reader.place();
-    let mut end = past_narrow(kind, text, from);
+    let mut end = past_narrow(kind, text, reader.place());
     'bytes: while passes_at(kind, text, end) {
         end = past_narrow(kind, text, end + 1);
     }
-    let mark = yaml_mark_t {
-        index: end as u64,
-        line: here.line,
-        column: here.column + (end - from) as u64,
-    };
-    *reader = Reader::resume(text, mark);
+    leap(reader, end);
 }
 
 /// A place behind ordinary bytes of ASCII that stand there: of eight bytes, where so many follow, the first that is none.

@@ -1,5 +1,5 @@
 -- Tags in a short form without escapes.
-use Rattle.std.proofs.Common.{◌≡◌, ℕ, ◌+◌, ◌-◌, ◌<◌, ◌≤◌, ◌==◌, ◌&&◌, Bool, true, false, not, List, [], ◌∷◌, length, take, drop, slice_range, Ok, refl, inl, inr, ◌⊎◌, arith}
+use Rattle.std.proofs.Common.{◌≡◌, ℕ, max, ◌+◌, ◌-◌, ◌<◌, ◌≤◌, ◌==◌, ◌&&◌, Bool, true, false, not, List, [], ◌∷◌, length, take, drop, slice_range, Ok, refl, inl, inr, arith}
 use Rattle.yaml_scan_words.proofs.Words.{and_parts, cases_Bool, cases_lt, cond_both, eqb-false, eqb-true, not-true, or_left, length-drop, length-take-le, byte, within, IsKept, IsPrinted, belongs, is_uri, name_end, handle_end, parts_at, may_end_tag, tag_at, ne_eqb}
 use Rattle.yaml_scan_model.specs.declared.problem.Context.TheVariants as contexts
 use Rattle.yaml_scan_words.specs.declared.run.Run.TheVariants as runs
@@ -20,15 +20,16 @@ unfolding belongs
 name_kept text p k after before = or_left _ _ (run_each (length text) runs.Alphas text (p + 1) k (omega arith) before)
 
 -- what is kept behind the alphas and the handle
-pub short_by : (text : List ℕ) (p r q : ℕ) → (r ≡ name_end text p) ⊎ (r ≡ handle_end text p)
-    → handle_end text p ≤ r → IsKept false text r q → IsKept false text (handle_end text p) q
-short_by text p r q one low h =
+pub short_by : (text : List ℕ) (p q : ℕ)
+    → IsKept false text (max (name_end text p) (handle_end text p)) q
+    → IsKept false text (handle_end text p) q
+short_by text p q h =
     let forward = handle_forward text p in
-    let front : (k : ℕ) → handle_end text p ≤ k → k < r → is_uri false text k ≡ true = λ k after before. elim one [
-      | inl name ↦ name_kept text p k (omega arith) (omega arith)
-      | inr handle ↦ absurd (omega arith)
-    ] in
-    record { forward = omega (arith, h.forward); kept = each_join (is_uri false text) (handle_end text p) r q front h.kept; stop = h.stop }
+    record {
+      forward = omega (arith, h.forward);
+      kept = each_join (is_uri false text) (handle_end text p) (max (name_end text p) (handle_end text p)) q (λ k after before. name_kept text p k (omega arith) (omega arith)) h.kept;
+      stop = h.stop;
+    }
 
 -- behind the alphas of a handle stands its mark
 handle_last : (text : List ℕ) (p k : ℕ) → name_end text p ≤ k → k < handle_end text p

@@ -2,13 +2,13 @@
 
 ghost use Rattle.std.specs.Prelude.{◌≡◌, ◌⊎◌, ◌||◌, ◌==◌, not};
 ghost use Rattle.yaml_scan_model.specs.Ascii as ascii;
-ghost use Rattle.yaml_scan_model.specs.Marks.{byte, mark_at, is_blank_or_end};
+ghost use Rattle.yaml_scan_model.specs.Marks.{byte, mark_at};
 ghost use Rattle.yaml_scan_words.specs.Anchors as spec;
 ghost use Rattle.yaml_scan_words.specs.Readings.{ReadsAs, IsNameWord, behind_bytes};
 
 use crate::run::{copied_since, leap_over, name_end};
 use crate::word::{Word, refusal};
-use yaml_scan_model::{Context, Problem, Reader, ScanError, Spares, yaml_mark_t};
+use yaml_scan_model::{Context, Problem, Reader, ScanError, Spares, mark_again};
 
 /// The anchor or alias whose `&` or `*` stands here (YAML 1.1, 3.2.2.2): its name is one or more alphas.
 ///
@@ -29,11 +29,7 @@ pub fn anchor(spares: &mut Spares, reader: &mut Reader, context: Context) -> Res
     leap_over(reader, to);
     if is_wrong(reader, from, to) {
         // A mark of its own: the one that is lent to the call lies in memory.
-        let start = yaml_mark_t {
-            index: start.index,
-            line: start.line,
-            column: start.column,
-        };
+        let start = mark_again(&start);
         return Err(refusal(&reader.ahead(), Problem::NoAlphanumeric, context, start));
     }
     let value = copied_since(spares, reader, from)?;
@@ -45,15 +41,11 @@ pub fn anchor(spares: &mut Spares, reader: &mut Reader, context: Context) -> Res
 }
 
 /// Whether no name stands between two places, or what stands here, behind it, may not follow it.
-// Mostly a space follows: it is asked alone, since neighbouring tests of a byte become one table of jumps.
 // Inlined: a look at a byte.
 #[inline(always)]
 fn is_wrong(reader: &Reader, from: usize, to: usize) -> bool
     ensures { result ≡ (from == to || not (spec.may_end_name reader.now.text reader.now.at)) }
 {
-    if reader.here() == b' ' {
-        return from == to;
-    }
     from == to || !may_end_name(reader)
 }
 
@@ -64,18 +56,9 @@ fn is_wrong(reader: &Reader, from: usize, to: usize) -> bool
 fn may_end_name(reader: &Reader) -> bool
     ensures { result ≡ spec.may_end_name reader.now.text reader.now.at }
 {
-    is_blank_or_end(reader)
+    reader.is_blank_or_end(0)
         || matches!(
             reader.here(),
             b'?' | b':' | b',' | b']' | b'}' | b'%' | b'@' | b'`'
         )
-}
-
-/// Whether a blank, a break or the end stands here.
-// Inlined: mostly a space does. All else asks a reader of its own: one that is lent to a call out of line lies in memory.
-#[inline(always)]
-fn is_blank_or_end(reader: &Reader) -> bool
-    ensures { result ≡ is_blank_or_end reader.now.text reader.now.at }
-{
-    reader.here() == b' ' || reader.ahead().is_blank_or_end(0)
 }

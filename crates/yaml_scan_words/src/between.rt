@@ -56,7 +56,7 @@ fn allows_key(flow: bool, allowed: bool) -> bool
     allowed || !flow
 }
 
-/// Past what stands here, where it is no lexeme. Spaces, the lexeme behind them and line feeds, which are met most, are asked first.
+/// Past what stands here, where it is no lexeme. Spaces and the lexeme behind them, which are met most, are asked first.
 #[tactic(auto, unfolding(crate::specs::Between::step_at))]
 fn pass_one(reader: &mut Reader, tabs: bool) -> GapSpot
     ensures step { spec.step_at tabs reader.old.text reader.old.at
@@ -69,10 +69,6 @@ fn pass_one(reader: &mut Reader, tabs: bool) -> GapSpot
     }
     if begins_lexeme(reader.here()) {
         return GapSpot::Lexeme;
-    }
-    if reader.here() == b'\n' {
-        reader.skip_break();
-        return GapSpot::Break;
     }
     if is_bom_first(reader) {
         skip_bom(reader);
@@ -98,11 +94,7 @@ fn pass_one(reader: &mut Reader, tabs: bool) -> GapSpot
 // Inlined always: the room of the copy is set to zero where a comment stands, and not where the caller begins.
 #[inline(always)]
 fn pass_remark(reader: &mut Reader)
-    ensures { reader.new ≡ record {
-      text = reader.old.text;
-      at = line_end reader.old.text
-          reader.old.at;
-    } }
+    ensures { reader.new ≡ record reader.old { at = line_end reader.old.text reader.old.at } }
 {
     let mut copy = reader.ahead();
     skip_text(&mut copy);
@@ -133,7 +125,7 @@ fn is_skipped(reader: &Reader, tabs: bool) -> bool
 /// Past U+FEFF, which stands here.
 fn skip_bom(reader: &mut Reader)
     requires { is_bom reader.old.text reader.old.at ≡ true }
-    ensures { reader.new ≡ record { text = reader.old.text; at = reader.old.at + 3 } }
+    ensures { reader.new ≡ record reader.old { at = reader.old.at + 3 } }
 {
     reader.skip();
     reader.skip();

@@ -128,10 +128,8 @@ fn finish_line(reader: &mut Reader, start: yaml_mark_t) -> Result<(), ScanError>
 
 /// Past the comment that stands here, if one does.
 fn skip_comment(reader: &mut Reader)
-    ensures { reader.new ≡ record {
-      text = reader.old.text;
-      at = spec.comment_end reader.old.text
-          reader.old.at;
+    ensures { reader.new ≡ record reader.old {
+      at = spec.comment_end reader.old.text reader.old.at;
     } }
 {
     if reader.here() == b'#' {

@@ -39,10 +39,8 @@ pub(crate) fn belongs(run: Run, reader: &Reader) -> bool
 
 /// Past the run that stands here.
 pub(crate) fn skip_run(run: Run, reader: &mut Reader)
-    ensures { reader.new ≡ record {
-      text = reader.old.text;
-      at = spec.run_end run reader.old.text
-          reader.old.at;
+    ensures { reader.new ≡ record reader.old {
+      at = spec.run_end run reader.old.text reader.old.at;
     } }
 {
     'bytes: while belongs(run, reader) {
@@ -87,16 +85,6 @@ pub(crate) fn stands_in_uri(byte: u8, wide: bool) -> bool
     }
 }
 
-/// Whether one of `0-9 A-Z a-z _ -` stands there.
-#[tactic(auto, unfolding(crate::specs::Runs::belongs))]
-// Inlined into the loop over bytes.
-#[inline(always)]
-fn alpha_at(text: &[u8], place: usize) -> bool
-    ensures { result ≡ spec.belongs runs.Alphas text.now place }
-{
-    place < text.len() && is_alpha_at(text, place)
-}
-
 /// Whether the byte there, which is in the text, is one of `0-9 A-Z a-z _ -`.
 #[tactic(auto, unfolding(crate::specs::Runs::belongs))]
 // Inlined into the loop over bytes.
@@ -122,26 +110,10 @@ pub(crate) fn alphas_end(text: &[u8], from: usize) -> usize
             return end;
         }
     }
-    'bytes: while alpha_at(text, end) {
+    'bytes: while end < text.len() && is_alpha_at(text, end) {
         end += 1;
     }
     end
-}
-
-/// Whether one of the next eight bytes is meant, and is one of `0-9 A-Z a-z _ -`.
-// Inlined into the loop over bytes.
-#[inline(always)]
-fn alpha_ahead(text: &[u8], from: usize, count: usize) -> bool
-    requires { from + 8 ≤ length text.now }
-    ensures few { result ≡ true → count < 8 }
-    ensures here { result ≡ true → spec.belongs runs.Alphas text.now (from + count) ≡ true }
-    ensures none { result ≡ false → count < 8 → spec.belongs runs.Alphas text.now (from + count)
-        ≡ false }
-{
-    if AHEAD <= count {
-        return false;
-    }
-    is_alpha_at(text, from + count)
 }
 
 /// How many of the next eight bytes are alphas, one behind the other.
@@ -156,7 +128,7 @@ fn alphas_ahead(text: &[u8], from: usize) -> usize
     ensures stop { result < 8 → spec.belongs runs.Alphas text.now (from + result) ≡ false }
 {
     let mut count = 0;
-    'bytes: while alpha_ahead(text, from, count) {
+    'bytes: while count < AHEAD && is_alpha_at(text, from + count) {
         count += 1;
     }
     count
@@ -176,7 +148,7 @@ pub(crate) fn name_end(reader: &Reader) -> usize
 pub(crate) fn skip_indicator(reader: &mut Reader)
     requires low { ascii.space < byte reader.old.text reader.old.at }
     requires high { byte reader.old.text reader.old.at < ascii.delete }
-    ensures { reader.new ≡ record { text = reader.old.text; at = reader.old.at + 1 } }
+    ensures { reader.new ≡ record reader.old { at = reader.old.at + 1 } }
 {
     reader.skip();
 }
@@ -186,7 +158,7 @@ pub(crate) fn skip_indicator(reader: &mut Reader)
 #[inline(always)]
 pub(crate) fn leap_over(reader: &mut Reader, end: usize)
     requires { spec.IsPrinted reader.old.text reader.old.at end }
-    ensures { reader.new ≡ record { text = reader.old.text; at = end } }
+    ensures { reader.new ≡ record reader.old { at = end } }
 {
     leap(reader, end);
 }

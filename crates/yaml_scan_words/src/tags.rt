@@ -6,7 +6,6 @@ ghost use Rattle.yaml_scan_model.specs.Marks.{byte, mark_at};
 ghost use Rattle.yaml_scan_words.specs.Tags as spec;
 ghost use Rattle.yaml_scan_words.specs.Readings.{ReadsAs};
 ghost use Rattle.yaml_scan_words.specs.TagsGiven.{IsTagWord, IsParts};
-ghost use Rattle.yaml_scan_words.specs.Uris.{IsKept};
 
 use crate::run::{copied_run, copied_since, leap_over, name_end, skip_indicator};
 use crate::uris::{kept_end, some_uri, uri};
@@ -36,10 +35,12 @@ pub fn tag(spares: &mut Spares, reader: &mut Reader, flow: bool) -> Result<TagWo
 {
     let name = name_end(reader);
     let middle = handle_end(reader, name);
+    // The alphas up to `name` were passed already.
+    let end = kept_end(reader.text(), name.max(middle), false);
     let mut behind = reader.ahead();
-    leap_over(&mut behind, suffix_end(reader, name, middle));
+    leap_over(&mut behind, end);
     if !is_short_form(reader.byte(1), middle, &behind, flow) {
-        return tag_apart(spares, reader, flow);
+        return whole_tag(spares, reader, flow);
     }
     let handle = copied_run(spares, reader.text(), reader.place(), middle)?;
     let suffix = copied_since(spares, &behind, middle)?;
@@ -67,31 +68,6 @@ fn handle_end(reader: &Reader, name: usize) -> usize
     reader.place() + 1
 }
 
-/// The place behind what a URI holds as it is from the handle's end on, which is `middle`. The alphas that end at `name` were
-/// passed already.
-// Inlined: a loop of a load and a comparison a byte.
-#[inline(always)]
-fn suffix_end(reader: &Reader, name: usize, middle: usize) -> usize
-    requires name { name ≡ spec.name_end reader.now.text reader.now.at }
-    requires handle { middle ≡ spec.handle_end reader.now.text reader.now.at }
-    ensures { IsKept false reader.now.text (spec.handle_end reader.now.text reader.now.at) result }
-{
-    kept_end(reader.text(), later(name, middle), false)
-}
-
-/// The later of two places.
-// Inlined: a comparison.
-#[inline(always)]
-fn later(a: usize, b: usize) -> usize
-    ensures low { (a ≤ result) × (b ≤ result) }
-    ensures one { (result ≡ a) ⊎ (result ≡ b) }
-{
-    if a < b {
-        return b;
-    }
-    a
-}
-
 /// Whether a short form of a tag stands before that reader, without escapes and with a suffix from `middle` on, behind `!`
 /// and the byte `second`.
 // Inlined: mostly a look at three bytes.
@@ -101,22 +77,6 @@ fn is_short_form(second: u8, middle: usize, behind: &Reader, flow: bool) -> bool
         && spec.may_end_tag flow behind.now.text behind.now.at)) }
 {
     second != b'<' && (middle != behind.place() && ends_tag(behind, flow))
-}
-
-/// The tag that stands here, in any form.
-// Inlined: so the answer of the call out of line has a place of its own. It is lent a copy of the reader: one that is lent
-// lies in memory.
-#[inline(always)]
-fn tag_apart(spares: &mut Spares, reader: &mut Reader, flow: bool) -> Result<TagWord, ScanError>
-    requires { byte reader.old.text reader.old.at ≡ ascii.exclamation }
-    ensures { ReadsAs (IsTagWord reader.old.text reader.old.at) spec.tag_end reader.old.text
-        (mark_at reader.old.text reader.old.at) reader.new result
-        (spec.tag_at flow reader.old.text reader.old.at) }
-{
-    let mut copy = reader.ahead();
-    let read = whole_tag(spares, &mut copy, flow)?;
-    *reader = copy;
-    Ok(read)
 }
 
 /// The tag that stands here, in any form.

@@ -133,7 +133,7 @@ fn percent_octet(reader: &mut Reader, due: usize) -> Result<Option<Spelling>, Pr
 fn skip_escape(reader: &mut Reader)
     requires mark { byte reader.old.text reader.old.at ≡ ascii.percent }
     requires digits { IsSome (spec.octet_at reader.old.text reader.old.at) }
-    ensures { reader.new ≡ record { text = reader.old.text; at = reader.old.at + 3 } }
+    ensures { reader.new ≡ record reader.old { at = reader.old.at + 3 } }
 {
     skip_indicator(reader);
     skip_indicator(reader);
@@ -191,17 +191,8 @@ pub(crate) fn kept_end(text: &[u8], from: usize, wide: bool) -> usize
     ensures { spec.IsKept wide text.now from result }
 {
     let mut end = from;
-    'bytes: while kept_at(text, end, wide) {
+    'bytes: while end < text.len() && stands_in_uri(text[end], wide) {
         end += 1;
     }
     end
-}
-
-/// Whether a character stands there that a URI holds as it is.
-// Inlined into the loop over bytes.
-#[inline(always)]
-fn kept_at(text: &[u8], place: usize, wide: bool) -> bool
-    ensures { result ≡ spec.is_uri wide text.now place }
-{
-    place < text.len() && stands_in_uri(text[place], wide)
 }

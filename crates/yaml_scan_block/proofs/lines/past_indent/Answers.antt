@@ -1,11 +1,12 @@
-use Rattle.std.proofs.Common.{◌+◌, ◌∙◌, ap, arith}
-use Rattle.yaml_scan_block.proofs.BlockLemmas.{one_space, spaces_join, spaces_run, spaces_lesser}
+use Rattle.std.proofs.Common.{◌≡◌, ◌+◌, ◌∙◌, sym, ap, arith}
+use Rattle.yaml_scan_block.proofs.Words.{spaces}
+use Rattle.yaml_scan_block.proofs.BlockLemmas.{one_space, spaces_join, spaces_lesser, spaces_none, spaces_other, spaces_run}
 use Rattle.yaml_scan_block.proofs.lines.past_indent.Goals as goal
 
 pub rows-init : goal.rows-init
 rows-init c =
-    let (inside, same) = spaces_lesser c.lesser-left.result c.args.asked c.args.text.now c.args.from c.requires c.lesser-left.ensures in
-    record {
+    let (inside, same) = spaces_lesser c.args.asked c.args.text.now c.args.from c.requires in
+    rw c.min-left.ensures record {
       forward = omega arith;
       inside = inside;
       value = ap (λ z. c.args.from + z) same;
@@ -28,9 +29,8 @@ rows-preserved c =
 
 pub bytes-preserved : goal.bytes-preserved
 bytes-preserved c =
-    let one = c.has_space.ensures.yes c.bytes-test.true in
-    let here = one_space c.args.text.now c.bytes.end one.space in
-    let asked = one.asked in
+    let here = one_space c.args.text.now c.bytes.end c.if-text-end-eq32.true in
+    let asked = c.bytes-test.true in
     let run = spaces_run 1 c.bytes.left c.args.text.now c.bytes.end (omega (arith, asked)) here in
     let forward = c.bytes.invariant.forward in
     let inside = c.bytes.invariant.inside in
@@ -40,3 +40,14 @@ bytes-preserved c =
       value = c.bytes.invariant.value ∙ omega (arith, run);
       each = spaces_join c.args.text.now c.args.from c.bytes.end (c.bytes.end + 1) c.bytes.invariant.each here;
     }
+
+pub returns-else-text-end-eq32-clause-value : goal.returns-else-text-end-eq32-clause-value
+returns-else-text-end-eq32-clause-value c =
+    let none = spaces_other c.bytes.left c.args.text.now c.bytes.end c.if-text-end-eq32.false in
+    sym (c.bytes.invariant.value ∙ omega (arith, none))
+
+pub returns-after-bytes-clause-value : goal.returns-after-bytes-clause-value
+returns-after-bytes-clause-value c =
+    let z : c.bytes.left ≡ 0 = omega (arith, c.bytes-test.false) in
+    let none : spaces c.bytes.left c.args.text.now c.bytes.end ≡ 0 = rw z (spaces_none _ _) in
+    sym (c.bytes.invariant.value ∙ omega (arith, none))

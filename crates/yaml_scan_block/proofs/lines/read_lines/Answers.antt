@@ -1,5 +1,5 @@
-use Rattle.std.proofs.Common.{refl, arith, ◌∙◌, ◌≡◌, ◌-◌, true, false, suc, length, Ok}
-use Rattle.yaml_scan_block.proofs.Words.{err_from_is_err_and, line_spot, LineSteps}
+use Rattle.std.proofs.Common.{refl, arith, ◌∙◌, ◌≡◌, ◌-◌, suc, length}
+use Rattle.yaml_scan_block.proofs.Words.{err_from_is_err_and}
 use Rattle.yaml_scan_block.proofs.LinesLemmas.{lines_more, lines_done, lines_refused}
 use Rattle.yaml_scan_block.proofs.lines.read_lines.Goals as goal
 
@@ -16,15 +16,13 @@ returns-in_err-more c = λ chomp.
 pub returns-then-not-more : goal.returns-then-not-more
 returns-then-not-more c = λ chomp.
     let (n, room, same) = c.lines.invariant.rest in
-    let took : LineSteps c.args.reader.now.text c.args.start c.lines.reader.at c.lines.stacking c.line.new.stacking c.line.new.reader (Ok false) (line_spot c.args.column c.args.reader.now.text c.lines.reader.at) = rw (← c.lines.invariant.text) (rw c.if-not-more.true at c.in_ok-more.ensures) in
-    rw (same chomp) (lines_done n c.args.column c.args.reader.now.text c.args.start chomp c.lines.reader.at c.lines.end c.lines.stacking c.line.new.stacking c.line.new.reader _ refl took c.lines.invariant.end)
+    rw (same chomp) (lines_done n c.args.column c.args.reader.now.text c.args.start chomp c.lines.reader.at c.lines.end c.lines.stacking c.line.new.stacking c.line.new.reader _ refl (rw (← c.lines.invariant.text) (rw c.if-not-more.true at c.in_ok-more.ensures)) c.lines.invariant.end)
 
 pub lines-preserved : goal.lines-preserved
 lines-preserved c =
     let text = c.args.reader.now.text in
     let (n, room, same) = c.lines.invariant.rest in
-    let took : LineSteps text c.args.start c.lines.reader.at c.lines.stacking c.line.new.stacking c.line.new.reader (Ok true) (line_spot c.args.column text c.lines.reader.at) = rw (← c.lines.invariant.text) (rw c.if-not-more.false at c.in_ok-more.ensures) in
-    let next = lines_more n c.args.column text c.args.start c.lines.reader.at c.lines.end.index c.lines.stacking c.line.new.stacking c.line.new.reader _ refl took in
+    let next = lines_more n c.args.column text c.args.start c.lines.reader.at c.lines.end.index c.lines.stacking c.line.new.stacking c.line.new.reader _ refl (rw (← c.lines.invariant.text) (rw c.if-not-more.false at c.in_ok-more.ensures)) in
     let m = rw next.same at c.mark-end-in-lines.ensures in
     let inside = next.inside in
     let further = next.further in

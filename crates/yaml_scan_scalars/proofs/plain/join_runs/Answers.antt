@@ -1,6 +1,6 @@
-use Rattle.std.proofs.Common.{◌≡◌, ◌+◌, ◌-◌, suc, arith, ◌∙◌, sym, true, false, refl, ℕ, Ok}
-use Rattle.yaml_scan_scalars.proofs.Words.{plain_kind, err_from_is_err_and, spot_at, Words, joined, plain_text, with_run, Steps, TookWords}
-use Rattle.yaml_scan_scalars.proofs.PlainLemmas.{lead_text, turn_more, turn_done, turn_refused}
+use Rattle.std.proofs.Common.{◌≡◌, ◌+◌, ◌-◌, suc, arith, ◌∙◌, sym, refl, ℕ}
+use Rattle.yaml_scan_scalars.proofs.Words.{plain_kind, err_from_is_err_and, Words, joined, plain_text, with_run, TookWords}
+use Rattle.yaml_scan_scalars.proofs.PlainLemmas.{seated, lead_text, turn_more, turn_done, turn_refused}
 use Rattle.yaml_scan_scalars.proofs.PlainRunLemmas.{plain_run, plain_first_run, first_text, behind_first}
 use Rattle.yaml_scan_scalars.proofs.RunLemmas.{first_last}
 use Rattle.yaml_scan_scalars.proofs.OneRunLemmas.{no_space}
@@ -23,13 +23,7 @@ pieces-init c =
     rw d (value w ∙ first_text text p (place.at - (p + 1)) place.at w q (first_last (plain_kind c.args.flow) text p place ran.run first)) in
     record {
       text = refl;
-      seat = record {
-        kept = c.in_ok-joining.ensures.kept;
-        end = rw seat.0 refl;
-        broke = seat.1 ∙ behind.0;
-        white = seat.2 ∙ behind.1;
-        line = λ e. c.in_ok-joining.ensures.line;
-      };
+      seat = seated text place.at _ c.in_ok-joining.ensures.kept seat c.in_ok-joining.ensures.line behind;
       rest = plain_first_run c.args.flow c.args.level text p c.in_ok-joining.joining place ran.run ran.inside calm first told;
     }
 
@@ -41,18 +35,14 @@ returns-in_err-more c =
 
 pub returns-then-not-more : goal.returns-then-not-more
 returns-then-not-more c =
-    let here = rw c.if-not-more.true at c.in_ok-more.ensures in
-    let took : Steps c.args.reader.now.text c.args.start c.pieces.reader.at c.pieces.joining c.piece.new.joining c.piece.new.reader (Ok false) (spot_at c.args.flow c.args.level c.args.reader.now.text c.pieces.reader.at) = rw (← c.pieces.invariant.text) here in
-    let (place, kept, value) = turn_done c.args.flow c.args.level c.args.reader.now.text c.args.start c.pieces.reader.at c.pieces.joining c.piece.new.joining c.piece.new.reader took in
+    let (place, kept, value) = turn_done c.args.flow c.args.level c.args.reader.now.text c.args.start c.pieces.reader.at c.pieces.joining c.piece.new.joining c.piece.new.reader (rw (← c.pieces.invariant.text) (rw c.if-not-more.true at c.in_ok-more.ensures)) in
     let seat = rw c.pieces.invariant.text at c.pieces.invariant.seat.end in
     let all = rw kept at c.finish.ensures in
     rw (c.pieces.invariant.rest, value) (record { value = all; start_mark = c.requires.own; end_mark = rw kept seat; broke = rw kept refl }, place)
 
 pub pieces-preserved : goal.pieces-preserved
 pieces-preserved c =
-    let here = rw c.if-not-more.false at c.in_ok-more.ensures in
-    let took : Steps c.args.reader.now.text c.args.start c.pieces.reader.at c.pieces.joining c.piece.new.joining c.piece.new.reader (Ok true) (spot_at c.args.flow c.args.level c.args.reader.now.text c.pieces.reader.at) = rw (← c.pieces.invariant.text) here in
-    let next = turn_more c.args.flow c.args.level c.args.reader.now.text c.args.start c.pieces.reader.at c.pieces.joining c.piece.new.joining c.piece.new.reader took in
+    let next = turn_more c.args.flow c.args.level c.args.reader.now.text c.args.start c.pieces.reader.at c.pieces.joining c.piece.new.joining c.piece.new.reader (rw (← c.pieces.invariant.text) (rw c.if-not-more.false at c.in_ok-more.ensures)) in
     let ran : TookWords (plain_kind c.args.flow) c.args.reader.now.text c.piece.new.reader.at c.piece.new.joining c.keep_run.new.joining c.keep_run.new.reader = rw (next.same, c.plain_kind.ensures.same) at c.in_ok-keep_run.ensures in
     record {
       text = ran.run.same;
@@ -62,16 +52,12 @@ pieces-preserved c =
 
 pub keep_run-requires-clause-seat : goal.keep_run-requires-clause-seat
 keep_run-requires-clause-seat c =
-    let here = rw c.if-not-more.false at c.in_ok-more.ensures in
-    let took : Steps c.args.reader.now.text c.args.start c.pieces.reader.at c.pieces.joining c.piece.new.joining c.piece.new.reader (Ok true) (spot_at c.args.flow c.args.level c.args.reader.now.text c.pieces.reader.at) = rw (← c.pieces.invariant.text) here in
-    let next = turn_more c.args.flow c.args.level c.args.reader.now.text c.args.start c.pieces.reader.at c.pieces.joining c.piece.new.joining c.piece.new.reader took in
+    let next = turn_more c.args.flow c.args.level c.args.reader.now.text c.args.start c.pieces.reader.at c.pieces.joining c.piece.new.joining c.piece.new.reader (rw (← c.pieces.invariant.text) (rw c.if-not-more.false at c.in_ok-more.ensures)) in
     rw next.same next.seat
 
 pub pieces-smaller : goal.pieces-smaller
 pieces-smaller c =
-    let here = rw c.if-not-more.false at c.in_ok-more.ensures in
-    let took : Steps c.args.reader.now.text c.args.start c.pieces.reader.at c.pieces.joining c.piece.new.joining c.piece.new.reader (Ok true) (spot_at c.args.flow c.args.level c.args.reader.now.text c.pieces.reader.at) = rw (← c.pieces.invariant.text) here in
-    let next = turn_more c.args.flow c.args.level c.args.reader.now.text c.args.start c.pieces.reader.at c.pieces.joining c.piece.new.joining c.piece.new.reader took in
+    let next = turn_more c.args.flow c.args.level c.args.reader.now.text c.args.start c.pieces.reader.at c.pieces.joining c.piece.new.joining c.piece.new.reader (rw (← c.pieces.invariant.text) (rw c.if-not-more.false at c.in_ok-more.ensures)) in
     let further = next.further in
     let inside = next.inside in
     let after = c.in_ok-keep_run.ensures.run.after in

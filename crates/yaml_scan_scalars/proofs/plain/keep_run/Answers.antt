@@ -1,6 +1,7 @@
 use Rattle.std.proofs.Common.{◌≡◌, ◌∙◌, ◌+◌, ◌-◌, ◌<◌, sym, refl, length, arith}
 use Rattle.yaml_scan_scalars.proofs.Words.{nat_tests, bytes_at}
 use Rattle.yaml_scan_scalars.proofs.RunLemmas.{run_start, bytes_long, calm_no_space, ordinary_calm}
+use Rattle.yaml_scan_scalars.proofs.PlainLemmas.{seated}
 use Rattle.yaml_scan_scalars.proofs.PlainRunLemmas.{joined_run, calm_behind}
 use Rattle.yaml_scan_scalars.proofs.plain.keep_run.Goals as goal
 
@@ -42,11 +43,5 @@ returns c =
       run = run;
       calm = λ l. sym c.requires.seat.broke ∙ c.if-joining.false;
       value = λ w. kept w ∙ joined_run text p (place.at - p) place.at c.args.joining.now w q some (c.requires.seat.line c.if-joining.false) (calm_no_space _ (ordinary_calm c.args.kind _ (run.last more)));
-      seat = record {
-        kept = c.in_ok-keep.ensures.kept;
-        end = rw seat.0 refl;
-        broke = seat.1 ∙ behind.0;
-        white = seat.2 ∙ behind.1;
-        line = λ e. c.in_ok-keep.ensures.line;
-      };
+      seat = seated text place.at _ c.in_ok-keep.ensures.kept seat c.in_ok-keep.ensures.line behind;
     }

@@ -1,17 +1,17 @@
 use Rattle.std.proofs.Common.{◌≡◌, ◌∙◌, ◌+◌, ◌<◌, ℕ, ap, sym, arith}
 use Rattle.yaml_scan_scalars.proofs.Words.{ltb-true, yaml_mark_t, Place, byte, break_width, column_at, past_spaces}
-use Rattle.yaml_scan_scalars.proofs.OneRunLemmas.{line_ends}
+use Rattle.yaml_scan_scalars.proofs.OneRunLemmas.{feed_breaks, line_ends}
 use Rattle.yaml_scan_scalars.proofs.plain.passes_line.Goals as goal
 
-pub pass_feed-requires : goal.pass_feed-requires
-pass_feed-requires c = sym c.here.ensures ∙ omega arith
+pub skip_break-requires : goal.skip_break-requires
+skip_break-requires c = feed_breaks _ _ _ (sym c.here.ensures ∙ omega arith)
 
 pub returns-then-begins_word-clause-ends : goal.returns-then-begins_word-clause-ends
 returns-then-begins_word-clause-ends c = λ less.
     let text = c.args.reader.now.text in
     let p = c.args.reader.now.at in
     let q : ℕ = c.skip_spaces.new.reader.at in
-    let after = rw c.pass_feed.ensures at c.skip_spaces.ensures in
+    let after = rw c.skip_break.ensures at c.skip_spaces.ensures in
     let e : q ≡ past_spaces text (p + break_width text p) = ap (λ (x : Place). x.at) after in
     let held = ap (λ (x : Place). x.text) after in
     let here : c.here-2.result ≡ byte text q = rw held at c.here-2.ensures in

@@ -1,6 +1,6 @@
-use Rattle.std.proofs.Common.{refl, arith, ◌∙◌, sym, ◌≡◌, ◌+◌, ◌<◌, ◌==◌, ◌&&◌, true, false, nat_lt, ◌||◌}
+use Rattle.std.proofs.Common.{arith, ◌∙◌, sym, ◌≡◌, ◌+◌, ◌<◌, ◌==◌, ◌&&◌, true, false, nat_lt, ◌||◌}
 use Rattle.yaml_scan_scalars.proofs.Words.{true≢false, byte, break_width, is_blank, column_at, feed_some, value_long, leads, ends_at, is_bracket, within}
-use Rattle.yaml_scan_scalars.proofs.PlainLemmas.{blank_inside, lead_text, spot_break, spot_blank, spot_kept, not_ended, lead_break, leads-blank, white-blank}
+use Rattle.yaml_scan_scalars.proofs.PlainLemmas.{blank_inside, lead_text, spot_break, spot_blank, spot_kept, not_ended, seated, lead_break, leads-blank, white-blank}
 use Rattle.yaml_scan_scalars.proofs.plain.piece.Goals as goal
 
 pub break_line-requires-clause-some : goal.break_line-requires-clause-some
@@ -77,13 +77,7 @@ returns c =
     rw (spot_kept c.args.flow c.args.level text p z k n o) (
       c.skip-2.ensures,
       value,
-      record {
-        kept = c.in_ok-keep.ensures.kept;
-        end = rw seat.0 refl;
-        broke = seat.1 ∙ none.0;
-        white = seat.2 ∙ none.1;
-        line = λ e. c.in_ok-keep.ensures.line;
-      },
+      seated text (p + 1) _ c.in_ok-keep.ensures.kept seat c.in_ok-keep.ensures.line none,
       omega arith,
       within text p (not_ended c.args.flow c.args.level text p n),
     )

@@ -1,5 +1,5 @@
-use Rattle.std.proofs.Common.{refl, arith, ◌∙◌, ◌≡◌, ◌+◌, ◌-◌, inl, ◌++◌, ap, true, false, ℕ, List, Ok}
-use Rattle.yaml_scan_scalars.proofs.Words.{quoted_kind, err_from_is_err_and, Piece, value, resume, standing_at, Took, TookRun, bytes_at, run_pieces}
+use Rattle.std.proofs.Common.{refl, arith, ◌∙◌, ◌≡◌, ◌+◌, ◌-◌, inl, ◌++◌, ap, ℕ, List}
+use Rattle.yaml_scan_scalars.proofs.Words.{quoted_kind, err_from_is_err_and, Piece, value, resume, TookRun, bytes_at, run_pieces}
 use Rattle.yaml_scan_scalars.proofs.QuotedLemmas.{turn_more, turn_done, turn_refused}
 use Rattle.yaml_scan_scalars.proofs.RunLemmas.{quoted_run, run_ends}
 use Rattle.yaml_scan_scalars.proofs.OneRunLemmas.{quoted_first}
@@ -28,16 +28,12 @@ returns-in_err-more c =
 
 pub returns-then-not-more : goal.returns-then-not-more
 returns-then-not-more c =
-    let here = rw c.if-not-more.true at c.in_ok-more.ensures in
-    let took : Took c.args.reader.now.text c.args.start c.pieces.reader.at (resume c.pieces.folding) (resume c.piece.new.folding) c.piece.new.reader (Ok false) (standing_at c.args.quote c.args.reader.now.text c.pieces.reader.at) = rw (← c.pieces.invariant.text) here in
-    let (place, value) = turn_done c.args.reader.now.text c.args.start c.args.quote c.pieces.reader.at (resume c.pieces.folding) (resume c.piece.new.folding) c.piece.new.reader took in
+    let (place, value) = turn_done c.args.reader.now.text c.args.start c.args.quote c.pieces.reader.at (resume c.pieces.folding) (resume c.piece.new.folding) c.piece.new.reader (rw (← c.pieces.invariant.text) (rw c.if-not-more.true at c.in_ok-more.ensures)) in
     rw (c.pieces.invariant.rest, value) (c.in_ok-value.ensures, place)
 
 pub pieces-preserved : goal.pieces-preserved
 pieces-preserved c =
-    let here = rw c.if-not-more.false at c.in_ok-more.ensures in
-    let took : Took c.args.reader.now.text c.args.start c.pieces.reader.at (resume c.pieces.folding) (resume c.piece.new.folding) c.piece.new.reader (Ok true) (standing_at c.args.quote c.args.reader.now.text c.pieces.reader.at) = rw (← c.pieces.invariant.text) here in
-    let next = turn_more c.args.reader.now.text c.args.start c.args.quote c.pieces.reader.at (resume c.pieces.folding) (resume c.piece.new.folding) c.piece.new.reader took in
+    let next = turn_more c.args.reader.now.text c.args.start c.args.quote c.pieces.reader.at (resume c.pieces.folding) (resume c.piece.new.folding) c.piece.new.reader (rw (← c.pieces.invariant.text) (rw c.if-not-more.false at c.in_ok-more.ensures)) in
     let ran : TookRun (quoted_kind c.args.quote) c.args.reader.now.text c.piece.new.reader.at (resume c.piece.new.folding) (resume c.keep_run.new.folding) c.keep_run.new.reader = rw (next.same, c.quoted_kind.ensures.same) at c.in_ok-keep_run.ensures in
     record {
       text = ran.0.same;
@@ -46,9 +42,7 @@ pieces-preserved c =
 
 pub pieces-smaller : goal.pieces-smaller
 pieces-smaller c =
-    let here = rw c.if-not-more.false at c.in_ok-more.ensures in
-    let took : Took c.args.reader.now.text c.args.start c.pieces.reader.at (resume c.pieces.folding) (resume c.piece.new.folding) c.piece.new.reader (Ok true) (standing_at c.args.quote c.args.reader.now.text c.pieces.reader.at) = rw (← c.pieces.invariant.text) here in
-    let next = turn_more c.args.reader.now.text c.args.start c.args.quote c.pieces.reader.at (resume c.pieces.folding) (resume c.piece.new.folding) c.piece.new.reader took in
+    let next = turn_more c.args.reader.now.text c.args.start c.args.quote c.pieces.reader.at (resume c.pieces.folding) (resume c.piece.new.folding) c.piece.new.reader (rw (← c.pieces.invariant.text) (rw c.if-not-more.false at c.in_ok-more.ensures)) in
     let further = next.further in
     let inside = next.inside in
     let after = c.in_ok-keep_run.ensures.0.after in

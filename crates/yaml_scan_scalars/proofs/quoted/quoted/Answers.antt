@@ -1,4 +1,4 @@
-use Rattle.std.proofs.Common.{◌+◌, ◌∙◌, sym}
+use Rattle.std.proofs.Common.{◌+◌, ◌∙◌, refl, sym}
 use Rattle.yaml_scan_scalars.proofs.Words.{quoted_kind, within, IsRun}
 use Rattle.yaml_scan_scalars.proofs.QuotedLemmas.{quote_no_break, quote_some}
 use Rattle.yaml_scan_scalars.proofs.OneRunLemmas.{own_mark, closes_both, quoted_one, some_quote, run_whole}
@@ -7,14 +7,19 @@ use Rattle.yaml_scan_scalars.proofs.quoted.quoted.Goals as goal
 pub pass_byte-requires-clause-no_break : goal.pass_byte-requires-clause-no_break
 pass_byte-requires-clause-no_break c = quote_no_break c.args.quote _ _ _ c.requires.opened c.requires.quote
 
-pub one_run-requires-clause-closing : goal.one_run-requires-clause-closing
-one_run-requires-clause-closing c =
-    some_quote _ _ (closes_both _ _ _ (sym c.closes.ensures ∙ c.if-closes.true)).0 c.requires.quote
+pub pass_byte-requires-then-closes-clause-some : goal.pass_byte-requires-then-closes-clause-some
+pass_byte-requires-then-closes-clause-some c =
+    quote_some _ _ refl (some_quote _ _ (closes_both _ _ _ (sym c.closes.ensures ∙ c.if-closes.true)).0 c.requires.quote)
 
-pub one_run-requires-clause-stands : goal.one_run-requires-clause-stands
-one_run-requires-clause-stands c =
+pub pass_byte-requires-then-closes-clause-no_break :
+    goal.pass_byte-requires-then-closes-clause-no_break
+pass_byte-requires-then-closes-clause-no_break c =
+    quote_no_break _ _ _ _ refl (some_quote _ _ (closes_both _ _ _ (sym c.closes.ensures ∙ c.if-closes.true)).0 c.requires.quote)
+
+pub copied-requires : goal.copied-requires
+copied-requires c =
     let run : IsRun (quoted_kind c.args.quote) c.args.reader.now.text (c.args.reader.now.at + 1) c.ordinary_run-bytes.new.reader = rw (c.pass_byte.ensures, c.quoted_kind.ensures.same) at c.ordinary_run-bytes.ensures.place in
-    rw (run.same, c.place-from.ensures, c.pass_byte.ensures) (rw c.pass_byte.ensures at c.ordinary_run-bytes.ensures.stands)
+    rw (c.text.ensures, c.pass_byte-then-closes.ensures, run.same, c.place-from.ensures, c.pass_byte.ensures) (rw c.pass_byte.ensures at c.ordinary_run-bytes.ensures.stands)
 
 pub returns-then-closes : goal.returns-then-closes
 returns-then-closes c =
@@ -25,7 +30,7 @@ returns-then-closes c =
     let inside = within text p (quote_some c.args.quote _ c.requires.opened c.requires.quote) in
     let both = closes_both _ _ _ (rw run.same at (sym c.closes.ensures ∙ c.if-closes.true)) in
     let one = quoted_one c.args.quote text p c.ordinary_run-bytes.new.reader c.requires.quote inside run both.0 both.1 in
-    rw (one, ← bytes) (c.in_ok-value.ensures.value, rw run.same at c.in_ok-value.ensures.place)
+    rw (one, ← bytes) (c.in_ok-value.ensures, rw run.same at c.pass_byte-then-closes.ensures)
 
 pub many_runs-requires-clause-ran : goal.many_runs-requires-clause-ran
 many_runs-requires-clause-ran c =

@@ -1,6 +1,6 @@
-use Rattle.std.proofs.Common.{◌≡◌, ◌&&◌, ◌==◌, not, nat_lt, true, ◌∙◌, sym, arith}
+use Rattle.std.proofs.Common.{◌≡◌, ◌&&◌, ◌==◌, not, nat_lt, true, ◌∙◌, sym}
 use Rattle.yaml_scan_words.proofs.Words.{and_parts, byte}
-use Rattle.yaml_scan_words.proofs.BetweenLemmas.{lexeme_here, space_here, space_byte, feed_here, feed_width, skipped_here}
+use Rattle.yaml_scan_words.proofs.BetweenLemmas.{lexeme_here, space_here, space_byte, skipped_here}
 use Rattle.yaml_scan_words.proofs.between.pass_one.Goals as goal
 
 pub returns-then-begins_lexeme-clause-step : goal.returns-then-begins_lexeme-clause-step
@@ -26,12 +26,3 @@ skip-requires-clause-no_break c = (space_byte c.args.reader.now.text c.args.read
 
 pub returns-then-here-eq32-clause-step : goal.returns-then-here-eq32-clause-step
 returns-then-here-eq32-clause-step c = rw c.skip.ensures (space_here c.args.tabs c.args.reader.now.text c.args.reader.now.at (sym c.here.ensures ∙ c.if-here-eq32.true))
-
-pub skip_break-requires : goal.skip_break-requires
-skip_break-requires c =
-    rw (feed_width c.args.reader.now.text c.args.reader.now.at (sym c.here-3.ensures ∙ c.if-here-eq10.true)) (omega arith)
-
-pub returns-then-here-eq10-clause-step : goal.returns-then-here-eq10-clause-step
-returns-then-here-eq10-clause-step c =
-    let feed : byte c.args.reader.now.text c.args.reader.now.at ≡ 10 = sym c.here-3.ensures ∙ c.if-here-eq10.true in
-    rw (c.skip_break.ensures, feed_width c.args.reader.now.text c.args.reader.now.at feed) (feed_here c.args.tabs c.args.reader.now.text c.args.reader.now.at feed)

@@ -1,7 +1,7 @@
 use Rattle.std.proofs.Common.{◌+◌, ◌∙◌, sym, arith}
 use Rattle.yaml_scan_words.specs.declared.run.Run.TheVariants as runs
 use Rattle.yaml_scan_words.proofs.Words.{belongs}
-use Rattle.yaml_scan_words.proofs.RunsLemmas.{belongs_inside, each_join, each_more, run_is}
+use Rattle.yaml_scan_words.proofs.RunsLemmas.{each_join, each_more, past_run, run_is}
 use Rattle.yaml_scan_words.proofs.run.alphas_end.Goals as goal
 
 pub rows-init : goal.rows-init
@@ -19,22 +19,17 @@ rows-preserved c =
     let (after, each) = c.rows.invariant in
     (omega arith, each_join (belongs runs.Alphas c.args.text.now) c.args.from c.rows.end (c.rows.end + c.alphas_ahead-count.result) each c.alphas_ahead-count.ensures.each)
 
-pub overflow_add-end-in-bytes : goal.overflow_add-end-in-bytes
-overflow_add-end-in-bytes c =
-    let inside = belongs_inside runs.Alphas c.args.text.now c.bytes.end (sym c.alpha_at.ensures ∙ c.bytes-test.true) in
-    omega arith
-
-pub bytes-smaller : goal.bytes-smaller
-bytes-smaller c =
-    let inside = belongs_inside runs.Alphas c.args.text.now c.bytes.end (sym c.alpha_at.ensures ∙ c.bytes-test.true) in
-    omega arith
-
 pub bytes-preserved : goal.bytes-preserved
 bytes-preserved c =
     let (after, each) = c.bytes.invariant in
-    (omega arith, each_more (belongs runs.Alphas c.args.text.now) c.args.from c.bytes.end each (sym c.alpha_at.ensures ∙ c.bytes-test.true))
+    (omega arith, each_more (belongs runs.Alphas c.args.text.now) c.args.from c.bytes.end each (sym c.is_alpha_at.ensures ∙ c.if-is_alpha_at.true))
 
-pub returns : goal.returns
-returns c =
+pub returns-else-is_alpha_at : goal.returns-else-is_alpha_at
+returns-else-is_alpha_at c =
     let (after, each) = c.bytes.invariant in
-    sym (run_is runs.Alphas c.args.text.now c.args.from c.bytes.end after each (sym c.alpha_at.ensures ∙ c.bytes-test.false))
+    sym (run_is runs.Alphas c.args.text.now c.args.from c.bytes.end after each (sym c.is_alpha_at.ensures ∙ c.if-is_alpha_at.false))
+
+pub returns-after-bytes : goal.returns-after-bytes
+returns-after-bytes c =
+    let (after, each) = c.bytes.invariant in
+    sym (run_is runs.Alphas c.args.text.now c.args.from c.bytes.end after each (past_run runs.Alphas c.args.text.now c.bytes.end (omega (arith, c.bytes-test.false))))

@@ -1,7 +1,0 @@
-use Rattle.std.proofs.Common.{◌∙◌, sym, arith}
-use Rattle.yaml_scan_words.proofs.Words.{le-ltb}
-use Rattle.yaml_scan_words.proofs.UrisLemmas.{past_uri}
-use Rattle.yaml_scan_words.proofs.uris.kept_at.Goals as goal
-
-pub returns-else-place-text : goal.returns-else-place-text
-returns-else-place-text c = le-ltb _ _ (omega arith) ∙ sym (past_uri c.args.wide c.args.text.now c.args.place (omega arith))

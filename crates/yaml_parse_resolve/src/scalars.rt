@@ -194,8 +194,8 @@ fn start_bare(value: Vec<u8>, style: yaml_scalar_style_t, event: &mut yaml_event
 }
 
 // A scalar without properties, where the slot holds no such one.
-// Out of line: mostly it holds one.
-#[inline(never)]
+// Inlined: the first entry of a collection comes behind what opens it, so it is met often.
+#[inline(always)]
 fn other_bare(
     waiting: &mut Waiting,
     value: &mut Vec<u8>,

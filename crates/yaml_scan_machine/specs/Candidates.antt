@@ -49,6 +49,10 @@ abbrev pub key_view : Key → Option KeyView
 key_view k = if k.possible
     then Some (record { number = k.number; start = k.start; required = k.required }) else None
 
+-- a place of that index and line
+abbrev pub placed_at : ℕ → ℕ → yaml_mark_t
+placed_at index line = record { index = index; line = line; column = 0 }
+
 -- the key, where there is one that isn't stale at that place
 abbrev pub fresh_key : Key → yaml_mark_t → Option KeyView
 fresh_key k place = if k.possible && is_fresh k.start place

@@ -1,9 +1,9 @@
 //! The candidate of each open depth.
 
-ghost use Rattle.std.specs.Prelude.{◌≡◌, ◌+◌, ◌-◌, ◌≤◌, ◌<◌, ◌^◌, ◌&&◌, [], OnOk, None, true, false, length};
+ghost use Rattle.std.specs.Prelude.{◌≡◌, ◌+◌, ◌-◌, ◌≤◌, ◌<◌, ◌^◌, ◌&&◌, [], OnOk, None, Some, true, false, length};
 ghost use Rattle.yaml_scan_history.specs.History as history;
 ghost use Rattle.yaml_scan_history.specs.Kinds.{cancels};
-ghost use Rattle.yaml_scan_machine.specs.Candidates.{AreStale, Forgets, HasEffect, IsPut, Turns, fresh_key, key_at, key_view, number_in, required_at, required_view, stack_of};
+ghost use Rattle.yaml_scan_machine.specs.Candidates.{AreStale, Forgets, HasEffect, IsPut, Turns, fresh_key, key_at, key_view, number_in, placed_at, required_at, required_view, stack_of};
 
 use std::alloc::{AllocError, Global};
 use yaml_scan_history::{Kind, Lexeme, is_fresh};
@@ -184,13 +184,46 @@ impl Keys {
             (fresh_key (key_at (stack_of self.new) self.new.stale) place) }
         ensures last { result ≡ None → self.new.stale ≡ length self.new.outer.items }
     {
-        'pass: while self.stale < self.outer.len() {
+        if self.stale < self.outer.len() {
             if self.outer[self.stale].is_fresh(place) {
                 return Some(self.outer[self.stale].number);
             }
-            self.stale += 1;
+            if self.finds_fresh(place.index, place.line) {
+                return Some(self.outer[self.stale].number);
+            }
         }
         self.innermost.found(place)
+    }
+
+    /// Passes the outer candidates that are none, or stale at a place of that index and line, and tells whether another one comes.
+    // Out of line and cold: the first look decides. The place's numbers are handed over: a place that is lent to a call lies in
+    // memory, and is written there for each lexeme.
+    #[cold]
+    #[inline(never)]
+    fn finds_fresh(&mut self, index: u64, line: u64) -> bool
+        requires { self.old.stale ≤ length self.old.outer.items }
+        ensures same { self.new ≡ record self.old { stale = self.new.stale } }
+        ensures inside { self.new.stale ≤ length self.new.outer.items }
+        ensures stale { AreStale (stack_of self.old) (placed_at index line)
+            → AreStale (stack_of self.new) (placed_at index line) }
+        ensures more { result ≡ true → self.new.stale < length self.new.outer.items }
+        ensures fresh { result ≡ true → Some (key_at (stack_of self.new) self.new.stale).number
+            ≡ number_in (fresh_key (key_at (stack_of self.new) self.new.stale)
+            (placed_at index line)) }
+        ensures last { result ≡ false → self.new.stale ≡ length self.new.outer.items }
+    {
+        let place = yaml_mark_t {
+            index,
+            line,
+            column: 0,
+        };
+        'pass: while self.stale < self.outer.len() {
+            if self.outer[self.stale].is_fresh(place) {
+                return true;
+            }
+            self.stale += 1;
+        }
+        false
     }
 
     /// A lexeme comes, in front of which so many stand.

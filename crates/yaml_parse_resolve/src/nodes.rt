@@ -51,8 +51,7 @@ fn tell_no_scalar(waiting: &mut Waiting, event: &mut yaml_event_body_t)
 }
 
 // A sequence begins without properties.
-// Out of line: in line the addresses of the slot's parts would be put aside in front of the loop over turns, for each event.
-#[inline(never)]
+// No hint: LLVM inlines it, since it is short.
 fn tell_sequence(
     waiting: &mut Waiting,
     token: &mut BodySlot,
@@ -79,8 +78,7 @@ fn sequence_over(token: &mut BodySlot, style: yaml_sequence_style_t, event: &mut
 }
 
 // A mapping begins without properties.
-// Out of line: see `tell_sequence`.
-#[inline(never)]
+// No hint: see `tell_sequence`.
 fn tell_mapping(
     waiting: &mut Waiting,
     token: &mut BodySlot,

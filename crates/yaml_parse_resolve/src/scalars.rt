@@ -194,8 +194,7 @@ fn start_bare(value: Vec<u8>, style: yaml_scalar_style_t, event: &mut yaml_event
 }
 
 // A scalar without properties, where the slot holds no such one.
-// Inlined: the first entry of a collection comes behind what opens it, so it is met often.
-#[inline(always)]
+// No hint: LLVM inlines it, since it is short.
 fn other_bare(
     waiting: &mut Waiting,
     value: &mut Vec<u8>,

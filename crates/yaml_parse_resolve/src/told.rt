@@ -107,8 +107,7 @@ fn tell_no_alias(alloc: Global, event: &mut yaml_event_body_t)
 }
 
 // A sequence ends.
-// Out of line: in line the addresses of the slot's parts would be put aside in front of the loop over turns, for each event.
-#[inline(never)]
+// No hint: LLVM inlines it, since it is short.
 fn tell_sequence_end(token: &mut BodySlot, event: &mut yaml_event_body_t)
     ensures { body_of event.new ≡ told.sequence_end }
 {
@@ -130,8 +129,7 @@ fn sequence_end_over(token: &mut BodySlot, event: &mut yaml_event_body_t)
 }
 
 // A mapping ends.
-// Out of line: see `tell_sequence_end`.
-#[inline(never)]
+// No hint: see `tell_sequence_end`.
 fn tell_mapping_end(token: &mut BodySlot, event: &mut yaml_event_body_t)
     ensures { body_of event.new ≡ told.mapping_end }
 {

@@ -228,8 +228,7 @@ fn hand_out_name(from: &mut BodySlot, to: &mut BodySlot, spares: &mut Spares)
 }
 
 /// Moves what a body carries, but its kind and its style, from one slot to another.
-// Out of line: mostly it is one text, or less.
-#[inline(never)]
+// No hint: LLVM inlines it, since it is short.
 fn hand_out_rest(from: &mut BodySlot, to: &mut BodySlot, spares: &mut Spares)
     requires kind { to.old.kind ≡ from.old.kind }
     requires style { to.old.style ≡ from.old.style }

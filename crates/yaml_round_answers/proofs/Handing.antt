@@ -20,52 +20,29 @@ use Rattle.yaml_round_records.specs.declared.yaml_c_directive.{yaml_c_directive}
 use Rattle.yaml_round_answers.specs.declared.parsing.yaml_c_parsed.{yaml_c_parsed}
 use Rattle.yaml_round_records.specs.Records.{all_directives}
 use Rattle.yaml_round_records.specs.Blocks.{listed_directives}
-use Rattle.yaml_round_records.specs.Listing.{Collected, AreSaid, HoldsAll, events_alone}
+use Rattle.yaml_round_records.specs.Listing.{Collected, Collects, AreSaid, HoldsAll, events_alone}
 use Rattle.yaml_round_answers.specs.declared.answer.yaml_c_answer.{yaml_c_answer}
 use Rattle.yaml_round_answers.specs.Told.{TellsFaultIn, TellsMemory, TellsWant, RefusesIn}
 use Rattle.yaml_round_records.specs.Numbers.{error_number}
 use Rattle.yaml_round_answers.specs.Spelled.{spelled_text, is_memory, is_starved}
-use Rattle.yaml_round_answers.specs.Parses.{HasNothing, HandsOut, HandsOutUnless, SayEvents, SayFront, IsParsed, IsFront, TellsEvents, Parses, Fronts}
+use Rattle.yaml_round_answers.specs.Parses.{HasNothing, HandsOut, HandsOutUnless, SayEvents, SayFront, IsParsed, IsFront, EndsFront, TellsEvents, Parses, Fronts}
 use Rattle.yaml_round_answers.proofs.Refusing.{refused_answer_in}
 use Rattle.yaml_round_records.proofs.Saying.{say_at}
 
--- the events of a reading that has no fault are the input's
-pub all_taken : (from : yaml_encoding_t) (input : List ℕ) (p : ParserRemaining) (l : Listing)
-    → ReadsInput from input p → p.ending ≡ None
-    → Collected p.events [] l
-    → (ending_of from input ≡ None) × AreSaid l (events_alone (events_of from input))
-    × HoldsAll l (events_alone (events_of from input))
-all_taken from input p l r e c =
+-- what was collected of a reading is the input's
+front_taken : (from : yaml_encoding_t) (input : List ℕ) (p : ParserRemaining) (l : Listing)
+    → ReadsInput from input p → Collected p.events [] l → IsFront from input l
+front_taken from input p l r c =
     let all : events_alone (events_of from input) ≡ c.given = sym (ap events_alone r.events) ∙ c.split ∙ append-nil c.given in
-    (sym r.ending ∙ e, subst (λ z. AreSaid l z) (sym all) c.said, subst (λ z. HoldsAll l z) (sym all) c.holds)
+    (subst (λ z. AreSaid l z) (sym all) c.said, subst (λ z. HoldsAll l z) (sym all) c.holds)
 
--- its fault is the input's
-pub fault_taken : (from : yaml_encoding_t) (input : List ℕ) (p : ParserRemaining) (f : yaml_fault_t)
-    → ReadsInput from input p
-    → (l : Listing)
-    → IsMemoryFault parse_layers (fault_of f)
-    ⊎ ((p.ending ≡ Some (fault_of f)) × Collected p.events [] l)
-    → IsMemoryFault parse_layers (fault_of f) ⊎ (ending_of from input ≡ Some (fault_of f))
-fault_taken from input p f r l (inl m) = inl m
-fault_taken from input p f r l (inr e) = inr (sym r.ending ∙ e.0)
-
--- the events of a reading up to its end are the input's
-pub whole_taken : (from : yaml_encoding_t) (input : List ℕ) (p : ParserRemaining) (l : Listing)
-    → ReadsInput from input p → p.ending ≡ None
-    → Collected p.events [] l → (ending_of from input ≡ None) × IsFront from input l
-whole_taken from input p l r e c = let a = all_taken from input p l r e c in (a.0, (a.1, a.2))
-
--- the events of a reading up to its fault are the input's
-pub front_taken : (from : yaml_encoding_t) (input : List ℕ) (p : ParserRemaining) (f : yaml_fault_t)
-    (l : Listing) → ReadsInput from input p
-    → IsMemoryFault parse_layers (fault_of f)
-    ⊎ ((p.ending ≡ Some (fault_of f)) × Collected p.events [] l)
-    → IsMemoryFault parse_layers (fault_of f)
-    ⊎ ((ending_of from input ≡ Some (fault_of f)) × IsFront from input l)
-front_taken from input p f l r (inl m) = inl m
-front_taken from input p f l r (inr e) =
-    let all : events_alone (events_of from input) ≡ e.1.given = sym (ap events_alone r.events) ∙ e.1.split ∙ append-nil e.1.given in
-    inr (sym r.ending ∙ e.0, (subst (λ z. AreSaid l z) (sym all) e.1.said, subst (λ z. HoldsAll l z) (sym all) e.1.holds))
+-- the events of a reading up to its end or its fault are the input's
+pub front_ended : (from : yaml_encoding_t) (input : List ℕ) (p : ParserRemaining) (l : Listing)
+    (r : Result (Unit {0}) yaml_fault_t) → ReadsInput from input p → Collects p r l
+    → EndsFront from input r l
+front_ended from input p l (Ok done) r c = (sym r.ending ∙ c.0, front_taken from input p l r c.1)
+front_ended from input p l (Err f) r (inl m) = inl m
+front_ended from input p l (Err f) r (inr e) = inr (sym r.ending ∙ e.0, front_taken from input p l r e.1)
 
 pub front_fault : (from : yaml_encoding_t) (input : List ℕ) (f : yaml_fault_t) (l : Listing)
     → IsMemoryFault parse_layers (fault_of f)

@@ -49,11 +49,14 @@ Parses input p from = IsAnswered (OrMemory parse_layers (IsParsed from input))
 
 -- ---- what the code hands on
 
+-- the listing says the events in front of what ends the input, and nothing beside
+abbrev pub IsFront : yaml_encoding_t → List ℕ → Listing → Type 0
+IsFront from input l = AreSaid l (events_alone (events_of from input))
+    × HoldsAll l (events_alone (events_of from input))
+
 -- the listing says the input's events, and nothing beside; or its fault, or want of memory
 abbrev pub IsCollected : yaml_encoding_t → List ℕ → Result Listing yaml_fault_t → Type 0
-IsCollected from input (Ok l) = (ending_of from input ≡ None)
-    × AreSaid l (events_alone (events_of from input))
-    × HoldsAll l (events_alone (events_of from input))
+IsCollected from input (Ok l) = (ending_of from input ≡ None) × IsFront from input l
 IsCollected from input (Err f) = IsMemoryFault parse_layers (fault_of f)
     ⊎ (ending_of from input ≡ Some (fault_of f))
 
@@ -69,11 +72,6 @@ HandsOutUnless true text l p = HasNothing p
 HandsOutUnless false text l p = HandsOut text l p
 
 -- ---- events in front of a fault
-
--- the listing says the events in front of what ends the input, and nothing beside
-abbrev pub IsFront : yaml_encoding_t → List ℕ → Listing → Type 0
-IsFront from input l = AreSaid l (events_alone (events_of from input))
-    × HoldsAll l (events_alone (events_of from input))
 
 abbrev pub EndsFront : yaml_encoding_t → List ℕ → Result (Unit {0}) yaml_fault_t → Listing → Type 0
 EndsFront from input (Ok done) l = (ending_of from input ≡ None) × IsFront from input l

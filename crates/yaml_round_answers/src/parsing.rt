@@ -47,14 +47,31 @@ fn parser_of<'a>(
     }
 }
 
+// One function owns the parser of both calls.
+fn fronted(
+    alloc: Global,
+    input: &[u8],
+    from: yaml_encoding_t,
+    listing: &mut Listing,
+) -> Result<(), yaml_fault_t>
+    requires { StartsEmpty listing.old }
+    ensures { EndsFront from input.now result listing.new }
+{
+    match parser_of(alloc, input, from) {
+        Err(fault) => Err(fault),
+        Ok(mut reading) => {
+            let end = collect(&mut reading, listing);
+            yaml_parser_delete(reading);
+            end
+        }
+    }
+}
+
 fn collected(alloc: Global, input: &[u8], from: yaml_encoding_t) -> Result<Listing, yaml_fault_t>
     ensures { IsCollected from input.now result }
 {
-    let mut reading = parser_of(alloc, input, from)?;
     let mut listing = Listing::new(alloc);
-    let end = collect(&mut reading, &mut listing);
-    yaml_parser_delete(reading);
-    match end {
+    match fronted(alloc, input, from, &mut listing) {
         Ok(()) => Ok(listing),
         Err(fault) => Err(fault),
     }
@@ -180,24 +197,6 @@ pub fn parsed_by(
             *blocks = nothing();
             misused()
         }
-    }
-}
-
-fn fronted(
-    alloc: Global,
-    input: &[u8],
-    from: yaml_encoding_t,
-    listing: &mut Listing,
-) -> Result<(), yaml_fault_t>
-    requires { StartsEmpty listing.old }
-    ensures { EndsFront from input.now result listing.new }
-{
-    let mut reading = parser_of(alloc, input, from)?;
-    let end = collect(&mut reading, listing);
-    yaml_parser_delete(reading);
-    match end {
-        Ok(()) => Ok(()),
-        Err(fault) => Err(fault),
     }
 }
 

@@ -1,7 +1,9 @@
 //! The tokens of an input, as records.
 
-ghost use Rattle.std.specs.Prelude.{◌≡◌};
+ghost use Rattle.std.specs.Prelude.{◌≡◌, []};
+ghost use Rattle.yaml_scan.specs.Scanned.{scanned};
 ghost use Rattle.yaml_round_records.specs.Numbers.{encoding_meant};
+ghost use Rattle.yaml_round_records.specs.TokensListed.{ListsTokens, EndsListed};
 ghost use Rattle.yaml_round_answers.specs.Spelled.{spelled_text};
 ghost use Rattle.yaml_round_answers.specs.Told.{AnswersMeant, TellsMemory};
 ghost use Rattle.yaml_round_answers.specs.Scans.{HasNoToken, HandsOutTokens, HandsOutTokensUnless, Scans, NoTokenUnmeant};
@@ -11,7 +13,7 @@ use crate::spelled::{is_starved, spelled_text};
 use std::alloc::Global;
 use yaml_round::yaml_encoding_t;
 use yaml_round_records::{TokenListing, count_tokens, encoding_of, list_tokens, yaml_c_token};
-use yaml_scan::{yaml_memory_fault, yaml_origin_t};
+use yaml_scan::{yaml_fault_t, yaml_memory_fault, yaml_origin_t, yaml_parser_t};
 
 /// The tokens of an input, and the bytes that they speak of. Both are the caller's to free, where they have any item.
 #[repr(C)]
@@ -65,6 +67,26 @@ fn blocks_unless(cut_off: bool, text: &[u8], listing: TokenListing) -> yaml_c_sc
     }
 }
 
+// Lists the tokens of an input. The session is made and let go here, where the drops of one are written out for a parser's
+// source anyway.
+fn list_input(
+    alloc: Global,
+    input: &[u8],
+    from: yaml_encoding_t,
+    listing: &mut TokenListing,
+) -> Result<(), yaml_fault_t>
+    requires { ListsTokens [] listing.old }
+    ensures { EndsListed (scanned from input.now) result listing.new }
+{
+    let mut session = yaml_parser_t::new(alloc, input, from);
+    let end = list_tokens(&mut session, listing);
+    drop(session);
+    match end {
+        Ok(()) => Ok(()),
+        Err(fault) => Err(fault),
+    }
+}
+
 fn scanned_in(
     alloc: Global,
     input: &[u8],
@@ -76,7 +98,7 @@ fn scanned_in(
     ensures { Scans input.now blocks.new from result }
 {
     let mut listing = TokenListing::new(alloc);
-    let end = list_tokens(alloc, input, from, &mut listing);
+    let end = list_input(alloc, input, from, &mut listing);
     *blocks = blocks_unless(is_starved(&end), text, listing);
     match end {
         Ok(()) => said(0),

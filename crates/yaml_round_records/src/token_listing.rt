@@ -2,7 +2,6 @@
 
 ghost use Rattle.std.specs.Prelude.{◌≡◌, [], ◌++◌, length, pos, IfOk};
 ghost use Rattle.yaml_scan.specs.Tokens.{token_of};
-ghost use Rattle.yaml_scan.specs.Scanned.{scanned};
 ghost use Rattle.yaml_scan.specs.Session.{HasFirst};
 ghost use Rattle.yaml_round_records.specs.TokensListed.{ListsTokens, EndsListed, ListsNext, MakesRecord, Adds, with_value, with_both};
 
@@ -11,8 +10,8 @@ use crate::record::{mark_told, yaml_c_mark};
 use crate::token_record::{encoding_number, plain, style_number, yaml_c_token};
 use std::alloc::{AllocError, Global};
 use yaml_scan::{
-    yaml_encoding_t, yaml_fault_t, yaml_memory_fault, yaml_origin_t, yaml_parser_has_token,
-    yaml_parser_peek, yaml_parser_scan, yaml_parser_t, yaml_token_body_t, yaml_token_t,
+    yaml_fault_t, yaml_memory_fault, yaml_origin_t, yaml_parser_has_token, yaml_parser_peek,
+    yaml_parser_scan, yaml_parser_t, yaml_token_body_t, yaml_token_t,
 };
 
 /// Records, and the bytes of their texts.
@@ -147,8 +146,12 @@ fn list_next(session: &mut yaml_parser_t, listing: &mut TokenListing) -> Result<
     }
 }
 
-// The tokens of a session to its end, each of which is looked at before it is taken, so that the end is told.
-fn list_by(session: &mut yaml_parser_t, listing: &mut TokenListing) -> Result<(), yaml_fault_t>
+/// Lists the tokens of a session, in front of its end or of the fault that ends them, which is the answer. Where memory was
+/// refused, what is listed means nothing. Each is looked at before it is taken, so that the end is told.
+pub fn list_tokens(
+    session: &mut yaml_parser_t,
+    listing: &mut TokenListing,
+) -> Result<(), yaml_fault_t>
     requires { ListsTokens [] listing.old }
     ensures { EndsListed session.old.remaining result listing.new }
 {
@@ -164,25 +167,5 @@ fn list_by(session: &mut yaml_parser_t, listing: &mut TokenListing) -> Result<()
             Ok(()) => {}
             Err(fault) => return Err(fault),
         }
-    }
-}
-
-/// Lists the tokens of an input, in front of its end or of the fault that ends them, which is the answer. Where memory was
-/// refused, what is listed means nothing.
-pub fn list_tokens(
-    alloc: Global,
-    input: &[u8],
-    from: yaml_encoding_t,
-    listing: &mut TokenListing,
-) -> Result<(), yaml_fault_t>
-    requires { ListsTokens [] listing.old }
-    ensures { EndsListed (scanned from input.now) result listing.new }
-{
-    let mut session = yaml_parser_t::new(alloc, input, from);
-    let end = list_by(&mut session, listing);
-    drop(session);
-    match end {
-        Ok(()) => Ok(()),
-        Err(fault) => Err(fault),
     }
 }

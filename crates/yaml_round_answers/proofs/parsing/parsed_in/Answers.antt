@@ -10,7 +10,7 @@ pub returns-in-Ok-clause-told : goal.returns-in-Ok-clause-told
 returns-in-Ok-clause-told c = record {
   result = Ok (events_of c.args.from c.args.input.now);
   is = has_events c.args.from c.args.input.now (events_of c.args.from c.args.input.now) c.in-Ok.ensures.0 refl;
-  told = (c.said.ensures, says_in _ _ _ c.in-Ok.listing _ _ c.requires c.blocks_of.ensures c.in-Ok.ensures.1 c.in-Ok.ensures.2);
+  told = (c.said.ensures, says_in _ _ _ c.in-Ok.listing _ _ c.requires c.blocks_of.ensures c.in-Ok.ensures.1.0 c.in-Ok.ensures.1.1);
 }
 
 pub returns-in-Err-clause-told : goal.returns-in-Err-clause-told

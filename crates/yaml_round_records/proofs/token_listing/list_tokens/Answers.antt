@@ -1,7 +1,7 @@
 -- One more token is listed.
 use Rattle.std.proofs.Common.{rules, refl}
 use Rattle.yaml_round_records.proofs.TokensAdding.{one_listed}
-use Rattle.yaml_round_records.proofs.token_listing.list_by.Goals as goal
+use Rattle.yaml_round_records.proofs.token_listing.list_tokens.Goals as goal
 
 pub tokens-preserved : goal.tokens-preserved
 tokens-preserved c =

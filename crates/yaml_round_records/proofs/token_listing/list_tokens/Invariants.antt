@@ -1,7 +1,7 @@
 -- The tokens that were taken are listed.
 use Rattle.std.proofs.Common.{length}
 use Rattle.yaml_round_records.proofs.TokensAdding.{Listed}
-use Rattle.yaml_round_records.proofs.token_listing.list_by.Given as goal
+use Rattle.yaml_round_records.proofs.token_listing.list_tokens.Given as goal
 
 abbrev pub invariant-tokens : goal.invariant-tokens
 invariant-tokens l = Listed l.fn.session.remaining l.session.remaining l.listing

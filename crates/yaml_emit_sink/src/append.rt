@@ -1,6 +1,6 @@
 //! Bytes at the end of the output.
 
-ghost use Rattle.std.specs.Prelude.{◌≡◌, ◌<◌, ◌≤◌, ◌+◌, ◌^◌, [], ◌∷◌, ◌++◌, length, replicate, if◌then◌else◌, IfSome, OnOk, OnErr, true};
+ghost use Rattle.std.specs.Prelude.{◌≡◌, ◌<◌, ◌≤◌, ◌+◌, ◌^◌, ◌++◌, length, replicate, if◌then◌else◌, OnOk, OnErr, true};
 ghost use Rattle.yaml_types.specs.Ascii as ascii;
 ghost use Rattle.std.specs.Vec.{vec_capacity};
 ghost use Rattle.yaml_emit_sink.specs.Appends.{AppendsBy, moved, indented, blanked, lettered};
@@ -32,26 +32,6 @@ pub(crate) fn append(output: &mut Vec<u8>, limit: u64, bytes: &[u8]) -> Status
             Ok(_) => Status::Full,
             Err(_) => Status::Starved,
         }
-    }
-}
-
-// This byte, as far as the limit and the memory allow: most characters are one.
-// Inlined: one push where room is known.
-#[inline(always)]
-fn append_byte(output: &mut Vec<u8>, limit: u64, byte: u8) -> Status
-    requires { length output.old.items ≤ limit }
-    ensures bytes { AppendsBy result limit output.old.items output.new.items (byte ∷ []) }
-    ensures within { length output.new.items ≤ limit }
-    ensures room { vec_capacity output.old ≤ vec_capacity output.new }
-    ensures longer { length output.old.items ≤ length output.new.items }
-    ensures going { result ≡ Status.Going → length output.new.items ≡ length output.old.items + 1 }
-{
-    if output.len() as u64 == limit {
-        return Status::Full;
-    }
-    match output.push(byte) {
-        Ok(()) => Status::Going,
-        Err(_) => Status::Starved,
     }
 }
 
@@ -119,24 +99,8 @@ pub(crate) fn lettered(at: &mut Cursor, count: u64)
     at.bare = false;
 }
 
-// A character's byte, where it is one.
-// Inlined: asked of each character.
-#[inline(always)]
-#[tactic(auto, unfolding(crate::specs::Text::char_bytes))]
-fn one_byte(encoding: Encoding, c: char) -> Option<u8>
-    ensures { IfSome result (λ b. char_bytes encoding c ≡ b ∷ []) }
-{
-    match encoding {
-        Encoding::Utf8 => {
-            let n = c as u32;
-            if n < 0x80 { Some(n as u8) } else { None }
-        }
-        _ => None,
-    }
-}
-
 // A character's bytes, as far as the limit and the memory allow.
-// Inlined: most characters are one byte, for which there is room.
+// Inlined into what is called out of line.
 #[inline(always)]
 pub(crate) fn append_char(output: &mut Vec<u8>, limit: u64, encoding: Encoding, c: char) -> Status
     requires { length output.old.items ≤ limit }
@@ -147,13 +111,8 @@ pub(crate) fn append_char(output: &mut Vec<u8>, limit: u64, encoding: Encoding, 
     ensures longer { length output.old.items ≤ length output.new.items }
     ensures going { result ≡ Status.Going → length output.old.items < length output.new.items }
 {
-    match one_byte(encoding, c) {
-        Some(byte) => append_byte(output, limit, byte),
-        None => {
-            let (bytes, count) = bytes_of(encoding, c);
-            append(output, limit, &bytes[..count])
-        }
-    }
+    let (bytes, count) = bytes_of(encoding, c);
+    append(output, limit, &bytes[..count])
 }
 
 // A column further, or at the start of a line.

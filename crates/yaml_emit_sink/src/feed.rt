@@ -234,22 +234,7 @@ pub fn put_line_with(output: &mut Vec<u8>, start: &LineStart, front: &[u8])
     put_back(output, own);
 }
 
-// The first of some spaces: all are put at once, and what is too much is cut off.
-// Inlined: how many they are is known.
-#[inline(always)]
-fn put_some(output: &mut Vec<u8>, blanks: &[u8], count: u64)
-    requires blanks { blanks.now ≡ replicate (length blanks.now) ascii.space }
-    requires inside { vec_len output.old + length blanks.now ≤ vec_capacity output.old }
-    requires few { count ≤ length blanks.now }
-    ensures items { output.new.items ≡ output.old.items ++ replicate count ascii.space }
-    ensures room { vec_capacity output.old ≤ vec_capacity output.new }
-{
-    let from = output.len();
-    put_each(output, blanks);
-    output.truncate(from + count as usize);
-}
-
-/// At most sixteen spaces, where there is room for sixteen.
+/// At most sixteen spaces, where there is room for sixteen: all are put at once, and what is too much is cut off.
 pub fn put_few_blanks(output: &mut Vec<u8>, count: u64)
     requires inside { vec_len output.old + 16 ≤ vec_capacity output.old }
     requires few { count ≤ 16 }
@@ -257,6 +242,8 @@ pub fn put_few_blanks(output: &mut Vec<u8>, count: u64)
     ensures room { vec_capacity output.old ≤ vec_capacity output.new }
 {
     let mut own = moved(output);
-    put_some(&mut own, &BLANKS, count);
+    let from = own.len();
+    put_each(&mut own, &BLANKS);
+    own.truncate(from + count as usize);
     put_back(output, own);
 }

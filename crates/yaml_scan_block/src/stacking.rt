@@ -1,6 +1,6 @@
 //! The value of a block scalar, made from the front.
 
-ghost use Rattle.std.specs.Prelude.{◌≡◌, List, [], ◌∷◌, ◌++◌, ◌&&◌, not, false, true, if◌then◌else◌, OnOk, IfOk};
+ghost use Rattle.std.specs.Prelude.{◌≡◌, List, [], ◌∷◌, ◌++◌, ◌&&◌, not, false, if◌then◌else◌, OnOk, IfOk};
 ghost use Rattle.yaml_scan_block.specs.Value as spec;
 ghost use Rattle.yaml_scan_block.specs.Value.{BlockLine, Empty, Words, block_value};
 ghost use Rattle.yaml_scan_model.specs.Breaks.{is_feed};

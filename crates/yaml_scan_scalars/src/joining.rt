@@ -1,7 +1,7 @@
 //! A plain scalar, made from the front.
 
-ghost use Rattle.std.specs.Prelude.{◌≡◌, ◌≤◌, List, [], ◌∷◌, ◌<◌, ℕ, length, take, true, false, OnOk, IfOk};
-ghost use Rattle.yaml_scan_scalars.specs.Pieces.{Piece, Kept, Blank, Break, value};
+ghost use Rattle.std.specs.Prelude.{◌≡◌, ◌≤◌, ◌∷◌, ◌<◌, ℕ, length, take, true, false, OnOk, IfOk};
+ghost use Rattle.yaml_scan_scalars.specs.Pieces.{Kept, Blank, Break, value};
 ghost use Rattle.yaml_scan_scalars.specs.Plain.{Words, plain_text, with_piece};
 ghost use Rattle.yaml_scan_scalars.specs.Joined.{joined};
 ghost use Rattle.yaml_scan_scalars.specs.declared.folding.Gap.TheVariants as gaps;

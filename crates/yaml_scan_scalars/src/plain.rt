@@ -3,7 +3,7 @@
 ghost use Rattle.std.specs.Prelude.{◌≡◌, ◌+◌, ◌-◌, ◌||◌, ◌&&◌, ◌==◌, nat_lt, ◌<◌, ◌≤◌, ℕ, suc, true, false, [], length, OnOk, Ok};
 ghost use Rattle.yaml_scan_model.specs.Ascii as ascii;
 ghost use Rattle.yaml_scan_model.specs.Spares.{HoldsAt};
-ghost use Rattle.yaml_scan_model.specs.Marks.{byte, break_width, ends_break, mark_at};
+ghost use Rattle.yaml_scan_model.specs.Marks.{byte, break_width, mark_at};
 ghost use Rattle.yaml_scan_model.specs.Wrong.{refused};
 ghost use Rattle.yaml_scan_scalars.specs.Plain as spec;
 ghost use Rattle.yaml_scan_scalars.specs.Joined.{IsJoining, RanPlain, Steps, ReadsPlain, TookWords};

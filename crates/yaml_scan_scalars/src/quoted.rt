@@ -1,9 +1,8 @@
 //! Double and single quoted scalars (YAML 1.1, sections 9.1.1 and 9.1.2).
 
-ghost use Rattle.std.specs.Prelude.{◌≡◌, ◌+◌, ◌-◌, ◌<◌, ◌&&◌, ◌==◌, ◌⊎◌, true, false, not, List, ◌++◌, length, OnOk, IfOk};
+ghost use Rattle.std.specs.Prelude.{◌≡◌, ◌+◌, ◌-◌, ◌<◌, ◌&&◌, ◌==◌, ◌⊎◌, true, false, not, List, ◌++◌, OnOk};
 ghost use Rattle.yaml_scan_model.specs.Ascii as ascii;
-ghost use Rattle.yaml_scan_model.specs.Spares.{HoldsAt};
-ghost use Rattle.yaml_scan_model.specs.Marks.{byte, mark_at};
+ghost use Rattle.yaml_scan_model.specs.Marks.{byte};
 ghost use Rattle.yaml_scan_model.specs.Wrong.{refused};
 ghost use Rattle.yaml_scan_model.specs.declared.record.yaml_mark_t.{yaml_mark_t};
 ghost use Rattle.yaml_scan_scalars.specs.Quoted as spec;

@@ -1,8 +1,8 @@
 //! Directives.
 
-ghost use Rattle.std.specs.Prelude.{◌≡◌, ◌≢◌, ◌≤◌, ◌+◌, ◌==◌, ◌&&◌, ◌||◌, true, ℕ, length};
+ghost use Rattle.std.specs.Prelude.{◌≡◌, ◌≢◌, ◌≤◌, ◌+◌, ◌==◌, ◌&&◌, ◌||◌};
 ghost use Rattle.yaml_scan_model.specs.Ascii as ascii;
-ghost use Rattle.yaml_scan_model.specs.Marks.{byte, break_width, mark_at};
+ghost use Rattle.yaml_scan_model.specs.Marks.{byte, mark_at};
 ghost use Rattle.yaml_scan_words.specs.Directives as spec;
 ghost use Rattle.yaml_scan_words.specs.Readings.{ReadsAs};
 ghost use Rattle.yaml_scan_words.specs.DirectivesGiven.{IsDirective, IsName, IsSaid, IsEnd, name_of};

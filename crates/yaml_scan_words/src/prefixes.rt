@@ -1,7 +1,6 @@
 //! The handle and prefix of a `%TAG` directive.
 
-ghost use Rattle.std.specs.Prelude.{◌≡◌, ◌+◌, ◌≤◌, true, ℕ, length};
-ghost use Rattle.yaml_scan_model.specs.Marks.{byte};
+ghost use Rattle.std.specs.Prelude.{◌≡◌, ◌+◌, ◌≤◌, true};
 ghost use Rattle.yaml_scan_words.specs.Directives as spec;
 ghost use Rattle.yaml_scan_words.specs.Readings.{ReadsAs, IsBytes, behind_bytes};
 ghost use Rattle.yaml_scan_words.specs.DirectivesGiven.{IsSaid};

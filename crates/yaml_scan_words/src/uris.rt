@@ -1,12 +1,11 @@
 //! The URIs of tags and prefixes, with their escapes.
 
-ghost use Rattle.std.specs.Prelude.{◌≡◌, ◌+◌, ◌≤◌, ◌<◌, true, false, ℕ, length, IfSome, IsSome};
+ghost use Rattle.std.specs.Prelude.{◌≡◌, ◌+◌, ◌≤◌, ◌<◌, IfSome, IsSome};
 ghost use Rattle.yaml_scan_model.specs.Ascii as ascii;
 ghost use Rattle.yaml_scan_model.specs.Marks.{byte};
 ghost use Rattle.yaml_scan_words.specs.Uris as spec;
 ghost use Rattle.yaml_scan_words.specs.Readings.{ReadsAs, IsBytes, behind_bytes};
 ghost use Rattle.yaml_scan_words.specs.Spelt.{spot_of};
-ghost use Rattle.yaml_scan_words.specs.Written.{is_kept};
 
 use crate::run::{copied_since, leap_over, skip_indicator, stands_in_uri};
 use crate::word::refusal;

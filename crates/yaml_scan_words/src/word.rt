@@ -1,8 +1,7 @@
 //! The words that are read.
 
 ghost use Rattle.std.specs.Prelude.{◌≡◌};
-ghost use Rattle.yaml_scan_model.specs.Marks.{mark_at};
-ghost use Rattle.yaml_scan_model.specs.Wrong.{Wrong, scan_fault};
+ghost use Rattle.yaml_scan_model.specs.Wrong.{scan_fault};
 
 use yaml_scan_model::{Context, Problem, Reader, ScanError, ScanFault, yaml_mark_t};
 

@@ -1,6 +1,6 @@
 -- What a step with its item resolved owes.
 use Rattle.std.proofs.Common.{◌≡◌, ◌⊎◌, ◌+◌, ◌<◌, ◌≤◌, arith, ℕ, inl, inr, Bool, true, false, List, [], ◌∷◌, length, Option, Some, None, refl, sym, ap, subst, ◌∙◌}
-use Rattle.yaml_parse_step.proofs.Words.{Parser, yaml_mark_t, Token, Fault, memory_fault, IsMemoryFault, scan_layers, HasMore, Told, Event, EventBody, RawEvent, RawEventBody, State, Given, given_of, Outcome, run, initial, Stands, Directives, no_directives, Settled, gave, noted, settle, placed, unasked_at_fault, ParserRemaining, parser_remaining, reading_of, unasked_of, waiting, IsFinished, next_unasked, Raw, outcome, stop_of, IsDirective, GivesItem, GivesNoItem, IsRefused, IsSilent, GivesNext, GivesEnd}
+use Rattle.yaml_parse_step.proofs.Words.{Parser, yaml_mark_t, Token, Fault, memory_fault, IsMemoryFault, scan_layers, HasMore, Told, Event, EventBody, RawEvent, RawEventBody, State, Given, given_of, Outcome, run, initial, Stands, Directives, no_directives, Settled, gave, noted, settle, placed, unasked_at_fault, ParserRemaining, parser_remaining, reading_of, waiting, IsFinished, next_unasked, Raw, outcome, stop_of, IsDirective, GivesItem, GivesNoItem, IsRefused, IsSilent, GivesNext, GivesEnd}
 use Rattle.yaml_parse_grammar.specs.Items as item
 use Rattle.yaml_parse_model.specs.Events.{TagDirective}
 use Rattle.yaml_parse_grammar.specs.Trees.{Stream, spell}

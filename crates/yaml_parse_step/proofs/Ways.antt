@@ -1,6 +1,6 @@
 -- What a turn with its item resolved is to what is to come.
 use Rattle.std.proofs.Common.{◌≡◌, ◌∙◌, ◌+◌, ◌<◌, ◌≤◌, ℕ, inl, inr, Bool, true, false, List, [], ◌∷◌, length, arith, Option, Some, None, refl, sym, subst}
-use Rattle.yaml_parse_step.proofs.Words.{Token, Fault, Event, State, Outcome, run, unasked_at_stop, Stands, Directives, unasked_at_fault, parser_remaining, is_between, waiting, reading_of, next_unasked, IsStack, IsUtf8Token, IsUtf8Held, is_nothing, Step, raw, IsFront, HasNoFront, IsSilent, IsRealOn, Raw, Went, WentOn, StepBuffers, peeked_of, states_in}
+use Rattle.yaml_parse_step.proofs.Words.{Token, Fault, Event, State, Outcome, run, unasked_at_stop, Stands, Directives, unasked_at_fault, parser_remaining, is_between, waiting, reading_of, next_unasked, IsStack, IsUtf8Token, IsUtf8Held, is_nothing, Step, raw, IsFront, HasNoFront, IsRealOn, Raw, Went, WentOn, StepBuffers, peeked_of, states_in}
 use Rattle.yaml_parse_model.specs.Source as source
 use Rattle.yaml_parse_laws_trees.proofs.Falling.{next_behind, ended_next}
 use Rattle.yaml_parse_step.specs.declared.step.Step.TheVariants as code

@@ -52,38 +52,30 @@ pub handed_event : (k : yaml_found_t) (e : Event) (f told : Fault)
     (r : Result yaml_event_t yaml_fault_t) (o n : ParserRemaining) → Finds o k e f n
     → HandsOut k e told r → IfOk r (λ x. EventOf o (event_of x) n)
 handed_event found.Event e f told (Ok x) o n g h = event_found e (event_of x) o n g h
-handed_event found.Event e f told (Err t) o n g h = tt
 handed_event found.Refused e f told (Ok x) o n g h = absurd h
-handed_event found.Refused e f told (Err t) o n g h = tt
 handed_event found.End e f told (Ok x) o n g h = end_found (event_of x) o n g h
-handed_event found.End e f told (Err t) o n g h = tt
+handed_event k e f told (Err t) o n g h = tt
 
 pub handed_fault : (k : yaml_found_t) (e given : Event) (f : Fault)
     (r : Result yaml_event_t yaml_fault_t) (o n : ParserRemaining) → Finds o k e f n
     → HandsOut k given f r → IfErr r (λ x. FaultOf o (fault_of x) n)
-handed_fault found.Event e given f (Ok x) o n g h = tt
 handed_fault found.Event e given f (Err t) o n g h = absurd h
-handed_fault found.Refused e given f (Ok x) o n g h = tt
 handed_fault found.Refused e given f (Err t) o n g h = subst (λ (z : Fault). FaultOf o z n) (sym h) g
-handed_fault found.End e given f (Ok x) o n g h = tt
 handed_fault found.End e given f (Err t) o n g h = absurd h
+handed_fault k e given f (Ok x) o n g h = tt
 
 pub handed_utf8 : (k : yaml_found_t) (e : Event) (f : Fault) (r : Result yaml_event_t yaml_fault_t)
     → IsUtf8Found k e → HandsOut k e f r → IfOk r (λ x. HasUtf8 (event_of x).body)
 handed_utf8 found.Event e f (Ok x) u h = subst (λ (z : Event). HasUtf8 z.body) (sym h) u
-handed_utf8 found.Event e f (Err t) u h = tt
 handed_utf8 found.Refused e f (Ok x) u h = absurd h
-handed_utf8 found.Refused e f (Err t) u h = tt
 handed_utf8 found.End e f (Ok x) u h = subst (λ (z : Event). HasUtf8 z.body) (sym h) tt
-handed_utf8 found.End e f (Err t) u h = tt
+handed_utf8 k e f (Err t) u h = tt
 
 pub handed_between : (k : yaml_found_t) (e : Event) (f told : Fault)
     (r : Result yaml_event_t yaml_fault_t) (o n : ParserRemaining) → Finds o k e f n
     → IsStackFound k e n.between → HandsOut k e told r
     → IfOk r (λ x. n.between ≡ parts_documents_behind (event_of x).body)
 handed_between found.Event e f told (Ok x) o n g b h = subst (λ (z : Event). n.between ≡ parts_documents_behind z.body) (sym h) b
-handed_between found.Event e f told (Err t) o n g b h = tt
 handed_between found.Refused e f told (Ok x) o n g b h = absurd h
-handed_between found.Refused e f told (Err t) o n g b h = tt
 handed_between found.End e f told (Ok x) o n g b h = subst (λ (z : Event). n.between ≡ parts_documents_behind z.body) (sym h) g.nothing.finished.between
-handed_between found.End e f told (Err t) o n g b h = tt
+handed_between k e f told (Err t) o n g b h = tt

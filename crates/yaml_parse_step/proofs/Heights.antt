@@ -28,14 +28,7 @@ open_stands x t s s' c e h =
 pub cleared_stands : (s : List State) → s ≡ [] → Unit {0} × IsStack s
 cleared_stands s e = (tt, subst IsStack (sym e) tt)
 
-pub silent_stands : (s : List State) → IsStack s → Unit {0} × IsStack s
-silent_stands s h = (tt, h)
-
 pub event_stands : (s : List State) (ds ds' : Directives) (i : RawEvent) (body : EventBody)
     → settle i ds ≡ gave body ds' → IsStack s × StandsBehind i.body (is_between s)
     → (is_between s ≡ parts_documents_behind body) × IsStack s
 event_stands s ds ds' i body e h = (subst (λ (c : Settled). SettledBehind c (is_between s)) e (settled_behind i.body i.from ds (is_between s) h.1), h.0)
-
-pub noted_stands : (s : List State) (i : RawEvent) → IsStack s × StandsBehind i.body (is_between s)
-    → Unit {0} × IsStack s
-noted_stands s i h = (tt, h.0)

@@ -161,7 +161,3 @@ fed_asked i o n n' l e f k h u =
     let a = unasked_first i o l k (more_of o.events n.events (e, n.unasked) o.ending h.events) in
     let b = next_of o.events n.events (e, n.unasked) o.ending_unasked h.events in
     inr (omega (arith, a, b, u))
-
--- ---- behind a document
-
--- ---- events alone

@@ -20,9 +20,7 @@ use Rattle.yaml_parse_step.specs.Steps.{budget, Steps, IsReal}
 directive_stands : (b : RawEventBody) (P : Type 0) → Voiced b P → IsDirective b → P
 directive_stands (item.version_directive x y) P h d = h
 directive_stands (item.tag_directive x y) P h d = h
-directive_stands (item.event e) P h d = absurd d
-directive_stands (item.document i) P h d = absurd d
-directive_stands (item.node a t s) P h d = absurd d
+directive_stands b P h d = absurd d
 
 -- ---- the token of the source
 

@@ -51,9 +51,9 @@ pub cleared_utf8 : (peeked : Option Token) (s : List State) (ds : Directives) �
     → Unit {0} × IsUtf8Held peeked s ds
 cleared_utf8 peeked s ds e = (tt, subst (λ (z : List State). IsUtf8Held peeked z ds) (sym e) tt)
 
-pub silent_utf8 : (peeked : Option Token) (s : List State) (ds : Directives)
-    → IsUtf8Token peeked × (AreUtf8States s × AreUtf8 ds.tags) → Unit {0} × IsUtf8Held peeked s ds
-silent_utf8 peeked s ds h = (tt, held_utf8 peeked s ds h.0 h.1.0 h.1.1)
+pub silent_utf8 : (peeked : Option Token) (s : List State) (ds ds' : Directives) → ds' ≡ ds
+    → IsUtf8Token peeked × (AreUtf8States s × AreUtf8 ds.tags) → Unit {0} × IsUtf8Held peeked s ds'
+silent_utf8 peeked s ds ds' e h = (tt, subst (IsUtf8Held peeked s) (sym e) (held_utf8 peeked s ds h.0 h.1.0 h.1.1))
 
 pub event_utf8 : (peeked : Option Token) (s : List State) (ds ds' : Directives) (i : RawEvent)
     (body : EventBody) → settle i ds ≡ gave body ds'

@@ -1,7 +1,8 @@
 -- What a step with its item resolved owes.
 use Rattle.std.proofs.Common.{◌≡◌, ◌⊎◌, ◌+◌, ◌<◌, ◌≤◌, arith, ℕ, inl, inr, Bool, true, false, List, [], ◌∷◌, length, Option, Some, None, refl, sym, ap, subst, ◌∙◌}
-use Rattle.yaml_parse_step.proofs.Words.{Parser, yaml_mark_t, Token, Fault, memory_fault, IsMemoryFault, scan_layers, HasMore, Told, Event, EventBody, RawEvent, RawEventBody, State, Given, given_of, Outcome, run, initial, Stands, Directives, no_directives, Settled, gave, noted, settle, placed, unasked_at_fault, ParserRemaining, parser_remaining, reading_of, unasked_of, waiting, IsFinished, next_unasked, Raw, outcome, stop_of, IsDirective, GivesItem, GivesNoItem, IsRefused, IsSilent, GivesNext, GivesEnd}
+use Rattle.yaml_parse_step.proofs.Words.{Parser, yaml_mark_t, Token, Fault, memory_fault, IsMemoryFault, scan_layers, HasMore, Told, Event, EventBody, RawEvent, RawEventBody, State, Given, given_of, Outcome, run, initial, Stands, Directives, no_directives, Settled, gave, noted, settle, placed, unasked_at_fault, ParserRemaining, parser_remaining, reading_of, waiting, IsFinished, next_unasked, Raw, outcome, stop_of, IsDirective, GivesItem, GivesNoItem, IsRefused, IsSilent, GivesNext, GivesEnd}
 use Rattle.yaml_parse_grammar.specs.Items as item
+use Rattle.yaml_parse_model.specs.Events.{TagDirective}
 use Rattle.yaml_parse_grammar.specs.Trees.{Stream, spell}
 use Rattle.yaml_parse_grammar.specs.Resolve.{refused, settle_body, resolved, read_on, reading, Reading, unasked_on}
 use Rattle.yaml_parse_grammar.specs.Remaining.{held_of}
@@ -59,10 +60,8 @@ pub noted_directive : (b : RawEventBody) (from : yaml_mark_t) (ds ds' : Directiv
     → settle_body b from ds ≡ noted ds' → IsDirective b
 noted_directive (item.version_directive x y) from ds ds' e = tt
 noted_directive (item.tag_directive x y) from ds ds' e = tt
-noted_directive (item.event b) from ds ds' e = cc
-noted_directive (item.document i) from ds ds' e = cc
-noted_directive (item.node a None shape) from ds ds' e = cc
 noted_directive (item.node a (Some t) shape) from ds ds' e = not_noted (resolved ds.tags t.handle t.suffix) a shape from t.mark ds ds' e
+noted_directive b from ds ds' e = cc
 
 -- ---- nothing to come
 
@@ -113,10 +112,10 @@ silent_by old new ds ds' answered e u l h = record {
   speaks = λ p q. still_speaks new ds' h (ap (λ (r : Reading). r.events) (sym e) ∙ p) (ap (λ (r : Reading). r.ending) (sym e) ∙ q);
 }
 
-pub silent_turn : (old new : Raw) (ds : Directives) (answered : Fault) → GivesNoItem old new
-    → IsSilent (of_raw old ds answered) (of_raw new ds answered)
-silent_turn old new ds answered h =
-    silent_by old new ds ds answered (ap (λ (o : Outcome). reading_of o ds) h.same) (silent_unasked old new ds h) h.less h.stands
+pub silent_turn : (old new : Raw) (ds ds' : Directives) (answered : Fault) → GivesNoItem old new
+    → ds' ≡ ds → IsSilent (of_raw old ds answered) (of_raw new ds' answered)
+silent_turn old new ds ds' answered h e =
+    silent_by old new ds ds' answered (ap (λ (o : Outcome). reading_of o ds) h.same ∙ ap (reading_of (outcome new)) (sym e)) (silent_unasked old new ds h ∙ ap (fault_of_raw new) (sym e)) h.less h.stands
 
 pub noted_turn : (old new : Raw) (ds ds' : Directives) (answered : Fault) (i : RawEvent)
     → GivesItem i old new → settle i ds ≡ noted ds'
@@ -188,36 +187,22 @@ done_turn old new ds answered h = record {
 -- ---- the beginning
 
 -- A stream's tokens read from the start are what its tree gives.
-pub starts : (ts : List Token) (f : Option Fault) (s : List State) (ds : Directives) (t : Stream)
-    (rest : List Token) → s ≡ initial → ds ≡ no_directives → ts ≡ spell t rest
-    → ((reading_of (run ts s f) ds).events
-    ≡ (reading (given_of t (length rest)) None no_directives).events)
-    × ((reading_of (run ts s f) ds).ending
-    ≡ (reading (given_of t (length rest)) None no_directives).ending)
-starts ts f s ds t rest e d h =
-    let o : run ts s f ≡ record { items = given_of t (length rest); ending = None } =
-    ap (λ (z : List State). run ts z f) e
-    ∙ ap (λ (us : List Token). run us initial f) h
+pub starts : (ts : List Token) (f : Option Fault) (t : Stream) (rest : List Token)
+    → ts ≡ spell t rest
+    → reading_of (run ts initial f) no_directives
+    ≡ reading (given_of t (length rest)) None no_directives
+starts ts f t rest h =
+    ap (λ (o : Outcome). reading_of o no_directives)
+    (ap (λ (us : List Token). run us initial f) h
     ∙ stream_runs t rest f
-    ∙ ap (λ (gs : List Given). let o : Outcome = record { items = gs; ending = None } in o) (items_given t rest) in
-    let r : reading_of (run ts s f) ds ≡ reading (given_of t (length rest)) None no_directives = ap (reading_of (run ts s f)) d ∙ ap (λ (o : Outcome). reading_of o no_directives) o
-    in (ap (λ (x : Reading). x.events) r, ap (λ (x : Reading). x.ending) r)
+    ∙ ap (λ (gs : List Given). let o : Outcome = record { items = gs; ending = None } in o) (items_given t rest))
 
--- Tokens read from the start are read as a parser's that has begun.
-pub starts_anywhere : (ts : List Token) (f : Option Fault) (s : List State) (ds : Directives)
-    → s ≡ initial → ds ≡ no_directives
-    → ((reading_of (run ts s f) ds).events ≡ (reading_of (run ts initial f) no_directives).events)
-    × ((reading_of (run ts s f) ds).ending ≡ (reading_of (run ts initial f) no_directives).ending)
-starts_anywhere ts f s ds e d =
-    let r : reading_of (run ts s f) ds ≡ reading_of (run ts initial f) no_directives =
-    ap (λ (z : List State). reading_of (run ts z f) ds) e ∙ ap (reading_of (run ts initial f)) d
-    in (ap (λ (x : Reading). x.events) r, ap (λ (x : Reading). x.ending) r)
-
--- How many tokens are left unasked is counted from the start.
-pub starts_unasked : (ts : List Token) (f : Option Fault) (s : List State) (ds : Directives)
-    → s ≡ initial → ds ≡ no_directives
-    → unasked_of ts f s ds ≡ unasked_of ts f initial no_directives
-starts_unasked ts f s ds e d = ap (λ (z : List State). unasked_of ts f z ds) e ∙ ap (unasked_of ts f initial) d
+-- What a parser that begins is to give is what its tokens give from the start.
+pub began : {A : Type 0} (come : List State → Directives → A) (s : List State)
+    (tags : List TagDirective) → s ≡ initial → tags ≡ []
+    → come s (record { version = None; tags = tags }) ≡ come initial no_directives
+began come s tags e d =
+    ap (λ (z : List State). come z (record { version = None; tags = tags })) e ∙ ap (λ (xs : List TagDirective). come initial (record { version = None; tags = xs })) d
 
 -- ---- the token that is held
 

@@ -1,6 +1,6 @@
 -- What a turn with its item resolved is to what is to come.
 use Rattle.std.proofs.Common.{◌≡◌, ◌∙◌, ◌+◌, ◌<◌, ◌≤◌, ℕ, inl, inr, Bool, true, false, List, [], ◌∷◌, length, arith, Option, Some, None, refl, sym, subst}
-use Rattle.yaml_parse_step.proofs.Words.{Token, Fault, Event, State, Outcome, run, unasked_at_stop, Stands, Directives, unasked_at_fault, parser_remaining, is_between, waiting, reading_of, next_unasked, IsStack, IsUtf8Token, IsUtf8Held, is_nothing, Step, raw, IsFront, HasNoFront, IsSilent, IsRealOn, Went, WentOn, StepBuffers, peeked_of, states_in}
+use Rattle.yaml_parse_step.proofs.Words.{Token, Fault, Event, State, Outcome, run, unasked_at_stop, Stands, Directives, unasked_at_fault, parser_remaining, is_between, waiting, reading_of, next_unasked, IsStack, IsUtf8Token, IsUtf8Held, is_nothing, Step, raw, IsFront, HasNoFront, IsRealOn, Raw, Went, WentOn, StepBuffers, peeked_of, states_in}
 use Rattle.yaml_parse_model.specs.Source as source
 use Rattle.yaml_parse_laws_trees.proofs.Falling.{next_behind, ended_next}
 use Rattle.yaml_parse_step.specs.declared.step.Step.TheVariants as code
@@ -11,9 +11,9 @@ use Rattle.yaml_parse_resolve.specs.Settles.{directives_of}
 use Rattle.yaml_parse_step.specs.Moves.{TakesTurn}
 use Rattle.yaml_parse_step.specs.Turned.{Turned, turned}
 use Rattle.yaml_parse_step.proofs.Moves.{over_front}
-use Rattle.yaml_parse_step.proofs.Turning.{event_turn, silent_turn, noted_turn, noted_directive, turns_behind, refused_turn, unsettled_turn, AskedFor}
+use Rattle.yaml_parse_step.proofs.Turning.{of_raw, event_turn, silent_turn, noted_turn, noted_directive, turns_behind, refused_turn, unsettled_turn, AskedFor}
 use Rattle.yaml_parse_step.proofs.Texts.{advance_utf8, silent_utf8, event_utf8, noted_utf8, cleared_utf8}
-use Rattle.yaml_parse_step.proofs.Heights.{silent_stands, event_stands, noted_stands, cleared_stands}
+use Rattle.yaml_parse_step.proofs.Heights.{event_stands, cleared_stands}
 
 pub over_empty : (s : List State) → is_nothing s ≡ true → s ≡ []
 over_empty [] e = refl
@@ -56,50 +56,43 @@ no_front_asked peeked ts f s rest ds g h = elim h.reason [
   ]
 ]
 
-pub went_turns : (peeked : Option Token) (ts : List Token) (f : Option Fault) (s : List State)
-    (t : Token) (rest : List Token) (after : Option Fault) (ds : Directives) (r : Step) (e : Event)
-    (g : Fault)
-    (held : Option Token) (new : List State) (behind : Directives) (answered : Fault)
-    → is_nothing s ≡ false → IsFront peeked ts f t rest after → Went s t ds r e g held new behind
-    → Turns (parser_remaining peeked ts f s ds answered) (turned r e g)
-    (parser_remaining held rest after new behind answered)
-went_turns peeked ts f s t rest after ds code.Given e g held new behind answered z k h =
-    event_turn (raw peeked ts f s) (raw held rest after new) ds behind answered h.item e.body e
-    (over_front peeked ts f s t rest after (raw held rest after new) (step.given h.item) z k (h.moves.gives rest after) h.moves.real) h.settles h.placed
-went_turns peeked ts f s t rest after ds code.Silent e g held new behind answered z k (inl m) =
-    subst (λ (x : Option Token). IsSilent (parser_remaining peeked ts f s ds answered) (parser_remaining x rest after new behind answered)) (sym m.1)
-    (subst (λ (d : Directives). IsSilent (parser_remaining peeked ts f s ds answered) (parser_remaining None rest after new d answered)) (sym m.2)
-    (silent_turn (raw peeked ts f s) (raw None rest after new) ds answered (over_front peeked ts f s t rest after (raw None rest after new) step.silent z k (m.0.gives rest after) m.0.real)))
-went_turns peeked ts f s t rest after ds code.Silent e g held new behind answered z k (inr d) =
-    noted_turn (raw peeked ts f s) (raw held rest after new) ds behind answered d.item
-    (over_front peeked ts f s t rest after (raw held rest after new) (step.given d.item) z k (d.moves.gives rest after) d.moves.real) d.settles
-went_turns peeked ts f s t rest after ds code.Refused e g held new behind answered z k (n, inl st) =
-    refused_turn (raw peeked ts f s) (raw held rest after new) (raw held rest after new) ds behind answered g (stands_open s z) (front_asked peeked ts f s t rest after ds g k)
-    (over_front peeked ts f s t rest after (raw held rest after new) (step.refused g) z k (st rest after held new) (refused_real s t g)) refl n
-went_turns peeked ts f s t rest after ds code.Refused e g held new behind answered z k (n, inr d) =
-    unsettled_turn (raw peeked ts f s) (raw d.held rest after d.new) (raw held rest after new) ds behind answered d.item g (stands_open s z) (front_asked peeked ts f s t rest after ds g k)
-    (over_front peeked ts f s t rest after (raw d.held rest after d.new) (step.given d.item) z k (d.moves.gives rest after) d.moves.real) d.settles refl n
-went_turns peeked ts f s t rest after ds code.Done e g held new behind answered z k h = absurd (nothing_open s h.0 z)
+went_turns : (was now : Raw) (t : Token) (ds behind : Directives) (r : Step) (e : Event)
+    (g answered : Fault)
+    → is_nothing was.stack ≡ false → IsFront was.peeked was.tokens was.fault t now.tokens now.fault
+    → Went was.stack t ds r e g now.peeked now.stack behind
+    → Turns (of_raw was ds answered) (turned r e g) (of_raw now behind answered)
+went_turns was now t ds behind code.Given e g answered z k h =
+    event_turn was now ds behind answered h.item e.body e (over_front was.peeked was.tokens was.fault was.stack t now.tokens now.fault now (step.given h.item) z k (h.moves.gives now.tokens now.fault) h.moves.real) h.settles h.placed
+went_turns was now t ds behind code.Silent e g answered z k (inl m) =
+    silent_turn was now ds behind answered (over_front was.peeked was.tokens was.fault was.stack t now.tokens now.fault now step.silent z k (m.0.gives now.tokens now.fault) m.0.real) m.2
+went_turns was now t ds behind code.Silent e g answered z k (inr d) =
+    noted_turn was now ds behind answered d.item (over_front was.peeked was.tokens was.fault was.stack t now.tokens now.fault now (step.given d.item) z k (d.moves.gives now.tokens now.fault) d.moves.real) d.settles
+went_turns was now t ds behind code.Refused e g answered z k (n, inl st) =
+    refused_turn was now now ds behind answered g (stands_open was.stack z) (front_asked was.peeked was.tokens was.fault was.stack t now.tokens now.fault ds g k)
+    (over_front was.peeked was.tokens was.fault was.stack t now.tokens now.fault now (step.refused g) z k (st now.tokens now.fault now.peeked now.stack) (refused_real was.stack t g)) refl n
+went_turns was now t ds behind code.Refused e g answered z k (n, inr d) =
+    let middle = raw d.held now.tokens now.fault d.new in
+    unsettled_turn was middle now ds behind answered d.item g (stands_open was.stack z) (front_asked was.peeked was.tokens was.fault was.stack t now.tokens now.fault ds g k)
+    (over_front was.peeked was.tokens was.fault was.stack t now.tokens now.fault middle (step.given d.item) z k (d.moves.gives now.tokens now.fault) d.moves.real) d.settles refl n
+went_turns was now t ds behind code.Done e g answered z k h = absurd (nothing_open was.stack h.0 z)
 
-pub went_utf8 : (peeked : Option Token) (s : List State) (t : Token) (ds : Directives) (r : Step)
+went_utf8 : (peeked : Option Token) (s : List State) (t : Token) (ds : Directives) (r : Step)
     (e : Event) (g : Fault) (held : Option Token) (new : List State) (behind : Directives)
     → (IsUtf8Token peeked → source.HasUtf8 t.body) → Went s t ds r e g held new behind
     → IsUtf8Held peeked s ds → IsUtf8Turn (turned r e g) × IsUtf8Held held new behind
 went_utf8 peeked s t ds code.Given e g held new behind u h p = event_utf8 held new ds behind h.item e.body h.settles (advance_utf8 peeked s t held new (step.given h.item) ds u (h.moves.utf8 ds) p)
-went_utf8 peeked s t ds code.Silent e g held new behind u (inl m) p =
-    subst (λ (x : Option Token). Unit {0} × IsUtf8Held x new behind) (sym m.1)
-    (subst (λ (d : Directives). Unit {0} × IsUtf8Held None new d) (sym m.2) (silent_utf8 None new ds (advance_utf8 peeked s t None new step.silent ds u (m.0.utf8 ds) p)))
+went_utf8 peeked s t ds code.Silent e g held new behind u (inl m) p = silent_utf8 held new ds behind m.2 (advance_utf8 peeked s t held new step.silent ds u (m.0.utf8 ds) p)
 went_utf8 peeked s t ds code.Silent e g held new behind u (inr d) p = noted_utf8 held new ds behind d.item d.settles (advance_utf8 peeked s t held new (step.given d.item) ds u (d.moves.utf8 ds) p)
 went_utf8 peeked s t ds code.Refused e g held new behind u h p = cleared_utf8 held new behind h.0
 went_utf8 peeked s t ds code.Done e g held new behind u h p = cleared_utf8 held new behind h.2
 
-pub went_stands : (s : List State) (t : Token) (ds : Directives) (r : Step) (e : Event) (g : Fault)
+went_stands : (s : List State) (t : Token) (ds : Directives) (r : Step) (e : Event) (g : Fault)
     (held : Option Token) (new : List State) (behind : Directives)
     → Went s t ds r e g held new behind → IsStack s
     → IsStackTurn (turned r e g) (is_between new) × IsStack new
 went_stands s t ds code.Given e g held new behind h p = event_stands new ds behind h.item e.body h.settles (h.moves.stack p)
-went_stands s t ds code.Silent e g held new behind (inl m) p = silent_stands new (m.0.stack p)
-went_stands s t ds code.Silent e g held new behind (inr d) p = noted_stands new d.item (d.moves.stack p)
+went_stands s t ds code.Silent e g held new behind (inl m) p = (tt, m.0.stack p)
+went_stands s t ds code.Silent e g held new behind (inr d) p = (tt, (d.moves.stack p).0)
 went_stands s t ds code.Refused e g held new behind h p = cleared_stands new h.0
 went_stands s t ds code.Done e g held new behind h p = cleared_stands new h.2
 
@@ -110,7 +103,7 @@ pub went_takes : (old new : StepBuffers) (ts : List Token) (f : Option Fault) (t
     → (IsUtf8Token (peeked_of old) → source.HasUtf8 t.body) → WentOn (states_in old) t old r e g new
     → TakesTurn old ts f (turned r e g) new rest after
 went_takes old new ts f t rest after r e g z k u h = record {
-  turns = λ answered. went_turns (peeked_of old) ts f (states_in old) t rest after (directives_of old.directives) r e g (peeked_of new) (states_in new) (directives_of new.directives) answered z k h;
+  turns = λ answered. went_turns (raw (peeked_of old) ts f (states_in old)) (raw (peeked_of new) rest after (states_in new)) t (directives_of old.directives) (directives_of new.directives) r e g answered z k h;
   utf8 = went_utf8 (peeked_of old) (states_in old) t (directives_of old.directives) r e g (peeked_of new) (states_in new) (directives_of new.directives) u h;
   stack = went_stands (states_in old) t (directives_of old.directives) r e g (peeked_of new) (states_in new) (directives_of new.directives) h;
 }
@@ -182,6 +175,4 @@ pub silent_asks : (r : Step) (s : List State) (t : Token) (ds : Directives) (e :
     → (b ≡ false) × (is_nothing new ≡ false)
 silent_asks code.Silent s t ds e g b u new behind h is =
     let left = silent_left s t ds e g (held_if b u) new behind h in (not_held b u left.0, left.1)
-silent_asks code.Given s t ds e g b u new behind h is = cc
-silent_asks code.Refused s t ds e g b u new behind h is = cc
-silent_asks code.Done s t ds e g b u new behind h is = cc
+silent_asks r s t ds e g b u new behind h is = cc

@@ -69,7 +69,7 @@ abbrev pub Went : List State → Token → Directives → Step → Event → Fau
     → List State → Directives → Type 0
 Went s t ds code.Given e f held new behind = GaveEvent s t ds e held new behind
 Went s t ds code.Silent e f held new behind
-    = (Moves s t step.silent None new × (held ≡ None) × (behind ≡ ds))
+    = (Moves s t step.silent held new × (held ≡ None) × (behind ≡ ds))
     ⊎ GaveDirective s t ds held new behind
 Went s t ds code.Refused e f held new behind = (new ≡ []) × (Stops s t f ⊎ GaveFault s t ds f)
 Went s t ds code.Done e f held new behind = (s ≡ []) × (held ≡ Some t) × (new ≡ [])

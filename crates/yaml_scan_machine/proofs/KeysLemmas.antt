@@ -3,7 +3,9 @@ use Rattle.std.proofs.Common.{◌≡◌, ◌∙◌, ℕ, ◌+◌, ◌-◌, ◌<�
 use Rattle.yaml_scan_machine.proofs.Words.{cases_Bool, cases_lt, cases_order, nat_tests, get_or_past, get_or-drop, get_or-map, length-drop, take_all, length-map, yaml_mark_t, Lexeme, cancels, depth_after, Candidate, candidate, depth, fresh, is_fresh, first_open, reached, entries, Entry, map, Waiting, KeptLexeme, kept_of, Fields, IsShown, kept_in, read, spelled, fields_of, history_of, Read, history, missed, next, Upto, GoesForward, candidate_below, length-entries, first_open-le, fresh_is, fresh_before, Key, Machine, text_bytes, required_in, stack_of, KeyStack, KeyView, key_at, view_of, key_view, fresh_key, AreStale, IsKey, AreKeysTo, AreKeys, Turns}
 use Rattle.std.proofs.lemmas.List.{take-append-le}
 use Rattle.yaml_scan_history.proofs.HistoryLemmas.{first_open-is, first_open-least}
-use Rattle.yaml_scan_machine.specs.Candidates.{number_in, required_view, required_at, Forgets, IsPut}
+use Rattle.yaml_scan_machine.specs.declared.keys.Earliest.{Earliest}
+use Rattle.yaml_scan_machine.specs.declared.keys.Keys.{Keys}
+use Rattle.yaml_scan_machine.specs.Candidates.{IsFirst, number_in, required_view, required_at, Forgets, IsPut}
 use Rattle.yaml_scan_history.specs.declared.lexeme.Opens.TheVariants as opening
 use Rattle.yaml_scan_machine.proofs.StepLemmas.{candidate_top, none_deeper, start_is}
 use Rattle.yaml_scan_machine.proofs.NextLemmas.{required_fresh, settled_first, unmissed}
@@ -59,6 +61,16 @@ bare_turns l number s t saved stops none empty less stale off n h p a u at count
           let same : t ≡ with_key s t.innermost = ap (λ ks. record { gone = t.gone; outer = ks; innermost = t.innermost; stale = t.stale }) (no_keys t.outer empty ∙ sym (no_keys s.outer none)) ∙ ap (λ g. record { gone = g; outer = s.outer; innermost = t.innermost; stale = t.stale }) gone ∙ ap (λ z. record { gone = s.gone; outer = s.outer; innermost = t.innermost; stale = z }) stale in
           subst (λ d. AreKeysTo d t (l ∷ h) l.reached) flat (cancelled_turns l number s t t.innermost saved stops off same n h p a u at count)
     ]
+
+-- what is known of the first key still is, where that key stands in another row
+pub first_moved : (k t : Keys) → t.first ≡ k.first
+    → (k.stale < length k.outer.items → (t.stale < length t.outer.items)
+    × (key_at (stack_of t) t.stale ≡ key_at (stack_of k) k.stale))
+    → IsFirst k → IsFirst t
+first_moved k t same at is p less line =
+    let (low, number) = is p (omega (arith, less, ap (λ (f : Earliest). f.end) same)) (omega (arith, line, ap (λ (f : Earliest). f.line) same)) in
+    let (inside, key) = at low in
+    (inside, ap (λ (f : Earliest). Some f.number) same ∙ number ∙ ap (λ (z : Key). number_in (fresh_key z p)) (sym key))
 
 -- a lexeme that cancels isn't saved
 pub no_saved : (l : Lexeme) → cancels l.kind ≡ true → (l.saved && cancels l.kind) ≡ false

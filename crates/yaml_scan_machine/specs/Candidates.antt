@@ -74,6 +74,12 @@ required_at s = if s.gone == 0 then required_view (key_view (key_at s 0)) else N
 abbrev pub AreStale : KeyStack → yaml_mark_t → Type 0
 AreStale s place = (i : ℕ) → i < s.stale → fresh_key (key_at s i) place ≡ None
 
+-- On a line and in front of an end, the first of the outer keys that aren't known as stale is fresh, and has that number.
+abbrev pub IsFirst : Keys → Type 0
+IsFirst k = (p : yaml_mark_t) → p.index < k.first.end → p.line ≤ k.first.line
+    → (k.stale < length k.outer.items)
+    × (Some k.first.number ≡ number_in (fresh_key (key_at (stack_of k) k.stale) p))
+
 -- A key is a candidate, or there is none, and the candidate is stale at a place.
 abbrev pub IsKey : Key → Option Candidate → yaml_mark_t → Type 0
 IsKey k o place = (key_view k ≡ view_of o) ⊎ ((key_view k ≡ None) × (fresh o place ≡ None))

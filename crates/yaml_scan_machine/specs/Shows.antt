@@ -9,7 +9,7 @@ use Rattle.yaml_scan_history.specs.History.{Candidate, first_open, entries, reac
 use Rattle.yaml_scan_history.specs.Next.{history}
 use Rattle.yaml_scan_history.specs.Remaining.{SpelledText, body_in}
 use Rattle.yaml_scan_machine.specs.declared.machine.Machine.{Machine}
-use Rattle.yaml_scan_machine.specs.Candidates.{KeyStack, stack_of, AreKeys}
+use Rattle.yaml_scan_machine.specs.Candidates.{AreKeys, IsFirst, KeyStack, stack_of}
 use Rattle.yaml_scan_queue.specs.declared.waiting.Waiting.{Waiting}
 use Rattle.yaml_scan_queue.specs.Waits.{KeptLexeme, kept_of}
 
@@ -94,7 +94,7 @@ history_of m = read (fields_of m).text m.dropped (fields_of m).waiting
 -- keys and place are those of the lexemes that a machine has read, which are so many
 abbrev pub IsCounted : Machine → ℕ → Type 0
 IsCounted m count = AreKeys (stack_of m.keys) (history_of m) m.place
-    × (m.place ≡ reached (history_of m)) × (count ≡ length (history_of m))
+    × (m.place ≡ reached (history_of m)) × (count ≡ length (history_of m)) × (IsFirst m.keys)
 
 -- the text, and how its bytes are spelled
 abbrev pub stream_of : Machine → SpelledText

@@ -16,6 +16,7 @@ use Rattle.yaml_scan_history.specs.Kinds.{is_end}
 use Rattle.yaml_scan_history.specs.History.{left_by, most_waiting, most_slots}
 use Rattle.yaml_scan_machine.specs.Shows.{IsShown, fields_of}
 use Rattle.yaml_scan_machine.specs.Taken.{IsGiven}
+use Rattle.yaml_scan_machine.specs.Candidates.{IsFirst}
 
 -- a place where a reader may stand
 pub record IsPlace (text : List ℕ) (m : yaml_mark_t) : Type 0 where
@@ -51,6 +52,7 @@ pub record IsMachine (m : Machine) : Type 0 where
   pub decoded : m.started ≡ true → decoded_text m.setting m.input.now ≡ Ok (text_bytes m.text)
   pub spelled : m.encoding ≡ encoding_of m.setting m.input.now
   pub shown : IsShown (fields_of m)
+  pub first : IsFirst m.keys
   pub given : IsGiven (fields_of m)
 
 abbrev pub ready_in : ℕ → ℕ → ℕ → List Waiting → Bool

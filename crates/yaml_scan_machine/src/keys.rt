@@ -1,9 +1,9 @@
 //! The candidate of each open depth.
 
-ghost use Rattle.std.specs.Prelude.{◌≡◌, ◌+◌, ◌-◌, ◌≤◌, ◌<◌, ◌^◌, ◌&&◌, [], OnOk, None, Some, true, false, length};
+ghost use Rattle.std.specs.Prelude.{◌≡◌, ◌+◌, ◌-◌, ◌≤◌, ◌<◌, ◌^◌, ◌&&◌, ◌⊎◌, [], OnOk, None, Some, true, false, length};
 ghost use Rattle.yaml_scan_history.specs.History as history;
 ghost use Rattle.yaml_scan_history.specs.Kinds.{cancels};
-ghost use Rattle.yaml_scan_machine.specs.Candidates.{AreStale, Forgets, HasEffect, IsPut, Turns, fresh_key, key_at, key_view, number_in, placed_at, required_at, required_view, stack_of};
+ghost use Rattle.yaml_scan_machine.specs.Candidates.{AreStale, Forgets, HasEffect, IsFirst, IsPut, Turns, fresh_key, key_at, key_view, number_in, placed_at, required_at, required_view, stack_of};
 
 use std::alloc::{AllocError, Global};
 use yaml_scan_history::{Kind, Lexeme, is_fresh};
@@ -11,6 +11,9 @@ use yaml_scan_model::{mark_again, yaml_mark_t};
 
 /// So many stale candidates are forgotten at once: about as many as there are others at most.
 const STALE_KEPT: usize = 1024;
+
+/// So many bytes behind its start a candidate isn't stale on its line.
+const SURE_BYTES: u64 = 1024;
 
 /// A lexeme that may still become a key: how many stand before it, and where it starts.
 #[derive(Clone, Copy)]
@@ -21,6 +24,16 @@ pub struct Key {
     pub possible: bool,
     /// Its `:` must come.
     pub required: bool,
+}
+
+/// The earliest candidate outside the innermost depth that isn't stale, as it was found last.
+#[derive(Clone, Copy)]
+pub struct Earliest {
+    pub number: usize,
+    /// At a place on this line, in front of that end, it isn't stale.
+    pub line: u64,
+    /// An index; 0 where no candidate is known.
+    pub end: u64,
 }
 
 /// The candidate of each open depth. That of the innermost one stands apart, so that a change of it is a store. Since a
@@ -35,6 +48,8 @@ pub struct Keys {
     pub innermost: Key,
     /// So many of the outermost ones that are kept are none, or stale.
     pub stale: usize,
+    /// The first of the others.
+    pub first: Earliest,
 }
 
 /// What a lexeme makes of depth and candidate.
@@ -91,6 +106,19 @@ impl Key {
         None
     }
 
+    /// Its number, and up to where it isn't stale.
+    fn while_fresh(&self) -> Earliest
+        ensures number { result.number ≡ self.now.number }
+        ensures line { result.line ≡ self.now.start.line }
+        ensures end { result.end ≤ self.now.start.index + history.key_bytes }
+    {
+        Earliest {
+            number: self.number,
+            line: self.start.line,
+            end: self.start.index.saturating_add(SURE_BYTES),
+        }
+    }
+
     /// Its start, where its `:` must come.
     // Inlined: mostly a comparison, asked for each lexeme.
     #[inline(always)]
@@ -104,6 +132,18 @@ impl Key {
     }
 }
 
+impl Earliest {
+    /// Whether it isn't stale at that place, as far as it is known.
+    // Inlined: two comparisons, asked for each lexeme.
+    #[inline(always)]
+    fn lasts(&self, place: yaml_mark_t) -> bool
+        ensures end { result ≡ true → place.index < self.now.end }
+        ensures line { result ≡ true → place.line ≤ self.now.line }
+    {
+        place.index < self.end && place.line <= self.line
+    }
+}
+
 impl Keys {
     /// No bracket is open, and there is no candidate.
     pub(crate) fn new(alloc: Global) -> Keys
@@ -111,6 +151,7 @@ impl Keys {
         ensures outer { result.outer.items ≡ [] }
         ensures none { result.innermost.possible ≡ false }
         ensures stale { result.stale ≡ 0 }
+        ensures first { IsFirst result }
     {
         let start = yaml_mark_t {
             index: 0,
@@ -127,6 +168,11 @@ impl Keys {
                 required: false,
             },
             stale: 0,
+            first: Earliest {
+                number: 0,
+                line: 0,
+                end: 0,
+            },
         }
     }
 
@@ -173,44 +219,52 @@ impl Keys {
 
     /// The number of the earliest candidate that isn't stale at that place, if there is one. Each that is passed is passed
     /// once.
-    // Inlined: asked for each lexeme. Mostly no bracket is open, or the first look decides.
+    // Inlined: asked for each lexeme. Mostly no bracket is open, or what was found last decides.
     #[inline(always)]
     pub(crate) fn earliest(&mut self, place: yaml_mark_t) -> Option<usize>
-        requires { self.old.stale ≤ length self.old.outer.items }
-        ensures same { self.new ≡ record self.old { stale = self.new.stale } }
+        requires inside { self.old.stale ≤ length self.old.outer.items }
+        requires first { IsFirst self.old }
+        ensures same { self.new ≡ record self.old {
+          stale = self.new.stale;
+          first = self.new.first;
+        } }
         ensures inside { self.new.stale ≤ length self.new.outer.items }
         ensures stale { AreStale (stack_of self.old) place → AreStale (stack_of self.new) place }
         ensures value { result ≡ number_in
             (fresh_key (key_at (stack_of self.new) self.new.stale) place) }
         ensures last { result ≡ None → self.new.stale ≡ length self.new.outer.items }
+        ensures first { IsFirst self.new }
     {
         if self.stale < self.outer.len() {
-            if self.outer[self.stale].is_fresh(place) {
-                return Some(self.outer[self.stale].number);
+            if self.first.lasts(place) {
+                return Some(self.first.number);
             }
             if self.finds_fresh(place.index, place.line) {
-                return Some(self.outer[self.stale].number);
+                return Some(self.first.number);
             }
         }
         self.innermost.found(place)
     }
 
     /// Passes the outer candidates that are none, or stale at a place of that index and line, and tells whether another one comes.
-    // Out of line and cold: the first look decides. The place's numbers are handed over: a place that is lent to a call lies in
-    // memory, and is written there for each lexeme.
+    // Out of line and cold: what was found last decides. The place's numbers are handed over: a place that is lent to a call lies
+    // in memory, and is written there for each lexeme.
     #[cold]
     #[inline(never)]
     fn finds_fresh(&mut self, index: u64, line: u64) -> bool
         requires { self.old.stale ≤ length self.old.outer.items }
-        ensures same { self.new ≡ record self.old { stale = self.new.stale } }
+        ensures same { self.new ≡ record self.old {
+          stale = self.new.stale;
+          first = self.new.first;
+        } }
         ensures inside { self.new.stale ≤ length self.new.outer.items }
         ensures stale { AreStale (stack_of self.old) (placed_at index line)
             → AreStale (stack_of self.new) (placed_at index line) }
-        ensures more { result ≡ true → self.new.stale < length self.new.outer.items }
-        ensures fresh { result ≡ true → Some (key_at (stack_of self.new) self.new.stale).number
+        ensures fresh { result ≡ true → Some self.new.first.number
             ≡ number_in (fresh_key (key_at (stack_of self.new) self.new.stale)
             (placed_at index line)) }
         ensures last { result ≡ false → self.new.stale ≡ length self.new.outer.items }
+        ensures first { IsFirst self.new }
     {
         let place = yaml_mark_t {
             index,
@@ -219,10 +273,12 @@ impl Keys {
         };
         'pass: while self.stale < self.outer.len() {
             if self.outer[self.stale].is_fresh(place) {
+                self.first = self.outer[self.stale].while_fresh();
                 return true;
             }
             self.stale += 1;
         }
+        self.first.end = 0;
         false
     }
 
@@ -233,7 +289,8 @@ impl Keys {
         requires one { (lexeme.saved && cancels lexeme.kind) ≡ false }
         requires inside { self.old.stale ≤ length self.old.outer.items }
         requires room { self.old.gone + length self.old.outer.items < 2 ^ 64 }
-        ensures { OnOk result (IsPut lexeme number (stack_of self.old) (stack_of self.new)) }
+        ensures put { OnOk result (IsPut lexeme number (stack_of self.old) (stack_of self.new)) }
+        ensures first { OnOk result (IsFirst self.old → IsFirst self.new) }
     {
         match effect_of(lexeme.kind) {
             Effect::Opens => self.open(lexeme, number),
@@ -257,7 +314,8 @@ impl Keys {
     #[inline(always)]
     fn save(&mut self, lexeme: Lexeme, number: usize)
         requires { cancels lexeme.kind ≡ false }
-        ensures { Turns lexeme number (λ n. n) (stack_of self.old) (stack_of self.new) }
+        ensures turns { Turns lexeme number (λ n. n) (stack_of self.old) (stack_of self.new) }
+        ensures first { IsFirst self.old → IsFirst self.new }
     {
         if lexeme.saved {
             put_key(&mut self.innermost, number, lexeme);
@@ -270,7 +328,8 @@ impl Keys {
     fn cancel(&mut self, lexeme: Lexeme, number: usize)
         requires saved { lexeme.saved ≡ false }
         requires cancels { cancels lexeme.kind ≡ true }
-        ensures { Turns lexeme number (λ n. n) (stack_of self.old) (stack_of self.new) }
+        ensures turns { Turns lexeme number (λ n. n) (stack_of self.old) (stack_of self.new) }
+        ensures first { IsFirst self.old → IsFirst self.new }
     {
         self.innermost.possible = false;
     }
@@ -283,8 +342,9 @@ impl Keys {
         requires cancels { cancels lexeme.kind ≡ false }
         requires inside { self.old.stale ≤ length self.old.outer.items }
         requires room { self.old.gone + length self.old.outer.items < 2 ^ 64 }
-        ensures { OnOk result (Turns lexeme number (λ n. n + 1) (stack_of self.old)
+        ensures turns { OnOk result (Turns lexeme number (λ n. n + 1) (stack_of self.old)
             (stack_of self.new)) }
+        ensures first { OnOk result (IsFirst self.old → IsFirst self.new) }
     {
         self.spare();
         self.save(lexeme, number);
@@ -301,7 +361,8 @@ impl Keys {
     fn spare(&mut self)
         requires inside { self.old.stale ≤ length self.old.outer.items }
         requires room { self.old.gone + length self.old.outer.items < 2 ^ 64 }
-        ensures { Forgets (stack_of self.old) (stack_of self.new) }
+        ensures forgets { Forgets (stack_of self.old) (stack_of self.new) }
+        ensures first { IsFirst self.old → IsFirst self.new }
     {
         if STALE_KEPT <= self.stale {
             self.forget();
@@ -315,7 +376,8 @@ impl Keys {
     fn forget(&mut self)
         requires inside { self.old.stale ≤ length self.old.outer.items }
         requires room { self.old.gone + length self.old.outer.items < 2 ^ 64 }
-        ensures { Forgets (stack_of self.old) (stack_of self.new) }
+        ensures forgets { Forgets (stack_of self.old) (stack_of self.new) }
+        ensures first { IsFirst self.old → IsFirst self.new }
     {
         let left = self.outer.len() - self.stale;
         self.outer.rotate_left(self.stale);
@@ -324,18 +386,38 @@ impl Keys {
         self.stale = 0;
     }
 
+    /// Of fewer keys no more are stale, and where all are, no first one is known.
+    // Inlined: a comparison.
+    #[inline(always)]
+    fn clip(&mut self)
+        ensures same { self.new ≡ record self.old {
+          stale = self.new.stale;
+          first = self.new.first;
+        } }
+        ensures lesser { self.new.stale ≤ self.old.stale }
+        ensures inside { self.new.stale ≤ length self.new.outer.items }
+        ensures first { (self.new ≡ self.old × self.old.stale < length self.old.outer.items)
+            ⊎ (self.new.first.end ≡ 0) }
+    {
+        if self.outer.len() <= self.stale {
+            self.stale = self.outer.len();
+            self.first.end = 0;
+        }
+    }
+
     /// A bracket closes: its own depth's candidate is gone. Of one that is forgotten there is none any more.
     // Inlined: some stores.
     #[inline(always)]
     fn close(&mut self, lexeme: Lexeme, number: usize)
         requires saved { lexeme.saved ≡ false }
         requires cancels { cancels lexeme.kind ≡ true }
-        ensures { Turns lexeme number (λ n. n - 1) (stack_of self.old) (stack_of self.new) }
+        ensures turns { Turns lexeme number (λ n. n - 1) (stack_of self.old) (stack_of self.new) }
+        ensures first { IsFirst self.old → IsFirst self.new }
     {
         match self.outer.pop() {
             Some(key) => {
                 put_again(&mut self.innermost, &key);
-                self.stale = least(self.stale, self.outer.len());
+                self.clip();
             }
             None => {
                 self.innermost.possible = false;
@@ -387,17 +469,4 @@ fn put_again(to: &mut Key, key: &Key)
     to.start = mark_again(&key.start);
     to.possible = key.possible;
     to.required = key.required;
-}
-
-/// The lesser one.
-// Inlined: a comparison.
-#[inline(always)]
-fn least(a: usize, b: usize) -> usize
-    ensures first { result ≤ a }
-    ensures second { result ≤ b }
-{
-    if a < b {
-        return a;
-    }
-    b
 }

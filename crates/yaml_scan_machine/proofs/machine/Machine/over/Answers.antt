@@ -22,6 +22,7 @@ returns-clause-stands c =
       fresh = λ off. refl;
       decoded = c.requires;
       spelled = c.stream_encoding.ensures;
+      first = c.new-2.ensures.first;
       given = given_none 0 0 (map (λ (x : Waiting). kept_of x) c.new.result.items);
       shown = shown_start c.stream_encoding.result (text_bytes c.args.text) c.new.result.items c.new-3.result (stack_of c.new-2.result) c.new.ensures.items c.new-3.ensures (start_keys (stack_of c.new-2.result) zero_mark c.new-2.ensures.gone c.new-2.ensures.outer c.new-2.ensures.none c.new-2.ensures.stale);
     }

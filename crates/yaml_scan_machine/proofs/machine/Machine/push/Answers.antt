@@ -2,6 +2,7 @@ use Rattle.std.proofs.Common.{cond, ◌≡◌, ◌≤◌, ◌<◌, ℕ, Bool, Li
 use Rattle.yaml_scan_machine.proofs.Words.{map, body_of, is_start, allows_key, map-append, length-map, text_bytes, Machine, Waiting, KeptLexeme, kept_of, IsShort, IsMachine, ReadsOneMore, AreInside, IsNarrow, Lexeme, inside, left_by, entry_of, reached, KeyStack, stack_of, AreKeys, Fields, fields_of, history_of, kept_in, stream_of, opens_for, first_open, settled_in, Line}
 use Rattle.yaml_scan_laws_order.proofs.HistoryForward.{goes_forward}
 use Rattle.std.proofs.lemmas.Bool.{true≢false}
+use Rattle.yaml_scan_machine.specs.Candidates.{IsFirst}
 use Rattle.yaml_scan_machine.specs.Shows.{IsCounted}
 use Rattle.yaml_scan_machine.proofs.SafeLemmas.{inside_push, depth_after-le, narrow_by}
 use Rattle.yaml_scan_machine.proofs.KindLemmas.{ok_read}
@@ -69,7 +70,7 @@ pushed c =
       encoding = refl;
       text = refl;
       waiting = ap (λ xs. map (λ (y : Waiting). kept_of y) xs) items ∙ map-append (λ (y : Waiting). kept_of y) d.waiting.items (w ∷ []) ∙ ap (λ xs. xs ++ kept_of w ∷ []) kept ∙ ap (λ (y : KeptLexeme). (kept_entries f l) ++ y ∷ []) laid;
-      keys = put_keys f l (stack_of d.keys) (stack_of c.put.new.self) c.count-number.result (goes_forward (text_bytes m.text)) s e (ap (λ (x : Machine). stack_of x.keys) same) number c.in_ok-put.ensures;
+      keys = put_keys f l (stack_of d.keys) (stack_of c.put.new.self) c.count-number.result (goes_forward (text_bytes m.text)) s e (ap (λ (x : Machine). stack_of x.keys) same) number c.in_ok-put.ensures.put;
       dropped = refl;
       place = refl;
       depth = c.depth_after-self.ensures;
@@ -89,7 +90,7 @@ settle-self-requires c =
     let (p, number, count) = pushed (goal.at.settle-self-requires c).After-is_end-self in
     let more = read_pushed (fields_of m) (fields (goal.at.settle-self-requires c).After-is_end-self) l c.requires.stands.shown e p in
     let Counted : Machine → Type 0 = λ y. IsCounted (record y { waiting = c.push_back_reserved.new.self; keys = c.put.new.self; place = l.reached; depth = c.depth_after-self.result; allowed = c.allows-allowed.result; ended = c.is_end-self.result }) (c.count-number.result + 1) in
-    subst Counted (sym same) (subst (λ y. AreKeys (stack_of c.put.new.self) y l.reached) (sym more) p.keys, ap reached (sym more), omega (arith, number, ap (λ (y : List Lexeme). length y) more))
+    subst Counted (sym same) (subst (λ y. AreKeys (stack_of c.put.new.self) y l.reached) (sym more) p.keys, ap reached (sym more), omega (arith, number, ap (λ (y : List Lexeme). length y) more), c.in_ok-put.ensures.first (subst (λ (x : Machine). IsFirst x.keys) (sym same) c.requires.stands.first))
 
 pub put-requires : goal.put-requires
 put-requires c =
@@ -164,6 +165,7 @@ returns-clause-ok c =
         decoded = i.decoded;
         spelled = i.spelled;
         shown = shown_now;
+        first = c.settle-self.ensures.first;
         given = given_goes f done l i.shown shown_now go e (read_pushed f done l i.shown e done_is) refl refl (omega (arith, settled.1, grows)) i.given;
       },
       record { text = refl; dropped = refl; further = more; given = refl; encoding = refl; started = refl; setting = refl; bytes = refl },

@@ -35,8 +35,9 @@ pub scanned_texts : (s : yaml_encoding_t) (bytes : List ℕ) → AreBytes bytes
 scanned_texts s bytes are = in_texts s bytes (decoded_text s bytes) are refl
 
 -- a session of which nothing was read
-pub begun_little : (s : yaml_encoding_t) (bytes : List ℕ) → HoldsLittle (begun s bytes)
-begun_little s bytes = ((omega arith, omega arith), (omega arith, All-nil (λ room. room ≤ 256)))
+pub begun_little : (s : yaml_encoding_t) (bytes : List ℕ) (ahead : ℕ)
+    → HoldsLittle (begun s bytes ahead)
+begun_little s bytes ahead = ((omega arith, omega arith), (omega arith, All-nil (λ room. room ≤ 256)))
 
 others_texts : (ts : List Token) → All (λ t. HasTexts t.body) ts
     → All (λ t. HasTexts t.body) (others_of ts)

@@ -5,6 +5,7 @@ ghost use Rattle.yaml_scan.specs.Tokens.{no_token};
 ghost use Rattle.yaml_scan.specs.Slots.{token_in_slot};
 ghost use Rattle.yaml_scan.specs.Faults.{fault_of};
 ghost use Rattle.yaml_scan.specs.Session.{HoldsLittle, begun};
+ghost use Rattle.yaml_scan.specs.Settled.{most_ahead};
 ghost use Rattle.yaml_scan.specs.Scanned.{scanned};
 ghost use Rattle.yaml_round_adapter.specs.Adapted.{adapted, spells_text};
 ghost use Rattle.yaml_round_adapter.specs.Adapter.{Checks, Adapts, IsStep, is_tag, remaining_of};
@@ -42,11 +43,14 @@ impl<'a> yaml_adapter_t<'a> {
     /// An adapter over a session of its own, that input's in that encoding, of which nothing is read. What is to come is what is
     /// of the session, up to the first tag that isn't UTF-8.
     pub fn new(alloc: Global, input: &'a [u8], encoding: yaml_encoding_t) -> yaml_adapter_t<'a>
-        ensures begun { result ≡ record { session = begun encoding input.now; over = false } }
+        ensures begun { result ≡ record {
+          session = begun encoding input.now most_ahead;
+          over = false;
+        } }
         ensures comes { remaining_of result ≡ adapted (scanned encoding input.now) }
     {
         yaml_adapter_t {
-            session: yaml_parser_t::new(alloc, input, encoding),
+            session: yaml_parser_t::reading_ahead(alloc, input, encoding),
             over: false,
         }
     }

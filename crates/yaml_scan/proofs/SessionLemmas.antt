@@ -107,15 +107,15 @@ taken_may c d t (tokens, fault) = rw tokens tt
 
 -- nothing more is read
 pub same_reads : (old new : View) → new.setting ≡ old.setting → new.bytes ≡ old.bytes
-    → new.read ≡ old.read → ReadsNeeded old new
-same_reads old new setting bytes read = record { setting = setting; bytes = bytes; further = omega (arith, read); needed = λ n least most. absurd (omega (arith, read, least, most)) }
+    → new.ahead ≡ old.ahead → new.read ≡ old.read → ReadsNeeded old new
+same_reads old new setting bytes ahead read = record { setting = setting; bytes = bytes; ahead = ahead; further = omega (arith, read); needed = λ none n least most. absurd (omega (arith, read, least, most)) }
 
 -- the reader reads on, where no token was put aside
 pub own_reads : (x y : List ℕ) (o p : Option yaml_fault_t) (aside after : Bool) (s t : Token)
     (m n : Machine)
     → is_some o ≡ false → aside ≡ false → ReadsAsNeeded m n
     → ReadsNeeded (view_by m o s aside x) (view_by n p t after y)
-own_reads x y None p false after s t m n e off r = record { setting = r.setting; bytes = r.bytes; further = r.further; needed = r.needed }
+own_reads x y None p false after s t m n e off r = record { setting = r.setting; bytes = r.bytes; ahead = r.ahead; further = r.further; needed = r.needed }
 own_reads x y None p true after s t m n e off r = cc
 own_reads x y (Some f) p aside after s t m n e off r = cc
 
@@ -123,12 +123,12 @@ own_reads x y (Some f) p aside after s t m n e off r = cc
 pub takes_over : (x y : List ℕ) (o : Option yaml_fault_t) (aside : Bool) (s t : Token) (m : Machine)
     → is_some o ≡ true → t ≡ no_token → Takes (view_by m o s aside x) t (view_by m o s aside y)
 takes_over x y None aside s t m e empty = cc
-takes_over x y (Some f) aside s t m e empty = record { token = empty; rest = refl; may = refl; same = refl; reads = same_reads (view_by m (Some f) s aside x) (view_by m (Some f) s aside y) refl refl refl; over = λ g is. refl }
+takes_over x y (Some f) aside s t m e empty = record { token = empty; rest = refl; may = refl; same = refl; reads = same_reads (view_by m (Some f) s aside x) (view_by m (Some f) s aside y) refl refl refl refl; over = λ g is. refl }
 
 -- the token that was put aside is taken
 pub takes_held : (x y : List ℕ) (o : Option yaml_fault_t) (aside : Bool) (s t : Token) (m : Machine)
     → is_some o ≡ false → aside ≡ true → Takes (view_by m o s aside x) s (view_by m o t false y)
-takes_held x y None true s t m e on = record { token = refl; rest = refl; may = tt; same = refl; reads = same_reads (view_by m None s true x) (view_by m None t false y) refl refl refl; over = λ g bad. cc }
+takes_held x y None true s t m e on = record { token = refl; rest = refl; may = tt; same = refl; reads = same_reads (view_by m None s true x) (view_by m None t false y) refl refl refl refl; over = λ g bad. cc }
 takes_held x y None false s t m e on = cc
 takes_held x y (Some f) aside s t m e on = cc
 
@@ -178,7 +178,7 @@ pub refuses : (x y : List ℕ) (o : Option yaml_fault_t) (aside after : Bool) (s
     (m n : Machine)
     (f : yaml_fault_t) → is_some o ≡ false → aside ≡ false → IsMachine m → Denies m n (fault_of f)
     → Refuses (view_by m o s aside x) (fault_of f) (view_by n (Some f) t after y)
-refuses x y None false after s t m n f e off i d = record { sought = sym (own_settled m None s false i refl refl) ∙ d.sought; more = d.more; told = d.told; reader = d.reader; plain = d.plain; once = refl; kept = refl; over = refl }
+refuses x y None false after s t m n f e off i d = record { ahead = d.few.0; sought = sym (own_settled m None s false i refl refl) ∙ d.sought; more = d.more; told = d.told; reader = d.reader; plain = d.plain; once = refl; kept = refl; over = refl }
 refuses x y None true after s t m n f e off i d = cc
 refuses x y (Some g) aside after s t m n f e off i d = cc
 
@@ -187,9 +187,9 @@ pub lends_aside : (x y : List ℕ) (o : Option yaml_fault_t) (aside : Bool) (s :
     (m : Machine) → aside ≡ true
     → (o ≡ None → IsMachine m) → ((f : yaml_fault_t) → o ≡ Some f → s ≡ no_token)
     → Lends (view_by m o s aside x) s (view_by m o s aside y)
-lends_aside x y None true s m on i over = record { token = refl; all = refl; may = tt; same = refl; reads = same_reads (view_by m None s true x) (view_by m None s true y) refl refl refl; known = inl (sym (ready_held m None s true i refl refl)); over = λ g bad. cc }
+lends_aside x y None true s m on i over = record { token = refl; all = refl; may = tt; same = refl; reads = same_reads (view_by m None s true x) (view_by m None s true y) refl refl refl refl; known = inl (sym (ready_held m None s true i refl refl)); over = λ g bad. cc }
 lends_aside x y None false s m on i over = cc
-lends_aside x y (Some f) aside s m on i over = record { token = over f refl; all = refl; may = refl; same = refl; reads = same_reads (view_by m (Some f) s aside x) (view_by m (Some f) s aside y) refl refl refl; known = inr refl; over = λ g is. refl }
+lends_aside x y (Some f) aside s m on i over = record { token = over f refl; all = refl; may = refl; same = refl; reads = same_reads (view_by m (Some f) s aside x) (view_by m (Some f) s aside y) refl refl refl refl; known = inr refl; over = λ g is. refl }
 
 -- the reader's next token is put aside and lent
 pub lends_own : (x y : List ℕ) (o : Option yaml_fault_t) (aside : Bool) (s t : Token)
@@ -239,7 +239,7 @@ whole_none (Some f) aside m t e off i empty = cc
 
 -- a session that answered a fault
 pub whole_refused : (o : Option yaml_fault_t) (m : Machine) (s t : yaml_token_t) (f : yaml_fault_t)
-    → o ≡ Some f → token_of t ≡ token_of s → token_of s ≡ no_token → IsShort m.waiting
+    → o ≡ Some f → token_of t ≡ token_of s → token_of s ≡ no_token → IsShort m.ahead m.waiting
     → IsWhole m o t true
 whole_refused None m s t f e same empty few = cc
 whole_refused (Some g) m s t f e same empty few = record { machine = λ bad. cc; free = λ bad. cc; over = λ g is. same ∙ empty; idle = λ bad. cc; short = few }
@@ -282,7 +282,7 @@ scan_refuses old new true t f e s = cc
 scan_refuses old new false t f e s = s
 
 -- what a new session stands for
-pub begins : (s e : yaml_encoding_t) (b i x : List ℕ) (r w l : ℕ) (m : Remaining) → s ≡ e → b ≡ i
-    → r ≡ 0 → m ≡ scanned e i → w ≡ 0 → l ≡ 0 → x ≡ []
-    → record { setting = s; bytes = b; read = r; remaining = m; answered = None; waiting = w; slots = l; spares = x } ≡ begun e i
-begins s e b i x r w l m setting bytes read left waiting slots spares = rw (setting, bytes, read, left, waiting, slots, spares) refl
+pub begins : (s e : yaml_encoding_t) (b i x : List ℕ) (a h r w l : ℕ) (m : Remaining) → s ≡ e
+    → b ≡ i → a ≡ h → r ≡ 0 → m ≡ scanned e i → w ≡ 0 → l ≡ 0 → x ≡ []
+    → record { setting = s; bytes = b; ahead = a; read = r; remaining = m; answered = None; waiting = w; slots = l; spares = x } ≡ begun e i h
+begins s e b i x a h r w l m setting bytes ahead read left waiting slots spares = rw (setting, bytes, ahead, read, left, waiting, slots, spares) refl

@@ -1,5 +1,5 @@
 -- What a session stands for, and what its calls answer.
-use Rattle.std.specs.Prelude.{ℕ, ◌≡◌, ◌≢◌, ◌<◌, ◌≤◌, Bool, true, false, List, [], ◌∷◌, Option, Some, None, Result, Ok, Err, ◌⊎◌}
+use Rattle.std.specs.Prelude.{ℕ, ◌+◌, ◌≡◌, ◌≢◌, ◌<◌, ◌≤◌, Bool, true, false, List, [], ◌∷◌, Option, Some, None, Result, Ok, Err, ◌⊎◌}
 use denote.Bor.{Bor}
 use Rattle.yaml_scan_model.specs.declared.token.yaml_token_t.{yaml_token_t}
 use Rattle.yaml_scan_model.specs.declared.fault.yaml_fault_t.{yaml_fault_t}
@@ -18,12 +18,14 @@ use Rattle.yaml_scan_machine.specs.Left.{IsTold}
 pub use Rattle.yaml_scan_machine.specs.Found.{HasMore}
 use Rattle.yaml_scan_machine.specs.Settled.{settles}
 
--- An input and the encoding that is set, and how many lexemes of its text were read; the tokens that are still to come and
+-- An input and the encoding that is set, how many lexemes are read until they are settled, or 0 where none is read before it is
+-- needed, and how many of its text were read; the tokens that are still to come and
 -- the fault that ends them, the fault that was answered, and how many lexemes wait: they were read, and not all their
 -- tokens are taken; how many slots there are for them; and the room of each text that was let go and is kept.
 pub record View : Type 0 where
   pub setting : yaml_encoding_t
   pub bytes : List ℕ
+  pub ahead : ℕ
   pub read : ℕ
   pub remaining : Remaining
   pub answered : Option Fault
@@ -32,10 +34,11 @@ pub record View : Type 0 where
   pub spares : List ℕ
 
 -- a session of an input that was read nowhere: all its tokens are to come, and nothing is kept
-abbrev pub begun : yaml_encoding_t → List ℕ → View
-begun encoding bytes = record {
+abbrev pub begun : yaml_encoding_t → List ℕ → ℕ → View
+begun encoding bytes ahead = record {
   setting = encoding;
   bytes = bytes;
+  ahead = ahead;
   read = 0;
   remaining = scanned encoding bytes;
   answered = None;
@@ -48,12 +51,13 @@ begun encoding bytes = record {
 abbrev pub is_settled : View → Bool
 is_settled v = settles v.setting v.bytes v.remaining.tokens v.read
 
--- The input stays. A further lexeme is read only while those before it don't settle the next token.
+-- The input stays. Where none is read ahead, a further lexeme is read only while those before it don't settle the next token.
 pub record ReadsNeeded (old new : View) : Type 0 where
   pub setting : new.setting ≡ old.setting
   pub bytes : new.bytes ≡ old.bytes
+  pub ahead : new.ahead ≡ old.ahead
   pub further : old.read ≤ new.read
-  pub needed : (n : ℕ) → old.read ≤ n → n < new.read
+  pub needed : old.ahead ≡ 0 → (n : ℕ) → old.read ≤ n → n < new.read
       → settles old.setting old.bytes old.remaining.tokens n ≡ false
 
 -- the first token to come, and the others; behind the last the empty token
@@ -83,10 +87,10 @@ MayAnswer (t ∷ ts) fault = Unit {0}
 abbrev pub EndsAnswered : View → Type 0
 EndsAnswered v = (f : Fault) → v.answered ≡ Some f → v.remaining ≡ nothing
 
--- At most 1,025 lexemes wait, in a row of at most 2,049 slots: none is read that isn't needed, a `:` is looked for within
--- 1,024 bytes of its key, and a slot is made only where at least half of them hold what waits.
+-- At most 1,025 lexemes wait, and as many more as are read ahead, in a row of at most 2,049 slots, and twice as many more: a `:` is
+-- looked for within 1,024 bytes of its key, and a slot is made only where at least half of them hold what waits.
 abbrev pub FewWait : View → Type 0
-FewWait v = (v.waiting ≤ most_waiting) × (v.slots ≤ most_slots)
+FewWait v = (v.waiting ≤ most_waiting + v.ahead) × (v.slots ≤ most_slots + (v.ahead + v.ahead))
 
 -- Few lexemes wait, and few spare texts are kept: at most 64, each with at most 256 bytes of room.
 abbrev pub HoldsLittle : View → Type 0
@@ -109,6 +113,7 @@ PlainIsTold v f = (g : Fault) → encoding_of v.setting v.bytes ≡ YAML_UTF8_EN
 -- A refusal tells the fault that is to come, where no token is, or that memory ran out; a token that is settled isn't refused, nor
 -- is the empty token behind the end. It is answered once and kept, and nothing comes behind it.
 pub record Refuses (old : View) (f : Fault) (new : View) : Type 0 where
+  pub ahead : new.ahead ≡ old.ahead
   pub sought : is_settled old ≡ false
   pub more : HasMore old.remaining.tokens old.remaining.fault
   pub told : IsTold old.remaining f

@@ -30,6 +30,7 @@ abbrev pub view_by : Machine → Option yaml_fault_t → Token → Bool → List
 view_by m fault t aside rooms = record {
   setting = m.setting;
   bytes = m.input.now;
+  ahead = m.ahead;
   read = read_by m;
   remaining = remaining_by fault aside t (left_in m);
   answered = option_map (λ f. fault_of f) fault;
@@ -47,7 +48,7 @@ pub record IsWhole (m : Machine) (fault : Option yaml_fault_t) (shown : yaml_tok
   pub free : aside ≡ false → fault ≡ None
   pub over : (f : yaml_fault_t) → fault ≡ Some f → token_of shown ≡ no_token
   pub idle : aside ≡ false → token_of shown ≡ no_token
-  pub short : IsShort m.waiting
+  pub short : IsShort m.ahead m.waiting
 
 abbrev pub session_view : Inside → View
 session_view s = view_of s.machine s.fault s.shown s.aside s.spares

@@ -1,6 +1,6 @@
 //! Tokens, one after another.
 
-ghost use Rattle.std.specs.Prelude.{◌≡◌, ⊤, option_map, [], true, false, Some, None};
+ghost use Rattle.std.specs.Prelude.{◌≡◌, ◌≤◌, ⊤, option_map, [], true, false, Some, None};
 ghost use Rattle.std.specs.Borrow.{sem, follows_so};
 ghost use mir.Syntax.{named};
 ghost use mathlib.Core.Option.{none};
@@ -11,17 +11,18 @@ ghost use Rattle.yaml_scan_model.specs.Rooms.{KeepsFew, rooms_of};
 ghost use Rattle.yaml_scan.specs.contracts.session.yaml_parser_t.{the_row};
 ghost use Rattle.yaml_scan.specs.Session.{HasFirst, ReadsNeeded, Scans, ScansInto, Looks, Shows, Peeks, HoldsLittle, begun, behind_first, is_settled};
 ghost use Rattle.yaml_scan.specs.SessionView.{IsWhole, view_of};
+ghost use Rattle.yaml_scan_machine.specs.Settled.{most_ahead};
 
 use std::alloc::Global;
 use std::marker::Model;
-use yaml_scan_machine::{Machine, Sought, next_into, put_empty, put_over, put_shown};
+use yaml_scan_machine::{Machine, READ_AHEAD, Sought, next_into, put_empty, put_over, put_shown};
 use yaml_scan_model::{
     Spares, yaml_encoding_t, yaml_fault_t, yaml_memory_fault, yaml_origin_t, yaml_token_t,
 };
 use yaml_scan_slot::TokenSlot;
 
-/// The tokens of an input that are still to come, and the fault that ends them. At most 1,025 lexemes that were read wait, and
-/// at most 64 spare texts are kept.
+/// The tokens of an input that are still to come, and the fault that ends them. At most 1,025 lexemes that were read wait, eight
+/// more where some are read ahead, and at most 64 spare texts are kept.
 #[derive(Drop)]
 pub struct yaml_parser_t<'a> {
     /// What reads the input.
@@ -52,10 +53,35 @@ impl<'a> yaml_parser_t<'a> {
     /// A session over an input, in that encoding; with `YAML_ANY_ENCODING` in the one that a byte order mark tells, or
     /// UTF-8 (YAML 1.1, 5.2).
     pub fn new(alloc: Global, input: &'a [u8], encoding: yaml_encoding_t) -> yaml_parser_t<'a>
-        ensures { result ≡ begun encoding input.now }
+        ensures { result ≡ begun encoding input.now 0 }
+    {
+        yaml_parser_t::begin(alloc, input, encoding, 0)
+    }
+
+    /// A session that reads up to eight lexemes before they are needed, and so reads on less often. Its tokens and its fault are
+    /// those of the other one.
+    pub fn reading_ahead(
+        alloc: Global,
+        input: &'a [u8],
+        encoding: yaml_encoding_t,
+    ) -> yaml_parser_t<'a>
+        ensures { result ≡ begun encoding input.now most_ahead }
+    {
+        yaml_parser_t::begin(alloc, input, encoding, READ_AHEAD)
+    }
+
+    /// A session that reads so many lexemes until they are settled; or, with 0, none before it is needed.
+    fn begin(
+        alloc: Global,
+        input: &'a [u8],
+        encoding: yaml_encoding_t,
+        ahead: usize,
+    ) -> yaml_parser_t<'a>
+        requires { ahead ≤ most_ahead }
+        ensures { result ≡ begun encoding input.now ahead }
     {
         yaml_parser_t {
-            machine: Machine::new(alloc, input, encoding),
+            machine: Machine::new(alloc, input, encoding, ahead),
             fault: None,
             shown: yaml_token_t::empty(),
             aside: false,

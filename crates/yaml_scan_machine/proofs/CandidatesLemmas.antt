@@ -1,6 +1,6 @@
 -- What a lexeme makes of the candidates of each depth.
-use Rattle.std.proofs.Common.{◌≡◌, ◌∙◌, ℕ, ◌+◌, ◌-◌, ◌<◌, ◌≤◌, inl, inr, Bool, true, false, cond, ◌&&◌, List, [], ◌∷◌, ◌++◌, length, get_or, Option, Some, None, refl, sym, ap, subst, arith}
-use Rattle.yaml_scan_machine.proofs.Words.{Turns, cases_Bool, cases_lt, nat_tests, get_or_append_left, get_or_default, get_or_past, yaml_mark_t, Lexeme, cancels, Candidate, candidate, fresh, is_fresh, Upto, fresh_before, cases_Option, Key, KeyStack, KeyView, key_at, view_of, key_view, fresh_key, AreStale, IsKey, AreKeysTo, get_or_at}
+use Rattle.std.proofs.Common.{◌≡◌, ◌∙◌, ℕ, ◌+◌, ◌-◌, ◌<◌, ◌≤◌, inl, inr, Bool, true, false, cond, List, [], ◌∷◌, ◌++◌, length, get_or, Option, Some, None, refl, sym, ap, subst, arith}
+use Rattle.yaml_scan_machine.proofs.Words.{Turns, cases_lt, nat_tests, get_or_append_left, get_or_default, get_or_past, yaml_mark_t, Lexeme, cancels, Candidate, candidate, fresh, Upto, fresh_before, cases_Option, Key, KeyStack, KeyView, key_at, view_of, key_view, fresh_key, AreStale, IsKey, AreKeysTo, get_or_at}
 use Rattle.std.proofs.lemmas.List.{length-append}
 use Rattle.yaml_scan_history.proofs.HistoryLemmas.{near_before}
 

@@ -1,6 +1,6 @@
 -- Where a machine stops.
-use Rattle.std.proofs.Common.{◌≡◌, ℕ, ◌+◌, ◌≤◌, true, false, ltb, List, [], ◌∷◌, length, get_or, Result, Ok, Err, refl, sym, ap, subst, ◌∙◌, inl, inr, ◌⊎◌, arith, Some, ◌≢◌}
-use Rattle.yaml_scan_machine.proofs.Words.{cases_Bool, cases_lt, nat_tests, length-map, option_map, yaml_encoding_t, ScanError, scanner_fault, text_bytes, decoding_fault, decoded_characters, in_utf8, Offence, reader_fault, Reader, Fault, memory_fault, result_err, encoding_of, Token, GivesFirst, scanned, scanned_in, left_in, left_from, IsTold, IsLocated, Lexeme, entries, first_open, Next, Read, Fails, Ends, next, Remaining, remaining, length-entries, first_open-le, front_none, Machine, Waiting, KeptLexeme, kept_of, Answer, IsMachine, ReadsOneMore, ready_in, is_ready, Fields, fields_of, IsShown, read, settled_in, history_of, stream_of, GivesNext, Stops, to_come}
+use Rattle.std.proofs.Common.{◌≡◌, ℕ, ◌+◌, ◌≤◌, true, false, List, [], ◌∷◌, length, get_or, Result, Ok, Err, refl, sym, ap, subst, ◌∙◌, inl, inr, ◌⊎◌, arith, Some, ◌≢◌}
+use Rattle.yaml_scan_machine.proofs.Words.{cases_Bool, nat_tests, length-map, option_map, yaml_encoding_t, ScanError, scanner_fault, text_bytes, decoding_fault, decoded_characters, in_utf8, Offence, reader_fault, Reader, Fault, memory_fault, result_err, encoding_of, Token, GivesFirst, scanned, scanned_in, left_in, left_from, IsTold, IsLocated, Lexeme, entries, first_open, Next, Read, Fails, Ends, next, Remaining, remaining, length-entries, first_open-le, front_none, Machine, Waiting, KeptLexeme, kept_of, Answer, IsMachine, ReadsOneMore, WantsMore, ready_in, is_ready, Fields, fields_of, IsShown, read, settled_in, history_of, stream_of, GivesNext, Stops, to_come}
 use Rattle.std.specs.Prelude.{IfErr}
 use Rattle.yaml_scan_model.specs.declared.name.yaml_encoding_t.TheVariants.{YAML_UTF8_ENCODING}
 use Rattle.yaml_scan_model.specs.declared.name.yaml_error_type_t.TheVariants.{YAML_READER_ERROR, YAML_MEMORY_ERROR}
@@ -62,19 +62,26 @@ end_machine m i stuck over =
     ] in
     end_comes (stream_of m) (m.dropped + length (fields_of m).waiting) m.dropped m.given none past
 
--- where one more is read, 1,024 wait at most
-pub waits_short : (m : Machine) (l : Lexeme) → IsMachine m → is_ready m ≡ false → m.ended ≡ false
-    → next (text_bytes m.text) (history_of m) ≡ Read l → length m.waiting.items ≤ 1024
+-- where the next token isn't known, a further lexeme may be read
+pub wants_more : (m : Machine) → IsMachine m → is_ready m ≡ false → WantsMore m
+wants_more m i stuck = record {
+  few = elim (not_ready m.dropped m.settled m.given m.waiting.items stuck) [
+    | inl empty ↦ omega (arith, i.settled, ap (λ (ws : List Waiting). length ws) empty)
+    | inr (w, rest, all, low, past) ↦ omega (arith, low)
+  ];
+  needed = λ none. stuck;
+}
+
+-- where one more is read, 1,024 wait at most, and those that are read ahead
+pub waits_short : (m : Machine) (l : Lexeme) → IsMachine m → WantsMore m → m.ended ≡ false
+    → next (text_bytes m.text) (history_of m) ≡ Read l → length m.waiting.items ≤ 1024 + m.ahead
 unfolding read
-waits_short m l i stuck more is =
+waits_short m l i wants more is =
     let s = i.shown in
     let len = length-map m.waiting.items (λ (x : Waiting). kept_of x) in
     let first = settled_first (fields_of m) s more in
     let few = few_wait (text_bytes m.text) (m.dropped + length (fields_of m).waiting) l is in
-    elim (not_ready m.dropped m.settled m.given m.waiting.items stuck) [
-      | inl empty ↦ rw empty (omega arith)
-      | inr (w, rest, all, low, past) ↦ omega (arith, few, first, low, s.count, len)
-    ]
+    omega (arith, few, first, wants.few, s.count, len)
 
 -- at a fault nothing is left but the fault
 pub fault_machine : (m : Machine) (e : ScanError) → IsMachine m → is_ready m ≡ false

@@ -1,17 +1,18 @@
 -- Reading on behind a machine of which the same is to come.
-use Rattle.std.proofs.Common.{◌≡◌, ◌<◌, ◌≤◌, ◌+◌, ℕ, zero, suc, Bool, true, false, List, [], ◌∷◌, length, refl, sym, ap, subst, ◌∙◌, inl, inr, arith, Option, Some, Result, Ok, Err}
-use Rattle.yaml_scan_machine.proofs.Words.{cases_lt, cases_Bool, yaml_encoding_t, Reader, ScanError, Fault, memory_fault, option_map, result_err, Offence, reader_fault, decoded_characters, in_utf8, text_bytes, decoding_fault, encoding_of, Remaining, Machine, Waiting, left_in, IsTold, IsLocated, IsMachine, ReadsOneMore, is_ready, ready_in, MayReadAt, Kind, HasMore}
+use Rattle.std.proofs.Common.{◌≡◌, ◌<◌, ◌≤◌, ◌+◌, ◌⊎◌, ℕ, zero, suc, Bool, true, false, List, [], ◌∷◌, length, refl, sym, ap, subst, ◌∙◌, inl, inr, arith, Option, Some, Result, Ok, Err}
+use Rattle.yaml_scan_machine.proofs.Words.{cases_lt, cases_Bool, yaml_encoding_t, Reader, ScanError, Fault, memory_fault, option_map, result_err, Offence, reader_fault, decoded_characters, in_utf8, text_bytes, decoding_fault, encoding_of, Remaining, Machine, Waiting, left_in, IsTold, IsLocated, IsMachine, ReadsOneMore, StaysShort, WantsMore, is_ready, ready_in, MayReadAt, Kind, HasMore, Token}
 use Rattle.yaml_scan_machine.specs.Stood.{Steps}
-use Rattle.std.proofs.lemmas.Bool.{lt-ltb}
+use Rattle.std.proofs.lemmas.Bool.{lt-ltb, ltb-true, true≢false}
 use Rattle.yaml_scan_model.specs.declared.fault.yaml_origin_t.TheVariants.{Scanner}
 use Rattle.yaml_scan_machine.specs.State.{KeepsInput, TellsUtf8}
 use Rattle.yaml_scan_machine.specs.declared.next.LexemeSpot.{LexemeSpot}
 use Rattle.yaml_scan_machine.specs.declared.reading.Sought.{Sought}
-use Rattle.yaml_scan_machine.specs.Found.{Denies, Finishes, ReadsOn, ReadsAsNeeded, ReaderLacks, PlainIsTold, read_by}
+use Rattle.yaml_scan_machine.specs.Found.{Denies, FallsBack, Finishes, ReadsOn, ReadsAsNeeded, ReaderLacks, PlainIsTold, is_lack, read_by}
 use Rattle.yaml_scan_machine.specs.Settled.{settles}
 use Rattle.yaml_scan_model.specs.declared.problem.ScanError.TheVariants as errors
 use Rattle.yaml_scan_machine.specs.declared.reading.Sought.TheVariants as found
 use Rattle.yaml_scan_machine.proofs.ComesLemmas.{left_is, reader_wide, goes_same, told_error, fault_machine, end_machine}
+use Rattle.yaml_scan_machine.specs.Comes.{Refused}
 use Rattle.yaml_scan_machine.proofs.MoreLemmas.{machine_more}
 use Rattle.yaml_scan_machine.proofs.SettledLemmas.{machine_tells}
 
@@ -28,33 +29,35 @@ settles_same m first n setting input left =
 
 -- nothing is read
 pub reads_none : (old new : Machine) → KeepsInput old new → ReadsAsNeeded old new
-reads_none old new k = record { setting = k.setting; bytes = k.bytes; further = omega (arith, k.read); needed = λ n least most. absurd (omega (arith, k.read, least, most)) }
+reads_none old new k = record { setting = k.setting; bytes = k.bytes; ahead = k.ahead; further = omega (arith, k.read); needed = λ none n least most. absurd (omega (arith, k.read, least, most)) }
 
 pub reads_itself : (m : Machine) → ReadsAsNeeded m m
-reads_itself m = record { setting = refl; bytes = refl; further = omega arith; needed = λ n least most. absurd (omega (arith, least, most)) }
+reads_itself m = record { setting = refl; bytes = refl; ahead = refl; further = omega arith; needed = λ none n least most. absurd (omega (arith, least, most)) }
 
 pub reads_both : (old mid new : Machine) → left_in mid ≡ left_in old → ReadsAsNeeded old mid
     → ReadsAsNeeded mid new → ReadsAsNeeded old new
 reads_both old mid new left a b = record {
   setting = b.setting ∙ a.setting;
   bytes = b.bytes ∙ a.bytes;
+  ahead = b.ahead ∙ a.ahead;
   further = omega (arith, a.further, b.further);
-  needed = λ n least most. elim (cases_lt n (read_by mid)) [
-    | inl below ↦ a.needed n least below
-    | inr past ↦ sym (settles_same mid old n a.setting a.bytes left) ∙ b.needed n past most
+  needed = λ none n least most. elim (cases_lt n (read_by mid)) [
+    | inl below ↦ a.needed none n least below
+    | inr past ↦ sym (settles_same mid old n a.setting a.bytes left) ∙ b.needed (a.ahead ∙ none) n past most
   ];
 }
 
--- a lexeme more is read where the next token isn't known
-pub reads_more : (m new : Machine) → IsMachine m → is_ready m ≡ false → ReadsOneMore m new
+-- a lexeme more is read where the next token isn't known, or some are read ahead
+pub reads_more : (m new : Machine) → IsMachine m → WantsMore m → ReadsOneMore m new
     → ReadsAsNeeded m new
-reads_more m new i stuck on = record {
+reads_more m new i wants on = record {
   setting = on.setting;
   bytes = on.bytes;
+  ahead = on.ahead;
   further = omega (arith, on.dropped, on.further);
-  needed = λ n least most.
+  needed = λ none n least most.
       let same : n ≡ read_by m = omega (arith, on.dropped, on.further, least, most) in
-      ap (λ k. settles_in m k) same ∙ sym (machine_tells m i).is ∙ stuck;
+      ap (λ k. settles_in m k) same ∙ sym (machine_tells m i).is ∙ wants.needed none;
 }
 
 reader_behind : (old mid : Machine) (f : Fault) → ReadsAsNeeded old mid → ReaderLacks mid f
@@ -70,6 +73,10 @@ plain_behind old mid f a plain g utf8 is =
     (ap (λ (s : yaml_encoding_t). encoding_of s mid.input.now) a.setting ∙ ap (λ (bytes : List ℕ). encoding_of old.setting bytes) a.bytes ∙ utf8)
     (ap (λ (s : yaml_encoding_t). decoding_fault s mid.input.now) a.setting ∙ ap (λ (bytes : List ℕ). decoding_fault old.setting bytes) a.bytes ∙ is)
 
+short_behind : (old mid new : Machine) → mid.ahead ≡ old.ahead → StaysShort mid new
+    → StaysShort old new
+short_behind old mid new same (kept, short) = (kept ∙ same, short)
+
 pub reads_behind : (old mid new : Machine) (f : Fault) (s : Sought) → left_in mid ≡ left_in old
     → is_ready mid ≡ is_ready old → ReadsAsNeeded old mid → ReadsOn mid new f s → ReadsOn old new f s
 reads_behind old mid new f found.Known left ready a r = record { stands = r.stands; left = r.left ∙ left; ready = r.ready; reads = reads_both old mid new left a r.reads }
@@ -80,7 +87,7 @@ reads_behind old mid new f found.Refused left ready a r = record {
   told = subst (λ (c : Remaining). IsTold c f) left r.told;
   reader = reader_behind old mid f a r.reader;
   plain = plain_behind old mid f a r.plain;
-  few = r.few;
+  few = short_behind old mid new a.ahead r.few;
 }
 
 no_scanner_reader : (e : ScanError) (f : Fault) → IsLocated e f → f ≡ memory_fault Reader → ⊥
@@ -108,29 +115,78 @@ reads_start m i on = record { stands = i; started = on; left = refl; reads = rea
 
 -- a step reads one lexeme more
 pub steps_on : (first m new : Machine) (f : Fault) (b : Bool) → ReadsFrom first m
-    → is_ready m ≡ false → b ≡ true → Steps m new f b
-    → ReadsFrom first new × (0 < length new.waiting.items)
-steps_on first m new f false r stuck done s = cc
-steps_on first m new f true r stuck done (stands, on) =
+    → WantsMore m → b ≡ true → Steps m new f b
+    → ReadsFrom first new × (0 < length new.waiting.items) × (new.dropped + new.ahead ≡ m.dropped + m.ahead)
+steps_on first m new f false r wants done s = cc
+steps_on first m new f true r wants done (stands, on) =
     let still = on.started ∙ r.started in
     let left = left_is new still ∙ goes_same m new on ∙ sym (left_is m r.started) ∙ r.left in
-    (record { stands = stands; started = still; left = left; reads = reads_both first m new r.left r.reads (reads_more m new r.stands stuck on) }, omega (arith, on.further))
+    (record { stands = stands; started = still; left = left; reads = reads_both first m new r.left r.reads (reads_more m new r.stands wants on) }, omega (arith, on.further), omega (arith, on.dropped, on.ahead))
+
+-- A machine that is refused a lexeme and isn't out of memory stands as it stood.
+pub still_stands : (m new : Machine) (f : Fault) (b : Bool) → IsMachine m → b ≡ false
+    → Steps m new f b → is_lack f.kind ≡ false → IsMachine new × (new ≡ m)
+unfolding is_lack
+still_stands m new f true i failed s kept = cc
+still_stands m new f false i failed (refused, few, inl lack) kept = absurd (true≢false (ap (λ (g : Fault). is_lack g.kind) (sym lack) ∙ kept))
+still_stands m new f false i failed (refused, few, inr same) kept = (subst IsMachine (sym same) i, same)
+
+some_more : (ts : List Token) (f : Option Fault) (u : ℕ) → u < length ts → HasMore ts f
+some_more [] f u less = absurd (omega (arith, less))
+some_more (t ∷ ts) f u less = tt
+
+-- where the next token is known, one is to come
+ready_more : (m : Machine) → IsMachine m → is_ready m ≡ true
+    → HasMore (left_in m).tokens (left_in m).fault
+ready_more m i ready = let t = machine_tells m i in some_more (left_in m).tokens (left_in m).fault _ (ltb-true _ _ (sym t.is ∙ ready))
+
+-- Memory ran out, or the next token isn't known: so a refusal may be told.
+abbrev MayTell : Machine → Fault → Type 0
+MayTell m f = (is_lack f.kind ≡ true) ⊎ (is_ready m ≡ false)
+
+told_unless : (m : Machine) (e : ScanError) (f : Fault) → IsMachine m → m.started ≡ true
+    → m.ended ≡ false → Refused m e → IsLocated e f → MayTell m f → IsTold (left_in m) f
+unfolding is_lack
+told_unless m errors.Memory f i on more refused is why = told_error m errors.Memory f on tt is
+told_unless m (errors.Fault p) f i on more refused is (inl lack) = absurd (true≢false (sym lack ∙ ap (λ (g : Fault). is_lack g.kind) is))
+told_unless m (errors.Fault p) f i on more refused is (inr stuck) = told_error m (errors.Fault p) f on (fault_machine m (errors.Fault p) i stuck more refused) is
 
 -- or is refused, with the fault that a machine tells; a step's want of memory is the scanner's
 pub steps_off : (first m new : Machine) (f : Fault) (b : Bool) → ReadsFrom first m
-    → is_ready m ≡ false → m.ended ≡ false → is_ready first ≡ false → b ≡ false → Steps m new f b
+    → m.ended ≡ false → is_ready first ≡ false → b ≡ false → Steps m new f b → MayTell m f
     → Denies first new f
-steps_off first m new f true r stuck more sought failed s = cc
-steps_off first m new f false r stuck more sought failed ((e, refused, is), few) =
-    let left = sym (left_is m r.started) ∙ r.left in
+steps_off first m new f true r more sought failed s why = cc
+steps_off first m new f false r more sought failed ((e, refused, is), few, whole) why =
+    let any : HasMore (left_in m).tokens (left_in m).fault = elim (cases_Bool (is_ready m)) [
+      | inl ready ↦ ready_more m r.stands ready
+      | inr stuck ↦ let left = sym (left_is m r.started) in subst (λ (c : Remaining). HasMore c.tokens c.fault) left (machine_more m r.stands stuck more)
+    ] in
     record {
       sought = sought;
-      more = subst (λ (c : Remaining). HasMore c.tokens c.fault) left (machine_more m r.stands stuck more);
-      told = subst (λ (c : Remaining). IsTold c f) r.left (told_error m e f r.started (fault_machine m e r.stands stuck more refused) is);
+      more = subst (λ (c : Remaining). HasMore c.tokens c.fault) r.left any;
+      told = subst (λ (c : Remaining). IsTold c f) r.left (told_unless m e f r.stands r.started more refused is why);
       reader = λ same. absurd (no_scanner_reader e f is same);
       plain = plain_behind first m f r.reads (decoded_plain m f r.stands r.started);
-      few = few;
+      few = short_behind first m new r.reads.ahead few;
     }
+
+may_tell : (m new : Machine) (f : Fault) (b : Bool) → b ≡ false → Steps m new f b → MayTell new f
+    → MayTell m f
+unfolding is_lack
+may_tell m new f true failed s why = cc
+may_tell m new f false failed s (inl lack) = inl lack
+may_tell m new f false failed (refused, few, inl lack) (inr stuck) = inl (ap (λ (g : Fault). is_lack g.kind) lack)
+may_tell m new f false failed (refused, few, inr same) (inr stuck) = inr (ap is_ready (sym same) ∙ stuck)
+
+-- or is refused, and the next token is known all the same
+pub steps_back : (first m new : Machine) (f : Fault) (b : Bool) (s : Sought) → ReadsFrom first m
+    → m.ended ≡ false → is_ready first ≡ false → b ≡ false → Steps m new f b
+    → FallsBack new (is_lack f.kind) s → ReadsOn first new f s
+steps_back first m new f b found.Known r more sought failed step (kept, ready) =
+    let (stands, same) = still_stands m new f b r.stands failed step kept in
+    record { stands = stands; left = ap left_in same ∙ r.left; ready = ready; reads = subst (λ (n : Machine). ReadsAsNeeded first n) (sym same) r.reads }
+steps_back first m new f b found.Nothing r more sought failed step back = absurd back
+steps_back first m new f b found.Refused r more sought failed step back = steps_off first m new f b r more sought failed step (may_tell m new f b failed step back)
 
 -- behind the end nothing is to come
 pub steps_end : (first m : Machine) → ReadsFrom first m → is_ready m ≡ false → m.ended ≡ true

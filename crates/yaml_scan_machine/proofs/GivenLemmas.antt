@@ -1,6 +1,6 @@
 -- What is taken of the waiting list and of the lexeme that waits first, and how many levels a lexeme closes.
 use Rattle.std.proofs.Common.{◌≡◌, ℕ, ◌+◌, ◌<◌, false, List, [], ◌∷◌, length, drop, refl, sym, ap, subst, ◌∙◌, arith, suc, ◌-◌, ◌≤◌, Bool, true, ◌&&◌, not, ltb, leb, take, get_or, Some, None, inl, inr, length-append}
-use Rattle.yaml_scan_machine.proofs.Words.{map, zero_mark, Lexeme, yaml_encoding_t, entries, first_open, levels, history, Waiting, KeptLexeme, kept_of, KeyStack, AreKeys, Fields, ShowsMachine, IsShown, all_kept, read, settled_in, spelled, cases_Bool, cases_lt, get_or-append_right, get_or-drop, get_or-map, TokenBody, Kind, Entry, is_start, left_by, keeps, opened, opens_at, found_by, inside, indent, keyed, entry_of, Read, next, first_lexeme, GoesForward, length-entries, length-keyed, entries_ends, IsMachine, is_ready, ready_in, fields_of, history_of, kept_in, stream_of, Machine, front_at, front_count, given_in, get_or_at}
+use Rattle.yaml_scan_machine.proofs.Words.{map, zero_mark, Lexeme, yaml_encoding_t, entries, first_open, levels, history, Waiting, KeptLexeme, kept_of, KeyStack, AreKeys, Fields, ShowsMachine, IsShown, all_kept, read, settled_in, spelled, cases_lt, get_or-drop, get_or-map, TokenBody, Kind, Entry, is_start, left_by, keeps, opened, opens_at, found_by, inside, keyed, entry_of, Read, next, first_lexeme, GoesForward, length-entries, length-keyed, entries_ends, IsMachine, is_ready, ready_in, fields_of, history_of, kept_in, stream_of, Machine, front_at, front_count, given_in, get_or_at}
 use Rattle.std.proofs.lemmas.List.{drop-drop, get_or-take}
 use Rattle.std.specs.Prelude.{filter}
 use Rattle.yaml_scan_history.proofs.HistoryLemmas.{take-entries}

@@ -1,6 +1,6 @@
 -- What a lexeme makes of the candidates of each depth, and which of them is the earliest.
 use Rattle.std.proofs.Common.{◌≡◌, ◌∙◌, ℕ, ◌+◌, ◌-◌, ◌<◌, ◌≤◌, inl, inr, true, false, eqb, ◌&&◌, List, [], ◌∷◌, ◌++◌, length, take, drop, get_or, Option, Some, None, Result, Ok, Err, OnOk, refl, sym, ap, subst, arith}
-use Rattle.yaml_scan_machine.proofs.Words.{cases_Bool, cases_lt, cases_order, nat_tests, get_or_past, get_or-drop, get_or-map, length-drop, take_all, length-map, yaml_mark_t, Lexeme, cancels, depth_after, Candidate, candidate, depth, fresh, is_fresh, first_open, reached, entries, Entry, map, Waiting, KeptLexeme, kept_of, Fields, IsShown, kept_in, read, spelled, fields_of, history_of, Read, history, missed, next, Upto, GoesForward, candidate_below, length-entries, first_open-le, fresh_is, fresh_before, Key, Machine, text_bytes, required_in, stack_of, KeyStack, KeyView, key_at, view_of, key_view, fresh_key, AreStale, IsKey, AreKeysTo, AreKeys, Turns}
+use Rattle.yaml_scan_machine.proofs.Words.{cases_Bool, cases_lt, cases_order, nat_tests, get_or_past, get_or-drop, get_or-map, length-drop, take_all, length-map, yaml_mark_t, Lexeme, cancels, depth_after, Candidate, candidate, depth, fresh, first_open, reached, entries, Entry, map, Waiting, KeptLexeme, kept_of, Fields, IsShown, kept_in, read, spelled, fields_of, history_of, Read, history, missed, next, Upto, GoesForward, candidate_below, length-entries, first_open-le, fresh_is, fresh_before, Key, Machine, text_bytes, required_in, stack_of, KeyStack, KeyView, key_at, view_of, key_view, fresh_key, AreStale, IsKey, AreKeysTo, AreKeys, Turns}
 use Rattle.std.proofs.lemmas.List.{take-append-le}
 use Rattle.yaml_scan_history.proofs.HistoryLemmas.{first_open-is, first_open-least}
 use Rattle.yaml_scan_machine.specs.declared.keys.Earliest.{Earliest}

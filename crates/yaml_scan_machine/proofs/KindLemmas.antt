@@ -1,6 +1,6 @@
 -- Reading the lexeme of a kind.
-use Rattle.std.proofs.Common.{◌≡◌, ℕ, ◌+◌, ◌<◌, ◌≤◌, Bool, true, false, cond, ltb, ◌&&◌, ◌||◌, not, List, [], ◌∷◌, length, Option, Some, None, Result, Ok, Err, refl, sym, ap, subst, ◌∙◌, inl, inr, arith}
-use Rattle.yaml_scan_machine.proofs.Words.{cases_Bool, and_parts, length-map, is_some, yaml_mark_t, ScanFault, ScanError, Place, mark_at, splits_break, body_of, zero_mark, Wrong, Gap, gap_at, Kind, Lexeme, is_value, is_start, is_end, may_be_key, Candidate, candidate, fresh, has, reached, depth, placed, levels, found_by, WordText, word_at, kind_at, Next, Read, Fails, Ends, colon_missing, next, history, first_lexeme, allowed_behind, finished, misplaced, missed, lost_by, behind, unless_missed, no_colon, unless_wrong, unless_lost, of_kind, SpelledText, body_in, Machine, Waiting, kept_of, Answer, IsPlace, ReadsWord, Fields, fields_of, IsShown, read, Picks, history_of, stream_of, required_in, late, lost, required_behind, keyed_by, GivesNext, Stops, text_bytes, Upto}
+use Rattle.std.proofs.Common.{◌≡◌, ℕ, ◌+◌, ◌<◌, ◌≤◌, Bool, true, false, cond, ltb, ◌&&◌, ◌||◌, not, List, [], ◌∷◌, length, Option, Some, None, Result, Ok, Err, refl, sym, ap, subst, ◌∙◌, arith}
+use Rattle.yaml_scan_machine.proofs.Words.{and_parts, length-map, is_some, yaml_mark_t, ScanFault, ScanError, Place, mark_at, splits_break, body_of, zero_mark, Wrong, Gap, gap_at, Kind, Lexeme, is_value, is_start, is_end, may_be_key, Candidate, candidate, fresh, has, reached, depth, placed, levels, found_by, WordText, word_at, kind_at, Next, Read, Fails, Ends, colon_missing, next, history, first_lexeme, allowed_behind, finished, misplaced, missed, lost_by, behind, unless_missed, no_colon, unless_wrong, unless_lost, of_kind, SpelledText, body_in, Machine, Waiting, kept_of, Answer, IsPlace, ReadsWord, Fields, fields_of, IsShown, read, Picks, history_of, stream_of, required_in, late, lost, required_behind, keyed_by, GivesNext, Stops, text_bytes, Upto}
 use Rattle.std.specs.Prelude.{IfOk}
 use Rattle.yaml_scan_model.specs.declared.token.yaml_token_body_t.{yaml_token_body_t}
 use Rattle.yaml_scan_model.specs.Tokens.{stream_start}

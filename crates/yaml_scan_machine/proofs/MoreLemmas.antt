@@ -1,5 +1,5 @@
 -- Where the end wasn't read, something is to come.
-use Rattle.std.proofs.Common.{◌≡◌, ◌⊎◌, ℕ, ◌+◌, ◌<◌, ◌≤◌, true, false, ltb, List, [], ◌∷◌, ◌++◌, length, get_or, Option, Some, None, Result, Ok, Err, refl, sym, ap, subst, ◌∙◌, inl, inr, arith, length-append}
+use Rattle.std.proofs.Common.{◌≡◌, ◌⊎◌, ℕ, ◌+◌, ◌<◌, ◌≤◌, false, List, [], ◌∷◌, ◌++◌, length, get_or, Option, Some, None, Result, Ok, Err, refl, sym, ap, subst, ◌∙◌, inl, inr, arith, length-append}
 use Rattle.yaml_scan_machine.proofs.Words.{cases_lt, nat_tests, map, yaml_encoding_t, Fault, scanner_fault, Token, no_token, Offence, text_bytes, encoding_of, decoded_text, ScanFault, Kind, Entry, Lexeme, ended, entries, Next, Read, Fails, Ends, first_lexeme, kind_behind, no_start, coming, next, history, SpelledText, Remaining, all, remaining, offline, scanned_in, entries_ends, Machine, Waiting, KeptLexeme, kept_of, to_come, left_in, fields_of, read, history_of, stream_of, IsMachine, ready_in, is_ready, given_in, HasMore}
 use Rattle.yaml_scan_history.specs.Next.{place_behind, lexeme_behind, stale_before, faults, first_fault_or}
 use Rattle.yaml_scan_history.specs.Remaining.{fault_in}

@@ -1,6 +1,6 @@
 -- What comes next, by the fields of a machine.
 use Rattle.std.proofs.Common.{◌≡◌, ℕ, zero, suc, ◌+◌, ◌-◌, ◌<◌, ◌≤◌, Bool, true, false, ltb, eqb, ◌&&◌, List, [], ◌∷◌, length, Option, Some, None, refl, sym, ap, subst, ◌∙◌, inl, inr, arith}
-use Rattle.yaml_scan_machine.proofs.Words.{cases_Bool, cases_lt, and_parts, nat_tests, yaml_mark_t, mark_at, line_at, Lexeme, cancels, may_be_key, Candidate, candidate, fresh, is_fresh, first_open, reached, depth, key_allowed, ended, Read, next, history, first_lexeme, allowed_behind, missed, lost_by, behind, Upto, stepwise, fresh_is, cases_Option, Fields, IsShown, read, settled_in, required_in, late, lost, required_behind}
+use Rattle.yaml_scan_machine.proofs.Words.{nat_tests, yaml_mark_t, mark_at, line_at, Lexeme, may_be_key, Candidate, candidate, fresh, first_open, reached, depth, key_allowed, ended, Read, next, history, first_lexeme, allowed_behind, missed, lost_by, behind, Upto, stepwise, fresh_is, Fields, IsShown, read, settled_in, required_in, late, lost, required_behind}
 use Rattle.yaml_scan_words.proofs.PlacesLemmas.{gap_place}
 use Rattle.yaml_scan_machine.proofs.ReadLemmas.{next_is, first_is, begun_at, gap_of, finished_same}
 use Rattle.yaml_scan_machine.proofs.StepLemmas.{candidate_top, each_history}

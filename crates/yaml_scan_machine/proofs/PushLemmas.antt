@@ -1,6 +1,6 @@
 -- The fields behind one more lexeme, and the lexemes that wait, where one of them is told what a later one makes of it.
 use Rattle.std.proofs.Common.{◌≡◌, ℕ, ◌<◌, ◌≤◌, List, length, get_or, ap, sym, subst, ◌∙◌, inl, inr, arith, refl, Result, Ok, Err, ◌+◌, ◌-◌, Bool, true, false, cond, ltb, eqb, ◌&&◌, ◌||◌, not, ◌∷◌, drop, Option, Some, None}
-use Rattle.yaml_scan_machine.proofs.Words.{set, Opens, Line, Waiting, marked, IsShort, AreInside, cases_Bool, map, is_some, Kind, Lexeme, is_value, is_start, is_end, allows_key, Candidate, candidate, has, first_open, entries, entry_of, levels, key_allowed, found_by, inside, start_of, opens_at, opened, Read, next, yaml_mark_t, TokenBody, body_in, Machine, Fields, fields_of, IsShown, all_kept, kept_in, read, settled_in, spelled, Picks, history_of, stream_of, KeptLexeme, kept_of, opens_for, keyed_by, get_or_default, fresh_is}
+use Rattle.yaml_scan_machine.proofs.Words.{set, Opens, Line, Waiting, marked, IsShort, StaysShort, AreInside, cases_Bool, map, is_some, Kind, Lexeme, is_value, is_start, is_end, allows_key, Candidate, candidate, has, first_open, entries, entry_of, levels, key_allowed, found_by, inside, start_of, opens_at, opened, Read, next, yaml_mark_t, TokenBody, body_in, Machine, Fields, fields_of, IsShown, all_kept, kept_in, read, settled_in, spelled, Picks, history_of, stream_of, KeptLexeme, kept_of, opens_for, keyed_by, get_or_default, fresh_is}
 use Rattle.std.proofs.lemmas.List.{length-set}
 use Rattle.std.specs.Prelude.{OnErr}
 use Rattle.yaml_scan_queue.specs.Line.{Grows}
@@ -28,18 +28,21 @@ marked_inside ws new o i lt all n h =
     subst (λ (xs : List Waiting). AreInside n xs) (sym (all w)) (inside_set n (marked o (get_or ws i w)) ws i (h i w lt) h)
 
 -- A row grows where it is at least half full, and few wait where one lexeme more is read.
-pub row_grows : (m d r p : Line) → length m.items ≤ 1024 → m.slots ≤ 2049
+pub row_grows : (a : ℕ) (m d r p : Line) → length m.items ≤ 1024 + a → m.slots ≤ 2049 + (a + a)
     → length d.items ≡ length m.items → d.slots ≡ m.slots → Grows d r → p.slots ≡ r.slots
-    → p.slots ≤ 2049
-row_grows m d r p few most count slots (inl same) kept = omega (arith, most, slots, same, kept)
-row_grows m d r p few most count slots (inr (more, half)) kept = omega (arith, few, count, more, half, kept)
+    → p.slots ≤ 2049 + (a + a)
+row_grows a m d r p few most count slots (inl same) kept = omega (arith, most, slots, same, kept)
+row_grows a m d r p few most count slots (inr (more, half)) kept = omega (arith, few, count, more, half, kept)
 
-pub row_short : (m d r : Line) → length m.items ≤ 1024 → m.slots ≤ 2049
+pub row_short : (a : ℕ) (m d r : Line) → length m.items ≤ 1024 + a → m.slots ≤ 2049 + (a + a)
     → length d.items ≡ length m.items → d.slots ≡ m.slots → r.items ≡ d.items → Grows d r
-    → IsShort r
-row_short m d r few most count slots items grows =
+    → IsShort a r
+row_short a m d r few most count slots items grows =
     let long : length r.items ≡ length d.items = ap (λ (ws : List Waiting). length ws) items in
-    (omega (arith, few, count, long), row_grows m d r r few most count slots grows refl)
+    (omega (arith, few, count, long), row_grows a m d r r few most count slots grows refl)
+
+pub stays : (m n : Machine) → n.ahead ≡ m.ahead → IsShort m.ahead n.waiting → StaysShort m n
+stays m n e short = (e, subst (λ a. IsShort a n.waiting) (sym e) short)
 
 pub on_err : {X Y : Type 0} → (r : Result X Y) (P : Type 0) → P → OnErr r P
 on_err (Ok x) P p = tt

@@ -1,6 +1,6 @@
 -- Levels as lists of columns; places, levels and waiting lexemes stay inside the text.
 use Rattle.std.proofs.Common.{◌≡◌, ℕ, suc, ◌<◌, ◌≤◌, true, leb, List, [], ◌∷◌, ◌++◌, length, take, get_or, refl, sym, ◌∙◌, inl, inr, arith, get_or-take, length-append, zero, ◌+◌, Bool, false, cond, ltb, ap}
-use Rattle.yaml_scan_machine.proofs.Words.{get_or_at, cases_lt, nat_tests, length-take-le, get_or_append_left, slice_index, indent, IsRising, left_of, cases_Bool, yaml_mark_t, line_at, column_at, starts, byte, Kind, is_end, depth_after, opened, placed, keeps, left_by, Waiting, IsPlace, IsNarrow, AreInside, ready_in}
+use Rattle.yaml_scan_machine.proofs.Words.{get_or_at, cases_lt, nat_tests, length-take-le, get_or_append_left, slice_index, indent, IsRising, left_of, cases_Bool, yaml_mark_t, line_at, column_at, starts, byte, Kind, depth_after, opened, placed, keeps, left_by, Waiting, IsPlace, IsNarrow, AreInside, ready_in}
 use Rattle.std.specs.Prelude.{slice_set}
 use Rattle.yaml_scan_model.specs.Marks.{splits_of, ends_break}
 use Rattle.yaml_scan_history.specs.declared.kind.Kind.TheVariants as kinds

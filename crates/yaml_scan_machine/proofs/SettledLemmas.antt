@@ -1,6 +1,6 @@
 -- The next token is known where the lexemes that were read settle it.
 use Rattle.std.proofs.Common.{◌≡◌, ℕ, zero, suc, ◌+◌, ◌-◌, ◌<◌, ◌≤◌, Bool, true, false, ltb, List, [], ◌∷◌, ◌++◌, length, take, drop, get_or, Result, Ok, Err, refl, sym, ap, subst, ◌∙◌, inl, inr, arith, length-append}
-use Rattle.yaml_scan_machine.proofs.Words.{cases_Bool, cases_lt, nat_tests, length-map, length-drop, map, flat_map, yaml_encoding_t, Token, text_bytes, Offence, encoding_of, decoded_text, Lexeme, Entry, ended, entries, first_open, next, history, SpelledText, all, handed, spell, front_ends, Remaining, remaining, offline, scanned_in, length-entries, tokens_is, front_none, ends_token, Machine, Waiting, KeptLexeme, given_in, to_come, left_in, fields_of, read, settled_in, kept_in, stream_of, IsMachine, ready_in, is_ready, settled_tokens}
+use Rattle.yaml_scan_machine.proofs.Words.{cases_Bool, cases_lt, nat_tests, length-map, length-drop, map, flat_map, yaml_encoding_t, Token, text_bytes, Offence, encoding_of, decoded_text, Lexeme, Entry, entries, first_open, next, history, SpelledText, all, handed, spell, front_ends, Remaining, remaining, offline, scanned_in, length-entries, tokens_is, front_none, ends_token, Machine, Waiting, KeptLexeme, given_in, to_come, left_in, fields_of, read, settled_in, kept_in, stream_of, IsMachine, ready_in, is_ready, settled_tokens}
 use Rattle.yaml_scan_history.specs.Remaining.{kept_of}
 use Rattle.yaml_scan_laws_order.proofs.RemainingForward.{Known, known_settled, known_ended, known_next, front_count}
 use Rattle.yaml_scan_queue.specs.Waits.{kept_of as waits_as}

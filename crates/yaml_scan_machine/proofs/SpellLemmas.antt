@@ -1,6 +1,6 @@
 -- How a lexeme is spelled out, a token at a time.
 use Rattle.std.proofs.Common.{◌≡◌, ℕ, zero, suc, ◌+◌, ◌-◌, ◌<◌, ◌≤◌, Bool, true, false, cond, ltb, eqb, List, [], ◌∷◌, ◌++◌, length, get_or, Option, Some, None, refl, ap, ◌∙◌, inl, inr, arith, append_assoc, length-append}
-use Rattle.yaml_scan_machine.proofs.Words.{cases_Bool, cases_lt, nat_tests, get_or_append_left, get_or-append_right, Token, TokenBody, block_end, key, Lexeme, Entry, Opens, SpelledText, before, start_tokens, end_tokens, spell, front_at, KeptLexeme, kept_in, front_count, fronted}
+use Rattle.yaml_scan_machine.proofs.Words.{cases_lt, nat_tests, get_or_append_left, get_or-append_right, Token, TokenBody, block_end, key, Lexeme, Entry, Opens, SpelledText, before, start_tokens, end_tokens, spell, front_at, KeptLexeme, kept_in, front_count, fronted}
 use Rattle.std.proofs.lemmas.List.{length-replicate, get_or-replicate}
 use Rattle.yaml_scan_model.specs.Tokens.{block_sequence_start, block_mapping_start}
 use Rattle.yaml_scan_history.specs.Remaining.{token_in, own_tokens}

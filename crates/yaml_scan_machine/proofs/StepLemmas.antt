@@ -1,6 +1,6 @@
 -- What one more lexeme changes.
-use Rattle.std.proofs.Common.{◌≡◌, ℕ, zero, suc, ◌+◌, ◌-◌, ◌<◌, ◌≤◌, Bool, true, false, cond, ltb, eqb, ◌&&◌, List, [], ◌∷◌, length, get_or, Some, None, refl, sym, ap, ◌∙◌, inl, inr, ◌⊎◌, arith}
-use Rattle.yaml_scan_machine.proofs.Words.{cases_Bool, cases_order, nat_tests, get_or_append_left, get_or-append_right, Kind, Lexeme, Entry, is_value, cancels, may_be_key, depth_after, Candidate, candidate, mark_key, keyed, entries, entry_of, found_by, inside, depth, history, Next, Read, Fails, Ends, next, first_lexeme, allowed_behind, candidate_below, length-entries, length-keyed}
+use Rattle.std.proofs.Common.{◌≡◌, ℕ, zero, suc, ◌+◌, ◌-◌, ◌<◌, ◌≤◌, Bool, true, false, cond, ◌&&◌, List, [], ◌∷◌, length, get_or, Some, None, refl, sym, ap, ◌∙◌, inl, inr, ◌⊎◌, arith}
+use Rattle.yaml_scan_machine.proofs.Words.{nat_tests, get_or_append_left, get_or-append_right, Kind, Lexeme, Entry, is_value, cancels, may_be_key, depth_after, Candidate, candidate, mark_key, keyed, entries, entry_of, found_by, inside, depth, history, Next, Read, Fails, Ends, next, first_lexeme, allowed_behind, candidate_below, length-entries, length-keyed}
 use Rattle.yaml_scan_history.specs.Next.{extended}
 use Rattle.yaml_scan_history.specs.History.{marked}
 use Rattle.yaml_scan_history.specs.declared.kind.Kind.TheVariants as kinds

@@ -1,8 +1,10 @@
 -- What reading on came to.
-use Rattle.std.specs.Prelude.{ℕ, ◌+◌, ◌≡◌, ◌≢◌, ◌<◌, ◌≤◌, true, false, List, [], ◌∷◌, Option, Some, None, length}
+use Rattle.std.specs.Prelude.{ℕ, ◌+◌, ◌≡◌, ◌≢◌, ◌<◌, ◌≤◌, ◌⊎◌, Bool, true, false, List, [], ◌∷◌, Option, Some, None, length}
 use Rattle.yaml_scan_model.specs.Tokens.{Token, no_token}
 use Rattle.yaml_scan_model.specs.Faults.{Fault, memory_fault}
 use Rattle.yaml_scan_model.specs.declared.fault.yaml_origin_t.TheVariants.{Reader}
+use Rattle.yaml_scan_model.specs.declared.name.yaml_error_type_t.{yaml_error_type_t}
+use Rattle.yaml_scan_model.specs.declared.name.yaml_error_type_t.TheVariants.{YAML_MEMORY_ERROR}
 use Rattle.yaml_scan_model.specs.declared.name.yaml_encoding_t.TheVariants.{YAML_UTF8_ENCODING}
 use Rattle.yaml_scan_decode.specs.Encodings.{encoding_of}
 use Rattle.yaml_scan_decode.specs.DecodedText.{decoding_fault}
@@ -10,7 +12,7 @@ use Rattle.yaml_scan_history.specs.Remaining.{nothing}
 use Rattle.yaml_scan_laws_order.specs.Fronts.{GivesFirst}
 use Rattle.yaml_scan_machine.specs.declared.machine.Machine.{Machine}
 use Rattle.yaml_scan_machine.specs.Left.{left_in, IsTold}
-use Rattle.yaml_scan_machine.specs.State.{IsShort, IsMachine, is_ready}
+use Rattle.yaml_scan_machine.specs.State.{StaysShort, IsMachine, is_ready}
 use Rattle.yaml_scan_machine.specs.Settled.{settles}
 use Rattle.yaml_scan_machine.specs.declared.reading.Sought.{Sought}
 use Rattle.yaml_scan_machine.specs.declared.reading.Sought.TheVariants as found
@@ -19,12 +21,13 @@ use Rattle.yaml_scan_machine.specs.declared.reading.Sought.TheVariants as found
 abbrev pub read_by : Machine → ℕ
 read_by m = m.dropped + length m.waiting.items
 
--- The input stays. A further lexeme is read only while those before it don't settle the next token.
+-- The input stays. Where none is read ahead, a further lexeme is read only while those before it don't settle the next token.
 pub record ReadsAsNeeded (old new : Machine) : Type 0 where
   pub setting : new.setting ≡ old.setting
   pub bytes : new.input.now ≡ old.input.now
+  pub ahead : new.ahead ≡ old.ahead
   pub further : read_by old ≤ read_by new
-  pub needed : (n : ℕ) → read_by old ≤ n → n < read_by new
+  pub needed : old.ahead ≡ 0 → (n : ℕ) → read_by old ≤ n → n < read_by new
       → settles old.setting old.input.now (left_in old).tokens n ≡ false
 
 -- Want of memory is told of the reader only before the input is decoded, and where it isn't UTF-8, which takes none.
@@ -65,7 +68,18 @@ pub record Denies (old new : Machine) (f : Fault) : Type 0 where
   pub told : IsTold (left_in old) f
   pub reader : ReaderLacks old f
   pub plain : PlainIsTold old f
-  pub few : IsShort new.waiting
+  pub few : StaysShort old new
+
+-- the kind is that of want of memory
+unfoldable pub is_lack : yaml_error_type_t → Bool
+is_lack YAML_MEMORY_ERROR = true
+is_lack _ = false
+
+-- What is answered where a lexeme was refused: that the next token is known, or the refusal, where it isn't or memory ran out.
+abbrev pub FallsBack : Machine → Bool → Sought → Type 0
+FallsBack m lacks found.Known = (lacks ≡ false) × (is_ready m ≡ true)
+FallsBack m lacks found.Nothing = ⊥
+FallsBack m lacks found.Refused = (lacks ≡ true) ⊎ (is_ready m ≡ false)
 
 abbrev pub ReadsOn : Machine → Machine → Fault → Sought → Type 0
 ReadsOn old new f found.Known = Knows old new

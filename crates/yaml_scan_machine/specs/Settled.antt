@@ -39,6 +39,10 @@ open_count setting bytes n = open_of (encoding_of setting bytes) (decoded_text s
 abbrev pub settles : yaml_encoding_t → List ℕ → List Token → ℕ → Bool
 settles setting bytes tokens n = nat_lt (open_count setting bytes n) (length tokens)
 
+-- how many lexemes are read until they are settled, where some are read before they are needed
+abbrev pub most_ahead : ℕ
+most_ahead = 8
+
 -- Whatever follows n lexemes of a text: of every text that has these too, which carry the same, the first tokens are those
 -- that they settle.
 abbrev pub WhateverFollows : Type 0

@@ -17,6 +17,7 @@ use Rattle.yaml_scan_history.specs.History.{left_by, most_waiting, most_slots}
 use Rattle.yaml_scan_machine.specs.Shows.{IsShown, fields_of}
 use Rattle.yaml_scan_machine.specs.Taken.{IsGiven}
 use Rattle.yaml_scan_machine.specs.Candidates.{IsFirst}
+use Rattle.yaml_scan_machine.specs.Settled.{most_ahead}
 
 -- a place where a reader may stand
 pub record IsPlace (text : List ℕ) (m : yaml_mark_t) : Type 0 where
@@ -33,14 +34,20 @@ abbrev pub AreInside : ℕ → List Waiting → Type 0
 AreInside n ws = (k : ℕ) → (w : Waiting) → k < length ws
     → (slice_index_or ws k w).start.column ≤ n
 
--- At most 1,025 lexemes wait, in a row of at most 2,049 slots.
-abbrev pub IsShort : Line → Type 0
-IsShort q = (length q.items ≤ most_waiting) × (q.slots ≤ most_slots)
+-- Where none is read ahead, at most 1,025 lexemes wait, in a row of at most 2,049 slots.
+abbrev pub IsShort : ℕ → Line → Type 0
+IsShort ahead q = (length q.items ≤ most_waiting + ahead)
+    × (q.slots ≤ most_slots + (ahead + ahead))
+
+-- a row that isn't read on stays as short as that
+abbrev pub StaysShort : Machine → Machine → Type 0
+StaysShort old new = (new.ahead ≡ old.ahead) × IsShort new.ahead new.waiting
 
 pub record IsMachine (m : Machine) : Type 0 where
   pub long : length (text_bytes m.text) < 2 ^ 63
   pub few : m.dropped + length m.waiting.items ≤ length (text_bytes m.text) + 2
-  pub short : IsShort m.waiting
+  pub short : IsShort m.ahead m.waiting
+  pub ahead : m.ahead ≤ most_ahead
   pub taken : m.dropped ≤ m.settled
   pub settled : m.settled ≤ m.dropped + length m.waiting.items
   pub depth : m.depth ≤ m.dropped + length m.waiting.items
@@ -63,6 +70,11 @@ ready_in dropped settled given (w ∷ ws) = nat_lt dropped settled || nat_lt giv
 abbrev pub is_ready : Machine → Bool
 is_ready m = ready_in m.dropped m.settled m.given m.waiting.items
 
+-- A further lexeme may be read: of those that wait few are settled, and where none is read ahead the next token isn't known.
+pub record WantsMore (m : Machine) : Type 0 where
+  pub few : m.settled ≤ m.dropped + m.ahead
+  pub needed : m.ahead ≡ 0 → is_ready m ≡ false
+
 -- So many levels a lexeme leaves open that stands at a depth and a column.
 abbrev pub Leaves : Kind → ℕ → ℕ → List ℕ → ℕ → Type 0
 Leaves k depth column levels left = (left ≤ length levels)
@@ -81,6 +93,7 @@ pub record ReadsOneMore (old new : Machine) : Type 0 where
   pub text : new.text ≡ old.text
   pub dropped : new.dropped ≡ old.dropped
   pub given : new.given ≡ old.given
+  pub ahead : new.ahead ≡ old.ahead
   pub encoding : new.encoding ≡ old.encoding
   pub started : new.started ≡ old.started
   pub setting : new.setting ≡ old.setting
@@ -96,4 +109,5 @@ TellsUtf8 m f = encoding_of m.setting m.input.now ≡ YAML_UTF8_ENCODING
 pub record KeepsInput (old new : Machine) : Type 0 where
   pub setting : new.setting ≡ old.setting
   pub bytes : new.input.now ≡ old.input.now
+  pub ahead : new.ahead ≡ old.ahead
   pub read : new.dropped + length new.waiting.items ≡ old.dropped + length old.waiting.items

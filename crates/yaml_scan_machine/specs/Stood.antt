@@ -1,7 +1,8 @@
 -- What stands behind the gap, where a further lexeme is to be read.
-use Rattle.std.specs.Prelude.{◌≡◌, Bool, true, false, nat_lt, Some, None, Ok, is_some}
+use Rattle.std.specs.Prelude.{◌≡◌, ◌⊎◌, Bool, true, false, nat_lt, Some, None, Ok, is_some}
 use Rattle.yaml_scan_model.specs.declared.problem.ScanError.{ScanError}
-use Rattle.yaml_scan_model.specs.Faults.{Fault}
+use Rattle.yaml_scan_model.specs.Faults.{Fault, memory_fault}
+use Rattle.yaml_scan_model.specs.declared.fault.yaml_origin_t.TheVariants.{Scanner}
 use Rattle.yaml_scan_decode.specs.DecodedText.{text_bytes}
 use Rattle.yaml_scan_words.specs.Between.{Gap}
 use Rattle.yaml_scan_history.specs.History.{candidate, fresh, reached}
@@ -17,7 +18,7 @@ use Rattle.yaml_scan_machine.specs.Shows.{history_of}
 use Rattle.yaml_scan_machine.specs.Reads.{required_in, late, GivesNext}
 use Rattle.yaml_scan_machine.specs.Comes.{Refused}
 use Rattle.yaml_scan_machine.specs.Left.{IsLocated}
-use Rattle.yaml_scan_machine.specs.State.{IsPlace, IsShort, IsMachine, IsNext, ReadsOneMore, is_ready}
+use Rattle.yaml_scan_machine.specs.State.{IsPlace, StaysShort, IsMachine, IsNext, ReadsOneMore, WantsMore}
 
 -- a lexeme of a kind stands there, and comes next
 pub record StandsAsNext (m : Machine) (k : Kind) (s : LexemeSpot) : Type 0 where
@@ -43,7 +44,7 @@ pub record ComesNext (m : Machine) (r : Read) : Type 0 where
 pub record MayRead (m : Machine) : Type 0 where
   pub stands : IsMachine m
   pub started : m.started ≡ true
-  pub sought : is_ready m ≡ false
+  pub wants : WantsMore m
   pub more : m.ended ≡ false
 
 -- a lexeme of a kind is to be read, which stands there
@@ -55,7 +56,11 @@ pub record MayReadAt (m : Machine) (k : Kind) (s : LexemeSpot) : Type 0 where
 abbrev pub IsRefused : Machine → Fault → Type 0
 IsRefused m f = (e : ScanError) × (Refused m e) × (IsLocated e f)
 
--- one lexeme more waits (true), or that fault is answered
+-- One lexeme more waits (true), or that fault is answered: all is as before, or memory ran out.
+-- all is as before, or memory ran out
+abbrev pub LeavesWhole : Machine → Machine → Fault → Type 0
+LeavesWhole old new f = (f ≡ memory_fault Scanner) ⊎ (new ≡ old)
+
 abbrev pub Steps : Machine → Machine → Fault → Bool → Type 0
 Steps old new f true = IsMachine new × ReadsOneMore old new
-Steps old new f false = IsRefused old f × IsShort new.waiting
+Steps old new f false = IsRefused old f × StaysShort old new × LeavesWhole old new f

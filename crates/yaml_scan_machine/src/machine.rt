@@ -19,6 +19,9 @@ use yaml_scan_model::{
 use yaml_scan_queue::Queue;
 use yaml_scan_slot::TokenSlot;
 
+/// How many lexemes are read until they are settled, where some are read before they are needed.
+pub const READ_AHEAD: usize = 8;
+
 /// The state between two lexemes.
 #[derive(Drop)]
 pub struct Machine<'a> {
@@ -37,6 +40,8 @@ pub struct Machine<'a> {
     pub given: usize,
     /// How many lexemes no later one changes.
     pub settled: usize,
+    /// How many lexemes are read until they are settled; or 0, and none is read before it is needed.
+    pub ahead: usize,
     /// The candidate of each open depth.
     pub keys: Keys,
     /// The place that is reached.
@@ -51,7 +56,8 @@ pub struct Machine<'a> {
 }
 
 impl<'a> Machine<'a> {
-    ghost use Rattle.yaml_scan_machine.specs.State.{IsShort, IsMachine, IsNarrow, AreInside, KeepsInput, Leaves, TellsUtf8, is_ready};
+    ghost use Rattle.yaml_scan_machine.specs.State.{StaysShort, IsMachine, IsNarrow, AreInside, KeepsInput, Leaves, TellsUtf8, is_ready};
+    ghost use Rattle.yaml_scan_machine.specs.Settled.{most_ahead};
     ghost use Rattle.yaml_scan_history.specs.Scanned.{scanned};
     ghost use Rattle.yaml_scan_machine.specs.Left.{left_in, left_from, IsTold};
     ghost use Rattle.yaml_scan_decode.specs.Encodings.{encoding_of};
@@ -64,18 +70,33 @@ impl<'a> Machine<'a> {
     ghost use Rattle.yaml_scan_model.specs.Tokens.{token_of};
     ghost use Rattle.yaml_scan_slot.specs.Slots.{token_in_slot};
 
-    /// The state before the first lexeme of an input.
-    pub fn new(alloc: Global, input: &'a [u8], setting: yaml_encoding_t) -> Machine<'a>
+    /// The state before the first lexeme of an input, of which so many lexemes are read until they are settled; or, with 0, none
+    /// before it is needed.
+    pub fn new(
+        alloc: Global,
+        input: &'a [u8],
+        setting: yaml_encoding_t,
+        ahead: usize,
+    ) -> Machine<'a>
+        requires { ahead ≤ most_ahead }
         ensures stands { IsMachine result }
         ensures ready { is_ready result ≡ false }
         ensures waiting { length result.waiting.items ≡ 0 }
         ensures slots { result.waiting.slots ≡ 0 }
         ensures dropped { result.dropped ≡ 0 }
+        ensures ahead { result.ahead ≡ ahead }
         ensures setting { result.setting ≡ setting }
         ensures bytes { result.input.now ≡ input.now }
         ensures left { left_in result ≡ scanned setting input.now }
     {
-        Machine::over(alloc, input, setting, false, yaml_text_t::Borrowed(input))
+        Machine::over(
+            alloc,
+            input,
+            setting,
+            ahead,
+            false,
+            yaml_text_t::Borrowed(input),
+        )
     }
 
     /// The state before the first lexeme of a text.
@@ -83,15 +104,18 @@ impl<'a> Machine<'a> {
         alloc: Global,
         input: &'a [u8],
         setting: yaml_encoding_t,
+        ahead: usize,
         started: bool,
         text: yaml_text_t<'a>,
     ) -> Machine<'a>
-        requires { started ≡ true → decoded_text setting input.now ≡ Ok (text_bytes text) }
+        requires decoded { started ≡ true → decoded_text setting input.now ≡ Ok (text_bytes text) }
+        requires few { ahead ≤ most_ahead }
         ensures stands { IsMachine result }
         ensures ready { is_ready result ≡ false }
         ensures waiting { length result.waiting.items ≡ 0 }
         ensures slots { result.waiting.slots ≡ 0 }
         ensures dropped { result.dropped ≡ 0 }
+        ensures ahead { result.ahead ≡ ahead }
         ensures setting { result.setting ≡ setting }
         ensures bytes { result.input.now ≡ input.now }
         ensures started { result.started ≡ started }
@@ -115,6 +139,7 @@ impl<'a> Machine<'a> {
             dropped: 0,
             given: 0,
             settled: 0,
+            ahead,
             keys: Keys::new(alloc),
             place: yaml_mark_t {
                 index: 0,
@@ -138,7 +163,7 @@ impl<'a> Machine<'a> {
         ensures keeps { OnOk result (KeepsInput self.old self.new) }
         ensures told { IfErr result (λ f. IsTold (left_in self.old) (fault_of f)) }
         ensures utf8 { IfErr result (λ f. TellsUtf8 self.old (fault_of f)) }
-        ensures few { OnErr result (IsShort self.new.waiting) }
+        ensures few { OnErr result (StaysShort self.old self.new) }
         ensures fresh { IfErr result (λ f. self.old.started ≡ false) }
     {
         if self.started {
@@ -146,7 +171,8 @@ impl<'a> Machine<'a> {
         }
         match yaml_decode(self.alloc, self.input, self.setting) {
             Ok(text) => {
-                *self = Machine::over(self.alloc, self.input, self.setting, true, text);
+                let ahead = self.ahead;
+                *self = Machine::over(self.alloc, self.input, self.setting, ahead, true, text);
                 Ok(())
             }
             Err(fault) => Err(fault),
@@ -182,7 +208,7 @@ impl<'a> Machine<'a> {
     }
 
     /// Whether the next token is known, whatever follows, where a lexeme waits.
-    // Inlined: two comparisons, asked for each lexeme.
+    // Inlined: two comparisons.
     #[inline(always)]
     pub(crate) fn has_token_waiting(&self) -> bool
         requires { 0 < length self.now.waiting.items }
@@ -301,6 +327,7 @@ impl<'a> Machine<'a> {
     pub(crate) fn open_level(&mut self, lexeme: Lexeme, column: u64) -> Result<Opens, AllocError>
         ensures same { OnOk result (self.new ≡ record self.old { levels = self.new.levels }) }
         ensures waiting { self.new.waiting ≡ self.old.waiting }
+        ensures ahead { self.new.ahead ≡ self.old.ahead }
         ensures levels { OnOk result (self.new.levels ≡ history.opened (kinds.is_start lexeme.kind
             && not (nat_lt 0 lexeme.depth)) column self.old.levels) }
         ensures opens { IfOk result (λ o. o ≡ opens_for lexeme.kind lexeme.depth column

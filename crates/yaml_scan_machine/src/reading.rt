@@ -6,12 +6,12 @@ ghost use Rattle.yaml_scan_slot.specs.Slots.{token_in_slot};
 ghost use Rattle.yaml_scan_model.specs.Faults.{fault_of};
 ghost use Rattle.yaml_scan_machine.specs.State.{IsMachine, is_ready};
 ghost use Rattle.yaml_scan_machine.specs.Stood.{MayRead, Steps};
-ghost use Rattle.yaml_scan_machine.specs.Found.{Comes, ReadsOn};
+ghost use Rattle.yaml_scan_machine.specs.Found.{Comes, FallsBack, ReadsOn, is_lack};
 
 use crate::machine::Machine;
 use crate::next::LexemeSpot;
 use std::mem;
-use yaml_scan_model::{Spares, yaml_fault_t, yaml_token_t};
+use yaml_scan_model::{Spares, yaml_error_type_t, yaml_fault_t, yaml_token_t};
 use yaml_scan_slot::TokenSlot;
 
 /// What reading on came to: the next token is known, or there is none, or a fault stands in the slot that was lent.
@@ -138,7 +138,8 @@ fn fill_first(machine: &mut Machine, spares: &mut Spares, fault: &mut yaml_fault
     fill_further(machine, spares, fault)
 }
 
-/// Reads on behind the lexemes that were read until the next token is known, or there is none. It isn't known yet.
+/// Reads on behind the lexemes that were read until the next token is known and as many lexemes as may be read ahead, or there is
+/// none. The next token isn't known yet.
 // Out of line: mostly the next token is known.
 #[inline(never)]
 fn fill_further(machine: &mut Machine, spares: &mut Spares, fault: &mut yaml_fault_t) -> Sought
@@ -149,18 +150,49 @@ fn fill_further(machine: &mut Machine, spares: &mut Spares, fault: &mut yaml_fau
     ensures { ReadsOn machine.old machine.new (fault_of fault.new) result }
 {
     let mut spot = LexemeSpot::blank();
+    let enough = machine.dropped + machine.ahead;
     'steps: loop {
         if machine.ended {
+            if machine.has_token() {
+                return Sought::Known;
+            }
             return Sought::Nothing;
         }
         if !read_one_more(machine, &mut spot, spares, fault) {
-            return Sought::Refused;
+            return refused(machine, fault);
         }
-        let known = machine.has_token_waiting();
-        if known {
-            return Sought::Known;
+        if enough <= machine.settled {
+            if machine.has_token_waiting() {
+                return Sought::Known;
+            }
         }
     }
+}
+
+/// What a refusal came to. Where the next token is known, lexemes were read ahead: it is answered, and the fault where it isn't known
+/// any more. Want of memory is answered at once.
+// Out of line and cold: mostly nothing is refused.
+#[cold]
+#[inline(never)]
+fn refused(machine: &Machine, fault: &yaml_fault_t) -> Sought
+    requires { is_lack (fault_of fault.now).kind ≡ false → IsMachine machine.now }
+    ensures { FallsBack machine.now (is_lack (fault_of fault.now).kind) result }
+{
+    if is_lack(fault.kind) {
+        return Sought::Refused;
+    }
+    if machine.has_token() {
+        return Sought::Known;
+    }
+    Sought::Refused
+}
+
+/// Whether a fault of that kind is want of memory.
+#[tactic(auto, unfolding(crate::specs::Found::is_lack))]
+fn is_lack(kind: yaml_error_type_t) -> bool
+    ensures { result ≡ is_lack kind }
+{
+    matches!(kind, yaml_error_type_t::YAML_MEMORY_ERROR)
 }
 
 /// Reads one lexeme more, or puts the fault into the slot that was lent. The place where the lexeme stands gets a slot too.

@@ -13,7 +13,7 @@ use yaml_scan_model::{ScanError, Spares, yaml_fault_t, yaml_mark_t};
 use yaml_scan_queue::ReadLexeme;
 
 impl<'a> Machine<'a> {
-    ghost use Rattle.yaml_scan_machine.specs.State.{IsShort, IsMachine, ReadsOneMore, is_ready};
+    ghost use Rattle.yaml_scan_machine.specs.State.{StaysShort, IsMachine, ReadsOneMore, WantsMore};
     ghost use Rattle.yaml_scan_machine.specs.Stood.{ComesNext, MayReadAt, Steps};
     ghost use Rattle.yaml_scan_machine.specs.Shows.{history_of};
     ghost use Rattle.yaml_scan_machine.specs.Reads.{required_in};
@@ -25,7 +25,7 @@ impl<'a> Machine<'a> {
     pub(crate) fn begin(&mut self, fault: &mut yaml_fault_t) -> bool
         requires stands { IsMachine self.old }
         requires started { self.old.started ≡ true }
-        requires sought { is_ready self.old ≡ false }
+        requires wants { WantsMore self.old }
         requires more { self.old.ended ≡ false }
         requires none { self.old.dropped + length self.old.waiting.items ≡ 0 }
         ensures { Steps self.old self.new (fault_of fault.new) result }
@@ -95,7 +95,7 @@ impl<'a> Machine<'a> {
     fn push_lexeme(&mut self, read: Read, fault: &mut yaml_fault_t) -> bool
         requires stands { IsMachine self.old }
         requires started { self.old.started ≡ true }
-        requires sought { is_ready self.old ≡ false }
+        requires wants { WantsMore self.old }
         requires more { self.old.ended ≡ false }
         requires next { ComesNext self.old read }
         ensures { Steps self.old self.new (fault_of fault.new) result }
@@ -115,11 +115,11 @@ impl<'a> Machine<'a> {
     fn push(&mut self, read: Read) -> Result<(), AllocError>
         requires stands { IsMachine self.old }
         requires started { self.old.started ≡ true }
-        requires sought { is_ready self.old ≡ false }
+        requires wants { WantsMore self.old }
         requires more { self.old.ended ≡ false }
         requires next { ComesNext self.old read }
         ensures ok { OnOk result (IsMachine self.new × ReadsOneMore self.old self.new) }
-        ensures few { OnErr result (IsShort self.new.waiting) }
+        ensures few { OnErr result (StaysShort self.old self.new) }
     {
         let Read {
             lexeme,

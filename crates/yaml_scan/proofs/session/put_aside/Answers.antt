@@ -38,7 +38,7 @@ returns-in-Nothing-clause-looks c =
     lends_none (rooms_of c.args.spares.now) (rooms_of c.next_into.new.spares) c.args.kept.now c.args.aside.now (token_of c.args.shown.now) (token_of c.args.shown.now) m n (none_some c.args.kept.now (c.requires.free c.if-aside.false)) c.if-aside.false record { finishes = c.in-Nothing.ensures.finishes; empty = c.requires.idle c.if-aside.false }
 
 pub returns-clause-stands : goal.returns-clause-stands
-returns-clause-stands c = whole_refused c.keep.new.slot c.next_into.new.machine c.args.shown.now c.args.shown.now c.next_into.new.fault c.keep.ensures refl (c.requires.idle c.if-aside.false) c.in-Refused.ensures.denies.few
+returns-clause-stands c = whole_refused c.keep.new.slot c.next_into.new.machine c.args.shown.now c.args.shown.now c.next_into.new.fault c.keep.ensures refl (c.requires.idle c.if-aside.false) c.in-Refused.ensures.denies.few.1
 
 pub returns-clause-looks : goal.returns-clause-looks
 returns-clause-looks c =

@@ -49,7 +49,7 @@ invariant_of-parser-in-Nothing c =
 pub invariant_of-parser-in-Refused : goal.invariant_of-parser-in-Refused
 invariant_of-parser-in-Refused c =
     let s = c.parser.inside in
-    whole_refused c.keep.new.slot c.next_into.new.machine s.shown s.shown c.next_into.new.fault c.keep.ensures refl (c.parser.invariant.idle c.if-parser.false) c.in-Refused.ensures.denies.few
+    whole_refused c.keep.new.slot c.next_into.new.machine s.shown s.shown c.next_into.new.fault c.keep.ensures refl (c.parser.invariant.idle c.if-parser.false) c.in-Refused.ensures.denies.few.1
 
 pub returns-in-Refused-clause-scans : goal.returns-in-Refused-clause-scans
 returns-in-Refused-clause-scans c =
@@ -70,4 +70,4 @@ pub returns-in-Nothing-clause-few : goal.returns-in-Nothing-clause-few
 returns-in-Nothing-clause-few c = (c.in-Nothing.ensures.finishes.stands.short, few_kept c.next_into.new.spares)
 
 pub returns-in-Refused-clause-few : goal.returns-in-Refused-clause-few
-returns-in-Refused-clause-few c = (c.in-Refused.ensures.denies.few, few_kept c.next_into.new.spares)
+returns-in-Refused-clause-few c = (c.in-Refused.ensures.denies.few.1, few_kept c.next_into.new.spares)

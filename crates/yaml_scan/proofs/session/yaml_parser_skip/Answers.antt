@@ -60,7 +60,7 @@ returns-clause-few c = (c.take_token.ensures.stands.short, few_kept c.take_token
 pub returns-then-parser-clause-reads : goal.returns-then-parser-clause-reads
 returns-then-parser-clause-reads c =
     let s = c.parser.inside in
-    rw (← c.parser.view_is) (same_reads (view_by s.machine s.fault (token_of s.shown) s.aside (rooms_of s.spares)) (view_by s.machine s.fault (token_of c.put_over.new.place) false (rooms_of s.spares)) refl refl refl)
+    rw (← c.parser.view_is) (same_reads (view_by s.machine s.fault (token_of s.shown) s.aside (rooms_of s.spares)) (view_by s.machine s.fault (token_of c.put_over.new.place) false (rooms_of s.spares)) refl refl refl refl)
 
 pub returns-clause-reads : goal.returns-clause-reads
 returns-clause-reads c =

@@ -1,5 +1,6 @@
-use Rattle.std.proofs.Common.{◌<◌, length, sym, ◌∙◌, arith}
+use Rattle.std.proofs.Common.{◌<◌, length, sym, ◌∙◌, arith, inr}
 use Rattle.yaml_scan_machine.proofs.Words.{fault_of}
+use Rattle.yaml_scan_machine.proofs.ComesLemmas.{wants_more}
 use Rattle.yaml_scan_machine.proofs.FoundLemmas.{ReadsFrom, reads_behind, reads_start, steps_end, steps_off, steps_on}
 use Rattle.yaml_scan_machine.proofs.reading.fill_first.Goals.{Else-not-begin}
 use Rattle.yaml_scan_machine.proofs.reading.fill_first.Goals as goal
@@ -7,13 +8,13 @@ use Rattle.yaml_scan_machine.proofs.reading.fill_first.Goals as goal
 -- the first lexeme was read
 begun : (c : Else-not-begin) → ReadsFrom c.args.machine.now c.begin.new.self
     × (0 < length c.begin.new.self.waiting.items)
-begun c = let m = c.args.machine.now in steps_on m m c.begin.new.self (fault_of c.begin.new.fault) c.begin.result (reads_start m c.requires.stands c.requires.started) c.requires.sought c.if-not-begin.false c.begin.ensures
+begun c = let m = c.args.machine.now in let (r, some, enough) = steps_on m m c.begin.new.self (fault_of c.begin.new.fault) c.begin.result (reads_start m c.requires.stands c.requires.started) (wants_more m c.requires.stands c.requires.sought) c.if-not-begin.false c.begin.ensures in (r, some)
 
 pub returns-then-machine : goal.returns-then-machine
 returns-then-machine c = let m = c.args.machine.now in steps_end m m (reads_start m c.requires.stands c.requires.started) c.requires.sought c.if-machine.true
 
 pub returns-then-not-begin : goal.returns-then-not-begin
-returns-then-not-begin c = let m = c.args.machine.now in steps_off m m c.begin.new.self (fault_of c.begin.new.fault) c.begin.result (reads_start m c.requires.stands c.requires.started) c.requires.sought c.if-machine.false c.requires.sought c.if-not-begin.true c.begin.ensures
+returns-then-not-begin c = let m = c.args.machine.now in steps_off m m c.begin.new.self (fault_of c.begin.new.fault) c.begin.result (reads_start m c.requires.stands c.requires.started) c.if-machine.false c.requires.sought c.if-not-begin.true c.begin.ensures (inr c.requires.sought)
 
 pub has_token-requires : goal.has_token-requires
 has_token-requires c = (begun (goal.at.has_token-requires c).Else-not-begin).0.stands

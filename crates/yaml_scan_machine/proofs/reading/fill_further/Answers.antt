@@ -1,37 +1,53 @@
-use Rattle.std.proofs.Common.{◌<◌, length, sym, ◌∙◌, arith}
+use Rattle.std.proofs.Common.{◌≡◌, ◌+◌, ◌<◌, length, refl, sym, ◌∙◌, arith}
 use Rattle.yaml_scan_machine.proofs.Words.{fault_of}
-use Rattle.yaml_scan_machine.proofs.FoundLemmas.{ReadsFrom, reads_start, steps_end, steps_off, steps_on}
+use Rattle.yaml_scan_machine.proofs.ComesLemmas.{wants_more}
+use Rattle.yaml_scan_machine.proofs.FoundLemmas.{ReadsFrom, reads_start, steps_back, steps_end, steps_on, still_stands}
 use Rattle.yaml_scan_machine.proofs.reading.fill_further.Goals.{Else-not-read_one_more}
 use Rattle.yaml_scan_machine.proofs.reading.fill_further.Goals as goal
 
 -- one lexeme more was read
 stepped : (c : Else-not-read_one_more) → ReadsFrom c.args.machine.now c.read_one_more.new.machine
     × (0 < length c.read_one_more.new.machine.waiting.items)
-stepped c = steps_on c.args.machine.now c.steps.machine c.read_one_more.new.machine (fault_of c.read_one_more.new.fault) c.read_one_more.result c.steps.invariant.from c.steps.invariant.sought c.if-not-read_one_more.false c.read_one_more.ensures
+    × (c.read_one_more.new.machine.dropped + c.read_one_more.new.machine.ahead ≡ c.steps.machine.dropped + c.steps.machine.ahead)
+stepped c = steps_on c.args.machine.now c.steps.machine c.read_one_more.new.machine (fault_of c.read_one_more.new.fault) c.read_one_more.result c.steps.invariant.from c.steps.invariant.wants c.if-not-read_one_more.false c.read_one_more.ensures
 
 pub steps-init : goal.steps-init
-steps-init c = record { from = reads_start c.args.machine.now c.requires.stands c.requires.started; sought = c.requires.sought; some = c.requires.some }
+steps-init c = record { from = reads_start c.args.machine.now c.requires.stands c.requires.started; wants = wants_more c.args.machine.now c.requires.stands c.requires.sought; enough = refl; some = c.requires.some }
+
+pub steps-preserved-else-has_token_waiting : goal.steps-preserved-else-has_token_waiting
+steps-preserved-else-has_token_waiting c =
+    let (r, some, enough) = stepped (goal.at.steps-preserved-else-has_token_waiting c).Else-not-read_one_more in
+    record { from = r; wants = wants_more c.read_one_more.new.machine r.stands (sym c.has_token_waiting.ensures ∙ c.if-has_token_waiting.false); enough = c.steps.invariant.enough ∙ sym enough; some = omega arith }
 
 pub steps-preserved : goal.steps-preserved
 steps-preserved c =
-    let (r, some) = stepped (goal.at.steps-preserved c).Else-not-read_one_more in
-    record { from = r; sought = sym c.has_token_waiting-known.ensures ∙ c.if-known.false; some = omega arith }
+    let (r, some, enough) = stepped (goal.at.steps-preserved c).Else-not-read_one_more in
+    let past = c.steps.invariant.enough in
+    record {
+      from = r;
+      wants = record { few = omega (arith, past, enough, c.if-enough-machine.false); needed = λ none. absurd (omega (arith, past, enough, none, r.stands.taken, c.if-enough-machine.false)) };
+      enough = past ∙ sym enough;
+      some = omega arith;
+    }
 
 pub returns-then-machine : goal.returns-then-machine
-returns-then-machine c = steps_end c.args.machine.now c.steps.machine c.steps.invariant.from c.steps.invariant.sought c.if-machine.true
+returns-then-machine c = steps_end c.args.machine.now c.steps.machine c.steps.invariant.from (sym c.has_token.ensures ∙ c.if-has_token.false) c.if-machine.true
 
 pub read_one_more-requires-clause-may : goal.read_one_more-requires-clause-may
 read_one_more-requires-clause-may c =
     let i = c.steps.invariant in
-    record { stands = i.from.stands; started = i.from.started; sought = i.sought; more = c.if-machine.false }
+    record { stands = i.from.stands; started = i.from.started; wants = i.wants; more = c.if-machine.false }
 
-pub has_token_waiting-known-requires : goal.has_token_waiting-known-requires
-has_token_waiting-known-requires c = (stepped (goal.at.has_token_waiting-known-requires c).Else-not-read_one_more).1
+pub has_token_waiting-requires : goal.has_token_waiting-requires
+has_token_waiting-requires c = (stepped (goal.at.has_token_waiting-requires c).Else-not-read_one_more).1
+
+pub refused-requires : goal.refused-requires
+refused-requires c kept = (still_stands c.steps.machine c.read_one_more.new.machine (fault_of c.read_one_more.new.fault) c.read_one_more.result c.steps.invariant.from.stands c.if-not-read_one_more.true c.read_one_more.ensures kept).0
 
 pub returns-then-not-read_one_more : goal.returns-then-not-read_one_more
-returns-then-not-read_one_more c = steps_off c.args.machine.now c.steps.machine c.read_one_more.new.machine (fault_of c.read_one_more.new.fault) c.read_one_more.result c.steps.invariant.from c.steps.invariant.sought c.if-machine.false c.requires.sought c.if-not-read_one_more.true c.read_one_more.ensures
+returns-then-not-read_one_more c = steps_back c.args.machine.now c.steps.machine c.read_one_more.new.machine (fault_of c.read_one_more.new.fault) c.read_one_more.result c.refused.result c.steps.invariant.from c.if-machine.false c.requires.sought c.if-not-read_one_more.true c.read_one_more.ensures c.refused.ensures
 
-pub returns-then-known : goal.returns-then-known
-returns-then-known c =
-    let (r, some) = stepped (goal.at.returns-then-known c).Else-not-read_one_more in
-    record { stands = r.stands; left = r.left; ready = sym c.has_token_waiting-known.ensures ∙ c.if-known.true; reads = r.reads }
+pub returns-then-has_token_waiting : goal.returns-then-has_token_waiting
+returns-then-has_token_waiting c =
+    let (r, some, enough) = stepped (goal.at.returns-then-has_token_waiting c).Else-not-read_one_more in
+    record { stands = r.stands; left = r.left; ready = sym c.has_token_waiting.ensures ∙ c.if-has_token_waiting.true; reads = r.reads }

@@ -1,12 +1,13 @@
-use Rattle.std.proofs.Common.{false, ◌≡◌, ◌-◌, ◌+◌, ◌<◌, length}
-use Rattle.yaml_scan_machine.proofs.Words.{text_bytes, is_ready}
+use Rattle.std.proofs.Common.{◌≡◌, ◌-◌, ◌+◌, ◌<◌, length}
+use Rattle.yaml_scan_machine.proofs.Words.{text_bytes, WantsMore}
 use Rattle.yaml_scan_machine.proofs.FoundLemmas.{ReadsFrom}
 use Rattle.yaml_scan_machine.proofs.reading.fill_further.Given as goal
 
 abbrev pub invariant-steps : goal.invariant-steps
 invariant-steps l = record {
   from : ReadsFrom l.fn.machine l.machine;
-  sought : is_ready l.machine ≡ false;
+  wants : WantsMore l.machine;
+  enough : l.enough ≡ l.machine.dropped + l.machine.ahead;
   some : 0 < l.machine.dropped + length l.machine.waiting.items;
 }
 

@@ -12,6 +12,7 @@ returns-clause-stands c =
       long = (let same : length c.as_slice-length.result.now ≡ length (text_bytes c.args.text) = ap (λ (t : List ℕ). length t) c.as_slice-length.ensures in omega (arith, same));
       few = rw c.new.ensures.items (omega arith);
       short = (rw c.new.ensures.items (omega arith), omega (arith, c.new.ensures.slots));
+      ahead = c.requires.few;
       taken = omega arith;
       settled = omega arith;
       depth = omega arith;
@@ -20,7 +21,7 @@ returns-clause-stands c =
       place = λ _. start_place (text_bytes c.args.text);
       begun = λ off. c.new.ensures.items;
       fresh = λ off. refl;
-      decoded = c.requires;
+      decoded = c.requires.decoded;
       spelled = c.stream_encoding.ensures;
       first = c.new-2.ensures.first;
       given = given_none 0 0 (map (λ (x : Waiting). kept_of x) c.new.result.items);

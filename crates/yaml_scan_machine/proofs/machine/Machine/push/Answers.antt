@@ -1,5 +1,5 @@
 use Rattle.std.proofs.Common.{cond, ◌≡◌, ◌≤◌, ◌<◌, ℕ, Bool, List, ◌∷◌, [], ◌++◌, sym, ap, subst, ◌∙◌, refl, arith, ◌+◌, ◌^◌, ◌&&◌, ◌||◌, not, ltb, eqb, length, length-append}
-use Rattle.yaml_scan_machine.proofs.Words.{map, body_of, is_start, allows_key, map-append, length-map, text_bytes, Machine, Waiting, KeptLexeme, kept_of, IsShort, IsMachine, ReadsOneMore, AreInside, IsNarrow, Lexeme, inside, left_by, entry_of, reached, KeyStack, stack_of, AreKeys, Fields, fields_of, history_of, kept_in, stream_of, opens_for, first_open, settled_in, Line}
+use Rattle.yaml_scan_machine.proofs.Words.{map, body_of, is_start, allows_key, map-append, length-map, text_bytes, Machine, Waiting, KeptLexeme, kept_of, IsShort, IsMachine, ReadsOneMore, StaysShort, AreInside, IsNarrow, Lexeme, inside, left_by, entry_of, reached, KeyStack, stack_of, AreKeys, Fields, fields_of, history_of, kept_in, stream_of, opens_for, first_open, settled_in, Line}
 use Rattle.yaml_scan_laws_order.proofs.HistoryForward.{goes_forward}
 use Rattle.std.proofs.lemmas.Bool.{true≢false}
 use Rattle.yaml_scan_machine.specs.Candidates.{IsFirst}
@@ -7,7 +7,7 @@ use Rattle.yaml_scan_machine.specs.Shows.{IsCounted}
 use Rattle.yaml_scan_machine.proofs.SafeLemmas.{inside_push, depth_after-le, narrow_by}
 use Rattle.yaml_scan_machine.proofs.KindLemmas.{ok_read}
 use Rattle.yaml_scan_machine.proofs.MarkLemmas.{IsPushed, kept_entries, settled_grows, shown_by, read_pushed}
-use Rattle.yaml_scan_machine.proofs.PushLemmas.{marks_are, levels_is, kept_is, column_is, allowed_is, settled_value, room_is, on_err, row_grows, row_short}
+use Rattle.yaml_scan_machine.proofs.PushLemmas.{marks_are, levels_is, kept_is, column_is, allowed_is, settled_value, room_is, on_err, row_grows, row_short, stays}
 use Rattle.yaml_scan_machine.proofs.KeysLemmas.{put_keys}
 use Rattle.yaml_scan_machine.proofs.StepLemmas.{saved_keeps}
 use Rattle.yaml_scan_machine.proofs.ComesLemmas.{waits_short}
@@ -136,7 +136,7 @@ returns-clause-ok c =
     let above : c.depth_after-self.result ≤ l.depth + 1 = rw c.depth_after-self.ensures deeper in
     let low : IsNarrow (n + 1) a.levels = c.close_levels-ends.ensures.narrow (n + 1) i.levels in
     let slots : d.waiting.slots ≡ m.waiting.slots = c.mark_key.ensures.slots ∙ ap (λ (q : Line). q.slots) waits in
-    let short = waits_short m l i c.requires.sought c.requires.more e in
+    let short = waits_short m l i c.requires.wants c.requires.more e in
     let pushed_on : Machine → Machine = λ y. record y { waiting = q; keys = z.keys; place = l.reached; depth = c.depth_after-self.result; allowed = c.allows-allowed.result; ended = c.is_end-self.result } in
     let done : Fields = record x { keys = stack_of z.keys; settled = r } in
     let read = read_pushed f x l i.shown e p in
@@ -153,7 +153,8 @@ returns-clause-ok c =
       record {
         long = i.long;
         few = omega (arith, more, room, long);
-        short = (omega (arith, more, short), row_grows m.waiting d.waiting c.reserve.new.self q short i.short.1 count slots c.reserve.ensures.slots c.push_back_reserved.ensures.slots);
+        short = (omega (arith, more, short), row_grows m.ahead m.waiting d.waiting c.reserve.new.self q short i.short.1 count slots c.reserve.ensures.slots c.push_back_reserved.ensures.slots);
+        ahead = i.ahead;
         taken = omega (arith, settled.1, grows, i.taken);
         settled = omega (arith, settled.1, most, more, long, i.shown.count);
         depth = omega (arith, above, next.depth, more, i.depth);
@@ -168,8 +169,16 @@ returns-clause-ok c =
         first = c.settle-self.ensures.first;
         given = given_goes f done l i.shown shown_now go e (read_pushed f done l i.shown e done_is) refl refl (omega (arith, settled.1, grows)) i.given;
       },
-      record { text = refl; dropped = refl; further = more; given = refl; encoding = refl; started = refl; setting = refl; bytes = refl },
+      record { text = refl; dropped = refl; further = more; given = refl; ahead = refl; encoding = refl; started = refl; setting = refl; bytes = refl },
     )
+
+pub returns-in_err-opens-clause-few : goal.returns-in_err-opens-clause-few
+returns-in_err-opens-clause-few c =
+    let m = c.args.self.now in
+    let i = c.requires.stands in
+    let waits = c.open_level.ensures.waiting ∙ ap (λ (x : Machine). x.waiting) c.close_levels-ends.ensures.same in
+    let ahead = c.open_level.ensures.ahead ∙ ap (λ (x : Machine). x.ahead) c.close_levels-ends.ensures.same in
+    on_err c.from_residual.result (StaysShort m c.open_level.new.self) (stays m c.open_level.new.self ahead (subst (λ (q : Line). IsShort m.ahead q) (sym waits) i.short))
 
 pub returns-in_err-reserve-clause-few : goal.returns-in_err-reserve-clause-few
 returns-in_err-reserve-clause-few c =
@@ -179,4 +188,5 @@ returns-in_err-reserve-clause-few c =
     let waits : c.open_level.new.self.waiting ≡ m.waiting = ap (λ (x : Machine). x.waiting) c.in_ok-opens.ensures.same ∙ ap (λ (x : Machine). x.waiting) c.close_levels-ends.ensures.same in
     let count : length d.waiting.items ≡ length m.waiting.items = c.mark_key.ensures.length ∙ ap (λ (q : Line). length q.items) waits in
     let slots : d.waiting.slots ≡ m.waiting.slots = c.mark_key.ensures.slots ∙ ap (λ (q : Line). q.slots) waits in
-    on_err c.from_residual-in_err-reserve.result (IsShort c.reserve.new.self) (row_short m.waiting d.waiting c.reserve.new.self (waits_short m c.args.read.lexeme c.requires.stands c.requires.sought c.requires.more e) c.requires.stands.short.1 count slots c.reserve.ensures.items c.reserve.ensures.slots)
+    let ahead = ap (λ (x : Machine). x.ahead) (same_but m c.close_levels-ends.new.self c.open_level.new.self d c.close_levels-ends.ensures.same c.in_ok-opens.ensures.same c.mark_key.ensures.same) in
+    on_err c.from_residual-in_err-reserve.result (StaysShort m (record d { waiting = c.reserve.new.self; keys = c.put.new.self })) (stays m (record d { waiting = c.reserve.new.self; keys = c.put.new.self }) ahead (row_short m.ahead m.waiting d.waiting c.reserve.new.self (waits_short m c.args.read.lexeme c.requires.stands c.requires.wants c.requires.more e) c.requires.stands.short.1 count slots c.reserve.ensures.items c.reserve.ensures.slots))

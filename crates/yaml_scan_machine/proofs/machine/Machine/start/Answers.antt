@@ -9,8 +9,11 @@ returns-in-Err-clause-told c = told_decoding c.args.self.now (fault_of c.in-Err.
 pub returns-in-Err-clause-utf8 : goal.returns-in-Err-clause-utf8
 returns-in-Err-clause-utf8 c = c.in-Err.ensures.no_memory
 
-pub over-requires : goal.over-requires
-over-requires c = λ on. c.in-Ok.ensures.text
+pub over-requires-clause-decoded : goal.over-requires-clause-decoded
+over-requires-clause-decoded c = λ on. c.in-Ok.ensures.text
+
+pub over-requires-clause-few : goal.over-requires-clause-few
+over-requires-clause-few c = c.requires.ahead
 
 pub returns-in-Ok-clause-keeps : goal.returns-in-Ok-clause-keeps
 returns-in-Ok-clause-keeps c =
@@ -20,5 +23,6 @@ returns-in-Ok-clause-keeps c =
     record {
       setting = c.over.ensures.setting;
       bytes = c.over.ensures.bytes;
+      ahead = c.over.ensures.ahead;
       read = omega (arith, none, fresh, c.over.ensures.dropped, c.over.ensures.waiting);
     }

@@ -1,3 +1,4 @@
+use Rattle.std.proofs.Common.{refl, inr}
 use Rattle.yaml_scan_machine.proofs.machine.Machine.step_by.Goals as goal
 
 pub next-requires : goal.next-requires
@@ -11,10 +12,10 @@ push_lexeme-requires g c =
     record {
       stands = may.stands;
       started = may.started;
-      sought = may.sought;
+      wants = may.wants;
       more = may.more;
       next = record { safe = c.in-Ok.ensures.safe; exact = c.in-Ok.ensures.exact };
     }
 
 pub returns-in-Err : goal.returns-in-Err
-returns-in-Err g c = ((c.in-Err.error, c.in-Err.ensures.refused, c.put_refusal.ensures), c.requires.may.may.stands.short)
+returns-in-Err g c = ((c.in-Err.error, c.in-Err.ensures.refused, c.put_refusal.ensures), (refl, c.requires.may.may.stands.short), inr refl)

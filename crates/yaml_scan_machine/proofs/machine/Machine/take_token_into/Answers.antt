@@ -33,7 +33,7 @@ returns-else-pop_token c =
     record {
       stands = subst (λ (q : Line). IsMachine record m { waiting = q; given = m.given + 1 }) (sym hands.same) (stands_more m front rest b c.requires.stands items c.requires.ready hands.some);
       gives = subst (λ (q : Line). GivesFirst (left_in m) (token_in_slot slot) (left_in record m { waiting = q; given = m.given + 1 })) (sym hands.same) (subst (λ (t : Token). GivesFirst (left_in m) t (left_in record m { given = m.given + 1 })) (sym is) gives);
-      keeps = record { setting = refl; bytes = refl; read = ap (λ (q : Line). m.dropped + length q.items) hands.same };
+      keeps = record { setting = refl; bytes = refl; ahead = refl; read = ap (λ (q : Line). m.dropped + length q.items) hands.same };
     }
 
 pub returns-then-pop_token : goal.returns-then-pop_token
@@ -54,6 +54,7 @@ returns-then-pop_token c =
         long = i.long;
         few = omega (arith, len, i.few);
         short = (omega (arith, len, i.short.0), omega (arith, hands.slots, i.short.1));
+        ahead = i.ahead;
         taken = omega (arith, low);
         settled = omega (arith, len, i.settled);
         depth = omega (arith, len, i.depth);
@@ -69,5 +70,5 @@ returns-then-pop_token c =
         given = given_none (m.dropped + 1) m.settled (map (λ (x : Waiting). kept_of x) rest);
       };
       gives = left_gives m record m { waiting = c.pop_token.new.self; dropped = m.dropped + 1; given = 0 } (token_in_slot slot) on on (subst (λ (t : Token). GivesFirst (to_come m) t (remaining (stream_of m) (m.dropped + 1) 0)) own (gives_own m front rest i items low hands.none));
-      keeps = record { setting = refl; bytes = refl; read = omega (arith, len) };
+      keeps = record { setting = refl; bytes = refl; ahead = refl; read = omega (arith, len) };
     }

@@ -1,11 +1,11 @@
 -- What a lexeme makes of the candidates of each depth, and which of them is the earliest.
-use Rattle.std.proofs.Common.{◌≡◌, ◌∙◌, ℕ, ◌+◌, ◌-◌, ◌<◌, ◌≤◌, inl, inr, true, false, eqb, ◌&&◌, List, [], ◌∷◌, ◌++◌, length, take, drop, get_or, Option, Some, None, Result, Ok, Err, OnOk, refl, sym, ap, subst, arith}
+use Rattle.std.proofs.Common.{◌≡◌, ◌∙◌, ℕ, ◌+◌, ◌-◌, ◌<◌, ◌≤◌, inl, inr, true, false, cond, eqb, ◌&&◌, List, [], ◌∷◌, ◌++◌, length, take, drop, get_or, Option, Some, None, Result, Ok, Err, OnOk, refl, sym, ap, subst, arith}
 use Rattle.yaml_scan_machine.proofs.Words.{cases_Bool, cases_lt, cases_order, nat_tests, get_or_past, get_or-drop, get_or-map, length-drop, take_all, length-map, yaml_mark_t, Lexeme, cancels, depth_after, Candidate, candidate, depth, fresh, first_open, reached, entries, Entry, map, Waiting, KeptLexeme, kept_of, Fields, IsShown, kept_in, read, spelled, fields_of, history_of, Read, history, missed, next, Upto, GoesForward, candidate_below, length-entries, first_open-le, fresh_is, fresh_before, Key, Machine, text_bytes, required_in, stack_of, KeyStack, KeyView, key_at, view_of, key_view, fresh_key, AreStale, IsKey, AreKeysTo, AreKeys, Turns}
 use Rattle.std.proofs.lemmas.List.{take-append-le}
 use Rattle.yaml_scan_history.proofs.HistoryLemmas.{first_open-is, first_open-least}
 use Rattle.yaml_scan_machine.specs.declared.keys.Earliest.{Earliest}
 use Rattle.yaml_scan_machine.specs.declared.keys.Keys.{Keys}
-use Rattle.yaml_scan_machine.specs.Candidates.{IsFirst, number_in, required_view, required_at, Forgets, IsPut}
+use Rattle.yaml_scan_machine.specs.Candidates.{IsDue, IsFirst, number_in, required_view, required_at, Forgets, IsPut}
 use Rattle.yaml_scan_history.specs.declared.lexeme.Opens.TheVariants as opening
 use Rattle.yaml_scan_machine.proofs.StepLemmas.{candidate_top, none_deeper, start_is}
 use Rattle.yaml_scan_machine.proofs.NextLemmas.{required_fresh, settled_first, unmissed}
@@ -14,7 +14,7 @@ use Rattle.yaml_scan_machine.proofs.CandidatesLemmas.{inner, top_saved, top_canc
 
 -- ---- the steps of code
 
-no_keys : (ks : List Key) → length ks ≡ 0 → ks ≡ []
+pub no_keys : (ks : List Key) → length ks ≡ 0 → ks ≡ []
 no_keys [] e = refl
 no_keys (k ∷ ks) e = absurd (omega (arith, e))
 
@@ -71,6 +71,36 @@ first_moved k t same at is p less line =
     let (low, number) = is p (omega (arith, less, ap (λ (f : Earliest). f.end) same)) (omega (arith, line, ap (λ (f : Earliest). f.line) same)) in
     let (inside, key) = at low in
     (inside, ap (λ (f : Earliest). Some f.number) same ∙ number ∙ ap (λ (z : Key). number_in (fresh_key z p)) (sym key))
+
+-- where the outermost of the outer keys stays, what is told of it does
+pub due_kept : (k t : Keys) → t.due ≡ k.due
+    → (0 < length t.outer.items → (0 < length k.outer.items) × (t.gone ≡ k.gone)
+    × (key_at (stack_of t) 0 ≡ key_at (stack_of k) 0))
+    → IsDue k → IsDue t
+due_kept k t same at is off some =
+    let (low, gone, key) = at some in
+    ap (λ g. cond (eqb g 0) (required_view (key_view (key_at (stack_of t) 0))) None) gone
+    ∙ ap (λ (z : Key). cond (eqb k.gone 0) (required_view (key_view z)) None) key
+    ∙ is (sym same ∙ off) low
+
+-- where some of the outermost depths are forgotten, nothing must come of them
+pub due_gone : (k : Keys) → 0 < k.gone → IsDue k
+due_gone k some off low = grind (arith, nat_tests)
+
+free_view : (k : Key) → k.required ≡ false → required_view (key_view k) ≡ None
+free_view k off = elim (cases_Bool k.possible) [
+  | inl on ↦ rw (on, off) refl
+  | inr none ↦ rw none refl
+]
+
+-- the first of the outer keys, where what is told of it is told
+pub due_first : (k : Keys) (x : Key) → k.outer.items ≡ x ∷ [] → k.due ≡ x.required → IsDue k
+due_first k x one told off some =
+    let here : key_at (stack_of k) 0 ≡ x = ap (λ ks. get_or ks 0 k.innermost) one in
+    elim (cases_Bool (eqb k.gone 0)) [
+      | inl all ↦ rw all (ap (λ (z : Key). required_view (key_view z)) here ∙ free_view x (sym told ∙ off))
+      | inr gone ↦ rw gone refl
+    ]
 
 -- a lexeme that cancels isn't saved
 pub no_saved : (l : Lexeme) → cancels l.kind ≡ true → (l.saved && cancels l.kind) ≡ false

@@ -80,6 +80,10 @@ IsFirst k = (p : yaml_mark_t) → p.index < k.first.end → p.line ≤ k.first.l
     → (k.stale < length k.outer.items)
     × (Some k.first.number ≡ number_in (fresh_key (key_at (stack_of k) k.stale) p))
 
+-- Where brackets are open outside of which it isn't told that a candidate's `:` must come, none must.
+abbrev pub IsDue : Keys → Type 0
+IsDue k = k.due ≡ false → 0 < length k.outer.items → required_at (stack_of k) ≡ None
+
 -- A key is a candidate, or there is none, and the candidate is stale at a place.
 abbrev pub IsKey : Key → Option Candidate → yaml_mark_t → Type 0
 IsKey k o place = (key_view k ≡ view_of o) ⊎ ((key_view k ≡ None) × (fresh o place ≡ None))

@@ -16,7 +16,7 @@ use Rattle.yaml_scan_history.specs.Kinds.{is_end}
 use Rattle.yaml_scan_history.specs.History.{left_by, most_waiting, most_slots}
 use Rattle.yaml_scan_machine.specs.Shows.{IsShown, fields_of}
 use Rattle.yaml_scan_machine.specs.Taken.{IsGiven}
-use Rattle.yaml_scan_machine.specs.Candidates.{IsFirst}
+use Rattle.yaml_scan_machine.specs.Candidates.{IsDue, IsFirst}
 use Rattle.yaml_scan_machine.specs.Settled.{most_ahead}
 
 -- a place where a reader may stand
@@ -60,6 +60,7 @@ pub record IsMachine (m : Machine) : Type 0 where
   pub spelled : m.encoding ≡ encoding_of m.setting m.input.now
   pub shown : IsShown (fields_of m)
   pub first : IsFirst m.keys
+  pub due : IsDue m.keys
   pub given : IsGiven (fields_of m)
 
 abbrev pub ready_in : ℕ → ℕ → ℕ → List Waiting → Bool

@@ -3,7 +3,7 @@
 ghost use Rattle.std.specs.Prelude.{◌≡◌, ◌+◌, ◌-◌, ◌≤◌, ◌<◌, ◌^◌, ◌&&◌, ◌⊎◌, [], OnOk, None, Some, true, false, length};
 ghost use Rattle.yaml_scan_history.specs.History as history;
 ghost use Rattle.yaml_scan_history.specs.Kinds.{cancels};
-ghost use Rattle.yaml_scan_machine.specs.Candidates.{AreStale, Forgets, HasEffect, IsFirst, IsPut, Turns, fresh_key, key_at, key_view, number_in, placed_at, required_at, required_view, stack_of};
+ghost use Rattle.yaml_scan_machine.specs.Candidates.{AreStale, Forgets, HasEffect, IsDue, IsFirst, IsPut, Turns, fresh_key, key_at, key_view, number_in, placed_at, required_at, required_view, stack_of};
 
 use std::alloc::{AllocError, Global};
 use yaml_scan_history::{Kind, Lexeme, is_fresh};
@@ -50,6 +50,8 @@ pub struct Keys {
     pub stale: usize,
     /// The first of the others.
     pub first: Earliest,
+    /// Inside brackets, the candidate outside of them may be one whose `:` must come.
+    pub due: bool,
 }
 
 /// What a lexeme makes of depth and candidate.
@@ -152,6 +154,7 @@ impl Keys {
         ensures none { result.innermost.possible ≡ false }
         ensures stale { result.stale ≡ 0 }
         ensures first { IsFirst result }
+        ensures due { IsDue result }
     {
         let start = yaml_mark_t {
             index: 0,
@@ -173,21 +176,25 @@ impl Keys {
                 line: 0,
                 end: 0,
             },
+            due: false,
         }
     }
 
     /// The start of the candidate outside all brackets, of which so many are open, where its `:` must come.
-    // Inlined: mostly two comparisons, asked for each lexeme.
+    // Inlined: mostly a comparison, asked for each lexeme.
     #[inline(always)]
     pub(crate) fn must_come(&self, depth: usize) -> Option<yaml_mark_t>
-        requires { depth ≡ self.now.gone + length self.now.outer.items }
+        requires deep { depth ≡ self.now.gone + length self.now.outer.items }
+        requires due { IsDue self.now }
         ensures { result ≡ required_at (stack_of self.now) }
     {
         if depth == 0 {
             return self.innermost.must_come();
         }
-        if self.gone == 0 {
-            return self.outermost();
+        if self.due {
+            if self.gone == 0 {
+                return self.outermost();
+            }
         }
         None
     }
@@ -234,6 +241,7 @@ impl Keys {
             (fresh_key (key_at (stack_of self.new) self.new.stale) place) }
         ensures last { result ≡ None → self.new.stale ≡ length self.new.outer.items }
         ensures first { IsFirst self.new }
+        ensures due { IsDue self.old → IsDue self.new }
     {
         if self.stale < self.outer.len() {
             if self.first.lasts(place) {
@@ -291,6 +299,7 @@ impl Keys {
         requires room { self.old.gone + length self.old.outer.items < 2 ^ 64 }
         ensures put { OnOk result (IsPut lexeme number (stack_of self.old) (stack_of self.new)) }
         ensures first { OnOk result (IsFirst self.old → IsFirst self.new) }
+        ensures due { OnOk result (IsDue self.old → IsDue self.new) }
     {
         match effect_of(lexeme.kind) {
             Effect::Opens => self.open(lexeme, number),
@@ -316,6 +325,7 @@ impl Keys {
         requires { cancels lexeme.kind ≡ false }
         ensures turns { Turns lexeme number (λ n. n) (stack_of self.old) (stack_of self.new) }
         ensures first { IsFirst self.old → IsFirst self.new }
+        ensures due { IsDue self.old → IsDue self.new }
     {
         if lexeme.saved {
             put_key(&mut self.innermost, number, lexeme);
@@ -330,6 +340,7 @@ impl Keys {
         requires cancels { cancels lexeme.kind ≡ true }
         ensures turns { Turns lexeme number (λ n. n) (stack_of self.old) (stack_of self.new) }
         ensures first { IsFirst self.old → IsFirst self.new }
+        ensures due { IsDue self.old → IsDue self.new }
     {
         self.innermost.possible = false;
     }
@@ -345,13 +356,30 @@ impl Keys {
         ensures turns { OnOk result (Turns lexeme number (λ n. n + 1) (stack_of self.old)
             (stack_of self.new)) }
         ensures first { OnOk result (IsFirst self.old → IsFirst self.new) }
+        ensures due { OnOk result (IsDue self.old → IsDue self.new) }
     {
         self.spare();
         self.save(lexeme, number);
         self.outer.reserve(1)?;
         self.outer.push_reserved(key_again(&self.innermost));
         self.innermost.possible = false;
+        self.tell_due();
         Ok(())
+    }
+
+    /// Of a bracket outside of which none is open, whose key was that of the depth that is open now, tells whether that key's `:` must
+    /// come.
+    // Inlined: a comparison and a store.
+    #[inline(always)]
+    fn tell_due(&mut self)
+        ensures same { self.new ≡ record self.old { due = self.new.due } }
+        ensures one { length self.old.outer.items ≡ 1
+            → self.new.due ≡ self.old.innermost.required }
+        ensures more { 1 < length self.old.outer.items → self.new.due ≡ self.old.due }
+    {
+        if self.outer.len() == 1 {
+            self.due = self.innermost.required;
+        }
     }
 
     /// Forgets the outermost candidates that are none, or stale, where they are many: of the others there are few, so each
@@ -363,6 +391,7 @@ impl Keys {
         requires room { self.old.gone + length self.old.outer.items < 2 ^ 64 }
         ensures forgets { Forgets (stack_of self.old) (stack_of self.new) }
         ensures first { IsFirst self.old → IsFirst self.new }
+        ensures due { IsDue self.old → IsDue self.new }
     {
         if STALE_KEPT <= self.stale {
             self.forget();
@@ -374,10 +403,12 @@ impl Keys {
     #[cold]
     #[inline(never)]
     fn forget(&mut self)
+        requires some { 0 < self.old.stale }
         requires inside { self.old.stale ≤ length self.old.outer.items }
         requires room { self.old.gone + length self.old.outer.items < 2 ^ 64 }
         ensures forgets { Forgets (stack_of self.old) (stack_of self.new) }
         ensures first { IsFirst self.old → IsFirst self.new }
+        ensures due { IsDue self.old → IsDue self.new }
     {
         let left = self.outer.len() - self.stale;
         self.outer.rotate_left(self.stale);
@@ -413,6 +444,7 @@ impl Keys {
         requires cancels { cancels lexeme.kind ≡ true }
         ensures turns { Turns lexeme number (λ n. n - 1) (stack_of self.old) (stack_of self.new) }
         ensures first { IsFirst self.old → IsFirst self.new }
+        ensures due { IsDue self.old → IsDue self.new }
     {
         match self.outer.pop() {
             Some(key) => {

@@ -64,7 +64,7 @@ impl<'a> Machine<'a> {
     ghost use Rattle.yaml_scan_decode.specs.Decoding.{decoded_text};
     ghost use Rattle.yaml_scan_machine.specs.Shows.{IsCounted, history_of};
     ghost use Rattle.yaml_scan_machine.specs.Reads.{MarksKey, IsColumnAt, opens_for};
-    ghost use Rattle.yaml_scan_machine.specs.Candidates.{AreKeys, IsFirst, stack_of};
+    ghost use Rattle.yaml_scan_machine.specs.Candidates.{AreKeys, IsDue, IsFirst, stack_of};
     ghost use Rattle.yaml_scan_history.specs.Remaining.{offline};
     ghost use Rattle.yaml_scan_laws_order.specs.Fronts.{GivesFirst};
     ghost use Rattle.yaml_scan_model.specs.Tokens.{token_of};
@@ -273,6 +273,7 @@ impl<'a> Machine<'a> {
         ensures same { self.new ≡ record self.old { keys = self.new.keys } }
         ensures keys { AreKeys (stack_of self.new.keys) (history_of self.old) self.old.place }
         ensures first { IsFirst self.new.keys }
+        ensures due { IsDue self.old.keys → IsDue self.new.keys }
         ensures value { result ≡ (if self.old.ended then length (history_of self.old)
             else history.first_open (history_of self.old) (history_of self.old)) }
     {

@@ -1,6 +1,6 @@
 use Rattle.std.proofs.Common.{false, refl}
 use Rattle.yaml_scan_machine.proofs.Words.{Key, get_or_default, stack_of}
-use Rattle.yaml_scan_machine.proofs.KeysLemmas.{cancelled_turns, first_moved}
+use Rattle.yaml_scan_machine.proofs.KeysLemmas.{cancelled_turns, due_kept, first_moved}
 use Rattle.yaml_scan_machine.proofs.keys.Keys.cancel.Goals as goal
 
 pub returns-clause-turns : goal.returns-clause-turns
@@ -14,3 +14,9 @@ returns-clause-first c =
     let k = c.args.self.now in
     let none : Key = record k.innermost { possible = false } in
     first_moved k record k { innermost = none } refl (λ low. (low, get_or_default k.outer.items k.stale none k.innermost low))
+
+pub returns-clause-due : goal.returns-clause-due
+returns-clause-due c =
+    let k = c.args.self.now in
+    let none : Key = record k.innermost { possible = false } in
+    due_kept k record k { innermost = none } refl (λ low. (low, refl, get_or_default k.outer.items 0 none k.innermost low))

@@ -1,8 +1,9 @@
-use Rattle.std.proofs.Common.{◌≡◌, ◌∙◌, ◌≤◌, ◌-◌, List, [], ◌∷◌, ◌++◌, false, get_or, inl, inr, length, refl, subst, sym, ap, arith}
+use Rattle.std.proofs.Common.{◌≡◌, ◌∙◌, ◌≤◌, ◌-◌, ◌+◌, List, [], ◌∷◌, ◌++◌, false, get_or, inl, inr, length, refl, subst, sym, ap, arith}
+use Rattle.std.proofs.lemmas.List.{length-append}
 use Rattle.yaml_scan_machine.proofs.Words.{KeyStack, get_or_append_left, get_or_default, stack_of, Key}
-use Rattle.yaml_scan_machine.proofs.KeysLemmas.{bare_turns, first_moved}
+use Rattle.yaml_scan_machine.proofs.KeysLemmas.{bare_turns, due_kept, first_moved}
 use Rattle.yaml_scan_machine.specs.declared.keys.Keys.{Keys}
-use Rattle.yaml_scan_machine.specs.Candidates.{IsFirst, Turns}
+use Rattle.yaml_scan_machine.specs.Candidates.{IsDue, IsFirst, Turns}
 use Rattle.yaml_scan_machine.proofs.CandidatesLemmas.{popped_turns}
 use Rattle.yaml_scan_machine.proofs.keys.Keys.close.Goals as goal
 
@@ -36,3 +37,15 @@ returns-in-None-clause-first c =
     let k = c.args.self.now in
     let none : Key = record k.innermost { possible = false } in
     first_moved k record k { gone = c.saturating_sub-self.result; outer = c.pop.new.self; innermost = none } refl (λ low. absurd (omega (arith, low, c.in-None.ensures.cases.0, k.outer.ok.0)))
+
+pub returns-in-Some-clause-due : goal.returns-in-Some-clause-due
+returns-in-Some-clause-due c = λ is.
+    let k = c.args.self.now in
+    let y : Keys = record k { outer = c.pop.new.self; innermost = c.put_again.new.to } in
+    let kept : k.outer.items ≡ y.outer.items ++ y.innermost ∷ [] = c.in-Some.ensures.items ∙ ap (λ (z : Key). c.pop.new.self.items ++ z ∷ []) (sym c.put_again.ensures) in
+    let more : length k.outer.items ≡ length y.outer.items + 1 = ap (λ (ks : List Key). length ks) kept ∙ length-append y.outer.items (y.innermost ∷ []) in
+    let due = due_kept k y refl (λ low. (omega (arith, low, more), refl, sym (ap (λ (ks : List Key). get_or ks 0 k.innermost) kept ∙ get_or_append_left y.outer.items (y.innermost ∷ []) k.innermost 0 low ∙ get_or_default y.outer.items 0 k.innermost y.innermost low))) is in
+    subst (λ (z : Keys). IsDue z) (sym c.clip.ensures.same) (due_kept y record y { stale = c.clip.new.self.stale; first = c.clip.new.self.first } refl (λ low. (low, refl, refl)) due)
+
+pub returns-in-None-clause-due : goal.returns-in-None-clause-due
+returns-in-None-clause-due c = λ is off some. absurd (omega (arith, some, c.in-None.ensures.cases.1, c.pop.new.self.ok.0))

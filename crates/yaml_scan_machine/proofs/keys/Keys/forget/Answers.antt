@@ -1,6 +1,6 @@
 use Rattle.std.proofs.Common.{◌≡◌, ◌∙◌, ◌+◌, ◌-◌, List, ap, arith, get_or, length, refl, take, drop}
 use Rattle.yaml_scan_machine.proofs.Words.{Key, get_or-drop, length-drop, stack_of}
-use Rattle.yaml_scan_machine.proofs.KeysLemmas.{first_moved, forgets_stale, turned_left}
+use Rattle.yaml_scan_machine.proofs.KeysLemmas.{due_gone, first_moved, forgets_stale, turned_left}
 use Rattle.yaml_scan_machine.proofs.keys.Keys.forget.Goals as goal
 
 pub returns-clause-forgets : goal.returns-clause-forgets
@@ -18,3 +18,6 @@ returns-clause-first c =
       omega (arith, low, ap (λ (ks : List Key). length ks) left, length-drop s.stale s.outer),
       ap (λ (ks : List Key). get_or ks 0 k.innermost) left ∙ get_or-drop s.stale s.outer 0 k.innermost ∙ ap (λ i. get_or s.outer i k.innermost) {x = s.stale + 0} {y = s.stale} (omega arith),
     ))
+
+pub returns-clause-due : goal.returns-clause-due
+returns-clause-due c = λ is. let k = c.args.self.now in due_gone record k { gone = k.gone + k.stale; outer = c.truncate.new.self; stale = 0 } (omega (arith, c.requires.some))

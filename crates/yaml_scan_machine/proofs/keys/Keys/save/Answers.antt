@@ -1,6 +1,6 @@
 use Rattle.std.proofs.Common.{refl}
 use Rattle.yaml_scan_machine.proofs.Words.{Key, get_or_default, stack_of}
-use Rattle.yaml_scan_machine.proofs.KeysLemmas.{first_moved, saved_turns}
+use Rattle.yaml_scan_machine.proofs.KeysLemmas.{due_kept, first_moved, saved_turns}
 use Rattle.yaml_scan_machine.proofs.CandidatesLemmas.{kept_turns}
 use Rattle.yaml_scan_machine.proofs.keys.Keys.save.Goals as goal
 
@@ -17,3 +17,8 @@ pub returns-then-lexeme-clause-first : goal.returns-then-lexeme-clause-first
 returns-then-lexeme-clause-first c =
     let k = c.args.self.now in
     first_moved k record k { innermost = c.put_key.new.key } refl (λ low. (low, get_or_default k.outer.items k.stale c.put_key.new.key k.innermost low))
+
+pub returns-then-lexeme-clause-due : goal.returns-then-lexeme-clause-due
+returns-then-lexeme-clause-due c =
+    let k = c.args.self.now in
+    due_kept k record k { innermost = c.put_key.new.key } refl (λ low. (low, refl, get_or_default k.outer.items 0 c.put_key.new.key k.innermost low))

@@ -24,6 +24,7 @@ returns-clause-stands c =
       decoded = c.requires.decoded;
       spelled = c.stream_encoding.ensures;
       first = c.new-2.ensures.first;
+      due = c.new-2.ensures.due;
       given = given_none 0 0 (map (λ (x : Waiting). kept_of x) c.new.result.items);
       shown = shown_start c.stream_encoding.result (text_bytes c.args.text) c.new.result.items c.new-3.result (stack_of c.new-2.result) c.new.ensures.items c.new-3.ensures (start_keys (stack_of c.new-2.result) zero_mark c.new-2.ensures.gone c.new-2.ensures.outer c.new-2.ensures.none c.new-2.ensures.stale);
     }

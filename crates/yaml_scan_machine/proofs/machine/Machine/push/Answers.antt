@@ -2,7 +2,7 @@ use Rattle.std.proofs.Common.{cond, ◌≡◌, ◌≤◌, ◌<◌, ℕ, Bool, Li
 use Rattle.yaml_scan_machine.proofs.Words.{map, body_of, is_start, allows_key, map-append, length-map, text_bytes, Machine, Waiting, KeptLexeme, kept_of, IsShort, IsMachine, ReadsOneMore, StaysShort, AreInside, IsNarrow, Lexeme, inside, left_by, entry_of, reached, KeyStack, stack_of, AreKeys, Fields, fields_of, history_of, kept_in, stream_of, opens_for, first_open, settled_in, Line}
 use Rattle.yaml_scan_laws_order.proofs.HistoryForward.{goes_forward}
 use Rattle.std.proofs.lemmas.Bool.{true≢false}
-use Rattle.yaml_scan_machine.specs.Candidates.{IsFirst}
+use Rattle.yaml_scan_machine.specs.Candidates.{IsDue, IsFirst}
 use Rattle.yaml_scan_machine.specs.Shows.{IsCounted}
 use Rattle.yaml_scan_machine.proofs.SafeLemmas.{inside_push, depth_after-le, narrow_by}
 use Rattle.yaml_scan_machine.proofs.KindLemmas.{ok_read}
@@ -167,6 +167,7 @@ returns-clause-ok c =
         spelled = i.spelled;
         shown = shown_now;
         first = c.settle-self.ensures.first;
+        due = c.settle-self.ensures.due (c.in_ok-put.ensures.due (subst (λ (y : Machine). IsDue y.keys) (sym same) i.due));
         given = given_goes f done l i.shown shown_now go e (read_pushed f done l i.shown e done_is) refl refl (omega (arith, settled.1, grows)) i.given;
       },
       record { text = refl; dropped = refl; further = more; given = refl; ahead = refl; encoding = refl; started = refl; setting = refl; bytes = refl },

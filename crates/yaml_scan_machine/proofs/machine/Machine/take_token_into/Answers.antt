@@ -66,6 +66,7 @@ returns-then-pop_token c =
         decoded = i.decoded;
         spelled = i.spelled;
         first = i.first;
+        due = i.due;
         shown = shown_popped (fields_of m) m.waiting.items front rest i.shown refl items low;
         given = given_none (m.dropped + 1) m.settled (map (λ (x : Waiting). kept_of x) rest);
       };

@@ -43,16 +43,31 @@ impl<'a> yaml_adapter_t<'a> {
     /// An adapter over a session of its own, that input's in that encoding, of which nothing is read. What is to come is what is
     /// of the session, up to the first tag that isn't UTF-8.
     pub fn new(alloc: Global, input: &'a [u8], encoding: yaml_encoding_t) -> yaml_adapter_t<'a>
+        ensures begun { result ≡ record { session = begun encoding input.now 0; over = false } }
+        ensures comes { remaining_of result ≡ adapted (scanned encoding input.now) }
+    {
+        yaml_adapter_t {
+            session: yaml_parser_t::new(alloc, input, encoding),
+            over: false,
+        }
+    }
+
+    /// The same over a session that reads up to eight lexemes before they are needed, and so reads on less often. It gives what the
+    /// other one gives.
+    pub fn reading_ahead(
+        alloc: Global,
+        input: &'a [u8],
+        encoding: yaml_encoding_t,
+    ) -> yaml_adapter_t<'a>
         ensures begun { result ≡ record {
           session = begun encoding input.now most_ahead;
           over = false;
         } }
         ensures comes { remaining_of result ≡ adapted (scanned encoding input.now) }
     {
-        yaml_adapter_t {
-            session: yaml_parser_t::reading_ahead(alloc, input, encoding),
-            over: false,
-        }
+        let session = yaml_parser_t::reading_ahead(alloc, input, encoding);
+        let over = false;
+        yaml_adapter_t { session, over }
     }
 }
 

@@ -41,7 +41,7 @@ fn parser_of<'a>(
     ensures reads { IfOk result (ReadsInput from input.now) }
     ensures memory { IfErr result (λ f. IsMemoryFault parse_layers (fault_of f)) }
 {
-    match yaml_parser_initialize(alloc, yaml_adapter_t::new(alloc, input, from)) {
+    match yaml_parser_initialize(alloc, yaml_adapter_t::reading_ahead(alloc, input, from)) {
         Ok(reading) => Ok(reading),
         Err(fault) => Err(fault),
     }

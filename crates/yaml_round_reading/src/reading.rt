@@ -35,7 +35,7 @@ pub fn reading_of<'a>(
     ensures between { IfOk result (λ r. r.parser.between ≡ true) }
     ensures memory { IfErr result (λ f. fault_of f ≡ memory_fault yaml_origin_t.Parser) }
 {
-    match yaml_parser_initialize(alloc, yaml_adapter_t::new(alloc, input, from)) {
+    match yaml_parser_initialize(alloc, yaml_adapter_t::reading_ahead(alloc, input, from)) {
         Ok(parser) => Ok(Reading {
             parser,
             event: yaml_event_t::unplaced(yaml_event_body_t::No),

@@ -13,6 +13,6 @@ is_read from input c e = ap parsed e
 
 pub returns-in-Ok-clause-reads : goal.returns-in-Ok-clause-reads
 returns-in-Ok-clause-reads c =
-    let e = is_read c.args.from c.args.input.now _ c.new.ensures.comes in
+    let e = is_read c.args.from c.args.input.now _ c.reading_ahead.ensures.comes in
     let m = as_run _ _ c.in-Ok.reading.events c.in-Ok.reading.ending c.in-Ok.ensures.events c.in-Ok.ensures.fault in
     record { events = m.0 ∙ ap (λ (r : Reading). r.events) e; ending = m.1 ∙ ap (λ (r : Reading). r.ending) e }

@@ -18,11 +18,11 @@ is_read from input c e = ap parsed e
 
 pub returns-in-Ok-clause-reads : goal.returns-in-Ok-clause-reads
 returns-in-Ok-clause-reads c =
-    let e = is_read c.args.from c.args.input.now (remaining_of c.new.result) c.new.ensures.comes in
-    let m = as_run (remaining_of c.new.result).tokens (remaining_of c.new.result).fault c.in-Ok.parser.events c.in-Ok.parser.ending c.in-Ok.ensures.events c.in-Ok.ensures.fault in
+    let e = is_read c.args.from c.args.input.now (remaining_of c.reading_ahead.result) c.reading_ahead.ensures.comes in
+    let m = as_run (remaining_of c.reading_ahead.result).tokens (remaining_of c.reading_ahead.result).fault c.in-Ok.parser.events c.in-Ok.parser.ending c.in-Ok.ensures.events c.in-Ok.ensures.fault in
     record { events = m.0 ∙ ap (λ (r : Reading). r.events) e; ending = m.1 ∙ ap (λ (r : Reading). r.ending) e }
 
 pub returns-in-Ok-clause-real : goal.returns-in-Ok-clause-real
 returns-in-Ok-clause-real c =
-    subst AreReal (sym (as_run (remaining_of c.new.result).tokens (remaining_of c.new.result).fault c.in-Ok.parser.events c.in-Ok.parser.ending c.in-Ok.ensures.events c.in-Ok.ensures.fault).0)
-    (read_real (remaining_of c.new.result).tokens initial (remaining_of c.new.result).fault no_directives)
+    subst AreReal (sym (as_run (remaining_of c.reading_ahead.result).tokens (remaining_of c.reading_ahead.result).fault c.in-Ok.parser.events c.in-Ok.parser.ending c.in-Ok.ensures.events c.in-Ok.ensures.fault).0)
+    (read_real (remaining_of c.reading_ahead.result).tokens initial (remaining_of c.reading_ahead.result).fault no_directives)

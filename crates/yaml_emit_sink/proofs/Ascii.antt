@@ -4,9 +4,7 @@ use Rattle.std.specs.Prelude.{◌==◌, ◌≤◌}
 use Rattle.std.specs.Str.{IsAscii}
 use Rattle.std.proofs.lemmas.Bool.Decides.{nat_tests}
 use Rattle.std.proofs.lemmas.Str.{IsAscii-drop}
-use Rattle.std.proofs.lemmas.Str.Ascii.{IsAscii-cons, IsAscii-nil}
 use Rattle.yaml_emit_sink.specs.declared.cursor.Cursor.{Cursor}
-use Rattle.yaml_emit_sink.specs.declared.cursor.Status.{Status}
 use Rattle.yaml_emit_sink.specs.declared.cursor.Status.TheVariants.{Going}
 use Rattle.yaml_emit_sink.specs.declared.settings.Encoding.TheVariants.{Utf8}
 use Rattle.yaml_emit_sink.specs.Text.{letter, encode, char_bytes, is_deep, shallow}
@@ -100,12 +98,6 @@ no_letters a (x ∷ xs) e = absurd (grind (arith, nat_tests, e))
 pub some_letters : (xs : List ℕ) → (length xs == 0) ≡ false → 0 < length xs
 some_letters [] e = absurd (cc)
 some_letters (x ∷ xs) e = omega arith
-
-pub ascii_parts : (xs ys : List ℕ) → IsAscii (xs ++ ys) → IsAscii xs × IsAscii ys
-ascii_parts [] ys h = (IsAscii-nil, h)
-ascii_parts (x ∷ xs) ys h =
-    let (a, b) = ascii_parts xs ys (more_bytes x (xs ++ ys) h) in
-    (IsAscii-cons x xs (first_byte x (xs ++ ys) h) a, b)
 
 -- where no white space was last, a word has a space in front
 pub parted : (t : List ℕ) (c : Cursor) (rest : Rest) → 0 < length t → c.white ≡ false

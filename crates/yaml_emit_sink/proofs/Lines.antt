@@ -1,14 +1,13 @@
 -- A break and the spaces behind it.
 use Rattle.std.proofs.Common.{◌≡◌, ℕ, ◌+◌, ◌-◌, ◌≤◌, List, [], ◌∷◌, ◌++◌, take, length, length-append, Bool, true, false, ◌<◌, refl, sym, subst, ◌∙◌, ap, append_assoc, arith}
-use Rattle.std.specs.Prelude.{zero, suc, replicate, ◌&&◌, ◌||◌, ◌==◌, nat_lt, nat_le, if◌then◌else◌, Option, None, Some}
+use Rattle.std.specs.Prelude.{zero, suc, replicate, ◌&&◌, ◌||◌, ◌==◌, nat_lt, nat_le, Option, None, Some}
 use Rattle.std.specs.Str.{IsAscii}
-use Rattle.std.proofs.lemmas.Bool.{false≢true, or_parts}
+use Rattle.std.proofs.lemmas.Bool.{false≢true, or_parts, cond_both, leb-true}
 use Rattle.std.proofs.lemmas.Str.{IsAscii-append}
 use Rattle.std.proofs.lemmas.Bool.Decides.{nat_tests}
 use Rattle.std.proofs.lemmas.List.{take-replicate, length-replicate}
 use Rattle.std.proofs.Math.Seq.{take-append-add}
 use Rattle.yaml_emit_sink.specs.declared.cursor.Cursor.{Cursor}
-use Rattle.yaml_emit_sink.specs.declared.cursor.Status.{Status}
 use Rattle.yaml_emit_sink.specs.declared.cursor.Status.TheVariants.{Going}
 use Rattle.yaml_emit_sink.specs.declared.settings.Encoding.TheVariants.{Utf8}
 use Rattle.yaml_emit_sink.specs.declared.settings.LineBreak.{LineBreak}
@@ -70,8 +69,8 @@ pub line_broken : (a b : Output) (k : LineBreak) (n : ℕ) → must_break n a.cu
 line_broken a b k n m p = puts_as a b (fresh k n) (line k n) (λ rest. line_fresh k n a.cursor rest m) p
 
 pub line_joined : (a b : Output) (k : LineBreak) (n : ℕ) → must_break n a.cursor ≡ false
-    → Puts a b (indent_to n) → Puts a b (line k n)
-line_joined a b k n m p = puts_as a b (indent_to n) (line k n) (λ rest. line_stays k n a.cursor rest m) p
+    → Puts a b (blanks (n - a.cursor.column)) → Puts a b (line k n)
+line_joined a b k n m p = puts_as a b (blanks (n - a.cursor.column)) (line k n) (λ rest. line_stays k n a.cursor rest m) p
 
 -- a line feed and the first of some spaces behind it
 pub line_cut : (old feed whole new blanks : List ℕ) (n : ℕ) → n ≤ length blanks
@@ -235,14 +234,10 @@ puts_line_start t xs a b m q i g x h e l v s p w o r k =
 
 -- ---- how many spaces are put
 
-by_least : (b : Bool) (n : ℕ) → nat_le n 16 ≡ b → n ≤ 80 → n ≤ (if b then 16 else 80)
-by_least true n e h = grind (arith, nat_tests, e)
-by_least false n e h = h
-
 pub enough_most : (n : ℕ) → n ≤ 80 → n ≤ length (replicate {A = ℕ} (enough n) 32)
 enough_most n h =
     let many : length (replicate {A = ℕ} (enough n) 32) ≡ enough n = length-replicate (enough n) 32 in
-    rw many (by_least (nat_le n 16) n refl h)
+    rw many (cond_both (nat_le n 16) 16 80 (λ k. n ≤ k) (leb-true n 16) (λ _. h))
 
 pub enough_same : (n : ℕ)
     → replicate {A = ℕ} (enough n) 32 ≡ replicate (length (replicate {A = ℕ} (enough n) 32)) 32

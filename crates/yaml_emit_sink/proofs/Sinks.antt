@@ -217,20 +217,6 @@ blanks_lead (suc n) c rest =
     let l = blanks_lead n (record { column = c.column + 1; white = true; bare = c.bare; kept = c.kept }) rest in
     record { all = ap (λ (t : List ℕ). 32 ∷ t) l.all; deep = l.deep; front = ap (λ (t : List ℕ). 32 ∷ t) l.front }
 
-pub no_blanks : (a : Output) (n : ℕ) → n ≡ 0 → Puts a a (blanks n)
-unfolding blanks
-no_blanks a n e = rw e (puts_nothing a)
-
--- spaces of one byte were appended
-pub puts_spaces : (a b : Output) (n : ℕ) → 0 < n → a.status ≡ Going → a.encoding ≡ Utf8
-    → b.encoding ≡ a.encoding → b.limit ≡ a.limit
-    → AppendsBy b.status a.limit a.bytes b.bytes (replicate n 32)
-    → (b.status ≡ Going → b.cursor ≡ blanked n a.cursor)
-    → Puts a b (blanks n)
-puts_spaces a b zero p g x e l h k = absurd (omega (arith, p))
-puts_spaces a b (suc n) p g x e l h k =
-    puts_run a b (blanks (suc n)) (replicate (suc n) 32) (stepped (suc n)) g e l (λ rest. rw x (blanks_lead (suc n) a.cursor rest)) h (λ going. k going ∙ sym (stepped_is n a.cursor))
-
 pub puts_blank : (a b : Output) → Puts a b (stroke 32 false true a.cursor.bare) → Puts a b blank
 puts_blank a b p = puts_as a b (stroke 32 false true a.cursor.bare) blank (λ rest. refl) p
 

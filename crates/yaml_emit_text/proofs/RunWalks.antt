@@ -4,8 +4,9 @@ use Rattle.std.specs.Prelude.{if◌then◌else◌, not, nat_lt, nat_le, ◌==◌
 use Rattle.std.proofs.lemmas.Bool.Decides.{nat_tests}
 use Rattle.std.proofs.lemmas.List.{append-nil}
 use Rattle.std.proofs.lemmas.Str.{chars-IsAscii}
+use Rattle.std.specs.List.{list_all}
 use Rattle.std.specs.Str.{chars}
-use Rattle.std.proofs.lemmas.Bool.{and_parts, and_from}
+use Rattle.std.proofs.lemmas.Bool.{and_parts, and_from, le-leb}
 use Rattle.std.proofs.Math.Bool.{and-false}
 use Rattle.yaml_emit_sink.specs.declared.Cursor.{Cursor}
 use Rattle.yaml_emit_sink.specs.Text.{letter, is_break}
@@ -17,9 +18,9 @@ use Rattle.yaml_emit_text.specs.declared.run.Bounds.{Bounds}
 use Rattle.yaml_emit_text.specs.Quoted.{needs_escape, escape_text, first, may_fold, fold, escaped, quoted_char, quoted_body}
 use Rattle.yaml_emit_text.specs.Scalars.{value_break, cuts_at, text_char, flow_char, flow_body, adds_break, cuts_block, line_blank, block_text, block_char, block_body}
 use Rattle.yaml_emit_text.specs.Style.{last_or, seen, looked, joined, is_special, is_break_space, is_not_plain, is_not_flow}
-use Rattle.yaml_emit_text.specs.Runs.{all_pass, runs_on, is_calm, calm, KeepsRuns, quoted_bounds, flow_bounds, block_bounds}
+use Rattle.yaml_emit_text.specs.Runs.{all_pass, runs_on, is_calm, KeepsRuns, quoted_bounds, flow_bounds, block_bounds}
 use Rattle.yaml_emit_text.proofs.Bools.{bool_cases}
-use Rattle.yaml_emit_text.proofs.RunLemmas.{at_most, calm_ascii, calm_least, calm_largest, run_byte, last_append}
+use Rattle.yaml_emit_text.proofs.RunLemmas.{Shown, shown_unbroken, calm_shown, shown_ascii, run_byte, last_append}
 use Rattle.yaml_emit_text.proofs.Walks.{flow_end}
 use Rattle.yaml_emit_text.specs.Tame.{IsTame}
 use Rattle.yaml_emit_text.proofs.Looks.{looked_at}
@@ -40,9 +41,6 @@ run_walk e body behind step more before g (b ∷ bs) xs c rest h =
     ∙ ap (λ t. letter b ∷ t) (run_walk e body behind step more b (more c.column b t) bs xs (record { column = c.column + 1; white = false; bare = false; kept = c.kept }) rest u)
 
 -- what a byte of a run is, in the words of each style
-
-no_break : (b : ℕ) → 32 ≤ b → b ≤ 126 → is_break b ≡ false
-no_break b l h = grind (arith, nat_tests)
 
 printable_needs : (unicode : Bool) (b : ℕ) → 32 ≤ b → b ≤ 126 → (b == 34) ≡ false
     → (b == 92) ≡ false → needs_escape unicode b ≡ false
@@ -69,7 +67,7 @@ quoted_raw page before b ys c rest h =
     let folds : may_fold page before b ys ≡ true → nat_lt page.width c.column ≡ false = λ m. space_stays (b == 32) page.cuts page.width c.column r.space (and_parts (b == 32) _ (and_parts page.cuts _ m).1).0 (and_parts page.cuts _ m).0 in
     bool_cases (may_fold page before b ys)
     (λ m. ap (λ v. (cond v (choose (is_past page.width) (fold page ys) (char b)) (escaped page.unicode b)) c rest) m ∙ ap (λ v. cond v (fold page ys c rest) (char b c rest)) (folds m))
-    (λ m. ap (λ v. (cond v (choose (is_past page.width) (fold page ys) (char b)) (escaped page.unicode b)) c rest) m ∙ ap (λ v. (cond v (letters (escape_text b)) (char b)) c rest) (printable_needs page.unicode b r.low r.high r.quote r.slash))
+    (λ m. ap (λ v. (cond v (choose (is_past page.width) (fold page ys) (char b)) (escaped page.unicode b)) c rest) m ∙ ap (λ v. (cond v (letters (escape_text b)) (char b)) c rest) (printable_needs page.unicode b r.shown.low r.shown.high r.quote r.slash))
 
 -- a run is written, by a walk
 run_owes : (body : ℕ → List ℕ → Layout) (a b : Output) (before last : ℕ) (bs xs text : List ℕ)
@@ -106,7 +104,7 @@ pub quoted_runs : (page : Page) (e : Bounds) (before : ℕ) → e ≡ quoted_bou
 quoted_runs page e before p = kept_by e _ (quoted_body page) before p (run_walk (quoted_bounds page) (quoted_body page) (λ _. true ≡ true) (λ before b ys c rest _ h. quoted_step page before b ys c rest h) (λ k b h. refl) before refl)
 
 run_unbroken : (e : Bounds) (k b : ℕ) → runs_on e k b ≡ true → is_break b ≡ false
-run_unbroken e k b h = let r = run_byte e k b h in no_break b r.low r.high
+run_unbroken e k b h = shown_unbroken b (run_byte e k b h).shown
 
 unquoted : (quote : Bool) (b : ℕ) → (b == (if quote then 39 else 0)) ≡ false
     → (quote && b == 39) ≡ false
@@ -123,7 +121,7 @@ flow_raw page quote before b ys c rest g h =
     let broken = when (b == 10 && not (is_break before)) (new_line page.line_break) ▹ value_break page.line_break b in
     let lined = line page.line_break page.indentation in
     let cuts : cuts_at page before b ys ≡ true → nat_lt page.width c.column ≡ false = λ m. space_stays (b == 32) page.cuts page.width c.column r.space (and_parts (b == 32) _ (and_parts page.cuts _ m).1).0 (and_parts page.cuts _ m).0 in
-    ap (λ v. (cond v broken (when (is_break before) lined ▹ text)) c rest) (no_break b r.low r.high) ∙ ap (λ v. (when v lined ▹ text) c rest) g
+    ap (λ v. (cond v broken (when (is_break before) lined ▹ text)) c rest) (shown_unbroken b r.shown) ∙ ap (λ v. (when v lined ▹ text) c rest) g
     ∙ bool_cases (cuts_at page before b ys)
     (λ m. ap (λ v. text_char page quote v b c rest) m ∙ ap (λ v. cond v (lined c rest) (char b c rest)) (cuts m))
     (λ m. ap (λ v. text_char page quote v b c rest) m ∙ ap (λ v. (when v (char 39) ▹ char b) c rest) (unquoted quote b r.quote))
@@ -149,7 +147,7 @@ block_raw page folded blank before b ys c rest g h =
     let broken = when (adds_break folded blank before b ys) (new_line page.line_break) ▹ value_break page.line_break b in
     let lined = line page.line_break page.indentation in
     let cuts : cuts_block folded blank before b ys ≡ true → nat_lt page.width c.column ≡ false = λ m. space_stays (b == 32) folded page.width c.column r.space (and_parts (b == 32) _ (and_parts folded _ m).1).0 (and_parts folded _ m).0 in
-    ap (λ v. (cond v broken (when (is_break before) lined ▹ text)) c rest) (no_break b r.low r.high) ∙ ap (λ v. (when v lined ▹ text) c rest) g
+    ap (λ v. (cond v broken (when (is_break before) lined ▹ text)) c rest) (shown_unbroken b r.shown) ∙ ap (λ v. (when v lined ▹ text) c rest) g
     ∙ bool_cases (cuts_block folded blank before b ys)
     (λ m. ap (λ v. block_text page v b c rest) m ∙ ap (λ v. cond v (lined c rest) (char b c rest)) (cuts m))
     (λ m. ap (λ v. block_text page v b c rest) m)
@@ -166,7 +164,7 @@ unfolding block_body
 block_step page folded blank before b ys c rest g h =
     let r = run_byte (block_bounds page folded) c.column b h in
     block_raw page folded blank before b ys c (λ d. block_body page folded (line_blank blank before b) b ys d rest) g h
-    ∙ ap (λ v. char b c (λ d. block_body page folded v b ys d rest)) (blank_stays blank before b g (no_break b r.low r.high))
+    ∙ ap (λ v. char b c (λ d. block_body page folded v b ys d rest)) (blank_stays blank before b g (shown_unbroken b r.shown))
 
 pub block_runs : (page : Page) (folded blank : Bool) (e : Bounds) (before : ℕ)
     → e ≡ block_bounds page folded → is_break before ≡ false
@@ -198,76 +196,76 @@ calm_seen : (unicode : Bool) (before b next : ℕ) → is_calm b ≡ true
     { special = false; broken = false; not_plain = false; not_flow = false }
 calm_seen unicode before b next h n = rw (calm_special unicode before b next h n, calm_broken before b next h, calm_plain before b next h, calm_flow before b next h) refl
 
-next_calm : (b : ℕ) (bs xs : List ℕ) (k : ℕ) → all_pass calm k bs ≡ true
+next_calm : (b : ℕ) (bs xs : List ℕ) → list_all is_calm bs ≡ true
     → (last_or b bs == 32 && is_break (first xs)) ≡ false
     → (b == 32 && is_break (first (bs ++ xs))) ≡ false
-unfolding all_pass last_or
-next_calm b [] xs k h n = n
-next_calm b (y ∷ ys) xs k h n =
-    let calm_y = (and_parts (calm k y) (all_pass calm (k + 1) ys) h).0 in
-    rw (no_break y (at_most 32 y (calm_least y calm_y)) (at_most y 126 (calm_largest y calm_y))) (and-false (b == 32))
+unfolding last_or
+next_calm b [] xs h n = n
+next_calm b (y ∷ ys) xs h n =
+    rw (shown_unbroken y (calm_shown y (and_parts (is_calm y) _ h).0)) (and-false (b == 32))
 
-calm_looked : (unicode : Bool) (before k : ℕ) (bs xs : List ℕ) → all_pass calm k bs ≡ true
+calm_looked : (unicode : Bool) (before : ℕ) (bs xs : List ℕ) → list_all is_calm bs ≡ true
     → (last_or 0 bs == 32 && is_break (first xs)) ≡ false
     → looked unicode before (bs ++ xs) ≡ looked unicode (last_or before bs) xs
-unfolding all_pass last_or
-calm_looked unicode before k [] xs h n = refl
-calm_looked unicode before k (b ∷ []) xs h n =
-    let c = (and_parts (calm k b) true h).0 in
-    looked_at unicode before b xs ∙ ap (λ z. joined z (looked unicode b xs)) (calm_seen unicode before b (first xs) c n)
-calm_looked unicode before k (b ∷ y ∷ ys) xs h n =
-    let (c, d) = and_parts (calm k b) (all_pass calm (k + 1) (y ∷ ys)) h in
-    let e = calm_seen unicode before b (first (y ∷ ys ++ xs)) c (next_calm b (y ∷ ys) xs (k + 1) d n) in
-    looked_at unicode before b (y ∷ ys ++ xs) ∙ ap (λ z. joined z (looked unicode b (y ∷ ys ++ xs))) e ∙ calm_looked unicode b (k + 1) (y ∷ ys) xs d n
+unfolding last_or
+calm_looked unicode before [] xs h n = refl
+calm_looked unicode before (b ∷ []) xs h n =
+    looked_at unicode before b xs ∙ ap (λ z. joined z (looked unicode b xs)) (calm_seen unicode before b (first xs) (and_parts (is_calm b) true h).0 n)
+calm_looked unicode before (b ∷ y ∷ ys) xs h n =
+    let (c, d) = and_parts (is_calm b) (list_all is_calm (y ∷ ys)) h in
+    let e = calm_seen unicode before b (first (y ∷ ys ++ xs)) c (next_calm b (y ∷ ys) xs d n) in
+    looked_at unicode before b (y ∷ ys ++ xs) ∙ ap (λ z. joined z (looked unicode b (y ∷ ys ++ xs))) e ∙ calm_looked unicode b (y ∷ ys) xs d n
 
-pub look_calm : (unicode : Bool) (before last : ℕ) (bs xs text : List ℕ) → all_pass calm 0 bs ≡ true
-    → (last_or 0 bs == 32 && is_break (first xs)) ≡ false → text ≡ bs ++ xs
+pub look_calm : (unicode : Bool) (before last : ℕ) (bs xs text : List ℕ)
+    → list_all is_calm bs ≡ true → (last_or 0 bs == 32 && is_break (first xs)) ≡ false → text ≡ bs ++ xs
     → last ≡ last_or before bs → looked unicode before text ≡ looked unicode last xs
-look_calm unicode before last bs xs text h n t l = ap (looked unicode before) t ∙ calm_looked unicode before 0 bs xs h n ∙ ap (λ z. looked unicode z xs) (sym l)
+look_calm unicode before last bs xs text h n t l = ap (looked unicode before) t ∙ calm_looked unicode before bs xs h n ∙ ap (λ z. looked unicode z xs) (sym l)
 
 pub last_calm : (before last : ℕ) (bs xs text : List ℕ) → text ≡ bs ++ xs → last ≡ last_or before bs
     → last_or before text ≡ last_or last xs
 last_calm before last bs xs text t l = ap (last_or before) t ∙ last_append before bs xs ∙ ap (λ z. last_or z xs) (sym l)
 
--- a text of calm bytes that fits its line
+-- a text that fits its line
 
-pub free : (x y : Bool) → (not x || (not y || true)) ≡ true
+free : (x y : Bool) → (not x || (not y || true)) ≡ true
 free true true = refl
 free true false = refl
 free false y = refl
 
+-- a byte that is shown runs on up to the width, where it is written as it is
+pub shown_run : (e : Bounds) (k b : ℕ) → Shown b → (b == e.quote) ≡ false → (b == e.slash) ≡ false
+    → k ≤ e.width → runs_on e k b ≡ true
+unfolding runs_on
+shown_run e k b s quote slash w =
+    rw (le-leb 32 b s.low, le-leb b 126 s.high, quote, slash, le-leb k e.width w) (free (b == 32) e.cuts)
+
+-- so do all, by a test that is enough up to a column
+pub all_run : (test : ℕ → Bool) (e : Bounds) (most : ℕ)
+    → ((k b : ℕ) → k ≤ most → test b ≡ true → runs_on e k b ≡ true) → (k : ℕ) (bs : List ℕ)
+    → list_all test bs ≡ true → k + length bs ≤ most → all_pass (runs_on e) k bs ≡ true
+unfolding all_pass
+all_run test e most step k [] h w = refl
+all_run test e most step k (b ∷ bs) h w =
+    let (t, u) = and_parts (test b) _ h in
+    and_from (runs_on e k b) _ (step k b (omega (arith, w)) t) (all_run test e most step (k + 1) bs u (omega (arith, w)))
+
 calm_run : (page : Page) (k b : ℕ) → k ≤ page.width → is_calm b ≡ true
     → runs_on (flow_bounds page false) k b ≡ true
-unfolding runs_on
-calm_run page k b h c =
-    let low = calm_least b c in
-    let high = calm_largest b c in
-    let other : (b == 0) ≡ false = grind (arith, nat_tests, low) in
-    let within : nat_le k page.width ≡ true = grind (arith, nat_tests, h) in
-    rw (low, high, other, within) (free (b == 32) page.cuts)
+calm_run page k b w c =
+    let s = calm_shown b c in
+    let other : (b == 0) ≡ false = let low = s.low in grind (arith, nat_tests, low) in
+    shown_run (flow_bounds page false) k b s other other w
 
-calm_runs : (page : Page) (j k : ℕ) (bs : List ℕ) → k + length bs ≤ page.width
-    → all_pass calm j bs ≡ true → all_pass (runs_on (flow_bounds page false)) k bs ≡ true
-unfolding all_pass
-calm_runs page j k [] w h = refl
-calm_runs page j k (b ∷ bs) w h =
-    and_from (runs_on (flow_bounds page false) k b) (all_pass (runs_on (flow_bounds page false)) (k + 1) bs)
-    (calm_run page k b (omega (arith, w)) (and_parts (calm j b) (all_pass calm (j + 1) bs) h).0)
-    (calm_runs page (j + 1) (k + 1) bs (omega (arith, w)) (and_parts (calm j b) (all_pass calm (j + 1) bs) h).1)
-
-calm_ends : (before j : ℕ) (bs : List ℕ) → is_break before ≡ false → all_pass calm j bs ≡ true
+calm_ends : (before : ℕ) (bs : List ℕ) → is_break before ≡ false → list_all is_calm bs ≡ true
     → is_break (last_or before bs) ≡ false
-unfolding all_pass last_or
-calm_ends before j [] g h = g
-calm_ends before j (b ∷ bs) g h =
-    let c = (and_parts (calm j b) (all_pass calm (j + 1) bs) h).0 in
-    let low = calm_least b c in
-    let high = calm_largest b c in
-    calm_ends b (j + 1) bs (no_break b (grind (arith, nat_tests, low)) (grind (arith, nat_tests, high))) (and_parts (calm j b) (all_pass calm (j + 1) bs) h).1
+unfolding last_or
+calm_ends before [] g h = g
+calm_ends before (b ∷ bs) g h =
+    let (c, d) = and_parts (is_calm b) _ h in calm_ends b bs (shown_unbroken b (calm_shown b c)) d
 
 -- its characters are its bytes
 pub tame_letters : (v : List ℕ) → IsTame v → chars v ≡ v
-tame_letters v t = chars-IsAscii v (calm_ascii 0 v t.calm)
+tame_letters v t = chars-IsAscii v (shown_ascii is_calm calm_shown v t.calm)
 
 ends_there : (page : Page) (before : ℕ) → is_break before ≡ false
     → flow_body page false before [] ≡ stay
@@ -279,8 +277,8 @@ pub tame_at : (page : Page) (c : Cursor) (rest : Rest) (v : List ℕ) → IsTame
     → flow_body page false 32 (chars v) c rest ≡ letters v c rest
 tame_at page c rest v t w =
     ap (λ (z : List ℕ). flow_body page false 32 z c rest) (tame_letters v t ∙ sym (append-nil v))
-    ∙ flow_runs page false _ 32 refl refl v [] c rest (calm_runs page 0 c.column v w t.calm)
-    ∙ ap (λ (z : Layout). letters v c (λ d. z d rest)) (ends_there page (last_or 32 v) (calm_ends 32 0 v refl t.calm))
+    ∙ flow_runs page false _ 32 refl refl v [] c rest (all_run is_calm (flow_bounds page false) page.width (calm_run page) c.column v t.calm w)
+    ∙ ap (λ (z : Layout). letters v c (λ d. z d rest)) (ends_there page (last_or 32 v) (calm_ends 32 v refl t.calm))
 
 -- so it was written
 pub tame_written : (page : Page) (at : Cursor) (a b : Output) (v : List ℕ) → IsTame v

@@ -1,15 +1,15 @@
 //! Literal and folded scalars (YAML 1.1, 9.2 and 9.3).
 
-ghost use Rattle.std.specs.Prelude.{◌≡◌, ◌≤◌, ◌+◌, length, IsUtf8, Bool, true, false, not, ◌&&◌, ◌||◌, ◌==◌, if◌then◌else◌};
+ghost use Rattle.std.specs.Prelude.{◌≡◌, ◌+◌, true, false, not, ◌&&◌, ◌||◌, ◌==◌, if◌then◌else◌};
 ghost use Rattle.yaml_types.specs.Ascii as ascii;
 ghost use Rattle.std.specs.Str.{chars};
 ghost use Rattle.yaml_emit_sink.specs.Sink.{Puts};
 ghost use Rattle.yaml_emit_sink.specs.Text.{is_break};
-ghost use Rattle.yaml_emit_sink.specs.Layout.{◌▹◌, stay, choose, when, char, break, new_line, gap, line, is_past, keep, after_block};
+ghost use Rattle.yaml_emit_sink.specs.Layout.{◌▹◌, char, break, line, keep};
 ghost use Rattle.yaml_emit_text.specs.Runs.{block_bounds};
 ghost use Rattle.yaml_emit_text.specs.Quoted.{first};
 ghost use Rattle.yaml_emit_text.specs.Style.{is_blank};
-ghost use Rattle.yaml_emit_text.specs.Scalars.{value_break, cut, behind_breaks, adds_break, cuts_block, line_blank, block_text, block_char, block_body, ends_in_break, chomp_of, chomp, chomp_mark, digit_char, digit_mark, block_header, block};
+ghost use Rattle.yaml_emit_text.specs.Scalars.{behind_breaks, adds_break, cuts_block, line_blank, block_text, block_char, block_body, ends_in_break, chomp_of, chomp, chomp_mark, digit_char, digit_mark, block_header, block};
 
 use crate::flow::{put_breaks, put_cut, put_line_if};
 use crate::letters::{first, is_break, split_first, split_last};

@@ -1,10 +1,8 @@
 //! Scalars in their style.
 
-ghost use Rattle.std.specs.Prelude.{◌≡◌, true, false};
 ghost use Rattle.std.specs.Str.{chars};
 ghost use Rattle.yaml_emit_sink.specs.Sink.{Puts};
-ghost use Rattle.yaml_emit_text.specs.Quoted.{double_quoted};
-ghost use Rattle.yaml_emit_text.specs.Scalars.{plain, single_quoted, block, scalar_text};
+ghost use Rattle.yaml_emit_text.specs.Scalars.{block, scalar_text};
 
 use crate::block::{put_folded, put_literal};
 use crate::flow::{put_plain, put_single_quoted};

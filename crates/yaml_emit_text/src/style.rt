@@ -1,11 +1,11 @@
 //! Which styles a value allows, and which one is taken.
 
-ghost use Rattle.std.specs.Prelude.{◌≡◌, ◌≤◌, ℕ, ◌∷◌, [], length, IsUtf8, Bool, false, true, not, ◌&&◌, ◌||◌, ◌==◌, if◌then◌else◌};
+ghost use Rattle.std.specs.Prelude.{◌≡◌, ◌≤◌, ℕ, length, IsUtf8, Bool, false, true, not, ◌&&◌, ◌||◌, ◌==◌};
 ghost use Rattle.yaml_types.specs.Ascii as ascii;
 ghost use Rattle.std.specs.Str.{chars};
 ghost use Rattle.yaml_emit_sink.specs.Text.{is_break};
 ghost use Rattle.yaml_emit_text.specs.Quoted.{is_printable, first, is_empty};
-ghost use Rattle.yaml_emit_text.specs.Style.{is_blank, ends_word, somewhere, is_special, is_break_space, is_not_plain, is_not_flow, last_or, ends_in_space, is_indicator, is_badly_begun, behind, starts_badly, allowed_text, allowed, plain_fits, single_or, block_or, plain_or, taken, looked, seen, joined};
+ghost use Rattle.yaml_emit_text.specs.Style.{is_blank, ends_word, is_special, is_break_space, is_not_plain, is_not_flow, last_or, is_indicator, is_badly_begun, behind, starts_badly, allowed_text, allowed, plain_fits, single_or, block_or, plain_or, taken, looked, seen, joined};
 
 use crate::letters::{first, is_break, is_empty, split_first};
 use crate::page::{Allowed, Seen, Style};

@@ -5,7 +5,6 @@ ghost use Rattle.yaml_types.specs.Ascii as ascii;
 ghost use Rattle.std.specs.Str.{chars, IsAscii};
 ghost use Rattle.yaml_emit_sink.specs.Sink.{Puts};
 ghost use Rattle.yaml_emit_sink.specs.Layout.{◌▹◌, letters, line};
-ghost use Rattle.yaml_emit_text.specs.Runs.{all_pass, calm};
 ghost use Rattle.yaml_emit_text.specs.Scalars.{flow_body, plain, scalar_text};
 ghost use Rattle.yaml_emit_text.specs.Style.{allowed, ends_in_space, is_badly_begun, starts_badly};
 ghost use Rattle.yaml_emit_text.specs.Tame.{IsTame, Stands, IsLined, standing, lead};
@@ -161,11 +160,8 @@ fn standing_size(quoted: bool, value: &[u8]) -> u64
     ensures size { result ≡ length (standing quoted value.now) }
     ensures small { result + 16 < 2 ^ 64 }
 {
-    if quoted {
-        value.len() as u64 + 2
-    } else {
-        value.len() as u64
-    }
+    let quotes = if quoted { 2 } else { 0 };
+    value.len() as u64 + quotes
 }
 
 /// Whether so many characters behind the column, and a text plain or in quotes behind them, end within the width.
@@ -181,19 +177,6 @@ pub fn fits(width: u64, column: u64, before: u64, quoted: bool, value: &[u8]) ->
 // How many bytes a value has at most that is looked at here.
 const SHORT: usize = 32;
 
-// Whether a value stands in its line in double quotes.
-// Inlined: a loop.
-#[inline(always)]
-fn is_in_line(width: u64, column: u64, value: &[u8]) -> bool
-    ensures { result ≡ true → IsLined column width value.now }
-{
-    if fits(width, column, 16, true, value) {
-        are_even(value)
-    } else {
-        are_solid(value)
-    }
-}
-
 /// Whether a value stands in its line in double quotes, behind that column and at most fourteen characters. One that isn't short
 /// isn't asked.
 // Inlined: some tests and a loop.
@@ -201,7 +184,14 @@ fn is_in_line(width: u64, column: u64, value: &[u8]) -> bool
 pub fn is_lined(width: u64, column: u64, value: &[u8]) -> bool
     ensures { result ≡ true → IsLined column width value.now }
 {
-    value.len() <= SHORT && is_in_line(width, column, value)
+    if SHORT < value.len() {
+        return false;
+    }
+    if fits(width, column, 16, true, value) {
+        are_even(value)
+    } else {
+        are_solid(value)
+    }
 }
 
 /// A text that may stand in a line, plain or in quotes, behind at most two characters, which are given without and with the quote.

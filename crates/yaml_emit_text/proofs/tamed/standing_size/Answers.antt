@@ -1,9 +1,6 @@
-use Rattle.std.proofs.Common.{refl}
 use Rattle.yaml_emit_text.proofs.Bare.{size_by}
 use Rattle.yaml_emit_text.proofs.tamed.standing_size.Goals as goal
+use Rattle.yaml_emit_text.proofs.tamed.standing_size.Goals.{then-quoted, else-quoted}
 
-pub returns-then-quoted-clause-size : goal.returns-then-quoted-clause-size
-returns-then-quoted-clause-size c = rw c.if-quoted.true (size_by c.args.value.now)
-
-pub returns-else-quoted-clause-size : goal.returns-else-quoted-clause-size
-returns-else-quoted-clause-size c = rw c.if-quoted.false refl
+pub returns-clause-size : goal.returns-clause-size
+returns-clause-size c = size_by c.args.quoted c.args.value.now _ (elim c.if-quoted.branch [ then-quoted w ↦ rw w.if-quoted.true w.quotes-is | else-quoted w ↦ rw w.if-quoted.false w.quotes-is ])

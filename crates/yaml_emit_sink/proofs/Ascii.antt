@@ -8,10 +8,10 @@ use Rattle.yaml_emit_sink.specs.declared.cursor.Cursor.{Cursor}
 use Rattle.yaml_emit_sink.specs.declared.cursor.Status.TheVariants.{Going}
 use Rattle.yaml_emit_sink.specs.declared.settings.Encoding.TheVariants.{Utf8}
 use Rattle.yaml_emit_sink.specs.Text.{letter, encode, char_bytes, is_deep, shallow}
-use Rattle.yaml_emit_sink.specs.Layout.{Rest, ◌▹◌, letters, word}
+use Rattle.yaml_emit_sink.specs.Layout.{Layout, Rest, letters, word}
 use Rattle.yaml_emit_sink.specs.Appends.{AppendsBy, lettered}
 use Rattle.yaml_emit_sink.specs.Sink.{Output, Puts}
-use Rattle.yaml_emit_sink.proofs.Sinks.{Leads, puts_run, puts_sure, puts_nothing, puts_as, puts_both, cond_false}
+use Rattle.yaml_emit_sink.proofs.Sinks.{Leads, puts_run, puts_sure, puts_nothing, puts_as, cond_false, letters_append}
 
 -- the cursor behind characters
 behind : List ℕ → Cursor → Cursor
@@ -81,14 +81,7 @@ puts_byte a b x n g u s r o t e l k =
 -- one text behind another, where it stands
 pub letters_both : (xs ys : List ℕ) (c : Cursor) (rest : Rest)
     → letters (xs ++ ys) c rest ≡ letters xs c (λ d. letters ys d rest)
-unfolding letters
-letters_both [] ys c rest = refl
-letters_both (x ∷ xs) ys c rest = ap (λ t. letter x ∷ t) (letters_both xs ys (record { column = c.column + 1; white = false; bare = false; kept = c.kept }) rest)
-
--- one text behind another
-pub puts_joined : (a b c : Output) (xs ys : List ℕ) → Puts a b (letters xs) → Puts b c (letters ys)
-    → Puts a c (letters (xs ++ ys))
-puts_joined a b c xs ys p q = puts_as a c (letters xs ▹ letters ys) (letters (xs ++ ys)) (λ rest. letters_both xs ys a.cursor rest) (puts_both a b c (letters xs) (letters ys) p q)
+letters_both xs ys c rest = ap (λ (t : Layout). t c rest) (letters_append xs ys)
 
 pub no_letters : (a : Output) (xs : List ℕ) → (length xs == 0) ≡ true → Puts a a (letters xs)
 unfolding letters

@@ -166,11 +166,10 @@ pub puts_wrapped : (quoted : Bool) (page : Page) (flow : Bool) (m : ℕ) (v : Li
     → a.cursor.column + (2 + length (standing quoted v)) ≤ page.width
     → Puts a b (letters (m ∷ 32 ∷ standing quoted v))
     → Puts a b (char m ▹ (wrap page.width k n ▹ standing_text quoted page flow v))
-unfolding letters
 puts_wrapped quoted page flow m v k n a b t w p =
-    let d : Cursor = record { column = a.cursor.column + 1; white = false; bare = false; kept = a.cursor.kept } in
-    puts_as a b (letters (m ∷ 32 ∷ standing quoted v)) (char m ▹ (wrap page.width k n ▹ standing_text quoted page flow v))
-    (λ rest. ap (λ (z : List Item). letter m ∷ z) (cond_false (nat_lt page.width (a.cursor.column + 1)) _ _ (not_past page.width a.cursor.column (length (standing quoted v)) w) ∙ standing_behind quoted page flow v d rest t refl (omega (arith, w)))) p
+    puts_as a b (char m ▹ standing_text quoted page flow v) (char m ▹ (wrap page.width k n ▹ standing_text quoted page flow v))
+    (λ rest. ap (λ (z : List Item). letter m ∷ z) (cond_false (nat_lt page.width (a.cursor.column + 1)) _ _ (not_past page.width a.cursor.column (length (standing quoted v)) w)))
+    (puts_led quoted page flow m v a b t w p)
 
 item_at : (quoted : Bool) (page : Page) (flow : Bool) (m : ℕ) (v : List ℕ) (c : Cursor)
     (rest : Rest) → Stands quoted v → c.white ≡ true
@@ -215,35 +214,19 @@ size_by false v n e = omega (arith, e)
 pub standing_few : (quoted : Bool) (pre framed f e : List ℕ) → f ≡ beside quoted pre framed
     → e ≡ beside quoted [] (34 ∷ []) → framed ≡ pre ++ 34 ∷ [] → length pre ≤ 2
     → length f + length e ≤ 8
-standing_few true pre framed f e p q r l =
-    let front : f ≡ pre ++ 34 ∷ [] = p ∙ r in
-    let behind : e ≡ 34 ∷ [] = q in
-    let more = length-append pre (34 ∷ []) in
-    rw (front, behind) (omega (arith, l, more))
-standing_few false pre framed f e p q r l =
-    let front : f ≡ pre = p in
-    let behind : e ≡ [] = q in
-    rw (front, behind) (omega (arith, l))
+standing_few true pre framed f e p q r l = let more = length-append pre (34 ∷ []) in rw (p ∙ r, q) (omega (arith, l, more))
+standing_few false pre framed f e p q r l = rw (p, q) (omega (arith, l))
 
 pub standing_some : (quoted : Bool) (pre framed f v : List ℕ) → f ≡ beside quoted pre framed
     → framed ≡ pre ++ 34 ∷ [] → Stands quoted v → 0 < length f + length v
-standing_some true pre framed f v p r t =
-    let front : f ≡ pre ++ 34 ∷ [] = p ∙ r in
-    let more = length-append pre (34 ∷ []) in
-    rw front (omega (arith, more))
+standing_some true pre framed f v p r t = let more = length-append pre (34 ∷ []) in rw (p ∙ r) (omega (arith, more))
 standing_some false pre framed f v p r t = let some = tame_some v t in omega (arith, some)
 
 joined_is : (quoted : Bool) (pre framed f v e : List ℕ) → f ≡ beside quoted pre framed
     → e ≡ beside quoted [] (34 ∷ []) → framed ≡ pre ++ 34 ∷ []
     → f ++ (v ++ e) ≡ pre ++ standing quoted v
-joined_is true pre framed f v e p q r =
-    let front : f ≡ pre ++ 34 ∷ [] = p ∙ r in
-    let behind : e ≡ 34 ∷ [] = q in
-    rw (front, behind) (append_assoc pre (34 ∷ []) (v ++ 34 ∷ []))
-joined_is false pre framed f v e p q r =
-    let front : f ≡ pre = p in
-    let behind : e ≡ [] = q in
-    rw (front, behind) (ap (λ (t : List ℕ). pre ++ t) (append-nil v))
+joined_is true pre framed f v e p q r = rw (p ∙ r, q) (append_assoc pre (34 ∷ []) (v ++ 34 ∷ []))
+joined_is false pre framed f v e p q r = rw (p, q) (ap (λ (t : List ℕ). pre ++ t) (append-nil v))
 
 bytes_ascii : (quoted : Bool) (v : List ℕ) → Stands quoted v → IsAscii (standing quoted v)
 bytes_ascii true v t = even_ascii v t

@@ -1,26 +1,12 @@
 -- Walks that look for something in a value.
-use Rattle.std.proofs.Common.{◌≡◌, ℕ, List, [], ◌∷◌, ◌++◌, Bool, true, false, cond, refl, sym, ◌∙◌, ap}
+use Rattle.std.proofs.Common.{◌≡◌, ℕ, List, [], ◌∷◌, ◌++◌, Bool, true, refl, sym, ◌∙◌, ap}
 use Rattle.std.proofs.Math.Bool.{or-false}
 use Rattle.yaml_emit_text.specs.declared.page.Seen.{Seen}
 use Rattle.yaml_emit_sink.specs.Text.{is_break}
 use Rattle.yaml_emit_text.specs.Quoted.{first}
 use Rattle.yaml_emit_text.specs.Style.{somewhere, last_or, seen, looked, joined}
-use Rattle.yaml_emit_text.specs.Scalars.{behind_breaks, ends_in_break, chomp, chomp_of}
+use Rattle.yaml_emit_text.specs.Scalars.{ends_in_break, chomp, chomp_of}
 use Rattle.yaml_emit_text.proofs.Bools.{or_assoc}
-
-pub breaks_more : (n : ℕ) (left xs : List ℕ) (y : ℕ) → left ≡ y ∷ xs → n ≡ behind_breaks left
-    → is_break y ≡ true → n ≡ behind_breaks xs
-unfolding behind_breaks
-breaks_more n left xs y e h f = h ∙ ap behind_breaks e ∙ ap (λ v. cond v (behind_breaks xs) y) f
-
-pub breaks_found : (n : ℕ) (left xs : List ℕ) (y : ℕ) → left ≡ y ∷ xs → n ≡ behind_breaks left
-    → is_break y ≡ false → y ≡ n
-unfolding behind_breaks
-breaks_found n left xs y e h f = sym (h ∙ ap behind_breaks e ∙ ap (λ v. cond v (behind_breaks xs) y) f)
-
-pub breaks_none : (n : ℕ) (left : List ℕ) → left ≡ [] → n ≡ behind_breaks left → 32 ≡ n
-unfolding behind_breaks
-breaks_none n left e h = sym (h ∙ ap behind_breaks e)
 
 chomp_behind : (broken last : Bool) (z y : ℕ) (xs : List ℕ) → last ≡ is_break z
     → chomp broken last (xs ++ y ∷ []) ≡ chomp_of (is_break (last_or z xs)) (is_break y)
@@ -75,12 +61,3 @@ look_more k all all' unicode before y left xs e h f =
 pub look_end : (k all : Seen) (unicode : Bool) (before : ℕ) (left : List ℕ) → left ≡ []
     → k ≡ joined all (looked unicode before left) → all ≡ k
 look_end k all unicode before left e h = sym (h ∙ ap (λ t. joined all (looked unicode before t)) e ∙ looked_none all unicode before)
-
-pub last_more : (n before y : ℕ) (left xs : List ℕ) → left ≡ y ∷ xs → n ≡ last_or before left
-    → n ≡ last_or y xs
-unfolding last_or
-last_more n before y left xs e h = h ∙ ap (last_or before) e
-
-pub last_end : (n before : ℕ) (left : List ℕ) → left ≡ [] → n ≡ last_or before left → before ≡ n
-unfolding last_or
-last_end n before left e h = sym (h ∙ ap (last_or before) e)

@@ -10,18 +10,18 @@ use Rattle.std.proofs.lemmas.Bool.{and_parts, and_from, le-leb}
 use Rattle.std.proofs.Math.Bool.{and-false}
 use Rattle.yaml_emit_sink.specs.declared.Cursor.{Cursor}
 use Rattle.yaml_emit_sink.specs.Text.{letter, is_break}
-use Rattle.yaml_emit_sink.specs.Layout.{Layout, Rest, ◌▹◌, stay, choose, when, char, letters, new_line, line, is_past}
+use Rattle.yaml_emit_sink.specs.Layout.{Layout, Rest, ◌▹◌, stay, when, char, letters, new_line, line}
 use Rattle.yaml_emit_sink.specs.Sink.{Output, Owes, Puts}
 use Rattle.yaml_emit_sink.proofs.Sinks.{owes_as, puts_as}
 use Rattle.yaml_emit_text.specs.declared.page.Page.{Page}
 use Rattle.yaml_emit_text.specs.declared.run.Bounds.{Bounds}
-use Rattle.yaml_emit_text.specs.Quoted.{needs_escape, escape_text, first, may_fold, fold, escaped, quoted_char, quoted_body}
+use Rattle.yaml_emit_text.specs.Quoted.{needs_escape, first, may_fold, quoted_char, quoted_body}
 use Rattle.yaml_emit_text.specs.Scalars.{value_break, cuts_at, text_char, flow_char, flow_body, adds_break, cuts_block, line_blank, block_text, block_char, block_body}
 use Rattle.yaml_emit_text.specs.Style.{last_or, seen, looked, joined, is_special, is_break_space, is_not_plain, is_not_flow}
 use Rattle.yaml_emit_text.specs.Runs.{all_pass, runs_on, is_calm, KeepsRuns, quoted_bounds, flow_bounds, block_bounds}
 use Rattle.yaml_emit_text.proofs.Bools.{bool_cases}
+use Rattle.yaml_emit_text.proofs.Escapes.{char_is}
 use Rattle.yaml_emit_text.proofs.RunLemmas.{Shown, shown_unbroken, calm_shown, shown_ascii, run_byte, last_append}
-use Rattle.yaml_emit_text.proofs.Walks.{flow_end}
 use Rattle.yaml_emit_text.specs.Tame.{IsTame}
 use Rattle.yaml_emit_text.proofs.Looks.{looked_at}
 
@@ -61,13 +61,12 @@ space_stays false cuts width k h p q = absurd (cc)
 quoted_raw : (page : Page) (before b : ℕ) (ys : List ℕ) (c : Cursor) (rest : Rest)
     → runs_on (quoted_bounds page) c.column b ≡ true
     → quoted_char page before b ys c rest ≡ char b c rest
-unfolding quoted_char
 quoted_raw page before b ys c rest h =
     let r = run_byte (quoted_bounds page) c.column b h in
     let folds : may_fold page before b ys ≡ true → nat_lt page.width c.column ≡ false = λ m. space_stays (b == 32) page.cuts page.width c.column r.space (and_parts (b == 32) _ (and_parts page.cuts _ m).1).0 (and_parts page.cuts _ m).0 in
     bool_cases (may_fold page before b ys)
-    (λ m. ap (λ v. (cond v (choose (is_past page.width) (fold page ys) (char b)) (escaped page.unicode b)) c rest) m ∙ ap (λ v. cond v (fold page ys c rest) (char b c rest)) (folds m))
-    (λ m. ap (λ v. (cond v (choose (is_past page.width) (fold page ys) (char b)) (escaped page.unicode b)) c rest) m ∙ ap (λ v. (cond v (letters (escape_text b)) (char b)) c rest) (printable_needs page.unicode b r.shown.low r.shown.high r.quote r.slash))
+    (λ m. char_is page before b ys c rest true false _ m (folds m) refl)
+    (λ m. char_is page before b ys c rest false _ false m refl (printable_needs page.unicode b r.shown.low r.shown.high r.quote r.slash))
 
 -- a run is written, by a walk
 run_owes : (body : ℕ → List ℕ → Layout) (a b : Output) (before last : ℕ) (bs xs text : List ℕ)
@@ -269,7 +268,8 @@ tame_letters v t = chars-IsAscii v (shown_ascii is_calm calm_shown v t.calm)
 
 ends_there : (page : Page) (before : ℕ) → is_break before ≡ false
     → flow_body page false before [] ≡ stay
-ends_there page before h = flow_end page false before ∙ ap (λ v. when v (line page.line_break page.indentation)) h
+unfolding flow_body
+ends_there page before h = ap (λ v. when v (line page.line_break page.indentation)) h
 
 -- it is written as it is
 pub tame_at : (page : Page) (c : Cursor) (rest : Rest) (v : List ℕ) → IsTame v

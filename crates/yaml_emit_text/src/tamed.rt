@@ -6,7 +6,7 @@ ghost use Rattle.std.specs.Str.{chars, IsAscii};
 ghost use Rattle.yaml_emit_sink.specs.Sink.{Puts};
 ghost use Rattle.yaml_emit_sink.specs.Layout.{◌▹◌, letters, line};
 ghost use Rattle.yaml_emit_text.specs.Scalars.{flow_body, plain, scalar_text};
-ghost use Rattle.yaml_emit_text.specs.Style.{allowed, ends_in_space, is_badly_begun, starts_badly};
+ghost use Rattle.yaml_emit_text.specs.Style.{allowed, is_badly_begun};
 ghost use Rattle.yaml_emit_text.specs.Tame.{IsTame, Stands, IsLined, standing, lead};
 
 use crate::flow::put_flow_body;
@@ -27,23 +27,6 @@ fn begins_well(c: char) -> bool
     ('a' <= c && c <= 'z') || ('A' <= c && c <= 'Z') || ('0' <= c && c <= '9')
 }
 
-// Whether a text begins with a letter or a digit.
-fn starts_well(value: &[u8]) -> bool
-    requires { 0 < length value.now }
-    ensures { result ≡ true → starts_badly value.now ≡ false }
-{
-    begins_well(value[0] as char)
-}
-
-// Whether no space ends a text.
-#[tactic(auto, using(crate::proofs::Tame::ends))]
-fn ends_well(value: &[u8]) -> bool
-    requires { 0 < length value.now }
-    ensures { result ≡ true → ends_in_space value.now ≡ false }
-{
-    value[value.len() - 1] != b' '
-}
-
 // A text of more bytes than these seldom fits its line.
 const LINE: usize = 80;
 
@@ -60,10 +43,10 @@ pub fn is_tame(value: &[u8]) -> bool
     if LINE < value.len() {
         return false;
     }
-    if !starts_well(value) {
+    if !begins_well(value[0] as char) {
         return false;
     }
-    if !ends_well(value) {
+    if value[value.len() - 1] == b' ' {
         return false;
     }
     are_calm(value)

@@ -72,17 +72,6 @@ pub line_joined : (a b : Output) (k : LineBreak) (n : ℕ) → must_break n a.cu
     → Puts a b (blanks (n - a.cursor.column)) → Puts a b (line k n)
 line_joined a b k n m p = puts_as a b (blanks (n - a.cursor.column)) (line k n) (λ rest. line_stays k n a.cursor rest m) p
 
--- a line feed and the first of some spaces behind it
-pub line_cut : (old feed whole new blanks : List ℕ) (n : ℕ) → n ≤ length blanks
-    → blanks ≡ replicate (length blanks) 32 → feed ≡ old ++ 10 ∷ [] → whole ≡ feed ++ blanks
-    → new ≡ take (length old + (1 + n)) whole → new ≡ old ++ 10 ∷ replicate n 32
-line_cut old feed whole new blanks n h b f w e =
-    let more : 1 + n ≡ suc n = omega arith in
-    let is : whole ≡ old ++ 10 ∷ blanks = w ∙ ap (λ (t : List ℕ). t ++ blanks) f ∙ append_assoc old (10 ∷ []) blanks in
-    let some : take n blanks ≡ replicate n 32 = ap (take n) b ∙ take-replicate n (length blanks) 32 h in
-    e ∙ ap (take (length old + (1 + n))) is ∙ take-append-add old (10 ∷ blanks) (1 + n)
-    ∙ ap (λ (k : ℕ). old ++ take k (10 ∷ blanks)) more ∙ ap (λ (t : List ℕ). old ++ 10 ∷ t) some
-
 -- as many spaces as are left of some
 pub blanks_cut : (old whole new blanks : List ℕ) (n : ℕ) → n ≤ length blanks
     → blanks ≡ replicate (length blanks) 32 → whole ≡ old ++ blanks
@@ -90,6 +79,14 @@ pub blanks_cut : (old whole new blanks : List ℕ) (n : ℕ) → n ≤ length bl
 blanks_cut old whole new blanks n h b w e =
     let some : take n blanks ≡ replicate n 32 = ap (take n) b ∙ take-replicate n (length blanks) 32 h in
     e ∙ ap (take (length old + n)) w ∙ take-append-add old blanks n ∙ ap (λ (t : List ℕ). old ++ t) some
+
+-- a line feed and the first of some spaces behind it
+pub line_cut : (old feed whole new blanks : List ℕ) (n : ℕ) → n ≤ length blanks
+    → blanks ≡ replicate (length blanks) 32 → feed ≡ old ++ 10 ∷ [] → whole ≡ feed ++ blanks
+    → new ≡ take (length old + (1 + n)) whole → new ≡ old ++ 10 ∷ replicate n 32
+line_cut old feed whole new blanks n h b f w e =
+    let size : length old + (1 + n) ≡ length feed + n = rw f (omega (arith, length-append old (10 ∷ []))) in
+    blanks_cut feed whole new blanks n h b w (e ∙ ap (λ (k : ℕ). take k whole) size) ∙ ap (λ (t : List ℕ). t ++ replicate n 32) f ∙ append_assoc old (10 ∷ []) (replicate n 32)
 
 -- spaces of one byte were appended, all of them for certain
 pub puts_few : (a b : Output) (n : ℕ) → (n ≡ 0 → ⊥) → a.status ≡ Going → a.encoding ≡ Utf8

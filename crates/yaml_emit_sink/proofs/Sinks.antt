@@ -11,7 +11,7 @@ use Rattle.yaml_emit_sink.specs.declared.settings.Encoding.{Encoding}
 use Rattle.yaml_emit_sink.specs.Text.{Item, letter, deep, encode, char_bytes, is_deep, shallow}
 use Rattle.yaml_emit_sink.specs.Layout.{Layout, Rest, ◌▹◌, stay, when, char, letters, blank, blanks, too_deep}
 use Rattle.yaml_emit_sink.specs.Appends.{AppendsBy, blanked}
-use Rattle.yaml_emit_sink.specs.Sink.{Output, Grows, Ends, EndsBy, Owes, Puts, stroke}
+use Rattle.yaml_emit_sink.specs.Sink.{Output, Grows, Ends, EndsBy, Owes, Puts}
 
 -- nothing is taken back
 pub grows_none : (xs : List ℕ) → Grows xs xs
@@ -216,9 +216,6 @@ blanks_lead zero c rest = record { all = refl; deep = refl; front = refl }
 blanks_lead (suc n) c rest =
     let l = blanks_lead n (record { column = c.column + 1; white = true; bare = c.bare; kept = c.kept }) rest in
     record { all = ap (λ (t : List ℕ). 32 ∷ t) l.all; deep = l.deep; front = ap (λ (t : List ℕ). 32 ∷ t) l.front }
-
-pub puts_blank : (a b : Output) → Puts a b (stroke 32 false true a.cursor.bare) → Puts a b blank
-puts_blank a b p = puts_as a b (stroke 32 false true a.cursor.bare) blank (λ rest. refl) p
 
 -- a space more of those that are owed
 pub blanks_more : (a b c : Output) (n i : ℕ) → i < n → Owes a b (blanks n) (blanks (n - i))

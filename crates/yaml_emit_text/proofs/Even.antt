@@ -1,8 +1,9 @@
 -- Values whose bytes stand as they are between double quotes: solid ones wherever that is, even ones where they fit their line.
-use Rattle.std.proofs.Common.{◌≡◌, ℕ, ◌+◌, ◌≤◌, length, List, [], ◌∷◌, ◌++◌, Bool, true, false, refl, ◌∙◌, ap, arith}
+use Rattle.std.proofs.Common.{◌≡◌, ℕ, ◌+◌, ◌≤◌, length, List, [], ◌∷◌, ◌++◌, Bool, true, false, refl, sym, ◌∙◌, ap, arith}
 use Rattle.std.specs.List.{list_all}
 use Rattle.std.specs.Str.{chars, IsAscii}
-use Rattle.std.proofs.lemmas.Bool.{and_parts}
+use Rattle.std.proofs.lemmas.List.{append-nil}
+use Rattle.yaml_emit_sink.proofs.Ascii.{letters_both}
 use Rattle.std.proofs.lemmas.List.Elements.{All-weaker}
 use Rattle.std.proofs.lemmas.List.Sums.{AllPass-from_list_all, list_all-from_AllPass}
 use Rattle.std.proofs.lemmas.Bool.Decides.{nat_tests}
@@ -14,7 +15,7 @@ use Rattle.yaml_emit_sink.specs.Layout.{Rest, ◌▹◌, char, letters, word}
 use Rattle.yaml_emit_text.specs.declared.page.Page.{Page}
 use Rattle.yaml_emit_text.specs.Quoted.{quoted_body, double_quoted}
 use Rattle.yaml_emit_text.specs.Runs.{all_pass, runs_on, stands, is_even, is_solid, quoted_bounds}
-use Rattle.yaml_emit_text.proofs.RunWalks.{quoted_step, shown_run, all_run}
+use Rattle.yaml_emit_text.proofs.RunWalks.{quoted_runs, shown_run, all_run}
 use Rattle.yaml_emit_text.proofs.RunLemmas.{Shown, shown_by, shown_ascii}
 
 -- ---- its bytes
@@ -61,12 +62,10 @@ even_stand page k v h w = all_run is_even (quoted_bounds page) page.width (even_
 body_is : (page : Page) (before : ℕ) (v : List ℕ) (c : Cursor) (rest : Rest)
     → all_pass (runs_on (quoted_bounds page)) c.column v ≡ true
     → (quoted_body page before v ▹ char 34) c rest ≡ letters (v ++ 34 ∷ []) c rest
-unfolding quoted_body letters all_pass
-body_is page before [] c rest h = refl
-body_is page before (b ∷ bs) c rest h =
-    let t = and_parts (runs_on (quoted_bounds page) c.column b) _ h in
-    quoted_step page before b bs c (λ d. char 34 d rest) t.0
-    ∙ ap (λ t. letter b ∷ t) (body_is page b bs (record { column = c.column + 1; white = false; bare = false; kept = c.kept }) rest t.1)
+unfolding quoted_body letters
+body_is page before v c rest h =
+    let next : Rest = λ d. char 34 d rest in
+    ap (λ z. quoted_body page before z c next) (sym (append-nil v)) ∙ quoted_runs page (quoted_bounds page) before refl v [] c next h ∙ sym (letters_both v (34 ∷ []) c rest)
 
 -- the column behind the quote in front, by whether no space is due
 abbrev behind_quote : Bool → ℕ → ℕ

@@ -20,10 +20,6 @@ pub chomp_ends : (value front : List ℕ) (y : ℕ) (broken last : Bool) → val
     → chomp_of broken last ≡ chomp true true value
 chomp_ends value front y broken last v b l = ap (λ t. chomp_of t last) b ∙ ap (chomp_of (ends_in_break front)) l ∙ sym (ap (chomp true true) v ∙ chomp_behind true true 10 y front refl)
 
-pub chomp_none : (value : List ℕ) → value ≡ [] → chomp_of true true ≡ chomp true true value
-unfolding chomp
-chomp_none value v = sym (ap (chomp true true) v)
-
 last_behind : (a y : ℕ) (xs : List ℕ) → last_or a (xs ++ y ∷ []) ≡ y
 unfolding last_or
 last_behind a y [] = refl
@@ -32,10 +28,6 @@ last_behind a y (x ∷ xs) = last_behind x y xs
 pub ends_by : (text front : List ℕ) (y : ℕ) → text ≡ front ++ y ∷ []
     → is_break y ≡ ends_in_break text
 ends_by text front y e = sym (ap (λ t. is_break (last_or 10 t)) e ∙ ap is_break (last_behind 10 y front))
-
-pub ends_none : (text : List ℕ) → text ≡ [] → true ≡ ends_in_break text
-unfolding last_or
-ends_none text e = sym (ap (λ t. is_break (last_or 10 t)) e)
 
 joined_assoc : (a b c : Seen) → joined a (joined b c) ≡ joined (joined a b) c
 joined_assoc a b c = rw (or_assoc a.special b.special c.special, or_assoc a.broken b.broken c.broken, or_assoc a.not_plain b.not_plain c.not_plain, or_assoc a.not_flow b.not_flow c.not_flow) refl

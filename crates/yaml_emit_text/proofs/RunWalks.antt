@@ -15,7 +15,7 @@ use Rattle.yaml_emit_sink.specs.Sink.{Output, Owes, Puts}
 use Rattle.yaml_emit_sink.proofs.Sinks.{owes_as, puts_as}
 use Rattle.yaml_emit_text.specs.declared.page.Page.{Page}
 use Rattle.yaml_emit_text.specs.declared.run.Bounds.{Bounds}
-use Rattle.yaml_emit_text.specs.Quoted.{needs_escape, first, may_fold, quoted_char, quoted_body}
+use Rattle.yaml_emit_text.specs.Quoted.{needs_escape, first, may_fold, quoted_body}
 use Rattle.yaml_emit_text.specs.Scalars.{value_break, cuts_at, text_char, flow_char, flow_body, adds_break, cuts_block, line_blank, block_text, block_char, block_body}
 use Rattle.yaml_emit_text.specs.Style.{last_or, seen, looked, joined, is_special, is_break_space, is_not_plain, is_not_flow}
 use Rattle.yaml_emit_text.specs.Runs.{all_pass, runs_on, is_calm, KeepsRuns, quoted_bounds, flow_bounds, block_bounds}
@@ -58,49 +58,30 @@ space_stays true true width k h p q = not_past width k h
 space_stays true false width k h p q = absurd (cc)
 space_stays false cuts width k h p q = absurd (cc)
 
-quoted_raw : (page : Page) (before b : ℕ) (ys : List ℕ) (c : Cursor) (rest : Rest)
+quoted_step : (page : Page) (before b : ℕ) (ys : List ℕ) (c : Cursor) (rest : Rest)
     → runs_on (quoted_bounds page) c.column b ≡ true
-    → quoted_char page before b ys c rest ≡ char b c rest
-quoted_raw page before b ys c rest h =
+    → quoted_body page before (b ∷ ys) c rest ≡ char b c (λ d. quoted_body page b ys d rest)
+unfolding quoted_body
+quoted_step page before b ys c rest h =
     let r = run_byte (quoted_bounds page) c.column b h in
+    let next : Rest = λ d. quoted_body page b ys d rest in
     let folds : may_fold page before b ys ≡ true → nat_lt page.width c.column ≡ false = λ m. space_stays (b == 32) page.cuts page.width c.column r.space (and_parts (b == 32) _ (and_parts page.cuts _ m).1).0 (and_parts page.cuts _ m).0 in
     bool_cases (may_fold page before b ys)
-    (λ m. char_is page before b ys c rest true false _ m (folds m) refl)
-    (λ m. char_is page before b ys c rest false _ false m refl (printable_needs page.unicode b r.shown.low r.shown.high r.quote r.slash))
+    (λ m. char_is page before b ys c next true false _ m (folds m) refl)
+    (λ m. char_is page before b ys c next false _ false m refl (printable_needs page.unicode b r.shown.low r.shown.high r.quote r.slash))
 
 -- a run is written, by a walk
-run_owes : (body : ℕ → List ℕ → Layout) (a b : Output) (before last : ℕ) (bs xs text : List ℕ)
-    → ((rest : Rest) → body before (bs ++ xs) a.cursor rest
-    ≡ (letters bs ▹ body (last_or before bs) xs) a.cursor rest)
-    → text ≡ bs ++ xs → last ≡ last_or before bs → Puts a b (letters bs)
-    → Owes a b (body before text) (body last xs)
-run_owes body a b before last bs xs text e t l p =
-    let P : List ℕ → Type 0 = λ z. Owes a b (body before z) (body last xs) in
-    let Q : ℕ → Type 0 = λ z. Owes a b (body before (bs ++ xs)) (body z xs) in
-    subst P (sym t) (subst Q (sym l) (owes_as a b (body before (bs ++ xs)) (letters bs) (body (last_or before bs) xs) e p))
-
 pub run_put : (e : Bounds) (body : ℕ → List ℕ → Layout) (at : Cursor) (a b : Output)
     (before last : ℕ) (bs xs text : List ℕ) → KeepsRuns e body before → at ≡ a.cursor
     → all_pass (runs_on e) at.column bs ≡ true → text ≡ bs ++ xs → last ≡ last_or before bs
     → Puts a b (letters bs) → Owes a b (body before text) (body last xs)
 run_put e body at a b before last bs xs text k q h t l w =
-    let P : Cursor → Type 0 = λ c. all_pass (runs_on e) c.column bs ≡ true in
-    run_owes body a b before last bs xs text (λ rest. k bs xs a.cursor rest (subst P q h)) t l w
+    rw (t, l) (owes_as a b (body before (bs ++ xs)) (letters bs) (body (last_or before bs) xs) (λ rest. k bs xs a.cursor rest (rw q at h)) w)
 
 -- by the bounds of each style
-kept_by : (e f : Bounds) (body : ℕ → List ℕ → Layout) (before : ℕ) → e ≡ f
-    → KeepsRuns f body before → KeepsRuns e body before
-kept_by e f body before p k = let P : Bounds → Type 0 = λ z. KeepsRuns z body before in subst P (sym p) k
-
-pub quoted_step : (page : Page) (before b : ℕ) (ys : List ℕ) (c : Cursor) (rest : Rest)
-    → runs_on (quoted_bounds page) c.column b ≡ true
-    → quoted_body page before (b ∷ ys) c rest ≡ char b c (λ d. quoted_body page b ys d rest)
-unfolding quoted_body
-quoted_step page before b ys c rest h = quoted_raw page before b ys c (λ d. quoted_body page b ys d rest) h
-
 pub quoted_runs : (page : Page) (e : Bounds) (before : ℕ) → e ≡ quoted_bounds page
     → KeepsRuns e (quoted_body page) before
-quoted_runs page e before p = kept_by e _ (quoted_body page) before p (run_walk (quoted_bounds page) (quoted_body page) (λ _. true ≡ true) (λ before b ys c rest _ h. quoted_step page before b ys c rest h) (λ k b h. refl) before refl)
+quoted_runs page e before p = rw p (run_walk (quoted_bounds page) (quoted_body page) (λ _. true ≡ true) (λ before b ys c rest _ h. quoted_step page before b ys c rest h) (λ k b h. refl) before refl)
 
 run_unbroken : (e : Bounds) (k b : ℕ) → runs_on e k b ≡ true → is_break b ≡ false
 run_unbroken e k b h = shown_unbroken b (run_byte e k b h).shown
@@ -110,65 +91,52 @@ unquoted : (quote : Bool) (b : ℕ) → (b == (if quote then 39 else 0)) ≡ fal
 unquoted true b h = h
 unquoted false b h = refl
 
-flow_raw : (page : Page) (quote : Bool) (before b : ℕ) (ys : List ℕ) (c : Cursor) (rest : Rest)
+flow_step : (page : Page) (quote : Bool) (before b : ℕ) (ys : List ℕ) (c : Cursor) (rest : Rest)
     → is_break before ≡ false → runs_on (flow_bounds page quote) c.column b ≡ true
-    → flow_char page quote before b ys c rest ≡ char b c rest
-unfolding flow_char
-flow_raw page quote before b ys c rest g h =
+    → flow_body page quote before (b ∷ ys) c rest ≡ char b c (λ d. flow_body page quote b ys d rest)
+unfolding flow_body flow_char
+flow_step page quote before b ys c rest g h =
     let r = run_byte (flow_bounds page quote) c.column b h in
+    let next : Rest = λ d. flow_body page quote b ys d rest in
     let text = text_char page quote (cuts_at page before b ys) b in
     let broken = when (b == 10 && not (is_break before)) (new_line page.line_break) ▹ value_break page.line_break b in
     let lined = line page.line_break page.indentation in
     let cuts : cuts_at page before b ys ≡ true → nat_lt page.width c.column ≡ false = λ m. space_stays (b == 32) page.cuts page.width c.column r.space (and_parts (b == 32) _ (and_parts page.cuts _ m).1).0 (and_parts page.cuts _ m).0 in
-    ap (λ v. (cond v broken (when (is_break before) lined ▹ text)) c rest) (shown_unbroken b r.shown) ∙ ap (λ v. (when v lined ▹ text) c rest) g
+    ap (λ v. (cond v broken (when (is_break before) lined ▹ text)) c next) (shown_unbroken b r.shown) ∙ ap (λ v. (when v lined ▹ text) c next) g
     ∙ bool_cases (cuts_at page before b ys)
-    (λ m. ap (λ v. text_char page quote v b c rest) m ∙ ap (λ v. cond v (lined c rest) (char b c rest)) (cuts m))
-    (λ m. ap (λ v. text_char page quote v b c rest) m ∙ ap (λ v. (when v (char 39) ▹ char b) c rest) (unquoted quote b r.quote))
-
-flow_step : (page : Page) (quote : Bool) (before b : ℕ) (ys : List ℕ) (c : Cursor) (rest : Rest)
-    → is_break before ≡ false → runs_on (flow_bounds page quote) c.column b ≡ true
-    → flow_body page quote before (b ∷ ys) c rest ≡ char b c (λ d. flow_body page quote b ys d rest)
-unfolding flow_body
-flow_step page quote before b ys c rest g h = flow_raw page quote before b ys c (λ d. flow_body page quote b ys d rest) g h
+    (λ m. ap (λ v. text_char page quote v b c next) m ∙ ap (λ v. cond v (lined c next) (char b c next)) (cuts m))
+    (λ m. ap (λ v. text_char page quote v b c next) m ∙ ap (λ v. (when v (char 39) ▹ char b) c next) (unquoted quote b r.quote))
 
 pub flow_runs : (page : Page) (quote : Bool) (e : Bounds) (before : ℕ)
     → e ≡ flow_bounds page quote → is_break before ≡ false
     → KeepsRuns e (flow_body page quote) before
-flow_runs page quote e before p g = kept_by e _ (flow_body page quote) before p (run_walk (flow_bounds page quote) (flow_body page quote) (λ b. is_break b ≡ false) (flow_step page quote) (run_unbroken (flow_bounds page quote)) before g)
-
-block_raw : (page : Page) (folded blank : Bool) (before b : ℕ) (ys : List ℕ) (c : Cursor)
-    (rest : Rest) → is_break before ≡ false → runs_on (block_bounds page folded) c.column b ≡ true
-    → block_char page folded blank before b ys c rest ≡ char b c rest
-unfolding block_char
-block_raw page folded blank before b ys c rest g h =
-    let r = run_byte (block_bounds page folded) c.column b h in
-    let text = block_text page (cuts_block folded blank before b ys) b in
-    let broken = when (adds_break folded blank before b ys) (new_line page.line_break) ▹ value_break page.line_break b in
-    let lined = line page.line_break page.indentation in
-    let cuts : cuts_block folded blank before b ys ≡ true → nat_lt page.width c.column ≡ false = λ m. space_stays (b == 32) folded page.width c.column r.space (and_parts (b == 32) _ (and_parts folded _ m).1).0 (and_parts folded _ m).0 in
-    ap (λ v. (cond v broken (when (is_break before) lined ▹ text)) c rest) (shown_unbroken b r.shown) ∙ ap (λ v. (when v lined ▹ text) c rest) g
-    ∙ bool_cases (cuts_block folded blank before b ys)
-    (λ m. ap (λ v. block_text page v b c rest) m ∙ ap (λ v. cond v (lined c rest) (char b c rest)) (cuts m))
-    (λ m. ap (λ v. block_text page v b c rest) m)
-
-blank_stays : (blank : Bool) (before b : ℕ) → is_break before ≡ false → is_break b ≡ false
-    → line_blank blank before b ≡ blank
-blank_stays blank before b g h = rw (g, h) refl
+flow_runs page quote e before p g = rw p (run_walk (flow_bounds page quote) (flow_body page quote) (λ b. is_break b ≡ false) (flow_step page quote) (run_unbroken (flow_bounds page quote)) before g)
 
 block_step : (page : Page) (folded blank : Bool) (before b : ℕ) (ys : List ℕ) (c : Cursor)
     (rest : Rest) → is_break before ≡ false → runs_on (block_bounds page folded) c.column b ≡ true
     → block_body page folded blank before (b ∷ ys) c rest
     ≡ char b c (λ d. block_body page folded blank b ys d rest)
-unfolding block_body
+unfolding block_body block_char
 block_step page folded blank before b ys c rest g h =
     let r = run_byte (block_bounds page folded) c.column b h in
-    block_raw page folded blank before b ys c (λ d. block_body page folded (line_blank blank before b) b ys d rest) g h
-    ∙ ap (λ v. char b c (λ d. block_body page folded v b ys d rest)) (blank_stays blank before b g (shown_unbroken b r.shown))
+    let unbroken = shown_unbroken b r.shown in
+    let next : Bool → Rest = λ v d. block_body page folded v b ys d rest in
+    let after = next (line_blank blank before b) in
+    let text = block_text page (cuts_block folded blank before b ys) b in
+    let broken = when (adds_break folded blank before b ys) (new_line page.line_break) ▹ value_break page.line_break b in
+    let lined = line page.line_break page.indentation in
+    let cuts : cuts_block folded blank before b ys ≡ true → nat_lt page.width c.column ≡ false = λ m. space_stays (b == 32) folded page.width c.column r.space (and_parts (b == 32) _ (and_parts folded _ m).1).0 (and_parts folded _ m).0 in
+    let stays : line_blank blank before b ≡ blank = rw (g, unbroken) refl in
+    ap (λ v. (cond v broken (when (is_break before) lined ▹ text)) c after) unbroken ∙ ap (λ v. (when v lined ▹ text) c after) g
+    ∙ bool_cases (cuts_block folded blank before b ys)
+    (λ m. ap (λ v. block_text page v b c after) m ∙ ap (λ v. cond v (lined c after) (char b c after)) (cuts m))
+    (λ m. ap (λ v. block_text page v b c after) m)
+    ∙ ap (λ v. char b c (next v)) stays
 
 pub block_runs : (page : Page) (folded blank : Bool) (e : Bounds) (before : ℕ)
     → e ≡ block_bounds page folded → is_break before ≡ false
     → KeepsRuns e (block_body page folded blank) before
-block_runs page folded blank e before p g = kept_by e _ (block_body page folded blank) before p (run_walk (block_bounds page folded) (block_body page folded blank) (λ b. is_break b ≡ false) (block_step page folded blank) (run_unbroken (block_bounds page folded)) before g)
+block_runs page folded blank e before p g = rw p (run_walk (block_bounds page folded) (block_body page folded blank) (λ b. is_break b ≡ false) (block_step page folded blank) (run_unbroken (block_bounds page folded)) before g)
 
 -- what says nothing against a style
 
@@ -178,22 +146,15 @@ unfolding is_calm
 calm_special true before b next h n = grind (arith, nat_tests, h, n)
 calm_special false before b next h n = grind (arith, nat_tests, h, n)
 
-calm_broken : (before b next : ℕ) → is_calm b ≡ true → is_break_space before b next ≡ false
-unfolding is_calm
-calm_broken before b next h = grind (arith, nat_tests, h)
-
-calm_plain : (before b next : ℕ) → is_calm b ≡ true → is_not_plain before b next ≡ false
-unfolding is_calm
-calm_plain before b next h = grind (arith, nat_tests, h)
-
-calm_flow : (before b next : ℕ) → is_calm b ≡ true → is_not_flow before b next ≡ false
-unfolding is_calm
-calm_flow before b next h = grind (arith, nat_tests, h)
-
 calm_seen : (unicode : Bool) (before b next : ℕ) → is_calm b ≡ true
     → (b == 32 && is_break next) ≡ false → seen unicode before b next ≡ record
     { special = false; broken = false; not_plain = false; not_flow = false }
-calm_seen unicode before b next h n = rw (calm_special unicode before b next h n, calm_broken before b next h, calm_plain before b next h, calm_flow before b next h) refl
+unfolding is_calm
+calm_seen unicode before b next h n =
+    let broken : is_break_space before b next ≡ false = grind (arith, nat_tests, h) in
+    let plain : is_not_plain before b next ≡ false = grind (arith, nat_tests, h) in
+    let flow : is_not_flow before b next ≡ false = grind (arith, nat_tests, h) in
+    rw (calm_special unicode before b next h n, broken, plain, flow) refl
 
 next_calm : (b : ℕ) (bs xs : List ℕ) → list_all is_calm bs ≡ true
     → (last_or b bs == 32 && is_break (first xs)) ≡ false

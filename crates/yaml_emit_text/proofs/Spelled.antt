@@ -1,5 +1,5 @@
 -- Double quoted text is a spelling.
-use Rattle.std.proofs.Common.{◌≡◌, ◌≢◌, ℕ, zero, suc, ◌+◌, ◌<◌, List, [], ◌∷◌, ◌++◌, Bool, true, false, refl, sym, subst, ◌∙◌, ap, arith}
+use Rattle.std.proofs.Common.{◌≡◌, ◌≢◌, ℕ, zero, suc, ◌+◌, ◌<◌, List, [], ◌∷◌, ◌++◌, Bool, true, false, refl, sym, ◌∙◌, ap, arith}
 use Rattle.std.specs.Prelude.{if◌then◌else◌, replicate, not, ◌==◌, ◌&&◌}
 use Rattle.std.specs.Str.{all_scalars}
 use Rattle.std.proofs.lemmas.Bool.{and_parts, and_from, not-true, eqb-true, ne_eqb, eqb-false, or_parts, or_from, lt-ltb}
@@ -121,10 +121,10 @@ fold_needs page before x cs e =
     let (behind, more) = and_parts (not (before == 32)) _ alone in
     record { space = eqb-true x 32 space; behind = eqb-false before 32 (not-true (before == 32) behind); more = not-true (is_empty cs) more }
 
-space_needs_none : (unicode : Bool) → needs_escape unicode 32 ≡ false
+space_needs_none : (unicode : Bool) (x : ℕ) → x ≡ 32 → needs_escape unicode x ≡ false
 unfolding needs_escape
-space_needs_none true = refl
-space_needs_none false = refl
+space_needs_none true x e = rw e refl
+space_needs_none false x e = rw e refl
 
 raw_stands : (unicode : Bool) (c : ℕ) → scalar c ≡ true → needs_escape unicode c ≡ false
     → may_stand (raw c) ≡ true
@@ -173,48 +173,14 @@ part_more page before x c d cs slash slash' last p follow stand same step r = re
   means = ap (λ k. k ∷ cs) (sym same) ∙ ap (λ t. meant p ∷ t) r.means;
 }
 
--- steps of a part
-
-step_fold : (page : Page) (before x : ℕ) (c : Cursor) (cs : List ℕ) (slash : Bool) → slash ≡ false
-    → may_fold page before x cs ≡ true → is_past page.width c ≡ true
-    → (rest : Rest)
-    → slashed slash (quoted_char page before x cs c rest)
-    ≡ in_front (spelled (fold page.line_break page.indentation))
-    (slashed (first cs == 32) (rest (after_fold page cs c)))
-step_fold page before x c cs slash s m p rest = cond_false slash _ _ s ∙ char_is page before x cs c rest true true _ m p refl ∙ fold_is page cs c rest
-
-step_char : (page : Page) (before x : ℕ) (c : Cursor) (cs : List ℕ) (slash : Bool) → slash ≡ false
-    → ((rest : Rest) → quoted_char page before x cs c rest ≡ char x c rest)
-    → (rest : Rest)
-    → slashed slash (quoted_char page before x cs c rest)
-    ≡ in_front (spelled (raw x)) (slashed false (rest (moved_by c)))
-unfolding in_front
-step_char page before x c cs slash s plain rest = cond_false slash _ _ s ∙ plain rest
-
-step_slash : (page : Page) (before x : ℕ) (c : Cursor) (cs : List ℕ) (slash : Bool) → slash ≡ true
-    → x ≡ 32 → ((rest : Rest) → quoted_char page before x cs c rest ≡ char x c rest)
-    → (rest : Rest)
-    → slashed slash (quoted_char page before x cs c rest)
-    ≡ in_front (spelled escaped_space) (slashed false (rest (moved_by c)))
-unfolding in_front
-step_slash page before x c cs slash s e plain rest = cond_true slash _ _ s ∙ ap (λ t. letter 92 ∷ t) (plain rest) ∙ ap (λ k. letter 92 ∷ letter k ∷ rest (moved_by c)) e
-
-step_escape : (page : Page) (before x : ℕ) (c : Cursor) (cs : List ℕ) (slash : Bool) → slash ≡ false
-    → may_fold page before x cs ≡ false → needs_escape page.unicode x ≡ true
-    → (rest : Rest)
-    → slashed slash (quoted_char page before x cs c rest)
-    ≡ in_front (spelled (escape x)) (slashed false (rest (after_letters (escape_text x) c)))
-step_escape page before x c cs slash s m n rest = cond_false slash _ _ s ∙ char_is page before x cs c rest false _ true m refl n ∙ letters_are (escape_text x) c rest
-
 -- a space that is written as it is, or behind a backslash
 space_char : (page : Page) (before x : ℕ) (cs : List ℕ) (c : Cursor) → x ≡ 32
     → (may_fold page before x cs && is_past page.width c) ≡ false → (rest : Rest)
     → quoted_char page before x cs c rest ≡ char x c rest
 space_char page before x cs c e f rest =
-    let P : ℕ → Type 0 = λ k. needs_escape page.unicode k ≡ false in
     bool_cases (may_fold page before x cs)
     (λ m. bool_cases (is_past page.width c) (λ p. let g = and_from (may_fold page before x cs) (is_past page.width c) m p in absurd (cc (sym g ∙ f))) (λ p. char_is page before x cs c rest true false _ m p refl))
-    (λ m. char_is page before x cs c rest false _ false m refl (subst P (sym e) (space_needs_none page.unicode)))
+    (λ m. char_is page before x cs c rest false _ false m refl (space_needs_none page.unicode x e))
 
 no_fold : (page : Page) (before x : ℕ) (cs : List ℕ) → (x == 32) ≡ false
     → may_fold page before x cs ≡ false
@@ -231,33 +197,30 @@ left page before c slash last [] good deep h =
     let unfolded : is_fold last ≡ false = bool_cases (is_fold last) (λ t. let k = (h.folded t).1 in absurd (cc k)) (λ f. f) in
     record { parts = []; behind = c; right = unfolded; text = λ rest. cond_false slash _ _ (h.unfolded unfolded); means = refl }
 left page before c slash last (x ∷ cs) good deep h =
-    let one : scalar x ≡ true = (and_parts (scalar x) (all_scalars cs) good).0 in
-    let more : all_scalars cs ≡ true = (and_parts (scalar x) (all_scalars cs) good).1 in
+    let (one, more) = and_parts (scalar x) (all_scalars cs) good in
     bool_cases (may_fold page before x cs && is_past page.width c)
     (λ f.
-    let m = (and_parts (may_fold page before x cs) (is_past page.width c) f).0 in
-    let p = (and_parts (may_fold page before x cs) (is_past page.width c) f).1 in
+    let (m, p) = and_parts (may_fold page before x cs) (is_past page.width c) f in
     let needs = fold_needs page before x cs m in
     let unfolded : is_fold last ≡ false = bool_cases (is_fold last) (λ t. absurd (needs.behind (sym h.same ∙ fold_means last t))) (λ u. u) in
     let unblank : is_raw_blank last ≡ false = bool_cases (is_raw_blank last) (λ t. absurd (needs.behind (h.blank t))) (λ u. u) in
     part_more page before x c (after_fold page cs c) cs slash (first cs == 32) last (fold page.line_break page.indentation)
     (rw (unblank, unfolded) refl) (lt-ltb 0 page.indentation deep) (sym needs.space)
-    (step_fold page before x c cs slash (h.unfolded unfolded) m p)
+    (λ rest. cond_false slash _ _ (h.unfolded unfolded) ∙ char_is page before x cs c rest true true _ m p refl ∙ fold_is page cs c rest)
     (left page x (after_fold page cs c) (first cs == 32) (fold page.line_break page.indentation) cs more deep
     (record { same = sym needs.space; folded = λ t. (refl, needs.more); unfolded = λ t. absurd (cc); blank = λ t. needs.space })))
     (λ f.
     bool_cases (x == 32)
     (λ sp.
     let space = eqb-true x 32 sp in
-    let P : ℕ → Type 0 = λ k. needs_escape page.unicode k ≡ false in
     bool_cases (is_fold last)
     (λ t.
     part_more page before x c (moved_by c) cs slash false last escaped_space (follow_other last escaped_space refl refl) refl (sym space)
-    (step_slash page before x c cs slash ((h.folded t).0 ∙ sp) space (space_char page before x cs c space f))
+    (λ rest. cond_true slash _ _ ((h.folded t).0 ∙ sp) ∙ ap (λ t. letter 92 ∷ t) (space_char page before x cs c space f rest) ∙ ap (λ k. letter 92 ∷ letter k ∷ rest (moved_by c)) space)
     (left page x (moved_by c) false escaped_space cs more deep (record { same = sym space; folded = λ e. absurd (cc); unfolded = λ e. refl; blank = λ e. absurd (cc) })))
     (λ u.
-    part_more page before x c (moved_by c) cs slash false last (raw x) (rw u refl) (raw_stands page.unicode x one (subst P (sym space) (space_needs_none page.unicode))) refl
-    (step_char page before x c cs slash (h.unfolded u) (space_char page before x cs c space f))
+    part_more page before x c (moved_by c) cs slash false last (raw x) (rw u refl) (raw_stands page.unicode x one (space_needs_none page.unicode x space)) refl
+    (λ rest. cond_false slash _ _ (h.unfolded u) ∙ space_char page before x cs c space f rest)
     (left page x (moved_by c) false (raw x) cs more deep (record { same = refl; folded = λ e. absurd (cc); unfolded = λ e. refl; blank = λ e. space }))))
     (λ ns.
     let apart = eqb-false x 32 ns in
@@ -266,12 +229,12 @@ left page before c slash last (x ∷ cs) good deep h =
     bool_cases (needs_escape page.unicode x)
     (λ n.
     part_more page before x c (after_letters (escape_text x) c) cs slash false last (escape x) (follow_other last (escape x) refl refl) one refl
-    (step_escape page before x c cs slash unslashed m n)
+    (λ rest. cond_false slash _ _ unslashed ∙ char_is page before x cs c rest false _ true m refl n ∙ letters_are (escape_text x) c rest)
     (left page x (after_letters (escape_text x) c) false (escape x) cs more deep (record { same = refl; folded = λ e. absurd (cc); unfolded = λ e. refl; blank = λ e. absurd (cc) })))
     (λ n.
     let unblank = raw_no_tab page.unicode x n apart in
     part_more page before x c (moved_by c) cs slash false last (raw x) (follow_other last (raw x) refl unblank) (raw_stands page.unicode x one n) refl
-    (step_char page before x c cs slash unslashed (λ rest. char_is page before x cs c rest false _ false m refl n))
+    (λ rest. cond_false slash _ _ unslashed ∙ char_is page before x cs c rest false _ false m refl n)
     (left page x (moved_by c) false (raw x) cs more deep (record { same = refl; folded = λ e. absurd (cc); unfolded = λ e. refl; blank = λ e. absurd (cc (sym e ∙ unblank)) })))))
 
 -- A double quoted value is written as a spelling of it.

@@ -1,9 +1,11 @@
-use Rattle.std.proofs.Common.{true, false, refl, sym, ◌∙◌}
-use Rattle.yaml_emit_text.proofs.Looks.{chomp_ends, chomp_none}
+use Rattle.std.proofs.Common.{true, false, refl, sym, ◌∙◌, ap}
+use Rattle.yaml_emit_text.specs.Scalars.{chomp}
+use Rattle.yaml_emit_text.proofs.Looks.{chomp_ends}
 use Rattle.yaml_emit_text.proofs.block.chomp.Goals as goal
 
 pub returns-in-None : goal.returns-in-None
-returns-in-None c = chomp_none _ c.in-None.ensures.letters
+unfolding chomp
+returns-in-None c = sym (ap (chomp true true) c.in-None.ensures.letters)
 
 pub returns-then-not-is_break : goal.returns-then-not-is_break
 returns-then-not-is_break c = chomp_ends _ _ _ _ false c.in-Some.ensures.letters refl (sym c.if-not-is_break.true ∙ c.is_break.ensures)

@@ -105,11 +105,3 @@ pub(crate) fn is_roomy(output: &Vec<u8>, fast_limit: u64, c: char) -> bool
 {
     (c as u32) < 0x80 && (output.len() as u64) < fast_limit
 }
-
-// The byte of a character in ASCII.
-pub(crate) fn byte_of(c: char) -> u8
-    requires { c < 0x80 }
-    ensures { result ≡ c }
-{
-    c as u32 as u8
-}

@@ -7,7 +7,7 @@ ghost use Rattle.std.specs.Vec.{vec_capacity};
 
 mod around;
 
-use crate::append::{append, append_char, blanked, byte_of, indented, is_roomy, lettered, moved};
+use crate::append::{append, append_char, blanked, indented, is_roomy, lettered, moved};
 use crate::cursor::{Cursor, Status};
 use crate::feed::{are_few, has_room, is_brief, put_few_blanks, put_fresh_line};
 use crate::settings::{Encoding, LineBreak};
@@ -199,7 +199,7 @@ impl Sink {
         ensures { Puts self.old self.new (stroke c ends white bare) }
     {
         if is_roomy(&self.output, self.fast_limit, c) {
-            self.output.push_reserved(byte_of(c));
+            self.output.push_reserved(c as u32 as u8);
             moved(&mut self.cursor, ends, white, bare);
         } else {
             self.stroke(c, ends, white, bare);

@@ -9,7 +9,7 @@ ghost use Rattle.yaml_emit_sink.specs.Layout.{◌▹◌, char, break, line, keep
 ghost use Rattle.yaml_emit_text.specs.Runs.{block_bounds};
 ghost use Rattle.yaml_emit_text.specs.Quoted.{first};
 ghost use Rattle.yaml_emit_text.specs.Style.{is_blank};
-ghost use Rattle.yaml_emit_text.specs.Scalars.{behind_breaks, adds_break, cuts_block, line_blank, block_text, block_char, block_body, ends_in_break, chomp, chomp_mark, digit_char, digit_mark, block_header, block};
+ghost use Rattle.yaml_emit_text.specs.Scalars.{behind_breaks, adds_break, cuts_block, line_blank, block_char, block_body, ends_in_break, chomp, chomp_mark, digit_char, digit_mark, block_header, block};
 
 use crate::flow::{put_breaks, put_cut, put_line_if};
 use crate::letters::{first, is_break, split_first, split_last};
@@ -57,16 +57,6 @@ fn line_blank(blank: bool, before: char, c: char) -> bool
     }
 }
 
-fn put_block_text(sink: &mut Sink, page: Page, cuts: bool, c: char)
-    ensures { Puts sink.old sink.new (block_text page cuts c) }
-{
-    if cuts {
-        put_cut(sink, page, c);
-    } else {
-        sink.put(c);
-    }
-}
-
 // What stands before a character: the last one, and whether its line is blank so far.
 #[derive(Clone, Copy)]
 struct Behind {
@@ -86,7 +76,11 @@ fn put_block_char(sink: &mut Sink, page: Page, folded: bool, behind: Behind, c: 
         put_breaks(sink, due, page.line_break, c);
     } else {
         put_line_if(sink, is_break(before), page);
-        put_block_text(sink, page, cuts_block(folded, blank, before, c, rest), c);
+        if cuts_block(folded, blank, before, c, rest) {
+            put_cut(sink, page, c);
+        } else {
+            sink.put(c);
+        }
     }
 }
 

@@ -144,26 +144,15 @@ pub fn taken(
     }
 }
 
-// What a character adds, behind another one and before the next.
-fn seen(unicode: bool, before: char, c: char, next: char) -> Seen
-    ensures { result ≡ seen unicode before c next }
+// What was seen, with what a character adds, behind another one and before the next.
+fn seen_with(all: Seen, unicode: bool, before: char, c: char, next: char) -> Seen
+    ensures { result ≡ joined all (seen unicode before c next) }
 {
     Seen {
-        special: is_special(unicode, c, next),
-        broken: is_break_space(c, next),
-        not_plain: is_not_plain(before, c, next),
-        not_flow: is_not_flow(c),
-    }
-}
-
-fn joined(a: Seen, b: Seen) -> Seen
-    ensures { result ≡ joined a b }
-{
-    Seen {
-        special: a.special | b.special,
-        broken: a.broken | b.broken,
-        not_plain: a.not_plain | b.not_plain,
-        not_flow: a.not_flow | b.not_flow,
+        special: all.special | is_special(unicode, c, next),
+        broken: all.broken | is_break_space(c, next),
+        not_plain: all.not_plain | is_not_plain(before, c, next),
+        not_flow: all.not_flow | is_not_flow(c),
     }
 }
 
@@ -192,7 +181,7 @@ fn look(unicode: bool, value: &str) -> (Seen, char)
     };
     let (mut last, mut left) = past_calm(' ', value);
     while let Some((c, more)) = split_first(left) {
-        all = joined(all, seen(unicode, last, c, first(more)));
+        all = seen_with(all, unicode, last, c, first(more));
         let (latest, behind) = past_calm(c, more);
         last = latest;
         left = behind;
@@ -216,31 +205,20 @@ fn starts_badly(value: &str) -> bool
     is_badly_begun(first(value), first(second), first(rest_behind(second)))
 }
 
-fn allowed_by(all: Seen, spaced: bool, badly: bool) -> Allowed
-    ensures plain { result.plain ≡ not (all.special || all.broken || spaced || badly
-        || all.not_plain) }
-    ensures flow_plain { result.flow_plain
-        ≡ (not (all.special || all.broken || spaced || badly || all.not_plain)
-        && not all.not_flow) }
-    ensures single { result.single ≡ not (all.special || all.broken) }
-    ensures block { result.block ≡ not (all.special || spaced) }
-{
-    let unfit = all.special | all.broken | spaced | badly | all.not_plain;
-    Allowed {
-        plain: !unfit,
-        flow_plain: !unfit & !all.not_flow,
-        single: !(all.special | all.broken),
-        block: !(all.special | spaced),
-    }
-}
-
 // Out of line: the rare way, beside that of tame values.
 #[inline(never)]
 fn allowed_text(unicode: bool, value: &str) -> Allowed
     ensures { result ≡ allowed_text unicode (chars value.now) }
 {
     let (all, last) = look(unicode, value);
-    allowed_by(all, last == ' ', starts_badly(value))
+    let spaced = last == ' ';
+    let unfit = all.special | all.broken | spaced | starts_badly(value) | all.not_plain;
+    Allowed {
+        plain: !unfit,
+        flow_plain: !unfit & !all.not_flow,
+        single: !(all.special | all.broken),
+        block: !(all.special | spaced),
+    }
 }
 
 /// The styles that a value allows. Characters that are not printable, with unicode off those that are not ASCII, and a space

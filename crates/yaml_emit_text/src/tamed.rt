@@ -1,6 +1,6 @@
 //! Tame texts, which allow every style and are written as they are where they fit their line: most scalars are.
 
-ghost use Rattle.std.specs.Prelude.{◌≡◌, ℕ, ◌<◌, ◌≤◌, ◌+◌, ◌^◌, ◌∷◌, ◌++◌, [], length, if◌then◌else◌, Bool, true, false, Some, None, IsUtf8};
+ghost use Rattle.std.specs.Prelude.{◌≡◌, ℕ, ◌<◌, ◌≤◌, ◌+◌, ◌^◌, ◌∷◌, ◌++◌, [], length, if◌then◌else◌, Bool, true, false, None, IsUtf8};
 ghost use Rattle.yaml_types.specs.Ascii as ascii;
 ghost use Rattle.std.specs.Str.{chars, IsAscii};
 ghost use Rattle.yaml_emit_sink.specs.Sink.{Puts};
@@ -194,15 +194,6 @@ pub fn put_standing(sink: &mut Sink, front: &[u8], framed: &[u8], quoted: bool, 
     );
 }
 
-// What stands in front of a line's first text, by whether that is an item.
-// Inlined: it is known.
-#[inline(always)]
-fn hyphen(item: bool) -> Option<u8>
-    ensures { result ≡ (if item then Some ascii.hyphen else None) }
-{
-    if item { Some(b'-') } else { None }
-}
-
 /// The same at the start of a line, by whether it is an item.
 // Inlined: the numbers are known.
 #[inline(always)]
@@ -222,7 +213,7 @@ pub fn put_in_line(
         comma: false,
         line_break,
         indent,
-        mark: hyphen(item),
+        mark: item.then_some(b'-'),
         sign: None,
     };
     sink.put_lined(

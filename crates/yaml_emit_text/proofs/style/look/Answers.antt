@@ -12,7 +12,7 @@ loop-c-init c = (c.past_calm-last.ensures.utf8, c.past_calm-last.ensures.seen c.
 pub loop-c-preserved : goal.loop-c-preserved
 unfolding last_or
 loop-c-preserved c =
-    (c.past_calm-latest.ensures.utf8, look_more _ _ _ _ _ _ _ _ c.in-Some.ensures.letters c.loop-c.invariant.1 (c.joined-all.ensures ∙ ap (joined c.loop-c.all) (rw c.first.ensures at c.seen.ensures)) ∙ ap (joined c.joined-all.result) (c.past_calm-latest.ensures.seen c.args.unicode), c.loop-c.invariant.2 ∙ ap (last_or c.loop-c.last) c.in-Some.ensures.letters ∙ c.past_calm-latest.ensures.last)
+    (c.past_calm-latest.ensures.utf8, look_more _ _ _ _ _ _ _ _ c.in-Some.ensures.letters c.loop-c.invariant.1 (rw c.first.ensures at c.seen_with-all.ensures) ∙ ap (joined c.seen_with-all.result) (c.past_calm-latest.ensures.seen c.args.unicode), c.loop-c.invariant.2 ∙ ap (last_or c.loop-c.last) c.in-Some.ensures.letters ∙ c.past_calm-latest.ensures.last)
 
 pub returns-clause-seen : goal.returns-clause-seen
 returns-clause-seen c = look_end _ _ _ _ _ c.in_default.ensures.letters c.loop-c.invariant.1

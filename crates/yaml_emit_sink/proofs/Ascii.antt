@@ -26,12 +26,6 @@ behind_is x (y ∷ ys) c =
     let e : c.column + 1 + length (y ∷ ys) ≡ c.column + length (x ∷ y ∷ ys) = omega arith in
     behind_is y ys (at (c.column + 1)) ∙ ap at e
 
-first_byte : (x : ℕ) (xs : List ℕ) → IsAscii (x ∷ xs) → x < 0x80
-first_byte x xs h = h 0
-
-more_bytes : (x : ℕ) (xs : List ℕ) → IsAscii (x ∷ xs) → IsAscii xs
-more_bytes x xs h = IsAscii-drop (x ∷ xs) 1 h
-
 one_byte : (x : ℕ) → x < 0x80 → char_bytes Utf8 x ≡ x ∷ []
 unfolding char_bytes
 one_byte x h = grind arith
@@ -42,8 +36,8 @@ unfolding encode is_deep shallow letters behind
 letters_lead [] c rest h = record { all = refl; deep = refl; front = refl }
 letters_lead (x ∷ xs) c rest h =
     let d : Cursor = record { column = c.column + 1; white = false; bare = false; kept = c.kept } in
-    let l = letters_lead xs d rest (more_bytes x xs h) in
-    let byte = one_byte x (first_byte x xs h) in
+    let l = letters_lead xs d rest (IsAscii-drop (x ∷ xs) 1 h) in
+    let byte = one_byte x (h 0) in
     record {
       all = ap (λ b. b ++ encode Utf8 (letters xs d rest)) byte ∙ ap (λ (t : List ℕ). x ∷ t) l.all;
       deep = l.deep;
@@ -87,10 +81,6 @@ pub no_letters : (a : Output) (xs : List ℕ) → (length xs == 0) ≡ true → 
 unfolding letters
 no_letters a [] e = puts_nothing a
 no_letters a (x ∷ xs) e = absurd (grind (arith, nat_tests, e))
-
-pub some_letters : (xs : List ℕ) → (length xs == 0) ≡ false → 0 < length xs
-some_letters [] e = absurd (cc)
-some_letters (x ∷ xs) e = omega arith
 
 -- where no white space was last, a word has a space in front
 pub parted : (t : List ℕ) (c : Cursor) (rest : Rest) → 0 < length t → c.white ≡ false

@@ -2,9 +2,8 @@
 use Rattle.std.proofs.Common.{◌≡◌, ℕ, ◌+◌, ◌-◌, ◌≤◌, List, [], ◌∷◌, ◌++◌, take, length, length-append, Bool, true, false, ◌<◌, refl, sym, subst, ◌∙◌, ap, append_assoc, arith}
 use Rattle.std.specs.Prelude.{zero, suc, replicate, ◌&&◌, ◌||◌, ◌==◌, nat_lt, nat_le, Option, None, Some}
 use Rattle.std.specs.Str.{IsAscii}
-use Rattle.std.proofs.lemmas.Bool.{false≢true, or_parts, cond_both, leb-true}
+use Rattle.std.proofs.lemmas.Bool.{false≢true, or_parts, cond_both, leb-true, ltb-false, eq-eqb}
 use Rattle.std.proofs.lemmas.Str.{IsAscii-append}
-use Rattle.std.proofs.lemmas.Bool.Decides.{nat_tests}
 use Rattle.std.proofs.lemmas.List.{take-replicate, length-replicate}
 use Rattle.std.proofs.Math.Seq.{take-append-add}
 use Rattle.yaml_emit_sink.specs.declared.cursor.Cursor.{Cursor}
@@ -133,12 +132,6 @@ blanks_land zero n k white kept x y rest e h w f =
 blanks_land (suc i) n k white kept x y rest e h w f =
     ap (λ (t : List Item). letter 32 ∷ t) (blanks_land i n (k + 1) true kept x y rest (omega (arith, e)) (omega (arith, e, h)) (λ z. refl) f)
 
-at_most : (n k : ℕ) → nat_lt n k ≡ false → k ≤ n
-at_most n k h = grind (arith, nat_tests, h)
-
-same_column : (n k : ℕ) → k ≤ n → n - k ≡ 0 → (k == n) ≡ true
-same_column n k h e = let there : k ≡ n = omega (arith, h, e) in grind (arith, nat_tests, there)
-
 -- where the line isn't broken
 lands_joined : (n k : ℕ) (white bare kept : Bool) (x y : Layout) (rest : Rest)
     → must_break n (record { column = k; white = white; bare = bare; kept = kept }) ≡ false
@@ -148,11 +141,11 @@ lands_joined : (n k : ℕ) (white bare kept : Bool) (x y : Layout) (rest : Rest)
 lands_joined n k white false kept x y rest m f = absurd (cc)
 lands_joined n k true true kept x y rest m f =
     let p = or_parts (nat_lt n k) (k == n && false) m in
-    blanks_land (n - k) n k true kept x y rest refl (at_most n k p.0) (λ z. refl) f
+    blanks_land (n - k) n k true kept x y rest refl (ltb-false n k p.0) (λ z. refl) f
 lands_joined n k false true kept x y rest m f =
     let p = or_parts (nat_lt n k) (k == n && true) m in
-    let less = at_most n k p.0 in
-    blanks_land (n - k) n k false kept x y rest refl less (λ z. absurd (false≢true (sym p.1 ∙ ap (λ (b : Bool). b && true) (same_column n k less z)))) f
+    let less = ltb-false n k p.0 in
+    blanks_land (n - k) n k false kept x y rest refl less (λ z. absurd (false≢true (sym p.1 ∙ ap (λ (b : Bool). b && true) (eq-eqb k n (omega (arith, less, z)))))) f
 
 fresh_lands : (b : LineBreak) (n : ℕ) (c : Cursor) (x y : Layout) (rest : Rest)
     → AreSame n x y rest

@@ -4,6 +4,7 @@ use Rattle.std.specs.Prelude.{take, zero, suc, replicate}
 use Rattle.yaml_emit_sink.specs.declared.settings.Encoding.TheVariants.{Utf8}
 use Rattle.std.proofs.lemmas.List.{append-nil, take-append-drop, take-append-le, take-take, drop_more, drop_all}
 use Rattle.std.proofs.Math.Seq.{take-length, take-append_seam}
+use Rattle.std.proofs.lemmas.Bool.{cond-true, cond-false}
 use Rattle.yaml_emit_sink.specs.declared.cursor.Cursor.{Cursor}
 use Rattle.yaml_emit_sink.specs.declared.cursor.Status.{Status}
 use Rattle.yaml_emit_sink.specs.declared.cursor.Status.TheVariants.{Going, Full, Deep, Starved}
@@ -117,13 +118,11 @@ puts_moved a b f o s e l k = record {
 
 -- a choice whose test holds
 pub cond_true : {A : Type 0} (b : Bool) (x y : A) → b ≡ true → cond b x y ≡ x
-cond_true true x y e = refl
-cond_true false x y e = absurd (cc)
+cond_true b x y e = cond-true b x y e
 
 -- a choice whose test has failed
 pub cond_false : {A : Type 0} (b : Bool) (x y : A) → b ≡ false → cond b x y ≡ y
-cond_false false x y e = refl
-cond_false true x y e = absurd (cc)
+cond_false b x y e = cond-false b x y e
 
 pub puts_unless : (a : Output) (t : Bool) (x : Layout) → t ≡ false → Puts a a (when t x)
 puts_unless a t x e = let P : Bool → Type 0 = λ v. Puts a a (when v x) in subst P (sym e) (puts_nothing a)

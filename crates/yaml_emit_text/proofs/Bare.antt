@@ -4,7 +4,7 @@ use Rattle.std.specs.Prelude.{zero, suc, ◌==◌, nat_lt, if◌then◌else◌, 
 use Rattle.std.specs.Bool.{then_some}
 use Rattle.std.specs.List.{list_all}
 use Rattle.std.specs.Str.{chars, IsAscii}
-use Rattle.std.proofs.lemmas.Bool.{or_from}
+use Rattle.std.proofs.lemmas.Bool.{or_from, le-ltb}
 use Rattle.std.proofs.lemmas.Bool.Decides.{nat_tests}
 use Rattle.std.proofs.lemmas.List.{append-nil}
 use Rattle.std.proofs.lemmas.Str.{IsAscii-append}
@@ -90,9 +90,6 @@ pub tame_taken : (unicode : Bool) (v : List ℕ) (s : yaml_scalar_style_t)
     → taken (allowed unicode (chars v)) s untagged flow simple empty ≡ style.Plain
 tame_taken unicode v s untagged flow simple empty t k u e = rw (← tame_allows unicode v t, u, e) (taken_by s flow simple k)
 
-within : (width k n : ℕ) → k + n ≤ width → nat_lt width k ≡ false
-within width k n h = grind (arith, nat_tests, h)
-
 -- ---- how it is written
 
 after_some : (v : List ℕ) (c : Cursor) (rest : Rest) → 0 < length v
@@ -145,7 +142,7 @@ pub puts_opening : (quoted : Bool) (page : Page) (flow : Bool) (v : List ℕ) (k
     → Puts a b (wrap page.width k n ▹ standing_text quoted page flow v)
 puts_opening quoted page flow v k n a b t g w p =
     puts_as a b (letters (standing quoted v)) (wrap page.width k n ▹ standing_text quoted page flow v)
-    (λ rest. cond_false (nat_lt page.width a.cursor.column) _ _ (within page.width a.cursor.column (length (standing quoted v)) w) ∙ standing_at quoted page flow v a.cursor rest t g w) p
+    (λ rest. cond_false (nat_lt page.width a.cursor.column) _ _ (le-ltb page.width a.cursor.column (omega (arith, w))) ∙ standing_at quoted page flow v a.cursor rest t g w) p
 
 -- behind a character
 pub puts_led : (quoted : Bool) (page : Page) (flow : Bool) (m : ℕ) (v : List ℕ) (a b : Output)
@@ -158,9 +155,6 @@ puts_led quoted page flow m v a b t w p =
     puts_as a b (letters (m ∷ 32 ∷ standing quoted v)) (char m ▹ standing_text quoted page flow v)
     (λ rest. ap (λ (z : List Item). letter m ∷ z) (standing_behind quoted page flow v d rest t refl (omega (arith, w)))) p
 
-not_past : (width k n : ℕ) → k + (2 + n) ≤ width → nat_lt width (k + 1) ≡ false
-not_past width k n h = grind (arith, nat_tests, h)
-
 -- behind a character and what may be a line
 pub puts_wrapped : (quoted : Bool) (page : Page) (flow : Bool) (m : ℕ) (v : List ℕ) (k : LineBreak)
     (n : ℕ) (a b : Output) → Stands quoted v
@@ -169,7 +163,7 @@ pub puts_wrapped : (quoted : Bool) (page : Page) (flow : Bool) (m : ℕ) (v : Li
     → Puts a b (char m ▹ (wrap page.width k n ▹ standing_text quoted page flow v))
 puts_wrapped quoted page flow m v k n a b t w p =
     puts_as a b (char m ▹ standing_text quoted page flow v) (char m ▹ (wrap page.width k n ▹ standing_text quoted page flow v))
-    (λ rest. ap (λ (z : List Item). letter m ∷ z) (cond_false (nat_lt page.width (a.cursor.column + 1)) _ _ (not_past page.width a.cursor.column (length (standing quoted v)) w)))
+    (λ rest. ap (λ (z : List Item). letter m ∷ z) (cond_false (nat_lt page.width (a.cursor.column + 1)) _ _ (le-ltb page.width (a.cursor.column + 1) (omega (arith, w)))))
     (puts_led quoted page flow m v a b t w p)
 
 item_at : (quoted : Bool) (page : Page) (flow : Bool) (m : ℕ) (v : List ℕ) (c : Cursor)

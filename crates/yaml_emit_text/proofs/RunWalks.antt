@@ -6,7 +6,7 @@ use Rattle.std.proofs.lemmas.List.{append-nil}
 use Rattle.std.proofs.lemmas.Str.{chars-IsAscii}
 use Rattle.std.specs.List.{list_all}
 use Rattle.std.specs.Str.{chars}
-use Rattle.std.proofs.lemmas.Bool.{and_parts, and_from, le-leb}
+use Rattle.std.proofs.lemmas.Bool.{and_parts, and_from, le-leb, le-ltb, leb-true}
 use Rattle.std.proofs.Math.Bool.{and-false}
 use Rattle.yaml_emit_sink.specs.declared.Cursor.{Cursor}
 use Rattle.yaml_emit_sink.specs.Text.{letter, is_break}
@@ -48,13 +48,10 @@ unfolding needs_escape
 printable_needs true b l h q s = grind (arith, nat_tests, q, s)
 printable_needs false b l h q s = grind (arith, nat_tests, q, s)
 
-not_past : (width k : ℕ) → nat_le k width ≡ true → nat_lt width k ≡ false
-not_past width k h = grind (arith, nat_tests, h)
-
 -- a space that may be cut is not past the width
 space_stays : (s cuts : Bool) (width k : ℕ) → (not s || (not cuts || nat_le k width)) ≡ true
     → s ≡ true → cuts ≡ true → nat_lt width k ≡ false
-space_stays true true width k h p q = not_past width k h
+space_stays true true width k h p q = le-ltb width k (leb-true k width h)
 space_stays true false width k h p q = absurd (cc)
 space_stays false cuts width k h p q = absurd (cc)
 

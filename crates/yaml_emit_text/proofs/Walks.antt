@@ -1,17 +1,8 @@
 -- Walks over the characters of a value.
-use Rattle.std.proofs.Common.{◌≡◌, ℕ, List, [], ◌∷◌, length, true, subst, arith}
-use Rattle.std.specs.Prelude.{◌==◌}
-use Rattle.std.specs.Str.{chars}
-use Rattle.std.proofs.lemmas.Bool.Decides.{nat_tests}
-use Rattle.std.proofs.lemmas.Str.{chars-nil}
+use Rattle.std.proofs.Common.{◌≡◌, subst}
 use Rattle.yaml_emit_sink.specs.Layout.{Layout, ◌▹◌, stay}
 use Rattle.yaml_emit_sink.specs.Sink.{Output, Owes, Puts}
 use Rattle.yaml_emit_sink.proofs.Sinks.{owes_more}
-
--- no byte, no character
-pub no_chars : (text : List ℕ) → (length text == 0) ≡ true → chars text ≡ []
-no_chars [] e = chars-nil
-no_chars (b ∷ bs) e = absurd (grind (arith, nat_tests, e))
 
 -- What is owed of a walk: what comes next was written.
 pub walk_more : (a b c : Output) (all here step more : Layout) → here ≡ (step ▹ more)

@@ -8,7 +8,7 @@ ghost use Rattle.yaml_emit_sink.specs.Text.{is_break};
 ghost use Rattle.yaml_emit_sink.specs.Layout.{◌▹◌, when, char, break, new_line, gap, line, is_past};
 ghost use Rattle.yaml_emit_text.specs.Runs.{flow_bounds};
 ghost use Rattle.yaml_emit_text.specs.Quoted.{first, is_empty};
-ghost use Rattle.yaml_emit_text.specs.Scalars.{value_break, cuts_at, cut, quote_char, flow_char, flow_body, plain, single_quoted};
+ghost use Rattle.yaml_emit_text.specs.Scalars.{value_break, cuts_at, cut, quote_char, text_char, flow_char, flow_body, plain, single_quoted};
 
 use crate::letters::{first, is_break, is_empty, split_first};
 use crate::page::Page;
@@ -68,6 +68,16 @@ fn put_quote_char(sink: &mut Sink, quote: bool, c: char)
     sink.put(c);
 }
 
+fn put_text_char(sink: &mut Sink, page: Page, quote: bool, cuts: bool, c: char)
+    ensures { Puts sink.old sink.new (text_char page quote cuts c) }
+{
+    if cuts {
+        put_cut(sink, page, c);
+    } else {
+        put_quote_char(sink, quote, c);
+    }
+}
+
 // A break of a value, with one more in front where it is due.
 // Inlined: a value of many lines puts one for each.
 #[inline(always)]
@@ -78,20 +88,22 @@ pub(crate) fn put_breaks(sink: &mut Sink, due: bool, line_break: LineBreak, c: c
     put_value_break(sink, line_break, c);
 }
 
-// A run of breaks that begins with a line feed gets one more in front.
+// Whether a run of breaks begins with a line feed.
+fn begins_breaks(before: char, c: char) -> bool
+    ensures { result ≡ (c == ascii.line_feed && not (is_break before)) }
+{
+    c == '\n' && !is_break(before)
+}
+
 #[tactic(auto, unfolding(crate::specs::Scalars::flow_char))]
 fn put_flow_char(sink: &mut Sink, page: Page, quote: bool, before: char, c: char, rest: &str)
     ensures { Puts sink.old sink.new (flow_char page quote before c (chars rest.now)) }
 {
     if is_break(c) {
-        put_breaks(sink, c == '\n' && !is_break(before), page.line_break, c);
+        put_breaks(sink, begins_breaks(before, c), page.line_break, c);
     } else {
         put_line_if(sink, is_break(before), page);
-        if cuts_at(page, before, c, rest) {
-            put_cut(sink, page, c);
-        } else {
-            put_quote_char(sink, quote, c);
-        }
+        put_text_char(sink, page, quote, cuts_at(page, before, c, rest), c);
     }
 }
 

@@ -3,8 +3,9 @@ use Rattle.std.proofs.Common.{◌≡◌, ℕ, List, [], ◌∷◌, ◌++◌, Boo
 use Rattle.std.proofs.Math.Bool.{or-false}
 use Rattle.yaml_emit_text.specs.declared.page.Seen.{Seen}
 use Rattle.yaml_emit_sink.specs.Text.{is_break}
-use Rattle.yaml_emit_text.specs.Quoted.{first}
-use Rattle.yaml_emit_text.specs.Style.{somewhere, last_or, seen, looked, joined}
+use Rattle.yaml_emit_text.specs.Quoted.{first, is_empty}
+use Rattle.std.specs.Prelude.{◌||◌}
+use Rattle.yaml_emit_text.specs.Style.{somewhere, last_or, seen, looked, joined, allowed_text, allowed}
 use Rattle.yaml_emit_text.specs.Scalars.{ends_in_break, chomp, chomp_of}
 use Rattle.yaml_emit_text.proofs.Bools.{or_assoc}
 
@@ -53,3 +54,14 @@ look_more k all all' unicode before y left xs e h f =
 pub look_end : (k all : Seen) (unicode : Bool) (before : ℕ) (left : List ℕ) → left ≡ []
     → k ≡ joined all (looked unicode before left) → all ≡ k
 look_end k all unicode before left e h = sym (h ∙ ap (λ t. joined all (looked unicode before t)) e ∙ looked_none all unicode before)
+
+-- an empty value may be plain
+pub allowed_whole : (unicode : Bool) (value : List ℕ) → record {
+  plain = is_empty value || (allowed_text unicode value).plain;
+  flow_plain = (allowed_text unicode value).flow_plain;
+  single = (allowed_text unicode value).single;
+  block = (allowed_text unicode value).block;
+} ≡ allowed unicode value
+unfolding allowed somewhere last_or
+allowed_whole unicode [] = refl
+allowed_whole unicode (c ∷ cs) = refl

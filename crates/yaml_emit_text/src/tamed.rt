@@ -1,6 +1,6 @@
 //! Tame texts, which allow every style and are written as they are where they fit their line: most scalars are.
 
-ghost use Rattle.std.specs.Prelude.{◌≡◌, ℕ, ◌<◌, ◌≤◌, ◌+◌, ◌^◌, ◌∷◌, ◌++◌, [], length, if◌then◌else◌, Bool, true, false, None, IsUtf8};
+ghost use Rattle.std.specs.Prelude.{◌≡◌, ℕ, ◌<◌, ◌≤◌, ◌+◌, ◌∷◌, ◌++◌, [], length, if◌then◌else◌, Bool, true, false, None, IsUtf8};
 ghost use Rattle.yaml_types.specs.Ascii as ascii;
 ghost use Rattle.std.specs.Str.{chars, IsAscii};
 ghost use Rattle.yaml_emit_sink.specs.Sink.{Puts};
@@ -136,17 +136,6 @@ fn beside<'a>(quoted: bool, plain: &'a [u8], framed: &'a [u8]) -> &'a [u8]
     if quoted { framed } else { plain }
 }
 
-// How many characters a text takes, plain or in quotes.
-// Inlined: a length.
-#[inline(always)]
-fn standing_size(quoted: bool, value: &[u8]) -> u64
-    ensures size { result ≡ length (standing quoted value.now) }
-    ensures small { result + 16 < 2 ^ 64 }
-{
-    let quotes = if quoted { 2 } else { 0 };
-    value.len() as u64 + quotes
-}
-
 /// Whether so many characters behind the column, and a text plain or in quotes behind them, end within the width.
 // Inlined: two comparisons.
 #[inline(always)]
@@ -154,7 +143,8 @@ pub fn fits(width: u64, column: u64, before: u64, quoted: bool, value: &[u8]) ->
     requires { before ≤ 16 }
     ensures { result ≡ true → column + (before + length (standing quoted value.now)) ≤ width }
 {
-    is_within(width, column, before + standing_size(quoted, value))
+    let quotes = if quoted { 2 } else { 0 };
+    is_within(width, column, before + (value.len() as u64 + quotes))
 }
 
 // How many bytes a value has at most that is looked at here.

@@ -4,16 +4,14 @@ use Rattle.std.specs.Prelude.{◌==◌, ◌≤◌}
 use Rattle.std.specs.Str.{IsAscii}
 use Rattle.std.proofs.lemmas.Bool.Decides.{nat_tests}
 use Rattle.std.proofs.lemmas.Str.{IsAscii-drop}
-use Rattle.std.proofs.lemmas.Str.Ascii.{IsAscii-cons, IsAscii-nil}
 use Rattle.yaml_emit_sink.specs.declared.cursor.Cursor.{Cursor}
-use Rattle.yaml_emit_sink.specs.declared.cursor.Status.{Status}
 use Rattle.yaml_emit_sink.specs.declared.cursor.Status.TheVariants.{Going}
 use Rattle.yaml_emit_sink.specs.declared.settings.Encoding.TheVariants.{Utf8}
 use Rattle.yaml_emit_sink.specs.Text.{letter, encode, char_bytes, is_deep, shallow}
-use Rattle.yaml_emit_sink.specs.Layout.{Rest, ◌▹◌, letters, word}
+use Rattle.yaml_emit_sink.specs.Layout.{Layout, Rest, letters, word}
 use Rattle.yaml_emit_sink.specs.Appends.{AppendsBy, lettered}
 use Rattle.yaml_emit_sink.specs.Sink.{Output, Puts}
-use Rattle.yaml_emit_sink.proofs.Sinks.{Leads, puts_run, puts_sure, puts_nothing, puts_as, puts_both, cond_false}
+use Rattle.yaml_emit_sink.proofs.Sinks.{Leads, puts_run, puts_sure, puts_nothing, puts_as, cond_false, letters_append}
 
 -- the cursor behind characters
 behind : List ℕ → Cursor → Cursor
@@ -28,12 +26,6 @@ behind_is x (y ∷ ys) c =
     let e : c.column + 1 + length (y ∷ ys) ≡ c.column + length (x ∷ y ∷ ys) = omega arith in
     behind_is y ys (at (c.column + 1)) ∙ ap at e
 
-first_byte : (x : ℕ) (xs : List ℕ) → IsAscii (x ∷ xs) → x < 0x80
-first_byte x xs h = h 0
-
-more_bytes : (x : ℕ) (xs : List ℕ) → IsAscii (x ∷ xs) → IsAscii xs
-more_bytes x xs h = IsAscii-drop (x ∷ xs) 1 h
-
 one_byte : (x : ℕ) → x < 0x80 → char_bytes Utf8 x ≡ x ∷ []
 unfolding char_bytes
 one_byte x h = grind arith
@@ -44,8 +36,8 @@ unfolding encode is_deep shallow letters behind
 letters_lead [] c rest h = record { all = refl; deep = refl; front = refl }
 letters_lead (x ∷ xs) c rest h =
     let d : Cursor = record { column = c.column + 1; white = false; bare = false; kept = c.kept } in
-    let l = letters_lead xs d rest (more_bytes x xs h) in
-    let byte = one_byte x (first_byte x xs h) in
+    let l = letters_lead xs d rest (IsAscii-drop (x ∷ xs) 1 h) in
+    let byte = one_byte x (h 0) in
     record {
       all = ap (λ b. b ++ encode Utf8 (letters xs d rest)) byte ∙ ap (λ (t : List ℕ). x ∷ t) l.all;
       deep = l.deep;
@@ -83,29 +75,12 @@ puts_byte a b x n g u s r o t e l k =
 -- one text behind another, where it stands
 pub letters_both : (xs ys : List ℕ) (c : Cursor) (rest : Rest)
     → letters (xs ++ ys) c rest ≡ letters xs c (λ d. letters ys d rest)
-unfolding letters
-letters_both [] ys c rest = refl
-letters_both (x ∷ xs) ys c rest = ap (λ t. letter x ∷ t) (letters_both xs ys (record { column = c.column + 1; white = false; bare = false; kept = c.kept }) rest)
-
--- one text behind another
-pub puts_joined : (a b c : Output) (xs ys : List ℕ) → Puts a b (letters xs) → Puts b c (letters ys)
-    → Puts a c (letters (xs ++ ys))
-puts_joined a b c xs ys p q = puts_as a c (letters xs ▹ letters ys) (letters (xs ++ ys)) (λ rest. letters_both xs ys a.cursor rest) (puts_both a b c (letters xs) (letters ys) p q)
+letters_both xs ys c rest = ap (λ (t : Layout). t c rest) (letters_append xs ys)
 
 pub no_letters : (a : Output) (xs : List ℕ) → (length xs == 0) ≡ true → Puts a a (letters xs)
 unfolding letters
 no_letters a [] e = puts_nothing a
 no_letters a (x ∷ xs) e = absurd (grind (arith, nat_tests, e))
-
-pub some_letters : (xs : List ℕ) → (length xs == 0) ≡ false → 0 < length xs
-some_letters [] e = absurd (cc)
-some_letters (x ∷ xs) e = omega arith
-
-pub ascii_parts : (xs ys : List ℕ) → IsAscii (xs ++ ys) → IsAscii xs × IsAscii ys
-ascii_parts [] ys h = (IsAscii-nil, h)
-ascii_parts (x ∷ xs) ys h =
-    let (a, b) = ascii_parts xs ys (more_bytes x (xs ++ ys) h) in
-    (IsAscii-cons x xs (first_byte x (xs ++ ys) h) a, b)
 
 -- where no white space was last, a word has a space in front
 pub parted : (t : List ℕ) (c : Cursor) (rest : Rest) → 0 < length t → c.white ≡ false

@@ -4,7 +4,7 @@ use lib.Utf8.{encode as encoded}
 use Rattle.yaml_emit_sink.specs.declared.settings.Encoding.TheVariants.{Utf8}
 use Rattle.yaml_emit_sink.specs.Text.{Item, letter, deep, utf8_bytes, char_bytes, encode, shown}
 
-same_bytes : (c : ℕ) → utf8_bytes c ≡ encode_utf8 c
+pub same_bytes : (c : ℕ) → utf8_bytes c ≡ encode_utf8 c
 unfolding encoded
 same_bytes c = refl
 

@@ -1,14 +1,12 @@
 -- A break and the spaces behind it.
 use Rattle.std.proofs.Common.{◌≡◌, ℕ, ◌+◌, ◌-◌, ◌≤◌, List, [], ◌∷◌, ◌++◌, take, length, length-append, Bool, true, false, ◌<◌, refl, sym, subst, ◌∙◌, ap, append_assoc, arith}
-use Rattle.std.specs.Prelude.{zero, suc, replicate, ◌&&◌, ◌||◌, ◌==◌, nat_lt, nat_le, if◌then◌else◌, Option, None, Some}
+use Rattle.std.specs.Prelude.{zero, suc, replicate, ◌&&◌, ◌||◌, ◌==◌, nat_lt, nat_le, Option, None, Some}
 use Rattle.std.specs.Str.{IsAscii}
-use Rattle.std.proofs.lemmas.Bool.{false≢true, or_parts}
+use Rattle.std.proofs.lemmas.Bool.{false≢true, or_parts, cond_both, leb-true, ltb-false, eq-eqb}
 use Rattle.std.proofs.lemmas.Str.{IsAscii-append}
-use Rattle.std.proofs.lemmas.Bool.Decides.{nat_tests}
 use Rattle.std.proofs.lemmas.List.{take-replicate, length-replicate}
 use Rattle.std.proofs.Math.Seq.{take-append-add}
 use Rattle.yaml_emit_sink.specs.declared.cursor.Cursor.{Cursor}
-use Rattle.yaml_emit_sink.specs.declared.cursor.Status.{Status}
 use Rattle.yaml_emit_sink.specs.declared.cursor.Status.TheVariants.{Going}
 use Rattle.yaml_emit_sink.specs.declared.settings.Encoding.TheVariants.{Utf8}
 use Rattle.yaml_emit_sink.specs.declared.settings.LineBreak.{LineBreak}
@@ -70,19 +68,8 @@ pub line_broken : (a b : Output) (k : LineBreak) (n : ℕ) → must_break n a.cu
 line_broken a b k n m p = puts_as a b (fresh k n) (line k n) (λ rest. line_fresh k n a.cursor rest m) p
 
 pub line_joined : (a b : Output) (k : LineBreak) (n : ℕ) → must_break n a.cursor ≡ false
-    → Puts a b (indent_to n) → Puts a b (line k n)
-line_joined a b k n m p = puts_as a b (indent_to n) (line k n) (λ rest. line_stays k n a.cursor rest m) p
-
--- a line feed and the first of some spaces behind it
-pub line_cut : (old feed whole new blanks : List ℕ) (n : ℕ) → n ≤ length blanks
-    → blanks ≡ replicate (length blanks) 32 → feed ≡ old ++ 10 ∷ [] → whole ≡ feed ++ blanks
-    → new ≡ take (length old + (1 + n)) whole → new ≡ old ++ 10 ∷ replicate n 32
-line_cut old feed whole new blanks n h b f w e =
-    let more : 1 + n ≡ suc n = omega arith in
-    let is : whole ≡ old ++ 10 ∷ blanks = w ∙ ap (λ (t : List ℕ). t ++ blanks) f ∙ append_assoc old (10 ∷ []) blanks in
-    let some : take n blanks ≡ replicate n 32 = ap (take n) b ∙ take-replicate n (length blanks) 32 h in
-    e ∙ ap (take (length old + (1 + n))) is ∙ take-append-add old (10 ∷ blanks) (1 + n)
-    ∙ ap (λ (k : ℕ). old ++ take k (10 ∷ blanks)) more ∙ ap (λ (t : List ℕ). old ++ 10 ∷ t) some
+    → Puts a b (blanks (n - a.cursor.column)) → Puts a b (line k n)
+line_joined a b k n m p = puts_as a b (blanks (n - a.cursor.column)) (line k n) (λ rest. line_stays k n a.cursor rest m) p
 
 -- as many spaces as are left of some
 pub blanks_cut : (old whole new blanks : List ℕ) (n : ℕ) → n ≤ length blanks
@@ -91,6 +78,14 @@ pub blanks_cut : (old whole new blanks : List ℕ) (n : ℕ) → n ≤ length bl
 blanks_cut old whole new blanks n h b w e =
     let some : take n blanks ≡ replicate n 32 = ap (take n) b ∙ take-replicate n (length blanks) 32 h in
     e ∙ ap (take (length old + n)) w ∙ take-append-add old blanks n ∙ ap (λ (t : List ℕ). old ++ t) some
+
+-- a line feed and the first of some spaces behind it
+pub line_cut : (old feed whole new blanks : List ℕ) (n : ℕ) → n ≤ length blanks
+    → blanks ≡ replicate (length blanks) 32 → feed ≡ old ++ 10 ∷ [] → whole ≡ feed ++ blanks
+    → new ≡ take (length old + (1 + n)) whole → new ≡ old ++ 10 ∷ replicate n 32
+line_cut old feed whole new blanks n h b f w e =
+    let size : length old + (1 + n) ≡ length feed + n = rw f (omega (arith, length-append old (10 ∷ []))) in
+    blanks_cut feed whole new blanks n h b w (e ∙ ap (λ (k : ℕ). take k whole) size) ∙ ap (λ (t : List ℕ). t ++ replicate n 32) f ∙ append_assoc old (10 ∷ []) (replicate n 32)
 
 -- spaces of one byte were appended, all of them for certain
 pub puts_few : (a b : Output) (n : ℕ) → (n ≡ 0 → ⊥) → a.status ≡ Going → a.encoding ≡ Utf8
@@ -137,12 +132,6 @@ blanks_land zero n k white kept x y rest e h w f =
 blanks_land (suc i) n k white kept x y rest e h w f =
     ap (λ (t : List Item). letter 32 ∷ t) (blanks_land i n (k + 1) true kept x y rest (omega (arith, e)) (omega (arith, e, h)) (λ z. refl) f)
 
-at_most : (n k : ℕ) → nat_lt n k ≡ false → k ≤ n
-at_most n k h = grind (arith, nat_tests, h)
-
-same_column : (n k : ℕ) → k ≤ n → n - k ≡ 0 → (k == n) ≡ true
-same_column n k h e = let there : k ≡ n = omega (arith, h, e) in grind (arith, nat_tests, there)
-
 -- where the line isn't broken
 lands_joined : (n k : ℕ) (white bare kept : Bool) (x y : Layout) (rest : Rest)
     → must_break n (record { column = k; white = white; bare = bare; kept = kept }) ≡ false
@@ -152,11 +141,11 @@ lands_joined : (n k : ℕ) (white bare kept : Bool) (x y : Layout) (rest : Rest)
 lands_joined n k white false kept x y rest m f = absurd (cc)
 lands_joined n k true true kept x y rest m f =
     let p = or_parts (nat_lt n k) (k == n && false) m in
-    blanks_land (n - k) n k true kept x y rest refl (at_most n k p.0) (λ z. refl) f
+    blanks_land (n - k) n k true kept x y rest refl (ltb-false n k p.0) (λ z. refl) f
 lands_joined n k false true kept x y rest m f =
     let p = or_parts (nat_lt n k) (k == n && true) m in
-    let less = at_most n k p.0 in
-    blanks_land (n - k) n k false kept x y rest refl less (λ z. absurd (false≢true (sym p.1 ∙ ap (λ (b : Bool). b && true) (same_column n k less z)))) f
+    let less = ltb-false n k p.0 in
+    blanks_land (n - k) n k false kept x y rest refl less (λ z. absurd (false≢true (sym p.1 ∙ ap (λ (b : Bool). b && true) (eq-eqb k n (omega (arith, less, z)))))) f
 
 fresh_lands : (b : LineBreak) (n : ℕ) (c : Cursor) (x y : Layout) (rest : Rest)
     → AreSame n x y rest
@@ -235,14 +224,10 @@ puts_line_start t xs a b m q i g x h e l v s p w o r k =
 
 -- ---- how many spaces are put
 
-by_least : (b : Bool) (n : ℕ) → nat_le n 16 ≡ b → n ≤ 80 → n ≤ (if b then 16 else 80)
-by_least true n e h = grind (arith, nat_tests, e)
-by_least false n e h = h
-
 pub enough_most : (n : ℕ) → n ≤ 80 → n ≤ length (replicate {A = ℕ} (enough n) 32)
 enough_most n h =
     let many : length (replicate {A = ℕ} (enough n) 32) ≡ enough n = length-replicate (enough n) 32 in
-    rw many (by_least (nat_le n 16) n refl h)
+    rw many (cond_both (nat_le n 16) 16 80 (λ k. n ≤ k) (leb-true n 16) (λ _. h))
 
 pub enough_same : (n : ℕ)
     → replicate {A = ℕ} (enough n) 32 ≡ replicate (length (replicate {A = ℕ} (enough n) 32)) 32

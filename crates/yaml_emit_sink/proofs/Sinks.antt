@@ -4,6 +4,7 @@ use Rattle.std.specs.Prelude.{take, zero, suc, replicate}
 use Rattle.yaml_emit_sink.specs.declared.settings.Encoding.TheVariants.{Utf8}
 use Rattle.std.proofs.lemmas.List.{append-nil, take-append-drop, take-append-le, take-take, drop_more, drop_all}
 use Rattle.std.proofs.Math.Seq.{take-length, take-append_seam}
+use Rattle.std.proofs.lemmas.Bool.{cond-true, cond-false}
 use Rattle.yaml_emit_sink.specs.declared.cursor.Cursor.{Cursor}
 use Rattle.yaml_emit_sink.specs.declared.cursor.Status.{Status}
 use Rattle.yaml_emit_sink.specs.declared.cursor.Status.TheVariants.{Going, Full, Deep, Starved}
@@ -11,7 +12,7 @@ use Rattle.yaml_emit_sink.specs.declared.settings.Encoding.{Encoding}
 use Rattle.yaml_emit_sink.specs.Text.{Item, letter, deep, encode, char_bytes, is_deep, shallow}
 use Rattle.yaml_emit_sink.specs.Layout.{Layout, Rest, ◌▹◌, stay, when, char, letters, blank, blanks, too_deep}
 use Rattle.yaml_emit_sink.specs.Appends.{AppendsBy, blanked}
-use Rattle.yaml_emit_sink.specs.Sink.{Output, Grows, Ends, EndsBy, Owes, Puts, stroke}
+use Rattle.yaml_emit_sink.specs.Sink.{Output, Grows, Ends, EndsBy, Owes, Puts}
 
 -- nothing is taken back
 pub grows_none : (xs : List ℕ) → Grows xs xs
@@ -117,13 +118,11 @@ puts_moved a b f o s e l k = record {
 
 -- a choice whose test holds
 pub cond_true : {A : Type 0} (b : Bool) (x y : A) → b ≡ true → cond b x y ≡ x
-cond_true true x y e = refl
-cond_true false x y e = absurd (cc)
+cond_true b x y e = cond-true b x y e
 
 -- a choice whose test has failed
 pub cond_false : {A : Type 0} (b : Bool) (x y : A) → b ≡ false → cond b x y ≡ y
-cond_false false x y e = refl
-cond_false true x y e = absurd (cc)
+cond_false b x y e = cond-false b x y e
 
 pub puts_unless : (a : Output) (t : Bool) (x : Layout) → t ≡ false → Puts a a (when t x)
 puts_unless a t x e = let P : Bool → Type 0 = λ v. Puts a a (when v x) in subst P (sym e) (puts_nothing a)
@@ -216,23 +215,6 @@ blanks_lead zero c rest = record { all = refl; deep = refl; front = refl }
 blanks_lead (suc n) c rest =
     let l = blanks_lead n (record { column = c.column + 1; white = true; bare = c.bare; kept = c.kept }) rest in
     record { all = ap (λ (t : List ℕ). 32 ∷ t) l.all; deep = l.deep; front = ap (λ (t : List ℕ). 32 ∷ t) l.front }
-
-pub no_blanks : (a : Output) (n : ℕ) → n ≡ 0 → Puts a a (blanks n)
-unfolding blanks
-no_blanks a n e = rw e (puts_nothing a)
-
--- spaces of one byte were appended
-pub puts_spaces : (a b : Output) (n : ℕ) → 0 < n → a.status ≡ Going → a.encoding ≡ Utf8
-    → b.encoding ≡ a.encoding → b.limit ≡ a.limit
-    → AppendsBy b.status a.limit a.bytes b.bytes (replicate n 32)
-    → (b.status ≡ Going → b.cursor ≡ blanked n a.cursor)
-    → Puts a b (blanks n)
-puts_spaces a b zero p g x e l h k = absurd (omega (arith, p))
-puts_spaces a b (suc n) p g x e l h k =
-    puts_run a b (blanks (suc n)) (replicate (suc n) 32) (stepped (suc n)) g e l (λ rest. rw x (blanks_lead (suc n) a.cursor rest)) h (λ going. k going ∙ sym (stepped_is n a.cursor))
-
-pub puts_blank : (a b : Output) → Puts a b (stroke 32 false true a.cursor.bare) → Puts a b blank
-puts_blank a b p = puts_as a b (stroke 32 false true a.cursor.bare) blank (λ rest. refl) p
 
 -- a space more of those that are owed
 pub blanks_more : (a b c : Output) (n i : ℕ) → i < n → Owes a b (blanks n) (blanks (n - i))

@@ -1,15 +1,13 @@
 //! Bytes at the end of the output.
 
-ghost use Rattle.std.specs.Prelude.{◌≡◌, ◌<◌, ◌≤◌, ◌+◌, ◌^◌, ◌++◌, length, replicate, if◌then◌else◌, OnOk, OnErr, true};
-ghost use Rattle.yaml_types.specs.Ascii as ascii;
+ghost use Rattle.std.specs.Prelude.{◌≡◌, ◌<◌, ◌≤◌, ◌+◌, ◌^◌, length, true};
 ghost use Rattle.std.specs.Vec.{vec_capacity};
 ghost use Rattle.yaml_emit_sink.specs.Appends.{AppendsBy, moved, indented, blanked, lettered};
 ghost use Rattle.yaml_emit_sink.specs.Text.{char_bytes};
 
-use crate::bytes::bytes_of;
+use crate::bytes::utf16_of;
 use crate::cursor::{Cursor, Status};
 use crate::settings::Encoding;
-use std::alloc::AllocError;
 
 // These bytes, as far as the limit and the memory allow, and what becomes of the output.
 pub(crate) fn append(output: &mut Vec<u8>, limit: u64, bytes: &[u8]) -> Status
@@ -30,42 +28,6 @@ pub(crate) fn append(output: &mut Vec<u8>, limit: u64, bytes: &[u8]) -> Status
     } else {
         match output.extend_from_slice(&bytes[..room as usize]) {
             Ok(_) => Status::Full,
-            Err(_) => Status::Starved,
-        }
-    }
-}
-
-// So many spaces more; refused, the output stays as it is.
-fn push_blanks(output: &mut Vec<u8>, count: usize) -> Result<(), AllocError>
-    requires { length output.old.items + count < 2 ^ 64 }
-    ensures room { vec_capacity output.old ≤ vec_capacity output.new }
-    ensures ok { OnOk result (output.new.items ≡ output.old.items ++ replicate count ascii.space) }
-    ensures err { OnErr result (output.new.items ≡ output.old.items) }
-{
-    let wanted = output.len() + count;
-    output.resize(wanted, b' ')
-}
-
-// So many spaces, as far as the limit and the memory allow.
-pub(crate) fn append_blanks(output: &mut Vec<u8>, limit: u64, count: u64) -> Status
-    requires { length output.old.items ≤ limit }
-    ensures bytes { AppendsBy result limit output.old.items output.new.items
-        (replicate count ascii.space) }
-    ensures within { length output.new.items ≤ limit }
-    ensures room { vec_capacity output.old ≤ vec_capacity output.new }
-    ensures longer { length output.old.items ≤ length output.new.items }
-    ensures going { result ≡ Status.Going → length output.new.items ≡ length output.old.items
-        + count }
-{
-    let room = limit - output.len() as u64;
-    if count <= room {
-        match push_blanks(output, count as usize) {
-            Ok(()) => Status::Going,
-            Err(_) => Status::Starved,
-        }
-    } else {
-        match push_blanks(output, room as usize) {
-            Ok(()) => Status::Full,
             Err(_) => Status::Starved,
         }
     }
@@ -111,16 +73,17 @@ pub(crate) fn append_char(output: &mut Vec<u8>, limit: u64, encoding: Encoding, 
     ensures longer { length output.old.items ≤ length output.new.items }
     ensures going { result ≡ Status.Going → length output.old.items < length output.new.items }
 {
-    let (bytes, count) = bytes_of(encoding, c);
-    append(output, limit, &bytes[..count])
-}
-
-// A column further, or at the start of a line.
-fn next_column(ends: bool, column: u64) -> u64
-    requires { column + 1 < 2 ^ 64 }
-    ensures { result ≡ (if ends then 0 else column + 1) }
-{
-    if ends { 0 } else { column + 1 }
+    match encoding {
+        Encoding::Utf8 => {
+            let mut buffer = [0; 4];
+            let text = c.encode_utf8(&mut buffer);
+            append(output, limit, text.as_bytes())
+        }
+        _ => {
+            let (bytes, count) = utf16_of(encoding, c);
+            append(output, limit, &bytes[..count])
+        }
+    }
 }
 
 // The cursor comes behind a character.
@@ -128,7 +91,7 @@ pub(crate) fn moved(at: &mut Cursor, ends: bool, white: bool, bare: bool)
     requires { at.old.column + 1 < 2 ^ 64 }
     ensures { at.new ≡ moved at.old ends white bare }
 {
-    at.column = next_column(ends, at.column);
+    at.column = if ends { 0 } else { at.column + 1 };
     at.white = white;
     at.bare = bare;
 }
@@ -141,12 +104,4 @@ pub(crate) fn is_roomy(output: &Vec<u8>, fast_limit: u64, c: char) -> bool
     ensures near { result ≡ true → length output.now.items < fast_limit }
 {
     (c as u32) < 0x80 && (output.len() as u64) < fast_limit
-}
-
-// The byte of a character in ASCII.
-pub(crate) fn byte_of(c: char) -> u8
-    requires { c < 0x80 }
-    ensures { result ≡ c }
-{
-    c as u32 as u8
 }

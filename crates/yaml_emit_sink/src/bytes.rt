@@ -1,45 +1,13 @@
-//! The bytes of a character.
+//! The bytes of a character in UTF-16.
 
 ghost use Rattle.std.specs.Prelude.{◌≡◌, ◌≢◌, ◌≤◌, take};
 ghost use Rattle.yaml_emit_sink.specs.Text.{char_bytes};
 
 use crate::settings::Encoding;
 
+/// The bytes of a character in UTF-16, and how many they are.
 #[tactic(auto, unfolding(crate::specs::Text::char_bytes))]
-fn utf8_of(c: char) -> ([u8; 4], usize)
-    ensures bytes { take result.1 result.0 ≡ char_bytes Encoding.Utf8 c }
-    ensures count { (1 ≤ result.1) × (result.1 ≤ 4) }
-{
-    let n = c as u32;
-    if n < 0x80 {
-        ([n as u8, 0, 0, 0], 1)
-    } else if n < 0x800 {
-        ([(0xC0 + n / 0x40) as u8, (0x80 + n % 0x40) as u8, 0, 0], 2)
-    } else if n < 0x1_0000 {
-        (
-            [
-                (0xE0 + n / 0x1000) as u8,
-                (0x80 + n / 0x40 % 0x40) as u8,
-                (0x80 + n % 0x40) as u8,
-                0,
-            ],
-            3,
-        )
-    } else {
-        (
-            [
-                (0xF0 + n / 0x4_0000) as u8,
-                (0x80 + n / 0x1000 % 0x40) as u8,
-                (0x80 + n / 0x40 % 0x40) as u8,
-                (0x80 + n % 0x40) as u8,
-            ],
-            4,
-        )
-    }
-}
-
-#[tactic(auto, unfolding(crate::specs::Text::char_bytes))]
-fn utf16_of(encoding: Encoding, c: char) -> ([u8; 4], usize)
+pub(crate) fn utf16_of(encoding: Encoding, c: char) -> ([u8; 4], usize)
     requires { encoding ≢ Encoding.Utf8 }
     ensures bytes { take result.1 result.0 ≡ char_bytes encoding c }
     ensures count { (1 ≤ result.1) × (result.1 ≤ 4) }
@@ -63,16 +31,5 @@ fn utf16_of(encoding: Encoding, c: char) -> ([u8; 4], usize)
             Encoding::Utf16Be => ([high, low, second_high, second_low], 4),
             _ => ([low, high, second_low, second_high], 4),
         }
-    }
-}
-
-/// The bytes of a character, and how many they are.
-pub(crate) fn bytes_of(encoding: Encoding, c: char) -> ([u8; 4], usize)
-    ensures bytes { take result.1 result.0 ≡ char_bytes encoding c }
-    ensures count { (1 ≤ result.1) × (result.1 ≤ 4) }
-{
-    match encoding {
-        Encoding::Utf8 => utf8_of(c),
-        _ => utf16_of(encoding, c),
     }
 }

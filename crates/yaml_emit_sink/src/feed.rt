@@ -28,29 +28,21 @@ pub fn has_room(output: &Vec<u8>, fast_limit: u64, count: u64) -> bool
     count <= fast_limit.saturating_sub(output.len() as u64)
 }
 
-/// Whether a line is a line feed and at most so many spaces, and there is room for all of these and so many bytes behind them.
-// Inlined: where the numbers are known, three comparisons.
+/// Whether a line is a line feed and at most eighty spaces, and there is room for all of these, a short text and few characters
+/// round both.
+// Inlined: three comparisons.
 #[inline(always)]
-pub fn is_brief(
-    output: &Vec<u8>,
-    fast_limit: u64,
-    line_break: LineBreak,
-    indent: u64,
-    most: u64,
-    behind: u64,
-) -> bool
-    requires { most + behind ≤ 128 }
-    ensures line { result ≡ true → (line_break ≡ LineBreak.Lf) × (indent ≤ most) }
-    ensures near { result ≡ true → length output.now.items + (1 + most + behind) ≤ fast_limit }
+pub fn is_brief(output: &Vec<u8>, fast_limit: u64, line_break: LineBreak, indent: u64) -> bool
+    ensures line { result ≡ true → (line_break ≡ LineBreak.Lf) × (indent ≤ 80) }
+    ensures near { result ≡ true → length output.now.items + 126 ≤ fast_limit }
 {
     match line_break {
-        LineBreak::Lf => indent <= most && has_room(output, fast_limit, 1 + most + behind),
+        LineBreak::Lf => indent <= 80 && has_room(output, fast_limit, 126),
         _ => false,
     }
 }
 
-/// Whether a line is a line feed and at most eighty spaces, a text behind it is short, and there is room for both with few
-/// characters round them.
+/// The same of a line that begins so, and whether the text behind it is short.
 // Inlined: some comparisons.
 #[inline(always)]
 pub fn is_brief_start(output: &Vec<u8>, fast_limit: u64, start: &LineStart, text: &[u8]) -> bool
@@ -58,7 +50,7 @@ pub fn is_brief_start(output: &Vec<u8>, fast_limit: u64, start: &LineStart, text
     ensures short { result ≡ true → length text.now ≤ 32 }
     ensures near { result ≡ true → length output.now.items + 126 ≤ fast_limit }
 {
-    text.len() <= SHORT && is_brief(output, fast_limit, start.line_break, start.indent, 80, 45)
+    text.len() <= SHORT && is_brief(output, fast_limit, start.line_break, start.indent)
 }
 
 /// Whether at most sixteen spaces come, and there is room for sixteen.

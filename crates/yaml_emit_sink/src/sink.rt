@@ -7,15 +7,13 @@ ghost use Rattle.std.specs.Vec.{vec_capacity};
 
 mod around;
 
-use crate::append::{
-    append, append_blanks, append_char, blanked, byte_of, indented, is_roomy, lettered, moved,
-};
+use crate::append::{append, append_char, blanked, indented, is_roomy, lettered, moved};
 use crate::cursor::{Cursor, Status};
 use crate::feed::{are_few, has_room, is_brief, put_few_blanks, put_fresh_line};
 use crate::settings::{Encoding, LineBreak};
 use std::alloc::{AllocError, Global};
 use std::marker::Model;
-use yaml_types::put_near;
+use yaml_types::{put_many, put_near};
 
 /// An output: bytes up to a limit, the cursor, and whether it goes on. Once it has stopped, nothing more is written, and it
 /// stays stopped.
@@ -32,6 +30,11 @@ pub struct Sink {
     /// for it.
     fast_limit: u64,
 }
+
+// More spaces than these are put one after another.
+const MANY: u64 = 256;
+
+static SPACES: [u8; 256] = [b' '; 256];
 
 // How far a text in ASCII is written at once.
 fn fast_limit_in(encoding: Encoding, fast_limit: u64) -> u64
@@ -68,7 +71,7 @@ impl Sink {
     ghost use Rattle.std.specs.Str.{IsAscii};
     ghost use Rattle.yaml_emit_sink.specs.Sink.{Puts, Output, stroke};
     ghost use Rattle.yaml_emit_sink.specs.Text.{letter};
-    ghost use Rattle.yaml_emit_sink.specs.Layout.{Layout, char, letters, blank, blanks, break, new_line, gap, word, indicator, opener, line, wrap, keep, after_text, after_block, must_break, indent_to, fresh, is_past, too_deep, order_mark, start};
+    ghost use Rattle.yaml_emit_sink.specs.Layout.{Layout, char, letters, blank, blanks, break, new_line, gap, word, indicator, opener, line, wrap, keep, after_text, after_block, must_break, fresh, is_past, too_deep, order_mark, start};
 
     /// An empty output of at most `limit` bytes, in UTF-8.
     pub fn new(alloc: Global, limit: u64) -> Sink
@@ -196,7 +199,7 @@ impl Sink {
         ensures { Puts self.old self.new (stroke c ends white bare) }
     {
         if is_roomy(&self.output, self.fast_limit, c) {
-            self.output.push_reserved(byte_of(c));
+            self.output.push_reserved(c as u32 as u8);
             moved(&mut self.cursor, ends, white, bare);
         } else {
             self.stroke(c, ends, white, bare);
@@ -226,15 +229,11 @@ impl Sink {
         match line_break {
             LineBreak::Lf => self.put_break('\n'),
             LineBreak::Cr => self.put_break('\r'),
-            LineBreak::CrLf => self.put_both_breaks(),
+            LineBreak::CrLf => {
+                self.put('\r');
+                self.put_break('\n');
+            }
         }
-    }
-
-    fn put_both_breaks(&mut self)
-        ensures { Puts self.old self.new (new_line LineBreak.CrLf) }
-    {
-        self.put('\r');
-        self.put_break('\n');
     }
 
     /// Each byte as the character of that number.
@@ -313,33 +312,22 @@ impl Sink {
         }
     }
 
-    // Spaces of one byte, one at least, at once.
-    fn put_spaces(&mut self, count: u64)
-        requires some { 0 < count }
-        requires bytes { self.old.encoding ≡ Encoding.Utf8 }
-        ensures { Puts self.old self.new (blanks count) }
-    {
-        if self.status.is_going() {
-            self.status = append_blanks(&mut self.output, self.limit, count);
-            if self.status.is_going() {
-                blanked(&mut self.cursor, count);
-                self.fast_limit = fast_limit_of(&self.output, self.limit, self.encoding);
-            } else {
-                self.fast_limit = 0;
-            }
-        }
-    }
-
-    // So many spaces, one at least.
-    // Out of line: the rare way, near the limit or in UTF-16, beside the short one.
+    // So many spaces, one at least: at once where they aren't very many, and there is room.
+    // Out of line: the rare way, beside the short one.
     #[inline(never)]
     fn put_more_blanks(&mut self, count: u64)
         requires { 0 < count }
         ensures { Puts self.old self.new (blanks count) }
     {
-        match self.encoding() {
-            Encoding::Utf8 => self.put_spaces(count),
-            _ => self.put_each_blank(count),
+        if MANY < count {
+            self.put_each_blank(count);
+            return;
+        }
+        if has_room(&self.output, self.fast_limit, count) {
+            put_many(&mut self.output, &SPACES[..count as usize]);
+            blanked(&mut self.cursor, count);
+        } else {
+            self.put_each_blank(count);
         }
     }
 
@@ -424,19 +412,12 @@ impl Sink {
     fn put_fresh(&mut self, line_break: LineBreak, indent: u64)
         ensures { Puts self.old self.new (fresh line_break indent) }
     {
-        if is_brief(&self.output, self.fast_limit, line_break, indent, 80, 0) {
+        if is_brief(&self.output, self.fast_limit, line_break, indent) {
             put_fresh_line(&mut self.output, indent);
             indented(&mut self.cursor, indent);
         } else {
             self.put_long_line(line_break, indent);
         }
-    }
-
-    fn indent_to(&mut self, indent: u64)
-        ensures { Puts self.old self.new (indent_to indent) }
-    {
-        let at = self.cursor();
-        self.put_blanks(indent.saturating_sub(at.column));
     }
 
     /// A line that is indented by that many columns: a break, unless the line is bare up to there, and then spaces.
@@ -446,7 +427,7 @@ impl Sink {
         if self.must_break(indent) {
             self.put_fresh(line_break, indent);
         } else {
-            self.indent_to(indent);
+            self.put_blanks(indent.saturating_sub(self.cursor().column));
         }
     }
 
@@ -471,9 +452,7 @@ impl Sink {
     {
         if self.status.is_going() {
             self.status = append_char(&mut self.output, self.limit, self.encoding, '\u{FEFF}');
-            if !self.status.is_going() {
-                self.fast_limit = 0;
-            }
+            self.fast_limit = 0;
         }
     }
 

@@ -1,7 +1,10 @@
 -- Tame texts that are written plain at once: alone, or behind a character and a space.
 use Rattle.std.proofs.Common.{◌≡◌, ℕ, ◌+◌, ◌≤◌, ◌<◌, length, length-append, append_assoc, get_or, List, [], ◌∷◌, ◌++◌, Bool, true, false, refl, sym, subst, ◌∙◌, ap, arith}
-use Rattle.std.specs.Prelude.{zero, suc, ◌||◌, ◌==◌, nat_le, nat_lt, if◌then◌else◌, Option, Some, None}
+use Rattle.std.specs.Prelude.{zero, suc, ◌==◌, nat_lt, if◌then◌else◌, Option, None}
+use Rattle.std.specs.Bool.{then_some}
+use Rattle.std.specs.List.{list_all}
 use Rattle.std.specs.Str.{chars, IsAscii}
+use Rattle.std.proofs.lemmas.Bool.{or_from, le-ltb}
 use Rattle.std.proofs.lemmas.Bool.Decides.{nat_tests}
 use Rattle.std.proofs.lemmas.List.{append-nil}
 use Rattle.std.proofs.lemmas.Str.{IsAscii-append}
@@ -16,19 +19,18 @@ use Rattle.yaml_emit_sink.specs.Text.{Item, letter}
 use Rattle.yaml_emit_sink.specs.Layout.{Rest, ◌▹◌, char, letters, line, wrap, indicator, after_text}
 use Rattle.yaml_emit_sink.specs.Sink.{Output, Puts}
 use Rattle.yaml_emit_sink.specs.LineStarts.{marks}
-use Rattle.yaml_emit_sink.proofs.Ascii.{letters_both}
+use Rattle.yaml_emit_sink.proofs.Ascii.{letters_both, parted}
 use Rattle.yaml_emit_sink.proofs.Lines.{line_lands}
 use Rattle.yaml_emit_sink.proofs.Sinks.{puts_as, cond_true, cond_false}
 use Rattle.yaml_emit_text.specs.declared.page.Page.{Page}
-use Rattle.yaml_emit_text.specs.declared.page.Allowed.{Allowed}
 use Rattle.yaml_emit_text.specs.declared.page.Style.TheVariants as style
-use Rattle.yaml_emit_text.specs.Runs.{calm, is_calm, is_even}
+use Rattle.yaml_emit_text.specs.Runs.{is_calm, is_even}
 use Rattle.yaml_emit_text.specs.Scalars.{plain}
 use Rattle.yaml_emit_text.specs.Style.{allowed, last_or, taken, plain_or}
 use Rattle.yaml_emit_text.specs.Tame.{IsTame, asks_plain, Stands, standing, standing_text, lead}
-use Rattle.yaml_emit_text.proofs.RunLemmas.{calm_ascii, calm_least, calm_largest, pass_at}
+use Rattle.yaml_emit_text.proofs.RunLemmas.{Shown, calm_shown, shown_ascii, all_at}
 use Rattle.yaml_emit_text.proofs.RunWalks.{tame_at}
-use Rattle.yaml_emit_text.proofs.Even.{framed_at, framed_behind, even_ascii, even_least, even_largest, even_at}
+use Rattle.yaml_emit_text.proofs.Even.{even_word, even_ascii, even_shown}
 use Rattle.yaml_emit_text.proofs.Tame.{all_allowed, tame_allows, tame_plain}
 
 -- ---- what a tame text is
@@ -39,37 +41,34 @@ unfolding last_or
 tame_some [] t = let e = t.ends in absurd (cc)
 tame_some (x ∷ xs) t = omega arith
 
-either_none : (a b : Bool) → a ≡ false → b ≡ false → (a || b) ≡ false
-either_none a b e f = rw (e, f) refl
-
 none_below : (n : ℕ) (p : ℕ → Bool) → ((k : ℕ) → k < n → p k ≡ false) → any_below n p ≡ false
 unfolding any_below
 none_below zero p h = refl
-none_below (suc n) p h = either_none (any_below n p) (p n) (none_below n p (λ k l. h k (omega (arith, l)))) (h n (omega arith))
+none_below (suc n) p h = or_from (any_below n p) (p n) (none_below n p (λ k l. h k (omega (arith, l)))) (h n (omega arith))
 
-no_break_of : (b c d : ℕ) → nat_le 32 b ≡ true → nat_le b 126 ≡ true → break_of b c d ≡ 0
+no_break_of : (b c d : ℕ) → Shown b → break_of b c d ≡ 0
 unfolding break_of
-no_break_of b c d low high =
+no_break_of b c d s =
+    let low = s.low in
+    let high = s.high in
     let cr : (b == 13) ≡ false = grind (arith, nat_tests, low) in
     let lf : (b == 10) ≡ false = grind (arith, nat_tests, low) in
     let two : (b == 0xC2) ≡ false = grind (arith, nat_tests, high) in
     let three : (b == 0xE2) ≡ false = grind (arith, nat_tests, high) in
     rw (cr, lf, two, three) refl
 
-no_break : (v : List ℕ) (k : ℕ) → is_calm (get_or v k 0) ≡ true → breaks_at v k ≡ false
-no_break v k h = ap (nat_lt 0) (no_break_of (get_or v k 0) _ _ (calm_least (get_or v k 0) h) (calm_largest (get_or v k 0) h))
+shown_breaks : (test : ℕ → Bool) → ((b : ℕ) → test b ≡ true → Shown b) → (v : List ℕ)
+    → list_all test v ≡ true → has_break v ≡ false
+shown_breaks test shown v h = none_below (length v) (breaks_at v) (λ k l. ap (nat_lt 0) (no_break_of (get_or v k 0) _ _ (shown (get_or v k 0) (all_at test v k h l))))
 
 -- no break begins in it
 pub tame_breaks : (v : List ℕ) → IsTame v → has_break v ≡ false
-tame_breaks v t = none_below (length v) (breaks_at v) (λ k l. no_break v k (pass_at calm 0 v k t.calm l))
-
-even_no_break : (v : List ℕ) (k : ℕ) → is_even (get_or v k 0) ≡ true → breaks_at v k ≡ false
-even_no_break v k h = ap (nat_lt 0) (no_break_of (get_or v k 0) _ _ (even_least (get_or v k 0) h) (even_largest (get_or v k 0) h))
+tame_breaks v t = shown_breaks is_calm calm_shown v t.calm
 
 -- the same of one in double quotes
 pub standing_breaks : (quoted : Bool) (v : List ℕ) → Stands quoted v → has_break v ≡ false
 standing_breaks false v t = tame_breaks v t
-standing_breaks true v t = none_below (length v) (breaks_at v) (λ k l. even_no_break v k (even_at v k t l))
+standing_breaks true v t = shown_breaks is_even even_shown v t
 
 -- ---- which style it takes
 
@@ -77,29 +76,19 @@ plain_by : (flow simple : Bool) → plain_or all_allowed true flow simple false 
 plain_by true simple = refl
 plain_by false simple = refl
 
-plain_of : (a : Allowed) (untagged flow simple empty : Bool) → all_allowed ≡ a → untagged ≡ true
-    → empty ≡ false → plain_or a untagged flow simple empty ≡ style.Plain
-plain_of a untagged flow simple empty h u e =
-    let P : Allowed → Type 0 = λ z. plain_or z untagged flow simple empty ≡ style.Plain in
-    subst P h (rw (u, e) (plain_by flow simple))
-
-taken_by : (a : Allowed) (s : yaml_scalar_style_t) (untagged flow simple empty : Bool)
-    → all_allowed ≡ a → asks_plain s ≡ true → untagged ≡ true → empty ≡ false
-    → taken a s untagged flow simple empty ≡ style.Plain
+taken_by : (s : yaml_scalar_style_t) (flow simple : Bool) → asks_plain s ≡ true
+    → taken all_allowed s true flow simple false ≡ style.Plain
 unfolding taken
-taken_by a asked.YAML_ANY_SCALAR_STYLE untagged flow simple empty h k u e = plain_of a untagged flow simple empty h u e
-taken_by a asked.YAML_PLAIN_SCALAR_STYLE untagged flow simple empty h k u e = plain_of a untagged flow simple empty h u e
-taken_by a _ untagged flow simple empty h k u e = absurd (cc)
+taken_by asked.YAML_ANY_SCALAR_STYLE flow simple k = plain_by flow simple
+taken_by asked.YAML_PLAIN_SCALAR_STYLE flow simple k = plain_by flow simple
+taken_by _ flow simple k = absurd (cc)
 
 -- a tame text is plain, where that is asked for
 pub tame_taken : (unicode : Bool) (v : List ℕ) (s : yaml_scalar_style_t)
     (untagged flow simple empty : Bool) → IsTame v → asks_plain s ≡ true → untagged ≡ true
     → empty ≡ false
     → taken (allowed unicode (chars v)) s untagged flow simple empty ≡ style.Plain
-tame_taken unicode v s untagged flow simple empty t k u e = taken_by (allowed unicode (chars v)) s untagged flow simple empty (tame_allows unicode v t) k u e
-
-within : (width k n : ℕ) → k + n ≤ width → nat_lt width k ≡ false
-within width k n h = grind (arith, nat_tests, h)
+tame_taken unicode v s untagged flow simple empty t k u e = rw (← tame_allows unicode v t, u, e) (taken_by s flow simple k)
 
 -- ---- how it is written
 
@@ -118,40 +107,32 @@ unfolding letters
 letters_from [] k white bare kept rest l = absurd (omega (arith, l))
 letters_from (x ∷ xs) k white bare kept rest l = refl
 
-lone_at : (page : Page) (flow : Bool) (v : List ℕ) (c : Cursor) (rest : Rest) → IsTame v
-    → c.white ≡ true → c.column + length v ≤ page.width
-    → plain page flow (chars v) c rest ≡ letters v c rest
-lone_at page flow v c rest t g w =
-    ap (λ (z : Cursor → Rest → List Item). z c rest) (tame_plain page flow v t)
-    ∙ (cond_true c.white _ _ g
-    ∙ (tame_at page c (λ d. after_text d rest) v t w ∙ after_some v c rest (tame_some v t)))
-
-parted_at : (page : Page) (flow : Bool) (v : List ℕ) (c : Cursor) (rest : Rest) → IsTame v
-    → c.white ≡ false → c.column + 1 + length v ≤ page.width
-    → plain page flow (chars v) c rest ≡ letters (32 ∷ v) c rest
-unfolding letters
-parted_at page flow v c rest t g w =
-    let d : Cursor = record { column = c.column + 1; white = true; bare = c.bare; kept = c.kept } in
-    ap (λ (z : Cursor → Rest → List Item). z c rest) (tame_plain page flow v t)
-    ∙ (cond_false c.white _ _ g
-    ∙ ap (λ (z : List Item). letter 32 ∷ z) (tame_at page d (λ e. after_text e rest) v t w ∙ (after_some v d rest (tame_some v t) ∙ letters_from v (c.column + 1) true c.bare c.kept rest (tame_some v t))))
-
--- ---- of either kind
-
 -- where no space is due
 standing_at : (quoted : Bool) (page : Page) (flow : Bool) (v : List ℕ) (c : Cursor) (rest : Rest)
     → Stands quoted v → c.white ≡ true → c.column + length (standing quoted v) ≤ page.width
     → standing_text quoted page flow v c rest ≡ letters (standing quoted v) c rest
-standing_at false page flow v c rest t g w = lone_at page flow v c rest t g w
-standing_at true page flow v c rest t g w = framed_at page v c rest t g w
+standing_at false page flow v c rest t g w =
+    ap (λ (z : Cursor → Rest → List Item). z c rest) (tame_plain page flow v t)
+    ∙ (cond_true c.white _ _ g
+    ∙ (tame_at page c (λ d. after_text d rest) v t w ∙ after_some v c rest (tame_some v t)))
+standing_at true page flow v c rest t g w =
+    let more = length-append v (34 ∷ []) in
+    even_word page v c rest t (omega (arith, w, more)) ∙ cond_true c.white _ _ g
 
 -- where one is
 standing_behind : (quoted : Bool) (page : Page) (flow : Bool) (v : List ℕ) (c : Cursor)
     (rest : Rest) → Stands quoted v → c.white ≡ false
     → c.column + 1 + length (standing quoted v) ≤ page.width
     → standing_text quoted page flow v c rest ≡ letters (32 ∷ standing quoted v) c rest
-standing_behind false page flow v c rest t g w = parted_at page flow v c rest t g w
-standing_behind true page flow v c rest t g w = framed_behind page v c rest t g w
+unfolding letters
+standing_behind false page flow v c rest t g w =
+    let d : Cursor = record { column = c.column + 1; white = true; bare = c.bare; kept = c.kept } in
+    ap (λ (z : Cursor → Rest → List Item). z c rest) (tame_plain page flow v t)
+    ∙ (cond_false c.white _ _ g
+    ∙ ap (λ (z : List Item). letter 32 ∷ z) (tame_at page d (λ e. after_text e rest) v t w ∙ (after_some v d rest (tame_some v t) ∙ letters_from v (c.column + 1) true c.bare c.kept rest (tame_some v t))))
+standing_behind true page flow v c rest t g w =
+    let more = length-append v (34 ∷ []) in
+    even_word page v c rest t (omega (arith, w, more)) ∙ parted (34 ∷ (v ++ 34 ∷ [])) c rest (omega arith) g
 
 -- alone, where no space is due, behind what may be a line
 pub puts_opening : (quoted : Bool) (page : Page) (flow : Bool) (v : List ℕ) (k : LineBreak) (n : ℕ)
@@ -161,7 +142,7 @@ pub puts_opening : (quoted : Bool) (page : Page) (flow : Bool) (v : List ℕ) (k
     → Puts a b (wrap page.width k n ▹ standing_text quoted page flow v)
 puts_opening quoted page flow v k n a b t g w p =
     puts_as a b (letters (standing quoted v)) (wrap page.width k n ▹ standing_text quoted page flow v)
-    (λ rest. cond_false (nat_lt page.width a.cursor.column) _ _ (within page.width a.cursor.column (length (standing quoted v)) w) ∙ standing_at quoted page flow v a.cursor rest t g w) p
+    (λ rest. cond_false (nat_lt page.width a.cursor.column) _ _ (le-ltb page.width a.cursor.column (omega (arith, w))) ∙ standing_at quoted page flow v a.cursor rest t g w) p
 
 -- behind a character
 pub puts_led : (quoted : Bool) (page : Page) (flow : Bool) (m : ℕ) (v : List ℕ) (a b : Output)
@@ -174,20 +155,16 @@ puts_led quoted page flow m v a b t w p =
     puts_as a b (letters (m ∷ 32 ∷ standing quoted v)) (char m ▹ standing_text quoted page flow v)
     (λ rest. ap (λ (z : List Item). letter m ∷ z) (standing_behind quoted page flow v d rest t refl (omega (arith, w)))) p
 
-not_past : (width k n : ℕ) → k + (2 + n) ≤ width → nat_lt width (k + 1) ≡ false
-not_past width k n h = grind (arith, nat_tests, h)
-
 -- behind a character and what may be a line
 pub puts_wrapped : (quoted : Bool) (page : Page) (flow : Bool) (m : ℕ) (v : List ℕ) (k : LineBreak)
     (n : ℕ) (a b : Output) → Stands quoted v
     → a.cursor.column + (2 + length (standing quoted v)) ≤ page.width
     → Puts a b (letters (m ∷ 32 ∷ standing quoted v))
     → Puts a b (char m ▹ (wrap page.width k n ▹ standing_text quoted page flow v))
-unfolding letters
 puts_wrapped quoted page flow m v k n a b t w p =
-    let d : Cursor = record { column = a.cursor.column + 1; white = false; bare = false; kept = a.cursor.kept } in
-    puts_as a b (letters (m ∷ 32 ∷ standing quoted v)) (char m ▹ (wrap page.width k n ▹ standing_text quoted page flow v))
-    (λ rest. ap (λ (z : List Item). letter m ∷ z) (cond_false (nat_lt page.width (a.cursor.column + 1)) _ _ (not_past page.width a.cursor.column (length (standing quoted v)) w) ∙ standing_behind quoted page flow v d rest t refl (omega (arith, w)))) p
+    puts_as a b (char m ▹ standing_text quoted page flow v) (char m ▹ (wrap page.width k n ▹ standing_text quoted page flow v))
+    (λ rest. ap (λ (z : List Item). letter m ∷ z) (cond_false (nat_lt page.width (a.cursor.column + 1)) _ _ (le-ltb page.width (a.cursor.column + 1) (omega (arith, w)))))
+    (puts_led quoted page flow m v a b t w p)
 
 item_at : (quoted : Bool) (page : Page) (flow : Bool) (m : ℕ) (v : List ℕ) (c : Cursor)
     (rest : Rest) → Stands quoted v → c.white ≡ true
@@ -224,45 +201,31 @@ puts_line_key quoted page flow v k n a b t w p =
 abbrev beside : Bool → List ℕ → List ℕ → List ℕ
 beside quoted plain framed = if quoted then framed else plain
 
-pub size_by : (v : List ℕ) → length v + 2 ≡ length (34 ∷ (v ++ 34 ∷ []))
-size_by v = let more = length-append v (34 ∷ []) in omega (arith, more)
+pub size_by : (quoted : Bool) (v : List ℕ) (n : ℕ) → n ≡ (if quoted then 2 else 0)
+    → length v + n ≡ length (standing quoted v)
+size_by true v n e = let more = length-append v (34 ∷ []) in omega (arith, more, e)
+size_by false v n e = omega (arith, e)
 
 pub standing_few : (quoted : Bool) (pre framed f e : List ℕ) → f ≡ beside quoted pre framed
     → e ≡ beside quoted [] (34 ∷ []) → framed ≡ pre ++ 34 ∷ [] → length pre ≤ 2
     → length f + length e ≤ 8
-standing_few true pre framed f e p q r l =
-    let front : f ≡ pre ++ 34 ∷ [] = p ∙ r in
-    let behind : e ≡ 34 ∷ [] = q in
-    let more = length-append pre (34 ∷ []) in
-    rw (front, behind) (omega (arith, l, more))
-standing_few false pre framed f e p q r l =
-    let front : f ≡ pre = p in
-    let behind : e ≡ [] = q in
-    rw (front, behind) (omega (arith, l))
+standing_few true pre framed f e p q r l = let more = length-append pre (34 ∷ []) in rw (p ∙ r, q) (omega (arith, l, more))
+standing_few false pre framed f e p q r l = rw (p, q) (omega (arith, l))
 
 pub standing_some : (quoted : Bool) (pre framed f v : List ℕ) → f ≡ beside quoted pre framed
     → framed ≡ pre ++ 34 ∷ [] → Stands quoted v → 0 < length f + length v
-standing_some true pre framed f v p r t =
-    let front : f ≡ pre ++ 34 ∷ [] = p ∙ r in
-    let more = length-append pre (34 ∷ []) in
-    rw front (omega (arith, more))
+standing_some true pre framed f v p r t = let more = length-append pre (34 ∷ []) in rw (p ∙ r) (omega (arith, more))
 standing_some false pre framed f v p r t = let some = tame_some v t in omega (arith, some)
 
 joined_is : (quoted : Bool) (pre framed f v e : List ℕ) → f ≡ beside quoted pre framed
     → e ≡ beside quoted [] (34 ∷ []) → framed ≡ pre ++ 34 ∷ []
     → f ++ (v ++ e) ≡ pre ++ standing quoted v
-joined_is true pre framed f v e p q r =
-    let front : f ≡ pre ++ 34 ∷ [] = p ∙ r in
-    let behind : e ≡ 34 ∷ [] = q in
-    rw (front, behind) (append_assoc pre (34 ∷ []) (v ++ 34 ∷ []))
-joined_is false pre framed f v e p q r =
-    let front : f ≡ pre = p in
-    let behind : e ≡ [] = q in
-    rw (front, behind) (ap (λ (t : List ℕ). pre ++ t) (append-nil v))
+joined_is true pre framed f v e p q r = rw (p ∙ r, q) (append_assoc pre (34 ∷ []) (v ++ 34 ∷ []))
+joined_is false pre framed f v e p q r = rw (p, q) (ap (λ (t : List ℕ). pre ++ t) (append-nil v))
 
 bytes_ascii : (quoted : Bool) (v : List ℕ) → Stands quoted v → IsAscii (standing quoted v)
 bytes_ascii true v t = even_ascii v t
-bytes_ascii false v t = calm_ascii 0 v t.calm
+bytes_ascii false v t = shown_ascii is_calm calm_shown v t.calm
 
 pub standing_ascii : (quoted : Bool) (pre framed f v e : List ℕ) → f ≡ beside quoted pre framed
     → e ≡ beside quoted [] (34 ∷ []) → framed ≡ pre ++ 34 ∷ [] → IsAscii pre → Stands quoted v
@@ -278,21 +241,17 @@ puts_standing quoted pre framed f v e a b p q r put =
     let P : List ℕ → Type 0 = λ t. Puts a b (letters t) in
     subst P (joined_is quoted pre framed f v e p q r) put
 
-pub lead_signs : (item : Bool) (m : Option ℕ) → m ≡ (if item then Some 45 else None)
-    → marks m ++ marks None ≡ beside item [] (45 ∷ 32 ∷ [])
+pub lead_signs : (item : Bool) (m : Option ℕ) → m ≡ then_some item 45
+    → marks m ++ marks None ≡ lead item
 lead_signs true m e = rw e refl
 lead_signs false m e = rw e refl
 
-pub lead_ascii : (item : Bool) (pre : List ℕ) → pre ≡ beside item [] (45 ∷ 32 ∷ []) → IsAscii pre
-lead_ascii true pre p = let P : List ℕ → Type 0 = λ z. IsAscii z in subst P (sym p) (IsAscii-cons 45 (32 ∷ []) (omega arith) (IsAscii-cons 32 [] (omega arith) IsAscii-nil))
-lead_ascii false pre p = let P : List ℕ → Type 0 = λ z. IsAscii z in subst P (sym p) IsAscii-nil
-
-lead_is : (item : Bool) (pre : List ℕ) → pre ≡ beside item [] (45 ∷ 32 ∷ []) → pre ≡ lead item
-lead_is true pre p = p
-lead_is false pre p = p
+pub lead_ascii : (item : Bool) → IsAscii (lead item)
+lead_ascii true = IsAscii-cons 45 (32 ∷ []) (omega arith) (IsAscii-cons 32 [] (omega arith) IsAscii-nil)
+lead_ascii false = IsAscii-nil
 
 pub puts_behind_line : (item quoted : Bool) (m : Option ℕ) (f v e : List ℕ) (k : LineBreak) (n : ℕ)
-    (a b : Output) → m ≡ (if item then Some 45 else None) → f ≡ beside quoted [] (34 ∷ [])
+    (a b : Output) → m ≡ then_some item 45 → f ≡ beside quoted [] (34 ∷ [])
     → e ≡ beside quoted [] (34 ∷ [])
     → Puts a b (line k n ▹ (letters (marks m ++ marks None) ▹ letters (f ++ (v ++ e))))
     → Puts a b (line k n ▹ letters (lead item ++ standing quoted v))
@@ -301,4 +260,4 @@ puts_behind_line item quoted m f v e k n a b l p q put =
     let Q : List ℕ → Type 0 = λ t. Puts a b (line k n ▹ (letters (lead item) ▹ letters t)) in
     puts_as a b (line k n ▹ (letters (lead item) ▹ letters (standing quoted v))) (line k n ▹ letters (lead item ++ standing quoted v))
     (λ rest. line_lands k n (letters (lead item ++ standing quoted v)) (letters (lead item) ▹ letters (standing quoted v)) rest (λ kept. letters_both (lead item) (standing quoted v) (record { column = n; white = true; bare = true; kept = kept }) rest) a.cursor)
-    (subst Q (joined_is quoted [] (34 ∷ []) f v e p q refl) (subst P (lead_is item _ (lead_signs item m l)) put))
+    (subst Q (joined_is quoted [] (34 ∷ []) f v e p q refl) (subst P (lead_signs item m l) put))

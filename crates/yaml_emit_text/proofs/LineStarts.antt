@@ -68,13 +68,7 @@ pub quoted_worded : (n : ℕ) (page : Page) (v : List ℕ) → IsLined n page.wi
 unfolding Worded
 quoted_worded n page v h = λ c rest l. quoted_by n page v c rest h (omega (arith, l))
 
--- behind the word `!!str`: a space comes between
-behind_tag : (n : ℕ) (page : Page) (v : List ℕ) (c : Cursor) (rest : Rest) → IsLined n page.width v
-    → c.column ≤ n + 14 → c.white ≡ false
-    → double_quoted page (chars v) c rest ≡ letters (32 ∷ 34 ∷ (v ++ 34 ∷ [])) c rest
-behind_tag n page v c rest h l w = quoted_by n page v c rest h l ∙ parted (34 ∷ (v ++ 34 ∷ [])) c rest (omega arith) w
-
--- its letters and the text behind them
+-- the letters of `!!str` and the text behind them: a space comes between
 tag_letters : (n : ℕ) (page : Page) (v : List ℕ) (c : Cursor) (rest : Rest) → IsLined n page.width v
     → c.column ≤ n + 5
     → letters (33 ∷ 33 ∷ 115 ∷ 116 ∷ 114 ∷ []) c (λ d. double_quoted page (chars v) d rest)
@@ -82,7 +76,7 @@ tag_letters : (n : ℕ) (page : Page) (v : List ℕ) (c : Cursor) (rest : Rest) 
 unfolding letters
 tag_letters n page v c rest h l =
     let behind : Cursor = record { column = c.column + 1 + 1 + 1 + 1 + 1; white = false; bare = false; kept = c.kept } in
-    ap (λ (t : List Item). letter 33 ∷ letter 33 ∷ letter 115 ∷ letter 116 ∷ letter 114 ∷ t) (behind_tag n page v behind rest h (omega (arith, l)) refl)
+    ap (λ (t : List Item). letter 33 ∷ letter 33 ∷ letter 115 ∷ letter 116 ∷ letter 114 ∷ t) (quoted_by n page v behind rest h (omega (arith, l)) ∙ parted (34 ∷ (v ++ 34 ∷ [])) behind rest (omega arith) refl)
 
 -- the same from a word's beginning
 tagged_by : (white : Bool) (n : ℕ) (page : Page) (v : List ℕ) (c : Cursor) (rest : Rest)

@@ -1,26 +1,13 @@
 -- Walks that look for something in a value.
-use Rattle.std.proofs.Common.{◌≡◌, ℕ, List, [], ◌∷◌, ◌++◌, Bool, true, false, cond, refl, sym, ◌∙◌, ap}
+use Rattle.std.proofs.Common.{◌≡◌, ℕ, List, [], ◌∷◌, ◌++◌, Bool, true, refl, sym, ◌∙◌, ap}
 use Rattle.std.proofs.Math.Bool.{or-false}
 use Rattle.yaml_emit_text.specs.declared.page.Seen.{Seen}
 use Rattle.yaml_emit_sink.specs.Text.{is_break}
-use Rattle.yaml_emit_text.specs.Quoted.{first}
-use Rattle.yaml_emit_text.specs.Style.{somewhere, last_or, seen, looked, joined}
-use Rattle.yaml_emit_text.specs.Scalars.{behind_breaks, ends_in_break, chomp, chomp_of}
+use Rattle.yaml_emit_text.specs.Quoted.{first, is_empty}
+use Rattle.std.specs.Prelude.{◌||◌}
+use Rattle.yaml_emit_text.specs.Style.{somewhere, last_or, seen, looked, joined, allowed_text, allowed}
+use Rattle.yaml_emit_text.specs.Scalars.{ends_in_break, chomp, chomp_of}
 use Rattle.yaml_emit_text.proofs.Bools.{or_assoc}
-
-pub breaks_more : (n : ℕ) (left xs : List ℕ) (y : ℕ) → left ≡ y ∷ xs → n ≡ behind_breaks left
-    → is_break y ≡ true → n ≡ behind_breaks xs
-unfolding behind_breaks
-breaks_more n left xs y e h f = h ∙ ap behind_breaks e ∙ ap (λ v. cond v (behind_breaks xs) y) f
-
-pub breaks_found : (n : ℕ) (left xs : List ℕ) (y : ℕ) → left ≡ y ∷ xs → n ≡ behind_breaks left
-    → is_break y ≡ false → y ≡ n
-unfolding behind_breaks
-breaks_found n left xs y e h f = sym (h ∙ ap behind_breaks e ∙ ap (λ v. cond v (behind_breaks xs) y) f)
-
-pub breaks_none : (n : ℕ) (left : List ℕ) → left ≡ [] → n ≡ behind_breaks left → 32 ≡ n
-unfolding behind_breaks
-breaks_none n left e h = sym (h ∙ ap behind_breaks e)
 
 chomp_behind : (broken last : Bool) (z y : ℕ) (xs : List ℕ) → last ≡ is_break z
     → chomp broken last (xs ++ y ∷ []) ≡ chomp_of (is_break (last_or z xs)) (is_break y)
@@ -34,10 +21,6 @@ pub chomp_ends : (value front : List ℕ) (y : ℕ) (broken last : Bool) → val
     → chomp_of broken last ≡ chomp true true value
 chomp_ends value front y broken last v b l = ap (λ t. chomp_of t last) b ∙ ap (chomp_of (ends_in_break front)) l ∙ sym (ap (chomp true true) v ∙ chomp_behind true true 10 y front refl)
 
-pub chomp_none : (value : List ℕ) → value ≡ [] → chomp_of true true ≡ chomp true true value
-unfolding chomp
-chomp_none value v = sym (ap (chomp true true) v)
-
 last_behind : (a y : ℕ) (xs : List ℕ) → last_or a (xs ++ y ∷ []) ≡ y
 unfolding last_or
 last_behind a y [] = refl
@@ -46,10 +29,6 @@ last_behind a y (x ∷ xs) = last_behind x y xs
 pub ends_by : (text front : List ℕ) (y : ℕ) → text ≡ front ++ y ∷ []
     → is_break y ≡ ends_in_break text
 ends_by text front y e = sym (ap (λ t. is_break (last_or 10 t)) e ∙ ap is_break (last_behind 10 y front))
-
-pub ends_none : (text : List ℕ) → text ≡ [] → true ≡ ends_in_break text
-unfolding last_or
-ends_none text e = sym (ap (λ t. is_break (last_or 10 t)) e)
 
 joined_assoc : (a b c : Seen) → joined a (joined b c) ≡ joined (joined a b) c
 joined_assoc a b c = rw (or_assoc a.special b.special c.special, or_assoc a.broken b.broken c.broken, or_assoc a.not_plain b.not_plain c.not_plain, or_assoc a.not_flow b.not_flow c.not_flow) refl
@@ -76,11 +55,13 @@ pub look_end : (k all : Seen) (unicode : Bool) (before : ℕ) (left : List ℕ) 
     → k ≡ joined all (looked unicode before left) → all ≡ k
 look_end k all unicode before left e h = sym (h ∙ ap (λ t. joined all (looked unicode before t)) e ∙ looked_none all unicode before)
 
-pub last_more : (n before y : ℕ) (left xs : List ℕ) → left ≡ y ∷ xs → n ≡ last_or before left
-    → n ≡ last_or y xs
-unfolding last_or
-last_more n before y left xs e h = h ∙ ap (last_or before) e
-
-pub last_end : (n before : ℕ) (left : List ℕ) → left ≡ [] → n ≡ last_or before left → before ≡ n
-unfolding last_or
-last_end n before left e h = sym (h ∙ ap (last_or before) e)
+-- an empty value may be plain
+pub allowed_whole : (unicode : Bool) (value : List ℕ) → record {
+  plain = is_empty value || (allowed_text unicode value).plain;
+  flow_plain = (allowed_text unicode value).flow_plain;
+  single = (allowed_text unicode value).single;
+  block = (allowed_text unicode value).block;
+} ≡ allowed unicode value
+unfolding allowed somewhere last_or
+allowed_whole unicode [] = refl
+allowed_whole unicode (c ∷ cs) = refl

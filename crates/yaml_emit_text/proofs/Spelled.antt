@@ -1,19 +1,21 @@
 -- Double quoted text is a spelling.
-use Rattle.std.proofs.Common.{◌≡◌, ◌≢◌, ℕ, zero, suc, ◌+◌, ◌<◌, List, [], ◌∷◌, ◌++◌, Bool, true, false, refl, sym, subst, ◌∙◌, ap}
-use Rattle.std.specs.Prelude.{if◌then◌else◌, replicate, not, ◌==◌, ◌||◌, ◌&&◌}
+use Rattle.std.proofs.Common.{◌≡◌, ◌≢◌, ℕ, zero, suc, ◌+◌, ◌<◌, List, [], ◌∷◌, ◌++◌, Bool, true, false, refl, sym, ◌∙◌, ap, arith}
+use Rattle.std.specs.Prelude.{if◌then◌else◌, replicate, not, ◌==◌, ◌&&◌}
 use Rattle.std.specs.Str.{all_scalars}
-use Rattle.std.proofs.lemmas.Bool.{and_parts, and_from, not-true, eqb-true, ne_eqb, eqb-false, or_parts, lt-ltb}
+use Rattle.std.proofs.lemmas.Bool.{and_parts, and_from, not-true, eqb-true, ne_eqb, eqb-false, or_parts, or_from, lt-ltb}
+use Rattle.std.proofs.lemmas.Bool.Decides.{nat_tests}
 use lib.Utf8.{scalar}
 use Rattle.yaml_emit_sink.specs.declared.Cursor.{Cursor}
 use Rattle.yaml_emit_text.specs.declared.page.Page.{Page}
 use Rattle.yaml_emit_sink.specs.declared.LineBreak.{LineBreak}
 use Rattle.yaml_emit_sink.specs.declared.LineBreak.TheVariants.{Lf, Cr, CrLf}
 use Rattle.yaml_emit_sink.specs.Text.{Item, letter, is_break}
-use Rattle.yaml_emit_sink.specs.Layout.{Layout, Rest, choose, when, char, letters, blanks, new_line, is_past}
-use Rattle.yaml_emit_text.specs.Quoted.{needs_escape, escape_text, first, is_empty, may_fold, fold as fold_layout, escaped, quoted_char, quoted_body}
+use Rattle.yaml_emit_sink.specs.Layout.{Rest, when, char, letters, blanks, new_line, is_past}
+use Rattle.yaml_emit_text.specs.Quoted.{is_printable, needs_escape, escape_text, first, is_empty, may_fold, fold as fold_layout, quoted_char, quoted_body}
 use Rattle.yaml_emit_text.specs.Spelling.{SpelledPart, raw, escape, escaped_space, fold, break_text, spelled, meant, spelling, meaning, is_raw_blank, is_fold, may_follow, may_stand, IsSpelling, in_front, WritesSpelling}
 use Rattle.yaml_emit_sink.proofs.Sinks.{cond_false, cond_true}
 use Rattle.yaml_emit_text.proofs.Bools.{bool_cases}
+use Rattle.yaml_emit_text.proofs.Escapes.{char_is}
 
 -- Layouts that write characters, and the cursor behind them.
 
@@ -89,36 +91,6 @@ fold_is page cs c rest =
     ∙ ap (in_front (replicate page.indentation 32)) (slash_is (first cs == 32) (after_blanks page.indentation (line_start c)) rest))
     ∙ sym (in_front_append (break_text page.line_break) (replicate page.indentation 32) (slashed (first cs == 32) (rest (after_fold page cs c))))
 
--- what a character is written as
-
-char_fold : (page : Page) (before x : ℕ) (cs : List ℕ) (c : Cursor) (rest : Rest)
-    → may_fold page before x cs ≡ true → is_past page.width c ≡ true
-    → quoted_char page before x cs c rest ≡ fold_layout page cs c rest
-unfolding quoted_char
-char_fold page before x cs c rest m p =
-    ap (λ (a : Layout). a c rest) (cond_true (may_fold page before x cs) (choose (is_past page.width) (fold_layout page cs) (char x)) (escaped page.unicode x) m) ∙ cond_true (is_past page.width c) _ _ p
-
-char_not_past : (page : Page) (before x : ℕ) (cs : List ℕ) (c : Cursor) (rest : Rest)
-    → may_fold page before x cs ≡ true → is_past page.width c ≡ false
-    → quoted_char page before x cs c rest ≡ char x c rest
-unfolding quoted_char
-char_not_past page before x cs c rest m p =
-    ap (λ (a : Layout). a c rest) (cond_true (may_fold page before x cs) (choose (is_past page.width) (fold_layout page cs) (char x)) (escaped page.unicode x) m) ∙ cond_false (is_past page.width c) _ _ p
-
-char_escape : (page : Page) (before x : ℕ) (cs : List ℕ) (c : Cursor) (rest : Rest)
-    → may_fold page before x cs ≡ false → needs_escape page.unicode x ≡ true
-    → quoted_char page before x cs c rest ≡ letters (escape_text x) c rest
-unfolding quoted_char
-char_escape page before x cs c rest m n =
-    ap (λ (a : Layout). a c rest) (cond_false (may_fold page before x cs) (choose (is_past page.width) (fold_layout page cs) (char x)) (escaped page.unicode x) m ∙ cond_true (needs_escape page.unicode x) (letters (escape_text x)) (char x) n)
-
-char_plain : (page : Page) (before x : ℕ) (cs : List ℕ) (c : Cursor) (rest : Rest)
-    → may_fold page before x cs ≡ false → needs_escape page.unicode x ≡ false
-    → quoted_char page before x cs c rest ≡ char x c rest
-unfolding quoted_char
-char_plain page before x cs c rest m n =
-    ap (λ (a : Layout). a c rest) (cond_false (may_fold page before x cs) (choose (is_past page.width) (fold_layout page cs) (char x)) (escaped page.unicode x) m ∙ cond_false (needs_escape page.unicode x) (letters (escape_text x)) (char x) n)
-
 -- A rest of a value behind a part, and behind a backslash where one was written for its space.
 record Left (page : Page) (before : ℕ) (c : Cursor) (slash : Bool) (last : SpelledPart) (value : List ℕ) : Type 0 where
   parts : List SpelledPart
@@ -145,70 +117,32 @@ record FoldNeeds (before x : ℕ) (cs : List ℕ) : Type 0 where
 fold_needs : (page : Page) (before x : ℕ) (cs : List ℕ) → may_fold page before x cs ≡ true
     → FoldNeeds before x cs
 fold_needs page before x cs e =
-    let a = (and_parts page.cuts (x == 32 && (not (before == 32) && not (is_empty cs))) e).1 in
-    let b = (and_parts (x == 32) (not (before == 32) && not (is_empty cs)) a).1 in
-    record {
-      space = eqb-true x 32 (and_parts (x == 32) (not (before == 32) && not (is_empty cs)) a).0;
-      behind = eqb-false before 32 (not-true (before == 32) (and_parts (not (before == 32)) (not (is_empty cs)) b).0);
-      more = not-true (is_empty cs) (and_parts (not (before == 32)) (not (is_empty cs)) b).1;
-    }
+    let (space, alone) = and_parts (x == 32) _ (and_parts page.cuts _ e).1 in
+    let (behind, more) = and_parts (not (before == 32)) _ alone in
+    record { space = eqb-true x 32 space; behind = eqb-false before 32 (not-true (before == 32) behind); more = not-true (is_empty cs) more }
 
-space_needs_none : (unicode : Bool) → needs_escape unicode 32 ≡ false
+space_needs_none : (unicode : Bool) (x : ℕ) → x ≡ 32 → needs_escape unicode x ≡ false
 unfolding needs_escape
-space_needs_none true = refl
-space_needs_none false = refl
-
-both_false : (a b : Bool) → a ≡ false → b ≡ false → (a || b) ≡ false
-both_false false b p q = q
-both_false true b p q = absurd (cc)
-
-tab_needs : (unicode : Bool) → needs_escape unicode 9 ≡ true
-unfolding needs_escape
-tab_needs true = refl
-tab_needs false = refl
-
-zero_needs : (unicode : Bool) → needs_escape unicode 0 ≡ true
-unfolding needs_escape
-zero_needs true = refl
-zero_needs false = refl
-
-raw_no_zero : (unicode : Bool) (c : ℕ) → needs_escape unicode c ≡ false → (c == 0) ≡ false
-raw_no_zero unicode c e =
-    bool_cases (c == 0)
-    (λ t. let P : ℕ → Type 0 = λ k. needs_escape unicode k ≡ false in
-    let g : needs_escape unicode 0 ≡ false = subst P (eqb-true c 0 t) e in
-    let h = zero_needs unicode in absurd (cc (sym h ∙ g)))
-    (λ f. f)
-
-four_stand : (s a b d f : Bool) → s ≡ true → a ≡ false → b ≡ false → d ≡ false → f ≡ false
-    → (s && not (a || b || d || f)) ≡ true
-four_stand s a b d f o p q r t = rw (o, p, q, r, t) refl
+space_needs_none true x e = rw e refl
+space_needs_none false x e = rw e refl
 
 raw_stands : (unicode : Bool) (c : ℕ) → scalar c ≡ true → needs_escape unicode c ≡ false
     → may_stand (raw c) ≡ true
 unfolding needs_escape
 raw_stands unicode c s e =
-    let no_slash = (or_parts _ (c == 92) e).1 in
-    let a = (or_parts _ (c == 92) e).0 in
-    let no_quote = (or_parts _ (c == 34) a).1 in
-    let b = (or_parts _ (c == 34) a).0 in
-    let no_break = (or_parts _ (is_break c) b).1 in
-    four_stand (scalar c) (is_break c) (c == 34) (c == 92) (c == 0) s no_break no_quote no_slash (raw_no_zero unicode c e)
+    let (a, no_slash) = or_parts _ (c == 92) e in
+    let (b, no_quote) = or_parts _ (c == 34) a in
+    let (d, no_break) = or_parts _ (is_break c) b in
+    let printable = (or_parts (not (is_printable c)) _ d).0 in
+    let no_zero : (c == 0) ≡ false = grind (arith, nat_tests, printable) in
+    rw (s, no_break, no_quote, no_slash, no_zero) refl
 
 raw_no_tab : (unicode : Bool) (c : ℕ) → needs_escape unicode c ≡ false → c ≢ 32
     → is_raw_blank (raw c) ≡ false
+unfolding needs_escape
 raw_no_tab unicode c e n =
-    let no_space = ne_eqb c 32 n in
-    let no_tab : (c == 9) ≡ false = bool_cases (c == 9)
-    (λ t. let P : ℕ → Type 0 = λ k. needs_escape unicode k ≡ false in
-    let Q : needs_escape unicode 9 ≡ true = tab_needs unicode in
-    let R : needs_escape unicode 9 ≡ false = subst P (eqb-true c 9 t) e in absurd (cc (sym Q ∙ R)))
-    (λ f. f) in
-    both_false (c == 32) (c == 9) no_space no_tab
-
-follow_fold : (last : SpelledPart) (k : LineBreak) (n : ℕ) → is_raw_blank last ≡ false
-    → is_fold last ≡ false → may_follow last (fold k n) ≡ true
-follow_fold last k n a b = rw (a, b) refl
+    let printable = (or_parts (not (is_printable c)) _ (or_parts _ (is_break c) (or_parts _ (c == 34) (or_parts _ (c == 92) e).0).0).0).0 in
+    or_from (c == 32) (c == 9) (ne_eqb c 32 n) (grind (arith, nat_tests, printable))
 
 no_and : (a : Bool) → not (a && false) ≡ true
 no_and true = refl
@@ -218,15 +152,10 @@ follow_other : (last p : SpelledPart) → is_fold p ≡ false → is_raw_blank p
     → may_follow last p ≡ true
 follow_other last p a b = rw (a, b) (no_and (is_fold last))
 
-follow_raw : (last p : SpelledPart) → is_fold p ≡ false → is_fold last ≡ false
-    → may_follow last p ≡ true
-follow_raw last p a b = rw (a, b) refl
-
 fold_means : (p : SpelledPart) → is_fold p ≡ true → meant p ≡ 32
 fold_means (fold b n) e = refl
-fold_means (raw c) e = absurd (cc)
-fold_means (escape c) e = absurd (cc)
 fold_means escaped_space e = refl
+fold_means _ e = absurd (cc)
 
 -- a part more in front
 part_more : (page : Page) (before x : ℕ) (c d : Cursor) (cs : List ℕ) (slash slash' : Bool)
@@ -244,54 +173,14 @@ part_more page before x c d cs slash slash' last p follow stand same step r = re
   means = ap (λ k. k ∷ cs) (sym same) ∙ ap (λ t. meant p ∷ t) r.means;
 }
 
-slashed_by : (b : Bool) (t : List Item) → b ≡ false → slashed b t ≡ t
-slashed_by b t e = cond_false b (letter 92 ∷ t) t e
-
-slashed_is : (b : Bool) (t : List Item) → b ≡ true → slashed b t ≡ letter 92 ∷ t
-slashed_is b t e = cond_true b (letter 92 ∷ t) t e
-
--- steps of a part
-
-step_fold : (page : Page) (before x : ℕ) (c : Cursor) (cs : List ℕ) (slash : Bool) → slash ≡ false
-    → may_fold page before x cs ≡ true → is_past page.width c ≡ true
-    → (rest : Rest)
-    → slashed slash (quoted_char page before x cs c rest)
-    ≡ in_front (spelled (fold page.line_break page.indentation))
-    (slashed (first cs == 32) (rest (after_fold page cs c)))
-step_fold page before x c cs slash s m p rest = slashed_by slash _ s ∙ char_fold page before x cs c rest m p ∙ fold_is page cs c rest
-
-step_char : (page : Page) (before x : ℕ) (c : Cursor) (cs : List ℕ) (slash : Bool) → slash ≡ false
-    → ((rest : Rest) → quoted_char page before x cs c rest ≡ char x c rest)
-    → (rest : Rest)
-    → slashed slash (quoted_char page before x cs c rest)
-    ≡ in_front (spelled (raw x)) (slashed false (rest (moved_by c)))
-unfolding in_front
-step_char page before x c cs slash s plain rest = slashed_by slash _ s ∙ plain rest
-
-step_slash : (page : Page) (before x : ℕ) (c : Cursor) (cs : List ℕ) (slash : Bool) → slash ≡ true
-    → x ≡ 32 → ((rest : Rest) → quoted_char page before x cs c rest ≡ char x c rest)
-    → (rest : Rest)
-    → slashed slash (quoted_char page before x cs c rest)
-    ≡ in_front (spelled escaped_space) (slashed false (rest (moved_by c)))
-unfolding in_front
-step_slash page before x c cs slash s e plain rest = slashed_is slash _ s ∙ ap (λ t. letter 92 ∷ t) (plain rest) ∙ ap (λ k. letter 92 ∷ letter k ∷ rest (moved_by c)) e
-
-step_escape : (page : Page) (before x : ℕ) (c : Cursor) (cs : List ℕ) (slash : Bool) → slash ≡ false
-    → may_fold page before x cs ≡ false → needs_escape page.unicode x ≡ true
-    → (rest : Rest)
-    → slashed slash (quoted_char page before x cs c rest)
-    ≡ in_front (spelled (escape x)) (slashed false (rest (after_letters (escape_text x) c)))
-step_escape page before x c cs slash s m n rest = slashed_by slash _ s ∙ char_escape page before x cs c rest m n ∙ letters_are (escape_text x) c rest
-
 -- a space that is written as it is, or behind a backslash
 space_char : (page : Page) (before x : ℕ) (cs : List ℕ) (c : Cursor) → x ≡ 32
     → (may_fold page before x cs && is_past page.width c) ≡ false → (rest : Rest)
     → quoted_char page before x cs c rest ≡ char x c rest
 space_char page before x cs c e f rest =
-    let P : ℕ → Type 0 = λ k. needs_escape page.unicode k ≡ false in
     bool_cases (may_fold page before x cs)
-    (λ m. bool_cases (is_past page.width c) (λ p. let g = and_from (may_fold page before x cs) (is_past page.width c) m p in absurd (cc (sym g ∙ f))) (λ p. char_not_past page before x cs c rest m p))
-    (λ m. char_plain page before x cs c rest m (subst P (sym e) (space_needs_none page.unicode)))
+    (λ m. bool_cases (is_past page.width c) (λ p. let g = and_from (may_fold page before x cs) (is_past page.width c) m p in absurd (cc (sym g ∙ f))) (λ p. char_is page before x cs c rest true false _ m p refl))
+    (λ m. char_is page before x cs c rest false _ false m refl (space_needs_none page.unicode x e))
 
 no_fold : (page : Page) (before x : ℕ) (cs : List ℕ) → (x == 32) ≡ false
     → may_fold page before x cs ≡ false
@@ -306,35 +195,32 @@ left : (page : Page) (before : ℕ) (c : Cursor) (slash : Bool) (last : SpelledP
 unfolding IsSpelling quoted_body spelling meaning in_front
 left page before c slash last [] good deep h =
     let unfolded : is_fold last ≡ false = bool_cases (is_fold last) (λ t. let k = (h.folded t).1 in absurd (cc k)) (λ f. f) in
-    record { parts = []; behind = c; right = unfolded; text = λ rest. slashed_by slash (rest c) (h.unfolded unfolded); means = refl }
+    record { parts = []; behind = c; right = unfolded; text = λ rest. cond_false slash _ _ (h.unfolded unfolded); means = refl }
 left page before c slash last (x ∷ cs) good deep h =
-    let one : scalar x ≡ true = (and_parts (scalar x) (all_scalars cs) good).0 in
-    let more : all_scalars cs ≡ true = (and_parts (scalar x) (all_scalars cs) good).1 in
+    let (one, more) = and_parts (scalar x) (all_scalars cs) good in
     bool_cases (may_fold page before x cs && is_past page.width c)
     (λ f.
-    let m = (and_parts (may_fold page before x cs) (is_past page.width c) f).0 in
-    let p = (and_parts (may_fold page before x cs) (is_past page.width c) f).1 in
+    let (m, p) = and_parts (may_fold page before x cs) (is_past page.width c) f in
     let needs = fold_needs page before x cs m in
     let unfolded : is_fold last ≡ false = bool_cases (is_fold last) (λ t. absurd (needs.behind (sym h.same ∙ fold_means last t))) (λ u. u) in
     let unblank : is_raw_blank last ≡ false = bool_cases (is_raw_blank last) (λ t. absurd (needs.behind (h.blank t))) (λ u. u) in
     part_more page before x c (after_fold page cs c) cs slash (first cs == 32) last (fold page.line_break page.indentation)
-    (follow_fold last page.line_break page.indentation unblank unfolded) (lt-ltb 0 page.indentation deep) (sym needs.space)
-    (step_fold page before x c cs slash (h.unfolded unfolded) m p)
+    (rw (unblank, unfolded) refl) (lt-ltb 0 page.indentation deep) (sym needs.space)
+    (λ rest. cond_false slash _ _ (h.unfolded unfolded) ∙ char_is page before x cs c rest true true _ m p refl ∙ fold_is page cs c rest)
     (left page x (after_fold page cs c) (first cs == 32) (fold page.line_break page.indentation) cs more deep
     (record { same = sym needs.space; folded = λ t. (refl, needs.more); unfolded = λ t. absurd (cc); blank = λ t. needs.space })))
     (λ f.
     bool_cases (x == 32)
     (λ sp.
     let space = eqb-true x 32 sp in
-    let P : ℕ → Type 0 = λ k. needs_escape page.unicode k ≡ false in
     bool_cases (is_fold last)
     (λ t.
     part_more page before x c (moved_by c) cs slash false last escaped_space (follow_other last escaped_space refl refl) refl (sym space)
-    (step_slash page before x c cs slash ((h.folded t).0 ∙ sp) space (space_char page before x cs c space f))
+    (λ rest. cond_true slash _ _ ((h.folded t).0 ∙ sp) ∙ ap (λ t. letter 92 ∷ t) (space_char page before x cs c space f rest) ∙ ap (λ k. letter 92 ∷ letter k ∷ rest (moved_by c)) space)
     (left page x (moved_by c) false escaped_space cs more deep (record { same = sym space; folded = λ e. absurd (cc); unfolded = λ e. refl; blank = λ e. absurd (cc) })))
     (λ u.
-    part_more page before x c (moved_by c) cs slash false last (raw x) (follow_raw last (raw x) refl u) (raw_stands page.unicode x one (subst P (sym space) (space_needs_none page.unicode))) refl
-    (step_char page before x c cs slash (h.unfolded u) (space_char page before x cs c space f))
+    part_more page before x c (moved_by c) cs slash false last (raw x) (rw u refl) (raw_stands page.unicode x one (space_needs_none page.unicode x space)) refl
+    (λ rest. cond_false slash _ _ (h.unfolded u) ∙ space_char page before x cs c space f rest)
     (left page x (moved_by c) false (raw x) cs more deep (record { same = refl; folded = λ e. absurd (cc); unfolded = λ e. refl; blank = λ e. space }))))
     (λ ns.
     let apart = eqb-false x 32 ns in
@@ -343,12 +229,12 @@ left page before c slash last (x ∷ cs) good deep h =
     bool_cases (needs_escape page.unicode x)
     (λ n.
     part_more page before x c (after_letters (escape_text x) c) cs slash false last (escape x) (follow_other last (escape x) refl refl) one refl
-    (step_escape page before x c cs slash unslashed m n)
+    (λ rest. cond_false slash _ _ unslashed ∙ char_is page before x cs c rest false _ true m refl n ∙ letters_are (escape_text x) c rest)
     (left page x (after_letters (escape_text x) c) false (escape x) cs more deep (record { same = refl; folded = λ e. absurd (cc); unfolded = λ e. refl; blank = λ e. absurd (cc) })))
     (λ n.
     let unblank = raw_no_tab page.unicode x n apart in
     part_more page before x c (moved_by c) cs slash false last (raw x) (follow_other last (raw x) refl unblank) (raw_stands page.unicode x one n) refl
-    (step_char page before x c cs slash unslashed (λ rest. char_plain page before x cs c rest m n))
+    (λ rest. cond_false slash _ _ unslashed ∙ char_is page before x cs c rest false _ false m refl n)
     (left page x (moved_by c) false (raw x) cs more deep (record { same = refl; folded = λ e. absurd (cc); unfolded = λ e. refl; blank = λ e. absurd (cc (sym e ∙ unblank)) })))))
 
 -- A double quoted value is written as a spelling of it.

@@ -1,15 +1,8 @@
 -- Characters of a text in UTF-8, one after another.
 use Rattle.std.proofs.Common.{◌≡◌, ℕ, List, [], ◌∷◌, ◌++◌, length, IsUtf8, sym, ◌∙◌, ap, encode_utf8, append-nil, arith}
 use Rattle.std.specs.Str.{chars}
-use Rattle.std.proofs.lemmas.Str.{encodes-chars, encodes-append, cons_from_encodes, chars_from_encodes, chars-nil}
+use Rattle.std.proofs.lemmas.Str.{encodes-chars, encodes-append, chars_from_encodes, chars-nil}
 use lib.Utf8.{encodes}
-
--- the first character is the first of the characters
-pub first_of : (bs rest : List ℕ) (c : ℕ) → IsUtf8 bs → IsUtf8 rest → bs ≡ encode_utf8 c ++ rest
-    → chars bs ≡ c ∷ chars rest
-first_of bs rest c u v e =
-    let split = cons_from_encodes (chars bs) rest c (encodes-chars bs u ∙ e) in
-    split.1 ∙ ap (λ t. c ∷ t) (chars_from_encodes split.0 rest v split.2)
 
 -- the last character is the last of the characters
 pub last_of : (bs front : List ℕ) (c : ℕ) → IsUtf8 bs → IsUtf8 front → bs ≡ front ++ encode_utf8 c

@@ -1,9 +1,9 @@
 -- A value that allows all styles.
-use Rattle.std.proofs.Common.{◌≡◌, ℕ, ◌<◌, ◌-◌, length, get_or, List, [], ◌∷◌, Bool, true, false, refl, sym, ◌∙◌, ap, arith}
+use Rattle.std.proofs.Common.{◌≡◌, ◌≢◌, ℕ, ◌-◌, length, get_or, List, [], ◌∷◌, Bool, true, false, refl, sym, ◌∙◌, ap}
 use Rattle.std.specs.Prelude.{not, ◌&&◌, ◌||◌, ◌==◌}
 use Rattle.std.specs.Str.{chars}
 use Rattle.std.proofs.Math.Bool.{and-false}
-use Rattle.std.proofs.lemmas.Bool.Decides.{nat_tests}
+use Rattle.std.proofs.lemmas.Bool.{ne_eqb}
 use Rattle.std.proofs.lemmas.List.{append-nil}
 use Rattle.yaml_emit_sink.specs.Layout.{◌▹◌, when, gap, after_text}
 use Rattle.yaml_emit_text.specs.declared.page.Page.{Page}
@@ -34,16 +34,14 @@ by_none : (a b c d e f : Bool) → a ≡ false → b ≡ false → c ≡ false �
 by_none a b c d e f p q r s t u = rw (p, q, r, s, t, u) refl
 
 -- by its first and its last byte
-pub starts : (v : List ℕ) → 0 < length v → ((b d : ℕ) → is_badly_begun (get_or v 0 0) b d ≡ false)
-    → starts_badly v ≡ false
-starts [] l h = absurd (omega (arith, l))
+pub starts : (v : List ℕ) → (length v == 0) ≡ false
+    → ((b d : ℕ) → is_badly_begun (get_or v 0 0) b d ≡ false) → starts_badly v ≡ false
+starts [] l h = absurd (cc)
 starts (x ∷ xs) l h = h (first (behind (x ∷ xs))) (first (behind (behind (x ∷ xs))))
 
-pub ends : (v : List ℕ) → 0 < length v → (get_or v (length v - 1) 0 == 32) ≡ false
+pub ends : (v : List ℕ) → (length v == 0) ≡ false → get_or v (length v - 1) 0 ≢ 32
     → ends_in_space v ≡ false
-ends v l h =
-    let some : (length v == 0) ≡ false = grind (arith, nat_tests, l) in
-    ap (λ k. k == 32) (sym (last_is 32 v some)) ∙ h
+ends v l h = ap (λ k. k == 32) (sym (last_is 32 v l)) ∙ ne_eqb (get_or v (length v - 1) 0) 32 h
 
 all_of : (u : Bool) (v : List ℕ) → IsTame v → all_allowed ≡ allowed u v
 unfolding allowed last_or is_calm somewhere

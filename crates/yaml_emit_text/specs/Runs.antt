@@ -1,5 +1,5 @@
 -- Runs of ASCII that are written as they are, and runs that allow every style.
-use Rattle.std.specs.Prelude.{ℕ, suc, ◌+◌, Bool, true, not, ◌&&◌, ◌||◌, ◌==◌, nat_le, if◌then◌else◌, List, [], ◌∷◌, ◌++◌, ◌≡◌}
+use Rattle.std.specs.Prelude.{ℕ, ◌+◌, Bool, true, not, ◌&&◌, ◌||◌, ◌==◌, nat_le, if◌then◌else◌, List, [], ◌∷◌, ◌++◌, ◌≡◌}
 use Rattle.yaml_types.specs.Ascii as ascii
 use Rattle.yaml_emit_sink.specs.declared.Cursor.{Cursor}
 use Rattle.yaml_emit_sink.specs.Layout.{Layout, Rest, ◌▹◌, letters}
@@ -7,12 +7,7 @@ use Rattle.yaml_emit_text.specs.Style.{last_or}
 use Rattle.yaml_emit_text.specs.declared.page.Page.{Page}
 use Rattle.yaml_emit_text.specs.declared.run.Bounds.{Bounds}
 
--- how many bytes in front pass a test, by their columns from a first one on
-unfoldable pub front : (ℕ → ℕ → Bool) → ℕ → List ℕ → ℕ
-front test column [] = 0
-front test column (b ∷ bs) = if test column b then suc (front test (column + 1) bs) else 0
-
--- all of them do
+-- all bytes pass a test, by their columns from a first one on
 unfoldable pub all_pass : (ℕ → ℕ → Bool) → ℕ → List ℕ → Bool
 all_pass test column [] = true
 all_pass test column (b ∷ bs) = test column b && all_pass test (column + 1) bs
@@ -23,15 +18,18 @@ runs_on e column b =
     nat_le ascii.space b && (nat_le b ascii.tilde && (not (b == e.quote)
     && (not (b == e.slash) && (not (b == ascii.space) || (not e.cuts || nat_le column e.width)))))
 
--- it stands as it is between double quotes, at any column: from `!` to `~`, but `"` and `\`
-unfoldable pub is_solid : ℕ → Bool
-is_solid b = nat_le ascii.exclamation b
+-- it stands as it is between double quotes: from a least one to `~`, but `"` and `\`
+unfoldable pub stands : ℕ → ℕ → Bool
+stands least b = nat_le least b
     && (nat_le b ascii.tilde && (not (b == ascii.quote) && not (b == ascii.backslash)))
 
--- it stands as it is between double quotes in one line: the same, or a space
-unfoldable pub is_even : ℕ → Bool
-is_even b = nat_le ascii.space b
-    && (nat_le b ascii.tilde && (not (b == ascii.quote) && not (b == ascii.backslash)))
+-- at any column: from `!` on
+abbrev pub is_solid : ℕ → Bool
+is_solid b = stands ascii.exclamation b
+
+-- in one line: the same, or a space
+abbrev pub is_even : ℕ → Bool
+is_even b = stands ascii.space b
 
 -- behind a character, what is written for a value has each run of it as it is
 abbrev pub KeepsRuns : Bounds → (ℕ → List ℕ → Layout) → ℕ → Type 0
@@ -63,7 +61,3 @@ is_calm b = nat_le ascii.space b
     && (nat_le b ascii.tilde && not (b == ascii.hash || b == ascii.comma || b == ascii.colon
     || b == ascii.question || b == ascii.open_bracket
     || b == ascii.close_bracket || b == ascii.open_brace || b == ascii.close_brace))
-
--- at any column
-abbrev pub calm : ℕ → ℕ → Bool
-calm column b = is_calm b

@@ -8,13 +8,13 @@ use Rattle.yaml_types.specs.declared.yaml_scalar_style_t.TheVariants as asked
 use Rattle.yaml_emit_sink.specs.Layout.{Layout}
 use Rattle.yaml_emit_text.specs.declared.page.Page.{Page}
 use Rattle.yaml_emit_text.specs.Quoted.{double_quoted}
-use Rattle.yaml_emit_text.specs.Runs.{all_pass, calm, is_even, is_solid}
+use Rattle.yaml_emit_text.specs.Runs.{is_calm, is_even, is_solid}
 use Rattle.yaml_emit_text.specs.Scalars.{plain}
 use Rattle.yaml_emit_text.specs.Style.{ends_in_space, starts_badly}
 
 -- each byte is calm, and the text begins well and ends in no space
 pub record IsTame (value : List ℕ) : Type 0 where
-  pub calm : all_pass calm 0 value ≡ true
+  pub calm : list_all is_calm value ≡ true
   pub starts : starts_badly value ≡ false
   pub ends : ends_in_space value ≡ false
 

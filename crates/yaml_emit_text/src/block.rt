@@ -1,15 +1,15 @@
 //! Literal and folded scalars (YAML 1.1, 9.2 and 9.3).
 
-ghost use Rattle.std.specs.Prelude.{◌≡◌, ◌≤◌, ◌+◌, length, IsUtf8, Bool, true, false, not, ◌&&◌, ◌||◌, ◌==◌, if◌then◌else◌};
+ghost use Rattle.std.specs.Prelude.{◌≡◌, ◌+◌, true, false, not, ◌&&◌, ◌||◌, ◌==◌, if◌then◌else◌};
 ghost use Rattle.yaml_types.specs.Ascii as ascii;
 ghost use Rattle.std.specs.Str.{chars};
 ghost use Rattle.yaml_emit_sink.specs.Sink.{Puts};
 ghost use Rattle.yaml_emit_sink.specs.Text.{is_break};
-ghost use Rattle.yaml_emit_sink.specs.Layout.{◌▹◌, stay, choose, when, char, break, new_line, gap, line, is_past, keep, after_block};
+ghost use Rattle.yaml_emit_sink.specs.Layout.{◌▹◌, char, break, line, keep};
 ghost use Rattle.yaml_emit_text.specs.Runs.{block_bounds};
 ghost use Rattle.yaml_emit_text.specs.Quoted.{first};
 ghost use Rattle.yaml_emit_text.specs.Style.{is_blank};
-ghost use Rattle.yaml_emit_text.specs.Scalars.{value_break, cut, behind_breaks, adds_break, cuts_block, line_blank, block_text, block_char, block_body, ends_in_break, chomp_of, chomp, chomp_mark, digit_char, digit_mark, block_header, block};
+ghost use Rattle.yaml_emit_text.specs.Scalars.{behind_breaks, adds_break, cuts_block, line_blank, block_char, block_body, ends_in_break, chomp, chomp_mark, digit_char, digit_mark, block_header, block};
 
 use crate::flow::{put_breaks, put_cut, put_line_if};
 use crate::letters::{first, is_break, split_first, split_last};
@@ -57,16 +57,6 @@ fn line_blank(blank: bool, before: char, c: char) -> bool
     }
 }
 
-fn put_block_text(sink: &mut Sink, page: Page, cuts: bool, c: char)
-    ensures { Puts sink.old sink.new (block_text page cuts c) }
-{
-    if cuts {
-        put_cut(sink, page, c);
-    } else {
-        sink.put(c);
-    }
-}
-
 // What stands before a character: the last one, and whether its line is blank so far.
 #[derive(Clone, Copy)]
 struct Behind {
@@ -86,7 +76,11 @@ fn put_block_char(sink: &mut Sink, page: Page, folded: bool, behind: Behind, c: 
         put_breaks(sink, due, page.line_break, c);
     } else {
         put_line_if(sink, is_break(before), page);
-        put_block_text(sink, page, cuts_block(folded, blank, before, c, rest), c);
+        if cuts_block(folded, blank, before, c, rest) {
+            put_cut(sink, page, c);
+        } else {
+            sink.put(c);
+        }
     }
 }
 
@@ -121,16 +115,6 @@ fn put_block_body(sink: &mut Sink, page: Page, folded: bool, value: &str)
     }
 }
 
-fn chomp_of(broken: bool, last: bool) -> Chomp
-    ensures { result ≡ chomp_of broken last }
-{
-    if last {
-        if broken { Chomp::Keep } else { Chomp::Clip }
-    } else {
-        Chomp::Strip
-    }
-}
-
 // Whether a text ends in a break; an empty one is taken to.
 fn ends_in_break(text: &str) -> bool
     ensures { result ≡ ends_in_break (chars text.now) }
@@ -146,8 +130,16 @@ fn chomp(value: &str) -> Chomp
     ensures { result ≡ chomp true true (chars value.now) }
 {
     match split_last(value) {
-        None => chomp_of(true, true),
-        Some((front, c)) => chomp_of(ends_in_break(front), is_break(c)),
+        None => Chomp::Keep,
+        Some((front, c)) => {
+            if !is_break(c) {
+                Chomp::Strip
+            } else if ends_in_break(front) {
+                Chomp::Keep
+            } else {
+                Chomp::Clip
+            }
+        }
     }
 }
 
@@ -202,28 +194,15 @@ fn put_header(sink: &mut Sink, digit: u64, folded: bool, value: &str)
     put_chomp(sink, chomp(value));
 }
 
-fn put_block(sink: &mut Sink, page: Page, digit: u64, folded: bool, value: &str)
+/// A literal or folded scalar, with a space in front where one is due: `|` or `>`, the indent's digit where the value begins with
+/// a space or a break, `-` where it ends in no break and `+` where it ends in more than one or is one, and its lines, as they are
+/// where it is literal. Folded, behind the width a space becomes a line, but not in a line that begins with a blank, nor before a
+/// space; and lines that begin with no blank are parted by a break more.
+pub fn put_block(sink: &mut Sink, page: Page, digit: u64, folded: bool, value: &str)
     ensures { Puts sink.old sink.new (block page digit folded (chars value.now)) }
 {
     put_header(sink, digit, folded, value);
     sink.put_new_line(page.line_break);
     put_block_body(sink, page, folded, value);
     sink.set_after_block();
-}
-
-/// A literal scalar, with a space in front where one is due: `|`, the indent's digit where the value begins with a space or
-/// a break, `-` where it ends in no break and `+` where it ends in more than one or is one, and its lines as they are.
-pub fn put_literal(sink: &mut Sink, page: Page, digit: u64, value: &str)
-    ensures { Puts sink.old sink.new (block page digit false (chars value.now)) }
-{
-    put_block(sink, page, digit, false, value);
-}
-
-/// A folded scalar, with a space in front where one is due: `>`, the same indicators, and its lines. Behind the width a space
-/// becomes a line, but not in a line that begins with a blank, nor before a space; and lines that begin with no blank are parted
-/// by a break more.
-pub fn put_folded(sink: &mut Sink, page: Page, digit: u64, value: &str)
-    ensures { Puts sink.old sink.new (block page digit true (chars value.now)) }
-{
-    put_block(sink, page, digit, true, value);
 }

@@ -13,7 +13,7 @@ mod solid;
 mod style;
 mod tamed;
 
-pub use block::{put_folded, put_literal};
+pub use block::put_block;
 pub use flow::{put_plain, put_single_quoted};
 pub use laws::quoted_spells;
 pub use letters::text;

@@ -1,11 +1,11 @@
 //! Double quoted scalars (YAML 1.1, 9.1.1), with escapes (5.6).
 
-ghost use Rattle.std.specs.Prelude.{◌≡◌, ◌<◌, ◌≤◌, ◌∷◌, [], length, IsUtf8, false, true, if◌then◌else◌};
+ghost use Rattle.std.specs.Prelude.{◌≡◌, ◌<◌};
 ghost use Rattle.yaml_types.specs.Ascii as ascii;
 ghost use Rattle.std.specs.Str.{chars};
 ghost use Rattle.yaml_emit_sink.specs.Sink.{Puts};
 ghost use Rattle.yaml_emit_sink.specs.Text.{is_break};
-ghost use Rattle.yaml_emit_sink.specs.Layout.{◌▹◌, stay, choose, when, char, letters, blanks, new_line, gap, word, is_past};
+ghost use Rattle.yaml_emit_sink.specs.Layout.{choose, when, char, letters, is_past};
 ghost use Rattle.yaml_emit_text.specs.Runs.{quoted_bounds};
 ghost use Rattle.yaml_emit_text.specs.Quoted.{is_printable, needs_escape, escape_letter, hex_4, hex_8, escape_text, first, is_empty, may_fold, fold, escaped, quoted_char, quoted_body, double_quoted};
 

@@ -2,6 +2,7 @@
 
 ghost use Rattle.std.specs.Prelude.{◌≡◌, ◌<◌, ◌≤◌, ◌+◌, ◌++◌, ◌^◌, ◌==◌, ◌⊎◌, ℕ, List, true, false, length, take, drop, get_or, IsUtf8};
 ghost use Rattle.yaml_types.specs.Ascii as ascii;
+ghost use Rattle.std.specs.List.{list_all};
 ghost use Rattle.std.specs.Str.{chars, IsAscii};
 ghost use Rattle.yaml_emit_sink.specs.Layout.{Layout};
 ghost use Rattle.yaml_emit_sink.specs.Sink.{Owes};
@@ -43,12 +44,13 @@ fn runs_on(bounds: Bounds, column: u64, byte: u8) -> bool
     }
 }
 
-// The bytes in front that run on from that column.
+// How many bytes in front run on from that column.
 // Inlined: its bounds are known where it is called.
 #[inline(always)]
 fn run_length(bounds: Bounds, column: u64, bytes: &[u8]) -> usize
     requires { column < 2 ^ 63 }
-    ensures { result ≡ spec.front (spec.runs_on bounds) column bytes.now }
+    ensures inside { result ≤ length bytes.now }
+    ensures pass { spec.all_pass (spec.runs_on bounds) column (take result bytes.now) ≡ true }
 {
     let mut count = 0;
     'bytes: while count < bytes.len() {
@@ -89,11 +91,8 @@ const AHEAD: usize = 8;
 fn calm_row(bytes: &[u8], from: usize) -> usize
     requires { from + 8 ≤ length bytes.now }
     ensures few { result ≤ 8 }
-    ensures more { (n : ℕ) → n ≡ from + spec.front spec.calm (0 + from) (drop from bytes.now)
-        → n ≡ from + result
-        + spec.front spec.calm (0 + (from + result)) (drop (from + result) bytes.now) }
-    ensures found { (n : ℕ) → n ≡ from + spec.front spec.calm (0 + from) (drop from bytes.now)
-        → result < 8 → from + result ≡ n }
+    ensures calm { list_all spec.is_calm (take from bytes.now) ≡ true
+        → list_all spec.is_calm (take (from + result) bytes.now) ≡ true }
 {
     let mut count = 0;
     'bytes: while count < AHEAD && is_calm(bytes[from + count]) {
@@ -102,11 +101,12 @@ fn calm_row(bytes: &[u8], from: usize) -> usize
     count
 }
 
-// The calm bytes in front.
+// How many bytes in front are calm.
 // Inlined: a loop of a load and a comparison a byte.
 #[inline(always)]
 fn calm_length(bytes: &[u8]) -> usize
-    ensures { result ≡ spec.front spec.calm 0 bytes.now }
+    ensures inside { result ≤ length bytes.now }
+    ensures calm { list_all spec.is_calm (take result bytes.now) ≡ true }
 {
     let mut count = 0;
     'rows: while AHEAD <= bytes.len() - count {
@@ -128,9 +128,8 @@ fn calm_length(bytes: &[u8]) -> usize
 // Whether all bytes are calm.
 // Inlined: a loop of a load and a comparison a byte.
 #[inline(always)]
-#[tactic(auto, using(crate::proofs::RunLemmas::all_calm))]
 pub(crate) fn are_calm(bytes: &[u8]) -> bool
-    ensures { result ≡ true → spec.all_pass spec.calm 0 bytes.now ≡ true }
+    ensures { result ≡ true → list_all spec.is_calm bytes.now ≡ true }
 {
     calm_length(bytes) == bytes.len()
 }
@@ -151,25 +150,12 @@ pub(crate) fn cut<'a>(left: &'a str, count: usize) -> (&'a [u8], &'a str)
     (&bytes[..count], text(&bytes[count..]))
 }
 
-/// A text, cut behind the bytes in front that run on from that column.
-// Inlined: its bounds are known where it is called.
-#[inline(always)]
-pub(crate) fn split_run<'a>(bounds: Bounds, column: u64, left: &'a str) -> (&'a [u8], &'a str)
-    requires { column < 2 ^ 63 }
-    ensures run { spec.all_pass (spec.runs_on bounds) column result.0.now ≡ true }
-    ensures ascii { IsAscii result.0.now }
-    ensures whole { length result.0.now ≡ spec.front (spec.runs_on bounds) column left.now }
-    ensures letters { chars left.now ≡ result.0.now ++ chars result.1.now }
-    ensures utf8 { IsUtf8 result.1.now }
-    ensures shorter { length result.1.now ≤ length left.now }
-{
-    cut(left, run_length(bounds, column, left.as_bytes()))
-}
-
 // How many of the calm bytes in front are passed: all, but for a space that something stands behind.
 pub(crate) fn calm_passed(bytes: &[u8]) -> usize
-    ensures inside { result ≤ spec.front spec.calm 0 bytes.now }
-    ensures next { (result < spec.front spec.calm 0 bytes.now) ⊎ ((length bytes.now ≤ result)
+    ensures inside { result ≤ length bytes.now }
+    ensures calm { list_all spec.is_calm (take result bytes.now) ≡ true }
+    ensures next { ((result < length bytes.now) × (get_or bytes.now result 0 ≡ ascii.space))
+        ⊎ ((length bytes.now ≤ result)
         ⊎ ((last_or 0 (take result bytes.now) == ascii.space) ≡ false)) }
 {
     let count = calm_length(bytes);
@@ -209,7 +195,8 @@ pub(crate) fn put_run<'a>(
     ensures utf8 { IsUtf8 result.1.now }
     ensures shorter { length result.1.now ≤ length left.now }
 {
-    let (run, rest) = split_run(bounds, sink.cursor().column, left);
+    let count = run_length(bounds, sink.cursor().column, left.as_bytes());
+    let (run, rest) = cut(left, count);
     sink.put_ascii(run);
     (last_of(before, run), rest)
 }

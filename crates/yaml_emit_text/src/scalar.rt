@@ -1,12 +1,10 @@
 //! Scalars in their style.
 
-ghost use Rattle.std.specs.Prelude.{◌≡◌, true, false};
 ghost use Rattle.std.specs.Str.{chars};
 ghost use Rattle.yaml_emit_sink.specs.Sink.{Puts};
-ghost use Rattle.yaml_emit_text.specs.Quoted.{double_quoted};
-ghost use Rattle.yaml_emit_text.specs.Scalars.{plain, single_quoted, block, scalar_text};
+ghost use Rattle.yaml_emit_text.specs.Scalars.{block, scalar_text};
 
-use crate::block::{put_folded, put_literal};
+use crate::block::put_block;
 use crate::flow::{put_plain, put_single_quoted};
 use crate::page::{Page, Style};
 use crate::quoted::put_double_quoted;
@@ -23,7 +21,7 @@ pub fn put_styled(sink: &mut Sink, page: Page, digit: u64, flow: bool, style: St
         Style::Plain => put_plain(sink, page, flow, value),
         Style::Single => put_single_quoted(sink, page, value),
         Style::Double => put_double_quoted(sink, page, value),
-        Style::Literal => put_literal(sink, page, digit, value),
-        Style::Folded => put_folded(sink, page, digit, value),
+        Style::Literal => put_block(sink, page, digit, false, value),
+        Style::Folded => put_block(sink, page, digit, true, value),
     }
 }

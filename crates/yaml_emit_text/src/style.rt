@@ -1,11 +1,11 @@
 //! Which styles a value allows, and which one is taken.
 
-ghost use Rattle.std.specs.Prelude.{◌≡◌, ◌≤◌, ℕ, ◌∷◌, [], length, IsUtf8, Bool, false, true, not, ◌&&◌, ◌||◌, ◌==◌, if◌then◌else◌};
+ghost use Rattle.std.specs.Prelude.{◌≡◌, ◌≤◌, ℕ, length, IsUtf8, Bool, false, not, ◌&&◌, ◌||◌, ◌==◌};
 ghost use Rattle.yaml_types.specs.Ascii as ascii;
 ghost use Rattle.std.specs.Str.{chars};
 ghost use Rattle.yaml_emit_sink.specs.Text.{is_break};
 ghost use Rattle.yaml_emit_text.specs.Quoted.{is_printable, first, is_empty};
-ghost use Rattle.yaml_emit_text.specs.Style.{is_blank, ends_word, somewhere, is_special, is_break_space, is_not_plain, is_not_flow, last_or, ends_in_space, is_indicator, is_badly_begun, behind, starts_badly, allowed_text, allowed, plain_fits, single_or, block_or, plain_or, taken, looked, seen, joined};
+ghost use Rattle.yaml_emit_text.specs.Style.{is_blank, ends_word, is_special, is_break_space, is_not_plain, is_not_flow, last_or, is_indicator, is_badly_begun, behind, starts_badly, allowed, single_or, block_or, plain_or, taken, looked, seen, joined};
 
 use crate::letters::{first, is_break, is_empty, split_first};
 use crate::page::{Allowed, Seen, Style};
@@ -83,13 +83,6 @@ fn is_badly_begun(a: char, b: char, c: char) -> bool
         || (a == '.' && b == '.' && c == '.')
 }
 
-fn plain_fits(a: Allowed, untagged: bool, flow: bool, simple: bool, empty: bool) -> bool
-    ensures { result ≡ plain_fits a untagged flow simple empty }
-{
-    let fits = if flow { a.flow_plain } else { a.plain };
-    fits && !(empty && simple) && untagged
-}
-
 fn single_or(a: Allowed) -> Style
     ensures { result ≡ single_or a }
 {
@@ -113,7 +106,8 @@ fn block_or(a: Allowed, flow: bool, simple: bool, style: Style) -> Style
 fn plain_or(a: Allowed, untagged: bool, flow: bool, simple: bool, empty: bool) -> Style
     ensures { result ≡ plain_or a untagged flow simple empty }
 {
-    if plain_fits(a, untagged, flow, simple, empty) {
+    let fits = if flow { a.flow_plain } else { a.plain };
+    if fits && !(empty && simple) && untagged {
         Style::Plain
     } else {
         single_or(a)
@@ -144,26 +138,15 @@ pub fn taken(
     }
 }
 
-// What a character adds, behind another one and before the next.
-fn seen(unicode: bool, before: char, c: char, next: char) -> Seen
-    ensures { result ≡ seen unicode before c next }
+// What was seen, with what a character adds, behind another one and before the next.
+fn seen_with(all: Seen, unicode: bool, before: char, c: char, next: char) -> Seen
+    ensures { result ≡ joined all (seen unicode before c next) }
 {
     Seen {
-        special: is_special(unicode, c, next),
-        broken: is_break_space(c, next),
-        not_plain: is_not_plain(before, c, next),
-        not_flow: is_not_flow(c),
-    }
-}
-
-fn joined(a: Seen, b: Seen) -> Seen
-    ensures { result ≡ joined a b }
-{
-    Seen {
-        special: a.special | b.special,
-        broken: a.broken | b.broken,
-        not_plain: a.not_plain | b.not_plain,
-        not_flow: a.not_flow | b.not_flow,
+        special: all.special | is_special(unicode, c, next),
+        broken: all.broken | is_break_space(c, next),
+        not_plain: all.not_plain | is_not_plain(before, c, next),
+        not_flow: all.not_flow | is_not_flow(c),
     }
 }
 
@@ -192,7 +175,7 @@ fn look(unicode: bool, value: &str) -> (Seen, char)
     };
     let (mut last, mut left) = past_calm(' ', value);
     while let Some((c, more)) = split_first(left) {
-        all = joined(all, seen(unicode, last, c, first(more)));
+        all = seen_with(all, unicode, last, c, first(more));
         let (latest, behind) = past_calm(c, more);
         last = latest;
         left = behind;
@@ -216,46 +199,20 @@ fn starts_badly(value: &str) -> bool
     is_badly_begun(first(value), first(second), first(rest_behind(second)))
 }
 
-fn allowed_by(all: Seen, spaced: bool, badly: bool) -> Allowed
-    ensures plain { result.plain ≡ not (all.special || all.broken || spaced || badly
-        || all.not_plain) }
-    ensures flow_plain { result.flow_plain
-        ≡ (not (all.special || all.broken || spaced || badly || all.not_plain)
-        && not all.not_flow) }
-    ensures single { result.single ≡ not (all.special || all.broken) }
-    ensures block { result.block ≡ not (all.special || spaced) }
-{
-    let unfit = all.special | all.broken | spaced | badly | all.not_plain;
-    Allowed {
-        plain: !unfit,
-        flow_plain: !unfit & !all.not_flow,
-        single: !(all.special | all.broken),
-        block: !(all.special | spaced),
-    }
-}
-
+/// The styles that a value allows. Characters that are not printable, with unicode off those that are not ASCII, and a space
+/// before a break want double quotes. An empty one may be plain outside flow collections.
 // Out of line: the rare way, beside that of tame values.
 #[inline(never)]
-fn allowed_text(unicode: bool, value: &str) -> Allowed
-    ensures { result ≡ allowed_text unicode (chars value.now) }
-{
-    let (all, last) = look(unicode, value);
-    allowed_by(all, last == ' ', starts_badly(value))
-}
-
-/// The styles that a value allows. Characters that are not printable, with unicode off those that are not ASCII, and a space
-/// before a break want double quotes.
-#[tactic(auto, unfolding(crate::specs::Style::allowed))]
 pub fn allowed_for(unicode: bool, value: &str) -> Allowed
     ensures { result ≡ allowed unicode (chars value.now) }
 {
-    match split_first(value) {
-        None => Allowed {
-            plain: true,
-            flow_plain: false,
-            single: true,
-            block: false,
-        },
-        Some(_) => allowed_text(unicode, value),
+    let (all, last) = look(unicode, value);
+    let spaced = last == ' ';
+    let unfit = all.special | all.broken | spaced | starts_badly(value) | all.not_plain;
+    Allowed {
+        plain: is_empty(value) | !unfit,
+        flow_plain: !unfit & !all.not_flow,
+        single: !(all.special | all.broken),
+        block: !(all.special | spaced),
     }
 }

@@ -1,13 +1,12 @@
 //! Tame texts, which allow every style and are written as they are where they fit their line: most scalars are.
 
-ghost use Rattle.std.specs.Prelude.{◌≡◌, ℕ, ◌<◌, ◌≤◌, ◌+◌, ◌^◌, ◌∷◌, ◌++◌, [], length, if◌then◌else◌, Bool, true, false, Some, None, IsUtf8};
+ghost use Rattle.std.specs.Prelude.{◌≡◌, ℕ, ◌<◌, ◌≤◌, ◌+◌, ◌∷◌, ◌++◌, [], length, if◌then◌else◌, Bool, true, false, None, IsUtf8};
 ghost use Rattle.yaml_types.specs.Ascii as ascii;
 ghost use Rattle.std.specs.Str.{chars, IsAscii};
 ghost use Rattle.yaml_emit_sink.specs.Sink.{Puts};
 ghost use Rattle.yaml_emit_sink.specs.Layout.{◌▹◌, letters, line};
-ghost use Rattle.yaml_emit_text.specs.Runs.{all_pass, calm};
 ghost use Rattle.yaml_emit_text.specs.Scalars.{flow_body, plain, scalar_text};
-ghost use Rattle.yaml_emit_text.specs.Style.{allowed, ends_in_space, is_badly_begun, starts_badly};
+ghost use Rattle.yaml_emit_text.specs.Style.{allowed, is_badly_begun};
 ghost use Rattle.yaml_emit_text.specs.Tame.{IsTame, Stands, IsLined, standing, lead};
 
 use crate::flow::put_flow_body;
@@ -28,23 +27,6 @@ fn begins_well(c: char) -> bool
     ('a' <= c && c <= 'z') || ('A' <= c && c <= 'Z') || ('0' <= c && c <= '9')
 }
 
-// Whether a text begins with a letter or a digit.
-fn starts_well(value: &[u8]) -> bool
-    requires { 0 < length value.now }
-    ensures { result ≡ true → starts_badly value.now ≡ false }
-{
-    begins_well(value[0] as char)
-}
-
-// Whether no space ends a text.
-#[tactic(auto, using(crate::proofs::Tame::ends))]
-fn ends_well(value: &[u8]) -> bool
-    requires { 0 < length value.now }
-    ensures { result ≡ true → ends_in_space value.now ≡ false }
-{
-    value[value.len() - 1] != b' '
-}
-
 // A text of more bytes than these seldom fits its line.
 const LINE: usize = 80;
 
@@ -61,10 +43,10 @@ pub fn is_tame(value: &[u8]) -> bool
     if LINE < value.len() {
         return false;
     }
-    if !starts_well(value) {
+    if !begins_well(value[0] as char) {
         return false;
     }
-    if !ends_well(value) {
+    if value[value.len() - 1] == b' ' {
         return false;
     }
     are_calm(value)
@@ -154,20 +136,6 @@ fn beside<'a>(quoted: bool, plain: &'a [u8], framed: &'a [u8]) -> &'a [u8]
     if quoted { framed } else { plain }
 }
 
-// How many characters a text takes, plain or in quotes.
-// Inlined: a length.
-#[inline(always)]
-fn standing_size(quoted: bool, value: &[u8]) -> u64
-    ensures size { result ≡ length (standing quoted value.now) }
-    ensures small { result + 16 < 2 ^ 64 }
-{
-    if quoted {
-        value.len() as u64 + 2
-    } else {
-        value.len() as u64
-    }
-}
-
 /// Whether so many characters behind the column, and a text plain or in quotes behind them, end within the width.
 // Inlined: two comparisons.
 #[inline(always)]
@@ -175,24 +143,12 @@ pub fn fits(width: u64, column: u64, before: u64, quoted: bool, value: &[u8]) ->
     requires { before ≤ 16 }
     ensures { result ≡ true → column + (before + length (standing quoted value.now)) ≤ width }
 {
-    is_within(width, column, before + standing_size(quoted, value))
+    let quotes = if quoted { 2 } else { 0 };
+    is_within(width, column, before + (value.len() as u64 + quotes))
 }
 
 // How many bytes a value has at most that is looked at here.
 const SHORT: usize = 32;
-
-// Whether a value stands in its line in double quotes.
-// Inlined: a loop.
-#[inline(always)]
-fn is_in_line(width: u64, column: u64, value: &[u8]) -> bool
-    ensures { result ≡ true → IsLined column width value.now }
-{
-    if fits(width, column, 16, true, value) {
-        are_even(value)
-    } else {
-        are_solid(value)
-    }
-}
 
 /// Whether a value stands in its line in double quotes, behind that column and at most fourteen characters. One that isn't short
 /// isn't asked.
@@ -201,7 +157,14 @@ fn is_in_line(width: u64, column: u64, value: &[u8]) -> bool
 pub fn is_lined(width: u64, column: u64, value: &[u8]) -> bool
     ensures { result ≡ true → IsLined column width value.now }
 {
-    value.len() <= SHORT && is_in_line(width, column, value)
+    if SHORT < value.len() {
+        return false;
+    }
+    if fits(width, column, 16, true, value) {
+        are_even(value)
+    } else {
+        are_solid(value)
+    }
 }
 
 /// A text that may stand in a line, plain or in quotes, behind at most two characters, which are given without and with the quote.
@@ -219,15 +182,6 @@ pub fn put_standing(sink: &mut Sink, front: &[u8], framed: &[u8], quoted: bool, 
         value,
         beside(quoted, b"", b"\""),
     );
-}
-
-// What stands in front of a line's first text, by whether that is an item.
-// Inlined: it is known.
-#[inline(always)]
-fn hyphen(item: bool) -> Option<u8>
-    ensures { result ≡ (if item then Some ascii.hyphen else None) }
-{
-    if item { Some(b'-') } else { None }
 }
 
 /// The same at the start of a line, by whether it is an item.
@@ -249,7 +203,7 @@ pub fn put_in_line(
         comma: false,
         line_break,
         indent,
-        mark: hyphen(item),
+        mark: item.then_some(b'-'),
         sign: None,
     };
     sink.put_lined(

@@ -19,12 +19,11 @@ impl Sink {
     // Out of line: the rare way, near the limit or in UTF-16, beside the short one.
     #[inline(never)]
     fn put_parts(&mut self, front: &[u8], text: &[u8], end: &[u8])
-        requires { IsAscii (front.now ++ (text.now ++ end.now)) }
         ensures { Puts self.old self.new (letters (front.now ++ (text.now ++ end.now))) }
     {
-        self.put_ascii(front);
-        self.put_ascii(text);
-        self.put_ascii(end);
+        self.put_all(front);
+        self.put_all(text);
+        self.put_all(end);
     }
 
     /// Few characters of known numbers, a text and few more, in ASCII, one at least: at once where there is room for them.
@@ -60,7 +59,10 @@ impl Sink {
     {
         match mark {
             None => (),
-            Some(mark) => self.put_all(&[mark, b' ']),
+            Some(mark) => {
+                self.put(mark as char);
+                self.put(' ');
+            }
         }
     }
 

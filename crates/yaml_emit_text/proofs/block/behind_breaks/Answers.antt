@@ -1,5 +1,6 @@
-use Rattle.std.proofs.Common.{refl, sym, ◌∙◌}
-use Rattle.yaml_emit_text.proofs.Looks.{breaks_more, breaks_found, breaks_none}
+use Rattle.std.proofs.Common.{refl, sym, ◌∙◌, ap, cond}
+use Rattle.std.specs.Str.{chars}
+use Rattle.yaml_emit_text.specs.Scalars.{behind_breaks}
 use Rattle.yaml_emit_text.proofs.block.behind_breaks.Goals as goal
 
 pub split_first-requires-text-text : goal.split_first-requires-text-text
@@ -9,10 +10,17 @@ pub loop-c-init : goal.loop-c-init
 loop-c-init c = (c.utf8.text, refl)
 
 pub loop-c-preserved : goal.loop-c-preserved
-loop-c-preserved c = (c.in-Some.ensures.utf8, breaks_more _ _ _ _ c.in-Some.ensures.letters c.loop-c.invariant.1 (sym c.is_break.ensures ∙ c.if-not-is_break.false))
+unfolding behind_breaks
+loop-c-preserved c =
+    let left = c.loop-c.invariant.1 ∙ ap behind_breaks c.in-Some.ensures.letters in
+    (c.in-Some.ensures.utf8, left ∙ ap (λ v. cond v (behind_breaks (chars c.in-Some.rest.now)) c.in-Some.c) (sym c.is_break.ensures ∙ c.if-not-is_break.false))
 
 pub returns : goal.returns
-returns c = breaks_none _ _ c.in_default.ensures.letters c.loop-c.invariant.1
+unfolding behind_breaks
+returns c = sym (c.loop-c.invariant.1 ∙ ap behind_breaks c.in_default.ensures.letters)
 
 pub returns-then-not-is_break : goal.returns-then-not-is_break
-returns-then-not-is_break c = breaks_found _ _ _ _ c.in-Some.ensures.letters c.loop-c.invariant.1 (sym c.is_break.ensures ∙ c.if-not-is_break.true)
+unfolding behind_breaks
+returns-then-not-is_break c =
+    let left = c.loop-c.invariant.1 ∙ ap behind_breaks c.in-Some.ensures.letters in
+    sym (left ∙ ap (λ v. cond v (behind_breaks (chars c.in-Some.rest.now)) c.in-Some.c) (sym c.is_break.ensures ∙ c.if-not-is_break.true))

@@ -1,9 +1,12 @@
-use Rattle.std.proofs.Common.{◌∙◌}
-use Rattle.yaml_emit_text.proofs.Looks.{ends_by, ends_none}
+use Rattle.std.proofs.Common.{sym, ◌∙◌, ap}
+use Rattle.yaml_emit_text.specs.Style.{last_or}
+use Rattle.yaml_emit_text.specs.Scalars.{ends_in_break}
+use Rattle.yaml_emit_text.proofs.Looks.{ends_by}
 use Rattle.yaml_emit_text.proofs.block.ends_in_break.Goals as goal
 
 pub returns-in-None : goal.returns-in-None
-returns-in-None c = ends_none _ c.in-None.ensures.letters
+unfolding last_or
+returns-in-None c = sym (ap ends_in_break c.in-None.ensures.letters)
 
 pub returns-in-Some : goal.returns-in-Some
 returns-in-Some c = c.is_break.ensures ∙ ends_by _ _ _ c.in-Some.ensures.letters

@@ -1,10 +1,12 @@
 use Rattle.std.proofs.Common.{refl, arith}
+use Rattle.yaml_emit_sink.specs.Layout.{blanks}
 use Rattle.yaml_emit_sink.proofs.Lines.{puts_few}
-use Rattle.yaml_emit_sink.proofs.Sinks.{no_blanks}
+use Rattle.yaml_emit_sink.proofs.Sinks.{puts_nothing}
 use Rattle.yaml_emit_sink.proofs.sink.Sink.put_blanks.Goals as goal
 
 pub returns-then-count-eq0 : goal.returns-then-count-eq0
-returns-then-count-eq0 c = no_blanks _ _ c.if-count-eq0.true
+unfolding blanks
+returns-then-count-eq0 c = rw c.if-count-eq0.true (puts_nothing _)
 
 pub returns-then-are_few : goal.returns-then-are_few
 returns-then-are_few c =

@@ -11,7 +11,7 @@ ghost use Rattle.yaml_emit_graph.specs.Events.{remaining_events, IsEvents, Says,
 
 use crate::numbers::{Walked, number_of, walk_nodes};
 use crate::rooms::{Rooms, put_aside};
-use crate::tags::{is_map, is_seq, is_str};
+use crate::tags::is_default;
 use crate::text::text_met;
 use crate::walk::Turn;
 use std::alloc::{AllocError, Global};
@@ -119,7 +119,7 @@ fn put_other_scalar(
         result (body_of event.new) }
 {
     put_aside(rooms, event);
-    let plain = is_str(tag);
+    let plain = is_default(tag, &yaml_node_tag_t::Str);
     let anchor = anchor_of(rooms.alloc, number)?;
     let name = refilled(&mut rooms.tag, tag.as_slice(), 0)?;
     let text = refilled(&mut rooms.value, value, 0)?;
@@ -166,7 +166,7 @@ fn put_scalar_event(
             *held_tag = Some(text);
             let text = refilled(held_value, value, 0)?;
             *held_value = text;
-            let plain = is_str(tag);
+            let plain = is_default(tag, &yaml_node_tag_t::Str);
             *plain_implicit = plain;
             *quoted_implicit = plain;
             *how = style;
@@ -190,7 +190,7 @@ fn put_sequence(
         (is_flow_sequence style))) result (body_of event.new) }
 {
     put_aside(rooms, event);
-    let implicit = is_seq(tag);
+    let implicit = is_default(tag, &yaml_node_tag_t::Seq);
     let anchor = anchor_of(rooms.alloc, number)?;
     let name = refilled(&mut rooms.tag, tag.as_slice(), 0)?;
     let body = yaml_event_body_t::SequenceStart {
@@ -217,7 +217,7 @@ fn put_mapping(
         (is_flow_mapping style))) result (body_of event.new) }
 {
     put_aside(rooms, event);
-    let implicit = is_map(tag);
+    let implicit = is_default(tag, &yaml_node_tag_t::Map);
     let anchor = anchor_of(rooms.alloc, number)?;
     let name = refilled(&mut rooms.tag, tag.as_slice(), 0)?;
     let body = yaml_event_body_t::MappingStart {
@@ -350,28 +350,16 @@ impl Events {
     // The value of the text whose turn comes next, if it is one with the default tag and without an anchor.
     // Inlined: mostly a look at the node.
     #[inline(always)]
-    fn text_ahead<'a>(&self, document: &'a yaml_document_t) -> Option<&'a [u8]>
-        requires { self.now.place ≡ DumpPhase.Nodes }
-        ensures { IfSome result (λ v. IsTextAhead v.now document.now self.now) }
-    {
-        if self.given < self.turns.len() {
-            match text_met(&self.numbers, document, self.turns[self.given]) {
-                None => None,
-                Some(value) => Some(value),
-            }
-        } else {
-            None
-        }
-    }
-
-    // The same, wherever the walk is.
-    // Inlined: a test.
-    #[inline(always)]
     fn text_to_come<'a>(&self, document: &'a yaml_document_t) -> Option<&'a [u8]>
         ensures { IfSome result (λ v. IsTextAhead v.now document.now self.now) }
     {
         match self.place {
-            DumpPhase::Nodes => self.text_ahead(document),
+            DumpPhase::Nodes if self.given < self.turns.len() => {
+                match text_met(&self.numbers, document, self.turns[self.given]) {
+                    None => None,
+                    Some(value) => Some(value),
+                }
+            }
             _ => None,
         }
     }
@@ -412,21 +400,6 @@ impl Events {
         })
     }
 
-    fn put_start(
-        &self,
-        document: &yaml_document_t,
-        event: &mut yaml_event_body_t,
-    ) -> Result<(), AllocError>
-        ensures { Says (document_start (graph_opening document.now)) result (body_of event.new) }
-    {
-        *event = yaml_event_body_t::DocumentStart {
-            version_directive: document.version_directive(),
-            tag_directives: copies(self.alloc, document.tag_directives())?,
-            implicit: document.start_implicit(),
-        };
-        Ok(())
-    }
-
     fn begin(
         &mut self,
         document: &yaml_document_t,
@@ -436,7 +409,11 @@ impl Events {
         requires place { self.old.place ≡ DumpPhase.Start }
         ensures { GivesGraphEvent document.now self.old result (body_of event.new) self.new }
     {
-        self.put_start(document, event)?;
+        *event = yaml_event_body_t::DocumentStart {
+            version_directive: document.version_directive(),
+            tag_directives: copies(self.alloc, document.tag_directives())?,
+            implicit: document.start_implicit(),
+        };
         self.place = DumpPhase::Nodes;
         Ok(true)
     }

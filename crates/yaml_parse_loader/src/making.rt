@@ -14,7 +14,7 @@ ghost use Rattle.yaml_parse_loader.specs.Views.{level_of, levels_of, loading_of,
 
 use crate::anchors::AnchorTable;
 use crate::gathering::{FIRST_ITEMS, FIRST_PAIRS, gather, push_node};
-use crate::nodes::{node_with, tag_or_default};
+use crate::nodes::{SHORT, node_with, tag_or_default};
 use std::alloc::Global;
 use std::mem;
 use yaml_parse_document::{DocumentParts, yaml_document_t};
@@ -348,7 +348,7 @@ impl Making {
         self.open(anchor, node, Level::Mapping { place, pairs, key })
     }
 
-    // A scalar without properties. A long value is taken out, a short one leaves its room to the next.
+    // A scalar without properties, whose value is taken out; a short one leaves its room to the next.
     // Inlined: the node is built where it is to stand.
     #[inline(always)]
     fn scalar(
@@ -369,8 +369,8 @@ impl Making {
     }
 
     /// What the event makes of the document. Its texts are taken out.
-    // Inlined into the loop over events. Most nodes have no properties, and are asked for in front: of one that may have some each
-    // part would be put aside.
+    // Inlined into the loop over events. Most nodes have no properties and a short value, and are asked for in front: of one that
+    // may have some each part would be put aside, and one of either length would go by way of the stack.
     #[inline(always)]
     pub fn apply(&mut self, event: &mut yaml_event_t) -> Fed
         ensures fed { Applies (step (event_of event.old) (loading_of self.old))
@@ -391,7 +391,7 @@ impl Making {
                 ref mut value,
                 ref mut style,
                 ..
-            } => fed_of(self.scalar(value, *style, start_mark, end_mark)),
+            } if value.len() <= SHORT => fed_of(self.scalar(value, *style, start_mark, end_mark)),
             yaml_event_body_t::SequenceStart {
                 anchor: None,
                 tag: None,

@@ -8,6 +8,9 @@ ghost use Rattle.yaml_parse_loader.specs.Views.{node_with};
 
 use yaml_parse_model::{mark_again, yaml_mark_t, yaml_node_body_t, yaml_node_t, yaml_node_tag_t};
 
+/// A value of at most so many bytes lies in its node.
+pub const SHORT: usize = 24;
+
 /// No tag and the tag `!` become the default tag.
 // Inlined: mostly there is none.
 #[inline(always)]

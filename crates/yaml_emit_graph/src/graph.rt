@@ -301,11 +301,10 @@ fn closing_event(document: &yaml_document_t, id: i32) -> yaml_event_body_t
     ensures utf8 { HasUtf8 (body_of result) }
 {
     match yaml_document_get_node(document, id) {
-        None => yaml_event_body_t::MappingEnd,
-        Some(node) => match node.body {
-            yaml_node_body_t::Sequence { .. } => yaml_event_body_t::SequenceEnd,
-            _ => yaml_event_body_t::MappingEnd,
-        },
+        Some(node) if matches!(node.body, yaml_node_body_t::Sequence { .. }) => {
+            yaml_event_body_t::SequenceEnd
+        }
+        _ => yaml_event_body_t::MappingEnd,
     }
 }
 
@@ -367,6 +366,7 @@ impl Events {
     /// The value of the text that comes next, if it is one with the default tag and without an anchor: then it is given.
     // Inlined: mostly a look at the node.
     #[inline(always)]
+    #[tactic(auto, using(crate::proofs::Plain::text_comes))]
     pub fn next_text<'a>(&mut self, document: &'a yaml_document_t) -> Option<&'a [u8]>
         ensures text { IfSome result (λ v. GivesPlainText document.now self.old v.now self.new) }
         ensures none { result ≡ None → self.new ≡ self.old }
@@ -381,6 +381,7 @@ impl Events {
     }
 
     /// Before the document's start.
+    #[tactic(auto, using(crate::proofs::Leaving::begin_comes))]
     pub fn of(alloc: Global, document: &yaml_document_t) -> Result<Events, AllocError>
         ensures { IfOk result (λ e. IsEvents document.now e
             × (remaining_events document.now e ≡ dumped document.now)) }
@@ -400,6 +401,7 @@ impl Events {
         })
     }
 
+    #[tactic(auto, using(crate::proofs::Leaving::start_comes))]
     fn begin(
         &mut self,
         document: &yaml_document_t,
@@ -419,6 +421,7 @@ impl Events {
     }
 
     // The next event of the nodes, or the document's end.
+    #[tactic(auto, using(crate::proofs::Leaving::turn_comes, crate::proofs::Leaving::end_comes))]
     fn step(
         &mut self,
         document: &yaml_document_t,
@@ -443,6 +446,7 @@ impl Events {
     }
 
     /// The next event, in a slot that is lent; none behind the document's end.
+    #[tactic(auto, using(crate::proofs::Leaving::none_comes))]
     pub fn next(
         &mut self,
         document: &yaml_document_t,

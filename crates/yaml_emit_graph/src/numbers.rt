@@ -43,7 +43,7 @@ impl Numbers {
     }
 
     // The next number, to a node without one.
-    #[tactic(auto, using(crate::proofs::Counting::room, crate::proofs::Counting::same_default))]
+    #[tactic(auto, using(crate::proofs::Counting::room, crate::proofs::Counting::same_default, crate::proofs::Counting::counted_next))]
     fn number_node(&mut self, at: usize)
         requires numbers { IsNumbering (numbering_of self.old) }
         requires within { at < length self.old.table.items }

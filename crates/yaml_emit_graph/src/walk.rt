@@ -156,6 +156,7 @@ impl Walk {
     }
 
     // What comes next in the innermost open node, or its end.
+    #[tactic(auto, using(crate::proofs::Walking::leave_comes))]
     fn step<G: Walkable>(&mut self, graph: &G, from: Open) -> Result<Option<Turn>, AllocError>
         requires walk { IsWalk (G.nodes graph.now) self.old }
         requires going { self.old.started ≡ true }
@@ -177,6 +178,7 @@ impl Walk {
         }
     }
 
+    #[tactic(auto, using(crate::proofs::Walking::none_comes))]
     fn go_on<G: Walkable>(&mut self, graph: &G) -> Result<Option<Turn>, AllocError>
         requires walk { IsWalk (G.nodes graph.now) self.old }
         requires going { self.old.started ≡ true }

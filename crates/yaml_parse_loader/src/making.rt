@@ -238,6 +238,7 @@ impl Making {
     }
 
     // An alias stands for the last node that has its anchor.
+    #[tactic(auto, using(crate::proofs::Steps::takes_alias))]
     fn alias(&mut self, name: &[u8]) -> Fed
         ensures { (at : yaml_mark_t) → Applies (aliased (finite.get (loading_of self.old).anchors
             name.now) at (loading_of self.old)) at (HaveRoom (loading_of self.old).levels) result

@@ -1,12 +1,12 @@
 //! The events of a document's nodes.
 
-ghost use Rattle.std.specs.Prelude.{◌≡◌, IfOk, OnOk, IfSome, None, Some, IsUtf8, map};
+ghost use Rattle.std.specs.Prelude.{◌≡◌, IfOk, IfSome, None, Some, IsUtf8, map};
 ghost use Rattle.yaml_parse_model.specs.Constructors.{HasUtf8, IsUtf8Option};
-ghost use Rattle.yaml_parse_document.specs.Documents.{str_tag, seq_tag, map_tag};
+ghost use Rattle.yaml_parse_document.specs.Documents.{seq_tag, map_tag};
 ghost use Rattle.yaml_parse_model.specs.Events.{body_of, text_of, directive_of};
 ghost use Rattle.yaml_parse_model.specs.Nodes.{node_of, tag_of};
-ghost use Rattle.yaml_emit_layout.specs.Content.{emitter_event, scalar, alias, sequence_start, mapping_start, document_start, is_flow_sequence, is_flow_mapping};
-ghost use Rattle.yaml_emit_graph.specs.Graph.{lead, name_of, anchor_of, graph_scalar, graph_start, opening_event, closing_event, body_of_id, tag_of_id, turn_event, graph_opening, dumped};
+ghost use Rattle.yaml_emit_layout.specs.Content.{emitter_event, scalar, alias, sequence_start, mapping_start, is_flow_sequence, is_flow_mapping};
+ghost use Rattle.yaml_emit_graph.specs.Graph.{lead, name_of, anchor_of, graph_scalar, graph_start, opening_event, closing_event, body_of_id, tag_of_id, turn_event, dumped};
 ghost use Rattle.yaml_emit_graph.specs.Events.{remaining_events, IsEvents, Says, GivesGraphEvent, IsTextAhead, GivesPlainText, IsUtf8Body};
 
 use crate::numbers::{Walked, number_of, walk_nodes};

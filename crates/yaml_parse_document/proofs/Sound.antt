@@ -14,7 +14,7 @@ use Rattle.yaml_parse_model.specs.declared.yaml_text_fault_t.TheVariants.{NotUtf
 use Rattle.yaml_parse_model.specs.Constructors.{IsUtf8Option}
 use Rattle.yaml_parse_model.specs.Nodes.{Node, NodeBody, node_of}
 use Rattle.yaml_parse_model.specs.Nodes as node
-use Rattle.yaml_parse_document.specs.Documents.{Document, node_at, IsId, AreIds, ArePairs, IsSoundBody, IsSoundNode, AreSound, IsSoundAt, IsDocument, with_node, change_place, change_node, change_body, with_item, with_pair, IsKindAt, HasRoomAt, tag_or, str_tag, seq_tag, map_tag, Adds, Appends}
+use Rattle.yaml_parse_document.specs.Documents.{Document, node_at, IsId, AreIds, ArePairs, IsSoundBody, IsSoundNode, AreSound, IsSoundAt, IsDocument, with_node, change_place, change_body, with_item, with_pair, IsKindAt, HasRoomAt, tag_or, str_tag, seq_tag, map_tag, Adds, Appends}
 
 -- ---- more nodes
 

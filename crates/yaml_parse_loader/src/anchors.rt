@@ -1,6 +1,6 @@
 //! The anchors of a document that is being loaded.
 
-ghost use Rattle.std.specs.Prelude.{◌≡◌, option_map, OnOk, OnErr};
+ghost use Rattle.std.specs.Prelude.{◌≡◌, OnOk, OnErr};
 ghost use Rattle.std.specs.FinMap as map;
 
 use std::alloc::{AllocError, Global};

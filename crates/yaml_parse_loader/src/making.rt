@@ -47,18 +47,6 @@ pub struct Making {
     pub anchors: AnchorTable,
 }
 
-// From now on a node is what that name means.
-// Out of line: most nodes have no anchor.
-#[inline(never)]
-fn name_node(anchors: &mut AnchorTable, name: Vec<u8>, number: i32) -> Result<(), yaml_text_fault_t>
-    ensures { OnOk result (anchors.new ≡ finite.insert anchors.old name.items number) }
-{
-    match anchors.insert(name, number) {
-        Ok(()) => Ok(()),
-        Err(_) => Err(yaml_text_fault_t::Memory),
-    }
-}
-
 // From now on a node is what its anchor names.
 // Inlined: mostly there is none.
 #[inline(always)]
@@ -71,7 +59,10 @@ fn register(
 {
     match anchor {
         None => Ok(()),
-        Some(name) => name_node(anchors, name, number),
+        Some(name) => match anchors.insert(name, number) {
+            Ok(()) => Ok(()),
+            Err(_) => Err(yaml_text_fault_t::Memory),
+        },
     }
 }
 

@@ -1,14 +1,13 @@
 //! Tags that may be left out.
 
-ghost use Rattle.std.specs.Prelude.{◌≡◌, true};
+ghost use Rattle.std.specs.Prelude.{◌≡◌};
 ghost use Rattle.yaml_parse_model.specs.Nodes.{tag_of};
 ghost use Rattle.yaml_emit_graph.specs.Graph.{is_text};
 
 use yaml_parse_model::yaml_node_tag_t;
 
 fn is_text(text: &[u8], other: &[u8]) -> bool
-    ensures is { result ≡ is_text text.now other.now }
-    ensures same { result ≡ true → text.now ≡ other.now }
+    ensures { result ≡ is_text text.now other.now }
 {
     text == other
 }
@@ -17,8 +16,7 @@ fn is_text(text: &[u8], other: &[u8]) -> bool
 // Inlined: mostly a look at the kind.
 #[inline(always)]
 pub fn is_default(tag: &yaml_node_tag_t, default: &yaml_node_tag_t) -> bool
-    ensures is { result ≡ is_text (tag_of tag.now) (tag_of default.now) }
-    ensures same { result ≡ true → tag_of tag.now ≡ tag_of default.now }
+    ensures { result ≡ is_text (tag_of tag.now) (tag_of default.now) }
 {
     match (tag, default) {
         (yaml_node_tag_t::Str, yaml_node_tag_t::Str)

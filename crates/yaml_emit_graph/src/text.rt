@@ -6,7 +6,6 @@ ghost use Rattle.yaml_emit_graph.specs.Graph.{turn_event};
 ghost use Rattle.yaml_emit_graph.specs.Texts.{NamesText, IsPlainText};
 
 use crate::numbers::number_of;
-use crate::tags::is_default;
 use crate::walk::Turn;
 use yaml_parse_document::{yaml_document_get_node, yaml_document_t};
 use yaml_parse_model::{yaml_node_body_t, yaml_node_tag_t};
@@ -21,8 +20,8 @@ fn text_under(document: &yaml_document_t, id: i32) -> Option<&[u8]>
     match yaml_document_get_node(document, id) {
         None => None,
         Some(node) => match &node.body {
-            yaml_node_body_t::Scalar { value, .. }
-                if is_default(&node.tag, &yaml_node_tag_t::Str) => Some(value.as_slice()),
+            yaml_node_body_t::Scalar { value, .. } if matches!(node.tag, yaml_node_tag_t::Str) =>
+                Some(value.as_slice()),
             _ => None,
         },
     }

@@ -94,6 +94,8 @@ fn are_kept(flow: bool, text: &[u8]) -> bool
 }
 
 // Whether a handle that isn't defined stands for the start of a tag.
+// Inlined: the prefix is known, and with it its length.
+#[inline(always)]
 fn stands_for(prefix: &[u8], defined: bool, tag: &[u8]) -> bool
     ensures value { result ≡ (has_shorter_prefix prefix.now tag.now && not defined) }
     ensures inside { result ≡ true → length prefix.now < length tag.now }

@@ -4,10 +4,10 @@ ghost use Rattle.std.specs.Prelude.{◌≡◌, IfOk, IfSome, None, Some, IsUtf8,
 ghost use Rattle.yaml_parse_model.specs.Constructors.{HasUtf8, IsUtf8Option};
 ghost use Rattle.yaml_parse_document.specs.Documents.{seq_tag, map_tag};
 ghost use Rattle.yaml_parse_model.specs.Events.{body_of, text_of, directive_of};
-ghost use Rattle.yaml_parse_model.specs.Nodes.{node_of, tag_of};
+ghost use Rattle.yaml_parse_model.specs.Nodes.{tag_of};
 ghost use Rattle.yaml_emit_layout.specs.Content.{emitter_event, scalar, alias, sequence_start, mapping_start, is_flow_sequence, is_flow_mapping};
 ghost use Rattle.yaml_emit_graph.specs.Graph.{lead, name_of, anchor_of, graph_scalar, graph_start, opening_event, closing_event, body_of_id, tag_of_id, turn_event, dumped};
-ghost use Rattle.yaml_emit_graph.specs.Events.{remaining_events, IsEvents, Says, GivesGraphEvent, IsTextAhead, GivesPlainText, IsUtf8Body};
+ghost use Rattle.yaml_emit_graph.specs.Events.{remaining_events, IsEvents, Says, GivesGraphEvent, IsTextAhead, GivesPlainText};
 
 use crate::numbers::{Walked, number_of, walk_nodes};
 use crate::rooms::{Rooms, put_aside};
@@ -16,11 +16,9 @@ use crate::text::text_met;
 use crate::walk::Turn;
 use std::alloc::{AllocError, Global};
 use yaml_parse_document::{yaml_document_get_node, yaml_document_t};
-use yaml_parse_model::{
-    copy_directives, yaml_event_body_t, yaml_node_body_t, yaml_node_t, yaml_node_tag_t,
-};
+use yaml_parse_model::{copy_directives, yaml_event_body_t, yaml_node_body_t, yaml_node_tag_t};
 use yaml_scan_model::{
-    refilled, room_of, yaml_mapping_style_t, yaml_scalar_style_t, yaml_sequence_style_t,
+    refilled, yaml_mapping_style_t, yaml_scalar_style_t, yaml_sequence_style_t,
     yaml_tag_directive_t,
 };
 
@@ -103,10 +101,10 @@ fn put_in(event: &mut yaml_event_body_t, body: yaml_event_body_t)
     *event = body;
 }
 
-// A scalar, in rooms that are put aside.
-// Out of line: mostly the event before it is one too.
+// A scalar, in rooms that are put aside; its tag may be left out where it is that of a text.
+// Out of line: it has much room of its own.
 #[inline(never)]
-fn put_other_scalar(
+fn put_scalar(
     rooms: &mut Rooms,
     number: u64,
     tag: &yaml_node_tag_t,
@@ -133,47 +131,6 @@ fn put_other_scalar(
     };
     put_in(event, body);
     Ok(())
-}
-
-// A scalar whose tag may be left out where it is that of a text: in the rooms of the one before it, where the slot holds one.
-// Inlined into its one caller.
-#[inline(always)]
-fn put_scalar_event(
-    rooms: &mut Rooms,
-    number: u64,
-    tag: &yaml_node_tag_t,
-    value: &[u8],
-    style: yaml_scalar_style_t,
-    event: &mut yaml_event_body_t,
-) -> Result<(), AllocError>
-    requires { IsUtf8 (tag_of tag.now) × IsUtf8 value.now }
-    ensures { Says (scalar (graph_scalar (anchor_of number) (tag_of tag.now) value.now style))
-        result (body_of event.new) }
-{
-    match event {
-        yaml_event_body_t::Scalar {
-            anchor: name,
-            tag: held_tag,
-            value: held_value,
-            plain_implicit,
-            quoted_implicit,
-            style: how,
-        } => {
-            let anchor = anchor_of(rooms.alloc, number)?;
-            *name = anchor;
-            let mut room = room_of(held_tag, &mut rooms.tag);
-            let text = refilled(&mut room, tag.as_slice(), 0)?;
-            *held_tag = Some(text);
-            let text = refilled(held_value, value, 0)?;
-            *held_value = text;
-            let plain = is_default(tag, &yaml_node_tag_t::Str);
-            *plain_implicit = plain;
-            *quoted_implicit = plain;
-            *how = style;
-            Ok(())
-        }
-        _ => put_other_scalar(rooms, number, tag, value, style, event),
-    }
 }
 
 // Out of line: it has much room of its own.
@@ -230,29 +187,26 @@ fn put_mapping(
     Ok(())
 }
 
-// The event of a node that is written for the first time.
+// The event of the node under a number, which is written for the first time.
 // Inlined into its one caller.
 #[inline(always)]
-fn put_node(
+fn put_node_start(
     rooms: &mut Rooms,
+    document: &yaml_document_t,
     number: u64,
-    node: &yaml_node_t,
+    id: i32,
     event: &mut yaml_event_body_t,
 ) -> Result<(), AllocError>
-    requires { IsUtf8 (node_of node.now).tag × IsUtf8Body (node_of node.now).body }
-    ensures { Says (opening_event (anchor_of number) (node_of node.now).tag (node_of node.now).body)
-        result (body_of event.new) }
+    ensures { Says (opening_event (anchor_of number) (tag_of_id document.now.nodes id)
+        (body_of_id document.now.nodes id)) result (body_of event.new) }
 {
+    let unstyled = yaml_scalar_style_t::YAML_ANY_SCALAR_STYLE;
+    let Some(node) = yaml_document_get_node(document, id) else {
+        return put_scalar(rooms, number, &yaml_node_tag_t::Str, b"", unstyled, event);
+    };
     match &node.body {
-        yaml_node_body_t::No => put_other_scalar(
-            rooms,
-            number,
-            &node.tag,
-            b"",
-            yaml_scalar_style_t::YAML_ANY_SCALAR_STYLE,
-            event,
-        ),
-        yaml_node_body_t::Scalar { value, style } => put_scalar_event(
+        yaml_node_body_t::No => put_scalar(rooms, number, &node.tag, b"", unstyled, event),
+        yaml_node_body_t::Scalar { value, style } => put_scalar(
             rooms,
             number,
             &node.tag,
@@ -266,32 +220,6 @@ fn put_node(
         yaml_node_body_t::Mapping { style, .. } => put_mapping(
             rooms, number, &node.tag, *style, event,
         ),
-    }
-}
-
-// How the node under a number begins.
-// Inlined into its one caller.
-#[inline(always)]
-fn put_node_start(
-    rooms: &mut Rooms,
-    document: &yaml_document_t,
-    number: u64,
-    id: i32,
-    event: &mut yaml_event_body_t,
-) -> Result<(), AllocError>
-    ensures { Says (opening_event (anchor_of number) (tag_of_id document.now.nodes id)
-        (body_of_id document.now.nodes id)) result (body_of event.new) }
-{
-    match yaml_document_get_node(document, id) {
-        None => put_other_scalar(
-            rooms,
-            number,
-            &yaml_node_tag_t::Str,
-            b"",
-            yaml_scalar_style_t::YAML_ANY_SCALAR_STYLE,
-            event,
-        ),
-        Some(node) => put_node(rooms, number, node, event),
     }
 }
 

@@ -18,7 +18,7 @@ use std::alloc::{AllocError, Global};
 use yaml_parse_document::{yaml_document_get_node, yaml_document_t};
 use yaml_parse_model::{copy_directives, yaml_event_body_t, yaml_node_body_t, yaml_node_tag_t};
 use yaml_scan_model::{
-    refilled, yaml_mapping_style_t, yaml_scalar_style_t, yaml_sequence_style_t,
+    refilled, room_of, yaml_mapping_style_t, yaml_scalar_style_t, yaml_sequence_style_t,
     yaml_tag_directive_t,
 };
 
@@ -101,10 +101,10 @@ fn put_in(event: &mut yaml_event_body_t, body: yaml_event_body_t)
     *event = body;
 }
 
-// A scalar, in rooms that are put aside; its tag may be left out where it is that of a text.
-// Out of line: it has much room of its own.
+// A scalar, in rooms that are put aside.
+// Out of line: mostly the event before it is one too.
 #[inline(never)]
-fn put_scalar(
+fn put_other_scalar(
     rooms: &mut Rooms,
     number: u64,
     tag: &yaml_node_tag_t,
@@ -131,6 +131,47 @@ fn put_scalar(
     };
     put_in(event, body);
     Ok(())
+}
+
+// A scalar whose tag may be left out where it is that of a text: in the rooms of the one before it, where the slot holds one.
+// Inlined into its one caller.
+#[inline(always)]
+fn put_scalar_event(
+    rooms: &mut Rooms,
+    number: u64,
+    tag: &yaml_node_tag_t,
+    value: &[u8],
+    style: yaml_scalar_style_t,
+    event: &mut yaml_event_body_t,
+) -> Result<(), AllocError>
+    requires { IsUtf8 (tag_of tag.now) × IsUtf8 value.now }
+    ensures { Says (scalar (graph_scalar (anchor_of number) (tag_of tag.now) value.now style))
+        result (body_of event.new) }
+{
+    match event {
+        yaml_event_body_t::Scalar {
+            anchor: name,
+            tag: held_tag,
+            value: held_value,
+            plain_implicit,
+            quoted_implicit,
+            style: how,
+        } => {
+            let anchor = anchor_of(rooms.alloc, number)?;
+            *name = anchor;
+            let mut room = room_of(held_tag, &mut rooms.tag);
+            let text = refilled(&mut room, tag.as_slice(), 0)?;
+            *held_tag = Some(text);
+            let text = refilled(held_value, value, 0)?;
+            *held_value = text;
+            let plain = is_default(tag, &yaml_node_tag_t::Str);
+            *plain_implicit = plain;
+            *quoted_implicit = plain;
+            *how = style;
+            Ok(())
+        }
+        _ => put_other_scalar(rooms, number, tag, value, style, event),
+    }
 }
 
 // Out of line: it has much room of its own.
@@ -202,11 +243,11 @@ fn put_node_start(
 {
     let unstyled = yaml_scalar_style_t::YAML_ANY_SCALAR_STYLE;
     let Some(node) = yaml_document_get_node(document, id) else {
-        return put_scalar(rooms, number, &yaml_node_tag_t::Str, b"", unstyled, event);
+        return put_other_scalar(rooms, number, &yaml_node_tag_t::Str, b"", unstyled, event);
     };
     match &node.body {
-        yaml_node_body_t::No => put_scalar(rooms, number, &node.tag, b"", unstyled, event),
-        yaml_node_body_t::Scalar { value, style } => put_scalar(
+        yaml_node_body_t::No => put_other_scalar(rooms, number, &node.tag, b"", unstyled, event),
+        yaml_node_body_t::Scalar { value, style } => put_scalar_event(
             rooms,
             number,
             &node.tag,

@@ -2,6 +2,8 @@
 use Rattle.std.proofs.Common.{◌≡◌, ◌≤◌, ◌<◌, ℕ, zero, suc, ℤ, pos, List, [], ◌∷◌, ◌++◌, length, sym, subst, arith, Some, Result, Ok, Err, OnOk, refl}
 use Rattle.std.specs.Prelude.{slice_get}
 use Rattle.yaml_parse_model.specs.declared.yaml_node_pair_t.{yaml_node_pair_t}
+use Rattle.yaml_parse_model.specs.declared.yaml_sequence_style_t.{yaml_sequence_style_t}
+use Rattle.yaml_parse_model.specs.declared.yaml_mapping_style_t.{yaml_mapping_style_t}
 use Rattle.yaml_parse_model.specs.declared.yaml_text_fault_t.{yaml_text_fault_t}
 use Rattle.yaml_parse_model.specs.Nodes.{Node, NodeBody}
 use Rattle.yaml_parse_model.specs.Nodes as node
@@ -24,9 +26,19 @@ with_node_sized d x s room h = record {
   entries = sized_push d.nodes x s.entries h;
 }
 
+-- what a new node holds
+
 -- No entries are within the bound.
 pub nothing_listed : (0 ≤ 2147483647) × (0 ≤ 2147483647)
 nothing_listed = (omega arith, omega arith)
+
+pub no_items_sized : (items : List ℤ) (style : yaml_sequence_style_t) → items ≡ []
+    → IsSizedBody (node.sequence items style)
+no_items_sized items style e = subst (λ (l : List ℤ). IsSizedBody (node.sequence l style)) (sym e) nothing_listed
+
+pub no_pairs_sized : (pairs : List yaml_node_pair_t) (style : yaml_mapping_style_t) → pairs ≡ []
+    → IsSizedBody (node.mapping pairs style)
+no_pairs_sized pairs style e = subst (λ (l : List yaml_node_pair_t). IsSizedBody (node.mapping l style)) (sym e) nothing_listed
 
 -- ---- a node changed
 

@@ -153,7 +153,6 @@ fn node_place(number: i32) -> usize
 }
 
 /// The node under a number; numbers count from 1. Its texts are UTF-8, and what it holds are numbers of nodes.
-#[tactic(auto, using(crate::proofs::Sound::node_lent, crate::proofs::Sound::sound_at))]
 pub fn yaml_document_get_node(document: &yaml_document_t, index: i32) -> Option<&yaml_node_t>
     ensures is { option_map (λ n. node_of n.now) result ≡ node_at document.now.nodes index }
     ensures sound { IsSoundAt (length document.now.nodes) (node_at document.now.nodes index) }

@@ -1,9 +1,9 @@
 //! Adding nodes to a document, and items and pairs to its collections.
 
-ghost use Rattle.std.specs.Prelude.{◌≡◌, ◌<◌, ◌++◌, ◌∷◌, [], pos, suc, length, option_map, IsSome, IsUtf8, MatchResult, OnOk};
+ghost use Rattle.std.specs.Prelude.{◌≡◌, ◌<◌, ◌≤◌, ◌++◌, ◌∷◌, [], pos, suc, length, option_map, IsSome, IsUtf8, MatchResult, OnOk};
 ghost use Rattle.yaml_parse_model.specs.Constructors.{IsUtf8Option};
 ghost use Rattle.yaml_parse_model.specs.Nodes.{node_of, body_of, tag_of};
-ghost use Rattle.yaml_parse_document.specs.Documents.{node_at, unplaced, new_scalar, new_sequence, new_mapping, with_node, Adds, Appends, change_body, with_item, with_pair, tag_or, IsSequenceAt, IsMappingAt, HasRoomAt, most_entries, item_count, pair_count, IsSoundNode};
+ghost use Rattle.yaml_parse_document.specs.Documents.{node_at, unplaced, new_scalar, new_sequence, new_mapping, with_node, Adds, Appends, change_body, with_item, with_pair, tag_or, IsSequenceAt, IsMappingAt, IsSequenceBody, IsMappingBody, HasRoomAt, most_entries, item_count, pair_count, IsSoundNode, IsSoundBody};
 ghost use Rattle.yaml_parse_document.specs.Sizes.{IsSizedBody};
 
 use super::{node_place, yaml_document_t};
@@ -90,7 +90,6 @@ fn add_node(document: &mut yaml_document_t, node: yaml_node_t) -> Result<i32, ya
 
 /// Adds a scalar with copies of the texts, and gives its number. Without a tag it has `tag:yaml.org,2002:str`. A
 /// refused call leaves the document unchanged; that a text isn't UTF-8 is looked at before any growth.
-#[tactic(auto, using(crate::proofs::Sound::tag_utf8, crate::proofs::Sound::str_utf8, crate::proofs::Sound::added, crate::proofs::Sizing::nothing_listed))]
 pub fn yaml_document_add_scalar(
     document: &mut yaml_document_t,
     tag: Option<&[u8]>,
@@ -113,7 +112,6 @@ pub fn yaml_document_add_scalar(
 
 /// Adds an empty sequence with a copy of the tag, and gives its number. Without a tag it has
 /// `tag:yaml.org,2002:seq`. A refused call leaves the document unchanged.
-#[tactic(auto, using(crate::proofs::Sound::tag_utf8, crate::proofs::Sound::seq_utf8, crate::proofs::Sound::added, crate::proofs::Sizing::nothing_listed))]
 pub fn yaml_document_add_sequence(
     document: &mut yaml_document_t,
     tag: Option<&[u8]>,
@@ -135,7 +133,6 @@ pub fn yaml_document_add_sequence(
 
 /// Adds an empty mapping with a copy of the tag, and gives its number. Without a tag it has
 /// `tag:yaml.org,2002:map`. A refused call leaves the document unchanged.
-#[tactic(auto, using(crate::proofs::Sound::tag_utf8, crate::proofs::Sound::map_utf8, crate::proofs::Sound::added, crate::proofs::Sizing::nothing_listed))]
 pub fn yaml_document_add_mapping(
     document: &mut yaml_document_t,
     tag: Option<&[u8]>,

@@ -1,14 +1,11 @@
--- Names, and texts that are UTF-8.
-use Rattle.std.proofs.Common.{◌≡◌, ℕ, ◌<◌, ◌^◌, List, ◌++◌, length, refl, subst, Option, Some, None, decimal, rules}
+-- Names, which are UTF-8.
+use Rattle.std.proofs.Common.{◌≡◌, ℕ, ◌<◌, ◌^◌, List, ◌++◌, length, refl, decimal, rules}
 use Rattle.std.specs.Prelude.{◌==◌, codes}
 use Rattle.std.specs.Str.{IsUtf8}
 use Rattle.std.proofs.lemmas.Bool.{cond_both}
 use Rattle.std.proofs.lemmas.Str.{IsUtf8-append, IsUtf8-from_ascii}
 use Rattle.std.proofs.lemmas.Fmt.{IsAscii-decimal}
-use Rattle.yaml_parse_model.specs.Nodes as model
-use Rattle.yaml_parse_document.specs.Documents.{IsSoundBody, IsSoundAt}
 use Rattle.yaml_emit_graph.specs.Graph.{lead, name_of}
-use Rattle.yaml_emit_graph.specs.Events.{IsUtf8Body}
 
 lead_utf8 : (n : ℕ) → IsUtf8 (lead n)
 lead_utf8 n = cond_both (n == 1) _ _ IsUtf8 (λ _. IsUtf8-from_ascii (codes "id00") (search rules)) (λ _. cond_both (n == 2) _ _ IsUtf8 (λ _. IsUtf8-from_ascii (codes "id0") (search rules)) (λ _. IsUtf8-from_ascii (codes "id") (search rules)))
@@ -21,15 +18,3 @@ pub name_made : (number size : ℕ) (items digits front : List ℕ) → digits �
     → size ≡ length digits → front ≡ lead size → items ≡ front ++ digits → items ≡ name_of number
 unfolding name_of
 name_made number size items digits front d n f e = rw (e, f, n, d) refl
-
-body_utf8 : (n : ℕ) (b : model.NodeBody) → IsSoundBody n b → IsUtf8Body b
-body_utf8 n (model.scalar value style) h = h
-body_utf8 n _ h = tt
-
--- the texts of a document's node
-pub utf8_at : (n : ℕ) (r : Option model.Node) (m : model.Node) → IsSoundAt n r → Some m ≡ r
-    → IsUtf8 m.tag × IsUtf8Body m.body
-utf8_at n None m s e = absurd (cc)
-utf8_at n (Some x) m s e =
-    let same : x ≡ m = cc in
-    subst (λ (z : model.Node). IsUtf8 z.tag × IsUtf8Body z.body) same (s.0, body_utf8 n x.body s.1)

@@ -4,7 +4,6 @@ use Rattle.std.specs.declared.alloc.AllocError.{AllocError}
 use Rattle.yaml_scan_model.specs.declared.yaml_scalar_style_t.{yaml_scalar_style_t}
 use Rattle.yaml_parse_model.specs.Events.{EventBody}
 use Rattle.yaml_parse_model.specs.Constructors.{HasUtf8}
-use Rattle.yaml_parse_model.specs.Nodes as model
 use Rattle.yaml_parse_document.specs.Documents.{Document}
 use Rattle.yaml_emit_layout.specs.Content.{Event, document_start, document_end, emitter_event}
 use Rattle.yaml_emit_graph.specs.declared.graph.Events.{Events}
@@ -17,12 +16,6 @@ use Rattle.yaml_emit_graph.specs.Texts.{text_event, IsPlainText}
 -- a call put that event, with texts that are UTF-8, into a slot
 abbrev pub Says : Event → Result Unit AllocError → EventBody → Type 0
 Says e result put = OnOk result ((emitter_event put ≡ e) × HasUtf8 put)
-
-abbrev pub IsUtf8Body : model.NodeBody → Type 0
-IsUtf8Body model.no = Unit {0}
-IsUtf8Body (model.scalar value style) = IsUtf8 value
-IsUtf8Body (model.sequence items style) = Unit {0}
-IsUtf8Body (model.mapping pairs style) = Unit {0}
 
 -- what is left of the nodes, and the document's end
 abbrev pub nodes_left : Document → Events → List Event

@@ -1,24 +1,22 @@
 //! The events of a document's nodes.
 
-ghost use Rattle.std.specs.Prelude.{◌≡◌, IfOk, OnOk, IfSome, None, Some, IsUtf8, map};
+ghost use Rattle.std.specs.Prelude.{◌≡◌, IfOk, IfSome, None, Some, IsUtf8, map};
 ghost use Rattle.yaml_parse_model.specs.Constructors.{HasUtf8, IsUtf8Option};
-ghost use Rattle.yaml_parse_document.specs.Documents.{str_tag, seq_tag, map_tag};
+ghost use Rattle.yaml_parse_document.specs.Documents.{seq_tag, map_tag};
 ghost use Rattle.yaml_parse_model.specs.Events.{body_of, text_of, directive_of};
-ghost use Rattle.yaml_parse_model.specs.Nodes.{node_of, tag_of};
-ghost use Rattle.yaml_emit_layout.specs.Content.{emitter_event, scalar, alias, sequence_start, mapping_start, document_start, is_flow_sequence, is_flow_mapping};
-ghost use Rattle.yaml_emit_graph.specs.Graph.{lead, name_of, anchor_of, graph_scalar, graph_start, opening_event, closing_event, body_of_id, tag_of_id, turn_event, graph_opening, dumped};
-ghost use Rattle.yaml_emit_graph.specs.Events.{remaining_events, IsEvents, Says, GivesGraphEvent, IsTextAhead, GivesPlainText, IsUtf8Body};
+ghost use Rattle.yaml_parse_model.specs.Nodes.{tag_of};
+ghost use Rattle.yaml_emit_layout.specs.Content.{emitter_event, scalar, alias, sequence_start, mapping_start, is_flow_sequence, is_flow_mapping};
+ghost use Rattle.yaml_emit_graph.specs.Graph.{lead, name_of, anchor_of, graph_scalar, graph_start, opening_event, closing_event, body_of_id, tag_of_id, turn_event, dumped};
+ghost use Rattle.yaml_emit_graph.specs.Events.{remaining_events, IsEvents, Says, GivesGraphEvent, IsTextAhead, GivesPlainText};
 
 use crate::numbers::{Walked, number_of, walk_nodes};
 use crate::rooms::{Rooms, put_aside};
-use crate::tags::{is_map, is_seq, is_str};
+use crate::tags::is_default;
 use crate::text::text_met;
 use crate::walk::Turn;
 use std::alloc::{AllocError, Global};
 use yaml_parse_document::{yaml_document_get_node, yaml_document_t};
-use yaml_parse_model::{
-    copy_directives, yaml_event_body_t, yaml_node_body_t, yaml_node_t, yaml_node_tag_t,
-};
+use yaml_parse_model::{copy_directives, yaml_event_body_t, yaml_node_body_t, yaml_node_tag_t};
 use yaml_scan_model::{
     refilled, room_of, yaml_mapping_style_t, yaml_scalar_style_t, yaml_sequence_style_t,
     yaml_tag_directive_t,
@@ -119,7 +117,7 @@ fn put_other_scalar(
         result (body_of event.new) }
 {
     put_aside(rooms, event);
-    let plain = is_str(tag);
+    let plain = is_default(tag, &yaml_node_tag_t::Str);
     let anchor = anchor_of(rooms.alloc, number)?;
     let name = refilled(&mut rooms.tag, tag.as_slice(), 0)?;
     let text = refilled(&mut rooms.value, value, 0)?;
@@ -166,7 +164,7 @@ fn put_scalar_event(
             *held_tag = Some(text);
             let text = refilled(held_value, value, 0)?;
             *held_value = text;
-            let plain = is_str(tag);
+            let plain = is_default(tag, &yaml_node_tag_t::Str);
             *plain_implicit = plain;
             *quoted_implicit = plain;
             *how = style;
@@ -190,7 +188,7 @@ fn put_sequence(
         (is_flow_sequence style))) result (body_of event.new) }
 {
     put_aside(rooms, event);
-    let implicit = is_seq(tag);
+    let implicit = is_default(tag, &yaml_node_tag_t::Seq);
     let anchor = anchor_of(rooms.alloc, number)?;
     let name = refilled(&mut rooms.tag, tag.as_slice(), 0)?;
     let body = yaml_event_body_t::SequenceStart {
@@ -217,7 +215,7 @@ fn put_mapping(
         (is_flow_mapping style))) result (body_of event.new) }
 {
     put_aside(rooms, event);
-    let implicit = is_map(tag);
+    let implicit = is_default(tag, &yaml_node_tag_t::Map);
     let anchor = anchor_of(rooms.alloc, number)?;
     let name = refilled(&mut rooms.tag, tag.as_slice(), 0)?;
     let body = yaml_event_body_t::MappingStart {
@@ -230,28 +228,25 @@ fn put_mapping(
     Ok(())
 }
 
-// The event of a node that is written for the first time.
+// The event of the node under a number, which is written for the first time.
 // Inlined into its one caller.
 #[inline(always)]
-fn put_node(
+fn put_node_start(
     rooms: &mut Rooms,
+    document: &yaml_document_t,
     number: u64,
-    node: &yaml_node_t,
+    id: i32,
     event: &mut yaml_event_body_t,
 ) -> Result<(), AllocError>
-    requires { IsUtf8 (node_of node.now).tag × IsUtf8Body (node_of node.now).body }
-    ensures { Says (opening_event (anchor_of number) (node_of node.now).tag (node_of node.now).body)
-        result (body_of event.new) }
+    ensures { Says (opening_event (anchor_of number) (tag_of_id document.now.nodes id)
+        (body_of_id document.now.nodes id)) result (body_of event.new) }
 {
+    let unstyled = yaml_scalar_style_t::YAML_ANY_SCALAR_STYLE;
+    let Some(node) = yaml_document_get_node(document, id) else {
+        return put_other_scalar(rooms, number, &yaml_node_tag_t::Str, b"", unstyled, event);
+    };
     match &node.body {
-        yaml_node_body_t::No => put_other_scalar(
-            rooms,
-            number,
-            &node.tag,
-            b"",
-            yaml_scalar_style_t::YAML_ANY_SCALAR_STYLE,
-            event,
-        ),
+        yaml_node_body_t::No => put_other_scalar(rooms, number, &node.tag, b"", unstyled, event),
         yaml_node_body_t::Scalar { value, style } => put_scalar_event(
             rooms,
             number,
@@ -269,43 +264,16 @@ fn put_node(
     }
 }
 
-// How the node under a number begins.
-// Inlined into its one caller.
-#[inline(always)]
-fn put_node_start(
-    rooms: &mut Rooms,
-    document: &yaml_document_t,
-    number: u64,
-    id: i32,
-    event: &mut yaml_event_body_t,
-) -> Result<(), AllocError>
-    ensures { Says (opening_event (anchor_of number) (tag_of_id document.now.nodes id)
-        (body_of_id document.now.nodes id)) result (body_of event.new) }
-{
-    match yaml_document_get_node(document, id) {
-        None => put_other_scalar(
-            rooms,
-            number,
-            &yaml_node_tag_t::Str,
-            b"",
-            yaml_scalar_style_t::YAML_ANY_SCALAR_STYLE,
-            event,
-        ),
-        Some(node) => put_node(rooms, number, node, event),
-    }
-}
-
 // What ends the collection under a number.
 fn closing_event(document: &yaml_document_t, id: i32) -> yaml_event_body_t
     ensures is { emitter_event (body_of result) ≡ closing_event (body_of_id document.now.nodes id) }
     ensures utf8 { HasUtf8 (body_of result) }
 {
     match yaml_document_get_node(document, id) {
-        None => yaml_event_body_t::MappingEnd,
-        Some(node) => match node.body {
-            yaml_node_body_t::Sequence { .. } => yaml_event_body_t::SequenceEnd,
-            _ => yaml_event_body_t::MappingEnd,
-        },
+        Some(node) if matches!(node.body, yaml_node_body_t::Sequence { .. }) => {
+            yaml_event_body_t::SequenceEnd
+        }
+        _ => yaml_event_body_t::MappingEnd,
     }
 }
 
@@ -350,28 +318,16 @@ impl Events {
     // The value of the text whose turn comes next, if it is one with the default tag and without an anchor.
     // Inlined: mostly a look at the node.
     #[inline(always)]
-    fn text_ahead<'a>(&self, document: &'a yaml_document_t) -> Option<&'a [u8]>
-        requires { self.now.place ≡ DumpPhase.Nodes }
-        ensures { IfSome result (λ v. IsTextAhead v.now document.now self.now) }
-    {
-        if self.given < self.turns.len() {
-            match text_met(&self.numbers, document, self.turns[self.given]) {
-                None => None,
-                Some(value) => Some(value),
-            }
-        } else {
-            None
-        }
-    }
-
-    // The same, wherever the walk is.
-    // Inlined: a test.
-    #[inline(always)]
     fn text_to_come<'a>(&self, document: &'a yaml_document_t) -> Option<&'a [u8]>
         ensures { IfSome result (λ v. IsTextAhead v.now document.now self.now) }
     {
         match self.place {
-            DumpPhase::Nodes => self.text_ahead(document),
+            DumpPhase::Nodes if self.given < self.turns.len() => {
+                match text_met(&self.numbers, document, self.turns[self.given]) {
+                    None => None,
+                    Some(value) => Some(value),
+                }
+            }
             _ => None,
         }
     }
@@ -379,6 +335,7 @@ impl Events {
     /// The value of the text that comes next, if it is one with the default tag and without an anchor: then it is given.
     // Inlined: mostly a look at the node.
     #[inline(always)]
+    #[tactic(auto, using(crate::proofs::Plain::text_comes))]
     pub fn next_text<'a>(&mut self, document: &'a yaml_document_t) -> Option<&'a [u8]>
         ensures text { IfSome result (λ v. GivesPlainText document.now self.old v.now self.new) }
         ensures none { result ≡ None → self.new ≡ self.old }
@@ -393,6 +350,7 @@ impl Events {
     }
 
     /// Before the document's start.
+    #[tactic(auto, using(crate::proofs::Leaving::begin_comes))]
     pub fn of(alloc: Global, document: &yaml_document_t) -> Result<Events, AllocError>
         ensures { IfOk result (λ e. IsEvents document.now e
             × (remaining_events document.now e ≡ dumped document.now)) }
@@ -412,21 +370,7 @@ impl Events {
         })
     }
 
-    fn put_start(
-        &self,
-        document: &yaml_document_t,
-        event: &mut yaml_event_body_t,
-    ) -> Result<(), AllocError>
-        ensures { Says (document_start (graph_opening document.now)) result (body_of event.new) }
-    {
-        *event = yaml_event_body_t::DocumentStart {
-            version_directive: document.version_directive(),
-            tag_directives: copies(self.alloc, document.tag_directives())?,
-            implicit: document.start_implicit(),
-        };
-        Ok(())
-    }
-
+    #[tactic(auto, using(crate::proofs::Leaving::start_comes))]
     fn begin(
         &mut self,
         document: &yaml_document_t,
@@ -436,12 +380,17 @@ impl Events {
         requires place { self.old.place ≡ DumpPhase.Start }
         ensures { GivesGraphEvent document.now self.old result (body_of event.new) self.new }
     {
-        self.put_start(document, event)?;
+        *event = yaml_event_body_t::DocumentStart {
+            version_directive: document.version_directive(),
+            tag_directives: copies(self.alloc, document.tag_directives())?,
+            implicit: document.start_implicit(),
+        };
         self.place = DumpPhase::Nodes;
         Ok(true)
     }
 
     // The next event of the nodes, or the document's end.
+    #[tactic(auto, using(crate::proofs::Leaving::turn_comes, crate::proofs::Leaving::end_comes))]
     fn step(
         &mut self,
         document: &yaml_document_t,
@@ -466,6 +415,7 @@ impl Events {
     }
 
     /// The next event, in a slot that is lent; none behind the document's end.
+    #[tactic(auto, using(crate::proofs::Leaving::none_comes))]
     pub fn next(
         &mut self,
         document: &yaml_document_t,

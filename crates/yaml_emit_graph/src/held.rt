@@ -21,6 +21,7 @@ pub fn next_held(held: &[i32], index: usize) -> Option<i32>
 }
 
 // The same of pairs, the key of each in front of its value.
+#[tactic(auto, using(crate::proofs::Walking::pair_comes, crate::proofs::Walking::pair_none))]
 fn next_in_pairs(pairs: &[yaml_node_pair_t], index: usize) -> Option<i32>
     ensures { NextHeld (pair_ids pairs.now) index result }
 {
@@ -59,10 +60,10 @@ impl Walkable for yaml_document_t {
     fn is_collection(&self, id: i32) -> bool {
         match yaml_document_get_node(self, id) {
             None => false,
-            Some(node) => match node.body {
-                yaml_node_body_t::Sequence { .. } | yaml_node_body_t::Mapping { .. } => true,
-                _ => false,
-            },
+            Some(node) => matches!(
+                node.body,
+                yaml_node_body_t::Sequence { .. } | yaml_node_body_t::Mapping { .. }
+            ),
         }
     }
 

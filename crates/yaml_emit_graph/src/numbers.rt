@@ -1,7 +1,7 @@
 //! What a walk meets, and the numbers of the nodes that it meets again.
 
-ghost use Rattle.std.specs.Prelude.{◌≡◌, ◌<◌, length, Some, IfOk};
-ghost use Rattle.yaml_emit_graph.specs.Graph.{turns, numbers, numbered_by, next_number, again_at, place_at, number_in, number_at, none_numbered};
+ghost use Rattle.std.specs.Prelude.{◌≡◌, ◌<◌, length, IfOk};
+ghost use Rattle.yaml_emit_graph.specs.Graph.{turns, numbers, numbered_by, next_number, again_at, place_at, number_at, none_numbered};
 ghost use Rattle.yaml_emit_graph.specs.Numbers.{IsNumbering, numbering_of};
 
 use crate::walk::{Turn, Walk, Walkable, place_of};
@@ -21,19 +21,13 @@ pub struct Numbers {
     pub table: Vec<u64>,
 }
 
-fn number_in(table: &[u64], at: usize) -> u64
-    ensures { result ≡ number_in table.now (Some at) }
-{
-    if at < table.len() { table[at] } else { 0 }
-}
-
 /// The number of a node, or 0.
 pub fn number_of(table: &[u64], id: i32) -> u64
     ensures { result ≡ number_at table.now id }
 {
     match place_of(id) {
-        None => 0,
-        Some(at) => number_in(table, at),
+        Some(at) if at < table.len() => table[at],
+        _ => 0,
     }
 }
 
@@ -49,7 +43,7 @@ impl Numbers {
     }
 
     // The next number, to a node without one.
-    #[tactic(auto, using(crate::proofs::Counting::room, crate::proofs::Counting::same_default))]
+    #[tactic(auto, using(crate::proofs::Counting::room, crate::proofs::Counting::same_default, crate::proofs::Counting::counted_next))]
     fn number_node(&mut self, at: usize)
         requires numbers { IsNumbering (numbering_of self.old) }
         requires within { at < length self.old.table.items }
@@ -62,24 +56,14 @@ impl Numbers {
         }
     }
 
-    fn meet_at(&mut self, at: usize)
-        requires numbers { IsNumbering (numbering_of self.old) }
-        ensures gives { numbering_of self.new ≡ next_number (numbering_of self.old) at }
-        ensures numbers { IsNumbering (numbering_of self.new) }
-    {
-        if at < self.table.len() {
-            self.number_node(at);
-        }
-    }
-
     fn meet_again(&mut self, id: i32)
         requires numbers { IsNumbering (numbering_of self.old) }
         ensures gives { numbering_of self.new ≡ again_at (place_at id) (numbering_of self.old) }
         ensures numbers { IsNumbering (numbering_of self.new) }
     {
         match place_of(id) {
-            None => (),
-            Some(at) => self.meet_at(at),
+            Some(at) if at < self.table.len() => self.number_node(at),
+            _ => (),
         }
     }
 

@@ -1,47 +1,16 @@
 //! Texts with the default tag and without an anchor: their values are lent as they stand in the document.
 
-ghost use Rattle.std.specs.Prelude.{◌≡◌, true, length, IfSome};
-ghost use Rattle.yaml_parse_document.specs.Documents.{node_at, IsSoundAt, str_tag};
-ghost use Rattle.yaml_parse_model.specs.Nodes.{node_of, tag_of};
+ghost use Rattle.std.specs.Prelude.{length, IfSome};
+ghost use Rattle.yaml_parse_document.specs.Documents.{node_at, IsSoundAt};
 ghost use Rattle.yaml_emit_graph.specs.Graph.{turn_event};
-ghost use Rattle.yaml_emit_graph.specs.Texts.{HasPlainText, NamesText, IsPlainText};
+ghost use Rattle.yaml_emit_graph.specs.Texts.{NamesText, IsPlainText};
 
 use crate::numbers::number_of;
 use crate::walk::Turn;
 use yaml_parse_document::{yaml_document_get_node, yaml_document_t};
-use yaml_parse_model::{yaml_node_body_t, yaml_node_t, yaml_node_tag_t};
+use yaml_parse_model::{yaml_node_body_t, yaml_node_tag_t};
 
-// Whether a tag is the default one of a text.
-// Inlined: a look at the kind.
-#[inline(always)]
-fn is_default(tag: &yaml_node_tag_t) -> bool
-    ensures { result ≡ true → tag_of tag.now ≡ str_tag }
-{
-    match tag {
-        yaml_node_tag_t::Str => true,
-        _ => false,
-    }
-}
-
-// The value of a scalar with the default tag.
-// Inlined: a look at the node.
-#[inline(always)]
-fn text_in(node: &yaml_node_t) -> Option<&[u8]>
-    ensures { IfSome result (λ v. HasPlainText (node_of node.now) v.now) }
-{
-    match &node.body {
-        yaml_node_body_t::Scalar { value, .. } => {
-            if is_default(&node.tag) {
-                Some(value.as_slice())
-            } else {
-                None
-            }
-        }
-        _ => None,
-    }
-}
-
-// The same of the node under a number.
+// The value of the scalar with the default tag under a number.
 // Inlined: a look at the node.
 #[inline(always)]
 fn text_under(document: &yaml_document_t, id: i32) -> Option<&[u8]>
@@ -50,7 +19,11 @@ fn text_under(document: &yaml_document_t, id: i32) -> Option<&[u8]>
 {
     match yaml_document_get_node(document, id) {
         None => None,
-        Some(node) => text_in(node),
+        Some(node) => match &node.body {
+            yaml_node_body_t::Scalar { value, .. } if matches!(node.tag, yaml_node_tag_t::Str) =>
+                Some(value.as_slice()),
+            _ => None,
+        },
     }
 }
 
@@ -63,14 +36,8 @@ fn text_at<'a>(numbers: &[u64], document: &'a yaml_document_t, id: i32) -> Optio
         v.now) }
 {
     match text_under(document, id) {
-        None => None,
-        Some(value) => {
-            if number_of(numbers, id) == 0 {
-                Some(value)
-            } else {
-                None
-            }
-        }
+        Some(value) if number_of(numbers, id) == 0 => Some(value),
+        _ => None,
     }
 }
 

@@ -2,7 +2,7 @@
 
 ghost use Rattle.std.specs.Prelude.{◌≡◌, ◌∷◌, [], List, None, Some, IfOk, OnOk, length, replicate, true, false};
 ghost use Rattle.yaml_parse_model.specs.Nodes.{Node};
-ghost use Rattle.yaml_emit_graph.specs.Graph.{place_at, met_at, meet_at, is_met, meet, child_ids, is_collection, body_of_id};
+ghost use Rattle.yaml_emit_graph.specs.Graph.{place_at, is_met, meet, child_ids, is_collection, body_of_id};
 ghost use Rattle.yaml_emit_graph.specs.Walk.{NextHeld, IsWalk, stack_of, rest_of, with_opened, Marks, Visited, Comes};
 
 use std::alloc::{AllocError, Global};
@@ -78,31 +78,12 @@ impl Walk {
         })
     }
 
-    fn is_met_at(&self, at: usize) -> bool
-        ensures { result ≡ met_at self.now.met.items (Some at) }
-    {
-        if at < self.met.len() {
-            self.met[at]
-        } else {
-            true
-        }
-    }
-
     fn is_met(&self, id: i32) -> bool
         ensures { result ≡ is_met self.now.met.items id }
     {
         match place_of(id) {
-            None => true,
-            Some(at) => self.is_met_at(at),
-        }
-    }
-
-    fn mark_at(&mut self, at: usize)
-        ensures marks { self.new.met.items ≡ meet_at self.old.met.items (Some at) }
-        ensures rest { Marks self.old self.new }
-    {
-        if at < self.met.len() {
-            self.met[at] = true;
+            Some(at) if at < self.met.len() => self.met[at],
+            _ => true,
         }
     }
 
@@ -111,8 +92,10 @@ impl Walk {
         ensures rest { Marks self.old self.new }
     {
         match place_of(id) {
-            None => (),
-            Some(at) => self.mark_at(at),
+            Some(at) if at < self.met.len() => {
+                self.met[at] = true;
+            }
+            _ => (),
         }
     }
 
@@ -173,6 +156,7 @@ impl Walk {
     }
 
     // What comes next in the innermost open node, or its end.
+    #[tactic(auto, using(crate::proofs::Walking::leave_comes))]
     fn step<G: Walkable>(&mut self, graph: &G, from: Open) -> Result<Option<Turn>, AllocError>
         requires walk { IsWalk (G.nodes graph.now) self.old }
         requires going { self.old.started ≡ true }
@@ -194,6 +178,7 @@ impl Walk {
         }
     }
 
+    #[tactic(auto, using(crate::proofs::Walking::none_comes))]
     fn go_on<G: Walkable>(&mut self, graph: &G) -> Result<Option<Turn>, AllocError>
         requires walk { IsWalk (G.nodes graph.now) self.old }
         requires going { self.old.started ≡ true }

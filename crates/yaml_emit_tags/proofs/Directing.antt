@@ -8,9 +8,9 @@ use Rattle.yaml_parse_model.specs.Events.{TagDirective, directive_of}
 use Rattle.yaml_emit_tags.specs.Tags.{has_shorter_prefix, directive_for, defines}
 use Rattle.yaml_emit_tags.specs.Prefixes.{entry_of, directive_at, IsFirstShorter, IsNumber}
 use Rattle.yaml_emit_tags.specs.TableView.{IsIndexed}
-use Rattle.yaml_emit_tags.proofs.Directives.{next_of, none_of}
+use Rattle.yaml_emit_tags.proofs.Directives.{next_of, none_of, chosen}
 use Rattle.yaml_emit_tags.proofs.Sorting.{begins}
-use Rattle.yaml_emit_tags.proofs.Numbering.{taken, passed, number_by}
+use Rattle.yaml_emit_tags.proofs.Numbering.{number_by}
 
 pub none_defined : (ds : List yaml_tag_directive_t) (handle : List ℕ) → ds ≡ []
     → false ≡ defines (map directive_of ds) handle
@@ -34,7 +34,7 @@ walk_found ds i d tag t h is te e f =
     let P : TagDirective → Type 0 = λ z. length z.prefix < length tag in (
       omega (arith, length-map ds directive_of),
       subst P (sym there) (begins (directive_of d).prefix tag has).shorter,
-      e ∙ ap (λ z. directive_for z tag) (next_of ds i d h is) ∙ taken (directive_of d) (map directive_of (drop (i + 1) ds)) tag has ∙ ap Some (sym there),
+      e ∙ ap (λ z. directive_for z tag) (next_of ds i d h is) ∙ chosen (directive_of d) (map directive_of (drop (i + 1) ds)) tag true has ∙ ap Some (sym there),
     )
 
 pub walk_more : (ds : List yaml_tag_directive_t) (i : ℕ) (d : yaml_tag_directive_t) (tag t : List ℕ)
@@ -46,7 +46,7 @@ pub walk_more : (ds : List yaml_tag_directive_t) (i : ℕ) (d : yaml_tag_directi
 walk_more ds i d tag t h is te e f =
     let same : (directive_of d).prefix ≡ t = ap (λ (x : yaml_tag_directive_t). x.prefix.items) is ∙ sym te in
     let has : has_shorter_prefix (directive_of d).prefix tag ≡ false = ap (λ p. has_shorter_prefix p tag) same ∙ f in
-    e ∙ ap (λ z. directive_for z tag) (next_of ds i d h is) ∙ passed (directive_of d) (map directive_of (drop (i + 1) ds)) tag has
+    e ∙ ap (λ z. directive_for z tag) (next_of ds i d h is) ∙ chosen (directive_of d) (map directive_of (drop (i + 1) ds)) tag false has
 
 pub walk_none : (ds : List yaml_tag_directive_t) (i : ℕ) (tag : List ℕ) → length ds ≤ i
     → directive_for (map directive_of ds) tag ≡ directive_for (map directive_of (drop i ds)) tag

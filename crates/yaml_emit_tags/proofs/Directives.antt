@@ -20,29 +20,26 @@ pub none_of : (ds : List yaml_tag_directive_t) (i : ℕ) → length ds ≤ i
     → map directive_of (drop i ds) ≡ []
 none_of ds i h = ap (map directive_of) (drop_all _ _ h)
 
-defines_at : (d : TagDirective) (ds : List TagDirective) (handle : List ℕ)
-    → defines (d ∷ ds) handle ≡ (bytes_eq d.handle handle || defines ds handle)
-unfolding defines
-defines_at d ds handle = refl
-
 -- One directive more: it defines the handle, or those behind it do.
 pub defines_next : (v b : Bool) (ds : List yaml_tag_directive_t) (i : ℕ) (d : yaml_tag_directive_t)
     (handle : List ℕ) → i < length ds → d ≡ get_or ds i d
     → b ≡ defines (map directive_of (drop i ds)) handle → bytes_eq d.handle.items handle ≡ v
     → b ≡ (v || defines (map directive_of (drop (i + 1) ds)) handle)
+unfolding defines
 defines_next v b ds i d handle h is e f =
-    e ∙ ap (λ t. defines t handle) (next_of ds i d h is) ∙ defines_at (directive_of d) (map directive_of (drop (i + 1) ds)) handle ∙ ap (λ v. v || defines (map directive_of (drop (i + 1) ds)) handle) f
+    e ∙ ap (λ t. defines t handle) (next_of ds i d h is) ∙ ap (λ v. v || defines (map directive_of (drop (i + 1) ds)) handle) f
 
 pub defines_none : (b : Bool) (ds : List yaml_tag_directive_t) (i : ℕ) (handle : List ℕ)
     → length ds ≤ i → b ≡ defines (map directive_of (drop i ds)) handle → false ≡ b
 unfolding defines
 defines_none b ds i handle h e = sym (e ∙ ap (λ t. defines t handle) (none_of ds i h))
 
-pub directive_at : (d : TagDirective) (ds : List TagDirective) (tag : List ℕ)
-    → directive_for (d ∷ ds) tag ≡ cond (has_shorter_prefix d.prefix tag) (Some d)
-    (directive_for ds tag)
+-- whether the tag begins with the first one's prefix decides
+pub chosen : (d : TagDirective) (ds : List TagDirective) (tag : List ℕ) (b : Bool)
+    → has_shorter_prefix d.prefix tag ≡ b
+    → directive_for (d ∷ ds) tag ≡ cond b (Some d) (directive_for ds tag)
 unfolding directive_for
-directive_at d ds tag = refl
+chosen d ds tag b e = ap (λ v. cond v (Some d) (directive_for ds tag)) e
 
 -- the first of two lists
 abbrev pub o_else : Option TagDirective → Option TagDirective → Option TagDirective
@@ -59,7 +56,7 @@ both_for : (ds es : List TagDirective) (tag : List ℕ)
 unfolding directive_for
 both_for [] es tag = refl
 both_for (d ∷ ds) es tag =
-    directive_at d (ds ++ es) tag
+    chosen d (ds ++ es) tag _ refl
     ∙ ap (λ o. cond (has_shorter_prefix d.prefix tag) (Some d) o) (both_for ds es tag)
     ∙ choice (has_shorter_prefix d.prefix tag) d (directive_for ds tag) (directive_for es tag)
 
@@ -75,24 +72,17 @@ by_flags : (d : TagDirective) (es : List TagDirective) (tag : List ℕ) (b h : B
     ≡ cond (h && not b) (Some d) (directive_for es tag)
 by_flags d es tag true true e = refl
 by_flags d es tag true false e = refl
-by_flags d es tag false true e = directive_at d es tag ∙ ap (λ v. cond v (Some d) (directive_for es tag)) e
-by_flags d es tag false false e = directive_at d es tag ∙ ap (λ v. cond v (Some d) (directive_for es tag)) e
-
-unless_law : (ds es : List TagDirective) (d : TagDirective) (tag : List ℕ)
-    → directive_for (unless_defined ds d ++ es) tag
-    ≡ cond (stands_for ds d tag) (Some d) (directive_for es tag)
-unless_law ds es d tag = by_flags d es tag (defines ds d.handle) (has_shorter_prefix d.prefix tag) refl
-
-empty_behind : (ds : List TagDirective) (d : TagDirective) (tag : List ℕ)
-    → directive_for (unless_defined ds d) tag ≡ cond (stands_for ds d tag) (Some d) None
-unfolding directive_for
-empty_behind ds d tag = ap (λ t. directive_for t tag) (sym (append-nil (unless_defined ds d))) ∙ unless_law ds [] d tag
+by_flags d es tag false true e = chosen d es tag true e
+by_flags d es tag false false e = chosen d es tag false e
 
 defaults_law : (ds : List TagDirective) (tag : List ℕ)
     → directive_for (defaults ds) tag
     ≡ cond (stands_for ds primary tag) (Some primary)
     (cond (stands_for ds secondary tag) (Some secondary) None)
-defaults_law ds tag = unless_law ds (unless_defined ds secondary) primary tag ∙ ap (λ o. cond (stands_for ds primary tag) (Some primary) o) (empty_behind ds secondary tag)
+unfolding directive_for
+defaults_law ds tag =
+    by_flags primary (unless_defined ds secondary) tag (defines ds primary.handle) _ refl
+    ∙ ap (λ o. cond (stands_for ds primary tag) (Some primary) o) (ap (λ t. directive_for t tag) (sym (append-nil (unless_defined ds secondary))) ∙ by_flags secondary [] tag (defines ds secondary.handle) _ refl)
 
 -- A tag for which no directive stands is written by the primary handle, the secondary one, or in full.
 pub by_defaults : (ds : List TagDirective) (tag : List ℕ) (p s : Bool)

@@ -8,7 +8,7 @@ use Rattle.std.proofs.lemmas.List.Sums.{AllPass-from_list_all}
 use Rattle.std.proofs.lemmas.Str.{IsAscii-append}
 use Rattle.std.proofs.lemmas.Str.Ascii.{IsAscii-from_all}
 use Rattle.std.proofs.lemmas.Bool.{and_parts}
-use Rattle.yaml_emit_sink.specs.Layout.{letters, word}
+use Rattle.yaml_emit_sink.specs.Layout.{word}
 use Rattle.yaml_emit_sink.specs.Sink.{Output, Puts}
 use Rattle.yaml_emit_sink.specs.Hex.{hex_2}
 use Rattle.yaml_emit_tags.specs.Tags.{suffix_keeps, keeps_byte, uri_byte, uri_text, shorthand, spelled}
@@ -18,7 +18,7 @@ unfolding suffix_keeps
 low true b h = grind (arith, nat_tests, h)
 low false b h = grind (arith, nat_tests, h)
 
-pub kept_ascii : (flow : Bool) (xs : List ℕ) → list_all (keeps_byte flow) xs ≡ true → IsAscii xs
+kept_ascii : (flow : Bool) (xs : List ℕ) → list_all (keeps_byte flow) xs ≡ true → IsAscii xs
 kept_ascii flow xs h = IsAscii-from_all xs (λ k d l. low flow _ (AllPass-from_list_all (keeps_byte flow) xs h k d l))
 
 kept_byte : (flow : Bool) (b : ℕ) → keeps_byte flow b ≡ true → uri_byte flow b ≡ b ∷ []
@@ -30,10 +30,6 @@ unfolding uri_text
 kept_text flow [] h = refl
 kept_text flow (x ∷ xs) h =
     ap (λ (t : List ℕ). x ∷ t) (kept_text flow xs (and_parts (keeps_byte flow x) _ h).1) ∙ ap (λ (t : List ℕ). t ++ uri_text flow xs) (sym (kept_byte flow x (and_parts (keeps_byte flow x) _ h).0))
-
-pub puts_kept : (flow : Bool) (a b : Output) (xs : List ℕ) → list_all (keeps_byte flow) xs ≡ true
-    → Puts a b (letters xs) → Puts a b (letters (uri_text flow xs))
-puts_kept flow a b xs h p = let P : List ℕ → Type 0 = λ t. Puts a b (letters t) in subst P (kept_text flow xs h) p
 
 pub behind_ascii : (handle xs : List ℕ) → IsAscii handle → list_all (keeps_byte false) xs ≡ true
     → IsAscii (handle ++ (xs ++ []))

@@ -1,5 +1,5 @@
 -- The entries of an index, and the first directive by them.
-use Rattle.std.proofs.Common.{◌≡◌, ℕ, ◌+◌, ◌<◌, ◌≤◌, List, [], ◌∷◌, ◌++◌, length, drop, get_or, map, Bool, true, false, cond, refl, sym, ◌∙◌, ap, arith, subst, Option, None, Some, append-nil, append_assoc}
+use Rattle.std.proofs.Common.{◌≡◌, ℕ, ◌+◌, ◌<◌, ◌≤◌, List, [], ◌∷◌, ◌++◌, length, drop, get_or, map, Bool, true, false, refl, sym, ◌∙◌, ap, arith, subst, Option, None, Some, append-nil, append_assoc}
 use Rattle.std.specs.Prelude.{zero, suc, Vec}
 use Rattle.std.specs.Global.{Global}
 use Rattle.std.specs.Ordering.{nat_cmp, ordering_then, is_lt}
@@ -14,7 +14,7 @@ use Rattle.yaml_parse_model.specs.Events.{TagDirective, directive_of}
 use Rattle.yaml_emit_tags.specs.Tags.{has_shorter_prefix, directive_for}
 use Rattle.yaml_emit_tags.specs.Prefixes.{Entry, entry_of, at, entry_cmp, numbered, directive_at, IsIndex, IsFirstShorter, IsAtMost, IsNumber}
 use Rattle.yaml_emit_tags.proofs.Sorting.{Begins, begins}
-use Rattle.yaml_emit_tags.proofs.Directives.{directive_at as head_of}
+use Rattle.yaml_emit_tags.proofs.Directives.{chosen}
 
 -- ---- numbering
 
@@ -119,19 +119,11 @@ found_there ds xs tag n x f =
 
 -- ---- the first directive
 
-pub taken : (d : TagDirective) (ds : List TagDirective) (tag : List ℕ)
-    → has_shorter_prefix d.prefix tag ≡ true → directive_for (d ∷ ds) tag ≡ Some d
-taken d ds tag e = head_of d ds tag ∙ ap (λ v. cond v (Some d) (directive_for ds tag)) e
-
-pub passed : (d : TagDirective) (ds : List TagDirective) (tag : List ℕ)
-    → has_shorter_prefix d.prefix tag ≡ false → directive_for (d ∷ ds) tag ≡ directive_for ds tag
-passed d ds tag e = head_of d ds tag ∙ ap (λ v. cond v (Some d) (directive_for ds tag)) e
-
 not_taken : (d : TagDirective) (ds : List TagDirective) (tag : List ℕ) (o : Option TagDirective)
     (b : Bool) → has_shorter_prefix d.prefix tag ≡ b → (has_shorter_prefix d.prefix tag ≡ true → ⊥)
     → directive_for ds tag ≡ o → directive_for (d ∷ ds) tag ≡ o
 not_taken d ds tag o true e n k = absurd (n e)
-not_taken d ds tag o false e n k = passed d ds tag e ∙ k
+not_taken d ds tag o false e n k = chosen d ds tag false e ∙ k
 
 none_for : (ds : List TagDirective) (tag : List ℕ)
     → ((j : ℕ) → j < length ds → has_shorter_prefix (directive_at ds j).prefix tag ≡ true → ⊥)
@@ -145,7 +137,7 @@ some_for : (ds : List TagDirective) (tag : List ℕ) (n : ℕ) → n < length ds
     → ((j : ℕ) → j < length ds → has_shorter_prefix (directive_at ds j).prefix tag ≡ true → n ≤ j)
     → directive_for ds tag ≡ Some (directive_at ds n)
 some_for [] tag n h e first = absurd (omega arith)
-some_for (d ∷ ds) tag zero h e first = taken d ds tag e
+some_for (d ∷ ds) tag zero h e first = chosen d ds tag true e
 some_for (d ∷ ds) tag (suc n) h e first =
     not_taken d ds tag (Some (directive_at ds n)) (has_shorter_prefix d.prefix tag) refl
     (λ f. let l : suc n ≤ 0 = first 0 (omega arith) f in absurd (omega arith))

@@ -5,7 +5,7 @@ use Rattle.std.specs.Global.{Global}
 use Rattle.std.specs.Str.{bytes_eq}
 use Rattle.std.proofs.lemmas.Bool.{cases_lt, ltb-true, and_parts}
 use Rattle.std.proofs.lemmas.Bool.Decides.{nat_tests}
-use Rattle.std.proofs.lemmas.List.{get_or-map, take_more}
+use Rattle.std.proofs.lemmas.List.{get_or-map, get_or-take, take_more}
 use Rattle.std.proofs.lemmas.Slice.Eq.{bytes_eq-Decides}
 use Rattle.yaml_emit_tags.specs.Tags.{has_shorter_prefix}
 use Rattle.yaml_emit_tags.specs.Prefixes.{Entry, entry_of, at, key}
@@ -50,15 +50,9 @@ pub begun : (p t : List ℕ) → length p < length t → take (length p) t ≡ p
     → has_shorter_prefix p t ≡ true
 begun p t h e = let k : bytes_eq (take (length p) t) p ≡ true = (bytes_eq-Decides (take (length p) t) p).1 e in rw k (grind (arith, nat_tests))
 
-get_take : (d n : ℕ) (t : List ℕ) → d < n → get_or (take n t) d 0 ≡ get_or t d 0
-get_take d zero t h = absurd (omega arith)
-get_take d (suc n) [] h = refl
-get_take zero (suc n) (x ∷ t) h = refl
-get_take (suc d) (suc n) (x ∷ t) h = get_take d n t (omega arith)
-
 -- the byte behind is the tag's
 pub begins_key : (d : ℕ) (p t : List ℕ) → Begins p t → d < length p → key p d ≡ get_or t d 0 + 1
-begins_key d p t b h = key_within p d h ∙ ap (λ q. get_or q d 0 + 1) (sym b.same) ∙ ap (λ n. n + 1) (get_take d (length p) t h)
+begins_key d p t b h = key_within p d h ∙ ap (λ q. get_or q d 0 + 1) (sym b.same) ∙ ap (λ n. n + 1) (get_or-take (length p) t d 0 h)
 
 -- agreeing by one byte more
 pub agree_more : (d b : ℕ) (p t : List ℕ) → Agree d p t → d < length t → b ≡ get_or t d 0

@@ -26,6 +26,7 @@ pub fn has_shorter_prefix(prefix: &[u8], tag: &[u8]) -> bool
 }
 
 // The byte behind the first `depth` ones, plus one; 0 where there is none.
+#[tactic(auto, using(crate::proofs::Sorting::key_within, crate::proofs::Sorting::key_behind))]
 fn key(prefix: &[u8], depth: usize) -> u16
     ensures { result ≡ key prefix.now depth }
 {
@@ -107,6 +108,7 @@ pub fn first_among(entries: &[(Vec<u8>, usize)], tag: &[u8]) -> Option<usize>
     best
 }
 
+#[tactic(auto, using(crate::proofs::Numbering::numbered_more, crate::proofs::Numbering::numbered_all))]
 fn numbered(
     alloc: Global,
     directives: &[yaml_tag_directive_t],

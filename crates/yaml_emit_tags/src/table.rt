@@ -39,6 +39,7 @@ impl Model for DirectiveTable {
     ghost invariant = { IsTable };
 }
 
+#[tactic(auto, using(crate::proofs::Directives::defines_none))]
 fn defines(directives: &[yaml_tag_directive_t], handle: &[u8]) -> bool
     ensures { result ≡ defines (map directive_of directives.now) handle.now }
 {
@@ -51,6 +52,7 @@ fn defines(directives: &[yaml_tag_directive_t], handle: &[u8]) -> bool
 }
 
 // The number of the first directive by which the tag can be written, found one by one.
+#[tactic(auto, using(crate::proofs::Directing::walk_more, crate::proofs::Directing::walk_none))]
 fn walked(directives: &[yaml_tag_directive_t], tag: &[u8]) -> Option<usize>
     ensures { IsNumber (map directive_of directives.now) tag.now result }
 {
@@ -76,6 +78,7 @@ fn indexed(
 }
 
 // The number of the first directive by which the tag can be written.
+#[tactic(auto, using(crate::proofs::Directing::number_indexed))]
 fn first_usable(
     directives: &[yaml_tag_directive_t],
     sorted: &Option<Vec<(Vec<u8>, usize)>>,
@@ -92,6 +95,7 @@ fn first_usable(
 
 impl DirectiveTable {
     /// No directives.
+    #[tactic(auto, using(crate::proofs::Directing::none_defined))]
     pub fn new(alloc: Global) -> DirectiveTable
         ensures { result ≡ [] }
     {
@@ -131,6 +135,7 @@ impl DirectiveTable {
     }
 
     /// None is left.
+    #[tactic(auto, using(crate::proofs::Directing::none_defined))]
     pub fn clear(&mut self)
         ensures { self.new ≡ [] }
     {

@@ -4,10 +4,9 @@ ghost use Rattle.std.specs.List.{list_all};
 ghost use Rattle.std.specs.Str.{IsAscii};
 ghost use Rattle.yaml_scan_model.specs.Ascii as ascii;
 ghost use Rattle.std.specs.Prelude.{◌≡◌, ◌<◌, ◌≤◌, ◌+◌, ◌∷◌, [], map, length, drop, true, false, not, ◌&&◌, ◌||◌, ◌==◌, if◌then◌else◌, Some, None};
-ghost use Rattle.yaml_parse_model.specs.Nodes.{secondary_prefix};
 ghost use Rattle.yaml_emit_sink.specs.Sink.{Puts};
 ghost use Rattle.yaml_emit_sink.specs.Layout.{letters, word};
-ghost use Rattle.yaml_emit_tags.specs.Tags.{suffix_keeps, prefix_keeps, keeps_byte, uri_byte, uri_text, split_tag, split_by, split_of, defaults, stands_for, shorthand, verbatim, spelled, tag_spelling, tag_size, directive_for, primary, secondary};
+ghost use Rattle.yaml_emit_tags.specs.Tags.{suffix_keeps, prefix_keeps, keeps_byte, uri_byte, uri_text, split_tag, split_by, split_of, defaults, shorthand, verbatim, spelled, tag_spelling, tag_size, directive_for, has_shorter_prefix};
 
 use crate::prefixes::has_shorter_prefix;
 use crate::split::SplitTag;
@@ -73,10 +72,8 @@ fn put_uri_byte(sink: &mut Sink, flow: bool, byte: u8)
     }
 }
 
-// Byte by byte.
-// Out of line: the rare way, where a byte is escaped, beside the short one.
-#[inline(never)]
-fn put_each_uri_byte(sink: &mut Sink, flow: bool, text: &[u8])
+#[tactic(auto, using(yaml_emit_sink::proofs::Sinks::owes_same))]
+fn put_uri(sink: &mut Sink, flow: bool, text: &[u8])
     ensures { Puts sink.old sink.new (letters (uri_text flow text.now)) }
 {
     for byte in text {
@@ -96,32 +93,17 @@ fn are_kept(flow: bool, text: &[u8]) -> bool
     true
 }
 
-fn put_uri(sink: &mut Sink, flow: bool, text: &[u8])
-    ensures { Puts sink.old sink.new (letters (uri_text flow text.now)) }
+// Whether a handle that isn't defined stands for the start of a tag.
+// Inlined: the prefix is known, and with it its length.
+#[inline(always)]
+fn stands_for(prefix: &[u8], defined: bool, tag: &[u8]) -> bool
+    ensures value { result ≡ (has_shorter_prefix prefix.now tag.now && not defined) }
+    ensures inside { result ≡ true → length prefix.now < length tag.now }
 {
-    if are_kept(flow, text) {
-        sink.put_ascii(text);
-    } else {
-        put_each_uri_byte(sink, flow, text);
-    }
+    has_shorter_prefix(prefix, tag) && !defined
 }
 
-// Whether `!` stands for itself, the start of a tag.
-fn stands_for_primary(directives: &DirectiveTable, tag: &[u8]) -> bool
-    ensures value { result ≡ stands_for directives.now primary tag.now }
-    ensures inside { result ≡ true → 1 < length tag.now }
-{
-    has_shorter_prefix(b"!", tag) && !directives.defines_primary()
-}
-
-// Whether `!!` stands for `tag:yaml.org,2002:`, the start of a tag.
-fn stands_for_secondary(directives: &DirectiveTable, tag: &[u8]) -> bool
-    ensures value { result ≡ stands_for directives.now secondary tag.now }
-    ensures inside { result ≡ true → length secondary_prefix < length tag.now }
-{
-    has_shorter_prefix(SECONDARY_PREFIX, tag) && !directives.defines_secondary()
-}
-
+#[tactic(auto, using(crate::proofs::Directives::rest_of_slice))]
 fn suffix_behind<'a>(prefix: &[u8], tag: &'a [u8]) -> &'a [u8]
     requires { length prefix.now < length tag.now }
     ensures { result.now ≡ drop (length prefix.now) tag.now }
@@ -135,9 +117,9 @@ fn suffix_behind<'a>(prefix: &[u8], tag: &'a [u8]) -> &'a [u8]
 fn split_by_default<'a>(directives: &DirectiveTable, tag: &'a [u8]) -> SplitTag<'a>
     ensures { split_of result ≡ split_by (directive_for (defaults directives.now) tag.now) tag.now }
 {
-    if stands_for_primary(directives, tag) {
-        SplitTag::Primary(&tag[1..])
-    } else if stands_for_secondary(directives, tag) {
+    if stands_for(b"!", directives.defines_primary(), tag) {
+        SplitTag::Primary(suffix_behind(b"!", tag))
+    } else if stands_for(SECONDARY_PREFIX, directives.defines_secondary(), tag) {
         SplitTag::Secondary(suffix_behind(SECONDARY_PREFIX, tag))
     } else {
         SplitTag::Verbatim(tag)
@@ -186,6 +168,7 @@ fn put_verbatim(sink: &mut Sink, tag: &[u8])
 // A suffix behind a short handle, which is given without and with a space in front: at once where no byte of it is escaped.
 // Inlined: the handle is known.
 #[inline(always)]
+#[tactic(auto, using(crate::proofs::Kept::behind_ascii))]
 fn put_behind(sink: &mut Sink, handle: &[u8], parted: &[u8], suffix: &[u8])
     requires few { length handle.now ≤ 7 }
     requires some { 0 < length handle.now }
@@ -209,6 +192,7 @@ fn is_same(suffix: &[u8], other: &[u8]) -> bool
 }
 
 // A suffix behind `!!`: of a text, a mapping and a sequence the bytes are known.
+#[tactic(auto, unfolding(crate::specs::Tags::uri_text, crate::specs::Tags::spelled, crate::specs::Tags::suffix_keeps))]
 fn put_secondary(sink: &mut Sink, suffix: &[u8])
     ensures { Puts sink.old sink.new
         (word (spelled (shorthand (ascii.exclamation ∷ ascii.exclamation ∷ []) suffix.now))) }

@@ -1,17 +1,15 @@
 -- The sizes of a document's lists after a change.
-use Rattle.std.proofs.Common.{◌≡◌, ◌≤◌, ◌<◌, ℕ, zero, suc, ℤ, List, [], ◌∷◌, ◌++◌, length, map, sym, ◌∙◌, ap, subst, arith, get_or, Result, Ok, Err, MatchResult, refl}
-use Rattle.std.proofs.Math.ListN.{set}
+use Rattle.std.proofs.Common.{◌≡◌, ◌≤◌, ◌<◌, ℕ, zero, suc, ℤ, pos, List, [], ◌∷◌, ◌++◌, length, sym, subst, arith, Some, Result, Ok, Err, OnOk, refl}
+use Rattle.std.specs.Prelude.{slice_get}
 use Rattle.yaml_parse_model.specs.declared.yaml_node_pair_t.{yaml_node_pair_t}
-use Rattle.yaml_parse_model.specs.declared.yaml_node_t.{yaml_node_t}
 use Rattle.yaml_parse_model.specs.declared.yaml_sequence_style_t.{yaml_sequence_style_t}
 use Rattle.yaml_parse_model.specs.declared.yaml_mapping_style_t.{yaml_mapping_style_t}
 use Rattle.yaml_parse_model.specs.declared.yaml_text_fault_t.{yaml_text_fault_t}
-use Rattle.yaml_parse_model.specs.declared.yaml_text_fault_t.TheVariants.{Memory}
-use Rattle.yaml_parse_model.specs.Nodes.{Node, NodeBody, node_of}
+use Rattle.yaml_parse_model.specs.Nodes.{Node, NodeBody}
 use Rattle.yaml_parse_model.specs.Nodes as node
-use Rattle.yaml_parse_document.specs.Documents.{Document, with_node, with_item, with_pair, item_count, pair_count}
+use Rattle.yaml_parse_document.specs.Documents.{Document, IsDocument, IsSoundBody, IsKindAt, HasRoomAt, with_node, with_item, with_pair, item_count, pair_count, change_place, change_body, Appends}
 use Rattle.yaml_parse_document.specs.Sizes.{IsSizedBody, AreSized, IsSized}
-use Rattle.yaml_parse_document.proofs.Sound.{length_push}
+use Rattle.yaml_parse_document.proofs.Sound.{length_push, length_change, changed_sound}
 
 -- ---- a node more
 
@@ -65,39 +63,31 @@ pair_sized p (node.scalar value style) s h = s
 pair_sized p (node.sequence items style) s h = s
 pair_sized p (node.mapping pairs style) s h = (s.0, entry_more pairs p h)
 
--- a node written at a place, which is sized if the one before it was
-sized_set : (items : List yaml_node_t) (k : ℕ) (old new : yaml_node_t) → k < length items
-    → old ≡ get_or items k old
-    → (IsSizedBody (node_of old).body → IsSizedBody (node_of new).body)
-    → AreSized (map node_of items) → AreSized (map node_of (set items k new))
-sized_set [] k old new h e keeps s = absurd (omega arith)
-sized_set (x ∷ items) zero old new h e keeps s = (keeps (subst (λ (m : yaml_node_t). IsSizedBody (node_of m).body) (sym e) s.0), s.1)
-sized_set (x ∷ items) (suc k) old new h e keeps s = (s.0, sized_set items k old new (omega arith) e keeps s.1)
+-- A change that keeps the node in a place sized keeps a document's nodes sized.
+pub sized_change : (f : Node → Node) (k : ℕ) (ns : List Node)
+    → ((x : Node) → slice_get ns k ≡ Some x → IsSizedBody x.body → IsSizedBody (f x).body)
+    → AreSized ns → AreSized (change_place f k ns)
+sized_change f k [] h s = tt
+sized_change f zero (n ∷ ns) h s = (h n refl s.0, s.1)
+sized_change f (suc k) (n ∷ ns) h s = (s.0, sized_change f k ns h s.1)
 
-same_length : (items : List yaml_node_t) (k : ℕ) (new : yaml_node_t)
-    → length (map node_of (set items k new)) ≡ length (map node_of items)
-same_length [] k new = refl
-same_length (x ∷ items) zero new = refl
-same_length (x ∷ items) (suc k) new = ap suc (same_length items k new)
-
-keeps_size : {A : Type 0} (f : NodeBody → NodeBody) (count : NodeBody → ℕ) (old new : yaml_node_t)
-    (r : Result A yaml_text_fault_t) → Grows f count
-    → MatchResult r (λ _. (node_of new ≡ record (node_of old) { body = f (node_of old).body })
-    × (count (node_of old).body < 2147483647)) (λ e. (node_of new ≡ node_of old) × (e ≡ Memory))
-    → IsSizedBody (node_of old).body → IsSizedBody (node_of new).body
-keeps_size f count old new (Ok x) grows h s = subst (λ (n : Node). IsSizedBody n.body) (sym h.0) (grows _ s h.1)
-keeps_size f count old new (Err e) grows h s = subst (λ (n : Node). IsSizedBody n.body) (sym h.0) s
-
--- an appending call, seen by views
-pub appended_sized : {A : Type 0} (f : NodeBody → NodeBody) (count : NodeBody → ℕ) (d : Document)
-    (items : List yaml_node_t) (k : ℕ) (old new : yaml_node_t) (r : Result A yaml_text_fault_t)
-    → k < length items → old ≡ get_or items k old → d.nodes ≡ map node_of items
-    → MatchResult r (λ _. (node_of new ≡ record (node_of old) { body = f (node_of old).body })
-    × (count (node_of old).body < 2147483647)) (λ e. (node_of new ≡ node_of old) × (e ≡ Memory))
-    → Grows f count → IsSized d → IsSized (record d { nodes = map node_of (set items k new) })
-appended_sized f count d items k old new r inside is view h grows s = record {
-  nodes = subst (λ (n : ℕ). n ≤ 2147483647) (ap length view ∙ sym (same_length items k new)) s.nodes;
-  entries = sized_set items k old new inside is (keeps_size f count old new r grows h) (subst AreSized view s.entries);
+changed_sized : (f : NodeBody → NodeBody) (count : NodeBody → ℕ) (d : Document) (id : ℤ)
+    → HasRoomAt count d id → Grows f count → IsSized d → IsSized (change_body f id d)
+changed_sized f count d (pos (suc k)) room grows s = record {
+  nodes = subst (λ (n : ℕ). n ≤ 2147483647) (sym (length_change _ k d.nodes)) s.nodes;
+  entries = sized_change (λ n. record n { body = f n.body }) k d.nodes (λ x is t. grows x.body t (subst (IsKindAt (λ b. count b < 2147483647)) is room)) s.entries;
 }
+changed_sized f count d _ room grows s = absurd room
 
--- ---- the document that stands for the end
+abbrev pub Keeps : Document → Type 0
+Keeps d = IsDocument d × IsSized d
+
+-- an appending call keeps a document sound and sized
+pub appended_keeps : {A : Type 0} (f : NodeBody → NodeBody) (count : NodeBody → ℕ)
+    (d new : Document) (id : ℤ) (r : Result A yaml_text_fault_t)
+    → Appends d (change_body f id d) r new × OnOk r (HasRoomAt count d id)
+    → ((b : NodeBody) → IsSoundBody (length d.nodes) b → IsSoundBody (length d.nodes) (f b))
+    → Grows f count → Keeps d → Keeps new
+appended_keeps f count d new id (Ok x) h sound grows s =
+    subst Keeps (sym h.0) (changed_sound d f id sound s.0, changed_sized f count d id h.1 grows s.1)
+appended_keeps f count d new id (Err e) h sound grows s = subst Keeps (sym h.0.0) s

@@ -14,7 +14,7 @@ use Rattle.yaml_parse_model.specs.declared.yaml_text_fault_t.TheVariants.{NotUtf
 use Rattle.yaml_parse_model.specs.Constructors.{IsUtf8Option}
 use Rattle.yaml_parse_model.specs.Nodes.{Node, NodeBody, node_of}
 use Rattle.yaml_parse_model.specs.Nodes as node
-use Rattle.yaml_parse_document.specs.Documents.{Document, node_at, IsId, AreIds, ArePairs, IsSoundBody, IsSoundNode, AreSound, IsSoundAt, IsDocument, with_node, change_place, change_node, change_body, with_item, with_pair, IsKindAt, HasRoomAt, tag_or, str_tag, seq_tag, map_tag, Adds, Appends}
+use Rattle.yaml_parse_document.specs.Documents.{Document, node_at, IsId, AreIds, ArePairs, IsSoundBody, IsSoundNode, AreSound, IsSoundAt, IsDocument, with_node, change_place, change_body, with_item, with_pair, IsKindAt, HasRoomAt, tag_or, str_tag, seq_tag, map_tag, Adds, Appends}
 
 -- ---- more nodes
 
@@ -87,18 +87,17 @@ sound_change m f zero (n ∷ ns) h s = (h n s.0, s.1)
 sound_change m f (suc k) (n ∷ ns) h s = (s.0, sound_change m f k ns h s.1)
 
 -- the body of one node is changed, and stays sound
-pub changed_sound : (d : Document) (f : NodeBody → NodeBody) (k : ℕ)
+pub changed_sound : (d : Document) (f : NodeBody → NodeBody) (id : ℤ)
     → ((b : NodeBody) → IsSoundBody (length d.nodes) b → IsSoundBody (length d.nodes) (f b))
-    → IsDocument d
-    → IsDocument (record d { nodes = change_place (λ n. record n { body = f n.body }) k d.nodes })
-changed_sound d f k h s =
+    → IsDocument d → IsDocument (change_body f id d)
+changed_sound d f (pos (suc k)) h s =
     let g : Node → Node = λ n. record n { body = f n.body } in
-    let same : length (change_place g k d.nodes) ≡ length d.nodes = length_change g k d.nodes in
     record {
       directives = s.directives;
-      nodes = subst (λ (n : ℕ). AreSound n (change_place g k d.nodes)) (sym same)
+      nodes = subst (λ (n : ℕ). AreSound n (change_place g k d.nodes)) (sym (length_change g k d.nodes))
           (sound_change _ g k d.nodes (λ x t. (t.0, h x.body t.1)) s.nodes);
     }
+changed_sound d f _ h s = s
 
 -- One sound id more keeps ids sound.
 pub sound_ids_push : (m : ℕ) (ids : List ℤ) (id : ℤ) → AreIds m ids → IsId m id
@@ -108,6 +107,9 @@ sound_ids_push m (x ∷ ids) id s h = (s.0, sound_ids_push m ids id s.1 h)
 
 abbrev pub pair_of : ℤ → ℤ → yaml_node_pair_t
 pair_of key value = record { key = key; value = value }
+
+pub same_pair : {k l v w : ℤ} → k ≡ l → v ≡ w → with_pair (pair_of k v) ≡ with_pair (pair_of l w)
+same_pair e f = rw (e, f) refl
 
 -- One sound pair more keeps pairs sound.
 pub sound_pairs_push : (m : ℕ) (ps : List yaml_node_pair_t) (p : yaml_node_pair_t) → ArePairs m ps
@@ -148,38 +150,14 @@ set_changes f [] k old new h e i = absurd (omega arith)
 set_changes f (x ∷ items) zero old new h e i = ap (λ n. n ∷ map node_of items) (i ∙ ap (λ (m : yaml_node_t). f (node_of m)) e)
 set_changes f (x ∷ items) (suc k) old new h e i = ap (λ ns. node_of x ∷ ns) (set_changes f items k old new (omega arith) e i)
 
--- an appending call, seen by views: what it changed, and that the document stays sound
-pub appended : {A : Type 0} (f : NodeBody → NodeBody) (count : NodeBody → ℕ) (d : Document)
-    (items : List yaml_node_t) (k : ℕ) (id : ℤ) (old new : yaml_node_t)
-    (r : Result A yaml_text_fault_t)
-    → id ≡ pos (suc k) → k < length items → old ≡ get_or items k old → d.nodes ≡ map node_of items
-    → MatchResult r (λ _. (node_of new ≡ record (node_of old) { body = f (node_of old).body })
-    × (count (node_of old).body < 2147483647)) (λ e. (node_of new ≡ node_of old) × (e ≡ Memory))
-    → Appends d (change_body f id d) r (record d { nodes = map node_of (set items k new) })
-appended f count d items k id old new (Ok x) at_k inside is view h =
-    let same : map node_of (set items k new) ≡ change_node (λ n. record n { body = f n.body }) id d.nodes
-    = set_changes (λ n. record n { body = f n.body }) items k old new inside is h.0 ∙ ap (change_place (λ n. record n { body = f n.body }) k) (sym view)
-    ∙ ap (λ (i : ℤ). change_node (λ n. record n { body = f n.body }) i d.nodes) (sym at_k) in
-    ap (λ (ns : List Node). let e : Document = record d { nodes = ns } in e) same
-appended f count d items k id old new (Err e) at_k inside is view h =
-    (ap (λ (ns : List Node). let e : Document = record d { nodes = ns } in e) (map-set_same node_of items k new old (h.0 ∙ ap node_of is) ∙ sym view), h.1)
+-- ---- an appending call
 
-pub appended_sound : {A : Type 0} (f : NodeBody → NodeBody) (count : NodeBody → ℕ) (d : Document)
-    (items : List yaml_node_t) (k : ℕ) (old new : yaml_node_t) (r : Result A yaml_text_fault_t)
-    → k < length items → old ≡ get_or items k old → d.nodes ≡ map node_of items
-    → MatchResult r (λ _. (node_of new ≡ record (node_of old) { body = f (node_of old).body })
-    × (count (node_of old).body < 2147483647)) (λ e. (node_of new ≡ node_of old) × (e ≡ Memory))
-    → ((b : NodeBody) → IsSoundBody (length d.nodes) b → IsSoundBody (length d.nodes) (f b))
-    → IsDocument d
-    → IsDocument (record d { nodes = map node_of (set items k new) })
-appended_sound f count d items k old new (Ok x) inside is view h keeps s =
-    subst (λ (ns : List Node). IsDocument (record d { nodes = ns }))
-    (sym (set_changes (λ n. record n { body = f n.body }) items k old new inside is h.0 ∙ ap (change_place (λ n. record n { body = f n.body }) k) (sym view)))
-    (changed_sound d f k keeps s)
-appended_sound f count d items k old new (Err e) inside is view h keeps s =
-    subst (λ (ns : List Node). IsDocument (record d { nodes = ns })) (sym (map-set_same node_of items k new old (h.0 ∙ ap node_of is) ∙ sym view)) s
+kind_place : (IsKind : NodeBody → Type 0) (ns : List Node) (k : ℕ)
+    → IsKindAt IsKind (slice_get ns k) → k < length ns
+kind_place IsKind [] k h = absurd h
+kind_place IsKind (n ∷ ns) zero h = omega arith
+kind_place IsKind (n ∷ ns) (suc k) h = let r : k < length ns = kind_place IsKind ns k h in omega arith
 
--- an appending call had room for the entry
 kind_of_place : (IsKind : NodeBody → Type 0) (items : List yaml_node_t) (k : ℕ) (old : yaml_node_t)
     → k < length items → old ≡ get_or items k old
     → IsKind (node_of old).body → IsKindAt IsKind (slice_get (map node_of items) k)
@@ -187,17 +165,36 @@ kind_of_place IsKind [] k old h e i = absurd (omega arith)
 kind_of_place IsKind (x ∷ items) zero old h e i = subst (λ (n : yaml_node_t). IsKind (node_of n).body) e i
 kind_of_place IsKind (x ∷ items) (suc k) old h e i = kind_of_place IsKind items k old (omega arith) e i
 
-pub had_room : {A : Type 0} (f : NodeBody → NodeBody) (count : NodeBody → ℕ) (d : Document)
-    (items : List yaml_node_t) (k : ℕ) (id : ℤ) (old new : yaml_node_t)
-    (r : Result A yaml_text_fault_t)
-    → id ≡ pos (suc k) → k < length items → old ≡ get_or items k old → d.nodes ≡ map node_of items
+-- where it was within the list: what it changed, and that there was room
+appended_at : {A : Type 0} (f : NodeBody → NodeBody) (count : NodeBody → ℕ) (d : Document)
+    (items : List yaml_node_t) (k : ℕ) (old new : yaml_node_t) (r : Result A yaml_text_fault_t)
+    → k < length items → old ≡ get_or items k old → d.nodes ≡ map node_of items
     → MatchResult r (λ _. (node_of new ≡ record (node_of old) { body = f (node_of old).body })
     × (count (node_of old).body < 2147483647)) (λ e. (node_of new ≡ node_of old) × (e ≡ Memory))
-    → OnOk r (HasRoomAt count d id)
-had_room f count d items k id old new (Ok x) at_k inside is view h =
-    subst (λ (i : ℤ). HasRoomAt count d i) (sym at_k)
-    (subst (λ (ns : List Node). IsKindAt (λ b. count b < 2147483647) (slice_get ns k)) (sym view) (kind_of_place (λ b. count b < 2147483647) items k old inside is h.1))
-had_room f count d items k id old new (Err e) at_k inside is view h = tt
+    → Appends d (change_body f (pos (suc k)) d) r (record d { nodes = map node_of (set items k new) })
+    × OnOk r (HasRoomAt count d (pos (suc k)))
+appended_at f count d items k old new (Ok x) inside is view h = (
+  ap (λ (ns : List Node). let e : Document = record d { nodes = ns } in e)
+      (set_changes (λ n. record n { body = f n.body }) items k old new inside is h.0 ∙ ap (change_place (λ n. record n { body = f n.body }) k) (sym view)),
+  subst (λ (ns : List Node). IsKindAt (λ b. count b < 2147483647) (slice_get ns k)) (sym view) (kind_of_place (λ b. count b < 2147483647) items k old inside is h.1),
+)
+appended_at f count d items k old new (Err e) inside is view h =
+    ((ap (λ (ns : List Node). let e : Document = record d { nodes = ns } in e) (map-set_same node_of items k new old (h.0 ∙ ap node_of is) ∙ sym view), h.1), tt)
+
+-- the same of a node of some kind, under its number
+pub appended : {A : Type 0} (IsKind : NodeBody → Type 0) (f g : NodeBody → NodeBody)
+    (count : NodeBody → ℕ) (d e : Document) (items : List yaml_node_t) (k : ℕ) (id : ℤ)
+    (old new : yaml_node_t) (r : Result A yaml_text_fault_t)
+    → f ≡ g → d ≡ e → id ≡ pos (suc k) → IsKindAt IsKind (node_at e.nodes id)
+    → old ≡ get_or items k old → d.nodes ≡ map node_of items
+    → MatchResult r (λ _. (node_of new ≡ record (node_of old) { body = f (node_of old).body })
+    × (count (node_of old).body < 2147483647)) (λ e. (node_of new ≡ node_of old) × (e ≡ Memory))
+    → Appends e (change_body g id e) r (record d { nodes = map node_of (set items k new) })
+    × OnOk r (HasRoomAt count e id)
+appended IsKind f g count d e items k id old new r same at_view at_k kind is view h =
+    let here : IsKindAt IsKind (slice_get d.nodes k) = rw at_view (subst (λ (i : ℤ). IsKindAt IsKind (node_at e.nodes i)) at_k kind) in
+    let within : k < length items = omega (arith, kind_place IsKind d.nodes k here, ap length view, length-map items node_of) in
+    rw (← same, ← at_view, at_k) (appended_at f count d items k old new r within is view h)
 
 -- ---- default tags
 
@@ -233,22 +230,6 @@ pub added : (d : Document) (m n : Node) (P : Type 0) (r : Result ℤ yaml_text_f
 added d m n P (Ok id) new e p h = (h.0 ∙ ap (with_node d) e, h.1, p)
 added d m n P (Err NotUtf8) new e p h = absurd (unlike h.1)
 added d m n P (Err Memory) new e p h = (h.0, p)
-
--- ---- a number under which a node of some kind stands
-
-kind_place : (IsKind : NodeBody → Type 0) (ns : List Node) (k : ℕ)
-    → IsKindAt IsKind (slice_get ns k) → k < length ns
-kind_place IsKind [] k h = absurd h
-kind_place IsKind (n ∷ ns) zero h = omega arith
-kind_place IsKind (n ∷ ns) (suc k) h = let r : k < length ns = kind_place IsKind ns k h in omega arith
-
-pub kind_inside : (IsKind : NodeBody → Type 0) (d : Document) (items : List yaml_node_t) (id : ℤ)
-    (k : ℕ) → id ≡ pos (suc k) → d.nodes ≡ map node_of items
-    → IsKindAt IsKind (node_at d.nodes id) → k < length items
-kind_inside IsKind d items id k e view h =
-    let at : IsKindAt IsKind (node_at d.nodes (pos (suc k))) = subst (λ (i : ℤ). IsKindAt IsKind (node_at d.nodes i)) e h in
-    let r : k < length d.nodes = kind_place IsKind d.nodes k at in
-    omega (arith, ap length view, length-map items node_of)
 
 -- ---- a node that a number names
 

@@ -29,14 +29,7 @@ use yaml_parse_model::{
 /// A document keeps its allocator, so calls on it take none.
 #[derive(Drop)]
 pub struct yaml_document_t {
-    version_directive: Option<yaml_version_directive_t>,
-    tag_directives: Vec<yaml_tag_directive_t>,
-    start_implicit: bool,
-    end_implicit: bool,
-    start_mark: yaml_mark_t,
-    end_mark: yaml_mark_t,
-    nodes: Vec<yaml_node_t>,
-    alloc: Global,
+    parts: DocumentParts,
 }
 
 impl Model for yaml_document_t {
@@ -56,7 +49,7 @@ impl yaml_document_t {
     pub fn version_directive(&self) -> Option<yaml_version_directive_t>
         ensures { result ≡ self.now.version }
     {
-        self.version_directive
+        self.parts.version_directive
     }
 
     /// The `%TAG` directives, in order. Their texts are UTF-8.
@@ -64,42 +57,42 @@ impl yaml_document_t {
         ensures is { map directive_of result.now ≡ self.now.directives }
         ensures utf8 { AreUtf8 self.now.directives }
     {
-        &self.tag_directives
+        &self.parts.tag_directives
     }
 
     /// No `---` stands in front.
     pub fn start_implicit(&self) -> bool
         ensures { result ≡ self.now.start_implicit }
     {
-        self.start_implicit
+        self.parts.start_implicit
     }
 
     /// No `...` stands behind.
     pub fn end_implicit(&self) -> bool
         ensures { result ≡ self.now.end_implicit }
     {
-        self.end_implicit
+        self.parts.end_implicit
     }
 
     /// Where the document begins.
     pub fn start_mark(&self) -> yaml_mark_t
         ensures { result ≡ self.now.start_mark }
     {
-        self.start_mark
+        self.parts.start_mark
     }
 
     /// Where the document ends.
     pub fn end_mark(&self) -> yaml_mark_t
         ensures { result ≡ self.now.end_mark }
     {
-        self.end_mark
+        self.parts.end_mark
     }
 
     /// How many nodes the document has: their numbers are those from 1 to that.
     pub fn node_count(&self) -> usize
         ensures { result ≡ length self.now.nodes }
     {
-        self.nodes.len()
+        self.parts.nodes.len()
     }
 }
 
@@ -119,20 +112,14 @@ pub fn yaml_document_initialize(
         return Err(yaml_text_fault_t::NotUtf8);
     }
     let tag_directives = copy_directives(alloc, tag_directives)?;
-    let zero = yaml_mark_t {
-        index: 0,
-        line: 0,
-        column: 0,
-    };
     Ok(yaml_document_t {
-        version_directive,
-        tag_directives,
-        start_implicit,
-        end_implicit,
-        start_mark: zero,
-        end_mark: zero,
-        nodes: Vec::new(alloc),
-        alloc,
+        parts: DocumentParts::new(
+            alloc,
+            version_directive,
+            tag_directives,
+            start_implicit,
+            end_implicit,
+        ),
     })
 }
 
@@ -140,20 +127,8 @@ pub fn yaml_document_initialize(
 pub fn no_document(alloc: Global) -> yaml_document_t
     ensures { result ≡ no_document }
 {
-    let zero = yaml_mark_t {
-        index: 0,
-        line: 0,
-        column: 0,
-    };
     yaml_document_t {
-        version_directive: None,
-        tag_directives: Vec::new(alloc),
-        start_implicit: false,
-        end_implicit: false,
-        start_mark: zero,
-        end_mark: zero,
-        nodes: Vec::new(alloc),
-        alloc,
+        parts: DocumentParts::none(alloc),
     }
 }
 
@@ -166,7 +141,7 @@ pub fn yaml_document_delete(document: yaml_document_t) {
 pub fn yaml_document_set_end_implicit(document: &mut yaml_document_t, end_implicit: bool)
     ensures { document.new ≡ record document.old { end_implicit = end_implicit } }
 {
-    document.end_implicit = end_implicit;
+    document.parts.end_implicit = end_implicit;
 }
 
 // The place in the list of nodes of the node under a number.
@@ -185,7 +160,7 @@ pub fn yaml_document_get_node(document: &yaml_document_t, index: i32) -> Option<
     if index < 1 {
         return None;
     }
-    document.nodes.get(node_place(index))
+    document.parts.nodes.get(node_place(index))
 }
 
 /// The root, if the document has one: its first node.

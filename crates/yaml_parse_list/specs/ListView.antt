@@ -1,6 +1,6 @@
 -- What a clause sees of a list of tokens.
-use Rattle.std.specs.Prelude.{List, Option, map, option_map, All}
-use Rattle.yaml_scan_model.specs.Tokens.{Token, token_of}
+use Rattle.std.specs.Prelude.{map, option_map, All}
+use Rattle.yaml_scan_model.specs.Tokens.{token_of}
 use Rattle.yaml_scan_model.specs.Faults.{fault_of}
 use Rattle.yaml_parse_model.specs.Source.{HasUtf8}
 use Rattle.yaml_parse_list.specs.List.{TokenList}

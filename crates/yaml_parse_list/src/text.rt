@@ -14,8 +14,7 @@ pub fn yaml_token_utf8(token: &yaml_token_t) -> bool
 {
     match &token.body {
         yaml_token_body_t::TagDirective { handle, prefix } => is_utf8(handle) && is_utf8(prefix),
-        yaml_token_body_t::Alias { value } => is_utf8(value),
-        yaml_token_body_t::Anchor { value } => is_utf8(value),
+        yaml_token_body_t::Alias { value } | yaml_token_body_t::Anchor { value } => is_utf8(value),
         yaml_token_body_t::Tag { handle, suffix } => is_utf8(handle) && is_utf8(suffix),
         yaml_token_body_t::Scalar { value, .. } => is_utf8(value),
         _ => true,

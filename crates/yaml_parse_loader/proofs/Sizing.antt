@@ -1,13 +1,12 @@
 -- Every event that finds room leaves a document in the making sized, and the document that it ends is sized.
-use Rattle.std.proofs.Common.{◌≤◌, ℕ, zero, suc, ℤ, List, [], ◌∷◌, Option, Some, None, sym, subst, arith}
+use Rattle.std.proofs.Common.{◌≤◌, ℕ, ℤ, List, [], ◌∷◌, Option, Some, None, sym, subst, arith}
 use Rattle.yaml_parse_model.specs.declared.yaml_mark_t.{yaml_mark_t}
 use Rattle.yaml_parse_model.specs.Events.{EventBody}
 use Rattle.yaml_parse_model.specs.Events as event
 use Rattle.yaml_parse_model.specs.Nodes.{Node, NodeBody}
 use Rattle.yaml_parse_model.specs.Nodes as node
-use Rattle.yaml_parse_document.specs.Documents.{change_place}
-use Rattle.yaml_parse_document.specs.Sizes.{IsSizedBody, AreSized, IsSized}
-use Rattle.yaml_parse_document.proofs.Sizing.{with_node_sized, entry_more, nothing_listed}
+use Rattle.yaml_parse_document.specs.Sizes.{IsSizedBody, IsSized}
+use Rattle.yaml_parse_document.proofs.Sizing.{with_node_sized, entry_more, nothing_listed, sized_change}
 use Rattle.yaml_parse_document.proofs.Sound.{length_change}
 use Rattle.yaml_parse_loader.specs.Anchors.{Anchors}
 use Rattle.yaml_parse_loader.specs.Loading.{Open, open_sequence, open_mapping, Loading, nothing_loaded, attached, attach, next, with_leaf, with_open, filled, filled_body, place_of, closed, LoadStep, goes_on, loaded, refused, aliased, step_body}
@@ -53,20 +52,13 @@ filled_sized (open_sequence place items) (node.sequence none style) s h = (s, h.
 filled_sized (open_mapping place pairs key) (node.mapping none style) s h = (h.0, s)
 filled_sized o b s h = h
 
-place_sized : (f : Node → Node) (k : ℕ) (ns : List Node)
-    → ((x : Node) → IsSizedBody x.body → IsSizedBody (f x).body) → AreSized ns
-    → AreSized (change_place f k ns)
-place_sized f k [] h s = tt
-place_sized f zero (n ∷ ns) h s = (h n s.0, s.1)
-place_sized f (suc k) (n ∷ ns) h s = (s.0, place_sized f k ns h s.1)
-
 closed_sized : (to : yaml_mark_t) (l : Loading) (os : List Open) → IsSizedLoading l
     → AreSizedOpen os → IsSizedLoading (closed to l os)
 closed_sized to l [] s h = s
 closed_sized to l (o ∷ os) s h = record {
   document = record {
     nodes = subst (λ (k : ℕ). k ≤ 2147483647) (sym (length_change (filled o to) (place_of o) l.document.nodes)) s.document.nodes;
-    entries = place_sized (filled o to) (place_of o) l.document.nodes (λ x t. filled_sized o x.body h.0 t) s.document.entries;
+    entries = sized_change (filled o to) (place_of o) l.document.nodes (λ x _ t. filled_sized o x.body h.0 t) s.document.entries;
   };
   levels = h.1;
 }

@@ -16,7 +16,7 @@ use Rattle.yaml_parse_model.specs.Faults.{Fault}
 use Rattle.yaml_parse_model.specs.declared.yaml_node_pair_t.{yaml_node_pair_t}
 use Rattle.yaml_parse_model.specs.Events.{Event, TagDirective}
 use Rattle.yaml_parse_model.specs.Events as event
-use Rattle.yaml_parse_model.specs.Nodes.{Node, NodeBody}
+use Rattle.yaml_parse_model.specs.Nodes.{Node}
 use Rattle.yaml_parse_model.specs.Nodes as node
 use Rattle.yaml_parse_document.specs.Documents.{Document, str_tag, seq_tag, map_tag}
 

@@ -1,6 +1,6 @@
 //! The anchors of a document that is being loaded.
 
-ghost use Rattle.std.specs.Prelude.{◌≡◌, option_map, OnOk, OnErr};
+ghost use Rattle.std.specs.Prelude.{◌≡◌, OnOk, OnErr};
 ghost use Rattle.std.specs.FinMap as map;
 
 use std::alloc::{AllocError, Global};
@@ -46,6 +46,8 @@ impl AnchorTable {
     }
 
     /// From now on the anchor names the node of this number, whichever it named before.
+    // Out of line: most nodes have no anchor.
+    #[inline(never)]
     pub fn insert(&mut self, name: Vec<u8>, number: i32) -> Result<(), AllocError>
         ensures ok { OnOk result (self.new ≡ map.insert self.old name.items number) }
         ensures err { OnErr result (self.new ≡ self.old) }

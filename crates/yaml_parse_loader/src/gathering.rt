@@ -11,25 +11,7 @@ pub const FIRST_ITEMS: usize = 6;
 /// For how many pairs there is room at first: with glibc as many take no more memory than four.
 pub const FIRST_PAIRS: usize = 5;
 
-// Room of that many at first.
-fn gather_first<T: Drop>(
-    entries: &mut Vec<T>,
-    first: usize,
-    entry: T,
-) -> Result<(), yaml_text_fault_t>
-    requires { 1 ≤ first }
-    ensures { OnOk result (entries.new.items ≡ entries.old.items ++ entry ∷ []) }
-{
-    match entries.reserve_exact(first) {
-        Ok(()) => {
-            entries.push_reserved(entry);
-            Ok(())
-        }
-        Err(_) => Err(yaml_text_fault_t::Memory),
-    }
-}
-
-// One entry more, for which there is no room.
+// One entry more, for which there is no room: at first room for that many is made.
 // Out of line: mostly there is.
 #[inline(never)]
 fn gather_more<T: Drop>(
@@ -41,7 +23,13 @@ fn gather_more<T: Drop>(
     ensures { OnOk result (entries.new.items ≡ entries.old.items ++ entry ∷ []) }
 {
     if entries.capacity() == 0 {
-        gather_first(entries, first, entry)
+        match entries.reserve_exact(first) {
+            Ok(()) => {
+                entries.push_reserved(entry);
+                Ok(())
+            }
+            Err(_) => Err(yaml_text_fault_t::Memory),
+        }
     } else {
         push_entry(entries, entry)
     }

@@ -72,6 +72,7 @@ impl Model for Loader {
 
 impl Loader {
     /// Nothing is loaded yet.
+    #[tactic(auto, using(crate::proofs::Keeps::nothing_sound, crate::proofs::Sizing::nothing_sized))]
     pub fn new(alloc: Global) -> Loader
         ensures { result ≡ nothing_loaded }
     {
@@ -91,6 +92,7 @@ impl Loader {
     /// preorder. An alias stands for the last node before it that has its anchor, and is refused where there is none
     /// (`found undefined alias`). Where a list would get more than 2,147,483,647 entries, want of memory is answered.
     /// After a document and after a refusal it starts anew.
+    #[tactic(auto, using(crate::proofs::Keeps::nothing_sound, crate::proofs::Sizing::nothing_sized, crate::proofs::Keeps::step_sound, crate::proofs::Sizing::step_sized))]
     pub fn feed(
         &mut self,
         event: &mut yaml_event_t,

@@ -1,29 +1,27 @@
 //! A document in the making, and what an event makes of it.
 
-ghost use Rattle.std.specs.Prelude.{◌≡◌, ◌<◌, ◌++◌, ◌∷◌, [], pos, suc, length, map, reverse, Option, None, OnOk};
+ghost use Rattle.std.specs.Prelude.{◌≡◌, [], length, map, None, OnOk};
+ghost use Rattle.std.specs.FinMap as finite;
 ghost use Rattle.yaml_parse_model.specs.declared.yaml_mark_t.{yaml_mark_t};
 ghost use Rattle.yaml_parse_model.specs.Events.{event_of, body_of, text_of, directive_of};
-ghost use Rattle.yaml_parse_model.specs.Nodes.{node_of, tag_of};
+ghost use Rattle.yaml_parse_model.specs.Nodes.{node_of, tag_of, str_tag};
+ghost use Rattle.yaml_parse_model.specs.Nodes as node;
 ghost use Rattle.yaml_parse_document.specs.Documents.{IsDocument};
 ghost use Rattle.yaml_parse_document.specs.Sizes.{IsSized};
-ghost use Rattle.yaml_parse_loader.specs.Numbering.{is_bang, loaded_tag, scalar_node, sequence_node, mapping_node};
-ghost use Rattle.yaml_parse_loader.specs.Loading.{attach, attached, nothing_loaded, next, named, enter_leaf, enter_open, aliased, closed, place_of, filled, filled_body, started, step, step_body, head_of};
+ghost use Rattle.yaml_parse_loader.specs.Loading.{open_sequence, open_mapping, attach, attached, nothing_loaded, named, enter_leaf, enter_open, aliased, closed, place_of, filled, started, step, step_body};
 ghost use Rattle.yaml_parse_loader.specs.Sizes.{HasRoom, HaveRoom, HasRoomForNode, HasRoomFor};
-ghost use Rattle.yaml_parse_loader.specs.Views.{level_of, levels_of, loading_of, taken_by, Applies};
-ghost use Rattle.yaml_parse_loader.specs.Loading.{open_sequence, open_mapping};
-ghost use Rattle.std.specs.FinMap as finite;
+ghost use Rattle.yaml_parse_loader.specs.Views.{level_of, levels_of, loading_of, node_with, taken_by, Applies};
 
 use crate::anchors::AnchorTable;
 use crate::gathering::{FIRST_ITEMS, FIRST_PAIRS, gather, push_node};
-use crate::nodes::{SHORT, mapping_of, scalar_of, sequence_of, tag_or_default};
+use crate::nodes::{SHORT, node_with, tag_or_default};
 use std::alloc::Global;
 use std::mem;
 use yaml_parse_document::{DocumentParts, yaml_document_t};
 use yaml_parse_model::{
-    mark_again, yaml_event_body_t, yaml_event_t, yaml_mapping_style_t, yaml_mark_t,
-    yaml_node_body_t, yaml_node_pair_t, yaml_node_t, yaml_node_tag_t, yaml_node_text_t,
-    yaml_scalar_style_t, yaml_sequence_style_t, yaml_tag_directive_t, yaml_text_fault_t,
-    yaml_version_directive_t,
+    yaml_event_body_t, yaml_event_t, yaml_mapping_style_t, yaml_mark_t, yaml_node_body_t,
+    yaml_node_pair_t, yaml_node_t, yaml_node_tag_t, yaml_node_text_t, yaml_scalar_style_t,
+    yaml_sequence_style_t, yaml_tag_directive_t, yaml_text_fault_t, yaml_version_directive_t,
 };
 
 /// An open collection: the place of its node, and what it holds so far. A mapping may have a key without its value.
@@ -49,18 +47,6 @@ pub struct Making {
     pub anchors: AnchorTable,
 }
 
-// From now on a node is what that name means.
-// Out of line: most nodes have no anchor.
-#[inline(never)]
-fn name_node(anchors: &mut AnchorTable, name: Vec<u8>, number: i32) -> Result<(), yaml_text_fault_t>
-    ensures { OnOk result (anchors.new ≡ finite.insert anchors.old name.items number) }
-{
-    match anchors.insert(name, number) {
-        Ok(()) => Ok(()),
-        Err(_) => Err(yaml_text_fault_t::Memory),
-    }
-}
-
 // From now on a node is what its anchor names.
 // Inlined: mostly there is none.
 #[inline(always)]
@@ -73,7 +59,10 @@ fn register(
 {
     match anchor {
         None => Ok(()),
-        Some(name) => name_node(anchors, name, number),
+        Some(name) => match anchors.insert(name, number) {
+            Ok(()) => Ok(()),
+            Err(_) => Err(yaml_text_fault_t::Memory),
+        },
     }
 }
 
@@ -145,8 +134,7 @@ impl Level {
         ensures { result ≡ place_of (level_of self.now) }
     {
         match self {
-            Level::Sequence { place, .. } => *place,
-            Level::Mapping { place, .. } => *place,
+            Level::Sequence { place, .. } | Level::Mapping { place, .. } => *place,
         }
     }
 }
@@ -180,22 +168,8 @@ impl Making {
     pub fn new(alloc: Global) -> Making
         ensures { loading_of result ≡ nothing_loaded }
     {
-        let zero = yaml_mark_t {
-            index: 0,
-            line: 0,
-            column: 0,
-        };
         Making {
-            parts: DocumentParts {
-                version_directive: None,
-                tag_directives: Vec::new(alloc),
-                start_implicit: false,
-                end_implicit: false,
-                start_mark: zero,
-                end_mark: zero,
-                nodes: Vec::new(alloc),
-                alloc,
-            },
+            parts: DocumentParts::none(alloc),
             levels: Vec::new(alloc),
             anchors: AnchorTable::new(alloc),
         }
@@ -255,6 +229,7 @@ impl Making {
     }
 
     // An alias stands for the last node that has its anchor.
+    #[tactic(auto, using(crate::proofs::Steps::takes_alias))]
     fn alias(&mut self, name: &[u8]) -> Fed
         ensures { (at : yaml_mark_t) → Applies (aliased (finite.get (loading_of self.old).anchors
             name.now) at (loading_of self.old)) at (HaveRoom (loading_of self.old).levels) result
@@ -317,148 +292,58 @@ impl Making {
     // A sequence begins, with its node, which is empty yet.
     // Inlined: the node is built where it is to stand.
     #[inline(always)]
-    fn begin_sequence(
+    fn sequence(
         &mut self,
-        name: Option<Vec<u8>>,
-        node: yaml_node_t,
+        anchor: Option<Vec<u8>>,
+        tag: yaml_node_tag_t,
+        style: yaml_sequence_style_t,
+        start_mark: &yaml_mark_t,
+        end_mark: &yaml_mark_t,
     ) -> Result<(), yaml_text_fault_t>
         ensures { OnOk result ((loading_of self.new ≡ enter_open (loading_of self.old)
-            (text_of name) (node_of node)
+            (text_of anchor)
+            (node_with (tag_of tag) (node.sequence [] style) start_mark.now end_mark.now)
             (open_sequence (length (loading_of self.old).document.nodes) []))
             × HasRoomForNode (loading_of self.old)) }
     {
         let place = self.parts.nodes.len();
-        let gathered = Vec::new(self.parts.alloc);
-        let level = Level::Sequence {
-            place,
-            items: gathered,
-        };
-        self.open(name, node, level)
-    }
-
-    // A sequence without properties begins.
-    // Inlined: its node is built where it is to stand.
-    #[inline(always)]
-    fn take_sequence(
-        &mut self,
-        style: yaml_sequence_style_t,
-        start_mark: &yaml_mark_t,
-        end_mark: &yaml_mark_t,
-    ) -> Result<(), yaml_text_fault_t>
-        ensures { OnOk result ((loading_of self.new ≡ enter_open (loading_of self.old) None
-            (sequence_node (head_of None None start_mark.now end_mark.now) [] style end_mark.now)
-            (open_sequence (length (loading_of self.old).document.nodes) []))
-            × HasRoomForNode (loading_of self.old)) }
-    {
-        let node = sequence_of(
-            self.parts.alloc,
-            yaml_node_tag_t::Seq,
-            style,
-            start_mark,
-            end_mark,
-        );
-        self.begin_sequence(None, node)
-    }
-
-    // A sequence begins. Its texts are taken out.
-    // Out of line: most have none, and in line its room would be set to zero for each event.
-    #[inline(never)]
-    fn sequence(
-        &mut self,
-        anchor: &mut Option<Vec<u8>>,
-        tag: &mut Option<Vec<u8>>,
-        style: yaml_sequence_style_t,
-        start_mark: &yaml_mark_t,
-        end_mark: &yaml_mark_t,
-    ) -> Result<(), yaml_text_fault_t>
-        ensures { OnOk result ((loading_of self.new ≡ enter_open (loading_of self.old)
-            (text_of anchor.old) (sequence_node (head_of (text_of anchor.old) (text_of tag.old)
-            start_mark.now end_mark.now) [] style end_mark.now)
-            (open_sequence (length (loading_of self.old).document.nodes) []))
-            × HasRoomForNode (loading_of self.old)) }
-    {
-        let name = anchor.take();
-        let given = tag.take();
-        let tag = tag_or_default(given, yaml_node_tag_t::Seq);
-        let node = sequence_of(self.parts.alloc, tag, style, start_mark, end_mark);
-        self.begin_sequence(name, node)
+        let none = Vec::new(self.parts.alloc);
+        let body = yaml_node_body_t::Sequence { items: none, style };
+        let items = Vec::new(self.parts.alloc);
+        let node = node_with(body, tag, start_mark, end_mark);
+        self.open(anchor, node, Level::Sequence { place, items })
     }
 
     // A mapping begins, with its node, which is empty yet.
     // Inlined: the node is built where it is to stand.
     #[inline(always)]
-    fn begin_mapping(
+    fn mapping(
         &mut self,
-        name: Option<Vec<u8>>,
-        node: yaml_node_t,
+        anchor: Option<Vec<u8>>,
+        tag: yaml_node_tag_t,
+        style: yaml_mapping_style_t,
+        start_mark: &yaml_mark_t,
+        end_mark: &yaml_mark_t,
     ) -> Result<(), yaml_text_fault_t>
         ensures { OnOk result ((loading_of self.new ≡ enter_open (loading_of self.old)
-            (text_of name) (node_of node)
+            (text_of anchor)
+            (node_with (tag_of tag) (node.mapping [] style) start_mark.now end_mark.now)
             (open_mapping (length (loading_of self.old).document.nodes) [] None))
             × HasRoomForNode (loading_of self.old)) }
     {
         let place = self.parts.nodes.len();
-        let gathered = Vec::new(self.parts.alloc);
-        let level = Level::Mapping {
-            place,
-            pairs: gathered,
-            key: None,
-        };
-        self.open(name, node, level)
+        let none = Vec::new(self.parts.alloc);
+        let body = yaml_node_body_t::Mapping { pairs: none, style };
+        let pairs = Vec::new(self.parts.alloc);
+        let node = node_with(body, tag, start_mark, end_mark);
+        let key = None;
+        self.open(anchor, node, Level::Mapping { place, pairs, key })
     }
 
-    // A mapping without properties begins.
-    // Inlined: its node is built where it is to stand.
+    // A scalar without properties, whose value is taken out; a short one leaves its room to the next.
+    // Inlined: the node is built where it is to stand.
     #[inline(always)]
-    fn take_mapping(
-        &mut self,
-        style: yaml_mapping_style_t,
-        start_mark: &yaml_mark_t,
-        end_mark: &yaml_mark_t,
-    ) -> Result<(), yaml_text_fault_t>
-        ensures { OnOk result ((loading_of self.new ≡ enter_open (loading_of self.old) None
-            (mapping_node (head_of None None start_mark.now end_mark.now) [] style end_mark.now)
-            (open_mapping (length (loading_of self.old).document.nodes) [] None))
-            × HasRoomForNode (loading_of self.old)) }
-    {
-        let node = mapping_of(
-            self.parts.alloc,
-            yaml_node_tag_t::Map,
-            style,
-            start_mark,
-            end_mark,
-        );
-        self.begin_mapping(None, node)
-    }
-
-    // A mapping begins. Its texts are taken out.
-    // Out of line: most have none, and in line its room would be set to zero for each event.
-    #[inline(never)]
-    fn mapping(
-        &mut self,
-        anchor: &mut Option<Vec<u8>>,
-        tag: &mut Option<Vec<u8>>,
-        style: yaml_mapping_style_t,
-        start_mark: &yaml_mark_t,
-        end_mark: &yaml_mark_t,
-    ) -> Result<(), yaml_text_fault_t>
-        ensures { OnOk result ((loading_of self.new ≡ enter_open (loading_of self.old)
-            (text_of anchor.old) (mapping_node (head_of (text_of anchor.old) (text_of tag.old)
-            start_mark.now end_mark.now) [] style end_mark.now)
-            (open_mapping (length (loading_of self.old).document.nodes) [] None))
-            × HasRoomForNode (loading_of self.old)) }
-    {
-        let name = anchor.take();
-        let given = tag.take();
-        let tag = tag_or_default(given, yaml_node_tag_t::Map);
-        let node = mapping_of(self.parts.alloc, tag, style, start_mark, end_mark);
-        self.begin_mapping(name, node)
-    }
-
-    // A scalar without properties, of a long value. It is taken out.
-    // Out of line: most values are short, and a node that may have either goes by way of the stack.
-    #[inline(never)]
-    fn take_long_scalar(
+    fn scalar(
         &mut self,
         value: &mut Vec<u8>,
         style: yaml_scalar_style_t,
@@ -466,38 +351,18 @@ impl Making {
         end_mark: &yaml_mark_t,
     ) -> Result<(), yaml_text_fault_t>
         ensures { OnOk result ((loading_of self.new ≡ enter_leaf (loading_of self.old) None
-            (scalar_node (head_of None None start_mark.now end_mark.now) value.old.items style))
+            (node_with str_tag (node.scalar value.old.items style) start_mark.now end_mark.now))
             × HasRoomForNode (loading_of self.old)) }
     {
-        let node = scalar_of(yaml_node_tag_t::Str, value, style, start_mark, end_mark);
+        let value = yaml_node_text_t::taken(value);
+        let body = yaml_node_body_t::Scalar { value, style };
+        let node = node_with(body, yaml_node_tag_t::Str, start_mark, end_mark);
         self.add(None, node)
     }
 
-    // A scalar without properties. A long value is taken out, a short one leaves its room to the next.
-    // Inlined: the node is built where it is to stand.
-    #[inline(always)]
-    fn take_scalar(
-        &mut self,
-        value: &mut Vec<u8>,
-        style: yaml_scalar_style_t,
-        start_mark: &yaml_mark_t,
-        end_mark: &yaml_mark_t,
-    ) -> Result<(), yaml_text_fault_t>
-        ensures { OnOk result ((loading_of self.new ≡ enter_leaf (loading_of self.old) None
-            (scalar_node (head_of None None start_mark.now end_mark.now) value.old.items style))
-            × HasRoomForNode (loading_of self.old)) }
-    {
-        if value.len() <= SHORT {
-            let node = scalar_of(yaml_node_tag_t::Str, value, style, start_mark, end_mark);
-            self.add(None, node)
-        } else {
-            self.take_long_scalar(value, style, start_mark, end_mark)
-        }
-    }
-
     /// What the event makes of the document. Its texts are taken out.
-    // Inlined into the loop over events. Most nodes have no properties, and are asked for in front: of one that may have some each
-    // part would be put aside.
+    // Inlined into the loop over events. Most nodes have no properties and a short value, and are asked for in front: of one that
+    // may have some each part would be put aside, and one of either length would go by way of the stack.
     #[inline(always)]
     pub fn apply(&mut self, event: &mut yaml_event_t) -> Fed
         ensures fed { Applies (step (event_of event.old) (loading_of self.old))
@@ -518,26 +383,30 @@ impl Making {
                 ref mut value,
                 ref mut style,
                 ..
-            } => fed_of(self.take_scalar(value, *style, start_mark, end_mark)),
+            } if value.len() <= SHORT => fed_of(self.scalar(value, *style, start_mark, end_mark)),
             yaml_event_body_t::SequenceStart {
                 anchor: None,
                 tag: None,
                 ref mut style,
                 ..
-            } => fed_of(self.take_sequence(*style, start_mark, end_mark)),
+            } => fed_of(self.sequence(None, yaml_node_tag_t::Seq, *style, start_mark, end_mark)),
             yaml_event_body_t::MappingStart {
                 anchor: None,
                 tag: None,
                 ref mut style,
                 ..
-            } => fed_of(self.take_mapping(*style, start_mark, end_mark)),
+            } => fed_of(self.mapping(None, yaml_node_tag_t::Map, *style, start_mark, end_mark)),
+            yaml_event_body_t::SequenceEnd | yaml_event_body_t::MappingEnd => {
+                self.close(*end_mark);
+                Fed::Taken
+            }
             _ => self.apply_other(body, start_mark, end_mark),
         }
     }
 
     // The same, of any event's body. It is long because it has an arm for each kind of event.
-    // Inlined into its one caller.
-    #[inline(always)]
+    // Out of line: the rare ones, which would have their room set to zero for each event.
+    #[inline(never)]
     fn apply_other(
         &mut self,
         body: &mut yaml_event_body_t,
@@ -570,24 +439,32 @@ impl Making {
                 style,
                 ..
             } => {
-                let name = anchor.take();
-                let given = tag.take();
-                let tag = tag_or_default(given, yaml_node_tag_t::Str);
-                let node = scalar_of(tag, value, *style, start_mark, end_mark);
-                fed_of(self.add(name, node))
+                let tag = tag_or_default(tag.take(), yaml_node_tag_t::Str);
+                let value = yaml_node_text_t::taken(value);
+                let scalar = yaml_node_body_t::Scalar {
+                    value,
+                    style: *style,
+                };
+                fed_of(self.add(anchor.take(), node_with(scalar, tag, start_mark, end_mark)))
             }
             yaml_event_body_t::SequenceStart {
                 anchor,
                 tag,
                 style,
                 ..
-            } => fed_of(self.sequence(anchor, tag, *style, start_mark, end_mark)),
+            } => {
+                let tag = tag_or_default(tag.take(), yaml_node_tag_t::Seq);
+                fed_of(self.sequence(anchor.take(), tag, *style, start_mark, end_mark))
+            }
             yaml_event_body_t::MappingStart {
                 anchor,
                 tag,
                 style,
                 ..
-            } => fed_of(self.mapping(anchor, tag, *style, start_mark, end_mark)),
+            } => {
+                let tag = tag_or_default(tag.take(), yaml_node_tag_t::Map);
+                fed_of(self.mapping(anchor.take(), tag, *style, start_mark, end_mark))
+            }
             yaml_event_body_t::SequenceEnd | yaml_event_body_t::MappingEnd => {
                 self.close(*end_mark);
                 Fed::Taken

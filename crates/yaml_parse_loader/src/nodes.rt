@@ -1,17 +1,12 @@
 //! The nodes of events.
 
-ghost use Rattle.std.specs.Prelude.{◌≡◌, []};
+ghost use Rattle.std.specs.Prelude.{◌≡◌};
 ghost use Rattle.yaml_parse_model.specs.Events.{text_of};
-ghost use Rattle.yaml_parse_model.specs.Nodes.{node_of, tag_of};
-ghost use Rattle.yaml_parse_model.specs.Nodes as node;
+ghost use Rattle.yaml_parse_model.specs.Nodes.{node_of, tag_of, body_of};
 ghost use Rattle.yaml_parse_loader.specs.Numbering.{is_bang, loaded_tag};
 ghost use Rattle.yaml_parse_loader.specs.Views.{node_with};
 
-use std::alloc::Global;
-use yaml_parse_model::{
-    mark_again, yaml_mapping_style_t, yaml_mark_t, yaml_node_body_t, yaml_node_t, yaml_node_tag_t,
-    yaml_node_text_t, yaml_scalar_style_t, yaml_sequence_style_t,
-};
+use yaml_parse_model::{mark_again, yaml_mark_t, yaml_node_body_t, yaml_node_t, yaml_node_tag_t};
 
 /// A value of at most so many bytes lies in its node.
 pub const SHORT: usize = 24;
@@ -35,66 +30,19 @@ fn is_lone_bang(tag: &[u8]) -> bool
     tag.len() == 1 && tag[0] == b'!'
 }
 
-/// The node of a scalar with that tag, whose value is taken out; a short one leaves its room to the next one.
+/// A node with that body and tag.
 // Inlined: it is built where it is to stand.
 #[inline(always)]
-pub fn scalar_of(
+pub fn node_with(
+    body: yaml_node_body_t,
     tag: yaml_node_tag_t,
-    value: &mut Vec<u8>,
-    style: yaml_scalar_style_t,
     start_mark: &yaml_mark_t,
     end_mark: &yaml_mark_t,
 ) -> yaml_node_t
-    ensures { node_of result ≡ node_with (tag_of tag) (node.scalar value.old.items style)
-        start_mark.now end_mark.now }
+    ensures { node_of result ≡ node_with (tag_of tag) (body_of body) start_mark.now end_mark.now }
 {
-    let value = yaml_node_text_t::taken(value);
     yaml_node_t {
-        body: yaml_node_body_t::Scalar { value, style },
-        tag,
-        start_mark: mark_again(start_mark),
-        end_mark: mark_again(end_mark),
-    }
-}
-
-/// The node of a sequence with that tag, which begins.
-// Inlined: it is built where it is to stand.
-#[inline(always)]
-pub fn sequence_of(
-    alloc: Global,
-    tag: yaml_node_tag_t,
-    style: yaml_sequence_style_t,
-    start_mark: &yaml_mark_t,
-    end_mark: &yaml_mark_t,
-) -> yaml_node_t
-    ensures { node_of result ≡ node_with (tag_of tag) (node.sequence [] style) start_mark.now
-        end_mark.now }
-{
-    let items = Vec::new(alloc);
-    yaml_node_t {
-        body: yaml_node_body_t::Sequence { items, style },
-        tag,
-        start_mark: mark_again(start_mark),
-        end_mark: mark_again(end_mark),
-    }
-}
-
-/// The node of a mapping with that tag, which begins.
-// Inlined: it is built where it is to stand.
-#[inline(always)]
-pub fn mapping_of(
-    alloc: Global,
-    tag: yaml_node_tag_t,
-    style: yaml_mapping_style_t,
-    start_mark: &yaml_mark_t,
-    end_mark: &yaml_mark_t,
-) -> yaml_node_t
-    ensures { node_of result ≡ node_with (tag_of tag) (node.mapping [] style) start_mark.now
-        end_mark.now }
-{
-    let pairs = Vec::new(alloc);
-    yaml_node_t {
-        body: yaml_node_body_t::Mapping { pairs, style },
+        body,
         tag,
         start_mark: mark_again(start_mark),
         end_mark: mark_again(end_mark),

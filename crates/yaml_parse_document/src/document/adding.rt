@@ -83,8 +83,8 @@ fn add_node(document: &mut yaml_document_t, node: yaml_node_t) -> Result<i32, ya
         × (id ≡ pos (suc (length document.old.nodes))))
         (λ f. (document.new ≡ document.old) × (f ≡ yaml_text_fault_t.Memory)) }
 {
-    let count = document.nodes.len();
-    push_entry(&mut document.nodes, node)?;
+    let count = document.parts.nodes.len();
+    push_entry(&mut document.parts.nodes, node)?;
     Ok((count + 1) as i32)
 }
 
@@ -102,8 +102,8 @@ pub fn yaml_document_add_scalar(
     if !is_utf8_option(tag) || !is_utf8(value) {
         return Err(yaml_text_fault_t::NotUtf8);
     }
-    let tag = copied_tag_or_default(document.alloc, tag, yaml_node_tag_t::Str)?;
-    let value = yaml_node_text_t::copied(document.alloc, value)?;
+    let tag = copied_tag_or_default(document.parts.alloc, tag, yaml_node_tag_t::Str)?;
+    let value = yaml_node_text_t::copied(document.parts.alloc, value)?;
     add_node(
         document,
         unplaced_node(yaml_node_body_t::Scalar { value, style }, tag),
@@ -123,8 +123,8 @@ pub fn yaml_document_add_sequence(
     if !is_utf8_option(tag) {
         return Err(yaml_text_fault_t::NotUtf8);
     }
-    let tag = copied_tag_or_default(document.alloc, tag, yaml_node_tag_t::Seq)?;
-    let items = Vec::new(document.alloc);
+    let tag = copied_tag_or_default(document.parts.alloc, tag, yaml_node_tag_t::Seq)?;
+    let items = Vec::new(document.parts.alloc);
     add_node(
         document,
         unplaced_node(yaml_node_body_t::Sequence { items, style }, tag),
@@ -144,8 +144,8 @@ pub fn yaml_document_add_mapping(
     if !is_utf8_option(tag) {
         return Err(yaml_text_fault_t::NotUtf8);
     }
-    let tag = copied_tag_or_default(document.alloc, tag, yaml_node_tag_t::Map)?;
-    let pairs = Vec::new(document.alloc);
+    let tag = copied_tag_or_default(document.parts.alloc, tag, yaml_node_tag_t::Map)?;
+    let pairs = Vec::new(document.parts.alloc);
     add_node(
         document,
         unplaced_node(yaml_node_body_t::Mapping { pairs, style }, tag),
@@ -196,7 +196,7 @@ pub fn yaml_document_append_sequence_item(
     // No sequence gets more than 2,147,483,647 items.
     ensures room { OnOk result (HasRoomAt item_count document.old sequence) }
 {
-    push_item(&mut document.nodes[node_place(sequence)], item)
+    push_item(&mut document.parts.nodes[node_place(sequence)], item)
 }
 
 /// Appends a pair to the mapping under a number. `yaml_document_get_node` tells whether a number names a node, and of which
@@ -217,7 +217,7 @@ pub fn yaml_document_append_mapping_pair(
     ensures room { OnOk result (HasRoomAt pair_count document.old mapping) }
 {
     push_pair(
-        &mut document.nodes[node_place(mapping)],
+        &mut document.parts.nodes[node_place(mapping)],
         yaml_node_pair_t { key, value },
     )
 }

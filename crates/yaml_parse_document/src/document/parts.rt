@@ -1,7 +1,8 @@
 //! A document in the making: its parts, as the loader fills them.
 
-ghost use Rattle.std.specs.Prelude.{◌≡◌};
-ghost use Rattle.yaml_parse_document.specs.Documents.{IsDocument};
+ghost use Rattle.std.specs.Prelude.{◌≡◌, map};
+ghost use Rattle.yaml_parse_model.specs.Events.{directive_of};
+ghost use Rattle.yaml_parse_document.specs.Documents.{IsDocument, new_document, no_document};
 ghost use Rattle.yaml_parse_document.specs.Sizes.{IsSized};
 
 use super::yaml_document_t;
@@ -24,32 +25,48 @@ pub struct DocumentParts {
 impl DocumentParts {
     ghost use Rattle.yaml_parse_document.specs.Parts.{parts_view};
 
+    /// A document without nodes, and with zero marks.
+    pub fn new(
+        alloc: Global,
+        version_directive: Option<yaml_version_directive_t>,
+        tag_directives: Vec<yaml_tag_directive_t>,
+        start_implicit: bool,
+        end_implicit: bool,
+    ) -> DocumentParts
+        ensures { parts_view result ≡ new_document version_directive
+            (map directive_of tag_directives.items) start_implicit end_implicit }
+    {
+        let zero = yaml_mark_t {
+            index: 0,
+            line: 0,
+            column: 0,
+        };
+        DocumentParts {
+            version_directive,
+            tag_directives,
+            start_implicit,
+            end_implicit,
+            start_mark: zero,
+            end_mark: zero,
+            nodes: Vec::new(alloc),
+            alloc,
+        }
+    }
+
+    /// No directives, no nodes, false flags, zero marks.
+    pub fn none(alloc: Global) -> DocumentParts
+        ensures { parts_view result ≡ no_document }
+    {
+        DocumentParts::new(alloc, None, Vec::new(alloc), false, false)
+    }
+
     /// The document of these parts.
     pub fn into_document(self) -> yaml_document_t
         requires sound { IsDocument (parts_view self) }
         requires sized { IsSized (parts_view self) }
         ensures { result ≡ parts_view self }
     {
-        let DocumentParts {
-            version_directive,
-            tag_directives,
-            start_implicit,
-            end_implicit,
-            start_mark,
-            end_mark,
-            nodes,
-            alloc,
-        } = self;
-        yaml_document_t {
-            version_directive,
-            tag_directives,
-            start_implicit,
-            end_implicit,
-            start_mark,
-            end_mark,
-            nodes,
-            alloc,
-        }
+        yaml_document_t { parts: self }
     }
 }
 
@@ -60,5 +77,5 @@ pub fn document_is_sound(document: &yaml_document_t)
     ensures sized { IsSized document.now }
 {
     // Read for the clause: it sees the invariant of a value that is read.
-    let _ = &document.nodes;
+    let _ = &document.parts;
 }

@@ -1,9 +1,8 @@
-use Rattle.std.proofs.Common.{sym, ◌∙◌}
-use Rattle.yaml_emit_tags.proofs.Kept.{kept_ascii, puts_kept}
+use Rattle.yaml_emit_tags.proofs.Spells.{uri_more, uri_all}
 use Rattle.yaml_emit_tags.proofs.tag.put_uri.Goals as goal
 
-pub put_ascii-requires : goal.put_ascii-requires
-put_ascii-requires c = kept_ascii _ _ (sym c.are_kept.ensures ∙ c.if-are_kept.true)
+pub loop-byte-preserved : goal.loop-byte-preserved
+loop-byte-preserved c = uri_more _ _ _ _ _ _ c.loop-byte-test.true c.loop-byte.invariant c.put_uri_byte.ensures
 
-pub returns-then-are_kept : goal.returns-then-are_kept
-returns-then-are_kept c = puts_kept _ _ _ _ (sym c.are_kept.ensures ∙ c.if-are_kept.true) c.put_ascii.ensures
+pub returns : goal.returns
+returns c = uri_all _ _ _ _ _ c.loop-byte-test.false c.loop-byte.invariant

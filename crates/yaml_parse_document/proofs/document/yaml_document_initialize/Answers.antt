@@ -1,11 +1,9 @@
-use Rattle.std.proofs.Common.{◌≤◌, ◌∙◌, List, length, map, refl, subst, sym, arith}
+use Rattle.std.proofs.Common.{◌∙◌, refl, subst, sym, arith}
 use Rattle.std.proofs.lemmas.Bool.{false≢true}
 use Rattle.std.proofs.lemmas.Result.{err_from_is_err_and}
 use Rattle.yaml_parse_model.specs.Constructors.{AreUtf8}
-use Rattle.yaml_parse_model.specs.Nodes.{node_of}
-use Rattle.yaml_parse_model.specs.declared.yaml_node_t.{yaml_node_t}
-use Rattle.yaml_parse_document.specs.Documents.{AreSound}
-use Rattle.yaml_parse_document.specs.Sizes.{AreSized}
+use Rattle.yaml_parse_document.specs.Documents.{Document, IsDocument}
+use Rattle.yaml_parse_document.specs.Sizes.{IsSized}
 use Rattle.yaml_parse_document.proofs.document.yaml_document_initialize.Goals as goal
 
 pub returns-in_err-tag_directives : goal.returns-in_err-tag_directives
@@ -17,16 +15,13 @@ pub returns-then-not-are_utf8 : goal.returns-then-not-are_utf8
 returns-then-not-are_utf8 c = λ texts. false≢true (c.if-not-are_utf8.ensures.1 texts)
 
 pub invariant_of-result : goal.invariant_of-result
-invariant_of-result c = (
+invariant_of-result c = subst (λ (d : Document). IsDocument d × IsSized d) (sym c.new.ensures) (
   record {
     directives = subst AreUtf8 (sym c.in_ok-tag_directives.ensures) (c.if-not-are_utf8.ensures.0 refl);
-    nodes = subst (λ (ns : List yaml_node_t). AreSound (length (map node_of ns)) (map node_of ns)) (sym c.new.ensures.items) tt;
+    nodes = tt;
   },
-  record {
-    nodes = subst (λ (ns : List yaml_node_t). length (map node_of ns) ≤ 2147483647) (sym c.new.ensures.items) (omega arith);
-    entries = subst (λ (ns : List yaml_node_t). AreSized (map node_of ns)) (sym c.new.ensures.items) tt;
-  },
+  record { nodes = omega arith; entries = tt },
 )
 
 pub returns : goal.returns
-returns c = (rw (c.in_ok-tag_directives.ensures, c.new.ensures.items) refl, c.if-not-are_utf8.ensures.0 refl)
+returns c = (rw c.in_ok-tag_directives.ensures at c.new.ensures, c.if-not-are_utf8.ensures.0 refl)

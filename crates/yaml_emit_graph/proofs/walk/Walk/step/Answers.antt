@@ -4,13 +4,8 @@ use Rattle.std.proofs.Common.{◌+◌, refl, rules, ap}
 use Rattle.std.specs.Prelude.{Some, ℤ}
 use Rattle.std.proofs.lemmas.Int.{to_z-of_z}
 use Rattle.yaml_emit_graph.specs.declared.walk.Open.{Open}
-use Rattle.yaml_emit_graph.proofs.Walking.{leave_comes, child_met}
+use Rattle.yaml_emit_graph.proofs.Walking.{child_met}
 use Rattle.yaml_emit_graph.proofs.walk.Walk.step.Goals as goal
-
-pub returns-in-None : goal.returns-in-None
-returns-in-None g c =
-    rw (to_z-of_z w32 c.args.from.node (search rules))
-    (leave_comes _ c.args.self.now c.pop.new.self c.args.from c.requires.going c.requires.top c.requires.walk c.in-None.ensures c.pop.ensures.stack c.pop.ensures.rest.0 c.pop.ensures.rest.1)
 
 pub returns-in_ok-visit-in-Some : goal.returns-in_ok-visit-in-Some
 returns-in_ok-visit-in-Some g c =

@@ -1,5 +1,0 @@
-use Rattle.std.proofs.Common.{refl}
-use Rattle.yaml_parse_loader.proofs.nodes.scalar_of.Goals as goal
-
-pub returns : goal.returns
-returns c = rw (c.taken-value.ensures, c.mark_again.ensures, c.mark_again-2.ensures) refl

@@ -59,8 +59,8 @@ inside_blames exact i core held fault e fr l = λ off on.
     refuses_as (held_events i.held ++ e ∷ []) (HasLaid i.core (held_events i.held ++ e ∷ []) core.sink.bytes) (HasFirst (emitter_of i) (e ∷ []) core.sink.bytes) (λ n laid. has_first i e core.sink.bytes n fr laid) (l.blames off on)
 
 -- behind the settings that came into force
-pub begins_one : (old mid new : Emitter) (e : Event) → ComesIntoForce old e mid → TakesOne mid e new
-    → TakesOne old e new
+pub begins_one : (old mid new : Emitter) (e : Event) → ComesIntoForce old e mid
+    → TakesOne true mid e new → TakesOne true old e new
 begins_one old mid new e p t = record {
   takes = takes_on old mid new (e ∷ []) (e ∷ []) [] p.takes t.takes;
   memory = λ n.
@@ -69,6 +69,7 @@ begins_one old mid new e p t = record {
       let P : List Event → Type 0 = λ z. RefusesHeld (z ++ e ∷ []) (HasFirst old (e ∷ []) new.output) in
       subst P p.held (refuses_as (mid.held ++ e ∷ []) (HasFirst mid (e ∷ []) new.output) (HasFirst old (e ∷ []) new.output) (λ n laid x more whole k. laid x more whole (p.front n x more whole k)) (t.blames (p.starved ∙ off) on));
   few = t.few;
+  begun = t.begun;
   opened = (t.opened.0 ∙ p.keeps.0, t.opened.1 ∙ p.keeps.1);
   last = (t.last.0, ap (λ z. z ++ e ∷ []) (sym p.held) ∙ t.last.1);
 }

@@ -16,10 +16,10 @@ use Rattle.yaml_emit_text.specs.declared.Encoding.{Encoding}
 use Rattle.yaml_emit_text.specs.Text.{Item}
 use Rattle.yaml_emit_graph.specs.declared.graph.Events.{Events}
 use Rattle.yaml_emit_graph.specs.Events.{IsEvents, remaining_events}
-use Rattle.yaml_emit_machine.specs.Emitter.{Emitter, Keeps, left_if}
+use Rattle.yaml_emit_machine.specs.Emitter.{Emitter, left_if}
 use Rattle.yaml_emit_machine.specs.Verdict.{verdict, Writes, wrong, Lays}
-use Rattle.yaml_emit_machine.specs.Taking.{TakesEvents, LaysAtOnce, Stuck, NotesMemoryOf}
-use Rattle.yaml_emit_machine.specs.Dumping.{LaysOne, Dumps, MayDump, MayDumpEarly, DumpsSome}
+use Rattle.yaml_emit_machine.specs.Taking.{TakesEvents, LaysAtOnce, Stuck}
+use Rattle.yaml_emit_machine.specs.Dumping.{LaysOne, Dumps, DumpsOne, MayDump, DumpsSome}
 use Rattle.yaml_emit_machine.proofs.Taking.{takes_none, takes_on, takes_first, notes_any, notes_on}
 
 behind_by : (b : Bool) (e : Event) (xs ys : List Event) → (if b then e ∷ xs else []) ≡ e ∷ ys
@@ -113,18 +113,16 @@ dumps_on a b c es fs gs p q = record {
 }
 
 -- None was to come.
-pub dumps_nothing : (d : Document) (may : Emitter → Events → Type 0) (e : Emitter)
-    (before after : Events) → remaining_events d before ≡ []
-    → DumpsSome d may e e before after false
-dumps_nothing d may e before after c =
+pub dumps_nothing : (early : Bool) (d : Document) (e : Emitter) (before after : Events)
+    → remaining_events d before ≡ [] → DumpsSome early d e e before after false
+dumps_nothing early d e before after c =
     let P : List Event → Type 0 = λ z. Dumps e z e [] in
     record { dumps = subst P (sym c) (dumps_none e []); on = λ on. absurd (false≢true on); less = λ on. absurd (false≢true on) }
 
 -- Memory was refused for what was to come.
-pub dumps_starved : (d : Document) (may : Emitter → Events → Type 0) (old new : Emitter)
-    (before after : Events) → ((es : List Event) → Dumps old es new [])
-    → DumpsSome d may old new before after false
-dumps_starved d may old new before after t = record { dumps = t (remaining_events d before); on = λ on. absurd (false≢true on); less = λ on. absurd (false≢true on) }
+pub dumps_starved : (early : Bool) (d : Document) (old new : Emitter) (before after : Events)
+    → ((es : List Event) → Dumps old es new []) → DumpsSome early d old new before after false
+dumps_starved early d old new before after t = record { dumps = t (remaining_events d before); on = λ on. absurd (false≢true on); less = λ on. absurd (false≢true on) }
 
 -- An event of those that are left was taken; behind a fault the others count for nothing.
 takes_by : (b : Bool) (old new : Emitter) (e : Event) (es : List Event)
@@ -132,30 +130,6 @@ takes_by : (b : Bool) (old new : Emitter) (e : Event) (es : List Event)
     → TakesEvents old (e ∷ es) new (left_if b es)
 takes_by true old new e es t stuck = t
 takes_by false old new e es t stuck = takes_on old new new (e ∷ es) es [] t (stuck refl es [])
-
-dumps_one : (d : Document) (may : Emitter → Events → Type 0) (old new : Emitter)
-    (before after : Events) (b : Bool) (e : Event)
-    → remaining_events d before ≡ e ∷ remaining_events d after
-    → TakesEvents old (e ∷ remaining_events d after) new (remaining_events d after)
-    → (b ≡ false → Stuck new) → NotesMemoryOf e old new → Keeps old new
-    → (b ≡ true → may new after) → DumpsSome d may old new before after b
-dumps_one d may old new before after b e c t stuck m keeps on =
-    let left = remaining_events d after in
-    let P : List Event → Type 0 = λ z. TakesEvents old z new (left_if b left) in
-    let Q : List Event → Type 0 = λ z. length left < length z in
-    record {
-      dumps = record { takes = subst P (sym c) (takes_by b old new e left t stuck); memory = notes_any e old new m; keeps = keeps };
-      on = on;
-      less = λ _. subst Q (sym c) (omega arith);
-    }
-
-pub dumps_event : (d : Document) (old new : Emitter) (before after : Events) (b : Bool) (e : Event)
-    → remaining_events d before ≡ e ∷ remaining_events d after → IsEvents d after
-    → TakesEvents old (e ∷ []) new [] → NotesMemoryOf e old new → Keeps old new
-    → new.fresh ≡ false → (b ≡ false → Stuck new)
-    → DumpsSome d (MayDump d) old new before after b
-dumps_event d old new before after b e c walk t m keeps begun stuck =
-    dumps_one d (MayDump d) old new before after b e c (takes_first old new e (remaining_events d after) t) stuck m keeps (λ on. record { walk = walk; begun = begun })
 
 -- ---- laid out at once
 
@@ -179,7 +153,7 @@ lays_out e x es whole none begun w = rw (begun, none) (rw (begun, none) at w)
 early_first : (old new : Emitter) (e : Event) (es : List Event) → LaysAtOnce old
     → AreOut (e ∷ es) → LaysOne old e new → TakesEvents old (e ∷ es) new es
 early_first old new e es o out l =
-    let t = l.given.text in
+    let t = l.given.takes in
     let behind = out_behind e es out in
     record {
       completes = λ x more whole h. t.completes x (es ++ more) whole h;
@@ -202,16 +176,35 @@ early_first old new e es o out l =
       begun = λ f. absurd (false≢true (sym l.given.begun ∙ f));
     }
 
-pub dumps_early : (d : Document) (old new : Emitter) (before after : Events) (b : Bool) (e : Event)
+takes_one : (early : Bool) (old new : Emitter) (e : Event) (es : List Event)
+    → (early ≡ true → LaysAtOnce old) → (early ≡ true → AreOut (e ∷ es))
+    → DumpsOne early old e new → TakesEvents old (e ∷ es) new es
+takes_one true old new e es o out l = early_first old new e es (o refl) (out refl) (l.once refl)
+takes_one false old new e es o out l = takes_first old new e es (l.takes refl)
+
+-- An event was laid out at once, which a dump may do early.
+pub dumps_once : (old new : Emitter) (e : Event) → LaysOne old e new → DumpsOne true old e new
+dumps_once old new e l = record { takes = λ off. absurd (false≢true (sym off)); once = λ on. l; memory = l.given.memory; opened = l.given.opened; begun = l.given.begun }
+
+-- The first event of those that are left was taken; behind a fault the others count for nothing.
+pub dumps_event : (early : Bool) (d : Document) (old new : Emitter) (before after : Events)
+    (b : Bool) (e : Event)
     → remaining_events d before ≡ e ∷ remaining_events d after → IsEvents d after
-    → MayDumpEarly d old before → LaysOne old e new → (b ≡ true → new.fault ≡ None)
-    → (b ≡ false → Stuck new) → DumpsSome d (MayDumpEarly d) old new before after b
-dumps_early d old new before after b e c walk may l right stuck =
+    → MayDump early d old before → DumpsOne early old e new → (b ≡ true → new.fault ≡ None)
+    → (b ≡ false → Stuck new) → DumpsSome early d old new before after b
+dumps_event early d old new before after b e c walk may l right stuck =
     let left = remaining_events d after in
-    let P : List Event → Type 0 = λ z. AreOut z in
-    let out : AreOut (e ∷ left) = subst P c may.out in
-    dumps_one d (MayDumpEarly d) old new before after b e c (early_first old new e left may.once out l) stuck l.given.memory l.given.opened (λ on. record {
-      walk = walk;
-      once = record { right = right on; begun = l.given.begun; form = l.form.1; none = l.none };
-      out = out_behind e left out;
-    })
+    let P : List Event → Type 0 = λ z. TakesEvents old z new (left_if b left) in
+    let Q : List Event → Type 0 = λ z. length left < length z in
+    let R : List Event → Type 0 = λ z. AreOut z in
+    let out : early ≡ true → AreOut (e ∷ left) = λ on. subst R c (may.out on) in
+    record {
+      dumps = record { takes = subst P (sym c) (takes_by b old new e left (takes_one early old new e left may.once out l) stuck); memory = notes_any e old new l.memory; keeps = l.opened };
+      on = λ going. record {
+        walk = walk;
+        begun = l.begun;
+        once = λ on. record { right = right going; begun = l.begun; form = (l.once on).form.1; none = (l.once on).none };
+        out = λ on. out_behind e left (out on);
+      };
+      less = λ _. subst Q (sym c) (omega arith);
+    }

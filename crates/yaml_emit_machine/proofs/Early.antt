@@ -1,7 +1,6 @@
 -- Behind an event the state is as it has to be. Where no event is held, one is laid out as it comes in canonical form: the text is
 -- the same.
-use Rattle.std.proofs.Common.{◌≡◌, [], ◌∷◌, ◌++◌, Bool, true, false, refl, sym, ◌∙◌, ap, Option, None, length, option_map}
-use Rattle.std.specs.Prelude.{◌≤◌}
+use Rattle.std.proofs.Common.{◌≡◌, [], ◌∷◌, ◌++◌, Bool, true, false, refl, sym, ◌∙◌, ap, Option, None, option_map}
 use Rattle.std.proofs.lemmas.Bool.{false≢true}
 use Rattle.yaml_scan_model.specs.Faults.{Fault, fault_of}
 use Rattle.yaml_scan_model.specs.declared.yaml_fault_t.{yaml_fault_t}
@@ -14,17 +13,17 @@ use Rattle.yaml_emit_state.specs.Steps.{LaysOut}
 use Rattle.yaml_emit_state.proofs.Settled.{canonical_decided}
 use Rattle.yaml_emit_machine.specs.Held.{held_events, is_ready, are_some}
 use Rattle.yaml_emit_machine.specs.declared.held.Held.{Held}
-use Rattle.yaml_emit_machine.specs.Laying.{LaysEvents, HoldsOrLays, is_undecided_at}
+use Rattle.yaml_emit_machine.specs.Laying.{HoldsOrLays, is_undecided_at}
 use Rattle.yaml_emit_machine.specs.declared.emitter.yaml_emitter_t.TheInside.{Inside}
 use Rattle.yaml_emit_machine.specs.Views.{emitter_of, IsEmitter}
-use Rattle.yaml_emit_machine.specs.Taking.{TakesOne, GivesOne, LaysAtOnce}
+use Rattle.yaml_emit_machine.specs.Taking.{TakesOne, LaysAtOnce}
 use Rattle.yaml_emit_machine.specs.Dumping.{LaysOne}
 use Rattle.yaml_emit_machine.specs.Emitter.{refusal_by}
-use Rattle.yaml_emit_machine.proofs.Holding.{passes_decided, last_passed}
+use Rattle.yaml_emit_machine.proofs.Holding.{three_most, passes_decided, last_passed}
 use Rattle.yaml_emit_machine.proofs.Following.{lays_none, lays_past, lays_unnoted}
 use Rattle.yaml_emit_machine.proofs.Emitting.{left, inside_goes, inside_going}
 use Rattle.yaml_emit_machine.proofs.Resuming.{forced_same}
-use Rattle.yaml_emit_machine.proofs.Taking.{inside_gives, inside_takes}
+use Rattle.yaml_emit_machine.proofs.Taking.{inside_text}
 use Rattle.yaml_emit_machine.proofs.Blaming.{inside_blames}
 
 -- Behind what was laid out an emitter is as it has to be.
@@ -36,7 +35,6 @@ pub inside_held : (exact : Bool) (i : Inside) (core : Core) (held : Held)
 inside_held exact i core held fault e inv fr faulty h = record {
   faulty = faulty;
   few = h.waits;
-  short = h.short;
   texts = h.utf8;
   begun = λ f. absurd (false≢true (sym fr ∙ f));
   limited = h.lays.limit ∙ inv.limited;
@@ -46,30 +44,18 @@ inside_held exact i core held fault e inv fr faulty h = record {
 }
 
 -- It has taken the event, or given its text early.
-pub inside_took : (i : Inside) (core : Core) (held : Held) (fault : Option Fault) (e : Event)
-    → IsEmitter i → i.fresh ≡ false → option_map fault_of i.fault ≡ None
-    → HoldsOrLays true i.core i.held e core held
-    → TakesOne (emitter_of i) e (left i core i.fresh (held_events held) fault)
-inside_took i core held fault e inv fr none h = record {
-  takes = inside_takes i core held fault e fr (inside_going i inv none) h.lays;
+pub inside_took : (exact : Bool) (i : Inside) (core : Core) (held : Held) (fault : Option Fault)
+    (e : Event) → IsEmitter i → i.fresh ≡ false → option_map fault_of i.fault ≡ None
+    → HoldsOrLays exact i.core i.held e core held
+    → TakesOne exact (emitter_of i) e (left i core i.fresh (held_events held) fault)
+inside_took exact i core held fault e inv fr none h = record {
+  takes = inside_text exact i core held fault e fr (inside_going i inv none) h.lays;
   memory = h.lays.memory;
-  blames = inside_blames true i core held fault e fr h.lays;
-  few = h.short;
-  opened = (refl, refl);
-  last = h.last;
-}
-
-pub inside_gave : (i : Inside) (core : Core) (held : Held) (fault : Option Fault) (e : Event)
-    → i.fresh ≡ false → LaysEvents false i.core (held_events i.held ++ e ∷ []) core (held_events held)
-    → length (held_events held) ≤ 3
-    → GivesOne (emitter_of i) e (left i core i.fresh (held_events held) fault)
-inside_gave i core held fault e fr lays short = record {
-  text = inside_gives false i core held fault e fr lays;
-  memory = lays.memory;
-  blames = inside_blames false i core held fault e fr lays;
-  few = short;
+  blames = inside_blames exact i core held fault e fr h.lays;
+  few = three_most held;
   opened = (refl, refl);
   begun = fr;
+  last = h.last;
 }
 
 -- An event was laid out at once: it is all that is left of those that were held and it.
@@ -82,7 +68,6 @@ inside_lays i core e inv once l =
     record {
       lays = lays_past true i.core i.core core (held_events i.held ++ e ∷ []) (held_events i.held) e (lays_none false i.core (held_events i.held ++ e ∷ [])) (inside_goes i inv once.right) passes l;
       utf8 = inv.texts;
-      short = inv.short;
       waits = λ g. ap is_ready once.none;
       last = last_passed true _ (held_events i.held) _ e passes;
       settings = l.settings;
@@ -99,7 +84,7 @@ pub inside_one : (i : Inside) (core : Core) (e : Event) (fault : Option Fault) �
     → LaysAtOnce (emitter_of i) → LaysOut i.core core e false
     → LaysOne (emitter_of i) e (left i core i.fresh (held_events i.held) fault)
 inside_one i core e fault inv once l = record {
-  given = inside_gave i core i.held fault e once.begun (inside_lays i core e inv once l).lays inv.short;
+  given = inside_took false i core i.held fault e inv once.begun once.right (inside_lays i core e inv once l);
   none = once.none;
   form = (inside_going i inv once.right, ap (λ (s : Settings). s.canonical) l.settings ∙ once.form);
 }

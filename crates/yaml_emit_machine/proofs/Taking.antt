@@ -29,7 +29,7 @@ use Rattle.yaml_emit_machine.specs.Laying.{LaysEvents}
 use Rattle.yaml_emit_machine.specs.Emitter.{Emitter, fault_by, refusal_by, stream_encoding, Completes}
 use Rattle.yaml_emit_machine.specs.Views.{emitter_of, IsEmitter}
 use Rattle.yaml_emit_machine.specs.Verdict.{verdict, Writes, wrong, Lays, LaysFirst, TellsOutcome}
-use Rattle.yaml_emit_machine.specs.Taking.{TakesEvents, GivesText, Stuck, NotesMemory, NotesMemoryOf, ComesIntoForce}
+use Rattle.yaml_emit_machine.specs.Taking.{TakesEvents, GivesText, Takes, Stuck, NotesMemory, NotesMemoryOf, ComesIntoForce}
 use Rattle.yaml_emit_machine.proofs.Emitting.{stood, left, not_true, inside_begun, stopped_finishes, begin_finishes}
 use Rattle.yaml_emit_machine.proofs.Judging.{or_some, unless_some}
 
@@ -111,7 +111,7 @@ notes_on a b c p q m n = λ h. let k = notes_both true a.status b.status c.statu
 
 -- ---- an event was given
 
-pub inside_gives : (exact : Bool) (i : Inside) (core : Core) (held : Held) (fault : Option Fault)
+inside_gives : (exact : Bool) (i : Inside) (core : Core) (held : Held) (fault : Option Fault)
     (e : Event) → i.fresh ≡ false
     → LaysEvents exact i.core (held_events i.held ++ e ∷ []) core (held_events held)
     → GivesText (emitter_of i) e (left i core i.fresh (held_events held) fault)
@@ -127,7 +127,7 @@ inside_gives exact i core held fault e fr l =
       limit = l.limit;
     })
 
-pub inside_takes : (i : Inside) (core : Core) (held : Held) (fault : Option Fault) (e : Event)
+inside_takes : (i : Inside) (core : Core) (held : Held) (fault : Option Fault) (e : Event)
     → i.fresh ≡ false → i.core.sink.status ≡ Going
     → LaysEvents true i.core (held_events i.held ++ e ∷ []) core (held_events held)
     → TakesEvents (emitter_of i) (e ∷ []) (left i core i.fresh (held_events held) fault) []
@@ -148,6 +148,13 @@ inside_takes i core held fault e fr on l =
       limit = l.limit;
       begun = λ f. absurd (false≢true f);
     })
+
+pub inside_text : (exact : Bool) (i : Inside) (core : Core) (held : Held) (fault : Option Fault)
+    (e : Event) → i.fresh ≡ false → i.core.sink.status ≡ Going
+    → LaysEvents exact i.core (held_events i.held ++ e ∷ []) core (held_events held)
+    → Takes exact (emitter_of i) e (left i core i.fresh (held_events held) fault)
+inside_text true i core held fault e fr on l = inside_takes i core held fault e fr on l
+inside_text false i core held fault e fr on l = inside_gives false i core held fault e fr l
 
 -- ---- the settings came into force
 

@@ -12,7 +12,7 @@ ghost use Rattle.yaml_emit_machine.specs.Held.{AreLast};
 ghost use Rattle.yaml_emit_machine.specs.Within.{IsWithin};
 ghost use Rattle.yaml_emit_machine.specs.Verdict.{TellsOutcome};
 ghost use Rattle.yaml_emit_machine.specs.Dumping.{LaysOne};
-ghost use Rattle.yaml_emit_machine.specs.Taking.{TakesEvents, GivesText, TakesOne, GivesOne, LaysAtOnce, AwaitsNode, Stuck, NotesMemoryOf, BlamesLevels, ComesIntoForce};
+ghost use Rattle.yaml_emit_machine.specs.Taking.{TakesEvents, GivesText, TakesOne, LaysAtOnce, AwaitsNode, Stuck, NotesMemoryOf, BlamesLevels, ComesIntoForce};
 
 mod dump;
 mod resume;
@@ -205,7 +205,7 @@ impl yaml_emitter_t {
         requires utf8 { HasUtf8 (body_of event.old) }
         requires right { self.old.fault ≡ None }
         requires begun { self.old.fresh ≡ false }
-        ensures { TakesOne self.old (emitter_event (body_of event.old)) self.new }
+        ensures { TakesOne true self.old (emitter_event (body_of event.old)) self.new }
     {
         hold_or_lay(&mut self.core, &mut self.held, event, false);
         note(&self.core, &mut self.fault);
@@ -231,7 +231,7 @@ impl yaml_emitter_t {
         requires utf8 { HasUtf8 (body_of event.old) }
         requires right { self.old.fault ≡ None }
         requires begun { self.old.fresh ≡ false }
-        ensures { GivesOne self.old (emitter_event (body_of event.old)) self.new }
+        ensures { TakesOne false self.old (emitter_event (body_of event.old)) self.new }
     {
         hold_or_lay_early(&mut self.core, &mut self.held, event);
         note(&self.core, &mut self.fault);
@@ -288,7 +288,7 @@ impl yaml_emitter_t {
     fn begin_or_lay(&mut self, event: &mut yaml_event_body_t)
         requires utf8 { HasUtf8 (body_of event.old) }
         requires right { self.old.fault ≡ None }
-        ensures { TakesOne self.old (emitter_event (body_of event.old)) self.new }
+        ensures { TakesOne true self.old (emitter_event (body_of event.old)) self.new }
     {
         if self.fresh {
             self.begin(event);

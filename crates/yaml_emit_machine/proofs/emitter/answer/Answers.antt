@@ -1,5 +1,6 @@
 use Rattle.std.proofs.Common.{ap, option_map}
 use Rattle.yaml_scan_model.specs.Faults.{fault_of}
+use Rattle.yaml_emit_machine.proofs.Holding.{three_most}
 use Rattle.yaml_emit_machine.proofs.Emitting.{inside_begun, inside_tells}
 use Rattle.yaml_emit_machine.proofs.Taking.{inside_stuck}
 use Rattle.yaml_emit_machine.proofs.emitter.answer.Goals as goal
@@ -23,7 +24,7 @@ pub returns-in-Some-clause-running : goal.returns-in-Some-clause-running
 returns-in-Some-clause-running c = rw (← c.emitter.view_is) c.emitter.invariant.running
 
 pub returns-in-None-clause-few : goal.returns-in-None-clause-few
-returns-in-None-clause-few c = rw (← c.emitter.view_is) c.emitter.invariant.short
+returns-in-None-clause-few c = rw (← c.emitter.view_is) (three_most c.emitter.inside.held)
 
 pub returns-in-Some-clause-few : goal.returns-in-Some-clause-few
-returns-in-Some-clause-few c = rw (← c.emitter.view_is) c.emitter.invariant.short
+returns-in-Some-clause-few c = rw (← c.emitter.view_is) (three_most c.emitter.inside.held)

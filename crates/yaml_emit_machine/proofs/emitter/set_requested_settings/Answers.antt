@@ -9,7 +9,6 @@ invariant_of-emitter c =
     record {
       faulty = was.faulty;
       few = was.few;
-      short = was.short;
       texts = was.texts;
       begun = was.begun;
       limited = was.limited;

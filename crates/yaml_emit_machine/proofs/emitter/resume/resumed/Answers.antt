@@ -1,4 +1,4 @@
-use Rattle.std.proofs.Common.{refl, ap, arith}
+use Rattle.std.proofs.Common.{refl, ap}
 use Rattle.std.proofs.lemmas.Bool.{false≢true}
 use Rattle.yaml_emit_machine.specs.Held.{is_ready}
 use Rattle.yaml_emit_machine.proofs.Resuming.{seen_resumed, resumed_right, resumed_limit, resumed_forced}
@@ -11,7 +11,6 @@ invariant_of-result c =
     record {
       faulty = resumed_right _ _ _ _ _ _ c.in_ok-core.ensures c.requires.right;
       few = λ g. ap is_ready none;
-      short = rw none (omega arith);
       texts = c.nothing.ensures.utf8;
       begun = λ f. absurd (false≢true f);
       limited = resumed_limit _ _ _ _ _ _ c.in_ok-core.ensures;

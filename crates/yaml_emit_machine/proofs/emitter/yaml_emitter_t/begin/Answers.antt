@@ -14,7 +14,6 @@ invariant_of-self c =
     record {
       faulty = was.1.0 ∙ sym (fresh_refusal _ _ c.new.ensures.fresh);
       few = λ g. ap is_ready was.0;
-      short = c.self.invariant.short;
       texts = c.self.invariant.texts;
       begun = λ f. absurd (false≢true f);
       limited = c.new.ensures.limit;

@@ -11,9 +11,8 @@ pub invariant_of-self : goal.invariant_of-self
 invariant_of-self c =
     let fr = rw (← c.self.view_is) at c.requires.begun in
     record {
-      faulty = c.refusal-self-inside.ensures;
+      faulty = c.note_refusal.ensures;
       few = λ g. absurd (c.starve.ensures.stopped (goes_going _ _ g));
-      short = c.self.invariant.short;
       texts = c.self.invariant.texts;
       begun = λ f. absurd (false≢true (sym fr ∙ f));
       limited = (c.starve.ensures.text stay).limit ∙ c.self.invariant.limited;

@@ -1,6 +1,5 @@
 -- Memory that was refused outside the output: which events stand in it.
-use Rattle.std.proofs.Common.{◌≡◌, ◌⊎◌, inl, inr, ℕ, suc, drop, List, [], ◌∷◌, ◌++◌, Bool, true, false, sym, subst, ◌∙◌, ap, Option, append_assoc}
-use Rattle.std.proofs.lemmas.Bool.{false≢true}
+use Rattle.std.proofs.Common.{◌≡◌, ◌⊎◌, inl, inr, ℕ, suc, drop, List, [], ◌∷◌, ◌++◌, Bool, true, false, sym, subst, Option, append_assoc}
 use Rattle.yaml_scan_model.specs.Faults.{Fault}
 use Rattle.yaml_emit_text.specs.declared.Encoding.{Encoding}
 use Rattle.yaml_emit_text.specs.Text.{encode}
@@ -8,16 +7,14 @@ use Rattle.yaml_emit_layout.specs.Content.{Event}
 use Rattle.yaml_emit_state.specs.declared.Core.{Core}
 use Rattle.yaml_emit_machine.specs.Held.{held_events}
 use Rattle.yaml_emit_machine.specs.declared.held.Held.{Held}
-use Rattle.yaml_emit_state.specs.Steps.{may_note}
-use Rattle.yaml_emit_machine.specs.Judged.{first_starts, RefusesHeld, take_memory}
+use Rattle.yaml_emit_machine.specs.Judged.{first_starts, RefusesHeld}
 use Rattle.yaml_emit_machine.specs.Laying.{HasLaid, LaysEvents}
 use Rattle.yaml_emit_machine.specs.declared.emitter.yaml_emitter_t.TheInside.{Inside}
 use Rattle.yaml_emit_machine.specs.Emitter.{Emitter}
 use Rattle.yaml_emit_machine.specs.Views.{emitter_of}
 use Rattle.yaml_emit_machine.specs.Verdict.{LaysFirst}
-use Rattle.yaml_emit_machine.specs.Taking.{HasFirst, BlamesLevels, TakesOne, ComesIntoForce}
+use Rattle.yaml_emit_machine.specs.Taking.{HasFirst, BlamesLevels}
 use Rattle.yaml_emit_machine.proofs.Emitting.{stood, left}
-use Rattle.yaml_emit_machine.proofs.Taking.{takes_on}
 pub use Rattle.yaml_emit_machine.proofs.Taking.{ends_new}
 
 -- ---- what is known of the first few is known in other words
@@ -34,10 +31,6 @@ refuses_as es P Q f r = record {
   takes = r.takes;
   stands = stands_as r.front (first_starts (drop r.front es) ≡ true) P Q f r.stands;
 }
-
--- nothing was noted
-pub blames_none : (e : Event) (a : Emitter) → BlamesLevels e a a
-blames_none e a = λ off on. absurd (false≢true (sym off ∙ on))
 
 -- ---- an event was given
 
@@ -57,22 +50,6 @@ pub inside_blames : (exact : Bool) (i : Inside) (core : Core) (held : Held) (fau
     → BlamesLevels e (emitter_of i) (left i core i.fresh (held_events held) fault)
 inside_blames exact i core held fault e fr l = λ off on.
     refuses_as (held_events i.held ++ e ∷ []) (HasLaid i.core (held_events i.held ++ e ∷ []) core.sink.bytes) (HasFirst (emitter_of i) (e ∷ []) core.sink.bytes) (λ n laid. has_first i e core.sink.bytes n fr laid) (l.blames off on)
-
--- behind the settings that came into force
-pub begins_one : (old mid new : Emitter) (e : Event) → ComesIntoForce old e mid
-    → TakesOne true mid e new → TakesOne true old e new
-begins_one old mid new e p t = record {
-  takes = takes_on old mid new (e ∷ []) (e ∷ []) [] p.takes t.takes;
-  memory = λ n.
-      t.memory (ap (λ z. may_note (take_memory (z ++ e ∷ [])) mid.status new.status) p.held ∙ (ap (λ z. may_note (take_memory (old.held ++ e ∷ [])) z new.status) p.status ∙ n)) ∙ p.starved;
-  blames = λ off on.
-      let P : List Event → Type 0 = λ z. RefusesHeld (z ++ e ∷ []) (HasFirst old (e ∷ []) new.output) in
-      subst P p.held (refuses_as (mid.held ++ e ∷ []) (HasFirst mid (e ∷ []) new.output) (HasFirst old (e ∷ []) new.output) (λ n laid x more whole k. laid x more whole (p.front n x more whole k)) (t.blames (p.starved ∙ off) on));
-  few = t.few;
-  begun = t.begun;
-  opened = (t.opened.0 ∙ p.keeps.0, t.opened.1 ∙ p.keeps.1);
-  last = (t.last.0, ap (λ z. z ++ e ∷ []) (sym p.held) ∙ t.last.1);
-}
 
 -- ---- that the stream was opened or closed is noted
 

@@ -112,13 +112,6 @@ dumps_on a b c es fs gs p q = record {
   keeps = (q.keeps.0 ∙ p.keeps.0, q.keeps.1 ∙ p.keeps.1);
 }
 
--- None was to come.
-pub dumps_nothing : (early : Bool) (d : Document) (e : Emitter) (before after : Events)
-    → remaining_events d before ≡ [] → DumpsSome early d e e before after false
-dumps_nothing early d e before after c =
-    let P : List Event → Type 0 = λ z. Dumps e z e [] in
-    record { dumps = subst P (sym c) (dumps_none e []); on = λ on. absurd (false≢true on); less = λ on. absurd (false≢true on) }
-
 -- Memory was refused for what was to come.
 pub dumps_starved : (early : Bool) (d : Document) (old new : Emitter) (before after : Events)
     → ((es : List Event) → Dumps old es new []) → DumpsSome early d old new before after false

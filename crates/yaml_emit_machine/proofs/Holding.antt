@@ -137,10 +137,6 @@ one_less h xs e same =
     let less = rw same at most in
     omega (arith, less)
 
-pub by_both : {X : Type 0} (b : Bool) → (b ≡ false → X) → (b ≡ true → X) → X
-by_both false f g = f refl
-by_both true f g = g refl
-
 -- where nothing is held, and nothing is decided behind it
 pub passes_decided : (held : List Event) (undecided : Bool) → are_some held ≡ false
     → undecided ≡ false → passes_early held undecided ≡ true

@@ -154,6 +154,7 @@ pub fn set_closed(emitter: &mut yaml_emitter_t, closed: bool)
 /// The first fault.
 // Inlined: one look at it.
 #[inline(always)]
+#[tactic(auto, using(crate::proofs::Emitting::inside_tells))]
 pub fn first_fault(emitter: &yaml_emitter_t) -> Option<&yaml_fault_t>
     ensures is { option_map (λ f. fault_of f.now) result ≡ emitter.now.fault }
     ensures tells { TellsOutcome emitter.now }
@@ -302,6 +303,7 @@ impl yaml_emitter_t {
 /// The first fault, if there is one, as a call answers it.
 // Inlined: one look at the fault.
 #[inline(always)]
+#[tactic(auto, using(crate::proofs::Emitting::inside_tells))]
 pub fn answer(emitter: &yaml_emitter_t) -> Result<(), yaml_fault_t>
     ensures answer { Answers emitter.now.fault result }
     ensures tells { TellsOutcome emitter.now }

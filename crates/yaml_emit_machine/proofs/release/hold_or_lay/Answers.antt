@@ -1,11 +1,8 @@
-use Rattle.std.proofs.Common.{sym, ◌∙◌, arith}
+use Rattle.std.proofs.Common.{sym, ◌∙◌}
 use Rattle.std.proofs.lemmas.Bool.{and_parts}
 use Rattle.yaml_emit_machine.proofs.Holding.{both_false, passed_by_waits, pushed_by_waits, last_passed, last_pushed}
 use Rattle.yaml_emit_machine.proofs.Following.{lays_past, lays_held}
 use Rattle.yaml_emit_machine.proofs.release.hold_or_lay.Goals as goal
-
-pub push-requires-clause-few : goal.push-requires-clause-few
-push-requires-clause-few c = let room = c.release.ensures.room in omega (arith, room)
 
 pub returns-then-passes : goal.returns-then-passes
 returns-then-passes c = record {

@@ -1,7 +1,7 @@
 use Rattle.std.proofs.Common.{refl, ap}
 use Rattle.std.proofs.lemmas.Bool.{false≢true}
 use Rattle.yaml_emit_machine.specs.Held.{is_ready}
-use Rattle.yaml_emit_machine.proofs.Resuming.{seen_resumed, resumed_right, resumed_limit, resumed_forced}
+use Rattle.yaml_emit_machine.proofs.Resuming.{resumed_right, resumed_limit, resumed_forced}
 use Rattle.yaml_emit_machine.proofs.emitter.resume.resumed.Goals as goal
 
 pub invariant_of-result : goal.invariant_of-result
@@ -18,6 +18,3 @@ invariant_of-result c =
       forced = λ off. resumed_forced c.args.requested_settings _ _ _ _ _ _ c.settled-settings.ensures c.in_ok-core.ensures;
       memory = λ g. c.in_ok-core.ensures.starved;
     }
-
-pub returns : goal.returns
-returns c = seen_resumed c.args.requested_settings _ _ _ _ _ _ _ c.nothing.ensures.events c.settled-settings.ensures c.in_ok-core.ensures

@@ -1,4 +1,3 @@
-use Rattle.std.proofs.Common.{refl}
 use Rattle.yaml_emit_machine.proofs.Earlier.{dumps_once, dumps_event}
 use Rattle.yaml_emit_machine.proofs.emitter.yaml_emitter_t.dump_text.Goals as goal
 
@@ -6,9 +5,3 @@ pub returns-in-Some : goal.returns-in-Some
 returns-in-Some c =
     let g = c.in-Some.ensures.text in
     dumps_event _ _ _ _ _ _ _ _ g.next g.walk c.requires.may (dumps_once _ _ _ (c.lay_text_at_once.ensures g.style)) c.is_right.ensures.right c.is_right.ensures.stuck
-
-pub dump_next-requires : goal.dump_next-requires
-dump_next-requires c = rw (c.in-None.ensures.none refl) c.requires.may
-
-pub returns-in-None : goal.returns-in-None
-returns-in-None c = rw (c.in-None.ensures.none refl) at c.dump_next.ensures

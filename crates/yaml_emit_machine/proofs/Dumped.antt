@@ -24,7 +24,7 @@ use Rattle.yaml_emit_machine.specs.Views.{emitter_of}
 use Rattle.yaml_emit_machine.specs.Verdict.{Writes, Lays}
 use Rattle.yaml_emit_machine.specs.Taking.{TakesEvents, Stuck, NotesMemory, NotesMemoryOf}
 use Rattle.yaml_emit_machine.specs.Dumping.{opening_event}
-use Rattle.yaml_emit_machine.proofs.Emitting.{stood, left, ends_of}
+use Rattle.yaml_emit_machine.proofs.Emitting.{stood, left, finishes_ends}
 use Rattle.yaml_emit_machine.proofs.Taking.{takes_none, takes_on, takes_first, takes_stuck, notes_any, notes_on}
 
 -- memory is noted by both of two calls
@@ -44,7 +44,7 @@ starved_finishes : (old new : Core) (xs ys : List Event) (whole : List Item) →
     → Finishes (settings_of new) (state_of new) new.sink ys whole
 unfolding Finishes
 starved_finishes old new xs ys whole s h =
-    let e = ends_of (settings_of old) (state_of old) old.sink xs whole h in
+    let e = finishes_ends old.sink.status (settings_of old) (state_of old) old.sink xs whole h in
     at_stopped new.sink.status (settings_of new) (state_of new) new.sink ys whole s.stopped ((s.text e.0).ends nothing_more whole e.1)
 
 starved_all : (old new : Core) (xs ys : List Event) (whole : List Item) → Starves old new

@@ -1,6 +1,6 @@
 -- Behind an event the state is as it has to be. Where no event is held, one is laid out as it comes in canonical form: the text is
 -- the same.
-use Rattle.std.proofs.Common.{◌≡◌, [], ◌∷◌, ◌++◌, Bool, true, false, refl, sym, ◌∙◌, ap, Option, None, option_map}
+use Rattle.std.proofs.Common.{◌≡◌, [], ◌∷◌, ◌++◌, Bool, true, false, refl, sym, ◌∙◌, ap, Option, None, option_map, rules}
 use Rattle.std.proofs.lemmas.Bool.{false≢true}
 use Rattle.yaml_scan_model.specs.Faults.{Fault, fault_of}
 use Rattle.yaml_scan_model.specs.declared.yaml_fault_t.{yaml_fault_t}
@@ -22,7 +22,6 @@ use Rattle.yaml_emit_machine.specs.Emitter.{refusal_by}
 use Rattle.yaml_emit_machine.proofs.Holding.{three_most, passes_decided, last_passed}
 use Rattle.yaml_emit_machine.proofs.Following.{lays_none, lays_past, lays_unnoted}
 use Rattle.yaml_emit_machine.proofs.Emitting.{left, inside_goes, inside_going}
-use Rattle.yaml_emit_machine.proofs.Resuming.{forced_same}
 use Rattle.yaml_emit_machine.proofs.Taking.{inside_text}
 use Rattle.yaml_emit_machine.proofs.Blaming.{inside_blames}
 
@@ -39,7 +38,7 @@ inside_held exact i core held fault e inv fr faulty h = record {
   begun = λ f. absurd (false≢true (sym fr ∙ f));
   limited = h.lays.limit ∙ inv.limited;
   running = inv.running;
-  forced = λ off. forced_same i.core core i.requested_settings h.settings (inv.forced fr);
+  forced = search rules;
   memory = lays_unnoted exact i.core core _ _ h.lays inv.memory;
 }
 

@@ -13,5 +13,4 @@ pub mod Early
 pub mod Earlier
 pub mod Dumped
 pub mod Opened
-mod Resuming
 pub use Rattle.yaml_emit_state.proofs.Finishing

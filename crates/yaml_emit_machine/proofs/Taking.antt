@@ -19,6 +19,7 @@ use Rattle.yaml_emit_layout.specs.Content.{Event}
 use Rattle.yaml_emit_layout.specs.State.{State, placed}
 use Rattle.yaml_emit_state.specs.declared.Core.{Core}
 use Rattle.yaml_emit_state.specs.Steps.{state_of, settings_of, IsFreshCore}
+use Rattle.yaml_emit_state.specs.Finish.{Finishes}
 use Rattle.yaml_emit_state.proofs.Noting.{notes_both, notes_some}
 use Rattle.yaml_emit_machine.specs.Held.{held_events}
 use Rattle.yaml_emit_machine.specs.declared.held.Held.{Held}
@@ -30,7 +31,7 @@ use Rattle.yaml_emit_machine.specs.Emitter.{Emitter, fault_by, refusal_by, strea
 use Rattle.yaml_emit_machine.specs.Views.{emitter_of, IsEmitter}
 use Rattle.yaml_emit_machine.specs.Verdict.{verdict, Writes, wrong, Lays, LaysFirst, TellsOutcome}
 use Rattle.yaml_emit_machine.specs.Taking.{TakesEvents, GivesText, Takes, Stuck, NotesMemory, NotesMemoryOf, ComesIntoForce}
-use Rattle.yaml_emit_machine.proofs.Emitting.{stood, left, not_true, inside_begun, stopped_finishes, begin_finishes}
+use Rattle.yaml_emit_machine.proofs.Emitting.{stood, left, not_true, inside_begun, stopped_at, begin_finishes}
 use Rattle.yaml_emit_machine.proofs.Judging.{or_some, unless_some}
 
 -- ---- one call behind another
@@ -253,12 +254,12 @@ stuck_all core f xs ys whole h e =
 
 pub inside_stuck : (i : Inside) → IsEmitter i → (f : Fault) → option_map fault_of i.fault ≡ Some f
     → Stuck (emitter_of i)
-unfolding Completes verdict Writes wrong Lays refusal_behind first_wrong LetsOut LaysAll
+unfolding Completes Finishes verdict Writes wrong Lays refusal_behind first_wrong LetsOut LaysAll
 inside_stuck i inv f is =
     let P : Bool → Type 0 = λ b. Stuck (stood i b (held_events i.held)) in
     let h = sym inv.faulty ∙ is in
     subst P (sym (inside_begun i inv f is)) (λ es left. record {
-      completes = λ x more whole c. (c.0, stopped_finishes i.core f _ _ whole h c.1);
+      completes = λ x more whole c. (c.0, stopped_at i.core.sink.status (settings_of i.core) (state_of i.core) i.core.sink i.core.starved f _ _ whole h c.1);
       refuses = λ g more. stuck_first i.core f (let_out (held_events i.held ++ (left ++ more))) (let_out (held_events i.held ++ (es ++ more))) h g;
       writes = λ x more whole c. (c.0, stuck_all i.core f (let_out (held_events i.held ++ (es ++ more))) (let_out (held_events i.held ++ (left ++ more))) whole h c.1);
       first = λ g more. stuck_first i.core f (held_events i.held ++ (left ++ more)) (held_events i.held ++ (es ++ more)) h g;

@@ -30,7 +30,7 @@ use Rattle.yaml_emit_layout.specs.Streams.{IsStream}
 use Rattle.yaml_emit_machine.proofs.Judging.{going_open, goes_going, open_goes, or_some, unless_some, held_stays}
 use Rattle.yaml_emit_machine.specs.Views.{emitter_of, IsEmitter}
 use Rattle.yaml_emit_machine.specs.Judged.{refused_at, let_out, unless, laid, refusal_behind, LetsOut, first_wrong, LaysAll}
-use Rattle.yaml_emit_machine.proofs.Ending.{IsAll, all_written}
+use Rattle.yaml_emit_machine.proofs.Ending.{IsAll, all_by}
 use Rattle.yaml_emit_text.specs.declared.Cursor.{Cursor}
 use Rattle.yaml_emit_machine.specs.Held.{held_events, is_ready}
 use Rattle.yaml_emit_layout.specs.Progress.{Progress, first_refusal}
@@ -179,7 +179,8 @@ inside_goes i inv none = let k = none_by i.core.sink.status i.core.starved (refu
 -- and, with no event to come, has the whole, which passes no limit
 pub inside_all : (i : Inside) → IsEmitter i → option_map fault_of i.fault ≡ None → (x : Encoding)
     (whole : List Item) → Completes (emitter_of i) x [] whole → IsAll i.core.sink x whole
-inside_all i inv none x whole h = all_written (emitter_of i) x whole (inside_going i inv none) (inv.few (inside_goes i inv none)) h
+unfolding Completes
+inside_all i inv none x whole h = all_by i.fresh (emitter_of i) x whole (inside_going i inv none) (inv.few (inside_goes i inv none)) h
 
 pub not_true : (b : Bool) → (b ≡ true → ⊥) → b ≡ false
 not_true false n = refl

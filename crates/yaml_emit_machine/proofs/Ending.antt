@@ -1,5 +1,6 @@
--- Each event of a stream or a dump is let out; so where no event is to come, nothing is held, all is written, and the whole passes no limit.
-use Rattle.std.proofs.Common.{◌≡◌, ℕ, ◌+◌, ◌≤◌, List, [], ◌∷◌, ◌++◌, length, Bool, true, false, refl, sym, subst, ◌∙◌, ap, arith, append-nil}
+-- Each event of a stream or a dump is let out; so where no event is to come, nothing is held, all is written, and the whole passes
+-- no limit.
+use Rattle.std.proofs.Common.{◌≡◌, ◌+◌, ◌≤◌, List, [], ◌∷◌, ◌++◌, length, Bool, true, false, refl, sym, subst, ◌∙◌, ap, arith, append-nil}
 use Rattle.std.specs.Prelude.{nat_le}
 use Rattle.std.proofs.Math.Bool.{or-true}
 use Rattle.yaml_emit_text.specs.declared.Encoding.{Encoding}
@@ -7,14 +8,13 @@ use Rattle.yaml_emit_text.specs.declared.Settings.{Settings}
 use Rattle.yaml_emit_text.specs.declared.Status.{Status}
 use Rattle.yaml_emit_text.specs.declared.Status.TheVariants.{Going}
 use Rattle.yaml_emit_text.specs.Text.{Item, encode, is_deep}
-use Rattle.yaml_emit_text.specs.Layout.{nothing_more}
-use Rattle.yaml_emit_text.specs.Sink.{Output, Ends, EndsBy}
+use Rattle.yaml_emit_text.specs.Sink.{Output, Ends}
 use Rattle.yaml_emit_layout.specs.Content.{Event, Opening, Start, stream_start, stream_end, document_start, document_end, alias, scalar, sequence_start, mapping_start, Node, alias_node, scalar_node, sequence_node, mapping_node, Nodes, no_nodes, node, Pairs, no_pairs, pair, Document, sequence_end, mapping_end, node_events, items_events, pairs_events, documents_events}
 use Rattle.yaml_emit_layout.specs.State.{State}
 use Rattle.yaml_emit_layout.specs.ToCome.{ToCome, stream, documents, root, frames, nothing, Frame, items_left, pairs_left, value_left, events, frame_events, frames_events, ending_events, layout}
 use Rattle.yaml_emit_state.specs.Finish.{Finishes, FinishesAt}
 use Rattle.yaml_emit_machine.specs.Held.{is_ready, needs}
-use Rattle.yaml_emit_machine.specs.Emitter.{Emitter, text_of, Completes, CompletesBy}
+use Rattle.yaml_emit_machine.specs.Emitter.{Emitter, text_of, CompletesBy}
 use Rattle.yaml_emit_machine.specs.Within.{Fits}
 use Rattle.yaml_emit_machine.specs.Judged.{let_out, AreOut}
 use Rattle.yaml_emit_machine.proofs.Holding.{enough, none_needed}
@@ -41,42 +41,35 @@ mutual
       let l = long_node u (node_events v (pairs_events ps es)) in
       omega (arith, h, k, l)
 
-out_next : (e : Event) (es : List Event)
-    → ((more : List Event) → is_ready (e ∷ (es ++ more)) ≡ true) → AreOut es → AreOut (e ∷ es)
-out_next e es ready out = λ more. first_out e (es ++ more) (ready more) ∙ ap (λ (z : List Event). e ∷ z) (out more)
+out_next : (e : Event) (es : List Event) → is_ready (e ∷ es) ≡ true → AreOut es → AreOut (e ∷ es)
+out_next e es ready out = λ more. first_out e (es ++ more) (ready_more e es more ready) ∙ ap (λ (z : List Event). e ∷ z) (out more)
 
 -- ---- what opens a level is followed by what it needs
 
-document_ready : (o : Opening) (v : Node) (es more : List Event)
-    → is_ready (document_start o ∷ (node_events v es ++ more)) ≡ true
-document_ready o v es more = let k = long_node v es in ready_more _ (node_events v es) more (enough _ _ (omega (arith, k)))
-
-sequence_ready : (q : Start) (ns : Nodes) (es more : List Event)
-    → is_ready (sequence_start q ∷ (items_events ns (sequence_end ∷ es) ++ more)) ≡ true
+sequence_ready : (q : Start) (ns : Nodes) (es : List Event)
+    → is_ready (sequence_start q ∷ items_events ns (sequence_end ∷ es)) ≡ true
 unfolding is_ready items_events
-sequence_ready q no_nodes es more = or-true (nat_le 2 (length ((sequence_end ∷ es) ++ more)))
-sequence_ready q (node v ns) es more =
+sequence_ready q no_nodes es = or-true (nat_le 2 (length (sequence_end ∷ es)))
+sequence_ready q (node v ns) es =
     let k = long_node v (items_events ns (sequence_end ∷ es)) in
     let l = long_items ns (sequence_end ∷ es) in
-    ready_more (sequence_start q) (node_events v (items_events ns (sequence_end ∷ es))) more
-    (enough (sequence_start q) (node_events v (items_events ns (sequence_end ∷ es))) (omega (arith, k, l)))
+    enough (sequence_start q) (node_events v (items_events ns (sequence_end ∷ es))) (omega (arith, k, l))
 
-mapping_ready : (q : Start) (ps : Pairs) (es more : List Event)
-    → is_ready (mapping_start q ∷ (pairs_events ps (mapping_end ∷ es) ++ more)) ≡ true
+mapping_ready : (q : Start) (ps : Pairs) (es : List Event)
+    → is_ready (mapping_start q ∷ pairs_events ps (mapping_end ∷ es)) ≡ true
 unfolding is_ready pairs_events
-mapping_ready q no_pairs es more = or-true (nat_le 3 (length ((mapping_end ∷ es) ++ more)))
-mapping_ready q (pair n v ps) es more =
+mapping_ready q no_pairs es = or-true (nat_le 3 (length (mapping_end ∷ es)))
+mapping_ready q (pair n v ps) es =
     let k = long_pairs ps (mapping_end ∷ es) in
     let l = long_node v (pairs_events ps (mapping_end ∷ es)) in
     let m = long_node n (node_events v (pairs_events ps (mapping_end ∷ es))) in
-    ready_more (mapping_start q) (node_events n (node_events v (pairs_events ps (mapping_end ∷ es)))) more
-    (enough (mapping_start q) (node_events n (node_events v (pairs_events ps (mapping_end ∷ es)))) (omega (arith, k, l, m)))
+    enough (mapping_start q) (node_events n (node_events v (pairs_events ps (mapping_end ∷ es)))) (omega (arith, k, l, m))
 
 -- ---- so it is let out
 
 -- an event that needs nothing behind it
 out_alone : (e : Event) (es : List Event) → needs e ≡ 0 → AreOut es → AreOut (e ∷ es)
-out_alone e es none out = out_next e es (λ more. none_needed e (es ++ more) none) out
+out_alone e es none out = out_next e es (none_needed e es none) out
 
 mutual
   unfolding node_events items_events pairs_events
@@ -102,7 +95,8 @@ pub document_out : (o : Opening) (v : Node) (b : Bool) (es : List Event) → Are
     → AreOut (document_start o ∷ node_events v (document_end b ∷ es))
 document_out o v b es out =
     let end : Event = document_end b in
-    out_next (document_start o) (node_events v (end ∷ es)) (document_ready o v (end ∷ es)) (node_out v (end ∷ es) (out_alone end es refl out))
+    let k = long_node v (end ∷ es) in
+    out_next (document_start o) (node_events v (end ∷ es)) (enough (document_start o) (node_events v (end ∷ es)) (omega (arith, k))) (node_out v (end ∷ es) (out_alone end es refl out))
 
 documents_out : (ds : List Document) → AreOut (documents_events ds)
 unfolding documents_events
@@ -159,26 +153,16 @@ all_at : (s : Status) (v : Settings) (st : State) (o : Output) (xs : List Event)
 unfolding Ends layout encode is_deep
 all_at Going v st o xs whole same g w f =
     let all : xs ≡ events f.rest = sym (append-nil xs) ∙ f.same in
-    let empty : xs ≡ [] = nothing_held xs f.rest w all in
-    let last : f.rest ≡ nothing = no_event_left f.rest (sym empty ∙ all) in
-    let P : ToCome → Type 0 = λ k. Ends o (layout v k o.cursor nothing_more) whole in
-    let Q : Status → Type 0 = λ s. EndsBy s o.limit o.encoding o.bytes [] whole in
-    let e : EndsBy Going o.limit o.encoding o.bytes [] whole = subst Q (sym same) (subst P last f.ends) in
+    let last : f.rest ≡ nothing = no_event_left f.rest (sym (nothing_held xs f.rest w all) ∙ all) in
+    let ends = f.ends in
+    let e = rw (← same, last) at ends in
     let written : o.bytes ≡ encode o.encoding whole = sym (append-nil o.bytes) ∙ sym e.0 in
-    let R : List ℕ → Type 0 = λ z. length z ≤ o.limit in
-    (written, record { size = subst R written e.1.0; columns = e.1.1.0 })
+    (written, record { size = rw (← written) e.1.0; columns = e.1.1.0 })
 all_at s v st o xs whole same g w f = absurd (cc)
 
-all_by : (b : Bool) (e : Emitter) (x : Encoding) (whole : List Item) → e.status ≡ Going
+-- with no event to come
+pub all_by : (b : Bool) (e : Emitter) (x : Encoding) (whole : List Item) → e.status ≡ Going
     → is_ready e.held ≡ false → CompletesBy b e x [] whole → IsAll (text_of e) x whole
 unfolding Finishes
 all_by true e x whole g w h = let k = h.same in absurd (cc)
-all_by false e x whole g w h =
-    let P : Encoding → Type 0 = λ z. IsAll (text_of e) z whole in
-    subst P h.0 (all_at e.status e.course.settings e.course.state (text_of e) e.held whole refl g w h.1)
-
--- with no event to come
-pub all_written : (e : Emitter) (x : Encoding) (whole : List Item) → e.status ≡ Going
-    → is_ready e.held ≡ false → Completes e x [] whole → IsAll (text_of e) x whole
-unfolding Completes
-all_written e x whole g w h = all_by e.fresh e x whole g w h
+all_by false e x whole g w h = rw (← h.0) (all_at e.status e.course.settings e.course.state (text_of e) e.held whole refl g w h.1)

@@ -94,7 +94,7 @@ blamed exact a b c h y e empty p o g is takes (inl put) = record {
   stands = inl (λ es whole f.
       let Q : Encoding → Type 0 = λ z. encode z whole ≡ c.sink.bytes in
       let R : Layout → Type 0 = λ t. Ends b.sink (next_piece (problem_at (settings_of b) (state_of b) e) t b.sink.cursor nothing_more) whole in
-      subst Q p.encoding (put whole (subst R (sym (is es).0) (some_one _ (settings_of b) (state_of b) b.sink e (y ++ es) whole o refl (p.some g (suc p.laid) (suc zero) (omega arith) es whole f)))));
+      subst Q p.encoding (put whole (subst R (sym (is es).0) (some_one (settings_of b) (state_of b) b.sink e (y ++ es) whole o (p.some g (suc p.laid) (suc zero) (omega arith) es whole f)))));
 }
 blamed exact a b c h y e empty p o g is takes (inr put) = record {
   front = p.laid;

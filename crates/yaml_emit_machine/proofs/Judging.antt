@@ -19,7 +19,7 @@ use Rattle.yaml_emit_layout.specs.declared.Phase.TheVariants.{Items, Keys, Value
 use Rattle.yaml_emit_layout.specs.declared.Expected.{Expected}
 use Rattle.yaml_emit_layout.specs.declared.Expected.TheVariants as at
 use Rattle.yaml_emit_layout.specs.Content.{Event, no_event, alias, scalar, sequence_start, sequence_end, mapping_start, mapping_end}
-use Rattle.yaml_emit_layout.specs.Grammar.{or_else, ends_phase, begins_node, may_come, node_problem, place_problem, problem_by, event_problem, last_problem}
+use Rattle.yaml_emit_layout.specs.Grammar.{or_else, ends_phase, begins_node, may_come, place_problem, problem_by, event_problem, last_problem}
 use Rattle.yaml_emit_layout.specs.Nodes.{Context, context_of}
 use Rattle.yaml_emit_layout.specs.State.{State, piece, next, next_at, problem_at, opens_empty, begins_by, is_sequence_end, is_mapping_end, top_of, outer_of, place_at, among, levels_behind, phase_behind}
 use Rattle.yaml_emit_state.specs.declared.Core.{Core}
@@ -32,31 +32,25 @@ use Rattle.yaml_emit_machine.proofs.Holding.{none_needed}
 
 -- ---- what is ready stays so
 
-or_more : (a c b d : Bool) → (a ≡ true → c ≡ true) → (b ≡ true → d ≡ true) → (a || b) ≡ true
-    → (c || d) ≡ true
-or_more true c b d f g h = ap (λ z. z || d) (f refl)
-or_more false c b d f g h = or_right c d (g h)
-
-and_more : (a b d : Bool) → (b ≡ true → d ≡ true) → (a && b) ≡ true → (a && d) ≡ true
-and_more true b d f h = f h
-and_more false b d f h = h
+or_more : (a c n b d : Bool) → (a ≡ true → c ≡ true) → (b ≡ true → d ≡ true)
+    → (a || (n && b)) ≡ true → (c || (n && d)) ≡ true
+or_more true c n b d f g h = ap (λ z. z || (n && d)) (f refl)
+or_more false c true b d f g h = or_right c d (g h)
+or_more false c false b d f g h = absurd (cc)
 
 closes_more : (es more : List Event) → closes es ≡ true → closes (es ++ more) ≡ true
 closes_more [] more h = absurd (cc)
-closes_more (e ∷ es) more h = or_more (ends_level e) (ends_level e) (not (opens_level e) && closes es) (not (opens_level e) && closes (es ++ more)) (λ k. k) (and_more (not (opens_level e)) (closes es) (closes (es ++ more)) (closes_more es more)) h
-
-le_longer : (n a b : ℕ) → nat_le n a ≡ true → nat_le n (a + b) ≡ true
-le_longer n a b h = grind (arith, nat_tests)
+closes_more (e ∷ es) more h = or_more (ends_level e) (ends_level e) (not (opens_level e)) (closes es) (closes (es ++ more)) (λ k. k) (closes_more es more) h
 
 longer : (n : ℕ) (es more : List Event) → nat_le n (length es) ≡ true
     → nat_le n (length (es ++ more)) ≡ true
-longer n es more h = ap (nat_le n) (length-append es more) ∙ le_longer n (length es) (length more) h
+longer n es more h = rw (length-append es more) (grind (arith, nat_tests))
 
 -- An event that is ready stays so whatever follows.
 pub ready_more : (e : Event) (es more : List Event) → is_ready (e ∷ es) ≡ true
     → is_ready (e ∷ (es ++ more)) ≡ true
 unfolding is_ready
-ready_more e es more h = or_more (nat_le (needs e) (length es)) (nat_le (needs e) (length (es ++ more))) (closes es) (closes (es ++ more)) (longer (needs e) es more) (closes_more es more) h
+ready_more e es more h = or_more (nat_le (needs e) (length es)) (nat_le (needs e) (length (es ++ more))) true (closes es) (closes (es ++ more)) (longer (needs e) es more) (closes_more es more) h
 
 -- ---- the grammar looks at the shape alone
 
@@ -70,14 +64,10 @@ same_may : (ls : List Level) (e : Event)
 same_may [] e = refl
 same_may (l ∷ ls) e = ap (λ z. begins_node e || z) (same_ends l.phase e)
 
-same_node : (ls : List Level) (e : Event)
-    → node_problem (top_of ls) e ≡ node_problem (level_due (due_of ls)) e
-same_node ls e = rw (same_may ls e) refl
-
 same_place : (p : Expected) (ls : List Level) (e : Event)
     → place_problem p (top_of ls) e ≡ place_problem p (level_due (due_of ls)) e
 unfolding place_problem
-same_place at.Node ls e = same_node ls e
+same_place at.Node ls e = rw (same_may ls e) refl
 same_place _ ls e = refl
 
 -- A problem depends on the state's shape alone: on what is expected, open and named, and not on columns.
@@ -188,16 +178,10 @@ among_step : (s : Settings) (st new : State) (e : Event) (empty : Bool) (d : Cur
 unfolding first_refusal
 among_step s st new e empty d es None pe o same =
     let right : problem_in s.canonical (shape_of st) e ≡ None = sym (same_problem s st e) ∙ sym pe in
-    let front : refusal_among s.canonical st (e ∷ es) ≡ first_refusal s.canonical (progress_after (shape_of st) e) es =
-    or_none (refused_at st.place) _ o ∙ or_none _ _ right in
-    let back : refusal_among s.canonical (next s st e empty d) es ≡ first_refusal s.canonical (progress_after (shape_of st) e) es =
-    or_none _ _ (open_next s st e empty d o) ∙ ap (λ z. first_refusal s.canonical z es) (shape_next s st e empty d) in
-    ap (λ z. refusal_among s.canonical z es) same ∙ (back ∙ sym front)
+    rw (same, o, right, open_next s st e empty d o, shape_next s st e empty d) refl
 among_step s st new e empty d es (Some x) pe o same =
     let wrong : problem_in s.canonical (shape_of st) e ≡ Some x = sym (same_problem s st e) ∙ sym pe in
-    let front : refusal_among s.canonical st (e ∷ es) ≡ Some x =
-    or_none (refused_at st.place) _ o ∙ or_some _ _ x wrong in
-    ap (λ z. refusal_among s.canonical z es) same ∙ sym front
+    rw (same, o, wrong) refl
 
 -- ---- what is written
 
@@ -325,18 +309,14 @@ some_none s st o es whole open_still h =
     let P : List Item → Type 0 = λ t. Ends o t whole in
     subst P (unless_none (refused_at st.place) _ o.cursor nothing_more open_still) h
 
--- one event, by what is wrong with it
-pub some_one : (p : Option Problem) (s : Settings) (st : State) (o : Output) (e : Event)
-    (es : List Event) (whole : List Item) → refused_at st.place ≡ None → problem_at s st e ≡ p
-    → LaysSome (suc zero) s st o (e ∷ es) whole
-    → Ends o (next_piece p (piece s st e (opens_empty e es)) o.cursor nothing_more) whole
+-- one event
+pub some_one : (s : Settings) (st : State) (o : Output) (e : Event) (es : List Event)
+    (whole : List Item) → refused_at st.place ≡ None → LaysSome (suc zero) s st o (e ∷ es) whole
+    → Ends o (next_piece (problem_at s st e) (piece s st e (opens_empty e es)) o.cursor nothing_more) whole
 unfolding LaysSome laid_some
-some_one None s st o e es whole open_still is h =
+some_one s st o e es whole open_still h =
     let P : List Item → Type 0 = λ t. Ends o t whole in
-    subst P (unless_none (refused_at st.place) _ _ _ open_still ∙ unless_none (problem_at s st e) _ _ _ is) h
-some_one (Some x) s st o e es whole open_still is h =
-    let P : List Item → Type 0 = λ t. Ends o t whole in
-    subst P (unless_none (refused_at st.place) _ _ _ open_still ∙ unless_some (problem_at s st e) x _ _ _ is) h
+    subst P (unless_none (refused_at st.place) _ _ _ open_still) h
 
 pub some_step : (n : ℕ) (b c : Core) (e : Event) (es : List Event) (whole : List Item)
     → refused_at b.place ≡ None → LaysOut b c e (opens_empty e es)

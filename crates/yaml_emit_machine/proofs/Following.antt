@@ -1,23 +1,20 @@
 -- Events that are laid out one after another.
-use Rattle.std.proofs.Common.{◌≡◌, ◌⊎◌, inl, inr, ℕ, zero, suc, ◌+◌, List, [], ◌∷◌, ◌++◌, Bool, true, false, refl, sym, subst, ◌∙◌, ap, arith, None}
+use Rattle.std.proofs.Common.{◌≡◌, ◌⊎◌, inl, inr, zero, suc, ◌+◌, List, [], ◌∷◌, ◌++◌, Bool, true, false, refl, sym, ◌∙◌, ap, arith, None}
 use Rattle.std.specs.Prelude.{not}
 use Rattle.std.proofs.lemmas.Bool.{false≢true, not-true, or_parts}
-use Rattle.yaml_emit_text.specs.declared.Encoding.{Encoding}
 use Rattle.yaml_emit_text.specs.declared.Status.TheVariants.{Going}
-use Rattle.yaml_emit_text.specs.Text.{encode}
 use Rattle.yaml_emit_text.specs.declared.Cursor.{Cursor}
-use Rattle.yaml_emit_text.specs.Layout.{Layout, stay, nothing_more}
-use Rattle.yaml_emit_text.specs.Sink.{Ends, Puts}
+use Rattle.yaml_emit_text.specs.Layout.{stay}
 use Rattle.yaml_emit_text.proofs.Sinks.{grows_none, grows_both}
 use Rattle.yaml_emit_layout.specs.Content.{Event, sequence_start, mapping_start}
-use Rattle.yaml_emit_layout.specs.State.{State, piece, next, problem_at, opens_empty}
+use Rattle.yaml_emit_layout.specs.State.{piece, next, problem_at, opens_empty}
 use Rattle.yaml_emit_state.specs.declared.Core.{Core}
-use Rattle.yaml_emit_state.specs.Steps.{state_of, settings_of, next_state, next_piece, LaysOut, IsPut, IsSame, Blames, takes_memory, is_document_start, goes_on}
+use Rattle.yaml_emit_state.specs.Steps.{state_of, settings_of, next_state, next_piece, LaysOut, IsPut, IsSame, takes_memory, is_document_start, goes_on}
 use Rattle.yaml_emit_state.proofs.Finishing.{finishes_on}
 use Rattle.yaml_emit_state.proofs.Noting.{notes_both, notes_within}
 use Rattle.yaml_emit_state.proofs.Settled.{settled}
 use Rattle.yaml_emit_machine.specs.Held.{is_ready, passes_by}
-use Rattle.yaml_emit_machine.specs.Judged.{refused_at, take_memory, LaysSome, first_takes, first_starts, RefusesHeld}
+use Rattle.yaml_emit_machine.specs.Judged.{refused_at, take_memory, first_takes, first_starts, RefusesHeld}
 use Rattle.yaml_emit_machine.specs.Laying.{HasLaid, LaysEvents, is_undecided_at}
 use Rattle.yaml_emit_machine.proofs.Opening.{opens_none}
 use Rattle.yaml_emit_machine.proofs.Holding.{ready_empty}
@@ -33,15 +30,12 @@ Settles b e empty y = (es : List Event)
 lays_either : (old new : Core) (e : Event) (v w : Bool)
     → IsSame (settings_of old) (state_of old) e v w → LaysOut old new e v → LaysOut old new e w
 lays_either old new e v w h l =
-    let st : State = state_of old in
-    let R : Layout → Type 0 = λ t. Puts old.sink new.sink (next_piece (problem_at (settings_of old) st e) t) in
-    let S : Layout → Type 0 = λ t. Blames old new e (next_piece (problem_at (settings_of old) st e) t) in
     record {
       settings = l.settings;
-      state = λ g. l.state g ∙ ap (next_state (problem_at (settings_of old) st e) st) (h.1 new.sink.cursor);
-      text = subst R h.0 l.text;
+      state = λ g. l.state g ∙ ap (next_state (problem_at (settings_of old) (state_of old) e) (state_of old)) (h.1 new.sink.cursor);
+      text = rw (← h.0) l.text;
       memory = l.memory;
-      blames = subst S h.0 l.blames;
+      blames = rw (← h.0) l.blames;
     }
 
 settles_by : (b : Core) (e : Event) (empty : Bool) (y : List Event)
@@ -76,7 +70,7 @@ lays_none exact a h = record {
   left = λ n. n;
   laid = zero;
   rest = refl;
-  some = λ g m n is es whole f. let same : m ≡ n = omega (arith, is) in let P : ℕ → Type 0 = λ k. LaysSome k (settings_of a) (state_of a) a.sink (h ++ es) whole in subst P same f;
+  some = λ g m n is es whole f. let same : m ≡ n = omega (arith, is) in rw (← same) f;
   blames = λ off on. absurd (false≢true (sym off ∙ on));
 }
 
@@ -92,9 +86,7 @@ blamed exact a b c h y e empty p o g is takes (inl put) = record {
   front = p.laid;
   takes = ap first_takes p.rest ∙ takes;
   stands = inl (λ es whole f.
-      let Q : Encoding → Type 0 = λ z. encode z whole ≡ c.sink.bytes in
-      let R : Layout → Type 0 = λ t. Ends b.sink (next_piece (problem_at (settings_of b) (state_of b) e) t b.sink.cursor nothing_more) whole in
-      subst Q p.encoding (put whole (subst R (sym (is es).0) (some_one (settings_of b) (state_of b) b.sink e (y ++ es) whole o (p.some g (suc p.laid) (suc zero) (omega arith) es whole f)))));
+      rw (← p.encoding) (put whole (rw (is es).0 (some_one (settings_of b) (state_of b) b.sink e (y ++ es) whole o (p.some g (suc p.laid) (suc zero) (omega arith) es whole f)))));
 }
 blamed exact a b c h y e empty p o g is takes (inr put) = record {
   front = p.laid;
@@ -102,8 +94,7 @@ blamed exact a b c h y e empty p o g is takes (inr put) = record {
   stands = inr (
     ap first_starts p.rest ∙ put.0,
     λ es whole f.
-        let Q : Encoding → Type 0 = λ z. encode z whole ≡ c.sink.bytes in
-        subst Q p.encoding (put.1 whole (some_none (settings_of b) (state_of b) b.sink (e ∷ y ++ es) whole o (p.some g p.laid zero (omega arith) es whole f))),
+        rw (← p.encoding) (put.1 whole (some_none (settings_of b) (state_of b) b.sink (e ∷ y ++ es) whole o (p.some g p.laid zero (omega arith) es whole f))),
   );
 }
 
@@ -157,11 +148,6 @@ lays_past true a b c x [] e j g p l =
     lays_more false a b c x [] e false j g (λ t. absurd (false≢true t)) (λ es. settled (settings_of b) (state_of b) e false (opens_empty e es) (not-true (is_undecided_at b e) p)) l
 lays_past false a b c x (f ∷ fs) e j g p l = absurd (cc)
 lays_past true a b c x (f ∷ fs) e j g p l = absurd (cc)
-
--- one that is
-pub lays_held : (exact : Bool) (a b : Core) (x y z : List Event) → z ≡ y → LaysEvents exact a x b y
-    → LaysEvents exact a x b z
-lays_held exact a b x y z same j = let P : List Event → Type 0 = λ t. LaysEvents exact a x b t in subst P (sym same) j
 
 -- ---- memory
 

@@ -1,5 +1,5 @@
 -- An event that is laid out is judged, and what follows is judged and written as before.
-use Rattle.std.proofs.Common.{◌≡◌, ℕ, zero, suc, ◌+◌, drop, List, [], ◌∷◌, ◌++◌, length, Bool, true, false, refl, sym, subst, ◌∙◌, ap, arith, Option, Some, None, length-append}
+use Rattle.std.proofs.Common.{◌≡◌, ℕ, zero, suc, ◌+◌, drop, List, [], ◌∷◌, ◌++◌, length, Bool, true, false, refl, sym, ◌∙◌, ap, arith, Option, Some, None, length-append}
 use Rattle.std.specs.Prelude.{not, nat_le, ◌||◌, ◌&&◌}
 use Rattle.std.proofs.lemmas.Bool.Decides.{nat_tests}
 use Rattle.std.proofs.lemmas.Bool.{false≢true, or_right}
@@ -10,7 +10,7 @@ use Rattle.yaml_emit_text.specs.declared.Status.{Status}
 use Rattle.yaml_emit_text.specs.declared.Status.TheVariants.{Going}
 use Rattle.yaml_emit_text.specs.Text.{Item}
 use Rattle.yaml_emit_text.specs.Layout.{Layout, Rest, nothing_more}
-use Rattle.yaml_emit_text.specs.Sink.{Output, Ends, Puts}
+use Rattle.yaml_emit_text.specs.Sink.{Output, Ends}
 use Rattle.yaml_emit_text.proofs.Sinks.{ends_other, status_cases}
 use Rattle.yaml_emit_layout.specs.declared.Problem.{Problem}
 use Rattle.yaml_emit_layout.specs.declared.Level.{Level}
@@ -27,7 +27,7 @@ use Rattle.yaml_emit_state.specs.Steps.{state_of, settings_of, next_state, next_
 use Rattle.yaml_emit_state.proofs.Finishing.{same_settings}
 use Rattle.yaml_emit_machine.specs.Held.{is_ready, needs, closes, opens_level, ends_level}
 use Rattle.yaml_emit_layout.specs.Progress.{Due, item_due, key_due, progress_after, inside, behind_node, outer_due, phase_due, level_due, problem_in, first_refusal}
-use Rattle.yaml_emit_machine.specs.Judged.{let_out, unless, laid, refused_at, due_in, due_of, shape_of, refusal_among, text_among, refusal_behind, LetsOut, first_wrong, LaysAll, laid_some, LaysSome}
+use Rattle.yaml_emit_machine.specs.Judged.{let_out, unless, laid, refused_at, due_in, due_of, shape_of, refusal_among, refusal_behind, LetsOut, first_wrong, LaysAll, laid_some, LaysSome}
 use Rattle.yaml_emit_machine.proofs.Holding.{none_needed}
 
 -- ---- what is ready stays so
@@ -231,54 +231,44 @@ empty_out (sequence_start p) es = ends_begin is_sequence_end end_sequence es
 empty_out (mapping_start p) es = ends_begin is_mapping_end end_mapping es
 empty_out _ es = refl
 
--- what an event that was laid out has done, by what was wrong with it
-pub record Done (old new : Core) (e : Event) (empty : Bool) (p : Option Problem) : Type 0 where
-  pub problem : problem_at (settings_of old) (state_of old) e ≡ p
-  pub settings : settings_of new ≡ settings_of old
-  pub state : new.sink.status ≡ Going
-      → state_of new ≡ next_state p (state_of old)
-      (next (settings_of old) (state_of old) e empty new.sink.cursor)
-  pub text : Puts old.sink new.sink (next_piece p (piece (settings_of old) (state_of old) e empty))
-
-pub done : (old new : Core) (e : Event) (empty : Bool) → LaysOut old new e empty
-    → Done old new e empty (problem_at (settings_of old) (state_of old) e)
-done old new e empty l = record { problem = refl; settings = same_settings old new l.settings l.text.encoding; state = l.state; text = l.text }
-
 -- what is written for an event, and behind it what `body` tells
 ahead : (Settings → State → Layout) → Settings → State → Event → Bool → Layout
 ahead body s st e empty = unless (refused_at st.place) (unless (problem_at s st e)
     (λ c rest. piece s st e empty c (λ d. body s (next s st e empty d) d rest)))
 
--- Behind an event that was laid out the same is to come.
+-- Behind an event that was laid out the same is to come, by what was wrong with it.
 text_on : (p : Option Problem) (body : Settings → State → Layout) (old new : Core) (e : Event)
-    (empty : Bool) (whole : List Item) → refused_at old.place ≡ None → Done old new e empty p
+    (empty : Bool) (whole : List Item) → refused_at old.place ≡ None
+    → problem_at (settings_of old) (state_of old) e ≡ p → LaysOut old new e empty
     → Ends old.sink (ahead body (settings_of old) (state_of old) e empty old.sink.cursor nothing_more) whole
     → Ends new.sink (unless (refused_at new.place) (body (settings_of new) (state_of new)) new.sink.cursor nothing_more) whole
 unfolding ahead
-text_on None body old new e empty whole o l h =
+text_on None body old new e empty whole o is l h =
     let s : Settings = settings_of old in
     let st : State = state_of old in
-    let rest : Rest = λ d. body s (next s st e empty d) d nothing_more in
-    let P : List Item → Type 0 = λ t. Ends old.sink t whole in
-    let front = subst P (unless_none (refused_at st.place) _ _ _ o ∙ unless_none (problem_at s st e) _ _ _ l.problem) h in
-    let back : Ends new.sink (rest new.sink.cursor) whole = l.text.ends rest whole front in
+    let text = l.text in
+    let put = rw is at text in
+    let front = rw (o, is) at h in
+    let back = put.ends (λ d. body s (next s st e empty d) d nothing_more) whole front in
     status_cases new.sink.status
     (λ g.
-    let at : State = next s st e empty new.sink.cursor in
-    let same : unless (refused_at at.place) (body s at) new.sink.cursor nothing_more ≡ rest new.sink.cursor = unless_none _ _ _ _ (open_next s st e empty new.sink.cursor o) in
-    let Q : List Item → Type 0 = λ t. Ends new.sink t whole in
-    let R : State → Type 0 = λ z. Ends new.sink (unless (refused_at z.place) (body s z) new.sink.cursor nothing_more) whole in
-    let S : Settings → Type 0 = λ z. Ends new.sink (unless (refused_at new.place) (body z (state_of new)) new.sink.cursor nothing_more) whole in
-    subst S (sym l.settings) (subst R (sym (l.state g)) (subst Q (sym same) back)))
+    let state = l.state g in
+    let moved = rw is at state in
+    let there : refused_at new.place ≡ None = ap (λ (z : State). refused_at z.place) moved ∙ open_next s st e empty new.sink.cursor o in
+    rw (there, same_settings old new l.settings l.text.encoding, moved) back)
     (λ n. ends_other new.sink _ _ whole n back)
-text_on (Some x) body old new e empty whole o l h =
-    let s : Settings = settings_of old in
-    let st : State = state_of old in
-    let P : List Item → Type 0 = λ t. Ends old.sink t whole in
-    let front = subst P (unless_none (refused_at st.place) _ _ _ o ∙ unless_some (problem_at s st e) x _ _ _ l.problem) h in
-    let back : Ends new.sink [] whole = l.text.ends nothing_more whole front in
-    let R : State → Type 0 = λ z. Ends new.sink (unless (refused_at z.place) (body (settings_of new) z) new.sink.cursor nothing_more) whole in
-    status_cases new.sink.status (λ g. subst R (sym (l.state g)) back) (λ n. ends_other new.sink _ _ whole n back)
+text_on (Some x) body old new e empty whole o is l h =
+    let text = l.text in
+    let put = rw is at text in
+    let front = rw (o, is) at h in
+    let back : Ends new.sink [] whole = put.ends nothing_more whole front in
+    status_cases new.sink.status
+    (λ g.
+    let state = l.state g in
+    let moved = rw is at state in
+    let there : refused_at new.place ≡ Some x = ap (λ (z : State). refused_at z.place) moved in
+    rw there back)
+    (λ n. ends_other new.sink _ _ whole n back)
 
 -- an event that is laid out before those behind it are known
 pub lays_first : (b c : Core) (e : Event) (es : List Event) (whole : List Item)
@@ -286,7 +276,7 @@ pub lays_first : (b c : Core) (e : Event) (es : List Event) (whole : List Item)
     → LaysAll (settings_of b) (state_of b) b.sink (e ∷ es) whole
     → LaysAll (settings_of c) (state_of c) c.sink es whole
 unfolding LaysAll laid ahead
-lays_first b c e es whole o l h = text_on _ (λ s st. laid s st es) b c e _ whole o (done b c e _ l) h
+lays_first b c e es whole o l h = text_on _ (λ s st. laid s st es) b c e _ whole o refl l h
 
 -- the same of those that are let out
 pub text_step : (old new : Core) (e : Event) (es : List Event) (whole : List Item)
@@ -295,9 +285,8 @@ pub text_step : (old new : Core) (e : Event) (es : List Event) (whole : List Ite
     → LetsOut (settings_of new) (state_of new) new.sink es whole
 unfolding LetsOut LaysAll
 text_step old new e es whole o r l h =
-    let R : Bool → Type 0 = λ v. LaysOut old new e v in
-    let P : List Event → Type 0 = λ z. Ends old.sink (text_among (settings_of old) (state_of old) z old.sink.cursor nothing_more) whole in
-    lays_first old new e (let_out es) whole o (subst R (sym (empty_out e es)) l) (subst P (first_out e es r) h)
+    let first = rw (first_out e es r) at h in
+    lays_first old new e (let_out es) whole o (rw (empty_out e es) l) first
 
 -- ---- the first few
 
@@ -305,25 +294,21 @@ text_step old new e es whole o r l h =
 pub some_none : (s : Settings) (st : State) (o : Output) (es : List Event) (whole : List Item)
     → refused_at st.place ≡ None → LaysSome zero s st o es whole → Ends o [] whole
 unfolding LaysSome laid_some
-some_none s st o es whole open_still h =
-    let P : List Item → Type 0 = λ t. Ends o t whole in
-    subst P (unless_none (refused_at st.place) _ o.cursor nothing_more open_still) h
+some_none s st o es whole open_still h = rw open_still at h
 
 -- one event
 pub some_one : (s : Settings) (st : State) (o : Output) (e : Event) (es : List Event)
     (whole : List Item) → refused_at st.place ≡ None → LaysSome (suc zero) s st o (e ∷ es) whole
     → Ends o (next_piece (problem_at s st e) (piece s st e (opens_empty e es)) o.cursor nothing_more) whole
 unfolding LaysSome laid_some
-some_one s st o e es whole open_still h =
-    let P : List Item → Type 0 = λ t. Ends o t whole in
-    subst P (unless_none (refused_at st.place) _ _ _ open_still) h
+some_one s st o e es whole open_still h = rw open_still at h
 
 pub some_step : (n : ℕ) (b c : Core) (e : Event) (es : List Event) (whole : List Item)
     → refused_at b.place ≡ None → LaysOut b c e (opens_empty e es)
     → LaysSome (suc n) (settings_of b) (state_of b) b.sink (e ∷ es) whole
     → LaysSome n (settings_of c) (state_of c) c.sink es whole
 unfolding LaysSome laid_some ahead
-some_step n b c e es whole o l h = text_on _ (λ s st. laid_some n s st es) b c e _ whole o (done b c e _ l) h
+some_step n b c e es whole o l h = text_on _ (λ s st. laid_some n s st es) b c e _ whole o refl l h
 
 -- ---- memory
 

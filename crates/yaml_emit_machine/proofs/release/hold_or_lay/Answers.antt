@@ -1,7 +1,7 @@
 use Rattle.std.proofs.Common.{sym, ◌∙◌}
 use Rattle.std.proofs.lemmas.Bool.{and_parts}
 use Rattle.yaml_emit_machine.proofs.Holding.{both_false, passed_by_waits, pushed_by_waits, last_passed, last_pushed}
-use Rattle.yaml_emit_machine.proofs.Following.{lays_past, lays_held}
+use Rattle.yaml_emit_machine.proofs.Following.{lays_past}
 use Rattle.yaml_emit_machine.proofs.release.hold_or_lay.Goals as goal
 
 pub returns-then-passes : goal.returns-then-passes
@@ -16,7 +16,7 @@ returns-then-passes c = record {
 
 pub returns-else-passes : goal.returns-else-passes
 returns-else-passes c = record {
-  lays = lays_held _ _ _ _ _ _ c.push.ensures.events c.release.ensures.lays;
+  lays = rw c.push.ensures.events c.release.ensures.lays;
   utf8 = c.push.ensures.utf8;
   waits = λ g. pushed_by_waits c.args.early _ _ _ _ _ c.push.ensures.events (c.release.ensures.waits g) (both_false _ _ g (sym c.passes.ensures ∙ c.if-passes.false));
   last = last_pushed _ _ _ _ c.release.ensures.last c.push.ensures.events;

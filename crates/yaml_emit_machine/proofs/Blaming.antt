@@ -1,8 +1,6 @@
 -- Memory that was refused outside the output: which events stand in it.
-use Rattle.std.proofs.Common.{◌≡◌, ◌⊎◌, inl, inr, ℕ, suc, drop, List, [], ◌∷◌, ◌++◌, Bool, true, false, sym, subst, Option, append_assoc}
+use Rattle.std.proofs.Common.{◌≡◌, ◌⊎◌, inl, inr, ℕ, suc, drop, List, [], ◌∷◌, ◌++◌, Bool, true, false, Option, append_assoc}
 use Rattle.yaml_scan_model.specs.Faults.{Fault}
-use Rattle.yaml_emit_text.specs.declared.Encoding.{Encoding}
-use Rattle.yaml_emit_text.specs.Text.{encode}
 use Rattle.yaml_emit_layout.specs.Content.{Event}
 use Rattle.yaml_emit_state.specs.declared.Core.{Core}
 use Rattle.yaml_emit_machine.specs.Held.{held_events}
@@ -14,7 +12,7 @@ use Rattle.yaml_emit_machine.specs.Emitter.{Emitter}
 use Rattle.yaml_emit_machine.specs.Views.{emitter_of}
 use Rattle.yaml_emit_machine.specs.Verdict.{LaysFirst}
 use Rattle.yaml_emit_machine.specs.Taking.{HasFirst, BlamesLevels}
-use Rattle.yaml_emit_machine.proofs.Emitting.{stood, left}
+use Rattle.yaml_emit_machine.proofs.Emitting.{left}
 pub use Rattle.yaml_emit_machine.proofs.Taking.{ends_new}
 
 -- ---- what is known of the first few is known in other words
@@ -39,10 +37,7 @@ has_first : (i : Inside) (e : Event) (output : List ℕ) (n : ℕ) → i.fresh �
     → HasFirst (emitter_of i) (e ∷ []) output n
 unfolding LaysFirst
 has_first i e output n fr laid =
-    let P : Bool → Type 0 = λ b. HasFirst (stood i b (held_events i.held)) (e ∷ []) output n in
-    subst P (sym fr) (λ x more whole f.
-    let Q : Encoding → Type 0 = λ z. encode z whole ≡ output in
-    subst Q f.0 (laid more whole (rw append_assoc f.1)))
+    rw fr (λ x more whole f. rw (← f.0) (laid more whole (rw append_assoc f.1)))
 
 pub inside_blames : (exact : Bool) (i : Inside) (core : Core) (held : Held) (fault : Option Fault)
     (e : Event) → i.fresh ≡ false
@@ -57,4 +52,4 @@ inside_blames exact i core held fault e fr l = λ off on.
 pub blames_marked : (e : Event) (old mid new : Emitter) (o k : Bool)
     → new ≡ record mid { opened = o; closed = k } → BlamesLevels e old mid
     → BlamesLevels e old new
-blames_marked e old mid new o k same m = let P : Emitter → Type 0 = λ z. BlamesLevels e old z in subst P (sym same) m
+blames_marked e old mid new o k same m = rw same m

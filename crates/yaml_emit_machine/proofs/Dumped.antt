@@ -1,5 +1,5 @@
 -- A dump is taken event by event.
-use Rattle.std.proofs.Common.{◌≡◌, ◌≢◌, ℕ, List, [], ◌∷◌, ◌++◌, length, Bool, true, false, refl, sym, subst, ◌∙◌, arith, Option}
+use Rattle.std.proofs.Common.{◌≡◌, ◌≢◌, ℕ, List, [], ◌∷◌, ◌++◌, length, Bool, true, false, refl, sym, ◌∙◌, arith, Option}
 use Rattle.std.proofs.lemmas.Bool.{false≢true}
 use Rattle.yaml_scan_model.specs.Faults.{Fault}
 use Rattle.yaml_parse_model.specs.Nodes.{Node}
@@ -22,10 +22,9 @@ use Rattle.yaml_emit_machine.specs.Judged.{text_among, LetsOut, LaysAll, let_out
 use Rattle.yaml_emit_machine.specs.Emitter.{Emitter, Completes, left_if, opening_events, closing_events, dump_events, document_events_by, document_events}
 use Rattle.yaml_emit_machine.specs.Views.{emitter_of}
 use Rattle.yaml_emit_machine.specs.Verdict.{Writes, Lays}
-use Rattle.yaml_emit_machine.specs.Taking.{TakesEvents, Stuck, NotesMemory, NotesMemoryOf}
-use Rattle.yaml_emit_machine.specs.Dumping.{opening_event}
-use Rattle.yaml_emit_machine.proofs.Emitting.{stood, left, finishes_ends}
-use Rattle.yaml_emit_machine.proofs.Taking.{takes_none, takes_on, takes_first, takes_stuck, notes_any, notes_on}
+use Rattle.yaml_emit_machine.specs.Taking.{TakesEvents, NotesMemory, NotesMemoryOf}
+use Rattle.yaml_emit_machine.proofs.Emitting.{left, finishes_ends}
+use Rattle.yaml_emit_machine.proofs.Taking.{takes_none, takes_on, notes_any, notes_on}
 
 -- memory is noted by both of two calls
 pub notes_through : (a b c : Emitter) (es fs gs hs : List Event) → TakesEvents a es b fs
@@ -61,8 +60,7 @@ pub inside_starves : (i : Inside) (core : Core) (fault : Option Fault) (es : Lis
     → TakesEvents (emitter_of i) es (left i core i.fresh (held_events i.held) fault) []
 unfolding Completes Writes Lays LetsOut LaysAll
 inside_starves i core fault es fr s =
-    let P : Bool → Type 0 = λ b. TakesEvents (stood i b (held_events i.held)) es (left i core b (held_events i.held) fault) [] in
-    subst P (sym fr) (record {
+    rw fr (record {
       completes = λ x more whole h. ((s.text stay).encoding ∙ h.0, starved_finishes i.core core (held_events i.held ++ (es ++ more)) (held_events i.held ++ more) whole s h.1);
       refuses = λ g more. absurd (s.stopped g);
       writes = λ x more whole h. ((s.text stay).encoding ∙ h.0, starved_all i.core core (let_out (held_events i.held ++ (es ++ more))) (let_out (held_events i.held ++ more)) whole s h.1);
@@ -81,13 +79,13 @@ inside_starves i core fault es fr s =
 takes_closing : (closed : Bool) (old new : Emitter) → (closed ≡ true → new ≡ old)
     → (closed ≡ false → TakesEvents old (stream_end ∷ []) new [])
     → TakesEvents old (closing_events closed) new []
-takes_closing true old new a t = let P : Emitter → Type 0 = λ z. TakesEvents old [] z [] in subst P (sym (a refl)) (takes_none old [])
+takes_closing true old new a t = rw (a refl) (takes_none old [])
 takes_closing false old new a t = t refl
 
 -- what is noted at a stream's end is noted of the whole
 pub notes_closing : (closed : Bool) (old new : Emitter) → (closed ≡ true → new ≡ old)
     → (closed ≡ false → NotesMemoryOf stream_end old new) → NotesMemory true old new
-notes_closing true old new a m = let P : Emitter → Type 0 = λ z. NotesMemory true old z in subst P (sym (a refl)) (λ n. refl)
+notes_closing true old new a m = rw (a refl) (λ n. refl)
 notes_closing false old new a m = notes_any stream_end old new (m refl)
 
 pub document_events_none : (ns : List Node) (closed : Bool) (d : Document) → length ns ≡ 0
@@ -100,45 +98,31 @@ pub document_events_some : (ns : List Node) (closed : Bool) (d : Document) → l
 document_events_some [] closed d e = absurd (e refl)
 document_events_some (n ∷ ns) closed d e = refl
 
--- the stream is open
-pub takes_opened : (e : Emitter) (es : List Event) → e.opened ≡ true
-    → TakesEvents e (opening_events e.opened ++ es) e es
-takes_opened e es on = let P : Bool → Type 0 = λ b. TakesEvents e (opening_events b ++ es) e es in subst P (sym on) (takes_none e es)
-
--- it was opened
-pub takes_opening : (old new : Emitter) (es : List Event) → old.opened ≡ false
-    → TakesEvents old (opening_event ∷ []) new []
-    → TakesEvents old (opening_events old.opened ++ es) new es
-takes_opening old new es off t = let P : Bool → Type 0 = λ b. TakesEvents old (opening_events b ++ es) new es in subst P (sym off) (takes_first old new opening_event es t)
-
--- its start was refused
-pub takes_unopened : (old new : Emitter) (es : List Event) → old.opened ≡ false
-    → TakesEvents old (opening_event ∷ []) new [] → Stuck new
-    → TakesEvents old (opening_events old.opened ++ es) new []
-takes_unopened old new es off t s = let P : Bool → Type 0 = λ b. TakesEvents old (opening_events b ++ es) new [] in subst P (sym off) (takes_stuck old new opening_event es t s)
+-- as the stream is open or not
+pub takes_opening : (b : Bool) (old new : Emitter) (es left : List Event) → old.opened ≡ b
+    → TakesEvents old (opening_events b ++ es) new left
+    → TakesEvents old (opening_events old.opened ++ es) new left
+takes_opening b old new es left is t = rw (← is) at t
 
 -- a document without a root ends the stream
 pub takes_end : (old new : Emitter) (d : Document) (count : ℕ) → count ≡ length d.nodes → count ≡ 0
     → (old.closed ≡ true → new ≡ old)
     → (old.closed ≡ false → TakesEvents old (stream_end ∷ []) new [])
     → TakesEvents old (document_events old.closed d) new []
-takes_end old new d count n h a t = let P : List Event → Type 0 = λ z. TakesEvents old z new [] in subst P (sym (document_events_none d.nodes old.closed d (sym n ∙ h))) (takes_closing old.closed old new a t)
+takes_end old new d count n h a t = rw (document_events_none d.nodes old.closed d (sym n ∙ h)) (takes_closing old.closed old new a t)
 
 -- one with a root is written
 pub takes_document : (old new : Emitter) (d : Document) (count : ℕ) → count ≡ length d.nodes
     → count ≢ 0 → TakesEvents old (dumped d) new []
     → TakesEvents old (document_events old.closed d) new []
-takes_document old new d count n h t = let P : List Event → Type 0 = λ z. TakesEvents old z new [] in subst P (sym (document_events_some d.nodes old.closed d (λ z. h (n ∙ z)))) t
+takes_document old new d count n h t = rw (document_events_some d.nodes old.closed d (λ z. h (n ∙ z))) t
 
--- the stream is open, and the document follows
 pub dump_then : (old mid new : Emitter) (d : Document) (b : Bool) → b ≡ true
     → ((es : List Event) → TakesEvents old (opening_events old.opened ++ es) mid (left_if b es))
     → mid.closed ≡ old.closed
     → TakesEvents mid (document_events mid.closed d) new []
     → TakesEvents old (dump_events old d) new []
-dump_then old mid new d true h t c n =
-    let P : Bool → Type 0 = λ z. TakesEvents mid (document_events z d) new [] in
-    takes_on old mid new _ _ _ (t (document_events old.closed d)) (subst P c n)
+dump_then old mid new d true h t c n = takes_on old mid new _ _ _ (t (document_events old.closed d)) (rw (← c) n)
 dump_then old mid new d false h t c n = absurd (cc)
 
 -- A dump that adds nothing at its end takes the document's events alone.

@@ -9,8 +9,6 @@ pub mod Ending
 pub mod Emitting
 pub mod Taking
 pub mod Blaming
-pub mod Early
 pub mod Earlier
-pub mod Dumped
 pub mod Opened
 pub use Rattle.yaml_emit_state.proofs.Finishing

@@ -381,22 +381,3 @@ pub fn take_event_over(emitter: &mut yaml_emitter_t, event: yaml_event_body_t)
     take_event(emitter, &mut event);
     drop(event);
 }
-
-/// The same, and the answer.
-pub fn emit(emitter: &mut yaml_emitter_t, event: yaml_event_body_t) -> Result<(), yaml_fault_t>
-    requires { HasUtf8 (body_of event) }
-    ensures takes { TakesEvents emitter.old (emitter_event (body_of event) ∷ []) emitter.new [] }
-    ensures memory { NotesMemoryOf (emitter_event (body_of event)) emitter.old emitter.new }
-    ensures blames { BlamesLevels (emitter_event (body_of event)) emitter.old emitter.new }
-    ensures answer { Answers emitter.new.fault result }
-    ensures tells { TellsOutcome emitter.new }
-    ensures stays { Stays emitter.old emitter.new }
-    ensures few { length emitter.new.held ≤ 3 }
-    ensures opened { (emitter.new.opened ≡ emitter.old.opened)
-        × (emitter.new.closed ≡ emitter.old.closed) }
-    ensures begun { emitter.new.fresh ≡ false }
-    ensures stuck { OnErr result (Stuck emitter.new) }
-{
-    take_event_over(emitter, event);
-    answer(emitter)
-}

@@ -123,20 +123,13 @@ impl Held {
         }
     }
 
-    // One event ends a level.
-    #[tactic(auto, using(crate::proofs::Holding::closes_last))]
-    fn closes_one(second: &yaml_event_body_t) -> bool
-        ensures { result ≡ closes (emitter_event (body_of second.now) ∷ []) }
-    {
-        Held::ends_level(second)
-    }
-
     // One of two events ends a level before another is opened.
+    #[tactic(auto, using(crate::proofs::Holding::closes_last))]
     fn closes_two(second: &yaml_event_body_t, third: &yaml_event_body_t) -> bool
         ensures { result ≡ closes (emitter_event (body_of second.now) ∷ emitter_event
             (body_of third.now) ∷ []) }
     {
-        Held::ends_level(second) || (!Held::opens_level(second) && Held::closes_one(third))
+        Held::ends_level(second) || (!Held::opens_level(second) && Held::ends_level(third))
     }
 
     /// Whether an event that comes needn't be held: nothing is, and it needs nothing behind it.
@@ -193,14 +186,14 @@ impl Held {
     }
 
     /// Some are held, and the oldest has what it needs, with this event behind them.
-    #[tactic(auto, unfolding(crate::specs::Held::is_ready))]
+    #[tactic(auto, unfolding(crate::specs::Held::is_ready), using(crate::proofs::Holding::closes_last))]
     pub fn releases(&self, event: &yaml_event_body_t) -> bool
         ensures is { result ≡ releases (held_events self.now) (emitter_event (body_of event.now)) }
         ensures room { result ≡ false → length (held_events self.now) ≤ 2 }
     {
         match self.count {
             Count::Nothing => false,
-            Count::One => Held::needs(&self.first) <= 1 || Held::closes_one(event),
+            Count::One => Held::needs(&self.first) <= 1 || Held::ends_level(event),
             Count::Two => {
                 Held::needs(&self.first) <= 2 || Held::closes_two(&self.second, event)
             }

@@ -1,6 +1,6 @@
 use Rattle.std.proofs.Common.{[], ◌∙◌}
 use Rattle.yaml_emit_machine.proofs.Taking.{still_begun}
-use Rattle.yaml_emit_machine.proofs.Dumped.{dump_then, dump_else, notes_through}
+use Rattle.yaml_emit_machine.proofs.Opened.{dump_then, dump_else, notes_through}
 use Rattle.yaml_emit_machine.proofs.Opened.{opens_on}
 use Rattle.yaml_emit.proofs.dump.dump_all.Goals as goal
 

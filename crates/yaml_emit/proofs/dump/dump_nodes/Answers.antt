@@ -1,4 +1,4 @@
-use Rattle.yaml_emit_machine.proofs.Dumped.{takes_end, notes_closing, takes_document}
+use Rattle.yaml_emit_machine.proofs.Opened.{takes_end, notes_closing, takes_document}
 use Rattle.yaml_emit_machine.proofs.Opened.{refused_close}
 use Rattle.yaml_emit.proofs.dump.dump_nodes.Goals as goal
 

@@ -2,7 +2,7 @@ use Rattle.std.proofs.Common.{◌≡◌, ◌∙◌, [], sym, refl, true, false}
 use Rattle.std.proofs.lemmas.Bool.{false≢true}
 use Rattle.yaml_emit_machine.specs.Dumping.{opening_event}
 use Rattle.yaml_emit_machine.proofs.Taking.{takes_none, takes_first, takes_stuck, taken_begun, notes_any}
-use Rattle.yaml_emit_machine.proofs.Dumped.{takes_opening}
+use Rattle.yaml_emit_machine.proofs.Opened.{takes_opening}
 use Rattle.yaml_emit_machine.proofs.Opened.{opens_same, opens_right, opens_alone}
 use Rattle.yaml_emit.proofs.Told.{never}
 use Rattle.yaml_emit.proofs.dump.open_if_needed.Goals as goal

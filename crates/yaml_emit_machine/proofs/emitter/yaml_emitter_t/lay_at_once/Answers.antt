@@ -1,4 +1,4 @@
-use Rattle.yaml_emit_machine.proofs.Early.{inside_one}
+use Rattle.yaml_emit_machine.proofs.Blaming.{inside_one}
 use Rattle.yaml_emit_machine.proofs.emitter.yaml_emitter_t.lay_at_once.Goals as goal
 
 pub returns : goal.returns

@@ -1,5 +1,5 @@
 use Rattle.std.proofs.Common.{false}
-use Rattle.yaml_emit_machine.proofs.Early.{inside_held, inside_took}
+use Rattle.yaml_emit_machine.proofs.Blaming.{inside_held, inside_took}
 use Rattle.yaml_emit_machine.proofs.emitter.yaml_emitter_t.lay_early.Goals as goal
 
 pub invariant_of-self : goal.invariant_of-self

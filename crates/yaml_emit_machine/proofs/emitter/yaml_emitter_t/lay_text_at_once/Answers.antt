@@ -1,6 +1,6 @@
 use Rattle.std.proofs.Common.{false}
 use Rattle.yaml_scan_model.specs.declared.yaml_scalar_style_t.TheVariants.{YAML_ANY_SCALAR_STYLE}
-use Rattle.yaml_emit_machine.proofs.Early.{inside_once, inside_one}
+use Rattle.yaml_emit_machine.proofs.Blaming.{inside_once, inside_one}
 use Rattle.yaml_emit_machine.proofs.emitter.yaml_emitter_t.lay_text_at_once.Goals as goal
 
 pub invariant_of-self : goal.invariant_of-self

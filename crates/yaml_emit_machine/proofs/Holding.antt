@@ -142,9 +142,6 @@ pub passes_decided : (held : List Event) (undecided : Bool) → are_some held �
     → undecided ≡ false → passes_early held undecided ≡ true
 passes_decided held undecided h u = rw (h, u) refl
 
-pub last_none : (xs : List Event) → AreLast xs xs
-last_none xs = ([], refl)
-
 -- the oldest is gone
 pub last_less : (all held left : List Event) (e : Event) → AreLast all held → held ≡ e ∷ left
     → AreLast all left

@@ -31,7 +31,7 @@ use Rattle.yaml_emit_machine.specs.Emitter.{Emitter, fault_by, refusal_by, strea
 use Rattle.yaml_emit_machine.specs.Views.{emitter_of, IsEmitter}
 use Rattle.yaml_emit_machine.specs.Verdict.{verdict, Writes, wrong, Lays, LaysFirst, TellsOutcome}
 use Rattle.yaml_emit_machine.specs.Taking.{TakesEvents, GivesText, Takes, Stuck, NotesMemory, NotesMemoryOf, ComesIntoForce}
-use Rattle.yaml_emit_machine.proofs.Emitting.{left, not_true, inside_begun, stopped_at, begin_finishes}
+use Rattle.yaml_emit_machine.proofs.Emitting.{left, inside_begun, stopped_at, begin_finishes}
 use Rattle.yaml_emit_machine.proofs.Judging.{or_some, unless_some}
 
 -- ---- one call behind another
@@ -91,20 +91,11 @@ pub takes_stuck : (old new : Emitter) (e : Event) (es : List Event)
     → TakesEvents old (e ∷ []) new [] → Stuck new → TakesEvents old (e ∷ es) new []
 takes_stuck old new e es t s = takes_on old new new (e ∷ es) es [] (takes_first old new e es t) (s es [])
 
--- An event that was taken has begun the output.
-pub taken_begun : (old new : Emitter) (e : Event) → TakesEvents old (e ∷ []) new []
-    → new.fresh ≡ false
-taken_begun old new e t = not_true new.fresh (λ f. not_first e [] (t.begun f).1)
-
--- Output that has begun stays begun.
-pub still_begun : (old new : Emitter) (es left : List Event) → TakesEvents old es new left
-    → old.fresh ≡ false → new.fresh ≡ false
-still_begun old new es left t o = not_true new.fresh (λ f. let k = (t.begun f).0 in cc)
-
 -- What one event notes of memory may be noted of any.
 pub notes_any : (e : Event) (old new : Emitter) → NotesMemoryOf e old new → NotesMemory true old new
 notes_any e old new m = λ n. m (notes_some (take_memory (old.held ++ e ∷ [])) old.status new.status n)
 
+-- What is noted of memory by one call and the next is noted by both.
 pub notes_on : (a b c : Emitter) → (b.status ≡ Going → a.status ≡ Going)
     → (c.status ≡ Going → b.status ≡ Going) → NotesMemory true a b → NotesMemory true b c
     → NotesMemory true a c

@@ -194,9 +194,7 @@ impl Held {
         match self.count {
             Count::Nothing => false,
             Count::One => Held::needs(&self.first) <= 1 || Held::ends_level(event),
-            Count::Two => {
-                Held::needs(&self.first) <= 2 || Held::closes_two(&self.second, event)
-            }
+            Count::Two => Held::needs(&self.first) <= 2 || Held::closes_two(&self.second, event),
             Count::Three => true,
         }
     }

@@ -19,7 +19,11 @@ fn is_due(core: &Core, held: &Held, event: &yaml_event_body_t, early: bool) -> b
     ensures room { result ≡ false → goes_on core.now.sink.status core.now.place ≡ true
         → length (held_events held.now) ≤ 2 }
 {
-    (if early { held.holds_any() } else { held.releases(event) }) && core.is_going()
+    (if early {
+        held.holds_any()
+    } else {
+        held.releases(event)
+    }) && core.is_going()
 }
 
 // Whether an event needn't be held where the whole text is wanted: none is, and the next event decides nothing.
@@ -52,7 +56,11 @@ fn passes(core: &Core, held: &Held, event: &yaml_event_body_t, early: bool) -> b
         (is_undecided_at core.now (emitter_event (body_of event.now)))
         (emitter_event (body_of event.now)) && goes_on core.now.sink.status core.now.place) }
 {
-    (if early { passes_early(core, held, event) } else { held.passes(event) }) && core.is_going()
+    (if early {
+        passes_early(core, held, event)
+    } else {
+        held.passes(event)
+    }) && core.is_going()
 }
 
 // What lies ready with an event behind it is laid out, up to the first event that is refused. That event isn't held yet.

@@ -56,6 +56,8 @@ impl yaml_emitter_t {
     }
 
     // Whether an event was written, by way of a slot that is lent, and no fault has come. What is left of it counts for nothing.
+    // Inlined: then it is known where it is early.
+    #[inline(always)]
     fn dump_next(
         &mut self,
         events: &mut Events,

@@ -8,7 +8,7 @@ ghost use Rattle.yaml_emit_machine.specs.Taking.{TakesEvents, Stuck, NotesMemory
 ghost use Rattle.yaml_emit_machine.specs.Dumping.{OpensStream, opening_event};
 
 use yaml_emit_machine::{
-    answer, dump_document, emit, is_closed, is_opened, set_closed, set_opened,
+    answer, dump_document, is_closed, is_opened, set_closed, set_opened, take_event_over,
     yaml_document_delete, yaml_document_t, yaml_emitter_t, yaml_encoding_t, yaml_event_body_t,
     yaml_fault_t,
 };
@@ -28,12 +28,13 @@ pub fn yaml_emitter_open(emitter: &mut yaml_emitter_t) -> Result<(), yaml_fault_
     ensures stays { Stays emitter.old emitter.new }
     ensures stuck { OnErr result (Stuck emitter.new) }
 {
-    emit(
+    take_event_over(
         emitter,
         yaml_event_body_t::StreamStart {
             encoding: yaml_encoding_t::YAML_ANY_ENCODING,
         },
-    )?;
+    );
+    answer(emitter)?;
     set_opened(emitter, true);
     Ok(())
 }
@@ -61,7 +62,8 @@ pub fn yaml_emitter_close(emitter: &mut yaml_emitter_t) -> Result<(), yaml_fault
     if is_closed(emitter) {
         answer(emitter)
     } else {
-        emit(emitter, yaml_event_body_t::StreamEnd)?;
+        take_event_over(emitter, yaml_event_body_t::StreamEnd);
+        answer(emitter)?;
         set_closed(emitter, true);
         Ok(())
     }

@@ -1,25 +1,22 @@
 -- The events of a dump, one after another: as they come, or laid out at once, since all of them are let out.
 use Rattle.std.proofs.Common.{◌≡◌, List, [], ◌∷◌, ◌++◌, length, Bool, true, false, refl, ◌∙◌, ap, arith, ◌<◌, sym, subst, None}
-use Rattle.std.specs.Prelude.{if◌then◌else◌, nat_le}
-use Rattle.std.proofs.Math.Bool.{or-true}
+use Rattle.std.specs.Prelude.{if◌then◌else◌}
 use Rattle.yaml_parse_document.specs.Documents as documents
-use Rattle.yaml_emit_layout.specs.Content.{Start, Opening, Node, alias_node, scalar_node, sequence_node, mapping_node, Nodes, no_nodes, node, Pairs, no_pairs, pair, Event, document_start, document_end, alias, scalar, sequence_start, sequence_end, mapping_start, mapping_end, node_events, items_events, pairs_events}
+use Rattle.yaml_emit_layout.specs.Content.{Event}
 use Rattle.yaml_emit_graph.specs.Graph.{graph_content, dumped}
-use Rattle.yaml_emit_machine.specs.Held.{needs, is_ready}
+use Rattle.yaml_emit_machine.specs.Held.{is_ready}
 use Rattle.yaml_emit_machine.specs.Judged.{let_out, AreOut, refusal_behind, LetsOut, first_wrong, LaysAll}
-use Rattle.yaml_emit_machine.proofs.Holding.{enough, none_needed}
-use Rattle.yaml_emit_machine.proofs.Judging.{first_out, ready_more}
-use Rattle.yaml_emit_machine.proofs.Ending.{long_node, long_items, long_pairs}
+use Rattle.yaml_emit_machine.proofs.Ending.{document_out}
 use Rattle.std.proofs.lemmas.Bool.{false≢true}
 use Rattle.yaml_parse_document.specs.Documents.{Document}
 use Rattle.yaml_emit_text.specs.declared.Encoding.{Encoding}
 use Rattle.yaml_emit_text.specs.Text.{Item}
 use Rattle.yaml_emit_graph.specs.declared.graph.Events.{Events}
 use Rattle.yaml_emit_graph.specs.Events.{IsEvents, remaining_events}
-use Rattle.yaml_emit_machine.specs.Emitter.{Emitter, Keeps, left_if}
+use Rattle.yaml_emit_machine.specs.Emitter.{Emitter, left_if}
 use Rattle.yaml_emit_machine.specs.Verdict.{verdict, Writes, wrong, Lays}
-use Rattle.yaml_emit_machine.specs.Taking.{TakesEvents, LaysAtOnce, Stuck, NotesMemoryOf}
-use Rattle.yaml_emit_machine.specs.Dumping.{LaysOne, Dumps, MayDump, MayDumpEarly, DumpsSome}
+use Rattle.yaml_emit_machine.specs.Taking.{TakesEvents, LaysAtOnce, Stuck}
+use Rattle.yaml_emit_machine.specs.Dumping.{LaysOne, Dumps, DumpsOne, MayDump, DumpsSome}
 use Rattle.yaml_emit_machine.proofs.Taking.{takes_none, takes_on, takes_first, notes_any, notes_on}
 
 behind_by : (b : Bool) (e : Event) (xs ys : List Event) → (if b then e ∷ xs else []) ≡ e ∷ ys
@@ -32,70 +29,10 @@ pub out_behind : (e : Event) (es : List Event) → AreOut (e ∷ es) → AreOut 
 unfolding let_out
 out_behind e es out = λ more. behind_by (is_ready (e ∷ (es ++ more))) e (let_out (es ++ more)) (es ++ let_out more) (out more)
 
-out_next : (e : Event) (es : List Event)
-    → ((more : List Event) → is_ready (e ∷ (es ++ more)) ≡ true) → AreOut es → AreOut (e ∷ es)
-out_next e es ready out = λ more. first_out e (es ++ more) (ready more) ∙ ap (λ (z : List Event). e ∷ z) (out more)
-
--- ---- what opens a level there is followed by what it needs
-
-document_ready : (o : Opening) (v : Node) (es more : List Event)
-    → is_ready (document_start o ∷ (node_events v es ++ more)) ≡ true
-document_ready o v es more = let k = long_node v es in ready_more _ (node_events v es) more (enough _ _ (omega (arith, k)))
-
-sequence_ready : (q : Start) (ns : Nodes) (es more : List Event)
-    → is_ready (sequence_start q ∷ (items_events ns (sequence_end ∷ es) ++ more)) ≡ true
-unfolding is_ready items_events
-sequence_ready q no_nodes es more = or-true (nat_le 2 (length ((sequence_end ∷ es) ++ more)))
-sequence_ready q (node v ns) es more =
-    let k = long_node v (items_events ns (sequence_end ∷ es)) in
-    let l = long_items ns (sequence_end ∷ es) in
-    ready_more (sequence_start q) (node_events v (items_events ns (sequence_end ∷ es))) more
-    (enough (sequence_start q) (node_events v (items_events ns (sequence_end ∷ es))) (omega (arith, k, l)))
-
-mapping_ready : (q : Start) (ps : Pairs) (es more : List Event)
-    → is_ready (mapping_start q ∷ (pairs_events ps (mapping_end ∷ es) ++ more)) ≡ true
-unfolding is_ready pairs_events
-mapping_ready q no_pairs es more = or-true (nat_le 3 (length ((mapping_end ∷ es) ++ more)))
-mapping_ready q (pair n v ps) es more =
-    let k = long_pairs ps (mapping_end ∷ es) in
-    let l = long_node v (pairs_events ps (mapping_end ∷ es)) in
-    let m = long_node n (node_events v (pairs_events ps (mapping_end ∷ es))) in
-    ready_more (mapping_start q) (node_events n (node_events v (pairs_events ps (mapping_end ∷ es)))) more
-    (enough (mapping_start q) (node_events n (node_events v (pairs_events ps (mapping_end ∷ es)))) (omega (arith, k, l, m)))
-
--- ---- so it is let out
-
--- an event that needs nothing behind it
-out_alone : (e : Event) (es : List Event) → needs e ≡ 0 → AreOut es → AreOut (e ∷ es)
-out_alone e es none out = out_next e es (λ more. none_needed e (es ++ more) none) out
-
-mutual
-  unfolding node_events items_events pairs_events
-
-  node_out : (v : Node) (es : List Event) → AreOut es → AreOut (node_events v es)
-  node_out (alias_node name) es out = out_alone (alias name) es refl out
-  node_out (scalar_node x) es out = out_alone (scalar x) es refl out
-  node_out (sequence_node q ns) es out =
-      out_next (sequence_start q) (items_events ns (sequence_end ∷ es)) (sequence_ready q ns es) (items_out ns (sequence_end ∷ es) (out_alone sequence_end es refl out))
-  node_out (mapping_node q ps) es out =
-      out_next (mapping_start q) (pairs_events ps (mapping_end ∷ es)) (mapping_ready q ps es) (pairs_out ps (mapping_end ∷ es) (out_alone mapping_end es refl out))
-
-  items_out : (ns : Nodes) (es : List Event) → AreOut es → AreOut (items_events ns es)
-  items_out no_nodes es out = out
-  items_out (node v ns) es out = node_out v (items_events ns es) (items_out ns es out)
-
-  pairs_out : (ps : Pairs) (es : List Event) → AreOut es → AreOut (pairs_events ps es)
-  pairs_out no_pairs es out = out
-  pairs_out (pair n v ps) es out = node_out n (node_events v (pairs_events ps es)) (node_out v (pairs_events ps es) (pairs_out ps es out))
-
 -- All events of a dump are let out, whatever follows.
 pub dumped_out : (d : documents.Document) → AreOut (dumped d)
 unfolding dumped
-dumped_out d =
-    let v : Node = (graph_content d).root in
-    let end : Event = document_end d.end_implicit in
-    out_next (document_start (graph_content d).opening) (node_events v (end ∷ [])) (document_ready (graph_content d).opening v (end ∷ []))
-    (node_out v (end ∷ []) (out_alone end [] refl (λ more. refl)))
+dumped_out d = document_out (graph_content d).opening (graph_content d).root d.end_implicit [] (λ more. refl)
 
 -- ---- one behind another
 
@@ -112,19 +49,10 @@ dumps_on a b c es fs gs p q = record {
   keeps = (q.keeps.0 ∙ p.keeps.0, q.keeps.1 ∙ p.keeps.1);
 }
 
--- None was to come.
-pub dumps_nothing : (d : Document) (may : Emitter → Events → Type 0) (e : Emitter)
-    (before after : Events) → remaining_events d before ≡ []
-    → DumpsSome d may e e before after false
-dumps_nothing d may e before after c =
-    let P : List Event → Type 0 = λ z. Dumps e z e [] in
-    record { dumps = subst P (sym c) (dumps_none e []); on = λ on. absurd (false≢true on); less = λ on. absurd (false≢true on) }
-
 -- Memory was refused for what was to come.
-pub dumps_starved : (d : Document) (may : Emitter → Events → Type 0) (old new : Emitter)
-    (before after : Events) → ((es : List Event) → Dumps old es new [])
-    → DumpsSome d may old new before after false
-dumps_starved d may old new before after t = record { dumps = t (remaining_events d before); on = λ on. absurd (false≢true on); less = λ on. absurd (false≢true on) }
+pub dumps_starved : (early : Bool) (d : Document) (old new : Emitter) (before after : Events)
+    → ((es : List Event) → Dumps old es new []) → DumpsSome early d old new before after false
+dumps_starved early d old new before after t = record { dumps = t (remaining_events d before); on = λ on. absurd (false≢true on); less = λ on. absurd (false≢true on) }
 
 -- An event of those that are left was taken; behind a fault the others count for nothing.
 takes_by : (b : Bool) (old new : Emitter) (e : Event) (es : List Event)
@@ -132,30 +60,6 @@ takes_by : (b : Bool) (old new : Emitter) (e : Event) (es : List Event)
     → TakesEvents old (e ∷ es) new (left_if b es)
 takes_by true old new e es t stuck = t
 takes_by false old new e es t stuck = takes_on old new new (e ∷ es) es [] t (stuck refl es [])
-
-dumps_one : (d : Document) (may : Emitter → Events → Type 0) (old new : Emitter)
-    (before after : Events) (b : Bool) (e : Event)
-    → remaining_events d before ≡ e ∷ remaining_events d after
-    → TakesEvents old (e ∷ remaining_events d after) new (remaining_events d after)
-    → (b ≡ false → Stuck new) → NotesMemoryOf e old new → Keeps old new
-    → (b ≡ true → may new after) → DumpsSome d may old new before after b
-dumps_one d may old new before after b e c t stuck m keeps on =
-    let left = remaining_events d after in
-    let P : List Event → Type 0 = λ z. TakesEvents old z new (left_if b left) in
-    let Q : List Event → Type 0 = λ z. length left < length z in
-    record {
-      dumps = record { takes = subst P (sym c) (takes_by b old new e left t stuck); memory = notes_any e old new m; keeps = keeps };
-      on = on;
-      less = λ _. subst Q (sym c) (omega arith);
-    }
-
-pub dumps_event : (d : Document) (old new : Emitter) (before after : Events) (b : Bool) (e : Event)
-    → remaining_events d before ≡ e ∷ remaining_events d after → IsEvents d after
-    → TakesEvents old (e ∷ []) new [] → NotesMemoryOf e old new → Keeps old new
-    → new.fresh ≡ false → (b ≡ false → Stuck new)
-    → DumpsSome d (MayDump d) old new before after b
-dumps_event d old new before after b e c walk t m keeps begun stuck =
-    dumps_one d (MayDump d) old new before after b e c (takes_first old new e (remaining_events d after) t) stuck m keeps (λ on. record { walk = walk; begun = begun })
 
 -- ---- laid out at once
 
@@ -179,7 +83,7 @@ lays_out e x es whole none begun w = rw (begun, none) (rw (begun, none) at w)
 early_first : (old new : Emitter) (e : Event) (es : List Event) → LaysAtOnce old
     → AreOut (e ∷ es) → LaysOne old e new → TakesEvents old (e ∷ es) new es
 early_first old new e es o out l =
-    let t = l.given.text in
+    let t = l.given.takes in
     let behind = out_behind e es out in
     record {
       completes = λ x more whole h. t.completes x (es ++ more) whole h;
@@ -202,16 +106,35 @@ early_first old new e es o out l =
       begun = λ f. absurd (false≢true (sym l.given.begun ∙ f));
     }
 
-pub dumps_early : (d : Document) (old new : Emitter) (before after : Events) (b : Bool) (e : Event)
+takes_one : (early : Bool) (old new : Emitter) (e : Event) (es : List Event)
+    → (early ≡ true → LaysAtOnce old) → (early ≡ true → AreOut (e ∷ es))
+    → DumpsOne early old e new → TakesEvents old (e ∷ es) new es
+takes_one true old new e es o out l = early_first old new e es (o refl) (out refl) (l.once refl)
+takes_one false old new e es o out l = takes_first old new e es (l.takes refl)
+
+-- An event was laid out at once, which a dump may do early.
+pub dumps_once : (old new : Emitter) (e : Event) → LaysOne old e new → DumpsOne true old e new
+dumps_once old new e l = record { takes = λ off. absurd (false≢true (sym off)); once = λ on. l; memory = l.given.memory; opened = l.given.opened; begun = l.given.begun }
+
+-- The first event of those that are left was taken; behind a fault the others count for nothing.
+pub dumps_event : (early : Bool) (d : Document) (old new : Emitter) (before after : Events)
+    (b : Bool) (e : Event)
     → remaining_events d before ≡ e ∷ remaining_events d after → IsEvents d after
-    → MayDumpEarly d old before → LaysOne old e new → (b ≡ true → new.fault ≡ None)
-    → (b ≡ false → Stuck new) → DumpsSome d (MayDumpEarly d) old new before after b
-dumps_early d old new before after b e c walk may l right stuck =
+    → MayDump early d old before → DumpsOne early old e new → (b ≡ true → new.fault ≡ None)
+    → (b ≡ false → Stuck new) → DumpsSome early d old new before after b
+dumps_event early d old new before after b e c walk may l right stuck =
     let left = remaining_events d after in
-    let P : List Event → Type 0 = λ z. AreOut z in
-    let out : AreOut (e ∷ left) = subst P c may.out in
-    dumps_one d (MayDumpEarly d) old new before after b e c (early_first old new e left may.once out l) stuck l.given.memory l.given.opened (λ on. record {
-      walk = walk;
-      once = record { right = right on; begun = l.given.begun; form = l.form.1; none = l.none };
-      out = out_behind e left out;
-    })
+    let P : List Event → Type 0 = λ z. TakesEvents old z new (left_if b left) in
+    let Q : List Event → Type 0 = λ z. length left < length z in
+    let R : List Event → Type 0 = λ z. AreOut z in
+    let out : early ≡ true → AreOut (e ∷ left) = λ on. subst R c (may.out on) in
+    record {
+      dumps = record { takes = subst P (sym c) (takes_by b old new e left (takes_one early old new e left may.once out l) stuck); memory = notes_any e old new l.memory; keeps = l.opened };
+      on = λ going. record {
+        walk = walk;
+        begun = l.begun;
+        once = λ on. record { right = right going; begun = l.begun; form = (l.once on).form.1; none = (l.once on).none };
+        out = λ on. out_behind e left (out on);
+      };
+      less = λ _. subst Q (sym c) (omega arith);
+    }

@@ -6,7 +6,7 @@ use Rattle.yaml_emit_layout.specs.Content.{Event, stream_start}
 use Rattle.yaml_emit_state.specs.declared.Core.{Core}
 use Rattle.yaml_emit_state.specs.Steps.{state_of, settings_of, goes_on, IsFreshCore}
 use Rattle.yaml_emit_machine.specs.declared.emitter.yaml_emitter_t.TheInside.{Inside}
-use Rattle.yaml_emit_machine.specs.Emitter.{Emitter, text_of, write_error, too_deep, problem_fault, memory_origin, fault_by, refusal_by, IsLimited, stream_encoding, CompletesBy, Completes, HasWritten, ShowsFront, Says}
+use Rattle.yaml_emit_machine.specs.Emitter.{Emitter, write_error, too_deep, problem_fault, memory_origin, fault_by, refusal_by, IsLimited, stream_encoding, CompletesBy, Completes, HasWritten, ShowsFront, Says}
 use Rattle.yaml_scan_model.specs.declared.yaml_encoding_t.{yaml_encoding_t}
 use Rattle.yaml_emit_text.specs.declared.Encoding.{Encoding}
 use Rattle.yaml_emit_text.specs.declared.Settings.{Settings}
@@ -18,7 +18,6 @@ use Rattle.yaml_emit_text.specs.Sink.{Output, Ends, EndsBy}
 use Rattle.yaml_emit_text.specs.Layout.{Layout, stay, nothing_more, written}
 use Rattle.yaml_emit_text.proofs.Sinks.{deep_written}
 use Rattle.yaml_emit_layout.specs.declared.Problem.{Problem}
-use Rattle.yaml_emit_layout.specs.declared.Expected.{Expected}
 use Rattle.yaml_emit_layout.specs.declared.Expected.TheVariants as at
 use Rattle.yaml_emit_layout.specs.Grammar.{own_problems, or_else}
 use Rattle.yaml_emit_layout.specs.Nodes.{stream_layout}
@@ -31,22 +30,22 @@ use Rattle.yaml_emit_layout.specs.Streams.{IsStream}
 use Rattle.yaml_emit_machine.proofs.Judging.{going_open, goes_going, open_goes, or_some, unless_some, held_stays}
 use Rattle.yaml_emit_machine.specs.Views.{emitter_of, IsEmitter}
 use Rattle.yaml_emit_machine.specs.Judged.{refused_at, let_out, unless, laid, refusal_behind, LetsOut, first_wrong, LaysAll}
-use Rattle.yaml_emit_machine.proofs.Ending.{IsAll, all_written}
+use Rattle.yaml_emit_machine.proofs.Ending.{IsAll, all_by}
 use Rattle.yaml_emit_text.specs.declared.Cursor.{Cursor}
 use Rattle.yaml_emit_machine.specs.Held.{held_events, is_ready}
 use Rattle.yaml_emit_layout.specs.Progress.{Progress, first_refusal}
 use Rattle.yaml_emit_machine.specs.Verdict.{verdict, Writes, wrong, Lays, HasLetOut, TellsOutcome}
 
-abbrev pub seen : RequestedSettings → Core → List Event → Bool → Bool → Bool → Option Fault
-    → Emitter
-seen w core held fresh opened closed fault = record {
-  requested_settings = w;
+-- an emitter behind what was laid out, by whether no event was given and by what is held
+abbrev pub left : Inside → Core → Bool → List Event → Option Fault → Emitter
+left i core fresh held fault = record {
+  requested_settings = i.requested_settings;
   limit = core.sink.limit;
   held = held;
   output = core.sink.bytes;
   fresh = fresh;
-  opened = opened;
-  closed = closed;
+  opened = i.opened;
+  closed = i.closed;
   fault = fault;
   course = record {
     settings = settings_of core;
@@ -57,24 +56,15 @@ seen w core held fresh opened closed fault = record {
   starved = core.starved;
 }
 
--- the same of an emitter, by whether no event was given and by what is held
+-- the same as it stood
 abbrev pub stood : Inside → Bool → List Event → Emitter
-stood i fresh held = seen i.requested_settings i.core held fresh i.opened i.closed
-    (option_map fault_of i.fault)
-
--- and behind what was laid out
-abbrev pub left : Inside → Core → Bool → List Event → Option Fault → Emitter
-left i core fresh held fault = seen i.requested_settings core held fresh i.opened i.closed fault
+stood i fresh held = left i i.core fresh held (option_map fault_of i.fault)
 
 -- without a fault an output goes on and there is no problem
 pub none_by : (s : Status) (b : Bool) (p : Option Problem) → fault_by s b p ≡ None
     → (s ≡ Going) × (p ≡ None)
 none_by Going b None h = (refl, refl)
 none_by s b p h = absurd (cc)
-
-pub refusal_none : (p : Expected) (s : Status) (b : Bool) → refusal_by p s b ≡ None
-    → goes_on s p ≡ true
-refusal_none p s b h = let k = none_by s b (refused_at p) h in open_goes s p k.0 k.1
 
 -- what is to come is at no refused place
 never_refused : (k : ToCome) → refused_at (come.state_of k).place ≡ None
@@ -88,19 +78,12 @@ going_right : (v : Settings) (st : State) (o : Output) (es : List Event) (whole 
     → FinishesBy v st o es whole → refused_at st.place ≡ None
 going_right v st o es whole r = ap (λ (z : State). refused_at z.place) r.fits ∙ never_refused r.rest
 
-stopped_at : (s : Status) (v : Settings) (st : State) (o : Output) (levels : Bool) (f : Fault)
+-- behind a fault the events that come count for nothing
+pub stopped_at : (s : Status) (v : Settings) (st : State) (o : Output) (levels : Bool) (f : Fault)
     (xs ys : List Event) (whole : List Item) → refusal_by st.place s levels ≡ Some f
     → FinishesAt s v st o xs whole → FinishesAt s v st o ys whole
 stopped_at Going v st o levels f xs ys whole h r = let k = ap (option_map problem_fault) (going_right v st o xs whole r) in absurd (cc)
 stopped_at s v st o levels f xs ys whole h r = r
-
--- behind a fault the events that come count for nothing
-pub stopped_finishes : (core : Core) (f : Fault) (xs ys : List Event) (whole : List Item)
-    → refusal_by core.place core.sink.status core.starved ≡ Some f
-    → Finishes (settings_of core) (state_of core) core.sink xs whole
-    → Finishes (settings_of core) (state_of core) core.sink ys whole
-unfolding Finishes
-stopped_finishes core f xs ys whole h c = stopped_at core.sink.status (settings_of core) (state_of core) core.sink core.starved f xs ys whole h c
 
 -- the settings came into force
 pub begin_finishes : (core : Core) (w : RequestedSettings) (e : Event) (x : Encoding)
@@ -120,16 +103,11 @@ begin_finishes core w e x es whole f k =
     (ap (λ (z : Settings). z.encoding) f'.settings ∙ sym k.coded, subst S (sym k.is) (subst R (sym k.same) done))
 
 -- what is still to come of a text
-finishes_ends : (s : Status) (v : Settings) (st : State) (o : Output) (es : List Event)
+pub finishes_ends : (s : Status) (v : Settings) (st : State) (o : Output) (es : List Event)
     (whole : List Item) → FinishesAt s v st o es whole
     → (a : Layout) × Ends o (a o.cursor nothing_more) whole
 finishes_ends Going v st o es whole h = (layout v h.rest, h.ends)
 finishes_ends s v st o es whole h = (stay, h)
-
-pub ends_of : (v : Settings) (st : State) (o : Output) (es : List Event) (whole : List Item)
-    → Finishes v st o es whole → (a : Layout) × Ends o (a o.cursor nothing_more) whole
-unfolding Finishes
-ends_of v st o es whole h = finishes_ends o.status v st o es whole h
 
 pub written_by : (s : Status) (limit : ℕ) (x : Encoding) (bytes : List ℕ) (text whole : List Item)
     → EndsBy s limit x bytes text whole → HasWritten s limit bytes (encode x whole) (is_deep whole)
@@ -138,18 +116,14 @@ written_by Full limit x bytes text whole h = h
 written_by Deep limit x bytes text whole h = (h.0, deep_written x bytes whole h.1)
 written_by Starved limit x bytes text whole h = h
 
-ends_written : (o : Output) (text whole : List Item) → Ends o text whole
-    → HasWritten o.status o.limit o.bytes (encode o.encoding whole) (is_deep whole)
-unfolding Ends
-ends_written o text whole h = written_by o.status o.limit o.encoding o.bytes text whole h
-
 front_by : (b : Bool) (i : Inside) (x : Encoding) (es : List Event) (whole : List Item)
     → b ≡ i.fresh → IsEmitter i → CompletesBy b (emitter_of i) x es whole
     → HasWritten i.core.sink.status i.core.sink.limit i.core.sink.bytes (encode x whole) (is_deep whole)
+unfolding Finishes Ends
 front_by true i x es whole fr inv h = let k = inv.begun (sym fr) in rw (k.1.1.1, k.1.1.0) (encode x whole, refl)
 front_by false i x es whole fr inv h =
-    let Q : Encoding → Type 0 = λ z. HasWritten i.core.sink.status i.core.sink.limit i.core.sink.bytes (encode z whole) (is_deep whole) in
-    subst Q h.0 (ends_written i.core.sink _ whole (ends_of (settings_of i.core) (state_of i.core) i.core.sink _ whole h.1).1)
+    let o = i.core.sink in
+    rw (← h.0) (written_by o.status o.limit o.encoding o.bytes _ whole (finishes_ends o.status (settings_of i.core) (state_of i.core) o _ whole h.1).1)
 
 pub inside_front : (i : Inside) → IsEmitter i → ShowsFront (emitter_of i) i.core.sink.bytes
 unfolding Completes
@@ -162,10 +136,8 @@ going_never : (e : Emitter) (f : Fault) (x : Encoding) (es : List Event) (whole 
     → ⊥
 unfolding Completes Finishes
 going_never e f x es whole b g h c =
-    let P : Bool → Type 0 = λ z. CompletesBy z e x es whole in
-    let S : Status → Type 0 = λ z. FinishesAt z e.course.settings e.course.state (text_of e) (e.held ++ es) whole in
-    let k = subst P b c in
-    let r = ap (option_map problem_fault) (going_right e.course.settings e.course.state (text_of e) _ whole (subst S g k.1)) in
+    let k = rw (b, g) at c in
+    let r = ap (option_map problem_fault) (going_right _ e.course.state _ _ whole k.1) in
     cc
 
 some_same : (g f : Fault) → Some g ≡ Some f → f ≡ g
@@ -196,18 +168,19 @@ pub fresh_refusal : (core : Core) (s : Settings) → IsFreshCore core s
 fresh_refusal core s f = let k : core.place ≡ at.StreamStart = ap (λ (z : State). z.place) f.state in rw (k, f.status) refl
 
 -- with no fault the output goes on to the next event
-pub inside_goes : (i : Inside) → IsEmitter i → option_map fault_of i.fault ≡ None
-    → goes_on i.core.sink.status i.core.place ≡ true
-inside_goes i inv none = refusal_none i.core.place i.core.sink.status i.core.starved (sym inv.faulty ∙ none)
-
 pub inside_going : (i : Inside) → IsEmitter i → option_map fault_of i.fault ≡ None
     → i.core.sink.status ≡ Going
-inside_going i inv none = goes_going i.core.sink.status i.core.place (inside_goes i inv none)
+inside_going i inv none = (none_by i.core.sink.status i.core.starved (refused_at i.core.place) (sym inv.faulty ∙ none)).0
+
+pub inside_goes : (i : Inside) → IsEmitter i → option_map fault_of i.fault ≡ None
+    → goes_on i.core.sink.status i.core.place ≡ true
+inside_goes i inv none = let k = none_by i.core.sink.status i.core.starved (refused_at i.core.place) (sym inv.faulty ∙ none) in open_goes i.core.sink.status i.core.place k.0 k.1
 
 -- and, with no event to come, has the whole, which passes no limit
 pub inside_all : (i : Inside) → IsEmitter i → option_map fault_of i.fault ≡ None → (x : Encoding)
     (whole : List Item) → Completes (emitter_of i) x [] whole → IsAll i.core.sink x whole
-inside_all i inv none x whole h = all_written (emitter_of i) x whole (inside_going i inv none) (inv.few (inside_goes i inv none)) h
+unfolding Completes
+inside_all i inv none x whole h = all_by i.fresh (emitter_of i) x whole (inside_going i inv none) (inv.few (inside_goes i inv none)) h
 
 pub not_true : (b : Bool) → (b ≡ true → ⊥) → b ≡ false
 not_true false n = refl
@@ -223,21 +196,15 @@ pub inside_limited : (i : Inside) → IsEmitter i → (f : Fault) → option_map
     → IsLimited (emitter_of i) f
 inside_limited i inv f is = limited_by i.core.sink.status (emitter_of i) f refl (inside_begun i inv f is) (sym inv.faulty ∙ is) (inside_front i inv)
 
-let_out_by : (s : Status) (limit : ℕ) (x : Encoding) (bytes : List ℕ) (text whole : List Item)
+-- all that was let out is there, and an output that an indentation has stopped has all in front of that
+told_by : (s : Status) (limit : ℕ) (x : Encoding) (bytes : List ℕ) (text whole : List Item)
     → (s ≡ Going → text ≡ []) → EndsBy s limit x bytes text whole
     → HasLetOut s limit bytes (encode x whole) (is_deep whole)
+    × (s ≡ Deep → bytes ≡ encode x (shallow whole))
 unfolding encode is_deep
-let_out_by Going limit x bytes text whole n h =
-    let P : List Item → Type 0 = λ t. EndsBy Going limit x bytes t whole in
-    let k : EndsBy Going limit x bytes [] whole = subst P (n refl) h in
-    (sym (k.0 ∙ append-nil bytes), (k.1.0, k.1.1.0))
-let_out_by s limit x bytes text whole n h = written_by s limit x bytes text whole h
-
-ends_let_out : (o : Output) (text whole : List Item) → (o.status ≡ Going → text ≡ [])
-    → Ends o text whole
-    → HasLetOut o.status o.limit o.bytes (encode o.encoding whole) (is_deep whole)
-unfolding Ends
-ends_let_out o text whole n h = let_out_by o.status o.limit o.encoding o.bytes text whole n h
+told_by Going limit x bytes text whole n h = let k = rw (n refl) at h in ((sym (k.0 ∙ append-nil bytes), (k.1.0, k.1.1.0)), λ d. absurd (cc))
+told_by Deep limit x bytes text whole n h = (written_by Deep limit x bytes text whole h, λ d. h.1)
+told_by s limit x bytes text whole n h = (written_by s limit x bytes text whole h, λ d. absurd (cc))
 
 -- nothing is to come behind a refusal, and what is held isn't let out
 refusal_now : (p : Option Problem) (canonical : Bool) (h : Progress) (es : List Event)
@@ -267,50 +234,23 @@ verdict_now : (i : Inside) → IsEmitter i → i.core.sink.status ≡ Going
 unfolding refusal_behind
 verdict_now i inv g = refusal_now (refused_at i.core.place) _ _ (held_events i.held ++ []) (waits_now i inv g)
 
-output_now : (i : Inside) (x : Encoding) (whole : List Item) → IsEmitter i
+told_now : (i : Inside) (x : Encoding) (whole : List Item) → IsEmitter i
     → Says LetsOut (emitter_of i) x [] whole
     → HasLetOut i.core.sink.status i.core.sink.limit i.core.sink.bytes (encode x whole)
-    (is_deep whole)
-unfolding LetsOut
-output_now i x whole inv k =
-    let R : Encoding → Type 0 = λ z. HasLetOut i.core.sink.status i.core.sink.limit i.core.sink.bytes (encode z whole) (is_deep whole) in
-    subst R k.0 (ends_let_out i.core.sink _ whole (λ g. text_now (refused_at i.core.place) _ _ (held_events i.held ++ []) _ (waits_now i inv g)) k.1)
+    (is_deep whole) × (i.core.sink.status ≡ Deep → i.core.sink.bytes ≡ encode x (shallow whole))
+unfolding LetsOut Ends
+told_now i x whole inv k =
+    rw (← k.0) (told_by i.core.sink.status i.core.sink.limit i.core.sink.encoding i.core.sink.bytes _ whole (λ g. text_now (refused_at i.core.place) _ _ (held_events i.held ++ []) _ (waits_now i inv g)) k.1)
 
-deep_by : (s : Status) (limit : ℕ) (x : Encoding) (bytes : List ℕ) (text whole : List Item)
-    → s ≡ Deep → EndsBy s limit x bytes text whole → bytes ≡ encode x (shallow whole)
-deep_by Deep limit x bytes text whole d h = h.1
-deep_by s limit x bytes text whole d h = absurd (cc)
-
-deep_ends : (o : Output) (text whole : List Item) → o.status ≡ Deep → Ends o text whole
-    → o.bytes ≡ encode o.encoding (shallow whole)
-unfolding Ends
-deep_ends o text whole d h = deep_by o.status o.limit o.encoding o.bytes text whole d h
-
-deep_now : (i : Inside) (x : Encoding) (whole : List Item) → i.core.sink.status ≡ Deep
-    → Says LetsOut (emitter_of i) x [] whole → i.core.sink.bytes ≡ encode x (shallow whole)
-unfolding LetsOut
-deep_now i x whole d k =
-    let R : Encoding → Type 0 = λ z. i.core.sink.bytes ≡ encode z (shallow whole) in
-    subst R k.0 (deep_ends i.core.sink _ whole d k.1)
-
--- ---- behind a refused event
-
-ends_all : (o : Output) (whole : List Item) → o.status ≡ Going → Ends o [] whole
-    → o.bytes ≡ encode o.encoding whole
-unfolding Ends encode
-ends_all o whole g h =
-    let P : Status → Type 0 = λ z. EndsBy z o.limit o.encoding o.bytes [] whole in
-    let k : EndsBy Going o.limit o.encoding o.bytes [] whole = subst P g h in
-    sym (k.0 ∙ append-nil o.bytes)
-
+-- behind a refused event
 refused_front : (i : Inside) (p : Problem) (x : Encoding) (more : List Event) (whole : List Item)
     → i.core.sink.status ≡ Going → refused_at i.core.place ≡ Some p
     → Says LaysAll (emitter_of i) x more whole → i.core.sink.bytes ≡ encode x whole
-unfolding LaysAll
+unfolding LaysAll Ends
 refused_front i p x more whole g r k =
-    let Q : List Item → Type 0 = λ t. Ends i.core.sink t whole in
-    let R : Encoding → Type 0 = λ z. i.core.sink.bytes ≡ encode z whole in
-    subst R k.0 (ends_all i.core.sink whole g (subst Q (unless_some (refused_at i.core.place) p _ _ _ r) k.1))
+    let t = (told_by i.core.sink.status i.core.sink.limit i.core.sink.encoding i.core.sink.bytes _ whole (λ _. unless_some (refused_at i.core.place) p _ _ _ r) k.1).0 in
+    let all = rw g at t in
+    rw (← k.0) all.0
 
 -- ---- a fresh one
 
@@ -320,29 +260,23 @@ first_output : (i : Inside) (x : Encoding) (whole : List Item) → IsEmitter i �
 unfolding encode is_deep
 first_output i x whole inv fr none = let k = inv.begun (sym fr) in rw (k.1.1.1, k.1.1.0, none) (refl, (omega arith, refl))
 
-fresh_refused : (i : Inside) → IsEmitter i → i.fresh ≡ true → refused_at i.core.place ≡ None
-fresh_refused i inv fr = (none_by i.core.sink.status i.core.starved (refused_at i.core.place) (sym inv.faulty ∙ (inv.begun fr).1.0)).1
-
-none_some : (p : Problem) → None ≡ Some p → ⊥
-none_some p h = cc
-
 tells_by : (b : Bool) (i : Inside) → b ≡ i.fresh → IsEmitter i
     → TellsOutcome (stood i b (held_events i.held))
 unfolding verdict Writes wrong Lays first_wrong first_refusal let_out laid
 tells_by true i fr inv = record {
-  fault = inv.faulty ∙ fault_now i.core.sink.status i.core.starved _ _ (λ g. fresh_refused i inv (sym fr));
+  fault = inv.faulty ∙ fault_now i.core.sink.status i.core.starved _ _ (λ g. (none_by i.core.sink.status i.core.starved _ (sym inv.faulty ∙ (inv.begun (sym fr)).1.0)).1);
   output = λ x whole h. first_output i x whole inv fr h.is;
-  first = λ g p v. absurd (none_some p v);
-  front = λ g p v. absurd (none_some p v);
+  first = λ g p v. absurd (cc);
+  front = λ g p v. absurd (cc);
   deep = λ d. let g = (inv.begun (sym fr)).1.1.1 in absurd (cc);
   memory = inv.memory;
 }
 tells_by false i fr inv = record {
   fault = inv.faulty ∙ fault_now i.core.sink.status i.core.starved _ _ (verdict_now i inv);
-  output = λ x whole h. output_now i x whole inv h;
+  output = λ x whole h. (told_now i x whole inv h).0;
   first = λ g p v more. or_some (refused_at i.core.place) _ p (verdict_now i inv g ∙ v);
   front = λ g p v x more whole h. refused_front i p x more whole g (verdict_now i inv g ∙ v) h;
-  deep = λ d x whole h. deep_now i x whole d h;
+  deep = λ d x whole h. (told_now i x whole inv h).1 d;
   memory = inv.memory;
 }
 

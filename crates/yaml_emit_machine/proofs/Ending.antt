@@ -1,40 +1,39 @@
--- Where no event is to come, nothing is held, all is written, and the whole passes no limit.
-use Rattle.std.proofs.Common.{◌≡◌, ℕ, ◌+◌, ◌≤◌, List, [], ◌∷◌, ◌++◌, length, Bool, true, false, refl, sym, subst, ◌∙◌, ap, arith, append-nil}
+-- Each event of a stream or a dump is let out; so where no event is to come, nothing is held, all is written, and the whole passes
+-- no limit.
+use Rattle.std.proofs.Common.{◌≡◌, ◌+◌, ◌≤◌, List, [], ◌∷◌, ◌++◌, length, Bool, true, false, refl, sym, subst, ◌∙◌, ap, arith, append-nil}
+use Rattle.std.specs.Prelude.{nat_le}
+use Rattle.std.proofs.Math.Bool.{or-true}
 use Rattle.yaml_emit_text.specs.declared.Encoding.{Encoding}
 use Rattle.yaml_emit_text.specs.declared.Settings.{Settings}
 use Rattle.yaml_emit_text.specs.declared.Status.{Status}
 use Rattle.yaml_emit_text.specs.declared.Status.TheVariants.{Going}
 use Rattle.yaml_emit_text.specs.Text.{Item, encode, is_deep}
-use Rattle.yaml_emit_text.specs.Layout.{nothing_more}
-use Rattle.yaml_emit_text.specs.Sink.{Output, Ends, EndsBy}
-use Rattle.yaml_emit_layout.specs.Content.{Event, Node, alias_node, scalar_node, sequence_node, mapping_node, Nodes, no_nodes, node, Pairs, no_pairs, pair, Document, sequence_end, mapping_end, node_events, items_events, pairs_events, documents_events}
+use Rattle.yaml_emit_text.specs.Sink.{Output, Ends}
+use Rattle.yaml_emit_layout.specs.Content.{Event, Opening, Start, stream_start, stream_end, document_start, document_end, alias, scalar, sequence_start, mapping_start, Node, alias_node, scalar_node, sequence_node, mapping_node, Nodes, no_nodes, node, Pairs, no_pairs, pair, Document, sequence_end, mapping_end, node_events, items_events, pairs_events, documents_events}
 use Rattle.yaml_emit_layout.specs.State.{State}
 use Rattle.yaml_emit_layout.specs.ToCome.{ToCome, stream, documents, root, frames, nothing, Frame, items_left, pairs_left, value_left, events, frame_events, frames_events, ending_events, layout}
 use Rattle.yaml_emit_state.specs.Finish.{Finishes, FinishesAt}
-use Rattle.yaml_emit_machine.specs.Held.{is_ready}
-use Rattle.yaml_emit_machine.specs.Emitter.{Emitter, text_of, Completes, CompletesBy}
+use Rattle.yaml_emit_machine.specs.Held.{is_ready, needs}
+use Rattle.yaml_emit_machine.specs.Emitter.{Emitter, text_of, CompletesBy}
 use Rattle.yaml_emit_machine.specs.Within.{Fits}
-use Rattle.yaml_emit_machine.proofs.Holding.{three_enough, none_needed}
-
-long_documents : (ds : List Document) → 1 ≤ length (documents_events ds)
-unfolding documents_events
-long_documents [] = omega arith
-long_documents (d ∷ ds) = omega arith
+use Rattle.yaml_emit_machine.specs.Judged.{let_out, AreOut}
+use Rattle.yaml_emit_machine.proofs.Holding.{enough, none_needed}
+use Rattle.yaml_emit_machine.proofs.Judging.{first_out, ready_more, held_stays}
 
 mutual
   unfolding node_events items_events pairs_events
 
-  pub long_node : (v : Node) (es : List Event) → length es + 1 ≤ length (node_events v es)
+  long_node : (v : Node) (es : List Event) → length es + 1 ≤ length (node_events v es)
   long_node (alias_node name) es = omega arith
   long_node (scalar_node x) es = omega arith
   long_node (sequence_node q ns) es = let h = long_items ns (sequence_end ∷ es) in omega (arith, h)
   long_node (mapping_node q ps) es = let h = long_pairs ps (mapping_end ∷ es) in omega (arith, h)
 
-  pub long_items : (ns : Nodes) (es : List Event) → length es ≤ length (items_events ns es)
+  long_items : (ns : Nodes) (es : List Event) → length es ≤ length (items_events ns es)
   long_items no_nodes es = omega arith
   long_items (node v ns) es = let h = long_items ns es in let k = long_node v (items_events ns es) in omega (arith, h, k)
 
-  pub long_pairs : (ps : Pairs) (es : List Event) → length es ≤ length (pairs_events ps es)
+  long_pairs : (ps : Pairs) (es : List Event) → length es ≤ length (pairs_events ps es)
   long_pairs no_pairs es = omega arith
   long_pairs (pair u v ps) es =
       let h = long_pairs ps es in
@@ -42,51 +41,88 @@ mutual
       let l = long_node u (node_events v (pairs_events ps es)) in
       omega (arith, h, k, l)
 
+out_next : (e : Event) (es : List Event) → is_ready (e ∷ es) ≡ true → AreOut es → AreOut (e ∷ es)
+out_next e es ready out = λ more. first_out e (es ++ more) (ready_more e es more ready) ∙ ap (λ (z : List Event). e ∷ z) (out more)
+
+-- ---- what opens a level is followed by what it needs
+
+sequence_ready : (q : Start) (ns : Nodes) (es : List Event)
+    → is_ready (sequence_start q ∷ items_events ns (sequence_end ∷ es)) ≡ true
+unfolding is_ready items_events
+sequence_ready q no_nodes es = or-true (nat_le 2 (length (sequence_end ∷ es)))
+sequence_ready q (node v ns) es =
+    let k = long_node v (items_events ns (sequence_end ∷ es)) in
+    let l = long_items ns (sequence_end ∷ es) in
+    enough (sequence_start q) (node_events v (items_events ns (sequence_end ∷ es))) (omega (arith, k, l))
+
+mapping_ready : (q : Start) (ps : Pairs) (es : List Event)
+    → is_ready (mapping_start q ∷ pairs_events ps (mapping_end ∷ es)) ≡ true
+unfolding is_ready pairs_events
+mapping_ready q no_pairs es = or-true (nat_le 3 (length (mapping_end ∷ es)))
+mapping_ready q (pair n v ps) es =
+    let k = long_pairs ps (mapping_end ∷ es) in
+    let l = long_node v (pairs_events ps (mapping_end ∷ es)) in
+    let m = long_node n (node_events v (pairs_events ps (mapping_end ∷ es))) in
+    enough (mapping_start q) (node_events n (node_events v (pairs_events ps (mapping_end ∷ es)))) (omega (arith, k, l, m))
+
+-- ---- so it is let out
+
+-- an event that needs nothing behind it
+out_alone : (e : Event) (es : List Event) → needs e ≡ 0 → AreOut es → AreOut (e ∷ es)
+out_alone e es none out = out_next e es (none_needed e es none) out
+
+mutual
+  unfolding node_events items_events pairs_events
+
+  node_out : (v : Node) (es : List Event) → AreOut es → AreOut (node_events v es)
+  node_out (alias_node name) es out = out_alone (alias name) es refl out
+  node_out (scalar_node x) es out = out_alone (scalar x) es refl out
+  node_out (sequence_node q ns) es out =
+      out_next (sequence_start q) (items_events ns (sequence_end ∷ es)) (sequence_ready q ns es) (items_out ns (sequence_end ∷ es) (out_alone sequence_end es refl out))
+  node_out (mapping_node q ps) es out =
+      out_next (mapping_start q) (pairs_events ps (mapping_end ∷ es)) (mapping_ready q ps es) (pairs_out ps (mapping_end ∷ es) (out_alone mapping_end es refl out))
+
+  items_out : (ns : Nodes) (es : List Event) → AreOut es → AreOut (items_events ns es)
+  items_out no_nodes es out = out
+  items_out (node v ns) es out = node_out v (items_events ns es) (items_out ns es out)
+
+  pairs_out : (ps : Pairs) (es : List Event) → AreOut es → AreOut (pairs_events ps es)
+  pairs_out no_pairs es out = out
+  pairs_out (pair n v ps) es out = node_out n (node_events v (pairs_events ps es)) (node_out v (pairs_events ps es) (pairs_out ps es out))
+
+-- the events of a document
+pub document_out : (o : Opening) (v : Node) (b : Bool) (es : List Event) → AreOut es
+    → AreOut (document_start o ∷ node_events v (document_end b ∷ es))
+document_out o v b es out =
+    let end : Event = document_end b in
+    let k = long_node v (end ∷ es) in
+    out_next (document_start o) (node_events v (end ∷ es)) (enough (document_start o) (node_events v (end ∷ es)) (omega (arith, k))) (node_out v (end ∷ es) (out_alone end es refl out))
+
+documents_out : (ds : List Document) → AreOut (documents_events ds)
+unfolding documents_events
+documents_out [] = out_alone stream_end [] refl (λ more. refl)
+documents_out (d ∷ ds) = document_out d.opening d.root d.implicit_end (documents_events ds) (documents_out ds)
+
+frames_out : (fs : List Frame) (es : List Event) → AreOut es → AreOut (frames_events fs es)
+unfolding frames_events frame_events
+frames_out [] es out = out
+frames_out (items_left flow n fresh ns ∷ fs) es out = items_out ns _ (out_alone sequence_end _ refl (frames_out fs es out))
+frames_out (pairs_left flow n fresh ps ∷ fs) es out = pairs_out ps _ (out_alone mapping_end _ refl (frames_out fs es out))
+frames_out (value_left flow n simple v ps ∷ fs) es out = node_out v _ (pairs_out ps _ (out_alone mapping_end _ refl (frames_out fs es out)))
+
+rest_out : (k : ToCome) → AreOut (events k)
+unfolding events
+rest_out (stream x ds) = out_alone (stream_start x) (documents_events ds) refl (documents_out ds)
+rest_out (documents first unended ds) = documents_out ds
+rest_out (root g v implicit ds) = node_out v _ (out_alone (document_end implicit) _ refl (documents_out ds))
+rest_out (frames g fs implicit ds) = frames_out fs _ (out_alone (document_end implicit) _ refl (documents_out ds))
+rest_out nothing = λ more. refl
+
 long_frame : (f : Frame) (es : List Event) → length es + 1 ≤ length (frame_events f es)
 unfolding frame_events
 long_frame (items_left flow n fresh ns) es = let h = long_items ns (sequence_end ∷ es) in omega (arith, h)
 long_frame (pairs_left flow n fresh ps) es = let h = long_pairs ps (mapping_end ∷ es) in omega (arith, h)
 long_frame (value_left flow n simple v ps) es = let h = long_pairs ps (mapping_end ∷ es) in let k = long_node v (pairs_events ps (mapping_end ∷ es)) in omega (arith, h, k)
-
-long_frames : (fs : List Frame) (es : List Event) → length es ≤ length (frames_events fs es)
-unfolding frames_events
-long_frames [] es = omega arith
-long_frames (f ∷ fs) es = let h = long_frames fs es in let k = long_frame f (frames_events fs es) in omega (arith, h, k)
-
-long_ending : (implicit : Bool) (ds : List Document) → 2 ≤ length (ending_events implicit ds)
-long_ending implicit ds = let h = long_documents ds in omega (arith, h)
-
-ready_node : (v : Node) (es : List Event) → 2 ≤ length es → is_ready (node_events v es) ≡ true
-unfolding node_events
-ready_node (alias_node name) es h = none_needed _ es refl
-ready_node (scalar_node x) es h = none_needed _ es refl
-ready_node (sequence_node q ns) es h = let k = long_items ns (sequence_end ∷ es) in three_enough _ _ (omega (arith, k, h))
-ready_node (mapping_node q ps) es h = let k = long_pairs ps (mapping_end ∷ es) in three_enough _ _ (omega (arith, k, h))
-
-ready_frame : (f : Frame) (es : List Event) → 2 ≤ length es → is_ready (frame_events f es) ≡ true
-unfolding frame_events items_events pairs_events
-ready_frame (items_left flow n fresh no_nodes) es h = none_needed _ es refl
-ready_frame (items_left flow n fresh (node v ns)) es h = let k = long_items ns (sequence_end ∷ es) in ready_node v _ (omega (arith, k, h))
-ready_frame (pairs_left flow n fresh no_pairs) es h = none_needed _ es refl
-ready_frame (pairs_left flow n fresh (pair u v ps)) es h =
-    let k = long_pairs ps (mapping_end ∷ es) in
-    let l = long_node v (pairs_events ps (mapping_end ∷ es)) in
-    ready_node u _ (omega (arith, k, l, h))
-ready_frame (value_left flow n simple v ps) es h = let k = long_pairs ps (mapping_end ∷ es) in ready_node v _ (omega (arith, k, h))
-
-ready_rest : (k : ToCome) (e : Event) (es : List Event) → e ∷ es ≡ events k
-    → is_ready (events k) ≡ true
-unfolding events documents_events frames_events
-ready_rest (stream x ds) e es h = none_needed _ _ refl
-ready_rest (documents first unended []) e es h = none_needed _ _ refl
-ready_rest (documents first unended (d ∷ ds)) e es h =
-    let l = long_ending d.implicit_end ds in
-    let k = long_node d.root (ending_events d.implicit_end ds) in
-    three_enough _ _ (omega (arith, k, l))
-ready_rest (root g v implicit ds) e es h = ready_node v _ (long_ending implicit ds)
-ready_rest (frames g [] implicit ds) e es h = none_needed _ _ refl
-ready_rest (frames g (f ∷ fs) implicit ds) e es h = let l = long_ending implicit ds in let k = long_frames fs (ending_events implicit ds) in ready_frame f _ (omega (arith, k, l))
-ready_rest nothing e es h = absurd (cc)
 
 pub no_event_left : (k : ToCome) → [] ≡ events k → k ≡ nothing
 unfolding events documents_events frames_events
@@ -100,8 +136,12 @@ no_event_left nothing h = refl
 
 -- Of the events that a whole stream has still to come, none waits that isn't ready.
 pub nothing_held : (xs : List Event) (k : ToCome) → is_ready xs ≡ false → xs ≡ events k → xs ≡ []
-nothing_held [] k w h = refl
-nothing_held (x ∷ xs) k w h = let r = ready_rest k x xs h in let P : List Event → Type 0 = λ z. is_ready z ≡ true in let r' : is_ready (x ∷ xs) ≡ true = subst P (sym h) r in absurd (cc)
+unfolding let_out
+nothing_held xs k w h =
+    let P : List Event → Type 0 = λ z. let_out z ≡ z in
+    let out : let_out (events k) ≡ events k = subst P (append-nil (events k)) (rest_out k []) in
+    let all : let_out xs ≡ xs = subst P (sym h) out in
+    sym all ∙ held_stays xs w
 
 -- what is said of the whole: all of it is in the output, and it passes no limit
 abbrev pub IsAll : Output → Encoding → List Item → Type 0
@@ -113,26 +153,16 @@ all_at : (s : Status) (v : Settings) (st : State) (o : Output) (xs : List Event)
 unfolding Ends layout encode is_deep
 all_at Going v st o xs whole same g w f =
     let all : xs ≡ events f.rest = sym (append-nil xs) ∙ f.same in
-    let empty : xs ≡ [] = nothing_held xs f.rest w all in
-    let last : f.rest ≡ nothing = no_event_left f.rest (sym empty ∙ all) in
-    let P : ToCome → Type 0 = λ k. Ends o (layout v k o.cursor nothing_more) whole in
-    let Q : Status → Type 0 = λ s. EndsBy s o.limit o.encoding o.bytes [] whole in
-    let e : EndsBy Going o.limit o.encoding o.bytes [] whole = subst Q (sym same) (subst P last f.ends) in
+    let last : f.rest ≡ nothing = no_event_left f.rest (sym (nothing_held xs f.rest w all) ∙ all) in
+    let ends = f.ends in
+    let e = rw (← same, last) at ends in
     let written : o.bytes ≡ encode o.encoding whole = sym (append-nil o.bytes) ∙ sym e.0 in
-    let R : List ℕ → Type 0 = λ z. length z ≤ o.limit in
-    (written, record { size = subst R written e.1.0; columns = e.1.1.0 })
+    (written, record { size = rw (← written) e.1.0; columns = e.1.1.0 })
 all_at s v st o xs whole same g w f = absurd (cc)
 
-all_by : (b : Bool) (e : Emitter) (x : Encoding) (whole : List Item) → e.status ≡ Going
+-- with no event to come
+pub all_by : (b : Bool) (e : Emitter) (x : Encoding) (whole : List Item) → e.status ≡ Going
     → is_ready e.held ≡ false → CompletesBy b e x [] whole → IsAll (text_of e) x whole
 unfolding Finishes
 all_by true e x whole g w h = let k = h.same in absurd (cc)
-all_by false e x whole g w h =
-    let P : Encoding → Type 0 = λ z. IsAll (text_of e) z whole in
-    subst P h.0 (all_at e.status e.course.settings e.course.state (text_of e) e.held whole refl g w h.1)
-
--- with no event to come
-pub all_written : (e : Emitter) (x : Encoding) (whole : List Item) → e.status ≡ Going
-    → is_ready e.held ≡ false → Completes e x [] whole → IsAll (text_of e) x whole
-unfolding Completes
-all_written e x whole g w h = all_by e.fresh e x whole g w h
+all_by false e x whole g w h = rw (← h.0) (all_at e.status e.course.settings e.course.state (text_of e) e.held whole refl g w h.1)

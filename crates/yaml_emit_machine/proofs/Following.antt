@@ -1,24 +1,20 @@
 -- Events that are laid out one after another.
-use Rattle.std.proofs.Common.{◌≡◌, ◌⊎◌, inl, inr, ℕ, zero, suc, ◌+◌, List, [], ◌∷◌, ◌++◌, Bool, true, false, refl, sym, subst, ◌∙◌, ap, arith, None}
+use Rattle.std.proofs.Common.{◌≡◌, ◌⊎◌, inl, inr, zero, suc, ◌+◌, List, [], ◌∷◌, ◌++◌, Bool, true, false, refl, sym, ◌∙◌, ap, arith, None}
 use Rattle.std.specs.Prelude.{not}
 use Rattle.std.proofs.lemmas.Bool.{false≢true, not-true, or_parts}
-use Rattle.yaml_emit_text.specs.declared.Encoding.{Encoding}
 use Rattle.yaml_emit_text.specs.declared.Status.TheVariants.{Going}
-use Rattle.yaml_emit_text.specs.Text.{encode}
 use Rattle.yaml_emit_text.specs.declared.Cursor.{Cursor}
-use Rattle.yaml_emit_text.specs.Layout.{Layout, stay, nothing_more}
-use Rattle.yaml_emit_text.specs.Sink.{Ends, Puts}
+use Rattle.yaml_emit_text.specs.Layout.{stay}
 use Rattle.yaml_emit_text.proofs.Sinks.{grows_none, grows_both}
 use Rattle.yaml_emit_layout.specs.Content.{Event, sequence_start, mapping_start}
-use Rattle.yaml_emit_layout.specs.State.{State, piece, next, problem_at, opens_empty}
+use Rattle.yaml_emit_layout.specs.State.{piece, next, problem_at, opens_empty}
 use Rattle.yaml_emit_state.specs.declared.Core.{Core}
-use Rattle.yaml_emit_state.specs.Steps.{state_of, settings_of, next_state, next_piece, LaysOut, IsPut, IsSame, Blames, takes_memory, is_document_start, goes_on}
-use Rattle.yaml_emit_state.specs.Finish.{Finishes}
+use Rattle.yaml_emit_state.specs.Steps.{state_of, settings_of, next_state, next_piece, LaysOut, IsPut, IsSame, takes_memory, is_document_start, goes_on}
 use Rattle.yaml_emit_state.proofs.Finishing.{finishes_on}
 use Rattle.yaml_emit_state.proofs.Noting.{notes_both, notes_within}
 use Rattle.yaml_emit_state.proofs.Settled.{settled}
 use Rattle.yaml_emit_machine.specs.Held.{is_ready, passes_by}
-use Rattle.yaml_emit_machine.specs.Judged.{refused_at, refusal_behind, LetsOut, first_wrong, LaysAll, take_memory, LaysSome, first_takes, first_starts, RefusesHeld}
+use Rattle.yaml_emit_machine.specs.Judged.{refused_at, take_memory, first_takes, first_starts, RefusesHeld}
 use Rattle.yaml_emit_machine.specs.Laying.{HasLaid, LaysEvents, is_undecided_at}
 use Rattle.yaml_emit_machine.proofs.Opening.{opens_none}
 use Rattle.yaml_emit_machine.proofs.Holding.{ready_empty}
@@ -34,15 +30,12 @@ Settles b e empty y = (es : List Event)
 lays_either : (old new : Core) (e : Event) (v w : Bool)
     → IsSame (settings_of old) (state_of old) e v w → LaysOut old new e v → LaysOut old new e w
 lays_either old new e v w h l =
-    let st : State = state_of old in
-    let R : Layout → Type 0 = λ t. Puts old.sink new.sink (next_piece (problem_at (settings_of old) st e) t) in
-    let S : Layout → Type 0 = λ t. Blames old new e (next_piece (problem_at (settings_of old) st e) t) in
     record {
       settings = l.settings;
-      state = λ g. l.state g ∙ ap (next_state (problem_at (settings_of old) st e) st) (h.1 new.sink.cursor);
-      text = subst R h.0 l.text;
+      state = λ g. l.state g ∙ ap (next_state (problem_at (settings_of old) (state_of old) e) (state_of old)) (h.1 new.sink.cursor);
+      text = rw (← h.0) l.text;
       memory = l.memory;
-      blames = subst S h.0 l.blames;
+      blames = rw (← h.0) l.blames;
     }
 
 settles_by : (b : Core) (e : Event) (empty : Bool) (y : List Event)
@@ -77,100 +70,72 @@ lays_none exact a h = record {
   left = λ n. n;
   laid = zero;
   rest = refl;
-  some = λ g m n is es whole f. let same : m ≡ n = omega (arith, is) in let P : ℕ → Type 0 = λ k. LaysSome k (settings_of a) (state_of a) a.sink (h ++ es) whole in subst P same f;
+  some = λ g m n is es whole f. let same : m ≡ n = omega (arith, is) in rw (← same) f;
   blames = λ off on. absurd (false≢true (sym off ∙ on));
 }
 
--- no event of a list takes memory outside the output
-none_takes : (e : Event) (es : List Event) → take_memory (e ∷ es) ≡ false
-    → (takes_memory e ≡ false) × (take_memory es ≡ false)
-none_takes e es h = or_parts (takes_memory e) (take_memory es) h
-
 -- which of the events it was, and what stands in the output then
-blamed : (exact : Bool) (a b c : Core) (h x y : List Event) (e : Event) (empty : Bool)
-    → LaysEvents exact a h b x
-    → x ≡ e ∷ y → refused_at b.place ≡ None → b.sink.status ≡ Going
+blamed : (exact : Bool) (a b c : Core) (h y : List Event) (e : Event) (empty : Bool)
+    → LaysEvents exact a h b (e ∷ y) → refused_at b.place ≡ None → b.sink.status ≡ Going
     → Settles b e empty y → takes_memory e ≡ true
-    → LaysOut b c e empty
     → (IsPut b.sink c.sink (next_piece (problem_at (settings_of b) (state_of b) e)
     (piece (settings_of b) (state_of b) e empty))
     ⊎ ((is_document_start e ≡ true) × IsPut b.sink c.sink stay))
     → RefusesHeld h (HasLaid a h c.sink.bytes)
-blamed exact a b c h x y e empty p same o g is takes l (inl put) = record {
+blamed exact a b c h y e empty p o g is takes (inl put) = record {
   front = p.laid;
-  takes = ap first_takes (p.rest ∙ same) ∙ takes;
+  takes = ap first_takes p.rest ∙ takes;
   stands = inl (λ es whole f.
-      let m : suc p.laid ≡ p.laid + suc zero = omega arith in
-      let P : List Event → Type 0 = λ z. LaysSome (suc zero) (settings_of b) (state_of b) b.sink (z ++ es) whole in
-      let Q : Encoding → Type 0 = λ z. encode z whole ≡ c.sink.bytes in
-      let R : Layout → Type 0 = λ t. Ends b.sink (next_piece (problem_at (settings_of b) (state_of b) e) t b.sink.cursor nothing_more) whole in
-      subst Q p.encoding (put whole (subst R (sym (is es).0) (some_one _ (settings_of b) (state_of b) b.sink e (y ++ es) whole o refl (subst P same (p.some g (suc p.laid) (suc zero) m es whole f))))));
+      rw (← p.encoding) (put whole (rw (is es).0 (some_one (settings_of b) (state_of b) b.sink e (y ++ es) whole o (p.some g (suc p.laid) (suc zero) (omega arith) es whole f)))));
 }
-blamed exact a b c h x y e empty p same o g is takes l (inr put) = record {
+blamed exact a b c h y e empty p o g is takes (inr put) = record {
   front = p.laid;
-  takes = ap first_takes (p.rest ∙ same) ∙ takes;
+  takes = ap first_takes p.rest ∙ takes;
   stands = inr (
-    ap first_starts (p.rest ∙ same) ∙ put.0,
+    ap first_starts p.rest ∙ put.0,
     λ es whole f.
-        let m : p.laid ≡ p.laid + zero = omega arith in
-        let Q : Encoding → Type 0 = λ z. encode z whole ≡ c.sink.bytes in
-        subst Q p.encoding (put.1 whole (some_none (settings_of b) (state_of b) b.sink (x ++ es) whole o (p.some g p.laid zero m es whole f))),
+        rw (← p.encoding) (put.1 whole (some_none (settings_of b) (state_of b) b.sink (e ∷ y ++ es) whole o (p.some g p.laid zero (omega arith) es whole f))),
   );
 }
 
-lays_more : (exact : Bool) (a b c : Core) (h x y : List Event) (e : Event) (empty : Bool)
-    → LaysEvents exact a h b x
-    → x ≡ e ∷ y → goes_on b.sink.status b.place ≡ true → (exact ≡ true → is_ready x ≡ true)
+lays_more : (exact : Bool) (a b c : Core) (h y : List Event) (e : Event) (empty : Bool)
+    → LaysEvents exact a h b (e ∷ y) → goes_on b.sink.status b.place ≡ true
+    → (exact ≡ true → is_ready (e ∷ y) ≡ true)
     → Settles b e empty y → LaysOut b c e empty → LaysEvents exact a h c y
-lays_more exact a b c h x y e empty p same goes r is l =
-    let Q : List Event → Type 0 = λ z. is_ready z ≡ true in
+lays_more exact a b c h y e empty p goes r is l =
     let o : refused_at b.place ≡ None = going_open b.sink.status b.place goes in
     let laid : (es : List Event) → LaysOut b c e (opens_empty e (y ++ es)) = λ es. lays_either b c e empty (opens_empty e (y ++ es)) (is es) l in
     record {
-      finishes = λ es whole f.
-          let P : List Event → Type 0 = λ z. Finishes (settings_of b) (state_of b) b.sink (z ++ es) whole in
-          finishes_on b c e (y ++ es) whole (laid es) (subst P same (p.finishes es whole f));
-      refuses = λ t g es.
-          refusal_on b c e (y ++ es) empty o (ready_more e y es (subst Q same (r t))) l g
-          ∙ (ap (λ z. refusal_behind (settings_of b) (state_of b) (z ++ es)) (sym same) ∙ p.refuses t (l.text.going g) es);
-      lets_out = λ t es whole f.
-          let P : List Event → Type 0 = λ z. LetsOut (settings_of b) (state_of b) b.sink (z ++ es) whole in
-          text_step b c e (y ++ es) whole o (ready_more e y es (subst Q same (r t))) (laid es) (subst P same (p.lets_out t es whole f));
-      first = λ g es.
-          wrong_on b c e (y ++ es) empty o l g
-          ∙ (ap (λ z. first_wrong (settings_of b) (state_of b) (z ++ es)) (sym same) ∙ p.first (l.text.going g) es);
-      lays = λ es whole f.
-          let P : List Event → Type 0 = λ z. LaysAll (settings_of b) (state_of b) b.sink (z ++ es) whole in
-          lays_first b c e (y ++ es) whole o (laid es) (subst P same (p.lays es whole f));
+      finishes = λ es whole f. finishes_on b c e (y ++ es) whole (laid es) (p.finishes es whole f);
+      refuses = λ t g es. refusal_on b c e (y ++ es) empty o (ready_more e y es (r t)) l g ∙ p.refuses t (l.text.going g) es;
+      lets_out = λ t es whole f. text_step b c e (y ++ es) whole o (ready_more e y es (r t)) (laid es) (p.lets_out t es whole f);
+      first = λ g es. wrong_on b c e (y ++ es) empty o l g ∙ p.first (l.text.going g) es;
+      lays = λ es whole f. lays_first b c e (y ++ es) whole o (laid es) (p.lays es whole f);
       grows = grows_both a.sink.bytes b.sink.bytes c.sink.bytes p.grows l.text.grows;
       going = λ g. p.going (l.text.going g);
       encoding = l.text.encoding ∙ p.encoding;
       limit = l.text.limit ∙ p.limit;
       memory = λ n.
           let k = notes_both (take_memory h) _ _ _ p.going l.text.going n in
-          l.memory (notes_within (take_memory h) (takes_memory e) _ _ (λ z. (none_takes e y (sym (ap take_memory same) ∙ p.left z)).0) k.1) ∙ p.memory k.0;
-      left = λ z. (none_takes e y (sym (ap take_memory same) ∙ p.left z)).1;
+          l.memory (notes_within (take_memory h) (takes_memory e) _ _ (λ z. (or_parts (takes_memory e) (take_memory y) (p.left z)).0) k.1) ∙ p.memory k.0;
+      left = λ z. (or_parts (takes_memory e) (take_memory y) (p.left z)).1;
       laid = suc p.laid;
-      rest = drop_next p.laid h e y (p.rest ∙ same);
-      some = λ g m n is es whole f.
-          let on : b.sink.status ≡ Going = l.text.going g in
-          let m' : m ≡ p.laid + suc n = omega (arith, is) in
-          let P : List Event → Type 0 = λ z. LaysSome (suc n) (settings_of b) (state_of b) b.sink (z ++ es) whole in
-          some_step n b c e (y ++ es) whole o (laid es) (subst P same (p.some on m (suc n) m' es whole f));
+      rest = drop_next p.laid h e y p.rest;
+      some = λ g m n is es whole f. some_step n b c e (y ++ es) whole o (laid es) (p.some (l.text.going g) m (suc n) (omega (arith, is)) es whole f);
       blames = λ off on.
           let on_still : b.sink.status ≡ Going = goes_going b.sink.status b.place goes in
           let off' : b.starved ≡ false = p.memory (going_notes (take_memory h) a.sink.status b.sink.status on_still) ∙ off in
           let takes : takes_memory e ≡ true = noted_takes (takes_memory e) b.sink.status c.sink.status b.starved c.starved off' on l.memory in
-          blamed exact a b c h x y e empty p same o on_still is takes l (l.blames.levels on_still off' on);
+          blamed exact a b c h y e empty p o on_still is takes (l.blames.levels on_still off' on);
     }
 
 -- the oldest of those that are held, with an event behind them
-pub lays_oldest : (exact : Bool) (a b c : Core) (h x z : List Event) (e f : Event)
-    → LaysEvents exact a h b x → x ≡ e ∷ (z ++ f ∷ []) → goes_on b.sink.status b.place ≡ true
-    → (exact ≡ true → is_ready x ≡ true) → LaysOut b c e (opens_empty e (z ++ f ∷ []))
-    → LaysEvents exact a h c (z ++ f ∷ [])
-lays_oldest exact a b c h x z e f p same goes r l =
-    lays_more exact a b c h x (z ++ f ∷ []) e (opens_empty e (z ++ f ∷ [])) p same goes r (settles_by b e (opens_empty e (z ++ f ∷ [])) (z ++ f ∷ []) (λ es. told e z f es)) l
+pub lays_oldest : (exact : Bool) (a b c : Core) (h held new z : List Event) (e f : Event)
+    → LaysEvents exact a h b (held ++ f ∷ []) → held ≡ e ∷ z → new ≡ z
+    → goes_on b.sink.status b.place ≡ true → (exact ≡ true → is_ready (held ++ f ∷ []) ≡ true)
+    → LaysOut b c e (opens_empty e (z ++ f ∷ [])) → LaysEvents exact a h c (new ++ f ∷ [])
+lays_oldest exact a b c h held new z e f p same n goes r l =
+    rw n (lays_more exact a b c h (z ++ f ∷ []) e _ (rw same at p) goes (rw same at r) (settles_by b e _ (z ++ f ∷ []) (λ es. told e z f es)) l)
 
 -- an event that isn't held
 pub lays_past : (early : Bool) (a b c : Core) (x h : List Event) (e : Event)
@@ -178,16 +143,11 @@ pub lays_past : (early : Bool) (a b c : Core) (x h : List Event) (e : Event)
     → passes_by early h (is_undecided_at b e) e ≡ true → LaysOut b c e false
     → LaysEvents (not early) a x c h
 lays_past false a b c x [] e j g p l =
-    lays_more true a b c x (e ∷ []) [] e false j refl g (λ t. p) (settles_by b e false [] (λ es. sym (ready_empty e [] es p ∙ opens_none e))) l
+    lays_more true a b c x [] e false j g (λ t. p) (settles_by b e false [] (λ es. sym (ready_empty e [] es p ∙ opens_none e))) l
 lays_past true a b c x [] e j g p l =
-    lays_more false a b c x (e ∷ []) [] e false j refl g (λ t. absurd (false≢true t)) (λ es. settled (settings_of b) (state_of b) e false (opens_empty e es) (not-true (is_undecided_at b e) p)) l
+    lays_more false a b c x [] e false j g (λ t. absurd (false≢true t)) (λ es. settled (settings_of b) (state_of b) e false (opens_empty e es) (not-true (is_undecided_at b e) p)) l
 lays_past false a b c x (f ∷ fs) e j g p l = absurd (cc)
 lays_past true a b c x (f ∷ fs) e j g p l = absurd (cc)
-
--- one that is
-pub lays_held : (exact : Bool) (a b : Core) (x y z : List Event) → z ≡ y → LaysEvents exact a x b y
-    → LaysEvents exact a x b z
-lays_held exact a b x y z same j = let P : List Event → Type 0 = λ t. LaysEvents exact a x b t in subst P (sym same) j
 
 -- ---- memory
 

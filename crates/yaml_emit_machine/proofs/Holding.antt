@@ -1,18 +1,16 @@
 -- What is held, and when it is laid out: the last events that were given.
-use Rattle.std.proofs.Common.{◌≡◌, ◌+◌, List, [], ◌∷◌, ◌++◌, length, Bool, true, false, refl, sym, subst, ◌∙◌, ap, arith, length-append, append_assoc}
-use Rattle.std.specs.Prelude.{not, ◌||◌, ◌&&◌, ◌≤◌, Option}
+use Rattle.std.proofs.Common.{◌≡◌, ◌+◌, List, [], ◌∷◌, ◌++◌, length, Bool, true, false, refl, sym, ◌∙◌, ap, arith, append_assoc}
+use Rattle.std.specs.Prelude.{not, ◌||◌, ◌&&◌, ◌≤◌, Option, map}
 use Rattle.std.proofs.lemmas.Bool.{false≢true, le-leb, not-false}
-use Rattle.yaml_emit_layout.specs.Content.{Event, no_event, sequence_start, mapping_start}
+use Rattle.yaml_emit_layout.specs.Content.{Event, no_event, sequence_start, mapping_start, emitter_event}
 use Rattle.yaml_emit_layout.specs.State.{opens_empty}
 use Rattle.yaml_emit_layout.specs.declared.Level.{Level}
 use Rattle.yaml_emit_state.specs.Due.{is_undecided}
-use Rattle.yaml_parse_model.specs.declared.yaml_event_body_t.{yaml_event_body_t}
+use Rattle.yaml_parse_model.specs.Events.{EventBody, body_of}
 use Rattle.yaml_emit_machine.specs.declared.held.Held.{Held}
 use Rattle.yaml_emit_machine.specs.declared.held.Count.{Count}
 use Rattle.yaml_emit_machine.specs.declared.held.Count.TheVariants.{Nothing}
-use Rattle.yaml_emit_machine.specs.declared.held.Slot.{Slot}
-use Rattle.yaml_emit_machine.specs.declared.held.Slot.TheVariants.{First, Second, Third}
-use Rattle.yaml_emit_machine.specs.Held.{is_ready, needs, closes, ends_level, releases, releases_by, passes, passes_early, passes_by, are_some, next, less, stands, filled, held_events, oldest_event, AreLast}
+use Rattle.yaml_emit_machine.specs.Held.{is_ready, needs, closes, ends_level, releases, releases_by, passes, passes_early, passes_by, are_some, back, all_held, later_bodies, held_events, oldest_event, later_events, AreLast}
 use Rattle.std.proofs.lemmas.List.{append-nil}
 
 -- Whether an event opens an empty collection is told by what has come, once it is ready: what follows changes nothing.
@@ -59,48 +57,10 @@ few_short (a ∷ b ∷ []) h = omega arith
 few_short (a ∷ b ∷ c ∷ []) h = omega arith
 few_short (a ∷ b ∷ c ∷ d ∷ xs) h = let k = three_enough a (b ∷ c ∷ d ∷ xs) (omega arith) in absurd (cc)
 
-pub pushed_most : (xs ys : List Event) (e : Event) → ys ≡ xs ++ e ∷ [] → length xs ≤ 2
-    → length ys ≤ 3
-pushed_most xs ys e same few =
-    let more : length ys ≡ length xs + 1 = ap (λ (zs : List Event). length zs) same ∙ length-append xs (e ∷ []) in
-    omega (arith, more, few)
-
-pub one_less : (xs ys : List Event) (e : Event) → xs ≡ e ∷ ys → length xs ≤ 3 → length ys ≤ 2
-one_less xs ys e same most =
-    let less : length xs ≡ length ys + 1 = ap (λ (zs : List Event). length zs) same ∙ omega arith in
-    omega (arith, less, most)
-
-pub less_most : (xs ys : List Event) (e : Event) → xs ≡ e ∷ ys → length xs ≤ 3 → length ys ≤ 3
-less_most xs ys e same most = let few = one_less xs ys e same most in omega (arith, few)
-
--- the same, with an event behind them
-pub one_gone : (xs ys : List Event) (e f : Event) → xs ≡ e ∷ ys → xs ++ f ∷ [] ≡ e ∷ ys ++ f ∷ []
-one_gone xs ys e f same = ap (λ (zs : List Event). zs ++ f ∷ []) same
-
 pub released_ready : (xs : List Event) (f : Event) → releases xs f ≡ true
     → is_ready (xs ++ f ∷ []) ≡ true
 released_ready [] f h = absurd (cc)
 released_ready (e ∷ es) f h = h
-
--- an event that comes behind three finds the oldest ready
-few_room : (xs : List Event) (f : Event) → releases xs f ≡ false → length xs ≤ 3 → length xs ≤ 2
-few_room [] f h m = omega arith
-few_room (a ∷ xs) f h m =
-    let few = few_short (a ∷ (xs ++ f ∷ [])) h in
-    let more = length-append xs (f ∷ []) in
-    omega (arith, few, more)
-
-few_room_by : (early : Bool) (xs : List Event) (f : Event) → releases_by early xs f ≡ false
-    → length xs ≤ 3 → length xs ≤ 2
-few_room_by false xs f h m = few_room xs f h m
-few_room_by true [] f h m = omega arith
-few_room_by true (e ∷ es) f h m = absurd (cc)
-
--- behind the last that is laid out two are left: they wait, or the output has stopped
-pub room_held : (early b : Bool) (xs : List Event) (f : Event)
-    → (releases_by early xs f && b) ≡ false → (b ≡ false → length xs ≤ 2) → length xs ≤ 3 → length xs ≤ 2
-room_held early true xs f h s m = few_room_by early xs f (both_false _ true refl h) m
-room_held early false xs f h s m = s refl
 
 -- what is let out is held, and, where it comes as it is ready, it is
 pub some_released : (early : Bool) (xs : List Event) (f : Event) → releases_by early xs f ≡ true
@@ -152,38 +112,35 @@ pushed_by_waits true [] ys canonical top f same r p =
     ap is_ready same ∙ undecided_waits canonical top f (not-false (is_undecided canonical top f) p)
 pushed_by_waits true (e ∷ es) ys canonical top f same r p = absurd (cc)
 
-in_slots : Count → Slot → yaml_event_body_t → yaml_event_body_t → yaml_event_body_t → Held
-in_slots k s a b c = record { count = k; oldest = s; first = a; second = b; third = c }
+first_held : (k : Count) (a : EventBody) (bs : List EventBody)
+    → are_some (map emitter_event (all_held k a bs)) ≡ true → all_held k a bs ≡ a ∷ bs
+first_held Nothing a bs r = absurd (cc)
+first_held _ a bs r = refl
 
-front_left : (k : Count) (s : Slot) (a b c x : yaml_event_body_t)
-    → are_some (held_events (in_slots k s a b c)) ≡ true
-    → let m = filled s x (in_slots k s a b c) in
-    held_events (in_slots k s a b c) ≡ oldest_event (in_slots k s a b c) ∷ held_events (record m { oldest = next m.oldest; count = less m.count })
-unfolding in_slots
-front_left Nothing s a b c x r = absurd (cc)
-front_left k First a b c x r = refl
-front_left k Second a b c x r = refl
-front_left k Third a b c x r = refl
+-- what is held, where any is
+pub oldest_first : (h : Held) → are_some (held_events h) ≡ true
+    → held_events h ≡ oldest_event h ∷ later_events h
+oldest_first h r = ap (map emitter_event) (first_held h.count (body_of h.first) (later_bodies h) r)
 
--- the oldest is gone, whatever stands in its slot
-pub left_behind : (old mid : Held) (k : Count) (s : Slot)
-    → mid ≡ filled old.oldest (stands old.oldest mid) old → s ≡ next mid.oldest → k ≡ less mid.count
-    → are_some (held_events old) ≡ true
-    → held_events old ≡ oldest_event old ∷ held_events (record mid { oldest = s; count = k })
-unfolding in_slots
-left_behind old mid k s m e n r =
-    let P : Held → Type 0 = λ z. held_events old ≡ oldest_event old ∷ held_events (record z { oldest = next z.oldest; count = less z.count }) in
-    let Q : Slot → Type 0 = λ z. held_events old ≡ oldest_event old ∷ held_events (record mid { oldest = z; count = less mid.count }) in
-    let R : Count → Type 0 = λ z. held_events old ≡ oldest_event old ∷ held_events (record mid { oldest = s; count = z }) in
-    subst R (sym n) (subst Q (sym e) (subst P (sym m) (front_left old.count old.oldest old.first old.second old.third (stands old.oldest mid) r)))
+most_by : (k : Count) (a b c : EventBody)
+    → length (map emitter_event (all_held k a (back k b c))) ≤ 3
+most_by Nothing a b c = omega arith
+most_by _ a b c = omega arith
+
+-- three are held at most
+pub three_most : (h : Held) → length (held_events h) ≤ 3
+three_most h = most_by h.count (body_of h.first) (body_of h.second) (body_of h.third)
+
+pub one_less : (h : Held) (xs : List Event) (e : Event) → held_events h ≡ e ∷ xs → length xs ≤ 2
+one_less h xs e same =
+    let most = three_most h in
+    let less = rw same at most in
+    omega (arith, less)
 
 -- where nothing is held, and nothing is decided behind it
 pub passes_decided : (held : List Event) (undecided : Bool) → are_some held ≡ false
     → undecided ≡ false → passes_early held undecided ≡ true
 passes_decided held undecided h u = rw (h, u) refl
-
-pub last_none : (xs : List Event) → AreLast xs xs
-last_none xs = ([], refl)
 
 -- the oldest is gone
 pub last_less : (all held left : List Event) (e : Event) → AreLast all held → held ≡ e ∷ left

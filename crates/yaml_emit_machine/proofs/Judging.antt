@@ -1,5 +1,5 @@
 -- An event that is laid out is judged, and what follows is judged and written as before.
-use Rattle.std.proofs.Common.{◌≡◌, ℕ, zero, suc, ◌+◌, drop, List, [], ◌∷◌, ◌++◌, length, Bool, true, false, refl, sym, subst, ◌∙◌, ap, arith, Option, Some, None, length-append}
+use Rattle.std.proofs.Common.{◌≡◌, ℕ, zero, suc, ◌+◌, drop, List, [], ◌∷◌, ◌++◌, length, Bool, true, false, refl, sym, ◌∙◌, ap, arith, Option, Some, None, length-append}
 use Rattle.std.specs.Prelude.{not, nat_le, ◌||◌, ◌&&◌}
 use Rattle.std.proofs.lemmas.Bool.Decides.{nat_tests}
 use Rattle.std.proofs.lemmas.Bool.{false≢true, or_right}
@@ -10,7 +10,7 @@ use Rattle.yaml_emit_text.specs.declared.Status.{Status}
 use Rattle.yaml_emit_text.specs.declared.Status.TheVariants.{Going}
 use Rattle.yaml_emit_text.specs.Text.{Item}
 use Rattle.yaml_emit_text.specs.Layout.{Layout, Rest, nothing_more}
-use Rattle.yaml_emit_text.specs.Sink.{Output, Ends, Puts}
+use Rattle.yaml_emit_text.specs.Sink.{Output, Ends}
 use Rattle.yaml_emit_text.proofs.Sinks.{ends_other, status_cases}
 use Rattle.yaml_emit_layout.specs.declared.Problem.{Problem}
 use Rattle.yaml_emit_layout.specs.declared.Level.{Level}
@@ -19,7 +19,7 @@ use Rattle.yaml_emit_layout.specs.declared.Phase.TheVariants.{Items, Keys, Value
 use Rattle.yaml_emit_layout.specs.declared.Expected.{Expected}
 use Rattle.yaml_emit_layout.specs.declared.Expected.TheVariants as at
 use Rattle.yaml_emit_layout.specs.Content.{Event, no_event, alias, scalar, sequence_start, sequence_end, mapping_start, mapping_end}
-use Rattle.yaml_emit_layout.specs.Grammar.{or_else, ends_phase, begins_node, may_come, node_problem, place_problem, problem_by, event_problem, last_problem}
+use Rattle.yaml_emit_layout.specs.Grammar.{or_else, ends_phase, begins_node, may_come, place_problem, problem_by, event_problem, last_problem}
 use Rattle.yaml_emit_layout.specs.Nodes.{Context, context_of}
 use Rattle.yaml_emit_layout.specs.State.{State, piece, next, next_at, problem_at, opens_empty, begins_by, is_sequence_end, is_mapping_end, top_of, outer_of, place_at, among, levels_behind, phase_behind}
 use Rattle.yaml_emit_state.specs.declared.Core.{Core}
@@ -27,36 +27,30 @@ use Rattle.yaml_emit_state.specs.Steps.{state_of, settings_of, next_state, next_
 use Rattle.yaml_emit_state.proofs.Finishing.{same_settings}
 use Rattle.yaml_emit_machine.specs.Held.{is_ready, needs, closes, opens_level, ends_level}
 use Rattle.yaml_emit_layout.specs.Progress.{Due, item_due, key_due, progress_after, inside, behind_node, outer_due, phase_due, level_due, problem_in, first_refusal}
-use Rattle.yaml_emit_machine.specs.Judged.{let_out, unless, laid, refused_at, due_in, due_of, shape_of, refusal_among, text_among, refusal_behind, LetsOut, first_wrong, LaysAll, laid_some, LaysSome}
+use Rattle.yaml_emit_machine.specs.Judged.{let_out, unless, laid, refused_at, due_in, due_of, shape_of, refusal_among, refusal_behind, LetsOut, first_wrong, LaysAll, laid_some, LaysSome}
 use Rattle.yaml_emit_machine.proofs.Holding.{none_needed}
 
 -- ---- what is ready stays so
 
-or_more : (a c b d : Bool) → (a ≡ true → c ≡ true) → (b ≡ true → d ≡ true) → (a || b) ≡ true
-    → (c || d) ≡ true
-or_more true c b d f g h = ap (λ z. z || d) (f refl)
-or_more false c b d f g h = or_right c d (g h)
-
-and_more : (a b d : Bool) → (b ≡ true → d ≡ true) → (a && b) ≡ true → (a && d) ≡ true
-and_more true b d f h = f h
-and_more false b d f h = h
+or_more : (a c n b d : Bool) → (a ≡ true → c ≡ true) → (b ≡ true → d ≡ true)
+    → (a || (n && b)) ≡ true → (c || (n && d)) ≡ true
+or_more true c n b d f g h = ap (λ z. z || (n && d)) (f refl)
+or_more false c true b d f g h = or_right c d (g h)
+or_more false c false b d f g h = absurd (cc)
 
 closes_more : (es more : List Event) → closes es ≡ true → closes (es ++ more) ≡ true
 closes_more [] more h = absurd (cc)
-closes_more (e ∷ es) more h = or_more (ends_level e) (ends_level e) (not (opens_level e) && closes es) (not (opens_level e) && closes (es ++ more)) (λ k. k) (and_more (not (opens_level e)) (closes es) (closes (es ++ more)) (closes_more es more)) h
-
-le_longer : (n a b : ℕ) → nat_le n a ≡ true → nat_le n (a + b) ≡ true
-le_longer n a b h = grind (arith, nat_tests)
+closes_more (e ∷ es) more h = or_more (ends_level e) (ends_level e) (not (opens_level e)) (closes es) (closes (es ++ more)) (λ k. k) (closes_more es more) h
 
 longer : (n : ℕ) (es more : List Event) → nat_le n (length es) ≡ true
     → nat_le n (length (es ++ more)) ≡ true
-longer n es more h = ap (nat_le n) (length-append es more) ∙ le_longer n (length es) (length more) h
+longer n es more h = rw (length-append es more) (grind (arith, nat_tests))
 
 -- An event that is ready stays so whatever follows.
 pub ready_more : (e : Event) (es more : List Event) → is_ready (e ∷ es) ≡ true
     → is_ready (e ∷ (es ++ more)) ≡ true
 unfolding is_ready
-ready_more e es more h = or_more (nat_le (needs e) (length es)) (nat_le (needs e) (length (es ++ more))) (closes es) (closes (es ++ more)) (longer (needs e) es more) (closes_more es more) h
+ready_more e es more h = or_more (nat_le (needs e) (length es)) (nat_le (needs e) (length (es ++ more))) true (closes es) (closes (es ++ more)) (longer (needs e) es more) (closes_more es more) h
 
 -- ---- the grammar looks at the shape alone
 
@@ -70,14 +64,10 @@ same_may : (ls : List Level) (e : Event)
 same_may [] e = refl
 same_may (l ∷ ls) e = ap (λ z. begins_node e || z) (same_ends l.phase e)
 
-same_node : (ls : List Level) (e : Event)
-    → node_problem (top_of ls) e ≡ node_problem (level_due (due_of ls)) e
-same_node ls e = rw (same_may ls e) refl
-
 same_place : (p : Expected) (ls : List Level) (e : Event)
     → place_problem p (top_of ls) e ≡ place_problem p (level_due (due_of ls)) e
 unfolding place_problem
-same_place at.Node ls e = same_node ls e
+same_place at.Node ls e = rw (same_may ls e) refl
 same_place _ ls e = refl
 
 -- A problem depends on the state's shape alone: on what is expected, open and named, and not on columns.
@@ -188,16 +178,10 @@ among_step : (s : Settings) (st new : State) (e : Event) (empty : Bool) (d : Cur
 unfolding first_refusal
 among_step s st new e empty d es None pe o same =
     let right : problem_in s.canonical (shape_of st) e ≡ None = sym (same_problem s st e) ∙ sym pe in
-    let front : refusal_among s.canonical st (e ∷ es) ≡ first_refusal s.canonical (progress_after (shape_of st) e) es =
-    or_none (refused_at st.place) _ o ∙ or_none _ _ right in
-    let back : refusal_among s.canonical (next s st e empty d) es ≡ first_refusal s.canonical (progress_after (shape_of st) e) es =
-    or_none _ _ (open_next s st e empty d o) ∙ ap (λ z. first_refusal s.canonical z es) (shape_next s st e empty d) in
-    ap (λ z. refusal_among s.canonical z es) same ∙ (back ∙ sym front)
+    rw (same, o, right, open_next s st e empty d o, shape_next s st e empty d) refl
 among_step s st new e empty d es (Some x) pe o same =
     let wrong : problem_in s.canonical (shape_of st) e ≡ Some x = sym (same_problem s st e) ∙ sym pe in
-    let front : refusal_among s.canonical st (e ∷ es) ≡ Some x =
-    or_none (refused_at st.place) _ o ∙ or_some _ _ x wrong in
-    ap (λ z. refusal_among s.canonical z es) same ∙ sym front
+    rw (same, o, wrong) refl
 
 -- ---- what is written
 
@@ -247,54 +231,44 @@ empty_out (sequence_start p) es = ends_begin is_sequence_end end_sequence es
 empty_out (mapping_start p) es = ends_begin is_mapping_end end_mapping es
 empty_out _ es = refl
 
--- what an event that was laid out has done, by what was wrong with it
-pub record Done (old new : Core) (e : Event) (empty : Bool) (p : Option Problem) : Type 0 where
-  pub problem : problem_at (settings_of old) (state_of old) e ≡ p
-  pub settings : settings_of new ≡ settings_of old
-  pub state : new.sink.status ≡ Going
-      → state_of new ≡ next_state p (state_of old)
-      (next (settings_of old) (state_of old) e empty new.sink.cursor)
-  pub text : Puts old.sink new.sink (next_piece p (piece (settings_of old) (state_of old) e empty))
-
-pub done : (old new : Core) (e : Event) (empty : Bool) → LaysOut old new e empty
-    → Done old new e empty (problem_at (settings_of old) (state_of old) e)
-done old new e empty l = record { problem = refl; settings = same_settings old new l.settings l.text.encoding; state = l.state; text = l.text }
-
 -- what is written for an event, and behind it what `body` tells
 ahead : (Settings → State → Layout) → Settings → State → Event → Bool → Layout
 ahead body s st e empty = unless (refused_at st.place) (unless (problem_at s st e)
     (λ c rest. piece s st e empty c (λ d. body s (next s st e empty d) d rest)))
 
--- Behind an event that was laid out the same is to come.
+-- Behind an event that was laid out the same is to come, by what was wrong with it.
 text_on : (p : Option Problem) (body : Settings → State → Layout) (old new : Core) (e : Event)
-    (empty : Bool) (whole : List Item) → refused_at old.place ≡ None → Done old new e empty p
+    (empty : Bool) (whole : List Item) → refused_at old.place ≡ None
+    → problem_at (settings_of old) (state_of old) e ≡ p → LaysOut old new e empty
     → Ends old.sink (ahead body (settings_of old) (state_of old) e empty old.sink.cursor nothing_more) whole
     → Ends new.sink (unless (refused_at new.place) (body (settings_of new) (state_of new)) new.sink.cursor nothing_more) whole
 unfolding ahead
-text_on None body old new e empty whole o l h =
+text_on None body old new e empty whole o is l h =
     let s : Settings = settings_of old in
     let st : State = state_of old in
-    let rest : Rest = λ d. body s (next s st e empty d) d nothing_more in
-    let P : List Item → Type 0 = λ t. Ends old.sink t whole in
-    let front = subst P (unless_none (refused_at st.place) _ _ _ o ∙ unless_none (problem_at s st e) _ _ _ l.problem) h in
-    let back : Ends new.sink (rest new.sink.cursor) whole = l.text.ends rest whole front in
+    let text = l.text in
+    let put = rw is at text in
+    let front = rw (o, is) at h in
+    let back = put.ends (λ d. body s (next s st e empty d) d nothing_more) whole front in
     status_cases new.sink.status
     (λ g.
-    let at : State = next s st e empty new.sink.cursor in
-    let same : unless (refused_at at.place) (body s at) new.sink.cursor nothing_more ≡ rest new.sink.cursor = unless_none _ _ _ _ (open_next s st e empty new.sink.cursor o) in
-    let Q : List Item → Type 0 = λ t. Ends new.sink t whole in
-    let R : State → Type 0 = λ z. Ends new.sink (unless (refused_at z.place) (body s z) new.sink.cursor nothing_more) whole in
-    let S : Settings → Type 0 = λ z. Ends new.sink (unless (refused_at new.place) (body z (state_of new)) new.sink.cursor nothing_more) whole in
-    subst S (sym l.settings) (subst R (sym (l.state g)) (subst Q (sym same) back)))
+    let state = l.state g in
+    let moved = rw is at state in
+    let there : refused_at new.place ≡ None = ap (λ (z : State). refused_at z.place) moved ∙ open_next s st e empty new.sink.cursor o in
+    rw (there, same_settings old new l.settings l.text.encoding, moved) back)
     (λ n. ends_other new.sink _ _ whole n back)
-text_on (Some x) body old new e empty whole o l h =
-    let s : Settings = settings_of old in
-    let st : State = state_of old in
-    let P : List Item → Type 0 = λ t. Ends old.sink t whole in
-    let front = subst P (unless_none (refused_at st.place) _ _ _ o ∙ unless_some (problem_at s st e) x _ _ _ l.problem) h in
-    let back : Ends new.sink [] whole = l.text.ends nothing_more whole front in
-    let R : State → Type 0 = λ z. Ends new.sink (unless (refused_at z.place) (body (settings_of new) z) new.sink.cursor nothing_more) whole in
-    status_cases new.sink.status (λ g. subst R (sym (l.state g)) back) (λ n. ends_other new.sink _ _ whole n back)
+text_on (Some x) body old new e empty whole o is l h =
+    let text = l.text in
+    let put = rw is at text in
+    let front = rw (o, is) at h in
+    let back : Ends new.sink [] whole = put.ends nothing_more whole front in
+    status_cases new.sink.status
+    (λ g.
+    let state = l.state g in
+    let moved = rw is at state in
+    let there : refused_at new.place ≡ Some x = ap (λ (z : State). refused_at z.place) moved in
+    rw there back)
+    (λ n. ends_other new.sink _ _ whole n back)
 
 -- an event that is laid out before those behind it are known
 pub lays_first : (b c : Core) (e : Event) (es : List Event) (whole : List Item)
@@ -302,7 +276,7 @@ pub lays_first : (b c : Core) (e : Event) (es : List Event) (whole : List Item)
     → LaysAll (settings_of b) (state_of b) b.sink (e ∷ es) whole
     → LaysAll (settings_of c) (state_of c) c.sink es whole
 unfolding LaysAll laid ahead
-lays_first b c e es whole o l h = text_on _ (λ s st. laid s st es) b c e _ whole o (done b c e _ l) h
+lays_first b c e es whole o l h = text_on _ (λ s st. laid s st es) b c e _ whole o refl l h
 
 -- the same of those that are let out
 pub text_step : (old new : Core) (e : Event) (es : List Event) (whole : List Item)
@@ -311,9 +285,8 @@ pub text_step : (old new : Core) (e : Event) (es : List Event) (whole : List Ite
     → LetsOut (settings_of new) (state_of new) new.sink es whole
 unfolding LetsOut LaysAll
 text_step old new e es whole o r l h =
-    let R : Bool → Type 0 = λ v. LaysOut old new e v in
-    let P : List Event → Type 0 = λ z. Ends old.sink (text_among (settings_of old) (state_of old) z old.sink.cursor nothing_more) whole in
-    lays_first old new e (let_out es) whole o (subst R (sym (empty_out e es)) l) (subst P (first_out e es r) h)
+    let first = rw (first_out e es r) at h in
+    lays_first old new e (let_out es) whole o (rw (empty_out e es) l) first
 
 -- ---- the first few
 
@@ -321,29 +294,21 @@ text_step old new e es whole o r l h =
 pub some_none : (s : Settings) (st : State) (o : Output) (es : List Event) (whole : List Item)
     → refused_at st.place ≡ None → LaysSome zero s st o es whole → Ends o [] whole
 unfolding LaysSome laid_some
-some_none s st o es whole open_still h =
-    let P : List Item → Type 0 = λ t. Ends o t whole in
-    subst P (unless_none (refused_at st.place) _ o.cursor nothing_more open_still) h
+some_none s st o es whole open_still h = rw open_still at h
 
--- one event, by what is wrong with it
-pub some_one : (p : Option Problem) (s : Settings) (st : State) (o : Output) (e : Event)
-    (es : List Event) (whole : List Item) → refused_at st.place ≡ None → problem_at s st e ≡ p
-    → LaysSome (suc zero) s st o (e ∷ es) whole
-    → Ends o (next_piece p (piece s st e (opens_empty e es)) o.cursor nothing_more) whole
+-- one event
+pub some_one : (s : Settings) (st : State) (o : Output) (e : Event) (es : List Event)
+    (whole : List Item) → refused_at st.place ≡ None → LaysSome (suc zero) s st o (e ∷ es) whole
+    → Ends o (next_piece (problem_at s st e) (piece s st e (opens_empty e es)) o.cursor nothing_more) whole
 unfolding LaysSome laid_some
-some_one None s st o e es whole open_still is h =
-    let P : List Item → Type 0 = λ t. Ends o t whole in
-    subst P (unless_none (refused_at st.place) _ _ _ open_still ∙ unless_none (problem_at s st e) _ _ _ is) h
-some_one (Some x) s st o e es whole open_still is h =
-    let P : List Item → Type 0 = λ t. Ends o t whole in
-    subst P (unless_none (refused_at st.place) _ _ _ open_still ∙ unless_some (problem_at s st e) x _ _ _ is) h
+some_one s st o e es whole open_still h = rw open_still at h
 
 pub some_step : (n : ℕ) (b c : Core) (e : Event) (es : List Event) (whole : List Item)
     → refused_at b.place ≡ None → LaysOut b c e (opens_empty e es)
     → LaysSome (suc n) (settings_of b) (state_of b) b.sink (e ∷ es) whole
     → LaysSome n (settings_of c) (state_of c) c.sink es whole
 unfolding LaysSome laid_some ahead
-some_step n b c e es whole o l h = text_on _ (λ s st. laid_some n s st es) b c e _ whole o (done b c e _ l) h
+some_step n b c e es whole o l h = text_on _ (λ s st. laid_some n s st es) b c e _ whole o refl l h
 
 -- ---- memory
 

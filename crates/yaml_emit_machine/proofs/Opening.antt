@@ -1,9 +1,7 @@
 -- Whether an event opens an empty collection.
-use Rattle.std.proofs.Common.{◌≡◌, List, [], ◌∷◌, Bool, false, refl, sym, subst}
+use Rattle.std.proofs.Common.{◌≡◌, List, [], ◌∷◌, false, refl}
 use Rattle.yaml_emit_layout.specs.Content.{Event, sequence_start, mapping_start}
 use Rattle.yaml_emit_layout.specs.State.{opens_empty, closes_by}
-use Rattle.yaml_emit_state.specs.declared.Core.{Core}
-use Rattle.yaml_emit_state.specs.Steps.{LaysOut}
 
 -- no event opens an empty collection at the end
 pub opens_none : (e : Event) → opens_empty e [] ≡ false
@@ -17,6 +15,3 @@ unfolding opens_empty
 opens_first (sequence_start p) f es = refl
 opens_first (mapping_start p) f es = refl
 opens_first _ f es = refl
-
-pub lays_as : (a b : Core) (e : Event) (v w : Bool) → w ≡ v → LaysOut a b e v → LaysOut a b e w
-lays_as a b e v w same l = let P : Bool → Type 0 = λ z. LaysOut a b e z in subst P (sym same) l

@@ -11,7 +11,7 @@ use Rattle.yaml_emit_text.specs.declared.Status.TheVariants.{Going}
 use Rattle.yaml_emit_text.specs.Text.{Item}
 use Rattle.yaml_emit_text.specs.Settings.{settled}
 use Rattle.yaml_emit_text.specs.Layout.{Layout, nothing_more, written}
-use Rattle.yaml_emit_text.specs.Sink.{Output, Ends, EndsBy}
+use Rattle.yaml_emit_text.specs.Sink.{Output, Ends}
 use Rattle.yaml_emit_text.proofs.Sinks.{grows_none, grows_both, grows_same, ends_other, status_cases}
 use Rattle.yaml_emit_layout.specs.declared.Problem.{Problem}
 use Rattle.yaml_emit_layout.specs.declared.Expected.TheVariants as at
@@ -19,6 +19,7 @@ use Rattle.yaml_emit_layout.specs.Content.{Event}
 use Rattle.yaml_emit_layout.specs.State.{State, placed}
 use Rattle.yaml_emit_state.specs.declared.Core.{Core}
 use Rattle.yaml_emit_state.specs.Steps.{state_of, settings_of, IsFreshCore}
+use Rattle.yaml_emit_state.specs.Finish.{Finishes}
 use Rattle.yaml_emit_state.proofs.Noting.{notes_both, notes_some}
 use Rattle.yaml_emit_machine.specs.Held.{held_events}
 use Rattle.yaml_emit_machine.specs.declared.held.Held.{Held}
@@ -29,8 +30,8 @@ use Rattle.yaml_emit_machine.specs.Laying.{LaysEvents}
 use Rattle.yaml_emit_machine.specs.Emitter.{Emitter, fault_by, refusal_by, stream_encoding, Completes}
 use Rattle.yaml_emit_machine.specs.Views.{emitter_of, IsEmitter}
 use Rattle.yaml_emit_machine.specs.Verdict.{verdict, Writes, wrong, Lays, LaysFirst, TellsOutcome}
-use Rattle.yaml_emit_machine.specs.Taking.{TakesEvents, GivesText, Stuck, NotesMemory, NotesMemoryOf, ComesIntoForce}
-use Rattle.yaml_emit_machine.proofs.Emitting.{stood, left, not_true, inside_begun, stopped_finishes, begin_finishes}
+use Rattle.yaml_emit_machine.specs.Taking.{TakesEvents, GivesText, Takes, Stuck, NotesMemory, NotesMemoryOf, ComesIntoForce}
+use Rattle.yaml_emit_machine.proofs.Emitting.{left, inside_begun, stopped_at, begin_finishes}
 use Rattle.yaml_emit_machine.proofs.Judging.{or_some, unless_some}
 
 -- ---- one call behind another
@@ -90,20 +91,11 @@ pub takes_stuck : (old new : Emitter) (e : Event) (es : List Event)
     → TakesEvents old (e ∷ []) new [] → Stuck new → TakesEvents old (e ∷ es) new []
 takes_stuck old new e es t s = takes_on old new new (e ∷ es) es [] (takes_first old new e es t) (s es [])
 
--- An event that was taken has begun the output.
-pub taken_begun : (old new : Emitter) (e : Event) → TakesEvents old (e ∷ []) new []
-    → new.fresh ≡ false
-taken_begun old new e t = not_true new.fresh (λ f. not_first e [] (t.begun f).1)
-
--- Output that has begun stays begun.
-pub still_begun : (old new : Emitter) (es left : List Event) → TakesEvents old es new left
-    → old.fresh ≡ false → new.fresh ≡ false
-still_begun old new es left t o = not_true new.fresh (λ f. let k = (t.begun f).0 in cc)
-
 -- What one event notes of memory may be noted of any.
 pub notes_any : (e : Event) (old new : Emitter) → NotesMemoryOf e old new → NotesMemory true old new
 notes_any e old new m = λ n. m (notes_some (take_memory (old.held ++ e ∷ [])) old.status new.status n)
 
+-- What is noted of memory by one call and the next is noted by both.
 pub notes_on : (a b c : Emitter) → (b.status ≡ Going → a.status ≡ Going)
     → (c.status ≡ Going → b.status ≡ Going) → NotesMemory true a b → NotesMemory true b c
     → NotesMemory true a c
@@ -111,14 +103,13 @@ notes_on a b c p q m n = λ h. let k = notes_both true a.status b.status c.statu
 
 -- ---- an event was given
 
-pub inside_gives : (exact : Bool) (i : Inside) (core : Core) (held : Held) (fault : Option Fault)
+inside_gives : (exact : Bool) (i : Inside) (core : Core) (held : Held) (fault : Option Fault)
     (e : Event) → i.fresh ≡ false
     → LaysEvents exact i.core (held_events i.held ++ e ∷ []) core (held_events held)
     → GivesText (emitter_of i) e (left i core i.fresh (held_events held) fault)
 unfolding Completes wrong Lays
 inside_gives exact i core held fault e fr l =
-    let P : Bool → Type 0 = λ b. GivesText (stood i b (held_events i.held)) e (left i core b (held_events held) fault) in
-    subst P (sym fr) (record {
+    rw fr (record {
       completes = λ x es whole c. (l.encoding ∙ c.0, l.finishes es whole (rw append_assoc c.1));
       first = λ g es. l.first g es ∙ ap (first_wrong (settings_of i.core) (state_of i.core)) (append_assoc (held_events i.held) (e ∷ []) es);
       lays = λ x es whole c. (l.encoding ∙ c.0, l.lays es whole (rw append_assoc c.1));
@@ -127,16 +118,15 @@ inside_gives exact i core held fault e fr l =
       limit = l.limit;
     })
 
-pub inside_takes : (i : Inside) (core : Core) (held : Held) (fault : Option Fault) (e : Event)
+inside_takes : (i : Inside) (core : Core) (held : Held) (fault : Option Fault) (e : Event)
     → i.fresh ≡ false → i.core.sink.status ≡ Going
     → LaysEvents true i.core (held_events i.held ++ e ∷ []) core (held_events held)
     → TakesEvents (emitter_of i) (e ∷ []) (left i core i.fresh (held_events held) fault) []
 unfolding verdict Writes
 inside_takes i core held fault e fr on l =
-    let P : Bool → Type 0 = λ b. GivesText (stood i b (held_events i.held)) e (left i core b (held_events held) fault) in
-    let Q : Bool → Type 0 = λ b. TakesEvents (stood i b (held_events i.held)) (e ∷ []) (left i core b (held_events held) fault) [] in
-    let given = subst P fr (inside_gives true i core held fault e fr l) in
-    subst Q (sym fr) (record {
+    let whole = inside_gives true i core held fault e fr l in
+    let given = rw fr at whole in
+    rw fr (record {
       completes = given.completes;
       refuses = λ g es. l.refuses refl g es ∙ ap (refusal_behind (settings_of i.core) (state_of i.core)) (append_assoc (held_events i.held) (e ∷ []) es);
       writes = λ x es whole c. (l.encoding ∙ c.0, l.lets_out refl es whole (rw append_assoc c.1));
@@ -149,13 +139,19 @@ inside_takes i core held fault e fr on l =
       begun = λ f. absurd (false≢true f);
     })
 
+pub inside_text : (exact : Bool) (i : Inside) (core : Core) (held : Held) (fault : Option Fault)
+    (e : Event) → i.fresh ≡ false → i.core.sink.status ≡ Going
+    → LaysEvents exact i.core (held_events i.held ++ e ∷ []) core (held_events held)
+    → Takes exact (emitter_of i) e (left i core i.fresh (held_events held) fault)
+inside_text true i core held fault e fr on l = inside_takes i core held fault e fr on l
+inside_text false i core held fault e fr on l = inside_gives false i core held fault e fr l
+
 -- ---- the settings came into force
 
 pub ends_new : (o : Output) (t : List Item) → o.bytes ≡ [] → o.status ≡ Going → Ends o t t
 unfolding Ends
 ends_new o t b g =
-    let P : Status → Type 0 = λ z. EndsBy z o.limit o.encoding o.bytes t t in
-    subst P (sym g) (rw b refl, (rw b (omega arith), (refl, rw b refl)))
+    rw (g, b) (refl, (omega arith, (refl, refl)))
 
 -- a text that is laid out from a stream's start on, and its encoding
 begin_text : (a : Settings → State → Layout) (core : Core) (s : Settings) (x : Encoding)
@@ -169,8 +165,7 @@ begin_text a core s x whole f coded is =
     ∙ ap (λ (z : State). a s z core.sink.cursor nothing_more) f.state
     ∙ ap (λ (z : Cursor). a s (placed at.StreamStart) z nothing_more) f.cursor
     ∙ sym is in
-    let P : List Item → Type 0 = λ t. Ends core.sink t whole in
-    (ap (λ (z : Settings). z.encoding) f.settings ∙ sym coded, subst P (sym same) (ends_new core.sink whole f.output f.status))
+    (ap (λ (z : Settings). z.encoding) f.settings ∙ sym coded, rw same (ends_new core.sink whole f.output f.status))
 
 begin_wrong : (core : Core) (s : Settings) (es : List Event) → IsFreshCore core s
     → first_wrong (settings_of core) (state_of core) es
@@ -187,12 +182,9 @@ pub inside_begins : (i : Inside) (core : Core) (e : Event) (s : Settings) (z : y
 unfolding Completes verdict Writes wrong Lays LaysFirst refusal_behind first_wrong LetsOut LaysAll LaysSome
 inside_begins i core e s z inv fr a b f most =
     let s' : Settings = settled i.requested_settings (stream_encoding e) in
-    let F : Settings → Type 0 = λ t. IsFreshCore core t in
-    let f' : IsFreshCore core s' = subst F (a ∙ ap (settled i.requested_settings) b) f in
+    let f' : IsFreshCore core s' = rw (← a ∙ ap (settled i.requested_settings) b) f in
     let was : i.core.sink.status ≡ Going = (inv.begun fr).1.1.1 in
-    let P : Bool → Type 0 = λ b. ComesIntoForce (stood i b (held_events i.held)) e (left i core false (held_events i.held) (option_map fault_of i.fault)) in
-    let Q : List Event → Type 0 = λ h. ComesIntoForce (stood i true h) e (left i core false h (option_map fault_of i.fault)) in
-    subst P (sym fr) (subst Q (sym (inv.begun fr).0) (record {
+    rw (fr, (inv.begun fr).0) (record {
       takes = record {
         completes = λ x es whole c. begin_finishes core i.requested_settings e x es whole f' c;
         refuses = λ g es. begin_wrong core s' (let_out (e ∷ es)) f';
@@ -212,7 +204,7 @@ inside_begins i core e s z inv fr a b f most =
       starved = f.starved ∙ sym (inv.memory was);
       front = λ n x more whole c. begin_text (λ s st. some_among n s st (e ∷ more)) core s' x whole f' c.coded c.is;
       keeps = (refl, refl);
-    }))
+    })
 
 -- ---- behind a fault
 
@@ -246,12 +238,11 @@ stuck_all core f xs ys whole h e =
 
 pub inside_stuck : (i : Inside) → IsEmitter i → (f : Fault) → option_map fault_of i.fault ≡ Some f
     → Stuck (emitter_of i)
-unfolding Completes verdict Writes wrong Lays refusal_behind first_wrong LetsOut LaysAll
+unfolding Completes Finishes verdict Writes wrong Lays refusal_behind first_wrong LetsOut LaysAll
 inside_stuck i inv f is =
-    let P : Bool → Type 0 = λ b. Stuck (stood i b (held_events i.held)) in
     let h = sym inv.faulty ∙ is in
-    subst P (sym (inside_begun i inv f is)) (λ es left. record {
-      completes = λ x more whole c. (c.0, stopped_finishes i.core f _ _ whole h c.1);
+    rw (inside_begun i inv f is) (λ es left. record {
+      completes = λ x more whole c. (c.0, stopped_at i.core.sink.status (settings_of i.core) (state_of i.core) i.core.sink i.core.starved f _ _ whole h c.1);
       refuses = λ g more. stuck_first i.core f (let_out (held_events i.held ++ (left ++ more))) (let_out (held_events i.held ++ (es ++ more))) h g;
       writes = λ x more whole c. (c.0, stuck_all i.core f (let_out (held_events i.held ++ (es ++ more))) (let_out (held_events i.held ++ (left ++ more))) whole h c.1);
       first = λ g more. stuck_first i.core f (held_events i.held ++ (left ++ more)) (held_events i.held ++ (es ++ more)) h g;
@@ -286,13 +277,13 @@ takes_as_marked old mid es left o k t = record {
 pub takes_marked : (old mid new : Emitter) (es left : List Event) (o k : Bool)
     → new ≡ record mid { opened = o; closed = k } → TakesEvents old es mid left
     → TakesEvents old es new left
-takes_marked old mid new es left o k same t = let P : Emitter → Type 0 = λ z. TakesEvents old es z left in subst P (sym same) (takes_as_marked old mid es left o k t)
+takes_marked old mid new es left o k same t = rw same (takes_as_marked old mid es left o k t)
 
 -- Marking the stream open or closed changes nothing of what is noted.
 pub notes_marked : (e : Event) (old mid new : Emitter) (o k : Bool)
     → new ≡ record mid { opened = o; closed = k } → NotesMemoryOf e old mid
     → NotesMemoryOf e old new
-notes_marked e old mid new o k same m = let P : Emitter → Type 0 = λ z. NotesMemoryOf e old z in subst P (sym same) m
+notes_marked e old mid new o k same m = rw same m
 
 tells_as_marked : (mid : Emitter) (o k : Bool) → TellsOutcome mid
     → TellsOutcome (record mid { opened = o; closed = k })
@@ -309,4 +300,4 @@ tells_as_marked mid o k t = record {
 -- Marking the stream open or closed changes nothing of what is told.
 pub tells_marked : (mid new : Emitter) (o k : Bool) → new ≡ record mid { opened = o; closed = k }
     → TellsOutcome mid → TellsOutcome new
-tells_marked mid new o k same t = let P : Emitter → Type 0 = λ z. TellsOutcome z in subst P (sym same) (tells_as_marked mid o k t)
+tells_marked mid new o k same t = rw same (tells_as_marked mid o k t)

@@ -1,86 +1,47 @@
 -- The events that are held.
 use Rattle.std.specs.Prelude.{◌≡◌, ℕ, Bool, true, false, if◌then◌else◌, not, ◌&&◌, ◌||◌, nat_le, List, [], ◌∷◌, ◌++◌, length, map, All}
-use Rattle.yaml_parse_model.specs.declared.yaml_event_body_t.{yaml_event_body_t}
 use Rattle.yaml_parse_model.specs.Events.{EventBody, body_of}
 use Rattle.yaml_parse_model.specs.Constructors.{HasUtf8}
 use Rattle.yaml_emit_layout.specs.Content.{Event, no_event, stream_start, stream_end, document_start, document_end, alias, scalar, sequence_start, sequence_end, mapping_start, mapping_end, emitter_event}
 use Rattle.yaml_emit_machine.specs.declared.held.Held.{Held}
 use Rattle.yaml_emit_machine.specs.declared.held.Count.{Count}
 use Rattle.yaml_emit_machine.specs.declared.held.Count.TheVariants.{Nothing, One, Two, Three}
-use Rattle.yaml_emit_machine.specs.declared.held.Slot.{Slot}
-use Rattle.yaml_emit_machine.specs.declared.held.Slot.TheVariants.{First, Second, Third}
 
--- the slot behind it, in a circle
-abbrev pub next : Slot → Slot
-next First = Second
-next Second = Third
-next Third = First
+-- those behind the oldest one, of so many in all
+abbrev pub back : Count → EventBody → EventBody → List EventBody
+back Nothing b c = []
+back One b c = []
+back Two b c = b ∷ []
+back Three b c = b ∷ c ∷ []
 
--- the slot so many behind it
-abbrev pub behind : Slot → Count → Slot
-behind s Nothing = s
-behind s One = next s
-behind s Two = next (next s)
-behind s Three = s
+-- the oldest one and those behind it, where any is held
+abbrev pub all_held : Count → EventBody → List EventBody → List EventBody
+all_held Nothing a bs = []
+all_held One a bs = a ∷ bs
+all_held Two a bs = a ∷ bs
+all_held Three a bs = a ∷ bs
 
--- what stands in a slot
-abbrev pub stands : Slot → Held → yaml_event_body_t
-stands First h = h.first
-stands Second h = h.second
-stands Third h = h.third
-
--- the same, with that event in that slot
-abbrev pub filled : Slot → yaml_event_body_t → Held → Held
-filled First e h = record h { first = e }
-filled Second e h = record h { second = e }
-filled Third e h = record h { third = e }
-
--- the front of three
-abbrev pub front : Count → EventBody → EventBody → EventBody → List EventBody
-front Nothing a b c = []
-front One a b c = a ∷ []
-front Two a b c = a ∷ b ∷ []
-front Three a b c = a ∷ b ∷ c ∷ []
-
--- that event as contracts see it
-abbrev pub body_in : Slot → Held → EventBody
-body_in s h = body_of (stands s h)
+abbrev pub later_bodies : Held → List EventBody
+later_bodies h = back h.count (body_of h.second) (body_of h.third)
 
 -- the oldest first
 abbrev pub held_bodies : Held → List EventBody
-held_bodies h = front h.count (body_in h.oldest h) (body_in (next h.oldest) h)
-    (body_in (next (next h.oldest)) h)
+held_bodies h = all_held h.count (body_of h.first) (later_bodies h)
 
 abbrev pub held_events : Held → List Event
 held_events h = map emitter_event (held_bodies h)
 
 -- the event in the oldest's slot
 abbrev pub oldest_event : Held → Event
-oldest_event h = emitter_event (body_in h.oldest h)
-
-abbrev pub later : List Event → List Event
-later [] = []
-later (e ∷ es) = es
+oldest_event h = emitter_event (body_of h.first)
 
 -- those behind the oldest
 abbrev pub later_events : Held → List Event
-later_events h = later (held_events h)
+later_events h = map emitter_event (later_bodies h)
 
 -- their texts are UTF-8
 abbrev pub HeldUtf8 : Held → Type 0
 HeldUtf8 h = All HasUtf8 (held_bodies h)
-
-abbrev pub more : Count → Count
-more Nothing = One
-more One = Two
-more Two = Three
-more Three = Three
-
-abbrev pub less : Count → Count
-less Nothing = Nothing
-less One = Nothing
-less Two = One
-less Three = Two
 
 -- it opens a level
 abbrev pub opens_level : Event → Bool

@@ -15,7 +15,7 @@ use Rattle.yaml_emit_layout.specs.Content.{Event}
 use Rattle.yaml_emit_layout.specs.Grammar.{or_else}
 use Rattle.yaml_emit_layout.specs.Progress.{Due, item_due, key_due, value_due, Progress, first_refusal}
 use Rattle.yaml_emit_layout.specs.State.{State, piece, next, problem_at, opens_empty}
-use Rattle.yaml_emit_state.specs.Steps.{takes_memory, is_document_start}
+use Rattle.yaml_emit_state.specs.Steps.{next_piece, takes_memory, is_document_start}
 use Rattle.yaml_emit_machine.specs.Held.{is_ready}
 
 -- The events of a list that are let out: all in front of the first one that is still held.
@@ -29,8 +29,7 @@ AreOut es = (more : List Event) → let_out (es ++ more) ≡ es ++ let_out more
 
 -- unless there is a problem
 abbrev pub unless : Option Problem → Layout → Layout
-unless None a = a
-unless (Some p) a = stay
+unless p a = next_piece p a
 
 -- what is written for the events of a list, up to the first one that is refused
 unfoldable pub laid : Settings → State → List Event → Layout

@@ -1,5 +1,5 @@
 -- What laying out what is held does to the state that lays it out: the clauses of private calls alone cite it.
-use Rattle.std.specs.Prelude.{◌≡◌, ◌≤◌, Bool, true, false, ℕ, ◌+◌, List, [], ◌∷◌, ◌++◌, drop, length}
+use Rattle.std.specs.Prelude.{◌≡◌, Bool, true, false, ℕ, ◌+◌, List, [], ◌∷◌, ◌++◌, drop}
 use Rattle.yaml_emit_text.specs.declared.Status.TheVariants.{Going}
 use Rattle.yaml_emit_text.specs.Text.{Item, encode}
 use Rattle.yaml_emit_text.specs.Sink.{Grows}
@@ -69,7 +69,6 @@ pub record HoldsOrLays (exact : Bool) (old : Core) (held : Held) (e : Event) (ne
     (left : Held) : Type 0 where
   pub lays : LaysEvents exact old (held_events held ++ e ∷ []) new (held_events left)
   pub utf8 : HeldUtf8 left
-  pub short : length (held_events left) ≤ 3
   pub waits : goes_on new.sink.status new.place ≡ true → is_ready (held_events left) ≡ false
   pub last : AreLast (held_events held ++ e ∷ []) (held_events left)
   pub settings : new.settings ≡ old.settings

@@ -89,24 +89,21 @@ abbrev pub BlamesLevels : Event → Emitter → Emitter → Type 0
 BlamesLevels e old new = old.starved ≡ false → new.starved ≡ true
     → RefusesHeld (old.held ++ e ∷ []) (HasFirst old (e ∷ []) new.output)
 
--- What is said of an event that was given: at most three are held, and the stream is open, or closed, as it was.
-pub record TakesOne (old : Emitter) (e : Event) (new : Emitter) : Type 0 where
-  pub takes : TakesEvents old (e ∷ []) new []
-  pub memory : NotesMemoryOf e old new
-  pub blames : BlamesLevels e old new
-  pub few : length new.held ≤ 3
-  pub opened : Keeps old new
-  -- what is held are the last that were given
-  pub last : AreLast (old.held ++ e ∷ []) new.held
+-- an event was taken, or, where its text is wanted as soon as it may be, was given so
+abbrev pub Takes : Bool → Emitter → Event → Emitter → Type 0
+Takes true old e new = TakesEvents old (e ∷ []) new []
+Takes false old e new = GivesText old e new
 
--- the same where its text is wanted as soon as it may be
-pub record GivesOne (old : Emitter) (e : Event) (new : Emitter) : Type 0 where
-  pub text : GivesText old e new
+-- What is said of an event that was given, exactly or early: at most three are held, and the stream is open, or closed, as it was.
+pub record TakesOne (exact : Bool) (old : Emitter) (e : Event) (new : Emitter) : Type 0 where
+  pub takes : Takes exact old e new
   pub memory : NotesMemoryOf e old new
   pub blames : BlamesLevels e old new
   pub few : length new.held ≤ 3
   pub opened : Keeps old new
   pub begun : new.fresh ≡ false
+  -- what is held are the last that were given
+  pub last : AreLast (old.held ++ e ∷ []) new.held
 
 -- The settings came into force in front of the first event, which is still to come.
 pub record ComesIntoForce (old : Emitter) (e : Event) (new : Emitter) : Type 0 where

@@ -1,5 +1,5 @@
 -- What a clause sees of an emitter, by the state of the code, and what is true of that state.
-use Rattle.std.specs.Prelude.{◌≡◌, ◌≤◌, true, false, [], length, None, option_map}
+use Rattle.std.specs.Prelude.{◌≡◌, true, false, [], None, option_map}
 use Rattle.yaml_scan_model.specs.Faults.{fault_of}
 use Rattle.yaml_emit_text.specs.declared.Status.TheVariants.{Going}
 use Rattle.yaml_emit_state.specs.Steps.{state_of, settings_of, goes_on}
@@ -32,7 +32,6 @@ pub record IsEmitter (e : Inside) : Type 0 where
   pub faulty : option_map fault_of e.fault
       ≡ refusal_by e.core.place e.core.sink.status e.core.starved
   pub few : goes_on e.core.sink.status e.core.place ≡ true → is_ready (held_events e.held) ≡ false
-  pub short : length (held_events e.held) ≤ 3
   pub texts : HeldUtf8 e.held
   pub begun : e.fresh ≡ true → (held_events e.held ≡ [])
       × ((option_map fault_of e.fault ≡ None)

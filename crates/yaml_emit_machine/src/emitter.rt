@@ -12,7 +12,7 @@ ghost use Rattle.yaml_emit_machine.specs.Held.{AreLast};
 ghost use Rattle.yaml_emit_machine.specs.Within.{IsWithin};
 ghost use Rattle.yaml_emit_machine.specs.Verdict.{TellsOutcome};
 ghost use Rattle.yaml_emit_machine.specs.Dumping.{LaysOne};
-ghost use Rattle.yaml_emit_machine.specs.Taking.{TakesEvents, GivesText, TakesOne, GivesOne, LaysAtOnce, AwaitsNode, Stuck, NotesMemoryOf, BlamesLevels, ComesIntoForce};
+ghost use Rattle.yaml_emit_machine.specs.Taking.{TakesEvents, GivesText, TakesOne, LaysAtOnce, AwaitsNode, Stuck, NotesMemoryOf, BlamesLevels, ComesIntoForce};
 
 mod dump;
 mod resume;
@@ -154,6 +154,7 @@ pub fn set_closed(emitter: &mut yaml_emitter_t, closed: bool)
 /// The first fault.
 // Inlined: one look at it.
 #[inline(always)]
+#[tactic(auto, using(crate::proofs::Emitting::inside_tells))]
 pub fn first_fault(emitter: &yaml_emitter_t) -> Option<&yaml_fault_t>
     ensures is { option_map (λ f. fault_of f.now) result ≡ emitter.now.fault }
     ensures tells { TellsOutcome emitter.now }
@@ -205,7 +206,7 @@ impl yaml_emitter_t {
         requires utf8 { HasUtf8 (body_of event.old) }
         requires right { self.old.fault ≡ None }
         requires begun { self.old.fresh ≡ false }
-        ensures { TakesOne self.old (emitter_event (body_of event.old)) self.new }
+        ensures { TakesOne true self.old (emitter_event (body_of event.old)) self.new }
     {
         hold_or_lay(&mut self.core, &mut self.held, event, false);
         note(&self.core, &mut self.fault);
@@ -231,7 +232,7 @@ impl yaml_emitter_t {
         requires utf8 { HasUtf8 (body_of event.old) }
         requires right { self.old.fault ≡ None }
         requires begun { self.old.fresh ≡ false }
-        ensures { GivesOne self.old (emitter_event (body_of event.old)) self.new }
+        ensures { TakesOne false self.old (emitter_event (body_of event.old)) self.new }
     {
         hold_or_lay_early(&mut self.core, &mut self.held, event);
         note(&self.core, &mut self.fault);
@@ -288,7 +289,7 @@ impl yaml_emitter_t {
     fn begin_or_lay(&mut self, event: &mut yaml_event_body_t)
         requires utf8 { HasUtf8 (body_of event.old) }
         requires right { self.old.fault ≡ None }
-        ensures { TakesOne self.old (emitter_event (body_of event.old)) self.new }
+        ensures { TakesOne true self.old (emitter_event (body_of event.old)) self.new }
     {
         if self.fresh {
             self.begin(event);
@@ -302,6 +303,7 @@ impl yaml_emitter_t {
 /// The first fault, if there is one, as a call answers it.
 // Inlined: one look at the fault.
 #[inline(always)]
+#[tactic(auto, using(crate::proofs::Emitting::inside_tells))]
 pub fn answer(emitter: &yaml_emitter_t) -> Result<(), yaml_fault_t>
     ensures answer { Answers emitter.now.fault result }
     ensures tells { TellsOutcome emitter.now }
@@ -378,23 +380,4 @@ pub fn take_event_over(emitter: &mut yaml_emitter_t, event: yaml_event_body_t)
     let mut event = event;
     take_event(emitter, &mut event);
     drop(event);
-}
-
-/// The same, and the answer.
-pub fn emit(emitter: &mut yaml_emitter_t, event: yaml_event_body_t) -> Result<(), yaml_fault_t>
-    requires { HasUtf8 (body_of event) }
-    ensures takes { TakesEvents emitter.old (emitter_event (body_of event) ∷ []) emitter.new [] }
-    ensures memory { NotesMemoryOf (emitter_event (body_of event)) emitter.old emitter.new }
-    ensures blames { BlamesLevels (emitter_event (body_of event)) emitter.old emitter.new }
-    ensures answer { Answers emitter.new.fault result }
-    ensures tells { TellsOutcome emitter.new }
-    ensures stays { Stays emitter.old emitter.new }
-    ensures few { length emitter.new.held ≤ 3 }
-    ensures opened { (emitter.new.opened ≡ emitter.old.opened)
-        × (emitter.new.closed ≡ emitter.old.closed) }
-    ensures begun { emitter.new.fresh ≡ false }
-    ensures stuck { OnErr result (Stuck emitter.new) }
-{
-    take_event_over(emitter, event);
-    answer(emitter)
 }

@@ -82,25 +82,17 @@ fn refused(place: Expected) -> Option<yaml_fault_t>
     }
 }
 
-// The fault of what has stopped the output, or else of a refused event.
-pub(crate) fn refusal(core: &Core) -> Option<yaml_fault_t>
-    ensures { option_map fault_of result ≡ refusal_by core.now.place core.now.sink.status
-        core.now.starved }
-{
-    match core.sink().status() {
-        Status::Going => refused(core.place()),
-        status => stopped(status, core.is_starved()),
-    }
-}
-
-// Notes the fault of what has stopped the output, or of a refused event.
+// Notes the fault of what has stopped the output, or else of a refused event.
 // Out of line: it is met once at most, and a fault's room would be set to zero for each event.
 #[inline(never)]
-fn note_refusal(core: &Core, fault: &mut Option<yaml_fault_t>)
+pub(crate) fn note_refusal(core: &Core, fault: &mut Option<yaml_fault_t>)
     ensures { option_map fault_of fault.new ≡ refusal_by core.now.place core.now.sink.status
         core.now.starved }
 {
-    *fault = refusal(core);
+    *fault = match core.sink().status() {
+        Status::Going => refused(core.place()),
+        status => stopped(status, core.is_starved()),
+    };
 }
 
 // Notes the fault of what was laid out, where there is one and none was noted.

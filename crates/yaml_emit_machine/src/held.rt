@@ -20,81 +20,17 @@ pub enum Count {
     Three,
 }
 
-/// A slot for an event. The three follow one another in a circle.
-#[derive(Clone, Copy)]
-pub enum Slot {
-    First,
-    Second,
-    Third,
-}
-
-/// Events in their slots, from the oldest one's on; what stands in the slots behind doesn't count.
+/// Events in their slots, the oldest first; what stands in the slots behind them doesn't count.
 #[derive(Drop)]
 pub struct Held {
     count: Count,
-    oldest: Slot,
     first: yaml_event_body_t,
     second: yaml_event_body_t,
     third: yaml_event_body_t,
 }
 
-impl Count {
-    ghost use Rattle.yaml_emit_machine.specs.Held.{more, less};
-
-    // One more, of three at most.
-    fn more(self) -> Count
-        ensures { result ≡ more self }
-    {
-        match self {
-            Count::Nothing => Count::One,
-            Count::One => Count::Two,
-            Count::Two => Count::Three,
-            Count::Three => Count::Three,
-        }
-    }
-
-    // One less, if there is one.
-    fn less(self) -> Count
-        ensures { result ≡ less self }
-    {
-        match self {
-            Count::Nothing => Count::Nothing,
-            Count::One => Count::Nothing,
-            Count::Two => Count::One,
-            Count::Three => Count::Two,
-        }
-    }
-}
-
-impl Slot {
-    ghost use Rattle.yaml_emit_machine.specs.Held.{next, behind};
-
-    // The slot behind it.
-    fn next(self) -> Slot
-        ensures { result ≡ next self }
-    {
-        match self {
-            Slot::First => Slot::Second,
-            Slot::Second => Slot::Third,
-            Slot::Third => Slot::First,
-        }
-    }
-
-    // The slot so many behind it.
-    fn behind(self, count: Count) -> Slot
-        ensures { result ≡ behind self count }
-    {
-        match count {
-            Count::Nothing => self,
-            Count::One => self.next(),
-            Count::Two => self.next().next(),
-            Count::Three => self,
-        }
-    }
-}
-
 impl Held {
-    ghost use Rattle.yaml_emit_machine.specs.Held.{held_bodies, held_events, oldest_event, later_events, HeldUtf8, stands, filled, are_some, releases, releases_by, closes, needs, passes, opens_level, ends_level};
+    ghost use Rattle.yaml_emit_machine.specs.Held.{held_bodies, later_bodies, held_events, oldest_event, later_events, HeldUtf8, are_some, releases, closes, needs, passes, opens_level, ends_level};
 
     /// No event.
     pub fn nothing() -> Held
@@ -103,7 +39,6 @@ impl Held {
     {
         Held {
             count: Count::Nothing,
-            oldest: Slot::First,
             first: yaml_event_body_t::No,
             second: yaml_event_body_t::No,
             third: yaml_event_body_t::No,
@@ -188,20 +123,13 @@ impl Held {
         }
     }
 
-    // One event ends a level.
-    #[tactic(auto, using(crate::proofs::Holding::closes_last))]
-    fn closes_one(second: &yaml_event_body_t) -> bool
-        ensures { result ≡ closes (emitter_event (body_of second.now) ∷ []) }
-    {
-        Held::ends_level(second)
-    }
-
     // One of two events ends a level before another is opened.
+    #[tactic(auto, using(crate::proofs::Holding::closes_last))]
     fn closes_two(second: &yaml_event_body_t, third: &yaml_event_body_t) -> bool
         ensures { result ≡ closes (emitter_event (body_of second.now) ∷ emitter_event
             (body_of third.now) ∷ []) }
     {
-        Held::ends_level(second) || (!Held::opens_level(second) && Held::closes_one(third))
+        Held::ends_level(second) || (!Held::opens_level(second) && Held::ends_level(third))
     }
 
     /// Whether an event that comes needn't be held: nothing is, and it needs nothing behind it.
@@ -215,42 +143,6 @@ impl Held {
         }
     }
 
-    // What stands in that slot.
-    fn at(&self, slot: Slot) -> &yaml_event_body_t
-        ensures { result.now ≡ stands slot self.now }
-    {
-        match slot {
-            Slot::First => &self.first,
-            Slot::Second => &self.second,
-            Slot::Third => &self.third,
-        }
-    }
-
-    // The event takes that slot.
-    fn fill(&mut self, slot: Slot, event: &mut yaml_event_body_t)
-        ensures { self.new ≡ filled slot event.old self.old }
-    {
-        match slot {
-            Slot::First => mem::swap(&mut self.first, event),
-            Slot::Second => mem::swap(&mut self.second, event),
-            Slot::Third => mem::swap(&mut self.third, event),
-        }
-    }
-
-    // The event in that slot is laid out where it stands.
-    fn lay_out(&mut self, slot: Slot, core: &mut Core, empty: bool)
-        requires { HasUtf8 (body_of (stands slot self.old)) }
-        ensures laid { LaysOut core.old core.new (emitter_event (body_of (stands slot self.old)))
-            empty }
-        ensures others { self.new ≡ filled slot (stands slot self.new) self.old }
-    {
-        match slot {
-            Slot::First => core.lay_out(&mut self.first, empty),
-            Slot::Second => core.lay_out(&mut self.second, empty),
-            Slot::Third => core.lay_out(&mut self.third, empty),
-        }
-    }
-
     /// One more. What is left of the event counts for nothing.
     pub fn push(&mut self, event: &mut yaml_event_body_t)
         requires few { length (held_events self.old) < 3 }
@@ -259,35 +151,51 @@ impl Held {
             (body_of event.old) ∷ [] }
         ensures utf8 { HeldUtf8 self.new }
     {
-        self.fill(self.oldest.behind(self.count), event);
-        self.count = self.count.more();
-    }
-
-    /// Some are held, and the oldest has what it needs, with this event behind them.
-    #[tactic(auto, unfolding(crate::specs::Held::is_ready))]
-    pub fn releases(&self, event: &yaml_event_body_t) -> bool
-        ensures { result ≡ releases (held_events self.now) (emitter_event (body_of event.now)) }
-    {
-        let first = self.oldest;
         match self.count {
-            Count::Nothing => false,
-            Count::One => Held::needs(self.at(first)) <= 1 || Held::closes_one(event),
-            Count::Two => {
-                Held::needs(self.at(first)) <= 2 || Held::closes_two(self.at(first.next()), event)
+            Count::Nothing => {
+                mem::swap(&mut self.first, event);
+                self.count = Count::One;
             }
-            Count::Three => true,
+            Count::One => {
+                mem::swap(&mut self.second, event);
+                self.count = Count::Two;
+            }
+            Count::Two | Count::Three => {
+                mem::swap(&mut self.third, event);
+                self.count = Count::Three;
+            }
         }
     }
 
-    /// The same, or early: then where any is held.
-    pub fn releases_by(&self, event: &yaml_event_body_t, early: bool) -> bool
-        ensures { result ≡ releases_by early (held_events self.now)
-            (emitter_event (body_of event.now)) }
+    // The oldest is gone: those behind it take the slots before theirs.
+    fn go_forward(&mut self)
+        ensures { held_bodies self.new ≡ later_bodies self.old }
     {
-        if early {
-            self.holds_any()
-        } else {
-            self.releases(event)
+        match self.count {
+            Count::Nothing | Count::One => self.count = Count::Nothing,
+            Count::Two => {
+                mem::swap(&mut self.first, &mut self.second);
+                self.count = Count::One;
+            }
+            Count::Three => {
+                mem::swap(&mut self.first, &mut self.second);
+                mem::swap(&mut self.second, &mut self.third);
+                self.count = Count::Two;
+            }
+        }
+    }
+
+    /// Some are held, and the oldest has what it needs, with this event behind them.
+    #[tactic(auto, unfolding(crate::specs::Held::is_ready), using(crate::proofs::Holding::closes_last))]
+    pub fn releases(&self, event: &yaml_event_body_t) -> bool
+        ensures is { result ≡ releases (held_events self.now) (emitter_event (body_of event.now)) }
+        ensures room { result ≡ false → length (held_events self.now) ≤ 2 }
+    {
+        match self.count {
+            Count::Nothing => false,
+            Count::One => Held::needs(&self.first) <= 1 || Held::ends_level(event),
+            Count::Two => Held::needs(&self.first) <= 2 || Held::closes_two(&self.second, event),
+            Count::Three => true,
         }
     }
 
@@ -298,8 +206,8 @@ impl Held {
             ++ emitter_event (body_of event.now) ∷ []) }
     {
         match self.count {
-            Count::Nothing | Count::One => Held::closes_by(self.at(self.oldest), event),
-            _ => Held::closes_by(self.at(self.oldest), self.at(self.oldest.next())),
+            Count::Nothing | Count::One => Held::closes_by(&self.first, event),
+            _ => Held::closes_by(&self.first, &self.second),
         }
     }
 
@@ -307,15 +215,14 @@ impl Held {
     pub fn lay_oldest(&mut self, core: &mut Core, event: &yaml_event_body_t)
         requires ready { are_some (held_events self.old) ≡ true }
         requires utf8 { HeldUtf8 self.old }
-        ensures events { held_events self.old ≡ oldest_event self.old ∷ held_events self.new }
+        ensures events { held_events self.new ≡ later_events self.old }
         ensures utf8 { HeldUtf8 self.new }
         ensures laid { LaysOut core.old core.new (oldest_event self.old) (opens_empty
-            (oldest_event self.old) (held_events self.new
+            (oldest_event self.old) (later_events self.old
             ++ emitter_event (body_of event.now) ∷ [])) }
     {
         let empty = self.opens_empty(event);
-        self.lay_out(self.oldest, core, empty);
-        self.oldest = self.oldest.next();
-        self.count = self.count.less();
+        core.lay_out(&mut self.first, empty);
+        self.go_forward();
     }
 }

@@ -9,10 +9,9 @@ mod name;
 mod release;
 
 pub use emitter::{
-    answer, directives, dump_document, emit, first_fault, give_early, into_output, is_closed,
-    is_fresh, is_opened, let_go, new_emitter, outer, output, requested_settings, resumed,
-    set_closed, set_opened, set_requested_settings, stand, take_event, take_event_over,
-    yaml_emitter_t,
+    answer, directives, dump_document, first_fault, give_early, into_output, is_closed, is_fresh,
+    is_opened, let_go, new_emitter, outer, output, requested_settings, resumed, set_closed,
+    set_opened, set_requested_settings, stand, take_event, take_event_over, yaml_emitter_t,
 };
 pub use law::{streams_are_laid, streams_pass};
 pub use name::yaml_emitter_state_t;

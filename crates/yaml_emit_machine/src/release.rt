@@ -14,10 +14,16 @@ use yaml_parse_model::yaml_event_body_t;
 
 // Whether the oldest event is to be laid out, with this one behind those that are held.
 fn is_due(core: &Core, held: &Held, event: &yaml_event_body_t, early: bool) -> bool
-    ensures { result ≡ (releases_by early (held_events held.now) (emitter_event (body_of event.now))
-        && goes_on core.now.sink.status core.now.place) }
+    ensures is { result ≡ (releases_by early (held_events held.now)
+        (emitter_event (body_of event.now)) && goes_on core.now.sink.status core.now.place) }
+    ensures room { result ≡ false → goes_on core.now.sink.status core.now.place ≡ true
+        → length (held_events held.now) ≤ 2 }
 {
-    held.releases_by(event, early) && core.is_going()
+    (if early {
+        held.holds_any()
+    } else {
+        held.releases(event)
+    }) && core.is_going()
 }
 
 // Whether an event needn't be held where the whole text is wanted: none is, and the next event decides nothing.
@@ -44,25 +50,17 @@ fn passes_as_scalar(core: &Core, held: &Held, event: &yaml_event_body_t) -> bool
     }
 }
 
-fn passes_by(core: &Core, held: &Held, event: &yaml_event_body_t, early: bool) -> bool
-    ensures { result ≡ passes_by early (held_events held.now)
-        (is_undecided_at core.now (emitter_event (body_of event.now)))
-        (emitter_event (body_of event.now)) }
-{
-    if early {
-        passes_early(core, held, event)
-    } else {
-        held.passes(event)
-    }
-}
-
 // Whether an event is to be laid out as it comes, and isn't held.
 fn passes(core: &Core, held: &Held, event: &yaml_event_body_t, early: bool) -> bool
     ensures { result ≡ (passes_by early (held_events held.now)
         (is_undecided_at core.now (emitter_event (body_of event.now)))
         (emitter_event (body_of event.now)) && goes_on core.now.sink.status core.now.place) }
 {
-    passes_by(core, held, event, early) && core.is_going()
+    (if early {
+        passes_early(core, held, event)
+    } else {
+        held.passes(event)
+    }) && core.is_going()
 }
 
 // What lies ready with an event behind it is laid out, up to the first event that is refused. That event isn't held yet.
@@ -70,7 +68,6 @@ fn passes(core: &Core, held: &Held, event: &yaml_event_body_t, early: bool) -> b
 #[inline(always)]
 fn release(core: &mut Core, held: &mut Held, event: &yaml_event_body_t, early: bool)
     requires utf8 { HeldUtf8 held.old }
-    requires most { length (held_events held.old) ≤ 3 }
     requires going { goes_on core.old.sink.status core.old.place ≡ true }
     ensures lays { LaysEvents (not early) core.old (held_events held.old
         ++ emitter_event (body_of event.now) ∷ []) core.new (held_events held.new

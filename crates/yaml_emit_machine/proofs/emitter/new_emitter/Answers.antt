@@ -1,4 +1,4 @@
-use Rattle.std.proofs.Common.{refl, sym, ap, arith}
+use Rattle.std.proofs.Common.{refl, sym, ap}
 use Rattle.yaml_emit_machine.specs.Held.{is_ready}
 use Rattle.yaml_emit_machine.proofs.Emitting.{fresh_refusal}
 use Rattle.yaml_emit_machine.proofs.emitter.new_emitter.Goals as goal
@@ -8,7 +8,6 @@ unfolding is_ready
 invariant_of-result c = record {
   faulty = sym (fresh_refusal _ _ c.new.ensures.fresh);
   few = λ g. ap is_ready c.nothing.ensures.events;
-  short = rw c.nothing.ensures.events (omega arith);
   texts = c.nothing.ensures.utf8;
   begun = λ f. (c.nothing.ensures.events, (refl, (c.new.ensures.fresh.output, c.new.ensures.fresh.status)));
   limited = c.new.ensures.limit;

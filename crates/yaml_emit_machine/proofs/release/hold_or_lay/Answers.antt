@@ -1,21 +1,14 @@
-use Rattle.std.proofs.Common.{sym, ◌∙◌, arith}
+use Rattle.std.proofs.Common.{sym, ◌∙◌}
 use Rattle.std.proofs.lemmas.Bool.{and_parts}
-use Rattle.yaml_emit_machine.proofs.Holding.{few_short, pushed_most, both_false, passed_by_waits, pushed_by_waits, last_passed, last_pushed}
-use Rattle.yaml_emit_machine.proofs.Following.{lays_past, lays_held}
+use Rattle.yaml_emit_machine.proofs.Holding.{both_false, passed_by_waits, pushed_by_waits, last_passed, last_pushed}
+use Rattle.yaml_emit_machine.proofs.Following.{lays_past}
 use Rattle.yaml_emit_machine.proofs.release.hold_or_lay.Goals as goal
-
-pub release-requires-clause-most : goal.release-requires-clause-most
-release-requires-clause-most c = few_short _ c.requires.few
-
-pub push-requires-clause-few : goal.push-requires-clause-few
-push-requires-clause-few c = let room = c.release.ensures.room in omega (arith, room)
 
 pub returns-then-passes : goal.returns-then-passes
 returns-then-passes c = record {
   lays = let e = sym c.passes.ensures ∙ c.if-passes.true in
       lays_past c.args.early _ _ _ _ _ _ c.release.ensures.lays (and_parts _ _ e).1 (and_parts _ _ e).0 c.lay_out.ensures;
   utf8 = c.release.ensures.utf8;
-  short = let room = c.release.ensures.room in omega (arith, room);
   waits = λ g. passed_by_waits c.args.early _ _ _ (and_parts _ _ (sym c.passes.ensures ∙ c.if-passes.true)).0;
   last = last_passed c.args.early _ _ _ _ (and_parts _ _ (sym c.passes.ensures ∙ c.if-passes.true)).0;
   settings = c.lay_out.ensures.settings ∙ c.release.ensures.settings;
@@ -23,9 +16,8 @@ returns-then-passes c = record {
 
 pub returns-else-passes : goal.returns-else-passes
 returns-else-passes c = record {
-  lays = lays_held _ _ _ _ _ _ c.push.ensures.events c.release.ensures.lays;
+  lays = rw c.push.ensures.events c.release.ensures.lays;
   utf8 = c.push.ensures.utf8;
-  short = pushed_most _ _ _ c.push.ensures.events c.release.ensures.room;
   waits = λ g. pushed_by_waits c.args.early _ _ _ _ _ c.push.ensures.events (c.release.ensures.waits g) (both_false _ _ g (sym c.passes.ensures ∙ c.if-passes.false));
   last = last_pushed _ _ _ _ c.release.ensures.last c.push.ensures.events;
   settings = c.release.ensures.settings;

@@ -13,7 +13,6 @@ invariant-loop-held l = record {
       (held_events l.initial.held ++ emitter_event (body_of l.event) ∷ []) l.core
       (held_events l.held ++ emitter_event (body_of l.event) ∷ []);
   utf8 : HeldUtf8 l.held;
-  most : length (held_events l.held) ≤ 3;
   last : AreLast (held_events l.initial.held) (held_events l.held);
   settings : l.core.settings ≡ l.initial.core.settings;
   short : goes_on l.core.sink.status l.core.place ≡ false → length (held_events l.held) ≤ 2;

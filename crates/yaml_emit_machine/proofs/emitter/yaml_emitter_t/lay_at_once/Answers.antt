@@ -1,10 +1,5 @@
-use Rattle.yaml_emit_machine.proofs.Early.{inside_once, inside_one}
+use Rattle.yaml_emit_machine.proofs.Blaming.{inside_one}
 use Rattle.yaml_emit_machine.proofs.emitter.yaml_emitter_t.lay_at_once.Goals as goal
-
-pub invariant_of-self : goal.invariant_of-self
-invariant_of-self c =
-    let once = rw (← c.self.view_is) at c.requires.once in
-    inside_once c.self.inside c.lay_out.new.self _ _ c.self.invariant once c.lay_out.ensures c.note.ensures
 
 pub returns : goal.returns
 returns c =

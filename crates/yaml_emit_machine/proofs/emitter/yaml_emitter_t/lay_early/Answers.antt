@@ -1,5 +1,5 @@
 use Rattle.std.proofs.Common.{false}
-use Rattle.yaml_emit_machine.proofs.Early.{inside_held, inside_gave}
+use Rattle.yaml_emit_machine.proofs.Blaming.{inside_held, inside_took}
 use Rattle.yaml_emit_machine.proofs.emitter.yaml_emitter_t.lay_early.Goals as goal
 
 pub invariant_of-self : goal.invariant_of-self
@@ -10,5 +10,5 @@ invariant_of-self c =
 pub returns : goal.returns
 returns c =
     let fr = rw (← c.self.view_is) at c.requires.begun in
-    let h = c.hold_or_lay_early.ensures in
-    rw (← c.self.view_is) (inside_gave c.self.inside c.hold_or_lay_early.new.core c.hold_or_lay_early.new.held _ _ fr h.lays h.short)
+    let none = rw (← c.self.view_is) at c.requires.right in
+    rw (← c.self.view_is) (inside_took false c.self.inside c.hold_or_lay_early.new.core c.hold_or_lay_early.new.held _ _ c.self.invariant fr none c.hold_or_lay_early.ensures)

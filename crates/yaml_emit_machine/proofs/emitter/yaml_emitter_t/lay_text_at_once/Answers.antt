@@ -1,13 +1,7 @@
 use Rattle.std.proofs.Common.{false}
 use Rattle.yaml_scan_model.specs.declared.yaml_scalar_style_t.TheVariants.{YAML_ANY_SCALAR_STYLE}
-use Rattle.yaml_emit_machine.proofs.Early.{inside_once, inside_one}
+use Rattle.yaml_emit_machine.proofs.Blaming.{inside_once, inside_one}
 use Rattle.yaml_emit_machine.proofs.emitter.yaml_emitter_t.lay_text_at_once.Goals as goal
-
-pub lay_text-requires-clause-form : goal.lay_text-requires-clause-form
-lay_text-requires-clause-form c = let once = rw (← c.self.view_is) at c.requires.once in once.form
-
-pub lay_text-requires-clause-due : goal.lay_text-requires-clause-due
-lay_text-requires-clause-due c = rw (← c.self.view_is) at c.requires.due
 
 pub invariant_of-self : goal.invariant_of-self
 invariant_of-self c =

@@ -1,5 +1,6 @@
 -- Nodes: what contents owe is what nodes and states owe.
-use Rattle.std.proofs.Common.{◌≡◌, ◌∙◌, ◌++◌, ◌∷◌, [], List, Bool, true, false, if◌then◌else◌, ◌||◌, None, Some, refl, sym, ap, subst}
+use Rattle.std.proofs.Common.{◌≡◌, ◌∙◌, ◌++◌, ◌∷◌, [], List, Bool, true, false, if◌then◌else◌, ◌||◌, ◌&&◌, None, Some, refl, sym, ap, subst}
+use Rattle.std.proofs.Math.Bool.{or-true}
 use Rattle.std.proofs.lemmas.Bool.{false≢true}
 use Rattle.std.proofs.lemmas.List.{append_assoc}
 use Rattle.yaml_parse_model.specs.declared.yaml_mark_t.{yaml_mark_t}
@@ -85,10 +86,6 @@ same_behind w kind.YAML_ANCHOR_TOKEN u p a b = absurd (a refl)
 same_behind w kind.YAML_TAG_TOKEN u p a b = absurd (b refl)
 same_behind w k u p a b = refl
 
-takes_if : (b : Bool) → (if b || true then Take else Leave) ≡ Take
-takes_if true = refl
-takes_if false = refl
-
 pub named_node : (w : Wants) (k : yaml_token_type_t) (u : TokenSlot) (p : Properties)
     (s : List State) (new : Properties → List State) (j : Shape)
     → (k ≡ kind.YAML_ANCHOR_TOKEN → ⊥) → (k ≡ kind.YAML_TAG_TOKEN → ⊥)
@@ -96,7 +93,7 @@ pub named_node : (w : Wants) (k : yaml_token_type_t) (u : TokenSlot) (p : Proper
     → Takes (state.with_properties w p) (whole_of k u) s
     (named_item j p (whole_of k u)) new
 named_node w k u p s new j a b h =
-    (ap (λ z. if joins p (type_of (whole_of k u).body) || z then Take else Leave) h.0 ∙ takes_if (joins p (type_of (whole_of k u).body)), (h.1 p p).0 ∙ ap (λ (t : Taken). t.item) (same_behind w k u p a b), λ q. (h.1 p q).1 ∙ ap (λ (t : Taken). t.above ++ s) (same_behind w k u p a b))
+    (ap (λ z. if joins p (type_of (whole_of k u).body) || z then Take else Leave) h.0 ∙ ap (λ z. if z then Take else Leave) (or-true (joins p (type_of (whole_of k u).body))), (h.1 p p).0 ∙ ap (λ (t : Taken). t.item) (same_behind w k u p a b), λ q. (h.1 p q).1 ∙ ap (λ (t : Taken). t.above ++ s) (same_behind w k u p a b))
 
 -- ---- a node that may be left out
 
@@ -205,26 +202,14 @@ begins_node kind.YAML_ANCHOR_TOKEN = true
 begins_node kind.YAML_TAG_TOKEN = true
 begins_node k = false
 
+begins_apart : (k : yaml_token_type_t) (p : Site) → (begins_node k && follows p k) ≡ false
+begins_apart kind.YAML_SCALAR_TOKEN site.Root = refl
+begins_apart _ (site.BlockPair side.Key) = refl
+begins_apart _ (site.FlowPair brackets.Sequence z) = refl
+begins_apart _ _ = refl
+
 none_follows : (p : Site) (k : yaml_token_type_t) → begins_node k ≡ true → follows p k ≡ false
-none_follows p kind.YAML_DOCUMENT_END_TOKEN h = absurd (false≢true h)
-none_follows p kind.YAML_STREAM_END_TOKEN h = absurd (false≢true h)
-none_follows p kind.YAML_VERSION_DIRECTIVE_TOKEN h = absurd (false≢true h)
-none_follows p kind.YAML_TAG_DIRECTIVE_TOKEN h = absurd (false≢true h)
-none_follows p kind.YAML_DOCUMENT_START_TOKEN h = absurd (false≢true h)
-none_follows p kind.YAML_BLOCK_ENTRY_TOKEN h = absurd (false≢true h)
-none_follows p kind.YAML_BLOCK_END_TOKEN h = absurd (false≢true h)
-none_follows p kind.YAML_KEY_TOKEN h = absurd (false≢true h)
-none_follows p kind.YAML_VALUE_TOKEN h = absurd (false≢true h)
-none_follows p kind.YAML_FLOW_ENTRY_TOKEN h = absurd (false≢true h)
-none_follows p kind.YAML_FLOW_SEQUENCE_END_TOKEN h = absurd (false≢true h)
-none_follows p kind.YAML_FLOW_MAPPING_END_TOKEN h = absurd (false≢true h)
-none_follows site.Root k h = refl
-none_follows site.Entry k h = refl
-none_follows (site.IndentlessEntry z) k h = refl
-none_follows (site.BlockPair side.Key) k h = refl
-none_follows (site.BlockPair side.Value) k h = refl
-none_follows (site.FlowPair brackets.Sequence z) k h = refl
-none_follows (site.FlowPair brackets.Mapping z) k h = refl
+none_follows p k h = sym (ap (λ b. b && follows p k) h) ∙ begins_apart k p
 
 pub awaits : (z : Await) (b : yaml_mark_t) (q : Properties) → (z ≡ await.Nothing → ⊥)
     → (z ≡ await.Rest → ⊥) → (z ≡ await.RestOfKey → ⊥) → (z ≡ await.RestOfValue → ⊥)

@@ -1,8 +1,8 @@
 -- A parser's fault is that of its tokens, and what comes before it begins a tree.
-use Rattle.std.proofs.Common.{◌≡◌, ◌⊎◌, ◌∙◌, ℕ, inl, inr, refl, sym, subst, List, [], ◌∷◌, ◌++◌, length, Option, Some, None}
+use Rattle.std.proofs.Common.{◌≡◌, ◌∙◌, ℕ, inl, inr, refl, sym, subst, List, [], ◌∷◌, ◌++◌, length, Option, Some, None}
 use Rattle.std.proofs.lemmas.List.{append-nil}
 use Rattle.yaml_parse_step.proofs.Words.{Token, Fault, given_of, run, initial, Told, no_directives, reading_of, unasked_of}
-use Rattle.yaml_parse_laws_trees.specs.SoundLaws.{BeginsWithTree, bare, TreeGoesOnGiving, RefusedAt, RunsOut}
+use Rattle.yaml_parse_laws_trees.specs.SoundLaws.{BeginsWithTree, bare, TreeGoesOnGiving}
 use Rattle.yaml_parse_laws_trees.specs.CountsLaws.{AtMostFourSoFar}
 use Rattle.yaml_parse_laws_trees.specs.Places.{FaultOfTokens, IsToldWith}
 use Rattle.yaml_parse_laws_trees.proofs.SoFar.{few_so_far}
@@ -40,17 +40,13 @@ begin ts f front behind l w g = record {
   begins = events_begin (run ts initial f).items (given_of g.tree 0) (run ts initial f).ending None no_directives g.begins;
 }
 
-begin_at : (ts : List Token) (f : Option Fault) (e : Fault)
-    → RefusedAt ts (bare (run ts initial f).items) e
-    ⊎ RunsOut ts f (bare (run ts initial f).items) e
-    → BeginsTree ts (reading_of (run ts initial f) no_directives).events
-begin_at ts f e (inl r) = begin ts f r.front (r.token ∷ r.behind) r.list r.wrong r.before
-begin_at ts f e (inr r) = begin ts f ts [] (sym (append-nil ts)) tt r.before
-
 by_ending : (ts : List Token) (f o : Option Fault) → (run ts initial f).ending ≡ o
     → (BeginsWithTree ts → ⊥) → BeginsTree ts (reading_of (run ts initial f) no_directives).events
 by_ending ts f None p n = absurd (n (accepted_trees ts f p))
-by_ending ts f (Some e) p n = begin_at ts f e (faults_stand ts f e p)
+by_ending ts f (Some e) p n = elim (faults_stand ts f e p) [
+  | inl r ↦ begin ts f r.front (r.token ∷ r.behind) r.list r.wrong r.before
+  | inr r ↦ begin ts f ts [] (sym (append-nil ts)) tt r.before
+]
 
 pub begins_tree : (ts : List Token) (f : Option Fault) (events : List Told)
     → events ≡ (reading_of (run ts initial f) no_directives).events → (BeginsWithTree ts → ⊥)

@@ -11,7 +11,7 @@ use Rattle.yaml_parse_grammar.proofs.EventsToGive.{speaks, reading_speaks, not_n
 use Rattle.yaml_parse_laws_trees.proofs.Turns.{items_given}
 use Rattle.yaml_parse_laws_trees.proofs.Falling.{has_more}
 use Rattle.yaml_scan_model.specs.Faults.{parse_layers}
-use Rattle.yaml_parse_step.specs.Steps.{AreSilent, budget, held_if, IsDone, IsTurnRefused, IsOver, KeptOverTurns, Turns}
+use Rattle.yaml_parse_step.specs.Steps.{AreSilent, budget, held_if, IsTurnRefused, IsOver, Turns}
 use Rattle.yaml_parse_step.specs.Turned.{Turned}
 use Rattle.yaml_parse_step.specs.Turned as turn
 
@@ -177,13 +177,6 @@ unsettled_turn old middle new ds ds' answered i e z a h r k s = refused_by old n
   )
 ])
 
-pub done_turn : (old new : Raw) (ds : Directives) (answered : Fault) → IsDone old new
-    → IsOver (of_raw old ds answered) (of_raw new ds answered)
-done_turn old new ds answered h = record {
-  finished = finishes old.peeked old.tokens old.fault old.stack ds answered h.empty;
-  same = ap (λ (r : Raw). of_raw r ds answered) h.same;
-}
-
 -- ---- the beginning
 
 -- A stream's tokens read from the start are what its tree gives.
@@ -213,26 +206,19 @@ one_held (Some t) = omega arith
 
 -- ---- the turns of a call
 
-same_unasked : (i o : ParserRemaining) → KeptOverTurns i o → i.events ≡ [] → i.ending ≡ None
-    → (o.unasked ≡ i.unasked) × (o.held ≡ i.held)
-same_unasked i o k p q = elim k.unasked [ inl a ↦ a | inr s ↦ absurd (s p q) ]
-
--- turns that gave nothing and an end: the end of what was to come
-pub kept_end : (i o n : ParserRemaining) → KeptOverTurns i o → IsOver o n → GivesEnd i n
-kept_end i o n k h =
-    let p : i.events ≡ [] = sym k.events ∙ h.finished.events in
-    let q : i.ending ≡ None = sym k.ending ∙ h.finished.ending in
-    record {
-      events = p;
-      ending = q;
-      nothing = record {
-        given = refl;
-        finished = subst IsFinished (sym h.same) h.finished;
-        unasked = ap (λ (c : ParserRemaining). c.unasked) h.same ∙ (same_unasked i o k p q).0;
-        held = ap (λ (c : ParserRemaining). c.held) h.same ∙ (same_unasked i o k p q).1;
-        answered = ap (λ (c : ParserRemaining). c.answered) h.same ∙ k.answered;
-      };
-    }
+-- an end: nothing was to come
+pub over_end : (o n : ParserRemaining) → IsOver o n → GivesEnd o n
+over_end o n h = record {
+  events = h.finished.events;
+  ending = h.finished.ending;
+  nothing = rw h.same (record {
+    given = refl;
+    finished = h.finished;
+    unasked = refl;
+    held = refl;
+    answered = refl;
+  });
+}
 
 behind_silent : (r : Turned) (i o n : ParserRemaining) → IsSilent i o → Turns o r n → Turns i r n
 behind_silent (turn.event e) i o n s h =

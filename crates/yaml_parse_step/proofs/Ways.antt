@@ -1,16 +1,15 @@
 -- What a turn with its item resolved is to what is to come.
 use Rattle.std.proofs.Common.{◌≡◌, ◌∙◌, ◌+◌, ◌<◌, ◌≤◌, ℕ, inl, inr, Bool, true, false, List, [], ◌∷◌, length, arith, Option, Some, None, refl, sym, subst}
-use Rattle.yaml_parse_step.proofs.Words.{Token, Fault, Event, State, Outcome, run, unasked_at_stop, Stands, Directives, unasked_at_fault, parser_remaining, is_between, waiting, reading_of, next_unasked, IsStack, IsUtf8Token, IsUtf8Held, is_nothing, Step, raw, IsFront, HasNoFront, IsRealOn, Raw, Went, WentOn, StepBuffers, peeked_of, states_in}
+use Rattle.yaml_parse_step.proofs.Words.{Token, Fault, Event, State, Outcome, run, unasked_at_stop, Stands, Directives, unasked_at_fault, parser_remaining, is_between, waiting, reading_of, next_unasked, IsStack, IsUtf8Token, IsUtf8Held, is_nothing, Step, raw, IsFront, HasNoFront, Raw, Went, WentOn, StepBuffers, peeked_of, states_in}
 use Rattle.yaml_parse_model.specs.Source as source
 use Rattle.yaml_parse_laws_trees.proofs.Falling.{next_behind, ended_next}
 use Rattle.yaml_parse_step.specs.declared.step.Step.TheVariants as code
-use Rattle.yaml_parse_step.specs.Stepped as step
 use Rattle.yaml_parse_grammar.specs.Remaining.{held_of}
 use Rattle.yaml_parse_step.specs.Steps.{AreSilent, held_if, Turns, IsUtf8Turn, IsStackTurn}
 use Rattle.yaml_parse_resolve.specs.Settles.{directives_of}
 use Rattle.yaml_parse_step.specs.Moves.{TakesTurn}
 use Rattle.yaml_parse_step.specs.Turned.{Turned, turned}
-use Rattle.yaml_parse_step.proofs.Moves.{over_front}
+use Rattle.yaml_parse_step.proofs.Moves.{over_front, stops_front}
 use Rattle.yaml_parse_step.proofs.Turning.{of_raw, event_turn, silent_turn, noted_turn, noted_directive, turns_behind, refused_turn, unsettled_turn, AskedFor}
 use Rattle.yaml_parse_step.proofs.Texts.{advance_utf8, silent_utf8, event_utf8, noted_utf8, cleared_utf8}
 use Rattle.yaml_parse_step.proofs.Heights.{event_stands, cleared_stands}
@@ -18,14 +17,6 @@ use Rattle.yaml_parse_step.proofs.Heights.{event_stands, cleared_stands}
 pub over_empty : (s : List State) → is_nothing s ≡ true → s ≡ []
 over_empty [] e = refl
 over_empty (x ∷ s) e = cc
-
-nothing_open : (s : List State) → s ≡ [] → is_nothing s ≡ false → ⊥
-nothing_open [] e z = cc
-nothing_open (x ∷ s) e z = cc
-
-refused_real : (s : List State) (t : Token) (g : Fault) → IsRealOn s t (step.refused g)
-refused_real [] t g = tt
-refused_real (x ∷ s) t g = tt
 
 pub stands_open : (s : List State) → is_nothing s ≡ false → Stands s
 stands_open [] z = cc
@@ -39,9 +30,6 @@ front_asked peeked ts f s t rest after ds g k =
     inr (subst (λ (u : ℕ). next_unasked (reading_of (run (waiting peeked ts) s f) ds).events (unasked_at_fault (run (waiting peeked ts) s f).items u ds) ≤ length rest) (k.stops s)
     (subst (λ (o : Outcome). next_unasked (reading_of o ds).events (unasked_at_fault o.items (unasked_at_stop (t ∷ rest) s) ds) ≤ length rest) (k.runs s) (next_behind t rest after s ds)))
 
-same_le : (a b : ℕ) → a ≡ b → a ≤ b
-same_le a b e = omega (arith, e)
-
 -- and none where none is there
 pub no_front_asked : (peeked : Option Token) (ts : List Token) (f : Option Fault) (s : List State)
     (rest : List Token) (ds : Directives) (g : Fault) → HasNoFront peeked ts f g rest
@@ -52,7 +40,7 @@ no_front_asked peeked ts f s rest ds g h = elim h.reason [
     | inl m ↦ inl m
     | inr u ↦
         inr (subst (λ (o : Outcome). next_unasked (reading_of o ds).events (unasked_at_fault o.items (unasked_at_stop (waiting peeked ts) s) ds) ≤ length rest) (sym (r s))
-        (same_le _ _ (ended_next s g (unasked_at_stop (waiting peeked ts) s) ds ∙ sym (u s))))
+        (let e = ended_next s g (unasked_at_stop (waiting peeked ts) s) ds ∙ sym (u s) in omega (arith, e)))
   ]
 ]
 
@@ -62,27 +50,27 @@ went_turns : (was now : Raw) (t : Token) (ds behind : Directives) (r : Step) (e 
     → Went was.stack t ds r e g now.peeked now.stack behind
     → Turns (of_raw was ds answered) (turned r e g) (of_raw now behind answered)
 went_turns was now t ds behind code.Given e g answered z k h =
-    event_turn was now ds behind answered h.item e.body e (over_front was.peeked was.tokens was.fault was.stack t now.tokens now.fault now (step.given h.item) z k (h.moves.gives now.tokens now.fault) h.moves.real) h.settles h.placed
+    event_turn was now ds behind answered h.item e.body e (over_front was.peeked was.tokens was.fault was.stack t now.tokens now.fault now (Some h.item) z k (h.moves.gives now.tokens now.fault) h.moves.real) h.settles h.placed
 went_turns was now t ds behind code.Silent e g answered z k (inl m) =
-    silent_turn was now ds behind answered (over_front was.peeked was.tokens was.fault was.stack t now.tokens now.fault now step.silent z k (m.0.gives now.tokens now.fault) m.0.real) m.2
+    silent_turn was now ds behind answered (over_front was.peeked was.tokens was.fault was.stack t now.tokens now.fault now None z k (m.0.gives now.tokens now.fault) m.0.real) m.2
 went_turns was now t ds behind code.Silent e g answered z k (inr d) =
-    noted_turn was now ds behind answered d.item (over_front was.peeked was.tokens was.fault was.stack t now.tokens now.fault now (step.given d.item) z k (d.moves.gives now.tokens now.fault) d.moves.real) d.settles
+    noted_turn was now ds behind answered d.item (over_front was.peeked was.tokens was.fault was.stack t now.tokens now.fault now (Some d.item) z k (d.moves.gives now.tokens now.fault) d.moves.real) d.settles
 went_turns was now t ds behind code.Refused e g answered z k (n, inl st) =
     refused_turn was now now ds behind answered g (stands_open was.stack z) (front_asked was.peeked was.tokens was.fault was.stack t now.tokens now.fault ds g k)
-    (over_front was.peeked was.tokens was.fault was.stack t now.tokens now.fault now (step.refused g) z k (st now.tokens now.fault now.peeked now.stack) (refused_real was.stack t g)) refl n
+    (stops_front was.peeked was.tokens was.fault was.stack t g now.fault now k (st now.tokens now.fault now.peeked now.stack)) refl n
 went_turns was now t ds behind code.Refused e g answered z k (n, inr d) =
     let middle = raw d.held now.tokens now.fault d.new in
     unsettled_turn was middle now ds behind answered d.item g (stands_open was.stack z) (front_asked was.peeked was.tokens was.fault was.stack t now.tokens now.fault ds g k)
-    (over_front was.peeked was.tokens was.fault was.stack t now.tokens now.fault middle (step.given d.item) z k (d.moves.gives now.tokens now.fault) d.moves.real) d.settles refl n
-went_turns was now t ds behind code.Done e g answered z k h = absurd (nothing_open was.stack h.0 z)
+    (over_front was.peeked was.tokens was.fault was.stack t now.tokens now.fault middle (Some d.item) z k (d.moves.gives now.tokens now.fault) d.moves.real) d.settles refl n
+went_turns was now t ds behind code.Done e g answered z k h = absurd (subst Stands h.0 (stands_open was.stack z))
 
 went_utf8 : (peeked : Option Token) (s : List State) (t : Token) (ds : Directives) (r : Step)
     (e : Event) (g : Fault) (held : Option Token) (new : List State) (behind : Directives)
     → (IsUtf8Token peeked → source.HasUtf8 t.body) → Went s t ds r e g held new behind
     → IsUtf8Held peeked s ds → IsUtf8Turn (turned r e g) × IsUtf8Held held new behind
-went_utf8 peeked s t ds code.Given e g held new behind u h p = event_utf8 held new ds behind h.item e.body h.settles (advance_utf8 peeked s t held new (step.given h.item) ds u (h.moves.utf8 ds) p)
-went_utf8 peeked s t ds code.Silent e g held new behind u (inl m) p = silent_utf8 held new ds behind m.2 (advance_utf8 peeked s t held new step.silent ds u (m.0.utf8 ds) p)
-went_utf8 peeked s t ds code.Silent e g held new behind u (inr d) p = noted_utf8 held new ds behind d.item d.settles (advance_utf8 peeked s t held new (step.given d.item) ds u (d.moves.utf8 ds) p)
+went_utf8 peeked s t ds code.Given e g held new behind u h p = event_utf8 held new ds behind h.item e.body h.settles (advance_utf8 peeked s t held new (Some h.item) ds u (h.moves.utf8 ds) p)
+went_utf8 peeked s t ds code.Silent e g held new behind u (inl m) p = silent_utf8 held new ds behind m.2 (advance_utf8 peeked s t held new None ds u (m.0.utf8 ds) p)
+went_utf8 peeked s t ds code.Silent e g held new behind u (inr d) p = noted_utf8 held new ds behind d.item d.settles (advance_utf8 peeked s t held new (Some d.item) ds u (d.moves.utf8 ds) p)
 went_utf8 peeked s t ds code.Refused e g held new behind u h p = cleared_utf8 held new behind h.0
 went_utf8 peeked s t ds code.Done e g held new behind u h p = cleared_utf8 held new behind h.2
 
@@ -142,10 +130,6 @@ pub held_utf8 : (b : Bool) (t : Token) → b ≡ true → IsUtf8Token (held_if b
     → source.HasUtf8 t.body
 held_utf8 true t e h = h
 held_utf8 false t e h = cc
-
-pub none_is_held : (b : Bool) (t : Token) → b ≡ false → held_if b t ≡ None
-none_is_held true t e = cc
-none_is_held false t e = refl
 
 not_held : (b : Bool) (t : Token) → held_if b t ≡ None → b ≡ false
 not_held true t e = cc

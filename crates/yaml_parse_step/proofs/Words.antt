@@ -20,7 +20,6 @@ pub use Rattle.yaml_parse_model.specs.Source.{HasMore}
 pub use Rattle.yaml_parse_resolve.specs.Settles.{ComesTo, directives_of}
 pub use Rattle.yaml_parse_step.specs.Finds.{GivesEnd, GivesNext}
 pub use Rattle.yaml_parse_step.specs.Moves.{Moves, Stops, Turned, Went, WentOn}
-pub use Rattle.yaml_parse_step.specs.Stepped.{SteppedOnce}
 pub use Rattle.yaml_parse_step.specs.Steps.{GivesItem, GivesNoItem, HasNoFront, IsDirective, IsFront, IsRealOn, IsRefused, IsSilent, Raw, outcome, peeked_of, raw, states_in, stop_of}
 pub use Rattle.yaml_parse_step.specs.declared.step.Step.{Step}
 pub use Rattle.yaml_parse_step.specs.declared.step.StepBuffers.{StepBuffers}

@@ -3,7 +3,6 @@ use Rattle.yaml_parse_step.proofs.Words.{token_in_slot, fault_of, directives_of,
 use Rattle.yaml_parse_step.specs.Steps.{held_if}
 use Rattle.yaml_parse_step.specs.Turned as turn
 use Rattle.yaml_parse_step.proofs.Turning.{fewer_left, turns_behind}
-use Rattle.yaml_parse_step.proofs.Ways.{takes_behind}
 use Rattle.yaml_parse_step.proofs.step.turns_at_next.Goals as goal
 
 pub turns-init : goal.turns-init
@@ -31,12 +30,3 @@ turns-smaller g c =
     let o = c.turns.buffers in
     let n = c.turn_at_next.new.buffers in
     fewer_left o.is_held n.is_held (token_in_slot o.token) (token_in_slot n.token) _ _ c.turns.invariant.asks.0 (c.in-Silent.ensures.taken.turns (fault_of c.turn_at_next.new.fault)).less
-
-pub returns-in-Given : goal.returns-in-Given
-returns-in-Given g c = takes_behind _ _ _ _ _ _ _ _ _ _ c.turns.invariant.kept c.in-Given.ensures.taken
-
-pub returns-in-Refused : goal.returns-in-Refused
-returns-in-Refused g c = takes_behind _ _ _ _ _ _ _ _ _ _ c.turns.invariant.kept c.in-Refused.ensures.taken
-
-pub returns-in-Done : goal.returns-in-Done
-returns-in-Done g c = takes_behind _ _ _ _ _ _ _ _ _ _ c.turns.invariant.kept c.in-Done.ensures.taken

@@ -1,28 +1,22 @@
 -- What each step over the grammar owes.
 use Rattle.std.proofs.Common.{◌+◌, length, ◌≡◌, ◌⊎◌, ◌<◌, ℕ, inl, inr, List, [], ◌∷◌, ◌++◌, Option, Some, None, sym, ap, subst, ◌∙◌, arith, false}
-use Rattle.yaml_parse_step.proofs.Words.{Token, no_token, type_of, Fault, Take, Leave, parser_fault, RawEvent, RawEventBody, State, Taken, choice_at, taken_at, left_at, opened, Stands, memory_fault, Parser, Properties, Shape, Around, is_nothing, node_item, named_item, told_item, implied_item, TurnsOn, Moves, Stops, Raw, raw, IsFront, HasNoFront, IsDirective, IsRefused, IsRealOn}
+use Rattle.yaml_parse_step.proofs.Words.{Token, no_token, type_of, Fault, Take, Leave, parser_fault, RawEvent, State, Taken, choice_at, taken_at, left_at, memory_fault, Parser, Properties, Shape, Around, is_nothing, node_item, named_item, told_item, implied_item, TurnsOn, Moves, Stops, Raw, raw, IsFront, HasNoFront, IsRefused, IsRealOn}
 use Rattle.yaml_parse_grammar.specs.declared.problem.ParseProblem.{ParseProblem}
-use Rattle.yaml_parse_grammar.specs.Items as item
 use Rattle.yaml_parse_grammar.specs.Machine.{context_of}
 use Rattle.yaml_parse_grammar.proofs.Complete.{leaves_at}
-use Rattle.yaml_parse_grammar.proofs.EventsToGive.{Voiced, TakenSpeaks, taken_speaks, left_voiced, takes_a_token, stands_above}
+use Rattle.yaml_parse_grammar.proofs.EventsToGive.{TakenSpeaks, taken_speaks, left_voiced, takes_a_token, stands_above}
 use Rattle.yaml_parse_grammar.proofs.Single.{implicit_at, refuses, takes, takes_silently, opens, refuses_stops, takes_stops, leaves_stops, opens_stops}
 use Rattle.yaml_parse_core.specs.declared.told.Told.{Told}
 use Rattle.yaml_parse_core.specs.declared.told.Implied.{Implied}
 use Rattle.yaml_parse_core.specs.Seen as seen
 use Rattle.yaml_parse_core.specs.Turns.{context_if}
 use Rattle.yaml_parse_grammar.proofs.Standing.{StandsOn, taken_stands, left_stands, opened_stands}
-use Rattle.yaml_parse_grammar.proofs.Utf8.{IsUtf8Taken, taken_utf8, left_utf8, opened_utf8, states_over}
-use Rattle.yaml_parse_grammar.specs.Texts.{IsUtf8State}
+use Rattle.yaml_parse_grammar.proofs.Throughout.{AreTaken, all_over, left_are, taken_are}
+use Rattle.yaml_parse_grammar.proofs.Utf8.{utf8_rules}
+use Rattle.yaml_parse_grammar.specs.Texts.{IsUtf8Item, IsUtf8State}
 use Rattle.yaml_parse_model.specs.Source.{HasUtf8}
 use Rattle.yaml_parse_step.specs.Steps.{budget, Steps}
 use Rattle.yaml_parse_grammar.specs.Remaining.{held_of}
-
--- a directive leaves something open
-directive_stands : (b : RawEventBody) (P : Type 0) → Voiced b P → IsDirective b → P
-directive_stands (item.version_directive x y) P h d = h
-directive_stands (item.tag_directive x y) P h d = h
-directive_stands b P h d = absurd d
 
 -- ---- the token of the source
 
@@ -82,8 +76,9 @@ speaks_so : (x : State) (t : Token) (o : Option RawEvent) → o ≡ (taken_at x 
 speaks_so x t o e = subst (λ (p : Option RawEvent). TakenSpeaks p (taken_at x t).above) (sym e) (taken_speaks x t)
 
 utf8_so : (x : State) (t : Token) (o : Option RawEvent) → o ≡ (taken_at x t).item → IsUtf8State x
-    → HasUtf8 t.body → IsUtf8Taken o (taken_at x t).above
-utf8_so x t o e u h = subst (λ (p : Option RawEvent). IsUtf8Taken p (taken_at x t).above) (sym e) (taken_utf8 x t u h)
+    → HasUtf8 t.body
+    → AreTaken IsUtf8Item IsUtf8State (record { item = o; above = (taken_at x t).above })
+utf8_so x t o e u h = subst (AreTaken IsUtf8Item IsUtf8State) (taken_is x t o e) (taken_are utf8_rules x t u h)
 
 moves_item : (x : State) (t : Token) (s : List State) (o : Option RawEvent)
     → choice_at x (type_of t.body) ≡ Take → o ≡ (taken_at x t).item
@@ -93,10 +88,10 @@ moves_item x t s (Some i) h k = record {
     same = takes x i (taken_at x t).above t rest s f h (taken_is x t (Some i) k);
     stop = takes_stops x (Some i) (taken_at x t).above t rest s h (taken_is x t (Some i) k);
     less = λ d. omega arith;
-    stands = λ d. stands_above (taken_at x t).above s (directive_stands i.body (Stands (taken_at x t).above) (speaks_so x t (Some i) k) d);
+    stands = λ d. stands_above (taken_at x t).above s (speaks_so x t (Some i) k d);
   };
   real = λ d. h;
-  utf8 = λ ds u. let v = utf8_so x t (Some i) k u.1.0.0 u.0 in (v.0, (tt, (states_over (taken_at x t).above s v.1 u.1.0.1, u.1.1)));
+  utf8 = λ ds u. let v = utf8_so x t (Some i) k u.1.0.0 u.0 in (v.0, (tt, (all_over IsUtf8State (taken_at x t).above s v.1 u.1.0.1, u.1.1)));
   stack = λ u. subst (λ (z : Option RawEvent). StandsOn z ((taken_at x t).above ++ s)) (sym k) (taken_stands x t s h u);
 }
 moves_item x t s None h k = record {
@@ -107,7 +102,7 @@ moves_item x t s None h k = record {
     stands = stands_above (taken_at x t).above s (speaks_so x t None k);
   };
   real = h;
-  utf8 = λ ds u. (tt, (states_over (taken_at x t).above s (utf8_so x t None k u.1.0.0 u.0) u.1.0.1, u.1.1));
+  utf8 = λ ds u. (tt, (all_over IsUtf8State (taken_at x t).above s (utf8_so x t None k u.1.0.0 u.0).1 u.1.0.1, u.1.1));
   stack = λ u. subst (λ (z : Option RawEvent). StandsOn z ((taken_at x t).above ++ s)) (sym k) (taken_stands x t s h u);
 }
 
@@ -119,7 +114,7 @@ moves_taken x t s new o h k e = subst (Moves (x ∷ s) t o None) (sym e) (moves_
 moves_left : (x : State) (t : Token) (s : List State) → choice_at x (type_of t.body) ≡ Leave
     → Moves (x ∷ s) t (Some (left_at x t.start_mark)) (Some t) s
 moves_left x t s h =
-    let no_directive : IsDirective (left_at x t.start_mark).body → ⊥ = directive_stands (left_at x t.start_mark).body ⊥ (left_voiced x t.start_mark ⊥) in
+    let no_directive = left_voiced x t.start_mark in
     record {
       gives = λ rest f. record {
         same = leaves_at x t rest s f h;
@@ -128,7 +123,7 @@ moves_left x t s h =
         stands = λ d. absurd (no_directive d);
       };
       real = λ d. absurd (no_directive d);
-      utf8 = λ ds u. (left_utf8 x t.start_mark u.1.0.0, (u.0, (u.1.0.1, u.1.1)));
+      utf8 = λ ds u. (left_are utf8_rules x t.start_mark u.1.0.0, (u.0, (u.1.0.1, u.1.1)));
       stack = left_stands x (type_of t.body) t.start_mark s h;
     }
 
@@ -169,7 +164,7 @@ opened_moves (x ∷ s) t a f h q = subst (Moves (x ∷ s) t (Some (implicit_at t
     stands = λ d. absurd d;
   };
   real = λ d. absurd d;
-  utf8 = λ ds u. (tt, (u.0, (states_over (opened t.start_mark) s (opened_utf8 t.start_mark) u.1.0.1, u.1.1)));
+  utf8 = λ ds u. (tt, (u.0, ((tt, (tt, (tt, u.1.0.1))), u.1.1)));
   stack = opened_stands x (type_of t.body) t.start_mark s h.0;
 })
 

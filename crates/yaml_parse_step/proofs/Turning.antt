@@ -1,13 +1,12 @@
 -- What a step with its item resolved owes.
 use Rattle.std.proofs.Common.{◌≡◌, ◌⊎◌, ◌+◌, ◌<◌, ◌≤◌, arith, ℕ, inl, inr, Bool, true, false, List, [], ◌∷◌, length, Option, Some, None, refl, sym, ap, subst, ◌∙◌}
-use Rattle.yaml_parse_step.proofs.Words.{Parser, yaml_mark_t, Token, Fault, memory_fault, IsMemoryFault, scan_layers, HasMore, Told, Event, EventBody, RawEvent, RawEventBody, State, Given, given_of, Outcome, run, initial, Stands, Directives, no_directives, Settled, gave, noted, settle, placed, unasked_at_fault, ParserRemaining, parser_remaining, reading_of, waiting, IsFinished, next_unasked, Raw, outcome, stop_of, IsDirective, GivesItem, GivesNoItem, IsRefused, IsSilent, GivesNext, GivesEnd}
-use Rattle.yaml_parse_grammar.specs.Items as item
+use Rattle.yaml_parse_step.proofs.Words.{Parser, Token, Fault, memory_fault, IsMemoryFault, scan_layers, HasMore, Told, Event, EventBody, RawEvent, State, Given, given_of, Outcome, run, initial, Stands, Directives, no_directives, Settled, gave, noted, settle, placed, unasked_at_fault, ParserRemaining, parser_remaining, reading_of, waiting, IsFinished, next_unasked, Raw, outcome, stop_of, IsDirective, GivesItem, GivesNoItem, IsRefused, IsSilent, GivesNext, GivesEnd}
 use Rattle.yaml_parse_model.specs.Events.{TagDirective}
 use Rattle.yaml_parse_grammar.specs.Trees.{Stream, spell}
-use Rattle.yaml_parse_grammar.specs.Resolve.{refused, settle_body, resolved, read_on, reading, Reading, unasked_on}
+use Rattle.yaml_parse_grammar.specs.Resolve.{refused, read_on, reading, Reading, unasked_on}
 use Rattle.yaml_parse_grammar.specs.Remaining.{held_of}
 use Rattle.yaml_parse_grammar.proofs.CompleteStream.{nothing_runs, stream_runs}
-use Rattle.yaml_parse_grammar.proofs.EventsToGive.{speaks, reading_speaks, not_noted}
+use Rattle.yaml_parse_grammar.proofs.EventsToGive.{speaks, reading_speaks, noted_directive}
 use Rattle.yaml_parse_laws_trees.proofs.Turns.{items_given}
 use Rattle.yaml_parse_laws_trees.proofs.Falling.{has_more}
 use Rattle.yaml_scan_model.specs.Faults.{parse_layers}
@@ -55,13 +54,6 @@ item_unasked old new ds i h = ap (λ (o : Outcome). unasked_at_fault o.items (st
 silent_unasked : (old new : Raw) (ds : Directives) → GivesNoItem old new
     → fault_of_raw old ds ≡ fault_of_raw new ds
 silent_unasked old new ds h = ap (λ (o : Outcome). unasked_at_fault o.items (stop_of old) ds) h.same ∙ ap (λ (n : ℕ). unasked_at_fault (outcome new).items n ds) h.stop
-
-pub noted_directive : (b : RawEventBody) (from : yaml_mark_t) (ds ds' : Directives)
-    → settle_body b from ds ≡ noted ds' → IsDirective b
-noted_directive (item.version_directive x y) from ds ds' e = tt
-noted_directive (item.tag_directive x y) from ds ds' e = tt
-noted_directive (item.node a (Some t) shape) from ds ds' e = not_noted (resolved ds.tags t.handle t.suffix) a shape from t.mark ds ds' e
-noted_directive b from ds ds' e = cc
 
 -- ---- nothing to come
 

@@ -2,6 +2,7 @@
 use Rattle.std.proofs.Common.{◌≡◌, ◌∙◌, ◌+◌, ◌<◌, ◌≤◌, ℕ, inl, inr, Bool, true, false, List, [], ◌∷◌, length, arith, Option, Some, None, refl, sym, subst}
 use Rattle.yaml_parse_step.proofs.Words.{Token, Fault, Event, State, Outcome, run, unasked_at_stop, Stands, Directives, unasked_at_fault, parser_remaining, is_between, waiting, reading_of, next_unasked, IsStack, IsUtf8Token, IsUtf8Held, is_nothing, Step, raw, IsFront, HasNoFront, Raw, Went, WentOn, StepBuffers, peeked_of, states_in}
 use Rattle.yaml_parse_model.specs.Source as source
+use Rattle.yaml_parse_grammar.proofs.EventsToGive.{noted_directive}
 use Rattle.yaml_parse_laws_trees.proofs.Falling.{next_behind, ended_next}
 use Rattle.yaml_parse_step.specs.declared.step.Step.TheVariants as code
 use Rattle.yaml_parse_grammar.specs.Remaining.{held_of}
@@ -10,7 +11,7 @@ use Rattle.yaml_parse_resolve.specs.Settles.{directives_of}
 use Rattle.yaml_parse_step.specs.Moves.{TakesTurn}
 use Rattle.yaml_parse_step.specs.Turned.{Turned, turned}
 use Rattle.yaml_parse_step.proofs.Moves.{over_front, stops_front}
-use Rattle.yaml_parse_step.proofs.Turning.{of_raw, event_turn, silent_turn, noted_turn, noted_directive, turns_behind, refused_turn, unsettled_turn, AskedFor}
+use Rattle.yaml_parse_step.proofs.Turning.{of_raw, event_turn, silent_turn, noted_turn, turns_behind, refused_turn, unsettled_turn, AskedFor}
 use Rattle.yaml_parse_step.proofs.Texts.{advance_utf8, silent_utf8, event_utf8, noted_utf8, cleared_utf8}
 use Rattle.yaml_parse_step.proofs.Heights.{event_stands, cleared_stands}
 

@@ -6,6 +6,7 @@ use Rattle.yaml_scan_model.specs.Faults.{Fault, IsMemoryFault, parse_layers, sca
 use Rattle.yaml_parse_model.specs.Source.{HasMore}
 use Rattle.yaml_parse_grammar.specs.declared.name.Choice.TheVariants.{Take}
 use Rattle.yaml_parse_grammar.specs.States.{State}
+use Rattle.yaml_parse_grammar.specs.Items.{IsDirective}
 use Rattle.yaml_parse_grammar.specs.Items as item
 use Rattle.yaml_parse_grammar.specs.Machine.{Outcome, run, unasked_at_stop, ending_at, choice_at, Stands}
 use Rattle.yaml_parse_grammar.specs.Remaining.{ParserRemaining, waiting, held_of, IsFinished, is_between, next_unasked}
@@ -81,11 +82,6 @@ stop_of r = unasked_at_stop (waiting r.peeked r.tokens) r.stack
 
 abbrev pub budget : Raw → ℕ
 budget r = length r.tokens + held_of r.peeked
-
-abbrev pub IsDirective : item.RawEventBody → Type 0
-IsDirective (item.version_directive major minor) = Unit {0}
-IsDirective (item.tag_directive handle prefix) = Unit {0}
-IsDirective _ = ⊥
 
 -- the item comes first, and the rest follows; a directive takes its token and leaves something open
 pub record GivesItem (i : item.RawEvent) (old new : Raw) : Type 0 where

@@ -60,15 +60,10 @@ joined h q k n a b = true≢false (sym ((bytes_eq-Decides h k).1 ((bytes_eq-Deci
 
 -- ---- a new handle
 
-is_other : {A : Type 0} (m : Bool) (v : A) (o : Option A) → (if m then Some v else o) ≡ None
-    → m ≡ false
-is_other true v o e = absurd (true≢false (ap is_some e))
-is_other false v o e = refl
-
-none_behind : {A : Type 0} (m : Bool) (v : A) (o : Option A) → (if m then Some v else o) ≡ None
-    → o ≡ None
-none_behind true v o e = absurd (true≢false (ap is_some e))
-none_behind false v o e = e
+not_found : {A : Type 0} (m : Bool) (v : A) (o : Option A) → (if m then Some v else o) ≡ None
+    → (m ≡ false) × (o ≡ None)
+not_found true v o e = absurd (true≢false (ap is_some e))
+not_found false v o e = (refl, e)
 
 passes : {A : Type 0} (a b : Bool) (u v r more : A) → (a ≡ true → b ≡ true → ⊥) → cond a u r ≡ more
     → cond a u (if b then v else r) ≡ (if b then v else more)
@@ -83,8 +78,8 @@ for_new : (k p : List ℕ) (ts : List TagDirective) → directive_for k ts ≡ N
 unfolding directive_for
 for_new k p [] e q = ap (λ (b : Bool). if b then Some p else None) (nat_list_eq_equiv.symm q k)
 for_new k p (t ∷ ts) e q = passes (bytes_eq q k) (bytes_eq t.handle q) (Some p) (Some t.prefix) (directive_for q ts) (directive_for q (ts ++ record { handle = k; prefix = p } ∷ []))
-    (joined t.handle q k (is_other (bytes_eq t.handle k) t.prefix (directive_for k ts) e))
-    (for_new k p ts (none_behind (bytes_eq t.handle k) t.prefix (directive_for k ts) e) q)
+    (joined t.handle q k (not_found (bytes_eq t.handle k) t.prefix (directive_for k ts) e).0)
+    (for_new k p ts (not_found (bytes_eq t.handle k) t.prefix (directive_for k ts) e).1 q)
 
 pub added : (tags : List TagDirective) (es : List (Text × Text)) (k p : Text)
     → directive_for k.items tags ≡ None → TellsAll tags es

@@ -1,6 +1,6 @@
 -- What each step over the grammar owes.
-use Rattle.std.proofs.Common.{◌+◌, length, ◌≡◌, ◌⊎◌, ◌<◌, ℕ, inl, inr, List, [], ◌∷◌, ◌++◌, Option, Some, None, sym, ap, subst, ◌∙◌, arith, false}
-use Rattle.yaml_parse_step.proofs.Words.{Token, no_token, type_of, Fault, Take, Leave, parser_fault, RawEvent, State, Taken, choice_at, taken_at, left_at, memory_fault, Parser, Properties, Shape, Around, is_nothing, node_item, named_item, told_item, implied_item, TurnsOn, Moves, Stops, Raw, raw, IsFront, HasNoFront, IsRefused, IsRealOn}
+use Rattle.std.proofs.Common.{refl, ◌+◌, length, ◌≡◌, ◌⊎◌, ◌<◌, ℕ, inl, inr, List, [], ◌∷◌, ◌++◌, Option, Some, None, sym, ap, subst, ◌∙◌, arith, false}
+use Rattle.yaml_parse_step.proofs.Words.{IsStack, Token, no_token, type_of, Fault, Take, Leave, parser_fault, RawEvent, State, choice_at, taken_at, left_at, memory_fault, Parser, Properties, Shape, Around, is_nothing, node_item, named_item, told_item, implied_item, TurnsOn, Moves, Stops, Raw, raw, IsFront, HasNoFront, IsRefused, IsRealOn}
 use Rattle.yaml_parse_grammar.specs.declared.problem.ParseProblem.{ParseProblem}
 use Rattle.yaml_parse_grammar.specs.Machine.{context_of}
 use Rattle.yaml_parse_grammar.proofs.Complete.{leaves_at}
@@ -66,50 +66,41 @@ no_front_open peeked ts f (x ∷ s) e new z h = record {
 
 -- ---- what a turn of the machine owes
 
--- the item and the states of a taken token
-taken_is : (x : State) (t : Token) (o : Option RawEvent) → o ≡ (taken_at x t).item
-    → taken_at x t ≡ record { item = o; above = (taken_at x t).above }
-taken_is x t o e = ap (λ (p : Option RawEvent). let y : Taken = record { item = p; above = (taken_at x t).above } in y) (sym e)
-
-speaks_so : (x : State) (t : Token) (o : Option RawEvent) → o ≡ (taken_at x t).item
-    → TakenSpeaks o (taken_at x t).above
-speaks_so x t o e = subst (λ (p : Option RawEvent). TakenSpeaks p (taken_at x t).above) (sym e) (taken_speaks x t)
-
-utf8_so : (x : State) (t : Token) (o : Option RawEvent) → o ≡ (taken_at x t).item → IsUtf8State x
-    → HasUtf8 t.body
-    → AreTaken IsUtf8Item IsUtf8State (record { item = o; above = (taken_at x t).above })
-utf8_so x t o e u h = subst (AreTaken IsUtf8Item IsUtf8State) (taken_is x t o e) (taken_are utf8_rules x t u h)
-
-moves_item : (x : State) (t : Token) (s : List State) (o : Option RawEvent)
-    → choice_at x (type_of t.body) ≡ Take → o ≡ (taken_at x t).item
-    → Moves (x ∷ s) t o None ((taken_at x t).above ++ s)
-moves_item x t s (Some i) h k = record {
+-- a token that is taken, by what that comes to
+moves_item : (x : State) (t : Token) (s above : List State) (o : Option RawEvent)
+    → choice_at x (type_of t.body) ≡ Take → taken_at x t ≡ record { item = o; above = above }
+    → TakenSpeaks o above → (IsUtf8State x → HasUtf8 t.body
+    → AreTaken IsUtf8Item IsUtf8State (record { item = o; above = above }))
+    → (IsStack (x ∷ s) → StandsOn o (above ++ s)) → Moves (x ∷ s) t o None (above ++ s)
+moves_item x t s above (Some i) h k v u p = record {
   gives = λ rest f. record {
-    same = takes x i (taken_at x t).above t rest s f h (taken_is x t (Some i) k);
-    stop = takes_stops x (Some i) (taken_at x t).above t rest s h (taken_is x t (Some i) k);
+    same = takes x i above t rest s f h k;
+    stop = takes_stops x (Some i) above t rest s h k;
     less = λ d. omega arith;
-    stands = λ d. stands_above (taken_at x t).above s (speaks_so x t (Some i) k d);
+    stands = λ d. stands_above above s (v d);
   };
   real = λ d. h;
-  utf8 = λ ds u. let v = utf8_so x t (Some i) k u.1.0.0 u.0 in (v.0, (tt, (all_over IsUtf8State (taken_at x t).above s v.1 u.1.0.1, u.1.1)));
-  stack = λ u. subst (λ (z : Option RawEvent). StandsOn z ((taken_at x t).above ++ s)) (sym k) (taken_stands x t s h u);
+  utf8 = λ ds w. let y = u w.1.0.0 w.0 in (y.0, (tt, (all_over IsUtf8State above s y.1 w.1.0.1, w.1.1)));
+  stack = p;
 }
-moves_item x t s None h k = record {
+moves_item x t s above None h k v u p = record {
   gives = λ rest f. record {
-    same = takes_silently x (taken_at x t).above t rest s f h (taken_is x t None k);
-    stop = takes_stops x None (taken_at x t).above t rest s h (taken_is x t None k);
+    same = takes_silently x above t rest s f h k;
+    stop = takes_stops x None above t rest s h k;
     less = omega arith;
-    stands = stands_above (taken_at x t).above s (speaks_so x t None k);
+    stands = stands_above above s v;
   };
   real = h;
-  utf8 = λ ds u. (tt, (all_over IsUtf8State (taken_at x t).above s (utf8_so x t None k u.1.0.0 u.0).1 u.1.0.1, u.1.1));
-  stack = λ u. subst (λ (z : Option RawEvent). StandsOn z ((taken_at x t).above ++ s)) (sym k) (taken_stands x t s h u);
+  utf8 = λ ds w. (tt, (all_over IsUtf8State above s (u w.1.0.0 w.0).1 w.1.0.1, w.1.1));
+  stack = p;
 }
 
 moves_taken : (x : State) (t : Token) (s new : List State) (o : Option RawEvent)
     → choice_at x (type_of t.body) ≡ Take → o ≡ (taken_at x t).item
     → new ≡ (taken_at x t).above ++ s → Moves (x ∷ s) t o None new
-moves_taken x t s new o h k e = subst (Moves (x ∷ s) t o None) (sym e) (moves_item x t s o h k)
+moves_taken x t s new o h k e =
+    subst (Moves (x ∷ s) t o None) (sym e) (subst (λ (o : Option RawEvent). Moves (x ∷ s) t o None ((taken_at x t).above ++ s)) (sym k)
+    (moves_item x t s (taken_at x t).above (taken_at x t).item h refl (taken_speaks x t) (taken_are utf8_rules x t) (taken_stands x t s h)))
 
 moves_left : (x : State) (t : Token) (s : List State) → choice_at x (type_of t.body) ≡ Leave
     → Moves (x ∷ s) t (Some (left_at x t.start_mark)) (Some t) s

@@ -1,27 +1,18 @@
 -- What a turn comes to with its item resolved.
 use Rattle.std.proofs.Common.{Some, ◌≡◌, inr, List, Option, None, sym, ap, subst, ◌∙◌}
-use Rattle.yaml_parse_step.proofs.Words.{Token, Fault, Event, RawEvent, Properties, State, Directives, gave, node_event, placed, Shape, Around, node_item, shape_at, TurnsOn, states_by, ComesTo, directives_of, StepBuffers, Step, peeked_of, properties_of, token_in_slot, Moves, Turned, Went, WentOn}
+use Rattle.yaml_parse_step.proofs.Words.{Token, Fault, Event, RawEvent, Properties, State, Directives, gave, node_event, placed, Shape, node_item, shape_at, states_by, ComesTo, directives_of, StepBuffers, Step, peeked_of, properties_of, token_in_slot, Moves, Turned, Went, WentOn}
 use Rattle.yaml_parse_core.specs.declared.machine.Machine.{Machine}
 use Rattle.yaml_parse_core.specs.Seen.{Seen}
-use Rattle.yaml_parse_core.specs.Seen as seen
 use Rattle.yaml_parse_resolve.specs.declared.resolving.Settled.{Settled}
 use Rattle.yaml_parse_resolve.specs.declared.resolving.Settled.TheVariants as came
-use Rattle.yaml_parse_step.specs.Moves.{GaveEvent, Goes, LeavesMachine, step_of}
-use Rattle.yaml_parse_step.proofs.Moves.{node_moves}
+use Rattle.yaml_parse_step.specs.Moves.{Goes, LeavesMachine, step_of}
 
--- a node without properties
-pub went_node : (s : List State) (t : Token) (k : Shape) (a : Around) (f : Properties → List State)
-    (q : Properties) (ds : Directives) (e : Event) → TurnsOn s t (seen.node k) a f
+-- a node without properties comes to its event
+pub node_comes : (t : Token) (k : Shape) (ds : Directives) (e : Event) (g : Fault)
     → e ≡ placed (node_event None None (shape_at k t.body)) (node_item k t)
-    → GaveEvent s t ds e None (f q) ds
-went_node s t k a f q ds e h p =
-    let b : node_event None None (shape_at k t.body) ≡ e.body = sym (ap (λ (x : Event). x.body) p) in
-    record {
-      item = node_item k t;
-      moves = node_moves s t k a f h q;
-      settles = ap (λ z. gave z ds) b;
-      placed = p ∙ ap (λ z. placed z (node_item k t)) b;
-    }
+    → ComesTo (node_item k t) ds came.Event e g ds
+node_comes t k ds e g p =
+    let b = sym (ap (λ (x : Event). x.body) p) in (ap (λ z. gave z ds) b, p ∙ ap (λ z. placed z (node_item k t)) b)
 
 -- what an item came to
 pub went_on : (r : Settled) (s : List State) (t : Token) (i : RawEvent) (q : Properties)

@@ -26,11 +26,6 @@ reading_settled : (gs : List Given) (f : Option Fault) (ds : Directives) (i : Ra
 unfolding reading
 reading_settled gs f ds i left c h = ap (λ (c : Settled). read_on c i left (λ d. reading gs f d)) h
 
-reading_nothing : (f : Option Fault) (ds : Directives)
-    → reading [] f ds ≡ record { events = []; ending = f }
-unfolding reading
-reading_nothing f ds = refl
-
 -- ---- how many tokens are not asked for at the fault
 
 fault_settled : (gs : List Given) (n : ℕ) (ds : Directives) (i : RawEvent) (left : ℕ) (c : Settled)
@@ -38,10 +33,6 @@ fault_settled : (gs : List Given) (n : ℕ) (ds : Directives) (i : RawEvent) (le
     → unasked_at_fault ((i, left) ∷ gs) n ds ≡ unasked_on c left (λ d. unasked_at_fault gs n d)
 unfolding unasked_at_fault
 fault_settled gs n ds i left c h = ap (λ (c : Settled). unasked_on c left (λ d. unasked_at_fault gs n d)) h
-
-fault_nothing : (n : ℕ) (ds : Directives) → unasked_at_fault [] n ds ≡ n
-unfolding unasked_at_fault
-fault_nothing n ds = refl
 
 abbrev fault_of_raw : Raw → Directives → ℕ
 fault_of_raw r ds = unasked_at_fault (outcome r).items (stop_of r) ds
@@ -59,7 +50,8 @@ silent_unasked old new ds h = ap (λ (o : Outcome). unasked_at_fault o.items (st
 
 empty_reading : (ts : List Token) (f : Option Fault) (s : List State) (ds : Directives) → s ≡ []
     → reading_of (run ts s f) ds ≡ record { events = []; ending = None }
-empty_reading ts f s ds e = ap (λ (z : List State). reading_of (run ts z f) ds) e ∙ ap (λ (o : Outcome). reading_of o ds) (nothing_runs ts f) ∙ reading_nothing None ds
+unfolding reading
+empty_reading ts f s ds e = ap (λ (z : List State). reading_of (run ts z f) ds) e ∙ ap (λ (o : Outcome). reading_of o ds) (nothing_runs ts f)
 
 -- A parser without states is at its end.
 pub finishes : (peeked : Option Token) (ts : List Token) (f : Option Fault) (s : List State)
@@ -147,11 +139,12 @@ pub refused_turn : (old middle new : Raw) (ds ds' : Directives) (answered : Faul
     → Stands old.stack → AskedFor e old ds new.tokens → IsRefused e old middle
     → new.tokens ≡ middle.tokens → new.stack ≡ []
     → IsTurnRefused e (of_raw old ds answered) (of_raw new ds' answered)
+unfolding reading unasked_at_fault
 refused_turn old middle new ds ds' answered e z a h k s = refused_by old new ds ds' answered e z a s (elim h.reason [
   | inl m ↦ inl m
   | inr q ↦ inr (
-    ap (λ (o : Outcome). reading_of o ds) q ∙ reading_nothing (Some e) ds,
-    elim h.unasked [ inl m ↦ inl m | inr n ↦ inr (ap length k ∙ n ∙ sym (ap (λ (o : Outcome). unasked_at_fault o.items (stop_of old) ds) q ∙ fault_nothing (stop_of old) ds)) ],
+    ap (λ (o : Outcome). reading_of o ds) q,
+    elim h.unasked [ inl m ↦ inl m | inr n ↦ inr (ap length k ∙ n ∙ sym (ap (λ (o : Outcome). unasked_at_fault o.items (stop_of old) ds) q)) ],
   )
 ])
 

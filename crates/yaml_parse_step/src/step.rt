@@ -380,7 +380,6 @@ fn turn_at_next<S: yaml_token_source_t, L>(
 // Behind a step that gives nothing neither the machine nor what is held is asked again. That none is held is stored once more
 // there: with nothing in front of the loop's next turn LLVM asks again which answer it was.
 // Inlined into its one caller.
-#[tactic(auto, using(crate::proofs::Ways::takes_behind))]
 #[inline(always)]
 fn turns_at_next<S: yaml_token_source_t, L>(
     source: &mut S,

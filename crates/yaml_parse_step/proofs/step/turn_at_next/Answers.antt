@@ -3,9 +3,7 @@ use Rattle.yaml_parse_step.proofs.Words.{Token, token_in_slot, fault_of, event_o
 use Rattle.yaml_parse_step.specs.Steps.{held_if}
 use Rattle.yaml_parse_step.proofs.Moves.{no_front_open}
 use Rattle.yaml_parse_step.proofs.Turning.{refused_turn}
-use Rattle.yaml_parse_step.proofs.Texts.{cleared_utf8}
-use Rattle.yaml_parse_step.proofs.Heights.{cleared_stands}
-use Rattle.yaml_parse_step.proofs.Ways.{silent_asks, stands_open, no_front_asked, went_takes}
+use Rattle.yaml_parse_step.proofs.Ways.{cleared_stands, cleared_utf8, silent_asks, stands_open, no_front_asked, went_takes}
 use Rattle.yaml_parse_step.proofs.step.turn_at_next.Goals as goal
 
 pub returns-then-not-ask-clause-taken : goal.returns-then-not-ask-clause-taken

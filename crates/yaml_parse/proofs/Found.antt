@@ -1,38 +1,30 @@
 -- What a call finds, as the next event.
-use Rattle.std.proofs.Common.{◌≡◌, ◌≤◌, ◌⊎◌, ℕ, List, [], Option, Some, Result, Ok, Err, IfOk, IfErr, refl, sym, subst, ap, ◌∙◌}
+use Rattle.std.proofs.Common.{◌≡◌, List, [], Option, Result, Ok, Err, IfOk, IfErr, refl, sym, subst}
 use Rattle.yaml_scan_model.specs.declared.yaml_fault_t.{yaml_fault_t}
-use Rattle.yaml_scan_model.specs.Faults.{Fault, fault_of, IsMemoryFault, scan_layers, parse_layers}
+use Rattle.yaml_scan_model.specs.Faults.{Fault, fault_of}
 use Rattle.yaml_parse_model.specs.declared.yaml_event_t.{yaml_event_t}
 use Rattle.yaml_parse_model.specs.Constructors.{HasUtf8}
 use Rattle.yaml_parse_model.specs.Events.{Event, event_of, no_event}
-use Rattle.yaml_parse_model.specs.Source.{HasMore}
 use Rattle.yaml_parse_step.specs.declared.yaml_found_t.{yaml_found_t}
 use Rattle.yaml_parse_step.specs.declared.yaml_found_t.TheVariants as found
 use Rattle.yaml_parse_step.specs.parse_grammar.Resolve.{Told}
-use Rattle.yaml_parse_step.specs.parse_grammar.Remaining.{ParserRemaining, IsFinished, GivesEvent, EventOf, FaultOf, next_unasked}
+use Rattle.yaml_parse_step.specs.parse_grammar.Remaining.{ParserRemaining, GivesEvent, EventOf, FaultOf}
 use Rattle.yaml_parse_step.specs.parse_grammar.Stacks.{parts_documents_behind}
 use Rattle.yaml_parse_step.specs.Finds.{GivesNext, GivesEnd, Finds, IsUtf8Found, IsStackFound}
-use Rattle.yaml_parse_step.specs.Steps.{KeptOverTurns, IsTurnRefused}
+use Rattle.yaml_parse_step.specs.Steps.{IsTurnRefused}
 use Rattle.yaml_parse.specs.HandsOut.{HandsOut}
 
--- behind turns that gave nothing
-pub found_behind : (e : Event) (i o n : ParserRemaining) → KeptOverTurns i o → GivesNext e o n
-    → GivesNext e i n
-found_behind e i o n k g =
-    record { events = sym k.events ∙ g.events; ending = g.ending ∙ k.ending; ending_unasked = g.ending_unasked ∙ k.ending_unasked; answered = g.answered ∙ k.answered }
-
 -- a turn's fault, which is kept then
-pub refused_behind : (f : Fault) (i o n m : ParserRemaining) → KeptOverTurns i o
-    → IsTurnRefused f o n → m ≡ record n { answered = f } → FaultOf i f m
-refused_behind f i o n m k t e =
-    record {
-      more = subst (λ (x : List Told). HasMore x i.ending) k.events (subst (λ (x : Option Fault). HasMore o.events x) k.ending t.more);
-      finished = subst IsFinished (sym e) (record { events = t.finished.events; ending = t.finished.ending; between = t.finished.between });
-      answered = ap (λ (x : ParserRemaining). x.answered) e;
-      reason = subst (λ (x : List Told). IsMemoryFault parse_layers f ⊎ ((x ≡ []) × (i.ending ≡ Some f))) k.events (subst (λ (x : Option Fault). IsMemoryFault parse_layers f ⊎ ((o.events ≡ []) × (x ≡ Some f))) k.ending t.reason);
-      unasked = subst (λ (x : ParserRemaining). IsMemoryFault parse_layers f ⊎ (x.unasked ≡ i.ending_unasked)) (sym e) (subst (λ (x : ℕ). IsMemoryFault parse_layers f ⊎ (n.unasked ≡ x)) k.ending_unasked t.unasked);
-      asked = subst (λ (x : ParserRemaining). IsMemoryFault scan_layers f ⊎ (next_unasked i.events i.ending_unasked ≤ x.unasked)) (sym e) (subst (λ (x : List Told). IsMemoryFault scan_layers f ⊎ (next_unasked x i.ending_unasked ≤ n.unasked)) k.events (subst (λ (x : ℕ). IsMemoryFault scan_layers f ⊎ (next_unasked o.events x ≤ n.unasked)) k.ending_unasked t.asked));
-    }
+pub refused_kept : (f : Fault) (i n m : ParserRemaining) → IsTurnRefused f i n
+    → m ≡ record n { answered = f } → FaultOf i f m
+refused_kept f i n m t e = rw e (record {
+  more = t.more;
+  finished = record { events = t.finished.events; ending = t.finished.ending; between = t.finished.between };
+  answered = refl;
+  reason = t.reason;
+  unasked = t.unasked;
+  asked = t.asked;
+})
 
 event_found : (e given : Event) (o n : ParserRemaining) → GivesNext e o n → given ≡ e
     → EventOf o given n

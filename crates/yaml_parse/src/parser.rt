@@ -29,7 +29,7 @@ use yaml_parse_model::{
 };
 use yaml_parse_resolve::{Directives, TagDirectives, let_event_go};
 use yaml_parse_step::{Step, StepBuffers, let_buffers_go, take_turn, yaml_found_t};
-use yaml_scan_model::{yaml_fault_t, yaml_mark_t, yaml_memory_fault, yaml_origin_t};
+use yaml_scan_model::{yaml_fault_t, yaml_memory_fault, yaml_origin_t};
 
 /// A parser of the tokens of a source.
 #[derive(Drop)]
@@ -134,13 +134,12 @@ pub fn yaml_parser_initialize<S: yaml_token_source_t>(
     ensures quiet { IfOk result (λ p. (p.answered ≡ no_fault) × (p.between ≡ true)) }
     ensures memory { IfErr result (λ f. fault_of f ≡ memory_fault Parser) }
 {
-    let waiting = none_waiting(alloc);
     Ok(yaml_parser_t {
         buffers: StepBuffers {
-            machine: fresh(alloc, waiting.from),
+            machine: fresh(alloc),
             token: TokenSlot::empty(alloc),
             is_held: false,
-            waiting,
+            waiting: none_waiting(alloc),
             directives: Directives {
                 alloc,
                 version: None,

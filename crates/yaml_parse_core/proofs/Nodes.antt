@@ -1,5 +1,6 @@
 -- Nodes: what contents owe is what nodes and states owe.
-use Rattle.std.proofs.Common.{◌≡◌, ◌∙◌, ◌++◌, ◌∷◌, [], List, Bool, true, false, if◌then◌else◌, ◌||◌, None, Some, refl, sym, ap, subst}
+use Rattle.std.proofs.Common.{◌≡◌, ◌∙◌, ◌++◌, ◌∷◌, [], List, Bool, true, false, if◌then◌else◌, ◌||◌, ◌&&◌, None, Some, refl, sym, ap, subst}
+use Rattle.std.proofs.Math.Bool.{or-true}
 use Rattle.std.proofs.lemmas.Bool.{false≢true}
 use Rattle.std.proofs.lemmas.List.{append_assoc}
 use Rattle.yaml_parse_model.specs.declared.yaml_mark_t.{yaml_mark_t}
@@ -12,7 +13,8 @@ use Rattle.yaml_parse_grammar.specs.declared.name.Wants.TheVariants.{Flow, Block
 use Rattle.yaml_parse_grammar.specs.Items.{Properties}
 use Rattle.yaml_parse_grammar.specs.States.{State, Taken}
 use Rattle.yaml_parse_grammar.specs.States as state
-use Rattle.yaml_parse_grammar.specs.Machine.{joins, with_properties_taken, starts_content, starts_node, content_taken, node_taken, no_node, choice_at, left_at, follows, wants_of, closes, above, lone_below, items_taken}
+use Rattle.yaml_parse_grammar.specs.Machine.{joins, with_properties_taken, starts_content, starts_node, content_taken, node_taken, no_node, choice_at, taken_at, left_at, follows, wants_of, closes, lone_below}
+use Rattle.yaml_parse_grammar.proofs.Complete.{items_node_taken}
 use Rattle.yaml_parse_grammar.specs.declared.name.Site.{Site}
 use Rattle.yaml_parse_grammar.specs.declared.name.Site.TheVariants as site
 use Rattle.yaml_parse_grammar.specs.declared.name.Side.TheVariants as side
@@ -85,10 +87,6 @@ same_behind w kind.YAML_ANCHOR_TOKEN u p a b = absurd (a refl)
 same_behind w kind.YAML_TAG_TOKEN u p a b = absurd (b refl)
 same_behind w k u p a b = refl
 
-takes_if : (b : Bool) → (if b || true then Take else Leave) ≡ Take
-takes_if true = refl
-takes_if false = refl
-
 pub named_node : (w : Wants) (k : yaml_token_type_t) (u : TokenSlot) (p : Properties)
     (s : List State) (new : Properties → List State) (j : Shape)
     → (k ≡ kind.YAML_ANCHOR_TOKEN → ⊥) → (k ≡ kind.YAML_TAG_TOKEN → ⊥)
@@ -96,7 +94,7 @@ pub named_node : (w : Wants) (k : yaml_token_type_t) (u : TokenSlot) (p : Proper
     → Takes (state.with_properties w p) (whole_of k u) s
     (named_item j p (whole_of k u)) new
 named_node w k u p s new j a b h =
-    (ap (λ z. if joins p (type_of (whole_of k u).body) || z then Take else Leave) h.0 ∙ takes_if (joins p (type_of (whole_of k u).body)), (h.1 p p).0 ∙ ap (λ (t : Taken). t.item) (same_behind w k u p a b), λ q. (h.1 p q).1 ∙ ap (λ (t : Taken). t.above ++ s) (same_behind w k u p a b))
+    (ap (λ z. if joins p (type_of (whole_of k u).body) || z then Take else Leave) h.0 ∙ ap (λ z. if z then Take else Leave) (or-true (joins p (type_of (whole_of k u).body))), (h.1 p p).0 ∙ ap (λ (t : Taken). t.item) (same_behind w k u p a b), λ q. (h.1 p q).1 ∙ ap (λ (t : Taken). t.above ++ s) (same_behind w k u p a b))
 
 -- ---- a node that may be left out
 
@@ -116,21 +114,28 @@ pub type_is : (k : yaml_token_type_t) (u : TokenSlot) → type_of (whole_of k u)
 type_is kind.YAML_NO_TOKEN u = refl
 type_is k u = refl
 
-optional_at : (p : Site) (b : yaml_mark_t) (t : Token) (s : List State)
-    (new : Properties → List State) (r : Seen) (a : Around) → follows p (type_of t.body) ≡ false
-    → Nodes (wants_of p) t s r a new → Turns (state.optional p b) t s r a new
-optional_at p b t s new (turn.node j) a f h = (optional_chooses p b (type_of t.body) true f h.0, h.1, h.2)
-optional_at p b t s new (turn.given j) a f h = (optional_chooses p b (type_of t.body) true f h.0, h.1, h.2)
-optional_at p b t s new turn.silent a f h = (optional_chooses p b (type_of t.body) true f h.0, h.1, h.2)
-optional_at p b t s new (turn.refused q) a f h = optional_chooses p b (type_of t.body) false f h.0 ∙ ap (λ z. Refuse (no_node (wants_of p)) z) (sym (no_context (wants_of p) a.opener)) ∙ ap (λ z. Refuse z (context_if z a.opener)) (sym h.1)
-optional_at p b t s new turn.memory a f h = tt
-optional_at p b t s new r a f h = absurd h
+-- where a state chooses as a node does, and takes what one is, above what stands below it
+node_at : (x : State) (w : Wants) (t : Token) (below s : List State) (new : Properties → List State)
+    (r : Seen) (a : Around)
+    → ((n : Bool) → starts_node w (type_of t.body) ≡ n
+    → choice_at x (type_of t.body) ≡ chosen_at false n w)
+    → (starts_node w (type_of t.body) ≡ true
+    → ((node_taken w t.start_mark t.end_mark t.body).item ≡ (taken_at x t).item)
+    × ((node_taken w t.start_mark t.end_mark t.body).above ++ below ≡ (taken_at x t).above ++ s))
+    → Nodes w t below r a new → Turns x t s r a new
+node_at x w t below s new (turn.node j) a f g h = (f true h.0, h.1 ∙ (g h.0).0, λ q. h.2 q ∙ (g h.0).1)
+node_at x w t below s new (turn.given j) a f g h = (f true h.0, h.1 ∙ (g h.0).0, λ q. h.2 q ∙ (g h.0).1)
+node_at x w t below s new turn.silent a f g h = (f true h.0, h.1 ∙ (g h.0).0, h.2 ∙ (g h.0).1)
+node_at x w t below s new (turn.refused q) a f g h = f false h.0 ∙ ap (λ z. Refuse (no_node w) z) (sym (no_context w a.opener)) ∙ ap (λ z. Refuse z (context_if z a.opener)) (sym h.1)
+node_at x w t below s new turn.memory a f g h = tt
+node_at x w t below s new r a f g h = absurd h
 
 pub optional_node : (p : Site) (b : yaml_mark_t) (w : Wants) (k : yaml_token_type_t) (u : TokenSlot)
     (s : List State) (new : Properties → List State) (r : Seen) (a : Around) → follows p k ≡ false
     → w ≡ wants_of p → Nodes w (whole_of k u) s r a new
     → Turns (state.optional p b) (whole_of k u) s r a new
-optional_node p b w k u s new r a f e h = optional_at p b (whole_of k u) s new r a (ap (follows p) (type_is k u) ∙ f) (subst (λ z. Nodes z (whole_of k u) s r a new) e h)
+optional_node p b w k u s new r a f e h =
+    node_at (state.optional p b) (wants_of p) (whole_of k u) s s new r a (λ n i. optional_chooses p b (type_of (whole_of k u).body) n (ap (follows p) (type_is k u) ∙ f) i) (λ i. (refl, refl)) (subst (λ z. Nodes z (whole_of k u) s r a new) e h)
 
 pub left_optional : (p : Site) (b : yaml_mark_t) (k : yaml_token_type_t) (u : TokenSlot)
     (s : List State) (new : Properties → List State) (r : Seen) (a : Around) → follows p k ≡ true
@@ -156,35 +161,10 @@ items_choose : (b : Brackets) (o : yaml_mark_t) (k : yaml_token_type_t) (n : Boo
 items_choose b o kind.YAML_KEY_TOKEN n h c e = absurd (h refl)
 items_choose b o k n h c e = ap (λ z. if z || starts_node Flow k then Take else Refuse (no_node Flow) None) c ∙ ap (λ z. chosen_at false z Flow) e
 
-items_are : (b : Brackets) (o : yaml_mark_t) (k : yaml_token_type_t) (u : TokenSlot)
-    → starts_node Flow (type_of (whole_of k u).body) ≡ true
-    → above (lone_below b (state.more b o ∷ [])) (node_taken Flow u.start_mark u.end_mark (whole_of k u).body)
-    ≡ items_taken b o u.start_mark u.end_mark (whole_of k u).body
-items_are b o kind.YAML_KEY_TOKEN u h = absurd (false≢true h)
-items_are b o kind.YAML_FLOW_SEQUENCE_END_TOKEN u h = absurd (false≢true h)
-items_are b o kind.YAML_FLOW_MAPPING_END_TOKEN u h = absurd (false≢true h)
-items_are b o k u h = refl
-
 items_below : (b : Brackets) (o : yaml_mark_t) (xs s : List State)
     → xs ++ lone_below b (state.more b o ∷ s) ≡ (xs ++ lone_below b (state.more b o ∷ [])) ++ s
 items_below brackets.Sequence o xs s = sym (append_assoc xs (state.more brackets.Sequence o ∷ []) s)
 items_below brackets.Mapping o xs s = sym (append_assoc xs (state.lone ∷ state.more brackets.Mapping o ∷ []) s)
-
-items_at : (b : Brackets) (o : yaml_mark_t) (k : yaml_token_type_t) (u : TokenSlot)
-    (s : List State) (new : Properties → List State) (r : Seen) (a : Around)
-    → ((n : Bool) → starts_node Flow (type_of (whole_of k u).body) ≡ n
-    → choice_at (state.items b o) (type_of (whole_of k u).body) ≡ chosen_at false n Flow)
-    → Nodes Flow (whole_of k u) (lone_below b (state.more b o ∷ s)) r a new
-    → Turns (state.items b o) (whole_of k u) s r a new
-items_at b o k u s new (turn.node j) a f h =
-    (f true h.0, h.1 ∙ ap (λ (t : Taken). t.item) (items_are b o k u h.0), λ q. h.2 q ∙ items_below b o _ s ∙ ap (λ (t : Taken). t.above ++ s) (items_are b o k u h.0))
-items_at b o k u s new (turn.given j) a f h =
-    (f true h.0, h.1 ∙ ap (λ (t : Taken). t.item) (items_are b o k u h.0), λ q. h.2 q ∙ items_below b o _ s ∙ ap (λ (t : Taken). t.above ++ s) (items_are b o k u h.0))
-items_at b o k u s new turn.silent a f h =
-    (f true h.0, h.1 ∙ ap (λ (t : Taken). t.item) (items_are b o k u h.0), h.2 ∙ items_below b o _ s ∙ ap (λ (t : Taken). t.above ++ s) (items_are b o k u h.0))
-items_at b o k u s new (turn.refused q) a f h = f false h.0 ∙ ap (λ z. Refuse (no_node Flow) z) (sym (no_context Flow a.opener)) ∙ ap (λ z. Refuse z (context_if z a.opener)) (sym h.1)
-items_at b o k u s new turn.memory a f h = tt
-items_at b o k u s new r a f h = absurd h
 
 pub items_node : (b : Brackets) (o : yaml_mark_t) (k : yaml_token_type_t) (u : TokenSlot)
     (s : List State) (new : Properties → List State) (r : Seen) (a : Around)
@@ -192,39 +172,21 @@ pub items_node : (b : Brackets) (o : yaml_mark_t) (k : yaml_token_type_t) (u : T
     → Nodes Flow (whole_of k u) (lone_below b (state.more b o ∷ s)) r a new
     → Turns (state.items b o) (whole_of k u) s r a new
 items_node b o k u s new r a e c h =
-    items_at b o k u s new r a (λ n i. items_choose b o (type_of (whole_of k u).body) n (λ z. e (sym (type_is k u) ∙ z)) (ap (closes b) (type_is k u) ∙ none_closes b k c) i) h
+    let are = λ (i : starts_node Flow (type_of (whole_of k u).body) ≡ true). sym (items_node_taken b o u.start_mark u.end_mark (whole_of k u).body i) in
+    node_at (state.items b o) Flow (whole_of k u) (lone_below b (state.more b o ∷ s)) s new r a
+    (λ n i. items_choose b o (type_of (whole_of k u).body) n (λ z. e (sym (type_is k u) ∙ z)) (ap (closes b) (type_is k u) ∙ none_closes b k c) i)
+    (λ i. (ap (λ (t : Taken). t.item) (are i), items_below b o _ s ∙ ap (λ (t : Taken). t.above ++ s) (are i))) h
 
 -- ---- a node that may stand anywhere
 
-abbrev pub begins_node : yaml_token_type_t → Bool
-begins_node kind.YAML_SCALAR_TOKEN = true
-begins_node kind.YAML_FLOW_SEQUENCE_START_TOKEN = true
-begins_node kind.YAML_FLOW_MAPPING_START_TOKEN = true
-begins_node kind.YAML_ALIAS_TOKEN = true
-begins_node kind.YAML_ANCHOR_TOKEN = true
-begins_node kind.YAML_TAG_TOKEN = true
-begins_node k = false
+begins_apart : (k : yaml_token_type_t) (p : Site) → (starts_node Flow k && follows p k) ≡ false
+begins_apart kind.YAML_SCALAR_TOKEN site.Root = refl
+begins_apart _ (site.BlockPair side.Key) = refl
+begins_apart _ (site.FlowPair brackets.Sequence z) = refl
+begins_apart _ _ = refl
 
-none_follows : (p : Site) (k : yaml_token_type_t) → begins_node k ≡ true → follows p k ≡ false
-none_follows p kind.YAML_DOCUMENT_END_TOKEN h = absurd (false≢true h)
-none_follows p kind.YAML_STREAM_END_TOKEN h = absurd (false≢true h)
-none_follows p kind.YAML_VERSION_DIRECTIVE_TOKEN h = absurd (false≢true h)
-none_follows p kind.YAML_TAG_DIRECTIVE_TOKEN h = absurd (false≢true h)
-none_follows p kind.YAML_DOCUMENT_START_TOKEN h = absurd (false≢true h)
-none_follows p kind.YAML_BLOCK_ENTRY_TOKEN h = absurd (false≢true h)
-none_follows p kind.YAML_BLOCK_END_TOKEN h = absurd (false≢true h)
-none_follows p kind.YAML_KEY_TOKEN h = absurd (false≢true h)
-none_follows p kind.YAML_VALUE_TOKEN h = absurd (false≢true h)
-none_follows p kind.YAML_FLOW_ENTRY_TOKEN h = absurd (false≢true h)
-none_follows p kind.YAML_FLOW_SEQUENCE_END_TOKEN h = absurd (false≢true h)
-none_follows p kind.YAML_FLOW_MAPPING_END_TOKEN h = absurd (false≢true h)
-none_follows site.Root k h = refl
-none_follows site.Entry k h = refl
-none_follows (site.IndentlessEntry z) k h = refl
-none_follows (site.BlockPair side.Key) k h = refl
-none_follows (site.BlockPair side.Value) k h = refl
-none_follows (site.FlowPair brackets.Sequence z) k h = refl
-none_follows (site.FlowPair brackets.Mapping z) k h = refl
+none_follows : (p : Site) (k : yaml_token_type_t) → starts_node Flow k ≡ true → follows p k ≡ false
+none_follows p k h = sym (ap (λ b. b && follows p k) h) ∙ begins_apart k p
 
 pub awaits : (z : Await) (b : yaml_mark_t) (q : Properties) → (z ≡ await.Nothing → ⊥)
     → (z ≡ await.Rest → ⊥) → (z ≡ await.RestOfKey → ⊥) → (z ≡ await.RestOfValue → ⊥)
@@ -242,7 +204,7 @@ differs z y e f i = false≢true (sym e ∙ ap is_begun i ∙ f)
 pub node_anywhere : (z : Await) (b : yaml_mark_t) (q : Properties) (w : Wants)
     (k : yaml_token_type_t) (u : TokenSlot) (s : List State)
     (new : Properties → List State) (r : Seen) (a : Around)
-    → is_begun z ≡ false → w ≡ wants_of (site_of z) → begins_node k ≡ true
+    → is_begun z ≡ false → w ≡ wants_of (site_of z) → starts_node Flow k ≡ true
     → Nodes w (whole_of k u) s r a new
     → TurnsOn (await_of z b q ++ s) (whole_of k u) r a new
 node_anywhere z b q w k u s new r a e i h n =
@@ -251,7 +213,7 @@ node_anywhere z b q w k u s new r a e i h n =
 
 pub anywhere : (z : Await) (b : yaml_mark_t) (q : Properties) (k : yaml_token_type_t)
     (u : TokenSlot) (s : List State) (new : Properties → List State) (r : Seen) (a : Around)
-    → is_begun z ≡ false → IsBare k → begins_node k ≡ true
+    → is_begun z ≡ false → IsBare k → starts_node Flow k ≡ true
     → ((w : Wants) → Contents w (whole_of k u) s r new)
     → TurnsOn (await_of z b q ++ s) (whole_of k u) r a new
 anywhere z b q k u s new r a e i h c =

@@ -1,29 +1,21 @@
 -- Kept levels: one more, or one fewer.
-use Rattle.std.proofs.Common.{◌≡◌, ◌∙◌, List, [], ◌∷◌, ◌++◌, ℕ, reverse, length, arith, Option, Some, refl, sym, ap}
+use Rattle.std.proofs.Common.{◌≡◌, ◌∙◌, List, [], ◌∷◌, ◌++◌, ℕ, length, Option, Some, refl, sym, ap}
 use Rattle.std.specs.Option.{option_to_list}
-use Rattle.std.proofs.lemmas.List.{reverse-append}
+use Rattle.std.proofs.lemmas.List.{nil_from_length, reverse-append}
 use Rattle.yaml_parse_grammar.specs.States.{State}
 use Rattle.yaml_parse_core.specs.declared.level.Kept.{Kept}
 use Rattle.yaml_parse_core.specs.Views.{stack_of, levels_of, level_over}
 
-one : (k : Kept) (ks : List Kept)
-    → levels_of (k ∷ ks) ≡ level_over k.level k.opener (levels_of ks)
-unfolding levels_of
-one k ks = refl
-
 pub pushed : (old new : List Kept) (k : Kept)
     → new ≡ old ++ k ∷ []
     → stack_of new ≡ level_over k.level k.opener (stack_of old)
-pushed old new k e = ap (λ z. stack_of z) e ∙ ap (λ z. levels_of z) (reverse-append old (k ∷ [])) ∙ one k (reverse old)
+unfolding levels_of
+pushed old new k e = ap (λ z. stack_of z) e ∙ ap (λ z. levels_of z) (reverse-append old (k ∷ []))
 
 pub popped : (old new : List Kept) (k : Kept)
     (o : Option Kept) → old ≡ new ++ option_to_list o → o ≡ Some k
     → level_over k.level k.opener (stack_of new) ≡ stack_of old
 popped old new k o e d = sym (pushed new old k (e ∙ ap (λ z. new ++ option_to_list z) d))
-
-none_left : {X : Type 0} (xs : List X) → length xs ≡ 0 → xs ≡ []
-none_left [] e = refl
-none_left (x ∷ xs) e = absurd (omega (arith, e))
 
 pub nothing : (ks : List Kept) → ks ≡ []
     → [] ≡ stack_of ks
@@ -33,7 +25,7 @@ nothing ks e = rw e refl
 -- none was left
 pub emptied : (ks : List Kept) (n : ℕ) → n ≡ length ks
     → n ≡ 0 → [] ≡ stack_of ks
-emptied ks n e z = nothing ks (none_left ks (sym e ∙ z))
+emptied ks n e z = nothing ks (nil_from_length ks (sym e ∙ z))
 
 -- a state alone
 pub alone : (x : State) (ks : List Kept) → ks ≡ []

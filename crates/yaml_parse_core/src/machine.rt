@@ -157,11 +157,17 @@ pub(crate) fn begin(
     }
 }
 
-/// The machine in front of a stream; the place says nothing.
-pub fn fresh(alloc: Global, place: yaml_mark_t) -> Machine
+/// The machine in front of a stream.
+pub fn fresh(alloc: Global) -> Machine
     ensures { (p : Properties) → states_by result p
         ≡ state.stream ∷ [] }
 {
+    // The places say nothing.
+    let place = yaml_mark_t {
+        index: 0,
+        line: 0,
+        column: 0,
+    };
     Machine {
         awaited: Await::Nothing,
         before: place,

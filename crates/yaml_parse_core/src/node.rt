@@ -199,11 +199,9 @@ fn wait_by_anchor(waiting: &mut Waiting, token: &mut TokenSlot)
           to = token.old.end_mark;
         } }
 {
-    waiting.has_anchor = true;
-    waiting.has_tag = false;
     waiting.from = mark_again(&token.start_mark);
-    waiting.to = mark_again(&token.end_mark);
-    mem::swap(&mut token.body.text, &mut waiting.anchor);
+    waiting.has_tag = false;
+    join_anchor(waiting, token);
 }
 
 // The properties of a node whose first token is that tag.
@@ -219,13 +217,9 @@ fn wait_by_tag(waiting: &mut Waiting, token: &mut TokenSlot)
           to = token.old.end_mark;
         } }
 {
-    waiting.has_anchor = false;
-    waiting.has_tag = true;
     waiting.from = mark_again(&token.start_mark);
-    waiting.to = mark_again(&token.end_mark);
-    waiting.tag_from = mark_again(&token.start_mark);
-    mem::swap(&mut token.body.text, &mut waiting.handle);
-    mem::swap(&mut token.body.other, &mut waiting.suffix);
+    waiting.has_anchor = false;
+    join_tag(waiting, token);
 }
 
 // An anchor behind a tag.

@@ -3,15 +3,17 @@
 ghost use Rattle.std.specs.Prelude.{◌≡◌, ◌∷◌, []};
 ghost use Rattle.yaml_parse_core.specs.declared.level.Await.TheVariants.{Nothing};
 ghost use Rattle.yaml_parse_core.specs.declared.level.Level.TheVariants as level;
-ghost use Rattle.yaml_parse_core.specs.Views.{around_by, await_of, open_of, site_of, states_by, whole_of};
+ghost use Rattle.yaml_parse_core.specs.Views.{around_by, await_of, open_of, site_of, stack_of, states_by, whole_of};
 ghost use Rattle.yaml_parse_core.specs.Seen.{seen};
 ghost use Rattle.yaml_parse_core.specs.Turns.{LevelTurns, TurnsOn};
 ghost use Rattle.yaml_parse_grammar.specs.Items.{Properties};
+ghost use Rattle.yaml_parse_grammar.specs.declared.name.Site.TheVariants as site;
 ghost use Rattle.yaml_parse_grammar.specs.States as state;
 ghost use Rattle.yaml_parse_model.specs.declared.yaml_mark_t.{yaml_mark_t};
 
 use crate::level::{Await, Level};
 use crate::machine::{Machine, Turn, await_behind, come_back};
+use yaml_parse_grammar::Side;
 use yaml_parse_model::{TokenSlot, yaml_token_type_t};
 
 // The parts of a block mapping.
@@ -54,44 +56,35 @@ pub(crate) fn at_entries(machine: &mut Machine, kind: yaml_token_type_t, token: 
     }
 }
 
-// Further parts of a sequence that isn't indented, which is a pair's key.
+// What is awaited behind a dash of a sequence that isn't indented.
 #[inline(always)]
-pub(crate) fn at_other_keys(
-    machine: &mut Machine,
-    kind: yaml_token_type_t,
-    token: &TokenSlot,
-) -> Turn
-    requires awaited { machine.old.awaited ≡ Nothing }
-    requires level { machine.old.top.level ≡ level.OtherKeys }
-    ensures { LevelTurns level.OtherKeys (whole_of kind token.now) machine.old result machine.new }
+pub(crate) fn await_other(side: Side) -> Await
+    ensures { (b : yaml_mark_t) (p : Properties)
+        → await_of result b p ≡ state.optional (site.IndentlessEntry side) b ∷ [] }
 {
-    match kind {
-        yaml_token_type_t::YAML_BLOCK_ENTRY_TOKEN => {
-            await_behind(machine, Await::LooseKey, token);
-            Turn::Silent
-        }
-        _ => {
-            come_back(machine);
-            Turn::LeftSequenceEnd
-        }
+    match side {
+        Side::Key => Await::LooseKey,
+        Side::Value => Await::LooseValue,
     }
 }
 
-// Further parts of a sequence that isn't indented, which is a pair's value.
+// Further parts of a sequence that isn't indented, which is a part of a pair.
 #[inline(always)]
-pub(crate) fn at_other_values(
+pub(crate) fn at_others(
     machine: &mut Machine,
     kind: yaml_token_type_t,
     token: &TokenSlot,
+    side: Side,
 ) -> Turn
     requires awaited { machine.old.awaited ≡ Nothing }
-    requires level { machine.old.top.level ≡ level.OtherValues }
-    ensures { LevelTurns level.OtherValues (whole_of kind token.now) machine.old result
-        machine.new }
+    requires level { open_of machine.old ≡ state.others side ∷ stack_of machine.old.below.items }
+    ensures { (p : Properties) → TurnsOn
+        (state.others side ∷ stack_of machine.old.below.items) (whole_of kind token.now)
+        (seen result) (around_by machine.new p) (states_by machine.new) }
 {
     match kind {
         yaml_token_type_t::YAML_BLOCK_ENTRY_TOKEN => {
-            await_behind(machine, Await::LooseValue, token);
+            await_behind(machine, await_other(side), token);
             Turn::Silent
         }
         _ => {

@@ -80,70 +80,62 @@ pub(crate) fn at_mapping_items(
 fn follows(place: Site, kind: yaml_token_type_t) -> bool
     ensures { result ≡ grammar.follows place kind }
 {
-    match place {
-        Site::Root => match kind {
-            yaml_token_type_t::YAML_DOCUMENT_END_TOKEN
-            | yaml_token_type_t::YAML_STREAM_END_TOKEN
-            | yaml_token_type_t::YAML_VERSION_DIRECTIVE_TOKEN
-            | yaml_token_type_t::YAML_TAG_DIRECTIVE_TOKEN
-            | yaml_token_type_t::YAML_DOCUMENT_START_TOKEN => true,
+    match kind {
+        yaml_token_type_t::YAML_BLOCK_ENTRY_TOKEN => match place {
+            Site::Entry | Site::IndentlessEntry(_) => true,
             _ => false,
         },
-        Site::Entry => match kind {
-            yaml_token_type_t::YAML_BLOCK_ENTRY_TOKEN | yaml_token_type_t::YAML_BLOCK_END_TOKEN =>
-                true,
+        yaml_token_type_t::YAML_BLOCK_END_TOKEN => match place {
+            Site::Entry | Site::IndentlessEntry(_) | Site::BlockPair(_) => true,
             _ => false,
         },
-        Site::IndentlessEntry(side) => match kind {
-            yaml_token_type_t::YAML_BLOCK_ENTRY_TOKEN
-            | yaml_token_type_t::YAML_KEY_TOKEN
-            | yaml_token_type_t::YAML_BLOCK_END_TOKEN => true,
-            yaml_token_type_t::YAML_VALUE_TOKEN => match side {
-                Side::Key => true,
-                Side::Value => false,
-            },
+        yaml_token_type_t::YAML_KEY_TOKEN => match place {
+            Site::IndentlessEntry(_) | Site::BlockPair(_) => true,
             _ => false,
         },
-        Site::BlockPair(Side::Key) => match kind {
-            yaml_token_type_t::YAML_KEY_TOKEN
-            | yaml_token_type_t::YAML_VALUE_TOKEN
-            | yaml_token_type_t::YAML_BLOCK_END_TOKEN => true,
+        yaml_token_type_t::YAML_VALUE_TOKEN => match place {
+            Site::IndentlessEntry(Side::Key)
+            | Site::BlockPair(Side::Key)
+            | Site::FlowPair(_, Side::Key) => true,
             _ => false,
         },
-        Site::BlockPair(Side::Value) => match kind {
-            yaml_token_type_t::YAML_KEY_TOKEN | yaml_token_type_t::YAML_BLOCK_END_TOKEN => true,
+        yaml_token_type_t::YAML_FLOW_ENTRY_TOKEN => match place {
+            Site::FlowPair(_, _) => true,
             _ => false,
         },
-        Site::FlowPair(brackets, side) => follows_inside(brackets, side, kind),
+        yaml_token_type_t::YAML_FLOW_SEQUENCE_END_TOKEN => match place {
+            Site::FlowPair(Brackets::Sequence, _) => true,
+            _ => false,
+        },
+        yaml_token_type_t::YAML_FLOW_MAPPING_END_TOKEN => match place {
+            Site::FlowPair(Brackets::Mapping, _) => true,
+            _ => false,
+        },
+        _ => match place {
+            Site::Root => follows_root(kind),
+            _ => false,
+        },
     }
 }
 
-// The same, for a part of a pair inside brackets.
+// The same, of a document's root.
 #[inline(always)]
-fn follows_inside(brackets: Brackets, side: Side, kind: yaml_token_type_t) -> bool
-    ensures { result ≡ grammar.follows (site.FlowPair brackets side) kind }
+fn follows_root(kind: yaml_token_type_t) -> bool
+    ensures { result ≡ grammar.follows site.Root kind }
 {
     match kind {
-        yaml_token_type_t::YAML_FLOW_ENTRY_TOKEN => true,
-        yaml_token_type_t::YAML_VALUE_TOKEN => match side {
-            Side::Key => true,
-            Side::Value => false,
-        },
-        yaml_token_type_t::YAML_FLOW_SEQUENCE_END_TOKEN => match brackets {
-            Brackets::Sequence => true,
-            Brackets::Mapping => false,
-        },
-        yaml_token_type_t::YAML_FLOW_MAPPING_END_TOKEN => match brackets {
-            Brackets::Sequence => false,
-            Brackets::Mapping => true,
-        },
+        yaml_token_type_t::YAML_DOCUMENT_END_TOKEN
+        | yaml_token_type_t::YAML_STREAM_END_TOKEN
+        | yaml_token_type_t::YAML_VERSION_DIRECTIVE_TOKEN
+        | yaml_token_type_t::YAML_TAG_DIRECTIVE_TOKEN
+        | yaml_token_type_t::YAML_DOCUMENT_START_TOKEN => true,
         _ => false,
     }
 }
 
 // Which nodes may stand there.
 #[inline(always)]
-fn wants_of(place: Site) -> Wants
+pub(crate) fn wants_of(place: Site) -> Wants
     ensures { result ≡ grammar.wants_of place }
 {
     match place {

@@ -5,7 +5,6 @@ ghost use Rattle.yaml_parse_model.specs.Slots.{token_in_slot};
 ghost use Rattle.yaml_parse_core.specs.declared.level.Await.TheVariants.{Nothing};
 ghost use Rattle.yaml_parse_core.specs.Views.{states_of, whole_of};
 ghost use Rattle.yaml_parse_core.specs.Views as views;
-ghost use Rattle.yaml_parse_grammar.specs.Machine as grammar;
 ghost use Rattle.yaml_parse_core.specs.Seen.{seen};
 ghost use Rattle.yaml_parse_core.specs.Turns.{keeps, TurnsTo};
 
@@ -13,11 +12,8 @@ use crate::document::{at_directives, at_document, at_documents, at_first, at_str
 use crate::level::{Await, Level};
 use crate::machine::{Machine, Turn};
 use crate::node::{at_rest, flow_mapping, flow_sequence, node, scalar};
-use crate::part::{
-    at_colon, at_entries, at_mapping_more, at_other_keys, at_other_values, at_pairs,
-    at_sequence_more,
-};
-use crate::place::{at_mapping_items, at_optional, at_sequence_items};
+use crate::part::{at_colon, at_entries, at_mapping_more, at_others, at_pairs, at_sequence_more};
+use crate::place::{at_mapping_items, at_optional, at_sequence_items, wants_of};
 use crate::told::Waiting;
 use yaml_parse_grammar::{Brackets, Side, Site, Wants};
 use yaml_parse_model::{TokenSlot, yaml_token_type_t};
@@ -42,8 +38,8 @@ fn at_level(
             at_colon(machine, kind, token, Await::Value)
         }
         Level::Entries => at_entries(machine, kind, token),
-        Level::OtherKeys => at_other_keys(machine, kind, token),
-        Level::OtherValues => at_other_values(machine, kind, token),
+        Level::OtherKeys => at_others(machine, kind, token, Side::Key),
+        Level::OtherValues => at_others(machine, kind, token, Side::Value),
         Level::SequenceItems => at_sequence_items(machine, waiting, token, kind),
         Level::SequenceMore => at_sequence_more(machine, kind, token),
         Level::SequenceColon => {
@@ -91,21 +87,6 @@ fn site_at(awaited: Await) -> Site
         Await::MappingKey => Site::FlowPair(Brackets::Mapping, Side::Key),
         Await::MappingValue => Site::FlowPair(Brackets::Mapping, Side::Value),
         _ => Site::Root,
-    }
-}
-
-// Which nodes may stand there.
-#[inline(always)]
-fn wants_at(awaited: Await) -> Wants
-    ensures { result ≡ grammar.wants_of (views.site_of awaited) }
-{
-    match awaited {
-        Await::Key => Wants::Block(Some(Side::Key)),
-        Await::Value => Wants::Block(Some(Side::Value)),
-        Await::SequenceKey | Await::SequenceValue | Await::MappingKey | Await::MappingValue => {
-            Wants::Flow
-        }
-        _ => Wants::Block(None),
     }
 }
 
@@ -180,7 +161,8 @@ fn at_awaited(
         yaml_token_type_t::YAML_ALIAS_TOKEN
         | yaml_token_type_t::YAML_ANCHOR_TOKEN
         | yaml_token_type_t::YAML_TAG_TOKEN => {
-            node(machine, waiting, token, kind, wants_at(machine.awaited))
+            let wants = wants_of(site_at(machine.awaited));
+            node(machine, waiting, token, kind, wants)
         }
         _ => at_kind(machine, waiting, token, kind),
     }

@@ -12,7 +12,7 @@ use Rattle.yaml_parse_grammar.specs.declared.name.Brackets.{Brackets}
 use Rattle.yaml_parse_grammar.specs.declared.name.Brackets.TheVariants as brackets
 use Rattle.yaml_parse_grammar.specs.declared.problem.ParseProblem.TheVariants as problem
 use Rattle.yaml_parse_grammar.specs.States as state
-use Rattle.yaml_parse_grammar.specs.Trees.{Node, Content, Maybe, Colon, Items, More, Entries, Others, Pairs, PropertyTokens, spell_properties, properties_of, closing, spell_content, spell_colon, spell_items, spell_more, spell_entries, spell_others, spell_pairs, flow_shape}
+use Rattle.yaml_parse_grammar.specs.Trees.{Node, Content, Maybe, Colon, Items, More, Entries, Others, Pairs, PropertyTokens, spell_properties, properties_of, spell_content, spell_colon, spell_items, spell_more, spell_entries, spell_others, spell_pairs}
 use Rattle.yaml_parse_grammar.specs.TreeSteps.{items_content, items_colon, items_items, items_more, items_entries, items_others, items_pairs, lone, pair_start, pair_end}
 use Rattle.yaml_parse_grammar.specs.Trees as tree
 use Rattle.yaml_parse_grammar.specs.Machine.{items_taken, above, lone_below}
@@ -225,7 +225,8 @@ items_takes b opener kind.YAML_KEY_TOKEN h = refl
 items_takes b opener k h =
     ap (λ (x : Bool). if x then Take else Refuse problem.NoFlowNode None) (ap (λ (x : Bool). closes b k || x) h ∙ or-true (closes b k))
 
-items_node_taken : (b : Brackets) (opener start end : yaml_mark_t) (body : TokenBody)
+-- A node inside brackets is taken as any node, above what stands below it there.
+pub items_node_taken : (b : Brackets) (opener start end : yaml_mark_t) (body : TokenBody)
     → starts_node Flow (type_of body) ≡ true
     → items_taken b opener start end body
     ≡ above (lone_below b (state.more b opener ∷ [])) (node_taken Flow start end body)

@@ -6,7 +6,7 @@ use Rattle.yaml_parse_model.specs.Tokens as token
 use Rattle.yaml_parse_grammar.specs.declared.problem.ParseProblem.TheVariants as problem
 use Rattle.yaml_parse_grammar.specs.Items as item
 use Rattle.yaml_parse_grammar.specs.States as state
-use Rattle.yaml_parse_grammar.specs.Trees.{Documents, First, Stream, Directive, spell_directives, spell_ends, spell_documents, spell_first, spell, start_of, event_at}
+use Rattle.yaml_parse_grammar.specs.Trees.{Documents, First, Stream, Directive, spell_directives, spell_ends, spell_documents, spell_first, spell, start_of}
 use Rattle.yaml_parse_grammar.specs.TreeSteps.{items_directives, items_ends, items_documents, items_first}
 use Rattle.yaml_parse_grammar.specs.Trees as tree
 use Rattle.yaml_parse_grammar.specs.Machine.{initial}

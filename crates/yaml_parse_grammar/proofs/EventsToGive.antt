@@ -1,20 +1,14 @@
 -- A stack that isn't empty still has an event to give, or a fault.
-use Rattle.std.proofs.Common.{◌≡◌, ℕ, List, [], ◌∷◌, ◌++◌, length, map, Option, Some, None, refl}
-use Rattle.yaml_parse_grammar.proofs.Words.{yaml_mark_t, Token, TokenBody, type_of, no_token, Fault, Block, FlowPair, Choice, Refuse, Take, Leave, Open, RawEvent, RawEventBody, State, Given, choice_at, taken_at, documents_taken, stream_taken, left_at, Fed, stop, go, with_item, given_by, turn, feed, Stands, Outcome, finished, carry, run, IsInner, Directives, Settled, refused, gave, noted, settle, settle_body, reading, read_on, with_resolved, resolved}
-use Rattle.yaml_parse_model.specs.declared.yaml_token_type_t.TheVariants as kind
+use Rattle.std.proofs.Common.{◌≡◌, ℕ, List, [], ◌∷◌, ◌++◌, length, map, Option, Some, None, refl, subst}
+use Rattle.yaml_parse_grammar.proofs.Words.{yaml_mark_t, Token, TokenBody, type_of, no_token, Fault, Choice, Refuse, Take, Leave, Open, RawEvent, RawEventBody, State, Given, choice_at, taken_at, documents_taken, stream_taken, left_at, Fed, stop, go, with_item, given_by, turn, feed, Stands, Outcome, finished, carry, run, IsInner, Directives, Settled, refused, gave, noted, settle, settle_body, reading, read_on, with_resolved, resolved}
 use Rattle.yaml_parse_model.specs.Tokens as token
-use Rattle.yaml_parse_grammar.specs.declared.name.Brackets.TheVariants as brackets
+use Rattle.yaml_parse_grammar.specs.Items.{IsDirective}
 use Rattle.yaml_parse_grammar.specs.Items as item
 use Rattle.yaml_parse_grammar.specs.States as state
 use Rattle.yaml_parse_grammar.proofs.Standing.{IsWithin, inside_taken}
 use Rattle.yaml_parse_grammar.proofs.Throughout.{AreTaken}
-use Rattle.yaml_parse_grammar.proofs.Rules.{was_take}
-
--- the item is an event and no directive, or else the other fact holds
-abbrev pub Voiced : RawEventBody → Type 0 → Type 0
-Voiced (item.version_directive major minor) P = P
-Voiced (item.tag_directive handle prefix) P = P
-Voiced _ P = Unit {0}
+pub use Rattle.yaml_parse_grammar.proofs.Rules.{takes_a_token}
+use Rattle.yaml_parse_grammar.proofs.Single.{Emptied, emptied}
 
 abbrev pub IsSome : Option Fault → Type 0
 IsSome None = ⊥
@@ -23,20 +17,23 @@ IsSome (Some f) = Unit {0}
 -- among the items is an event, or a fault ends them
 abbrev pub HasVoice : List Given → Option Fault → Type 0
 HasVoice [] f = IsSome f
-HasVoice (g ∷ gs) f = Voiced g.0.body (HasVoice gs f)
+HasVoice (g ∷ gs) f = IsDirective g.0.body → HasVoice gs f
 
 abbrev pub TakenSpeaks : Option RawEvent → List State → Type 0
 TakenSpeaks None above = Stands above
-TakenSpeaks (Some i) above = Voiced i.body (Stands above)
+TakenSpeaks (Some i) above = IsDirective i.body → Stands above
 
 stream_speaks : (start end : yaml_mark_t) (b : TokenBody)
     → TakenSpeaks (stream_taken start end b).item (stream_taken start end b).above
-stream_speaks start end (token.stream_start e) = tt
+stream_speaks start end (token.stream_start e) = λ d. absurd d
 stream_speaks start end _ = tt
 
 documents_speak : (from start end : yaml_mark_t) (b : TokenBody)
     → TakenSpeaks (documents_taken from start end b).item (documents_taken from start end b).above
-documents_speak from start end token.stream_end = tt
+documents_speak from start end token.stream_end = λ d. absurd d
+documents_speak from start end (token.version_directive major minor) = λ d. tt
+documents_speak from start end (token.tag_directive handle prefix) = λ d. tt
+documents_speak from start end token.document_start = λ d. tt
 documents_speak from start end _ = tt
 
 -- levels that stand do so above others too
@@ -44,20 +41,15 @@ pub stands_above : (xs ys : List State) → Stands xs → Stands (xs ++ ys)
 stands_above [] ys h = absurd h
 stands_above (x ∷ xs) ys h = tt
 
-voiced_map : (b : RawEventBody) {P Q : Type 0} → (P → Q) → Voiced b P → Voiced b Q
-voiced_map (item.version_directive x y) f h = f h
-voiced_map (item.tag_directive x y) f h = f h
-voiced_map _ f h = tt
-
-voiced_within : (b : RawEventBody) (X : Type 0) → IsWithin b → Voiced b X
-voiced_within (item.event e) X h = tt
-voiced_within (item.node a t s) X h = tt
-voiced_within _ X h = absurd h
+not_within : (b : RawEventBody) → IsWithin b → IsDirective b → ⊥
+not_within (item.version_directive x y) h d = h
+not_within (item.tag_directive x y) h d = h
+not_within _ h d = d
 
 within_speaks : (i : Option RawEvent) (s : List State)
     → AreTaken IsWithin IsInner (record { item = i; above = s }) → TakenSpeaks i s
 within_speaks None s h = h.0
-within_speaks (Some i) s h = voiced_within i.body (Stands s) h.0
+within_speaks (Some i) s h = λ d. absurd (not_within i.body h.0 d)
 
 -- what takes a token without an event leaves something open
 pub taken_speaks : (x : State) (t : Token) → TakenSpeaks (taken_at x t).item (taken_at x t).above
@@ -65,27 +57,19 @@ taken_speaks state.stream t = stream_speaks t.start_mark t.end_mark t.body
 taken_speaks state.first t = documents_speak t.start_mark t.start_mark t.end_mark t.body
 taken_speaks state.documents t = documents_speak t.start_mark t.start_mark t.end_mark t.body
 taken_speaks (state.directives from) t = documents_speak from t.start_mark t.end_mark t.body
-taken_speaks state.document_end t = tt
+taken_speaks state.document_end t = λ d. absurd d
 taken_speaks x t = within_speaks (taken_at x t).item (taken_at x t).above (inside_taken x t tt)
 
 -- leaving a state gives no directive
-pub left_voiced : (x : State) (start : yaml_mark_t) (P : Type 0) → Voiced (left_at x start).body P
-left_voiced (state.others side) start P = tt
-left_voiced _ start P = tt
-
--- no state takes the empty token
-pub takes_a_token : (x : State) → choice_at x kind.YAML_NO_TOKEN ≡ Take → ⊥
-takes_a_token (state.optional (FlowPair brackets.Sequence side) before) h = was_take _ h
-takes_a_token (state.with_properties (Block (Some s)) p) h = was_take _ h
-takes_a_token (state.items brackets.Sequence o) h = was_take _ h
-takes_a_token (state.more brackets.Sequence o) h = was_take _ h
-takes_a_token _ h = was_take _ h
+pub left_voiced : (x : State) (start : yaml_mark_t) → IsDirective (left_at x start).body → ⊥
+left_voiced (state.others side) start d = d
+left_voiced _ start d = d
 
 -- ---- a turn
 
 abbrev SpeaksIn : List RawEvent → List State → Type 0
 SpeaksIn [] s = Stands s
-SpeaksIn (i ∷ is) s = Voiced i.body (SpeaksIn is s)
+SpeaksIn (i ∷ is) s = IsDirective i.body → SpeaksIn is s
 
 -- a stop, an event, or something that is still open
 abbrev FedSpeaks : Fed → Type 0
@@ -95,19 +79,19 @@ FedSpeaks (go is s) = SpeaksIn is s
 given_speaks : (i : Option RawEvent) (above s : List State) → TakenSpeaks i above
     → FedSpeaks (given_by (record { item = i; above = above }) s)
 given_speaks None above s h = stands_above above s h
-given_speaks (Some i) above s h = voiced_map i.body (stands_above above s) h
+given_speaks (Some i) above s h = λ d. stands_above above s (h d)
 
-with_speaks : (i : RawEvent) (below : Fed) → ((P : Type 0) → Voiced i.body P)
+with_speaks : (i : RawEvent) (below : Fed) → (IsDirective i.body → ⊥)
     → FedSpeaks (with_item i below)
 with_speaks i (stop is f) h = tt
-with_speaks i (go is s) h = h (SpeaksIn is s)
+with_speaks i (go is s) h = λ d. absurd (h d)
 
 turn_speaks : (c : Choice) (x : State) (t : Token) (s : List State) (below : Fed)
     → FedSpeaks (turn c x t s below)
 turn_speaks (Refuse p o) x t s below = tt
 turn_speaks Take x t s below = given_speaks (taken_at x t).item (taken_at x t).above s (taken_speaks x t)
 turn_speaks Leave x t s below = with_speaks (left_at x t.start_mark) below (left_voiced x t.start_mark)
-turn_speaks Open x t s below = tt
+turn_speaks Open x t s below = λ d. absurd d
 
 feed_speaks : (x : State) (s : List State) (t : Token) → FedSpeaks (feed (x ∷ s) t)
 unfolding feed
@@ -117,39 +101,25 @@ abbrev Begins : (List State → Outcome) → Type 0
 Begins k = (s : List State) → Stands s → HasVoice (k s).items (k s).ending
 
 carried_go : (left : ℕ) (is : List RawEvent) (s : List State) (k : List State → Outcome)
-    → SpeaksIn is s → Begins k
+    → SpeaksIn is s → (Stands s → HasVoice (k s).items (k s).ending)
     → HasVoice (map (λ (i : RawEvent). (i, left)) is ++ (k s).items) (k s).ending
-carried_go left [] s k h b = b s h
-carried_go left (i ∷ is) s k h b = voiced_map i.body (λ h'. carried_go left is s k h' b) h
-
-voiced_any : (c : RawEventBody) {P : Type 0} → P → Voiced c P
-voiced_any (item.version_directive x y) h = h
-voiced_any (item.tag_directive x y) h = h
-voiced_any _ h = tt
+carried_go left [] s k h b = b h
+carried_go left (i ∷ is) s k h b = λ d. carried_go left is s k (h d) b
 
 stopped : (left : ℕ) (is : List RawEvent) (f : Fault)
     → HasVoice (map (λ (i : RawEvent). (i, left)) is) (Some f)
 stopped left [] f = tt
-stopped left (i ∷ is) f = voiced_any i.body (stopped left is f)
+stopped left (i ∷ is) f = λ d. stopped left is f
 
 carried_speaks : (left : ℕ) (fed : Fed) (k : List State → Outcome) → FedSpeaks fed → Begins k
     → HasVoice (carry left fed k).items (carry left fed k).ending
 carried_speaks left (stop is f) k h b = stopped left is f
-carried_speaks left (go is s) k h b = carried_go left is s k h b
+carried_speaks left (go is s) k h b = carried_go left is s k h (b s)
 
-ended_with : (i : RawEvent) (below : Fed) → ((P : Type 0) → Voiced i.body P)
-    → HasVoice (carry 0 (with_item i below) (λ _. finished)).items
-    (carry 0 (with_item i below) (λ _. finished)).ending
-ended_with i (stop is f) h = h _
-ended_with i (go is s) h = h _
-
-ended_speaks : (c : Choice) (x : State) (t : Token) (s : List State) (below : Fed) → (c ≡ Take → ⊥)
-    → HasVoice (carry 0 (turn c x t s below) (λ _. finished)).items
-    (carry 0 (turn c x t s below) (λ _. finished)).ending
-ended_speaks (Refuse p o) x t s below h = tt
-ended_speaks Take x t s below h = absurd (h refl)
-ended_speaks Leave x t s below h = ended_with (left_at x t.start_mark) below (left_voiced x t.start_mark)
-ended_speaks Open x t s below h = tt
+ended_speaks : (fed : Fed) → FedSpeaks fed → Emptied fed
+    → HasVoice (carry 0 fed (λ _. finished)).items (carry 0 fed (λ _. finished)).ending
+ended_speaks (stop is f) h e = stopped 0 is f
+ended_speaks (go is s) h e = carried_go 0 is s (λ _. finished) h (λ k. absurd (subst Stands e k))
 
 -- A stack that isn't empty has an event to give, or a fault.
 pub speaks : (ts : List Token) (f : Option Fault) (s : List State) → Stands s
@@ -157,7 +127,7 @@ pub speaks : (ts : List Token) (f : Option Fault) (s : List State) → Stands s
 unfolding run feed
 speaks ts f [] h = absurd h
 speaks [] (Some e) (x ∷ s) h = tt
-speaks [] None (x ∷ s) h = ended_speaks (choice_at x kind.YAML_NO_TOKEN) x no_token s (feed s no_token) (takes_a_token x)
+speaks [] None (x ∷ s) h = ended_speaks (feed (x ∷ s) no_token) (feed_speaks x s no_token) (emptied (x ∷ s))
 speaks (t ∷ ts) f (x ∷ s) h = carried_speaks (length ts) (feed (x ∷ s) t) (λ s'. run ts s' f) (feed_speaks x s t) (λ s' h'. speaks ts f s' h')
 
 -- ---- resolved
@@ -169,24 +139,23 @@ pub not_noted : (o : Option (List ℕ)) (a : Option (List ℕ)) (shape : item.Sh
 not_noted None a shape from at ds ds' h = cc
 not_noted (Some t) a shape from at ds ds' h = cc
 
-pub noted_body : (b : RawEventBody) (from : yaml_mark_t) (ds ds' : Directives) (P : Type 0)
-    → settle_body b from ds ≡ noted ds' → Voiced b P → P
-noted_body (item.version_directive x y) from ds ds' P e h = h
-noted_body (item.tag_directive x y) from ds ds' P e h = h
-noted_body (item.event b) from ds ds' P e h = cc
-noted_body (item.document i) from ds ds' P e h = cc
-noted_body (item.node a None shape) from ds ds' P e h = cc
-noted_body (item.node a (Some t) shape) from ds ds' P e h = absurd (not_noted (resolved ds.tags t.handle t.suffix) a shape from t.mark ds ds' e)
+-- What settles as noted is a directive.
+pub noted_directive : (b : RawEventBody) (from : yaml_mark_t) (ds ds' : Directives)
+    → settle_body b from ds ≡ noted ds' → IsDirective b
+noted_directive (item.version_directive x y) from ds ds' e = tt
+noted_directive (item.tag_directive x y) from ds ds' e = tt
+noted_directive (item.node a (Some t) shape) from ds ds' e = not_noted (resolved ds.tags t.handle t.suffix) a shape from t.mark ds ds' e
+noted_directive b from ds ds' e = cc
 
 read_on_speaks : (c : Settled) (g : Given) (gs : List Given) (f : Option Fault) (ds : Directives)
-    → settle g.0 ds ≡ c → Voiced g.0.body (HasVoice gs f)
+    → settle g.0 ds ≡ c → (IsDirective g.0.body → HasVoice gs f)
     → ((ds' : Directives) → HasVoice gs f → (reading gs f ds').events ≡ []
     → (reading gs f ds').ending ≡ None → ⊥)
     → (read_on c g.0 g.1 (λ ds'. reading gs f ds')).events ≡ []
     → (read_on c g.0 g.1 (λ ds'. reading gs f ds')).ending ≡ None → ⊥
 read_on_speaks (refused e) g gs f ds s h k p q = cc
 read_on_speaks (gave b ds') g gs f ds s h k p q = cc
-read_on_speaks (noted ds') g gs f ds s h k p q = k ds' (noted_body g.0.body g.0.from ds ds' (HasVoice gs f) s h) p q
+read_on_speaks (noted ds') g gs f ds s h k p q = k ds' (h (noted_directive g.0.body g.0.from ds ds' s)) p q
 
 -- Where something is to be told, an event or a fault is.
 pub reading_speaks : (gs : List Given) (f : Option Fault) (ds : Directives) → HasVoice gs f

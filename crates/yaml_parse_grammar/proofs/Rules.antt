@@ -1,8 +1,9 @@
 -- What a state does at a token, by cases on what it does: the one place where each state meets each token.
 use Rattle.std.proofs.Common.{◌≡◌, true, if◌then◌else◌, ◌||◌, Option, Some, None, refl, subst, sym}
 use Rattle.std.proofs.lemmas.Bool.{cond_both, false≢true}
-use Rattle.yaml_parse_grammar.proofs.Words.{yaml_mark_t, yaml_token_type_t, Flow, Block, Choice, Refuse, Take, Leave, Open, ParseProblem, State, starts_content, starts_node, wants_of, closes, parts_documents, follows, no_node, joins, choice_at}
+use Rattle.yaml_parse_grammar.proofs.Words.{yaml_mark_t, yaml_token_type_t, Flow, Block, FlowPair, Choice, Refuse, Take, Leave, Open, ParseProblem, State, starts_content, starts_node, wants_of, closes, parts_documents, follows, no_node, joins, choice_at}
 use Rattle.yaml_parse_model.specs.declared.yaml_token_type_t.TheVariants as kind
+use Rattle.yaml_parse_grammar.specs.declared.name.Brackets.TheVariants as brackets
 use Rattle.yaml_parse_grammar.specs.declared.problem.ParseProblem.TheVariants as problem
 use Rattle.yaml_parse_grammar.specs.States as state
 use Rattle.yaml_parse_grammar.specs.Machine.{no_end}
@@ -89,6 +90,14 @@ IsTake _ = ⊥
 -- A choice that is to take is no other one.
 pub was_take : (x : Choice) → x ≡ Take → IsTake x
 was_take x e = subst IsTake (sym e) tt
+
+-- no state takes the empty token
+pub takes_a_token : (x : State) → choice_at x kind.YAML_NO_TOKEN ≡ Take → ⊥
+takes_a_token (state.optional (FlowPair brackets.Sequence side) before) h = was_take _ h
+takes_a_token (state.with_properties (Block (Some s)) p) h = was_take _ h
+takes_a_token (state.items brackets.Sequence o) h = was_take _ h
+takes_a_token (state.more brackets.Sequence o) h = was_take _ h
+takes_a_token _ h = was_take _ h
 
 -- ---- the rules inverted
 

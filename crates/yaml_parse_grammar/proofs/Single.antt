@@ -8,9 +8,8 @@ use Rattle.yaml_parse_grammar.specs.Items as item
 use Rattle.yaml_parse_grammar.specs.States as state
 use Rattle.yaml_parse_grammar.specs.Machine.{context_of, ending_at, left_where_stopped, unasked_at_stop}
 use Rattle.yaml_parse_grammar.proofs.Complete.{giving, one, carry_with_item, fed_by, runs_by, optional_takes}
-use Rattle.yaml_parse_grammar.proofs.Rules.{none_opens}
+use Rattle.yaml_parse_grammar.proofs.Rules.{none_opens, takes_a_token}
 pub use Rattle.yaml_parse_grammar.proofs.Rules.{opens_node}
-use Rattle.yaml_parse_grammar.proofs.EventsToGive.{takes_a_token}
 
 -- ---- the end of a list
 

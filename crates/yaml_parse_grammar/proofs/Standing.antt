@@ -3,13 +3,13 @@ use Rattle.std.proofs.Common.{◌≡◌, ℕ, Bool, false, List, [], ◌∷◌, 
 use Rattle.std.proofs.lemmas.Bool.{cond_both}
 use Rattle.std.specs.Str.{bytes_eq}
 use Rattle.std.specs.Prelude.{codes}
-use Rattle.yaml_parse_grammar.proofs.Words.{yaml_mark_t, yaml_token_type_t, Token, TokenBody, type_of, Take, Leave, Open, RawEvent, RawEventBody, Shape, State, choice_at, taken_at, documents_taken, stream_taken, left_at, opened, Directives, Settled, refused, gave, noted, settle_body, node_event, IsInner}
+use Rattle.yaml_parse_grammar.proofs.Words.{yaml_mark_t, yaml_token_type_t, Token, TokenBody, type_of, Take, Leave, Open, RawEvent, RawEventBody, Shape, State, choice_at, taken_at, documents_taken, stream_taken, left_at, opened, Directives, settle_body, node_event, IsInner}
 use Rattle.yaml_parse_model.specs.Tokens as token
 use Rattle.yaml_parse_grammar.specs.Items as item
 use Rattle.yaml_parse_grammar.specs.States as state
 use Rattle.yaml_parse_grammar.specs.Remaining.{is_between}
 use Rattle.yaml_parse_grammar.proofs.Rules.{MayLeave, leave_rule, opens_first}
-use Rattle.yaml_parse_grammar.proofs.Throughout.{Settles, settled_by, AllAre, AreTaken, IsBare, Inner, inner_are}
+use Rattle.yaml_parse_grammar.proofs.Throughout.{Settles, SettlesTo, settled_by, AllAre, AreTaken, IsBare, Inner, inner_are}
 use Rattle.yaml_parse_grammar.specs.Stacks.{parts_documents_behind, StandsBehind, InsideAt, IsInside, StackAt, IsStack}
 
 -- ---- inside a document
@@ -146,11 +146,6 @@ opened_stands x k start s c h = ((tt, ap (λ (z : List State). state.documents �
 
 -- ---- the event of an item
 
-abbrev pub SettledBehind : Settled → Bool → Type 0
-SettledBehind (refused f) between = Unit {0}
-SettledBehind (gave body ds) between = between ≡ parts_documents_behind body
-SettledBehind (noted ds) between = Unit {0}
-
 node_half : (anchor tag : Option (List ℕ)) (s : Shape)
     → false ≡ parts_documents_behind (node_event anchor tag s)
 node_half anchor (Some tag) (item.scalar value style) = cond_both (bytes_eq tag (codes "!")) _ _ (λ b. false ≡ parts_documents_behind b) (λ _. refl) (λ _. refl)
@@ -159,10 +154,10 @@ node_half anchor tag _ = refl
 
 -- Settling an item keeps where it stands.
 pub settled_behind : (b : RawEventBody) (from : yaml_mark_t) (ds : Directives) (x : Bool)
-    → StandsBehind b x → SettledBehind (settle_body b from ds) x
-settled_behind b from ds x h = settled_by (λ c. SettledBehind c x) (λ f. tt) b from ds (cases b h)
+    → StandsBehind b x → SettlesTo (λ e. x ≡ parts_documents_behind e) (settle_body b from ds)
+settled_behind b from ds x h = settled_by (SettlesTo (λ e. x ≡ parts_documents_behind e)) (λ f. tt) b from ds (cases b h)
   where
-    cases : (b : RawEventBody) → StandsBehind b x → Settles (λ c. SettledBehind c x) b ds
+    cases : (b : RawEventBody) → StandsBehind b x → Settles (SettlesTo (λ e. x ≡ parts_documents_behind e)) b ds
     cases (item.event body) h = h
     cases (item.document implicit) h = h
     cases (item.node anchor None shape) h = h ∙ node_half anchor None shape

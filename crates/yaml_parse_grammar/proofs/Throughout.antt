@@ -10,16 +10,14 @@ use Rattle.yaml_parse_model.specs.Events as event
 use Rattle.yaml_parse_grammar.specs.declared.name.Brackets.TheVariants as brackets
 use Rattle.yaml_parse_grammar.specs.Items.{Tag}
 use Rattle.yaml_parse_grammar.specs.Items as item
+pub use Rattle.yaml_parse_grammar.specs.States.{AllAre}
 use Rattle.yaml_parse_grammar.specs.States as state
 use Rattle.yaml_parse_grammar.specs.Resolve.{Told, Reading, behind_event}
 use Rattle.yaml_parse_grammar.specs.Machine.{tag_at}
 
 -- ---- what is taken
 
-abbrev pub AllAre : (State → Type 0) → List State → Type 0
-AllAre Q [] = Unit {0}
-AllAre Q (x ∷ s) = Q x × AllAre Q s
-
+-- What holds of each of two lists holds of both in a row.
 pub all_over : (Q : State → Type 0) (xs ys : List State) → AllAre Q xs → AllAre Q ys
     → AllAre Q (xs ++ ys)
 all_over Q [] ys h k = k

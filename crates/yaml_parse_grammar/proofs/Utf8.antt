@@ -3,27 +3,17 @@ use Rattle.std.proofs.Common.{ℕ, List, [], ◌∷◌, ◌++◌, Option, Some, 
 use Rattle.std.proofs.lemmas.Bool.{cond_both}
 use Rattle.std.proofs.lemmas.Str.{IsUtf8-append, IsUtf8-nil}
 use Rattle.std.specs.Str.{bytes_eq}
-use Rattle.yaml_parse_grammar.proofs.Words.{yaml_mark_t, Token, EventBody, TagDirective, RawEvent, RawEventBody, Shape, State, taken_at, left_at, opened, Directives, Settled, refused, gave, noted, settle_body, resolved, directive_for, node_event}
+use Rattle.yaml_parse_grammar.proofs.Words.{yaml_mark_t, Token, EventBody, TagDirective, RawEventBody, Shape, State, Directives, Settled, refused, gave, noted, settle_body, resolved, directive_for, node_event}
 use Rattle.yaml_parse_model.specs.Source as source
 use Rattle.yaml_parse_model.specs.Events as event
 use Rattle.yaml_parse_model.specs.Constructors.{HasUtf8, IsUtf8Option, AreUtf8}
 use Rattle.yaml_parse_grammar.specs.Items as item
 use Rattle.yaml_parse_grammar.specs.States as state
 use Rattle.yaml_parse_grammar.specs.Resolve.{or_default, behind_event}
-use Rattle.yaml_parse_grammar.proofs.Throughout.{Settles, settled_by, AllAre, AreTaken, IsTextless, bare_textless, Outer, taken_are, left_are}
+use Rattle.yaml_parse_grammar.proofs.Throughout.{Settles, settled_by, IsTextless, bare_textless, Outer}
 use Rattle.yaml_parse_grammar.specs.Texts.{IsUtf8Tag, IsUtf8Shape, IsUtf8Item, IsUtf8State, AreUtf8States, IsUtf8Token, IsUtf8Held}
 
 -- ---- the machine
-
-abbrev pub IsUtf8Taken : Option RawEvent → List State → Type 0
-IsUtf8Taken None above = AreUtf8States above
-IsUtf8Taken (Some i) above = IsUtf8Item i.body × AreUtf8States above
-
--- Two lists of states hold UTF-8 where each does.
-pub states_over : (xs ys : List State) → AreUtf8States xs → AreUtf8States ys
-    → AreUtf8States (xs ++ ys)
-states_over [] ys h k = k
-states_over (x ∷ xs) ys h k = (h.0, states_over xs ys h.1 k)
 
 textless_utf8 : (x : State) → IsTextless x → IsUtf8State x
 textless_utf8 (state.with_properties w p) h = absurd h
@@ -57,29 +47,6 @@ utf8_rules = record {
   outer = textless_utf8;
   none = tt;
 }
-
-all_utf8 : (s : List State) → AllAre IsUtf8State s → AreUtf8States s
-all_utf8 [] h = tt
-all_utf8 (x ∷ s) h = (h.0, all_utf8 s h.1)
-
-utf8_taken : (i : Option RawEvent) (s : List State)
-    → AreTaken IsUtf8Item IsUtf8State (record { item = i; above = s }) → IsUtf8Taken i s
-utf8_taken None s h = all_utf8 s h.1
-utf8_taken (Some i) s h = (h.0, all_utf8 s h.1)
-
--- What a state takes of a token of UTF-8 is UTF-8.
-pub taken_utf8 : (x : State) (t : Token) → IsUtf8State x → source.HasUtf8 t.body
-    → IsUtf8Taken (taken_at x t).item (taken_at x t).above
-taken_utf8 x t p h = utf8_taken (taken_at x t).item (taken_at x t).above (taken_are utf8_rules x t p h)
-
--- What a state gives where it leaves is UTF-8.
-pub left_utf8 : (x : State) (start : yaml_mark_t) → IsUtf8State x
-    → IsUtf8Item (left_at x start).body
-left_utf8 x start h = left_are utf8_rules x start h
-
--- The states of a document that opens hold no text.
-pub opened_utf8 : (start : yaml_mark_t) → AreUtf8States (opened start)
-opened_utf8 start = (tt, (tt, (tt, tt)))
 
 -- ---- tags and directives
 

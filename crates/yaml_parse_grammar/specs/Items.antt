@@ -58,3 +58,9 @@ properties_alone p = item_at (node p.anchor p.tag empty) p.from p.to
 abbrev pub node_at : Option Properties → Shape → yaml_mark_t → yaml_mark_t → RawEvent
 node_at None shape from to = item_at (node None None shape) from to
 node_at (Some p) shape from to = item_at (node p.anchor p.tag shape) p.from to
+
+-- a directive, which is no event
+abbrev pub IsDirective : RawEventBody → Type 0
+IsDirective (version_directive major minor) = Unit {0}
+IsDirective (tag_directive handle prefix) = Unit {0}
+IsDirective _ = ⊥

@@ -21,7 +21,7 @@ use Rattle.yaml_parse_grammar.specs.declared.name.Choice.TheVariants.{Refuse, Ta
 use Rattle.yaml_parse_grammar.specs.declared.problem.ParseProblem.{ParseProblem}
 use Rattle.yaml_parse_grammar.specs.declared.problem.ParseProblem.TheVariants as problem
 use Rattle.yaml_parse_grammar.specs.Problems.{parser_fault}
-use Rattle.yaml_parse_grammar.specs.Items.{RawEvent, Tag, Properties, Shape, item_at, blank, properties_alone, node_at}
+use Rattle.yaml_parse_grammar.specs.Items.{RawEvent, Tag, Properties, item_at, blank, properties_alone, node_at}
 use Rattle.yaml_parse_grammar.specs.Items as item
 use Rattle.yaml_parse_grammar.specs.States.{State, Taken}
 use Rattle.yaml_parse_grammar.specs.States as state

@@ -1,5 +1,5 @@
 -- What may come.
-use Rattle.std.specs.Prelude.{List, Option}
+use Rattle.std.specs.Prelude.{List, [], ◌∷◌, Option}
 use Rattle.yaml_parse_model.specs.declared.yaml_mark_t.{yaml_mark_t}
 use Rattle.yaml_parse_grammar.specs.declared.name.Wants.{Wants}
 use Rattle.yaml_parse_grammar.specs.declared.name.Brackets.{Brackets}
@@ -37,3 +37,8 @@ pub data State : Type 0 where
 pub record Taken : Type 0 where
   pub item : Option RawEvent
   pub above : List State
+
+-- Q of each state of a list
+abbrev pub AllAre : (State → Type 0) → List State → Type 0
+AllAre Q [] = Unit {0}
+AllAre Q (x ∷ s) = Q x × AllAre Q s

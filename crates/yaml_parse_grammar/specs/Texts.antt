@@ -3,9 +3,9 @@ use Rattle.std.specs.Prelude.{List, [], ◌∷◌, Option, Some, None, IsUtf8}
 use Rattle.yaml_parse_model.specs.Tokens.{Token}
 use Rattle.yaml_parse_model.specs.Source as source
 use Rattle.yaml_parse_model.specs.Constructors.{HasUtf8, IsUtf8Option, AreUtf8}
-use Rattle.yaml_parse_grammar.specs.Items.{RawEvent, RawEventBody, Tag, Shape}
+use Rattle.yaml_parse_grammar.specs.Items.{RawEventBody, Tag, Shape}
 use Rattle.yaml_parse_grammar.specs.Items as item
-use Rattle.yaml_parse_grammar.specs.States.{State}
+use Rattle.yaml_parse_grammar.specs.States.{State, AllAre}
 use Rattle.yaml_parse_grammar.specs.States as state
 use Rattle.yaml_parse_grammar.specs.Resolve.{Directives}
 
@@ -28,8 +28,7 @@ IsUtf8State (state.with_properties wants p) = IsUtf8Option p.anchor × IsUtf8Tag
 IsUtf8State _ = Unit {0}
 
 abbrev pub AreUtf8States : List State → Type 0
-AreUtf8States [] = Unit {0}
-AreUtf8States (x ∷ s) = IsUtf8State x × AreUtf8States s
+AreUtf8States = AllAre IsUtf8State
 
 -- of a token that may be missing
 abbrev pub IsUtf8Token : Option Token → Type 0

@@ -5,7 +5,7 @@ use Rattle.std.specs.Global.{Global}
 use Rattle.std.specs.Str.{bytes_eq}
 use Rattle.std.specs.declared.cmp.Ordering.TheVariants.{Less, Equal, Greater}
 use Rattle.std.specs.Ordering.{nat_cmp, match_ordering, eq_by_cmp}
-use Rattle.std.specs.Cmp.Lexicographic.{slice_cmp, nat_list_cmp_total, texts_ties}
+use Rattle.std.specs.Cmp.Lexicographic.{slice_cmp, nat_list_cmp_total, nat_list_eq_equiv, texts_ties}
 use Rattle.std.proofs.lemmas.Slice.Eq.{bytes_eq-Decides}
 use Rattle.std.proofs.lemmas.Bool.{eqb-true}
 use Rattle.std.proofs.lemmas.List.{map-append, nil_from_length}
@@ -55,32 +55,15 @@ untold handle list tags is empty =
     ap (λ (ts : List TagDirective). directive_for handle ts)
     (sym (ap (map directive_of) (nil_from_length list (eqb-true (length list) 0 empty))) ∙ is)
 
--- ---- equal handles
-
-same_truth : (a b : Bool) → (a ≡ true → b ≡ true) → (b ≡ true → a ≡ true) → a ≡ b
-same_truth true b f g = sym (f refl)
-same_truth false true f g = g refl
-same_truth false false f g = refl
-
-turned : (a b : List ℕ) → bytes_eq a b ≡ bytes_eq b a
-turned a b = same_truth (bytes_eq a b) (bytes_eq b a)
-    (λ e. (bytes_eq-Decides b a).1 (sym ((bytes_eq-Decides a b).0 e)))
-    (λ e. (bytes_eq-Decides a b).1 (sym ((bytes_eq-Decides b a).0 e)))
-
 joined : (h q k : List ℕ) → bytes_eq h k ≡ false → bytes_eq q k ≡ true → bytes_eq h q ≡ true → ⊥
 joined h q k n a b = true≢false (sym ((bytes_eq-Decides h k).1 ((bytes_eq-Decides h q).0 b ∙ (bytes_eq-Decides q k).0 a)) ∙ n)
 
 -- ---- a new handle
 
-is_other : {A : Type 0} (m : Bool) (v : A) (o : Option A) → (if m then Some v else o) ≡ None
-    → m ≡ false
-is_other true v o e = absurd (true≢false (ap is_some e))
-is_other false v o e = refl
-
-none_behind : {A : Type 0} (m : Bool) (v : A) (o : Option A) → (if m then Some v else o) ≡ None
-    → o ≡ None
-none_behind true v o e = absurd (true≢false (ap is_some e))
-none_behind false v o e = e
+not_found : {A : Type 0} (m : Bool) (v : A) (o : Option A) → (if m then Some v else o) ≡ None
+    → (m ≡ false) × (o ≡ None)
+not_found true v o e = absurd (true≢false (ap is_some e))
+not_found false v o e = (refl, e)
 
 passes : {A : Type 0} (a b : Bool) (u v r more : A) → (a ≡ true → b ≡ true → ⊥) → cond a u r ≡ more
     → cond a u (if b then v else r) ≡ (if b then v else more)
@@ -93,10 +76,10 @@ for_new : (k p : List ℕ) (ts : List TagDirective) → directive_for k ts ≡ N
     → cond (bytes_eq q k) (Some p) (directive_for q ts)
     ≡ directive_for q (ts ++ record { handle = k; prefix = p } ∷ [])
 unfolding directive_for
-for_new k p [] e q = ap (λ (b : Bool). if b then Some p else None) (turned q k)
+for_new k p [] e q = ap (λ (b : Bool). if b then Some p else None) (nat_list_eq_equiv.symm q k)
 for_new k p (t ∷ ts) e q = passes (bytes_eq q k) (bytes_eq t.handle q) (Some p) (Some t.prefix) (directive_for q ts) (directive_for q (ts ++ record { handle = k; prefix = p } ∷ []))
-    (joined t.handle q k (is_other (bytes_eq t.handle k) t.prefix (directive_for k ts) e))
-    (for_new k p ts (none_behind (bytes_eq t.handle k) t.prefix (directive_for k ts) e) q)
+    (joined t.handle q k (not_found (bytes_eq t.handle k) t.prefix (directive_for k ts) e).0)
+    (for_new k p ts (not_found (bytes_eq t.handle k) t.prefix (directive_for k ts) e).1 q)
 
 pub added : (tags : List TagDirective) (es : List (Text × Text)) (k p : Text)
     → directive_for k.items tags ≡ None → TellsAll tags es
@@ -117,12 +100,8 @@ pub indexed : (tags more : List yaml_tag_directive_t) (es after : List (Text × 
     → directive_for handle.items (map directive_of tags) ≡ None
     → TellsAll (map directive_of tags) es → TellsAll (map directive_of more) after
 indexed tags more es after handle prefix k p is_more is_after is_name is_text n tells q =
-    ap (λ (es : List (Text × Text)). find (slice_cmp nat_cmp) q (map entry_of es)) is_after
-    ∙ added (map directive_of tags) es k p (ap (λ (h : List ℕ). directive_for h (map directive_of tags)) is_name ∙ n) tells q
-    ∙ ap (λ (h : List ℕ). directive_for q (map directive_of tags ++ record { handle = h; prefix = p.items } ∷ [])) is_name
-    ∙ ap (λ (t : List ℕ). directive_for q (map directive_of tags ++ record { handle = handle.items; prefix = t } ∷ [])) is_text
-    ∙ sym (ap (directive_for q) (map-append directive_of tags (record { handle = handle; prefix = prefix } ∷ [])))
-    ∙ sym (ap (λ (ts : List yaml_tag_directive_t). directive_for q (map directive_of ts)) is_more)
+    rw (is_after, is_more, map-append directive_of tags (record { handle = handle; prefix = prefix } ∷ []), sym is_name, sym is_text)
+    (added (map directive_of tags) es k p (rw is_name n) tells q)
 
 pub none_told : (es : List (Text × Text)) (tags : List yaml_tag_directive_t) → es ≡ [] → tags ≡ []
     → TellsAll (map directive_of tags) es

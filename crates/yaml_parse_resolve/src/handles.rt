@@ -1,6 +1,6 @@
 //! The tag directives of a document.
 
-ghost use Rattle.std.specs.Prelude.{◌≡◌, ◌∷◌, ◌++◌, [], None, map, option_map, IfOk, OnOk};
+ghost use Rattle.std.specs.Prelude.{◌≡◌, ◌∷◌, ◌++◌, [], None, map, option_map, OnOk};
 ghost use Rattle.yaml_parse_model.specs.Events.{directive_of};
 ghost use Rattle.yaml_parse_grammar.specs.Resolve.{directive_for};
 
@@ -28,19 +28,6 @@ impl Model for TagDirectives {
     ghost view = { tags_view };
 
     ghost invariant = { IsIndexed };
-}
-
-// A copy for the index, which keeps texts of its own.
-fn copy_directive(
-    alloc: Global,
-    directive: &yaml_tag_directive_t,
-) -> Result<yaml_tag_directive_t, AllocError>
-    ensures { IfOk result (λ d. directive_of d ≡ directive_of directive.now) }
-{
-    Ok(yaml_tag_directive_t {
-        handle: Vec::from_slice(alloc, directive.handle.as_slice())?,
-        prefix: Vec::from_slice(alloc, directive.prefix.as_slice())?,
-    })
 }
 
 impl TagDirectives {
@@ -96,10 +83,11 @@ impl TagDirectives {
         ensures { OnOk result (self.new ≡ self.old
             ++ record { handle = handle.items; prefix = prefix.items } ∷ []) }
     {
-        let directive = yaml_tag_directive_t { handle, prefix };
-        let copy = copy_directive(alloc, &directive)?;
-        self.list.push(directive)?;
-        match self.prefixes.insert(copy.handle, copy.prefix) {
+        // The index keeps texts of its own.
+        let name = Vec::from_slice(alloc, handle.as_slice())?;
+        let text = Vec::from_slice(alloc, prefix.as_slice())?;
+        self.list.push(yaml_tag_directive_t { handle, prefix })?;
+        match self.prefixes.insert(name, text) {
             Ok(_) => Ok(()),
             Err(_) => {
                 self.list.pop();

@@ -1,16 +1,17 @@
 //! The events of nodes, written from the token that tells their content.
 
-ghost use Rattle.std.specs.Prelude.{◌≡◌, [], None};
+ghost use Rattle.std.specs.Prelude.{◌≡◌, None};
 ghost use Rattle.yaml_parse_model.specs.Slots.{body_in_slot, token_in_slot};
-ghost use Rattle.yaml_parse_model.specs.Events.{body_of, event_of};
-ghost use Rattle.yaml_parse_model.specs.declared.yaml_scalar_style_t.TheVariants.{YAML_ANY_SCALAR_STYLE};
-ghost use Rattle.yaml_parse_grammar.specs.Items as item;
+ghost use Rattle.yaml_parse_model.specs.Events.{body_of, event_of, text_of};
+ghost use Rattle.yaml_parse_model.specs.Tokens.{TokenBody};
+ghost use Rattle.yaml_parse_core.specs.declared.told.Shape.TheVariants as shapes;
 ghost use Rattle.yaml_parse_grammar.specs.Resolve.{node_event, placed};
 ghost use Rattle.yaml_parse_core.specs.Extra.{value_in, style_in};
 ghost use Rattle.yaml_parse_core.specs.Views.{shape_at, node_item};
+ghost use Rattle.yaml_parse_resolve.specs.Bare.{OwnsNothing};
 ghost use Rattle.yaml_parse_resolve.specs.Settles.{named_event};
 
-use crate::room::{clears, put_bare, put_properties, vacate_full, vacate_named};
+use crate::room::{clears, keep_properties, moved_if, vacate};
 use crate::scalars::{bare, named};
 use crate::slots::{start_mapping, start_sequence};
 use std::mem;
@@ -20,88 +21,80 @@ use yaml_parse_model::{
     yaml_scalar_style_t, yaml_sequence_style_t, yaml_token_type_t,
 };
 
-// The scalar of a token that is taken.
-// Inlined: the token's kind is known.
+// The style of the token's text. Where the token is no scalar it has neither: the machine says that it is one.
+// Inlined: mostly the token's kind is known.
 #[inline(always)]
-fn tell_scalar(waiting: &mut Waiting, token: &mut BodySlot, event: &mut yaml_event_body_t)
-    ensures { body_of event.new ≡ node_event None None
-        (item.scalar (value_in (body_in_slot token.old)) (style_in (body_in_slot token.old))) }
+fn scalar_style(token: &mut BodySlot) -> yaml_scalar_style_t
+    ensures style { result ≡ style_in (body_in_slot token.old) }
+    ensures value { token.new.text.items ≡ value_in (body_in_slot token.old) }
 {
     match token.kind {
-        yaml_token_type_t::YAML_SCALAR_TOKEN => {
-            bare(waiting, &mut token.text, token.style, event);
+        yaml_token_type_t::YAML_SCALAR_TOKEN => token.style,
+        _ => {
+            token.text.clear();
+            yaml_scalar_style_t::YAML_ANY_SCALAR_STYLE
         }
-        _ => tell_no_scalar(waiting, event),
     }
 }
 
-// Where the token is no scalar: the machine says that it is one.
-#[cold]
-#[inline(never)]
-fn tell_no_scalar(waiting: &mut Waiting, event: &mut yaml_event_body_t)
-    ensures { body_of event.new ≡ node_event None None (item.scalar [] YAML_ANY_SCALAR_STYLE) }
+// A collection begins, behind these properties, in a slot that holds no text.
+// Inlined: the shape is mostly known, and it is built in its place.
+#[inline(always)]
+fn start(shape: Shape, anchor: Option<Vec<u8>>, tag: Option<Vec<u8>>, event: &mut yaml_event_body_t)
+    requires bare { OwnsNothing event.old }
+    requires collection { shape ≡ shapes.Scalar → ⊥ }
+    ensures { (b : TokenBody) → body_of event.new ≡ node_event (text_of anchor) (text_of tag)
+        (shape_at shape b) }
 {
-    let mut nothing = Vec::new(*waiting.anchor.allocator());
-    bare(
-        waiting,
-        &mut nothing,
-        yaml_scalar_style_t::YAML_ANY_SCALAR_STYLE,
-        event,
-    );
+    match shape {
+        Shape::BlockSequence => {
+            let style = yaml_sequence_style_t::YAML_BLOCK_SEQUENCE_STYLE;
+            start_sequence(anchor, tag, style, event);
+        }
+        Shape::FlowSequence => {
+            let style = yaml_sequence_style_t::YAML_FLOW_SEQUENCE_STYLE;
+            start_sequence(anchor, tag, style, event);
+        }
+        Shape::BlockMapping => {
+            let style = yaml_mapping_style_t::YAML_BLOCK_MAPPING_STYLE;
+            start_mapping(anchor, tag, style, event);
+        }
+        Shape::FlowMapping => {
+            let style = yaml_mapping_style_t::YAML_FLOW_MAPPING_STYLE;
+            start_mapping(anchor, tag, style, event);
+        }
+        // Never: it is a collection's.
+        Shape::Scalar => {}
+    }
 }
 
-// A sequence begins without properties.
+// A collection begins without properties.
 // No hint: LLVM inlines it, since it is short.
-fn tell_sequence(
+fn tell_collection(
+    shape: Shape,
     waiting: &mut Waiting,
     token: &mut BodySlot,
-    style: yaml_sequence_style_t,
     event: &mut yaml_event_body_t,
 )
-    ensures { body_of event.new ≡ node_event None None (item.sequence style) }
+    requires { shape ≡ shapes.Scalar → ⊥ }
+    ensures { (b : TokenBody) → body_of event.new ≡ node_event None None (shape_at shape b) }
 {
     if clears(event, &mut waiting.anchor) {
-        start_sequence(event, style);
+        start(shape, None, None, event);
     } else {
-        sequence_over(token, style, event);
+        collection_over(shape, token, event);
     }
 }
 
 // The same, where the slot holds other texts.
 // Out of line: mostly it holds none, or a scalar's.
 #[inline(never)]
-fn sequence_over(token: &mut BodySlot, style: yaml_sequence_style_t, event: &mut yaml_event_body_t)
-    ensures { body_of event.new ≡ node_event None None (item.sequence style) }
+fn collection_over(shape: Shape, token: &mut BodySlot, event: &mut yaml_event_body_t)
+    requires { shape ≡ shapes.Scalar → ⊥ }
+    ensures { (b : TokenBody) → body_of event.new ≡ node_event None None (shape_at shape b) }
 {
-    vacate_full(event, token);
-    start_sequence(event, style);
-}
-
-// A mapping begins without properties.
-// No hint: see `tell_sequence`.
-fn tell_mapping(
-    waiting: &mut Waiting,
-    token: &mut BodySlot,
-    style: yaml_mapping_style_t,
-    event: &mut yaml_event_body_t,
-)
-    ensures { body_of event.new ≡ node_event None None (item.mapping style) }
-{
-    if clears(event, &mut waiting.anchor) {
-        start_mapping(event, style);
-    } else {
-        mapping_over(token, style, event);
-    }
-}
-
-// The same, where the slot holds other texts.
-// Out of line: mostly it holds none, or a scalar's.
-#[inline(never)]
-fn mapping_over(token: &mut BodySlot, style: yaml_mapping_style_t, event: &mut yaml_event_body_t)
-    ensures { body_of event.new ≡ node_event None None (item.mapping style) }
-{
-    vacate_full(event, token);
-    start_mapping(event, style);
+    vacate(event, &mut token.text, &mut token.other);
+    start(shape, None, None, event);
 }
 
 /// The event of a node without properties.
@@ -120,47 +113,11 @@ pub fn tell_node(
     event.start_mark = mark_again(&token.start_mark);
     event.end_mark = mark_again(&token.end_mark);
     match shape {
-        Shape::Scalar => tell_scalar(waiting, &mut token.body, &mut event.body),
-        Shape::BlockSequence => tell_sequence(
-            waiting,
-            &mut token.body,
-            yaml_sequence_style_t::YAML_BLOCK_SEQUENCE_STYLE,
-            &mut event.body,
-        ),
-        Shape::BlockMapping => tell_mapping(
-            waiting,
-            &mut token.body,
-            yaml_mapping_style_t::YAML_BLOCK_MAPPING_STYLE,
-            &mut event.body,
-        ),
-        Shape::FlowSequence => tell_sequence(
-            waiting,
-            &mut token.body,
-            yaml_sequence_style_t::YAML_FLOW_SEQUENCE_STYLE,
-            &mut event.body,
-        ),
-        Shape::FlowMapping => tell_mapping(
-            waiting,
-            &mut token.body,
-            yaml_mapping_style_t::YAML_FLOW_MAPPING_STYLE,
-            &mut event.body,
-        ),
-    }
-}
-
-// The scalar of a token that is taken, behind properties.
-// Inlined: the token's kind is known.
-#[inline(always)]
-fn tell_named_scalar(waiting: &mut Waiting, token: &mut BodySlot, event: &mut yaml_event_body_t)
-    ensures { body_of event.new ≡ named_event waiting.old
-        (item.scalar (value_in (body_in_slot token.old)) (style_in (body_in_slot token.old))) }
-{
-    match token.kind {
-        yaml_token_type_t::YAML_SCALAR_TOKEN => {
-            leave_suffix(waiting, &mut token.other);
-            named(waiting, &mut token.text, token.style, event);
+        Shape::Scalar => {
+            let style = scalar_style(&mut token.body);
+            bare(waiting, &mut token.body.text, style, &mut event.body);
         }
-        _ => tell_no_named_scalar(waiting, event),
+        _ => tell_collection(shape, waiting, &mut token.body, &mut event.body),
     }
 }
 
@@ -175,71 +132,21 @@ fn leave_suffix(waiting: &mut Waiting, room: &mut Vec<u8>)
     }
 }
 
-// Where the token is no scalar: the machine says that it is one.
-#[cold]
-#[inline(never)]
-fn tell_no_named_scalar(waiting: &mut Waiting, event: &mut yaml_event_body_t)
-    ensures { body_of event.new ≡ named_event waiting.old (item.scalar [] YAML_ANY_SCALAR_STYLE) }
-{
-    let mut nothing = Vec::new(*waiting.anchor.allocator());
-    named(
-        waiting,
-        &mut nothing,
-        yaml_scalar_style_t::YAML_ANY_SCALAR_STYLE,
-        event,
-    );
-}
-
-// A sequence begins behind properties. Its tag stands in full in the place of its handle.
-fn tell_named_sequence(
+// A collection begins behind properties. Its tag stands in full in the place of its handle.
+fn tell_named_collection(
+    shape: Shape,
     waiting: &mut Waiting,
     token: &mut BodySlot,
-    style: yaml_sequence_style_t,
     event: &mut yaml_event_body_t,
 )
-    ensures { body_of event.new ≡ named_event waiting.old (item.sequence style) }
+    requires { shape ≡ shapes.Scalar → ⊥ }
+    ensures { (b : TokenBody) → body_of event.new ≡ named_event waiting.old (shape_at shape b) }
 {
-    let room = vacate_named(event, waiting, token);
-    let start = yaml_event_body_t::SequenceStart {
-        anchor: None,
-        tag: None,
-        implicit: !waiting.has_tag,
-        style,
-    };
-    put_bare(event, start);
-    match event {
-        yaml_event_body_t::SequenceStart { anchor, tag, .. } => {
-            put_properties(waiting, room, anchor, tag);
-        }
-        // Never: it was put there.
-        _ => {}
-    }
-}
-
-// A mapping begins behind properties. Its tag stands in full in the place of its handle.
-fn tell_named_mapping(
-    waiting: &mut Waiting,
-    token: &mut BodySlot,
-    style: yaml_mapping_style_t,
-    event: &mut yaml_event_body_t,
-)
-    ensures { body_of event.new ≡ named_event waiting.old (item.mapping style) }
-{
-    let room = vacate_named(event, waiting, token);
-    let start = yaml_event_body_t::MappingStart {
-        anchor: None,
-        tag: None,
-        implicit: !waiting.has_tag,
-        style,
-    };
-    put_bare(event, start);
-    match event {
-        yaml_event_body_t::MappingStart { anchor, tag, .. } => {
-            put_properties(waiting, room, anchor, tag);
-        }
-        // Never: it was put there.
-        _ => {}
-    }
+    let anchor = moved_if(waiting.has_anchor, &mut waiting.anchor);
+    let tag = moved_if(waiting.has_tag, &mut waiting.handle);
+    keep_properties(event, waiting);
+    vacate(event, &mut token.text, &mut token.other);
+    start(shape, anchor, tag, event);
 }
 
 // The event of a node behind properties. Its tag stands in full in the place of its handle.
@@ -255,30 +162,11 @@ pub(crate) fn tell_named(
         (shape_at shape (body_in_slot token.old)) }
 {
     match shape {
-        Shape::Scalar => tell_named_scalar(waiting, token, event),
-        Shape::BlockSequence => tell_named_sequence(
-            waiting,
-            token,
-            yaml_sequence_style_t::YAML_BLOCK_SEQUENCE_STYLE,
-            event,
-        ),
-        Shape::BlockMapping => tell_named_mapping(
-            waiting,
-            token,
-            yaml_mapping_style_t::YAML_BLOCK_MAPPING_STYLE,
-            event,
-        ),
-        Shape::FlowSequence => tell_named_sequence(
-            waiting,
-            token,
-            yaml_sequence_style_t::YAML_FLOW_SEQUENCE_STYLE,
-            event,
-        ),
-        Shape::FlowMapping => tell_named_mapping(
-            waiting,
-            token,
-            yaml_mapping_style_t::YAML_FLOW_MAPPING_STYLE,
-            event,
-        ),
+        Shape::Scalar => {
+            let style = scalar_style(token);
+            leave_suffix(waiting, &mut token.other);
+            named(waiting, &mut token.text, style, event);
+        }
+        _ => tell_named_collection(shape, waiting, token, event),
     }
 }

@@ -1,6 +1,6 @@
 //! What items come to: tags in full, directives noted, and the events.
 
-ghost use Rattle.std.specs.Prelude.{◌≡◌, ◌++◌, ℕ, List, [], Option, None, Some, true, false, option_map, OnOk};
+ghost use Rattle.std.specs.Prelude.{◌≡◌, ◌++◌, if◌then◌else◌, ℕ, List, Option, None, Some, true, false, option_map, OnOk};
 ghost use Rattle.yaml_parse_model.specs.Slots.{token_in_slot};
 ghost use Rattle.yaml_parse_model.specs.Events.{body_of, event_of};
 ghost use Rattle.yaml_parse_model.specs.Events as told;
@@ -13,14 +13,13 @@ ghost use Rattle.yaml_parse_grammar.specs.Resolve.{Directives as DirectivesSpec,
 ghost use Rattle.yaml_parse_core.specs.Extra.{value_in, style_in, name_in, encoding_in, major_in, minor_in, handle_in, prefix_in};
 ghost use Rattle.yaml_parse_core.specs.declared.told.Implied.TheVariants as implied;
 ghost use Rattle.yaml_parse_core.specs.Views.{properties_of, text_if, tag_if, shape_at, named_item, node_item, told_item, told_body, implied_item};
-ghost use Rattle.yaml_parse_resolve.specs.Bare.{OwnsNothing};
 ghost use Rattle.yaml_parse_resolve.specs.Settles.{directives_of, Resolves, Names, Notes, Comes, ComesTo};
 
 use crate::handles::TagDirectives;
 use crate::nodes::tell_named;
-use crate::room::{put_aside, put_bare};
+use crate::room::vacate;
 use crate::scalars::empty;
-use crate::slots::{end_mapping, end_sequence, put};
+use crate::slots::{end_collection, put};
 use std::alloc::{AllocError, Global};
 use yaml_parse_core::{Implied, Shape, Waiting};
 use yaml_parse_grammar::{ParseFault, ParseProblem};
@@ -104,26 +103,17 @@ fn join(room: &mut Vec<u8>, prefix: &[u8], suffix: &[u8]) -> Result<(), AllocErr
     Ok(())
 }
 
-// What a handle stands for.
-fn prefix_for<'a>(tags: &'a TagDirectives, handle: &[u8]) -> Option<&'a [u8]>
-    ensures { option_map (λ t. t.now) result ≡ or_default (directive_for handle.now tags.now)
-        handle.now }
-{
-    match tags.prefix_of(handle) {
-        Some(prefix) => Some(prefix),
-        None => find_default(handle),
-    }
-}
-
 // What stands before the suffix of a tag in full: nothing, where it has no handle.
 fn prefix_of_tag<'a>(tags: &'a TagDirectives, handle: &[u8]) -> Option<&'a [u8]>
     ensures { (suffix : List ℕ) → option_map (λ t. t.now ++ suffix) result ≡ resolved tags.now
         handle.now suffix }
 {
     if handle.is_empty() {
-        Some(b"".as_slice())
-    } else {
-        prefix_for(tags, handle)
+        return Some(b"".as_slice());
+    }
+    match tags.prefix_of(handle) {
+        Some(prefix) => Some(prefix),
+        None => find_default(handle),
     }
 }
 
@@ -248,14 +238,13 @@ pub(crate) fn end_document(
     implicit: bool,
     event: &mut yaml_event_body_t,
 )
-    requires { OwnsNothing event.old }
     ensures body { body_of event.new ≡ told.document_end implicit }
     ensures directives { directives_of directives.new ≡ behind_event (told.document_end implicit)
         (directives_of directives.old) }
 {
     directives.version = None;
     directives.tags.clear();
-    put_bare(event, yaml_event_body_t::DocumentEnd { implicit });
+    put(event, yaml_event_body_t::DocumentEnd { implicit });
 }
 
 // A document starts, with the directives before it.
@@ -314,7 +303,7 @@ pub fn settle_named(
 }
 
 // A node that is nothing but its properties.
-// Out of line: see `imply_sequence_end`.
+// Out of line: see `imply_end`.
 #[inline(never)]
 fn settle_alone(
     tags: &TagDirectives,
@@ -338,40 +327,15 @@ fn settle_alone(
     }
 }
 
-// A sequence ends in front of a token.
+// A collection ends in front of a token. The room of a text that the slot has from an earlier event is left in place of properties
+// that are done with, where those have none.
 // Out of line: in line all that is implied would put registers aside for the rest.
 #[inline(never)]
-fn imply_sequence_end(waiting: &mut Waiting, event: &mut yaml_event_body_t)
-    ensures { body_of event.new ≡ told.sequence_end }
+fn imply_end(is_sequence: bool, waiting: &mut Waiting, event: &mut yaml_event_body_t)
+    ensures { body_of event.new ≡ (if is_sequence then told.sequence_end else told.mapping_end) }
 {
-    put_aside(event, waiting);
-    end_sequence(event);
-}
-
-// A mapping ends in front of a token.
-// Out of line: see `imply_sequence_end`.
-#[inline(never)]
-fn imply_mapping_end(waiting: &mut Waiting, event: &mut yaml_event_body_t)
-    ensures { body_of event.new ≡ told.mapping_end }
-{
-    put_aside(event, waiting);
-    end_mapping(event);
-}
-
-// A document ends in front of a token.
-// Out of line: see `imply_sequence_end`.
-#[inline(never)]
-fn imply_document_end(
-    directives: &mut Directives,
-    waiting: &mut Waiting,
-    event: &mut yaml_event_body_t,
-)
-    ensures body { body_of event.new ≡ told.document_end true }
-    ensures directives { directives_of directives.new ≡ behind_event (told.document_end true)
-        (directives_of directives.old) }
-{
-    put_aside(event, waiting);
-    end_document(directives, true, event);
+    vacate(event, &mut waiting.anchor, &mut waiting.suffix);
+    end_collection(is_sequence, event);
 }
 
 /// The event of what stands in front of a token that stays, at that place, or a fault: its tag's handle stands for nothing.
@@ -398,15 +362,15 @@ pub fn settle_implied(
         }
         Implied::Properties => settle_alone(&directives.tags, waiting, event, fault),
         Implied::SequenceEnd => {
-            imply_sequence_end(waiting, &mut event.body);
+            imply_end(true, waiting, &mut event.body);
             Settled::Event
         }
         Implied::MappingEnd => {
-            imply_mapping_end(waiting, &mut event.body);
+            imply_end(false, waiting, &mut event.body);
             Settled::Event
         }
         Implied::DocumentEnd => {
-            imply_document_end(directives, waiting, &mut event.body);
+            end_document(directives, true, &mut event.body);
             Settled::Event
         }
     }

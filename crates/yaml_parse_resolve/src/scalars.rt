@@ -1,8 +1,7 @@
 //! Scalars in a slot of events. Where it holds one already, that is changed in place: to put a new one there, the old one is taken
 //! apart, asked what it owns, and set to zero.
 
-ghost use Rattle.std.specs.Prelude.{◌≡◌, [], None, Some, codes, true};
-ghost use Rattle.std.specs.Str.{bytes_eq};
+ghost use Rattle.std.specs.Prelude.{◌≡◌, [], None, Some};
 ghost use Rattle.yaml_parse_model.specs.Events.{body_of};
 ghost use Rattle.yaml_parse_model.specs.Events as told;
 ghost use Rattle.yaml_parse_grammar.specs.Items as item;
@@ -11,7 +10,7 @@ ghost use Rattle.yaml_parse_core.specs.Views.{text_if};
 ghost use Rattle.yaml_parse_resolve.specs.Bare.{IsScalar, OwnsNothing};
 ghost use Rattle.yaml_parse_resolve.specs.Settles.{named_event};
 
-use crate::room::{exchange, exchanged, give_back, is_bare, put_bare, replaced, taken_room};
+use crate::room::{exchange, is_bare, put_bare, taken_room};
 use std::alloc::Global;
 use std::mem;
 use yaml_parse_core::Waiting;
@@ -23,18 +22,6 @@ struct Form {
     plain: bool,
     quoted: bool,
     style: yaml_scalar_style_t,
-}
-
-// Whether a slot of events holds a scalar.
-// Inlined: a look at the kind.
-#[inline(always)]
-fn is_scalar(event: &yaml_event_body_t) -> bool
-    ensures { result ≡ true → IsScalar event.now }
-{
-    match *event {
-        yaml_event_body_t::Scalar { .. } => true,
-        _ => false,
-    }
 }
 
 // A scalar of which all is to be said, in a slot that holds another event. It has the room of that one's text.
@@ -71,8 +58,9 @@ fn start_blank(room: Vec<u8>, event: &mut yaml_event_body_t)
 fn make_scalar(alloc: Global, event: &mut yaml_event_body_t)
     ensures { IsScalar event.new }
 {
-    if !is_scalar(event) {
-        begin_scalar(alloc, event);
+    match *event {
+        yaml_event_body_t::Scalar { .. } => {}
+        _ => begin_scalar(alloc, event),
     }
 }
 
@@ -132,12 +120,6 @@ fn fill_scalar(
     }
 }
 
-fn is_mark(tag: &[u8]) -> bool
-    ensures { result ≡ bytes_eq tag.now (codes "!") }
-{
-    tag == b"!".as_slice()
-}
-
 fn is_plain(style: yaml_scalar_style_t) -> bool
     ensures { result ≡ is_plain_style style }
 {
@@ -145,33 +127,6 @@ fn is_plain(style: yaml_scalar_style_t) -> bool
         yaml_scalar_style_t::YAML_PLAIN_SCALAR_STYLE => true,
         _ => false,
     }
-}
-
-// A scalar without properties.
-// Inlined: it is built where it is wanted.
-#[inline(always)]
-fn bare_of(value: Vec<u8>, style: yaml_scalar_style_t) -> yaml_event_body_t
-    ensures { body_of result ≡ node_event None None (item.scalar value.items style) }
-{
-    let is_plain = is_plain(style);
-    yaml_event_body_t::Scalar {
-        anchor: None,
-        tag: None,
-        value,
-        plain_implicit: is_plain,
-        quoted_implicit: !is_plain,
-        style,
-    }
-}
-
-// A scalar without properties, where the slot holds other texts.
-// Out of line: mostly it holds such a one already, or none.
-#[inline(never)]
-fn new_bare(value: &mut Vec<u8>, style: yaml_scalar_style_t, event: &mut yaml_event_body_t)
-    ensures { body_of event.new ≡ node_event None None (item.scalar value.old.items style) }
-{
-    let text = exchanged(event, value);
-    start_bare(text, style, event);
 }
 
 // A scalar without properties, in a slot that holds no text.
@@ -182,8 +137,16 @@ fn start_bare(value: Vec<u8>, style: yaml_scalar_style_t, event: &mut yaml_event
     requires { OwnsNothing event.old }
     ensures { body_of event.new ≡ node_event None None (item.scalar value.items style) }
 {
-    let alloc = *value.allocator();
-    put_bare(event, bare_of(Vec::new(alloc), style));
+    let is_plain = is_plain(style);
+    let empty = yaml_event_body_t::Scalar {
+        anchor: None,
+        tag: None,
+        value: Vec::new(*value.allocator()),
+        plain_implicit: is_plain,
+        quoted_implicit: !is_plain,
+        style,
+    };
+    put_bare(event, empty);
     match event {
         yaml_event_body_t::Scalar { value: place, .. } => {
             *place = value;
@@ -204,7 +167,8 @@ fn other_bare(
     ensures { body_of event.new ≡ node_event None None (item.scalar value.old.items style) }
 {
     if is_bare(event) {
-        start_bare(replaced(value, &mut waiting.anchor), style, event);
+        let text = mem::replace(value, moved(&mut waiting.anchor));
+        start_bare(text, style, event);
     } else {
         bare_over(waiting, value, style, event);
     }
@@ -222,22 +186,11 @@ fn bare_over(
     ensures { body_of event.new ≡ node_event None None (item.scalar value.old.items style) }
 {
     match *event {
-        yaml_event_body_t::Scalar {
-            anchor: ref mut last_anchor,
-            tag: ref mut last_tag,
-            value: ref mut last,
-            plain_implicit: ref mut plain,
-            quoted_implicit: ref mut quoted,
-            style: ref mut last_style,
-        } => {
-            give_back(last_anchor, &mut waiting.anchor);
-            give_back(last_tag, &mut waiting.handle);
-            mem::swap(last, value);
-            *plain = is_plain(style);
-            *quoted = !is_plain(style);
-            *last_style = style;
+        yaml_event_body_t::Scalar { .. } => untagged(waiting, false, value, style, event),
+        _ => {
+            let room = taken_room(*value.allocator(), event);
+            start_bare(mem::replace(value, room), style, event);
         }
-        _ => new_bare(value, style, event),
     }
 }
 
@@ -271,7 +224,7 @@ pub(crate) fn bare(
 }
 
 // A scalar without a tag, and with that anchor if it has one.
-// Inlined into its one caller.
+// Inlined into its two callers.
 #[inline(always)]
 fn untagged(
     waiting: &mut Waiting,
@@ -306,7 +259,7 @@ fn tagged(
         (item.scalar value.old.items style) }
 {
     let has_anchor = waiting.has_anchor;
-    let is_mark = is_mark(waiting.handle.as_slice());
+    let is_mark = waiting.handle.as_slice() == b"!".as_slice();
     let form = Form {
         plain: is_mark,
         quoted: false,
@@ -335,7 +288,7 @@ pub(crate) fn named(
 }
 
 /// An empty node behind those properties. Its tag stands in full in the place of its handle.
-// Out of line: see `imply_sequence_end`.
+// Out of line: see `imply_end`.
 #[inline(never)]
 pub(crate) fn empty(
     waiting: &mut Waiting,

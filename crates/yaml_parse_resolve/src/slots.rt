@@ -1,13 +1,14 @@
 //! Other events in a slot of events.
 
-ghost use Rattle.std.specs.Prelude.{◌≡◌};
-ghost use Rattle.yaml_parse_model.specs.Events.{body_of};
+ghost use Rattle.std.specs.Prelude.{◌≡◌, if◌then◌else◌};
+ghost use Rattle.yaml_parse_model.specs.Events.{body_of, text_of};
 ghost use Rattle.yaml_parse_model.specs.Events as told;
 ghost use Rattle.yaml_parse_grammar.specs.Items as item;
 ghost use Rattle.yaml_parse_grammar.specs.Resolve.{node_event};
 ghost use Rattle.yaml_parse_resolve.specs.Bare.{OwnsNothing};
 
-use crate::room::{exchanged, put_bare};
+use crate::room::{put_bare, taken_room};
+use std::mem;
 use yaml_parse_model::{
     yaml_event_body_t, yaml_event_t, yaml_mapping_style_t, yaml_sequence_style_t,
 };
@@ -28,24 +29,18 @@ pub fn let_event_go(event: yaml_event_t) {
     drop(event);
 }
 
-/// A sequence ends.
-// Inlined into its callers, which are out of line.
+/// A collection ends.
+// Inlined: mostly it is known of which kind it is.
 #[inline(always)]
-pub(crate) fn end_sequence(slot: &mut yaml_event_body_t)
+pub(crate) fn end_collection(is_sequence: bool, slot: &mut yaml_event_body_t)
     requires { OwnsNothing slot.old }
-    ensures { body_of slot.new ≡ told.sequence_end }
+    ensures { body_of slot.new ≡ (if is_sequence then told.sequence_end else told.mapping_end) }
 {
-    put_bare(slot, yaml_event_body_t::SequenceEnd);
-}
-
-/// A mapping ends.
-// Inlined: see `end_sequence`.
-#[inline(always)]
-pub(crate) fn end_mapping(slot: &mut yaml_event_body_t)
-    requires { OwnsNothing slot.old }
-    ensures { body_of slot.new ≡ told.mapping_end }
-{
-    put_bare(slot, yaml_event_body_t::MappingEnd);
+    if is_sequence {
+        put_bare(slot, yaml_event_body_t::SequenceEnd);
+    } else {
+        put_bare(slot, yaml_event_body_t::MappingEnd);
+    }
 }
 
 /// An alias. The room of a text that the slot of events has from an earlier one is left in place of the name.
@@ -54,8 +49,8 @@ pub(crate) fn end_mapping(slot: &mut yaml_event_body_t)
 pub(crate) fn put_alias(slot: &mut yaml_event_body_t, name: &mut Vec<u8>)
     ensures { body_of slot.new ≡ told.alias name.old.items }
 {
-    let anchor = exchanged(slot, name);
-    start_alias(slot, anchor);
+    let room = taken_room(*name.allocator(), slot);
+    start_alias(slot, mem::replace(name, room));
 }
 
 // An alias, in a slot that holds no text.
@@ -80,33 +75,45 @@ fn start_alias(slot: &mut yaml_event_body_t, anchor: Vec<u8>)
     }
 }
 
-/// A sequence begins without properties.
-// Inlined: see `end_sequence`.
+/// A sequence begins.
+// Inlined: it is built in its place.
 #[inline(always)]
-pub(crate) fn start_sequence(slot: &mut yaml_event_body_t, style: yaml_sequence_style_t)
+pub(crate) fn start_sequence(
+    anchor: Option<Vec<u8>>,
+    tag: Option<Vec<u8>>,
+    style: yaml_sequence_style_t,
+    slot: &mut yaml_event_body_t,
+)
     requires { OwnsNothing slot.old }
-    ensures { body_of slot.new ≡ node_event None None (item.sequence style) }
+    ensures { body_of slot.new ≡ node_event (text_of anchor) (text_of tag) (item.sequence style) }
 {
+    let implicit = tag.is_none();
     let start = yaml_event_body_t::SequenceStart {
-        anchor: None,
-        tag: None,
-        implicit: true,
+        anchor,
+        tag,
+        implicit,
         style,
     };
     put_bare(slot, start);
 }
 
-/// A mapping begins without properties.
-// Inlined: see `end_sequence`.
+/// A mapping begins.
+// Inlined: see `start_sequence`.
 #[inline(always)]
-pub(crate) fn start_mapping(slot: &mut yaml_event_body_t, style: yaml_mapping_style_t)
+pub(crate) fn start_mapping(
+    anchor: Option<Vec<u8>>,
+    tag: Option<Vec<u8>>,
+    style: yaml_mapping_style_t,
+    slot: &mut yaml_event_body_t,
+)
     requires { OwnsNothing slot.old }
-    ensures { body_of slot.new ≡ node_event None None (item.mapping style) }
+    ensures { body_of slot.new ≡ node_event (text_of anchor) (text_of tag) (item.mapping style) }
 {
+    let implicit = tag.is_none();
     let start = yaml_event_body_t::MappingStart {
-        anchor: None,
-        tag: None,
-        implicit: true,
+        anchor,
+        tag,
+        implicit,
         style,
     };
     put_bare(slot, start);

@@ -1,19 +1,18 @@
 //! What tokens tell but nodes: where collections, documents and the stream begin and end, aliases, directives.
 
-ghost use Rattle.std.specs.Prelude.{◌≡◌, [], false};
+ghost use Rattle.std.specs.Prelude.{◌≡◌, if◌then◌else◌, true, false};
 ghost use Rattle.yaml_parse_model.specs.Slots.{body_in_slot, token_in_slot};
 ghost use Rattle.yaml_parse_model.specs.Events.{body_of, event_of};
 ghost use Rattle.yaml_parse_model.specs.Events as told;
 ghost use Rattle.yaml_parse_model.specs.Faults.{fault_of};
-ghost use Rattle.yaml_parse_grammar.specs.Resolve.{behind_event, directive_for, with_version, with_tag};
+ghost use Rattle.yaml_parse_grammar.specs.Resolve.{directive_for, with_version, with_tag};
 ghost use Rattle.yaml_parse_core.specs.Extra.{name_in, encoding_in, major_in, minor_in, handle_in, prefix_in};
 ghost use Rattle.yaml_parse_core.specs.Views.{told_item};
 ghost use Rattle.yaml_parse_resolve.specs.Settles.{directives_of, Notes, ComesTo};
 
 use crate::resolving::{Directives, Settled, end_document, note_tag, note_version, start_document};
-use crate::room::{is_bare, vacate, vacate_full};
-use crate::slots::{end_mapping, end_sequence, put, put_alias};
-use std::alloc::Global;
+use crate::room::{clears, vacate};
+use crate::slots::{end_collection, put, put_alias};
 use yaml_parse_core::Told;
 use yaml_parse_model::{
     BodySlot, TokenSlot, mark_again, yaml_encoding_t, yaml_event_body_t, yaml_event_t,
@@ -58,112 +57,56 @@ fn tell_tag(directives: &mut Directives, token: &mut TokenSlot, fault: &mut yaml
         token.old.start_mark) result (fault_of fault.new) (directives_of directives.new) }
 {
     let at = token.start_mark;
-    match token.body.kind {
+    let body = &mut token.body;
+    match body.kind {
         yaml_token_type_t::YAML_TAG_DIRECTIVE_TOKEN => {
-            note_tag(
-                directives,
-                &mut token.body.text,
-                &mut token.body.other,
-                at,
-                fault,
-            )
+            note_tag(directives, &mut body.text, &mut body.other, at, fault)
         }
-        _ => note_no_tag(directives, at, fault),
+        // Where the token is no directive: the machine says that it is one.
+        _ => {
+            body.text.clear();
+            body.other.clear();
+            note_tag(directives, &mut body.text, &mut body.other, at, fault)
+        }
     }
-}
-
-// Where the token is no directive: the machine says that it is one.
-#[cold]
-#[inline(never)]
-fn note_no_tag(directives: &mut Directives, at: yaml_mark_t, fault: &mut yaml_fault_t) -> Settled
-    ensures { Notes (with_tag (directive_for [] directives.old.tags) (directives_of directives.old)
-        [] [] at) result (fault_of fault.new) (directives_of directives.new) }
-{
-    let mut handle = Vec::new(directives.alloc);
-    let mut prefix = Vec::new(directives.alloc);
-    note_tag(directives, &mut handle, &mut prefix, at, fault)
 }
 
 // An alias. The room of a text that the slot has from an earlier event is left in the token.
 // Inlined: the token's kind is known.
 #[inline(always)]
-fn tell_alias(alloc: Global, token: &mut BodySlot, event: &mut yaml_event_body_t)
+fn tell_alias(token: &mut BodySlot, event: &mut yaml_event_body_t)
     ensures { body_of event.new ≡ told.alias (name_in (body_in_slot token.old)) }
 {
     match token.kind {
         yaml_token_type_t::YAML_ALIAS_TOKEN => put_alias(event, &mut token.text),
-        _ => tell_no_alias(alloc, event),
+        // Where the token is no alias: the machine says that it is one.
+        _ => {
+            token.text.clear();
+            put_alias(event, &mut token.text);
+        }
     }
 }
 
-// Where the token is no alias: the machine says that it is one.
-#[cold]
-#[inline(never)]
-fn tell_no_alias(alloc: Global, event: &mut yaml_event_body_t)
-    ensures { body_of event.new ≡ told.alias [] }
-{
-    let mut nothing = Vec::new(alloc);
-    put_alias(event, &mut nothing);
-}
-
-// A sequence ends.
+// A collection ends.
 // No hint: LLVM inlines it, since it is short.
-fn tell_sequence_end(token: &mut BodySlot, event: &mut yaml_event_body_t)
-    ensures { body_of event.new ≡ told.sequence_end }
+fn tell_end(is_sequence: bool, token: &mut BodySlot, event: &mut yaml_event_body_t)
+    ensures { body_of event.new ≡ (if is_sequence then told.sequence_end else told.mapping_end) }
 {
-    if is_bare(event) {
-        end_sequence(event);
+    if clears(event, &mut token.other) {
+        end_collection(is_sequence, event);
     } else {
-        sequence_end_over(token, event);
+        end_over(is_sequence, token, event);
     }
 }
 
-// The same, where the slot holds a text.
-// Out of line: so no register is put aside where it holds none.
+// The same, where the slot holds other texts.
+// Out of line: mostly it holds none, or a scalar's.
 #[inline(never)]
-fn sequence_end_over(token: &mut BodySlot, event: &mut yaml_event_body_t)
-    ensures { body_of event.new ≡ told.sequence_end }
+fn end_over(is_sequence: bool, token: &mut BodySlot, event: &mut yaml_event_body_t)
+    ensures { body_of event.new ≡ (if is_sequence then told.sequence_end else told.mapping_end) }
 {
-    vacate_full(event, token);
-    end_sequence(event);
-}
-
-// A mapping ends.
-// No hint: see `tell_sequence_end`.
-fn tell_mapping_end(token: &mut BodySlot, event: &mut yaml_event_body_t)
-    ensures { body_of event.new ≡ told.mapping_end }
-{
-    if is_bare(event) {
-        end_mapping(event);
-    } else {
-        mapping_end_over(token, event);
-    }
-}
-
-// The same, where the slot holds a text.
-// Out of line: so no register is put aside where it holds none.
-#[inline(never)]
-fn mapping_end_over(token: &mut BodySlot, event: &mut yaml_event_body_t)
-    ensures { body_of event.new ≡ told.mapping_end }
-{
-    vacate_full(event, token);
-    end_mapping(event);
-}
-
-// A document ends.
-// Out of line: it is met once a document.
-#[inline(never)]
-fn tell_document_end(
-    directives: &mut Directives,
-    token: &mut BodySlot,
-    event: &mut yaml_event_body_t,
-)
-    ensures body { body_of event.new ≡ told.document_end false }
-    ensures directives { directives_of directives.new ≡ behind_event (told.document_end false)
-        (directives_of directives.old) }
-{
-    vacate(event, token);
-    end_document(directives, false, event);
+    vacate(event, &mut token.text, &mut token.other);
+    end_collection(is_sequence, event);
 }
 
 /// What a token tells but nodes: the event, or nothing for a directive, or a fault.
@@ -185,15 +128,15 @@ pub fn settle_told(
     event.end_mark = mark_again(&token.end_mark);
     match told {
         Told::SequenceEnd => {
-            tell_sequence_end(&mut token.body, &mut event.body);
+            tell_end(true, &mut token.body, &mut event.body);
             Settled::Event
         }
         Told::MappingEnd => {
-            tell_mapping_end(&mut token.body, &mut event.body);
+            tell_end(false, &mut token.body, &mut event.body);
             Settled::Event
         }
         Told::Alias => {
-            tell_alias(directives.alloc, &mut token.body, &mut event.body);
+            tell_alias(&mut token.body, &mut event.body);
             Settled::Event
         }
         Told::StreamStart => {
@@ -212,7 +155,7 @@ pub fn settle_told(
             start_document(directives, false, &mut event.body, fault)
         }
         Told::DocumentEnd => {
-            tell_document_end(directives, &mut token.body, &mut event.body);
+            end_document(directives, false, &mut event.body);
             Settled::Event
         }
     }

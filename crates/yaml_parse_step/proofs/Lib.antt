@@ -4,9 +4,7 @@ pub mod Moves
 pub mod TurnResults
 pub mod Ways
 pub mod Turning
-pub mod Texts
 pub mod Loading
-pub mod Heights
 pub mod Sentences
 -- what it stands on, for crates that name this one alone
 pub use Rattle.yaml_parse_laws_trees.proofs.AllGiven

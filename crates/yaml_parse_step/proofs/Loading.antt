@@ -30,15 +30,12 @@ fed_left : (i o n : ParserRemaining) (l : Loading) (e : Event) → KeepsLoading 
 unfolding left_behind
 fed_left i o n l e k h = sym (ap (λ (gs : List Told). left_behind gs o.unasked) h.events) ∙ k.left
 
-none_before : (gs rest : List Told) (g : Told) → gs ≡ g ∷ rest → gs ≡ [] → rest ≡ []
-none_before gs rest g e p = let bad : [] ≡ g ∷ rest = sym p ∙ e in cc
-
 -- A loader goes on behind an event that its step takes.
 pub keeps_on : (i o n : ParserRemaining) (l m : Loading) (e : Event) → KeepsLoading i o l
     → GivesNext e o n → step e l ≡ goes_on m → KeepsLoading i n m
 keeps_on i o n l m e k h s = record {
   falls = subst (AreFalling n.events) (sym h.ending_unasked) (subst (λ (z : List Told). AreFalling z o.ending_unasked) h.events k.falls).1;
-  none = λ p. none_before o.events n.events (e, n.unasked) h.events (k.none p);
+  none = λ p. let bad = sym h.events ∙ k.none p in cc;
   same = ap (λ (f : Option Fault). loads n.events f m) h.ending ∙ sym (fed i o n l e (goes_on m) k h s);
   unasked = ap (λ (u : ℕ). unasked_at_refusal n.events u m) h.ending_unasked ∙ sym (fed_unasked i o n l e (goes_on m) k h s);
   left = fed_left i o n l e k h;
@@ -141,23 +138,16 @@ pub load_asked : (i o n : ParserRemaining) (l : Loading) (f : Fault) → KeepsLo
     → FaultOf o f n → IsMemoryFault scan_layers f ⊎ (answer_unasked i ≤ n.unasked)
 load_asked i o n l f k h = elim h.asked [ inl m ↦ inl m | inr a ↦ let b = unasked_first i o l k h.more in inr (omega (arith, a, b)) ]
 
--- the same where the loader refuses the event that was given
-more_of : (gs rest : List Told) (g : Told) (f : Option Fault) → gs ≡ g ∷ rest → HasMore gs f
-more_of gs rest g f e = rw e tt
-
-next_of : (gs rest : List Told) (g : Told) (m : ℕ) → gs ≡ g ∷ rest → next_unasked gs m ≡ g.1
-next_of gs rest g m e = rw e refl
-
 -- Where a loader gets an event, something was to come from the start.
 pub fed_more : (i o n : ParserRemaining) (l : Loading) (e : Event) → KeepsLoading i o l
     → GivesNext e o n → HasMore i.events i.ending
-fed_more i o n l e k h = load_more i o l k (more_of o.events n.events (e, n.unasked) o.ending h.events)
+fed_more i o n l e k h = load_more i o l k (rw h.events tt)
 
 -- A loader that met an event asked for at least the tokens of its answer.
 pub fed_asked : (i o n n' : ParserRemaining) (l : Loading) (e : Event) (f : Fault)
     → KeepsLoading i o l → GivesNext e o n → n'.unasked ≡ n.unasked
     → IsMemoryFault scan_layers f ⊎ (answer_unasked i ≤ n'.unasked)
 fed_asked i o n n' l e f k h u =
-    let a = unasked_first i o l k (more_of o.events n.events (e, n.unasked) o.ending h.events) in
-    let b = next_of o.events n.events (e, n.unasked) o.ending_unasked h.events in
+    let a = unasked_first i o l k (rw h.events tt) in
+    let b : next_unasked o.events o.ending_unasked ≡ n.unasked = rw h.events refl in
     inr (omega (arith, a, b, u))

@@ -1,17 +1,15 @@
 -- A parser's fault is that of its tokens, and what comes before it begins a tree.
-use Rattle.std.proofs.Common.{◌≡◌, ◌⊎◌, ◌∙◌, ℕ, inl, inr, refl, sym, subst, List, [], ◌∷◌, ◌++◌, length, Option, Some, None}
+use Rattle.std.proofs.Common.{◌≡◌, ◌∙◌, ℕ, inl, inr, refl, sym, subst, List, [], ◌∷◌, ◌++◌, Option, Some, None}
 use Rattle.std.proofs.lemmas.List.{append-nil}
 use Rattle.yaml_parse_step.proofs.Words.{Token, Fault, given_of, run, initial, Told, no_directives, reading_of, unasked_of}
-use Rattle.yaml_parse_laws_trees.specs.SoundLaws.{BeginsWithTree, bare, TreeGoesOnGiving, RefusedAt, RunsOut}
-use Rattle.yaml_parse_laws_trees.specs.CountsLaws.{AtMostFourSoFar}
+use Rattle.yaml_parse_laws_trees.specs.SoundLaws.{BeginsWithTree, bare, TreeGoesOnGiving}
 use Rattle.yaml_parse_laws_trees.specs.Places.{FaultOfTokens, IsToldWith}
-use Rattle.yaml_parse_laws_trees.proofs.SoFar.{few_so_far}
 use Rattle.yaml_parse_laws_trees.proofs.Sound.{accepted_trees}
 use Rattle.yaml_parse_laws_trees.proofs.Refusal.{faults_stand}
 use Rattle.yaml_parse_laws_trees.proofs.Events.{events_begin}
 use Rattle.yaml_parse_laws_trees.proofs.Ending.{ends_in_fault, fault_ends, told_at_place}
-use Rattle.yaml_parse_laws_trees.specs.Given.{IsLongest, GivesLeast, EventsOfTokens}
-use Rattle.yaml_parse_laws_trees.proofs.Giving.{run_gives_events, run_gives_least, events_are_run}
+use Rattle.yaml_parse_laws_trees.specs.Given.{IsLongest, EventsOfTokens}
+use Rattle.yaml_parse_laws_trees.proofs.Giving.{run_gives_events, events_are_run}
 use Rattle.yaml_parse_step.specs.Fronts.{BeginsTree}
 
 -- What ends the reading of tokens is their fault, looked at from the sentences.
@@ -40,37 +38,23 @@ begin ts f front behind l w g = record {
   begins = events_begin (run ts initial f).items (given_of g.tree 0) (run ts initial f).ending None no_directives g.begins;
 }
 
-begin_at : (ts : List Token) (f : Option Fault) (e : Fault)
-    → RefusedAt ts (bare (run ts initial f).items) e
-    ⊎ RunsOut ts f (bare (run ts initial f).items) e
-    → BeginsTree ts (reading_of (run ts initial f) no_directives).events
-begin_at ts f e (inl r) = begin ts f r.front (r.token ∷ r.behind) r.list r.wrong r.before
-begin_at ts f e (inr r) = begin ts f ts [] (sym (append-nil ts)) tt r.before
-
 by_ending : (ts : List Token) (f o : Option Fault) → (run ts initial f).ending ≡ o
     → (BeginsWithTree ts → ⊥) → BeginsTree ts (reading_of (run ts initial f) no_directives).events
 by_ending ts f None p n = absurd (n (accepted_trees ts f p))
-by_ending ts f (Some e) p n = begin_at ts f e (faults_stand ts f e p)
+by_ending ts f (Some e) p n = elim (faults_stand ts f e p) [
+  | inl r ↦ begin ts f r.front (r.token ∷ r.behind) r.list r.wrong r.before
+  | inr r ↦ begin ts f ts [] (sym (append-nil ts)) tt r.before
+]
 
 pub begins_tree : (ts : List Token) (f : Option Fault) (events : List Told)
     → events ≡ (reading_of (run ts initial f) no_directives).events → (BeginsWithTree ts → ⊥)
     → BeginsTree ts events
 begins_tree ts f events e n = subst (BeginsTree ts) (sym e) (by_ending ts f (run ts initial f).ending refl n)
 
-pub few_events : (ts : List Token) (f : Option Fault) (events : List Told)
-    → events ≡ (reading_of (run ts initial f) no_directives).events
-    → AtMostFourSoFar 0 (length ts) events
-few_events ts f events e = subst (AtMostFourSoFar 0 (length ts)) (sym e) (few_so_far ts f no_directives)
-
 -- The events of the reading are those of the tokens' sentence.
 pub tokens_events : (ts : List Token) (f : Option Fault) (events : List Told)
     → events ≡ (reading_of (run ts initial f) no_directives).events → EventsOfTokens ts f events
 tokens_events ts f events e = subst (EventsOfTokens ts f) (sym e) (run_gives_events ts f)
-
-pub least_events : (ts : List Token) (f : Option Fault) (events : List Told)
-    → events ≡ (reading_of (run ts initial f) no_directives).events → (BeginsWithTree ts → ⊥)
-    → GivesLeast ts events
-least_events ts f events e n = subst (GivesLeast ts) (sym e) (run_gives_least ts f n)
 
 -- events and an ending that are those of the tokens are the machine's
 pub as_run : (ts : List Token) (f : Option Fault) (events : List Told) (ending : Option Fault)

@@ -1,17 +1,16 @@
 -- What a step with its item resolved owes.
 use Rattle.std.proofs.Common.{◌≡◌, ◌⊎◌, ◌+◌, ◌<◌, ◌≤◌, arith, ℕ, inl, inr, Bool, true, false, List, [], ◌∷◌, length, Option, Some, None, refl, sym, ap, subst, ◌∙◌}
-use Rattle.yaml_parse_step.proofs.Words.{Parser, yaml_mark_t, Token, Fault, memory_fault, IsMemoryFault, scan_layers, HasMore, Told, Event, EventBody, RawEvent, RawEventBody, State, Given, given_of, Outcome, run, initial, Stands, Directives, no_directives, Settled, gave, noted, settle, placed, unasked_at_fault, ParserRemaining, parser_remaining, reading_of, waiting, IsFinished, next_unasked, Raw, outcome, stop_of, IsDirective, GivesItem, GivesNoItem, IsRefused, IsSilent, GivesNext, GivesEnd}
-use Rattle.yaml_parse_grammar.specs.Items as item
+use Rattle.yaml_parse_step.proofs.Words.{Parser, Token, Fault, memory_fault, IsMemoryFault, scan_layers, HasMore, Told, Event, EventBody, RawEvent, State, Given, given_of, Outcome, run, initial, Stands, Directives, no_directives, Settled, gave, noted, settle, placed, unasked_at_fault, ParserRemaining, parser_remaining, reading_of, waiting, IsFinished, next_unasked, Raw, outcome, stop_of, IsDirective, GivesItem, GivesNoItem, IsRefused, IsSilent, GivesNext, GivesEnd}
 use Rattle.yaml_parse_model.specs.Events.{TagDirective}
 use Rattle.yaml_parse_grammar.specs.Trees.{Stream, spell}
-use Rattle.yaml_parse_grammar.specs.Resolve.{refused, settle_body, resolved, read_on, reading, Reading, unasked_on}
+use Rattle.yaml_parse_grammar.specs.Resolve.{refused, read_on, reading, Reading, unasked_on}
 use Rattle.yaml_parse_grammar.specs.Remaining.{held_of}
 use Rattle.yaml_parse_grammar.proofs.CompleteStream.{nothing_runs, stream_runs}
-use Rattle.yaml_parse_grammar.proofs.EventsToGive.{speaks, reading_speaks, not_noted}
+use Rattle.yaml_parse_grammar.proofs.EventsToGive.{speaks, reading_speaks, noted_directive}
 use Rattle.yaml_parse_laws_trees.proofs.Turns.{items_given}
 use Rattle.yaml_parse_laws_trees.proofs.Falling.{has_more}
 use Rattle.yaml_scan_model.specs.Faults.{parse_layers}
-use Rattle.yaml_parse_step.specs.Steps.{AreSilent, budget, held_if, IsDone, IsTurnRefused, IsOver, KeptOverTurns, Turns}
+use Rattle.yaml_parse_step.specs.Steps.{AreSilent, budget, held_if, IsTurnRefused, IsOver, Turns}
 use Rattle.yaml_parse_step.specs.Turned.{Turned}
 use Rattle.yaml_parse_step.specs.Turned as turn
 
@@ -27,11 +26,6 @@ reading_settled : (gs : List Given) (f : Option Fault) (ds : Directives) (i : Ra
 unfolding reading
 reading_settled gs f ds i left c h = ap (λ (c : Settled). read_on c i left (λ d. reading gs f d)) h
 
-reading_nothing : (f : Option Fault) (ds : Directives)
-    → reading [] f ds ≡ record { events = []; ending = f }
-unfolding reading
-reading_nothing f ds = refl
-
 -- ---- how many tokens are not asked for at the fault
 
 fault_settled : (gs : List Given) (n : ℕ) (ds : Directives) (i : RawEvent) (left : ℕ) (c : Settled)
@@ -39,10 +33,6 @@ fault_settled : (gs : List Given) (n : ℕ) (ds : Directives) (i : RawEvent) (le
     → unasked_at_fault ((i, left) ∷ gs) n ds ≡ unasked_on c left (λ d. unasked_at_fault gs n d)
 unfolding unasked_at_fault
 fault_settled gs n ds i left c h = ap (λ (c : Settled). unasked_on c left (λ d. unasked_at_fault gs n d)) h
-
-fault_nothing : (n : ℕ) (ds : Directives) → unasked_at_fault [] n ds ≡ n
-unfolding unasked_at_fault
-fault_nothing n ds = refl
 
 abbrev fault_of_raw : Raw → Directives → ℕ
 fault_of_raw r ds = unasked_at_fault (outcome r).items (stop_of r) ds
@@ -56,18 +46,12 @@ silent_unasked : (old new : Raw) (ds : Directives) → GivesNoItem old new
     → fault_of_raw old ds ≡ fault_of_raw new ds
 silent_unasked old new ds h = ap (λ (o : Outcome). unasked_at_fault o.items (stop_of old) ds) h.same ∙ ap (λ (n : ℕ). unasked_at_fault (outcome new).items n ds) h.stop
 
-pub noted_directive : (b : RawEventBody) (from : yaml_mark_t) (ds ds' : Directives)
-    → settle_body b from ds ≡ noted ds' → IsDirective b
-noted_directive (item.version_directive x y) from ds ds' e = tt
-noted_directive (item.tag_directive x y) from ds ds' e = tt
-noted_directive (item.node a (Some t) shape) from ds ds' e = not_noted (resolved ds.tags t.handle t.suffix) a shape from t.mark ds ds' e
-noted_directive b from ds ds' e = cc
-
 -- ---- nothing to come
 
 empty_reading : (ts : List Token) (f : Option Fault) (s : List State) (ds : Directives) → s ≡ []
     → reading_of (run ts s f) ds ≡ record { events = []; ending = None }
-empty_reading ts f s ds e = ap (λ (z : List State). reading_of (run ts z f) ds) e ∙ ap (λ (o : Outcome). reading_of o ds) (nothing_runs ts f) ∙ reading_nothing None ds
+unfolding reading
+empty_reading ts f s ds e = ap (λ (z : List State). reading_of (run ts z f) ds) e ∙ ap (λ (o : Outcome). reading_of o ds) (nothing_runs ts f)
 
 -- A parser without states is at its end.
 pub finishes : (peeked : Option Token) (ts : List Token) (f : Option Fault) (s : List State)
@@ -155,11 +139,12 @@ pub refused_turn : (old middle new : Raw) (ds ds' : Directives) (answered : Faul
     → Stands old.stack → AskedFor e old ds new.tokens → IsRefused e old middle
     → new.tokens ≡ middle.tokens → new.stack ≡ []
     → IsTurnRefused e (of_raw old ds answered) (of_raw new ds' answered)
+unfolding reading unasked_at_fault
 refused_turn old middle new ds ds' answered e z a h k s = refused_by old new ds ds' answered e z a s (elim h.reason [
   | inl m ↦ inl m
   | inr q ↦ inr (
-    ap (λ (o : Outcome). reading_of o ds) q ∙ reading_nothing (Some e) ds,
-    elim h.unasked [ inl m ↦ inl m | inr n ↦ inr (ap length k ∙ n ∙ sym (ap (λ (o : Outcome). unasked_at_fault o.items (stop_of old) ds) q ∙ fault_nothing (stop_of old) ds)) ],
+    ap (λ (o : Outcome). reading_of o ds) q,
+    elim h.unasked [ inl m ↦ inl m | inr n ↦ inr (ap length k ∙ n ∙ sym (ap (λ (o : Outcome). unasked_at_fault o.items (stop_of old) ds) q)) ],
   )
 ])
 
@@ -176,13 +161,6 @@ unsettled_turn old middle new ds ds' answered i e z a h r k s = refused_by old n
     inr (ap length k ∙ sym (item_unasked old middle ds i h ∙ fault_settled (outcome middle).items (stop_of middle) ds i (length middle.tokens) (refused e) r)),
   )
 ])
-
-pub done_turn : (old new : Raw) (ds : Directives) (answered : Fault) → IsDone old new
-    → IsOver (of_raw old ds answered) (of_raw new ds answered)
-done_turn old new ds answered h = record {
-  finished = finishes old.peeked old.tokens old.fault old.stack ds answered h.empty;
-  same = ap (λ (r : Raw). of_raw r ds answered) h.same;
-}
 
 -- ---- the beginning
 
@@ -213,26 +191,19 @@ one_held (Some t) = omega arith
 
 -- ---- the turns of a call
 
-same_unasked : (i o : ParserRemaining) → KeptOverTurns i o → i.events ≡ [] → i.ending ≡ None
-    → (o.unasked ≡ i.unasked) × (o.held ≡ i.held)
-same_unasked i o k p q = elim k.unasked [ inl a ↦ a | inr s ↦ absurd (s p q) ]
-
--- turns that gave nothing and an end: the end of what was to come
-pub kept_end : (i o n : ParserRemaining) → KeptOverTurns i o → IsOver o n → GivesEnd i n
-kept_end i o n k h =
-    let p : i.events ≡ [] = sym k.events ∙ h.finished.events in
-    let q : i.ending ≡ None = sym k.ending ∙ h.finished.ending in
-    record {
-      events = p;
-      ending = q;
-      nothing = record {
-        given = refl;
-        finished = subst IsFinished (sym h.same) h.finished;
-        unasked = ap (λ (c : ParserRemaining). c.unasked) h.same ∙ (same_unasked i o k p q).0;
-        held = ap (λ (c : ParserRemaining). c.held) h.same ∙ (same_unasked i o k p q).1;
-        answered = ap (λ (c : ParserRemaining). c.answered) h.same ∙ k.answered;
-      };
-    }
+-- an end: nothing was to come
+pub over_end : (o n : ParserRemaining) → IsOver o n → GivesEnd o n
+over_end o n h = record {
+  events = h.finished.events;
+  ending = h.finished.ending;
+  nothing = rw h.same (record {
+    given = refl;
+    finished = h.finished;
+    unasked = refl;
+    held = refl;
+    answered = refl;
+  });
+}
 
 behind_silent : (r : Turned) (i o n : ParserRemaining) → IsSilent i o → Turns o r n → Turns i r n
 behind_silent (turn.event e) i o n s h =

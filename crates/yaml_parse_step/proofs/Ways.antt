@@ -1,31 +1,73 @@
 -- What a turn with its item resolved is to what is to come.
-use Rattle.std.proofs.Common.{◌≡◌, ◌∙◌, ◌+◌, ◌<◌, ◌≤◌, ℕ, inl, inr, Bool, true, false, List, [], ◌∷◌, length, arith, Option, Some, None, refl, sym, subst}
-use Rattle.yaml_parse_step.proofs.Words.{Token, Fault, Event, State, Outcome, run, unasked_at_stop, Stands, Directives, unasked_at_fault, parser_remaining, is_between, waiting, reading_of, next_unasked, IsStack, IsUtf8Token, IsUtf8Held, is_nothing, Step, raw, IsFront, HasNoFront, IsRealOn, Raw, Went, WentOn, StepBuffers, peeked_of, states_in}
+use Rattle.std.proofs.Common.{◌≡◌, ◌∙◌, ◌<◌, ◌≤◌, ℕ, inl, inr, Bool, true, false, List, [], ◌∷◌, length, arith, Option, Some, None, refl, ap, sym, subst}
+use Rattle.yaml_parse_step.proofs.Words.{Token, Fault, Event, EventBody, RawEvent, gave, noted, settle, parts_documents_behind, State, Outcome, run, unasked_at_stop, Stands, Directives, unasked_at_fault, is_between, waiting, reading_of, next_unasked, IsStack, IsUtf8Token, IsUtf8Held, is_nothing, Step, raw, IsFront, HasNoFront, Raw, Went, WentOn, StepBuffers, peeked_of, states_in}
 use Rattle.yaml_parse_model.specs.Source as source
+use Rattle.yaml_parse_model.specs.Constructors.{HasUtf8, AreUtf8}
+use Rattle.yaml_parse_grammar.specs.Stacks.{StandsBehind}
+use Rattle.yaml_parse_grammar.specs.Texts.{IsUtf8Item, AreUtf8States}
+use Rattle.yaml_parse_grammar.proofs.Standing.{settled_behind}
+use Rattle.yaml_parse_grammar.proofs.Throughout.{SettlesTo}
+use Rattle.yaml_parse_grammar.proofs.Utf8.{IsUtf8Settled, settled_utf8, held_utf8}
+use Rattle.yaml_parse_grammar.proofs.EventsToGive.{noted_directive}
 use Rattle.yaml_parse_laws_trees.proofs.Falling.{next_behind, ended_next}
 use Rattle.yaml_parse_step.specs.declared.step.Step.TheVariants as code
-use Rattle.yaml_parse_step.specs.Stepped as step
 use Rattle.yaml_parse_grammar.specs.Remaining.{held_of}
-use Rattle.yaml_parse_step.specs.Steps.{AreSilent, held_if, Turns, IsUtf8Turn, IsStackTurn}
+use Rattle.yaml_parse_step.specs.Steps.{held_if, Turns, IsUtf8Step, IsUtf8Turn, IsStackTurn}
 use Rattle.yaml_parse_resolve.specs.Settles.{directives_of}
 use Rattle.yaml_parse_step.specs.Moves.{TakesTurn}
 use Rattle.yaml_parse_step.specs.Turned.{Turned, turned}
-use Rattle.yaml_parse_step.proofs.Moves.{over_front}
-use Rattle.yaml_parse_step.proofs.Turning.{of_raw, event_turn, silent_turn, noted_turn, noted_directive, turns_behind, refused_turn, unsettled_turn, AskedFor}
-use Rattle.yaml_parse_step.proofs.Texts.{advance_utf8, silent_utf8, event_utf8, noted_utf8, cleared_utf8}
-use Rattle.yaml_parse_step.proofs.Heights.{event_stands, cleared_stands}
+use Rattle.yaml_parse_step.specs.Turned as turn
+use Rattle.yaml_parse_step.proofs.Moves.{over_front, stops_front}
+use Rattle.yaml_parse_step.proofs.Turning.{of_raw, event_turn, silent_turn, noted_turn, turns_behind, refused_turn, unsettled_turn, AskedFor}
+
+-- ---- texts and states behind a turn
+
+-- the state on top, at the token in front
+pub advance_utf8 : (peeked : Option Token) (s : List State) (t : Token) (after : Option Token)
+    (s' : List State) (r : Option RawEvent) (ds : Directives)
+    → (IsUtf8Token peeked → source.HasUtf8 t.body)
+    → (IsUtf8Held (Some t) s ds → IsUtf8Step r after s' ds) → IsUtf8Held peeked s ds
+    → IsUtf8Step r after s' ds
+advance_utf8 peeked [] t after s' r ds f k h = k tt
+advance_utf8 peeked (x ∷ s) t after s' r ds f k h = k (f h.0, h.1)
+
+pub cleared_utf8 : (peeked : Option Token) (s : List State) (ds : Directives) → s ≡ []
+    → Unit {0} × IsUtf8Held peeked s ds
+cleared_utf8 peeked s ds e = (tt, subst (λ (z : List State). IsUtf8Held peeked z ds) (sym e) tt)
+
+pub silent_utf8 : (peeked : Option Token) (s : List State) (ds ds' : Directives) → ds' ≡ ds
+    → IsUtf8Token peeked × (AreUtf8States s × AreUtf8 ds.tags) → Unit {0} × IsUtf8Held peeked s ds'
+silent_utf8 peeked s ds ds' e h = (tt, subst (IsUtf8Held peeked s) (sym e) (held_utf8 peeked s ds h.0 h.1.0 h.1.1))
+
+pub event_utf8 : (peeked : Option Token) (s : List State) (ds ds' : Directives) (i : RawEvent)
+    (body : EventBody) → settle i ds ≡ gave body ds'
+    → IsUtf8Item i.body × (IsUtf8Token peeked × (AreUtf8States s × AreUtf8 ds.tags))
+    → HasUtf8 body × IsUtf8Held peeked s ds'
+event_utf8 peeked s ds ds' i body e h =
+    let u : IsUtf8Settled (gave body ds') = subst IsUtf8Settled e (settled_utf8 i.body i.from ds h.0 h.1.1.1) in
+    (u.0, held_utf8 peeked s ds' h.1.0 h.1.1.0 u.1)
+
+pub noted_utf8 : (peeked : Option Token) (s : List State) (ds ds' : Directives) (i : RawEvent)
+    → settle i ds ≡ noted ds'
+    → IsUtf8Item i.body × (IsUtf8Token peeked × (AreUtf8States s × AreUtf8 ds.tags))
+    → Unit {0} × IsUtf8Held peeked s ds'
+noted_utf8 peeked s ds ds' i e h =
+    let u : IsUtf8Settled (noted ds') = subst IsUtf8Settled e (settled_utf8 i.body i.from ds h.0 h.1.1.1) in
+    (tt, held_utf8 peeked s ds' h.1.0 h.1.1.0 u)
+
+pub cleared_stands : (s : List State) → s ≡ [] → Unit {0} × IsStack s
+cleared_stands s e = (tt, subst IsStack (sym e) tt)
+
+pub event_stands : (s : List State) (ds ds' : Directives) (i : RawEvent) (body : EventBody)
+    → settle i ds ≡ gave body ds' → IsStack s × StandsBehind i.body (is_between s)
+    → (is_between s ≡ parts_documents_behind body) × IsStack s
+event_stands s ds ds' i body e h = (subst (SettlesTo (λ b. is_between s ≡ parts_documents_behind b)) e (settled_behind i.body i.from ds (is_between s) h.1), h.0)
+
+-- ---- what is to come
 
 pub over_empty : (s : List State) → is_nothing s ≡ true → s ≡ []
 over_empty [] e = refl
 over_empty (x ∷ s) e = cc
-
-nothing_open : (s : List State) → s ≡ [] → is_nothing s ≡ false → ⊥
-nothing_open [] e z = cc
-nothing_open (x ∷ s) e z = cc
-
-refused_real : (s : List State) (t : Token) (g : Fault) → IsRealOn s t (step.refused g)
-refused_real [] t g = tt
-refused_real (x ∷ s) t g = tt
 
 pub stands_open : (s : List State) → is_nothing s ≡ false → Stands s
 stands_open [] z = cc
@@ -39,9 +81,6 @@ front_asked peeked ts f s t rest after ds g k =
     inr (subst (λ (u : ℕ). next_unasked (reading_of (run (waiting peeked ts) s f) ds).events (unasked_at_fault (run (waiting peeked ts) s f).items u ds) ≤ length rest) (k.stops s)
     (subst (λ (o : Outcome). next_unasked (reading_of o ds).events (unasked_at_fault o.items (unasked_at_stop (t ∷ rest) s) ds) ≤ length rest) (k.runs s) (next_behind t rest after s ds)))
 
-same_le : (a b : ℕ) → a ≡ b → a ≤ b
-same_le a b e = omega (arith, e)
-
 -- and none where none is there
 pub no_front_asked : (peeked : Option Token) (ts : List Token) (f : Option Fault) (s : List State)
     (rest : List Token) (ds : Directives) (g : Fault) → HasNoFront peeked ts f g rest
@@ -52,7 +91,7 @@ no_front_asked peeked ts f s rest ds g h = elim h.reason [
     | inl m ↦ inl m
     | inr u ↦
         inr (subst (λ (o : Outcome). next_unasked (reading_of o ds).events (unasked_at_fault o.items (unasked_at_stop (waiting peeked ts) s) ds) ≤ length rest) (sym (r s))
-        (same_le _ _ (ended_next s g (unasked_at_stop (waiting peeked ts) s) ds ∙ sym (u s))))
+        (let e = ended_next s g (unasked_at_stop (waiting peeked ts) s) ds ∙ sym (u s) in omega (arith, e)))
   ]
 ]
 
@@ -62,27 +101,27 @@ went_turns : (was now : Raw) (t : Token) (ds behind : Directives) (r : Step) (e 
     → Went was.stack t ds r e g now.peeked now.stack behind
     → Turns (of_raw was ds answered) (turned r e g) (of_raw now behind answered)
 went_turns was now t ds behind code.Given e g answered z k h =
-    event_turn was now ds behind answered h.item e.body e (over_front was.peeked was.tokens was.fault was.stack t now.tokens now.fault now (step.given h.item) z k (h.moves.gives now.tokens now.fault) h.moves.real) h.settles h.placed
+    event_turn was now ds behind answered h.item e.body e (over_front was.peeked was.tokens was.fault was.stack t now.tokens now.fault now (Some h.item) z k (h.moves.gives now.tokens now.fault) h.moves.real) h.settles h.placed
 went_turns was now t ds behind code.Silent e g answered z k (inl m) =
-    silent_turn was now ds behind answered (over_front was.peeked was.tokens was.fault was.stack t now.tokens now.fault now step.silent z k (m.0.gives now.tokens now.fault) m.0.real) m.2
+    silent_turn was now ds behind answered (over_front was.peeked was.tokens was.fault was.stack t now.tokens now.fault now None z k (m.0.gives now.tokens now.fault) m.0.real) m.2
 went_turns was now t ds behind code.Silent e g answered z k (inr d) =
-    noted_turn was now ds behind answered d.item (over_front was.peeked was.tokens was.fault was.stack t now.tokens now.fault now (step.given d.item) z k (d.moves.gives now.tokens now.fault) d.moves.real) d.settles
+    noted_turn was now ds behind answered d.item (over_front was.peeked was.tokens was.fault was.stack t now.tokens now.fault now (Some d.item) z k (d.moves.gives now.tokens now.fault) d.moves.real) d.settles
 went_turns was now t ds behind code.Refused e g answered z k (n, inl st) =
     refused_turn was now now ds behind answered g (stands_open was.stack z) (front_asked was.peeked was.tokens was.fault was.stack t now.tokens now.fault ds g k)
-    (over_front was.peeked was.tokens was.fault was.stack t now.tokens now.fault now (step.refused g) z k (st now.tokens now.fault now.peeked now.stack) (refused_real was.stack t g)) refl n
+    (stops_front was.peeked was.tokens was.fault was.stack t g now.fault now k (st now.tokens now.fault now.peeked now.stack)) refl n
 went_turns was now t ds behind code.Refused e g answered z k (n, inr d) =
     let middle = raw d.held now.tokens now.fault d.new in
     unsettled_turn was middle now ds behind answered d.item g (stands_open was.stack z) (front_asked was.peeked was.tokens was.fault was.stack t now.tokens now.fault ds g k)
-    (over_front was.peeked was.tokens was.fault was.stack t now.tokens now.fault middle (step.given d.item) z k (d.moves.gives now.tokens now.fault) d.moves.real) d.settles refl n
-went_turns was now t ds behind code.Done e g answered z k h = absurd (nothing_open was.stack h.0 z)
+    (over_front was.peeked was.tokens was.fault was.stack t now.tokens now.fault middle (Some d.item) z k (d.moves.gives now.tokens now.fault) d.moves.real) d.settles refl n
+went_turns was now t ds behind code.Done e g answered z k h = absurd (subst Stands h.0 (stands_open was.stack z))
 
 went_utf8 : (peeked : Option Token) (s : List State) (t : Token) (ds : Directives) (r : Step)
     (e : Event) (g : Fault) (held : Option Token) (new : List State) (behind : Directives)
     → (IsUtf8Token peeked → source.HasUtf8 t.body) → Went s t ds r e g held new behind
     → IsUtf8Held peeked s ds → IsUtf8Turn (turned r e g) × IsUtf8Held held new behind
-went_utf8 peeked s t ds code.Given e g held new behind u h p = event_utf8 held new ds behind h.item e.body h.settles (advance_utf8 peeked s t held new (step.given h.item) ds u (h.moves.utf8 ds) p)
-went_utf8 peeked s t ds code.Silent e g held new behind u (inl m) p = silent_utf8 held new ds behind m.2 (advance_utf8 peeked s t held new step.silent ds u (m.0.utf8 ds) p)
-went_utf8 peeked s t ds code.Silent e g held new behind u (inr d) p = noted_utf8 held new ds behind d.item d.settles (advance_utf8 peeked s t held new (step.given d.item) ds u (d.moves.utf8 ds) p)
+went_utf8 peeked s t ds code.Given e g held new behind u h p = event_utf8 held new ds behind h.item e.body h.settles (advance_utf8 peeked s t held new (Some h.item) ds u (h.moves.utf8 ds) p)
+went_utf8 peeked s t ds code.Silent e g held new behind u (inl m) p = silent_utf8 held new ds behind m.2 (advance_utf8 peeked s t held new None ds u (m.0.utf8 ds) p)
+went_utf8 peeked s t ds code.Silent e g held new behind u (inr d) p = noted_utf8 held new ds behind d.item d.settles (advance_utf8 peeked s t held new (Some d.item) ds u (d.moves.utf8 ds) p)
 went_utf8 peeked s t ds code.Refused e g held new behind u h p = cleared_utf8 held new behind h.0
 went_utf8 peeked s t ds code.Done e g held new behind u h p = cleared_utf8 held new behind h.2
 
@@ -110,69 +149,49 @@ went_takes old new ts f t rest after r e g z k u h = record {
 
 -- ---- turns that gave nothing
 
--- no turn, or turns that gave nothing, as far as what they lend tells
-pub record KeptSilent (old : StepBuffers) (ts : List Token) (f : Option Fault) (new : StepBuffers)
-    (rest : List Token) (after : Option Fault) : Type 0 where
-  pub silent : (answered : Fault) → AreSilent
-      (parser_remaining (peeked_of old) ts f (states_in old) (directives_of old.directives) answered)
-      (parser_remaining (peeked_of new) rest after (states_in new) (directives_of new.directives) answered)
-  pub utf8 : IsUtf8Held (peeked_of old) (states_in old) (directives_of old.directives)
-      → IsUtf8Held (peeked_of new) (states_in new) (directives_of new.directives)
-  pub stack : IsStack (states_in old) → IsStack (states_in new)
+-- What a turn owes behind turns that gave nothing, it owes in front of them.
+abbrev pub Carries : StepBuffers → List Token → Option Fault → StepBuffers → List Token
+    → Option Fault → Type 0
+Carries i ts f o us g = (r : Turned) (n : StepBuffers) (rest : List Token) (after : Option Fault)
+    → TakesTurn o us g r n rest after → TakesTurn i ts f r n rest after
 
--- a turn behind them
-pub takes_behind : (i o n : StepBuffers) (ts us rest : List Token) (f g after : Option Fault)
-    (r : Turned) → KeptSilent i ts f o us g → TakesTurn o us g r n rest after
-    → TakesTurn i ts f r n rest after
-takes_behind i o n ts us rest f g after r k h = record {
-  turns = λ answered. turns_behind r _ _ _ (k.silent answered) (h.turns answered);
-  utf8 = λ u. h.utf8 (k.utf8 u);
-  stack = λ u. h.stack (k.stack u);
-}
+pub takes_behind : (i o : StepBuffers) (ts us : List Token) (f g : Option Fault)
+    → o.is_held ≡ false → TakesTurn i ts f turn.silent o us g
+    → Carries i ts f (record o { is_held = false }) us g
+takes_behind i o ts us f g e k r n rest after h =
+    let silent : TakesTurn i ts f turn.silent (record o { is_held = false }) us g = subst (λ (x : Bool). TakesTurn i ts f turn.silent (record o { is_held = x }) us g) e k in
+    record {
+      turns = λ answered. turns_behind r _ _ _ (inr (silent.turns answered)) (h.turns answered);
+      utf8 = λ u. h.utf8 (silent.utf8 u).1;
+      stack = λ u. h.stack (silent.stack u).1;
+    }
 
 -- ---- the token that is held
 
--- The token that is held stands in front.
+-- The token that is held stands in front, and its texts are UTF-8 where those of what is held are.
 pub held_front : (b : Bool) (t : Token) (ts : List Token) (f : Option Fault) → b ≡ true
-    → IsFront (held_if b t) ts f t ts f
-held_front true t ts f e = record { runs = λ s. refl; asked = inl refl; stops = λ s. refl }
+    → IsFront (held_if b t) ts f t ts f × (IsUtf8Token (held_if b t) → source.HasUtf8 t.body)
+held_front true t ts f e = (record { runs = λ s. refl; asked = inl refl; stops = λ s. refl }, λ h. h)
 held_front false t ts f e = cc
 
-pub held_utf8 : (b : Bool) (t : Token) → b ≡ true → IsUtf8Token (held_if b t)
-    → source.HasUtf8 t.body
-held_utf8 true t e h = h
-held_utf8 false t e h = cc
-
-pub none_is_held : (b : Bool) (t : Token) → b ≡ false → held_if b t ≡ None
-none_is_held true t e = cc
-none_is_held false t e = refl
-
-not_held : (b : Bool) (t : Token) → held_if b t ≡ None → b ≡ false
-not_held true t e = cc
-not_held false t e = refl
-
-none_left : (o : Option Token) (a : ℕ) → a + held_of o < a + 1 → o ≡ None
-none_left None a l = refl
-none_left (Some t) a l = absurd (omega (arith, l))
+not_held : (b : Bool) (t : Token) → held_of (held_if b t) < 1 → b ≡ false
+not_held true t l = absurd (omega (arith, l))
+not_held false t l = refl
 
 open_left : (s : List State) → Stands s → is_nothing s ≡ false
 open_left [] h = absurd h
 open_left (x ∷ s) h = refl
-
-silent_left : (s : List State) (t : Token) (ds : Directives) (e : Event) (g : Fault)
-    (held : Option Token) (new : List State) (behind : Directives)
-    → Went s t ds code.Silent e g held new behind → (held ≡ None) × (is_nothing new ≡ false)
-silent_left s t ds e g held new behind (inl m) = (m.1, open_left new (m.0.gives [] None).stands)
-silent_left s t ds e g held new behind (inr d) =
-    let directive = noted_directive d.item.body d.item.from ds behind d.settles in
-    let given = d.moves.gives [] None in
-    (none_left held 0 (given.less directive), open_left new (given.stands directive))
 
 -- Behind a turn that gave nothing no token is held, and something is open.
 pub silent_asks : (r : Step) (s : List State) (t : Token) (ds : Directives) (e : Event) (g : Fault)
     (b : Bool) (u : Token) (new : List State) (behind : Directives)
     → Went s t ds r e g (held_if b u) new behind → r ≡ code.Silent
     → (b ≡ false) × (is_nothing new ≡ false)
-silent_asks code.Silent s t ds e g b u new behind h is =
-    let left = silent_left s t ds e g (held_if b u) new behind h in (not_held b u left.0, left.1)
+silent_asks code.Silent s t ds e g b u new behind (inl m) is =
+    let none = ap held_of m.1 in (not_held b u (omega (arith, none)), open_left new (m.0.gives [] None).stands)
+silent_asks code.Silent s t ds e g b u new behind (inr d) is =
+    let directive = noted_directive d.item.body d.item.from ds behind d.settles in
+    let given = d.moves.gives [] None in
+    let fewer = given.less directive in
+    (not_held b u (omega (arith, fewer)), open_left new (given.stands directive))
 silent_asks r s t ds e g b u new behind h is = cc

@@ -2,7 +2,7 @@
 pub use Rattle.yaml_parse_core.specs.Turns.{TurnsOn}
 pub use Rattle.yaml_parse_core.specs.Views.{Around, implied_item, is_nothing, named_item, node_item, properties_of, shape_at, states_by, told_item}
 pub use Rattle.yaml_parse_core.specs.declared.told.Shape.{Shape}
-pub use Rattle.yaml_parse_grammar.specs.Items.{Properties, RawEvent, RawEventBody, item_at}
+pub use Rattle.yaml_parse_grammar.specs.Items.{IsDirective, Properties, RawEvent, RawEventBody, item_at}
 pub use Rattle.yaml_parse_grammar.specs.Machine.{Outcome, Stands, choice_at, ending_at, initial, left_at, opened, taken_at}
 unfoldable pub use Rattle.yaml_parse_grammar.specs.Machine.{run, unasked_at_stop}
 pub use Rattle.yaml_parse_grammar.specs.Problems.{parser_fault}
@@ -20,8 +20,7 @@ pub use Rattle.yaml_parse_model.specs.Source.{HasMore}
 pub use Rattle.yaml_parse_resolve.specs.Settles.{ComesTo, directives_of}
 pub use Rattle.yaml_parse_step.specs.Finds.{GivesEnd, GivesNext}
 pub use Rattle.yaml_parse_step.specs.Moves.{Moves, Stops, Turned, Went, WentOn}
-pub use Rattle.yaml_parse_step.specs.Stepped.{SteppedOnce}
-pub use Rattle.yaml_parse_step.specs.Steps.{GivesItem, GivesNoItem, HasNoFront, IsDirective, IsFront, IsRealOn, IsRefused, IsSilent, Raw, outcome, peeked_of, raw, states_in, stop_of}
+pub use Rattle.yaml_parse_step.specs.Steps.{GivesItem, GivesNoItem, HasNoFront, IsFront, IsRealOn, IsRefused, IsSilent, Raw, outcome, peeked_of, raw, states_in, stop_of}
 pub use Rattle.yaml_parse_step.specs.declared.step.Step.{Step}
 pub use Rattle.yaml_parse_step.specs.declared.step.StepBuffers.{StepBuffers}
 pub use Rattle.yaml_scan_model.specs.Faults.{Fault, IsMemoryFault, fault_of, memory_fault, scan_layers}

@@ -1,4 +1,3 @@
-pub mod Stepped
 pub mod Steps
 pub mod Turned
 pub mod Moves

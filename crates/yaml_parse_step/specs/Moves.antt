@@ -22,13 +22,11 @@ use Rattle.yaml_parse_resolve.specs.Settles.{directives_of}
 use Rattle.yaml_parse_step.specs.declared.step.StepBuffers.{StepBuffers}
 use Rattle.yaml_parse_step.specs.declared.step.Step.{Step}
 use Rattle.yaml_parse_step.specs.declared.step.Step.TheVariants as code
-use Rattle.yaml_parse_step.specs.Stepped.{SteppedOnce}
-use Rattle.yaml_parse_step.specs.Stepped as step
 use Rattle.yaml_parse_step.specs.Steps.{Steps, IsRefused, IsRealOn, IsUtf8Step, IsStackStep, IsUtf8Turn, IsStackTurn, Turns, raw, peeked_of, states_in}
 use Rattle.yaml_parse_step.specs.Turned as turn
 
--- At that token the states come to that, and others stand then; the token is held, or taken.
-pub record Moves (s : List State) (t : Token) (r : SteppedOnce) (held : Option Token)
+-- At that token the states give that item, or none, and others stand then; the token is held, or taken.
+pub record Moves (s : List State) (t : Token) (r : Option RawEvent) (held : Option Token)
     (new : List State) : Type 0 where
   pub gives : (rest : List Token) (ending : Option Fault)
       → Steps (raw (Some t) rest ending s) r (raw held rest ending new)
@@ -45,7 +43,7 @@ Stops s t f = (rest : List Token) (ending : Option Fault) (held : Option Token) 
 pub record GaveEvent (s : List State) (t : Token) (ds : Directives) (e : Event)
     (held : Option Token) (new : List State) (behind : Directives) : Type 0 where
   pub item : RawEvent
-  pub moves : Moves s t (step.given item) held new
+  pub moves : Moves s t (Some item) held new
   pub settles : settle item ds ≡ gave e.body behind
   pub placed : e ≡ placed e.body item
 
@@ -53,7 +51,7 @@ pub record GaveEvent (s : List State) (t : Token) (ds : Directives) (e : Event)
 pub record GaveDirective (s : List State) (t : Token) (ds : Directives) (held : Option Token)
     (new : List State) (behind : Directives) : Type 0 where
   pub item : RawEvent
-  pub moves : Moves s t (step.given item) held new
+  pub moves : Moves s t (Some item) held new
   pub settles : settle item ds ≡ noted behind
 
 -- an item is refused
@@ -61,7 +59,7 @@ pub record GaveFault (s : List State) (t : Token) (ds : Directives) (f : Fault) 
   pub item : RawEvent
   pub held : Option Token
   pub new : List State
-  pub moves : Moves s t (step.given item) held new
+  pub moves : Moves s t (Some item) held new
   pub settles : (f ≡ memory_fault Parser) ⊎ (settle item ds ≡ refused f)
 
 -- The topmost state at a token, with its item resolved.
@@ -69,7 +67,7 @@ abbrev pub Went : List State → Token → Directives → Step → Event → Fau
     → List State → Directives → Type 0
 Went s t ds code.Given e f held new behind = GaveEvent s t ds e held new behind
 Went s t ds code.Silent e f held new behind
-    = (Moves s t step.silent held new × (held ≡ None) × (behind ≡ ds))
+    = (Moves s t None held new × (held ≡ None) × (behind ≡ ds))
     ⊎ GaveDirective s t ds held new behind
 Went s t ds code.Refused e f held new behind = (new ≡ []) × (Stops s t f ⊎ GaveFault s t ds f)
 Went s t ds code.Done e f held new behind = (s ≡ []) × (held ≡ Some t) × (new ≡ [])

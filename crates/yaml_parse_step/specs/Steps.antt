@@ -1,26 +1,22 @@
 -- What the private steps of a parser owe.
 use Rattle.std.specs.Prelude.{◌≡◌, ◌⊎◌, ◌+◌, ◌<◌, ◌≤◌, ℕ, List, [], ◌∷◌, length, Option, Some, None, Bool, true, false}
-use Rattle.yaml_scan_model.specs.declared.yaml_origin_t.TheVariants.{Parser}
 use Rattle.yaml_scan_model.specs.Tokens.{Token, no_token, type_of}
 use Rattle.yaml_parse_model.specs.Slots.{token_in_slot}
-use Rattle.yaml_scan_model.specs.Faults.{Fault, memory_fault, IsMemoryFault, parse_layers, scan_layers}
+use Rattle.yaml_scan_model.specs.Faults.{Fault, IsMemoryFault, parse_layers, scan_layers}
 use Rattle.yaml_parse_model.specs.Source.{HasMore}
 use Rattle.yaml_parse_grammar.specs.declared.name.Choice.TheVariants.{Take}
 use Rattle.yaml_parse_grammar.specs.States.{State}
+use Rattle.yaml_parse_grammar.specs.Items.{IsDirective}
 use Rattle.yaml_parse_grammar.specs.Items as item
 use Rattle.yaml_parse_grammar.specs.Machine.{Outcome, run, unasked_at_stop, ending_at, choice_at, Stands}
 use Rattle.yaml_parse_grammar.specs.Remaining.{ParserRemaining, waiting, held_of, IsFinished, is_between, next_unasked}
 use Rattle.yaml_parse_grammar.specs.Texts.{IsUtf8Item, AreUtf8States, IsUtf8Token}
 use Rattle.yaml_parse_grammar.specs.Stacks.{IsStack, StandsBehind, parts_documents_behind}
 use Rattle.yaml_parse_model.specs.Constructors.{HasUtf8, AreUtf8}
-use Rattle.yaml_parse_grammar.specs.Resolve.{Directives, Settled, gave, noted, placed, refused}
-use Rattle.yaml_parse_model.specs.declared.event.yaml_event_t.{yaml_event_t}
-use Rattle.yaml_parse_model.specs.Events.{event_of, body_of}
+use Rattle.yaml_parse_grammar.specs.Resolve.{Directives}
 use Rattle.yaml_parse_core.specs.Views.{is_nothing, states_of}
 use Rattle.yaml_parse_step.specs.declared.step.StepBuffers.{StepBuffers}
 use Rattle.yaml_parse_step.specs.Finds.{GivesNext}
-use Rattle.yaml_parse_step.specs.Stepped.{SteppedOnce}
-use Rattle.yaml_parse_step.specs.Stepped as step
 use Rattle.yaml_parse_step.specs.Turned.{Turned}
 use Rattle.yaml_parse_step.specs.Turned as turn
 
@@ -87,11 +83,6 @@ stop_of r = unasked_at_stop (waiting r.peeked r.tokens) r.stack
 abbrev pub budget : Raw → ℕ
 budget r = length r.tokens + held_of r.peeked
 
-abbrev pub IsDirective : item.RawEventBody → Type 0
-IsDirective (item.version_directive major minor) = Unit {0}
-IsDirective (item.tag_directive handle prefix) = Unit {0}
-IsDirective _ = ⊥
-
 -- the item comes first, and the rest follows; a directive takes its token and leaves something open
 pub record GivesItem (i : item.RawEvent) (old new : Raw) : Type 0 where
   pub same : outcome old ≡ record {
@@ -113,50 +104,27 @@ pub record IsRefused (f : Fault) (old new : Raw) : Type 0 where
   pub reason : IsMemoryFault parse_layers f ⊎ (outcome old ≡ record { items = []; ending = Some f })
   pub unasked : IsMemoryFault parse_layers f ⊎ (length new.tokens ≡ stop_of old)
 
-pub record IsDone (old new : Raw) : Type 0 where
-  pub empty : old.stack ≡ []
-  pub same : new ≡ old
+-- an item is given, or none
+abbrev pub Steps : Raw → Option item.RawEvent → Raw → Type 0
+Steps old (Some i) new = GivesItem i old new
+Steps old None new = GivesNoItem old new
 
-abbrev pub Steps : Raw → SteppedOnce → Raw → Type 0
-Steps old (step.given i) new = GivesItem i old new
-Steps old step.silent new = GivesNoItem old new
-Steps old (step.refused f) new = IsRefused f old new
-Steps old step.done new = IsDone old new
-
--- what takes no item, or a directive, takes a token
-abbrev pub IsReal : State → Token → SteppedOnce → Type 0
-IsReal x t (step.given i) = IsDirective i.body → choice_at x (type_of t.body) ≡ Take
-IsReal x t step.silent = choice_at x (type_of t.body) ≡ Take
-IsReal x t (step.refused f) = Unit {0}
-IsReal x t step.done = ⊥
-
--- the same of the topmost state, if there is one
-abbrev pub IsRealOn : List State → Token → SteppedOnce → Type 0
+-- a topmost state that gives none, or a directive, takes the token
+abbrev pub IsRealOn : List State → Token → Option item.RawEvent → Type 0
 IsRealOn [] t r = Unit {0}
-IsRealOn (x ∷ s) t r = IsReal x t r
-
--- what an item comes to: an event, nothing, or a fault
-abbrev pub ComesTo : Settled → item.RawEvent → Option Bool → yaml_event_t → Fault → Directives
-    → Type 0
-ComesTo s i (Some true) e f new = (s ≡ gave (body_of e.body) new)
-    × (event_of e ≡ placed (body_of e.body) i)
-ComesTo s i (Some false) e f new = s ≡ noted new
-ComesTo s i None e f new = (f ≡ memory_fault Parser) ⊎ (s ≡ refused f)
+IsRealOn (x ∷ s) t (Some i) = IsDirective i.body → choice_at x (type_of t.body) ≡ Take
+IsRealOn (x ∷ s) t None = choice_at x (type_of t.body) ≡ Take
 
 -- the texts of what a step gives are UTF-8, and those of what is held then
-abbrev pub IsUtf8Step : SteppedOnce → Option Token → List State → Directives → Type 0
-IsUtf8Step (step.given i) peeked s ds = IsUtf8Item i.body
+abbrev pub IsUtf8Step : Option item.RawEvent → Option Token → List State → Directives → Type 0
+IsUtf8Step (Some i) peeked s ds = IsUtf8Item i.body
     × (IsUtf8Token peeked × (AreUtf8States s × AreUtf8 ds.tags))
-IsUtf8Step step.silent peeked s ds = IsUtf8Token peeked × (AreUtf8States s × AreUtf8 ds.tags)
-IsUtf8Step (step.refused f) peeked s ds = Unit {0}
-IsUtf8Step step.done peeked s ds = Unit {0}
+IsUtf8Step None peeked s ds = IsUtf8Token peeked × (AreUtf8States s × AreUtf8 ds.tags)
 
 -- a step keeps how the states stand above one another, and what it gives tells whether a document is half taken then
-abbrev pub IsStackStep : SteppedOnce → List State → Type 0
-IsStackStep (step.given i) s = IsStack s × StandsBehind i.body (is_between s)
-IsStackStep step.silent s = IsStack s
-IsStackStep (step.refused f) s = Unit {0}
-IsStackStep step.done s = Unit {0}
+abbrev pub IsStackStep : Option item.RawEvent → List State → Type 0
+IsStackStep (Some i) s = IsStack s × StandsBehind i.body (is_between s)
+IsStackStep None s = IsStack s
 
 abbrev pub IsStackTurn : Turned → Bool → Type 0
 IsStackTurn (turn.event e) between = between ≡ parts_documents_behind e.body
@@ -196,12 +164,3 @@ Turns old (turn.event e) new = GivesNext e old new
 Turns old turn.silent new = IsSilent old new
 Turns old (turn.refused f) new = IsTurnRefused f old new
 Turns old turn.done new = IsOver old new
-
--- What lasts over the turns of a call. No token is taken unless something is to come.
-pub record KeptOverTurns (initial now : ParserRemaining) : Type 0 where
-  pub events : now.events ≡ initial.events
-  pub ending : now.ending ≡ initial.ending
-  pub ending_unasked : now.ending_unasked ≡ initial.ending_unasked
-  pub answered : now.answered ≡ initial.answered
-  pub unasked : ((now.unasked ≡ initial.unasked) × (now.held ≡ initial.held))
-      ⊎ (initial.events ≡ [] → initial.ending ≡ None → ⊥)

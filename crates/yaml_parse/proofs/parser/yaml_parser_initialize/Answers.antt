@@ -16,31 +16,31 @@ pub returns-clause-tree : goal.returns-clause-tree
 returns-clause-tree g c = λ t rest h.
     let ts = g.S.yaml_token_source_t.to_come c.args.source in
     let f = g.S.yaml_token_source_t.fault_to_come c.args.source in
-    let r = began (λ s ds. reading_of (run ts s f) ds) (states_of c.fresh.result c.none_waiting-waiting.result) c.new.result (c.fresh.ensures (properties_of c.none_waiting-waiting.result)) c.new.ensures ∙ starts ts f t rest h in
+    let r = began (λ s ds. reading_of (run ts s f) ds) (states_of c.fresh.result c.none_waiting.result) c.new.result (c.fresh.ensures (properties_of c.none_waiting.result)) c.new.ensures ∙ starts ts f t rest h in
     (ap (λ (x : Reading). x.events) r, ap (λ (x : Reading). x.ending) r)
 
 pub returns-clause-fault : goal.returns-clause-fault
 returns-clause-fault g c =
     let ts = g.S.yaml_token_source_t.to_come c.args.source in
     let f = g.S.yaml_token_source_t.fault_to_come c.args.source in
-    fault_of_tokens ts f _ (began (λ s ds. (reading_of (run ts s f) ds).ending) (states_of c.fresh.result c.none_waiting-waiting.result) c.new.result (c.fresh.ensures (properties_of c.none_waiting-waiting.result)) c.new.ensures)
+    fault_of_tokens ts f _ (began (λ s ds. (reading_of (run ts s f) ds).ending) (states_of c.fresh.result c.none_waiting.result) c.new.result (c.fresh.ensures (properties_of c.none_waiting.result)) c.new.ensures)
 
 pub returns-clause-told : goal.returns-clause-told
 returns-clause-told g c = λ e p.
     let ts = g.S.yaml_token_source_t.to_come c.args.source in
     let f = g.S.yaml_token_source_t.fault_to_come c.args.source in
     told_with ts f _ e _
-    (began (λ s ds. (reading_of (run ts s f) ds).ending) (states_of c.fresh.result c.none_waiting-waiting.result) c.new.result (c.fresh.ensures (properties_of c.none_waiting-waiting.result)) c.new.ensures)
-    (began (λ s ds. unasked_of ts f s ds) (states_of c.fresh.result c.none_waiting-waiting.result) c.new.result (c.fresh.ensures (properties_of c.none_waiting-waiting.result)) c.new.ensures) p
+    (began (λ s ds. (reading_of (run ts s f) ds).ending) (states_of c.fresh.result c.none_waiting.result) c.new.result (c.fresh.ensures (properties_of c.none_waiting.result)) c.new.ensures)
+    (began (λ s ds. unasked_of ts f s ds) (states_of c.fresh.result c.none_waiting.result) c.new.result (c.fresh.ensures (properties_of c.none_waiting.result)) c.new.ensures) p
 
 pub returns-clause-events : goal.returns-clause-events
 returns-clause-events g c =
     let ts = g.S.yaml_token_source_t.to_come c.args.source in
     let f = g.S.yaml_token_source_t.fault_to_come c.args.source in
-    tokens_events ts f _ (began (λ s ds. (reading_of (run ts s f) ds).events) (states_of c.fresh.result c.none_waiting-waiting.result) c.new.result (c.fresh.ensures (properties_of c.none_waiting-waiting.result)) c.new.ensures)
+    tokens_events ts f _ (began (λ s ds. (reading_of (run ts s f) ds).events) (states_of c.fresh.result c.none_waiting.result) c.new.result (c.fresh.ensures (properties_of c.none_waiting.result)) c.new.ensures)
 
 pub invariant_of-result : goal.invariant_of-result
-invariant_of-result g c = stream_holds (states_of c.fresh.result c.none_waiting-waiting.result) _ (c.fresh.ensures (properties_of c.none_waiting-waiting.result)) c.new.ensures
+invariant_of-result g c = stream_holds (states_of c.fresh.result c.none_waiting.result) _ (c.fresh.ensures (properties_of c.none_waiting.result)) c.new.ensures
 
 pub returns-clause-quiet : goal.returns-clause-quiet
-returns-clause-quiet g c = (c.quiet.ensures, ap is_between (c.fresh.ensures (properties_of c.none_waiting-waiting.result)))
+returns-clause-quiet g c = (c.quiet.ensures, ap is_between (c.fresh.ensures (properties_of c.none_waiting.result)))

@@ -1,7 +1,7 @@
 use Rattle.std.proofs.Common.{refl, sym, ◌∙◌}
-use Rattle.yaml_parse_step.proofs.Words.{token_in_slot, fault_of, event_of, properties_of, directives_of, raw, peeked_of, states_in}
-use Rattle.yaml_parse_step.proofs.Turning.{done_turn}
-use Rattle.yaml_parse_step.proofs.Ways.{over_empty, held_front, held_utf8, went_takes}
+use Rattle.yaml_parse_step.proofs.Words.{token_in_slot, fault_of, event_of, properties_of, directives_of, peeked_of, states_in}
+use Rattle.yaml_parse_step.proofs.Turning.{finishes}
+use Rattle.yaml_parse_step.proofs.Ways.{over_empty, held_front, went_takes}
 use Rattle.yaml_parse_step.proofs.step.take_turn.Goals as goal
 
 pub returns-then-is_over : goal.returns-then-is_over
@@ -9,9 +9,11 @@ returns-then-is_over g c =
     record {
       turns = λ answered.
           let b = c.args.buffers.now in
-          let left = raw (peeked_of b) (g.S.yaml_token_source_t.to_come c.args.source.now) (g.S.yaml_token_source_t.fault_to_come c.args.source.now) (states_in b) in
-          done_turn left left (directives_of b.directives) answered
-          (record { empty = over_empty (states_in b) (sym (c.is_over.ensures (properties_of b.waiting)) ∙ c.if-is_over.true); same = refl });
+          record {
+            finished = finishes (peeked_of b) (g.S.yaml_token_source_t.to_come c.args.source.now) (g.S.yaml_token_source_t.fault_to_come c.args.source.now) (states_in b) (directives_of b.directives) answered
+                (over_empty (states_in b) (sym (c.is_over.ensures (properties_of b.waiting)) ∙ c.if-is_over.true));
+            same = refl;
+          };
       utf8 = λ h. (tt, h);
       stack = λ h. (tt, h);
     }
@@ -20,11 +22,9 @@ pub returns-then-buffers : goal.returns-then-buffers
 returns-then-buffers g c =
     let b = c.args.buffers.now in
     let t = token_in_slot b.token in
+    let held = held_front b.is_held t _ _ c.if-buffers.true in
     went_takes b c.turn_at_held.new.buffers _ _ t _ _ c.turn_at_held.result (event_of c.turn_at_held.new.event) (fault_of c.turn_at_held.new.fault)
-    (sym (c.is_over.ensures (properties_of b.waiting)) ∙ c.if-is_over.false) (held_front b.is_held t _ _ c.if-buffers.true) (held_utf8 b.is_held t c.if-buffers.true) c.turn_at_held.ensures
+    (sym (c.is_over.ensures (properties_of b.waiting)) ∙ c.if-is_over.false) held.0 held.1 c.turn_at_held.ensures
 
 pub turns_at_next-requires : goal.turns_at_next-requires
 turns_at_next-requires g c = (c.if-buffers.false, sym (c.is_over.ensures (properties_of c.args.buffers.now.waiting)) ∙ c.if-is_over.false)
-
-pub returns : goal.returns
-returns g c = c.turns_at_next.ensures

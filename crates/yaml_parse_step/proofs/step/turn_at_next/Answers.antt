@@ -1,11 +1,9 @@
-use Rattle.std.proofs.Common.{Option, refl, sym, subst}
+use Rattle.std.proofs.Common.{Option, ap, refl, sym, subst}
 use Rattle.yaml_parse_step.proofs.Words.{Token, token_in_slot, fault_of, event_of, properties_of, states_by, directives_of, HasNoFront, IsFront, raw, peeked_of, states_in}
 use Rattle.yaml_parse_step.specs.Steps.{held_if}
 use Rattle.yaml_parse_step.proofs.Moves.{no_front_open}
 use Rattle.yaml_parse_step.proofs.Turning.{refused_turn}
-use Rattle.yaml_parse_step.proofs.Texts.{cleared_utf8}
-use Rattle.yaml_parse_step.proofs.Heights.{cleared_stands}
-use Rattle.yaml_parse_step.proofs.Ways.{none_is_held, silent_asks, stands_open, no_front_asked, went_takes}
+use Rattle.yaml_parse_step.proofs.Ways.{cleared_stands, cleared_utf8, silent_asks, stands_open, no_front_asked, went_takes}
 use Rattle.yaml_parse_step.proofs.step.turn_at_next.Goals as goal
 
 pub returns-then-not-ask-clause-taken : goal.returns-then-not-ask-clause-taken
@@ -19,7 +17,7 @@ returns-then-not-ask-clause-taken g c =
           let after = g.S.yaml_token_source_t.fault_to_come c.ask.new.source in
           let e = fault_of c.ask.new.fault in
           let held = held_if b.is_held (token_in_slot c.ask.new.token) in
-          let none : HasNoFront (peeked_of b) ts f e rest = subst (λ (o : Option Token). HasNoFront o ts f e rest) (sym (none_is_held b.is_held (token_in_slot b.token) c.requires.0)) c.if-not-ask.ensures.front in
+          let none : HasNoFront (peeked_of b) ts f e rest = subst (λ (o : Option Token). HasNoFront o ts f e rest) (sym (ap (λ x. held_if x (token_in_slot b.token)) c.requires.0)) c.if-not-ask.ensures.front in
           refused_turn (raw (peeked_of b) ts f (states_in b)) (raw held rest after (states_in b)) (raw held rest after (states_by c.finish.new.machine (properties_of b.waiting))) (directives_of b.directives) (directives_of b.directives) answered e
           (stands_open (states_in b) c.requires.1)
           (no_front_asked (peeked_of b) ts f (states_in b) rest (directives_of b.directives) e none)
@@ -32,7 +30,7 @@ pub returns-clause-taken : goal.returns-clause-taken
 returns-clause-taken g c =
     let b = c.args.buffers.now in
     let t = token_in_slot c.ask.new.token in
-    let none = none_is_held b.is_held (token_in_slot b.token) c.requires.0 in
+    let none = ap (λ x. held_if x (token_in_slot b.token)) c.requires.0 in
     went_takes b c.moving.new.buffers _ _ t _ _ c.moving.result (event_of c.moving.new.event) (fault_of c.moving.new.fault) c.requires.1
     (subst (λ (o : Option Token). IsFront o (g.S.yaml_token_source_t.to_come c.args.source.now) (g.S.yaml_token_source_t.fault_to_come c.args.source.now) t (g.S.yaml_token_source_t.to_come c.ask.new.source) (g.S.yaml_token_source_t.fault_to_come c.ask.new.source)) (sym none) c.if-not-ask.ensures.front)
     (λ k. c.if-not-ask.ensures.utf8 refl) c.moving.ensures

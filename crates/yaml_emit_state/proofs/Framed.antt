@@ -2,7 +2,7 @@
 -- an anchor; and what opens collections.
 use Rattle.std.proofs.Common.{◌≡◌, ℕ, Bool, true, false, refl, sym, ◌∙◌, ap, List, [], Option, Some, None, ◌+◌, ◌<◌, subst, arith, ◌∷◌, ◌++◌}
 use Rattle.std.proofs.Math.Bool.{and-false}
-use Rattle.std.specs.Prelude.{◌&&◌, codes, not, ◌||◌}
+use Rattle.std.specs.Prelude.{◌&&◌, codes, not, ◌||◌, if◌then◌else◌}
 use Rattle.std.specs.Str.{chars, IsAscii}
 use Rattle.yaml_scan_model.specs.declared.yaml_scalar_style_t.{yaml_scalar_style_t}
 use Rattle.yaml_emit_tags.specs.parse_model.Events.{TagDirective}
@@ -19,7 +19,7 @@ use Rattle.yaml_emit_layout.specs.declared.Expected.TheVariants as at
 use Rattle.yaml_emit_layout.specs.declared.Level.{Level}
 use Rattle.yaml_emit_layout.specs.declared.NodePosition.{NodePosition}
 use Rattle.yaml_emit_layout.specs.Content.{Scalar, scalar, Start, sequence_start, mapping_start}
-use Rattle.yaml_emit_layout.specs.Grammar.{event_problem, last_problem, place_problem, problem_by, has}
+use Rattle.yaml_emit_layout.specs.Grammar.{event_problem, last_problem, place_problem, problem_by}
 use Rattle.yaml_emit_layout.specs.State.{State, problem_at, is_simple_event, among, before_at, before_node, levels_behind, position_of, top_of, start_text, text_at, next_at, depth_at, opened}
 use Rattle.yaml_emit_layout.specs.Nodes.{Context, context_of, is_simple_scalar, checked, deeper, page_at, scalar_layout, style_of, turned, before_item, before_key, before_value, is_simple_start, indent_of, indented}
 use Rattle.yaml_emit_state.specs.declared.state.Core.{Core}
@@ -32,10 +32,11 @@ use Rattle.std.proofs.lemmas.Str.{IsAscii-append}
 use Rattle.std.proofs.lemmas.Str.Ascii.{IsAscii-cons, IsAscii-nil}
 use Rattle.yaml_emit_text.specs.Tame.{IsLined}
 use Rattle.yaml_emit_text.specs.LineStarts.{marks, mark_word, line_start_text}
-use Rattle.yaml_emit_text.proofs.LineStarts.{Worded, puts_signed, quoted_worded, tagged_worded, word_worded}
+use Rattle.yaml_emit_text.proofs.LineStarts.{Worded, puts_signed, quoted_worded, tagged_worded, word_worded, lined_ascii, tagged_ascii}
 use Rattle.yaml_emit_layout.specs.declared.Phase.{Phase}
 use Rattle.yaml_emit_layout.specs.declared.Phase.TheVariants.{Items, Keys, Value}
-use Rattle.yaml_emit_state.specs.Framed.{has_comma, mark_of, is_behind_simple, sign_of, line_start, BeginsLine, is_free, framed_text, tagged_text}
+use Rattle.yaml_emit_state.specs.Bare.{has_none}
+use Rattle.yaml_emit_state.specs.Framed.{has_comma, mark_of, is_behind_simple, sign_of, line_start, BeginsLine, is_free, IsFramed, front_text, framed_text}
 use Rattle.yaml_emit_state.specs.Stack.{stack_of}
 use Rattle.yaml_emit_state.proofs.Unmarked.{Parts, parts_right, none_given, unchecked_behind}
 use Rattle.yaml_emit_state.proofs.Noting.{lays_right}
@@ -95,6 +96,16 @@ sign_is : (quoted : Bool) → mark_word (sign_of quoted) ≡ when (not quoted) (
 sign_is true = refl
 sign_is false = refl
 
+-- the bytes in front of its value
+abbrev pub front : Bool → List ℕ
+front tagged = if tagged then 33 ∷ 33 ∷ 115 ∷ 116 ∷ 114 ∷ 32 ∷ 34 ∷ [] else 34 ∷ []
+
+-- what stands there is in ASCII
+pub front_ascii : (tagged : Bool) (n width : ℕ) (v : List ℕ) → IsLined n width v
+    → IsAscii (front tagged ++ (v ++ 34 ∷ []))
+front_ascii true n width v h = tagged_ascii n width v h
+front_ascii false n width v h = lined_ascii n width v h
+
 -- what its line begins with and what is one word behind it
 begun : (s : Settings) (l : Level) (sign : Option ℕ) (x : Layout) (y : ℕ) (ys : List ℕ)
     (z : Layout) (a b : Output) → BeginsLine s l → Worded (l.indent + 4) x (y ∷ ys) z
@@ -105,30 +116,24 @@ begun s l sign x y ys z a b t w p =
     let B : Bool → Type 0 = λ k. Puts a b (before_at s l.phase k l.indent false ▹ (mark_word sign ▹ x)) in
     subst B (sym t.flow) (subst A (sym (before_is s l.phase l.indent t.form t.breaks)) (puts_signed (line_start s l sign) x y ys z a b w p))
 
-pub puts_framed : (s : Settings) (l : Level) (quoted : Bool) (v : List ℕ) (a b : Output)
-    → BeginsLine s l → IsLined l.indent s.width v
-    → Puts a b (line_start_text (line_start s l (sign_of quoted)) ▹ letters (34 ∷ (v ++ 34 ∷ [])))
-    → Puts a b (framed_text s (Some l) quoted v)
-puts_framed s l quoted v a b t w p =
+pub puts_framed : (tagged : Bool) (s : Settings) (l : Level) (quoted : Bool) (v : List ℕ)
+    (a b : Output) → BeginsLine s l → IsLined l.indent s.width v
+    → Puts a b (line_start_text (line_start s l (sign_of (tagged || quoted)))
+    ▹ letters (front tagged ++ (v ++ 34 ∷ [])))
+    → Puts a b (framed_text s (Some l) tagged quoted v)
+puts_framed false s l quoted v a b t w p =
     let pos : NodePosition = position_of (Some l) false in
     let x : Layout = double_quoted (page_at s pos) (chars v) in
-    let front : Layout = before_at s l.phase l.flow l.indent false in
-    let C : Layout → Type 0 = λ z. Puts a b (front ▹ (z ▹ x)) in
-    unchecked_behind (deeper s pos.around) a b (front ▹ when (not quoted) (word (33 ∷ []))) x t.shallow
+    let before : Layout = before_at s l.phase l.flow l.indent false in
+    let C : Layout → Type 0 = λ z. Puts a b (before ▹ (z ▹ x)) in
+    unchecked_behind (deeper s pos.around) a b (before ▹ front_text false quoted) x t.shallow
     (subst C (sign_is quoted) (begun s l (sign_of quoted) x 34 (v ++ 34 ∷ []) stay a b t (quoted_worded l.indent (page_at s pos) v w) p))
-
--- with the default tag
-pub puts_tagged : (s : Settings) (l : Level) (v : List ℕ) (a b : Output) → BeginsLine s l
-    → IsLined l.indent s.width v
-    → Puts a b (line_start_text (line_start s l None)
-    ▹ letters (33 ∷ 33 ∷ 115 ∷ 116 ∷ 114 ∷ 32 ∷ 34 ∷ (v ++ 34 ∷ [])))
-    → Puts a b (tagged_text s (Some l) v)
-puts_tagged s l v a b t w p =
+puts_framed true s l quoted v a b t w p =
     let pos : NodePosition = position_of (Some l) false in
     let q : Layout = double_quoted (page_at s pos) (chars v) in
-    let front : Layout = before_at s l.phase l.flow l.indent false in
-    let C : List ℕ → Type 0 = λ z. Puts a b (front ▹ (word z ▹ q)) in
-    unchecked_behind (deeper s pos.around) a b (front ▹ word (tag_spelling [] str_tag)) q t.shallow
+    let before : Layout = before_at s l.phase l.flow l.indent false in
+    let C : List ℕ → Type 0 = λ z. Puts a b (before ▹ (word z ▹ q)) in
+    unchecked_behind (deeper s pos.around) a b (before ▹ front_text true quoted) q t.shallow
     (subst C (sym str_spelled) (begun s l None (word (33 ∷ 33 ∷ 115 ∷ 116 ∷ 114 ∷ []) ▹ q) 33 (33 ∷ 115 ∷ 116 ∷ 114 ∷ 32 ∷ 34 ∷ (v ++ 34 ∷ [])) stay a b t (tagged_worded l.indent (page_at s pos) v w) p))
 
 -- what opens a collection was written
@@ -158,60 +163,49 @@ signs_ascii p quoted = IsAscii-append (marks (mark_of p)) (marks (sign_of quoted
 
 frees : (x : Scalar) → is_free x ≡ true → Parts x
 frees x h =
-    let a = and_parts (not (has x.anchor)) (not (has x.tag) && (x.plain || x.quoted)) h in
-    let t = and_parts (not (has x.tag)) (x.plain || x.quoted) a.1 in
-    record { no_anchor = none_given x.anchor a.0; no_tag = none_given x.tag t.0; left_out = t.1 }
+    let a = and_parts (has_none x.anchor x.tag) (x.plain || x.quoted) h in
+    let t = none_given x.anchor x.tag a.0 in
+    record { no_anchor = t.0; no_tag = t.1; left_out = a.1 }
 
 marked_is : (quoted : Bool) (z : Layout)
     → (when (true && (not quoted && true)) (word (33 ∷ [])) ▹ z)
-    ≡ (when (not quoted) (word (33 ∷ [])) ▹ z)
+    ≡ (front_text false quoted ▹ z)
 marked_is true z = refl
 marked_is false z = refl
 
-free_layout : (s : Settings) (ds : List TagDirective) (pos : NodePosition) (x : Scalar)
-    → s.canonical ≡ true → Parts x → scalar_layout (context_of s ds) pos x
-    ≡ (when (not x.quoted) (word (33 ∷ [])) ▹ (checked (deeper s pos.around) ▹ double_quoted (page_at s pos) (chars x.value)))
+framed_layout : (tagged : Bool) (s : Settings) (ds : List TagDirective) (pos : NodePosition)
+    (x : Scalar) → s.canonical ≡ true → IsFramed tagged ds x
+    → scalar_layout (context_of s ds) pos x ≡ (front_text tagged x.quoted
+    ▹ (checked (deeper s pos.around) ▹ double_quoted (page_at s pos) (chars x.value)))
 unfolding scalar_layout style_of scalar_text
-free_layout s ds pos x e p = rw (e, p.no_anchor, p.no_tag) (marked_is x.quoted (checked (deeper s pos.around) ▹ double_quoted (page_at s pos) (chars x.value)))
+framed_layout false s ds pos x e h =
+    let p = frees x h in
+    rw (e, p.no_anchor, p.no_tag) (marked_is x.quoted (checked (deeper s pos.around) ▹ double_quoted (page_at s pos) (chars x.value)))
+framed_layout true s ds pos x e h = rw (e, h.0, h.1, h.2) refl
 
-pub lays_free : (old new : Core) (o : Output) (s : Settings) (top : Option Level) (quoted : Bool)
-    (v : List ℕ) (x : Scalar) (empty : Bool) → s ≡ settings_of old
+-- nothing is wrong with it
+framed_right : (tagged : Bool) (canonical : Bool) (place : Expected) (top : Option Level)
+    (ds : List TagDirective) (x : Scalar) → canonical ≡ true → place ≡ at.Node → IsFramed tagged ds x
+    → problem_by canonical place top (scalar x) ≡ None
+unfolding problem_by event_problem place_problem last_problem
+framed_right false canonical place top ds x e h f = parts_right canonical place top x h (frees x f)
+framed_right true canonical place None ds x e h f = rw (e, h, f.0, f.1) refl
+framed_right true canonical place (Some l) ds x e h f = rw (e, h, f.0, f.1) refl
+
+pub lays_framed : (tagged : Bool) (old new : Core) (o : Output) (s : Settings) (top : Option Level)
+    (quoted : Bool) (v : List ℕ) (x : Scalar) (empty : Bool) → s ≡ settings_of old
     → top ≡ top_of (stack_of old.levels) → old.settings.canonical ≡ true → old.place ≡ at.Node
-    → is_free x ≡ true → x.quoted ≡ quoted → x.value ≡ v
-    → Puts old.sink o (framed_text s top quoted v)
+    → IsFramed tagged old.directives x → x.quoted ≡ quoted → x.value ≡ v
+    → Puts old.sink o (framed_text s top tagged quoted v)
     → state_of new ≡ among old.directives (levels_behind (stack_of old.levels) false)
     → StaysBut (record old { sink = o }) new → LaysOut old new (scalar x) empty
-lays_free old new o s top quoted v x empty same upper form due free q value written moved kept =
+lays_framed tagged old new o s top quoted v x empty same upper form due framed q value written moved kept =
     let own : Settings = settings_of old in
     let innermost : Option Level = top_of (stack_of old.levels) in
-    let p = frees x free in
-    let A : Bool → Type 0 = λ z. Puts old.sink o (framed_text own innermost z v) in
-    let B : List ℕ → Type 0 = λ z. Puts old.sink o (framed_text own innermost x.quoted z) in
     let C : Layout → Type 0 = λ z. Puts old.sink o (before_node own innermost false ▹ z) in
-    let D : Settings → Type 0 = λ z. Puts old.sink o (framed_text z innermost quoted v) in
-    let E : Option Level → Type 0 = λ z. Puts old.sink o (framed_text s z quoted v) in
-    let put = subst C (sym (free_layout own old.directives (position_of innermost false) x form p)) (subst B (sym value) (subst A (sym q) (subst D same (subst E upper written)))) in
-    lays_in_place old new (scalar x) empty (parts_right own.canonical old.place innermost x due p)
-    (lays_scalar old new o own innermost x false empty refl refl (text_no_key (context_of own old.directives) innermost x form) put moved kept)
-
--- a text with the default tag was laid out
-pub lays_text : (old new : Core) (o : Output) (s : Settings) (top : Option Level) (v : List ℕ)
-    (style : yaml_scalar_style_t) (empty : Bool) → s ≡ settings_of old
-    → top ≡ top_of (stack_of old.levels) → old.settings.canonical ≡ true → old.place ≡ at.Node
-    → old.directives ≡ [] → Puts old.sink o (tagged_text s top v)
-    → state_of new ≡ among old.directives (levels_behind (stack_of old.levels) false)
-    → StaysBut (record old { sink = o }) new → LaysOut old new (scalar (plain_text v style)) empty
-lays_text old new o s top v style empty same upper form due none written moved kept =
-    let own : Settings = settings_of old in
-    let innermost : Option Level = top_of (stack_of old.levels) in
-    let pos : NodePosition = position_of innermost false in
-    let x : Scalar = plain_text v style in
-    let A : List TagDirective → Type 0 = λ z. Puts old.sink o (before_node own innermost false ▹ (word (tag_spelling z str_tag) ▹ (checked (deeper own pos.around) ▹ double_quoted (page_at own pos) (chars v)))) in
-    let C : Layout → Type 0 = λ z. Puts old.sink o (before_node own innermost false ▹ z) in
-    let D : Settings → Type 0 = λ z. Puts old.sink o (tagged_text z innermost v) in
-    let E : Option Level → Type 0 = λ z. Puts old.sink o (tagged_text s z v) in
-    let put = subst C (sym (text_layout own old.directives pos v style form)) (subst A (sym none) (subst D same (subst E upper written))) in
-    lays_in_place old new (scalar x) empty (text_right own (state_of old) v style form due)
+    let said : Puts old.sink o (framed_text own innermost tagged x.quoted x.value) = rw (q, value) (rw (same, upper) at written) in
+    let put = subst C (sym (framed_layout tagged own old.directives (position_of innermost false) x form framed)) said in
+    lays_in_place old new (scalar x) empty (framed_right tagged own.canonical old.place innermost old.directives x form due framed)
     (lays_scalar old new o own innermost x false empty refl refl (text_no_key (context_of own old.directives) innermost x form) put moved kept)
 
 -- in canonical form each collection is flow

@@ -29,32 +29,30 @@ use Rattle.yaml_emit_layout.specs.Grammar.{has, scalar_tag, event_problem, last_
 use Rattle.yaml_emit_layout.specs.Nodes.{MOST, deeper, page_at, deep_if, checked, context_of, is_simple_part, is_simple_scalar, scalar_layout, style_of, position, turned as turned_line, before_item, before_key, before_value, wrap_at, line_at, comma}
 use Rattle.yaml_emit_layout.specs.State.{State, among, before_at, levels_behind, phase_behind, position_of, part_at, top_of}
 use Rattle.yaml_emit_state.specs.declared.state.Core.{Core}
-use Rattle.yaml_emit_state.specs.Bare.{is_double, IsInline, short_text, short_node, turned, hyphen, entry_phase, Places}
+use Rattle.yaml_emit_state.specs.Bare.{has_none, is_double, IsInline, short_text, short_node, turned, hyphen, entry_phase, Turns, Places}
 use Rattle.yaml_emit_state.specs.Due.{is_key_in, is_key}
 use Rattle.yaml_emit_state.specs.Stack.{stack_of}
-use Rattle.yaml_emit_state.specs.Steps.{settings_of, StaysBut, LaysOut}
+use Rattle.yaml_emit_state.specs.Steps.{settings_of, LaysOut}
 use Rattle.yaml_emit_state.proofs.Keyed.{not_deep, lays_scalar, lays_in_place}
 
 -- ---- what a short scalar is
 
-pub none_given : (a : Option (List ℕ)) → not (has a) ≡ true → a ≡ None
-none_given None h = refl
-none_given (Some t) h = absurd (cc)
+none_by : (a : Option (List ℕ)) → not (has a) ≡ true → a ≡ None
+none_by None h = refl
+none_by (Some t) h = absurd (cc)
 
--- no anchor and no tag, and it may be written so and is asked to be
-asked_parts : (anchor tag : Option (List ℕ)) (may asks : Bool)
-    → (not (has anchor) && (not (has tag) && (may && asks))) ≡ true
-    → (anchor ≡ None) × ((tag ≡ None) × ((may ≡ true) × (asks ≡ true)))
-asked_parts anchor tag may asks h =
-    let a = and_parts (not (has anchor)) _ h in
-    let t = and_parts (not (has tag)) _ a.1 in
-    (none_given anchor a.0, (none_given tag t.0, and_parts may asks t.1))
+-- no anchor and no tag
+pub none_given : (anchor tag : Option (List ℕ)) → has_none anchor tag ≡ true
+    → (anchor ≡ None) × (tag ≡ None)
+none_given anchor tag h =
+    let a = and_parts (not (has anchor)) (not (has tag)) h in
+    (none_by anchor a.0, none_by tag a.1)
 
 plainly : (x : Scalar) → IsInline false x → (x.plain ≡ true) × (asks_plain x.style ≡ true)
-plainly x b = (asked_parts x.anchor x.tag x.plain (asks_plain x.style) b.asked).1.1
+plainly x b = and_parts x.plain (asks_plain x.style) b.asked
 
 in_quotes : (x : Scalar) → IsInline true x → (x.quoted ≡ true) × (is_double x.style ≡ true)
-in_quotes x b = (asked_parts x.anchor x.tag x.quoted (is_double x.style) b.asked).1.1
+in_quotes x b = and_parts x.quoted (is_double x.style) b.asked
 
 -- no anchor and no tag, which may be left out
 pub record Parts (x : Scalar) : Type 0 where
@@ -62,13 +60,14 @@ pub record Parts (x : Scalar) : Type 0 where
   pub no_tag : x.tag ≡ None
   pub left_out : (x.plain || x.quoted) ≡ true
 
-parts : (quoted : Bool) (x : Scalar) → IsInline quoted x → Parts x
-parts false x b =
-    let p = asked_parts x.anchor x.tag x.plain (asks_plain x.style) b.asked in
-    record { no_anchor = p.0; no_tag = p.1.0; left_out = ap (λ (k : Bool). k || x.quoted) (plainly x b).0 }
-parts true x b =
-    let p = asked_parts x.anchor x.tag x.quoted (is_double x.style) b.asked in
-    record { no_anchor = p.0; no_tag = p.1.0; left_out = ap (λ (k : Bool). x.plain || k) (in_quotes x b).0 ∙ or-true x.plain }
+left_out_by : (framed : Bool) (x : Scalar) → IsInline framed x → (x.plain || x.quoted) ≡ true
+left_out_by false x b = ap (λ (k : Bool). k || x.quoted) (plainly x b).0
+left_out_by true x b = ap (λ (k : Bool). x.plain || k) (in_quotes x b).0 ∙ or-true x.plain
+
+parts : (framed : Bool) (x : Scalar) → IsInline framed x → Parts x
+parts framed x b =
+    let n = none_given x.anchor x.tag b.bare in
+    record { no_anchor = n.0; no_tag = n.1; left_out = left_out_by framed x b }
 
 some_bytes : (v : List ℕ) → IsTame v → (length v == 0) ≡ false
 some_bytes v t = let some = tame_some v t in grind (arith, nat_tests, some)
@@ -183,22 +182,21 @@ line_placed true quoted s at n v a b t w h p =
 line_placed false quoted s at n v a b t w h p =
     unchecked_behind (deeper s at.around) a b (line_at s n) (standing_text quoted (page_at s at) at.flow v) h (puts_line_key quoted (page_at s at) at.flow v s.line_break n a b t (omega (arith, w)) p)
 
-pub from_there : (a b o : Output) (x : Layout) → a ≡ b → Puts a o x → Puts b o x
-from_there a b o x e p = let P : Output → Type 0 = λ z. Puts z o x in subst P e p
-
 -- the phase was changed, and then it was written
-pub places_by : (old mid : Core) (o : Output) (q : Phase) (x : Layout)
-    → stack_of mid.levels ≡ turned q (stack_of old.levels) → mid.place ≡ old.place
-    → mid.directives ≡ old.directives → StaysBut old mid → Puts old.sink o x
-    → Places old (record mid { sink = o }) q x
-places_by old mid o q x levels place directives kept put = record {
+pub places_by : (old mid : Core) (o : Output) (q : Phase) (x : Layout) → Turns old mid q
+    → Puts old.sink o x → Places old (record mid { sink = o }) q x
+places_by old mid o q x t put = record {
   puts = put;
-  levels = levels;
-  place = place;
-  directives = directives;
-  settings = kept.0;
-  starved = kept.2;
+  levels = t.levels;
+  place = t.place;
+  directives = t.directives;
+  settings = t.same.0;
+  starved = t.same.2;
 }
+
+pub from_there : (old mid : Core) (o : Output) (q : Phase) (x : Layout) → Turns old mid q
+    → Puts mid.sink o x → Puts old.sink o x
+from_there old mid o q x t put = rw (← t.same.1) put
 
 -- in settings that differ in the encoding alone
 same_before : (s : Settings) (x : Encoding) (p : Phase) (flow : Bool) (n : ℕ) (simple : Bool)

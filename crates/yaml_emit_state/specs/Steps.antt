@@ -12,7 +12,7 @@ use Rattle.yaml_emit_layout.specs.declared.Expected.{Expected}
 use Rattle.yaml_emit_layout.specs.declared.Expected.TheVariants as at
 use Rattle.yaml_emit_layout.specs.declared.Phase.{Phase}
 use Rattle.yaml_emit_layout.specs.declared.Phase.TheVariants.{Items, Keys}
-use Rattle.yaml_emit_layout.specs.Content.{Event, document_start, sequence_start, mapping_start}
+use Rattle.yaml_emit_layout.specs.Content.{Event, no_event, stream_start, stream_end, document_start, document_end, sequence_start, mapping_start}
 use Rattle.yaml_emit_layout.specs.State.{State, placed, piece, next, problem_at, top_of, position_of, opened, depth_at}
 use Rattle.yaml_emit_layout.specs.Nodes.{indented, indent_of, checked, context_of}
 use Rattle.yaml_emit_state.specs.declared.state.Core.{Core}
@@ -44,6 +44,21 @@ first_phase false = Keys true
 abbrev pub is_document_start : Event → Bool
 is_document_start (document_start o) = true
 is_document_start e = false
+
+-- it opens a collection
+abbrev pub opens : Event → Bool
+opens (sequence_start p) = true
+opens (mapping_start p) = true
+opens e = false
+
+-- it begins or ends the stream or a document, or is none
+abbrev pub is_outer : Event → Bool
+is_outer no_event = true
+is_outer (stream_start x) = true
+is_outer stream_end = true
+is_outer (document_start o) = true
+is_outer (document_end implicit) = true
+is_outer e = false
 
 abbrev pub is_going : Status → Bool
 is_going Going = true

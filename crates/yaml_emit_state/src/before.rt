@@ -6,7 +6,7 @@ ghost use Rattle.yaml_emit_text.specs.Layout.{◌▹◌, stay, when, char, word,
 ghost use Rattle.yaml_emit_layout.specs.Nodes.{comma, turned, question, before_item, before_key, before_value, closer, line_at, wrap_at, checked};
 ghost use Rattle.yaml_emit_layout.specs.State.{before_at, before_node, closer_at, is_fresh};
 ghost use Rattle.yaml_emit_state.specs.Framed.{has_comma, mark_of, is_behind_simple, line_start, BeginsLine};
-ghost use Rattle.yaml_emit_state.specs.Given.{opening_bracket};
+ghost use Rattle.yaml_emit_state.specs.Given.{opening_bracket, closing_bracket};
 
 use crate::indent::is_not_deep;
 use yaml_emit_layout::{Level, Phase};
@@ -227,6 +227,15 @@ pub fn opening_bracket(sequence: bool) -> u8
     ensures { result ≡ opening_bracket sequence }
 {
     if sequence { b'[' } else { b'{' }
+}
+
+/// The bracket that ends a sequence or a mapping.
+// Inlined: mostly which it is is known.
+#[inline(always)]
+pub fn closing_bracket(sequence: bool) -> u8
+    ensures { result ≡ closing_bracket sequence }
+{
+    if sequence { b']' } else { b'}' }
 }
 
 /// What opens a flow collection.

@@ -4,7 +4,6 @@ ghost use Rattle.yaml_parse_model.specs.Events.{text_of, body_of};
 ghost use Rattle.yaml_emit_layout.specs.Content.{emitter_event, is_flow_sequence, is_flow_mapping};
 ghost use Rattle.yaml_emit_layout.specs.Grammar.{kept_tag};
 ghost use Rattle.yaml_emit_layout.specs.Nodes.{simple_key_bytes, properties_size, text_size, written_size, is_simple_scalar, is_simple_alias, is_simple_start};
-ghost use Rattle.yaml_emit_layout.specs.State.{is_simple_event};
 ghost use Rattle.yaml_emit_text.specs.Tame.{IsTame};
 ghost use Rattle.yaml_types.specs.Classes.{has_break};
 ghost use Rattle.yaml_emit_state.specs.Due.{is_key_in, is_key, is_undecided_in, is_undecided};
@@ -186,70 +185,6 @@ pub fn is_simple_start(context: &Context, start: &Start) -> bool
             written_size(context, start.implicit, start.tag),
             0,
         )
-}
-
-/// Whether a node that begins so is a simple key: an alias, a scalar without breaks or an empty collection, with at most
-/// `SIMPLE_KEY_BYTES` of anchor, tag and value. Canonical form has none. It is long because it has an arm for each kind of event.
-// Inlined: where the kind is known one arm is left.
-#[inline(always)]
-#[tactic(auto, unfolding(yaml_emit_layout::specs::State::is_simple_event))]
-pub fn is_simple(context: &Context, event: &yaml_event_body_t, empty: bool) -> bool
-    ensures { result ≡ is_simple_event (lent_context context.now)
-        (emitter_event (body_of event.now)) empty }
-{
-    match event {
-        yaml_event_body_t::Alias { anchor } => is_simple_alias(context, anchor),
-        yaml_event_body_t::Scalar {
-            anchor,
-            tag,
-            value,
-            plain_implicit,
-            quoted_implicit,
-            style,
-        } => {
-            let scalar = Scalar {
-                anchor,
-                tag,
-                value,
-                plain: *plain_implicit,
-                quoted: *quoted_implicit,
-                style: *style,
-                tame: false,
-            };
-            is_simple_scalar(context, &scalar)
-        }
-        yaml_event_body_t::SequenceStart {
-            anchor,
-            tag,
-            implicit,
-            style,
-        } => {
-            let start = Start {
-                anchor,
-                tag,
-                implicit: *implicit,
-                flow: is_flow_sequence(*style),
-                empty,
-            };
-            is_simple_start(context, &start)
-        }
-        yaml_event_body_t::MappingStart {
-            anchor,
-            tag,
-            implicit,
-            style,
-        } => {
-            let start = Start {
-                anchor,
-                tag,
-                implicit: *implicit,
-                flow: is_flow_mapping(*style),
-                empty,
-            };
-            is_simple_start(context, &start)
-        }
-        _ => false,
-    }
 }
 
 /// Whether a sequence has flow style.

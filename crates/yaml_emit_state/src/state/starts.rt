@@ -1,23 +1,49 @@
 //! What opens collections, in a form that is known.
-ghost use Rattle.std.specs.Prelude.{◌≡◌, Bool, None, true, false};
-ghost use Rattle.yaml_parse_model.specs.Constructors.{HasUtf8};
+ghost use Rattle.std.specs.Prelude.{◌≡◌, ◌<◌, Bool, None, true, false};
+ghost use Rattle.yaml_emit_text.specs.Sink.{Puts};
+ghost use Rattle.yaml_emit_text.specs.Layout.{◌▹◌, opener};
+ghost use Rattle.yaml_emit_layout.specs.State.{before_node};
 
 use super::Core;
-use super::event::put_bracket;
 use crate::bare::has_none;
-use crate::before::opening_bracket;
+use crate::before::{begins_line, line_start_of, opening_bracket};
 use crate::given::{Context, Start};
 use crate::keys::{is_flow_mapping, is_flow_sequence, is_simple_start};
 use crate::nodes::put_start_node;
+use yaml_emit_layout::Level;
+use yaml_emit_text::{Settings, Sink};
 use yaml_parse_model::yaml_event_body_t;
+
+// What opens a collection in the innermost one in canonical form, with what comes before it, where it begins a line; else nothing.
+// Inlined: some stores.
+#[inline(always)]
+fn put_bracket(sink: &mut Sink, settings: &Settings, top: &Option<Level>, bracket: u8) -> bool
+    requires { bracket < 128 }
+    ensures put { result ≡ true → Puts sink.old sink.new (before_node settings.now top.now false
+        ▹ opener bracket) }
+    ensures same { result ≡ false → sink.new ≡ sink.old }
+{
+    match top {
+        None => false,
+        Some(level) => {
+            if begins_line(settings, *level) {
+                let start = line_start_of(settings, *level, None);
+                sink.put_led(&start, &[bracket]);
+                sink.set_after_block();
+                true
+            } else {
+                false
+            }
+        }
+    }
+}
 
 impl Core {
     ghost use Rattle.yaml_parse_model.specs.Events.{body_of, text_of};
     ghost use Rattle.yaml_emit_layout.specs.declared.Expected.TheVariants as at;
     ghost use Rattle.yaml_emit_layout.specs.Content.{Start as SaidStart, emitter_event};
-    ghost use Rattle.yaml_emit_layout.specs.State.{problem_at};
     ghost use Rattle.yaml_emit_state.specs.Given.{lent_start, opening, IsNamed};
-    ghost use Rattle.yaml_emit_state.specs.Steps.{state_of, settings_of, LaysOut, LaysOutRight};
+    ghost use Rattle.yaml_emit_state.specs.Steps.{opens, LaysOut, LaysOutRight};
 
     // What opens a collection in its right place, in a form that is known.
     // Inlined: then what the form decides is left out.
@@ -40,15 +66,13 @@ impl Core {
         self.open_by(&settings, simple, given.empty, given.flow, sequence);
     }
 
-    // An event in its right place that is known to open a collection, and in which form: it is read once.
-    // Inlined: its kind is known.
+    // What opens a collection is laid out or refused.
+    // Inlined: for each kind and form, of which most is known.
     #[inline(always)]
-    fn take_start(&mut self, event: &mut yaml_event_body_t, empty: bool, canonical: bool)
-        requires utf8 { HasUtf8 (body_of event.old) }
-        requires right { problem_at (settings_of self.old) (state_of self.old)
-            (emitter_event (body_of event.old)) ≡ None }
+    pub(super) fn lay_start(&mut self, event: &yaml_event_body_t, empty: bool, canonical: bool)
+        requires kind { opens (emitter_event (body_of event.now)) ≡ true }
         requires form { canonical ≡ self.old.settings.canonical }
-        ensures { LaysOutRight self.old self.new (emitter_event (body_of event.old)) empty }
+        ensures { LaysOut self.old self.new (emitter_event (body_of event.now)) empty }
     {
         match event {
             yaml_event_body_t::SequenceStart {
@@ -57,14 +81,16 @@ impl Core {
                 implicit,
                 style,
             } => {
-                let start = Start {
-                    anchor,
-                    tag,
-                    implicit: *implicit,
-                    flow: is_flow_sequence(*style),
-                    empty,
-                };
-                self.put_known_start(&start, true, canonical);
+                if self.admits(event, canonical) {
+                    let start = Start {
+                        anchor,
+                        tag,
+                        implicit: *implicit,
+                        flow: is_flow_sequence(*style),
+                        empty,
+                    };
+                    self.put_known_start(&start, true, canonical);
+                }
             }
             yaml_event_body_t::MappingStart {
                 anchor,
@@ -72,29 +98,18 @@ impl Core {
                 implicit,
                 style,
             } => {
-                let start = Start {
-                    anchor,
-                    tag,
-                    implicit: *implicit,
-                    flow: is_flow_mapping(*style),
-                    empty,
-                };
-                self.put_known_start(&start, false, canonical);
+                if self.admits(event, canonical) {
+                    let start = Start {
+                        anchor,
+                        tag,
+                        implicit: *implicit,
+                        flow: is_flow_mapping(*style),
+                        empty,
+                    };
+                    self.put_known_start(&start, false, canonical);
+                }
             }
-            _ => self.take_rare(event, empty),
-        }
-    }
-
-    // What is known to open a collection is laid out or refused.
-    // Inlined: for each kind and form, of which most is known.
-    #[inline(always)]
-    pub(super) fn lay_start(&mut self, event: &mut yaml_event_body_t, empty: bool, canonical: bool)
-        requires utf8 { HasUtf8 (body_of event.old) }
-        requires form { canonical ≡ self.old.settings.canonical }
-        ensures { LaysOut self.old self.new (emitter_event (body_of event.old)) empty }
-    {
-        if self.admits(event, canonical) {
-            self.take_start(event, empty, canonical);
+            _ => (),
         }
     }
 
@@ -119,7 +134,7 @@ impl Core {
         }
     }
 
-    // What opens a collection, where a node is due and it has no properties, the same.
+    // The same by its properties.
     // Inlined: some tests in front of some stores.
     #[inline(always)]
     fn place_start(
@@ -144,10 +159,10 @@ impl Core {
     // What opens a collection in the general way.
     // Out of line: beside the short one.
     #[inline(never)]
-    fn lay_named_start(&mut self, event: &mut yaml_event_body_t, empty: bool)
-        requires utf8 { HasUtf8 (body_of event.old) }
+    fn lay_named_start(&mut self, event: &yaml_event_body_t, empty: bool)
+        requires kind { opens (emitter_event (body_of event.now)) ≡ true }
         requires form { self.old.settings.canonical ≡ true }
-        ensures { LaysOut self.old self.new (emitter_event (body_of event.old)) empty }
+        ensures { LaysOut self.old self.new (emitter_event (body_of event.now)) empty }
     {
         self.lay_start(event, empty, true);
     }
@@ -155,10 +170,10 @@ impl Core {
     // What opens a collection, in canonical form.
     // Out of line: the form is known, and what other kinds need takes no room here.
     #[inline(never)]
-    pub(super) fn lay_canonical_start(&mut self, event: &mut yaml_event_body_t, empty: bool)
-        requires utf8 { HasUtf8 (body_of event.old) }
+    pub(super) fn lay_canonical_start(&mut self, event: &yaml_event_body_t, empty: bool)
+        requires kind { opens (emitter_event (body_of event.now)) ≡ true }
         requires form { self.old.settings.canonical ≡ true }
-        ensures { LaysOut self.old self.new (emitter_event (body_of event.old)) empty }
+        ensures { LaysOut self.old self.new (emitter_event (body_of event.now)) empty }
     {
         match event {
             yaml_event_body_t::SequenceStart { anchor, tag, .. } => {
@@ -171,7 +186,7 @@ impl Core {
                     self.lay_named_start(event, empty);
                 }
             }
-            _ => self.lay_any(event, empty),
+            _ => (),
         }
     }
 }

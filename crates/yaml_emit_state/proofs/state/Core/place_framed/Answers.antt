@@ -1,12 +1,6 @@
-use Rattle.std.proofs.Common.{true, false, refl, sym, ◌∙◌}
-use Rattle.yaml_emit_state.proofs.Unmarked.{lays_short, item_behind, key_behind, value_behind}
+use Rattle.yaml_emit_state.proofs.Framed.{lays_framed}
 use Rattle.yaml_emit_state.proofs.state.Core.place_framed.Goals as goal
 
-pub returns-in-Items-clause-laid : goal.returns-in-Items-clause-laid
-returns-in-Items-clause-laid c = λ h x empty b same. lays_short true c.args.self.now _ _ _ _ false c.args.value.now x empty c.requires.form c.requires.due (sym c.in-Some.is ∙ c.top-innermost.ensures) c.in-Items.is refl (item_behind _) (c.place_entry.ensures.placed h) b same
-
-pub returns-in-Keys-clause-laid : goal.returns-in-Keys-clause-laid
-returns-in-Keys-clause-laid c = λ h x empty b same. lays_short true c.args.self.now _ _ _ _ true c.args.value.now x empty c.requires.form c.requires.due (sym c.in-Some.is ∙ c.top-innermost.ensures) c.in-Keys.is refl (key_behind _) (c.place_entry-in-Keys.ensures.placed h) b same
-
-pub returns-in-Value-clause-laid : goal.returns-in-Value-clause-laid
-returns-in-Value-clause-laid c = λ h x empty b same. lays_short true c.args.self.now _ _ _ _ false c.args.value.now x empty c.requires.form c.requires.due (sym c.in-Some.is ∙ c.top-innermost.ensures) c.in-Value.is refl (value_behind _) (c.place_value.ensures.placed h) b same
+pub returns-then-put_framed-clause-laid : goal.returns-then-put_framed-clause-laid
+returns-then-put_framed-clause-laid c = λ h x empty framed q same.
+    lays_framed c.args.tagged c.args.self.now c.step.new.self c.put_framed.new.sink _ _ c.args.quoted c.args.value.now x empty c.settings-settings.ensures c.innermost-top.ensures c.requires.form c.requires.due framed q same (c.put_framed.ensures.put c.if-put_framed.true) c.step.ensures.state c.step.ensures.same

@@ -1,6 +1,6 @@
 use Rattle.yaml_emit_text.proofs.Sinks.{puts_both}
 use Rattle.yaml_emit_state.proofs.Framed.{puts_bracket}
-use Rattle.yaml_emit_state.proofs.state.event.put_bracket.Goals as goal
+use Rattle.yaml_emit_state.proofs.state.starts.put_bracket.Goals as goal
 
 pub returns-then-begins_line-clause-put : goal.returns-then-begins_line-clause-put
 returns-then-begins_line-clause-put c = λ h.

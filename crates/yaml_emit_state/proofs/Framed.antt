@@ -4,7 +4,6 @@ use Rattle.std.proofs.Common.{◌≡◌, ℕ, Bool, true, false, refl, sym, ◌�
 use Rattle.std.proofs.Math.Bool.{and-false}
 use Rattle.std.specs.Prelude.{◌&&◌, codes, not, ◌||◌, if◌then◌else◌}
 use Rattle.std.specs.Str.{chars, IsAscii}
-use Rattle.yaml_scan_model.specs.declared.yaml_scalar_style_t.{yaml_scalar_style_t}
 use Rattle.yaml_emit_tags.specs.parse_model.Events.{TagDirective}
 use Rattle.yaml_emit_tags.specs.parse_model.Nodes.{str_tag}
 use Rattle.yaml_emit_tags.specs.Tags.{tag_spelling, spelled, directive_for, defines, suffix_keeps, uri_text}
@@ -13,19 +12,18 @@ use Rattle.yaml_emit_text.specs.Sink.{Output, Puts}
 use Rattle.yaml_emit_text.specs.Layout.{◌▹◌, word, Layout, stay, when, char, letters, line, opener, after_block}
 use Rattle.yaml_emit_text.specs.Quoted.{double_quoted}
 use Rattle.yaml_emit_text.specs.Scalars.{scalar_text}
-use Rattle.yaml_emit_text.proofs.Sinks.{puts_both}
 use Rattle.yaml_emit_layout.specs.declared.Expected.{Expected}
 use Rattle.yaml_emit_layout.specs.declared.Expected.TheVariants as at
 use Rattle.yaml_emit_layout.specs.declared.Level.{Level}
 use Rattle.yaml_emit_layout.specs.declared.NodePosition.{NodePosition}
 use Rattle.yaml_emit_layout.specs.Content.{Scalar, scalar, Start, sequence_start, mapping_start}
 use Rattle.yaml_emit_layout.specs.Grammar.{event_problem, last_problem, place_problem, problem_by}
-use Rattle.yaml_emit_layout.specs.State.{State, problem_at, is_simple_event, among, before_at, before_node, levels_behind, position_of, top_of, start_text, text_at, next_at, depth_at, opened}
-use Rattle.yaml_emit_layout.specs.Nodes.{Context, context_of, is_simple_scalar, checked, deeper, page_at, scalar_layout, style_of, turned, before_item, before_key, before_value, is_simple_start, indent_of, indented}
+use Rattle.yaml_emit_layout.specs.State.{is_simple_event, among, before_at, before_node, levels_behind, position_of, top_of, start_text, text_at, next_at, depth_at}
+use Rattle.yaml_emit_layout.specs.Nodes.{Context, context_of, is_simple_scalar, checked, deeper, page_at, scalar_layout, style_of, turned, before_item, before_key, before_value, is_simple_start, is_flow}
 use Rattle.yaml_emit_state.specs.declared.state.Core.{Core}
 use Rattle.yaml_emit_state.specs.Due.{is_key}
-use Rattle.yaml_emit_state.specs.Given.{plain_text, opening, opening_bracket}
-use Rattle.yaml_emit_state.specs.Steps.{state_of, settings_of, LaysOut, LaysOutRight, StaysBut, OpensCollection, first_phase}
+use Rattle.yaml_emit_state.specs.Given.{opening, opening_bracket}
+use Rattle.yaml_emit_state.specs.Steps.{state_of, settings_of, LaysOut, LaysOutRight, StaysBut, OpensCollection}
 use Rattle.yaml_emit_state.proofs.Keyed.{no_keys, lays_scalar, lays_in_place}
 use Rattle.std.proofs.lemmas.Bool.{and_parts}
 use Rattle.std.proofs.lemmas.Str.{IsAscii-append}
@@ -45,35 +43,6 @@ use Rattle.yaml_emit_state.proofs.Noting.{lays_right}
 pub str_spelled : tag_spelling [] str_tag ≡ codes "!!str"
 unfolding directive_for defines suffix_keeps uri_text spelled
 str_spelled = refl
-
--- its layout: the tag, and the value in double quotes
-pub text_layout : (s : Settings) (ds : List TagDirective) (at : NodePosition) (value : List ℕ)
-    (style : yaml_scalar_style_t) → s.canonical ≡ true
-    → scalar_layout (context_of s ds) at (plain_text value style)
-    ≡ (word (tag_spelling ds str_tag) ▹ (checked (deeper s at.around) ▹ double_quoted (page_at s at) (chars value)))
-unfolding scalar_layout style_of scalar_text
-text_layout s ds at value style e = rw e refl
-
-pub puts_text : (s : Settings) (ds : List TagDirective) (at : NodePosition) (value : List ℕ)
-    (style : yaml_scalar_style_t) (a b c : Output) → s.canonical ≡ true
-    → Puts a b (word (tag_spelling ds str_tag))
-    → Puts b c (checked (deeper s at.around) ▹ double_quoted (page_at s at) (chars value))
-    → Puts a c (scalar_layout (context_of s ds) at (plain_text value style))
-unfolding scalar_layout style_of scalar_text
-puts_text s ds at value style a b c e p q = rw e (puts_both a b c _ _ p q)
-
-right_by : (canonical : Bool) (place : Expected) (top : Option Level) (value : List ℕ)
-    (style : yaml_scalar_style_t) → canonical ≡ true → place ≡ at.Node
-    → problem_by canonical place top (scalar (plain_text value style)) ≡ None
-unfolding problem_by event_problem place_problem last_problem
-right_by canonical place None value style e h = rw (e, h) refl
-right_by canonical place (Some l) value style e h = rw (e, h) refl
-
--- nothing is wrong with it
-pub text_right : (s : Settings) (st : State) (value : List ℕ) (style : yaml_scalar_style_t)
-    → s.canonical ≡ true → st.place ≡ at.Node
-    → problem_at s st (scalar (plain_text value style)) ≡ None
-text_right s st value style e h = right_by s.canonical st.place _ value style e h
 
 -- it is no simple key
 pub text_no_key : (p : Context) (top : Option Level) (v : Scalar) → p.settings.canonical ≡ true
@@ -120,20 +89,20 @@ pub puts_framed : (tagged : Bool) (s : Settings) (l : Level) (quoted : Bool) (v 
     (a b : Output) → BeginsLine s l → IsLined l.indent s.width v
     → Puts a b (line_start_text (line_start s l (sign_of (tagged || quoted)))
     ▹ letters (front tagged ++ (v ++ 34 ∷ [])))
-    → Puts a b (framed_text s (Some l) tagged quoted v)
+    → Puts a b (framed_text s (Some l) tagged [] quoted v)
 puts_framed false s l quoted v a b t w p =
     let pos : NodePosition = position_of (Some l) false in
     let x : Layout = double_quoted (page_at s pos) (chars v) in
     let before : Layout = before_at s l.phase l.flow l.indent false in
     let C : Layout → Type 0 = λ z. Puts a b (before ▹ (z ▹ x)) in
-    unchecked_behind (deeper s pos.around) a b (before ▹ front_text false quoted) x t.shallow
+    unchecked_behind (deeper s pos.around) a b (before ▹ front_text false [] quoted) x t.shallow
     (subst C (sign_is quoted) (begun s l (sign_of quoted) x 34 (v ++ 34 ∷ []) stay a b t (quoted_worded l.indent (page_at s pos) v w) p))
 puts_framed true s l quoted v a b t w p =
     let pos : NodePosition = position_of (Some l) false in
     let q : Layout = double_quoted (page_at s pos) (chars v) in
     let before : Layout = before_at s l.phase l.flow l.indent false in
     let C : List ℕ → Type 0 = λ z. Puts a b (before ▹ (word z ▹ q)) in
-    unchecked_behind (deeper s pos.around) a b (before ▹ front_text true quoted) q t.shallow
+    unchecked_behind (deeper s pos.around) a b (before ▹ front_text true [] quoted) q t.shallow
     (subst C (sym str_spelled) (begun s l None (word (33 ∷ 33 ∷ 115 ∷ 116 ∷ 114 ∷ []) ▹ q) 33 (33 ∷ 115 ∷ 116 ∷ 114 ∷ 32 ∷ 34 ∷ (v ++ 34 ∷ [])) stay a b t (tagged_worded l.indent (page_at s pos) v w) p))
 
 -- what opens a collection was written
@@ -169,82 +138,75 @@ frees x h =
 
 marked_is : (quoted : Bool) (z : Layout)
     → (when (true && (not quoted && true)) (word (33 ∷ [])) ▹ z)
-    ≡ (front_text false quoted ▹ z)
+    ≡ (front_text false [] quoted ▹ z)
 marked_is true z = refl
 marked_is false z = refl
 
-framed_layout : (tagged : Bool) (s : Settings) (ds : List TagDirective) (pos : NodePosition)
-    (x : Scalar) → s.canonical ≡ true → IsFramed tagged ds x
-    → scalar_layout (context_of s ds) pos x ≡ (front_text tagged x.quoted
+framed_layout : (tagged : Bool) (s : Settings) (ds es : List TagDirective) (pos : NodePosition)
+    (x : Scalar) → s.canonical ≡ true → (tagged ≡ true → ds ≡ es) → IsFramed tagged x
+    → scalar_layout (context_of s ds) pos x ≡ (front_text tagged es x.quoted
     ▹ (checked (deeper s pos.around) ▹ double_quoted (page_at s pos) (chars x.value)))
 unfolding scalar_layout style_of scalar_text
-framed_layout false s ds pos x e h =
+framed_layout false s ds es pos x e same h =
     let p = frees x h in
     rw (e, p.no_anchor, p.no_tag) (marked_is x.quoted (checked (deeper s pos.around) ▹ double_quoted (page_at s pos) (chars x.value)))
-framed_layout true s ds pos x e h = rw (e, h.0, h.1, h.2) refl
+framed_layout true s ds es pos x e same h = rw (e, h.0, h.1, same refl) refl
 
 -- nothing is wrong with it
-framed_right : (tagged : Bool) (canonical : Bool) (place : Expected) (top : Option Level)
-    (ds : List TagDirective) (x : Scalar) → canonical ≡ true → place ≡ at.Node → IsFramed tagged ds x
+framed_right : (tagged canonical : Bool) (place : Expected) (top : Option Level) (x : Scalar)
+    → canonical ≡ true → place ≡ at.Node → IsFramed tagged x
     → problem_by canonical place top (scalar x) ≡ None
 unfolding problem_by event_problem place_problem last_problem
-framed_right false canonical place top ds x e h f = parts_right canonical place top x h (frees x f)
-framed_right true canonical place None ds x e h f = rw (e, h, f.0, f.1) refl
-framed_right true canonical place (Some l) ds x e h f = rw (e, h, f.0, f.1) refl
+framed_right false canonical place top x e h f = parts_right canonical place top x h (frees x f)
+framed_right true canonical place None x e h f = rw (e, h, f.0, f.1) refl
+framed_right true canonical place (Some l) x e h f = rw (e, h, f.0, f.1) refl
 
 pub lays_framed : (tagged : Bool) (old new : Core) (o : Output) (s : Settings) (top : Option Level)
-    (quoted : Bool) (v : List ℕ) (x : Scalar) (empty : Bool) → s ≡ settings_of old
-    → top ≡ top_of (stack_of old.levels) → old.settings.canonical ≡ true → old.place ≡ at.Node
-    → IsFramed tagged old.directives x → x.quoted ≡ quoted → x.value ≡ v
-    → Puts old.sink o (framed_text s top tagged quoted v)
+    (ds : List TagDirective) (quoted : Bool) (v : List ℕ) (x : Scalar) (empty : Bool)
+    → s ≡ settings_of old → top ≡ top_of (stack_of old.levels) → old.settings.canonical ≡ true
+    → old.place ≡ at.Node → (tagged ≡ true → old.directives ≡ ds) → IsFramed tagged x
+    → x.quoted ≡ quoted → x.value ≡ v → Puts old.sink o (framed_text s top tagged ds quoted v)
     → state_of new ≡ among old.directives (levels_behind (stack_of old.levels) false)
     → StaysBut (record old { sink = o }) new → LaysOut old new (scalar x) empty
-lays_framed tagged old new o s top quoted v x empty same upper form due framed q value written moved kept =
+lays_framed tagged old new o s top ds quoted v x empty same upper form due none framed q value written moved kept =
     let own : Settings = settings_of old in
     let innermost : Option Level = top_of (stack_of old.levels) in
     let C : Layout → Type 0 = λ z. Puts old.sink o (before_node own innermost false ▹ z) in
-    let said : Puts old.sink o (framed_text own innermost tagged x.quoted x.value) = rw (q, value) (rw (same, upper) at written) in
-    let put = subst C (sym (framed_layout tagged own old.directives (position_of innermost false) x form framed)) said in
-    lays_in_place old new (scalar x) empty (framed_right tagged own.canonical old.place innermost old.directives x form due framed)
+    let said : Puts old.sink o (framed_text own innermost tagged ds x.quoted x.value) = rw (q, value) (rw (same, upper) at written) in
+    let put = subst C (sym (framed_layout tagged own old.directives ds (position_of innermost false) x form none framed)) said in
+    lays_in_place old new (scalar x) empty (framed_right tagged own.canonical old.place innermost x form due framed)
     (lays_scalar old new o own innermost x false empty refl refl (text_no_key (context_of own old.directives) innermost x form) put moved kept)
 
--- in canonical form each collection is flow
-same_flow : (canonical x y : Bool) → canonical ≡ true → (canonical || x) ≡ (canonical || y)
-same_flow canonical x y e = rw e refl
-
--- whatever its style, and whether the next event closes it
-opens_any : (s : Settings) (old new : Core) (sequence flow empty : Bool) → s.canonical ≡ true
-    → OpensCollection s old new false false false sequence
-    → OpensCollection s old new false empty flow sequence
-opens_any s old new sequence flow empty e o =
-    let pos : NodePosition = position_of (top_of (stack_of old.levels)) false in
-    let f = same_flow s.canonical (pos.flow || (false || false)) (pos.flow || (flow || empty)) e in
-    let F : Bool → Type 0 = λ g. state_of new ≡ opened (state_of old).directives (stack_of old.levels) false (first_phase sequence) g (indent_of s pos sequence g old.sink.cursor) in
-    let G : Bool → Type 0 = λ g. Puts old.sink new.sink (indented (indent_of s pos sequence g) checked) in
-    record { settings = o.settings; state = λ g. subst F f (o.state g); cursor = o.cursor; text = subst G f o.text; memory = o.memory; halts = o.halts }
+opens_so : (s : Settings) (old new : Core) (o : Output) (top : Option Level) (q : Start)
+    (simple flow empty sequence : Bool) → top ≡ top_of (stack_of old.levels)
+    → simple ≡ is_simple_start (context_of s old.directives) q empty
+    → flow ≡ is_flow s (position_of top simple) q empty
+    → OpensCollection s (record old { sink = o }) new simple flow sequence
+    → let b = is_simple_start (context_of s old.directives) q empty in
+    OpensCollection s (record old { sink = o }) new b
+    (is_flow s (position_of (top_of (stack_of old.levels)) b) q empty) sequence
+opens_so s old new o top q simple flow empty sequence upper asked way moved =
+    let O : Bool → Bool → Type 0 = λ b f. OpensCollection s (record old { sink = o }) new b f sequence in
+    subst (λ b. O b (is_flow s (position_of (top_of (stack_of old.levels)) b) q empty)) asked (subst (O simple) (rw upper at way) moved)
 
 -- any start was laid out
 pub lays_start : (sequence : Bool) (old new : Core) (o : Output) (s : Settings)
-    (top : Option Level) (q : Start) (x : ℕ) (simple empty : Bool)
+    (top : Option Level) (q : Start) (x : ℕ) (simple flow empty : Bool)
     → s ≡ settings_of old → top ≡ top_of (stack_of old.levels)
     → simple ≡ is_simple_start (context_of s old.directives) q empty
-    → x ≡ opening_bracket sequence
+    → flow ≡ is_flow s (position_of top simple) q empty → x ≡ opening_bracket sequence
     → Puts old.sink o (before_node s top simple
     ▹ start_text (context_of s old.directives) (position_of top simple) x q empty)
-    → OpensCollection s (record old { sink = o }) new simple empty q.flow sequence
+    → OpensCollection s (record old { sink = o }) new simple flow sequence
     → LaysOutRight old new (opening sequence q) empty
 unfolding text_at next_at depth_at is_simple_event
-lays_start true old new o s top q x simple empty is upper asked bracket put moved =
-    let P : ℕ → Bool → Type 0 = λ y b. Puts old.sink o (before_node s top b ▹ start_text (context_of s old.directives) (position_of top b) y q empty) in
-    let O : Bool → Type 0 = λ b. OpensCollection s (record old { sink = o }) new b empty q.flow true in
-    let m = subst O asked moved in
-    lays_right old new o s top (sequence_start q) empty is upper (subst (P 91) asked (subst (λ y. P y simple) bracket put))
+lays_start true old new o s top q x simple flow empty is upper asked way bracket put moved =
+    let m = opens_so s old new o top q simple flow empty true upper asked way moved in
+    lays_right old new o s top (sequence_start q) empty is upper (rw (bracket, asked) at put)
     (record { settings = m.settings; state = m.state; cursor = m.cursor; text = m.text; memory = m.memory; halts = m.halts })
-lays_start false old new o s top q x simple empty is upper asked bracket put moved =
-    let P : ℕ → Bool → Type 0 = λ y b. Puts old.sink o (before_node s top b ▹ start_text (context_of s old.directives) (position_of top b) y q empty) in
-    let O : Bool → Type 0 = λ b. OpensCollection s (record old { sink = o }) new b empty q.flow false in
-    let m = subst O asked moved in
-    lays_right old new o s top (mapping_start q) empty is upper (subst (P 123) asked (subst (λ y. P y simple) bracket put))
+lays_start false old new o s top q x simple flow empty is upper asked way bracket put moved =
+    let m = opens_so s old new o top q simple flow empty false upper asked way moved in
+    lays_right old new o s top (mapping_start q) empty is upper (rw (bracket, asked) at put)
     (record { settings = m.settings; state = m.state; cursor = m.cursor; text = m.text; memory = m.memory; halts = m.halts })
 
 -- ---- without properties, where a node is due in canonical form
@@ -276,13 +238,12 @@ pub lays_bracket : (old new : Core) (o : Output) (s : Settings) (top : Option Le
     → top ≡ top_of (stack_of old.levels) → x ≡ opening_bracket sequence
     → old.settings.canonical ≡ true → old.place ≡ at.Node → q.anchor ≡ None → q.tag ≡ None
     → Puts old.sink o (before_node s top false ▹ opener x)
-    → OpensCollection s (record old { sink = o }) new false false false sequence
+    → OpensCollection s (record old { sink = o }) new false true sequence
     → LaysOut old new (opening sequence q) empty
 lays_bracket old new o s top x sequence q empty is upper bracket form due a t put moved =
     let A : Layout → Type 0 = λ z. Puts old.sink o (before_node s top false ▹ z) in
     let canonical : s.canonical ≡ true = rw is form in
     lays_in_place old new (opening sequence q) empty
     (start_right (settings_of old).canonical old.place (top_of (stack_of old.levels)) sequence q form due a t)
-    (lays_start sequence old new o s top q x false empty is upper (no_start_key (context_of s old.directives) q empty canonical) bracket
-    (subst A (bracket_start s old.directives (position_of top false) x q empty canonical a t) put)
-    (opens_any s (record old { sink = o }) new sequence q.flow empty canonical moved))
+    (lays_start sequence old new o s top q x false true empty is upper (no_start_key (context_of s old.directives) q empty canonical) (rw canonical refl) bracket
+    (subst A (bracket_start s old.directives (position_of top false) x q empty canonical a t) put) moved)

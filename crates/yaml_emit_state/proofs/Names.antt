@@ -63,11 +63,3 @@ pub named_right : (canonical : Bool) (place : Expected) (top : Option Level) (e 
     → problem_by canonical place top e ≡ None → IsNamed (name_of e)
 unfolding problem_by
 named_right canonical place top e h = event_named canonical e (first_none _ _ h)
-
--- a name behind its indicator, with nothing behind it
-pub behind_ascii : (c : ℕ) (name : List ℕ) → c < 128 → IsAscii name → IsAscii (c ∷ (name ++ []))
-behind_ascii c name low h = IsAscii-cons c (name ++ []) low (rw (append-nil name) h)
-
-pub puts_name : (a b : Output) (c : ℕ) (name : List ℕ) → Puts a b (word (c ∷ (name ++ [])))
-    → Puts a b (word (c ∷ name))
-puts_name a b c name p = let P : List ℕ → Type 0 = λ t. Puts a b (word (c ∷ t)) in subst P (append-nil name) p

@@ -58,18 +58,19 @@ pub record BeginsLine (s : Settings) (l : Level) : Type 0 where
 abbrev pub is_free : said.Scalar → Bool
 is_free x = has_none x.anchor x.tag && (x.plain || x.quoted)
 
--- it is, or it has no anchor and the default tag, and there is no directive
-abbrev pub IsFramed : Bool → List TagDirective → said.Scalar → Type 0
-IsFramed false directives x = is_free x ≡ true
-IsFramed true directives x = (x.anchor ≡ None) × (x.tag ≡ Some str_tag) × (directives ≡ [])
+-- it is, or it has no anchor and the default tag
+abbrev pub IsFramed : Bool → said.Scalar → Type 0
+IsFramed false x = is_free x ≡ true
+IsFramed true x = (x.anchor ≡ None) × (x.tag ≡ Some str_tag)
 
 -- what stands in front of its value: the tag, or what one without it has that may not be quoted
-abbrev pub front_text : Bool → Bool → Layout
-front_text true quoted = word (tag_spelling [] str_tag)
-front_text false quoted = when (not quoted) (word (ascii.exclamation ∷ []))
+abbrev pub front_text : Bool → List TagDirective → Bool → Layout
+front_text true directives quoted = word (tag_spelling directives str_tag)
+front_text false directives quoted = when (not quoted) (word (ascii.exclamation ∷ []))
 
 -- it, with what comes before it in the innermost collection
-abbrev pub framed_text : Settings → Option Level → Bool → Bool → List ℕ → Layout
-framed_text s top tagged quoted v = before_node s top false ▹ (front_text tagged quoted
+abbrev pub framed_text : Settings → Option Level → Bool → List TagDirective → Bool → List ℕ → Layout
+framed_text s top tagged directives quoted v = before_node s top false
+    ▹ (front_text tagged directives quoted
     ▹ (checked (deeper s (position_of top false).around)
     ▹ double_quoted (page_at s (position_of top false)) (chars v)))

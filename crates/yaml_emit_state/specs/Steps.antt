@@ -105,17 +105,15 @@ StaysBut old new = (new.settings ≡ old.settings) × (new.sink ≡ old.sink)
 
 -- a collection was opened, behind its properties
 pub record OpensCollection (s : Settings) (old new : Core)
-    (simple empty flow sequence : Bool) : Type 0 where
+    (simple flow sequence : Bool) : Type 0 where
   pub settings : new.settings ≡ old.settings
   pub state : new.sink.status ≡ Going →
-      let at = position_of (top_of (stack_of old.levels)) simple in
-      let f = s.canonical || (at.flow || (flow || empty)) in
       state_of new ≡ opened (state_of old).directives (stack_of old.levels) simple
-      (first_phase sequence) f (indent_of s at sequence f old.sink.cursor)
+      (first_phase sequence) flow (indent_of s (position_of (top_of (stack_of old.levels)) simple)
+      sequence flow old.sink.cursor)
   pub cursor : new.sink.status ≡ Going → new.sink.cursor ≡ old.sink.cursor
-  pub text : let at = position_of (top_of (stack_of old.levels)) simple in
-      Puts old.sink new.sink (indented
-      (indent_of s at sequence (s.canonical || (at.flow || (flow || empty)))) checked)
+  pub text : Puts old.sink new.sink (indented
+      (indent_of s (position_of (top_of (stack_of old.levels)) simple) sequence flow) checked)
   pub memory : Notes true old new
   pub halts : Halts old new
 

@@ -10,8 +10,8 @@ ghost use Rattle.yaml_emit_text.specs.Scalars.{scalar_text};
 ghost use Rattle.yaml_emit_layout.specs.Grammar.{kept_if, kept_tag, has};
 ghost use Rattle.yaml_emit_layout.specs.Nodes.{alias_layout, anchor_text, tag_text, properties_text, mark_text, scalar_layout, style_of, is_plain, checked, deeper, page_at, is_flow};
 ghost use Rattle.yaml_emit_layout.specs.State.{before_node, position_of, start_text};
-ghost use Rattle.yaml_scan_model.specs.declared.yaml_scalar_style_t.{yaml_scalar_style_t};
-ghost use Rattle.yaml_emit_state.specs.Given.{lent_context, lent_scalar, lent_start, plain_text, IsNamed};
+ghost use Rattle.yaml_emit_state.specs.Given.{lent_context, lent_scalar, lent_start, IsNamed};
+ghost use Rattle.yaml_emit_state.specs.Framed.{framed_text};
 
 use crate::bare::is_given;
 use crate::before::{put_before, put_blank_if, put_opener_if};
@@ -243,12 +243,9 @@ pub fn are_none(directives: &DirectiveTable) -> bool
 // Inlined into its one caller.
 #[inline(always)]
 pub fn put_text_node(sink: &mut Sink, context: &Context, top: &Option<Level>, value: &[u8])
-    requires utf8 { IsUtf8 value.now }
-    requires canonical { context.now.settings.now.canonical ≡ true }
-    ensures { (style : yaml_scalar_style_t) → Puts sink.old sink.new
-        (before_node context.now.settings.now top.now false
-        ▹ scalar_layout (lent_context context.now) (position_of top.now false)
-        (plain_text value.now style)) }
+    requires { IsUtf8 value.now }
+    ensures { Puts sink.old sink.new (framed_text context.now.settings.now top.now true
+        context.now.directives.now true value.now) }
 {
     put_before(sink, context.settings, top, false);
     put_tag(sink, context.directives, YAML_STR_TAG);

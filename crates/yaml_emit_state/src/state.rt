@@ -208,14 +208,13 @@ impl Core {
         self.step(simple);
     }
 
-    // What ends a collection in its right place, in a form that is known.
-    // Inlined: then what the form decides is left out.
+    // What ends a collection in its right place.
+    // Inlined: which it is is known.
     #[inline(always)]
-    fn put_known_end(&mut self, sequence: bool, canonical: bool)
-        requires { canonical ≡ self.old.settings.canonical }
+    fn put_known_end(&mut self, sequence: bool)
         ensures { (empty : Bool) → LaysOutRight self.old self.new (ending sequence) empty }
     {
-        let settings = self.settings(canonical);
+        let settings = self.settings(self.settings.canonical);
         let top = self.levels.innermost();
         put_closer_at(&mut self.sink, &settings, top, closing_bracket(sequence));
         self.close();
@@ -288,15 +287,14 @@ impl Core {
     }
 
     // What ends a collection is laid out or refused.
-    // Inlined: for each kind and form, of which most is known.
+    // Inlined: for each kind, of which most is known.
     #[inline(always)]
-    fn lay_end(&mut self, event: &yaml_event_body_t, empty: bool, sequence: bool, canonical: bool)
-        requires kind { emitter_event (body_of event.now) ≡ ending sequence }
-        requires form { canonical ≡ self.old.settings.canonical }
+    fn lay_end(&mut self, event: &yaml_event_body_t, empty: bool, sequence: bool)
+        requires { emitter_event (body_of event.now) ≡ ending sequence }
         ensures { LaysOut self.old self.new (ending sequence) empty }
     {
-        if self.admits(event, canonical) {
-            self.put_known_end(sequence, canonical);
+        if self.admits(event, self.settings.canonical) {
+            self.put_known_end(sequence);
         }
     }
 
@@ -324,24 +322,22 @@ impl Core {
         }
     }
 
-    // What ends a sequence, in canonical form.
-    // Out of line: kind and form are known, and what other kinds need takes no room here.
+    // What ends a sequence, in either form.
+    // Out of line: the kind is known, and what other kinds need takes no room here.
     #[inline(never)]
     fn lay_sequence_end(&mut self, empty: bool)
-        requires { self.old.settings.canonical ≡ true }
         ensures { LaysOut self.old self.new sequence_end empty }
     {
-        self.lay_end(&yaml_event_body_t::SequenceEnd, empty, true, true);
+        self.lay_end(&yaml_event_body_t::SequenceEnd, empty, true);
     }
 
-    // What ends a mapping, in canonical form.
-    // Out of line: kind and form are known, and what other kinds need takes no room here.
+    // What ends a mapping, in either form.
+    // Out of line: the kind is known, and what other kinds need takes no room here.
     #[inline(never)]
     fn lay_mapping_end(&mut self, empty: bool)
-        requires { self.old.settings.canonical ≡ true }
         ensures { LaysOut self.old self.new mapping_end empty }
     {
-        self.lay_end(&yaml_event_body_t::MappingEnd, empty, false, true);
+        self.lay_end(&yaml_event_body_t::MappingEnd, empty, false);
     }
 
     // An alias is laid out or refused, in either form.

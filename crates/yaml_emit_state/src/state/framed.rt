@@ -1,5 +1,5 @@
 //! Laying out a scalar in canonical form: at once, where it stands in its line and has no properties, or the default tag alone.
-ghost use Rattle.std.specs.Prelude.{◌≡◌, ◌||◌, if◌then◌else◌, Bool, true, false, IsUtf8};
+ghost use Rattle.std.specs.Prelude.{◌≡◌, [], ◌||◌, if◌then◌else◌, Bool, true, false, IsUtf8};
 ghost use Rattle.yaml_parse_model.specs.Constructors.{HasUtf8};
 ghost use Rattle.yaml_emit_text.specs.Sink.{Puts};
 ghost use Rattle.yaml_emit_state.specs.Framed.{sign_of, framed_text};
@@ -41,7 +41,7 @@ fn put_framed(
     value: &[u8],
 ) -> bool
     ensures put { result ≡ true → Puts sink.old sink.new
-        (framed_text settings.now top.now tagged quoted value.now) }
+        (framed_text settings.now top.now tagged [] quoted value.now) }
     ensures same { result ≡ false → sink.new ≡ sink.old }
 {
     match top {
@@ -75,9 +75,9 @@ impl Core {
     pub(super) fn place_framed(&mut self, tagged: bool, quoted: bool, value: &[u8]) -> bool
         requires form { self.old.settings.canonical ≡ true }
         requires due { self.old.place ≡ at.Node }
-        ensures laid { result ≡ true → (x : SaidScalar) (empty : Bool)
-            → IsFramed tagged self.old.directives x → x.quoted ≡ quoted → x.value ≡ value.now
-            → LaysOut self.old self.new (scalar x) empty }
+        requires none { tagged ≡ true → self.old.directives ≡ [] }
+        ensures laid { result ≡ true → (x : SaidScalar) (empty : Bool) → IsFramed tagged x
+            → x.quoted ≡ quoted → x.value ≡ value.now → LaysOut self.old self.new (scalar x) empty }
         ensures same { result ≡ false → self.new ≡ self.old }
     {
         let settings = self.settings(true);

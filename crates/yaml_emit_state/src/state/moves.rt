@@ -11,7 +11,7 @@ ghost use Rattle.yaml_emit_layout.specs.Nodes.{checked};
 ghost use Rattle.yaml_emit_state.specs.Steps.{state_of, StaysBut, MovesOn, OpensCollection, Notes, Halts, first_phase, is_outer};
 
 use super::Core;
-use crate::indent::{indent_of, is_flow, position_of};
+use crate::indent::{indent_of, position_of};
 use std::mem;
 use yaml_emit_layout::{Expected, Level, Phase};
 use yaml_emit_tags::DirectiveTable;
@@ -152,24 +152,15 @@ impl Core {
         }
     }
 
-    // A collection is opened as settings and style have it.
+    // A collection is opened where it stands, by whether it is flow.
     // Inlined: where the form is known it is short.
     #[inline(always)]
-    pub(super) fn open_by(
-        &mut self,
-        settings: &Settings,
-        simple: bool,
-        empty: bool,
-        style_flow: bool,
-        sequence: bool,
-    )
-        ensures { OpensCollection settings.now self.old self.new simple empty style_flow sequence }
+    pub(super) fn open_by(&mut self, settings: &Settings, simple: bool, flow: bool, sequence: bool)
+        ensures { OpensCollection settings.now self.old self.new simple flow sequence }
     {
         let position = position_of(self.levels.top(), simple);
-        let flow = is_flow(settings, position, style_flow, empty);
         let indent = indent_of(settings, position, sequence, flow, self.sink.cursor());
-        let phase = first_phase(sequence);
-        self.open_at(simple, phase, flow, indent);
+        self.open_at(simple, first_phase(sequence), flow, indent);
     }
 
     // The state behind what begins or ends the stream or a document. What is left of the event counts for nothing.

@@ -38,7 +38,7 @@ impl Core {
     ghost use Rattle.yaml_parse_model.specs.Events.{body_of, type_of};
     ghost use Rattle.yaml_scan_model.specs.declared.yaml_event_type_t.TheVariants as kind;
     ghost use Rattle.yaml_emit_layout.specs.declared.Expected.TheVariants as at;
-    ghost use Rattle.yaml_emit_layout.specs.Content.{Scalar as SaidScalar, emitter_event, scalar, sequence_end, mapping_end};
+    ghost use Rattle.yaml_emit_layout.specs.Content.{Scalar as SaidScalar, emitter_event, scalar};
     ghost use Rattle.yaml_emit_layout.specs.State.{top_of};
     ghost use Rattle.yaml_emit_state.specs.Bare.{IsInline, IsInlineEvent, is_shallow, short_text, short_node, hyphen, first_behind, entry_phase, Places};
     ghost use Rattle.yaml_emit_state.specs.Stack.{stack_of};
@@ -256,26 +256,6 @@ impl Core {
         }
     }
 
-    // What ends a sequence.
-    // Out of line: kind and form are known, and what other kinds need takes no room here.
-    #[inline(never)]
-    fn lay_pretty_sequence_end(&mut self, empty: bool)
-        requires { self.old.settings.canonical ≡ false }
-        ensures { LaysOut self.old self.new sequence_end empty }
-    {
-        self.lay_end(&yaml_event_body_t::SequenceEnd, empty, true, false);
-    }
-
-    // What ends a mapping.
-    // Out of line: kind and form are known, and what other kinds need takes no room here.
-    #[inline(never)]
-    fn lay_pretty_mapping_end(&mut self, empty: bool)
-        requires { self.old.settings.canonical ≡ false }
-        ensures { LaysOut self.old self.new mapping_end empty }
-    {
-        self.lay_end(&yaml_event_body_t::MappingEnd, empty, false, false);
-    }
-
     // In pretty form.
     // Inlined: a call for each kind.
     #[inline(always)]
@@ -288,8 +268,8 @@ impl Core {
             yaml_event_body_t::Scalar { .. } => self.lay_pretty_scalar(event, empty),
             yaml_event_body_t::SequenceStart { .. } => self.lay_pretty_sequence_start(event, empty),
             yaml_event_body_t::MappingStart { .. } => self.lay_pretty_mapping_start(event, empty),
-            yaml_event_body_t::SequenceEnd => self.lay_pretty_sequence_end(empty),
-            yaml_event_body_t::MappingEnd => self.lay_pretty_mapping_end(empty),
+            yaml_event_body_t::SequenceEnd => self.lay_sequence_end(empty),
+            yaml_event_body_t::MappingEnd => self.lay_mapping_end(empty),
             yaml_event_body_t::Alias { .. } => self.lay_alias(event, empty),
             _ => self.lay_rare(event, empty),
         }

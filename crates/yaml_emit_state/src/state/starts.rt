@@ -8,6 +8,7 @@ use super::Core;
 use crate::bare::has_none;
 use crate::before::{begins_line, line_start_of, opening_bracket};
 use crate::given::{Context, Start};
+use crate::indent::{is_flow, position_of};
 use crate::keys::{is_flow_mapping, is_flow_sequence, is_simple_start};
 use crate::nodes::put_start_node;
 use yaml_emit_layout::Level;
@@ -62,8 +63,9 @@ impl Core {
         let top = self.levels.innermost();
         let simple = is_simple_start(&context, given);
         let bracket = opening_bracket(sequence) as char;
+        let flow = is_flow(&settings, position_of(*top, simple), given.flow, given.empty);
         put_start_node(&mut self.sink, &context, top, simple, bracket, given);
-        self.open_by(&settings, simple, given.empty, given.flow, sequence);
+        self.open_by(&settings, simple, flow, sequence);
     }
 
     // What opens a collection is laid out or refused.
@@ -127,7 +129,7 @@ impl Core {
         let settings = self.settings(true);
         let top = self.levels.innermost();
         if put_bracket(&mut self.sink, &settings, top, opening_bracket(sequence)) {
-            self.open_by(&settings, false, false, false, sequence);
+            self.open_by(&settings, false, true, sequence);
             true
         } else {
             false

@@ -5,4 +5,4 @@ pub returns-then-not-place_framed : goal.returns-then-not-place_framed
 returns-then-not-place_framed c = rw (c.place_framed.ensures.same c.if-not-place_framed.true) at c.lay_any_text.ensures
 
 pub returns-else-not-place_framed : goal.returns-else-not-place_framed
-returns-else-not-place_framed c = λ style empty. c.place_framed.ensures.laid c.if-not-place_framed.false _ empty (refl, refl, c.are_none.ensures c.if-are_none.true) refl refl
+returns-else-not-place_framed c = λ style empty. c.place_framed.ensures.laid c.if-not-place_framed.false _ empty (refl, refl) refl refl

@@ -12,7 +12,7 @@ use Rattle.yaml_emit_layout.specs.declared.Problem.{Problem}
 use Rattle.yaml_emit_layout.specs.Content.{Event, Document, stream_events}
 use Rattle.yaml_emit_layout.specs.Grammar.{or_else, event_problem, last_problem, place_problem, problem_by, own_problem, own_problems}
 use Rattle.yaml_emit_layout.specs.Nodes.{stream_layout}
-use Rattle.yaml_emit_layout.specs.State.{State, opens_empty, problem_at, piece, next, top_of}
+use Rattle.yaml_emit_layout.specs.State.{State, opens_empty, problem_at, piece, top_of}
 use Rattle.yaml_emit_layout.specs.ToCome.{stream, events, layout}
 use Rattle.yaml_emit_layout.specs.ToCome as come
 use Rattle.yaml_emit_layout.proofs.LeadsOn.{Goes, goes}

@@ -112,22 +112,6 @@ pub puts_bracket : (s : Settings) (l : Level) (x : ℕ) (a b : Output) → Begin
 unfolding letters
 puts_bracket s l x a b t p = begun s l None (word (x ∷ []) ▹ after_block) x [] after_block a b t (word_worded (l.indent + 4) (x ∷ []) after_block) p
 
-two_ascii : (m : ℕ) → m < 128 → IsAscii (m ∷ 32 ∷ [])
-two_ascii m h = IsAscii-cons m (32 ∷ []) h (IsAscii-cons 32 [] (omega arith) IsAscii-nil)
-
-pub mark_ascii : (p : Phase) → IsAscii (marks (mark_of p))
-mark_ascii (Items fresh) = IsAscii-nil
-mark_ascii (Keys fresh) = two_ascii 63 (omega arith)
-mark_ascii (Value was_simple) = two_ascii 58 (omega arith)
-
-sign_ascii : (quoted : Bool) → IsAscii (marks (sign_of quoted))
-sign_ascii true = IsAscii-nil
-sign_ascii false = two_ascii 33 (omega arith)
-
-pub signs_ascii : (p : Phase) (quoted : Bool)
-    → IsAscii (marks (mark_of p) ++ marks (sign_of quoted))
-signs_ascii p quoted = IsAscii-append (marks (mark_of p)) (marks (sign_of quoted)) (mark_ascii p) (sign_ascii quoted)
-
 -- ---- that it is laid out
 
 frees : (x : Scalar) → is_free x ≡ true → Parts x

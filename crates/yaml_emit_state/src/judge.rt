@@ -9,7 +9,6 @@ ghost use Rattle.yaml_emit_state.specs.Seen.{is_among, Adds, Judges};
 ghost use Rattle.yaml_emit_state.specs.Steps.{is_document_start};
 
 use crate::bare::is_given;
-use crate::handles::add;
 use std::alloc::{AllocError, Global};
 use std::collections::BTreeSet;
 use yaml_emit_layout::{Expected, Level, Phase, Problem};
@@ -211,11 +210,11 @@ fn twice_problem<'a>(
     seen: &mut BTreeSet<&'a [u8]>,
     handle: &'a [u8],
 ) -> Result<Option<Problem>, AllocError>
-    ensures problem { IfOk result (λ p. p ≡ (if is_among handle.now seen.old
+    ensures problem { IfOk result (λ p. p ≡ (if is_among handle.entry seen.old
         then Some Problem.HandleTwice else None)) }
-    ensures adds { OnOk result (Adds handle.now seen.old seen.new) }
+    ensures adds { OnOk result (Adds handle.entry seen.old seen.new) }
 {
-    if add(seen, handle)? {
+    if seen.insert(handle)? {
         Ok(None)
     } else {
         Ok(Some(Problem::HandleTwice))

@@ -172,51 +172,33 @@ fn put_end(sink: &mut Sink, due: bool, settings: &Settings, indent: u64, c: u8)
     }
 }
 
-// Inlined: where the form is known it is short.
-#[inline(always)]
-#[tactic(auto, unfolding(yaml_emit_layout::specs::Nodes::closer))]
-fn put_closer(sink: &mut Sink, settings: &Settings, flow: bool, indent: u64, fresh: bool, c: u8)
-    requires { c < 128 }
-    ensures { Puts sink.old sink.new (closer settings.now flow indent fresh c) }
-{
-    if flow {
-        put_end(
-            sink,
-            settings.canonical && !fresh,
-            settings,
-            indent.saturating_sub(settings.indent),
-            c,
-        );
-    }
-}
-
-fn is_fresh_phase(phase: Phase) -> bool
-    ensures { result ≡ is_fresh phase }
+// Whether a comma and a line come before what ends a collection.
+fn is_due(canonical: bool, phase: Phase) -> bool
+    ensures { result ≡ (canonical && not (is_fresh phase)) }
 {
     match phase {
-        Phase::Items(fresh) => fresh,
-        Phase::Keys(fresh) => fresh,
-        Phase::Value(_) => false,
+        Phase::Items(fresh) => canonical && !fresh,
+        Phase::Keys(fresh) => canonical && !fresh,
+        Phase::Value(_) => canonical,
     }
 }
 
 /// What ends the innermost collection.
-// Inlined: where the form is known it is short.
+// Inlined: a test in front of some stores.
 #[inline(always)]
+#[tactic(auto, unfolding(yaml_emit_layout::specs::Nodes::closer))]
 pub fn put_closer_at(sink: &mut Sink, settings: &Settings, top: &Option<Level>, c: u8)
     requires { c < 128 }
     ensures { Puts sink.old sink.new (closer_at settings.now top.now c) }
 {
     match top {
         None => (),
-        Some(level) => put_closer(
-            sink,
-            settings,
-            level.flow,
-            level.indent,
-            is_fresh_phase(level.phase),
-            c,
-        ),
+        Some(level) => {
+            if level.flow {
+                let due = is_due(settings.canonical, level.phase);
+                put_end(sink, due, settings, level.indent.saturating_sub(settings.indent), c);
+            }
+        }
     }
 }
 

@@ -80,21 +80,15 @@ fn put_directives(sink: &mut Sink, settings: &Settings, directives: &[yaml_tag_d
     }
 }
 
-fn put_line_where_due(sink: &mut Sink, due: bool, settings: &Settings)
-    ensures { Puts sink.old sink.new (when due (line_at settings.now 0)) }
-{
-    if due {
-        sink.put_line(settings.line_break, 0);
-    }
-}
-
 fn put_dashes_if(sink: &mut Sink, due: bool, settings: &Settings)
     ensures { Puts sink.old sink.new (when due (dashes settings.now)) }
 {
     if due {
         sink.put_line(settings.line_break, 0);
         sink.put_word(b"---");
-        put_line_where_due(sink, settings.canonical, settings);
+        if settings.canonical {
+            sink.put_line(settings.line_break, 0);
+        }
     }
 }
 
@@ -165,20 +159,14 @@ fn put_start_at(
     }
 }
 
-fn put_kept_dots(sink: &mut Sink, settings: &Settings)
-    ensures { Puts sink.old sink.new (choose is_kept (dots settings.now) stay) }
-{
-    if sink.cursor().kept {
-        put_dots(sink, settings);
-    }
-}
-
 #[tactic(auto, unfolding(yaml_emit_layout::specs::Nodes::stop_layout))]
 fn put_stop(sink: &mut Sink, settings: &Settings, unended: bool)
     ensures { Puts sink.old sink.new (stop_layout settings.now unended) }
 {
     if unended {
-        put_kept_dots(sink, settings);
+        if sink.cursor().kept {
+            put_dots(sink, settings);
+        }
     }
 }
 

@@ -62,11 +62,7 @@ fn is_of_mapping(part: Part) -> bool
 fn sum(n: u64, indent: u64) -> Option<u64>
     ensures { result ≡ within (n + indent) }
 {
-    if n <= MOST && indent <= MOST && n + indent <= MOST {
-        Some(n + indent)
-    } else {
-        None
-    }
+    if is_not_deep(n, indent) { Some(n + indent) } else { None }
 }
 
 /// Whether a sum of columns isn't past the largest.

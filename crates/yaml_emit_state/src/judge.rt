@@ -149,14 +149,8 @@ fn version_problem(version: Option<yaml_version_directive_t>) -> Option<Problem>
     ensures { result ≡ version_problem version }
 {
     match version {
-        None => None,
-        Some(version) => {
-            if is_version(version) {
-                None
-            } else {
-                Some(Problem::Version)
-            }
-        }
+        Some(version) if !is_version(version) => Some(Problem::Version),
+        _ => None,
     }
 }
 
@@ -331,24 +325,18 @@ fn ends_phase(phase: Phase, event: &yaml_event_body_t) -> bool
 
 // Inlined: where the kind is known one arm is left.
 #[inline(always)]
-fn may_come(top: Option<Level>, event: &yaml_event_body_t) -> bool
-    ensures { result ≡ may_come top (emitter_event (body_of event.now)) }
-{
-    match top {
-        None => begins_node(event),
-        Some(level) => begins_node(event) || ends_phase(level.phase, event),
-    }
-}
-
-// Inlined: where the kind is known one arm is left.
-#[inline(always)]
 fn node_problem(top: Option<Level>, event: &yaml_event_body_t) -> Option<Problem>
     ensures { result ≡ node_problem top (emitter_event (body_of event.now)) }
 {
-    if may_come(top, event) {
-        None
-    } else {
-        Some(Problem::ExpectedNode)
+    match top {
+        Some(level) if ends_phase(level.phase, event) => None,
+        _ => {
+            if begins_node(event) {
+                None
+            } else {
+                Some(Problem::ExpectedNode)
+            }
+        }
     }
 }
 

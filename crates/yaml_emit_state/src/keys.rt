@@ -28,24 +28,20 @@ fn text_size(text: &Option<Vec<u8>>) -> usize
     }
 }
 
-fn given_size(context: &Context, tag: &Option<Vec<u8>>) -> usize
-    ensures { result ≡ written_size (lent_context context.now) (text_of tag.now) }
-{
-    match tag {
-        None => 0,
-        Some(tag) => tag_size(context.directives, tag),
-    }
-}
-
 // Bytes of a tag that is written in pretty form.
 fn written_size(context: &Context, left_out: bool, tag: &Option<Vec<u8>>) -> usize
     ensures { result ≡ written_size (lent_context context.now)
         (kept_tag false left_out (text_of tag.now)) }
 {
-    if left_out {
-        0
-    } else {
-        given_size(context, tag)
+    match tag {
+        None => 0,
+        Some(tag) => {
+            if left_out {
+                0
+            } else {
+                tag_size(context.directives, tag)
+            }
+        }
     }
 }
 
@@ -81,22 +77,6 @@ fn has_breaks(scalar: &Scalar) -> bool
     } else {
         has_break(scalar.value)
     }
-}
-
-// Inlined into its one caller.
-#[inline(always)]
-#[tactic(auto, unfolding(yaml_emit_layout::specs::Nodes::is_simple_scalar))]
-fn is_simple_scalar(context: &Context, scalar: &Scalar) -> bool
-    requires { scalar.now.tame ≡ true → IsTame scalar.now.value.now }
-    ensures { result ≡ is_simple_scalar (lent_context context.now) (lent_scalar scalar.now) }
-{
-    !context.settings.canonical
-        && !has_breaks(scalar)
-        && are_short(
-            text_size(scalar.anchor),
-            written_size(context, scalar.plain || scalar.quoted, scalar.tag),
-            scalar.value.len(),
-        )
 }
 
 fn is_key_in(phase: Phase) -> bool
@@ -162,12 +142,20 @@ pub fn is_undecided_event(top: &Option<Level>, event: &yaml_event_body_t) -> boo
 /// Whether a scalar is a simple key. It is looked at where a key is due, and nowhere else.
 // Inlined: canonical form has none, and pretty form mostly tells by the place.
 #[inline(always)]
+#[tactic(auto, unfolding(yaml_emit_layout::specs::Nodes::is_simple_scalar))]
 pub fn is_simple_key(context: &Context, top: &Option<Level>, scalar: &Scalar) -> bool
     requires { scalar.now.tame ≡ true → IsTame scalar.now.value.now }
     ensures { result ≡ (is_key top.now && is_simple_scalar (lent_context context.now)
         (lent_scalar scalar.now)) }
 {
-    is_key(top) && is_simple_scalar(context, scalar)
+    is_key(top)
+        && !context.settings.canonical
+        && !has_breaks(scalar)
+        && are_short(
+            text_size(scalar.anchor),
+            written_size(context, scalar.plain || scalar.quoted, scalar.tag),
+            scalar.value.len(),
+        )
 }
 
 /// Whether what opens a collection is a simple key: where the next event closes it.

@@ -62,21 +62,17 @@ fn put_anchor_if(sink: &mut Sink, anchor: &Option<Vec<u8>>)
     }
 }
 
-fn put_given_tag(sink: &mut Sink, context: &Context, tag: &Option<Vec<u8>>)
-    ensures { Puts sink.old sink.new (tag_text (lent_context context.now) (text_of tag.now)) }
-{
-    match tag {
-        None => (),
-        Some(tag) => put_tag(sink, context.directives, tag),
-    }
-}
-
 fn put_tag_if(sink: &mut Sink, context: &Context, kept: bool, tag: &Option<Vec<u8>>)
     ensures { Puts sink.old sink.new (tag_text (lent_context context.now)
         (kept_if kept (text_of tag.now))) }
 {
-    if kept {
-        put_given_tag(sink, context, tag);
+    match tag {
+        None => (),
+        Some(tag) => {
+            if kept {
+                put_tag(sink, context.directives, tag);
+            }
+        }
     }
 }
 
@@ -110,17 +106,11 @@ fn put_properties(
     );
 }
 
-fn is_tagged_if(kept: bool, tag: &Option<Vec<u8>>) -> bool
-    ensures { result ≡ has (kept_if kept (text_of tag.now)) }
-{
-    if kept { is_given(tag) } else { false }
-}
-
 // Whether a tag is written.
 fn is_written(canonical: bool, left_out: bool, tag: &Option<Vec<u8>>) -> bool
     ensures { result ≡ has (kept_tag canonical left_out (text_of tag.now)) }
 {
-    is_tagged_if(is_kept(canonical, left_out), tag)
+    if canonical || !left_out { is_given(tag) } else { false }
 }
 
 fn is_plain(style: Style) -> bool

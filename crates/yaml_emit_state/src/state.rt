@@ -139,15 +139,8 @@ impl Core {
     pub fn starve(&mut self, refused: AllocError)
         ensures { Starves self.old self.new }
     {
-        self.starved = self.is_open() || self.starved;
+        self.starved = self.sink.status().is_going() || self.starved;
         self.sink.starve(refused);
-    }
-
-    // Whether the output goes on.
-    fn is_open(&self) -> bool
-        ensures { result ≡ is_going self.now.sink.status }
-    {
-        self.sink.status().is_going()
     }
 
     // The settings in force, of which the form is known: the encoding is the output's.

@@ -12,15 +12,6 @@ use crate::indent::is_not_deep;
 use yaml_emit_layout::{Level, Phase};
 use yaml_emit_text::{LineStart, Settings, Sink};
 
-/// A space behind an alias that is a simple key.
-pub fn put_blank_if(sink: &mut Sink, due: bool)
-    ensures { Puts sink.old sink.new (when due (char ascii.space)) }
-{
-    if due {
-        sink.put(' ');
-    }
-}
-
 // Inlined: it is a byte, or a test in front of one.
 #[inline(always)]
 fn put_comma_unless(sink: &mut Sink, fresh: bool)
@@ -218,17 +209,6 @@ pub fn closing_bracket(sequence: bool) -> u8
     ensures { result ≡ closing_bracket sequence }
 {
     if sequence { b']' } else { b'}' }
-}
-
-/// What opens a flow collection.
-// Inlined: it is a byte or two, for which there is room.
-#[inline(always)]
-pub fn put_opener_if(sink: &mut Sink, flow: bool, c: char)
-    ensures { Puts sink.old sink.new (when flow (opener c)) }
-{
-    if flow {
-        sink.put_opener(c);
-    }
 }
 
 fn has_comma(phase: Phase) -> bool

@@ -154,49 +154,21 @@ fn version_problem(version: Option<yaml_version_directive_t>) -> Option<Problem>
     }
 }
 
-fn inner_problem(handle: &[u8]) -> Option<Problem>
-    requires { 1 ≤ length handle.now }
-    ensures { result ≡ inner_problem handle.now }
-{
-    if handle.len() < 2 || are_alphas(&handle[1..handle.len() - 1]) {
-        None
-    } else {
-        Some(Problem::HandleCharacters)
-    }
-}
-
 // The first and the last byte of a handle are `!`.
-fn ends_problem(handle: &[u8]) -> Option<Problem>
-    requires { 1 ≤ length handle.now }
-    ensures { result ≡ ends_problem handle.now }
-{
-    if handle[0] != b'!' {
-        Some(Problem::HandleStart)
-    } else if handle[handle.len() - 1] != b'!' {
-        Some(Problem::HandleEnd)
-    } else {
-        inner_problem(handle)
-    }
-}
-
 #[tactic(auto, unfolding(yaml_emit_layout::specs::Grammar::handle_problem))]
 fn handle_problem(handle: &[u8]) -> Option<Problem>
     ensures { result ≡ handle_problem handle.now }
 {
     if handle.is_empty() {
         Some(Problem::HandleEmpty)
-    } else {
-        ends_problem(handle)
-    }
-}
-
-fn empty_problem(text: &[u8]) -> Option<Problem>
-    ensures { result ≡ prefix_problem text.now }
-{
-    if text.is_empty() {
-        Some(Problem::PrefixEmpty)
-    } else {
+    } else if handle[0] != b'!' {
+        Some(Problem::HandleStart)
+    } else if handle[handle.len() - 1] != b'!' {
+        Some(Problem::HandleEnd)
+    } else if handle.len() < 2 || are_alphas(&handle[1..handle.len() - 1]) {
         None
+    } else {
+        Some(Problem::HandleCharacters)
     }
 }
 
@@ -225,8 +197,8 @@ fn directive_problem<'a>(
     if let Some(problem) = handle_problem(&directive.handle) {
         return Ok(Some(problem));
     }
-    if let Some(problem) = empty_problem(&directive.prefix) {
-        return Ok(Some(problem));
+    if directive.prefix.is_empty() {
+        return Ok(Some(Problem::PrefixEmpty));
     }
     twice_problem(seen, &directive.handle)
 }
@@ -247,31 +219,6 @@ fn directives_problem(
     Ok(None)
 }
 
-fn opening_problem(
-    alloc: Global,
-    version: Option<yaml_version_directive_t>,
-    directives: &[yaml_tag_directive_t],
-) -> Result<Option<Problem>, AllocError>
-    ensures { IfOk result (λ p. p ≡ or_else (version_problem version)
-        (directives_problem [] (map directive_of directives.now))) }
-{
-    match version_problem(version) {
-        Some(problem) => Ok(Some(problem)),
-        None => directives_problem(alloc, directives),
-    }
-}
-
-fn flags_problem(tag: &Option<Vec<u8>>, plain: bool, quoted: bool) -> Option<Problem>
-    ensures { result ≡ (if has (text_of tag.now) || (plain || quoted) then None
-        else Some Problem.NoFlags) }
-{
-    if is_given(tag) || (plain || quoted) {
-        None
-    } else {
-        Some(Problem::NoFlags)
-    }
-}
-
 // Inlined: where the kind is known one arm is left.
 #[inline(always)]
 #[tactic(auto, unfolding(yaml_emit_layout::specs::Grammar::last_problem))]
@@ -284,13 +231,22 @@ fn last_problem(alloc: Global, event: &yaml_event_body_t) -> Result<Option<Probl
             version_directive,
             tag_directives,
             ..
-        } => { opening_problem(alloc, *version_directive, tag_directives) }
+        } => match version_problem(*version_directive) {
+            Some(problem) => Ok(Some(problem)),
+            None => directives_problem(alloc, tag_directives),
+        },
         yaml_event_body_t::Scalar {
             tag,
             plain_implicit,
             quoted_implicit,
             ..
-        } => { Ok(flags_problem(tag, *plain_implicit, *quoted_implicit)) }
+        } => {
+            if is_given(tag) || *plain_implicit || *quoted_implicit {
+                Ok(None)
+            } else {
+                Ok(Some(Problem::NoFlags))
+            }
+        }
         _ => Ok(None),
     }
 }
@@ -365,25 +321,6 @@ fn place_problem(place: Expected, top: Option<Level>, event: &yaml_event_body_t)
     }
 }
 
-// Inlined: where the kind is known one arm is left.
-#[inline(always)]
-fn late_problem(
-    alloc: Global,
-    place: Expected,
-    top: Option<Level>,
-    event: &yaml_event_body_t,
-) -> Result<Option<Problem>, AllocError>
-    ensures problem { IfOk result (λ p. p
-        ≡ or_else (place_problem place top (emitter_event (body_of event.now)))
-        (last_problem (emitter_event (body_of event.now)))) }
-    ensures refused { OnErr result (is_document_start (emitter_event (body_of event.now)) ≡ true) }
-{
-    match place_problem(place, top, event) {
-        Some(problem) => Ok(Some(problem)),
-        None => last_problem(alloc, event),
-    }
-}
-
 /// What is wrong with an event, if anything: in canonical form or in pretty form, at a place, in the innermost collection.
 /// Refused only for want of memory, where it opens a document with directives.
 // Inlined: where the kind is known it is a few tests.
@@ -400,8 +337,11 @@ pub fn problem_of(
         (emitter_event (body_of event.now))) }
     ensures refused { OnErr result (is_document_start (emitter_event (body_of event.now)) ≡ true) }
 {
-    match event_problem(canonical, event) {
-        Some(problem) => Ok(Some(problem)),
-        None => late_problem(alloc, place, top, event),
+    if let Some(problem) = event_problem(canonical, event) {
+        return Ok(Some(problem));
     }
+    if let Some(problem) = place_problem(place, top, event) {
+        return Ok(Some(problem));
+    }
+    last_problem(alloc, event)
 }

@@ -14,7 +14,7 @@ ghost use Rattle.yaml_emit_state.specs.Given.{lent_context, lent_scalar, lent_st
 ghost use Rattle.yaml_emit_state.specs.Framed.{framed_text};
 
 use crate::bare::is_given;
-use crate::before::{put_before, put_blank_if, put_opener_if};
+use crate::before::put_before;
 use crate::given::{Context, Scalar, Start};
 use crate::indent::{deeper, is_flow, is_simple_part, position_of, put_checked};
 use yaml_emit_layout::{Level, NodePosition};
@@ -49,7 +49,9 @@ pub fn put_alias_node(
 {
     put_before(sink, settings, top, simple);
     put_name(sink, b'*', name);
-    put_blank_if(sink, is_simple_part(position_of(*top, simple).part));
+    if is_simple_part(position_of(*top, simple).part) {
+        sink.put(' ');
+    }
 }
 
 fn put_anchor_if(sink: &mut Sink, anchor: &Option<Vec<u8>>)
@@ -146,26 +148,16 @@ fn style_of(context: &Context, position: NodePosition, scalar: &Scalar) -> Style
 
 // Inlined: a byte or two, for which there is room.
 #[inline(always)]
-fn put_exclamation_if(sink: &mut Sink, due: bool)
-    ensures { Puts sink.old sink.new (when due (word (ascii.exclamation ∷ []))) }
+fn put_mark(sink: &mut Sink, context: &Context, scalar: &Scalar, chosen: Style)
+    ensures { Puts sink.old sink.new (mark_text (lent_context context.now)
+        (lent_scalar scalar.now) chosen) }
 {
-    if due {
+    if !is_written(context.settings.canonical, scalar.plain || scalar.quoted, scalar.tag)
+        && !scalar.quoted
+        && !is_plain(chosen)
+    {
         sink.put_inline_indicator('!');
     }
-}
-
-// Whether `!` is due.
-fn is_marked(
-    canonical: bool,
-    tag: &Option<Vec<u8>>,
-    plain: bool,
-    quoted: bool,
-    chosen: Style,
-) -> bool
-    ensures { result ≡ (not (has (kept_tag canonical (plain || quoted) (text_of tag.now)))
-        && (not quoted && not (is_plain chosen))) }
-{
-    !is_written(canonical, plain || quoted, tag) && !quoted && !is_plain(chosen)
 }
 
 // The lines that a value stands in, in a style.
@@ -270,10 +262,7 @@ fn put_scalar(sink: &mut Sink, context: &Context, position: NodePosition, scalar
     } = *scalar;
     let chosen = style_of(context, position, scalar);
     put_properties(sink, context, anchor, plain || quoted, tag);
-    put_exclamation_if(
-        sink,
-        is_marked(context.settings.canonical, tag, plain, quoted, chosen),
-    );
+    put_mark(sink, context, scalar, chosen);
     put_lines(sink, context.settings, position, chosen, value, scalar.tame);
 }
 
@@ -298,6 +287,16 @@ pub fn put_scalar_node(
     put_scalar(sink, context, position_of(*top, simple), scalar);
 }
 
+// Inlined: it is a byte or two, for which there is room.
+#[inline(always)]
+fn put_opener_if(sink: &mut Sink, flow: bool, c: char)
+    ensures { Puts sink.old sink.new (when flow (opener c)) }
+{
+    if flow {
+        sink.put_opener(c);
+    }
+}
+
 /// What opens a collection in the innermost one, with its anchor and tag, and what comes before it.
 // Inlined: where the form is known it is short.
 #[inline(always)]
@@ -317,14 +316,7 @@ pub fn put_start_node(
 {
     put_before(sink, context.settings, top, simple);
     put_properties(sink, context, start.anchor, start.implicit, start.tag);
-    put_opener_if(
-        sink,
-        is_flow(
-            context.settings,
-            position_of(*top, simple),
-            start.flow,
-            start.empty,
-        ),
-        c,
-    );
+    let position = position_of(*top, simple);
+    let flow = is_flow(context.settings, position, start.flow, start.empty);
+    put_opener_if(sink, flow, c);
 }

@@ -111,11 +111,7 @@ impl Core {
         ensures { result ≡ is_undecided self.now.settings.canonical
             (top_of (stack_of self.now.levels)) (emitter_event (body_of event.now)) }
     {
-        if self.settings.canonical {
-            false
-        } else {
-            is_undecided_event(self.levels.innermost(), event)
-        }
+        !self.settings.canonical && is_undecided_event(self.levels.innermost(), event)
     }
 
     /// Whether the output was stopped by memory that was refused for the open collections or the directives.

@@ -187,7 +187,13 @@ pub fn put_closer_at(sink: &mut Sink, settings: &Settings, top: &Option<Level>, 
         Some(level) => {
             if level.flow {
                 let due = is_due(settings.canonical, level.phase);
-                put_end(sink, due, settings, level.indent.saturating_sub(settings.indent), c);
+                put_end(
+                    sink,
+                    due,
+                    settings,
+                    level.indent.saturating_sub(settings.indent),
+                    c,
+                );
             }
         }
     }

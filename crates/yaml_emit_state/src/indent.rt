@@ -62,7 +62,11 @@ fn is_of_mapping(part: Part) -> bool
 fn sum(n: u64, indent: u64) -> Option<u64>
     ensures { result ≡ within (n + indent) }
 {
-    if is_not_deep(n, indent) { Some(n + indent) } else { None }
+    if is_not_deep(n, indent) {
+        Some(n + indent)
+    } else {
+        None
+    }
 }
 
 /// Whether a sum of columns isn't past the largest.
@@ -127,16 +131,4 @@ pub fn is_flow(settings: &Settings, position: NodePosition, flow: bool, empty: b
     ensures { result ≡ (settings.now.canonical || (position.flow || (flow || empty))) }
 {
     settings.canonical || position.flow || flow || empty
-}
-
-/// An indentation that is too deep stops the output.
-pub fn put_checked(sink: &mut Sink, indent: Option<u64>)
-    ensures text { (n : ℕ) → indent ≡ within n → Puts sink.old sink.new (checked n) }
-    ensures stopped { indent ≡ None → sink.new.status ≢ Status.Going }
-    ensures same { indent ≢ None → sink.new ≡ sink.old }
-{
-    match indent {
-        None => sink.put_too_deep(),
-        Some(_) => (),
-    }
 }

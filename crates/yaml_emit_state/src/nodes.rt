@@ -11,16 +11,14 @@ ghost use Rattle.yaml_emit_layout.specs.Grammar.{kept_if, kept_tag, has};
 ghost use Rattle.yaml_emit_layout.specs.Nodes.{alias_layout, anchor_text, tag_text, properties_text, mark_text, scalar_layout, style_of, is_plain, checked, deeper, page_at, is_flow};
 ghost use Rattle.yaml_emit_layout.specs.State.{before_node, position_of, start_text};
 ghost use Rattle.yaml_emit_state.specs.Given.{lent_context, lent_scalar, lent_start, IsNamed};
-ghost use Rattle.yaml_emit_state.specs.Framed.{framed_text};
 
 use crate::bare::is_given;
 use crate::before::put_before;
 use crate::given::{Context, Scalar, Start};
-use crate::indent::{deeper, is_flow, is_simple_part, position_of, put_checked};
+use crate::indent::{deeper, is_flow, is_simple_part, position_of};
 use yaml_emit_layout::{Level, NodePosition};
 use yaml_emit_tags::{DirectiveTable, put_tag};
 use yaml_emit_text::{Page, Settings, Sink, Style, allowed_by, put_styled, put_tame, taken, text};
-use yaml_parse_model::YAML_STR_TAG;
 
 // Out of line: few registers are needed.
 #[inline(never)]
@@ -112,7 +110,11 @@ fn put_properties(
 fn is_written(canonical: bool, left_out: bool, tag: &Option<Vec<u8>>) -> bool
     ensures { result ≡ has (kept_tag canonical left_out (text_of tag.now)) }
 {
-    if canonical || !left_out { is_given(tag) } else { false }
+    if canonical || !left_out {
+        is_given(tag)
+    } else {
+        false
+    }
 }
 
 fn is_plain(style: Style) -> bool
@@ -152,18 +154,21 @@ fn put_mark(sink: &mut Sink, context: &Context, scalar: &Scalar, chosen: Style)
     ensures { Puts sink.old sink.new (mark_text (lent_context context.now)
         (lent_scalar scalar.now) chosen) }
 {
-    if !is_written(context.settings.canonical, scalar.plain || scalar.quoted, scalar.tag)
-        && !scalar.quoted
+    if !is_written(
+        context.settings.canonical,
+        scalar.plain || scalar.quoted,
+        scalar.tag,
+    ) && !scalar.quoted
         && !is_plain(chosen)
     {
         sink.put_inline_indicator('!');
     }
 }
 
-// The lines that a value stands in, in a style.
+/// The lines that a value stands in, in a style.
 // Inlined: canonical form knows the style, so that one arm is left there.
 #[inline(always)]
-fn put_lines(
+pub fn put_lines(
     sink: &mut Sink,
     settings: &Settings,
     position: NodePosition,
@@ -177,10 +182,8 @@ fn put_lines(
         ▹ scalar_text (page_at settings.now position) settings.now.indent position.flow style
         (chars value.now)) }
 {
-    let depth = deeper(settings, position.around);
-    put_checked(sink, depth);
-    match depth {
-        None => (),
+    match deeper(settings, position.around) {
+        None => sink.put_too_deep(),
         Some(indentation) => {
             let page = Page {
                 width: settings.width,
@@ -219,26 +222,6 @@ pub fn are_none(directives: &DirectiveTable) -> bool
     ensures { result ≡ true → directives.now ≡ [] }
 {
     directives.list().is_empty()
-}
-
-/// A text with the default tag and without an anchor in the innermost collection, with what comes before it, in canonical form.
-// Inlined into its one caller.
-#[inline(always)]
-pub fn put_text_node(sink: &mut Sink, context: &Context, top: &Option<Level>, value: &[u8])
-    requires { IsUtf8 value.now }
-    ensures { Puts sink.old sink.new (framed_text context.now.settings.now top.now true
-        context.now.directives.now true value.now) }
-{
-    put_before(sink, context.settings, top, false);
-    put_tag(sink, context.directives, YAML_STR_TAG);
-    put_lines(
-        sink,
-        context.settings,
-        position_of(*top, false),
-        Style::Double,
-        value,
-        false,
-    );
 }
 
 // A scalar, with its anchor and tag.

@@ -178,37 +178,6 @@ impl Core {
         self.step(simple);
     }
 
-    // An alias in its right place, in a form that is known.
-    // Inlined: then what the form decides is left out.
-    #[inline(always)]
-    fn put_known_alias(&mut self, name: &[u8], canonical: bool)
-        requires ascii { IsAscii name.now }
-        requires form { canonical ≡ self.old.settings.canonical }
-        ensures { (empty : Bool) → LaysOutRight self.old self.new (alias name.now) empty }
-    {
-        let settings = self.settings(canonical);
-        let context = Context {
-            settings: &settings,
-            directives: &self.directives,
-        };
-        let top = self.levels.innermost();
-        let simple = is_simple_alias(&context, name);
-        put_alias_node(&mut self.sink, &settings, top, simple, name);
-        self.step(simple);
-    }
-
-    // What ends a collection in its right place.
-    // Inlined: which it is is known.
-    #[inline(always)]
-    fn put_known_end(&mut self, sequence: bool)
-        ensures { (empty : Bool) → LaysOutRight self.old self.new (ending sequence) empty }
-    {
-        let settings = self.settings(self.settings.canonical);
-        let top = self.levels.innermost();
-        put_closer_at(&mut self.sink, &settings, top, closing_bracket(sequence));
-        self.close();
-    }
-
     // Whether an event comes right. One that doesn't is refused, or the memory to judge it is, and nothing of it is laid out.
     // Inlined: where the kind is known it is a few tests.
     #[inline(always)]
@@ -282,21 +251,13 @@ impl Core {
         requires { emitter_event (body_of event.now) ≡ ending sequence }
         ensures { LaysOut self.old self.new (ending sequence) empty }
     {
-        if self.admits(event, self.settings.canonical) {
-            self.put_known_end(sequence);
+        let canonical = self.settings.canonical;
+        if self.admits(event, canonical) {
+            let settings = self.settings(canonical);
+            let top = self.levels.innermost();
+            put_closer_at(&mut self.sink, &settings, top, closing_bracket(sequence));
+            self.close();
         }
-    }
-
-    // What begins and ends the stream and its documents is written, where it comes right.
-    // Inlined into its one caller.
-    #[inline(always)]
-    fn put_rare(&mut self, event: &mut yaml_event_body_t, empty: bool)
-        requires rare { is_outer (emitter_event (body_of event.old)) ≡ true }
-        ensures { LaysOutRight self.old self.new (emitter_event (body_of event.old)) empty }
-    {
-        let settings = self.settings(self.settings.canonical);
-        put_outer(&mut self.sink, &settings, self.place, event);
-        self.move_on(event);
     }
 
     // What begins and ends the stream and its documents is laid out or refused, in either form.
@@ -306,8 +267,11 @@ impl Core {
         requires { is_outer (emitter_event (body_of event.old)) ≡ true }
         ensures { LaysOut self.old self.new (emitter_event (body_of event.old)) empty }
     {
-        if self.admits(event, self.settings.canonical) {
-            self.put_rare(event, empty);
+        let canonical = self.settings.canonical;
+        if self.admits(event, canonical) {
+            let settings = self.settings(canonical);
+            put_outer(&mut self.sink, &settings, self.place, event);
+            self.move_on(event);
         }
     }
 
@@ -340,7 +304,15 @@ impl Core {
         match event {
             yaml_event_body_t::Alias { anchor } => {
                 if self.admits(event, canonical) {
-                    self.put_known_alias(anchor, canonical);
+                    let settings = self.settings(canonical);
+                    let context = Context {
+                        settings: &settings,
+                        directives: &self.directives,
+                    };
+                    let top = self.levels.innermost();
+                    let simple = is_simple_alias(&context, anchor);
+                    put_alias_node(&mut self.sink, &settings, top, simple, anchor);
+                    self.step(simple);
                 }
             }
             _ => (),

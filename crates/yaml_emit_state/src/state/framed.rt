@@ -1,17 +1,16 @@
 //! Laying out a scalar in canonical form: at once, where it stands in its line and has no properties, or the default tag alone.
 ghost use Rattle.std.specs.Prelude.{◌≡◌, [], ◌||◌, if◌then◌else◌, Bool, true, false, IsUtf8};
 ghost use Rattle.yaml_parse_model.specs.Constructors.{HasUtf8};
-ghost use Rattle.yaml_emit_text.specs.Sink.{Puts};
-ghost use Rattle.yaml_emit_state.specs.Framed.{sign_of, framed_text};
+ghost use Rattle.yaml_emit_state.specs.Framed.{sign_of};
 
 use super::Core;
 use crate::bare::is_free;
-use crate::before::{begins_line, line_start_of};
-use crate::given::Context;
-use crate::nodes::put_text_node;
-use yaml_emit_layout::Level;
-use yaml_emit_text::{Settings, Sink, is_lined};
-use yaml_parse_model::yaml_event_body_t;
+use crate::before::{begins_line, line_start_of, put_before};
+use crate::indent::position_of;
+use crate::nodes::put_lines;
+use yaml_emit_tags::put_tag;
+use yaml_emit_text::{Style, is_lined};
+use yaml_parse_model::{YAML_STR_TAG, yaml_event_body_t};
 
 fn sign_of(tagged: bool, quoted: bool) -> Option<u8>
     ensures { result ≡ sign_of (tagged || quoted) }
@@ -26,36 +25,6 @@ fn front_of<'a>(tagged: bool, quote: &'a [u8], tag: &'a [u8]) -> &'a [u8]
     ensures { result.now ≡ (if tagged then tag.now else quote.now) }
 {
     if tagged { tag } else { quote }
-}
-
-// A scalar without properties, or with the default tag alone, in the innermost collection in canonical form, with what comes before
-// it, where it stands in its line; else nothing.
-// Inlined: most events are scalars.
-#[inline(always)]
-fn put_framed(
-    sink: &mut Sink,
-    settings: &Settings,
-    top: &Option<Level>,
-    tagged: bool,
-    quoted: bool,
-    value: &[u8],
-) -> bool
-    ensures put { result ≡ true → Puts sink.old sink.new
-        (framed_text settings.now top.now tagged [] quoted value.now) }
-    ensures same { result ≡ false → sink.new ≡ sink.old }
-{
-    match top {
-        None => false,
-        Some(level) => {
-            if begins_line(settings, *level) && is_lined(settings.width, level.indent, value) {
-                let start = line_start_of(settings, *level, sign_of(tagged, quoted));
-                sink.put_lined(&start, front_of(tagged, b"\"", b"!!str \""), value, b"\"");
-                true
-            } else {
-                false
-            }
-        }
-    }
 }
 
 impl Core {
@@ -81,12 +50,19 @@ impl Core {
         ensures same { result ≡ false → self.new ≡ self.old }
     {
         let settings = self.settings(true);
-        let top = self.levels.innermost();
-        if put_framed(&mut self.sink, &settings, top, tagged, quoted, value) {
-            self.step(false);
-            true
-        } else {
-            false
+        match self.levels.top() {
+            None => false,
+            Some(level) => {
+                if begins_line(&settings, level) && is_lined(settings.width, level.indent, value) {
+                    let start = line_start_of(&settings, level, sign_of(tagged, quoted));
+                    let front = front_of(tagged, b"\"", b"!!str \"");
+                    self.sink.put_lined(&start, front, value, b"\"");
+                    self.step(false);
+                    true
+                } else {
+                    false
+                }
+            }
         }
     }
 
@@ -144,12 +120,18 @@ impl Core {
             (scalar (plain_text value.now style)) empty }
     {
         let settings = self.settings(true);
-        let context = Context {
-            settings: &settings,
-            directives: &self.directives,
-        };
         let top = self.levels.innermost();
-        put_text_node(&mut self.sink, &context, top, value);
+        let position = position_of(*top, false);
+        put_before(&mut self.sink, &settings, top, false);
+        put_tag(&mut self.sink, &self.directives, YAML_STR_TAG);
+        put_lines(
+            &mut self.sink,
+            &settings,
+            position,
+            Style::Double,
+            value,
+            false,
+        );
         self.step(false);
     }
 }

@@ -132,35 +132,17 @@ impl Core {
         }
     }
 
-    // A collection is opened, unless it would stand too deep or memory is wanting.
-    // Inlined: a test in front of a call.
-    #[inline(always)]
-    fn open_at(&mut self, simple: bool, phase: Phase, flow: bool, indent: Option<u64>)
-        ensures state { self.new.sink.status ≡ Status.Going → (n : ℕ) → indent ≡ within n
-            → state_of self.new ≡ opened (state_of self.old).directives (state_of self.old).levels
-            simple phase flow n }
-        ensures settings { self.new.settings ≡ self.old.settings }
-        ensures cursor { self.new.sink.status ≡ Status.Going → self.new.sink.cursor
-            ≡ self.old.sink.cursor }
-        ensures text { (n : ℕ) → indent ≡ within n → Puts self.old.sink self.new.sink (checked n) }
-        ensures memory { Notes true self.old self.new }
-        ensures halts { Halts self.old self.new }
-    {
-        match indent {
-            None => self.sink.put_too_deep(),
-            Some(indent) => self.open(simple, phase, flow, indent),
-        }
-    }
-
-    // A collection is opened where it stands, by whether it is flow.
+    // A collection is opened where it stands, by whether it is flow, unless it would stand too deep or memory is wanting.
     // Inlined: where the form is known it is short.
     #[inline(always)]
     pub(super) fn open_by(&mut self, settings: &Settings, simple: bool, flow: bool, sequence: bool)
         ensures { OpensCollection settings.now self.old self.new simple flow sequence }
     {
         let position = position_of(self.levels.top(), simple);
-        let indent = indent_of(settings, position, sequence, flow, self.sink.cursor());
-        self.open_at(simple, first_phase(sequence), flow, indent);
+        match indent_of(settings, position, sequence, flow, self.sink.cursor()) {
+            None => self.sink.put_too_deep(),
+            Some(indent) => self.open(simple, first_phase(sequence), flow, indent),
+        }
     }
 
     // The state behind what begins or ends the stream or a document. What is left of the event counts for nothing.

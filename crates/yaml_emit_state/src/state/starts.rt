@@ -1,8 +1,5 @@
 //! What opens collections, in a form that is known.
-ghost use Rattle.std.specs.Prelude.{◌≡◌, ◌<◌, Bool, None, true, false};
-ghost use Rattle.yaml_emit_text.specs.Sink.{Puts};
-ghost use Rattle.yaml_emit_text.specs.Layout.{◌▹◌, opener};
-ghost use Rattle.yaml_emit_layout.specs.State.{before_node};
+ghost use Rattle.std.specs.Prelude.{◌≡◌, Bool, None, true, false};
 
 use super::Core;
 use crate::bare::has_none;
@@ -11,33 +8,7 @@ use crate::given::{Context, Start};
 use crate::indent::{is_flow, position_of};
 use crate::keys::{is_flow_mapping, is_flow_sequence, is_simple_start};
 use crate::nodes::put_start_node;
-use yaml_emit_layout::Level;
-use yaml_emit_text::{Settings, Sink};
 use yaml_parse_model::yaml_event_body_t;
-
-// What opens a collection in the innermost one in canonical form, with what comes before it, where it begins a line; else nothing.
-// Inlined: some stores.
-#[inline(always)]
-fn put_bracket(sink: &mut Sink, settings: &Settings, top: &Option<Level>, bracket: u8) -> bool
-    requires { bracket < 128 }
-    ensures put { result ≡ true → Puts sink.old sink.new (before_node settings.now top.now false
-        ▹ opener bracket) }
-    ensures same { result ≡ false → sink.new ≡ sink.old }
-{
-    match top {
-        None => false,
-        Some(level) => {
-            if begins_line(settings, *level) {
-                let start = line_start_of(settings, *level, None);
-                sink.put_led(&start, &[bracket]);
-                sink.set_after_block();
-                true
-            } else {
-                false
-            }
-        }
-    }
-}
 
 impl Core {
     ghost use Rattle.yaml_parse_model.specs.Events.{body_of, text_of};
@@ -63,7 +34,12 @@ impl Core {
         let top = self.levels.innermost();
         let simple = is_simple_start(&context, given);
         let bracket = opening_bracket(sequence) as char;
-        let flow = is_flow(&settings, position_of(*top, simple), given.flow, given.empty);
+        let flow = is_flow(
+            &settings,
+            position_of(*top, simple),
+            given.flow,
+            given.empty,
+        );
         put_start_node(&mut self.sink, &context, top, simple, bracket, given);
         self.open_by(&settings, simple, flow, sequence);
     }
@@ -117,26 +93,6 @@ impl Core {
 
     // What opens a collection without properties, where a node is due, in canonical form, at once where it begins a line; else
     // nothing.
-    // Inlined: its kind is known.
-    #[inline(always)]
-    fn place_bracket(&mut self, sequence: bool) -> bool
-        requires form { self.old.settings.canonical ≡ true }
-        requires due { self.old.place ≡ at.Node }
-        ensures laid { result ≡ true → (q : SaidStart) (empty : Bool) → q.anchor ≡ None
-            → q.tag ≡ None → LaysOut self.old self.new (opening sequence q) empty }
-        ensures same { result ≡ false → self.new ≡ self.old }
-    {
-        let settings = self.settings(true);
-        let top = self.levels.innermost();
-        if put_bracket(&mut self.sink, &settings, top, opening_bracket(sequence)) {
-            self.open_by(&settings, false, true, sequence);
-            true
-        } else {
-            false
-        }
-    }
-
-    // The same by its properties.
     // Inlined: some tests in front of some stores.
     #[inline(always)]
     fn place_start(
@@ -151,10 +107,23 @@ impl Core {
             → LaysOut self.old self.new (opening sequence q) empty }
         ensures same { result ≡ false → self.new ≡ self.old }
     {
-        if self.awaits_node() && has_none(anchor, tag) {
-            self.place_bracket(sequence)
-        } else {
-            false
+        if !self.awaits_node() || !has_none(anchor, tag) {
+            return false;
+        }
+        let settings = self.settings(true);
+        match self.levels.top() {
+            None => false,
+            Some(level) => {
+                if begins_line(&settings, level) {
+                    let start = line_start_of(&settings, level, None);
+                    self.sink.put_led(&start, &[opening_bracket(sequence)]);
+                    self.sink.set_after_block();
+                    self.open_by(&settings, false, true, sequence);
+                    true
+                } else {
+                    false
+                }
+            }
         }
     }
 

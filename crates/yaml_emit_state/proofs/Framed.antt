@@ -1,6 +1,6 @@
 -- What stands in its line in double quotes in canonical form: scalars without properties, and texts with the default tag and without
 -- an anchor; and what opens collections.
-use Rattle.std.proofs.Common.{◌≡◌, ℕ, Bool, true, false, refl, sym, ◌∙◌, ap, List, [], Option, Some, None, ◌+◌, ◌<◌, subst, arith, ◌∷◌, ◌++◌}
+use Rattle.std.proofs.Common.{◌≡◌, ℕ, Bool, true, false, refl, sym, ◌∙◌, ap, List, [], Option, Some, None, ◌+◌, subst, ◌∷◌, ◌++◌}
 use Rattle.std.proofs.Math.Bool.{and-false}
 use Rattle.std.specs.Prelude.{◌&&◌, codes, not, ◌||◌, if◌then◌else◌}
 use Rattle.std.specs.Str.{chars, IsAscii}
@@ -26,10 +26,8 @@ use Rattle.yaml_emit_state.specs.Given.{opening, opening_bracket}
 use Rattle.yaml_emit_state.specs.Steps.{state_of, settings_of, LaysOut, LaysOutRight, StaysBut, OpensCollection}
 use Rattle.yaml_emit_state.proofs.Keyed.{no_keys, lays_scalar, lays_in_place}
 use Rattle.std.proofs.lemmas.Bool.{and_parts}
-use Rattle.std.proofs.lemmas.Str.{IsAscii-append}
-use Rattle.std.proofs.lemmas.Str.Ascii.{IsAscii-cons, IsAscii-nil}
 use Rattle.yaml_emit_text.specs.Tame.{IsLined}
-use Rattle.yaml_emit_text.specs.LineStarts.{marks, mark_word, line_start_text}
+use Rattle.yaml_emit_text.specs.LineStarts.{mark_word, line_start_text}
 use Rattle.yaml_emit_text.proofs.LineStarts.{Worded, puts_signed, quoted_worded, tagged_worded, word_worded, lined_ascii, tagged_ascii}
 use Rattle.yaml_emit_layout.specs.declared.Phase.{Phase}
 use Rattle.yaml_emit_layout.specs.declared.Phase.TheVariants.{Items, Keys, Value}

@@ -17,7 +17,6 @@ use Rattle.yaml_emit_layout.specs.Nodes.{MOST, deeper, checked, page_at, positio
 use Rattle.yaml_emit_layout.specs.State.{before_at, part_at}
 use Rattle.yaml_emit_state.specs.declared.state.Core.{Core}
 use Rattle.yaml_emit_state.specs.Stack.{stack_of}
-use Rattle.yaml_emit_state.specs.Steps.{StaysBut}
 
 -- no anchor and no tag
 abbrev pub has_none : Option (List ℕ) → Option (List ℕ) → Bool
@@ -79,18 +78,12 @@ abbrev pub turned : Phase → List Level → List Level
 turned phase [] = []
 turned phase (l ∷ ls) = record { phase = phase; flow = l.flow; indent = l.indent } ∷ ls
 
--- the innermost collection is in that phase, and nothing else was changed
-pub record Turns (old new : Core) (phase : Phase) : Type 0 where
-  pub levels : stack_of new.levels ≡ turned phase (stack_of old.levels)
-  pub place : new.place ≡ old.place
-  pub directives : new.directives ≡ old.directives
-  pub same : StaysBut old new
+-- the innermost collection is in that phase, and nothing else was changed but for the output
+abbrev pub Turns : Core → Core → Phase → Type 0
+Turns old new phase = (stack_of new.levels ≡ turned phase (stack_of old.levels))
+    × (new.place ≡ old.place) × (new.directives ≡ old.directives)
+    × (new.settings ≡ old.settings) × (new.starved ≡ old.starved)
 
 -- it was written, and the innermost collection is in that phase
-pub record Places (old new : Core) (behind : Phase) (put : Layout) : Type 0 where
-  pub puts : Puts old.sink new.sink put
-  pub levels : stack_of new.levels ≡ turned behind (stack_of old.levels)
-  pub place : new.place ≡ old.place
-  pub directives : new.directives ≡ old.directives
-  pub settings : new.settings ≡ old.settings
-  pub starved : new.starved ≡ old.starved
+abbrev pub Places : Core → Core → Phase → Layout → Type 0
+Places old new behind put = Puts old.sink new.sink put × Turns old new behind

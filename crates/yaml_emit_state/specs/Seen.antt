@@ -22,7 +22,8 @@ is_among h s = contains order s h
 
 -- a handle more
 abbrev pub Adds : Bor (List ℕ) → Handles → Handles → Type 0
-Adds h old new = (g : Bor (List ℕ)) → is_among g new ≡ (pointwise nat_eq h.now g.now || is_among g old)
+Adds h old new = (g : Bor (List ℕ))
+    → is_among g new ≡ (pointwise nat_eq h.now g.now || is_among g old)
 
 -- the set has the handles of these directives, and no others
 abbrev pub HasHandles : Handles → List TagDirective → Type 0

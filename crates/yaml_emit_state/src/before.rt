@@ -164,7 +164,7 @@ fn put_end(sink: &mut Sink, due: bool, settings: &Settings, indent: u64, c: u8)
 }
 
 // Whether a comma and a line come before what ends a collection.
-fn is_due(canonical: bool, phase: Phase) -> bool
+fn ends_apart(canonical: bool, phase: Phase) -> bool
     ensures { result ≡ (canonical && not (is_fresh phase)) }
 {
     match phase {
@@ -186,7 +186,7 @@ pub fn put_closer_at(sink: &mut Sink, settings: &Settings, top: &Option<Level>, 
         None => (),
         Some(level) => {
             if level.flow {
-                let due = is_due(settings.canonical, level.phase);
+                let due = ends_apart(settings.canonical, level.phase);
                 put_end(
                     sink,
                     due,

@@ -150,7 +150,7 @@ fn style_of(context: &Context, position: NodePosition, scalar: &Scalar) -> Style
 
 // Inlined: a byte or two, for which there is room.
 #[inline(always)]
-fn put_mark(sink: &mut Sink, context: &Context, scalar: &Scalar, chosen: Style)
+fn put_untagged_mark(sink: &mut Sink, context: &Context, scalar: &Scalar, chosen: Style)
     ensures { Puts sink.old sink.new (mark_text (lent_context context.now)
         (lent_scalar scalar.now) chosen) }
 {
@@ -245,7 +245,7 @@ fn put_scalar(sink: &mut Sink, context: &Context, position: NodePosition, scalar
     } = *scalar;
     let chosen = style_of(context, position, scalar);
     put_properties(sink, context, anchor, plain || quoted, tag);
-    put_mark(sink, context, scalar, chosen);
+    put_untagged_mark(sink, context, scalar, chosen);
     put_lines(sink, context.settings, position, chosen, value, scalar.tame);
 }
 

@@ -55,7 +55,8 @@ impl Core {
     // Inlined: a store.
     #[inline(always)]
     pub(super) fn turn_to(&mut self, phase: Phase)
-        ensures { Turns self.old self.new phase }
+        ensures turns { Turns self.old self.new phase }
+        ensures sink { self.new.sink ≡ self.old.sink }
     {
         self.levels.turn(phase);
     }

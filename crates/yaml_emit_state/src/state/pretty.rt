@@ -42,7 +42,7 @@ impl Core {
     ghost use Rattle.yaml_emit_layout.specs.State.{top_of};
     ghost use Rattle.yaml_emit_state.specs.Bare.{IsInline, IsInlineEvent, is_shallow, short_text, short_node, hyphen, first_behind, entry_phase, Places};
     ghost use Rattle.yaml_emit_state.specs.Stack.{stack_of};
-    ghost use Rattle.yaml_emit_state.specs.Steps.{LaysOut};
+    ghost use Rattle.yaml_emit_state.specs.Steps.{settings_of, LaysOut};
 
     // A short scalar in a flow collection, where it fits the line: the first one where no space is due.
     // Inlined: a few tests in front of some stores.
@@ -50,9 +50,9 @@ impl Core {
     fn place_in_flow(&mut self, fresh: bool, behind: Phase, quoted: bool, value: &[u8]) -> bool
         requires { Stands quoted value.now }
         ensures placed { result ≡ true → (at : NodePosition) (n : ℕ)
-            → nat_le (deeper self.old.settings at.around) MOST ≡ true
-            → Places self.old self.new behind ((comma fresh ▹ wrap_at self.old.settings n)
-            ▹ short_text self.old.settings quoted at value.now) }
+            → nat_le (deeper (settings_of self.old) at.around) MOST ≡ true
+            → Places self.old self.new behind ((comma fresh ▹ wrap_at (settings_of self.old) n)
+            ▹ short_text (settings_of self.old) quoted at value.now) }
         ensures same { result ≡ false → self.new ≡ self.old }
     {
         if fresh && is_there(&self.sink, &self.settings, quoted, value) {
@@ -83,8 +83,8 @@ impl Core {
         requires form { self.old.settings.canonical ≡ false }
         requires shallow { is_shallow self.old.settings (Some level) ≡ true }
         ensures placed { result ≡ true → Places self.old self.new (first_behind item)
-            (short_node self.old.settings quoted (entry_phase item fresh) level.flow level.indent
-            (not item) value.now) }
+            (short_node (settings_of self.old) quoted (entry_phase item fresh) level.flow
+            level.indent (not item) value.now) }
         ensures same { result ≡ false → self.new ≡ self.old }
     {
         let behind = first_behind(item);
@@ -114,8 +114,8 @@ impl Core {
         requires stands { Stands quoted value.now }
         requires shallow { is_shallow self.old.settings (Some level) ≡ true }
         ensures placed { result ≡ true → Places self.old self.new (Phase.Keys false)
-            (short_node self.old.settings quoted (Phase.Value was_simple) level.flow level.indent
-            false value.now) }
+            (short_node (settings_of self.old) quoted (Phase.Value was_simple) level.flow
+            level.indent false value.now) }
         ensures same { result ≡ false → self.new ≡ self.old }
     {
         if was_simple && is_near(&self.sink, &self.settings, quoted, value) {

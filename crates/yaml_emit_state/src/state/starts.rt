@@ -34,13 +34,9 @@ impl Core {
         let top = self.levels.innermost();
         let simple = is_simple_start(&context, given);
         let bracket = opening_bracket(sequence) as char;
-        let flow = is_flow(
-            &settings,
-            position_of(*top, simple),
-            given.flow,
-            given.empty,
-        );
         put_start_node(&mut self.sink, &context, top, simple, bracket, given);
+        let position = position_of(*top, simple);
+        let flow = is_flow(&settings, position, given.flow, given.empty);
         self.open_by(&settings, simple, flow, sequence);
     }
 

@@ -1,7 +1,7 @@
 -- What stands in its line in double quotes in canonical form: scalars without properties, and texts with the default tag and without
 -- an anchor; and what opens collections.
 use Rattle.std.proofs.Common.{◌≡◌, ℕ, Bool, true, false, refl, sym, ◌∙◌, ap, List, [], Option, Some, None, ◌+◌, subst, ◌∷◌, ◌++◌}
-use Rattle.std.proofs.Math.Bool.{and-false}
+use Rattle.std.proofs.Math.Bool.{and-false, and-true}
 use Rattle.std.specs.Prelude.{◌&&◌, codes, not, ◌||◌, if◌then◌else◌}
 use Rattle.std.specs.Str.{chars, IsAscii}
 use Rattle.yaml_emit_tags.specs.parse_model.Events.{TagDirective}
@@ -118,12 +118,6 @@ frees x h =
     let t = none_given x.anchor x.tag a.0 in
     record { no_anchor = t.0; no_tag = t.1; left_out = a.1 }
 
-marked_is : (quoted : Bool) (z : Layout)
-    → (when (true && (not quoted && true)) (word (33 ∷ [])) ▹ z)
-    ≡ (front_text false [] quoted ▹ z)
-marked_is true z = refl
-marked_is false z = refl
-
 framed_layout : (tagged : Bool) (s : Settings) (ds es : List TagDirective) (pos : NodePosition)
     (x : Scalar) → s.canonical ≡ true → (tagged ≡ true → ds ≡ es) → IsFramed tagged x
     → scalar_layout (context_of s ds) pos x ≡ (front_text tagged es x.quoted
@@ -131,7 +125,7 @@ framed_layout : (tagged : Bool) (s : Settings) (ds es : List TagDirective) (pos 
 unfolding scalar_layout style_of scalar_text
 framed_layout false s ds es pos x e same h =
     let p = frees x h in
-    rw (e, p.no_anchor, p.no_tag) (marked_is x.quoted (checked (deeper s pos.around) ▹ double_quoted (page_at s pos) (chars x.value)))
+    rw (e, p.no_anchor, p.no_tag, and-true (not x.quoted)) refl
 framed_layout true s ds es pos x e same h = rw (e, h.0, h.1, same refl) refl
 
 -- nothing is wrong with it
@@ -203,11 +197,6 @@ start_right canonical place None false q e h a t = rw (e, h, a, t) refl
 start_right canonical place (Some l) true q e h a t = rw (e, h, a, t) refl
 start_right canonical place (Some l) false q e h a t = rw (e, h, a, t) refl
 
-no_start_key : (p : Context) (q : Start) (empty : Bool) → p.settings.canonical ≡ true
-    → false ≡ is_simple_start p q empty
-unfolding is_simple_event
-no_start_key p q empty e = no_keys p (sequence_start q) empty e
-
 -- a bracket alone
 bracket_start : (s : Settings) (ds : List TagDirective) (at : NodePosition) (x : ℕ) (q : Start)
     (empty : Bool) → s.canonical ≡ true → q.anchor ≡ None → q.tag ≡ None
@@ -222,10 +211,11 @@ pub lays_bracket : (old new : Core) (o : Output) (s : Settings) (top : Option Le
     → Puts old.sink o (before_node s top false ▹ opener x)
     → OpensCollection s (record old { sink = o }) new false true sequence
     → LaysOut old new (opening sequence q) empty
+unfolding is_simple_event
 lays_bracket old new o s top x sequence q empty is upper bracket form due a t put moved =
     let A : Layout → Type 0 = λ z. Puts old.sink o (before_node s top false ▹ z) in
     let canonical : s.canonical ≡ true = rw is form in
     lays_in_place old new (opening sequence q) empty
     (start_right (settings_of old).canonical old.place (top_of (stack_of old.levels)) sequence q form due a t)
-    (lays_start sequence old new o s top q x false true empty is upper (no_start_key (context_of s old.directives) q empty canonical) (rw canonical refl) bracket
+    (lays_start sequence old new o s top q x false true empty is upper (no_keys (context_of s old.directives) (sequence_start q) empty canonical) (rw canonical refl) bracket
     (subst A (bracket_start s old.directives (position_of top false) x q empty canonical a t) put) moved)

@@ -11,8 +11,9 @@ use Rattle.yaml_emit_layout.specs.declared.Problem.{Problem}
 use Rattle.yaml_emit_layout.specs.declared.Expected.{Expected}
 use Rattle.yaml_emit_layout.specs.declared.Level.{Level}
 use Rattle.yaml_emit_layout.specs.Content as said
-use Rattle.yaml_emit_layout.specs.Grammar.{or_else, name_problem, anchor_problem, event_problem, problem_by}
+use Rattle.yaml_emit_layout.specs.Grammar.{name_problem, anchor_problem, event_problem, problem_by}
 use Rattle.yaml_emit_state.specs.Given.{name_of, IsNamed}
+use Rattle.yaml_emit_state.proofs.Finishing.{or_else_none}
 
 alpha_low : (b : ℕ) → is_alpha_byte b ≡ true → b < 128
 unfolding is_alpha_byte is_digit_byte
@@ -29,10 +30,6 @@ none_alphas false false a b h = absurd (cc)
 
 name_ascii : (a b : Problem) (name : List ℕ) → name_problem a b name ≡ None → IsAscii name
 name_ascii a b name h = alphas_ascii name (none_alphas (length name == 0) (list_all is_alpha_byte name) a b h)
-
-first_none : (p q : Option Problem) → or_else p q ≡ None → p ≡ None
-first_none None q h = refl
-first_none (Some p) q h = absurd (cc)
 
 same_name : (m n : List ℕ) → Some m ≡ Some n → m ≡ n
 same_name m n e = cc
@@ -51,12 +48,12 @@ event_named : (canonical : Bool) (e : said.Event) → event_problem canonical e 
     → IsNamed (name_of e)
 unfolding event_problem
 event_named canonical (said.alias name) h = some_named _ _ name h
-event_named canonical (said.scalar x) h = anchor_named x.anchor (first_none _ _ h)
-event_named canonical (said.sequence_start p) h = anchor_named p.anchor (first_none _ _ h)
-event_named canonical (said.mapping_start p) h = anchor_named p.anchor (first_none _ _ h)
+event_named canonical (said.scalar x) h = anchor_named x.anchor (or_else_none _ _ h).0
+event_named canonical (said.sequence_start p) h = anchor_named p.anchor (or_else_none _ _ h).0
+event_named canonical (said.mapping_start p) h = anchor_named p.anchor (or_else_none _ _ h).0
 event_named canonical _ h = none_named
 
 pub named_right : (canonical : Bool) (place : Expected) (top : Option Level) (e : said.Event)
     → problem_by canonical place top e ≡ None → IsNamed (name_of e)
 unfolding problem_by
-named_right canonical place top e h = event_named canonical e (first_none _ _ h)
+named_right canonical place top e h = event_named canonical e (or_else_none _ _ h).0

@@ -1,5 +1,5 @@
 -- Loops over lists, and the handles of directives, as a set.
-use Rattle.std.proofs.Common.{◌≡◌, ℕ, ◌+◌, ◌<◌, ◌≤◌, List, [], ◌∷◌, ◌++◌, length, take, drop, get_or, map, sym, ◌∙◌, ap, subst, Option, None, Some, Bool, true, false}
+use Rattle.std.proofs.Common.{◌≡◌, ℕ, ◌+◌, ◌<◌, ◌≤◌, List, [], ◌∷◌, ◌++◌, length, take, drop, get_or, map, sym, ◌∙◌, ap, subst, Option, None, Some, Bool, true, false, refl}
 use Rattle.std.proofs.lemmas.List.{drop_more, drop_all, take_more, map-append}
 use Rattle.yaml_parse_model.specs.Events.{TagDirective}
 use Rattle.yaml_emit_text.specs.declared.Settings.{Settings}
@@ -10,7 +10,12 @@ use Rattle.yaml_emit_layout.specs.Grammar.{directives_problem, directive_problem
 use Rattle.yaml_emit_layout.specs.Nodes.{directives_text, directive_text}
 use Rattle.std.specs.Prelude.{◌||◌, cond, Ok}
 use Rattle.std.specs.Borrow.{Bor}
-use Rattle.std.specs.BTreeSet.{Updates}
+use Rattle.std.specs.BTreeSet.{insert_key, Updates}
+use Rattle.std.specs.declared.cmp.Ordering.{Ordering}
+use Rattle.std.specs.declared.cmp.Ordering.TheVariants.{Less, Equal, Greater}
+use Rattle.std.specs.Ordering.{match_ordering}
+use Rattle.std.specs.List.{list_any}
+use Rattle.std.proofs.Math.Bool.{or-true}
 use Rattle.std.proofs.lemmas.Map.Text.{is_eq-slice_cmp}
 use Rattle.yaml_emit_state.specs.Seen.{HasHandles, Judges, Handles, order, Adds}
 
@@ -65,6 +70,29 @@ problem_none f r xs i h e = sym (e ∙ ap (λ z. directives_problem (map f (take
 
 -- ---- a set as it grows
 
+absorbed : (a b c : Bool) → b ≡ a → (b || c) ≡ (a || (b || c))
+absorbed true b c e = ap (λ z. z || c) e
+absorbed false b c e = refl
+
+swapped : (a b c : Bool) → (a || (b || c)) ≡ (b || (a || c))
+swapped true b c = sym (or-true b)
+swapped false b c = refl
+
+placed : {K : Type 0} (p : K → Bool) (k x : K) (xs ys : List K) (r : Ordering)
+    → (r ≡ Equal → p x ≡ p k) → list_any p ys ≡ (p k || list_any p xs)
+    → list_any p (match_ordering r (k ∷ x ∷ xs) (x ∷ xs) (x ∷ ys)) ≡ (p k || (p x || list_any p xs))
+placed p k x xs ys Less h e = refl
+placed p k x xs ys Equal h e = absorbed (p k) (p x) (list_any p xs) (h refl)
+placed p k x xs ys Greater h e = ap (λ v. p x || v) e ∙ swapped (p x) (p k) (list_any p xs)
+
+-- a test that answers equal keys alike
+pub any_inserted : {K : Type 0} (cmp : K → K → Ordering) (p : K → Bool) (k : K)
+    → ((x : K) → cmp k x ≡ Equal → p x ≡ p k) → (ks : List K)
+    → list_any p (insert_key cmp ks k) ≡ (p k || list_any p ks)
+any_inserted cmp p k h [] = refl
+any_inserted cmp p k h (x ∷ xs) = placed p k x xs (insert_key cmp xs k) (cmp k x) (h x) (any_inserted cmp p k h xs)
+
+-- a handle more
 either : (a b c : Bool) → a ≡ b → cond a true c ≡ (b || c)
 either true b c e = ap (λ z. z || c) e
 either false b c e = ap (λ z. z || c) e

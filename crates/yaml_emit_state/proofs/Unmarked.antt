@@ -1,8 +1,8 @@
 -- Short scalars in pretty form.
 use Rattle.std.proofs.Common.{◌≡◌, ℕ, ◌≤◌, ◌+◌, length, Bool, true, false, refl, sym, subst, ◌∙◌, ap, arith, List, [], ◌∷◌, ◌++◌, Option, Some, None}
-use Rattle.std.specs.Prelude.{not, ◌&&◌, ◌||◌, ◌==◌, nat_le, if◌then◌else◌}
+use Rattle.std.specs.Prelude.{not, ◌&&◌, ◌||◌, ◌==◌, nat_le}
 use Rattle.std.proofs.lemmas.Bool.{and_parts}
-use Rattle.std.proofs.Math.Bool.{and-true, or-true}
+use Rattle.std.proofs.Math.Bool.{and-true, and-false, or-true}
 use Rattle.std.proofs.lemmas.Bool.Decides.{nat_tests}
 use Rattle.yaml_emit_tags.specs.parse_model.Events.{TagDirective}
 use Rattle.yaml_emit_text.specs.declared.Settings.{Settings}
@@ -92,18 +92,13 @@ framed_style : (s : Settings) (ds : List TagDirective) (pos : NodePosition) (x :
 unfolding style_of
 framed_style s ds pos x e b = rw e (double_taken _ _ _ pos.flow _ _ (in_quotes x b).1)
 
-unmarked_by : (quoted : Bool) (z : Layout)
-    → (when (true && (not quoted && false)) (word (33 ∷ [])) ▹ z) ≡ z
-unmarked_by true z = refl
-unmarked_by false z = refl
-
 short_layout : (quoted : Bool) (s : Settings) (ds : List TagDirective) (pos : NodePosition)
     (x : Scalar) → s.canonical ≡ false → IsInline quoted x
     → scalar_layout (context_of s ds) pos x ≡ short_text s quoted pos x.value
 unfolding scalar_layout scalar_text
 short_layout false s ds pos x e b =
     let p = parts false x b in
-    rw (bare_style s ds pos x e b, e, p.no_anchor, p.no_tag, p.left_out) (unmarked_by x.quoted (short_text s false pos x.value))
+    rw (bare_style s ds pos x e b, e, p.no_anchor, p.no_tag, p.left_out, and-false (not x.quoted)) refl
 short_layout true s ds pos x e b =
     let p = parts true x b in
     rw (framed_style s ds pos x e b, e, p.no_anchor, p.no_tag, p.left_out, (in_quotes x b).0) refl

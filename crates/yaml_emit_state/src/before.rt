@@ -1,10 +1,10 @@
 //! What comes before nodes in their collections, and what ends these.
-ghost use Rattle.std.specs.Prelude.{◌≡◌, ◌∷◌, [], None, Some, true, false, not, ◌&&◌, ◌-◌, ◌+◌, ◌<◌, nat_le};
+ghost use Rattle.std.specs.Prelude.{◌≡◌, None, Some, true, false, not, ◌&&◌, ◌-◌, ◌<◌};
 ghost use Rattle.yaml_types.specs.Ascii as ascii;
 ghost use Rattle.yaml_emit_text.specs.Sink.{Puts};
-ghost use Rattle.yaml_emit_text.specs.Layout.{◌▹◌, stay, when, char, word, opener};
-ghost use Rattle.yaml_emit_layout.specs.Nodes.{comma, turned, question, before_item, before_key, before_value, closer, line_at, wrap_at, checked};
-ghost use Rattle.yaml_emit_layout.specs.State.{before_at, before_node, closer_at, is_fresh};
+ghost use Rattle.yaml_emit_text.specs.Layout.{◌▹◌, when, char};
+ghost use Rattle.yaml_emit_layout.specs.Nodes.{comma, turned, question, before_item, before_key, before_value, closer, line_at};
+ghost use Rattle.yaml_emit_layout.specs.State.{before_node, closer_at, is_fresh};
 ghost use Rattle.yaml_emit_state.specs.Framed.{has_comma, mark_of, is_behind_simple, line_start, BeginsLine};
 ghost use Rattle.yaml_emit_state.specs.Given.{opening_bracket, closing_bracket};
 
@@ -103,41 +103,25 @@ pub fn put_before_value(sink: &mut Sink, settings: &Settings, flow: bool, indent
     }
 }
 
-// Inlined into its one caller.
-#[inline(always)]
-fn put_before_in(sink: &mut Sink, settings: &Settings, level: Level, simple: bool)
-    ensures { Puts sink.old sink.new (before_at settings.now level.phase level.flow level.indent
-        simple) }
-{
-    match level.phase {
-        Phase::Items(fresh) => put_before_item(sink, settings, level.flow, level.indent, fresh),
-        Phase::Keys(fresh) => put_before_key(
-            sink,
-            settings,
-            level.flow,
-            level.indent,
-            fresh,
-            simple,
-        ),
-        Phase::Value(was_simple) => put_before_value(
-            sink,
-            settings,
-            level.flow,
-            level.indent,
-            was_simple,
-        ),
-    }
-}
-
 /// What comes before a node in the innermost collection, by whether the node is a simple key.
 // Inlined: where the form is known it is a few bytes and a line.
 #[inline(always)]
 pub fn put_before(sink: &mut Sink, settings: &Settings, top: &Option<Level>, simple: bool)
     ensures { Puts sink.old sink.new (before_node settings.now top.now simple) }
 {
-    match top {
+    match *top {
         None => (),
-        Some(level) => put_before_in(sink, settings, *level, simple),
+        Some(
+            Level {
+                phase,
+                flow,
+                indent,
+            },
+        ) => match phase {
+            Phase::Items(fresh) => put_before_item(sink, settings, flow, indent, fresh),
+            Phase::Keys(fresh) => put_before_key(sink, settings, flow, indent, fresh, simple),
+            Phase::Value(was_simple) => put_before_value(sink, settings, flow, indent, was_simple),
+        },
     }
 }
 

@@ -1,9 +1,9 @@
 //! What opens and ends documents.
-ghost use Rattle.std.specs.Prelude.{◌≡◌, ◌∷◌, [], Bool, List, Option, None, Some, true, false, not, ◌&&◌, ◌||◌, map};
+ghost use Rattle.std.specs.Prelude.{◌≡◌, Bool, List, Option, None, Some, true, false, not, ◌&&◌, ◌||◌, map};
 ghost use Rattle.yaml_parse_model.specs.Events.{directive_of, body_of};
 ghost use Rattle.yaml_emit_text.specs.Sink.{Puts};
-ghost use Rattle.yaml_emit_text.specs.Layout.{◌▹◌, stay, when, choose, char, word, keep};
-ghost use Rattle.yaml_emit_layout.specs.Nodes.{dots, version_text, directives_text, directive_text, has_version, has_directives, dashes, is_kept, start_layout, end_layout, stop_layout, line_at, version_word, context_of};
+ghost use Rattle.yaml_emit_text.specs.Layout.{◌▹◌, when, word, keep};
+ghost use Rattle.yaml_emit_layout.specs.Nodes.{dots, version_text, directives_text, directive_text, has_version, has_directives, dashes, end_layout, stop_layout, version_word, context_of};
 ghost use Rattle.yaml_emit_layout.specs.State.{start_at, stop_at, text_at};
 ghost use Rattle.yaml_emit_layout.specs.Content.{emitter_event};
 ghost use Rattle.yaml_emit_state.specs.Given.{opening_of};
@@ -159,23 +159,17 @@ fn put_start_at(
     }
 }
 
-#[tactic(auto, unfolding(yaml_emit_layout::specs::Nodes::stop_layout))]
-fn put_stop(sink: &mut Sink, settings: &Settings, unended: bool)
-    ensures { Puts sink.old sink.new (stop_layout settings.now unended) }
-{
-    if unended {
-        if sink.cursor().kept {
-            put_dots(sink, settings);
-        }
-    }
-}
-
 // What ends the stream.
+#[tactic(auto, unfolding(yaml_emit_layout::specs::Nodes::stop_layout))]
 fn put_stop_at(sink: &mut Sink, settings: &Settings, place: Expected)
     ensures { Puts sink.old sink.new (stop_at settings.now place) }
 {
     match place {
-        Expected::Documents(_, unended) => put_stop(sink, settings, unended),
+        Expected::Documents(_, unended) => {
+            if unended && sink.cursor().kept {
+                put_dots(sink, settings);
+            }
+        }
         _ => (),
     }
 }

@@ -1,10 +1,10 @@
 //! What is wrong with an event: its names, its tag, its place, and its directives or flags.
 ghost use Rattle.std.specs.List.{list_all};
-ghost use Rattle.std.specs.Prelude.{◌≡◌, ◌∷◌, [], None, Some, true, false, if◌then◌else◌, not, ◌&&◌, ◌||◌, length, map, ◌≤◌, IfOk, OnOk, OnErr};
+ghost use Rattle.std.specs.Prelude.{◌≡◌, [], None, Some, true, false, if◌then◌else◌, ◌&&◌, ◌||◌, map, IfOk, OnOk, OnErr};
 ghost use Rattle.yaml_scan_model.specs.Classes.{is_alpha_byte};
 ghost use Rattle.yaml_parse_model.specs.Events.{text_of, directive_of, body_of};
 ghost use Rattle.yaml_emit_layout.specs.Content.{emitter_event};
-ghost use Rattle.yaml_emit_layout.specs.Grammar.{has, name_problem, anchor_problem, tag_problem, kept_tag, event_problem, version_problem, handle_problem, prefix_problem, directives_problem, opening_problem, flags_problem, last_problem, ends_phase, begins_node, may_come, node_problem, place_problem, problem_by, between, inner_problem, ends_problem, is_version, or_else};
+ghost use Rattle.yaml_emit_layout.specs.Grammar.{name_problem, anchor_problem, tag_problem, kept_tag, event_problem, version_problem, handle_problem, directives_problem, last_problem, ends_phase, begins_node, node_problem, place_problem, problem_by, or_else};
 ghost use Rattle.yaml_emit_state.specs.Seen.{is_among, Adds, Judges};
 ghost use Rattle.yaml_emit_state.specs.Steps.{is_document_start};
 
@@ -139,18 +139,18 @@ fn event_problem(canonical: bool, event: &yaml_event_body_t) -> Option<Problem>
     }
 }
 
-fn is_version(version: yaml_version_directive_t) -> bool
-    ensures { result ≡ is_version version }
-{
-    version.major == 1 && (version.minor == 1 || version.minor == 2)
-}
-
 fn version_problem(version: Option<yaml_version_directive_t>) -> Option<Problem>
     ensures { result ≡ version_problem version }
 {
     match version {
-        Some(version) if !is_version(version) => Some(Problem::Version),
-        _ => None,
+        None => None,
+        Some(version) => {
+            if version.major == 1 && (version.minor == 1 || version.minor == 2) {
+                None
+            } else {
+                Some(Problem::Version)
+            }
+        }
     }
 }
 

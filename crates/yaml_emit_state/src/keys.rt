@@ -1,9 +1,9 @@
 //! Simple keys.
-ghost use Rattle.std.specs.Prelude.{Option, Bool, ◌≡◌, ◌∷◌, [], None, Some, true, false, not, ◌&&◌, ◌||◌, map, length, nat_le, ◌+◌, ◌≤◌, ◌<◌};
+ghost use Rattle.std.specs.Prelude.{Option, Bool, ◌≡◌, None, Some, true, false, ◌&&◌, ◌||◌, nat_le, ◌+◌, ◌<◌};
 ghost use Rattle.yaml_parse_model.specs.Events.{text_of, body_of};
 ghost use Rattle.yaml_emit_layout.specs.Content.{emitter_event, is_flow_sequence, is_flow_mapping};
 ghost use Rattle.yaml_emit_layout.specs.Grammar.{kept_tag};
-ghost use Rattle.yaml_emit_layout.specs.Nodes.{simple_key_bytes, properties_size, text_size, written_size, is_simple_scalar, is_simple_alias, is_simple_start};
+ghost use Rattle.yaml_emit_layout.specs.Nodes.{simple_key_bytes, text_size, written_size, is_simple_scalar, is_simple_alias, is_simple_start};
 ghost use Rattle.yaml_emit_text.specs.Tame.{IsTame};
 ghost use Rattle.yaml_types.specs.Classes.{has_break};
 ghost use Rattle.yaml_emit_state.specs.Due.{is_key_in, is_key, is_undecided_in, is_undecided};

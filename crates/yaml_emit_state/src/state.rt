@@ -1,6 +1,5 @@
 //! One event after another is laid out.
 ghost use Rattle.std.specs.Prelude.{◌≡◌, None, Some, Bool, true, false, ◌||◌, if◌then◌else◌, IsUtf8};
-ghost use Rattle.std.specs.Str.{IsAscii};
 ghost use Rattle.yaml_parse_model.specs.Constructors.{HasUtf8};
 ghost use Rattle.yaml_emit_text.specs.Tame.{IsTame};
 
@@ -21,7 +20,7 @@ pub use resume::yaml_emitter_stand_t;
 use std::alloc::{AllocError, Global};
 use yaml_emit_layout::Expected;
 use yaml_emit_tags::DirectiveTable;
-use yaml_emit_text::{Settings, Sink, Status, is_tame};
+use yaml_emit_text::{Settings, Sink, is_tame};
 use yaml_parse_model::yaml_event_body_t;
 
 /// Where an emitter stands: the settings in force, the output, what is expected, the open collections, and the directives of
@@ -49,7 +48,7 @@ fn is_tame_in(canonical: bool, value: &[u8]) -> bool
 impl Core {
     ghost use Rattle.yaml_parse_model.specs.Events.{body_of, text_of, type_of};
     ghost use Rattle.yaml_scan_model.specs.declared.yaml_event_type_t.TheVariants as kind;
-    ghost use Rattle.yaml_emit_layout.specs.Content.{emitter_event, alias, scalar, sequence_end, mapping_end};
+    ghost use Rattle.yaml_emit_layout.specs.Content.{emitter_event, scalar, sequence_end, mapping_end};
     ghost use Rattle.yaml_emit_layout.specs.State.{problem_at, top_of};
     ghost use Rattle.yaml_emit_state.specs.Due.{is_undecided};
     ghost use Rattle.yaml_emit_state.specs.Stack.{stack_of};

@@ -1,13 +1,11 @@
 //! The state behind an event that was written.
-ghost use Rattle.std.specs.Prelude.{◌≡◌, ◌∷◌, [], ℕ, Bool, None, Some, true, false, IfSome, if◌then◌else◌, map};
+ghost use Rattle.std.specs.Prelude.{◌≡◌, [], Bool, None, Some, true, false, if◌then◌else◌, map};
 ghost use Rattle.yaml_parse_model.specs.Events.{directive_of, body_of};
 ghost use Rattle.yaml_emit_text.specs.Sink.{Puts};
 ghost use Rattle.yaml_emit_text.specs.Layout.{stay};
 ghost use Rattle.yaml_emit_layout.specs.Content.{emitter_event};
 ghost use Rattle.yaml_emit_layout.specs.State.{among, levels_behind, outer_of, place_at, opened, placed};
 ghost use Rattle.yaml_emit_state.specs.Bare.{Turns};
-ghost use Rattle.yaml_emit_state.specs.Stack.{stack_of, within};
-ghost use Rattle.yaml_emit_layout.specs.Nodes.{checked};
 ghost use Rattle.yaml_emit_state.specs.Steps.{state_of, StaysBut, MovesOn, OpensCollection, Notes, Halts, first_phase, is_outer};
 
 use super::Core;

@@ -1,13 +1,12 @@
 //! Laying out one event in pretty form: a way for each kind that is met much, and short ones for scalars that stand as they are in
 //! their line, plain or in double quotes.
 ghost use Rattle.std.specs.Prelude.{◌≡◌, ℕ, Bool, Some, true, false, not, nat_le};
-ghost use Rattle.yaml_types.specs.Ascii as ascii;
 ghost use Rattle.yaml_parse_model.specs.Constructors.{HasUtf8};
 ghost use Rattle.yaml_emit_text.specs.Tame.{Stands};
-ghost use Rattle.yaml_emit_text.specs.Layout.{◌▹◌, char};
+ghost use Rattle.yaml_emit_text.specs.Layout.{◌▹◌};
 ghost use Rattle.yaml_emit_layout.specs.declared.NodePosition.{NodePosition};
 ghost use Rattle.yaml_emit_state.specs.Bare.{first_behind};
-ghost use Rattle.yaml_emit_layout.specs.Nodes.{MOST, deeper, comma, wrap_at, line_at};
+ghost use Rattle.yaml_emit_layout.specs.Nodes.{MOST, deeper, comma, wrap_at};
 
 use super::Core;
 use crate::bare::{is_inline, is_near, is_shallow, is_there};
@@ -40,7 +39,7 @@ impl Core {
     ghost use Rattle.yaml_emit_layout.specs.declared.Expected.TheVariants as at;
     ghost use Rattle.yaml_emit_layout.specs.Content.{Scalar as SaidScalar, emitter_event, scalar};
     ghost use Rattle.yaml_emit_layout.specs.State.{top_of};
-    ghost use Rattle.yaml_emit_state.specs.Bare.{IsInline, IsInlineEvent, is_shallow, short_text, short_node, hyphen, first_behind, entry_phase, Places};
+    ghost use Rattle.yaml_emit_state.specs.Bare.{IsInline, IsInlineEvent, is_shallow, short_text, short_node, first_behind, entry_phase, Places};
     ghost use Rattle.yaml_emit_state.specs.Stack.{stack_of};
     ghost use Rattle.yaml_emit_state.specs.Steps.{settings_of, LaysOut};
 

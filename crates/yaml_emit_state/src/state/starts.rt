@@ -12,7 +12,6 @@ use yaml_parse_model::yaml_event_body_t;
 
 impl Core {
     ghost use Rattle.yaml_parse_model.specs.Events.{body_of, text_of};
-    ghost use Rattle.yaml_emit_layout.specs.declared.Expected.TheVariants as at;
     ghost use Rattle.yaml_emit_layout.specs.Content.{Start as SaidStart, emitter_event};
     ghost use Rattle.yaml_emit_state.specs.Given.{lent_start, opening, IsNamed};
     ghost use Rattle.yaml_emit_state.specs.Steps.{opens, LaysOut, LaysOutRight};

@@ -78,10 +78,7 @@ begun : (s : Settings) (l : Level) (sign : Option ℕ) (x : Layout) (y : ℕ) (y
     (z : Layout) (a b : Output) → BeginsLine s l → Worded (l.indent + 4) x (y ∷ ys) z
     → Puts a b ((line_start_text (line_start s l sign) ▹ letters (y ∷ ys)) ▹ z)
     → Puts a b (before_at s l.phase l.flow l.indent false ▹ (mark_word sign ▹ x))
-begun s l sign x y ys z a b t w p =
-    let A : Layout → Type 0 = λ k. Puts a b (k ▹ (mark_word sign ▹ x)) in
-    let B : Bool → Type 0 = λ k. Puts a b (before_at s l.phase k l.indent false ▹ (mark_word sign ▹ x)) in
-    subst B (sym t.flow) (subst A (sym (before_is s l.phase l.indent t.form t.breaks)) (puts_signed (line_start s l sign) x y ys z a b w p))
+begun s l sign x y ys z a b t w p = rw (t.flow, before_is s l.phase l.indent t.form t.breaks) (puts_signed (line_start s l sign) x y ys z a b w p)
 
 pub puts_framed : (tagged : Bool) (s : Settings) (l : Level) (quoted : Bool) (v : List ℕ)
     (a b : Output) → BeginsLine s l → IsLined l.indent s.width v
@@ -147,11 +144,10 @@ pub lays_framed : (tagged : Bool) (old new : Core) (o : Output) (s : Settings) (
 lays_framed tagged old new o s top ds quoted v x empty same upper form due none framed q value written moved kept =
     let own : Settings = settings_of old in
     let innermost : Option Level = top_of (stack_of old.levels) in
-    let C : Layout → Type 0 = λ z. Puts old.sink o (before_node own innermost false ▹ z) in
     let said : Puts old.sink o (framed_text own innermost tagged ds x.quoted x.value) = rw (q, value) (rw (same, upper) at written) in
-    let put = subst C (sym (framed_layout tagged own old.directives ds (position_of innermost false) x form none framed)) said in
     lays_in_place old new (scalar x) empty (framed_right tagged own.canonical old.place innermost x form due framed)
-    (lays_scalar old new o own innermost x false empty refl refl (text_no_key (context_of own old.directives) innermost x form) put moved kept)
+    (lays_scalar old new o own innermost x false empty refl refl (text_no_key (context_of own old.directives) innermost x form)
+    (rw (framed_layout tagged own old.directives ds (position_of innermost false) x form none framed) said) moved kept)
 
 opens_so : (s : Settings) (old new : Core) (o : Output) (top : Option Level) (q : Start)
     (simple flow empty sequence : Bool) → top ≡ top_of (stack_of old.levels)

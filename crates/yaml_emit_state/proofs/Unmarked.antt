@@ -200,9 +200,7 @@ lays_short quoted old new l p q simple v x empty form due top is key next there 
     let s : Settings = settings_of old in
     let asked : simple ≡ (is_key (Some l) && is_simple_scalar (context_of s old.directives) x) =
     key ∙ ap is_key_in (sym is) ∙ sym (ap (λ (k : Bool). is_key_in l.phase && k) (short_simple quoted s old.directives x form b) ∙ and-true (is_key_in l.phase)) in
-    let D : Layout → Type 0 = λ z. Puts old.sink new.sink (before_at s l.phase l.flow l.indent simple ▹ z) in
     let written : Puts old.sink new.sink (short_node s quoted l.phase l.flow l.indent simple x.value) = rw (is, same) there.0 in
-    let here = subst D (sym (short_layout quoted s old.directives (position_of (Some l) simple) x form b)) written in
     let moved = behind_by new.place (stack_of new.levels) (stack_of old.levels) new.directives old.directives l q simple (there.1.1 ∙ due) there.1.2 top (rw is next) there.1.0 in
     lays_in_place old new (scalar x) empty (parts_right s.canonical old.place (top_of (stack_of old.levels)) x due (parts quoted x b))
-    (lays_scalar old new new.sink s (Some l) x simple empty refl top asked here moved (there.1.3, refl, there.1.4))
+    (lays_scalar old new new.sink s (Some l) x simple empty refl top asked (rw (short_layout quoted s old.directives (position_of (Some l) simple) x form b) written) moved (there.1.3, refl, there.1.4))

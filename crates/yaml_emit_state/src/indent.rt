@@ -61,7 +61,7 @@ fn is_of_mapping(part: Part) -> bool
 fn sum(n: u64, indent: u64) -> Option<u64>
     ensures { result ≡ within (n + indent) }
 {
-    if is_not_deep(n, indent) {
+    if n <= MOST && indent <= MOST && n + indent <= MOST {
         Some(n + indent)
     } else {
         None

@@ -66,12 +66,10 @@ fn put_tag_if(sink: &mut Sink, context: &Context, kept: bool, tag: &Option<Vec<u
     ensures { Puts sink.old sink.new (tag_text (lent_context context.now)
         (kept_if kept (text_of tag.now))) }
 {
-    match tag {
-        None => (),
-        Some(tag) => {
-            if kept {
-                put_tag(sink, context.directives, tag);
-            }
+    if kept {
+        match tag {
+            None => (),
+            Some(tag) => put_tag(sink, context.directives, tag),
         }
     }
 }

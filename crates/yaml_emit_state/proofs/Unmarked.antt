@@ -13,7 +13,7 @@ use Rattle.yaml_emit_text.specs.declared.Allowed.{Allowed}
 use Rattle.yaml_emit_text.specs.Tame.{IsTame, asks_plain, Stands, standing, standing_text, lead}
 use Rattle.yaml_emit_text.specs.Style.{taken}
 use Rattle.yaml_emit_text.specs.Sink.{Output, Puts}
-use Rattle.yaml_emit_text.specs.Layout.{Layout, ◌▹◌, when, char, letters, word, indicator}
+use Rattle.yaml_emit_text.specs.Layout.{Layout, ◌▹◌, char, letters, indicator}
 use Rattle.yaml_emit_text.specs.Scalars.{scalar_text}
 use Rattle.yaml_emit_text.proofs.Bare.{tame_some, standing_breaks, tame_taken, puts_line_item, puts_line_key}
 use Rattle.yaml_emit_layout.specs.declared.Expected.{Expected}

@@ -1,4 +1,4 @@
-use Rattle.std.proofs.Common.{true, arith}
+use Rattle.std.proofs.Common.{arith}
 use Rattle.yaml_emit_text.specs.Layout.{◌▹◌, char}
 use Rattle.yaml_emit_text.specs.Tame.{standing_text}
 use Rattle.yaml_emit_text.proofs.Bare.{puts_opening, puts_wrapped}

@@ -12,33 +12,25 @@ use Rattle.yaml_emit_layout.specs.declared.Problem.{Problem}
 use Rattle.yaml_emit_layout.specs.Content.{Event, Document, stream_events}
 use Rattle.yaml_emit_layout.specs.Grammar.{or_else, event_problem, last_problem, place_problem, problem_by, own_problem, own_problems}
 use Rattle.yaml_emit_layout.specs.Nodes.{stream_layout}
-use Rattle.yaml_emit_layout.specs.State.{State, opens_empty, problem_at, piece, next, top_of}
-use Rattle.yaml_emit_layout.specs.ToCome.{ToCome, stream, events, layout}
+use Rattle.yaml_emit_layout.specs.State.{State, opens_empty, problem_at, piece, top_of}
+use Rattle.yaml_emit_layout.specs.ToCome.{stream, events, layout}
 use Rattle.yaml_emit_layout.specs.ToCome as come
 use Rattle.yaml_emit_layout.proofs.LeadsOn.{Goes, goes}
 use Rattle.yaml_emit_state.specs.declared.state.Core.{Core}
-use Rattle.yaml_emit_state.specs.Steps.{state_of, settings_of, next_state, next_piece, LaysOut, IsFreshCore}
+use Rattle.yaml_emit_state.specs.Steps.{state_of, settings_of, LaysOut, IsFreshCore}
 use Rattle.yaml_emit_state.specs.Finish.{Finishes, FinishesAt, FinishesBy}
 
-going_by : (s : Status) (core : Core) (es : List Event) (whole : List Item) → s ≡ Going
-    → FinishesAt s (settings_of core) (state_of core) core.sink es whole
-    → FinishesBy (settings_of core) (state_of core) core.sink es whole
-going_by Going core es whole g h = h
-going_by _ core es whole g h = absurd (cc)
+-- what an output in that status ends as
+abbrev At : Core → List Event → List Item → Status → Type 0
+At core es whole s = FinishesAt s (settings_of core) (state_of core) core.sink es whole
 
 stopped_by : (s : Status) (core : Core) (es : List Event) (whole : List Item) → s ≢ Going
-    → FinishesAt s (settings_of core) (state_of core) core.sink es whole → Ends core.sink [] whole
+    → At core es whole s → Ends core.sink [] whole
 stopped_by Going core es whole n h = absurd (n refl)
 stopped_by _ core es whole n h = h
 
-by_going : (s : Status) (core : Core) (es : List Event) (whole : List Item) → s ≡ Going
-    → FinishesBy (settings_of core) (state_of core) core.sink es whole
-    → FinishesAt s (settings_of core) (state_of core) core.sink es whole
-by_going Going core es whole g h = h
-by_going _ core es whole g h = absurd (cc)
-
 by_stopped : (s : Status) (core : Core) (es : List Event) (whole : List Item) → s ≢ Going
-    → Ends core.sink [] whole → FinishesAt s (settings_of core) (state_of core) core.sink es whole
+    → Ends core.sink [] whole → At core es whole s
 by_stopped Going core es whole n h = absurd (n refl)
 by_stopped _ core es whole n h = h
 
@@ -65,25 +57,10 @@ right_there s st e h k =
     none_or_else (event_problem s.canonical e) (or_else (place_problem st.place (top_of st.levels) e) (last_problem e)) r.0
     (none_or_else (place_problem st.place (top_of st.levels) e) (last_problem e) k r.1)
 
--- what is known behind an event that is right
-record Stepped (old new : Core) (e : Event) (empty : Bool) : Type 0 where
-  settings : settings_of new ≡ settings_of old
-  state : new.sink.status ≡ Going
-      → state_of new ≡ next (settings_of old) (state_of old) e empty new.sink.cursor
-  text : Puts old.sink new.sink (piece (settings_of old) (state_of old) e empty)
-
 -- settings and encoding make an emitter's settings
 pub same_settings : (old new : Core) → new.settings ≡ old.settings
     → new.sink.encoding ≡ old.sink.encoding → settings_of new ≡ settings_of old
 same_settings old new e x = rw (e, x) refl
-
-stepped : (old new : Core) (e : Event) (empty : Bool)
-    → problem_at (settings_of old) (state_of old) e ≡ None → LaysOut old new e empty
-    → Stepped old new e empty
-stepped old new e empty h l =
-    let P : Option Problem → Type 0 = λ p. new.sink.status ≡ Going → state_of new ≡ next_state p (state_of old) (next (settings_of old) (state_of old) e empty new.sink.cursor) in
-    let R : Option Problem → Type 0 = λ p. Puts old.sink new.sink (next_piece p (piece (settings_of old) (state_of old) e empty)) in
-    record { settings = same_settings old new l.settings l.text.encoding; state = subst P h l.state; text = subst R h l.text }
 
 -- Behind an event that was laid out the others finish what all would have.
 pub finishes_on : (old new : Core) (e : Event) (es : List Event) (whole : List Item)
@@ -96,23 +73,25 @@ finishes_on old new e es whole l h =
     (λ g.
     let s : Settings = settings_of old in
     let b : Bool = opens_empty e es in
-    let f : FinishesBy (settings_of old) (state_of old) old.sink (e ∷ es) whole = going_by old.sink.status old (e ∷ es) whole g h in
+    let f : FinishesBy (settings_of old) (state_of old) old.sink (e ∷ es) whole = subst (At old (e ∷ es) whole) g h in
     let P : State → Type 0 = λ st. Goes s st e b es f.rest in
     let go : Goes s (state_of old) e b es f.rest = subst P (sym f.fits) (goes s e es f.rest f.same) in
     let r = first_right s.canonical e es f.right in
-    let st : Stepped old new e b = stepped old new e b (right_there s (state_of old) e r.0 go.there) l in
+    let none = right_there s (state_of old) e r.0 go.there in
+    let kept : settings_of new ≡ s = same_settings old new l.settings l.text.encoding in
+    let text : Puts old.sink new.sink (piece s (state_of old) e b) = rw none at l.text in
     let more : Rest = λ d. layout s (go.rest d) d nothing_more in
     let front : Ends old.sink (piece s (state_of old) e b old.sink.cursor more) whole =
     let Q : List Item → Type 0 = λ t. Ends old.sink t whole in subst Q (go.text old.sink.cursor nothing_more) f.ends in
-    let back : Ends new.sink (more new.sink.cursor) whole = st.text.ends more whole front in
+    let back : Ends new.sink (more new.sink.cursor) whole = text.ends more whole front in
     status_cases new.sink.status
     (λ g'.
-    by_going new.sink.status new es whole g' (record {
+    subst (At new es whole) (sym g') (record {
       rest = go.rest new.sink.cursor;
-      fits = st.state g' ∙ go.fits new.sink.cursor;
+      fits = (rw none at l.state) g' ∙ go.fits new.sink.cursor;
       same = go.same new.sink.cursor;
-      right = let Q : Settings → Type 0 = λ z. own_problems z.canonical es ≡ None in subst Q (sym st.settings) r.1;
-      ends = let Q : Settings → Type 0 = λ z. Ends new.sink (layout z (go.rest new.sink.cursor) new.sink.cursor nothing_more) whole in subst Q (sym st.settings) back;
+      right = let Q : Settings → Type 0 = λ z. own_problems z.canonical es ≡ None in subst Q (sym kept) r.1;
+      ends = let Q : Settings → Type 0 = λ z. Ends new.sink (layout z (go.rest new.sink.cursor) new.sink.cursor nothing_more) whole in subst Q (sym kept) back;
     }))
     (λ n. by_stopped new.sink.status new es whole n (ends_other new.sink _ [] whole n back)))
     (λ n.
@@ -127,7 +106,7 @@ pub fresh_finishes : (core : Core) (s : Settings) (x : yaml_encoding_t) (ds : Li
     (written (stream_layout s ds))
 unfolding Finishes Ends events layout come.state_of
 fresh_finishes core s x ds f r =
-    by_going core.sink.status core (stream_events x ds) _ f.status (record {
+    subst (At core (stream_events x ds) _) (sym f.status) (record {
       rest = stream x ds;
       fits = f.state;
       same = refl;

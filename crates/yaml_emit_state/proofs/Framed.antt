@@ -1,10 +1,9 @@
 -- What stands in its line in double quotes in canonical form: scalars without properties, and texts with the default tag and without
 -- an anchor; and what opens collections.
-use Rattle.std.proofs.Common.{◌≡◌, ℕ, Bool, true, false, refl, sym, ◌∙◌, ap, List, [], Option, Some, None, ◌+◌, ◌<◌, subst, arith, ◌∷◌, ◌++◌}
-use Rattle.std.proofs.Math.Bool.{and-false}
-use Rattle.std.specs.Prelude.{◌&&◌, codes, not, ◌||◌}
+use Rattle.std.proofs.Common.{◌≡◌, ℕ, Bool, true, false, refl, sym, ◌∙◌, ap, List, [], Option, Some, None, ◌+◌, subst, ◌∷◌, ◌++◌}
+use Rattle.std.proofs.Math.Bool.{and-false, and-true}
+use Rattle.std.specs.Prelude.{◌&&◌, codes, not, ◌||◌, if◌then◌else◌}
 use Rattle.std.specs.Str.{chars, IsAscii}
-use Rattle.yaml_scan_model.specs.declared.yaml_scalar_style_t.{yaml_scalar_style_t}
 use Rattle.yaml_emit_tags.specs.parse_model.Events.{TagDirective}
 use Rattle.yaml_emit_tags.specs.parse_model.Nodes.{str_tag}
 use Rattle.yaml_emit_tags.specs.Tags.{tag_spelling, spelled, directive_for, defines, suffix_keeps, uri_text}
@@ -13,29 +12,27 @@ use Rattle.yaml_emit_text.specs.Sink.{Output, Puts}
 use Rattle.yaml_emit_text.specs.Layout.{◌▹◌, word, Layout, stay, when, char, letters, line, opener, after_block}
 use Rattle.yaml_emit_text.specs.Quoted.{double_quoted}
 use Rattle.yaml_emit_text.specs.Scalars.{scalar_text}
-use Rattle.yaml_emit_text.proofs.Sinks.{puts_both}
 use Rattle.yaml_emit_layout.specs.declared.Expected.{Expected}
 use Rattle.yaml_emit_layout.specs.declared.Expected.TheVariants as at
 use Rattle.yaml_emit_layout.specs.declared.Level.{Level}
 use Rattle.yaml_emit_layout.specs.declared.NodePosition.{NodePosition}
 use Rattle.yaml_emit_layout.specs.Content.{Scalar, scalar, Start, sequence_start, mapping_start}
-use Rattle.yaml_emit_layout.specs.Grammar.{event_problem, last_problem, place_problem, problem_by, has}
-use Rattle.yaml_emit_layout.specs.State.{State, problem_at, is_simple_event, among, before_at, before_node, levels_behind, position_of, top_of, start_text, text_at, next_at, depth_at, opened}
-use Rattle.yaml_emit_layout.specs.Nodes.{Context, context_of, is_simple_scalar, checked, deeper, page_at, scalar_layout, style_of, turned, before_item, before_key, before_value, is_simple_start, indent_of, indented}
+use Rattle.yaml_emit_layout.specs.Grammar.{event_problem, last_problem, place_problem, problem_by}
+use Rattle.yaml_emit_layout.specs.State.{is_simple_event, among, before_at, before_node, levels_behind, position_of, top_of, start_text, text_at, next_at, depth_at}
+use Rattle.yaml_emit_layout.specs.Nodes.{Context, context_of, is_simple_scalar, checked, deeper, page_at, scalar_layout, style_of, turned, before_item, before_key, before_value, is_simple_start, is_flow}
 use Rattle.yaml_emit_state.specs.declared.state.Core.{Core}
 use Rattle.yaml_emit_state.specs.Due.{is_key}
-use Rattle.yaml_emit_state.specs.Given.{plain_text, opening, opening_bracket}
-use Rattle.yaml_emit_state.specs.Steps.{state_of, settings_of, LaysOut, LaysOutRight, StaysBut, OpensCollection, first_phase}
+use Rattle.yaml_emit_state.specs.Given.{opening, opening_bracket}
+use Rattle.yaml_emit_state.specs.Steps.{state_of, settings_of, LaysOut, LaysOutRight, StaysBut, OpensCollection}
 use Rattle.yaml_emit_state.proofs.Keyed.{no_keys, lays_scalar, lays_in_place}
 use Rattle.std.proofs.lemmas.Bool.{and_parts}
-use Rattle.std.proofs.lemmas.Str.{IsAscii-append}
-use Rattle.std.proofs.lemmas.Str.Ascii.{IsAscii-cons, IsAscii-nil}
 use Rattle.yaml_emit_text.specs.Tame.{IsLined}
-use Rattle.yaml_emit_text.specs.LineStarts.{marks, mark_word, line_start_text}
-use Rattle.yaml_emit_text.proofs.LineStarts.{Worded, puts_signed, quoted_worded, tagged_worded, word_worded}
+use Rattle.yaml_emit_text.specs.LineStarts.{mark_word, line_start_text}
+use Rattle.yaml_emit_text.proofs.LineStarts.{Worded, puts_signed, quoted_worded, tagged_worded, word_worded, lined_ascii, tagged_ascii}
 use Rattle.yaml_emit_layout.specs.declared.Phase.{Phase}
 use Rattle.yaml_emit_layout.specs.declared.Phase.TheVariants.{Items, Keys, Value}
-use Rattle.yaml_emit_state.specs.Framed.{has_comma, mark_of, is_behind_simple, sign_of, line_start, BeginsLine, is_free, framed_text, tagged_text}
+use Rattle.yaml_emit_state.specs.Bare.{has_none}
+use Rattle.yaml_emit_state.specs.Framed.{has_comma, mark_of, is_behind_simple, sign_of, line_start, BeginsLine, is_free, IsFramed, front_text, framed_text}
 use Rattle.yaml_emit_state.specs.Stack.{stack_of}
 use Rattle.yaml_emit_state.proofs.Unmarked.{Parts, parts_right, none_given, unchecked_behind}
 use Rattle.yaml_emit_state.proofs.Noting.{lays_right}
@@ -44,35 +41,6 @@ use Rattle.yaml_emit_state.proofs.Noting.{lays_right}
 pub str_spelled : tag_spelling [] str_tag ≡ codes "!!str"
 unfolding directive_for defines suffix_keeps uri_text spelled
 str_spelled = refl
-
--- its layout: the tag, and the value in double quotes
-pub text_layout : (s : Settings) (ds : List TagDirective) (at : NodePosition) (value : List ℕ)
-    (style : yaml_scalar_style_t) → s.canonical ≡ true
-    → scalar_layout (context_of s ds) at (plain_text value style)
-    ≡ (word (tag_spelling ds str_tag) ▹ (checked (deeper s at.around) ▹ double_quoted (page_at s at) (chars value)))
-unfolding scalar_layout style_of scalar_text
-text_layout s ds at value style e = rw e refl
-
-pub puts_text : (s : Settings) (ds : List TagDirective) (at : NodePosition) (value : List ℕ)
-    (style : yaml_scalar_style_t) (a b c : Output) → s.canonical ≡ true
-    → Puts a b (word (tag_spelling ds str_tag))
-    → Puts b c (checked (deeper s at.around) ▹ double_quoted (page_at s at) (chars value))
-    → Puts a c (scalar_layout (context_of s ds) at (plain_text value style))
-unfolding scalar_layout style_of scalar_text
-puts_text s ds at value style a b c e p q = rw e (puts_both a b c _ _ p q)
-
-right_by : (canonical : Bool) (place : Expected) (top : Option Level) (value : List ℕ)
-    (style : yaml_scalar_style_t) → canonical ≡ true → place ≡ at.Node
-    → problem_by canonical place top (scalar (plain_text value style)) ≡ None
-unfolding problem_by event_problem place_problem last_problem
-right_by canonical place None value style e h = rw (e, h) refl
-right_by canonical place (Some l) value style e h = rw (e, h) refl
-
--- nothing is wrong with it
-pub text_right : (s : Settings) (st : State) (value : List ℕ) (style : yaml_scalar_style_t)
-    → s.canonical ≡ true → st.place ≡ at.Node
-    → problem_at s st (scalar (plain_text value style)) ≡ None
-text_right s st value style e h = right_by s.canonical st.place _ value style e h
 
 -- it is no simple key
 pub text_no_key : (p : Context) (top : Option Level) (v : Scalar) → p.settings.canonical ≡ true
@@ -95,40 +63,41 @@ sign_is : (quoted : Bool) → mark_word (sign_of quoted) ≡ when (not quoted) (
 sign_is true = refl
 sign_is false = refl
 
+-- the bytes in front of its value
+abbrev pub front : Bool → List ℕ
+front tagged = if tagged then 33 ∷ 33 ∷ 115 ∷ 116 ∷ 114 ∷ 32 ∷ 34 ∷ [] else 34 ∷ []
+
+-- what stands there is in ASCII
+pub front_ascii : (tagged : Bool) (n width : ℕ) (v : List ℕ) → IsLined n width v
+    → IsAscii (front tagged ++ (v ++ 34 ∷ []))
+front_ascii true n width v h = tagged_ascii n width v h
+front_ascii false n width v h = lined_ascii n width v h
+
 -- what its line begins with and what is one word behind it
 begun : (s : Settings) (l : Level) (sign : Option ℕ) (x : Layout) (y : ℕ) (ys : List ℕ)
     (z : Layout) (a b : Output) → BeginsLine s l → Worded (l.indent + 4) x (y ∷ ys) z
     → Puts a b ((line_start_text (line_start s l sign) ▹ letters (y ∷ ys)) ▹ z)
     → Puts a b (before_at s l.phase l.flow l.indent false ▹ (mark_word sign ▹ x))
-begun s l sign x y ys z a b t w p =
-    let A : Layout → Type 0 = λ k. Puts a b (k ▹ (mark_word sign ▹ x)) in
-    let B : Bool → Type 0 = λ k. Puts a b (before_at s l.phase k l.indent false ▹ (mark_word sign ▹ x)) in
-    subst B (sym t.flow) (subst A (sym (before_is s l.phase l.indent t.form t.breaks)) (puts_signed (line_start s l sign) x y ys z a b w p))
+begun s l sign x y ys z a b t w p = rw (t.flow, before_is s l.phase l.indent t.form t.breaks) (puts_signed (line_start s l sign) x y ys z a b w p)
 
-pub puts_framed : (s : Settings) (l : Level) (quoted : Bool) (v : List ℕ) (a b : Output)
-    → BeginsLine s l → IsLined l.indent s.width v
-    → Puts a b (line_start_text (line_start s l (sign_of quoted)) ▹ letters (34 ∷ (v ++ 34 ∷ [])))
-    → Puts a b (framed_text s (Some l) quoted v)
-puts_framed s l quoted v a b t w p =
+pub puts_framed : (tagged : Bool) (s : Settings) (l : Level) (quoted : Bool) (v : List ℕ)
+    (a b : Output) → BeginsLine s l → IsLined l.indent s.width v
+    → Puts a b (line_start_text (line_start s l (sign_of (tagged || quoted)))
+    ▹ letters (front tagged ++ (v ++ 34 ∷ [])))
+    → Puts a b (framed_text s (Some l) tagged [] quoted v)
+puts_framed false s l quoted v a b t w p =
     let pos : NodePosition = position_of (Some l) false in
     let x : Layout = double_quoted (page_at s pos) (chars v) in
-    let front : Layout = before_at s l.phase l.flow l.indent false in
-    let C : Layout → Type 0 = λ z. Puts a b (front ▹ (z ▹ x)) in
-    unchecked_behind (deeper s pos.around) a b (front ▹ when (not quoted) (word (33 ∷ []))) x t.shallow
+    let before : Layout = before_at s l.phase l.flow l.indent false in
+    let C : Layout → Type 0 = λ z. Puts a b (before ▹ (z ▹ x)) in
+    unchecked_behind (deeper s pos.around) a b (before ▹ front_text false [] quoted) x t.shallow
     (subst C (sign_is quoted) (begun s l (sign_of quoted) x 34 (v ++ 34 ∷ []) stay a b t (quoted_worded l.indent (page_at s pos) v w) p))
-
--- with the default tag
-pub puts_tagged : (s : Settings) (l : Level) (v : List ℕ) (a b : Output) → BeginsLine s l
-    → IsLined l.indent s.width v
-    → Puts a b (line_start_text (line_start s l None)
-    ▹ letters (33 ∷ 33 ∷ 115 ∷ 116 ∷ 114 ∷ 32 ∷ 34 ∷ (v ++ 34 ∷ [])))
-    → Puts a b (tagged_text s (Some l) v)
-puts_tagged s l v a b t w p =
+puts_framed true s l quoted v a b t w p =
     let pos : NodePosition = position_of (Some l) false in
     let q : Layout = double_quoted (page_at s pos) (chars v) in
-    let front : Layout = before_at s l.phase l.flow l.indent false in
-    let C : List ℕ → Type 0 = λ z. Puts a b (front ▹ (word z ▹ q)) in
-    unchecked_behind (deeper s pos.around) a b (front ▹ word (tag_spelling [] str_tag)) q t.shallow
+    let before : Layout = before_at s l.phase l.flow l.indent false in
+    let C : List ℕ → Type 0 = λ z. Puts a b (before ▹ (word z ▹ q)) in
+    unchecked_behind (deeper s pos.around) a b (before ▹ front_text true [] quoted) q t.shallow
     (subst C (sym str_spelled) (begun s l None (word (33 ∷ 33 ∷ 115 ∷ 116 ∷ 114 ∷ []) ▹ q) 33 (33 ∷ 115 ∷ 116 ∷ 114 ∷ 32 ∷ 34 ∷ (v ++ 34 ∷ [])) stay a b t (tagged_worded l.indent (page_at s pos) v w) p))
 
 -- what opens a collection was written
@@ -138,119 +107,78 @@ pub puts_bracket : (s : Settings) (l : Level) (x : ℕ) (a b : Output) → Begin
 unfolding letters
 puts_bracket s l x a b t p = begun s l None (word (x ∷ []) ▹ after_block) x [] after_block a b t (word_worded (l.indent + 4) (x ∷ []) after_block) p
 
-two_ascii : (m : ℕ) → m < 128 → IsAscii (m ∷ 32 ∷ [])
-two_ascii m h = IsAscii-cons m (32 ∷ []) h (IsAscii-cons 32 [] (omega arith) IsAscii-nil)
-
-pub mark_ascii : (p : Phase) → IsAscii (marks (mark_of p))
-mark_ascii (Items fresh) = IsAscii-nil
-mark_ascii (Keys fresh) = two_ascii 63 (omega arith)
-mark_ascii (Value was_simple) = two_ascii 58 (omega arith)
-
-sign_ascii : (quoted : Bool) → IsAscii (marks (sign_of quoted))
-sign_ascii true = IsAscii-nil
-sign_ascii false = two_ascii 33 (omega arith)
-
-pub signs_ascii : (p : Phase) (quoted : Bool)
-    → IsAscii (marks (mark_of p) ++ marks (sign_of quoted))
-signs_ascii p quoted = IsAscii-append (marks (mark_of p)) (marks (sign_of quoted)) (mark_ascii p) (sign_ascii quoted)
-
 -- ---- that it is laid out
 
 frees : (x : Scalar) → is_free x ≡ true → Parts x
 frees x h =
-    let a = and_parts (not (has x.anchor)) (not (has x.tag) && (x.plain || x.quoted)) h in
-    let t = and_parts (not (has x.tag)) (x.plain || x.quoted) a.1 in
-    record { no_anchor = none_given x.anchor a.0; no_tag = none_given x.tag t.0; left_out = t.1 }
+    let a = and_parts (has_none x.anchor x.tag) (x.plain || x.quoted) h in
+    let t = none_given x.anchor x.tag a.0 in
+    record { no_anchor = t.0; no_tag = t.1; left_out = a.1 }
 
-marked_is : (quoted : Bool) (z : Layout)
-    → (when (true && (not quoted && true)) (word (33 ∷ [])) ▹ z)
-    ≡ (when (not quoted) (word (33 ∷ [])) ▹ z)
-marked_is true z = refl
-marked_is false z = refl
-
-free_layout : (s : Settings) (ds : List TagDirective) (pos : NodePosition) (x : Scalar)
-    → s.canonical ≡ true → Parts x → scalar_layout (context_of s ds) pos x
-    ≡ (when (not x.quoted) (word (33 ∷ [])) ▹ (checked (deeper s pos.around) ▹ double_quoted (page_at s pos) (chars x.value)))
+framed_layout : (tagged : Bool) (s : Settings) (ds es : List TagDirective) (pos : NodePosition)
+    (x : Scalar) → s.canonical ≡ true → (tagged ≡ true → ds ≡ es) → IsFramed tagged x
+    → scalar_layout (context_of s ds) pos x ≡ (front_text tagged es x.quoted
+    ▹ (checked (deeper s pos.around) ▹ double_quoted (page_at s pos) (chars x.value)))
 unfolding scalar_layout style_of scalar_text
-free_layout s ds pos x e p = rw (e, p.no_anchor, p.no_tag) (marked_is x.quoted (checked (deeper s pos.around) ▹ double_quoted (page_at s pos) (chars x.value)))
+framed_layout false s ds es pos x e same h =
+    let p = frees x h in
+    rw (e, p.no_anchor, p.no_tag, and-true (not x.quoted)) refl
+framed_layout true s ds es pos x e same h = rw (e, h.0, h.1, same refl) refl
 
-pub lays_free : (old new : Core) (o : Output) (s : Settings) (top : Option Level) (quoted : Bool)
-    (v : List ℕ) (x : Scalar) (empty : Bool) → s ≡ settings_of old
-    → top ≡ top_of (stack_of old.levels) → old.settings.canonical ≡ true → old.place ≡ at.Node
-    → is_free x ≡ true → x.quoted ≡ quoted → x.value ≡ v
-    → Puts old.sink o (framed_text s top quoted v)
+-- nothing is wrong with it
+framed_right : (tagged canonical : Bool) (place : Expected) (top : Option Level) (x : Scalar)
+    → canonical ≡ true → place ≡ at.Node → IsFramed tagged x
+    → problem_by canonical place top (scalar x) ≡ None
+unfolding problem_by event_problem place_problem last_problem
+framed_right false canonical place top x e h f = parts_right canonical place top x h (frees x f)
+framed_right true canonical place None x e h f = rw (e, h, f.0, f.1) refl
+framed_right true canonical place (Some l) x e h f = rw (e, h, f.0, f.1) refl
+
+pub lays_framed : (tagged : Bool) (old new : Core) (o : Output) (s : Settings) (top : Option Level)
+    (ds : List TagDirective) (quoted : Bool) (v : List ℕ) (x : Scalar) (empty : Bool)
+    → s ≡ settings_of old → top ≡ top_of (stack_of old.levels) → old.settings.canonical ≡ true
+    → old.place ≡ at.Node → (tagged ≡ true → old.directives ≡ ds) → IsFramed tagged x
+    → x.quoted ≡ quoted → x.value ≡ v → Puts old.sink o (framed_text s top tagged ds quoted v)
     → state_of new ≡ among old.directives (levels_behind (stack_of old.levels) false)
     → StaysBut (record old { sink = o }) new → LaysOut old new (scalar x) empty
-lays_free old new o s top quoted v x empty same upper form due free q value written moved kept =
+lays_framed tagged old new o s top ds quoted v x empty same upper form due none framed q value written moved kept =
     let own : Settings = settings_of old in
     let innermost : Option Level = top_of (stack_of old.levels) in
-    let p = frees x free in
-    let A : Bool → Type 0 = λ z. Puts old.sink o (framed_text own innermost z v) in
-    let B : List ℕ → Type 0 = λ z. Puts old.sink o (framed_text own innermost x.quoted z) in
-    let C : Layout → Type 0 = λ z. Puts old.sink o (before_node own innermost false ▹ z) in
-    let D : Settings → Type 0 = λ z. Puts old.sink o (framed_text z innermost quoted v) in
-    let E : Option Level → Type 0 = λ z. Puts old.sink o (framed_text s z quoted v) in
-    let put = subst C (sym (free_layout own old.directives (position_of innermost false) x form p)) (subst B (sym value) (subst A (sym q) (subst D same (subst E upper written)))) in
-    lays_in_place old new (scalar x) empty (parts_right own.canonical old.place innermost x due p)
-    (lays_scalar old new o own innermost x false empty refl refl (text_no_key (context_of own old.directives) innermost x form) put moved kept)
+    let said : Puts old.sink o (framed_text own innermost tagged ds x.quoted x.value) = rw (q, value) (rw (same, upper) at written) in
+    lays_in_place old new (scalar x) empty (framed_right tagged own.canonical old.place innermost x form due framed)
+    (lays_scalar old new o own innermost x false empty refl refl (text_no_key (context_of own old.directives) innermost x form)
+    (rw (framed_layout tagged own old.directives ds (position_of innermost false) x form none framed) said) moved kept)
 
--- a text with the default tag was laid out
-pub lays_text : (old new : Core) (o : Output) (s : Settings) (top : Option Level) (v : List ℕ)
-    (style : yaml_scalar_style_t) (empty : Bool) → s ≡ settings_of old
-    → top ≡ top_of (stack_of old.levels) → old.settings.canonical ≡ true → old.place ≡ at.Node
-    → old.directives ≡ [] → Puts old.sink o (tagged_text s top v)
-    → state_of new ≡ among old.directives (levels_behind (stack_of old.levels) false)
-    → StaysBut (record old { sink = o }) new → LaysOut old new (scalar (plain_text v style)) empty
-lays_text old new o s top v style empty same upper form due none written moved kept =
-    let own : Settings = settings_of old in
-    let innermost : Option Level = top_of (stack_of old.levels) in
-    let pos : NodePosition = position_of innermost false in
-    let x : Scalar = plain_text v style in
-    let A : List TagDirective → Type 0 = λ z. Puts old.sink o (before_node own innermost false ▹ (word (tag_spelling z str_tag) ▹ (checked (deeper own pos.around) ▹ double_quoted (page_at own pos) (chars v)))) in
-    let C : Layout → Type 0 = λ z. Puts old.sink o (before_node own innermost false ▹ z) in
-    let D : Settings → Type 0 = λ z. Puts old.sink o (tagged_text z innermost v) in
-    let E : Option Level → Type 0 = λ z. Puts old.sink o (tagged_text s z v) in
-    let put = subst C (sym (text_layout own old.directives pos v style form)) (subst A (sym none) (subst D same (subst E upper written))) in
-    lays_in_place old new (scalar x) empty (text_right own (state_of old) v style form due)
-    (lays_scalar old new o own innermost x false empty refl refl (text_no_key (context_of own old.directives) innermost x form) put moved kept)
-
--- in canonical form each collection is flow
-same_flow : (canonical x y : Bool) → canonical ≡ true → (canonical || x) ≡ (canonical || y)
-same_flow canonical x y e = rw e refl
-
--- whatever its style, and whether the next event closes it
-opens_any : (s : Settings) (old new : Core) (sequence flow empty : Bool) → s.canonical ≡ true
-    → OpensCollection s old new false false false sequence
-    → OpensCollection s old new false empty flow sequence
-opens_any s old new sequence flow empty e o =
-    let pos : NodePosition = position_of (top_of (stack_of old.levels)) false in
-    let f = same_flow s.canonical (pos.flow || (false || false)) (pos.flow || (flow || empty)) e in
-    let F : Bool → Type 0 = λ g. state_of new ≡ opened (state_of old).directives (stack_of old.levels) false (first_phase sequence) g (indent_of s pos sequence g old.sink.cursor) in
-    let G : Bool → Type 0 = λ g. Puts old.sink new.sink (indented (indent_of s pos sequence g) checked) in
-    record { settings = o.settings; state = λ g. subst F f (o.state g); cursor = o.cursor; text = subst G f o.text; memory = o.memory; halts = o.halts }
+opens_so : (s : Settings) (old new : Core) (o : Output) (top : Option Level) (q : Start)
+    (simple flow empty sequence : Bool) → top ≡ top_of (stack_of old.levels)
+    → simple ≡ is_simple_start (context_of s old.directives) q empty
+    → flow ≡ is_flow s (position_of top simple) q empty
+    → OpensCollection s (record old { sink = o }) new simple flow sequence
+    → let b = is_simple_start (context_of s old.directives) q empty in
+    OpensCollection s (record old { sink = o }) new b
+    (is_flow s (position_of (top_of (stack_of old.levels)) b) q empty) sequence
+opens_so s old new o top q simple flow empty sequence upper asked way moved =
+    let O : Bool → Bool → Type 0 = λ b f. OpensCollection s (record old { sink = o }) new b f sequence in
+    subst (λ b. O b (is_flow s (position_of (top_of (stack_of old.levels)) b) q empty)) asked (subst (O simple) (rw upper at way) moved)
 
 -- any start was laid out
 pub lays_start : (sequence : Bool) (old new : Core) (o : Output) (s : Settings)
-    (top : Option Level) (q : Start) (x : ℕ) (simple empty : Bool)
+    (top : Option Level) (q : Start) (x : ℕ) (simple flow empty : Bool)
     → s ≡ settings_of old → top ≡ top_of (stack_of old.levels)
     → simple ≡ is_simple_start (context_of s old.directives) q empty
-    → x ≡ opening_bracket sequence
+    → flow ≡ is_flow s (position_of top simple) q empty → x ≡ opening_bracket sequence
     → Puts old.sink o (before_node s top simple
     ▹ start_text (context_of s old.directives) (position_of top simple) x q empty)
-    → OpensCollection s (record old { sink = o }) new simple empty q.flow sequence
+    → OpensCollection s (record old { sink = o }) new simple flow sequence
     → LaysOutRight old new (opening sequence q) empty
 unfolding text_at next_at depth_at is_simple_event
-lays_start true old new o s top q x simple empty is upper asked bracket put moved =
-    let P : ℕ → Bool → Type 0 = λ y b. Puts old.sink o (before_node s top b ▹ start_text (context_of s old.directives) (position_of top b) y q empty) in
-    let O : Bool → Type 0 = λ b. OpensCollection s (record old { sink = o }) new b empty q.flow true in
-    let m = subst O asked moved in
-    lays_right old new o s top (sequence_start q) empty is upper (subst (P 91) asked (subst (λ y. P y simple) bracket put))
+lays_start true old new o s top q x simple flow empty is upper asked way bracket put moved =
+    let m = opens_so s old new o top q simple flow empty true upper asked way moved in
+    lays_right old new o s top (sequence_start q) empty is upper (rw (bracket, asked) at put)
     (record { settings = m.settings; state = m.state; cursor = m.cursor; text = m.text; memory = m.memory; halts = m.halts })
-lays_start false old new o s top q x simple empty is upper asked bracket put moved =
-    let P : ℕ → Bool → Type 0 = λ y b. Puts old.sink o (before_node s top b ▹ start_text (context_of s old.directives) (position_of top b) y q empty) in
-    let O : Bool → Type 0 = λ b. OpensCollection s (record old { sink = o }) new b empty q.flow false in
-    let m = subst O asked moved in
-    lays_right old new o s top (mapping_start q) empty is upper (subst (P 123) asked (subst (λ y. P y simple) bracket put))
+lays_start false old new o s top q x simple flow empty is upper asked way bracket put moved =
+    let m = opens_so s old new o top q simple flow empty false upper asked way moved in
+    lays_right old new o s top (mapping_start q) empty is upper (rw (bracket, asked) at put)
     (record { settings = m.settings; state = m.state; cursor = m.cursor; text = m.text; memory = m.memory; halts = m.halts })
 
 -- ---- without properties, where a node is due in canonical form
@@ -265,11 +193,6 @@ start_right canonical place None false q e h a t = rw (e, h, a, t) refl
 start_right canonical place (Some l) true q e h a t = rw (e, h, a, t) refl
 start_right canonical place (Some l) false q e h a t = rw (e, h, a, t) refl
 
-no_start_key : (p : Context) (q : Start) (empty : Bool) → p.settings.canonical ≡ true
-    → false ≡ is_simple_start p q empty
-unfolding is_simple_event
-no_start_key p q empty e = no_keys p (sequence_start q) empty e
-
 -- a bracket alone
 bracket_start : (s : Settings) (ds : List TagDirective) (at : NodePosition) (x : ℕ) (q : Start)
     (empty : Bool) → s.canonical ≡ true → q.anchor ≡ None → q.tag ≡ None
@@ -282,13 +205,13 @@ pub lays_bracket : (old new : Core) (o : Output) (s : Settings) (top : Option Le
     → top ≡ top_of (stack_of old.levels) → x ≡ opening_bracket sequence
     → old.settings.canonical ≡ true → old.place ≡ at.Node → q.anchor ≡ None → q.tag ≡ None
     → Puts old.sink o (before_node s top false ▹ opener x)
-    → OpensCollection s (record old { sink = o }) new false false false sequence
+    → OpensCollection s (record old { sink = o }) new false true sequence
     → LaysOut old new (opening sequence q) empty
+unfolding is_simple_event
 lays_bracket old new o s top x sequence q empty is upper bracket form due a t put moved =
     let A : Layout → Type 0 = λ z. Puts old.sink o (before_node s top false ▹ z) in
     let canonical : s.canonical ≡ true = rw is form in
     lays_in_place old new (opening sequence q) empty
     (start_right (settings_of old).canonical old.place (top_of (stack_of old.levels)) sequence q form due a t)
-    (lays_start sequence old new o s top q x false empty is upper (no_start_key (context_of s old.directives) q empty canonical) bracket
-    (subst A (bracket_start s old.directives (position_of top false) x q empty canonical a t) put)
-    (opens_any s (record old { sink = o }) new sequence q.flow empty canonical moved))
+    (lays_start sequence old new o s top q x false true empty is upper (no_keys (context_of s old.directives) (sequence_start q) empty canonical) (rw canonical refl) bracket
+    (subst A (bracket_start s old.directives (position_of top false) x q empty canonical a t) put) moved)

@@ -1,21 +1,19 @@
 -- The names of an event that comes right are in ASCII.
-use Rattle.std.proofs.Common.{◌≡◌, ℕ, ◌<◌, List, [], ◌∷◌, ◌++◌, length, Bool, true, false, Option, Some, None, refl, subst, arith}
+use Rattle.std.proofs.Common.{◌≡◌, ℕ, ◌<◌, List, length, Bool, true, false, Option, Some, None, refl, subst, arith}
 use Rattle.std.specs.Prelude.{if◌then◌else◌, ◌==◌}
 use Rattle.std.specs.Str.{IsAscii}
 use Rattle.std.specs.List.{list_all}
 use Rattle.std.proofs.lemmas.Bool.Decides.{nat_tests}
 use Rattle.std.proofs.lemmas.List.Sums.{AllPass-from_list_all}
-use Rattle.std.proofs.lemmas.List.{append-nil}
-use Rattle.std.proofs.lemmas.Str.Ascii.{IsAscii-from_all, IsAscii-cons}
-use Rattle.yaml_emit_text.specs.Sink.{Output, Puts}
-use Rattle.yaml_emit_text.specs.Layout.{word}
+use Rattle.std.proofs.lemmas.Str.Ascii.{IsAscii-from_all}
 use Rattle.yaml_scan_model.specs.Classes.{is_alpha_byte, is_digit_byte}
 use Rattle.yaml_emit_layout.specs.declared.Problem.{Problem}
 use Rattle.yaml_emit_layout.specs.declared.Expected.{Expected}
 use Rattle.yaml_emit_layout.specs.declared.Level.{Level}
 use Rattle.yaml_emit_layout.specs.Content as said
-use Rattle.yaml_emit_layout.specs.Grammar.{or_else, name_problem, anchor_problem, event_problem, problem_by}
+use Rattle.yaml_emit_layout.specs.Grammar.{name_problem, anchor_problem, event_problem, problem_by}
 use Rattle.yaml_emit_state.specs.Given.{name_of, IsNamed}
+use Rattle.yaml_emit_state.proofs.Finishing.{or_else_none}
 
 alpha_low : (b : ℕ) → is_alpha_byte b ≡ true → b < 128
 unfolding is_alpha_byte is_digit_byte
@@ -32,10 +30,6 @@ none_alphas false false a b h = absurd (cc)
 
 name_ascii : (a b : Problem) (name : List ℕ) → name_problem a b name ≡ None → IsAscii name
 name_ascii a b name h = alphas_ascii name (none_alphas (length name == 0) (list_all is_alpha_byte name) a b h)
-
-first_none : (p q : Option Problem) → or_else p q ≡ None → p ≡ None
-first_none None q h = refl
-first_none (Some p) q h = absurd (cc)
 
 same_name : (m n : List ℕ) → Some m ≡ Some n → m ≡ n
 same_name m n e = cc
@@ -54,20 +48,12 @@ event_named : (canonical : Bool) (e : said.Event) → event_problem canonical e 
     → IsNamed (name_of e)
 unfolding event_problem
 event_named canonical (said.alias name) h = some_named _ _ name h
-event_named canonical (said.scalar x) h = anchor_named x.anchor (first_none _ _ h)
-event_named canonical (said.sequence_start p) h = anchor_named p.anchor (first_none _ _ h)
-event_named canonical (said.mapping_start p) h = anchor_named p.anchor (first_none _ _ h)
+event_named canonical (said.scalar x) h = anchor_named x.anchor (or_else_none _ _ h).0
+event_named canonical (said.sequence_start p) h = anchor_named p.anchor (or_else_none _ _ h).0
+event_named canonical (said.mapping_start p) h = anchor_named p.anchor (or_else_none _ _ h).0
 event_named canonical _ h = none_named
 
 pub named_right : (canonical : Bool) (place : Expected) (top : Option Level) (e : said.Event)
     → problem_by canonical place top e ≡ None → IsNamed (name_of e)
 unfolding problem_by
-named_right canonical place top e h = event_named canonical e (first_none _ _ h)
-
--- a name behind its indicator, with nothing behind it
-pub behind_ascii : (c : ℕ) (name : List ℕ) → c < 128 → IsAscii name → IsAscii (c ∷ (name ++ []))
-behind_ascii c name low h = IsAscii-cons c (name ++ []) low (rw (append-nil name) h)
-
-pub puts_name : (a b : Output) (c : ℕ) (name : List ℕ) → Puts a b (word (c ∷ (name ++ [])))
-    → Puts a b (word (c ∷ name))
-puts_name a b c name p = let P : List ℕ → Type 0 = λ t. Puts a b (word (c ∷ t)) in subst P (append-nil name) p
+named_right canonical place top e h = event_named canonical e (or_else_none _ _ h).0

@@ -1,12 +1,12 @@
 -- That memory was refused outside the output is noted where this stops the output: then no text was missing any.
-use Rattle.std.proofs.Common.{◌≡◌, ◌≢◌, Bool, true, false, refl, inl, inr, ℕ, ◌≤◌, ◌+◌, sym, subst, ◌∙◌, ap, arith, List, [], ◌∷◌, ◌++◌, length, drop, length-append, Option}
+use Rattle.std.proofs.Common.{◌≡◌, ◌≢◌, Bool, true, false, refl, inl, inr, ℕ, ◌≤◌, ◌+◌, sym, subst, ◌∙◌, ap, arith, List, [], ◌++◌, length, drop, length-append, Option}
 use Rattle.std.specs.Prelude.{◌||◌, nat_lt}
 use Rattle.yaml_emit_text.specs.declared.Status.{Status}
 use Rattle.yaml_emit_text.specs.declared.Status.TheVariants.{Going, Full, Deep, Starved}
 use Rattle.yaml_emit_state.specs.declared.state.Core.{Core}
 use Rattle.yaml_emit_state.specs.Steps.{is_going, may_note, Notes, Starves, state_of, settings_of, is_document_start, takes_memory, Blames, Halts, MovesOn, LaysOutRight}
 use Rattle.std.proofs.lemmas.Bool.{false≢true}
-use Rattle.std.proofs.lemmas.List.{append-nil}
+use Rattle.std.proofs.lemmas.List.{append-nil, nil_from_length}
 use Rattle.yaml_emit_text.specs.declared.Cursor.{Cursor}
 use Rattle.yaml_emit_text.specs.declared.Encoding.{Encoding}
 use Rattle.yaml_emit_text.specs.declared.Settings.{Settings}
@@ -81,22 +81,11 @@ halts old new s = record { levels = λ off on. (going_by old.sink.status old.sta
 
 -- ---- then all stands there that was put before
 
-none_left : (xs : List ℕ) → length xs ≡ 0 → xs ≡ []
-none_left [] h = refl
-none_left (x ∷ xs) h = absurd (omega (arith, h))
-
-no_more : (old new rest : List ℕ) → old ≡ new ++ rest → new ≡ old ++ drop (length old) new
-    → length (drop (length old) new) ≡ 0
-no_more old new rest e g =
-    let a : length old ≡ length new + length rest = ap length e ∙ length-append new rest in
-    let b : length new ≡ length old + length (drop (length old) new) = ap length g ∙ length-append old (drop (length old) new) in
-    omega (arith, a, b)
-
 same_by : (old new rest : List ℕ) → old ≡ new ++ rest → Grows old new → old ≡ new
 same_by old new rest e g =
-    let k = grows_rest old new g in
-    let n : drop (length old) new ≡ [] = none_left (drop (length old) new) (no_more old new rest e k) in
-    sym (k ∙ (ap (λ (z : List ℕ). old ++ z) n ∙ append-nil old))
+    let a : length old ≡ length new + length rest = ap length e ∙ length-append new rest in
+    let b : length new ≡ length old + length (drop (length old) new) = ap length (grows_rest old new g) ∙ length-append old (drop (length old) new) in
+    e ∙ (ap (λ (z : List ℕ). new ++ z) (nil_from_length rest (omega (arith, a, b))) ∙ append-nil new)
 
 whole_by : (s : Status) (limit : ℕ) (x : Encoding) (old new : List ℕ) (whole : List Item)
     → encode x whole ≡ old → encode x (shallow whole) ≡ old → length old ≤ limit → Grows old new

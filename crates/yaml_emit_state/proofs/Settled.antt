@@ -13,7 +13,7 @@ use Rattle.yaml_emit_layout.specs.Content.{Start, Event, sequence_start, mapping
 use Rattle.yaml_emit_layout.specs.Grammar.{start_tag}
 use Rattle.yaml_emit_layout.specs.Nodes.{Context, context_of, position, is_flow, indent_of, indented, checked, properties_text}
 use Rattle.yaml_emit_layout.specs.State.{State, top_of, among, part_at, position_of, before_at, before_node, phase_behind, levels_behind, is_simple_event, text_at, depth_at, next_at}
-use Rattle.yaml_emit_state.specs.Due.{is_key_in, is_undecided_in, is_undecided_start, is_undecided}
+use Rattle.yaml_emit_state.specs.Due.{is_key_in, is_undecided_in, is_undecided}
 use Rattle.yaml_emit_state.specs.Given.{opening}
 use Rattle.yaml_emit_state.specs.Steps.{IsSame}
 use Rattle.yaml_emit_state.proofs.Keyed.{no_keys, before_in, part_in, phase_in}
@@ -78,16 +78,11 @@ alike_open s (l ∷ ls) q a b v w h =
       flow = flow_alike s.canonical l.flow q.flow v w k.1;
     }
 
-formed_alike : (canonical : Bool) (x y : Bool) → canonical ≡ true
-    → (canonical || x) ≡ (canonical || y)
-formed_alike true x y h = refl
-formed_alike false x y h = absurd (cc)
-
 alike_canonical : (s : Settings) (ls : List Level) (q : Start) (a b v w : Bool) → s.canonical ≡ true
     → a ≡ b → Alike s ls q a b v w
 alike_canonical s ls q a b v w h same =
     let P : Bool → Type 0 = λ z. Alike s ls q a z v w in
-    subst P same (record { before = refl; at = refl; behind = refl; flow = formed_alike s.canonical _ _ h })
+    subst P same (record { before = refl; at = refl; behind = refl; flow = rw h refl })
 
 alike_by : (canonical : Bool) (s : Settings) (ls : List Level) (q : Start) (a b v w : Bool)
     → canonical ≡ s.canonical → (s.canonical ≡ true → a ≡ b)
@@ -95,16 +90,11 @@ alike_by : (canonical : Bool) (s : Settings) (ls : List Level) (q : Start) (a b 
 alike_by true s ls q a b v w same keys h = alike_canonical s ls q a b v w (sym same) (keys (sym same))
 alike_by false s ls q a b v w same keys h = alike_open s ls q a b v w h
 
-canonical_start : (canonical : Bool) (top : Option Level) (flow : Bool) → canonical ≡ true
-    → is_undecided_start canonical top flow ≡ false
-canonical_start true top flow h = refl
-canonical_start false top flow h = absurd (cc)
-
 -- in canonical form the next event decides nothing
 pub canonical_decided : (canonical : Bool) (top : Option Level) (e : Event) → canonical ≡ true
     → is_undecided canonical top e ≡ false
-canonical_decided canonical top (sequence_start p) h = canonical_start canonical top p.flow h
-canonical_decided canonical top (mapping_start p) h = canonical_start canonical top p.flow h
+canonical_decided canonical top (sequence_start p) h = rw h refl
+canonical_decided canonical top (mapping_start p) h = rw h refl
 canonical_decided canonical top _ h = refl
 
 -- canonical form has no simple keys

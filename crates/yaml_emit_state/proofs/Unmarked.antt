@@ -1,60 +1,56 @@
 -- Short scalars in pretty form.
 use Rattle.std.proofs.Common.{◌≡◌, ℕ, ◌≤◌, ◌+◌, length, Bool, true, false, refl, sym, subst, ◌∙◌, ap, arith, List, [], ◌∷◌, ◌++◌, Option, Some, None}
-use Rattle.std.specs.Prelude.{not, ◌&&◌, ◌||◌, ◌==◌, nat_le, if◌then◌else◌}
-use Rattle.std.specs.Str.{chars}
+use Rattle.std.specs.Prelude.{not, ◌&&◌, ◌||◌, ◌==◌, nat_le}
 use Rattle.std.proofs.lemmas.Bool.{and_parts}
-use Rattle.std.proofs.Math.Bool.{and-true, or-true}
+use Rattle.std.proofs.Math.Bool.{and-true, and-false, or-true}
 use Rattle.std.proofs.lemmas.Bool.Decides.{nat_tests}
 use Rattle.yaml_emit_tags.specs.parse_model.Events.{TagDirective}
 use Rattle.yaml_emit_text.specs.declared.Settings.{Settings}
-use Rattle.yaml_emit_text.specs.declared.Encoding.{Encoding}
 use Rattle.yaml_emit_text.specs.declared.Style.TheVariants as style
 use Rattle.yaml_scan_model.specs.declared.yaml_scalar_style_t.{yaml_scalar_style_t}
 use Rattle.yaml_scan_model.specs.declared.yaml_scalar_style_t.TheVariants as wish
 use Rattle.yaml_emit_text.specs.declared.Allowed.{Allowed}
 use Rattle.yaml_emit_text.specs.Tame.{IsTame, asks_plain, Stands, standing, standing_text, lead}
-use Rattle.yaml_emit_text.specs.Style.{allowed, taken}
+use Rattle.yaml_emit_text.specs.Style.{taken}
 use Rattle.yaml_emit_text.specs.Sink.{Output, Puts}
-use Rattle.yaml_emit_text.specs.Layout.{Layout, ◌▹◌, when, char, letters, word, indicator}
+use Rattle.yaml_emit_text.specs.Layout.{Layout, ◌▹◌, char, letters, indicator}
 use Rattle.yaml_emit_text.specs.Scalars.{scalar_text}
 use Rattle.yaml_emit_text.proofs.Bare.{tame_some, standing_breaks, tame_taken, puts_line_item, puts_line_key}
 use Rattle.yaml_emit_layout.specs.declared.Expected.{Expected}
 use Rattle.yaml_emit_layout.specs.declared.Expected.TheVariants as at
 use Rattle.yaml_emit_layout.specs.declared.Level.{Level}
 use Rattle.yaml_emit_layout.specs.declared.Phase.{Phase}
-use Rattle.yaml_emit_layout.specs.declared.Phase.TheVariants.{Items, Keys, Value}
+use Rattle.yaml_emit_layout.specs.declared.Phase.TheVariants.{Value}
 use Rattle.yaml_emit_layout.specs.declared.NodePosition.{NodePosition}
 use Rattle.yaml_emit_layout.specs.Content.{Scalar, scalar}
 use Rattle.yaml_emit_layout.specs.Grammar.{has, scalar_tag, event_problem, last_problem, place_problem, problem_by}
-use Rattle.yaml_emit_layout.specs.Nodes.{MOST, deeper, page_at, deep_if, checked, context_of, is_simple_part, is_simple_scalar, scalar_layout, style_of, position, turned as turned_line, before_item, before_key, before_value, wrap_at, line_at, comma}
+use Rattle.yaml_emit_layout.specs.Nodes.{MOST, deeper, page_at, deep_if, checked, context_of, is_simple_scalar, scalar_layout, style_of, position, turned as turned_line, before_item, before_key, before_value, wrap_at, line_at, comma}
 use Rattle.yaml_emit_layout.specs.State.{State, among, before_at, levels_behind, phase_behind, position_of, part_at, top_of}
 use Rattle.yaml_emit_state.specs.declared.state.Core.{Core}
-use Rattle.yaml_emit_state.specs.Bare.{is_double, IsInline, short_text, short_node, turned, hyphen, entry_phase, Places}
+use Rattle.yaml_emit_state.specs.Bare.{has_none, is_double, IsInline, short_text, short_node, turned, hyphen, entry_phase, Places}
 use Rattle.yaml_emit_state.specs.Due.{is_key_in, is_key}
 use Rattle.yaml_emit_state.specs.Stack.{stack_of}
-use Rattle.yaml_emit_state.specs.Steps.{settings_of, StaysBut, LaysOut}
+use Rattle.yaml_emit_state.specs.Steps.{settings_of, LaysOut}
 use Rattle.yaml_emit_state.proofs.Keyed.{not_deep, lays_scalar, lays_in_place}
 
 -- ---- what a short scalar is
 
-pub none_given : (a : Option (List ℕ)) → not (has a) ≡ true → a ≡ None
-none_given None h = refl
-none_given (Some t) h = absurd (cc)
+none_by : (a : Option (List ℕ)) → not (has a) ≡ true → a ≡ None
+none_by None h = refl
+none_by (Some t) h = absurd (cc)
 
--- no anchor and no tag, and it may be written so and is asked to be
-asked_parts : (anchor tag : Option (List ℕ)) (may asks : Bool)
-    → (not (has anchor) && (not (has tag) && (may && asks))) ≡ true
-    → (anchor ≡ None) × ((tag ≡ None) × ((may ≡ true) × (asks ≡ true)))
-asked_parts anchor tag may asks h =
-    let a = and_parts (not (has anchor)) _ h in
-    let t = and_parts (not (has tag)) _ a.1 in
-    (none_given anchor a.0, (none_given tag t.0, and_parts may asks t.1))
+-- no anchor and no tag
+pub none_given : (anchor tag : Option (List ℕ)) → has_none anchor tag ≡ true
+    → (anchor ≡ None) × (tag ≡ None)
+none_given anchor tag h =
+    let a = and_parts (not (has anchor)) (not (has tag)) h in
+    (none_by anchor a.0, none_by tag a.1)
 
 plainly : (x : Scalar) → IsInline false x → (x.plain ≡ true) × (asks_plain x.style ≡ true)
-plainly x b = (asked_parts x.anchor x.tag x.plain (asks_plain x.style) b.asked).1.1
+plainly x b = and_parts x.plain (asks_plain x.style) b.asked
 
 in_quotes : (x : Scalar) → IsInline true x → (x.quoted ≡ true) × (is_double x.style ≡ true)
-in_quotes x b = (asked_parts x.anchor x.tag x.quoted (is_double x.style) b.asked).1.1
+in_quotes x b = and_parts x.quoted (is_double x.style) b.asked
 
 -- no anchor and no tag, which may be left out
 pub record Parts (x : Scalar) : Type 0 where
@@ -62,13 +58,14 @@ pub record Parts (x : Scalar) : Type 0 where
   pub no_tag : x.tag ≡ None
   pub left_out : (x.plain || x.quoted) ≡ true
 
-parts : (quoted : Bool) (x : Scalar) → IsInline quoted x → Parts x
-parts false x b =
-    let p = asked_parts x.anchor x.tag x.plain (asks_plain x.style) b.asked in
-    record { no_anchor = p.0; no_tag = p.1.0; left_out = ap (λ (k : Bool). k || x.quoted) (plainly x b).0 }
-parts true x b =
-    let p = asked_parts x.anchor x.tag x.quoted (is_double x.style) b.asked in
-    record { no_anchor = p.0; no_tag = p.1.0; left_out = ap (λ (k : Bool). x.plain || k) (in_quotes x b).0 ∙ or-true x.plain }
+left_out_by : (framed : Bool) (x : Scalar) → IsInline framed x → (x.plain || x.quoted) ≡ true
+left_out_by false x b = ap (λ (k : Bool). k || x.quoted) (plainly x b).0
+left_out_by true x b = ap (λ (k : Bool). x.plain || k) (in_quotes x b).0 ∙ or-true x.plain
+
+parts : (framed : Bool) (x : Scalar) → IsInline framed x → Parts x
+parts framed x b =
+    let n = none_given x.anchor x.tag b.bare in
+    record { no_anchor = n.0; no_tag = n.1; left_out = left_out_by framed x b }
 
 some_bytes : (v : List ℕ) → IsTame v → (length v == 0) ≡ false
 some_bytes v t = let some = tame_some v t in grind (arith, nat_tests, some)
@@ -82,9 +79,7 @@ unfolding style_of
 bare_style s ds pos x e b =
     let p = plainly x b in
     let untagged : (has (scalar_tag false x) || x.plain) ≡ true = ap (λ (k : Bool). has (scalar_tag false x) || k) p.0 ∙ or-true (has (scalar_tag false x)) in
-    let other = taken (allowed s.unicode (chars x.value)) x.style (has (scalar_tag false x) || x.plain) pos.flow (is_simple_part pos.part) (length x.value == 0) in
-    ap (λ (k : Bool). if k then style.Double else other) e
-    ∙ tame_taken s.unicode x.value x.style (has (scalar_tag false x) || x.plain) pos.flow (is_simple_part pos.part) (length x.value == 0) b.stands p.1 untagged (some_bytes x.value b.stands)
+    rw e (tame_taken _ x.value _ _ pos.flow _ _ b.stands p.1 untagged (some_bytes x.value b.stands))
 
 double_taken : (a : Allowed) (s : yaml_scalar_style_t) (untagged flow simple empty : Bool)
     → is_double s ≡ true → taken a s untagged flow simple empty ≡ style.Double
@@ -95,15 +90,7 @@ double_taken a _ untagged flow simple empty h = absurd (cc)
 framed_style : (s : Settings) (ds : List TagDirective) (pos : NodePosition) (x : Scalar)
     → s.canonical ≡ false → IsInline true x → style_of (context_of s ds) pos x ≡ style.Double
 unfolding style_of
-framed_style s ds pos x e b =
-    let other = taken (allowed s.unicode (chars x.value)) x.style (has (scalar_tag false x) || x.plain) pos.flow (is_simple_part pos.part) (length x.value == 0) in
-    ap (λ (k : Bool). if k then style.Double else other) e
-    ∙ double_taken (allowed s.unicode (chars x.value)) x.style (has (scalar_tag false x) || x.plain) pos.flow (is_simple_part pos.part) (length x.value == 0) (in_quotes x b).1
-
-unmarked_by : (quoted : Bool) (z : Layout)
-    → (when (true && (not quoted && false)) (word (33 ∷ [])) ▹ z) ≡ z
-unmarked_by true z = refl
-unmarked_by false z = refl
+framed_style s ds pos x e b = rw e (double_taken _ _ _ pos.flow _ _ (in_quotes x b).1)
 
 short_layout : (quoted : Bool) (s : Settings) (ds : List TagDirective) (pos : NodePosition)
     (x : Scalar) → s.canonical ≡ false → IsInline quoted x
@@ -111,7 +98,7 @@ short_layout : (quoted : Bool) (s : Settings) (ds : List TagDirective) (pos : No
 unfolding scalar_layout scalar_text
 short_layout false s ds pos x e b =
     let p = parts false x b in
-    rw (bare_style s ds pos x e b, e, p.no_anchor, p.no_tag, p.left_out) (unmarked_by x.quoted (short_text s false pos x.value))
+    rw (bare_style s ds pos x e b, e, p.no_anchor, p.no_tag, p.left_out, and-false (not x.quoted)) refl
 short_layout true s ds pos x e b =
     let p = parts true x b in
     rw (framed_style s ds pos x e b, e, p.no_anchor, p.no_tag, p.left_out, (in_quotes x b).0) refl
@@ -162,15 +149,14 @@ value_before s true false n h = refl
 value_before s false flow n h = absurd (cc)
 
 -- by what comes before it
-pub node_placed : (s : Settings) (quoted flow : Bool) (n : ℕ) (p : Phase) (simple : Bool)
-    (v : List ℕ) (old new : Core) (q : Phase) (f : Bool) (before : Layout) → flow ≡ f
+pub node_put : (s : Settings) (quoted flow : Bool) (n : ℕ) (p : Phase) (simple : Bool)
+    (v : List ℕ) (a b : Output) (f : Bool) (before : Layout) → flow ≡ f
     → before ≡ before_at s p f n simple
-    → Places old new q (before ▹ short_text s quoted (position f n (part_at p simple)) v)
-    → Places old new q (short_node s quoted p flow n simple v)
-node_placed s quoted flow n p simple v old new q f before e is there =
-    let P : Bool → Type 0 = λ z. Places old new q (short_node s quoted p z n simple v) in
-    let Q : Layout → Type 0 = λ z. Places old new q (z ▹ short_text s quoted (position f n (part_at p simple)) v) in
-    subst P (sym e) (subst Q is there)
+    → Puts a b (before ▹ short_text s quoted (position f n (part_at p simple)) v)
+    → Puts a b (short_node s quoted p flow n simple v)
+node_put s quoted flow n p simple v a b f before e is put =
+    let Q : Layout → Type 0 = λ z. Puts a b (z ▹ short_text s quoted (position f n (part_at p simple)) v) in
+    rw e (subst Q is put)
 
 -- at the start of a line
 pub line_placed : (item quoted : Bool) (s : Settings) (at : NodePosition) (n : ℕ) (v : List ℕ)
@@ -183,50 +169,10 @@ line_placed true quoted s at n v a b t w h p =
 line_placed false quoted s at n v a b t w h p =
     unchecked_behind (deeper s at.around) a b (line_at s n) (standing_text quoted (page_at s at) at.flow v) h (puts_line_key quoted (page_at s at) at.flow v s.line_break n a b t (omega (arith, w)) p)
 
-pub from_there : (a b o : Output) (x : Layout) → a ≡ b → Puts a o x → Puts b o x
-from_there a b o x e p = let P : Output → Type 0 = λ z. Puts z o x in subst P e p
-
--- the phase was changed, and then it was written
-pub places_by : (old mid : Core) (o : Output) (q : Phase) (x : Layout)
-    → stack_of mid.levels ≡ turned q (stack_of old.levels) → mid.place ≡ old.place
-    → mid.directives ≡ old.directives → StaysBut old mid → Puts old.sink o x
-    → Places old (record mid { sink = o }) q x
-places_by old mid o q x levels place directives kept put = record {
-  puts = put;
-  levels = levels;
-  place = place;
-  directives = directives;
-  settings = kept.0;
-  starved = kept.2;
-}
-
--- in settings that differ in the encoding alone
-same_before : (s : Settings) (x : Encoding) (p : Phase) (flow : Bool) (n : ℕ) (simple : Bool)
-    → before_at s p flow n simple
-    ≡ before_at (record { encoding = x; canonical = s.canonical; indent = s.indent; width = s.width; unicode = s.unicode; line_break = s.line_break }) p flow n simple
-unfolding before_item before_key before_value turned_line
-same_before s x (Items fresh) true n simple = refl
-same_before s x (Items fresh) false n simple = refl
-same_before s x (Keys fresh) true n simple = refl
-same_before s x (Keys fresh) false n simple = refl
-same_before s x (Value true) true n simple = refl
-same_before s x (Value true) false n simple = refl
-same_before s x (Value false) true n simple = refl
-same_before s x (Value false) false n simple = refl
+pub from_there : (a b o : Output) (x : Layout) → b ≡ a → Puts b o x → Puts a o x
+from_there a b o x e p = rw (← e) p
 
 -- ---- the state behind it
-
-pub item_behind : (fresh : Bool) → Items false ≡ phase_behind (Items fresh) false
-unfolding phase_behind
-item_behind fresh = refl
-
-pub key_behind : (fresh : Bool) → Value true ≡ phase_behind (Keys fresh) true
-unfolding phase_behind
-key_behind fresh = refl
-
-pub value_behind : (simple : Bool) → Keys false ≡ phase_behind (Value simple) false
-unfolding phase_behind
-value_behind simple = refl
 
 same_level : (l k : Level) → Some l ≡ Some k → l ≡ k
 same_level l k e = cc
@@ -248,22 +194,13 @@ pub lays_short : (quoted : Bool) (old new : Core) (l : Level) (p q : Phase) (sim
     (v : List ℕ) (x : Scalar) (empty : Bool) → old.settings.canonical ≡ false
     → old.place ≡ at.Node → Some l ≡ top_of (stack_of old.levels) → l.phase ≡ p
     → simple ≡ is_key_in p → q ≡ phase_behind p simple
-    → Places old new q (short_node old.settings quoted p l.flow l.indent simple v)
+    → Places old new q (short_node (settings_of old) quoted p l.flow l.indent simple v)
     → IsInline quoted x → x.value ≡ v → LaysOut old new (scalar x) empty
 lays_short quoted old new l p q simple v x empty form due top is key next there b same =
-    let o : Output = new.sink in
-    let put = there.puts in
     let s : Settings = settings_of old in
-    let pos : NodePosition = position_of (Some l) simple in
     let asked : simple ≡ (is_key (Some l) && is_simple_scalar (context_of s old.directives) x) =
     key ∙ ap is_key_in (sym is) ∙ sym (ap (λ (k : Bool). is_key_in l.phase && k) (short_simple quoted s old.directives x form b) ∙ and-true (is_key_in l.phase)) in
-    let A : Phase → Type 0 = λ z. Puts old.sink o (short_node old.settings quoted z l.flow l.indent simple v) in
-    let B : List ℕ → Type 0 = λ z. Puts old.sink o (short_node old.settings quoted l.phase l.flow l.indent simple z) in
-    let C : Layout → Type 0 = λ z. Puts old.sink o (z ▹ short_text s quoted pos x.value) in
-    let D : Layout → Type 0 = λ z. Puts old.sink o (before_at s l.phase l.flow l.indent simple ▹ z) in
-    let written : Puts old.sink o (short_node old.settings quoted l.phase l.flow l.indent simple x.value) = subst B (sym same) (subst A (sym is) put) in
-    let here = subst D (sym (short_layout quoted s old.directives pos x form b)) (subst C (same_before old.settings old.sink.encoding l.phase l.flow l.indent simple) written) in
-    let E : Phase → Type 0 = λ z. q ≡ phase_behind z simple in
-    let moved = behind_by new.place (stack_of new.levels) (stack_of old.levels) new.directives old.directives l q simple (there.place ∙ due) there.directives top (subst E (sym is) next) there.levels in
+    let written : Puts old.sink new.sink (short_node s quoted l.phase l.flow l.indent simple x.value) = rw (is, same) there.0 in
+    let moved = behind_by new.place (stack_of new.levels) (stack_of old.levels) new.directives old.directives l q simple (there.1.1 ∙ due) there.1.2 top (rw is next) there.1.0 in
     lays_in_place old new (scalar x) empty (parts_right s.canonical old.place (top_of (stack_of old.levels)) x due (parts quoted x b))
-    (lays_scalar old new o s (Some l) x simple empty refl top asked here moved (there.settings, refl, there.starved))
+    (lays_scalar old new new.sink s (Some l) x simple empty refl top asked (rw (short_layout quoted s old.directives (position_of (Some l) simple) x form b) written) moved (there.1.3, refl, there.1.4))

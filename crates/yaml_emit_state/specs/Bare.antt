@@ -18,37 +18,33 @@ use Rattle.yaml_emit_layout.specs.State.{before_at, part_at}
 use Rattle.yaml_emit_state.specs.declared.state.Core.{Core}
 use Rattle.yaml_emit_state.specs.Stack.{stack_of}
 
--- no anchor and no tag, and it may be plain and is asked to be
-abbrev pub is_unmarked : Option (List ℕ) → Option (List ℕ) → Bool → yaml_scalar_style_t → Bool
-is_unmarked anchor tag plain style = not (has anchor)
-    && (not (has tag) && (plain && asks_plain style))
+-- no anchor and no tag
+abbrev pub has_none : Option (List ℕ) → Option (List ℕ) → Bool
+has_none anchor tag = not (has anchor) && not (has tag)
 
--- no anchor and no tag, and it may be quoted and is asked to be, in double quotes
 abbrev pub is_double : yaml_scalar_style_t → Bool
 is_double YAML_DOUBLE_QUOTED_SCALAR_STYLE = true
 is_double style = false
 
-abbrev pub is_framed : Option (List ℕ) → Option (List ℕ) → Bool → yaml_scalar_style_t → Bool
-is_framed anchor tag quoted style = not (has anchor)
-    && (not (has tag) && (quoted && is_double style))
+-- it may be plain, or quoted, and is asked to be: plain, or in double quotes
+abbrev pub is_asked : Bool → Bool → Bool → yaml_scalar_style_t → Bool
+is_asked false plain quoted style = plain && asks_plain style
+is_asked true plain quoted style = quoted && is_double style
 
 -- how many bytes a short scalar has at most
 abbrev pub most_short : ℕ
 most_short = 80
 
 -- a short scalar, bare or in double quotes
-abbrev pub is_asked : Bool → said.Scalar → Bool
-is_asked false x = is_unmarked x.anchor x.tag x.plain x.style
-is_asked true x = is_framed x.anchor x.tag x.quoted x.style
-
-pub record IsInline (quoted : Bool) (x : said.Scalar) : Type 0 where
-  pub asked : is_asked quoted x ≡ true
+pub record IsInline (framed : Bool) (x : said.Scalar) : Type 0 where
+  pub bare : has_none x.anchor x.tag ≡ true
+  pub asked : is_asked framed x.plain x.quoted x.style ≡ true
   pub few : length x.value ≤ most_short
-  pub stands : Stands quoted x.value
+  pub stands : Stands framed x.value
 
 abbrev pub IsInlineEvent : Bool → said.Event → Type 0
-IsInlineEvent quoted (said.scalar x) = IsInline quoted x
-IsInlineEvent quoted e = ⊥
+IsInlineEvent framed (said.scalar x) = IsInline framed x
+IsInlineEvent framed e = ⊥
 
 -- its text, and with what comes before it in its collection
 abbrev pub short_text : Settings → Bool → NodePosition → List ℕ → Layout
@@ -82,11 +78,12 @@ abbrev pub turned : Phase → List Level → List Level
 turned phase [] = []
 turned phase (l ∷ ls) = record { phase = phase; flow = l.flow; indent = l.indent } ∷ ls
 
+-- the innermost collection is in that phase, and nothing else was changed but for the output
+abbrev pub Turns : Core → Core → Phase → Type 0
+Turns old new phase = (stack_of new.levels ≡ turned phase (stack_of old.levels))
+    × (new.place ≡ old.place) × (new.directives ≡ old.directives)
+    × (new.settings ≡ old.settings) × (new.starved ≡ old.starved)
+
 -- it was written, and the innermost collection is in that phase
-pub record Places (old new : Core) (behind : Phase) (put : Layout) : Type 0 where
-  pub puts : Puts old.sink new.sink put
-  pub levels : stack_of new.levels ≡ turned behind (stack_of old.levels)
-  pub place : new.place ≡ old.place
-  pub directives : new.directives ≡ old.directives
-  pub settings : new.settings ≡ old.settings
-  pub starved : new.starved ≡ old.starved
+abbrev pub Places : Core → Core → Phase → Layout → Type 0
+Places old new behind put = Puts old.sink new.sink put × Turns old new behind

@@ -1,7 +1,9 @@
--- Scalars without properties that stand in their line in double quotes, in canonical form, and what begins a line there.
+-- Scalars without properties, or with the default tag alone, that stand in their line in double quotes, in canonical form, and what
+-- begins a line there.
 use Rattle.std.specs.Prelude.{◌≡◌, ℕ, ◌+◌, Bool, true, false, not, ◌&&◌, ◌||◌, nat_le, List, [], ◌∷◌, Option, Some, None}
 use Rattle.std.specs.Str.{chars}
 use Rattle.yaml_types.specs.Ascii as ascii
+use Rattle.yaml_emit_tags.specs.parse_model.Events.{TagDirective}
 use Rattle.yaml_emit_tags.specs.parse_model.Nodes.{str_tag}
 use Rattle.yaml_emit_tags.specs.Tags.{tag_spelling}
 use Rattle.yaml_emit_text.specs.declared.LineStart.{LineStart}
@@ -12,7 +14,7 @@ use Rattle.yaml_emit_layout.specs.declared.Level.{Level}
 use Rattle.yaml_emit_layout.specs.declared.Phase.{Phase}
 use Rattle.yaml_emit_layout.specs.declared.Phase.TheVariants.{Items, Keys, Value}
 use Rattle.yaml_emit_layout.specs.Content as said
-use Rattle.yaml_emit_layout.specs.Grammar.{has}
+use Rattle.yaml_emit_state.specs.Bare.{has_none}
 use Rattle.yaml_emit_layout.specs.Nodes.{MOST, deeper, checked, page_at}
 use Rattle.yaml_emit_layout.specs.State.{before_node, position_of}
 
@@ -54,22 +56,21 @@ pub record BeginsLine (s : Settings) (l : Level) : Type 0 where
 
 -- no anchor and no tag, which may be left out
 abbrev pub is_free : said.Scalar → Bool
-is_free x = not (has x.anchor) && (not (has x.tag) && (x.plain || x.quoted))
+is_free x = has_none x.anchor x.tag && (x.plain || x.quoted)
 
-abbrev pub IsFree : said.Event → Type 0
-IsFree (said.scalar x) = is_free x ≡ true
-IsFree e = ⊥
+-- it is, or it has no anchor and the default tag
+abbrev pub IsFramed : Bool → said.Scalar → Type 0
+IsFramed false x = is_free x ≡ true
+IsFramed true x = (x.anchor ≡ None) × (x.tag ≡ Some str_tag)
+
+-- what stands in front of its value: the tag, or what one without it has that may not be quoted
+abbrev pub front_text : Bool → List TagDirective → Bool → Layout
+front_text true directives quoted = word (tag_spelling directives str_tag)
+front_text false directives quoted = when (not quoted) (word (ascii.exclamation ∷ []))
 
 -- it, with what comes before it in the innermost collection
-abbrev pub framed_text : Settings → Option Level → Bool → List ℕ → Layout
-framed_text s top quoted v = before_node s top false
-    ▹ (when (not quoted) (word (ascii.exclamation ∷ []))
-    ▹ (checked (deeper s (position_of top false).around)
-    ▹ double_quoted (page_at s (position_of top false)) (chars v)))
-
--- a text with the default tag and without an anchor, where there is no directive, with the same before it
-abbrev pub tagged_text : Settings → Option Level → List ℕ → Layout
-tagged_text s top v = before_node s top false
-    ▹ (word (tag_spelling [] str_tag)
+abbrev pub framed_text : Settings → Option Level → Bool → List TagDirective → Bool → List ℕ → Layout
+framed_text s top tagged directives quoted v = before_node s top false
+    ▹ (front_text tagged directives quoted
     ▹ (checked (deeper s (position_of top false).around)
     ▹ double_quoted (page_at s (position_of top false)) (chars v)))

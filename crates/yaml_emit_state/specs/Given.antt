@@ -3,6 +3,8 @@ use Rattle.std.specs.Prelude.{◌≡◌, ℕ, Bool, true, false, List, Option, S
 use Rattle.std.specs.Str.{IsAscii}
 use Rattle.yaml_types.specs.Ascii as ascii
 use Rattle.yaml_scan_model.specs.declared.yaml_scalar_style_t.{yaml_scalar_style_t}
+use Rattle.yaml_scan_model.specs.declared.yaml_tag_directive_t.{yaml_tag_directive_t}
+use Rattle.yaml_scan_model.specs.declared.yaml_version_directive_t.{yaml_version_directive_t}
 use Rattle.yaml_parse_model.specs.Events.{text_of, directive_of}
 use Rattle.yaml_parse_model.specs.Nodes.{str_tag}
 use Rattle.yaml_emit_layout.specs.Content as said
@@ -10,7 +12,6 @@ use Rattle.yaml_emit_layout.specs.Nodes as nodes
 use Rattle.yaml_emit_state.specs.declared.given.Context.{Context}
 use Rattle.yaml_emit_state.specs.declared.given.Scalar.{Scalar}
 use Rattle.yaml_emit_state.specs.declared.given.Start.{Start}
-use Rattle.yaml_emit_state.specs.declared.given.Opening.{Opening}
 
 abbrev pub lent_context : Context → nodes.Context
 lent_context p = nodes.context_of p.settings.now p.directives.now
@@ -52,11 +53,21 @@ opening false q = said.mapping_start q
 abbrev pub opening_bracket : Bool → ℕ
 opening_bracket sequence = if sequence then ascii.open_bracket else ascii.open_brace
 
-abbrev pub lent_opening : Opening → said.Opening
-lent_opening o = record {
-  version = o.version;
-  directives = map directive_of o.directives.now;
-  implicit = o.implicit;
+-- what ends it
+abbrev pub ending : Bool → said.Event
+ending true = said.sequence_end
+ending false = said.mapping_end
+
+abbrev pub closing_bracket : Bool → ℕ
+closing_bracket sequence = if sequence then ascii.close_bracket else ascii.close_brace
+
+-- what opens a document
+abbrev pub opening_of : Option yaml_version_directive_t → List yaml_tag_directive_t → Bool
+    → said.Opening
+opening_of version directives implicit = record {
+  version = version;
+  directives = map directive_of directives;
+  implicit = implicit;
 }
 
 -- the name of an event: an alias's, or the anchor of a node

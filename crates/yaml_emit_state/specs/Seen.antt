@@ -1,8 +1,10 @@
 -- The handles of directives, as a set.
 use Rattle.std.specs.Prelude.{◌≡◌, ℕ, Bool, ◌||◌, List, [], ◌∷◌, ◌++◌, nat_eq, Option, Some, None, Result, Ok, Err}
 use Rattle.std.specs.Borrow.{Bor}
-use Rattle.std.specs.BTreeSet.{BTreeSet}
-use Rattle.std.specs.Cmp.Lexicographic.{pointwise}
+use Rattle.std.specs.BTreeSet.{BTreeSet, contains}
+use Rattle.std.specs.Cmp.Lexicographic.{pointwise, slice_cmp}
+use Rattle.std.specs.Ordering.{nat_cmp}
+use Rattle.std.specs.declared.cmp.Ordering.{Ordering}
 use Rattle.std.specs.List.{list_any}
 use Rattle.std.specs.declared.alloc.AllocError.{AllocError}
 use Rattle.yaml_parse_model.specs.Events.{TagDirective}
@@ -12,16 +14,20 @@ use Rattle.yaml_emit_layout.specs.Grammar.{has_handle, directive_problem}
 abbrev pub Handles : Type 0
 Handles = BTreeSet (Bor (List ℕ))
 
-abbrev pub is_among : List ℕ → Handles → Bool
-is_among h s = list_any (λ (k : Bor (List ℕ)). pointwise nat_eq k.now h) s.keys
+abbrev pub order : Bor (List ℕ) → Bor (List ℕ) → Ordering
+order a b = slice_cmp nat_cmp a.now b.now
+
+abbrev pub is_among : Bor (List ℕ) → Handles → Bool
+is_among h s = contains order s h
 
 -- a handle more
-abbrev pub Adds : List ℕ → Handles → Handles → Type 0
-Adds h old new = (g : List ℕ) → is_among g new ≡ (pointwise nat_eq h g || is_among g old)
+abbrev pub Adds : Bor (List ℕ) → Handles → Handles → Type 0
+Adds h old new = (g : Bor (List ℕ))
+    → is_among g new ≡ (pointwise nat_eq h.now g.now || is_among g old)
 
 -- the set has the handles of these directives, and no others
 abbrev pub HasHandles : Handles → List TagDirective → Type 0
-HasHandles s ds = (h : List ℕ) → is_among h s ≡ list_any (has_handle h) ds
+HasHandles s ds = (h : Bor (List ℕ)) → is_among h s ≡ list_any (has_handle h.now) ds
 
 -- a directive behind those of the set is judged, and where nothing is wrong with it the set has its handle too
 abbrev pub Judges : TagDirective → Handles → Result (Option Problem) AllocError → Handles → Type 0

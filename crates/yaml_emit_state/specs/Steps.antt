@@ -12,7 +12,7 @@ use Rattle.yaml_emit_layout.specs.declared.Expected.{Expected}
 use Rattle.yaml_emit_layout.specs.declared.Expected.TheVariants as at
 use Rattle.yaml_emit_layout.specs.declared.Phase.{Phase}
 use Rattle.yaml_emit_layout.specs.declared.Phase.TheVariants.{Items, Keys}
-use Rattle.yaml_emit_layout.specs.Content.{Event, document_start, sequence_start, mapping_start}
+use Rattle.yaml_emit_layout.specs.Content.{Event, no_event, stream_start, stream_end, document_start, document_end, sequence_start, mapping_start}
 use Rattle.yaml_emit_layout.specs.State.{State, placed, piece, next, problem_at, top_of, position_of, opened, depth_at}
 use Rattle.yaml_emit_layout.specs.Nodes.{indented, indent_of, checked, context_of}
 use Rattle.yaml_emit_state.specs.declared.state.Core.{Core}
@@ -44,6 +44,21 @@ first_phase false = Keys true
 abbrev pub is_document_start : Event → Bool
 is_document_start (document_start o) = true
 is_document_start e = false
+
+-- it opens a collection
+abbrev pub opens : Event → Bool
+opens (sequence_start p) = true
+opens (mapping_start p) = true
+opens e = false
+
+-- it begins or ends the stream or a document, or is none
+abbrev pub is_outer : Event → Bool
+is_outer no_event = true
+is_outer (stream_start x) = true
+is_outer stream_end = true
+is_outer (document_start o) = true
+is_outer (document_end implicit) = true
+is_outer e = false
 
 abbrev pub is_going : Status → Bool
 is_going Going = true
@@ -90,17 +105,15 @@ StaysBut old new = (new.settings ≡ old.settings) × (new.sink ≡ old.sink)
 
 -- a collection was opened, behind its properties
 pub record OpensCollection (s : Settings) (old new : Core)
-    (simple empty flow sequence : Bool) : Type 0 where
+    (simple flow sequence : Bool) : Type 0 where
   pub settings : new.settings ≡ old.settings
   pub state : new.sink.status ≡ Going →
-      let at = position_of (top_of (stack_of old.levels)) simple in
-      let f = s.canonical || (at.flow || (flow || empty)) in
       state_of new ≡ opened (state_of old).directives (stack_of old.levels) simple
-      (first_phase sequence) f (indent_of s at sequence f old.sink.cursor)
+      (first_phase sequence) flow (indent_of s (position_of (top_of (stack_of old.levels)) simple)
+      sequence flow old.sink.cursor)
   pub cursor : new.sink.status ≡ Going → new.sink.cursor ≡ old.sink.cursor
-  pub text : let at = position_of (top_of (stack_of old.levels)) simple in
-      Puts old.sink new.sink (indented
-      (indent_of s at sequence (s.canonical || (at.flow || (flow || empty)))) checked)
+  pub text : Puts old.sink new.sink (indented
+      (indent_of s (position_of (top_of (stack_of old.levels)) simple) sequence flow) checked)
   pub memory : Notes true old new
   pub halts : Halts old new
 

@@ -1,13 +1,10 @@
 //! Short scalars without properties, in pretty form: tame texts, which are plain wherever they stand, and those in double quotes.
-ghost use Rattle.std.specs.List.{list_all};
-ghost use Rattle.std.specs.Prelude.{◌≡◌, ◌≤◌, ◌+◌, None, true, false, not, ◌&&◌, ◌||◌, length};
+ghost use Rattle.std.specs.Prelude.{◌≡◌, ◌≤◌, ◌+◌, true, ◌&&◌, ◌||◌, length};
 ghost use Rattle.yaml_parse_model.specs.Events.{text_of, body_of};
-ghost use Rattle.yaml_emit_text.specs.Runs.{is_even};
-ghost use Rattle.yaml_emit_text.specs.Tame.{IsTame, asks_plain, standing};
+ghost use Rattle.yaml_emit_text.specs.Tame.{Stands, asks_plain, standing};
 ghost use Rattle.yaml_emit_layout.specs.Content.{emitter_event};
 ghost use Rattle.yaml_emit_layout.specs.Grammar.{has};
-ghost use Rattle.yaml_emit_state.specs.Framed.{IsFree};
-ghost use Rattle.yaml_emit_state.specs.Bare.{is_unmarked, most_short, IsInlineEvent, is_double, is_framed, is_shallow};
+ghost use Rattle.yaml_emit_state.specs.Bare.{has_none, most_short, IsInlineEvent, is_asked, is_double, is_shallow};
 
 use crate::indent::is_not_deep;
 use yaml_emit_layout::Level;
@@ -38,80 +35,6 @@ fn asks_plain(style: yaml_scalar_style_t) -> bool
     }
 }
 
-// Whether no anchor and no tag stands there, and a scalar may be plain and is asked to be.
-fn is_unmarked(
-    anchor: &Option<Vec<u8>>,
-    tag: &Option<Vec<u8>>,
-    plain: bool,
-    style: yaml_scalar_style_t,
-) -> bool
-    ensures { result ≡ is_unmarked (text_of anchor.now) (text_of tag.now) plain style }
-{
-    !is_given(anchor) && !is_given(tag) && plain && asks_plain(style)
-}
-
-/// Whether no anchor and no tag stands there.
-pub fn has_none(anchor: &Option<Vec<u8>>, tag: &Option<Vec<u8>>) -> bool
-    ensures anchor { result ≡ true → text_of anchor.now ≡ None }
-    ensures tag { result ≡ true → text_of tag.now ≡ None }
-{
-    !is_given(anchor) && !is_given(tag)
-}
-
-// Whether no anchor and no tag stands there, and a tag may be left out.
-fn is_free_by(anchor: &Option<Vec<u8>>, tag: &Option<Vec<u8>>, plain: bool, quoted: bool) -> bool
-    ensures { result ≡ (not (has (text_of anchor.now))
-        && (not (has (text_of tag.now)) && (plain || quoted))) }
-{
-    !is_given(anchor) && !is_given(tag) && (plain || quoted)
-}
-
-/// Whether an event is a scalar without anchor and tag, which may be left out.
-// Inlined: some tests.
-#[inline(always)]
-pub fn is_free(event: &yaml_event_body_t) -> bool
-    ensures { result ≡ true → IsFree (emitter_event (body_of event.now)) }
-{
-    match event {
-        yaml_event_body_t::Scalar {
-            anchor,
-            tag,
-            plain_implicit,
-            quoted_implicit,
-            ..
-        } => is_free_by(anchor, tag, *plain_implicit, *quoted_implicit),
-        _ => false,
-    }
-}
-
-// Inlined: a test and a loop.
-#[inline(always)]
-fn is_bare_value(value: &[u8]) -> bool
-    ensures few { result ≡ true → length value.now ≤ most_short }
-    ensures tame { result ≡ true → IsTame value.now }
-{
-    value.len() <= MOST && is_tame(value)
-}
-
-/// Whether an event is a bare scalar.
-// Inlined: some tests and a loop.
-#[inline(always)]
-pub fn is_bare(event: &yaml_event_body_t) -> bool
-    ensures { result ≡ true → IsInlineEvent false (emitter_event (body_of event.now)) }
-{
-    match event {
-        yaml_event_body_t::Scalar {
-            anchor,
-            tag,
-            value,
-            plain_implicit,
-            style,
-            ..
-        } => { is_unmarked(anchor, tag, *plain_implicit, *style) && is_bare_value(value) }
-        _ => false,
-    }
-}
-
 fn is_double(style: yaml_scalar_style_t) -> bool
     ensures { result ≡ is_double style }
 {
@@ -121,42 +44,65 @@ fn is_double(style: yaml_scalar_style_t) -> bool
     }
 }
 
-// Whether no anchor and no tag stands there, and a scalar may be quoted and is asked to be, in double quotes.
-fn is_framed_by(
-    anchor: &Option<Vec<u8>>,
-    tag: &Option<Vec<u8>>,
-    quoted: bool,
-    style: yaml_scalar_style_t,
-) -> bool
-    ensures { result ≡ is_framed (text_of anchor.now) (text_of tag.now) quoted style }
+/// Whether no anchor and no tag stands there.
+pub fn has_none(anchor: &Option<Vec<u8>>, tag: &Option<Vec<u8>>) -> bool
+    ensures { result ≡ has_none (text_of anchor.now) (text_of tag.now) }
 {
-    !is_given(anchor) && !is_given(tag) && quoted && is_double(style)
+    !is_given(anchor) && !is_given(tag)
 }
 
+/// Whether no anchor and no tag stands there, and a tag may be left out.
+pub fn is_free(anchor: &Option<Vec<u8>>, tag: &Option<Vec<u8>>, plain: bool, quoted: bool) -> bool
+    ensures { result ≡ (has_none (text_of anchor.now) (text_of tag.now) && (plain || quoted)) }
+{
+    has_none(anchor, tag) && (plain || quoted)
+}
+
+// Whether a scalar may be plain, or quoted, and is asked to be: plain, or in double quotes.
+fn is_asked(framed: bool, plain: bool, quoted: bool, style: yaml_scalar_style_t) -> bool
+    ensures { result ≡ is_asked framed plain quoted style }
+{
+    if framed {
+        quoted && is_double(style)
+    } else {
+        plain && asks_plain(style)
+    }
+}
+
+// Whether a value is short, and may stand in a line: plain, or in double quotes.
 // Inlined: a test and a loop.
 #[inline(always)]
-fn is_even_value(value: &[u8]) -> bool
+fn is_short(quoted: bool, value: &[u8]) -> bool
     ensures few { result ≡ true → length value.now ≤ most_short }
-    ensures even { result ≡ true → list_all is_even value.now ≡ true }
+    ensures stands { result ≡ true → Stands quoted value.now }
 {
-    value.len() <= MOST && are_even(value)
+    value.len() <= MOST
+        && if quoted {
+            are_even(value)
+        } else {
+            is_tame(value)
+        }
 }
 
-/// Whether an event is a short scalar without properties that is asked to be in double quotes, and may be, in a line.
+/// Whether an event is a short scalar without properties that is asked to be plain, or in double quotes, and may be, in a line.
 // Inlined: some tests and a loop.
 #[inline(always)]
-pub fn is_framed(event: &yaml_event_body_t) -> bool
-    ensures { result ≡ true → IsInlineEvent true (emitter_event (body_of event.now)) }
+pub fn is_inline(event: &yaml_event_body_t, framed: bool) -> bool
+    ensures { result ≡ true → IsInlineEvent framed (emitter_event (body_of event.now)) }
 {
     match event {
         yaml_event_body_t::Scalar {
             anchor,
             tag,
             value,
+            plain_implicit,
             quoted_implicit,
             style,
-            ..
-        } => { is_framed_by(anchor, tag, *quoted_implicit, *style) && is_even_value(value) }
+        } => {
+            has_none(anchor, tag)
+                && is_asked(framed, *plain_implicit, *quoted_implicit, *style)
+                && is_short(framed, value)
+        }
         _ => false,
     }
 }

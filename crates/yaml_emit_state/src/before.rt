@@ -1,25 +1,16 @@
 //! What comes before nodes in their collections, and what ends these.
-ghost use Rattle.std.specs.Prelude.{◌≡◌, ◌∷◌, [], None, Some, true, false, not, ◌&&◌, ◌-◌, ◌+◌, ◌<◌, nat_le};
+ghost use Rattle.std.specs.Prelude.{◌≡◌, None, Some, true, false, not, ◌&&◌, ◌-◌, ◌<◌};
 ghost use Rattle.yaml_types.specs.Ascii as ascii;
 ghost use Rattle.yaml_emit_text.specs.Sink.{Puts};
-ghost use Rattle.yaml_emit_text.specs.Layout.{◌▹◌, stay, when, char, word, opener};
-ghost use Rattle.yaml_emit_layout.specs.Nodes.{comma, turned, question, before_item, before_key, before_value, closer, line_at, wrap_at, checked};
-ghost use Rattle.yaml_emit_layout.specs.State.{before_at, before_node, closer_at, is_fresh};
+ghost use Rattle.yaml_emit_text.specs.Layout.{◌▹◌, when, char};
+ghost use Rattle.yaml_emit_layout.specs.Nodes.{comma, turned, question, before_item, before_key, before_value, closer, line_at};
+ghost use Rattle.yaml_emit_layout.specs.State.{before_node, closer_at, is_fresh};
 ghost use Rattle.yaml_emit_state.specs.Framed.{has_comma, mark_of, is_behind_simple, line_start, BeginsLine};
-ghost use Rattle.yaml_emit_state.specs.Given.{opening_bracket};
+ghost use Rattle.yaml_emit_state.specs.Given.{opening_bracket, closing_bracket};
 
 use crate::indent::is_not_deep;
 use yaml_emit_layout::{Level, Phase};
 use yaml_emit_text::{LineStart, Settings, Sink};
-
-/// A space behind an alias that is a simple key.
-pub fn put_blank_if(sink: &mut Sink, due: bool)
-    ensures { Puts sink.old sink.new (when due (char ascii.space)) }
-{
-    if due {
-        sink.put(' ');
-    }
-}
 
 // Inlined: it is a byte, or a test in front of one.
 #[inline(always)]
@@ -112,41 +103,25 @@ pub fn put_before_value(sink: &mut Sink, settings: &Settings, flow: bool, indent
     }
 }
 
-// Inlined into its one caller.
-#[inline(always)]
-fn put_before_in(sink: &mut Sink, settings: &Settings, level: Level, simple: bool)
-    ensures { Puts sink.old sink.new (before_at settings.now level.phase level.flow level.indent
-        simple) }
-{
-    match level.phase {
-        Phase::Items(fresh) => put_before_item(sink, settings, level.flow, level.indent, fresh),
-        Phase::Keys(fresh) => put_before_key(
-            sink,
-            settings,
-            level.flow,
-            level.indent,
-            fresh,
-            simple,
-        ),
-        Phase::Value(was_simple) => put_before_value(
-            sink,
-            settings,
-            level.flow,
-            level.indent,
-            was_simple,
-        ),
-    }
-}
-
 /// What comes before a node in the innermost collection, by whether the node is a simple key.
 // Inlined: where the form is known it is a few bytes and a line.
 #[inline(always)]
 pub fn put_before(sink: &mut Sink, settings: &Settings, top: &Option<Level>, simple: bool)
     ensures { Puts sink.old sink.new (before_node settings.now top.now simple) }
 {
-    match top {
+    match *top {
         None => (),
-        Some(level) => put_before_in(sink, settings, *level, simple),
+        Some(
+            Level {
+                phase,
+                flow,
+                indent,
+            },
+        ) => match phase {
+            Phase::Items(fresh) => put_before_item(sink, settings, flow, indent, fresh),
+            Phase::Keys(fresh) => put_before_key(sink, settings, flow, indent, fresh, simple),
+            Phase::Value(was_simple) => put_before_value(sink, settings, flow, indent, was_simple),
+        },
     }
 }
 
@@ -172,51 +147,39 @@ fn put_end(sink: &mut Sink, due: bool, settings: &Settings, indent: u64, c: u8)
     }
 }
 
-// Inlined: where the form is known it is short.
-#[inline(always)]
-#[tactic(auto, unfolding(yaml_emit_layout::specs::Nodes::closer))]
-fn put_closer(sink: &mut Sink, settings: &Settings, flow: bool, indent: u64, fresh: bool, c: u8)
-    requires { c < 128 }
-    ensures { Puts sink.old sink.new (closer settings.now flow indent fresh c) }
-{
-    if flow {
-        put_end(
-            sink,
-            settings.canonical && !fresh,
-            settings,
-            indent.saturating_sub(settings.indent),
-            c,
-        );
-    }
-}
-
-fn is_fresh_phase(phase: Phase) -> bool
-    ensures { result ≡ is_fresh phase }
+// Whether a comma and a line come before what ends a collection.
+fn ends_apart(canonical: bool, phase: Phase) -> bool
+    ensures { result ≡ (canonical && not (is_fresh phase)) }
 {
     match phase {
-        Phase::Items(fresh) => fresh,
-        Phase::Keys(fresh) => fresh,
-        Phase::Value(_) => false,
+        Phase::Items(fresh) => canonical && !fresh,
+        Phase::Keys(fresh) => canonical && !fresh,
+        Phase::Value(_) => canonical,
     }
 }
 
 /// What ends the innermost collection.
-// Inlined: where the form is known it is short.
+// Inlined: a test in front of some stores.
 #[inline(always)]
+#[tactic(auto, unfolding(yaml_emit_layout::specs::Nodes::closer))]
 pub fn put_closer_at(sink: &mut Sink, settings: &Settings, top: &Option<Level>, c: u8)
     requires { c < 128 }
     ensures { Puts sink.old sink.new (closer_at settings.now top.now c) }
 {
     match top {
         None => (),
-        Some(level) => put_closer(
-            sink,
-            settings,
-            level.flow,
-            level.indent,
-            is_fresh_phase(level.phase),
-            c,
-        ),
+        Some(level) => {
+            if level.flow {
+                let due = ends_apart(settings.canonical, level.phase);
+                put_end(
+                    sink,
+                    due,
+                    settings,
+                    level.indent.saturating_sub(settings.indent),
+                    c,
+                );
+            }
+        }
     }
 }
 
@@ -229,15 +192,13 @@ pub fn opening_bracket(sequence: bool) -> u8
     if sequence { b'[' } else { b'{' }
 }
 
-/// What opens a flow collection.
-// Inlined: it is a byte or two, for which there is room.
+/// The bracket that ends a sequence or a mapping.
+// Inlined: mostly which it is is known.
 #[inline(always)]
-pub fn put_opener_if(sink: &mut Sink, flow: bool, c: char)
-    ensures { Puts sink.old sink.new (when flow (opener c)) }
+pub fn closing_bracket(sequence: bool) -> u8
+    ensures { result ≡ closing_bracket sequence }
 {
-    if flow {
-        sink.put_opener(c);
-    }
+    if sequence { b']' } else { b'}' }
 }
 
 fn has_comma(phase: Phase) -> bool

@@ -1,16 +1,18 @@
 //! What opens and ends documents.
-ghost use Rattle.std.specs.Prelude.{◌≡◌, ◌∷◌, [], None, Some, true, false, not, ◌&&◌, ◌||◌, map};
-ghost use Rattle.yaml_parse_model.specs.Events.{directive_of};
+ghost use Rattle.std.specs.Prelude.{◌≡◌, Bool, List, Option, None, Some, true, false, not, ◌&&◌, ◌||◌, map};
+ghost use Rattle.yaml_parse_model.specs.Events.{directive_of, body_of};
 ghost use Rattle.yaml_emit_text.specs.Sink.{Puts};
-ghost use Rattle.yaml_emit_text.specs.Layout.{◌▹◌, stay, when, choose, char, word, keep};
-ghost use Rattle.yaml_emit_layout.specs.Nodes.{dots, version_text, directives_text, directive_text, has_version, has_directives, dashes, is_kept, start_layout, end_layout, stop_layout, line_at, version_word};
-ghost use Rattle.yaml_emit_layout.specs.State.{start_at, stop_at};
-ghost use Rattle.yaml_emit_state.specs.Given.{lent_opening};
+ghost use Rattle.yaml_emit_text.specs.Layout.{◌▹◌, when, word, keep};
+ghost use Rattle.yaml_emit_layout.specs.Nodes.{dots, version_text, directives_text, directive_text, has_version, has_directives, dashes, end_layout, stop_layout, version_word, context_of};
+ghost use Rattle.yaml_emit_layout.specs.State.{start_at, stop_at, text_at};
+ghost use Rattle.yaml_emit_layout.specs.Content.{emitter_event};
+ghost use Rattle.yaml_emit_state.specs.Given.{opening_of};
+ghost use Rattle.yaml_emit_state.specs.Steps.{is_outer};
 
-use crate::given::Opening;
 use yaml_emit_layout::Expected;
 use yaml_emit_tags::put_prefix;
 use yaml_emit_text::{Settings, Sink};
+use yaml_parse_model::yaml_event_body_t;
 use yaml_scan_model::{yaml_tag_directive_t, yaml_version_directive_t};
 
 fn put_dots(sink: &mut Sink, settings: &Settings)
@@ -28,9 +30,9 @@ fn put_dots_if(sink: &mut Sink, due: bool, settings: &Settings)
     }
 }
 
-/// What ends a document.
+// What ends a document.
 #[tactic(auto, unfolding(yaml_emit_layout::specs::Nodes::end_layout))]
-pub fn put_end(sink: &mut Sink, settings: &Settings, implicit: bool)
+fn put_end(sink: &mut Sink, settings: &Settings, implicit: bool)
     ensures { Puts sink.old sink.new (end_layout settings.now implicit) }
 {
     sink.put_line(settings.line_break, 0);
@@ -78,21 +80,15 @@ fn put_directives(sink: &mut Sink, settings: &Settings, directives: &[yaml_tag_d
     }
 }
 
-fn put_line_where_due(sink: &mut Sink, due: bool, settings: &Settings)
-    ensures { Puts sink.old sink.new (when due (line_at settings.now 0)) }
-{
-    if due {
-        sink.put_line(settings.line_break, 0);
-    }
-}
-
 fn put_dashes_if(sink: &mut Sink, due: bool, settings: &Settings)
     ensures { Puts sink.old sink.new (when due (dashes settings.now)) }
 {
     if due {
         sink.put_line(settings.line_break, 0);
         sink.put_word(b"---");
-        put_line_where_due(sink, settings.canonical, settings);
+        if settings.canonical {
+            sink.put_line(settings.line_break, 0);
+        }
     }
 }
 
@@ -127,69 +123,82 @@ fn put_opening(
 }
 
 // `...` parts directives from a document that ended implicitly.
-fn is_parted(
-    unended: bool,
-    version: Option<yaml_version_directive_t>,
-    directives: &[yaml_tag_directive_t],
-) -> bool
-    ensures { result ≡ (unended && (has_version version || has_directives
-        (map directive_of directives.now))) }
+fn is_parted(unended: bool, directed: bool) -> bool
+    ensures { result ≡ (unended && directed) }
 {
-    unended && is_directed(version, directives)
+    unended && directed
 }
 
 // Whether `---` is due.
-fn is_marked(settings: &Settings, first: bool, opening: &Opening) -> bool
-    ensures { result ≡ (settings.now.canonical
-        || not (first && (opening.now.implicit && not (has_version opening.now.version
-        || has_directives (map directive_of opening.now.directives.now))))) }
+fn is_marked(canonical: bool, first: bool, implicit: bool, directed: bool) -> bool
+    ensures { result ≡ (canonical || not (first && (implicit && not directed))) }
 {
-    let directed = is_directed(opening.version, opening.directives);
-    settings.canonical || !(first && (opening.implicit && !directed))
+    canonical || !(first && (implicit && !directed))
 }
 
-/// What opens a document, where one may come.
-pub fn put_start_at(sink: &mut Sink, settings: &Settings, place: Expected, opening: &Opening)
-    ensures { Puts sink.old sink.new (start_at settings.now place (lent_opening opening.now)) }
+// What opens a document, where one may come.
+fn put_start_at(
+    sink: &mut Sink,
+    settings: &Settings,
+    place: Expected,
+    version: Option<yaml_version_directive_t>,
+    directives: &[yaml_tag_directive_t],
+    implicit: bool,
+)
+    ensures { Puts sink.old sink.new (start_at settings.now place
+        (opening_of version directives.now implicit)) }
 {
     match place {
         Expected::Documents(first, unended) => {
-            let Opening {
-                version,
-                directives,
-                ..
-            } = *opening;
-            let marked = is_marked(settings, first, opening);
-            put_dots_if(sink, is_parted(unended, version, directives), settings);
+            let directed = is_directed(version, directives);
+            let marked = is_marked(settings.canonical, first, implicit, directed);
+            put_dots_if(sink, is_parted(unended, directed), settings);
             put_opening(sink, settings, marked, version, directives);
         }
         _ => (),
     }
 }
 
-fn put_kept_dots(sink: &mut Sink, settings: &Settings)
-    ensures { Puts sink.old sink.new (choose is_kept (dots settings.now) stay) }
-{
-    if sink.cursor().kept {
-        put_dots(sink, settings);
-    }
-}
-
+// What ends the stream.
 #[tactic(auto, unfolding(yaml_emit_layout::specs::Nodes::stop_layout))]
-fn put_stop(sink: &mut Sink, settings: &Settings, unended: bool)
-    ensures { Puts sink.old sink.new (stop_layout settings.now unended) }
-{
-    if unended {
-        put_kept_dots(sink, settings);
-    }
-}
-
-/// What ends the stream.
-pub fn put_stop_at(sink: &mut Sink, settings: &Settings, place: Expected)
+fn put_stop_at(sink: &mut Sink, settings: &Settings, place: Expected)
     ensures { Puts sink.old sink.new (stop_at settings.now place) }
 {
     match place {
-        Expected::Documents(_, unended) => put_stop(sink, settings, unended),
+        Expected::Documents(_, unended) => {
+            if unended && sink.cursor().kept {
+                put_dots(sink, settings);
+            }
+        }
+        _ => (),
+    }
+}
+
+/// What begins and ends the stream and its documents.
+#[tactic(auto, unfolding(yaml_emit_layout::specs::State::text_at))]
+pub fn put_outer(sink: &mut Sink, settings: &Settings, place: Expected, event: &yaml_event_body_t)
+    requires outer { is_outer (emitter_event (body_of event.now)) ≡ true }
+    requires encoding { settings.now.encoding ≡ sink.old.encoding }
+    ensures { (directives : List _) (top : Option _) (empty : Bool) → Puts sink.old sink.new
+        (text_at (context_of settings.now directives) place top
+        (emitter_event (body_of event.now)) empty) }
+{
+    match event {
+        yaml_event_body_t::StreamStart { .. } => sink.put_order_mark(),
+        yaml_event_body_t::StreamEnd => put_stop_at(sink, settings, place),
+        yaml_event_body_t::DocumentStart {
+            version_directive,
+            tag_directives,
+            implicit,
+        } => put_start_at(
+            sink,
+            settings,
+            place,
+            *version_directive,
+            tag_directives,
+            *implicit,
+        ),
+        yaml_event_body_t::DocumentEnd { implicit } => put_end(sink, settings, *implicit),
         _ => (),
     }
 }

@@ -1,12 +1,11 @@
 //! Where nodes stand, and how deep.
-ghost use Rattle.std.specs.Prelude.{◌≡◌, ◌≢◌, ◌≤◌, ◌<◌, ◌+◌, nat_le, ℕ, None, Some, true, false, not, ◌&&◌, ◌||◌};
-ghost use Rattle.yaml_emit_text.specs.Sink.{Puts};
-ghost use Rattle.yaml_emit_layout.specs.Nodes.{deeper, block_indent_in, indent_of, is_of_mapping, is_simple_part, checked, is_flow};
+ghost use Rattle.std.specs.Prelude.{◌≡◌, ◌<◌, ◌+◌, nat_le, None, Some, true, false, ◌&&◌, ◌||◌};
+ghost use Rattle.yaml_emit_layout.specs.Nodes.{deeper, block_indent_in, indent_of, is_of_mapping, is_simple_part, is_flow};
 ghost use Rattle.yaml_emit_layout.specs.State.{position_of, part_at};
 ghost use Rattle.yaml_emit_state.specs.Stack.{within};
 
 use yaml_emit_layout::{Level, NodePosition, Part, Phase};
-use yaml_emit_text::{Cursor, Settings, Sink, Status};
+use yaml_emit_text::{Cursor, Settings};
 
 // The largest indentation, in columns.
 const MOST: u64 = 2147483647;
@@ -131,16 +130,4 @@ pub fn is_flow(settings: &Settings, position: NodePosition, flow: bool, empty: b
     ensures { result ≡ (settings.now.canonical || (position.flow || (flow || empty))) }
 {
     settings.canonical || position.flow || flow || empty
-}
-
-/// An indentation that is too deep stops the output.
-pub fn put_checked(sink: &mut Sink, indent: Option<u64>)
-    ensures text { (n : ℕ) → indent ≡ within n → Puts sink.old sink.new (checked n) }
-    ensures stopped { indent ≡ None → sink.new.status ≢ Status.Going }
-    ensures same { indent ≢ None → sink.new ≡ sink.old }
-{
-    match indent {
-        None => sink.put_too_deep(),
-        Some(_) => (),
-    }
 }

@@ -1,15 +1,14 @@
 //! What is wrong with an event: its names, its tag, its place, and its directives or flags.
 ghost use Rattle.std.specs.List.{list_all};
-ghost use Rattle.std.specs.Prelude.{◌≡◌, ◌∷◌, [], None, Some, true, false, if◌then◌else◌, not, ◌&&◌, ◌||◌, length, map, ◌≤◌, IfOk, OnOk, OnErr};
+ghost use Rattle.std.specs.Prelude.{◌≡◌, [], None, Some, true, false, if◌then◌else◌, ◌&&◌, ◌||◌, map, IfOk, OnOk, OnErr};
 ghost use Rattle.yaml_scan_model.specs.Classes.{is_alpha_byte};
 ghost use Rattle.yaml_parse_model.specs.Events.{text_of, directive_of, body_of};
 ghost use Rattle.yaml_emit_layout.specs.Content.{emitter_event};
-ghost use Rattle.yaml_emit_layout.specs.Grammar.{has, name_problem, anchor_problem, tag_problem, kept_tag, event_problem, version_problem, handle_problem, prefix_problem, directives_problem, opening_problem, flags_problem, last_problem, ends_phase, begins_node, may_come, node_problem, place_problem, problem_by, between, inner_problem, ends_problem, is_version, or_else};
+ghost use Rattle.yaml_emit_layout.specs.Grammar.{name_problem, anchor_problem, tag_problem, kept_tag, event_problem, version_problem, handle_problem, directives_problem, last_problem, ends_phase, begins_node, node_problem, place_problem, problem_by, or_else};
 ghost use Rattle.yaml_emit_state.specs.Seen.{is_among, Adds, Judges};
 ghost use Rattle.yaml_emit_state.specs.Steps.{is_document_start};
 
 use crate::bare::is_given;
-use crate::handles::add;
 use std::alloc::{AllocError, Global};
 use std::collections::BTreeSet;
 use yaml_emit_layout::{Expected, Level, Phase, Problem};
@@ -140,19 +139,13 @@ fn event_problem(canonical: bool, event: &yaml_event_body_t) -> Option<Problem>
     }
 }
 
-fn is_version(version: yaml_version_directive_t) -> bool
-    ensures { result ≡ is_version version }
-{
-    version.major == 1 && (version.minor == 1 || version.minor == 2)
-}
-
 fn version_problem(version: Option<yaml_version_directive_t>) -> Option<Problem>
     ensures { result ≡ version_problem version }
 {
     match version {
         None => None,
         Some(version) => {
-            if is_version(version) {
+            if version.major == 1 && (version.minor == 1 || version.minor == 2) {
                 None
             } else {
                 Some(Problem::Version)
@@ -161,49 +154,21 @@ fn version_problem(version: Option<yaml_version_directive_t>) -> Option<Problem>
     }
 }
 
-fn inner_problem(handle: &[u8]) -> Option<Problem>
-    requires { 1 ≤ length handle.now }
-    ensures { result ≡ inner_problem handle.now }
-{
-    if handle.len() < 2 || are_alphas(&handle[1..handle.len() - 1]) {
-        None
-    } else {
-        Some(Problem::HandleCharacters)
-    }
-}
-
 // The first and the last byte of a handle are `!`.
-fn ends_problem(handle: &[u8]) -> Option<Problem>
-    requires { 1 ≤ length handle.now }
-    ensures { result ≡ ends_problem handle.now }
-{
-    if handle[0] != b'!' {
-        Some(Problem::HandleStart)
-    } else if handle[handle.len() - 1] != b'!' {
-        Some(Problem::HandleEnd)
-    } else {
-        inner_problem(handle)
-    }
-}
-
 #[tactic(auto, unfolding(yaml_emit_layout::specs::Grammar::handle_problem))]
 fn handle_problem(handle: &[u8]) -> Option<Problem>
     ensures { result ≡ handle_problem handle.now }
 {
     if handle.is_empty() {
         Some(Problem::HandleEmpty)
-    } else {
-        ends_problem(handle)
-    }
-}
-
-fn empty_problem(text: &[u8]) -> Option<Problem>
-    ensures { result ≡ prefix_problem text.now }
-{
-    if text.is_empty() {
-        Some(Problem::PrefixEmpty)
-    } else {
+    } else if handle[0] != b'!' {
+        Some(Problem::HandleStart)
+    } else if handle[handle.len() - 1] != b'!' {
+        Some(Problem::HandleEnd)
+    } else if handle.len() < 2 || are_alphas(&handle[1..handle.len() - 1]) {
         None
+    } else {
+        Some(Problem::HandleCharacters)
     }
 }
 
@@ -211,11 +176,11 @@ fn twice_problem<'a>(
     seen: &mut BTreeSet<&'a [u8]>,
     handle: &'a [u8],
 ) -> Result<Option<Problem>, AllocError>
-    ensures problem { IfOk result (λ p. p ≡ (if is_among handle.now seen.old
+    ensures problem { IfOk result (λ p. p ≡ (if is_among handle.entry seen.old
         then Some Problem.HandleTwice else None)) }
-    ensures adds { OnOk result (Adds handle.now seen.old seen.new) }
+    ensures adds { OnOk result (Adds handle.entry seen.old seen.new) }
 {
-    if add(seen, handle)? {
+    if seen.insert(handle)? {
         Ok(None)
     } else {
         Ok(Some(Problem::HandleTwice))
@@ -232,8 +197,8 @@ fn directive_problem<'a>(
     if let Some(problem) = handle_problem(&directive.handle) {
         return Ok(Some(problem));
     }
-    if let Some(problem) = empty_problem(&directive.prefix) {
-        return Ok(Some(problem));
+    if directive.prefix.is_empty() {
+        return Ok(Some(Problem::PrefixEmpty));
     }
     twice_problem(seen, &directive.handle)
 }
@@ -254,31 +219,6 @@ fn directives_problem(
     Ok(None)
 }
 
-fn opening_problem(
-    alloc: Global,
-    version: Option<yaml_version_directive_t>,
-    directives: &[yaml_tag_directive_t],
-) -> Result<Option<Problem>, AllocError>
-    ensures { IfOk result (λ p. p ≡ or_else (version_problem version)
-        (directives_problem [] (map directive_of directives.now))) }
-{
-    match version_problem(version) {
-        Some(problem) => Ok(Some(problem)),
-        None => directives_problem(alloc, directives),
-    }
-}
-
-fn flags_problem(tag: &Option<Vec<u8>>, plain: bool, quoted: bool) -> Option<Problem>
-    ensures { result ≡ (if has (text_of tag.now) || (plain || quoted) then None
-        else Some Problem.NoFlags) }
-{
-    if is_given(tag) || (plain || quoted) {
-        None
-    } else {
-        Some(Problem::NoFlags)
-    }
-}
-
 // Inlined: where the kind is known one arm is left.
 #[inline(always)]
 #[tactic(auto, unfolding(yaml_emit_layout::specs::Grammar::last_problem))]
@@ -291,13 +231,22 @@ fn last_problem(alloc: Global, event: &yaml_event_body_t) -> Result<Option<Probl
             version_directive,
             tag_directives,
             ..
-        } => { opening_problem(alloc, *version_directive, tag_directives) }
+        } => match version_problem(*version_directive) {
+            Some(problem) => Ok(Some(problem)),
+            None => directives_problem(alloc, tag_directives),
+        },
         yaml_event_body_t::Scalar {
             tag,
             plain_implicit,
             quoted_implicit,
             ..
-        } => { Ok(flags_problem(tag, *plain_implicit, *quoted_implicit)) }
+        } => {
+            if is_given(tag) || *plain_implicit || *quoted_implicit {
+                Ok(None)
+            } else {
+                Ok(Some(Problem::NoFlags))
+            }
+        }
         _ => Ok(None),
     }
 }
@@ -332,24 +281,18 @@ fn ends_phase(phase: Phase, event: &yaml_event_body_t) -> bool
 
 // Inlined: where the kind is known one arm is left.
 #[inline(always)]
-fn may_come(top: Option<Level>, event: &yaml_event_body_t) -> bool
-    ensures { result ≡ may_come top (emitter_event (body_of event.now)) }
-{
-    match top {
-        None => begins_node(event),
-        Some(level) => begins_node(event) || ends_phase(level.phase, event),
-    }
-}
-
-// Inlined: where the kind is known one arm is left.
-#[inline(always)]
 fn node_problem(top: Option<Level>, event: &yaml_event_body_t) -> Option<Problem>
     ensures { result ≡ node_problem top (emitter_event (body_of event.now)) }
 {
-    if may_come(top, event) {
-        None
-    } else {
-        Some(Problem::ExpectedNode)
+    match top {
+        Some(level) if ends_phase(level.phase, event) => None,
+        _ => {
+            if begins_node(event) {
+                None
+            } else {
+                Some(Problem::ExpectedNode)
+            }
+        }
     }
 }
 
@@ -378,25 +321,6 @@ fn place_problem(place: Expected, top: Option<Level>, event: &yaml_event_body_t)
     }
 }
 
-// Inlined: where the kind is known one arm is left.
-#[inline(always)]
-fn late_problem(
-    alloc: Global,
-    place: Expected,
-    top: Option<Level>,
-    event: &yaml_event_body_t,
-) -> Result<Option<Problem>, AllocError>
-    ensures problem { IfOk result (λ p. p
-        ≡ or_else (place_problem place top (emitter_event (body_of event.now)))
-        (last_problem (emitter_event (body_of event.now)))) }
-    ensures refused { OnErr result (is_document_start (emitter_event (body_of event.now)) ≡ true) }
-{
-    match place_problem(place, top, event) {
-        Some(problem) => Ok(Some(problem)),
-        None => last_problem(alloc, event),
-    }
-}
-
 /// What is wrong with an event, if anything: in canonical form or in pretty form, at a place, in the innermost collection.
 /// Refused only for want of memory, where it opens a document with directives.
 // Inlined: where the kind is known it is a few tests.
@@ -413,8 +337,11 @@ pub fn problem_of(
         (emitter_event (body_of event.now))) }
     ensures refused { OnErr result (is_document_start (emitter_event (body_of event.now)) ≡ true) }
 {
-    match event_problem(canonical, event) {
-        Some(problem) => Ok(Some(problem)),
-        None => late_problem(alloc, place, top, event),
+    if let Some(problem) = event_problem(canonical, event) {
+        return Ok(Some(problem));
     }
+    if let Some(problem) = place_problem(place, top, event) {
+        return Ok(Some(problem));
+    }
+    last_problem(alloc, event)
 }

@@ -1,10 +1,9 @@
 //! Simple keys.
-ghost use Rattle.std.specs.Prelude.{Option, Bool, ◌≡◌, ◌∷◌, [], None, Some, true, false, not, ◌&&◌, ◌||◌, map, length, nat_le, ◌+◌, ◌≤◌, ◌<◌};
+ghost use Rattle.std.specs.Prelude.{Option, Bool, ◌≡◌, None, Some, true, false, ◌&&◌, ◌||◌, nat_le, ◌+◌, ◌<◌};
 ghost use Rattle.yaml_parse_model.specs.Events.{text_of, body_of};
 ghost use Rattle.yaml_emit_layout.specs.Content.{emitter_event, is_flow_sequence, is_flow_mapping};
 ghost use Rattle.yaml_emit_layout.specs.Grammar.{kept_tag};
-ghost use Rattle.yaml_emit_layout.specs.Nodes.{simple_key_bytes, properties_size, text_size, written_size, is_simple_scalar, is_simple_alias, is_simple_start};
-ghost use Rattle.yaml_emit_layout.specs.State.{is_simple_event};
+ghost use Rattle.yaml_emit_layout.specs.Nodes.{simple_key_bytes, text_size, written_size, is_simple_scalar, is_simple_alias, is_simple_start};
 ghost use Rattle.yaml_emit_text.specs.Tame.{IsTame};
 ghost use Rattle.yaml_types.specs.Classes.{has_break};
 ghost use Rattle.yaml_emit_state.specs.Due.{is_key_in, is_key, is_undecided_in, is_undecided};
@@ -29,24 +28,20 @@ fn text_size(text: &Option<Vec<u8>>) -> usize
     }
 }
 
-fn given_size(context: &Context, tag: &Option<Vec<u8>>) -> usize
-    ensures { result ≡ written_size (lent_context context.now) (text_of tag.now) }
-{
-    match tag {
-        None => 0,
-        Some(tag) => tag_size(context.directives, tag),
-    }
-}
-
 // Bytes of a tag that is written in pretty form.
 fn written_size(context: &Context, left_out: bool, tag: &Option<Vec<u8>>) -> usize
     ensures { result ≡ written_size (lent_context context.now)
         (kept_tag false left_out (text_of tag.now)) }
 {
-    if left_out {
-        0
-    } else {
-        given_size(context, tag)
+    match tag {
+        None => 0,
+        Some(tag) => {
+            if left_out {
+                0
+            } else {
+                tag_size(context.directives, tag)
+            }
+        }
     }
 }
 
@@ -82,22 +77,6 @@ fn has_breaks(scalar: &Scalar) -> bool
     } else {
         has_break(scalar.value)
     }
-}
-
-// Inlined into its one caller.
-#[inline(always)]
-#[tactic(auto, unfolding(yaml_emit_layout::specs::Nodes::is_simple_scalar))]
-fn is_simple_scalar(context: &Context, scalar: &Scalar) -> bool
-    requires { scalar.now.tame ≡ true → IsTame scalar.now.value.now }
-    ensures { result ≡ is_simple_scalar (lent_context context.now) (lent_scalar scalar.now) }
-{
-    !context.settings.canonical
-        && !has_breaks(scalar)
-        && are_short(
-            text_size(scalar.anchor),
-            written_size(context, scalar.plain || scalar.quoted, scalar.tag),
-            scalar.value.len(),
-        )
 }
 
 fn is_key_in(phase: Phase) -> bool
@@ -163,12 +142,20 @@ pub fn is_undecided_event(top: &Option<Level>, event: &yaml_event_body_t) -> boo
 /// Whether a scalar is a simple key. It is looked at where a key is due, and nowhere else.
 // Inlined: canonical form has none, and pretty form mostly tells by the place.
 #[inline(always)]
+#[tactic(auto, unfolding(yaml_emit_layout::specs::Nodes::is_simple_scalar))]
 pub fn is_simple_key(context: &Context, top: &Option<Level>, scalar: &Scalar) -> bool
     requires { scalar.now.tame ≡ true → IsTame scalar.now.value.now }
     ensures { result ≡ (is_key top.now && is_simple_scalar (lent_context context.now)
         (lent_scalar scalar.now)) }
 {
-    is_key(top) && is_simple_scalar(context, scalar)
+    is_key(top)
+        && !context.settings.canonical
+        && !has_breaks(scalar)
+        && are_short(
+            text_size(scalar.anchor),
+            written_size(context, scalar.plain || scalar.quoted, scalar.tag),
+            scalar.value.len(),
+        )
 }
 
 /// Whether what opens a collection is a simple key: where the next event closes it.
@@ -186,70 +173,6 @@ pub fn is_simple_start(context: &Context, start: &Start) -> bool
             written_size(context, start.implicit, start.tag),
             0,
         )
-}
-
-/// Whether a node that begins so is a simple key: an alias, a scalar without breaks or an empty collection, with at most
-/// `SIMPLE_KEY_BYTES` of anchor, tag and value. Canonical form has none. It is long because it has an arm for each kind of event.
-// Inlined: where the kind is known one arm is left.
-#[inline(always)]
-#[tactic(auto, unfolding(yaml_emit_layout::specs::State::is_simple_event))]
-pub fn is_simple(context: &Context, event: &yaml_event_body_t, empty: bool) -> bool
-    ensures { result ≡ is_simple_event (lent_context context.now)
-        (emitter_event (body_of event.now)) empty }
-{
-    match event {
-        yaml_event_body_t::Alias { anchor } => is_simple_alias(context, anchor),
-        yaml_event_body_t::Scalar {
-            anchor,
-            tag,
-            value,
-            plain_implicit,
-            quoted_implicit,
-            style,
-        } => {
-            let scalar = Scalar {
-                anchor,
-                tag,
-                value,
-                plain: *plain_implicit,
-                quoted: *quoted_implicit,
-                style: *style,
-                tame: false,
-            };
-            is_simple_scalar(context, &scalar)
-        }
-        yaml_event_body_t::SequenceStart {
-            anchor,
-            tag,
-            implicit,
-            style,
-        } => {
-            let start = Start {
-                anchor,
-                tag,
-                implicit: *implicit,
-                flow: is_flow_sequence(*style),
-                empty,
-            };
-            is_simple_start(context, &start)
-        }
-        yaml_event_body_t::MappingStart {
-            anchor,
-            tag,
-            implicit,
-            style,
-        } => {
-            let start = Start {
-                anchor,
-                tag,
-                implicit: *implicit,
-                flow: is_flow_mapping(*style),
-                empty,
-            };
-            is_simple_start(context, &start)
-        }
-        _ => false,
-    }
 }
 
 /// Whether a sequence has flow style.

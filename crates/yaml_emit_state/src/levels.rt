@@ -68,14 +68,10 @@ impl Levels {
     pub fn step(&mut self, simple: bool)
         ensures { stack_of self.new ≡ levels_behind (stack_of self.old) simple }
     {
-        match self.top {
+        match &mut self.top {
             None => (),
             Some(level) => {
-                self.top = Some(Level {
-                    phase: Levels::phase_behind(level.phase, simple),
-                    flow: level.flow,
-                    indent: level.indent,
-                });
+                level.phase = Levels::phase_behind(level.phase, simple);
             }
         }
     }

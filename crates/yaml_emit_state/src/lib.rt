@@ -5,7 +5,6 @@ mod bare;
 mod before;
 mod documents;
 mod given;
-mod handles;
 mod indent;
 mod judge;
 mod keys;

@@ -1,26 +1,24 @@
 //! Nodes: aliases, properties, scalars, and what opens collections.
-ghost use Rattle.std.specs.Prelude.{◌≡◌, ◌≢◌, ◌<◌, ◌∷◌, [], None, Some, Bool, true, false, not, ◌&&◌, ◌||◌, ◌==◌, ℕ, map, length, IsUtf8};
+ghost use Rattle.std.specs.Prelude.{◌≡◌, ◌<◌, ◌∷◌, [], None, Some, true, false, not, ◌&&◌, ◌||◌, IsUtf8};
 ghost use Rattle.yaml_types.specs.Ascii as ascii;
 ghost use Rattle.std.specs.Str.{chars, IsAscii};
 ghost use Rattle.yaml_parse_model.specs.Events.{text_of};
 ghost use Rattle.yaml_emit_text.specs.Sink.{Puts};
 ghost use Rattle.yaml_emit_text.specs.Tame.{IsTame};
-ghost use Rattle.yaml_emit_text.specs.Layout.{◌▹◌, stay, when, char, word, opener};
+ghost use Rattle.yaml_emit_text.specs.Layout.{◌▹◌, when, char, word, opener};
 ghost use Rattle.yaml_emit_text.specs.Scalars.{scalar_text};
 ghost use Rattle.yaml_emit_layout.specs.Grammar.{kept_if, kept_tag, has};
 ghost use Rattle.yaml_emit_layout.specs.Nodes.{alias_layout, anchor_text, tag_text, properties_text, mark_text, scalar_layout, style_of, is_plain, checked, deeper, page_at, is_flow};
 ghost use Rattle.yaml_emit_layout.specs.State.{before_node, position_of, start_text};
-ghost use Rattle.yaml_scan_model.specs.declared.yaml_scalar_style_t.{yaml_scalar_style_t};
-ghost use Rattle.yaml_emit_state.specs.Given.{lent_context, lent_scalar, lent_start, plain_text, IsNamed};
+ghost use Rattle.yaml_emit_state.specs.Given.{lent_context, lent_scalar, lent_start, IsNamed};
 
 use crate::bare::is_given;
-use crate::before::{put_before, put_blank_if, put_opener_if};
+use crate::before::put_before;
 use crate::given::{Context, Scalar, Start};
-use crate::indent::{deeper, is_flow, is_simple_part, position_of, put_checked};
+use crate::indent::{deeper, is_flow, is_simple_part, position_of};
 use yaml_emit_layout::{Level, NodePosition};
 use yaml_emit_tags::{DirectiveTable, put_tag};
 use yaml_emit_text::{Page, Settings, Sink, Style, allowed_by, put_styled, put_tame, taken, text};
-use yaml_parse_model::YAML_STR_TAG;
 
 // Out of line: few registers are needed.
 #[inline(never)]
@@ -49,7 +47,9 @@ pub fn put_alias_node(
 {
     put_before(sink, settings, top, simple);
     put_name(sink, b'*', name);
-    put_blank_if(sink, is_simple_part(position_of(*top, simple).part));
+    if is_simple_part(position_of(*top, simple).part) {
+        sink.put(' ');
+    }
 }
 
 fn put_anchor_if(sink: &mut Sink, anchor: &Option<Vec<u8>>)
@@ -62,21 +62,15 @@ fn put_anchor_if(sink: &mut Sink, anchor: &Option<Vec<u8>>)
     }
 }
 
-fn put_given_tag(sink: &mut Sink, context: &Context, tag: &Option<Vec<u8>>)
-    ensures { Puts sink.old sink.new (tag_text (lent_context context.now) (text_of tag.now)) }
-{
-    match tag {
-        None => (),
-        Some(tag) => put_tag(sink, context.directives, tag),
-    }
-}
-
 fn put_tag_if(sink: &mut Sink, context: &Context, kept: bool, tag: &Option<Vec<u8>>)
     ensures { Puts sink.old sink.new (tag_text (lent_context context.now)
         (kept_if kept (text_of tag.now))) }
 {
     if kept {
-        put_given_tag(sink, context, tag);
+        match tag {
+            None => (),
+            Some(tag) => put_tag(sink, context.directives, tag),
+        }
     }
 }
 
@@ -110,17 +104,15 @@ fn put_properties(
     );
 }
 
-fn is_tagged_if(kept: bool, tag: &Option<Vec<u8>>) -> bool
-    ensures { result ≡ has (kept_if kept (text_of tag.now)) }
-{
-    if kept { is_given(tag) } else { false }
-}
-
 // Whether a tag is written.
 fn is_written(canonical: bool, left_out: bool, tag: &Option<Vec<u8>>) -> bool
     ensures { result ≡ has (kept_tag canonical left_out (text_of tag.now)) }
 {
-    is_tagged_if(is_kept(canonical, left_out), tag)
+    if canonical || !left_out {
+        is_given(tag)
+    } else {
+        false
+    }
 }
 
 fn is_plain(style: Style) -> bool
@@ -156,32 +148,25 @@ fn style_of(context: &Context, position: NodePosition, scalar: &Scalar) -> Style
 
 // Inlined: a byte or two, for which there is room.
 #[inline(always)]
-fn put_exclamation_if(sink: &mut Sink, due: bool)
-    ensures { Puts sink.old sink.new (when due (word (ascii.exclamation ∷ []))) }
+fn put_untagged_mark(sink: &mut Sink, context: &Context, scalar: &Scalar, chosen: Style)
+    ensures { Puts sink.old sink.new (mark_text (lent_context context.now)
+        (lent_scalar scalar.now) chosen) }
 {
-    if due {
+    if !is_written(
+        context.settings.canonical,
+        scalar.plain || scalar.quoted,
+        scalar.tag,
+    ) && !scalar.quoted
+        && !is_plain(chosen)
+    {
         sink.put_inline_indicator('!');
     }
 }
 
-// Whether `!` is due.
-fn is_marked(
-    canonical: bool,
-    tag: &Option<Vec<u8>>,
-    plain: bool,
-    quoted: bool,
-    chosen: Style,
-) -> bool
-    ensures { result ≡ (not (has (kept_tag canonical (plain || quoted) (text_of tag.now)))
-        && (not quoted && not (is_plain chosen))) }
-{
-    !is_written(canonical, plain || quoted, tag) && !quoted && !is_plain(chosen)
-}
-
-// The lines that a value stands in, in a style.
+/// The lines that a value stands in, in a style.
 // Inlined: canonical form knows the style, so that one arm is left there.
 #[inline(always)]
-fn put_lines(
+pub fn put_lines(
     sink: &mut Sink,
     settings: &Settings,
     position: NodePosition,
@@ -195,10 +180,8 @@ fn put_lines(
         ▹ scalar_text (page_at settings.now position) settings.now.indent position.flow style
         (chars value.now)) }
 {
-    let depth = deeper(settings, position.around);
-    put_checked(sink, depth);
-    match depth {
-        None => (),
+    match deeper(settings, position.around) {
+        None => sink.put_too_deep(),
         Some(indentation) => {
             let page = Page {
                 width: settings.width,
@@ -239,29 +222,6 @@ pub fn are_none(directives: &DirectiveTable) -> bool
     directives.list().is_empty()
 }
 
-/// A text with the default tag and without an anchor in the innermost collection, with what comes before it, in canonical form.
-// Inlined into its one caller.
-#[inline(always)]
-pub fn put_text_node(sink: &mut Sink, context: &Context, top: &Option<Level>, value: &[u8])
-    requires utf8 { IsUtf8 value.now }
-    requires canonical { context.now.settings.now.canonical ≡ true }
-    ensures { (style : yaml_scalar_style_t) → Puts sink.old sink.new
-        (before_node context.now.settings.now top.now false
-        ▹ scalar_layout (lent_context context.now) (position_of top.now false)
-        (plain_text value.now style)) }
-{
-    put_before(sink, context.settings, top, false);
-    put_tag(sink, context.directives, YAML_STR_TAG);
-    put_lines(
-        sink,
-        context.settings,
-        position_of(*top, false),
-        Style::Double,
-        value,
-        false,
-    );
-}
-
 // A scalar, with its anchor and tag.
 // Inlined: where the form is known, and most of what it is given.
 #[inline(always)]
@@ -283,10 +243,7 @@ fn put_scalar(sink: &mut Sink, context: &Context, position: NodePosition, scalar
     } = *scalar;
     let chosen = style_of(context, position, scalar);
     put_properties(sink, context, anchor, plain || quoted, tag);
-    put_exclamation_if(
-        sink,
-        is_marked(context.settings.canonical, tag, plain, quoted, chosen),
-    );
+    put_untagged_mark(sink, context, scalar, chosen);
     put_lines(sink, context.settings, position, chosen, value, scalar.tame);
 }
 
@@ -311,6 +268,16 @@ pub fn put_scalar_node(
     put_scalar(sink, context, position_of(*top, simple), scalar);
 }
 
+// Inlined: it is a byte or two, for which there is room.
+#[inline(always)]
+fn put_opener_if(sink: &mut Sink, flow: bool, c: char)
+    ensures { Puts sink.old sink.new (when flow (opener c)) }
+{
+    if flow {
+        sink.put_opener(c);
+    }
+}
+
 /// What opens a collection in the innermost one, with its anchor and tag, and what comes before it.
 // Inlined: where the form is known it is short.
 #[inline(always)]
@@ -330,14 +297,7 @@ pub fn put_start_node(
 {
     put_before(sink, context.settings, top, simple);
     put_properties(sink, context, start.anchor, start.implicit, start.tag);
-    put_opener_if(
-        sink,
-        is_flow(
-            context.settings,
-            position_of(*top, simple),
-            start.flow,
-            start.empty,
-        ),
-        c,
-    );
+    let position = position_of(*top, simple);
+    let flow = is_flow(context.settings, position, start.flow, start.empty);
+    put_opener_if(sink, flow, c);
 }

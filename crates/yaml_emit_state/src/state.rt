@@ -1,27 +1,26 @@
 //! One event after another is laid out.
-ghost use Rattle.std.specs.Prelude.{◌≡◌, ◌≢◌, ◌∷◌, [], None, Some, Bool, true, false, not, ◌&&◌, ◌||◌, IfSome, if◌then◌else◌, map, IsUtf8};
-ghost use Rattle.std.specs.Str.{IsAscii};
+ghost use Rattle.std.specs.Prelude.{◌≡◌, None, Some, Bool, true, false, ◌||◌, if◌then◌else◌, IsUtf8};
 ghost use Rattle.yaml_parse_model.specs.Constructors.{HasUtf8};
 ghost use Rattle.yaml_emit_text.specs.Tame.{IsTame};
 
-mod event;
 mod framed;
 mod moves;
 mod pretty;
 mod resume;
 mod starts;
 
-use crate::given::{Context, EventPosition, Scalar};
+use crate::before::{closing_bracket, put_closer_at};
+use crate::documents::put_outer;
+use crate::given::{Context, Scalar};
 use crate::judge::problem_of;
-use crate::keys::{is_simple, is_simple_alias, is_simple_key, is_undecided_event};
+use crate::keys::{is_simple_alias, is_simple_key, is_undecided_event};
 use crate::levels::Levels;
-use crate::nodes::{put_alias_node, put_scalar_node};
-use event::put_event;
+use crate::nodes::{are_none, put_alias_node, put_scalar_node};
 pub use resume::yaml_emitter_stand_t;
 use std::alloc::{AllocError, Global};
 use yaml_emit_layout::Expected;
 use yaml_emit_tags::DirectiveTable;
-use yaml_emit_text::{Settings, Sink, Status, is_tame};
+use yaml_emit_text::{Settings, Sink, is_tame};
 use yaml_parse_model::yaml_event_body_t;
 
 /// Where an emitter stands: the settings in force, the output, what is expected, the open collections, and the directives of
@@ -47,14 +46,15 @@ fn is_tame_in(canonical: bool, value: &[u8]) -> bool
 }
 
 impl Core {
-    ghost use Rattle.yaml_parse_model.specs.Events.{body_of, text_of};
-    ghost use Rattle.yaml_emit_layout.specs.Content.{emitter_event, alias, scalar, sequence_end, mapping_end};
+    ghost use Rattle.yaml_parse_model.specs.Events.{body_of, text_of, type_of};
+    ghost use Rattle.yaml_scan_model.specs.declared.yaml_event_type_t.TheVariants as kind;
+    ghost use Rattle.yaml_emit_layout.specs.Content.{emitter_event, scalar, sequence_end, mapping_end};
     ghost use Rattle.yaml_emit_layout.specs.State.{problem_at, top_of};
     ghost use Rattle.yaml_emit_state.specs.Due.{is_undecided};
     ghost use Rattle.yaml_emit_state.specs.Stack.{stack_of};
     ghost use Rattle.yaml_scan_model.specs.declared.yaml_scalar_style_t.{yaml_scalar_style_t};
-    ghost use Rattle.yaml_emit_state.specs.Given.{lent_scalar, plain_text, IsNamed};
-    ghost use Rattle.yaml_emit_state.specs.Steps.{state_of, settings_of, LaysOut, IsFreshCore, LaysOutRight, Starves, is_going, goes_on};
+    ghost use Rattle.yaml_emit_state.specs.Given.{lent_scalar, plain_text, ending, IsNamed};
+    ghost use Rattle.yaml_emit_state.specs.Steps.{state_of, settings_of, LaysOut, IsFreshCore, LaysOutRight, Starves, is_going, is_outer, goes_on};
 
     /// Nothing was laid out.
     pub fn new(alloc: Global, settings: Settings, limit: u64) -> Core
@@ -110,11 +110,7 @@ impl Core {
         ensures { result ≡ is_undecided self.now.settings.canonical
             (top_of (stack_of self.now.levels)) (emitter_event (body_of event.now)) }
     {
-        if self.settings.canonical {
-            false
-        } else {
-            is_undecided_event(self.levels.innermost(), event)
-        }
+        !self.settings.canonical && is_undecided_event(self.levels.innermost(), event)
     }
 
     /// Whether the output was stopped by memory that was refused for the open collections or the directives.
@@ -138,15 +134,8 @@ impl Core {
     pub fn starve(&mut self, refused: AllocError)
         ensures { Starves self.old self.new }
     {
-        self.starved = self.is_open() || self.starved;
+        self.starved = self.sink.status().is_going() || self.starved;
         self.sink.starve(refused);
-    }
-
-    // Whether the output goes on.
-    fn is_open(&self) -> bool
-        ensures { result ≡ is_going self.now.sink.status }
-    {
-        self.sink.status().is_going()
     }
 
     // The settings in force, of which the form is known: the encoding is the output's.
@@ -163,79 +152,6 @@ impl Core {
             width: self.settings.width,
             unicode: self.settings.unicode,
             line_break: self.settings.line_break,
-        }
-    }
-
-    // An event in its right place, in a form that is known.
-    // Inlined into its callers: no call stands between an event's judgement and its text.
-    #[inline(always)]
-    #[tactic(auto, unfolding(yaml_emit_layout::specs::State::text_at, yaml_emit_layout::specs::State::next_at, yaml_emit_layout::specs::State::depth_at))]
-    fn lay_event(&mut self, event: &mut yaml_event_body_t, empty: bool, canonical: bool)
-        requires utf8 { HasUtf8 (body_of event.old) }
-        requires right { problem_at (settings_of self.old) (state_of self.old)
-            (emitter_event (body_of event.old)) ≡ None }
-        requires form { canonical ≡ self.old.settings.canonical }
-        ensures { LaysOutRight self.old self.new (emitter_event (body_of event.old)) empty }
-    {
-        let settings = self.settings(canonical);
-        let context = Context {
-            settings: &settings,
-            directives: &self.directives,
-        };
-        let simple = is_simple(&context, event, empty);
-        let at = EventPosition {
-            place: self.place,
-            top: self.levels.innermost(),
-            simple,
-        };
-        put_event(&mut self.sink, &context, &at, event, empty);
-        self.move_on(&settings, event, empty, simple);
-    }
-
-    // An event in its right place, in the form that is asked for.
-    // Out of line: the rare way beside the short one for scalars.
-    #[inline(never)]
-    fn take_rare(&mut self, event: &mut yaml_event_body_t, empty: bool)
-        requires utf8 { HasUtf8 (body_of event.old) }
-        requires right { problem_at (settings_of self.old) (state_of self.old)
-            (emitter_event (body_of event.old)) ≡ None }
-        ensures { LaysOutRight self.old self.new (emitter_event (body_of event.old)) empty }
-    {
-        self.lay_event(event, empty, self.settings.canonical);
-    }
-
-    // The same, where it is known to be a scalar, and in which form.
-    // Inlined: then what the form decides is left out.
-    #[inline(always)]
-    fn take_scalar(&mut self, event: &mut yaml_event_body_t, empty: bool, canonical: bool)
-        requires utf8 { HasUtf8 (body_of event.old) }
-        requires right { problem_at (settings_of self.old) (state_of self.old)
-            (emitter_event (body_of event.old)) ≡ None }
-        requires form { canonical ≡ self.old.settings.canonical }
-        ensures { LaysOutRight self.old self.new (emitter_event (body_of event.old)) empty }
-    {
-        match event {
-            yaml_event_body_t::Scalar {
-                anchor,
-                tag,
-                value,
-                plain_implicit,
-                quoted_implicit,
-                style,
-            } => {
-                let tame = is_tame_in(canonical, value);
-                let scalar = Scalar {
-                    anchor,
-                    tag,
-                    value,
-                    plain: *plain_implicit,
-                    quoted: *quoted_implicit,
-                    style: *style,
-                    tame,
-                };
-                self.put_known_scalar(&scalar, canonical);
-            }
-            _ => self.take_rare(event, empty),
         }
     }
 
@@ -259,41 +175,6 @@ impl Core {
         let simple = is_simple_key(&context, top, given);
         put_scalar_node(&mut self.sink, &context, top, simple, given);
         self.step(simple);
-    }
-
-    // An alias in its right place, in a form that is known.
-    // Inlined: then what the form decides is left out.
-    #[inline(always)]
-    fn put_known_alias(&mut self, name: &[u8], canonical: bool)
-        requires ascii { IsAscii name.now }
-        requires form { canonical ≡ self.old.settings.canonical }
-        ensures { (empty : Bool) → LaysOutRight self.old self.new (alias name.now) empty }
-    {
-        let settings = self.settings(canonical);
-        let context = Context {
-            settings: &settings,
-            directives: &self.directives,
-        };
-        let top = self.levels.innermost();
-        let simple = is_simple_alias(&context, name);
-        put_alias_node(&mut self.sink, &settings, top, simple, name);
-        self.step(simple);
-    }
-
-    // An event in its right place that is known to be an alias, and in which form.
-    // Inlined: then what the form decides is left out.
-    #[inline(always)]
-    fn take_alias(&mut self, event: &mut yaml_event_body_t, empty: bool, canonical: bool)
-        requires utf8 { HasUtf8 (body_of event.old) }
-        requires right { problem_at (settings_of self.old) (state_of self.old)
-            (emitter_event (body_of event.old)) ≡ None }
-        requires form { canonical ≡ self.old.settings.canonical }
-        ensures { LaysOutRight self.old self.new (emitter_event (body_of event.old)) empty }
-    {
-        match event {
-            yaml_event_body_t::Alias { anchor } => self.put_known_alias(anchor, canonical),
-            _ => self.take_rare(event, empty),
-        }
     }
 
     // Whether an event comes right. One that doesn't is refused, or the memory to judge it is, and nothing of it is laid out.
@@ -326,87 +207,114 @@ impl Core {
         }
     }
 
-    // What is known to be a scalar is laid out or refused.
+    // A scalar is laid out or refused.
     // Inlined: for each form, of which most is known.
     #[inline(always)]
-    fn lay_scalar(&mut self, event: &mut yaml_event_body_t, empty: bool, canonical: bool)
-        requires utf8 { HasUtf8 (body_of event.old) }
+    fn lay_scalar(&mut self, event: &yaml_event_body_t, empty: bool, canonical: bool)
+        requires kind { type_of (body_of event.now) ≡ kind.YAML_SCALAR_EVENT }
+        requires utf8 { HasUtf8 (body_of event.now) }
         requires form { canonical ≡ self.old.settings.canonical }
-        ensures { LaysOut self.old self.new (emitter_event (body_of event.old)) empty }
-    {
-        if self.admits(event, canonical) {
-            self.take_scalar(event, empty, canonical);
-        }
-    }
-
-    // An event is laid out or refused.
-    // Inlined: where kind and form are known, most is left out.
-    #[inline(always)]
-    fn lay_by(&mut self, event: &mut yaml_event_body_t, empty: bool, canonical: bool)
-        requires utf8 { HasUtf8 (body_of event.old) }
-        requires form { canonical ≡ self.old.settings.canonical }
-        ensures { LaysOut self.old self.new (emitter_event (body_of event.old)) empty }
-    {
-        if self.admits(event, canonical) {
-            self.lay_event(event, empty, canonical);
-        }
-    }
-
-    // Out of line: it holds all kinds of events.
-    #[inline(never)]
-    fn lay_any(&mut self, event: &mut yaml_event_body_t, empty: bool)
-        requires { HasUtf8 (body_of event.old) }
-        ensures { LaysOut self.old self.new (emitter_event (body_of event.old)) empty }
-    {
-        self.lay_by(event, empty, self.settings.canonical);
-    }
-
-    // What ends a sequence is laid out or refused, in canonical form.
-    // Out of line: kind and form are known, and what other kinds need takes no room here.
-    #[inline(never)]
-    fn lay_sequence_end(&mut self, empty: bool)
-        requires { (settings_of self.old).canonical ≡ true }
-        ensures { LaysOut self.old self.new sequence_end empty }
-    {
-        let mut event = yaml_event_body_t::SequenceEnd;
-        self.lay_by(&mut event, empty, true);
-    }
-
-    // What ends a mapping is laid out or refused, in canonical form.
-    // Out of line: kind and form are known, and what other kinds need takes no room here.
-    #[inline(never)]
-    fn lay_mapping_end(&mut self, empty: bool)
-        requires { (settings_of self.old).canonical ≡ true }
-        ensures { LaysOut self.old self.new mapping_end empty }
-    {
-        let mut event = yaml_event_body_t::MappingEnd;
-        self.lay_by(&mut event, empty, true);
-    }
-
-    // What is known to be an alias is laid out or refused.
-    // Inlined: for each form, of which most is known.
-    #[inline(always)]
-    fn lay_known_alias(&mut self, event: &mut yaml_event_body_t, empty: bool, canonical: bool)
-        requires utf8 { HasUtf8 (body_of event.old) }
-        requires form { canonical ≡ self.old.settings.canonical }
-        ensures { LaysOut self.old self.new (emitter_event (body_of event.old)) empty }
-    {
-        if self.admits(event, canonical) {
-            self.take_alias(event, empty, canonical);
-        }
-    }
-
-    // An alias, in canonical form.
-    // Out of line: kind and form are known, and what other kinds need takes no room here.
-    #[inline(never)]
-    fn lay_alias(&mut self, event: &mut yaml_event_body_t, empty: bool)
-        requires utf8 { HasUtf8 (body_of event.old) }
-        requires form { self.old.settings.canonical ≡ true }
-        ensures { LaysOut self.old self.new (emitter_event (body_of event.old)) empty }
+        ensures { LaysOut self.old self.new (emitter_event (body_of event.now)) empty }
     {
         match event {
-            yaml_event_body_t::Alias { .. } => self.lay_known_alias(event, empty, true),
-            _ => self.lay_any(event, empty),
+            yaml_event_body_t::Scalar {
+                anchor,
+                tag,
+                value,
+                plain_implicit,
+                quoted_implicit,
+                style,
+            } => {
+                if self.admits(event, canonical) {
+                    let tame = is_tame_in(canonical, value);
+                    let scalar = Scalar {
+                        anchor,
+                        tag,
+                        value,
+                        plain: *plain_implicit,
+                        quoted: *quoted_implicit,
+                        style: *style,
+                        tame,
+                    };
+                    self.put_known_scalar(&scalar, canonical);
+                }
+            }
+            _ => (),
+        }
+    }
+
+    // What ends a collection is laid out or refused.
+    // Inlined: for each kind, of which most is known.
+    #[inline(always)]
+    fn lay_end(&mut self, event: &yaml_event_body_t, empty: bool, sequence: bool)
+        requires { emitter_event (body_of event.now) ≡ ending sequence }
+        ensures { LaysOut self.old self.new (ending sequence) empty }
+    {
+        let canonical = self.settings.canonical;
+        if self.admits(event, canonical) {
+            let settings = self.settings(canonical);
+            let top = self.levels.innermost();
+            put_closer_at(&mut self.sink, &settings, top, closing_bracket(sequence));
+            self.close();
+        }
+    }
+
+    // What begins and ends the stream and its documents is laid out or refused, in either form.
+    // Out of line: it is rare.
+    #[inline(never)]
+    fn lay_rare(&mut self, event: &mut yaml_event_body_t, empty: bool)
+        requires { is_outer (emitter_event (body_of event.old)) ≡ true }
+        ensures { LaysOut self.old self.new (emitter_event (body_of event.old)) empty }
+    {
+        let canonical = self.settings.canonical;
+        if self.admits(event, canonical) {
+            let settings = self.settings(canonical);
+            put_outer(&mut self.sink, &settings, self.place, event);
+            self.move_on(event);
+        }
+    }
+
+    // What ends a sequence, in either form.
+    // Out of line: the kind is known, and what other kinds need takes no room here.
+    #[inline(never)]
+    fn lay_sequence_end(&mut self, empty: bool)
+        ensures { LaysOut self.old self.new sequence_end empty }
+    {
+        self.lay_end(&yaml_event_body_t::SequenceEnd, empty, true);
+    }
+
+    // What ends a mapping, in either form.
+    // Out of line: the kind is known, and what other kinds need takes no room here.
+    #[inline(never)]
+    fn lay_mapping_end(&mut self, empty: bool)
+        ensures { LaysOut self.old self.new mapping_end empty }
+    {
+        self.lay_end(&yaml_event_body_t::MappingEnd, empty, false);
+    }
+
+    // An alias is laid out or refused, in either form.
+    // Out of line: the kind is known, and what other kinds need takes no room here.
+    #[inline(never)]
+    fn lay_alias(&mut self, event: &yaml_event_body_t, empty: bool)
+        requires kind { type_of (body_of event.now) ≡ kind.YAML_ALIAS_EVENT }
+        ensures { LaysOut self.old self.new (emitter_event (body_of event.now)) empty }
+    {
+        let canonical = self.settings.canonical;
+        match event {
+            yaml_event_body_t::Alias { anchor } => {
+                if self.admits(event, canonical) {
+                    let settings = self.settings(canonical);
+                    let context = Context {
+                        settings: &settings,
+                        directives: &self.directives,
+                    };
+                    let top = self.levels.innermost();
+                    let simple = is_simple_alias(&context, anchor);
+                    put_alias_node(&mut self.sink, &settings, top, simple, anchor);
+                    self.step(simple);
+                }
+            }
+            _ => (),
         }
     }
 
@@ -426,7 +334,7 @@ impl Core {
             yaml_event_body_t::SequenceEnd => self.lay_sequence_end(empty),
             yaml_event_body_t::MappingEnd => self.lay_mapping_end(empty),
             yaml_event_body_t::Alias { .. } => self.lay_alias(event, empty),
-            _ => self.lay_any(event, empty),
+            _ => self.lay_rare(event, empty),
         }
     }
 
@@ -453,7 +361,11 @@ impl Core {
         ensures { (style : yaml_scalar_style_t) → (empty : Bool) → LaysOut self.old self.new
             (scalar (plain_text value.now style)) empty }
     {
-        if !self.place_text(value) {
+        if are_none(&self.directives) {
+            if !self.place_framed(true, true, value) {
+                self.lay_any_text(value);
+            }
+        } else {
             self.lay_any_text(value);
         }
     }
@@ -468,7 +380,7 @@ impl Core {
         if self.settings.canonical {
             self.lay_canonical_scalar(event, false);
         } else {
-            self.lay_pretty_scalar(event, false);
+            self.lay_pretty(event, false);
         }
     }
 

@@ -1,18 +1,15 @@
 //! The state behind an event that was written.
-ghost use Rattle.std.specs.Prelude.{◌≡◌, ◌∷◌, [], ℕ, None, Some, true, false, IfSome, if◌then◌else◌, map};
+ghost use Rattle.std.specs.Prelude.{◌≡◌, [], Bool, None, Some, true, false, if◌then◌else◌, map};
 ghost use Rattle.yaml_parse_model.specs.Events.{directive_of, body_of};
 ghost use Rattle.yaml_emit_text.specs.Sink.{Puts};
 ghost use Rattle.yaml_emit_text.specs.Layout.{stay};
 ghost use Rattle.yaml_emit_layout.specs.Content.{emitter_event};
-ghost use Rattle.yaml_emit_layout.specs.State.{among, levels_behind, outer_of, place_at, opened, placed, is_simple_event};
-ghost use Rattle.yaml_emit_state.specs.Bare.{turned};
-ghost use Rattle.yaml_emit_state.specs.Stack.{stack_of, within};
-ghost use Rattle.yaml_emit_layout.specs.Nodes.{checked, context_of};
-ghost use Rattle.yaml_emit_state.specs.Steps.{state_of, StaysBut, MovesOn, OpensCollection, Notes, Halts, first_phase, is_document_start};
+ghost use Rattle.yaml_emit_layout.specs.State.{among, levels_behind, outer_of, place_at, opened, placed};
+ghost use Rattle.yaml_emit_state.specs.Bare.{Turns};
+ghost use Rattle.yaml_emit_state.specs.Steps.{state_of, StaysBut, MovesOn, OpensCollection, Notes, Halts, first_phase, is_outer};
 
 use super::Core;
-use crate::indent::{indent_of, is_flow, position_of};
-use crate::keys::{is_flow_mapping, is_flow_sequence};
+use crate::indent::{indent_of, position_of};
 use std::mem;
 use yaml_emit_layout::{Expected, Level, Phase};
 use yaml_emit_tags::DirectiveTable;
@@ -56,17 +53,15 @@ impl Core {
     // Inlined: a store.
     #[inline(always)]
     pub(super) fn turn_to(&mut self, phase: Phase)
-        ensures levels { stack_of self.new.levels ≡ turned phase (stack_of self.old.levels) }
-        ensures place { self.new.place ≡ self.old.place }
-        ensures directives { self.new.directives ≡ self.old.directives }
-        ensures same { StaysBut self.old self.new }
+        ensures turns { Turns self.old self.new phase }
+        ensures sink { self.new.sink ≡ self.old.sink }
     {
         self.levels.turn(phase);
     }
 
     // Inlined into its one caller.
     #[inline(always)]
-    fn close(&mut self)
+    pub(super) fn close(&mut self)
         ensures state { state_of self.new ≡ among (state_of self.old).directives
             (outer_of (state_of self.old).levels) }
         ensures same { StaysBut self.old self.new }
@@ -136,105 +131,39 @@ impl Core {
         }
     }
 
-    // A collection is opened, unless it would stand too deep or memory is wanting.
-    // Inlined: a test in front of a call.
+    // A collection is opened where it stands, by whether it is flow, unless it would stand too deep or memory is wanting.
+    // Inlined: where the form is known it is short.
     #[inline(always)]
-    fn open_at(&mut self, simple: bool, phase: Phase, flow: bool, indent: Option<u64>)
-        ensures state { self.new.sink.status ≡ Status.Going → (n : ℕ) → indent ≡ within n
-            → state_of self.new ≡ opened (state_of self.old).directives (state_of self.old).levels
-            simple phase flow n }
-        ensures settings { self.new.settings ≡ self.old.settings }
-        ensures cursor { self.new.sink.status ≡ Status.Going → self.new.sink.cursor
-            ≡ self.old.sink.cursor }
-        ensures text { (n : ℕ) → indent ≡ within n → Puts self.old.sink self.new.sink (checked n) }
-        ensures memory { Notes true self.old self.new }
-        ensures halts { Halts self.old self.new }
+    pub(super) fn open_by(&mut self, settings: &Settings, simple: bool, flow: bool, sequence: bool)
+        ensures { OpensCollection settings.now self.old self.new simple flow sequence }
     {
-        match indent {
+        let position = position_of(self.levels.top(), simple);
+        match indent_of(settings, position, sequence, flow, self.sink.cursor()) {
             None => self.sink.put_too_deep(),
-            Some(indent) => self.open(simple, phase, flow, indent),
+            Some(indent) => self.open(simple, first_phase(sequence), flow, indent),
         }
     }
 
-    // A collection is opened as settings and style have it.
-    // Inlined: where the form is known it is short.
-    #[inline(always)]
-    pub(super) fn open_by(
-        &mut self,
-        settings: &Settings,
-        simple: bool,
-        empty: bool,
-        style_flow: bool,
-        sequence: bool,
-    )
-        ensures { OpensCollection settings.now self.old self.new simple empty style_flow sequence }
-    {
-        let position = position_of(self.levels.top(), simple);
-        let flow = is_flow(settings, position, style_flow, empty);
-        let indent = indent_of(settings, position, sequence, flow, self.sink.cursor());
-        let phase = first_phase(sequence);
-        self.open_at(simple, phase, flow, indent);
-    }
-
-    // The state behind an event other than a document's start.
+    // The state behind what begins or ends the stream or a document. What is left of the event counts for nothing.
     // Inlined into its one caller.
     #[inline(always)]
     #[tactic(auto, unfolding(yaml_emit_layout::specs::State::next_at, yaml_emit_layout::specs::State::depth_at))]
-    fn move_by(&mut self, settings: &Settings, event: &yaml_event_body_t, empty: bool, simple: bool)
-        requires other { is_document_start (emitter_event (body_of event.now)) ≡ false }
-        requires simple { simple ≡ is_simple_event
-            (context_of settings.now (state_of self.old).directives)
-            (emitter_event (body_of event.now)) empty }
-        ensures { MovesOn settings.now self.old self.new (emitter_event (body_of event.now)) empty }
+    pub(super) fn move_on(&mut self, event: &mut yaml_event_body_t)
+        requires { is_outer (emitter_event (body_of event.old)) ≡ true }
+        ensures { (s : Settings) (empty : Bool) → MovesOn s self.old self.new
+            (emitter_event (body_of event.old)) empty }
     {
         match event {
-            yaml_event_body_t::No | yaml_event_body_t::DocumentStart { .. } => (),
             yaml_event_body_t::StreamStart { .. } => self.turn(Expected::Documents(true, false)),
             yaml_event_body_t::StreamEnd => self.turn(Expected::End),
-            yaml_event_body_t::DocumentEnd { implicit } => self.turn(Expected::Documents(
-                false, *implicit,
-            )),
-            yaml_event_body_t::Alias { .. } | yaml_event_body_t::Scalar { .. } => self.step(simple),
-            yaml_event_body_t::SequenceStart { style, .. } => self.open_by(
-                settings,
-                simple,
-                empty,
-                is_flow_sequence(*style),
-                true,
-            ),
-            yaml_event_body_t::MappingStart { style, .. } => self.open_by(
-                settings,
-                simple,
-                empty,
-                is_flow_mapping(*style),
-                false,
-            ),
-            yaml_event_body_t::SequenceEnd | yaml_event_body_t::MappingEnd => self.close(),
-        }
-    }
-
-    /// The state behind an event that was written, by the settings in force, by whether the event opens a collection that the next
-    /// one closes, and by whether it is a simple key. What is left of the event counts for nothing.
-    // Inlined: where the kind is known one arm is left.
-    #[inline(always)]
-    #[tactic(auto, unfolding(yaml_emit_layout::specs::State::next_at, yaml_emit_layout::specs::State::depth_at))]
-    pub(super) fn move_on(
-        &mut self,
-        settings: &Settings,
-        event: &mut yaml_event_body_t,
-        empty: bool,
-        simple: bool,
-    )
-        requires { simple ≡ is_simple_event (context_of settings.now (state_of self.old).directives)
-            (emitter_event (body_of event.old)) empty }
-        ensures { MovesOn settings.now self.old self.new (emitter_event (body_of event.old)) empty }
-    {
-        match event {
             yaml_event_body_t::DocumentStart { tag_directives, .. } => {
                 let none = Vec::new(*tag_directives.allocator());
                 self.begin(mem::replace(tag_directives, none));
             }
-            _ => self.move_by(settings, event, empty, simple),
+            yaml_event_body_t::DocumentEnd { implicit } => self.turn(Expected::Documents(
+                false, *implicit,
+            )),
+            _ => (),
         }
     }
 }

@@ -1,16 +1,15 @@
 //! Laying out one event in pretty form: a way for each kind that is met much, and short ones for scalars that stand as they are in
 //! their line, plain or in double quotes.
 ghost use Rattle.std.specs.Prelude.{◌≡◌, ℕ, Bool, Some, true, false, not, nat_le};
-ghost use Rattle.yaml_types.specs.Ascii as ascii;
 ghost use Rattle.yaml_parse_model.specs.Constructors.{HasUtf8};
 ghost use Rattle.yaml_emit_text.specs.Tame.{Stands};
-ghost use Rattle.yaml_emit_text.specs.Layout.{◌▹◌, char};
+ghost use Rattle.yaml_emit_text.specs.Layout.{◌▹◌};
 ghost use Rattle.yaml_emit_layout.specs.declared.NodePosition.{NodePosition};
 ghost use Rattle.yaml_emit_state.specs.Bare.{first_behind};
-ghost use Rattle.yaml_emit_layout.specs.Nodes.{MOST, deeper, comma, wrap_at, line_at};
+ghost use Rattle.yaml_emit_layout.specs.Nodes.{MOST, deeper, comma, wrap_at};
 
 use super::Core;
-use crate::bare::{is_bare, is_framed, is_near, is_shallow, is_there};
+use crate::bare::{is_inline, is_near, is_shallow, is_there};
 use yaml_emit_layout::{Level, Phase};
 use yaml_emit_text::{fits, put_in_line, put_standing};
 use yaml_parse_model::yaml_event_body_t;
@@ -28,95 +27,40 @@ fn first_behind(item: bool) -> Phase
     }
 }
 
+/// A text that is plain.
+pub struct Bare;
+
+/// A text in double quotes.
+pub struct Framed;
+
 impl Core {
-    ghost use Rattle.yaml_parse_model.specs.Events.{body_of};
+    ghost use Rattle.yaml_parse_model.specs.Events.{body_of, type_of};
+    ghost use Rattle.yaml_scan_model.specs.declared.yaml_event_type_t.TheVariants as kind;
     ghost use Rattle.yaml_emit_layout.specs.declared.Expected.TheVariants as at;
-    ghost use Rattle.yaml_emit_layout.specs.Content.{Scalar as SaidScalar, emitter_event, scalar, sequence_end, mapping_end};
+    ghost use Rattle.yaml_emit_layout.specs.Content.{Scalar as SaidScalar, emitter_event, scalar};
     ghost use Rattle.yaml_emit_layout.specs.State.{top_of};
-    ghost use Rattle.yaml_emit_state.specs.Bare.{IsInline, IsInlineEvent, is_shallow, short_text, short_node, hyphen, first_behind, entry_phase, Places};
+    ghost use Rattle.yaml_emit_state.specs.Bare.{IsInline, IsInlineEvent, is_shallow, short_text, short_node, first_behind, entry_phase, Places};
     ghost use Rattle.yaml_emit_state.specs.Stack.{stack_of};
-    ghost use Rattle.yaml_emit_state.specs.Steps.{LaysOut};
+    ghost use Rattle.yaml_emit_state.specs.Steps.{settings_of, LaysOut};
 
-    // A short scalar that is the first in a flow collection, where no space is due and it fits the line.
-    // Inlined: three tests in front of some stores.
-    #[inline(always)]
-    fn place_first(&mut self, behind: Phase, quoted: bool, value: &[u8]) -> bool
-        requires { Stands quoted value.now }
-        ensures placed { result ≡ true → (at : NodePosition) (n : ℕ)
-            → nat_le (deeper self.old.settings at.around) MOST ≡ true
-            → Places self.old self.new behind (wrap_at self.old.settings n
-            ▹ short_text self.old.settings quoted at value.now) }
-        ensures same { result ≡ false → self.new ≡ self.old }
-    {
-        if is_there(&self.sink, &self.settings, quoted, value) {
-            self.turn_to(behind);
-            put_standing(&mut self.sink, b"", b"\"", quoted, value);
-            true
-        } else {
-            false
-        }
-    }
-
-    // Another one, where it fits the line.
-    // Inlined: two tests in front of some stores.
-    #[inline(always)]
-    fn place_next(&mut self, behind: Phase, quoted: bool, value: &[u8]) -> bool
-        requires { Stands quoted value.now }
-        ensures placed { result ≡ true → (at : NodePosition) (n : ℕ)
-            → nat_le (deeper self.old.settings at.around) MOST ≡ true
-            → Places self.old self.new behind (char ascii.comma ▹ (wrap_at self.old.settings n
-            ▹ short_text self.old.settings quoted at value.now)) }
-        ensures same { result ≡ false → self.new ≡ self.old }
-    {
-        if is_near(&self.sink, &self.settings, quoted, value) {
-            self.turn_to(behind);
-            put_standing(&mut self.sink, b", ", b", \"", quoted, value);
-            true
-        } else {
-            false
-        }
-    }
-
-    // A short scalar in a flow collection.
-    // Inlined: a test between two short ways.
+    // A short scalar in a flow collection, where it fits the line: the first one where no space is due.
+    // Inlined: a few tests in front of some stores.
     #[inline(always)]
     fn place_in_flow(&mut self, fresh: bool, behind: Phase, quoted: bool, value: &[u8]) -> bool
         requires { Stands quoted value.now }
         ensures placed { result ≡ true → (at : NodePosition) (n : ℕ)
-            → nat_le (deeper self.old.settings at.around) MOST ≡ true
-            → Places self.old self.new behind ((comma fresh ▹ wrap_at self.old.settings n)
-            ▹ short_text self.old.settings quoted at value.now) }
+            → nat_le (deeper (settings_of self.old) at.around) MOST ≡ true
+            → Places self.old self.new behind ((comma fresh ▹ wrap_at (settings_of self.old) n)
+            ▹ short_text (settings_of self.old) quoted at value.now) }
         ensures same { result ≡ false → self.new ≡ self.old }
     {
-        if fresh {
-            self.place_first(behind, quoted, value)
-        } else {
-            self.place_next(behind, quoted, value)
-        }
-    }
-
-    // A short scalar at the start of a line of a block collection, an item or a key, where it fits the line.
-    // Inlined: a test in front of some stores.
-    #[inline(always)]
-    fn place_at_line(
-        &mut self,
-        indent: u64,
-        item: bool,
-        behind: Phase,
-        quoted: bool,
-        value: &[u8],
-    ) -> bool
-        requires { Stands quoted value.now }
-        ensures placed { result ≡ true → (at : NodePosition)
-            → nat_le (deeper self.old.settings at.around) MOST ≡ true
-            → Places self.old self.new behind (line_at self.old.settings indent
-            ▹ (hyphen item ▹ short_text self.old.settings quoted at value.now)) }
-        ensures same { result ≡ false → self.new ≡ self.old }
-    {
-        if fits(self.settings.width, indent, 2, quoted, value) {
-            let line_break = self.settings.line_break;
+        if fresh && is_there(&self.sink, &self.settings, quoted, value) {
             self.turn_to(behind);
-            put_in_line(&mut self.sink, line_break, indent, item, quoted, value);
+            put_standing(&mut self.sink, b"", b"\"", quoted, value);
+            true
+        } else if !fresh && is_near(&self.sink, &self.settings, quoted, value) {
+            self.turn_to(behind);
+            put_standing(&mut self.sink, b", ", b", \"", quoted, value);
             true
         } else {
             false
@@ -138,30 +82,42 @@ impl Core {
         requires form { self.old.settings.canonical ≡ false }
         requires shallow { is_shallow self.old.settings (Some level) ≡ true }
         ensures placed { result ≡ true → Places self.old self.new (first_behind item)
-            (short_node self.old.settings quoted (entry_phase item fresh) level.flow level.indent
-            (not item) value.now) }
+            (short_node (settings_of self.old) quoted (entry_phase item fresh) level.flow
+            level.indent (not item) value.now) }
         ensures same { result ≡ false → self.new ≡ self.old }
     {
         let behind = first_behind(item);
         if level.flow {
             self.place_in_flow(fresh, behind, quoted, value)
+        } else if fits(self.settings.width, level.indent, 2, quoted, value) {
+            let line_break = self.settings.line_break;
+            self.turn_to(behind);
+            put_in_line(
+                &mut self.sink,
+                line_break,
+                level.indent,
+                item,
+                quoted,
+                value,
+            );
+            true
         } else {
-            self.place_at_line(level.indent, item, behind, quoted, value)
+            false
         }
     }
 
-    // A short scalar behind the colon of a simple key, where it fits the line.
+    // A short scalar that is a value: behind the colon of a simple key, where it fits the line.
     // Inlined: two tests in front of some stores.
     #[inline(always)]
-    fn place_simple(&mut self, quoted: bool, value: &[u8]) -> bool
-        requires { Stands quoted value.now }
-        ensures placed { result ≡ true → (at : NodePosition)
-            → nat_le (deeper self.old.settings at.around) MOST ≡ true
-            → Places self.old self.new (Phase.Keys false) (char ascii.colon
-            ▹ short_text self.old.settings quoted at value.now) }
+    fn place_value(&mut self, level: Level, was_simple: bool, quoted: bool, value: &[u8]) -> bool
+        requires stands { Stands quoted value.now }
+        requires shallow { is_shallow self.old.settings (Some level) ≡ true }
+        ensures placed { result ≡ true → Places self.old self.new (Phase.Keys false)
+            (short_node (settings_of self.old) quoted (Phase.Value was_simple) level.flow
+            level.indent false value.now) }
         ensures same { result ≡ false → self.new ≡ self.old }
     {
-        if is_near(&self.sink, &self.settings, quoted, value) {
+        if was_simple && is_near(&self.sink, &self.settings, quoted, value) {
             self.turn_to(Phase::Keys(false));
             put_standing(&mut self.sink, b": ", b": \"", quoted, value);
             true
@@ -170,33 +126,15 @@ impl Core {
         }
     }
 
-    // A short scalar that is a value: behind a simple key, where it fits the line.
-    // Inlined: mostly it is a few bytes.
+    // A short scalar in the innermost collection, where one is open and it fits the line.
+    // Inlined: whether it is in quotes is known. `L` names its caller, so that each has its own copy.
     #[inline(always)]
-    fn place_value(&mut self, level: Level, was_simple: bool, quoted: bool, value: &[u8]) -> bool
+    fn place_short<L>(&mut self, quoted: bool, value: &[u8]) -> bool
         requires stands { Stands quoted value.now }
-        requires shallow { is_shallow self.old.settings (Some level) ≡ true }
-        ensures placed { result ≡ true → Places self.old self.new (Phase.Keys false)
-            (short_node self.old.settings quoted (Phase.Value was_simple) level.flow level.indent
-            false value.now) }
-        ensures same { result ≡ false → self.new ≡ self.old }
-    {
-        if was_simple {
-            self.place_simple(quoted, value)
-        } else {
-            false
-        }
-    }
-
-    // A bare scalar in the innermost collection, where one is open and it fits the line.
-    // Inlined into its one caller.
-    #[inline(always)]
-    fn place_bare(&mut self, value: &[u8]) -> bool
-        requires stands { Stands false value.now }
         requires form { self.old.settings.canonical ≡ false }
         requires due { self.old.place ≡ at.Node }
         requires open { is_shallow self.old.settings (top_of (stack_of self.old.levels)) ≡ true }
-        ensures laid { result ≡ true → (x : SaidScalar) (empty : Bool) → IsInline false x
+        ensures laid { result ≡ true → (x : SaidScalar) (empty : Bool) → IsInline quoted x
             → x.value ≡ value.now → LaysOut self.old self.new (scalar x) empty }
         ensures same { result ≡ false → self.new ≡ self.old }
     {
@@ -204,76 +142,46 @@ impl Core {
         match innermost {
             None => false,
             Some(level) => match level.phase {
-                Phase::Items(fresh) => self.place_entry(level, true, fresh, false, value),
-                Phase::Keys(fresh) => self.place_entry(level, false, fresh, false, value),
-                Phase::Value(was_simple) => self.place_value(level, was_simple, false, value),
+                Phase::Items(fresh) => self.place_entry(level, true, fresh, quoted, value),
+                Phase::Keys(fresh) => self.place_entry(level, false, fresh, quoted, value),
+                Phase::Value(was_simple) => self.place_value(level, was_simple, quoted, value),
             },
         }
     }
 
     // An event that is known to be such a scalar: at once, or in the general way.
-    // Inlined: with a loop over events that has the emitter's step in line it is a call less for each.
+    // Inlined: whether it is in quotes is known.
     #[inline(always)]
-    fn lay_bare(&mut self, event: &mut yaml_event_body_t, empty: bool)
-        requires utf8 { HasUtf8 (body_of event.old) }
+    fn lay_short<L>(&mut self, event: &yaml_event_body_t, empty: bool, quoted: bool)
+        requires utf8 { HasUtf8 (body_of event.now) }
         requires form { self.old.settings.canonical ≡ false }
         requires due { self.old.place ≡ at.Node }
         requires open { is_shallow self.old.settings (top_of (stack_of self.old.levels)) ≡ true }
-        requires short { IsInlineEvent false (emitter_event (body_of event.old)) }
-        ensures { LaysOut self.old self.new (emitter_event (body_of event.old)) empty }
+        requires short { IsInlineEvent quoted (emitter_event (body_of event.now)) }
+        ensures { LaysOut self.old self.new (emitter_event (body_of event.now)) empty }
     {
         match event {
             yaml_event_body_t::Scalar { value, .. } => {
-                if !self.place_bare(value) {
+                if !self.place_short::<L>(quoted, value) {
                     self.lay_other_scalar(event, empty);
                 }
             }
-            _ => self.lay_any(event, empty),
+            _ => (),
         }
     }
 
-    // A scalar in double quotes in the innermost collection, where one is open and it fits the line.
-    // Inlined into its one caller.
-    #[inline(always)]
-    fn place_framed(&mut self, value: &[u8]) -> bool
-        requires stands { Stands true value.now }
-        requires form { self.old.settings.canonical ≡ false }
-        requires due { self.old.place ≡ at.Node }
-        requires open { is_shallow self.old.settings (top_of (stack_of self.old.levels)) ≡ true }
-        ensures laid { result ≡ true → (x : SaidScalar) (empty : Bool) → IsInline true x
-            → x.value ≡ value.now → LaysOut self.old self.new (scalar x) empty }
-        ensures same { result ≡ false → self.new ≡ self.old }
-    {
-        let innermost = self.levels.top();
-        match innermost {
-            None => false,
-            Some(level) => match level.phase {
-                Phase::Items(fresh) => self.place_entry(level, true, fresh, true, value),
-                Phase::Keys(fresh) => self.place_entry(level, false, fresh, true, value),
-                Phase::Value(was_simple) => self.place_value(level, was_simple, true, value),
-            },
-        }
-    }
-
-    // An event that is known to be such a scalar: at once, or in the general way.
+    // One in quotes.
     // Out of line: that it is in quotes is known in all that is inlined here.
     #[inline(never)]
-    fn lay_framed(&mut self, event: &mut yaml_event_body_t, empty: bool)
-        requires utf8 { HasUtf8 (body_of event.old) }
+    fn lay_quoted(&mut self, event: &yaml_event_body_t, empty: bool)
+        requires utf8 { HasUtf8 (body_of event.now) }
         requires form { self.old.settings.canonical ≡ false }
         requires due { self.old.place ≡ at.Node }
         requires open { is_shallow self.old.settings (top_of (stack_of self.old.levels)) ≡ true }
-        requires short { IsInlineEvent true (emitter_event (body_of event.old)) }
-        ensures { LaysOut self.old self.new (emitter_event (body_of event.old)) empty }
+        requires short { IsInlineEvent true (emitter_event (body_of event.now)) }
+        ensures { LaysOut self.old self.new (emitter_event (body_of event.now)) empty }
     {
-        match event {
-            yaml_event_body_t::Scalar { value, .. } => {
-                if !self.place_framed(value) {
-                    self.lay_other_scalar(event, empty);
-                }
-            }
-            _ => self.lay_any(event, empty),
-        }
+        self.lay_short::<Framed>(event, empty, true);
     }
 
     // Whether a short scalar may be laid out at once: a node is due, in a collection that isn't too deep.
@@ -290,43 +198,30 @@ impl Core {
     // A scalar, in the general way.
     // Out of line: beside the short ones.
     #[inline(never)]
-    fn lay_other_scalar(&mut self, event: &mut yaml_event_body_t, empty: bool)
-        requires utf8 { HasUtf8 (body_of event.old) }
+    fn lay_other_scalar(&mut self, event: &yaml_event_body_t, empty: bool)
+        requires kind { type_of (body_of event.now) ≡ kind.YAML_SCALAR_EVENT }
+        requires utf8 { HasUtf8 (body_of event.now) }
         requires form { self.old.settings.canonical ≡ false }
-        ensures { LaysOut self.old self.new (emitter_event (body_of event.old)) empty }
+        ensures { LaysOut self.old self.new (emitter_event (body_of event.now)) empty }
     {
         self.lay_scalar(event, empty, false);
-    }
-
-    // A scalar, where a node is due, in a collection that isn't too deep.
-    // Inlined into its one caller.
-    #[inline(always)]
-    fn lay_inner_scalar(&mut self, event: &mut yaml_event_body_t, empty: bool)
-        requires utf8 { HasUtf8 (body_of event.old) }
-        requires form { self.old.settings.canonical ≡ false }
-        requires due { self.old.place ≡ at.Node }
-        requires open { is_shallow self.old.settings (top_of (stack_of self.old.levels)) ≡ true }
-        ensures { LaysOut self.old self.new (emitter_event (body_of event.old)) empty }
-    {
-        if is_bare(event) {
-            self.lay_bare(event, empty);
-        } else if is_framed(event) {
-            self.lay_framed(event, empty);
-        } else {
-            self.lay_other_scalar(event, empty);
-        }
     }
 
     // A scalar.
     // Out of line: its registers are put aside for scalars alone.
     #[inline(never)]
-    pub(super) fn lay_pretty_scalar(&mut self, event: &mut yaml_event_body_t, empty: bool)
-        requires utf8 { HasUtf8 (body_of event.old) }
+    fn lay_pretty_scalar(&mut self, event: &yaml_event_body_t, empty: bool)
+        requires kind { type_of (body_of event.now) ≡ kind.YAML_SCALAR_EVENT }
+        requires utf8 { HasUtf8 (body_of event.now) }
         requires form { self.old.settings.canonical ≡ false }
-        ensures { LaysOut self.old self.new (emitter_event (body_of event.old)) empty }
+        ensures { LaysOut self.old self.new (emitter_event (body_of event.now)) empty }
     {
-        if self.is_ready() {
-            self.lay_inner_scalar(event, empty);
+        if !self.is_ready() {
+            self.lay_other_scalar(event, empty);
+        } else if is_inline(event, false) {
+            self.lay_short::<Bare>(event, empty, false);
+        } else if is_inline(event, true) {
+            self.lay_quoted(event, empty);
         } else {
             self.lay_other_scalar(event, empty);
         }
@@ -335,64 +230,28 @@ impl Core {
     // What opens a sequence.
     // Out of line: kind and form are known, and what other kinds need takes no room here.
     #[inline(never)]
-    fn lay_pretty_sequence_start(&mut self, event: &mut yaml_event_body_t, empty: bool)
-        requires utf8 { HasUtf8 (body_of event.old) }
+    fn lay_pretty_sequence_start(&mut self, event: &yaml_event_body_t, empty: bool)
+        requires kind { type_of (body_of event.now) ≡ kind.YAML_SEQUENCE_START_EVENT }
         requires form { self.old.settings.canonical ≡ false }
-        ensures { LaysOut self.old self.new (emitter_event (body_of event.old)) empty }
+        ensures { LaysOut self.old self.new (emitter_event (body_of event.now)) empty }
     {
         match event {
             yaml_event_body_t::SequenceStart { .. } => self.lay_start(event, empty, false),
-            _ => self.lay_any(event, empty),
+            _ => (),
         }
     }
 
     // What opens a mapping.
     // Out of line: kind and form are known, and what other kinds need takes no room here.
     #[inline(never)]
-    fn lay_pretty_mapping_start(&mut self, event: &mut yaml_event_body_t, empty: bool)
-        requires utf8 { HasUtf8 (body_of event.old) }
+    fn lay_pretty_mapping_start(&mut self, event: &yaml_event_body_t, empty: bool)
+        requires kind { type_of (body_of event.now) ≡ kind.YAML_MAPPING_START_EVENT }
         requires form { self.old.settings.canonical ≡ false }
-        ensures { LaysOut self.old self.new (emitter_event (body_of event.old)) empty }
+        ensures { LaysOut self.old self.new (emitter_event (body_of event.now)) empty }
     {
         match event {
             yaml_event_body_t::MappingStart { .. } => self.lay_start(event, empty, false),
-            _ => self.lay_any(event, empty),
-        }
-    }
-
-    // What ends a sequence.
-    // Out of line: kind and form are known, and what other kinds need takes no room here.
-    #[inline(never)]
-    fn lay_pretty_sequence_end(&mut self, empty: bool)
-        requires { self.old.settings.canonical ≡ false }
-        ensures { LaysOut self.old self.new sequence_end empty }
-    {
-        let mut event = yaml_event_body_t::SequenceEnd;
-        self.lay_by(&mut event, empty, false);
-    }
-
-    // What ends a mapping.
-    // Out of line: kind and form are known, and what other kinds need takes no room here.
-    #[inline(never)]
-    fn lay_pretty_mapping_end(&mut self, empty: bool)
-        requires { self.old.settings.canonical ≡ false }
-        ensures { LaysOut self.old self.new mapping_end empty }
-    {
-        let mut event = yaml_event_body_t::MappingEnd;
-        self.lay_by(&mut event, empty, false);
-    }
-
-    // An alias.
-    // Out of line: kind and form are known, and what other kinds need takes no room here.
-    #[inline(never)]
-    fn lay_pretty_alias(&mut self, event: &mut yaml_event_body_t, empty: bool)
-        requires utf8 { HasUtf8 (body_of event.old) }
-        requires form { self.old.settings.canonical ≡ false }
-        ensures { LaysOut self.old self.new (emitter_event (body_of event.old)) empty }
-    {
-        match event {
-            yaml_event_body_t::Alias { .. } => self.lay_known_alias(event, empty, false),
-            _ => self.lay_any(event, empty),
+            _ => (),
         }
     }
 
@@ -408,10 +267,10 @@ impl Core {
             yaml_event_body_t::Scalar { .. } => self.lay_pretty_scalar(event, empty),
             yaml_event_body_t::SequenceStart { .. } => self.lay_pretty_sequence_start(event, empty),
             yaml_event_body_t::MappingStart { .. } => self.lay_pretty_mapping_start(event, empty),
-            yaml_event_body_t::SequenceEnd => self.lay_pretty_sequence_end(empty),
-            yaml_event_body_t::MappingEnd => self.lay_pretty_mapping_end(empty),
-            yaml_event_body_t::Alias { .. } => self.lay_pretty_alias(event, empty),
-            _ => self.lay_any(event, empty),
+            yaml_event_body_t::SequenceEnd => self.lay_sequence_end(empty),
+            yaml_event_body_t::MappingEnd => self.lay_mapping_end(empty),
+            yaml_event_body_t::Alias { .. } => self.lay_alias(event, empty),
+            _ => self.lay_rare(event, empty),
         }
     }
 }

@@ -1,7 +1,8 @@
+use Rattle.std.proofs.Common.{refl}
 use Rattle.yaml_emit_state.proofs.state.Core.lay_text.Goals as goal
 
-pub returns-else-not-place_text : goal.returns-else-not-place_text
-returns-else-not-place_text c = c.place_text.ensures.laid c.if-not-place_text.false
+pub returns-then-not-place_framed : goal.returns-then-not-place_framed
+returns-then-not-place_framed c = rw (c.place_framed.ensures.same c.if-not-place_framed.true) at c.lay_any_text.ensures
 
-pub returns-then-not-place_text : goal.returns-then-not-place_text
-returns-then-not-place_text c = rw (c.place_text.ensures.same c.if-not-place_text.true) at c.lay_any_text.ensures
+pub returns-else-not-place_framed : goal.returns-else-not-place_framed
+returns-else-not-place_framed c = λ style empty. c.place_framed.ensures.laid c.if-not-place_framed.false _ empty (refl, refl) refl refl

@@ -1,12 +1,12 @@
-use Rattle.std.proofs.Common.{true, false, refl, sym, ◌∙◌}
-use Rattle.yaml_emit_state.proofs.Unmarked.{lays_short, item_behind, key_behind, value_behind}
+use Rattle.std.proofs.Common.{sym, ◌∙◌}
+use Rattle.yaml_emit_state.proofs.Framed.{front_ascii, puts_framed, lays_framed}
 use Rattle.yaml_emit_state.proofs.state.Core.place_framed.Goals as goal
 
-pub returns-in-Items-clause-laid : goal.returns-in-Items-clause-laid
-returns-in-Items-clause-laid c = λ h x empty b same. lays_short true c.args.self.now _ _ _ _ false c.args.value.now x empty c.requires.form c.requires.due (sym c.in-Some.is ∙ c.top-innermost.ensures) c.in-Items.is refl (item_behind _) (c.place_entry.ensures.placed h) b same
+pub put_lined-requires-clause-ascii : goal.put_lined-requires-clause-ascii
+put_lined-requires-clause-ascii c = rw c.front_of-front.ensures (front_ascii c.args.tagged _ _ _ (c.is_lined.ensures c.if-is_lined.true))
 
-pub returns-in-Keys-clause-laid : goal.returns-in-Keys-clause-laid
-returns-in-Keys-clause-laid c = λ h x empty b same. lays_short true c.args.self.now _ _ _ _ true c.args.value.now x empty c.requires.form c.requires.due (sym c.in-Some.is ∙ c.top-innermost.ensures) c.in-Keys.is refl (key_behind _) (c.place_entry-in-Keys.ensures.placed h) b same
-
-pub returns-in-Value-clause-laid : goal.returns-in-Value-clause-laid
-returns-in-Value-clause-laid c = λ h x empty b same. lays_short true c.args.self.now _ _ _ _ false c.args.value.now x empty c.requires.form c.requires.due (sym c.in-Some.is ∙ c.top-innermost.ensures) c.in-Value.is refl (value_behind _) (c.place_value.ensures.placed h) b same
+pub returns-then-is_lined-clause-laid : goal.returns-then-is_lined-clause-laid
+returns-then-is_lined-clause-laid c = λ h x empty framed q same.
+    let begins = c.begins_line.ensures c.if-begins_line.true in
+    let put = puts_framed c.args.tagged c.settings-settings.result _ c.args.quoted c.args.value.now _ _ begins (c.is_lined.ensures c.if-is_lined.true) (rw (c.line_start_of-start.ensures, c.sign_of.ensures, c.front_of-front.ensures) at c.put_lined.ensures) in
+    lays_framed c.args.tagged c.args.self.now c.step.new.self _ _ _ _ c.args.quoted c.args.value.now x empty c.settings-settings.ensures (sym c.in-Some.is ∙ c.top.ensures) c.requires.form c.requires.due c.requires.none framed q same put c.step.ensures.state c.step.ensures.same

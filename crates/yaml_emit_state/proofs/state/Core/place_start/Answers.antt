@@ -1,6 +1,13 @@
-use Rattle.std.proofs.Common.{◌∙◌}
+use Rattle.std.proofs.Common.{sym, ◌∙◌}
+use Rattle.yaml_emit_text.proofs.Sinks.{puts_both}
+use Rattle.yaml_emit_state.proofs.Framed.{lays_bracket, puts_bracket}
+use Rattle.yaml_emit_state.proofs.Unmarked.{none_given}
 use Rattle.yaml_emit_state.proofs.state.Core.place_start.Goals as goal
 
-pub returns-then-has_none-clause-laid : goal.returns-then-has_none-clause-laid
-returns-then-has_none-clause-laid c = λ h q empty anchor tag.
-    c.place_bracket.ensures.laid h q empty (anchor ∙ c.has_none.ensures.anchor c.if-has_none.true) (tag ∙ c.has_none.ensures.tag c.if-has_none.true)
+pub returns-then-begins_line-clause-laid : goal.returns-then-begins_line-clause-laid
+returns-then-begins_line-clause-laid c = λ h q empty anchor tag.
+    let none = none_given _ _ (sym c.has_none.ensures ∙ c.if-not-has_none.false) in
+    let begins = c.begins_line.ensures c.if-begins_line.true in
+    let put = puts_both _ _ _ _ _ (rw c.line_start_of-start.ensures at c.put_led.ensures) c.set_after_block.ensures in
+    lays_bracket c.args.self.now c.open_by.new.self _ _ _ _ c.args.sequence q empty c.settings-settings.ensures (sym c.in-Some.is ∙ c.top.ensures) c.opening_bracket.ensures c.requires.form (c.awaits_node.ensures c.if-not-awaits_node.false) (anchor ∙ none.0) (tag ∙ none.1)
+    (puts_bracket c.settings-settings.result _ _ _ _ begins put) c.open_by.ensures

@@ -1,7 +1,7 @@
 -- Runs of ordinary bytes in plain scalars.
 use Rattle.std.proofs.Math.Bool.{and-false}
 use Rattle.std.proofs.Common.{◌≡◌, ℕ, zero, suc, ◌+◌, ◌-◌, ◌<◌, ◌≤◌, ◌==◌, ◌&&◌, if◌then◌else◌, Bool, true, false, List, [], ◌∷◌, ◌++◌, length, Result, Ok, Err, refl, sym, ap, ◌∙◌, inl, inr, ◌⊎◌, arith}
-use Rattle.yaml_scan_scalars.proofs.Words.{cases_Bool, ne_eqb, nat_tests, Place, byte, ends_break, is_blank, Wrong, Joining, Piece, Kept, value, is_ordinary, is_common, is_narrow, is_odd, parts_flow, plain_kind, is_document_indicator, is_sign, in_run, bytes_at, piece_of, run_pieces, ends_kept, starts_kept, IsRun, Takes, Words, is_bracket, is_nothing, with_piece, with_run, words_from, plain_with, plain_text, plain_at, spot_at, ends_at, leads, after_white, joined, TookWords}
+use Rattle.yaml_scan_scalars.proofs.Words.{cases_Bool, ne_eqb, nat_tests, Place, byte, ends_break, is_blank, Wrong, Joining, Piece, Kept, value, is_ordinary, is_common, is_narrow, is_odd, plain_kind, is_document_indicator, is_sign, in_run, bytes_at, piece_of, run_pieces, ends_kept, starts_kept, IsRun, Takes, Words, is_bracket, is_nothing, with_piece, with_run, words_from, plain_with, plain_text, plain_at, spot_at, ends_at, leads, after_white, joined, TookWords}
 use Rattle.yaml_scan_scalars.specs.declared.folding.Gap.TheVariants as gaps
 use Rattle.yaml_scan_scalars.proofs.RunLemmas.{IsCalm, calm_no_break, calm_ends_none, calm_no_blank, calm_no_space, ordinary_calm, ordinary_no_mark, sign_calm, no_mark_here, link_cases, run_parts, space_here, bytes_none, bytes_more, ends_bytes, resume_run, value_run, same_or}
 use Rattle.yaml_scan_scalars.proofs.FoldingLemmas.{value-kept}
@@ -77,7 +77,7 @@ record IsText (flow : Bool) (b : ℕ) : Type 0 where
   no_part : (flow && is_bracket b) ≡ false
 
 text_is : (flow : Bool) (b : ℕ) → is_ordinary (plain_kind flow) b ≡ true → IsText flow b
-unfolding is_common is_narrow is_odd parts_flow is_bracket
+unfolding is_common is_narrow is_odd is_bracket
 text_is true b h = record { no_hash = grind (arith, nat_tests); no_colon = grind (arith, nat_tests); no_part = grind (arith, nat_tests) }
 text_is false b h = record { no_hash = grind (arith, nat_tests); no_colon = grind (arith, nat_tests); no_part = refl }
 

@@ -227,14 +227,6 @@ first_last kind text p place run h =
           rw e (calm_no_space _ (ordinary_calm kind _ (run.last l)))
     ]
 
-starts_first : (b : ℕ) (bs : List ℕ) → (b == 32) ≡ false → starts_kept (b ∷ bs) ≡ true
-starts_first b bs h = rw h refl
-
-pub starts_bytes : (text : List ℕ) (p d : ℕ) → (byte text p == 32) ≡ false
-    → starts_kept (bytes_at text p d) ≡ true
-starts_bytes text p zero h = rw (bytes_none text p) refl
-starts_bytes text p (suc d) h = rw (bytes_more text p d) (starts_first (byte text p) (bytes_at text (p + 1) d) h)
-
 -- a run as one piece
 
 kept_some : (b : ℕ) (bs : List ℕ) (ps : List Piece) → ends_kept (b ∷ bs) ≡ true
@@ -332,11 +324,6 @@ pub resume_bytes : (f : Folding) (bs : List ℕ) (ps : List Piece)
     → resume f (Kept bs ∷ ps) ≡ resume f (run_pieces bs ++ ps)
 resume_bytes f [] ps s e h = absurd (omega arith)
 resume_bytes f (b ∷ bs) ps s e h = resume_run f b bs ps s e
-
-pub resume_none : (f : Folding) (bs : List ℕ) (ps : List Piece) → length bs ≡ 0
-    → resume f ps ≡ resume f (run_pieces bs ++ ps)
-resume_none f [] ps h = refl
-resume_none f (b ∷ bs) ps h = absurd (omega (arith, h))
 
 -- a run between quotes
 

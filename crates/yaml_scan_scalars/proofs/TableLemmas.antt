@@ -1,7 +1,7 @@
 -- The table of ordinary bytes, and the marks behind a run of them.
 use Rattle.std.proofs.Common.{◌≡◌, ℕ, ◌+◌, ◌<◌, ◌≤◌, if◌then◌else◌, Bool, true, false, ◌&&◌, ◌||◌, ◌-◌, ◌∙◌, List, length, refl, sym, inl, inr, arith}
-use Rattle.yaml_scan_scalars.proofs.Words.{nat_tests, cases_Bool, cases_lt, and_parts, true≢false, or_cases, or_parts, byte, break_of, ends_break, splits_break, starts, line_at, column_at, within, end_next, split_next, line_more, column_more, column_same, is_ordinary, is_common, is_narrow, is_odd, parts_flow, is_link, is_linked, in_run, IsRun}
-use Rattle.yaml_scan_scalars.proofs.RunLemmas.{calm_no_break, common_ordinary, narrow_ordinary, ordinary_calm, link_cases, ordinary_in, linked_in, run_parts}
+use Rattle.yaml_scan_scalars.proofs.Words.{nat_tests, cases_Bool, cases_lt, and_parts, true≢false, or_cases, or_parts, byte, break_of, ends_break, splits_break, starts, line_at, column_at, within, end_next, split_next, line_more, column_more, column_same, is_ordinary, is_common, is_narrow, is_odd, is_link, is_linked, in_run, IsRun, is_bracket}
+use Rattle.yaml_scan_scalars.proofs.RunLemmas.{common_ordinary, narrow_ordinary, ordinary_calm, link_cases, ordinary_in, linked_in, run_parts}
 
 column_behind : (text : List ℕ) (p : ℕ) → ends_break text p ≡ false
     → column_at text (p + 1) ≡ column_at text p + (if starts (byte text p) then 1 else 0)
@@ -24,10 +24,6 @@ behind_none text p none whole =
     let e = end_next text p whole none in
     record { line = line_more text p e; column = column_behind text p e; whole = split_next text p whole none }
 
-pub behind : (text : List ℕ) (p : ℕ) → is_common (byte text p) ≡ true
-    → splits_break text p ≡ false → Behind text p
-behind text p o whole = behind_none text p (calm_no_break _ _ _ (ordinary_calm 1 _ (common_ordinary 1 (byte text p) o))) whole
-
 -- a byte of a test that 0 isn't of stands within the text
 beyond : (test : ℕ → Bool) (text : List ℕ) (p : ℕ) → test 0 ≡ false → length text ≤ p
     → test (byte text p) ≡ false
@@ -39,7 +35,7 @@ beyond test text p none h =
 
 -- behind the end
 pub past_common : (text : List ℕ) (p : ℕ) → length text ≤ p → is_common (byte text p) ≡ false
-unfolding is_common is_narrow is_odd parts_flow
+unfolding is_common is_narrow is_odd is_bracket
 past_common text p h = beyond is_common text p refl h
 
 pub common_inside : (text : List ℕ) (p : ℕ) → is_common (byte text p) ≡ true → p < length text

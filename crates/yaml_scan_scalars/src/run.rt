@@ -189,18 +189,9 @@ fn wide_run(reader: &mut Reader)
     ensures run { (kind : ℕ) → spec.IsRun kind reader.old.text reader.old.at reader.new }
     ensures inside { reader.new.at ≤ length reader.old.text }
 {
-    let here = reader.stop();
-    let text = reader.text();
-    let mut end = reader.place();
-    let mut column = here.column;
-    'bytes: while common_at(text, end) {
-        column += begun(text[end]);
-        end += 1;
+    // Read for the clauses: the place that is reached stands inside the text.
+    let _here = reader.stop();
+    'bytes: while common_at(reader.text(), reader.place()) {
+        pass_byte(reader);
     }
-    let mark = yaml_mark_t {
-        index: end as u64,
-        line: here.line,
-        column,
-    };
-    *reader = Reader::resume(text, mark);
 }

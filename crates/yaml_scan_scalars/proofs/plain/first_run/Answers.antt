@@ -1,10 +1,7 @@
 use Rattle.std.proofs.Common.{◌∙◌, ◌+◌, ◌-◌, ◌≤◌, length, arith}
-use Rattle.yaml_scan_scalars.proofs.Words.{IsRun, holds_slice}
+use Rattle.yaml_scan_scalars.proofs.Words.{IsRun}
 use Rattle.yaml_scan_scalars.proofs.RunLemmas.{slice_bytes}
 use Rattle.yaml_scan_scalars.proofs.plain.first_run.Goals as goal
-
-pub returns-clause-run : goal.returns-clause-run
-returns-clause-run c = rw c.pass_byte.ensures at c.ordinary_run-run.ensures.place
 
 pub returns-clause-bytes : goal.returns-clause-bytes
 returns-clause-bytes c =
@@ -14,12 +11,3 @@ returns-clause-bytes c =
     let run : IsRun c.args.kind text (p + 1) c.ordinary_run-run.new.reader = rw c.pass_byte.ensures at c.ordinary_run-run.ensures.place in
     let inside : q ≤ length text = rw c.pass_byte.ensures at c.ordinary_run-run.ensures.inside in
     rw (c.place-from.ensures, run.same) at c.since.ensures ∙ slice_bytes text p (q - p) (omega (arith, run.after))
-
-pub returns-clause-stands : goal.returns-clause-stands
-returns-clause-stands c =
-    let text = c.args.reader.now.text in
-    let p = c.args.reader.now.at in
-    let run : IsRun c.args.kind text (p + 1) c.ordinary_run-run.new.reader = rw c.pass_byte.ensures at c.ordinary_run-run.ensures.place in
-    let after = run.after in
-    let slice = rw (c.place-from.ensures, run.same) at c.since.ensures in
-    holds_slice text p c.ordinary_run-run.new.reader.at _ (omega arith) (rw c.pass_byte.ensures at c.ordinary_run-run.ensures.inside) slice

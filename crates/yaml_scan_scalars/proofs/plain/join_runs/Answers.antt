@@ -49,16 +49,3 @@ pieces-preserved c =
       seat = rw ran.run.same ran.seat;
       rest = c.pieces.invariant.rest ∙ next.rest ∙ plain_run c.args.flow c.args.level c.args.reader.now.text c.piece.new.reader.at c.piece.new.joining c.keep_run.new.joining c.keep_run.new.reader ran;
     }
-
-pub keep_run-requires-clause-seat : goal.keep_run-requires-clause-seat
-keep_run-requires-clause-seat c =
-    let next = turn_more c.args.flow c.args.level c.args.reader.now.text c.args.start c.pieces.reader.at c.pieces.joining c.piece.new.joining c.piece.new.reader (rw (← c.pieces.invariant.text) (rw c.if-not-more.false at c.in_ok-more.ensures)) in
-    rw next.same next.seat
-
-pub pieces-smaller : goal.pieces-smaller
-pieces-smaller c =
-    let next = turn_more c.args.flow c.args.level c.args.reader.now.text c.args.start c.pieces.reader.at c.pieces.joining c.piece.new.joining c.piece.new.reader (rw (← c.pieces.invariant.text) (rw c.if-not-more.false at c.in_ok-more.ensures)) in
-    let further = next.further in
-    let inside = next.inside in
-    let after = c.in_ok-keep_run.ensures.run.after in
-    omega arith

@@ -1,12 +1,7 @@
-use Rattle.std.proofs.Common.{◌≡◌, ◌∙◌, ◌<◌, length, arith}
+use Rattle.std.proofs.Common.{◌∙◌, ◌<◌, length, arith}
 use Rattle.yaml_scan_scalars.proofs.Words.{nat_tests}
-use Rattle.yaml_scan_scalars.proofs.RunLemmas.{resume_bytes, resume_none}
+use Rattle.yaml_scan_scalars.proofs.RunLemmas.{resume_bytes}
 use Rattle.yaml_scan_scalars.proofs.quoted.keep_some.Goals as goal
-
-pub returns-then-is_empty : goal.returns-then-is_empty
-returns-then-is_empty c =
-    let none : length c.args.bytes.now ≡ 0 = grind (arith, nat_tests, c.is_empty.ensures, c.if-is_empty.true) in
-    λ ps. resume_none c.args.folding.now c.args.bytes.now ps none
 
 pub returns : goal.returns
 returns c =

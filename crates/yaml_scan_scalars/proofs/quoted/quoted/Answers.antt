@@ -1,25 +1,16 @@
 use Rattle.std.proofs.Common.{◌+◌, ◌∙◌, refl, sym}
 use Rattle.yaml_scan_scalars.proofs.Words.{quoted_kind, within, IsRun}
 use Rattle.yaml_scan_scalars.proofs.QuotedLemmas.{quote_no_break, quote_some}
-use Rattle.yaml_scan_scalars.proofs.OneRunLemmas.{own_mark, closes_both, quoted_one, some_quote, run_whole}
+use Rattle.yaml_scan_scalars.proofs.OneRunLemmas.{closes_both, quoted_one, some_quote}
 use Rattle.yaml_scan_scalars.proofs.quoted.quoted.Goals as goal
 
 pub pass_byte-requires-clause-no_break : goal.pass_byte-requires-clause-no_break
 pass_byte-requires-clause-no_break c = quote_no_break c.args.quote _ _ _ c.requires.opened c.requires.quote
 
-pub pass_byte-requires-then-closes-clause-some : goal.pass_byte-requires-then-closes-clause-some
-pass_byte-requires-then-closes-clause-some c =
-    quote_some _ _ refl (some_quote _ _ (closes_both _ _ _ (sym c.closes.ensures ∙ c.if-closes.true)).0 c.requires.quote)
-
 pub pass_byte-requires-then-closes-clause-no_break :
     goal.pass_byte-requires-then-closes-clause-no_break
 pass_byte-requires-then-closes-clause-no_break c =
     quote_no_break _ _ _ _ refl (some_quote _ _ (closes_both _ _ _ (sym c.closes.ensures ∙ c.if-closes.true)).0 c.requires.quote)
-
-pub copied-requires : goal.copied-requires
-copied-requires c =
-    let run : IsRun (quoted_kind c.args.quote) c.args.reader.now.text (c.args.reader.now.at + 1) c.ordinary_run-bytes.new.reader = rw (c.pass_byte.ensures, c.quoted_kind.ensures.same) at c.ordinary_run-bytes.ensures.place in
-    rw (c.text.ensures, c.pass_byte-then-closes.ensures, run.same, c.place-from.ensures, c.pass_byte.ensures) (rw c.pass_byte.ensures at c.ordinary_run-bytes.ensures.stands)
 
 pub returns-then-closes : goal.returns-then-closes
 returns-then-closes c =
@@ -31,21 +22,3 @@ returns-then-closes c =
     let both = closes_both _ _ _ (rw run.same at (sym c.closes.ensures ∙ c.if-closes.true)) in
     let one = quoted_one c.args.quote text p c.ordinary_run-bytes.new.reader c.requires.quote inside run both.0 both.1 in
     rw (one, ← bytes) (c.in_ok-value.ensures, rw run.same at c.pass_byte-then-closes.ensures)
-
-pub many_runs-requires-clause-ran : goal.many_runs-requires-clause-ran
-many_runs-requires-clause-ran c =
-    let text = c.args.reader.now.text in
-    let p = c.args.reader.now.at in
-    let run : IsRun (quoted_kind c.args.quote) text (p + 1) c.ordinary_run-bytes.new.reader = rw (c.pass_byte.ensures, c.quoted_kind.ensures.same) at c.ordinary_run-bytes.ensures.place in
-    record {
-      inside = rw (run.same, c.mark-start.ensures) (within text p (quote_some c.args.quote _ c.requires.opened c.requires.quote));
-      own = rw run.same (own_mark text _ _ c.mark-start.ensures).0;
-      run = rw (run.same, c.mark-start.ensures) (run_whole (quoted_kind c.args.quote) _ _ _ run);
-      are = rw (run.same, c.mark-start.ensures) (rw c.pass_byte.ensures at c.ordinary_run-bytes.ensures.bytes);
-    }
-
-pub returns : goal.returns
-returns c =
-    let run : IsRun (quoted_kind c.args.quote) c.args.reader.now.text (c.args.reader.now.at + 1) c.ordinary_run-bytes.new.reader = rw (c.pass_byte.ensures, c.quoted_kind.ensures.same) at c.ordinary_run-bytes.ensures.place in
-    let at = (own_mark c.args.reader.now.text _ _ c.mark-start.ensures).1 in
-    rw (run.same, at) at c.many_runs.ensures

@@ -1,5 +1,4 @@
 use Rattle.std.proofs.Common.{◌-◌, ◌∙◌, arith}
-use Rattle.yaml_scan_scalars.proofs.Words.{holds_slice}
 use Rattle.yaml_scan_scalars.proofs.RunLemmas.{slice_bytes}
 use Rattle.yaml_scan_scalars.proofs.run.ordinary_run.Goals as goal
 
@@ -8,9 +7,3 @@ returns-clause-bytes c =
     let run = c.pass_run.ensures.run in
     let b = rw (c.place-from.ensures, run.same) at c.since.ensures in
     b ∙ slice_bytes c.args.reader.now.text c.args.reader.now.at (c.pass_run.new.reader.at - c.args.reader.now.at) (omega (arith, run.after, c.pass_run.ensures.inside))
-
-pub returns-clause-stands : goal.returns-clause-stands
-returns-clause-stands c =
-    let run = c.pass_run.ensures.run in
-    let b = rw (c.place-from.ensures, run.same) at c.since.ensures in
-    holds_slice _ _ _ _ run.after c.pass_run.ensures.inside b

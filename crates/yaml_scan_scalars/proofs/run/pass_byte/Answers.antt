@@ -3,9 +3,6 @@ use Rattle.yaml_scan_scalars.proofs.Words.{yaml_mark_t, byte, starts, column_at,
 use Rattle.yaml_scan_scalars.proofs.TableLemmas.{behind_none, one_at_most}
 use Rattle.yaml_scan_scalars.proofs.run.pass_byte.Goals as goal
 
-pub bounds-text-place : goal.bounds-text-place
-bounds-text-place c = rw (c.text-text.ensures, c.place.ensures) (within c.args.reader.now.text c.args.reader.now.at c.requires.some)
-
 pub overflow_add-mark-2 : goal.overflow_add-mark-2
 overflow_add-mark-2 c =
     let text = c.args.reader.now.text in
@@ -15,11 +12,6 @@ overflow_add-mark-2 c =
     let now : length c.text-text.result.now ≡ length text = ap (λ (xs : List ℕ). length xs) c.text-text.ensures in
     let some : c.begun.result ≤ 1 = rw c.begun.ensures (one_at_most _) in
     omega (arith, column, column_at-le text p, inside, now, some)
-
-pub resume-requires-clause-inside : goal.resume-requires-clause-inside
-resume-requires-clause-inside c =
-    let inside = within c.args.reader.now.text c.args.reader.now.at c.requires.some in
-    rw (c.text-text.ensures, c.stop-here.ensures.mark) (omega (arith, inside))
 
 pub resume-requires-clause-mark : goal.resume-requires-clause-mark
 resume-requires-clause-mark c =
@@ -33,6 +25,3 @@ pub resume-requires-clause-whole : goal.resume-requires-clause-whole
 resume-requires-clause-whole c =
     let b = behind_none c.args.reader.now.text c.args.reader.now.at c.requires.no_break c.stop-here.ensures.whole in
     rw (c.text-text.ensures, c.stop-here.ensures.mark) b.whole
-
-pub returns : goal.returns
-returns c = rw (c.resume.ensures, c.text-text.ensures, c.stop-here.ensures.mark) refl

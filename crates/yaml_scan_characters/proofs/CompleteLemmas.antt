@@ -21,8 +21,8 @@ use Rattle.yaml_scan_characters.specs.Characters.{is_allowed, allowed_at, valued
 use Rattle.yaml_scan_characters.specs.Decoding.{before, characters, in_utf8, decoded_characters, decoded_text, first_offence}
 use Rattle.yaml_scan_characters.specs.Spelling.{unit_bytes, units_bytes, spelling, spellings, Spells}
 use Rattle.yaml_scan_characters.specs.Steps.{outcome}
-use Rattle.yaml_scan_characters.proofs.DecodeLemmas.{AreBytes}
-use Rattle.yaml_scan_characters.proofs.SpellingLemmas.{ended, turn, sound, utf8_text}
+use Rattle.yaml_scan_characters.proofs.DecodeLemmas.{AreBytes, character_some}
+use Rattle.yaml_scan_characters.proofs.SpellingLemmas.{characters_on, ended, turn, sound, utf8_text}
 
 -- ---- the call
 -- bytes in no 16-bit units are UTF-8
@@ -228,43 +228,25 @@ character_spelled YAML_UTF16LE_ENCODING bytes p c rest allowed h = utf16_spelled
 character_spelled YAML_UTF16BE_ENCODING bytes p c rest allowed h = utf16_spelled HighFirst bytes p c rest allowed h
 character_spelled _ bytes p c rest allowed h = utf8_spelled bytes p c rest allowed h
 
-utf8_some : (c : ℕ) → 0 < length (encode_utf8 c)
-unfolding encode_utf8
-utf8_some c = grind (arith, nat_tests)
-
-utf16_some : (order : ByteOrder) (c : ℕ) → 0 < length (units_bytes order (encode_utf16 c))
-utf16_some order c = by (encode_utf16 c) (grind (arith, nat_tests))
-  where
-    by : (us : List ℕ) → 0 < length us → 0 < length (units_bytes order us)
-    by [] h = absurd (omega arith)
-    by (u ∷ us) h = omega (arith, length-append (unit_bytes order u) (units_bytes order us), length-unit order u)
-
-spelling_some : (e : yaml_encoding_t) (c : ℕ) → 0 < length (spelling e c)
-spelling_some YAML_UTF16LE_ENCODING c = utf16_some LowFirst c
-spelling_some YAML_UTF16BE_ENCODING c = utf16_some HighFirst c
-spelling_some _ c = utf8_some c
-
 -- characters that are spelled are read
-pub complete : (n : ℕ) (e : yaml_encoding_t) (bytes : List ℕ) (p : ℕ) (cs : List ℕ)
-    → length bytes ≤ p + n → AllPass is_allowed cs → drop p bytes ≡ spellings e cs
-    → characters n e bytes p ≡ Ok cs
-complete n e bytes p [] room allowed h = ended n e bytes p (omega (arith, length-drop p bytes, ap length h))
-complete n e bytes p (c ∷ cs) room allowed h =
+complete : (e : yaml_encoding_t) (bytes : List ℕ) (p : ℕ) (cs : List ℕ) → AllPass is_allowed cs
+    → drop p bytes ≡ spellings e cs → characters_on e bytes p ≡ Ok cs
+complete e bytes p [] allowed h = ended (length bytes) e bytes p (omega (arith, length-drop p bytes, ap length h))
+complete e bytes p (c ∷ cs) allowed h =
     let first = All-head (λ x. is_allowed x ≡ true) c cs allowed in
     let stands = character_spelled e bytes p c (spellings e cs) first h in
-    let some : 0 < length (spelling e c) = spelling_some e c in
+    let some : 0 < length (spelling e c) = character_some e bytes p record { code = c; width = length (spelling e c) } stands in
     let all : length bytes - p ≡ length (spelling e c) + length (spellings e cs) = sym (length-drop p bytes) ∙ ap length h ∙ length-append (spelling e c) (spellings e cs) in
-    let t = turn n e bytes p record { code = c; width = length (spelling e c) } (omega arith) room some stands in
     let next : drop (p + length (spelling e c)) bytes ≡ spellings e cs =
     sym (drop-drop (length (spelling e c)) p bytes) ∙ ap (λ (l : List ℕ). drop (length (spelling e c)) l) h ∙ drop_at (spelling e c) (spellings e cs) _ refl in
-    let rest = complete t.fuel e bytes (p + length (spelling e c)) cs t.enough (All-tail (λ x. is_allowed x ≡ true) c cs allowed) next in
-    t.same ∙ ap (before c) rest
+    turn e bytes p record { code = c; width = length (spelling e c) } (omega arith) stands
+    ∙ ap (before c) (complete e bytes (p + length (spelling e c)) cs (All-tail (λ x. is_allowed x ≡ true) c cs allowed) next)
 
 -- the law: bytes are decoded to a text exactly where they spell it
 pub spells_decoded : (s : yaml_encoding_t) (bytes text : List ℕ) → Spells s bytes text
     → decoded_text s bytes ≡ Ok text
 spells_decoded s bytes text k =
-    rw k.is (ap in_utf8 (complete (length bytes) (encoding_of s bytes) bytes (mark_length s bytes) k.characters (omega arith) k.allowed k.spelled))
+    rw k.is (ap in_utf8 (complete (encoding_of s bytes) bytes (mark_length s bytes) k.characters k.allowed k.spelled))
 
 spelled_by : (s : yaml_encoding_t) (bytes text : List ℕ) (r : Result (List ℕ) Offence)
     → AreBytes bytes → decoded_characters s bytes ≡ r → in_utf8 r ≡ Ok text → Spells s bytes text

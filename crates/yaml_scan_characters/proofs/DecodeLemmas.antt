@@ -335,3 +335,14 @@ pub character_stands : (e : yaml_encoding_t) (bytes : List ℕ) (p : ℕ) (ch : 
 character_stands YAML_UTF16LE_ENCODING bytes p ch are h e = utf16_stands LowFirst bytes p ch are h e
 character_stands YAML_UTF16BE_ENCODING bytes p ch are h e = utf16_stands HighFirst bytes p ch are h e
 character_stands _ bytes p ch are h e = utf8_stands bytes p ch h e
+
+units_some : (left u v : ℕ) (ch : Character) → Units left u v ch → 0 < ch.width
+units_some left u v ch (one room allowed is) = rw is (omega arith)
+units_some left u v ch (pair room allowed width code) = omega arith
+
+-- a character takes a byte at least
+pub character_some : (e : yaml_encoding_t) (bytes : List ℕ) (p : ℕ) (ch : Character)
+    → character_at e bytes p ≡ Ok ch → 0 < ch.width
+character_some YAML_UTF16LE_ENCODING bytes p ch h = units_some _ _ _ ch (utf16_gives _ _ _ _ ch h)
+character_some YAML_UTF16BE_ENCODING bytes p ch h = units_some _ _ _ ch (utf16_gives _ _ _ _ ch h)
+character_some _ bytes p ch h = (utf8_gives _ _ _ _ _ _ ch h).some

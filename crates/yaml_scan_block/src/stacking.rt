@@ -27,6 +27,7 @@ pub(crate) struct Stacking {
 
 impl Stacking {
     /// With no lines, in the room of spare texts.
+    #[tactic(auto, using(crate::proofs::StackingLemmas::stack_start), unfolding(crate::specs::Stacked::stacked_with))]
     pub(crate) fn new(spares: &mut Spares, folded: bool) -> Stacking
         ensures { (chomp : Chomp) (ls : List BlockLine) → stacked result chomp ls ≡ block_value
             folded chomp ls }
@@ -41,6 +42,7 @@ impl Stacking {
     }
 
     /// An empty line, by the bytes that its break reads as.
+    #[tactic(auto, using(crate::proofs::StackingLemmas::stack_empty))]
     pub(crate) fn empty(&mut self, bytes: &[u8]) -> Result<(), AllocError>
         ensures { OnOk result ((chomp : Chomp) (ls : List BlockLine) → stacked self.new chomp ls
             ≡ stacked self.old chomp (Empty bytes.now ∷ ls)) }
@@ -51,6 +53,7 @@ impl Stacking {
     }
 
     /// What stands before a line that begins with a blank or doesn't.
+    #[tactic(auto, unfolding(crate::specs::Value::between))]
     fn glue(&mut self, blank: bool) -> Result<(), AllocError>
         ensures rest { OnOk result (self.new ≡ record self.old { done = self.new.done }) }
         ensures done { OnOk result (self.new.done.items ≡ self.old.done.items ++ glue self.old
@@ -64,6 +67,7 @@ impl Stacking {
     }
 
     /// A line with text, and the bytes that its break reads as.
+    #[tactic(auto, using(crate::proofs::StackingLemmas::stack_line))]
     pub(crate) fn line(&mut self, words: &[u8], feed: &'static [u8]) -> Result<(), AllocError>
         ensures { OnOk result ((chomp : Chomp) (ls : List BlockLine) → stacked self.new chomp ls
             ≡ stacked self.old chomp (Words words.now feed.now ∷ ls)) }
@@ -79,6 +83,7 @@ impl Stacking {
     }
 
     /// The value, where no line follows. The room of the empty lines is kept.
+    #[tactic(auto, using(crate::proofs::StackingLemmas::stack_done))]
     pub(crate) fn finish(self, spares: &mut Spares, chomp: Chomp) -> Result<Vec<u8>, AllocError>
         ensures { IfOk result (λ v. v.items ≡ stacked self chomp []) }
     {

@@ -1,5 +1,5 @@
 -- The words of the definitions, and the lemmas on them from below, that the files of lemmas share.
-pub use Rattle.std.proofs.lemmas.Bool.{agree_below_at, eq-eqb, eqb-false, eqb-true, and_parts, cases_Bool, cases_lt, cond_both, le-ltb, lt-ltb, ltb-true, ne_eqb, not-true, or_cases, or_from, or_parts, or_right, true≢false}
+pub use Rattle.std.proofs.lemmas.Bool.{agree_below_at, eq-eqb, eqb-false, eqb-true, and_parts, cases_Bool, cases_lt, cond_both, lt-ltb, ltb-true, ne_eqb, not-true, or_cases, or_from, or_parts, or_right, true≢false}
 pub use Rattle.std.proofs.lemmas.Bool.Decides.{nat_tests}
 pub use Rattle.std.proofs.lemmas.List.{append-nil, drop_more, take_all}
 pub use Rattle.std.proofs.lemmas.Result.{err_from_is_err_and}

@@ -23,6 +23,7 @@ use yaml_scan_model::{
 /// value may take the room of a spare text.
 // Inlined into the way of its kind.
 #[inline(always)]
+#[tactic(auto, using(crate::proofs::Words::within, crate::proofs::PlainLemmas::plain_start, crate::proofs::PlainLemmas::lead_text, crate::proofs::OneRunLemmas::own_mark, crate::proofs::OneRunLemmas::no_space, crate::proofs::OneRunLemmas::plain_one, crate::proofs::OneRunLemmas::reads_in, crate::proofs::OneRunLemmas::run_whole))]
 pub fn plain_scalar(
     spares: &mut Spares,
     reader: &mut Reader,
@@ -62,6 +63,7 @@ fn plain_kind(flow: bool) -> u8
 /// Past the scalar's first character and the run behind it, and those bytes.
 // Inlined: a loop of a load and a comparison a byte.
 #[inline(always)]
+#[tactic(auto, using(crate::proofs::RunLemmas::slice_bytes))]
 fn first_run<'a>(kind: u8, reader: &mut Reader<'a>) -> &'a [u8]
     requires kind { is_kind kind ≡ true }
     requires some { 0 < byte reader.old.text reader.old.at }
@@ -81,6 +83,7 @@ fn first_run<'a>(kind: u8, reader: &mut Reader<'a>) -> &'a [u8]
 /// Whether a sign stands here that ends the scalar before it: a `:` as a mapping has it or, in flow context, a bracket or a comma.
 // Inlined: a look at two bytes.
 #[inline(always)]
+#[tactic(auto, using(crate::proofs::OneRunLemmas::colon_ends, crate::proofs::OneRunLemmas::bracket_ends))]
 fn is_followed(reader: &Reader, flow: bool) -> bool
     ensures { result ≡ true → (level : ℕ) → spec.spot_at flow level reader.now.text reader.now.at
         ≡ spec.Ends }
@@ -124,6 +127,7 @@ fn one_run(
 /// block context.
 // Inlined: mostly a look at two bytes.
 #[inline(always)]
+#[tactic(auto, using(crate::proofs::OneRunLemmas::feed_breaks, crate::proofs::OneRunLemmas::line_ends))]
 fn passes_line(reader: &mut Reader, level: u64) -> bool
     ensures same { reader.new.text ≡ reader.old.text }
     ensures ends { result ≡ true
@@ -255,7 +259,7 @@ fn keep_run(kind: u8, reader: &mut Reader, joining: &mut Joining) -> Result<(), 
 }
 
 /// Takes what stands here, and answers whether it belongs to the scalar.
-#[tactic(auto, unfolding(crate::specs::Plain::spot_at))]
+#[tactic(auto, using(crate::proofs::Words::feed_some, crate::proofs::Words::value_long, crate::proofs::Words::within, crate::proofs::PlainLemmas::lead_text, crate::proofs::PlainLemmas::spot_kept, crate::proofs::PlainLemmas::not_ended, crate::proofs::PlainLemmas::seated), unfolding(crate::specs::Plain::spot_at))]
 fn piece(
     reader: &mut Reader,
     joining: &mut Joining,

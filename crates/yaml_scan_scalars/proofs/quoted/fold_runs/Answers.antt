@@ -1,18 +1,8 @@
-use Rattle.std.proofs.Common.{refl, ◌∙◌, ◌≡◌, ◌+◌, ◌-◌, ◌++◌, ap, ℕ, List}
-use Rattle.yaml_scan_scalars.proofs.Words.{quoted_kind, err_from_is_err_and, Piece, value, resume, TookRun, bytes_at, run_pieces}
+use Rattle.std.proofs.Common.{◌∙◌, ◌-◌}
+use Rattle.yaml_scan_scalars.proofs.Words.{quoted_kind, err_from_is_err_and, value, resume, TookRun}
 use Rattle.yaml_scan_scalars.proofs.QuotedLemmas.{turn_more, turn_done, turn_refused}
 use Rattle.yaml_scan_scalars.proofs.RunLemmas.{quoted_run, run_ends}
-use Rattle.yaml_scan_scalars.proofs.OneRunLemmas.{quoted_first}
 use Rattle.yaml_scan_scalars.proofs.quoted.fold_runs.Goals as goal
-
-pub pieces-init : goal.pieces-init
-pieces-init c =
-    let text = c.args.reader.now.text in
-    let p : ℕ = c.args.start.index in
-    let place = c.args.reader.now in
-    let same : (ps : List Piece) → resume c.keep_some.new.folding ps ≡ value (run_pieces (bytes_at text (p + 1) (place.at - (p + 1))) ++ ps) =
-    λ ps. c.in_ok-keep_some.ensures ps ∙ c.new-folding.ensures.value (run_pieces c.args.bytes.now ++ ps) ∙ ap (λ (bs : List ℕ). value (run_pieces bs ++ ps)) c.requires.ran.are in
-    record { text = refl; rest = quoted_first c.args.quote text p (resume c.keep_some.new.folding) place c.requires.quote c.requires.ran.inside c.requires.ran.run same }
 
 pub keep_some-requires-clause-last : goal.keep_some-requires-clause-last
 keep_some-requires-clause-last c = rw c.requires.ran.are (run_ends (quoted_kind c.args.quote) _ _ _ c.requires.ran.run)

@@ -1,5 +1,5 @@
-use Rattle.std.proofs.Common.{◌≡◌, ◌≤◌, ℕ, List, length, refl, ap, if◌then◌else◌, arith}
-use Rattle.yaml_scan_scalars.proofs.Words.{yaml_mark_t, byte, starts, column_at, within, column_at-le}
+use Rattle.std.proofs.Common.{◌≡◌, ◌≤◌, ℕ, List, length, ap, arith}
+use Rattle.yaml_scan_scalars.proofs.Words.{yaml_mark_t, column_at, within, column_at-le}
 use Rattle.yaml_scan_scalars.proofs.TableLemmas.{behind_none, one_at_most}
 use Rattle.yaml_scan_scalars.proofs.run.pass_byte.Goals as goal
 
@@ -12,14 +12,6 @@ overflow_add-mark-2 c =
     let now : length c.text-text.result.now ≡ length text = ap (λ (xs : List ℕ). length xs) c.text-text.ensures in
     let some : c.begun.result ≤ 1 = rw c.begun.ensures (one_at_most _) in
     omega (arith, column, column_at-le text p, inside, now, some)
-
-pub resume-requires-clause-mark : goal.resume-requires-clause-mark
-resume-requires-clause-mark c =
-    let text = c.args.reader.now.text in
-    let p = c.args.reader.now.at in
-    let b = behind_none text p c.requires.no_break c.stop-here.ensures.whole in
-    let begun : c.begun.result ≡ (if starts (byte text p) then 1 else 0) = rw (c.text-text.ensures, c.place.ensures) at c.begun.ensures in
-    rw (c.text-text.ensures, c.stop-here.ensures.mark, begun, b.line, b.column) refl
 
 pub resume-requires-clause-whole : goal.resume-requires-clause-whole
 resume-requires-clause-whole c =

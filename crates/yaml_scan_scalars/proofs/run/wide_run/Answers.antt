@@ -1,11 +1,8 @@
 use Rattle.std.proofs.Common.{◌≡◌, ◌∙◌, sym, true, arith}
 use Rattle.yaml_scan_scalars.proofs.Words.{byte, is_common}
-use Rattle.yaml_scan_scalars.proofs.RunLemmas.{calm_no_break, common_ordinary, ordinary_calm, run_more, run_start}
+use Rattle.yaml_scan_scalars.proofs.RunLemmas.{calm_no_break, common_ordinary, ordinary_calm, run_more}
 use Rattle.yaml_scan_scalars.proofs.TableLemmas.{common_inside}
 use Rattle.yaml_scan_scalars.proofs.run.wide_run.Goals as goal
-
-pub bytes-init : goal.bytes-init
-bytes-init c = record { run = λ kind. run_start kind _ _; inside = c.stop-here.ensures.inside }
 
 pub pass_byte-requires-clause-some : goal.pass_byte-requires-clause-some
 pass_byte-requires-clause-some c =

@@ -202,39 +202,17 @@ only_memory text a place errors.Memory (Ok x) h = tt
 only_memory text a place errors.Memory (Err w) h = tt
 only_memory text a place (errors.Fault f) r h = absurd h
 
-refused : (text : List ℕ) (a p : ℕ) (old new : Joining) (place : Place) (e : ScanError)
-    (s : PlainSpot) (more : ℕ → Result Words Wrong)
-    → Steps text (mark_at text a) p old new place (Err e) s
-    → ReadsPlain text a place (Err e) (plain_with (joined old) (follows more p s))
-refused text a p old new place e Ends more h = absurd h
-refused text a p old new place e (Takes x q) more h = only_memory text a place e (plain_with (joined old) (follows more p (Takes x q))) h
-refused text a p old new place e (Faulty w) more h = h
-
 pub turn_refused : (flow : Bool) (level : ℕ) (text : List ℕ) (a p : ℕ) (old new : Joining)
-    (place : Place) (e : ScanError)
-    → Steps text (mark_at text a) p old new place (Err e) (spot_at flow level text p)
+    (place : Place) (e : ScanError) (s : PlainSpot) → spot_at flow level text p ≡ s
+    → Steps text (mark_at text a) p old new place (Err e) s
     → ReadsPlain text a place (Err e) (plain_with (joined old) (words_on flow level text p))
-turn_refused flow level text a p old new place e h = rw (words_here flow level text p) (refused text a p old new place e (spot_at flow level text p) (words_on flow level text) h)
-
-done : (text : List ℕ) (start : yaml_mark_t) (p : ℕ) (old new : Joining) (place : Place)
-    (s : PlainSpot) (more : ℕ → Result Words Wrong)
-    → Steps text start p old new place (Ok false) s
-    → (place ≡ record { text = text; at = p }) × (new ≡ old)
-    × (plain_with (joined old) (follows more p s)
-    ≡ Ok record {
-      value = take old.kept old.folding.done.items;
-      end = old.end.index;
-      place = p;
-      broke = old.broke;
-    })
-unfolding joined
-done text start p old new place (Takes x q) more h = absurd h
-done text start p old new place (Faulty w) more h = absurd h
-done text start p old new place Ends more (e, f) = (e, f, rw (or-false old.broke) refl)
+turn_refused flow level text a p old new place e Ends is h = absurd h
+turn_refused flow level text a p old new place e (Takes x q) is h = only_memory text a place e (plain_with (joined old) (words_on flow level text p)) h
+turn_refused flow level text a p old new place e (Faulty w) is h = rw (words_here flow level text p, is) h
 
 pub turn_done : (flow : Bool) (level : ℕ) (text : List ℕ) (start : yaml_mark_t) (p : ℕ)
-    (old new : Joining) (place : Place)
-    → Steps text start p old new place (Ok false) (spot_at flow level text p)
+    (old new : Joining) (place : Place) (s : PlainSpot) → spot_at flow level text p ≡ s
+    → Steps text start p old new place (Ok false) s
     → (place ≡ record { text = text; at = p }) × (new ≡ old)
     × (plain_with (joined old) (words_on flow level text p)
     ≡ Ok record {
@@ -243,15 +221,18 @@ pub turn_done : (flow : Bool) (level : ℕ) (text : List ℕ) (start : yaml_mark
       place = p;
       broke = old.broke;
     })
-turn_done flow level text start p old new place h = rw (words_here flow level text p) (done text start p old new place (spot_at flow level text p) (words_on flow level text) h)
+unfolding joined
+turn_done flow level text start p old new place (Takes x q) is h = absurd h
+turn_done flow level text start p old new place (Faulty w) is h = absurd h
+turn_done flow level text start p old new place Ends is (e, f) = (e, f, rw (words_here flow level text p, is, or-false old.broke) refl)
 
 -- what a step that goes on leaves
-pub record GoesOn (flow : Bool) (level : ℕ) (text : List ℕ) (p : ℕ) (old new : Joining) (place : Place) (whole : Result Words Wrong) : Type 0 where
+pub record GoesOn (flow : Bool) (level : ℕ) (text : List ℕ) (p : ℕ) (old new : Joining) (place : Place) : Type 0 where
   pub same : place.text ≡ text
   pub further : p < place.at
   pub inside : p < length text
   pub seat : IsJoining text place.at new
-  pub rest : plain_with (joined old) whole ≡ plain_with (joined new) (words_on flow level text place.at)
+  pub rest : plain_with (joined old) (words_on flow level text p) ≡ plain_with (joined new) (words_on flow level text place.at)
 
 front : (old new : Joining) (x : Piece) (q : ℕ) (r : Result Words Wrong)
     → ((w : Words) → joined new w ≡ joined old (with_piece x q w))
@@ -259,20 +240,14 @@ front : (old new : Joining) (x : Piece) (q : ℕ) (r : Result Words Wrong)
 front old new x q (Ok w) h = rw (h w) refl
 front old new x q (Err e) h = refl
 
-step : (flow : Bool) (level : ℕ) (text : List ℕ) (start : yaml_mark_t) (p : ℕ) (old new : Joining)
-    (place : Place) (s : PlainSpot) → Steps text start p old new place (Ok true) s
-    → GoesOn flow level text p old new place (follows (words_on flow level text) p s)
-step flow level text start p old new place Ends h = absurd h
-step flow level text start p old new place (Faulty w) h = absurd h
-step flow level text start p old new place (Takes x q) (e, f, seat, l, i) =
-    let at : place.at ≡ q = ap (λ (y : Place). y.at) e in
-    record { same = ap (λ (y : Place). y.text) e; further = rw at l; inside = i; seat = rw at seat; rest = rw at (front old new x q (words_on flow level text q) f) }
-
 pub turn_more : (flow : Bool) (level : ℕ) (text : List ℕ) (start : yaml_mark_t) (p : ℕ)
-    (old new : Joining) (place : Place)
-    → Steps text start p old new place (Ok true) (spot_at flow level text p)
-    → GoesOn flow level text p old new place (words_on flow level text p)
-turn_more flow level text start p old new place h = rw (words_here flow level text p) (step flow level text start p old new place (spot_at flow level text p) h)
+    (old new : Joining) (place : Place) (s : PlainSpot) → spot_at flow level text p ≡ s
+    → Steps text start p old new place (Ok true) s → GoesOn flow level text p old new place
+turn_more flow level text start p old new place Ends is h = absurd h
+turn_more flow level text start p old new place (Faulty w) is h = absurd h
+turn_more flow level text start p old new place (Takes x q) is (e, f, seat, l, i) =
+    let at : place.at ≡ q = ap (λ (y : Place). y.at) e in
+    record { same = ap (λ (y : Place). y.text) e; further = rw at l; inside = i; seat = rw at seat; rest = rw (words_here flow level text p, is, at) (front old new x q (words_on flow level text q) f) }
 
 -- what a plain scalar starts with
 

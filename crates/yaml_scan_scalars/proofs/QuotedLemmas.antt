@@ -78,42 +78,29 @@ front old new qs (Ok x) h = rw (h x.0) refl
 front old new qs (Err e) h = refl
 
 -- what a step that goes on leaves
-pub record GoesOn (quote : ℕ) (text : List ℕ) (p : ℕ) (old new : List Piece → List ℕ) (place : Place) (whole : Result (List Piece × ℕ) Wrong) : Type 0 where
+pub record GoesOn (quote : ℕ) (text : List ℕ) (p : ℕ) (old new : List Piece → List ℕ) (place : Place) : Type 0 where
   pub same : place.text ≡ text
   pub further : p < place.at
   pub inside : p < length text
-  pub rest : valued old whole ≡ valued new (pieces_on quote text place.at)
-
-step : (text : List ℕ) (start : yaml_mark_t) (quote p : ℕ) (old new : List Piece → List ℕ)
-    (place : Place) (s : QuotedSpot) → Took text start p old new place (Ok true) s
-    → GoesOn quote text p old new place (followed (pieces_on quote text) p s)
-step text start quote p old new place Closing h = absurd h
-step text start quote p old new place (Bad w) h = absurd h
-step text start quote p old new place (Pieces qs q) (e, f, l, i) =
-    let at : place.at ≡ q = ap (λ (x : Place). x.at) e in
-    record { same = ap (λ (x : Place). x.text) e; further = rw at l; inside = i; rest = rw at (front old new qs (pieces_on quote text q) f) }
+  pub rest : valued old (pieces_on quote text p) ≡ valued new (pieces_on quote text place.at)
 
 pub turn_more : (text : List ℕ) (start : yaml_mark_t) (quote p : ℕ)
-    (old new : List Piece → List ℕ) (place : Place)
-    → Took text start p old new place (Ok true) (standing_at quote text p)
-    → GoesOn quote text p old new place (pieces_on quote text p)
-turn_more text start quote p old new place h = rw (pieces_here quote text p) (step text start quote p old new place (standing_at quote text p) h)
-
-done : (text : List ℕ) (start : yaml_mark_t) (p : ℕ) (old new : List Piece → List ℕ) (place : Place)
-    (s : QuotedSpot) (more : ℕ → Result (List Piece × ℕ) Wrong)
-    → Took text start p old new place (Ok false) s
-    → (place ≡ record { text = text; at = p + 1 })
-    × (valued old (followed more p s) ≡ Ok (new [], p + 1))
-done text start p old new place (Pieces qs q) more h = absurd h
-done text start p old new place (Bad w) more h = absurd h
-done text start p old new place Closing more (e, f) = (e, rw (f []) refl)
+    (old new : List Piece → List ℕ) (place : Place) (s : QuotedSpot) → standing_at quote text p ≡ s
+    → Took text start p old new place (Ok true) s → GoesOn quote text p old new place
+turn_more text start quote p old new place Closing is h = absurd h
+turn_more text start quote p old new place (Bad w) is h = absurd h
+turn_more text start quote p old new place (Pieces qs q) is (e, f, l, i) =
+    let at : place.at ≡ q = ap (λ (x : Place). x.at) e in
+    record { same = ap (λ (x : Place). x.text) e; further = rw at l; inside = i; rest = rw (pieces_here quote text p, is, at) (front old new qs (pieces_on quote text q) f) }
 
 pub turn_done : (text : List ℕ) (start : yaml_mark_t) (quote p : ℕ)
-    (old new : List Piece → List ℕ) (place : Place)
-    → Took text start p old new place (Ok false) (standing_at quote text p)
+    (old new : List Piece → List ℕ) (place : Place) (s : QuotedSpot) → standing_at quote text p ≡ s
+    → Took text start p old new place (Ok false) s
     → (place ≡ record { text = text; at = p + 1 })
     × (valued old (pieces_on quote text p) ≡ Ok (new [], p + 1))
-turn_done text start quote p old new place h = rw (pieces_here quote text p) (done text start p old new place (standing_at quote text p) (pieces_on quote text) h)
+turn_done text start quote p old new place (Pieces qs q) is h = absurd h
+turn_done text start quote p old new place (Bad w) is h = absurd h
+turn_done text start quote p old new place Closing is (e, f) = (e, rw (pieces_here quote text p, is, f []) refl)
 
 only_memory : (text : List ℕ) (a : ℕ) (place : Place) (e : ScanError)
     (r : Result (List ℕ × ℕ) Wrong) → IsMemory e → Reads text a place (Err e) r
@@ -121,19 +108,13 @@ only_memory text a place errors.Memory (Ok x) h = tt
 only_memory text a place errors.Memory (Err w) h = tt
 only_memory text a place (errors.Fault f) r h = absurd h
 
-refused : (text : List ℕ) (a p : ℕ) (old new : List Piece → List ℕ) (place : Place) (e : ScanError)
-    (s : QuotedSpot) (more : ℕ → Result (List Piece × ℕ) Wrong)
-    → Took text (mark_at text a) p old new place (Err e) s
-    → Reads text a place (Err e) (valued old (followed more p s))
-refused text a p old new place e (Pieces qs q) more h = only_memory text a place e (valued old (followed more p (Pieces qs q))) h
-refused text a p old new place e Closing more h = absurd h
-refused text a p old new place e (Bad w) more h = h
-
 pub turn_refused : (text : List ℕ) (quote a p : ℕ) (old new : List Piece → List ℕ) (place : Place)
-    (e : ScanError)
-    → Took text (mark_at text a) p old new place (Err e) (standing_at quote text p)
+    (e : ScanError) (s : QuotedSpot) → standing_at quote text p ≡ s
+    → Took text (mark_at text a) p old new place (Err e) s
     → Reads text a place (Err e) (valued old (pieces_on quote text p))
-turn_refused text quote a p old new place e h = rw (pieces_here quote text p) (refused text a p old new place e (standing_at quote text p) (pieces_on quote text) h)
+turn_refused text quote a p old new place e (Pieces qs q) is h = only_memory text a place e (valued old (pieces_on quote text p)) h
+turn_refused text quote a p old new place e Closing is h = absurd h
+turn_refused text quote a p old new place e (Bad w) is h = rw (pieces_here quote text p, is) h
 
 -- ---- quotes are no breaks
 

@@ -1,5 +1,5 @@
 -- What spells a text is decoded to it.
-use Rattle.std.proofs.Common.{◌≡◌, ◌⊎◌, inl, inr, ℕ, suc, ◌+◌, ◌-◌, ◌*◌, ◌/◌, ◌%◌, ◌<◌, ◌≤◌, true, false, not, ◌&&◌, ◌==◌, nat_lt, List, [], ◌∷◌, ◌++◌, drop, get_or, length, Result, Ok, Err, refl, sym, ap, ◌∙◌, arith, add-zero, append_assoc, append-nil, length-drop, length-append, get_or-drop}
+use Rattle.std.proofs.Common.{◌≡◌, ◌⊎◌, inl, inr, ℕ, suc, ◌+◌, ◌-◌, ◌*◌, ◌/◌, ◌%◌, ◌<◌, ◌≤◌, true, false, not, ◌&&◌, nat_lt, List, [], ◌∷◌, ◌++◌, drop, get_or, length, Result, Ok, Err, refl, sym, ap, ◌∙◌, arith, add-zero, append_assoc, append-nil, length-drop, length-append, get_or-drop, rules}
 use Rattle.std.proofs.lemmas.Bool.{cases_lt, cond_both}
 use Rattle.std.proofs.lemmas.Bool.Decides.{nat_tests}
 use Rattle.std.proofs.lemmas.List.{drop-drop, drop_at, take_all}
@@ -16,8 +16,8 @@ use Rattle.yaml_scan_characters.specs.declared.offence.Offence.{Offence}
 use Rattle.yaml_scan_characters.specs.declared.utf16.ByteOrder.{ByteOrder}
 use Rattle.yaml_scan_characters.specs.declared.utf16.ByteOrder.TheVariants.{LowFirst, HighFirst}
 use Rattle.std.specs.Result.{result_err}
-use Rattle.yaml_scan_characters.specs.Encodings.{begins_low_first, begins_high_first, encoding_of, mark_length}
-use Rattle.yaml_scan_characters.specs.Characters.{is_allowed, allowed_at, valued_at, least_code, is_trailing, sequence_of, utf8_code, leading_bits, utf8_of, utf8_at, unit_at, is_low_surrogate, is_high_surrogate, utf16_of, utf16_at, character_at}
+use Rattle.yaml_scan_characters.specs.Encodings.{encoding_of, mark_length}
+use Rattle.yaml_scan_characters.specs.Characters.{is_allowed, allowed_at, valued_at, least_code, is_trailing, sequence_of, utf8_code, leading_bits, utf8_of, utf8_at, unit_at, utf16_of, utf16_at, character_at}
 use Rattle.yaml_scan_characters.specs.Decoding.{before, characters, in_utf8, decoded_characters, decoded_text, first_offence}
 use Rattle.yaml_scan_characters.specs.Spelling.{unit_bytes, units_bytes, spelling, spellings, Spells}
 use Rattle.yaml_scan_characters.specs.Steps.{outcome}
@@ -30,9 +30,7 @@ pub encoding_utf8 : (s : yaml_encoding_t) (bytes : List ℕ)
     → (encoding_of s bytes ≡ YAML_UTF16LE_ENCODING → ⊥)
     → (encoding_of s bytes ≡ YAML_UTF16BE_ENCODING → ⊥) → encoding_of s bytes ≡ YAML_UTF8_ENCODING
 unfolding encoding_of
-encoding_utf8 YAML_ANY_ENCODING bytes low high =
-    let P : yaml_encoding_t → Type 0 = λ e. (e ≡ YAML_UTF16LE_ENCODING → ⊥) → (e ≡ YAML_UTF16BE_ENCODING → ⊥) → e ≡ YAML_UTF8_ENCODING in
-    cond_both (begins_low_first bytes) _ _ P (λ _ l h. absurd (l refl)) (λ _. cond_both (begins_high_first bytes) _ _ P (λ _ l h. absurd (h refl)) (λ _ l h. refl)) low high
+encoding_utf8 YAML_ANY_ENCODING bytes low high = search (rules, cond_both)
 encoding_utf8 YAML_UTF8_ENCODING bytes low high = refl
 encoding_utf8 YAML_UTF16LE_ENCODING bytes low high = absurd (low refl)
 encoding_utf8 YAML_UTF16BE_ENCODING bytes low high = absurd (high refl)
@@ -88,10 +86,7 @@ utf8_good : (left p b c d e width code : ℕ) → width_of b ≡ width → 0 < w
     → utf8_code width b c d e ≡ code → least_code width ≤ code → is_allowed code ≡ true
     → utf8_of left p b c d e ≡ Ok record { code = code; width = width }
 unfolding utf8_of sequence_of
-utf8_good left p b c d e width code w some enough s t u is low allowed =
-    let z : (width == 0) ≡ false = grind (arith, nat_tests) in
-    let l : nat_lt left width ≡ false = grind (arith, nat_tests) in
-    rw (w, z, l, s, t, u, is) (valued_good p width code low allowed)
+utf8_good left p b c d e width code w some enough s t u is low allowed = search (rules, valued_good)
 
 -- a trailing byte is one
 trails : (x : ℕ) → x < 64 → (true && not (is_trailing (128 + x))) ≡ false
@@ -185,14 +180,7 @@ pair_good : (left p x y c : ℕ) → 4 ≤ left → x < 1024 → y < 1024 → 65
     → is_allowed c ≡ true
     → utf16_of left p (0xD800 + x) (0xDC00 + y) ≡ Ok record { code = c; width = 4 }
 unfolding utf16_of allowed_at
-pair_good left p x y c enough a b is allowed =
-    let s : 0x1_0000 + (0xD800 + x - 0xD800) * 0x400 + (0xDC00 + y - 0xDC00) ≡ c = omega arith in
-    let n : nat_lt left 2 ≡ false = grind (arith, nat_tests) in
-    let m : nat_lt left 4 ≡ false = grind (arith, nat_tests) in
-    let t : is_low_surrogate (0xD800 + x) ≡ false = grind (arith, nat_tests) in
-    let u : is_high_surrogate (0xD800 + x) ≡ true = grind (arith, nat_tests) in
-    let v : is_low_surrogate (0xDC00 + y) ≡ true = grind (arith, nat_tests) in
-    rw (n, t, u, m, v, s, allowed) refl
+pair_good left p x y c enough a b is allowed = search rules
 
 utf16_spelled : (order : ByteOrder) (bytes : List ℕ) (p c : ℕ) (rest : List ℕ) → is_allowed c ≡ true
     → drop p bytes ≡ units_bytes order (encode_utf16 c) ++ rest

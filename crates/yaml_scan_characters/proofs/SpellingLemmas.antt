@@ -1,5 +1,5 @@
 -- Decoding, over all characters.
-use Rattle.std.proofs.Common.{◌≡◌, ℕ, zero, suc, ◌+◌, ◌-◌, ◌<◌, ◌≤◌, true, nat_lt, if◌then◌else◌, List, [], ◌∷◌, ◌++◌, drop, length, Result, Ok, Err, refl, sym, ap, ◌∙◌, arith, append_assoc, append-nil, add-zero}
+use Rattle.std.proofs.Common.{◌≡◌, ℕ, zero, suc, ◌+◌, ◌-◌, ◌<◌, ◌≤◌, true, nat_lt, if◌then◌else◌, List, [], ◌∷◌, ◌++◌, drop, length, Result, Ok, Err, refl, sym, ap, ◌∙◌, arith, append_assoc, append-nil, add-zero, rules}
 use Rattle.std.proofs.lemmas.Bool.Decides.{nat_tests}
 use Rattle.std.proofs.Math.ListN.{drop_of_length-le}
 use Rattle.std.proofs.lemmas.List.Elements.{All-nil, All-cons}
@@ -61,9 +61,7 @@ enough (suc n) e bytes p room =
 here : (e : yaml_encoding_t) (bytes : List ℕ) (p : ℕ) → p < length bytes
     → characters_on e bytes p ≡ led_by (characters_on e bytes) p (character_at e bytes p)
 unfolding characters
-here e bytes p inside =
-    let step : characters_on e bytes p ≡ (if nat_lt p (length bytes) then led_by (characters_on e bytes) p (character_at e bytes p) else Ok []) = enough (length bytes) e bytes p (omega arith) in
-    rw (lt-ltb p (length bytes) inside) at step
+here e bytes p inside = search (rules, enough, led_by, lt-ltb)
 
 -- a character, and those behind it
 pub turn : (e : yaml_encoding_t) (bytes : List ℕ) (p : ℕ) (ch : Character) → p < length bytes

@@ -117,7 +117,6 @@ fn zero_digit(reader: &mut Reader, start: yaml_mark_t) -> ScanError
 {
     if is_chomping(reader.here()) {
         reader.skip();
-        return wrong_block(Problem::ZeroIndentation, start, reader.mark());
     }
     wrong_block(Problem::ZeroIndentation, start, reader.mark())
 }

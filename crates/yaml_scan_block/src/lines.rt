@@ -108,14 +108,6 @@ fn has_row(text: &[u8], at: usize, left: u64) -> bool
     spaces
 }
 
-/// Whether a tab stands here, before the column.
-fn is_tab_before(reader: &Reader, column: u64) -> bool
-    ensures { result ≡ (byte reader.now.text reader.now.at == ascii.tab
-        && nat_lt (column_at reader.now.text reader.now.at) column) }
-{
-    reader.here() == b'\t' && reader.mark().column < column
-}
-
 /// Takes what stands behind the indentation.
 #[tactic(auto, using(crate::proofs::Words::err_from_is_err_and, crate::proofs::Words::feed_some, crate::proofs::Words::past_break, crate::proofs::Words::within, crate::proofs::BlockLemmas::tab_spot, crate::proofs::BlockLemmas::empty_spot, crate::proofs::BlockLemmas::end_spot, crate::proofs::BlockLemmas::text_spot, crate::proofs::BlockLemmas::stop_end, crate::proofs::BlockLemmas::stop_short, crate::proofs::BlockLemmas::no_stop, crate::proofs::BlockLemmas::text_long))]
 fn behind(
@@ -127,7 +119,7 @@ fn behind(
     ensures { (p : ℕ) → p ≤ reader.old.at → LineSteps reader.old.text start p stacking.old
         stacking.new reader.new result (spec.spot_behind column reader.old.text reader.old.at) }
 {
-    if is_tab_before(reader, column) {
+    if reader.here() == b'\t' && reader.mark().column < column {
         return Err(wrong_block(Problem::TabForSpace, start, reader.mark()));
     }
     if reader.break_width() > 0 {

@@ -73,7 +73,10 @@ impl Stacking {
             ≡ stacked self.old chomp (Words words.now feed.now ∷ ls)) }
     {
         let blank = starts_blank(words);
-        make_first_room(&mut self.done, words.len())?;
+        // The first line with text gets room for a break behind it as well: many scalars have no other line.
+        if self.done.is_empty() && self.done.capacity() <= words.len() {
+            self.done.reserve_exact(words.len().saturating_add(1))?;
+        }
         self.glue(blank)?;
         self.done.extend_from_slice(words)?;
         self.empties.clear();
@@ -95,22 +98,6 @@ impl Stacking {
         spares.keep(empties);
         Ok(done)
     }
-}
-
-/// Room for the first line with text and a break behind it: many have no other one.
-// Inlined: mostly there is room, or it isn't the first.
-#[inline(always)]
-fn make_first_room(done: &mut Vec<u8>, count: usize) -> Result<(), AllocError>
-    ensures { OnOk result (done.new.items ≡ done.old.items) }
-{
-    if !done.is_empty() {
-        return Ok(());
-    }
-    if count < done.capacity() {
-        return Ok(());
-    }
-    done.reserve_exact(count.saturating_add(1))?;
-    Ok(())
 }
 
 /// Both texts behind the others.
@@ -160,22 +147,12 @@ fn starts_blank(words: &[u8]) -> bool
     is_blank_byte(words[0])
 }
 
-/// Whether the break reads as a line feed.
-fn reads_feed(bytes: &[u8]) -> bool
-    ensures { result ≡ is_feed bytes.now }
-{
-    if bytes.is_empty() {
-        return false;
-    }
-    bytes[0] == b'\n'
-}
-
 /// Whether the break between two texts is folded.
 fn folds(folded: bool, before: bool, after: bool, feed: &[u8]) -> bool
     ensures { result ≡ (folded && ((not before && not after) && is_feed feed.now)) }
 {
-    if !folded || before || after {
+    if !folded || before || after || feed.is_empty() {
         return false;
     }
-    reads_feed(feed)
+    feed[0] == b'\n'
 }

@@ -139,15 +139,9 @@ fn passes_line(reader: &mut Reader, level: u64) -> bool
     }
     reader.skip_break();
     skip_spaces(reader);
-    begins_word(reader.here()) && reader.mark().column < level
-}
-
-/// Whether the byte is surely no white, no break and no comment's sign.
-fn begins_word(byte: u8) -> bool
-    ensures low { result ≡ true → ascii.exclamation < byte }
-    ensures high { result ≡ true → byte < 128 }
-{
-    byte > b'#' && byte < 128 || byte == b'"'
+    let byte = reader.here();
+    // Surely no white, no break and no comment's sign.
+    (byte > b'#' && byte < 128 || byte == b'"') && reader.mark().column < level
 }
 
 /// The scalar that starts at the mark and has those bytes, where the reader stands behind them, and is left at the word behind
@@ -288,7 +282,7 @@ fn piece(
     if ends(reader, joining, flow, level) {
         return Ok(false);
     }
-    if is_bad_colon(flow, byte, reader.byte(1)) {
+    if flow && byte == b':' && (is_bracket(reader.byte(1)) || reader.byte(1) == b'?') {
         return Err(wrong_plain(Problem::UnexpectedColon, start, reader.mark()));
     }
     reader.skip();
@@ -316,14 +310,6 @@ fn is_bad_tab(byte: u8, broke: bool, column: u64, level: u64) -> bool
     ensures { result ≡ (byte == ascii.tab && (broke && nat_lt column level)) }
 {
     byte == b'\t' && broke && column < level
-}
-
-/// Whether the byte is a colon that cannot stand in flow context before the next one.
-fn is_bad_colon(flow: bool, byte: u8, next: u8) -> bool
-    ensures { result ≡ (flow
-        && (byte == ascii.colon && (spec.is_bracket next || next == ascii.question))) }
-{
-    flow && byte == b':' && (is_bracket(next) || next == b'?')
 }
 
 /// Whether the scalar ends before what stands here, which is no blank and no break.

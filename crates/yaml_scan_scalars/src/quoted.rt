@@ -148,18 +148,10 @@ fn keep_run(kind: u8, reader: &mut Reader, folding: &mut Folding) -> Result<(), 
     ensures { OnOk result (TookRun kind reader.old.text reader.old.at (resume folding.old)
         (resume folding.new) reader.new) }
 {
-    if !keeps_space(reader, folding) {
+    if !folding.keeps_blanks() && reader.here() == b' ' {
         return Ok(());
     }
     keep_some(folding, ordinary_run(kind, reader))
-}
-
-/// Whether a space that stands here is kept, or none stands here.
-fn keeps_space(reader: &Reader, folding: &Folding) -> bool
-    ensures { result ≡ true → (folding.now.gap ≡ gaps.Line)
-        ⊎ ((byte reader.now.text reader.now.at == ascii.space) ≡ false) }
-{
-    folding.keeps_blanks() || reader.here() != b' '
 }
 
 /// Takes the bytes of a run. There may be none.
@@ -209,7 +201,7 @@ fn piece(
         reader.skip();
         return Ok(true);
     }
-    if is_escape(quote, byte) {
+    if quote == b'"' && byte == b'\\' {
         return escape(reader, folding, start);
     }
     folding.keep(&[byte])?;
@@ -222,13 +214,6 @@ fn wrong_scalar(problem: Problem, start: yaml_mark_t, place: yaml_mark_t) -> Sca
     ensures { result ≡ refused problem Context.QuotedScalar start place }
 {
     ScanError::refusal(problem, Context::QuotedScalar, start, place)
-}
-
-/// Whether the byte begins an escape between those quotes.
-fn is_escape(quote: u8, byte: u8) -> bool
-    ensures { result ≡ (quote == ascii.quote && byte == ascii.backslash) }
-{
-    quote == b'"' && byte == b'\\'
 }
 
 /// Whether single quotes follow one another.
